@@ -1,0 +1,12 @@
+pub mod Parts
+pub mod Rules
+pub mod Pairing
+pub mod Graph
+pub mod Nets
+pub mod Pairs
+pub mod Numbered
+pub mod Build
+pub mod Contract
+pub mod Joins
+pub mod Replace
+pub mod Retabled

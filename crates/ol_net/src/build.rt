@@ -1,0 +1,180 @@
+//! The tests of the parts of a net, each of which finds the first fault of its sort.
+
+ghost use Rattle.std.specs.Prelude.{◌≡◌, ◌≢◌, ℕ, ◌+◌, ◌-◌, ◌*◌, ◌/◌, ◌%◌, ◌^◌, ◌<◌, ◌≤◌, length, true, false, List, slice_index, slice_set, vec_len, MatchOption, MatchResult, IfOk, IsTrue, ◌↔◌, ◌==◌, ◌&&◌, if◌then◌else◌, not};
+ghost use Rattle.ol_net.specs.Graph.{has_port, place, IsTabled};
+ghost use Rattle.ol_net.specs.Pairing.{IsPaired, other, linked, can_link};
+ghost use Rattle.ol_net.specs.Build.{FirstOf, NoneOf, is_bad_index, BadIndexAt, BadPortAt, TwiceAt, LooseAt, AloneAt, places, LinkedUp, all_live, FaultIs, LinkFaultIs, IsTable, AreTables};
+
+use crate::graph::{is_port, place_of, port_of};
+use crate::parts::{BuildFault, Kind, Port};
+use std::alloc::{AllocError, Global};
+
+pub fn is_bad_index(node: (Kind, u32)) -> bool
+    ensures { result ≡ is_bad_index node }
+{
+    if node.0.is_eraser() {
+        node.1 != 0
+    } else {
+        node.1 > 1_000_000
+    }
+}
+
+/// The first node with an index that is not allowed.
+pub fn first_bad_index(nodes: &[(Kind, u32)]) -> Option<u32>
+    requires { length nodes.now < 2 ^ 32 }
+    ensures { MatchOption result (NoneOf (BadIndexAt nodes.now)) (λ n. FirstOf (BadIndexAt nodes.now) n) }
+{
+    for (i, node) in nodes.iter().enumerate() {
+        if is_bad_index(*node) {
+            return Some(i as u32);
+        }
+    }
+    None
+}
+
+/// The first link that names a port which does not exist.
+pub fn first_bad_port(
+    free: u32,
+    nodes: &[Option<(Kind, u32)>],
+    links: &[(Port, Port)],
+) -> Option<u32>
+    requires { length links.now < 2 ^ 32 }
+    ensures { MatchOption result (NoneOf (BadPortAt free nodes.now links.now)) (λ j. FirstOf (BadPortAt free nodes.now links.now) j) }
+{
+    for (i, link) in links.iter().enumerate() {
+        if !is_port(free, nodes, link.0) {
+            return Some(i as u32);
+        }
+        if !is_port(free, nodes, link.1) {
+            return Some(i as u32);
+        }
+    }
+    None
+}
+
+/// Makes two places partners, if they are two and neither has one.
+fn link_pair(partners: &mut Vec<usize>, a: usize, b: usize) -> bool
+    requires a_in { a < length partners.old.items }
+    requires b_in { b < length partners.old.items }
+    ensures done { result ≡ can_link partners.old.items a b }
+    ensures after { partners.new.items ≡ (if result then linked partners.old.items a b else partners.old.items) }
+{
+    if a == b || partners[a] != a || partners[b] != b {
+        return false;
+    }
+    partners[a] = b;
+    partners[b] = a;
+    true
+}
+
+/// Links the ports of each link, in a table in which no place has a partner, up to the first
+/// link that has a port a second time.
+pub fn link_all(
+    free: u32,
+    nodes: &[Option<(Kind, u32)>],
+    links: &[(Port, Port)],
+    partners: &mut Vec<usize>,
+) -> Option<u32>
+    requires few { length links.now < 2 ^ 32 }
+    requires size { length partners.old.items ≡ free + 3 * length nodes.now }
+    requires alone { (k : ℕ) → other partners.old.items k ≡ k }
+    requires ports { NoneOf (BadPortAt free nodes.now links.now) }
+    ensures twice { MatchOption result (NoneOf (TwiceAt (places free links.now))) (λ j. FirstOf (TwiceAt (places free links.now)) j) }
+    ensures ok { MatchOption result (LinkedUp free nodes.now (places free links.now) partners.new.items) (λ _. Unit {0}) }
+{
+    for (i, link) in links.iter().enumerate() {
+        let a = place_of(free, link.0);
+        let b = place_of(free, link.1);
+        if !link_pair(partners, a, b) {
+            return Some(i as u32);
+        }
+    }
+    None
+}
+
+/// The first place of a port that has no partner.
+pub fn first_loose(free: u32, nodes: &[Option<(Kind, u32)>], partners: &[usize]) -> Option<Port>
+    requires few { length nodes.now < 2 ^ 31 }
+    requires size { length partners.now ≡ free + 3 * length nodes.now }
+    ensures { MatchOption result (NoneOf (AloneAt free nodes.now partners.now)) (λ p. FirstOf (AloneAt free nodes.now partners.now) (place free p) × (has_port free nodes.now p ≡ true)) }
+{
+    for (k, partner) in partners.iter().enumerate() {
+        let port = port_of(free, k);
+        if is_port(free, nodes, port) && *partner == k {
+            return Some(port);
+        }
+    }
+    None
+}
+
+/// The nodes as they stand in a net, each of them live.
+pub fn live_nodes(
+    alloc: Global,
+    nodes: &[(Kind, u32)],
+) -> Result<Vec<Option<(Kind, u32)>>, AllocError>
+    ensures { IfOk result (λ v. v.items ≡ all_live nodes.now) }
+{
+    nodes.iter().map(|node| Some(*node)).collect(alloc)
+}
+
+/// A table of places without partners.
+pub fn alone(alloc: Global, places: usize) -> Result<Vec<usize>, AllocError>
+    ensures size { IfOk result (λ v. length v.items ≡ places) }
+    ensures each { IfOk result (λ v. (k : ℕ) → other v.items k ≡ k) }
+{
+    let mut v = Vec::with_capacity(alloc, places)?;
+    for k in 0..places {
+        v.push(k)?;
+    }
+    Ok(v)
+}
+
+/// The table of the links, whose ports exist.
+pub fn table_of(
+    alloc: Global,
+    free: u32,
+    nodes: &[Option<(Kind, u32)>],
+    links: &[(Port, Port)],
+) -> Result<Vec<usize>, BuildFault>
+    requires few_nodes { length nodes.now < 2 ^ 31 }
+    requires few_links { length links.now < 2 ^ 32 }
+    requires ports { NoneOf (BadPortAt free nodes.now links.now) }
+    ensures { MatchResult result (λ v. IsTable free nodes.now links.now v.items) (LinkFaultIs free nodes.now links.now) }
+{
+    let Ok(mut partners) = alone(alloc, free as usize + 3 * nodes.len()) else {
+        return Err(BuildFault::NoMemory);
+    };
+    if let Some(link) = link_all(free, nodes, links, &mut partners) {
+        return Err(BuildFault::Twice { link });
+    }
+    if let Some(port) = first_loose(free, nodes, &partners) {
+        return Err(BuildFault::Loose { port });
+    }
+    Ok(partners)
+}
+
+/// The tables of a net with these nodes and links.
+pub fn tables(
+    alloc: Global,
+    free: u32,
+    nodes: &[(Kind, u32)],
+    links: &[(Port, Port)],
+) -> Result<(Vec<Option<(Kind, u32)>>, Vec<usize>), BuildFault>
+    requires few_nodes { length nodes.now < 2 ^ 31 }
+    requires few_links { length links.now < 2 ^ 32 }
+    ensures { MatchResult result (λ t. AreTables free nodes.now links.now t.0.items t.1.items) (FaultIs free nodes.now links.now) }
+{
+    if let Some(node) = first_bad_index(nodes) {
+        return Err(BuildFault::BadIndex { node });
+    }
+    let Ok(live) = live_nodes(alloc, nodes) else {
+        return Err(BuildFault::NoMemory);
+    };
+    if let Some(link) = first_bad_port(free, &live, links) {
+        return Err(BuildFault::BadPort { link });
+    }
+    match table_of(alloc, free, &live, links) {
+        Ok(partners) => Ok((live, partners)),
+        Err(fault) => Err(fault),
+    }
+}

@@ -1,0 +1,205 @@
+//! The net.
+
+ghost use Rattle.std.specs.Prelude.{◌≡◌, ℕ, ◌+◌, ◌-◌, ◌*◌, ◌/◌, ◌%◌, ◌^◌, ◌<◌, ◌≤◌, length, is_some, count_by, MatchResult, vec_len, OnOk, OnErr, IfSome, Some, ◌≢◌, true};
+ghost use Rattle.ol_net.specs.Joins.{uses_up, open_ends};
+ghost use Rattle.ol_net.specs.Replace.{AreFacing};
+ghost use Rattle.ol_net.specs.Retabled.{Retables};
+ghost use Rattle.ol_net.specs.Pairing.{other};
+ghost use Rattle.ol_net.specs.Build.{Builds, FaultIs};
+ghost use Rattle.ol_net.specs.Graph.{kind_at, partner_of, partner_in, IsTabled, facing_at, place, port_at, has_port, has_slot};
+
+use crate::build::tables;
+use crate::parts::{BuildFault, Facing, JoinEnd, Kind, NodeId, Port, facing_of};
+use crate::rewire::replace_in;
+use std::alloc::{AllocError, Global};
+use std::marker::Model;
+
+#[derive(Drop)]
+pub struct Net {
+    free: u32,
+    live: u32,
+    nodes: Vec<Option<(Kind, u32)>>,
+    partners: Vec<usize>,
+}
+
+impl Model for Net {
+    ghost use Rattle.std.specs.Prelude.{◌≡◌, ℕ, ◌+◌, ◌*◌, ◌^◌, ◌<◌, ◌≤◌, length, is_some, count_by};
+    ghost use Rattle.ol_net.specs.Graph.{Graph, IsTabled};
+
+    ghost Value = { Graph };
+
+    ghost view = { λ n. record { free = n.free; nodes = n.nodes.items; partners = n.partners.items } };
+
+    ghost invariant = { λ n. (n.live ≡ count_by is_some n.nodes.items) × (length n.nodes.items < 2 ^ 31) × IsTabled n.free n.nodes.items n.partners.items };
+}
+
+impl Net {
+    /// Numbers the nodes from 0 in the order given, and links their ports.
+    pub fn build(
+        alloc: Global,
+        free: u32,
+        nodes: Vec<(Kind, u32)>,
+        links: Vec<(Port, Port)>,
+    ) -> Result<Net, BuildFault>
+        requires few_nodes { vec_len nodes < 1000000000 }
+        requires few_links { vec_len links < 2 ^ 32 }
+        ensures { MatchResult result (Builds free nodes.items links.items) (FaultIs free nodes.items links.items) }
+    {
+        match tables(alloc, free, &nodes, &links) {
+            Ok((live, partners)) => Ok(Net {
+                free,
+                live: live.len() as u32,
+                nodes: live,
+                partners,
+            }),
+            Err(fault) => Err(fault),
+        }
+    }
+
+    /// The number of free ports.
+    pub fn free_ports(&self) -> u32
+        ensures { result ≡ self.now.free }
+    {
+        self.free
+    }
+
+    /// The number of live nodes.
+    pub fn nodes(&self) -> u32
+        ensures { result ≡ count_by is_some self.now.nodes }
+    {
+        self.live
+    }
+
+    /// The number of node numbers given out so far.
+    pub fn born(&self) -> u32
+        ensures { result ≡ length self.now.nodes }
+    {
+        self.nodes.len() as u32
+    }
+
+    /// Kind and index of a live node.
+    pub fn kind_of(&self, at: NodeId) -> Option<(Kind, u32)>
+        ensures { result ≡ kind_at self.now.nodes at.0 }
+    {
+        kind_in(&self.nodes, at.0 as usize)
+    }
+
+    /// The other port of a port's link.
+    pub fn partner(&self, of: Port) -> Option<Port>
+        ensures partner { result ≡ partner_of self.now of }
+        ensures mutual { IfSome result (λ q. (partner_of self.now q ≡ Some of) × (q ≢ of)) }
+    {
+        partner_in(self.free, &self.nodes, &self.partners, of)
+    }
+
+    /// What the node is to the one at the other end of the link of its principal port.
+    pub fn facing(&self, at: NodeId) -> Facing
+        ensures { result ≡ facing_at self.now at }
+    {
+        let Some(here) = self.kind_of(at) else {
+            return Facing::None;
+        };
+        let Some(Port::Of { node, slot: 0 }) = self.partner(Port::Of { node: at, slot: 0 }) else {
+            return Facing::None;
+        };
+        match self.kind_of(node) {
+            Some(there) => facing_of(here, there),
+            None => Facing::None,
+        }
+    }
+
+    /// Takes out two nodes that face each other, puts others in, and joins the ends that are open.
+    pub fn replace(
+        &mut self,
+        first: NodeId,
+        second: NodeId,
+        born: &[(Kind, u32)],
+        joins: &[(JoinEnd, JoinEnd)],
+    ) -> Result<(), AllocError>
+        requires facing { AreFacing self.old first second }
+        requires few_born { length born.now ≤ 4 }
+        requires fit { uses_up joins.now (open_ends (kind_at self.old.nodes first.0) (kind_at self.old.nodes second.0) born.now) ≡ true }
+        requires few { length self.old.nodes ≤ 2000000000 }
+        ensures ok { OnOk result (Retables self.old self.new first second born.now joins.now) }
+        ensures err { OnErr result (self.new ≡ self.old) }
+    {
+        replace_in(
+            self.free,
+            &mut self.nodes,
+            &mut self.partners,
+            first.0,
+            second.0,
+            born,
+            joins,
+        )?;
+        self.live = self.live - 2 + born.len() as u32;
+        Ok(())
+    }
+}
+
+fn kind_in(nodes: &[Option<(Kind, u32)>], n: usize) -> Option<(Kind, u32)>
+    ensures { result ≡ kind_at nodes.now n }
+{
+    if n < nodes.len() { nodes[n] } else { None }
+}
+
+fn has_slot_in(kind: Option<(Kind, u32)>, slot: u8) -> bool
+    ensures { result ≡ has_slot kind slot }
+{
+    match kind {
+        Some(k) => slot < k.0.slots(),
+        None => false,
+    }
+}
+
+pub fn is_port(free: u32, nodes: &[Option<(Kind, u32)>], p: Port) -> bool
+    ensures { result ≡ has_port free nodes.now p }
+{
+    match p {
+        Port::Free(k) => k < free,
+        Port::Of { node, slot } => has_slot_in(kind_in(nodes, node.0 as usize), slot),
+    }
+}
+
+fn partner_in(free: u32, nodes: &[Option<(Kind, u32)>], partners: &[usize], p: Port) -> Option<Port>
+    requires few { length nodes.now < 2 ^ 31 }
+    requires net { IsTabled free nodes.now partners.now }
+    ensures { result ≡ partner_in free nodes.now partners.now p }
+{
+    if !is_port(free, nodes, p) {
+        return None;
+    }
+    let at = place_of(free, p);
+    Some(port_of(free, other(partners, at)))
+}
+
+/// The place that the table pairs with this one.
+pub fn other(partners: &[usize], at: usize) -> usize
+    requires { at < length partners.now }
+    ensures { result ≡ other partners.now at }
+{
+    partners[at]
+}
+
+pub fn place_of(free: u32, p: Port) -> usize
+    ensures { result ≡ place free p }
+{
+    match p {
+        Port::Free(k) => k as usize,
+        Port::Of { node, slot } => free as usize + 3 * node.0 as usize + slot as usize,
+    }
+}
+
+pub fn port_of(free: u32, k: usize) -> Port
+    requires { k < free + 3 * 2 ^ 31 }
+    ensures { result ≡ port_at free k }
+{
+    if k < free as usize {
+        return Port::Free(k as u32);
+    }
+    let rest = k - free as usize;
+    Port::Of {
+        node: NodeId((rest / 3) as u32),
+        slot: (rest % 3) as u8,
+    }
+}

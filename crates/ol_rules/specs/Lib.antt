@@ -1,0 +1,4 @@
+pub mod Rewriting
+pub mod Steps
+pub mod Names
+pub mod Runs
