@@ -12,6 +12,8 @@ mod gate;
 mod mem_sink;
 mod mem_source;
 mod outside;
+#[cfg(test)]
+mod tests;
 
 pub use adapters::{StdSink, StdSource};
 pub use calls::{ReadAll, Written, read_all, write_all};
