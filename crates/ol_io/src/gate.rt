@@ -2,9 +2,8 @@
 
 /// A place that workers pass. It returns, and promises nothing else.
 pub trait Gate {
-    /// Called by `worker` at the start of each of its calls with `turn` 0, whether or not it finds a cell
-    /// later, and after each turn with the number of turns made in that call. That number stays at its
-    /// last value.
+    /// Called for `worker` at the start of each of its calls with `turn` 0, whether or not a cell is found
+    /// later, and after each turn with the number of turns made, which stays at its last value, 2^64 - 1.
     fn pass(&self, worker: u32, turn: u64);
 }
 
