@@ -48,10 +48,6 @@ abbrev pub write_failed : Put → Bool
 write_failed (PutBytes n) = false
 write_failed PutFailed = true
 
-abbrev pub taken_count : Put → ℕ
-taken_count (PutBytes n) = n
-taken_count PutFailed = 0
-
 -- A failed call has raised the count. In every other case the count stays.
 abbrev pub Counts : Bool → ℕ → ℕ → Type 0
 Counts true before now = Rose before now
