@@ -1,4 +1,5 @@
 -- A machine that reads a small text byte by byte, with a row of what is open, and how the reader's values show its states.
+-- The reader's own contracts speak of it, and no contract that a caller of the crate sees.
 use Rattle.std.specs.Prelude.{ℕ, List, [], ◌∷◌, map, reverse, Bool, false, ◌&&◌, ◌||◌, ◌==◌, nat_le, length, cond, if◌then◌else◌, Option, Some, None, Result, Ok, Err}
 use Rattle.std.specs.Option.{option_map, option_and_then}
 use Rattle.std.specs.List.{filter_map, position}

@@ -55,7 +55,8 @@ impl Names {
         requires { length self.old < 4294967295 }
         ensures number { IfOk result (λ k. IsFirstPlace self.new name.now k) }
         ensures known { IfOk result (λ k. k < length self.old → self.new ≡ self.old) }
-        ensures last { IfOk result (λ k. length self.old ≤ k → self.new ≡ self.old ++ name.now ∷ []) }
+        ensures last { IfOk result (λ k.
+            length self.old ≤ k → self.new ≡ self.old ++ name.now ∷ []) }
         ensures refusal { OnErr result (self.new ≡ self.old) }
     {
         if let Some(k) = first_place(&self.rows, name) {
@@ -69,8 +70,10 @@ impl Names {
 }
 
 fn first_place(rows: &[Vec<u8>], name: &[u8]) -> Option<usize>
-    ensures found { IfSome result (λ k. (k < length rows.now) × IsFirstPlace (map (λ row. row.items) rows.now) name.now k) }
-    ensures none { IfNone result ((j : ℕ) → slice_get (map (λ row. row.items) rows.now) j ≢ Some name.now) }
+    ensures found { IfSome result (λ k.
+        (k < length rows.now) × IsFirstPlace (map (λ row. row.items) rows.now) name.now k) }
+    ensures none { IfNone result ((j : ℕ) → slice_get (map (λ row.
+        row.items) rows.now) j ≢ Some name.now) }
 {
     for (k, row) in rows.iter().enumerate() {
         if row.as_slice() == name {

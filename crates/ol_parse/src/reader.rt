@@ -31,7 +31,8 @@ impl Open {
     }
 }
 
-/// Behind some atoms of a term, applied from the left; behind a backslash; behind a backslash and its word.
+/// Behind some atoms of a term, applied from the left; behind a backslash; behind a backslash and
+/// its word.
 #[derive(Drop)]
 enum Mode {
     Atoms(Option<Term>),
@@ -39,7 +40,8 @@ enum Mode {
     WantsDot(u8),
 }
 
-/// The number of an occurrence of a name: how many abstractions are open inside the innermost one of that name.
+/// The number of an occurrence of a name: how many abstractions are open inside the innermost one
+/// of that name.
 fn binder(opens: &[Open], name: u8) -> Option<u32>
     requires { length opens.now < 2 ^ 32 }
     ensures { result ≡ position (λ y. y == name) (filter_map bound_name (reverse opens.now)) }
@@ -58,7 +60,8 @@ fn binder(opens: &[Open], name: u8) -> Option<u32>
 
 /// The atoms so far, applied to one more.
 fn joined(alloc: Global, before: Option<Term>, atom: Term) -> Result<Term, AllocError>
-    ensures { IfOk result (λ term. tree_of term ≡ joined (option_map tree_of before) (tree_of atom)) }
+    ensures { IfOk result (λ term.
+        tree_of term ≡ joined (option_map tree_of before) (tree_of atom)) }
 {
     match before {
         None => Ok(atom),
@@ -68,8 +71,11 @@ fn joined(alloc: Global, before: Option<Term>, atom: Term) -> Result<Term, Alloc
 
 /// Behind the bracket that closes round a whole term.
 fn close(alloc: Global, body: Term, opens: &mut Vec<Open>) -> Result<Mode, SmallFault>
-    ensures ok { IfOk result (λ mode. at_close (finish (tree_of body) (frames_of opens.old.items)) ≡ Some (state_of mode opens.new.items)) }
-    ensures not_small { IfErr result (λ e. e ≡ NotSmall → at_close (finish (tree_of body) (frames_of opens.old.items)) ≡ None) }
+    ensures ok { IfOk result (λ mode.
+        at_close (finish (tree_of body) (frames_of opens.old.items))
+        ≡ Some (state_of mode opens.new.items)) }
+    ensures not_small { IfErr result (λ e. e ≡ NotSmall →
+        at_close (finish (tree_of body) (frames_of opens.old.items)) ≡ None) }
     ensures shorter { length opens.new.items ≤ length opens.old.items }
 {
     let mut body = body;
@@ -84,8 +90,10 @@ fn close(alloc: Global, body: Term, opens: &mut Vec<Open>) -> Result<Mode, Small
 
 /// The whole term at the end of a text, under the abstractions that are open.
 fn whole(alloc: Global, body: Term, opens: &mut Vec<Open>) -> Result<Term, SmallFault>
-    ensures ok { IfOk result (λ term. at_end (finish (tree_of body) (frames_of opens.old.items)) ≡ Some (tree_of term)) }
-    ensures not_small { IfErr result (λ e. e ≡ NotSmall → at_end (finish (tree_of body) (frames_of opens.old.items)) ≡ None) }
+    ensures ok { IfOk result (λ term.
+        at_end (finish (tree_of body) (frames_of opens.old.items)) ≡ Some (tree_of term)) }
+    ensures not_small { IfErr result (λ e. e ≡ NotSmall →
+        at_end (finish (tree_of body) (frames_of opens.old.items)) ≡ None) }
 {
     let mut body = body;
     while let Some(open) = opens.pop() {
@@ -99,8 +107,10 @@ fn whole(alloc: Global, body: Term, opens: &mut Vec<Open>) -> Result<Term, Small
 
 fn take_word(alloc: Global, mode: Mode, opens: &[Open], name: u8) -> Result<Mode, SmallFault>
     requires { length opens.now < 2 ^ 32 }
-    ensures ok { IfOk result (λ next. step (state_of mode opens.now) (word name) ≡ Some (state_of next opens.now)) }
-    ensures not_small { IfErr result (λ e. e ≡ NotSmall → step (state_of mode opens.now) (word name) ≡ None) }
+    ensures ok { IfOk result (λ next.
+        step (state_of mode opens.now) (word name) ≡ Some (state_of next opens.now)) }
+    ensures not_small { IfErr result (λ e. e ≡ NotSmall →
+        step (state_of mode opens.now) (word name) ≡ None) }
 {
     match mode {
         Mode::Atoms(before) => match binder(opens, name) {
@@ -113,7 +123,8 @@ fn take_word(alloc: Global, mode: Mode, opens: &[Open], name: u8) -> Result<Mode
 }
 
 fn take_backslash(mode: Mode, opens: &[Open]) -> Result<Mode, SmallFault>
-    ensures ok { IfOk result (λ next. step (state_of mode opens.now) backslash ≡ Some (state_of next opens.now)) }
+    ensures ok { IfOk result (λ next.
+        step (state_of mode opens.now) backslash ≡ Some (state_of next opens.now)) }
     ensures not_small { IfErr result (λ e. step (state_of mode opens.now) backslash ≡ None) }
 {
     match mode {
@@ -123,8 +134,10 @@ fn take_backslash(mode: Mode, opens: &[Open]) -> Result<Mode, SmallFault>
 }
 
 fn take_dot(mode: Mode, opens: &mut Vec<Open>) -> Result<Mode, SmallFault>
-    ensures ok { IfOk result (λ next. step (state_of mode opens.old.items) dot ≡ Some (state_of next opens.new.items)) }
-    ensures not_small { IfErr result (λ e. e ≡ NotSmall → step (state_of mode opens.old.items) dot ≡ None) }
+    ensures ok { IfOk result (λ next.
+        step (state_of mode opens.old.items) dot ≡ Some (state_of next opens.new.items)) }
+    ensures not_small { IfErr result (λ e. e ≡ NotSmall →
+        step (state_of mode opens.old.items) dot ≡ None) }
     ensures longer { length opens.new.items ≤ length opens.old.items + 1 }
 {
     match mode {
@@ -137,8 +150,10 @@ fn take_dot(mode: Mode, opens: &mut Vec<Open>) -> Result<Mode, SmallFault>
 }
 
 fn take_open_bracket(mode: Mode, opens: &mut Vec<Open>) -> Result<Mode, SmallFault>
-    ensures ok { IfOk result (λ next. step (state_of mode opens.old.items) open_bracket ≡ Some (state_of next opens.new.items)) }
-    ensures not_small { IfErr result (λ e. e ≡ NotSmall → step (state_of mode opens.old.items) open_bracket ≡ None) }
+    ensures ok { IfOk result (λ next.
+        step (state_of mode opens.old.items) open_bracket ≡ Some (state_of next opens.new.items)) }
+    ensures not_small { IfErr result (λ e. e ≡ NotSmall →
+        step (state_of mode opens.old.items) open_bracket ≡ None) }
     ensures longer { length opens.new.items ≤ length opens.old.items + 1 }
 {
     match mode {
@@ -151,8 +166,10 @@ fn take_open_bracket(mode: Mode, opens: &mut Vec<Open>) -> Result<Mode, SmallFau
 }
 
 fn take_close_bracket(alloc: Global, mode: Mode, opens: &mut Vec<Open>) -> Result<Mode, SmallFault>
-    ensures ok { IfOk result (λ next. step (state_of mode opens.old.items) close_bracket ≡ Some (state_of next opens.new.items)) }
-    ensures not_small { IfErr result (λ e. e ≡ NotSmall → step (state_of mode opens.old.items) close_bracket ≡ None) }
+    ensures ok { IfOk result (λ next.
+        step (state_of mode opens.old.items) close_bracket ≡ Some (state_of next opens.new.items)) }
+    ensures not_small { IfErr result (λ e. e ≡ NotSmall →
+        step (state_of mode opens.old.items) close_bracket ≡ None) }
     ensures longer { length opens.new.items ≤ length opens.old.items + 1 }
 {
     match mode {
@@ -164,8 +181,10 @@ fn take_close_bracket(alloc: Global, mode: Mode, opens: &mut Vec<Open>) -> Resul
 /// Behind one more token.
 fn take(alloc: Global, mode: Mode, opens: &mut Vec<Open>, token: Token) -> Result<Mode, SmallFault>
     requires { length opens.old.items < 2 ^ 32 }
-    ensures ok { IfOk result (λ next. step (state_of mode opens.old.items) (token_in token) ≡ Some (state_of next opens.new.items)) }
-    ensures not_small { IfErr result (λ e. e ≡ NotSmall → step (state_of mode opens.old.items) (token_in token) ≡ None) }
+    ensures ok { IfOk result (λ next.
+        step (state_of mode opens.old.items) (token_in token) ≡ Some (state_of next opens.new.items)) }
+    ensures not_small { IfErr result (λ e. e ≡ NotSmall →
+        step (state_of mode opens.old.items) (token_in token) ≡ None) }
     ensures longer { length opens.new.items ≤ length opens.old.items + 1 }
 {
     match token {
@@ -180,7 +199,8 @@ fn take(alloc: Global, mode: Mode, opens: &mut Vec<Open>, token: Token) -> Resul
 /// The term, where the text ends here.
 fn end(alloc: Global, mode: Mode, opens: &mut Vec<Open>) -> Result<Term, SmallFault>
     ensures ok { IfOk result (λ term. ends (state_of mode opens.old.items) ≡ Some (tree_of term)) }
-    ensures not_small { IfErr result (λ e. e ≡ NotSmall → ends (state_of mode opens.old.items) ≡ None) }
+    ensures not_small { IfErr result (λ e. e ≡ NotSmall →
+        ends (state_of mode opens.old.items) ≡ None) }
 {
     match mode {
         Mode::Atoms(Some(body)) => whole(alloc, body, opens),
@@ -188,7 +208,8 @@ fn end(alloc: Global, mode: Mode, opens: &mut Vec<Open>) -> Result<Term, SmallFa
     }
 }
 
-/// What has been read of a text: what may come next, what is open, and whether a word stands just before.
+/// What has been read of a text: what may come next, what is open, and whether a word stands just
+/// before.
 #[derive(Drop)]
 pub struct Reader {
     mode: Mode,
@@ -212,8 +233,10 @@ impl Reader {
     /// Behind one more byte.
     pub fn read(self, alloc: Global, byte: u8) -> Result<Reader, SmallFault>
         requires { open_count self < 2 ^ 32 }
-        ensures ok { IfOk result (λ next. read_byte (reading_of self).0 (reading_of self).1 (byte_of byte) ≡ Some (reading_of next)) }
-        ensures not_small { IfErr result (λ e. e ≡ NotSmall → read_byte (reading_of self).0 (reading_of self).1 (byte_of byte) ≡ None) }
+        ensures ok { IfOk result (λ next.
+            read_byte (reading_of self).0 (reading_of self).1 (byte_of byte) ≡ Some (reading_of next)) }
+        ensures not_small { IfErr result (λ e. e ≡ NotSmall →
+            read_byte (reading_of self).0 (reading_of self).1 (byte_of byte) ≡ None) }
         ensures longer { IfOk result (λ next. open_count next ≤ open_count self + 1) }
     {
         let Reader {

@@ -23,10 +23,12 @@ pub fn parse_small(alloc: Global, text: &[u8]) -> Result<TermFile, SmallFault>
     requires { length text.now ≤ 1024 }
     ensures ok { IfOk result (λ file. IsSmallText text.now (tree_of file.term)) }
     ensures names { IfOk result (λ file. file.names ≡ []) }
-    ensures not_small { IfErr result (λ e. e ≡ SmallFault.NotSmall → (t : Tree) → IsSmallText text.now t → ⊥) }
+    ensures not_small { IfErr result (λ e.
+        e ≡ SmallFault.NotSmall → (t : Tree) → IsSmallText text.now t → ⊥) }
     ensures closed { IfOk result (λ file. is_below 0 (tree_of file.term) ≡ true) }
     ensures nameless { IfOk result (λ file. is_named_below 0 (tree_of file.term) ≡ true) }
-    ensures few { IfOk result (λ file. 3 * lams (tree_of file.term) + occurrences (tree_of file.term) ≤ length text.now) }
+    ensures few { IfOk result (λ file.
+        3 * lams (tree_of file.term) + occurrences (tree_of file.term) ≤ length text.now) }
     ensures shallow { IfOk result (λ file. depth (tree_of file.term) ≤ 1000) }
 {
     let mut reader = Reader::new(alloc);
