@@ -221,7 +221,12 @@ pub fn is_port(free: u32, nodes: &[Option<(Kind, u32)>], p: Port) -> bool
     }
 }
 
-pub fn partner_in(free: u32, nodes: &[Option<(Kind, u32)>], partners: &[usize], p: Port) -> Option<Port>
+pub fn partner_in(
+    free: u32,
+    nodes: &[Option<(Kind, u32)>],
+    partners: &[usize],
+    p: Port,
+) -> Option<Port>
     requires few { length nodes.now < 2 ^ 31 }
     requires net { IsTabled free nodes.now partners.now }
     ensures { result ≡ partner_in free nodes.now partners.now p }
