@@ -115,11 +115,11 @@ kind_at-renewed nodes first second n born lf ls =
           ]
     ]
 
-slot_of : (free k : ℕ) → free ≤ k → IsSlot free ((k - free) / 3) ((k - free) % 3) k
+pub slot_of : (free k : ℕ) → free ≤ k → IsSlot free ((k - free) / 3) ((k - free) % 3) k
 slot_of free k le = record { at = omega arith; small = omega arith }
 
 -- whether there is a port at a place, by node and slot
-has_port-slot : (free : ℕ) (nodes : List (Option (Kind × ℕ))) (n s k : ℕ) → IsSlot free n s k → has_port free nodes (port_at free k) ≡ has_slot (kind_at nodes n) s
+pub has_port-slot : (free : ℕ) (nodes : List (Option (Kind × ℕ))) (n s k : ℕ) → IsSlot free n s k → has_port free nodes (port_at free k) ≡ has_slot (kind_at nodes n) s
 has_port-slot free nodes n s k at =
     let past : nat_lt k free ≡ false = let e = at.at in grind (arith, nat_tests) in
     let q : (k - free) / 3 ≡ n = omega (arith, at.at, at.small) in
@@ -147,7 +147,7 @@ stays : (h : Bool) (c : ℕ) (inside : Type 0) → c ≡ 0 → JoinedOnce c h h 
 stays h c inside e = record { once = omega arith; within = λ h. absurd (omega arith); toggles = rw e refl }
 
 -- a node is live only if its number was given out
-live-within : (nodes : List (Option (Kind × ℕ))) (n : ℕ) → has_slot (kind_at nodes n) 0 ≡ true → n < length nodes
+pub live-within : (nodes : List (Option (Kind × ℕ))) (n : ℕ) → has_slot (kind_at nodes n) 0 ≡ true → n < length nodes
 live-within nodes n h = kind_at-within nodes n 0 h
 
 joined_once-slot : (free : ℕ) (nodes : List (Option (Kind × ℕ))) (xs : List ℕ) (first second n s k : ℕ) (born : List (Kind × ℕ)) (joins : List (JoinEnd × JoinEnd)) →
@@ -227,7 +227,7 @@ joins-fit free nodes xs first second born joins g =
       AllTwo-from_count (all_joins free (length nodes) first second joins) (λ k. (joined_once free nodes xs first second k born joins g).once),
     )
 
-length-renewed : (nodes : List (Option (Kind × ℕ))) (first second : ℕ) (born : List (Kind × ℕ)) → length (renewed nodes first second born) ≡ length nodes + length born
+pub length-renewed : (nodes : List (Option (Kind × ℕ))) (first second : ℕ) (born : List (Kind × ℕ)) → length (renewed nodes first second born) ≡ length nodes + length born
 length-renewed nodes first second born =
     length-set (set (nodes ++ all_live born) first None) second None ∙ length-set (nodes ++ all_live born) first None ∙ length-append nodes (all_live born) ∙ ap (λ n. length nodes + n) (length-all_live born)
 
