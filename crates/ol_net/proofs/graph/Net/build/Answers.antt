@@ -1,4 +1,4 @@
-use Rattle.std.proofs.Common.{length, arith, sym, ◌∙◌}
+use Rattle.std.proofs.Common.{arith}
 use Rattle.ol_net.proofs.Linking.{IsTabled-from_tables, Builds-from_tables}
 use Rattle.ol_net.proofs.graph.Net.build.Goals as goal
 
