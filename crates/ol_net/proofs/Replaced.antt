@@ -327,3 +327,9 @@ Replaces-rewired g first second born joins given = record {
     contracted : IsImage (name_at g.free) (Contracted edges slots) (Contracted (Edge (Linked (net_of g)) (IsPrincipalOf first.0 second.0) (JoinsOf first.0 second.0 (length g.nodes) joins)) (IsSlotOf first.0 second.0))
     contracted = contracted_image (name_at g.free) (one_name g.free) edges (Edge (Linked (net_of g)) (IsPrincipalOf first.0 second.0) (JoinsOf first.0 second.0 (length g.nodes) joins)) named
         slots (IsSlotOf first.0 second.0) (slot_named g.free first.0 second.0)
+
+-- from the tables that the code leaves
+pub Replaces-from : (g : Graph) (nodes : List (Option (Kind × ℕ))) (xs : List ℕ) (first second : NodeId) (born : List (Kind × ℕ)) (joins : List (JoinEnd × JoinEnd)) → Given g.free g.nodes g.partners first.0 second.0 born joins →
+    nodes ≡ renewed g.nodes first.0 second.0 born → xs ≡ rewired g.free (length g.nodes) g.partners first.0 second.0 born joins →
+    Replaces g (record { free = g.free; nodes = nodes; partners = xs }) first second born joins
+Replaces-from g nodes xs first second born joins given en ex = rw (en, ex) (Replaces-rewired g first second born joins given)

@@ -15,15 +15,11 @@ use Rattle.ol_net.specs.declared.parts.NodeId.{NodeId}
 use Rattle.ol_net.specs.declared.parts.Port.{Port}
 use Rattle.ol_net.specs.declared.parts.Port.TheVariants.{Of}
 use Rattle.std.proofs.lemmas.List.Sums.{sum_by-set, sum_by-append}
-use Rattle.ol_net.specs.Contract.{take_out, contract, vertices, without, Shows}
 use Rattle.ol_net.specs.Replace.{AreFacing}
-use Rattle.ol_net.specs.Retabled.{settled, Retables}
-use Rattle.ol_net.proofs.AnyOrder.{contract-settled, Shows-same}
-use Rattle.ol_net.proofs.Contracting.{Shows-joined, Shows-without}
 use Rattle.ol_net.proofs.Places.{kind_at-within, place-port_at}
 use Rattle.ol_net.proofs.Joining.{length-grown, other-grown, IsPaired-grown, length-joined, JoinStep-joined, IsPaired-joined}
 use Rattle.ol_net.proofs.Linking.{length-all_live, count_by-all_live}
-use Rattle.ol_net.proofs.Fitting.{bit, count, count-append, count-uses_up, Within-from_count, AllTwo-from_count, alone-joined_all, IsPaired-joined_all, length-joined_all, IsSlot, count-side_at, count-side_low, count-born_low, count-born_at}
+use Rattle.ol_net.proofs.Fitting.{bit, vertices, count, count-append, count-uses_up, Within-from_count, AllTwo-from_count, alone-joined_all, IsPaired-joined_all, length-joined_all, IsSlot, count-side_at, count-side_low, count-born_low, count-born_at}
 
 -- all edges that are added, the one of the principal ports with them
 abbrev pub all_joins : ℕ → ℕ → ℕ → ℕ → List (JoinEnd × JoinEnd) → List (ℕ × ℕ)
@@ -328,41 +324,6 @@ Given-from g first second born joins net face fit =
     let joined : other g.partners (g.free + 3 * first.0) ≡ g.free + 3 * second.0 = omega (arith, ap (other g.partners) (add-zero (g.free + 3 * first.0)), qs) in
     record { net = net; facing = record { two = face.0; first_live = live; second_live = live2; joined = joined }; fit = fit }
 
-pub Shows-settled : (es : List (ℕ × ℕ)) (xs : List ℕ) (joins : List (ℕ × ℕ)) → IsPaired (other xs) → Within (length xs) joins → AllTwo joins → Shows es (other xs) →
-    Shows (settled es joins) (other (joined_all xs joins))
-Shows-settled es xs [] p w t shows = shows
-Shows-settled es xs (e ∷ joins) p w t shows =
-    let ys = joined xs e.0 e.1 in
-    let j = JoinStep-joined xs e.0 e.1 p w.0 w.1 t.0 in
-    Shows-settled (take_out e.1 (take_out e.0 (e ∷ es))) ys joins (IsPaired-joined (other xs) (other ys) e.0 e.1 j) (rw (length-joined xs e.0 e.1) w.2) t.1
-    (Shows-joined es (other xs) (other ys) e.0 e.1 j shows)
-
-pub Shows-rewired : (free : ℕ) (nodes : List (Option (Kind × ℕ))) (xs : List ℕ) (first second : ℕ) (born : List (Kind × ℕ)) (joins : List (JoinEnd × JoinEnd)) →
-    Given free nodes xs first second born joins → (es : List (ℕ × ℕ)) → Shows es (other xs) →
-    Shows (settled (without (free + 3 * first) es) (join_places free first second (length nodes) joins)) (other (rewired free (length nodes) xs first second born joins))
-Shows-rewired free nodes xs first second born joins g es shows =
-    let ys = grown xs (3 * length born) in
-    let a = free + 3 * first in
-    let b = free + 3 * second in
-    let r = ready free nodes xs first second born joins g ys refl (length nodes) refl in
-    let fit = joins-fit free nodes xs first second born joins g in
-    let j = JoinStep-joined ys a b r.paired r.first_in r.second_in fit.1.0 in
-    let ab : other ys a ≡ b = other-grown xs (3 * length born) a ∙ g.facing.joined in
-    let shows' : Shows es (other ys) = λ k. shows k ∙ ap (λ w. if w == k then [] else w ∷ []) (sym (other-grown xs (3 * length born) k)) in
-    Shows-settled (without a es) (joined ys a b) (join_places free first second (length nodes) joins) r.paired_after r.within r.two
-    (Shows-without es (other ys) (other (joined ys a b)) a b j ab shows')
-
--- the same, with all joins added first
-pub Shows-contract : (free : ℕ) (nodes : List (Option (Kind × ℕ))) (xs : List ℕ) (first second : ℕ) (born : List (Kind × ℕ)) (joins : List (JoinEnd × JoinEnd)) →
-    Given free nodes xs first second born joins → (es : List (ℕ × ℕ)) → Shows es (other xs) →
-    Shows (contract (vertices (join_places free first second (length nodes) joins)) (join_places free first second (length nodes) joins ++ without (free + 3 * first) es)) (other (rewired free (length nodes) xs first second born joins))
-Shows-contract free nodes xs first second born joins g es shows =
-    let js = join_places free first second (length nodes) joins in
-    let fs = without (free + 3 * first) es in
-    let once : (k : ℕ) → count k (vertices js) ≤ 1 = λ k. let c = (joined_once free nodes xs first second k born joins g).once in omega arith in
-    Shows-same (contract (vertices js) (js ++ fs)) (settled fs js) (other (rewired free (length nodes) xs first second born joins)) (contract-settled js fs once)
-    (Shows-rewired free nodes xs first second born joins g es shows)
-
 -- two nodes are live
 pub two-live : (nodes : List (Option (Kind × ℕ))) (xs : List ℕ) (free first second : ℕ) (born : List (Kind × ℕ)) (joins : List (JoinEnd × JoinEnd)) → Given free nodes xs first second born joins → 2 ≤ count_by is_some nodes
 two-live nodes xs free first second born joins g =
@@ -378,15 +339,3 @@ kept free live nodes nodes' xs xs' first second born joins g l en ex =
     let two = two-live nodes xs free first second born joins g in
     let n = IsTabled-rewired free nodes xs first second born joins g in
     rw (en, ex) (omega (arith, e, two, l), length-renewed nodes first second born, n)
-
-pub Retables-from : (g new : Graph) (first second : NodeId) (born : List (Kind × ℕ)) (joins : List (JoinEnd × JoinEnd)) → Given g.free g.nodes g.partners first.0 second.0 born joins →
-    new.free ≡ g.free → new.nodes ≡ renewed g.nodes first.0 second.0 born → new.partners ≡ rewired g.free (length g.nodes) g.partners first.0 second.0 born joins →
-    Retables g new first second born joins
-Retables-from g new first second born joins given ef en ex =
-    let net = IsTabled-rewired g.free g.nodes g.partners first.0 second.0 born joins given in
-    record {
-      same_free = ef;
-      nodes = en;
-      size = rw (ef, en, ex) net.size;
-      links = λ es shows. rw ex (Shows-contract g.free g.nodes g.partners first.0 second.0 born joins given es shows);
-    }

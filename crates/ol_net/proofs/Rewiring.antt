@@ -8,11 +8,10 @@ use Rattle.ol_net.specs.declared.parts.Kind.{Kind}
 use Rattle.ol_net.specs.declared.parts.JoinEnd.{JoinEnd}
 use Rattle.ol_net.specs.Pairing.{IsPaired, other}
 use Rattle.ol_net.specs.Graph.{kind_at, has_slot, has_port, port_at}
-use Rattle.ol_net.specs.Contract.{vertices}
 use Rattle.ol_net.specs.Joins.{joined, joined_all, join_places, grown, rewired, Given}
 use Rattle.ol_net.proofs.Places.{kind_at-within}
 use Rattle.ol_net.proofs.Joining.{JoinStep, JoinStep-joined, other-grown}
-use Rattle.ol_net.proofs.Fitting.{bit, count, IsSlot}
+use Rattle.ol_net.proofs.Fitting.{bit, vertices, count, IsSlot}
 use Rattle.ol_net.proofs.Replacing.{all_joins, count-low, count-at, slot_of, has_port-slot, live-within, joined_once, joins-fit, ready, Ready}
 use Rattle.ol_net.proofs.JoinEdges.{PairOf, JoinAt, GoneOf, With, count_in, several_joins}
 

@@ -6,7 +6,5 @@ pub mod Nets
 pub mod Pairs
 pub mod Numbered
 pub mod Build
-pub mod Contract
 pub mod Joins
 pub mod Replace
-pub mod Retabled
