@@ -8,3 +8,4 @@ pub mod Numbered
 pub mod Build
 pub mod Joins
 pub mod Replace
+pub mod Indexes
