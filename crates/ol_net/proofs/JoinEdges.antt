@@ -6,7 +6,7 @@ use Rattle.ol_edges.specs.Edges.{Joined, here, on, back, IsIn, Contracted, Edge}
 use Rattle.ol_edges.proofs.Joining.{joined_trans, joined_sym}
 use Rattle.ol_edges.proofs.Composing.{HasEdge, joined_keeps, contracted_map, contracted_twice}
 use Rattle.ol_net.specs.Pairing.{IsPaired, other}
-use Rattle.ol_net.specs.Joins.{joined, joined_all, Within, AllTwo}
+use Rattle.ol_net.specs.Rewired.{joined, joined_all, Within, AllTwo}
 use Rattle.ol_net.proofs.Joining as joining
 use Rattle.ol_net.proofs.Joining.{JoinStep, alone-joined, IsPaired-joined, JoinStep-joined, length-joined}
 use Rattle.ol_net.proofs.Fitting.{bit, vertices, count}

@@ -17,7 +17,8 @@ use Rattle.ol_net.specs.Build.{all_live}
 use Rattle.ol_net.specs.Graph.{Graph, kind_at, has_port, place, port_at, partner_of, IsTabled}
 use Rattle.ol_net.specs.Nets.{NamedPort, free, slot, HasNode, Linked, IsPrincipalOf, IsSlotOf}
 use Rattle.ol_net.specs.Numbered.{numbered_port, net_of}
-use Rattle.ol_net.specs.Joins.{end_place, join_places, rewired, renewed, uses_up, remove_end, and_then_end, same_end, all_ends, side_ends, born_ends, open_ends, Given}
+use Rattle.ol_net.specs.Joins.{uses_up, remove_end, and_then_end, same_end, all_ends, side_ends, born_ends, open_ends}
+use Rattle.ol_net.specs.Rewired.{end_place, join_places, rewired, renewed, Given}
 use Rattle.ol_net.specs.Replace.{Replaces, JoinsOf, IsBorn, port_of_end}
 use Rattle.ol_net.proofs.Places.{place-port_at, port_at-place, partner_in-some}
 use Rattle.ol_net.proofs.Numbered.{has_node, linked, linked_back, numbered_port-injective, partner_of-parts, partner_of-back}
@@ -123,13 +124,9 @@ all_ends-slots f h kind.Croissant = (h 0 (omega arith), (h 1 (omega arith), tt))
 all_ends-slots f h kind.Bracket = (h 0 (omega arith), (h 1 (omega arith), tt))
 all_ends-slots f h kind.Eraser = (h 0 (omega arith), tt)
 
-AllSlots-rest : (xs : List JoinEnd) → AllSlots xs → AllSlots (drop 1 xs)
-AllSlots-rest [] h = tt
-AllSlots-rest (x ∷ xs) h = h.1
-
 side_ends-slots : (f : ℕ → JoinEnd) → ((s : ℕ) → s < 3 → IsSlotEnd (f s)) → (o : Option (Kind × ℕ)) → AllSlots (side_ends f o)
 side_ends-slots f h None = tt
-side_ends-slots f h (Some k) = AllSlots-rest (all_ends f k.0) (all_ends-slots f h k.0)
+side_ends-slots f h (Some k) = (all_ends-slots f h k.0).1
 
 born_ends-slots : (p : ℕ) (born : List (Kind × ℕ)) → AllSlots (born_ends p born)
 born_ends-slots p [] = tt

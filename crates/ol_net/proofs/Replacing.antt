@@ -10,7 +10,8 @@ use Rattle.ol_net.specs.Pairing.{IsPaired, other}
 use Rattle.ol_net.specs.Parts.{slots_of}
 use Rattle.ol_net.specs.Graph.{Graph, kind_at, has_slot, has_port, port_at, place, IsTabled}
 use Rattle.ol_net.specs.Build.{all_live}
-use Rattle.ol_net.specs.Joins.{joined, joined_all, end_place, join_places, Within, AllTwo, grown, rewired, renewed, uses_up, side_ends, born_ends, open_ends, Facing, Given}
+use Rattle.ol_net.specs.Joins.{uses_up, side_ends, born_ends, open_ends}
+use Rattle.ol_net.specs.Rewired.{joined, joined_all, end_place, join_places, Within, AllTwo, grown, rewired, renewed, Facing, Given}
 use Rattle.ol_net.specs.declared.parts.NodeId.{NodeId}
 use Rattle.ol_net.specs.declared.parts.Port.{Port}
 use Rattle.ol_net.specs.declared.parts.Port.TheVariants.{Of}

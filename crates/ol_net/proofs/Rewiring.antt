@@ -8,7 +8,7 @@ use Rattle.ol_net.specs.declared.parts.Kind.{Kind}
 use Rattle.ol_net.specs.declared.parts.JoinEnd.{JoinEnd}
 use Rattle.ol_net.specs.Pairing.{IsPaired, other}
 use Rattle.ol_net.specs.Graph.{kind_at, has_slot, has_port, port_at}
-use Rattle.ol_net.specs.Joins.{joined, joined_all, join_places, grown, rewired, Given}
+use Rattle.ol_net.specs.Rewired.{joined, joined_all, join_places, grown, rewired, Given}
 use Rattle.ol_net.proofs.Places.{kind_at-within}
 use Rattle.ol_net.proofs.Joining.{JoinStep, JoinStep-joined, other-grown}
 use Rattle.ol_net.proofs.Fitting.{bit, vertices, count, IsSlot}

@@ -7,5 +7,6 @@ pub mod Pairs
 pub mod Numbered
 pub mod Build
 pub mod Joins
+pub mod Rewired
 pub mod Replace
 pub mod Indexes
