@@ -11,7 +11,7 @@ use Rattle.ol_net.specs.Parts.{slots_of}
 use Rattle.ol_net.specs.Graph.{Graph, kind_at, has_slot, has_port, port_at, place, IsTabled}
 use Rattle.ol_net.specs.Build.{all_live}
 use Rattle.ol_net.specs.Joins.{uses_up, side_ends, born_ends, open_ends}
-use Rattle.ol_net.specs.Rewired.{joined, joined_all, end_place, join_places, Within, AllTwo, grown, rewired, renewed, Facing, Given}
+use Rattle.ol_net.specs.Rewired.{joined, joined_all, end_place, join_places, Within, AllTwo, grown, rewired, renewed, FacingPlaces, Given}
 use Rattle.ol_net.specs.declared.parts.NodeId.{NodeId}
 use Rattle.ol_net.specs.declared.parts.Port.{Port}
 use Rattle.ol_net.specs.declared.parts.Port.TheVariants.{Of}

@@ -110,7 +110,19 @@ impl Net {
         }
     }
 
-    /// Takes out two nodes that face each other, puts others in, and joins the ends that are open.
+    /// Rewrites two nodes that face each other: the one call that changes a net.
+    ///
+    /// `first` and `second` are live, different and linked by their principal ports. Both go, and so
+    /// does that link. The nodes of `born`, four at most, come with the next numbers, in order. Each
+    /// of their indexes is at most one above the net's greatest, and 0 for an eraser.
+    ///
+    /// The joins are added as edges. Each slot of at least 1 of the two nodes stands in exactly one
+    /// join, so does each slot of each node of `born`, and nothing else stands in a join. Then each
+    /// slot of the two nodes is taken out: the two edges at it become one, and an edge from it to
+    /// itself goes with it. What is left are the links, so two ports are linked in the end where
+    /// edges joined them by way of the slots that went (Lafont, Interaction Nets, 1990).
+    ///
+    /// After `NoMemory` the net is unchanged. It has given out 2,000,000,000 numbers at most before.
     pub fn replace(
         &mut self,
         first: NodeId,
