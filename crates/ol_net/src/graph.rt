@@ -1,6 +1,6 @@
 //! The net.
 
-ghost use Rattle.std.specs.Prelude.{◌≡◌, ℕ, ◌+◌, ◌-◌, ◌*◌, ◌/◌, ◌%◌, ◌^◌, ◌<◌, ◌≤◌, length, is_some, count_by, MatchResult, vec_len, OnOk, OnErr, IfSome, Some, ◌≢◌, true, slice_get, ◌↔◌, IfNone, IsTrue};
+ghost use Rattle.std.specs.Prelude.{◌≡◌, ℕ, ◌+◌, ◌-◌, ◌*◌, ◌/◌, ◌%◌, ◌^◌, ◌<◌, ◌≤◌, length, is_some, count_by, IfOk, IfErr, vec_len, OnOk, OnErr, IfSome, Some, ◌≢◌, true, slice_get, ◌↔◌, IfNone, IsTrue};
 ghost use Rattle.ol_net.specs.Nets.{HasNode, Linked, IsPort, IsNet};
 ghost use Rattle.ol_net.specs.Numbered.{net_of, numbered_port};
 ghost use Rattle.ol_net.specs.Pairs.{IsStuck, IsInActive, IsInStuck, FacesNone, HasStuck};
@@ -23,11 +23,17 @@ use ol_io::NoMemory;
 use std::alloc::Global;
 use std::marker::Model;
 
+/// A net: nodes with a kind and an index under numbers of their own, free ports, and links, each of
+/// two ports. Each port stands in one link. A node's number is never given to another node.
 #[derive(Drop)]
 pub struct Net {
+    // The number of free ports, and that of live nodes.
     free: u32,
     live: u32,
+    // By number. A node that is gone is None.
     nodes: Vec<Option<(Kind, u32)>>,
+    // By place: the free ports, and then three places for each node number. At the place of a port
+    // stands the place of its partner, and at a place that is no port that place itself.
     partners: Vec<usize>,
 }
 
@@ -45,6 +51,13 @@ impl Model for Net {
 
 impl Net {
     /// Numbers the nodes from 0 in the order given, and links their ports.
+    ///
+    /// - `free`: the number of free ports.
+    /// - `nodes`: each node's kind and index, fewer than 1,000,000,000 of them.
+    /// - `links`: the two ports of each link, fewer than 2^32 of them.
+    ///
+    /// The first fault in the order of `BuildFault` is answered. `NoMemory` may stand in the place
+    /// of any answer.
     pub fn build(
         alloc: Global,
         free: u32,
@@ -53,7 +66,8 @@ impl Net {
     ) -> Result<Net, BuildFault>
         requires few_nodes { vec_len nodes < 1000000000 }
         requires few_links { vec_len links < 2 ^ 32 }
-        ensures { MatchResult result (Builds free nodes.items links.items) (FaultIs free nodes.items links.items) }
+        ensures built { IfOk result (Builds free nodes.items links.items) }
+        ensures fault { IfErr result (FaultIs free nodes.items links.items) }
     {
         match tables(alloc, free, &nodes, &links) {
             Ok((live, partners)) => Ok(Net {
@@ -69,13 +83,15 @@ impl Net {
     /// The number of free ports, which are `Free(0)` up to that number.
     pub fn free_ports(&self) -> u32
         ensures free { result ≡ self.now.free }
+        ensures free_ports { result ≡ (net_of self.now).free_ports }
     {
         self.free
     }
 
     /// The number of live nodes.
     pub fn nodes(&self) -> u32
-        ensures live { result ≡ count_by is_some self.now.nodes }
+        ensures table { result ≡ count_by is_some self.now.nodes }
+        ensures nodes { result ≡ length (net_of self.now).nodes }
     {
         self.live
     }
@@ -83,6 +99,7 @@ impl Net {
     /// The number of node numbers given out so far. The next node gets this number.
     pub fn born(&self) -> u32
         ensures born { result ≡ length self.now.nodes }
+        ensures bound { result < 2 ^ 31 }
     {
         self.nodes.len() as u32
     }
@@ -152,19 +169,23 @@ impl Net {
         let _ = &self.partners;
     }
 
-    /// Rewrites two nodes that face each other: the one call that changes a net.
+    /// Takes out two nodes that face each other, puts others in under the next numbers, and joins
+    /// the ends that are open. It is the one call that changes a net.
     ///
-    /// `first` and `second` are live, different and linked by their principal ports. Both go, and so
-    /// does that link. The nodes of `born`, four at most, come with the next numbers, in order. Each
-    /// of their indexes is at most one above the net's greatest, and 0 for an eraser.
+    /// - `first`, `second`: the two nodes: live, different, and linked by their principal ports. That
+    ///   link goes with them.
+    /// - `born`: kind and index of each node that comes, at most four. An index is at most one above
+    ///   the greatest of the net, and 0 for an eraser.
+    /// - `joins`: pairs of ends. Each slot of the two nodes but the principal one, and each slot of
+    ///   a node that comes, stands in one of them once, and nothing else does.
     ///
-    /// The joins are added as edges. Each slot of at least 1 of the two nodes stands in exactly one
-    /// join, so does each slot of each node of `born`, and nothing else stands in a join. Then each
-    /// slot of the two nodes is taken out: the two edges at it become one, and an edge from it to
-    /// itself goes with it. What is left are the links, so two ports are linked in the end where
-    /// edges joined them by way of the slots that went (Lafont, Interaction Nets, 1990).
+    /// The joins are edges beside the links that are left. Then each slot of the two nodes is taken
+    /// out: the two edges at it become one, and an edge from it to itself goes with it. So two ports
+    /// are linked in the end where edges joined them by way of the slots that went (Lafont,
+    /// Interaction Nets, 1990).
     ///
-    /// After `NoMemory` the net is unchanged. It has given out 2,000,000,000 numbers at most before.
+    /// `NoMemory`: no memory was found, and the net is unchanged. The net has given out at most
+    /// 2,000,000,000 numbers.
     pub fn replace(
         &mut self,
         first: NodeId,
