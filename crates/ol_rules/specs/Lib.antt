@@ -1,4 +1,5 @@
 pub mod Rewriting
 pub mod Steps
+pub mod Listed
 pub mod Names
 pub mod Runs
