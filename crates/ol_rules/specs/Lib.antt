@@ -1,5 +1,6 @@
 pub mod Rewriting
 pub mod Steps
 pub mod Listed
+pub mod Actors
 pub mod Names
 pub mod Runs

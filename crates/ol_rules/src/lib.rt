@@ -2,5 +2,7 @@
 #![tactic(auto)]
 
 mod journal;
+mod steps;
 
 pub use journal::{Entry, Journal, NodeName};
+pub use steps::{StepFault, step};
