@@ -1,3 +1,4 @@
 pub mod Lists
 pub mod Listed
 pub mod Stepping
+pub mod Born

@@ -7,7 +7,11 @@ use Rattle.ol_net.specs.declared.parts.NodeId.{NodeId}
 use Rattle.ol_net.specs.declared.parts.Rule.{Rule}
 use Rattle.ol_net.specs.Parts.{arity}
 use Rattle.ol_net.specs.Rules.{rule_of}
-use Rattle.ol_net.specs.Graph.{Graph}
+use Rattle.ol_net.specs.Graph.{Graph, IsTabled}
+use Rattle.ol_net.proofs.Numbered.{has_node, linked}
+use Rattle.ol_net.specs.declared.parts.Port.TheVariants.{Of}
+use Rattle.ol_rules.specs.declared.steps.Pair.{Pair}
+use Rattle.ol_rules.specs.Actors.{IsPair}
 use Rattle.ol_net.specs.Nets.{NamedPort, HasNode, Linked, Faces, IsPrincipalOf, IsSlotOf}
 use Rattle.ol_net.specs.Pairs.{IsActive}
 use Rattle.ol_net.specs.Numbered.{net_of}
@@ -74,4 +78,21 @@ steps_at old new at r f g kf kg one faces fits replaced =
       one_of = one;
       step = record { active = active; rewrites = rewritten old new f g kf kg (action_of r kg.1) replaced };
       numbers = replaced.numbers ∙ ap (λ n. length old.nodes + n) (born_count r kf kg);
+    }
+
+-- and so is one by the pair that the code holds
+pub steps_from : (old new : Graph) (at : NodeId) (pair : Pair) → IsTabled old.free old.nodes old.partners → IsPair old at pair
+    → Replaces old new pair.f pair.g (born_of (action_of pair.rule pair.of_g.1) pair.of_f pair.of_g) (joins_of (action_of pair.rule pair.of_g.1) (arity pair.of_f.0) (arity pair.of_g.0))
+    → StepsAt old new at.0 pair.rule
+steps_from old new at pair tabled is_pair replaced = steps_at old new at.0 pair.rule pair.f pair.g pair.of_f pair.of_g (one is_pair.one_of) faces is_pair.fits replaced
+  where
+    one : (at ≡ pair.f) ⊎ (at ≡ pair.g) → (at.0 ≡ pair.f.0) ⊎ (at.0 ≡ pair.g.0)
+    one (inl e) = inl (ap (λ (n : NodeId). n.0) e)
+    one (inr e) = inr (ap (λ (n : NodeId). n.0) e)
+
+    faces : Faces (net_of old) pair.f.0 pair.g.0 pair.of_f.0 pair.of_f.1 pair.of_g.0 pair.of_g.1
+    faces = record {
+      first = (has_node old pair.f.0 pair.of_f.0 pair.of_f.1).1 is_pair.is_f;
+      second = (has_node old pair.g.0 pair.of_g.0 pair.of_g.1).1 is_pair.is_g;
+      linked = linked old (Of pair.f 0) (Of pair.g 0) tabled is_pair.facing.1;
     }

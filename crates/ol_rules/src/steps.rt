@@ -213,7 +213,7 @@ fn rewrite(net: &mut Net, pair: Pair) -> Result<(), NoMemory>
     ensures replaced { OnOk result (Replaces net.old net.new pair.f pair.g (born_of (action_of pair.rule pair.of_g.1) pair.of_f pair.of_g) (joins_of (action_of pair.rule pair.of_g.1) (arity pair.of_f.0) (arity pair.of_g.0))) }
     ensures refused { OnErr result (net.new ≡ net.old) }
 {
-    net.stub();
+    net.is_tabled();
     match pair.rule {
         Rule::Beta => meet(net, pair),
         Rule::Fan => meet(net, pair),
@@ -234,6 +234,7 @@ pub fn step(net: &mut Net, at: NodeId) -> Result<Rule, StepFault>
     ensures not_active { result ≡ Err NotActive ↔ ((rule : Rule) → facing_at net.old at ≢ Active rule) }
     ensures refused { OnErr result (net.new ≡ net.old) }
 {
+    net.is_tabled();
     let Some(pair) = active_pair(net, at) else {
         return Err(StepFault::NotActive);
     };
