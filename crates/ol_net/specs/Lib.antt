@@ -6,8 +6,7 @@ pub mod Nets
 pub mod Pairs
 pub mod Numbered
 pub mod Build
-pub mod Contract
 pub mod Joins
+pub mod Rewired
 pub mod Replace
 pub mod Indexes
-pub mod Retabled

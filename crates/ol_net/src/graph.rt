@@ -2,9 +2,8 @@
 
 ghost use Rattle.std.specs.Prelude.{◌≡◌, ℕ, ◌+◌, ◌-◌, ◌*◌, ◌/◌, ◌%◌, ◌^◌, ◌<◌, ◌≤◌, length, is_some, count_by, MatchResult, vec_len, OnOk, OnErr, IfSome, Some, ◌≢◌, true, slice_get};
 ghost use Rattle.ol_net.specs.Joins.{uses_up, open_ends};
-ghost use Rattle.ol_net.specs.Replace.{AreFacing, MayBeBorn, top_index_of};
+ghost use Rattle.ol_net.specs.Replace.{AreFacing, MayBeBorn, Replaces, top_index_of};
 ghost use Rattle.ol_net.specs.declared.parts.Kind.{Kind};
-ghost use Rattle.ol_net.specs.Retabled.{Retables};
 ghost use Rattle.ol_net.specs.Pairing.{other};
 ghost use Rattle.ol_net.specs.Build.{Builds, FaultIs};
 ghost use Rattle.ol_net.specs.Graph.{kind_at, partner_of, partner_in, IsTabled, facing_at, place, port_at, has_port, has_slot};
@@ -124,7 +123,7 @@ impl Net {
         requires indexes { (p : ℕ) (k : Kind × ℕ) → slice_get born.now p ≡ Some k → MayBeBorn (top_index_of self.old.nodes) k }
         requires fit { uses_up joins.now (open_ends (kind_at self.old.nodes first.0) (kind_at self.old.nodes second.0) born.now) ≡ true }
         requires few { length self.old.nodes ≤ 2000000000 }
-        ensures ok { OnOk result (Retables self.old self.new first second born.now joins.now) }
+        ensures ok { OnOk result (Replaces self.old self.new first second born.now joins.now) }
         ensures err { OnErr result (self.new ≡ self.old) }
     {
         let Ok(()) = replace_in(
