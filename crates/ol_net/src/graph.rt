@@ -4,6 +4,7 @@ ghost use Rattle.std.specs.Prelude.{◌≡◌, ℕ, ◌+◌, ◌-◌, ◌*◌, �
 ghost use Rattle.ol_net.specs.Joins.{uses_up, open_ends};
 ghost use Rattle.ol_net.specs.Replace.{AreFacing, MayBeBorn, Replaces, top_index_of};
 ghost use Rattle.ol_net.specs.declared.parts.Kind.{Kind};
+ghost use Rattle.ol_net.specs.Indexes.{HasIndexes};
 ghost use Rattle.ol_net.specs.Pairing.{other};
 ghost use Rattle.ol_net.specs.Build.{Builds, FaultIs};
 ghost use Rattle.ol_net.specs.Graph.{kind_at, partner_of, partner_in, IsTabled, facing_at, place, port_at, has_port, has_slot};
@@ -108,6 +109,15 @@ impl Net {
             Some(there) => facing_of(here, there),
             None => Facing::None,
         }
+    }
+
+    /// Law: what the tables of a net keep.
+    pub fn is_tabled(&self)
+        ensures tables { IsTabled self.now.free self.now.nodes self.now.partners }
+        ensures few { length self.now.nodes < 2 ^ 31 }
+        ensures indexes { HasIndexes self.now.nodes }
+    {
+        let _ = &self.partners;
     }
 
     /// Takes out two nodes that face each other, puts others in, and joins the ends that are open.

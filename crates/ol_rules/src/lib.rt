@@ -2,6 +2,8 @@
 #![tactic(auto)]
 
 mod journal;
+#[cfg(test)]
+mod step_tests;
 mod steps;
 
 pub use journal::{Entry, Journal, NodeName};

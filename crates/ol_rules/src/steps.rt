@@ -1,4 +1,5 @@
-//! One step: the two nodes of an active pair go, and others come in their place.
+//! One step: the two nodes of an active pair go, and others come in their place (Lamping, An Algorithm
+//! for Optimal Lambda Calculus Reduction, POPL 1990).
 
 ghost use Rattle.std.specs.Prelude.{◌≡◌, ◌≢◌, ℕ, ◌≤◌, ◌<◌, ◌^◌, ◌-◌, ◌+◌, ◌↔◌, length, Some, None, OnOk, OnErr, IfOk, Err, MatchOption, slice_get, [], ◌∷◌, ◌++◌};
 ghost use Rattle.ol_net.specs.declared.parts.Kind.{Kind};
@@ -89,12 +90,19 @@ fn meet(net: &mut Net, pair: Pair) -> Result<(), NoMemory>
     ensures replaced { OnOk result (Replaces net.old net.new pair.f pair.g [] (meeting_joins (arity pair.of_f.0))) }
     ensures refused { OnErr result (net.new ≡ net.old) }
 {
-    let sides = (JoinEnd::First(1), JoinEnd::Second(1));
-    if arity(pair.of_f.0) == 1 {
-        return net.replace(pair.f, pair.g, &[], &[sides]);
+    let (f, g) = (pair.f, pair.g);
+    match arity(pair.of_f.0) {
+        1 => net.replace(f, g, &[], &[(JoinEnd::First(1), JoinEnd::Second(1))]),
+        _ => net.replace(
+            f,
+            g,
+            &[],
+            &[
+                (JoinEnd::First(1), JoinEnd::Second(1)),
+                (JoinEnd::First(2), JoinEnd::Second(2)),
+            ],
+        ),
     }
-    let others = (JoinEnd::First(2), JoinEnd::Second(2));
-    net.replace(pair.f, pair.g, &[], &[sides, others])
 }
 
 /// Copies of f, which has no auxiliary port, take the slots of g.
