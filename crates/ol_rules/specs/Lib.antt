@@ -4,3 +4,4 @@ pub mod Listed
 pub mod Actors
 pub mod Names
 pub mod Runs
+pub mod Laws
