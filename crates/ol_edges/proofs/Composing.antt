@@ -1,7 +1,7 @@
 -- Contraction in two steps, between other edges, and under other names.
 use Rattle.std.proofs.Common.{◌≡◌, ◌≢◌, ◌⊎◌, ◌↔◌, inl, inr, refl, sym, ap, ◌∙◌, subst}
 use Rattle.ol_edges.specs.Edges.{Joined, here, on, back, Contracted, Edge}
-use Rattle.ol_edges.proofs.Joining.{joined_trans, joined_sym, joined_map, joined_image}
+use Rattle.ol_edges.proofs.Joining.{joined_sym, joined_map, joined_image}
 
 -- an edge at u, taken either way
 abbrev pub HasEdge : {V : Type 0} → (V → V → Type 0) → V → Type 0

@@ -1,13 +1,12 @@
 -- Joins of a table's places contract edges
-use Rattle.std.proofs.Common.{◌≡◌, ◌≢◌, ℕ, ◌+◌, ◌<◌, ◌≤◌, ◌==◌, Bool, true, false, not, if◌then◌else◌, List, [], ◌∷◌, length, refl, sym, ap, ◌∙◌, inl, inr, ◌⊎◌, ◌↔◌, arith, subst, zero, suc}
-use Rattle.std.proofs.lemmas.Bool.{cases_eq, cases_Bool, false≢true}
+use Rattle.std.proofs.Common.{◌≡◌, ◌≢◌, ℕ, ◌+◌, ◌≤◌, ◌==◌, false, List, [], ◌∷◌, length, refl, sym, ap, ◌∙◌, inl, inr, ◌⊎◌, ◌↔◌, arith, subst}
+use Rattle.std.proofs.lemmas.Bool.{cases_eq}
 use Rattle.std.proofs.lemmas.Bool.Decides.{nat_tests}
-use Rattle.ol_edges.specs.Edges.{Joined, here, on, back, IsIn, Contracted, Edge}
+use Rattle.ol_edges.specs.Edges.{Joined, here, on, IsIn, Contracted}
 use Rattle.ol_edges.proofs.Joining.{joined_trans, joined_sym}
-use Rattle.ol_edges.proofs.Composing.{HasEdge, joined_keeps, contracted_map, contracted_twice}
+use Rattle.ol_edges.proofs.Composing.{joined_keeps, contracted_map, contracted_twice}
 use Rattle.ol_net.specs.Pairing.{IsPaired, other}
 use Rattle.ol_net.specs.Rewired.{joined, joined_all, Within, AllTwo}
-use Rattle.ol_net.proofs.Joining as joining
 use Rattle.ol_net.proofs.Joining.{JoinStep, alone-joined, IsPaired-joined, JoinStep-joined, length-joined}
 use Rattle.ol_net.proofs.Fitting.{bit, vertices, count}
 

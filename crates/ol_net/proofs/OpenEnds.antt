@@ -1,14 +1,14 @@
 -- The joins use up the open ends just where each of these stands in one join and nothing else does
-use Rattle.std.proofs.Common.{◌≡◌, ◌≢◌, ℕ, ◌+◌, ◌-◌, ◌<◌, ◌≤◌, ◌==◌, nat_lt, nat_le, Bool, true, false, ◌&&◌, not, if◌then◌else◌, List, [], ◌∷◌, ◌++◌, Option, Some, None, refl, sym, ap, ◌∙◌, inl, inr, ◌⊎◌, ◌↔◌, arith, subst, zero, suc}
+use Rattle.std.proofs.Common.{◌≡◌, ℕ, ◌+◌, ◌<◌, ◌≤◌, ◌==◌, nat_lt, nat_le, true, false, ◌&&◌, not, if◌then◌else◌, List, [], ◌∷◌, ◌++◌, Option, Some, None, refl, sym, ap, ◌∙◌, inl, inr, arith, zero, suc}
 use Rattle.std.specs.Prelude.{option_map, slice_get}
-use Rattle.std.proofs.lemmas.Bool.{cases_eq, cases_lt, cases_Bool, false≢true}
+use Rattle.std.proofs.lemmas.Bool.{cases_eq, cases_Bool, false≢true}
 use Rattle.std.proofs.lemmas.Bool.Decides.{nat_tests}
 use Rattle.ol_net.specs.declared.parts.Kind.{Kind}
 use Rattle.ol_net.specs.declared.parts.JoinEnd.{JoinEnd}
 use Rattle.ol_net.specs.declared.parts.JoinEnd.TheVariants.{First, Second, Born}
 use Rattle.ol_net.specs.Parts.{arity, slots_of}
 use Rattle.ol_net.specs.Graph.{has_slot}
-use Rattle.ol_net.specs.Joins.{same_end, ends_from, all_ends, side_ends, born_ends, open_ends, remove_end, and_then_end, uses_up, is_open, times, EachOpenEndOnce, FitIsOnce}
+use Rattle.ol_net.specs.Joins.{same_end, ends_from, all_ends, side_ends, born_ends, open_ends, remove_end, and_then_end, uses_up, is_open, times, FitIsOnce}
 use Rattle.ol_net.proofs.Fitting.{bit, same_end-is, prepended, removed}
 
 -- how often e stands in a list of ends

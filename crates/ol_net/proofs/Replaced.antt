@@ -1,21 +1,20 @@
 -- A replacement, by the numbers of nodes
-use Rattle.std.proofs.Common.{◌≡◌, ◌≢◌, ℕ, ◌+◌, ◌-◌, ◌*◌, ◌/◌, ◌%◌, ◌<◌, ◌≤◌, ◌==◌, nat_lt, Bool, true, false, if◌then◌else◌, List, [], ◌∷◌, ◌++◌, length, drop, Option, Some, None, refl, sym, ap, ◌∙◌, inl, inr, ◌⊎◌, ◌↔◌, arith, subst, zero, suc}
+use Rattle.std.proofs.Common.{◌≡◌, ◌≢◌, ℕ, ◌+◌, ◌-◌, ◌*◌, ◌/◌, ◌%◌, ◌<◌, ◌≤◌, ◌==◌, nat_lt, true, false, if◌then◌else◌, List, [], ◌∷◌, ◌++◌, length, Option, Some, None, refl, sym, ap, ◌∙◌, inl, inr, ◌⊎◌, ◌↔◌, arith, subst, zero, suc}
 use Rattle.std.specs.Prelude.{option_map, slice_get}
-use Rattle.std.proofs.lemmas.Bool.{cases_eq, cases_lt, cases_Bool, false≢true}
+use Rattle.std.proofs.lemmas.Bool.{cases_eq, cases_lt, cases_Bool}
 use Rattle.std.proofs.lemmas.Bool.Decides.{nat_tests}
 use Rattle.ol_edges.specs.Edges.{IsIn, Contracted, Edge}
 use Rattle.ol_edges.proofs.Composing.{IsImage, edge_image, contracted_image, image_same}
 use Rattle.ol_net.specs.declared.parts.Kind.{Kind}
 use Rattle.ol_net.specs.declared.parts.Kind.TheVariants as kind
 use Rattle.ol_net.specs.declared.parts.NodeId.{NodeId}
-use Rattle.ol_net.specs.declared.parts.Port.{Port}
-use Rattle.ol_net.specs.declared.parts.Port.TheVariants.{Free, Of}
+use Rattle.ol_net.specs.declared.parts.Port.TheVariants.{Of}
 use Rattle.ol_net.specs.declared.parts.JoinEnd.{JoinEnd}
 use Rattle.ol_net.specs.declared.parts.JoinEnd.TheVariants.{First, Second, Born}
 use Rattle.ol_net.specs.Pairing.{other}
 use Rattle.ol_net.specs.Build.{all_live}
 use Rattle.ol_net.specs.Graph.{Graph, kind_at, has_port, place, port_at, partner_of, IsTabled}
-use Rattle.ol_net.specs.Nets.{NamedPort, free, slot, HasNode, Linked, IsPrincipalOf, IsSlotOf}
+use Rattle.ol_net.specs.Nets.{NamedPort, free, slot, Linked, IsPrincipalOf, IsSlotOf}
 use Rattle.ol_net.specs.Numbered.{numbered_port, net_of}
 use Rattle.ol_net.specs.Joins.{uses_up, remove_end, and_then_end, same_end, all_ends, side_ends, born_ends, open_ends}
 use Rattle.ol_net.specs.Rewired.{end_place, join_places, rewired, renewed, Given}

@@ -1,14 +1,14 @@
 -- The edges of a table after a replacement
-use Rattle.std.proofs.Common.{◌≡◌, ◌≢◌, ℕ, ◌+◌, ◌-◌, ◌*◌, ◌/◌, ◌%◌, ◌<◌, ◌≤◌, ◌==◌, nat_le, Bool, true, false, ◌&&◌, not, if◌then◌else◌, List, [], ◌∷◌, length, Option, refl, sym, ap, ◌∙◌, inl, inr, ◌⊎◌, ◌↔◌, arith, subst}
-use Rattle.std.proofs.lemmas.Bool.{cases_eq, cases_lt, cases_Bool, false≢true}
+use Rattle.std.proofs.Common.{◌≡◌, ◌≢◌, ℕ, ◌+◌, ◌-◌, ◌*◌, ◌/◌, ◌%◌, ◌<◌, ◌≤◌, ◌==◌, nat_le, true, false, List, length, Option, refl, sym, ap, ◌∙◌, inl, inr, ◌⊎◌, ◌↔◌, arith}
+use Rattle.std.proofs.lemmas.Bool.{cases_eq, cases_lt, cases_Bool}
 use Rattle.std.proofs.lemmas.Bool.Decides.{nat_tests}
 use Rattle.ol_edges.specs.Edges.{Contracted, Edge}
 use Rattle.ol_edges.proofs.Composing.{HasEdge, contracted_map}
 use Rattle.ol_net.specs.declared.parts.Kind.{Kind}
 use Rattle.ol_net.specs.declared.parts.JoinEnd.{JoinEnd}
-use Rattle.ol_net.specs.Pairing.{IsPaired, other}
+use Rattle.ol_net.specs.Pairing.{other}
 use Rattle.ol_net.specs.Graph.{kind_at, has_slot, has_port, port_at}
-use Rattle.ol_net.specs.Rewired.{joined, joined_all, join_places, grown, rewired, Given}
+use Rattle.ol_net.specs.Rewired.{joined, join_places, grown, rewired, Given}
 use Rattle.ol_net.proofs.Places.{kind_at-within}
 use Rattle.ol_net.proofs.Joining.{JoinStep, JoinStep-joined, other-grown}
 use Rattle.ol_net.proofs.Fitting.{bit, vertices, count, IsSlot}

@@ -50,8 +50,7 @@ uses_up [] [] = true
 uses_up [] (e ∷ ends) = false
 uses_up (j ∷ js) ends = and_then_end (remove_end j.0 ends) (λ left. and_then_end (remove_end j.1 left) (uses_up js))
 
--- The same for each end by itself: a slot of at least 1 of the two nodes stands in exactly one join, so does each slot of
--- each born node, and nothing else stands in a join.
+-- whether an end is open: a slot of at least 1 of a node that goes, or a slot of a born node
 abbrev pub is_open : Option (Kind × ℕ) → Option (Kind × ℕ) → List (Kind × ℕ) → JoinEnd → Bool
 is_open first second born (First s) = has_slot first s && not (s == 0)
 is_open first second born (Second s) = has_slot second s && not (s == 0)
@@ -62,9 +61,12 @@ abbrev pub times : JoinEnd → List (JoinEnd × JoinEnd) → ℕ
 times e [] = 0
 times e (j ∷ js) = (if same_end e j.0 then 1 else 0) + (if same_end e j.1 then 1 else 0) + times e js
 
+-- Each slot of at least 1 of the two nodes stands in exactly one join, so does each slot of each born node, and nothing
+-- else stands in a join.
 abbrev pub EachOpenEndOnce : Option (Kind × ℕ) → Option (Kind × ℕ) → List (Kind × ℕ) → List (JoinEnd × JoinEnd) → Type 0
 EachOpenEndOnce first second born joins = (e : JoinEnd) → times e joins ≡ (if is_open first second born e then 1 else 0)
 
+-- this is what it says that joins use up the open ends
 abbrev pub FitIsOnce : Type 0
 FitIsOnce = (first second : Option (Kind × ℕ)) (born : List (Kind × ℕ)) (joins : List (JoinEnd × JoinEnd)) →
     (uses_up joins (open_ends first second born) ≡ true) ↔ EachOpenEndOnce first second born joins

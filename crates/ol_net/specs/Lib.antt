@@ -6,6 +6,7 @@ pub mod Nets
 pub mod Pairs
 pub mod Numbered
 pub mod Build
+pub mod Tabling
 pub mod Joins
 pub mod Rewired
 pub mod Replace

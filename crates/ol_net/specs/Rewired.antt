@@ -54,8 +54,8 @@ rewired free next xs first second born joins =
 abbrev pub renewed : List (Option (Kind × ℕ)) → ℕ → ℕ → List (Kind × ℕ) → List (Option (Kind × ℕ))
 renewed nodes first second born = slice_set (slice_set (nodes ++ all_live born) first None) second None
 
--- two live nodes whose principal ports are partners
-pub record Facing (free : ℕ) (nodes : List (Option (Kind × ℕ))) (partners : List ℕ) (first second : ℕ) : Type 0 where
+-- two live nodes whose principal ports are partners, by their places
+pub record FacingPlaces (free : ℕ) (nodes : List (Option (Kind × ℕ))) (partners : List ℕ) (first second : ℕ) : Type 0 where
   pub two : first ≢ second
   pub first_live : has_slot (kind_at nodes first) 0 ≡ true
   pub second_live : has_slot (kind_at nodes second) 0 ≡ true
@@ -64,5 +64,5 @@ pub record Facing (free : ℕ) (nodes : List (Option (Kind × ℕ))) (partners :
 -- what a replacement is given: a net, two nodes of it that face each other, and joins that use up the open ends
 pub record Given (free : ℕ) (nodes : List (Option (Kind × ℕ))) (partners : List ℕ) (first second : ℕ) (born : List (Kind × ℕ)) (joins : List (JoinEnd × JoinEnd)) : Type 0 where
   pub net : IsTabled free nodes partners
-  pub facing : Facing free nodes partners first second
+  pub facing : FacingPlaces free nodes partners first second
   pub fit : uses_up joins (open_ends (kind_at nodes first) (kind_at nodes second) born) ≡ true

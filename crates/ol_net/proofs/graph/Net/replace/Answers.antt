@@ -1,4 +1,4 @@
-use Rattle.std.proofs.Common.{arith, length, sym, ap, ◌∙◌, refl}
+use Rattle.std.proofs.Common.{arith}
 use Rattle.ol_net.specs.Graph.{Graph}
 use Rattle.ol_net.proofs.Replacing.{Given-from, kept, two-live}
 use Rattle.ol_net.proofs.Replaced.{Replaces-from}
