@@ -1,0 +1,4 @@
+pub mod Texts
+pub mod Jobs
+pub mod Evaluation
+pub mod Answers

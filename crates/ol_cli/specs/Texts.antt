@@ -1,0 +1,37 @@
+-- The texts that the program writes.
+use Rattle.std.specs.Prelude.{ℕ, List, [], ◌∷◌, ◌++◌, codes}
+use Rattle.std.specs.Fmt.{decimal}
+use Rattle.ol_rules.specs.declared.tally.Counts.{Counts}
+
+-- the words and a line feed
+abbrev pub line : List ℕ → List ℕ
+line words = words ++ 10 ∷ []
+
+-- a name, a space, a number and a line feed
+abbrev pub count_line : List ℕ → ℕ → List ℕ
+count_line name n = name ++ (32 ∷ decimal n ++ 10 ∷ [])
+
+abbrev pub usage_text : List ℕ
+usage_text = line (codes "usage: ol run|walk|view|trace|check|gen [options] NAME")
+
+abbrev pub fault_text : List ℕ
+fault_text = line (codes "read fault")
+
+abbrev pub not_built_text : List ℕ
+not_built_text = line (codes "not built")
+
+abbrev pub spent_text : ℕ → List ℕ
+spent_text fuel = count_line (codes "fuel") fuel
+
+-- the nine lines: the number of interactions of each rule, and of the pairs that are stuck
+abbrev pub counts_text : Counts → ℕ → List ℕ
+counts_text c stuck =
+    count_line (codes "beta") c.beta
+    ++ count_line (codes "fan") c.fan
+    ++ count_line (codes "croissant") c.croissant
+    ++ count_line (codes "bracket") c.bracket
+    ++ count_line (codes "cross-fan") c.cross_fan
+    ++ count_line (codes "cross-croissant") c.cross_croissant
+    ++ count_line (codes "cross-bracket") c.cross_bracket
+    ++ count_line (codes "erase") c.erase
+    ++ count_line (codes "stuck") stuck

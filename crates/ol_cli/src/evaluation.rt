@@ -1,0 +1,67 @@
+//! The job itself: from the bytes of a term file to a text and a status.
+ghost use Rattle.std.specs.Prelude.{◌≡◌, ◌≤◌, ◌+◌, ◌*◌, length, IfOk, true};
+ghost use Rattle.ol_parse.specs.Trees.{Tree, tree_of, is_below, is_named_below, lams, occurrences, depth};
+ghost use Rattle.ol_cli.specs.Answers.{Evaluates};
+ghost use Rattle.ol_cli.specs.Evaluation.{Prints, RunsOut, TermAnswer};
+
+use crate::status::Status;
+use crate::texts::{counts_lines, line, spent_line};
+use ol_io::NoMemory;
+use ol_parse::{SmallFault, TermFile, parse_small};
+use ol_rules::{Ended, counts, run};
+use ol_translate::{small_terms_fit, translate};
+use std::alloc::Global;
+
+/// The greatest number of interactions.
+pub const FUEL: u32 = 200_000;
+
+/// A text that is to be written, and the status that goes with it.
+#[derive(Drop)]
+pub struct Answer {
+    pub text: Vec<u8>,
+    pub status: Status,
+}
+
+/// The answer to the bytes of a term file.
+pub fn evaluate(alloc: Global, bytes: &[u8]) -> Result<Answer, NoMemory>
+    requires few { length bytes.now ≤ 1024 }
+    ensures answer { IfOk result (λ a. Evaluates bytes.now a.status a.text.items) }
+{
+    match parse_small(alloc, bytes) {
+        Ok(file) => evaluate_term(alloc, &file),
+        Err(SmallFault::NoMemory) => Err(NoMemory),
+        Err(SmallFault::NotSmall) => {
+            let text = line(alloc, "not built")?;
+            let status = Status::NotBuilt;
+            Ok(Answer { text, status })
+        }
+    }
+}
+
+/// The answer to a closed term: its one-thread run within the fuel.
+fn evaluate_term(alloc: Global, file: &TermFile) -> Result<Answer, NoMemory>
+    requires closed { is_below 0 (tree_of file.now.term) ≡ true }
+    requires named { is_named_below 0 (tree_of file.now.term) ≡ true }
+    requires no_names { length file.now.names ≡ 0 }
+    requires shallow { depth (tree_of file.now.term) ≤ 1000 }
+    requires small { 3 * lams (tree_of file.now.term) + occurrences (tree_of file.now.term) ≤ 1024 }
+    ensures answer { IfOk result (λ a. TermAnswer (tree_of file.now.term) a.status a.text.items) }
+{
+    small_terms_fit(file);
+    let Ok(mut net) = translate(alloc, file) else {
+        return Err(NoMemory);
+    };
+    let ran = run(alloc, &mut net, FUEL)?;
+    match ran.ended {
+        Ended::Spent => {
+            let text = spent_line(alloc, FUEL)?;
+            let status = Status::Spent;
+            Ok(Answer { text, status })
+        }
+        Ended::Done => {
+            let text = counts_lines(alloc, counts(&ran.journal), net.stuck())?;
+            let status = Status::Done;
+            Ok(Answer { text, status })
+        }
+    }
+}

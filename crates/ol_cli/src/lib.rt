@@ -1,0 +1,10 @@
+//! The top call: from words to a text on a sink and a status.
+#![tactic(auto)]
+
+mod evaluation;
+mod status;
+mod texts;
+mod top;
+
+pub use status::Status;
+pub use top::ol;

@@ -1,0 +1,42 @@
+//! How a call of the program ended.
+ghost use Rattle.std.specs.Prelude.{◌≡◌};
+ghost use Rattle.ol_cli.specs.Answers.{number_of};
+
+/// How a call of the program ended. The order in which refusals are tried is `Usage`, `ReadFault`,
+/// `NotBuilt`, `Spent`, `WriteFault`; `NoMemory` may stand at any place before the first byte is
+/// written.
+#[derive(Clone, Copy, Debug, PartialEq, Eq)]
+pub enum Status {
+    /// The job was done, and its answer was written.
+    Done,
+    /// The words ask for no job.
+    Usage,
+    /// The one-thread run has more steps than the fuel.
+    Spent,
+    /// The source failed.
+    ReadFault,
+    /// The sink failed, and has taken a prefix of the text.
+    WriteFault,
+    /// Memory ran out, and nothing was written.
+    NoMemory,
+    /// The input is of a form that isn't built yet: more than 1,024 bytes, or no small text of a
+    /// closed term.
+    NotBuilt,
+}
+
+impl Status {
+    /// The number that a process ends with.
+    pub fn number(self) -> u8
+        ensures number { result ≡ number_of self }
+    {
+        match self {
+            Status::Done => 0,
+            Status::Usage => 1,
+            Status::Spent => 3,
+            Status::ReadFault => 4,
+            Status::WriteFault => 5,
+            Status::NoMemory => 6,
+            Status::NotBuilt => 8,
+        }
+    }
+}

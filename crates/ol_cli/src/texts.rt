@@ -1,0 +1,61 @@
+//! The texts that the program writes.
+ghost use Rattle.std.specs.Prelude.{◌≡◌, ◌++◌, IfOk, OnOk};
+ghost use Rattle.ol_cli.specs.Texts.{line, count_line, spent_text, counts_text};
+
+use ol_io::NoMemory;
+use ol_rules::Counts;
+use std::alloc::Global;
+
+/// The words and a line feed.
+pub fn line(alloc: Global, words: &str) -> Result<Vec<u8>, NoMemory>
+    ensures { IfOk result (λ text. text.items ≡ line words.now) }
+{
+    match format!(in alloc; "{words}\n") {
+        Ok(text) => Ok(text.into_bytes()),
+        Err(_) => Err(NoMemory),
+    }
+}
+
+/// The line of a run that used up its fuel.
+pub fn spent_line(alloc: Global, fuel: u32) -> Result<Vec<u8>, NoMemory>
+    ensures { IfOk result (λ text. text.items ≡ spent_text fuel) }
+{
+    let mut text = Vec::new(alloc);
+    add_count(alloc, &mut text, "fuel", fuel)?;
+    Ok(text)
+}
+
+/// The nine lines of a run that ended: the interactions of each rule, and the pairs that are stuck.
+pub fn counts_lines(alloc: Global, counts: Counts, stuck: u32) -> Result<Vec<u8>, NoMemory>
+    ensures { IfOk result (λ text. text.items ≡ counts_text counts stuck) }
+{
+    let mut text = Vec::new(alloc);
+    add_count(alloc, &mut text, "beta", counts.beta)?;
+    add_count(alloc, &mut text, "fan", counts.fan)?;
+    add_count(alloc, &mut text, "croissant", counts.croissant)?;
+    add_count(alloc, &mut text, "bracket", counts.bracket)?;
+    add_count(alloc, &mut text, "cross-fan", counts.cross_fan)?;
+    add_count(alloc, &mut text, "cross-croissant", counts.cross_croissant)?;
+    add_count(alloc, &mut text, "cross-bracket", counts.cross_bracket)?;
+    add_count(alloc, &mut text, "erase", counts.erase)?;
+    add_count(alloc, &mut text, "stuck", stuck)?;
+    Ok(text)
+}
+
+// Appends a name, a space, a number and a line feed.
+fn add_count(
+    alloc: Global,
+    text: &mut Vec<u8>,
+    name: &str,
+    count: u32,
+) -> Result<(), NoMemory>
+    ensures { OnOk result (text.new.items ≡ text.old.items ++ count_line name.now count) }
+{
+    let Ok(line) = format!(in alloc; "{name} {count}\n") else {
+        return Err(NoMemory);
+    };
+    match text.extend_from_slice(line.as_bytes()) {
+        Ok(()) => Ok(()),
+        Err(_) => Err(NoMemory),
+    }
+}
