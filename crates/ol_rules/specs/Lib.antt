@@ -1,4 +1,5 @@
 pub mod Rewriting
+pub mod Counting
 pub mod Steps
 pub mod Names
 pub mod Runs
