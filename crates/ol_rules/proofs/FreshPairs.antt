@@ -1,0 +1,1 @@
+-- Which pairs are active after a step and were not before.
