@@ -1,13 +1,12 @@
 -- Links joined one after another
-use Rattle.std.proofs.Common.{◌≡◌, ◌≢◌, ℕ, ◌+◌, ◌*◌, ◌<◌, ◌==◌, Bool, true, false, cond, ◌&&◌, not, if◌then◌else◌, List, [], ◌∷◌, ◌++◌, length, get_or, set, take, refl, sym, ap, ◌∙◌, inl, inr, arith, rules, subst, Option, Some, zero, suc, count_by, is_some}
-use Rattle.std.proofs.lemmas.Bool.{cases_eq, cases_Bool, false≢true}
+use Rattle.std.proofs.Common.{◌≡◌, ◌≢◌, ℕ, ◌+◌, ◌<◌, true, false, cond, List, [], ◌∷◌, ◌++◌, length, get_or, take, refl, sym, ap, ◌∙◌, inl, inr, arith, Option, Some, zero, suc, count_by, is_some}
+use Rattle.std.proofs.lemmas.Bool.{cases_Bool, false≢true}
 use Rattle.std.proofs.lemmas.Bool.Decides.{nat_tests}
-use Rattle.std.proofs.lemmas.Grind.{common_steps}
 use Rattle.ol_net.specs.declared.parts.Kind.{Kind}
 use Rattle.ol_net.specs.declared.parts.Port.{Port}
-use Rattle.ol_net.specs.Graph.{Graph, IsTabled, has_port, place, port_at}
-use Rattle.ol_net.specs.Pairing.{IsPaired, other, across, partner_among, linked, can_link}
-use Rattle.ol_net.specs.Build.{places, link_at, is_apart, LinkedUp, NoneOf, BadPortAt, BadIndexAt, TwiceAt, LooseAt, AloneAt, FirstOf, Builds, AreTables, all_live}
+use Rattle.ol_net.specs.Graph.{IsTabled, has_port, place, port_at}
+use Rattle.ol_net.specs.Pairing.{other, partner_among, linked, can_link}
+use Rattle.ol_net.specs.Build.{places, link_at, is_apart, LinkedUp, NoneOf, BadPortAt, TwiceAt, LooseAt, AloneAt, Builds, AreTables, all_live}
 use Rattle.std.proofs.lemmas.List.Sums.{sum_by-cons}
 use Rattle.ol_net.proofs.Places.{place-within, port_at-place, port_at-within}
 use Rattle.std.proofs.lemmas.List.{length-map, take_more}

@@ -9,4 +9,5 @@ pub mod Build
 pub mod Contract
 pub mod Joins
 pub mod Replace
+pub mod Indexes
 pub mod Retabled

@@ -1,8 +1,9 @@
 //! The net.
 
-ghost use Rattle.std.specs.Prelude.{◌≡◌, ℕ, ◌+◌, ◌-◌, ◌*◌, ◌/◌, ◌%◌, ◌^◌, ◌<◌, ◌≤◌, length, is_some, count_by, MatchResult, vec_len, OnOk, OnErr, IfSome, Some, ◌≢◌, true};
+ghost use Rattle.std.specs.Prelude.{◌≡◌, ℕ, ◌+◌, ◌-◌, ◌*◌, ◌/◌, ◌%◌, ◌^◌, ◌<◌, ◌≤◌, length, is_some, count_by, MatchResult, vec_len, OnOk, OnErr, IfSome, Some, ◌≢◌, true, slice_get};
 ghost use Rattle.ol_net.specs.Joins.{uses_up, open_ends};
-ghost use Rattle.ol_net.specs.Replace.{AreFacing};
+ghost use Rattle.ol_net.specs.Replace.{AreFacing, MayBeBorn, top_index_of};
+ghost use Rattle.ol_net.specs.declared.parts.Kind.{Kind};
 ghost use Rattle.ol_net.specs.Retabled.{Retables};
 ghost use Rattle.ol_net.specs.Pairing.{other};
 ghost use Rattle.ol_net.specs.Build.{Builds, FaultIs};
@@ -11,7 +12,8 @@ ghost use Rattle.ol_net.specs.Graph.{kind_at, partner_of, partner_in, IsTabled, 
 use crate::build::tables;
 use crate::parts::{BuildFault, Facing, JoinEnd, Kind, NodeId, Port, facing_of};
 use crate::rewire::replace_in;
-use std::alloc::{AllocError, Global};
+use ol_io::NoMemory;
+use std::alloc::Global;
 use std::marker::Model;
 
 #[derive(Drop)]
@@ -25,12 +27,13 @@ pub struct Net {
 impl Model for Net {
     ghost use Rattle.std.specs.Prelude.{◌≡◌, ℕ, ◌+◌, ◌*◌, ◌^◌, ◌<◌, ◌≤◌, length, is_some, count_by};
     ghost use Rattle.ol_net.specs.Graph.{Graph, IsTabled};
+    ghost use Rattle.ol_net.specs.Indexes.{HasIndexes};
 
     ghost Value = { Graph };
 
     ghost view = { λ n. record { free = n.free; nodes = n.nodes.items; partners = n.partners.items } };
 
-    ghost invariant = { λ n. (n.live ≡ count_by is_some n.nodes.items) × (length n.nodes.items < 2 ^ 31) × IsTabled n.free n.nodes.items n.partners.items };
+    ghost invariant = { λ n. (n.live ≡ count_by is_some n.nodes.items) × (length n.nodes.items < 2 ^ 31) × IsTabled n.free n.nodes.items n.partners.items × HasIndexes n.nodes.items };
 }
 
 impl Net {
@@ -115,15 +118,16 @@ impl Net {
         second: NodeId,
         born: &[(Kind, u32)],
         joins: &[(JoinEnd, JoinEnd)],
-    ) -> Result<(), AllocError>
+    ) -> Result<(), NoMemory>
         requires facing { AreFacing self.old first second }
         requires few_born { length born.now ≤ 4 }
+        requires indexes { (p : ℕ) (k : Kind × ℕ) → slice_get born.now p ≡ Some k → MayBeBorn (top_index_of self.old.nodes) k }
         requires fit { uses_up joins.now (open_ends (kind_at self.old.nodes first.0) (kind_at self.old.nodes second.0) born.now) ≡ true }
         requires few { length self.old.nodes ≤ 2000000000 }
         ensures ok { OnOk result (Retables self.old self.new first second born.now joins.now) }
         ensures err { OnErr result (self.new ≡ self.old) }
     {
-        replace_in(
+        let Ok(()) = replace_in(
             self.free,
             &mut self.nodes,
             &mut self.partners,
@@ -131,7 +135,9 @@ impl Net {
             second.0,
             born,
             joins,
-        )?;
+        ) else {
+            return Err(NoMemory);
+        };
         self.live = self.live - 2 + born.len() as u32;
         Ok(())
     }
