@@ -7,14 +7,8 @@ use Rattle.ol_net.specs.declared.parts.Kind.{Kind}
 use Rattle.ol_net.specs.declared.parts.Rule.{Rule}
 use Rattle.ol_net.specs.Parts.{arity}
 use Rattle.ol_net.specs.Nets.{NamedPort, free, slot, NamedNet, HasNode, Linked, IsPort, IsNet, Faces, IsPrincipalOf, IsSlotOf}
-use Rattle.ol_net.specs.Pairs.{IsActive}
+use Rattle.ol_net.specs.Pairs.{IsActive, IsInActive}
 use Rattle.ol_rules.specs.Rewriting.{Action, action_of, JoinOf, meet, at_f, at_g, between, NodeOf, left, of_f, of_g, Rewrites, IsStep}
-
--- x faces a node, and the two have a rule
-pub record FacesActive {A : Type 0} (N : NamedNet A) (x : A) : Type 0 where
-  pub partner : A
-  pub rule : Rule
-  pub active : IsActive N x partner rule ⊎ IsActive N partner x rule
 
 pub linked_sym : {A : Type 0} (N : NamedNet A) (p q : NamedPort A) → Linked N p q → Linked N q p
 linked_sym N p q (inl h) = inr h
@@ -124,16 +118,13 @@ module _ {A : Type 0} (same : (x y : A) → (x ≡ y) ⊎ (x ≢ y)) (N M : Name
       young : HasNode N y m' n' × (y ≢ f) × (y ≢ g)
       young = node_before y m' n' hy y_out
 
-  still_active : (x : A) → FacesActive M x → (IsBornHere x → ⊥) → (StoodBeside x → ⊥) → FacesActive N x
-  still_active x t out apart = go t.active
-    where
-      go : IsActive M x t.partner t.rule ⊎ IsActive M t.partner x t.rule → FacesActive N x
-      go (inl c) =
-          let s = stays x t.partner c.k c.l c.i c.j c.faces.first c.faces.second c.faces.linked out apart in
-          record { partner = t.partner; rule = t.rule; active = inl (record { k = c.k; i = c.i; l = c.l; j = c.j; faces = record { first = s.0; second = s.1; linked = s.2 }; fits = c.fits }) }
-      go (inr c) =
-          let s = stays x t.partner c.l c.k c.j c.i c.faces.second c.faces.first (linked_sym M (slot t.partner 0) (slot x 0) c.faces.linked) out apart in
-          record { partner = t.partner; rule = t.rule; active = inr (record { k = c.k; i = c.i; l = c.l; j = c.j; faces = record { first = s.1; second = s.0; linked = linked_sym N (slot x 0) (slot t.partner 0) s.2 }; fits = c.fits }) }
+  still_active : (x : A) (t : Rule) → IsInActive M x t → (IsBornHere x → ⊥) → (StoodBeside x → ⊥) → IsInActive N x t
+  still_active x t (y, inl c) out apart =
+      let s = stays x y c.k c.l c.i c.j c.faces.first c.faces.second c.faces.linked out apart in
+      (y, inl (record { k = c.k; i = c.i; l = c.l; j = c.j; faces = record { first = s.0; second = s.1; linked = s.2 }; fits = c.fits }))
+  still_active x t (y, inr c) out apart =
+      let s = stays x y c.l c.k c.j c.i c.faces.second c.faces.first (linked_sym M (slot y 0) (slot x 0) c.faces.linked) out apart in
+      (y, inr (record { k = c.k; i = c.i; l = c.l; j = c.j; faces = record { first = s.1; second = s.0; linked = linked_sym N (slot x 0) (slot y 0) s.2 }; fits = c.fits }))
 
   stood : (x : A) (m : Kind) (n : ℕ) → HasNode N x m n → x ≢ f → x ≢ g → StoodBeside x ⊎ (StoodBeside x → ⊥)
   stood x m n h xf xg = go p.0 p.1
@@ -155,26 +146,26 @@ module _ {A : Type 0} (same : (x y : A) → (x ≡ y) ⊎ (x ≢ y)) (N M : Name
       go (slot y zero) c = inr (not_it (slot y 0) c (λ u. ((λ q. absurd (let e : 0 ≡ suc u = cc in omega arith)), (λ q. absurd (let e : 0 ≡ suc u = cc in omega arith)))))
       go (slot y (suc s)) c = at y s c (same y f) (same y g)
 
-  after_of : (x : A) (m : Kind) (n : ℕ) → NodeOf N born f g k i l a x m n → FacesActive M x → FacesActive N x ⊎ (IsBornHere x ⊎ StoodBeside x)
-  after_of x m n (left h y z) t = go (stood x m n h y z)
+  after_of : (x : A) (m : Kind) (n : ℕ) (t : Rule) → NodeOf N born f g k i l a x m n → IsInActive M x t → IsInActive N x t ⊎ (IsBornHere x ⊎ StoodBeside x)
+  after_of x m n t (left h y z) c = go (stood x m n h y z)
     where
-      go : StoodBeside x ⊎ (StoodBeside x → ⊥) → FacesActive N x ⊎ (IsBornHere x ⊎ StoodBeside x)
+      go : StoodBeside x ⊎ (StoodBeside x → ⊥) → IsInActive N x t ⊎ (IsBornHere x ⊎ StoodBeside x)
       go (inl b) = inr (inr b)
-      go (inr b) = inl (still_active x t (λ z. fresh z.0 m n (subst (λ y. HasNode N y m n) z.1 h)) b)
-  after_of x m n (of_f {q = q} u e b) t = inr (inl (q, refl))
-  after_of x m n (of_g {p = p} u e b) t = inr (inl (arity l + p, refl))
+      go (inr b) = inl (still_active x t c (λ z. fresh z.0 m n (subst (λ y. HasNode N y m n) z.1 h)) b)
+  after_of x m n t (of_f {q = q} u e b) c = inr (inl (q, refl))
+  after_of x m n t (of_g {p = p} u e b) c = inr (inl (arity l + p, refl))
+
+  node_of : (x : A) (t : Rule) → IsInActive M x t → (m : Kind) × (n : ℕ) × HasNode M x m n
+  node_of x t (y, inl c) = (c.k, c.i, c.faces.first)
+  node_of x t (y, inr c) = (c.l, c.j, c.faces.second)
 
   -- what faces an active partner after the step did so before, or was born in it, or stood beside one of the two
-  pub active_after : (x : A) → FacesActive M x → FacesActive N x ⊎ (IsBornHere x ⊎ StoodBeside x)
-  active_after x t = go t.active
-    where
-      go : IsActive M x t.partner t.rule ⊎ IsActive M t.partner x t.rule → FacesActive N x ⊎ (IsBornHere x ⊎ StoodBeside x)
-      go (inl c) = after_of x c.k c.i ((r.nodes x c.k c.i).0 c.faces.first) t
-      go (inr c) = after_of x c.l c.j ((r.nodes x c.l c.j).0 c.faces.second) t
+  pub active_after : (x : A) (t : Rule) → IsInActive M x t → IsInActive N x t ⊎ (IsBornHere x ⊎ StoodBeside x)
+  active_after x t c = let n = node_of x t c in after_of x n.0 n.1 t ((r.nodes x n.0 n.1).0 n.2) c
 
   -- and the two have gone
-  pub gone : (x : A) → (x ≡ f) ⊎ (x ≡ g) → FacesActive M x → ⊥
-  gone x e t = go t.active
+  pub gone : (x : A) (m : Kind) (n : ℕ) → HasNode M x m n → (x ≡ f) ⊎ (x ≡ g) → ⊥
+  gone x m n h e = not_there x m n ((r.nodes x m n).0 h) e
     where
       not_there : (x : A) (m : Kind) (n : ℕ) → NodeOf N born f g k i l a x m n → (x ≡ f) ⊎ (x ≡ g) → ⊥
       not_there x m n (left h y z) (inl e) = y e
@@ -183,7 +174,3 @@ module _ {A : Type 0} (same : (x y : A) → (x ≡ y) ⊎ (x ≢ y)) (N M : Name
       not_there x m n (of_f {q = q} u e b) (inr e') = fresh q l j (subst (λ y. HasNode N y l j) (sym e') faces.second)
       not_there x m n (of_g {p = p} u e b) (inl e') = fresh (arity l + p) k i (subst (λ y. HasNode N y k i) (sym e') faces.first)
       not_there x m n (of_g {p = p} u e b) (inr e') = fresh (arity l + p) l j (subst (λ y. HasNode N y l j) (sym e') faces.second)
-
-      go : IsActive M x t.partner t.rule ⊎ IsActive M t.partner x t.rule → ⊥
-      go (inl c) = not_there x c.k c.i ((r.nodes x c.k c.i).0 c.faces.first) e
-      go (inr c) = not_there x c.l c.j ((r.nodes x c.l c.j).0 c.faces.second) e
