@@ -1,3 +1,4 @@
 pub mod NameOrder
 pub mod Renaming
 pub mod FreshPairs
+pub mod LeadRuns
