@@ -29,7 +29,8 @@ Led N t es M n = (r : IsLeadRun N t es M) × (made r ≡ n)
 abbrev pub Stepped : NamedNet NodeName → ℕ → Entry → NamedNet NodeName → ℕ → Type 0
 Stepped N t e M b = (s : IsEntryStep N t e M) × (births e.rule s.step.active.k s.step.active.l ≡ b)
 
-led_on : (N M P : NamedNet NodeName) (t u : ℕ) (es : List Entry) (e : Entry) (n b : ℕ) → (r : IsLeadRun N t es M) → made r ≡ n → IsLead M e → u ≡ t + length es → Stepped M u e P b → Led N t (es ++ e ∷ []) P (n + b)
+-- one more lead
+pub led_on : (N M P : NamedNet NodeName) (t u : ℕ) (es : List Entry) (e : Entry) (n b : ℕ) → (r : IsLeadRun N t es M) → made r ≡ n → IsLead M e → u ≡ t + length es → Stepped M u e P b → Led N t (es ++ e ∷ []) P (n + b)
 led_on N M P t u [] e n b end q lead h s =
     let h' : u ≡ t = omega arith in
     let S : ℕ → Type 0 = λ u. Stepped N u e P b in

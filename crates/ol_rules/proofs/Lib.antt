@@ -2,3 +2,4 @@ pub mod NameOrder
 pub mod Renaming
 pub mod FreshPairs
 pub mod LeadRuns
+pub mod UnderWay

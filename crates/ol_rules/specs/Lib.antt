@@ -3,3 +3,4 @@ pub mod Counting
 pub mod Steps
 pub mod Names
 pub mod Runs
+pub mod Running
