@@ -14,7 +14,7 @@ use Rattle.ol_net.specs.Replace.{top_index_of, MayBeBorn}
 use Rattle.ol_net.specs.Indexes.{HasIndexes}
 use Rattle.ol_net.proofs.Linking.{length-all_live}
 
-top_index_of-append : (xs ys : List (Option (Kind × ℕ))) → top_index_of (xs ++ ys) ≡ max (top_index_of xs) (top_index_of ys)
+pub top_index_of-append : (xs ys : List (Option (Kind × ℕ))) → top_index_of (xs ++ ys) ≡ max (top_index_of xs) (top_index_of ys)
 top_index_of-append [] ys = omega arith
 top_index_of-append (None ∷ xs) ys = top_index_of-append xs ys
 top_index_of-append (Some k ∷ xs) ys = omega (arith, top_index_of-append xs ys)

@@ -218,7 +218,7 @@ port_named : (p : NamedPort ℕ) → (q : Port) × (p ≡ numbered_port q)
 port_named (free k) = (Free k, refl)
 port_named (slot x s) = (Of (record { 0 = x }) s, refl)
 
-partner_of-there : (g : Graph) (p : Port) → has_port g.free g.nodes p ≡ true → (q : Port) × (partner_of g p ≡ Some q)
+pub partner_of-there : (g : Graph) (p : Port) → has_port g.free g.nodes p ≡ true → (q : Port) × (partner_of g p ≡ Some q)
 partner_of-there g p has = (port_at g.free (other g.partners (place g.free p)), partner_in-some g.free g.nodes g.partners p has)
 
 -- a port is the partner of its partner, which is another

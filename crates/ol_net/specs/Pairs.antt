@@ -25,6 +25,18 @@ pub record IsStuck {A : Type 0} (N : NamedNet A) (f g : A) : Type 0 where
   pub first : rule_of k i l j ≡ None
   pub second : rule_of l j k i ≡ None
 
+-- x is one of the two nodes of an active pair with rule r
+abbrev pub IsInActive : {A : Type 0} → NamedNet A → A → Rule → Type 0
+IsInActive {A} N x r = (y : A) × (IsActive N x y r ⊎ IsActive N y x r)
+
+-- x is one of the two nodes of a stuck pair
+abbrev pub IsInStuck : {A : Type 0} → NamedNet A → A → Type 0
+IsInStuck {A} N x = (y : A) × IsStuck N x y
+
+-- there is no node x, or its principal port is not joined to the principal port of a node
+abbrev pub FacesNone : {A : Type 0} → NamedNet A → A → Type 0
+FacesNone {A} N x = (y : A) (k : Kind) (i : ℕ) (l : Kind) (j : ℕ) → Faces N x y k i l j → ⊥
+
 -- the pair stands in the list, either way round
 abbrev pub HasPair : {A : Type 0} → List (A × A) → A → A → Type 0
 HasPair pairs f g = IsIn (f, g) pairs ⊎ IsIn (g, f) pairs
