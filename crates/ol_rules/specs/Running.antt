@@ -1,14 +1,16 @@
 -- What a run keeps on its way.
-use Rattle.std.specs.Prelude.{◌≡◌, ℕ, zero, suc, ◌+◌, ◌-◌, ◌≤◌, true, nat_lt, if◌then◌else◌, List, [], ◌∷◌, ◌++◌, length, slice_index_or}
+use Rattle.std.specs.Prelude.{◌≡◌, ℕ, zero, suc, ◌+◌, ◌-◌, ◌≤◌, true, nat_lt, if◌then◌else◌, List, [], ◌∷◌, ◌++◌, length, slice_index_or, ◌⊎◌}
 use Rattle.std.specs.Ordering.{nat_cmp}
 use Rattle.std.specs.BTreeSet.{BTreeSet, contains}
 use Rattle.ol_net.specs.declared.parts.Rule.{Rule}
 use Rattle.ol_net.specs.Graph.{Graph}
-use Rattle.ol_net.specs.Nets.{slot, Linked}
+use Rattle.ol_net.specs.Nets.{slot, Linked, IsNet}
 use Rattle.ol_net.specs.Numbered.{net_of}
 use Rattle.ol_net.specs.Pairs.{IsInActive}
 use Rattle.ol_rules.specs.declared.journal.NodeName.{NodeName}
 use Rattle.ol_rules.specs.declared.journal.NodeName.TheVariants.{Init, Born}
+use Rattle.ol_rules.specs.declared.one_thread.Running.{Running}
+use Rattle.ol_rules.specs.Steps.{StepsAt}
 
 -- the name of a number, where start nodes were there at the start and these are the names of those born since
 abbrev pub name_in : ℕ → List NodeName → ℕ → NodeName
@@ -37,3 +39,23 @@ pub record IsLeast (g : Graph) (at partner : ℕ) : Type 0 where
   pub active : IsInActive (net_of g) at rule
   pub linked : Linked (net_of g) (slot at 0) (slot partner 0)
   pub least : (x : ℕ) (r : Rule) → IsInActive (net_of g) x r → at ≤ x
+
+-- at is in an active pair, and faces its partner
+pub record HasPartner (g : Graph) (at partner : ℕ) : Type 0 where
+  pub rule : Rule
+  pub active : IsInActive (net_of g) at rule
+  pub linked : Linked (net_of g) (slot at 0) (slot partner 0)
+
+-- the net is as it was, or one step on
+abbrev pub AtMostOneStep : Graph → Graph → ℕ → Type 0
+AtMostOneStep old new at = (new ≡ old) ⊎ ((r : Rule) × StepsAt old new at r)
+
+-- Two runs, where the second is the first after the step of `at` and its partner.
+pub record Advances (old new : Running) (g g' : Graph) (at partner : ℕ) : Type 0 where
+  pub rule : Rule
+  pub step : StepsAt g g' at rule
+  pub start : new.start ≡ old.start
+  pub journal : new.journal ≡ old.journal ++ record { rule = rule; first = name_in old.start old.names.items at; second = name_in old.start old.names.items partner } ∷ []
+  pub names : new.names.items ≡ old.names.items ++ names_born (length old.journal) (length g'.nodes - length g.nodes)
+  pub waits : AllWait g' new.waiting
+  pub is_net : IsNet (net_of g')

@@ -3,6 +3,10 @@
 
 mod counting;
 mod journal;
+mod one_thread;
+mod steps;
 
 pub use counting::counts;
 pub use journal::{Counts, Entry, Journal, NodeName};
+pub use one_thread::{Ended, Ran, run};
+pub use steps::{StepFault, step};
