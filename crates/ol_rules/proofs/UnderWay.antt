@@ -132,7 +132,7 @@ pub record UnderWay (old g : Graph) (start : ℕ) (names : List NodeName) (journ
   pub led : Led (net_under Init (net_of old)) 0 journal (net_under m (net_of g)) (length g.nodes - length old.nodes)
 
 -- the naming of a run that is over
-pub leads_to : (old g : Graph) (journal : List Entry) (next t : ℕ) (m : ℕ → NodeName) → Names (length old.nodes) next t m → length old.nodes ≤ length g.nodes →
+unfoldable pub leads_to : (old g : Graph) (journal : List Entry) (next t : ℕ) (m : ℕ → NodeName) → Names (length old.nodes) next t m → length old.nodes ≤ length g.nodes →
     Led (net_under Init (net_of old)) 0 journal (net_under m (net_of g)) (length g.nodes - length old.nodes) → LeadsTo old journal g
 leads_to old g journal next t m n le led = record {
   names = m;
@@ -179,7 +179,7 @@ get_or_after [] ys p d = let e : 0 + p ≡ p = omega arith in ap (λ n. get_or y
 get_or_after (x ∷ xs) ys p d = let e : suc (length xs) + p ≡ suc (length xs + p) = omega arith in ap (λ n. get_or (x ∷ (xs ++ ys)) n d) e ∙ get_or_after xs ys p d
 
 -- a run after one more lead
-module _ (old g g' : Graph) (start : ℕ) (names : List NodeName) (journal : List Entry) (u : UnderWay old g start names journal) (is_net : IsNet (net_of g)) (is_net' : IsNet (net_of g'))
+module _ (old g g' : Graph) (start : ℕ) (names : List NodeName) (journal : List Entry) (u : UnderWay old g start names journal) (is_net : IsNet (net_of g))
     (at partner : ℕ) (r : Rule) (s : StepsAt g g' at r) (least : IsLeast g at partner) where
   abbrev entry : Entry
   entry = record { rule = r; first = u.m at; second = u.m partner }
@@ -203,53 +203,54 @@ module _ (old g g' : Graph) (start : ℕ) (names : List NodeName) (journal : Lis
   births_here : length g'.nodes ≤ length g.nodes + 4
   births_here = let q = s.numbers in let b = births_few r s.step.active.k s.step.active.l in omega arith
 
-  pub one_on : UnderWay old g' start (names ++ names_born (length journal) (length g'.nodes - length g.nodes)) (journal ++ entry ∷ [])
-  one_on = record {
-    m = m';
-    named = named;
-    start_is = u.start_is;
-    count = let c = u.count in let a = at_least in let d = length-names_born (length journal) (length g'.nodes - length g.nodes) in omega (arith, length-append names (names_born (length journal) (length g'.nodes - length g.nodes)));
-    listed = λ k h. listed k h (cases_lt k (length g.nodes));
-    few = let a = u.few in let b = births_here in omega (arith, length-append journal (entry ∷ []));
-    led = subst L same led_by_one;
-  }
-    where
-      t' : ℕ
-      t' = length journal
+  module _ (is_net' : IsNet (net_of g')) where
+    pub one_on : UnderWay old g' start (names ++ names_born (length journal) (length g'.nodes - length g.nodes)) (journal ++ entry ∷ [])
+    one_on = record {
+      m = m';
+      named = named;
+      start_is = u.start_is;
+      count = let c = u.count in let a = at_least in let d = length-names_born (length journal) (length g'.nodes - length g.nodes) in omega (arith, length-append names (names_born (length journal) (length g'.nodes - length g.nodes)));
+      listed = λ k h. listed k h (cases_lt k (length g.nodes));
+      few = let a = u.few in let b = births_here in omega (arith, length-append journal (entry ∷ []));
+      led = subst L same led_by_one;
+    }
+      where
+        t' : ℕ
+        t' = length journal
 
-      m' : ℕ → NodeName
-      m' = names_after u.m (length g'.nodes) (suc t')
+        m' : ℕ → NodeName
+        m' = names_after u.m (length g'.nodes) (suc t')
 
-      new_length : length (journal ++ entry ∷ []) ≡ suc t'
-      new_length = omega (arith, length-append journal (entry ∷ []))
+        new_length : length (journal ++ entry ∷ []) ≡ suc t'
+        new_length = omega (arith, length-append journal (entry ∷ []))
 
-      named : Names (length old.nodes) (length g'.nodes) (length (journal ++ entry ∷ [])) m'
-      named =
-          let a = at_least in
-          let e : length g.nodes + (length g'.nodes - length g.nodes) ≡ length g'.nodes = omega arith in
-          let P : ℕ → ℕ → Type 0 = λ next ticket. Names (length old.nodes) next ticket (names_after u.m next (suc t')) in
-          subst (λ ticket. P (length g'.nodes) ticket) (sym new_length) (subst (λ next. P next (suc t')) e (names_on (length old.nodes) (length g.nodes) t' (length g'.nodes - length g.nodes) u.m u.named))
+        named : Names (length old.nodes) (length g'.nodes) (length (journal ++ entry ∷ [])) m'
+        named =
+            let a = at_least in
+            let e : length g.nodes + (length g'.nodes - length g.nodes) ≡ length g'.nodes = omega arith in
+            let P : ℕ → ℕ → Type 0 = λ next ticket. Names (length old.nodes) next ticket (names_after u.m next (suc t')) in
+            subst (λ ticket. P (length g'.nodes) ticket) (sym new_length) (subst (λ next. P next (suc t')) e (names_on (length old.nodes) (length g.nodes) t' (length g'.nodes - length g.nodes) u.m u.named))
 
-      L : NamedNet NodeName → Type 0
-      L N = Led (net_under Init (net_of old)) 0 (journal ++ entry ∷ []) N (length g'.nodes - length old.nodes)
+        L : NamedNet NodeName → Type 0
+        L N = Led (net_under Init (net_of old)) 0 (journal ++ entry ∷ []) N (length g'.nodes - length old.nodes)
 
-      same : net_under u.m (net_of g') ≡ net_under m' (net_of g')
-      same = net_alike u.m m' (net_of g') is_net' (λ x k i h. sym (names_after_old u.m (length g'.nodes) (suc t') x (node_below g' x k i h)))
+        same : net_under u.m (net_of g') ≡ net_under m' (net_of g')
+        same = net_alike u.m m' (net_of g') is_net' (λ x k i h. sym (names_after_old u.m (length g'.nodes) (suc t') x (node_below g' x k i h)))
 
-      bs : List NodeName
-      bs = names_born t' (length g'.nodes - length g.nodes)
+        bs : List NodeName
+        bs = names_born t' (length g'.nodes - length g.nodes)
 
-      listed : (k : ℕ) → k < length g'.nodes → (k < length g.nodes) ⊎ (length g.nodes ≤ k) → name_in start (names ++ bs) k ≡ m' k
-      listed k h (inl b) = old_name k b (cases_lt k start) ∙ u.listed k b ∙ sym (names_after_old u.m (length g'.nodes) (suc t') k h)
-        where
-          old_name : (k : ℕ) → k < length g.nodes → (k < start) ⊎ (start ≤ k) → name_in start (names ++ bs) k ≡ name_in start names k
-          old_name k b (inl c) = let e : nat_lt k start ≡ true = grind (arith, nat_tests) in rw e refl
-          old_name k b (inr c) = let e : nat_lt k start ≡ false = grind (arith, nat_tests) in let q = u.count in rw e (get_or-append names bs (Init k) (k - start) (omega arith))
-      listed k h (inr b) =
-          let a = u.count in
-          let e : nat_lt k start ≡ false = grind (arith, nat_tests) in
-          let p : k - start ≡ length names + (k - length g.nodes) = omega arith in
-          let q : length g.nodes + (k - length g.nodes) ≡ k = omega arith in
-          let i : k - length g.nodes < length g'.nodes - length g.nodes = omega arith in
-          ap (λ b. if b then Init k else get_or (names ++ bs) (k - start) (Init k)) e ∙ ap (λ n. get_or (names ++ bs) n (Init k)) p ∙ get_or_after names bs (k - length g.nodes) (Init k)
-          ∙ get_or-names_born t' (length g'.nodes - length g.nodes) (k - length g.nodes) (Init k) i ∙ sym (u.named.born (k - length g.nodes)) ∙ ap u.m q ∙ sym (names_after_old u.m (length g'.nodes) (suc t') k h)
+        listed : (k : ℕ) → k < length g'.nodes → (k < length g.nodes) ⊎ (length g.nodes ≤ k) → name_in start (names ++ bs) k ≡ m' k
+        listed k h (inl b) = old_name k b (cases_lt k start) ∙ u.listed k b ∙ sym (names_after_old u.m (length g'.nodes) (suc t') k h)
+          where
+            old_name : (k : ℕ) → k < length g.nodes → (k < start) ⊎ (start ≤ k) → name_in start (names ++ bs) k ≡ name_in start names k
+            old_name k b (inl c) = let e : nat_lt k start ≡ true = grind (arith, nat_tests) in rw e refl
+            old_name k b (inr c) = let e : nat_lt k start ≡ false = grind (arith, nat_tests) in let q = u.count in rw e (get_or-append names bs (Init k) (k - start) (omega arith))
+        listed k h (inr b) =
+            let a = u.count in
+            let e : nat_lt k start ≡ false = grind (arith, nat_tests) in
+            let p : k - start ≡ length names + (k - length g.nodes) = omega arith in
+            let q : length g.nodes + (k - length g.nodes) ≡ k = omega arith in
+            let i : k - length g.nodes < length g'.nodes - length g.nodes = omega arith in
+            ap (λ b. if b then Init k else get_or (names ++ bs) (k - start) (Init k)) e ∙ ap (λ n. get_or (names ++ bs) n (Init k)) p ∙ get_or_after names bs (k - length g.nodes) (Init k)
+            ∙ get_or-names_born t' (length g'.nodes - length g.nodes) (k - length g.nodes) (Init k) i ∙ sym (u.named.born (k - length g.nodes)) ∙ ap u.m q ∙ sym (names_after_old u.m (length g'.nodes) (suc t') k h)

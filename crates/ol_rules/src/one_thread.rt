@@ -5,14 +5,14 @@ ghost use Rattle.std.specs.Ordering.{nat_cmp};
 ghost use Rattle.std.specs.BTreeSet.{contains};
 ghost use Rattle.ol_net.specs.declared.parts.Rule.{Rule};
 ghost use Rattle.ol_net.specs.Nets.{slot, Linked, IsNet};
-ghost use Rattle.ol_net.specs.Numbered.{net_of};
+ghost use Rattle.ol_net.specs.Numbered.{net_of, numbered_port};
 ghost use Rattle.ol_net.specs.Pairs.{IsInActive};
 ghost use Rattle.ol_rules.specs.Runs.{IsComplete, HasActive, RunsTo, StopsWithin};
 ghost use Rattle.ol_rules.specs.Running.{name_in, names_born, AllWait, OthersWait, StillWait, IsLeast, HasPartner, AtMostOneStep, Advances};
 ghost use Rattle.ol_rules.specs.Steps.{StepsAt};
 
 use crate::journal::{Entry, Journal, NodeName};
-use crate::steps::{StepFault, step};
+use crate::steps::step;
 use ol_io::NoMemory;
 use ol_net::{Facing, Net, NodeId, Port, Rule};
 use std::alloc::Global;
@@ -49,8 +49,8 @@ struct Running {
 pub fn run(alloc: Global, net: &mut Net, fuel: u32) -> Result<Ran, NoMemory>
     requires { length net.old.nodes + 4 * fuel ≤ 2000000000 }
     ensures runs { IfOk result (λ ran. RunsTo net.old fuel ran.journal net.new) }
-    ensures done { IfOk result (λ ran. (ran.ended ≡ Done) ↔ IsComplete (net_of net.new)) }
-    ensures spent { IfOk result (λ ran. (ran.ended ≡ Spent) ↔ ((length ran.journal ≡ fuel) × HasActive (net_of net.new))) }
+    ensures done { IfOk result (λ ran. (ran.ended ≡ Ended.Done) ↔ IsComplete (net_of net.new)) }
+    ensures spent { IfOk result (λ ran. (ran.ended ≡ Ended.Spent) ↔ ((length ran.journal ≡ fuel) × HasActive (net_of net.new))) }
     ensures no_memory { OnErr result (StopsWithin net.old fuel net.new) }
 {
     let mut running = begin(alloc, net)?;
@@ -105,10 +105,7 @@ fn active_partner(net: &Net, at: NodeId) -> Option<NodeId>
     let Facing::Active(_) = net.facing(at) else {
         return None;
     };
-    match net.partner(Port::Of { node: at, slot: 0 }) {
-        Some(Port::Of { node, .. }) => Some(node),
-        _ => None,
-    }
+    node_at(net, Port::Of { node: at, slot: 0 })
 }
 
 /// Lets the nodes of active pairs wait whose numbers are in a range.
@@ -138,7 +135,7 @@ fn await_beside(waiting: &mut BTreeSet<u32>, net: &Net, at: NodeId) -> Result<()
 {
     net.is_net();
     for slot in 1..3 {
-        if let Some(Port::Of { node, slot: 0 }) = net.partner(Port::Of { node: at, slot }) {
+        if let Some(node) = node_at(net, Port::Of { node: at, slot }) {
             let Ok(_) = waiting.insert(node.0) else {
                 return Err(NoMemory);
             };
@@ -147,10 +144,27 @@ fn await_beside(waiting: &mut BTreeSet<u32>, net: &Net, at: NodeId) -> Result<()
     Ok(())
 }
 
-/// Rewrites the active pair of a node.
+/// The node whose principal port is joined to a port.
+fn node_at(net: &Net, port: Port) -> Option<NodeId>
+    ensures { MatchOption result ((x : ℕ) → Linked (net_of net.now) (slot x 0) (numbered_port port) → ⊥) (λ node. (x : ℕ) → Linked (net_of net.now) (slot x 0) (numbered_port port) → x ≡ node.0) }
+{
+    net.is_net();
+    match net.partner(port) {
+        Some(Port::Of { node, slot }) => {
+            if slot == 0 {
+                Some(node)
+            } else {
+                None
+            }
+        }
+        Some(Port::Free(_)) => None,
+        None => None,
+    }
+}
+
+/// Rewrites the active pair of a node, which has one, so that only memory can be lacking.
 fn rewrite(net: &mut Net, at: NodeId) -> Result<Rule, NoMemory>
     requires few { length net.old.nodes ≤ 2000000000 }
-    requires active { (r : Rule) × IsInActive (net_of net.old) at.0 r }
     ensures steps { IfOk result (λ rule. StepsAt net.old net.new at.0 rule) }
     ensures refused { OnErr result (net.new ≡ net.old) }
 {
