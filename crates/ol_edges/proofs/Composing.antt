@@ -1,7 +1,7 @@
 -- Contraction in two steps, between other edges, and under other names.
 use Rattle.std.proofs.Common.{◌≡◌, ◌≢◌, ◌⊎◌, ◌↔◌, inl, inr, refl, sym, ap, ◌∙◌, subst}
-use Rattle.ol_edges.specs.Edges.{Joined, here, on, back, Contracted}
-use Rattle.ol_edges.proofs.Joining.{joined_trans, joined_sym, joined_map, joined_image}
+use Rattle.ol_edges.specs.Edges.{Joined, here, on, back, Contracted, Edge}
+use Rattle.ol_edges.proofs.Joining.{joined_sym, joined_map, joined_image}
 
 -- an edge at u, taken either way
 abbrev pub HasEdge : {V : Type 0} → (V → V → Type 0) → V → Type 0
@@ -173,3 +173,30 @@ module _ {V W : Type 0} (name : V → W) (one_name : (u v : V) → name u ≡ na
           },
         );
   }
+
+-- the edges left without those at P, and the joins, under names
+pub edge_image : {V W : Type 0} (name : V → W) (E J : V → V → Type 0) (P : V → Type 0) (F L : W → W → Type 0) (Q : W → Type 0) → IsImage name E F → IsImage name J L → ((u : V) → P u ↔ Q (name u)) →
+    IsImage name (Edge E P J) (Edge F Q L)
+edge_image {V} {W} name E J P F L Q i l pq = record { forth = to; from = back_to }
+  where
+    to : (u v : V) → Edge E P J u v → Edge F Q L (name u) (name v)
+    to u v (inl e) = inl (i.forth u v e.0, (λ q. e.1 ((pq u).1 q)), λ q. e.2 ((pq v).1 q))
+    to u v (inr h) = inr (l.forth u v h)
+
+    back_to : (p q : W) → Edge F Q L p q → (u : V) × (v : V) × (p ≡ name u) × (q ≡ name v) × Edge E P J u v
+    back_to p q (inl f) =
+        let d = i.from p q f.0 in
+        (d.0, d.1, d.2, d.3, inl (d.4, (λ h. f.1 (subst Q (sym d.2) ((pq d.0).0 h))), λ h. f.2 (subst Q (sym d.3) ((pq d.1).0 h))))
+    back_to p q (inr h) = let d = l.from p q h in (d.0, d.1, d.2, d.3, inr d.4)
+
+-- the same edges under the same names
+image_into : {V W : Type 0} (name : V → W) (E E' : V → V → Type 0) (F F' : W → W → Type 0) → IsImage name E F → IsImage name E' F' → ((u v : V) → E u v → E' u v) → (p q : W) → F p q → F' p q
+image_into name E E' F F' i i' f p q h =
+    let d = i.from p q h in
+    subst (λ z. F' z q) (sym d.2) (subst (λ z. F' (name d.0) z) (sym d.3) (i'.forth d.0 d.1 (f d.0 d.1 d.4)))
+
+pub image_same : {V W : Type 0} (name : V → W) (E E' : V → V → Type 0) (F F' : W → W → Type 0) → IsImage name E F → IsImage name E' F' → ((u v : V) → E u v ↔ E' u v) → (p q : W) → F p q ↔ F' p q
+image_same name E E' F F' i i' s p q = (
+  image_into name E E' F F' i i' (λ u v. (s u v).0) p q,
+  image_into name E' E F' F i' i (λ u v. (s u v).1) p q,
+)

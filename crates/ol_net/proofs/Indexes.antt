@@ -8,8 +8,9 @@ use Rattle.ol_net.specs.declared.parts.Kind.{Kind}
 use Rattle.ol_net.specs.declared.parts.Port.{Port}
 use Rattle.ol_net.specs.Parts.{is_eraser}
 use Rattle.ol_net.specs.Graph.{kind_at}
-use Rattle.ol_net.specs.Build.{all_live, is_bad_index, BadIndexAt, NoneOf, AreTables}
-use Rattle.ol_net.specs.Joins.{renewed}
+use Rattle.ol_net.specs.Build.{all_live, is_bad_index, BadIndexAt, NoneOf}
+use Rattle.ol_net.specs.Tabling.{AreTables}
+use Rattle.ol_net.specs.Rewired.{renewed}
 use Rattle.ol_net.specs.Replace.{top_index_of, MayBeBorn}
 use Rattle.ol_net.specs.Indexes.{HasIndexes}
 use Rattle.ol_net.proofs.Linking.{length-all_live}

@@ -96,10 +96,10 @@ lesser-is g n m s t e h =
     let there = stuck_from g n t e in
     let a = there.1 in
     let same : (y : ℕ) → IsStuck (net_of g) n.0 y → m.0 ≡ y = λ y b.
-        let p = partner-faced g n (record { 0 = y }) b.k b.i b.l b.j t b.faces in
-        let ends : Some (Of m s) ≡ Some (Of (record { 0 = y }) 0) = sym h ∙ p in
-        let nodes : m ≡ record { 0 = y } = cc in
-        ap (λ (w : NodeId). w.0) nodes in (
+    let p = partner-faced g n (record { 0 = y }) b.k b.i b.l b.j t b.faces in
+    let ends : Some (Of m s) ≡ Some (Of (record { 0 = y }) 0) = sym h ∙ p in
+    let nodes : m ≡ record { 0 = y } = cc in
+    ap (λ (w : NodeId). w.0) nodes in (
       λ lt. (there.0, (let q = same there.0 a in grind (arith, nat_tests)), a),
       λ y. let q = same y.0 y.2 in let less = y.1 in grind (arith, nat_tests),
     )
@@ -172,13 +172,16 @@ StuckBelow-more g n count t p b = record {
   where
     here : (x y : ℕ) → ◌≡◌ {A = ℕ × ℕ} (x, y) (n, p.0) → (x ≡ n) × (y ≡ p.0)
     here x y e = (ap (λ (w : ℕ × ℕ). w.0) e, ap (λ (w : ℕ × ℕ). w.1) e)
+
     earlier : (x y : ℕ) → HasPair b.pairs x y → IsStuck (net_of g) x y × (min x y < n + 1)
     earlier x y h = let a = (b.all x y).0 h in (a.0, let lt = a.1 in omega arith)
+
     into : (x y : ℕ) → HasPair ((n, p.0) ∷ b.pairs) x y → IsStuck (net_of g) x y × (min x y < n + 1)
     into x y (inl (inl e)) = let q = here x y e in let less = p.1 in rw (q.0, q.1) (p.2, omega arith)
     into x y (inl (inr h)) = earlier x y (inl h)
     into x y (inr (inl e)) = let q = here y x e in let less = p.1 in rw (q.0, q.1) (IsStuck-back g n p.0 p.2, omega arith)
     into x y (inr (inr h)) = earlier x y (inr h)
+
     out_of : (x y : ℕ) → IsStuck (net_of g) x y × (min x y < n + 1) → HasPair ((n, p.0) ∷ b.pairs) x y
     out_of x y h = elim (cases_eq x n) [
       | inl xn ↦

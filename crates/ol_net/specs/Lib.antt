@@ -6,8 +6,8 @@ pub mod Nets
 pub mod Pairs
 pub mod Numbered
 pub mod Build
-pub mod Contract
+pub mod Tabling
 pub mod Joins
+pub mod Rewired
 pub mod Replace
 pub mod Indexes
-pub mod Retabled

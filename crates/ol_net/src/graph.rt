@@ -9,9 +9,8 @@ ghost use Rattle.ol_net.specs.declared.parts.Rule.{Rule};
 ghost use Rattle.ol_net.specs.declared.parts.Facing.TheVariants.{Active, Stuck};
 ghost use Rattle.ol_net.specs.declared.parts.Facing.TheVariants as facing;
 ghost use Rattle.ol_net.specs.Joins.{uses_up, open_ends};
-ghost use Rattle.ol_net.specs.Replace.{AreFacing, MayBeBorn, top_index_of};
+ghost use Rattle.ol_net.specs.Replace.{AreFacing, MayBeBorn, Replaces, top_index_of};
 ghost use Rattle.ol_net.specs.declared.parts.Kind.{Kind};
-ghost use Rattle.ol_net.specs.Retabled.{Retables};
 ghost use Rattle.ol_net.specs.Pairing.{other};
 ghost use Rattle.ol_net.specs.Build.{Builds, FaultIs};
 ghost use Rattle.ol_net.specs.Graph.{kind_at, partner_of, partner_in, IsTabled, facing_at, place, port_at, has_port, has_slot};
@@ -153,7 +152,19 @@ impl Net {
         let _ = &self.partners;
     }
 
-    /// Takes out two nodes that face each other, puts others in, and joins the ends that are open.
+    /// Rewrites two nodes that face each other: the one call that changes a net.
+    ///
+    /// `first` and `second` are live, different and linked by their principal ports. Both go, and so
+    /// does that link. The nodes of `born`, four at most, come with the next numbers, in order. Each
+    /// of their indexes is at most one above the net's greatest, and 0 for an eraser.
+    ///
+    /// The joins are added as edges. Each slot of at least 1 of the two nodes stands in exactly one
+    /// join, so does each slot of each node of `born`, and nothing else stands in a join. Then each
+    /// slot of the two nodes is taken out: the two edges at it become one, and an edge from it to
+    /// itself goes with it. What is left are the links, so two ports are linked in the end where
+    /// edges joined them by way of the slots that went (Lafont, Interaction Nets, 1990).
+    ///
+    /// After `NoMemory` the net is unchanged. It has given out 2,000,000,000 numbers at most before.
     pub fn replace(
         &mut self,
         first: NodeId,
@@ -166,7 +177,7 @@ impl Net {
         requires indexes { (p : ℕ) (k : Kind × ℕ) → slice_get born.now p ≡ Some k → MayBeBorn (top_index_of self.old.nodes) k }
         requires fit { uses_up joins.now (open_ends (kind_at self.old.nodes first.0) (kind_at self.old.nodes second.0) born.now) ≡ true }
         requires few { length self.old.nodes ≤ 2000000000 }
-        ensures ok { OnOk result (Retables self.old self.new first second born.now joins.now) }
+        ensures ok { OnOk result (Replaces self.old self.new first second born.now joins.now) }
         ensures err { OnErr result (self.new ≡ self.old) }
     {
         let Ok(()) = replace_in(
@@ -221,7 +232,12 @@ pub fn is_port(free: u32, nodes: &[Option<(Kind, u32)>], p: Port) -> bool
     }
 }
 
-pub fn partner_in(free: u32, nodes: &[Option<(Kind, u32)>], partners: &[usize], p: Port) -> Option<Port>
+pub fn partner_in(
+    free: u32,
+    nodes: &[Option<(Kind, u32)>],
+    partners: &[usize],
+    p: Port,
+) -> Option<Port>
     requires few { length nodes.now < 2 ^ 31 }
     requires net { IsTabled free nodes.now partners.now }
     ensures { result ≡ partner_in free nodes.now partners.now p }

@@ -1,3 +1,7 @@
+pub mod Lists
+pub mod Listed
+pub mod Stepping
+pub mod Born
 pub mod NameOrder
 pub mod Renaming
 pub mod FreshPairs

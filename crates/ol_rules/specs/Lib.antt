@@ -1,6 +1,8 @@
 pub mod Rewriting
 pub mod Counting
 pub mod Steps
+pub mod Listed
+pub mod Actors
 pub mod Names
 pub mod Runs
 pub mod Running

@@ -1,5 +1,6 @@
 use Rattle.std.proofs.Common.{arith}
-use Rattle.ol_net.proofs.Linking.{IsTabled-from_tables, Builds-from_tables}
+use Rattle.ol_net.proofs.Linking.{IsTabled-from_tables}
+use Rattle.ol_net.proofs.Building.{Builds-from_tables}
 use Rattle.ol_net.proofs.Indexes.{HasIndexes-of_tables}
 use Rattle.ol_net.proofs.graph.Net.build.Goals as goal
 
