@@ -4,6 +4,8 @@
 mod counting;
 mod journal;
 mod one_thread;
+#[cfg(test)]
+mod run_tests;
 mod steps;
 
 pub use counting::counts;
