@@ -13,3 +13,10 @@ pub mod Built
 pub mod Stepped
 pub mod Recount
 pub mod Relation
+pub mod NameOrder
+pub mod Renaming
+pub mod FreshPairs
+pub mod LeadRuns
+pub mod UnderWay
+pub mod Waiting
+pub mod OneThread

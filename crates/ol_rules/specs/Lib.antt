@@ -1,7 +1,9 @@
 pub mod Rewriting
+pub mod Counting
 pub mod Steps
 pub mod Listed
 pub mod Actors
 pub mod Names
 pub mod Runs
 pub mod Laws
+pub mod Running

@@ -1,6 +1,8 @@
 -- Runs along a journal, and the one-thread run, which always rewrites the lead.
-use Rattle.std.specs.Prelude.{◌≡◌, ℕ, suc, ◌≤◌, ◌<◌, false, List, [], ◌∷◌, length, ◌⊎◌, count_by, Bool}
-use Rattle.ol_net.specs.Nets.{NamedNet}
+use Rattle.std.specs.Prelude.{◌≡◌, ℕ, suc, ◌+◌, ◌≤◌, ◌<◌, true, false, List, [], ◌∷◌, length, ◌⊎◌}
+use Rattle.ol_net.specs.Graph.{Graph}
+use Rattle.ol_net.specs.Nets.{NamedNet, net_under}
+use Rattle.ol_net.specs.Numbered.{net_of}
 use Rattle.ol_net.specs.Pairs.{IsActive}
 use Rattle.ol_net.specs.declared.parts.Rule.{Rule}
 use Rattle.ol_rules.specs.declared.journal.NodeName.{NodeName}
@@ -8,6 +10,7 @@ use Rattle.ol_rules.specs.declared.journal.NodeName.TheVariants.{Init, Born}
 use Rattle.ol_rules.specs.declared.journal.Entry.{Entry}
 use Rattle.ol_rules.specs.Names.{comes_before, IsNamed}
 use Rattle.ol_rules.specs.Rewriting.{IsStep}
+use Rattle.ol_rules.specs.Steps.{births}
 
 -- M is N after the rewrite of the pair of entry e, whose number in the journal is its ticket
 pub record IsEntryStep (N : NamedNet NodeName) (ticket : ℕ) (e : Entry) (M : NamedNet NodeName) : Type 0 where
@@ -25,6 +28,10 @@ pub data IsRun : NamedNet NodeName → ℕ → List Entry → NamedNet NodeName 
 abbrev pub IsComplete : {A : Type 0} → NamedNet A → Type 0
 IsComplete {A} N = (f g : A) (r : Rule) → IsActive N f g r → ⊥
 
+-- some pair is active
+abbrev pub HasActive : {A : Type 0} → NamedNet A → Type 0
+HasActive {A} N = (f : A) × (g : A) × (r : Rule) × IsActive N f g r
+
 -- The entry is the lead: the active pair whose smaller name is least.
 pub record IsLead (N : NamedNet NodeName) (e : Entry) : Type 0 where
   pub f : NodeName
@@ -38,8 +45,36 @@ pub data IsLeadRun : NamedNet NodeName → ℕ → List Entry → NamedNet NodeN
   end : {N : NamedNet NodeName} {t : ℕ} → IsLeadRun N t [] N
   then : {N M P : NamedNet NodeName} {t : ℕ} {e : Entry} {es : List Entry} → IsLead N e → IsEntryStep N t e M → IsLeadRun M (suc t) es P → IsLeadRun N t (e ∷ es) P
 
+-- how many nodes the steps of a run made
+abbrev pub made : {N M : NamedNet NodeName} {t : ℕ} {es : List Entry} → IsLeadRun N t es M → ℕ
+made end = 0
+made (then {e = e} lead entry run) = births e.rule entry.step.active.k entry.step.active.l + made run
+
 -- The one-thread run from N: leads, up to the first net without an active pair or until the fuel is used up. M is its net.
 pub record IsOneThread (N : NamedNet NodeName) (fuel : ℕ) (journal : List Entry) (M : NamedNet NodeName) : Type 0 where
   pub leads : IsLeadRun N 0 journal M
   pub within : length journal ≤ fuel
   pub ended : IsComplete M ⊎ (length journal ≡ fuel)
+
+-- Names of the numbers below next: a start node is named by its number, and a greater number has a later name.
+pub record IsNaming (start next : ℕ) (names : ℕ → NodeName) : Type 0 where
+  pub initial : (k : ℕ) → k < start → names k ≡ Init k
+  pub rising : (j k : ℕ) → j < k → k < next → comes_before (names j) (names k) ≡ true
+
+-- New is old after these leads, by some naming of its numbers. The nodes that they made have the numbers that were given out.
+pub record LeadsTo (old : Graph) (journal : List Entry) (new : Graph) : Type 0 where
+  pub names : ℕ → NodeName
+  pub naming : IsNaming (length old.nodes) (length new.nodes) names
+  pub run : IsLeadRun (net_under Init (net_of old)) 0 journal (net_under names (net_of new))
+  pub numbers : length new.nodes ≡ length old.nodes + made run
+
+-- New is old after the one-thread run with this fuel, and this is its journal.
+pub record RunsTo (old : Graph) (fuel : ℕ) (journal : List Entry) (new : Graph) : Type 0 where
+  pub leads : LeadsTo old journal new
+  pub one_thread : IsOneThread (net_under Init (net_of old)) fuel journal (net_under leads.names (net_of new))
+
+-- New is old after some leads, at most as many as the fuel.
+pub record StopsWithin (old : Graph) (fuel : ℕ) (new : Graph) : Type 0 where
+  pub journal : List Entry
+  pub within : length journal ≤ fuel
+  pub leads : LeadsTo old journal new

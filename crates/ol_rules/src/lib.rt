@@ -1,6 +1,7 @@
 //! The rules in motion: one step, one-thread runs, journals and their counts.
 #![tactic(auto)]
 
+mod counting;
 mod journal;
 mod laws;
 #[cfg(test)]
@@ -9,4 +10,12 @@ mod steps;
 
 pub use journal::{Entry, Journal, NodeName};
 pub use laws::{a_step_is_a_net, a_step_is_one};
+mod one_thread;
+#[cfg(test)]
+mod run_tests;
+mod steps;
+
+pub use counting::counts;
+pub use journal::{Counts, Entry, Journal, NodeName};
+pub use one_thread::{Ended, Ran, run};
 pub use steps::{StepFault, step};

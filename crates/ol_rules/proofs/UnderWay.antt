@@ -1,0 +1,256 @@
+-- A run on its way: its journal and its names stand for what its net is, and a step goes on.
+use Rattle.std.proofs.Common.{◌≡◌, ◌≢◌, ℕ, suc, zero, ◌+◌, ◌*◌, ◌-◌, ◌<◌, ◌≤◌, true, false, nat_lt, if◌then◌else◌, List, [], ◌∷◌, ◌++◌, length, length-append, Some, None, get_or, ◌⊎◌, inl, inr, refl, sym, ap, ◌∙◌, subst, arith}
+use Rattle.std.proofs.lemmas.Bool.{cases_lt}
+use Rattle.std.proofs.lemmas.Bool.Decides.{nat_tests}
+use Rattle.std.proofs.Math.ListN.{get_or-append}
+use Rattle.std.proofs.lemmas.List.{get_or_past, get_or_push}
+use Rattle.ol_net.specs.declared.parts.Kind.{Kind}
+use Rattle.ol_net.specs.declared.parts.Kind.TheVariants as kind
+use Rattle.ol_net.specs.declared.parts.Rule.{Rule}
+use Rattle.ol_net.specs.declared.parts.Rule.TheVariants as rule
+use Rattle.ol_net.specs.Parts.{arity}
+use Rattle.ol_net.specs.Graph.{Graph, kind_at}
+use Rattle.ol_net.specs.Nets.{NamedPort, free, slot, NamedNet, HasNode, Linked, IsPort, IsNet, Faces, net_under}
+use Rattle.ol_net.specs.Numbered.{net_of}
+use Rattle.ol_net.specs.Pairs.{IsActive, IsInActive}
+use Rattle.ol_net.proofs.Numbered.{has_node}
+use Rattle.ol_rules.specs.declared.journal.NodeName.{NodeName}
+use Rattle.ol_rules.specs.declared.journal.NodeName.TheVariants.{Init, Born}
+use Rattle.ol_rules.specs.declared.journal.Entry.{Entry}
+use Rattle.ol_rules.specs.Rewriting.{IsStep, is_meeting}
+use Rattle.ol_rules.specs.Names.{comes_before, IsNamed}
+use Rattle.ol_rules.specs.Runs.{IsEntryStep, IsLead, IsLeadRun, end, then, made, IsNaming, LeadsTo}
+use Rattle.ol_rules.specs.Steps.{births, StepsAt}
+use Rattle.ol_rules.specs.Running.{name_in, names_born, IsLeast}
+use Rattle.ol_rules.proofs.NameOrder.{Names, names_apart, names_after, names_after_old, names_on, names_first, not_before, not_before_itself}
+use Rattle.ol_rules.proofs.Renaming.{net_alike, active_to, active_from, step_under}
+use Rattle.ol_rules.proofs.FreshPairs.{linked_sym}
+use Rattle.ol_rules.proofs.LeadRuns.{Led, Stepped, led_on}
+
+-- a node's number was given out
+pub node_below : (g : Graph) (x : ℕ) (k : Kind) (i : ℕ) → HasNode (net_of g) x k i → x < length g.nodes
+node_below g x k i h = go (cases_lt x (length g.nodes))
+  where
+    go : (x < length g.nodes) ⊎ (length g.nodes ≤ x) → x < length g.nodes
+    go (inl b) = b
+    go (inr b) = let e = (has_node g x k i).0 h in let e' = get_or_past g.nodes x None b in absurd (cc)
+
+pub births_few : (r : Rule) (k l : Kind) → births r k l ≤ 4
+births_few r k l = go (is_meeting r) (few k) (few l)
+  where
+    few : (k : Kind) → arity k ≤ 2
+    few kind.Lam = omega arith
+    few kind.App = omega arith
+    few kind.Fan = omega arith
+    few kind.Croissant = omega arith
+    few kind.Bracket = omega arith
+    few kind.Eraser = omega arith
+
+    go : (b : _) → arity k ≤ 2 → arity l ≤ 2 → (if b then 0 else arity l + arity k) ≤ 4
+    go true a c = omega arith
+    go false a c = omega arith
+
+-- the step of the least pair, under the names of a run
+module _ (g g' : Graph) (is_net : IsNet (net_of g)) (at partner : ℕ) (r : Rule) (s : StepsAt g g' at r) (least : IsLeast g at partner) where
+  abbrev N : NamedNet ℕ
+  N = net_of g
+
+  other_end : (f h p q : ℕ) → Linked N (slot f 0) (slot h 0) → Linked N (slot p 0) (slot q 0) → p ≡ f → q ≡ h
+  other_end f h p q a b e = let c = is_net.one_link (slot f 0) (slot q 0) (slot h 0) (subst (λ z. Linked N (slot z 0) (slot q 0)) e b) a in cc
+
+  pub the_pair : ((at ≡ s.f) × (partner ≡ s.g)) ⊎ ((at ≡ s.g) × (partner ≡ s.f))
+  the_pair = go s.one_of
+    where
+      go : (at ≡ s.f) ⊎ (at ≡ s.g) → ((at ≡ s.f) × (partner ≡ s.g)) ⊎ ((at ≡ s.g) × (partner ≡ s.f))
+      go (inl e) = inl (e, other_end s.f s.g at partner s.step.active.faces.linked least.linked e)
+      go (inr e) = inr (e, other_end s.g s.f at partner (linked_sym N (slot s.f 0) (slot s.g 0) s.step.active.faces.linked) least.linked e)
+
+  pub lesser : at < partner
+  lesser = go the_pair
+    where
+      apart : at ≢ partner
+      apart e = is_net.apart (slot at 0) (subst (λ z. Linked N (slot at 0) (slot z 0)) (sym e) least.linked)
+
+      go : ((at ≡ s.f) × (partner ≡ s.g)) ⊎ ((at ≡ s.g) × (partner ≡ s.f)) → at < partner
+      go (inl e) = let b = least.least s.g r (s.f, inr s.step.active) in let n = apart in omega arith
+      go (inr e) = let b = least.least s.f r (s.g, inl s.step.active) in let n = apart in omega arith
+
+  module _ (start t : ℕ) (m : ℕ → NodeName) (n : Names start (length g.nodes) t m) where
+    abbrev e : Entry
+    e = record { rule = r; first = m at; second = m partner }
+
+    entry_names : IsNamed e (m s.f) (m s.g)
+    entry_names = record { ordered = n.rising at partner lesser; pair = go the_pair }
+      where
+        go : ((at ≡ s.f) × (partner ≡ s.g)) ⊎ ((at ≡ s.g) × (partner ≡ s.f)) → ((m at ≡ m s.f) × (m partner ≡ m s.g)) ⊎ ((m at ≡ m s.g) × (m partner ≡ m s.f))
+        go (inl e) = inl (ap m e.0, ap m e.1)
+        go (inr e) = inr (ap m e.0, ap m e.1)
+
+    pub is_lead : IsLead (net_under m N) e
+    is_lead = record {
+      f = m s.f;
+      g = m s.g;
+      named = entry_names;
+      active = active_to m N s.f s.g r s.step.active;
+      least = λ F G r' a.
+          let b = active_from m (names_apart start (length g.nodes) t m n) N F G r' a in
+          (not_before_least b.0 F b.2 (least.least b.0 r' (b.1, inl b.4)), not_before_least b.1 G b.3 (least.least b.1 r' (b.0, inr b.4)));
+    }
+      where
+        before : (x : ℕ) → at ≤ x → (x < at) ⊎ (at ≤ x) → (at < x) ⊎ (x ≤ at) → comes_before (m x) (m at) ≡ false
+        before x b (inl c) d = absurd (omega arith)
+        before x b (inr c) (inl d) = not_before (m at) (m x) (n.rising at x d)
+        before x b (inr c) (inr d) = let e : x ≡ at = omega arith in subst (λ z. comes_before (m z) (m at) ≡ false) (sym e) (not_before_itself (m at))
+
+        not_before_least : (x : ℕ) (F : NodeName) → F ≡ m x → at ≤ x → comes_before F (m at) ≡ false
+        not_before_least x F q b = subst (λ F. comes_before F (m at) ≡ false) (sym q) (before x b (cases_lt x at) (cases_lt at x))
+
+    -- the step, whose births have these names
+    abbrev StepBy : (ℕ → NodeName) → Type 0
+    StepBy born = (u : IsStep born (net_under m N) (m s.f) (m s.g) r (net_under m (net_of g'))) × (births r u.active.k u.active.l ≡ length g'.nodes - length g.nodes)
+
+    pub entry_step : Stepped (net_under m N) t e (net_under m (net_of g')) (length g'.nodes - length g.nodes)
+    entry_step = (record { f = m s.f; g = m s.g; named = entry_names; step = on.0 }, on.1)
+      where
+        first : StepBy (λ p. m (length g.nodes + p))
+        first =
+            let u = step_under m (names_apart start (length g.nodes) t m n) (λ p. length g.nodes + p) N s.f s.g r (net_of g') s.step in
+            let q = s.numbers in
+            (u.0, ap (λ k. births r k u.0.active.l) u.1 ∙ ap (λ l. births r s.step.active.k l) u.2 ∙ omega arith)
+
+        on : StepBy (λ p. Born t p)
+        on = subst StepBy (λ i. λ p. n.born p i) first
+
+-- g is what the leads of this journal leave of old, and the names of its numbers from start on are these
+pub record UnderWay (old g : Graph) (start : ℕ) (names : List NodeName) (journal : List Entry) : Type 0 where
+  pub m : ℕ → NodeName
+  pub named : Names (length old.nodes) (length g.nodes) (length journal) m
+  pub start_is : start ≡ length old.nodes
+  pub count : start + length names ≡ length g.nodes
+  pub listed : (k : ℕ) → k < length g.nodes → name_in start names k ≡ m k
+  pub few : length g.nodes ≤ length old.nodes + 4 * length journal
+  pub led : Led (net_under Init (net_of old)) 0 journal (net_under m (net_of g)) (length g.nodes - length old.nodes)
+
+-- the naming of a run that is over
+unfoldable pub leads_to : (old g : Graph) (journal : List Entry) (next t : ℕ) (m : ℕ → NodeName) → Names (length old.nodes) next t m → length old.nodes ≤ length g.nodes →
+    Led (net_under Init (net_of old)) 0 journal (net_under m (net_of g)) (length g.nodes - length old.nodes) → LeadsTo old journal g
+leads_to old g journal next t m n le led = record {
+  names = m;
+  naming = record { initial = n.initial; rising = λ j k h b. n.rising j k h };
+  run = led.0;
+  numbers = let e = led.1 in omega arith;
+}
+
+-- a run that begins
+pub begins : (old : Graph) → IsNet (net_of old) → UnderWay old old (length old.nodes) [] []
+begins old is_net = record {
+  m = m;
+  named = names_first (length old.nodes);
+  start_is = refl;
+  count = omega arith;
+  listed = λ k h. let a : nat_lt k (length old.nodes) ≡ true = grind (arith, nat_tests) in ap (λ b. if b then Init k else get_or {A = NodeName} [] (k - length old.nodes) (Init k)) a ∙ sym (names_after_old Init (length old.nodes) 0 k h);
+  few = omega arith;
+  led = subst L same (end, omega arith);
+}
+  where
+    m : ℕ → NodeName
+    m = names_after Init (length old.nodes) 0
+
+    L : NamedNet NodeName → Type 0
+    L N = Led (net_under Init (net_of old)) 0 [] N (length old.nodes - length old.nodes)
+
+    same : net_under Init (net_of old) ≡ net_under m (net_of old)
+    same = net_alike Init m (net_of old) is_net (λ x k i h. sym (names_after_old Init (length old.nodes) 0 x (node_below old x k i h)))
+
+length-names_born : (t b : ℕ) → length (names_born t b) ≡ b
+length-names_born t zero = refl
+length-names_born t (suc b) = let e = length-names_born t b in omega (arith, length-append (names_born t b) (Born t b ∷ []))
+
+get_or-names_born : (t b p : ℕ) (d : NodeName) → p < b → get_or (names_born t b) p d ≡ Born t p
+get_or-names_born t zero p d h = absurd (omega arith)
+get_or-names_born t (suc b) p d h = go (get_or-names_born t b p d) (cases_lt p b)
+  where
+    go : (p < b → get_or (names_born t b) p d ≡ Born t p) → (p < b) ⊎ (b ≤ p) → get_or (names_born t b ++ Born t b ∷ []) p d ≡ Born t p
+    go ih (inl c) = get_or-append (names_born t b) (Born t b ∷ []) d p (let e = length-names_born t b in omega arith) ∙ ih c
+    go ih (inr c) = let e : b ≡ p = omega arith in get_or_push (names_born t b) (Born t b) d p (length-names_born t b ∙ e) ∙ ap (Born t) e
+
+get_or_after : {X : Type 0} (xs ys : List X) (p : ℕ) (d : X) → get_or (xs ++ ys) (length xs + p) d ≡ get_or ys p d
+get_or_after [] ys p d = let e : 0 + p ≡ p = omega arith in ap (λ n. get_or ys n d) e
+get_or_after (x ∷ xs) ys p d = let e : suc (length xs) + p ≡ suc (length xs + p) = omega arith in ap (λ n. get_or (x ∷ (xs ++ ys)) n d) e ∙ get_or_after xs ys p d
+
+-- a run after one more lead
+module _ (old g g' : Graph) (start : ℕ) (names : List NodeName) (journal : List Entry) (u : UnderWay old g start names journal) (is_net : IsNet (net_of g))
+    (at partner : ℕ) (r : Rule) (s : StepsAt g g' at r) (least : IsLeast g at partner) where
+  abbrev entry : Entry
+  entry = record { rule = r; first = u.m at; second = u.m partner }
+
+  at_least : length g.nodes ≤ length g'.nodes
+  at_least = let q = s.numbers in omega arith
+
+  led_by_one : Led (net_under Init (net_of old)) 0 (journal ++ entry ∷ []) (net_under u.m (net_of g')) (length g'.nodes - length old.nodes)
+  led_by_one =
+      let L : ℕ → Type 0 = λ n. Led (net_under Init (net_of old)) 0 (journal ++ entry ∷ []) (net_under u.m (net_of g')) n in
+      let a = at_least in
+      let b = u.named.room in
+      let q : length g.nodes - length old.nodes + (length g'.nodes - length g.nodes) ≡ length g'.nodes - length old.nodes = omega arith in
+      subst L q (led_on (net_under Init (net_of old)) (net_under u.m (net_of g)) (net_under u.m (net_of g')) 0 (length journal) journal entry (length g.nodes - length old.nodes) (length g'.nodes - length g.nodes) u.led.0 u.led.1
+        (is_lead g g' is_net at partner r s least (length old.nodes) (length journal) u.m u.named) (omega arith) (entry_step g g' is_net at partner r s least (length old.nodes) (length journal) u.m u.named))
+
+  -- what the journal leads to, whether or not it was written
+  pub leads_on : LeadsTo old (journal ++ entry ∷ []) g'
+  leads_on = let a = at_least in let b = u.named.room in leads_to old g' (journal ++ entry ∷ []) (length g.nodes) (length journal) u.m u.named (omega arith) led_by_one
+
+  births_here : length g'.nodes ≤ length g.nodes + 4
+  births_here = let q = s.numbers in let b = births_few r s.step.active.k s.step.active.l in omega arith
+
+  module _ (is_net' : IsNet (net_of g')) where
+    pub one_on : UnderWay old g' start (names ++ names_born (length journal) (length g'.nodes - length g.nodes)) (journal ++ entry ∷ [])
+    one_on = record {
+      m = m';
+      named = named;
+      start_is = u.start_is;
+      count = let c = u.count in let a = at_least in let d = length-names_born (length journal) (length g'.nodes - length g.nodes) in omega (arith, length-append names (names_born (length journal) (length g'.nodes - length g.nodes)));
+      listed = λ k h. listed k h (cases_lt k (length g.nodes));
+      few = let a = u.few in let b = births_here in omega (arith, length-append journal (entry ∷ []));
+      led = subst L same led_by_one;
+    }
+      where
+        t' : ℕ
+        t' = length journal
+
+        m' : ℕ → NodeName
+        m' = names_after u.m (length g'.nodes) (suc t')
+
+        new_length : length (journal ++ entry ∷ []) ≡ suc t'
+        new_length = omega (arith, length-append journal (entry ∷ []))
+
+        named : Names (length old.nodes) (length g'.nodes) (length (journal ++ entry ∷ [])) m'
+        named =
+            let a = at_least in
+            let e : length g.nodes + (length g'.nodes - length g.nodes) ≡ length g'.nodes = omega arith in
+            let P : ℕ → ℕ → Type 0 = λ next ticket. Names (length old.nodes) next ticket (names_after u.m next (suc t')) in
+            subst (λ ticket. P (length g'.nodes) ticket) (sym new_length) (subst (λ next. P next (suc t')) e (names_on (length old.nodes) (length g.nodes) t' (length g'.nodes - length g.nodes) u.m u.named))
+
+        L : NamedNet NodeName → Type 0
+        L N = Led (net_under Init (net_of old)) 0 (journal ++ entry ∷ []) N (length g'.nodes - length old.nodes)
+
+        same : net_under u.m (net_of g') ≡ net_under m' (net_of g')
+        same = net_alike u.m m' (net_of g') is_net' (λ x k i h. sym (names_after_old u.m (length g'.nodes) (suc t') x (node_below g' x k i h)))
+
+        bs : List NodeName
+        bs = names_born t' (length g'.nodes - length g.nodes)
+
+        listed : (k : ℕ) → k < length g'.nodes → (k < length g.nodes) ⊎ (length g.nodes ≤ k) → name_in start (names ++ bs) k ≡ m' k
+        listed k h (inl b) = old_name k b (cases_lt k start) ∙ u.listed k b ∙ sym (names_after_old u.m (length g'.nodes) (suc t') k h)
+          where
+            old_name : (k : ℕ) → k < length g.nodes → (k < start) ⊎ (start ≤ k) → name_in start (names ++ bs) k ≡ name_in start names k
+            old_name k b (inl c) = let e : nat_lt k start ≡ true = grind (arith, nat_tests) in rw e refl
+            old_name k b (inr c) = let e : nat_lt k start ≡ false = grind (arith, nat_tests) in let q = u.count in rw e (get_or-append names bs (Init k) (k - start) (omega arith))
+        listed k h (inr b) =
+            let a = u.count in
+            let e : nat_lt k start ≡ false = grind (arith, nat_tests) in
+            let p : k - start ≡ length names + (k - length g.nodes) = omega arith in
+            let q : length g.nodes + (k - length g.nodes) ≡ k = omega arith in
+            let i : k - length g.nodes < length g'.nodes - length g.nodes = omega arith in
+            ap (λ b. if b then Init k else get_or (names ++ bs) (k - start) (Init k)) e ∙ ap (λ n. get_or (names ++ bs) n (Init k)) p ∙ get_or_after names bs (k - length g.nodes) (Init k)
+            ∙ get_or-names_born t' (length g'.nodes - length g.nodes) (k - length g.nodes) (Init k) i ∙ sym (u.named.born (k - length g.nodes)) ∙ ap u.m q ∙ sym (names_after_old u.m (length g'.nodes) (suc t') k h)

@@ -1,0 +1,61 @@
+-- What a run keeps on its way.
+use Rattle.std.specs.Prelude.{◌≡◌, ℕ, zero, suc, ◌+◌, ◌-◌, ◌≤◌, true, nat_lt, if◌then◌else◌, List, [], ◌∷◌, ◌++◌, length, slice_index_or, ◌⊎◌}
+use Rattle.std.specs.Ordering.{nat_cmp}
+use Rattle.std.specs.BTreeSet.{BTreeSet, contains}
+use Rattle.ol_net.specs.declared.parts.Rule.{Rule}
+use Rattle.ol_net.specs.Graph.{Graph}
+use Rattle.ol_net.specs.Nets.{slot, Linked, IsNet}
+use Rattle.ol_net.specs.Numbered.{net_of}
+use Rattle.ol_net.specs.Pairs.{IsInActive}
+use Rattle.ol_rules.specs.declared.journal.NodeName.{NodeName}
+use Rattle.ol_rules.specs.declared.journal.NodeName.TheVariants.{Init, Born}
+use Rattle.ol_rules.specs.declared.one_thread.Running.{Running}
+use Rattle.ol_rules.specs.Steps.{StepsAt}
+
+-- the name of a number, where start nodes were there at the start and these are the names of those born since
+abbrev pub name_in : ℕ → List NodeName → ℕ → NodeName
+name_in start names k = if nat_lt k start then Init k else slice_index_or names (k - start) (Init k)
+
+-- the names of so many nodes that this ticket made
+abbrev pub names_born : ℕ → ℕ → List NodeName
+names_born ticket zero = []
+names_born ticket (suc n) = names_born ticket n ++ Born ticket n ∷ []
+
+-- each node of an active pair waits
+abbrev pub AllWait : Graph → BTreeSet ℕ → Type 0
+AllWait g waiting = (x : ℕ) (r : Rule) → IsInActive (net_of g) x r → contains nat_cmp waiting x ≡ true
+
+-- each but this one
+abbrev pub OthersWait : Graph → ℕ → BTreeSet ℕ → Type 0
+OthersWait g at waiting = (x : ℕ) (r : Rule) → IsInActive (net_of g) x r → (x ≡ at → ⊥) → contains nat_cmp waiting x ≡ true
+
+-- what waits in old waits in new
+abbrev pub StillWait : BTreeSet ℕ → BTreeSet ℕ → Type 0
+StillWait old new = (x : ℕ) → contains nat_cmp old x ≡ true → contains nat_cmp new x ≡ true
+
+-- of all nodes of active pairs `at` has the least number, and it faces its partner
+pub record IsLeast (g : Graph) (at partner : ℕ) : Type 0 where
+  pub rule : Rule
+  pub active : IsInActive (net_of g) at rule
+  pub linked : Linked (net_of g) (slot at 0) (slot partner 0)
+  pub least : (x : ℕ) (r : Rule) → IsInActive (net_of g) x r → at ≤ x
+
+-- at is in an active pair, and faces its partner
+pub record HasPartner (g : Graph) (at partner : ℕ) : Type 0 where
+  pub rule : Rule
+  pub active : IsInActive (net_of g) at rule
+  pub linked : Linked (net_of g) (slot at 0) (slot partner 0)
+
+-- the net is as it was, or one step on
+abbrev pub AtMostOneStep : Graph → Graph → ℕ → Type 0
+AtMostOneStep old new at = (new ≡ old) ⊎ ((r : Rule) × StepsAt old new at r)
+
+-- Two runs, where the second is the first after the step of `at` and its partner.
+pub record Advances (old new : Running) (g g' : Graph) (at partner : ℕ) : Type 0 where
+  pub rule : Rule
+  pub step : StepsAt g g' at rule
+  pub start : new.start ≡ old.start
+  pub journal : new.journal ≡ old.journal ++ record { rule = rule; first = name_in old.start old.names.items at; second = name_in old.start old.names.items partner } ∷ []
+  pub names : new.names.items ≡ old.names.items ++ names_born (length old.journal) (length g'.nodes - length g.nodes)
+  pub waits : AllWait g' new.waiting
+  pub is_net : IsNet (net_of g')
