@@ -3,3 +3,5 @@ pub mod Renaming
 pub mod FreshPairs
 pub mod LeadRuns
 pub mod UnderWay
+pub mod Same
+pub mod Counted
