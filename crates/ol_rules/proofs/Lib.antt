@@ -20,3 +20,5 @@ pub mod LeadRuns
 pub mod UnderWay
 pub mod Waiting
 pub mod OneThread
+pub mod Same
+pub mod Counted

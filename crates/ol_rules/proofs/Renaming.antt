@@ -9,12 +9,12 @@ use Rattle.ol_net.specs.Nets.{NamedPort, free, slot, NamedNet, HasNode, Linked, 
 use Rattle.ol_net.specs.Pairs.{IsActive}
 use Rattle.ol_rules.specs.Rewriting.{Action, action_of, JoinOf, meet, at_f, at_g, between, NodeOf, left, of_f, of_g, Rewrites, IsStep}
 
-in_map : {X Y : Type 0} (m : X → Y) (x : X) (xs : List X) → IsIn x xs → IsIn (m x) (map m xs)
+pub in_map : {X Y : Type 0} (m : X → Y) (x : X) (xs : List X) → IsIn x xs → IsIn (m x) (map m xs)
 in_map m x [] h = absurd h
 in_map m x (z ∷ xs) (inl e) = inl (ap m e)
 in_map m x (z ∷ xs) (inr h) = inr (in_map m x xs h)
 
-in_map_of : {X Y : Type 0} (m : X → Y) (y : Y) (xs : List X) → IsIn y (map m xs) → (x : X) × IsIn x xs × (y ≡ m x)
+pub in_map_of : {X Y : Type 0} (m : X → Y) (y : Y) (xs : List X) → IsIn y (map m xs) → (x : X) × IsIn x xs × (y ≡ m x)
 in_map_of m y [] h = absurd h
 in_map_of m y (z ∷ xs) (inl e) = (z, inl refl, e)
 in_map_of m y (z ∷ xs) (inr h) = let t = in_map_of m y xs h in (t.0, inr t.1, t.2)

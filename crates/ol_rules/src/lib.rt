@@ -4,18 +4,15 @@
 mod counting;
 mod journal;
 mod laws;
+mod one_thread;
+#[cfg(test)]
+mod run_tests;
 #[cfg(test)]
 mod step_tests;
 mod steps;
 
-pub use journal::{Entry, Journal, NodeName};
-pub use laws::{a_step_is_a_net, a_step_is_one};
-mod one_thread;
-#[cfg(test)]
-mod run_tests;
-mod steps;
-
 pub use counting::counts;
 pub use journal::{Counts, Entry, Journal, NodeName};
+pub use laws::{a_step_is_a_net, a_step_is_one};
 pub use one_thread::{Ended, Ran, run};
 pub use steps::{StepFault, step};
