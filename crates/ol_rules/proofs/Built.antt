@@ -6,7 +6,7 @@ use Rattle.ol_edges.specs.Edges.{IsIn, Near, ends, bit, IsTest, Joined, here, on
 use Rattle.ol_net.specs.Nets.{NamedPort, free, slot, NamedNet, HasNode, Linked, IsPort, IsNet, Faces, IsPrincipalOf}
 use Rattle.ol_net.specs.Parts.{arity}
 use Rattle.ol_net.specs.declared.parts.Kind.{Kind}
-use Rattle.ol_rules.proofs.Counts.{in_map, in_map_of, in_filter, in_filter_of, ends_append, ends_filter, ends_filter_le, ends_near, ends_map}
+use Rattle.ol_rules.proofs.EndCounts.{in_map, in_map_of, in_filter, in_filter_of, ends_append, ends_filter, ends_filter_le, ends_near, ends_map}
 use Rattle.ol_rules.proofs.Joins.{HasJoins}
 use Rattle.ol_rules.proofs.Lists.{in_left, in_right, in_cases, in_each, in_each_of}
 use Rattle.ol_rules.proofs.Ports.{Lasts, named, LinkAfter, links_of, Real, name_one, lasts_real, lasts, first_edge}

@@ -5,7 +5,7 @@ use Rattle.ol_edges.specs.Edges.{IsIn, ends, bit, IsTest}
 use Rattle.ol_net.specs.Nets.{slot, NamedNet}
 use Rattle.ol_net.specs.Parts.{arity}
 use Rattle.ol_net.specs.declared.parts.Kind.{Kind}
-use Rattle.ol_rules.proofs.Counts.{tally_none, tally_one, ends_append, ends_each}
+use Rattle.ol_rules.proofs.EndCounts.{tally_none, tally_one, ends_append, ends_each}
 use Rattle.ol_rules.proofs.Lists.{in_left, in_right, in_cases, in_each, in_each_of}
 use Rattle.ol_rules.proofs.Tests.{vertex_test}
 use Rattle.ol_rules.proofs.Vertices.{Vertex, old, f_copy, g_copy, vertex_same, meeting_joins, crossing_joins}

@@ -4,7 +4,7 @@ pub mod Stepping
 pub mod Born
 pub mod Vertices
 pub mod Tests
-pub mod Counts
+pub mod EndCounts
 pub mod Wires
 pub mod Ports
 pub mod Alike

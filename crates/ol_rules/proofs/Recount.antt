@@ -3,7 +3,7 @@ use Rattle.std.proofs.Common.{◌≡◌, ◌≢◌, ℕ, ◌<◌, ◌≤◌, Lis
 use Rattle.ol_edges.proofs.Contraction.{is_or_is_not, is_other, ends_in}
 use Rattle.ol_edges.specs.Edges.{Near, ends, bit, IsTest, here, back}
 use Rattle.ol_net.specs.Nets.{NamedPort, free, slot, NamedNet, IsPort, IsNet, SameNet}
-use Rattle.ol_rules.proofs.Counts.{ends_near}
+use Rattle.ol_rules.proofs.EndCounts.{ends_near}
 use Rattle.ol_rules.proofs.Tests.{port_test}
 use Rattle.ol_rules.proofs.Vertices.{port_same, IsCounted}
 
