@@ -1,0 +1,3 @@
+pub mod Translation
+pub mod Sizes
+pub mod Growth
