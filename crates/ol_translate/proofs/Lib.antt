@@ -1,1 +1,5 @@
 pub mod Walks
+pub mod Counts
+pub mod Joints
+pub mod Ports
+pub mod Indexes
