@@ -3,3 +3,4 @@ pub mod Counts
 pub mod Joints
 pub mod Ports
 pub mod Indexes
+pub mod Sizing

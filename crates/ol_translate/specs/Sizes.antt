@@ -1,5 +1,5 @@
 -- The number of nodes of a translated term, and which names occur in a term.
-use Rattle.std.specs.Prelude.{ℕ, ◌+◌, ◌-◌, Bool, false, ◌||◌, not, ◌==◌, nat_lt, List, [], ◌∷◌, ◌++◌, length, map, filter, count_by, if◌then◌else◌}
+use Rattle.std.specs.Prelude.{ℕ, ◌+◌, ◌-◌, Bool, false, ◌||◌, not, ◌==◌, nat_lt, List, [], ◌∷◌, ◌++◌, length, map, filter, if◌then◌else◌}
 use Rattle.std.specs.List.{list_any}
 use Rattle.ol_parse.specs.Trees.{Tree, var, free, lam, app}
 
@@ -20,7 +20,9 @@ size_under d (var v) = 1
 size_under d (free f) = 1
 size_under d (lam M) = 1 + size_under (d + 1) M + (if is_among 0 (variables (d + 1) M) then 0 else 1)
 size_under d (app M N) =
-    1 + size_under d M + size_under d N + length (variables d N) + count_by (λ v. is_among v (variables d M)) (variables d N)
+    let fM = variables d M in
+    let fN = variables d N in
+    1 + size_under d M + size_under d N + length fN + length (filter (λ v. is_among v fM) fN)
 
 -- the number of nodes of a whole term
 abbrev pub size_of_translation : Tree → ℕ
