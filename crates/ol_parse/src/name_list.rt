@@ -3,7 +3,7 @@
 ghost use Rattle.std.specs.Prelude.{◌≡◌, ◌≢◌, ℕ, ◌+◌, ◌^◌, ◌<◌, ◌≤◌, ◌↔◌, List, [], ◌∷◌, ◌++◌, Some, None, IfOk, OnOk, OnErr, IsNone, Contains, length, map, slice_get};
 ghost use Rattle.std.specs.Option.{option_map};
 
-use std::alloc::Global;
+use std::alloc::{AllocError, Global};
 use std::marker::Model;
 
 /// A list of names, each a list of bytes, numbered from 0.
@@ -30,6 +30,17 @@ impl Names {
             alloc,
             rows: Vec::new(alloc),
         }
+    }
+
+    /// One more name, last.
+    pub fn add(&mut self, name: &[u8]) -> Result<u32, AllocError>
+        requires { length self.old < 4294967295 }
+        ensures { OnOk result (self.new ≡ self.old ++ name.now ∷ []) }
+    {
+        let number = self.rows.len() as u32;
+        let row = name.to_vec(self.alloc)?;
+        self.rows.push(row)?;
+        Ok(number)
     }
 
     /// How many names there are.

@@ -8,7 +8,7 @@ use Rattle.ol_net.specs.declared.parts.Kind.TheVariants as kind
 use Rattle.ol_net.specs.declared.parts.Port.{Port}
 use Rattle.ol_net.specs.declared.parts.Port.TheVariants.{Free}
 use Rattle.ol_translate.specs.Translation.{Part, Wires, part_of, occurrence, abstraction, application, outside, erasers, bound_port, bracket_nodes, bracket_links, bracketed, fans, fan_nodes, fan_links, merged, wire_of, rewired, slot, name_links, nodes_of, links_of}
-use Rattle.ol_translate.specs.Sizes.{has_name}
+use Rattle.ol_translate.specs.Names.{has_name}
 use Rattle.ol_translate.proofs.Counts.{hit, uses, held, free_ends, node_slots, slots, times}
 
 uses-append : (p : Port) (xs ys : List (Port × Port)) → uses p (xs ++ ys) ≡ uses p xs + uses p ys

@@ -4,3 +4,8 @@ pub mod Joints
 pub mod Ports
 pub mod Indexes
 pub mod Sizing
+pub mod Bound
+pub mod Answering
+pub mod NewBuild
+pub mod Fitting
+pub mod Rows

@@ -10,7 +10,7 @@ use Rattle.ol_net.specs.Parts.{slots_of}
 use Rattle.ol_net.specs.Graph.{kind_at, has_slot, has_port}
 use Rattle.ol_net.specs.Build.{all_live}
 use Rattle.ol_translate.specs.Translation.{slot, part_of, nodes_of, links_of}
-use Rattle.ol_translate.specs.Sizes.{has_name}
+use Rattle.ol_translate.specs.Names.{has_name, HasNames}
 use Rattle.ol_translate.proofs.Counts.{port_eq, hit, uses, free_ends, node_slots, slots, times}
 use Rattle.ol_translate.proofs.Joints.{few_wires, none_past, name_has_wire, whole_balance}
 
@@ -105,12 +105,6 @@ name_free_ends f (w ∷ wires) =
     rw same (ap (λ n. (if nat_eq w.0 f then 1 else 0) + n) (name_free_ends f wires))
 
 -- ---- the whole term
-
--- a term of a file with so many names: its variables are bound, and its names are just these
-pub record HasNames (t : Tree) (names : ℕ) : Type 0 where
-  pub bound : is_below 0 t ≡ true
-  pub named : is_named_below names t ≡ true
-  pub each : (f : ℕ) → f < names → has_name f t ≡ true
 
 name_wires : (t : Tree) (names f : ℕ) → HasNames t names → times f (part_of t 0 0 0).wires ≡ bit (nat_lt f names)
 name_wires t names f h =

@@ -1,4 +1,4 @@
--- The number of nodes of a translated term, and which names occur in a term.
+-- The number of nodes of a translated term.
 use Rattle.std.specs.Prelude.{ℕ, ◌+◌, ◌-◌, Bool, false, ◌||◌, not, ◌==◌, nat_lt, List, [], ◌∷◌, ◌++◌, length, map, filter, if◌then◌else◌}
 use Rattle.std.specs.List.{list_any}
 use Rattle.ol_parse.specs.Trees.{Tree, var, free, lam, app}
@@ -27,10 +27,3 @@ size_under d (app M N) =
 -- the number of nodes of a whole term
 abbrev pub size_of_translation : Tree → ℕ
 size_of_translation t = size_under 0 t
-
--- whether free name f occurs in a term
-abbrev pub has_name : ℕ → Tree → Bool
-has_name f (var v) = false
-has_name f (free g) = g == f
-has_name f (lam M) = has_name f M
-has_name f (app M N) = has_name f M || has_name f N

@@ -1,9 +1,10 @@
 //! The walk over a term that lays down its nodes and links.
 
-ghost use Rattle.std.specs.Prelude.{◌≡◌, ◌≤◌, ◌<◌, ◌+◌, ◌++◌, [], ◌∷◌, length, IfOk, OnOk, IfErr};
+ghost use Rattle.std.specs.Prelude.{◌≡◌, ℕ, ◌^◌, All, ◌≤◌, ◌<◌, ◌+◌, ◌++◌, [], ◌∷◌, length, IfOk, OnOk, IfErr};
 ghost use Rattle.ol_parse.specs.Trees.{tree_of};
-ghost use Rattle.ol_translate.specs.Translation.{occurrence, part_of, wire_of, outside, slot, erasers, bound_port, bracket_nodes, bracket_links, bracketed, fans, fan_nodes, fan_links, merged};
+ghost use Rattle.ol_translate.specs.Translation.{nodes_of, links_of, name_links, occurrence, part_of, wire_of, outside, slot, erasers, bound_port, bracket_nodes, bracket_links, bracketed, fans, fan_nodes, fan_links, merged};
 ghost use Rattle.ol_translate.specs.Growth.{Lays, Adds};
+ghost use Rattle.ol_translate.specs.Names.{HasNames};
 ghost use Rattle.ol_translate.specs.declared.TheConstants.{MOST_NODES};
 ghost use Rattle.ol_translate.specs.declared.faults.TransFault.TheVariants.{TooMany};
 
@@ -12,8 +13,41 @@ use crate::parts::Parts;
 use crate::wires::{Ends, Wire, find_wire, place_of, slot_of};
 use ol_net::{Kind, Port};
 use ol_parse::Term;
+use std::alloc::Global;
 
 impl Parts {
+    /// A whole term, at level 0. Its root is joined to free port 0, and the wire of each name to the
+    /// name's free port.
+    pub fn whole(alloc: Global, term: &Term) -> Result<Parts, TransFault>
+        requires { (names : ℕ) × HasNames (tree_of term.now) names }
+        ensures nodes { IfOk result (λ parts. parts.nodes.items ≡ nodes_of (tree_of term.now)) }
+        ensures links { IfOk result (λ parts. parts.links.items ≡ links_of (tree_of term.now)) }
+        ensures too_many { IfErr result (λ e. e ≡ TooMany → MOST_NODES < length (nodes_of (tree_of term.now))) }
+    {
+        let mut parts = Parts {
+            alloc,
+            nodes: Vec::new(alloc),
+            links: Vec::new(alloc),
+        };
+        let ends = parts.part(term, 0, 0)?;
+        parts.join(Port::Free(0), ends.root)?;
+        parts.join_names(&ends.wires)?;
+        Ok(parts)
+    }
+
+    /// The wire of each name is joined to the name's free port.
+    fn join_names(&mut self, wires: &Vec<Wire>) -> Result<(), TransFault>
+        requires few { All (λ w. w.0 < 2 ^ 31) wires.now.items }
+        ensures links { OnOk result (self.new.links.items ≡ self.old.links.items ++ name_links wires.now.items) }
+        ensures nodes { self.new.nodes.items ≡ self.old.nodes.items }
+        ensures refusal { IfErr result (λ e. e ≡ TooMany → ⊥) }
+    {
+        for wire in wires {
+            self.join(Port::Free((wire.0 + 1) as u32), wire.1)?;
+        }
+        Ok(())
+    }
+
     /// A term under so many abstractions and at a level.
     pub fn part(&mut self, term: &Term, depth: usize, level: u32) -> Result<Ends, TransFault>
         requires few_abstractions { depth ≤ length self.old.nodes.items }
