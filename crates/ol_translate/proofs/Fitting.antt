@@ -13,7 +13,7 @@ use Rattle.ol_net.specs.Nets.{NamedNet, SameNet}
 use Rattle.ol_net.specs.Numbered.{net_of_parts}
 use Rattle.ol_translate.specs.Translation.{nodes_of, links_of, translation_of}
 use Rattle.ol_translate.specs.Names.{HasNames}
-use Rattle.ol_translate.proofs.NewBuild.{HasEnd, FaultIs}
+use Rattle.ol_net.specs.Build.{HasEnd, FaultIs}
 use Rattle.ol_translate.proofs.Counts.{port_eq, hit, uses}
 use Rattle.ol_translate.proofs.Ports.{bit, each_port_once}
 use Rattle.ol_translate.proofs.Indexes.{good_indexes}

@@ -6,6 +6,5 @@ pub mod Indexes
 pub mod Sizing
 pub mod Bound
 pub mod Answering
-pub mod NewBuild
 pub mod Fitting
 pub mod Rows

@@ -1,10 +1,12 @@
-use Rattle.std.proofs.Common.{◌≡◌, ◌<◌, ◌≤◌, ◌+◌, length, Ok, Err, refl, ap, sym, ◌∙◌, arith}
+use Rattle.std.proofs.Common.{◌≡◌, ◌<◌, ◌≤◌, ◌+◌, length, length-map, Some, Ok, Err, refl, ap, sym, ◌∙◌, arith}
 use Rattle.std.proofs.lemmas.Result.{err_from_is_err_and}
 use Rattle.ol_parse.specs.Trees.{tree_of}
+use Rattle.ol_net.specs.Numbered.{net_of}
 use Rattle.ol_translate.specs.Translation.{nodes_of, links_of}
 use Rattle.ol_translate.specs.Sizes.{size_of_translation}
 use Rattle.ol_translate.proofs.Bound.{few_names, few_links, few_enough}
 use Rattle.ol_translate.proofs.Sizing.{size_of_nodes}
+use Rattle.ol_translate.proofs.Fitting.{never_refused, same_translation}
 use Rattle.ol_translate.proofs.Answering.{refused_where, given_where}
 use Rattle.ol_translate.proofs.translate.Goals as goal
 
@@ -33,13 +35,20 @@ build-requires-clause-few_links c =
       c.in_ok-parts.parts.few, c.in_ok-parts.parts.links.ok.0)
 
 pub unreachable-requires : goal.unreachable-requires
-unreachable-requires c = ?
+unreachable-requires c =
+    never_refused (tree_of c.args.file.now.term) (length c.args.file.now.names) (c.len.result + 1) c.in_ok-parts.parts.nodes.items c.in_ok-parts.parts.links.items
+    c.in-Err.fault c.requires.names (omega (arith, c.len.ensures)) c.in_ok-parts.ensures.nodes c.in_ok-parts.ensures.links c.in_ok-parts.parts.few
+    c.in-Err.ensures c.in_default.not-NoMemory
 
 pub returns-in-Ok-clause-net : goal.returns-in-Ok-clause-net
-returns-in-Ok-clause-net c = ?
+returns-in-Ok-clause-net c =
+    same_translation (tree_of c.args.file.now.term) (length c.args.file.now.names) (c.len.result + 1) c.in_ok-parts.parts.nodes.items c.in_ok-parts.parts.links.items
+    (net_of c.in-Ok.net) (omega (arith, c.len.ensures)) c.in_ok-parts.ensures.nodes c.in_ok-parts.ensures.links c.in-Ok.ensures.same_net
 
 pub returns-in-Ok-clause-size : goal.returns-in-Ok-clause-size
-returns-in-Ok-clause-size c = ?
+returns-in-Ok-clause-size c =
+    ap length c.in-Ok.ensures.same_nodes ∙ length-map (λ k. Some k) c.in_ok-parts.parts.nodes.items ∙ ap length c.in_ok-parts.ensures.nodes
+    ∙ size_of_nodes (tree_of c.args.file.now.term)
 
 pub returns-in-Ok-clause-too_many : goal.returns-in-Ok-clause-too_many
 returns-in-Ok-clause-too_many c =
