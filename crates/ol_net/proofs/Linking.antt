@@ -1,13 +1,13 @@
 -- Links joined one after another
-use Rattle.std.proofs.Common.{◌≡◌, ◌≢◌, ℕ, ◌+◌, ◌*◌, ◌<◌, ◌==◌, Bool, true, false, cond, ◌&&◌, not, if◌then◌else◌, List, [], ◌∷◌, ◌++◌, length, get_or, set, take, refl, sym, ap, ◌∙◌, inl, inr, arith, rules, subst, Option, Some, zero, suc, count_by, is_some}
-use Rattle.std.proofs.lemmas.Bool.{cases_eq, cases_Bool, false≢true}
+use Rattle.std.proofs.Common.{◌≡◌, ◌≢◌, ℕ, ◌+◌, ◌<◌, true, false, cond, List, [], ◌∷◌, ◌++◌, length, get_or, take, refl, sym, ap, ◌∙◌, inl, inr, arith, Option, Some, zero, suc, count_by, is_some}
+use Rattle.std.proofs.lemmas.Bool.{cases_Bool, false≢true}
 use Rattle.std.proofs.lemmas.Bool.Decides.{nat_tests}
-use Rattle.std.proofs.lemmas.Grind.{common_steps}
 use Rattle.ol_net.specs.declared.parts.Kind.{Kind}
 use Rattle.ol_net.specs.declared.parts.Port.{Port}
-use Rattle.ol_net.specs.Graph.{Graph, IsTabled, has_port, place, port_at}
-use Rattle.ol_net.specs.Pairing.{IsPaired, other, across, partner_among, linked, can_link}
-use Rattle.ol_net.specs.Build.{places, link_at, is_apart, LinkedUp, NoneOf, BadPortAt, BadIndexAt, TwiceAt, LooseAt, AloneAt, FirstOf, Builds, AreTables, all_live}
+use Rattle.ol_net.specs.Graph.{IsTabled, has_port, place, port_at}
+use Rattle.ol_net.specs.Pairing.{other, partner_among, linked, can_link}
+use Rattle.ol_net.specs.Build.{link_at, NoneOf, BadPortAt, all_live}
+use Rattle.ol_net.specs.Tabling.{places, is_apart, LinkedUp, MeetsAt, AloneAt, AreTables}
 use Rattle.std.proofs.lemmas.List.Sums.{sum_by-cons}
 use Rattle.ol_net.proofs.Places.{place-within, port_at-place, port_at-within}
 use Rattle.std.proofs.lemmas.List.{length-map, take_more}
@@ -52,7 +52,7 @@ pub record Turn (free : ℕ) (nodes : List (Option (Kind × ℕ))) (links : List
   pub within : i < length (places free links)
   pub test : can_link xs a b ≡ is_apart (take i (places free links)) (get_or (places free links) i (0, 0))
 
-good_port : (free : ℕ) (nodes : List (Option (Kind × ℕ))) (p : Port) → (has_port free nodes p ≡ false → ⊥) → has_port free nodes p ≡ true
+pub good_port : (free : ℕ) (nodes : List (Option (Kind × ℕ))) (p : Port) → (has_port free nodes p ≡ false → ⊥) → has_port free nodes p ≡ true
 good_port free nodes p h = elim (cases_Bool (has_port free nodes p)) [ inl has ↦ has | inr lacks ↦ absurd (h lacks) ]
 
 pub turn : (free : ℕ) (nodes : List (Option (Kind × ℕ))) (links : List (Port × Port)) (xs : List ℕ) (i a b : ℕ) →
@@ -76,9 +76,9 @@ turn free nodes links xs i a b lt good l ea eb =
       test = rw entry (can_link-is (take i (places free links)) xs a b (l.same a) (l.same b));
     }
 
-pub not_twice_at : (free : ℕ) (nodes : List (Option (Kind × ℕ))) (links : List (Port × Port)) (xs : List ℕ) (i a b : ℕ) →
-    Turn free nodes links xs i a b → can_link xs a b ≡ true → TwiceAt (places free links) i → ⊥
-not_twice_at free nodes links xs i a b t test h = false≢true (sym h.1 ∙ sym t.test ∙ test)
+pub not_meets_at : (free : ℕ) (nodes : List (Option (Kind × ℕ))) (links : List (Port × Port)) (xs : List ℕ) (i a b : ℕ) →
+    Turn free nodes links xs i a b → can_link xs a b ≡ true → MeetsAt (places free links) i → ⊥
+not_meets_at free nodes links xs i a b t test h = false≢true (sym h.1 ∙ sym t.test ∙ test)
 
 pub LinkedUp-step : (free : ℕ) (nodes : List (Option (Kind × ℕ))) (links : List (Port × Port)) (xs ys : List ℕ) (i a b : ℕ) →
     Turn free nodes links xs i a b → LinkedUp free nodes (take i (places free links)) xs → can_link xs a b ≡ true → ys ≡ linked xs a b →
@@ -89,10 +89,6 @@ LinkedUp-step free nodes links xs ys i a b t l test is =
 
 pub length-places : (free : ℕ) (links : List (Port × Port)) → length (places free links) ≡ length links
 length-places free links = length-map links (λ l. (place free l.0, place free l.1))
-
-pub AloneAt-from_loose : (free : ℕ) (nodes : List (Option (Kind × ℕ))) (es : List (ℕ × ℕ)) (xs : List ℕ) (k : ℕ) →
-    LinkedUp free nodes es xs → LooseAt free nodes es k → AloneAt free nodes xs k
-AloneAt-from_loose free nodes es xs k l h = (h.0, h.1, l.same k ∙ h.2)
 
 pub IsTabled-from_links : (free : ℕ) (nodes : List (Option (Kind × ℕ))) (es : List (ℕ × ℕ)) (xs : List ℕ) →
     LinkedUp free nodes es xs → NoneOf (AloneAt free nodes xs) → IsTabled free nodes xs
@@ -124,17 +120,3 @@ IsTabled-from_tables free nodes links live xs t =
       length-all_live nodes,
       IsTabled-from_links free (all_live nodes) (places free links) xs t.table.linked t.table.none_alone,
     )
-
-pub Builds-from_tables : (free : ℕ) (nodes : List (Kind × ℕ)) (links : List (Port × Port)) (live : List (Option (Kind × ℕ))) (xs : List ℕ) →
-    AreTables free nodes links live xs → Builds free nodes links (record { free = free; nodes = live; partners = xs })
-Builds-from_tables free nodes links live xs t =
-    let l = t.table.linked in
-    record {
-      good_indexes = t.good_indexes;
-      good_ports = t.good_ports;
-      once = t.table.once;
-      none_loose = λ k loose. t.table.none_alone k (AloneAt-from_loose free (all_live nodes) (places free links) xs k l loose);
-      same_free = refl;
-      same_nodes = t.same_nodes;
-      same_links = l.same;
-    }

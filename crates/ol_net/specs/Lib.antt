@@ -6,7 +6,9 @@ pub mod Nets
 pub mod Pairs
 pub mod Numbered
 pub mod Build
+pub mod Tabling
 pub mod Contract
 pub mod Joins
 pub mod Replace
+pub mod Indexes
 pub mod Retabled

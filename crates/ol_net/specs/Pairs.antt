@@ -1,5 +1,5 @@
 -- Facing pairs, active where they have a rule and stuck where they have none.
-use Rattle.std.specs.Prelude.{◌≡◌, ◌≢◌, ℕ, List, [], ◌∷◌, length, None, Some, ◌⊎◌, ◌↔◌}
+use Rattle.std.specs.Prelude.{◌≡◌, ℕ, List, [], ◌∷◌, length, None, Some, ◌⊎◌, ◌↔◌}
 use Rattle.ol_edges.specs.Edges.{IsIn}
 use Rattle.ol_net.specs.declared.parts.Kind.{Kind}
 use Rattle.ol_net.specs.declared.parts.Rule.{Rule}
@@ -24,6 +24,18 @@ pub record IsStuck {A : Type 0} (N : NamedNet A) (f g : A) : Type 0 where
   pub faces : Faces N f g k i l j
   pub first : rule_of k i l j ≡ None
   pub second : rule_of l j k i ≡ None
+
+-- x is one of the two nodes of an active pair with rule r
+abbrev pub IsInActive : {A : Type 0} → NamedNet A → A → Rule → Type 0
+IsInActive {A} N x r = (y : A) × (IsActive N x y r ⊎ IsActive N y x r)
+
+-- x is one of the two nodes of a stuck pair
+abbrev pub IsInStuck : {A : Type 0} → NamedNet A → A → Type 0
+IsInStuck {A} N x = (y : A) × IsStuck N x y
+
+-- there is no node x, or its principal port is not joined to the principal port of a node
+abbrev pub FacesNone : {A : Type 0} → NamedNet A → A → Type 0
+FacesNone {A} N x = (y : A) (k : Kind) (i : ℕ) (l : Kind) (j : ℕ) → Faces N x y k i l j → ⊥
 
 -- the pair stands in the list, either way round
 abbrev pub HasPair : {A : Type 0} → List (A × A) → A → A → Type 0

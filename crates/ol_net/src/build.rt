@@ -3,7 +3,8 @@
 ghost use Rattle.std.specs.Prelude.{◌≡◌, ◌≢◌, ℕ, ◌+◌, ◌-◌, ◌*◌, ◌/◌, ◌%◌, ◌^◌, ◌<◌, ◌≤◌, length, true, false, List, slice_index, slice_set, vec_len, MatchOption, MatchResult, IfOk, IsTrue, ◌↔◌, ◌==◌, ◌&&◌, if◌then◌else◌, not};
 ghost use Rattle.ol_net.specs.Graph.{has_port, place, IsTabled};
 ghost use Rattle.ol_net.specs.Pairing.{IsPaired, other, linked, can_link};
-ghost use Rattle.ol_net.specs.Build.{FirstOf, NoneOf, is_bad_index, BadIndexAt, BadPortAt, TwiceAt, LooseAt, AloneAt, places, LinkedUp, all_live, FaultIs, LinkFaultIs, IsTable, AreTables};
+ghost use Rattle.ol_net.specs.Build.{FirstOf, NoneOf, is_bad_index, BadIndexAt, BadPortAt, TwiceAt, all_live, FaultIs};
+ghost use Rattle.ol_net.specs.Tabling.{MeetsAt, AloneAt, places, LinkedUp, LinkFaultIs, IsTable, AreTables};
 
 use crate::graph::{is_port, place_of, port_of};
 use crate::parts::{BuildFault, Kind, Port};
@@ -79,7 +80,7 @@ pub fn link_all(
     requires size { length partners.old.items ≡ free + 3 * length nodes.now }
     requires alone { (k : ℕ) → other partners.old.items k ≡ k }
     requires ports { NoneOf (BadPortAt free nodes.now links.now) }
-    ensures twice { MatchOption result (NoneOf (TwiceAt (places free links.now))) (λ j. FirstOf (TwiceAt (places free links.now)) j) }
+    ensures meets { MatchOption result (NoneOf (MeetsAt (places free links.now))) (λ j. FirstOf (MeetsAt (places free links.now)) j) }
     ensures ok { MatchOption result (LinkedUp free nodes.now (places free links.now) partners.new.items) (λ _. Unit {0}) }
 {
     for (i, link) in links.iter().enumerate() {

@@ -1,17 +1,27 @@
 //! The net.
 
-ghost use Rattle.std.specs.Prelude.{◌≡◌, ℕ, ◌+◌, ◌-◌, ◌*◌, ◌/◌, ◌%◌, ◌^◌, ◌<◌, ◌≤◌, length, is_some, count_by, MatchResult, vec_len, OnOk, OnErr, IfSome, Some, ◌≢◌, true};
+ghost use Rattle.std.specs.Prelude.{◌≡◌, ℕ, ◌+◌, ◌-◌, ◌*◌, ◌/◌, ◌%◌, ◌^◌, ◌<◌, ◌≤◌, length, is_some, count_by, MatchResult, vec_len, OnOk, OnErr, IfSome, Some, ◌≢◌, true, slice_get, ◌↔◌, IfNone, IsTrue};
+ghost use Rattle.ol_net.specs.Nets.{HasNode, Linked, IsPort, IsNet};
+ghost use Rattle.ol_net.specs.Numbered.{net_of, numbered_port};
+ghost use Rattle.ol_net.specs.Pairs.{IsStuck, IsInActive, IsInStuck, FacesNone, HasStuck};
+ghost use Rattle.ol_net.specs.Indexes.{HasIndexes};
+ghost use Rattle.ol_net.specs.declared.parts.Rule.{Rule};
+ghost use Rattle.ol_net.specs.declared.parts.Facing.TheVariants.{Active, Stuck};
+ghost use Rattle.ol_net.specs.declared.parts.Facing.TheVariants as facing;
 ghost use Rattle.ol_net.specs.Joins.{uses_up, open_ends};
-ghost use Rattle.ol_net.specs.Replace.{AreFacing};
+ghost use Rattle.ol_net.specs.Replace.{AreFacing, MayBeBorn, top_index_of};
+ghost use Rattle.ol_net.specs.declared.parts.Kind.{Kind};
 ghost use Rattle.ol_net.specs.Retabled.{Retables};
 ghost use Rattle.ol_net.specs.Pairing.{other};
 ghost use Rattle.ol_net.specs.Build.{Builds, FaultIs};
 ghost use Rattle.ol_net.specs.Graph.{kind_at, partner_of, partner_in, IsTabled, facing_at, place, port_at, has_port, has_slot};
 
 use crate::build::tables;
-use crate::parts::{BuildFault, Facing, JoinEnd, Kind, NodeId, Port, facing_of};
+use crate::facing::{facing_in, stuck_in};
+use crate::parts::{BuildFault, Facing, JoinEnd, Kind, NodeId, Port};
 use crate::rewire::replace_in;
-use std::alloc::{AllocError, Global};
+use ol_io::NoMemory;
+use std::alloc::Global;
 use std::marker::Model;
 
 #[derive(Drop)]
@@ -25,12 +35,13 @@ pub struct Net {
 impl Model for Net {
     ghost use Rattle.std.specs.Prelude.{◌≡◌, ℕ, ◌+◌, ◌*◌, ◌^◌, ◌<◌, ◌≤◌, length, is_some, count_by};
     ghost use Rattle.ol_net.specs.Graph.{Graph, IsTabled};
+    ghost use Rattle.ol_net.specs.Indexes.{HasIndexes};
 
     ghost Value = { Graph };
 
     ghost view = { λ n. record { free = n.free; nodes = n.nodes.items; partners = n.partners.items } };
 
-    ghost invariant = { λ n. (n.live ≡ count_by is_some n.nodes.items) × (length n.nodes.items < 2 ^ 31) × IsTabled n.free n.nodes.items n.partners.items };
+    ghost invariant = { λ n. (n.live ≡ count_by is_some n.nodes.items) × (length n.nodes.items < 2 ^ 31) × IsTabled n.free n.nodes.items n.partners.items × HasIndexes n.nodes.items };
 }
 
 impl Net {
@@ -56,56 +67,90 @@ impl Net {
         }
     }
 
-    /// The number of free ports.
+    /// The number of free ports, which are `Free(0)` up to that number.
     pub fn free_ports(&self) -> u32
-        ensures { result ≡ self.now.free }
+        ensures free { result ≡ self.now.free }
     {
         self.free
     }
 
     /// The number of live nodes.
     pub fn nodes(&self) -> u32
-        ensures { result ≡ count_by is_some self.now.nodes }
+        ensures live { result ≡ count_by is_some self.now.nodes }
     {
         self.live
     }
 
-    /// The number of node numbers given out so far.
+    /// The number of node numbers given out so far. The next node gets this number.
     pub fn born(&self) -> u32
-        ensures { result ≡ length self.now.nodes }
+        ensures born { result ≡ length self.now.nodes }
     {
         self.nodes.len() as u32
     }
 
-    /// Kind and index of a live node.
+    /// The greatest index of a live node, or 0 where there is none. It looks at each number given
+    /// out so far.
+    pub fn top_index(&self) -> u32
+        ensures top { result ≡ top_index_of self.now.nodes }
+        ensures bound { result ≤ 100000000 + length self.now.nodes }
+    {
+        top_index_in(&self.nodes)
+    }
+
+    /// Kind and index of a live node. `None`: no live node has the number.
     pub fn kind_of(&self, at: NodeId) -> Option<(Kind, u32)>
-        ensures { result ≡ kind_at self.now.nodes at.0 }
+        ensures table { result ≡ kind_at self.now.nodes at.0 }
+        ensures node { IfSome result (λ k. HasNode (net_of self.now) at.0 k.0 k.1) }
+        ensures none { IfNone result ((k : Kind) (i : ℕ) → HasNode (net_of self.now) at.0 k i → ⊥) }
     {
         kind_in(&self.nodes, at.0 as usize)
     }
 
-    /// The other port of a port's link.
+    /// The other port of a port's link. `None`: the net has no such port.
     pub fn partner(&self, of: Port) -> Option<Port>
-        ensures partner { result ≡ partner_of self.now of }
+        ensures table { result ≡ partner_of self.now of }
+        ensures linked { IfSome result (λ q. Linked (net_of self.now) (numbered_port of) (numbered_port q)) }
         ensures mutual { IfSome result (λ q. (partner_of self.now q ≡ Some of) × (q ≢ of)) }
+        ensures none { IfNone result (IsPort (net_of self.now) (numbered_port of) → ⊥) }
     {
         partner_in(self.free, &self.nodes, &self.partners, of)
     }
 
-    /// What the node is to the one at the other end of the link of its principal port.
+    /// What the node is to the one that it faces: the node whose principal port is the partner of
+    /// its own. `Active`: the two have a rule, whichever of them acts. `Stuck`: they have none.
+    /// `None`: no live node has the number, or its principal port has another partner.
     pub fn facing(&self, at: NodeId) -> Facing
-        ensures { result ≡ facing_at self.now at }
+        ensures table { result ≡ facing_at self.now at }
+        ensures active { (r : Rule) → (result ≡ Active r) ↔ IsInActive (net_of self.now) at.0 r }
+        ensures stuck { (result ≡ Stuck) ↔ IsInStuck (net_of self.now) at.0 }
+        ensures none { (result ≡ facing.None) ↔ FacesNone (net_of self.now) at.0 }
     {
-        let Some(here) = self.kind_of(at) else {
-            return Facing::None;
-        };
-        let Some(Port::Of { node, slot: 0 }) = self.partner(Port::Of { node: at, slot: 0 }) else {
-            return Facing::None;
-        };
-        match self.kind_of(node) {
-            Some(there) => facing_of(here, there),
-            None => Facing::None,
-        }
+        facing_in(self.free, &self.nodes, &self.partners, at)
+    }
+
+    /// The number of stuck pairs: two nodes that face each other and have no rule. It looks at each
+    /// number given out so far.
+    pub fn stuck(&self) -> u32
+        ensures stuck { HasStuck (net_of self.now) result }
+    {
+        stuck_in(self.free, &self.nodes, &self.partners)
+    }
+
+    /// Law: what the tables stand for is a net. Each number has one node, and each port stands in
+    /// one link, with another port.
+    pub fn is_net(&self)
+        ensures net { IsNet (net_of self.now) }
+    {
+        let _ = &self.partners;
+    }
+
+    /// Law: what the tables of a net keep.
+    pub fn is_tabled(&self)
+        ensures tables { IsTabled self.now.free self.now.nodes self.now.partners }
+        ensures few { length self.now.nodes < 2 ^ 31 }
+        ensures indexes { HasIndexes self.now.nodes }
+    {
+        let _ = &self.partners;
     }
 
     /// Takes out two nodes that face each other, puts others in, and joins the ends that are open.
@@ -115,15 +160,16 @@ impl Net {
         second: NodeId,
         born: &[(Kind, u32)],
         joins: &[(JoinEnd, JoinEnd)],
-    ) -> Result<(), AllocError>
+    ) -> Result<(), NoMemory>
         requires facing { AreFacing self.old first second }
         requires few_born { length born.now ≤ 4 }
+        requires indexes { (p : ℕ) (k : Kind × ℕ) → slice_get born.now p ≡ Some k → MayBeBorn (top_index_of self.old.nodes) k }
         requires fit { uses_up joins.now (open_ends (kind_at self.old.nodes first.0) (kind_at self.old.nodes second.0) born.now) ≡ true }
         requires few { length self.old.nodes ≤ 2000000000 }
         ensures ok { OnOk result (Retables self.old self.new first second born.now joins.now) }
         ensures err { OnErr result (self.new ≡ self.old) }
     {
-        replace_in(
+        let Ok(()) = replace_in(
             self.free,
             &mut self.nodes,
             &mut self.partners,
@@ -131,16 +177,30 @@ impl Net {
             second.0,
             born,
             joins,
-        )?;
+        ) else {
+            return Err(NoMemory);
+        };
         self.live = self.live - 2 + born.len() as u32;
         Ok(())
     }
 }
 
-fn kind_in(nodes: &[Option<(Kind, u32)>], n: usize) -> Option<(Kind, u32)>
+pub fn kind_in(nodes: &[Option<(Kind, u32)>], n: usize) -> Option<(Kind, u32)>
     ensures { result ≡ kind_at nodes.now n }
 {
     if n < nodes.len() { nodes[n] } else { None }
+}
+
+fn top_index_in(nodes: &[Option<(Kind, u32)>]) -> u32
+    ensures { result ≡ top_index_of nodes.now }
+{
+    let mut top: u32 = 0;
+    for node in nodes {
+        if let Some((_, index)) = node {
+            top = top.max(*index);
+        }
+    }
+    top
 }
 
 fn has_slot_in(kind: Option<(Kind, u32)>, slot: u8) -> bool
@@ -161,7 +221,12 @@ pub fn is_port(free: u32, nodes: &[Option<(Kind, u32)>], p: Port) -> bool
     }
 }
 
-fn partner_in(free: u32, nodes: &[Option<(Kind, u32)>], partners: &[usize], p: Port) -> Option<Port>
+pub fn partner_in(
+    free: u32,
+    nodes: &[Option<(Kind, u32)>],
+    partners: &[usize],
+    p: Port,
+) -> Option<Port>
     requires few { length nodes.now < 2 ^ 31 }
     requires net { IsTabled free nodes.now partners.now }
     ensures { result ≡ partner_in free nodes.now partners.now p }

@@ -1,6 +1,7 @@
 use Rattle.std.proofs.Common.{arith, length, sym, ap, ◌∙◌, refl}
 use Rattle.ol_net.specs.Graph.{Graph}
 use Rattle.ol_net.proofs.Replacing.{Given-from, Retables-from, kept, two-live}
+use Rattle.ol_net.proofs.Indexes.{HasIndexes-kept}
 use Rattle.ol_net.proofs.graph.Net.replace.Goals as goal
 
 pub replace_in-requires-clause-given : goal.replace_in-requires-clause-given
@@ -22,8 +23,10 @@ invariant_of-self-2 c =
     let fit = rw (← c.self.view_is) at c.requires.fit in
     let few = rw (← c.self.view_is) at c.requires.few in
     let given = Given-from (record { free = c.self.inside.free; nodes = c.self.inside.nodes.items; partners = c.self.inside.partners.items }) c.args.first c.args.second c.args.born.now c.args.joins.now c.self.invariant.2 face fit in
-    let k = kept _ c.self.inside.live _ c.replace_in.new.nodes.items _ c.replace_in.new.partners.items _ _ _ _ given c.self.invariant.0 c.in_ok-replace_in.ensures.nodes c.in_ok-replace_in.ensures.partners in
-    (k.0, omega (arith, k.1, few, c.requires.few_born), k.2)
+    let k = kept _ c.self.inside.live _ c.replace_in.new.nodes.items _ c.replace_in.new.partners.items _ _ _ _ given c.self.invariant.0 c.in-Ok.ensures.nodes c.in-Ok.ensures.partners in
+    let may = rw (← c.self.view_is) at c.requires.indexes in
+    let indexes = HasIndexes-kept _ _ _ _ _ c.self.invariant.3 may c.in-Ok.ensures.nodes k.1 in
+    (k.0, omega (arith, k.1, few, c.requires.few_born), k.2, indexes)
 
 pub returns-clause-ok : goal.returns-clause-ok
 returns-clause-ok c =
@@ -31,4 +34,4 @@ returns-clause-ok c =
     let fit = rw (← c.self.view_is) at c.requires.fit in
     let old : Graph = record { free = c.self.inside.free; nodes = c.self.inside.nodes.items; partners = c.self.inside.partners.items } in
     let given = Given-from old c.args.first c.args.second c.args.born.now c.args.joins.now c.self.invariant.2 face fit in
-    rw (← c.self.view_is) (Retables-from old _ c.args.first c.args.second c.args.born.now c.args.joins.now given refl c.in_ok-replace_in.ensures.nodes c.in_ok-replace_in.ensures.partners)
+    rw (← c.self.view_is) (Retables-from old _ c.args.first c.args.second c.args.born.now c.args.joins.now given refl c.in-Ok.ensures.nodes c.in-Ok.ensures.partners)

@@ -1,0 +1,63 @@
+//! What the nodes of a net are to those that they face.
+
+ghost use Rattle.std.specs.Prelude.{◌≡◌, ℕ, ◌+◌, ◌*◌, ◌^◌, ◌<◌, ◌≤◌, length, true, ◌↔◌};
+ghost use Rattle.ol_net.specs.Graph.{Graph, IsTabled, facing_at};
+ghost use Rattle.ol_net.specs.Numbered.{net_of};
+ghost use Rattle.ol_net.specs.Pairs.{IsStuck, HasStuck};
+
+use crate::graph::{kind_in, partner_in};
+use crate::parts::{Facing, Kind, NodeId, Port, facing_of};
+
+/// What the node is to the one whose principal port is the partner of its own.
+pub fn facing_in(free: u32, nodes: &[Option<(Kind, u32)>], partners: &[usize], at: NodeId) -> Facing
+    requires few { length nodes.now < 2 ^ 31 }
+    requires net { IsTabled free nodes.now partners.now }
+    ensures { result ≡ facing_at (record { free = free; nodes = nodes.now; partners = partners.now }) at }
+{
+    let Some(here) = kind_in(nodes, at.0 as usize) else {
+        return Facing::None;
+    };
+    let principal = Port::Of { node: at, slot: 0 };
+    let Some(Port::Of { node, slot: 0 }) = partner_in(free, nodes, partners, principal) else {
+        return Facing::None;
+    };
+    match kind_in(nodes, node.0 as usize) {
+        Some(there) => facing_of(here, there),
+        None => Facing::None,
+    }
+}
+
+/// The number of stuck pairs. Each is counted at its lesser node.
+pub fn stuck_in(free: u32, nodes: &[Option<(Kind, u32)>], partners: &[usize]) -> u32
+    requires few { length nodes.now < 2 ^ 31 }
+    requires net { IsTabled free nodes.now partners.now }
+    ensures { HasStuck (net_of (record { free = free; nodes = nodes.now; partners = partners.now })) result }
+{
+    let mut pairs = 0;
+    for n in 0..nodes.len() as u32 {
+        if is_lesser_of_stuck(free, nodes, partners, NodeId(n)) {
+            pairs += 1;
+        }
+    }
+    pairs
+}
+
+// Whether the node is in a stuck pair with one of a greater number.
+fn is_lesser_of_stuck(
+    free: u32,
+    nodes: &[Option<(Kind, u32)>],
+    partners: &[usize],
+    at: NodeId,
+) -> bool
+    requires few { length nodes.now < 2 ^ 31 }
+    requires net { IsTabled free nodes.now partners.now }
+    ensures { (result ≡ true) ↔ ((m : ℕ) × (at.0 < m) × IsStuck (net_of (record { free = free; nodes = nodes.now; partners = partners.now })) at.0 m) }
+{
+    let Facing::Stuck = facing_in(free, nodes, partners, at) else {
+        return false;
+    };
+    match partner_in(free, nodes, partners, Port::Of { node: at, slot: 0 }) {
+        Some(Port::Of { node, .. }) => at.0 < node.0,
+        _ => false,
+    }
+}
