@@ -1,5 +1,5 @@
 -- When a refusal comes.
-use Rattle.std.proofs.Common.{◌≡◌, ◌≢◌, ◌<◌, ◌≤◌, ◌↔◌, ℕ, Result, Ok, Err, refl, sym, ◌∙◌, arith}
+use Rattle.std.proofs.Common.{◌≡◌, ◌≢◌, ◌<◌, ◌≤◌, ◌↔◌, ℕ, Result, Ok, Err, refl, arith}
 use Rattle.ol_translate.specs.declared.faults.TransFault.{TransFault}
 use Rattle.ol_translate.specs.declared.faults.TransFault.TheVariants.{TooMany, NoMemory}
 

@@ -1,5 +1,5 @@
 -- How many nodes a term without free names may have.
-use Rattle.std.proofs.Common.{zero-add, subst, get_or, All, ◌^◌, ◌≡◌, ℕ, zero, suc, ◌<◌, ◌≤◌, ◌+◌, ◌-◌, ◌*◌, List, [], ◌∷◌, ◌++◌, length, true, false, Bool, nat_eq, nat_lt, Option, None, Some, refl, ap, sym, ◌∙◌, arith, length-append, eq-eqb, ne_eqb}
+use Rattle.std.proofs.Common.{zero-add, subst, get_or, All, ◌^◌, ◌≡◌, ℕ, zero, suc, ◌<◌, ◌≤◌, ◌+◌, ◌-◌, ◌*◌, List, [], ◌∷◌, ◌++◌, length, true, false, nat_eq, nat_lt, Option, None, Some, refl, ap, sym, arith, length-append, eq-eqb, ne_eqb}
 use Rattle.std.proofs.lemmas.Bool.Decides.{nat_tests}
 use Rattle.std.proofs.Math.Nat.{mul-le-mul_left}
 use Rattle.ol_parse.specs.Trees.{Tree, var, free, lam, app, is_below, is_named_below, lams, occurrences}
@@ -160,10 +160,13 @@ fans_links : (n f : ℕ) (wires more : List (ℕ × Port)) → length (fans n f 
 fans_links n f wires [] = omega arith
 fans_links n f wires (w ∷ more) =
     let rest = fans n (f + length (fan_nodes n (wire_of w.0 wires))) (merged f (wire_of w.0 wires) w wires) more in
-    omega (arith, one n f w.1 (wire_of w.0 wires),
+    omega (
+      arith,
+      one n f w.1 (wire_of w.0 wires),
       length-append (fan_nodes n (wire_of w.0 wires)) (fans n (f + length (fan_nodes n (wire_of w.0 wires))) (merged f (wire_of w.0 wires) w wires) more).nodes,
       length-append (fan_links f (wire_of w.0 wires) w.1) (fans n (f + length (fan_nodes n (wire_of w.0 wires))) (merged f (wire_of w.0 wires) w wires) more).links,
-      fans_links n (f + length (fan_nodes n (wire_of w.0 wires))) (merged f (wire_of w.0 wires) w wires) more)
+      fans_links n (f + length (fan_nodes n (wire_of w.0 wires))) (merged f (wire_of w.0 wires) w wires) more,
+    )
   where
     one : (n f : ℕ) (q : Port) (x : Option Port) → length (fan_links f x q) ≤ 2 * length (fan_nodes n x)
     one n f q None = omega arith
@@ -230,8 +233,13 @@ length-name_links (w ∷ wires) = ap suc (length-name_links wires)
 pub few_links : (t : Tree) → length (links_of t) ≤ 1 + 3 * length (nodes_of t)
 few_links t =
     let P = part_of t 0 0 0 in
-    omega (arith, (part_small t 0 0 0).wires, (part_small t 0 0 0).links, length-name_links (part_of t 0 0 0).wires,
-      length-append (part_of t 0 0 0).links ((Free 0, (part_of t 0 0 0).root) ∷ name_links (part_of t 0 0 0).wires))
+    omega (
+      arith,
+      (part_small t 0 0 0).wires,
+      (part_small t 0 0 0).links,
+      length-name_links (part_of t 0 0 0).wires,
+      length-append (part_of t 0 0 0).links ((Free 0, (part_of t 0 0 0).root) ∷ name_links (part_of t 0 0 0).wires),
+    )
 
 total-ge : (d : ℕ) (wires : List (ℕ × Port)) → ((v : ℕ) → v < d → 1 ≤ times v wires) → d ≤ total d wires
 unfolding total
@@ -254,8 +262,12 @@ total-le-length d (w ∷ wires) =
 
 pub few_names : (t : Tree) (names : ℕ) → HasNames t names → names ≤ length (nodes_of t)
 few_names t names h =
-    omega (arith, total-ge names (part_of t 0 0 0).wires (λ v low. rw zero-add at (name_has_wire v t 0 0 0 (h.each v low))),
-      total-le-length names (part_of t 0 0 0).wires, (part_small t 0 0 0).wires)
+    omega (
+      arith,
+      total-ge names (part_of t 0 0 0).wires (λ v low. rw zero-add at (name_has_wire v t 0 0 0 (h.each v low))),
+      total-le-length names (part_of t 0 0 0).wires,
+      (part_small t 0 0 0).wires,
+    )
 
 -- ---- the wires of a whole term are those of its names
 

@@ -1,5 +1,5 @@
 -- The parts of a term are those of a net: nothing is refused but for want of memory.
-use Rattle.std.proofs.Common.{◌≡◌, ◌≢◌, ℕ, zero, suc, ◌<◌, ◌≤◌, ◌+◌, List, [], ◌∷◌, length, true, false, Bool, ◌&&◌, nat_eq, Option, ◌⊎◌, inl, inr, refl, ap, sym, ◌∙◌, arith, subst, eq-eqb, if◌then◌else◌}
+use Rattle.std.proofs.Common.{◌≡◌, ◌≢◌, ℕ, zero, suc, ◌<◌, ◌≤◌, ◌+◌, List, [], ◌∷◌, length, true, false, Bool, inl, inr, refl, ap, arith, subst, eq-eqb}
 use Rattle.std.proofs.lemmas.Bool.Decides.{nat_tests}
 use Rattle.ol_parse.specs.Trees.{Tree}
 use Rattle.ol_net.specs.declared.parts.Kind.{Kind}
@@ -60,8 +60,12 @@ uses-two p (l ∷ links) (suc i) (suc j) o h = omega (arith, uses-two p links i 
 uses-none : (p : Port) (links : List (Port × Port)) → ((j : ℕ) → j < length links → HasEnd (link_at links j) p → ⊥) → uses p links ≡ 0
 uses-none p [] h = refl
 uses-none p (l ∷ links) h =
-    omega (arith, no_hit p l.0 (λ e. h 0 (omega arith) (inl e)), no_hit p l.1 (λ e. h 0 (omega arith) (inr e)),
-      uses-none p links (λ j low e. h (suc j) (omega arith) e))
+    omega (
+      arith,
+      no_hit p l.0 (λ e. h 0 (omega arith) (inl e)),
+      no_hit p l.1 (λ e. h 0 (omega arith) (inr e)),
+      uses-none p links (λ j low e. h (suc j) (omega arith) e),
+    )
 
 -- ---- a net's parts
 
@@ -82,16 +86,28 @@ used_exists free nodes links p j once h e gone =
 used_once : (free : ℕ) (nodes : List (Kind × ℕ)) (links : List (Port × Port)) (p : Port) (i j : ℕ) → EachOnce free nodes links → i < j → j < length links
     → HasEnd (link_at links i) p → HasEnd (link_at links j) p → ⊥
 used_once free nodes links p i j once o h e f =
-    absurd (omega (arith, once p, bit-le (has_port free (all_live nodes) p), uses-two p links i j o h,
-      ends_of_end p (link_at links i) e, ends_of_end p (link_at links j) f))
+    absurd (omega (
+      arith,
+      once p,
+      bit-le (has_port free (all_live nodes) p),
+      uses-two p links i j o h,
+      ends_of_end p (link_at links i) e,
+      ends_of_end p (link_at links j) f,
+    ))
 
 used_apart : (free : ℕ) (nodes : List (Kind × ℕ)) (links : List (Port × Port)) (j : ℕ) → EachOnce free nodes links → j < length links
     → (link_at links j).0 ≡ (link_at links j).1 → ⊥
 used_apart free nodes links j once h e =
     let p = (link_at links j).0 in
     let second : hit p (link_at links j).1 ≡ 1 = rw (← e) (hit_itself (link_at links j).0) in
-    absurd (omega (arith, once (link_at links j).0, bit-le (has_port free (all_live nodes) (link_at links j).0), uses-at (link_at links j).0 links j h,
-      hit_itself (link_at links j).0, second))
+    absurd (omega (
+      arith,
+      once (link_at links j).0,
+      bit-le (has_port free (all_live nodes) (link_at links j).0),
+      uses-at (link_at links j).0 links j h,
+      hit_itself (link_at links j).0,
+      second,
+    ))
 
 used_somewhere : (free : ℕ) (nodes : List (Kind × ℕ)) (links : List (Port × Port)) (p : Port) → EachOnce free nodes links
     → has_port free (all_live nodes) p ≡ true → ((j : ℕ) → j < length links → HasEnd (link_at links j) p → ⊥) → ⊥
@@ -131,3 +147,7 @@ same_translation t names free nodes links N f n l same =
     let M : List (Kind × ℕ) → Type 0 = λ m. SameNet N (net_of_parts (1 + names) m links) in
     let L : List (Port × Port) → Type 0 = λ m. SameNet N (net_of_parts (1 + names) (nodes_of t) m) in
     subst L l (subst M n (subst F f same))
+
+pub length-all_live : (nodes : List (Kind × ℕ)) → length (all_live nodes) ≡ length nodes
+length-all_live [] = refl
+length-all_live (node ∷ nodes) = ap suc (length-all_live nodes)

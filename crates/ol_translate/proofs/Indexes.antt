@@ -1,12 +1,12 @@
 -- The indexes of a term's nodes: none is greater than the level by more than the number of nodes.
-use Rattle.std.proofs.Common.{◌≡◌, ℕ, zero, suc, ◌<◌, ◌≤◌, ◌+◌, List, [], ◌∷◌, ◌++◌, length, true, false, Bool, nat_lt, not, ◌==◌, if◌then◌else◌, Option, None, Some, refl, arith, length-append, get_or}
+use Rattle.std.proofs.Common.{◌≡◌, ℕ, zero, suc, ◌≤◌, ◌+◌, List, [], ◌∷◌, ◌++◌, length, false, Option, None, Some, refl, arith, length-append, get_or}
 use Rattle.std.proofs.lemmas.Bool.Decides.{nat_tests}
 use Rattle.ol_parse.specs.Trees.{Tree, var, free, lam, app}
 use Rattle.ol_net.specs.declared.parts.Kind.{Kind}
 use Rattle.ol_net.specs.declared.parts.Kind.TheVariants as kind
 use Rattle.ol_net.specs.declared.parts.Port.{Port}
 use Rattle.ol_net.specs.Build.{is_bad_index, BadIndexAt, NoneOf}
-use Rattle.ol_translate.specs.Translation.{Part, part_of, abstraction, application, erasers, bracket_nodes, bracketed, fans, fan_nodes, merged, wire_of, nodes_of}
+use Rattle.ol_translate.specs.Translation.{Part, part_of, application, erasers, bracket_nodes, bracketed, fans, fan_nodes, merged, wire_of, nodes_of}
 
 -- the index of a node that is no eraser is at most m, and an eraser's is 0
 abbrev pub IsLow : ℕ → Kind × ℕ → Type 0
@@ -64,7 +64,7 @@ application_low m n k M N h left right =
     AreLow-append m (((kind.App, n) ∷ M.nodes) ++ N.nodes) (bracket_nodes n N.wires ++ F.nodes)
     (AreLow-append m ((kind.App, n) ∷ M.nodes) N.nodes (h, left) right)
     (AreLow-append m (bracket_nodes n N.wires) F.nodes (brackets_low m n N.wires h)
-      (fans_low m n (k + 1 + length M.nodes + length N.nodes + length N.wires) M.wires (bracketed (k + 1 + length M.nodes + length N.nodes) N.wires) h))
+    (fans_low m n (k + 1 + length M.nodes + length N.nodes + length N.wires) M.wires (bracketed (k + 1 + length M.nodes + length N.nodes) N.wires) h))
 
 application_longer : (n k : ℕ) (M N : Part) → 1 + length M.nodes + length N.nodes ≤ length (application n k M N).nodes
 application_longer n k M N =

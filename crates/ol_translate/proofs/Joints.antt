@@ -1,15 +1,14 @@
 -- Each port of a translated term stands in one link.
-use Rattle.std.proofs.Common.{◌≡◌, ℕ, zero, suc, ◌<◌, ◌≤◌, ◌+◌, ◌-◌, List, [], ◌∷◌, ◌++◌, length, true, false, Bool, nat_eq, nat_lt, Option, None, Some, refl, ap, sym, ◌∙◌, arith, subst, length-append, zero-add, ne_eqb, ◌&&◌, eq-eqb, if◌then◌else◌}
-use Rattle.std.proofs.lemmas.Grind.{common_steps}
+use Rattle.std.proofs.Common.{◌≡◌, ℕ, zero, suc, ◌≤◌, ◌+◌, ◌-◌, List, [], ◌∷◌, ◌++◌, length, true, false, Bool, nat_eq, nat_lt, Option, None, Some, refl, ap, ◌∙◌, arith, subst, length-append, zero-add, ne_eqb, ◌&&◌, eq-eqb, if◌then◌else◌}
 use Rattle.std.proofs.lemmas.Bool.Decides.{nat_tests}
 use Rattle.ol_parse.specs.Trees.{Tree, var, free, lam, app, is_below, is_named_below}
 use Rattle.ol_net.specs.declared.parts.Kind.{Kind}
 use Rattle.ol_net.specs.declared.parts.Kind.TheVariants as kind
 use Rattle.ol_net.specs.declared.parts.Port.{Port}
 use Rattle.ol_net.specs.declared.parts.Port.TheVariants.{Free}
-use Rattle.ol_translate.specs.Translation.{Part, Wires, part_of, occurrence, abstraction, application, outside, erasers, bound_port, bracket_nodes, bracket_links, bracketed, fans, fan_nodes, fan_links, merged, wire_of, rewired, slot, name_links, nodes_of, links_of}
+use Rattle.ol_translate.specs.Translation.{Part, part_of, abstraction, application, outside, erasers, bound_port, bracket_nodes, bracket_links, bracketed, fans, fan_nodes, fan_links, merged, wire_of, rewired, slot, name_links, nodes_of, links_of}
 use Rattle.ol_translate.specs.Names.{has_name}
-use Rattle.ol_translate.proofs.Counts.{hit, uses, held, free_ends, node_slots, slots, times}
+use Rattle.ol_translate.proofs.Counts.{hit, uses, held, free_ends, slots, times}
 
 uses-append : (p : Port) (xs ys : List (Port × Port)) → uses p (xs ++ ys) ≡ uses p xs + uses p ys
 uses-append p [] ys = omega arith
@@ -231,8 +230,11 @@ kept-merged v f w wires (Some q) = omega (arith, times-rewired v w.0 (slot f 0) 
 kept-fans : (v n f : ℕ) (wires more : List (ℕ × Port)) → times v wires ≤ times v (fans n f wires more).wires
 kept-fans v n f wires [] = omega arith
 kept-fans v n f wires (w ∷ more) =
-    omega (arith, kept-merged v f w wires (wire_of w.0 wires),
-      kept-fans v n (f + length (fan_nodes n (wire_of w.0 wires))) (merged f (wire_of w.0 wires) w wires) more)
+    omega (
+      arith,
+      kept-merged v f w wires (wire_of w.0 wires),
+      kept-fans v n (f + length (fan_nodes n (wire_of w.0 wires))) (merged f (wire_of w.0 wires) w wires) more,
+    )
 
 times-present : (v : ℕ) (wires : List (ℕ × Port)) (q : Port) → wire_of v wires ≡ Some q → 1 ≤ times v wires
 times-present v [] q e = absurd (cc)
@@ -254,11 +256,11 @@ more-fans v n f wires (w ∷ more) h =
     let f' = f + length (fan_nodes n (wire_of w.0 wires)) in
     elim (nat_eq w.0 v) as (λ b. nat_eq w.0 v ≡ b → 1 ≤ times v (fans n f wires (w ∷ more)).wires) [
       | true ↦ (λ t. let same : w.0 ≡ v = grind (arith, nat_tests, t) in
-        let here : 1 ≤ times v (merged f (wire_of w.0 wires) w wires) =
+          let here : 1 ≤ times v (merged f (wire_of w.0 wires) w wires) =
           subst (λ u. 1 ≤ times u (merged f (wire_of w.0 wires) w wires)) same (own-merged f w wires (wire_of w.0 wires) refl) in
-        omega (arith, here, kept-fans v n f' (merged f (wire_of w.0 wires) w wires) more))
+          omega (arith, here, kept-fans v n f' (merged f (wire_of w.0 wires) w wires) more))
       | false ↦ (λ t. let later : 1 ≤ times v more = rw (t, zero-add) at h in
-        more-fans v n f' (merged f (wire_of w.0 wires) w wires) more later)
+          more-fans v n f' (merged f (wire_of w.0 wires) w wires) more later)
     ] refl
 
 pub name_has_wire : (f : ℕ) (t : Tree) (d n k : ℕ) → has_name f t ≡ true → 1 ≤ times (d + f) (part_of t d n k).wires
@@ -274,12 +276,15 @@ name_has_wire f (app M N) d n k h =
     let M' = part_of M d n (k + 1) in
     let N' = part_of N d (n + 1) (k + 1 + length (part_of M d n (k + 1)).nodes) in
     elim (has_name f M) as (λ b. has_name f M ≡ b → 1 ≤ times (d + f) (application n k M' N').wires) [
-      | true ↦ (λ t. omega (arith, name_has_wire f M d n (k + 1) t,
-          kept-fans (d + f) n (k + 1 + length M'.nodes + length N'.nodes + length N'.wires) M'.wires (bracketed (k + 1 + length M'.nodes + length N'.nodes) N'.wires)))
+      | true ↦ (λ t. omega (
+        arith,
+        name_has_wire f M d n (k + 1) t,
+        kept-fans (d + f) n (k + 1 + length M'.nodes + length N'.nodes + length N'.wires) M'.wires (bracketed (k + 1 + length M'.nodes + length N'.nodes) N'.wires),
+      ))
       | false ↦ (λ t. let other : has_name f N ≡ true = rw t at h in
           more-fans (d + f) n (k + 1 + length M'.nodes + length N'.nodes + length N'.wires) M'.wires (bracketed (k + 1 + length M'.nodes + length N'.nodes) N'.wires)
           (let there = name_has_wire f N d (n + 1) k' other in
-           omega (arith, there, times-bracketed (d + f) (k + 1 + length M'.nodes + length N'.nodes) N'.wires)))
+          omega (arith, there, times-bracketed (d + f) (k + 1 + length M'.nodes + length N'.nodes) N'.wires)))
     ] refl
 
 -- ---- the whole term

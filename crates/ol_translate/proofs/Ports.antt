@@ -1,7 +1,7 @@
 -- A port of the whole net stands in one link, and no other port does.
-use Rattle.std.proofs.Common.{◌≡◌, ◌≢◌, ℕ, zero, suc, ◌<◌, ◌≤◌, ◌+◌, ◌-◌, List, [], ◌∷◌, ◌++◌, length, true, false, Bool, ◌&&◌, nat_eq, nat_lt, Option, None, Some, refl, ap, sym, ◌∙◌, arith, subst, ne_eqb, eq-eqb, if◌then◌else◌, zero-add}
+use Rattle.std.proofs.Common.{◌≡◌, ◌≢◌, ℕ, zero, suc, ◌<◌, ◌≤◌, ◌+◌, List, [], ◌∷◌, true, false, Bool, nat_eq, nat_lt, refl, ap, arith, ne_eqb, eq-eqb, if◌then◌else◌, zero-add}
 use Rattle.std.proofs.lemmas.Bool.Decides.{nat_tests}
-use Rattle.ol_parse.specs.Trees.{Tree, is_below, is_named_below}
+use Rattle.ol_parse.specs.Trees.{Tree}
 use Rattle.ol_net.specs.declared.parts.Kind.{Kind}
 use Rattle.ol_net.specs.declared.parts.Kind.TheVariants as kind
 use Rattle.ol_net.specs.declared.parts.Port.{Port}
@@ -10,8 +10,8 @@ use Rattle.ol_net.specs.Parts.{slots_of}
 use Rattle.ol_net.specs.Graph.{kind_at, has_slot, has_port}
 use Rattle.ol_net.specs.Build.{all_live}
 use Rattle.ol_translate.specs.Translation.{slot, part_of, nodes_of, links_of}
-use Rattle.ol_translate.specs.Names.{has_name, HasNames}
-use Rattle.ol_translate.proofs.Counts.{port_eq, hit, uses, free_ends, node_slots, slots, times}
+use Rattle.ol_translate.specs.Names.{HasNames}
+use Rattle.ol_translate.proofs.Counts.{hit, uses, free_ends, node_slots, slots, times}
 use Rattle.ol_translate.proofs.Joints.{few_wires, none_past, name_has_wire, whole_balance}
 
 abbrev pub bit : Bool → ℕ

@@ -1,5 +1,5 @@
 -- Worked terms.
-use Rattle.std.proofs.Common.{◌≡◌, ℕ, [], ◌∷◌, refl}
+use Rattle.std.proofs.Common.{◌≡◌, [], ◌∷◌, refl}
 use Rattle.ol_parse.specs.Trees.{Tree, var, free, lam, app}
 use Rattle.ol_net.specs.declared.parts.Kind.TheVariants.{Lam, App, Fan, Croissant, Bracket, Eraser}
 use Rattle.ol_net.specs.declared.parts.Port.TheVariants.{Free}

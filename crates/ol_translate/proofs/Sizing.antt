@@ -1,12 +1,11 @@
 -- A term's part has as many nodes as its size, and its wires are those of its variables.
-use Rattle.std.proofs.Common.{◌≡◌, ℕ, zero, suc, ◌<◌, ◌≤◌, ◌+◌, ◌-◌, List, [], ◌∷◌, ◌++◌, length, map, filter, true, false, Bool, not, ◌||◌, cond, nat_eq, nat_lt, Option, None, Some, is_some, refl, ap, sym, ◌∙◌, arith, subst, length-append, zero-add, ne_eqb, eq-eqb, append_assoc, append-nil, if◌then◌else◌}
+use Rattle.std.proofs.Common.{◌≡◌, ℕ, suc, ◌≤◌, ◌+◌, ◌-◌, List, [], ◌∷◌, ◌++◌, length, map, filter, true, false, Bool, not, ◌||◌, cond, nat_eq, nat_lt, Option, None, Some, is_some, refl, ap, sym, ◌∙◌, arith, length-append, zero-add, eq-eqb, append_assoc, append-nil, if◌then◌else◌}
 use Rattle.std.proofs.lemmas.Bool.Decides.{nat_tests}
 use Rattle.std.proofs.lemmas.List.Folds.{list_any-append}
 use Rattle.ol_parse.specs.Trees.{Tree, var, free, lam, app}
-use Rattle.ol_net.specs.declared.parts.Kind.{Kind}
 use Rattle.ol_net.specs.declared.parts.Kind.TheVariants as kind
 use Rattle.ol_net.specs.declared.parts.Port.{Port}
-use Rattle.ol_translate.specs.Translation.{Part, Wires, part_of, abstraction, application, outside, erasers, bracket_nodes, bracketed, fans, fan_nodes, merged, wire_of, rewired, slot, nodes_of}
+use Rattle.ol_translate.specs.Translation.{Part, Wires, part_of, application, outside, erasers, bracket_nodes, bracketed, fans, fan_nodes, merged, wire_of, rewired, slot, nodes_of}
 use Rattle.ol_translate.specs.Sizes.{is_among, variables, size_under, size_of_translation}
 use Rattle.ol_translate.proofs.Counts.{times}
 use Rattle.ol_translate.proofs.Joints.{few_wires, length-bracket_nodes, times-bracketed}
@@ -112,9 +111,9 @@ keys-fans n f wires (w ∷ more) h =
     let W = merged f (wire_of w.0 wires) w wires in
     let rest : keys (fans n f' W more).wires ≡ keys W ++ filter (λ v. not (is_among v (keys W))) (keys more) = keys-fans n f' W more (differ-tail w more h) in
     let keys_are : keys W ≡ (if is_among w.0 (keys wires) then keys wires else keys wires ++ w.0 ∷ []) =
-      merged_keys f w wires (wire_of w.0 wires) ∙ ap (λ b. if b then keys wires else keys wires ++ w.0 ∷ []) (sym (among_keys w.0 wires)) in
+    merged_keys f w wires (wire_of w.0 wires) ∙ ap (λ b. if b then keys wires else keys wires ++ w.0 ∷ []) (sym (among_keys w.0 wires)) in
     elim (is_among w.0 (keys wires)) as (λ b. is_among w.0 (keys wires) ≡ b → keys (fans n f' W more).wires
-        ≡ keys wires ++ cond (not b) (w.0 ∷ filter (λ v. not (is_among v (keys wires))) (keys more)) (filter (λ v. not (is_among v (keys wires))) (keys more))) [
+    ≡ keys wires ++ cond (not b) (w.0 ∷ filter (λ v. not (is_among v (keys wires))) (keys more)) (filter (λ v. not (is_among v (keys wires))) (keys more))) [
       | true ↦ (λ t. let same : keys W ≡ keys wires = rw t at keys_are in
           rest ∙ ap (λ l. l ++ filter (λ v. not (is_among v l)) (keys more)) same)
       | false ↦ (λ t. let same : keys W ≡ keys wires ++ w.0 ∷ [] = rw t at keys_are in
@@ -131,22 +130,22 @@ length-fans n f wires (w ∷ more) h =
     let W = merged f (wire_of w.0 wires) w wires in
     let rest : length (fans n f' W more).nodes ≡ length (filter (λ v. is_among v (keys W)) (keys more)) = length-fans n f' W more (differ-tail w more h) in
     let keys_are : keys W ≡ (if is_among w.0 (keys wires) then keys wires else keys wires ++ w.0 ∷ []) =
-      merged_keys f w wires (wire_of w.0 wires) ∙ ap (λ b. if b then keys wires else keys wires ++ w.0 ∷ []) (sym (among_keys w.0 wires)) in
+    merged_keys f w wires (wire_of w.0 wires) ∙ ap (λ b. if b then keys wires else keys wires ++ w.0 ∷ []) (sym (among_keys w.0 wires)) in
     let one : length (fan_nodes n (wire_of w.0 wires)) ≡ (if is_among w.0 (keys wires) then 1 else 0) =
-      fan_count n (wire_of w.0 wires) ∙ ap (λ b. if b then 1 else 0) (sym (among_keys w.0 wires)) in
+    fan_count n (wire_of w.0 wires) ∙ ap (λ b. if b then 1 else 0) (sym (among_keys w.0 wires)) in
     let both = length-append (fan_nodes n (wire_of w.0 wires)) (fans n f' W more).nodes in
     elim (is_among w.0 (keys wires)) as (λ b. is_among w.0 (keys wires) ≡ b → length (fan_nodes n (wire_of w.0 wires) ++ (fans n f' W more).nodes)
-        ≡ length (cond b (w.0 ∷ filter (λ v. is_among v (keys wires)) (keys more)) (filter (λ v. is_among v (keys wires)) (keys more)))) [
+    ≡ length (cond b (w.0 ∷ filter (λ v. is_among v (keys wires)) (keys more)) (filter (λ v. is_among v (keys wires)) (keys more)))) [
       | true ↦ (λ t. let same : keys W ≡ keys wires = rw t at keys_are in
           let single : length (fan_nodes n (wire_of w.0 wires)) ≡ 1 = rw t at one in
           let others : length (fans n f' W more).nodes ≡ length (filter (λ v. is_among v (keys wires)) (keys more)) =
-            rest ∙ ap (λ l. length (filter (λ v. is_among v l) (keys more))) same in
+          rest ∙ ap (λ l. length (filter (λ v. is_among v l) (keys more))) same in
           omega (arith, both, single, others))
       | false ↦ (λ t. let same : keys W ≡ keys wires ++ w.0 ∷ [] = rw t at keys_are in
           let no_fan : length (fan_nodes n (wire_of w.0 wires)) ≡ 0 = rw t at one in
           let others : length (fans n f' W more).nodes ≡ length (filter (λ v. is_among v (keys wires)) (keys more)) =
-            rest ∙ ap (λ l. length (filter (λ v. is_among v l) (keys more))) same
-            ∙ ap length (filter_past (λ b. b) w.0 (keys wires) more (differ-head w more h)) in
+          rest ∙ ap (λ l. length (filter (λ v. is_among v l) (keys more))) same
+          ∙ ap length (filter_past (λ b. b) w.0 (keys wires) more (differ-head w more h)) in
           omega (arith, both, no_fan, others))
     ] refl
 
@@ -166,9 +165,9 @@ length-application : (n k : ℕ) (M N : Part) → Differ N.wires
 length-application n k M N h =
     let F = fans n (k + 1 + length M.nodes + length N.nodes + length N.wires) M.wires (bracketed (k + 1 + length M.nodes + length N.nodes) N.wires) in
     let fan_nodes : length F.nodes ≡ length (filter (λ v. is_among v (keys M.wires)) (keys N.wires)) =
-      length-fans n (k + 1 + length M.nodes + length N.nodes + length N.wires) M.wires (bracketed (k + 1 + length M.nodes + length N.nodes) N.wires)
-      (differ-bracketed (k + 1 + length M.nodes + length N.nodes) N.wires h)
-      ∙ ap (λ l. length (filter (λ v. is_among v (keys M.wires)) l)) (keys-bracketed (k + 1 + length M.nodes + length N.nodes) N.wires) in
+    length-fans n (k + 1 + length M.nodes + length N.nodes + length N.wires) M.wires (bracketed (k + 1 + length M.nodes + length N.nodes) N.wires)
+    (differ-bracketed (k + 1 + length M.nodes + length N.nodes) N.wires h)
+    ∙ ap (λ l. length (filter (λ v. is_among v (keys M.wires)) l)) (keys-bracketed (k + 1 + length M.nodes + length N.nodes) N.wires) in
     omega (
       arith,
       fan_nodes,
@@ -201,9 +200,9 @@ size_of_part (lam M) d n k =
     let body = part_of M (d + 1) n (k + 1) in
     let size = size_of_part M (d + 1) n (k + 1) in
     let bound : length (erasers (wire_of 0 (part_of M (d + 1) n (k + 1)).wires)) ≡ (if is_among 0 (variables (d + 1) M) then 0 else 1) =
-      length-erasers (wire_of 0 (part_of M (d + 1) n (k + 1)).wires)
-      ∙ ap (λ b. if b then 0 else 1) (sym (among_keys 0 (part_of M (d + 1) n (k + 1)).wires))
-      ∙ ap (λ l. if is_among 0 l then 0 else 1) (wires_of_variables M (d + 1) n (k + 1)) in
+    length-erasers (wire_of 0 (part_of M (d + 1) n (k + 1)).wires)
+    ∙ ap (λ b. if b then 0 else 1) (sym (among_keys 0 (part_of M (d + 1) n (k + 1)).wires))
+    ∙ ap (λ l. if is_among 0 l then 0 else 1) (wires_of_variables M (d + 1) n (k + 1)) in
     omega (arith, size, bound, length-append (part_of M (d + 1) n (k + 1)).nodes (erasers (wire_of 0 (part_of M (d + 1) n (k + 1)).wires)))
 size_of_part (app M N) d n k =
     let M' = part_of M d n (k + 1) in
@@ -213,8 +212,8 @@ size_of_part (app M N) d n k =
     let right = size_of_part N d (n + 1) (k + 1 + length (part_of M d n (k + 1)).nodes) in
     let brackets : length (keys N'.wires) ≡ length (variables d N) = ap length (wires_of_variables N d (n + 1) (k + 1 + length (part_of M d n (k + 1)).nodes)) in
     let shared : length (filter (λ v. is_among v (keys M'.wires)) (keys N'.wires)) ≡ length (filter (λ v. is_among v (variables d M)) (variables d N)) =
-      ap (λ l. length (filter (λ v. is_among v l) (keys N'.wires))) (wires_of_variables M d n (k + 1))
-      ∙ ap (λ l. length (filter (λ v. is_among v (variables d M)) l)) (wires_of_variables N d (n + 1) (k + 1 + length (part_of M d n (k + 1)).nodes)) in
+    ap (λ l. length (filter (λ v. is_among v l) (keys N'.wires))) (wires_of_variables M d n (k + 1))
+    ∙ ap (λ l. length (filter (λ v. is_among v (variables d M)) l)) (wires_of_variables N d (n + 1) (k + 1 + length (part_of M d n (k + 1)).nodes)) in
     omega (arith, sizes, left, right, brackets, shared)
 
 pub size_of_nodes : (t : Tree) → length (nodes_of t) ≡ size_of_translation t

@@ -18,7 +18,6 @@ mod tests;
 mod wires;
 
 pub use faults::TransFault;
-
 use ol_net::{BuildFault, Net};
 use ol_parse::TermFile;
 use parts::Parts;
