@@ -1,0 +1,290 @@
+-- How many nodes a term without free names may have.
+use Rattle.std.proofs.Common.{zero-add, subst, get_or, All, ◌^◌, ◌≡◌, ℕ, zero, suc, ◌<◌, ◌≤◌, ◌+◌, ◌-◌, ◌*◌, List, [], ◌∷◌, ◌++◌, length, true, false, nat_eq, nat_lt, Option, None, Some, refl, ap, sym, arith, length-append, eq-eqb, ne_eqb}
+use Rattle.std.proofs.lemmas.Bool.Decides.{nat_tests}
+use Rattle.std.proofs.Math.Nat.{mul-le-mul_left}
+use Rattle.ol_parse.specs.Trees.{Tree, var, free, lam, app, is_below, is_named_below, lams, occurrences}
+use Rattle.ol_net.specs.declared.parts.Port.{Port}
+use Rattle.ol_net.specs.declared.parts.Port.TheVariants.{Free}
+use Rattle.ol_net.specs.declared.parts.Kind.{Kind}
+use Rattle.ol_net.specs.declared.parts.Kind.TheVariants as kind
+use Rattle.ol_translate.specs.Translation.{Part, part_of, abstraction, application, outside, erasers, bound_port, bracket_nodes, bracket_links, bracketed, fans, fan_nodes, fan_links, merged, wire_of, rewired, slot, name_links, nodes_of, links_of}
+use Rattle.ol_translate.specs.Sizes.{size_of_translation}
+use Rattle.ol_translate.proofs.Counts.{times}
+use Rattle.ol_translate.proofs.Sizing.{size_of_nodes}
+use Rattle.ol_translate.specs.Names.{HasNames}
+use Rattle.ol_translate.proofs.Joints.{few_wires, none_past, name_has_wire, and_parts, length-bracket_nodes}
+
+-- the wires of the variables below d
+total : ℕ → List (ℕ × Port) → ℕ
+total zero wires = 0
+total (suc d) wires = times d wires + total d wires
+
+total-le : (d : ℕ) (wires : List (ℕ × Port)) → ((v : ℕ) → times v wires ≤ 1) → total d wires ≤ d
+unfolding total
+total-le zero wires few = omega arith
+total-le (suc d) wires few = omega (arith, few d, total-le d wires few)
+
+total-past : (d : ℕ) (w : ℕ × Port) (wires : List (ℕ × Port)) → d ≤ w.0 → total d (w ∷ wires) ≡ total d wires
+unfolding total
+total-past zero w wires h = refl
+total-past (suc d) w wires h =
+    let other : nat_eq w.0 d ≡ false = ne_eqb w.0 d (λ e. omega arith) in
+    let rest = total-past d w wires (omega arith) in
+    rw other (omega arith)
+
+total-cons : (d : ℕ) (w : ℕ × Port) (wires : List (ℕ × Port)) → w.0 < d → total d (w ∷ wires) ≡ 1 + total d wires
+unfolding total
+total-cons zero w wires h = absurd (omega arith)
+total-cons (suc d) w wires h =
+    elim (nat_eq w.0 d) as (λ b. nat_eq w.0 d ≡ b → total (suc d) (w ∷ wires) ≡ 1 + total (suc d) wires) [
+      | true ↦ (λ t. let same : w.0 ≡ d = grind (arith, nat_tests, t) in let rest = total-past d w wires (omega arith) in rw t (omega arith))
+      | false ↦ (λ t. let less : w.0 < d = grind (arith, nat_tests, t) in let rest = total-cons d w wires less in rw t (omega arith))
+    ] refl
+
+low_key : (d : ℕ) (w : ℕ × Port) (wires : List (ℕ × Port)) → ((v : ℕ) → d ≤ v → times v (w ∷ wires) ≡ 0) → w.0 < d
+low_key d w wires none =
+    elim (nat_lt w.0 d) as (λ b. nat_lt w.0 d ≡ b → w.0 < d) [
+      | true ↦ (λ t. grind (arith, nat_tests, t))
+      | false ↦ (λ t. let past : d ≤ w.0 = grind (arith, nat_tests, t) in let none = rw (eq-eqb w.0 w.0 refl) at (none w.0 past) in absurd (omega arith))
+    ] refl
+
+length-total : (d : ℕ) (wires : List (ℕ × Port)) → ((v : ℕ) → d ≤ v → times v wires ≡ 0) → length wires ≤ total d wires
+length-total d [] none = omega arith
+length-total d (w ∷ wires) none =
+    let low : w.0 < d = low_key d w wires none in
+    omega (arith, total-cons d w wires low, length-total d wires (λ v h. grind (arith, none v h)))
+
+length-fans : (n f : ℕ) (wires more : List (ℕ × Port)) → length (fans n f wires more).nodes ≤ length more
+length-fans n f wires [] = omega arith
+length-fans n f wires (w ∷ more) =
+    let one : length (fan_nodes n (wire_of w.0 wires)) ≤ 1 = at_most n (wire_of w.0 wires) in
+    omega (arith, length-append (fan_nodes n (wire_of w.0 wires)) (fans n (f + length (fan_nodes n (wire_of w.0 wires))) (merged f (wire_of w.0 wires) w wires) more).nodes, length-fans n (f + length (fan_nodes n (wire_of w.0 wires))) (merged f (wire_of w.0 wires) w wires) more)
+  where
+    at_most : (n : ℕ) (x : Option Port) → length (fan_nodes n x) ≤ 1
+    at_most n None = omega arith
+    at_most n (Some q) = omega arith
+
+length-bracketed : (b : ℕ) (wires : List (ℕ × Port)) → length (bracketed b wires) ≡ length wires
+length-bracketed b [] = refl
+length-bracketed b (w ∷ wires) = ap suc (length-bracketed (b + 1) wires)
+
+application_length : (n k : ℕ) (M N : Part) → length (application n k M N).nodes ≤ 1 + length M.nodes + length N.nodes + length N.wires + length N.wires
+application_length n k M N =
+    let b : ℕ = k + 1 + length M.nodes + length N.nodes in
+    let F = fans n (k + 1 + length M.nodes + length N.nodes + length N.wires) M.wires (bracketed (k + 1 + length M.nodes + length N.nodes) N.wires) in
+    omega (
+      arith,
+      length-append (((kind.App, n) ∷ M.nodes) ++ N.nodes) (bracket_nodes n N.wires ++ F.nodes),
+      length-append M.nodes N.nodes,
+      length-append (bracket_nodes n N.wires) F.nodes,
+      length-bracket_nodes n N.wires,
+      length-fans n (k + 1 + length M.nodes + length N.nodes + length N.wires) M.wires (bracketed (k + 1 + length M.nodes + length N.nodes) N.wires),
+      length-bracketed (k + 1 + length M.nodes + length N.nodes) N.wires,
+    )
+
+few_free : (d : ℕ) (t : Tree) (n k : ℕ) → is_below d t ≡ true → is_named_below 0 t ≡ true → length (part_of t d n k).wires ≤ d
+few_free d t n k h j =
+    let low = length-total d (part_of t d n k).wires (λ v e. none_past v 0 t d n k h j (omega arith)) in
+    let few = total-le d (part_of t d n k).wires (λ v. few_wires v t d n k) in
+    omega arith
+
+erasers_length : (x : Option Port) → length (erasers x) ≤ 1
+erasers_length None = omega arith
+erasers_length (Some w) = omega arith
+
+sums : (lM lN oM oN d cM cN w c : ℕ) → cM + (1 + 2 * d) ≤ 2 * lM + (2 + 2 * (d + lM)) * oM → cN + (1 + 2 * d) ≤ 2 * lN + (2 + 2 * (d + lN)) * oN
+    → c ≤ 1 + cM + cN + w + w → w ≤ d → c + (1 + 2 * d) ≤ 2 * (lM + lN) + (2 + 2 * (d + (lM + lN))) * (oM + oN)
+sums lM lN oM oN d cM cN w c hm hn hc hw = omega arith
+
+-- d abstractions stand outside
+pub few_nodes : (d : ℕ) (t : Tree) (n k : ℕ) → is_below d t ≡ true → is_named_below 0 t ≡ true
+    → length (part_of t d n k).nodes + (1 + 2 * d) ≤ 2 * lams t + (2 + 2 * (d + lams t)) * occurrences t
+few_nodes d (var v) n k h j = omega arith
+few_nodes d (free f) n k h j = omega arith
+few_nodes d (lam M) n k h j =
+    let rest = few_nodes (d + 1) M n (k + 1) h j in
+    omega (arith, rest, length-append (part_of M (d + 1) n (k + 1)).nodes (erasers (wire_of 0 (part_of M (d + 1) n (k + 1)).wires)), erasers_length (wire_of 0 (part_of M (d + 1) n (k + 1)).wires))
+few_nodes d (app M N) n k h j =
+    let bound = and_parts (is_below d M) (is_below d N) h in
+    let named = and_parts (is_named_below 0 M) (is_named_below 0 N) j in
+    let k' = k + 1 + length (part_of M d n (k + 1)).nodes in
+    let left = few_nodes d M n (k + 1) bound.0 named.0 in
+    let right = few_nodes d N (n + 1) (k + 1 + length (part_of M d n (k + 1)).nodes) bound.1 named.1 in
+    let more = application_length n k (part_of M d n (k + 1)) (part_of N d (n + 1) (k + 1 + length (part_of M d n (k + 1)).nodes)) in
+    let few = few_free d N (n + 1) (k + 1 + length (part_of M d n (k + 1)).nodes) bound.1 named.1 in
+    sums (lams M) (lams N) (occurrences M) (occurrences N) d (length (part_of M d n (k + 1)).nodes) (length (part_of N d (n + 1) (k + 1 + length (part_of M d n (k + 1)).nodes)).nodes)
+    (length (part_of N d (n + 1) (k + 1 + length (part_of M d n (k + 1)).nodes)).wires) _ left right more few
+
+-- ---- a term of few bytes: an abstraction takes three, an occurrence one
+
+small_above : (e o : ℕ) → 510 + 3 * e + o ≤ 1024 → 2 * (170 + e) + (2 + 2 * (170 + e)) * o ≤ 200000
+small_above e o h =
+    let sum : o + 3 * e ≤ 514 = omega arith in
+    omega (arith, mul-le-mul_left e sum)
+
+small_below : (l e o : ℕ) → l + e ≡ 170 → 3 * l + o ≤ 1024 → 2 * l + (2 + 2 * l) * o ≤ 200000
+small_below l e o k h =
+    let sum : o + 3 * l ≤ 1024 = omega arith in
+    omega (arith, mul-le-mul_left l sum, ap (λ n. l * n) k, ap (λ n. e * n) k)
+
+small : (l o : ℕ) → 3 * l + o ≤ 1024 → 2 * l + (2 + 2 * l) * o ≤ 200000
+small l o h = elim (nat_lt 170 l) as (λ b. nat_lt 170 l ≡ b → 2 * l + (2 + 2 * l) * o ≤ 200000) [
+  | true ↦ (λ t. let past : 170 < l = grind (arith, nat_tests, t) in let is : l ≡ 170 + (l - 170) = omega arith in
+      let here : 510 + 3 * (l - 170) + o ≤ 1024 = omega arith in rw is (small_above (l - 170) o here))
+  | false ↦ (λ t. let low : l ≤ 170 = grind (arith, nat_tests, t) in small_below l (170 - l) o (omega arith) h)
+] refl
+
+pub few_enough : (t : Tree) → is_below 0 t ≡ true → is_named_below 0 t ≡ true → 3 * lams t + occurrences t ≤ 1024 → size_of_translation t ≤ 200000
+few_enough t h j few = omega (arith, few_nodes 0 t 0 0 h j, small (lams t) (occurrences t) few, size_of_nodes t)
+
+-- ---- wires, links and names are few beside the nodes
+
+length-rewired : (v : ℕ) (p : Port) (wires : List (ℕ × Port)) → length (rewired v p wires) ≡ length wires
+length-rewired v p [] = refl
+length-rewired v p (w ∷ wires) =
+    elim (nat_eq w.0 v) as (λ b. nat_eq w.0 v ≡ b → length (rewired v p (w ∷ wires)) ≡ length (w ∷ wires)) [
+      | true ↦ (λ t. rw t refl)
+      | false ↦ (λ t. rw t (ap suc (length-rewired v p wires)))
+    ] refl
+
+fans_wires : (n f : ℕ) (wires more : List (ℕ × Port)) → length (fans n f wires more).wires ≤ length wires + length more
+fans_wires n f wires [] = omega arith
+fans_wires n f wires (w ∷ more) =
+    omega (arith, one w f wires (wire_of w.0 wires), fans_wires n (f + length (fan_nodes n (wire_of w.0 wires))) (merged f (wire_of w.0 wires) w wires) more)
+  where
+    one : (w : ℕ × Port) (f : ℕ) (wires : List (ℕ × Port)) (x : Option Port) → length (merged f x w wires) ≤ 1 + length wires
+    one w f wires None = omega (arith, length-append wires (w ∷ []))
+    one w f wires (Some q) = omega (arith, length-rewired w.0 (slot f 0) wires)
+
+fans_links : (n f : ℕ) (wires more : List (ℕ × Port)) → length (fans n f wires more).links ≤ 2 * length (fans n f wires more).nodes
+fans_links n f wires [] = omega arith
+fans_links n f wires (w ∷ more) =
+    let rest = fans n (f + length (fan_nodes n (wire_of w.0 wires))) (merged f (wire_of w.0 wires) w wires) more in
+    omega (
+      arith,
+      one n f w.1 (wire_of w.0 wires),
+      length-append (fan_nodes n (wire_of w.0 wires)) (fans n (f + length (fan_nodes n (wire_of w.0 wires))) (merged f (wire_of w.0 wires) w wires) more).nodes,
+      length-append (fan_links f (wire_of w.0 wires) w.1) (fans n (f + length (fan_nodes n (wire_of w.0 wires))) (merged f (wire_of w.0 wires) w wires) more).links,
+      fans_links n (f + length (fan_nodes n (wire_of w.0 wires))) (merged f (wire_of w.0 wires) w wires) more,
+    )
+  where
+    one : (n f : ℕ) (q : Port) (x : Option Port) → length (fan_links f x q) ≤ 2 * length (fan_nodes n x)
+    one n f q None = omega arith
+    one n f q (Some p) = omega arith
+
+length-bracket_links : (b : ℕ) (wires : List (ℕ × Port)) → length (bracket_links b wires) ≡ length wires
+length-bracket_links b [] = refl
+length-bracket_links b (w ∷ wires) = ap suc (length-bracket_links (b + 1) wires)
+
+length-outside-le : (wires : List (ℕ × Port)) → length (outside wires) ≤ length wires
+length-outside-le [] = omega arith
+length-outside-le (w ∷ wires) =
+    let rest = length-outside-le wires in
+    elim (nat_lt 0 w.0) as (λ b. nat_lt 0 w.0 ≡ b → length (outside (w ∷ wires)) ≤ length (w ∷ wires)) [
+      | true ↦ (λ t. rw t (omega arith))
+      | false ↦ (λ t. rw t (omega arith))
+    ] refl
+
+-- at most as many wires as nodes, and twice as many links
+pub record IsSmall (P : Part) : Type 0 where
+  pub wires : length P.wires ≤ length P.nodes
+  pub links : length P.links ≤ 2 * length P.nodes
+
+abstraction_small : (n k : ℕ) (M : Part) → IsSmall M → IsSmall (abstraction n k M)
+abstraction_small n k M h = record {
+  wires = omega (arith, h.wires, length-outside-le M.wires, length-append M.nodes (erasers (wire_of 0 M.wires)));
+  links = omega (arith, h.links, length-append M.nodes (erasers (wire_of 0 M.wires)), length-append M.links ((slot k 1, M.root) ∷ (slot k 2, bound_port (wire_of 0 M.wires) (k + 1 + length M.nodes)) ∷ []));
+}
+
+application_small : (n k : ℕ) (M N : Part) → IsSmall M → IsSmall N → IsSmall (application n k M N)
+application_small n k M N hm hn =
+    let b : ℕ = k + 1 + length M.nodes + length N.nodes in
+    let F = fans n (k + 1 + length M.nodes + length N.nodes + length N.wires) M.wires (bracketed (k + 1 + length M.nodes + length N.nodes) N.wires) in
+    let two : List (Port × Port) = (slot k 0, M.root) ∷ (slot k 2, N.root) ∷ [] in
+    let bl = bracket_links (k + 1 + length M.nodes + length N.nodes) N.wires in
+    let nodes1 = length-append (((kind.App, n) ∷ M.nodes) ++ N.nodes) (bracket_nodes n N.wires ++ F.nodes) in
+    let nodes2 = length-append M.nodes N.nodes in
+    let nodes3 = length-append (bracket_nodes n N.wires) F.nodes in
+    let nodes4 = length-bracket_nodes n N.wires in
+    let links1 = length-append (M.links ++ N.links) (two ++ (bl ++ F.links)) in
+    let links2 = length-append M.links N.links in
+    let links3 = length-append bl F.links in
+    let links4 = length-bracket_links (k + 1 + length M.nodes + length N.nodes) N.wires in
+    let links5 = fans_links n (k + 1 + length M.nodes + length N.nodes + length N.wires) M.wires (bracketed (k + 1 + length M.nodes + length N.nodes) N.wires) in
+    let wires1 = fans_wires n (k + 1 + length M.nodes + length N.nodes + length N.wires) M.wires (bracketed (k + 1 + length M.nodes + length N.nodes) N.wires) in
+    let wires2 = length-bracketed (k + 1 + length M.nodes + length N.nodes) N.wires in
+    record {
+      wires = omega (arith, nodes1, nodes2, nodes3, nodes4, wires1, wires2, hm.wires, hn.wires);
+      links = omega (arith, nodes1, nodes2, nodes3, nodes4, links1, links2, links3, links4, links5, hm.links, hn.links);
+    }
+
+pub part_small : (t : Tree) (d n k : ℕ) → IsSmall (part_of t d n k)
+part_small (var v) d n k = record { wires = omega arith; links = omega arith }
+part_small (free f) d n k = record { wires = omega arith; links = omega arith }
+part_small (lam M) d n k = abstraction_small n k (part_of M (d + 1) n (k + 1)) (part_small M (d + 1) n (k + 1))
+part_small (app M N) d n k =
+    application_small n k (part_of M d n (k + 1)) (part_of N d (n + 1) (k + 1 + length (part_of M d n (k + 1)).nodes))
+    (part_small M d n (k + 1)) (part_small N d (n + 1) (k + 1 + length (part_of M d n (k + 1)).nodes))
+
+length-name_links : (wires : List (ℕ × Port)) → length (name_links wires) ≡ length wires
+length-name_links [] = refl
+length-name_links (w ∷ wires) = ap suc (length-name_links wires)
+
+pub few_links : (t : Tree) → length (links_of t) ≤ 1 + 3 * length (nodes_of t)
+few_links t =
+    let P = part_of t 0 0 0 in
+    omega (
+      arith,
+      (part_small t 0 0 0).wires,
+      (part_small t 0 0 0).links,
+      length-name_links (part_of t 0 0 0).wires,
+      length-append (part_of t 0 0 0).links ((Free 0, (part_of t 0 0 0).root) ∷ name_links (part_of t 0 0 0).wires),
+    )
+
+total-ge : (d : ℕ) (wires : List (ℕ × Port)) → ((v : ℕ) → v < d → 1 ≤ times v wires) → d ≤ total d wires
+unfolding total
+total-ge zero wires some = omega arith
+total-ge (suc d) wires some = omega (arith, some d (omega arith), total-ge d wires (λ v h. some v (omega arith)))
+
+total-nil : (d : ℕ) → total d [] ≡ 0
+unfolding total
+total-nil zero = refl
+total-nil (suc d) = rw zero-add (total-nil d)
+
+total-le-length : (d : ℕ) (wires : List (ℕ × Port)) → total d wires ≤ length wires
+total-le-length d [] = omega (arith, total-nil d)
+total-le-length d (w ∷ wires) =
+    let rest = total-le-length d wires in
+    elim (nat_lt w.0 d) as (λ b. nat_lt w.0 d ≡ b → total d (w ∷ wires) ≤ length (w ∷ wires)) [
+      | true ↦ (λ t. let low : w.0 < d = grind (arith, nat_tests, t) in omega (arith, total-cons d w wires low))
+      | false ↦ (λ t. let past : d ≤ w.0 = grind (arith, nat_tests, t) in omega (arith, total-past d w wires past))
+    ] refl
+
+pub few_names : (t : Tree) (names : ℕ) → HasNames t names → names ≤ length (nodes_of t)
+few_names t names h =
+    omega (
+      arith,
+      total-ge names (part_of t 0 0 0).wires (λ v low. rw zero-add at (name_has_wire v t 0 0 0 (h.each v low))),
+      total-le-length names (part_of t 0 0 0).wires,
+      (part_small t 0 0 0).wires,
+    )
+
+-- ---- the wires of a whole term are those of its names
+
+low_keys : (d : ℕ) (wires : List (ℕ × Port)) → ((v : ℕ) → d ≤ v → times v wires ≡ 0) → (k : ℕ) (e : ℕ × Port) → k < length wires → (get_or wires k e).0 < d
+low_keys d [] none k e h = absurd (omega arith)
+low_keys d (w ∷ wires) none zero e h = low_key d w wires none
+low_keys d (w ∷ wires) none (suc k) e h = low_keys d wires (λ v past. let here = none v past in omega arith) k e (omega arith)
+
+pub names_fit : (t : Tree) (names : ℕ) → HasNames t names → length (nodes_of t) ≤ 200000 → All (λ (w : ℕ × Port). w.0 < 2 ^ 31) (part_of t 0 0 0).wires
+names_fit t names h few k e low =
+    omega (arith, few_names t names h, low_keys names (part_of t 0 0 0).wires (λ v past. none_past v names t 0 0 0 h.bound h.named (omega arith)) k e low)
+
+-- the same of wires and nodes that were laid down from nothing
+pub laid_names_fit : (t : Tree) (names : ℕ) (start nodes : List (Kind × ℕ)) (wires : List (ℕ × Port)) → HasNames t names → start ≡ []
+    → wires ≡ (part_of t 0 0 (length start)).wires → nodes ≡ start ++ (part_of t 0 0 (length start)).nodes → length nodes ≤ 200000
+    → All (λ (w : ℕ × Port). w.0 < 2 ^ 31) wires
+laid_names_fit t names [] nodes wires h none w n few =
+    let P : List (ℕ × Port) → Type 0 = λ l. All (λ (w : ℕ × Port). w.0 < 2 ^ 31) l in
+    subst P (sym w) (names_fit t names h (omega (arith, ap length n)))
+laid_names_fit t names (x ∷ xs) nodes wires h none w n few = absurd (cc)

@@ -1,0 +1,111 @@
+-- The indexes of a term's nodes: none is greater than the level by more than the number of nodes.
+use Rattle.std.proofs.Common.{◌≡◌, ℕ, zero, suc, ◌≤◌, ◌+◌, List, [], ◌∷◌, ◌++◌, length, false, Option, None, Some, refl, arith, length-append, get_or}
+use Rattle.std.proofs.lemmas.Bool.Decides.{nat_tests}
+use Rattle.ol_parse.specs.Trees.{Tree, var, free, lam, app}
+use Rattle.ol_net.specs.declared.parts.Kind.{Kind}
+use Rattle.ol_net.specs.declared.parts.Kind.TheVariants as kind
+use Rattle.ol_net.specs.declared.parts.Port.{Port}
+use Rattle.ol_net.specs.Build.{is_bad_index, BadIndexAt, NoneOf}
+use Rattle.ol_translate.specs.Translation.{Part, part_of, application, erasers, bracket_nodes, bracketed, fans, fan_nodes, merged, wire_of, nodes_of}
+
+-- the index of a node that is no eraser is at most m, and an eraser's is 0
+abbrev pub IsLow : ℕ → Kind × ℕ → Type 0
+IsLow m (kind.Lam, i) = i ≤ m
+IsLow m (kind.App, i) = i ≤ m
+IsLow m (kind.Fan, i) = i ≤ m
+IsLow m (kind.Croissant, i) = i ≤ m
+IsLow m (kind.Bracket, i) = i ≤ m
+IsLow m (kind.Eraser, i) = i ≡ 0
+
+abbrev pub AreLow : ℕ → List (Kind × ℕ) → Type 0
+AreLow m [] = Unit {0}
+AreLow m (node ∷ nodes) = IsLow m node × AreLow m nodes
+
+IsLow-weaker : (m l : ℕ) (node : Kind × ℕ) → m ≤ l → IsLow m node → IsLow l node
+IsLow-weaker m l (kind.Lam, i) h low = omega arith
+IsLow-weaker m l (kind.App, i) h low = omega arith
+IsLow-weaker m l (kind.Fan, i) h low = omega arith
+IsLow-weaker m l (kind.Croissant, i) h low = omega arith
+IsLow-weaker m l (kind.Bracket, i) h low = omega arith
+IsLow-weaker m l (kind.Eraser, i) h low = low
+
+AreLow-weaker : (m l : ℕ) (nodes : List (Kind × ℕ)) → m ≤ l → AreLow m nodes → AreLow l nodes
+AreLow-weaker m l [] h low = tt
+AreLow-weaker m l (node ∷ nodes) h low = (IsLow-weaker m l node h low.0, AreLow-weaker m l nodes h low.1)
+
+AreLow-append : (m : ℕ) (xs ys : List (Kind × ℕ)) → AreLow m xs → AreLow m ys → AreLow m (xs ++ ys)
+AreLow-append m [] ys hx hy = hy
+AreLow-append m (x ∷ xs) ys hx hy = (hx.0, AreLow-append m xs ys hx.1 hy)
+
+erasers_low : (m : ℕ) (x : Option Port) → AreLow m (erasers x)
+erasers_low m None = (refl, tt)
+erasers_low m (Some w) = tt
+
+brackets_low : (m n : ℕ) (wires : List (ℕ × Port)) → n ≤ m → AreLow m (bracket_nodes n wires)
+brackets_low m n [] h = tt
+brackets_low m n (w ∷ wires) h = (h, brackets_low m n wires h)
+
+fan_low : (m n : ℕ) (x : Option Port) → n ≤ m → AreLow m (fan_nodes n x)
+fan_low m n None h = tt
+fan_low m n (Some p) h = (h, tt)
+
+fans_low : (m n f : ℕ) (wires more : List (ℕ × Port)) → n ≤ m → AreLow m (fans n f wires more).nodes
+fans_low m n f wires [] h = tt
+fans_low m n f wires (w ∷ more) h =
+    let x = wire_of w.0 wires in
+    AreLow-append m (fan_nodes n (wire_of w.0 wires)) (fans n (f + length (fan_nodes n (wire_of w.0 wires))) (merged f (wire_of w.0 wires) w wires) more).nodes
+    (fan_low m n (wire_of w.0 wires) h)
+    (fans_low m n (f + length (fan_nodes n (wire_of w.0 wires))) (merged f (wire_of w.0 wires) w wires) more h)
+
+application_low : (m n k : ℕ) (M N : Part) → n ≤ m → AreLow m M.nodes → AreLow m N.nodes → AreLow m (application n k M N).nodes
+application_low m n k M N h left right =
+    let b = k + 1 + length M.nodes + length N.nodes in
+    let F = fans n (k + 1 + length M.nodes + length N.nodes + length N.wires) M.wires (bracketed (k + 1 + length M.nodes + length N.nodes) N.wires) in
+    AreLow-append m (((kind.App, n) ∷ M.nodes) ++ N.nodes) (bracket_nodes n N.wires ++ F.nodes)
+    (AreLow-append m ((kind.App, n) ∷ M.nodes) N.nodes (h, left) right)
+    (AreLow-append m (bracket_nodes n N.wires) F.nodes (brackets_low m n N.wires h)
+    (fans_low m n (k + 1 + length M.nodes + length N.nodes + length N.wires) M.wires (bracketed (k + 1 + length M.nodes + length N.nodes) N.wires) h))
+
+application_longer : (n k : ℕ) (M N : Part) → 1 + length M.nodes + length N.nodes ≤ length (application n k M N).nodes
+application_longer n k M N =
+    let F = fans n (k + 1 + length M.nodes + length N.nodes + length N.wires) M.wires (bracketed (k + 1 + length M.nodes + length N.nodes) N.wires) in
+    omega (arith, length-append (((kind.App, n) ∷ M.nodes) ++ N.nodes) (bracket_nodes n N.wires ++ F.nodes), length-append M.nodes N.nodes)
+
+pub part_low : (t : Tree) (d n k : ℕ) → AreLow (n + length (part_of t d n k).nodes) (part_of t d n k).nodes
+part_low (var v) d n k = (omega arith, tt)
+part_low (free f) d n k = (omega arith, tt)
+part_low (lam M) d n k =
+    let body = part_of M (d + 1) n (k + 1) in
+    let x = wire_of 0 (part_of M (d + 1) n (k + 1)).wires in
+    let longer = length-append (part_of M (d + 1) n (k + 1)).nodes (erasers (wire_of 0 (part_of M (d + 1) n (k + 1)).wires)) in
+    let m = n + length (part_of (lam M) d n k).nodes in
+    AreLow-append (n + length (part_of (lam M) d n k).nodes) ((kind.Lam, n) ∷ (part_of M (d + 1) n (k + 1)).nodes) (erasers (wire_of 0 (part_of M (d + 1) n (k + 1)).wires))
+    (omega arith, AreLow-weaker (n + length (part_of M (d + 1) n (k + 1)).nodes) (n + length (part_of (lam M) d n k).nodes) (part_of M (d + 1) n (k + 1)).nodes (omega (arith, longer)) (part_low M (d + 1) n (k + 1)))
+    (erasers_low (n + length (part_of (lam M) d n k).nodes) (wire_of 0 (part_of M (d + 1) n (k + 1)).wires))
+part_low (app M N) d n k =
+    let M' = part_of M d n (k + 1) in
+    let N' = part_of N d (n + 1) (k + 1 + length (part_of M d n (k + 1)).nodes) in
+    let longer = application_longer n k M' N' in
+    application_low (n + length (part_of (app M N) d n k).nodes) n k M' N' (omega arith)
+    (AreLow-weaker (n + length M'.nodes) (n + length (part_of (app M N) d n k).nodes) M'.nodes (omega (arith, longer)) (part_low M d n (k + 1)))
+    (AreLow-weaker (n + 1 + length N'.nodes) (n + length (part_of (app M N) d n k).nodes) N'.nodes (omega (arith, longer)) (part_low N d (n + 1) (k + 1 + length M'.nodes)))
+
+-- ---- no index is refused
+
+low_is_good : (m : ℕ) (node : Kind × ℕ) → m ≤ 1000000 → IsLow m node → is_bad_index node ≡ false
+low_is_good m (kind.Lam, i) h low = grind (arith, nat_tests)
+low_is_good m (kind.App, i) h low = grind (arith, nat_tests)
+low_is_good m (kind.Fan, i) h low = grind (arith, nat_tests)
+low_is_good m (kind.Croissant, i) h low = grind (arith, nat_tests)
+low_is_good m (kind.Bracket, i) h low = grind (arith, nat_tests)
+low_is_good m (kind.Eraser, i) h low = rw low refl
+
+none_bad : (m j : ℕ) (nodes : List (Kind × ℕ)) → m ≤ 1000000 → AreLow m nodes → is_bad_index (get_or nodes j (kind.Eraser, 0)) ≡ false
+none_bad m j [] h low = refl
+none_bad m zero (node ∷ nodes) h low = low_is_good m node h low.0
+none_bad m (suc j) (node ∷ nodes) h low = none_bad m j nodes h low.1
+
+pub good_indexes : (t : Tree) → length (nodes_of t) ≤ 200000 → NoneOf (BadIndexAt (nodes_of t))
+good_indexes t h j bad =
+    let good = none_bad (0 + length (nodes_of t)) j (nodes_of t) (omega arith) (part_low t 0 0 0) in
+    absurd (cc)

@@ -1,0 +1,10 @@
+pub mod Walks
+pub mod Counts
+pub mod Joints
+pub mod Ports
+pub mod Indexes
+pub mod Sizing
+pub mod Bound
+pub mod Answering
+pub mod Fitting
+pub mod Rows

@@ -1,0 +1,61 @@
+use Rattle.std.proofs.Common.{◌+◌, length, Err, refl, ap, ◌∙◌, arith}
+use Rattle.std.proofs.lemmas.Result.{err_from_is_err_and}
+use Rattle.ol_parse.specs.Trees.{tree_of}
+use Rattle.ol_net.specs.Numbered.{net_of}
+use Rattle.ol_translate.specs.Sizes.{size_of_translation}
+use Rattle.ol_translate.proofs.Bound.{few_names, few_links, few_enough}
+use Rattle.ol_translate.proofs.Sizing.{size_of_nodes}
+use Rattle.ol_translate.proofs.Fitting.{never_refused, same_translation, length-all_live}
+use Rattle.ol_translate.proofs.Answering.{refused_where, given_where}
+use Rattle.ol_translate.proofs.translate.Goals as goal
+
+pub returns-in_err-parts-clause-too_many : goal.returns-in_err-parts-clause-too_many
+returns-in_err-parts-clause-too_many c =
+    let p = err_from_is_err_and c.from_residual.result c.from_residual.ensures.1 in
+    refused_where c.from_residual.result c.in_err-parts.field-0.0 200000 (size_of_translation (tree_of c.args.file.now.term))
+    (p.1 ∙ ap (λ e. Err e) p.2) (λ is. omega (arith, c.in_err-parts.ensures.too_many is, size_of_nodes (tree_of c.args.file.now.term)))
+
+pub returns-in_err-parts-clause-small : goal.returns-in_err-parts-clause-small
+returns-in_err-parts-clause-small c =
+    let p = err_from_is_err_and c.from_residual.result c.from_residual.ensures.1 in
+    rw (p.1, p.2) (λ closed short is.
+    let many = c.in_err-parts.ensures.too_many is in
+    let few = few_enough (tree_of c.args.file.now.term) c.requires.names.bound closed short in
+    absurd (omega (arith, many, few, size_of_nodes (tree_of c.args.file.now.term))))
+
+pub overflow_add-len : goal.overflow_add-len
+overflow_add-len c =
+    let names = few_names (tree_of c.args.file.now.term) (length c.args.file.now.names) c.requires.names in
+    omega (arith, names, ap length c.in_ok-parts.ensures.nodes, c.len.ensures, c.in_ok-parts.parts.few)
+
+pub build-requires-clause-few_links : goal.build-requires-clause-few_links
+build-requires-clause-few_links c =
+    omega (
+      arith,
+      few_links (tree_of c.args.file.now.term),
+      ap length c.in_ok-parts.ensures.nodes,
+      ap length c.in_ok-parts.ensures.links,
+      c.in_ok-parts.parts.few,
+      c.in_ok-parts.parts.links.ok.0,
+    )
+
+pub unreachable-requires : goal.unreachable-requires
+unreachable-requires c =
+    never_refused (tree_of c.args.file.now.term) (length c.args.file.now.names) (c.len.result + 1) c.in_ok-parts.parts.nodes.items c.in_ok-parts.parts.links.items
+    c.in-Err.fault c.requires.names (omega (arith, c.len.ensures)) c.in_ok-parts.ensures.nodes c.in_ok-parts.ensures.links c.in_ok-parts.parts.few
+    c.in-Err.ensures c.in_default.not-NoMemory
+
+pub returns-in-Ok-clause-net : goal.returns-in-Ok-clause-net
+returns-in-Ok-clause-net c =
+    same_translation (tree_of c.args.file.now.term) (length c.args.file.now.names) (c.len.result + 1) c.in_ok-parts.parts.nodes.items c.in_ok-parts.parts.links.items
+    (net_of c.in-Ok.net) (omega (arith, c.len.ensures)) c.in_ok-parts.ensures.nodes c.in_ok-parts.ensures.links c.in-Ok.ensures.same_net
+
+pub returns-in-Ok-clause-size : goal.returns-in-Ok-clause-size
+returns-in-Ok-clause-size c =
+    ap length c.in-Ok.ensures.same_nodes ∙ length-all_live c.in_ok-parts.parts.nodes.items ∙ ap length c.in_ok-parts.ensures.nodes
+    ∙ size_of_nodes (tree_of c.args.file.now.term)
+
+pub returns-in-Ok-clause-too_many : goal.returns-in-Ok-clause-too_many
+returns-in-Ok-clause-too_many c =
+    λ _. given_where _ c.in-Ok.net 200000 (size_of_translation (tree_of c.args.file.now.term)) refl
+    (omega (arith, size_of_nodes (tree_of c.args.file.now.term), ap length c.in_ok-parts.ensures.nodes, c.in_ok-parts.parts.few))

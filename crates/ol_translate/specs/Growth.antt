@@ -1,0 +1,23 @@
+-- What a step of the walk adds to the nodes and links that are laid down.
+use Rattle.std.specs.Prelude.{◌≡◌, ◌<◌, ℕ, List, ◌++◌, length, slice_set, slice_index_or, Some}
+use Rattle.ol_net.specs.declared.parts.Kind.{Kind}
+use Rattle.ol_net.specs.declared.parts.Port.{Port}
+use Rattle.ol_translate.specs.Translation.{Part, wire_of, rewired}
+
+-- the part's nodes and links come last, and its root and wires are these
+pub record Lays (nodes : List (Kind × ℕ)) (links : List (Port × Port)) (P : Part) (nodes' : List (Kind × ℕ)) (links' : List (Port × Port)) (root : Port) (wires : List (ℕ × Port)) : Type 0 where
+  pub nodes_are : nodes' ≡ nodes ++ P.nodes
+  pub links_are : links' ≡ links ++ P.links
+  pub root_is : root ≡ P.root
+  pub wires_are : wires ≡ P.wires
+
+-- these nodes and links come last
+pub record Adds (nodes nodes' : List (Kind × ℕ)) (links links' : List (Port × Port)) (more : List (Kind × ℕ)) (joins : List (Port × Port)) : Type 0 where
+  pub nodes_are : nodes' ≡ nodes ++ more
+  pub links_are : links' ≡ links ++ joins
+
+-- the wire of this variable stands at this place
+pub record IsPlaced (v : ℕ) (wires : List (ℕ × Port)) (place : ℕ) : Type 0 where
+  pub within : place < length wires
+  pub port : (w : ℕ × Port) → wire_of v wires ≡ Some (slice_index_or wires place w).1
+  pub changes : (p : Port) → rewired v p wires ≡ slice_set wires place (v, p)

@@ -1,0 +1,4 @@
+pub mod Translation
+pub mod Sizes
+pub mod Names
+pub mod Growth

@@ -1,0 +1,31 @@
+//! Why a term is not translated.
+
+ghost use Rattle.std.specs.Prelude.{◌≡◌};
+ghost use Rattle.ol_translate.specs.declared.faults.TransFault.TheVariants.{NoMemory};
+
+use std::alloc::{AllocError, AllocFailed};
+
+/// Why a term is not translated.
+#[derive(Clone, Copy, Debug, PartialEq, Eq)]
+pub enum TransFault {
+    /// The net would have more than `MOST_NODES` nodes.
+    TooMany,
+    /// Memory ran out.
+    NoMemory,
+}
+
+impl From<AllocError> for TransFault {
+    ghost from_gives = { λ _ e. e ≡ NoMemory };
+
+    fn from(_: AllocError) -> Self {
+        TransFault::NoMemory
+    }
+}
+
+impl<T: Drop> From<AllocFailed<T>> for TransFault {
+    ghost from_gives = { λ _ e. e ≡ NoMemory };
+
+    fn from(_: AllocFailed<T>) -> Self {
+        TransFault::NoMemory
+    }
+}

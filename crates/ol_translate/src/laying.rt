@@ -1,0 +1,214 @@
+//! The walk over a term that lays down its nodes and links.
+
+ghost use Rattle.std.specs.Prelude.{◌≡◌, ℕ, ◌^◌, All, ◌≤◌, ◌<◌, ◌+◌, ◌++◌, [], ◌∷◌, length, IfOk, OnOk, IfErr};
+ghost use Rattle.ol_parse.specs.Trees.{tree_of};
+ghost use Rattle.ol_translate.specs.Translation.{nodes_of, links_of, name_links, occurrence, part_of, wire_of, outside, slot, erasers, bound_port, bracket_nodes, bracket_links, bracketed, fans, fan_nodes, fan_links, merged};
+ghost use Rattle.ol_translate.specs.Growth.{Lays, Adds};
+ghost use Rattle.ol_translate.specs.Names.{HasNames};
+ghost use Rattle.ol_translate.specs.declared.TheConstants.{MOST_NODES};
+ghost use Rattle.ol_translate.specs.declared.faults.TransFault.TheVariants.{TooMany};
+
+use crate::faults::TransFault;
+use crate::parts::Parts;
+use crate::wires::{Ends, Wire, find_wire, place_of, slot_of};
+use ol_net::{Kind, Port};
+use ol_parse::Term;
+use std::alloc::Global;
+
+impl Parts {
+    /// A whole term, at level 0. Its root is joined to free port 0, and the wire of each name to the
+    /// name's free port.
+    pub fn whole(alloc: Global, term: &Term) -> Result<Parts, TransFault>
+        requires { (names : ℕ) × HasNames (tree_of term.now) names }
+        ensures nodes { IfOk result (λ parts. parts.nodes.items ≡ nodes_of (tree_of term.now)) }
+        ensures links { IfOk result (λ parts. parts.links.items ≡ links_of (tree_of term.now)) }
+        ensures too_many { IfErr result (λ e. e ≡ TooMany → MOST_NODES < length (nodes_of (tree_of term.now))) }
+    {
+        let mut parts = Parts {
+            alloc,
+            nodes: Vec::new(alloc),
+            links: Vec::new(alloc),
+        };
+        let ends = parts.part(term, 0, 0)?;
+        parts.join(Port::Free(0), ends.root)?;
+        parts.join_names(&ends.wires)?;
+        Ok(parts)
+    }
+
+    /// The wire of each name is joined to the name's free port.
+    fn join_names(&mut self, wires: &Vec<Wire>) -> Result<(), TransFault>
+        requires few { All (λ w. w.0 < 2 ^ 31) wires.now.items }
+        ensures links { OnOk result (self.new.links.items ≡ self.old.links.items ++ name_links wires.now.items) }
+        ensures nodes { self.new.nodes.items ≡ self.old.nodes.items }
+        ensures refusal { IfErr result (λ e. e ≡ TooMany → ⊥) }
+    {
+        for wire in wires {
+            self.join(Port::Free((wire.0 + 1) as u32), wire.1)?;
+        }
+        Ok(())
+    }
+
+    /// A term under so many abstractions and at a level.
+    pub fn part(&mut self, term: &Term, depth: usize, level: u32) -> Result<Ends, TransFault>
+        requires few_abstractions { depth ≤ length self.old.nodes.items }
+        requires few_levels { level ≤ length self.old.nodes.items }
+        ensures lays { IfOk result (λ ends. Lays self.old.nodes.items self.old.links.items
+            (part_of (tree_of term.now) depth level (length self.old.nodes.items))
+            self.new.nodes.items self.new.links.items ends.root ends.wires.items) }
+        ensures too_many { IfErr result (λ e. e ≡ TooMany → MOST_NODES
+            < length self.old.nodes.items + length (part_of (tree_of term.now) depth level (length self.old.nodes.items)).nodes) }
+    {
+        match term {
+            Term::Var(variable) => self.occurrence(*variable as usize, level),
+            Term::Free(name) => self.occurrence(depth + *name as usize, level),
+            Term::Lam(body) => {
+                let number = self.add(Kind::Lam, level)?;
+                let body = self.part(body, depth + 1, level)?;
+                self.abstraction(number, &body)
+            }
+            Term::App(function, argument) => {
+                let number = self.add(Kind::App, level)?;
+                let function = self.part(function, depth, level)?;
+                let argument = self.part(argument, depth, level + 1)?;
+                self.application(number, level, function, &argument)
+            }
+        }
+    }
+
+    fn occurrence(&mut self, variable: usize, level: u32) -> Result<Ends, TransFault>
+        ensures lays { IfOk result (λ ends. Lays self.old.nodes.items self.old.links.items
+            (occurrence variable level (length self.old.nodes.items))
+            self.new.nodes.items self.new.links.items ends.root ends.wires.items) }
+        ensures too_many { IfErr result (λ e. e ≡ TooMany → MOST_NODES ≤ length self.old.nodes.items) }
+    {
+        let number = self.add(Kind::Croissant, level)?;
+        let mut wires = Vec::new(self.alloc);
+        wires.push((variable, slot_of(number, 0)))?;
+        Ok(Ends {
+            root: slot_of(number, 1),
+            wires,
+        })
+    }
+
+    /// The joins of abstraction `number`, after the nodes of its body.
+    fn abstraction(&mut self, number: u32, body: &Ends) -> Result<Ends, TransFault>
+        ensures adds { OnOk result (Adds self.old.nodes.items self.new.nodes.items self.old.links.items self.new.links.items
+            (erasers (wire_of 0 body.now.wires.items))
+            ((slot number 1, body.now.root)
+            ∷ (slot number 2, bound_port (wire_of 0 body.now.wires.items) (length self.old.nodes.items)) ∷ [])) }
+        ensures ends { IfOk result (λ ends. (ends.root ≡ slot number 0) × (ends.wires.items ≡ outside body.now.wires.items)) }
+        ensures too_many { IfErr result (λ e. e ≡ TooMany → MOST_NODES
+            < length self.old.nodes.items + length (erasers (wire_of 0 body.now.wires.items))) }
+    {
+        let bound = match find_wire(&body.wires, 0) {
+            Some(port) => port,
+            None => slot_of(self.add(Kind::Eraser, 0)?, 0),
+        };
+        self.join(slot_of(number, 1), body.root)?;
+        self.join(slot_of(number, 2), bound)?;
+        let wires: Vec<Wire> = body
+            .wires
+            .iter()
+            .filter(|w| w.0 > 0)
+            .map(|w| (w.0.saturating_sub(1), w.1))
+            .collect(self.alloc)?;
+        Ok(Ends {
+            root: slot_of(number, 0),
+            wires,
+        })
+    }
+
+    /// The joins of application `number`, after the nodes of its two terms.
+    fn application(
+        &mut self,
+        number: u32,
+        level: u32,
+        function: Ends,
+        argument: &Ends,
+    ) -> Result<Ends, TransFault>
+        ensures adds { IfOk result (λ ends.
+            let b = length self.old.nodes.items in
+            let more = argument.now.wires.items in
+            let F = fans level (b + length more) function.wires.items (bracketed b more) in
+            Adds self.old.nodes.items self.new.nodes.items self.old.links.items self.new.links.items
+            (bracket_nodes level more ++ F.nodes)
+            (((slot number 0, function.root) ∷ (slot number 2, argument.now.root) ∷ []) ++ (bracket_links b more ++ F.links))
+            × (ends.root ≡ slot number 1) × (ends.wires.items ≡ F.wires)) }
+        ensures too_many { IfErr result (λ e. e ≡ TooMany →
+            let b = length self.old.nodes.items in
+            let more = argument.now.wires.items in
+            MOST_NODES < b + length (bracket_nodes level more)
+            + length (fans level (b + length more) function.wires.items (bracketed b more)).nodes) }
+    {
+        let mut wires = function.wires;
+        self.join(slot_of(number, 0), function.root)?;
+        self.join(slot_of(number, 2), argument.root)?;
+        let bracketed = self.brackets(level, &argument.wires)?;
+        self.fans(level, &mut wires, &bracketed)?;
+        Ok(Ends {
+            root: slot_of(number, 1),
+            wires,
+        })
+    }
+
+    /// A bracket on each wire.
+    fn brackets(&mut self, level: u32, wires: &Vec<Wire>) -> Result<Vec<Wire>, TransFault>
+        ensures adds { IfOk result (λ out.
+            Adds self.old.nodes.items self.new.nodes.items self.old.links.items self.new.links.items
+            (bracket_nodes level wires.now.items) (bracket_links (length self.old.nodes.items) wires.now.items)
+            × (out.items ≡ bracketed (length self.old.nodes.items) wires.now.items)) }
+        ensures too_many { IfErr result (λ e. e ≡ TooMany → MOST_NODES
+            < length self.old.nodes.items + length (bracket_nodes level wires.now.items)) }
+    {
+        let mut out = Vec::new(self.alloc);
+        for wire in wires {
+            let number = self.add(Kind::Bracket, level)?;
+            self.join(slot_of(number, 1), wire.1)?;
+            out.push((wire.0, slot_of(number, 0)))?;
+        }
+        Ok(out)
+    }
+
+    /// The wires of an argument join those of its function.
+    fn fans(
+        &mut self,
+        level: u32,
+        wires: &mut Vec<Wire>,
+        more: &Vec<Wire>,
+    ) -> Result<(), TransFault>
+        ensures adds { OnOk result (
+            let F = fans level (length self.old.nodes.items) wires.old.items more.now.items in
+            Adds self.old.nodes.items self.new.nodes.items self.old.links.items self.new.links.items F.nodes F.links
+            × (wires.new.items ≡ F.wires)) }
+        ensures too_many { IfErr result (λ e. e ≡ TooMany → MOST_NODES < length self.old.nodes.items
+            + length (fans level (length self.old.nodes.items) wires.old.items more.now.items).nodes) }
+    {
+        for wire in more {
+            self.fan(level, wires, *wire)?;
+        }
+        Ok(())
+    }
+
+    /// A fan for a variable that has a wire already, else its own wire, last.
+    fn fan(&mut self, level: u32, wires: &mut Vec<Wire>, wire: Wire) -> Result<(), TransFault>
+        ensures adds { OnOk result (
+            let x = wire_of wire.0 wires.old.items in
+            Adds self.old.nodes.items self.new.nodes.items self.old.links.items self.new.links.items
+            (fan_nodes level x) (fan_links (length self.old.nodes.items) x wire.1)
+            × (wires.new.items ≡ merged (length self.old.nodes.items) x wire wires.old.items)) }
+        ensures too_many { IfErr result (λ e. e ≡ TooMany → MOST_NODES
+            < length self.old.nodes.items + length (fan_nodes level (wire_of wire.0 wires.old.items))) }
+    {
+        match place_of(wires, wire.0) {
+            None => wires.push(wire)?,
+            Some(place) => {
+                let number = self.add(Kind::Fan, level)?;
+                let port = wires[place].1;
+                self.join(slot_of(number, 1), port)?;
+                self.join(slot_of(number, 2), wire.1)?;
+                wires[place] = (wire.0, slot_of(number, 0));
+            }
+        }
+        Ok(())
+    }
+}

@@ -1,0 +1,58 @@
+//! Terms as nets.
+#![tactic(auto)]
+
+ghost use Rattle.std.specs.Prelude.{◌≡◌, ◌≢◌, ◌≤◌, ◌<◌, ◌+◌, ◌*◌, ◌↔◌, true, length, Ok, Err, IfOk, IfErr};
+ghost use Rattle.ol_parse.specs.Trees.{tree_of, is_named_below, depth, lams, occurrences};
+ghost use Rattle.ol_net.specs.Nets.{SameNet};
+ghost use Rattle.ol_net.specs.Numbered.{net_of};
+ghost use Rattle.ol_net.specs.Build.{all_live};
+ghost use Rattle.ol_translate.specs.Translation.{nodes_of, translation_of};
+ghost use Rattle.ol_translate.specs.Sizes.{size_of_translation};
+ghost use Rattle.ol_translate.specs.Names.{HasNames};
+
+mod faults;
+mod laying;
+mod parts;
+#[cfg(test)]
+mod tests;
+mod wires;
+
+pub use faults::TransFault;
+use ol_net::{BuildFault, Net};
+use ol_parse::TermFile;
+use parts::Parts;
+use std::alloc::Global;
+
+/// The most nodes that a translated term has.
+pub const MOST_NODES: usize = 200_000;
+
+/// The net of a term: Lamping's graph of it, with croissants and brackets for levels (Gonthier, Abadi and
+/// Lévy, The geometry of optimal lambda reduction, 1992).
+///
+/// The root is joined to free port 0, and free name k, from 0, has free port k + 1. Nodes are numbered
+/// from 0 in preorder: a node before those of its subterms, the function before the argument, an eraser
+/// after its abstraction's body, and brackets and then fans after both terms of their application.
+///
+/// `TooMany` comes exactly where the net would have more than `MOST_NODES` nodes.
+pub fn translate(alloc: Global, file: &TermFile) -> Result<Net, TransFault>
+    requires names { HasNames (tree_of file.now.term) (length file.now.names) }
+    requires shallow { depth (tree_of file.now.term) ≤ 1000 }
+    ensures net { IfOk result (λ net. SameNet (net_of net) (translation_of (tree_of file.now.term) (length file.now.names))) }
+    ensures numbers { IfOk result (λ net. net.nodes ≡ all_live (nodes_of (tree_of file.now.term))) }
+    ensures size { IfOk result (λ net. length net.nodes ≡ size_of_translation (tree_of file.now.term)) }
+    ensures too_many { result ≢ Err TransFault.NoMemory
+        → ((result ≡ Err TransFault.TooMany) ↔ (MOST_NODES < size_of_translation (tree_of file.now.term))) }
+    ensures small { is_named_below 0 (tree_of file.now.term) ≡ true
+        → 3 * lams (tree_of file.now.term) + occurrences (tree_of file.now.term) ≤ 1024
+        → IfErr result (λ e. e ≢ TransFault.TooMany) }
+{
+    let parts = Parts::whole(alloc, &file.term)?;
+    match Net::build(alloc, file.names.len() + 1, parts.nodes, parts.links) {
+        Ok(net) => Ok(net),
+        Err(fault) => match fault {
+            BuildFault::NoMemory => Err(TransFault::NoMemory),
+            // The parts of a term are those of a net.
+            _ => unreachable!(),
+        },
+    }
+}

@@ -1,0 +1,48 @@
+//! The nodes and links that are laid down.
+
+ghost use Rattle.std.specs.Prelude.{◌≡◌, ◌≤◌, ◌<◌, ◌++◌, [], ◌∷◌, length, IfOk, OnOk, IfErr};
+ghost use Rattle.ol_translate.specs.declared.TheConstants.{MOST_NODES};
+ghost use Rattle.ol_translate.specs.declared.faults.TransFault.{TransFault};
+ghost use Rattle.ol_translate.specs.declared.faults.TransFault.TheVariants.{TooMany};
+
+use crate::MOST_NODES;
+use crate::faults::TransFault;
+use ol_net::{Kind, Port};
+use std::alloc::Global;
+
+/// The nodes, in order of their numbers, and the links.
+#[derive(Drop)]
+pub struct Parts {
+    pub alloc: Global,
+    pub nodes: Vec<(Kind, u32)>,
+    pub links: Vec<(Port, Port)>,
+    ghost few: { length nodes.items ≤ MOST_NODES },
+}
+
+impl Parts {
+    /// Lays down a node, and gives its number.
+    pub fn add(&mut self, kind: Kind, index: u32) -> Result<u32, TransFault>
+        ensures number { IfOk result (λ number. number ≡ length self.old.nodes.items) }
+        ensures nodes { OnOk result (self.new.nodes.items ≡ self.old.nodes.items ++ (kind, index) ∷ []) }
+        ensures links { self.new.links.items ≡ self.old.links.items }
+        ensures fits { OnOk result (length self.old.nodes.items < MOST_NODES) }
+        ensures too_many { IfErr result (λ e. e ≡ TooMany → MOST_NODES ≤ length self.old.nodes.items) }
+    {
+        let number = self.nodes.len();
+        if number >= MOST_NODES {
+            return Err(TransFault::TooMany);
+        }
+        self.nodes.push((kind, index))?;
+        Ok(number as u32)
+    }
+
+    /// Lays down a link.
+    pub fn join(&mut self, one: Port, other: Port) -> Result<(), TransFault>
+        ensures links { OnOk result (self.new.links.items ≡ self.old.links.items ++ (one, other) ∷ []) }
+        ensures nodes { self.new.nodes.items ≡ self.old.nodes.items }
+        ensures refusal { IfErr result (λ e. e ≡ TooMany → ⊥) }
+    {
+        self.links.push((one, other))?;
+        Ok(())
+    }
+}
