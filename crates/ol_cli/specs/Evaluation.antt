@@ -7,7 +7,7 @@ use Rattle.ol_rules.specs.declared.journal.NodeName.{NodeName}
 use Rattle.ol_rules.specs.declared.journal.NodeName.TheVariants.{Init}
 use Rattle.ol_rules.specs.declared.journal.Entry.{Entry}
 use Rattle.ol_rules.specs.Counting.{counts_of}
-use Rattle.ol_rules.specs.Runs.{IsOneThread, IsComplete}
+use Rattle.ol_rules.specs.Runs.{IsOneThread, IsComplete, HasActive}
 use Rattle.ol_translate.specs.Translation.{translation_of}
 use Rattle.ol_cli.specs.declared.status.Status.{Status}
 use Rattle.ol_cli.specs.declared.status.Status.TheVariants as status
@@ -15,7 +15,7 @@ use Rattle.ol_cli.specs.Texts.{counts_text, spent_text}
 
 -- the one-thread run from the net of a closed term, whose nodes are named by their numbers
 abbrev pub Runs : Tree → ℕ → List Entry → NamedNet NodeName → Type 0
-Runs t fuel journal net = IsOneThread (net_under Init (translation_of 0 t)) fuel journal net
+Runs t fuel journal net = IsOneThread (net_under Init (translation_of t 0)) fuel journal net
 
 -- The run has more than `fuel` steps.
 pub record RunsOut (t : Tree) (fuel : ℕ) : Type 0 where
@@ -23,7 +23,7 @@ pub record RunsOut (t : Tree) (fuel : ℕ) : Type 0 where
   pub net : NamedNet NodeName
   pub run : Runs t fuel journal net
   pub full : length journal ≡ fuel
-  pub left : IsComplete net → ⊥
+  pub left : HasActive net
 
 -- The run ends within `fuel` steps, and this text tells its counts.
 pub record Prints (t : Tree) (fuel : ℕ) (text : List ℕ) : Type 0 where

@@ -1,7 +1,7 @@
 -- The texts that the program writes.
 use Rattle.std.specs.Prelude.{ℕ, List, [], ◌∷◌, ◌++◌, codes}
 use Rattle.std.specs.Fmt.{decimal}
-use Rattle.ol_rules.specs.declared.tally.Counts.{Counts}
+use Rattle.ol_rules.specs.declared.journal.Counts.{Counts}
 
 -- the words and a line feed
 abbrev pub line : List ℕ → List ℕ

@@ -1,6 +1,7 @@
 //! The job itself: from the bytes of a term file to a text and a status.
-ghost use Rattle.std.specs.Prelude.{◌≡◌, ◌≤◌, ◌+◌, ◌*◌, length, IfOk, true};
-ghost use Rattle.ol_parse.specs.Trees.{Tree, tree_of, is_below, is_named_below, lams, occurrences, depth};
+ghost use Rattle.std.specs.Prelude.{◌≡◌, ◌≤◌, ◌+◌, ◌*◌, length, IfOk, []};
+ghost use Rattle.ol_parse.specs.Trees.{Tree, tree_of, lams, occurrences, depth};
+ghost use Rattle.ol_translate.specs.Names.{HasNames};
 ghost use Rattle.ol_cli.specs.Answers.{Evaluates};
 ghost use Rattle.ol_cli.specs.Evaluation.{Prints, RunsOut, TermAnswer};
 
@@ -9,7 +10,7 @@ use crate::texts::{counts_lines, line, spent_line};
 use ol_io::NoMemory;
 use ol_parse::{SmallFault, TermFile, parse_small};
 use ol_rules::{Ended, counts, run};
-use ol_translate::{small_terms_fit, translate};
+use ol_translate::translate;
 use std::alloc::Global;
 
 /// The greatest number of interactions.
@@ -40,18 +41,19 @@ pub fn evaluate(alloc: Global, bytes: &[u8]) -> Result<Answer, NoMemory>
 
 /// The answer to a closed term: its one-thread run within the fuel.
 fn evaluate_term(alloc: Global, file: &TermFile) -> Result<Answer, NoMemory>
-    requires closed { is_below 0 (tree_of file.now.term) ≡ true }
-    requires named { is_named_below 0 (tree_of file.now.term) ≡ true }
-    requires no_names { length file.now.names ≡ 0 }
+    requires names { HasNames (tree_of file.now.term) 0 }
+    requires no_names { file.now.names ≡ [] }
     requires shallow { depth (tree_of file.now.term) ≤ 1000 }
     requires small { 3 * lams (tree_of file.now.term) + occurrences (tree_of file.now.term) ≤ 1024 }
     ensures answer { IfOk result (λ a. TermAnswer (tree_of file.now.term) a.status a.text.items) }
 {
-    small_terms_fit(file);
-    let Ok(mut net) = translate(alloc, file) else {
-        return Err(NoMemory);
+    let mut net = match translate(alloc, file) {
+        Ok(net) => net,
+        // A term of so few bytes has at most 200,000 nodes, so only memory can be lacking.
+        Err(_) => return Err(NoMemory),
     };
     let ran = run(alloc, &mut net, FUEL)?;
+    net.is_net();
     match ran.ended {
         Ended::Spent => {
             let text = spent_line(alloc, FUEL)?;

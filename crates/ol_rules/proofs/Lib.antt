@@ -21,4 +21,4 @@ pub mod UnderWay
 pub mod Waiting
 pub mod OneThread
 pub mod Same
-pub mod Counted
+pub mod UnderNames

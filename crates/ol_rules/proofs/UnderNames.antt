@@ -1,10 +1,30 @@
--- The stuck pairs of a net are as many under other names.
+-- Pairs of a net under other names: they face under both, and as many are stuck.
 use Rattle.std.proofs.Common.{◌≡◌, ◌≢◌, ℕ, zero, suc, ◌+◌, length, List, [], ◌∷◌, map, ◌⊎◌, ◌↔◌, inl, inr, refl, sym, ap, ◌∙◌, subst}
 use Rattle.ol_edges.specs.Edges.{IsIn}
 use Rattle.ol_net.specs.declared.parts.Kind.{Kind}
-use Rattle.ol_net.specs.Nets.{NamedPort, free, slot, NamedNet, HasNode, Linked, IsPort, IsNet, Faces, port_under, net_under}
-use Rattle.ol_net.specs.Pairs.{IsStuck, HasPair, AreDifferent, HasStuck}
+use Rattle.ol_net.specs.declared.parts.Rule.{Rule}
+use Rattle.ol_net.specs.Nets.{NamedPort, free, slot, NamedNet, HasNode, Linked, IsPort, IsNet, SameNet, Faces, port_under, net_under}
+use Rattle.ol_net.specs.Pairs.{IsActive, IsStuck, HasPair, AreDifferent, HasStuck}
+use Rattle.ol_rules.specs.Runs.{IsComplete}
+use Rattle.ol_rules.proofs.Relation.{same_sym}
 use Rattle.ol_rules.proofs.Renaming.{in_map, in_map_of, node_to, node_from, link_to, link_from}
+
+-- the same net, under the same names
+module _ {A B : Type 0} (m : A → B) where
+  nodes_to : (M N : NamedNet A) → SameNet M N → (y : B) (k : Kind) (i : ℕ) → HasNode (net_under m M) y k i → HasNode (net_under m N) y k i
+  nodes_to M N s y k i h = let t = node_from m M y k i h in subst (λ z. HasNode (net_under m N) z k i) (sym t.2) (node_to m N t.0 k i ((s.nodes t.0 k i).0 t.1))
+
+  links_to : (M N : NamedNet A) → SameNet M N → (P Q : NamedPort B) → Linked (net_under m M) P Q → Linked (net_under m N) P Q
+  links_to M N s P Q h =
+      let t = link_from m M P Q h in
+      subst (λ z. Linked (net_under m N) z Q) (sym t.2) (subst (λ z. Linked (net_under m N) (port_under m t.0) z) (sym t.3) (link_to m N t.0 t.1 ((s.links t.0 t.1).0 t.4)))
+
+  pub same_under : (M N : NamedNet A) → SameNet M N → SameNet (net_under m M) (net_under m N)
+  same_under M N s = record {
+    nodes = λ y k i. (nodes_to M N s y k i, nodes_to N M (same_sym M N s) y k i);
+    free_ports = s.free_ports;
+    links = λ P Q. (links_to M N s P Q, links_to N M (same_sym M N s) P Q);
+  }
 
 module _ {A B : Type 0} (m : A → B) (N : NamedNet A) (is_net : IsNet N) (one_name : (x y : A) (k l : Kind) (i j : ℕ) → HasNode N x k i → HasNode N y l j → m x ≡ m y → x ≡ y) where
   abbrev under : A × A → B × B
@@ -33,28 +53,45 @@ module _ {A B : Type 0} (m : A → B) (N : NamedNet A) (is_net : IsNet N) (one_n
       let w : 0 ≡ s = cc in
       cc
 
-  pub record StuckBehind (F G : B) : Type 0 where
-    pub f : A
-    pub g : A
-    pub first : F ≡ m f
-    pub second : G ≡ m g
-    pub stuck : IsStuck N f g
+  -- the two nodes behind a facing pair
+  record FacesBehind (F G : B) (k : Kind) (i : ℕ) (l : Kind) (j : ℕ) : Type 0 where
+    f : A
+    g : A
+    first : F ≡ m f
+    second : G ≡ m g
+    faces : Faces N f g k i l j
+
+  faces_from : (F G : B) (k : Kind) (i : ℕ) (l : Kind) (j : ℕ) → Faces (net_under m N) F G k i l j → FacesBehind F G k i l j
+  faces_from F G k i l j h =
+      let x = node_from m N F k i h.first in
+      let y = node_from m N G l j h.second in
+      let e = link_from m N (slot F 0) (slot G 0) h.linked in
+      let ports = is_net.of_ports e.0 e.1 e.4 in
+      let p : slot x.0 0 ≡ e.0 = slot_from x.0 k i e.0 x.1 ports.0 (ap (λ z. slot z 0) (sym x.2) ∙ e.2) in
+      let q : slot y.0 0 ≡ e.1 = slot_from y.0 l j e.1 y.1 ports.1 (ap (λ z. slot z 0) (sym y.2) ∙ e.3) in
+      let linked : Linked N (slot x.0 0) (slot y.0 0) = subst (λ w. Linked N w (slot y.0 0)) (sym p) (subst (λ w. Linked N e.0 w) (sym q) e.4) in
+      record { f = x.0; g = y.0; first = x.2; second = y.2; faces = record { first = x.1; second = y.1; linked = linked } }
+
+  -- where no pair is active, none is under the names
+  pub complete_under : IsComplete N → IsComplete (net_under m N)
+  complete_under c = λ F G r a. let b = faces_from F G a.k a.i a.l a.j a.faces in c b.f b.g r (record { k = a.k; i = a.i; l = a.l; j = a.j; faces = b.faces; fits = a.fits })
+
+  record StuckBehind (F G : B) : Type 0 where
+    f : A
+    g : A
+    first : F ≡ m f
+    second : G ≡ m g
+    stuck : IsStuck N f g
 
   stuck_from : (F G : B) → IsStuck (net_under m N) F G → StuckBehind F G
   stuck_from F G a =
-      let x = node_from m N F a.k a.i a.faces.first in
-      let y = node_from m N G a.l a.j a.faces.second in
-      let e = link_from m N (slot F 0) (slot G 0) a.faces.linked in
-      let ports = is_net.of_ports e.0 e.1 e.4 in
-      let p : slot x.0 0 ≡ e.0 = slot_from x.0 a.k a.i e.0 x.1 ports.0 (ap (λ z. slot z 0) (sym x.2) ∙ e.2) in
-      let q : slot y.0 0 ≡ e.1 = slot_from y.0 a.l a.j e.1 y.1 ports.1 (ap (λ z. slot z 0) (sym y.2) ∙ e.3) in
-      let linked : Linked N (slot x.0 0) (slot y.0 0) = subst (λ w. Linked N w (slot y.0 0)) (sym p) (subst (λ w. Linked N e.0 w) (sym q) e.4) in
+      let b = faces_from F G a.k a.i a.l a.j a.faces in
       record {
-        f = x.0;
-        g = y.0;
-        first = x.2;
-        second = y.2;
-        stuck = record { k = a.k; i = a.i; l = a.l; j = a.j; faces = record { first = x.1; second = y.1; linked = linked }; first = a.first; second = a.second };
+        f = b.f;
+        g = b.g;
+        first = b.first;
+        second = b.second;
+        stuck = record { k = a.k; i = a.i; l = a.l; j = a.j; faces = b.faces; first = a.first; second = a.second };
       }
 
   pair_to : (ps : List (A × A)) (f g : A) → HasPair ps f g → HasPair (map under ps) (m f) (m g)
