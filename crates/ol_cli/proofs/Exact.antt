@@ -1,10 +1,23 @@
 -- What follows from the causes of the statuses.
-use Rattle.std.proofs.Common.{◌≡◌, ◌≢◌, ℕ, ◌<◌, ◌≤◌, Bool, true, false, List, length, take, Option, None, Some, refl, sym, ◌∙◌, subst, inl, inr, ◌⊎◌, arith, String, Global}
+use Rattle.std.proofs.Common.{◌≡◌, ◌≢◌, ℕ, ◌<◌, ◌≤◌, Bool, true, false, List, length, take, Option, None, Some, refl, sym, ◌∙◌, subst, inl, inr, ◌⊎◌, arith, String, Global, Vec, Result, Ok, ◌↔◌}
+use Rattle.std.specs.Result.{IsErrOf}
+use Rattle.ol_io.specs.declared.calls.ReadAll.{ReadAll}
+use Rattle.ol_io.specs.declared.calls.ReadAll.TheVariants.{TooLong}
 use Rattle.ol_io.specs.Outside.{Rose, Appended}
 use Rattle.ol_cli.specs.declared.status.Status.{Status}
 use Rattle.ol_cli.specs.declared.status.Status.TheVariants.{Done, Usage, Spent, ReadFault, WriteFault, NoMemory, NotBuilt}
 use Rattle.ol_cli.specs.Jobs.{is_job}
 use Rattle.ol_cli.specs.Answers.{Evaluates, IsAnswer, Seen, GaveAll, GaveTooMany, Read, Cause, Told, Ends}
+
+-- where all bytes were given, they are within the limit
+pub within_ok : (bytes : Vec ℕ Global) (most given : ℕ) → IsErrOf {T = Vec ℕ Global} {E = ReadAll} (Ok bytes) TooLong ↔ (most < given) → given ≤ most
+within_ok bytes most given h = elim (which most given) [ | inl past ↦ absurd (no (h.1 past)) | inr w ↦ w ]
+  where
+    which : (most given : ℕ) → (most < given) ⊎ (given ≤ most)
+    which most given = grind arith
+
+    no : IsErrOf {T = Vec ℕ Global} {E = ReadAll} (Ok bytes) TooLong → ⊥
+    no h = absurd (cc)
 
 -- the cause of an answer to bytes that were read
 pub read_cause : (words : List (String Global)) (s : Seen) (st : Status) (text : List ℕ) → is_job words ≡ true → s.faults' ≡ s.faults → Read s st text → Cause words s st text

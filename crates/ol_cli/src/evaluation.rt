@@ -10,7 +10,7 @@ use crate::texts::{counts_lines, line, spent_line};
 use ol_io::NoMemory;
 use ol_parse::{SmallFault, TermFile, parse_small};
 use ol_rules::{Ended, counts, run};
-use ol_translate::translate;
+use ol_translate::{TransFault, translate};
 use std::alloc::Global;
 
 /// The greatest number of interactions.
@@ -49,8 +49,9 @@ fn evaluate_term(alloc: Global, file: &TermFile) -> Result<Answer, NoMemory>
 {
     let mut net = match translate(alloc, file) {
         Ok(net) => net,
-        // A term of so few bytes has at most 200,000 nodes, so only memory can be lacking.
-        Err(_) => return Err(NoMemory),
+        Err(TransFault::NoMemory) => return Err(NoMemory),
+        // A term of so few occurrences and abstractions has at most 200,000 nodes.
+        Err(TransFault::TooMany) => unreachable!(),
     };
     let ran = run(alloc, &mut net, FUEL)?;
     net.is_net();
