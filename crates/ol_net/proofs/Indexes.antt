@@ -9,7 +9,7 @@ use Rattle.ol_net.specs.Parts.{is_eraser}
 use Rattle.ol_net.specs.Graph.{kind_at}
 use Rattle.ol_net.specs.Build.{all_live, is_bad_index, BadIndexAt, NoneOf}
 use Rattle.ol_net.specs.Tabling.{AreTables}
-use Rattle.ol_net.specs.Joins.{renewed}
+use Rattle.ol_net.specs.Rewired.{renewed}
 use Rattle.ol_net.specs.Replace.{top_index_of, MayBeBorn}
 use Rattle.ol_net.specs.Indexes.{HasIndexes}
 

@@ -9,9 +9,8 @@ ghost use Rattle.ol_net.specs.declared.parts.Rule.{Rule};
 ghost use Rattle.ol_net.specs.declared.parts.Facing.TheVariants.{Active, Stuck};
 ghost use Rattle.ol_net.specs.declared.parts.Facing.TheVariants as facing;
 ghost use Rattle.ol_net.specs.Joins.{uses_up, open_ends};
-ghost use Rattle.ol_net.specs.Replace.{AreFacing, MayBeBorn, top_index_of};
+ghost use Rattle.ol_net.specs.Replace.{AreFacing, MayBeBorn, Replaces, top_index_of};
 ghost use Rattle.ol_net.specs.declared.parts.Kind.{Kind};
-ghost use Rattle.ol_net.specs.Retabled.{Retables};
 ghost use Rattle.ol_net.specs.Pairing.{other};
 ghost use Rattle.ol_net.specs.Build.{Builds, FaultIs};
 ghost use Rattle.ol_net.specs.Graph.{kind_at, partner_of, partner_in, IsTabled, facing_at, place, port_at, has_port, has_slot};
@@ -171,15 +170,22 @@ impl Net {
     }
 
     /// Takes out two nodes that face each other, puts others in under the next numbers, and joins
-    /// the ends that are open.
+    /// the ends that are open. It is the one call that changes a net.
     ///
-    /// - `first`, `second`: the two nodes.
+    /// - `first`, `second`: the two nodes: live, different, and linked by their principal ports. That
+    ///   link goes with them.
     /// - `born`: kind and index of each node that comes, at most four. An index is at most one above
     ///   the greatest of the net, and 0 for an eraser.
     /// - `joins`: pairs of ends. Each slot of the two nodes but the principal one, and each slot of
-    ///   a node that comes, stands in one of them once.
+    ///   a node that comes, stands in one of them once, and nothing else does.
     ///
-    /// `NoMemory`: no memory was found, and the net is unchanged.
+    /// The joins are edges beside the links that are left. Then each slot of the two nodes is taken
+    /// out: the two edges at it become one, and an edge from it to itself goes with it. So two ports
+    /// are linked in the end where edges joined them by way of the slots that went (Lafont,
+    /// Interaction Nets, 1990).
+    ///
+    /// `NoMemory`: no memory was found, and the net is unchanged. The net has given out at most
+    /// 2,000,000,000 numbers.
     pub fn replace(
         &mut self,
         first: NodeId,
@@ -192,7 +198,7 @@ impl Net {
         requires indexes { (p : ℕ) (k : Kind × ℕ) → slice_get born.now p ≡ Some k → MayBeBorn (top_index_of self.old.nodes) k }
         requires fit { uses_up joins.now (open_ends (kind_at self.old.nodes first.0) (kind_at self.old.nodes second.0) born.now) ≡ true }
         requires few { length self.old.nodes ≤ 2000000000 }
-        ensures ok { OnOk result (Retables self.old self.new first second born.now joins.now) }
+        ensures ok { OnOk result (Replaces self.old self.new first second born.now joins.now) }
         ensures err { OnErr result (self.new ≡ self.old) }
     {
         let Ok(()) = replace_in(
