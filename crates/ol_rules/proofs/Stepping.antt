@@ -1,5 +1,5 @@
 -- A replacement by the lists of a step is that step.
-use Rattle.std.proofs.Common.{◌≡◌, ◌≢◌, ℕ, ◌+◌, Bool, true, false, if◌then◌else◌, Some, ◌⊎◌, ◌↔◌, inl, inr, refl, sym, ap, ◌∙◌, arith, length, length-append}
+use Rattle.std.proofs.Common.{◌≡◌, ◌≢◌, ℕ, ◌+◌, Bool, true, false, if◌then◌else◌, Some, ◌⊎◌, inl, inr, refl, ap, ◌∙◌, arith, length, length-append}
 use Rattle.ol_edges.specs.Edges.{Joined, here, on, Edge, Contracted}
 use Rattle.ol_edges.proofs.Joining.{joined_map}
 use Rattle.ol_net.specs.declared.parts.Kind.{Kind}
@@ -16,7 +16,7 @@ use Rattle.ol_net.specs.Nets.{NamedPort, HasNode, Linked, Faces, IsPrincipalOf, 
 use Rattle.ol_net.specs.Pairs.{IsActive}
 use Rattle.ol_net.specs.Numbered.{net_of}
 use Rattle.ol_net.specs.Replace.{Replaces, JoinsOf, IsBorn}
-use Rattle.ol_rules.specs.Rewriting.{Action, meeting, crossing, action_of, index_after, is_meeting, JoinOf, NodeOf, left, Rewrites, IsStep}
+use Rattle.ol_rules.specs.Rewriting.{Action, meeting, crossing, action_of, index_after, is_meeting, JoinOf, NodeOf, left, Rewrites}
 use Rattle.ol_rules.specs.Steps.{births, StepsAt}
 use Rattle.ol_rules.specs.Listed.{copies, born_of, joins_of}
 use Rattle.ol_rules.proofs.Lists.{length_copies}

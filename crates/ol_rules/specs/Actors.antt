@@ -1,6 +1,5 @@
 -- An active pair as the code holds it.
-use Rattle.std.specs.Prelude.{◌≡◌, ℕ, ◌+◌, List, Some, ◌⊎◌, slice_get}
-use Rattle.ol_net.specs.declared.parts.Kind.{Kind}
+use Rattle.std.specs.Prelude.{◌≡◌, Some, ◌⊎◌}
 use Rattle.ol_net.specs.declared.parts.NodeId.{NodeId}
 use Rattle.ol_net.specs.declared.parts.Facing.TheVariants.{Active}
 use Rattle.ol_net.specs.Rules.{rule_of}

@@ -1,4 +1,4 @@
-use Rattle.std.proofs.Common.{arith, ◌≡◌}
+use Rattle.std.proofs.Common.{arith}
 use Rattle.ol_rules.proofs.Born.{may_all, top_is_top}
 use Rattle.ol_rules.proofs.steps.rewrite.Goals as goal
 
