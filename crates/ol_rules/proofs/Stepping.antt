@@ -92,7 +92,7 @@ steps_from old new at pair tabled is_pair replaced = steps_at old new at.0 pair.
 
     faces : Faces (net_of old) pair.f.0 pair.g.0 pair.of_f.0 pair.of_f.1 pair.of_g.0 pair.of_g.1
     faces = record {
-      first = (has_node old pair.f.0 pair.of_f.0 pair.of_f.1).1 is_pair.is_f;
-      second = (has_node old pair.g.0 pair.of_g.0 pair.of_g.1).1 is_pair.is_g;
-      linked = linked old (Of pair.f 0) (Of pair.g 0) tabled is_pair.facing.1;
+      first = (has_node old pair.f.0 pair.of_f.0 pair.of_f.1).1 is_pair.facing.is_f;
+      second = (has_node old pair.g.0 pair.of_g.0 pair.of_g.1).1 is_pair.facing.is_g;
+      linked = linked old (Of pair.f 0) (Of pair.g 0) tabled is_pair.facing.facing.1;
     }
