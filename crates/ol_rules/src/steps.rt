@@ -1,15 +1,15 @@
 //! One step: the two nodes of an active pair go, and others come in their place (Lamping, An Algorithm
 //! for Optimal Lambda Calculus Reduction, POPL 1990).
 
-ghost use Rattle.std.specs.Prelude.{◌≡◌, ◌≢◌, ℕ, ◌≤◌, ◌<◌, ◌^◌, ◌-◌, ◌+◌, ◌↔◌, length, Some, None, OnOk, OnErr, IfOk, Err, MatchOption, slice_get, [], ◌∷◌, ◌++◌};
+ghost use Rattle.std.specs.Prelude.{◌≡◌, ◌≢◌, ℕ, ◌≤◌, ◌-◌, ◌+◌, ◌↔◌, length, Some, OnOk, OnErr, IfOk, Err, MatchOption, slice_get, []};
 ghost use Rattle.ol_net.specs.declared.parts.Kind.{Kind};
 ghost use Rattle.ol_net.specs.declared.parts.Rule.{Rule};
 ghost use Rattle.ol_net.specs.declared.parts.Facing.TheVariants.{Active};
-ghost use Rattle.ol_net.specs.Graph.{facing_at, kind_at, partner_of};
+ghost use Rattle.ol_net.specs.Graph.{facing_at};
 ghost use Rattle.ol_net.specs.Parts.{arity};
 ghost use Rattle.ol_net.specs.Rules.{rule_of};
-ghost use Rattle.ol_net.specs.Replace.{AreFacing, Replaces, MayBeBorn, top_index_of};
-ghost use Rattle.ol_rules.specs.Rewriting.{action_of, meeting, crossing};
+ghost use Rattle.ol_net.specs.Replace.{Replaces, MayBeBorn, top_index_of};
+ghost use Rattle.ol_rules.specs.Rewriting.{action_of, crossing};
 ghost use Rattle.ol_rules.specs.Listed.{born_of, joins_of, meeting_joins, crossing_joins};
 ghost use Rattle.ol_rules.specs.Actors.{IsFacing, IsPair};
 ghost use Rattle.ol_rules.specs.Steps.{StepsAt};
@@ -30,7 +30,7 @@ pub enum StepFault {
 /// An active pair: its rule, the node `f` that acts and the node `g` that it acts on, each with its
 /// kind and index.
 #[derive(Clone, Copy)]
-pub struct Pair {
+struct Pair {
     rule: Rule,
     f: NodeId,
     g: NodeId,
@@ -224,7 +224,11 @@ fn rewrite(net: &mut Net, pair: Pair) -> Result<(), NoMemory>
     }
 }
 
-/// Rewrites the active pair of a node, and answers its rule.
+/// Rewrites the active pair of a node, which may be either of the two, and answers its rule. By
+/// `Beta`, `Fan`, `Croissant` and `Bracket` both nodes go, and their slots of one number are joined.
+/// By the other rules a copy of the node that acts comes at each auxiliary port of the other one, and
+/// a copy of the other one at each of its own; they have the next numbers in this order. After a
+/// refusal the net is as it was. `NotActive`: the node is in no active pair.
 pub fn step(net: &mut Net, at: NodeId) -> Result<Rule, StepFault>
     requires few { length net.old.nodes ≤ 2000000000 }
     ensures steps { IfOk result (λ rule. StepsAt net.old net.new at.0 rule) }
