@@ -1,17 +1,16 @@
 -- The nodes that a step makes may be born, and the lists of a crossing by their lengths.
-use Rattle.std.proofs.Common.{◌≡◌, ℕ, zero, suc, ◌+◌, ◌<◌, ◌≤◌, Bool, true, false, List, [], ◌∷◌, ◌++◌, Option, Some, None, ◌⊎◌, inl, inr, refl, sym, ap, ◌∙◌, subst, arith, length}
+use Rattle.std.proofs.Common.{◌≡◌, ℕ, zero, suc, ◌+◌, ◌<◌, ◌≤◌, true, false, List, [], ◌∷◌, ◌++◌, Option, Some, None, ◌⊎◌, inl, inr, refl, sym, ap, ◌∙◌, subst, arith}
 use Rattle.std.specs.Prelude.{slice_get, Result, Ok, Err, OnOk}
 use Rattle.ol_net.specs.declared.parts.Kind.{Kind}
 use Rattle.ol_net.specs.declared.parts.Kind.TheVariants as kind
 use Rattle.ol_net.specs.declared.parts.NodeId.{NodeId}
 use Rattle.ol_net.specs.declared.parts.Rule.{Rule}
-use Rattle.ol_net.specs.declared.parts.Rule.TheVariants as rule
 use Rattle.ol_net.specs.Parts.{arity, is_eraser}
 use Rattle.ol_net.specs.Rules.{rule_of}
 use Rattle.ol_net.specs.Graph.{Graph, kind_at}
 use Rattle.ol_net.specs.Indexes.{HasIndexes}
 use Rattle.ol_net.specs.Replace.{MayBeBorn, top_index_of, Replaces}
-use Rattle.ol_rules.specs.Rewriting.{crossing, index_after}
+use Rattle.ol_rules.specs.Rewriting.{crossing}
 use Rattle.ol_rules.specs.Listed.{copies, born_of, crossing_joins}
 use Rattle.ol_rules.proofs.Lists.{got, append_nil}
 

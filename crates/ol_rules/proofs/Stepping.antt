@@ -1,5 +1,5 @@
 -- A replacement by the lists of a step is that step.
-use Rattle.std.proofs.Common.{◌≡◌, ◌≢◌, ℕ, ◌+◌, Bool, true, false, if◌then◌else◌, Some, ◌⊎◌, ◌↔◌, inl, inr, refl, sym, ap, ◌∙◌, arith, length, length-append}
+use Rattle.std.proofs.Common.{◌≡◌, ◌≢◌, ℕ, ◌+◌, Bool, true, false, if◌then◌else◌, Some, ◌⊎◌, inl, inr, refl, ap, ◌∙◌, arith, length, length-append}
 use Rattle.ol_edges.specs.Edges.{Joined, here, on, Edge, Contracted}
 use Rattle.ol_edges.proofs.Joining.{joined_map}
 use Rattle.ol_net.specs.declared.parts.Kind.{Kind}
@@ -16,7 +16,7 @@ use Rattle.ol_net.specs.Nets.{NamedPort, HasNode, Linked, Faces, IsPrincipalOf, 
 use Rattle.ol_net.specs.Pairs.{IsActive}
 use Rattle.ol_net.specs.Numbered.{net_of}
 use Rattle.ol_net.specs.Replace.{Replaces, JoinsOf, IsBorn}
-use Rattle.ol_rules.specs.Rewriting.{Action, meeting, crossing, action_of, index_after, is_meeting, JoinOf, NodeOf, left, Rewrites, IsStep}
+use Rattle.ol_rules.specs.Rewriting.{Action, meeting, crossing, action_of, index_after, is_meeting, JoinOf, NodeOf, left, Rewrites}
 use Rattle.ol_rules.specs.Steps.{births, StepsAt}
 use Rattle.ol_rules.specs.Listed.{copies, born_of, joins_of}
 use Rattle.ol_rules.proofs.Lists.{length_copies}
@@ -92,7 +92,7 @@ steps_from old new at pair tabled is_pair replaced = steps_at old new at.0 pair.
 
     faces : Faces (net_of old) pair.f.0 pair.g.0 pair.of_f.0 pair.of_f.1 pair.of_g.0 pair.of_g.1
     faces = record {
-      first = (has_node old pair.f.0 pair.of_f.0 pair.of_f.1).1 is_pair.is_f;
-      second = (has_node old pair.g.0 pair.of_g.0 pair.of_g.1).1 is_pair.is_g;
-      linked = linked old (Of pair.f 0) (Of pair.g 0) tabled is_pair.facing.1;
+      first = (has_node old pair.f.0 pair.of_f.0 pair.of_f.1).1 is_pair.facing.is_f;
+      second = (has_node old pair.g.0 pair.of_g.0 pair.of_g.1).1 is_pair.facing.is_g;
+      linked = linked old (Of pair.f 0) (Of pair.g 0) tabled is_pair.facing.facing.1;
     }

@@ -1,17 +1,17 @@
 //! One step: the two nodes of an active pair go, and others come in their place (Lamping, An Algorithm
 //! for Optimal Lambda Calculus Reduction, POPL 1990).
 
-ghost use Rattle.std.specs.Prelude.{◌≡◌, ◌≢◌, ℕ, ◌≤◌, ◌<◌, ◌^◌, ◌-◌, ◌+◌, ◌↔◌, length, Some, None, OnOk, OnErr, IfOk, Err, MatchOption, slice_get, [], ◌∷◌, ◌++◌};
+ghost use Rattle.std.specs.Prelude.{◌≡◌, ◌≢◌, ℕ, ◌≤◌, ◌-◌, ◌+◌, ◌↔◌, length, Some, OnOk, OnErr, IfOk, Err, MatchOption, slice_get, []};
 ghost use Rattle.ol_net.specs.declared.parts.Kind.{Kind};
 ghost use Rattle.ol_net.specs.declared.parts.Rule.{Rule};
 ghost use Rattle.ol_net.specs.declared.parts.Facing.TheVariants.{Active};
-ghost use Rattle.ol_net.specs.Graph.{facing_at, kind_at, partner_of};
+ghost use Rattle.ol_net.specs.Graph.{facing_at};
 ghost use Rattle.ol_net.specs.Parts.{arity};
 ghost use Rattle.ol_net.specs.Rules.{rule_of};
-ghost use Rattle.ol_net.specs.Replace.{AreFacing, Replaces, MayBeBorn, top_index_of};
-ghost use Rattle.ol_rules.specs.Rewriting.{action_of, meeting, crossing};
+ghost use Rattle.ol_net.specs.Replace.{Replaces, MayBeBorn, top_index_of};
+ghost use Rattle.ol_rules.specs.Rewriting.{action_of, crossing};
 ghost use Rattle.ol_rules.specs.Listed.{born_of, joins_of, meeting_joins, crossing_joins};
-ghost use Rattle.ol_rules.specs.Actors.{IsPair};
+ghost use Rattle.ol_rules.specs.Actors.{IsFacing, IsPair};
 ghost use Rattle.ol_rules.specs.Steps.{StepsAt};
 ghost use Rattle.ol_rules.specs.declared.steps.StepFault.TheVariants.{NotActive};
 
@@ -30,7 +30,7 @@ pub enum StepFault {
 /// An active pair: its rule, the node `f` that acts and the node `g` that it acts on, each with its
 /// kind and index.
 #[derive(Clone, Copy)]
-pub struct Pair {
+struct Pair {
     rule: Rule,
     f: NodeId,
     g: NodeId,
@@ -82,9 +82,7 @@ fn active_pair(net: &Net, at: NodeId) -> Option<Pair>
 /// The two nodes go, and their slots of one number are joined.
 fn meet(net: &mut Net, pair: Pair) -> Result<(), NoMemory>
     requires few { length net.old.nodes ≤ 2000000000 }
-    requires facing { AreFacing net.old pair.f pair.g }
-    requires is_f { kind_at net.old.nodes pair.f.0 ≡ Some pair.of_f }
-    requires is_g { kind_at net.old.nodes pair.g.0 ≡ Some pair.of_g }
+    requires pair { IsFacing net.old pair }
     requires alike { arity pair.of_f.0 ≡ arity pair.of_g.0 }
     requires some { 1 ≤ arity pair.of_f.0 }
     ensures replaced { OnOk result (Replaces net.old net.new pair.f pair.g [] (meeting_joins (arity pair.of_f.0))) }
@@ -108,9 +106,7 @@ fn meet(net: &mut Net, pair: Pair) -> Result<(), NoMemory>
 /// Copies of f, which has no auxiliary port, take the slots of g.
 fn cross_with_none(net: &mut Net, pair: Pair, index: u32) -> Result<(), NoMemory>
     requires few { length net.old.nodes ≤ 2000000000 }
-    requires facing { AreFacing net.old pair.f pair.g }
-    requires is_f { kind_at net.old.nodes pair.f.0 ≡ Some pair.of_f }
-    requires is_g { kind_at net.old.nodes pair.g.0 ≡ Some pair.of_g }
+    requires pair { IsFacing net.old pair }
     requires indexes { (p : ℕ) (k : Kind × ℕ) → slice_get (born_of (crossing index) pair.of_f pair.of_g) p ≡ Some k → MayBeBorn (top_index_of net.old.nodes) k }
     requires none_of_f { arity pair.of_f.0 ≡ 0 }
     ensures replaced { OnOk result (Replaces net.old net.new pair.f pair.g (born_of (crossing index) pair.of_f pair.of_g) (crossing_joins (arity pair.of_f.0) (arity pair.of_g.0))) }
@@ -129,9 +125,7 @@ fn cross_with_none(net: &mut Net, pair: Pair, index: u32) -> Result<(), NoMemory
 /// f, which has one auxiliary port, and g cross. The copy of g has this index.
 fn cross_with_one(net: &mut Net, pair: Pair, index: u32) -> Result<(), NoMemory>
     requires few { length net.old.nodes ≤ 2000000000 }
-    requires facing { AreFacing net.old pair.f pair.g }
-    requires is_f { kind_at net.old.nodes pair.f.0 ≡ Some pair.of_f }
-    requires is_g { kind_at net.old.nodes pair.g.0 ≡ Some pair.of_g }
+    requires pair { IsFacing net.old pair }
     requires indexes { (p : ℕ) (k : Kind × ℕ) → slice_get (born_of (crossing index) pair.of_f pair.of_g) p ≡ Some k → MayBeBorn (top_index_of net.old.nodes) k }
     requires one_of_f { arity pair.of_f.0 ≡ 1 }
     requires some_of_g { 1 ≤ arity pair.of_g.0 }
@@ -169,9 +163,7 @@ fn cross_with_one(net: &mut Net, pair: Pair, index: u32) -> Result<(), NoMemory>
 /// f, which has two auxiliary ports, and g cross. The copies of g have this index.
 fn cross_with_two(net: &mut Net, pair: Pair, index: u32) -> Result<(), NoMemory>
     requires few { length net.old.nodes ≤ 2000000000 }
-    requires facing { AreFacing net.old pair.f pair.g }
-    requires is_f { kind_at net.old.nodes pair.f.0 ≡ Some pair.of_f }
-    requires is_g { kind_at net.old.nodes pair.g.0 ≡ Some pair.of_g }
+    requires pair { IsFacing net.old pair }
     requires indexes { (p : ℕ) (k : Kind × ℕ) → slice_get (born_of (crossing index) pair.of_f pair.of_g) p ≡ Some k → MayBeBorn (top_index_of net.old.nodes) k }
     requires two_of_f { arity pair.of_f.0 ≡ 2 }
     requires some_of_g { 1 ≤ arity pair.of_g.0 }
@@ -214,9 +206,7 @@ fn cross_with_two(net: &mut Net, pair: Pair, index: u32) -> Result<(), NoMemory>
 /// Rewrites an active pair by its rule.
 fn rewrite(net: &mut Net, pair: Pair) -> Result<(), NoMemory>
     requires few { length net.old.nodes ≤ 2000000000 }
-    requires facing { AreFacing net.old pair.f pair.g }
-    requires is_f { kind_at net.old.nodes pair.f.0 ≡ Some pair.of_f }
-    requires is_g { kind_at net.old.nodes pair.g.0 ≡ Some pair.of_g }
+    requires pair { IsFacing net.old pair }
     requires fits { rule_of pair.of_f.0 pair.of_f.1 pair.of_g.0 pair.of_g.1 ≡ Some pair.rule }
     ensures replaced { OnOk result (Replaces net.old net.new pair.f pair.g (born_of (action_of pair.rule pair.of_g.1) pair.of_f pair.of_g) (joins_of (action_of pair.rule pair.of_g.1) (arity pair.of_f.0) (arity pair.of_g.0))) }
     ensures refused { OnErr result (net.new ≡ net.old) }
@@ -234,7 +224,11 @@ fn rewrite(net: &mut Net, pair: Pair) -> Result<(), NoMemory>
     }
 }
 
-/// Rewrites the active pair of a node, and answers its rule.
+/// Rewrites the active pair of a node, which may be either of the two, and answers its rule. By
+/// `Beta`, `Fan`, `Croissant` and `Bracket` both nodes go, and their slots of one number are joined.
+/// By the other rules a copy of the node that acts comes at each auxiliary port of the other one, and
+/// a copy of the other one at each of its own; they have the next numbers in this order. After a
+/// refusal the net is as it was. `NotActive`: the node is in no active pair.
 pub fn step(net: &mut Net, at: NodeId) -> Result<Rule, StepFault>
     requires few { length net.old.nodes ≤ 2000000000 }
     ensures steps { IfOk result (λ rule. StepsAt net.old net.new at.0 rule) }

@@ -1,6 +1,5 @@
-use Rattle.std.proofs.Common.{arith, ◌≡◌, ◌≤◌}
-use Rattle.ol_net.specs.Parts.{arity}
-use Rattle.ol_rules.proofs.Born.{may_listed, at_most_two, replaces_listed}
+use Rattle.std.proofs.Common.{arith}
+use Rattle.ol_rules.proofs.Born.{may_listed, at_most_two}
 use Rattle.ol_rules.proofs.steps.cross_with_none.Goals as goal
 
 pub replace-requires-in-1-clause-indexes : goal.replace-requires-in-1-clause-indexes

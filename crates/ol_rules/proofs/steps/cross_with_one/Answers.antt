@@ -1,6 +1,6 @@
-use Rattle.std.proofs.Common.{arith, rules, ◌≡◌, ◌≤◌}
+use Rattle.std.proofs.Common.{arith, rules, ◌≡◌}
 use Rattle.ol_net.specs.Parts.{arity}
-use Rattle.ol_rules.proofs.Born.{may_listed, at_most_two, replaces_listed, on_ok}
+use Rattle.ol_rules.proofs.Born.{may_listed, at_most_two}
 use Rattle.ol_rules.proofs.steps.cross_with_one.Goals as goal
 
 pub replace-requires-clause-indexes : goal.replace-requires-clause-indexes
