@@ -1,1 +1,4 @@
 pub mod Trees
+pub mod SmallTexts
+pub mod Reading
+pub mod NameLists

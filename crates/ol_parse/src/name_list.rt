@@ -1,9 +1,11 @@
 //! Lists of names.
 
-ghost use Rattle.std.specs.Prelude.{◌≡◌, ◌≢◌, ℕ, ◌+◌, ◌^◌, ◌<◌, ◌≤◌, ◌↔◌, List, [], ◌∷◌, ◌++◌, Some, None, IfOk, OnOk, OnErr, IsNone, Contains, length, map, slice_get};
+ghost use Rattle.std.specs.Prelude.{◌≡◌, ◌≢◌, ℕ, ◌+◌, ◌^◌, ◌<◌, ◌≤◌, ◌↔◌, List, [], ◌∷◌, ◌++◌, Some, None, IfOk, IfSome, IfNone, OnErr, IsNone, length, map, slice_get};
+ghost use Rattle.ol_parse.specs.NameLists.{IsFirstPlace};
 ghost use Rattle.std.specs.Option.{option_map};
 
-use std::alloc::{AllocError, Global};
+use ol_io::NoMemory;
+use std::alloc::Global;
 use std::marker::Model;
 
 /// A list of names, each a list of bytes, numbered from 0.
@@ -32,17 +34,6 @@ impl Names {
         }
     }
 
-    /// One more name, last.
-    pub fn add(&mut self, name: &[u8]) -> Result<u32, AllocError>
-        requires { length self.old < 4294967295 }
-        ensures { OnOk result (self.new ≡ self.old ++ name.now ∷ []) }
-    {
-        let number = self.rows.len() as u32;
-        let row = name.to_vec(self.alloc)?;
-        self.rows.push(row)?;
-        Ok(number)
-    }
-
     /// How many names there are.
     pub fn len(&self) -> u32
         ensures { result ≡ length self.now }
@@ -58,4 +49,36 @@ impl Names {
         let row = self.rows.get(k as usize)?;
         Some(row.as_slice())
     }
+
+    /// The number of this name, which goes last where it isn't there yet.
+    pub fn add(&mut self, name: &[u8]) -> Result<u32, NoMemory>
+        requires { length self.old < 4294967295 }
+        ensures number { IfOk result (λ k. IsFirstPlace self.new name.now k) }
+        ensures known { IfOk result (λ k. k < length self.old → self.new ≡ self.old) }
+        ensures last { IfOk result (λ k.
+            length self.old ≤ k → self.new ≡ self.old ++ name.now ∷ []) }
+        ensures refusal { OnErr result (self.new ≡ self.old) }
+    {
+        if let Some(k) = first_place(&self.rows, name) {
+            return Ok(k as u32);
+        }
+        let number = self.rows.len() as u32;
+        let row = Vec::from_slice(self.alloc, name).map_err(|_| NoMemory)?;
+        self.rows.push(row).map_err(|_| NoMemory)?;
+        Ok(number)
+    }
+}
+
+fn first_place(rows: &[Vec<u8>], name: &[u8]) -> Option<usize>
+    ensures found { IfSome result (λ k.
+        (k < length rows.now) × IsFirstPlace (map (λ row. row.items) rows.now) name.now k) }
+    ensures none { IfNone result ((j : ℕ) → slice_get (map (λ row.
+        row.items) rows.now) j ≢ Some name.now) }
+{
+    for (k, row) in rows.iter().enumerate() {
+        if row.as_slice() == name {
+            return Some(k);
+        }
+    }
+    None
 }

@@ -1,7 +1,5 @@
 //! Terms of the lambda calculus without names.
 
-use crate::name_list::Names;
-
 /// A term, with each occurrence by a number (de Bruijn, 1972).
 ///
 /// `Var(k)` is bound by the k-th enclosing abstraction, counted from the innermost as 0. `Free(k)` is the
@@ -12,11 +10,4 @@ pub enum Term {
     Free(u32),
     Lam(Box<Term>),
     App(Box<Term>, Box<Term>),
-}
-
-/// A term and the names of its free variables.
-#[derive(Drop)]
-pub struct TermFile {
-    pub term: Term,
-    pub names: Names,
 }
