@@ -1,14 +1,14 @@
 //! Terms as nets.
 #![tactic(auto)]
 
-ghost use Rattle.std.specs.Prelude.{◌≡◌, ◌≢◌, ◌≤◌, ◌<◌, ◌+◌, ◌*◌, ◌↔◌, true, length, Ok, Err, IfOk, IfErr};
+ghost use Rattle.std.specs.Prelude.{◌≡◌, ℕ, ◌≢◌, ◌≤◌, ◌<◌, ◌+◌, ◌*◌, ◌↔◌, true, length, Ok, Err, IfOk, IfErr};
 ghost use Rattle.ol_parse.specs.Trees.{tree_of, is_named_below, depth, lams, occurrences};
 ghost use Rattle.ol_net.specs.Nets.{SameNet};
 ghost use Rattle.ol_net.specs.Numbered.{net_of};
 ghost use Rattle.ol_net.specs.Build.{all_live};
 ghost use Rattle.ol_translate.specs.Translation.{nodes_of, translation_of};
 ghost use Rattle.ol_translate.specs.Sizes.{size_of_translation};
-ghost use Rattle.ol_translate.specs.Names.{HasNames};
+ghost use Rattle.ol_translate.specs.Names.{has_name};
 
 mod faults;
 mod laying;
@@ -35,7 +35,7 @@ pub const MOST_NODES: usize = 200_000;
 ///
 /// `TooMany` comes exactly where the net would have more than `MOST_NODES` nodes.
 pub fn translate(alloc: Global, file: &TermFile) -> Result<Net, TransFault>
-    requires names { HasNames (tree_of file.now.term) (length file.now.names) }
+    requires each_name { (k : ℕ) → k < length file.now.names → has_name k (tree_of file.now.term) ≡ true }
     requires shallow { depth (tree_of file.now.term) ≤ 1000 }
     ensures net { IfOk result (λ net. SameNet (net_of net) (translation_of (tree_of file.now.term) (length file.now.names))) }
     ensures numbers { IfOk result (λ net. net.nodes ≡ all_live (nodes_of (tree_of file.now.term))) }

@@ -6,7 +6,7 @@ use Rattle.ol_translate.specs.Sizes.{size_of_translation}
 use Rattle.ol_translate.proofs.Bound.{few_names, few_links, few_enough}
 use Rattle.ol_translate.proofs.Sizing.{size_of_nodes}
 use Rattle.ol_translate.proofs.Fitting.{never_refused, same_translation, length-all_live}
-use Rattle.ol_translate.proofs.Answering.{refused_where, given_where}
+use Rattle.ol_translate.proofs.Answering.{names_of, refused_where, given_where}
 use Rattle.ol_translate.proofs.translate.Goals as goal
 
 pub returns-in_err-parts-clause-too_many : goal.returns-in_err-parts-clause-too_many
@@ -20,12 +20,12 @@ returns-in_err-parts-clause-small c =
     let p = err_from_is_err_and c.from_residual.result c.from_residual.ensures.1 in
     rw (p.1, p.2) (λ closed short is.
     let many = c.in_err-parts.ensures.too_many is in
-    let few = few_enough (tree_of c.args.file.now.term) c.requires.names.bound closed short in
+    let few = few_enough (tree_of c.args.file.now.term) c.args.file.now.bound closed short in
     absurd (omega (arith, many, few, size_of_nodes (tree_of c.args.file.now.term))))
 
 pub overflow_add-len : goal.overflow_add-len
 overflow_add-len c =
-    let names = few_names (tree_of c.args.file.now.term) (length c.args.file.now.names) c.requires.names in
+    let names = few_names (tree_of c.args.file.now.term) (length c.args.file.now.names) (names_of c.args.file.now c.requires.each_name) in
     omega (arith, names, ap length c.in_ok-parts.ensures.nodes, c.len.ensures, c.in_ok-parts.parts.few)
 
 pub build-requires-clause-few_links : goal.build-requires-clause-few_links
@@ -42,17 +42,17 @@ build-requires-clause-few_links c =
 pub unreachable-requires : goal.unreachable-requires
 unreachable-requires c =
     never_refused (tree_of c.args.file.now.term) (length c.args.file.now.names) (c.len.result + 1) c.in_ok-parts.parts.nodes.items c.in_ok-parts.parts.links.items
-    c.in-Err.fault c.requires.names (omega (arith, c.len.ensures)) c.in_ok-parts.ensures.nodes c.in_ok-parts.ensures.links c.in_ok-parts.parts.few
-    c.in-Err.ensures.fault c.in_default.not-NoMemory
+    c.in-Err.fault (names_of c.args.file.now c.requires.each_name) (omega (arith, c.len.ensures)) c.in_ok-parts.ensures.nodes c.in_ok-parts.ensures.links c.in_ok-parts.parts.few
+    c.in-Err.ensures c.in_default.not-NoMemory
 
 pub returns-in-Ok-clause-net : goal.returns-in-Ok-clause-net
 returns-in-Ok-clause-net c =
     same_translation (tree_of c.args.file.now.term) (length c.args.file.now.names) (c.len.result + 1) c.in_ok-parts.parts.nodes.items c.in_ok-parts.parts.links.items
-    (net_of c.in-Ok.net) (omega (arith, c.len.ensures)) c.in_ok-parts.ensures.nodes c.in_ok-parts.ensures.links c.in-Ok.ensures.built.same_net
+    (net_of c.in-Ok.net) (omega (arith, c.len.ensures)) c.in_ok-parts.ensures.nodes c.in_ok-parts.ensures.links c.in-Ok.ensures.same_net
 
 pub returns-in-Ok-clause-size : goal.returns-in-Ok-clause-size
 returns-in-Ok-clause-size c =
-    ap length c.in-Ok.ensures.built.same_nodes ∙ length-all_live c.in_ok-parts.parts.nodes.items ∙ ap length c.in_ok-parts.ensures.nodes
+    ap length c.in-Ok.ensures.same_nodes ∙ length-all_live c.in_ok-parts.parts.nodes.items ∙ ap length c.in_ok-parts.ensures.nodes
     ∙ size_of_nodes (tree_of c.args.file.now.term)
 
 pub returns-in-Ok-clause-too_many : goal.returns-in-Ok-clause-too_many
