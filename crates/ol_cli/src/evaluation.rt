@@ -1,7 +1,6 @@
 //! The job itself: from the bytes of a term file to a text and a status.
-ghost use Rattle.std.specs.Prelude.{◌≡◌, ◌≤◌, ◌+◌, ◌*◌, length, IfOk, []};
-ghost use Rattle.ol_parse.specs.Trees.{Tree, tree_of, lams, occurrences, depth};
-ghost use Rattle.ol_translate.specs.Names.{HasNames};
+ghost use Rattle.std.specs.Prelude.{◌≡◌, ◌≤◌, ◌+◌, ◌*◌, length, IfOk, [], true};
+ghost use Rattle.ol_parse.specs.Trees.{Tree, tree_of, is_named_below, lams, occurrences, depth};
 ghost use Rattle.ol_cli.specs.Answers.{Evaluates};
 ghost use Rattle.ol_cli.specs.Evaluation.{Prints, RunsOut, TermAnswer};
 
@@ -41,8 +40,8 @@ pub fn evaluate(alloc: Global, bytes: &[u8]) -> Result<Answer, NoMemory>
 
 /// The answer to a closed term: its one-thread run within the fuel.
 fn evaluate_term(alloc: Global, file: &TermFile) -> Result<Answer, NoMemory>
-    requires names { HasNames (tree_of file.now.term) 0 }
     requires no_names { file.now.names ≡ [] }
+    requires nameless { is_named_below 0 (tree_of file.now.term) ≡ true }
     requires shallow { depth (tree_of file.now.term) ≤ 1000 }
     requires small { 3 * lams (tree_of file.now.term) + occurrences (tree_of file.now.term) ≤ 1024 }
     ensures answer { IfOk result (λ a. TermAnswer (tree_of file.now.term) a.status a.text.items) }

@@ -43,16 +43,16 @@ pub unreachable-requires : goal.unreachable-requires
 unreachable-requires c =
     never_refused (tree_of c.args.file.now.term) (length c.args.file.now.names) (c.len.result + 1) c.in_ok-parts.parts.nodes.items c.in_ok-parts.parts.links.items
     c.in-Err.fault (names_of c.args.file.now c.requires.each_name) (omega (arith, c.len.ensures)) c.in_ok-parts.ensures.nodes c.in_ok-parts.ensures.links c.in_ok-parts.parts.few
-    c.in-Err.ensures c.in_default.not-NoMemory
+    c.in-Err.ensures.fault c.in_default.not-NoMemory
 
 pub returns-in-Ok-clause-net : goal.returns-in-Ok-clause-net
 returns-in-Ok-clause-net c =
     same_translation (tree_of c.args.file.now.term) (length c.args.file.now.names) (c.len.result + 1) c.in_ok-parts.parts.nodes.items c.in_ok-parts.parts.links.items
-    (net_of c.in-Ok.net) (omega (arith, c.len.ensures)) c.in_ok-parts.ensures.nodes c.in_ok-parts.ensures.links c.in-Ok.ensures.same_net
+    (net_of c.in-Ok.net) (omega (arith, c.len.ensures)) c.in_ok-parts.ensures.nodes c.in_ok-parts.ensures.links c.in-Ok.ensures.built.same_net
 
 pub returns-in-Ok-clause-size : goal.returns-in-Ok-clause-size
 returns-in-Ok-clause-size c =
-    ap length c.in-Ok.ensures.same_nodes ∙ length-all_live c.in_ok-parts.parts.nodes.items ∙ ap length c.in_ok-parts.ensures.nodes
+    ap length c.in-Ok.ensures.built.same_nodes ∙ length-all_live c.in_ok-parts.parts.nodes.items ∙ ap length c.in_ok-parts.ensures.nodes
     ∙ size_of_nodes (tree_of c.args.file.now.term)
 
 pub returns-in-Ok-clause-too_many : goal.returns-in-Ok-clause-too_many
