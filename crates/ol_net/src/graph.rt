@@ -184,8 +184,8 @@ impl Net {
     /// are linked in the end where edges joined them by way of the slots that went (Lafont,
     /// Interaction Nets, 1990).
     ///
-    /// `NoMemory`: no memory was found, and the net is unchanged. The net has given out at most
-    /// 2,000,000,000 numbers.
+    /// The net has given out at most 2,000,000,000 numbers before. `NoMemory`: no memory was found,
+    /// and the net is unchanged.
     pub fn replace(
         &mut self,
         first: NodeId,
