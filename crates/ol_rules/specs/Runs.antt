@@ -1,10 +1,10 @@
 -- Runs along a journal, and the one-thread run, which always rewrites the lead.
-use Rattle.std.specs.Prelude.{◌≡◌, ℕ, suc, ◌≤◌, false, List, [], ◌∷◌, length, ◌⊎◌}
+use Rattle.std.specs.Prelude.{◌≡◌, ℕ, suc, ◌≤◌, ◌<◌, false, List, [], ◌∷◌, length, ◌⊎◌, count_by, Bool}
 use Rattle.ol_net.specs.Nets.{NamedNet}
 use Rattle.ol_net.specs.Pairs.{IsActive}
 use Rattle.ol_net.specs.declared.parts.Rule.{Rule}
 use Rattle.ol_rules.specs.declared.journal.NodeName.{NodeName}
-use Rattle.ol_rules.specs.declared.journal.NodeName.TheVariants.{Born}
+use Rattle.ol_rules.specs.declared.journal.NodeName.TheVariants.{Init, Born}
 use Rattle.ol_rules.specs.declared.journal.Entry.{Entry}
 use Rattle.ol_rules.specs.Names.{comes_before, IsNamed}
 use Rattle.ol_rules.specs.Rewriting.{IsStep}
