@@ -123,6 +123,9 @@ module _ (N : NamedNet ℕ) (f g next : ℕ) (k : Kind) (i : ℕ) (l : Kind) (j 
       → (HasNode N x m n × (x ≢ f) × (x ≢ g)) ⊎ IsBorn next (born_of a (k, i) (l, j)) x m n
   in_births a x m n (left h u v) = inl (h, u, v)
   in_births a x m n (of_f {q = q} j' e b) = inr (q, refl, subst (λ a. slice_get (born_of a (k, i) (l, j)) q ≡ Some (k, i)) (sym e) (get_copy {X = Kind × ℕ} (arity l) (k, i) (copies {X = Kind × ℕ} (arity k) (l, j')) q b))
-  in_births a x m n (of_g {p = p} j' e b) = inr (arity l + p, refl,
-      subst (λ a. slice_get (born_of a (k, i) (l, j)) (arity l + p) ≡ Some (l, j')) (sym e)
-      (get_behind {X = Kind × ℕ} (arity l) (k, i) (copies {X = Kind × ℕ} (arity k) (l, j')) p ∙ (sym (ap (λ ys. slice_get {X = Kind × ℕ} ys p) (append_nil {X = Kind × ℕ} (copies {X = Kind × ℕ} (arity k) (l, j')))) ∙ get_copy {X = Kind × ℕ} (arity k) (l, j') [] p b)))
+  in_births a x m n (of_g {p = p} j' e b) = inr (
+    arity l + p,
+    refl,
+    subst (λ a. slice_get (born_of a (k, i) (l, j)) (arity l + p) ≡ Some (l, j')) (sym e)
+        (get_behind {X = Kind × ℕ} (arity l) (k, i) (copies {X = Kind × ℕ} (arity k) (l, j')) p ∙ (sym (ap (λ ys. slice_get {X = Kind × ℕ} ys p) (append_nil {X = Kind × ℕ} (copies {X = Kind × ℕ} (arity k) (l, j')))) ∙ get_copy {X = Kind × ℕ} (arity k) (l, j') [] p b)),
+  )
