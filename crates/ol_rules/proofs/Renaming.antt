@@ -202,18 +202,18 @@ module _ {A B : Type 0} (m : A → B) (one_name : (x y : A) → m x ≡ m y → 
     rewrites_under M r = record {
       free_ports = r.free_ports;
       nodes = λ y k' i'. (
-          (λ h. let t = node_from m M y k' i' h in subst (λ y. NodeOf (net_under m N) (λ p. m (born p)) (m f) (m g) k i l a y k' i') (sym t.2) (nodes_to t.0 k' i' ((r.nodes t.0 k' i').0 t.1))),
-          (λ h. let t = nodes_from y k' i' h in subst (λ y. HasNode (net_under m M) y k' i') (sym t.2) (node_to m M t.0 k' i' ((r.nodes t.0 k' i').1 t.1))),
+        (λ h. let t = node_from m M y k' i' h in subst (λ y. NodeOf (net_under m N) (λ p. m (born p)) (m f) (m g) k i l a y k' i') (sym t.2) (nodes_to t.0 k' i' ((r.nodes t.0 k' i').0 t.1))),
+        (λ h. let t = nodes_from y k' i' h in subst (λ y. HasNode (net_under m M) y k' i') (sym t.2) (node_to m M t.0 k' i' ((r.nodes t.0 k' i').1 t.1))),
       );
       links = λ P Q. (
-          (λ h.
-              let t = link_from m M P Q h in
-              let c = image.forth t.0 t.1 ((r.links t.0 t.1).0 t.4) in
-              subst (λ P. Contracted E' (IsSlotOf (m f) (m g)) P Q) (sym t.2) (subst (λ Q. Contracted E' (IsSlotOf (m f) (m g)) (port_under m t.0) Q) (sym t.3) c)),
-          (λ h.
-              let t = image.from P Q h in
-              let c = link_to m M t.0 t.1 ((r.links t.0 t.1).1 t.4) in
-              subst (λ P. Linked (net_under m M) P Q) (sym t.2) (subst (λ Q. Linked (net_under m M) (port_under m t.0) Q) (sym t.3) c)),
+        (λ h.
+            let t = link_from m M P Q h in
+            let c = image.forth t.0 t.1 ((r.links t.0 t.1).0 t.4) in
+            subst (λ P. Contracted E' (IsSlotOf (m f) (m g)) P Q) (sym t.2) (subst (λ Q. Contracted E' (IsSlotOf (m f) (m g)) (port_under m t.0) Q) (sym t.3) c)),
+        (λ h.
+            let t = image.from P Q h in
+            let c = link_to m M t.0 t.1 ((r.links t.0 t.1).1 t.4) in
+            subst (λ P. Linked (net_under m M) P Q) (sym t.2) (subst (λ Q. Linked (net_under m M) (port_under m t.0) Q) (sym t.3) c)),
       );
     }
 

@@ -194,7 +194,7 @@ module _ (old g g' : Graph) (start : ℕ) (names : List NodeName) (journal : Lis
       let b = u.named.room in
       let q : length g.nodes - length old.nodes + (length g'.nodes - length g.nodes) ≡ length g'.nodes - length old.nodes = omega arith in
       subst L q (led_on (net_under Init (net_of old)) (net_under u.m (net_of g)) (net_under u.m (net_of g')) 0 (length journal) journal entry (length g.nodes - length old.nodes) (length g'.nodes - length g.nodes) u.led.0 u.led.1
-        (is_lead g g' is_net at partner r s least (length old.nodes) (length journal) u.m u.named) (omega arith) (entry_step g g' is_net at partner r s least (length old.nodes) (length journal) u.m u.named))
+      (is_lead g g' is_net at partner r s least (length old.nodes) (length journal) u.m u.named) (omega arith) (entry_step g g' is_net at partner r s least (length old.nodes) (length journal) u.m u.named))
 
   -- what the journal leads to, whether or not it was written
   pub leads_on : LeadsTo old (journal ++ entry ∷ []) g'

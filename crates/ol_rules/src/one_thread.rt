@@ -109,12 +109,7 @@ fn active_partner(net: &Net, at: NodeId) -> Option<NodeId>
 }
 
 /// Lets the nodes of active pairs wait whose numbers are in a range.
-fn await_active(
-    waiting: &mut BTreeSet<u32>,
-    net: &Net,
-    from: u32,
-    to: u32,
-) -> Result<(), NoMemory>
+fn await_active(waiting: &mut BTreeSet<u32>, net: &Net, from: u32, to: u32) -> Result<(), NoMemory>
     ensures kept { OnOk result (StillWait waiting.old waiting.new) }
     ensures active { OnOk result ((x : ℕ) (r : Rule) → from ≤ x → x < to → IsInActive (net_of net.now) x r → contains nat_cmp waiting.new x ≡ true) }
 {
@@ -150,13 +145,7 @@ fn node_at(net: &Net, port: Port) -> Option<NodeId>
 {
     net.is_net();
     match net.partner(port) {
-        Some(Port::Of { node, slot }) => {
-            if slot == 0 {
-                Some(node)
-            } else {
-                None
-            }
-        }
+        Some(Port::Of { node, slot }) => { if slot == 0 { Some(node) } else { None } }
         Some(Port::Free(_)) => None,
         None => None,
     }

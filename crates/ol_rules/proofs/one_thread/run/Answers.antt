@@ -60,7 +60,7 @@ returns-in_err-advance-clause-no_memory c =
     let i = c.loop-lead.invariant in
     let more : length c.loop-lead.running.journal ≢ c.args.fuel = λ q. c.if-len-fuel.false (c.len.ensures ∙ q) in
     on_err c.from_residual-in_err-advance.result (stops_after c.args.net.now c.loop-lead.net c.args.fuel c.loop-lead.running.start c.loop-lead.running.names.items c.loop-lead.running.journal i.under_way i.within c.advance.new.net i.is_net more
-      c.in-Some.lead.0 c.in-Some.partner.0 c.in-Some.ensures.lead c.in_err-advance.ensures.err)
+    c.in-Some.lead.0 c.in-Some.partner.0 c.in-Some.ensures.lead c.in_err-advance.ensures.err)
 
 pub returns-clause-runs : goal.returns-clause-runs
 returns-clause-runs c =
