@@ -1,10 +1,10 @@
 //! Worked terms.
 
-ghost use Rattle.std.specs.Prelude.{◌≡◌, ◌≤◌, length, IfOk};
-ghost use Rattle.ol_parse.specs.Trees.{tree_of, var, free, lam, app, depth};
+ghost use Rattle.std.specs.Prelude.{◌≡◌, ◌≤◌, ◌+◌, true, length, IfOk};
+ghost use Rattle.ol_parse.specs.Trees.{tree_of, var, lam, app, is_below, is_named_below, depth};
 ghost use Rattle.ol_translate.specs.Names.{HasNames};
 
-use crate::translate;
+use crate::{TransFault, translate};
 use ol_net::{Kind, Net, NodeId, Port};
 use ol_parse::{Names, Term, TermFile};
 use std::alloc::Global;
@@ -114,5 +114,34 @@ fn a_free_name_has_a_free_port(rt: HostRuntime) -> Result<(), Fail> {
     assert_nodes(&rt, &net, &[(Kind::Croissant, 0)]);
     assert_eq!(rt; net.partner(Port::Free(0)), Some(of(0, 1)));
     assert_eq!(rt; net.partner(Port::Free(1)), Some(of(0, 0)));
+    Ok(())
+}
+
+/// `\x. x`, then each term applied to itself, so many times.
+fn doubled(alloc: Global, times: u8) -> Result<Box<Term>, Fail>
+    requires { times ≤ 20 }
+    ensures closed { IfOk result (λ term. is_below 0 (tree_of term.value) ≡ true) }
+    ensures nameless { IfOk result (λ term. is_named_below 0 (tree_of term.value) ≡ true) }
+    ensures shallow { IfOk result (λ term. depth (tree_of term.value) ≤ 2 + times) }
+{
+    if times == 0 {
+        return abstraction(alloc, variable(alloc, 0)?);
+    }
+    let function = doubled(alloc, times - 1)?;
+    let argument = doubled(alloc, times - 1)?;
+    application(alloc, function, argument)
+}
+
+// A term of n nodes applied to itself has 2 n + 1: from 2 nodes on, 196,607 and then 393,215.
+#[test]
+fn a_net_has_a_most_number_of_nodes(rt: HostRuntime) -> Result<(), Fail> {
+    let alloc = rt.alloc();
+    let net = net_of(alloc, doubled(alloc, 16)?, Names::new(alloc))?;
+    assert_eq!(rt; net.nodes(), 196_607);
+    let file = TermFile {
+        term: Box::into_inner(doubled(alloc, 17)?),
+        names: Names::new(alloc),
+    };
+    assert!(rt; matches!(translate(alloc, &file), Err(TransFault::TooMany)));
     Ok(())
 }
