@@ -45,31 +45,31 @@ naming_apart start next names n j k bj bk e = elim (which j k) [
 module _ (t : Tree) (old new : Graph) (fuel : ℕ) (journal : List Entry)
     (start : SameNet (net_of old) (translation_of t 0)) (is_net : IsNet (net_of new)) (ran : RunsTo old fuel journal new)
   where
-  abbrev named : NamedNet NodeName
-  named = net_under ran.leads.names (net_of new)
+    abbrev named : NamedNet NodeName
+    named = net_under ran.leads.names (net_of new)
 
-  one_name : (x y : ℕ) (k l : Kind) (i j : ℕ) → HasNode (net_of new) x k i → HasNode (net_of new) y l j → ran.leads.names x ≡ ran.leads.names y → x ≡ y
-  one_name x y k l i j h h' e = naming_apart _ _ _ ran.leads.naming x y (node_below new x k i h) (node_below new y l j h') e
+    one_name : (x y : ℕ) (k l : Kind) (i j : ℕ) → HasNode (net_of new) x k i → HasNode (net_of new) y l j → ran.leads.names x ≡ ran.leads.names y → x ≡ y
+    one_name x y k l i j h h' e = naming_apart _ _ _ ran.leads.naming x y (node_below new x k i h) (node_below new y l j h') e
 
-  alike : OneThreadAlike (net_under Init (translation_of t 0)) fuel journal named
-  alike = one_thread_same _ _ named fuel journal (same_under Init (net_of old) (translation_of t 0) start) ran.one_thread
+    alike : OneThreadAlike (net_under Init (translation_of t 0)) fuel journal named
+    alike = one_thread_same _ _ named fuel journal (same_under Init (net_of old) (translation_of t 0) start) ran.one_thread
 
-  pub prints : (n : ℕ) (text : List ℕ) → IsComplete (net_of new) → HasStuck (net_of new) n → text ≡ counts_text (counts_of journal) n → Prints t fuel text
-  prints n text c s w = record {
-    journal = journal;
-    net = alike.net;
-    stuck = n;
-    run = alike.run;
-    complete = complete_same named alike.net alike.same (complete_under ran.leads.names (net_of new) is_net one_name c);
-    counted = has_stuck_same named alike.net n alike.same (has_stuck_under ran.leads.names (net_of new) is_net one_name n s);
-    written = w;
-  }
+    pub prints : (n : ℕ) (text : List ℕ) → IsComplete (net_of new) → HasStuck (net_of new) n → text ≡ counts_text (counts_of journal) n → Prints t fuel text
+    prints n text c s w = record {
+      journal = journal;
+      net = alike.net;
+      stuck = n;
+      run = alike.run;
+      complete = complete_same named alike.net alike.same (complete_under ran.leads.names (net_of new) is_net one_name c);
+      counted = has_stuck_same named alike.net n alike.same (has_stuck_under ran.leads.names (net_of new) is_net one_name n s);
+      written = w;
+    }
 
-  pub runs_out : length journal ≡ fuel → HasActive (net_of new) → RunsOut t fuel
-  runs_out e a = record {
-    journal = journal;
-    net = alike.net;
-    run = alike.run;
-    full = e;
-    left = (ran.leads.names a.0, ran.leads.names a.1, a.2, active_same named alike.net alike.same _ _ a.2 (active_to ran.leads.names (net_of new) a.0 a.1 a.2 a.3));
-  }
+    pub runs_out : length journal ≡ fuel → HasActive (net_of new) → RunsOut t fuel
+    runs_out e a = record {
+      journal = journal;
+      net = alike.net;
+      run = alike.run;
+      full = e;
+      left = (ran.leads.names a.0, ran.leads.names a.1, a.2, active_same named alike.net alike.same _ _ a.2 (active_to ran.leads.names (net_of new) a.0 a.1 a.2 a.3));
+    }

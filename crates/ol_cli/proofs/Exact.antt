@@ -11,7 +11,7 @@ use Rattle.ol_cli.specs.Answers.{Evaluates, IsAnswer, Seen, GaveAll, GaveTooMany
 
 -- where all bytes were given, they are within the limit
 pub within_ok : (bytes : Vec ℕ Global) (most given : ℕ) → IsErrOf {T = Vec ℕ Global} {E = ReadAll} (Ok bytes) TooLong ↔ (most < given) → given ≤ most
-within_ok bytes most given h = elim (which most given) [ | inl past ↦ absurd (no (h.1 past)) | inr w ↦ w ]
+within_ok bytes most given h = elim (which most given) [ inl past ↦ absurd (no (h.1 past)) | inr w ↦ w ]
   where
     which : (most given : ℕ) → (most < given) ⊎ (given ≤ most)
     which most given = grind arith

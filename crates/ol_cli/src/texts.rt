@@ -43,12 +43,7 @@ pub fn counts_lines(alloc: Global, counts: Counts, stuck: u32) -> Result<Vec<u8>
 }
 
 // Appends a name, a space, a number and a line feed.
-fn add_count(
-    alloc: Global,
-    text: &mut Vec<u8>,
-    name: &str,
-    count: u32,
-) -> Result<(), NoMemory>
+fn add_count(alloc: Global, text: &mut Vec<u8>, name: &str, count: u32) -> Result<(), NoMemory>
     ensures { OnOk result (text.new.items ≡ text.old.items ++ count_line name.now count) }
 {
     let Ok(line) = format!(in alloc; "{name} {count}\n") else {

@@ -85,7 +85,10 @@ fn plan<S: Source>(alloc: Global, words: &Vec<String>, src: &mut S) -> Result<An
     ensures begins { S.begins src.new ≤ S.begins src.old + (if is_job words.now.items then 1 else 0) }
 {
     if !is_run(words) {
-        let text = line(alloc, "usage: ol run|walk|view|trace|check|gen [options] NAME")?;
+        let text = line(
+            alloc,
+            "usage: ol run|walk|view|trace|check|gen [options] NAME",
+        )?;
         let status = Status::Usage;
         return Ok(Answer { text, status });
     }

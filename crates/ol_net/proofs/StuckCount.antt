@@ -16,14 +16,14 @@ module _ {A : Type 0} where
   without p (q ∷ qs) (inl e) = record {
     rest = qs;
     shorter = refl;
-    others = λ r h. elim h [ | inl e' ↦ inl (e' ∙ sym e) | inr k ↦ inr k ];
+    others = λ r h. elim h [ inl e' ↦ inl (e' ∙ sym e) | inr k ↦ inr k ];
   }
   without p (q ∷ qs) (inr h) =
       let w = without p qs h in
       record {
         rest = q ∷ w.rest;
         shorter = ap suc w.shorter;
-        others = λ r k. elim k [ | inl e ↦ inr (inl e) | inr k ↦ elim (w.others r k) [ | inl e ↦ inl e | inr t ↦ inr (inr t) ] ];
+        others = λ r k. elim k [ inl e ↦ inr (inl e) | inr k ↦ elim (w.others r k) [ inl e ↦ inl e | inr t ↦ inr (inr t) ] ];
       }
 
   abbrev turned : A × A → A × A
@@ -33,8 +33,8 @@ module _ {A : Type 0} where
   below : (p q : A × A) (ps qs : List (A × A)) (w : Without q qs) → ((f g : A) → (◌≡◌ {A = A × A} (f, g) q) → (◌≡◌ {A = A × A} (f, g) p) ⊎ (◌≡◌ {A = A × A} (f, g) (turned p)))
       → (HasPair ps p.0 p.1 → ⊥) → ((f g : A) → HasPair (p ∷ ps) f g → HasPair qs f g) → (f g : A) → HasPair ps f g → HasPair w.rest f g
   below p q ps qs w same apart h f g k = elim (h f g (behind k)) [
-    | inl i ↦ elim (w.others (f, g) i) [ | inl e ↦ absurd (not_it f g k e) | inr t ↦ inl t ]
-    | inr i ↦ elim (w.others (g, f) i) [ | inl e ↦ absurd (not_it g f (turn f g k) e) | inr t ↦ inr t ]
+    | inl i ↦ elim (w.others (f, g) i) [ inl e ↦ absurd (not_it f g k e) | inr t ↦ inl t ]
+    | inr i ↦ elim (w.others (g, f) i) [ inl e ↦ absurd (not_it g f (turn f g k) e) | inr t ↦ inr t ]
   ]
     where
       turn : (f g : A) → HasPair ps f g → HasPair ps g f

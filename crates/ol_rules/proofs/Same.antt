@@ -65,6 +65,6 @@ one_thread_same M N P fuel journal s o =
     let k = leads_same M N P 0 journal s o.leads in
     record {
       net = k.net;
-      run = record { leads = k.run; within = o.within; ended = elim o.ended [ | inl c ↦ inl (complete_same P k.net k.same c) | inr e ↦ inr e ] };
+      run = record { leads = k.run; within = o.within; ended = elim o.ended [ inl c ↦ inl (complete_same P k.net k.same c) | inr e ↦ inr e ] };
       same = k.same;
     }
