@@ -3,6 +3,8 @@
 
 mod evaluation;
 mod status;
+#[cfg(test)]
+mod tests;
 mod texts;
 mod top;
 
