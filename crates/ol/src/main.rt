@@ -3,13 +3,19 @@
 
 use ol_cli::{Status, ol};
 use ol_io::{OpenGate, StdSink, StdSource};
+use std::io::ErrorKind;
 use std::process::ExitCode;
 
 fn main(rt: HostRuntime) -> ExitCode {
-    let Ok(words) = std::env::args(&rt) else {
-        return ExitCode::from(Status::Usage.number());
+    let words = match std::env::args(&rt) {
+        Ok(args) => args.collect(rt.alloc()).ok(),
+        Err(error) => match error.kind() {
+            ErrorKind::OutOfMemory => None,
+            // Words that aren't UTF-8 ask for no job, as no words do.
+            _ => Some(Vec::new(rt.alloc())),
+        },
     };
-    let Ok(words) = words.collect(rt.alloc()) else {
+    let Some(words) = words else {
         return ExitCode::from(Status::NoMemory.number());
     };
     let mut src = StdSource::new(&rt);

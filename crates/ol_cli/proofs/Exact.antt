@@ -84,3 +84,23 @@ ends_risen words s Done g g' old new h calm e = inl (e.3.0 ∙ cause_risen words
 ends_risen words s Usage g g' old new h calm e = inl (e.3.0 ∙ cause_risen words s e.1 e.0 h e.2)
 ends_risen words s Spent g g' old new h calm e = inl (e.3.0 ∙ cause_risen words s e.1 e.0 h e.2)
 ends_risen words s NotBuilt g g' old new h calm e = inl (e.3.0 ∙ cause_risen words s e.1 e.0 h e.2)
+
+planned_usage : (words : List (String Global)) (s : Seen) (text : List ℕ) (st : Status) → is_job words ≡ false → Cause words s st text → st ≡ Usage
+planned_usage words s text Usage lacks c = refl
+planned_usage words s text ReadFault lacks c = absurd (let e = sym c.0 ∙ lacks in cc)
+planned_usage words s text NotBuilt lacks c = absurd (let e = sym c.0 ∙ lacks in cc)
+planned_usage words s text Spent lacks c = absurd (let e = sym c.0 ∙ lacks in cc)
+planned_usage words s text Done lacks c = absurd (let e = sym c.0 ∙ lacks in cc)
+planned_usage words s text WriteFault lacks c = absurd c
+planned_usage words s text NoMemory lacks c = absurd c
+
+-- words that ask for no job are told so
+pub ends_usage : (words : List (String Global)) (s : Seen) (r : Status) (g g' : ℕ) (old new : Option (List ℕ)) → is_job words ≡ false
+    → Ends words s r g g' old new → (r ≡ Usage) ⊎ ((r ≡ WriteFault) ⊎ (r ≡ NoMemory))
+ends_usage words s NoMemory g g' old new lacks e = inr (inr refl)
+ends_usage words s WriteFault g g' old new lacks e = inr (inl refl)
+ends_usage words s ReadFault g g' old new lacks e = inl (e.3.0 ∙ planned_usage words s e.1 e.0 lacks e.2)
+ends_usage words s Done g g' old new lacks e = inl (e.3.0 ∙ planned_usage words s e.1 e.0 lacks e.2)
+ends_usage words s Usage g g' old new lacks e = inl refl
+ends_usage words s Spent g g' old new lacks e = inl (e.3.0 ∙ planned_usage words s e.1 e.0 lacks e.2)
+ends_usage words s NotBuilt g g' old new lacks e = inl (e.3.0 ∙ planned_usage words s e.1 e.0 lacks e.2)

@@ -3,7 +3,7 @@ use Rattle.std.specs.Prelude.{◌≡◌, ℕ, ◌≤◌, ◌<◌, Bool, true, fa
 use Rattle.std.specs.declared.alloc.Global.{Global}
 use Rattle.ol_io.specs.Outside.{Rose, Appended, IsWhole, IsLonger}
 use Rattle.ol_parse.specs.Trees.{Tree}
-use Rattle.ol_parse.specs.SmallTexts.{IsSmallText}
+use Rattle.ol_parse.specs.SmallTexts.{IsClosedSmallText}
 use Rattle.ol_cli.specs.declared.status.Status.{Status}
 use Rattle.ol_cli.specs.declared.status.Status.TheVariants as status
 use Rattle.ol_cli.specs.Jobs.{is_job}
@@ -23,8 +23,8 @@ number_of status.NotBuilt = 8
 -- What a term file of at most 1,024 bytes is answered: it isn't a small text, its run has more than 200,000 steps, or its
 -- counts are printed.
 abbrev pub Evaluates : List ℕ → Status → List ℕ → Type 0
-Evaluates bytes status.NotBuilt text = ((t : Tree) → IsSmallText bytes t → ⊥) × (text ≡ not_built_text)
-Evaluates bytes st text = (t : Tree) × IsSmallText bytes t × TermAnswer t st text
+Evaluates bytes status.NotBuilt text = ((t : Tree) → IsClosedSmallText bytes t → ⊥) × (text ≡ not_built_text)
+Evaluates bytes st text = (t : Tree) × IsClosedSmallText bytes t × TermAnswer t st text
 
 -- The answer to these words, where nothing fails and standard input has these bytes.
 abbrev pub IsAnswer : List (String Global) → List ℕ → Status → List ℕ → Type 0
@@ -43,6 +43,9 @@ pub record Seen : Type 0 where
   pub contents : Option (List ℕ)
   pub given : ℕ
   pub ended : Bool
+
+abbrev pub seen : (faults faults' : ℕ) → Option (List ℕ) → (given : ℕ) → Bool → Seen
+seen faults faults' contents given ended = record { faults = faults; faults' = faults'; contents = contents; given = given; ended = ended }
 
 -- the source gave these bytes, to their end, and they are all bytes of the name where it tells them
 pub record GaveAll (s : Seen) (bytes : List ℕ) : Type 0 where

@@ -2,7 +2,7 @@
 ghost use Rattle.std.specs.Prelude.{List, ℕ, ◌≢◌, ◌≤◌, ◌+◌, ◌≡◌, ◌<◌, ◌⊎◌, true, false, codes, length, IfOk, Some, if◌then◌else◌};
 ghost use Rattle.ol_io.specs.Outside.{Rose, Appended};
 ghost use Rattle.ol_cli.specs.Jobs.{is_job};
-ghost use Rattle.ol_cli.specs.Answers.{Cause, Ends, IsAnswer};
+ghost use Rattle.ol_cli.specs.Answers.{seen, Cause, Ends, IsAnswer};
 
 use crate::evaluation::{Answer, evaluate};
 use crate::status::Status;
@@ -29,7 +29,7 @@ pub fn ol<S: Source, W: Sink, G: Gate + Sync>(
 
     // Each status has its cause, and its text is appended whole, or a prefix of it where the sink failed.
     ensures ends { Ends words.now.items
-        (record { faults = S.faults src.old; faults' = S.faults src.new; contents = S.contents src.old (codes "-"); given = S.given src.new; ended = S.ended src.new })
+        (seen (S.faults src.old) (S.faults src.new) (S.contents src.old (codes "-")) (S.given src.new) (S.ended src.new))
         result (W.faults out.old) (W.faults out.new) (W.taken out.old) (W.taken out.new) }
 
     // Where the source tells its bytes and nothing fails, the status and the text are those of the answer.
@@ -46,9 +46,12 @@ pub fn ol<S: Source, W: Sink, G: Gate + Sync>(
 
     // The words alone decide on `Usage`.
     ensures usage { result ≡ Status.Usage → is_job words.now.items ≡ false }
+    ensures usage_told { is_job words.now.items ≡ false → (result ≡ Status.Usage) ⊎ ((result ≡ Status.WriteFault) ⊎ (result ≡ Status.NoMemory)) }
+
+    // `Done` comes after the end of the input was seen.
     ensures done { result ≡ Status.Done → S.ended src.new ≡ true }
 
-    // It begins no name but that of its job, once.
+    // It begins one name at most, and where there is no job none. It knows of no name but that of its job.
     ensures begins { S.begins src.new ≤ S.begins src.old + (if is_job words.now.items then 1 else 0) }
 {
     let _not_passed = gate;
@@ -63,7 +66,7 @@ fn answer<S: Source, W: Sink>(
 ) -> Status
     requires known { is_job words.now.items ≡ true → S.knows src.old (codes "-") ≡ true }
     ensures ends { Ends words.now.items
-        (record { faults = S.faults src.old; faults' = S.faults src.new; contents = S.contents src.old (codes "-"); given = S.given src.new; ended = S.ended src.new })
+        (seen (S.faults src.old) (S.faults src.new) (S.contents src.old (codes "-")) (S.given src.new) (S.ended src.new))
         result (W.faults out.old) (W.faults out.new) (W.taken out.old) (W.taken out.new) }
     ensures begins { S.begins src.new ≤ S.begins src.old + (if is_job words.now.items then 1 else 0) }
 {
@@ -80,7 +83,7 @@ fn answer<S: Source, W: Sink>(
 fn plan<S: Source>(alloc: Global, words: &Vec<String>, src: &mut S) -> Result<Answer, NoMemory>
     requires known { is_job words.now.items ≡ true → S.knows src.old (codes "-") ≡ true }
     ensures planned { IfOk result (λ a. Cause words.now.items
-        (record { faults = S.faults src.old; faults' = S.faults src.new; contents = S.contents src.old (codes "-"); given = S.given src.new; ended = S.ended src.new })
+        (seen (S.faults src.old) (S.faults src.new) (S.contents src.old (codes "-")) (S.given src.new) (S.ended src.new))
         a.status a.text.items) }
     ensures begins { S.begins src.new ≤ S.begins src.old + (if is_job words.now.items then 1 else 0) }
 {

@@ -1,5 +1,5 @@
 //! Reading a name to its end, and writing a whole text.
-ghost use Rattle.std.specs.Prelude.{◌≡◌, ◌≤◌, ◌<◌, ◌↔◌, true, length, IfOk, OnOk, IsErrOf};
+ghost use Rattle.std.specs.Prelude.{◌≡◌, ◌≤◌, ◌<◌, ◌+◌, ◌↔◌, true, length, IfOk, OnOk, IsErrOf};
 ghost use Rattle.ol_io.specs.Outside.{next_count, Appended, Counts, IsWhole, IsLonger};
 ghost use Rattle.ol_io.specs.Calls.{read_all_failed, write_all_failed, written, FaultsWithin};
 
@@ -30,7 +30,7 @@ pub enum Written {
 /// All bytes of a name that has at most `most` of them, `most` being at most 1,000,000,000.
 ///
 /// - `Fault`: the source failed, at the `begin` or at a `read`.
-/// - `TooLong`: it gave more than `most` bytes. Reading stops there.
+/// - `TooLong`: it gave more than `most` bytes. Reading stops with the first read that passes `most`.
 /// - `NoMemory`: no memory was found for the bytes.
 ///
 /// It asks for at most 4,096 bytes at a time. Each read but the last gives at least one byte, so it ends
@@ -48,6 +48,7 @@ pub fn read_all<S: Source>(
     ensures ended { OnOk result (S.ended src.new ≡ true) }
     ensures too_long { IsErrOf result ReadAll.TooLong ↔ (most < S.given src.new) }
     ensures longer { most < S.given src.new → IsLonger (S.contents src.old name.now) most }
+    ensures stops { S.given src.new ≤ most + 4096 }
     ensures cause { Counts (read_all_failed result) (S.faults src.old) (S.faults src.new) }
     ensures begins { S.begins src.new ≡ next_count (S.begins src.old) }
     ensures knows { S.knows src.new ≡ S.knows src.old }
@@ -69,6 +70,7 @@ fn read_on<S: Source>(alloc: Global, src: &mut S, most: usize) -> Result<Vec<u8>
     ensures ended { OnOk result (S.ended src.new ≡ true) }
     ensures too_long { IsErrOf result ReadAll.TooLong ↔ (most < S.given src.new) }
     ensures longer { most < S.given src.new → IsLonger (S.left src.old) most }
+    ensures stops { S.given src.new ≤ most + 4096 }
     ensures cause { Counts (read_all_failed result) (S.faults src.old) (S.faults src.new) }
     ensures begins { S.begins src.new ≡ S.begins src.old }
     ensures knows { S.knows src.new ≡ S.knows src.old }

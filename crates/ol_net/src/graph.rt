@@ -104,8 +104,7 @@ impl Net {
         self.nodes.len() as u32
     }
 
-    /// The greatest index of a live node, or 0 where there is none. It looks at each number given
-    /// out so far.
+    /// The greatest index of a live node, or 0 where there is none.
     pub fn top_index(&self) -> u32
         ensures top { result ≡ top_index_of self.now.nodes }
         ensures bound { result ≤ 100000000 + length self.now.nodes }
@@ -144,8 +143,7 @@ impl Net {
         facing_in(self.free, &self.nodes, &self.partners, at)
     }
 
-    /// The number of stuck pairs: two nodes that face each other and have no rule. It looks at each
-    /// number given out so far.
+    /// The number of stuck pairs: two nodes that face each other and have no rule.
     pub fn stuck(&self) -> u32
         ensures stuck { HasStuck (net_of self.now) result }
     {

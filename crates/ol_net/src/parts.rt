@@ -46,11 +46,11 @@ pub enum Rule {
     Croissant,
     /// Two brackets of one index.
     Bracket,
-    /// A fan and a node of a greater index.
+    /// A fan and a node of a greater index, which is no eraser.
     CrossFan,
-    /// A croissant and a node of a greater index.
+    /// A croissant and a node of a greater index, which is no eraser.
     CrossCroissant,
-    /// A bracket and a node of a greater index.
+    /// A bracket and a node of a greater index, which is no eraser.
     CrossBracket,
     /// An eraser and any node.
     Erase,

@@ -3,7 +3,7 @@ use Rattle.std.proofs.Common.{◌≡◌, ℕ, ◌+◌, ◌*◌, ◌≤◌, List,
 use Rattle.std.specs.Prelude.{◌==◌}
 use Rattle.std.specs.List.{position, position_or_len}
 use Rattle.ol_parse.specs.Trees.{Tree, var, free, lam, app, is_below, is_named_below, lams, occurrences, depth}
-use Rattle.ol_parse.specs.SmallTexts.{Token, word, backslash, dot, open_bracket, close_bracket, is_word, Spells, spells_gap, spells_token, IsSmallText}
+use Rattle.ol_parse.specs.SmallTexts.{Token, word, backslash, dot, open_bracket, close_bracket, is_word, Spells, spells_gap, spells_token, IsClosedSmallText}
 use Rattle.ol_parse.proofs.Under.{TermIn, in_abstraction, in_atoms, AtomsIn, in_one, in_more, AtomIn, in_word, in_brackets, term_in}
 
 -- ---- closed
@@ -129,20 +129,20 @@ no_deeper (app f a) =
 
 -- ---- small texts
 
-pub closed : (bytes : List ℕ) (t : Tree) → IsSmallText bytes t → is_below 0 t ≡ true
+pub closed : (bytes : List ℕ) (t : Tree) → IsClosedSmallText bytes t → is_below 0 t ≡ true
 closed bytes t i = below_term (term_in i.term [] t i.bound)
 
-pub nameless : (bytes : List ℕ) (t : Tree) → IsSmallText bytes t → is_named_below 0 t ≡ true
+pub nameless : (bytes : List ℕ) (t : Tree) → IsClosedSmallText bytes t → is_named_below 0 t ≡ true
 nameless bytes t i = named_term (term_in i.term [] t i.bound)
 
-bounded : (bytes : List ℕ) (t : Tree) → IsSmallText bytes t → size t ≤ 1 + length bytes
+bounded : (bytes : List ℕ) (t : Tree) → IsClosedSmallText bytes t → size t ≤ 1 + length bytes
 bounded bytes t i =
     let h = size_term (term_in i.term [] t i.bound) in
     let k = few_bytes i.spelled in
     omega arith
 
-pub few : (bytes : List ℕ) (t : Tree) → IsSmallText bytes t → 3 * lams t + occurrences t ≤ length bytes
+pub few : (bytes : List ℕ) (t : Tree) → IsClosedSmallText bytes t → 3 * lams t + occurrences t ≤ length bytes
 few bytes t i = let h = bounded bytes t i in let k = some_occurrence t in omega arith
 
-pub shallow : (bytes : List ℕ) (t : Tree) → IsSmallText bytes t → 2 * depth t ≤ 1 + length bytes
+pub shallow : (bytes : List ℕ) (t : Tree) → IsClosedSmallText bytes t → 2 * depth t ≤ 1 + length bytes
 shallow bytes t i = let h = bounded bytes t i in let k = no_deeper t in omega arith

@@ -80,7 +80,7 @@ bind names (abstraction x t) = option_map lam (bind (x ∷ names) t)
 bind names (application f a) = applied (bind names f) (bind names a)
 
 -- the bytes are a small text of a closed term, and this is its tree
-pub record IsSmallText (bytes : List ℕ) (t : Tree) : Type 0 where
+pub record IsClosedSmallText (bytes : List ℕ) (t : Tree) : Type 0 where
   pub tokens : List Token
   pub named : Named
   pub spelled : Spells false tokens bytes
@@ -89,4 +89,4 @@ pub record IsSmallText (bytes : List ℕ) (t : Tree) : Type 0 where
 
 -- a small text has one tree
 abbrev pub OneSmallTerm : Type 0
-OneSmallTerm = (bytes : List ℕ) (t u : Tree) → IsSmallText bytes t → IsSmallText bytes u → t ≡ u
+OneSmallTerm = (bytes : List ℕ) (t u : Tree) → IsClosedSmallText bytes t → IsClosedSmallText bytes u → t ≡ u

@@ -2,7 +2,7 @@
 
 ghost use Rattle.std.specs.Prelude.{◌≡◌, ◌+◌, ◌*◌, ◌≤◌, [], true, IfOk, IfErr, length};
 ghost use Rattle.ol_parse.specs.Trees.{Tree, tree_of, is_below, is_named_below, lams, occurrences, depth};
-ghost use Rattle.ol_parse.specs.SmallTexts.{IsSmallText, OneSmallTerm};
+ghost use Rattle.ol_parse.specs.SmallTexts.{IsClosedSmallText, OneSmallTerm};
 ghost use Rattle.ol_parse.specs.declared.faults.SmallFault.TheVariants.{NotSmall};
 
 use crate::faults::SmallFault;
@@ -21,10 +21,10 @@ use std::alloc::Global;
 /// `NotSmall` comes exactly where the text isn't a small text or a word in it is free.
 pub fn parse_small(alloc: Global, text: &[u8]) -> Result<TermFile, SmallFault>
     requires { length text.now ≤ 1024 }
-    ensures ok { IfOk result (λ file. IsSmallText text.now (tree_of file.term)) }
+    ensures ok { IfOk result (λ file. IsClosedSmallText text.now (tree_of file.term)) }
     ensures names { IfOk result (λ file. file.names ≡ []) }
     ensures not_small { IfErr result (λ e.
-        e ≡ SmallFault.NotSmall → (t : Tree) → IsSmallText text.now t → ⊥) }
+        e ≡ SmallFault.NotSmall → (t : Tree) → IsClosedSmallText text.now t → ⊥) }
     ensures closed { IfOk result (λ file. is_below 0 (tree_of file.term) ≡ true) }
     ensures nameless { IfOk result (λ file. is_named_below 0 (tree_of file.term) ≡ true) }
     ensures few { IfOk result (λ file.

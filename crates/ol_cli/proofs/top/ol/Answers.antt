@@ -1,6 +1,6 @@
 use Rattle.std.proofs.Common.{ℕ, List, Option, Some, subst, codes}
 use Rattle.ol_cli.specs.Answers.{Ends, Seen}
-use Rattle.ol_cli.proofs.Exact.{ends_exact, ends_risen}
+use Rattle.ol_cli.proofs.Exact.{ends_exact, ends_risen, ends_usage}
 use Rattle.ol_cli.proofs.top.ol.Goals as goal
 
 pub returns-clause-exact : goal.returns-clause-exact
@@ -15,3 +15,8 @@ pub returns-clause-read_told : goal.returns-clause-read_told
 returns-clause-read_told g c = λ risen calm. ends_risen c.args.words.now.items
     (record { faults = g.S.Source.faults c.args.src.now; faults' = g.S.Source.faults c.answer.new.src; contents = g.S.Source.contents c.args.src.now (codes "-"); given = g.S.Source.given c.answer.new.src; ended = g.S.Source.ended c.answer.new.src })
     c.answer.result (g.W.Sink.faults c.args.out.now) (g.W.Sink.faults c.answer.new.out) (g.W.Sink.taken c.args.out.now) (g.W.Sink.taken c.answer.new.out) risen calm c.answer.ensures.ends
+
+pub returns-clause-usage_told : goal.returns-clause-usage_told
+returns-clause-usage_told g c = λ lacks. ends_usage c.args.words.now.items
+    (record { faults = g.S.Source.faults c.args.src.now; faults' = g.S.Source.faults c.answer.new.src; contents = g.S.Source.contents c.args.src.now (codes "-"); given = g.S.Source.given c.answer.new.src; ended = g.S.Source.ended c.answer.new.src })
+    c.answer.result (g.W.Sink.faults c.args.out.now) (g.W.Sink.faults c.answer.new.out) (g.W.Sink.taken c.args.out.now) (g.W.Sink.taken c.answer.new.out) lacks c.answer.ensures.ends
