@@ -2,9 +2,11 @@
 #![tactic(auto)]
 
 mod evaluation;
+mod laws;
 mod status;
 mod texts;
 mod top;
 
+pub use laws::one_answer;
 pub use status::Status;
 pub use top::ol;
