@@ -2,3 +2,4 @@ pub mod Texts
 pub mod Jobs
 pub mod Evaluation
 pub mod Answers
+pub mod Laws

@@ -2,11 +2,13 @@
 #![tactic(auto)]
 
 mod evaluation;
+mod laws;
 mod status;
 #[cfg(test)]
 mod tests;
 mod texts;
 mod top;
 
+pub use laws::one_answer;
 pub use status::Status;
 pub use top::ol;

@@ -22,3 +22,6 @@ pub mod Waiting
 pub mod OneThread
 pub mod Same
 pub mod UnderNames
+pub mod BothWays
+pub mod OneRun
+pub mod StartNets

@@ -1,11 +1,16 @@
--- The laws of a step.
-use Rattle.std.specs.Prelude.{◌≡◌, ◌≢◌, ℕ, Bool}
+-- The laws of a step, and of the one-thread run.
+use Rattle.std.specs.Prelude.{◌≡◌, ◌≢◌, ℕ, Bool, true, List}
 use Rattle.ol_edges.specs.Edges.{IsTest}
 use Rattle.ol_net.specs.declared.parts.Kind.{Kind}
 use Rattle.ol_net.specs.declared.parts.Rule.{Rule}
 use Rattle.ol_net.specs.Nets.{NamedNet, HasNode, IsNet, SameNet}
 use Rattle.ol_net.specs.Pairs.{IsActive}
+use Rattle.ol_rules.specs.declared.journal.NodeName.{NodeName}
+use Rattle.ol_rules.specs.declared.journal.NodeName.TheVariants.{Born}
+use Rattle.ol_rules.specs.declared.journal.Entry.{Entry}
+use Rattle.ol_rules.specs.Names.{comes_before}
 use Rattle.ol_rules.specs.Rewriting.{Action, Rewrites, IsStep}
+use Rattle.ol_rules.specs.Runs.{IsComplete, HasActive, IsOneThread}
 
 -- names for the nodes born: each once, and none that is there already
 pub record IsFresh {A : Type 0} (N : NamedNet A) (born : ℕ → A) : Type 0 where
@@ -36,3 +41,17 @@ StepKeepsNet A = (same : A → A → Bool) → IsTest same → (born : ℕ → A
 abbrev pub StepExists : Type 0 → Type 0
 StepExists A = (same : A → A → Bool) → IsTest same → (born : ℕ → A) (N : NamedNet A) (f g : A) (r : Rule) →
     IsNet N → IsFresh N born → IsActive N f g r → (M : NamedNet A) × IsStep born N f g r M
+
+-- Each node was there at the start, or a ticket before this one made it.
+abbrev pub AreNamedBefore : NamedNet NodeName → ℕ → Type 0
+AreNamedBefore N ticket = (x : NodeName) (k : Kind) (i : ℕ) → HasNode N x k i → comes_before x (Born ticket 0) ≡ true
+
+-- A net of start nodes has one one-thread run for each fuel, however its lists are ordered: one journal, which leads to one net.
+abbrev pub OneThreadIsOne : Type 0
+OneThreadIsOne = (M N P Q : NamedNet NodeName) (fuel : ℕ) (journal journal' : List Entry) →
+    IsNet M → AreNamedBefore M 0 → SameNet M N → IsOneThread M fuel journal P → IsOneThread N fuel journal' Q → (journal ≡ journal') × SameNet P Q
+
+-- So it doesn't both end and go on.
+abbrev pub EndsOrGoesOn : Type 0
+EndsOrGoesOn = (M N P Q : NamedNet NodeName) (fuel : ℕ) (journal journal' : List Entry) →
+    IsNet M → AreNamedBefore M 0 → SameNet M N → IsOneThread M fuel journal P → IsOneThread N fuel journal' Q → IsComplete P → HasActive Q → ⊥

@@ -1,6 +1,6 @@
-//! The laws of a step, over nets with any names.
+//! The laws of a step, over nets with any names, and of the one-thread run.
 
-ghost use Rattle.ol_rules.specs.Laws.{RewritesSame, OneResult, StepIsOne, StepKeepsNet, StepExists};
+ghost use Rattle.ol_rules.specs.Laws.{RewritesSame, OneResult, StepIsOne, StepKeepsNet, StepExists, OneThreadIsOne, EndsOrGoesOn};
 
 /// A step of one net by one pair leaves one net, however the lists of the net are ordered.
 pub fn a_step_is_one<A>()
@@ -13,4 +13,11 @@ pub fn a_step_is_one<A>()
 pub fn a_step_is_a_net<A>()
     ensures kept { StepKeepsNet A }
     ensures some { StepExists A }
+{}
+
+/// A net has one one-thread run: one journal, which leads to one net. So for each fuel it ends, or it
+/// goes on, and not both.
+pub fn one_thread_is_one()
+    ensures one { OneThreadIsOne }
+    ensures ends { EndsOrGoesOn }
 {}

@@ -20,12 +20,12 @@ use Rattle.ol_translate.proofs.Indexes.{good_indexes}
 
 -- ---- a port and the links that it stands in
 
-hit_itself : (p : Port) → hit p p ≡ 1
+pub hit_itself : (p : Port) → hit p p ≡ 1
 unfolding hit
 hit_itself (Free m) = rw (eq-eqb m m refl) refl
 hit_itself (Of k s) = rw (eq-eqb k.0 k.0 refl, eq-eqb s s refl) refl
 
-port_from_eq : (p q : Port) → port_eq p q ≡ true → q ≡ p
+pub port_from_eq : (p q : Port) → port_eq p q ≡ true → q ≡ p
 port_from_eq (Free m) (Free n) e = let same : n ≡ m = grind (arith, nat_tests) in ap (λ k. Free k) same
 port_from_eq (Free m) (Of l t) e = absurd (cc)
 port_from_eq (Of k s) (Free n) e = absurd (cc)
@@ -70,7 +70,7 @@ uses-none p (l ∷ links) h =
 -- ---- a net's parts
 
 -- each port that there is stands in one link
-abbrev EachOnce : ℕ → List (Kind × ℕ) → List (Port × Port) → Type 0
+abbrev pub EachOnce : ℕ → List (Kind × ℕ) → List (Port × Port) → Type 0
 EachOnce free nodes links = (p : Port) → uses p links ≡ bit (has_port free (all_live nodes) p)
 
 bit-le : (b : Bool) → bit b ≤ 1

@@ -8,3 +8,4 @@ pub mod Bound
 pub mod Answering
 pub mod Fitting
 pub mod Rows
+pub mod Whole

@@ -11,6 +11,7 @@ ghost use Rattle.ol_translate.specs.Sizes.{size_of_translation};
 ghost use Rattle.ol_translate.specs.Names.{has_name};
 
 mod faults;
+mod laws;
 mod laying;
 mod parts;
 #[cfg(test)]
@@ -18,6 +19,7 @@ mod tests;
 mod wires;
 
 pub use faults::TransFault;
+pub use laws::translation_is_a_net;
 use ol_net::{BuildFault, Net};
 use ol_parse::TermFile;
 use parts::Parts;

@@ -1,0 +1,5 @@
+use Rattle.ol_translate.proofs.Whole.{translation_net}
+use Rattle.ol_translate.proofs.laws.translation_is_a_net.Goals as goal
+
+pub returns : goal.returns
+returns c = λ t names h. translation_net t names h
