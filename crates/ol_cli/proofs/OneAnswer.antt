@@ -1,7 +1,7 @@
 -- The same words and bytes have one answer.
 use Rattle.std.proofs.Common.{◌≡◌, ℕ, ◌<◌, ◌≤◌, true, false, List, length, refl, sym, ap, ◌∙◌, subst, inl, inr, ◌⊎◌, arith, String, Global}
 use Rattle.ol_parse.specs.Trees.{Tree}
-use Rattle.ol_parse.specs.SmallTexts.{IsSmallText}
+use Rattle.ol_parse.specs.SmallTexts.{IsClosedSmallText}
 use Rattle.ol_parse.proofs.Sizes.{closed, nameless}
 use Rattle.ol_parse.proofs.Whole.{one_small_term}
 use Rattle.ol_net.specs.Nets.{NamedNet, IsNet, net_under}
@@ -65,14 +65,14 @@ one_of_term t n s s' x x' (inr h) (inr h') = (h.1 ∙ sym h'.1, one_print t n 20
 
 -- ---- a text
 
-small_net : (bytes : List ℕ) (t : Tree) → IsSmallText bytes t → IsNet (translation_of t 0)
+small_net : (bytes : List ℕ) (t : Tree) → IsClosedSmallText bytes t → IsNet (translation_of t 0)
 small_net bytes t h = translation_net t 0 names
   where
     names : HasNames t 0
     names = record { bound = closed bytes t h; named = nameless bytes t h; each = λ f b. absurd (omega arith) }
 
 abbrev OfText : List ℕ → Status → List ℕ → Type 0
-OfText bytes s x = (((t : Tree) → IsSmallText bytes t → ⊥) × Same s NotBuilt x not_built_text) ⊎ ((t : Tree) × IsSmallText bytes t × TermAnswer t s x)
+OfText bytes s x = (((t : Tree) → IsClosedSmallText bytes t → ⊥) × Same s NotBuilt x not_built_text) ⊎ ((t : Tree) × IsClosedSmallText bytes t × TermAnswer t s x)
 
 of_text : (bytes : List ℕ) (s : Status) (x : List ℕ) → Evaluates bytes s x → OfText bytes s x
 of_text bytes NotBuilt x a = inl (a.0, (refl, a.1))
