@@ -1,8 +1,8 @@
 -- A net has one number of stuck pairs.
-use Rattle.std.proofs.Common.{◌≡◌, ◌≢◌, ℕ, zero, suc, ◌+◌, ◌≤◌, length, List, [], ◌∷◌, ◌⊎◌, ◌↔◌, inl, inr, refl, sym, ap, ◌∙◌, subst, arith}
+use Rattle.std.proofs.Common.{◌≡◌, ℕ, suc, ◌≤◌, length, List, [], ◌∷◌, ◌⊎◌, inl, inr, refl, sym, ap, ◌∙◌, subst, arith}
 use Rattle.ol_edges.specs.Edges.{IsIn}
 use Rattle.ol_net.specs.Nets.{NamedNet}
-use Rattle.ol_net.specs.Pairs.{IsStuck, HasPair, AreDifferent, HasStuck}
+use Rattle.ol_net.specs.Pairs.{HasPair, AreDifferent, HasStuck}
 
 module _ {A : Type 0} where
   -- the list without one of its pairs
