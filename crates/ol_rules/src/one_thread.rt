@@ -45,7 +45,8 @@ struct Running {
 }
 
 /// Makes at most `fuel` steps, each on the lead: the active pair whose smaller node number is
-/// least. The nodes that they make take the next numbers, in the order in which they come.
+/// least. The nodes that they make take the next numbers, in the order in which they come. With
+/// `NoMemory` the net is what some number of leads, at most `fuel`, leave.
 pub fn run(alloc: Global, net: &mut Net, fuel: u32) -> Result<Ran, NoMemory>
     requires { length net.old.nodes + 4 * fuel ≤ 2000000000 }
     ensures runs { IfOk result (λ ran. RunsTo net.old fuel ran.journal net.new) }
