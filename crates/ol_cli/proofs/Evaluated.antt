@@ -24,8 +24,8 @@ use Rattle.ol_cli.specs.Texts.{counts_text}
 use Rattle.ol_cli.specs.Evaluation.{RunsOut, Prints}
 
 -- a naming gives two numbers that were given out two names
-naming_apart : (start next : ℕ) (names : ℕ → NodeName) → IsNaming start next names → (j k : ℕ) → j < next → k < next → names j ≡ names k → j ≡ k
-naming_apart start next names n j k bj bk e = elim (which j k) [
+naming_apart : (start : ℕ) (made : List NodeName) (names : ℕ → NodeName) → IsNaming start made names → (j k : ℕ) → j < start + length made → k < start + length made → names j ≡ names k → j ≡ k
+naming_apart start made names n j k bj bk e = elim (which j k) [
   | inl r ↦ elim r [
     | inl lt ↦ absurd (clash j k (n.rising j k lt bk) e)
     | inr gt ↦ absurd (clash k j (n.rising k j gt bj) (sym e))
@@ -49,7 +49,11 @@ module _ (t : Tree) (old new : Graph) (fuel : ℕ) (journal : List Entry)
     named = net_under ran.leads.names (net_of new)
 
     one_name : (x y : ℕ) (k l : Kind) (i j : ℕ) → HasNode (net_of new) x k i → HasNode (net_of new) y l j → ran.leads.names x ≡ ran.leads.names y → x ≡ y
-    one_name x y k l i j h h' e = naming_apart _ _ _ ran.leads.naming x y (node_below new x k i h) (node_below new y l j h') e
+    one_name x y k l i j h h' e =
+        let b = node_below new x k i h in
+        let b' = node_below new y l j h' in
+        let c = ran.leads.numbers in
+        naming_apart _ _ _ ran.leads.naming x y (omega arith) (omega arith) e
 
     alike : OneThreadAlike (net_under Init (translation_of t 0)) fuel journal named
     alike = one_thread_same _ _ named fuel journal (same_under Init (net_of old) (translation_of t 0) start) ran.one_thread

@@ -1,14 +1,13 @@
 -- Which nodes face an active partner after a step and did not before.
-use Rattle.std.proofs.Common.{◌≡◌, ◌≢◌, ℕ, suc, zero, ◌+◌, ◌<◌, ◌≤◌, ◌⊎◌, inl, inr, refl, sym, ap, ◌∙◌, subst, arith}
+use Rattle.std.proofs.Common.{◌≡◌, ◌≢◌, ℕ, suc, zero, ◌+◌, ◌⊎◌, inl, inr, refl, sym, ap, subst, arith}
 use Rattle.ol_edges.specs.Edges.{Edge, Contracted}
-use Rattle.ol_edges.proofs.Joining.{joined_sym}
-use Rattle.ol_edges.proofs.Composing.{joined_keeps, contracted_swap}
+use Rattle.ol_edges.proofs.Composing.{joined_keeps}
 use Rattle.ol_net.specs.declared.parts.Kind.{Kind}
 use Rattle.ol_net.specs.declared.parts.Rule.{Rule}
 use Rattle.ol_net.specs.Parts.{arity}
 use Rattle.ol_net.specs.Nets.{NamedPort, free, slot, NamedNet, HasNode, Linked, IsPort, IsNet, Faces, IsPrincipalOf, IsSlotOf}
-use Rattle.ol_net.specs.Pairs.{IsActive, IsInActive}
-use Rattle.ol_rules.specs.Rewriting.{Action, action_of, JoinOf, meet, at_f, at_g, between, NodeOf, left, of_f, of_g, Rewrites, IsStep}
+use Rattle.ol_net.specs.Pairs.{IsInActive}
+use Rattle.ol_rules.specs.Rewriting.{Action, JoinOf, meet, at_f, at_g, between, NodeOf, left, of_f, of_g, Rewrites}
 
 pub linked_sym : {A : Type 0} (N : NamedNet A) (p q : NamedPort A) → Linked N p q → Linked N q p
 linked_sym N p q (inl h) = inr h

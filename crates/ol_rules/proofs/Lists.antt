@@ -71,6 +71,17 @@ got {X} (suc n) x ys (suc p) y h = go (got n x ys p y h)
     go (inl (b, e)) = inl (omega arith, e)
     go (inr (q, e, k)) = inr (q, omega arith, k)
 
+-- where an element of two lists stands
+pub got_append : {X : Type 0} (xs ys : List X) (p : ℕ) (y : X) → slice_get (xs ++ ys) p ≡ Some y
+    → (slice_get xs p ≡ Some y) ⊎ ((q : ℕ) × (p ≡ length xs + q) × (slice_get ys q ≡ Some y))
+got_append [] ys p y h = inr (p, omega arith, h)
+got_append (x ∷ xs) ys zero y h = inl h
+got_append {X} (x ∷ xs) ys (suc p) y h = go (got_append xs ys p y h)
+  where
+    go : (slice_get xs p ≡ Some y) ⊎ ((q : ℕ) × (p ≡ length xs + q) × (slice_get ys q ≡ Some y)) → (slice_get xs p ≡ Some y) ⊎ ((q : ℕ) × (suc p ≡ suc (length xs) + q) × (slice_get ys q ≡ Some y))
+    go (inl e) = inl e
+    go (inr (q, e, k)) = inr (q, omega arith, k)
+
 pub append_nil : {X : Type 0} (xs : List X) → xs ++ [] ≡ xs
 append_nil [] = refl
 append_nil (x ∷ xs) = ap (λ ys. x ∷ ys) (append_nil xs)

@@ -1,23 +1,22 @@
 -- A run on its way is a one-thread run where it ends.
-use Rattle.std.proofs.Common.{◌≡◌, ◌≢◌, ℕ, suc, ◌+◌, ◌-◌, ◌<◌, ◌≤◌, List, [], ◌∷◌, ◌++◌, length, length-append, Option, Some, None, ◌⊎◌, inl, inr, refl, sym, ap, ◌∙◌, subst, arith, MatchOption, Result, Ok, Err, OnErr, IsSome, ◌↔◌}
+use Rattle.std.proofs.Common.{◌≡◌, ◌≢◌, ℕ, ◌+◌, ◌-◌, ◌<◌, ◌≤◌, List, [], ◌∷◌, ◌++◌, length, length-append, Option, Some, None, ◌⊎◌, inl, inr, sym, subst, arith, MatchOption, Result, Ok, Err, OnErr, IsSome, ◌↔◌}
 use Rattle.ol_net.specs.declared.parts.Rule.{Rule}
 use Rattle.ol_net.specs.declared.parts.NodeId.{NodeId}
 use Rattle.ol_net.specs.Graph.{Graph}
-use Rattle.ol_net.specs.Nets.{NamedPort, free, slot, NamedNet, HasNode, Linked, IsNet, net_under}
+use Rattle.ol_net.specs.Nets.{slot, Linked, IsNet, net_under}
 use Rattle.ol_net.specs.Numbered.{net_of}
-use Rattle.ol_net.specs.Pairs.{IsActive, IsInActive}
+use Rattle.ol_net.specs.Pairs.{IsInActive}
 use Rattle.ol_rules.specs.declared.journal.NodeName.{NodeName}
-use Rattle.ol_rules.specs.declared.journal.NodeName.TheVariants.{Init, Born}
 use Rattle.ol_rules.specs.declared.journal.Entry.{Entry}
 use Rattle.ol_rules.specs.Steps.{StepsAt}
-use Rattle.ol_rules.specs.Runs.{IsComplete, HasActive, IsOneThread, LeadsTo, RunsTo, StopsWithin}
-use Rattle.ol_rules.specs.Running.{name_in, names_born, IsLeast, HasPartner, AtMostOneStep, Advances}
+use Rattle.ol_rules.specs.Runs.{IsComplete, HasActive, LeadsTo, RunsTo, StopsWithin, names_born}
+use Rattle.ol_rules.specs.Running.{name_in, IsLeast, HasPartner, AtMostOneStep, Advances}
 use Rattle.ol_rules.specs.declared.one_thread.Running.{Running}
 use Rattle.ol_rules.proofs.NameOrder.{names_apart}
 use Rattle.ol_rules.proofs.Renaming.{active_from}
 use Rattle.ol_rules.proofs.FreshPairs.{linked_sym}
-use Rattle.ol_rules.proofs.UnderWay.{UnderWay, leads_to, leads_on, one_on, lesser, node_below, births_few}
-use Rattle.ol_rules.proofs.Waiting.{active_below, has_partner}
+use Rattle.ol_rules.proofs.UnderWay.{UnderWay, listed, leads_to, leads_on, one_on, node_below, births_few}
+use Rattle.ol_rules.proofs.Waiting.{active_below}
 
 pub none_of : (o : Option ℕ) (n : ℕ) → o ≡ None → IsSome o ↔ (0 < n) → n ≡ 0
 none_of None n e h = let f : 0 < n → ⊥ = λ b. absurd (let q = h.1 b in cc) in omega arith
@@ -55,7 +54,7 @@ partner_of_active g n at r (y, inr a) (Some m) h =
 
 module _ (old g : Graph) (fuel start : ℕ) (names : List NodeName) (journal : List Entry) (u : UnderWay old g start names journal) (within : length journal ≤ fuel) where
   leads_here : LeadsTo old journal g
-  leads_here = leads_to old g journal (length g.nodes) (length journal) u.m u.named u.named.room u.led
+  leads_here = let c = u.count in let s = u.start_is in leads_to old g names journal (length g.nodes) (length journal) u.m u.named (omega arith) u.from u.led
 
   complete_named : IsComplete (net_of g) → IsComplete (net_under u.m (net_of g))
   complete_named c F G r a = let t = active_from u.m (names_apart (length old.nodes) (length g.nodes) (length journal) u.m u.named) (net_of g) F G r a in c t.0 t.1 r t.4
@@ -86,8 +85,8 @@ module _ (old g : Graph) (fuel start : ℕ) (names : List NodeName) (journal : L
 pub advanced : (old g g' : Graph) (r r' : Running) → UnderWay old g r.start r.names.items r.journal → IsNet (net_of g) → (at partner : ℕ) → IsLeast g at partner → Advances r r' g g' at partner →
     UnderWay old g' r'.start r'.names.items r'.journal
 advanced old g g' r r' u n at partner l a =
-    let first = u.listed at (active_below g at l.rule l.active) in
-    let second = u.listed partner (partner_below g n at partner l) in
+    let first = listed old g r.start r.names.items r.journal u at (active_below g at l.rule l.active) in
+    let second = listed old g r.start r.names.items r.journal u partner (partner_below g n at partner l) in
     let v = one_on old g g' r.start r.names.items r.journal u n at partner a.rule a.step l a.is_net in
     let U : ℕ → List NodeName → List Entry → Type 0 = λ s ns es. UnderWay old g' s ns es in
     let V : NodeName → NodeName → Type 0 = λ x y. UnderWay old g' r.start (r.names.items ++ names_born (length r.journal) (length g'.nodes - length g.nodes)) (r.journal ++ record { rule = a.rule; first = x; second = y } ∷ []) in

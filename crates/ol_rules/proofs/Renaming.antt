@@ -1,11 +1,11 @@
 -- A step of a net is a step of the same net under other names.
-use Rattle.std.proofs.Common.{◌≡◌, ◌≢◌, ℕ, suc, ◌+◌, List, [], ◌∷◌, map, ◌⊎◌, ◌↔◌, inl, inr, refl, sym, ap, ◌∙◌, subst}
-use Rattle.ol_edges.specs.Edges.{IsIn, Joined, here, on, back, Edge, Contracted}
+use Rattle.std.proofs.Common.{◌≡◌, ℕ, suc, ◌+◌, List, [], ◌∷◌, map, inl, inr, refl, sym, ap, ◌∙◌, subst}
+use Rattle.ol_edges.specs.Edges.{IsIn, Edge, Contracted}
 use Rattle.ol_edges.proofs.Composing.{IsImage, contracted_image}
 use Rattle.ol_net.specs.declared.parts.Kind.{Kind}
 use Rattle.ol_net.specs.declared.parts.Rule.{Rule}
 use Rattle.ol_net.specs.Parts.{arity}
-use Rattle.ol_net.specs.Nets.{NamedPort, free, slot, NamedNet, HasNode, Linked, IsPort, IsNet, Faces, IsPrincipalOf, IsSlotOf, port_under, net_under}
+use Rattle.ol_net.specs.Nets.{NamedPort, free, slot, NamedNet, HasNode, Linked, IsPort, IsNet, IsPrincipalOf, IsSlotOf, port_under, net_under}
 use Rattle.ol_net.specs.Pairs.{IsActive}
 use Rattle.ol_rules.specs.Rewriting.{Action, action_of, JoinOf, meet, at_f, at_g, between, NodeOf, left, of_f, of_g, Rewrites, IsStep}
 

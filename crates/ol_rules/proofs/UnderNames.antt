@@ -1,10 +1,9 @@
 -- Pairs of a net under other names: they face under both, and as many are stuck.
-use Rattle.std.proofs.Common.{◌≡◌, ◌≢◌, ℕ, zero, suc, ◌+◌, length, List, [], ◌∷◌, map, ◌⊎◌, ◌↔◌, inl, inr, refl, sym, ap, ◌∙◌, subst}
+use Rattle.std.proofs.Common.{◌≡◌, ℕ, suc, length, List, [], ◌∷◌, map, inl, inr, refl, sym, ap, ◌∙◌, subst}
 use Rattle.ol_edges.specs.Edges.{IsIn}
 use Rattle.ol_net.specs.declared.parts.Kind.{Kind}
-use Rattle.ol_net.specs.declared.parts.Rule.{Rule}
 use Rattle.ol_net.specs.Nets.{NamedPort, free, slot, NamedNet, HasNode, Linked, IsPort, IsNet, SameNet, Faces, port_under, net_under}
-use Rattle.ol_net.specs.Pairs.{IsActive, IsStuck, HasPair, AreDifferent, HasStuck}
+use Rattle.ol_net.specs.Pairs.{IsStuck, HasPair, AreDifferent, HasStuck}
 use Rattle.ol_rules.specs.Runs.{IsComplete}
 use Rattle.ol_rules.proofs.Relation.{same_sym}
 use Rattle.ol_rules.proofs.Renaming.{in_map, in_map_of, node_to, node_from, link_to, link_from}

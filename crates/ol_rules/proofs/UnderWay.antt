@@ -1,30 +1,29 @@
 -- A run on its way: its journal and its names stand for what its net is, and a step goes on.
-use Rattle.std.proofs.Common.{◌≡◌, ◌≢◌, ℕ, suc, zero, ◌+◌, ◌*◌, ◌-◌, ◌<◌, ◌≤◌, true, false, nat_lt, if◌then◌else◌, List, [], ◌∷◌, ◌++◌, length, length-append, Some, None, get_or, ◌⊎◌, inl, inr, refl, sym, ap, ◌∙◌, subst, arith}
+use Rattle.std.proofs.Common.{◌≡◌, ◌≢◌, ℕ, suc, zero, ◌+◌, ◌*◌, ◌-◌, ◌<◌, ◌≤◌, true, false, nat_lt, if◌then◌else◌, List, [], ◌∷◌, ◌++◌, length, length-append, Some, None, get_or, slice_get, ◌⊎◌, inl, inr, refl, sym, ap, ◌∙◌, subst, arith}
 use Rattle.std.proofs.lemmas.Bool.{cases_lt}
 use Rattle.std.proofs.lemmas.Bool.Decides.{nat_tests}
-use Rattle.std.proofs.Math.ListN.{get_or-append}
-use Rattle.std.proofs.lemmas.List.{get_or_past, get_or_push}
+use Rattle.std.proofs.lemmas.List.{get_or_past}
+use Rattle.std.proofs.lemmas.Option.{slice_get-get_or, slice_get_within}
 use Rattle.ol_net.specs.declared.parts.Kind.{Kind}
 use Rattle.ol_net.specs.declared.parts.Kind.TheVariants as kind
 use Rattle.ol_net.specs.declared.parts.Rule.{Rule}
-use Rattle.ol_net.specs.declared.parts.Rule.TheVariants as rule
 use Rattle.ol_net.specs.Parts.{arity}
-use Rattle.ol_net.specs.Graph.{Graph, kind_at}
-use Rattle.ol_net.specs.Nets.{NamedPort, free, slot, NamedNet, HasNode, Linked, IsPort, IsNet, Faces, net_under}
+use Rattle.ol_net.specs.Graph.{Graph}
+use Rattle.ol_net.specs.Nets.{slot, NamedNet, HasNode, Linked, IsNet, net_under}
 use Rattle.ol_net.specs.Numbered.{net_of}
-use Rattle.ol_net.specs.Pairs.{IsActive, IsInActive}
 use Rattle.ol_net.proofs.Numbered.{has_node}
 use Rattle.ol_rules.specs.declared.journal.NodeName.{NodeName}
 use Rattle.ol_rules.specs.declared.journal.NodeName.TheVariants.{Init, Born}
 use Rattle.ol_rules.specs.declared.journal.Entry.{Entry}
 use Rattle.ol_rules.specs.Rewriting.{IsStep, is_meeting}
 use Rattle.ol_rules.specs.Names.{comes_before, IsNamed}
-use Rattle.ol_rules.specs.Runs.{IsEntryStep, IsLead, IsLeadRun, end, then, made, IsNaming, LeadsTo}
+use Rattle.ol_rules.specs.Runs.{IsLead, end, names_born, LeadsTo}
 use Rattle.ol_rules.specs.Steps.{births, StepsAt}
-use Rattle.ol_rules.specs.Running.{name_in, names_born, IsLeast}
+use Rattle.ol_rules.specs.Running.{name_in, IsLeast}
 use Rattle.ol_rules.proofs.NameOrder.{Names, names_apart, names_after, names_after_old, names_on, names_first, not_before, not_before_itself}
 use Rattle.ol_rules.proofs.Renaming.{net_alike, active_to, active_from, step_under}
 use Rattle.ol_rules.proofs.FreshPairs.{linked_sym}
+use Rattle.ol_rules.proofs.Lists.{got_append}
 use Rattle.ol_rules.proofs.LeadRuns.{Led, Stepped, led_on}
 
 -- a node's number was given out
@@ -121,24 +120,62 @@ module _ (g g' : Graph) (is_net : IsNet (net_of g)) (at partner : ℕ) (r : Rule
         on : StepBy (λ p. Born t p)
         on = subst StepBy (λ i. λ p. n.born p i) first
 
+-- these are the names of the numbers from start on
+abbrev pub AreFrom : ℕ → List NodeName → (ℕ → NodeName) → Type 0
+AreFrom start names m = (p : ℕ) (x : NodeName) → slice_get names p ≡ Some x → m (start + p) ≡ x
+
+length-names_born : (t b : ℕ) → length (names_born t b) ≡ b
+length-names_born t zero = refl
+length-names_born t (suc b) = let e = length-names_born t b in omega (arith, length-append (names_born t b) (Born t b ∷ []))
+
+name_born : (t b p : ℕ) (x : NodeName) → slice_get (names_born t b) p ≡ Some x → Born t p ≡ x
+name_born t zero p x h = absurd (cc)
+name_born t (suc b) p x h = go (name_born t b p x) (got_append (names_born t b) (Born t b ∷ []) p x h)
+  where
+    go : (slice_get (names_born t b) p ≡ Some x → Born t p ≡ x) → (slice_get (names_born t b) p ≡ Some x) ⊎ ((q : ℕ) × (p ≡ length (names_born t b) + q) × (slice_get (Born t b ∷ []) q ≡ Some x)) → Born t p ≡ x
+    go ih (inl h) = ih h
+    go ih (inr (zero, e, h)) = let l = length-names_born t b in let e' : p ≡ b = omega arith in ap (Born t) e' ∙ (cc)
+    go ih (inr (suc q, e, h)) = absurd (cc)
+
+-- the names go on by those that a ticket makes
+are_from_on : (start next t b : ℕ) (names : List NodeName) (m : ℕ → NodeName) → start + length names ≡ next → ((p : ℕ) → m (next + p) ≡ Born t p) → AreFrom start names m → AreFrom start (names ++ names_born t b) m
+are_from_on start next t b names m count born from p x h = go (got_append names (names_born t b) p x h)
+  where
+    go : (slice_get names p ≡ Some x) ⊎ ((q : ℕ) × (p ≡ length names + q) × (slice_get (names_born t b) q ≡ Some x)) → m (start + p) ≡ x
+    go (inl h) = from p x h
+    go (inr (q, e, h)) = let e' : start + p ≡ next + q = omega arith in ap m e' ∙ born q ∙ name_born t b q x h
+
 -- g is what the leads of this journal leave of old, and the names of its numbers from start on are these
 pub record UnderWay (old g : Graph) (start : ℕ) (names : List NodeName) (journal : List Entry) : Type 0 where
   pub m : ℕ → NodeName
   pub named : Names (length old.nodes) (length g.nodes) (length journal) m
   pub start_is : start ≡ length old.nodes
   pub count : start + length names ≡ length g.nodes
-  pub listed : (k : ℕ) → k < length g.nodes → name_in start names k ≡ m k
+  pub from : AreFrom (length old.nodes) names m
   pub few : length g.nodes ≤ length old.nodes + 4 * length journal
-  pub led : Led (net_under Init (net_of old)) 0 journal (net_under m (net_of g)) (length g.nodes - length old.nodes)
+  pub led : Led (net_under Init (net_of old)) 0 journal (net_under m (net_of g)) names
+
+-- the name that is kept for a number
+pub listed : (old g : Graph) (start : ℕ) (names : List NodeName) (journal : List Entry) (u : UnderWay old g start names journal) (k : ℕ) → k < length g.nodes → name_in start names k ≡ u.m k
+listed old g start names journal u k h = go (cases_lt k start)
+  where
+    go : (k < start) ⊎ (start ≤ k) → name_in start names k ≡ u.m k
+    go (inl c) = let e : nat_lt k start ≡ true = grind (arith, nat_tests) in let s = u.start_is in rw e (sym (u.named.initial k (omega arith)))
+    go (inr c) =
+        let e : nat_lt k start ≡ false = grind (arith, nat_tests) in
+        let s = u.start_is in
+        let l = u.count in
+        let q : length old.nodes + (k - start) ≡ k = omega arith in
+        rw e (sym (u.from (k - start) (get_or names (k - start) (Init k)) (slice_get-get_or names (k - start) (Init k) (omega arith))) ∙ ap u.m q)
 
 -- the naming of a run that is over
-unfoldable pub leads_to : (old g : Graph) (journal : List Entry) (next t : ℕ) (m : ℕ → NodeName) → Names (length old.nodes) next t m → length old.nodes ≤ length g.nodes →
-    Led (net_under Init (net_of old)) 0 journal (net_under m (net_of g)) (length g.nodes - length old.nodes) → LeadsTo old journal g
-leads_to old g journal next t m n le led = record {
+unfoldable pub leads_to : (old g : Graph) (names : List NodeName) (journal : List Entry) (next t : ℕ) (m : ℕ → NodeName) → Names (length old.nodes) next t m → length old.nodes + length names ≡ length g.nodes → AreFrom (length old.nodes) names m →
+    Led (net_under Init (net_of old)) 0 journal (net_under m (net_of g)) names → LeadsTo old journal g
+leads_to old g names journal next t m n count from led = record {
   names = m;
-  naming = record { initial = n.initial; rising = λ j k h b. n.rising j k h };
   run = led.0;
-  numbers = let e = led.1 in omega arith;
+  naming = record { initial = n.initial; later = λ p x h. from p x (ap (λ ns. slice_get ns p) (sym led.1) ∙ h); rising = λ j k h b. n.rising j k h };
+  numbers = sym count ∙ ap (λ (ns : List NodeName). length old.nodes + length ns) (sym led.1);
 }
 
 -- a run that begins
@@ -148,35 +185,19 @@ begins old is_net = record {
   named = names_first (length old.nodes);
   start_is = refl;
   count = omega arith;
-  listed = λ k h. let a : nat_lt k (length old.nodes) ≡ true = grind (arith, nat_tests) in ap (λ b. if b then Init k else get_or {A = NodeName} [] (k - length old.nodes) (Init k)) a ∙ sym (names_after_old Init (length old.nodes) 0 k h);
+  from = λ p x h. absurd (cc);
   few = omega arith;
-  led = subst L same (end, omega arith);
+  led = subst L same (end, refl);
 }
   where
     m : ℕ → NodeName
     m = names_after Init (length old.nodes) 0
 
     L : NamedNet NodeName → Type 0
-    L N = Led (net_under Init (net_of old)) 0 [] N (length old.nodes - length old.nodes)
+    L N = Led (net_under Init (net_of old)) 0 [] N []
 
     same : net_under Init (net_of old) ≡ net_under m (net_of old)
     same = net_alike Init m (net_of old) is_net (λ x k i h. sym (names_after_old Init (length old.nodes) 0 x (node_below old x k i h)))
-
-length-names_born : (t b : ℕ) → length (names_born t b) ≡ b
-length-names_born t zero = refl
-length-names_born t (suc b) = let e = length-names_born t b in omega (arith, length-append (names_born t b) (Born t b ∷ []))
-
-get_or-names_born : (t b p : ℕ) (d : NodeName) → p < b → get_or (names_born t b) p d ≡ Born t p
-get_or-names_born t zero p d h = absurd (omega arith)
-get_or-names_born t (suc b) p d h = go (get_or-names_born t b p d) (cases_lt p b)
-  where
-    go : (p < b → get_or (names_born t b) p d ≡ Born t p) → (p < b) ⊎ (b ≤ p) → get_or (names_born t b ++ Born t b ∷ []) p d ≡ Born t p
-    go ih (inl c) = get_or-append (names_born t b) (Born t b ∷ []) d p (let e = length-names_born t b in omega arith) ∙ ih c
-    go ih (inr c) = let e : b ≡ p = omega arith in get_or_push (names_born t b) (Born t b) d p (length-names_born t b ∙ e) ∙ ap (Born t) e
-
-get_or_after : {X : Type 0} (xs ys : List X) (p : ℕ) (d : X) → get_or (xs ++ ys) (length xs + p) d ≡ get_or ys p d
-get_or_after [] ys p d = let e : 0 + p ≡ p = omega arith in ap (λ n. get_or ys n d) e
-get_or_after (x ∷ xs) ys p d = let e : suc (length xs) + p ≡ suc (length xs + p) = omega arith in ap (λ n. get_or (x ∷ (xs ++ ys)) n d) e ∙ get_or_after xs ys p d
 
 -- a run after one more lead
 module _ (old g g' : Graph) (start : ℕ) (names : List NodeName) (journal : List Entry) (u : UnderWay old g start names journal) (is_net : IsNet (net_of g))
@@ -187,18 +208,23 @@ module _ (old g g' : Graph) (start : ℕ) (names : List NodeName) (journal : Lis
   at_least : length g.nodes ≤ length g'.nodes
   at_least = let q = s.numbers in omega arith
 
-  led_by_one : Led (net_under Init (net_of old)) 0 (journal ++ entry ∷ []) (net_under u.m (net_of g')) (length g'.nodes - length old.nodes)
+  abbrev made : List NodeName
+  made = names ++ names_born (length journal) (length g'.nodes - length g.nodes)
+
+  made_count : start + length made ≡ length g'.nodes
+  made_count = let c = u.count in let a = at_least in let d = length-names_born (length journal) (length g'.nodes - length g.nodes) in omega (arith, length-append names (names_born (length journal) (length g'.nodes - length g.nodes)))
+
+  made_from : AreFrom (length old.nodes) made u.m
+  made_from = let c = u.count in let s = u.start_is in are_from_on (length old.nodes) (length g.nodes) (length journal) (length g'.nodes - length g.nodes) names u.m (omega arith) u.named.born u.from
+
+  led_by_one : Led (net_under Init (net_of old)) 0 (journal ++ entry ∷ []) (net_under u.m (net_of g')) made
   led_by_one =
-      let L : ℕ → Type 0 = λ n. Led (net_under Init (net_of old)) 0 (journal ++ entry ∷ []) (net_under u.m (net_of g')) n in
-      let a = at_least in
-      let b = u.named.room in
-      let q : length g.nodes - length old.nodes + (length g'.nodes - length g.nodes) ≡ length g'.nodes - length old.nodes = omega arith in
-      subst L q (led_on (net_under Init (net_of old)) (net_under u.m (net_of g)) (net_under u.m (net_of g')) 0 (length journal) journal entry (length g.nodes - length old.nodes) (length g'.nodes - length g.nodes) u.led.0 u.led.1
-      (is_lead g g' is_net at partner r s least (length old.nodes) (length journal) u.m u.named) (omega arith) (entry_step g g' is_net at partner r s least (length old.nodes) (length journal) u.m u.named))
+      led_on (net_under Init (net_of old)) (net_under u.m (net_of g)) (net_under u.m (net_of g')) 0 (length journal) journal entry names (length g'.nodes - length g.nodes) u.led.0 u.led.1
+      (is_lead g g' is_net at partner r s least (length old.nodes) (length journal) u.m u.named) (omega arith) (entry_step g g' is_net at partner r s least (length old.nodes) (length journal) u.m u.named)
 
   -- what the journal leads to, whether or not it was written
   pub leads_on : LeadsTo old (journal ++ entry ∷ []) g'
-  leads_on = let a = at_least in let b = u.named.room in leads_to old g' (journal ++ entry ∷ []) (length g.nodes) (length journal) u.m u.named (omega arith) led_by_one
+  leads_on = let c = made_count in let s = u.start_is in leads_to old g' made (journal ++ entry ∷ []) (length g.nodes) (length journal) u.m u.named (omega arith) made_from led_by_one
 
   births_here : length g'.nodes ≤ length g.nodes + 4
   births_here = let q = s.numbers in let b = births_few r s.step.active.k s.step.active.l in omega arith
@@ -209,8 +235,8 @@ module _ (old g g' : Graph) (start : ℕ) (names : List NodeName) (journal : Lis
       m = m';
       named = named;
       start_is = u.start_is;
-      count = let c = u.count in let a = at_least in let d = length-names_born (length journal) (length g'.nodes - length g.nodes) in omega (arith, length-append names (names_born (length journal) (length g'.nodes - length g.nodes)));
-      listed = λ k h. listed k h (cases_lt k (length g.nodes));
+      count = made_count;
+      from = from;
       few = let a = u.few in let b = births_here in omega (arith, length-append journal (entry ∷ []));
       led = subst L same led_by_one;
     }
@@ -232,25 +258,10 @@ module _ (old g g' : Graph) (start : ℕ) (names : List NodeName) (journal : Lis
             subst (λ ticket. P (length g'.nodes) ticket) (sym new_length) (subst (λ next. P next (suc t')) e (names_on (length old.nodes) (length g.nodes) t' (length g'.nodes - length g.nodes) u.m u.named))
 
         L : NamedNet NodeName → Type 0
-        L N = Led (net_under Init (net_of old)) 0 (journal ++ entry ∷ []) N (length g'.nodes - length old.nodes)
+        L N = Led (net_under Init (net_of old)) 0 (journal ++ entry ∷ []) N made
 
         same : net_under u.m (net_of g') ≡ net_under m' (net_of g')
         same = net_alike u.m m' (net_of g') is_net' (λ x k i h. sym (names_after_old u.m (length g'.nodes) (suc t') x (node_below g' x k i h)))
 
-        bs : List NodeName
-        bs = names_born t' (length g'.nodes - length g.nodes)
-
-        listed : (k : ℕ) → k < length g'.nodes → (k < length g.nodes) ⊎ (length g.nodes ≤ k) → name_in start (names ++ bs) k ≡ m' k
-        listed k h (inl b) = old_name k b (cases_lt k start) ∙ u.listed k b ∙ sym (names_after_old u.m (length g'.nodes) (suc t') k h)
-          where
-            old_name : (k : ℕ) → k < length g.nodes → (k < start) ⊎ (start ≤ k) → name_in start (names ++ bs) k ≡ name_in start names k
-            old_name k b (inl c) = let e : nat_lt k start ≡ true = grind (arith, nat_tests) in rw e refl
-            old_name k b (inr c) = let e : nat_lt k start ≡ false = grind (arith, nat_tests) in let q = u.count in rw e (get_or-append names bs (Init k) (k - start) (omega arith))
-        listed k h (inr b) =
-            let a = u.count in
-            let e : nat_lt k start ≡ false = grind (arith, nat_tests) in
-            let p : k - start ≡ length names + (k - length g.nodes) = omega arith in
-            let q : length g.nodes + (k - length g.nodes) ≡ k = omega arith in
-            let i : k - length g.nodes < length g'.nodes - length g.nodes = omega arith in
-            ap (λ b. if b then Init k else get_or (names ++ bs) (k - start) (Init k)) e ∙ ap (λ n. get_or (names ++ bs) n (Init k)) p ∙ get_or_after names bs (k - length g.nodes) (Init k)
-            ∙ get_or-names_born t' (length g'.nodes - length g.nodes) (k - length g.nodes) (Init k) i ∙ sym (u.named.born (k - length g.nodes)) ∙ ap u.m q ∙ sym (names_after_old u.m (length g'.nodes) (suc t') k h)
+        from : AreFrom (length old.nodes) made m'
+        from p x h = let b = slice_get_within made p x h in let c = made_count in let s = u.start_is in names_after_old u.m (length g'.nodes) (suc t') (length old.nodes + p) (omega arith) ∙ made_from p x h

@@ -1,6 +1,6 @@
 -- The nodes that wait for their turn: sets of numbers, and what has to wait after a step.
-use Rattle.std.proofs.Common.{◌≡◌, ◌≢◌, ℕ, suc, zero, ◌+◌, ◌<◌, ◌≤◌, Bool, true, false, nat_lt, nat_eq, cond, List, [], ◌∷◌, length, ◌⊎◌, inl, inr, refl, sym, ap, ◌∙◌, subst, arith, ◌↔◌}
-use Rattle.std.proofs.lemmas.Bool.{cases_lt, cases_eq}
+use Rattle.std.proofs.Common.{◌≡◌, ◌≢◌, ℕ, suc, ◌+◌, ◌<◌, ◌≤◌, Bool, true, false, nat_lt, nat_eq, List, [], ◌∷◌, length, ◌⊎◌, inl, inr, refl, sym, ◌∙◌, subst, arith}
+use Rattle.std.proofs.lemmas.Bool.{cases_lt}
 use Rattle.std.proofs.lemmas.Bool.Decides.{nat_tests}
 use Rattle.std.specs.Ordering.{nat_cmp, is_eq, is_gt}
 use Rattle.std.specs.BTreeSet.{BTreeSet, contains, Updates, IsLowerBound, btree_set_len}
@@ -11,9 +11,9 @@ use Rattle.ol_net.specs.declared.parts.Kind.TheVariants as kind
 use Rattle.ol_net.specs.declared.parts.Rule.{Rule}
 use Rattle.ol_net.specs.Parts.{arity}
 use Rattle.ol_net.specs.Graph.{Graph}
-use Rattle.ol_net.specs.Nets.{NamedPort, free, slot, HasNode, Linked, IsPort, IsNet}
+use Rattle.ol_net.specs.Nets.{NamedPort, slot, HasNode, Linked, IsNet}
 use Rattle.ol_net.specs.Numbered.{net_of}
-use Rattle.ol_net.specs.Pairs.{IsActive, IsInActive}
+use Rattle.ol_net.specs.Pairs.{IsInActive}
 use Rattle.ol_rules.specs.Steps.{StepsAt}
 use Rattle.ol_rules.specs.Rewriting.{action_of}
 use Rattle.ol_rules.specs.Running.{AllWait, OthersWait, StillWait, IsLeast, HasPartner}

@@ -1,5 +1,5 @@
 -- What a run keeps on its way.
-use Rattle.std.specs.Prelude.{◌≡◌, ℕ, zero, suc, ◌+◌, ◌-◌, ◌≤◌, true, nat_lt, if◌then◌else◌, List, [], ◌∷◌, ◌++◌, length, slice_index_or, ◌⊎◌}
+use Rattle.std.specs.Prelude.{◌≡◌, ℕ, ◌-◌, ◌≤◌, true, nat_lt, if◌then◌else◌, List, [], ◌∷◌, ◌++◌, length, slice_index_or, ◌⊎◌}
 use Rattle.std.specs.Ordering.{nat_cmp}
 use Rattle.std.specs.BTreeSet.{BTreeSet, contains}
 use Rattle.ol_net.specs.declared.parts.Rule.{Rule}
@@ -8,18 +8,14 @@ use Rattle.ol_net.specs.Nets.{slot, Linked, IsNet}
 use Rattle.ol_net.specs.Numbered.{net_of}
 use Rattle.ol_net.specs.Pairs.{IsInActive}
 use Rattle.ol_rules.specs.declared.journal.NodeName.{NodeName}
-use Rattle.ol_rules.specs.declared.journal.NodeName.TheVariants.{Init, Born}
+use Rattle.ol_rules.specs.declared.journal.NodeName.TheVariants.{Init}
 use Rattle.ol_rules.specs.declared.one_thread.Running.{Running}
+use Rattle.ol_rules.specs.Runs.{names_born}
 use Rattle.ol_rules.specs.Steps.{StepsAt}
 
 -- the name of a number, where start nodes were there at the start and these are the names of those born since
 abbrev pub name_in : ℕ → List NodeName → ℕ → NodeName
 name_in start names k = if nat_lt k start then Init k else slice_index_or names (k - start) (Init k)
-
--- the names of so many nodes that this ticket made
-abbrev pub names_born : ℕ → ℕ → List NodeName
-names_born ticket zero = []
-names_born ticket (suc n) = names_born ticket n ++ Born ticket n ∷ []
 
 -- each node of an active pair waits
 abbrev pub AllWait : Graph → BTreeSet ℕ → Type 0

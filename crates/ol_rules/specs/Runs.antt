@@ -1,5 +1,5 @@
 -- Runs along a journal, and the one-thread run, which always rewrites the lead.
-use Rattle.std.specs.Prelude.{◌≡◌, ℕ, suc, ◌+◌, ◌≤◌, ◌<◌, true, false, List, [], ◌∷◌, length, ◌⊎◌}
+use Rattle.std.specs.Prelude.{◌≡◌, ℕ, zero, suc, ◌+◌, ◌≤◌, ◌<◌, true, false, Some, List, [], ◌∷◌, ◌++◌, length, slice_get, ◌⊎◌}
 use Rattle.ol_net.specs.Graph.{Graph}
 use Rattle.ol_net.specs.Nets.{NamedNet, net_under}
 use Rattle.ol_net.specs.Numbered.{net_of}
@@ -45,10 +45,15 @@ pub data IsLeadRun : NamedNet NodeName → ℕ → List Entry → NamedNet NodeN
   end : {N : NamedNet NodeName} {t : ℕ} → IsLeadRun N t [] N
   then : {N M P : NamedNet NodeName} {t : ℕ} {e : Entry} {es : List Entry} → IsLead N e → IsEntryStep N t e M → IsLeadRun M (suc t) es P → IsLeadRun N t (e ∷ es) P
 
--- how many nodes the steps of a run made
-abbrev pub made : {N M : NamedNet NodeName} {t : ℕ} {es : List Entry} → IsLeadRun N t es M → ℕ
-made end = 0
-made (then {e = e} lead entry run) = births e.rule entry.step.active.k entry.step.active.l + made run
+-- the names of so many nodes that this ticket made
+abbrev pub names_born : ℕ → ℕ → List NodeName
+names_born ticket zero = []
+names_born ticket (suc n) = names_born ticket n ++ Born ticket n ∷ []
+
+-- the names of the nodes that a run made, in the order in which they came
+abbrev pub names_made : {N M : NamedNet NodeName} {t : ℕ} {es : List Entry} → IsLeadRun N t es M → List NodeName
+names_made end = []
+names_made (then {t = t} {e = e} lead entry run) = names_born t (births e.rule entry.step.active.k entry.step.active.l) ++ names_made run
 
 -- The one-thread run from N: leads, up to the first net without an active pair or until the fuel is used up. M is its net.
 pub record IsOneThread (N : NamedNet NodeName) (fuel : ℕ) (journal : List Entry) (M : NamedNet NodeName) : Type 0 where
@@ -56,17 +61,18 @@ pub record IsOneThread (N : NamedNet NodeName) (fuel : ℕ) (journal : List Entr
   pub within : length journal ≤ fuel
   pub ended : IsComplete M ⊎ (length journal ≡ fuel)
 
--- Names of the numbers below next: a start node is named by its number, and a greater number has a later name.
-pub record IsNaming (start next : ℕ) (names : ℕ → NodeName) : Type 0 where
+-- Names of numbers: a start node is named by its number, the next numbers are named by the nodes made, in order, and so a greater number has a later name.
+pub record IsNaming (start : ℕ) (made : List NodeName) (names : ℕ → NodeName) : Type 0 where
   pub initial : (k : ℕ) → k < start → names k ≡ Init k
-  pub rising : (j k : ℕ) → j < k → k < next → comes_before (names j) (names k) ≡ true
+  pub later : (p : ℕ) (x : NodeName) → slice_get made p ≡ Some x → names (start + p) ≡ x
+  pub rising : (j k : ℕ) → j < k → k < start + length made → comes_before (names j) (names k) ≡ true
 
--- New is old after these leads, by some naming of its numbers. The nodes that they made have the numbers that were given out.
+-- New is old after these leads. The nodes that they made took the next numbers, in the order in which they came, and no other number was given out.
 pub record LeadsTo (old : Graph) (journal : List Entry) (new : Graph) : Type 0 where
   pub names : ℕ → NodeName
-  pub naming : IsNaming (length old.nodes) (length new.nodes) names
   pub run : IsLeadRun (net_under Init (net_of old)) 0 journal (net_under names (net_of new))
-  pub numbers : length new.nodes ≡ length old.nodes + made run
+  pub naming : IsNaming (length old.nodes) (names_made run) names
+  pub numbers : length new.nodes ≡ length old.nodes + length (names_made run)
 
 -- New is old after the one-thread run with this fuel, and this is its journal.
 pub record RunsTo (old : Graph) (fuel : ℕ) (journal : List Entry) (new : Graph) : Type 0 where

@@ -51,7 +51,7 @@ impl Journal {
         }
     }
 
-    /// Appends an entry.
+    /// Appends an entry. With `NoMemory` the journal is unchanged.
     pub fn push(&mut self, entry: Entry) -> Result<(), NoMemory>
         requires few { length self.old < 4294967295 }
         ensures ok { OnOk result (self.new ≡ self.old ++ entry ∷ []) }

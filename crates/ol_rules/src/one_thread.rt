@@ -7,8 +7,8 @@ ghost use Rattle.ol_net.specs.declared.parts.Rule.{Rule};
 ghost use Rattle.ol_net.specs.Nets.{slot, Linked, IsNet};
 ghost use Rattle.ol_net.specs.Numbered.{net_of, numbered_port};
 ghost use Rattle.ol_net.specs.Pairs.{IsInActive};
-ghost use Rattle.ol_rules.specs.Runs.{IsComplete, HasActive, RunsTo, StopsWithin};
-ghost use Rattle.ol_rules.specs.Running.{name_in, names_born, AllWait, OthersWait, StillWait, IsLeast, HasPartner, AtMostOneStep, Advances};
+ghost use Rattle.ol_rules.specs.Runs.{IsComplete, HasActive, RunsTo, StopsWithin, names_born};
+ghost use Rattle.ol_rules.specs.Running.{name_in, AllWait, OthersWait, StillWait, IsLeast, HasPartner, AtMostOneStep, Advances};
 ghost use Rattle.ol_rules.specs.Steps.{StepsAt};
 
 use crate::journal::{Entry, Journal, NodeName};
@@ -45,7 +45,8 @@ struct Running {
 }
 
 /// Makes at most `fuel` steps, each on the lead: the active pair whose smaller node number is
-/// least.
+/// least. The nodes that they make take the next numbers, in the order in which they come. With
+/// `NoMemory` the net is what some number of leads, at most `fuel`, leave.
 pub fn run(alloc: Global, net: &mut Net, fuel: u32) -> Result<Ran, NoMemory>
     requires { length net.old.nodes + 4 * fuel ≤ 2000000000 }
     ensures runs { IfOk result (λ ran. RunsTo net.old fuel ran.journal net.new) }

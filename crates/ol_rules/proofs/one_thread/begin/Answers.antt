@@ -1,4 +1,4 @@
-use Rattle.std.proofs.Common.{◌<◌, arith}
+use Rattle.std.proofs.Common.{arith}
 use Rattle.ol_rules.proofs.Waiting.{active_below}
 use Rattle.ol_rules.proofs.one_thread.begin.Goals as goal
 

@@ -1,4 +1,4 @@
-use Rattle.std.proofs.Common.{ℕ, ◌≡◌, ◌≢◌, false, true, subst, sym, arith, inl, inr}
+use Rattle.std.proofs.Common.{ℕ, ◌≢◌, false, subst, inl}
 use Rattle.ol_net.specs.Numbered.{net_of}
 use Rattle.ol_net.specs.Pairs.{IsInActive}
 use Rattle.std.specs.BTreeSet.{btree_set_len}

@@ -1,6 +1,5 @@
-use Rattle.std.proofs.Common.{ℕ, ◌≡◌, sym, subst}
-use Rattle.ol_net.specs.declared.parts.Port.{Port}
-use Rattle.ol_net.specs.Nets.{NamedPort, free, slot, Linked}
+use Rattle.std.proofs.Common.{◌≡◌, subst}
+use Rattle.ol_net.specs.Nets.{free, slot, Linked}
 use Rattle.ol_net.specs.Numbered.{net_of, numbered_port}
 use Rattle.ol_rules.proofs.FreshPairs.{linked_sym}
 use Rattle.ol_rules.proofs.one_thread.node_at.Goals as goal

@@ -1,5 +1,5 @@
 use Rattle.std.proofs.Common.{◌≡◌, ◌++◌}
-use Rattle.ol_rules.specs.Running.{names_born}
+use Rattle.ol_rules.specs.Runs.{names_born}
 use Rattle.ol_rules.proofs.one_thread.push_names.Given as goal
 
 abbrev pub invariant-loop-place : goal.invariant-loop-place

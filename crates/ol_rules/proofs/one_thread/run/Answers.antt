@@ -1,9 +1,8 @@
-use Rattle.std.proofs.Common.{ℕ, ◌≡◌, ◌≢◌, ◌+◌, ◌-◌, ◌<◌, ◌≤◌, List, ◌++◌, [], ◌∷◌, length, refl, sym, ap, ◌∙◌, subst, arith, inl, inr}
-use Rattle.ol_net.specs.Graph.{Graph}
+use Rattle.std.proofs.Common.{ℕ, ◌≡◌, ◌≢◌, ◌≤◌, List, [], length, sym, ap, ◌∙◌, subst, arith, inl, inr}
 use Rattle.ol_rules.specs.declared.journal.NodeName.{NodeName}
 use Rattle.ol_rules.specs.declared.journal.Entry.{Entry}
 use Rattle.ol_rules.specs.declared.one_thread.Running.{Running}
-use Rattle.ol_rules.specs.Runs.{RunsTo, StopsWithin}
+use Rattle.ol_rules.specs.Runs.{RunsTo}
 use Rattle.ol_rules.proofs.UnderWay.{UnderWay, begins}
 use Rattle.ol_rules.proofs.OneThread.{on_err, some_active, runs_to, stops_here, stops_after, advanced, within_on}
 use Rattle.ol_rules.proofs.one_thread.run.Goals as goal

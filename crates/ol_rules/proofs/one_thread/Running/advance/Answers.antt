@@ -1,8 +1,8 @@
-use Rattle.std.proofs.Common.{ℕ, ◌≡◌, ◌+◌, ◌-◌, ◌<◌, ◌≤◌, ◌++◌, [], ◌∷◌, length, refl, sym, ap, ◌∙◌, subst, arith}
+use Rattle.std.proofs.Common.{◌≡◌, ◌-◌, ◌++◌, [], ◌∷◌, length, refl, ap, ◌∙◌, arith}
 use Rattle.std.proofs.lemmas.Result.{on_ok_weaker}
 use Rattle.ol_rules.specs.declared.journal.NodeName.{NodeName}
-use Rattle.ol_rules.specs.declared.journal.Entry.{Entry}
-use Rattle.ol_rules.specs.Running.{name_in, names_born}
+use Rattle.ol_rules.specs.Runs.{names_born}
+use Rattle.ol_rules.specs.Running.{name_in}
 use Rattle.ol_rules.proofs.Waiting.{active_below, all_wait_on}
 use Rattle.ol_rules.proofs.OneThread.{partner_below, step_few}
 use Rattle.ol_rules.proofs.one_thread.Running.advance.Goals as goal
