@@ -1,21 +1,19 @@
 -- From the run of the code's net to the run of the term's own.
-use Rattle.std.proofs.Common.{◌≡◌, ◌≢◌, ℕ, ◌+◌, ◌<◌, ◌≤◌, true, false, List, length, Option, Some, refl, sym, ap, ◌∙◌, subst, inl, inr, ◌⊎◌, arith}
+use Rattle.std.proofs.Common.{◌≡◌, ℕ, ◌+◌, ◌<◌, true, false, List, length, sym, ◌∙◌, subst, inl, inr, ◌⊎◌, arith}
 use Rattle.ol_parse.specs.Trees.{Tree}
 use Rattle.ol_net.specs.declared.parts.Kind.{Kind}
-use Rattle.ol_net.specs.declared.parts.Rule.{Rule}
 use Rattle.ol_net.specs.Graph.{Graph}
 use Rattle.ol_net.specs.Nets.{NamedNet, HasNode, IsNet, SameNet, net_under}
 use Rattle.ol_net.specs.Numbered.{net_of}
-use Rattle.ol_net.specs.Pairs.{IsActive, HasStuck}
+use Rattle.ol_net.specs.Pairs.{HasStuck}
 use Rattle.ol_rules.specs.declared.journal.NodeName.{NodeName}
 use Rattle.ol_rules.specs.declared.journal.NodeName.TheVariants.{Init}
 use Rattle.ol_rules.specs.declared.journal.Entry.{Entry}
 use Rattle.ol_rules.specs.Counting.{counts_of}
 use Rattle.ol_rules.specs.Names.{comes_before}
-use Rattle.ol_rules.specs.Runs.{IsOneThread, IsComplete, HasActive, IsNaming, RunsTo}
+use Rattle.ol_rules.specs.Runs.{IsComplete, HasActive, IsNaming, RunsTo}
 use Rattle.ol_rules.proofs.NameOrder.{not_before_itself}
-use Rattle.ol_rules.proofs.Relation.{same_sym}
-use Rattle.ol_rules.proofs.Renaming.{node_to, node_from, link_to, link_from, active_to}
+use Rattle.ol_rules.proofs.Renaming.{active_to}
 use Rattle.ol_rules.proofs.Same.{complete_same, has_stuck_same, active_same, one_thread_same, OneThreadAlike}
 use Rattle.ol_rules.proofs.UnderNames.{same_under, complete_under, has_stuck_under}
 use Rattle.ol_rules.proofs.UnderWay.{node_below}

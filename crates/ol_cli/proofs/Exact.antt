@@ -1,5 +1,5 @@
 -- What follows from the causes of the statuses.
-use Rattle.std.proofs.Common.{◌≡◌, ◌≢◌, ℕ, ◌<◌, ◌≤◌, Bool, true, false, List, length, take, Option, None, Some, refl, sym, ◌∙◌, subst, inl, inr, ◌⊎◌, arith, String, Global, Vec, Result, Ok, ◌↔◌}
+use Rattle.std.proofs.Common.{◌≡◌, ◌≢◌, ℕ, ◌<◌, ◌≤◌, Bool, true, false, List, length, Option, Some, refl, sym, ◌∙◌, subst, inl, inr, ◌⊎◌, arith, String, Global, Vec, Ok, ◌↔◌}
 use Rattle.std.specs.Result.{IsErrOf}
 use Rattle.ol_io.specs.declared.calls.ReadAll.{ReadAll}
 use Rattle.ol_io.specs.declared.calls.ReadAll.TheVariants.{TooLong}
@@ -7,7 +7,7 @@ use Rattle.ol_io.specs.Outside.{Rose, Appended}
 use Rattle.ol_cli.specs.declared.status.Status.{Status}
 use Rattle.ol_cli.specs.declared.status.Status.TheVariants.{Done, Usage, Spent, ReadFault, WriteFault, NoMemory, NotBuilt}
 use Rattle.ol_cli.specs.Jobs.{is_job}
-use Rattle.ol_cli.specs.Answers.{Evaluates, IsAnswer, Seen, GaveAll, GaveTooMany, Read, Cause, Told, Ends}
+use Rattle.ol_cli.specs.Answers.{Evaluates, IsAnswer, Seen, Read, Cause, Ends}
 
 -- where all bytes were given, they are within the limit
 pub within_ok : (bytes : Vec ℕ Global) (most given : ℕ) → IsErrOf {T = Vec ℕ Global} {E = ReadAll} (Ok bytes) TooLong ↔ (most < given) → given ≤ most

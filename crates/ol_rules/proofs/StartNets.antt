@@ -1,8 +1,6 @@
 -- A net under other names is a net, and numbers are names of start nodes.
-use Rattle.std.proofs.Common.{◌≡◌, ℕ, true, ◌⊎◌, inl, inr, refl, sym, ap, ◌∙◌, subst}
-use Rattle.ol_net.specs.declared.parts.Kind.{Kind}
+use Rattle.std.proofs.Common.{◌≡◌, ℕ, true, refl, sym, ap, ◌∙◌, subst}
 use Rattle.ol_net.specs.Nets.{NamedPort, free, slot, NamedNet, HasNode, Linked, IsPort, IsNet, port_under, net_under}
-use Rattle.ol_rules.specs.declared.journal.NodeName.{NodeName}
 use Rattle.ol_rules.specs.declared.journal.NodeName.TheVariants.{Init, Born}
 use Rattle.ol_rules.specs.Names.{comes_before}
 use Rattle.ol_rules.specs.Laws.{AreNamedBefore}

@@ -1,4 +1,4 @@
-use Rattle.std.proofs.Common.{◌≡◌, ℕ, length, [], ap, ◌∙◌}
+use Rattle.std.proofs.Common.{ap, ◌∙◌}
 use Rattle.ol_rules.specs.declared.journal.Counts.{Counts}
 use Rattle.ol_cli.specs.Texts.{counts_text}
 use Rattle.ol_net.specs.Nets.{SameNet}

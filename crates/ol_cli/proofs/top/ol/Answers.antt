@@ -1,5 +1,5 @@
-use Rattle.std.proofs.Common.{ℕ, List, Option, Some, subst, codes}
-use Rattle.ol_cli.specs.Answers.{Ends, Seen}
+use Rattle.std.proofs.Common.{ℕ, List, Option, subst, codes}
+use Rattle.ol_cli.specs.Answers.{Ends}
 use Rattle.ol_cli.proofs.Exact.{ends_exact, ends_risen, ends_usage}
 use Rattle.ol_cli.proofs.top.ol.Goals as goal
 

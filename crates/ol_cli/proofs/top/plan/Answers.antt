@@ -1,6 +1,6 @@
 use Rattle.ol_cli.proofs.Exact.{read_cause, within_ok}
-use Rattle.ol_cli.specs.Answers.{Seen, GaveAll}
-use Rattle.std.proofs.Common.{◌≡◌, true, codes, arith}
+use Rattle.ol_cli.specs.Answers.{GaveAll}
+use Rattle.std.proofs.Common.{codes, arith}
 use Rattle.ol_cli.proofs.top.plan.Goals as goal
 
 pub returns-in_ok-answer-in-Ok-clause-planned : goal.returns-in_ok-answer-in-Ok-clause-planned
