@@ -1,0 +1,1 @@
+//! Values, single crossings, and walks over the net of a small term.
