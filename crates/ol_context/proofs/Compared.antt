@@ -50,7 +50,16 @@ module _ (vs : List Level) where
   go_down ps new p g = subst (λ q. total vs q < total vs (ps ++ p ∷ [])) (sym g.list)
       (let r = total_join ps g.more in let s = total_join ps (p ∷ []) in let b = g.smaller in omega arith)
 
-  -- the four ways on
+  size_positive : (v : Level) → 0 < size v
+  size_positive empty = omega arith
+  size_positive (o v) = omega arith
+  size_positive (star v) = omega arith
+  size_positive (pair v w) = omega arith
+
+  -- the ways on
+  pub on_same : (x y : ℕ) (ps : List (ℕ × ℕ)) → x ≡ y → Goes vs x y ps ps
+  on_same x y ps e = record { more = []; list = sym (append-nil ps); held = tt; to = λ z. tt; from = λ z. ap (value vs) e; smaller = size_positive (value vs x) }
+
   pub on_empty : (x y : ℕ) (ps : List (ℕ × ℕ)) → value vs x ≡ empty → value vs y ≡ empty → Goes vs x y ps ps
   on_empty x y ps e f = record { more = []; list = sym (append-nil ps); held = tt; to = λ z. tt; from = λ z. e ∙ sym f; smaller = subst (λ v. 0 < size v) (sym e) (omega arith) }
 

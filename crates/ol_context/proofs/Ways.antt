@@ -53,17 +53,14 @@ module _ {A : Type 0} (N : NamedNet A) where
   flip p q (inl h) = inr h
   flip p q (inr h) = inl h
 
-  turned : (p : ℕ) {n : ℕ} {u : NamedPort A} {c d : Context} → Way N (free p) c n u d → (q : ℕ) → Linked N u (free q) → Longer (free q) d p c n
-  turned p {n} {u} w q l = go w (free q) (flip u (free q) l)
-    where
-      go : {n : ℕ} {u : NamedPort A} {c d : Context} → Way N (free p) c n u d → (v : NamedPort A) → Linked N v u → Longer v d p c n
-      go start v l = record { path = ends l; long = refl }
-      go (on {u = u} {d = d} {e = e} {x = x} {k = k} {i = i} {s = s} {t = t} w l' h y) v l =
-          let r = go w (slot x s) (flip u (slot x s) l') in
-          record { path = goes l h (crosses_back k i s t d e y) r.path; long = ap suc r.long }
+  turned : (p : ℕ) (c : Context) {n : ℕ} {u : NamedPort A} {d : Context} → Way N (free p) c n u d → (v : NamedPort A) → Linked N v u → Longer v d p c n
+  turned p c start v l = record { path = ends l; long = refl }
+  turned p c (on {u = u} {d = d} {e = e} {x = x} {k = k} {i = i} {s = s} {t = t} w l' h y) v l =
+      let r = turned p c w (slot x s) (flip u (slot x s) l') in
+      record { path = goes l h (crosses_back k i s t d e y) r.path; long = ap suc r.long }
 
   pub path_back : (p : ℕ) (c : Context) (q : ℕ) (d : Context) (r : Path N (free p) c q d) → (s : Path N (free q) d p c) × (crossings s ≡ crossings r)
-  path_back p c q d r = let w = path_way r in let t = turned p w.1 q w.2 in (t.path, t.long)
+  path_back p c q d r = let w = path_way r in let t = turned p c w.1 (free q) (flip w.0 (free q) w.2) in (t.path, t.long)
 
   -- the walk stands at a node and goes through it
   pub record Passes (p : NamedPort A) (c : Context) (n : ℕ) : Type 0 where

@@ -111,10 +111,10 @@ impl Values {
             return Err(NoMemory);
         }
         let at = (count + 1) as u32;
-        match self.shapes.push(shape) {
-            Ok(()) => Ok(Val { at }),
-            Err(_) => Err(NoMemory),
-        }
+        let Ok(()) = self.shapes.push(shape) else {
+            return Err(NoMemory);
+        };
+        Ok(Val { at })
     }
 
     /// The value `o.v`, of a value of this holder. Earlier values stay.

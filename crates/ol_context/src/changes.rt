@@ -20,10 +20,10 @@ fn reach(levels: &mut Vec<Val>, n: usize, none: Val) -> Result<(), NoMemory>
     if levels.len() >= n {
         return Ok(());
     }
-    match levels.resize(n, none) {
-        Ok(()) => Ok(()),
-        Err(_) => Err(NoMemory),
-    }
+    let Ok(()) = levels.resize(n, none) else {
+        return Err(NoMemory);
+    };
+    Ok(())
 }
 
 fn insert(levels: &mut Vec<Val>, i: usize, v: Val) -> Result<(), NoMemory>
@@ -31,10 +31,10 @@ fn insert(levels: &mut Vec<Val>, i: usize, v: Val) -> Result<(), NoMemory>
     ensures ok { OnOk result (levels.new.items ≡ inserted levels.old.items i v) }
     ensures err { OnErr result (levels.new.items ≡ levels.old.items) }
 {
-    match levels.insert(i, v) {
-        Ok(()) => Ok(()),
-        Err(_) => Err(NoMemory),
-    }
+    let Ok(()) = levels.insert(i, v) else {
+        return Err(NoMemory);
+    };
+    Ok(())
 }
 
 fn put_marked(values: &mut Values, s: u8, v: Val) -> Result<Val, NoMemory>

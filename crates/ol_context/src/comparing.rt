@@ -69,6 +69,9 @@ fn step(
     requires right { IsHeld values.now y }
     ensures { IfOk result (λ r. MatchBool r (Goes values.now x y work.old.items work.new.items) (value values.now x ≡ value values.now y → ⊥)) }
 {
+    if x.number() == y.number() {
+        return Ok(true);
+    }
     match values.shape(x) {
         Shape::Empty => Ok(is_empty(values, y)),
         Shape::O(v) => match o_part(values, y) {
@@ -118,8 +121,8 @@ pub fn are_same(alloc: Global, values: &Values, a: Val, b: Val) -> Result<bool, 
     requires right { IsHeld values.now b }
     ensures { IfOk result (λ r. IsTrue r ↔ (value values.now a ≡ value values.now b)) }
 {
-    match compare(alloc, values, a, b) {
-        Ok(same) => Ok(same),
-        Err(_) => Err(NoMemory),
-    }
+    let Ok(same) = compare(alloc, values, a, b) else {
+        return Err(NoMemory);
+    };
+    Ok(same)
 }

@@ -14,8 +14,8 @@ shape-requires c = rw c.index-at.ensures (held_in c.args.values.now c.args.level
 pub returns-in_ok-insert-in-Pair-clause-ok : goal.returns-in_ok-insert-in-Pair-clause-ok
 returns-in_ok-insert-in-Pair-clause-ok c = (
   refl,
-  rw c.in_ok-insert-in-Pair.ensures.items
-      (let h = c.in-Pair.ensures in let b = h.below in pack_falls c.args.values.now c.args.levels.now.items c.args.i c.index-at.result.now c.in-Pair.x c.in-Pair.y c.requires.held (omega (arith, c.args.levels.now.ok.0, c.len.ensures)) c.index-at.ensures
+  rw c.in_ok-insert-in-Pair.ensures.ok
+      (let h = c.in-Pair.ensures in let b = h.held in pack_falls c.args.values.now c.args.levels.now.items c.args.i c.index-at.result.now c.in-Pair.x c.in-Pair.y c.requires.held (omega (arith, c.args.levels.now.ok.0, c.len.ensures)) c.index-at.ensures
       b.0 b.1 h.is),
 )
 

@@ -15,7 +15,7 @@ pub returns-in-Empty : goal.returns-in-Empty
 returns-in-Empty c = (
   refl,
   rw c.remove-old.ensures.items (put_falls c.args.values.now c.args.levels.now.items c.args.i c.index-at.result.now c.requires (omega (arith, c.args.levels.now.ok.0, c.len.ensures)) c.index-at.ensures
-      (let h = c.in-Empty.ensures in h.is)),
+      c.in-Empty.ensures.is),
 )
 
 pub returns-in-O : goal.returns-in-O
