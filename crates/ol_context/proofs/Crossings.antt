@@ -1,13 +1,21 @@
 -- Crossings of nodes on lists of numbers.
-use Rattle.std.proofs.Common.{◌≡◌, ℕ, suc, ◌+◌, ◌-◌, ◌<◌, ◌≤◌, List, Option, Some, None, MatchOption, sym, subst, arith}
+use Rattle.std.proofs.Common.{◌≡◌, ℕ, suc, ◌+◌, ◌-◌, ◌<◌, ◌≤◌, List, Option, Some, None, MatchOption, ◌↔◌, sym, ap, ◌∙◌, subst, arith}
 use Rattle.ol_net.specs.declared.parts.Kind.{Kind}
 use Rattle.ol_net.specs.declared.parts.Kind.TheVariants as kind
 use Rattle.ol_net.specs.Parts.{arity}
-use Rattle.ol_net.specs.Nets.{NamedNet, NamedPort, free, slot, HasNode, IsNet}
+use Rattle.ol_net.specs.declared.parts.NodeId.{NodeId}
+use Rattle.ol_net.specs.declared.parts.Port.{Port}
+use Rattle.ol_net.specs.declared.parts.Port.TheVariants.{Of}
+use Rattle.ol_net.specs.Graph.{Graph, kind_at}
+use Rattle.ol_net.specs.Nets.{NamedNet, NamedPort, slot, HasNode, IsPort}
+use Rattle.ol_net.specs.Numbered.{numbered_port, net_of}
+use Rattle.ol_net.proofs.Numbered.{has_node}
 use Rattle.ol_context.specs.Contexts.{Level, empty, Context, cons, at_level, mark, packed, up}
-use Rattle.ol_context.specs.Paths.{Crosses, inward, outward}
+use Rattle.ol_context.specs.Paths.{Crosses, inward, outward, Through, through, IsBarred}
 use Rattle.ol_context.specs.Shapes.{context_of}
-use Rattle.ol_context.specs.Crossed.{Becomes, ComesFrom, NoneInto, NoCrossing, IsCrossed, HasFallen}
+use Rattle.ol_context.specs.Crossed.{IsNodePort, Becomes, ComesFrom, NoneInto, NoCrossing, IsCrossed, HasFallen}
+use Rattle.ol_context.specs.declared.answers.Cross.{Cross}
+use Rattle.ol_context.specs.declared.answers.Cross.TheVariants.{Undefined}
 
 module _ (vs : List Level) (ns ms : List ℕ) (i : ℕ) where
   pub fallen_lam : (r : Option ℕ) → MatchOption r ((ms ≡ ns) × NoneInto vs ns i mark) (λ s. (s < 2) × ComesFrom vs ns ms (at_level i (mark s))) → HasFallen kind.Lam i vs ns ms r
@@ -44,3 +52,34 @@ pub crossed_up : (old new : List Level) (k : Kind) (i s : ℕ) (ns ms : List ℕ
 crossed_up old new k i s ns ms n b h =
     let e : suc (s - 1) ≡ s = omega arith in
     subst (λ s. Crosses k i s (context_of old ns) 0 (context_of new ms)) e (inward (omega arith) (sym h.is))
+
+-- a port of a node of a net, whose kind is known
+pub node_port : (g : Graph) (p : Port) (n : NodeId) (s : ℕ) → p ≡ Of n s → IsNodePort g p → IsPort (net_of g) (slot n.0 s)
+node_port g p n s e h = subst (IsNodePort g) e h
+
+pub has_kind : (g : Graph) (x s : ℕ) → IsPort (net_of g) (slot x s) → kind_at g.nodes x ≡ None → ⊥
+has_kind g x s p e = absurd (let bad : ◌≡◌ {A = Option (Kind × ℕ)} None (Some (p.0, p.1)) = sym e ∙ (has_node g x p.0 p.1).0 p.2 in cc)
+
+module _ (g : Graph) (p : Port) (n : NodeId) (s : ℕ) (at : p ≡ Of n s) (k : Kind) (i : ℕ) (h : kind_at g.nodes n.0 ≡ Some (k, i)) where
+  kind_one : (l : Kind) (j : ℕ) → HasNode (net_of g) n.0 l j → (l ≡ k) × (j ≡ i)
+  kind_one l j m =
+      let e : ◌≡◌ {A = Option (Kind × ℕ)} (Some (l, j)) (Some (k, i)) = sym ((has_node g n.0 l j).0 m) ∙ h in
+      let pair : ◌≡◌ {A = Kind × ℕ} (l, j) (k, i) = cc in
+      (ap (λ (t : Kind × ℕ). t.0) pair, ap (λ (t : Kind × ℕ). t.1) pair)
+
+  pub slot_within : IsNodePort g p → s ≤ arity k
+  slot_within h = let w = node_port g p n s at h in subst (λ l. s ≤ arity l) (kind_one w.0 w.1 w.2).0 w.3
+
+  pub goes_through : (t : ℕ) (c d : Context) → Crosses k i s c t d → Through (net_of g) (numbered_port p) c (slot n.0 t) d
+  goes_through t c d y = subst (λ p. Through (net_of g) (numbered_port p) c (slot n.0 t) d) (sym at) (through ((has_node g n.0 k i).1 h) y)
+
+  barred : (c : Context) → NoCrossing k i s c → IsBarred (net_of g) (slot n.0 s) c
+  barred c none q d (through {k = l} {i = j} {t = t} m y) =
+      let o = kind_one l j m in
+      none t d (subst (λ i. Crosses k i s c t d) o.1 (subst (λ k. Crosses k j s c t d) o.0 y))
+
+  pub is_barred : (c : Context) → NoCrossing k i s c → IsBarred (net_of g) (numbered_port p) c
+  is_barred c none = subst (λ p. IsBarred (net_of g) (numbered_port p) c) (sym at) (barred c none)
+
+pub not_barred : (N : NamedNet ℕ) (p q : NamedPort ℕ) (c d : Context) (r : Cross) → Through N p c q d → (r ≡ Undefined → ⊥) → (r ≡ Undefined) ↔ IsBarred N p c
+not_barred N p q c d r y apart = (λ e. absurd (apart e), λ b. absurd (b q d y))

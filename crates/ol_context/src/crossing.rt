@@ -62,17 +62,15 @@ pub fn cross(
     ensures unchanged { IfOk result (λ r. r ≡ Cross.Undefined → context.new ≡ context.old) }
     ensures err { OnErr result (context.new ≡ context.old) }
 {
-    match at {
-        Port::Free(_) => unreachable!(),
-        Port::Of { node, slot } => match net.kind_of(node) {
-            None => unreachable!(),
-            Some((kind, index)) => {
-                let crossed = cross_node(values, &mut context.levels, kind, index, slot)?;
-                match crossed {
-                    Some(slot) => Ok(Cross::Out(Port::Of { node, slot })),
-                    None => Ok(Cross::Undefined),
-                }
-            }
-        },
-    }
+    let Port::Of { node, slot } = at else {
+        unreachable!()
+    };
+    let Some((kind, index)) = net.kind_of(node) else {
+        unreachable!()
+    };
+    let crossed = cross_node(values, &mut context.levels, kind, index, slot)?;
+    let Some(slot) = crossed else {
+        return Ok(Cross::Undefined);
+    };
+    Ok(Cross::Out(Port::Of { node, slot }))
 }

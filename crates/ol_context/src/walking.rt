@@ -34,6 +34,7 @@ pub fn walk(
     ensures undefined { IfOk result (λ w. StopsExactly (net_of net.now) from (context_of values.old context) edges w) }
     ensures budget { IfOk result (λ w. StandsExactly (net_of net.now) from (context_of values.old context) edges w) }
 {
+    net.is_net();
     let mut context = context;
     let mut at = Port::Free(from);
     let mut made: u64 = 0;
@@ -51,7 +52,8 @@ pub fn walk(
         if made >= edges {
             return Ok(Walk::Budget);
         }
-        match cross(net, values, next, &mut context)? {
+        let crossed = cross(net, values, next, &mut context)?;
+        match crossed {
             Cross::Out(port) => {
                 at = port;
                 made += 1;
