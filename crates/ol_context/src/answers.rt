@@ -22,7 +22,9 @@ pub enum Walk {
         crossings: u64,
     },
     /// The crossing that was tried as number `crossings`, counted from 1, is not defined.
-    Undefined { crossings: u64 },
+    Undefined {
+        crossings: u64,
+    },
     /// All crossings that were allowed were made, and the walk stands at a node.
     Budget,
 }

@@ -59,12 +59,7 @@ fn pair_parts(values: &Values, v: Val) -> Option<(Val, Val)>
 
 // Puts the parts of two values on the list of what is still to be compared. False where the two
 // differ at once.
-fn step(
-    values: &Values,
-    work: &mut Vec<(Val, Val)>,
-    x: Val,
-    y: Val,
-) -> Result<bool, AllocError>
+fn step(values: &Values, work: &mut Vec<(Val, Val)>, x: Val, y: Val) -> Result<bool, AllocError>
     requires left { IsHeld values.now x }
     requires right { IsHeld values.now y }
     ensures { IfOk result (λ r. MatchBool r (Goes values.now x y work.old.items work.new.items) (value values.now x ≡ value values.now y → ⊥)) }

@@ -49,8 +49,8 @@ pub loop-next-preserved : goal.loop-next-preserved
 loop-next-preserved c =
     goes_on c.args.net.now c.args.from (context_of c.args.values.now c.args.context) c.args.values.now c.loop-next.values c.loop-next.context c.loop-next.at c.loop-next.made c.args.edges c.loop-next.invariant c.in-Some.next c.in-Some.ensures.linked c.cross.new.values c.cross.new.context c.in-Out.port c.if-made-edges.false c.cross.ensures.extends c.cross.ensures.held
     (subst
-        (λ (r : Cross). IfOut r (λ q. Through (net_of c.args.net.now) (numbered_port c.in-Some.next) (context_of c.loop-next.values c.loop-next.context) (numbered_port q) (context_of c.cross.new.values c.cross.new.context)))
-        c.in-Out.is c.in_ok-crossed.ensures.out)
+    (λ (r : Cross). IfOut r (λ q. Through (net_of c.args.net.now) (numbered_port c.in-Some.next) (context_of c.loop-next.values c.loop-next.context) (numbered_port q) (context_of c.cross.new.values c.cross.new.context)))
+    c.in-Out.is c.in_ok-crossed.ensures.out)
 
 pub returns-in-Undefined-clause-exit : goal.returns-in-Undefined-clause-exit
 returns-in-Undefined-clause-exit c =
