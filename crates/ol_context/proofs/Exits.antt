@@ -1,12 +1,11 @@
 -- What a walk answers is all that it can answer.
-use Rattle.std.proofs.Common.{◌≡◌, ℕ, suc, ◌<◌, ◌≤◌, ◌⊎◌, ◌↔◌, List, inl, inr, refl, sym, ap, ◌∙◌, subst, arith}
+use Rattle.std.proofs.Common.{◌≡◌, ℕ, suc, ◌<◌, ◌≤◌, ◌⊎◌, List, inl, inr, refl, sym, ap, ◌∙◌, subst, arith}
 use Rattle.ol_net.specs.Nets.{NamedNet, NamedPort, free, Linked, IsNet}
 use Rattle.ol_context.specs.Contexts.{Level, Context}
 use Rattle.ol_context.specs.Paths.{Path, crossings}
 use Rattle.ol_context.specs.Shapes.{context_of}
 use Rattle.ol_context.specs.Ways.{Way, Exits, Stands, Stops}
-use Rattle.ol_context.specs.Answers.{IsExit, ExitsExactly, StopsExactly, StandsExactly}
-use Rattle.ol_context.specs.declared.answers.Walk.{Walk}
+use Rattle.ol_context.specs.Answers.{ExitsExactly, StopsExactly, StandsExactly}
 use Rattle.ol_context.specs.declared.answers.Walk.TheVariants.{Exit, Undefined, Budget}
 use Rattle.ol_context.specs.Laws.{WalkIsOne}
 use Rattle.ol_context.proofs.Ways.{path_way, way_passes, way_one, ended, stopped}

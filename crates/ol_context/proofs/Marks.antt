@@ -2,7 +2,7 @@
 use Rattle.std.proofs.Common.{◌≡◌, ℕ, zero, suc, ◌+◌, ◌-◌, ◌<◌, ◌≤◌, List, [], ◌∷◌, ◌++◌, length, get_or, set, replicate, refl, sym, ap, ◌∙◌, arith, add-one, length-append}
 use Rattle.std.specs.List.{insert, remove}
 use Rattle.std.proofs.lemmas.List.{length-replicate}
-use Rattle.ol_context.specs.Contexts.{Level, empty, pair, Context, cons, tail, at_level, marked, mark, packed}
+use Rattle.ol_context.specs.Contexts.{Level, empty, pair, Context, cons, at_level, marked, mark, packed}
 use Rattle.ol_context.specs.Shapes.{value, AreHeld, context_of, Extends, IsNumberOf}
 use Rattle.ol_context.specs.Crossed.{Becomes, ComesFrom, NoneInto}
 use Rattle.ol_context.proofs.Shapes.{context_more, held_more}

@@ -1,10 +1,10 @@
 -- The table gives what the changes say.
-use Rattle.std.proofs.Common.{◌≡◌, ℕ, zero, suc, ◌<◌, Option, Some, None, ◌↔◌, refl, sym, ap, ◌∙◌, subst, arith}
+use Rattle.std.proofs.Common.{◌≡◌, ℕ, zero, suc, ◌<◌, Option, Some, None, refl, sym, ap, ◌∙◌, subst, arith}
 use Rattle.ol_net.specs.declared.parts.Kind.{Kind}
 use Rattle.ol_net.specs.declared.parts.Kind.TheVariants as kind
 use Rattle.ol_net.specs.Parts.{arity}
 use Rattle.ol_context.specs.Contexts.{Level, empty, o, star, pair, Context, cons, tail, mark, change, up}
-use Rattle.ol_context.specs.Paths.{Crosses, inward, outward}
+use Rattle.ol_context.specs.Paths.{Crosses, outward}
 use Rattle.ol_context.specs.Table.{unmark, unput, unpack, unchange, behind_level, down}
 use Rattle.ol_context.specs.Laws.{CrossingByTable}
 use Rattle.ol_context.proofs.Contexts.{eta, cons_eq, cons_eta}

@@ -1,12 +1,12 @@
 -- What a walk keeps.
-use Rattle.std.proofs.Common.{◌≡◌, ℕ, suc, ◌+◌, ◌<◌, ◌≤◌, List, refl, arith, add-one, subst}
+use Rattle.std.proofs.Common.{◌≡◌, ℕ, ◌+◌, ◌<◌, ◌≤◌, List, refl, arith, add-one, subst}
 use Rattle.ol_net.specs.declared.parts.Port.{Port}
 use Rattle.ol_net.specs.declared.parts.Port.TheVariants.{Free, Of}
 use Rattle.ol_net.specs.Graph.{Graph}
-use Rattle.ol_net.specs.Nets.{NamedNet, NamedPort, free, slot, HasNode, Linked, IsNet, IsPort}
+use Rattle.ol_net.specs.Nets.{NamedNet, NamedPort, free, slot, Linked, IsNet, IsPort}
 use Rattle.ol_net.specs.Numbered.{numbered_port, net_of}
 use Rattle.ol_context.specs.Contexts.{Level, Context}
-use Rattle.ol_context.specs.Paths.{Crosses, inward, outward, Through, through, IsBarred}
+use Rattle.ol_context.specs.Paths.{inward, outward, Through, through, IsBarred}
 use Rattle.ol_context.specs.Shapes.{Extends, AreHeld, context_of}
 use Rattle.ol_context.specs.Crossed.{IsNodePort}
 use Rattle.ol_context.specs.Ways.{Way, start, Exits, Stands, Stops}

@@ -1,5 +1,5 @@
 -- The level values that a holder has under numbers.
-use Rattle.std.specs.Prelude.{◌≡◌, ℕ, suc, ◌<◌, ◌≤◌, List, [], ◌∷◌, ◌++◌, length, map, slice_index_or}
+use Rattle.std.specs.Prelude.{◌≡◌, ℕ, ◌<◌, ◌≤◌, List, [], ◌∷◌, length, map, slice_index_or}
 use Rattle.ol_context.specs.Contexts.{Level, empty, o, star, pair, Context, levels}
 use Rattle.ol_context.specs.declared.arena.Shape.{Shape}
 use Rattle.ol_context.specs.declared.arena.Shape.TheVariants as shape

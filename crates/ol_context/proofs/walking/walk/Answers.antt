@@ -1,10 +1,9 @@
 use Rattle.std.proofs.Common.{◌+◌, subst}
 use Rattle.ol_net.specs.Numbered.{net_of, numbered_port}
-use Rattle.ol_context.specs.Paths.{Through, IsBarred}
+use Rattle.ol_context.specs.Paths.{Through}
 use Rattle.ol_context.specs.Shapes.{context_of}
 use Rattle.ol_context.specs.Crossed.{IfOut}
 use Rattle.ol_context.specs.declared.answers.Cross.{Cross}
-use Rattle.ol_context.specs.declared.answers.Cross.TheVariants.{Undefined}
 use Rattle.ol_context.proofs.Exits.{exit_exits, exit_stops, exit_stands, undefined_exits, undefined_stops, undefined_stands, budget_exits, budget_stops, budget_stands}
 use Rattle.ol_context.proofs.Walked.{begins, exits, goes_on, node_port, stands_last, stops}
 use Rattle.ol_context.proofs.walking.walk.Goals as goal

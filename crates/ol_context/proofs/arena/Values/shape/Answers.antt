@@ -1,4 +1,4 @@
-use Rattle.std.proofs.Common.{◌+◌, ◌-◌, ◌<◌, ◌≤◌, [], ◌∷◌, length, arith}
+use Rattle.std.proofs.Common.{◌+◌, ◌-◌, ◌<◌, [], ◌∷◌, length, arith}
 use Rattle.ol_context.specs.Contexts.{empty}
 use Rattle.ol_context.specs.Trees.{trees}
 use Rattle.ol_context.proofs.Shapes.{trees_length, first_is_empty, shape_at, below_at, below_more}

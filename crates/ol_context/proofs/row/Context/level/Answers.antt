@@ -1,6 +1,5 @@
-use Rattle.std.proofs.Common.{sym, ap, ◌∙◌}
+use Rattle.std.proofs.Common.{sym}
 use Rattle.std.proofs.lemmas.Option.{slice_get-get_or}
-use Rattle.ol_context.specs.Shapes.{value, AreHeld, context_of}
 use Rattle.ol_context.proofs.ValueLists.{held_at, level_is}
 use Rattle.ol_context.proofs.row.Context.level.Goals as goal
 
