@@ -1,7 +1,6 @@
 -- What is refused by places is what is refused by ports
-use Rattle.std.proofs.Common.{◌≡◌, ◌≢◌, ℕ, ◌+◌, ◌*◌, ◌<◌, ◌≤◌, ◌==◌, nat_lt, Bool, true, false, ◌&&◌, not, cond, if◌then◌else◌, List, [], ◌∷◌, length, get_or, take, map, Option, Some, None, refl, sym, ap, ◌∙◌, inl, inr, ◌⊎◌, arith, subst, zero, suc}
-use Rattle.std.specs.Prelude.{◌↔◌, slice_index_or}
-use Rattle.std.proofs.lemmas.Bool.{cases_eq, cases_lt, cases_Bool, false≢true, both_ways}
+use Rattle.std.proofs.Common.{◌≡◌, ◌≢◌, ℕ, ◌<◌, ◌≤◌, ◌==◌, true, false, List, [], ◌∷◌, length, get_or, take, map, Option, Some, refl, sym, ap, ◌∙◌, inl, inr, ◌⊎◌, arith, zero, suc}
+use Rattle.std.proofs.lemmas.Bool.{cases_eq, cases_lt, cases_Bool, both_ways}
 use Rattle.std.proofs.lemmas.Bool.Decides.{nat_tests}
 use Rattle.std.proofs.lemmas.List.{length-take-le, get_or-take}
 use Rattle.ol_edges.specs.Edges.{IsIn, Near}
@@ -10,7 +9,7 @@ use Rattle.ol_net.specs.declared.parts.Port.{Port}
 use Rattle.ol_net.specs.declared.parts.Port.TheVariants.{Free, Of}
 use Rattle.ol_net.specs.Pairing.{other, across, partner_among}
 use Rattle.ol_net.specs.Graph.{Graph, IsTabled, kind_at, has_port, place, port_at, partner_of}
-use Rattle.ol_net.specs.Nets.{NamedPort, HasNode, Linked, SameNet}
+use Rattle.ol_net.specs.Nets.{NamedPort, Linked, SameNet}
 use Rattle.ol_net.specs.Numbered.{numbered_port, nodes_from, numbered_from, net_of, net_of_parts}
 use Rattle.ol_net.specs.Build.{FirstOf, NoneOf, BadPortAt, HasEnd, TwiceAt, IsLoose, ComesBefore, IsFirstLoose, Builds, link_at, all_live}
 use Rattle.ol_net.specs.Tabling.{places, is_apart, MeetsAt, AloneAt, LinkedUp, IsTable, AreTables}
@@ -358,16 +357,18 @@ Linked-was_given g links p q t l good h =
     let lt : r.at < length links = omega (arith, r.within, length-places g.free links) in
     let m = link_at links r.at in
     let at = places-at g.free links r.at in
+    let first_place : (edge_at es r.at).0 ≡ place g.free m.0 = ap (λ (w : ℕ × ℕ). w.0) at in
+    let second_place : (edge_at es r.at).1 ≡ place g.free m.1 = ap (λ (w : ℕ × ℕ). w.1) at in
     let first = port_at-place g.free g.nodes m.0 (end-port g.free g.nodes links r.at m.0 good lt (inl refl)) in
     let second = port_at-place g.free g.nodes m.1 (end-port g.free g.nodes links r.at m.1 good lt (inr refl)) in
     elim r.ends [
       | inl e ↦
-          let p0 : m.0 ≡ k.from = sym first ∙ ap (port_at g.free) (sym (ap (λ (w : ℕ × ℕ). w.0) at) ∙ e.0) ∙ here in
-          let p1 : m.1 ≡ k.to = sym second ∙ ap (port_at g.free) (sym (ap (λ (w : ℕ × ℕ). w.1) at) ∙ e.1) ∙ parts.1 in
+          let p0 : m.0 ≡ k.from = sym first ∙ ap (port_at g.free) (sym first_place ∙ e.0) ∙ here in
+          let p1 : m.1 ≡ k.to = sym second ∙ ap (port_at g.free) (sym second_place ∙ e.1) ∙ parts.1 in
           inl (in_links-named links r.at p q lt (k.first ∙ ap numbered_port (sym p0)) (k.second ∙ ap numbered_port (sym p1)))
       | inr e ↦
-          let p1 : m.1 ≡ k.from = sym second ∙ ap (port_at g.free) (sym (ap (λ (w : ℕ × ℕ). w.1) at) ∙ e.0) ∙ here in
-          let p0 : m.0 ≡ k.to = sym first ∙ ap (port_at g.free) (sym (ap (λ (w : ℕ × ℕ). w.0) at) ∙ e.1) ∙ parts.1 in
+          let p1 : m.1 ≡ k.from = sym second ∙ ap (port_at g.free) (sym second_place ∙ e.0) ∙ here in
+          let p0 : m.0 ≡ k.to = sym first ∙ ap (port_at g.free) (sym first_place ∙ e.1) ∙ parts.1 in
           inr (in_links-named links r.at q p lt (k.second ∙ ap numbered_port (sym p0)) (k.first ∙ ap numbered_port (sym p1)))
     ]
 

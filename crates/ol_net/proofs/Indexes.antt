@@ -1,19 +1,17 @@
 -- The indexes of a net's nodes, at its beginning and after a replacement
-use Rattle.std.proofs.Common.{◌≡◌, ℕ, ◌+◌, ◌*◌, ◌<◌, ◌≤◌, max, Bool, true, false, List, [], ◌∷◌, ◌++◌, length, set, get_or, Option, Some, None, refl, sym, ap, ◌∙◌, inl, inr, ◌⊎◌, arith, zero, suc}
-use Rattle.std.specs.Prelude.{slice_get, ◌==◌, nat_lt, not}
+use Rattle.std.proofs.Common.{◌≡◌, ℕ, ◌+◌, ◌≤◌, max, true, List, [], ◌∷◌, ◌++◌, length, set, Option, Some, None, refl, sym, ◌∙◌, inl, inr, ◌⊎◌, arith, zero, suc}
+use Rattle.std.specs.Prelude.{slice_get}
 use Rattle.std.proofs.lemmas.Bool.{cases_Bool, false≢true}
 use Rattle.std.proofs.lemmas.Bool.Decides.{nat_tests}
-use Rattle.std.proofs.lemmas.List.{length-append}
 use Rattle.ol_net.specs.declared.parts.Kind.{Kind}
 use Rattle.ol_net.specs.declared.parts.Port.{Port}
 use Rattle.ol_net.specs.Parts.{is_eraser}
 use Rattle.ol_net.specs.Graph.{kind_at}
 use Rattle.ol_net.specs.Build.{all_live, is_bad_index, BadIndexAt, NoneOf}
 use Rattle.ol_net.specs.Tabling.{AreTables}
-use Rattle.ol_net.specs.Joins.{renewed}
+use Rattle.ol_net.specs.Rewired.{renewed}
 use Rattle.ol_net.specs.Replace.{top_index_of, MayBeBorn}
 use Rattle.ol_net.specs.Indexes.{HasIndexes}
-use Rattle.ol_net.proofs.Linking.{length-all_live}
 
 pub top_index_of-append : (xs ys : List (Option (Kind × ℕ))) → top_index_of (xs ++ ys) ≡ max (top_index_of xs) (top_index_of ys)
 top_index_of-append [] ys = omega arith

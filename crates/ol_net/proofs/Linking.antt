@@ -1,11 +1,12 @@
 -- Links joined one after another
-use Rattle.std.proofs.Common.{◌≡◌, ◌≢◌, ℕ, ◌+◌, ◌<◌, true, false, cond, List, [], ◌∷◌, ◌++◌, length, get_or, take, refl, sym, ap, ◌∙◌, inl, inr, arith, Option, Some, zero, suc, count_by, is_some}
+use Rattle.std.proofs.Common.{◌≡◌, ◌≢◌, ℕ, ◌+◌, ◌<◌, true, false, cond, List, [], ◌∷◌, ◌++◌, length, get_or, take, refl, sym, ap, ◌∙◌, inl, inr, arith, Option, Some, None, zero, suc, count_by, is_some}
 use Rattle.std.proofs.lemmas.Bool.{cases_Bool, false≢true}
 use Rattle.std.proofs.lemmas.Bool.Decides.{nat_tests}
 use Rattle.ol_net.specs.declared.parts.Kind.{Kind}
 use Rattle.ol_net.specs.declared.parts.Port.{Port}
 use Rattle.ol_net.specs.Graph.{IsTabled, has_port, place, port_at}
 use Rattle.ol_net.specs.Pairing.{other, partner_among, linked, can_link}
+use Rattle.ol_net.specs.Numbered.{nodes_from}
 use Rattle.ol_net.specs.Build.{link_at, NoneOf, BadPortAt, all_live}
 use Rattle.ol_net.specs.Tabling.{places, is_apart, LinkedUp, MeetsAt, AloneAt, AreTables}
 use Rattle.std.proofs.lemmas.List.Sums.{sum_by-cons}
@@ -120,3 +121,13 @@ IsTabled-from_tables free nodes links live xs t =
       length-all_live nodes,
       IsTabled-from_links free (all_live nodes) (places free links) xs t.table.linked t.table.none_alone,
     )
+
+-- the live nodes are the nodes of the net
+pub length-nodes_from : (n : ℕ) (nodes : List (Option (Kind × ℕ))) → count_by is_some nodes ≡ length (nodes_from n nodes)
+length-nodes_from n [] = refl
+length-nodes_from n (None ∷ nodes) =
+    let e : count_by is_some (None ∷ nodes) ≡ 0 + count_by is_some nodes = sum_by-cons (λ (x : Option (Kind × ℕ)). cond (is_some x) 1 0) None nodes in
+    omega (arith, e, length-nodes_from (suc n) nodes)
+length-nodes_from n (Some k ∷ nodes) =
+    let e : count_by is_some (Some k ∷ nodes) ≡ 1 + count_by is_some nodes = sum_by-cons (λ (x : Option (Kind × ℕ)). cond (is_some x) 1 0) (Some k) nodes in
+    omega (arith, e, length-nodes_from (suc n) nodes)

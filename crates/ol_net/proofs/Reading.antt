@@ -1,7 +1,7 @@
 -- What the calls that read a net answer
-use Rattle.std.proofs.Common.{◌≡◌, ◌≢◌, ℕ, ◌+◌, ◌<◌, ◌≤◌, nat_lt, Bool, true, false, List, [], ◌∷◌, ◌++◌, length, take, get_or, max, min, Option, Some, None, refl, sym, ap, ◌∙◌, inl, inr, ◌⊎◌, arith, subst, zero, suc}
+use Rattle.std.proofs.Common.{◌≡◌, ℕ, ◌+◌, ◌<◌, ◌≤◌, nat_lt, true, false, List, [], ◌∷◌, length, take, get_or, max, min, Option, Some, None, refl, sym, ap, ◌∙◌, inl, inr, arith, subst}
 use Rattle.std.specs.Prelude.{◌↔◌, IfSome, IfNone}
-use Rattle.std.proofs.lemmas.Bool.{cases_lt, cases_eq, cases_Bool, false≢true}
+use Rattle.std.proofs.lemmas.Bool.{cases_lt, cases_eq, false≢true}
 use Rattle.std.proofs.lemmas.Bool.Decides.{nat_tests}
 use Rattle.std.proofs.lemmas.List.{take_more, get_or_past}
 use Rattle.ol_net.specs.declared.parts.Kind.{Kind}
@@ -9,13 +9,12 @@ use Rattle.ol_net.specs.declared.parts.NodeId.{NodeId}
 use Rattle.ol_net.specs.declared.parts.Port.{Port}
 use Rattle.ol_net.specs.declared.parts.Port.TheVariants.{Of}
 use Rattle.ol_net.specs.declared.parts.Rule.{Rule}
-use Rattle.ol_net.specs.declared.parts.Facing.{Facing}
 use Rattle.ol_net.specs.declared.parts.Facing.TheVariants.{Active, Stuck}
 use Rattle.ol_net.specs.declared.parts.Facing.TheVariants as facing
-use Rattle.ol_net.specs.Graph.{Graph, IsTabled, kind_at, has_port, partner_of, facing_at}
+use Rattle.ol_net.specs.Graph.{Graph, IsTabled, kind_at, partner_of, facing_at}
 use Rattle.ol_net.specs.Nets.{HasNode, Linked, IsPort, Faces, slot, NamedNet}
 use Rattle.ol_net.specs.Numbered.{numbered_port, net_of}
-use Rattle.ol_net.specs.Pairs.{IsActive, IsStuck, IsInActive, IsInStuck, FacesNone, HasPair, AreDifferent, HasStuck}
+use Rattle.ol_net.specs.Pairs.{IsStuck, IsInActive, IsInStuck, FacesNone, HasPair, AreDifferent, HasStuck}
 use Rattle.ol_net.specs.Replace.{top_index_of}
 use Rattle.ol_net.proofs.Numbered.{has_node, linked, linked_back, is_port, numbered_port-injective, faces_or_none, active_from, active_first, active_second, stuck_from, stuck_first, none_from, partner_of-there, stuck_apart, one_facing, IsStuck-back}
 use Rattle.ol_net.proofs.Indexes.{top_index_of-append}

@@ -1,29 +1,25 @@
 -- The tables after a replacement are those of a net
-use Rattle.std.proofs.Common.{◌≡◌, ◌≢◌, ℕ, ◌+◌, ◌-◌, ◌*◌, ◌/◌, ◌%◌, ◌<◌, ◌≤◌, ◌==◌, nat_lt, nat_le, Bool, true, false, ◌&&◌, not, cond, if◌then◌else◌, List, [], ◌∷◌, ◌++◌, length, map, set, get_or, Option, Some, None, refl, sym, ap, ◌∙◌, inl, inr, ◌⊎◌, arith, rules, subst, zero, suc, add-one, add-zero, is_some, count_by, sum_by}
+use Rattle.std.proofs.Common.{◌≡◌, ◌≢◌, ℕ, ◌+◌, ◌-◌, ◌*◌, ◌/◌, ◌%◌, ◌<◌, ◌≤◌, ◌==◌, nat_lt, nat_le, Bool, true, false, ◌&&◌, not, cond, if◌then◌else◌, List, [], ◌∷◌, ◌++◌, length, map, set, get_or, Option, Some, None, refl, sym, ap, ◌∙◌, inl, inr, arith, subst, add-zero, is_some, count_by, sum_by}
 use Rattle.std.proofs.lemmas.Bool.{cases_eq, cases_lt, cases_Bool, false≢true}
 use Rattle.std.proofs.lemmas.Bool.Decides.{nat_tests}
-use Rattle.std.proofs.lemmas.List.{map-append, length-set, length-append, length-map, get_or-set_same, get_or-set_other, get_or_append_left, get_or-append_right, get_or_past}
+use Rattle.std.proofs.lemmas.List.{map-append, length-set, length-append, get_or-set_same, get_or-set_other, get_or_append_left, get_or-append_right, get_or_past}
 use Rattle.ol_net.specs.declared.parts.Kind.{Kind}
 use Rattle.ol_net.specs.declared.parts.JoinEnd.{JoinEnd}
-use Rattle.ol_net.specs.declared.parts.JoinEnd.TheVariants.{First, Second, Born}
+use Rattle.ol_net.specs.declared.parts.JoinEnd.TheVariants.{First, Second}
 use Rattle.ol_net.specs.Pairing.{IsPaired, other}
-use Rattle.ol_net.specs.Parts.{slots_of}
 use Rattle.ol_net.specs.Graph.{Graph, kind_at, has_slot, has_port, port_at, place, IsTabled}
 use Rattle.ol_net.specs.Build.{all_live}
-use Rattle.ol_net.specs.Joins.{joined, joined_all, end_place, join_places, Within, AllTwo, grown, rewired, renewed, uses_up, side_ends, born_ends, open_ends, Facing, Given}
+use Rattle.ol_net.specs.Joins.{uses_up, side_ends, born_ends, open_ends}
+use Rattle.ol_net.specs.Rewired.{joined, end_place, join_places, Within, AllTwo, grown, rewired, renewed, Given}
 use Rattle.ol_net.specs.declared.parts.NodeId.{NodeId}
 use Rattle.ol_net.specs.declared.parts.Port.{Port}
 use Rattle.ol_net.specs.declared.parts.Port.TheVariants.{Of}
 use Rattle.std.proofs.lemmas.List.Sums.{sum_by-set, sum_by-append}
-use Rattle.ol_net.specs.Contract.{take_out, contract, vertices, without, Shows}
 use Rattle.ol_net.specs.Replace.{AreFacing}
-use Rattle.ol_net.specs.Retabled.{settled, Retables}
-use Rattle.ol_net.proofs.AnyOrder.{contract-settled, Shows-same}
-use Rattle.ol_net.proofs.Contracting.{Shows-joined, Shows-without}
 use Rattle.ol_net.proofs.Places.{kind_at-within, place-port_at}
 use Rattle.ol_net.proofs.Joining.{length-grown, other-grown, IsPaired-grown, length-joined, JoinStep-joined, IsPaired-joined}
 use Rattle.ol_net.proofs.Linking.{length-all_live, count_by-all_live}
-use Rattle.ol_net.proofs.Fitting.{bit, count, count-append, count-uses_up, Within-from_count, AllTwo-from_count, alone-joined_all, IsPaired-joined_all, length-joined_all, IsSlot, count-side_at, count-side_low, count-born_low, count-born_at}
+use Rattle.ol_net.proofs.Fitting.{bit, vertices, count, count-append, count-uses_up, Within-from_count, AllTwo-from_count, alone-joined_all, IsPaired-joined_all, length-joined_all, IsSlot, count-side_at, count-side_low, count-born_low, count-born_at}
 
 -- all edges that are added, the one of the principal ports with them
 abbrev pub all_joins : ℕ → ℕ → ℕ → ℕ → List (JoinEnd × JoinEnd) → List (ℕ × ℕ)
@@ -115,11 +111,11 @@ kind_at-renewed nodes first second n born lf ls =
           ]
     ]
 
-slot_of : (free k : ℕ) → free ≤ k → IsSlot free ((k - free) / 3) ((k - free) % 3) k
+pub slot_of : (free k : ℕ) → free ≤ k → IsSlot free ((k - free) / 3) ((k - free) % 3) k
 slot_of free k le = record { at = omega arith; small = omega arith }
 
 -- whether there is a port at a place, by node and slot
-has_port-slot : (free : ℕ) (nodes : List (Option (Kind × ℕ))) (n s k : ℕ) → IsSlot free n s k → has_port free nodes (port_at free k) ≡ has_slot (kind_at nodes n) s
+pub has_port-slot : (free : ℕ) (nodes : List (Option (Kind × ℕ))) (n s k : ℕ) → IsSlot free n s k → has_port free nodes (port_at free k) ≡ has_slot (kind_at nodes n) s
 has_port-slot free nodes n s k at =
     let past : nat_lt k free ≡ false = let e = at.at in grind (arith, nat_tests) in
     let q : (k - free) / 3 ≡ n = omega (arith, at.at, at.small) in
@@ -147,7 +143,7 @@ stays : (h : Bool) (c : ℕ) (inside : Type 0) → c ≡ 0 → JoinedOnce c h h 
 stays h c inside e = record { once = omega arith; within = λ h. absurd (omega arith); toggles = rw e refl }
 
 -- a node is live only if its number was given out
-live-within : (nodes : List (Option (Kind × ℕ))) (n : ℕ) → has_slot (kind_at nodes n) 0 ≡ true → n < length nodes
+pub live-within : (nodes : List (Option (Kind × ℕ))) (n : ℕ) → has_slot (kind_at nodes n) 0 ≡ true → n < length nodes
 live-within nodes n h = kind_at-within nodes n 0 h
 
 joined_once-slot : (free : ℕ) (nodes : List (Option (Kind × ℕ))) (xs : List ℕ) (first second n s k : ℕ) (born : List (Kind × ℕ)) (joins : List (JoinEnd × JoinEnd)) →
@@ -227,7 +223,7 @@ joins-fit free nodes xs first second born joins g =
       AllTwo-from_count (all_joins free (length nodes) first second joins) (λ k. (joined_once free nodes xs first second k born joins g).once),
     )
 
-length-renewed : (nodes : List (Option (Kind × ℕ))) (first second : ℕ) (born : List (Kind × ℕ)) → length (renewed nodes first second born) ≡ length nodes + length born
+pub length-renewed : (nodes : List (Option (Kind × ℕ))) (first second : ℕ) (born : List (Kind × ℕ)) → length (renewed nodes first second born) ≡ length nodes + length born
 length-renewed nodes first second born =
     length-set (set (nodes ++ all_live born) first None) second None ∙ length-set (nodes ++ all_live born) first None ∙ length-append nodes (all_live born) ∙ ap (λ n. length nodes + n) (length-all_live born)
 
@@ -328,41 +324,6 @@ Given-from g first second born joins net face fit =
     let joined : other g.partners (g.free + 3 * first.0) ≡ g.free + 3 * second.0 = omega (arith, ap (other g.partners) (add-zero (g.free + 3 * first.0)), qs) in
     record { net = net; facing = record { two = face.0; first_live = live; second_live = live2; joined = joined }; fit = fit }
 
-pub Shows-settled : (es : List (ℕ × ℕ)) (xs : List ℕ) (joins : List (ℕ × ℕ)) → IsPaired (other xs) → Within (length xs) joins → AllTwo joins → Shows es (other xs) →
-    Shows (settled es joins) (other (joined_all xs joins))
-Shows-settled es xs [] p w t shows = shows
-Shows-settled es xs (e ∷ joins) p w t shows =
-    let ys = joined xs e.0 e.1 in
-    let j = JoinStep-joined xs e.0 e.1 p w.0 w.1 t.0 in
-    Shows-settled (take_out e.1 (take_out e.0 (e ∷ es))) ys joins (IsPaired-joined (other xs) (other ys) e.0 e.1 j) (rw (length-joined xs e.0 e.1) w.2) t.1
-    (Shows-joined es (other xs) (other ys) e.0 e.1 j shows)
-
-pub Shows-rewired : (free : ℕ) (nodes : List (Option (Kind × ℕ))) (xs : List ℕ) (first second : ℕ) (born : List (Kind × ℕ)) (joins : List (JoinEnd × JoinEnd)) →
-    Given free nodes xs first second born joins → (es : List (ℕ × ℕ)) → Shows es (other xs) →
-    Shows (settled (without (free + 3 * first) es) (join_places free first second (length nodes) joins)) (other (rewired free (length nodes) xs first second born joins))
-Shows-rewired free nodes xs first second born joins g es shows =
-    let ys = grown xs (3 * length born) in
-    let a = free + 3 * first in
-    let b = free + 3 * second in
-    let r = ready free nodes xs first second born joins g ys refl (length nodes) refl in
-    let fit = joins-fit free nodes xs first second born joins g in
-    let j = JoinStep-joined ys a b r.paired r.first_in r.second_in fit.1.0 in
-    let ab : other ys a ≡ b = other-grown xs (3 * length born) a ∙ g.facing.joined in
-    let shows' : Shows es (other ys) = λ k. shows k ∙ ap (λ w. if w == k then [] else w ∷ []) (sym (other-grown xs (3 * length born) k)) in
-    Shows-settled (without a es) (joined ys a b) (join_places free first second (length nodes) joins) r.paired_after r.within r.two
-    (Shows-without es (other ys) (other (joined ys a b)) a b j ab shows')
-
--- the same, with all joins added first
-pub Shows-contract : (free : ℕ) (nodes : List (Option (Kind × ℕ))) (xs : List ℕ) (first second : ℕ) (born : List (Kind × ℕ)) (joins : List (JoinEnd × JoinEnd)) →
-    Given free nodes xs first second born joins → (es : List (ℕ × ℕ)) → Shows es (other xs) →
-    Shows (contract (vertices (join_places free first second (length nodes) joins)) (join_places free first second (length nodes) joins ++ without (free + 3 * first) es)) (other (rewired free (length nodes) xs first second born joins))
-Shows-contract free nodes xs first second born joins g es shows =
-    let js = join_places free first second (length nodes) joins in
-    let fs = without (free + 3 * first) es in
-    let once : (k : ℕ) → count k (vertices js) ≤ 1 = λ k. let c = (joined_once free nodes xs first second k born joins g).once in omega arith in
-    Shows-same (contract (vertices js) (js ++ fs)) (settled fs js) (other (rewired free (length nodes) xs first second born joins)) (contract-settled js fs once)
-    (Shows-rewired free nodes xs first second born joins g es shows)
-
 -- two nodes are live
 pub two-live : (nodes : List (Option (Kind × ℕ))) (xs : List ℕ) (free first second : ℕ) (born : List (Kind × ℕ)) (joins : List (JoinEnd × JoinEnd)) → Given free nodes xs first second born joins → 2 ≤ count_by is_some nodes
 two-live nodes xs free first second born joins g =
@@ -378,15 +339,3 @@ kept free live nodes nodes' xs xs' first second born joins g l en ex =
     let two = two-live nodes xs free first second born joins g in
     let n = IsTabled-rewired free nodes xs first second born joins g in
     rw (en, ex) (omega (arith, e, two, l), length-renewed nodes first second born, n)
-
-pub Retables-from : (g new : Graph) (first second : NodeId) (born : List (Kind × ℕ)) (joins : List (JoinEnd × JoinEnd)) → Given g.free g.nodes g.partners first.0 second.0 born joins →
-    new.free ≡ g.free → new.nodes ≡ renewed g.nodes first.0 second.0 born → new.partners ≡ rewired g.free (length g.nodes) g.partners first.0 second.0 born joins →
-    Retables g new first second born joins
-Retables-from g new first second born joins given ef en ex =
-    let net = IsTabled-rewired g.free g.nodes g.partners first.0 second.0 born joins given in
-    record {
-      same_free = ef;
-      nodes = en;
-      size = rw (ef, en, ex) net.size;
-      links = λ es shows. rw ex (Shows-contract g.free g.nodes g.partners first.0 second.0 born joins given es shows);
-    }

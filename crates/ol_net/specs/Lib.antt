@@ -7,8 +7,7 @@ pub mod Pairs
 pub mod Numbered
 pub mod Build
 pub mod Tabling
-pub mod Contract
 pub mod Joins
+pub mod Rewired
 pub mod Replace
 pub mod Indexes
-pub mod Retabled

@@ -1,5 +1,5 @@
 -- One replacement in a net: two nodes go, others come, and the joins decide what is linked.
-use Rattle.std.specs.Prelude.{◌≡◌, ◌≢◌, ℕ, ◌*◌, ◌+◌, ◌≤◌, max, List, [], ◌∷◌, ◌++◌, length, map, Option, None, Some, ◌⊎◌, ◌↔◌, slice_get, Bool, true, ◌==◌, if◌then◌else◌}
+use Rattle.std.specs.Prelude.{◌≡◌, ◌≢◌, ℕ, ◌+◌, ◌≤◌, max, List, [], ◌∷◌, length, Option, None, Some, ◌⊎◌, ◌↔◌, slice_get, true}
 use Rattle.ol_edges.specs.Edges.{IsIn, Edge, Contracted}
 use Rattle.ol_net.specs.declared.parts.Kind.{Kind}
 use Rattle.ol_net.specs.declared.parts.NodeId.{NodeId}

@@ -10,13 +10,16 @@ use crate::graph::{is_port, place_of, port_of};
 use crate::parts::{BuildFault, Kind, Port};
 use std::alloc::{AllocError, Global};
 
-pub fn is_bad_index(node: (Kind, u32)) -> bool
+// The greatest index that a net may begin with.
+const TOP_INDEX: u32 = 1_000_000;
+
+fn is_bad_index(node: (Kind, u32)) -> bool
     ensures { result ≡ is_bad_index node }
 {
     if node.0.is_eraser() {
         node.1 != 0
     } else {
-        node.1 > 1_000_000
+        node.1 > TOP_INDEX
     }
 }
 

@@ -1,6 +1,6 @@
 //! The net.
 
-ghost use Rattle.std.specs.Prelude.{◌≡◌, ℕ, ◌+◌, ◌-◌, ◌*◌, ◌/◌, ◌%◌, ◌^◌, ◌<◌, ◌≤◌, length, is_some, count_by, MatchResult, vec_len, OnOk, OnErr, IfSome, Some, ◌≢◌, true, slice_get, ◌↔◌, IfNone, IsTrue};
+ghost use Rattle.std.specs.Prelude.{◌≡◌, ℕ, ◌+◌, ◌-◌, ◌*◌, ◌/◌, ◌%◌, ◌^◌, ◌<◌, ◌≤◌, length, is_some, count_by, IfOk, IfErr, vec_len, OnOk, OnErr, IfSome, Some, ◌≢◌, true, slice_get, ◌↔◌, IfNone, IsTrue};
 ghost use Rattle.ol_net.specs.Nets.{HasNode, Linked, IsPort, IsNet};
 ghost use Rattle.ol_net.specs.Numbered.{net_of, numbered_port};
 ghost use Rattle.ol_net.specs.Pairs.{IsStuck, IsInActive, IsInStuck, FacesNone, HasStuck};
@@ -9,9 +9,8 @@ ghost use Rattle.ol_net.specs.declared.parts.Rule.{Rule};
 ghost use Rattle.ol_net.specs.declared.parts.Facing.TheVariants.{Active, Stuck};
 ghost use Rattle.ol_net.specs.declared.parts.Facing.TheVariants as facing;
 ghost use Rattle.ol_net.specs.Joins.{uses_up, open_ends};
-ghost use Rattle.ol_net.specs.Replace.{AreFacing, MayBeBorn, top_index_of};
+ghost use Rattle.ol_net.specs.Replace.{AreFacing, MayBeBorn, Replaces, top_index_of};
 ghost use Rattle.ol_net.specs.declared.parts.Kind.{Kind};
-ghost use Rattle.ol_net.specs.Retabled.{Retables};
 ghost use Rattle.ol_net.specs.Pairing.{other};
 ghost use Rattle.ol_net.specs.Build.{Builds, FaultIs};
 ghost use Rattle.ol_net.specs.Graph.{kind_at, partner_of, partner_in, IsTabled, facing_at, place, port_at, has_port, has_slot};
@@ -24,11 +23,17 @@ use ol_io::NoMemory;
 use std::alloc::Global;
 use std::marker::Model;
 
+/// A net: nodes with a kind and an index under numbers of their own, free ports, and links, each of
+/// two ports. Each port stands in one link. A node's number is never given to another node.
 #[derive(Drop)]
 pub struct Net {
+    // The number of free ports, and that of live nodes.
     free: u32,
     live: u32,
+    // By number. A node that is gone is None.
     nodes: Vec<Option<(Kind, u32)>>,
+    // By place: the free ports, and then three places for each node number. At the place of a port
+    // stands the place of its partner, and at a place that is no port that place itself.
     partners: Vec<usize>,
 }
 
@@ -46,6 +51,13 @@ impl Model for Net {
 
 impl Net {
     /// Numbers the nodes from 0 in the order given, and links their ports.
+    ///
+    /// - `free`: the number of free ports.
+    /// - `nodes`: each node's kind and index, fewer than 1,000,000,000 of them.
+    /// - `links`: the two ports of each link, fewer than 2^32 of them.
+    ///
+    /// The first fault in the order of `BuildFault` is answered. `NoMemory` may stand in the place
+    /// of any answer.
     pub fn build(
         alloc: Global,
         free: u32,
@@ -54,7 +66,8 @@ impl Net {
     ) -> Result<Net, BuildFault>
         requires few_nodes { vec_len nodes < 1000000000 }
         requires few_links { vec_len links < 2 ^ 32 }
-        ensures { MatchResult result (Builds free nodes.items links.items) (FaultIs free nodes.items links.items) }
+        ensures built { IfOk result (Builds free nodes.items links.items) }
+        ensures fault { IfErr result (FaultIs free nodes.items links.items) }
     {
         match tables(alloc, free, &nodes, &links) {
             Ok((live, partners)) => Ok(Net {
@@ -70,13 +83,15 @@ impl Net {
     /// The number of free ports, which are `Free(0)` up to that number.
     pub fn free_ports(&self) -> u32
         ensures free { result ≡ self.now.free }
+        ensures free_ports { result ≡ (net_of self.now).free_ports }
     {
         self.free
     }
 
     /// The number of live nodes.
     pub fn nodes(&self) -> u32
-        ensures live { result ≡ count_by is_some self.now.nodes }
+        ensures table { result ≡ count_by is_some self.now.nodes }
+        ensures nodes { result ≡ length (net_of self.now).nodes }
     {
         self.live
     }
@@ -84,6 +99,7 @@ impl Net {
     /// The number of node numbers given out so far. The next node gets this number.
     pub fn born(&self) -> u32
         ensures born { result ≡ length self.now.nodes }
+        ensures bound { result < 2 ^ 31 }
     {
         self.nodes.len() as u32
     }
@@ -153,7 +169,23 @@ impl Net {
         let _ = &self.partners;
     }
 
-    /// Takes out two nodes that face each other, puts others in, and joins the ends that are open.
+    /// Takes out two nodes that face each other, puts others in under the next numbers, and joins
+    /// the ends that are open. It is the one call that changes a net.
+    ///
+    /// - `first`, `second`: the two nodes: live, different, and linked by their principal ports. That
+    ///   link goes with them.
+    /// - `born`: kind and index of each node that comes, at most four. An index is at most one above
+    ///   the greatest of the net, and 0 for an eraser.
+    /// - `joins`: pairs of ends. Each slot of the two nodes but the principal one, and each slot of
+    ///   a node that comes, stands in one of them once, and nothing else does.
+    ///
+    /// The joins are edges beside the links that are left. Then each slot of the two nodes is taken
+    /// out: the two edges at it become one, and an edge from it to itself goes with it. So two ports
+    /// are linked in the end where edges joined them by way of the slots that went (Lafont,
+    /// Interaction Nets, 1990).
+    ///
+    /// `NoMemory`: no memory was found, and the net is unchanged. The net has given out at most
+    /// 2,000,000,000 numbers.
     pub fn replace(
         &mut self,
         first: NodeId,
@@ -166,7 +198,7 @@ impl Net {
         requires indexes { (p : ℕ) (k : Kind × ℕ) → slice_get born.now p ≡ Some k → MayBeBorn (top_index_of self.old.nodes) k }
         requires fit { uses_up joins.now (open_ends (kind_at self.old.nodes first.0) (kind_at self.old.nodes second.0) born.now) ≡ true }
         requires few { length self.old.nodes ≤ 2000000000 }
-        ensures ok { OnOk result (Retables self.old self.new first second born.now joins.now) }
+        ensures ok { OnOk result (Replaces self.old self.new first second born.now joins.now) }
         ensures err { OnErr result (self.new ≡ self.old) }
     {
         let Ok(()) = replace_in(

@@ -1,4 +1,7 @@
 pub mod Rewriting
 pub mod Steps
+pub mod Listed
+pub mod Actors
 pub mod Names
 pub mod Runs
+pub mod Laws

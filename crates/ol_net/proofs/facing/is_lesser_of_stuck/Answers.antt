@@ -1,5 +1,4 @@
-use Rattle.std.proofs.Common.{ap, sym, ◌∙◌}
-use Rattle.ol_net.specs.Graph.{Graph}
+use Rattle.std.proofs.Common.{sym, ◌∙◌}
 use Rattle.ol_net.proofs.Reading.{lesser-is, lesser-none}
 use Rattle.ol_net.proofs.facing.is_lesser_of_stuck.Goals as goal
 

@@ -1,6 +1,6 @@
-use Rattle.std.proofs.Common.{arith, ◌<◌, ◌+◌, ◌^◌, length, ◌≡◌, true, false, sym, ◌∙◌}
+use Rattle.std.proofs.Common.{arith, sym, ◌∙◌}
 use Rattle.std.proofs.lemmas.Bool.{false≢true}
-use Rattle.ol_net.proofs.Reading.{StuckBelow, StuckBelow-none, StuckBelow-same, StuckBelow-more, HasStuck-all}
+use Rattle.ol_net.proofs.Reading.{StuckBelow-none, StuckBelow-same, StuckBelow-more, HasStuck-all}
 use Rattle.ol_net.proofs.facing.stuck_in.Goals as goal
 use Rattle.ol_net.proofs.facing.stuck_in.Goals.{then-is_lesser_of_stuck, else-is_lesser_of_stuck}
 

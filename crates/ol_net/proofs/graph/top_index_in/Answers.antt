@@ -1,4 +1,4 @@
-use Rattle.std.proofs.Common.{◌∙◌, sym, ◌≡◌}
+use Rattle.std.proofs.Common.{◌∙◌}
 use Rattle.ol_net.proofs.Reading.{top_index_of-some, top_index_of-none}
 use Rattle.ol_net.proofs.graph.top_index_in.Goals as goal
 use Rattle.ol_net.proofs.graph.top_index_in.Goals.{in-Some, in_default}

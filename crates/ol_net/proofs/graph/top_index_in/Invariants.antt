@@ -1,4 +1,4 @@
-use Rattle.std.proofs.Common.{◌≡◌, ℕ, take}
+use Rattle.std.proofs.Common.{◌≡◌, take}
 use Rattle.ol_net.specs.Replace.{top_index_of}
 use Rattle.ol_net.proofs.graph.top_index_in.Given as goal
 

@@ -9,5 +9,5 @@ invariant_of-result c =
     let t = IsTabled-from_tables _ _ _ _ _ c.in-Ok.ensures in
     (omega (arith, t.0, c.len.ensures, c.in-Ok.live.ok.0), omega (arith, t.1, c.deref.ensures.len, c.requires.few_nodes), t.2, HasIndexes-of_tables _ _ _ _ _ c.in-Ok.ensures)
 
-pub returns-in-Ok : goal.returns-in-Ok
-returns-in-Ok c = rw (c.deref.ensures.value, c.deref-2.ensures.value) at (Builds-from_tables _ _ _ _ _ c.in-Ok.ensures)
+pub returns-in-Ok-clause-built : goal.returns-in-Ok-clause-built
+returns-in-Ok-clause-built c = rw (c.deref.ensures.value, c.deref-2.ensures.value) at (Builds-from_tables _ _ _ _ _ c.in-Ok.ensures)

@@ -1,6 +1,7 @@
-use Rattle.std.proofs.Common.{arith, length, sym, ap, ◌∙◌, refl}
+use Rattle.std.proofs.Common.{arith}
 use Rattle.ol_net.specs.Graph.{Graph}
-use Rattle.ol_net.proofs.Replacing.{Given-from, Retables-from, kept, two-live}
+use Rattle.ol_net.proofs.Replacing.{Given-from, kept, two-live}
+use Rattle.ol_net.proofs.Replaced.{Replaces-from}
 use Rattle.ol_net.proofs.Indexes.{HasIndexes-kept}
 use Rattle.ol_net.proofs.graph.Net.replace.Goals as goal
 
@@ -34,4 +35,4 @@ returns-clause-ok c =
     let fit = rw (← c.self.view_is) at c.requires.fit in
     let old : Graph = record { free = c.self.inside.free; nodes = c.self.inside.nodes.items; partners = c.self.inside.partners.items } in
     let given = Given-from old c.args.first c.args.second c.args.born.now c.args.joins.now c.self.invariant.2 face fit in
-    rw (← c.self.view_is) (Retables-from old _ c.args.first c.args.second c.args.born.now c.args.joins.now given refl c.in-Ok.ensures.nodes c.in-Ok.ensures.partners)
+    rw (← c.self.view_is) (Replaces-from old _ _ c.args.first c.args.second c.args.born.now c.args.joins.now given c.in-Ok.ensures.nodes c.in-Ok.ensures.partners)

@@ -1,0 +1,4 @@
+pub mod Outside
+pub mod Files
+pub mod Fakes
+pub mod Calls

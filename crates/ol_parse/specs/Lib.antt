@@ -1,0 +1,4 @@
+pub mod Trees
+pub mod SmallTexts
+pub mod Reading
+pub mod NameLists

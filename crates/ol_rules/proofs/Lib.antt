@@ -1,0 +1,15 @@
+pub mod Lists
+pub mod Listed
+pub mod Stepping
+pub mod Born
+pub mod Vertices
+pub mod Tests
+pub mod Counts
+pub mod Wires
+pub mod Ports
+pub mod Alike
+pub mod Joins
+pub mod Built
+pub mod Stepped
+pub mod Recount
+pub mod Relation

@@ -1,0 +1,253 @@
+//! One step: the two nodes of an active pair go, and others come in their place (Lamping, An Algorithm
+//! for Optimal Lambda Calculus Reduction, POPL 1990).
+
+ghost use Rattle.std.specs.Prelude.{◌≡◌, ◌≢◌, ℕ, ◌≤◌, ◌<◌, ◌^◌, ◌-◌, ◌+◌, ◌↔◌, length, Some, None, OnOk, OnErr, IfOk, Err, MatchOption, slice_get, [], ◌∷◌, ◌++◌};
+ghost use Rattle.ol_net.specs.declared.parts.Kind.{Kind};
+ghost use Rattle.ol_net.specs.declared.parts.Rule.{Rule};
+ghost use Rattle.ol_net.specs.declared.parts.Facing.TheVariants.{Active};
+ghost use Rattle.ol_net.specs.Graph.{facing_at, kind_at, partner_of};
+ghost use Rattle.ol_net.specs.Parts.{arity};
+ghost use Rattle.ol_net.specs.Rules.{rule_of};
+ghost use Rattle.ol_net.specs.Replace.{AreFacing, Replaces, MayBeBorn, top_index_of};
+ghost use Rattle.ol_rules.specs.Rewriting.{action_of, meeting, crossing};
+ghost use Rattle.ol_rules.specs.Listed.{born_of, joins_of, meeting_joins, crossing_joins};
+ghost use Rattle.ol_rules.specs.Actors.{IsPair};
+ghost use Rattle.ol_rules.specs.Steps.{StepsAt};
+ghost use Rattle.ol_rules.specs.declared.steps.StepFault.TheVariants.{NotActive};
+
+use ol_io::NoMemory;
+use ol_net::{JoinEnd, Kind, Net, NodeId, Port, Rule, rule_of};
+
+/// Why a step was not made. The net is then as it was.
+#[derive(Clone, Copy, Debug, PartialEq, Eq)]
+pub enum StepFault {
+    /// The node is in no active pair.
+    NotActive,
+    /// There was no memory for the nodes that come.
+    NoMemory,
+}
+
+/// An active pair: its rule, the node `f` that acts and the node `g` that it acts on, each with its
+/// kind and index.
+#[derive(Clone, Copy)]
+pub struct Pair {
+    rule: Rule,
+    f: NodeId,
+    g: NodeId,
+    of_f: (Kind, u32),
+    of_g: (Kind, u32),
+}
+
+/// The number of auxiliary ports.
+fn arity(kind: Kind) -> u8
+    ensures { result ≡ arity kind }
+{
+    kind.slots() - 1
+}
+
+fn born(place: u8, slot: u8) -> JoinEnd
+    ensures { result ≡ JoinEnd.Born place slot }
+{
+    JoinEnd::Born { place, slot }
+}
+
+/// The active pair of a node, if it is in one.
+fn active_pair(net: &Net, at: NodeId) -> Option<Pair>
+    ensures { MatchOption result ((rule : Rule) → facing_at net.now at ≢ Active rule) (λ pair. IsPair net.now at pair) }
+{
+    let here = net.kind_of(at)?;
+    let Some(Port::Of { node, slot: 0 }) = net.partner(Port::Of { node: at, slot: 0 }) else {
+        return None;
+    };
+    let there = net.kind_of(node)?;
+    if let Some(rule) = rule_of(here, there) {
+        return Some(Pair {
+            rule,
+            f: at,
+            g: node,
+            of_f: here,
+            of_g: there,
+        });
+    }
+    let rule = rule_of(there, here)?;
+    Some(Pair {
+        rule,
+        f: node,
+        g: at,
+        of_f: there,
+        of_g: here,
+    })
+}
+
+/// The two nodes go, and their slots of one number are joined.
+fn meet(net: &mut Net, pair: Pair) -> Result<(), NoMemory>
+    requires few { length net.old.nodes ≤ 2000000000 }
+    requires facing { AreFacing net.old pair.f pair.g }
+    requires is_f { kind_at net.old.nodes pair.f.0 ≡ Some pair.of_f }
+    requires is_g { kind_at net.old.nodes pair.g.0 ≡ Some pair.of_g }
+    requires alike { arity pair.of_f.0 ≡ arity pair.of_g.0 }
+    requires some { 1 ≤ arity pair.of_f.0 }
+    ensures replaced { OnOk result (Replaces net.old net.new pair.f pair.g [] (meeting_joins (arity pair.of_f.0))) }
+    ensures refused { OnErr result (net.new ≡ net.old) }
+{
+    let (f, g) = (pair.f, pair.g);
+    match arity(pair.of_f.0) {
+        1 => net.replace(f, g, &[], &[(JoinEnd::First(1), JoinEnd::Second(1))]),
+        _ => net.replace(
+            f,
+            g,
+            &[],
+            &[
+                (JoinEnd::First(1), JoinEnd::Second(1)),
+                (JoinEnd::First(2), JoinEnd::Second(2)),
+            ],
+        ),
+    }
+}
+
+/// Copies of f, which has no auxiliary port, take the slots of g.
+fn cross_with_none(net: &mut Net, pair: Pair, index: u32) -> Result<(), NoMemory>
+    requires few { length net.old.nodes ≤ 2000000000 }
+    requires facing { AreFacing net.old pair.f pair.g }
+    requires is_f { kind_at net.old.nodes pair.f.0 ≡ Some pair.of_f }
+    requires is_g { kind_at net.old.nodes pair.g.0 ≡ Some pair.of_g }
+    requires indexes { (p : ℕ) (k : Kind × ℕ) → slice_get (born_of (crossing index) pair.of_f pair.of_g) p ≡ Some k → MayBeBorn (top_index_of net.old.nodes) k }
+    requires none_of_f { arity pair.of_f.0 ≡ 0 }
+    ensures replaced { OnOk result (Replaces net.old net.new pair.f pair.g (born_of (crossing index) pair.of_f pair.of_g) (crossing_joins (arity pair.of_f.0) (arity pair.of_g.0))) }
+    ensures refused { OnErr result (net.new ≡ net.old) }
+{
+    let (f, g, of_f) = (pair.f, pair.g, pair.of_f);
+    let first = (born(0, 0), JoinEnd::Second(1));
+    let second = (born(1, 0), JoinEnd::Second(2));
+    match arity(pair.of_g.0) {
+        0 => net.replace(f, g, &[], &[]),
+        1 => net.replace(f, g, &[of_f], &[first]),
+        _ => net.replace(f, g, &[of_f, of_f], &[first, second]),
+    }
+}
+
+/// f, which has one auxiliary port, and g cross. The copy of g has this index.
+fn cross_with_one(net: &mut Net, pair: Pair, index: u32) -> Result<(), NoMemory>
+    requires few { length net.old.nodes ≤ 2000000000 }
+    requires facing { AreFacing net.old pair.f pair.g }
+    requires is_f { kind_at net.old.nodes pair.f.0 ≡ Some pair.of_f }
+    requires is_g { kind_at net.old.nodes pair.g.0 ≡ Some pair.of_g }
+    requires indexes { (p : ℕ) (k : Kind × ℕ) → slice_get (born_of (crossing index) pair.of_f pair.of_g) p ≡ Some k → MayBeBorn (top_index_of net.old.nodes) k }
+    requires one_of_f { arity pair.of_f.0 ≡ 1 }
+    requires some_of_g { 1 ≤ arity pair.of_g.0 }
+    ensures replaced { OnOk result (Replaces net.old net.new pair.f pair.g (born_of (crossing index) pair.of_f pair.of_g) (crossing_joins (arity pair.of_f.0) (arity pair.of_g.0))) }
+    ensures refused { OnErr result (net.new ≡ net.old) }
+{
+    let (f, g, of_f) = (pair.f, pair.g, pair.of_f);
+    let of_g = (pair.of_g.0, index);
+    match arity(of_g.0) {
+        1 => net.replace(
+            f,
+            g,
+            &[of_f, of_g],
+            &[
+                (born(0, 0), JoinEnd::Second(1)),
+                (born(1, 0), JoinEnd::First(1)),
+                (born(0, 1), born(1, 1)),
+            ],
+        ),
+        _ => net.replace(
+            f,
+            g,
+            &[of_f, of_f, of_g],
+            &[
+                (born(0, 0), JoinEnd::Second(1)),
+                (born(1, 0), JoinEnd::Second(2)),
+                (born(2, 0), JoinEnd::First(1)),
+                (born(0, 1), born(2, 1)),
+                (born(1, 1), born(2, 2)),
+            ],
+        ),
+    }
+}
+
+/// f, which has two auxiliary ports, and g cross. The copies of g have this index.
+fn cross_with_two(net: &mut Net, pair: Pair, index: u32) -> Result<(), NoMemory>
+    requires few { length net.old.nodes ≤ 2000000000 }
+    requires facing { AreFacing net.old pair.f pair.g }
+    requires is_f { kind_at net.old.nodes pair.f.0 ≡ Some pair.of_f }
+    requires is_g { kind_at net.old.nodes pair.g.0 ≡ Some pair.of_g }
+    requires indexes { (p : ℕ) (k : Kind × ℕ) → slice_get (born_of (crossing index) pair.of_f pair.of_g) p ≡ Some k → MayBeBorn (top_index_of net.old.nodes) k }
+    requires two_of_f { arity pair.of_f.0 ≡ 2 }
+    requires some_of_g { 1 ≤ arity pair.of_g.0 }
+    ensures replaced { OnOk result (Replaces net.old net.new pair.f pair.g (born_of (crossing index) pair.of_f pair.of_g) (crossing_joins (arity pair.of_f.0) (arity pair.of_g.0))) }
+    ensures refused { OnErr result (net.new ≡ net.old) }
+{
+    let (f, g, of_f) = (pair.f, pair.g, pair.of_f);
+    let of_g = (pair.of_g.0, index);
+    match arity(of_g.0) {
+        1 => net.replace(
+            f,
+            g,
+            &[of_f, of_g, of_g],
+            &[
+                (born(0, 0), JoinEnd::Second(1)),
+                (born(1, 0), JoinEnd::First(1)),
+                (born(2, 0), JoinEnd::First(2)),
+                (born(0, 1), born(1, 1)),
+                (born(0, 2), born(2, 1)),
+            ],
+        ),
+        _ => net.replace(
+            f,
+            g,
+            &[of_f, of_f, of_g, of_g],
+            &[
+                (born(0, 0), JoinEnd::Second(1)),
+                (born(1, 0), JoinEnd::Second(2)),
+                (born(2, 0), JoinEnd::First(1)),
+                (born(3, 0), JoinEnd::First(2)),
+                (born(0, 1), born(2, 1)),
+                (born(0, 2), born(3, 1)),
+                (born(1, 1), born(2, 2)),
+                (born(1, 2), born(3, 2)),
+            ],
+        ),
+    }
+}
+
+/// Rewrites an active pair by its rule.
+fn rewrite(net: &mut Net, pair: Pair) -> Result<(), NoMemory>
+    requires few { length net.old.nodes ≤ 2000000000 }
+    requires facing { AreFacing net.old pair.f pair.g }
+    requires is_f { kind_at net.old.nodes pair.f.0 ≡ Some pair.of_f }
+    requires is_g { kind_at net.old.nodes pair.g.0 ≡ Some pair.of_g }
+    requires fits { rule_of pair.of_f.0 pair.of_f.1 pair.of_g.0 pair.of_g.1 ≡ Some pair.rule }
+    ensures replaced { OnOk result (Replaces net.old net.new pair.f pair.g (born_of (action_of pair.rule pair.of_g.1) pair.of_f pair.of_g) (joins_of (action_of pair.rule pair.of_g.1) (arity pair.of_f.0) (arity pair.of_g.0))) }
+    ensures refused { OnErr result (net.new ≡ net.old) }
+{
+    net.is_tabled();
+    match pair.rule {
+        Rule::Beta => meet(net, pair),
+        Rule::Fan => meet(net, pair),
+        Rule::Croissant => meet(net, pair),
+        Rule::Bracket => meet(net, pair),
+        Rule::Erase => cross_with_none(net, pair, pair.of_g.1),
+        Rule::CrossFan => cross_with_two(net, pair, pair.of_g.1),
+        Rule::CrossCroissant => cross_with_one(net, pair, pair.of_g.1 - 1),
+        Rule::CrossBracket => cross_with_one(net, pair, pair.of_g.1 + 1),
+    }
+}
+
+/// Rewrites the active pair of a node, and answers its rule.
+pub fn step(net: &mut Net, at: NodeId) -> Result<Rule, StepFault>
+    requires few { length net.old.nodes ≤ 2000000000 }
+    ensures steps { IfOk result (λ rule. StepsAt net.old net.new at.0 rule) }
+    ensures active { IfOk result (λ rule. facing_at net.old at ≡ Active rule) }
+    ensures not_active { result ≡ Err NotActive ↔ ((rule : Rule) → facing_at net.old at ≢ Active rule) }
+    ensures refused { OnErr result (net.new ≡ net.old) }
+{
+    net.is_tabled();
+    let Some(pair) = active_pair(net, at) else {
+        return Err(StepFault::NotActive);
+    };
+    match rewrite(net, pair) {
+        Ok(()) => Ok(pair.rule),
+        Err(NoMemory) => Err(StepFault::NoMemory),
+    }
+}
