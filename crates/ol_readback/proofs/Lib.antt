@@ -1,0 +1,4 @@
+pub mod Fits
+pub mod FrameLists
+pub mod Climbing
+pub mod Trying

@@ -1,0 +1,6 @@
+pub mod Frames
+pub mod Matching
+pub mod Heads
+pub mod Fitting
+pub mod Trees
+pub mod Whole
