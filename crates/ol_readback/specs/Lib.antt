@@ -4,3 +4,5 @@ pub mod Heads
 pub mod Fitting
 pub mod Trees
 pub mod Whole
+pub mod Groups
+pub mod Reading

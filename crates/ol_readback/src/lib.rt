@@ -10,11 +10,16 @@ mod answers;
 mod asking;
 mod fitting;
 mod frames;
+mod groups;
 mod leaving;
 mod levels;
+mod reading;
+mod tree;
 
 pub use answers::{Head, HeadVar, ReadNode};
 pub use asking::head;
 pub use frames::Frame;
 pub use leaving::leave;
 pub use levels::Levels;
+pub use reading::read_back;
+pub use tree::ReadTree;
