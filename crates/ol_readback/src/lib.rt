@@ -8,11 +8,13 @@
 
 mod answers;
 mod asking;
+mod binder_names;
 mod fitting;
 mod frames;
 mod groups;
 mod leaving;
 mod levels;
+mod printing;
 mod reading;
 mod tree;
 
@@ -21,5 +23,6 @@ pub use asking::head;
 pub use frames::Frame;
 pub use leaving::leave;
 pub use levels::Levels;
+pub use printing::tree_text;
 pub use reading::read_back;
 pub use tree::ReadTree;
