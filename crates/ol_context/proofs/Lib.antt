@@ -1,0 +1,11 @@
+pub mod Contexts
+pub mod Table
+pub mod Ways
+pub mod Exits
+pub mod LevelLists
+pub mod Shapes
+pub mod ValueLists
+pub mod Marks
+pub mod Crossings
+pub mod Walked
+pub mod Compared

@@ -1,0 +1,11 @@
+pub mod Contexts
+pub mod Table
+pub mod Paths
+pub mod Ways
+pub mod Codes
+pub mod Shapes
+pub mod Trees
+pub mod Crossed
+pub mod Comparing
+pub mod Answers
+pub mod Laws

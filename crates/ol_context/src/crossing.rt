@@ -1,0 +1,76 @@
+//! Crossings of nodes.
+
+ghost use Rattle.std.specs.Prelude.{◌≡◌, ◌<◌, ◌≤◌, ◌↔◌, IfOk, OnErr};
+ghost use Rattle.ol_net.specs.Parts.{arity};
+ghost use Rattle.ol_net.specs.Numbered.{net_of, numbered_port};
+ghost use Rattle.ol_context.specs.Paths.{Through, IsBarred};
+ghost use Rattle.ol_context.specs.Shapes.{AreHeld, Extends, context_of};
+ghost use Rattle.ol_context.specs.Crossed.{IsCrossed, IsNodePort, IfOut};
+
+use crate::answers::Cross;
+use crate::arena::{Val, Values};
+use crate::changes::{fall, rise};
+use crate::row::Context;
+use ol_io::NoMemory;
+use ol_net::{Kind, Net, Port};
+
+// Enters a node of this kind and index by a slot, and changes the levels. The answer is the slot by
+// which the walk leaves.
+fn cross_node(
+    values: &mut Values,
+    levels: &mut Vec<Val>,
+    kind: Kind,
+    index: u32,
+    slot: u8,
+) -> Result<Option<u8>, NoMemory>
+    requires held { AreHeld values.old levels.old.items }
+    requires slot { slot ≤ arity kind }
+    ensures extends { Extends values.old values.new }
+    ensures held { AreHeld values.new levels.new.items }
+    ensures crossed { IfOk result (λ r. IsCrossed kind index slot values.old values.new levels.old.items levels.new.items r) }
+    ensures err { OnErr result (levels.new.items ≡ levels.old.items) }
+{
+    let i = index as usize;
+    if slot == 0 {
+        let fallen = fall(values, levels, kind, i)?;
+        if let Some(s) = fallen {
+            return Ok(Some(s + 1));
+        }
+        return Ok(None);
+    }
+    rise(values, levels, kind, i, slot - 1)?;
+    Ok(Some(0))
+}
+
+/// Enters a node by the port `at`, which is a port of a live node, and changes the context, whose
+/// levels are of this holder. Costs at most the number of levels that are moved.
+///
+/// `Undefined` comes exactly where no crossing is defined, and then the context is unchanged.
+/// `NoMemory`: no memory was found, and the context is unchanged.
+pub fn cross(
+    net: &Net,
+    values: &mut Values,
+    at: Port,
+    context: &mut Context,
+) -> Result<Cross, NoMemory>
+    requires port { IsNodePort net.now at }
+    requires held { AreHeld values.old context.old }
+    ensures extends { Extends values.old values.new }
+    ensures held { AreHeld values.new context.new }
+    ensures out { IfOk result (λ r. IfOut r (λ q. Through (net_of net.now) (numbered_port at) (context_of values.old context.old) (numbered_port q) (context_of values.new context.new))) }
+    ensures undefined { IfOk result (λ r. (r ≡ Cross.Undefined) ↔ IsBarred (net_of net.now) (numbered_port at) (context_of values.old context.old)) }
+    ensures unchanged { IfOk result (λ r. r ≡ Cross.Undefined → context.new ≡ context.old) }
+    ensures err { OnErr result (context.new ≡ context.old) }
+{
+    let Port::Of { node, slot } = at else {
+        unreachable!()
+    };
+    let Some((kind, index)) = net.kind_of(node) else {
+        unreachable!()
+    };
+    let crossed = cross_node(values, &mut context.levels, kind, index, slot)?;
+    let Some(slot) = crossed else {
+        return Ok(Cross::Undefined);
+    };
+    Ok(Cross::Out(Port::Of { node, slot }))
+}

@@ -1,0 +1,67 @@
+-- Names of binders.
+use Rattle.std.proofs.Common.{◌≡◌, ℕ, zero, suc, ◌==◌, ◌<◌, ◌≤◌, ◌⊎◌, inl, inr, Bool, true, false, ◌&&◌, ◌||◌, cond, List, [], ◌∷◌, ◌++◌, length, drop, get_or, Decides, Some, None, refl, sym, ap, ◌∙◌, arith}
+use Rattle.std.specs.Prelude.{slice_get}
+use Rattle.std.proofs.lemmas.Bool.Decides.{Decides-like, Decides-and, Decides-eqb, same_from_decides}
+use Rattle.std.proofs.lemmas.List.{get_or_append_left, get_or_push, length_push, drop_all}
+use Rattle.ol_readback.specs.Names.{candidate, same_text, is_among, fresh_from, number_of}
+use Rattle.ol_readback.specs.Printing.{AreNumbers, IsStart}
+
+same_text-Decides : (x y : List ℕ) → Decides (same_text x y) (x ≡ y)
+same_text-Decides [] [] = (λ a. refl, λ a. refl)
+same_text-Decides [] (y ∷ ys) = (λ a. absurd (cc), λ a. absurd (cc))
+same_text-Decides (x ∷ xs) [] = (λ a. absurd (cc), λ a. absurd (cc))
+same_text-Decides (x ∷ xs) (y ∷ ys) =
+    Decides-like ((x == y) && same_text xs ys) both apart (Decides-and (x == y) (same_text xs ys) (Decides-eqb x y) (same_text-Decides xs ys))
+  where
+    both : (x ≡ y) × (xs ≡ ys) → x ∷ xs ≡ y ∷ ys
+    both h = ap (λ z. z ∷ xs) h.0 ∙ ap (λ zs. y ∷ zs) h.1
+
+    apart : x ∷ xs ≡ y ∷ ys → (x ≡ y) × (xs ≡ ys)
+    apart e = (cc, cc)
+
+pub same_is : (r : Bool) (x y : List ℕ) → Decides r (x ≡ y) → r ≡ same_text x y
+same_is r x y h = same_from_decides r (same_text x y) h (same_text-Decides x y)
+
+pub among_at : (names : List (List ℕ)) (k : ℕ) (n t : List ℕ) → slice_get names k ≡ Some n → is_among (drop k names) t ≡ (same_text n t || is_among (drop (suc k) names) t)
+among_at [] k n t e = let z : None ≡ Some n = e in absurd (cc)
+among_at (m ∷ names) zero n t e = let z : Some m ≡ Some n = e in let y : m ≡ n = cc in ap (λ m. same_text m t || is_among names t) y
+among_at (m ∷ names) (suc k) n t e = among_at names k n t e
+
+pub among_found : (names : List (List ℕ)) (k : ℕ) (n t : List ℕ) → slice_get names k ≡ Some n → same_text n t ≡ true → is_among (drop k names) t ≡ true
+among_found names k n t e h = among_at names k n t e ∙ ap (λ b. b || is_among (drop (suc k) names) t) h
+
+pub among_next : (names : List (List ℕ)) (k : ℕ) (n t : List ℕ) → slice_get names k ≡ Some n → same_text n t ≡ false → is_among (drop k names) t ≡ is_among (drop (suc k) names) t
+among_next names k n t e h = among_at names k n t e ∙ ap (λ b. b || is_among (drop (suc k) names) t) h
+
+pub among_end : (names : List (List ℕ)) (k : ℕ) (t : List ℕ) → length names ≤ k → is_among (drop k names) t ≡ false
+among_end names k t b = ap (λ ns. is_among ns t) (drop_all k names b)
+
+-- passing over a name
+pub fresh_taken : (names : List (List ℕ)) (n k m : ℕ) → n ≡ suc k → is_among names (candidate m) ≡ true → fresh_from names n m ≡ fresh_from names k (suc m)
+fresh_taken names n k m e h = ap (λ n. fresh_from names n m) e ∙ ap (λ b. cond b (fresh_from names k (suc m)) m) h
+
+pub fresh_found : (names : List (List ℕ)) (n k m : ℕ) → n ≡ suc k → is_among names (candidate m) ≡ false → fresh_from names n m ≡ m
+fresh_found names n k m e h = ap (λ n. fresh_from names n m) e ∙ ap (λ b. cond b (fresh_from names k (suc m)) m) h
+
+pub fresh_last : (names : List (List ℕ)) (n m : ℕ) → n ≡ 0 → fresh_from names n m ≡ m
+fresh_last names n m e = ap (λ n. fresh_from names n m) e
+
+-- one number more
+start_is : (names : List (List ℕ)) (ns : List ℕ) (m : ℕ) → AreNumbers names ns → IsStart ns m → number_of names (length ns) ≡ fresh_from names (length names) m
+start_is names ns m h (inl s) = ap (number_of names) s.0 ∙ ap (fresh_from names (length names)) (sym s.1)
+start_is names ns m h (inr s) =
+    let l = s.1 in
+    ap (number_of names) s.1 ∙ ap (λ n. fresh_from names (length names) (suc n)) (sym (h s.0 0 (omega arith))) ∙ ap (fresh_from names (length names)) (sym s.2)
+
+pub numbers_push : (names : List (List ℕ)) (ns : List ℕ) (m n : ℕ) → AreNumbers names ns → IsStart ns m → n ≡ fresh_from names (length names) m → AreNumbers names (ns ++ n ∷ [])
+numbers_push names ns m n h s e t d b = go (cases t (length ns))
+  where
+    cases : (t k : ℕ) → (t < k) ⊎ (k ≤ t)
+    cases t k = grind arith
+
+    go : (t < length ns) ⊎ (length ns ≤ t) → get_or (ns ++ n ∷ []) t d ≡ number_of names t
+    go (inl c) = get_or_append_left ns (n ∷ []) d t c ∙ h t d c
+    go (inr c) =
+        let l = length_push ns n in
+        let q : length ns ≡ t = omega arith in
+        get_or_push ns n d t q ∙ e ∙ sym (start_is names ns m h s) ∙ ap (number_of names) q

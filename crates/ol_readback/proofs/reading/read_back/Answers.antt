@@ -1,0 +1,89 @@
+use Rattle.std.proofs.Common.{List, Option, MatchOption, sym, subst, arith}
+use Rattle.ol_net.specs.Numbered.{net_of}
+use Rattle.ol_readback.specs.Trees.{IsTree}
+use Rattle.ol_readback.specs.Groups.{NoneLeft, IsNext}
+use Rattle.ol_readback.specs.declared.answers.ReadNode.{ReadNode}
+use Rattle.ol_readback.specs.declared.frames.Frame.{Frame}
+use Rattle.ol_readback.proofs.Forests.{tree_is_whole}
+use Rattle.ol_readback.proofs.Onward.{after_read, before_next, ended, cut_off}
+use Rattle.ol_readback.proofs.reading.read_back.Goals as goal
+
+pub of-requires-then-len-heads-clause-whole : goal.of-requires-then-len-heads-clause-whole
+of-requires-then-len-heads-clause-whole c =
+    let N = net_of c.args.net.now in
+    let ws = c.read_frame.new.values in
+    let fs = c.read_frame.new.frames.items in
+    let nodes = c.put.new.nodes.items in
+    let gs = c.add.new.pending.items in
+    let a = after_read N c.args.heads c.args.edges c.args.net.now.free c.loop-pending.values ws c.loop-pending.frames.items fs c.loop-pending.frame c.loop-pending.nodes.items nodes c.loop-pending.pending.items gs
+    c.in_ok-read.read.0 c.in_ok-read.read.1 c.loop-pending.invariant c.read_frame.ensures.extends c.in_ok-read.ensures.read c.in_ok-read.ensures.frames c.in_ok-read.ensures.held c.in_ok-read.ensures.placed
+    c.in_ok-read.ensures.longer c.in_ok-put.ensures.last c.in_ok-add.ensures in
+    let t = cut_off N c.args.heads c.args.edges c.args.net.now.free ws fs nodes c.cut_all.new.nodes.items gs a (omega (arith, c.if-len-heads.true, c.len.ensures, c.read_frame.new.frames.ok.0)) (c.in_ok-cut_all.ensures.cut ws) in
+    tree_is_whole N c.args.heads c.args.edges c.cut_all.new.nodes.items t
+
+pub returns-then-len-heads : goal.returns-then-len-heads
+returns-then-len-heads c =
+    let N = net_of c.args.net.now in
+    let ws = c.read_frame.new.values in
+    let fs = c.read_frame.new.frames.items in
+    let nodes = c.put.new.nodes.items in
+    let gs = c.add.new.pending.items in
+    let a = after_read N c.args.heads c.args.edges c.args.net.now.free c.loop-pending.values ws c.loop-pending.frames.items fs c.loop-pending.frame c.loop-pending.nodes.items nodes c.loop-pending.pending.items gs
+    c.in_ok-read.read.0 c.in_ok-read.read.1 c.loop-pending.invariant c.read_frame.ensures.extends c.in_ok-read.ensures.read c.in_ok-read.ensures.frames c.in_ok-read.ensures.held c.in_ok-read.ensures.placed
+    c.in_ok-read.ensures.longer c.in_ok-put.ensures.last c.in_ok-add.ensures in
+    let t = cut_off N c.args.heads c.args.edges c.args.net.now.free ws fs nodes c.cut_all.new.nodes.items gs a (omega (arith, c.if-len-heads.true, c.len.ensures, c.read_frame.new.frames.ok.0)) (c.in_ok-cut_all.ensures.cut ws) in
+    subst (λ (ns : List ReadNode). IsTree N c.args.heads c.args.edges ns) (sym c.of-then-len-heads.ensures) t
+
+pub next-requires : goal.next-requires
+next-requires c =
+    let N = net_of c.args.net.now in
+    let ws = c.read_frame.new.values in
+    let fs = c.read_frame.new.frames.items in
+    let nodes = c.put.new.nodes.items in
+    let gs = c.add.new.pending.items in
+    let a = after_read N c.args.heads c.args.edges c.args.net.now.free c.loop-pending.values ws c.loop-pending.frames.items fs c.loop-pending.frame c.loop-pending.nodes.items nodes c.loop-pending.pending.items gs
+    c.in_ok-read.read.0 c.in_ok-read.read.1 c.loop-pending.invariant c.read_frame.ensures.extends c.in_ok-read.ensures.read c.in_ok-read.ensures.frames c.in_ok-read.ensures.held c.in_ok-read.ensures.placed
+    c.in_ok-read.ensures.longer c.in_ok-put.ensures.last c.in_ok-add.ensures in
+    a.held
+
+pub of-requires-in-None-clause-whole : goal.of-requires-in-None-clause-whole
+of-requires-in-None-clause-whole c =
+    let N = net_of c.args.net.now in
+    let ws = c.read_frame.new.values in
+    let fs = c.read_frame.new.frames.items in
+    let nodes = c.put.new.nodes.items in
+    let gs = c.add.new.pending.items in
+    let a = after_read N c.args.heads c.args.edges c.args.net.now.free c.loop-pending.values ws c.loop-pending.frames.items fs c.loop-pending.frame c.loop-pending.nodes.items nodes c.loop-pending.pending.items gs
+    c.in_ok-read.read.0 c.in_ok-read.read.1 c.loop-pending.invariant c.read_frame.ensures.extends c.in_ok-read.ensures.read c.in_ok-read.ensures.frames c.in_ok-read.ensures.held c.in_ok-read.ensures.placed
+    c.in_ok-read.ensures.longer c.in_ok-put.ensures.last c.in_ok-add.ensures in
+    let n = subst (λ (r : Option Frame). MatchOption r (NoneLeft ws gs) (λ f. IsNext ws c.next.new.values gs c.next.new.pending.items f)) c.in-None.is c.in_ok-following.ensures.next in
+    let t = ended N c.args.heads c.args.edges c.args.net.now.free ws fs nodes gs a n in
+    tree_is_whole N c.args.heads c.args.edges nodes t
+
+pub returns-in-None : goal.returns-in-None
+returns-in-None c =
+    let N = net_of c.args.net.now in
+    let ws = c.read_frame.new.values in
+    let fs = c.read_frame.new.frames.items in
+    let nodes = c.put.new.nodes.items in
+    let gs = c.add.new.pending.items in
+    let a = after_read N c.args.heads c.args.edges c.args.net.now.free c.loop-pending.values ws c.loop-pending.frames.items fs c.loop-pending.frame c.loop-pending.nodes.items nodes c.loop-pending.pending.items gs
+    c.in_ok-read.read.0 c.in_ok-read.read.1 c.loop-pending.invariant c.read_frame.ensures.extends c.in_ok-read.ensures.read c.in_ok-read.ensures.frames c.in_ok-read.ensures.held c.in_ok-read.ensures.placed
+    c.in_ok-read.ensures.longer c.in_ok-put.ensures.last c.in_ok-add.ensures in
+    let n = subst (λ (r : Option Frame). MatchOption r (NoneLeft ws gs) (λ f. IsNext ws c.next.new.values gs c.next.new.pending.items f)) c.in-None.is c.in_ok-following.ensures.next in
+    let t = ended N c.args.heads c.args.edges c.args.net.now.free ws fs nodes gs a n in
+    subst (λ (ns : List ReadNode). IsTree N c.args.heads c.args.edges ns) (sym c.of-in-None.ensures) t
+
+pub loop-pending-preserved : goal.loop-pending-preserved
+loop-pending-preserved c =
+    let N = net_of c.args.net.now in
+    let ws = c.read_frame.new.values in
+    let fs = c.read_frame.new.frames.items in
+    let nodes = c.put.new.nodes.items in
+    let gs = c.add.new.pending.items in
+    let a = after_read N c.args.heads c.args.edges c.args.net.now.free c.loop-pending.values ws c.loop-pending.frames.items fs c.loop-pending.frame c.loop-pending.nodes.items nodes c.loop-pending.pending.items gs
+    c.in_ok-read.read.0 c.in_ok-read.read.1 c.loop-pending.invariant c.read_frame.ensures.extends c.in_ok-read.ensures.read c.in_ok-read.ensures.frames c.in_ok-read.ensures.held c.in_ok-read.ensures.placed
+    c.in_ok-read.ensures.longer c.in_ok-put.ensures.last c.in_ok-add.ensures in
+    let n = subst (λ (r : Option Frame). MatchOption r (NoneLeft ws gs) (λ f. IsNext ws c.next.new.values gs c.next.new.pending.items f)) c.in-Some.is c.in_ok-following.ensures.next in
+    before_next N c.args.heads c.args.edges c.args.net.now.free ws c.next.new.values fs c.in-Some.argument nodes gs c.next.new.pending.items a c.next.ensures.extends n
+    (omega (arith, c.if-len-heads.false, c.len.ensures, c.read_frame.new.frames.ok.0)) c.in_ok-put.ensures.few

@@ -1,0 +1,11 @@
+pub mod Frames
+pub mod Matching
+pub mod Heads
+pub mod Fitting
+pub mod Trees
+pub mod Whole
+pub mod Groups
+pub mod Reading
+pub mod Names
+pub mod Texts
+pub mod Printing

@@ -1,0 +1,63 @@
+//! Asking a frame for its head.
+
+ghost use Rattle.std.specs.Prelude.{◌≡◌, ◌<◌, length, IfOk};
+ghost use Rattle.ol_net.specs.Numbered.{net_of};
+ghost use Rattle.ol_context.specs.Shapes.{Extends};
+ghost use Rattle.ol_readback.specs.Frames.{frames_of, ParentsFirst, AreHeldFrames, AreAtPorts};
+ghost use Rattle.ol_readback.specs.Heads.{IsHeadWithin, answer_of, IsHeldHead};
+
+use crate::answers::Head;
+use crate::frames::Frame;
+use crate::leaving::{leave, question};
+use ol_context::{Values, Walk, walk};
+use ol_io::NoMemory;
+use ol_net::Net;
+use std::alloc::Global;
+
+/// The head of frame `at`: asks it for 0, 1, 2 abstractions and so on, up to the number of live
+/// nodes, each time by a walk of at most `edges` crossings, until one leaves the net.
+///
+/// `Is` is what the first exit says. `Budget` comes exactly where one of these walks made all its
+/// crossings without an exit. `NoHead` comes exactly where none did, and either none of them leaves
+/// or nothing matches the exit. `NoMemory`: no memory was found. `at` is below the list's length,
+/// each parent stands before its child, each frame's port is a free port of the net, and all values
+/// are of this holder. Earlier values stay.
+pub fn head(
+    alloc: Global,
+    net: &Net,
+    values: &mut Values,
+    frames: &Vec<Frame>,
+    at: u32,
+    edges: u64,
+) -> Result<Head, NoMemory>
+    requires at { at < length frames.now.items }
+    requires parents { ParentsFirst (frames_of values.old frames.now.items) }
+    requires frames { AreHeldFrames values.old frames.now.items }
+    requires ports { AreAtPorts net.now.free frames.now.items }
+    ensures answer { IfOk result (λ h. IsHeadWithin (net_of net.now) (frames_of values.old frames.now.items) at edges (answer_of values.new h)) }
+    ensures held { IfOk result (λ h. IsHeldHead values.new h) }
+    ensures extends { Extends values.old values.new }
+{
+    let frame = &frames[at as usize];
+    let top = net.nodes();
+    let mut hole = values.empty();
+    let mut n: u32 = 0;
+    loop {
+        let context = question(alloc, &frame.levels, hole)?;
+        let walked = walk(net, values, frame.port, context, edges)?;
+        match walked {
+            Walk::Exit { port, context, .. } => {
+                let left = leave(alloc, values, frames, at, n, port, &context)?;
+                return Ok(left);
+            }
+            Walk::Budget => return Ok(Head::Budget),
+            Walk::Undefined { .. } => {
+                if n >= top {
+                    return Ok(Head::NoHead);
+                }
+                hole = values.put_o(hole)?;
+                n += 1;
+            }
+        }
+    }
+}

@@ -1,0 +1,148 @@
+//! What the exit of a walk says against a frame and the frames round it.
+
+ghost use Rattle.std.specs.Prelude.{◌≡◌, ◌<◌, ◌↔◌, ◌++◌, [], ◌∷◌, length, IfOk};
+ghost use Rattle.ol_context.specs.Shapes.{IsHeld, AreHeld, context_of};
+ghost use Rattle.ol_readback.specs.Frames.{frame_of, frames_of, ParentsFirst, AreHeldFrames};
+ghost use Rattle.ol_readback.specs.Fitting.{IsFitOf, IsNamed};
+ghost use Rattle.ol_readback.specs.Heads.{IsMatched, answer_of, IsHeldHead};
+
+use crate::answers::{Head, HeadVar};
+use crate::fitting::{fits, is_name};
+use crate::frames::Frame;
+use crate::levels::Levels;
+use ol_context::{Context, Val, Values};
+use ol_io::NoMemory;
+use std::alloc::{AllocError, Global};
+
+// The binder of this frame, counted from 0, and the number of arguments.
+fn fits_frame(
+    values: &Values,
+    frame: &Frame,
+    lams: u32,
+    port: u32,
+    context: &Context,
+) -> Result<Option<(u32, u32)>, NoMemory>
+    requires levels { AreHeld values.now frame.now.levels }
+    requires context { AreHeld values.now context.now }
+    ensures { IfOk result (λ r. IsFitOf (frame_of values.now frame.now) lams port (context_of values.now context.now) r) }
+{
+    if frame.port != port {
+        return Ok(None);
+    }
+    let levels = &frame.levels;
+    let fit = fits(values, &levels.levels, lams, context)?;
+    Ok(fit)
+}
+
+fn with_last(alloc: Global, levels: &[Val], last: Val) -> Result<Vec<Val>, AllocError>
+    ensures { IfOk result (λ r. r.items ≡ levels.now ++ last ∷ []) }
+{
+    let mut longer = Vec::from_slice(alloc, levels)?;
+    longer.push(last)?;
+    Ok(longer)
+}
+
+/// These levels and one more.
+pub fn push_level(alloc: Global, levels: &Levels, last: Val) -> Result<Levels, NoMemory>
+    ensures { IfOk result (λ r. r ≡ levels.now ++ last ∷ []) }
+{
+    let Ok(longer) = with_last(alloc, levels.levels.as_slice(), last) else {
+        return Err(NoMemory);
+    };
+    Ok(Levels::of(longer))
+}
+
+/// The context that begins with these levels and one more.
+pub fn question(alloc: Global, levels: &Levels, last: Val) -> Result<Context, NoMemory>
+    ensures { IfOk result (λ r. r ≡ levels.now ++ last ∷ []) }
+{
+    let Ok(longer) = with_last(alloc, levels.levels.as_slice(), last) else {
+        return Err(NoMemory);
+    };
+    Ok(Context::of(longer))
+}
+
+// The free name of a port, or no head.
+fn named(
+    alloc: Global,
+    values: &Values,
+    lams: u32,
+    port: u32,
+    context: &Context,
+) -> Result<Head, NoMemory>
+    requires { AreHeld values.now context.now }
+    ensures answer { IfOk result (λ h. IsNamed lams port (context_of values.now context.now) (answer_of values.now h)) }
+    ensures held { IfOk result (λ h. IsHeldHead values.now h) }
+{
+    let name = is_name(values, port, context)?;
+    match name {
+        None => Ok(Head::NoHead),
+        Some(args) => {
+            let first = context.level(values, 0);
+            let none = Levels::of(Vec::new(alloc));
+            let levels = push_level(alloc, &none, first)?;
+            Ok(Head::Is {
+                lams,
+                var: HeadVar::Free(port),
+                args,
+                at: levels,
+            })
+        }
+    }
+}
+
+/// What the exit by `port` with `context` says of the walk by which frame `at` was asked for `lams`
+/// abstractions.
+///
+/// The frames tried are frame `at` with `lams` abstractions, then its parent, and so on to the root;
+/// the nearest that fits decides. Where none fits, a port of at least 1 is a free name. `NoHead` comes
+/// exactly where nothing matches. `NoMemory`: no memory was found. `at` is below the list's length,
+/// each parent stands before its child, and all values are of this holder.
+pub fn leave(
+    alloc: Global,
+    values: &Values,
+    frames: &Vec<Frame>,
+    at: u32,
+    lams: u32,
+    port: u32,
+    context: &Context,
+) -> Result<Head, NoMemory>
+    requires at { at < length frames.now.items }
+    requires parents { ParentsFirst (frames_of values.now frames.now.items) }
+    requires frames { AreHeldFrames values.now frames.now.items }
+    requires context { AreHeld values.now context.now }
+    ensures answer { IfOk result (λ h. IsMatched (frames_of values.now frames.now.items) at lams port (context_of values.now context.now) (answer_of values.now h)) }
+    ensures held { IfOk result (λ h. IsHeldHead values.now h) }
+{
+    let mut i = at;
+    let mut abstractions = lams;
+    loop {
+        let frame = &frames[i as usize];
+        let fit = fits_frame(values, frame, abstractions, port, context)?;
+        match fit {
+            Some(found) => {
+                let last = context.level(values, frame.levels.len());
+                let levels = push_level(alloc, &frame.levels, last)?;
+                return Ok(Head::Is {
+                    lams,
+                    var: HeadVar::Bound {
+                        node: i,
+                        binder: found.0 + 1,
+                    },
+                    args: found.1,
+                    at: levels,
+                });
+            }
+            None => match frame.parent {
+                Some(parent) => {
+                    abstractions = frames[parent as usize].lams;
+                    i = parent;
+                }
+                None => {
+                    let last = named(alloc, values, lams, port, context)?;
+                    return Ok(last);
+                }
+            },
+        }
+    }
+}

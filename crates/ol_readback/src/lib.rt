@@ -1,0 +1,28 @@
+//! Reading a net back as a term by walks (Gonthier, Abadi and Lévy, The Geometry of Optimal Lambda
+//! Reduction, 1992).
+//!
+//! A subterm is asked for by a frame: a free port and a list of levels. The walk from that port, with
+//! these levels and then n times o, leaves the net for the least n that is the subterm's number of
+//! abstractions. Its exit says which variable is the head, and how many arguments it has.
+#![tactic(auto)]
+
+mod answers;
+mod asking;
+mod binder_names;
+mod fitting;
+mod frames;
+mod groups;
+mod leaving;
+mod levels;
+mod printing;
+mod reading;
+mod tree;
+
+pub use answers::{Head, HeadVar, ReadNode};
+pub use asking::head;
+pub use frames::Frame;
+pub use leaving::leave;
+pub use levels::Levels;
+pub use printing::tree_text;
+pub use reading::read_back;
+pub use tree::ReadTree;

@@ -1,0 +1,306 @@
+//! The printed text of a tree.
+
+ghost use Rattle.std.specs.Prelude.{◌≡◌, ◌+◌, ◌<◌, ◌≤◌, ◌++◌, [], ◌∷◌, length, IfOk, OnOk};
+ghost use Rattle.ol_readback.specs.Names.{binder_name};
+ghost use Rattle.ol_readback.specs.Texts.{IsNamedVar, IsNamedNode, AreNamed, spaced, abstractions, variable, IsTextOf};
+ghost use Rattle.ol_readback.specs.Printing.{AreNumbers, IsSeenVar, IsSeen, left_bracket, right_bracket, wants_bracket, printed, opened, Takes};
+
+use crate::answers::{HeadVar, ReadNode};
+use crate::binder_names::{number_of, put_name};
+use crate::tree::ReadTree;
+use ol_io::NoMemory;
+use ol_parse::Names;
+use std::alloc::Global;
+
+/// A head of which `left` arguments are still to be printed, each with `binders` binders round it. A
+/// bracket is closed after the last.
+#[derive(Clone, Copy, Drop)]
+pub struct Open {
+    pub left: u32,
+    pub binders: usize,
+    pub bracket: bool,
+}
+
+fn put(text: &mut Vec<u8>, byte: u8) -> Result<(), NoMemory>
+    ensures { OnOk result (text.new.items ≡ text.old.items ++ byte ∷ []) }
+{
+    let Ok(()) = text.push(byte) else {
+        return Err(NoMemory);
+    };
+    Ok(())
+}
+
+fn put_all(text: &mut Vec<u8>, bytes: &[u8]) -> Result<(), NoMemory>
+    ensures { OnOk result (text.new.items ≡ text.old.items ++ bytes.now) }
+{
+    let Ok(()) = text.extend_from_slice(bytes) else {
+        return Err(NoMemory);
+    };
+    Ok(())
+}
+
+// The name of a binder with `t` binders round it.
+fn put_binder(
+    alloc: Global,
+    names: &Names,
+    numbers: &mut Vec<u64>,
+    text: &mut Vec<u8>,
+    t: usize,
+) -> Result<(), NoMemory>
+    requires { AreNumbers names.now numbers.old.items }
+    ensures text { OnOk result (text.new.items ≡ text.old.items ++ binder_name names.now t) }
+    ensures numbers { AreNumbers names.now numbers.new.items }
+{
+    let number = number_of(alloc, names, numbers, t)?;
+    put_name(alloc, text, number)?;
+    Ok(())
+}
+
+fn sum(a: usize, b: u32) -> Result<usize, NoMemory>
+    ensures { IfOk result (λ r. r ≡ a + b) }
+{
+    match a.checked_add(b as usize) {
+        Some(sum) => Ok(sum),
+        None => Err(NoMemory),
+    }
+}
+
+// The names of `l` binders, the first with `t` binders round it, a space before each.
+fn put_spaced(
+    alloc: Global,
+    names: &Names,
+    numbers: &mut Vec<u64>,
+    text: &mut Vec<u8>,
+    t: usize,
+    l: u32,
+) -> Result<(), NoMemory>
+    requires { AreNumbers names.now numbers.old.items }
+    ensures text { OnOk result (text.new.items ≡ text.old.items ++ spaced names.now t l) }
+    ensures numbers { AreNumbers names.now numbers.new.items }
+{
+    for k in 0..l {
+        let binder = sum(t, k)?;
+        put(text, b' ')?;
+        put_binder(alloc, names, numbers, text, binder)?;
+    }
+    Ok(())
+}
+
+fn put_abstractions(
+    alloc: Global,
+    names: &Names,
+    numbers: &mut Vec<u64>,
+    text: &mut Vec<u8>,
+    t: usize,
+    l: u32,
+) -> Result<(), NoMemory>
+    requires { AreNumbers names.now numbers.old.items }
+    ensures text { OnOk result (text.new.items ≡ text.old.items ++ abstractions names.now t l) }
+    ensures numbers { AreNumbers names.now numbers.new.items }
+{
+    if l == 0 {
+        return Ok(());
+    }
+    let second = sum(t, 1)?;
+    put(text, b'\\')?;
+    put_binder(alloc, names, numbers, text, t)?;
+    put_spaced(alloc, names, numbers, text, second, l - 1)?;
+    put(text, b'.')?;
+    put(text, b' ')?;
+    Ok(())
+}
+
+// The variable of a head, where so many binders stand round each place.
+fn put_variable(
+    alloc: Global,
+    names: &Names,
+    numbers: &mut Vec<u64>,
+    rounds: &Vec<usize>,
+    text: &mut Vec<u8>,
+    var: HeadVar,
+) -> Result<(), NoMemory>
+    requires numbers { AreNumbers names.now numbers.old.items }
+    requires named { IsNamedVar (length names.now) var }
+    requires seen { IsSeenVar (length rounds.now.items) var }
+    ensures text { OnOk result (text.new.items ≡ text.old.items ++ variable names.now rounds.now.items var) }
+    ensures numbers { AreNumbers names.now numbers.new.items }
+{
+    match var {
+        HeadVar::Bound { node, binder } => {
+            let round = rounds[node as usize];
+            let t = sum(round, binder.saturating_sub(1))?;
+            put_binder(alloc, names, numbers, text, t)?;
+            Ok(())
+        }
+        HeadVar::Free(port) => {
+            let Some(name) = names.get(port - 1) else {
+                unreachable!()
+            };
+            put_all(text, name)?;
+            Ok(())
+        }
+    }
+}
+
+fn put_left(text: &mut Vec<u8>, bracket: bool) -> Result<(), NoMemory>
+    ensures { OnOk result (text.new.items ≡ text.old.items ++ left_bracket bracket) }
+{
+    if bracket {
+        put(text, b'(')?;
+    }
+    Ok(())
+}
+
+fn put_right(text: &mut Vec<u8>, bracket: bool) -> Result<(), NoMemory>
+    ensures { OnOk result (text.new.items ≡ text.old.items ++ right_bracket bracket) }
+{
+    if bracket {
+        put(text, b')')?;
+    }
+    Ok(())
+}
+
+// Whether brackets are needed round a place that is an argument.
+fn wants_bracket(argument: bool, node: ReadNode) -> bool
+    ensures { result ≡ wants_bracket argument node }
+{
+    match node {
+        ReadNode::Head { lams, args, .. } => argument && (lams > 0 || args > 0),
+        ReadNode::NoHead => false,
+        ReadNode::Cut => false,
+    }
+}
+
+// Prints a place, with a right bracket where it has no arguments, and opens it where it has some.
+fn put_place(
+    alloc: Global,
+    names: &Names,
+    numbers: &mut Vec<u64>,
+    rounds: &Vec<usize>,
+    text: &mut Vec<u8>,
+    pending: &mut Vec<Open>,
+    node: ReadNode,
+    t: usize,
+    bracket: bool,
+) -> Result<(), NoMemory>
+    requires numbers { AreNumbers names.now numbers.old.items }
+    requires named { IsNamedNode (length names.now) node }
+    requires seen { IsSeen (length rounds.now.items) node }
+    ensures text { OnOk result (text.new.items ≡ text.old.items ++ printed names.now rounds.now.items t bracket node) }
+    ensures pending { OnOk result (pending.new.items ≡ pending.old.items ++ opened t bracket node) }
+    ensures numbers { AreNumbers names.now numbers.new.items }
+{
+    match node {
+        ReadNode::NoHead => {
+            put(text, b'?')?;
+            Ok(())
+        }
+        ReadNode::Cut => {
+            put_all(text, b"...")?;
+            Ok(())
+        }
+        ReadNode::Head { lams, var, args } => {
+            put_left(text, bracket)?;
+            put_abstractions(alloc, names, numbers, text, t, lams)?;
+            put_variable(alloc, names, numbers, rounds, text, var)?;
+            if args == 0 {
+                put_right(text, bracket)?;
+                return Ok(());
+            }
+            let binders = sum(t, lams)?;
+            let Ok(()) = pending.push(Open {
+                left: args,
+                binders,
+                bracket,
+            }) else {
+                return Err(NoMemory);
+            };
+            Ok(())
+        }
+    }
+}
+
+// How many binders stand round the next argument. Heads whose arguments are all printed are closed.
+// None: no argument is left.
+fn take(text: &mut Vec<u8>, pending: &mut Vec<Open>) -> Result<Option<usize>, NoMemory>
+    ensures { IfOk result (λ r. Takes text.old.items pending.old.items r text.new.items pending.new.items) }
+{
+    loop {
+        match pending.pop() {
+            None => return Ok(None),
+            Some(head) => {
+                if head.left > 0 {
+                    let Ok(()) = pending.push(Open {
+                        left: head.left - 1,
+                        binders: head.binders,
+                        bracket: head.bracket,
+                    }) else {
+                        return Err(NoMemory);
+                    };
+                    return Ok(Some(head.binders));
+                }
+                put_right(text, head.bracket)?;
+            }
+        }
+    }
+}
+
+// Adds how many binders stand round one place more.
+fn add_round(rounds: &mut Vec<usize>, t: usize) -> Result<(), NoMemory>
+    ensures { OnOk result (rounds.new.items ≡ rounds.old.items ++ t ∷ []) }
+{
+    let Ok(()) = rounds.push(t) else {
+        return Err(NoMemory);
+    };
+    Ok(())
+}
+
+/// The printed text of a tree, as bytes.
+///
+/// Binders are named by the sequence a to z, a1 to z1, a2 to z2 and so on without the free names; a
+/// binder with t binders round it, on its own branch, has name number t. A head prints as `\`, its
+/// binders, `.` and a space, where it has some, and then its variable and its arguments, a space
+/// before each. An argument stands in brackets unless it is a variable alone. A place without a head
+/// prints as `?`, one that was cut as `...`. The free name of port q is name q - 1.
+///
+/// `NoMemory`: no memory was found. Each free name in the tree is one of `names`.
+pub fn tree_text(alloc: Global, tree: &ReadTree, names: &Names) -> Result<Vec<u8>, NoMemory>
+    requires free { AreNamed (length names.now) tree.now }
+    ensures { IfOk result (λ text. IsTextOf names.now tree.now text.items) }
+{
+    tree.is_whole();
+    let mut numbers: Vec<u64> = Vec::new(alloc);
+    let mut rounds: Vec<usize> = Vec::new(alloc);
+    let mut text: Vec<u8> = Vec::new(alloc);
+    let mut pending: Vec<Open> = Vec::new(alloc);
+    let mut t: usize = 0;
+    let mut argument = false;
+    for place in 0..tree.len() {
+        let Some(node) = tree.get(place) else {
+            unreachable!()
+        };
+        add_round(&mut rounds, t)?;
+        let bracket = wants_bracket(argument, node);
+        put_place(
+            alloc,
+            names,
+            &mut numbers,
+            &rounds,
+            &mut text,
+            &mut pending,
+            node,
+            t,
+            bracket,
+        )?;
+        let next = take(&mut text, &mut pending)?;
+        match next {
+            None => return Ok(text),
+            Some(binders) => {
+                put(&mut text, b' ')?;
+                t = binders;
+                argument = true;
+            }
+        }
+    }
+    Ok(text)
+}
