@@ -1,3 +1,11 @@
 mod Exact
 mod Evaluated
 mod OneAnswer
+mod Alike
+mod NamedNets
+mod ListedOnce
+mod Following
+mod TreeTransport
+mod OneTree
+mod TreeNames
+mod OneText

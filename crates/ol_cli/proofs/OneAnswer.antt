@@ -1,5 +1,5 @@
 -- The same words and bytes have one answer.
-use Rattle.std.proofs.Common.{◌≡◌, ℕ, ◌<◌, ◌≤◌, true, false, List, length, refl, sym, ap, ◌∙◌, subst, inl, inr, ◌⊎◌, arith, String, Global}
+use Rattle.std.proofs.Common.{◌≡◌, ℕ, ◌*◌, ◌<◌, ◌≤◌, true, false, List, [], length, refl, sym, ap, ◌∙◌, subst, inl, inr, ◌⊎◌, arith, String, Global}
 use Rattle.ol_parse.specs.Trees.{Tree}
 use Rattle.ol_parse.specs.SmallTexts.{IsClosedSmallText}
 use Rattle.ol_parse.proofs.Sizes.{closed, nameless}
@@ -16,10 +16,17 @@ use Rattle.ol_rules.proofs.StartNets.{start_net, start_named}
 use Rattle.ol_translate.specs.Translation.{translation_of}
 use Rattle.ol_translate.specs.Names.{HasNames}
 use Rattle.ol_translate.proofs.Whole.{translation_net}
+use Rattle.ol_readback.specs.Heads.{live}
+use Rattle.ol_readback.specs.Trees.{IsTree}
+use Rattle.ol_readback.specs.Texts.{IsTextOf}
+use Rattle.ol_cli.proofs.ListedOnce.{same_length}
+use Rattle.ol_cli.proofs.TreeTransport.{tree_same}
+use Rattle.ol_cli.proofs.OneTree.{one_tree}
+use Rattle.ol_cli.proofs.OneText.{one_text}
 use Rattle.ol_cli.specs.declared.status.Status.{Status}
 use Rattle.ol_cli.specs.declared.status.Status.TheVariants.{Done, Usage, Spent, ReadFault, WriteFault, NoMemory, NotBuilt}
 use Rattle.ol_cli.specs.Jobs.{is_job}
-use Rattle.ol_cli.specs.Texts.{usage_text, not_built_text, spent_text, counts_text}
+use Rattle.ol_cli.specs.Texts.{usage_text, not_built_text, spent_text, answer_text}
 use Rattle.ol_cli.specs.Evaluation.{RunsOut, Prints, TermAnswer}
 use Rattle.ol_cli.specs.Answers.{Evaluates, IsAnswer}
 
@@ -39,7 +46,11 @@ module _ (t : Tree) (is_net : IsNet (translation_of t 0)) (fuel : ℕ) where
   one_print text text' p p' =
       let o = one_thread_one N N p.net p'.net fuel p.journal p'.journal (start_net (translation_of t 0) is_net) (start_named (translation_of t 0)) (same_refl N) p.run p'.run in
       let stuck = one_stuck_count p'.net p.stuck p'.stuck (has_stuck_same p.net p'.net p.stuck o.1 p.counted) p'.counted in
-      p.written ∙ ap (λ es. counts_text (counts_of es) p.stuck) o.0 ∙ ap (λ n. counts_text (counts_of p'.journal) n) stuck ∙ sym p'.written
+      let size : live p.net ≡ live p'.net = same_length p.net p'.net o.1 p.once p'.once in
+      let read = subst (λ n. IsTree p'.net 4096 (2 * n) p.tree) size (tree_same p.net p'.net o.1 size 4096 (2 * live p.net) p.tree p.read) in
+      let tree : p.tree ≡ p'.tree = one_tree p'.net p'.is_net 4096 (2 * live p'.net) p.tree p'.tree read p'.read in
+      let term : p.term ≡ p'.term = one_text [] p'.tree p.term p'.term (subst (λ ns. IsTextOf [] ns p.term) tree p.shown) p'.shown in
+      p.written ∙ ap (λ x. answer_text x (counts_of p.journal) p.stuck) term ∙ ap (λ es. answer_text p'.term (counts_of es) p.stuck) o.0 ∙ ap (λ n. answer_text p'.term (counts_of p'.journal) n) stuck ∙ sym p'.written
 
 abbrev OfTerm : Tree → Status → List ℕ → Type 0
 OfTerm t s x = (RunsOut t 200000 × Same s Spent x (spent_text 200000)) ⊎ (Prints t 200000 x × (s ≡ Done))

@@ -1,5 +1,6 @@
 pub mod Texts
 pub mod Jobs
+pub mod Listing
 pub mod Evaluation
 pub mod Answers
 pub mod Laws

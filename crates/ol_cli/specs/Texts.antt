@@ -23,10 +23,11 @@ not_built_text = line (codes "not built")
 abbrev pub spent_text : ℕ → List ℕ
 spent_text fuel = count_line (codes "fuel") fuel
 
--- the nine lines: the number of interactions of each rule, and of the pairs that are stuck
-abbrev pub counts_text : Counts → ℕ → List ℕ
-counts_text c stuck =
-    count_line (codes "beta") c.beta
+-- the line of the term, and the nine lines: the number of interactions of each rule, and of the pairs that are stuck
+abbrev pub answer_text : List ℕ → Counts → ℕ → List ℕ
+answer_text term c stuck =
+    line term
+    ++ count_line (codes "beta") c.beta
     ++ count_line (codes "fan") c.fan
     ++ count_line (codes "croissant") c.croissant
     ++ count_line (codes "bracket") c.bracket

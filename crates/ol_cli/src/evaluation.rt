@@ -5,15 +5,19 @@ ghost use Rattle.ol_cli.specs.Answers.{Evaluates};
 ghost use Rattle.ol_cli.specs.Evaluation.{Prints, RunsOut, TermAnswer};
 
 use crate::status::Status;
-use crate::texts::{counts_lines, line, spent_line};
+use crate::texts::{answer_lines, line, spent_line};
 use ol_io::NoMemory;
 use ol_parse::{SmallFault, TermFile, parse_small};
+use ol_readback::{read_back, tree_text};
 use ol_rules::{Ended, counts, run};
 use ol_translate::{TransFault, translate};
 use std::alloc::Global;
 
 /// The greatest number of interactions.
 pub const FUEL: u32 = 200_000;
+
+/// The greatest number of subterms that are asked for their heads.
+pub const HEADS: u32 = 4096;
 
 /// A text that is to be written, and the status that goes with it.
 #[derive(Drop)]
@@ -38,7 +42,8 @@ pub fn evaluate(alloc: Global, bytes: &[u8]) -> Result<Answer, NoMemory>
     }
 }
 
-/// The answer to a closed term: its one-thread run within the fuel.
+/// The answer to a closed term: its one-thread run within the fuel, and the term that is read from
+/// the last net, each walk within twice as many crossings as the net has nodes.
 fn evaluate_term(alloc: Global, file: &TermFile) -> Result<Answer, NoMemory>
     requires no_names { file.now.names ≡ [] }
     requires nameless { is_named_below 0 (tree_of file.now.term) ≡ true }
@@ -61,7 +66,9 @@ fn evaluate_term(alloc: Global, file: &TermFile) -> Result<Answer, NoMemory>
             Ok(Answer { text, status })
         }
         Ended::Done => {
-            let text = counts_lines(alloc, counts(&ran.journal), net.stuck())?;
+            let tree = read_back(alloc, &net, HEADS, 2 * net.nodes() as u64)?;
+            let term = tree_text(alloc, &tree, &file.names)?;
+            let text = answer_lines(alloc, &term, counts(&ran.journal), net.stuck())?;
             let status = Status::Done;
             Ok(Answer { text, status })
         }

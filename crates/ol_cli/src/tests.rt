@@ -41,12 +41,21 @@ fn row(
 }
 
 const NO_STEP: &str =
-    "beta 0\nfan 0\ncroissant 0\nbracket 0\ncross-fan 0\ncross-croissant 0\ncross-bracket 0\nerase 0\nstuck 0\n";
+    "\\a. a\nbeta 0\nfan 0\ncroissant 0\nbracket 0\ncross-fan 0\ncross-croissant 0\ncross-bracket 0\nerase 0\nstuck 0\n";
 
 #[test]
-fn counts_of_small_terms(rt: HostRuntime) -> Result<(), Fail> {
+fn terms_and_counts(rt: HostRuntime) -> Result<(), Fail> {
     let alloc = rt.alloc();
     row(&rt, alloc, "\\x. x", &[], &[], Status::Done, NO_STEP)?;
+    row(
+        &rt,
+        alloc,
+        "\\x. \\y. x y",
+        &[],
+        &[],
+        Status::Done,
+        "\\a b. a b\nbeta 0\nfan 0\ncroissant 0\nbracket 0\ncross-fan 0\ncross-croissant 0\ncross-bracket 0\nerase 0\nstuck 0\n",
+    )?;
     row(
         &rt,
         alloc,
@@ -54,7 +63,7 @@ fn counts_of_small_terms(rt: HostRuntime) -> Result<(), Fail> {
         &[],
         &[],
         Status::Done,
-        "beta 1\nfan 0\ncroissant 1\nbracket 0\ncross-fan 0\ncross-croissant 2\ncross-bracket 0\nerase 0\nstuck 0\n",
+        "\\a. a\nbeta 1\nfan 0\ncroissant 1\nbracket 0\ncross-fan 0\ncross-croissant 2\ncross-bracket 0\nerase 0\nstuck 0\n",
     )?;
     row(
         &rt,
@@ -63,7 +72,7 @@ fn counts_of_small_terms(rt: HostRuntime) -> Result<(), Fail> {
         &[],
         &[],
         Status::Done,
-        "beta 2\nfan 1\ncroissant 3\nbracket 1\ncross-fan 2\ncross-croissant 6\ncross-bracket 2\nerase 0\nstuck 0\n",
+        "\\a. a\nbeta 2\nfan 1\ncroissant 3\nbracket 1\ncross-fan 2\ncross-croissant 6\ncross-bracket 2\nerase 0\nstuck 0\n",
     )
 }
 
@@ -106,7 +115,7 @@ fn faults_are_told(rt: HostRuntime) -> Result<(), Fail> {
     }
     row(&rt, alloc, "\\x. x", &[4], &[], Status::Done, NO_STEP)?;
     row(&rt, alloc, "\\x. x", &[], &[0], Status::WriteFault, "")?;
-    row(&rt, alloc, "\\x. x", &[], &[1], Status::WriteFault, "bet")?;
+    row(&rt, alloc, "\\x. x", &[], &[1], Status::WriteFault, "\\a.")?;
     row(&rt, alloc, "\\x. x", &[1], &[0], Status::WriteFault, "")
 }
 

@@ -1,6 +1,6 @@
 //! The texts that the program writes.
 ghost use Rattle.std.specs.Prelude.{◌≡◌, ◌++◌, IfOk, OnOk};
-ghost use Rattle.ol_cli.specs.Texts.{line, count_line, spent_text, counts_text};
+ghost use Rattle.ol_cli.specs.Texts.{line, count_line, spent_text, answer_text};
 
 use ol_io::NoMemory;
 use ol_rules::Counts;
@@ -25,11 +25,17 @@ pub fn spent_line(alloc: Global, fuel: u32) -> Result<Vec<u8>, NoMemory>
     Ok(text)
 }
 
-/// The nine lines of a run that ended: the interactions of each rule, and the pairs that are stuck.
-pub fn counts_lines(alloc: Global, counts: Counts, stuck: u32) -> Result<Vec<u8>, NoMemory>
-    ensures { IfOk result (λ text. text.items ≡ counts_text counts stuck) }
+/// The lines of a run that ended: its term, the interactions of each rule, and the pairs that are
+/// stuck.
+pub fn answer_lines(
+    alloc: Global,
+    term: &[u8],
+    counts: Counts,
+    stuck: u32,
+) -> Result<Vec<u8>, NoMemory>
+    ensures { IfOk result (λ text. text.items ≡ answer_text term.now counts stuck) }
 {
-    let mut text = Vec::new(alloc);
+    let mut text = term_line(alloc, term)?;
     add_count(alloc, &mut text, "beta", counts.beta)?;
     add_count(alloc, &mut text, "fan", counts.fan)?;
     add_count(alloc, &mut text, "croissant", counts.croissant)?;
@@ -39,6 +45,19 @@ pub fn counts_lines(alloc: Global, counts: Counts, stuck: u32) -> Result<Vec<u8>
     add_count(alloc, &mut text, "cross-bracket", counts.cross_bracket)?;
     add_count(alloc, &mut text, "erase", counts.erase)?;
     add_count(alloc, &mut text, "stuck", stuck)?;
+    Ok(text)
+}
+
+// A text and a line feed.
+fn term_line(alloc: Global, term: &[u8]) -> Result<Vec<u8>, NoMemory>
+    ensures { IfOk result (λ text. text.items ≡ line term.now) }
+{
+    let Ok(mut text) = Vec::from_slice(alloc, term) else {
+        return Err(NoMemory);
+    };
+    let Ok(()) = text.push(10) else {
+        return Err(NoMemory);
+    };
     Ok(text)
 }
 
