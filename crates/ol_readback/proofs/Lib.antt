@@ -9,3 +9,5 @@ pub mod Onward
 pub mod NameTexts
 pub mod Layers
 pub mod Printed
+pub mod One
+pub mod Kept

@@ -9,3 +9,4 @@ pub mod Reading
 pub mod Names
 pub mod Texts
 pub mod Printing
+pub mod Laws

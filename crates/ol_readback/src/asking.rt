@@ -1,10 +1,11 @@
 //! Asking a frame for its head.
 
-ghost use Rattle.std.specs.Prelude.{◌≡◌, ◌<◌, length, IfOk};
+ghost use Rattle.std.specs.Prelude.{◌≡◌, ◌<◌, ◌↔◌, length, IfOk};
 ghost use Rattle.ol_net.specs.Numbered.{net_of};
 ghost use Rattle.ol_context.specs.Shapes.{Extends};
-ghost use Rattle.ol_readback.specs.Frames.{frames_of, ParentsFirst, AreHeldFrames, AreAtPorts};
-ghost use Rattle.ol_readback.specs.Heads.{IsHeadWithin, answer_of, IsHeldHead};
+ghost use Rattle.ol_readback.specs.Frames.{frame_at, frames_of, ParentsFirst, AreHeldFrames, AreAtPorts};
+ghost use Rattle.ol_readback.specs.Heads.{IsHeadWithin, HasNoHead, MeetsBudget, answer_of, IsHeldHead};
+ghost use Rattle.ol_readback.specs.declared.answers.Head.TheVariants.{NoHead, Budget};
 
 use crate::answers::Head;
 use crate::frames::Frame;
@@ -35,9 +36,12 @@ pub fn head(
     requires frames { AreHeldFrames values.old frames.now.items }
     requires ports { AreAtPorts net.now.free frames.now.items }
     ensures answer { IfOk result (λ h. IsHeadWithin (net_of net.now) (frames_of values.old frames.now.items) at edges (answer_of values.new h)) }
+    ensures no_head { IfOk result (λ h. (h ≡ NoHead) ↔ HasNoHead (net_of net.now) (frames_of values.old frames.now.items) at edges) }
+    ensures budget { IfOk result (λ h. (h ≡ Budget) ↔ MeetsBudget (net_of net.now) (frame_at (frames_of values.old frames.now.items) at) edges) }
     ensures held { IfOk result (λ h. IsHeldHead values.new h) }
     ensures extends { Extends values.old values.new }
 {
+    net.is_net();
     let frame = &frames[at as usize];
     let top = net.nodes();
     let mut hole = values.empty();

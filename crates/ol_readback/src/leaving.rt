@@ -1,9 +1,11 @@
 //! What the exit of a walk says against a frame and the frames round it.
 
-ghost use Rattle.std.specs.Prelude.{◌≡◌, ◌<◌, ◌↔◌, ◌++◌, [], ◌∷◌, length, IfOk};
+ghost use Rattle.std.specs.Prelude.{◌≡◌, ◌≢◌, ◌<◌, ◌↔◌, ◌++◌, [], ◌∷◌, length, IfOk};
 ghost use Rattle.ol_context.specs.Shapes.{IsHeld, AreHeld, context_of};
 ghost use Rattle.ol_readback.specs.Frames.{frame_of, frames_of, ParentsFirst, AreHeldFrames};
 ghost use Rattle.ol_readback.specs.Fitting.{IsFitOf, IsNamed};
+ghost use Rattle.ol_readback.specs.Matching.{MatchesNothing};
+ghost use Rattle.ol_readback.specs.declared.answers.Head.TheVariants.{NoHead, Budget};
 ghost use Rattle.ol_readback.specs.Heads.{IsMatched, answer_of, IsHeldHead};
 
 use crate::answers::{Head, HeadVar};
@@ -112,6 +114,8 @@ pub fn leave(
     requires frames { AreHeldFrames values.now frames.now.items }
     requires context { AreHeld values.now context.now }
     ensures answer { IfOk result (λ h. IsMatched (frames_of values.now frames.now.items) at lams port (context_of values.now context.now) (answer_of values.now h)) }
+    ensures no_head { IfOk result (λ h. (h ≡ NoHead) ↔ MatchesNothing (frames_of values.now frames.now.items) port (context_of values.now context.now) at lams) }
+    ensures no_budget { IfOk result (λ h. h ≢ Budget) }
     ensures held { IfOk result (λ h. IsHeldHead values.now h) }
 {
     let mut i = at;

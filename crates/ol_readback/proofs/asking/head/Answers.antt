@@ -8,6 +8,8 @@ use Rattle.ol_readback.specs.Frames.{Frame, frame_at, frames_of, ParentsFirst, o
 use Rattle.ol_readback.specs.Heads.{answer_of, IsMatched}
 use Rattle.ol_readback.proofs.FrameLists.{frame_is, held_this, port_this, frames_more, held_frames_more}
 use Rattle.ol_readback.proofs.Trying.{asked_is, asked_held, walk_asked, fails_next, leaves_within, is_left, is_spent, is_none}
+use Rattle.ol_readback.specs.declared.answers.Head.TheVariants as answer
+use Rattle.ol_readback.proofs.One.{asked_no_head, asked_budget}
 use Rattle.ol_readback.proofs.asking.head.Goals as goal
 
 pub walk-requires-clause-port : goal.walk-requires-clause-port
@@ -94,3 +96,27 @@ loop-context-preserved c =
       within = let b = c.if-n-top.false in omega arith;
       fails = fails_next N (frame_at F c.args.at) c.args.edges c.loop-context.n c.in-Undefined.crossings c.walk.new.values i.fails w;
     }
+
+pub returns-in-Exit-clause-no_head : goal.returns-in-Exit-clause-no_head
+returns-in-Exit-clause-no_head c =
+    asked_no_head (net_of c.args.net.now) c.is_net.ensures.net (frames_of c.args.values.now c.args.frames.now.items) c.args.at c.args.edges c.walk.new.values c.in_ok-left-in-Exit.left (returns-in-Exit-clause-answer c)
+
+pub returns-in-Exit-clause-budget : goal.returns-in-Exit-clause-budget
+returns-in-Exit-clause-budget c =
+    asked_budget (net_of c.args.net.now) c.is_net.ensures.net (frames_of c.args.values.now c.args.frames.now.items) c.args.at c.args.edges c.walk.new.values c.in_ok-left-in-Exit.left (returns-in-Exit-clause-answer c)
+
+pub returns-in-Budget-clause-no_head : goal.returns-in-Budget-clause-no_head
+returns-in-Budget-clause-no_head c =
+    asked_no_head (net_of c.args.net.now) c.is_net.ensures.net (frames_of c.args.values.now c.args.frames.now.items) c.args.at c.args.edges c.walk.new.values answer.Budget (returns-in-Budget-clause-answer c)
+
+pub returns-in-Budget-clause-budget : goal.returns-in-Budget-clause-budget
+returns-in-Budget-clause-budget c =
+    asked_budget (net_of c.args.net.now) c.is_net.ensures.net (frames_of c.args.values.now c.args.frames.now.items) c.args.at c.args.edges c.walk.new.values answer.Budget (returns-in-Budget-clause-answer c)
+
+pub returns-then-n-top-clause-no_head : goal.returns-then-n-top-clause-no_head
+returns-then-n-top-clause-no_head c =
+    asked_no_head (net_of c.args.net.now) c.is_net.ensures.net (frames_of c.args.values.now c.args.frames.now.items) c.args.at c.args.edges c.walk.new.values answer.NoHead (returns-then-n-top-clause-answer c)
+
+pub returns-then-n-top-clause-budget : goal.returns-then-n-top-clause-budget
+returns-then-n-top-clause-budget c =
+    asked_budget (net_of c.args.net.now) c.is_net.ensures.net (frames_of c.args.values.now c.args.frames.now.items) c.args.at c.args.edges c.walk.new.values answer.NoHead (returns-then-n-top-clause-answer c)

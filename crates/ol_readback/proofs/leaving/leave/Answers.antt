@@ -8,6 +8,9 @@ use Rattle.ol_readback.specs.Fitting.{IsFitOf}
 use Rattle.ol_readback.specs.Heads.{answer_of}
 use Rattle.ol_readback.proofs.Climbing.{Climbing, climb_start, climb_on, climb_end, found_is, levels_found}
 use Rattle.ol_readback.proofs.FrameLists.{frame_is, held_this, count_frames}
+use Rattle.ol_readback.specs.declared.answers.HeadVar.TheVariants.{Bound}
+use Rattle.ol_readback.specs.declared.answers.Head.TheVariants.{Is}
+use Rattle.ol_readback.proofs.One.{left_no_head, left_no_budget}
 use Rattle.ol_readback.proofs.leaving.leave.Goals as goal
 
 pub loop-fit-init : goal.loop-fit-init
@@ -94,3 +97,16 @@ returns-in-None-parent-clause-answer c =
     let h = subst (λ (r : Option (ℕ × ℕ)). IsFitOf (frame_of vs f) c.loop-fit.abstractions c.args.port X r) c.in-None.is c.in_ok-fit.ensures in
     climb_end (frames_of vs fs) c.args.at c.args.lams c.args.port X c.loop-fit.i c.loop-fit.abstractions c.loop-fit.invariant (answer_of vs c.in_ok-last-in-None-parent.last)
     (subst (λ (f : Frame). NoFit f c.loop-fit.abstractions c.args.port X) (sym e) h) (ap (λ (f : Frame). f.parent) e ∙ c.in-None-parent.is) c.in_ok-last-in-None-parent.ensures.answer
+
+pub returns-in-Some-clause-no_head : goal.returns-in-Some-clause-no_head
+returns-in-Some-clause-no_head c =
+    left_no_head (frames_of c.args.values.now c.args.frames.now.items) c.args.at c.args.lams c.args.port (context_of c.args.values.now c.args.context.now) c.args.values.now
+    (Is c.args.lams (Bound c.loop-fit.i (c.in-Some.found.0 + 1)) c.in-Some.found.1 c.in_ok-levels-in-Some.levels) (returns-in-Some-clause-answer c)
+
+pub returns-in-None-parent-clause-no_head : goal.returns-in-None-parent-clause-no_head
+returns-in-None-parent-clause-no_head c =
+    left_no_head (frames_of c.args.values.now c.args.frames.now.items) c.args.at c.args.lams c.args.port (context_of c.args.values.now c.args.context.now) c.args.values.now c.in_ok-last-in-None-parent.last (returns-in-None-parent-clause-answer c)
+
+pub returns-in-None-parent-clause-no_budget : goal.returns-in-None-parent-clause-no_budget
+returns-in-None-parent-clause-no_budget c =
+    left_no_budget (frames_of c.args.values.now c.args.frames.now.items) c.args.at c.args.lams c.args.port (context_of c.args.values.now c.args.context.now) c.args.values.now c.in_ok-last-in-None-parent.last (returns-in-None-parent-clause-answer c)

@@ -1,0 +1,8 @@
+use Rattle.ol_readback.proofs.Kept.{heads_are_kept, found_is_head}
+use Rattle.ol_readback.proofs.laws.heads_kept.Goals as goal
+
+pub returns-clause-kept : goal.returns-clause-kept
+returns-clause-kept g c = heads_are_kept
+
+pub returns-clause-within : goal.returns-clause-within
+returns-clause-within g c = found_is_head

@@ -1,0 +1,44 @@
+-- The laws of heads and trees.
+use Rattle.std.specs.Prelude.{◌≡◌, ℕ, List}
+use Rattle.ol_net.specs.Nets.{NamedNet, free, IsNet}
+use Rattle.ol_context.specs.Contexts.{Context}
+use Rattle.ol_context.specs.Paths.{Path}
+use Rattle.ol_readback.specs.Frames.{Frame}
+use Rattle.ol_readback.specs.Heads.{Answer, head, IsMatched, IsHead, IsHeadWithin}
+use Rattle.ol_readback.specs.Trees.{IsTree}
+use Rattle.ol_readback.specs.Whole.{IsWhole}
+use Rattle.ol_readback.specs.declared.answers.HeadVar.{HeadVar}
+use Rattle.ol_readback.specs.declared.answers.ReadNode.{ReadNode}
+use Rattle.ol_context.specs.Contexts.{Level}
+
+-- an exit says one thing
+abbrev pub ExitIsOne : Type 0
+ExitIsOne = (frames : List Frame) (i n q : ℕ) (X : Context) (a b : Answer) → IsMatched frames i n q X a → IsMatched frames i n q X b → a ≡ b
+
+-- a frame has one head
+abbrev pub HeadIsOne : Type 0 → Type 0
+HeadIsOne A = (N : NamedNet A) → IsNet N → (frames : List Frame) (i : ℕ) (a b : Answer) → IsHead N frames i a → IsHead N frames i b → a ≡ b
+
+-- and within a budget too
+abbrev pub HeadWithinIsOne : Type 0 → Type 0
+HeadWithinIsOne A = (N : NamedNet A) → IsNet N → (frames : List Frame) (i edges : ℕ) (a b : Answer) → IsHeadWithin N frames i edges a → IsHeadWithin N frames i edges b → a ≡ b
+
+-- a net has one tree
+abbrev pub TreeIsOne : Type 0 → Type 0
+TreeIsOne A = (N : NamedNet A) → IsNet N → (heads edges : ℕ) (ns ms : List ReadNode) → IsTree N heads edges ns → IsTree N heads edges ms → ns ≡ ms
+
+-- a tree is whole
+abbrev pub TreeIsWhole : Type 0
+TreeIsWhole = (N : NamedNet ℕ) (heads edges : ℕ) (ns : List ReadNode) → IsTree N heads edges ns → IsWhole ns
+
+-- the same paths between free ports
+abbrev pub SamePaths : {A B : Type 0} → NamedNet A → NamedNet B → Type 0
+SamePaths N M = (p : ℕ) (c : Context) (q : ℕ) (d : Context) → (Path N (free p) c q d → Path M (free p) c q d) × (Path M (free p) c q d → Path N (free p) c q d)
+
+-- equal paths give equal heads
+abbrev pub HeadsKept : Type 0 → Type 0
+HeadsKept A = (N M : NamedNet A) → SamePaths N M → (frames : List Frame) (i : ℕ) (a : Answer) → IsHead N frames i a → IsHead M frames i a
+
+-- a head that was found within a budget is the head
+abbrev pub HeadIsHead : Type 0 → Type 0
+HeadIsHead A = (N : NamedNet A) (frames : List Frame) (i edges n k : ℕ) (v : HeadVar) (ls : List Level) → IsHeadWithin N frames i edges (head n v k ls) → IsHead N frames i (head n v k ls)
