@@ -1,6 +1,6 @@
 //! The holder of level values.
 
-ghost use Rattle.std.specs.Prelude.{◌≡◌, ◌+◌, ◌<◌, ◌↔◌, [], ◌∷◌, length, IfOk, OnErr, IsTrue};
+ghost use Rattle.std.specs.Prelude.{◌≡◌, ◌^◌, ◌<◌, ◌≤◌, ◌↔◌, [], ◌∷◌, length, IfOk, OnErr, IsTrue};
 ghost use Rattle.ol_context.specs.Contexts.{empty, o, star, pair};
 ghost use Rattle.ol_context.specs.Shapes.{value, IsHeld, IsNumberOf, Extends, IsBelow, tree_of};
 
@@ -52,7 +52,7 @@ pub struct Values {
 }
 
 impl Model for Values {
-    ghost use Rattle.std.specs.Prelude.{List};
+    ghost use Rattle.std.specs.Prelude.{◌^◌, ◌<◌, List, length};
     ghost use Rattle.ol_context.specs.Contexts.{Level};
     ghost use Rattle.ol_context.specs.Codes.{levels_code};
     ghost use Rattle.ol_context.specs.Trees.{trees, IsRow};
@@ -63,7 +63,7 @@ impl Model for Values {
 
     ghost view = { λ a. trees a.shapes.items };
 
-    ghost invariant = { λ a. IsRow 1 a.shapes.items };
+    ghost invariant = { λ a. IsRow 1 a.shapes.items × (length a.shapes.items < 2 ^ 32) };
 }
 
 impl Values {
@@ -74,6 +74,13 @@ impl Values {
         Values {
             shapes: Vec::new(alloc),
         }
+    }
+
+    /// Law: there are at most 2^32 values, so each number is below 2^32.
+    pub fn are_few(&self)
+        ensures few { length self.now ≤ 2 ^ 32 }
+    {
+        let _ = &self.shapes;
     }
 
     /// The empty value. Takes no memory.
@@ -154,7 +161,8 @@ impl Values {
         self.put(Shape::Pair(a, b))
     }
 
-    /// Whether two values of this holder are equal as trees. Equal values may have two numbers.
+    /// Whether two values of this holder are equal as trees. Equal values may have two numbers. The
+    /// trees are gone through together, down to parts that have the same number.
     ///
     /// `NoMemory`: no memory was found for what is still to be compared.
     pub fn same(&self, a: Val, b: Val) -> Result<bool, NoMemory>

@@ -1,7 +1,7 @@
 //! What nodes do to the levels of a context, in place. An index `i` is that of the node.
 
 ghost use Rattle.std.specs.List.{insert as inserted};
-ghost use Rattle.std.specs.Prelude.{◌≡◌, ℕ, ◌+◌, ◌-◌, ◌<◌, ◌≤◌, ◌++◌, length, replicate, IfOk, OnOk, OnErr, MatchOption};
+ghost use Rattle.std.specs.Prelude.{◌≡◌, ◌-◌, ◌<◌, ◌≤◌, ◌++◌, length, replicate, IfOk, OnOk, OnErr, MatchOption};
 ghost use Rattle.ol_net.specs.Parts.{arity};
 ghost use Rattle.ol_context.specs.Contexts.{empty, marked, cons, at_level, mark, packed, up};
 ghost use Rattle.ol_context.specs.Shapes.{value, IsHeld, AreHeld, Extends, IsNumberOf};

@@ -1,6 +1,6 @@
 //! Whether two level values are equal as trees.
 
-ghost use Rattle.std.specs.Prelude.{◌≡◌, ◌<◌, ◌↔◌, length, IfOk, IsTrue, MatchBool, MatchOption};
+ghost use Rattle.std.specs.Prelude.{◌≡◌, ◌↔◌, IfOk, IsTrue, MatchBool, MatchOption};
 ghost use Rattle.ol_context.specs.Contexts.{empty, o, star, pair};
 ghost use Rattle.ol_context.specs.Shapes.{value, IsHeld};
 ghost use Rattle.ol_context.specs.Comparing.{IsNoO, IsNoStar, IsNoPair, Goes};

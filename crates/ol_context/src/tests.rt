@@ -1,6 +1,6 @@
 //! Values, single crossings, and walks over the net of a small term.
 
-ghost use Rattle.std.specs.Prelude.{◌≡◌, ◌+◌, ◌<◌, ◌≤◌, IfOk};
+ghost use Rattle.std.specs.Prelude.{◌≡◌, IfOk};
 ghost use Rattle.ol_context.specs.Shapes.{IsHeld, AreHeld, Extends};
 
 use crate::{Context, Cross, Val, Values, Walk, cross, walk};

@@ -1,6 +1,6 @@
 //! Walks with a budget.
 
-ghost use Rattle.std.specs.Prelude.{◌≡◌, ℕ, ◌+◌, ◌-◌, ◌<◌, ◌≤◌, ◌↔◌, IfOk};
+ghost use Rattle.std.specs.Prelude.{◌<◌, IfOk};
 ghost use Rattle.ol_net.specs.Numbered.{net_of};
 ghost use Rattle.ol_context.specs.Shapes.{AreHeld, Extends, context_of};
 ghost use Rattle.ol_context.specs.Answers.{ExitsExactly, StopsExactly, StandsExactly, IsHeldExit};

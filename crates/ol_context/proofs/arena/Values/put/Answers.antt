@@ -7,8 +7,13 @@ use Rattle.ol_context.proofs.Shapes.{row_push, trees_push, trees_length, extends
 use Rattle.ol_context.proofs.arena.Values.put.Goals as goal
 
 pub invariant_of-self-2 : goal.invariant_of-self-2
-invariant_of-self-2 c = rw c.in-Ok.ensures.items (row_push 1 c.self.inside.shapes.items c.args.shape c.self.invariant
-    (subst (λ m. IsBelow m c.args.shape) (ap length (sym c.self.view_is) ∙ trees_length c.self.inside.shapes.items ∙ omega arith) c.requires))
+invariant_of-self-2 c =
+    let l = length_push c.self.inside.shapes.items c.args.shape in
+    rw c.in-Ok.ensures.items (
+      row_push 1 c.self.inside.shapes.items c.args.shape c.self.invariant.0
+          (subst (λ m. IsBelow m c.args.shape) (ap length (sym c.self.view_is) ∙ trees_length c.self.inside.shapes.items ∙ omega arith) c.requires),
+      omega (arith, c.self.inside.shapes.ok.0, c.len-count.ensures),
+    )
 
 pub returns-clause-extends : goal.returns-clause-extends
 returns-clause-extends c = rw (c.in-Ok.ensures.items, ← c.self.view_is, trees_push) (extends_push _ _)

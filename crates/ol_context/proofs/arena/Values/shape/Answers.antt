@@ -18,7 +18,7 @@ returns-clause-is c =
     let l = trees_length c.self.inside.shapes.items in
     let b : c.v.inside.at - 1 < length c.self.inside.shapes.items = omega arith in
     rw (← c.self.view_is, ← c.v.view_is, c.index.ensures)
-    (shape_at (empty ∷ []) c.self.inside.shapes.items (c.v.inside.at - 1) c.v.inside.at c.index.result.now c.self.invariant (omega arith) b)
+    (shape_at (empty ∷ []) c.self.inside.shapes.items (c.v.inside.at - 1) c.v.inside.at c.index.result.now c.self.invariant.0 (omega arith) b)
 
 pub returns-clause-held : goal.returns-clause-held
 returns-clause-held c =
@@ -26,7 +26,7 @@ returns-clause-held c =
     let l = trees_length c.self.inside.shapes.items in
     let b : c.v.inside.at - 1 < length c.self.inside.shapes.items = omega arith in
     rw (← c.self.view_is, c.index.ensures)
-    (below_more (1 + (c.v.inside.at - 1)) (length (trees c.self.inside.shapes.items)) _ (below_at 1 c.self.inside.shapes.items (c.v.inside.at - 1) c.index.result.now c.self.invariant b) (omega arith))
+    (below_more (1 + (c.v.inside.at - 1)) (length (trees c.self.inside.shapes.items)) _ (below_at 1 c.self.inside.shapes.items (c.v.inside.at - 1) c.index.result.now c.self.invariant.0 b) (omega arith))
 
 pub returns-clause-earlier : goal.returns-clause-earlier
 returns-clause-earlier c =
@@ -34,4 +34,4 @@ returns-clause-earlier c =
     let l = trees_length c.self.inside.shapes.items in
     let b : c.v.inside.at - 1 < length c.self.inside.shapes.items = omega arith in
     rw (← c.v.view_is, c.index.ensures)
-    (below_more (1 + (c.v.inside.at - 1)) c.v.inside.at _ (below_at 1 c.self.inside.shapes.items (c.v.inside.at - 1) c.index.result.now c.self.invariant b) (omega arith))
+    (below_more (1 + (c.v.inside.at - 1)) c.v.inside.at _ (below_at 1 c.self.inside.shapes.items (c.v.inside.at - 1) c.index.result.now c.self.invariant.0 b) (omega arith))
