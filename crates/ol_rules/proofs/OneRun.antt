@@ -29,13 +29,13 @@ one_name (Init m) (Born t p) h h' = absurd (cc)
 one_name (Born t p) (Init n) h h' = absurd (cc)
 one_name (Born t p) (Born u q) h h' = grind (arith, nat_tests)
 
-abbrev name_same : NodeName → NodeName → Bool
+abbrev pub name_same : NodeName → NodeName → Bool
 name_same (Init m) (Init n) = nat_eq m n
 name_same (Init m) (Born u q) = false
 name_same (Born t p) (Init n) = false
 name_same (Born t p) (Born u q) = nat_eq t u && nat_eq p q
 
-name_test : IsTest name_same
+pub name_test : IsTest name_same
 name_test = record { holds = holds; tells = tells }
   where
     holds : (a : NodeName) → name_same a a ≡ true
@@ -49,14 +49,14 @@ name_test = record { holds = holds; tells = tells }
     tells (Born t p) (Born u q) h = grind (arith, nat_tests)
 
 -- a ticket's names are new where those of all nodes were given before
-fresh_names : (N : NamedNet NodeName) (t : ℕ) → AreNamedBefore N t → IsFresh N (λ place. Born t place)
+pub fresh_names : (N : NamedNet NodeName) (t : ℕ) → AreNamedBefore N t → IsFresh N (λ place. Born t place)
 fresh_names N t b = record { apart = λ m n e. cc; unused = λ x m n p h e. clash p (subst (λ x. comes_before x (Born t 0) ≡ true) e (b x m n h)) }
   where
     clash : (p : ℕ) → comes_before (Born t p) (Born t 0) ≡ true → ⊥
     clash p h = grind (arith, nat_tests)
 
 -- and after its step they are names given before the next
-named_after : (N M : NamedNet NodeName) (t : ℕ) (f g : NodeName) (k : Kind) (i : ℕ) (l : Kind) (a : Action) → AreNamedBefore N t → Rewrites (λ place. Born t place) N f g k i l a M → AreNamedBefore M (suc t)
+pub named_after : (N M : NamedNet NodeName) (t : ℕ) (f g : NodeName) (k : Kind) (i : ℕ) (l : Kind) (a : Action) → AreNamedBefore N t → Rewrites (λ place. Born t place) N f g k i l a M → AreNamedBefore M (suc t)
 named_after N M t f g k i l a b r x m n h = go x m n ((r.nodes x m n).0 h)
   where
     later : (p q : ℕ) → comes_before (Born t p) (Born (suc t) q) ≡ true

@@ -1,0 +1,9 @@
+pub mod Rewire
+pub mod Moves
+pub mod Trails
+pub mod Table
+pub mod Named
+pub mod Steps
+pub mod Renamed
+pub mod Runs
+pub mod Afterwards

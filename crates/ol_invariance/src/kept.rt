@@ -1,0 +1,47 @@
+//! Steps and runs that say what they keep.
+
+ghost use Rattle.std.specs.Prelude.{◌≡◌, ◌≢◌, ℕ, ◌≤◌, ◌+◌, ◌*◌, ◌↔◌, length, OnErr, IfOk, Err, MatchOption};
+ghost use Rattle.ol_invariance.specs.Laws.{HaveSamePaths};
+ghost use Rattle.ol_net.specs.Graph.{facing_at};
+ghost use Rattle.ol_net.specs.Numbered.{net_of};
+ghost use Rattle.ol_net.specs.declared.parts.Facing.TheVariants.{Active};
+ghost use Rattle.ol_net.specs.declared.parts.Rule.{Rule};
+ghost use Rattle.ol_rules.specs.Runs.{IsComplete, HasActive, RunsTo, StopsWithin};
+ghost use Rattle.ol_rules.specs.Steps.{StepsAt};
+ghost use Rattle.ol_rules.specs.declared.one_thread.Ended.TheVariants as ended;
+ghost use Rattle.ol_rules.specs.declared.steps.StepFault.TheVariants.{NotActive};
+
+use ol_io::NoMemory;
+use ol_net::{Net, NodeId, Rule};
+use ol_rules::{Ran, StepFault, run, step};
+use std::alloc::Global;
+
+/// Makes a step as `ol_rules::step` does. Each path between free ports is there before and after,
+/// also after a refusal.
+pub fn step_kept(net: &mut Net, at: NodeId) -> Result<Rule, StepFault>
+    requires few { length net.old.nodes ≤ 2000000000 }
+    ensures steps { IfOk result (λ rule. StepsAt net.old net.new at.0 rule) }
+    ensures active { IfOk result (λ rule. facing_at net.old at ≡ Active rule) }
+    ensures not_active { result ≡ Err NotActive ↔ ((rule : Rule) → facing_at net.old at ≢ Active rule) }
+    ensures refused { OnErr result (net.new ≡ net.old) }
+    ensures paths { HaveSamePaths (net_of net.old) (net_of net.new) }
+{
+    net.is_net();
+    step(net, at)
+}
+
+/// Makes a run as `ol_rules::run` does. Each path between free ports is there before and after, also
+/// with `NoMemory`.
+pub fn run_kept(alloc: Global, net: &mut Net, fuel: u32) -> Result<Ran, NoMemory>
+    requires few { length net.old.nodes + 4 * fuel ≤ 2000000000 }
+    ensures runs { IfOk result (λ ran. RunsTo net.old fuel ran.journal net.new) }
+    ensures done { IfOk result (λ ran. (ran.ended ≡ ended.Done) ↔ IsComplete (net_of net.new)) }
+    ensures spent { IfOk result (λ ran. (ran.ended ≡ ended.Spent) ↔ ((length ran.journal ≡ fuel) × HasActive (net_of net.new))) }
+    ensures no_memory { OnErr result (StopsWithin net.old fuel net.new) }
+    ensures paths { HaveSamePaths (net_of net.old) (net_of net.new) }
+{
+    net.is_net();
+    let ran = run(alloc, net, fuel);
+    net.is_net();
+    ran
+}
