@@ -1,0 +1,249 @@
+-- A run along a journal is a run by birth names.
+use Rattle.std.proofs.Common.{◌≡◌, ℕ, suc, Bool, true, false, nat_eq, ◌&&◌, cond, List, [], ◌∷◌, ◌⊎◌, inl, inr, refl, sym, ap, ◌∙◌, subst, arith, eq-eqb}
+use Rattle.std.proofs.lemmas.Bool.Decides.{nat_tests}
+use Rattle.ol_edges.specs.Edges.{IsTest}
+use Rattle.ol_net.specs.declared.parts.Kind.{Kind}
+use Rattle.ol_net.specs.Nets.{slot, NamedNet, HasNode, IsNet, Faces, net_under}
+use Rattle.ol_rules.specs.declared.journal.NodeName.{NodeName}
+use Rattle.ol_rules.specs.declared.journal.NodeName.TheVariants.{Init, Born}
+use Rattle.ol_rules.specs.declared.journal.Entry.{Entry}
+use Rattle.ol_rules.specs.Names.{comes_before}
+use Rattle.ol_rules.specs.Rewriting.{Action, action_of, NodeOf, left, of_f, of_g, Rewrites}
+use Rattle.ol_rules.specs.Laws.{IsFresh, AreNamedBefore}
+use Rattle.ol_rules.specs.Runs.{IsEntryStep, IsRun, IsComplete}
+use Rattle.ol_rules.specs.Runs as runs
+use Rattle.ol_rules.proofs.NameOrder.{before_before}
+use Rattle.ol_rules.proofs.Relation.{same_sym, net_kept}
+use Rattle.ol_rules.proofs.Renaming.{node_from, net_alike, active_to}
+use Rattle.ol_rules.proofs.Same.{complete_same}
+use Rattle.ol_rules.proofs.UnderNames.{complete_under}
+use Rattle.ol_diamond.specs.Births.{BirthName, init, born, IsPart, IsBirthNet}
+use Rattle.ol_diamond.specs.Runs.{Pair, IsSamePair, IsPairStep, IsPairRun, end, then, pair_under, AreBirths}
+use Rattle.ol_diamond.specs.Laws.{BirthFollows, CompleteFollows}
+use Rattle.ol_diamond.proofs.Births.{fresh_of}
+use Rattle.ol_diamond.proofs.Confluence.{step_keeps, take}
+use Rattle.ol_diamond.proofs.Renaming.{IsRenamed, under_renamed, renamed_under, renamed_net, agree, renamed}
+
+-- ---- journal names
+
+abbrev name_same : NodeName → NodeName → Bool
+name_same (Init m) (Init n) = nat_eq m n
+name_same (Init m) (Born u q) = false
+name_same (Born t p) (Init n) = false
+name_same (Born t p) (Born u q) = nat_eq t u && nat_eq p q
+
+name_test : IsTest name_same
+name_test = record { holds = holds; tells = tells }
+  where
+    holds : (a : NodeName) → name_same a a ≡ true
+    holds (Init m) = grind (arith, nat_tests)
+    holds (Born t p) = grind (arith, nat_tests)
+
+    tells : (a b : NodeName) → name_same a b ≡ true → a ≡ b
+    tells (Init m) (Init n) h = let e : m ≡ n = grind (arith, nat_tests) in ap (λ n. Init n) e
+    tells (Init m) (Born u q) h = absurd (cc)
+    tells (Born t p) (Init n) h = absurd (cc)
+    tells (Born t p) (Born u q) h = grind (arith, nat_tests)
+
+-- a name that was given before this ticket
+abbrev IsBefore : NodeName → ℕ → Type 0
+IsBefore x t = comes_before x (Born t 0) ≡ true
+
+on_before : (t p : ℕ) → IsBefore (Born t p) (suc t)
+on_before t p = grind (arith, nat_tests)
+
+still_before : (x : NodeName) (t : ℕ) → IsBefore x t → IsBefore x (suc t)
+still_before x t h = before_before x (Born t 0) (Born (suc t) 0) h (on_before t 0)
+
+start_name : (x : NodeName) → IsBefore x 0 → (k : ℕ) × (x ≡ Init k)
+start_name (Init k) h = (k, refl)
+start_name (Born t p) h = absurd (clash h)
+  where
+    clash : IsBefore (Born t p) 0 → ⊥
+    clash h = grind (arith, nat_tests)
+
+-- a ticket's names are new where those of all nodes were given before
+fresh_names : (N : NamedNet NodeName) (t : ℕ) → AreNamedBefore N t → IsFresh N (λ place. Born t place)
+fresh_names N t b = record { apart = λ m n e. cc; unused = λ x m n p h e. clash p (subst (λ x. IsBefore x t) e (b x m n h)) }
+  where
+    clash : (p : ℕ) → IsBefore (Born t p) t → ⊥
+    clash p h = grind (arith, nat_tests)
+
+-- and after its step they are names given before the next
+named_after : (N M : NamedNet NodeName) (t : ℕ) (f g : NodeName) (k : Kind) (i : ℕ) (l : Kind) (a : Action) → AreNamedBefore N t → Rewrites (λ place. Born t place) N f g k i l a M → AreNamedBefore M (suc t)
+named_after N M t f g k i l a b r x m n h = go x m n ((r.nodes x m n).0 h)
+  where
+    go : (x : NodeName) (m : Kind) (n : ℕ) → NodeOf N (λ place. Born t place) f g k i l a x m n → IsBefore x (suc t)
+    go x m n (left h y z) = still_before x t (b x m n h)
+    go x m n (of_f {q = q} j e c) = on_before t q
+    go x m n (of_g j e c) = on_before t _
+
+-- ---- birth names
+
+-- once this ticket rewrote f and g
+later : (NodeName → BirthName) → ℕ → BirthName → BirthName → NodeName → BirthName
+later m t f g (Init k) = m (Init k)
+later m t f g (Born u place) = cond (nat_eq u t) (born f g place) (m (Born u place))
+
+later_old : (m : NodeName → BirthName) (t : ℕ) (f g : BirthName) (x : NodeName) → IsBefore x t → later m t f g x ≡ m x
+unfolding later
+later_old m t f g (Init k) h = refl
+later_old m t f g (Born u place) h = let e : nat_eq u t ≡ false = grind (arith, nat_tests) in ap (λ b. cond b (born f g place) (m (Born u place))) e
+
+later_new : (m : NodeName → BirthName) (t : ℕ) (f g : BirthName) (place : ℕ) → later m t f g (Born t place) ≡ born f g place
+unfolding later
+later_new m t f g place = ap (λ b. cond b (born f g place) (m (Born t place))) (eq-eqb t t refl)
+
+-- ---- one step
+
+-- the nets before this ticket, by the journal's names and by birth names
+record Together (N : NamedNet NodeName) (t : ℕ) (m : NodeName → BirthName) (B : NamedNet BirthName) : Type 0 where
+  net : IsNet N
+  before : AreNamedBefore N t
+  birth_net : IsBirthNet B
+  renames : IsRenamed m N B
+
+record OneOn (M : NamedNet NodeName) (t : ℕ) (e : Entry) (m : NodeName → BirthName) (B : NamedNet BirthName) : Type 0 where
+  pair : Pair
+  first : IsBefore e.first t
+  second : IsBefore e.second t
+  same : IsSamePair pair (pair_under m e)
+  after : NamedNet BirthName
+  step : IsPairStep B pair after
+  names : NodeName → BirthName
+  old : (x : NodeName) → IsBefore x t → names x ≡ m x
+  new : (place : ℕ) → names (Born t place) ≡ born pair.f pair.g place
+  on : Together M (suc t) names after
+
+abbrev Either : Entry → NodeName → NodeName → Type 0
+Either e f g = ((e.first ≡ f) × (e.second ≡ g)) ⊎ ((e.first ≡ g) × (e.second ≡ f))
+
+one_on : (N M : NamedNet NodeName) (t : ℕ) (e : Entry) (m : NodeName → BirthName) (B : NamedNet BirthName) → Together N t m B → IsEntryStep N t e M → OneOn M t e m B
+one_on N M t e m B tg s =
+    let x = s.step.active in
+    let f = m s.f in
+    let g = m s.g in
+    let f_before = tg.before s.f x.k x.i x.faces.first in
+    let g_before = tg.before s.g x.l x.j x.faces.second in
+    let faces : Faces B f g x.k x.i x.l x.j = record { first = tg.renames.nodes_to s.f x.k x.i x.faces.first; second = tg.renames.nodes_to s.g x.l x.j x.faces.second; linked = tg.renames.links_to (slot s.f 0) (slot s.g 0) x.faces.linked } in
+    let p : Pair = record { f = f; g = g; rule = e.rule } in
+    let a = take B tg.birth_net p x.k x.i x.l x.j faces x.fits in
+    let m' = later m t f g in
+    let ef = later_old m t f g s.f f_before in
+    let eg = later_old m t f g s.g g_before in
+    let r = agree m m' N B tg.net (λ y k i h. later_old m t f g y (tg.before y k i h)) tg.renames in
+    let fresh = fresh_names N t tg.before in
+    let fresh' = fresh_of B tg.birth_net f g x.k x.l x.i x.j faces.first faces.second in
+    let w = subst (λ g'. Rewrites (born f g) B (m' s.f) g' x.k x.i x.l (action_of e.rule x.j) a.after) (sym eg) (subst (λ f'. Rewrites (born f g) B f' g x.k x.i x.l (action_of e.rule x.j) a.after) (sym ef) a.rewrites) in
+    record {
+      pair = p;
+      first = first_before s.named.pair f_before g_before;
+      second = second_before s.named.pair f_before g_before;
+      same = (refl, named s.named.pair);
+      after = a.after;
+      step = a.step;
+      names = m';
+      old = later_old m t f g;
+      new = later_new m t f g;
+      on = record {
+        net = net_kept name_same name_test (λ place. Born t place) N s.f s.g x.k x.i x.l x.j e.rule tg.net x.faces fresh x.fits M s.step.rewrites;
+        before = named_after N M t s.f s.g x.k x.i x.l (action_of e.rule x.j) tg.before s.step.rewrites;
+        birth_net = step_keeps B a.after p tg.birth_net a.step;
+        renames = renamed m' N B r tg.net s.f s.g x.k x.i x.l x.j (action_of e.rule x.j) x.faces (λ place. Born t place) (born f g) fresh fresh' (later_new m t f g) M a.after s.step.rewrites w;
+      };
+    }
+  where
+    first_before : Either e s.f s.g → IsBefore s.f t → IsBefore s.g t → IsBefore e.first t
+    first_before (inl h) a b = subst (λ x. IsBefore x t) (sym h.0) a
+    first_before (inr h) a b = subst (λ x. IsBefore x t) (sym h.0) b
+
+    second_before : Either e s.f s.g → IsBefore s.f t → IsBefore s.g t → IsBefore e.second t
+    second_before (inl h) a b = subst (λ x. IsBefore x t) (sym h.1) b
+    second_before (inr h) a b = subst (λ x. IsBefore x t) (sym h.1) a
+
+    named : Either e s.f s.g → ((m s.f ≡ m e.first) × (m s.g ≡ m e.second)) ⊎ ((m s.f ≡ m e.second) × (m s.g ≡ m e.first))
+    named (inl h) = inl (ap m (sym h.0), ap m (sym h.1))
+    named (inr h) = inr (ap m (sym h.1), ap m (sym h.0))
+
+-- ---- runs
+
+record AllOn (M : NamedNet NodeName) (t : ℕ) (es : List Entry) (m : NodeName → BirthName) (B : NamedNet BirthName) : Type 0 where
+  pairs : List Pair
+  after : NamedNet BirthName
+  run : IsPairRun B pairs after
+  names : NodeName → BirthName
+  old : (x : NodeName) → IsBefore x t → names x ≡ m x
+  births : AreBirths names t es pairs
+  net : IsNet M
+  renames : IsRenamed names M after
+
+all_on : (N M : NamedNet NodeName) (t : ℕ) (es : List Entry) (m : NodeName → BirthName) (B : NamedNet BirthName) → Together N t m B → IsRun N t es M → AllOn M t es m B
+all_on N M t [] m B tg runs.IsRun.end = record { pairs = []; after = B; run = end; names = m; old = λ x h. refl; births = tt; net = tg.net; renames = tg.renames }
+all_on N M t (e ∷ es) m B tg (runs.IsRun.then {M = K} s r) =
+    let a = one_on N K t e m B tg s in
+    let b = all_on K M (suc t) es a.names a.after a.on r in
+    let old : (x : NodeName) → IsBefore x t → b.names x ≡ m x = λ x h. b.old x (still_before x t h) ∙ a.old x h in
+    record {
+      pairs = a.pair ∷ b.pairs;
+      after = b.after;
+      run = then a.step b.run;
+      names = b.names;
+      old = old;
+      births = (alike a.pair b.names (old e.first a.first) (old e.second a.second) a.same, (λ place. b.old (Born t place) (on_before t place) ∙ a.new place), b.births);
+      net = b.net;
+      renames = b.renames;
+    }
+  where
+    alike : (p : Pair) (n : NodeName → BirthName) → n e.first ≡ m e.first → n e.second ≡ m e.second → IsSamePair p (pair_under m e) → IsSamePair p (pair_under n e)
+    alike p n x y (r, inl h) = (r, inl (h.0 ∙ sym x, h.1 ∙ sym y))
+    alike p n x y (r, inr h) = (r, inr (h.0 ∙ sym y, h.1 ∙ sym x))
+
+-- ---- from a net of start nodes
+
+abbrev by_number : NodeName → BirthName
+by_number (Init k) = init k
+by_number (Born t place) = init 0
+
+module _ (N : NamedNet NodeName) (net : IsNet N) (before : AreNamedBefore N 0) where
+  start_apart : (x y : NodeName) (k l : Kind) (i j : ℕ) → HasNode N x k i → HasNode N y l j → by_number x ≡ by_number y → x ≡ y
+  start_apart x y k l i j h h' e = go x y (start_name x (before x k i h)) (start_name y (before y l j h')) e
+    where
+      go : (x y : NodeName) → (n : ℕ) × (x ≡ Init n) → (n : ℕ) × (y ≡ Init n) → by_number x ≡ by_number y → x ≡ y
+      go x y (m, a) (n, b) e = let z : init m ≡ init n = ap by_number (sym a) ∙ e ∙ ap by_number b in let w : m ≡ n = cc in a ∙ ap (λ n. Init n) w ∙ sym b
+
+  start_renamed : IsRenamed by_number N (net_under by_number N)
+  start_renamed = under_renamed by_number N start_apart
+
+  start_net : IsBirthNet (net_under by_number N)
+  start_net = record { net = renamed_net by_number N (net_under by_number N) start_renamed net; no_part = no_part }
+    where
+      whole : (x : BirthName) (y : NodeName) → (n : ℕ) × (y ≡ Init n) → IsPart x (by_number y) → ⊥
+      whole x y (n, e) p = subst (λ y. IsPart x (by_number y)) e p
+
+      no_part : (x y : BirthName) (k l : Kind) (i j : ℕ) → HasNode (net_under by_number N) x k i → HasNode (net_under by_number N) y l j → IsPart x y → ⊥
+      no_part x y k l i j h h' p = let t = node_from by_number N y l j h' in whole x t.0 (start_name t.0 (before t.0 l j t.1)) (subst (λ y. IsPart x y) t.2 p)
+
+  along : (M : NamedNet NodeName) (journal : List Entry) → IsRun N 0 journal M → AllOn M 0 journal by_number (net_under by_number N)
+  along M journal r = all_on N M 0 journal by_number (net_under by_number N) (record { net = net; before = before; birth_net = start_net; renames = start_renamed }) r
+
+pub birth_follows : BirthFollows
+birth_follows N M journal net before r =
+    let a = along N net before M journal r in
+    let e : net_under a.names N ≡ net_under by_number N = net_alike a.names by_number N net (λ x k i h. a.old x (before x k i h)) in
+    record {
+      birth = a.names;
+      initial = λ k. a.old (Init k) refl;
+      pairs = a.pairs;
+      births = a.births;
+      start = subst (λ B. IsBirthNet B) (sym e) (start_net N net before);
+      after = a.after;
+      run = subst (λ B. IsPairRun B a.pairs a.after) (sym e) a.run;
+      same = renamed_under a.names M a.after a.renames;
+      apart = a.renames.apart;
+    }
+
+pub complete_follows : CompleteFollows
+complete_follows N M journal net before run r = (
+  (λ c. complete_same (net_under r.birth M) r.after (same_sym r.after (net_under r.birth M) r.same) (complete_under r.birth M (along N net before M journal run).net r.apart c)),
+  (λ c f g rule a. complete_same r.after (net_under r.birth M) r.same c (r.birth f) (r.birth g) rule (active_to r.birth M f g rule a)),
+)

@@ -1,0 +1,3 @@
+pub mod Births
+pub mod Runs
+pub mod Laws

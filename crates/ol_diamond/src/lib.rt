@@ -1,0 +1,60 @@
+//! Strong confluence: the rewriting of sharing graphs comes to one net in one number of steps,
+//! whatever the order in which pairs are taken.
+//!
+//! Two rewrites that share no node commute, as in any interaction net (Yves Lafont, *Interaction
+//! Nets*, 1990). The laws are said over birth names. A node that a rewrite makes is named by the two
+//! nodes that were rewritten and its place, and not by the moment at which it came, so a rewrite
+//! depends on its pair alone, and both orders give the very same names. A journal's names tell the
+//! moment (the ticket); the last law takes them to birth names.
+//!
+//! There is no code here, only definitions and what follows from them.
+#![tactic(auto)]
+
+ghost use Rattle.ol_diamond.specs.Laws.{StartIsBirthNet, StepKeepsBirthNet, RunKeepsBirthNet, PairsCommute, DoneMeansDone, PairToFront, NoRunHasMore, NoRunIsLonger, CompleteRunsHaveOnePairs, CompleteRunsLeaveOneNet, BirthFollows, CompleteFollows};
+
+/// Where no node's name is a proper part of another's, no node is there already that a rewrite will
+/// make. A net of start nodes is such a net, and each step and each run keeps it.
+pub fn names_stay_apart()
+    ensures start { StartIsBirthNet }
+    ensures step { StepKeepsBirthNet }
+    ensures run { RunKeepsBirthNet }
+{}
+
+/// Two different active pairs of a net share no node. Each is still active after the other was
+/// rewritten, and both orders leave one net.
+pub fn pairs_commute()
+    ensures { PairsCommute }
+{}
+
+/// A net has no active pair exactly where it has no step.
+pub fn done_means_done()
+    ensures { DoneMeansDone }
+{}
+
+/// A pair that is active now stands in each complete run. The run with the pair moved to its front
+/// is complete too, and leaves the same net.
+pub fn pair_to_front()
+    ensures { PairToFront }
+{}
+
+/// No run from a net has a pair that a complete run from this net hasn't, nor has it a pair more
+/// often, so it is no longer.
+pub fn no_run_is_longer()
+    ensures pairs { NoRunHasMore }
+    ensures length { NoRunIsLonger }
+{}
+
+/// Complete runs from one net have the same pairs, each as often, and leave one net.
+pub fn complete_runs_agree()
+    ensures pairs { CompleteRunsHaveOnePairs }
+    ensures net { CompleteRunsLeaveOneNet }
+{}
+
+/// A run along a journal from a net of start nodes is, entry by entry, a run by birth names: each
+/// entry is the step of its two nodes under these names, and the nodes that it made are named by
+/// them. The net that the journal leads to is that run's net, and the one is complete exactly where
+/// the other is.
+pub fn birth_follows()
+    ensures follows { BirthFollows }
+    ensures complete { CompleteFollows }
+{}
