@@ -1,18 +1,18 @@
 -- A run along a journal is a run by birth names.
-use Rattle.std.proofs.Common.{◌≡◌, ℕ, suc, Bool, true, false, nat_eq, ◌&&◌, cond, List, [], ◌∷◌, ◌⊎◌, inl, inr, refl, sym, ap, ◌∙◌, subst, arith, eq-eqb}
+use Rattle.std.proofs.Common.{◌≡◌, ℕ, suc, true, false, nat_eq, cond, List, [], ◌∷◌, ◌⊎◌, inl, inr, refl, sym, ap, ◌∙◌, subst, arith, eq-eqb}
 use Rattle.std.proofs.lemmas.Bool.Decides.{nat_tests}
-use Rattle.ol_edges.specs.Edges.{IsTest}
 use Rattle.ol_net.specs.declared.parts.Kind.{Kind}
 use Rattle.ol_net.specs.Nets.{slot, NamedNet, HasNode, IsNet, Faces, net_under}
 use Rattle.ol_rules.specs.declared.journal.NodeName.{NodeName}
 use Rattle.ol_rules.specs.declared.journal.NodeName.TheVariants.{Init, Born}
 use Rattle.ol_rules.specs.declared.journal.Entry.{Entry}
 use Rattle.ol_rules.specs.Names.{comes_before}
-use Rattle.ol_rules.specs.Rewriting.{Action, action_of, NodeOf, left, of_f, of_g, Rewrites}
-use Rattle.ol_rules.specs.Laws.{IsFresh, AreNamedBefore}
+use Rattle.ol_rules.specs.Rewriting.{action_of, Rewrites}
+use Rattle.ol_rules.specs.Laws.{AreNamedBefore}
 use Rattle.ol_rules.specs.Runs.{IsEntryStep, IsRun, IsComplete}
 use Rattle.ol_rules.specs.Runs as runs
 use Rattle.ol_rules.proofs.NameOrder.{before_before}
+use Rattle.ol_rules.proofs.OneRun.{name_same, name_test, fresh_names, named_after}
 use Rattle.ol_rules.proofs.Relation.{same_sym, net_kept}
 use Rattle.ol_rules.proofs.Renaming.{node_from, net_alike, active_to}
 use Rattle.ol_rules.proofs.Same.{complete_same}
@@ -25,25 +25,6 @@ use Rattle.ol_diamond.proofs.Confluence.{step_keeps, take}
 use Rattle.ol_diamond.proofs.Renaming.{IsRenamed, under_renamed, renamed_under, renamed_net, agree, renamed}
 
 -- ---- journal names
-
-abbrev name_same : NodeName → NodeName → Bool
-name_same (Init m) (Init n) = nat_eq m n
-name_same (Init m) (Born u q) = false
-name_same (Born t p) (Init n) = false
-name_same (Born t p) (Born u q) = nat_eq t u && nat_eq p q
-
-name_test : IsTest name_same
-name_test = record { holds = holds; tells = tells }
-  where
-    holds : (a : NodeName) → name_same a a ≡ true
-    holds (Init m) = grind (arith, nat_tests)
-    holds (Born t p) = grind (arith, nat_tests)
-
-    tells : (a b : NodeName) → name_same a b ≡ true → a ≡ b
-    tells (Init m) (Init n) h = let e : m ≡ n = grind (arith, nat_tests) in ap (λ n. Init n) e
-    tells (Init m) (Born u q) h = absurd (cc)
-    tells (Born t p) (Init n) h = absurd (cc)
-    tells (Born t p) (Born u q) h = grind (arith, nat_tests)
 
 -- a name that was given before this ticket
 abbrev IsBefore : NodeName → ℕ → Type 0
@@ -61,22 +42,6 @@ start_name (Born t p) h = absurd (clash h)
   where
     clash : IsBefore (Born t p) 0 → ⊥
     clash h = grind (arith, nat_tests)
-
--- a ticket's names are new where those of all nodes were given before
-fresh_names : (N : NamedNet NodeName) (t : ℕ) → AreNamedBefore N t → IsFresh N (λ place. Born t place)
-fresh_names N t b = record { apart = λ m n e. cc; unused = λ x m n p h e. clash p (subst (λ x. IsBefore x t) e (b x m n h)) }
-  where
-    clash : (p : ℕ) → IsBefore (Born t p) t → ⊥
-    clash p h = grind (arith, nat_tests)
-
--- and after its step they are names given before the next
-named_after : (N M : NamedNet NodeName) (t : ℕ) (f g : NodeName) (k : Kind) (i : ℕ) (l : Kind) (a : Action) → AreNamedBefore N t → Rewrites (λ place. Born t place) N f g k i l a M → AreNamedBefore M (suc t)
-named_after N M t f g k i l a b r x m n h = go x m n ((r.nodes x m n).0 h)
-  where
-    go : (x : NodeName) (m : Kind) (n : ℕ) → NodeOf N (λ place. Born t place) f g k i l a x m n → IsBefore x (suc t)
-    go x m n (left h y z) = still_before x t (b x m n h)
-    go x m n (of_f {q = q} j e c) = on_before t q
-    go x m n (of_g j e c) = on_before t _
 
 -- ---- birth names
 
