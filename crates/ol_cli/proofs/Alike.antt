@@ -1,5 +1,5 @@
 -- The one-thread run from a net is that from the same net, and nodes that are listed once stay so.
-use Rattle.std.proofs.Common.{◌≡◌, ℕ, List, [], ◌∷◌, inl, inr}
+use Rattle.std.proofs.Common.{ℕ, List, [], ◌∷◌, inl, inr}
 use Rattle.ol_net.specs.Nets.{NamedNet, SameNet}
 use Rattle.ol_rules.specs.declared.journal.NodeName.{NodeName}
 use Rattle.ol_rules.specs.declared.journal.Entry.{Entry}
@@ -34,7 +34,7 @@ runs_alike M N P fuel journal s n p o =
     let k = leads_alike M N P 0 journal s n p o.leads in
     record {
       net = k.net;
-      run = record { leads = k.run; within = o.within; ended = elim o.ended [ | inl c ↦ inl (complete_same P k.net k.same c) | inr e ↦ inr e ] };
+      run = record { leads = k.run; within = o.within; ended = elim o.ended [ inl c ↦ inl (complete_same P k.net k.same c) | inr e ↦ inr e ] };
       same = k.same;
       once = k.once;
     }

@@ -1,6 +1,6 @@
 -- The free names in the tree of a net are those of its free ports, and a run keeps the free ports.
-use Rattle.std.proofs.Common.{◌≡◌, ℕ, zero, suc, ◌+◌, ◌-◌, ◌<◌, ◌≤◌, List, [], ◌∷◌, ◌++◌, length, map, refl, sym, ap, ◌∙◌, subst, arith, inl, inr, ◌⊎◌}
-use Rattle.ol_net.specs.Nets.{NamedNet, NamedPort, free, Linked, IsPort, IsNet, SameNet, net_under}
+use Rattle.std.proofs.Common.{◌≡◌, ℕ, suc, ◌-◌, ◌<◌, List, [], ◌∷◌, map, refl, ◌∙◌, arith}
+use Rattle.ol_net.specs.Nets.{NamedNet, NamedPort, free, IsNet}
 use Rattle.ol_rules.specs.declared.journal.NodeName.{NodeName}
 use Rattle.ol_rules.specs.declared.journal.Entry.{Entry}
 use Rattle.ol_rules.specs.Runs.{IsLeadRun, end, then}
@@ -8,12 +8,11 @@ use Rattle.ol_context.specs.Contexts.{Level, Context}
 use Rattle.ol_context.specs.Paths.{Path, ends, goes}
 use Rattle.ol_readback.specs.Frames.{Frame}
 use Rattle.ol_readback.specs.Matching.{Matches, here, above, name}
-use Rattle.ol_readback.specs.Heads.{Answer, head, IsMatched, matched, IsHeadWithin, leaves}
+use Rattle.ol_readback.specs.Heads.{head, matched, IsHeadWithin, leaves}
 use Rattle.ol_readback.specs.Trees as trees
 use Rattle.ol_readback.specs.Trees.{Subterm, Reads, past, spent, lost, found, IsTree}
-use Rattle.ol_readback.specs.Texts.{IsNamedVar, IsNamedNode, AreNamed}
+use Rattle.ol_readback.specs.Texts.{IsNamedVar, AreNamed}
 use Rattle.ol_readback.specs.declared.answers.HeadVar.{HeadVar}
-use Rattle.ol_readback.specs.declared.answers.HeadVar.TheVariants as var
 use Rattle.ol_readback.specs.declared.answers.ReadNode.{ReadNode}
 use Rattle.ol_readback.specs.declared.answers.ReadNode.TheVariants as node
 

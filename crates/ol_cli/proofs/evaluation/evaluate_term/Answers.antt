@@ -38,5 +38,5 @@ returns c =
     let tree = subst (λ n. IsTree (net_of c.run.new.net) 4096 (2 * n) c.in_ok-tree-in-Done.tree) c.nodes.ensures.nodes c.in_ok-tree-in-Done.ensures in
     let term : IsTextOf [] c.in_ok-tree-in-Done.tree c.in_ok-term-in-Done.term.items = subst (λ names. IsTextOf names c.in_ok-tree-in-Done.tree c.in_ok-term-in-Done.term.items) c.requires.no_names c.in_ok-term-in-Done.ensures in
     let text : c.in_ok-text-in-Done.text.items ≡ answer_text c.in_ok-term-in-Done.term.items (counts_of c.in_ok-ran.ran.journal) c.stuck.result =
-        c.in_ok-text-in-Done.ensures ∙ ap (λ (x : List ℕ). answer_text x c.counts.result c.stuck.result) c.deref.ensures.value ∙ ap (λ (x : Counts). answer_text c.in_ok-term-in-Done.term.items x c.stuck.result) c.counts.ensures in
+    c.in_ok-text-in-Done.ensures ∙ ap (λ (x : List ℕ). answer_text x c.counts.result c.stuck.result) c.deref.ensures.value ∙ ap (λ (x : Counts). answer_text c.in_ok-term-in-Done.term.items x c.stuck.result) c.counts.ensures in
     record { answer = prints _ c.in-Ok.net _ 200000 c.in_ok-ran.ran.journal start c.is_net.ensures.net c.in_ok-ran.ensures.runs _ _ _ _ (c.in_ok-ran.ensures.done.0 c.in-Done.is) c.stuck.ensures.stuck tree term text }
