@@ -11,3 +11,4 @@ pub mod Layers
 pub mod Printed
 pub mod One
 pub mod Kept
+pub mod Named

@@ -22,7 +22,7 @@ use Rattle.ol_readback.proofs.FrameLists.{count_frames, frames_more, held_frames
 use Rattle.ol_readback.proofs.Forests.{frame_stays, frame_last, matches_head}
 
 -- the ports of exits
-path_port : {N : NamedNet ℕ} → IsNet N → {p : NamedPort ℕ} {c : Context} {q : ℕ} {d : Context} → Path N p c q d → q < N.free_ports
+pub path_port : {N : NamedNet ℕ} → IsNet N → {p : NamedPort ℕ} {c : Context} {q : ℕ} {d : Context} → Path N p c q d → q < N.free_ports
 path_port n {p = p} {q = q} (ends l) = (n.of_ports p (nets.free q) l).1
 path_port n (goes l h x r) = path_port n r
 

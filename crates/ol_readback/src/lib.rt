@@ -17,6 +17,8 @@ mod leaving;
 mod levels;
 mod printing;
 mod reading;
+#[cfg(test)]
+mod tests;
 mod tree;
 
 pub use answers::{Head, HeadVar, ReadNode};

@@ -105,8 +105,7 @@ fn put_abstractions(
     put(text, b'\\')?;
     put_binder(alloc, names, numbers, text, t)?;
     put_spaced(alloc, names, numbers, text, second, l - 1)?;
-    put(text, b'.')?;
-    put(text, b' ')?;
+    put_all(text, b". ")?;
     Ok(())
 }
 

@@ -1,10 +1,11 @@
 //! Reading a whole net back.
 
-ghost use Rattle.std.specs.Prelude.{◌≡◌, ℕ, ◌+◌, ◌^◌, ◌<◌, ◌≤◌, ◌++◌, [], ◌∷◌, List, length, replicate, option_to_list, IfOk, OnOk};
+ghost use Rattle.std.specs.Prelude.{◌≡◌, ℕ, ◌+◌, ◌-◌, ◌^◌, ◌<◌, ◌≤◌, ◌++◌, [], ◌∷◌, List, length, replicate, option_to_list, IfOk, OnOk};
 ghost use Rattle.ol_net.specs.Numbered.{net_of};
 ghost use Rattle.ol_context.specs.Contexts.{Level};
 ghost use Rattle.ol_context.specs.Shapes.{Extends};
 ghost use Rattle.ol_readback.specs.Frames.{frames_of};
+ghost use Rattle.ol_readback.specs.Texts.{AreNamed};
 ghost use Rattle.ol_readback.specs.Trees.{IsTree, port_of};
 ghost use Rattle.ol_readback.specs.Groups.{AreHeldIn, ArePlacedIn, IsNextFrame};
 ghost use Rattle.ol_readback.specs.Reading.{IsFrameList, IsKnown, IsRead, cuts_of};
@@ -132,12 +133,15 @@ fn cut_all(nodes: &mut Vec<ReadNode>, pending: &mut Vec<Group>) -> Result<(), No
 ///
 /// The first `heads` places are asked for their heads, each by walks of at most `edges` crossings.
 /// Every later place is `Cut`, and so is each whose answer is `Head::Budget`. `NoMemory`: no memory
-/// was found. `heads` is at least 1, and the net has a free port.
+/// was found. `heads` is at least 1, and the net has a free port. The free names of the tree are
+/// those of the net's other free ports, from 1 on.
 pub fn read_back(alloc: Global, net: &Net, heads: u32, edges: u64) -> Result<ReadTree, NoMemory>
     requires heads { 1 ≤ heads }
     requires root { 0 < net.now.free }
-    ensures { IfOk result (λ t. IsTree (net_of net.now) heads edges t) }
+    ensures tree { IfOk result (λ t. IsTree (net_of net.now) heads edges t) }
+    ensures names { IfOk result (λ t. AreNamed (net.now.free - 1) t) }
 {
+    net.is_net();
     let mut values = Values::new(alloc);
     let mut frames: Vec<Frame> = Vec::new(alloc);
     let mut nodes: Vec<ReadNode> = Vec::new(alloc);
@@ -148,11 +152,12 @@ pub fn read_back(alloc: Global, net: &Net, heads: u32, edges: u64) -> Result<Rea
         parent: None,
         lams: 0,
     };
+    let most = heads as usize;
     loop {
         let read = read_frame(alloc, net, &mut values, &mut frames, frame, edges)?;
         put(&mut nodes, read.0)?;
         add(&mut pending, read.1)?;
-        if frames.len() >= heads as usize {
+        if frames.len() >= most {
             cut_all(&mut nodes, &mut pending)?;
             return Ok(ReadTree::of(nodes));
         }
