@@ -31,7 +31,7 @@ use Rattle.ol_cli.proofs.NamedNets.{named_net}
 use Rattle.ol_cli.proofs.Alike.{RunsAlike, runs_alike}
 use Rattle.ol_cli.proofs.ListedOnce.{net_of_once, net_of_parts_once, net_under_once, same_length}
 use Rattle.ol_cli.proofs.TreeTransport.{tree_same, tree_under}
-use Rattle.ol_cli.proofs.TreeNames.{same_ports}
+use Rattle.ol_cli.proofs.KeptPorts.{same_ports}
 
 -- a naming gives two numbers that were given out two names
 naming_apart : (start : ℕ) (made : List NodeName) (names : ℕ → NodeName) → IsNaming start made names → (j k : ℕ) → j < start + length made → k < start + length made → names j ≡ names k → j ≡ k

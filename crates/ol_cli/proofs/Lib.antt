@@ -7,5 +7,5 @@ mod ListedOnce
 mod Following
 mod TreeTransport
 mod OneTree
-mod TreeNames
+mod KeptPorts
 mod OneText
