@@ -1,5 +1,5 @@
 -- The free names of a tree are those of free ports.
-use Rattle.std.proofs.Common.{◌≡◌, ℕ, ◌-◌, ◌<◌, ◌≤◌, List, [], ◌∷◌, map, arith}
+use Rattle.std.proofs.Common.{ℕ, ◌-◌, ◌<◌, List, [], ◌∷◌, map, arith}
 use Rattle.ol_net.specs.Nets.{NamedNet, IsNet}
 use Rattle.ol_context.specs.Contexts.{Level, Context}
 use Rattle.ol_readback.specs.Frames.{Frame}
