@@ -20,8 +20,8 @@ number_of status.WriteFault = 5
 number_of status.NoMemory = 6
 number_of status.NotBuilt = 8
 
--- What a term file of at most 1,024 bytes is answered: it isn't a small text, its run has more than 200,000 steps, or its
--- counts are printed.
+-- What a term file of at most 1,024 bytes is answered: it isn't a small text, its run has more than 200,000 steps, or the
+-- term of its last net and its counts are printed.
 abbrev pub Evaluates : List ℕ → Status → List ℕ → Type 0
 Evaluates bytes status.NotBuilt text = ((t : Tree) → IsClosedSmallText bytes t → ⊥) × (text ≡ not_built_text)
 Evaluates bytes st text = (t : Tree) × IsClosedSmallText bytes t × TermAnswer t st text

@@ -31,7 +31,7 @@ pub record RunsOut (t : Tree) (fuel : ℕ) : Type 0 where
   pub left : HasActive net
 
 -- The run ends within `fuel` steps. The text has the term that is read from its net, of which the first 4,096 subterms are asked,
--- each by walks of at most twice as many crossings as there are nodes; then its counts, and the stuck pairs that are left.
+-- each by walks of at most twice as many crossings as there are nodes (so each node is to be listed once); then its counts, and the stuck pairs that are left.
 pub record Prints (t : Tree) (fuel : ℕ) (text : List ℕ) : Type 0 where
   pub journal : List Entry
   pub net : NamedNet NodeName

@@ -15,8 +15,8 @@ const MOST_BYTES: usize = 1024;
 
 /// Does what the words ask for, and tells it to the sink. The words are those of a command line,
 /// the program's name first; the one job is `run -`, which reads a term from standard input,
-/// rewrites its net on one thread and writes how often each rule was applied. No gate is passed yet,
-/// since there are no workers.
+/// rewrites its net on one thread, and writes the term that is read back from the last net and how
+/// often each rule was applied. No gate is passed yet, since there are no workers.
 pub fn ol<S: Source, W: Sink, G: Gate + Sync>(
     alloc: Global,
     words: &Vec<String>,

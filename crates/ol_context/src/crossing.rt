@@ -43,7 +43,7 @@ fn cross_node(
 }
 
 /// Enters a node by the port `at`, which is a port of a live node, and changes the context, whose
-/// levels are of this holder. Costs at most the number of levels that are moved or put in.
+/// levels are of this holder.
 ///
 /// `Undefined` comes exactly where no crossing is defined, and then the context is unchanged.
 /// `NoMemory`: no memory was found, and the context is unchanged.

@@ -1,13 +1,15 @@
 -- Strong confluence (Lafont, Interaction Nets, 1990): over birth names a step depends on its pair alone, and so the order of steps doesn't matter.
 use Rattle.std.specs.Prelude.{◌≡◌, ◌≢◌, ℕ, ◌≤◌, ◌↔◌, List, ◌∷◌, ◌++◌, length, count_by, Bool}
 use Rattle.ol_net.specs.declared.parts.Kind.{Kind}
+use Rattle.ol_net.specs.declared.parts.Rule.{Rule}
 use Rattle.ol_net.specs.Nets.{NamedNet, HasNode, IsNet, SameNet, net_under}
 use Rattle.ol_rules.specs.declared.journal.NodeName.{NodeName}
 use Rattle.ol_rules.specs.declared.journal.NodeName.TheVariants.{Init}
 use Rattle.ol_rules.specs.declared.journal.Entry.{Entry}
-use Rattle.ol_rules.specs.Laws.{AreNamedBefore}
+use Rattle.ol_rules.specs.Counting.{is_rule}
+use Rattle.ol_rules.specs.Laws.{AreNamedBefore, IsFresh}
 use Rattle.ol_rules.specs.Runs.{IsRun, IsComplete}
-use Rattle.ol_diamond.specs.Births.{BirthName, init, IsBirthNet}
+use Rattle.ol_diamond.specs.Births.{BirthName, init, born, IsBirthNet}
 use Rattle.ol_diamond.specs.Runs.{Pair, IsSamePair, IsOfPairs, IsPairStep, IsPairRun, AreBirths}
 
 -- Each name of a net of start nodes is no part of another, each step keeps this, and so does each run.
@@ -19,6 +21,10 @@ StepKeepsBirthNet = (N M : NamedNet BirthName) (p : Pair) → IsBirthNet N → I
 
 abbrev pub RunKeepsBirthNet : Type 0
 RunKeepsBirthNet = (N M : NamedNet BirthName) (ps : List Pair) → IsBirthNet N → IsPairRun N ps M → IsBirthNet M
+
+-- No node of such a net has a name that a rewrite of two of its nodes would give.
+abbrev pub BornIsFresh : Type 0
+BornIsFresh = (N : NamedNet BirthName) (f g : BirthName) (k l : Kind) (i j : ℕ) → IsBirthNet N → HasNode N f k i → HasNode N g l j → IsFresh N (born f g)
 
 -- Two different active pairs share no node, each is active after the other, and both orders leave one net.
 abbrev pub PairsCommute : Type 0
@@ -47,6 +53,11 @@ NoRunIsLonger = (N M P : NamedNet BirthName) (ps qs : List Pair) → IsBirthNet 
 abbrev pub CompleteRunsHaveOnePairs : Type 0
 CompleteRunsHaveOnePairs = (N M P : NamedNet BirthName) (ps qs : List Pair) → IsBirthNet N → IsPairRun N ps M → IsComplete M → IsPairRun N qs P → IsComplete P →
     (test : Pair → Bool) → IsOfPairs test → count_by test ps ≡ count_by test qs
+
+-- so each rule as often,
+abbrev pub CompleteRunsHaveOneCounts : Type 0
+CompleteRunsHaveOneCounts = (N M P : NamedNet BirthName) (ps qs : List Pair) → IsBirthNet N → IsPairRun N ps M → IsComplete M → IsPairRun N qs P → IsComplete P →
+    (r : Rule) → count_by (λ (p : Pair). is_rule p.rule r) ps ≡ count_by (λ (p : Pair). is_rule p.rule r) qs
 
 -- and leave one net.
 abbrev pub CompleteRunsLeaveOneNet : Type 0

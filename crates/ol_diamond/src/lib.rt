@@ -1,5 +1,5 @@
-//! Strong confluence: the rewriting of sharing graphs comes to one net in one number of steps,
-//! whatever the order in which pairs are taken.
+//! Strong confluence: where one run of a sharing graph is complete, all complete runs leave one net,
+//! in one number of steps, whatever the order in which pairs are taken.
 //!
 //! Two rewrites that share no node commute, as in any interaction net (Yves Lafont, *Interaction
 //! Nets*, 1990). The laws are said over birth names. A node that a rewrite makes is named by the two
@@ -10,7 +10,7 @@
 //! There is no code here, only definitions and what follows from them.
 #![tactic(auto)]
 
-ghost use Rattle.ol_diamond.specs.Laws.{StartIsBirthNet, StepKeepsBirthNet, RunKeepsBirthNet, PairsCommute, DoneMeansDone, PairToFront, NoRunHasMore, NoRunIsLonger, CompleteRunsHaveOnePairs, CompleteRunsLeaveOneNet, BirthFollows, CompleteFollows};
+ghost use Rattle.ol_diamond.specs.Laws.{StartIsBirthNet, StepKeepsBirthNet, RunKeepsBirthNet, BornIsFresh, PairsCommute, DoneMeansDone, PairToFront, NoRunHasMore, NoRunIsLonger, CompleteRunsHaveOnePairs, CompleteRunsHaveOneCounts, CompleteRunsLeaveOneNet, BirthFollows, CompleteFollows};
 
 /// Where no node's name is a proper part of another's, no node is there already that a rewrite will
 /// make. A net of start nodes is such a net, and each step and each run keeps it.
@@ -18,6 +18,7 @@ pub fn names_stay_apart()
     ensures start { StartIsBirthNet }
     ensures step { StepKeepsBirthNet }
     ensures run { RunKeepsBirthNet }
+    ensures fresh { BornIsFresh }
 {}
 
 /// Two different active pairs of a net share no node. Each is still active after the other was
@@ -47,6 +48,7 @@ pub fn no_run_is_longer()
 /// Complete runs from one net have the same pairs, each as often, and leave one net.
 pub fn complete_runs_agree()
     ensures pairs { CompleteRunsHaveOnePairs }
+    ensures counts { CompleteRunsHaveOneCounts }
     ensures net { CompleteRunsLeaveOneNet }
 {}
 

@@ -34,7 +34,7 @@ pub data IsHead {A : Type 0} (N : NamedNet A) (frames : List Frame) (i : ℕ) : 
       IsMatched frames i n q X a → IsHead N frames i a
   never : ((n : ℕ) → NoPath N (frame_at frames i).port (asked (frame_at frames i).levels n)) → IsHead N frames i no_head
 
--- the number of live nodes
+-- the number of live nodes, where each is listed once
 abbrev pub live : {A : Type 0} → NamedNet A → ℕ
 live N = length N.nodes
 

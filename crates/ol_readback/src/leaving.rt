@@ -97,7 +97,8 @@ fn named(
 /// abstractions.
 ///
 /// The frames tried are frame `at` with `lams` abstractions, then its parent, and so on to the root;
-/// the nearest that fits decides. Where none fits, a port of at least 1 is a free name. `NoHead` comes
+/// the nearest that fits decides. Where none fits, an exit by a port of at least 1 whose level 1
+/// counts arguments and whose later levels are empty is the free name of that port. `NoHead` comes
 /// exactly where nothing matches. `NoMemory`: no memory was found. `at` is below the list's length,
 /// each parent stands before its child, and all values are of this holder.
 pub fn leave(

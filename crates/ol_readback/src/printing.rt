@@ -259,8 +259,8 @@ fn add_round(rounds: &mut Vec<usize>, t: usize) -> Result<(), NoMemory>
 /// Binders are named by the sequence a to z, a1 to z1, a2 to z2 and so on without the free names; a
 /// binder with t binders round it, on its own branch, has name number t. A head prints as `\`, its
 /// binders, `.` and a space, where it has some, and then its variable and its arguments, a space
-/// before each. An argument stands in brackets unless it is a variable alone. A place without a head
-/// prints as `?`, one that was cut as `...`. The free name of port q is name q - 1.
+/// before each. An argument that is a head stands in brackets unless it is a variable alone. A place
+/// without a head prints as `?`, one that was cut as `...`, both without brackets. The free name of port q is name q - 1.
 ///
 /// `NoMemory`: no memory was found. Each free name in the tree is one of `names`.
 pub fn tree_text(alloc: Global, tree: &ReadTree, names: &Names) -> Result<Vec<u8>, NoMemory>
