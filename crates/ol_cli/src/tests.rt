@@ -59,6 +59,15 @@ fn terms_and_counts(rt: HostRuntime) -> Result<(), Fail> {
     row(
         &rt,
         alloc,
+        "(\\t. t t) (\\f. \\x. f (f x))",
+        &[],
+        &[],
+        Status::Done,
+        "\\a b. a (a (a (a b)))\nbeta 6\nfan 6\ncroissant 12\nbracket 6\ncross-fan 26\ncross-croissant 52\ncross-bracket 26\nerase 0\nstuck 0\n",
+    )?;
+    row(
+        &rt,
+        alloc,
         "(\\x. x) (\\y. y)",
         &[],
         &[],
