@@ -1,0 +1,13 @@
+pub mod Grammar
+pub mod Texts
+pub mod Machine
+pub mod Reading
+pub mod Flat
+pub mod FlatBytes
+pub mod Laws
+pub mod NamedTerms
+pub mod Depth
+pub mod Numbered
+pub mod Resolving
+pub mod Parsed
+pub mod IndexedNames

@@ -1,0 +1,48 @@
+//! The reader of term files.
+#![tactic(auto)]
+
+ghost use Rattle.ol_reader.specs.Laws.{FewLeaves, OneDeadPlace, OneTerm};
+ghost use Rattle.ol_reader.specs.Parsed.{OneFile, SmallTextsAreTexts};
+
+mod bytes;
+mod depths;
+mod faults;
+mod flat;
+mod growing;
+mod indexed_names;
+mod named;
+mod numbers;
+mod parsing;
+mod tokens;
+
+pub use faults::ParseFault;
+pub use indexed_names::IndexedNames;
+pub use parsing::{MOST_DEPTH, parse};
+
+#[cfg(test)]
+mod tests;
+
+/// A text has one term.
+pub fn one_term()
+    ensures { OneTerm }
+{}
+
+/// A text has one tree and one list of names.
+pub fn one_file()
+    ensures { OneFile }
+{}
+
+/// Bytes have at most one dead place.
+pub fn one_dead_place()
+    ensures { OneDeadPlace }
+{}
+
+/// A term has no more variables than its text has bytes.
+pub fn few_leaves()
+    ensures { FewLeaves }
+{}
+
+/// A small text of a closed term is a text of the same tree.
+pub fn small_texts_are_texts()
+    ensures { SmallTextsAreTexts }
+{}
