@@ -1,141 +1,191 @@
--- Bytes bring the machine to where the tokens that they spell bring it, and to no other place.
-use Rattle.std.proofs.Common.{◌≡◌, ℕ, ◌≤◌, List, [], ◌∷◌, ◌++◌, Bool, true, false, ◌&&◌, ◌||◌, nat_eq, nat_le, cond, Option, Some, None, ◌⊎◌, inl, inr, refl, sym, ap, ◌∙◌, subst, append-nil, arith, eqb-true}
-use Rattle.std.proofs.lemmas.Bool.Decides.{nat_tests}
-use Rattle.std.specs.Option.{option_map, option_and_then}
-use Rattle.ol_parse.specs.Trees.{Tree}
-use Rattle.ol_parse.specs.SmallTexts.{Token, word, backslash, dot, open_bracket, close_bracket, IsToken, IsBlank, IsGap, is_word, Spells, spells_gap, spells_token}
-use Rattle.ol_parse.specs.Reading.{State, Byte, blank, token, other, byte_of, step, read_byte, reads}
-use Rattle.ol_parse.proofs.Machine.{accepts}
+-- Bytes that the machine takes spell tokens that the machine accepts.
+use Rattle.std.proofs.Common.{◌≡◌, ℕ, List, [], ◌∷◌, ◌++◌, Bool, true, false, cond, nat_eq, eqb-true, Option, Some, None, option_and_then, option_map, ◌⊎◌, inl, inr, refl, sym, ap, ◌∙◌, subst, append_assoc, append-nil}
+use Rattle.ol_parse.specs.Grammar.{Named, Token, lambda}
+use Rattle.ol_parse.specs.Texts.{Class, blank, hash, letter, sign, lead, first_class, classes, class_of, in_word, token_of, is_word, IsLine, gap_none, gap_blank, gap_comment, last_gap, last_comment, AreInWord, token_sign, token_letter, token_word, Spells, spells_none, spells_one}
+use Rattle.ol_parse.specs.Machine.{State, step, final, accepts}
+use Rattle.ol_parse.specs.Reading.{Reading, gap, comment, word, half, takes_name, gap_step, takes}
+use Rattle.ol_parse.proofs.Spelled.{IsApart, then_take, word_token}
 
--- ---- bytes
-
-blank_byte : (b : ℕ) → IsBlank b → byte_of b ≡ blank
-unfolding byte_of
-blank_byte b (inl e) = subst (λ b. byte_of b ≡ blank) (sym e) refl
-blank_byte b (inr e) = subst (λ b. byte_of b ≡ blank) (sym e) refl
-
-letter_byte : (b : ℕ) → 97 ≤ b → b ≤ 122 → byte_of b ≡ token (word b)
-unfolding byte_of
-letter_byte b low high =
-    let space : nat_eq b 32 ≡ false = grind (arith, nat_tests) in
-    let feed : nat_eq b 10 ≡ false = grind (arith, nat_tests) in
-    let least : nat_le 97 b ≡ true = grind (arith, nat_tests) in
-    let most : nat_le b 122 ≡ true = grind (arith, nat_tests) in
-    rw (space, feed, least, most) refl
-
-token_byte : (k : Token) (b : ℕ) → IsToken k b → byte_of b ≡ token k
-unfolding byte_of
-token_byte (word x) b h = subst (λ x. byte_of b ≡ token (word x)) (sym h.0) (letter_byte b h.1 h.2)
-token_byte backslash b h = subst (λ b. byte_of b ≡ token backslash) (sym h) refl
-token_byte dot b h = subst (λ b. byte_of b ≡ token dot) (sym h) refl
-token_byte open_bracket b h = subst (λ b. byte_of b ≡ token open_bracket) (sym h) refl
-token_byte close_bracket b h = subst (λ b. byte_of b ≡ token close_bracket) (sym h) refl
-
--- what the byte that the table gives says of the byte
-abbrev Says : Byte → ℕ → Type 0
-Says blank b = IsBlank b
-Says (token k) b = IsToken k b
-Says other b = Unit {0}
-
-row : (t : Bool) (x y : Byte) (b : ℕ) → (t ≡ true → Says x b) → Says y b → Says (cond t x y) b
-row true x y b h k = h refl
-row false x y b h k = k
-
-either : (b m n : ℕ) → nat_eq b m || nat_eq b n ≡ true → (b ≡ m) ⊎ (b ≡ n)
-either b m n h = elim (nat_eq b m) as (λ t. nat_eq b m ≡ t → (b ≡ m) ⊎ (b ≡ n)) [
-  | true ↦ (λ e. inl (eqb-true b m e))
-  | false ↦ (λ e. inr (eqb-true b n (ap (λ t. t || nat_eq b n) (sym e) ∙ h)))
-] refl
-
-between : (b : ℕ) → nat_le 97 b && nat_le b 122 ≡ true → IsToken (word b) b
-between b h = elim (nat_le 97 b) as (λ t. nat_le 97 b ≡ t → IsToken (word b) b) [
-  | true ↦ (λ e. let most : nat_le b 122 ≡ true = ap (λ t. t && nat_le b 122) (sym e) ∙ h in (refl, grind (arith, nat_tests, e), grind (arith, nat_tests, most)))
-  | false ↦ (λ e. absurd (let no : false ≡ true = ap (λ t. t && nat_le b 122) (sym e) ∙ h in cc))
-] refl
-
-byte_says : (b : ℕ) → Says (byte_of b) b
-unfolding byte_of
-byte_says b =
-    row (nat_eq b 32 || nat_eq b 10) blank _ b (either b 32 10)
-    (row (nat_le 97 b && nat_le b 122) (token (word b)) _ b (between b)
-    (row (nat_eq b 92) (token backslash) _ b (eqb-true b 92)
-    (row (nat_eq b 46) (token dot) _ b (eqb-true b 46)
-    (row (nat_eq b 40) (token open_bracket) _ b (eqb-true b 40)
-    (row (nat_eq b 41) (token close_bracket) other b (eqb-true b 41) tt)))))
-
--- ---- from tokens to bytes
-
-abbrev then_reads : List ℕ → Option (Bool × State) → Option Tree
-then_reads bs o = option_and_then (λ s. reads s bs) o
-
-skips : (g : List ℕ) → IsGap g → (p : State) (rest : List ℕ) → reads (false, p) (g ++ rest) ≡ reads (false, p) rest
-skips [] h p rest = refl
-skips (b ∷ g) h p rest = ap (λ y. then_reads (g ++ rest) (read_byte false p y)) (blank_byte b h.0) ∙ skips g h.1 p rest
-
--- whether a word stands just before what follows a gap
-abbrev past : Bool → List ℕ → Bool
-past after [] = after
-past after (b ∷ g) = false
-
-skips_to : (after : Bool) (g : List ℕ) → IsGap g → (p : State) (rest : List ℕ) → reads (after, p) (g ++ rest) ≡ reads (past after g, p) rest
-skips_to after [] h p rest = refl
-skips_to after (b ∷ g) h p rest = ap (λ y. then_reads (g ++ rest) (read_byte after p y)) (blank_byte b h.0) ∙ skips g h.1 p rest
-
-apart : (after : Bool) (w : Bool) (g : List ℕ) → (after ≡ true → w ≡ true → g ≡ [] → ⊥) → past after g && w ≡ false
-apart false w [] h = refl
-apart true false [] h = refl
-apart true true [] h = absurd (h refl refl refl)
-apart after w (b ∷ g) h = refl
-
-each_some : {A B : Type 0} (f g : A → Option B) (o : Option A) → ((x : A) → f x ≡ g x) → option_and_then f o ≡ option_and_then g o
-each_some f g None h = refl
-each_some f g (Some x) h = h x
-
-mapped : (w : Bool) (o : Option State) (bs : List ℕ) → then_reads bs (option_map (λ q. (w, q)) o) ≡ option_and_then (λ q. reads (w, q) bs) o
-mapped w None bs = refl
-mapped w (Some q) bs = refl
-
-pub spelled : {after : Bool} {ks : List Token} {bs : List ℕ} → Spells after ks bs → (p : State) → reads (after, p) bs ≡ accepts p ks
-spelled {after = after} (spells_gap {g = g} i) p = ap (reads (after, p)) (sym (append-nil g)) ∙ skips_to after g i p []
-spelled {after = after} (spells_token {k = k} {ks = ks} {bs = bs} g b i n t s) p =
-    skips_to after g i p (b ∷ bs) ∙ ap (λ y. then_reads bs (read_byte (past after g) p y)) (token_byte k b t)
-    ∙ ap (λ y. then_reads bs (cond y None (option_map (λ q. (is_word k, q)) (step p k)))) (apart after (is_word k) g n)
-    ∙ mapped (is_word k) (step p k) bs ∙ each_some (λ q. reads (is_word k, q) bs) (λ q. accepts q ks) (step p k) (λ q. spelled s q)
-
--- ---- from bytes to tokens
-
--- these bytes spell tokens that bring the state to the whole tree
-pub record Spelling (after : Bool) (p : State) (t : Tree) (bs : List ℕ) : Type 0 where
+-- these bytes spell tokens that bring the state to the whole term
+pub record Spelling (after : Bool) (p : State) (t : Named) (bs : List ℕ) : Type 0 where
   pub tokens : List Token
   pub spells : Spells after tokens bs
   pub accepted : accepts p tokens ≡ Some t
 
-put_blank : {ks : List Token} {bs : List ℕ} (b : ℕ) → IsBlank b → Spells false ks bs → (after : Bool) → Spells after ks (b ∷ bs)
-put_blank b h (spells_gap i) after = spells_gap (h, i)
-put_blank b h (spells_token g c i n t s) after = spells_token (b ∷ g) c (h, i) (λ _ _ q. cc) t s
+record Behind (p : State) (t : Named) (bs : List ℕ) : Type 0 where
+  comment_text : List ℕ
+  rest : List ℕ
+  line : IsLine comment_text
+  parts : bs ≡ comment_text ++ (10 ∷ rest)
+  spelling : Spelling false p t rest
 
-abbrev Each : Tree → List ℕ → Type 0
-Each t bs = (after : Bool) (p : State) → reads (after, p) bs ≡ Some t → Spelling after p t bs
+record InWord (w : List ℕ) (p : State) (t : Named) (bs : List ℕ) : Type 0 where
+  more : List ℕ
+  rest : List ℕ
+  next : State
+  in_it : AreInWord more
+  parts : bs ≡ more ++ rest
+  stepped : step p (token_of (w ++ more)) ≡ Some next
+  spelling : Spelling true next t rest
 
-at_token : (after : Bool) (p : State) (t : Tree) (k : Token) (b : ℕ) (bs : List ℕ) → Each t bs → IsToken k b → (o : Option State) → step p k ≡ o → (y : Bool) → after && is_word k ≡ y
-    → then_reads bs (cond y None (option_map (λ q. (is_word k, q)) o)) ≡ Some t → Spelling after p t (b ∷ bs)
-at_token after p t k b bs each i o e true f h = absurd (cc)
-at_token after p t k b bs each i None e false f h = absurd (cc)
-at_token after p t k b bs each i (Some q) e false f h =
-    let r = each (is_word k) q h in
+-- the bytes that are left bring the machine to the whole term
+abbrev Left : Reading → Named → List ℕ → Type 0
+Left (gap p) t bs = (after : Bool) → (after ≡ true → IsApart bs) → Spelling after p t bs
+Left (comment p) t bs = (IsLine bs × (final p ≡ Some t)) ⊎ Behind p t bs
+Left (word w p) t bs = InWord w p t bs
+Left (half p) t bs = (rest : List ℕ) × (bs ≡ 187 ∷ rest) × Spelling false p t rest
+
+false_true : {P : Type 0} → false ≡ true → P
+false_true e = absurd (cc)
+
+-- a sign is no word
+abbrev IsNoWord : Class → Type 0
+IsNoWord (sign k) = is_word k ≡ false
+IsNoWord _ = Unit {0}
+
+AreNoWords : List (Bool × Class) → Type 0
+AreNoWords [] = Unit {0}
+AreNoWords (row ∷ rows) = IsNoWord row.1 × AreNoWords rows
+
+either : (b : Bool) (x y : Class) → IsNoWord x → IsNoWord y → IsNoWord (cond b x y)
+either true x y h k = h
+either false x y h k = k
+
+first_no_word : (rows : List (Bool × Class)) → AreNoWords rows → IsNoWord (first_class rows)
+unfolding AreNoWords
+first_no_word [] h = tt
+first_no_word (row ∷ rows) h = either row.0 row.1 (first_class rows) h.0 (first_no_word rows h.1)
+
+no_word : (b : ℕ) → IsNoWord (class_of b)
+unfolding class_of AreNoWords
+no_word b = first_no_word (classes b) (tt, (tt, (tt, (tt, (refl, (refl, (refl, (refl, (refl, (tt, tt))))))))))
+
+pub sign_no_word : (b : ℕ) (k : Token) → class_of b ≡ sign k → is_word k ≡ false
+sign_no_word b k e = subst IsNoWord e (no_word b)
+
+put_blank : {ks : List Token} {bs : List ℕ} {b : ℕ} → class_of b ≡ blank → Spells false ks bs → (after : Bool) → Spells after ks (b ∷ bs)
+put_blank e (spells_none (last_gap i)) after = spells_none (last_gap (gap_blank e i))
+put_blank e (spells_none (last_comment i h q c l)) after = spells_none (last_comment (gap_blank e i) h q c l)
+put_blank e (spells_one i n k s) after = spells_one (gap_blank e i) (λ _ _ q. cc) k s
+
+put_comment : {ks : List Token} {bs : List ℕ} {b : ℕ} → class_of b ≡ hash → (c : List ℕ) → IsLine c → Spells false ks bs → (after : Bool) → Spells after ks (b ∷ c ++ (10 ∷ bs))
+put_comment e c l (spells_none (last_gap i)) after = spells_none (last_gap (gap_comment e c l i))
+put_comment {ks = ks} {b = b} e c l (spells_none (last_comment {g = g} i h q d m)) after =
+    subst (Spells after []) (ap (λ k. b ∷ k) (append_assoc c (10 ∷ g) (h ∷ d))) (spells_none (last_comment (gap_comment e c l i) h q d m))
+put_comment {ks = ks} {b = b} e c l (spells_one {k = k} {ks = js} {g = g} {a = a} {bs = rest} i n t s) after =
+    subst (Spells after (k ∷ js)) (ap (λ k. b ∷ k) (append_assoc c (10 ∷ g) (a ++ rest))) (spells_one (gap_comment e c l i) (λ _ _ q. cc) t s)
+
+abbrev Each : Named → List ℕ → Type 0
+Each t bs = (s : Reading) → takes s bs ≡ Some t → Left s t bs
+
+left_sign : (p : State) (t : Named) (k : Token) (b : ℕ) (bs : List ℕ) → Each t bs → class_of b ≡ sign k → (o : Option State) → step p k ≡ o → then_take bs (option_map gap o) ≡ Some t → (after : Bool) → Spelling after p t (b ∷ bs)
+left_sign p t k b bs each e None h g after = absurd (cc)
+left_sign p t k b bs each e (Some q) h g after =
+    let no = sign_no_word b k e in
+    let r = each (gap q) g (is_word k) (λ y. false_true (sym no ∙ y)) in
+    record { tokens = k ∷ r.tokens; spells = spells_one gap_none (λ _ y. false_true (sym no ∙ y)) (token_sign e) r.spells; accepted = ap (option_and_then (λ s. accepts s r.tokens)) h ∙ r.accepted }
+
+left_lead : (p : State) (t : Named) (b : ℕ) (bs : List ℕ) → Each t bs → class_of b ≡ lead → (o : Option State) → step p lambda ≡ o → then_take bs (option_map half o) ≡ Some t → (after : Bool) → Spelling after p t (b ∷ bs)
+left_lead p t b bs each e None h g after = absurd (cc)
+left_lead p t b bs each e (Some q) h g after =
+    let (rest, parts, r) = each (half q) g in
+    let s : Spells after (lambda ∷ r.tokens) (b ∷ 187 ∷ rest) = spells_one gap_none (λ _ y. false_true y) (token_letter e) r.spells in
+    record { tokens = lambda ∷ r.tokens; spells = subst (Spells after (lambda ∷ r.tokens)) (sym (ap (λ k. b ∷ k) parts)) s; accepted = ap (option_and_then (λ s. accepts s r.tokens)) h ∙ r.accepted }
+
+left_letter : (p : State) (t : Named) (b : ℕ) (bs : List ℕ) → Each t bs → class_of b ≡ letter → (y : Bool) → takes_name p ≡ y → then_take bs (cond y (Some (word (b ∷ []) p)) None) ≡ Some t → (after : Bool) → (after ≡ true → IsApart (b ∷ bs)) → Spelling after p t (b ∷ bs)
+left_letter p t b bs each e false h g after a = absurd (cc)
+left_letter p t b bs each e true h g after a =
+    let r = each (word (b ∷ []) p) g in
+    let w = b ∷ r.more in
+    let k = token_of w in
+    let s : Spells (is_word k) r.spelling.tokens r.rest = subst (λ y. Spells y r.spelling.tokens r.rest) (sym (word_token w)) r.spelling.spells in
+    let z : Spells after (k ∷ r.spelling.tokens) (w ++ r.rest) = spells_one gap_none (λ y _. false_true (sym (a y) ∙ ap in_word e)) (token_word e r.in_it) s in
+    record { tokens = k ∷ r.spelling.tokens; spells = subst (Spells after (k ∷ r.spelling.tokens)) (sym (ap (λ k. b ∷ k) r.parts)) z; accepted = ap (option_and_then (λ s. accepts s r.spelling.tokens)) r.stepped ∙ r.spelling.accepted }
+
+left_hash : (p : State) (t : Named) (b : ℕ) (bs : List ℕ) → class_of b ≡ hash → Left (comment p) t bs → (after : Bool) → Spelling after p t (b ∷ bs)
+left_hash p t b bs e (inl (l, h)) after = record { tokens = []; spells = spells_none (last_comment gap_none b e bs l); accepted = h }
+left_hash p t b bs e (inr r) after = record {
+  tokens = r.spelling.tokens;
+  spells = subst (Spells after r.spelling.tokens) (sym (ap (λ k. b ∷ k) r.parts)) (put_comment e r.comment_text r.line r.spelling.spells after);
+  accepted = r.spelling.accepted;
+}
+
+left_gap : (p : State) (t : Named) (b : ℕ) (bs : List ℕ) → Each t bs → (c : Class) → class_of b ≡ c → then_take bs (gap_step p b c) ≡ Some t → (after : Bool) → (after ≡ true → IsApart (b ∷ bs)) → Spelling after p t (b ∷ bs)
+left_gap p t b bs each blank e h after a =
+    let r = each (gap p) h false false_true in
+    record { tokens = r.tokens; spells = put_blank e r.spells after; accepted = r.accepted }
+left_gap p t b bs each hash e h after a = left_hash p t b bs e (each (comment p) h) after
+left_gap p t b bs each letter e h after a = left_letter p t b bs each e (takes_name p) refl h after a
+left_gap p t b bs each (sign k) e h after a = left_sign p t k b bs each e (step p k) refl h after
+left_gap p t b bs each lead e h after a = left_lead p t b bs each e (step p lambda) refl h after
+left_gap p t b bs each _ e h after a = absurd (cc)
+
+left_comment : (p : State) (t : Named) (b : ℕ) (bs : List ℕ) → Each t bs → (y : Bool) → nat_eq b 10 ≡ y → takes (cond y (gap p) (comment p)) bs ≡ Some t → Left (comment p) t (b ∷ bs)
+left_comment p t b bs each true e h = inr (record { comment_text = []; rest = bs; line = tt; parts = ap (λ b. b ∷ bs) (eqb-true b 10 e); spelling = each (gap p) h false false_true })
+left_comment p t b bs each false e h = go (each (comment p) h)
+  where
+    go : Left (comment p) t bs → Left (comment p) t (b ∷ bs)
+    go (inl (l, f)) = inl ((e, l), f)
+    go (inr r) = inr (record { comment_text = b ∷ r.comment_text; rest = r.rest; line = (e, r.line); parts = ap (λ k. b ∷ k) r.parts; spelling = r.spelling })
+
+left_after : (w : List ℕ) (p : State) (t : Named) (b : ℕ) (bs : List ℕ) → Each t bs → in_word (class_of b) ≡ false → (o : Option State) → step p (token_of w) ≡ o → then_take bs (option_and_then (λ q. gap_step q b (class_of b)) o) ≡ Some t → InWord w p t (b ∷ bs)
+left_after w p t b bs each e None h g = absurd (cc)
+left_after w p t b bs each e (Some q) h g = record {
+  more = [];
+  rest = b ∷ bs;
+  next = q;
+  in_it = tt;
+  parts = refl;
+  stepped = ap (λ w. step p (token_of w)) (append-nil w) ∙ h;
+  spelling = left_gap q t b bs each (class_of b) refl g true (λ _. e);
+}
+
+left_word : (w : List ℕ) (p : State) (t : Named) (b : ℕ) (bs : List ℕ) → Each t bs → (y : Bool) → in_word (class_of b) ≡ y → then_take bs (cond y (Some (word (w ++ (b ∷ [])) p)) (option_and_then (λ q. gap_step q b (class_of b)) (step p (token_of w)))) ≡ Some t → InWord w p t (b ∷ bs)
+left_word w p t b bs each true e h =
+    let r = each (word (w ++ (b ∷ [])) p) h in
     record {
-      tokens = k ∷ r.tokens;
-      spells = spells_token [] b tt (λ y w _. let no : false ≡ true = sym (ap (λ a. a && is_word k) (sym y) ∙ f) ∙ w in cc) i r.spells;
-      accepted = ap (option_and_then (λ s. accepts s r.tokens)) e ∙ r.accepted;
+      more = b ∷ r.more;
+      rest = r.rest;
+      next = r.next;
+      in_it = (e, r.in_it);
+      parts = ap (λ k. b ∷ k) r.parts;
+      stepped = ap (λ w. step p (token_of w)) (sym (append_assoc w (b ∷ []) r.more)) ∙ r.stepped;
+      spelling = r.spelling;
     }
+left_word w p t b bs each false e h = left_after w p t b bs each e (step p (token_of w)) refl h
 
-at_byte : (after : Bool) (p : State) (t : Tree) (y : Byte) (b : ℕ) (bs : List ℕ) → Each t bs → Says y b → then_reads bs (read_byte after p y) ≡ Some t → Spelling after p t (b ∷ bs)
-at_byte after p t blank b bs each i h =
-    let r = each false p h in
-    record { tokens = r.tokens; spells = put_blank b i r.spells after; accepted = r.accepted }
-at_byte after p t (token k) b bs each i h = at_token after p t k b bs each i (step p k) refl (after && is_word k) refl h
-at_byte after p t other b bs each i h = absurd (cc)
+left_half : (p : State) (t : Named) (b : ℕ) (bs : List ℕ) → Each t bs → (y : Bool) → nat_eq b 187 ≡ y → then_take bs (cond y (Some (gap p)) None) ≡ Some t → Left (half p) t (b ∷ bs)
+left_half p t b bs each true e h = (bs, ap (λ b. b ∷ bs) (eqb-true b 187 e), each (gap p) h false false_true)
+left_half p t b bs each false e h = absurd (cc)
 
-pub spelling : (t : Tree) (bs : List ℕ) (after : Bool) (p : State) → reads (after, p) bs ≡ Some t → Spelling after p t bs
-spelling t [] after p h = record { tokens = []; spells = spells_gap tt; accepted = h }
-spelling t (b ∷ bs) after p h = at_byte after p t (byte_of b) b bs (spelling t bs) (byte_says b) h
+left_step : (t : Named) (b : ℕ) (bs : List ℕ) → Each t bs → Each t (b ∷ bs)
+left_step t b bs each (gap p) h = left_gap p t b bs each (class_of b) refl h
+left_step t b bs each (comment p) h = left_comment p t b bs each (nat_eq b 10) refl h
+left_step t b bs each (word w p) h = left_word w p t b bs each (in_word (class_of b)) refl h
+left_step t b bs each (half p) h = left_half p t b bs each (nat_eq b 187) refl h
+
+left_word_end : (w : List ℕ) (p : State) (t : Named) (o : Option State) → step p (token_of w) ≡ o → option_and_then final o ≡ Some t → InWord w p t []
+left_word_end w p t None e g = absurd (cc)
+left_word_end w p t (Some q) e g = record {
+  more = [];
+  rest = [];
+  next = q;
+  in_it = tt;
+  parts = refl;
+  stepped = ap (λ w. step p (token_of w)) (append-nil w) ∙ e;
+  spelling = record { tokens = []; spells = spells_none (last_gap gap_none); accepted = g };
+}
+
+left_none : (t : Named) → Each t []
+left_none t (gap p) h = λ after a. record { tokens = []; spells = spells_none (last_gap gap_none); accepted = h }
+left_none t (comment p) h = inl (tt, h)
+left_none t (word w p) h = left_word_end w p t (step p (token_of w)) refl h
+left_none t (half p) h = absurd (cc)
+
+left : (t : Named) (bs : List ℕ) → Each t bs
+left t [] = left_none t
+left t (b ∷ bs) = left_step t b bs (left t bs)
+
+-- what is taken is spelled
+pub spelling : (t : Named) (bs : List ℕ) (p : State) → takes (gap p) bs ≡ Some t → Spelling false p t bs
+spelling t bs p h = left t bs (gap p) h false false_true

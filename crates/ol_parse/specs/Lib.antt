@@ -1,4 +1,12 @@
-pub mod Trees
-pub mod SmallTexts
+pub mod Grammar
+pub mod Texts
+pub mod Machine
 pub mod Reading
-pub mod NameLists
+pub mod Flat
+pub mod FlatBytes
+pub mod Laws
+pub mod NamedTerms
+pub mod Depth
+pub mod Numbered
+pub mod Resolving
+pub mod Parsed

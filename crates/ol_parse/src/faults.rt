@@ -1,31 +1,42 @@
-//! Why no term is given.
+//! Why a text gives no term.
 
 ghost use Rattle.std.specs.Prelude.{◌≡◌};
-ghost use Rattle.ol_parse.specs.declared.faults.SmallFault.TheVariants.{NoMemory};
+ghost use Rattle.ol_parse.specs.declared.faults.ParseFault.TheVariants.{NoMemory};
 
 use std::alloc::{AllocError, AllocFailed};
 
 /// Why a text gives no term.
 #[derive(Clone, Copy, Debug, PartialEq, Eq)]
-pub enum SmallFault {
-    /// The text isn't a small text, or a name in it is free.
-    NotSmall,
+pub enum ParseFault {
+    /// The text isn't in the grammar. `at` is the length of its longest prefix that begins some text of
+    /// the grammar.
+    Syntax { at: usize },
+    /// The text is in the grammar, and its term is deeper than 1,000. `depth` is how deep it is.
+    Depth { depth: u64 },
     /// Memory ran out.
     NoMemory,
 }
 
-impl From<AllocError> for SmallFault {
+impl From<AllocError> for ParseFault {
     ghost from_gives = { λ _ e. e ≡ NoMemory };
 
     fn from(_: AllocError) -> Self {
-        SmallFault::NoMemory
+        ParseFault::NoMemory
     }
 }
 
-impl<T: Drop> From<AllocFailed<T>> for SmallFault {
+impl<T: Drop> From<AllocFailed<T>> for ParseFault {
     ghost from_gives = { λ _ e. e ≡ NoMemory };
 
     fn from(_: AllocFailed<T>) -> Self {
-        SmallFault::NoMemory
+        ParseFault::NoMemory
+    }
+}
+
+impl From<ol_io::NoMemory> for ParseFault {
+    ghost from_gives = { λ _ e. e ≡ NoMemory };
+
+    fn from(_: ol_io::NoMemory) -> Self {
+        ParseFault::NoMemory
     }
 }

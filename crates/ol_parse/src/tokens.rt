@@ -1,42 +1,191 @@
-//! The tokens of a small text, each of one byte.
+//! The reader over tokens, with a flat row of what is open.
 
-ghost use Rattle.std.specs.Prelude.{◌≡◌, IfErr};
-ghost use Rattle.ol_parse.specs.SmallTexts.{is_word};
-ghost use Rattle.ol_parse.specs.Reading.{byte_in, byte_of, token_in};
-ghost use Rattle.ol_parse.specs.declared.faults.SmallFault.TheVariants.{NotSmall};
+ghost use Rattle.std.specs.Prelude.{◌≡◌, false, ℕ, List, [], ◌∷◌, ◌++◌, Some, IfOk, OnOk, length};
+ghost use Rattle.ol_parse.specs.Grammar.{Named, name, let_key, in_key, lambda, dot, equals, open_bracket, close_bracket};
+ghost use Rattle.ol_parse.specs.Machine.{Frame, State, step, finish};
+ghost use Rattle.ol_parse.specs.Flat.{bare, without, held, around, built, Unwound, Shows, waiting, Ended, Holds, Next, applied_if};
 
-use crate::faults::SmallFault;
+use crate::flat::{Mode, Op, Open};
+use std::alloc::AllocError;
 
-#[derive(Clone, Copy)]
-pub enum Token {
-    Word(u8),
-    Backslash,
-    Dot,
-    OpenBracket,
-    CloseBracket,
-}
-
-impl Token {
-    pub fn is_word(&self) -> bool
-        ensures { result ≡ is_word (token_in self.now) }
-    {
-        matches!(self, Token::Word(_))
+/// Ends what is open, unless it wants a bracket or an `in`.
+fn unwind<'a>(innermost: Open<'a>, out: &mut Vec<Op<'a>>) -> Result<bool, AllocError>
+    ensures kept { IfOk result (λ yes. yes ≡ false → out.new.items ≡ out.old.items) }
+    ensures ended { IfOk result (λ yes. (f : Frame) → (u : Named) → (ts : List Named) → bare innermost.entry ≡ without f → built out.old.items ≡ Some (u ∷ held f ++ ts) → Unwound yes out.new.items ts (around f u)) }
+{
+    match innermost {
+        Open::Applied(false) => Ok(true),
+        Open::Applied(true) => {
+            out.push(Op::Apply)?;
+            Ok(true)
+        }
+        Open::Abstracted(x) => {
+            out.push(Op::Abstract(x))?;
+            Ok(true)
+        }
+        Open::Bound(x) => {
+            out.push(Op::Bind(x))?;
+            Ok(true)
+        }
+        Open::Bracket(_) | Open::Defining(_) => Ok(false),
     }
 }
 
-/// The token that a byte is, or None for a blank. Any other byte is `NotSmall`.
-#[tactic(auto, unfolding(crate::specs::Reading::byte_of))]
-pub fn token_of(byte: u8) -> Result<Option<Token>, SmallFault>
-    ensures is { byte_in result ≡ byte_of byte }
-    ensures fault { IfErr result (λ e. e ≡ NotSmall) }
+/// Ends the innermost term, and all that it ends. Answers what is open round that, taken off.
+pub fn finish<'a>(
+    opens: &mut Vec<Open<'a>>,
+    out: &mut Vec<Op<'a>>,
+) -> Result<Option<Open<'a>>, AllocError>
+    ensures { IfOk result (λ closer. (u : Named) → (fs : List Frame) → Shows fs opens.old.items → built out.old.items ≡ Some (u ∷ waiting fs) → Ended (finish u fs) closer opens.new.items out.new.items) }
 {
-    match byte {
-        b' ' | b'\n' => Ok(None),
-        b'a'..=b'z' => Ok(Some(Token::Word(byte))),
-        b'\\' => Ok(Some(Token::Backslash)),
-        b'.' => Ok(Some(Token::Dot)),
-        b'(' => Ok(Some(Token::OpenBracket)),
-        b')' => Ok(Some(Token::CloseBracket)),
-        _ => Err(SmallFault::NotSmall),
+    while let Some(innermost) = opens.pop() {
+        if !unwind(innermost, out)? {
+            return Ok(Some(innermost));
+        }
+    }
+    Ok(None)
+}
+
+/// Applies what stood before to what came, where something did.
+fn apply_if<'a>(spine: bool, out: &mut Vec<Op<'a>>) -> Result<(), AllocError>
+    ensures { OnOk result (out.new.items ≡ applied_if spine out.old.items) }
+{
+    if spine {
+        out.push(Op::Apply)?;
+    }
+    Ok(())
+}
+
+pub fn take_name<'a>(
+    word: &'a [u8],
+    mode: Mode<'a>,
+    opens: &mut Vec<Open<'a>>,
+    out: &mut Vec<Op<'a>>,
+) -> Result<Option<Mode<'a>>, AllocError>
+    ensures { IfOk result (λ next. (p : State) → Holds p mode.entry opens.old.items out.old.items → Next (step p (name word.now)) next opens.new.items out.new.items) }
+{
+    match mode {
+        Mode::Term(spine) => {
+            out.push(Op::Push(word))?;
+            apply_if(spine, out)?;
+            Ok(Some(Mode::Term(true)))
+        }
+        Mode::FirstName | Mode::MoreNames => {
+            opens.push(Open::Abstracted(word))?;
+            Ok(Some(Mode::MoreNames))
+        }
+        Mode::LetName => Ok(Some(Mode::LetEquals(word))),
+        Mode::LetEquals(_) => Ok(None),
+    }
+}
+
+pub fn take_open<'a>(
+    mode: Mode<'a>,
+    opens: &mut Vec<Open<'a>>,
+    out: &Vec<Op<'a>>,
+) -> Result<Option<Mode<'a>>, AllocError>
+    ensures { IfOk result (λ next. (p : State) → Holds p mode.entry opens.old.items out.now.items → Next (step p open_bracket) next opens.new.items out.now.items) }
+{
+    match mode {
+        Mode::Term(spine) => {
+            opens.push(Open::Bracket(spine))?;
+            Ok(Some(Mode::Term(false)))
+        }
+        _ => Ok(None),
+    }
+}
+
+pub fn take_lambda<'a>(
+    mode: Mode<'a>,
+    opens: &mut Vec<Open<'a>>,
+    out: &Vec<Op<'a>>,
+) -> Result<Option<Mode<'a>>, AllocError>
+    ensures { IfOk result (λ next. (p : State) → Holds p mode.entry opens.old.items out.now.items → Next (step p lambda) next opens.new.items out.now.items) }
+{
+    match mode {
+        Mode::Term(spine) => {
+            opens.push(Open::Applied(spine))?;
+            Ok(Some(Mode::FirstName))
+        }
+        _ => Ok(None),
+    }
+}
+
+pub fn take_let<'a>(
+    mode: Mode<'a>,
+    opens: &mut Vec<Open<'a>>,
+    out: &Vec<Op<'a>>,
+) -> Result<Option<Mode<'a>>, AllocError>
+    ensures { IfOk result (λ next. (p : State) → Holds p mode.entry opens.old.items out.now.items → Next (step p let_key) next opens.new.items out.now.items) }
+{
+    match mode {
+        Mode::Term(spine) => {
+            opens.push(Open::Applied(spine))?;
+            Ok(Some(Mode::LetName))
+        }
+        _ => Ok(None),
+    }
+}
+
+pub fn take_dot<'a>(mode: Mode<'a>, opens: &Vec<Open<'a>>, out: &Vec<Op<'a>>) -> Option<Mode<'a>>
+    ensures { (p : State) → Holds p mode.entry opens.now.items out.now.items → Next (step p dot) result opens.now.items out.now.items }
+{
+    match mode {
+        Mode::MoreNames => Some(Mode::Term(false)),
+        _ => None,
+    }
+}
+
+pub fn take_equals<'a>(
+    mode: Mode<'a>,
+    opens: &mut Vec<Open<'a>>,
+    out: &Vec<Op<'a>>,
+) -> Result<Option<Mode<'a>>, AllocError>
+    ensures { IfOk result (λ next. (p : State) → Holds p mode.entry opens.old.items out.now.items → Next (step p equals) next opens.new.items out.now.items) }
+{
+    match mode {
+        Mode::LetEquals(word) => {
+            opens.push(Open::Defining(word))?;
+            Ok(Some(Mode::Term(false)))
+        }
+        _ => Ok(None),
+    }
+}
+
+pub fn take_close<'a>(
+    mode: Mode<'a>,
+    opens: &mut Vec<Open<'a>>,
+    out: &mut Vec<Op<'a>>,
+) -> Result<Option<Mode<'a>>, AllocError>
+    ensures { IfOk result (λ next. (p : State) → Holds p mode.entry opens.old.items out.old.items → Next (step p close_bracket) next opens.new.items out.new.items) }
+{
+    match mode {
+        Mode::Term(true) => match finish(opens, out)? {
+            Some(Open::Bracket(spine)) => {
+                apply_if(spine, out)?;
+                Ok(Some(Mode::Term(true)))
+            }
+            _ => Ok(None),
+        },
+        _ => Ok(None),
+    }
+}
+
+pub fn take_in<'a>(
+    mode: Mode<'a>,
+    opens: &mut Vec<Open<'a>>,
+    out: &mut Vec<Op<'a>>,
+) -> Result<Option<Mode<'a>>, AllocError>
+    ensures { IfOk result (λ next. (p : State) → Holds p mode.entry opens.old.items out.old.items → Next (step p in_key) next opens.new.items out.new.items) }
+{
+    match mode {
+        Mode::Term(true) => match finish(opens, out)? {
+            Some(Open::Defining(word)) => {
+                opens.push(Open::Bound(word))?;
+                Ok(Some(Mode::Term(false)))
+            }
+            _ => Ok(None),
+        },
+        _ => Ok(None),
     }
 }

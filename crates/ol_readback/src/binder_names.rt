@@ -6,7 +6,7 @@ ghost use Rattle.ol_readback.specs.Printing.{AreNumbers, IsStart};
 ghost use Rattle.std.specs.Fmt.{decimal};
 
 use ol_io::NoMemory;
-use ol_parse::Names;
+use ol_term::Names;
 use std::alloc::{AllocError, Global};
 
 const LETTERS: u64 = 26;

@@ -9,7 +9,7 @@ use crate::answers::{HeadVar, ReadNode};
 use crate::binder_names::{number_of, put_name};
 use crate::tree::ReadTree;
 use ol_io::NoMemory;
-use ol_parse::Names;
+use ol_term::Names;
 use std::alloc::Global;
 
 /// A head of which `left` arguments are still to be printed, each with `binders` binders round it. A

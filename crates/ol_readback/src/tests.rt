@@ -7,7 +7,7 @@ ghost use Rattle.ol_readback.specs.Frames.{frames_of, ParentsFirst, AreHeldFrame
 use crate::{Frame, Head, HeadVar, Levels, head, leave, read_back, tree_text};
 use ol_context::{Context, Values};
 use ol_net::{Kind, Net, NodeId, Port};
-use ol_parse::Names;
+use ol_term::Names;
 use std::alloc::{AllocError, Global};
 use std::test::Fail;
 

@@ -2,7 +2,7 @@
 use Rattle.std.proofs.Common.{zero-add, subst, get_or, All, ◌^◌, ◌≡◌, ℕ, zero, suc, ◌<◌, ◌≤◌, ◌+◌, ◌-◌, ◌*◌, List, [], ◌∷◌, ◌++◌, length, true, false, nat_eq, nat_lt, Option, None, Some, refl, ap, sym, arith, length-append, eq-eqb, ne_eqb}
 use Rattle.std.proofs.lemmas.Bool.Decides.{nat_tests}
 use Rattle.std.proofs.Math.Nat.{mul-le-mul_left}
-use Rattle.ol_parse.specs.Trees.{Tree, var, free, lam, app, is_below, is_named_below, lams, occurrences}
+use Rattle.ol_term.specs.Trees.{Tree, var, free, lam, app, is_below, is_named_below, lams, occurrences}
 use Rattle.ol_net.specs.declared.parts.Port.{Port}
 use Rattle.ol_net.specs.declared.parts.Port.TheVariants.{Free}
 use Rattle.ol_net.specs.declared.parts.Kind.{Kind}

@@ -1,7 +1,7 @@
 -- The parts of a term are those of a net: nothing is refused but for want of memory.
 use Rattle.std.proofs.Common.{◌≡◌, ◌≢◌, ℕ, zero, suc, ◌<◌, ◌≤◌, ◌+◌, List, [], ◌∷◌, length, true, false, Bool, inl, inr, refl, ap, arith, subst, eq-eqb}
 use Rattle.std.proofs.lemmas.Bool.Decides.{nat_tests}
-use Rattle.ol_parse.specs.Trees.{Tree}
+use Rattle.ol_term.specs.Trees.{Tree}
 use Rattle.ol_net.specs.declared.parts.Kind.{Kind}
 use Rattle.ol_net.specs.declared.parts.Port.{Port}
 use Rattle.ol_net.specs.declared.parts.Port.TheVariants.{Free, Of}

@@ -1,7 +1,7 @@
 -- The indexes of a term's nodes: none is greater than the level by more than the number of nodes.
 use Rattle.std.proofs.Common.{◌≡◌, ℕ, zero, suc, ◌≤◌, ◌+◌, List, [], ◌∷◌, ◌++◌, length, false, Option, None, Some, refl, arith, length-append, get_or}
 use Rattle.std.proofs.lemmas.Bool.Decides.{nat_tests}
-use Rattle.ol_parse.specs.Trees.{Tree, var, free, lam, app}
+use Rattle.ol_term.specs.Trees.{Tree, var, free, lam, app}
 use Rattle.ol_net.specs.declared.parts.Kind.{Kind}
 use Rattle.ol_net.specs.declared.parts.Kind.TheVariants as kind
 use Rattle.ol_net.specs.declared.parts.Port.{Port}

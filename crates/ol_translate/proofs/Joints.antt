@@ -1,13 +1,13 @@
 -- Each port of a translated term stands in one link.
 use Rattle.std.proofs.Common.{◌≡◌, ℕ, zero, suc, ◌≤◌, ◌+◌, ◌-◌, List, [], ◌∷◌, ◌++◌, length, true, false, Bool, nat_eq, nat_lt, Option, None, Some, refl, ap, ◌∙◌, arith, subst, length-append, zero-add, ne_eqb, ◌&&◌, eq-eqb, if◌then◌else◌}
 use Rattle.std.proofs.lemmas.Bool.Decides.{nat_tests}
-use Rattle.ol_parse.specs.Trees.{Tree, var, free, lam, app, is_below, is_named_below}
+use Rattle.ol_term.specs.Trees.{Tree, var, free, lam, app, is_below, is_named_below}
 use Rattle.ol_net.specs.declared.parts.Kind.{Kind}
 use Rattle.ol_net.specs.declared.parts.Kind.TheVariants as kind
 use Rattle.ol_net.specs.declared.parts.Port.{Port}
 use Rattle.ol_net.specs.declared.parts.Port.TheVariants.{Free}
 use Rattle.ol_translate.specs.Translation.{Part, part_of, abstraction, application, outside, erasers, bound_port, bracket_nodes, bracket_links, bracketed, fans, fan_nodes, fan_links, merged, wire_of, rewired, slot, name_links, nodes_of, links_of}
-use Rattle.ol_translate.specs.Names.{has_name}
+use Rattle.ol_term.specs.Trees.{has_name}
 use Rattle.ol_translate.proofs.Counts.{hit, uses, held, free_ends, slots, times}
 
 uses-append : (p : Port) (xs ys : List (Port × Port)) → uses p (xs ++ ys) ≡ uses p xs + uses p ys

@@ -1,6 +1,6 @@
 -- Worked terms.
 use Rattle.std.proofs.Common.{◌≡◌, [], ◌∷◌, refl}
-use Rattle.ol_parse.specs.Trees.{Tree, var, free, lam, app}
+use Rattle.ol_term.specs.Trees.{Tree, var, free, lam, app}
 use Rattle.ol_net.specs.declared.parts.Kind.TheVariants.{Lam, App, Fan, Croissant, Bracket, Eraser}
 use Rattle.ol_net.specs.declared.parts.Port.TheVariants.{Free}
 use Rattle.ol_translate.specs.Translation.{nodes_of, links_of, slot}

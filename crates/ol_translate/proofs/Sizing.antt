@@ -2,7 +2,7 @@
 use Rattle.std.proofs.Common.{◌≡◌, ℕ, suc, ◌≤◌, ◌+◌, ◌-◌, List, [], ◌∷◌, ◌++◌, length, map, filter, true, false, Bool, not, ◌||◌, cond, nat_eq, nat_lt, Option, None, Some, is_some, refl, ap, sym, ◌∙◌, arith, length-append, zero-add, eq-eqb, append_assoc, append-nil, if◌then◌else◌}
 use Rattle.std.proofs.lemmas.Bool.Decides.{nat_tests}
 use Rattle.std.proofs.lemmas.List.Folds.{list_any-append}
-use Rattle.ol_parse.specs.Trees.{Tree, var, free, lam, app}
+use Rattle.ol_term.specs.Trees.{Tree, var, free, lam, app}
 use Rattle.ol_net.specs.declared.parts.Kind.TheVariants as kind
 use Rattle.ol_net.specs.declared.parts.Port.{Port}
 use Rattle.ol_translate.specs.Translation.{Part, Wires, part_of, application, outside, erasers, bracket_nodes, bracketed, fans, fan_nodes, merged, wire_of, rewired, slot, nodes_of}

@@ -1,6 +1,6 @@
 -- The law of the translation.
 use Rattle.std.specs.Prelude.{ℕ}
-use Rattle.ol_parse.specs.Trees.{Tree}
+use Rattle.ol_term.specs.Trees.{Tree}
 use Rattle.ol_net.specs.Nets.{IsNet}
 use Rattle.ol_translate.specs.Translation.{translation_of}
 use Rattle.ol_translate.specs.Names.{HasNames}

@@ -1,7 +1,7 @@
 -- The number of nodes of a translated term.
 use Rattle.std.specs.Prelude.{ℕ, ◌+◌, ◌-◌, Bool, not, ◌==◌, nat_lt, List, [], ◌∷◌, ◌++◌, length, map, filter, if◌then◌else◌}
 use Rattle.std.specs.List.{list_any}
-use Rattle.ol_parse.specs.Trees.{Tree, var, free, lam, app}
+use Rattle.ol_term.specs.Trees.{Tree, var, free, lam, app}
 
 abbrev pub is_among : ℕ → List ℕ → Bool
 is_among v vs = list_any (λ w. w == v) vs

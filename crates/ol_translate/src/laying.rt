@@ -1,7 +1,7 @@
 //! The walk over a term that lays down its nodes and links.
 
 ghost use Rattle.std.specs.Prelude.{◌≡◌, ℕ, ◌^◌, All, ◌≤◌, ◌<◌, ◌+◌, ◌++◌, [], ◌∷◌, length, IfOk, OnOk, IfErr};
-ghost use Rattle.ol_parse.specs.Trees.{tree_of};
+ghost use Rattle.ol_term.specs.Trees.{tree_of};
 ghost use Rattle.ol_translate.specs.Translation.{nodes_of, links_of, name_links, occurrence, part_of, wire_of, outside, slot, erasers, bound_port, bracket_nodes, bracket_links, bracketed, fans, fan_nodes, fan_links, merged};
 ghost use Rattle.ol_translate.specs.Growth.{Lays, Adds};
 ghost use Rattle.ol_translate.specs.Names.{HasNames};
@@ -12,7 +12,7 @@ use crate::faults::TransFault;
 use crate::parts::Parts;
 use crate::wires::{Ends, Wire, find_wire, place_of, slot_of};
 use ol_net::{Kind, Port};
-use ol_parse::Term;
+use ol_term::Term;
 use std::alloc::Global;
 
 impl Parts {

@@ -2,13 +2,13 @@
 #![tactic(auto)]
 
 ghost use Rattle.std.specs.Prelude.{◌≡◌, ℕ, ◌≢◌, ◌≤◌, ◌<◌, ◌+◌, ◌*◌, ◌↔◌, true, length, Ok, Err, IfOk, IfErr};
-ghost use Rattle.ol_parse.specs.Trees.{tree_of, is_named_below, depth, lams, occurrences};
+ghost use Rattle.ol_term.specs.Trees.{tree_of, is_named_below, depth, lams, occurrences};
 ghost use Rattle.ol_net.specs.Nets.{SameNet};
 ghost use Rattle.ol_net.specs.Numbered.{net_of};
 ghost use Rattle.ol_net.specs.Build.{all_live};
 ghost use Rattle.ol_translate.specs.Translation.{nodes_of, translation_of};
 ghost use Rattle.ol_translate.specs.Sizes.{size_of_translation};
-ghost use Rattle.ol_translate.specs.Names.{has_name};
+ghost use Rattle.ol_term.specs.Trees.{has_name};
 
 mod faults;
 mod laws;
@@ -21,7 +21,7 @@ mod wires;
 pub use faults::TransFault;
 pub use laws::translation_is_a_net;
 use ol_net::{BuildFault, Net};
-use ol_parse::TermFile;
+use ol_term::TermFile;
 use parts::Parts;
 use std::alloc::Global;
 

@@ -1,12 +1,12 @@
 //! Worked terms.
 
 ghost use Rattle.std.specs.Prelude.{◌≡◌, ◌≤◌, ◌+◌, true, length, IfOk};
-ghost use Rattle.ol_parse.specs.Trees.{tree_of, var, lam, app, is_below, is_named_below, depth};
+ghost use Rattle.ol_term.specs.Trees.{tree_of, var, lam, app, is_below, is_named_below, depth};
 ghost use Rattle.ol_translate.specs.Names.{HasNames};
 
 use crate::{TransFault, translate};
 use ol_net::{Kind, Net, NodeId, Port};
-use ol_parse::{Names, Term, TermFile};
+use ol_term::{Names, Term, TermFile};
 use std::alloc::Global;
 use std::process::Abort;
 use std::test::Fail;

@@ -1,6 +1,6 @@
 use Rattle.std.proofs.Common.{◌+◌, length, Err, refl, ap, ◌∙◌, arith}
 use Rattle.std.proofs.lemmas.Result.{err_from_is_err_and}
-use Rattle.ol_parse.specs.Trees.{tree_of}
+use Rattle.ol_term.specs.Trees.{tree_of}
 use Rattle.ol_net.specs.Numbered.{net_of}
 use Rattle.ol_translate.specs.Sizes.{size_of_translation}
 use Rattle.ol_translate.proofs.Bound.{few_names, few_links, few_enough}

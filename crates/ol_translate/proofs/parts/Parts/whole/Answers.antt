@@ -1,4 +1,4 @@
-use Rattle.ol_parse.specs.Trees.{tree_of}
+use Rattle.ol_term.specs.Trees.{tree_of}
 use Rattle.ol_translate.proofs.Bound.{laid_names_fit}
 use Rattle.ol_translate.proofs.parts.Parts.whole.Goals as goal
 

@@ -1,0 +1,263 @@
+//! The reader over bytes.
+
+ghost use Rattle.std.specs.Prelude.{◌≡◌, option_map, Option, false, ℕ, ◌+◌, ◌<◌, ◌≤◌, List, [], ◌∷◌, ◌++◌, Some, IfOk, IfErr, IfSome, OnOk, length, slice_index};
+ghost use Rattle.ol_parse.specs.Grammar.{Named, Token, name, let_key, in_key, lambda, dot, equals, open_bracket, close_bracket};
+ghost use Rattle.ol_parse.specs.Texts.{class_of, in_word, token_of, is_text, IsText, IsDeadPlace};
+ghost use Rattle.ol_parse.specs.Machine.{Frame, State, step, final, finish};
+ghost use Rattle.ol_parse.specs.Reading.{Reading, gap_step, byte_step, byte_final};
+ghost use Rattle.ol_parse.specs.Flat.{Holds, Next, built};
+ghost use Rattle.ol_parse.specs.FlatBytes.{seen, key_of, from_of, Stands, NextPlace, EndsIn, IsRefused};
+
+use crate::faults::ParseFault;
+use crate::flat::{Mode, Op, Open};
+use crate::tokens::{
+    finish, take_close, take_dot, take_equals, take_in, take_lambda, take_let, take_name, take_open,
+};
+use std::alloc::{AllocError, Global};
+
+/// What a byte is.
+#[derive(Clone, Copy)]
+pub enum Class {
+    Blank,
+    Hash,
+    Letter,
+    Digit,
+    Slash,
+    Dot,
+    Equals,
+    OpenBracket,
+    CloseBracket,
+    Lead,
+    Other,
+}
+
+/// Where the reader is: between tokens, in a comment, in a word from a place on, or in the middle of
+/// the letter λ.
+#[derive(Clone, Copy)]
+pub enum Place {
+    Gap,
+    Comment,
+    Word(usize),
+    Half,
+}
+
+/// What a word is.
+#[derive(Clone, Copy)]
+pub enum Key {
+    Let,
+    In,
+    Name,
+}
+
+#[tactic(auto, unfolding(crate::specs::Texts::class_of))]
+fn class_of_byte(b: u8) -> Class
+    ensures { seen result ≡ class_of b }
+{
+    if (b >= 97 && b <= 122) || (b >= 65 && b <= 90) || b == 95 {
+        Class::Letter
+    } else if (b >= 48 && b <= 57) || b == 39 {
+        Class::Digit
+    } else if b == 32 || b == 9 || b == 10 || b == 13 {
+        Class::Blank
+    } else if b == 35 {
+        Class::Hash
+    } else if b == 92 {
+        Class::Slash
+    } else if b == 46 {
+        Class::Dot
+    } else if b == 61 {
+        Class::Equals
+    } else if b == 40 {
+        Class::OpenBracket
+    } else if b == 41 {
+        Class::CloseBracket
+    } else if b == 206 {
+        Class::Lead
+    } else {
+        Class::Other
+    }
+}
+
+/// Whether two words have the same bytes.
+pub fn is_same(word: &[u8], other: &[u8]) -> bool
+    ensures { result ≡ is_text word.now other.now }
+{
+    word == other
+}
+
+#[tactic(auto, unfolding(crate::specs::Texts::token_of))]
+fn key_of_word(word: &[u8]) -> Key
+    ensures { key_of result word.now ≡ token_of word.now }
+{
+    if is_same(word, b"let") {
+        Key::Let
+    } else if is_same(word, b"in") {
+        Key::In
+    } else {
+        Key::Name
+    }
+}
+
+fn take_word<'a>(
+    word: &'a [u8],
+    mode: Mode<'a>,
+    opens: &mut Vec<Open<'a>>,
+    out: &mut Vec<Op<'a>>,
+) -> Result<Option<Mode<'a>>, AllocError>
+    ensures { IfOk result (λ next. (p : State) → Holds p mode.entry opens.old.items out.old.items → Next (step p (token_of word.now)) next opens.new.items out.new.items) }
+{
+    match key_of_word(word) {
+        Key::Let => take_let(mode, opens, out),
+        Key::In => take_in(mode, opens, out),
+        Key::Name => take_name(word, mode, opens, out),
+    }
+}
+
+fn is_in_word(b: u8) -> bool
+    ensures { result ≡ in_word (class_of b) }
+{
+    match class_of_byte(b) {
+        Class::Letter | Class::Digit => true,
+        _ => false,
+    }
+}
+
+fn at_place<'a>(place: Place, next: Option<Mode<'a>>) -> Option<(Place, Mode<'a>)>
+    ensures { result ≡ option_map (λ m. (place, m)) next.entry }
+{
+    match next {
+        Some(mode) => Some((place, mode)),
+        None => None,
+    }
+}
+
+fn take_in_gap<'a>(
+    text: &'a [u8],
+    at: usize,
+    mode: Mode<'a>,
+    opens: &mut Vec<Open<'a>>,
+    out: &mut Vec<Op<'a>>,
+) -> Result<Option<(Place, Mode<'a>)>, AllocError>
+    requires { at < length text.now }
+    ensures stands { IfOk result (λ next. (p : State) → Holds p mode.entry opens.old.items out.old.items → NextPlace text.now (at + 1) (gap_step p (slice_index text.now at) (class_of (slice_index text.now at))) next opens.new.items out.new.items) }
+    ensures begun { IfOk result (λ next. IfSome next (λ n. from_of n.0 ≤ at)) }
+{
+    match class_of_byte(text[at]) {
+        Class::Blank => Ok(Some((Place::Gap, mode))),
+        Class::Hash => Ok(Some((Place::Comment, mode))),
+        Class::Letter => match mode {
+            Mode::LetEquals(_) => Ok(None),
+            _ => Ok(Some((Place::Word(at), mode))),
+        },
+        Class::Slash => Ok(at_place(Place::Gap, take_lambda(mode, opens, out)?)),
+        Class::Dot => Ok(at_place(Place::Gap, take_dot(mode, opens, out))),
+        Class::Equals => Ok(at_place(Place::Gap, take_equals(mode, opens, out)?)),
+        Class::OpenBracket => Ok(at_place(Place::Gap, take_open(mode, opens, out)?)),
+        Class::CloseBracket => Ok(at_place(Place::Gap, take_close(mode, opens, out)?)),
+        Class::Lead => Ok(at_place(Place::Half, take_lambda(mode, opens, out)?)),
+        Class::Digit | Class::Other => Ok(None),
+    }
+}
+
+fn take_byte<'a>(
+    text: &'a [u8],
+    at: usize,
+    place: Place,
+    mode: Mode<'a>,
+    opens: &mut Vec<Open<'a>>,
+    out: &mut Vec<Op<'a>>,
+) -> Result<Option<(Place, Mode<'a>)>, AllocError>
+    requires within { at < length text.now }
+    requires begun { from_of place ≤ at }
+    ensures stands { IfOk result (λ next. (s : Reading) → Stands text.now at s place mode.entry opens.old.items out.old.items → NextPlace text.now (at + 1) (byte_step s (slice_index text.now at)) next opens.new.items out.new.items) }
+    ensures begun { IfOk result (λ next. IfSome next (λ n. from_of n.0 ≤ at)) }
+{
+    match place {
+        Place::Gap => take_in_gap(text, at, mode, opens, out),
+        Place::Comment => {
+            if text[at] == 10 {
+                Ok(Some((Place::Gap, mode)))
+            } else {
+                Ok(Some((Place::Comment, mode)))
+            }
+        }
+        Place::Half => {
+            if text[at] == 187 {
+                Ok(Some((Place::Gap, mode)))
+            } else {
+                Ok(None)
+            }
+        }
+        Place::Word(from) => {
+            if is_in_word(text[at]) {
+                return Ok(Some((Place::Word(from), mode)));
+            }
+            match take_word(&text[from..at], mode, opens, out)? {
+                Some(next) => take_in_gap(text, at, next, opens, out),
+                None => Ok(None),
+            }
+        }
+    }
+}
+
+/// Ends the text behind a token.
+fn take_end<'a>(
+    mode: Mode<'a>,
+    opens: &mut Vec<Open<'a>>,
+    out: &mut Vec<Op<'a>>,
+) -> Result<bool, AllocError>
+    ensures { IfOk result (λ yes. (p : State) → Holds p mode.entry opens.old.items out.old.items → EndsIn (final p) yes out.new.items) }
+{
+    match mode {
+        Mode::Term(true) => match finish(opens, out)? {
+            None => Ok(true),
+            Some(_) => Ok(false),
+        },
+        _ => Ok(false),
+    }
+}
+
+/// Ends the text at this place.
+fn take_text_end<'a>(
+    text: &'a [u8],
+    place: Place,
+    mode: Mode<'a>,
+    opens: &mut Vec<Open<'a>>,
+    out: &mut Vec<Op<'a>>,
+) -> Result<bool, AllocError>
+    requires { from_of place ≤ length text.now }
+    ensures { IfOk result (λ yes. (s : Reading) → Stands text.now (length text.now) s place mode.entry opens.old.items out.old.items → EndsIn (byte_final s) yes out.new.items) }
+{
+    match place {
+        Place::Gap | Place::Comment => take_end(mode, opens, out),
+        Place::Half => Ok(false),
+        Place::Word(from) => match take_word(&text[from..text.len()], mode, opens, out)? {
+            Some(next) => Ok(take_end(next, opens, out)?),
+            None => Ok(false),
+        },
+    }
+}
+
+/// Reads a term, as steps that build it.
+pub fn read<'a>(alloc: Global, text: &'a [u8]) -> Result<Vec<Op<'a>>, ParseFault>
+    ensures found { IfOk result (λ out. (t : Named) × IsText text.now t × (built out.items ≡ Some (t ∷ []))) }
+    ensures refused { IfErr result (λ e. IsRefused text.now e) }
+{
+    let mut opens = Vec::new(alloc);
+    let mut out = Vec::new(alloc);
+    let mut place = Place::Gap;
+    let mut mode = Mode::Term(false);
+    for at in 0..text.len() {
+        match take_byte(text, at, place, mode, &mut opens, &mut out)? {
+            Some((next, then)) => {
+                place = next;
+                mode = then;
+            }
+            None => return Err(ParseFault::Syntax { at }),
+        }
+    }
+    if !take_text_end(text, place, mode, &mut opens, &mut out)? {
+        return Err(ParseFault::Syntax { at: text.len() });
+    }
+    Ok(out)
+}

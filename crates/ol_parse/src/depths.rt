@@ -1,0 +1,60 @@
+//! How deep the tree of a row of steps is, before it is grown.
+
+ghost use Rattle.std.specs.Prelude.{◌≡◌, ◌+◌, ◌*◌, ◌<◌, ◌≤◌, ◌^◌, ℕ, List, [], ◌∷◌, Option, Some, IsSome, IfOk, OnOk, length, map, max, reverse, All};
+ghost use Rattle.ol_parse.specs.Grammar.{Named};
+ghost use Rattle.ol_parse.specs.Flat.{put, built};
+ghost use Rattle.ol_parse.specs.Depth.{named_depth};
+
+use crate::flat::Op;
+use std::alloc::{AllocError, Global};
+
+fn over(a: u64, b: u64) -> u64
+    requires { (a < 2 ^ 63) × (b < 2 ^ 63) }
+    ensures { result ≡ 1 + max a b }
+{
+    if a < b { 1 + b } else { 1 + a }
+}
+
+/// Takes one step on the stack of depths.
+fn deepen(op: Op, done: u64, stack: &mut Vec<u64>) -> Result<(), AllocError>
+    requires few { done < 2 ^ 62 }
+    requires bounded { All (λ d. d ≤ done) stack.old.items }
+    requires can { (ts : List Named) × (map named_depth ts ≡ reverse stack.old.items) × IsSome (put op ts) }
+    ensures bounded { OnOk result (All (λ d. d ≤ done + 2) stack.new.items) }
+    ensures deep { OnOk result ((ts us : List Named) → map named_depth ts ≡ reverse stack.old.items → put op.entry ts ≡ Some us → map named_depth us ≡ reverse stack.new.items) }
+{
+    match op {
+        Op::Push(_) => stack.push(1)?,
+        Op::Apply => match (stack.pop(), stack.pop()) {
+            (Some(argument), Some(function)) => stack.push(over(function, argument))?,
+            _ => unreachable!(),
+        },
+        Op::Abstract(_) => match stack.pop() {
+            Some(body) => stack.push(1 + body)?,
+            None => unreachable!(),
+        },
+        Op::Bind(_) => match (stack.pop(), stack.pop()) {
+            (Some(body), Some(definition)) => stack.push(over(1 + body, definition))?,
+            _ => unreachable!(),
+        },
+    }
+    Ok(())
+}
+
+/// The depth of the term that the steps build.
+pub fn depth_of(alloc: Global, ops: &[Op]) -> Result<u64, AllocError>
+    requires some { (t : Named) × (built ops.now ≡ Some (t ∷ [])) }
+    requires few { length ops.now < 2 ^ 60 }
+    ensures { IfOk result (λ d. (t : Named) → built ops.now ≡ Some (t ∷ []) → d ≡ named_depth t) }
+{
+    let mut stack = Vec::new(alloc);
+    let mut done: u64 = 0;
+    for op in ops {
+        deepen(*op, done, &mut stack)?;
+        done += 2;
+    }
+    match stack.pop() {
+        Some(d) => Ok(d),
+        None => unreachable!(),
+    }
+}

@@ -1,0 +1,98 @@
+//! Lists of names, each found by an index.
+
+ghost use Rattle.std.specs.Prelude.{◌≡◌, ◌≢◌, ℕ, ◌+◌, ◌^◌, ◌<◌, ◌≤◌, ◌↔◌, List, [], ◌∷◌, ◌++◌, Some, IfOk, OnOk, OnErr, IsNone, length, map, slice_get};
+ghost use Rattle.std.specs.BTreeMap.{insert_entry};
+ghost use Rattle.std.specs.Option.{option_map};
+ghost use Rattle.ol_term.specs.NameLists.{IsFirstPlace};
+ghost use Rattle.ol_term.specs.NameIndexes.{IsIndexed, found, by_bytes};
+
+use ol_io::NoMemory;
+use std::alloc::Global;
+use std::collections::BTreeMap;
+use std::marker::Model;
+
+/// A list of names, each a list of bytes, numbered from 0. No name stands in it twice.
+#[derive(Drop)]
+pub struct Names {
+    alloc: Global,
+    rows: Vec<Vec<u8>>,
+    index: BTreeMap<Vec<u8>, u32>,
+}
+
+impl Model for Names {
+    ghost Value = { List (List ℕ) };
+
+    ghost view = { λ n. map (λ row. row.items) n.rows.items };
+
+    ghost invariant = { λ n. IsIndexed (map (λ row. row.items) n.rows.items) n.index.entries };
+}
+
+impl Names {
+    /// No names.
+    pub fn new(alloc: Global) -> Names
+        ensures { result ≡ [] }
+    {
+        Names {
+            alloc,
+            rows: Vec::new(alloc),
+            index: BTreeMap::new(alloc),
+        }
+    }
+
+    /// How many names there are.
+    pub fn len(&self) -> u32
+        ensures { result ≡ length self.now }
+    {
+        self.rows.len() as u32
+    }
+
+    /// The name of this number. None comes exactly where the number isn't below `len`.
+    pub fn get(&self, k: u32) -> Option<&[u8]>
+        ensures name { option_map (λ name. name.now) result ≡ slice_get self.now k }
+        ensures none { IsNone result ↔ (length self.now ≤ k) }
+    {
+        let row = self.rows.get(k as usize)?;
+        Some(row.as_slice())
+    }
+
+    /// The number of this name, which goes last where it isn't there yet.
+    pub fn add(&mut self, name: &[u8]) -> Result<u32, NoMemory>
+        requires { length self.old < 4294967295 }
+        ensures number { IfOk result (λ k. IsFirstPlace self.new name.now k) }
+        ensures known { IfOk result (λ k. k < length self.old → self.new ≡ self.old) }
+        ensures last { IfOk result (λ k.
+            length self.old ≤ k → self.new ≡ self.old ++ name.now ∷ []) }
+        ensures refusal { OnErr result (self.new ≡ self.old) }
+    {
+        if let Some(k) = find(&self.index, name) {
+            return Ok(k);
+        }
+        let number = self.rows.len() as u32;
+        let row = Vec::from_slice(self.alloc, name).map_err(|_| NoMemory)?;
+        let key = Vec::from_slice(self.alloc, name).map_err(|_| NoMemory)?;
+        self.rows.push(row).map_err(|_| NoMemory)?;
+        match put(&mut self.index, key, number) {
+            Ok(()) => Ok(number),
+            Err(NoMemory) => {
+                let _ = self.rows.pop();
+                Err(NoMemory)
+            }
+        }
+    }
+}
+
+fn find(index: &BTreeMap<Vec<u8>, u32>, name: &[u8]) -> Option<u32>
+    ensures { result ≡ found name.now index.now.entries }
+{
+    index.get(name).copied()
+}
+
+fn put(index: &mut BTreeMap<Vec<u8>, u32>, key: Vec<u8>, number: u32) -> Result<(), NoMemory>
+    ensures put { OnOk result (index.new.entries ≡ insert_entry by_bytes index.old.entries key number) }
+    ensures refusal { OnErr result (index.new.entries ≡ index.old.entries) }
+{
+    match index.insert(key, number) {
+        Ok(_) => Ok(()),
+        Err(_) => Err(NoMemory),
+    }
+}
