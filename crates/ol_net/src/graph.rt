@@ -150,6 +150,25 @@ impl Net {
         stuck_in(self.free, &self.nodes, &self.partners)
     }
 
+    /// A net of its own that is equal to this one: the same free ports, the same nodes and links under
+    /// the same numbers, and as many numbers given out. `NoMemory`: no memory was found.
+    pub fn copy(&self) -> Result<Net, NoMemory>
+        ensures copy { IfOk result (λ net. net ≡ self.now) }
+    {
+        let Ok(nodes) = self.nodes.clone() else {
+            return Err(NoMemory);
+        };
+        let Ok(partners) = self.partners.clone() else {
+            return Err(NoMemory);
+        };
+        Ok(Net {
+            free: self.free,
+            live: self.live,
+            nodes,
+            partners,
+        })
+    }
+
     /// Law: what the tables stand for is a net. Each number has one node, and each port stands in
     /// one link, with another port.
     pub fn is_net(&self)
