@@ -3,3 +3,5 @@ pub mod NameLists
 pub mod NameIndexes
 pub mod BinderNames
 pub mod BinderNumbers
+pub mod Texts
+pub mod Printing
