@@ -12,8 +12,9 @@ use crate::terms::Term;
 use ol_io::NoMemory;
 use std::alloc::Global;
 
-/// What is still to be printed: a term with `binders` binders round it, which is the `body` of the
-/// innermost one or not; an argument, after its space; or the right bracket of a term.
+/// What is still to be printed: a term with `binders` binders round it, which is the body of the
+/// innermost one where `body` is true; an argument, with the space before it; or the right bracket of a
+/// term.
 #[derive(Clone, Copy, Drop)]
 pub enum Todo<'a> {
     Term {
@@ -71,23 +72,13 @@ fn put_before_body(text: &mut Vec<u8>, body: bool) -> Result<(), NoMemory>
 fn is_abstraction(term: &Term) -> bool
     ensures { result ≡ is_abstraction (tree_of term.now) }
 {
-    match term {
-        Term::Lam(_) => true,
-        Term::Var(_) => false,
-        Term::Free(_) => false,
-        Term::App(_, _) => false,
-    }
+    matches!(term, Term::Lam(_))
 }
 
 fn is_variable(term: &Term) -> bool
     ensures { result ≡ is_variable (tree_of term.now) }
 {
-    match term {
-        Term::Var(_) => true,
-        Term::Free(_) => true,
-        Term::Lam(_) => false,
-        Term::App(_, _) => false,
-    }
+    matches!(term, Term::Var(_) | Term::Free(_))
 }
 
 // Opens a bracket round a term, which is then to be printed and closed.
@@ -168,6 +159,7 @@ fn print_part<'a>(
     }
 }
 
+// Prints an item up to the first term within it that is still to be printed.
 fn print_next<'a>(
     names: &Names,
     binders: &mut BinderNames<'_>,
@@ -207,7 +199,8 @@ fn print_next<'a>(
     }
 }
 
-/// The printed text of a term, as bytes.
+/// The printed text of a term, as bytes. It is exact for every depth that the number of a binder can count:
+/// what is still to be printed is kept in a list.
 ///
 /// Binders are named by `BinderNames`: a binder with t binders round it, on its own branch, has name
 /// number t. Directly nested abstractions are gathered after one `\`, with one space between two
