@@ -1,1 +1,3 @@
 pub mod Indexing
+pub mod BinderTexts
+pub mod Items
