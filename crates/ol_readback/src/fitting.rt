@@ -136,10 +136,7 @@ pub fn fits(
     requires context { AreHeld values.now context.now }
     ensures { IfOk result (λ r. IsFit (map (value values.now) levels.now.items) lams (context_of values.now context.now) r) }
 {
-    let begins = begins_with(values, levels, context)?;
-    if !begins {
-        return Ok(None);
-    }
+    // The levels are compared last, since most frames that are tried have another mark.
     let m = levels.len();
     let marked = context.level(values, m);
     let mark = binder_at(values, marked)?;
@@ -152,7 +149,13 @@ pub fn fits(
             let counted = arguments_at(values, context, m + 1)?;
             match counted {
                 None => Ok(None),
-                Some(args) => Ok(Some((binder, args))),
+                Some(args) => {
+                    let begins = begins_with(values, levels, context)?;
+                    if !begins {
+                        return Ok(None);
+                    }
+                    Ok(Some((binder, args)))
+                }
             }
         }
     }

@@ -1,4 +1,5 @@
 pub mod Walks
+pub mod Placing
 pub mod Counts
 pub mod Joints
 pub mod Ports

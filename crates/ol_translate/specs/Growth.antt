@@ -1,5 +1,5 @@
 -- What a step of the walk adds to the nodes and links that are laid down.
-use Rattle.std.specs.Prelude.{◌≡◌, ◌<◌, ℕ, List, ◌++◌, length, slice_set, slice_index_or, Some}
+use Rattle.std.specs.Prelude.{◌≡◌, ◌<◌, ℕ, List, ◌++◌, length, slice_set, slice_get, slice_index_or, Some}
 use Rattle.ol_net.specs.declared.parts.Kind.{Kind}
 use Rattle.ol_net.specs.declared.parts.Port.{Port}
 use Rattle.ol_translate.specs.Translation.{Part, wire_of, rewired}
@@ -19,5 +19,14 @@ pub record Adds (nodes nodes' : List (Kind × ℕ)) (links links' : List (Port �
 -- the wire of this variable stands at this place
 pub record IsPlaced (v : ℕ) (wires : List (ℕ × Port)) (place : ℕ) : Type 0 where
   pub within : place < length wires
+  pub own : (w : ℕ × Port) → (slice_index_or wires place w).0 ≡ v
   pub port : (w : ℕ × Port) → wire_of v wires ≡ Some (slice_index_or wires place w).1
   pub changes : (p : Port) → rewired v p wires ≡ slice_set wires place (v, p)
+
+-- no variable has two wires
+abbrev pub HaveOneEach : List (ℕ × Port) → Type 0
+HaveOneEach wires = (i j : ℕ) (w : ℕ × Port) → i < length wires → j < length wires → (slice_index_or wires i w).0 ≡ (slice_index_or wires j w).0 → i ≡ j
+
+-- these are the places of the wires, by their variables
+abbrev pub IsIndex : List ℕ → List (ℕ × Port) → Type 0
+IsIndex places wires = (i : ℕ) (w : ℕ × Port) → i < length wires → slice_get places (slice_index_or wires i w).0 ≡ Some i

@@ -3,14 +3,15 @@
 ghost use Rattle.std.specs.Prelude.{◌≡◌, ℕ, ◌^◌, All, ◌≤◌, ◌<◌, ◌+◌, ◌++◌, [], ◌∷◌, length, IfOk, OnOk, IfErr};
 ghost use Rattle.ol_term.specs.Trees.{tree_of};
 ghost use Rattle.ol_translate.specs.Translation.{nodes_of, links_of, name_links, occurrence, part_of, wire_of, outside, slot, erasers, bound_port, bracket_nodes, bracket_links, bracketed, fans, fan_nodes, fan_links, merged};
-ghost use Rattle.ol_translate.specs.Growth.{Lays, Adds};
+ghost use Rattle.ol_translate.specs.Growth.{Lays, Adds, HaveOneEach, IsIndex};
 ghost use Rattle.ol_translate.specs.Names.{HasNames};
 ghost use Rattle.ol_translate.specs.declared.TheConstants.{MOST_NODES};
 ghost use Rattle.ol_translate.specs.declared.faults.TransFault.TheVariants.{TooMany};
 
 use crate::faults::TransFault;
+use crate::index::Index;
 use crate::parts::Parts;
-use crate::wires::{Ends, Wire, find_wire, place_of, slot_of};
+use crate::wires::{Ends, Wire, find_wire, slot_of};
 use ol_net::{Kind, Port};
 use ol_term::Term;
 use std::alloc::Global;
@@ -28,6 +29,7 @@ impl Parts {
             alloc,
             nodes: Vec::new(alloc),
             links: Vec::new(alloc),
+            index: Index::new(alloc),
         };
         let ends = parts.part(term, 0, 0)?;
         parts.join(Port::Free(0), ends.root)?;
@@ -126,6 +128,7 @@ impl Parts {
         function: Ends,
         argument: &Ends,
     ) -> Result<Ends, TransFault>
+        requires one_each { HaveOneEach function.wires.items }
         ensures adds { IfOk result (λ ends.
             let b = length self.old.nodes.items in
             let more = argument.now.wires.items in
@@ -176,6 +179,7 @@ impl Parts {
         wires: &mut Vec<Wire>,
         more: &Vec<Wire>,
     ) -> Result<(), TransFault>
+        requires one_each { HaveOneEach wires.old.items }
         ensures adds { OnOk result (
             let F = fans level (length self.old.nodes.items) wires.old.items more.now.items in
             Adds self.old.nodes.items self.new.nodes.items self.old.links.items self.new.links.items F.nodes F.links
@@ -183,6 +187,7 @@ impl Parts {
         ensures too_many { IfErr result (λ e. e ≡ TooMany → MOST_NODES < length self.old.nodes.items
             + length (fans level (length self.old.nodes.items) wires.old.items more.now.items).nodes) }
     {
+        self.index.fill(wires)?;
         for wire in more {
             self.fan(level, wires, *wire)?;
         }
@@ -191,6 +196,8 @@ impl Parts {
 
     /// A fan for a variable that has a wire already, else its own wire, last.
     fn fan(&mut self, level: u32, wires: &mut Vec<Wire>, wire: Wire) -> Result<(), TransFault>
+        requires index { IsIndex self.old.index.places.items wires.old.items }
+        ensures index { OnOk result (IsIndex self.new.index.places.items wires.new.items) }
         ensures adds { OnOk result (
             let x = wire_of wire.0 wires.old.items in
             Adds self.old.nodes.items self.new.nodes.items self.old.links.items self.new.links.items
@@ -199,8 +206,11 @@ impl Parts {
         ensures too_many { IfErr result (λ e. e ≡ TooMany → MOST_NODES
             < length self.old.nodes.items + length (fan_nodes level (wire_of wire.0 wires.old.items))) }
     {
-        match place_of(wires, wire.0) {
-            None => wires.push(wire)?,
+        match self.index.place_of(wires, wire.0) {
+            None => {
+                self.index.note(wire.0, wires.len())?;
+                wires.push(wire)?;
+            }
             Some(place) => {
                 let number = self.add(Kind::Fan, level)?;
                 let port = wires[place].1;

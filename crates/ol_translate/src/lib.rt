@@ -11,6 +11,7 @@ ghost use Rattle.ol_translate.specs.Sizes.{size_of_translation};
 ghost use Rattle.ol_term.specs.Trees.{has_name};
 
 mod faults;
+mod index;
 mod laws;
 mod laying;
 mod parts;

@@ -7,15 +7,17 @@ ghost use Rattle.ol_translate.specs.declared.faults.TransFault.TheVariants.{TooM
 
 use crate::MOST_NODES;
 use crate::faults::TransFault;
+use crate::index::Index;
 use ol_net::{Kind, Port};
 use std::alloc::Global;
 
-/// The nodes, in order of their numbers, and the links.
+/// The nodes, in order of their numbers, and the links. The index serves each application in turn.
 #[derive(Drop)]
 pub struct Parts {
     pub alloc: Global,
     pub nodes: Vec<(Kind, u32)>,
     pub links: Vec<(Port, Port)>,
+    pub index: Index,
     ghost few: { length nodes.items ≤ MOST_NODES },
 }
 
@@ -25,6 +27,7 @@ impl Parts {
         ensures number { IfOk result (λ number. number ≡ length self.old.nodes.items) }
         ensures nodes { OnOk result (self.new.nodes.items ≡ self.old.nodes.items ++ (kind, index) ∷ []) }
         ensures links { self.new.links.items ≡ self.old.links.items }
+        ensures index { self.new.index ≡ self.old.index }
         ensures fits { OnOk result (length self.old.nodes.items < MOST_NODES) }
         ensures too_many { IfErr result (λ e. e ≡ TooMany → MOST_NODES ≤ length self.old.nodes.items) }
     {
@@ -40,6 +43,7 @@ impl Parts {
     pub fn join(&mut self, one: Port, other: Port) -> Result<(), TransFault>
         ensures links { OnOk result (self.new.links.items ≡ self.old.links.items ++ (one, other) ∷ []) }
         ensures nodes { self.new.nodes.items ≡ self.old.nodes.items }
+        ensures index { self.new.index ≡ self.old.index }
         ensures refusal { IfErr result (λ e. e ≡ TooMany → ⊥) }
     {
         self.links.push((one, other))?;

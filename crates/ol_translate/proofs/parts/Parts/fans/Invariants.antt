@@ -1,5 +1,6 @@
 use Rattle.std.proofs.Common.{◌≡◌, ◌++◌, length, drop}
 use Rattle.ol_translate.specs.Translation.{fans}
+use Rattle.ol_translate.specs.Growth.{IsIndex}
 use Rattle.ol_translate.proofs.parts.Parts.fans.Given as goal
 
 abbrev pub invariant-loop-wire : goal.invariant-loop-wire
@@ -10,4 +11,5 @@ invariant-loop-wire l =
       nodes : l.self.nodes.items ++ left.nodes ≡ l.fn.self.nodes.items ++ all.nodes;
       links : l.self.links.items ++ left.links ≡ l.fn.self.links.items ++ all.links;
       wires : left.wires ≡ all.wires;
+      index : IsIndex l.self.index.places.items l.wires.items;
     }

@@ -1,0 +1,12 @@
+use Rattle.std.proofs.Common.{length}
+use Rattle.ol_term.specs.Trees.{tree_of}
+use Rattle.ol_translate.proofs.Placing.{part_has_one_each}
+use Rattle.ol_translate.proofs.parts.Parts.+part.Goals as goal
+
+pub application-requires : goal.application-requires
+application-requires t c =
+    let laid = c.in_ok-function-in-App.ensures.lays in
+    record {
+      one_each = part_has_one_each (tree_of c.deref-in-App.result.now) c.args.depth c.args.level (length c.add-in-App.new.self.nodes.items)
+          c.in_ok-function-in-App.function.wires.items laid.wires_are;
+    }
