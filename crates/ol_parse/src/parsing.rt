@@ -45,8 +45,10 @@ fn read_file(alloc: Global, text: &[u8]) -> Result<TermFile, ParseFault>
 /// innermost abstraction of that name, else it is free. The free names are numbered in order of first
 /// occurrence, the function of an application before its argument.
 ///
-/// `Syntax` comes exactly where the text isn't in the grammar, and `Depth` exactly where it is and its term is
-/// deeper than 1,000.
+/// The text has at most 1,073,741,824 bytes. `Syntax` comes exactly where the text isn't in the grammar, with the
+/// length of its longest prefix that begins some text of the grammar, and `Depth` exactly where it is and its term
+/// is deeper than 1,000, with that depth. `NoMemory`: no memory was found. Each name of the file is a name of the
+/// grammar and occurs in its term.
 pub fn parse(alloc: Global, text: &[u8]) -> Result<TermFile, ParseFault>
     requires { length text.now ≤ 1073741824 }
     ensures file { IfOk result (λ file. IsFileOf text.now (tree_of file.term) file.names) }

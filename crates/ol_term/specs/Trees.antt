@@ -35,20 +35,6 @@ has_name k (free n) = n == k
 has_name k (lam t) = has_name k t
 has_name k (app f a) = has_name k f || has_name k a
 
--- how many abstractions a tree has
-abbrev pub lams : Tree → ℕ
-lams (var k) = 0
-lams (free k) = 0
-lams (lam t) = 1 + lams t
-lams (app f a) = lams f + lams a
-
--- how many occurrences of variables and free names a tree has
-abbrev pub occurrences : Tree → ℕ
-occurrences (var k) = 1
-occurrences (free k) = 1
-occurrences (lam t) = occurrences t
-occurrences (app f a) = occurrences f + occurrences a
-
 -- how many constructors a tree has
 abbrev pub size : Tree → ℕ
 size (var k) = 1

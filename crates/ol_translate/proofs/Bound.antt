@@ -1,8 +1,8 @@
--- How many nodes a term without free names may have.
+-- How many wires, links and names a term's net has.
 use Rattle.std.proofs.Common.{zero-add, subst, get_or, All, ◌^◌, ◌≡◌, ℕ, zero, suc, ◌<◌, ◌≤◌, ◌+◌, ◌-◌, ◌*◌, List, [], ◌∷◌, ◌++◌, length, true, false, nat_eq, nat_lt, Option, None, Some, refl, ap, sym, arith, length-append, eq-eqb, ne_eqb}
 use Rattle.std.proofs.lemmas.Bool.Decides.{nat_tests}
 use Rattle.std.proofs.Math.Nat.{mul-le-mul_left}
-use Rattle.ol_term.specs.Trees.{Tree, var, free, lam, app, is_below, is_named_below, lams, occurrences}
+use Rattle.ol_term.specs.Trees.{Tree, var, free, lam, app, is_below, is_named_below}
 use Rattle.ol_net.specs.declared.parts.Port.{Port}
 use Rattle.ol_net.specs.declared.parts.Port.TheVariants.{Free}
 use Rattle.ol_net.specs.declared.parts.Kind.{Kind}
@@ -18,11 +18,6 @@ use Rattle.ol_translate.proofs.Joints.{few_wires, none_past, name_has_wire, and_
 total : ℕ → List (ℕ × Port) → ℕ
 total zero wires = 0
 total (suc d) wires = times d wires + total d wires
-
-total-le : (d : ℕ) (wires : List (ℕ × Port)) → ((v : ℕ) → times v wires ≤ 1) → total d wires ≤ d
-unfolding total
-total-le zero wires few = omega arith
-total-le (suc d) wires few = omega (arith, few d, total-le d wires few)
 
 total-past : (d : ℕ) (w : ℕ × Port) (wires : List (ℕ × Port)) → d ≤ w.0 → total d (w ∷ wires) ≡ total d wires
 unfolding total
@@ -48,94 +43,9 @@ low_key d w wires none =
       | false ↦ (λ t. let past : d ≤ w.0 = grind (arith, nat_tests, t) in let none = rw (eq-eqb w.0 w.0 refl) at (none w.0 past) in absurd (omega arith))
     ] refl
 
-length-total : (d : ℕ) (wires : List (ℕ × Port)) → ((v : ℕ) → d ≤ v → times v wires ≡ 0) → length wires ≤ total d wires
-length-total d [] none = omega arith
-length-total d (w ∷ wires) none =
-    let low : w.0 < d = low_key d w wires none in
-    omega (arith, total-cons d w wires low, length-total d wires (λ v h. grind (arith, none v h)))
-
-length-fans : (n f : ℕ) (wires more : List (ℕ × Port)) → length (fans n f wires more).nodes ≤ length more
-length-fans n f wires [] = omega arith
-length-fans n f wires (w ∷ more) =
-    let one : length (fan_nodes n (wire_of w.0 wires)) ≤ 1 = at_most n (wire_of w.0 wires) in
-    omega (arith, length-append (fan_nodes n (wire_of w.0 wires)) (fans n (f + length (fan_nodes n (wire_of w.0 wires))) (merged f (wire_of w.0 wires) w wires) more).nodes, length-fans n (f + length (fan_nodes n (wire_of w.0 wires))) (merged f (wire_of w.0 wires) w wires) more)
-  where
-    at_most : (n : ℕ) (x : Option Port) → length (fan_nodes n x) ≤ 1
-    at_most n None = omega arith
-    at_most n (Some q) = omega arith
-
 length-bracketed : (b : ℕ) (wires : List (ℕ × Port)) → length (bracketed b wires) ≡ length wires
 length-bracketed b [] = refl
 length-bracketed b (w ∷ wires) = ap suc (length-bracketed (b + 1) wires)
-
-application_length : (n k : ℕ) (M N : Part) → length (application n k M N).nodes ≤ 1 + length M.nodes + length N.nodes + length N.wires + length N.wires
-application_length n k M N =
-    let b : ℕ = k + 1 + length M.nodes + length N.nodes in
-    let F = fans n (k + 1 + length M.nodes + length N.nodes + length N.wires) M.wires (bracketed (k + 1 + length M.nodes + length N.nodes) N.wires) in
-    omega (
-      arith,
-      length-append (((kind.App, n) ∷ M.nodes) ++ N.nodes) (bracket_nodes n N.wires ++ F.nodes),
-      length-append M.nodes N.nodes,
-      length-append (bracket_nodes n N.wires) F.nodes,
-      length-bracket_nodes n N.wires,
-      length-fans n (k + 1 + length M.nodes + length N.nodes + length N.wires) M.wires (bracketed (k + 1 + length M.nodes + length N.nodes) N.wires),
-      length-bracketed (k + 1 + length M.nodes + length N.nodes) N.wires,
-    )
-
-few_free : (d : ℕ) (t : Tree) (n k : ℕ) → is_below d t ≡ true → is_named_below 0 t ≡ true → length (part_of t d n k).wires ≤ d
-few_free d t n k h j =
-    let low = length-total d (part_of t d n k).wires (λ v e. none_past v 0 t d n k h j (omega arith)) in
-    let few = total-le d (part_of t d n k).wires (λ v. few_wires v t d n k) in
-    omega arith
-
-erasers_length : (x : Option Port) → length (erasers x) ≤ 1
-erasers_length None = omega arith
-erasers_length (Some w) = omega arith
-
-sums : (lM lN oM oN d cM cN w c : ℕ) → cM + (1 + 2 * d) ≤ 2 * lM + (2 + 2 * (d + lM)) * oM → cN + (1 + 2 * d) ≤ 2 * lN + (2 + 2 * (d + lN)) * oN
-    → c ≤ 1 + cM + cN + w + w → w ≤ d → c + (1 + 2 * d) ≤ 2 * (lM + lN) + (2 + 2 * (d + (lM + lN))) * (oM + oN)
-sums lM lN oM oN d cM cN w c hm hn hc hw = omega arith
-
--- d abstractions stand outside
-pub few_nodes : (d : ℕ) (t : Tree) (n k : ℕ) → is_below d t ≡ true → is_named_below 0 t ≡ true
-    → length (part_of t d n k).nodes + (1 + 2 * d) ≤ 2 * lams t + (2 + 2 * (d + lams t)) * occurrences t
-few_nodes d (var v) n k h j = omega arith
-few_nodes d (free f) n k h j = omega arith
-few_nodes d (lam M) n k h j =
-    let rest = few_nodes (d + 1) M n (k + 1) h j in
-    omega (arith, rest, length-append (part_of M (d + 1) n (k + 1)).nodes (erasers (wire_of 0 (part_of M (d + 1) n (k + 1)).wires)), erasers_length (wire_of 0 (part_of M (d + 1) n (k + 1)).wires))
-few_nodes d (app M N) n k h j =
-    let bound = and_parts (is_below d M) (is_below d N) h in
-    let named = and_parts (is_named_below 0 M) (is_named_below 0 N) j in
-    let k' = k + 1 + length (part_of M d n (k + 1)).nodes in
-    let left = few_nodes d M n (k + 1) bound.0 named.0 in
-    let right = few_nodes d N (n + 1) (k + 1 + length (part_of M d n (k + 1)).nodes) bound.1 named.1 in
-    let more = application_length n k (part_of M d n (k + 1)) (part_of N d (n + 1) (k + 1 + length (part_of M d n (k + 1)).nodes)) in
-    let few = few_free d N (n + 1) (k + 1 + length (part_of M d n (k + 1)).nodes) bound.1 named.1 in
-    sums (lams M) (lams N) (occurrences M) (occurrences N) d (length (part_of M d n (k + 1)).nodes) (length (part_of N d (n + 1) (k + 1 + length (part_of M d n (k + 1)).nodes)).nodes)
-    (length (part_of N d (n + 1) (k + 1 + length (part_of M d n (k + 1)).nodes)).wires) _ left right more few
-
--- ---- a term of few bytes: an abstraction takes three, an occurrence one
-
-small_above : (e o : ℕ) → 510 + 3 * e + o ≤ 1024 → 2 * (170 + e) + (2 + 2 * (170 + e)) * o ≤ 200000
-small_above e o h =
-    let sum : o + 3 * e ≤ 514 = omega arith in
-    omega (arith, mul-le-mul_left e sum)
-
-small_below : (l e o : ℕ) → l + e ≡ 170 → 3 * l + o ≤ 1024 → 2 * l + (2 + 2 * l) * o ≤ 200000
-small_below l e o k h =
-    let sum : o + 3 * l ≤ 1024 = omega arith in
-    omega (arith, mul-le-mul_left l sum, ap (λ n. l * n) k, ap (λ n. e * n) k)
-
-small : (l o : ℕ) → 3 * l + o ≤ 1024 → 2 * l + (2 + 2 * l) * o ≤ 200000
-small l o h = elim (nat_lt 170 l) as (λ b. nat_lt 170 l ≡ b → 2 * l + (2 + 2 * l) * o ≤ 200000) [
-  | true ↦ (λ t. let past : 170 < l = grind (arith, nat_tests, t) in let is : l ≡ 170 + (l - 170) = omega arith in
-      let here : 510 + 3 * (l - 170) + o ≤ 1024 = omega arith in rw is (small_above (l - 170) o here))
-  | false ↦ (λ t. let low : l ≤ 170 = grind (arith, nat_tests, t) in small_below l (170 - l) o (omega arith) h)
-] refl
-
-pub few_enough : (t : Tree) → is_below 0 t ≡ true → is_named_below 0 t ≡ true → 3 * lams t + occurrences t ≤ 1024 → size_of_translation t ≤ 200000
-few_enough t h j few = omega (arith, few_nodes 0 t 0 0 h j, small (lams t) (occurrences t) few, size_of_nodes t)
 
 -- ---- wires, links and names are few beside the nodes
 

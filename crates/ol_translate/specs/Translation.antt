@@ -1,4 +1,4 @@
--- The translation of a term, row by row of its table: nodes in order of their numbers, and links of ports
+-- The translation of a term, case by case: nodes in order of their numbers, and links of ports
 -- (Gonthier, Abadi and Lévy, The geometry of optimal lambda reduction, 1992).
 use Rattle.std.specs.Prelude.{ℕ, ◌+◌, ◌-◌, List, [], ◌∷◌, ◌++◌, length, map, filter, find, nat_lt, ◌==◌, Option, None, Some, if◌then◌else◌}
 use Rattle.std.specs.Option.{option_map}

@@ -2,7 +2,7 @@
 #![tactic(auto)]
 
 ghost use Rattle.std.specs.Prelude.{◌≡◌, ℕ, ◌≢◌, ◌≤◌, ◌<◌, ◌+◌, ◌*◌, ◌↔◌, true, length, Ok, Err, IfOk, IfErr};
-ghost use Rattle.ol_term.specs.Trees.{tree_of, is_named_below, depth, lams, occurrences};
+ghost use Rattle.ol_term.specs.Trees.{tree_of, depth};
 ghost use Rattle.ol_net.specs.Nets.{SameNet};
 ghost use Rattle.ol_net.specs.Numbered.{net_of};
 ghost use Rattle.ol_net.specs.Build.{all_live};
@@ -30,13 +30,22 @@ use std::alloc::Global;
 pub const MOST_NODES: usize = 200_000;
 
 /// The net of a term: Lamping's graph of it, with croissants and brackets for levels (Gonthier, Abadi and
-/// Lévy, The geometry of optimal lambda reduction, 1992).
+/// Lévy, The geometry of optimal lambda reduction, 1992; which of their variants it is, this says).
 ///
-/// The root is joined to free port 0, and free name k, from 0, has free port k + 1. Nodes are numbered
-/// from 0 in preorder: a node before those of its subterms, the function before the argument, an eraser
-/// after its abstraction's body, and brackets and then fans after both terms of their application.
+/// The root, at level 0, is joined to free port 0, and free name k, from 0, has free port k + 1. An
+/// occurrence at level n is a croissant n; an abstraction is an abstraction node n, whose body stands at
+/// level n, with an eraser where its variable doesn't occur; an application is an application node n,
+/// whose function stands at level n and whose argument at level n + 1, with a bracket n for each variable
+/// of the argument and a fan n for each variable of both, each once and in order of first occurrence in
+/// the argument. Slot 0 of an occurrence, of a bracket and of a fan is on the side of the binder.
 ///
-/// `TooMany` comes exactly where the net would have more than `MOST_NODES` nodes.
+/// Nodes are numbered from 0 in preorder: a node before those of its subterms, the function before the
+/// argument, an eraser after its abstraction's body, and brackets and then fans after both terms of
+/// their application.
+///
+/// Each name of the file occurs in its term, whose depth is at most 1,000, as in every file that is
+/// parsed. `TooMany` comes exactly where the net would have more than `MOST_NODES` nodes; nothing is
+/// built past that. `NoMemory`: no memory was found.
 pub fn translate(alloc: Global, file: &TermFile) -> Result<Net, TransFault>
     requires each_name { (k : ℕ) → k < length file.now.names → has_name k (tree_of file.now.term) ≡ true }
     requires shallow { depth (tree_of file.now.term) ≤ 1000 }
@@ -45,9 +54,6 @@ pub fn translate(alloc: Global, file: &TermFile) -> Result<Net, TransFault>
     ensures size { IfOk result (λ net. length net.nodes ≡ size_of_translation (tree_of file.now.term)) }
     ensures too_many { result ≢ Err TransFault.NoMemory
         → ((result ≡ Err TransFault.TooMany) ↔ (MOST_NODES < size_of_translation (tree_of file.now.term))) }
-    ensures small { is_named_below 0 (tree_of file.now.term) ≡ true
-        → 3 * lams (tree_of file.now.term) + occurrences (tree_of file.now.term) ≤ 1024
-        → IfErr result (λ e. e ≢ TransFault.TooMany) }
 {
     let parts = Parts::whole(alloc, &file.term)?;
     match Net::build(alloc, file.names.len() + 1, parts.nodes, parts.links) {

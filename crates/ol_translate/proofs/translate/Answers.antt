@@ -3,7 +3,7 @@ use Rattle.std.proofs.lemmas.Result.{err_from_is_err_and}
 use Rattle.ol_term.specs.Trees.{tree_of}
 use Rattle.ol_net.specs.Numbered.{net_of}
 use Rattle.ol_translate.specs.Sizes.{size_of_translation}
-use Rattle.ol_translate.proofs.Bound.{few_names, few_links, few_enough}
+use Rattle.ol_translate.proofs.Bound.{few_names, few_links}
 use Rattle.ol_translate.proofs.Sizing.{size_of_nodes}
 use Rattle.ol_translate.proofs.Fitting.{never_refused, same_translation, length-all_live}
 use Rattle.ol_translate.proofs.Answering.{names_of, refused_where, given_where}
@@ -14,14 +14,6 @@ returns-in_err-parts-clause-too_many c =
     let p = err_from_is_err_and c.from_residual.result c.from_residual.ensures.1 in
     refused_where c.from_residual.result c.in_err-parts.field-0.0 200000 (size_of_translation (tree_of c.args.file.now.term))
     (p.1 ∙ ap (λ e. Err e) p.2) (λ is. omega (arith, c.in_err-parts.ensures.too_many is, size_of_nodes (tree_of c.args.file.now.term)))
-
-pub returns-in_err-parts-clause-small : goal.returns-in_err-parts-clause-small
-returns-in_err-parts-clause-small c =
-    let p = err_from_is_err_and c.from_residual.result c.from_residual.ensures.1 in
-    rw (p.1, p.2) (λ closed short is.
-    let many = c.in_err-parts.ensures.too_many is in
-    let few = few_enough (tree_of c.args.file.now.term) c.args.file.now.bound closed short in
-    absurd (omega (arith, many, few, size_of_nodes (tree_of c.args.file.now.term))))
 
 pub overflow_add-len : goal.overflow_add-len
 overflow_add-len c =
