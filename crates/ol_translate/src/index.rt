@@ -1,6 +1,6 @@
 //! Where the wires of variables stand.
 
-ghost use Rattle.std.specs.Prelude.{◌≡◌, ◌≢◌, ◌<◌, ◌≤◌, ◌^◌, ℕ, None, Some, length, slice_get, OnOk, IfErr, MatchOption};
+ghost use Rattle.std.specs.Prelude.{◌≡◌, ◌≢◌, ℕ, None, Some, slice_get, OnOk, IfErr, MatchOption};
 ghost use Rattle.ol_translate.specs.Translation.{wire_of};
 ghost use Rattle.ol_translate.specs.Growth.{IsPlaced, HaveOneEach, IsIndex};
 ghost use Rattle.ol_translate.specs.declared.faults.TransFault.TheVariants.{TooMany};

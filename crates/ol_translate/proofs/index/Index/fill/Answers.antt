@@ -1,4 +1,4 @@
-use Rattle.std.proofs.Common.{get_or, sym, subst}
+use Rattle.std.proofs.Common.{sym, subst}
 use Rattle.ol_translate.specs.Growth.{HaveOneEach}
 use Rattle.ol_net.specs.declared.parts.Port.TheVariants.{Free}
 use Rattle.ol_translate.proofs.Placing.{index_more}
