@@ -1,11 +1,12 @@
 -- The verbs, as clap is told of them.
-use Rattle.std.proofs.Common.{ℕ, ◌≡◌, ◌∙◌, ap, refl, true, false, List, [], ◌∷◌, ◌++◌, Option, Some, None, if◌then◌else◌, codes, inl, inr, true≢false, sym, subst}
+use Rattle.std.proofs.Common.{ℕ, ◌≡◌, ◌∙◌, ap, refl, true, false, List, [], ◌∷◌, ◌++◌, Option, Some, None, if◌then◌else◌, codes, inl, inr, true≢false, sym, subst, fold, find}
+use Rattle.std.specs.Option.{option_map_or}
 use Rattle.std.specs.Prelude.{option_map, nat_eq, length}
 use Rattle.std.specs.Str.{bytes_eq}
 use Rattle.std.proofs.lemmas.Slice.Eq.{bytes_eq-Decides}
-use Rattle.clap.specs.Walk.{Held, Names, Walk, rows_after, walked, walk_from, nothing_held}
-use Rattle.clap.specs.Takes.{entered_passes, level_passes, settle_passes, walk_passes}
-use Rattle.clap.specs.Simple.{Shape, names_of, entered}
+use Rattle.clap.specs.Walk.{Held, Names, Walk, answers_to, rows_after, walked, walk_from, nothing_held}
+use Rattle.clap.specs.Takes.{entered_passes, level_passes, settle_passes, turn_passes, walk_passes}
+use Rattle.clap.specs.Simple.{Shape, names_of, entered, label_of, rows_at}
 use Rattle.clap.specs.Words.{is_simple, built, subcommand_of, takes}
 use Rattle.ol_words.specs.Lines.{Text, is_option}
 use Rattle.ol_words.specs.Jobs.{Verb, options_of, verb_named, run_verb, walk_verb, run, walk, only}
@@ -58,33 +59,51 @@ stopped_passes s names w name seen (x ∷ xs) = stopped_passes s names w name (s
 top_settles : (h : Held) → h ≡ nothing_held → settle_passes top_shape.rules false h ≡ true
 top_settles h is = ap (settle_passes top_shape.rules false) is
 
-run_rows : (program : Text) (rest : List Text) → subcommand_of app (program ∷ run_verb.word ∷ rest) ≡ Some (run_verb.word, rows_after (rules_for (options_of run_verb)) [] rest)
-unfolding walked
-run_rows program rest = ap (entered (built app)) (left_to_it (built app).top.rules (names_of (built app)) (walk_from nothing_held) run_verb.word [] rest)
+-- a word that clap takes for a subcommand, as the first of the words
+module _ (word : Text) (os : List Text)
+    (starts : walked top_shape.rules (names_of (built app)) (walk_from nothing_held) word ≡ record (walk_from nothing_held) { stopped = Some (word, []) })
+    (passes : turn_passes top_shape (names_of (built app)) (walk_from nothing_held) word ≡ true)
+    (finds : find (λ s. answers_to word (label_of s)) (built app).subs ≡ Some (sub_shape word os)) where
+  stops : (rest : List Text) → (fold (walked top_shape.rules (names_of (built app))) (walk_from nothing_held) (word ∷ rest)).stopped ≡ Some (word, rest)
+  stops rest = ap (λ (w : Walk). (fold (walked top_shape.rules (names_of (built app))) w rest).stopped) starts
+      ∙ left_to_it top_shape.rules (names_of (built app)) (walk_from nothing_held) word [] rest
 
-run_taken : (program : Text) (rest : List Text) → level_passes (sub_shape run_verb.word (options_of run_verb)) [] nothing_held rest false ≡ true → takes app (program ∷ run_verb.word ∷ rest) ≡ true
-unfolding walked walk_passes top_shape
-run_taken program rest below =
-    let above = and_true _ _ (stopped_passes (built app).top (names_of (built app)) (walk_from nothing_held) run_verb.word [] rest)
-    (and_true _ _ (top_settles _ (held_before (built app).top.rules (names_of (built app)) (walk_from nothing_held) run_verb.word [] rest)) refl) in
-    and_true _ _ (ap (entered_passes (built app)) (left_to_it (built app).top.rules (names_of (built app)) (walk_from nothing_held) run_verb.word [] rest) ∙ below) above
+  holds : (rest : List Text) → (fold (walked top_shape.rules (names_of (built app))) (walk_from nothing_held) (word ∷ rest)).held ≡ nothing_held
+  holds rest = ap (λ (w : Walk). (fold (walked top_shape.rules (names_of (built app))) w rest).held) starts
+      ∙ held_before top_shape.rules (names_of (built app)) (walk_from nothing_held) word [] rest
 
-walk_rows : (program : Text) (rest : List Text) → subcommand_of app (program ∷ walk_verb.word ∷ rest) ≡ Some (walk_verb.word, rows_after (rules_for (options_of walk_verb)) [] rest)
-unfolding walked
-walk_rows program rest = ap (entered (built app)) (left_to_it (built app).top.rules (names_of (built app)) (walk_from nothing_held) walk_verb.word [] rest)
+  rows_behind : (program : Text) (rest : List Text) → subcommand_of app (program ∷ word ∷ rest) ≡ Some (word, rows_after (rules_for os) [] rest)
+  unfolding top_shape
+  rows_behind program rest = ap (entered (built app)) (stops rest) ∙ ap (option_map (λ (s : Shape). rows_at s rest)) finds
 
-walk_taken : (program : Text) (rest : List Text) → level_passes (sub_shape walk_verb.word (options_of walk_verb)) [] nothing_held rest false ≡ true → takes app (program ∷ walk_verb.word ∷ rest) ≡ true
-unfolding walked walk_passes top_shape
-walk_taken program rest below =
-    let above = and_true _ _ (stopped_passes (built app).top (names_of (built app)) (walk_from nothing_held) walk_verb.word [] rest)
-    (and_true _ _ (top_settles _ (held_before (built app).top.rules (names_of (built app)) (walk_from nothing_held) walk_verb.word [] rest)) refl) in
-    and_true _ _ (ap (entered_passes (built app)) (left_to_it (built app).top.rules (names_of (built app)) (walk_from nothing_held) walk_verb.word [] rest) ∙ below) above
+  walk_on_passes : (rest : List Text) → walk_passes top_shape (names_of (built app)) (walk_from nothing_held) (word ∷ rest) ≡ true
+  unfolding walk_passes
+  walk_on_passes rest = and_true _ _ passes (ap (λ (w : Walk). walk_passes top_shape (names_of (built app)) w rest) starts
+      ∙ stopped_passes top_shape (names_of (built app)) (walk_from nothing_held) word [] rest)
+
+  taken_behind : (program : Text) (rest : List Text) → level_passes (sub_shape word os) [] nothing_held rest false ≡ true → takes app (program ∷ word ∷ rest) ≡ true
+  unfolding top_shape
+  taken_behind program rest below =
+      let above = and_true _ _ (walk_on_passes rest) (and_true _ _ (top_settles _ (holds rest)) refl) in
+      and_true _ _ (ap (entered_passes (built app)) (stops rest) ∙ ap (λ (s : Option Shape). option_map_or (λ s. level_passes s [] nothing_held rest false) s true) finds ∙ below) above
 
 is_run : IsVerb run_verb
-is_run = record { apart = refl; one = run_one; rows = run_rows; taken = run_taken }
+unfolding walked top_shape
+is_run = record {
+  apart = refl;
+  one = run_one;
+  rows = rows_behind run_verb.word (options_of run_verb) refl refl refl;
+  taken = taken_behind run_verb.word (options_of run_verb) refl refl refl;
+}
 
 is_walk : IsVerb walk_verb
-is_walk = record { apart = refl; one = walk_one; rows = walk_rows; taken = walk_taken }
+unfolding walked top_shape
+is_walk = record {
+  apart = refl;
+  one = walk_one;
+  rows = rows_behind walk_verb.word (options_of walk_verb) refl refl refl;
+  taken = taken_behind walk_verb.word (options_of walk_verb) refl refl refl;
+}
 
 -- each verb that a word names is one of the command line's, and is written so
 pub named_is : (word : Text) (v : Verb) → verb_named word ≡ Some v → IsVerb v × (word ≡ v.word)
