@@ -1,3 +1,5 @@
 pub mod Trees
 pub mod NameLists
 pub mod NameIndexes
+pub mod BinderNames
+pub mod BinderLaws
