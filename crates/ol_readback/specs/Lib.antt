@@ -10,3 +10,5 @@ pub mod Names
 pub mod Texts
 pub mod Printing
 pub mod Laws
+pub mod Terms
+pub mod PrintedLaws
