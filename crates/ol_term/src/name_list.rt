@@ -46,9 +46,10 @@ impl Names {
         self.rows.len() as u32
     }
 
-    /// Law: no name stands twice.
+    /// Law: no name stands twice, and there are fewer than 2 ^ 32.
     pub fn are_different(&self)
-        ensures { AreDifferent self.now }
+        ensures different { AreDifferent self.now }
+        ensures few { length self.now < 2 ^ 32 }
     {
         let _ = &self.rows;
     }

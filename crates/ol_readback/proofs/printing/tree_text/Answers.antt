@@ -16,8 +16,8 @@ put_place-requires-clause-seen c =
     seen_at c.args.names.now c.args.tree.now c.loop-place.place c.loop-place.text.items c.loop-place.numbers.items c.loop-place.rounds.items c.loop-place.pending.items c.loop-place.t c.loop-place.argument c.in-Some.node c.loop-place.invariant (sym c.in-Some.ensures.place)
     c.add_round.new.rounds.items c.in_ok-add_round.ensures
 
-pub returns-in-None : goal.returns-in-None
-returns-in-None c =
+pub returns-in-None-clause-text : goal.returns-in-None-clause-text
+returns-in-None-clause-text c =
     let p = c.loop-place.invariant in
     let w = c.wants_bracket-bracket.ensures in
     let n = c.in-Some.node in
