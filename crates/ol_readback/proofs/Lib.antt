@@ -6,7 +6,6 @@ pub mod Forests
 pub mod GroupLists
 pub mod Places
 pub mod Onward
-pub mod NameTexts
 pub mod Layers
 pub mod Printed
 pub mod One

@@ -1,6 +1,7 @@
 -- Where the binders of a whole tree stand.
 use Rattle.std.proofs.Common.{◌≡◌, ℕ, zero, suc, ◌+◌, ◌-◌, ◌<◌, ◌≤◌, ◌^◌, inl, inr, List, [], ◌∷◌, ◌++◌, length, get_or, Bool, true, false, cond, refl, sym, ap, ◌∙◌, subst, eqb, eq-eqb, eqb-true, arith, append_assoc, length-append}
 use Rattle.std.proofs.lemmas.List.{length_push}
+use Rattle.ol_term.specs.BinderNames.{binder_name}
 use Rattle.ol_readback.specs.Whole.{Part, term, lost, cut, none, more, preorder, IsInScope, IsBound}
 use Rattle.ol_readback.specs.Texts.{AreNamed, IsNamedVar, rounds, spaced, abstractions, variable, is_bare, bracketed, text_of}
 use Rattle.ol_readback.specs.Terms.{HasAllHeads, index_of}
@@ -70,14 +71,14 @@ rounds_length t (more u us) =
 
 spaced_long : (names : List (List ℕ)) (t l : ℕ) → l ≤ length (spaced names t l)
 spaced_long names t zero = omega arith
-spaced_long names t (suc l) = let h = spaced_long names (suc t) l in go (Rattle.ol_readback.specs.Names.binder_name names t) (spaced names (suc t) l) h
+spaced_long names t (suc l) = let h = spaced_long names (suc t) l in go (binder_name names t) (spaced names (suc t) l) h
   where
     go : (x y : List ℕ) → l ≤ length y → suc l ≤ length (32 ∷ (x ++ y))
     go x y h = let a = length-append x y in omega arith
 
 abstractions_long : (names : List (List ℕ)) (t l : ℕ) → l ≤ length (abstractions names t l)
 abstractions_long names t zero = omega arith
-abstractions_long names t (suc l) = go (Rattle.ol_readback.specs.Names.binder_name names t) (spaced names (suc t) l) (spaced_long names (suc t) l)
+abstractions_long names t (suc l) = go (binder_name names t) (spaced names (suc t) l) (spaced_long names (suc t) l)
   where
     go : (x y : List ℕ) → l ≤ length y → suc l ≤ length (92 ∷ (x ++ (y ++ (46 ∷ (32 ∷ [])))))
     go x y h = let a = length-append x (y ++ (46 ∷ (32 ∷ []))) in let b = length-append y (46 ∷ (32 ∷ [])) in omega arith

@@ -6,7 +6,6 @@ pub mod Trees
 pub mod Whole
 pub mod Groups
 pub mod Reading
-pub mod Names
 pub mod Texts
 pub mod Printing
 pub mod Laws

@@ -8,7 +8,6 @@
 
 mod answers;
 mod asking;
-mod binder_names;
 mod fitting;
 mod frames;
 mod groups;

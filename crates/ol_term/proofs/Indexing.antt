@@ -1,5 +1,5 @@
 -- An index of names, and one more name.
-use Rattle.std.proofs.Common.{◌≡◌, ℕ, zero, suc, ◌<◌, ◌≤◌, List, [], ◌∷◌, ◌++◌, map, length, length-append, Bool, true, false, cond, Less, Equal, Greater, Vec, Global, Option, Some, None, inl, inr, refl, sym, ap, ◌∙◌, subst, arith}
+use Rattle.std.proofs.Common.{◌≡◌, ℕ, zero, suc, ◌<◌, ◌≤◌, List, [], ◌∷◌, ◌++◌, map, length, length-append, Bool, true, false, cond, Less, Equal, Greater, Vec, Global, Option, Some, None, IsNone, ◌↔◌, inl, inr, refl, sym, ap, ◌∙◌, subst, arith}
 use Rattle.std.specs.Prelude.{◌≢◌, slice_get}
 use Rattle.std.proofs.lemmas.Bool.{cases_lt}
 use Rattle.std.proofs.lemmas.Cmp.{nat_list_cmp_total, tied_itself}
@@ -122,9 +122,9 @@ last_is names key j x high g =
 different_more : (names : List (List ℕ)) (es : List (Key × ℕ)) (key : Key) → IsIndexed names es → found key.items es ≡ None → AreDifferent (names ++ key.items ∷ [])
 different_more names es key i h j k x g g' = elim (cases_lt j (length names)) [
   | inl low ↦ elim (cases_lt k (length names)) [
-      | inl low' ↦ i.different j k x (sym (below_added names (key.items ∷ []) j low) ∙ g) (sym (below_added names (key.items ∷ []) k low') ∙ g')
-      | inr high' ↦ (let l = last_is names key k x high' g' in absurd (not_new names es key j i h low (g ∙ ap (λ x. Some x) l.1)))
-    ]
+    | inl low' ↦ i.different j k x (sym (below_added names (key.items ∷ []) j low) ∙ g) (sym (below_added names (key.items ∷ []) k low') ∙ g')
+    | inr high' ↦ (let l = last_is names key k x high' g' in absurd (not_new names es key j i h low (g ∙ ap (λ x. Some x) l.1)))
+  ]
   | inr high ↦ (
       let l = last_is names key j x high g in
       elim (cases_lt k (length names)) [
@@ -178,3 +178,8 @@ not_past self names es name k e i f h =
 
 pub new_place : (names names' : List (List ℕ)) (es : List (Key × ℕ)) (name : List ℕ) (n : ℕ) → IsIndexed names es → found name es ≡ None → n ≡ length names → names' ≡ names ++ name ∷ [] → IsFirstPlace names' name n
 new_place names names' es name n i f l e = subst (λ x. IsFirstPlace x name n) (sym e) (subst (λ k. IsFirstPlace (names ++ name ∷ []) name k) (sym l) (last_place names name (i.all name f)))
+
+-- a name without a number is nowhere
+pub none_there : (self all : List (List ℕ)) (es : List (Key × ℕ)) (name : List ℕ) (r : Option ℕ) → self ≡ all → IsIndexed all es → r ≡ found name es → IsNone r ↔ ((j : ℕ) → slice_get self j ≢ Some name)
+none_there self all es name None e i f = (λ _ j h. i.all name (sym f) j (ap (λ x. slice_get x j) (sym e) ∙ h), λ _. refl)
+none_there self all es name (Some k) e i f = (λ h. absurd (cc), λ h. absurd (h k (ap (λ x. slice_get x k) e ∙ (i.first name k (sym f)).here)))

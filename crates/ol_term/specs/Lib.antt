@@ -3,3 +3,4 @@ pub mod NameLists
 pub mod NameIndexes
 pub mod BinderNames
 pub mod BinderLaws
+pub mod BinderNumbers

@@ -2,6 +2,7 @@
 #![tactic(auto)]
 
 mod binder_laws;
+mod binder_names;
 mod name_list;
 mod term_file;
 mod terms;
@@ -9,6 +10,7 @@ mod terms;
 mod tests;
 
 pub use binder_laws::binder_names_are_new;
+pub use binder_names::BinderNames;
 pub use name_list::Names;
 pub use term_file::TermFile;
 pub use terms::Term;

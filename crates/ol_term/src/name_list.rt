@@ -1,6 +1,6 @@
 //! Lists of names, each found by an index.
 
-ghost use Rattle.std.specs.Prelude.{◌≡◌, ◌≢◌, ℕ, ◌+◌, ◌^◌, ◌<◌, ◌≤◌, ◌↔◌, List, [], ◌∷◌, ◌++◌, Some, IfOk, OnOk, OnErr, IsNone, length, map, slice_get};
+ghost use Rattle.std.specs.Prelude.{◌≡◌, ◌≢◌, ℕ, ◌+◌, ◌^◌, ◌<◌, ◌≤◌, ◌↔◌, List, [], ◌∷◌, ◌++◌, Some, IfOk, OnOk, OnErr, IfSome, IsNone, length, map, slice_get};
 ghost use Rattle.std.specs.BTreeMap.{insert_entry};
 ghost use Rattle.std.specs.Option.{option_map};
 ghost use Rattle.ol_term.specs.NameLists.{IsFirstPlace, AreDifferent};
@@ -63,6 +63,14 @@ impl Names {
         Some(row.as_slice())
     }
 
+    /// The number of this name. None comes exactly where it isn't there.
+    pub fn find(&self, name: &[u8]) -> Option<u32>
+        ensures place { IfSome result (λ k. IsFirstPlace self.now name.now k) }
+        ensures none { IsNone result ↔ ((j : ℕ) → slice_get self.now j ≢ Some name.now) }
+    {
+        found_in(&self.index, name)
+    }
+
     /// The number of this name, which goes last where it isn't there yet.
     pub fn add(&mut self, name: &[u8]) -> Result<u32, NoMemory>
         requires { length self.old < 4294967295 }
@@ -72,7 +80,7 @@ impl Names {
             length self.old ≤ k → self.new ≡ self.old ++ name.now ∷ []) }
         ensures refusal { OnErr result (self.new ≡ self.old) }
     {
-        if let Some(k) = find(&self.index, name) {
+        if let Some(k) = found_in(&self.index, name) {
             return Ok(k);
         }
         let number = self.rows.len() as u32;
@@ -89,7 +97,7 @@ impl Names {
     }
 }
 
-fn find(index: &BTreeMap<Vec<u8>, u32>, name: &[u8]) -> Option<u32>
+fn found_in(index: &BTreeMap<Vec<u8>, u32>, name: &[u8]) -> Option<u32>
     ensures { result ≡ found name.now index.now.entries }
 {
     index.get(name).copied()
