@@ -1,12 +1,11 @@
 -- What is printed is read back.
-use Rattle.std.proofs.Common.{◌≡◌, ℕ, ◌<◌, ◌^◌, List, [], ◌∷◌, ◌++◌, length, true, refl, sym, ap, ◌∙◌, subst, arith, append-nil}
+use Rattle.std.proofs.Common.{◌≡◌, ℕ, ◌<◌, ◌^◌, List, [], length, true, refl, sym, ap, ◌∙◌, subst, arith, append-nil}
 use Rattle.ol_term.specs.NameLists.{AreDifferent}
 use Rattle.ol_parse.specs.Parsed.{AreNames}
 use Rattle.ol_readback.specs.Whole.{Part, preorder, IsBound}
 use Rattle.ol_readback.specs.Texts.{AreNamed, rounds, text_of_tree}
-use Rattle.ol_readback.specs.Terms.{HasAllHeads, term_of, NoRedex, IsReadAs}
+use Rattle.ol_readback.specs.Terms.{HasAllHeads, term_of, IsReadAs}
 use Rattle.ol_readback.specs.PrintedLaws.{PrintedIsRead}
-use Rattle.ol_readback.specs.declared.answers.ReadNode.{ReadNode}
 use Rattle.ol_readback.proofs.OneTree.{list_is_of_one_tree, no_redex}
 use Rattle.ol_readback.proofs.Grammatical.{tokens, made, tree_is_term}
 use Rattle.ol_readback.proofs.Scoped.{IsGood, good}

@@ -1,10 +1,10 @@
 -- The text of a tree spells its tokens.
-use Rattle.std.proofs.Common.{◌≡◌, ℕ, zero, suc, ◌+◌, ◌-◌, ◌<◌, ◌≤◌, ◌^◌, List, [], ◌∷◌, ◌++◌, map, length, get_or, Some, Bool, true, false, cond, refl, sym, ap, ◌∙◌, subst, arith, append_assoc, append-nil}
+use Rattle.std.proofs.Common.{◌≡◌, ℕ, zero, suc, ◌+◌, ◌-◌, ◌<◌, ◌^◌, List, [], ◌∷◌, ◌++◌, map, length, get_or, Bool, true, false, refl, sym, ap, ◌∙◌, subst, arith, append_assoc, append-nil}
 use Rattle.std.specs.Prelude.{◌≢◌}
 use Rattle.ol_term.specs.BinderNames.{binder_name}
 use Rattle.ol_term.proofs.Binders.{binder_is_letter_with_digits}
 use Rattle.ol_parse.specs.Grammar.{Token, name, lambda, dot, open_bracket, close_bracket}
-use Rattle.ol_parse.specs.Texts.{blank, sign, class_of, is_word, IsGap, gap_none, gap_blank, last_gap, IsToken, token_sign, IsName, Spells, spells_none, spells_one}
+use Rattle.ol_parse.specs.Texts.{class_of, is_word, IsGap, gap_none, gap_blank, last_gap, IsToken, token_sign, IsName, Spells, spells_none, spells_one}
 use Rattle.ol_parse.specs.Parsed.{AreNames}
 use Rattle.ol_readback.specs.Whole.{Part, term, lost, cut, none, more, preorder}
 use Rattle.ol_readback.specs.Texts.{spaced, abstractions, variable, is_bare, bracketed, text_of}
@@ -65,7 +65,7 @@ head_spelled names t (suc l) x {ks = ks} {bs = bs} h k i s after g a =
     let tail : Spelled (map name (binders names (suc t) l) ++ (dot ∷ (name x ∷ ks))) (spaced names (suc t) l ++ (46 ∷ (32 ∷ (x ++ bs)))) = names_spelled names (suc t) l h (omega arith) (sign_token refl point (spaced_token i s)) in
     let first : Spells false (map name (binders names t (suc l)) ++ (dot ∷ (name x ∷ ks))) (binder_name names t ++ (spaced names (suc t) l ++ (46 ∷ (32 ∷ (x ++ bs))))) = spells_one {g = []} gap_none (λ e. absurd (cc)) word (tail true) in
     let shift : binder_name names t ++ (spaced names (suc t) l ++ (46 ∷ (32 ∷ (x ++ bs)))) ≡ (binder_name names t ++ (spaced names (suc t) l ++ (46 ∷ (32 ∷ [])))) ++ (x ++ bs) =
-        ap (λ (y : List ℕ). binder_name names t ++ y) (sym (append_assoc (spaced names (suc t) l) (46 ∷ (32 ∷ [])) (x ++ bs))) ∙ sym (append_assoc (binder_name names t) (spaced names (suc t) l ++ (46 ∷ (32 ∷ []))) (x ++ bs)) in
+    ap (λ (y : List ℕ). binder_name names t ++ y) (sym (append_assoc (spaced names (suc t) l) (46 ∷ (32 ∷ [])) (x ++ bs))) ∙ sym (append_assoc (binder_name names t) (spaced names (suc t) l ++ (46 ∷ (32 ∷ []))) (x ++ bs)) in
     subst (λ (y : List ℕ). Spells after (under names t (suc l) (name x ∷ ks)) (g ++ (92 ∷ y))) shift (spells_one a.0 (λ e w. a.1 e) slash first)
 
 under_more : (names : List (List ℕ)) (t l : ℕ) (js ks : List Token) → under names t l js ++ ks ≡ under names t l (js ++ ks)
@@ -103,7 +103,7 @@ module _ (names : List (List ℕ)) (rs : List ℕ) (good : AreNames names) (few 
       let rest : Spelled (tokens names rs (t + l) ts ++ ks) (text_of names rs (t + l) ts ++ bs) = spelled ts ((i, l) ∷ ss) (suc i) (t + l) h.2 ks bs s in
       let head = head_spelled names t l (variable names rs v) few h.0 (variable_is_name names rs ((i, l) ∷ ss) (t + l) v good few h.0 h.1) rest after g a in
       let shift : abstractions names t l ++ (variable names rs v ++ (text_of names rs (t + l) ts ++ bs)) ≡ (abstractions names t l ++ (variable names rs v ++ text_of names rs (t + l) ts)) ++ bs =
-          ap (λ (y : List ℕ). abstractions names t l ++ y) (sym (append_assoc (variable names rs v) (text_of names rs (t + l) ts) bs)) ∙ sym (append_assoc (abstractions names t l) (variable names rs v ++ text_of names rs (t + l) ts) bs) in
+      ap (λ (y : List ℕ). abstractions names t l ++ y) (sym (append_assoc (variable names rs v) (text_of names rs (t + l) ts) bs)) ∙ sym (append_assoc (abstractions names t l) (variable names rs v ++ text_of names rs (t + l) ts) bs) in
       subst (λ (y : List ℕ). Spells after (tokens names rs t (term l v ts) ++ ks) (g ++ y)) shift
       (subst (λ (y : List Token). Spells after y (g ++ (abstractions names t l ++ (variable names rs v ++ (text_of names rs (t + l) ts ++ bs))))) (sym (under_more names t l (name (variable names rs v) ∷ tokens names rs (t + l) ts) ks)) head)
   spelled lost ss i t h = absurd h

@@ -8,7 +8,6 @@ use Rattle.ol_readback.specs.Terms.{HasAllHeads, index_of}
 use Rattle.ol_readback.specs.declared.answers.HeadVar.{HeadVar}
 use Rattle.ol_readback.specs.declared.answers.HeadVar.TheVariants as var
 use Rattle.ol_readback.specs.declared.answers.ReadNode.{ReadNode}
-use Rattle.ol_readback.specs.declared.answers.ReadNode.TheVariants as node
 use Rattle.ol_readback.proofs.OneTree.{all_left, all_right}
 
 -- these places, the nearest first, have t binders in all
@@ -101,9 +100,9 @@ module _ (names : List (List ℕ)) (rs : List ℕ) where
       let long = abstractions_long names t l in
       let c = length-append (abstractions names t l) (variable names rs v ++ text_of names rs (t + l) ts) in
       let d = length-append (variable names rs v) (text_of names rs (t + l) ts) in
-      let round : AreRound rs ((i, l) ∷ ss) (t + l) = (ap (λ (n : ℕ). n + l) here, subst (AreRound rs ss) (sym here) r) in
-      (
-        omega arith, placed (length names) rs ((i, l) ∷ ss) (t + l) v round h.0 n.0,
+      let round : AreRound rs ((i, l) ∷ ss) (t + l) = (ap (λ (n : ℕ). n + l) here, subst (AreRound rs ss) (sym here) r) in (
+        omega arith,
+        placed (length names) rs ((i, l) ∷ ss) (t + l) v round h.0 n.0,
         good ts ((i, l) ∷ ss) (suc i) (t + l) (before ++ (t ∷ [])) after h.1 n.1 a round (append_assoc before (t ∷ []) (rounds (t + l) ts ++ after) ∙ w) (let m = length_push before t in omega arith) (omega arith),
       )
   good lost ss i t before after h n a r w e few = absurd a
@@ -113,9 +112,8 @@ module _ (names : List (List ℕ)) (rs : List ℕ) where
       let long = bracketed_long (is_bare u) (text_of names rs t u) in
       let c = length-append (bracketed (is_bare u) (text_of names rs t u)) (text_of names rs t us) in
       let d = length-append before (rounds t u) in
-      let f = rounds_length t u in
-      (
+      let f = rounds_length t u in (
         good u ss i t before (rounds t us ++ after) h.0 (named_left (length names) (preorder u) (preorder us) n) (all_left (preorder u) (preorder us) a) r (ap (λ (x : List ℕ). before ++ x) (sym (append_assoc (rounds t u) (rounds t us) after)) ∙ w) e (omega arith),
         good us ss (i + length (preorder u)) t (before ++ rounds t u) after h.1 (named_right (length names) (preorder u) (preorder us) n) (all_right (preorder u) (preorder us) a) r
-        (append_assoc before (rounds t u) (rounds t us ++ after) ∙ ap (λ (x : List ℕ). before ++ x) (sym (append_assoc (rounds t u) (rounds t us) after)) ∙ w) (omega arith) (omega arith),
+            (append_assoc before (rounds t u) (rounds t us ++ after) ∙ ap (λ (x : List ℕ). before ++ x) (sym (append_assoc (rounds t u) (rounds t us) after)) ∙ w) (omega arith) (omega arith),
       )

@@ -1,11 +1,11 @@
 -- A letter with digits is a name of the grammar.
-use Rattle.std.proofs.Common.{◌≡◌, ℕ, ◌≤◌, List, [], ◌∷◌, Bool, true, false, ◌&&◌, cond, refl, sym, ap, ◌∙◌, subst, arith}
+use Rattle.std.proofs.Common.{◌≡◌, ℕ, ◌≤◌, List, [], ◌∷◌, Bool, false, cond, refl, ap, ◌∙◌, subst, arith}
 use Rattle.std.specs.Prelude.{nat_eq}
 use Rattle.std.proofs.lemmas.Bool.{ne_eqb, and_left, and_right}
 use Rattle.std.proofs.lemmas.Bool.Decides.{nat_tests}
 use Rattle.ol_term.specs.BinderLaws.{AreDigits, IsLetterWithDigits}
 use Rattle.ol_parse.specs.Grammar.{Token, name, let_key, in_key}
-use Rattle.ol_parse.specs.Texts.{Class, letter, digit, class_of, in_word, is_text, token_of, AreInWord, IsToken, token_word, IsName}
+use Rattle.ol_parse.specs.Texts.{letter, digit, class_of, in_word, is_text, token_of, AreInWord, IsToken, token_word, IsName}
 
 letter_class : (b : ℕ) → 97 ≤ b → b ≤ 122 → class_of b ≡ letter
 unfolding class_of
