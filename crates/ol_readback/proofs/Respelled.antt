@@ -2,7 +2,6 @@
 use Rattle.std.proofs.Common.{◌≡◌, ℕ, zero, suc, ◌+◌, ◌-◌, ◌<◌, ◌^◌, List, [], ◌∷◌, ◌++◌, map, length, get_or, Bool, true, false, refl, sym, ap, ◌∙◌, subst, arith, append_assoc, append-nil}
 use Rattle.std.specs.Prelude.{◌≢◌}
 use Rattle.ol_term.specs.BinderNames.{binder_name}
-use Rattle.ol_term.proofs.Binders.{binder_is_letter_with_digits}
 use Rattle.ol_parse.specs.Grammar.{Token, name, lambda, dot, open_bracket, close_bracket}
 use Rattle.ol_parse.specs.Texts.{class_of, is_word, IsGap, gap_none, gap_blank, last_gap, IsToken, token_sign, IsName, Spells, spells_none, spells_one}
 use Rattle.ol_parse.specs.Parsed.{AreNames}
@@ -12,7 +11,7 @@ use Rattle.ol_readback.specs.declared.answers.HeadVar.{HeadVar}
 use Rattle.ol_readback.specs.declared.answers.HeadVar.TheVariants as var
 use Rattle.ol_readback.proofs.Grammatical.{binders, under, in_brackets, tokens}
 use Rattle.ol_readback.proofs.Scoped.{IsPlaced, IsGood}
-use Rattle.ol_readback.proofs.WordTokens.{letter_with_digits_is_name}
+use Rattle.ol_readback.proofs.WordTokens.{binder_is_name}
 
 -- whatever stands before
 abbrev Spelled : List Token → List ℕ → Type 0
@@ -50,7 +49,7 @@ names_spelled : (names : List (List ℕ)) (t l : ℕ) {ks : List Token} {bs : Li
 names_spelled names t zero h k s = s
 names_spelled names t (suc l) {ks = ks} {bs = bs} h k s =
     subst (λ (x : List ℕ). Spelled (map name (binders names t (suc l)) ++ ks) (32 ∷ x)) (sym (append_assoc (binder_name names t) (spaced names (suc t) l) bs))
-    (spaced_token (letter_with_digits_is_name (binder_name names t) (binder_is_letter_with_digits names t h (omega arith))) (names_spelled names (suc t) l h (omega arith) s))
+    (spaced_token (binder_is_name names t h (omega arith)) (names_spelled names (suc t) l h (omega arith) s))
 
 -- a gap before what follows
 abbrev IsApart : Bool → List ℕ → Type 0
@@ -61,7 +60,7 @@ head_spelled : (names : List (List ℕ)) (t l : ℕ) (x : List ℕ) {ks : List T
     Spells after (under names t l (name x ∷ ks)) (g ++ (abstractions names t l ++ (x ++ bs)))
 head_spelled names t zero x h k i s after g a = spells_one a.0 (λ e w. a.1 e) i (s true)
 head_spelled names t (suc l) x {ks = ks} {bs = bs} h k i s after g a =
-    let word = letter_with_digits_is_name (binder_name names t) (binder_is_letter_with_digits names t h (omega arith)) in
+    let word = binder_is_name names t h (omega arith) in
     let tail : Spelled (map name (binders names (suc t) l) ++ (dot ∷ (name x ∷ ks))) (spaced names (suc t) l ++ (46 ∷ (32 ∷ (x ++ bs)))) = names_spelled names (suc t) l h (omega arith) (sign_token refl point (spaced_token i s)) in
     let first : Spells false (map name (binders names t (suc l)) ++ (dot ∷ (name x ∷ ks))) (binder_name names t ++ (spaced names (suc t) l ++ (46 ∷ (32 ∷ (x ++ bs))))) = spells_one {g = []} gap_none (λ e. absurd (cc)) word (tail true) in
     let shift : binder_name names t ++ (spaced names (suc t) l ++ (46 ∷ (32 ∷ (x ++ bs)))) ≡ (binder_name names t ++ (spaced names (suc t) l ++ (46 ∷ (32 ∷ [])))) ++ (x ++ bs) =
@@ -81,7 +80,7 @@ variable_is_name : (names : List (List ℕ)) (rs : List ℕ) (ss : List (ℕ × 
 variable_is_name names rs ss t (var.Bound i j) n h k p =
     let first = p.0 in
     let sum = p.1 in
-    letter_with_digits_is_name (binder_name names (get_or rs i 0 + (j - 1))) (binder_is_letter_with_digits names (get_or rs i 0 + (j - 1)) h (omega arith))
+    binder_is_name names (get_or rs i 0 + (j - 1)) h (omega arith)
 variable_is_name names rs ss t (var.Free q) n h k p = let low = p.0 in let high = p.1 in name_at names (q - 1) n (omega arith)
 
 module _ (names : List (List ℕ)) (rs : List ℕ) (good : AreNames names) (few : length names < 2 ^ 32) where

@@ -4,6 +4,9 @@ use Rattle.std.specs.Prelude.{nat_eq}
 use Rattle.std.proofs.lemmas.Bool.{ne_eqb, and_left, and_right}
 use Rattle.std.proofs.lemmas.Bool.Decides.{nat_tests}
 use Rattle.ol_term.specs.BinderLaws.{AreDigits, IsLetterWithDigits}
+use Rattle.ol_term.specs.BinderNames.{binder_name}
+use Rattle.ol_term.proofs.Binders.{binder_is_letter_with_digits}
+use Rattle.ol_readback.specs.PrintedLaws.{BinderIsName}
 use Rattle.ol_parse.specs.Grammar.{Token, name, let_key, in_key}
 use Rattle.ol_parse.specs.Texts.{letter, digit, class_of, in_word, is_text, token_of, AreInWord, IsToken, token_word, IsName}
 
@@ -44,3 +47,6 @@ letter_with_digits_is_name [] h = absurd h
 letter_with_digits_is_name (b ∷ w) h =
     subst (λ (k : Token). IsToken k (b ∷ w)) (no_keyword (b ∷ w) (no_let b w h.2) (no_in b w h.2))
     (token_word (letter_class b h.0 h.1) (digits_in_word w h.2))
+
+pub binder_is_name : BinderIsName
+binder_is_name names t h k = letter_with_digits_is_name (binder_name names t) (binder_is_letter_with_digits names t h k)
