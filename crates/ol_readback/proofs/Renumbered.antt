@@ -1,6 +1,6 @@
 -- The names of a tree's term with names stand for the places of its term.
 use Rattle.std.proofs.Common.{◌≡◌, ℕ, zero, suc, ◌+◌, ◌-◌, ◌<◌, ◌≤◌, ◌^◌, List, [], ◌∷◌, ◌++◌, length, get_or, Option, Some, None, Bool, true, false, cond, refl, sym, ap, ◌∙◌, subst, arith}
-use Rattle.std.specs.Prelude.{slice_get}
+use Rattle.std.specs.Prelude.{slice_get, IsSome}
 use Rattle.std.specs.List.{position_from}
 use Rattle.ol_term.specs.Trees as tree
 use Rattle.ol_term.specs.Trees.{Tree}
@@ -14,7 +14,7 @@ use Rattle.ol_parse.specs.Numbered.{place_of, unbound, free_in, without, once, n
 use Rattle.ol_parse.proofs.Places.{same_text, text_is}
 use Rattle.ol_readback.specs.Whole.{Part, term, lost, cut, none, more, preorder}
 use Rattle.ol_readback.specs.Texts.{variable}
-use Rattle.ol_readback.specs.Terms.{abstracted, index_of, variable_of, meaning, IsFound, AreAmong, term_of}
+use Rattle.ol_readback.specs.Terms.{abstracted, index_of, variable_of, meaning, AreAmong, term_of}
 use Rattle.ol_readback.specs.declared.answers.HeadVar.{HeadVar}
 use Rattle.ol_readback.specs.declared.answers.HeadVar.TheVariants as var
 use Rattle.ol_readback.proofs.Grammatical.{binders, made}
@@ -127,7 +127,7 @@ module _ (names : List (List ℕ)) (rs : List ℕ) (different : AreDifferent nam
       let high = p.1 in
       let x = get_or names (q - 1) [] in
       subst (λ (o : Option ℕ). AreAmong names (unbound (get_or names (q - 1) []) o)) (sym (free_none names (get_or names (q - 1) []) (q - 1) (get_some names (q - 1) (omega arith)) few t 0 l))
-      (subst (λ (o : Option ℕ). IsFound o) (sym (name_found q low high)) tt, tt)
+      (subst (λ (o : Option ℕ). IsSome o) (sym (name_found q low high)) refl, tt)
 
   abbrev IsRenumbered : (b : Bool) → List (ℕ × ℕ) → ℕ → ℕ → Part b → Type 0
   IsRenumbered true ss i t p = numbered names (scope names t) (made names rs t p) ≡ meaning ss i p

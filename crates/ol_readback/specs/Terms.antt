@@ -1,5 +1,5 @@
 -- The term that a tree without NoHead and Cut stands for, and what a printed text is read as.
-use Rattle.std.specs.Prelude.{◌≡◌, ℕ, zero, suc, ◌+◌, ◌-◌, ◌==◌, Bool, true, false, if◌then◌else◌, List, [], ◌∷◌, length, Option, Some, None}
+use Rattle.std.specs.Prelude.{◌≡◌, ℕ, zero, suc, ◌+◌, ◌-◌, ◌==◌, Bool, true, false, if◌then◌else◌, List, [], ◌∷◌, length, IsSome}
 use Rattle.ol_term.specs.Trees as tree
 use Rattle.ol_term.specs.Trees.{Tree}
 use Rattle.ol_parse.specs.Grammar.{Named}
@@ -64,14 +64,10 @@ NoRedex (tree.free k) = Unit {0}
 NoRedex (tree.lam t) = NoRedex t
 NoRedex (tree.app f a) = IsNoLam f × NoRedex f × NoRedex a
 
-abbrev pub IsFound : Option ℕ → Type 0
-IsFound (Some k) = Unit {0}
-IsFound None = ⊥
-
 -- each of these is one of the names
 abbrev pub AreAmong : List (List ℕ) → List (List ℕ) → Type 0
 AreAmong names [] = Unit {0}
-AreAmong names (x ∷ xs) = IsFound (place_of x names) × AreAmong names xs
+AreAmong names (x ∷ xs) = IsSome (place_of x names) × AreAmong names xs
 
 -- the bytes are a text of the grammar, its free names are among these, and by their places in this list its term is this one
 pub record IsReadAs (names : List (List ℕ)) (bytes : List ℕ) (t : Tree) : Type 0 where
