@@ -4,3 +4,5 @@ pub mod NameIndexes
 pub mod BinderNames
 pub mod BinderLaws
 pub mod BinderNumbers
+pub mod Texts
+pub mod Printing
