@@ -11,3 +11,10 @@ pub mod Printed
 pub mod One
 pub mod Kept
 pub mod Named
+pub mod OneTree
+pub mod Grammatical
+pub mod Scoped
+pub mod WordTokens
+pub mod Respelled
+pub mod Renumbered
+pub mod Reread

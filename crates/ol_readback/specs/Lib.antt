@@ -9,3 +9,5 @@ pub mod Reading
 pub mod Texts
 pub mod Printing
 pub mod Laws
+pub mod Terms
+pub mod PrintedLaws

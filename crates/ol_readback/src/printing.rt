@@ -3,6 +3,8 @@
 ghost use Rattle.std.specs.Prelude.{◌≡◌, ◌+◌, ◌<◌, ◌≤◌, ◌++◌, [], ◌∷◌, length, IfOk, OnOk};
 ghost use Rattle.ol_term.specs.BinderNames.{binder_name};
 ghost use Rattle.ol_readback.specs.Texts.{IsNamedVar, IsNamedNode, AreNamed, spaced, abstractions, variable, IsTextOf};
+ghost use Rattle.ol_parse.specs.Parsed.{AreNames};
+ghost use Rattle.ol_readback.specs.Terms.{HasAllHeads, IsReadBack};
 ghost use Rattle.ol_readback.specs.Printing.{IsSeenVar, IsSeen, left_bracket, right_bracket, wants_bracket, printed, opened, Takes};
 
 use crate::answers::{HeadVar, ReadNode};
@@ -236,12 +238,18 @@ fn add_round(rounds: &mut Vec<usize>, t: usize) -> Result<(), NoMemory>
 /// before each. An argument that is a head stands in brackets unless it is a variable alone. A place
 /// without a head prints as `?`, one that was cut as `...`, both without brackets. The free name of port q is name q - 1.
 ///
+/// Where each place has a head and each of the names is a name of the grammar, the text is in the
+/// grammar. Read back, with the free names numbered by `names`, it is the tree's term, in which no
+/// application has an abstraction as its function.
+///
 /// `NoMemory`: no memory was found. Each free name in the tree is one of `names`.
 pub fn tree_text(alloc: Global, tree: &ReadTree, names: &Names) -> Result<Vec<u8>, NoMemory>
     requires free { AreNamed (length names.now) tree.now }
-    ensures { IfOk result (λ text. IsTextOf names.now tree.now text.items) }
+    ensures text { IfOk result (λ text. IsTextOf names.now tree.now text.items) }
+    ensures read { IfOk result (λ text. AreNames names.now → HasAllHeads tree.now → IsReadBack names.now tree.now text.items) }
 {
     tree.is_whole();
+    names.are_different();
     let mut binders = BinderNames::new(alloc, names);
     let mut rounds: Vec<usize> = Vec::new(alloc);
     let mut text: Vec<u8> = Vec::new(alloc);

@@ -2,6 +2,7 @@
 //! their binders, their sizes and their printed texts.
 #![tactic(auto)]
 
+mod binder_laws;
 mod binder_names;
 mod measures;
 mod name_list;
@@ -11,6 +12,7 @@ mod terms;
 #[cfg(test)]
 mod tests;
 
+pub use binder_laws::binder_names_are_new;
 pub use binder_names::BinderNames;
 pub use measures::{alpha_eq, depth, size};
 pub use name_list::Names;

@@ -3,7 +3,7 @@
 ghost use Rattle.std.specs.Prelude.{◌≡◌, ◌≢◌, ℕ, ◌+◌, ◌^◌, ◌<◌, ◌≤◌, ◌↔◌, List, [], ◌∷◌, ◌++◌, Some, IfOk, OnOk, OnErr, IfSome, IsNone, length, map, slice_get};
 ghost use Rattle.std.specs.BTreeMap.{insert_entry};
 ghost use Rattle.std.specs.Option.{option_map};
-ghost use Rattle.ol_term.specs.NameLists.{IsFirstPlace};
+ghost use Rattle.ol_term.specs.NameLists.{IsFirstPlace, AreDifferent};
 ghost use Rattle.ol_term.specs.NameIndexes.{IsIndexed, found, by_bytes};
 
 use ol_io::NoMemory;
@@ -44,6 +44,14 @@ impl Names {
         ensures { result ≡ length self.now }
     {
         self.rows.len() as u32
+    }
+
+    /// Law: no name stands twice, and there are fewer than 2 ^ 32.
+    pub fn are_different(&self)
+        ensures different { AreDifferent self.now }
+        ensures few { length self.now < 2 ^ 32 }
+    {
+        let _ = &self.rows;
     }
 
     /// The name of this number. None comes exactly where the number isn't below `len`.

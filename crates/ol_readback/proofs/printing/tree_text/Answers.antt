@@ -3,6 +3,7 @@ use Rattle.ol_readback.specs.Texts.{rounds, text_of_tree}
 use Rattle.ol_readback.specs.Printing.{printed, opened}
 use Rattle.ol_readback.proofs.Layers.{Taken}
 use Rattle.ol_readback.proofs.Printed.{begin_at, go_on, seen_at, named_at, not_past, printing_next}
+use Rattle.ol_readback.proofs.Reread.{printed_is_read}
 use Rattle.ol_readback.proofs.printing.tree_text.Goals as goal
 
 pub loop-place-init : goal.loop-place-init
@@ -16,8 +17,8 @@ put_place-requires-clause-seen c =
     seen_at c.args.names.now c.args.tree.now c.loop-place.place c.loop-place.text.items c.loop-place.rounds.items c.loop-place.pending.items c.loop-place.t c.loop-place.argument c.in-Some.node c.loop-place.invariant.0 (sym c.in-Some.ensures.place)
     c.add_round.new.rounds.items c.in_ok-add_round.ensures
 
-pub returns-in-None : goal.returns-in-None
-returns-in-None c =
+pub returns-in-None-clause-text : goal.returns-in-None-clause-text
+returns-in-None-clause-text c =
     let p = c.loop-place.invariant.0 in
     let w = c.wants_bracket-bracket.ensures in
     let n = c.in-Some.node in
@@ -29,6 +30,10 @@ returns-in-None c =
     let taken = λ (r : Option ℕ). Taken c.args.names.now (rounds 0 p.tree) (text_of_tree c.args.names.now p.tree) (drop (suc c.loop-place.place) c.args.tree.now) c.take.new.text.items rs c.take.new.pending.items r in
     let f = subst taken c.in-None.is k in
     record { tree = p.tree; listed = p.listed; is = f.0 }
+
+pub returns-in-None-clause-read : goal.returns-in-None-clause-read
+returns-in-None-clause-read c = λ words all.
+    printed_is_read c.args.names.now c.args.tree.now c.take.new.text.items words c.are_different.ensures.different c.are_different.ensures.few (omega (arith, c.take.new.text.ok.0)) c.requires.free c.is_whole.ensures.whole all (returns-in-None-clause-text c)
 
 pub loop-place-preserved : goal.loop-place-preserved
 loop-place-preserved c =
