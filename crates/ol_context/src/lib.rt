@@ -16,6 +16,8 @@ mod laws;
 mod row;
 #[cfg(test)]
 mod tests;
+#[cfg(test)]
+mod walk_tests;
 mod walking;
 
 pub use answers::{Cross, Walk};
