@@ -11,3 +11,4 @@ pub mod Walked
 pub mod Compared
 pub mod Short
 pub mod Turning
+pub mod Facing

@@ -9,4 +9,5 @@ pub mod Crossed
 pub mod Comparing
 pub mod Answers
 pub mod Short
+pub mod Facing
 pub mod Laws

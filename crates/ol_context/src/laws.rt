@@ -1,6 +1,7 @@
 //! Laws of contexts, crossings and walks: no code, only what follows from the definitions.
 
 ghost use Rattle.ol_context.specs.Laws.{ContextsCommute, ContextsPull, ContextsInjective, CrossingBack, ThroughBack, CrossingIsOne, CrossingByTable, WalkIsOne, WalkBack};
+ghost use Rattle.ol_context.specs.Facing.{NoPairsAreLeft};
 ghost use Rattle.ol_context.specs.Short.{WalkTurnsOnce, WalkIsShort, WalkGoesOn};
 
 /// A change at a level and one at a later level commute, with the shift of the later index, and two
@@ -41,4 +42,9 @@ pub fn walk_is_short<A>()
     ensures turns_once { WalkTurnsOnce A }
     ensures short { WalkIsShort A }
     ensures goes_on { WalkGoesOn A }
+{}
+
+/// A net in which no pair is active and none stuck has no two principal ports that are linked.
+pub fn no_pairs_are_left<A>()
+    ensures { NoPairsAreLeft A }
 {}

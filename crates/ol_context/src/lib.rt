@@ -24,7 +24,8 @@ pub use answers::{Cross, Walk};
 pub use arena::{Shape, Val, Values};
 pub use crossing::cross;
 pub use laws::{
-    contexts_commute, crossing_back, crossing_by_table, crossing_is_one, walk_is_one, walk_is_short,
+    contexts_commute, crossing_back, crossing_by_table, crossing_is_one, no_pairs_are_left,
+    walk_is_one, walk_is_short,
 };
 pub use row::Context;
 pub use walking::walk;
