@@ -13,6 +13,8 @@ mod fitting;
 mod frames;
 mod groups;
 mod laws;
+#[cfg(test)]
+mod leave_tests;
 mod leaving;
 mod levels;
 mod printing;
