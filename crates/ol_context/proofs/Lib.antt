@@ -9,3 +9,6 @@ pub mod Marks
 pub mod Crossings
 pub mod Walked
 pub mod Compared
+pub mod Short
+pub mod Turning
+pub mod Facing

@@ -8,4 +8,6 @@ pub mod Trees
 pub mod Crossed
 pub mod Comparing
 pub mod Answers
+pub mod Short
+pub mod Facing
 pub mod Laws

@@ -10,7 +10,7 @@ use std::alloc::{AllocError, Global};
 use std::process::Abort;
 use std::test::Fail;
 
-fn of(node: u32, slot: u8) -> Port
+pub fn of(node: u32, slot: u8) -> Port
     ensures { result ≡ Port.Of (record { 0 = node }) slot }
 {
     Port::Of {
@@ -29,7 +29,7 @@ fn row(alloc: Global, values: &Values, a: Val, b: Val, c: Val) -> Result<Context
 }
 
 /// Asserts that a level of a context is equal to a value.
-fn assert_level(
+pub fn assert_level(
     rt: &impl Abort,
     values: &Values,
     context: &Context,
@@ -45,7 +45,7 @@ fn assert_level(
 }
 
 /// So many times `o.` before a value.
-fn tower(values: &mut Values, count: u32, v: Val) -> Result<Val, NoMemory>
+pub fn tower(values: &mut Values, count: u32, v: Val) -> Result<Val, NoMemory>
     requires { IsHeld values.old v }
     ensures extends { Extends values.old values.new }
     ensures held { IfOk result (λ w. IsHeld values.new w) }

@@ -18,3 +18,6 @@ pub mod WordTokens
 pub mod Respelled
 pub mod Renumbered
 pub mod Reread
+pub mod Holes
+pub mod Enough
+pub mod Sources

@@ -8,6 +8,7 @@ pub mod Groups
 pub mod Reading
 pub mod Texts
 pub mod Printing
+pub mod Sources
 pub mod Laws
 pub mod Terms
 pub mod PrintedLaws

@@ -12,6 +12,8 @@ mod fitting;
 mod frames;
 mod groups;
 mod laws;
+#[cfg(test)]
+mod leave_tests;
 mod leaving;
 mod levels;
 mod printing;
@@ -23,7 +25,9 @@ mod tree;
 pub use answers::{Head, HeadVar, ReadNode};
 pub use asking::head;
 pub use frames::Frame;
-pub use laws::{answers_are_one, heads_kept, printed_terms_are_read, trees_are_whole};
+pub use laws::{
+    answers_are_one, heads_kept, printed_heads, printed_terms_are_read, trees_are_whole, walk_is_short,
+};
 pub use leaving::leave;
 pub use levels::Levels;
 pub use printing::tree_text;

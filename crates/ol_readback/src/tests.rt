@@ -77,7 +77,7 @@ fn reads_binders(rt: HostRuntime) -> Result<(), Fail> {
 }
 
 /// The frame of the root alone, whose head has two abstractions.
-fn root_alone(alloc: Global) -> Result<Vec<Frame>, AllocError>
+pub fn root_alone(alloc: Global) -> Result<Vec<Frame>, AllocError>
     ensures count { IfOk result (λ fs. length fs.items ≡ 1) }
     ensures parents { IfOk result (λ fs. (vs : List Level) → ParentsFirst (frames_of vs fs.items)) }
     ensures held { IfOk result (λ fs. (vs : List Level) → AreHeldFrames vs fs.items) }
