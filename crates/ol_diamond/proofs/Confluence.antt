@@ -122,7 +122,7 @@ rename : (p q : Pair) → p.f ≡ q.f → p.g ≡ q.g → p.rule ≡ q.rule → 
 rename p q a b c = λ i. record { f = a i; g = b i; rule = c i }
 
 -- steps of one net by one pair leave one net
-one_pair : (N N' M M' : NamedNet BirthName) (p q : Pair) → IsSamePair p q → IsBirthNet N → SameNet N N' → IsPairStep N p M → IsPairStep N' q M' → SameNet M M'
+pub one_pair : (N N' M M' : NamedNet BirthName) (p q : Pair) → IsSamePair p q → IsBirthNet N → SameNet N N' → IsPairStep N p M → IsPairStep N' q M' → SameNet M M'
 one_pair N N' M M' p q (r, inl h) b same s s' =
     (one_step (born q.f q.g) N N' M M' q.f q.g q.rule q.rule b.net same (subst (λ p. IsPairStep N p M) (rename p q h.0 h.1 r) s) s').1
 one_pair N N' M M' p q (r, inr h) b same s s' =

@@ -7,8 +7,15 @@
 //! depends on its pair alone, and both orders give the very same names. A journal's names tell the
 //! moment (the ticket); the last law takes them to birth names.
 //!
-//! There is no code here, only definitions and what follows from them.
+//! The laws have no code. `two_orders` shows one square of it on a net: two pairs, rewritten in both
+//! orders.
 #![tactic(auto)]
+
+mod square;
+#[cfg(test)]
+mod tests;
+
+pub use square::{Square, SquareFault, two_orders};
 
 ghost use Rattle.ol_diamond.specs.Laws.{StartIsBirthNet, StepKeepsBirthNet, RunKeepsBirthNet, BornIsFresh, PairsCommute, DoneMeansDone, PairToFront, NoRunHasMore, NoRunIsLonger, CompleteRunsHaveOnePairs, CompleteRunsHaveOneCounts, CompleteRunsLeaveOneNet, BirthFollows, CompleteFollows};
 
