@@ -15,9 +15,9 @@ mod square;
 #[cfg(test)]
 mod tests;
 
-pub use square::{Square, SquareFault, two_orders};
+ghost use Rattle.ol_diamond.specs.Laws.{StartIsBirthNet, StepKeepsBirthNet, RunKeepsBirthNet, BornIsFresh, PairsCommute, DoneMeansDone, PairToFront, EachPairIsAmong, NoRunHasMore, NoRunIsLonger, CompleteRunsHaveOnePairs, CompleteRunsHaveOneCounts, CompleteRunsLeaveOneNet, BirthFollows, CompleteFollows};
 
-ghost use Rattle.ol_diamond.specs.Laws.{StartIsBirthNet, StepKeepsBirthNet, RunKeepsBirthNet, BornIsFresh, PairsCommute, DoneMeansDone, PairToFront, NoRunHasMore, NoRunIsLonger, CompleteRunsHaveOnePairs, CompleteRunsHaveOneCounts, CompleteRunsLeaveOneNet, BirthFollows, CompleteFollows};
+pub use square::{Square, SquareFault, two_orders};
 
 /// Where no node's name is a proper part of another's, no node is there already that a rewrite will
 /// make. A net of start nodes is such a net, and each step and each run keeps it.
@@ -45,9 +45,10 @@ pub fn pair_to_front()
     ensures { PairToFront }
 {}
 
-/// No run from a net has a pair that a complete run from this net hasn't, nor has it a pair more
-/// often, so it is no longer.
+/// Each pair of a run from a net is among the pairs of each complete run from this net, and stands
+/// there at least as often, so no run is longer than a complete one.
 pub fn no_run_is_longer()
+    ensures among { EachPairIsAmong }
     ensures pairs { NoRunHasMore }
     ensures length { NoRunIsLonger }
 {}
