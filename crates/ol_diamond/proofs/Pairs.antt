@@ -1,5 +1,5 @@
 -- Two active pairs of a net that share no node: each is there still when the other is gone.
-use Rattle.std.proofs.Common.{◌≡◌, ◌≢◌, ℕ, ◌+◌, ◌<◌, Bool, true, false, if◌then◌else◌, Some, length, nat_eq, ◌↔◌, ◌⊎◌, inl, inr, refl, sym, ap, ◌∙◌, subst, arith}
+use Rattle.std.proofs.Common.{◌≡◌, ◌≢◌, ℕ, ◌+◌, Bool, true, false, if◌then◌else◌, Some, length, nat_eq, ◌↔◌, ◌⊎◌, inl, inr, refl, sym, ap, ◌∙◌, subst, arith}
 use Rattle.ol_net.specs.declared.parts.Kind.{Kind}
 use Rattle.ol_net.specs.declared.parts.Rule.{Rule}
 use Rattle.ol_net.specs.Parts.{arity}
@@ -13,7 +13,7 @@ use Rattle.ol_net.specs.Nets.{NamedPort, free, slot, IsPort, NamedNet, HasNode, 
 use Rattle.ol_net.specs.Numbered.{numbered_port, net_of}
 use Rattle.ol_net.specs.Pairs.{IsActive, IsInActive}
 use Rattle.ol_net.proofs.Numbered.{active_from, active_first, active_second}
-use Rattle.ol_rules.specs.Rewriting.{is_meeting, action_of, IsStep}
+use Rattle.ol_rules.specs.Rewriting.{is_meeting, action_of}
 use Rattle.ol_rules.specs.Steps.{births, StepsAt}
 use Rattle.ol_rules.specs.Laws.{IsFresh}
 use Rattle.ol_rules.proofs.BothWays.{both_ways}
@@ -22,7 +22,7 @@ use Rattle.ol_rules.proofs.Relation.{net_kept}
 use Rattle.ol_rules.proofs.Tests.{nat_test}
 use Rattle.ol_rules.proofs.UnderWay.{node_below}
 use Rattle.ol_diamond.specs.Squares.{AreTogether}
-use Rattle.ol_diamond.proofs.Commute.{Disjoint, disjoint_sym, faces_still}
+use Rattle.ol_diamond.proofs.Commute.{Disjoint, faces_still}
 
 -- x is one of two nodes
 abbrev pub IsOneOf : {A : Type 0} → A → A → A → Type 0

@@ -1,26 +1,26 @@
 -- Both orders of two pairs of a graph, by birth names and by numbers.
-use Rattle.std.proofs.Common.{◌≡◌, ◌≢◌, ℕ, ◌+◌, ◌-◌, ◌<◌, ◌≤◌, Bool, cond, nat_lt, if◌then◌else◌, List, [], ◌∷◌, map, length, ◌⊎◌, inl, inr, refl, sym, ap, ◌∙◌, subst, arith}
+use Rattle.std.proofs.Common.{◌≡◌, ◌≢◌, ℕ, ◌+◌, ◌-◌, ◌<◌, ◌≤◌, nat_lt, if◌then◌else◌, List, [], ◌∷◌, map, length, ◌⊎◌, inl, inr, refl, sym, ap, ◌∙◌, subst, arith}
 use Rattle.std.proofs.lemmas.Bool.{cases_lt, cond_below, cond_above}
 use Rattle.ol_net.specs.declared.parts.Kind.{Kind}
 use Rattle.ol_net.specs.declared.parts.Rule.{Rule}
 use Rattle.ol_net.specs.Graph.{Graph}
-use Rattle.ol_net.specs.Nets.{NamedPort, free, slot, NamedNet, HasNode, Linked, IsNet, SameNet, Faces, port_under, net_under}
+use Rattle.ol_net.specs.Nets.{NamedPort, free, slot, NamedNet, HasNode, IsNet, SameNet, Faces, port_under, net_under}
 use Rattle.ol_net.specs.Numbered.{net_of}
 use Rattle.ol_net.specs.Pairs.{IsActive, IsInActive}
 use Rattle.ol_rules.specs.Rewriting.{action_of, Rewrites}
 use Rattle.ol_rules.specs.Steps.{births, StepsAt}
 use Rattle.ol_rules.proofs.FreshPairs.{linked_sym}
 use Rattle.ol_rules.proofs.Relation.{same_refl, same_sym, same_trans}
-use Rattle.ol_rules.proofs.Renaming.{node_to, node_from, link_to, link_from, node_back, link_back, net_alike}
+use Rattle.ol_rules.proofs.Renaming.{node_to, link_to, node_back, link_back, net_alike}
 use Rattle.ol_rules.proofs.UnderWay.{node_below}
 use Rattle.ol_diamond.specs.Births.{BirthName, init, born, IsBirthNet}
 use Rattle.ol_diamond.specs.Runs.{Pair, IsSamePair, IsPairStep}
-use Rattle.ol_diamond.specs.Squares.{AreTogether, InTurn, born_between, exchanged, names_after, birth_names, BothOrders}
+use Rattle.ol_diamond.specs.Squares.{IsInNoActive, AreTogether, AreInOnePair, InTurn, born_between, exchanged, names_after, birth_names, BothOrders}
 use Rattle.ol_diamond.proofs.Births.{fresh_of, start_is_birth_net}
 use Rattle.ol_diamond.proofs.Commute.{Disjoint}
 use Rattle.ol_diamond.proofs.Confluence.{step_keeps, take, one_pair, pairs_commute}
 use Rattle.ol_diamond.proofs.Renaming.{IsRenamed, under_renamed, renamed_under, agree, renamed}
-use Rattle.ol_diamond.proofs.Pairs.{AreSameTwo, IsSeenTwice, seen_twice, fresh_numbers, after_net, apart, faces_after}
+use Rattle.ol_diamond.proofs.Pairs.{one_partner, one_rule, AreSameTwo, IsSeenTwice, seen_twice, fresh_numbers, after_net, apart, faces_after}
 
 -- ---- names by numbers
 
@@ -330,3 +330,30 @@ module _ (net ab ba : Graph) (a b : ℕ) (r s : Rule) (is_net : IsNet (net_of ne
 
   pub both : BothOrders net a b r s ab ba
   both = record { ab_turn = t; ba_turn = u; exchange = exchange; births = one_by_births }
+
+-- ---- what is refused
+
+pub idle_apart : (net : Graph) (a b : ℕ) → IsInNoActive net a ⊎ IsInNoActive net b → AreInOnePair net a b → ⊥
+idle_apart net a b (inl n) p = n p.rule p.first
+idle_apart net a b (inr n) p = n p.rule p.second
+
+pub not_idle : (net : Graph) (a b : ℕ) → (r : Rule) × IsInActive (net_of net) a r → (r : Rule) × IsInActive (net_of net) b r → IsInNoActive net a ⊎ IsInNoActive net b → ⊥
+not_idle net a b (r, x) (s, y) (inl n) = n r x
+not_idle net a b (r, x) (s, y) (inr n) = n s y
+
+-- two nodes together are in one active pair where the first is in one
+pub in_one_pair : (net : Graph) (a b : ℕ) → IsNet (net_of net) → (r : Rule) × IsInActive (net_of net) a r → AreTogether net a b → AreInOnePair net a b
+in_one_pair net a b n (r, x) t = record { rule = r; first = x; second = go x t; together = t }
+  where
+    go : IsInActive (net_of net) a r → AreTogether net a b → IsInActive (net_of net) b r
+    go x (inl e) = subst (λ z. IsInActive (net_of net) z r) e x
+    go (y, inl x) (inr h) = (a, inr (subst (λ z. IsActive (net_of net) a z r) (one_partner (net_of net) n a y b x.faces.linked h) x))
+    go (y, inr x) (inr h) = (a, inl (subst (λ z. IsActive (net_of net) z a r) (one_partner (net_of net) n a y b (linked_sym (net_of net) (slot y 0) (slot a 0) x.faces.linked) h) x))
+
+-- both orders, as they were made
+pub as_made : (net ab ba : Graph) (a b : ℕ) (r s r' s' : Rule) → IsNet (net_of net) → (AreTogether net a b → ⊥) → InTurn net a b r s ab → InTurn net b a s' r' ba →
+    IsInActive (net_of net) a r → IsInActive (net_of net) b s → IsInActive (net_of net) b s' → IsInActive (net_of net) a r' → BothOrders net a b r s ab ba
+as_made net ab ba a b r s r' s' n two t u x y y' x' =
+    let p = one_rule (net_of net) n a r' r x' x in
+    let q = one_rule (net_of net) n b s' s y' y in
+    both net ab ba a b r s n two t (subst (λ z. InTurn net b a z r ba) q (subst (λ z. InTurn net b a s' z ba) p u))

@@ -1,4 +1,4 @@
-use Rattle.std.proofs.Common.{◌≡◌, ◌≢◌, arith}
+use Rattle.std.proofs.Common.{arith}
 use Rattle.std.proofs.lemmas.Bool.Decides.{nat_tests}
 use Rattle.ol_diamond.proofs.Pairs.{by_node, by_free, by_none}
 use Rattle.ol_diamond.proofs.square.are_together.Goals as goal
