@@ -10,7 +10,7 @@ use Rattle.ol_rules.specs.Rewriting.{Action, JoinOf, meet, at_f, at_g, between, 
 use Rattle.ol_rules.specs.Laws.{IsFresh}
 use Rattle.ol_rules.proofs.Vertices.{port_same}
 use Rattle.ol_rules.proofs.Tests.{port_test}
-use Rattle.ol_diamond.proofs.Square.{Edge2, Clear, left_after}
+use Rattle.ol_diamond.proofs.Rewirings.{Edge2, Clear, left_after}
 
 -- the two places have no node in common
 pub record Disjoint {A : Type 0} (f g f' g' : A) : Type 0 where

@@ -1,7 +1,7 @@
 -- The steps of nets commute, and so complete runs agree.
-use Rattle.std.proofs.Common.{◌≡◌, ◌≢◌, ℕ, ◌+◌, List, [], ◌∷◌, ◌++◌, length, count_by, Bool, true, false, cond, Some, ◌⊎◌, inl, inr, refl, sym, ap, ◌∙◌, subst, arith}
+use Rattle.std.proofs.Common.{◌≡◌, ◌≢◌, ℕ, ◌+◌, ◌<◌, List, [], ◌∷◌, ◌++◌, length, count_by, Bool, true, false, cond, Some, ◌⊎◌, inl, inr, refl, sym, ap, ◌∙◌, subst, arith}
 use Rattle.std.proofs.lemmas.List.Sums.{sum_by-cons}
-use Rattle.ol_edges.specs.Edges.{bit}
+use Rattle.ol_edges.specs.Edges.{IsIn, bit}
 use Rattle.ol_edges.proofs.Contraction.{is_or_is_not}
 use Rattle.ol_net.specs.declared.parts.Kind.{Kind}
 use Rattle.ol_net.specs.declared.parts.Rule.{Rule}
@@ -17,8 +17,8 @@ use Rattle.ol_rules.proofs.Same.{active_same, step_same, complete_same}
 use Rattle.ol_rules.proofs.FreshPairs.{linked_sym}
 use Rattle.ol_rules.proofs.BothWays.{both_ways}
 use Rattle.ol_diamond.specs.Births.{BirthName, born, IsBirthNet}
-use Rattle.ol_diamond.specs.Runs.{Pair, IsSamePair, IsPairStep, IsPairRun, end, then}
-use Rattle.ol_diamond.specs.Laws.{StepKeepsBirthNet, RunKeepsBirthNet, PairsCommute, DoneMeansDone, PairToFront, NoRunHasMore, NoRunIsLonger, CompleteRunsHaveOnePairs, CompleteRunsLeaveOneNet}
+use Rattle.ol_diamond.specs.Runs.{Pair, IsSamePair, IsOfPairs, IsPairStep, IsPairRun, end, then}
+use Rattle.ol_diamond.specs.Laws.{StepKeepsBirthNet, RunKeepsBirthNet, PairsCommute, DoneMeansDone, PairToFront, EachPairIsAmong, NoRunHasMore, NoRunIsLonger, CompleteRunsHaveOnePairs, CompleteRunsLeaveOneNet}
 use Rattle.ol_diamond.proofs.Births.{same_name, name_test, fresh_of, birth_net_kept}
 use Rattle.ol_diamond.proofs.Commute.{Disjoint, disjoint_sym, faces_still, square}
 use Rattle.ol_diamond.proofs.Turned.{step_around}
@@ -122,7 +122,7 @@ rename : (p q : Pair) → p.f ≡ q.f → p.g ≡ q.g → p.rule ≡ q.rule → 
 rename p q a b c = λ i. record { f = a i; g = b i; rule = c i }
 
 -- steps of one net by one pair leave one net
-one_pair : (N N' M M' : NamedNet BirthName) (p q : Pair) → IsSamePair p q → IsBirthNet N → SameNet N N' → IsPairStep N p M → IsPairStep N' q M' → SameNet M M'
+pub one_pair : (N N' M M' : NamedNet BirthName) (p q : Pair) → IsSamePair p q → IsBirthNet N → SameNet N N' → IsPairStep N p M → IsPairStep N' q M' → SameNet M M'
 one_pair N N' M M' p q (r, inl h) b same s s' =
     (one_step (born q.f q.g) N N' M M' q.f q.g q.rule q.rule b.net same (subst (λ p. IsPairStep N p M) (rename p q h.0 h.1 r) s) s').1
 one_pair N N' M M' p q (r, inr h) b same s s' =
@@ -238,6 +238,58 @@ no_run_has_more N M P ps qs b r d r' test k =
     let x = tally_is test ps in
     let y = tally_is test qs in
     omega arith
+
+-- ---- a pair of a run stands in a complete one
+
+abbrev tell : {P : Type 0} → P ⊎ (P → ⊥) → Bool
+tell (inl h) = true
+tell (inr n) = false
+
+tell_holds : {P : Type 0} (x : P ⊎ (P → ⊥)) → P → tell x ≡ true
+tell_holds (inl h) p = refl
+tell_holds (inr n) p = absurd (n p)
+
+told : {P : Type 0} (x : P ⊎ (P → ⊥)) → tell x ≡ true → P
+told (inl h) e = h
+told (inr n) e = absurd (cc)
+
+tell_same : {P Q : Type 0} (x : P ⊎ (P → ⊥)) (y : Q ⊎ (Q → ⊥)) → (P → Q) → (Q → P) → tell x ≡ tell y
+tell_same (inl h) y f g = sym (tell_holds y (f h))
+tell_same (inr n) (inl h) f g = absurd (n (g h))
+tell_same (inr n) (inr m) f g = refl
+
+pair_trans : (p q s : Pair) → IsSamePair p q → IsSamePair q s → IsSamePair p s
+pair_trans p q s (e, inl h) (e', inl h') = (e ∙ e', inl (h.0 ∙ h'.0, h.1 ∙ h'.1))
+pair_trans p q s (e, inl h) (e', inr h') = (e ∙ e', inr (h.0 ∙ h'.0, h.1 ∙ h'.1))
+pair_trans p q s (e, inr h) (e', inl h') = (e ∙ e', inr (h.0 ∙ h'.1, h.1 ∙ h'.0))
+pair_trans p q s (e, inr h) (e', inr h') = (e ∙ e', inl (h.0 ∙ h'.1, h.1 ∙ h'.0))
+
+-- the test that tells this pair
+abbrev is_pair : Pair → Pair → Bool
+is_pair p q = tell (pair_is p q)
+
+is_pair_of_pairs : (p : Pair) → IsOfPairs (is_pair p)
+is_pair_of_pairs p q s h = tell_same (pair_is p q) (pair_is p s) (λ k. pair_trans p q s k h) (λ k. pair_trans p s q k (pair_sym q s h))
+
+counted : (test : Pair → Bool) (p : Pair) (ps : List Pair) → IsIn p ps → test p ≡ true → 0 < orders.tally test ps
+counted test p [] h e = absurd h
+counted test p (q ∷ ps) (inl a) e = let b = ap bit (ap test (sym a) ∙ e) in omega arith
+counted test p (q ∷ ps) (inr h) e = let b = counted test p ps h e in omega arith
+
+found : (test : Pair → Bool) (ps : List Pair) → 0 < orders.tally test ps → (p : Pair) × IsIn p ps × (test p ≡ true)
+found test [] h = absurd (omega arith)
+found test (p ∷ ps) h = go (test p) refl (found test ps)
+  where
+    go : (b : Bool) → test p ≡ b → (0 < orders.tally test ps → (q : Pair) × IsIn q ps × (test q ≡ true)) → (q : Pair) × IsIn q (p ∷ ps) × (test q ≡ true)
+    go true e rest = (p, inl refl, e)
+    go false e rest = let b = ap bit e in let t = rest (omega arith) in (t.0, inr t.1, t.2)
+
+pub each_pair_is_among : EachPairIsAmong
+each_pair_is_among N M P ps qs b r d r' q h =
+    let a = orders.no_more commuting N M P ps qs b (as_run N M ps r) (ended M d) (as_run N P qs r') (is_pair q) (is_pair_of_pairs q) in
+    let c = counted (is_pair q) q qs h (tell_holds (pair_is q q) (pair_refl q)) in
+    let t = found (is_pair q) ps (omega arith) in
+    (t.0, t.1, pair_sym q t.0 (told (pair_is q t.0) t.2))
 
 all_tally : (ps : List Pair) → orders.tally (λ p. true) ps ≡ length ps
 all_tally [] = refl

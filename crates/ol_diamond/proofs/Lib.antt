@@ -1,8 +1,10 @@
 pub mod Births
-pub mod Square
+pub mod Rewirings
 pub mod Commute
 pub mod Turned
+pub mod Pairs
 pub mod Orders
 pub mod Confluence
 pub mod Renaming
 pub mod Journals
+pub mod Turns

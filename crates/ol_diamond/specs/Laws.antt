@@ -1,5 +1,6 @@
 -- Strong confluence (Lafont, Interaction Nets, 1990): over birth names a step depends on its pair alone, and so the order of steps doesn't matter.
 use Rattle.std.specs.Prelude.{◌≡◌, ◌≢◌, ℕ, ◌≤◌, ◌↔◌, List, ◌∷◌, ◌++◌, length, count_by, Bool}
+use Rattle.ol_edges.specs.Edges.{IsIn}
 use Rattle.ol_net.specs.declared.parts.Kind.{Kind}
 use Rattle.ol_net.specs.declared.parts.Rule.{Rule}
 use Rattle.ol_net.specs.Nets.{NamedNet, HasNode, IsNet, SameNet, net_under}
@@ -40,7 +41,12 @@ abbrev pub PairToFront : Type 0
 PairToFront = (N K M : NamedNet BirthName) (p : Pair) (ps : List Pair) → IsBirthNet N → IsPairStep N p K → IsPairRun N ps M → IsComplete M →
     (before : List Pair) × (q : Pair) × (after : List Pair) × (P : NamedNet BirthName) × IsSamePair p q × (ps ≡ before ++ (q ∷ after)) × IsPairRun N (p ∷ (before ++ after)) P × IsComplete P × SameNet M P
 
--- No run has a pair that a complete run hasn't, nor has it one more often,
+-- Each pair of a run is among the pairs of a complete run,
+abbrev pub EachPairIsAmong : Type 0
+EachPairIsAmong = (N M P : NamedNet BirthName) (ps qs : List Pair) → IsBirthNet N → IsPairRun N ps M → IsComplete M → IsPairRun N qs P →
+    (q : Pair) → IsIn q qs → (p : Pair) × IsIn p ps × IsSamePair p q
+
+-- and stands there at least as often,
 abbrev pub NoRunHasMore : Type 0
 NoRunHasMore = (N M P : NamedNet BirthName) (ps qs : List Pair) → IsBirthNet N → IsPairRun N ps M → IsComplete M → IsPairRun N qs P →
     (test : Pair → Bool) → IsOfPairs test → count_by test qs ≤ count_by test ps

@@ -1,3 +1,4 @@
 pub mod Births
 pub mod Runs
 pub mod Laws
+pub mod Squares

@@ -7,10 +7,17 @@
 //! depends on its pair alone, and both orders give the very same names. A journal's names tell the
 //! moment (the ticket); the last law takes them to birth names.
 //!
-//! There is no code here, only definitions and what follows from them.
+//! The laws have no code. `two_orders` shows one square of it on a net: two pairs, rewritten in both
+//! orders.
 #![tactic(auto)]
 
-ghost use Rattle.ol_diamond.specs.Laws.{StartIsBirthNet, StepKeepsBirthNet, RunKeepsBirthNet, BornIsFresh, PairsCommute, DoneMeansDone, PairToFront, NoRunHasMore, NoRunIsLonger, CompleteRunsHaveOnePairs, CompleteRunsHaveOneCounts, CompleteRunsLeaveOneNet, BirthFollows, CompleteFollows};
+mod square;
+#[cfg(test)]
+mod tests;
+
+ghost use Rattle.ol_diamond.specs.Laws.{StartIsBirthNet, StepKeepsBirthNet, RunKeepsBirthNet, BornIsFresh, PairsCommute, DoneMeansDone, PairToFront, EachPairIsAmong, NoRunHasMore, NoRunIsLonger, CompleteRunsHaveOnePairs, CompleteRunsHaveOneCounts, CompleteRunsLeaveOneNet, BirthFollows, CompleteFollows};
+
+pub use square::{Square, SquareFault, two_orders};
 
 /// Where no node's name is a proper part of another's, no node is there already that a rewrite will
 /// make. A net of start nodes is such a net, and each step and each run keeps it.
@@ -38,9 +45,10 @@ pub fn pair_to_front()
     ensures { PairToFront }
 {}
 
-/// No run from a net has a pair that a complete run from this net hasn't, nor has it a pair more
-/// often, so it is no longer.
+/// Each pair of a run from a net is among the pairs of each complete run from this net, and stands
+/// there at least as often, so no run is longer than a complete one.
 pub fn no_run_is_longer()
+    ensures among { EachPairIsAmong }
     ensures pairs { NoRunHasMore }
     ensures length { NoRunIsLonger }
 {}
