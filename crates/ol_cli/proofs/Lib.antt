@@ -1,6 +1,3 @@
-mod Exact
-mod Evaluated
-mod OneAnswer
 mod Alike
 mod NamedNets
 mod ListedOnce
@@ -9,3 +6,7 @@ mod TreeTransport
 mod OneTree
 mod KeptPorts
 mod OneText
+mod OnePrint
+mod Evaluated
+mod OneAnswer
+mod Exact

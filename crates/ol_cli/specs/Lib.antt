@@ -3,4 +3,5 @@ pub mod Jobs
 pub mod Listing
 pub mod Evaluation
 pub mod Answers
+pub mod Trees
 pub mod Laws
