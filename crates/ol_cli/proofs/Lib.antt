@@ -9,3 +9,4 @@ mod TreeTransport
 mod OneTree
 mod KeptPorts
 mod OneText
+mod OnePrint
