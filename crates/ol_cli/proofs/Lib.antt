@@ -10,3 +10,9 @@ mod OneTree
 mod KeptPorts
 mod OneText
 mod OnePrint
+mod BirthCounts
+mod NetRuns
+mod BirthNets
+mod TwoRuns
+mod EveryRun
+mod NoFacing

@@ -8,7 +8,7 @@ use Rattle.ol_rules.specs.declared.journal.Entry.{Entry}
 use Rattle.ol_rules.specs.Counting.{counts_of}
 use Rattle.ol_rules.specs.Laws.{AreNamedBefore}
 use Rattle.ol_rules.proofs.OneRun.{one_thread_one, complete_or_active}
-use Rattle.ol_rules.proofs.Relation.{same_refl}
+use Rattle.ol_rules.proofs.Relation.{same_refl, same_sym, same_trans}
 use Rattle.ol_rules.proofs.Same.{has_stuck_same}
 use Rattle.ol_rules.proofs.StartNets as start
 use Rattle.ol_translate.specs.Translation.{translation_of}
@@ -16,7 +16,7 @@ use Rattle.ol_readback.specs.Heads.{live}
 use Rattle.ol_readback.specs.Trees.{IsTree}
 use Rattle.ol_readback.specs.Texts.{IsTextOf}
 use Rattle.ol_cli.specs.Texts.{line, answer_text}
-use Rattle.ol_cli.specs.Evaluation.{start_net, Shows, Prints, RunsOut, Walks}
+use Rattle.ol_cli.specs.Evaluation.{start_net, Shows, Prints, RunsOut, Walks, PrintsOf}
 use Rattle.ol_cli.proofs.ListedOnce.{same_length}
 use Rattle.ol_cli.proofs.TreeTransport.{tree_same}
 use Rattle.ol_cli.proofs.OneTree.{one_tree}
@@ -31,6 +31,11 @@ one_show names heads journal M N text text' same s s' =
     let tree : s.tree ≡ s'.tree = one_tree N s'.is_net heads (2 * live N) s.tree s'.tree read s'.read in
     let term : s.term ≡ s'.term = one_text names s'.tree s.term s'.term (subst (λ ns. IsTextOf names ns s.term) tree s.shown) s'.shown in
     s.written ∙ ap (λ x. answer_text x (counts_of journal) s.stuck) term ∙ ap (λ n. answer_text s'.term (counts_of journal) n) stuck ∙ sym s'.written
+
+-- a complete run shows one text
+pub one_shown : (names : List (List ℕ)) (fuel heads : ℕ) (journal : List Entry) (net : NamedNet NodeName) (text text' : List ℕ) → PrintsOf names fuel heads journal net text → PrintsOf names fuel heads journal net text' → text ≡ text'
+one_shown names fuel heads journal net text text' p p' =
+    one_show names heads journal p.listed p'.listed text text' (same_trans p.listed net p'.listed (same_sym net p.listed p.same) p'.same) p.shows p'.shows
 
 module _ (t : Tree) (names : List (List ℕ)) (is_net : IsNet (translation_of t (length names))) where
   -- the net that the run begins with is a net of start nodes
