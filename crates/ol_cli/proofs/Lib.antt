@@ -16,3 +16,5 @@ mod BirthNets
 mod TwoRuns
 mod EveryRun
 mod NoFacing
+mod LeadSearch
+mod AnyRun

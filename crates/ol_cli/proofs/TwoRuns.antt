@@ -1,5 +1,5 @@
 -- Complete runs from a net of start nodes have as many entries, as many of each rule, and nets that are one under other names.
-use Rattle.std.proofs.Common.{◌≡◌, ℕ, ◌<◌, true, List, [], ◌∷◌, ◌++◌, length, sym, ap, ◌∙◌, subst, arith, length-append}
+use Rattle.std.proofs.Common.{◌≡◌, ℕ, ◌≤◌, ◌<◌, true, List, [], ◌∷◌, ◌++◌, length, sym, ap, ◌∙◌, subst, arith, length-append}
 use Rattle.std.proofs.lemmas.Bool.Decides.{nat_tests}
 use Rattle.ol_net.specs.declared.parts.Rule.{Rule}
 use Rattle.ol_net.specs.Nets.{NamedNet, IsNet, SameNet, net_under}
@@ -57,6 +57,15 @@ module _ (N : NamedNet NodeName) (net : IsNet N) (before : AreNamedBefore N 0) w
     -- the second run, from the net of the first
     second : IsPairRun (net_under r.birth N) s.pairs s.after
     second = subst (λ B. IsPairRun B s.pairs s.after) (start_alike s.birth r.birth s.initial r.initial) s.run
+
+    -- no run is longer than a complete one
+    pub not_longer : IsComplete M → length es ≤ length fs
+    not_longer d =
+        let d' = (complete_follows N M fs net before run' s).0 d in
+        let x = no_run_is_longer (net_under r.birth N) s.after r.after s.pairs r.pairs r.start second d' r.run in
+        let u = as_many r.birth 0 es r.pairs r.births in
+        let v = as_many s.birth 0 fs s.pairs s.births in
+        omega arith
 
     same_size : IsComplete r.after → IsComplete s.after → length es ≡ length fs
     same_size c d =

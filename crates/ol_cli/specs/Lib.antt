@@ -2,5 +2,6 @@ pub mod Texts
 pub mod Jobs
 pub mod Listing
 pub mod Evaluation
+pub mod Journals
 pub mod Answers
 pub mod Laws

@@ -1,6 +1,7 @@
 //! The laws of answers.
 
 ghost use Rattle.ol_cli.specs.Evaluation.{EveryRunIsLonger, EveryRunPrints};
+ghost use Rattle.ol_cli.specs.Journals.{AnyRunPrints, AnyRunRunsOut, OneThreadIsThere};
 ghost use Rattle.ol_cli.specs.Laws.{OneAnswer};
 
 /// The same words and bytes have one answer.
@@ -13,4 +14,13 @@ pub fn one_answer()
 pub fn every_run_answers()
     ensures prints { EveryRunPrints }
     ensures longer { EveryRunIsLonger }
+{}
+
+/// There is a one-thread run for each fuel, and any run tells its answer: what is printed of a complete
+/// run within the fuel is printed of the one-thread run, and where a run is longer than the fuel, or is
+/// as long and has an active pair left, the one-thread run is spent.
+pub fn any_run_tells()
+    ensures there { OneThreadIsThere }
+    ensures prints { AnyRunPrints }
+    ensures spent { AnyRunRunsOut }
 {}
