@@ -1,3 +1,6 @@
+mod Exact
+mod Evaluated
+mod OneAnswer
 mod Alike
 mod NamedNets
 mod ListedOnce
@@ -7,6 +10,11 @@ mod OneTree
 mod KeptPorts
 mod OneText
 mod OnePrint
-mod Evaluated
-mod OneAnswer
-mod Exact
+mod BirthCounts
+mod NetRuns
+mod BirthNets
+mod TwoRuns
+mod EveryRun
+mod NoFacing
+mod LeadSearch
+mod AnyRun

@@ -1,5 +1,5 @@
 -- What a term is answered: its one-thread run and what is printed of it, or its untouched translation read back.
-use Rattle.std.specs.Prelude.{◌≡◌, ℕ, ◌*◌, ◌≤◌, ◌<◌, ◌⊎◌, List, length}
+use Rattle.std.specs.Prelude.{◌≡◌, ℕ, ◌*◌, ◌≤◌, ◌<◌, List, length}
 use Rattle.ol_term.specs.Trees.{Tree}
 use Rattle.ol_net.specs.Nets.{NamedNet, IsNet, SameNet, net_under}
 use Rattle.ol_net.specs.Pairs.{HasStuck}
