@@ -9,3 +9,5 @@ pub mod Marks
 pub mod Crossings
 pub mod Walked
 pub mod Compared
+pub mod Short
+pub mod Turning

@@ -8,4 +8,5 @@ pub mod Trees
 pub mod Crossed
 pub mod Comparing
 pub mod Answers
+pub mod Short
 pub mod Laws

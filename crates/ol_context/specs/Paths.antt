@@ -1,5 +1,5 @@
 -- Crossings of nodes, and paths from free port to free port (Gonthier, Abadi and Lévy, 1992).
-use Rattle.std.specs.Prelude.{◌≡◌, ℕ, suc, ◌<◌}
+use Rattle.std.specs.Prelude.{◌≡◌, ℕ, suc, ◌<◌, ◌↔◌}
 use Rattle.ol_net.specs.declared.parts.Kind.{Kind}
 use Rattle.ol_net.specs.Parts.{arity}
 use Rattle.ol_net.specs.Nets.{NamedNet, NamedPort, free, slot, HasNode, Linked}
@@ -29,3 +29,7 @@ pub data Path {A : Type 0} (N : NamedNet A) : NamedPort A → Context → ℕ �
 abbrev pub crossings : {A : Type 0} {N : NamedNet A} {p : NamedPort A} {c : Context} {q : ℕ} {d : Context} → Path N p c q d → ℕ
 crossings (ends l) = 0
 crossings (goes l h x r) = suc (crossings r)
+
+-- From each free port with each context, paths lead to the same free ports with the same contexts.
+abbrev pub HaveSamePaths : {A B : Type 0} → NamedNet A → NamedNet B → Type 0
+HaveSamePaths N M = (p : ℕ) (c : Context) (q : ℕ) (d : Context) → Path N (free p) c q d ↔ Path M (free p) c q d

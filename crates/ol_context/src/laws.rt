@@ -1,6 +1,7 @@
 //! Laws of contexts, crossings and walks: no code, only what follows from the definitions.
 
 ghost use Rattle.ol_context.specs.Laws.{ContextsCommute, ContextsPull, ContextsInjective, CrossingBack, ThroughBack, CrossingIsOne, CrossingByTable, WalkIsOne, WalkBack};
+ghost use Rattle.ol_context.specs.Short.{WalkTurnsOnce, WalkIsShort, WalkGoesOn};
 
 /// A change at a level and one at a later level commute, with the shift of the later index, and two
 /// ways into one context come from one context. The context at slot 0 tells the slot and the
@@ -31,4 +32,13 @@ pub fn crossing_by_table()
 pub fn walk_is_one<A>()
     ensures one { WalkIsOne A }
     ensures back { WalkBack A }
+{}
+
+/// In a net where no two principal ports are linked, a walk from a free port first enters principal
+/// ports alone, each at most once, and from the first auxiliary port on auxiliary ports alone. So it
+/// leaves within twice as many crossings as there are nodes, or it goes on for ever.
+pub fn walk_is_short<A>()
+    ensures turns_once { WalkTurnsOnce A }
+    ensures short { WalkIsShort A }
+    ensures goes_on { WalkGoesOn A }
 {}

@@ -21,6 +21,8 @@ mod walking;
 pub use answers::{Cross, Walk};
 pub use arena::{Shape, Val, Values};
 pub use crossing::cross;
-pub use laws::{contexts_commute, crossing_back, crossing_by_table, crossing_is_one, walk_is_one};
+pub use laws::{
+    contexts_commute, crossing_back, crossing_by_table, crossing_is_one, walk_is_one, walk_is_short,
+};
 pub use row::Context;
 pub use walking::walk;

@@ -1,9 +1,10 @@
 //! Walks with a budget.
 
-ghost use Rattle.std.specs.Prelude.{◌<◌, IfOk};
+ghost use Rattle.std.specs.Prelude.{◌<◌, ◌≤◌, ◌*◌, IfOk};
 ghost use Rattle.ol_net.specs.Numbered.{net_of};
 ghost use Rattle.ol_context.specs.Shapes.{AreHeld, Extends, context_of};
 ghost use Rattle.ol_context.specs.Answers.{ExitsExactly, StopsExactly, StandsExactly, IsHeldExit};
+ghost use Rattle.ol_context.specs.Short.{HasNoFacing, live, LeavesExactly};
 
 use crate::answers::{Cross, Walk};
 use crate::arena::Values;
@@ -19,6 +20,9 @@ use ol_net::{Net, Port};
 /// port, the context there and the number of crossings. `Undefined` comes exactly where the crossing
 /// tried as number `crossings`, counted from 1, is not defined. `Budget` comes exactly where `edges`
 /// crossings were made and the walk stands at a node. `NoMemory`: no memory was found.
+///
+/// Where no two principal ports are linked and `edges` is at least twice the number of nodes, `Exit`
+/// comes exactly where some path leads to a free port, of any number of crossings.
 pub fn walk(
     net: &Net,
     values: &mut Values,
@@ -33,6 +37,7 @@ pub fn walk(
     ensures exit { IfOk result (λ w. ExitsExactly (net_of net.now) from (context_of values.old context) edges values.new w) }
     ensures undefined { IfOk result (λ w. StopsExactly (net_of net.now) from (context_of values.old context) edges w) }
     ensures budget { IfOk result (λ w. StandsExactly (net_of net.now) from (context_of values.old context) edges w) }
+    ensures leaves { IfOk result (λ w. HasNoFacing (net_of net.now) → 2 * live (net_of net.now) ≤ edges → LeavesExactly (net_of net.now) from (context_of values.old context) values.new w) }
 {
     net.is_net();
     let mut context = context;

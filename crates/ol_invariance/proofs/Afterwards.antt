@@ -2,7 +2,7 @@
 use Rattle.std.proofs.Common.{◌≡◌, ℕ, List, Result, Ok, Err, IfOk, OnErr, sym, subst}
 use Rattle.ol_invariance.proofs.Runs.{graph_run_keeps}
 use Rattle.ol_invariance.proofs.Steps.{graph_step_keeps}
-use Rattle.ol_invariance.specs.Laws.{HaveSamePaths}
+use Rattle.ol_context.specs.Paths.{HaveSamePaths}
 use Rattle.ol_net.specs.Graph.{Graph}
 use Rattle.ol_net.specs.Nets.{IsNet}
 use Rattle.ol_net.specs.Numbered.{net_of}

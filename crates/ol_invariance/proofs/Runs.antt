@@ -3,7 +3,8 @@ use Rattle.std.proofs.Common.{◌≡◌, ℕ, suc, ◌+◌, ◌<◌, ◌≤◌, 
 use Rattle.std.proofs.lemmas.Bool.{cases_lt}
 use Rattle.ol_invariance.proofs.Renamed.{renamed}
 use Rattle.ol_invariance.proofs.Steps.{step_keeps, inside}
-use Rattle.ol_invariance.specs.Laws.{HaveSamePaths, JournalKeepsPaths, GraphRunKeepsPaths}
+use Rattle.ol_context.specs.Paths.{HaveSamePaths}
+use Rattle.ol_invariance.specs.Laws.{JournalKeepsPaths, GraphRunKeepsPaths}
 use Rattle.ol_net.specs.Nets.{NamedNet, HasNode, IsNet, net_under}
 use Rattle.ol_net.specs.Numbered.{net_of}
 use Rattle.ol_net.specs.declared.parts.Kind.{Kind}

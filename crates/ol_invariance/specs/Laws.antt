@@ -1,10 +1,9 @@
 -- The laws that steps and runs keep paths (Gonthier, Abadi and Lévy, The Geometry of Optimal Lambda Reduction, 1992).
-use Rattle.std.specs.Prelude.{ℕ, Bool, List, ◌↔◌}
-use Rattle.ol_context.specs.Contexts.{Context}
-use Rattle.ol_context.specs.Paths.{Path}
+use Rattle.std.specs.Prelude.{ℕ, Bool, List}
+use Rattle.ol_context.specs.Paths.{HaveSamePaths}
 use Rattle.ol_edges.specs.Edges.{IsTest}
 use Rattle.ol_net.specs.Graph.{Graph}
-use Rattle.ol_net.specs.Nets.{NamedNet, free, IsNet}
+use Rattle.ol_net.specs.Nets.{NamedNet, IsNet}
 use Rattle.ol_net.specs.Numbered.{net_of}
 use Rattle.ol_net.specs.declared.parts.Rule.{Rule}
 use Rattle.ol_rules.specs.Laws.{IsFresh, AreNamedBefore}
@@ -13,10 +12,6 @@ use Rattle.ol_rules.specs.Runs.{IsRun, LeadsTo}
 use Rattle.ol_rules.specs.Steps.{StepsAt}
 use Rattle.ol_rules.specs.declared.journal.Entry.{Entry}
 use Rattle.ol_rules.specs.declared.journal.NodeName.{NodeName}
-
--- From each free port with each context, paths lead to the same free ports with the same contexts.
-abbrev pub HaveSamePaths : {A B : Type 0} → NamedNet A → NamedNet B → Type 0
-HaveSamePaths N M = (p : ℕ) (c : Context) (q : ℕ) (d : Context) → Path N (free p) c q d ↔ Path M (free p) c q d
 
 -- A step of any active pair keeps each path between free ports, and makes none.
 abbrev pub StepKeepsPaths : Type 0 → Type 0

@@ -1,7 +1,7 @@
 //! Steps and runs that say what they keep.
 
 ghost use Rattle.std.specs.Prelude.{◌≡◌, ◌≢◌, ℕ, ◌≤◌, ◌+◌, ◌*◌, ◌↔◌, length, OnErr, IfOk, Err, MatchOption};
-ghost use Rattle.ol_invariance.specs.Laws.{HaveSamePaths};
+ghost use Rattle.ol_context.specs.Paths.{HaveSamePaths};
 ghost use Rattle.ol_net.specs.Graph.{facing_at};
 ghost use Rattle.ol_net.specs.Numbered.{net_of};
 ghost use Rattle.ol_net.specs.declared.parts.Facing.TheVariants.{Active};

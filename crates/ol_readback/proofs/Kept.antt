@@ -10,8 +10,8 @@ use Rattle.ol_readback.specs.Heads as heads
 use Rattle.ol_readback.specs.Laws.{HeadsKept, HeadIsHead}
 use Rattle.ol_readback.specs.declared.answers.HeadVar.{HeadVar}
 
-module _ {A : Type 0} where
-  pub heads_are_kept : HeadsKept A
+module _ {A B : Type 0} where
+  pub heads_are_kept : HeadsKept A B
   heads_are_kept N M s F i a (heads.leaves {n = n} {q = q} {X = X} h p m) =
       heads.leaves (λ k b q' d r. h k b q' d ((s (frame_at F i).port (asked (frame_at F i).levels k) q' d).1 r)) ((s (frame_at F i).port (asked (frame_at F i).levels n) q X).0 p) m
   heads_are_kept N M s F i a (heads.never z) = heads.never (λ n q d r. z n q d ((s (frame_at F i).port (asked (frame_at F i).levels n) q d).1 r))
@@ -20,7 +20,7 @@ cases : (m n : ℕ) → (m ≤ n) ⊎ (n < m)
 cases m n = grind arith
 
 -- a try that fails has no path
-no_path : {A : Type 0} (N : NamedNet A) (p : ℕ) (c : Context) (e : ℕ) → Fails N p c e → NoPath N p c
+pub no_path : {A : Type 0} (N : NamedNet A) (p : ℕ) (c : Context) (e : ℕ) → Fails N p c e → NoPath N p c
 no_path N p c e f q d r = go (cases (crossings r) e)
   where
     go : (crossings r ≤ e) ⊎ (e < crossings r) → ⊥

@@ -12,3 +12,6 @@ pub mod Printed
 pub mod One
 pub mod Kept
 pub mod Named
+pub mod Holes
+pub mod Enough
+pub mod Sources

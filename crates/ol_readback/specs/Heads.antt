@@ -1,10 +1,11 @@
 -- The head of a frame: the least number of abstractions for which a walk leaves the net, and what its exit says.
-use Rattle.std.specs.Prelude.{ℕ, suc, ◌<◌, ◌≤◌, ◌⊎◌, List, length, map}
+use Rattle.std.specs.Prelude.{ℕ, suc, ◌<◌, ◌≤◌, ◌⊎◌, List, map}
 use Rattle.ol_net.specs.Nets.{NamedNet, free}
 use Rattle.ol_context.specs.Contexts.{Level, Context}
 use Rattle.ol_context.specs.Paths.{Path}
 use Rattle.ol_context.specs.Shapes.{value, AreHeld}
 use Rattle.ol_context.specs.Ways.{Exits, Stands}
+pub use Rattle.ol_context.specs.Short.{live}
 use Rattle.ol_readback.specs.Frames.{Frame, frame_at, asked}
 use Rattle.ol_readback.specs.Matching.{Matches, MatchesNothing}
 use Rattle.ol_readback.specs.declared.answers.HeadVar.{HeadVar}
@@ -33,10 +34,6 @@ pub data IsHead {A : Type 0} (N : NamedNet A) (frames : List Frame) (i : ℕ) : 
       Path N (free (frame_at frames i).port) (asked (frame_at frames i).levels n) q X →
       IsMatched frames i n q X a → IsHead N frames i a
   never : ((n : ℕ) → NoPath N (frame_at frames i).port (asked (frame_at frames i).levels n)) → IsHead N frames i no_head
-
--- the number of live nodes, where each is listed once
-abbrev pub live : {A : Type 0} → NamedNet A → ℕ
-live N = length N.nodes
 
 -- Some path of no more than edges crossings leads from the free port p to the free port q with context X.
 abbrev pub LeavesWithin : {A : Type 0} → NamedNet A → ℕ → Context → ℕ → ℕ → Context → Type 0

@@ -1,15 +1,14 @@
 -- The laws of heads and trees.
 use Rattle.std.specs.Prelude.{◌≡◌, ℕ, List}
-use Rattle.ol_net.specs.Nets.{NamedNet, free, IsNet}
-use Rattle.ol_context.specs.Contexts.{Context}
-use Rattle.ol_context.specs.Paths.{Path}
+use Rattle.ol_net.specs.Nets.{NamedNet, IsNet}
+use Rattle.ol_context.specs.Paths.{HaveSamePaths}
 use Rattle.ol_readback.specs.Frames.{Frame}
 use Rattle.ol_readback.specs.Heads.{Answer, head, IsMatched, IsHead, IsHeadWithin}
 use Rattle.ol_readback.specs.Trees.{IsTree}
 use Rattle.ol_readback.specs.Whole.{IsWhole}
 use Rattle.ol_readback.specs.declared.answers.HeadVar.{HeadVar}
 use Rattle.ol_readback.specs.declared.answers.ReadNode.{ReadNode}
-use Rattle.ol_context.specs.Contexts.{Level}
+use Rattle.ol_context.specs.Contexts.{Level, Context}
 
 -- an exit says one thing
 abbrev pub ExitIsOne : Type 0
@@ -31,13 +30,9 @@ TreeIsOne A = (N : NamedNet A) → IsNet N → (heads edges : ℕ) (ns ms : List
 abbrev pub TreeIsWhole : Type 0
 TreeIsWhole = (N : NamedNet ℕ) (heads edges : ℕ) (ns : List ReadNode) → IsTree N heads edges ns → IsWhole ns
 
--- the same paths between free ports
-abbrev pub SamePaths : {A B : Type 0} → NamedNet A → NamedNet B → Type 0
-SamePaths N M = (p : ℕ) (c : Context) (q : ℕ) (d : Context) → (Path N (free p) c q d → Path M (free p) c q d) × (Path M (free p) c q d → Path N (free p) c q d)
-
 -- equal paths give equal heads
-abbrev pub HeadsKept : Type 0 → Type 0
-HeadsKept A = (N M : NamedNet A) → SamePaths N M → (frames : List Frame) (i : ℕ) (a : Answer) → IsHead N frames i a → IsHead M frames i a
+abbrev pub HeadsKept : Type 0 → Type 0 → Type 0
+HeadsKept A B = (N : NamedNet A) (M : NamedNet B) → HaveSamePaths N M → (frames : List Frame) (i : ℕ) (a : Answer) → IsHead N frames i a → IsHead M frames i a
 
 -- a head that was found within a budget is the head
 abbrev pub HeadIsHead : Type 0 → Type 0

@@ -9,4 +9,5 @@ pub mod Reading
 pub mod Names
 pub mod Texts
 pub mod Printing
+pub mod Sources
 pub mod Laws

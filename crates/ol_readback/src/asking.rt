@@ -1,10 +1,12 @@
 //! Asking a frame for its head.
 
-ghost use Rattle.std.specs.Prelude.{◌≡◌, ◌<◌, ◌↔◌, length, IfOk};
+ghost use Rattle.std.specs.Prelude.{◌≡◌, ◌≢◌, ◌<◌, ◌≤◌, ◌*◌, ◌↔◌, length, IfOk};
 ghost use Rattle.ol_net.specs.Numbered.{net_of};
 ghost use Rattle.ol_context.specs.Shapes.{Extends};
+ghost use Rattle.ol_context.specs.Short.{HasNoFacing, live};
 ghost use Rattle.ol_readback.specs.Frames.{frame_at, frames_of, ParentsFirst, AreHeldFrames, AreAtPorts};
-ghost use Rattle.ol_readback.specs.Heads.{IsHeadWithin, HasNoHead, MeetsBudget, answer_of, IsHeldHead};
+ghost use Rattle.ol_readback.specs.Heads.{IsHead, no_head, IsHeadWithin, HasNoHead, MeetsBudget, answer_of, IsHeldHead};
+ghost use Rattle.ol_readback.specs.Sources.{MeetsRing};
 ghost use Rattle.ol_readback.specs.declared.answers.Head.TheVariants.{NoHead, Budget};
 
 use crate::answers::Head;
@@ -20,7 +22,9 @@ use std::alloc::Global;
 ///
 /// `Is` is what the first exit says. `Budget` comes exactly where one of these walks made all its
 /// crossings without an exit. `NoHead` comes exactly where none did, and either none of them leaves
-/// or nothing matches the exit. `NoMemory`: no memory was found. `at` is below the list's length,
+/// or nothing matches the exit. An answer `Is` is the head by paths of any length. Where no two
+/// principal ports are linked, so is `NoHead`, and with a budget of at least twice the number of nodes
+/// `Budget` comes only where a walk goes on for ever. `NoMemory`: no memory was found. `at` is below the list's length,
 /// each parent stands before its child, each frame's port is a free port of the net, and all values
 /// are of this holder. Earlier values stay.
 pub fn head(
@@ -38,6 +42,9 @@ pub fn head(
     ensures answer { IfOk result (λ h. IsHeadWithin (net_of net.now) (frames_of values.old frames.now.items) at edges (answer_of values.new h)) }
     ensures no_head { IfOk result (λ h. (h ≡ NoHead) ↔ HasNoHead (net_of net.now) (frames_of values.old frames.now.items) at edges) }
     ensures budget { IfOk result (λ h. (h ≡ Budget) ↔ MeetsBudget (net_of net.now) (frame_at (frames_of values.old frames.now.items) at) edges) }
+    ensures found { IfOk result (λ h. h ≢ Budget → h ≢ NoHead → IsHead (net_of net.now) (frames_of values.old frames.now.items) at (answer_of values.new h)) }
+    ensures lost { IfOk result (λ h. h ≡ NoHead → HasNoFacing (net_of net.now) → IsHead (net_of net.now) (frames_of values.old frames.now.items) at no_head) }
+    ensures ring { IfOk result (λ h. h ≡ Budget → HasNoFacing (net_of net.now) → 2 * live (net_of net.now) ≤ edges → MeetsRing (net_of net.now) (frame_at (frames_of values.old frames.now.items) at) edges) }
     ensures held { IfOk result (λ h. IsHeldHead values.new h) }
     ensures extends { Extends values.old values.new }
 {

@@ -24,7 +24,7 @@ mod tree;
 pub use answers::{Head, HeadVar, ReadNode};
 pub use asking::head;
 pub use frames::Frame;
-pub use laws::{answers_are_one, heads_kept, trees_are_whole};
+pub use laws::{answers_are_one, heads_kept, printed_heads, trees_are_whole, walk_is_short};
 pub use leaving::leave;
 pub use levels::Levels;
 pub use printing::tree_text;

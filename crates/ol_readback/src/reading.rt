@@ -1,13 +1,15 @@
 //! Reading a whole net back.
 
-ghost use Rattle.std.specs.Prelude.{◌≡◌, ℕ, ◌+◌, ◌-◌, ◌^◌, ◌<◌, ◌≤◌, ◌++◌, [], ◌∷◌, List, length, replicate, option_to_list, IfOk, OnOk};
+ghost use Rattle.std.specs.Prelude.{◌≡◌, ℕ, ◌+◌, ◌-◌, ◌^◌, ◌<◌, ◌≤◌, ◌++◌, [], ◌∷◌, List, length, replicate, option_to_list, IfOk, OnOk, true, false};
 ghost use Rattle.ol_net.specs.Numbered.{net_of};
 ghost use Rattle.ol_context.specs.Contexts.{Level};
 ghost use Rattle.ol_context.specs.Shapes.{Extends};
+ghost use Rattle.ol_context.specs.Short.{HasNoFacing};
 ghost use Rattle.ol_readback.specs.Frames.{frames_of};
 ghost use Rattle.ol_readback.specs.Texts.{AreNamed};
 ghost use Rattle.ol_readback.specs.Trees.{IsTree, port_of};
 ghost use Rattle.ol_readback.specs.Groups.{AreHeldIn, ArePlacedIn, IsNextFrame};
+ghost use Rattle.ol_readback.specs.Sources.{HasHeadsOf};
 ghost use Rattle.ol_readback.specs.Reading.{IsFrameList, IsKnown, IsRead, cuts_of};
 ghost use Rattle.ol_readback.specs.declared.answers.ReadNode.TheVariants.{Cut};
 
@@ -135,11 +137,16 @@ fn cut_all(nodes: &mut Vec<ReadNode>, pending: &mut Vec<Group>) -> Result<(), No
 /// Every later place is `Cut`, and so is each whose answer is `Head::Budget`. `NoMemory`: no memory
 /// was found. `heads` is at least 1, and the net has a free port. The free names of the tree are
 /// those of the net's other free ports, from 1 on.
+///
+/// Each head of the tree is the head of its place by paths of any length, and where no two principal
+/// ports are linked, a place without a head has none.
 pub fn read_back(alloc: Global, net: &Net, heads: u32, edges: u64) -> Result<ReadTree, NoMemory>
     requires heads { 1 ≤ heads }
     requires root { 0 < net.now.free }
     ensures tree { IfOk result (λ t. IsTree (net_of net.now) heads edges t) }
     ensures names { IfOk result (λ t. AreNamed (net.now.free - 1) t) }
+    ensures heads { IfOk result (λ t. HasHeadsOf (net_of net.now) false t) }
+    ensures lost { IfOk result (λ t. HasNoFacing (net_of net.now) → HasHeadsOf (net_of net.now) true t) }
 {
     net.is_net();
     let mut values = Values::new(alloc);

@@ -6,6 +6,8 @@ use Rattle.ol_context.specs.Crossed.{IfOut}
 use Rattle.ol_context.specs.declared.answers.Cross.{Cross}
 use Rattle.ol_context.proofs.Exits.{exit_exits, exit_stops, exit_stands, undefined_exits, undefined_stops, undefined_stands, budget_exits, budget_stops, budget_stands}
 use Rattle.ol_context.proofs.Walked.{begins, exits, goes_on, node_port, stands_last, stops}
+use Rattle.ol_context.proofs.Turning.{leaves_exactly}
+use Rattle.ol_context.specs.declared.answers.Walk.TheVariants as answer
 use Rattle.ol_context.proofs.walking.walk.Goals as goal
 
 pub loop-next-init : goal.loop-next-init
@@ -65,3 +67,12 @@ pub returns-in-Undefined-clause-budget : goal.returns-in-Undefined-clause-budget
 returns-in-Undefined-clause-budget c =
     undefined_stands (net_of c.args.net.now) c.is_net.ensures.net c.args.from (context_of c.args.values.now c.args.context) c.args.edges c.cross.new.values (c.loop-next.made + 1)
     (stops c.args.net.now c.args.from (context_of c.args.values.now c.args.context) c.args.values.now c.loop-next.values c.loop-next.context c.loop-next.at c.loop-next.made c.args.edges c.loop-next.invariant c.in-Some.next c.in-Some.ensures.linked c.in_default-next.not-Free c.if-made-edges.false (c.in_ok-crossed.ensures.undefined.0 c.in-Undefined.is))
+
+pub returns-in-Free-clause-leaves : goal.returns-in-Free-clause-leaves
+returns-in-Free-clause-leaves c = leaves_exactly (net_of c.args.net.now) c.is_net.ensures.net c.args.from (context_of c.args.values.now c.args.context) c.args.edges c.loop-next.values (answer.Exit c.in-Free.port c.loop-next.context c.loop-next.made) (returns-in-Free-clause-exit c)
+
+pub returns-then-made-edges-clause-leaves : goal.returns-then-made-edges-clause-leaves
+returns-then-made-edges-clause-leaves c = leaves_exactly (net_of c.args.net.now) c.is_net.ensures.net c.args.from (context_of c.args.values.now c.args.context) c.args.edges c.loop-next.values answer.Budget (returns-then-made-edges-clause-exit c)
+
+pub returns-in-Undefined-clause-leaves : goal.returns-in-Undefined-clause-leaves
+returns-in-Undefined-clause-leaves c = leaves_exactly (net_of c.args.net.now) c.is_net.ensures.net c.args.from (context_of c.args.values.now c.args.context) c.args.edges c.cross.new.values (answer.Undefined (c.loop-next.made + 1)) (returns-in-Undefined-clause-exit c)

@@ -10,6 +10,7 @@ use Rattle.ol_readback.proofs.FrameLists.{frame_is, held_this, port_this, frames
 use Rattle.ol_readback.proofs.Trying.{asked_is, asked_held, walk_asked, fails_next, leaves_within, is_left, is_spent, is_none}
 use Rattle.ol_readback.specs.declared.answers.Head.TheVariants as answer
 use Rattle.ol_readback.proofs.One.{asked_no_head, asked_budget}
+use Rattle.ol_readback.proofs.Sources.{asked_found, asked_lost, asked_ring}
 use Rattle.ol_readback.proofs.asking.head.Goals as goal
 
 pub walk-requires-clause-port : goal.walk-requires-clause-port
@@ -120,3 +121,30 @@ returns-then-n-top-clause-no_head c =
 pub returns-then-n-top-clause-budget : goal.returns-then-n-top-clause-budget
 returns-then-n-top-clause-budget c =
     asked_budget (net_of c.args.net.now) c.is_net.ensures.net (frames_of c.args.values.now c.args.frames.now.items) c.args.at c.args.edges c.walk.new.values answer.NoHead (returns-then-n-top-clause-answer c)
+
+pub returns-in-Exit-clause-found : goal.returns-in-Exit-clause-found
+returns-in-Exit-clause-found c = asked_found (net_of c.args.net.now) c.is_net.ensures.net (frames_of c.args.values.now c.args.frames.now.items) c.args.at c.args.edges c.walk.new.values c.in_ok-left-in-Exit.left (returns-in-Exit-clause-answer c)
+
+pub returns-in-Exit-clause-lost : goal.returns-in-Exit-clause-lost
+returns-in-Exit-clause-lost c = asked_lost (net_of c.args.net.now) c.is_net.ensures.net (frames_of c.args.values.now c.args.frames.now.items) c.args.at c.args.edges c.walk.new.values c.in_ok-left-in-Exit.left (returns-in-Exit-clause-answer c)
+
+pub returns-in-Exit-clause-ring : goal.returns-in-Exit-clause-ring
+returns-in-Exit-clause-ring c = λ e. asked_ring (net_of c.args.net.now) c.is_net.ensures.net (frames_of c.args.values.now c.args.frames.now.items) c.args.at c.args.edges c.walk.new.values ((returns-in-Exit-clause-budget c).0 e)
+
+pub returns-in-Budget-clause-found : goal.returns-in-Budget-clause-found
+returns-in-Budget-clause-found c = asked_found (net_of c.args.net.now) c.is_net.ensures.net (frames_of c.args.values.now c.args.frames.now.items) c.args.at c.args.edges c.walk.new.values answer.Budget (returns-in-Budget-clause-answer c)
+
+pub returns-in-Budget-clause-lost : goal.returns-in-Budget-clause-lost
+returns-in-Budget-clause-lost c = asked_lost (net_of c.args.net.now) c.is_net.ensures.net (frames_of c.args.values.now c.args.frames.now.items) c.args.at c.args.edges c.walk.new.values answer.Budget (returns-in-Budget-clause-answer c)
+
+pub returns-in-Budget-clause-ring : goal.returns-in-Budget-clause-ring
+returns-in-Budget-clause-ring c = λ e. asked_ring (net_of c.args.net.now) c.is_net.ensures.net (frames_of c.args.values.now c.args.frames.now.items) c.args.at c.args.edges c.walk.new.values ((returns-in-Budget-clause-budget c).0 e)
+
+pub returns-then-n-top-clause-found : goal.returns-then-n-top-clause-found
+returns-then-n-top-clause-found c = asked_found (net_of c.args.net.now) c.is_net.ensures.net (frames_of c.args.values.now c.args.frames.now.items) c.args.at c.args.edges c.walk.new.values answer.NoHead (returns-then-n-top-clause-answer c)
+
+pub returns-then-n-top-clause-lost : goal.returns-then-n-top-clause-lost
+returns-then-n-top-clause-lost c = asked_lost (net_of c.args.net.now) c.is_net.ensures.net (frames_of c.args.values.now c.args.frames.now.items) c.args.at c.args.edges c.walk.new.values answer.NoHead (returns-then-n-top-clause-answer c)
+
+pub returns-then-n-top-clause-ring : goal.returns-then-n-top-clause-ring
+returns-then-n-top-clause-ring c = λ e. asked_ring (net_of c.args.net.now) c.is_net.ensures.net (frames_of c.args.values.now c.args.frames.now.items) c.args.at c.args.edges c.walk.new.values ((returns-then-n-top-clause-budget c).0 e)

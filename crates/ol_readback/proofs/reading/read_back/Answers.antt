@@ -7,6 +7,7 @@ use Rattle.ol_readback.specs.declared.frames.Frame.{Frame}
 use Rattle.ol_readback.proofs.Forests.{tree_is_whole}
 use Rattle.ol_readback.proofs.Onward.{after_read, before_next, ended, cut_off}
 use Rattle.ol_readback.proofs.Named.{tree_is_named}
+use Rattle.ol_readback.proofs.Sources.{own_heads}
 use Rattle.ol_readback.proofs.reading.read_back.Goals as goal
 
 pub of-requires-then-len-most-clause-whole : goal.of-requires-then-len-most-clause-whole
@@ -94,3 +95,15 @@ returns-then-len-most-clause-names c = tree_is_named (net_of c.args.net.now) c.a
 
 pub returns-in-None-clause-names : goal.returns-in-None-clause-names
 returns-in-None-clause-names c = tree_is_named (net_of c.args.net.now) c.args.heads c.args.edges c.of-in-None.result c.is_net.ensures.net (returns-in-None-clause-tree c)
+
+pub returns-then-len-most-clause-heads : goal.returns-then-len-most-clause-heads
+returns-then-len-most-clause-heads c = (own_heads (net_of c.args.net.now) c.is_net.ensures.net c.args.heads c.args.edges c.of-then-len-most.result (returns-then-len-most-clause-tree c)).0
+
+pub returns-then-len-most-clause-lost : goal.returns-then-len-most-clause-lost
+returns-then-len-most-clause-lost c = (own_heads (net_of c.args.net.now) c.is_net.ensures.net c.args.heads c.args.edges c.of-then-len-most.result (returns-then-len-most-clause-tree c)).1
+
+pub returns-in-None-clause-heads : goal.returns-in-None-clause-heads
+returns-in-None-clause-heads c = (own_heads (net_of c.args.net.now) c.is_net.ensures.net c.args.heads c.args.edges c.of-in-None.result (returns-in-None-clause-tree c)).0
+
+pub returns-in-None-clause-lost : goal.returns-in-None-clause-lost
+returns-in-None-clause-lost c = (own_heads (net_of c.args.net.now) c.is_net.ensures.net c.args.heads c.args.edges c.of-in-None.result (returns-in-None-clause-tree c)).1
