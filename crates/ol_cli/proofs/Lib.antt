@@ -18,3 +18,4 @@ mod EveryRun
 mod NoFacing
 mod LeadSearch
 mod AnyRun
+mod Sourced

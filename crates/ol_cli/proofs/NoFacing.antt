@@ -5,12 +5,9 @@ use Rattle.ol_net.specs.declared.parts.Rule.{Rule}
 use Rattle.ol_net.specs.Rules.{rule_of}
 use Rattle.ol_net.specs.Nets.{slot, NamedNet, Linked, IsNet, Faces}
 use Rattle.ol_net.specs.Pairs.{IsStuck, HasPair, HasStuck}
+use Rattle.ol_context.specs.Short.{HasNoFacing}
 use Rattle.ol_rules.specs.Runs.{IsComplete}
 use Rattle.ol_rules.proofs.FreshPairs.{linked_sym}
-
--- no two principal ports are the two ports of a link
-abbrev pub HasNoFacing : {A : Type 0} → NamedNet A → Type 0
-HasNoFacing {A} N = (f g : A) → Linked N (slot f 0) (slot g 0) → ⊥
 
 no_pair : {A : Type 0} (pairs : List (A × A)) (f g : A) → length pairs ≡ 0 → HasPair pairs f g → ⊥
 no_pair [] f g e (inl h) = h

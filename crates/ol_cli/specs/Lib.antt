@@ -5,4 +5,5 @@ pub mod Evaluation
 pub mod Journals
 pub mod Answers
 pub mod Trees
+pub mod Sources
 pub mod Laws

@@ -4,6 +4,7 @@ ghost use Rattle.ol_io.specs.Outside.{Rose, Appended};
 ghost use Rattle.ol_words.specs.Jobs.{asked_by};
 ghost use Rattle.ol_cli.specs.Jobs.{AskForNothing, IsKnownTo, IsWithinLimits, TellsFile, files_of, name_of};
 ghost use Rattle.ol_cli.specs.Answers.{seen, Cause, Ends, IsAnswer, JobCause};
+ghost use Rattle.ol_cli.specs.Sources.{EveryRunTells, WritesHeads};
 
 use crate::evaluation::{Answer, evaluate};
 use crate::status::Status;
@@ -46,6 +47,18 @@ pub fn ol<S: Source, W: Sink, G: Gate + Sync>(
     ensures exact { (bytes : List ℕ) → TellsFile (S.contents src.old) words.now.items bytes
         → ¬ Rose (S.faults src.old) (S.faults src.new) → ¬ Rose (W.faults out.old) (W.faults out.new) → result ≢ Status.NoMemory
         → (text : List ℕ) × IsAnswer words.now.items bytes result text × Appended (W.taken out.old) text (W.taken out.new) }
+
+    // And where such a job is done, each head that is written is the one that paths of any length give in the untouched net of
+    // the file's own term. So is each `?` where no pair is stuck in the last net.
+    ensures heads { (bytes : List ℕ) → TellsFile (S.contents src.old) words.now.items bytes
+        → ¬ Rose (S.faults src.old) (S.faults src.new) → ¬ Rose (W.faults out.old) (W.faults out.new) → result ≡ Status.Done
+        → WritesHeads words.now.items bytes (W.taken out.old) (W.taken out.new) }
+
+    // And each complete run of the file's own term, whatever pairs it takes first, prints what is written, or is longer than the
+    // fuel where that is spent.
+    ensures every_run { (bytes : List ℕ) → TellsFile (S.contents src.old) words.now.items bytes
+        → ¬ Rose (S.faults src.old) (S.faults src.new) → ¬ Rose (W.faults out.old) (W.faults out.new) → result ≢ Status.NoMemory
+        → EveryRunTells words.now.items bytes result (W.taken out.old) (W.taken out.new) }
 
     // A fault that is told has risen, and one that has risen is told.
     ensures read { result ≡ Status.ReadFault → Rose (S.faults src.old) (S.faults src.new) }
