@@ -34,7 +34,7 @@ same_as s s' u x x' y h h' = (h.0 ∙ sym h'.0, h.1 ∙ sym h'.1)
 pub file_net : (bytes : List ℕ) (t : Tree) (names : List (List ℕ)) → IsFileOf bytes t names → IsNet (translation_of t (length names))
 file_net bytes t names f =
     let has_names : HasNames (number f.named) (length (names_of f.named)) =
-        record { bound = whole_bound f.named; named = whole_named f.named; each = λ k b. whole_occurs f.named k b } in
+    record { bound = whole_bound f.named; named = whole_named f.named; each = λ k b. whole_occurs f.named k b } in
     translation_net t (length names) (subst (λ t. HasNames t (length names)) (sym f.tree) (subst (λ names. HasNames (number f.named) (length names)) (sym f.free_names) has_names))
 
 -- what a job answers to a term, by cases

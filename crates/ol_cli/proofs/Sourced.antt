@@ -49,12 +49,17 @@ none_stuck N stuck is_net complete counted e =
 text_heads : (asked : Asked) (t : Tree) (names : List (List ℕ)) (text : List ℕ) → IsNet (translation_of t (length names)) → TermAnswer asked t names status.Done text → TextHasHeads asked (translation_of t (length names)) names text
 text_heads (run workers fuel heads name) t names text is_net p =
     let s = p.shows in
-    let N = translation_of t (length names) in
-    (s.term, counts_of p.journal, s.stuck, s.written, record {
-      tree = s.tree;
-      shown = s.shown;
-      heads = read_heads N p.net (kept_paths t names fuel heads text is_net p) s.is_net heads (2 * live p.net) (s.stuck == 0) (none_stuck p.net s.stuck s.is_net p.complete s.counted) s.read;
-    })
+    let N = translation_of t (length names) in (
+      s.term,
+      counts_of p.journal,
+      s.stuck,
+      s.written,
+      record {
+        tree = s.tree;
+        shown = s.shown;
+        heads = read_heads N p.net (kept_paths t names fuel heads text is_net p) s.is_net heads (2 * live p.net) (s.stuck == 0) (none_stuck p.net s.stuck s.is_net p.complete s.counted) s.read;
+      },
+    )
 text_heads (walk edges heads name) t names text is_net w =
     (w.term, w.written, record { tree = w.tree; shown = w.shown; heads = (own_heads (translation_of t (length names)) is_net heads edges w.tree w.read).0 })
 

@@ -6,8 +6,10 @@ use Rattle.ol_cli.proofs.Evaluated.{file_answer}
 use Rattle.ol_cli.proofs.evaluation.evaluate.Goals as goal
 
 pub returns-in_ok-answer-in-Ok : goal.returns-in_ok-answer-in-Ok
-returns-in_ok-answer-in-Ok c = record { answer = file_answer (asked_by c.args.job.now) c.args.bytes.now (tree_of c.in-Ok.file.term) c.in-Ok.file.names c.in_ok-answer-in-Ok.answer.status c.in_ok-answer-in-Ok.answer.text.items
-    c.requires.short c.in-Ok.ensures.file c.in-Ok.ensures.shallow c.in_ok-answer-in-Ok.ensures.answer }
+returns-in_ok-answer-in-Ok c = record {
+  answer = file_answer (asked_by c.args.job.now) c.args.bytes.now (tree_of c.in-Ok.file.term) c.in-Ok.file.names c.in_ok-answer-in-Ok.answer.status c.in_ok-answer-in-Ok.answer.text.items
+      c.requires.short c.in-Ok.ensures.file c.in-Ok.ensures.shallow c.in_ok-answer-in-Ok.ensures.answer;
+}
 
 pub returns-in_ok-text-in-Syntax : goal.returns-in_ok-text-in-Syntax
 returns-in_ok-text-in-Syntax c =

@@ -30,5 +30,7 @@ returns c =
     let tree = subst (λ n. IsTree (net_of c.run_kept.new.net) c.args.heads (2 * n) c.in_ok-tree-in-Done.tree) c.nodes.ensures.nodes c.in_ok-tree-in-Done.ensures.tree in
     let text : c.in_ok-text-in-Done.text.items ≡ answer_text c.in_ok-term-in-Done.term.items (counts_of c.in_ok-ran.ran.journal) c.stuck.result =
     c.in_ok-text-in-Done.ensures ∙ ap (λ (x : List ℕ). answer_text x c.counts.result c.stuck.result) c.deref.ensures.value ∙ ap (λ (x : Counts). answer_text c.in_ok-term-in-Done.term.items x c.stuck.result) c.counts.ensures in
-    record { answer = prints (tree_of c.args.file.now.term) c.args.file.now.names c.args.net c.run_kept.new.net c.args.fuel c.in_ok-ran.ran.journal c.requires.net c.is_net.ensures.net c.in_ok-ran.ensures.runs
-    c.args.heads c.stuck.result c.in_ok-tree-in-Done.tree c.in_ok-term-in-Done.term.items c.in_ok-text-in-Done.text.items (c.in_ok-ran.ensures.done.0 c.in-Done.is) c.stuck.ensures.stuck tree c.in_ok-term-in-Done.ensures text }
+    record {
+      answer = prints (tree_of c.args.file.now.term) c.args.file.now.names c.args.net c.run_kept.new.net c.args.fuel c.in_ok-ran.ran.journal c.requires.net c.is_net.ensures.net c.in_ok-ran.ensures.runs
+          c.args.heads c.stuck.result c.in_ok-tree-in-Done.tree c.in_ok-term-in-Done.term.items c.in_ok-text-in-Done.text.items (c.in_ok-ran.ensures.done.0 c.in-Done.is) c.stuck.ensures.stuck tree c.in_ok-term-in-Done.ensures text;
+    }
