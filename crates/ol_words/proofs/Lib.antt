@@ -1,0 +1,14 @@
+mod SoFar
+mod Folds
+mod Digits
+mod Options
+mod Rows
+mod Told
+mod Shapes
+mod Walking
+mod Walks
+mod Matched
+mod Fits
+mod Passing
+mod Subcommands
+mod Agreed

@@ -1,0 +1,67 @@
+-- The rows of what was found, by their ids.
+use Rattle.std.proofs.Common.{◌≡◌, ◌⊎◌, ◌∙◌, sym, ap, refl, true, false, true≢false, Bool, List, [], ◌∷◌, Option, Some, None, if◌then◌else◌, inl, inr}
+use Rattle.std.specs.Prelude.{find, is_some}
+use Rattle.std.specs.Str.{bytes_eq}
+use Rattle.std.proofs.lemmas.Slice.Eq.{bytes_eq-Decides}
+use Rattle.clap.specs.Walk.{Row, used_as, without, with_values, first_of}
+use Rattle.clap.specs.declared.parser.matches.ValueSource.TheVariants.{CommandLine}
+use Rattle.clap.specs.declared.builder.value_parser.Reading.{Reading}
+use Rattle.clap.specs.declared.builder.action.ArgAction.TheVariants.{Set}
+use Rattle.ol_words.specs.Lines.{Text}
+
+pub cases : (b : Bool) → (b ≡ true) ⊎ (b ≡ false)
+cases true = inl refl
+cases false = inr refl
+
+pub itself : (id : Text) → bytes_eq id id ≡ true
+itself id = (bytes_eq-Decides id id).1 refl
+
+abbrev pub found_in : Text → List Row → Option Row
+found_in id rows = find (λ r. bytes_eq r.id id) rows
+
+module _ (id other : Text) (apart : bytes_eq id other ≡ false) where
+  without_other : (rows : List Row) → found_in other (without id rows) ≡ found_in other rows
+  without_other [] = refl
+  without_other (r ∷ rs) =
+      let before = without_other rs in
+      elim (cases (bytes_eq r.id id)) [
+        | inl same ↦
+            let is : r.id ≡ id = (bytes_eq-Decides r.id id).0 same in
+            let miss : bytes_eq r.id other ≡ false = ap (λ t. bytes_eq t other) is ∙ apart in
+            rw same (rw miss refl)
+        | inr differs ↦ rw differs (ap (λ (x : Option Row). if bytes_eq r.id other then Some r else x) before)
+      ]
+
+  with_values_other : (how : Reading) (values : List Text) (rows : List Row) → found_in other (with_values id how CommandLine values rows) ≡ found_in other rows
+  with_values_other how values [] = rw apart refl
+  with_values_other how values (r ∷ rs) =
+      let before = with_values_other how values rs in
+      elim (cases (bytes_eq r.id id)) [
+        | inl same ↦
+            let is : r.id ≡ id = (bytes_eq-Decides r.id id).0 same in
+            let miss : bytes_eq r.id other ≡ false = ap (λ t. bytes_eq t other) is ∙ apart in
+            rw same (rw miss refl)
+        | inr differs ↦ rw differs (ap (λ (x : Option Row). if bytes_eq r.id other then Some r else x) before)
+      ]
+
+  -- a use of one id leaves what was found of another
+  pub set_other : (how : Reading) (values : List Text) (rows : List Row)
+      → found_in other (used_as Set id how values rows) ≡ found_in other rows
+  set_other how values rows = with_values_other how values (without id rows) ∙ without_other rows
+
+some_is : {X : Type 0} (x : X) → Some x ≡ None → ⊥
+some_is x e = true≢false (ap (λ o. is_some o) e)
+
+-- the first use of an id is found
+pub set_fresh : (id : Text) (how : Reading) (v : Text) (rows : List Row) → found_in id rows ≡ None
+    → first_of id (used_as Set id how (v ∷ []) rows) ≡ Some v
+set_fresh id how v [] none = rw (itself id) refl
+set_fresh id how v (r ∷ rs) none = elim (cases (bytes_eq r.id id)) [
+  | inl same ↦
+      let hit : Some r ≡ None = sym (ap (λ b. if b then Some r else found_in id rs) same) ∙ none in
+      absurd (some_is r hit)
+  | inr differs ↦
+      let rest : found_in id rs ≡ None = sym (ap (λ b. if b then Some r else found_in id rs) differs) ∙ none in
+      let before = set_fresh id how v rs rest in
+      rw differs (rw differs (rw differs before))
+]

@@ -1,0 +1,92 @@
+-- How clap sees the words.
+use Rattle.std.proofs.Common.{ℕ, suc, ◌≡◌, ◌∙◌, ◌+◌, ◌==◌, ◌&&◌, not, sym, ap, refl, arith, true, false, true≢false, List, [], ◌∷◌, Option, Some, None, if◌then◌else◌, inl, inr, length, nat_lt, lt-ltb, ap₂}
+use Rattle.std.specs.Prelude.{option_and_then, option_map, unwrap_or}
+use Rattle.std.proofs.lemmas.Bool.{cases_lt}
+use Rattle.std.proofs.lemmas.Bool.Decides.{nat_tests}
+use Rattle.std.specs.List.{position_or_len, before_first, after_first}
+use Rattle.clap.specs.Lexer.{long_of, short_of, has_byte}
+use Rattle.ol_words.specs.Lines.{Text, is_dashed, is_end, is_option, is_equals, option_of, name_and_value, value_in}
+use Rattle.ol_words.proofs.Rows.{cases}
+
+some_left : (rest : Text) → (suc (length rest) == 0) ≡ false
+some_left rest = grind (arith, nat_tests)
+
+pub plain_long : (word : Text) → is_dashed word ≡ false → long_of word ≡ None
+plain_long [] plain = refl
+plain_long (x ∷ []) plain = elim (cases (x == 45)) [ inl same ↦ rw same refl | inr differs ↦ rw differs refl ]
+plain_long (x ∷ y ∷ rest) plain = elim (cases (x == 45)) [
+  | inl same ↦
+      let bad : true ≡ false = sym (ap not (some_left rest)) ∙ sym (ap (λ b. b && not (length (y ∷ rest) == 0)) same) ∙ plain in
+      absurd (true≢false bad)
+  | inr differs ↦ rw differs refl
+]
+
+pub plain_short : (word : Text) → is_dashed word ≡ false → short_of word ≡ None
+plain_short [] plain = refl
+plain_short (x ∷ []) plain = elim (cases (x == 45)) [ inl same ↦ rw same refl | inr differs ↦ rw differs refl ]
+plain_short (x ∷ y ∷ rest) plain = elim (cases (x == 45)) [
+  | inl same ↦
+      let bad : true ≡ false = sym (ap not (some_left rest)) ∙ sym (ap (λ b. b && not (length (y ∷ rest) == 0)) same) ∙ plain in
+      absurd (true≢false bad)
+  | inr differs ↦ rw differs refl
+]
+
+one_more : (a b : ℕ) → nat_lt a b ≡ nat_lt (1 + a) (suc b)
+one_more a b = elim (cases_lt a b) [
+  | inl below ↦ lt-ltb a b below ∙ sym (lt-ltb (1 + a) (suc b) (omega arith))
+  | inr above ↦ grind (arith, nat_tests)
+]
+
+-- a byte is there just where its first place is within the text
+equals_inside : (text : Text) → has_byte 61 text ≡ nat_lt (position_or_len is_equals text) (length text)
+equals_inside [] = refl
+equals_inside (x ∷ rest) = let before = equals_inside rest in elim (cases (x == 61)) [
+  | inl same ↦ rw same (sym (lt-ltb 0 (suc (length rest)) (omega arith)))
+  | inr differs ↦ rw differs (before ∙ one_more (position_or_len is_equals rest) (length rest))
+]
+
+value_same : (text : Text) → (if has_byte 61 text then Some (after_first (λ x. x == 61) text) else None) ≡ value_in text
+value_same text = ap (λ b. if b then Some (after_first (λ x. x == 61) text) else None) (equals_inside text)
+
+hyphens : (os : List Text) (x y : ℕ) (text o : Text) (value : Option Text) → option_of os (x ∷ y ∷ text) ≡ Some (o, value)
+    → ((x == 45) ≡ true) × ((y == 45) ≡ true) × (name_and_value os text ≡ Some (o, value))
+hyphens os x y text o value e = elim (cases (x == 45)) [
+  | inl one ↦ elim (cases (y == 45)) [
+    | inl two ↦ (one, two, sym (ap₂ (λ p q. option_and_then (name_and_value os) (if p && q then Some text else None)) one two) ∙ e)
+    | inr other ↦ absurd (nothing (sym (ap₂ (λ p q. option_and_then (name_and_value os) (if p && q then Some text else None)) one other) ∙ e))
+  ]
+  | inr other ↦ absurd (nothing (sym (ap (λ p. option_and_then (name_and_value os) (if p && (y == 45) then Some text else None)) other) ∙ e))
+]
+  where
+    nothing : ◌≡◌ {A = Option (Text × Option Text)} None (Some (o, value)) → ⊥
+    nothing e = cc
+
+named : (os : List Text) (text o : Text) (value : Option Text) → name_and_value os text ≡ Some (o, value)
+    → (◌≡◌ {A = Option (Text × Option Text)} (Some (before_first is_equals text, value_in text)) (Some (o, value))) × (is_option os o ≡ true)
+named os text o value e = elim (cases (is_option os (before_first is_equals text))) [
+  | inl known ↦
+      let same : ◌≡◌ {A = Option (Text × Option Text)} (Some (before_first is_equals text, value_in text)) (Some (o, value)) =
+      sym (ap (λ b. if b then Some (before_first is_equals text, value_in text) else None) known) ∙ e in
+      let name : before_first is_equals text ≡ o = ap (λ p. unwrap_or (option_map (λ (q : Text × Option Text). q.0) p) []) same in
+      (same, ap (is_option os) (sym name) ∙ known)
+  | inr other ↦ absurd (nothing (sym (ap (λ b. if b then Some (before_first is_equals text, value_in text) else None) other) ∙ e))
+]
+  where
+    nothing : ◌≡◌ {A = Option (Text × Option Text)} None (Some (o, value)) → ⊥
+    nothing e = cc
+
+two_hyphens : (x y : ℕ) → (x == 45) ≡ true → (y == 45) ≡ true → is_end (x ∷ y ∷ []) ≡ true
+two_hyphens x y one two = rw one (rw two refl)
+
+-- a word that writes out an option is a long flag with that name and value
+pub option_long : (os : List Text) (word o : Text) (value : Option Text) → is_end word ≡ false → option_of os word ≡ Some (o, value) → (long_of word ≡ Some (o, value)) × (is_option os o ≡ true)
+option_long os [] o value goes e = absurd (cc)
+option_long os (x ∷ []) o value goes e = absurd (cc)
+option_long os (x ∷ y ∷ []) o value goes e =
+    let parts = hyphens os x y [] o value e in
+    absurd (true≢false (sym (two_hyphens x y parts.0 parts.1) ∙ goes))
+option_long os (x ∷ y ∷ z ∷ zs) o value goes e =
+    let parts = hyphens os x y (z ∷ zs) o value e in
+    let is = named os (z ∷ zs) o value parts.2 in
+    let pair : long_of (x ∷ y ∷ z ∷ zs) ≡ Some (before_first is_equals (z ∷ zs), if has_byte 61 (z ∷ zs) then Some (after_first is_equals (z ∷ zs)) else None) = rw parts.0 (rw parts.1 refl) in
+    (pair ∙ ap (λ v. Some (before_first is_equals (z ∷ zs), v)) (value_same (z ∷ zs)) ∙ is.0, is.1)

@@ -1,0 +1,17 @@
+use Rattle.std.proofs.Common.{◌≡◌, ◌∙◌, ap, ap₂, true}
+use Rattle.clap.specs.Words.{App, app_of, with_subcommand}
+use Rattle.clap.specs.Simple.{app_of_fields}
+use Rattle.clap.specs.declared.builder.command.Command.{Command}
+use Rattle.clap.specs.declared.builder.command.Command.TheOpen.{Command-F}
+use Rattle.ol_words.specs.Command.{quiet_app}
+use Rattle.ol_words.proofs.command.command.Goals as goal
+
+pub returns : goal.returns
+returns c =
+    let quiet_is : app_of c.disable_help_subcommand.result ≡ quiet_app =
+    ap app_of_fields c.disable_help_subcommand.ensures
+    ∙ ap (λ (f : Command-F Command). app_of_fields (record f { disable_help_subcommand = true })) c.disable_version_flag.ensures
+    ∙ ap (λ (f : Command-F Command). app_of_fields (record f { disable_version_flag = true; disable_help_subcommand = true })) c.disable_help_flag.ensures
+    ∙ ap (λ (a : App). record a { top = record a.top { disable_help_flag = true; disable_version_flag = true; disable_help_subcommand = true } }) c.new.ensures.app in
+    let run_is = c.in_ok-subcommand-2.ensures.shape c.in_ok-subcommand.ensures.local ∙ ap₂ with_subcommand quiet_is (ap (λ (a : App). a.top) c.in_ok-subcommand.ensures.app) in
+    record { app = c.in_ok-command.ensures.shape c.in_ok-subcommand-3.ensures.local ∙ ap₂ with_subcommand run_is (ap (λ (a : App). a.top) c.in_ok-subcommand-3.ensures.app) }

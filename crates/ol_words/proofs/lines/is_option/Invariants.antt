@@ -1,0 +1,6 @@
+use Rattle.std.proofs.Common.{◌≡◌, drop}
+use Rattle.ol_words.specs.Lines.{is_option, texts}
+use Rattle.ol_words.proofs.lines.is_option.Given as goal
+
+abbrev pub invariant-loop-option : goal.invariant-loop-option
+invariant-loop-option l = is_option (texts (drop l.option-index l.options)) l.name ≡ is_option (texts l.options) l.name

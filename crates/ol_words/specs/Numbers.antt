@@ -1,0 +1,43 @@
+-- Numbers of a command line, and the limits that they keep.
+use Rattle.std.specs.Prelude.{ℕ, ◌+◌, ◌*◌, ◌-◌, ◌&&◌, List, [], ◌∷◌, Option, None, Some, if◌then◌else◌, length, nat_le, Bool}
+use Rattle.std.specs.Str.{all_ascii_digits}
+use Rattle.ol_words.specs.Lines.{Text}
+use Rattle.ol_words.specs.declared.numbers.Limits.{Limits as RustLimits}
+
+-- 1 to 8 ASCII digits
+abbrev pub is_number : Text → Bool
+is_number text = nat_le 1 (length text) && (nat_le (length text) 8 && all_ascii_digits text)
+
+-- the number that digits write behind those of n
+abbrev pub number_from : ℕ → Text → ℕ
+number_from n [] = n
+number_from n (digit ∷ digits) = number_from (n * 10 + (digit - 48)) digits
+
+-- the number that digits write
+abbrev pub number_of : Text → ℕ
+number_of text = number_from 0 text
+
+-- what a setting may be, and what it is where it isn't given
+pub record Limits : Type 0 where
+  pub least : ℕ
+  pub most : ℕ
+  pub default : ℕ
+
+abbrev pub limits_of : RustLimits → Limits
+limits_of l = record { least = l.least; most = l.most; default = l.default }
+
+-- the number that a text gives within the limits
+abbrev pub number_within : Limits → Text → Option ℕ
+number_within limits text = if is_number text && (nat_le limits.least (number_of text) && nat_le (number_of text) limits.most)
+    then Some (number_of text) else None
+
+-- a setting by the values that are given to it: it is given at most once
+abbrev pub setting : Limits → List Text → Option ℕ
+setting limits [] = Some limits.default
+setting limits (value ∷ []) = number_within limits value
+setting limits (value ∷ again ∷ more) = None
+
+-- a setting by its value, if it has one
+abbrev pub setting_by : Limits → Option Text → Option ℕ
+setting_by limits None = Some limits.default
+setting_by limits (Some value) = number_within limits value

@@ -1,0 +1,118 @@
+//! The job of a list of words.
+
+ghost use Rattle.std.specs.Prelude.{◌≡◌, IfOk, Err, Some, None, option_map, option_and_then};
+ghost use Rattle.clap.specs.Words.{first_value, found_of};
+ghost use Rattle.ol_words.specs.Jobs.{agreed_verb, asked_by, job_by, job_of, run_verb, texts_of, verb_of, walk_verb};
+
+use crate::command::matches_of;
+use crate::jobs::{Job, UsageFault, Word};
+use crate::lines::line_of;
+use crate::numbers::{EDGES, FUEL, HEADS, WORKERS, setting_by};
+use crate::verbs::Verb;
+use clap::ArgMatches;
+use std::alloc::{AllocError, Global};
+
+/// The job of the words of a command line: the program's name, which isn't looked at, then the command `run` or `walk`,
+/// then its options and exactly one file name in any order.
+///
+/// `run` has the options `--workers`, `--fuel` and `--heads`, `walk` has `--edges` and `--heads`. An option is written out whole,
+/// as `--name value` or `--name=value`, and comes at most once; its value is 1 to 8 ASCII digits within the range that `Job` gives.
+/// By themselves there are 4 workers, a fuel of 200,000, 4,096 heads and 100,000 edges. The word `--` ends the options;
+/// before it a word that begins with `-`, and isn't `-` alone, is no file name and no value.
+///
+/// `Refused` comes exactly where the words have no job by these rules. `NoMemory` comes where memory runs out.
+pub fn job(alloc: Global, words: &Vec<String>) -> Result<Job, UsageFault>
+    // The job is that of the words.
+    ensures job { IfOk result (λ job. job_of (texts_of words.now.items) ≡ Some (asked_by job)) }
+
+    // A refusal comes only where the words have no job.
+    ensures refused { result ≡ Err UsageFault.Refused → job_of (texts_of words.now.items) ≡ None }
+{
+    let Some(verb) = agreed_verb(alloc, words)? else {
+        return Err(UsageFault::Refused);
+    };
+    // clap takes all words that come to it, so it fails here only for want of memory.
+    let matches = matches_of(alloc, words)?;
+    let Some((_, found)) = matches.subcommand() else {
+        return Err(UsageFault::Refused);
+    };
+    job_by(alloc, verb, found)
+}
+
+// The verb of words that give each of its options once at most and one name, or None where they don't.
+fn agreed_verb(alloc: Global, words: &Vec<String>) -> Result<Option<Verb>, AllocError>
+    ensures { IfOk result (λ verb. option_map verb_of verb ≡ agreed_verb (texts_of words.now.items)) }
+{
+    let [_, word, rest @ ..] = words.as_slice() else {
+        return Ok(None);
+    };
+    let Some(verb) = Verb::named(word.as_str()) else {
+        return Ok(None);
+    };
+    let Some(line) = line_of(alloc, verb.options(), rest)? else {
+        return Ok(None);
+    };
+    if !line.is_told_once(verb.options()) {
+        return Ok(None);
+    }
+    Ok(Some(verb))
+}
+
+// The job by what was given behind a verb.
+fn job_by(alloc: Global, verb: Verb, found: &ArgMatches) -> Result<Job, UsageFault>
+    ensures job { IfOk result (λ job. job_by (verb_of verb) (λ id. first_value (found_of found.now) id) ≡ Some (asked_by job)) }
+    ensures refused { result ≡ Err UsageFault.Refused → job_by (verb_of verb) (λ id. first_value (found_of found.now) id) ≡ None }
+{
+    match verb {
+        Verb::Run => run_by(alloc, found),
+        Verb::Walk => walk_by(alloc, found),
+    }
+}
+
+// The job by what was given behind `run`.
+fn run_by(alloc: Global, found: &ArgMatches) -> Result<Job, UsageFault>
+    ensures job { IfOk result (λ job. job_by run_verb (λ id. first_value (found_of found.now) id) ≡ Some (asked_by job)) }
+    ensures refused { result ≡ Err UsageFault.Refused → job_by run_verb (λ id. first_value (found_of found.now) id) ≡ None }
+{
+    let Some(workers) = setting_by(found.get_str("workers"), WORKERS) else {
+        return Err(UsageFault::Refused);
+    };
+    let Some(fuel) = setting_by(found.get_str("fuel"), FUEL) else {
+        return Err(UsageFault::Refused);
+    };
+    let Some(heads) = setting_by(found.get_str("heads"), HEADS) else {
+        return Err(UsageFault::Refused);
+    };
+    let Some(name) = found.get_str("name") else {
+        return Err(UsageFault::Refused);
+    };
+    let name = Word::of(alloc, name)?;
+    Ok(Job::Run {
+        workers,
+        fuel,
+        heads,
+        name,
+    })
+}
+
+// The job by what was given behind `walk`.
+fn walk_by(alloc: Global, found: &ArgMatches) -> Result<Job, UsageFault>
+    ensures job { IfOk result (λ job. job_by walk_verb (λ id. first_value (found_of found.now) id) ≡ Some (asked_by job)) }
+    ensures refused { result ≡ Err UsageFault.Refused → job_by walk_verb (λ id. first_value (found_of found.now) id) ≡ None }
+{
+    let Some(edges) = setting_by(found.get_str("edges"), EDGES) else {
+        return Err(UsageFault::Refused);
+    };
+    let Some(heads) = setting_by(found.get_str("heads"), HEADS) else {
+        return Err(UsageFault::Refused);
+    };
+    let Some(name) = found.get_str("name") else {
+        return Err(UsageFault::Refused);
+    };
+    let name = Word::of(alloc, name)?;
+    Ok(Job::Walk {
+        edges: u64::from(edges),
+        heads,
+        name,
+    })
+}
