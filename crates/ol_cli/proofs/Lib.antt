@@ -19,3 +19,4 @@ mod NoFacing
 mod LeadSearch
 mod AnyRun
 mod Sourced
+mod Within

@@ -1,6 +1,10 @@
 use Rattle.ol_cli.proofs.Exact.{job_cause}
-use Rattle.ol_words.specs.Jobs.{asked_by}
+use Rattle.ol_words.specs.Jobs.{asked_by, texts_of}
+use Rattle.ol_cli.proofs.Within.{job_within}
 use Rattle.ol_cli.proofs.top.plan.Goals as goal
 
 pub returns-in_ok-answer-in-Ok-clause-planned : goal.returns-in_ok-answer-in-Ok-clause-planned
 returns-in_ok-answer-in-Ok-clause-planned g c = job_cause c.args.words.now.items _ (asked_by c.in-Ok.job) c.in_ok-answer-in-Ok.answer.status c.in_ok-answer-in-Ok.answer.text.items c.in-Ok.ensures.job c.in_ok-answer-in-Ok.ensures.caused
+
+pub answer_job-requires-clause-within : goal.answer_job-requires-clause-within
+answer_job-requires-clause-within g c = job_within (texts_of c.args.words.now.items) (asked_by c.in-Ok.job) c.in-Ok.ensures.job
