@@ -1,7 +1,14 @@
 -- From the run of the code's net to the run of the term's own.
-use Rattle.std.proofs.Common.{◌≡◌, ℕ, ◌+◌, ◌*◌, ◌<◌, true, false, List, [], length, sym, ◌∙◌, subst, inl, inr, ◌⊎◌, arith}
+use Rattle.std.proofs.Common.{◌≡◌, ℕ, ◌+◌, ◌*◌, ◌<◌, ◌≤◌, Vec, Global, Result, Ok, Err, IfOk, true, false, List, [], length, sym, ◌∙◌, subst, inl, inr, ◌⊎◌, arith}
 use Rattle.std.proofs.lemmas.List.{length-map}
-use Rattle.ol_parse.specs.Trees.{Tree}
+use Rattle.ol_io.specs.declared.outside.NoMemory.{NoMemory}
+use Rattle.ol_term.specs.Trees.{Tree, depth}
+use Rattle.ol_parse.specs.Parsed.{IsFileOf}
+use Rattle.ol_words.specs.Jobs.{Asked, run, walk}
+use Rattle.ol_cli.specs.declared.status.Status.{Status}
+use Rattle.ol_cli.specs.declared.status.Status.TheVariants as status
+use Rattle.ol_cli.specs.Answers.{large, TermAnswer, FileAnswer}
+use Rattle.ol_cli.specs.Trees.{TreeAnswer}
 use Rattle.ol_net.specs.declared.parts.Kind.{Kind}
 use Rattle.ol_net.specs.Graph.{Graph}
 use Rattle.ol_net.specs.Nets.{NamedNet, HasNode, IsNet, SameNet, net_under}
@@ -25,8 +32,8 @@ use Rattle.ol_readback.specs.Trees.{IsTree}
 use Rattle.ol_readback.specs.Texts.{IsTextOf}
 use Rattle.ol_readback.specs.declared.answers.ReadNode.{ReadNode}
 use Rattle.ol_cli.specs.Listing.{ListsOnce}
-use Rattle.ol_cli.specs.Texts.{answer_text}
-use Rattle.ol_cli.specs.Evaluation.{RunsOut, Prints}
+use Rattle.ol_cli.specs.Texts.{line, answer_text}
+use Rattle.ol_cli.specs.Evaluation.{start_net, Shows, RunsOut, Prints, Walks}
 use Rattle.ol_cli.proofs.NamedNets.{named_net}
 use Rattle.ol_cli.proofs.Alike.{RunsAlike, runs_alike}
 use Rattle.ol_cli.proofs.ListedOnce.{net_of_once, net_of_parts_once, net_under_once, same_length}
@@ -52,8 +59,8 @@ naming_apart start made names n j k bj bk e = elim (which j k) [
         let no = not_before_itself (names k) in
         (let z : true ≡ false = sym itself ∙ no in cc)
 
-module _ (t : Tree) (old new : Graph) (fuel : ℕ) (journal : List Entry)
-    (start : SameNet (net_of old) (translation_of t 0)) (is_net : IsNet (net_of new)) (ran : RunsTo old fuel journal new)
+module _ (t : Tree) (names : List (List ℕ)) (old new : Graph) (fuel : ℕ) (journal : List Entry)
+    (start : SameNet (net_of old) (translation_of t (length names))) (is_net : IsNet (net_of new)) (ran : RunsTo old fuel journal new)
   where
     abbrev named : NamedNet NodeName
     named = net_under ran.leads.names (net_of new)
@@ -68,44 +75,42 @@ module _ (t : Tree) (old new : Graph) (fuel : ℕ) (journal : List Entry)
     named_once : ListsOnce named
     named_once = net_under_once ran.leads.names (net_of new) one_name (net_of_once new)
 
-    start_once : ListsOnce (net_under Init (translation_of t 0))
-    start_once = net_under_once Init (translation_of t 0) (λ x y k l i j h h' e. cc) (net_of_parts_once (1 + 0) (nodes_of t) (links_of t))
+    start_once : ListsOnce (start_net t names)
+    start_once = net_under_once Init (translation_of t (length names)) (λ x y k l i j h h' e. cc) (net_of_parts_once (1 + length names) (nodes_of t) (links_of t))
 
-    alike : RunsAlike (net_under Init (translation_of t 0)) fuel journal named
-    alike = runs_alike _ _ named fuel journal (same_under Init (net_of old) (translation_of t 0) start) start_once named_once ran.one_thread
+    alike : RunsAlike (start_net t names) fuel journal named
+    alike = runs_alike _ _ named fuel journal (same_under Init (net_of old) (translation_of t (length names)) start) start_once named_once ran.one_thread
 
     -- the tree of the code's net is that of the run's
-    tree_alike : (tree : List ReadNode) → IsTree (net_of new) 4096 (2 * live (net_of new)) tree → IsTree alike.net 4096 (2 * live alike.net) tree
-    tree_alike tree r =
-        let under = tree_under ran.leads.names (net_of new) is_net one_name 4096 (2 * live (net_of new)) tree r in
+    tree_alike : (heads : ℕ) (tree : List ReadNode) → IsTree (net_of new) heads (2 * live (net_of new)) tree → IsTree alike.net heads (2 * live alike.net) tree
+    tree_alike heads tree r =
+        let under = tree_under ran.leads.names (net_of new) is_net one_name heads (2 * live (net_of new)) tree r in
         let length_under : live named ≡ live (net_of new) = length-map (net_of new).nodes (λ (n : ℕ × Kind × ℕ). (ran.leads.names n.0, n.1, n.2)) in
         let length_same : live named ≡ live alike.net = same_length named alike.net alike.same named_once alike.once in
         let e : live (net_of new) ≡ live alike.net = sym length_under ∙ length_same in
-        subst (λ n. IsTree alike.net 4096 (2 * n) tree) e (tree_same named alike.net alike.same length_same 4096 (2 * live (net_of new)) tree under)
+        subst (λ n. IsTree alike.net heads (2 * n) tree) e (tree_same named alike.net alike.same length_same heads (2 * live (net_of new)) tree under)
 
-    pub prints : (n : ℕ) (tree : List ReadNode) (term text : List ℕ) → IsComplete (net_of new) → HasStuck (net_of new) n → IsTree (net_of new) 4096 (2 * live (net_of new)) tree
-        → IsTextOf [] tree term → text ≡ answer_text term (counts_of journal) n → Prints t fuel text
-    prints n tree term text c s r sh w = record {
-      journal = journal;
-      net = alike.net;
-      stuck = n;
-      tree = tree;
-      term = term;
-      run = alike.run;
-      complete = complete_same named alike.net alike.same (complete_under ran.leads.names (net_of new) is_net one_name c);
-      counted = has_stuck_same named alike.net n alike.same (has_stuck_under ran.leads.names (net_of new) is_net one_name n s);
-      is_net = net_same named alike.net alike.same (named_net ran.leads.names (net_of new) is_net one_name);
-      once = alike.once;
-      read = tree_alike tree r;
-      shown = sh;
-      written = w;
-    }
+    pub prints : (heads n : ℕ) (tree : List ReadNode) (term text : List ℕ) → IsComplete (net_of new) → HasStuck (net_of new) n → IsTree (net_of new) heads (2 * live (net_of new)) tree
+        → IsTextOf names tree term → text ≡ answer_text term (counts_of journal) n → Prints t names fuel heads text
+    prints heads n tree term text c s r sh w =
+        let shows : Shows names heads journal alike.net text = record {
+          stuck = n;
+          tree = tree;
+          term = term;
+          is_net = net_same named alike.net alike.same (named_net ran.leads.names (net_of new) is_net one_name);
+          once = alike.once;
+          counted = has_stuck_same named alike.net n alike.same (has_stuck_under ran.leads.names (net_of new) is_net one_name n s);
+          read = tree_alike heads tree r;
+          shown = sh;
+          written = w;
+        } in
+        record { journal = journal; net = alike.net; run = alike.run; complete = complete_same named alike.net alike.same (complete_under ran.leads.names (net_of new) is_net one_name c); shows = shows }
 
-    -- the run keeps the one free port
-    pub one_port : new.free ≡ 1
-    one_port = same_ports _ named 0 journal ran.leads.run ∙ start.free_ports
+    -- the run keeps the free ports
+    pub ports_kept : new.free ≡ 1 + length names
+    ports_kept = same_ports _ named 0 journal ran.leads.run ∙ start.free_ports
 
-    pub runs_out : length journal ≡ fuel → HasActive (net_of new) → RunsOut t fuel
+    pub runs_out : length journal ≡ fuel → HasActive (net_of new) → RunsOut t names fuel
     runs_out e a = record {
       journal = journal;
       net = alike.net;
@@ -113,3 +118,30 @@ module _ (t : Tree) (old new : Graph) (fuel : ℕ) (journal : List Entry)
       full = e;
       left = (ran.leads.names a.0, ran.leads.names a.1, a.2, active_same named alike.net alike.same _ _ a.2 (active_to ran.leads.names (net_of new) a.0 a.1 a.2 a.3));
     }
+
+-- the tree of the untouched net is that of the translation
+pub walks : (t : Tree) (names : List (List ℕ)) (net : Graph) → SameNet (net_of net) (translation_of t (length names)) → (edges heads : ℕ) (tree : List ReadNode) (term text : List ℕ) →
+    IsTree (net_of net) heads edges tree → IsTextOf names tree term → text ≡ line term → Walks t names edges heads text
+walks t names net start edges heads tree term text r sh w =
+    let size = same_length (net_of net) (translation_of t (length names)) start (net_of_once net) (net_of_parts_once (1 + length names) (nodes_of t) (links_of t)) in
+    record { tree = tree; term = term; read = tree_same (net_of net) (translation_of t (length names)) start size heads edges tree r; shown = sh; written = w }
+
+-- a text that was made, if one was
+pub reads_text : (P : List ℕ → Type 0) (r : Result (Vec ℕ Global) NoMemory) (text : List ℕ) → IfOk r (λ v. v.items ≡ text) → ((x : List ℕ) → x ≡ text → P x) → IfOk r (λ v. P v.items)
+reads_text P (Ok v) text h p = p v.items h
+reads_text P (Err e) text h p = tt
+
+-- the answer to a term that isn't too deep is that of its file
+pub file_answer : (asked : Asked) (bytes : List ℕ) (t : Tree) (names : List (List ℕ)) (st : Status) (text : List ℕ) → length bytes ≤ 1048576 → IsFileOf bytes t names → depth t ≤ 1000 → TreeAnswer asked t names st text → FileAnswer asked bytes st text
+file_answer asked bytes t names status.Limit text b f d h = large b f d h.0 h.1
+file_answer asked bytes t names status.Syntax text b f d h = absurd (no_syntax asked t names text h.1)
+  where
+    no_syntax : (asked : Asked) (t : Tree) (names : List (List ℕ)) (text : List ℕ) → TermAnswer asked t names status.Syntax text → ⊥
+    no_syntax (run w fuel heads name) t names text h = h
+    no_syntax (walk edges heads name) t names text h = h
+file_answer asked bytes t names status.Done text b f d h = (t, names, record { short = b; file = f; shallow = d; small = h.0 }, h.1)
+file_answer asked bytes t names status.Usage text b f d h = (t, names, record { short = b; file = f; shallow = d; small = h.0 }, h.1)
+file_answer asked bytes t names status.Spent text b f d h = (t, names, record { short = b; file = f; shallow = d; small = h.0 }, h.1)
+file_answer asked bytes t names status.ReadFault text b f d h = (t, names, record { short = b; file = f; shallow = d; small = h.0 }, h.1)
+file_answer asked bytes t names status.WriteFault text b f d h = (t, names, record { short = b; file = f; shallow = d; small = h.0 }, h.1)
+file_answer asked bytes t names status.NoMemory text b f d h = (t, names, record { short = b; file = f; shallow = d; small = h.0 }, h.1)

@@ -1,54 +1,77 @@
--- What the one-thread run of a term is, and what is printed of it.
-use Rattle.std.specs.Prelude.{◌≡◌, ℕ, ◌*◌, List, [], length}
-use Rattle.ol_parse.specs.Trees.{Tree}
-use Rattle.ol_net.specs.Nets.{NamedNet, IsNet, net_under}
+-- What a term is answered: its one-thread run and what is printed of it, or its untouched translation read back.
+use Rattle.std.specs.Prelude.{◌≡◌, ℕ, ◌*◌, ◌≤◌, ◌<◌, List, length}
+use Rattle.ol_term.specs.Trees.{Tree}
+use Rattle.ol_net.specs.Nets.{NamedNet, IsNet, SameNet, net_under}
 use Rattle.ol_net.specs.Pairs.{HasStuck}
 use Rattle.ol_rules.specs.declared.journal.NodeName.{NodeName}
 use Rattle.ol_rules.specs.declared.journal.NodeName.TheVariants.{Init}
 use Rattle.ol_rules.specs.declared.journal.Entry.{Entry}
 use Rattle.ol_rules.specs.Counting.{counts_of}
-use Rattle.ol_rules.specs.Runs.{IsOneThread, IsComplete, HasActive}
+use Rattle.ol_rules.specs.Runs.{IsRun, IsOneThread, IsComplete, HasActive}
 use Rattle.ol_readback.specs.Heads.{live}
 use Rattle.ol_readback.specs.Trees.{IsTree}
 use Rattle.ol_readback.specs.Texts.{IsTextOf}
 use Rattle.ol_readback.specs.declared.answers.ReadNode.{ReadNode}
 use Rattle.ol_translate.specs.Translation.{translation_of}
-use Rattle.ol_cli.specs.declared.status.Status.{Status}
-use Rattle.ol_cli.specs.declared.status.Status.TheVariants as status
 use Rattle.ol_cli.specs.Listing.{ListsOnce}
-use Rattle.ol_cli.specs.Texts.{answer_text, spent_text}
+use Rattle.ol_cli.specs.Texts.{line, answer_text}
 
--- the one-thread run from the net of a closed term, whose nodes are named by their numbers
-abbrev pub Runs : Tree → ℕ → List Entry → NamedNet NodeName → Type 0
-Runs t fuel journal net = IsOneThread (net_under Init (translation_of t 0)) fuel journal net
+-- the net of a term with these free names, its nodes named by their numbers
+abbrev pub start_net : Tree → List (List ℕ) → NamedNet NodeName
+start_net t names = net_under Init (translation_of t (length names))
 
--- The run has more than `fuel` steps.
-pub record RunsOut (t : Tree) (fuel : ℕ) : Type 0 where
-  pub journal : List Entry
-  pub net : NamedNet NodeName
-  pub run : Runs t fuel journal net
-  pub full : length journal ≡ fuel
-  pub left : HasActive net
-
--- The run ends within `fuel` steps. The text has the term that is read from its net, of which the first 4,096 subterms are asked,
--- each by walks of at most twice as many crossings as there are nodes (so each node is to be listed once); then its counts, and the stuck pairs that are left.
-pub record Prints (t : Tree) (fuel : ℕ) (text : List ℕ) : Type 0 where
-  pub journal : List Entry
-  pub net : NamedNet NodeName
+-- What is printed of a journal and its net, each node of which is listed once: the term that is read from the net, of which the first
+-- `heads` subterms are asked, each by walks of at most twice as many crossings as there are nodes; the counts of the journal; and the
+-- number of pairs that are stuck.
+pub record Shows (names : List (List ℕ)) (heads : ℕ) (journal : List Entry) (net : NamedNet NodeName) (text : List ℕ) : Type 0 where
   pub stuck : ℕ
   pub tree : List ReadNode
   pub term : List ℕ
-  pub run : Runs t fuel journal net
-  pub complete : IsComplete net
-  pub counted : HasStuck net stuck
   pub is_net : IsNet net
   pub once : ListsOnce net
-  pub read : IsTree net 4096 (2 * live net) tree
-  pub shown : IsTextOf [] tree term
+  pub counted : HasStuck net stuck
+  pub read : IsTree net heads (2 * live net) tree
+  pub shown : IsTextOf names tree term
   pub written : text ≡ answer_text term (counts_of journal) stuck
 
--- What a closed term is answered.
-abbrev pub TermAnswer : Tree → Status → List ℕ → Type 0
-TermAnswer t status.Spent text = RunsOut t 200000 × (text ≡ spent_text 200000)
-TermAnswer t status.Done text = Prints t 200000 text
-TermAnswer t _ text = ⊥
+-- The one-thread run ends within `fuel` steps, and this is printed of it.
+pub record Prints (t : Tree) (names : List (List ℕ)) (fuel heads : ℕ) (text : List ℕ) : Type 0 where
+  pub journal : List Entry
+  pub net : NamedNet NodeName
+  pub run : IsOneThread (start_net t names) fuel journal net
+  pub complete : IsComplete net
+  pub shows : Shows names heads journal net text
+
+-- The one-thread run has more than `fuel` steps.
+pub record RunsOut (t : Tree) (names : List (List ℕ)) (fuel : ℕ) : Type 0 where
+  pub journal : List Entry
+  pub net : NamedNet NodeName
+  pub run : IsOneThread (start_net t names) fuel journal net
+  pub full : length journal ≡ fuel
+  pub left : HasActive net
+
+-- The untouched translation is read back, each try by at most `edges` crossings, and this is its line.
+pub record Walks (t : Tree) (names : List (List ℕ)) (edges heads : ℕ) (text : List ℕ) : Type 0 where
+  pub tree : List ReadNode
+  pub term : List ℕ
+  pub read : IsTree (translation_of t (length names)) heads edges tree
+  pub shown : IsTextOf names tree term
+  pub written : text ≡ line term
+
+-- ---- every complete run, not the one-thread run alone, gives these answers
+
+-- This complete run has no more than `fuel` steps, and what is printed of its journal and its net (up to the order in which the net is listed) is this text.
+pub record PrintsOf (names : List (List ℕ)) (fuel heads : ℕ) (journal : List Entry) (net : NamedNet NodeName) (text : List ℕ) : Type 0 where
+  pub within : length journal ≤ fuel
+  pub listed : NamedNet NodeName
+  pub same : SameNet net listed
+  pub shows : Shows names heads journal listed text
+
+-- Where the answer is printed, each complete run prints it; and where the run is spent, each complete run is longer than the fuel.
+abbrev pub EveryRunPrints : Type 0
+EveryRunPrints = (t : Tree) (names : List (List ℕ)) (fuel heads : ℕ) (text : List ℕ) → IsNet (translation_of t (length names)) → Prints t names fuel heads text →
+    (journal : List Entry) (net : NamedNet NodeName) → IsRun (start_net t names) 0 journal net → IsComplete net → PrintsOf names fuel heads journal net text
+
+abbrev pub EveryRunIsLonger : Type 0
+EveryRunIsLonger = (t : Tree) (names : List (List ℕ)) (fuel : ℕ) → IsNet (translation_of t (length names)) → RunsOut t names fuel →
+    (journal : List Entry) (net : NamedNet NodeName) → IsRun (start_net t names) 0 journal net → IsComplete net → fuel < length journal

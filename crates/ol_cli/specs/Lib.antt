@@ -2,5 +2,8 @@ pub mod Texts
 pub mod Jobs
 pub mod Listing
 pub mod Evaluation
+pub mod Journals
 pub mod Answers
+pub mod Trees
+pub mod Sources
 pub mod Laws

@@ -17,8 +17,17 @@ usage_text = line (codes "usage: ol run|walk|view|trace|check|gen [options] NAME
 abbrev pub fault_text : List ℕ
 fault_text = line (codes "read fault")
 
-abbrev pub not_built_text : List ℕ
-not_built_text = line (codes "not built")
+abbrev pub bytes_text : List ℕ
+bytes_text = line (codes "limit bytes 1048576")
+
+abbrev pub depth_text : List ℕ
+depth_text = line (codes "limit depth 1000")
+
+abbrev pub nodes_text : List ℕ
+nodes_text = line (codes "limit nodes 200000")
+
+abbrev pub syntax_text : ℕ → List ℕ
+syntax_text at = count_line (codes "syntax at byte") at
 
 abbrev pub spent_text : ℕ → List ℕ
 spent_text fuel = count_line (codes "fuel") fuel

@@ -1,23 +1,28 @@
 //! The job itself: from the bytes of a term file to a text and a status.
-ghost use Rattle.std.specs.Prelude.{◌≡◌, ◌≤◌, ◌+◌, ◌*◌, length, IfOk, [], true};
-ghost use Rattle.ol_parse.specs.Trees.{Tree, tree_of, is_named_below, lams, occurrences, depth};
-ghost use Rattle.ol_cli.specs.Answers.{Evaluates};
-ghost use Rattle.ol_cli.specs.Evaluation.{Prints, RunsOut, TermAnswer};
+ghost use Rattle.std.specs.Prelude.{◌≡◌, ◌≤◌, ◌<◌, ◌+◌, ◌*◌, ℕ, List, length, IfOk, true};
+ghost use Rattle.ol_term.specs.Trees.{Tree, tree_of, has_name, depth};
+ghost use Rattle.ol_net.specs.Numbered.{net_of};
+ghost use Rattle.ol_net.specs.Nets.{SameNet};
+ghost use Rattle.ol_parse.specs.Parsed.{IsFileOf};
+ghost use Rattle.ol_translate.specs.Translation.{translation_of};
+ghost use Rattle.ol_words.specs.Jobs.{Asked, asked_by};
+ghost use Rattle.ol_cli.specs.Jobs.{IsWithinLimits};
+ghost use Rattle.ol_cli.specs.Trees.{TreeAnswer};
+ghost use Rattle.ol_cli.specs.Answers.{FileAnswer, RunAnswer, TermAnswer};
+ghost use Rattle.ol_cli.specs.Evaluation.{Walks};
 
 use crate::status::Status;
-use crate::texts::{answer_lines, line, spent_line};
+use crate::texts::{answer_lines, line, spent_line, syntax_line, term_line};
+use ol_invariance::run_kept;
 use ol_io::NoMemory;
-use ol_parse::{SmallFault, TermFile, parse_small};
+use ol_net::Net;
+use ol_parse::{ParseFault, parse};
 use ol_readback::{read_back, tree_text};
-use ol_rules::{Ended, counts, run};
+use ol_rules::{Ended, counts};
+use ol_term::{Names, TermFile};
 use ol_translate::{TransFault, translate};
+use ol_words::Job;
 use std::alloc::Global;
-
-/// The greatest number of interactions.
-pub const FUEL: u32 = 200_000;
-
-/// The greatest number of subterms that are asked for their heads.
-pub const HEADS: u32 = 4096;
 
 /// A text that is to be written, and the status that goes with it.
 #[derive(Drop)]
@@ -26,51 +31,124 @@ pub struct Answer {
     pub status: Status,
 }
 
-/// The answer to the bytes of a term file.
-pub fn evaluate(alloc: Global, bytes: &[u8]) -> Result<Answer, NoMemory>
-    requires few { length bytes.now ≤ 1024 }
-    ensures answer { IfOk result (λ a. Evaluates bytes.now a.status a.text.items) }
+/// The answer to the bytes of a job's file, none of which are past the limit.
+pub fn evaluate(alloc: Global, job: &Job, bytes: &[u8]) -> Result<Answer, NoMemory>
+    requires short { length bytes.now ≤ 1048576 }
+    requires within { IsWithinLimits (asked_by job.now) }
+    ensures answer { IfOk result (λ a. FileAnswer (asked_by job.now) bytes.now a.status a.text.items) }
 {
-    match parse_small(alloc, bytes) {
-        Ok(file) => evaluate_term(alloc, &file),
-        Err(SmallFault::NoMemory) => Err(NoMemory),
-        Err(SmallFault::NotSmall) => {
-            let text = line(alloc, "not built")?;
-            let status = Status::NotBuilt;
+    match parse(alloc, bytes) {
+        Ok(file) => {
+            let answer = evaluate_file(alloc, job, &file)?;
+            Ok(answer)
+        }
+        Err(fault) => match fault {
+            ParseFault::NoMemory => Err(NoMemory),
+            ParseFault::Syntax { at } => {
+                let text = syntax_line(alloc, at)?;
+                let status = Status::Syntax;
+                Ok(Answer { text, status })
+            }
+            ParseFault::Depth { .. } => {
+                let text = line(alloc, "limit depth 1000")?;
+                let status = Status::Limit;
+                Ok(Answer { text, status })
+            }
+        },
+    }
+}
+
+// The answer to a term that is within the limit of depth.
+fn evaluate_file(alloc: Global, job: &Job, file: &TermFile) -> Result<Answer, NoMemory>
+    requires each_name { (k : ℕ) → k < length file.now.names → has_name k (tree_of file.now.term) ≡ true }
+    requires shallow { depth (tree_of file.now.term) ≤ 1000 }
+    requires within { IsWithinLimits (asked_by job.now) }
+    ensures answer { IfOk result (λ a. TreeAnswer (asked_by job.now) (tree_of file.now.term) file.now.names a.status a.text.items) }
+{
+    match translate(alloc, file) {
+        Ok(net) => {
+            let answer = evaluate_net(alloc, job, net, file)?;
+            Ok(answer)
+        }
+        Err(fault) => match fault {
+            TransFault::NoMemory => Err(NoMemory),
+            TransFault::TooMany => {
+                let text = line(alloc, "limit nodes 200000")?;
+                let status = Status::Limit;
+                Ok(Answer { text, status })
+            }
+        },
+    }
+}
+
+// The job is done on the net of the term.
+fn evaluate_net(alloc: Global, job: &Job, net: Net, file: &TermFile) -> Result<Answer, NoMemory>
+    requires net { SameNet (net_of net) (translation_of (tree_of file.now.term) (length file.now.names)) }
+    requires small { length net.nodes ≤ 200000 }
+    requires within { IsWithinLimits (asked_by job.now) }
+    ensures answer { IfOk result (λ a. TermAnswer (asked_by job.now) (tree_of file.now.term) file.now.names a.status a.text.items) }
+{
+    match job {
+        Job::Run { fuel, heads, .. } => {
+            let answer = run_net(alloc, net, file, *fuel, *heads)?;
+            Ok(answer)
+        }
+        Job::Walk { edges, heads, .. } => {
+            let text = walk_net(alloc, &net, file, *edges, *heads)?;
+            let status = Status::Done;
             Ok(Answer { text, status })
         }
     }
 }
 
-/// The answer to a closed term: its one-thread run within the fuel, and the term that is read from
-/// the last net, each walk within twice as many crossings as the net has nodes.
-fn evaluate_term(alloc: Global, file: &TermFile) -> Result<Answer, NoMemory>
-    requires no_names { file.now.names ≡ [] }
-    requires nameless { is_named_below 0 (tree_of file.now.term) ≡ true }
-    requires shallow { depth (tree_of file.now.term) ≤ 1000 }
-    requires small { 3 * lams (tree_of file.now.term) + occurrences (tree_of file.now.term) ≤ 1024 }
-    ensures answer { IfOk result (λ a. TermAnswer (tree_of file.now.term) a.status a.text.items) }
+// The net is rewritten on one thread, and the last net is read back, each walk within twice as many
+// crossings as that net has nodes.
+fn run_net(
+    alloc: Global,
+    net: Net,
+    file: &TermFile,
+    fuel: u32,
+    heads: u32,
+) -> Result<Answer, NoMemory>
+    requires net { SameNet (net_of net) (translation_of (tree_of file.now.term) (length file.now.names)) }
+    requires small { length net.nodes ≤ 200000 }
+    requires fuel { fuel ≤ 2000000 }
+    requires heads { 1 ≤ heads }
+    ensures answer { IfOk result (λ a. RunAnswer (tree_of file.now.term) file.now.names fuel heads a.status a.text.items) }
 {
-    let mut net = match translate(alloc, file) {
-        Ok(net) => net,
-        Err(TransFault::NoMemory) => return Err(NoMemory),
-        // A term of so few occurrences and abstractions has at most 200,000 nodes.
-        Err(TransFault::TooMany) => unreachable!(),
-    };
-    let ran = run(alloc, &mut net, FUEL)?;
+    let mut net = net;
+    let ran = run_kept(alloc, &mut net, fuel)?;
     net.is_net();
     match ran.ended {
         Ended::Spent => {
-            let text = spent_line(alloc, FUEL)?;
+            let text = spent_line(alloc, fuel)?;
             let status = Status::Spent;
             Ok(Answer { text, status })
         }
         Ended::Done => {
-            let tree = read_back(alloc, &net, HEADS, 2 * net.nodes() as u64)?;
+            let tree = read_back(alloc, &net, heads, 2 * net.nodes() as u64)?;
             let term = tree_text(alloc, &tree, &file.names)?;
             let text = answer_lines(alloc, &term, counts(&ran.journal), net.stuck())?;
             let status = Status::Done;
             Ok(Answer { text, status })
         }
     }
+}
+
+// The net is read back as it is.
+fn walk_net(
+    alloc: Global,
+    net: &Net,
+    file: &TermFile,
+    edges: u64,
+    heads: u32,
+) -> Result<Vec<u8>, NoMemory>
+    requires net { SameNet (net_of net.now) (translation_of (tree_of file.now.term) (length file.now.names)) }
+    requires heads { 1 ≤ heads }
+    ensures text { IfOk result (λ text. Walks (tree_of file.now.term) file.now.names edges heads text.items) }
+{
+    net.is_net();
+    let tree = read_back(alloc, net, heads, edges)?;
+    let term = tree_text(alloc, &tree, &file.names)?;
+    term_line(alloc, &term)
 }

@@ -1,8 +1,26 @@
-//! The law of answers.
+//! The laws of answers.
 
+ghost use Rattle.ol_cli.specs.Evaluation.{EveryRunIsLonger, EveryRunPrints};
+ghost use Rattle.ol_cli.specs.Journals.{AnyRunPrints, AnyRunRunsOut, OneThreadIsThere};
 ghost use Rattle.ol_cli.specs.Laws.{OneAnswer};
 
 /// The same words and bytes have one answer.
 pub fn one_answer()
     ensures { OneAnswer }
+{}
+
+/// Where the answer is printed, each complete run prints it, whatever pairs it takes first. Where the
+/// one-thread run is spent, each complete run is longer than the fuel.
+pub fn every_run_answers()
+    ensures prints { EveryRunPrints }
+    ensures longer { EveryRunIsLonger }
+{}
+
+/// There is a one-thread run for each fuel, and any run tells its answer: what is printed of a complete
+/// run within the fuel is printed of the one-thread run, and where a run is longer than the fuel, or is
+/// as long and has an active pair left, the one-thread run is spent.
+pub fn any_run_tells()
+    ensures there { OneThreadIsThere }
+    ensures prints { AnyRunPrints }
+    ensures spent { AnyRunRunsOut }
 {}

@@ -9,6 +9,6 @@ mod tests;
 mod texts;
 mod top;
 
-pub use laws::one_answer;
+pub use laws::{any_run_tells, every_run_answers, one_answer};
 pub use status::Status;
 pub use top::ol;

@@ -3,14 +3,16 @@ ghost use Rattle.std.specs.Prelude.{◌≡◌};
 ghost use Rattle.ol_cli.specs.Answers.{number_of};
 
 /// How a call of the program ended. The order in which refusals are tried is `Usage`, `ReadFault`,
-/// `NotBuilt`, `Spent`, `WriteFault`; `NoMemory` may stand at any place before the first byte is
-/// written.
+/// `Limit` by bytes, `Syntax`, `Limit` by depth, `Limit` by nodes, `Spent`, `WriteFault`; `NoMemory` may
+/// stand at any place before the first byte is written.
 #[derive(Clone, Copy, Debug, PartialEq, Eq)]
 pub enum Status {
     /// The job was done, and its answer was written.
     Done,
     /// The words ask for no job.
     Usage,
+    /// The bytes of the term file aren't a text of the grammar.
+    Syntax,
     /// The one-thread run has more steps than the fuel.
     Spent,
     /// The source failed.
@@ -19,9 +21,9 @@ pub enum Status {
     WriteFault,
     /// Memory ran out, and nothing was written.
     NoMemory,
-    /// The input is of a form that isn't built yet: more than 1,024 bytes, or no small text of a
-    /// closed term.
-    NotBuilt,
+    /// The term file has more than 1,048,576 bytes, its term is deeper than 1,000, or the net of its
+    /// term has more than 200,000 nodes.
+    Limit,
 }
 
 impl Status {
@@ -32,11 +34,12 @@ impl Status {
         match self {
             Status::Done => 0,
             Status::Usage => 1,
+            Status::Syntax => 2,
             Status::Spent => 3,
             Status::ReadFault => 4,
             Status::WriteFault => 5,
             Status::NoMemory => 6,
-            Status::NotBuilt => 8,
+            Status::Limit => 7,
         }
     }
 }

@@ -1,108 +1,263 @@
-//! Rows over the fakes: words and an input, and what is written and answered.
+//! Rows over the fakes: words and a file, and what is written and answered.
 use crate::{Status, ol};
 use ol_io::{MemFile, MemSink, MemSource, OpenGate};
-use std::alloc::Global;
+use std::alloc::{AllocError, Global};
 use std::process::Abort;
 use std::test::Fail;
 
-fn words(alloc: Global, list: &[&str]) -> Result<Vec<String>, Fail> {
+// The words after the program's name, apart by spaces, and the name and the bytes of the one file.
+#[derive(Drop)]
+struct Given<'a> {
+    words: &'a str,
+    name: &'a str,
+    input: &'a [u8],
+}
+
+// Calls of the source and of the sink that fail, and how many bytes each takes in a call.
+#[derive(Drop)]
+struct Faults<'a> {
+    reads: &'a [u64],
+    writes: &'a [u64],
+    most: usize,
+}
+
+fn words_of(alloc: Global, line: &str) -> Result<Vec<String>, AllocError> {
     let mut words = Vec::new(alloc);
-    for word in list {
+    words.push(String::from_str(alloc, "ol")?)?;
+    for word in line.split_ascii_whitespace() {
         words.push(String::from_str(alloc, word)?)?;
     }
     Ok(words)
 }
 
-// Asserts the status and the text of `run -` on an input, with the calls of the source and of the
-// sink that fail.
+// Asserts the status and the text, or its first line where no more is given.
 fn row(
     rt: &impl Abort,
     alloc: Global,
-    input: &str,
-    failing_reads: &[u64],
-    failing_writes: &[u64],
+    given: &Given,
+    faults: &Faults,
     status: Status,
     text: &str,
 ) -> Result<(), Fail> {
     let mut files = Vec::new(alloc);
     files.push(MemFile {
-        name: String::from_str(alloc, "-")?,
-        bytes: Vec::from_slice(alloc, input.as_bytes())?,
+        name: String::from_str(alloc, given.name)?,
+        bytes: Vec::from_slice(alloc, given.input)?,
     })?;
-    let mut src = MemSource::new(files, 3, Vec::from_slice(alloc, failing_reads)?);
-    let mut out = MemSink::new(alloc, 1_048_576, 3, Vec::from_slice(alloc, failing_writes)?)
-        .ok()
-        .ok_or("no memory")?;
-    let words = words(alloc, &["ol", "run", "-"])?;
+    let most = faults.most.max(1);
+    let mut src = MemSource::new(files, most, Vec::from_slice(alloc, faults.reads)?);
+    let mut out = MemSink::new(
+        alloc,
+        1_048_576,
+        most,
+        Vec::from_slice(alloc, faults.writes)?,
+    )
+    .ok()
+    .ok_or("no memory")?;
+    let words = words_of(alloc, given.words)?;
     let answer = ol(alloc, &words, &mut src, &mut out, &OpenGate);
-    assert_eq!(rt; answer, status, "on {input}");
-    assert_eq!(rt; out.bytes(), text.as_bytes(), "on {input}");
+    assert_eq!(rt; answer, status, "{}", given.words);
+    let same = if status == Status::Done {
+        out.bytes().starts_with(text.as_bytes())
+    } else {
+        out.bytes() == text.as_bytes()
+    };
+    assert!(rt; same, "{}", given.words);
     Ok(())
 }
 
-const NO_STEP: &str =
-    "\\a. a\nbeta 0\nfan 0\ncroissant 0\nbracket 0\ncross-fan 0\ncross-croissant 0\ncross-bracket 0\nerase 0\nstuck 0\n";
+// The same of standard input and no fault.
+fn plain(
+    rt: &impl Abort,
+    alloc: Global,
+    words: &str,
+    input: &[u8],
+    status: Status,
+    text: &str,
+) -> Result<(), Fail> {
+    let given = Given {
+        words,
+        name: "-",
+        input,
+    };
+    let faults = Faults {
+        reads: &[],
+        writes: &[],
+        most: 65_536,
+    };
+    row(rt, alloc, &given, &faults, status, text)
+}
+
+// Asserts the whole text of a run that is done: the line of the term, and the nine counts.
+fn run_row(
+    rt: &impl Abort,
+    alloc: Global,
+    words: &str,
+    input: &str,
+    term: &str,
+    n: [u32; 9],
+) -> Result<(), Fail> {
+    let text = format!(in alloc;
+        "{term}\nbeta {}\nfan {}\ncroissant {}\nbracket {}\ncross-fan {}\ncross-croissant {}\ncross-bracket {}\nerase {}\nstuck {}\n",
+        n[0], n[1], n[2], n[3], n[4], n[5], n[6], n[7], n[8]
+    )?;
+    plain(rt, alloc, words, input.as_bytes(), Status::Done, &text)
+}
 
 #[test]
-fn terms_and_counts(rt: HostRuntime) -> Result<(), Fail> {
+fn terms_are_printed_with_their_counts(rt: HostRuntime) -> Result<(), Fail> {
     let alloc = rt.alloc();
-    row(&rt, alloc, "\\x. x", &[], &[], Status::Done, NO_STEP)?;
+    let none = [0; 9];
+    let pair = [2, 1, 3, 1, 2, 6, 2, 0, 0];
+    let nested = [6, 6, 12, 6, 26, 52, 26, 0, 0];
+    let rows = [
+        ("run -", "\\x. x", "\\a. a", none),
+        ("run --fuel 0 -", "\\x. x", "\\a. a", none),
+        (
+            "run -",
+            "(\\x. x) (\\y. y)",
+            "\\a. a",
+            [1, 0, 1, 0, 0, 2, 0, 0, 0],
+        ),
+        ("run -", "(\\x. x x) (\\y. y)", "\\a. a", pair),
+        (
+            "run --workers 64 --fuel 17 -",
+            "(\\x. x x) (\\y. y)",
+            "\\a. a",
+            pair,
+        ),
+        (
+            "run -",
+            "(\\x. y) (\\z. z)",
+            "y",
+            [1, 0, 0, 0, 0, 0, 0, 3, 0],
+        ),
+        ("run -", "(\\x y. x) a b", "a", [2, 0, 0, 0, 0, 0, 0, 0, 0]),
+        ("run -", "\\x. f x", "\\a. f a", none),
+        ("run -", "x x", "x x", none),
+        (
+            "run -",
+            "let t = \\f x. f (f x) in t t",
+            "\\a b. a (a (a (a b)))",
+            nested,
+        ),
+        (
+            "run --heads 3 -",
+            "let t = \\f x. f (f x) in t t",
+            "\\a b. a (a (a ...))",
+            nested,
+        ),
+        ("run -", "\\x. a", "\\b. a", none),
+        ("run -", "\\x x. x", "\\a b. b", none),
+        (
+            "run -",
+            "let x = a in b x",
+            "b a",
+            [1, 0, 0, 0, 0, 0, 0, 0, 0],
+        ),
+    ];
+    for (words, input, term, counts) in rows {
+        run_row(&rt, alloc, words, input, term, counts)?;
+    }
+    Ok(())
+}
+
+#[test]
+fn fuel_is_used_up(rt: HostRuntime) -> Result<(), Fail> {
+    let alloc = rt.alloc();
+    let rows = [
+        ("run --fuel 16 -", "(\\x. x x) (\\y. y)", "fuel 16\n"),
+        ("run --fuel 0 -", "(\\x. x) (\\y. y)", "fuel 0\n"),
+        ("run --fuel=007 -- -", "(\\x. x x) (\\y. y)", "fuel 7\n"),
+        ("run -", "(\\x. x x) (\\x. x x)", "fuel 200000\n"),
+        (
+            "run -",
+            "(\\x y. x) (\\z. z) ((\\x. x x) (\\x. x x))",
+            "fuel 200000\n",
+        ),
+    ];
+    for (words, input, text) in rows {
+        plain(&rt, alloc, words, input.as_bytes(), Status::Spent, text)?;
+    }
+    Ok(())
+}
+
+#[test]
+fn the_untouched_net_is_walked(rt: HostRuntime) -> Result<(), Fail> {
+    let alloc = rt.alloc();
+    let rows = [
+        ("walk -", "\\a. a\n"),
+        ("walk --edges 43 -", "\\a. a\n"),
+        ("walk --edges 42 -", "...\n"),
+        ("walk --heads 1 --edges 43 -", "\\a. a\n"),
+    ];
+    for (words, text) in rows {
+        plain(
+            &rt,
+            alloc,
+            words,
+            b"(\\x. x x) (\\y. y)",
+            Status::Done,
+            text,
+        )?;
+    }
+    Ok(())
+}
+
+#[test]
+fn a_file_is_read_by_its_name(rt: HostRuntime) -> Result<(), Fail> {
+    let alloc = rt.alloc();
+    let input =
+        "# two plus two\nlet plus = \\m n f x. m f (n f x) in\nlet two = λf x. f (f x) in\nplus two two\n";
+    let faults = Faults {
+        reads: &[],
+        writes: &[],
+        most: 7,
+    };
+    let given = Given {
+        words: "run sum.lam",
+        name: "sum.lam",
+        input: input.as_bytes(),
+    };
+    let text = "\\a b. a (a (a (a b)))\nbeta ";
+    row(&rt, alloc, &given, &faults, Status::Done, text)?;
+    let elsewhere = Given {
+        words: "run -",
+        name: "sum.lam",
+        input: input.as_bytes(),
+    };
     row(
         &rt,
         alloc,
-        "\\x. \\y. x y",
-        &[],
-        &[],
-        Status::Done,
-        "\\a b. a b\nbeta 0\nfan 0\ncroissant 0\nbracket 0\ncross-fan 0\ncross-croissant 0\ncross-bracket 0\nerase 0\nstuck 0\n",
-    )?;
-    row(
-        &rt,
-        alloc,
-        "(\\t. t t) (\\f. \\x. f (f x))",
-        &[],
-        &[],
-        Status::Done,
-        "\\a b. a (a (a (a b)))\nbeta 6\nfan 6\ncroissant 12\nbracket 6\ncross-fan 26\ncross-croissant 52\ncross-bracket 26\nerase 0\nstuck 0\n",
-    )?;
-    row(
-        &rt,
-        alloc,
-        "(\\x. x) (\\y. y)",
-        &[],
-        &[],
-        Status::Done,
-        "\\a. a\nbeta 1\nfan 0\ncroissant 1\nbracket 0\ncross-fan 0\ncross-croissant 2\ncross-bracket 0\nerase 0\nstuck 0\n",
-    )?;
-    row(
-        &rt,
-        alloc,
-        "(\\x. x x) (\\y. y)",
-        &[],
-        &[],
-        Status::Done,
-        "\\a. a\nbeta 2\nfan 1\ncroissant 3\nbracket 1\ncross-fan 2\ncross-croissant 6\ncross-bracket 2\nerase 0\nstuck 0\n",
+        &elsewhere,
+        &faults,
+        Status::ReadFault,
+        "read fault\n",
     )
 }
 
 #[test]
-fn a_run_without_end_is_spent(rt: HostRuntime) -> Result<(), Fail> {
-    row(
-        &rt,
-        rt.alloc(),
-        "(\\x. x x) (\\x. x x)",
-        &[],
-        &[],
-        Status::Spent,
-        "fuel 200000\n",
-    )
-}
-
-#[test]
-fn other_input_is_not_built(rt: HostRuntime) -> Result<(), Fail> {
+fn other_texts_are_refused(rt: HostRuntime) -> Result<(), Fail> {
     let alloc = rt.alloc();
-    for input in ["x", "(\\x. x", ""] {
-        row(&rt, alloc, input, &[], &[], Status::NotBuilt, "not built\n")?;
+    let rows: [(&[u8], u32); 13] = [
+        (b"", 0),
+        (b"(\\x. x", 6),
+        (b"\\x.", 3),
+        (b"\\x. x)", 5),
+        (b"()", 1),
+        (b"x $ y", 2),
+        (b"in", 2),
+        (b"let let = x in x", 7),
+        (b"\\let. x", 4),
+        (b"let x = y in", 12),
+        (b"#only comment", 13),
+        (b"\xCE", 1),
+        (b"\xCEB", 1),
+    ];
+    for (input, at) in rows {
+        let text = format!(in alloc; "syntax at byte {at}\n")?;
+        plain(&rt, alloc, "run -", input, Status::Syntax, &text)?;
+        plain(&rt, alloc, "walk -", input, Status::Syntax, &text)?;
     }
     Ok(())
 }
@@ -111,43 +266,157 @@ fn other_input_is_not_built(rt: HostRuntime) -> Result<(), Fail> {
 #[test]
 fn faults_are_told(rt: HostRuntime) -> Result<(), Fail> {
     let alloc = rt.alloc();
-    for call in 0..4u64 {
-        row(
-            &rt,
-            alloc,
-            "\\x. x",
-            &[call],
-            &[],
-            Status::ReadFault,
-            "read fault\n",
-        )?;
+    let rows: [(&[u64], &[u64], Status, &str); 8] = [
+        (&[0], &[], Status::ReadFault, "read fault\n"),
+        (&[1], &[], Status::ReadFault, "read fault\n"),
+        (&[2], &[], Status::ReadFault, "read fault\n"),
+        (&[3], &[], Status::ReadFault, "read fault\n"),
+        (&[4], &[], Status::Done, "\\a. a\nbeta 0\n"),
+        (&[], &[0], Status::WriteFault, ""),
+        (&[], &[1], Status::WriteFault, "\\a."),
+        (&[1], &[1], Status::WriteFault, "rea"),
+    ];
+    for (reads, writes, status, text) in rows {
+        let given = Given {
+            words: "run -",
+            name: "-",
+            input: b"\\x. x",
+        };
+        let faults = Faults {
+            reads,
+            writes,
+            most: 3,
+        };
+        row(&rt, alloc, &given, &faults, status, text)?;
     }
-    row(&rt, alloc, "\\x. x", &[4], &[], Status::Done, NO_STEP)?;
-    row(&rt, alloc, "\\x. x", &[], &[0], Status::WriteFault, "")?;
-    row(&rt, alloc, "\\x. x", &[], &[1], Status::WriteFault, "\\a.")?;
-    row(&rt, alloc, "\\x. x", &[1], &[0], Status::WriteFault, "")
+    Ok(())
 }
 
 #[test]
 fn other_words_are_usage(rt: HostRuntime) -> Result<(), Fail> {
     let alloc = rt.alloc();
-    let lists = [
-        ["ol", "run", "x"],
-        ["ol", "walk", "-"],
-        ["ol", "--help", "-"],
+    let lines = [
+        "",
+        "run",
+        "run a b",
+        "run --workers 0 -",
+        "run --workers 65 -",
+        "run --fuel 2000001 -",
+        "run --fuel 5 --fuel 5 -",
+        "run --fuel=x -",
+        "run --edges 5 -",
+        "walk --edges 0 -",
+        "check - -",
+        "--help",
     ];
-    for list in &lists {
-        let words = words(alloc, list)?;
-        let mut src = MemSource::new(Vec::new(alloc), 3, Vec::new(alloc));
-        let mut out = MemSink::new(alloc, 100, 100, Vec::new(alloc))
-            .ok()
-            .ok_or("no memory")?;
-        let answer = ol(alloc, &words, &mut src, &mut out, &OpenGate);
-        assert_eq!(rt; answer, Status::Usage);
-        assert_eq!(rt;
-            out.bytes(),
-            "usage: ol run|walk|view|trace|check|gen [options] NAME\n".as_bytes()
-        );
+    for words in lines {
+        plain(
+            &rt,
+            alloc,
+            words,
+            b"\\x. x",
+            Status::Usage,
+            "usage: ol run|walk|view|trace|check|gen [options] NAME\n",
+        )?;
     }
     Ok(())
+}
+
+// `count` times a text, and then another.
+fn repeated(alloc: Global, text: &[u8], count: u32, last: &[u8]) -> Result<Vec<u8>, AllocError> {
+    let mut all = Vec::new(alloc);
+    for place in 0..count {
+        all.extend_from_slice(text)?;
+    }
+    all.extend_from_slice(last)?;
+    Ok(all)
+}
+
+#[test]
+fn bytes_are_limited(rt: HostRuntime) -> Result<(), Fail> {
+    let alloc = rt.alloc();
+    let mut text = repeated(alloc, b" ", 1_048_575, b"x")?;
+    plain(&rt, alloc, "run -", &text, Status::Done, "x\nbeta 0\n")?;
+    text.push(b' ')?;
+    let refused = "limit bytes 1048576\n";
+    plain(&rt, alloc, "run -", &text, Status::Limit, refused)?;
+    let open = repeated(alloc, b" ", 1_048_576, b"(")?;
+    plain(&rt, alloc, "walk -", &open, Status::Limit, refused)
+}
+
+#[test]
+fn depth_is_limited(rt: HostRuntime) -> Result<(), Fail> {
+    let alloc = rt.alloc();
+    let deep = repeated(alloc, b"\\x. ", 999, b"x")?;
+    let mut line = String::from_str(
+        alloc,
+        "\\a b c d e f g h i j k l m n o p q r s t u v w x y z",
+    )?;
+    for round in 1..39u32 {
+        for letter in 0..26u8 {
+            if round < 38 || letter < 11 {
+                let name = (b'a' + letter) as char;
+                line.push_str(&format!(in alloc; " {name}{round}")?)?;
+            }
+        }
+    }
+    line.push_str(". k38\nbeta 0\n")?;
+    plain(&rt, alloc, "run -", &deep, Status::Done, &line)?;
+    let deeper = repeated(alloc, b"\\x. ", 1000, b"x")?;
+    plain(
+        &rt,
+        alloc,
+        "run -",
+        &deeper,
+        Status::Limit,
+        "limit depth 1000\n",
+    )?;
+    let mut inside = repeated(alloc, b"(", 100_000, b"x")?;
+    let closing = repeated(alloc, b")", 100_000, b"")?;
+    inside.extend_from_slice(&closing)?;
+    plain(&rt, alloc, "run -", &inside, Status::Done, "x\nbeta 0\n")
+}
+
+// A tree of applications of so many levels over x.
+fn put_tree(text: &mut Vec<u8>, levels: u32) -> Result<(), AllocError> {
+    if levels == 0 {
+        text.push(b'x')?;
+        return Ok(());
+    }
+    text.push(b'(')?;
+    put_tree(text, levels - 1)?;
+    text.push(b' ')?;
+    put_tree(text, levels - 1)?;
+    text.push(b')')?;
+    Ok(())
+}
+
+#[test]
+fn nodes_are_limited(rt: HostRuntime) -> Result<(), Fail> {
+    let alloc = rt.alloc();
+    let mut text = repeated(alloc, b"(", 5, b"")?;
+    put_tree(&mut text, 15)?;
+    for levels in [14, 9, 8, 6, 4] {
+        text.push(b' ')?;
+        put_tree(&mut text, levels)?;
+        text.push(b')')?;
+    }
+    let mut most = Vec::from_slice(alloc, &text)?;
+    most.extend_from_slice(b" y")?;
+    let line = repeated(alloc, b" ...", 21, b"\nbeta 0\n")?;
+    let mut expected = String::from_str(alloc, "x")?;
+    for byte in &line {
+        expected.push(*byte as char)?;
+    }
+    plain(
+        &rt,
+        alloc,
+        "run --heads 1 -",
+        &most,
+        Status::Done,
+        &expected,
+    )?;
+    text.extend_from_slice(b" x")?;
+    let refused = "limit nodes 200000\n";
+    plain(&rt, alloc, "run --heads 1 -", &text, Status::Limit, refused)
 }

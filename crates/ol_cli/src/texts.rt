@@ -1,6 +1,6 @@
 //! The texts that the program writes.
 ghost use Rattle.std.specs.Prelude.{◌≡◌, ◌++◌, IfOk, OnOk};
-ghost use Rattle.ol_cli.specs.Texts.{line, count_line, spent_text, answer_text};
+ghost use Rattle.ol_cli.specs.Texts.{line, count_line, syntax_text, spent_text, answer_text};
 
 use ol_io::NoMemory;
 use ol_rules::Counts;
@@ -11,6 +11,16 @@ pub fn line(alloc: Global, words: &str) -> Result<Vec<u8>, NoMemory>
     ensures { IfOk result (λ text. text.items ≡ line words.now) }
 {
     match format!(in alloc; "{words}\n") {
+        Ok(text) => Ok(text.into_bytes()),
+        Err(_) => Err(NoMemory),
+    }
+}
+
+/// The line of a text that isn't in the grammar.
+pub fn syntax_line(alloc: Global, at: usize) -> Result<Vec<u8>, NoMemory>
+    ensures { IfOk result (λ text. text.items ≡ syntax_text at) }
+{
+    match format!(in alloc; "syntax at byte {at}\n") {
         Ok(text) => Ok(text.into_bytes()),
         Err(_) => Err(NoMemory),
     }
@@ -48,8 +58,8 @@ pub fn answer_lines(
     Ok(text)
 }
 
-// A text and a line feed.
-fn term_line(alloc: Global, term: &[u8]) -> Result<Vec<u8>, NoMemory>
+/// A term's text and a line feed.
+pub fn term_line(alloc: Global, term: &[u8]) -> Result<Vec<u8>, NoMemory>
     ensures { IfOk result (λ text. text.items ≡ line term.now) }
 {
     let Ok(mut text) = Vec::from_slice(alloc, term) else {

@@ -1,22 +1,33 @@
 //! The top call.
-ghost use Rattle.std.specs.Prelude.{List, ℕ, ◌≢◌, ◌≤◌, ◌+◌, ◌≡◌, ◌<◌, ◌⊎◌, true, false, codes, length, IfOk, Some, if◌then◌else◌};
+ghost use Rattle.std.specs.Prelude.{List, ℕ, ◌≢◌, ◌≤◌, ◌+◌, ◌≡◌, ◌<◌, ◌⊎◌, true, length, IfOk};
 ghost use Rattle.ol_io.specs.Outside.{Rose, Appended};
-ghost use Rattle.ol_cli.specs.Jobs.{is_job};
-ghost use Rattle.ol_cli.specs.Answers.{seen, Cause, Ends, IsAnswer};
+ghost use Rattle.ol_words.specs.Jobs.{asked_by};
+ghost use Rattle.ol_cli.specs.Jobs.{AskForNothing, IsKnownTo, IsWithinLimits, TellsFile, files_of, name_of};
+ghost use Rattle.ol_cli.specs.Answers.{seen, Cause, Ends, IsAnswer, JobCause};
+ghost use Rattle.ol_cli.specs.Sources.{EveryRunTells, WritesHeads};
 
 use crate::evaluation::{Answer, evaluate};
 use crate::status::Status;
 use crate::texts::line;
 use ol_io::{Gate, NoMemory, ReadAll, Sink, Source, Written, read_all, write_all};
+use ol_words::{Job, UsageFault, job};
 use std::alloc::Global;
 
 /// The greatest number of bytes of a term file.
-const MOST_BYTES: usize = 1024;
+const MOST_BYTES: usize = 1_048_576;
 
-/// Does what the words ask for, and tells it to the sink. The words are those of a command line,
-/// the program's name first; the one job is `run -`, which reads a term from standard input,
-/// rewrites its net on one thread, and writes the term that is read back from the last net and how
-/// often each rule was applied. No gate is passed yet, since there are no workers.
+/// Does what the words ask for, and tells it to the sink. The words are those of a command line, the
+/// program's name first. No gate is passed yet, since one thread does the work.
+///
+/// - `run [--workers N] [--fuel F] [--heads Q] NAME` reads a term from the file of that name, `-` being
+///   standard input, translates it into a net, and rewrites the net by at most F interactions. It writes
+///   the term that is read back from the last net, of which the first Q subterms are asked for, and then
+///   how often each rule was applied and how many pairs are stuck.
+/// - `walk [--edges E] [--heads Q] NAME` writes the term that is read back from the untouched net, each
+///   walk trying at most E crossings.
+///
+/// A part of a term that isn't asked for, or whose walk used up its crossings, is written `...`, and one
+/// that has no head `?`.
 pub fn ol<S: Source, W: Sink, G: Gate + Sync>(
     alloc: Global,
     words: &Vec<String>,
@@ -25,17 +36,29 @@ pub fn ol<S: Source, W: Sink, G: Gate + Sync>(
     gate: &G,
 ) -> Status
     // The source knows the name of the job's file.
-    requires known { is_job words.now.items ≡ true → S.knows src.old (codes "-") ≡ true }
+    requires known { IsKnownTo (S.knows src.old) words.now.items }
 
     // Each status has its cause, and its text is appended whole, or a prefix of it where the sink failed.
     ensures ends { Ends words.now.items
-        (seen (S.faults src.old) (S.faults src.new) (S.contents src.old (codes "-")) (S.given src.new) (S.ended src.new))
+        (seen (S.faults src.old) (S.faults src.new) (S.contents src.old) (S.given src.new) (S.ended src.new))
         result (W.faults out.old) (W.faults out.new) (W.taken out.old) (W.taken out.new) }
 
-    // Where the source tells its bytes and nothing fails, the status and the text are those of the answer.
-    ensures exact { (bytes : List ℕ) → S.contents src.old (codes "-") ≡ Some bytes
+    // Where the source tells the bytes of the job's file and nothing fails, the status and the text are those of the answer.
+    ensures exact { (bytes : List ℕ) → TellsFile (S.contents src.old) words.now.items bytes
         → ¬ Rose (S.faults src.old) (S.faults src.new) → ¬ Rose (W.faults out.old) (W.faults out.new) → result ≢ Status.NoMemory
         → (text : List ℕ) × IsAnswer words.now.items bytes result text × Appended (W.taken out.old) text (W.taken out.new) }
+
+    // And where such a job is done, each head that is written is the one that paths of any length give in the untouched net of
+    // the file's own term. So is each `?` where no pair is stuck in the last net.
+    ensures heads { (bytes : List ℕ) → TellsFile (S.contents src.old) words.now.items bytes
+        → ¬ Rose (S.faults src.old) (S.faults src.new) → ¬ Rose (W.faults out.old) (W.faults out.new) → result ≡ Status.Done
+        → WritesHeads words.now.items bytes (W.taken out.old) (W.taken out.new) }
+
+    // And each complete run of the file's own term, whatever pairs it takes first, prints what is written, or is longer than the
+    // fuel where that is spent.
+    ensures every_run { (bytes : List ℕ) → TellsFile (S.contents src.old) words.now.items bytes
+        → ¬ Rose (S.faults src.old) (S.faults src.new) → ¬ Rose (W.faults out.old) (W.faults out.new) → result ≢ Status.NoMemory
+        → EveryRunTells words.now.items bytes result (W.taken out.old) (W.taken out.new) }
 
     // A fault that is told has risen, and one that has risen is told.
     ensures read { result ≡ Status.ReadFault → Rose (S.faults src.old) (S.faults src.new) }
@@ -45,14 +68,14 @@ pub fn ol<S: Source, W: Sink, G: Gate + Sync>(
         → (result ≡ Status.ReadFault) ⊎ (result ≡ Status.NoMemory) }
 
     // The words alone decide on `Usage`.
-    ensures usage { result ≡ Status.Usage → is_job words.now.items ≡ false }
-    ensures usage_told { is_job words.now.items ≡ false → (result ≡ Status.Usage) ⊎ ((result ≡ Status.WriteFault) ⊎ (result ≡ Status.NoMemory)) }
+    ensures usage { result ≡ Status.Usage → AskForNothing words.now.items }
+    ensures usage_told { AskForNothing words.now.items → (result ≡ Status.Usage) ⊎ ((result ≡ Status.WriteFault) ⊎ (result ≡ Status.NoMemory)) }
 
     // `Done` comes after the end of the input was seen.
     ensures done { result ≡ Status.Done → S.ended src.new ≡ true }
 
-    // It begins one name at most, and where there is no job none. It knows of no name but that of its job.
-    ensures begins { S.begins src.new ≤ S.begins src.old + (if is_job words.now.items then 1 else 0) }
+    // It begins one name at most, and where there is no job none. It knows of no name but that of its job's file.
+    ensures begins { S.begins src.new ≤ S.begins src.old + files_of words.now.items }
 {
     let _not_passed = gate;
     answer(alloc, words, src, out)
@@ -64,11 +87,11 @@ fn answer<S: Source, W: Sink>(
     src: &mut S,
     out: &mut W,
 ) -> Status
-    requires known { is_job words.now.items ≡ true → S.knows src.old (codes "-") ≡ true }
+    requires known { IsKnownTo (S.knows src.old) words.now.items }
     ensures ends { Ends words.now.items
-        (seen (S.faults src.old) (S.faults src.new) (S.contents src.old (codes "-")) (S.given src.new) (S.ended src.new))
+        (seen (S.faults src.old) (S.faults src.new) (S.contents src.old) (S.given src.new) (S.ended src.new))
         result (W.faults out.old) (W.faults out.new) (W.taken out.old) (W.taken out.new) }
-    ensures begins { S.begins src.new ≤ S.begins src.old + (if is_job words.now.items then 1 else 0) }
+    ensures begins { S.begins src.new ≤ S.begins src.old + files_of words.now.items }
 {
     match plan(alloc, words, src) {
         Err(NoMemory) => Status::NoMemory,
@@ -81,21 +104,39 @@ fn answer<S: Source, W: Sink>(
 
 // The text that is to be written, and its status.
 fn plan<S: Source>(alloc: Global, words: &Vec<String>, src: &mut S) -> Result<Answer, NoMemory>
-    requires known { is_job words.now.items ≡ true → S.knows src.old (codes "-") ≡ true }
+    requires known { IsKnownTo (S.knows src.old) words.now.items }
     ensures planned { IfOk result (λ a. Cause words.now.items
-        (seen (S.faults src.old) (S.faults src.new) (S.contents src.old (codes "-")) (S.given src.new) (S.ended src.new))
+        (seen (S.faults src.old) (S.faults src.new) (S.contents src.old) (S.given src.new) (S.ended src.new))
         a.status a.text.items) }
-    ensures begins { S.begins src.new ≤ S.begins src.old + (if is_job words.now.items then 1 else 0) }
+    ensures begins { S.begins src.new ≤ S.begins src.old + files_of words.now.items }
 {
-    if !is_run(words) {
-        let text = line(
-            alloc,
-            "usage: ol run|walk|view|trace|check|gen [options] NAME",
-        )?;
-        let status = Status::Usage;
-        return Ok(Answer { text, status });
+    match job(alloc, words) {
+        Err(UsageFault::NoMemory) => Err(NoMemory),
+        Err(UsageFault::Refused) => {
+            let text = line(
+                alloc,
+                "usage: ol run|walk|view|trace|check|gen [options] NAME",
+            )?;
+            let status = Status::Usage;
+            Ok(Answer { text, status })
+        }
+        Ok(job) => {
+            let answer = answer_job(alloc, &job, src)?;
+            Ok(answer)
+        }
     }
-    match read_all(alloc, src, "-", MOST_BYTES) {
+}
+
+// The text of a job, and its status.
+fn answer_job<S: Source>(alloc: Global, job: &Job, src: &mut S) -> Result<Answer, NoMemory>
+    requires known { S.knows src.old (name_of (asked_by job.now)) ≡ true }
+    requires within { IsWithinLimits (asked_by job.now) }
+    ensures caused { IfOk result (λ a. JobCause (asked_by job.now)
+        (seen (S.faults src.old) (S.faults src.new) (S.contents src.old) (S.given src.new) (S.ended src.new))
+        a.status a.text.items) }
+    ensures begins { S.begins src.new ≤ S.begins src.old + 1 }
+{
+    match read_all(alloc, src, file_name(job), MOST_BYTES) {
         Err(ReadAll::NoMemory) => Err(NoMemory),
         Err(ReadAll::Fault) => {
             let text = line(alloc, "read fault")?;
@@ -103,22 +144,23 @@ fn plan<S: Source>(alloc: Global, words: &Vec<String>, src: &mut S) -> Result<An
             Ok(Answer { text, status })
         }
         Err(ReadAll::TooLong) => {
-            let text = line(alloc, "not built")?;
-            let status = Status::NotBuilt;
+            let text = line(alloc, "limit bytes 1048576")?;
+            let status = Status::Limit;
             Ok(Answer { text, status })
         }
         Ok(bytes) => {
-            let answer = evaluate(alloc, &bytes)?;
+            let answer = evaluate(alloc, job, &bytes)?;
             Ok(answer)
         }
     }
 }
 
-fn is_run(words: &Vec<String>) -> bool
-    ensures { result ≡ is_job words.now.items }
+// The name of the job's file.
+fn file_name(job: &Job) -> &str
+    ensures name { result.now ≡ name_of (asked_by job.now) }
 {
-    match words.as_slice() {
-        [_, command, name] => command.as_str() == "run" && name.as_str() == "-",
-        _ => false,
+    match job {
+        Job::Run { name, .. } => name.as_str(),
+        Job::Walk { name, .. } => name.as_str(),
     }
 }

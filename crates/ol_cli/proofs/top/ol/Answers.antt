@@ -1,22 +1,33 @@
-use Rattle.std.proofs.Common.{ℕ, List, Option, subst, codes}
-use Rattle.ol_cli.specs.Answers.{Ends}
+use Rattle.std.proofs.Common.{ℕ, List, subst}
+use Rattle.ol_cli.specs.declared.status.Status.{Status}
+use Rattle.ol_cli.specs.Answers.{IsAnswer}
 use Rattle.ol_cli.proofs.Exact.{ends_exact, ends_risen, ends_usage}
+use Rattle.ol_cli.proofs.Sourced.{answer_heads, answer_runs}
 use Rattle.ol_cli.proofs.top.ol.Goals as goal
 
 pub returns-clause-exact : goal.returns-clause-exact
-returns-clause-exact g c = λ bytes told quiet calm has.
-    let ends = subst (λ (k : Option (List ℕ)). Ends c.args.words.now.items
-    (record { faults = g.S.Source.faults c.args.src.now; faults' = g.S.Source.faults c.answer.new.src; contents = k; given = g.S.Source.given c.answer.new.src; ended = g.S.Source.ended c.answer.new.src })
-    c.answer.result (g.W.Sink.faults c.args.out.now) (g.W.Sink.faults c.answer.new.out) (g.W.Sink.taken c.args.out.now) (g.W.Sink.taken c.answer.new.out)) told c.answer.ensures.ends in
-    ends_exact c.args.words.now.items (g.S.Source.faults c.args.src.now) (g.S.Source.faults c.answer.new.src) (g.S.Source.given c.answer.new.src) (g.S.Source.ended c.answer.new.src) bytes quiet
-    c.answer.result (g.W.Sink.faults c.args.out.now) (g.W.Sink.faults c.answer.new.out) (g.W.Sink.taken c.args.out.now) (g.W.Sink.taken c.answer.new.out) calm has ends
+returns-clause-exact g c = λ bytes tells quiet calm has.
+    ends_exact c.args.words.now.items (g.S.Source.faults c.args.src.now) (g.S.Source.faults c.answer.new.src) (g.S.Source.given c.answer.new.src) (g.S.Source.contents c.args.src.now) (g.S.Source.ended c.answer.new.src)
+    bytes tells quiet c.answer.result (g.W.Sink.faults c.args.out.now) (g.W.Sink.faults c.answer.new.out) (g.W.Sink.taken c.args.out.now) (g.W.Sink.taken c.answer.new.out) calm has c.answer.ensures.ends
 
 pub returns-clause-read_told : goal.returns-clause-read_told
 returns-clause-read_told g c = λ risen calm. ends_risen c.args.words.now.items
-    (record { faults = g.S.Source.faults c.args.src.now; faults' = g.S.Source.faults c.answer.new.src; contents = g.S.Source.contents c.args.src.now (codes "-"); given = g.S.Source.given c.answer.new.src; ended = g.S.Source.ended c.answer.new.src })
+    (record { faults = g.S.Source.faults c.args.src.now; faults' = g.S.Source.faults c.answer.new.src; contents = g.S.Source.contents c.args.src.now; given = g.S.Source.given c.answer.new.src; ended = g.S.Source.ended c.answer.new.src })
     c.answer.result (g.W.Sink.faults c.args.out.now) (g.W.Sink.faults c.answer.new.out) (g.W.Sink.taken c.args.out.now) (g.W.Sink.taken c.answer.new.out) risen calm c.answer.ensures.ends
 
 pub returns-clause-usage_told : goal.returns-clause-usage_told
 returns-clause-usage_told g c = λ lacks. ends_usage c.args.words.now.items
-    (record { faults = g.S.Source.faults c.args.src.now; faults' = g.S.Source.faults c.answer.new.src; contents = g.S.Source.contents c.args.src.now (codes "-"); given = g.S.Source.given c.answer.new.src; ended = g.S.Source.ended c.answer.new.src })
+    (record { faults = g.S.Source.faults c.args.src.now; faults' = g.S.Source.faults c.answer.new.src; contents = g.S.Source.contents c.args.src.now; given = g.S.Source.given c.answer.new.src; ended = g.S.Source.ended c.answer.new.src })
     c.answer.result (g.W.Sink.faults c.args.out.now) (g.W.Sink.faults c.answer.new.out) (g.W.Sink.taken c.args.out.now) (g.W.Sink.taken c.answer.new.out) lacks c.answer.ensures.ends
+
+pub returns-clause-heads : goal.returns-clause-heads
+returns-clause-heads g c = λ bytes tells quiet calm e.
+    let x = ends_exact c.args.words.now.items (g.S.Source.faults c.args.src.now) (g.S.Source.faults c.answer.new.src) (g.S.Source.given c.answer.new.src) (g.S.Source.contents c.args.src.now) (g.S.Source.ended c.answer.new.src)
+    bytes tells quiet c.answer.result (g.W.Sink.faults c.args.out.now) (g.W.Sink.faults c.answer.new.out) (g.W.Sink.taken c.args.out.now) (g.W.Sink.taken c.answer.new.out) calm (λ n. absurd (cc)) c.answer.ensures.ends in
+    answer_heads c.args.words.now.items bytes x.0 (g.W.Sink.taken c.args.out.now) (g.W.Sink.taken c.answer.new.out) (subst (λ (r : Status). IsAnswer c.args.words.now.items bytes r x.0) e x.1) x.2
+
+pub returns-clause-every_run : goal.returns-clause-every_run
+returns-clause-every_run g c = λ bytes tells quiet calm has.
+    let x = ends_exact c.args.words.now.items (g.S.Source.faults c.args.src.now) (g.S.Source.faults c.answer.new.src) (g.S.Source.given c.answer.new.src) (g.S.Source.contents c.args.src.now) (g.S.Source.ended c.answer.new.src)
+    bytes tells quiet c.answer.result (g.W.Sink.faults c.args.out.now) (g.W.Sink.faults c.answer.new.out) (g.W.Sink.taken c.args.out.now) (g.W.Sink.taken c.answer.new.out) calm has c.answer.ensures.ends in
+    answer_runs c.args.words.now.items bytes c.answer.result x.0 (g.W.Sink.taken c.args.out.now) (g.W.Sink.taken c.answer.new.out) x.1 x.2

@@ -1,0 +1,64 @@
+-- A term has one answer: what is printed of it, that its run goes on, or what is read of its untouched net.
+use Rattle.std.proofs.Common.{◌≡◌, ℕ, ◌*◌, List, length, sym, ap, ◌∙◌, subst}
+use Rattle.ol_term.specs.Trees.{Tree}
+use Rattle.ol_net.specs.Nets.{NamedNet, IsNet, SameNet}
+use Rattle.ol_net.proofs.StuckCount.{one_stuck_count}
+use Rattle.ol_rules.specs.declared.journal.NodeName.{NodeName}
+use Rattle.ol_rules.specs.declared.journal.Entry.{Entry}
+use Rattle.ol_rules.specs.Counting.{counts_of}
+use Rattle.ol_rules.specs.Laws.{AreNamedBefore}
+use Rattle.ol_rules.proofs.OneRun.{one_thread_one, complete_or_active}
+use Rattle.ol_rules.proofs.Relation.{same_refl, same_sym, same_trans}
+use Rattle.ol_rules.proofs.Same.{has_stuck_same}
+use Rattle.ol_rules.proofs.StartNets as start
+use Rattle.ol_translate.specs.Translation.{translation_of}
+use Rattle.ol_readback.specs.Heads.{live}
+use Rattle.ol_readback.specs.Trees.{IsTree}
+use Rattle.ol_readback.specs.Texts.{IsTextOf}
+use Rattle.ol_cli.specs.Texts.{line, answer_text}
+use Rattle.ol_cli.specs.Evaluation.{start_net, Shows, Prints, RunsOut, Walks, PrintsOf}
+use Rattle.ol_cli.proofs.ListedOnce.{same_length}
+use Rattle.ol_cli.proofs.TreeTransport.{tree_same}
+use Rattle.ol_cli.proofs.OneTree.{one_tree}
+use Rattle.ol_cli.proofs.OneText.{one_text}
+
+-- one journal and one net, whose lists may be ordered in two ways, show one text
+pub one_show : (names : List (List ℕ)) (heads : ℕ) (journal : List Entry) (M N : NamedNet NodeName) (text text' : List ℕ) → SameNet M N → Shows names heads journal M text → Shows names heads journal N text' → text ≡ text'
+one_show names heads journal M N text text' same s s' =
+    let stuck = one_stuck_count N s.stuck s'.stuck (has_stuck_same M N s.stuck same s.counted) s'.counted in
+    let size : live M ≡ live N = same_length M N same s.once s'.once in
+    let read = subst (λ n. IsTree N heads (2 * n) s.tree) size (tree_same M N same size heads (2 * live M) s.tree s.read) in
+    let tree : s.tree ≡ s'.tree = one_tree N s'.is_net heads (2 * live N) s.tree s'.tree read s'.read in
+    let term : s.term ≡ s'.term = one_text names s'.tree s.term s'.term (subst (λ ns. IsTextOf names ns s.term) tree s.shown) s'.shown in
+    s.written ∙ ap (λ x. answer_text x (counts_of journal) s.stuck) term ∙ ap (λ n. answer_text s'.term (counts_of journal) n) stuck ∙ sym s'.written
+
+-- a complete run shows one text
+pub one_shown : (names : List (List ℕ)) (fuel heads : ℕ) (journal : List Entry) (net : NamedNet NodeName) (text text' : List ℕ) → PrintsOf names fuel heads journal net text → PrintsOf names fuel heads journal net text' → text ≡ text'
+one_shown names fuel heads journal net text text' p p' =
+    one_show names heads journal p.listed p'.listed text text' (same_trans p.listed net p'.listed (same_sym net p.listed p.same) p'.same) p.shows p'.shows
+
+module _ (t : Tree) (names : List (List ℕ)) (is_net : IsNet (translation_of t (length names))) where
+  -- the net that the run begins with is a net of start nodes
+  pub start_is_net : IsNet (start_net t names)
+  start_is_net = start.start_net (translation_of t (length names)) is_net
+
+  pub start_is_named : AreNamedBefore (start_net t names) 0
+  start_is_named = start.start_named (translation_of t (length names))
+
+  -- the run doesn't both end and go on
+  pub ends_or_not : (fuel heads : ℕ) (text : List ℕ) → RunsOut t names fuel → Prints t names fuel heads text → ⊥
+  ends_or_not fuel heads text r p =
+      complete_or_active (start_net t names) (start_net t names) p.net r.net fuel p.journal r.journal start_is_net start_is_named (same_refl (start_net t names)) p.run r.run p.complete r.left
+
+  -- and one text is printed of it
+  pub one_print : (fuel heads : ℕ) (text text' : List ℕ) → Prints t names fuel heads text → Prints t names fuel heads text' → text ≡ text'
+  one_print fuel heads text text' p p' =
+      let o = one_thread_one (start_net t names) (start_net t names) p.net p'.net fuel p.journal p'.journal start_is_net start_is_named (same_refl (start_net t names)) p.run p'.run in
+      one_show names heads p'.journal p.net p'.net text text' o.1 (subst (λ es. Shows names heads es p.net text) o.0 p.shows) p'.shows
+
+  -- the untouched net is read in one way
+  pub one_walk : (edges heads : ℕ) (text text' : List ℕ) → Walks t names edges heads text → Walks t names edges heads text' → text ≡ text'
+  one_walk edges heads text text' w w' =
+      let tree : w.tree ≡ w'.tree = one_tree (translation_of t (length names)) is_net heads edges w.tree w'.tree w.read w'.read in
+      let term : w.term ≡ w'.term = one_text names w'.tree w.term w'.term (subst (λ ns. IsTextOf names ns w.term) tree w.shown) w'.shown in
+      w.written ∙ ap line term ∙ sym w'.written

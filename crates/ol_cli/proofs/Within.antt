@@ -1,0 +1,85 @@
+-- The numbers of a job are within the limits of their options.
+use Rattle.std.proofs.Common.{◌≡◌, ℕ, ◌≤◌, Bool, true, false, ◌&&◌, if◌then◌else◌, List, [], ◌∷◌, Option, None, Some, option_map, option_and_then, nat_le, refl, sym, ap, ◌∙◌, subst, arith}
+use Rattle.std.proofs.lemmas.Bool.Decides.{nat_tests}
+use Rattle.std.specs.Str.{bytes_eq}
+use Rattle.ol_words.specs.Lines.{Text, Line, line_of}
+use Rattle.ol_words.specs.Numbers.{Limits, number_of, is_number, number_within, setting}
+use Rattle.ol_words.specs.Jobs.{Asked, run, walk, Setting, Verb, workers_setting, fuel_setting, heads_setting, edges_setting, run_verb, walk_verb, run_asks, walk_asks, only, options_of, values_of, number_on, numbers, job_on, job_behind, verb_named, job_of}
+use Rattle.ol_cli.specs.Jobs.{IsWithinLimits}
+
+and_then_some : {A B : Type 0} (f : A → Option B) (o : Option A) (b : B) → option_and_then f o ≡ Some b → (a : A) × (o ≡ Some a) × (f a ≡ Some b)
+and_then_some f (Some a) b h = (a, refl, h)
+and_then_some f None b h = absurd (cc)
+
+map_some : {A B : Type 0} (f : A → B) (o : Option A) (b : B) → option_map f o ≡ Some b → (a : A) × (o ≡ Some a) × (f a ≡ b)
+map_some f (Some a) b h = (a, refl, cc)
+map_some f None b h = absurd (cc)
+
+-- ---- a number
+
+abbrev IsWithin : Limits → ℕ → Type 0
+IsWithin l n = (l.least ≤ n) × (n ≤ l.most)
+
+three : (a b c : Bool) (m n : ℕ) → (if a && (b && c) then Some m else None) ≡ Some n → (b ≡ true) × (c ≡ true) × (m ≡ n)
+three true true true m n h = (refl, refl, cc)
+three true true false m n h = absurd (cc)
+three true false c m n h = absurd (cc)
+three false b c m n h = absurd (cc)
+
+le_of : (m n : ℕ) → nat_le m n ≡ true → m ≤ n
+le_of m n h = grind (arith, nat_tests, h)
+
+setting_within : (l : Limits) (values : List Text) (n : ℕ) → IsWithin l l.default → setting l values ≡ Some n → IsWithin l n
+setting_within l [] n d h = let e : l.default ≡ n = cc in subst (IsWithin l) e d
+setting_within l (value ∷ []) n d h =
+    let t = three (is_number value) (nat_le l.least (number_of value)) (nat_le (number_of value) l.most) (number_of value) n h in
+    subst (IsWithin l) t.2 (le_of l.least (number_of value) t.0, le_of (number_of value) l.most t.1)
+setting_within l (value ∷ again ∷ more) n d h = absurd (cc)
+
+-- ---- a line
+
+-- the first number of a list of settings, and the others
+first_number : (number : Setting → Option ℕ) (s : Setting) (rest : List Setting) (ns : List ℕ) → numbers number (s ∷ rest) ≡ Some ns →
+    (n : ℕ) × (more : List ℕ) × (number s ≡ Some n) × (numbers number rest ≡ Some more) × (n ∷ more ≡ ns)
+first_number number s rest ns h =
+    let t = and_then_some (λ (n : ℕ). option_map (λ (more : List ℕ). n ∷ more) (numbers number rest)) (number s) ns h in
+    let u = map_some (λ (more : List ℕ). t.0 ∷ more) (numbers number rest) ns t.2 in
+    (t.0, u.0, t.1, u.1, u.2)
+
+run_within : (line : Line) (asked : Asked) → job_on run_verb line ≡ Some asked → IsWithinLimits asked
+run_within line asked h =
+    let t = and_then_some (λ ns. run_asks ns line.names) (numbers (number_on line) run_verb.settings) asked h in
+    let w = first_number (number_on line) workers_setting (fuel_setting ∷ heads_setting ∷ []) t.0 t.1 in
+    let f = first_number (number_on line) fuel_setting (heads_setting ∷ []) w.1 w.3 in
+    let q = first_number (number_on line) heads_setting [] f.1 f.3 in
+    let none : [] ≡ q.1 = cc in
+    let all : w.0 ∷ f.0 ∷ q.0 ∷ [] ≡ t.0 = ap (λ ns. w.0 ∷ f.0 ∷ q.0 ∷ ns) none ∙ ap (λ ns. w.0 ∷ f.0 ∷ ns) q.4 ∙ ap (λ ns. w.0 ∷ ns) f.4 ∙ w.4 in
+    let job : run_asks (w.0 ∷ f.0 ∷ q.0 ∷ []) line.names ≡ Some asked = ap (λ ns. run_asks ns line.names) all ∙ t.2 in
+    let is = map_some (run w.0 f.0 q.0) (only line.names) asked job in
+    let fuel = setting_within fuel_setting.limits (values_of fuel_setting.option line.options) f.0 (omega arith, omega arith) f.2 in
+    let heads = setting_within heads_setting.limits (values_of heads_setting.option line.options) q.0 (omega arith, omega arith) q.2 in
+    subst IsWithinLimits is.2 (fuel.1, heads.0)
+
+walk_within : (line : Line) (asked : Asked) → job_on walk_verb line ≡ Some asked → IsWithinLimits asked
+walk_within line asked h =
+    let t = and_then_some (λ ns. walk_asks ns line.names) (numbers (number_on line) walk_verb.settings) asked h in
+    let e = first_number (number_on line) edges_setting (heads_setting ∷ []) t.0 t.1 in
+    let q = first_number (number_on line) heads_setting [] e.1 e.3 in
+    let none : [] ≡ q.1 = cc in
+    let all : e.0 ∷ q.0 ∷ [] ≡ t.0 = ap (λ ns. e.0 ∷ q.0 ∷ ns) none ∙ ap (λ ns. e.0 ∷ ns) q.4 ∙ e.4 in
+    let job : walk_asks (e.0 ∷ q.0 ∷ []) line.names ≡ Some asked = ap (λ ns. walk_asks ns line.names) all ∙ t.2 in
+    let is = map_some (walk e.0 q.0) (only line.names) asked job in
+    let heads = setting_within heads_setting.limits (values_of heads_setting.option line.options) q.0 (omega arith, omega arith) q.2 in
+    subst IsWithinLimits is.2 heads.0
+
+-- ---- words
+
+behind_within : (rest : List Text) (a b : Bool) (asked : Asked) → option_and_then (job_behind rest) (if a then Some run_verb else (if b then Some walk_verb else None)) ≡ Some asked → IsWithinLimits asked
+behind_within rest true b asked h = let t = and_then_some (job_on run_verb) (line_of (options_of run_verb) rest) asked h in run_within t.0 asked t.2
+behind_within rest false true asked h = let t = and_then_some (job_on walk_verb) (line_of (options_of walk_verb) rest) asked h in walk_within t.0 asked t.2
+behind_within rest false false asked h = absurd (cc)
+
+pub job_within : (texts : List Text) (asked : Asked) → job_of texts ≡ Some asked → IsWithinLimits asked
+job_within [] asked h = absurd (cc)
+job_within (program ∷ []) asked h = absurd (cc)
+job_within (program ∷ word ∷ rest) asked h = behind_within rest (bytes_eq run_verb.word word) (bytes_eq walk_verb.word word) asked h

@@ -1,0 +1,14 @@
+use Rattle.std.proofs.Common.{subst}
+use Rattle.ol_words.specs.Jobs.{asked_by}
+use Rattle.ol_cli.specs.Jobs.{name_of}
+use Rattle.ol_cli.specs.Answers.{Seen, GaveAll, FileAnswer}
+use Rattle.ol_cli.proofs.Exact.{read_cause, within_ok}
+use Rattle.ol_cli.proofs.top.answer_job.Goals as goal
+
+pub returns-in_ok-answer-in-Ok-clause-caused : goal.returns-in_ok-answer-in-Ok-clause-caused
+returns-in_ok-answer-in-Ok-clause-caused g c =
+    let s : Seen = record { faults = g.S.Source.faults c.args.src.now; faults' = g.S.Source.faults c.read_all.new.src; contents = g.S.Source.contents c.args.src.now; given = g.S.Source.given c.read_all.new.src; ended = g.S.Source.ended c.read_all.new.src } in
+    let gave_all : GaveAll s (name_of (asked_by c.args.job.now)) c.in-Ok.bytes.items =
+    record { whole = rw c.file_name.ensures.name at c.in-Ok.ensures.whole; counted = c.in-Ok.ensures.counted; within = within_ok _ 1048576 _ c.in-Ok.ensures.too_long; to_end = c.in-Ok.ensures.ended } in
+    read_cause (asked_by c.args.job.now) s c.in_ok-answer-in-Ok.answer.status c.in_ok-answer-in-Ok.answer.text.items c.in-Ok.ensures.cause
+    (c.in-Ok.bytes.items, gave_all, rw c.deref.ensures.value at c.in_ok-answer-in-Ok.ensures.answer)
