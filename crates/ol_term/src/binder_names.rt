@@ -146,7 +146,8 @@ impl<'a> BinderNames<'a> {
         }
     }
 
-    /// Adds the name of a binder with `t` binders round it to the text. `NoMemory`: no memory was found.
+    /// Adds the name of a binder with `t` binders round it to the text. `NoMemory`: no memory was found; the
+    /// text may then end in a part of the name.
     pub fn put(&mut self, text: &mut Vec<u8>, t: usize) -> Result<(), NoMemory>
         ensures text { OnOk result (text.new.items ≡ text.old.items ++ binder_name self.old t) }
         ensures names { self.new ≡ self.old }

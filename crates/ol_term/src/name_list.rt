@@ -71,7 +71,8 @@ impl Names {
         found_in(&self.index, name)
     }
 
-    /// The number of this name, which goes last where it isn't there yet.
+    /// The number of this name, which goes last where it isn't there yet. There are fewer than 4,294,967,295
+    /// names before. `NoMemory`: no memory was found, and the list is unchanged.
     pub fn add(&mut self, name: &[u8]) -> Result<u32, NoMemory>
         requires { length self.old < 4294967295 }
         ensures number { IfOk result (λ k. IsFirstPlace self.new name.now k) }

@@ -12,20 +12,13 @@ use crate::terms::Term;
 use ol_io::NoMemory;
 use std::alloc::Global;
 
-/// What is still to be printed: a term with `binders` binders round it, which is the body of the
-/// innermost one where `body` is true; an argument, with the space before it; or the right bracket of a
-/// term.
+/// What is still to be printed: a term with so many binders round it, which is the body of the innermost
+/// one where the flag is true; an argument with so many binders round it, and the space before it; or the
+/// right bracket of a term.
 #[derive(Clone, Copy, Drop)]
 pub enum Todo<'a> {
-    Term {
-        term: &'a Term,
-        binders: u32,
-        body: bool,
-    },
-    Argument {
-        term: &'a Term,
-        binders: u32,
-    },
+    Term(&'a Term, u32, bool),
+    Argument(&'a Term, u32),
     Close,
 }
 
@@ -126,34 +119,14 @@ fn print_part<'a>(
         Term::Lam(inner) => {
             put_before_binder(text, body)?;
             binders.put(text, round as usize)?;
-            add(
-                todo,
-                Todo::Term {
-                    term: inner,
-                    binders: round + 1,
-                    body: true,
-                },
-            )?;
+            add(todo, Todo::Term(inner, round + 1, true))?;
             Ok(())
         }
         Term::App(function, argument) => {
             put_before_body(text, body)?;
-            add(
-                todo,
-                Todo::Argument {
-                    term: argument,
-                    binders: round,
-                },
-            )?;
+            add(todo, Todo::Argument(argument, round))?;
             open(text, todo, is_abstraction(function))?;
-            add(
-                todo,
-                Todo::Term {
-                    term: function,
-                    binders: round,
-                    body: false,
-                },
-            )?;
+            add(todo, Todo::Term(function, round, false))?;
             Ok(())
         }
     }
@@ -174,25 +147,13 @@ fn print_next<'a>(
     ensures binders { binders.new ≡ binders.old }
 {
     match next {
-        Todo::Term {
-            term,
-            binders: round,
-            body,
-        } => print_part(names, binders, text, todo, term, round, body),
-        Todo::Argument {
-            term,
-            binders: round,
-        } => {
+        Todo::Term(term, round, body) => {
+            print_part(names, binders, text, todo, term, round, body)
+        }
+        Todo::Argument(term, round) => {
             put(text, b" ")?;
             open(text, todo, !is_variable(term))?;
-            add(
-                todo,
-                Todo::Term {
-                    term,
-                    binders: round,
-                    body: false,
-                },
-            )?;
+            add(todo, Todo::Term(term, round, false))?;
             Ok(())
         }
         Todo::Close => put(text, b")"),
@@ -218,14 +179,7 @@ pub fn print_term(alloc: Global, term: &Term, names: &Names) -> Result<Vec<u8>, 
     let mut binders = BinderNames::new(alloc, names);
     let mut text: Vec<u8> = Vec::new(alloc);
     let mut todo: Vec<Todo> = Vec::new(alloc);
-    add(
-        &mut todo,
-        Todo::Term {
-            term,
-            binders: 0,
-            body: false,
-        },
-    )?;
+    add(&mut todo, Todo::Term(term, 0, false))?;
     'items: while let Some(next) = todo.pop() {
         print_next(names, &mut binders, &mut text, &mut todo, next)?;
     }
