@@ -2,7 +2,7 @@
 use Rattle.std.proofs.Common.{◌≡◌, ℕ, zero, suc, ◌+◌, ◌-◌, ◌<◌, ◌≤◌, inl, inr, Bool, true, false, List, [], ◌∷◌, ◌++◌, length, Option, Some, None, MatchOption, refl, sym, ap, ◌∙◌, subst, arith, append_assoc, length-append}
 use Rattle.std.proofs.lemmas.List.{append-nil, length_push}
 use Rattle.ol_readback.specs.Whole.{Part, term, lost, cut, none, more, count, preorder, IsInScope, IsBound}
-use Rattle.ol_readback.specs.Names.{binder_name}
+use Rattle.ol_term.specs.BinderNames.{binder_name}
 use Rattle.ol_readback.specs.Texts.{rounds, spaced, is_bare, bracketed, text_of}
 use Rattle.ol_readback.specs.Printing.{IsSeenVar, wants_bracket, left_bracket, right_bracket, Takes, done, takes, closes}
 use Rattle.ol_readback.specs.declared.answers.HeadVar.{HeadVar}

@@ -6,7 +6,6 @@ pub mod Forests
 pub mod GroupLists
 pub mod Places
 pub mod Onward
-pub mod NameTexts
 pub mod Layers
 pub mod Printed
 pub mod One
@@ -15,3 +14,10 @@ pub mod Named
 pub mod Holes
 pub mod Enough
 pub mod Sources
+pub mod OneTree
+pub mod Grammatical
+pub mod Scoped
+pub mod WordTokens
+pub mod Respelled
+pub mod Renumbered
+pub mod Reread

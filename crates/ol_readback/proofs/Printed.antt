@@ -3,9 +3,9 @@ use Rattle.std.proofs.Common.{◌≡◌, ℕ, zero, suc, ◌+◌, ◌-◌, ◌�
 use Rattle.std.specs.Prelude.{slice_get}
 use Rattle.std.proofs.lemmas.List.{append-nil, length_push, get_or_append_left, drop_all}
 use Rattle.ol_readback.specs.Whole.{Part, term, lost, cut, none, more, count, preorder, IsBound, IsWhole}
-use Rattle.ol_readback.specs.Names.{binder_name}
+use Rattle.ol_term.specs.BinderNames.{binder_name}
 use Rattle.ol_readback.specs.Texts.{rounds, abstractions, variable, text_of, text_of_tree, IsNamedNode, AreNamed}
-use Rattle.ol_readback.specs.Printing.{AreNumbers, IsSeenVar, IsSeen, wants_bracket, left_bracket, right_bracket, printed, opened, Takes}
+use Rattle.ol_readback.specs.Printing.{IsSeenVar, IsSeen, wants_bracket, left_bracket, right_bracket, printed, opened, Takes}
 use Rattle.ol_readback.specs.declared.answers.HeadVar.{HeadVar}
 use Rattle.ol_readback.specs.declared.answers.HeadVar.TheVariants as var
 use Rattle.ol_readback.specs.declared.answers.ReadNode.{ReadNode}
@@ -119,13 +119,12 @@ module _ (names : List (List ℕ)) (R whole : List ℕ) (rest : List ReadNode) (
           (y b (λ n ns f. let u : node.Head i v (suc (count us)) ≡ n = cc in ap (wants_bracket argument) u))
 
 -- the whole printing, before the next place
-pub record Printing (names : List (List ℕ)) (nodes : List ReadNode) (place : ℕ) (text numbers rs : List ℕ) (os : List Open) (t : ℕ) (argument : Bool) : Type 0 where
+pub record Printing (names : List (List ℕ)) (nodes : List ReadNode) (place : ℕ) (text rs : List ℕ) (os : List Open) (t : ℕ) (argument : Bool) : Type 0 where
   pub tree : Part true
   pub listed : preorder tree ≡ nodes
   pub ahead : Ahead names (rounds 0 tree) (text_of_tree names tree) (drop place nodes) text rs os t argument
-  pub numbered : AreNumbers names numbers
 
-pub begin : (names : List (List ℕ)) (nodes : List ReadNode) → IsWhole nodes → Printing names nodes 0 [] [] [] [] 0 false
+pub begin : (names : List (List ℕ)) (nodes : List ReadNode) → IsWhole nodes → Printing names nodes 0 [] [] [] 0 false
 begin names nodes w = record {
   tree = w.tree;
   listed = w.is_list;
@@ -141,7 +140,6 @@ begin names nodes w = record {
     bound_part = w.bound;
     bound = tt;
   };
-  numbered = λ t d b. absurd (omega arith);
 }
   where
     first : (p : Part true) {b : Bool} → ((n : ReadNode) (ns : List ReadNode) → preorder p ≡ n ∷ ns → b ≡ false) → b ≡ false
@@ -164,40 +162,39 @@ named_at count (m ∷ nodes) zero n h e = let z : Some m ≡ Some n = e in let y
 named_at count (m ∷ nodes) (suc k) n h e = named_at count nodes k n h.1 e
 
 -- after a place
-pub go_on : (names : List (List ℕ)) (nodes : List ReadNode) (place : ℕ) (text numbers rs : List ℕ) (os : List Open) (t : ℕ) (argument : Bool) (n : ReadNode) → (p : Printing names nodes place text numbers rs os t argument) → slice_get nodes place ≡ Some n →
-    (numbers' rs' text' : List ℕ) (os' : List Open) → AreNumbers names numbers' → rs' ≡ rs ++ t ∷ [] → text' ≡ text ++ printed names rs' t (wants_bracket argument n) n → os' ≡ os ++ opened t (wants_bracket argument n) n →
+pub go_on : (names : List (List ℕ)) (nodes : List ReadNode) (place : ℕ) (text rs : List ℕ) (os : List Open) (t : ℕ) (argument : Bool) (n : ReadNode) → (p : Printing names nodes place text rs os t argument) → slice_get nodes place ≡ Some n →
+    (rs' text' : List ℕ) (os' : List Open) → rs' ≡ rs ++ t ∷ [] → text' ≡ text ++ printed names rs' t (wants_bracket argument n) n → os' ≡ os ++ opened t (wants_bracket argument n) n →
     (y : List ℕ) (qs : List Open) (r : Option ℕ) → Takes text' os' r y qs → Taken names (rounds 0 p.tree) (text_of_tree names p.tree) (drop (suc place) nodes) y rs' qs r
-go_on names nodes place text numbers rs os t argument n p e numbers' rs' text' os' m z w o y qs r k =
+go_on names nodes place text rs os t argument n p e rs' text' os' z w o y qs r k =
     let d = drop_at nodes place n e in
     take_ahead names (rounds 0 p.tree) (text_of_tree names p.tree) (drop (suc place) nodes) rs' k
     (place_prints names (rounds 0 p.tree) (text_of_tree names p.tree) (drop place nodes) text rs os t argument p.ahead n (drop (suc place) nodes) rs' text' os' d z w o
     (seen names (rounds 0 p.tree) (text_of_tree names p.tree) (drop place nodes) text rs os t argument p.ahead n (drop (suc place) nodes) rs' d z))
 
-pub seen_at : (names : List (List ℕ)) (nodes : List ReadNode) (place : ℕ) (text numbers rs : List ℕ) (os : List Open) (t : ℕ) (argument : Bool) (n : ReadNode) → (p : Printing names nodes place text numbers rs os t argument) → slice_get nodes place ≡ Some n →
+pub seen_at : (names : List (List ℕ)) (nodes : List ReadNode) (place : ℕ) (text rs : List ℕ) (os : List Open) (t : ℕ) (argument : Bool) (n : ReadNode) → (p : Printing names nodes place text rs os t argument) → slice_get nodes place ≡ Some n →
     (rs' : List ℕ) → rs' ≡ rs ++ t ∷ [] → IsSeen (length rs') n
-seen_at names nodes place text numbers rs os t argument n p e rs' z =
+seen_at names nodes place text rs os t argument n p e rs' z =
     seen names (rounds 0 p.tree) (text_of_tree names p.tree) (drop place nodes) text rs os t argument p.ahead n (drop (suc place) nodes) rs' (drop_at nodes place n e) z
 
 -- some place is left before an argument
-pub not_past : (names : List (List ℕ)) (nodes : List ReadNode) (place : ℕ) (text numbers rs : List ℕ) (os : List Open) (t : ℕ) (argument : Bool) → Printing names nodes place text numbers rs os t argument → length nodes ≤ place → ⊥
-not_past names nodes place text numbers rs os t argument p b = go p.ahead.part p.ahead.listed
+pub not_past : (names : List (List ℕ)) (nodes : List ReadNode) (place : ℕ) (text rs : List ℕ) (os : List Open) (t : ℕ) (argument : Bool) → Printing names nodes place text rs os t argument → length nodes ≤ place → ⊥
+not_past names nodes place text rs os t argument p b = go p.ahead.part p.ahead.listed
   where
     go : (q : Part true) → preorder q ++ list_of p.ahead.layers ≡ drop place nodes → ⊥
     go (term l v ts) e = let z : node.Head l v (count ts) ∷ (preorder ts ++ list_of p.ahead.layers) ≡ [] = e ∙ drop_all place nodes b in absurd (cc)
     go lost e = let z : node.NoHead ∷ list_of p.ahead.layers ≡ [] = e ∙ drop_all place nodes b in absurd (cc)
     go cut e = let z : node.Cut ∷ list_of p.ahead.layers ≡ [] = e ∙ drop_all place nodes b in absurd (cc)
 
-pub begin_at : (names : List (List ℕ)) (nodes : List ReadNode) (x ns rs : List ℕ) (os : List Open) → IsWhole nodes → x ≡ [] → ns ≡ [] → rs ≡ [] → os ≡ [] → Printing names nodes 0 x ns rs os 0 false
-begin_at names nodes x ns rs os w a b c d =
-    subst (λ (x : List ℕ). Printing names nodes 0 x ns rs os 0 false) (sym a) (subst (λ (ns : List ℕ). Printing names nodes 0 [] ns rs os 0 false) (sym b)
-    (subst (λ (rs : List ℕ). Printing names nodes 0 [] [] rs os 0 false) (sym c) (subst (λ (os : List Open). Printing names nodes 0 [] [] [] os 0 false) (sym d) (begin names nodes w))))
+pub begin_at : (names : List (List ℕ)) (nodes : List ReadNode) (x rs : List ℕ) (os : List Open) → IsWhole nodes → x ≡ [] → rs ≡ [] → os ≡ [] → Printing names nodes 0 x rs os 0 false
+begin_at names nodes x rs os w a b c =
+    subst (λ (x : List ℕ). Printing names nodes 0 x rs os 0 false) (sym a) (subst (λ (rs : List ℕ). Printing names nodes 0 [] rs os 0 false) (sym b)
+    (subst (λ (os : List Open). Printing names nodes 0 [] [] os 0 false) (sym c) (begin names nodes w)))
 
-pub printing_next : (names : List (List ℕ)) (nodes : List ReadNode) (place k : ℕ) (tree : Part true) (x y numbers rs : List ℕ) (os : List Open) (t : ℕ) → preorder tree ≡ nodes → Ahead names (rounds 0 tree) (text_of_tree names tree) (drop (suc place) nodes) (y ++ 32 ∷ []) rs os t true →
-    AreNumbers names numbers → x ≡ y ++ 32 ∷ [] → k ≡ suc place → Printing names nodes k x numbers rs os t true
-printing_next names nodes place k tree x y numbers rs os t l a m e z = record {
+pub printing_next : (names : List (List ℕ)) (nodes : List ReadNode) (place k : ℕ) (tree : Part true) (x y rs : List ℕ) (os : List Open) (t : ℕ) → preorder tree ≡ nodes → Ahead names (rounds 0 tree) (text_of_tree names tree) (drop (suc place) nodes) (y ++ 32 ∷ []) rs os t true →
+    x ≡ y ++ 32 ∷ [] → k ≡ suc place → Printing names nodes k x rs os t true
+printing_next names nodes place k tree x y rs os t l a e z = record {
   tree = tree;
   listed = l;
   ahead = subst (λ (x : List ℕ). Ahead names (rounds 0 tree) (text_of_tree names tree) (drop k nodes) x rs os t true) (sym e)
       (subst (λ (k : ℕ). Ahead names (rounds 0 tree) (text_of_tree names tree) (drop k nodes) (y ++ 32 ∷ []) rs os t true) (sym z) a);
-  numbered = m;
 }

@@ -6,8 +6,9 @@ pub mod Trees
 pub mod Whole
 pub mod Groups
 pub mod Reading
-pub mod Names
 pub mod Texts
 pub mod Printing
 pub mod Sources
 pub mod Laws
+pub mod Terms
+pub mod PrintedLaws

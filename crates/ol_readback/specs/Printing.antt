@@ -1,20 +1,11 @@
 -- What one step of the printing does.
-use Rattle.std.specs.Prelude.{◌≡◌, ℕ, zero, suc, ◌+◌, ◌<◌, ◌⊎◌, Bool, true, false, slice_index_or, List, [], ◌∷◌, ◌++◌, length, Option, Some, None}
-use Rattle.ol_readback.specs.Names.{number_of}
+use Rattle.std.specs.Prelude.{◌≡◌, ℕ, zero, suc, ◌+◌, ◌<◌, Bool, true, false, List, [], ◌∷◌, ◌++◌, Option, Some, None}
 use Rattle.ol_readback.specs.Texts.{abstractions, variable}
 use Rattle.ol_readback.specs.declared.answers.HeadVar.{HeadVar}
 use Rattle.ol_readback.specs.declared.answers.HeadVar.TheVariants as var
 use Rattle.ol_readback.specs.declared.answers.ReadNode.{ReadNode}
 use Rattle.ol_readback.specs.declared.answers.ReadNode.TheVariants as node
 use Rattle.ol_readback.specs.declared.printing.Open.{Open}
-
--- the numbers of the first binders' names
-abbrev pub AreNumbers : List (List ℕ) → List ℕ → Type 0
-AreNumbers names ns = (t d : ℕ) → t < length ns → slice_index_or ns t d ≡ number_of names t
-
--- one past the last number, or 0
-abbrev pub IsStart : List ℕ → ℕ → Type 0
-IsStart ns m = ((length ns ≡ 0) × (m ≡ 0)) ⊎ ((t : ℕ) × (length ns ≡ suc t) × (m ≡ suc (slice_index_or ns t 0)))
 
 -- a bound head's place is one of so many
 abbrev pub IsSeenVar : ℕ → HeadVar → Type 0

@@ -1,7 +1,7 @@
 -- The printed text of a tree. The free name of port q is name q - 1 of a list.
 use Rattle.std.specs.Prelude.{◌≡◌, ℕ, zero, suc, ◌+◌, ◌-◌, ◌≤◌, Bool, true, false, if◌then◌else◌, List, [], ◌∷◌, ◌++◌, slice_index, slice_index_or}
 use Rattle.ol_readback.specs.Whole.{Part, term, lost, cut, none, more, preorder}
-use Rattle.ol_readback.specs.Names.{binder_name}
+use Rattle.ol_term.specs.BinderNames.{binder_name}
 use Rattle.ol_readback.specs.declared.answers.HeadVar.{HeadVar}
 use Rattle.ol_readback.specs.declared.answers.HeadVar.TheVariants as var
 use Rattle.ol_readback.specs.declared.answers.ReadNode.{ReadNode}

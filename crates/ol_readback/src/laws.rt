@@ -3,6 +3,7 @@
 ghost use Rattle.ol_context.specs.Short.{WalkTurnsOnce, WalkIsShort, WalkGoesOn};
 ghost use Rattle.ol_readback.specs.Sources.{FewAreEnough, NoHeadIsNoHead, PrintedHeads};
 ghost use Rattle.ol_readback.specs.Laws.{ExitIsOne, HeadIsOne, HeadWithinIsOne, TreeIsOne, TreeIsWhole, HeadsKept, HeadIsHead};
+ghost use Rattle.ol_readback.specs.PrintedLaws.{BinderIsName, ListIsOfOneTree, PrintedIsRead};
 
 /// An exit says one thing, a frame has one head, with a budget and without, and a net has one tree.
 pub fn answers_are_one<A>()
@@ -43,4 +44,15 @@ pub fn walk_is_short<A>()
 /// that are linked, a place without a head has none in that other net.
 pub fn printed_heads<A, B>()
     ensures { PrintedHeads A B }
+{}
+
+/// A list of places is that of one tree at most, and the name of a binder is a name of the grammar.
+///
+/// The text of a tree in which each place has a head is in the grammar, where each of the names is a
+/// name of the grammar and no two are the same. Read back, it is the tree's term, and that has no
+/// redex.
+pub fn printed_terms_are_read()
+    ensures one_tree { ListIsOfOneTree }
+    ensures binder { BinderIsName }
+    ensures read { PrintedIsRead }
 {}

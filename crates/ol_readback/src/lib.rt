@@ -8,7 +8,6 @@
 
 mod answers;
 mod asking;
-mod binder_names;
 mod fitting;
 mod frames;
 mod groups;
@@ -24,7 +23,9 @@ mod tree;
 pub use answers::{Head, HeadVar, ReadNode};
 pub use asking::head;
 pub use frames::Frame;
-pub use laws::{answers_are_one, heads_kept, printed_heads, trees_are_whole, walk_is_short};
+pub use laws::{
+    answers_are_one, heads_kept, printed_heads, printed_terms_are_read, trees_are_whole, walk_is_short,
+};
 pub use leaving::leave;
 pub use levels::Levels;
 pub use printing::tree_text;

@@ -1,15 +1,16 @@
 //! The printed text of a tree.
 
 ghost use Rattle.std.specs.Prelude.{◌≡◌, ◌+◌, ◌<◌, ◌≤◌, ◌++◌, [], ◌∷◌, length, IfOk, OnOk};
-ghost use Rattle.ol_readback.specs.Names.{binder_name};
+ghost use Rattle.ol_term.specs.BinderNames.{binder_name};
 ghost use Rattle.ol_readback.specs.Texts.{IsNamedVar, IsNamedNode, AreNamed, spaced, abstractions, variable, IsTextOf};
-ghost use Rattle.ol_readback.specs.Printing.{AreNumbers, IsSeenVar, IsSeen, left_bracket, right_bracket, wants_bracket, printed, opened, Takes};
+ghost use Rattle.ol_parse.specs.Parsed.{AreNames};
+ghost use Rattle.ol_readback.specs.Terms.{HasAllHeads, IsReadBack};
+ghost use Rattle.ol_readback.specs.Printing.{IsSeenVar, IsSeen, left_bracket, right_bracket, wants_bracket, printed, opened, Takes};
 
 use crate::answers::{HeadVar, ReadNode};
-use crate::binder_names::{number_of, put_name};
 use crate::tree::ReadTree;
 use ol_io::NoMemory;
-use ol_term::Names;
+use ol_term::{BinderNames, Names};
 use std::alloc::Global;
 
 /// A head of which `left` arguments are still to be printed, each with `binders` binders round it. A
@@ -39,23 +40,6 @@ fn put_all(text: &mut Vec<u8>, bytes: &[u8]) -> Result<(), NoMemory>
     Ok(())
 }
 
-// The name of a binder with `t` binders round it.
-fn put_binder(
-    alloc: Global,
-    names: &Names,
-    numbers: &mut Vec<u64>,
-    text: &mut Vec<u8>,
-    t: usize,
-) -> Result<(), NoMemory>
-    requires { AreNumbers names.now numbers.old.items }
-    ensures text { OnOk result (text.new.items ≡ text.old.items ++ binder_name names.now t) }
-    ensures numbers { AreNumbers names.now numbers.new.items }
-{
-    let number = number_of(alloc, names, numbers, t)?;
-    put_name(alloc, text, number)?;
-    Ok(())
-}
-
 fn sum(a: usize, b: u32) -> Result<usize, NoMemory>
     ensures { IfOk result (λ r. r ≡ a + b) }
 {
@@ -67,68 +51,61 @@ fn sum(a: usize, b: u32) -> Result<usize, NoMemory>
 
 // The names of `l` binders, the first with `t` binders round it, a space before each.
 fn put_spaced(
-    alloc: Global,
-    names: &Names,
-    numbers: &mut Vec<u64>,
+    binders: &mut BinderNames<'_>,
     text: &mut Vec<u8>,
     t: usize,
     l: u32,
 ) -> Result<(), NoMemory>
-    requires { AreNumbers names.now numbers.old.items }
-    ensures text { OnOk result (text.new.items ≡ text.old.items ++ spaced names.now t l) }
-    ensures numbers { AreNumbers names.now numbers.new.items }
+    ensures text { OnOk result (text.new.items ≡ text.old.items ++ spaced binders.old t l) }
+    ensures binders { binders.new ≡ binders.old }
 {
     for k in 0..l {
         let binder = sum(t, k)?;
         put(text, b' ')?;
-        put_binder(alloc, names, numbers, text, binder)?;
+        binders.put(text, binder)?;
     }
     Ok(())
 }
 
 fn put_abstractions(
-    alloc: Global,
-    names: &Names,
-    numbers: &mut Vec<u64>,
+    binders: &mut BinderNames<'_>,
     text: &mut Vec<u8>,
     t: usize,
     l: u32,
 ) -> Result<(), NoMemory>
-    requires { AreNumbers names.now numbers.old.items }
-    ensures text { OnOk result (text.new.items ≡ text.old.items ++ abstractions names.now t l) }
-    ensures numbers { AreNumbers names.now numbers.new.items }
+    ensures text { OnOk result (text.new.items ≡ text.old.items ++ abstractions binders.old t l) }
+    ensures binders { binders.new ≡ binders.old }
 {
     if l == 0 {
         return Ok(());
     }
     let second = sum(t, 1)?;
     put(text, b'\\')?;
-    put_binder(alloc, names, numbers, text, t)?;
-    put_spaced(alloc, names, numbers, text, second, l - 1)?;
+    binders.put(text, t)?;
+    put_spaced(binders, text, second, l - 1)?;
     put_all(text, b". ")?;
     Ok(())
 }
 
 // The variable of a head, where so many binders stand round each place.
 fn put_variable(
-    alloc: Global,
     names: &Names,
-    numbers: &mut Vec<u64>,
+    binders: &mut BinderNames<'_>,
     rounds: &Vec<usize>,
     text: &mut Vec<u8>,
     var: HeadVar,
 ) -> Result<(), NoMemory>
-    requires numbers { AreNumbers names.now numbers.old.items }
+    requires binders { binders.old ≡ names.now }
     requires named { IsNamedVar (length names.now) var }
     requires seen { IsSeenVar (length rounds.now.items) var }
     ensures text { OnOk result (text.new.items ≡ text.old.items ++ variable names.now rounds.now.items var) }
-    ensures numbers { AreNumbers names.now numbers.new.items }
+    ensures binders { binders.new ≡ binders.old }
 {
     match var {
         HeadVar::Bound { node, binder } => {
             let round = rounds[node as usize];
             let t = sum(round, binder.saturating_sub(1))?;
-            put_binder(alloc, names, numbers, text, t)?;
+            binders.put(text, t)?;
             Ok(())
         }
         HeadVar::Free(port) => {
@@ -172,9 +149,8 @@ fn wants_bracket(argument: bool, node: ReadNode) -> bool
 
 // Prints a place, with a right bracket where it has no arguments, and opens it where it has some.
 fn put_place(
-    alloc: Global,
     names: &Names,
-    numbers: &mut Vec<u64>,
+    binders: &mut BinderNames<'_>,
     rounds: &Vec<usize>,
     text: &mut Vec<u8>,
     pending: &mut Vec<Open>,
@@ -182,12 +158,12 @@ fn put_place(
     t: usize,
     bracket: bool,
 ) -> Result<(), NoMemory>
-    requires numbers { AreNumbers names.now numbers.old.items }
+    requires binders { binders.old ≡ names.now }
     requires named { IsNamedNode (length names.now) node }
     requires seen { IsSeen (length rounds.now.items) node }
     ensures text { OnOk result (text.new.items ≡ text.old.items ++ printed names.now rounds.now.items t bracket node) }
     ensures pending { OnOk result (pending.new.items ≡ pending.old.items ++ opened t bracket node) }
-    ensures numbers { AreNumbers names.now numbers.new.items }
+    ensures binders { binders.new ≡ binders.old }
 {
     match node {
         ReadNode::NoHead => {
@@ -200,16 +176,16 @@ fn put_place(
         }
         ReadNode::Head { lams, var, args } => {
             put_left(text, bracket)?;
-            put_abstractions(alloc, names, numbers, text, t, lams)?;
-            put_variable(alloc, names, numbers, rounds, text, var)?;
+            put_abstractions(binders, text, t, lams)?;
+            put_variable(names, binders, rounds, text, var)?;
             if args == 0 {
                 put_right(text, bracket)?;
                 return Ok(());
             }
-            let binders = sum(t, lams)?;
+            let inside = sum(t, lams)?;
             let Ok(()) = pending.push(Open {
                 left: args,
-                binders,
+                binders: inside,
                 bracket,
             }) else {
                 return Err(NoMemory);
@@ -262,13 +238,19 @@ fn add_round(rounds: &mut Vec<usize>, t: usize) -> Result<(), NoMemory>
 /// before each. An argument that is a head stands in brackets unless it is a variable alone. A place
 /// without a head prints as `?`, one that was cut as `...`, both without brackets. The free name of port q is name q - 1.
 ///
+/// Where each place has a head and each of the names is a name of the grammar, the text is in the
+/// grammar. Read back, with the free names numbered by `names`, it is the tree's term, in which no
+/// application has an abstraction as its function.
+///
 /// `NoMemory`: no memory was found. Each free name in the tree is one of `names`.
 pub fn tree_text(alloc: Global, tree: &ReadTree, names: &Names) -> Result<Vec<u8>, NoMemory>
     requires free { AreNamed (length names.now) tree.now }
-    ensures { IfOk result (λ text. IsTextOf names.now tree.now text.items) }
+    ensures text { IfOk result (λ text. IsTextOf names.now tree.now text.items) }
+    ensures read { IfOk result (λ text. AreNames names.now → HasAllHeads tree.now → IsReadBack names.now tree.now text.items) }
 {
     tree.is_whole();
-    let mut numbers: Vec<u64> = Vec::new(alloc);
+    names.are_different();
+    let mut binders = BinderNames::new(alloc, names);
     let mut rounds: Vec<usize> = Vec::new(alloc);
     let mut text: Vec<u8> = Vec::new(alloc);
     let mut pending: Vec<Open> = Vec::new(alloc);
@@ -281,9 +263,8 @@ pub fn tree_text(alloc: Global, tree: &ReadTree, names: &Names) -> Result<Vec<u8
         add_round(&mut rounds, t)?;
         let bracket = wants_bracket(argument, node);
         put_place(
-            alloc,
             names,
-            &mut numbers,
+            &mut binders,
             &rounds,
             &mut text,
             &mut pending,
@@ -294,9 +275,9 @@ pub fn tree_text(alloc: Global, tree: &ReadTree, names: &Names) -> Result<Vec<u8
         let next = take(&mut text, &mut pending)?;
         match next {
             None => return Ok(text),
-            Some(binders) => {
+            Some(inside) => {
                 put(&mut text, b' ')?;
-                t = binders;
+                t = inside;
                 argument = true;
             }
         }

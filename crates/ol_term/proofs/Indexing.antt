@@ -1,5 +1,5 @@
 -- An index of names, and one more name.
-use Rattle.std.proofs.Common.{◌≡◌, ℕ, zero, suc, ◌<◌, ◌≤◌, List, [], ◌∷◌, ◌++◌, map, length, length-append, Bool, true, false, cond, Less, Equal, Greater, Vec, Global, Option, Some, None, inl, inr, refl, sym, ap, ◌∙◌, subst, arith}
+use Rattle.std.proofs.Common.{◌≡◌, ℕ, zero, suc, ◌<◌, ◌≤◌, List, [], ◌∷◌, ◌++◌, map, length, length-append, Bool, true, false, cond, Less, Equal, Greater, Vec, Global, Option, Some, None, IsNone, ◌↔◌, inl, inr, refl, sym, ap, ◌∙◌, subst, arith}
 use Rattle.std.specs.Prelude.{◌≢◌, slice_get}
 use Rattle.std.proofs.lemmas.Bool.{cases_lt}
 use Rattle.std.proofs.lemmas.Cmp.{nat_list_cmp_total, tied_itself}
@@ -8,7 +8,7 @@ use Rattle.std.specs.BTreeMap.{insert_entry}
 use Rattle.std.specs.Ordering.{match_ordering, nat_cmp, is_eq}
 use Rattle.std.specs.declared.cmp.Ordering.{Ordering}
 use Rattle.std.specs.Cmp.Lexicographic.{slice_cmp}
-use Rattle.ol_term.specs.NameLists.{IsFirstPlace}
+use Rattle.ol_term.specs.NameLists.{IsFirstPlace, AreDifferent}
 use Rattle.ol_term.specs.NameIndexes.{by_bytes, found, IsIndexed}
 
 pub below_added : (names more : List (List ℕ)) (j : ℕ) → j < length names → slice_get (names ++ more) j ≡ slice_get names j
@@ -108,6 +108,32 @@ all_more names es key q j i false e p g = elim (cases_lt j (length names)) [
       )
 ]
 
+-- a new name is none of those before
+not_new : (names : List (List ℕ)) (es : List (Key × ℕ)) (key : Key) (j : ℕ) → IsIndexed names es → found key.items es ≡ None → j < length names → slice_get (names ++ key.items ∷ []) j ≡ Some key.items → ⊥
+not_new names es key j i h low g = i.all key.items h j (sym (below_added names (key.items ∷ []) j low) ∙ g)
+
+last_is : (names : List (List ℕ)) (key : Key) (j : ℕ) (x : List ℕ) → length names ≤ j → slice_get (names ++ key.items ∷ []) j ≡ Some x → (j ≡ length names) × (x ≡ key.items)
+last_is names key j x high g =
+    let l = inside (names ++ key.items ∷ []) j x g in
+    let here : j ≡ length names = omega (arith, length-append names (key.items ∷ [])) in
+    let both : Some x ≡ Some key.items = sym g ∙ ap (slice_get (names ++ key.items ∷ [])) here ∙ get_last names key.items in
+    (here, cc)
+
+different_more : (names : List (List ℕ)) (es : List (Key × ℕ)) (key : Key) → IsIndexed names es → found key.items es ≡ None → AreDifferent (names ++ key.items ∷ [])
+different_more names es key i h j k x g g' = elim (cases_lt j (length names)) [
+  | inl low ↦ elim (cases_lt k (length names)) [
+    | inl low' ↦ i.different j k x (sym (below_added names (key.items ∷ []) j low) ∙ g) (sym (below_added names (key.items ∷ []) k low') ∙ g')
+    | inr high' ↦ (let l = last_is names key k x high' g' in absurd (not_new names es key j i h low (g ∙ ap (λ x. Some x) l.1)))
+  ]
+  | inr high ↦ (
+      let l = last_is names key j x high g in
+      elim (cases_lt k (length names)) [
+        | inl low' ↦ absurd (not_new names es key k i h low' (g' ∙ ap (λ x. Some x) l.1))
+        | inr high' ↦ (let l' = last_is names key k x high' g' in l.0 ∙ sym l'.0)
+      ]
+      )
+]
+
 pub one_more : (names names' : List (List ℕ)) (es es' : List (Key × ℕ)) (key : Key) (name : List ℕ) (n : ℕ) → IsIndexed names es → found name es ≡ None → key.items ≡ name → n ≡ length names → length names < 4294967295 → names' ≡ names ++ name ∷ [] → es' ≡ insert_entry by_bytes es key n → IsIndexed names' es'
 one_more names names' es es' key name n i h e l short p q =
     let gone : found key.items es ≡ None = ap (λ x. found x es) e ∙ h in
@@ -116,11 +142,12 @@ one_more names names' es es' key name n i h e l short p q =
       short = omega (arith, length-append names (key.items ∷ []));
       first = λ x k f. first_more names es key x k i gone (sees x key) refl (sym (put x) ∙ f);
       all = λ x f j. all_more names es key x j i (sees x key) refl (sym (put x) ∙ f);
+      different = different_more names es key i gone;
     } in
     subst (λ x. IsIndexed x es') (ap (λ w. names ++ w ∷ []) e ∙ sym p) (subst (λ x. IsIndexed (names ++ key.items ∷ []) x) (ap (insert_entry by_bytes es key) (sym l) ∙ sym q) whole)
 
 pub none_yet : IsIndexed [] []
-none_yet = record { short = omega arith; first = λ x k f. absurd (cc); all = λ x f j. λ e. absurd (cc) }
+none_yet = record { short = omega arith; first = λ x k f. absurd (cc); all = λ x f j. λ e. absurd (cc); different = λ j k x e. absurd (cc) }
 
 -- ---- the rows that hold the names
 
@@ -151,3 +178,8 @@ not_past self names es name k e i f h =
 
 pub new_place : (names names' : List (List ℕ)) (es : List (Key × ℕ)) (name : List ℕ) (n : ℕ) → IsIndexed names es → found name es ≡ None → n ≡ length names → names' ≡ names ++ name ∷ [] → IsFirstPlace names' name n
 new_place names names' es name n i f l e = subst (λ x. IsFirstPlace x name n) (sym e) (subst (λ k. IsFirstPlace (names ++ name ∷ []) name k) (sym l) (last_place names name (i.all name f)))
+
+-- a name without a number is nowhere
+pub none_there : (self all : List (List ℕ)) (es : List (Key × ℕ)) (name : List ℕ) (r : Option ℕ) → self ≡ all → IsIndexed all es → r ≡ found name es → IsNone r ↔ ((j : ℕ) → slice_get self j ≢ Some name)
+none_there self all es name None e i f = (λ _ j h. i.all name (sym f) j (ap (λ x. slice_get x j) (sym e) ∙ h), λ _. refl)
+none_there self all es name (Some k) e i f = (λ h. absurd (cc), λ h. absurd (h k (ap (λ x. slice_get x k) e ∙ (i.first name k (sym f)).here)))

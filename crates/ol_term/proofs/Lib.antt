@@ -1,1 +1,4 @@
 pub mod Indexing
+pub mod Binders
+pub mod BinderTexts
+pub mod Items

@@ -49,6 +49,13 @@ occurrences (free k) = 1
 occurrences (lam t) = occurrences t
 occurrences (app f a) = occurrences f + occurrences a
 
+-- how many constructors a tree has
+abbrev pub size : Tree → ℕ
+size (var k) = 1
+size (free k) = 1
+size (lam t) = 1 + size t
+size (app f a) = 1 + size f + size a
+
 -- how many constructors stand one within another
 abbrev pub depth : Tree → ℕ
 depth (var k) = 1

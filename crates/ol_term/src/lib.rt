@@ -1,12 +1,21 @@
-//! Terms, their free names, sizes and texts.
+//! Terms of the lambda calculus: trees with numbers for variables, the names of their free variables and of
+//! their binders, their sizes and their printed texts.
 #![tactic(auto)]
 
+mod binder_laws;
+mod binder_names;
+mod measures;
 mod name_list;
+mod printing;
 mod term_file;
 mod terms;
 #[cfg(test)]
 mod tests;
 
+pub use binder_laws::binder_names_are_new;
+pub use binder_names::BinderNames;
+pub use measures::{alpha_eq, depth, size};
 pub use name_list::Names;
+pub use printing::print_term;
 pub use term_file::TermFile;
 pub use terms::Term;

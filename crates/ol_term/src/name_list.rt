@@ -1,9 +1,9 @@
 //! Lists of names, each found by an index.
 
-ghost use Rattle.std.specs.Prelude.{◌≡◌, ◌≢◌, ℕ, ◌+◌, ◌^◌, ◌<◌, ◌≤◌, ◌↔◌, List, [], ◌∷◌, ◌++◌, Some, IfOk, OnOk, OnErr, IsNone, length, map, slice_get};
+ghost use Rattle.std.specs.Prelude.{◌≡◌, ◌≢◌, ℕ, ◌+◌, ◌^◌, ◌<◌, ◌≤◌, ◌↔◌, List, [], ◌∷◌, ◌++◌, Some, IfOk, OnOk, OnErr, IfSome, IsNone, length, map, slice_get};
 ghost use Rattle.std.specs.BTreeMap.{insert_entry};
 ghost use Rattle.std.specs.Option.{option_map};
-ghost use Rattle.ol_term.specs.NameLists.{IsFirstPlace};
+ghost use Rattle.ol_term.specs.NameLists.{IsFirstPlace, AreDifferent};
 ghost use Rattle.ol_term.specs.NameIndexes.{IsIndexed, found, by_bytes};
 
 use ol_io::NoMemory;
@@ -46,6 +46,14 @@ impl Names {
         self.rows.len() as u32
     }
 
+    /// Law: no name stands twice, and there are fewer than 2 ^ 32.
+    pub fn are_different(&self)
+        ensures different { AreDifferent self.now }
+        ensures few { length self.now < 2 ^ 32 }
+    {
+        let _ = &self.rows;
+    }
+
     /// The name of this number. None comes exactly where the number isn't below `len`.
     pub fn get(&self, k: u32) -> Option<&[u8]>
         ensures name { option_map (λ name. name.now) result ≡ slice_get self.now k }
@@ -53,6 +61,14 @@ impl Names {
     {
         let row = self.rows.get(k as usize)?;
         Some(row.as_slice())
+    }
+
+    /// The number of this name. None comes exactly where it isn't there.
+    pub fn find(&self, name: &[u8]) -> Option<u32>
+        ensures place { IfSome result (λ k. IsFirstPlace self.now name.now k) }
+        ensures none { IsNone result ↔ ((j : ℕ) → slice_get self.now j ≢ Some name.now) }
+    {
+        found_in(&self.index, name)
     }
 
     /// The number of this name, which goes last where it isn't there yet.
@@ -64,7 +80,7 @@ impl Names {
             length self.old ≤ k → self.new ≡ self.old ++ name.now ∷ []) }
         ensures refusal { OnErr result (self.new ≡ self.old) }
     {
-        if let Some(k) = find(&self.index, name) {
+        if let Some(k) = found_in(&self.index, name) {
             return Ok(k);
         }
         let number = self.rows.len() as u32;
@@ -81,7 +97,7 @@ impl Names {
     }
 }
 
-fn find(index: &BTreeMap<Vec<u8>, u32>, name: &[u8]) -> Option<u32>
+fn found_in(index: &BTreeMap<Vec<u8>, u32>, name: &[u8]) -> Option<u32>
     ensures { result ≡ found name.now index.now.entries }
 {
     index.get(name).copied()

@@ -1,13 +1,14 @@
 //! Names of binders: a to z, then a1 to z1, a2 to z2 and so on, without the free names.
 
-ghost use Rattle.std.specs.Prelude.{◌≡◌, ◌<◌, ◌++◌, length, IfOk, OnOk};
-ghost use Rattle.ol_readback.specs.Names.{candidate, is_among, fresh_from, number_of};
-ghost use Rattle.ol_readback.specs.Printing.{AreNumbers, IsStart};
+ghost use Rattle.std.specs.Prelude.{◌≡◌, ℕ, ◌+◌, ◌<◌, ◌++◌, List, length, slice_index_or, IfOk, OnOk};
 ghost use Rattle.std.specs.Fmt.{decimal};
+ghost use Rattle.ol_term.specs.BinderNames.{candidate, is_among, fresh_from, number_of, binder_name};
+ghost use Rattle.ol_term.specs.BinderNumbers.{AreNumbers, IsStart};
 
+use crate::name_list::Names;
 use ol_io::NoMemory;
-use ol_term::Names;
 use std::alloc::{AllocError, Global};
+use std::marker::Model;
 
 const LETTERS: u64 = 26;
 
@@ -31,8 +32,8 @@ fn write_candidate(alloc: Global, text: &mut Vec<u8>, number: u64) -> Result<(),
     Ok(())
 }
 
-/// Adds name `number` of the whole sequence to the text.
-pub fn put_name(alloc: Global, text: &mut Vec<u8>, number: u64) -> Result<(), NoMemory>
+// Adds name `number` of the whole sequence to the text.
+fn put_candidate(alloc: Global, text: &mut Vec<u8>, number: u64) -> Result<(), NoMemory>
     ensures { OnOk result (text.new.items ≡ text.old.items ++ candidate number) }
 {
     let Ok(()) = write_candidate(alloc, text, number) else {
@@ -42,18 +43,13 @@ pub fn put_name(alloc: Global, text: &mut Vec<u8>, number: u64) -> Result<(), No
 }
 
 // Whether this text is one of the names.
-fn is_name_among(names: &Names, text: &[u8]) -> bool
+fn is_name(names: &Names, text: &[u8]) -> bool
     ensures { result ≡ is_among names.now text.now }
 {
-    for k in 0..names.len() {
-        let Some(name) = names.get(k) else {
-            unreachable!()
-        };
-        if name == text {
-            return true;
-        }
+    match names.find(text) {
+        Some(_) => true,
+        None => false,
     }
-    false
 }
 
 // Whether name `number` of the whole sequence is a free name.
@@ -61,8 +57,8 @@ fn is_taken(alloc: Global, names: &Names, number: u64) -> Result<bool, NoMemory>
     ensures { IfOk result (λ r. r ≡ is_among names.now (candidate number)) }
 {
     let mut text = Vec::new(alloc);
-    put_name(alloc, &mut text, number)?;
-    Ok(is_name_among(names, text.as_slice()))
+    put_candidate(alloc, &mut text, number)?;
+    Ok(is_name(names, text.as_slice()))
 }
 
 // The first number from `number` on whose name is no free name.
@@ -98,9 +94,8 @@ fn start_of(numbers: &Vec<u64>) -> Result<u64, NoMemory>
     Ok(last + 1)
 }
 
-/// The number of the name of a binder with `t` binders round it. `numbers` keeps those of the first
-/// binders.
-pub fn number_of(
+// The number of the name of a binder with `t` binders round it. `numbers` keeps those of the first binders.
+fn number_of(
     alloc: Global,
     names: &Names,
     numbers: &mut Vec<u64>,
@@ -118,4 +113,47 @@ pub fn number_of(
         };
     }
     Ok(numbers[t])
+}
+
+/// The names that binders are printed with, over a list of free names, which none of them is.
+///
+/// The sequence is a to z, then a1 to z1, a2 to z2 and so on, without the free names. A binder with t
+/// binders round it, on its own branch, has name number t from 0. Contracts see the list of free names.
+#[derive(Drop)]
+pub struct BinderNames<'a> {
+    alloc: Global,
+    names: &'a Names,
+    numbers: Vec<u64>,
+}
+
+impl<'a> Model for BinderNames<'a> {
+    ghost Value = { List (List ℕ) };
+
+    ghost view = { λ b. b.names.now };
+
+    ghost invariant = { λ b. AreNumbers b.names.now b.numbers.items };
+}
+
+impl<'a> BinderNames<'a> {
+    /// The names of binders over these free names.
+    pub fn new(alloc: Global, names: &'a Names) -> BinderNames<'a>
+        ensures { result ≡ names.now }
+    {
+        BinderNames {
+            alloc,
+            names,
+            numbers: Vec::new(alloc),
+        }
+    }
+
+    /// Adds the name of a binder with `t` binders round it to the text. `NoMemory`: no memory was found.
+    pub fn put(&mut self, text: &mut Vec<u8>, t: usize) -> Result<(), NoMemory>
+        ensures text { OnOk result (text.new.items ≡ text.old.items ++ binder_name self.old t) }
+        ensures names { self.new ≡ self.old }
+    {
+        let names = self.names;
+        let number = number_of(self.alloc, names, &mut self.numbers, t)?;
+        put_candidate(self.alloc, text, number)?;
+        Ok(())
+    }
 }

@@ -1,6 +1,6 @@
 use Rattle.std.proofs.Common.{◌+◌, ◌-◌, length}
-use Rattle.ol_readback.specs.Printing.{AreNumbers}
-use Rattle.ol_readback.proofs.binder_names.number_of.Given as goal
+use Rattle.ol_term.specs.BinderNumbers.{AreNumbers}
+use Rattle.ol_term.proofs.binder_names.number_of.Given as goal
 
 abbrev pub invariant-fill : goal.invariant-fill
 invariant-fill l = AreNumbers l.names l.numbers.items

@@ -1,10 +1,10 @@
 -- Names of binders.
-use Rattle.std.proofs.Common.{◌≡◌, ℕ, zero, suc, ◌==◌, ◌<◌, ◌≤◌, ◌⊎◌, inl, inr, Bool, true, false, ◌&&◌, ◌||◌, cond, List, [], ◌∷◌, ◌++◌, length, drop, get_or, Decides, Some, None, refl, sym, ap, ◌∙◌, arith}
-use Rattle.std.specs.Prelude.{slice_get}
-use Rattle.std.proofs.lemmas.Bool.Decides.{Decides-like, Decides-and, Decides-eqb, same_from_decides}
-use Rattle.std.proofs.lemmas.List.{get_or_append_left, get_or_push, length_push, drop_all}
-use Rattle.ol_readback.specs.Names.{candidate, same_text, is_among, fresh_from, number_of}
-use Rattle.ol_readback.specs.Printing.{AreNumbers, IsStart}
+use Rattle.std.proofs.Common.{◌≡◌, ℕ, zero, suc, ◌==◌, ◌<◌, ◌≤◌, ◌⊎◌, inl, inr, Bool, true, false, ◌&&◌, ◌||◌, cond, List, [], ◌∷◌, ◌++◌, length, get_or, Decides, Some, None, refl, sym, ap, ◌∙◌, arith}
+use Rattle.std.specs.Prelude.{◌≢◌, slice_get}
+use Rattle.std.proofs.lemmas.Bool.Decides.{Decides-like, Decides-and, Decides-eqb}
+use Rattle.std.proofs.lemmas.List.{get_or_append_left, get_or_push, length_push}
+use Rattle.ol_term.specs.BinderNames.{candidate, same_text, is_among, fresh_from, number_of}
+use Rattle.ol_term.specs.BinderNumbers.{AreNumbers, IsStart}
 
 same_text-Decides : (x y : List ℕ) → Decides (same_text x y) (x ≡ y)
 same_text-Decides [] [] = (λ a. refl, λ a. refl)
@@ -19,22 +19,27 @@ same_text-Decides (x ∷ xs) (y ∷ ys) =
     apart : x ∷ xs ≡ y ∷ ys → (x ≡ y) × (xs ≡ ys)
     apart e = (cc, cc)
 
-pub same_is : (r : Bool) (x y : List ℕ) → Decides r (x ≡ y) → r ≡ same_text x y
-same_is r x y h = same_from_decides r (same_text x y) h (same_text-Decides x y)
+false_is : {X : Type 0} (b : Bool) → Decides b X → (X → ⊥) → b ≡ false
+false_is true h x = absurd (x (h.0 refl))
+false_is false h x = refl
 
-pub among_at : (names : List (List ℕ)) (k : ℕ) (n t : List ℕ) → slice_get names k ≡ Some n → is_among (drop k names) t ≡ (same_text n t || is_among (drop (suc k) names) t)
-among_at [] k n t e = let z : None ≡ Some n = e in absurd (cc)
-among_at (m ∷ names) zero n t e = let z : Some m ≡ Some n = e in let y : m ≡ n = cc in ap (λ m. same_text m t || is_among names t) y
-among_at (m ∷ names) (suc k) n t e = among_at names k n t e
+pub among_at : (names : List (List ℕ)) (k : ℕ) (t : List ℕ) → slice_get names k ≡ Some t → is_among names t ≡ true
+among_at [] k t e = let z : None ≡ Some t = e in absurd (cc)
+among_at (m ∷ names) zero t e =
+    let z : Some m ≡ Some t = e in
+    let y : m ≡ t = cc in
+    ap (λ b. b || is_among names t) ((same_text-Decides m t).1 y)
+among_at (m ∷ names) (suc k) t e = either (same_text m t) (is_among names t) (among_at names k t e)
+  where
+    either : (a b : Bool) → b ≡ true → (a || b) ≡ true
+    either true b h = refl
+    either false b h = h
 
-pub among_found : (names : List (List ℕ)) (k : ℕ) (n t : List ℕ) → slice_get names k ≡ Some n → same_text n t ≡ true → is_among (drop k names) t ≡ true
-among_found names k n t e h = among_at names k n t e ∙ ap (λ b. b || is_among (drop (suc k) names) t) h
-
-pub among_next : (names : List (List ℕ)) (k : ℕ) (n t : List ℕ) → slice_get names k ≡ Some n → same_text n t ≡ false → is_among (drop k names) t ≡ is_among (drop (suc k) names) t
-among_next names k n t e h = among_at names k n t e ∙ ap (λ b. b || is_among (drop (suc k) names) t) h
-
-pub among_end : (names : List (List ℕ)) (k : ℕ) (t : List ℕ) → length names ≤ k → is_among (drop k names) t ≡ false
-among_end names k t b = ap (λ ns. is_among ns t) (drop_all k names b)
+pub among_nowhere : (names : List (List ℕ)) (t : List ℕ) → ((j : ℕ) → slice_get names j ≢ Some t) → is_among names t ≡ false
+among_nowhere [] t h = refl
+among_nowhere (m ∷ names) t h =
+    ap (λ b. b || is_among names t) (false_is (same_text m t) (same_text-Decides m t) (λ e. h 0 (ap Some e)))
+    ∙ among_nowhere names t (λ j. h (suc j))
 
 -- passing over a name
 pub fresh_taken : (names : List (List ℕ)) (n k m : ℕ) → n ≡ suc k → is_among names (candidate m) ≡ true → fresh_from names n m ≡ fresh_from names k (suc m)

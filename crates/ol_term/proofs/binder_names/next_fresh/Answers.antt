@@ -1,7 +1,7 @@
 use Rattle.std.proofs.Common.{◌≡◌, suc, ◌+◌, ◌-◌, length, sym, ap, ◌∙◌, add-one, arith}
-use Rattle.ol_readback.specs.Names.{fresh_from}
-use Rattle.ol_readback.proofs.NameTexts.{fresh_taken}
-use Rattle.ol_readback.proofs.binder_names.next_fresh.Goals as goal
+use Rattle.ol_term.specs.BinderNames.{fresh_from}
+use Rattle.ol_term.proofs.BinderTexts.{fresh_taken}
+use Rattle.ol_term.proofs.binder_names.next_fresh.Goals as goal
 
 pub loop-passed-preserved : goal.loop-passed-preserved
 loop-passed-preserved c =

@@ -1,0 +1,211 @@
+-- The names of binders.
+use Rattle.std.proofs.Common.{◌≡◌, ℕ, zero, suc, ◌+◌, ◌*◌, ◌/◌, ◌%◌, ◌==◌, ◌<◌, ◌≤◌, ◌^◌, inl, inr, List, [], ◌∷◌, length, Bool, true, false, ◌&&◌, ◌||◌, cond, Some, refl, sym, ap, ◌∙◌, arith}
+use Rattle.std.specs.Prelude.{slice_get}
+use Rattle.std.specs.Fmt.{decimal}
+use Rattle.std.specs.Str.Parse.{AllDigits, digits_value}
+use Rattle.std.proofs.Math.Nat.{div-add-mod, mul-le-mul}
+use Rattle.std.proofs.lemmas.Bool.{cases_lt, cases_order, eqb-true, eq-eqb}
+use Rattle.std.proofs.lemmas.Fmt.{decimal_is_IsNumeral_wide}
+use Rattle.std.proofs.lemmas.Str.Parse.{digit_from_value}
+use Rattle.ol_term.specs.BinderNames.{candidate, same_text, is_among, fresh_from, number_of, binder_name}
+use Rattle.ol_term.specs.BinderLaws.{AreDigits, IsLetterWithDigits, BinderIsLetterWithDigits, BinderIsNotFree, BindersDiffer}
+
+-- ---- one name of the sequence
+
+abbrev tail_of : ℕ → List ℕ
+tail_of q = cond (q == 0) [] (decimal q)
+
+are_digits : (ds : List ℕ) → AllDigits 10 ds → AreDigits ds
+are_digits [] h = tt
+are_digits (c ∷ ds) h = let r = digit_from_value c h.0 in (r.0, r.1, are_digits ds h.1)
+
+tail_digits : (q : ℕ) → q < 10 ^ 64 → AreDigits (tail_of q)
+tail_digits q h = go (q == 0)
+  where
+    go : (b : Bool) → AreDigits (cond b [] (decimal q))
+    go true = tt
+    go false = are_digits (decimal q) (decimal_is_IsNumeral_wide q h).0.1
+
+tail_same : (p q : ℕ) → p < 10 ^ 64 → q < 10 ^ 64 → tail_of p ≡ tail_of q → p ≡ q
+tail_same p q h k e = go (p == 0) refl (q == 0) refl e
+  where
+    value : (n : ℕ) → n < 10 ^ 64 → digits_value 10 (decimal n) ≡ n
+    value n l = (decimal_is_IsNumeral_wide n l).1
+
+    some : (n : ℕ) → n < 10 ^ 64 → [] ≡ decimal n → ⊥
+    some n l z = let h : 0 < length (decimal n) = (decimal_is_IsNumeral_wide n l).0.0 in let k = ap length z in absurd (omega arith)
+
+    go : (a : Bool) → (p == 0) ≡ a → (b : Bool) → (q == 0) ≡ b → cond a [] (decimal p) ≡ cond b [] (decimal q) → p ≡ q
+    go true x true y z = eqb-true p 0 x ∙ sym (eqb-true q 0 y)
+    go true x false y z = absurd (some q k z)
+    go false x true y z = absurd (some p h (sym z))
+    go false x false y z = sym (value p h) ∙ ap (digits_value 10) z ∙ value q k
+
+same_candidate : (a b : ℕ) → a < 10 ^ 64 → b < 10 ^ 64 → candidate a ≡ candidate b → a ≡ b
+same_candidate a b h k e =
+    let heads : 97 + a % 26 ≡ 97 + b % 26 = cc in
+    let tails : tail_of (a / 26) ≡ tail_of (b / 26) = cc in
+    let x = div-add-mod a 26 in
+    let y = div-add-mod b 26 in
+    let q = tail_same (a / 26) (b / 26) (omega arith) (omega arith) tails in
+    omega arith
+
+letter_with_digits : (m : ℕ) → m < 10 ^ 64 → IsLetterWithDigits (candidate m)
+letter_with_digits m h =
+    let x = div-add-mod m 26 in
+    (omega arith, omega arith, tail_digits (m / 26) (omega arith))
+
+-- ---- texts
+
+same_itself : (x : List ℕ) → same_text x x ≡ true
+same_itself [] = refl
+same_itself (c ∷ x) = ap (λ b. b && same_text x x) (eq-eqb c c refl) ∙ same_itself x
+
+same_true : (x y : List ℕ) → same_text x y ≡ true → x ≡ y
+same_true [] [] h = refl
+same_true [] (d ∷ y) h = absurd (cc)
+same_true (c ∷ x) [] h = absurd (cc)
+same_true (c ∷ x) (d ∷ y) h = go (c == d) refl h (same_true x y)
+  where
+    go : (b : Bool) → (c == d) ≡ b → (b && same_text x y) ≡ true → (same_text x y ≡ true → x ≡ y) → c ∷ x ≡ d ∷ y
+    go true e h each = ap (λ c. c ∷ x) (eqb-true c d e) ∙ ap (λ x. d ∷ x) (each h)
+    go false e h each = absurd (cc)
+
+not_same : (x y : List ℕ) → (x ≡ y → ⊥) → same_text x y ≡ false
+not_same x y h = go (same_text x y) refl
+  where
+    go : (b : Bool) → same_text x y ≡ b → same_text x y ≡ false
+    go true e = absurd (h (same_true x y e))
+    go false e = e
+
+-- ---- all but one name
+
+abbrev without : List ℕ → List (List ℕ) → List (List ℕ)
+without x [] = []
+without x (n ∷ ns) = cond (same_text n x) (without x ns) (n ∷ without x ns)
+
+without_short : (x : List ℕ) (ns : List (List ℕ)) → length (without x ns) ≤ length ns
+without_short x [] = omega arith
+without_short x (n ∷ ns) = go (same_text n x) (without_short x ns)
+  where
+    go : (b : Bool) → length (without x ns) ≤ length ns → length (cond b (without x ns) (n ∷ without x ns)) ≤ length (n ∷ ns)
+    go true h = omega arith
+    go false h = omega arith
+
+without_less : (x : List ℕ) (ns : List (List ℕ)) → is_among ns x ≡ true → length (without x ns) < length ns
+without_less x [] h = absurd (cc)
+without_less x (n ∷ ns) h = go (same_text n x) h (without_short x ns) (without_less x ns)
+  where
+    go : (b : Bool) → (b || is_among ns x) ≡ true → length (without x ns) ≤ length ns → (is_among ns x ≡ true → length (without x ns) < length ns) → length (cond b (without x ns) (n ∷ without x ns)) < length (n ∷ ns)
+    go true h short each = omega arith
+    go false h short each = let l = each h in omega arith
+
+without_other : (x y : List ℕ) (ns : List (List ℕ)) → (x ≡ y → ⊥) → is_among ns y ≡ is_among (without x ns) y
+without_other x y [] h = refl
+without_other x y (n ∷ ns) h = go (same_text n x) refl (without_other x y ns h)
+  where
+    go : (b : Bool) → same_text n x ≡ b → is_among ns y ≡ is_among (without x ns) y → (same_text n y || is_among ns y) ≡ is_among (cond b (without x ns) (n ∷ without x ns)) y
+    go true e each = ap (λ b. b || is_among ns y) (not_same n y (λ s. h (sym (same_true n x e) ∙ s))) ∙ each
+    go false e each = ap (λ b. same_text n y || b) each
+
+among_at : (names : List (List ℕ)) (k : ℕ) (x : List ℕ) → slice_get names k ≡ Some x → is_among names x ≡ true
+among_at [] k x e = absurd (cc)
+among_at (n ∷ names) zero x e = let s : n ≡ x = cc in ap (λ b. b || is_among names x) (ap (λ n. same_text n x) s ∙ same_itself x)
+among_at (n ∷ names) (suc k) x e = go (same_text n x) (among_at names k x e)
+  where
+    go : (b : Bool) → is_among names x ≡ true → (b || is_among names x) ≡ true
+    go true h = refl
+    go false h = h
+
+-- ---- the first fresh name
+
+fresh_low : (names : List (List ℕ)) (n m : ℕ) → m ≤ fresh_from names n m
+fresh_low names zero m = omega arith
+fresh_low names (suc n) m = go (is_among names (candidate m)) (fresh_low names n (suc m))
+  where
+    go : (b : Bool) → suc m ≤ fresh_from names n (suc m) → m ≤ cond b (fresh_from names n (suc m)) m
+    go true h = omega arith
+    go false h = omega arith
+
+fresh_high : (names : List (List ℕ)) (n m : ℕ) → fresh_from names n m ≤ m + n
+fresh_high names zero m = omega arith
+fresh_high names (suc n) m = go (is_among names (candidate m)) (fresh_high names n (suc m))
+  where
+    go : (b : Bool) → fresh_from names n (suc m) ≤ suc m + n → cond b (fresh_from names n (suc m)) m ≤ m + suc n
+    go true h = omega arith
+    go false h = omega arith
+
+fresh_same : (ms ns : List (List ℕ)) (n m : ℕ) → ((k : ℕ) → m ≤ k → k < m + n → is_among ms (candidate k) ≡ is_among ns (candidate k)) → fresh_from ms n m ≡ fresh_from ns n m
+fresh_same ms ns zero m h = refl
+fresh_same ms ns (suc n) m h =
+    ap (λ b. cond b (fresh_from ms n (suc m)) m) (h m (omega arith) (omega arith))
+    ∙ ap (λ r. cond (is_among ns (candidate m)) r m) (fresh_same ms ns n (suc m) (λ k a b. h k (omega arith) (omega arith)))
+
+-- of one name more than there are free names, one is fresh
+fresh_is_new : (n : ℕ) (names : List (List ℕ)) (m : ℕ) → length names ≤ n → m + n < 10 ^ 64 → is_among names (candidate (fresh_from names n m)) ≡ false
+fresh_is_new zero [] m h l = refl
+fresh_is_new zero (x ∷ names) m h l = absurd (omega arith)
+fresh_is_new (suc n) names m h l = go (is_among names (candidate m)) refl (λ b. fresh_is_new n (without (candidate m) names) (suc m) b (omega arith))
+  where
+    same : (k : ℕ) → suc m ≤ k → k < 10 ^ 64 → is_among names (candidate k) ≡ is_among (without (candidate m) names) (candidate k)
+    same k a b = without_other (candidate m) (candidate k) names (λ e. let z = same_candidate m k (omega arith) b e in absurd (omega arith))
+
+    go : (b : Bool) → is_among names (candidate m) ≡ b → (length (without (candidate m) names) ≤ n → is_among (without (candidate m) names) (candidate (fresh_from (without (candidate m) names) n (suc m))) ≡ false)
+        → is_among names (candidate (cond b (fresh_from names n (suc m)) m)) ≡ false
+    go true e each =
+        let less = without_less (candidate m) names e in
+        let low = fresh_low (without (candidate m) names) n (suc m) in
+        let high = fresh_high (without (candidate m) names) n (suc m) in
+        ap (λ r. is_among names (candidate r)) (fresh_same names (without (candidate m) names) n (suc m) (λ k a b. same k a (omega arith)))
+        ∙ same (fresh_from (without (candidate m) names) n (suc m)) low (omega arith)
+        ∙ each (omega arith)
+    go false e each = e
+
+-- ---- the numbers of binders' names
+
+number_high : (names : List (List ℕ)) (t : ℕ) → number_of names t ≤ t + (t + 1) * length names
+number_high names zero = let h = fresh_high names (length names) 0 in omega arith
+number_high names (suc t) = let h = fresh_high names (length names) (suc (number_of names t)) in let k = number_high names t in omega arith
+
+number_written : (names : List (List ℕ)) (t : ℕ) → length names < 2 ^ 32 → t < 2 ^ 64 → number_of names t + length names + 1 < 10 ^ 64
+number_written names t h k =
+    let l = number_high names t in
+    let m : (t + 1) * length names ≤ 2 ^ 64 * 2 ^ 32 = mul-le-mul {n₁ = t + 1} {m₁ = length names} {n₂ = 2 ^ 64} {m₂ = 2 ^ 32} (omega arith) (omega arith) in
+    omega arith
+
+number_is_new : (names : List (List ℕ)) (t : ℕ) → length names < 2 ^ 32 → t < 2 ^ 64 → is_among names (candidate (number_of names t)) ≡ false
+number_is_new names zero h k = fresh_is_new (length names) names 0 (omega arith) (omega arith)
+number_is_new names (suc t) h k = let l = number_written names t h (omega arith) in fresh_is_new (length names) names (suc (number_of names t)) (omega arith) (omega arith)
+
+rising : (names : List (List ℕ)) (s t : ℕ) → s < t → number_of names s < number_of names t
+rising names s zero h = absurd (omega arith)
+rising names s (suc t) h =
+    let low = fresh_low names (length names) (suc (number_of names t)) in
+    elim (cases_lt s t) [
+      | inl less ↦ (let r = rising names s t less in omega arith)
+      | inr more ↦ (let e : s ≡ t = omega arith in let r = ap (number_of names) e in omega arith)
+    ]
+
+-- ---- the laws
+
+pub binder_is_letter_with_digits : BinderIsLetterWithDigits
+binder_is_letter_with_digits names t h k = let l = number_written names t h k in letter_with_digits (number_of names t) (omega arith)
+
+pub binder_is_not_free : BinderIsNotFree
+binder_is_not_free names t h k j e =
+    let here = among_at names j (binder_name names t) e in
+    let new = number_is_new names t h k in
+    absurd (cc)
+
+pub binders_differ : BindersDiffer
+binders_differ names s t h k l apart e =
+    let x = number_written names s h k in
+    let y = number_written names t h l in
+    let same = same_candidate (number_of names s) (number_of names t) (omega arith) (omega arith) e in
+    elim (cases_order s t) [
+      | inl is ↦ absurd (apart is)
+      | inr other ↦ elim other [
+        | inl less ↦ (let r = rising names s t less in absurd (omega arith))
+        | inr more ↦ (let r = rising names t s more in absurd (omega arith))
+      ]
+    ]
