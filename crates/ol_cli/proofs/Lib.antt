@@ -20,3 +20,4 @@ mod LeadSearch
 mod AnyRun
 mod Sourced
 mod Within
+mod ReadAgain

@@ -4,6 +4,6 @@ pub mod Listing
 pub mod Evaluation
 pub mod Journals
 pub mod Answers
-pub mod Trees
 pub mod Sources
+pub mod Trees
 pub mod Laws

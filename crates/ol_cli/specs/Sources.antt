@@ -11,6 +11,7 @@ use Rattle.ol_rules.specs.declared.journal.Counts.{Counts}
 use Rattle.ol_rules.specs.Runs.{IsRun, IsComplete}
 use Rattle.ol_translate.specs.Translation.{translation_of}
 use Rattle.ol_readback.specs.Sources.{HasHeadsOf}
+use Rattle.ol_readback.specs.Terms.{HasAllHeads, IsReadBack}
 use Rattle.ol_readback.specs.Texts.{IsTextOf}
 use Rattle.ol_readback.specs.declared.answers.ReadNode.{ReadNode}
 use Rattle.ol_words.specs.Lines.{Text}
@@ -54,3 +55,26 @@ abbrev pub EveryRunTells : List (String Global) → List ℕ → Status → Opti
 EveryRunTells words bytes st old new = (workers fuel heads : ℕ) (name : Text) (t : Tree) (names : List (List ℕ)) →
     AskFor words (run workers fuel heads name) → IsFileOf bytes t names →
     (journal : List Entry) (net : NamedNet NodeName) → IsRun (start_net t names) 0 journal net → IsComplete net → RunTells names fuel heads journal net st old new
+
+-- ---- the text read again
+
+-- The term is the text of a tree. Where each place of the tree has a head, the term is a text of the grammar, and read back, with
+-- its free names numbered by these, it is the tree's own term, in which no application has an abstraction as its function.
+pub record IsReadAgain (names : List (List ℕ)) (term : List ℕ) : Type 0 where
+  pub tree : List ReadNode
+  pub shown : IsTextOf names tree term
+  pub read : HasAllHeads tree → IsReadBack names tree term
+
+-- the term in the first line of a job's text
+abbrev pub HasTerm : Asked → List ℕ → List ℕ → Type 0
+HasTerm (run workers fuel heads name) text term = (counts : Counts) × (stuck : ℕ) × (text ≡ answer_text term counts stuck)
+HasTerm (walk edges heads name) text term = text ≡ line term
+
+-- the first line of a job's text is such a term
+abbrev pub TextIsReadAgain : Asked → List (List ℕ) → List ℕ → Type 0
+TextIsReadAgain asked names text = (term : List ℕ) × HasTerm asked text term × IsReadAgain names term
+
+-- The text was written for the job's file, and its term is read again by the names of the file's own term.
+abbrev pub WritesReadable : List (String Global) → List ℕ → Option (List ℕ) → Option (List ℕ) → Type 0
+WritesReadable words bytes old new = (asked : Asked) (t : Tree) (names : List (List ℕ)) → AskFor words asked → IsFileOf bytes t names →
+    (text : List ℕ) × TextIsReadAgain asked names text × Appended old text new

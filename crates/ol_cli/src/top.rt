@@ -1,10 +1,11 @@
 //! The top call.
-ghost use Rattle.std.specs.Prelude.{List, ℕ, ◌≢◌, ◌≤◌, ◌+◌, ◌≡◌, ◌<◌, ◌⊎◌, true, length, IfOk};
+ghost use Rattle.std.specs.Prelude.{List, ℕ, ◌≢◌, ◌≤◌, ◌+◌, ◌≡◌, ◌<◌, ◌⊎◌, true, length, IfOk, Some};
 ghost use Rattle.ol_io.specs.Outside.{Rose, Appended};
 ghost use Rattle.ol_words.specs.Jobs.{asked_by};
 ghost use Rattle.ol_cli.specs.Jobs.{AskForNothing, IsKnownTo, IsWithinLimits, TellsFile, files_of, name_of};
 ghost use Rattle.ol_cli.specs.Answers.{seen, Cause, Ends, IsAnswer, JobCause};
-ghost use Rattle.ol_cli.specs.Sources.{EveryRunTells, WritesHeads};
+ghost use Rattle.ol_cli.specs.Sources.{EveryRunTells, WritesHeads, WritesReadable};
+ghost use Rattle.ol_cli.specs.Trees.{FileIsReadAgain, WordsAreReadAgain};
 
 use crate::evaluation::{Answer, evaluate};
 use crate::status::Status;
@@ -60,6 +61,12 @@ pub fn ol<S: Source, W: Sink, G: Gate + Sync>(
         → ¬ Rose (S.faults src.old) (S.faults src.new) → ¬ Rose (W.faults out.old) (W.faults out.new) → result ≢ Status.NoMemory
         → EveryRunTells words.now.items bytes result (W.taken out.old) (W.taken out.new) }
 
+    // And where such a job is done and each place of the term that it writes has a head, that term is in the grammar, and read
+    // back it is the term of the tree, which has no redex.
+    ensures read_again { (bytes : List ℕ) → TellsFile (S.contents src.old) words.now.items bytes
+        → ¬ Rose (S.faults src.old) (S.faults src.new) → ¬ Rose (W.faults out.old) (W.faults out.new) → result ≡ Status.Done
+        → WritesReadable words.now.items bytes (W.taken out.old) (W.taken out.new) }
+
     // A fault that is told has risen, and one that has risen is told.
     ensures read { result ≡ Status.ReadFault → Rose (S.faults src.old) (S.faults src.new) }
     ensures write { result ≡ Status.WriteFault → Rose (W.faults out.old) (W.faults out.new) }
@@ -91,6 +98,8 @@ fn answer<S: Source, W: Sink>(
     ensures ends { Ends words.now.items
         (seen (S.faults src.old) (S.faults src.new) (S.contents src.old) (S.given src.new) (S.ended src.new))
         result (W.faults out.old) (W.faults out.new) (W.taken out.old) (W.taken out.new) }
+    ensures read_again { (bytes : List ℕ) → TellsFile (S.contents src.old) words.now.items bytes → result ≡ Status.Done
+        → WritesReadable words.now.items bytes (W.taken out.old) (W.taken out.new) }
     ensures begins { S.begins src.new ≤ S.begins src.old + files_of words.now.items }
 {
     match plan(alloc, words, src) {
@@ -108,6 +117,7 @@ fn plan<S: Source>(alloc: Global, words: &Vec<String>, src: &mut S) -> Result<An
     ensures planned { IfOk result (λ a. Cause words.now.items
         (seen (S.faults src.old) (S.faults src.new) (S.contents src.old) (S.given src.new) (S.ended src.new))
         a.status a.text.items) }
+    ensures read { IfOk result (λ a. WordsAreReadAgain words.now.items (S.contents src.old) a.status a.text.items) }
     ensures begins { S.begins src.new ≤ S.begins src.old + files_of words.now.items }
 {
     match job(alloc, words) {
@@ -134,6 +144,8 @@ fn answer_job<S: Source>(alloc: Global, job: &Job, src: &mut S) -> Result<Answer
     ensures caused { IfOk result (λ a. JobCause (asked_by job.now)
         (seen (S.faults src.old) (S.faults src.new) (S.contents src.old) (S.given src.new) (S.ended src.new))
         a.status a.text.items) }
+    ensures read { IfOk result (λ a. (bytes : List ℕ) → S.contents src.old (name_of (asked_by job.now)) ≡ Some bytes
+        → FileIsReadAgain (asked_by job.now) bytes a.status a.text.items) }
     ensures begins { S.begins src.new ≤ S.begins src.old + 1 }
 {
     match read_all(alloc, src, file_name(job), MOST_BYTES) {

@@ -11,6 +11,9 @@ pub mod Printed
 pub mod One
 pub mod Kept
 pub mod Named
+pub mod Holes
+pub mod Enough
+pub mod Sources
 pub mod OneTree
 pub mod Grammatical
 pub mod Scoped
@@ -18,6 +21,3 @@ pub mod WordTokens
 pub mod Respelled
 pub mod Renumbered
 pub mod Reread
-pub mod Holes
-pub mod Enough
-pub mod Sources

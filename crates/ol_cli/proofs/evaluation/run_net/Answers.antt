@@ -7,12 +7,16 @@ use Rattle.ol_readback.specs.Trees.{IsTree}
 use Rattle.ol_readback.specs.Texts.{AreNamed}
 use Rattle.ol_cli.specs.Texts.{answer_text}
 use Rattle.ol_cli.proofs.Evaluated.{prints, runs_out, ports_kept}
+use Rattle.ol_cli.proofs.ReadAgain.{run_read}
 use Rattle.ol_cli.proofs.evaluation.run_net.Goals as goal
 
-pub returns-in-Spent : goal.returns-in-Spent
-returns-in-Spent c =
+pub returns-in-Spent-clause-answer : goal.returns-in-Spent-clause-answer
+returns-in-Spent-clause-answer c =
     let spent = c.in_ok-ran.ensures.spent.0 c.in-Spent.is in
-    record { answer = (runs_out (tree_of c.args.file.now.term) c.args.file.now.names c.args.net c.run_kept.new.net c.args.fuel c.in_ok-ran.ran.journal c.requires.net c.is_net.ensures.net c.in_ok-ran.ensures.runs spent.0 spent.1, c.in_ok-text-in-Spent.ensures) }
+    (runs_out (tree_of c.args.file.now.term) c.args.file.now.names c.args.net c.run_kept.new.net c.args.fuel c.in_ok-ran.ran.journal c.requires.net c.is_net.ensures.net c.in_ok-ran.ensures.runs spent.0 spent.1, c.in_ok-text-in-Spent.ensures)
+
+pub returns-in-Spent-clause-read : goal.returns-in-Spent-clause-read
+returns-in-Spent-clause-read c = λ workers name words e. absurd (cc)
 
 pub read_back-requires-clause-root : goal.read_back-requires-clause-root
 read_back-requires-clause-root c =
@@ -25,12 +29,15 @@ tree_text-requires c =
     let e : c.run_kept.new.net.free - 1 ≡ length c.args.file.now.names = omega (arith, ports) in
     record { free = subst (λ n. AreNamed n c.in_ok-tree-in-Done.tree) e c.in_ok-tree-in-Done.ensures.names }
 
-pub returns : goal.returns
-returns c =
+pub returns-clause-answer : goal.returns-clause-answer
+returns-clause-answer c =
     let tree = subst (λ n. IsTree (net_of c.run_kept.new.net) c.args.heads (2 * n) c.in_ok-tree-in-Done.tree) c.nodes.ensures.nodes c.in_ok-tree-in-Done.ensures.tree in
     let text : c.in_ok-text-in-Done.text.items ≡ answer_text c.in_ok-term-in-Done.term.items (counts_of c.in_ok-ran.ran.journal) c.stuck.result =
     c.in_ok-text-in-Done.ensures ∙ ap (λ (x : List ℕ). answer_text x c.counts.result c.stuck.result) c.deref.ensures.value ∙ ap (λ (x : Counts). answer_text c.in_ok-term-in-Done.term.items x c.stuck.result) c.counts.ensures in
-    record {
-      answer = prints (tree_of c.args.file.now.term) c.args.file.now.names c.args.net c.run_kept.new.net c.args.fuel c.in_ok-ran.ran.journal c.requires.net c.is_net.ensures.net c.in_ok-ran.ensures.runs
-          c.args.heads c.stuck.result c.in_ok-tree-in-Done.tree c.in_ok-term-in-Done.term.items c.in_ok-text-in-Done.text.items (c.in_ok-ran.ensures.done.0 c.in-Done.is) c.stuck.ensures.stuck tree c.in_ok-term-in-Done.ensures text;
-    }
+    prints (tree_of c.args.file.now.term) c.args.file.now.names c.args.net c.run_kept.new.net c.args.fuel c.in_ok-ran.ran.journal c.requires.net c.is_net.ensures.net c.in_ok-ran.ensures.runs
+    c.args.heads c.stuck.result c.in_ok-tree-in-Done.tree c.in_ok-term-in-Done.term.items c.in_ok-text-in-Done.text.items (c.in_ok-ran.ensures.done.0 c.in-Done.is) c.stuck.ensures.stuck tree c.in_ok-term-in-Done.ensures.text text
+
+pub returns-clause-read : goal.returns-clause-read
+returns-clause-read c = λ workers name.
+    run_read c.args.file.now.names c.in_ok-tree-in-Done.tree c.in_ok-term-in-Done.term.items c.in_ok-text-in-Done.text.items c.in_ok-term-in-Done.ensures.text c.in_ok-term-in-Done.ensures.read
+    c.counts.result c.stuck.result (c.in_ok-text-in-Done.ensures ∙ ap (λ (x : List ℕ). answer_text x c.counts.result c.stuck.result) c.deref.ensures.value) c.args.fuel c.args.heads workers name

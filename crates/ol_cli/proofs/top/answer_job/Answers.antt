@@ -3,6 +3,7 @@ use Rattle.ol_words.specs.Jobs.{asked_by}
 use Rattle.ol_cli.specs.Jobs.{name_of}
 use Rattle.ol_cli.specs.Answers.{Seen, GaveAll, FileAnswer}
 use Rattle.ol_cli.proofs.Exact.{read_cause, within_ok}
+use Rattle.ol_cli.proofs.ReadAgain.{told_read}
 use Rattle.ol_cli.proofs.top.answer_job.Goals as goal
 
 pub returns-in_ok-answer-in-Ok-clause-caused : goal.returns-in_ok-answer-in-Ok-clause-caused
@@ -12,3 +13,8 @@ returns-in_ok-answer-in-Ok-clause-caused g c =
     record { whole = rw c.file_name.ensures.name at c.in-Ok.ensures.whole; counted = c.in-Ok.ensures.counted; within = within_ok _ 1048576 _ c.in-Ok.ensures.too_long; to_end = c.in-Ok.ensures.ended } in
     read_cause (asked_by c.args.job.now) s c.in_ok-answer-in-Ok.answer.status c.in_ok-answer-in-Ok.answer.text.items c.in-Ok.ensures.cause
     (c.in-Ok.bytes.items, gave_all, rw c.deref.ensures.value at c.in_ok-answer-in-Ok.ensures.answer)
+
+pub returns-in_ok-answer-in-Ok-clause-read : goal.returns-in_ok-answer-in-Ok-clause-read
+returns-in_ok-answer-in-Ok-clause-read g c = λ told e.
+    told_read (asked_by c.args.job.now) (g.S.Source.contents c.args.src.now (name_of (asked_by c.args.job.now))) c.in-Ok.bytes.items told c.in_ok-answer-in-Ok.answer.status c.in_ok-answer-in-Ok.answer.text.items
+    (rw c.file_name.ensures.name at c.in-Ok.ensures.whole) (rw c.deref.ensures.value at c.in_ok-answer-in-Ok.ensures.read) e

@@ -31,3 +31,6 @@ returns-clause-every_run g c = λ bytes tells quiet calm has.
     let x = ends_exact c.args.words.now.items (g.S.Source.faults c.args.src.now) (g.S.Source.faults c.answer.new.src) (g.S.Source.given c.answer.new.src) (g.S.Source.contents c.args.src.now) (g.S.Source.ended c.answer.new.src)
     bytes tells quiet c.answer.result (g.W.Sink.faults c.args.out.now) (g.W.Sink.faults c.answer.new.out) (g.W.Sink.taken c.args.out.now) (g.W.Sink.taken c.answer.new.out) calm has c.answer.ensures.ends in
     answer_runs c.args.words.now.items bytes c.answer.result x.0 (g.W.Sink.taken c.args.out.now) (g.W.Sink.taken c.answer.new.out) x.1 x.2
+
+pub returns-clause-read_again : goal.returns-clause-read_again
+returns-clause-read_again g c = λ bytes tells quiet calm e. c.answer.ensures.read_again bytes tells e

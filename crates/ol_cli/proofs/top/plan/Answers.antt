@@ -1,6 +1,7 @@
 use Rattle.ol_cli.proofs.Exact.{job_cause}
 use Rattle.ol_words.specs.Jobs.{asked_by, texts_of}
 use Rattle.ol_cli.proofs.Within.{job_within}
+use Rattle.ol_cli.proofs.ReadAgain.{words_read}
 use Rattle.ol_cli.proofs.top.plan.Goals as goal
 
 pub returns-in_ok-answer-in-Ok-clause-planned : goal.returns-in_ok-answer-in-Ok-clause-planned
@@ -8,3 +9,7 @@ returns-in_ok-answer-in-Ok-clause-planned g c = job_cause c.args.words.now.items
 
 pub answer_job-requires-clause-within : goal.answer_job-requires-clause-within
 answer_job-requires-clause-within g c = job_within (texts_of c.args.words.now.items) (asked_by c.in-Ok.job) c.in-Ok.ensures.job
+
+pub returns-in_ok-answer-in-Ok-clause-read : goal.returns-in_ok-answer-in-Ok-clause-read
+returns-in_ok-answer-in-Ok-clause-read g c =
+    words_read c.args.words.now.items (g.S.Source.contents c.args.src.now) (asked_by c.in-Ok.job) c.in_ok-answer-in-Ok.answer.status c.in_ok-answer-in-Ok.answer.text.items c.in-Ok.ensures.job c.in_ok-answer-in-Ok.ensures.read

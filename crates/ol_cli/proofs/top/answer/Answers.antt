@@ -1,0 +1,9 @@
+use Rattle.std.proofs.Common.{ℕ, List, subst}
+use Rattle.ol_io.specs.Outside.{Appended}
+use Rattle.ol_cli.proofs.ReadAgain.{written_read}
+use Rattle.ol_cli.proofs.top.answer.Goals as goal
+
+pub returns-in-All-clause-read_again : goal.returns-in-All-clause-read_again
+returns-in-All-clause-read_again g c =
+    let written = rw c.deref.ensures.value at c.in-All.ensures.bytes in
+    written_read c.args.words.now.items (g.S.Source.contents c.args.src.now) c.in-Ok.answer.status c.in-Ok.answer.text.items (g.W.Sink.taken c.args.out.now) (g.W.Sink.taken c.write_all.new.out) c.in-Ok.ensures.read written
