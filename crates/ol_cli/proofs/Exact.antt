@@ -1,5 +1,5 @@
 -- What follows from the causes of the statuses.
-use Rattle.std.proofs.Common.{◌≡◌, ◌≢◌, ℕ, ◌<◌, ◌≤◌, Bool, true, List, length, Option, None, Some, refl, sym, ◌∙◌, subst, inl, inr, ◌⊎◌, arith, String, Global, Vec, Ok, ◌↔◌}
+use Rattle.std.proofs.Common.{◌≡◌, ◌≢◌, ℕ, ◌<◌, ◌≤◌, Bool, List, Option, Some, refl, sym, ◌∙◌, subst, inl, inr, ◌⊎◌, arith, String, Global, Vec, Ok, ◌↔◌}
 use Rattle.std.specs.Result.{IsErrOf}
 use Rattle.ol_io.specs.declared.calls.ReadAll.{ReadAll}
 use Rattle.ol_io.specs.declared.calls.ReadAll.TheVariants.{TooLong}
@@ -11,7 +11,7 @@ use Rattle.ol_cli.specs.declared.status.Status.{Status}
 use Rattle.ol_cli.specs.declared.status.Status.TheVariants.{Done, Usage, Syntax, Spent, ReadFault, WriteFault, NoMemory, Limit}
 use Rattle.ol_cli.specs.Texts.{bytes_text}
 use Rattle.ol_cli.specs.Jobs.{AskFor, AskForNothing, TellsFile, name_of}
-use Rattle.ol_cli.specs.Answers.{TermAnswer, FileAnswer, IsAnswer, long, Seen, GaveAll, GaveTooMany, Read, JobCause, Cause, Ends}
+use Rattle.ol_cli.specs.Answers.{TermAnswer, FileAnswer, IsAnswer, long, Seen, GaveTooMany, Read, JobCause, Cause, Ends}
 
 -- where all bytes were given, they are within the limit
 pub within_ok : (bytes : Vec ℕ Global) (most given : ℕ) → IsErrOf {T = Vec ℕ Global} {E = ReadAll} (Ok bytes) TooLong ↔ (most < given) → given ≤ most

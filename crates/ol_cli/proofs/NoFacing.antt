@@ -3,7 +3,7 @@ use Rattle.std.proofs.Common.{◌≡◌, ℕ, Option, Some, None, List, [], ◌�
 use Rattle.ol_net.specs.declared.parts.Kind.{Kind}
 use Rattle.ol_net.specs.declared.parts.Rule.{Rule}
 use Rattle.ol_net.specs.Rules.{rule_of}
-use Rattle.ol_net.specs.Nets.{slot, NamedNet, Linked, IsNet, Faces}
+use Rattle.ol_net.specs.Nets.{slot, NamedNet, IsNet, Faces}
 use Rattle.ol_net.specs.Pairs.{IsStuck, HasPair, HasStuck}
 use Rattle.ol_context.specs.Short.{HasNoFacing}
 use Rattle.ol_rules.specs.Runs.{IsComplete}

@@ -18,7 +18,7 @@ use Rattle.ol_cli.specs.declared.status.Status.TheVariants.{Done, Usage, Syntax,
 use Rattle.ol_cli.specs.Jobs.{AskFor, AskForNothing}
 use Rattle.ol_cli.specs.Texts.{usage_text, bytes_text, depth_text, nodes_text, syntax_text, spent_text}
 use Rattle.ol_cli.specs.Evaluation.{RunsOut, Prints, Walks}
-use Rattle.ol_cli.specs.Answers.{IsTerm, IsPastLimit, long, deep, large, TermAnswer, FileAnswer, IsAnswer}
+use Rattle.ol_cli.specs.Answers.{long, deep, large, TermAnswer, FileAnswer, IsAnswer}
 use Rattle.ol_cli.proofs.OnePrint.{ends_or_not, one_print, one_walk}
 
 abbrev pub Same : Status → Status → List ℕ → List ℕ → Type 0

@@ -1,17 +1,14 @@
 -- What an answer says of the source's own term.
-use Rattle.std.proofs.Common.{◌≡◌, ℕ, ◌*◌, ◌==◌, true, false, List, length, Option, String, Global, refl, ap, ◌∙◌, subst, arith}
+use Rattle.std.proofs.Common.{◌≡◌, ℕ, ◌*◌, ◌==◌, true, List, length, Option, String, Global, subst, arith}
 use Rattle.ol_io.specs.Outside.{Appended}
 use Rattle.ol_term.specs.Trees.{Tree}
 use Rattle.ol_parse.specs.Parsed.{IsFileOf}
 use Rattle.ol_parse.proofs.Exact.{one_file}
-use Rattle.ol_net.specs.declared.parts.Kind.{Kind}
-use Rattle.ol_net.specs.Nets.{NamedNet, HasNode, IsNet}
+use Rattle.ol_net.specs.Nets.{NamedNet, IsNet}
 use Rattle.ol_net.specs.Pairs.{HasStuck}
-use Rattle.ol_rules.specs.declared.journal.NodeName.{NodeName}
 use Rattle.ol_rules.specs.declared.journal.NodeName.TheVariants.{Init}
-use Rattle.ol_rules.specs.declared.journal.Entry.{Entry}
 use Rattle.ol_rules.specs.Counting.{counts_of}
-use Rattle.ol_rules.specs.Runs.{IsRun, IsComplete}
+use Rattle.ol_rules.specs.Runs.{IsComplete}
 use Rattle.ol_invariance.proofs.Renamed.{renamed}
 use Rattle.ol_invariance.proofs.Runs.{run_keeps}
 use Rattle.ol_context.specs.Paths.{HaveSamePaths}
@@ -23,9 +20,9 @@ use Rattle.ol_words.specs.Jobs.{Asked, run, walk}
 use Rattle.ol_cli.specs.declared.status.Status.{Status}
 use Rattle.ol_cli.specs.declared.status.Status.TheVariants as status
 use Rattle.ol_cli.specs.Jobs.{AskFor}
-use Rattle.ol_cli.specs.Evaluation.{start_net, Prints, Walks, PrintsOf}
+use Rattle.ol_cli.specs.Evaluation.{start_net, Prints}
 use Rattle.ol_cli.specs.Answers.{IsTerm, TermAnswer, IsAnswer}
-use Rattle.ol_cli.specs.Sources.{TextHasHeads, WritesHeads, RunTells, EveryRunTells}
+use Rattle.ol_cli.specs.Sources.{TextHasHeads, WritesHeads, EveryRunTells}
 use Rattle.ol_cli.proofs.NetRuns.{as_run}
 use Rattle.ol_cli.proofs.NoFacing.{no_facing}
 use Rattle.ol_cli.proofs.OnePrint.{start_is_net, start_is_named}

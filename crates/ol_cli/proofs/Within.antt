@@ -1,10 +1,10 @@
 -- The numbers of a job are within the limits of their options.
-use Rattle.std.proofs.Common.{◌≡◌, ℕ, ◌≤◌, Bool, true, false, ◌&&◌, if◌then◌else◌, List, [], ◌∷◌, Option, None, Some, option_map, option_and_then, nat_le, refl, sym, ap, ◌∙◌, subst, arith}
+use Rattle.std.proofs.Common.{◌≡◌, ℕ, ◌≤◌, Bool, true, false, ◌&&◌, if◌then◌else◌, List, [], ◌∷◌, Option, None, Some, option_map, option_and_then, nat_le, refl, ap, ◌∙◌, subst, arith}
 use Rattle.std.proofs.lemmas.Bool.Decides.{nat_tests}
 use Rattle.std.specs.Str.{bytes_eq}
 use Rattle.ol_words.specs.Lines.{Text, Line, line_of}
-use Rattle.ol_words.specs.Numbers.{Limits, number_of, is_number, number_within, setting}
-use Rattle.ol_words.specs.Jobs.{Asked, run, walk, Setting, Verb, workers_setting, fuel_setting, heads_setting, edges_setting, run_verb, walk_verb, run_asks, walk_asks, only, options_of, values_of, number_on, numbers, job_on, job_behind, verb_named, job_of}
+use Rattle.ol_words.specs.Numbers.{Limits, number_of, is_number, setting}
+use Rattle.ol_words.specs.Jobs.{Asked, run, walk, Setting, workers_setting, fuel_setting, heads_setting, edges_setting, run_verb, walk_verb, run_asks, walk_asks, only, options_of, values_of, number_on, numbers, job_on, job_behind, job_of}
 use Rattle.ol_cli.specs.Jobs.{IsWithinLimits}
 
 and_then_some : {A B : Type 0} (f : A → Option B) (o : Option A) (b : B) → option_and_then f o ≡ Some b → (a : A) × (o ≡ Some a) × (f a ≡ Some b)

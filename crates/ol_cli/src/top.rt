@@ -29,6 +29,18 @@ const MOST_BYTES: usize = 1_048_576;
 ///
 /// A part of a term that isn't asked for, or whose walk used up its crossings, is written `...`, and one
 /// that has no head `?`.
+///
+/// Where nothing fails, the words and the bytes of the file alone decide on the text and the status. The
+/// run is the one-thread run, which always rewrites the active pair whose smaller name is least; every
+/// other complete run prints the same, and each is longer than F where that one is. Each head that is
+/// written is the one that walks of any length give in the source's untouched net (Gonthier, Abadi and
+/// Lévy, The Geometry of Optimal Lambda Reduction, 1992), and so is each `?` where no pair is stuck. A term
+/// without `...` and `?` is in the grammar, and read again it has no redex.
+///
+/// Refusals are tried in the order that `Status` tells. Each has a line of its own: the usage, `read
+/// fault`, `syntax at byte B` with the length of the longest prefix that begins a text of the grammar,
+/// `fuel F`, `limit bytes 1048576`, `limit depth 1000`, or `limit nodes 200000`. With `WriteFault` the sink
+/// took a prefix of the text, and with `NoMemory` nothing.
 pub fn ol<S: Source, W: Sink, G: Gate + Sync>(
     alloc: Global,
     words: &Vec<String>,

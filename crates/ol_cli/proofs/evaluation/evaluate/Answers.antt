@@ -1,4 +1,4 @@
-use Rattle.std.proofs.Common.{refl, ap, sym, ◌∙◌, ◌≢◌, ◌≡◌, Err}
+use Rattle.std.proofs.Common.{refl}
 use Rattle.ol_cli.specs.Answers.{deep}
 use Rattle.ol_term.specs.Trees.{tree_of}
 use Rattle.ol_words.specs.Jobs.{asked_by}

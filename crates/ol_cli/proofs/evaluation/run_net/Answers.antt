@@ -1,4 +1,4 @@
-use Rattle.std.proofs.Common.{ap, ◌∙◌, ◌-◌, ◌+◌, ◌*◌, arith, subst, ◌≡◌, length, ℕ, List}
+use Rattle.std.proofs.Common.{ap, ◌∙◌, ◌-◌, ◌*◌, arith, subst, ◌≡◌, length, ℕ, List}
 use Rattle.ol_rules.specs.declared.journal.Counts.{Counts}
 use Rattle.ol_rules.specs.Counting.{counts_of}
 use Rattle.ol_term.specs.Trees.{tree_of}

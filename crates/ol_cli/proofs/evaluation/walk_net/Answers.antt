@@ -1,4 +1,4 @@
-use Rattle.std.proofs.Common.{◌≡◌, ℕ, List, length, ap, ◌∙◌}
+use Rattle.std.proofs.Common.{ℕ, List}
 use Rattle.ol_term.specs.Trees.{tree_of}
 use Rattle.ol_cli.specs.Evaluation.{Walks}
 use Rattle.ol_cli.specs.Texts.{line}

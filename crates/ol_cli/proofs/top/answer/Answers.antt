@@ -1,5 +1,3 @@
-use Rattle.std.proofs.Common.{ℕ, List, subst}
-use Rattle.ol_io.specs.Outside.{Appended}
 use Rattle.ol_cli.proofs.ReadAgain.{written_read}
 use Rattle.ol_cli.proofs.top.answer.Goals as goal
 

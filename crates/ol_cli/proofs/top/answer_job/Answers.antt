@@ -1,7 +1,6 @@
-use Rattle.std.proofs.Common.{subst}
 use Rattle.ol_words.specs.Jobs.{asked_by}
 use Rattle.ol_cli.specs.Jobs.{name_of}
-use Rattle.ol_cli.specs.Answers.{Seen, GaveAll, FileAnswer}
+use Rattle.ol_cli.specs.Answers.{Seen, GaveAll}
 use Rattle.ol_cli.proofs.Exact.{read_cause, within_ok}
 use Rattle.ol_cli.proofs.ReadAgain.{told_read}
 use Rattle.ol_cli.proofs.top.answer_job.Goals as goal

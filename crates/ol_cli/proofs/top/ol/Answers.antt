@@ -1,4 +1,4 @@
-use Rattle.std.proofs.Common.{ℕ, List, subst}
+use Rattle.std.proofs.Common.{subst}
 use Rattle.ol_cli.specs.declared.status.Status.{Status}
 use Rattle.ol_cli.specs.Answers.{IsAnswer}
 use Rattle.ol_cli.proofs.Exact.{ends_exact, ends_risen, ends_usage}
