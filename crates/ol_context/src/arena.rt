@@ -44,7 +44,7 @@ pub enum Shape {
 
 /// Level values, each named by a `Val`. Contracts see the list of the values, by number.
 ///
-/// No call takes a value away, so each `Val` keeps its value. The greatest number is 4294967295.
+/// No call takes a value away, so each `Val` keeps its value. There are at most 4294967295 values.
 #[derive(Drop)]
 pub struct Values {
     // number 0 is the empty value, number k + 1 has shape k
@@ -63,7 +63,7 @@ impl Model for Values {
 
     ghost view = { λ a. trees a.shapes.items };
 
-    ghost invariant = { λ a. IsRow 1 a.shapes.items × (length a.shapes.items < 2 ^ 32) };
+    ghost invariant = { λ a. IsRow 1 a.shapes.items × (length a.shapes.items < 4294967295) };
 }
 
 impl Values {
@@ -76,9 +76,9 @@ impl Values {
         }
     }
 
-    /// Law: there are at most 2^32 values, so each number is below 2^32.
+    /// Law: there are fewer than 2^32 values.
     pub fn are_few(&self)
-        ensures few { length self.now ≤ 2 ^ 32 }
+        ensures few { length self.now < 2 ^ 32 }
     {
         let _ = &self.shapes;
     }
@@ -114,7 +114,7 @@ impl Values {
         ensures err { OnErr result (self.new ≡ self.old) }
     {
         let count = self.shapes.len();
-        if count >= 4294967295 {
+        if count >= 4294967294 {
             return Err(NoMemory);
         }
         let at = (count + 1) as u32;

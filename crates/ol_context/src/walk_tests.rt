@@ -1,6 +1,6 @@
 //! Walks over the nets of small terms.
 
-ghost use Rattle.std.specs.Prelude.{◌<◌, IfOk};
+ghost use Rattle.std.specs.Prelude.{◌<◌, ◌≤◌, length, IfOk};
 ghost use Rattle.ol_context.specs.Shapes.{IsHeld, AreHeld, Extends};
 
 use crate::tests::{assert_level, of, tower};
@@ -134,8 +134,10 @@ fn walks_to_a_shared_name(rt: HostRuntime) -> Result<(), Fail> {
     Ok(())
 }
 
-/// The net of `(\t. t t) (\f x. f (f x))`.
-fn twice_twice(alloc: Global) -> Result<Net, Fail> {
+/// The nodes of the net of `(\t. t t) (\f x. f (f x))`.
+fn twice_twice_nodes(alloc: Global) -> Result<Vec<(Kind, u32)>, Fail>
+    ensures { IfOk result (λ nodes. length nodes.items ≤ 18) }
+{
     let nodes = vec![in alloc;
         (Kind::App, 0),
         (Kind::Lam, 0),
@@ -156,6 +158,12 @@ fn twice_twice(alloc: Global) -> Result<Net, Fail> {
         (Kind::Bracket, 1),
         (Kind::Fan, 1),
     ]?;
+    Ok(nodes)
+}
+
+/// The net of `(\t. t t) (\f x. f (f x))`.
+fn twice_twice(alloc: Global) -> Result<Net, Fail> {
+    let nodes = twice_twice_nodes(alloc)?;
     let links = vec![in alloc;
         (Port::Free(0), of(0, 1)),
         (of(0, 0), of(1, 0)),
