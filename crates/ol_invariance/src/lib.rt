@@ -5,6 +5,10 @@
 #![tactic(auto)]
 
 mod kept;
+#[cfg(test)]
+mod table_tests;
+#[cfg(test)]
+mod tests;
 
 ghost use Rattle.ol_invariance.specs.Laws.{StepKeepsPaths, GraphStepKeepsPaths, JournalKeepsPaths, GraphRunKeepsPaths};
 
