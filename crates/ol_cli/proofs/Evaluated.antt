@@ -90,9 +90,10 @@ module _ (t : Tree) (names : List (List ℕ)) (old new : Graph) (fuel : ℕ) (jo
         let e : live (net_of new) ≡ live alike.net = sym length_under ∙ length_same in
         subst (λ n. IsTree alike.net heads (2 * n) tree) e (tree_same named alike.net alike.same length_same heads (2 * live (net_of new)) tree under)
 
-    pub prints : (heads n : ℕ) (tree : List ReadNode) (term text : List ℕ) → IsComplete (net_of new) → HasStuck (net_of new) n → IsTree (net_of new) heads (2 * live (net_of new)) tree
-        → IsTextOf names tree term → text ≡ answer_text term (counts_of journal) n → Prints t names fuel heads text
-    prints heads n tree term text c s r sh w =
+    -- what is printed of the code's net is printed of the run's, and what holds of its tree and term holds of those
+    pub prints_with : (P : List ReadNode → List ℕ → Type 0) (heads n : ℕ) (tree : List ReadNode) (term text : List ℕ) → IsComplete (net_of new) → HasStuck (net_of new) n → IsTree (net_of new) heads (2 * live (net_of new)) tree
+        → IsTextOf names tree term → text ≡ answer_text term (counts_of journal) n → P tree term → (p : Prints t names fuel heads text) × P p.shows.tree p.shows.term
+    prints_with P heads n tree term text c s r sh w h =
         let shows : Shows names heads journal alike.net text = record {
           stuck = n;
           tree = tree;
@@ -104,7 +105,7 @@ module _ (t : Tree) (names : List (List ℕ)) (old new : Graph) (fuel : ℕ) (jo
           shown = sh;
           written = w;
         } in
-        record { journal = journal; net = alike.net; run = alike.run; complete = complete_same named alike.net alike.same (complete_under ran.leads.names (net_of new) is_net one_name c); shows = shows }
+        (record { journal = journal; net = alike.net; run = alike.run; complete = complete_same named alike.net alike.same (complete_under ran.leads.names (net_of new) is_net one_name c); shows = shows }, h)
 
     -- the run keeps the free ports
     pub ports_kept : new.free ≡ 1 + length names
@@ -119,12 +120,12 @@ module _ (t : Tree) (names : List (List ℕ)) (old new : Graph) (fuel : ℕ) (jo
       left = (ran.leads.names a.0, ran.leads.names a.1, a.2, active_same named alike.net alike.same _ _ a.2 (active_to ran.leads.names (net_of new) a.0 a.1 a.2 a.3));
     }
 
--- the tree of the untouched net is that of the translation
-pub walks : (t : Tree) (names : List (List ℕ)) (net : Graph) → SameNet (net_of net) (translation_of t (length names)) → (edges heads : ℕ) (tree : List ReadNode) (term text : List ℕ) →
-    IsTree (net_of net) heads edges tree → IsTextOf names tree term → text ≡ line term → Walks t names edges heads text
-walks t names net start edges heads tree term text r sh w =
+-- the tree of the untouched net is that of the translation, and what holds of its tree and term holds of those
+pub walks_with : (P : List ReadNode → List ℕ → Type 0) (t : Tree) (names : List (List ℕ)) (net : Graph) → SameNet (net_of net) (translation_of t (length names)) → (edges heads : ℕ) (tree : List ReadNode) (term text : List ℕ) →
+    IsTree (net_of net) heads edges tree → IsTextOf names tree term → text ≡ line term → P tree term → (w : Walks t names edges heads text) × P w.tree w.term
+walks_with P t names net start edges heads tree term text r sh w h =
     let size = same_length (net_of net) (translation_of t (length names)) start (net_of_once net) (net_of_parts_once (1 + length names) (nodes_of t) (links_of t)) in
-    record { tree = tree; term = term; read = tree_same (net_of net) (translation_of t (length names)) start size heads edges tree r; shown = sh; written = w }
+    (record { tree = tree; term = term; read = tree_same (net_of net) (translation_of t (length names)) start size heads edges tree r; shown = sh; written = w }, h)
 
 -- a text that was made, if one was
 pub reads_text : (P : List ℕ → Type 0) (r : Result (Vec ℕ Global) NoMemory) (text : List ℕ) → IfOk r (λ v. v.items ≡ text) → ((x : List ℕ) → x ≡ text → P x) → IfOk r (λ v. P v.items)

@@ -16,21 +16,29 @@ use Rattle.ol_readback.specs.Heads.{live}
 use Rattle.ol_readback.specs.Trees.{IsTree}
 use Rattle.ol_readback.specs.Texts.{IsTextOf}
 use Rattle.ol_cli.specs.Texts.{line, answer_text}
+use Rattle.ol_cli.specs.Laws.{OneTreeIsPrinted, OneTreeIsWalked}
 use Rattle.ol_cli.specs.Evaluation.{start_net, Shows, Prints, RunsOut, Walks, PrintsOf}
 use Rattle.ol_cli.proofs.ListedOnce.{same_length}
 use Rattle.ol_cli.proofs.TreeTransport.{tree_same}
 use Rattle.ol_cli.proofs.OneTree.{one_tree}
 use Rattle.ol_cli.proofs.OneText.{one_text}
 
--- one journal and one net, whose lists may be ordered in two ways, show one text
-pub one_show : (names : List (List ℕ)) (heads : ℕ) (journal : List Entry) (M N : NamedNet NodeName) (text text' : List ℕ) → SameNet M N → Shows names heads journal M text → Shows names heads journal N text' → text ≡ text'
-one_show names heads journal M N text text' same s s' =
+-- of one net, whose lists may be ordered in two ways, one tree, one term and one number of stuck pairs are shown
+shows_tree : (names : List (List ℕ)) (heads : ℕ) (journal journal' : List Entry) (M N : NamedNet NodeName) (text text' : List ℕ) → SameNet M N → (s : Shows names heads journal M text) (s' : Shows names heads journal' N text') →
+    (s.tree ≡ s'.tree) × (s.term ≡ s'.term) × (s.stuck ≡ s'.stuck)
+shows_tree names heads journal journal' M N text text' same s s' =
     let stuck = one_stuck_count N s.stuck s'.stuck (has_stuck_same M N s.stuck same s.counted) s'.counted in
     let size : live M ≡ live N = same_length M N same s.once s'.once in
     let read = subst (λ n. IsTree N heads (2 * n) s.tree) size (tree_same M N same size heads (2 * live M) s.tree s.read) in
     let tree : s.tree ≡ s'.tree = one_tree N s'.is_net heads (2 * live N) s.tree s'.tree read s'.read in
     let term : s.term ≡ s'.term = one_text names s'.tree s.term s'.term (subst (λ ns. IsTextOf names ns s.term) tree s.shown) s'.shown in
-    s.written ∙ ap (λ x. answer_text x (counts_of journal) s.stuck) term ∙ ap (λ n. answer_text s'.term (counts_of journal) n) stuck ∙ sym s'.written
+    (tree, term, stuck)
+
+-- one journal and one net, whose lists may be ordered in two ways, show one text
+pub one_show : (names : List (List ℕ)) (heads : ℕ) (journal : List Entry) (M N : NamedNet NodeName) (text text' : List ℕ) → SameNet M N → Shows names heads journal M text → Shows names heads journal N text' → text ≡ text'
+one_show names heads journal M N text text' same s s' =
+    let x = shows_tree names heads journal journal M N text text' same s s' in
+    s.written ∙ ap (λ x. answer_text x (counts_of journal) s.stuck) x.1 ∙ ap (λ n. answer_text s'.term (counts_of journal) n) x.2 ∙ sym s'.written
 
 -- a complete run shows one text
 pub one_shown : (names : List (List ℕ)) (fuel heads : ℕ) (journal : List Entry) (net : NamedNet NodeName) (text text' : List ℕ) → PrintsOf names fuel heads journal net text → PrintsOf names fuel heads journal net text' → text ≡ text'
@@ -57,8 +65,22 @@ module _ (t : Tree) (names : List (List ℕ)) (is_net : IsNet (translation_of t 
       one_show names heads p'.journal p.net p'.net text text' o.1 (subst (λ es. Shows names heads es p.net text) o.0 p.shows) p'.shows
 
   -- the untouched net is read in one way
+  walks_tree : (edges heads : ℕ) (text text' : List ℕ) (w : Walks t names edges heads text) (w' : Walks t names edges heads text') → (w.tree ≡ w'.tree) × (w.term ≡ w'.term)
+  walks_tree edges heads text text' w w' =
+      let tree : w.tree ≡ w'.tree = one_tree (translation_of t (length names)) is_net heads edges w.tree w'.tree w.read w'.read in
+      (tree, one_text names w'.tree w.term w'.term (subst (λ ns. IsTextOf names ns w.term) tree w.shown) w'.shown)
+
   pub one_walk : (edges heads : ℕ) (text text' : List ℕ) → Walks t names edges heads text → Walks t names edges heads text' → text ≡ text'
   one_walk edges heads text text' w w' =
-      let tree : w.tree ≡ w'.tree = one_tree (translation_of t (length names)) is_net heads edges w.tree w'.tree w.read w'.read in
-      let term : w.term ≡ w'.term = one_text names w'.tree w.term w'.term (subst (λ ns. IsTextOf names ns w.term) tree w.shown) w'.shown in
-      w.written ∙ ap line term ∙ sym w'.written
+      let x = walks_tree edges heads text text' w w' in
+      w.written ∙ ap line x.1 ∙ sym w'.written
+
+-- ---- the laws
+
+pub one_printed_tree : OneTreeIsPrinted
+one_printed_tree t names fuel heads text text' is_net p p' =
+    let o = one_thread_one (start_net t names) (start_net t names) p.net p'.net fuel p.journal p'.journal (start_is_net t names is_net) (start_is_named t names is_net) (same_refl (start_net t names)) p.run p'.run in
+    shows_tree names heads p.journal p'.journal p.net p'.net text text' o.1 p.shows p'.shows
+
+pub one_walked_tree : OneTreeIsWalked
+one_walked_tree t names edges heads text text' is_net w w' = walks_tree t names is_net edges heads text text' w w'

@@ -4,8 +4,6 @@ use Rattle.ol_io.specs.Outside.{Appended, IsWhole}
 use Rattle.ol_term.specs.Trees.{Tree}
 use Rattle.ol_parse.specs.Parsed.{IsFileOf, AreNames}
 use Rattle.ol_parse.proofs.Exact.{one_file}
-use Rattle.ol_rules.specs.declared.journal.Counts.{Counts}
-use Rattle.ol_readback.specs.Texts.{IsTextOf}
 use Rattle.ol_readback.specs.Terms.{HasAllHeads, IsReadBack}
 use Rattle.ol_readback.specs.declared.answers.ReadNode.{ReadNode}
 use Rattle.ol_words.specs.Lines.{Text}
@@ -13,21 +11,26 @@ use Rattle.ol_words.specs.Jobs.{Asked, run, walk}
 use Rattle.ol_cli.specs.declared.status.Status.{Status}
 use Rattle.ol_cli.specs.declared.status.Status.TheVariants as status
 use Rattle.ol_cli.specs.Jobs.{AskFor, TellsFile, name_of}
-use Rattle.ol_cli.specs.Texts.{line, answer_text}
-use Rattle.ol_cli.specs.Sources.{TextIsReadAgain, WritesReadable}
-use Rattle.ol_cli.specs.Trees.{AnswerIsReadAgain, FileIsReadAgain, WordsAreReadAgain}
+use Rattle.ol_cli.specs.Evaluation.{Prints, Walks}
+use Rattle.ol_cli.specs.Trees.{TextIsReadAgain, AnswerIsReadAgain, FileIsReadAgain, WordsAreReadAgain, WritesReadable}
 use Rattle.ol_cli.proofs.OneAnswer.{one_job}
 
-module _ (names : List (List ℕ)) (tree : List ReadNode) (term text : List ℕ) (shown : IsTextOf names tree term) (read : AreNames names → HasAllHeads tree → IsReadBack names tree term) where
-  pub run_read : (counts : Counts) (stuck : ℕ) → text ≡ answer_text term counts stuck → (fuel heads workers : ℕ) (name : List ℕ) → AnswerIsReadAgain (run workers fuel heads name) names status.Done text
-  run_read counts stuck w fuel heads workers name words e = (term, (counts, stuck, w), record { tree = tree; shown = shown; read = read words })
+-- where the names are names of the grammar, the text of a tree whose places have heads is read again
+abbrev pub IsReadWhereNamed : List (List ℕ) → List ReadNode → List ℕ → Type 0
+IsReadWhereNamed names tree term = AreNames names → HasAllHeads tree → IsReadBack names tree term
 
-  pub walk_read : text ≡ line term → (edges heads : ℕ) (name : List ℕ) → AnswerIsReadAgain (walk edges heads name) names status.Done text
-  walk_read w edges heads name words e = (term, w, record { tree = tree; shown = shown; read = read words })
+module _ (t : Tree) (names : List (List ℕ)) (text : List ℕ) where
+  pub run_read : (fuel heads : ℕ) (p : Prints t names fuel heads text) → IsReadWhereNamed names p.shows.tree p.shows.term → (workers : ℕ) (name : List ℕ) → AnswerIsReadAgain (run workers fuel heads name) t names status.Done text
+  run_read fuel heads p read workers name words e = (p, read words)
+
+  pub walk_read : (edges heads : ℕ) (w : Walks t names edges heads text) → IsReadWhereNamed names w.tree w.term → (name : List ℕ) → AnswerIsReadAgain (walk edges heads name) t names status.Done text
+  walk_read edges heads w read name words e = (w, read words)
 
 -- by the names of the file's own term
-pub file_read : (asked : Asked) (bytes : List ℕ) (t : Tree) (names : List (List ℕ)) (st : Status) (text : List ℕ) → IsFileOf bytes t names → AreNames names → AnswerIsReadAgain asked names st text → FileIsReadAgain asked bytes st text
-file_read asked bytes t names st text f words h u others g e = subst (λ n. TextIsReadAgain asked n text) ((one_file bytes t u names others f g).1) (h words e)
+pub file_read : (asked : Asked) (bytes : List ℕ) (t : Tree) (names : List (List ℕ)) (st : Status) (text : List ℕ) → IsFileOf bytes t names → AreNames names → AnswerIsReadAgain asked t names st text → FileIsReadAgain asked bytes st text
+file_read asked bytes t names st text f words h u others g e =
+    let same = one_file bytes t u names others f g in
+    subst (λ n. TextIsReadAgain asked u n text) same.1 (subst (λ u. TextIsReadAgain asked u names text) same.0 (h words e))
 
 -- by the bytes that the source tells
 pub told_read : (asked : Asked) (contents : Option (List ℕ)) (read told : List ℕ) (st : Status) (text : List ℕ) → IsWhole contents read → FileIsReadAgain asked read st text → contents ≡ Some told → FileIsReadAgain asked told st text

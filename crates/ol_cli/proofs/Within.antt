@@ -46,6 +46,15 @@ first_number number s rest ns h =
     let u = map_some (λ (more : List ℕ). t.0 ∷ more) (numbers number rest) ns t.2 in
     (t.0, u.0, t.1, u.1, u.2)
 
+three_numbers : (w f q : ℕ) (a b c ns : List ℕ) → [] ≡ c → q ∷ c ≡ b → f ∷ b ≡ a → w ∷ a ≡ ns → w ∷ f ∷ q ∷ [] ≡ ns
+three_numbers w f q a b c ns h i j k = cc
+
+two_numbers : (e q : ℕ) (b c ns : List ℕ) → [] ≡ c → q ∷ c ≡ b → e ∷ b ≡ ns → e ∷ q ∷ [] ≡ ns
+two_numbers e q b c ns h i j = cc
+
+same_job : (asks : List ℕ → Option Asked) (ns ms : List ℕ) (asked : Asked) → ns ≡ ms → asks ms ≡ Some asked → asks ns ≡ Some asked
+same_job asks ns ms asked e h = ap asks e ∙ h
+
 run_within : (line : Line) (asked : Asked) → job_on run_verb line ≡ Some asked → IsWithinLimits asked
 run_within line asked h =
     let t = and_then_some (λ ns. run_asks ns line.names) (numbers (number_on line) run_verb.settings) asked h in
@@ -53,12 +62,12 @@ run_within line asked h =
     let f = first_number (number_on line) fuel_setting (heads_setting ∷ []) w.1 w.3 in
     let q = first_number (number_on line) heads_setting [] f.1 f.3 in
     let none : [] ≡ q.1 = cc in
-    let all : w.0 ∷ f.0 ∷ q.0 ∷ [] ≡ t.0 = ap (λ ns. w.0 ∷ f.0 ∷ q.0 ∷ ns) none ∙ ap (λ ns. w.0 ∷ f.0 ∷ ns) q.4 ∙ ap (λ ns. w.0 ∷ ns) f.4 ∙ w.4 in
-    let job : run_asks (w.0 ∷ f.0 ∷ q.0 ∷ []) line.names ≡ Some asked = ap (λ ns. run_asks ns line.names) all ∙ t.2 in
+    let all : w.0 ∷ f.0 ∷ q.0 ∷ [] ≡ t.0 = three_numbers w.0 f.0 q.0 w.1 f.1 q.1 t.0 none q.4 f.4 w.4 in
+    let job : run_asks (w.0 ∷ f.0 ∷ q.0 ∷ []) line.names ≡ Some asked = same_job (λ ns. run_asks ns line.names) (w.0 ∷ f.0 ∷ q.0 ∷ []) t.0 asked all t.2 in
     let is = map_some (run w.0 f.0 q.0) (only line.names) asked job in
     let fuel = setting_within fuel_setting.limits (values_of fuel_setting.option line.options) f.0 (omega arith, omega arith) f.2 in
     let heads = setting_within heads_setting.limits (values_of heads_setting.option line.options) q.0 (omega arith, omega arith) q.2 in
-    subst IsWithinLimits is.2 (fuel.1, heads.0)
+    subst IsWithinLimits {x = run w.0 f.0 q.0 is.0} is.2 (fuel.1, heads.0)
 
 walk_within : (line : Line) (asked : Asked) → job_on walk_verb line ≡ Some asked → IsWithinLimits asked
 walk_within line asked h =
@@ -66,11 +75,11 @@ walk_within line asked h =
     let e = first_number (number_on line) edges_setting (heads_setting ∷ []) t.0 t.1 in
     let q = first_number (number_on line) heads_setting [] e.1 e.3 in
     let none : [] ≡ q.1 = cc in
-    let all : e.0 ∷ q.0 ∷ [] ≡ t.0 = ap (λ ns. e.0 ∷ q.0 ∷ ns) none ∙ ap (λ ns. e.0 ∷ ns) q.4 ∙ e.4 in
-    let job : walk_asks (e.0 ∷ q.0 ∷ []) line.names ≡ Some asked = ap (λ ns. walk_asks ns line.names) all ∙ t.2 in
+    let all : e.0 ∷ q.0 ∷ [] ≡ t.0 = two_numbers e.0 q.0 e.1 q.1 t.0 none q.4 e.4 in
+    let job : walk_asks (e.0 ∷ q.0 ∷ []) line.names ≡ Some asked = same_job (λ ns. walk_asks ns line.names) (e.0 ∷ q.0 ∷ []) t.0 asked all t.2 in
     let is = map_some (walk e.0 q.0) (only line.names) asked job in
     let heads = setting_within heads_setting.limits (values_of heads_setting.option line.options) q.0 (omega arith, omega arith) q.2 in
-    subst IsWithinLimits is.2 heads.0
+    subst IsWithinLimits {x = walk e.0 q.0 is.0} is.2 heads.0
 
 -- ---- words
 

@@ -1,5 +1,5 @@
 -- What is written for a source's own term, where the source tells the bytes of the job's file.
-use Rattle.std.specs.Prelude.{◌≡◌, ℕ, ◌<◌, ◌==◌, Bool, false, List, length, Option, String}
+use Rattle.std.specs.Prelude.{ℕ, ◌<◌, ◌==◌, false, List, length, Option, String}
 use Rattle.std.specs.declared.alloc.Global.{Global}
 use Rattle.ol_io.specs.Outside.{Appended}
 use Rattle.ol_term.specs.Trees.{Tree}
@@ -7,40 +7,42 @@ use Rattle.ol_parse.specs.Parsed.{IsFileOf}
 use Rattle.ol_net.specs.Nets.{NamedNet}
 use Rattle.ol_rules.specs.declared.journal.NodeName.{NodeName}
 use Rattle.ol_rules.specs.declared.journal.Entry.{Entry}
-use Rattle.ol_rules.specs.declared.journal.Counts.{Counts}
 use Rattle.ol_rules.specs.Runs.{IsRun, IsComplete}
 use Rattle.ol_translate.specs.Translation.{translation_of}
 use Rattle.ol_readback.specs.Sources.{HasHeadsOf}
 use Rattle.ol_readback.specs.Terms.{HasAllHeads, IsReadBack}
-use Rattle.ol_readback.specs.Texts.{IsTextOf}
-use Rattle.ol_readback.specs.declared.answers.ReadNode.{ReadNode}
 use Rattle.ol_words.specs.Lines.{Text}
 use Rattle.ol_words.specs.Jobs.{Asked, run, walk}
 use Rattle.ol_cli.specs.declared.status.Status.{Status}
 use Rattle.ol_cli.specs.declared.status.Status.TheVariants as status
 use Rattle.ol_cli.specs.Jobs.{AskFor}
-use Rattle.ol_cli.specs.Texts.{line, answer_text}
-use Rattle.ol_cli.specs.Evaluation.{start_net, PrintsOf}
+use Rattle.ol_cli.specs.Evaluation.{start_net, Prints, Walks, PrintsOf}
 
--- ---- the heads
+-- ---- the tree that is written
 
--- The term is the text of a tree whose heads are those that this net gives, by paths of any length. Where `lost_too` is true,
--- its places without a head have none in this net either.
-pub record HasPrintedHeads (N : NamedNet ℕ) (names : List (List ℕ)) (lost_too : Bool) (term : List ℕ) : Type 0 where
-  pub tree : List ReadNode
-  pub shown : IsTextOf names tree term
-  pub heads : HasHeadsOf N lost_too tree
+-- What `run` prints of a term, and two facts of the tree whose text it prints. Each of its heads is the one that the term's own
+-- translation gives, by paths of any length, and so is each place without a head where no pair is stuck. Where each of its places
+-- has a head, its text is in the grammar, and read back, with its free names numbered by these, it is the tree's own term, in
+-- which no application has an abstraction as its function.
+pub record PrintsTree (t : Tree) (names : List (List ℕ)) (fuel heads : ℕ) (text : List ℕ) : Type 0 where
+  pub prints : Prints t names fuel heads text
+  pub own_heads : HasHeadsOf (translation_of t (length names)) (prints.shows.stuck == 0) prints.shows.tree
+  pub read_again : HasAllHeads prints.shows.tree → IsReadBack names prints.shows.tree prints.shows.term
 
--- A job's text begins with the line of such a term. Its places without a head count where no pair is stuck.
-abbrev pub TextHasHeads : Asked → NamedNet ℕ → List (List ℕ) → List ℕ → Type 0
-TextHasHeads (run workers fuel heads name) N names text =
-    (term : List ℕ) × (counts : Counts) × (stuck : ℕ) × (text ≡ answer_text term counts stuck) × HasPrintedHeads N names (stuck == 0) term
-TextHasHeads (walk edges heads name) N names text = (term : List ℕ) × (text ≡ line term) × HasPrintedHeads N names false term
+-- The same of `walk`, where nothing is said of the places without a head.
+pub record WalksTree (t : Tree) (names : List (List ℕ)) (edges heads : ℕ) (text : List ℕ) : Type 0 where
+  pub walks : Walks t names edges heads text
+  pub own_heads : HasHeadsOf (translation_of t (length names)) false walks.tree
+  pub read_again : HasAllHeads walks.tree → IsReadBack names walks.tree walks.term
 
--- The text was written for the term of the job's file, and its heads are those of this term's own translation.
-abbrev pub WritesHeads : List (String Global) → List ℕ → Option (List ℕ) → Option (List ℕ) → Type 0
-WritesHeads words bytes old new = (asked : Asked) (t : Tree) (names : List (List ℕ)) → AskFor words asked → IsFileOf bytes t names →
-    (text : List ℕ) × TextHasHeads asked (translation_of t (length names)) names text × Appended old text new
+abbrev pub TellsTree : Asked → Tree → List (List ℕ) → List ℕ → Type 0
+TellsTree (run workers fuel heads name) t names text = PrintsTree t names fuel heads text
+TellsTree (walk edges heads name) t names text = WalksTree t names edges heads text
+
+-- The text was written for the term of the job's file, and these are the facts of its tree.
+abbrev pub WritesTree : List (String Global) → List ℕ → Option (List ℕ) → Option (List ℕ) → Type 0
+WritesTree words bytes old new = (asked : Asked) (t : Tree) (names : List (List ℕ)) → AskFor words asked → IsFileOf bytes t names →
+    (text : List ℕ) × TellsTree asked t names text × Appended old text new
 
 -- ---- every complete run
 
@@ -55,26 +57,3 @@ abbrev pub EveryRunTells : List (String Global) → List ℕ → Status → Opti
 EveryRunTells words bytes st old new = (workers fuel heads : ℕ) (name : Text) (t : Tree) (names : List (List ℕ)) →
     AskFor words (run workers fuel heads name) → IsFileOf bytes t names →
     (journal : List Entry) (net : NamedNet NodeName) → IsRun (start_net t names) 0 journal net → IsComplete net → RunTells names fuel heads journal net st old new
-
--- ---- the text read again
-
--- The term is the text of a tree. Where each place of the tree has a head, the term is a text of the grammar, and read back, with
--- its free names numbered by these, it is the tree's own term, in which no application has an abstraction as its function.
-pub record IsReadAgain (names : List (List ℕ)) (term : List ℕ) : Type 0 where
-  pub tree : List ReadNode
-  pub shown : IsTextOf names tree term
-  pub read : HasAllHeads tree → IsReadBack names tree term
-
--- the term in the first line of a job's text
-abbrev pub HasTerm : Asked → List ℕ → List ℕ → Type 0
-HasTerm (run workers fuel heads name) text term = (counts : Counts) × (stuck : ℕ) × (text ≡ answer_text term counts stuck)
-HasTerm (walk edges heads name) text term = text ≡ line term
-
--- the first line of a job's text is such a term
-abbrev pub TextIsReadAgain : Asked → List (List ℕ) → List ℕ → Type 0
-TextIsReadAgain asked names text = (term : List ℕ) × HasTerm asked text term × IsReadAgain names term
-
--- The text was written for the job's file, and its term is read again by the names of the file's own term.
-abbrev pub WritesReadable : List (String Global) → List ℕ → Option (List ℕ) → Option (List ℕ) → Type 0
-WritesReadable words bytes old new = (asked : Asked) (t : Tree) (names : List (List ℕ)) → AskFor words asked → IsFileOf bytes t names →
-    (text : List ℕ) × TextIsReadAgain asked names text × Appended old text new

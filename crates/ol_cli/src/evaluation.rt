@@ -65,7 +65,7 @@ fn evaluate_file(alloc: Global, job: &Job, file: &TermFile) -> Result<Answer, No
     requires shallow { depth (tree_of file.now.term) ≤ 1000 }
     requires within { IsWithinLimits (asked_by job.now) }
     ensures answer { IfOk result (λ a. TreeAnswer (asked_by job.now) (tree_of file.now.term) file.now.names a.status a.text.items) }
-    ensures read { IfOk result (λ a. AnswerIsReadAgain (asked_by job.now) file.now.names a.status a.text.items) }
+    ensures read { IfOk result (λ a. AnswerIsReadAgain (asked_by job.now) (tree_of file.now.term) file.now.names a.status a.text.items) }
 {
     match translate(alloc, file) {
         Ok(net) => {
@@ -89,7 +89,7 @@ fn evaluate_net(alloc: Global, job: &Job, net: Net, file: &TermFile) -> Result<A
     requires small { length net.nodes ≤ 200000 }
     requires within { IsWithinLimits (asked_by job.now) }
     ensures answer { IfOk result (λ a. TermAnswer (asked_by job.now) (tree_of file.now.term) file.now.names a.status a.text.items) }
-    ensures read { IfOk result (λ a. AnswerIsReadAgain (asked_by job.now) file.now.names a.status a.text.items) }
+    ensures read { IfOk result (λ a. AnswerIsReadAgain (asked_by job.now) (tree_of file.now.term) file.now.names a.status a.text.items) }
 {
     match job {
         Job::Run { fuel, heads, .. } => {
@@ -118,7 +118,7 @@ fn run_net(
     requires fuel { fuel ≤ 2000000 }
     requires heads { 1 ≤ heads }
     ensures answer { IfOk result (λ a. RunAnswer (tree_of file.now.term) file.now.names fuel heads a.status a.text.items) }
-    ensures read { IfOk result (λ a. (workers : ℕ) (name : List ℕ) → AnswerIsReadAgain (run workers fuel heads name) file.now.names a.status a.text.items) }
+    ensures read { IfOk result (λ a. (workers : ℕ) (name : List ℕ) → AnswerIsReadAgain (run workers fuel heads name) (tree_of file.now.term) file.now.names a.status a.text.items) }
 {
     let mut net = net;
     let ran = run_kept(alloc, &mut net, fuel)?;
@@ -150,7 +150,7 @@ fn walk_net(
     requires net { SameNet (net_of net.now) (translation_of (tree_of file.now.term) (length file.now.names)) }
     requires heads { 1 ≤ heads }
     ensures text { IfOk result (λ text. Walks (tree_of file.now.term) file.now.names edges heads text.items) }
-    ensures read { IfOk result (λ text. (name : List ℕ) → AnswerIsReadAgain (walk edges heads name) file.now.names Status.Done text.items) }
+    ensures read { IfOk result (λ text. (name : List ℕ) → AnswerIsReadAgain (walk edges heads name) (tree_of file.now.term) file.now.names Status.Done text.items) }
 {
     net.is_net();
     let tree = read_back(alloc, net, heads, edges)?;

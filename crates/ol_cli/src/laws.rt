@@ -2,11 +2,14 @@
 
 ghost use Rattle.ol_cli.specs.Evaluation.{EveryRunIsLonger, EveryRunPrints};
 ghost use Rattle.ol_cli.specs.Journals.{AnyRunPrints, AnyRunRunsOut, OneThreadIsThere};
-ghost use Rattle.ol_cli.specs.Laws.{OneAnswer};
+ghost use Rattle.ol_cli.specs.Laws.{OneAnswer, OneTreeIsPrinted, OneTreeIsWalked};
 
-/// The same words and bytes have one answer.
+/// The same words and bytes have one answer. However the answer to a term is come by, it is that of one
+/// tree, one term and one number of stuck pairs.
 pub fn one_answer()
-    ensures { OneAnswer }
+    ensures answer { OneAnswer }
+    ensures printed { OneTreeIsPrinted }
+    ensures walked { OneTreeIsWalked }
 {}
 
 /// Where the answer is printed, each complete run prints it, whatever pairs it takes first. Where the

@@ -4,8 +4,8 @@ ghost use Rattle.ol_io.specs.Outside.{Rose, Appended};
 ghost use Rattle.ol_words.specs.Jobs.{asked_by};
 ghost use Rattle.ol_cli.specs.Jobs.{AskForNothing, IsKnownTo, IsWithinLimits, TellsFile, files_of, name_of};
 ghost use Rattle.ol_cli.specs.Answers.{seen, Cause, Ends, IsAnswer, JobCause};
-ghost use Rattle.ol_cli.specs.Sources.{EveryRunTells, WritesHeads, WritesReadable};
-ghost use Rattle.ol_cli.specs.Trees.{FileIsReadAgain, WordsAreReadAgain};
+ghost use Rattle.ol_cli.specs.Sources.{EveryRunTells, WritesTree};
+ghost use Rattle.ol_cli.specs.Trees.{FileIsReadAgain, WordsAreReadAgain, WritesReadable};
 
 use crate::evaluation::{Answer, evaluate};
 use crate::status::Status;
@@ -34,8 +34,9 @@ const MOST_BYTES: usize = 1_048_576;
 /// run is the one-thread run, which always rewrites the active pair whose smaller name is least; every
 /// other complete run prints the same, and each is longer than F where that one is. Each head that is
 /// written is the one that walks of any length give in the source's untouched net (Gonthier, Abadi and
-/// Lévy, The Geometry of Optimal Lambda Reduction, 1992), and so is each `?` where no pair is stuck. A term
-/// without `...` and `?` is in the grammar, and read again it has no redex.
+/// Lévy, The Geometry of Optimal Lambda Reduction, 1992). So is each `?` of `run` where it writes `stuck
+/// 0`; one of `walk` says only that none of the walks that were tried gave a head. A term without `...`
+/// and `?` is in the grammar, and read again it has no redex.
 ///
 /// Refusals are tried in the order that `Status` tells. Each has a line of its own: the usage, `read
 /// fault`, `syntax at byte B` with the length of the longest prefix that begins a text of the grammar,
@@ -61,23 +62,19 @@ pub fn ol<S: Source, W: Sink, G: Gate + Sync>(
         → ¬ Rose (S.faults src.old) (S.faults src.new) → ¬ Rose (W.faults out.old) (W.faults out.new) → result ≢ Status.NoMemory
         → (text : List ℕ) × IsAnswer words.now.items bytes result text × Appended (W.taken out.old) text (W.taken out.new) }
 
-    // And where such a job is done, each head that is written is the one that paths of any length give in the untouched net of
-    // the file's own term. So is each `?` where no pair is stuck in the last net.
-    ensures heads { (bytes : List ℕ) → TellsFile (S.contents src.old) words.now.items bytes
+    // And where such a job is done, two facts hold of the tree whose text is written. Each of its heads is the one that paths of
+    // any length give in the untouched net of the file's own term; so is each `?`, for `run` where the printed `stuck` is 0, while
+    // of a `?` of `walk` nothing is said. And where each of its places has a head, its text is in the grammar, and read back it is
+    // the tree's term, which has no redex.
+    ensures tree { (bytes : List ℕ) → TellsFile (S.contents src.old) words.now.items bytes
         → ¬ Rose (S.faults src.old) (S.faults src.new) → ¬ Rose (W.faults out.old) (W.faults out.new) → result ≡ Status.Done
-        → WritesHeads words.now.items bytes (W.taken out.old) (W.taken out.new) }
+        → WritesTree words.now.items bytes (W.taken out.old) (W.taken out.new) }
 
     // And each complete run of the file's own term, whatever pairs it takes first, prints what is written, or is longer than the
     // fuel where that is spent.
     ensures every_run { (bytes : List ℕ) → TellsFile (S.contents src.old) words.now.items bytes
         → ¬ Rose (S.faults src.old) (S.faults src.new) → ¬ Rose (W.faults out.old) (W.faults out.new) → result ≢ Status.NoMemory
         → EveryRunTells words.now.items bytes result (W.taken out.old) (W.taken out.new) }
-
-    // And where such a job is done and each place of the term that it writes has a head, that term is in the grammar, and read
-    // back it is the term of the tree, which has no redex.
-    ensures read_again { (bytes : List ℕ) → TellsFile (S.contents src.old) words.now.items bytes
-        → ¬ Rose (S.faults src.old) (S.faults src.new) → ¬ Rose (W.faults out.old) (W.faults out.new) → result ≡ Status.Done
-        → WritesReadable words.now.items bytes (W.taken out.old) (W.taken out.new) }
 
     // A fault that is told has risen, and one that has risen is told.
     ensures read { result ≡ Status.ReadFault → Rose (S.faults src.old) (S.faults src.new) }

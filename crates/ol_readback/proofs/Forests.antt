@@ -47,7 +47,7 @@ in_scope {F = F} {i = i} {l = l} {v = v} (above {p = p} n e m) ss s = go (subst 
     go (inner {ss = ts} b h) up = wider ((p, (frame_at F p).lams) ∷ ts) v (up ts h)
 in_scope (name n e b o) ss s = tt
 
-pub matches_head : {N : NamedNet ℕ} {F : List Frame} {i e n k : ℕ} {v : HeadVar} {ls : List Level} → IsHeadWithin N F i e (head n v k ls) → (q : ℕ) × (X : Context) × Matches F q X i n v k ls
+pub matches_head : {A : Type 0} {N : NamedNet A} {F : List Frame} {i e n k : ℕ} {v : HeadVar} {ls : List Level} → IsHeadWithin N F i e (head n v k ls) → (q : ℕ) × (X : Context) × Matches F q X i n v k ls
 matches_head (leaves {q = q} {X = X} b h w (matched m)) = (q, X, m)
 
 -- subterms one after another, each in its scope, from place i on
@@ -107,7 +107,7 @@ cuts i (s ∷ ss) F (c ∷ cs) h = tree cut tt (cuts (i + 1) ss F cs h.1)
 cuts i [] F (c ∷ cs) h = absurd h
 cuts i (s ∷ ss) F [] h = absurd h
 
-module _ {N : NamedNet ℕ} {heads e : ℕ} where
+module _ {A : Type 0} {N : NamedNet A} {heads e : ℕ} where
   forest_of : {F : List Frame} {ss : List Subterm} {ns : List ReadNode} → Reads N heads e F ss ns → (cs : List (List (ℕ × ℕ))) → AllScoped F ss cs → Forest (length F) cs ns
   forest_of end [] h = bare
   forest_of end (c ∷ cs) h = absurd h
@@ -148,5 +148,5 @@ module _ {N : NamedNet ℕ} {heads e : ℕ} where
 only : {ns : List ReadNode} → Forest 0 ([] ∷ []) ns → IsWhole ns
 only (tree t b bare) = record { tree = t; is_list = sym (append-nil (preorder t)); bound = b }
 
-pub tree_is_whole : (N : NamedNet ℕ) (heads e : ℕ) (ns : List ReadNode) → IsTree N heads e ns → IsWhole ns
+pub tree_is_whole : {A : Type 0} (N : NamedNet A) (heads e : ℕ) (ns : List ReadNode) → IsTree N heads e ns → IsWhole ns
 tree_is_whole N heads e ns r = only (forest_of r ([] ∷ []) (outer, tt))

@@ -27,8 +27,8 @@ abbrev pub TreeIsOne : Type 0 → Type 0
 TreeIsOne A = (N : NamedNet A) → IsNet N → (heads edges : ℕ) (ns ms : List ReadNode) → IsTree N heads edges ns → IsTree N heads edges ms → ns ≡ ms
 
 -- a tree is whole
-abbrev pub TreeIsWhole : Type 0
-TreeIsWhole = (N : NamedNet ℕ) (heads edges : ℕ) (ns : List ReadNode) → IsTree N heads edges ns → IsWhole ns
+abbrev pub TreeIsWhole : Type 0 → Type 0
+TreeIsWhole A = (N : NamedNet A) (heads edges : ℕ) (ns : List ReadNode) → IsTree N heads edges ns → IsWhole ns
 
 -- equal paths give equal heads
 abbrev pub HeadsKept : Type 0 → Type 0 → Type 0

@@ -14,8 +14,8 @@ pub fn answers_are_one<A>()
 {}
 
 /// The tree of a net is whole.
-pub fn trees_are_whole()
-    ensures { TreeIsWhole }
+pub fn trees_are_whole<A>()
+    ensures { TreeIsWhole A }
 {}
 
 /// Nets with the same paths between their free ports have the same heads. A head that was found

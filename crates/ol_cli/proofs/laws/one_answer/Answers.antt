@@ -1,5 +1,12 @@
 use Rattle.ol_cli.proofs.OneAnswer.{answers_one}
+use Rattle.ol_cli.proofs.OnePrint.{one_printed_tree, one_walked_tree}
 use Rattle.ol_cli.proofs.laws.one_answer.Goals as goal
 
-pub returns : goal.returns
-returns c = λ words bytes s s' x x' a a'. answers_one words bytes s s' x x' a a'
+pub returns-clause-answer : goal.returns-clause-answer
+returns-clause-answer c = λ words bytes s s' x x' a a'. answers_one words bytes s s' x x' a a'
+
+pub returns-clause-printed : goal.returns-clause-printed
+returns-clause-printed c = one_printed_tree
+
+pub returns-clause-walked : goal.returns-clause-walked
+returns-clause-walked c = one_walked_tree

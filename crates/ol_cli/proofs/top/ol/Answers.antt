@@ -1,8 +1,5 @@
-use Rattle.std.proofs.Common.{subst}
-use Rattle.ol_cli.specs.declared.status.Status.{Status}
-use Rattle.ol_cli.specs.Answers.{IsAnswer}
 use Rattle.ol_cli.proofs.Exact.{ends_exact, ends_risen, ends_usage}
-use Rattle.ol_cli.proofs.Sourced.{answer_heads, answer_runs}
+use Rattle.ol_cli.proofs.Sourced.{writes_tree, answer_runs}
 use Rattle.ol_cli.proofs.top.ol.Goals as goal
 
 pub returns-clause-exact : goal.returns-clause-exact
@@ -20,17 +17,12 @@ returns-clause-usage_told g c = λ lacks. ends_usage c.args.words.now.items
     (record { faults = g.S.Source.faults c.args.src.now; faults' = g.S.Source.faults c.answer.new.src; contents = g.S.Source.contents c.args.src.now; given = g.S.Source.given c.answer.new.src; ended = g.S.Source.ended c.answer.new.src })
     c.answer.result (g.W.Sink.faults c.args.out.now) (g.W.Sink.faults c.answer.new.out) (g.W.Sink.taken c.args.out.now) (g.W.Sink.taken c.answer.new.out) lacks c.answer.ensures.ends
 
-pub returns-clause-heads : goal.returns-clause-heads
-returns-clause-heads g c = λ bytes tells quiet calm e.
-    let x = ends_exact c.args.words.now.items (g.S.Source.faults c.args.src.now) (g.S.Source.faults c.answer.new.src) (g.S.Source.given c.answer.new.src) (g.S.Source.contents c.args.src.now) (g.S.Source.ended c.answer.new.src)
-    bytes tells quiet c.answer.result (g.W.Sink.faults c.args.out.now) (g.W.Sink.faults c.answer.new.out) (g.W.Sink.taken c.args.out.now) (g.W.Sink.taken c.answer.new.out) calm (λ n. absurd (cc)) c.answer.ensures.ends in
-    answer_heads c.args.words.now.items bytes x.0 (g.W.Sink.taken c.args.out.now) (g.W.Sink.taken c.answer.new.out) (subst (λ (r : Status). IsAnswer c.args.words.now.items bytes r x.0) e x.1) x.2
-
 pub returns-clause-every_run : goal.returns-clause-every_run
 returns-clause-every_run g c = λ bytes tells quiet calm has.
     let x = ends_exact c.args.words.now.items (g.S.Source.faults c.args.src.now) (g.S.Source.faults c.answer.new.src) (g.S.Source.given c.answer.new.src) (g.S.Source.contents c.args.src.now) (g.S.Source.ended c.answer.new.src)
     bytes tells quiet c.answer.result (g.W.Sink.faults c.args.out.now) (g.W.Sink.faults c.answer.new.out) (g.W.Sink.taken c.args.out.now) (g.W.Sink.taken c.answer.new.out) calm has c.answer.ensures.ends in
     answer_runs c.args.words.now.items bytes c.answer.result x.0 (g.W.Sink.taken c.args.out.now) (g.W.Sink.taken c.answer.new.out) x.1 x.2
 
-pub returns-clause-read_again : goal.returns-clause-read_again
-returns-clause-read_again g c = λ bytes tells quiet calm e. c.answer.ensures.read_again bytes tells e
+pub returns-clause-tree : goal.returns-clause-tree
+returns-clause-tree g c = λ bytes tells quiet calm e.
+    writes_tree c.args.words.now.items bytes (g.W.Sink.taken c.args.out.now) (g.W.Sink.taken c.answer.new.out) (c.answer.ensures.read_again bytes tells e)

@@ -2,4 +2,4 @@ use Rattle.ol_readback.proofs.Forests.{tree_is_whole}
 use Rattle.ol_readback.proofs.laws.trees_are_whole.Goals as goal
 
 pub returns : goal.returns
-returns c = tree_is_whole
+returns g c = tree_is_whole
