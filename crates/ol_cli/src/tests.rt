@@ -30,15 +30,14 @@ fn words_of(alloc: Global, line: &str) -> Result<Vec<String>, AllocError> {
     Ok(words)
 }
 
-// Asserts the status and the text, or its first line where no more is given.
-fn row(
+// What is written, where the status is this one.
+fn written(
     rt: &impl Abort,
     alloc: Global,
     given: &Given,
     faults: &Faults,
     status: Status,
-    text: &str,
-) -> Result<(), Fail> {
+) -> Result<Vec<u8>, Fail> {
     let mut files = Vec::new(alloc);
     files.push(MemFile {
         name: String::from_str(alloc, given.name)?,
@@ -57,16 +56,26 @@ fn row(
     let words = words_of(alloc, given.words)?;
     let answer = ol(alloc, &words, &mut src, &mut out, &OpenGate);
     assert_eq!(rt; answer, status, "{}", given.words);
-    let same = if status == Status::Done {
-        out.bytes().starts_with(text.as_bytes())
-    } else {
-        out.bytes() == text.as_bytes()
-    };
+    let text = Vec::from_slice(alloc, out.bytes())?;
+    Ok(text)
+}
+
+// Asserts the status and the whole text.
+fn row(
+    rt: &impl Abort,
+    alloc: Global,
+    given: &Given,
+    faults: &Faults,
+    status: Status,
+    text: &str,
+) -> Result<(), Fail> {
+    let bytes = written(rt, alloc, given, faults, status)?;
+    let same = bytes.as_slice() == text.as_bytes();
     assert!(rt; same, "{}", given.words);
     Ok(())
 }
 
-// The same of standard input and no fault.
+// The same of standard input where nothing fails.
 fn plain(
     rt: &impl Abort,
     alloc: Global,
@@ -88,44 +97,45 @@ fn plain(
     row(rt, alloc, &given, &faults, status, text)
 }
 
-// Asserts the whole text of a run that is done: the line of the term, and the nine counts.
+// The text of a run that is done: the line of the term, and the nine counts.
+fn answered(alloc: Global, term: &str, n: [u32; 9]) -> Result<String, AllocError> {
+    let text = format!(in alloc;
+        "{term}\nbeta {}\nfan {}\ncroissant {}\nbracket {}\ncross-fan {}\ncross-croissant {}\ncross-bracket {}\nerase {}\nstuck {}\n",
+        n[0], n[1], n[2], n[3], n[4], n[5], n[6], n[7], n[8]
+    )?;
+    Ok(text)
+}
+
+// Asserts the whole text of a run that is done.
 fn run_row(
     rt: &impl Abort,
     alloc: Global,
     words: &str,
     input: &str,
     term: &str,
-    n: [u32; 9],
+    counts: [u32; 9],
 ) -> Result<(), Fail> {
-    let text = format!(in alloc;
-        "{term}\nbeta {}\nfan {}\ncroissant {}\nbracket {}\ncross-fan {}\ncross-croissant {}\ncross-bracket {}\nerase {}\nstuck {}\n",
-        n[0], n[1], n[2], n[3], n[4], n[5], n[6], n[7], n[8]
-    )?;
+    let text = answered(alloc, term, counts)?;
     plain(rt, alloc, words, input.as_bytes(), Status::Done, &text)
 }
 
 #[test]
 fn terms_are_printed_with_their_counts(rt: HostRuntime) -> Result<(), Fail> {
     let alloc = rt.alloc();
-    let none = [0; 9];
-    let pair = [2, 1, 3, 1, 2, 6, 2, 0, 0];
-    let nested = [6, 6, 12, 6, 26, 52, 26, 0, 0];
+    let pair = "(\\x. x x) (\\y. y)";
+    let pairs = [2, 1, 3, 1, 2, 6, 2, 0, 0];
+    let nested = "let t = \\f x. f (f x) in t t";
+    let nests = [6, 6, 12, 6, 26, 52, 26, 0, 0];
+    let once = [1, 0, 0, 0, 0, 0, 0, 0, 0];
     let rows = [
-        ("run -", "\\x. x", "\\a. a", none),
-        ("run --fuel 0 -", "\\x. x", "\\a. a", none),
         (
             "run -",
             "(\\x. x) (\\y. y)",
             "\\a. a",
             [1, 0, 1, 0, 0, 2, 0, 0, 0],
         ),
-        ("run -", "(\\x. x x) (\\y. y)", "\\a. a", pair),
-        (
-            "run --workers 64 --fuel 17 -",
-            "(\\x. x x) (\\y. y)",
-            "\\a. a",
-            pair,
-        ),
+        ("run -", pair, "\\a. a", pairs),
+        ("run --workers 64 --fuel 17 -", pair, "\\a. a", pairs),
         (
             "run -",
             "(\\x. y) (\\z. z)",
@@ -133,31 +143,29 @@ fn terms_are_printed_with_their_counts(rt: HostRuntime) -> Result<(), Fail> {
             [1, 0, 0, 0, 0, 0, 0, 3, 0],
         ),
         ("run -", "(\\x y. x) a b", "a", [2, 0, 0, 0, 0, 0, 0, 0, 0]),
-        ("run -", "\\x. f x", "\\a. f a", none),
-        ("run -", "x x", "x x", none),
-        (
-            "run -",
-            "let t = \\f x. f (f x) in t t",
-            "\\a b. a (a (a (a b)))",
-            nested,
-        ),
-        (
-            "run --heads 3 -",
-            "let t = \\f x. f (f x) in t t",
-            "\\a b. a (a (a ...))",
-            nested,
-        ),
-        ("run -", "\\x. a", "\\b. a", none),
-        ("run -", "\\x x. x", "\\a b. b", none),
-        (
-            "run -",
-            "let x = a in b x",
-            "b a",
-            [1, 0, 0, 0, 0, 0, 0, 0, 0],
-        ),
+        ("run -", nested, "\\a b. a (a (a (a b)))", nests),
+        ("run --heads 3 -", nested, "\\a b. a (a (a ...))", nests),
+        ("run -", "let x = a in b x", "b a", once),
     ];
     for (words, input, term, counts) in rows {
         run_row(&rt, alloc, words, input, term, counts)?;
+    }
+    Ok(())
+}
+
+#[test]
+fn terms_without_a_redex_are_printed_as_they_are(rt: HostRuntime) -> Result<(), Fail> {
+    let alloc = rt.alloc();
+    let rows = [
+        ("run -", "\\x. x", "\\a. a"),
+        ("run --fuel 0 -", "\\x. x", "\\a. a"),
+        ("run -", "\\x. f x", "\\a. f a"),
+        ("run -", "x x", "x x"),
+        ("run -", "\\x. a", "\\b. a"),
+        ("run -", "\\x x. x", "\\a b. b"),
+    ];
+    for (words, input, term) in rows {
+        run_row(&rt, alloc, words, input, term, [0; 9])?;
     }
     Ok(())
 }
@@ -204,6 +212,37 @@ fn the_untouched_net_is_walked(rt: HostRuntime) -> Result<(), Fail> {
     Ok(())
 }
 
+// With ample crossings the heads of the untouched net are those of the last one.
+#[test]
+fn walks_and_runs_print_one_term(rt: HostRuntime) -> Result<(), Fail> {
+    let alloc = rt.alloc();
+    let faults = Faults {
+        reads: &[],
+        writes: &[],
+        most: 65_536,
+    };
+    let rows = [
+        ("(\\x. x) (\\y. y)", "\\a. a\n"),
+        ("(\\x. x x) (\\y. y)", "\\a. a\n"),
+        ("let t = \\f x. f (f x) in t t", "\\a b. a (a (a (a b)))\n"),
+    ];
+    for (input, line) in rows {
+        let walked = Given {
+            words: "walk --edges 1000000 -",
+            name: "-",
+            input: input.as_bytes(),
+        };
+        row(&rt, alloc, &walked, &faults, Status::Done, line)?;
+        let run = Given {
+            words: "run -",
+            ..walked
+        };
+        let text = written(&rt, alloc, &run, &faults, Status::Done)?;
+        assert!(rt; text.starts_with(line.as_bytes()), "{input}");
+    }
+    Ok(())
+}
+
 #[test]
 fn a_file_is_read_by_its_name(rt: HostRuntime) -> Result<(), Fail> {
     let alloc = rt.alloc();
@@ -219,8 +258,9 @@ fn a_file_is_read_by_its_name(rt: HostRuntime) -> Result<(), Fail> {
         name: "sum.lam",
         input: input.as_bytes(),
     };
-    let text = "\\a b. a (a (a (a b)))\nbeta ";
-    row(&rt, alloc, &given, &faults, Status::Done, text)?;
+    let text = written(&rt, alloc, &given, &faults, Status::Done)?;
+    let first_line = text.starts_with(b"\\a b. a (a (a (a b)))\n");
+    assert!(rt; first_line, "{}", given.words);
     let elsewhere = Given {
         words: "run -",
         name: "sum.lam",
@@ -266,12 +306,13 @@ fn other_texts_are_refused(rt: HostRuntime) -> Result<(), Fail> {
 #[test]
 fn faults_are_told(rt: HostRuntime) -> Result<(), Fail> {
     let alloc = rt.alloc();
+    let done = answered(alloc, "\\a. a", [0; 9])?;
     let rows: [(&[u64], &[u64], Status, &str); 8] = [
         (&[0], &[], Status::ReadFault, "read fault\n"),
         (&[1], &[], Status::ReadFault, "read fault\n"),
         (&[2], &[], Status::ReadFault, "read fault\n"),
         (&[3], &[], Status::ReadFault, "read fault\n"),
-        (&[4], &[], Status::Done, "\\a. a\nbeta 0\n"),
+        (&[4], &[], Status::Done, &done),
         (&[], &[0], Status::WriteFault, ""),
         (&[], &[1], Status::WriteFault, "\\a."),
         (&[1], &[1], Status::WriteFault, "rea"),
@@ -336,7 +377,8 @@ fn repeated(alloc: Global, text: &[u8], count: u32, last: &[u8]) -> Result<Vec<u
 fn bytes_are_limited(rt: HostRuntime) -> Result<(), Fail> {
     let alloc = rt.alloc();
     let mut text = repeated(alloc, b" ", 1_048_575, b"x")?;
-    plain(&rt, alloc, "run -", &text, Status::Done, "x\nbeta 0\n")?;
+    let done = answered(alloc, "x", [0; 9])?;
+    plain(&rt, alloc, "run -", &text, Status::Done, &done)?;
     text.push(b' ')?;
     let refused = "limit bytes 1048576\n";
     plain(&rt, alloc, "run -", &text, Status::Limit, refused)?;
@@ -360,8 +402,9 @@ fn depth_is_limited(rt: HostRuntime) -> Result<(), Fail> {
             }
         }
     }
-    line.push_str(". k38\nbeta 0\n")?;
-    plain(&rt, alloc, "run -", &deep, Status::Done, &line)?;
+    line.push_str(". k38")?;
+    let done = answered(alloc, &line, [0; 9])?;
+    plain(&rt, alloc, "run -", &deep, Status::Done, &done)?;
     let deeper = repeated(alloc, b"\\x. ", 1000, b"x")?;
     plain(
         &rt,
@@ -374,7 +417,8 @@ fn depth_is_limited(rt: HostRuntime) -> Result<(), Fail> {
     let mut inside = repeated(alloc, b"(", 100_000, b"x")?;
     let closing = repeated(alloc, b")", 100_000, b"")?;
     inside.extend_from_slice(&closing)?;
-    plain(&rt, alloc, "run -", &inside, Status::Done, "x\nbeta 0\n")
+    let done = answered(alloc, "x", [0; 9])?;
+    plain(&rt, alloc, "run -", &inside, Status::Done, &done)
 }
 
 // A tree of applications of so many levels over x.
@@ -403,19 +447,12 @@ fn nodes_are_limited(rt: HostRuntime) -> Result<(), Fail> {
     }
     let mut most = Vec::from_slice(alloc, &text)?;
     most.extend_from_slice(b" y")?;
-    let line = repeated(alloc, b" ...", 21, b"\nbeta 0\n")?;
-    let mut expected = String::from_str(alloc, "x")?;
-    for byte in &line {
-        expected.push(*byte as char)?;
+    let mut line = String::from_str(alloc, "x")?;
+    for argument in 0..21u32 {
+        line.push_str(" ...")?;
     }
-    plain(
-        &rt,
-        alloc,
-        "run --heads 1 -",
-        &most,
-        Status::Done,
-        &expected,
-    )?;
+    let done = answered(alloc, &line, [0; 9])?;
+    plain(&rt, alloc, "run --heads 1 -", &most, Status::Done, &done)?;
     text.extend_from_slice(b" x")?;
     let refused = "limit nodes 200000\n";
     plain(&rt, alloc, "run --heads 1 -", &text, Status::Limit, refused)
