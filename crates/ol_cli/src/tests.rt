@@ -302,6 +302,24 @@ fn other_texts_are_refused(rt: HostRuntime) -> Result<(), Fail> {
     Ok(())
 }
 
+// Each part of a text from its start ends at its dead place, but for the two that are texts.
+#[test]
+fn parts_of_a_text_are_dead_at_their_end(rt: HostRuntime) -> Result<(), Fail> {
+    let alloc = rt.alloc();
+    let text = b"(\\x. x x) (\\y. y)".as_slice();
+    let done = answered(alloc, "\\a. a a", [0; 9])?;
+    for length in 0..text.len() {
+        let part = &text[..length];
+        if length == 9 || length == 10 {
+            plain(&rt, alloc, "run -", part, Status::Done, &done)?;
+        } else {
+            let refused = format!(in alloc; "syntax at byte {length}\n")?;
+            plain(&rt, alloc, "run -", part, Status::Syntax, &refused)?;
+        }
+    }
+    Ok(())
+}
+
 // The source is begun by call 0 and read by calls 1 to 3; the text takes writes of three bytes.
 #[test]
 fn faults_are_told(rt: HostRuntime) -> Result<(), Fail> {

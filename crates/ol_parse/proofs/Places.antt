@@ -106,7 +106,6 @@ none_from x (y ∷ ys) i each =
 first_place : (x : List ℕ) (names : List (List ℕ)) (k : ℕ) → IsFirstPlace names x k → place_of x names ≡ Some k
 first_place x names k f = let e : k ≡ 0 + k = omega arith in first_from x names 0 k k e f.here f.before
 
-
 -- ---- a free name
 
 -- the names behind it
