@@ -3,6 +3,8 @@
 
 mod evaluation;
 mod laws;
+#[cfg(test)]
+mod order_tests;
 mod status;
 #[cfg(test)]
 mod tests;
