@@ -10,6 +10,8 @@ mod status;
 mod tests;
 mod texts;
 mod top;
+#[cfg(test)]
+mod walk_tests;
 
 pub use laws::{any_run_tells, every_run_answers, one_answer};
 pub use status::Status;
