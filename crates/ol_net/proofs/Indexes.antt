@@ -96,8 +96,8 @@ HasIndexes-built top nodes low good = record {
     at (f ∷ ks) (suc p) k e bad = at ks p k e bad
 
 pub HasIndexes-of_tables : (top free : ℕ) (nodes : List (Kind × ℕ)) (links : List (Port × Port)) (live : List (Option (Kind × ℕ))) (xs : List ℕ) →
-    top ≤ 100000000 → AreTables top free nodes links live xs → HasIndexes live
-HasIndexes-of_tables top free nodes links live xs low t = rw t.same_nodes (HasIndexes-built top nodes low t.good_indexes)
+    AreTables top free nodes links live xs → top ≤ 100000000 → HasIndexes live
+HasIndexes-of_tables top free nodes links live xs t low = rw t.same_nodes (HasIndexes-built top nodes low t.good_indexes)
 
 pub HasIndexes-kept : (nodes nodes' : List (Option (Kind × ℕ))) (first second : ℕ) (born : List (Kind × ℕ)) → HasIndexes nodes →
     ((p : ℕ) (k : Kind × ℕ) → slice_get born p ≡ Some k → MayBeBorn (top_index_of nodes) k) → nodes' ≡ renewed nodes first second born →
