@@ -12,8 +12,8 @@ use std::sync::{Mutex, Wait};
 
 /// Cells that wait for a worker: one line, which all workers share behind a lock.
 ///
-/// A lock tells nothing of the line that it guards, so nothing is said of which cell `take` gives.
-/// Contracts see a pool by its number of hands and the bound of its cells, a `PoolState`.
+/// Contracts see a pool by its number of hands and the bound of its cells, a `PoolState`. What waits in it
+/// isn't seen: of a cell that `take` gives it is only said that it is below the bound.
 #[derive(Drop)]
 pub struct Pool {
     line: Mutex<Line>,
@@ -59,7 +59,7 @@ impl Pool {
 
     /// Adds a cell. It may wait for the lock.
     ///
-    /// `Err`: no memory was found. It gives the cell back.
+    /// `Err`: no memory was found. It gives the cell back. The hand stays as it was.
     pub fn put<R: Wait>(&self, rt: &R, hand: &mut Hand, cell: u32) -> Result<(), u32>
         requires below { cell < self.now.cells }
         requires hand { IsOf hand.old self.now }
@@ -71,18 +71,16 @@ impl Pool {
 
     /// Takes one cell, the one that waits longest. It may wait for the lock. Takes no memory.
     ///
-    /// None: no cell waits. (Nothing is promised of this cause: the lock doesn't tell what waits.)
+    /// None: no cell waits, and the hand has `missed`. No clause gives this cause, since a lock tells nothing of
+    /// what it guards.
     pub fn take<R: Wait>(&self, rt: &R, hand: &mut Hand) -> Option<u32>
         requires hand { IsOf hand.old self.now }
         ensures below { IfSome result (λ cell. cell < self.now.cells) }
         ensures missed { IsTrue hand.new.missed ↔ IsNone result }
         ensures hand { hand.new ≡ record hand.old { missed = hand.new.missed } }
     {
-        let taken = self
-            .line
-            .lock(rt)
-            .next()
-            .filter(|cell| *cell < self.cells);
+        // `put` adds only cells below the bound, but the lock doesn't tell that either.
+        let taken = self.line.lock(rt).next().filter(|cell| *cell < self.cells);
         hand.remember(taken.is_none());
         taken
     }

@@ -24,13 +24,13 @@ fn a_line_is_first_in_first_out(rt: HostRuntime) {
     assert_eq!(rt; line.next(), None);
 }
 
-// A pool of two hands, for cells below 8.
-fn pool_of_two(alloc: Global) -> Result<(Pool, Hand, Hand), Fail>
-    ensures cells { IfOk result (λ made. made.0.cells ≡ 8) }
+// A pool of two hands.
+fn pool_of_two(alloc: Global, cells: u32) -> Result<(Pool, Hand, Hand), Fail>
+    ensures cells { IfOk result (λ made. made.0.cells ≡ cells) }
     ensures zero { IfOk result (λ made. IsOf made.1 made.0) }
     ensures one { IfOk result (λ made. IsOf made.2 made.0) }
 {
-    let (pool, mut hands) = Pool::new(alloc, 2, 8)?;
+    let (pool, mut hands) = Pool::new(alloc, 2, cells)?;
     let one = hands.pop().unwrap();
     let zero = hands.pop().unwrap();
     Ok((pool, zero, one))
@@ -38,7 +38,7 @@ fn pool_of_two(alloc: Global) -> Result<(Pool, Hand, Hand), Fail>
 
 #[test]
 fn a_cell_goes_from_hand_to_hand(rt: HostRuntime) -> Result<(), Fail> {
-    let (pool, mut zero, mut one) = pool_of_two(rt.alloc())?;
+    let (pool, mut zero, mut one) = pool_of_two(rt.alloc(), 8)?;
     assert_eq!(rt; pool.cells(), 8);
     assert_eq!(rt; (zero.number(), one.number()), (0, 1));
     assert_eq!(rt; (zero.missed(), one.missed()), (false, false));
@@ -52,26 +52,26 @@ fn a_cell_goes_from_hand_to_hand(rt: HostRuntime) -> Result<(), Fail> {
     Ok(())
 }
 
-// How many cells one hand takes until it misses.
+// The sum of `cell + 1` over the cells that one hand takes until it misses.
 fn take_all<R: Wait>(rt: &R, pool: &Pool, hand: Hand) -> u32
     requires { IsOf hand pool.now }
 {
     let mut hand = hand;
-    let mut count = 0u32;
+    let mut sum = 0u32;
     for _ in 0..1000u32 {
-        if pool.take(rt, &mut hand).is_none() {
-            return count;
-        }
-        count = count.saturating_add(1);
+        let Some(cell) = pool.take(rt, &mut hand) else {
+            return sum;
+        };
+        sum = sum.saturating_add(cell).saturating_add(1);
     }
-    count
+    sum
 }
 
 fn take_beside<R: Threads + Wait + Sync>(rt: &R, pool: &Pool, zero: Hand, one: Hand) -> u32
     requires zero { IsOf zero pool.now }
     requires one { IsOf one pool.now }
 {
-    let (some, others) = thread::join(
+    let (some, other) = thread::join(
         rt,
         move ||
             requires { IsOf zero pool.now }
@@ -80,15 +80,15 @@ fn take_beside<R: Threads + Wait + Sync>(rt: &R, pool: &Pool, zero: Hand, one: H
             requires { IsOf one pool.now }
         { take_all(rt, pool, one) },
     );
-    some.saturating_add(others)
+    some.saturating_add(other)
 }
 
 #[test]
 fn two_threads_take_each_cell_once(rt: HostRuntime) -> Result<(), Fail> {
-    let (pool, mut zero, one) = pool_of_two(rt.alloc())?;
-    for round in 0..100u32 {
-        assert_eq!(rt; pool.put(&rt, &mut zero, round % 8), Ok(()));
+    let (pool, mut zero, one) = pool_of_two(rt.alloc(), 100)?;
+    for cell in 0..100 {
+        assert_eq!(rt; pool.put(&rt, &mut zero, cell), Ok(()));
     }
-    assert_eq!(rt; take_beside(&rt, &pool, zero, one), 100);
+    assert_eq!(rt; take_beside(&rt, &pool, zero, one), 5050);
     Ok(())
 }
