@@ -1,0 +1,10 @@
+pub mod References
+pub mod Places
+pub mod Alike
+pub mod Event
+pub mod Degrees
+pub mod Links
+pub mod WordEdges
+pub mod Ticket
+pub mod Steps
+pub mod Opening

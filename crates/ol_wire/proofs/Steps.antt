@@ -1,0 +1,1 @@
+-- Claims, looks, writes and late tickets keep the rule, and so does cutting a seat off.

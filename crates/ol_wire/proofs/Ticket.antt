@@ -1,0 +1,1 @@
+-- A ticket below the fuel keeps the rule.

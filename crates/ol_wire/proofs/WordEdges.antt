@@ -1,0 +1,1 @@
+-- The edges of the words before and after a ticket.

@@ -1,0 +1,11 @@
+pub mod References
+pub mod Layout
+pub mod Sizes
+pub mod Events
+pub mod Blocks
+pub mod Edges
+pub mod Stands
+pub mod Weights
+pub mod Views
+pub mod Rule
+pub mod Plays

@@ -1,0 +1,10 @@
+-- Bounds of the parts of a table, under which each word's number is below 2^32.
+use Rattle.std.specs.Prelude.{ℕ, ◌≤◌}
+use Rattle.ol_wire.specs.declared.layout.Parts.{Parts}
+
+pub record IsSmall (z : Parts) : Type 0 where
+  pub free : z.free ≤ 1000000
+  pub nodes : z.nodes ≤ 1000000
+  pub wires : z.wires ≤ 2000000
+  pub cells : z.cells ≤ 2000000
+  pub fuel : z.fuel ≤ 2000000

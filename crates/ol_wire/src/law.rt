@@ -1,0 +1,60 @@
+//! The rule of the table, and what each kind of step tells.
+ghost use Rattle.ol_wire.specs.Rule.{Kept, opener};
+ghost use Rattle.ol_wire.specs.Plays.{claims, pairs_up, looks, draws, writes, fewer, one_seat};
+
+use crate::plan::Plan;
+use crate::view::View;
+use atomic_table::{Play, Split, TableRule};
+
+/// What holds of the words and of all views between any two steps.
+pub struct Law;
+
+impl TableRule<(), View, Plan> for Law {
+    ghost holds = { Kept };
+
+    ghost first = { opener };
+}
+
+/// The exchange of 0 into the left word of a cell.
+pub struct Claims;
+
+impl Play<(), View> for Claims {
+    ghost then = { claims };
+}
+
+/// A look at the right word of the cell that was claimed last.
+pub struct PairsUp;
+
+impl Play<(), View> for PairsUp {
+    ghost then = { pairs_up };
+}
+
+/// A look at a field of one of the two nodes that were claimed.
+pub struct Looks;
+
+impl Play<(), View> for Looks {
+    ghost then = { looks };
+}
+
+/// The addition of one to the ticket word.
+pub struct Draws;
+
+impl Play<(), View> for Draws {
+    ghost then = { draws };
+}
+
+/// A word that is written into the seat's own block.
+pub struct Writes;
+
+impl Play<(), View> for Writes {
+    ghost then = { writes };
+}
+
+/// One seat is cut off from a seat that has done nothing.
+pub struct Cut;
+
+impl Split<View> for Cut {
+    ghost left = { fewer };
+
+    ghost right = { one_seat };
+}

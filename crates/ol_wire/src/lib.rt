@@ -1,0 +1,13 @@
+//! The shared words: a net laid out in words that any number of threads rewrite by single atomic steps.
+#![tactic(auto)]
+
+mod law;
+mod layout;
+mod plan;
+mod reference;
+mod view;
+
+pub use law::Law;
+pub use layout::Parts;
+pub use plan::Plan;
+pub use view::{Link, View};
