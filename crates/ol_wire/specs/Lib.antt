@@ -1,6 +1,7 @@
 pub mod References
 pub mod Layout
 pub mod Sizes
+pub mod Starts
 pub mod Events
 pub mod Blocks
 pub mod Edges

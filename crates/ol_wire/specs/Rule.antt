@@ -16,8 +16,9 @@ use Rattle.ol_wire.specs.declared.layout.Parts.{Parts}
 use Rattle.ol_wire.specs.declared.plan.Plan.{Plan}
 use Rattle.ol_wire.specs.declared.view.Link.{Link}
 use Rattle.ol_wire.specs.declared.view.View.{View}
-use Rattle.ol_wire.specs.References.{node_ref, IsNodeRef, IsRef}
-use Rattle.ol_wire.specs.Layout.{Part, field, left, right, part_of, place_of, block, size}
+use Rattle.ol_wire.specs.References.{node_ref, place_in, IsNodeRef, IsRef}
+use Rattle.ol_wire.specs.Starts.{facing_pairs}
+use Rattle.ol_wire.specs.Layout.{Part, field, left, right, part_of, place_of, start_node, start_cell, block, size}
 use Rattle.ol_wire.specs.Weights.{total, pairs, numbered, weigh, Empties}
 use Rattle.ol_wire.specs.Events.{Event, rule_between, earlier, later, entry_of}
 use Rattle.ol_wire.specs.Edges.{is_made, is_reached, deaths, edges_of, links_in}
@@ -77,6 +78,8 @@ pub record WordsKeep (p : Plan) (s : Table) (log : List Event) (full : List ℕ)
   -- each word but the ticket word holds a reference, and the words of a cell hold nodes
   pub refs : (w : ℕ) → 0 < w → slice_index full w ≢ 0 → IsRef (slice_index full w)
   pub pairs : (w : ℕ) → part_of p.parts w ≡ left → slice_index full w ≢ 0 → IsNodeRef (slice_index full w) × IsNodeRef (slice_index full (suc w))
+  -- a cell of the start that isn't empty has its own pair of the start net, the node of the smaller number on the left
+  pub starts : (c : ℕ) → c < p.parts.cells → slice_index full (start_cell p.parts c) ≢ 0 → (n : ℕ × ℕ) × (slice_get (facing_pairs p.start.value) c ≡ Some n) × (place_in (slice_index full (start_cell p.parts c)) ≡ start_node p.parts n.0) × (place_in (slice_index full (suc (start_cell p.parts c))) ≡ start_node p.parts n.1)
   -- the blocks of tickets that weren't drawn are empty
   pub fresh : (w : ℕ) → block p.parts (length log) ≤ w → slice_index full w ≡ 0
   -- each other block begins with the two nodes of its entry
