@@ -1,6 +1,7 @@
 pub mod References
 pub mod Places
 pub mod Alike
+pub mod Held
 pub mod Event
 pub mod Degrees
 pub mod Links
