@@ -7,6 +7,7 @@ pub mod Degrees
 pub mod Links
 pub mod WordEdges
 pub mod TicketLists
+pub mod TicketWords
 pub mod Ticket
 pub mod Steps
 pub mod Opening
