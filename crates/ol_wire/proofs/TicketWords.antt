@@ -11,6 +11,7 @@ use Rattle.ol_net.specs.declared.parts.Kind.TheVariants as kind
 use Rattle.ol_net.specs.declared.parts.Rule.{Rule}
 use Rattle.ol_net.specs.declared.parts.Rule.TheVariants as rule
 use Rattle.ol_net.specs.Parts.{arity}
+use Rattle.ol_rules.specs.declared.journal.NodeName.{NodeName}
 use Rattle.ol_rules.specs.declared.journal.NodeName.TheVariants.{Born}
 use Rattle.ol_rules.specs.Rewriting.{is_meeting}
 use Rattle.ol_rules.specs.Listed.{each}
@@ -29,8 +30,8 @@ use Rattle.ol_wire.specs.Plays.{rest, known_at, event_in, IsLookedUp, ticketed}
 use Rattle.ol_wire.specs.Starts.{facing_pairs}
 use Rattle.ol_wire.specs.Rule.{Table, IsView, IsLasting, Kept, WordsKeep, Drawn, links_at}
 use Rattle.ol_wire.proofs.Alike.{total_append}
-use Rattle.ol_wire.proofs.Held.{Holds, held_full, held_within, word_full}
-use Rattle.ol_wire.proofs.Places.{part_entry, part_field, part_born_cell, is_left}
+use Rattle.ol_wire.proofs.Held.{Holds, held_full, held_within, word_full, total_from}
+use Rattle.ol_wire.proofs.Places.{part_entry, part_field, part_born_cell, part_start_cell, is_left}
 use Rattle.ol_wire.proofs.References.{node_sort, wire_sort}
 use Rattle.ol_wire.proofs.TicketLists.{total_set, by_place, more_before, more_at, more_past, length_more, weigh_set, put_words, put_length, put_else, put_there, put_weigh}
 
@@ -193,6 +194,17 @@ module _ (row : ℕ → Link) (c : ℕ) (at : (j : ℕ) → (row j).cell ≡ c +
         omega (arith, last_at u n, z, cell_once n u)
   ]
 
+-- a link whose cell has left word u
+link_with : (u : ℕ) (ls : List Link) → 0 < links_at u ls → (l : Link) × IsIn l ls × (l.cell ≡ u)
+link_with u [] h = absurd (omega (arith, h))
+link_with u (l ∷ ls) h = elim (cases_eq l.cell u) [
+  | inl q ↦ (l, inl refl, q)
+  | inr d ↦
+      let n : one_if (nat_eq l.cell u) ≡ 0 = ap one_if (ne_eqb l.cell u d) in
+      let r = link_with u ls (omega (arith, h, n)) in
+      (r.0, inr r.1, r.2)
+]
+
 -- What all views hold with the words: the seat's pair is gone, and its block is due.
 written_after : (h : ℕ → ℕ → ℕ) → Empties h → (words full : List ℕ) (views : List View) (id : ℕ) (v v' : View) (n b t w x : ℕ) (xs : List ℕ)
     → get_elem? views id ≡ some v → length words ≡ n → length full ≡ n → b + length xs ≤ n
@@ -223,3 +235,342 @@ written_after h z words full views id v v' n b t w x xs here wide full_wide in_n
       weigh_set h full n 0 (t + 1) (omega arith) (omega (arith, full_wide)),
       ap (h 0) full_first,
     )
+
+past_end : (l : List ℕ) (u : ℕ) → length l ≤ u → get_or l u 0 ≡ 0
+past_end [] u le = refl
+past_end (x ∷ l) zero le = absurd (omega arith)
+past_end (x ∷ l) (suc u) le = past_end l u (omega arith)
+
+-- What a seat that has looked up its pair knows of the words. `first` says that no view holds the ticket word.
+module _ (p : Plan) (s : Table) (k : Kept p s) (first : slice_index k.full 0 ≡ slice_index s.words 0) (id : ℕ) (v : View) (here : get_elem? s.views id ≡ some v) (w : ℕ) (ready : IsLookedUp v w) (low : slice_index s.words 0 < p.parts.fuel) where
+  abbrev z : Parts
+  z = p.parts
+
+  -- the ticket that it draws
+  abbrev t : ℕ
+  t = slice_index s.words 0
+
+  abbrev e : Event
+  e = event_in v
+
+  -- what it knows of the fields of f and of g
+  abbrev a : ℕ → ℕ
+  a n = known_at v.known (place_in (event_in v).f + n)
+
+  abbrev b : ℕ → ℕ
+  b n = known_at v.known (place_in (event_in v).g + n)
+
+  abbrev full' : List ℕ
+  full' = full_after p.parts (event_in v) (slice_index s.words 0) w k.full
+
+  pub drawn_is : length k.log ≡ t
+  drawn_is = k.tickets.below low
+
+  seen : IsView s v
+  seen = (id, here)
+
+  pub parts_are : v.parts ≡ z
+  parts_are = (k.seats.plan v seen ready.held).0
+
+  claimed : IsIn (w, v.last.0) v.taken
+  claimed = subst (λ l. IsIn (w, v.last.0) l) (sym ready.taken) (inl refl)
+
+  pub is_left_word : part_of z w ≡ left
+  is_left_word = (k.seats.taken v w v.last.0 seen claimed).0
+
+  pub left_some : v.last.0 ≢ 0
+  left_some = (k.seats.taken v w v.last.0 seen claimed).1
+
+  pub left_full : slice_index k.full w ≡ v.last.0
+  left_full = held_full p s k v w v.last.0 seen (inr claimed)
+
+  pub not_ticket : w ≢ 0
+  not_ticket q = let bad : ticket ≡ left = ap (part_of z) (sym q) ∙ is_left_word in cc
+
+  -- the pair's cell came before the ticket
+  pub cell_below : w < block z t
+  cell_below = elim (cases_lt w (block z t)) [
+    | inl lt ↦ lt
+    | inr ge ↦ absurd (left_some (sym left_full ∙ k.words.fresh w (omega (arith, ge, drawn_is))))
+  ]
+
+  -- what a view knows stays
+  pub known_full : (u : View) (n y : ℕ) → IsView s u → IsIn (n, y) u.known → (slice_index k.full n ≡ y) × (y ≢ 0) × (n ≢ 0)
+  known_full u n y is i =
+      let f = k.words.known u n y is i in
+      let some_y : slice_index s.words n ≢ 0 = λ q. f.1 (sym f.0 ∙ q) in
+      (
+        (elim (cases_lt n (size p.parts)) [
+          | inl lt ↦ word_full p s k n lt some_y ∙ f.0
+          | inr ge ↦ absurd (some_y (past_end s.words n (omega (arith, ge, k.words.wide))))
+        ]),
+        f.1,
+        (λ q. subst (λ n. IsLasting (part_of z n)) q f.2),
+      )
+
+  pub right_full : slice_index k.full (suc w) ≡ v.last.1
+  right_full = (known_full v (suc w) v.last.1 seen ready.right).0
+
+  pub right_some : v.last.1 ≢ 0
+  right_some = (known_full v (suc w) v.last.1 seen ready.right).1
+
+  sides : IsNodeRef v.last.0 × IsNodeRef v.last.1
+  sides =
+      let h = k.words.pairs w is_left_word (λ q. left_some (sym left_full ∙ q)) in
+      (subst IsNodeRef left_full h.0, subst IsNodeRef right_full h.1)
+
+  pub nodes_are : IsNodeRef e.f × IsNodeRef e.g
+  nodes_are = event_of_pair IsNodeRef v.last.0 v.last.1 sides.0 sides.1
+
+  field_of : (n y : ℕ) → IsIn (n, y) v.known → (slice_index k.full n ≡ y) × (y ≢ 0) × IsRef y
+  field_of n y i =
+      let f = known_full v n y seen i in
+      let g : n ≢ 0 = f.2 in
+      (f.0, f.1, subst IsRef f.0 (k.words.refs n (omega (arith, g)) (λ q. f.1 (sym f.0 ∙ q))))
+
+  -- the fields of f and of g
+  pub f_field : (n : ℕ) → n < arity (kind_in e.f) → (slice_index k.full (place_in e.f + n) ≡ a n) × (a n ≢ 0) × IsRef (a n)
+  f_field n lt = field_of (place_in e.f + n) (a n) (ready.f_fields n lt)
+
+  pub g_field : (n : ℕ) → n < arity (kind_in e.g) → (slice_index k.full (place_in e.g + n) ≡ b n) × (b n ≢ 0) × IsRef (b n)
+  g_field n lt = field_of (place_in e.g + n) (b n) (ready.g_fields n lt)
+
+  pub due_is : (ticketed v t).due ≡ to_write (block z t) (block_words z e t)
+  due_is = ap (λ x. to_write (block x t) (block_words x e t)) parts_are
+
+  pub pending_is : (ticketed v t).pending ≡ links_of z e t a b
+  pending_is = ap (λ x. links_of x e t a b) parts_are
+
+  pub taken_is : (ticketed v t).taken ≡ []
+  taken_is = ap rest ready.taken
+
+  abbrev s' : Table
+  s' = table_after s id v
+
+  -- what holds of the view after the ticket and of each other holds of each
+  pub viewed : (P : View → Type 0) → P (ticketed v t) → ((u : View) → IsView s u → P u) → (u : View) → IsView s' u → P u
+  viewed P new old u is = by_place P s.views id (ticketed v t) new (λ j y d q. old y (j, q)) is.0 u is.1
+
+  -- a word of a cell isn't among the first ten of a block
+  outside : (u : ℕ) → (part_of z u ≡ left) ⊎ (part_of z u ≡ right) → (u < block z t) ⊎ (block z t + 10 ≤ u)
+  outside u h = elim (cases_lt u (block z t)) [
+    | inl lt ↦ inl lt
+    | inr ge ↦ elim (cases_lt u (block z t + 10)) [
+      | inr far ↦ inr far
+      | inl near ↦ elim (cases_lt (u - block z t) 2) [
+        | inl small ↦
+            let q : u ≡ block z t + (u - block z t) = omega arith in
+            absurd (no_entry (ap (part_of z) q ∙ part_entry z t (u - block z t) low small) h)
+        | inr big ↦
+            let m = u - block z t - 2 in
+            let q : u ≡ place_of z (Born t (m / 2)) + m % 2 = omega arith in
+            absurd (no_field (Born t (m / 2)) (m % 2) (ap (part_of z) q ∙ part_field z (Born t (m / 2)) (m % 2) (low, omega arith) (omega arith)) h)
+      ]
+    ]
+  ]
+    where
+      no_entry : part_of z u ≡ entry → (part_of z u ≡ left) ⊎ (part_of z u ≡ right) → ⊥
+      no_entry q (inl r) = let bad : entry ≡ left = sym q ∙ r in cc
+      no_entry q (inr r) = let bad : entry ≡ right = sym q ∙ r in cc
+
+      no_field : (x : NodeName) (n : ℕ) → part_of z u ≡ field x n → (part_of z u ≡ left) ⊎ (part_of z u ≡ right) → ⊥
+      no_field x n q (inl r) = let bad : field x n ≡ left = sym q ∙ r in cc
+      no_field x n q (inr r) = let bad : field x n ≡ right = sym q ∙ r in cc
+
+  cell_some : (u : ℕ) → (part_of z u ≡ left) ⊎ (part_of z u ≡ right) → u ≢ 0
+  cell_some u (inl r) q = let bad : ticket ≡ left = ap (part_of z) (sym q) ∙ r in cc
+  cell_some u (inr r) q = let bad : ticket ≡ right = ap (part_of z) (sym q) ∙ r in cc
+
+  pub cell_gone : slice_index full' w ≡ 0
+  cell_gone = full_taken z e t w k.full cell_below not_ticket (omega (arith, held_within p s k v w v.last.0 seen (inr claimed), k.words.full_wide))
+
+  pub left_word_still : (u : ℕ) → part_of z u ≡ left → u ≢ w → slice_index full' u ≡ slice_index k.full u
+  left_word_still u r d = full_else z e t w k.full u (outside u (inl r)) (cell_some u (inl r)) d
+
+  pub right_word_still : (u : ℕ) → part_of z u ≡ right → slice_index full' u ≡ slice_index k.full u
+  right_word_still u r = full_else z e t w k.full u (outside u (inr r)) (cell_some u (inr r)) (λ q. let bad : left ≡ right = sym is_left_word ∙ ap (part_of z) (sym q) ∙ r in cc)
+
+  wide' : length full' ≡ size z
+  wide' = after_wide z e t w k.full ∙ k.words.full_wide
+
+  in_all : block z t + 10 ≤ size z
+  in_all = omega (arith, low)
+
+  log_longer : length (k.log ++ e ∷ []) ≡ t + 1
+  log_longer = length_more k.log e ∙ ap (λ n. n + 1) drawn_is
+
+  s'_first : slice_index s'.words 0 ≡ t + 1
+  s'_first = get_or-set_same s.words 0 (t + 1) 0 (omega (arith, k.words.wide))
+
+  pub tickets_after : Drawn z.fuel (slice_index s'.words 0) (length (k.log ++ e ∷ []))
+  tickets_after = record {
+    few = omega (arith, log_longer, low);
+    below = λ q. omega (arith, log_longer, s'_first);
+    above = λ q. omega (arith, log_longer, s'_first, low, q);
+  }
+
+  -- still no view holds the ticket word
+  pub first_after : slice_index full' 0 ≡ slice_index s'.words 0
+  first_after = full_ticket z e t w k.full not_ticket (omega (arith, k.words.full_wide)) ∙ sym s'_first
+
+  written : (h : ℕ → ℕ → ℕ) → Empties h → weigh h s'.words (size z) + total (λ (u : View). pairs h u.due + pairs h u.taken) s'.views ≡ weigh h full' (size z)
+  written h q = written_after h q s.words k.full s.views id v (ticketed v t) (size z) (block z t) t w v.last.0 (block_words z e t) here k.words.wide k.words.full_wide in_all refl first left_full (omega (arith, not_ticket)) cell_below
+      (λ j le. k.words.fresh j (omega (arith, le, drawn_is))) ready.nothing_due ready.taken due_is taken_is (k.words.written h q)
+
+  -- each word, by where it is
+  by_word : (P : ℕ → ℕ → Type 0) → ((j : ℕ) → j < 10 → P (block z t + j) (slice_index (block_words z e t) j)) → P w 0 → ((u : ℕ) → u ≢ 0 → u ≢ w → P u (slice_index k.full u)) → (u : ℕ) → u ≢ 0 → P u (slice_index full' u)
+  by_word P new gone old u some_u = elim (cases_lt u (block z t)) [
+    | inl lt ↦ elim (cases_eq u w) [
+      | inl q ↦ subst (λ u. P u (slice_index full' u)) (sym q) (subst (P w) (sym cell_gone) gone)
+      | inr d ↦ subst (P u) (sym (full_else z e t w k.full u (inl lt) some_u d)) (old u some_u d)
+    ]
+    | inr ge ↦ elim (cases_lt u (block z t + 10)) [
+      | inr far ↦
+          let d : u ≢ w = λ q. omega (arith, q, cell_below) in
+          subst (P u) (sym (full_else z e t w k.full u (inr far) some_u d)) (old u some_u d)
+      | inl near ↦
+          let j = u - block z t in
+          let q : block z t + j ≡ u = omega arith in
+          subst (λ u. P u (slice_index full' u)) q (subst (P (block z t + j)) (sym (full_there z e t w k.full j (omega arith) low k.words.full_wide)) (new j (omega arith)))
+    ]
+  ]
+
+  refs : (u : ℕ) → 0 < u → slice_index full' u ≢ 0 → IsRef (slice_index full' u)
+  refs u some_u = by_word (λ u y. y ≢ 0 → IsRef y) (λ j lt. maybe_at (block_words z e t) (block_refs z e t nodes_are.0 nodes_are.1) j) (λ n. absurd (n refl)) (λ u n d. k.words.refs u (omega (arith, n))) u (λ q. omega (arith, q, some_u))
+
+  pairs_are : (u : ℕ) → part_of z u ≡ left → slice_index full' u ≢ 0 → IsNodeRef (slice_index full' u) × IsNodeRef (slice_index full' (suc u))
+  pairs_are u r n =
+      let d : u ≢ w = λ q. n (ap (slice_index full') q ∙ cell_gone) in
+      let x = left_word_still u r d in
+      let y = right_word_still (suc u) (is_left z u r).0 in
+      let h = k.words.pairs u r (λ q. n (x ∙ q)) in
+      (subst IsNodeRef (sym x) h.0, subst IsNodeRef (sym y) h.1)
+
+  starts : (c : ℕ) → c < z.cells → slice_index full' (start_cell z c) ≢ 0
+      → (n : ℕ × ℕ) × (slice_get (facing_pairs p.start.value) c ≡ Some n) × (place_in (slice_index full' (start_cell z c)) ≡ start_node z n.0) × (place_in (slice_index full' (suc (start_cell z c))) ≡ start_node z n.1)
+  starts c lt n =
+      let r = part_start_cell z c lt in
+      let d : start_cell z c ≢ w = λ q. n (ap (slice_index full') q ∙ cell_gone) in
+      let x = left_word_still (start_cell z c) r.0 d in
+      let y = right_word_still (suc (start_cell z c)) r.1 in
+      let h = k.words.starts c lt (λ q. n (x ∙ q)) in
+      (h.0, h.1, ap place_in x ∙ h.2, ap place_in y ∙ h.3)
+
+  fresh : (u : ℕ) → block z (length (k.log ++ e ∷ [])) ≤ u → slice_index full' u ≡ 0
+  fresh u le = full_else z e t w k.full u (inr (omega (arith, le, log_longer))) (λ q. omega (arith, le, q)) (λ q. omega (arith, le, q, cell_below, log_longer)) ∙ k.words.fresh u (omega (arith, le, log_longer, drawn_is))
+
+  -- the entry of an older ticket, and of the new one
+  pub entry_old : (n : ℕ) → n < t → slice_get (k.log ++ e ∷ []) n ≡ slice_get k.log n
+  entry_old n lt = more_before k.log e n (omega (arith, lt, drawn_is))
+
+  pub entry_new : slice_get (k.log ++ e ∷ []) t ≡ Some e
+  entry_new = ap (slice_get (k.log ++ e ∷ [])) (sym drawn_is) ∙ more_at k.log e
+
+  entry_word_still : (n j : ℕ) → n < t → j < 2 → slice_index full' (block z n + j) ≡ slice_index k.full (block z n + j)
+  entry_word_still n j lt small = full_else z e t w k.full (block z n + j) (inl (omega (arith, lt, small))) (λ q. omega (arith, q)) (λ q.
+      let bad : entry ≡ left = sym (part_entry z n j (omega (arith, lt, low)) small) ∙ ap (part_of z) q ∙ is_left_word in cc)
+
+  entries : (n : ℕ) (x : Event) → slice_get (k.log ++ e ∷ []) n ≡ Some x → (slice_index full' (block z n) ≡ earlier x.f x.g) × (slice_index full' (block z n + 1) ≡ later x.f x.g)
+  entries n x q = elim (cases_lt n t) [
+    | inl lt ↦
+        let h = k.words.entries n x (sym (entry_old n lt) ∙ q) in
+        let at : block z n + 0 ≡ block z n = omega arith in
+        (sym (ap (slice_index full') at) ∙ entry_word_still n 0 lt (omega arith) ∙ ap (slice_index k.full) at ∙ h.0, entry_word_still n 1 lt (omega arith) ∙ h.1)
+    | inr ge ↦ elim (cases_eq n t) [
+      | inl here ↦
+          let y : e ≡ x = (let d : Some e ≡ Some x = sym entry_new ∙ ap (slice_get (k.log ++ e ∷ [])) (sym here) ∙ q in cc) in
+          let at : block z n ≡ block z t + 0 = omega (arith, here) in
+          let next : block z n + 1 ≡ block z t + 1 = omega (arith, here) in
+          (
+            ap (slice_index full') at ∙ full_there z e t w k.full 0 (omega arith) low k.words.full_wide ∙ ap (λ (x : Event). earlier x.f x.g) y,
+            ap (slice_index full') next ∙ full_there z e t w k.full 1 (omega arith) low k.words.full_wide ∙ ap (λ (x : Event). later x.f x.g) y,
+          )
+      | inr d ↦ absurd (let bad : None ≡ Some x = sym (more_past k.log e n (omega (arith, ge, d, drawn_is))) ∙ q in cc)
+    ]
+  ]
+
+  -- the links of the ticket
+  pub link_found : (l : Link) → IsIn l (ticketed v t).pending → (j : ℕ) × (j < joins_in e) × (l ≡ link_of z e t a b j)
+  link_found l i = of_row (in_each_of l (joins_in e) (λ j. link_of z e t a b j ∷ []) (subst (λ ls. IsIn l ls) pending_is i))
+    where
+      one : (j : ℕ) → IsIn l (link_of z e t a b j ∷ []) → l ≡ link_of z e t a b j
+      one j (inl q) = q
+      one j (inr h) = absurd h
+
+      of_row : (j : ℕ) × (j < joins_in e) × IsIn l (link_of z e t a b j ∷ []) → (j : ℕ) × (j < joins_in e) × (l ≡ link_of z e t a b j)
+      of_row r = (r.0, r.1, one r.0 r.2)
+
+  abbrev Unpublished : View → Type 0
+  Unpublished u = (l : Link) → IsIn l u.pending → (part_of z l.cell ≡ left) × (l.cell < block z (length (k.log ++ e ∷ []))) × (slice_index full' l.cell ≡ 0) × (slice_index full' (suc l.cell) ≡ 0)
+
+  unpublished_new : Unpublished (ticketed v t)
+  unpublished_new l i =
+      let h = link_found l i in
+      let lt : h.0 < 4 = omega (arith, h.1, joins_few e) in
+      let c : l.cell ≡ born_cell z t h.0 = ap (λ (l : Link). l.cell) h.2 in
+      let r = part_born_cell z t h.0 low lt in
+      let empty : (u : ℕ) → block z t + 10 ≤ u → slice_index full' u ≡ 0 = λ u le. full_else z e t w k.full u (inr le) (λ q. omega (arith, le, q)) (λ q. omega (arith, le, q, cell_below)) ∙ k.words.fresh u (omega (arith, le, drawn_is)) in
+      (ap (part_of z) c ∙ r.0, omega (arith, c, lt, log_longer), empty l.cell (omega (arith, c)), empty (suc l.cell) (omega (arith, c)))
+
+  unpublished_old : (u : View) → IsView s u → Unpublished u
+  unpublished_old u is l i =
+      let h = k.words.unpublished u l is i in
+      let d : l.cell ≢ w = λ q. left_some (sym left_full ∙ ap (slice_index k.full) (sym q) ∙ h.2) in
+      (h.0, omega (arith, h.1, log_longer, drawn_is), left_word_still l.cell h.0 d ∙ h.2, right_word_still (suc l.cell) (is_left z l.cell h.0).0 ∙ h.3)
+
+  abbrev LinkRefs : View → Type 0
+  LinkRefs u = (l : Link) → IsIn l u.pending → IsRef l.one × IsRef l.two
+
+  link_refs_new : LinkRefs (ticketed v t)
+  link_refs_new l i =
+      let h = link_found l i in
+      let r = link_ends z e t a b ready.rule (λ n lt. (f_field n lt).2) (λ n lt. (g_field n lt).2) h.0 h.1 in
+      subst (λ (l : Link). IsRef l.one × IsRef l.two) (sym h.2) r
+
+  one_link : (u : ℕ) → total (λ (x : View). links_at u x.pending) s'.views ≤ 1
+  one_link u =
+      let change = total_set (λ (x : View). links_at u x.pending) s.views id v (ticketed v t) here in
+      let gone : links_at u v.pending ≡ 0 = ap (links_at u) ready.nothing_pending in
+      let come : links_at u (ticketed v t).pending ≡ links_at u (links_of z e t a b) = ap (links_at u) pending_is in
+      elim (cases_eq (links_at u (links_of z e t a b)) 0) [
+        | inl nothing ↦ omega (arith, change, gone, come, nothing, k.words.one_link u)
+        | inr some_new ↦ elim (cases_eq (total (λ (x : View). links_at u x.pending) s.views) 0) [
+          | inl nothing ↦ omega (arith, change, gone, come, nothing, cell_once (link_of z e t a b) (block z t + 14) (λ j. refl) (joins_in e) u)
+          | inr some_old ↦
+              let at = cell_from (link_of z e t a b) (block z t + 14) (λ j. refl) (joins_in e) u (omega (arith, some_new)) in
+              absurd (omega (arith, at.2, old_cell u (omega (arith, some_old))))
+        ]
+      ]
+    where
+      old_cell : (u : ℕ) → 0 < total (λ (x : View). links_at u x.pending) s.views → u < block z t
+      old_cell u h =
+          let o = total_from (λ (x : View). links_at u x.pending) s.views h in
+          let l = link_with u o.1.pending o.3 in
+          let lt = (k.words.unpublished o.1 l.0 (o.0, o.2) l.1).1 in
+          let c : l.0.cell ≡ u = l.2 in
+          omega (arith, lt, c, drawn_is)
+
+  abbrev Knows : View → Type 0
+  Knows u = (n y : ℕ) → IsIn (n, y) u.known → (slice_index s'.words n ≡ y) × (y ≢ 0) × IsLasting (part_of z n)
+
+  known_old : (u : View) → IsView s u → Knows u
+  known_old u is n y i =
+      let f = k.words.known u n y is i in
+      let g = (known_full u n y is i).2 in
+      (get_or-set_other s.words 0 n (t + 1) 0 g ∙ f.0, f.1, f.2)
+
+  pub words_after : WordsKeep p s' (k.log ++ e ∷ []) full'
+  words_after = record {
+    wide = length-set s.words 0 (t + 1) ∙ k.words.wide;
+    full_wide = wide';
+    written = written;
+    refs = refs;
+    pairs = pairs_are;
+    starts = starts;
+    fresh = fresh;
+    entries = entries;
+    unpublished = λ u l is. viewed Unpublished unpublished_new unpublished_old u is l;
+    link_refs = λ u l is. viewed LinkRefs link_refs_new (λ x o l. k.words.link_refs x l o) u is l;
+    one_link = one_link;
+    known = λ u n y is. viewed Knows (λ n y i. absurd i) known_old u is n y;
+  }
