@@ -8,6 +8,8 @@ pub mod Links
 pub mod WordEdges
 pub mod TicketLists
 pub mod TicketWords
+pub mod TicketSeats
+pub mod TicketReached
 pub mod Ticket
 pub mod Steps
 pub mod Opening

@@ -117,11 +117,15 @@ born_field_ref z e t i s =
 
 block_refs : (z : Parts) (e : Event) (t : ℕ) → IsNodeRef e.f → IsNodeRef e.g → MaybeRefs (block_words z e t)
 block_refs z e t f g =
-    let b = born_field_ref z e t in
-    (chosen MaybeRef (nat_lt (place_in e.f) (place_in e.g)) e.f e.g (λ n. inl f) (λ n. inl g), (chosen MaybeRef (nat_lt (place_in e.f) (place_in e.g)) e.g e.f (λ n. inl g) (λ n. inl f),
-    (b 0 0, (b 0 1, (b 1 0, (b 1 1, (b 2 0, (b 2 1, (b 3 0, (b 3 1, tt))))))))))
+    let b = born_field_ref z e t in (
+      chosen MaybeRef (nat_lt (place_in e.f) (place_in e.g)) e.f e.g (λ n. inl f) (λ n. inl g),
+      (
+        chosen MaybeRef (nat_lt (place_in e.f) (place_in e.g)) e.g e.f (λ n. inl g) (λ n. inl f),
+        (b 0 0, (b 0 1, (b 1 0, (b 1 1, (b 2 0, (b 2 1, (b 3 0, (b 3 1, tt)))))))),
+      ),
+    )
 
-arity_few : (k : Kind) → arity k ≤ 2
+pub arity_few : (k : Kind) → arity k ≤ 2
 arity_few kind.Lam = omega arith
 arity_few kind.App = omega arith
 arity_few kind.Fan = omega arith
@@ -195,7 +199,7 @@ module _ (row : ℕ → Link) (c : ℕ) (at : (j : ℕ) → (row j).cell ≡ c +
   ]
 
 -- a link whose cell has left word u
-link_with : (u : ℕ) (ls : List Link) → 0 < links_at u ls → (l : Link) × IsIn l ls × (l.cell ≡ u)
+pub link_with : (u : ℕ) (ls : List Link) → 0 < links_at u ls → (l : Link) × IsIn l ls × (l.cell ≡ u)
 link_with u [] h = absurd (omega (arith, h))
 link_with u (l ∷ ls) h = elim (cases_eq l.cell u) [
   | inl q ↦ (l, inl refl, q)
@@ -241,8 +245,8 @@ past_end [] u le = refl
 past_end (x ∷ l) zero le = absurd (omega arith)
 past_end (x ∷ l) (suc u) le = past_end l u (omega arith)
 
--- What a seat that has looked up its pair knows of the words. `first` says that no view holds the ticket word.
-module _ (p : Plan) (s : Table) (k : Kept p s) (first : slice_index k.full 0 ≡ slice_index s.words 0) (id : ℕ) (v : View) (here : get_elem? s.views id ≡ some v) (w : ℕ) (ready : IsLookedUp v w) (low : slice_index s.words 0 < p.parts.fuel) where
+-- What a seat that has looked up its pair knows of the words, and what becomes of them with its ticket.
+module _ (p : Plan) (s : Table) (k : Kept p s) (id : ℕ) (v : View) (here : get_elem? s.views id ≡ some v) (w : ℕ) (ready : IsLookedUp v w) (low : slice_index s.words 0 < p.parts.fuel) where
   abbrev z : Parts
   z = p.parts
 
@@ -254,13 +258,13 @@ module _ (p : Plan) (s : Table) (k : Kept p s) (first : slice_index k.full 0 ≡
   e = event_in v
 
   -- what it knows of the fields of f and of g
-  abbrev a : ℕ → ℕ
+  abbrev pub a : ℕ → ℕ
   a n = known_at v.known (place_in (event_in v).f + n)
 
-  abbrev b : ℕ → ℕ
+  abbrev pub b : ℕ → ℕ
   b n = known_at v.known (place_in (event_in v).g + n)
 
-  abbrev full' : List ℕ
+  abbrev pub full' : List ℕ
   full' = full_after p.parts (event_in v) (slice_index s.words 0) w k.full
 
   pub drawn_is : length k.log ≡ t
@@ -298,8 +302,7 @@ module _ (p : Plan) (s : Table) (k : Kept p s) (first : slice_index k.full 0 ≡
   pub known_full : (u : View) (n y : ℕ) → IsView s u → IsIn (n, y) u.known → (slice_index k.full n ≡ y) × (y ≢ 0) × (n ≢ 0)
   known_full u n y is i =
       let f = k.words.known u n y is i in
-      let some_y : slice_index s.words n ≢ 0 = λ q. f.1 (sym f.0 ∙ q) in
-      (
+      let some_y : slice_index s.words n ≢ 0 = λ q. f.1 (sym f.0 ∙ q) in (
         (elim (cases_lt n (size p.parts)) [
           | inl lt ↦ word_full p s k n lt some_y ∙ f.0
           | inr ge ↦ absurd (some_y (past_end s.words n (omega (arith, ge, k.words.wide))))
@@ -399,22 +402,23 @@ module _ (p : Plan) (s : Table) (k : Kept p s) (first : slice_index k.full 0 ≡
   log_longer : length (k.log ++ e ∷ []) ≡ t + 1
   log_longer = length_more k.log e ∙ ap (λ n. n + 1) drawn_is
 
-  s'_first : slice_index s'.words 0 ≡ t + 1
-  s'_first = get_or-set_same s.words 0 (t + 1) 0 (omega (arith, k.words.wide))
+  pub ticket_word : slice_index s'.words 0 ≡ t + 1
+  ticket_word = get_or-set_same s.words 0 (t + 1) 0 (omega (arith, k.words.wide))
 
   pub tickets_after : Drawn z.fuel (slice_index s'.words 0) (length (k.log ++ e ∷ []))
   tickets_after = record {
     few = omega (arith, log_longer, low);
-    below = λ q. omega (arith, log_longer, s'_first);
-    above = λ q. omega (arith, log_longer, s'_first, low, q);
+    below = λ q. omega (arith, log_longer, ticket_word);
+    above = λ q. omega (arith, log_longer, ticket_word, low, q);
   }
 
   -- still no view holds the ticket word
   pub first_after : slice_index full' 0 ≡ slice_index s'.words 0
-  first_after = full_ticket z e t w k.full not_ticket (omega (arith, k.words.full_wide)) ∙ sym s'_first
+  first_after = full_ticket z e t w k.full not_ticket (omega (arith, k.words.full_wide)) ∙ sym ticket_word
 
-  written : (h : ℕ → ℕ → ℕ) → Empties h → weigh h s'.words (size z) + total (λ (u : View). pairs h u.due + pairs h u.taken) s'.views ≡ weigh h full' (size z)
-  written h q = written_after h q s.words k.full s.views id v (ticketed v t) (size z) (block z t) t w v.last.0 (block_words z e t) here k.words.wide k.words.full_wide in_all refl first left_full (omega (arith, not_ticket)) cell_below
+  -- `first` says that no view holds the ticket word
+  written : (first : slice_index k.full 0 ≡ slice_index s.words 0) (h : ℕ → ℕ → ℕ) → Empties h → weigh h s'.words (size z) + total (λ (u : View). pairs h u.due + pairs h u.taken) s'.views ≡ weigh h full' (size z)
+  written first h q = written_after h q s.words k.full s.views id v (ticketed v t) (size z) (block z t) t w v.last.0 (block_words z e t) here k.words.wide k.words.full_wide in_all refl first left_full (omega (arith, not_ticket)) cell_below
       (λ j le. k.words.fresh j (omega (arith, le, drawn_is))) ready.nothing_due ready.taken due_is taken_is (k.words.written h q)
 
   -- each word, by where it is
@@ -480,8 +484,7 @@ module _ (p : Plan) (s : Table) (k : Kept p s) (first : slice_index k.full 0 ≡
       | inl here ↦
           let y : e ≡ x = (let d : Some e ≡ Some x = sym entry_new ∙ ap (slice_get (k.log ++ e ∷ [])) (sym here) ∙ q in cc) in
           let at : block z n ≡ block z t + 0 = omega (arith, here) in
-          let next : block z n + 1 ≡ block z t + 1 = omega (arith, here) in
-          (
+          let next : block z n + 1 ≡ block z t + 1 = omega (arith, here) in (
             ap (slice_index full') at ∙ full_there z e t w k.full 0 (omega arith) low k.words.full_wide ∙ ap (λ (x : Event). earlier x.f x.g) y,
             ap (slice_index full') next ∙ full_there z e t w k.full 1 (omega arith) low k.words.full_wide ∙ ap (λ (x : Event). later x.f x.g) y,
           )
@@ -559,11 +562,11 @@ module _ (p : Plan) (s : Table) (k : Kept p s) (first : slice_index k.full 0 ≡
       let g = (known_full u n y is i).2 in
       (get_or-set_other s.words 0 n (t + 1) 0 g ∙ f.0, f.1, f.2)
 
-  pub words_after : WordsKeep p s' (k.log ++ e ∷ []) full'
-  words_after = record {
+  pub words_after : slice_index k.full 0 ≡ slice_index s.words 0 → WordsKeep p s' (k.log ++ e ∷ []) full'
+  words_after first = record {
     wide = length-set s.words 0 (t + 1) ∙ k.words.wide;
     full_wide = wide';
-    written = written;
+    written = written first;
     refs = refs;
     pairs = pairs_are;
     starts = starts;
