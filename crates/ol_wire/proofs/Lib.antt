@@ -4,6 +4,7 @@ pub mod Alike
 pub mod Event
 pub mod Degrees
 pub mod Links
+pub mod EdgeList
 pub mod WordEdges
 pub mod Ticket
 pub mod Steps
