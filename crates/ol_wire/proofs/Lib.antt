@@ -5,6 +5,7 @@ pub mod Held
 pub mod Event
 pub mod Degrees
 pub mod Links
+pub mod EdgeList
 pub mod WordEdges
 pub mod Ticket
 pub mod Steps
