@@ -6,6 +6,7 @@ pub mod Event
 pub mod Degrees
 pub mod Links
 pub mod WordEdges
+pub mod TicketJournal
 pub mod Ticket
 pub mod Steps
 pub mod Opening
