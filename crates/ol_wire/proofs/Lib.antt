@@ -8,6 +8,7 @@ pub mod Links
 pub mod EdgeList
 pub mod Claimed
 pub mod WordEdges
+pub mod TicketJournal
 pub mod Ticket
 pub mod Steps
 pub mod Opening
