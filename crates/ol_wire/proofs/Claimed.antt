@@ -46,8 +46,11 @@ in_either x (y ∷ xs) ys (inr h) = behind (in_either x xs ys h)
 pub ends_append : (u : ℕ) (es fs : List (ℕ × ℕ)) → ends nat_eq u (es ++ fs) ≡ ends nat_eq u es + ends nat_eq u fs
 ends_append u es fs = omega (arith, ends_weigh u (es ++ fs), ends_weigh u es, ends_weigh u fs, pairs_append (end_weight u) es fs)
 
-same_bit : (u v : ℕ) → u ≡ v → bit (nat_eq u v) ≡ 1
+pub same_bit : (u v : ℕ) → u ≡ v → bit (nat_eq u v) ≡ 1
 same_bit u v e = ap bit (eq-eqb u v e)
+
+pub other_bit : (u v : ℕ) → u ≢ v → bit (nat_eq u v) ≡ 0
+other_bit u v n = ap bit (ne_eqb u v n)
 
 pub ends_first : (u d : ℕ) (es : List (ℕ × ℕ)) → IsIn (u, d) es → 1 ≤ ends nat_eq u es
 ends_first u d [] h = elim h [ ]
@@ -71,12 +74,9 @@ ends_found u (e ∷ es) h = elim (cases_eq u e.0) [
   | inl q ↦ (e.0, e.1, inl refl, inl (sym q))
   | inr d ↦ elim (cases_eq u e.1) [
     | inl q ↦ (e.0, e.1, inl refl, inr (sym q))
-    | inr d' ↦ let t = ends_found u es (omega (arith, h, other u e.0 d, other u e.1 d')) in (t.0, t.1, inr t.2, t.3)
+    | inr d' ↦ let t = ends_found u es (omega (arith, h, other_bit u e.0 d, other_bit u e.1 d')) in (t.0, t.1, inr t.2, t.3)
   ]
 ]
-  where
-    other : (u v : ℕ) → u ≢ v → bit (nat_eq u v) ≡ 0
-    other u v n = ap bit (ne_eqb u v n)
 
 -- where an edge of the words stands
 pub data EdgeAt (at : Part) (n word next a b : ℕ) : Type 0 where

@@ -7,6 +7,7 @@ pub mod Degrees
 pub mod Links
 pub mod EdgeList
 pub mod Claimed
+pub mod Exchange
 pub mod WordEdges
 pub mod TicketJournal
 pub mod Ticket
