@@ -8,6 +8,7 @@ pub mod Links
 pub mod EdgeList
 pub mod Claimed
 pub mod Exchange
+pub mod Overlooked
 pub mod WordEdges
 pub mod TicketJournal
 pub mod Ticket
