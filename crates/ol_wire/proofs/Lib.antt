@@ -3,6 +3,8 @@ pub mod Places
 pub mod Alike
 pub mod Event
 pub mod Degrees
+pub mod LinksWalk
+pub mod LinksEnds
 pub mod Links
 pub mod WordEdges
 pub mod Ticket
