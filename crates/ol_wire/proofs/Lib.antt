@@ -5,6 +5,7 @@ pub mod Event
 pub mod Degrees
 pub mod LinksWalk
 pub mod LinksEnds
+pub mod LinksJoins
 pub mod Links
 pub mod WordEdges
 pub mod Ticket
