@@ -6,6 +6,7 @@ pub mod Degrees
 pub mod LinksWalk
 pub mod LinksEnds
 pub mod LinksJoins
+pub mod LinksNew
 pub mod Links
 pub mod WordEdges
 pub mod Ticket
