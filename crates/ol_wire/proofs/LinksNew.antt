@@ -21,6 +21,7 @@ use Rattle.ol_wire.specs.Blocks.{copies_of_f, copies_of_g, born_ref, born_field,
 use Rattle.ol_wire.specs.Edges.{edge_to, links_in}
 use Rattle.ol_wire.proofs.References.{kind_of_ref, index_of_ref}
 use Rattle.ol_wire.proofs.Event.{born_edges, new_edges}
+use Rattle.ol_wire.proofs.LinksEnds.{arity_small}
 
 -- an edge of a list, by its ends
 abbrev pub Has : ℕ → ℕ → List (ℕ × ℕ) → Type 0
@@ -189,3 +190,59 @@ module _ (z : Parts) (r : Rule) (k l : Kind) (i j t p q : ℕ) (small : i < 1677
         let d : arity l + s - copies_of_f event ≡ s = omega (arith, copies_f) in
         not_below (arity l + s) (copies_of_f event) _ _ (omega (arith, copies_f)) ∙ below (arity l + s) (copies_of_f event + copies_of_g event) _ _ (omega (arith, lt', copies_f, copies_g))
         ∙ below n (copies_of_f event) _ _ (omega (arith, lt, copies_f)) ∙ ap (λ s. wire_ref (born_wire z t n s)) d
+
+    has_field : (n s u v : ℕ) → n < 4 → s < 2 → slot_ref (place_of z (Born t n) + s) ≡ u → born_field z event t n s ≡ wire_ref v → Has u (wire_ref v) (new_edges z event t a b)
+    has_field n s u v lt lt' e e' =
+        in_right {X = ℕ × ℕ} (u, wire_ref v) links (born_edges z event t)
+        (subst (λ u. Has u (wire_ref v) (born_edges z event t)) e (subst (λ v. Has (slot_ref (place_of z (Born t n) + s)) v (born_edges z event t)) e' (has_born n s lt lt' (λ none. omega (arith, none, e')))))
+
+    pub has_field_f : (n s : ℕ) → n < arity l → s < arity k → Has (slot_ref (place_of z (Born t n) + s)) (wire_ref (born_wire z t n s)) (new_edges z event t a b)
+    has_field_f n s lt lt' = has_field n s (slot_ref (place_of z (Born t n) + s)) (born_wire z t n s) (omega (arith, lt, arity_small l)) (omega (arith, lt', arity_small k)) refl (field_f n s lt lt')
+
+    pub has_field_g : (n s : ℕ) → n < arity l → s < arity k → Has (slot_ref (place_of z (Born t (arity l + s)) + n)) (wire_ref (born_wire z t n s)) (new_edges z event t a b)
+    has_field_g n s lt lt' =
+        has_field (arity l + s) n (slot_ref (place_of z (Born t (arity l + s)) + n)) (born_wire z t n s) (omega (arith, lt', arity_small l, arity_small k)) (omega (arith, lt, arity_small l)) refl (field_g n s lt lt')
+
+  -- and there are no others
+  pub data NewEdge : ℕ → ℕ → Type 0 where
+    link_met : (n : ℕ) → is_meeting r ≡ true → n < arity k → NewEdge (a n) (b n)
+    link_f : (n : ℕ) → is_meeting r ≡ false → n < arity l → NewEdge (node_ref k i (place_of z (Born t n))) (b n)
+    link_g : (n : ℕ) → is_meeting r ≡ false → n < arity k → NewEdge (node_ref l (index_after r j) (place_of z (Born t (arity l + n)))) (a n)
+    copy_f : (n s : ℕ) → is_meeting r ≡ false → n < arity l → s < arity k → NewEdge (slot_ref (place_of z (Born t n) + s)) (wire_ref (born_wire z t n s))
+    copy_g : (n s : ℕ) → is_meeting r ≡ false → n < arity l → s < arity k → NewEdge (slot_ref (place_of z (Born t (arity l + s)) + n)) (wire_ref (born_wire z t n s))
+
+  by_ends : (u v u' v' : ℕ) → u ≡ u' → v ≡ v' → NewEdge u' v' → NewEdge u v
+  by_ends u v u' v' e e' h = subst (λ u. NewEdge u v) (sym e) (subst (λ v. NewEdge u' v) (sym e') h)
+
+  of_link : (m : Bool) → is_meeting r ≡ m → (n u v : ℕ) → n < joins_in event → u ≡ (link_of z event t a b n).one → v ≡ (link_of z event t a b n).two → NewEdge u v
+  of_link true m n u v lt e e' = by_ends u v (a n) (b n) (e ∙ one_met m n) (e' ∙ two_met m n) (link_met n m (omega (arith, lt, joins_met m)))
+  of_link false m n u v lt e e' = elim (cases_lt n (arity l)) [
+    | inl low ↦ by_ends u v (node_ref k i (place_of z (Born t n))) (b n) (e ∙ one_crossed m n ∙ ref_f m n low) (e' ∙ two_f m n low) (link_f n m low)
+    | inr high ↦
+        let o : ℕ = n - arity l in
+        let d : n ≡ arity l + o = omega (arith, high) in
+        by_ends u v (node_ref l (index_after r j) (place_of z (Born t (arity l + o)))) (a o) (e ∙ one_crossed m n ∙ ap (born_ref z event t) d ∙ ref_g m o)
+        (e' ∙ ap (λ n. (link_of z event t a b n).two) d ∙ two_g m o) (link_g o m (omega (arith, lt, joins_crossed m, high)))
+  ]
+
+  of_born : (n s u v : ℕ) → n < 4 → s < 2 → u ≡ slot_ref (place_of z (Born t n) + s) → v ≡ born_field z event t n s → born_field z event t n s ≢ 0 → NewEdge u v
+  of_born n s u v lt lt' e e' some = go (field_told (copies_of_f event) (copies_of_g event) n s (wire_ref (born_wire z t n s)) (wire_ref (born_wire z t s (n - copies_of_f event))) some)
+    where
+      go : ((n < copies_of_f event) × (s < copies_of_g event) × (born_field z event t n s ≡ wire_ref (born_wire z t n s)))
+          ⊎ ((copies_of_f event ≤ n) × (n < copies_of_f event + copies_of_g event) × (s < copies_of_f event) × (born_field z event t n s ≡ wire_ref (born_wire z t s (n - copies_of_f event)))) → NewEdge u v
+      go (inl w) =
+          let m = none_of (is_meeting r) (arity (kind_in g)) n w.0 in
+          by_ends u v (slot_ref (place_of z (Born t n) + s)) (wire_ref (born_wire z t n s)) e (e' ∙ w.2) (copy_f n s m (omega (arith, w.0, copies_f m)) (omega (arith, w.1, copies_g m)))
+      go (inr w) =
+          let m = none_of (is_meeting r) (arity (kind_in g)) s w.2 in
+          let o : ℕ = n - arity l in
+          let d : n ≡ arity l + o = omega (arith, w.0, copies_f m) in
+          let d' : n - copies_of_f event ≡ o = omega (arith, copies_f m) in
+          by_ends u v (slot_ref (place_of z (Born t (arity l + o)) + s)) (wire_ref (born_wire z t s o)) (e ∙ ap (λ n. slot_ref (place_of z (Born t n) + s)) d) (e' ∙ w.3 ∙ ap (λ o. wire_ref (born_wire z t s o)) d')
+          (copy_g s o m (omega (arith, w.2, copies_f m)) (omega (arith, w.0, w.1, copies_f m, copies_g m)))
+
+  pub new_has : (u v : ℕ) → Has u v (new_edges z event t a b) → NewEdge u v
+  new_has u v h = elim (in_cases {X = ℕ × ℕ} (u, v) links (born_edges z event t) h) [
+    | inl w ↦ let s = link_has u v w in of_link (is_meeting r) refl s.0 u v s.1 s.2 s.3
+    | inr w ↦ let s = born_has u v w in of_born s.0 s.1 u v s.2 s.3 s.4 s.5 s.6
+  ]
