@@ -7,6 +7,7 @@ pub mod LinksWalk
 pub mod LinksEnds
 pub mod LinksJoins
 pub mod LinksNew
+pub mod LinksMoved
 pub mod Links
 pub mod WordEdges
 pub mod Ticket
