@@ -1,23 +1,23 @@
 -- The ends of the ports of the nets before and after a ticket: a port has one end, an end one port.
 use Rattle.std.proofs.Common.{◌≡◌, ◌≢◌, ℕ, zero, suc, ◌+◌, ◌<◌, ◌≤◌, Bool, true, false, if◌then◌else◌, nat_eq, ◌⊎◌, inl, inr, List, refl, sym, ap, ◌∙◌, subst, arith}
-use Rattle.std.proofs.lemmas.Bool.{cases_eq, cases_lt}
-use Rattle.ol_edges.specs.Edges.{Joined, EdgeOf, ends, Contracted}
+use Rattle.std.proofs.lemmas.Bool.{cases_eq}
+use Rattle.ol_edges.specs.Edges.{Joined, EdgeOf, ends}
 use Rattle.ol_edges.proofs.Contraction.{ends_in}
-use Rattle.ol_edges.proofs.Composing.{HasEdge, first_edge}
+use Rattle.ol_edges.proofs.Composing.{first_edge}
 use Rattle.ol_edges.proofs.Joining.{joined_sym}
 use Rattle.ol_net.specs.declared.parts.Kind.{Kind}
 use Rattle.ol_net.specs.declared.parts.Kind.TheVariants as kind
 use Rattle.ol_net.specs.declared.parts.Rule.{Rule}
 use Rattle.ol_net.specs.declared.parts.Rule.TheVariants as rule
 use Rattle.ol_net.specs.Parts.{arity}
-use Rattle.ol_net.specs.Nets.{NamedNet, NamedPort, free, slot, HasNode, Linked, IsPort, IsSlotOf, IsPrincipalOf}
+use Rattle.ol_net.specs.Nets.{NamedNet, NamedPort, free, slot, HasNode, Linked, IsPort, IsSlotOf}
 use Rattle.ol_rules.specs.declared.journal.NodeName.{NodeName}
 use Rattle.ol_rules.specs.declared.journal.NodeName.TheVariants.{Init, Born}
-use Rattle.ol_rules.specs.Rewriting.{Action, meeting, crossing, is_meeting, index_after, action_of, NodeOf, left, of_f, of_g, Rewrites}
+use Rattle.ol_rules.specs.Rewriting.{meeting, crossing, is_meeting, index_after, action_of, NodeOf, left, of_f, of_g, Rewrites}
 use Rattle.ol_rules.proofs.Tests.{nat_test}
 use Rattle.ol_wire.specs.declared.layout.Parts.{Parts}
 use Rattle.ol_wire.specs.References.{node_ref, wire_ref, slot_ref}
-use Rattle.ol_wire.specs.Layout.{port_word, start_wire, block, place_of, born_wire}
+use Rattle.ol_wire.specs.Layout.{port_word, place_of}
 use Rattle.ol_wire.specs.Rule.{IsPlaced}
 use Rattle.ol_wire.specs.Stands.{IsEnd, of_port, principal, auxiliary, IsWireEnd}
 use Rattle.ol_wire.proofs.References.{node_same, slot_same}

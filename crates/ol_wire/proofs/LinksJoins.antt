@@ -1,21 +1,20 @@
 -- The joins of a ticket, by ends; what they connect with the edges before is what they connect with the links.
-use Rattle.std.proofs.Common.{◌≡◌, ◌≢◌, ℕ, zero, suc, ◌+◌, ◌<◌, ◌≤◌, Bool, true, false, if◌then◌else◌, nat_eq, ◌⊎◌, ◌↔◌, inl, inr, List, refl, sym, ap, ◌∙◌, subst, arith}
+use Rattle.std.proofs.Common.{◌≡◌, ℕ, suc, ◌+◌, ◌<◌, Bool, true, false, if◌then◌else◌, ◌⊎◌, inl, inr, List, refl, arith}
 use Rattle.ol_edges.specs.Edges.{Joined, EdgeOf, Edge}
 use Rattle.ol_net.specs.declared.parts.Kind.{Kind}
 use Rattle.ol_net.specs.declared.parts.Rule.{Rule}
 use Rattle.ol_net.specs.Parts.{arity}
-use Rattle.ol_net.specs.Nets.{NamedNet, NamedPort, slot, HasNode, Linked, IsSlotOf, IsPrincipalOf}
+use Rattle.ol_net.specs.Nets.{NamedNet, NamedPort, slot, Linked, IsSlotOf, IsPrincipalOf}
 use Rattle.ol_rules.specs.declared.journal.NodeName.{NodeName}
 use Rattle.ol_rules.specs.declared.journal.NodeName.TheVariants.{Born}
-use Rattle.ol_rules.specs.Rewriting.{Action, meeting, crossing, is_meeting, index_after, action_of, JoinOf, meet, at_f, at_g, between}
+use Rattle.ol_rules.specs.Rewriting.{meeting, crossing, is_meeting, index_after, action_of, JoinOf, meet, at_f, at_g, between}
 use Rattle.ol_rules.proofs.Alike.{meeting_alike}
 use Rattle.ol_wire.specs.declared.layout.Parts.{Parts}
 use Rattle.ol_wire.specs.References.{node_ref, slot_ref}
 use Rattle.ol_wire.specs.Layout.{place_of}
-use Rattle.ol_wire.specs.Stands.{IsEnd}
 use Rattle.ol_wire.proofs.Event.{Rewritten}
 use Rattle.ol_wire.proofs.LinksWalk.{to_ends, from_ends}
-use Rattle.ol_wire.proofs.LinksEnds.{IsKnown, StandsAt, arity_small, crosses, meets, one_end, one_port, stands_after, apart_after, born_not_x, born_not_y, ended, linked, met}
+use Rattle.ol_wire.proofs.LinksEnds.{IsKnown, StandsAt, crosses, meets, one_end, born_not_x, born_not_y, ended, linked, met}
 
 -- slots of one number; each copy with a slot; each copy of x with each of y
 pub data JoinEnds (z : Parts) (x y : NodeName) (k l : Kind) (i j t : ℕ) (r : Rule) : ℕ → ℕ → Type 0 where

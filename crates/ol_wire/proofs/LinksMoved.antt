@@ -1,7 +1,7 @@
 -- The edges before with the joins, and the edges after, join the same of what stays.
-use Rattle.std.proofs.Common.{◌≡◌, ◌≢◌, ℕ, zero, suc, ◌+◌, ◌*◌, ◌%◌, ◌==◌, ◌<◌, ◌≤◌, Bool, true, false, if◌then◌else◌, nat_eq, eq-eqb, ne_eqb, ◌⊎◌, inl, inr, List, [], ◌∷◌, ◌++◌, refl, sym, ap, ◌∙◌, subst, arith}
+use Rattle.std.proofs.Common.{◌≡◌, ◌≢◌, ℕ, zero, suc, ◌+◌, ◌*◌, ◌==◌, ◌<◌, ◌≤◌, Bool, if◌then◌else◌, nat_eq, eq-eqb, ne_eqb, ◌⊎◌, ◌↔◌, inl, inr, List, [], ◌∷◌, ◌++◌, refl, sym, ap, ◌∙◌, subst, arith}
 use Rattle.std.proofs.lemmas.Bool.{cases_eq}
-use Rattle.ol_edges.specs.Edges.{IsIn, Near, Joined, here, on, back, EdgeOf, ends, bit}
+use Rattle.ol_edges.specs.Edges.{Near, Joined, here, on, back, EdgeOf, ends, bit}
 use Rattle.ol_edges.proofs.Contraction.{ends_in}
 use Rattle.ol_edges.proofs.Joining.{joined_sym, joined_trans, joined_image}
 use Rattle.ol_net.specs.declared.parts.Kind.{Kind}
@@ -10,8 +10,7 @@ use Rattle.ol_net.specs.Parts.{arity}
 use Rattle.ol_net.specs.Nets.{NamedNet, NamedPort, slot, IsSlotOf}
 use Rattle.ol_rules.specs.declared.journal.NodeName.{NodeName}
 use Rattle.ol_rules.specs.declared.journal.NodeName.TheVariants.{Born}
-use Rattle.ol_rules.specs.Rewriting.{is_meeting, index_after}
-use Rattle.ol_rules.specs.Listed.{each}
+use Rattle.ol_rules.specs.Rewriting.{index_after}
 use Rattle.ol_rules.proofs.Lists.{in_left, in_right, in_cases, in_each, in_each_of, only}
 use Rattle.ol_rules.proofs.EndCounts.{ends_append}
 use Rattle.ol_rules.proofs.Tests.{nat_test}
@@ -23,7 +22,7 @@ use Rattle.ol_wire.proofs.Alike.{alike_ends, alike_near, alike_sym}
 use Rattle.ol_wire.proofs.Event.{Rewritten, old_edges, new_edges, field_edges}
 use Rattle.ol_wire.proofs.LinksEnds.{StandsAt, arity_small, one_port, stands_before, no_wire, slot_apart, born_not_x, born_not_y, x_not_y}
 use Rattle.ol_wire.proofs.LinksJoins.{JoinEnds, side_by_side, to_x, to_y, across, slot_of_x, slot_of_y, copy_of_x_stands, copy_of_y_stands, field_of_x_copy, field_of_y_copy, alike, BeforeWithJoins}
-use Rattle.ol_wire.proofs.LinksNew.{Has, pair_of, event, NewEdge, link_met, link_f, link_g, copy_f, copy_g, new_has, has_met, has_f, has_g, has_field_f, has_field_g}
+use Rattle.ol_wire.proofs.LinksNew.{Has, pair_of, NewEdge, link_met, link_f, link_g, copy_f, copy_g, new_has, has_met, has_f, has_g, has_field_f, has_field_g}
 
 -- the first n keys are replaced by their values; no two of them are the same
 abbrev pub replaced : ℕ → (ℕ → ℕ) → (ℕ → ℕ) → ℕ → ℕ → ℕ
@@ -211,3 +210,142 @@ module _ {z : Parts} {N M : NamedNet NodeName} {x y : NodeName} {k l : Kind} {i 
   moved_before : (u v : ℕ) → Has u v olds ⊎ Has u v rest → Joined (EdgeOf fs) (moved u) (moved v)
   moved_before u v (inl h) = moved_old u v (old_has u v h)
   moved_before u v (inr h) = near (moved u) (moved v) u v (rest_stays u (ends_in nat_eq nat_test u v rest (inl h))) (rest_stays v (ends_in nat_eq nat_test v u rest (inr h))) (after_has u v (inr h))
+
+  small_x : i < 16777216
+  small_x = omega (arith, c.indexes x k i c.faces.first)
+
+  small_y : j < 16777216
+  small_y = omega (arith, c.indexes y l j c.faces.second)
+
+  moved_join : (u v : ℕ) → JoinEnds z x y k l i j t r u v → Joined (EdgeOf fs) (moved u) (moved v)
+  moved_join u v (side_by_side {s = s} m lt) =
+      near (moved (slot_ref (place_of z x + s))) (moved (slot_ref (place_of z y + s))) (a s) (b s) (x_moved s lt) (y_moved s (omega (arith, lt, alike c m)))
+      (after_has (a s) (b s) (inl (has_met z r k l i j t (place_of z x) (place_of z y) small_x small_y a b m s lt)))
+  moved_join u v (to_x {p = s} m lt) =
+      let w = node_ref l (index_after r j) (place_of z (Born t (arity l + s))) in
+      near (moved w) (moved (slot_ref (place_of z x + s))) w (a s) (port_stays (slot (Born t (arity l + s)) 0) w (copy_of_y_stands c s m lt) (born_apart (arity l + s) 0)) (x_moved s lt)
+      (after_has w (a s) (inl (has_g z r k l i j t (place_of z x) (place_of z y) small_x small_y a b m s lt)))
+  moved_join u v (to_y {q = s} m lt) =
+      let w = node_ref k i (place_of z (Born t s)) in
+      near (moved w) (moved (slot_ref (place_of z y + s))) w (b s) (port_stays (slot (Born t s) 0) w (copy_of_x_stands c s m lt) (born_apart s 0)) (y_moved s lt)
+      (after_has w (b s) (inl (has_f z r k l i j t (place_of z x) (place_of z y) small_x small_y a b m s lt)))
+  moved_join u v (across {q = q} {p = p} m lt lt') =
+      let d = slot_ref (place_of z (Born t q) + p) in
+      let e = slot_ref (place_of z (Born t (arity l + p)) + q) in
+      let w = wire_ref (born_wire z t q p) in
+      let d_stays = port_stays (slot (Born t q) (suc p)) d (field_of_x_copy c q p m lt lt') (born_apart q (suc p)) in
+      let e_stays = port_stays (slot (Born t (arity l + p)) (suc q)) e (field_of_y_copy c q p m lt lt') (born_apart (arity l + p) (suc q)) in
+      joined_trans (near (moved d) w d w d_stays refl (after_has d w (inl (has_field_f z r k l i j t (place_of z x) (place_of z y) small_x small_y a b m q p lt lt'))))
+      (joined_sym (near (moved e) w e w e_stays refl (after_has e w (inl (has_field_g z r k l i j t (place_of z x) (place_of z y) small_x small_y a b m q p lt lt')))))
+
+  pub joined_after : (d e : ℕ) → Joined (BeforeWithJoins c) d e → Joined (EdgeOf fs) (moved d) (moved e)
+  joined_after d e joins = joined_image moved edge joins
+    where
+      listed : (u v : ℕ) → Near (olds ++ rest) u v → Joined (EdgeOf fs) (moved u) (moved v)
+      listed u v (inl h) = moved_before u v (in_cases {X = ℕ × ℕ} (u, v) olds rest h)
+      listed u v (inr h) = joined_sym (moved_before v u (in_cases {X = ℕ × ℕ} (v, u) olds rest h))
+
+      edge : (u v : ℕ) → BeforeWithJoins c u v → Joined (EdgeOf fs) (moved u) (moved v)
+      edge u v (inl h) = listed u v (alike_near es (olds ++ rest) c.from u v (inl h))
+      edge u v (inr h) = moved_join u v h
+
+  -- Back: the end of a wire that the ticket makes is moved to the field of the copy of x.
+  abbrev returned : ℕ → ℕ
+  returned u = replaced 4 (λ n. wire_ref (block z t + 10 + n)) (λ n. slot_ref (block z t + 2 + n)) u u
+
+  wire_returned : (q p : ℕ) → q < 2 → p < 2 → returned (wire_ref (born_wire z t q p)) ≡ slot_ref (place_of z (Born t q) + p)
+  wire_returned q p lt lt' =
+      let n : ℕ = 2 * q + p in
+      let d : born_wire z t q p ≡ block z t + 10 + n = omega arith in
+      let e : block z t + 2 + n ≡ place_of z (Born t q) + p = omega arith in
+      ap (λ w. returned (wire_ref w)) d
+      ∙ key_replaced 4 (λ n. wire_ref (block z t + 10 + n)) (λ n. slot_ref (block z t + 2 + n)) (wire_ref (block z t + 10 + n)) n (λ s s' e. omega (arith, e)) (omega (arith, lt, lt'))
+      ∙ ap (λ w. slot_ref w) e
+
+  kept : (u : ℕ) → ((n : ℕ) → n < 4 → u ≢ wire_ref (block z t + 10 + n)) → returned u ≡ u
+  kept u none = other_kept 4 (λ n. wire_ref (block z t + 10 + n)) (λ n. slot_ref (block z t + 2 + n)) u u none
+
+  pub port_kept : (p : NamedPort NodeName) (u : ℕ) → StandsAt c p u → returned u ≡ u
+  port_kept p u h = kept u (λ n lt e. no_wire c p u (block z t + 10 + n) h e (omega arith))
+
+  old_kept : (u v : ℕ) → Near es u v → returned u ≡ u
+  old_kept u v h = go (c.before.others u (ends_in nat_eq nat_test u v es h))
+    where
+      go : ((p : NamedPort NodeName) × IsEnd z N p u) ⊎ IsWireEnd reached u → returned u ≡ u
+      go (inl s) = port_kept s.0 u (stands_before c s.0 u s.1)
+      go (inr s) = kept u (λ n lt e. omega (arith, s.2, e, (c.old_wires s.0 s.1).1))
+
+  turned : (u v : ℕ) → Near es u v → Near es v u
+  turned u v (inl h) = inr h
+  turned u v (inr h) = inl h
+
+  walk_before : (u v : ℕ) → Near es u v → Joined (BeforeWithJoins c) u v
+  walk_before u v (inl h) = on here (inl h)
+  walk_before u v (inr h) = back here (inl h)
+
+  at_kept : (u v : ℕ) → returned u ≡ u → returned v ≡ v → Joined (BeforeWithJoins c) u v → Joined (BeforeWithJoins c) (returned u) (returned v)
+  at_kept u v e e' h = subst (λ u. Joined (BeforeWithJoins c) u (returned v)) (sym e) (subst (λ v. Joined (BeforeWithJoins c) u v) (sym e') h)
+
+  returned_before : (u v : ℕ) → Near es u v → Joined (BeforeWithJoins c) (returned u) (returned v)
+  returned_before u v h = at_kept u v (old_kept u v h) (old_kept v u (turned u v h)) (walk_before u v h)
+
+  near_x : (s : ℕ) → s < arity k → Near es (slot_ref (place_of z x + s)) (a s)
+  near_x s lt = before_has (slot_ref (place_of z x + s)) (a s) (inl (inr (x_field s lt)))
+
+  near_y : (s : ℕ) → s < arity l → Near es (slot_ref (place_of z y + s)) (b s)
+  near_y s lt = before_has (slot_ref (place_of z y + s)) (b s) (inl (inr (y_field s lt)))
+
+  a_kept : (s : ℕ) → s < arity k → returned (a s) ≡ a s
+  a_kept s lt = let u = slot_ref (place_of z x + s) in old_kept (a s) u (turned u (a s) (near_x s lt))
+
+  b_kept : (s : ℕ) → s < arity l → returned (b s) ≡ b s
+  b_kept s lt = let u = slot_ref (place_of z y + s) in old_kept (b s) u (turned u (b s) (near_y s lt))
+
+  abbrev IsNew : ℕ → ℕ → Type 0
+  IsNew = NewEdge z r k l i j t (place_of z x) (place_of z y) small_x small_y a b
+
+  returned_new : (u v : ℕ) → IsNew u v → Joined (BeforeWithJoins c) (returned u) (returned v)
+  returned_new u v (link_met n m lt) =
+      let d = slot_ref (place_of z x + n) in
+      let e = slot_ref (place_of z y + n) in
+      let lt' : n < arity l = omega (arith, lt, alike c m) in
+      at_kept (a n) (b n) (a_kept n lt) (b_kept n lt')
+      (joined_trans (walk_before (a n) d (turned d (a n) (near_x n lt))) (joined_trans (on here (inr (side_by_side m lt))) (walk_before e (b n) (near_y n lt'))))
+  returned_new u v (link_f n m lt) =
+      let w = node_ref k i (place_of z (Born t n)) in
+      at_kept w (b n) (port_kept (slot (Born t n) 0) w (copy_of_x_stands c n m lt)) (b_kept n lt)
+      (joined_trans (on here (inr (to_y m lt))) (walk_before (slot_ref (place_of z y + n)) (b n) (near_y n lt)))
+  returned_new u v (link_g n m lt) =
+      let w = node_ref l (index_after r j) (place_of z (Born t (arity l + n))) in
+      at_kept w (a n) (port_kept (slot (Born t (arity l + n)) 0) w (copy_of_y_stands c n m lt)) (a_kept n lt)
+      (joined_trans (on here (inr (to_x m lt))) (walk_before (slot_ref (place_of z x + n)) (a n) (near_x n lt)))
+  returned_new u v (copy_f n s m lt lt') =
+      let d = slot_ref (place_of z (Born t n) + s) in
+      subst (λ v. Joined (BeforeWithJoins c) (returned d) v)
+      (port_kept (slot (Born t n) (suc s)) d (field_of_x_copy c n s m lt lt') ∙ sym (wire_returned n s (omega (arith, lt, arity_small l)) (omega (arith, lt', arity_small k)))) here
+  returned_new u v (copy_g n s m lt lt') =
+      let d = slot_ref (place_of z (Born t n) + s) in
+      let e = slot_ref (place_of z (Born t (arity l + s)) + n) in
+      subst (λ u. Joined (BeforeWithJoins c) u (returned (wire_ref (born_wire z t n s)))) (sym (port_kept (slot (Born t (arity l + s)) (suc n)) e (field_of_y_copy c n s m lt lt')))
+      (subst (λ v. Joined (BeforeWithJoins c) e v) (sym (wire_returned n s (omega (arith, lt, arity_small l)) (omega (arith, lt', arity_small k)))) (back here (inr (across m lt lt'))))
+
+  pub joined_before : (d e : ℕ) → Joined (EdgeOf fs) d e → Joined (BeforeWithJoins c) (returned d) (returned e)
+  joined_before d e joins = joined_image returned edge joins
+    where
+      of_parts : (u v : ℕ) → Has u v news ⊎ Has u v rest → Joined (BeforeWithJoins c) (returned u) (returned v)
+      of_parts u v (inl h) = returned_new u v (new_has z r k l i j t (place_of z x) (place_of z y) small_x small_y a b u v h)
+      of_parts u v (inr h) = returned_before u v (before_has u v (inr h))
+
+      listed : (u v : ℕ) → Near (news ++ rest) u v → Joined (BeforeWithJoins c) (returned u) (returned v)
+      listed u v (inl h) = of_parts u v (in_cases {X = ℕ × ℕ} (u, v) news rest h)
+      listed u v (inr h) = joined_sym (of_parts v u (in_cases {X = ℕ × ℕ} (v, u) news rest h))
+
+      edge : (u v : ℕ) → EdgeOf fs u v → Joined (BeforeWithJoins c) (returned u) (returned v)
+      edge u v h = listed u v (alike_near fs (news ++ rest) c.to u v (inl h))
+
+  -- what stays is joined before, by way of the joins, where it is joined after
+  pub joined_both : (p q : NamedPort NodeName) (d e : ℕ) → StandsAt c p d → StandsAt c q e → (IsSlotOf x y p → ⊥) → (IsSlotOf x y q → ⊥) → Joined (BeforeWithJoins c) d e ↔ Joined (EdgeOf fs) d e
+  joined_both p q d e h h' n n' = (
+    (λ joins. subst (λ d. Joined (EdgeOf fs) d e) (port_stays p d h n) (subst (λ e. Joined (EdgeOf fs) (moved d) e) (port_stays q e h' n') (joined_after d e joins))),
+    (λ joins. subst (λ d. Joined (BeforeWithJoins c) d e) (port_kept p d h) (subst (λ e. Joined (BeforeWithJoins c) (returned d) e) (port_kept q e h') (joined_before d e joins))),
+  )
