@@ -4,6 +4,11 @@ pub mod Alike
 pub mod Held
 pub mod Event
 pub mod Degrees
+pub mod LinksWalk
+pub mod LinksEnds
+pub mod LinksJoins
+pub mod LinksNew
+pub mod LinksMoved
 pub mod Links
 pub mod EdgeList
 pub mod Claimed
