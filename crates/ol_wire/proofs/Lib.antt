@@ -2,6 +2,9 @@ pub mod References
 pub mod Places
 pub mod Alike
 pub mod Event
+pub mod DegreesSums
+pub mod DegreesWeights
+pub mod DegreesCounts
 pub mod Degrees
 pub mod Links
 pub mod WordEdges
