@@ -16,31 +16,35 @@ use Rattle.ol_wire.specs.Weights.{pairs}
 use Rattle.ol_wire.proofs.Alike.{end_weight, ends_weigh}
 use Rattle.ol_wire.proofs.Event.{old_edges, new_edges}
 use Rattle.ol_wire.proofs.References.{kind_of_ref, index_of_ref}
-use Rattle.ol_wire.proofs.DegreesSums.{sum_to, sum_add, is_at, among, within}
+use Rattle.ol_wire.proofs.DegreesSums.{sum_to, sum_add, is_at, among, within, ends_in_grid}
 use Rattle.ol_wire.proofs.DegreesWeights.{old_weigh, new_weigh_meeting, new_weigh_crossing}
+
+cases_bool : (c : Bool) → (c ≡ true) ⊎ (c ≡ false)
+cases_bool true = inl refl
+cases_bool false = inr refl
+
+-- the ends of a pair, and of the fields of its nodes
+abbrev pub gone : ℕ → ℕ → ℕ → ℕ → ℕ → ℕ → ℕ → ℕ
+gone f g pf pg m n u = is_at u f + is_at u g + among m (λ s. slot_ref (pf + s)) u + among n (λ s. slot_ref (pg + s)) u
+
+-- what the fields held
+abbrev pub held : ℕ → ℕ → (ℕ → ℕ) → (ℕ → ℕ) → ℕ → ℕ
+held m n a b u = among m a u + among n b u
+
+-- the ends of n copies of f and m of g that ticket t makes, and of the wires between them
+abbrev pub born : Parts → ℕ → Kind → ℕ → Kind → ℕ → ℕ → ℕ → ℕ → ℕ
+born z t k i l j n m u =
+    among n (λ q. node_ref k i (place_of z (Born t q))) u
+    + among m (λ p. node_ref l j (place_of z (Born t (n + p)))) u
+    + within n m (λ q p. slot_ref (place_of z (Born t q) + p)) u
+    + within n m (λ q p. slot_ref (place_of z (Born t (n + p)) + q)) u
+    + 2 * within n m (λ q p. wire_ref (born_wire z t q p)) u
 
 module _ (z : Parts) (k l : Kind) (i j t : ℕ) (r : Rule) (pf pg : ℕ) (a b : ℕ → ℕ) where
   abbrev event : Event
   event = record { rule = r; f = node_ref k i pf; g = node_ref l j pg }
 
-  -- the ends of the pair, and of its fields
-  abbrev pub gone : ℕ → ℕ
-  gone u = is_at u (node_ref k i pf) + is_at u (node_ref l j pg) + among (arity k) (λ s. slot_ref (pf + s)) u + among (arity l) (λ s. slot_ref (pg + s)) u
-
-  -- what the fields held
-  abbrev pub held : ℕ → ℕ
-  held u = among (arity k) a u + among (arity l) b u
-
-  -- the ends of n copies of f and m of g, and of the wires between them
-  abbrev pub born : ℕ → ℕ → ℕ → ℕ
-  born n m u =
-      among n (λ q. node_ref k i (place_of z (Born t q))) u
-      + among m (λ p. node_ref l (index_after r j) (place_of z (Born t (n + p)))) u
-      + within n m (λ q p. slot_ref (place_of z (Born t q) + p)) u
-      + within n m (λ q p. slot_ref (place_of z (Born t (n + p)) + q)) u
-      + 2 * within n m (λ q p. wire_ref (born_wire z t q p)) u
-
-  pub old_ends : (u : ℕ) → ends nat_eq u (old_edges (node_ref k i pf) (node_ref l j pg) pf pg (arity k) (arity l) a b) ≡ gone u + held u
+  pub old_ends : (u : ℕ) → ends nat_eq u (old_edges (node_ref k i pf) (node_ref l j pg) pf pg (arity k) (arity l) a b) ≡ gone (node_ref k i pf) (node_ref l j pg) pf pg (arity k) (arity l) u + held (arity k) (arity l) a b u
   old_ends u =
       let w = old_weigh (end_weight u) (node_ref k i pf) (node_ref l j pg) pf pg (arity k) (arity l) a b in
       let x = sum_add (arity k) (λ s. is_at u (slot_ref (pf + s))) (λ s. is_at u (a s)) in
@@ -74,13 +78,28 @@ module _ (z : Parts) (k l : Kind) (i j t : ℕ) (r : Rule) (pf pg : ℕ) (a b : 
     ap (λ c. if c then 0 else arity (kind_in event.f)) crosses ∙ ap arity (kind_of_ref k i pf),
   )
 
-  -- the wires of a crossing, counted at one end
-  crossed_ends : (u n m : ℕ) → sum_to n (λ q. sum_to m (λ p. end_weight u (slot_ref (place_of z (Born t q) + p)) (wire_ref (born_wire z t q p)) + end_weight u (slot_ref (place_of z (Born t (n + p)) + q)) (wire_ref (born_wire z t q p))))
-      ≡ within n m (λ q p. slot_ref (place_of z (Born t q) + p)) u + within n m (λ q p. slot_ref (place_of z (Born t (n + p)) + q)) u + 2 * within n m (λ q p. wire_ref (born_wire z t q p)) u
-  crossed_ends u n m = ?
+  ends_meeting : (u : ℕ) → arity k ≡ arity l → is_meeting r ≡ true → ends nat_eq u (new_edges z event t a b) ≡ held (arity k) (arity l) a b u
+  ends_meeting u same meets =
+      let w = ends_weigh u (new_edges z event t a b) ∙ meeting_weighs (end_weight u) meets in
+      let x = sum_add (arity k) (λ s. is_at u (a s)) (λ s. is_at u (b s)) in
+      let y : among (arity k) b u ≡ among (arity l) b u = ap (λ n. among n b u) same in
+      w ∙ x ∙ ap (λ n. among (arity k) a u + n) y
 
-  ends_meeting : (u : ℕ) → arity k ≡ arity l → is_meeting r ≡ true → ends nat_eq u (new_edges z event t a b) ≡ held u
-  ends_meeting u same meets = ?
+  ends_crossing : (u : ℕ) → i < 16777216 → j < 16777216 → is_meeting r ≡ false → ends nat_eq u (new_edges z event t a b) ≡ born z t k i l (index_after r j) (arity l) (arity k) u + held (arity k) (arity l) a b u
+  ends_crossing u si sj crosses =
+      let w = ends_weigh u (new_edges z event t a b) ∙ crossing_weighs (end_weight u) si sj crosses in
+      let x = sum_add (arity l) (λ q. is_at u (node_ref k i (place_of z (Born t q)))) (λ q. is_at u (b q)) in
+      let y = sum_add (arity k) (λ p. is_at u (node_ref l (index_after r j) (place_of z (Born t (arity l + p))))) (λ p. is_at u (a p)) in
+      let g = ends_in_grid (arity l) (arity k) (λ q p. slot_ref (place_of z (Born t q) + p)) (λ q p. slot_ref (place_of z (Born t (arity l + p)) + q)) (λ q p. wire_ref (born_wire z t q p)) u in
+      w ∙ (omega (arith, x, y, g))
 
-  ends_crossing : (u : ℕ) → i < 16777216 → j < 16777216 → is_meeting r ≡ false → ends nat_eq u (new_edges z event t a b) ≡ born (arity l) (arity k) u + held u
-  ends_crossing u si sj crosses = ?
+  pub new_ends : (u : ℕ) → (is_meeting r ≡ true → arity k ≡ arity l) → i < 16777216 → j < 16777216 → ends nat_eq u (new_edges z event t a b) ≡ born z t k i l (index_after r j) (copies_of_f event) (copies_of_g event) u + held (arity k) (arity l) a b u
+  new_ends u same si sj = elim (cases_bool (is_meeting r)) [
+    | inl meets ↦
+        let c = copies_meeting meets in
+        let none : held (arity k) (arity l) a b u ≡ born z t k i l (index_after r j) 0 0 u + held (arity k) (arity l) a b u = omega arith in
+        ends_meeting u (same meets) meets ∙ none ∙ sym (ap (λ n. born z t k i l (index_after r j) n (copies_of_g event) u + held (arity k) (arity l) a b u) c.0 ∙ ap (λ m. born z t k i l (index_after r j) 0 m u + held (arity k) (arity l) a b u) c.1)
+    | inr crosses ↦
+        let c = copies_crossing crosses in
+        ends_crossing u si sj crosses ∙ sym (ap (λ n. born z t k i l (index_after r j) n (copies_of_g event) u + held (arity k) (arity l) a b u) c.0 ∙ ap (λ m. born z t k i l (index_after r j) (arity l) m u + held (arity k) (arity l) a b u) c.1)
+  ]

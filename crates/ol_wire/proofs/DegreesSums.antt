@@ -1,5 +1,5 @@
 -- Sums over the numbers below n, and how often a number stands among those that a function gives.
-use Rattle.std.proofs.Common.{◌≡◌, ◌≢◌, ℕ, zero, suc, ◌+◌, ◌<◌, Bool, true, false, nat_eq, eq-eqb, eqb-true, ne_eqb, List, [], ◌∷◌, ◌++◌, ◌⊎◌, inl, inr, refl, sym, ap, ◌∙◌, arith}
+use Rattle.std.proofs.Common.{◌≡◌, ◌≢◌, ℕ, zero, suc, ◌+◌, ◌*◌, ◌<◌, Bool, true, false, nat_eq, eq-eqb, eqb-true, ne_eqb, List, [], ◌∷◌, ◌++◌, ◌⊎◌, inl, inr, refl, sym, ap, ◌∙◌, arith}
 use Rattle.std.proofs.lemmas.Bool.{cases_eq}
 use Rattle.ol_edges.specs.Edges.{bit}
 use Rattle.ol_rules.specs.Listed.{each}
@@ -105,3 +105,12 @@ within_some n m f u h =
     let t = sum_some n (λ q. among m (f q) u) h in
     let v = among_some m (f t.0) u t.2 in
     (t.0, v.0, t.1, v.1, v.2)
+
+-- the ends at u of edges {f q p, w q p} and {g q p, w q p}
+ends_in_row : (m : ℕ) (f g w : ℕ → ℕ) (u : ℕ) → sum_to m (λ p. is_at u (f p) + is_at u (w p) + (is_at u (g p) + is_at u (w p))) ≡ among m f u + among m g u + 2 * among m w u
+ends_in_row zero f g w u = omega arith
+ends_in_row (suc m) f g w u = omega (arith, ends_in_row m f g w u)
+
+pub ends_in_grid : (n m : ℕ) (f g w : ℕ → ℕ → ℕ) (u : ℕ) → sum_to n (λ q. sum_to m (λ p. is_at u (f q p) + is_at u (w q p) + (is_at u (g q p) + is_at u (w q p)))) ≡ within n m f u + within n m g u + 2 * within n m w u
+ends_in_grid zero m f g w u = omega arith
+ends_in_grid (suc n) m f g w u = omega (arith, ends_in_grid n m f g w u, ends_in_row m (f n) (g n) (w n) u)

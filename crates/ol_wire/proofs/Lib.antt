@@ -5,6 +5,7 @@ pub mod Event
 pub mod DegreesSums
 pub mod DegreesWeights
 pub mod DegreesCounts
+pub mod DegreesBorn
 pub mod Degrees
 pub mod Links
 pub mod WordEdges
