@@ -19,7 +19,7 @@ use Rattle.ol_wire.proofs.References.{kind_of_ref, index_of_ref}
 use Rattle.ol_wire.proofs.DegreesSums.{sum_to, sum_add, is_at, among, within, ends_in_grid}
 use Rattle.ol_wire.proofs.DegreesWeights.{old_weigh, new_weigh_meeting, new_weigh_crossing}
 
-cases_bool : (c : Bool) → (c ≡ true) ⊎ (c ≡ false)
+pub cases_bool : (c : Bool) → (c ≡ true) ⊎ (c ≡ false)
 cases_bool true = inl refl
 cases_bool false = inr refl
 
@@ -41,7 +41,7 @@ born z t k i l j n m u =
     + 2 * within n m (λ q p. wire_ref (born_wire z t q p)) u
 
 module _ (z : Parts) (k l : Kind) (i j t : ℕ) (r : Rule) (pf pg : ℕ) (a b : ℕ → ℕ) where
-  abbrev event : Event
+  abbrev pub event : Event
   event = record { rule = r; f = node_ref k i pf; g = node_ref l j pg }
 
   pub old_ends : (u : ℕ) → ends nat_eq u (old_edges (node_ref k i pf) (node_ref l j pg) pf pg (arity k) (arity l) a b) ≡ gone (node_ref k i pf) (node_ref l j pg) pf pg (arity k) (arity l) u + held (arity k) (arity l) a b u

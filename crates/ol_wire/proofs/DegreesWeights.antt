@@ -95,7 +95,7 @@ block_weighs h z t zero (suc (suc (suc m))) a b = absurd (omega arith)
 block_weighs h z t (suc zero) (suc (suc (suc m))) a b = absurd (omega arith)
 block_weighs h z t (suc (suc zero)) (suc (suc (suc m))) a b = absurd (omega arith)
 
-copies_small : (c : Bool) (k : Kind) → (if c then 0 else arity k) ≤ 2
+pub copies_small : (c : Bool) (k : Kind) → (if c then 0 else arity k) ≤ 2
 copies_small true k = omega arith
 copies_small false k = arity_small k
 

@@ -6,6 +6,7 @@ pub mod DegreesSums
 pub mod DegreesWeights
 pub mod DegreesCounts
 pub mod DegreesBorn
+pub mod DegreesNodes
 pub mod Degrees
 pub mod Links
 pub mod WordEdges
