@@ -1,5 +1,5 @@
 -- Each end that a ticket makes comes once, that of a wire twice, and no other end comes.
-use Rattle.std.proofs.Common.{◌≡◌, ◌≢◌, ℕ, suc, ◌+◌, ◌-◌, ◌*◌, ◌<◌, ◌≤◌, List, ◌⊎◌, inl, inr, refl, sym, ap, ◌∙◌, arith}
+use Rattle.std.proofs.Common.{◌≡◌, ℕ, ◌+◌, ◌<◌, ◌≤◌, inl, inr, refl, sym, arith}
 use Rattle.std.proofs.lemmas.Bool.{cases_eq}
 use Rattle.ol_net.specs.declared.parts.Kind.{Kind}
 use Rattle.ol_rules.specs.declared.journal.NodeName.TheVariants.{Born}
@@ -7,10 +7,17 @@ use Rattle.ol_wire.specs.declared.layout.Parts.{Parts}
 use Rattle.ol_wire.specs.References.{node_ref, wire_ref, slot_ref}
 use Rattle.ol_wire.specs.Layout.{block, place_of, born_wire}
 use Rattle.ol_wire.proofs.References.{node_same, slot_same, wire_same, node_not_wire, node_not_slot, wire_not_slot}
-use Rattle.ol_wire.proofs.DegreesSums.{is_at, among, among_none, among_one, among_some, within, within_none, within_one, within_some}
+use Rattle.ol_wire.proofs.DegreesSums.{among, among_none, among_one, among_some, within, within_none, within_one, within_some}
 use Rattle.ol_wire.proofs.DegreesCounts.{born}
 
-module _ (z : Parts) (t : ℕ) (k l : Kind) (i j n m : ℕ) (si : i < 16777216) (sj : j < 16777216) (sn : n ≤ 2) (sm : m ≤ 2) where
+-- indexes that a reference has room for, and at most two copies of each
+pub record Few (i j n m : ℕ) : Type 0 where
+  pub index_f : i < 16777216
+  pub index_g : j < 16777216
+  pub copies_f : n ≤ 2
+  pub copies_g : m ≤ 2
+
+module _ (z : Parts) (t : ℕ) (k l : Kind) (i j n m : ℕ) (few : Few i j n m) where
   abbrev pub f_copy : ℕ → ℕ
   f_copy q = node_ref k i (place_of z (Born t q))
 
@@ -27,15 +34,12 @@ module _ (z : Parts) (t : ℕ) (k l : Kind) (i j n m : ℕ) (si : i < 16777216) 
   abbrev pub wire_of : ℕ → ℕ → ℕ
   wire_of q p = wire_ref (born_wire z t q p)
 
-  abbrev comes : ℕ → ℕ
-  comes u = born z t k i l j n m u
-
   -- nodes
   pub born_f : (q : ℕ) → q < n → born z t k i l j n m (f_copy q) ≡ 1
   born_f q b =
       let u = f_copy q in
-      let c = among_one n q f_copy u b refl (λ r h e. let s = node_same k k i i (place_of z (Born t q)) (place_of z (Born t r)) si si e in omega (arith, s.2)) in
-      let d = among_none m g_copy u (λ p h e. let s = node_same k l i j (place_of z (Born t q)) (place_of z (Born t (n + p))) si sj e in omega (arith, s.2, b)) in
+      let c = among_one n q f_copy u b refl (λ r h e. let s = node_same k k i i (place_of z (Born t q)) (place_of z (Born t r)) few.index_f few.index_f e in omega (arith, s.2)) in
+      let d = among_none m g_copy u (λ p h e. let s = node_same k l i j (place_of z (Born t q)) (place_of z (Born t (n + p))) few.index_f few.index_g e in omega (arith, s.2, b)) in
       let f = within_none n m f_slot u (λ r p h v e. node_not_slot k i (place_of z (Born t q)) (place_of z (Born t r) + p) e) in
       let g = within_none n m g_slot u (λ r p h v e. node_not_slot k i (place_of z (Born t q)) (place_of z (Born t (n + p)) + r) e) in
       let w = within_none n m wire_of u (λ r p h v e. node_not_wire k i (place_of z (Born t q)) (born_wire z t r p) e) in
@@ -45,8 +49,8 @@ module _ (z : Parts) (t : ℕ) (k l : Kind) (i j n m : ℕ) (si : i < 16777216) 
   born_g p b =
       let u = g_copy p in
       let at = place_of z (Born t (n + p)) in
-      let c = among_none n f_copy u (λ r h e. let s = node_same l k j i at (place_of z (Born t r)) sj si e in omega (arith, s.2, h)) in
-      let d = among_one m p g_copy u b refl (λ r h e. let s = node_same l l j j at (place_of z (Born t (n + r))) sj sj e in omega (arith, s.2)) in
+      let c = among_none n f_copy u (λ r h e. let s = node_same l k j i at (place_of z (Born t r)) few.index_g few.index_f e in omega (arith, s.2, h)) in
+      let d = among_one m p g_copy u b refl (λ r h e. let s = node_same l l j j at (place_of z (Born t (n + r))) few.index_g few.index_g e in omega (arith, s.2)) in
       let f = within_none n m f_slot u (λ r p h v e. node_not_slot l j at (place_of z (Born t r) + p) e) in
       let g = within_none n m g_slot u (λ r p h v e. node_not_slot l j at (place_of z (Born t (n + p)) + r) e) in
       let w = within_none n m wire_of u (λ r p h v e. node_not_wire l j at (born_wire z t r p) e) in
@@ -91,8 +95,8 @@ module _ (z : Parts) (t : ℕ) (k l : Kind) (i j n m : ℕ) (si : i < 16777216) 
   pub node_unborn : (o : Kind) (h at : ℕ) → h < 16777216 → at < block z t → born z t k i l j n m (node_ref o h at) ≡ 0
   node_unborn o h at sh lt =
       let u = node_ref o h at in
-      let c = among_none n f_copy u (λ r b e. let s = node_same o k h i at (place_of z (Born t r)) sh si e in omega (arith, s.2, lt)) in
-      let d = among_none m g_copy u (λ r b e. let s = node_same o l h j at (place_of z (Born t (n + r))) sh sj e in omega (arith, s.2, lt)) in
+      let c = among_none n f_copy u (λ r b e. let s = node_same o k h i at (place_of z (Born t r)) sh few.index_f e in omega (arith, s.2, lt)) in
+      let d = among_none m g_copy u (λ r b e. let s = node_same o l h j at (place_of z (Born t (n + r))) sh few.index_g e in omega (arith, s.2, lt)) in
       let f = within_none n m f_slot u (λ r s b v e. node_not_slot o h at (place_of z (Born t r) + s) e) in
       let g = within_none n m g_slot u (λ r s b v e. node_not_slot o h at (place_of z (Born t (n + s)) + r) e) in
       let w = within_none n m wire_of u (λ r s b v e. node_not_wire o h at (born_wire z t r s) e) in

@@ -1,5 +1,5 @@
 -- The nodes of the net after a ticket: those that stay, and the copies.
-use Rattle.std.proofs.Common.{◌≡◌, ◌≢◌, ℕ, suc, ◌+◌, ◌-◌, ◌<◌, ◌≤◌, if◌then◌else◌, Bool, true, false, List, ◌⊎◌, inl, inr, ◌↔◌, refl, sym, ap, ◌∙◌, subst, arith}
+use Rattle.std.proofs.Common.{◌≡◌, ◌≢◌, ℕ, ◌+◌, ◌<◌, ◌≤◌, if◌then◌else◌, Bool, false, List, ◌⊎◌, inl, inr, ◌↔◌, refl, sym, ap, ◌∙◌, subst, arith}
 use Rattle.ol_net.specs.declared.parts.Kind.{Kind}
 use Rattle.ol_net.specs.declared.parts.Rule.{Rule}
 use Rattle.ol_net.specs.declared.parts.Rule.TheVariants as rule
@@ -7,7 +7,7 @@ use Rattle.ol_net.specs.Nets.{NamedNet, HasNode}
 use Rattle.ol_net.specs.Parts.{arity}
 use Rattle.ol_rules.specs.declared.journal.NodeName.{NodeName}
 use Rattle.ol_rules.specs.declared.journal.NodeName.TheVariants.{Born}
-use Rattle.ol_rules.specs.Rewriting.{Action, meeting, crossing, is_meeting, index_after, action_of, NodeOf, left, of_f, of_g}
+use Rattle.ol_rules.specs.Rewriting.{meeting, crossing, is_meeting, index_after, action_of, NodeOf, left, of_f, of_g}
 use Rattle.ol_wire.specs.declared.layout.Parts.{Parts}
 use Rattle.ol_wire.specs.Layout.{place_of}
 use Rattle.ol_wire.specs.Blocks.{copies_of_f, copies_of_g}
@@ -37,10 +37,10 @@ action_crossing r j crosses = ap (λ c. if c then meeting else crossing (index_a
 module _ (z : Parts) (N M : NamedNet NodeName) (x y : NodeName) (k l : Kind) (i j t : ℕ) (r : Rule) (a b : ℕ → ℕ) (es fs rest : List (ℕ × ℕ)) (reached reached' : ℕ → Bool)
     (c : Rewritten z N M x y k l i j t r a b es fs rest reached reached') where
   abbrev pub copies_f : ℕ
-  copies_f = copies_of_f (event z k l i j t r (place_of z x) (place_of z y) a b)
+  copies_f = copies_of_f (event r k i (place_of z x) l j (place_of z y))
 
   abbrev pub copies_g : ℕ
-  copies_g = copies_of_g (event z k l i j t r (place_of z x) (place_of z y) a b)
+  copies_g = copies_of_g (event r k i (place_of z x) l j (place_of z y))
 
   abbrev NodesBy : Kind → ℕ → Kind → ℕ → Type 0
   NodesBy k i l j = (u : NodeName) (m : Kind) (n : ℕ) → HasNode M u m n ↔ NodeOf N (λ place. Born t place) x y k i l (action_of r j) u m n

@@ -1,5 +1,5 @@
 -- What the edges that a ticket takes away weigh, and those that it puts in.
-use Rattle.std.proofs.Common.{◌≡◌, ◌≢◌, ℕ, zero, suc, ◌+◌, ◌-◌, ◌*◌, ◌<◌, ◌≤◌, ◌==◌, nat_eq, nat_lt, lt-ltb, ne_eqb, if◌then◌else◌, Bool, true, false, List, [], ◌∷◌, ◌++◌, map, refl, sym, ap, ◌∙◌, subst, arith}
+use Rattle.std.proofs.Common.{◌≡◌, ℕ, zero, suc, ◌+◌, ◌-◌, ◌<◌, ◌≤◌, nat_eq, nat_lt, lt-ltb, ne_eqb, if◌then◌else◌, Bool, true, false, List, [], ◌∷◌, ◌++◌, refl, ap, ◌∙◌, arith}
 use Rattle.std.proofs.lemmas.Bool.Decides.{nat_tests}
 use Rattle.ol_net.specs.declared.parts.Kind.{Kind}
 use Rattle.ol_net.specs.declared.parts.Kind.TheVariants as kind
@@ -12,12 +12,12 @@ use Rattle.ol_wire.specs.declared.view.Link.{Link}
 use Rattle.ol_wire.specs.References.{kind_in, index_in, node_ref, wire_ref, slot_ref}
 use Rattle.ol_wire.specs.Layout.{place_of, born_wire}
 use Rattle.ol_wire.specs.Events.{Event}
-use Rattle.ol_wire.specs.Blocks.{copies_of_f, copies_of_g, born_ref, born_field, joins_in, link_of, links_of}
+use Rattle.ol_wire.specs.Blocks.{copies_of_f, copies_of_g, born_field, joins_in, link_of, links_of}
 use Rattle.ol_wire.specs.Edges.{edge_to, links_in}
 use Rattle.ol_wire.specs.Weights.{pairs}
 use Rattle.ol_wire.proofs.Alike.{pairs_append}
 use Rattle.ol_wire.proofs.Event.{field_edges, old_edges, born_edges, new_edges}
-use Rattle.ol_wire.proofs.DegreesSums.{sum_to, sum_same, sum_split, sum_none, pairs_each}
+use Rattle.ol_wire.proofs.DegreesSums.{sum_to, sum_same, sum_split, pairs_each}
 
 pub arity_small : (k : Kind) → arity k ≤ 2
 arity_small kind.Lam = omega arith
