@@ -3,6 +3,11 @@ pub mod Places
 pub mod Alike
 pub mod Held
 pub mod Event
+pub mod DegreesSums
+pub mod DegreesWeights
+pub mod DegreesCounts
+pub mod DegreesBorn
+pub mod DegreesNodes
 pub mod Degrees
 pub mod LinksWalk
 pub mod LinksEnds
