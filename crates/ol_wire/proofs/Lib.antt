@@ -5,6 +5,7 @@ pub mod Event
 pub mod Degrees
 pub mod Links
 pub mod EdgeList
+pub mod PlaceSums
 pub mod WordEdges
 pub mod Ticket
 pub mod Steps
