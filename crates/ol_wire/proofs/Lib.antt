@@ -6,6 +6,7 @@ pub mod Degrees
 pub mod Links
 pub mod EdgeList
 pub mod PlaceSums
+pub mod NetBut
 pub mod WordEdges
 pub mod Ticket
 pub mod Steps
