@@ -19,6 +19,13 @@ pub not_in : (p q : ℕ) (ps : List ℕ) → p ≢ q → (IsIn p ps → ⊥) →
 not_in p q ps d n (inl e) = d e
 not_in p q ps d n (inr h) = n h
 
+pub five_apart : (p q r s t : ℕ) → p ≢ q → p ≢ r → p ≢ s → p ≢ t → q ≢ r → q ≢ s → q ≢ t → r ≢ s → r ≢ t → s ≢ t → AreApart (p ∷ q ∷ r ∷ s ∷ t ∷ [])
+five_apart p q r s t pq pr ps pt qr qs qt rs rt st =
+    let none : (u : ℕ) → IsIn u [] → ⊥ = λ u h. h in (
+      not_in p q (r ∷ s ∷ t ∷ []) pq (not_in p r (s ∷ t ∷ []) pr (not_in p s (t ∷ []) ps (not_in p t [] pt (none p)))),
+      (not_in q r (s ∷ t ∷ []) qr (not_in q s (t ∷ []) qs (not_in q t [] qt (none q))), (not_in r s (t ∷ []) rs (not_in r t [] rt (none r)), (not_in s t [] st (none s), (none t, tt)))),
+    )
+
 pub sum_agree : (f g : ℕ → ℕ) (n : ℕ) → ((w : ℕ) → w < n → f w ≡ g w) → sum_to f n ≡ sum_to g n
 sum_agree f g zero h = refl
 sum_agree f g (suc n) h = omega (arith, sum_agree f g n (λ w lt. h w (omega arith)), h n (omega arith))
@@ -61,8 +68,13 @@ put_else g p x w d = ap (λ b. if b then x else g w) (ne_eqb w p d)
 pub sum_but : (f g : ℕ → ℕ) (n : ℕ) (ps : List ℕ) → AreApart ps → ((p : ℕ) → IsIn p ps → p < n) → ((w : ℕ) → w < n → (IsIn w ps → ⊥) → f w ≡ g w) → sum_to f n + total g ps ≡ sum_to g n + total f ps
 sum_but f g n [] a b h = omega (arith, sum_agree f g n (λ w lt. h w lt (λ i. i)))
 sum_but f g n (p ∷ ps) a b h =
-    omega (arith, sum_but f (put g p (f p)) n ps a.1 (λ q i. b q (inr i)) agree, sum_one (put g p (f p)) g n p (b p (inl refl)) (λ w lt d. put_else g p (f p) w d), put_here g p (f p) p refl,
-    total_same (put g p (f p)) g ps (λ q i. put_else g p (f p) q (λ e. a.0 (subst (λ q. IsIn q ps) e i))))
+    omega (
+      arith,
+      sum_but f (put g p (f p)) n ps a.1 (λ q i. b q (inr i)) agree,
+      sum_one (put g p (f p)) g n p (b p (inl refl)) (λ w lt d. put_else g p (f p) w d),
+      put_here g p (f p) p refl,
+      total_same (put g p (f p)) g ps (λ q i. put_else g p (f p) q (λ e. a.0 (subst (λ q. IsIn q ps) e i))),
+    )
   where
     agree : (w : ℕ) → w < n → (IsIn w ps → ⊥) → f w ≡ put g p (f p) w
     agree w lt k = elim (cases_eq w p) [
@@ -75,8 +87,17 @@ pub sum_within : (f g : ℕ → ℕ) (b m n : ℕ) → b + m ≤ n → ((w : ℕ
     → sum_to f n + sum_to (λ j. g (b + j)) m ≡ sum_to g n + sum_to (λ j. f (b + j)) m
 sum_within f g b m n le below above =
     let e : b + m + (n - (b + m)) ≡ n = omega arith in
-    omega (arith, ap (sum_to f) e, ap (sum_to g) e, sum_split f (b + m) (n - (b + m)), sum_split g (b + m) (n - (b + m)), sum_split f b m, sum_split g b m, sum_agree f g b below,
-    sum_agree (λ j. f (b + m + j)) (λ j. g (b + m + j)) (n - (b + m)) (λ j lt. above (b + m + j) (omega arith) (omega arith)))
+    omega (
+      arith,
+      ap (sum_to f) e,
+      ap (sum_to g) e,
+      sum_split f (b + m) (n - (b + m)),
+      sum_split g (b + m) (n - (b + m)),
+      sum_split f b m,
+      sum_split g b m,
+      sum_agree f g b below,
+      sum_agree (λ j. f (b + m + j)) (λ j. g (b + m + j)) (n - (b + m)) (λ j lt. above (b + m + j) (omega arith) (omega arith)),
+    )
 
 -- the weight of rows
 pub pairs_each : (h : ℕ → ℕ → ℕ) (n : ℕ) (rows : ℕ → List (ℕ × ℕ)) → pairs h (each n rows) ≡ sum_to (λ s. pairs h (rows s)) n
