@@ -8,6 +8,7 @@ pub mod EdgeList
 pub mod PlaceSums
 pub mod NetBut
 pub mod WordEdges
+pub mod WordsAfter
 pub mod Ticket
 pub mod Steps
 pub mod Opening
