@@ -1,12 +1,11 @@
 -- A net without two of its nodes.
-use Rattle.std.proofs.Common.{◌≡◌, ◌≢◌, Bool, true, false, ◌||◌, if◌then◌else◌, List, [], ◌∷◌, ◌⊎◌, inl, inr, refl, sym, ap, ◌∙◌}
-use Rattle.std.proofs.lemmas.Bool.{cases_Bool, or_left, or_right, or_parts, or_from}
+use Rattle.std.proofs.Common.{◌≡◌, ◌≢◌, ℕ, Bool, true, false, ◌||◌, if◌then◌else◌, List, [], ◌∷◌, ◌⊎◌, inl, inr, refl, sym, ap, ◌∙◌}
+use Rattle.std.proofs.lemmas.Bool.{cases_Bool, or_parts, or_from}
 use Rattle.ol_net.specs.declared.parts.Kind.{Kind}
 use Rattle.ol_net.specs.Nets.{NamedNet}
 use Rattle.ol_rules.specs.declared.journal.NodeName.{NodeName}
 use Rattle.ol_wire.specs.Edges.{same_name, is_listed, is_live}
 use Rattle.ol_wire.proofs.EdgeList.{same_name_true, same_name_tells, name_apart}
-use Prim.Native.Nat.{ℕ}
 
 -- the nodes that aren't named x or y
 abbrev pub nodes_but : NodeName → NodeName → List (NodeName × Kind × ℕ) → List (NodeName × Kind × ℕ)

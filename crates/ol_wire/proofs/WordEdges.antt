@@ -1,23 +1,21 @@
 -- The edges of the words before and after a ticket.
-use Rattle.std.proofs.Common.{◌≡◌, ◌≢◌, ℕ, zero, suc, ◌+◌, ◌==◌, ◌<◌, ◌≤◌, Bool, true, false, if◌then◌else◌, ne_eqb, eq-eqb, get_or-set_other, get_or-set_same, length, List, [], ◌∷◌, ◌++◌, slice_index, slice_set, ◌⊎◌, inl, inr, ◌↔◌, refl, sym, ap, ◌∙◌, subst, arith}
-use Rattle.std.proofs.lemmas.Bool.{cases_eq, cases_lt, cases_Bool}
+use Rattle.std.proofs.Common.{◌≡◌, ◌≢◌, ℕ, zero, suc, ◌+◌, ◌==◌, ◌<◌, ◌≤◌, Bool, true, false, if◌then◌else◌, ne_eqb, get_or-set_other, List, [], ◌∷◌, ◌++◌, slice_index, slice_set, ◌⊎◌, inl, inr, refl, sym, ap, ◌∙◌, arith}
 use Rattle.ol_edges.specs.Edges.{IsIn}
 use Rattle.ol_net.specs.declared.parts.Kind.{Kind}
 use Rattle.ol_net.specs.Parts.{arity}
 use Rattle.ol_net.specs.Nets.{NamedNet, HasNode}
 use Rattle.ol_rules.specs.declared.journal.NodeName.{NodeName}
 use Rattle.ol_rules.specs.declared.journal.NodeName.TheVariants.{Init, Born}
-use Rattle.ol_rules.specs.Listed.{each}
 use Rattle.ol_rules.proofs.Born.{at_most_two}
 use Rattle.ol_wire.specs.declared.layout.Parts.{Parts}
 use Rattle.ol_wire.specs.References.{node_ref, wire_ref, slot_ref}
-use Rattle.ol_wire.specs.Layout.{Part, ticket, port, field, wire, between, left, right, entry, past, part_of, block, size, place_of}
+use Rattle.ol_wire.specs.Layout.{Part, ticket, port, field, wire, between, left, right, entry, part_of, size, place_of}
 use Rattle.ol_wire.specs.Weights.{total, pairs, Even}
 use Rattle.ol_wire.specs.Edges.{is_live, edge_to, edge_in, edges_in}
 use Rattle.ol_wire.specs.Rule.{IsPlaced}
 use Rattle.ol_wire.proofs.Places.{part_field, is_left, place_before, place_same, At, at_ticket, at_port, at_field, at_wire, at_between, at_left, at_right, at_entry, at_past, where_is}
 use Rattle.ol_wire.proofs.Alike.{Alike, pairs_append}
-use Rattle.ol_wire.proofs.Event.{field_edges, old_edges, born_edges}
+use Rattle.ol_wire.proofs.Event.{field_edges, old_edges}
 use Rattle.ol_wire.proofs.EdgeList.{word_edge, live_there}
 use Rattle.ol_wire.proofs.PlaceSums.{sum_to, AreApart, five_apart, sum_longer, sum_but, pairs_each}
 use Rattle.ol_wire.proofs.NetBut.{net_but, first_gone, second_gone, others_stay}

@@ -1,5 +1,5 @@
 -- The edges of the words after a ticket are those of its block and those of the net without the pair.
-use Rattle.std.proofs.Common.{◌≡◌, ◌≢◌, ℕ, zero, suc, ◌+◌, ◌-◌, ◌*◌, ◌/◌, ◌%◌, ◌==◌, ◌<◌, ◌≤◌, Bool, true, false, nat_lt, if◌then◌else◌, get_or-set_other, List, [], ◌∷◌, ◌++◌, slice_index, slice_set, ◌⊎◌, inl, inr, ◌↔◌, refl, sym, ap, ◌∙◌, subst, arith}
+use Rattle.std.proofs.Common.{◌≡◌, ◌≢◌, ℕ, zero, suc, ◌+◌, ◌-◌, ◌*◌, ◌/◌, ◌%◌, ◌==◌, ◌<◌, ◌≤◌, Bool, true, false, nat_lt, if◌then◌else◌, get_or-set_other, List, [], ◌∷◌, ◌++◌, slice_index, slice_set, ◌⊎◌, inl, inr, ◌↔◌, refl, sym, ap, ◌∙◌, arith}
 use Rattle.std.proofs.lemmas.Bool.{cases_eq, cases_lt, cases_Bool, false≢true}
 use Rattle.std.proofs.lemmas.Bool.Decides.{nat_tests}
 use Rattle.ol_net.specs.declared.parts.Kind.{Kind}
@@ -8,15 +8,15 @@ use Rattle.ol_net.specs.Parts.{arity}
 use Rattle.ol_net.specs.Nets.{NamedNet, HasNode}
 use Rattle.ol_rules.specs.declared.journal.NodeName.{NodeName}
 use Rattle.ol_rules.specs.declared.journal.NodeName.TheVariants.{Init, Born}
-use Rattle.ol_rules.specs.Rewriting.{Action, meeting, crossing, is_meeting, index_after, action_of, NodeOf, left as was_there, of_f, of_g}
+use Rattle.ol_rules.specs.Rewriting.{meeting, crossing, is_meeting, index_after, action_of, NodeOf, left as was_there, of_f, of_g}
 use Rattle.ol_rules.specs.Listed.{each}
 use Rattle.ol_wire.specs.declared.layout.Parts.{Parts}
 use Rattle.ol_wire.specs.References.{kind_in, node_ref, wire_ref, slot_ref}
-use Rattle.ol_wire.specs.Layout.{Part, ticket, port, field, wire, between, left, right, entry, past, part_of, block, size, place_of, born_wire}
-use Rattle.ol_wire.specs.Weights.{pairs, Even}
+use Rattle.ol_wire.specs.Layout.{ticket, port, field, wire, between, left, right, entry, part_of, block, size, place_of, born_wire}
+use Rattle.ol_wire.specs.Weights.{pairs}
 use Rattle.ol_wire.specs.Events.{Event}
 use Rattle.ol_wire.specs.Blocks.{copies_of_f, copies_of_g, born_field, block_words}
-use Rattle.ol_wire.specs.Edges.{is_live, edge_to, edge_in, edges_in}
+use Rattle.ol_wire.specs.Edges.{is_live, edge_to, edges_in}
 use Rattle.ol_wire.specs.Rule.{IsPlaced}
 use Rattle.ol_wire.proofs.References.{kind_of_ref}
 use Rattle.ol_wire.proofs.Places.{part_field, part_entry, At, at_ticket, at_port, at_field, at_wire, at_between, at_left, at_right, at_entry, at_past, where_is}
@@ -30,6 +30,9 @@ use Rattle.ol_wire.proofs.WordEdges.{edges_weigh, edge_as, emptied}
 -- the event of a pair
 abbrev pub pair_event : Parts → Rule → NodeName → NodeName → Kind → Kind → ℕ → ℕ → Event
 pair_event z r x y k l i j = record { rule = r; f = node_ref k i (place_of z x); g = node_ref l j (place_of z y) }
+
+pub event_is : (z : Parts) (e : Event) (x y : NodeName) (k l : Kind) (i j : ℕ) → e.f ≡ node_ref k i (place_of z x) → e.g ≡ node_ref l j (place_of z y) → e ≡ pair_event z e.rule x y k l i j
+event_is z e x y k l i j f g = λ n. record { rule = e.rule; f = f n; g = g n }
 
 -- M is N after ticket t, which rewrote x and y. In `less` the pair is gone and no word of the block is written; in `full` the block's first ten
 -- words stand, and word 0 may have changed.
