@@ -16,10 +16,13 @@ pub mod LinksNew
 pub mod LinksMoved
 pub mod Links
 pub mod EdgeList
+pub mod PlaceSums
+pub mod NetBut
 pub mod Claimed
 pub mod Exchange
 pub mod Overlooked
 pub mod WordEdges
+pub mod WordsAfter
 pub mod TicketJournal
 pub mod Ticket
 pub mod Steps
