@@ -27,7 +27,6 @@ pub mod TicketJournal
 pub mod TicketLists
 pub mod TicketWords
 pub mod TicketSeats
-pub mod TicketReached
 pub mod Ticket
 pub mod Steps
 pub mod Opening

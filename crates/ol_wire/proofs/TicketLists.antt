@@ -1,6 +1,6 @@
 -- Sums over views of which one changes, and words that are written one after another.
-use Rattle.std.proofs.Common.{◌≡◌, ◌≢◌, ℕ, zero, suc, ◌+◌, ◌<◌, ◌≤◌, ◌==◌, if◌then◌else◌, nat_eq, eq-eqb, ne_eqb, eqb-true, ◌⊎◌, inl, inr, Bool, true, false, Option, Some, None, List, [], ◌∷◌, ◌++◌, length, get_or, set, slice_get, sym, refl, ap, ◌∙◌, subst, arith, length-set, length-append, get_or-set_other, get_or-set_same}
-use Rattle.std.proofs.lemmas.Bool.{cases_eq, cases_lt}
+use Rattle.std.proofs.Common.{◌≡◌, ◌≢◌, ℕ, zero, suc, ◌+◌, ◌<◌, ◌≤◌, if◌then◌else◌, eq-eqb, ne_eqb, ◌⊎◌, inl, inr, None, List, [], ◌∷◌, ◌++◌, length, get_or, set, slice_get, sym, refl, ap, ◌∙◌, subst, arith, length-set, get_or-set_other, get_or-set_same}
+use Rattle.std.proofs.lemmas.Bool.{cases_eq}
 use mathlib.Core.Option.{some, some-injective, some-ne-none}
 use lib.ListN.{get_elem?}
 use Rattle.atomic_table.proofs.Lists.{at_set}
@@ -28,30 +28,11 @@ pub numbered_more : {A : Type 0} (h : ℕ → A → ℕ) (k : ℕ) (l : List A) 
 numbered_more h k [] x = let e : k + 0 ≡ k = omega arith in omega (arith, ap (λ n. h n x) e)
 numbered_more h k (y ∷ ys) x = let e : suc k + length ys ≡ k + suc (length ys) = omega arith in omega (arith, numbered_more h (suc k) ys x, ap (λ n. h n x) e)
 
--- what stands in a list with one member more
-pub more_before : {A : Type 0} (l : List A) (x : A) (n : ℕ) → n < length l → slice_get (l ++ x ∷ []) n ≡ slice_get l n
-more_before [] x n lt = absurd (omega arith)
-more_before (y ∷ ys) x zero lt = refl
-more_before (y ∷ ys) x (suc n) lt = more_before ys x n (omega arith)
-
-pub more_at : {A : Type 0} (l : List A) (x : A) → slice_get (l ++ x ∷ []) (length l) ≡ Some x
-more_at [] x = refl
-more_at (y ∷ ys) x = more_at ys x
-
-pub more_past : {A : Type 0} (l : List A) (x : A) (n : ℕ) → length l < n → slice_get (l ++ x ∷ []) n ≡ None
-more_past [] x zero lt = absurd (omega arith)
-more_past [] x (suc n) lt = refl
-more_past (y ∷ ys) x zero lt = absurd (omega arith)
-more_past (y ∷ ys) x (suc n) lt = more_past ys x n (omega arith)
-
+-- past its end a list has nothing
 pub get_past : {A : Type 0} (l : List A) (n : ℕ) → length l ≤ n → slice_get l n ≡ None
 get_past [] n le = refl
 get_past (x ∷ xs) zero le = absurd (omega arith)
 get_past (x ∷ xs) (suc n) le = get_past xs n (omega arith)
-
-pub length_more : {A : Type 0} (l : List A) (x : A) → length (l ++ x ∷ []) ≡ length l + 1
-length_more [] x = refl
-length_more (y ∷ ys) x = omega (arith, length_more ys x)
 
 module _ (h : ℕ → ℕ → ℕ) where
   -- a word outside is set

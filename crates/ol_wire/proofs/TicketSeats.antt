@@ -1,6 +1,6 @@
 -- The seats after a ticket below the fuel.
-use Rattle.std.proofs.Common.{◌≡◌, ◌≢◌, ℕ, zero, suc, ◌+◌, ◌-◌, ◌<◌, ◌≤◌, if◌then◌else◌, nat_eq, nat_lt, lt-ltb, ◌⊎◌, inl, inr, Bool, true, false, Option, Some, None, List, [], ◌∷◌, ◌++◌, map, length, slice_index, slice_get, sym, refl, ap, ◌∙◌, subst, arith}
-use Rattle.std.proofs.lemmas.Bool.{cases_eq, cases_lt, cases_Bool}
+use Rattle.std.proofs.Common.{◌≡◌, ◌≢◌, ℕ, suc, ◌+◌, ◌-◌, ◌/◌, ◌%◌, ◌<◌, ◌≤◌, if◌then◌else◌, nat_lt, lt-ltb, inl, inr, Bool, true, false, List, [], ◌∷◌, ◌++◌, length, slice_index, slice_get, sym, refl, ap, ◌∙◌, subst, arith}
+use Rattle.std.proofs.lemmas.Bool.{cases_lt}
 use Rattle.std.proofs.lemmas.Bool.Decides.{nat_tests}
 use mathlib.Core.Option.{some}
 use lib.ListN.{get_elem?}
@@ -14,34 +14,33 @@ use Rattle.ol_rules.specs.declared.journal.NodeName.TheVariants.{Born}
 use Rattle.ol_rules.specs.declared.journal.Entry.{Entry}
 use Rattle.ol_rules.specs.Rewriting.{Action, is_meeting, index_after, action_of, NodeOf}
 use Rattle.ol_rules.specs.Rewriting as rewriting
-use Rattle.ol_rules.specs.Runs.{HasActive}
-use Rattle.ol_rules.specs.Listed.{each}
 use Rattle.ol_rules.proofs.Lists.{in_each}
 use Rattle.ol_wire.specs.declared.layout.Parts.{Parts}
 use Rattle.ol_wire.specs.declared.plan.Plan.{Plan}
 use Rattle.ol_wire.specs.declared.view.Link.{Link}
 use Rattle.ol_wire.specs.declared.view.View.{View}
-use Rattle.ol_wire.specs.References.{kind_in, index_in, place_in, node_ref}
-use Rattle.ol_wire.specs.Layout.{Part, ticket, port, field, wire, between, left, right, entry, past, part_of, block, size, place_of}
+use Rattle.ol_wire.specs.References.{kind_in, index_in, node_ref}
+use Rattle.ol_wire.specs.Layout.{Part, ticket, port, field, wire, between, left, right, entry, past, part_of, block, place_of}
 use Rattle.ol_wire.specs.Weights.{total, pairs, numbered}
 use Rattle.ol_wire.specs.Events.{Event, entry_of}
 use Rattle.ol_wire.specs.Edges.{crosses_at, is_wire_made, is_made, times, deaths, links_in}
-use Rattle.ol_wire.specs.Blocks.{copies_of_f, copies_of_g, born_ref, block_words, to_write, joins_in, link_of, links_of}
+use Rattle.ol_wire.specs.Blocks.{copies_of_f, born_ref, block_words, to_write, joins_in, link_of, links_of}
 use Rattle.ol_wire.specs.Plays.{event_in, IsLookedUp, ticketed}
-use Rattle.ol_wire.specs.Views.{past_fuel, IsSpent}
-use Rattle.ol_wire.specs.Rule.{Table, IsView, IsPlaced, Kept, SeatsKeep, entries_of}
+use Rattle.ol_wire.specs.Views.{IsSpent}
+use Rattle.ol_wire.specs.Rule.{Table, IsView, IsPlaced, IsOwn, Kept, SeatsKeep, entries_of}
 use Rattle.ol_wire.proofs.Alike.{pairs_append}
 use Rattle.ol_wire.proofs.Held.{held_full}
-use Rattle.ol_wire.proofs.Places.{place_before}
+use Rattle.ol_wire.proofs.Places.{place_before, part_entry, part_field}
 use Rattle.ol_wire.proofs.References.{kind_of_ref, index_of_ref}
-use Rattle.ol_wire.proofs.TicketLists.{total_set, numbered_more, more_before, get_past, Written, to_write_from}
+use Rattle.ol_wire.proofs.TicketJournal.{got_before}
+use Rattle.ol_wire.proofs.TicketLists.{total_set, numbered_more, get_past, Written, to_write_from}
 use Rattle.ol_wire.proofs.TicketWords.{arity_few}
 use Rattle.ol_wire.proofs.TicketWords as words
 
 -- a wire that was made stays made
 crosses_still : (log : List Event) (e : Event) (t q p : ℕ) → bit (crosses_at (slice_get log t) q p) ≤ bit (crosses_at (slice_get (log ++ e ∷ []) t) q p)
 crosses_still log e t q p = elim (cases_lt t (length log)) [
-  | inl lt ↦ omega (arith, ap (λ x. bit (crosses_at x q p)) (more_before log e t lt))
+  | inl lt ↦ omega (arith, ap (λ x. bit (crosses_at x q p)) (got_before log (e ∷ []) t lt))
   | inr ge ↦ omega (arith, ap (λ x. bit (crosses_at x q p)) (get_past log t ge))
 ]
 
@@ -182,6 +181,24 @@ module _ (p : Plan) (s : Table) (k : Kept p s) (id : ℕ) (v : View) (here : get
       g_kind (ap (index_after e.rule) g_index ∙ cross.1) (ap (λ k. place_of z (Born t (arity k + q))) g_kind))
       (copy_of_g z e t a b cross.0 q (omega (arith, small, ap arity f_kind)))
 
+  -- the words of the block that are to be written are fields and the two nodes
+  own_word : (n j : ℕ) → j < 10 → n ≡ block z t + j → IsOwn (part_of z n)
+  own_word n j lt q = elim (cases_lt j 2) [
+    | inl small ↦ subst IsOwn (sym (ap (part_of z) q ∙ part_entry z t j low small)) tt
+    | inr big ↦
+        let c = (j - 2) / 2 in
+        let at : n ≡ place_of z (Born t c) + (j - 2) % 2 = omega (arith, q) in
+        subst IsOwn (sym (ap (part_of z) at ∙ part_field z (Born t c) ((j - 2) % 2) (low, omega arith) (omega arith))) tt
+  ]
+
+  abbrev Owns : View → Type 0
+  Owns u = (n y' : ℕ) → IsIn (n, y') u.due → IsOwn (part_of z n)
+
+  owns_new : Owns (ticketed v t)
+  owns_new n y' h =
+      let at = to_write_from (block z t) (block_words z e t) n y' (subst (λ ds. IsIn (n, y') ds) (words.due_is p s k id v here w ready low) h) in
+      own_word n at.0 at.1 at.2
+
   abbrev Due : View → Type 0
   Due u = (n : NodeName) (m : Kind) (c l y' : ℕ) → HasNode M n m c → l < arity m → IsIn (place_of z n + l, y') u.due → (d : ℕ) × IsIn (node_ref m c (place_of z n), d) (links_in u.pending)
 
@@ -238,6 +255,7 @@ module _ (p : Plan) (s : Table) (k : Kept p s) (id : ℕ) (v : View) (here : get
     spent = viewed (λ u. u.holds ≡ 0 → IsSpent u) (λ q. absurd (omega (arith, ready.held, q))) k.seats.spent;
     taken = λ u n y' is. viewed (λ u. (n y' : ℕ) → IsIn (n, y') u.taken → (part_of z n ≡ left) × (y' ≢ 0)) (λ n y' h. absurd (subst (λ l. IsIn (n, y') l) (words.taken_is p s k id v here w ready low) h)) (λ u o n y'. k.seats.taken u n y' o) u is n y';
     due = λ u n y' is. viewed (λ u. (n y' : ℕ) → IsIn (n, y') u.due → y' ≢ 0) (λ n y' h. (to_write_from (block z t) (block_words z e t) n y' (subst (λ ds. IsIn (n, y') ds) (words.due_is p s k id v here w ready low) h)).4) (λ u o n y'. k.seats.due u n y' o) u is n y';
+    due_parts = λ u n y' is. viewed Owns owns_new (λ u o n y'. k.seats.due_parts u n y' o) u is n y';
     hidden = λ u n m c l y' is. viewed Due hidden_new hidden_old u is n m c l y';
     made = made;
     dead = dead;

@@ -1,6 +1,6 @@
 -- The words after a ticket below the fuel.
-use Rattle.std.proofs.Common.{◌≡◌, ◌≢◌, ℕ, zero, suc, ◌+◌, ◌-◌, ◌*◌, ◌%◌, ◌/◌, ◌<◌, ◌≤◌, ◌==◌, if◌then◌else◌, nat_eq, nat_lt, lt-ltb, eq-eqb, ne_eqb, ◌⊎◌, inl, inr, Bool, true, false, Option, Some, None, List, [], ◌∷◌, ◌++◌, length, get_or, set, slice_get, slice_index, slice_set, sym, refl, ap, ◌∙◌, subst, arith, length-set, get_or-set_other, get_or-set_same}
-use Rattle.std.proofs.lemmas.Bool.{cases_eq, cases_lt, cases_Bool}
+use Rattle.std.proofs.Common.{◌≡◌, ◌≢◌, ℕ, zero, suc, ◌+◌, ◌-◌, ◌*◌, ◌%◌, ◌/◌, ◌<◌, ◌≤◌, if◌then◌else◌, nat_eq, nat_lt, lt-ltb, eq-eqb, ne_eqb, ◌⊎◌, inl, inr, Bool, true, false, Option, Some, None, List, [], ◌∷◌, ◌++◌, length, get_or, set, slice_get, slice_index, slice_set, sym, refl, ap, ◌∙◌, subst, arith, length-set, get_or-set_other, get_or-set_same}
+use Rattle.std.proofs.lemmas.Bool.{cases_eq, cases_lt}
 use Rattle.std.proofs.lemmas.Bool.Decides.{nat_tests}
 use Rattle.std.proofs.lemmas.Option.{slice_get_within}
 use mathlib.Core.Option.{some}
@@ -9,7 +9,6 @@ use Rattle.ol_edges.specs.Edges.{IsIn}
 use Rattle.ol_net.specs.declared.parts.Kind.{Kind}
 use Rattle.ol_net.specs.declared.parts.Kind.TheVariants as kind
 use Rattle.ol_net.specs.declared.parts.Rule.{Rule}
-use Rattle.ol_net.specs.declared.parts.Rule.TheVariants as rule
 use Rattle.ol_net.specs.Parts.{arity}
 use Rattle.ol_rules.specs.declared.journal.NodeName.{NodeName}
 use Rattle.ol_rules.specs.declared.journal.NodeName.TheVariants.{Born}
@@ -21,8 +20,8 @@ use Rattle.ol_wire.specs.declared.layout.Parts.{Parts}
 use Rattle.ol_wire.specs.declared.plan.Plan.{Plan}
 use Rattle.ol_wire.specs.declared.view.Link.{Link}
 use Rattle.ol_wire.specs.declared.view.View.{View}
-use Rattle.ol_wire.specs.References.{kind_in, index_in, place_in, node_ref, wire_ref, IsNodeRef, IsWireRef, IsRef}
-use Rattle.ol_wire.specs.Layout.{Part, ticket, field, left, right, entry, part_of, block, size, place_of, born_wire, born_cell, start_cell, start_node}
+use Rattle.ol_wire.specs.References.{kind_in, index_in, place_in, wire_ref, IsNodeRef, IsRef}
+use Rattle.ol_wire.specs.Layout.{ticket, field, left, right, entry, part_of, block, size, place_of, born_wire, born_cell, start_cell, start_node}
 use Rattle.ol_wire.specs.Weights.{total, pairs, weigh, Empties}
 use Rattle.ol_wire.specs.Events.{Event, rule_between, earlier, later, acting, event_of}
 use Rattle.ol_wire.specs.Blocks.{copies_of_f, copies_of_g, born_ref, born_field, block_words, to_write, joins_in, link_of, links_of}
@@ -30,10 +29,11 @@ use Rattle.ol_wire.specs.Plays.{rest, known_at, event_in, IsLookedUp, ticketed}
 use Rattle.ol_wire.specs.Starts.{facing_pairs}
 use Rattle.ol_wire.specs.Rule.{Table, IsView, IsLasting, Kept, WordsKeep, Drawn, links_at}
 use Rattle.ol_wire.proofs.Alike.{total_append}
-use Rattle.ol_wire.proofs.Held.{Holds, held_full, held_within, word_full, total_from}
+use Rattle.ol_wire.proofs.Held.{Holds, held_full, held_within, word_full, owner, total_from}
 use Rattle.ol_wire.proofs.Places.{part_entry, part_field, part_born_cell, part_start_cell, is_left}
 use Rattle.ol_wire.proofs.References.{node_sort, wire_sort}
-use Rattle.ol_wire.proofs.TicketLists.{total_set, by_place, more_before, more_at, more_past, length_more, weigh_set, put_words, put_length, put_else, put_there, put_weigh}
+use Rattle.ol_wire.proofs.TicketJournal.{got_one_more, length_one_more}
+use Rattle.ol_wire.proofs.TicketLists.{total_set, by_place, weigh_set, put_words, put_length, put_else, put_there, put_weigh}
 
 -- the table after ticket t of seat id, whose view is v
 abbrev pub table_after : Table → ℕ → View → Table
@@ -400,7 +400,7 @@ module _ (p : Plan) (s : Table) (k : Kept p s) (id : ℕ) (v : View) (here : get
   in_all = omega (arith, low)
 
   log_longer : length (k.log ++ e ∷ []) ≡ t + 1
-  log_longer = length_more k.log e ∙ ap (λ n. n + 1) drawn_is
+  log_longer = omega (arith, length_one_more k.log e, drawn_is)
 
   pub ticket_word : slice_index s'.words 0 ≡ t + 1
   ticket_word = get_or-set_same s.words 0 (t + 1) 0 (omega (arith, k.words.wide))
@@ -412,13 +412,23 @@ module _ (p : Plan) (s : Table) (k : Kept p s) (id : ℕ) (v : View) (here : get
     above = λ q. omega (arith, log_longer, ticket_word, low, q);
   }
 
-  -- still no view holds the ticket word
-  pub first_after : slice_index full' 0 ≡ slice_index s'.words 0
-  first_after = full_ticket z e t w k.full not_ticket (omega (arith, k.words.full_wide)) ∙ sym ticket_word
+  -- no view holds the ticket word
+  ticket_full : slice_index k.full 0 ≡ t
+  ticket_full = elim (cases_eq (slice_index k.full 0) 0) [
+    | inl q ↦ elim (cases_eq t 0) [
+      | inl r ↦ q ∙ sym r
+      | inr d ↦ word_full p s k 0 (omega arith) d
+    ]
+    | inr d ↦ of_owner (owner p s k 0 (omega arith) d)
+  ]
+    where
+      of_owner : (slice_index s.words 0 ≡ slice_index k.full 0) ⊎ ((u : View) × IsView s u × Holds u 0 (slice_index k.full 0)) → slice_index k.full 0 ≡ t
+      of_owner (inl q) = sym q
+      of_owner (inr (u, is, inl i)) = absurd (k.seats.due_parts u 0 (slice_index k.full 0) is i)
+      of_owner (inr (u, is, inr i)) = let bad : ticket ≡ left = (k.seats.taken u 0 (slice_index k.full 0) is i).0 in absurd (cc)
 
-  -- `first` says that no view holds the ticket word
-  written : (first : slice_index k.full 0 ≡ slice_index s.words 0) (h : ℕ → ℕ → ℕ) → Empties h → weigh h s'.words (size z) + total (λ (u : View). pairs h u.due + pairs h u.taken) s'.views ≡ weigh h full' (size z)
-  written first h q = written_after h q s.words k.full s.views id v (ticketed v t) (size z) (block z t) t w v.last.0 (block_words z e t) here k.words.wide k.words.full_wide in_all refl first left_full (omega (arith, not_ticket)) cell_below
+  written : (h : ℕ → ℕ → ℕ) → Empties h → weigh h s'.words (size z) + total (λ (u : View). pairs h u.due + pairs h u.taken) s'.views ≡ weigh h full' (size z)
+  written h q = written_after h q s.words k.full s.views id v (ticketed v t) (size z) (block z t) t w v.last.0 (block_words z e t) here k.words.wide k.words.full_wide in_all refl ticket_full left_full (omega (arith, not_ticket)) cell_below
       (λ j le. k.words.fresh j (omega (arith, le, drawn_is))) ready.nothing_due ready.taken due_is taken_is (k.words.written h q)
 
   -- each word, by where it is
@@ -463,34 +473,26 @@ module _ (p : Plan) (s : Table) (k : Kept p s) (id : ℕ) (v : View) (here : get
   fresh : (u : ℕ) → block z (length (k.log ++ e ∷ [])) ≤ u → slice_index full' u ≡ 0
   fresh u le = full_else z e t w k.full u (inr (omega (arith, le, log_longer))) (λ q. omega (arith, le, q)) (λ q. omega (arith, le, q, cell_below, log_longer)) ∙ k.words.fresh u (omega (arith, le, log_longer, drawn_is))
 
-  -- the entry of an older ticket, and of the new one
-  pub entry_old : (n : ℕ) → n < t → slice_get (k.log ++ e ∷ []) n ≡ slice_get k.log n
-  entry_old n lt = more_before k.log e n (omega (arith, lt, drawn_is))
-
-  pub entry_new : slice_get (k.log ++ e ∷ []) t ≡ Some e
-  entry_new = ap (slice_get (k.log ++ e ∷ [])) (sym drawn_is) ∙ more_at k.log e
-
   entry_word_still : (n j : ℕ) → n < t → j < 2 → slice_index full' (block z n + j) ≡ slice_index k.full (block z n + j)
   entry_word_still n j lt small = full_else z e t w k.full (block z n + j) (inl (omega (arith, lt, small))) (λ q. omega (arith, q)) (λ q.
       let bad : entry ≡ left = sym (part_entry z n j (omega (arith, lt, low)) small) ∙ ap (part_of z) q ∙ is_left_word in cc)
 
   entries : (n : ℕ) (x : Event) → slice_get (k.log ++ e ∷ []) n ≡ Some x → (slice_index full' (block z n) ≡ earlier x.f x.g) × (slice_index full' (block z n + 1) ≡ later x.f x.g)
-  entries n x q = elim (cases_lt n t) [
-    | inl lt ↦
-        let h = k.words.entries n x (sym (entry_old n lt) ∙ q) in
-        let at : block z n + 0 ≡ block z n = omega arith in
-        (sym (ap (slice_index full') at) ∙ entry_word_still n 0 lt (omega arith) ∙ ap (slice_index k.full) at ∙ h.0, entry_word_still n 1 lt (omega arith) ∙ h.1)
-    | inr ge ↦ elim (cases_eq n t) [
-      | inl here ↦
-          let y : e ≡ x = (let d : Some e ≡ Some x = sym entry_new ∙ ap (slice_get (k.log ++ e ∷ [])) (sym here) ∙ q in cc) in
-          let at : block z n ≡ block z t + 0 = omega (arith, here) in
-          let next : block z n + 1 ≡ block z t + 1 = omega (arith, here) in (
-            ap (slice_index full') at ∙ full_there z e t w k.full 0 (omega arith) low k.words.full_wide ∙ ap (λ (x : Event). earlier x.f x.g) y,
-            ap (slice_index full') next ∙ full_there z e t w k.full 1 (omega arith) low k.words.full_wide ∙ ap (λ (x : Event). later x.f x.g) y,
+  entries n x q = go (got_one_more k.log e x n q)
+    where
+      go : (slice_get k.log n ≡ Some x) ⊎ ((n ≡ length k.log) × (x ≡ e)) → (slice_index full' (block z n) ≡ earlier x.f x.g) × (slice_index full' (block z n + 1) ≡ later x.f x.g)
+      go (inl old) =
+          let lt : n < t = omega (arith, slice_get_within k.log n x old, drawn_is) in
+          let h = k.words.entries n x old in
+          let at : block z n + 0 ≡ block z n = omega arith in
+          (sym (ap (slice_index full') at) ∙ entry_word_still n 0 lt (omega arith) ∙ ap (slice_index k.full) at ∙ h.0, entry_word_still n 1 lt (omega arith) ∙ h.1)
+      go (inr new) =
+          let is_last : n ≡ length k.log = new.0 in
+          let at : block z n ≡ block z t + 0 = omega (arith, is_last, drawn_is) in
+          let next : block z n + 1 ≡ block z t + 1 = omega (arith, is_last, drawn_is) in (
+            ap (slice_index full') at ∙ full_there z e t w k.full 0 (omega arith) low k.words.full_wide ∙ ap (λ (x : Event). earlier x.f x.g) (sym new.1),
+            ap (slice_index full') next ∙ full_there z e t w k.full 1 (omega arith) low k.words.full_wide ∙ ap (λ (x : Event). later x.f x.g) (sym new.1),
           )
-      | inr d ↦ absurd (let bad : None ≡ Some x = sym (more_past k.log e n (omega (arith, ge, d, drawn_is))) ∙ q in cc)
-    ]
-  ]
 
   -- the links of the ticket
   pub link_found : (l : Link) → IsIn l (ticketed v t).pending → (j : ℕ) × (j < joins_in e) × (l ≡ link_of z e t a b j)
@@ -562,11 +564,11 @@ module _ (p : Plan) (s : Table) (k : Kept p s) (id : ℕ) (v : View) (here : get
       let g = (known_full u n y is i).2 in
       (get_or-set_other s.words 0 n (t + 1) 0 g ∙ f.0, f.1, f.2)
 
-  pub words_after : slice_index k.full 0 ≡ slice_index s.words 0 → WordsKeep p s' (k.log ++ e ∷ []) full'
-  words_after first = record {
+  pub words_after : WordsKeep p s' (k.log ++ e ∷ []) full'
+  words_after = record {
     wide = length-set s.words 0 (t + 1) ∙ k.words.wide;
     full_wide = wide';
-    written = written first;
+    written = written;
     refs = refs;
     pairs = pairs_are;
     starts = starts;
