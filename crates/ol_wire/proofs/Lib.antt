@@ -24,6 +24,7 @@ pub mod Overlooked
 pub mod WordEdges
 pub mod WordsAfter
 pub mod TicketJournal
+pub mod Reached
 pub mod Ticket
 pub mod Steps
 pub mod Opening
