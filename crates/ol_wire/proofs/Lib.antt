@@ -27,6 +27,7 @@ pub mod TicketJournal
 pub mod TicketLists
 pub mod TicketWords
 pub mod TicketSeats
+pub mod Reached
 pub mod Ticket
 pub mod Steps
 pub mod Opening
