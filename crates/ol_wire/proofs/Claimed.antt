@@ -20,7 +20,7 @@ use Rattle.ol_wire.specs.Edges.{edge_to, edge_in, edges_in, edges_of, links_in, 
 use Rattle.ol_wire.specs.Stands.{IsEnd, of_port, principal, auxiliary, IsWireEnd}
 use Rattle.ol_wire.specs.Rule.{Table, IsView, IsPlaced, IsOwn, Kept}
 use Rattle.ol_wire.proofs.References.{node_sort, wire_sort, slot_sort, slot_same}
-use Rattle.ol_wire.proofs.Places.{part_field, is_left, place_before, blocks_apart}
+use Rattle.ol_wire.proofs.Places.{part_field, is_left, place_before, place_same}
 use Rattle.ol_wire.proofs.Alike.{total_append, pairs_append, ends_weigh, end_weight}
 use Rattle.ol_wire.proofs.EdgeList.{edge_there, edge_found, pending_there, pending_found, live_there}
 use Rattle.ol_wire.proofs.Held.{Holds, owner}
@@ -124,6 +124,12 @@ cell_edge net r at n word next e m = subst (λ q. IsIn {X = ℕ × ℕ} (word, n
 pub wider : (z : Parts) (x : NodeName) (m n : ℕ) → m ≤ n → IsPlaced z m x → IsPlaced z n x
 wider z (Init j) m n le h = h
 wider z (Born t i) m n le h = (omega (arith, le, h.0), h.1)
+
+own_edge : (net : NamedNet NodeName) (r : Bool) (at : Part) (x : NodeName) (c n word next : ℕ) → at ≡ field x c → is_live net x ≡ true → word ≢ 0 → IsIn (slot_ref n, word) (edge_in net r at n word next)
+own_edge net r at x c n word next e live m =
+    subst (λ q. IsIn {X = ℕ × ℕ} (slot_ref n, word) (edge_in net r q n word next)) (sym e)
+    (subst (λ b. IsIn {X = ℕ × ℕ} (slot_ref n, word) (if b then edge_to (slot_ref n) word else [])) (sym live)
+    (subst (λ b. IsIn {X = ℕ × ℕ} (slot_ref n, word) (if b then [] else (slot_ref n, word) ∷ [])) (sym (ne_eqb word 0 m)) (inl refl)))
 
 -- a node whose reference this is
 pub record IsNodeAt (z : Parts) (N : NamedNet NodeName) (r : ℕ) : Type 0 where
@@ -249,6 +255,30 @@ module _ (p : Plan) (s : Table) (k : Kept p s) where
 
   pub field_within : (x : NodeName) (m : Kind) (i c : ℕ) → HasNode k.net x m i → c < 2 → place_of z x + c < size z
   field_within x m i c h lt = omega (arith, (place_before z x z.fuel (is_placed x m i h)).1)
+
+  field_in : (x : NodeName) (m : Kind) (i c : ℕ) → HasNode k.net x m i → c < 2 → get_or k.full (place_of z x + c) 0 ≢ 0 → IsIn (slot_ref (place_of z x + c), get_or k.full (place_of z x + c) 0) in_words
+  field_in x m i c h lt n =
+      edge_there z k.net (is_reached z k.log s.views) k.full (size z) (place_of z x + c) _ (field_within x m i c h lt)
+      (own_edge k.net _ (part_of z (place_of z x + c)) x c (place_of z x + c) _ _ (part_field z x c (is_placed x m i h) lt) (live_there k.net x m i h) n)
+
+  -- and the field of a slot that it hasn't is
+  pub field_none : (x : NodeName) (m : Kind) (i c : ℕ) → HasNode k.net x m i → arity m ≤ c → c < 2 → get_or k.full (place_of z x + c) 0 ≡ 0
+  field_none x m i c h le lt = elim (cases_eq (get_or k.full (place_of z x + c) 0) 0) [
+    | inl e ↦ e
+    | inr n ↦ absurd (of (k.stands.others (slot_ref (place_of z x + c)) (omega (arith, ends_first (slot_ref (place_of z x + c)) _ all (in_left _ in_words (pending_in s.views) (field_in x m i c h lt n))))))
+  ]
+    where
+      of_end : (q : NamedPort NodeName) (e : ℕ) → IsEnd z k.net q e → e ≡ slot_ref (place_of z x + c) → ⊥
+      of_end q e (of_port {n = n} b) same = omega (arith, same, wire_sort (suc n), slot_sort (place_of z x + c))
+      of_end q e (principal {x = y} m' i' h') same = omega (arith, same, node_sort m' i' (place_of z y), slot_sort (place_of z x + c))
+      of_end q e (auxiliary {x = y} {s = d} m' i' h' b) same =
+          let t = place_same z y x d c z.fuel (is_placed y m' i' h') (is_placed x m i h) (omega (arith, b, arity_two m')) lt (slot_same _ _ same) in
+          let u = k.journal.is_net.one_node x m' m i' i (subst (λ y. HasNode k.net y m' i') t.0 h') h in
+          omega (arith, b, le, t.1, ap arity u.0)
+
+      of : ((q : NamedPort NodeName) × IsEnd z k.net q (slot_ref (place_of z x + c))) ⊎ IsWireEnd (is_reached z k.log s.views) (slot_ref (place_of z x + c)) → ⊥
+      of (inl t) = of_end t.0 _ t.1 refl
+      of (inr t) = omega (arith, t.2, wire_sort t.0, slot_sort (place_of z x + c))
 
   -- a node of a cell's pair stands in no pending link
   not_pending : (w : ℕ) → part_of z w ≡ left → get_or k.full w 0 ≢ 0 → (x : NodeName) (m : Kind) (i : ℕ) → HasNode k.net x m i → (get_or k.full w 0 ≡ node_ref m i (place_of z x)) ⊎ (get_or k.full (suc w) 0 ≡ node_ref m i (place_of z x)) → (v : View) (d : ℕ) → IsView s v → IsIn (node_ref m i (place_of z x), d) (links_in v.pending) → ⊥
