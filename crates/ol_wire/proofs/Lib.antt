@@ -6,5 +6,7 @@ pub mod Degrees
 pub mod Links
 pub mod WordEdges
 pub mod Ticket
+pub mod StepsLists
+pub mod StepsKeep
 pub mod Steps
 pub mod Opening
