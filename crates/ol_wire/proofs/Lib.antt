@@ -1,9 +1,11 @@
 pub mod References
 pub mod Places
 pub mod Alike
+pub mod Held
 pub mod Event
 pub mod Degrees
 pub mod Links
+pub mod EdgeList
 pub mod WordEdges
 pub mod Ticket
 pub mod StepsLists
