@@ -10,5 +10,6 @@ pub mod WordEdges
 pub mod Ticket
 pub mod StepsLists
 pub mod StepsKeep
+pub mod StepsPlain
 pub mod Steps
 pub mod Opening
