@@ -6,6 +6,7 @@ pub mod Event
 pub mod Degrees
 pub mod Links
 pub mod EdgeList
+pub mod Claimed
 pub mod WordEdges
 pub mod Ticket
 pub mod StepsLists

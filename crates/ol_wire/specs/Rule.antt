@@ -18,7 +18,7 @@ use Rattle.ol_wire.specs.declared.view.Link.{Link}
 use Rattle.ol_wire.specs.declared.view.View.{View}
 use Rattle.ol_wire.specs.References.{node_ref, place_in, IsNodeRef, IsRef}
 use Rattle.ol_wire.specs.Starts.{facing_pairs}
-use Rattle.ol_wire.specs.Layout.{Part, field, left, right, part_of, place_of, start_node, start_cell, block, size}
+use Rattle.ol_wire.specs.Layout.{Part, field, left, right, entry, part_of, place_of, start_node, start_cell, block, size}
 use Rattle.ol_wire.specs.Weights.{total, pairs, numbered, weigh, Empties}
 use Rattle.ol_wire.specs.Events.{Event, rule_between, earlier, later, entry_of}
 use Rattle.ol_wire.specs.Edges.{is_made, is_reached, deaths, edges_of, links_in}
@@ -53,6 +53,12 @@ abbrev pub IsLasting : Part → Type 0
 IsLasting (field x s) = Unit {0}
 IsLasting right = Unit {0}
 IsLasting other = ⊥
+
+-- a word that the seat with the ticket writes: a field, or a node of the entry
+abbrev pub IsOwn : Part → Type 0
+IsOwn (field x s) = Unit {0}
+IsOwn entry = Unit {0}
+IsOwn other = ⊥
 
 -- The ticket word: it has the number of tickets, and at or above the fuel all have been drawn.
 pub record Drawn (fuel word tickets : ℕ) : Type 0 where
@@ -102,6 +108,7 @@ pub record SeatsKeep (p : Plan) (s : Table) (log : List Event) (net : NamedNet N
   -- a claimed pair is that of a cell, and no word that is to be written is empty
   pub taken : (v : View) (w y : ℕ) → IsView s v → IsIn (w, y) v.taken → (part_of p.parts w ≡ left) × (y ≢ 0)
   pub due : (v : View) (w y : ℕ) → IsView s v → IsIn (w, y) v.due → y ≢ 0
+  pub due_parts : (v : View) (w y : ℕ) → IsView s v → IsIn (w, y) v.due → IsOwn (part_of p.parts w)
   -- the only reference to a node whose fields aren't written is the view's own
   pub hidden : (v : View) (x : NodeName) (k : Kind) (i c y : ℕ) → IsView s v → HasNode net x k i → c < arity k → IsIn (place_of p.parts x + c, y) v.due → (d : ℕ) × (IsIn (node_ref k i (place_of p.parts x), d) (links_in v.pending))
   -- each ticket below the fuel is one view's
