@@ -12,5 +12,7 @@ pub mod Ticket
 pub mod StepsLists
 pub mod StepsKeep
 pub mod StepsPlain
+pub mod StepsPair
+pub mod StepsCut
 pub mod Steps
 pub mod Opening

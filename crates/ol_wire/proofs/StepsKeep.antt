@@ -17,7 +17,7 @@ use Rattle.ol_wire.specs.Layout.{Part, left, part_of, place_of, start_node, bloc
 use Rattle.ol_wire.specs.Edges.{is_reached, is_made, deaths, times, edges_of, edges_in, pending_in, links_in}
 use Rattle.ol_wire.specs.Stands.{Stands}
 use Rattle.ol_wire.specs.Views.{past_fuel, IsSpent}
-use Rattle.ol_wire.specs.Rule.{Table, Kept, JournalKeeps, WordsKeep, SeatsKeep, Drawn, IsView, IsLasting, links_at}
+use Rattle.ol_wire.specs.Rule.{Table, Kept, JournalKeeps, WordsKeep, SeatsKeep, Drawn, IsView, IsLasting, IsOwn, links_at}
 use Rattle.ol_wire.proofs.StepsLists.{total_set, each_set, edges_same, pending_set}
 
 -- one word and one view are set
@@ -122,6 +122,7 @@ module _ (p : Plan) (s : Table) (k : Kept p s) (id : ℕ) (v w : View) (i x : �
     spent = viewed (λ u. u.holds ≡ 0 → IsSpent u) (λ q. absurd (omega (arith, held, c.holds, q))) k.seats.spent;
     taken = λ u a y is. viewed (λ u'. (a' y' : ℕ) → IsIn (a', y') u'.taken → (part_of p.parts a' ≡ left) × (y' ≢ 0)) taken_new (λ u' is' a' y'. k.seats.taken u' a' y' is') u is a y;
     due = λ u a y is. viewed (λ u'. (a' y' : ℕ) → IsIn (a', y') u'.due → y' ≢ 0) (λ a' y' m. k.seats.due v a' y' seen (c.due a' y' m)) (λ u' is' a' y'. k.seats.due u' a' y' is') u is a y;
+    due_parts = λ u a y is. viewed (λ u'. (a' y' : ℕ) → IsIn (a', y') u'.due → IsOwn (part_of p.parts a')) (λ a' y' m. k.seats.due_parts v a' y' seen (c.due a' y' m)) (λ u' is' a' y'. k.seats.due_parts u' a' y' is') u is a y;
     hidden = λ u n kind j a y is. viewed (λ u'. HasNode k.net n kind j → a < arity kind → IsIn (place_of p.parts n + a, y) u'.due → (d : ℕ) × IsIn (node_ref kind j (place_of p.parts n), d) (links_in u'.pending))
       (λ has lt m. with_pending (λ (ls : List Link). (d : ℕ) × IsIn (node_ref kind j (place_of p.parts n), d) (links_in ls)) (k.seats.hidden v n kind j a y seen has lt (c.due (place_of p.parts n + a) y m)))
       (λ u' is' has lt m. k.seats.hidden u' n kind j a y is' has lt m) u is;
