@@ -139,7 +139,9 @@ module _ (p : Plan) (ticket_keeps : TicketKeeps p) (slots id : ℕ) (m : Sat) wh
       subst P (sym next) (elim (cases_lt n p.parts.fuel) [
         | inl low ↦ (ticketed m.0 n, keeps, tt, ticket_keeps s k id m.0 w here up low, (refl, (λ _. refl), (λ high. absurd (omega (arith, fuel, low, high)))))
         | inr high ↦ (
-          late m.0, keeps, tt,
+          late m.0,
+          keeps,
+          tt,
           late_keeps p s k id m.0 here up.held up.under high (pair_active p s k m.0 w (id, here) up) (ticket_stands p s k),
           (refl, (λ low. absurd (omega (arith, fuel, low, high))), (λ _. refl)),
         )

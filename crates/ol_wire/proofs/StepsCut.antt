@@ -71,7 +71,7 @@ module _ (p : Plan) (id : ℕ) (v : View) (two : 1 < v.holds) (under : v.over �
     due = λ u a y is m. viewed (λ u'. IsIn (a, y) u'.due → y ≢ 0) (λ m'. k.seats.due v a y seen m') (λ m'. elim m' [ ]) (λ u' is' m'. k.seats.due u' a y is' m') u is m;
     due_parts = λ u a y is m. viewed (λ u'. IsIn (a, y) u'.due → IsOwn (part_of p.parts a)) (λ m'. k.seats.due_parts v a y seen m') (λ m'. elim m' [ ]) (λ u' is' m'. k.seats.due_parts u' a y is' m') u is m;
     hidden = λ u n kind j a y is has lt m. viewed (λ u'. IsIn (place_of p.parts n + a, y) u'.due → (d : ℕ) × IsIn (node_ref kind j (place_of p.parts n), d) (links_in u'.pending))
-      (λ m'. k.seats.hidden v n kind j a y seen has lt m') (λ m'. elim m' [ ]) (λ u' is' m'. k.seats.hidden u' n kind j a y is' has lt m') u is m;
+        (λ m'. k.seats.hidden v n kind j a y seen has lt m') (λ m'. elim m' [ ]) (λ u' is' m'. k.seats.hidden u' n kind j a y is' has lt m') u is m;
     made = λ h. total_same (λ (u : View). pairs h u.made) (omega arith) ∙ k.seats.made h;
     dead = λ a. let e = total_same (λ (u : View). times a u.dead) (omega arith) in omega (arith, e, k.seats.dead a);
   }
@@ -81,13 +81,13 @@ module _ (p : Plan) (id : ℕ) (v : View) (two : 1 < v.holds) (under : v.over �
 
   edges_kept : edges_of p.parts k.net k.log k.full views ≡ edges_of p.parts k.net k.log k.full s.views
   edges_kept = ap (λ es. es ++ pending_in views) (edges_same p.parts k.net (is_reached p.parts k.log views) (is_reached p.parts k.log s.views) k.full k.full reached_same (λ u lt. refl) (size p.parts))
-    ∙ ap (λ es. edges_in p.parts k.net (is_reached p.parts k.log s.views) k.full (size p.parts) ++ es) (pending_more (set s.views id (fewer v)) (one_seat v) refl ∙ pending_set s.views id v (fewer v) here refl)
+      ∙ ap (λ es. edges_in p.parts k.net (is_reached p.parts k.log s.views) k.full (size p.parts) ++ es) (pending_more (set s.views id (fewer v)) (one_seat v) refl ∙ pending_set s.views id v (fewer v) here refl)
 
   stands_kept : Stands p.parts k.net (is_reached p.parts k.log views) (edges_of p.parts k.net k.log k.full views)
   stands_kept =
-    let reached : is_reached p.parts k.log views ≡ is_reached p.parts k.log s.views = λ n u. reached_same u n in
-    subst (λ (r : ℕ → Bool). Stands p.parts k.net r (edges_of p.parts k.net k.log k.full views)) (sym reached)
-    (subst (Stands p.parts k.net (is_reached p.parts k.log s.views)) (sym edges_kept) k.stands)
+      let reached : is_reached p.parts k.log views ≡ is_reached p.parts k.log s.views = λ n u. reached_same u n in
+      subst (λ (r : ℕ → Bool). Stands p.parts k.net r (edges_of p.parts k.net k.log k.full views)) (sym reached)
+      (subst (Stands p.parts k.net (is_reached p.parts k.log s.views)) (sym edges_kept) k.stands)
 
   cut_keeps : Kept p cut
   cut_keeps = record { log = k.log; net = k.net; full = k.full; tickets = k.tickets; journal = k.journal; words = words_keep; seats = seats_keep; stands = stands_kept }

@@ -103,7 +103,7 @@ module _ (p : Plan) (s : Table) (k : Kept p s) (id : ℕ) (v w : View) (i x : �
     refs = λ u lt ne. moved IsRef u lt (k.words.refs u lt (filled u lt ne));
     pairs = λ u l ne. two_moved (λ y y'. IsNodeRef y × IsNodeRef y') u (not_ticket u l) (k.words.pairs u l (filled u (not_ticket u l) ne));
     starts = λ n lt ne. let h = k.words.starts n lt (filled (start_cell p.parts n) (omega arith) ne) in
-      two_moved (λ y y'. (m : ℕ × ℕ) × (slice_get (facing_pairs p.start.value) n ≡ Some m) × (place_in y ≡ start_node p.parts m.0) × (place_in y' ≡ start_node p.parts m.1)) (start_cell p.parts n) (omega arith) h;
+        two_moved (λ y y'. (m : ℕ × ℕ) × (slice_get (facing_pairs p.start.value) n ≡ Some m) × (place_in y ≡ start_node p.parts m.0) × (place_in y' ≡ start_node p.parts m.1)) (start_cell p.parts n) (omega arith) h;
     fresh = λ u le. c.same u (omega arith) ∙ k.words.fresh u le;
     entries = λ t e at. let h = k.words.entries t e at in (c.same (block p.parts t) (omega arith) ∙ h.0, c.same (block p.parts t + 1) (omega arith) ∙ h.1);
     unpublished = λ u l is. viewed Unpublished (with_pending (λ (ls : List Link). (l' : Link) → IsIn l' ls → (part_of p.parts l'.cell ≡ left) × (l'.cell < block p.parts (length k.log)) × (get_or full l'.cell 0 ≡ 0) × (get_or full (suc l'.cell) 0 ≡ 0)) (unpublished_old v seen)) unpublished_old u is l;
@@ -124,8 +124,8 @@ module _ (p : Plan) (s : Table) (k : Kept p s) (id : ℕ) (v w : View) (i x : �
     due = λ u a y is. viewed (λ u'. (a' y' : ℕ) → IsIn (a', y') u'.due → y' ≢ 0) (λ a' y' m. k.seats.due v a' y' seen (c.due a' y' m)) (λ u' is' a' y'. k.seats.due u' a' y' is') u is a y;
     due_parts = λ u a y is. viewed (λ u'. (a' y' : ℕ) → IsIn (a', y') u'.due → IsOwn (part_of p.parts a')) (λ a' y' m. k.seats.due_parts v a' y' seen (c.due a' y' m)) (λ u' is' a' y'. k.seats.due_parts u' a' y' is') u is a y;
     hidden = λ u n kind j a y is. viewed (λ u'. HasNode k.net n kind j → a < arity kind → IsIn (place_of p.parts n + a, y) u'.due → (d : ℕ) × IsIn (node_ref kind j (place_of p.parts n), d) (links_in u'.pending))
-      (λ has lt m. with_pending (λ (ls : List Link). (d : ℕ) × IsIn (node_ref kind j (place_of p.parts n), d) (links_in ls)) (k.seats.hidden v n kind j a y seen has lt (c.due (place_of p.parts n + a) y m)))
-      (λ u' is' has lt m. k.seats.hidden u' n kind j a y is' has lt m) u is;
+        (λ has lt m. with_pending (λ (ls : List Link). (d : ℕ) × IsIn (node_ref kind j (place_of p.parts n), d) (links_in ls)) (k.seats.hidden v n kind j a y seen has lt (c.due (place_of p.parts n + a) y m)))
+        (λ u' is' has lt m. k.seats.hidden u' n kind j a y is' has lt m) u is;
     made = λ h. total_same (λ (u : View). pairs h u.made) (ap (pairs h) c.made) ∙ k.seats.made h;
     dead = λ a. let e = total_same (λ (u : View). times a u.dead) (ap (times a) c.dead) in omega (arith, e, k.seats.dead a);
   }
@@ -152,13 +152,13 @@ module _ (p : Plan) (s : Table) (k : Kept p s) (id : ℕ) (v w : View) (i x : �
 
   edges_kept : edges_of p.parts k.net k.log full (set s.views id w) ≡ edges_of p.parts k.net k.log k.full s.views
   edges_kept = ap (λ es. es ++ pending_in (set s.views id w)) (edges_same p.parts k.net (is_reached p.parts k.log (set s.views id w)) (is_reached p.parts k.log s.views) full k.full reached_same c.same (size p.parts))
-    ∙ ap (λ es. edges_in p.parts k.net (is_reached p.parts k.log s.views) k.full (size p.parts) ++ es) (pending_set s.views id v w here c.pending)
+      ∙ ap (λ es. edges_in p.parts k.net (is_reached p.parts k.log s.views) k.full (size p.parts) ++ es) (pending_set s.views id v w here c.pending)
 
   stands_kept : Stands p.parts k.net (is_reached p.parts k.log (set s.views id w)) (edges_of p.parts k.net k.log full (set s.views id w))
   stands_kept =
-    let reached : is_reached p.parts k.log (set s.views id w) ≡ is_reached p.parts k.log s.views = λ n u. reached_same u n in
-    subst (λ (r : ℕ → Bool). Stands p.parts k.net r (edges_of p.parts k.net k.log full (set s.views id w))) (sym reached)
-    (subst (Stands p.parts k.net (is_reached p.parts k.log s.views)) (sym edges_kept) k.stands)
+      let reached : is_reached p.parts k.log (set s.views id w) ≡ is_reached p.parts k.log s.views = λ n u. reached_same u n in
+      subst (λ (r : ℕ → Bool). Stands p.parts k.net r (edges_of p.parts k.net k.log full (set s.views id w))) (sym reached)
+      (subst (Stands p.parts k.net (is_reached p.parts k.log s.views)) (sym edges_kept) k.stands)
 
   pub step_keeps : Kept p there
   step_keeps = record { log = k.log; net = k.net; full = full; tickets = c.tickets; journal = k.journal; words = words_keep; seats = seats_keep; stands = stands_kept }
