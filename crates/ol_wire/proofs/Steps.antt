@@ -60,6 +60,9 @@ module _ (p : Plan) (slots id : ℕ) (m : Sat) (held : 0 < m.0.holds) where
       let lasting = subst IsLasting (sym (is_left p.parts w h.0).0) tt in
       (paired m.0 (suc w) (get_or s.words (suc w) 0), keeps, tt, paired_keeps p s k id m.0 here held (suc w) lasting (is_left p.parts w h.0).1 (λ q. omega (arith, node.0, q)), (refl, refl, node))
 
+  pub pairs_allowed_at : (w x : ℕ) → IsIn (w, x) m.0.taken → (u : ℕ) → u ≡ suc w → Allows (Kept p) slots id m u (λ n. n) (pairs_up (step slots u 0 0 none) m)
+  pairs_allowed_at w x taken u is = subst (λ (a : ℕ). Allows (Kept p) slots id m a (λ n. n) (pairs_up (step slots a 0 0 none) m)) (sym is) (pairs_allowed w x taken)
+
   -- a field of one of the two nodes of the pair
   module _ (w r c : ℕ) (taken : IsIn (w, m.0.last.0) m.0.taken) (known : IsIn (suc w, m.0.last.1) m.0.known) (side : (r ≡ m.0.last.0) ⊎ (r ≡ m.0.last.1)) (lt : c < arity (kind_in r)) where
     module _ (s : Table) (k : Kept p s) (here : get_elem? s.views id ≡ some m.0) where

@@ -8,6 +8,7 @@ mod plan;
 mod reference;
 mod seat;
 mod shared;
+mod stepping;
 mod view;
 
 pub use law::Law;
