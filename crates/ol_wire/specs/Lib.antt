@@ -12,3 +12,4 @@ pub mod Rule
 pub mod Plays
 pub mod Stand
 pub mod Holds
+pub mod Rewrites

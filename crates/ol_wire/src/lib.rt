@@ -6,6 +6,7 @@ mod laying;
 mod layout;
 mod plan;
 mod reference;
+mod rewrite;
 mod seat;
 mod shared;
 mod stepping;
