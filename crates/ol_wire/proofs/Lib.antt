@@ -29,5 +29,10 @@ pub mod TicketWords
 pub mod TicketSeats
 pub mod Reached
 pub mod Ticket
+pub mod StepsLists
+pub mod StepsKeep
+pub mod StepsPlain
+pub mod StepsPair
+pub mod StepsCut
 pub mod Steps
 pub mod Opening

@@ -10,3 +10,6 @@ pub mod Weights
 pub mod Views
 pub mod Rule
 pub mod Plays
+pub mod Stand
+pub mod Holds
+pub mod Rewrites

@@ -2,12 +2,19 @@
 #![tactic(auto)]
 
 mod law;
+mod laying;
 mod layout;
 mod plan;
 mod reference;
+mod rewrite;
+mod seat;
+mod shared;
+mod stepping;
 mod view;
 
 pub use law::Law;
 pub use layout::Parts;
 pub use plan::Plan;
+pub use seat::Seat;
+pub use shared::Shared;
 pub use view::{Link, View};
