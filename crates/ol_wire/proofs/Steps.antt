@@ -20,6 +20,7 @@ use Rattle.ol_wire.proofs.References.{kind_of_ref, place_of_ref}
 use Rattle.ol_wire.proofs.Places.{is_left, part_field}
 use Rattle.ol_wire.proofs.Claimed.{IsNodeAt, IsCellPair, cell_pair, node_of, is_placed, field_full, field_within, field_written, right_written}
 use Rattle.ol_wire.proofs.Held.{word_full}
+use Rattle.ol_wire.proofs.Ticket.{ticket_keeps}
 use Rattle.ol_wire.proofs.StepsKeep.{after}
 use Rattle.ol_wire.proofs.StepsPlain.{miss_keeps, claim_keeps, knowing_keeps, paired_keeps, write_keeps, late_keeps}
 use Rattle.ol_wire.proofs.StepsPair.{arity_two, node_of_ref, ref_of_field, ticket_stands, due_past, full_of_claimed, right_of_claimed, pair_active, small_index}
@@ -126,12 +127,7 @@ module _ (p : Plan) (slots id : ℕ) (m : Sat) (held : 0 < m.0.holds) where
       let first : IsIn {X = ℕ × ℕ} (i, x) m.0.due = subst (λ (l : List (ℕ × ℕ)). IsIn {X = ℕ × ℕ} (i, x) l) (sym due) (inl refl) in
       (settled m.0, keeps, tt, write_keeps p s k id m.0 here held i x ds due (due_past p s k m.0 i x (id, here) first), (refl, refl))
 
--- that a ticket below the fuel keeps the rule
-abbrev pub TicketKeeps : Plan → Type 0
-TicketKeeps p = (s : Table) (k : Kept p s) (id : ℕ) (v : View) (w : ℕ) → get_elem? s.views id ≡ some v → IsLookedUp v w → get_or s.words 0 0 < p.parts.fuel
-    → Kept p record { words = set s.words 0 (get_or s.words 0 0 + 1); homes = s.homes; views = set s.views id (ticketed v (get_or s.words 0 0)) }
-
-module _ (p : Plan) (ticket_keeps : TicketKeeps p) (slots id : ℕ) (m : Sat) where
+module _ (p : Plan) (slots id : ℕ) (m : Sat) where
   pub draws_allowed : (w : ℕ) → IsLookedUp m.0 w → Allows (Kept p) slots id m 0 (λ n. (n + 1) % 2 ^ 64) (draws (step slots 0 1 0 none) m)
   draws_allowed w up s k homes here small =
       let n : ℕ = get_or s.words 0 0 in
@@ -140,7 +136,7 @@ module _ (p : Plan) (ticket_keeps : TicketKeeps p) (slots id : ℕ) (m : Sat) wh
       let next : (n + 1) % 2 ^ 64 ≡ n + 1 = mod-eq_of_lt fits in
       let P : ℕ → Type 0 = λ y. (w : View) × (a : Act (Unit {0})) × Valid s.homes m.1 a × Kept p (stepped s 0 y id m.1 w a) × draws (step slots 0 1 0 none) m n (w, carried_after m.1 a) in
       subst P (sym next) (elim (cases_lt n p.parts.fuel) [
-        | inl low ↦ (ticketed m.0 n, keeps, tt, ticket_keeps s k id m.0 w here up low, (refl, (λ _. refl), (λ high. absurd (omega (arith, fuel, low, high)))))
+        | inl low ↦ (ticketed m.0 n, keeps, tt, ticket_keeps p s k id m.0 here w up low, (refl, (λ _. refl), (λ high. absurd (omega (arith, fuel, low, high)))))
         | inr high ↦ (
           late m.0,
           keeps,
