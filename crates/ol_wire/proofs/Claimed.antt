@@ -179,10 +179,10 @@ module _ (p : Plan) (s : Table) (k : Kept p s) where
       edge = in_left _ in_words (pending_in s.views) (cell_in w is_cell some_pair)
 
       f : IsNodeAt z k.net (get_or k.full w 0)
-      f = node_of (get_or k.full w 0) (k.words.pairs w is_cell some_pair).0 (ends_first _ _ all edge)
+      f = node_of (get_or k.full w 0) (k.words.cells w is_cell some_pair).0 (ends_first _ _ all edge)
 
       g : IsNodeAt z k.net (get_or k.full (suc w) 0)
-      g = node_of (get_or k.full (suc w) 0) (k.words.pairs w is_cell some_pair).1 (ends_second _ _ all edge)
+      g = node_of (get_or k.full (suc w) 0) (k.words.cells w is_cell some_pair).1 (ends_second _ _ all edge)
 
       f_end : IsEnd z k.net (slot f.x 0) (get_or k.full w 0)
       f_end = subst (λ r. IsEnd z k.net (slot f.x 0) r) (sym f.is) (principal f.k f.i f.has)
@@ -195,8 +195,8 @@ module _ (p : Plan) (s : Table) (k : Kept p s) where
 
       linked : Linked k.net (slot f.x 0) (slot g.x 0)
       linked = (k.stands.links (slot f.x 0) (slot g.x 0) _ _ f_end g_end).1 (record {
-        first = no_wire _ (k.words.pairs w is_cell some_pair).0;
-        second = no_wire _ (k.words.pairs w is_cell some_pair).1;
+        first = no_wire _ (k.words.cells w is_cell some_pair).0;
+        second = no_wire _ (k.words.cells w is_cell some_pair).1;
         apart = λ e. omega (arith, ends_twice _ _ all e edge, k.stands.ports (slot f.x 0) _ f_end);
         joined = on here edge;
       })
@@ -213,7 +213,7 @@ module _ (p : Plan) (s : Table) (k : Kept p s) where
       place = place_of z x + c
 
       value : (n : ℕ) → 0 < n → get_or k.full n 0 ≢ 0 → get_or k.full n 0 ≡ slot_ref place → ⊥
-      value n lt' some_word e = no_slot (get_or k.full n 0) place (k.words.refs n lt' some_word) e
+      value n lt' some_word e = no_slot (get_or k.full n 0) place (k.words.refs n lt' some_word).0 e
 
       behind : (n : ℕ) → part_of z n ≢ ticket → 0 < n
       behind n d = elim (cases_eq n 0) [
@@ -226,13 +226,13 @@ module _ (p : Plan) (s : Table) (k : Kept p s) where
       at n a b (at_wire d ea eb some_word) (inr e) = absurd (value n (behind n d) some_word (sym eb ∙ e))
       at n a b (at_field y u q ea eb some_word) (inl e) = let d : n ≡ place = slot_same n place (sym ea ∙ e) in subst (λ w. get_or k.full w 0 ≢ 0) d some_word
       at n a b (at_field y u q ea eb some_word) (inr e) = absurd (value n (behind n (λ t. let u : field y u ≡ ticket = sym q ∙ t in absurd (cc))) some_word (sym eb ∙ e))
-      at n a b (at_cell q ea eb some_word) (inl e) = absurd (omega (arith, sym ea ∙ e, (k.words.pairs n q some_word).0, slot_sort place))
-      at n a b (at_cell q ea eb some_word) (inr e) = absurd (omega (arith, sym eb ∙ e, (k.words.pairs n q some_word).1, slot_sort place))
+      at n a b (at_cell q ea eb some_word) (inl e) = absurd (omega (arith, sym ea ∙ e, (k.words.cells n q some_word).0, slot_sort place))
+      at n a b (at_cell q ea eb some_word) (inr e) = absurd (omega (arith, sym eb ∙ e, (k.words.cells n q some_word).1, slot_sort place))
 
       of_link : (a b : ℕ) (v : View) → IsView s v → (ls : List Link) → ((l : Link) → IsIn l ls → IsIn l v.pending) → IsIn (a, b) (links_in ls) → (a ≡ slot_ref place) ⊎ (b ≡ slot_ref place) → ⊥
       of_link a b v is [] among i e = elim i [ ]
-      of_link a b v is (l ∷ ls) among (inl q) (inl e) = no_slot l.one place (k.words.link_refs v l is (among l (inl refl))).0 (sym (ap (λ (x : ℕ × ℕ). x.0) q) ∙ e)
-      of_link a b v is (l ∷ ls) among (inl q) (inr e) = no_slot l.two place (k.words.link_refs v l is (among l (inl refl))).1 (sym (ap (λ (x : ℕ × ℕ). x.1) q) ∙ e)
+      of_link a b v is (l ∷ ls) among (inl q) (inl e) = no_slot l.one place (k.cells.link_refs v l is (among l (inl refl))).0.0 (sym (ap (λ (x : ℕ × ℕ). x.0) q) ∙ e)
+      of_link a b v is (l ∷ ls) among (inl q) (inr e) = no_slot l.two place (k.cells.link_refs v l is (among l (inl refl))).1.0 (sym (ap (λ (x : ℕ × ℕ). x.1) q) ∙ e)
       of_link a b v is (l ∷ ls) among (inr i) e = of_link a b v is ls (λ l' i'. among l' (inr i')) i e
 
       of_either : (a b : ℕ) → IsIn (a, b) in_words ⊎ IsIn (a, b) (pending_in s.views) → (a ≡ slot_ref place) ⊎ (b ≡ slot_ref place) → get_or k.full place 0 ≢ 0
@@ -312,12 +312,12 @@ module _ (p : Plan) (s : Table) (k : Kept p s) where
   right_written w is_cell some_pair = of (owner p s k (suc w) (is_left z w is_cell).1 some_right)
     where
       some_right : get_or k.full (suc w) 0 ≢ 0
-      some_right e = omega (arith, e, (k.words.pairs w is_cell some_pair).1)
+      some_right e = omega (arith, e, (k.words.cells w is_cell some_pair).1)
 
       own : (q : Part) → q ≡ right → IsOwn q → ⊥
       own q e o = subst (λ q. IsOwn q) e o
 
       of : (get_or s.words (suc w) 0 ≡ get_or k.full (suc w) 0) ⊎ ((v : View) × IsView s v × Holds v (suc w) (get_or k.full (suc w) 0)) → get_or s.words (suc w) 0 ≡ get_or k.full (suc w) 0
       of (inl e) = e
-      of (inr (v, is, inl due)) = absurd (own (part_of z (suc w)) (is_left z w is_cell).0 (k.seats.due_parts v (suc w) _ is due))
+      of (inr (v, is, inl due)) = absurd (own (part_of z (suc w)) (is_left z w is_cell).0 ((k.seats.due v (suc w) _ is due).1))
       of (inr (v, is, inr taken)) = let e : right ≡ left = sym (is_left z w is_cell).0 ∙ (k.seats.taken v (suc w) _ is taken).0 in absurd (cc)

@@ -112,7 +112,7 @@ module _ (p : Plan) (s : Table) (k : Kept p s) where
   held_one v w y g (inr i) = omega (arith, pairs_spot_in w y g v.taken i)
 
   pub held_some : (v : View) (w y : ℕ) → IsView s v → Holds v w y → y ≢ 0
-  held_some v w y is (inl i) = k.seats.due v w y is i
+  held_some v w y is (inl i) = (k.seats.due v w y is i).0
   held_some v w y is (inr i) = (k.seats.taken v w y is i).1
 
   pub held_within : (v : View) (w y : ℕ) → IsView s v → Holds v w y → w < size p.parts

@@ -105,7 +105,7 @@ module _ (p : Plan) (s : Table) (k : Kept p s) (linked : (v : View) → IsView s
       let h = still t.0 t.1 t.4 in
       let e : rule_between a b ≡ None = ap (λ a. rule_between a b) t.2 ∙ ap (rule_between (get_or k.full t.0 0)) t.3 ∙ h.0 in
       let f : rule_between b a ≡ None = ap (λ b. rule_between b a) t.3 ∙ ap (rule_between (get_or k.full (suc t.0) 0)) t.2 ∙ h.1 in
-      (subst IsNodeRef (sym t.3) (k.words.pairs t.0 t.1 t.4).1, (e, f))
+      (subst IsNodeRef (sym t.3) (k.words.cells t.0 t.1 t.4).1, (e, f))
 
   -- an end has one edge that is its own
   own_one : (v u w : ℕ) → IsIn (v, u) all → IsIn (v, w) all → u ≡ w
@@ -120,7 +120,7 @@ module _ (p : Plan) (s : Table) (k : Kept p s) (linked : (v : View) → IsView s
           go : (w : ℕ) × EdgeAt (part_of z w) w (get_or k.full w 0) (get_or k.full (suc w) 0) v d → d ≡ get_or k.full n 0
           go (w, at_wire q ea eb m) = let f : w ≡ n = wire_same w n (sym ea ∙ e) in eb ∙ ap (λ w. get_or k.full w 0) f
           go (w, at_field x c q ea eb m) = absurd (omega (arith, e, ea, wire_sort n, slot_sort w))
-          go (w, at_cell q ea eb m) = absurd (omega (arith, e, sym ea, wire_sort n, (k.words.pairs w q m).0))
+          go (w, at_cell q ea eb m) = absurd (omega (arith, e, sym ea, wire_sort n, (k.words.cells w q m).0))
 
       of : ((q : NamedPort NodeName) × IsEnd z k.net q v) ⊎ IsWireEnd (is_reached z k.log s.views) v → u ≢ w → ⊥
       of (inl t) d = omega (arith, k.stands.ports t.0 v t.1, two_edges v u w all d a b)
@@ -157,7 +157,7 @@ module _ (p : Plan) (s : Table) (k : Kept p s) (linked : (v : View) → IsView s
     way = (k.stands.links (slot f 0) (slot g 0) x0 y0 x_end y_end).0 a.faces.linked
 
     small : (x : NodeName) (m : Kind) (i : ℕ) → HasNode k.net x m i → i < 16777216
-    small x m i h = omega (arith, k.journal.indexes x m i h, k.tickets.few, k.seats.few.0)
+    small x m i h = omega (arith, k.journal.indexes x m i h, k.tickets.few, k.plan.small.fuel)
 
     has_rule : rule_between x0 y0 ≡ Some r
     has_rule =

@@ -14,7 +14,7 @@ use Rattle.ol_wire.specs.References.{node_ref, kind_in, index_in, place_in, IsNo
 use Rattle.ol_wire.specs.Weights.{total}
 use Rattle.ol_wire.specs.Layout.{left, right, part_of, place_of, size}
 use Rattle.ol_wire.specs.Views.{past_fuel}
-use Rattle.ol_wire.specs.Plays.{Sat, missing, holding, paired, knowing, ticketed, late, settled, IsNodeOf, IsRefOf, IsLookedUp, claims, pairs_up, looks, draws, writes}
+use Rattle.ol_wire.specs.Plays.{Seated, missing, holding, paired, knowing, ticketed, late, wrote, IsNodeOf, IsRefOf, IsLookedUp, claims, pairs_up, looks, draws, writes}
 use Rattle.ol_wire.specs.Rule.{Table, Kept, IsView, IsLasting}
 use Rattle.ol_wire.proofs.References.{kind_of_ref, place_of_ref}
 use Rattle.ol_wire.proofs.Places.{is_left, part_field}
@@ -32,7 +32,7 @@ pub past_le : (vs : List View) → total past_fuel vs ≤ total (λ (v : View). 
 past_le [] = omega arith
 past_le (v ∷ vs) = omega (arith, past_one v, past_le vs)
 
-module _ (p : Plan) (slots id : ℕ) (m : Sat) (held : 0 < m.0.holds) where
+module _ (p : Plan) (slots id : ℕ) (m : Seated) (held : 0 < m.0.holds) where
   of_plan : (s : Table) (k : Kept p s) → get_elem? s.views id ≡ some m.0 → m.0.parts ≡ p.parts
   of_plan s k here = (k.seats.plan m.0 (id, here) held).0
 
@@ -125,9 +125,9 @@ module _ (p : Plan) (slots id : ℕ) (m : Sat) (held : 0 < m.0.holds) where
   pub writes_allowed : (i x : ℕ) (ds : List (ℕ × ℕ)) → m.0.due ≡ (i, x) ∷ ds → Allows (Kept p) slots id m i (λ _. x) (λ _. writes (step slots i x 0 none) m x)
   writes_allowed i x ds due s k homes here small =
       let first : IsIn {X = ℕ × ℕ} (i, x) m.0.due = subst (λ (l : List (ℕ × ℕ)). IsIn {X = ℕ × ℕ} (i, x) l) (sym due) (inl refl) in
-      (settled m.0, keeps, tt, write_keeps p s k id m.0 here held i x ds due (due_past p s k m.0 i x (id, here) first), (refl, refl))
+      (wrote m.0, keeps, tt, write_keeps p s k id m.0 here held i x ds due (due_past p s k m.0 i x (id, here) first), (refl, refl))
 
-module _ (p : Plan) (slots id : ℕ) (m : Sat) where
+module _ (p : Plan) (slots id : ℕ) (m : Seated) where
   pub draws_allowed : (w : ℕ) → IsLookedUp m.0 w → Allows (Kept p) slots id m 0 (λ n. (n + 1) % 2 ^ 64) (draws (step slots 0 1 0 none) m)
   draws_allowed w up s k homes here small =
       let n : ℕ = get_or s.words 0 0 in

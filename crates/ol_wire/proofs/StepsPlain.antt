@@ -13,7 +13,7 @@ use Rattle.ol_wire.specs.declared.view.View.{View}
 use Rattle.ol_wire.specs.Weights.{total, pairs, weigh, Empties}
 use Rattle.ol_wire.specs.Layout.{Part, left, right, field, part_of, size}
 use Rattle.ol_wire.specs.Views.{past_fuel}
-use Rattle.ol_wire.specs.Plays.{missing, holding, paired, knowing, late, settled, rest}
+use Rattle.ol_wire.specs.Plays.{missing, holding, paired, knowing, late, wrote, rest}
 use Rattle.ol_wire.specs.Rule.{Table, Kept, Drawn, IsView, IsLasting}
 use Rattle.ol_wire.proofs.Places.{is_left}
 use Rattle.ol_wire.proofs.Held.{held_within, held_empty}
@@ -152,7 +152,7 @@ module _ (p : Plan) (s : Table) (k : Kept p s) (id : ℕ) (v : View) (here : get
     first_due : IsIn {X = ℕ × ℕ} (i, x) v.due
     first_due = subst (λ (l : List (ℕ × ℕ)). IsIn {X = ℕ × ℕ} (i, x) l) (sym due) (inl refl)
 
-    write : Change p s k v (settled v) i x k.full
+    write : Change p s k v (wrote v) i x k.full
     write = record {
       holds = refl;
       parts = (refl, refl);
@@ -179,8 +179,8 @@ module _ (p : Plan) (s : Table) (k : Kept p s) (id : ℕ) (v : View) (here : get
       due = λ u y m. subst (λ (l : List (ℕ × ℕ)). IsIn {X = ℕ × ℕ} (u, y) l) (sym due) (inr (subst (λ (l : List (ℕ × ℕ)). IsIn {X = ℕ × ℕ} (u, y) (rest l)) due m));
     }
 
-    pub write_keeps : Kept p (after s i x id (settled v))
-    write_keeps = step_keeps p s k id v (settled v) i x k.full here held write
+    pub write_keeps : Kept p (after s i x id (wrote v))
+    write_keeps = step_keeps p s k id v (wrote v) i x k.full here held write
 
   -- the fuel is spent: the seat is late, and no ticket was drawn
   module _ (under : v.over ≡ false) (high : p.parts.fuel ≤ get_or s.words 0 0) (active : HasActive k.net) (stands : get_or k.full 0 0 ≡ get_or s.words 0 0) where

@@ -138,10 +138,10 @@ module _ (p : Plan) (s : Table) (k : Kept p s) (id : ℕ) (v : View) (here : get
     faces = record { first = c.f.has; second = c.g.has; linked = c.linked }
 
     small_f : i < 16777216
-    small_f = omega (arith, k.journal.indexes x kf i c.f.has, k.tickets.few, k.seats.few.0)
+    small_f = omega (arith, k.journal.indexes x kf i c.f.has, k.tickets.few, k.plan.small.fuel)
 
     small_g : j < 16777216
-    small_g = omega (arith, k.journal.indexes y kg j c.g.has, k.tickets.few, k.seats.few.0)
+    small_g = omega (arith, k.journal.indexes y kg j c.g.has, k.tickets.few, k.plan.small.fuel)
 
     kind_f : kind_in e.f ≡ kf
     kind_f = ap kind_in c.f.is ∙ kind_of_ref kf i (place_of z x)
@@ -164,7 +164,7 @@ module _ (p : Plan) (s : Table) (k : Kept p s) (id : ℕ) (v : View) (here : get
     low_log = omega (arith, drawn_is, low)
 
     abbrev follows : (M : NamedNet NodeName) × journals.Follows p k.log k.net x y kf kg i j e M
-    follows = journals.ticket_follows p k.log k.net k.journal x y kf kg i j e faces rule c.f.is c.g.is low_log k.seats.few.0
+    follows = journals.ticket_follows p k.log k.net k.journal x y kf kg i j e faces rule c.f.is c.g.is low_log k.plan.small.fuel
 
     abbrev M : NamedNet NodeName
     M = follows.0
@@ -215,7 +215,7 @@ module _ (p : Plan) (s : Table) (k : Kept p s) (id : ℕ) (v : View) (here : get
       drawn = low_log;
       first = c.f.has;
       second = c.g.has;
-      apart = journals.apart p k.log k.net k.journal x y kf kg i j e faces rule c.f.is c.g.is low_log k.seats.few.0;
+      apart = journals.apart p k.log k.net k.journal x y kf kg i j e faces rule c.f.is c.g.is low_log k.plan.small.fuel;
       first_placed = k.journal.names x kf i c.f.has;
       second_placed = k.journal.names y kg j c.g.has;
       cell = words.is_left_word p s k id v here w ready low;
@@ -301,7 +301,7 @@ module _ (p : Plan) (s : Table) (k : Kept p s) (id : ℕ) (v : View) (here : get
       step = follows.1.step;
       ports = k.journal.ports;
       names = k.journal.names;
-      indexes = λ u m c' h. omega (arith, k.journal.indexes u m c' h, k.tickets.few, k.seats.few.0);
+      indexes = λ u m c' h. omega (arith, k.journal.indexes u m c' h, k.tickets.few, k.plan.small.fuel);
       drawn = low_log;
       before = k.stands;
       from = from;

@@ -27,7 +27,7 @@ use Rattle.ol_wire.specs.declared.layout.Parts.{Parts}
 use Rattle.ol_wire.specs.declared.plan.Plan.{Plan}
 use Rattle.ol_wire.specs.References.{node_ref, kind_in, index_in, place_in}
 use Rattle.ol_wire.specs.Layout.{place_of}
-use Rattle.ol_wire.specs.Events.{Event, rule_between, name_at, earlier, later, entry_of}
+use Rattle.ol_wire.specs.Events.{IsPlayed, Event, rule_between, name_at, earlier, later, entry_of}
 use Rattle.ol_wire.specs.Rule.{IsPlaced, start_net, entries_of, JournalKeeps}
 use Rattle.ol_wire.proofs.References.{kind_of_ref, index_of_ref, place_of_ref}
 use Rattle.ol_wire.proofs.Places.{name_of_place, place_same, place_order}
@@ -64,6 +64,15 @@ run_on N M P t u [] e IsRun.end h s =
     let S : ℕ → Type 0 = λ u. IsEntryStep N u e P in
     IsRun.then (subst S q s) IsRun.end
 run_on N M P t u (d ∷ es) e (IsRun.then {M = K} s' r) h s = IsRun.then s' (run_on K M P (suc t) u es e r (omega arith) s)
+
+pub played_on : (z : Parts) (N M P : NamedNet NodeName) (t u : ℕ) (es : List Event) (e : Event) (x y : NodeName) → IsPlayed z N t es M → u ≡ t + length es → (s : IsStep (λ place. Born u place) M x y e.rule P)
+    → e.f ≡ node_ref s.active.k s.active.i (place_of z x) → e.g ≡ node_ref s.active.l s.active.j (place_of z y) → IsPlayed z N t (es ++ e ∷ []) P
+played_on z N M P t u [] e x y IsPlayed.end h s f g =
+    let q : u ≡ t = omega arith in
+    let S : ℕ → Type 0 = λ u. (s : IsStep (λ place. Born u place) N x y e.rule P) × (e.f ≡ node_ref s.active.k s.active.i (place_of z x)) × (e.g ≡ node_ref s.active.l s.active.j (place_of z y)) in
+    let r = subst S q (s, f, g) in
+    IsPlayed.then x y r.0 r.1 r.2 IsPlayed.end
+played_on z N M P t u (d ∷ es) e x y (IsPlayed.then {M = K} x' y' s' f' g' r) h s f g = IsPlayed.then x' y' s' f' g' (played_on z K M P (suc t) u es e x y r (omega arith) s f g)
 
 -- ---- the table of rules
 
@@ -240,10 +249,14 @@ module _ (p : Plan) (log : List Event) (N : NamedNet NodeName) (j : JournalKeeps
         let h : length log ≡ 0 + length (entries_of p.parts log) = omega (arith, length-map log (entry_of p.parts)) in
         subst (λ es. IsRun (start_net p) 0 es M) (sym (map-append (entry_of p.parts) log (e ∷ []))) (run_on (start_net p) N M 0 (length log) (entries_of p.parts log) (entry_of p.parts e) j.run h s)
 
+    played_after : IsPlayed p.parts (start_net p) 0 (log ++ e ∷ []) M
+    played_after = played_on p.parts (start_net p) N M 0 (length log) log e x y j.played (omega arith) (record { active = active; rewrites = r }) f_is g_is
+
     -- what comes by the step is the net after the journal with its entry
     pub journal_after : JournalKeeps p (log ++ e ∷ []) M
     journal_after = record {
       run = run_after;
+      played = played_after;
       is_net = net_kept name_same name_test (λ place. Born (length log) place) N x y k i l n e.rule j.is_net faces fresh rule M r;
       ports = r.free_ports ∙ j.ports;
       names = names_after;

@@ -1,6 +1,6 @@
--- Which part of the table each word is. A node's place is the number of the word of its slot 1, also where it has no such slot; the word of its
--- slot 2 is the next one.
-use Rattle.std.specs.Prelude.{ℕ, suc, ◌+◌, ◌-◌, ◌*◌, ◌/◌, ◌%◌, ◌==◌, nat_lt, if◌then◌else◌}
+-- Which part of the table each word is. A node's place is the number of the word of the field of its slot 1, also where it has no such slot; the
+-- field of its slot 2 is the next word.
+use Rattle.std.specs.Prelude.{ℕ, ◌+◌, ◌-◌, ◌*◌, ◌/◌, ◌%◌, ◌==◌, ◌<◌, ◌≤◌, nat_lt, if◌then◌else◌}
 use Rattle.ol_rules.specs.declared.journal.NodeName.{NodeName}
 use Rattle.ol_rules.specs.declared.journal.NodeName.TheVariants.{Init, Born}
 use Rattle.ol_wire.specs.declared.layout.Parts.{Parts}
@@ -77,3 +77,7 @@ part_of z w =
     else if nat_lt w (block z 0) then (if (w - start_cell z 0) % 2 == 0 then left else right)
     else if nat_lt w (size z) then part_in_block ((w - block z 0) / 22) ((w - block z 0) % 22)
     else past
+
+-- a word of the block of that ticket
+abbrev pub IsInBlock : Parts → ℕ → ℕ → Type 0
+IsInBlock z t w = (block z t ≤ w) × (w < block z t + 22)

@@ -1,9 +1,11 @@
 -- What each kind of step tells: of the step, the seat before, the word found and the seat after.
-use Rattle.std.specs.Prelude.{◌≡◌, ◌≢◌, ℕ, suc, ◌+◌, ◌-◌, ◌*◌, ◌/◌, ◌%◌, ◌<◌, ◌≤◌, nat_eq, nat_lt, if◌then◌else◌, List, [], ◌∷◌, ◌++◌, true, false, Some, ◌⊎◌}
+use Rattle.std.specs.Prelude.{◌≡◌, ◌≢◌, ℕ, suc, ◌+◌, ◌-◌, ◌*◌, ◌/◌, ◌%◌, ◌<◌, ◌≤◌, nat_eq, nat_lt, if◌then◌else◌, List, [], ◌∷◌, ◌++◌, Bool, true, false, ◌&&◌, ◌||◌, Option, Some, None, ◌⊎◌}
 use Rattle.atomic_table.specs.Table.{Me, Step}
 use Rattle.ol_edges.specs.Edges.{IsIn}
+use Rattle.ol_net.specs.declared.parts.Rule.{Rule}
 use Rattle.ol_net.specs.Parts.{arity}
 use Rattle.ol_wire.specs.declared.layout.Parts.{Parts}
+use Rattle.ol_wire.specs.declared.view.Link.{Link}
 use Rattle.ol_wire.specs.declared.view.View.{View}
 use Rattle.ol_wire.specs.References.{IsNodeRef, IsWireRef, kind_in, index_in, place_in, node_ref}
 use Rattle.ol_wire.specs.Layout.{block, size, start_cell}
@@ -11,11 +13,15 @@ use Rattle.ol_wire.specs.Events.{Event, rule_between, event_of, entry_of}
 use Rattle.ol_wire.specs.Blocks.{block_words, to_write, links_of}
 use Rattle.ol_wire.specs.Views.{fresh}
 
-abbrev pub Sat : Type 0
-Sat = Me (Unit {0}) View
+abbrev pub Seated : Type 0
+Seated = Me (Unit {0}) View
 
 abbrev pub Play : Type 1
-Play = Step (Unit {0}) → Sat → ℕ → Sat → Type 0
+Play = Step (Unit {0}) → Seated → ℕ → Seated → Type 0
+
+abbrev pub is_stuck : Option Rule → Option Rule → Bool
+is_stuck None None = true
+is_stuck f g = false
 
 abbrev pub rest : {A : Type 0} → List A → List A
 rest [] = []
@@ -27,9 +33,13 @@ cell_at z w =
     if nat_lt w (block z 0) then (w - start_cell z 0) / 2
     else z.cells + 4 * ((w - block z 0) / 22) + ((w - block z 0) % 22 - 14) / 2
 
+-- one cell more, where the seat holds all seats and the cell is the next to be swept
+abbrev pub swept_on : View → ℕ → ℕ
+swept_on v c = if nat_eq v.holds v.seats && nat_eq c v.swept then suc v.swept else v.swept
+
 -- a claim of the cell with left word w, where x stood
 abbrev pub missing : View → ℕ → View
-missing v w = record v { claimed = v.claimed ++ cell_at v.parts w ∷ []; last = (0, 0) }
+missing v w = record v { claimed = v.claimed ++ cell_at v.parts w ∷ []; last = (0, 0); swept = swept_on v (cell_at v.parts w) }
 
 abbrev pub holding : View → ℕ → ℕ → View
 holding v w x = record v { claimed = v.claimed ++ cell_at v.parts w ∷ []; last = (x, 0); taken = (w, x) ∷ v.taken }
@@ -46,7 +56,12 @@ abbrev pub known_at : List (ℕ × ℕ) → ℕ → ℕ
 known_at [] w = 0
 known_at (k ∷ ks) w = if nat_eq k.0 w then k.1 else known_at ks w
 
--- the event of the pair that a view claimed last
+-- the left word of the cell whose pair is in hand
+abbrev pub cell_in_hand : List (ℕ × ℕ) → ℕ
+cell_in_hand [] = 0
+cell_in_hand (x ∷ xs) = x.0
+
+-- the event of the pair in hand, which the view claimed last
 abbrev pub event_in : View → Event
 event_in v = event_of v.last.0 v.last.1
 
@@ -68,6 +83,7 @@ abbrev pub ticketed : View → ℕ → View
 ticketed v t = record v {
   taken = rest v.taken;
   known = [];
+  swept = swept_on v (cell_at v.parts (cell_in_hand v.taken));
   made = v.made ++ (t, entry_of v.parts (event_in v)) ∷ [];
   due = to_write (block v.parts t) (block_words v.parts (event_in v) t);
   pending = links_of v.parts (event_in v) t (λ s. known_at v.known (place_in (event_in v).f + s)) (λ s. known_at v.known (place_in (event_in v).g + s));
@@ -77,8 +93,46 @@ ticketed v t = record v {
 abbrev pub late : View → View
 late v = record v { over = true }
 
-abbrev pub settled : View → View
-settled v = record v { due = rest v.due }
+abbrev pub wrote : View → View
+wrote v = record v { due = rest v.due }
+
+-- the pair in hand is put back: it is stuck, or the fuel is used up
+abbrev pub returned : View → View
+returned v = record v {
+  taken = rest v.taken;
+  known = [];
+  swept = if is_stuck (rule_between v.last.0 v.last.1) (rule_between v.last.1 v.last.0) then swept_on v (cell_at v.parts (cell_in_hand v.taken)) else v.swept;
+}
+
+-- An exchange with the word of a wire or of a free port for the first pending link: the word was empty, or c stood in word w, where b was put in.
+abbrev pub linked : View → View
+linked v = record v { pending = rest v.pending }
+
+abbrev pub relinked : List Link → ℕ → ℕ → List Link
+relinked [] b c = []
+relinked (l ∷ ls) b c = record l { one = b; two = c } ∷ ls
+
+abbrev pub moved : View → ℕ → ℕ → ℕ → View
+moved v w b c = record v { pending = relinked v.pending b c; dead = v.dead ++ w ∷ [] }
+
+-- the left word of the cell of the first pending link is written, after its right word
+abbrev pub publishing : View → ℕ → View
+publishing v w = record v { pending = rest v.pending; known = []; published = v.published ++ cell_at v.parts w ∷ [] }
+
+-- what one seat holds and has done goes to another, and nothing is left
+abbrev pub joined : View → View → View
+joined v w = record v {
+  claimed = v.claimed ++ w.claimed;
+  published = v.published ++ w.published;
+  made = v.made ++ w.made;
+  over = v.over || w.over;
+  holds = v.holds + w.holds;
+  dead = v.dead ++ w.dead;
+  swept = 0;
+}
+
+abbrev pub emptied : View → View
+emptied w = fresh w.parts w.seats 0
 
 -- one seat is cut off
 abbrev pub one_seat : View → View
@@ -98,9 +152,9 @@ IsRefOf z r = IsNodeOf z r ⊎ (IsWireRef r × (0 < place_in r) × (place_in r <
 abbrev pub claims : Play
 claims s m r n = (n.1 ≡ m.1) × (r ≡ 0 → n.0 ≡ missing m.0 s.word) × (r ≢ 0 → (n.0 ≡ holding m.0 s.word r) × IsNodeOf m.0.parts r)
 
--- of the right word of the cell that was claimed last
+-- of the right word of the cell whose pair is in hand
 abbrev pub pairs_up : Play
-pairs_up s m r n = (n.1 ≡ m.1) × (n.0 ≡ paired m.0 s.word r) × IsNodeOf m.0.parts r
+pairs_up s m r n = (n.1 ≡ m.1) × (s.word ≡ suc (cell_in_hand m.0.taken)) × (n.0 ≡ paired m.0 s.word r) × IsNodeOf m.0.parts r
 
 -- of a field of one of the two nodes of the claimed pair
 abbrev pub looks : Play
@@ -110,4 +164,4 @@ abbrev pub draws : Play
 draws s m r n = (n.1 ≡ m.1) × (r < m.0.parts.fuel → n.0 ≡ ticketed m.0 r) × (m.0.parts.fuel ≤ r → n.0 ≡ late m.0)
 
 abbrev pub writes : Play
-writes s m r n = (n.1 ≡ m.1) × (n.0 ≡ settled m.0)
+writes s m r n = (n.1 ≡ m.1) × (n.0 ≡ wrote m.0)

@@ -3,7 +3,7 @@ ghost use Rattle.std.specs.Prelude.{◌≡◌, ◌≢◌, ℕ, suc, ◌+◌, ◌
 ghost use Rattle.ol_net.specs.Parts.{arity};
 ghost use Rattle.ol_wire.specs.References.{kind_in, place_in};
 ghost use Rattle.ol_wire.specs.Layout.{size, left_word, cells_of};
-ghost use Rattle.ol_wire.specs.Plays.{IsNodeOf, IsLookedUp, paired, knowing, ticketed, late, settled, rest};
+ghost use Rattle.ol_wire.specs.Plays.{IsNodeOf, IsLookedUp, paired, knowing, ticketed, late, wrote, rest};
 ghost use Rattle.ol_wire.specs.Sizes.{IsSmall};
 ghost use Rattle.ol_wire.specs.Stand.{IsUnder};
 ghost use Rattle.ol_wire.specs.Holds.{claiming, IsInHand, IsOfPair};
@@ -86,7 +86,7 @@ impl Shared {
         requires due { token.old.me.0.due ≡ (at, word) ∷ rest token.old.me.0.due }
         requires within { at < size self.now.plan.parts }
         ensures token { (token.new.table_id ≡ token.old.table_id) × (token.new.me.1 ≡ token.old.me.1) }
-        ensures view { token.new.me.0 ≡ settled token.old.me.0 }
+        ensures view { token.new.me.0 ≡ wrote token.old.me.0 }
     {
         self.table.shared.store::<Writes>(token, at as usize, word);
     }

@@ -40,6 +40,9 @@ pub struct View {
     pub ghost pending: { List Link },
     /// The wires that its exchanges made dead, by the numbers of their words.
     pub ghost dead: { List ℕ },
+    /// How many cells, from the first on, hold no active pair as far as it knows, once it is the one seat
+    /// that is left.
+    pub ghost swept: { ℕ },
     /// The parts and the seats of its table, which a step cannot read elsewhere.
     pub ghost parts: { Parts },
     pub ghost seats: { ℕ },
