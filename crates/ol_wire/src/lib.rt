@@ -2,6 +2,7 @@
 #![tactic(auto)]
 
 mod law;
+mod holding;
 mod laying;
 mod layout;
 mod plan;
@@ -12,6 +13,7 @@ mod shared;
 mod stepping;
 mod view;
 
+pub use holding::Hold;
 pub use law::Law;
 pub use layout::Parts;
 pub use plan::Plan;
