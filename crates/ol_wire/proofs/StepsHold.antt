@@ -3,6 +3,7 @@ use Rattle.std.proofs.Common.{◌≡◌, ◌≢◌, ℕ, zero, suc, ◌+◌, ◌
 use Rattle.std.proofs.lemmas.Bool.{cases_eq}
 use Rattle.ol_edges.specs.Edges.{IsIn}
 use Rattle.ol_net.specs.Parts.{arity}
+use Rattle.ol_rules.specs.Listed.{each}
 use Rattle.ol_wire.specs.declared.layout.Parts.{Parts}
 use Rattle.ol_wire.specs.declared.rewrite.Rewrite.{Rewrite}
 use Rattle.ol_wire.specs.declared.view.Link.{Link}
@@ -10,11 +11,12 @@ use Rattle.ol_wire.specs.declared.view.View.{View}
 use Rattle.ol_wire.specs.References.{kind_in, place_in}
 use Rattle.ol_wire.specs.Layout.{block, size}
 use Rattle.ol_wire.specs.Events.{Event, rule_between, event_of, entry_of}
-use Rattle.ol_wire.specs.Blocks.{block_words, to_write, links_of}
+use Rattle.ol_wire.specs.Blocks.{block_words, to_write, joins_in, link_of, links_of}
 use Rattle.ol_wire.specs.Plays.{IsNodeOf, IsLookedUp, known_at, event_in, ticketed, rest}
 use Rattle.ol_wire.specs.Rewrites.{event_for}
 use Rattle.ol_wire.specs.Sizes.{IsSmall}
-use Rattle.ol_wire.specs.Holds.{IsInHand, IsOfPair, fields_known, Rewrote}
+use Rattle.ol_wire.specs.Views.{IsIdle}
+use Rattle.ol_wire.specs.Holds.{in_hand, IsInHand, IsOfPair, fields_known, Rewrote}
 use Rattle.ol_wire.proofs.Claimed.{in_left, in_right}
 use Rattle.ol_wire.proofs.StepsPair.{arity_two, event_sides}
 
@@ -129,3 +131,35 @@ rewritten v v2 v3 v4 w t ks hand due e2 e3 e4 = record {
 
     pending : v4.pending ≡ links
     pending = ap (λ (u : View). u.pending) whole
+
+-- the view with the pair in hand
+pub hand_of : (z : Parts) (v n : View) (w c : ℕ) (pair : ℕ × ℕ) → v.parts ≡ z → n ≡ in_hand v w c pair → IsNodeOf z pair.0 → IsNodeOf z pair.1 → IsInHand n w
+hand_of z v n w c pair parts is f g = subst (λ (u : View). IsInHand u w) (sym is) hand
+  where
+    hand : IsInHand (in_hand v w c pair) w
+    hand = record {
+      taken = refl;
+      right = inl refl;
+      nodes = (subst (λ (y : Parts). IsNodeOf y pair.0) (sym parts) f, subst (λ (y : Parts). IsNodeOf y pair.1) (sym parts) g);
+    }
+
+some_last : {A : Type 0} (xs : List A) (x : A) → xs ++ x ∷ [] ≡ [] → ⊥
+some_last [] x e = absurd (cc)
+some_last (y ∷ xs) x e = absurd (cc)
+
+-- a rewrite leaves no link exactly where it has no join
+pub no_links : (z : Parts) (e : Event) (t : ℕ) (a b : ℕ → ℕ) → (links_of z e t a b ≡ [] → joins_in e ≡ 0) × (joins_in e ≡ 0 → links_of z e t a b ≡ [])
+no_links z e t a b = (of (joins_in e), (λ q. ap (λ (n : ℕ). each n (λ j. link_of z e t a b j ∷ [])) q))
+  where
+    of : (n : ℕ) → each n (λ j. link_of z e t a b j ∷ []) ≡ [] → n ≡ 0
+    of zero q = refl
+    of (suc n) q = absurd (some_last (each n (λ j. link_of z e t a b j ∷ [])) (link_of z e t a b n) q)
+
+idle_by : (n : View) (z : Parts) (e : Event) (t : ℕ) (a b : ℕ → ℕ) → n.taken ≡ [] → n.due ≡ [] → n.pending ≡ links_of z e t a b → (joins_in e ≡ 0 → IsIdle n) × (IsIdle n → joins_in e ≡ 0)
+idle_by n z e t a b taken due pending = ((λ q. (taken, due, pending ∙ (no_links z e t a b).1 q)), (λ idle. (no_links z e t a b).0 (sym pending ∙ idle.2)))
+
+-- after the rewrite the seat is idle exactly where there is no join
+pub idle_after : (v n : View) (t : ℕ) (r : Rewrite) → event_for r ≡ event_in v → v.due ≡ [] → Rewrote v t n → (joins_in (event_for r) ≡ 0 → IsIdle n) × (IsIdle n → joins_in (event_for r) ≡ 0)
+idle_after v n t r is due done =
+    subst (λ (e : Event). (joins_in e ≡ 0 → IsIdle n) × (IsIdle n → joins_in e ≡ 0)) (sym is)
+    (idle_by n v.parts (event_in v) t _ _ (ap (λ (u : View). u.taken) done.view) (ap (λ (u : View). u.due) done.view ∙ due) done.links)

@@ -8,8 +8,8 @@ ghost use Rattle.ol_wire.specs.Sizes.{IsSmall};
 ghost use Rattle.ol_wire.specs.Stand.{IsUnder};
 ghost use Rattle.ol_wire.specs.Holds.{claiming, IsInHand, IsOfPair};
 
-use crate::layout::Parts;
 use crate::law::{Claims, Draws, Looks, PairsUp, Writes};
+use crate::layout::Parts;
 use crate::reference::place_in;
 use crate::seat::Token;
 use crate::shared::Shared;
