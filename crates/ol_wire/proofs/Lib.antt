@@ -34,5 +34,6 @@ pub mod StepsKeep
 pub mod StepsPlain
 pub mod StepsPair
 pub mod StepsCut
+pub mod StepsHold
 pub mod Steps
 pub mod Opening

@@ -1,10 +1,12 @@
 //! The shared words: a net laid out in words that any number of threads rewrite by single atomic steps.
 #![tactic(auto)]
 
+mod holding;
 mod law;
 mod laying;
 mod layout;
 mod plan;
+mod promise;
 mod reference;
 mod rewrite;
 mod seat;
@@ -12,9 +14,11 @@ mod shared;
 mod stepping;
 mod view;
 
+pub use holding::Hold;
 pub use law::Law;
 pub use layout::Parts;
 pub use plan::Plan;
+pub use promise::at_every_moment;
 pub use seat::Seat;
 pub use shared::Shared;
 pub use view::{Link, View};

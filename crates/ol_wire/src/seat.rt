@@ -48,7 +48,7 @@ impl Seat {
 }
 
 impl Shared {
-    // Cuts one seat off a seat that is idle.
+    // Cuts one seat off a seat that stands for more than one.
     pub(crate) fn cut(&self, seat: &mut Seat) -> Seat
         requires table { seat.old.table ≡ self.now.table }
         requires holds { (1 < seat.old.view.holds) × (seat.old.view.over ≡ false) }

@@ -1,7 +1,6 @@
-use Rattle.std.proofs.Common.{◌≡◌, ◌<◌, ℕ, sym, ap, ◌∙◌, subst, arith}
+use Rattle.std.proofs.Common.{◌≡◌, ◌<◌, sym, ap, ◌∙◌, subst, arith}
 use Rattle.ol_wire.specs.declared.layout.Parts.{Parts}
-use Rattle.ol_wire.specs.declared.plan.Plan.{Plan}
-use Rattle.ol_wire.specs.Layout.{left, left_word, cells_of, part_of, size}
+use Rattle.ol_wire.specs.Layout.{left_word, cells_of, part_of, size}
 use Rattle.ol_wire.specs.Stand.{Board}
 use Rattle.ol_wire.proofs.Places.{part_cell}
 use Rattle.ol_wire.proofs.Steps.{claims_allowed}

@@ -1,11 +1,10 @@
-use Rattle.std.proofs.Common.{◌≡◌, ◌<◌, ◌+◌, ℕ, suc, sym, refl, ap, ◌∙◌, subst, inl, inr, arith, List, ◌∷◌, ◌⊎◌}
+use Rattle.std.proofs.Common.{◌≡◌, ℕ, sym, refl, ap, ◌∙◌, subst, inl, inr, arith, List}
 use Rattle.ol_edges.specs.Edges.{IsIn}
 use Rattle.ol_wire.specs.declared.layout.Parts.{Parts}
 use Rattle.ol_wire.specs.declared.view.View.{View}
-use Rattle.ol_wire.specs.References.{kind_in, place_in}
-use Rattle.ol_wire.specs.Layout.{block, size}
+use Rattle.ol_wire.specs.References.{kind_in}
+use Rattle.ol_wire.specs.Layout.{size}
 use Rattle.ol_wire.specs.Plays.{IsNodeOf}
-use Rattle.ol_wire.specs.Sizes.{IsSmall}
 use Rattle.ol_wire.specs.Stand.{Board}
 use Rattle.ol_wire.specs.Holds.{IsInHand, IsOfPair}
 use Rattle.ol_wire.proofs.StepsPair.{arity_two}

@@ -1,4 +1,4 @@
-use Rattle.std.proofs.Common.{◌≡◌, ℕ, [], List, sym, refl, subst}
+use Rattle.std.proofs.Common.{ℕ, [], List, sym, refl, subst}
 use Rattle.atomic_table.specs.Table.{opening}
 use Rattle.ol_wire.specs.declared.plan.Plan.{Plan}
 use Rattle.ol_wire.specs.Rule.{Kept, opener}
