@@ -8,3 +8,6 @@ pub mod WordEdges
 pub mod Ticket
 pub mod Steps
 pub mod Opening
+pub mod OpeningPorts
+pub mod OpeningWords
+pub mod OpeningLists

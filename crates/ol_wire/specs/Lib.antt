@@ -2,6 +2,7 @@ pub mod References
 pub mod Layout
 pub mod Sizes
 pub mod Starts
+pub mod Laid
 pub mod Events
 pub mod Blocks
 pub mod Edges

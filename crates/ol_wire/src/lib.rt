@@ -2,6 +2,7 @@
 #![tactic(auto)]
 
 mod law;
+mod laying;
 mod layout;
 mod plan;
 mod reference;
