@@ -11,3 +11,5 @@ pub mod Opening
 pub mod OpeningPorts
 pub mod OpeningWords
 pub mod OpeningLists
+pub mod OpeningEach
+pub mod OpeningEnds

@@ -21,10 +21,10 @@ index_low (Some f ∷ nodes) (suc n) k e = omega (arith, index_low nodes n k e)
 pub node_inside : (nodes : List (Option (Kind × ℕ))) (n : ℕ) (k : Kind × ℕ) → kind_at nodes n ≡ Some k → n < length nodes
 node_inside nodes n k e = kind_at-within nodes n 0 (rw e (grind (arith, nat_tests)))
 
-free_inside : (net : Graph) (m : ℕ) → has_port net.free net.nodes (Free m) ≡ true → m < net.free
+pub free_inside : (net : Graph) (m : ℕ) → has_port net.free net.nodes (Free m) ≡ true → m < net.free
 free_inside net m h = grind (arith, nat_tests)
 
-of_inside : (net : Graph) (m : NodeId) (s : ℕ) → has_port net.free net.nodes (Of m s) ≡ true → (m.0 < length net.nodes) × (s < 3)
+pub of_inside : (net : Graph) (m : NodeId) (s : ℕ) → has_port net.free net.nodes (Of m s) ≡ true → (m.0 < length net.nodes) × (s < 3)
 of_inside net m s h = (kind_at-within net.nodes m.0 s h, has_slot-lt (kind_at net.nodes m.0) s h)
 
 pub partner_free : (net : Graph) (p : Port) (m : ℕ) → partner_of net (Free m) ≡ Some p → m < net.free
