@@ -13,3 +13,5 @@ pub mod OpeningWords
 pub mod OpeningLists
 pub mod OpeningEach
 pub mod OpeningEnds
+pub mod OpeningCounts
+pub mod OpeningSites
