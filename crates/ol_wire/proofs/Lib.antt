@@ -15,3 +15,4 @@ pub mod OpeningEach
 pub mod OpeningEnds
 pub mod OpeningCounts
 pub mod OpeningSites
+pub mod OpeningStands

@@ -93,7 +93,7 @@ if_none : (b : Bool) (xs : List (ℕ × ℕ)) → xs ≡ [] → (if b then xs el
 if_none true xs e = e
 if_none false xs e = refl
 
-empty_edge : (N : NamedNet NodeName) (r : Bool) (p : Part) (w word next : ℕ) → word ≡ 0 → edge_in N r p w word next ≡ []
+pub empty_edge : (N : NamedNet NodeName) (r : Bool) (p : Part) (w word next : ℕ) → word ≡ 0 → edge_in N r p w word next ≡ []
 empty_edge N r part.ticket w word next e = refl
 empty_edge N r (part.port k) w word next e = edge_none (wire_ref w) word e
 empty_edge N r (part.field x s) w word next e = if_none (is_live N x) (edge_to (slot_ref w) word) (edge_none (slot_ref w) word e)
