@@ -16,3 +16,4 @@ pub mod OpeningEnds
 pub mod OpeningCounts
 pub mod OpeningSites
 pub mod OpeningStands
+pub mod OpeningKept

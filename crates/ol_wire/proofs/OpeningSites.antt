@@ -53,7 +53,7 @@ seat net z (Of n zero) (Of m zero) = start_cell z (cell_number net (if nat_lt n.
 seat net z (Of n zero) (Of m (suc s)) = start_node z m.0 + s
 
 -- where a word stands
-data Where (z : Parts) (w : ℕ) : Type 0 where
+pub data Where (z : Parts) (w : ℕ) : Type 0 where
   first : w ≡ 0 → Where z w
   port : (n : ℕ) → n < z.free → w ≡ port_word n → Where z w
   field : (n s : ℕ) → n < z.nodes → s < 2 → w ≡ start_node z n + s → Where z w
@@ -62,7 +62,7 @@ data Where (z : Parts) (w : ℕ) : Type 0 where
   right : (c : ℕ) → c < z.cells → w ≡ suc (start_cell z c) → Where z w
   later : block z 0 ≤ w → Where z w
 
-where_at : (z : Parts) (w : ℕ) → Where z w
+pub where_at : (z : Parts) (w : ℕ) → Where z w
 where_at z w = elim (cases_eq w 0) [
   | inl e ↦ first e
   | inr some ↦ elim (cases_lt w (start_node z 0)) [
