@@ -241,3 +241,11 @@ module _ (p : Plan) (words : List ℕ) (parts : AreParts p.start.value p.parts.f
     seats = seats_keep;
     stands = stands;
   }
+
+pub opens_as : (p : Plan) (net : Graph) (z : Parts) (fuel : ℕ) (words : List ℕ) → AreParts net fuel z → IsSmall z → IsLaid net z words → top_index_of net.nodes ≤ 1000000 → IsTabled net.free net.nodes net.partners → HasIndexes net.nodes
+    → p.parts ≡ z → p.start.value ≡ net → 0 < p.seats → p.seats ≤ 64 → Kept p (opening words [] (opener p))
+opens_as p net z fuel words parts small laid low tabled indexes is_z is_net some_seat few_seats =
+    let own : AreParts net z.fuel z = record { free = parts.free; nodes = parts.nodes; wires = parts.wires; cells = parts.cells; fuel = refl } in
+    opens p words (subst (λ (n : Graph). AreParts n p.parts.fuel p.parts) (sym is_net) (subst (λ (y : Parts). AreParts net y.fuel y) (sym is_z) own)) (subst IsSmall (sym is_z) small)
+    (subst (λ (n : Graph). IsLaid n p.parts words) (sym is_net) (subst (λ (y : Parts). IsLaid net y words) (sym is_z) laid)) (subst (λ (n : Graph). top_index_of n.nodes ≤ 1000000) (sym is_net) low)
+    (subst (λ (n : Graph). IsTabled n.free n.nodes n.partners) (sym is_net) tabled) (subst (λ (n : Graph). HasIndexes n.nodes) (sym is_net) indexes) some_seat few_seats

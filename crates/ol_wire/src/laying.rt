@@ -7,6 +7,9 @@ ghost use Rattle.ol_rules.specs.Listed.{each};
 ghost use Rattle.ol_wire.specs.Layout.{start_node, start_wire, size};
 ghost use Rattle.ol_wire.specs.Sizes.{IsSmall};
 ghost use Rattle.ol_wire.specs.Starts.{AreParts, aux_links, facing_pairs};
+ghost use Rattle.atomic_table.specs.Table.{opening};
+ghost use Rattle.ol_wire.specs.Rule.{Kept, opener};
+ghost use Rattle.ol_wire.specs.declared.plan.Plan.{Plan};
 ghost use Rattle.ol_wire.specs.Laid.{node_word, word_of_port, wires_before, field_of, cell_words, port_row, field_row, pair_at, HasFields, IsLaid};
 
 use crate::layout::{BLOCK, Parts};
@@ -218,8 +221,8 @@ fn put_cells(net: &Net, parts: Parts, words: &mut Vec<u64>) -> Result<u32, NoMem
     Ok(cells)
 }
 
-/// The words of a net with so many tickets, and their parts.
-pub(crate) fn lay(alloc: Global, net: &Net, fuel: u32) -> Result<(Parts, Vec<u64>), NoMemory>
+// The words, and their parts.
+fn lay_out(alloc: Global, net: &Net, fuel: u32) -> Result<(Parts, Vec<u64>), NoMemory>
     requires small { (length net.now.nodes ≤ 1000000) × (net.now.free ≤ 1000000) × (top_index_of net.now.nodes ≤ 1000000) × (fuel ≤ 2000000) }
     ensures parts { IfOk result (λ r. AreParts net.now fuel r.0) }
     ensures small { IfOk result (λ r. IsSmall r.0) }
@@ -247,5 +250,21 @@ pub(crate) fn lay(alloc: Global, net: &Net, fuel: u32) -> Result<(Parts, Vec<u64
         cells,
         fuel,
     };
+    Ok((parts, words))
+}
+
+/// A net laid out in words, with blocks for so many tickets. Whatever number of seats is made over these words, they meet the rule of the
+/// table at the start, with no ticket drawn.
+///
+/// It takes time in proportion to the number of words, and takes memory for them alone. `NoMemory`: no memory was found.
+pub(crate) fn lay(alloc: Global, net: &Net, fuel: u32) -> Result<(Parts, Vec<u64>), NoMemory>
+    requires small { (length net.now.nodes ≤ 1000000) × (net.now.free ≤ 1000000) × (top_index_of net.now.nodes ≤ 1000000) × (fuel ≤ 2000000) }
+    ensures parts { IfOk result (λ r. AreParts net.now fuel r.0) }
+    ensures small { IfOk result (λ r. IsSmall r.0) }
+    ensures words { IfOk result (λ r. vec_len r.1 ≡ size r.0) }
+    ensures kept { IfOk result (λ r. (p : Plan) → p.parts ≡ r.0 → p.start.value ≡ net.now → 0 < p.seats → p.seats ≤ 64 → Kept p (opening r.1.items [] (opener p))) }
+{
+    net.is_tabled();
+    let (parts, words) = lay_out(alloc, net, fuel)?;
     Ok((parts, words))
 }
