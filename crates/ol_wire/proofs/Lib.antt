@@ -16,4 +16,3 @@ pub mod OpeningEnds
 pub mod OpeningCounts
 pub mod OpeningSites
 pub mod OpeningStands
-pub mod OpeningKept

@@ -27,8 +27,5 @@ free_inside net m h = grind (arith, nat_tests)
 pub of_inside : (net : Graph) (m : NodeId) (s : ℕ) → has_port net.free net.nodes (Of m s) ≡ true → (m.0 < length net.nodes) × (s < 3)
 of_inside net m s h = (kind_at-within net.nodes m.0 s h, has_slot-lt (kind_at net.nodes m.0) s h)
 
-pub partner_free : (net : Graph) (p : Port) (m : ℕ) → partner_of net (Free m) ≡ Some p → m < net.free
-partner_free net p m e = free_inside net m (partner_of-parts net (Free m) p e).0
-
 pub partner_node : (net : Graph) (p : Port) (m : NodeId) (s : ℕ) → partner_of net (Of m s) ≡ Some p → (m.0 < length net.nodes) × (s < 3)
 partner_node net p m s e = of_inside net m s (partner_of-parts net (Of m s) p e).0

@@ -123,6 +123,9 @@ module _ (net : Graph) (z : Parts) (words : List ℕ) (N : NamedNet NodeName) (r
   pub has : (p q : Port) → Link p q → has_port net.free net.nodes p ≡ true
   has p q e = (partner_of-parts net p q e).0
 
+  pub has_other : (p q : Port) → Link p q → has_port net.free net.nodes q ≡ true
+  has_other p q e = has q p (back p q e)
+
   node_some : (n : NodeId) (s : ℕ) (q : Port) → Link (Of n s) q → node_word net z n.0 ≢ 0
   node_some n s q e zero_word = let l = live_of net z g.low n s (has (Of n s) q e) in let w = l.word in omega (arith, w, zero_word)
 

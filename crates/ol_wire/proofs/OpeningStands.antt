@@ -147,7 +147,7 @@ module _ (net : Graph) (z : Parts) (words : List ℕ) (reached : ℕ → Bool) (
   has p q e = sites.has net z words N reached g p q e
 
   has_other : (p q : Port) → Link p q → IsPortOf q
-  has_other p q e = has q p (turn p q e)
+  has_other p q e = sites.has_other net z words N reached g p q e
 
   one_partner : (p q r : Port) → Link p q → Link p r → q ≡ r
   one_partner p q r a b = same_some q r (sym a ∙ b)
@@ -277,13 +277,13 @@ module _ (net : Graph) (z : Parts) (words : List ℕ) (reached : ℕ → Bool) (
   port_missed p q l v away (direct p' q' l' plain e) =
       miss_edge v (end p) (end p') (end q')
       (λ same.
-          let a = same_port p p' (has p q l) (has p' q' l') same in
-          let b = one_partner p' q q' (ap (partner_of net) (sym a) ∙ l) l' in
-          away (e ∙ ap (λ r. seat net z r q') (sym a) ∙ ap (seat net z p) (sym b)))
+      let a = same_port p p' (has p q l) (has p' q' l') same in
+      let b = one_partner p' q q' (ap (partner_of net) (sym a) ∙ l) l' in
+      away (e ∙ ap (λ r. seat net z r q') (sym a) ∙ ap (seat net z p) (sym b)))
       (λ same.
-          let a = same_port p q' (has p q l) (has_other p' q' l') same in
-          let b = one_partner q' q p' (ap (partner_of net) (sym a) ∙ l) (turn p' q' l') in
-          away (e ∙ seat_swapped net z p' q' plain ∙ ap (λ r. seat net z r p') (sym a) ∙ ap (seat net z p) (sym b)))
+      let a = same_port p q' (has p q l) (has_other p' q' l') same in
+      let b = one_partner q' q p' (ap (partner_of net) (sym a) ∙ l) (turn p' q' l') in
+      away (e ∙ seat_swapped net z p' q' plain ∙ ap (λ r. seat net z r p') (sym a) ∙ ap (seat net z p) (sym b)))
       (edge_at v (seat net z p' q') (end p') (end q') e (at p' q' l' plain))
   port_missed p q l v away (half n m s u l' e) =
       miss_edge v (end p) (slot_ref (start_node z n.0 + s)) (wire_end n s m u)
@@ -337,13 +337,13 @@ module _ (net : Graph) (z : Parts) (words : List ℕ) (reached : ℕ → Bool) (
   wire_missed j f v a b (half n m s u l e) =
       miss_edge v (wire_ref (start_wire z j)) (slot_ref (start_node z n.0 + s)) (wire_end n s m u) (wire_not_slot (start_wire z j) (start_node z n.0 + s))
       (λ same.
-          let w = wire_same (start_wire z j) (start_wire z (num n s m u)) same in
-          let fn = f.number in
-          let eq : num n s m u ≡ num f.n f.s f.m f.u = omega (arith, w, fn) in
-          elim (num_same n m f.n f.m s u f.s f.u l f.linked eq) [
-            | inl o ↦ a (e ∙ seat_of_slot n f.n s f.s o)
-            | inr o ↦ b (e ∙ seat_of_slot n f.m s f.u o)
-          ])
+      let w = wire_same (start_wire z j) (start_wire z (num n s m u)) same in
+      let fn = f.number in
+      let eq : num n s m u ≡ num f.n f.s f.m f.u = omega (arith, w, fn) in
+      elim (num_same n m f.n f.m s u f.s f.u l f.linked eq) [
+        | inl o ↦ a (e ∙ seat_of_slot n f.n s f.s o)
+        | inr o ↦ b (e ∙ seat_of_slot n f.m s f.u o)
+      ])
       (edge_at v (start_node z n.0 + s) (slot_ref (start_node z n.0 + s)) (wire_end n s m u) e (inl (at_slot n m s u l)))
 
   hit_wire : (j : ℕ) (n m : NodeId) (s u : ℕ) → Link (Of n (suc s)) (Of m (suc u)) → num n s m u ≡ j → ends nat_eq (wire_ref (start_wire z j)) (edge (start_node z n.0 + s)) ≡ 1
@@ -387,41 +387,41 @@ module _ (net : Graph) (z : Parts) (words : List ℕ) (reached : ℕ → Bool) (
   known_all e h = let r = some_place edge e (size z) h in known_at e r.0 r.2 (found_at r.0)
 
   -- What is joined by edges is of one link.
-  abbrev E : List (ℕ × ℕ)
-  E = each (size z) edge
+  abbrev all_edges : List (ℕ × ℕ)
+  all_edges = each (size z) edge
 
   not_wire_end : (p : Port) → IsPortOf p → IsWireEnd reached (end p) → ⊥
   not_wire_end p h (w, r, e) = let j = g.only w r in not_wire p j.0 h (e ∙ ap wire_ref j.2)
 
-  in_edge : (w x y : ℕ) → edge w ≡ (x, y) ∷ [] → IsIn {X = ℕ × ℕ} (x, y) E
+  in_edge : (w x y : ℕ) → edge w ≡ (x, y) ∷ [] → IsIn {X = ℕ × ℕ} (x, y) all_edges
   in_edge w x y e = in_row edge (x, y) (size z) w (within w x y e) (there e)
     where
       there : edge w ≡ (x, y) ∷ [] → IsIn {X = ℕ × ℕ} (x, y) (edge w)
       there e = subst (λ (l : List (ℕ × ℕ)). IsIn {X = ℕ × ℕ} (x, y) l) (sym e) (inl refl)
 
-  plain_joined : (w x y : ℕ) → EdgeIs w x y → Joined (EdgeOf E) x y
+  plain_joined : (w x y : ℕ) → EdgeIs w x y → Joined (EdgeOf all_edges) x y
   plain_joined w x y (inl e) = on here (in_edge w x y e)
   plain_joined w x y (inr e) = back here (in_edge w y x e)
 
-  wire_joined : (n m : NodeId) (s u : ℕ) → Link (Of n (suc s)) (Of m (suc u)) → Joined (EdgeOf E) (end (Of n (suc s))) (end (Of m (suc u)))
+  wire_joined : (n m : NodeId) (s u : ℕ) → Link (Of n (suc s)) (Of m (suc u)) → Joined (EdgeOf all_edges) (end (Of n (suc s))) (end (Of m (suc u)))
   wire_joined n m s u l =
       let r = turn (Of n (suc s)) (Of m (suc u)) l in
       let w = start_node z n.0 + s in
       let v = start_node z m.0 + u in
-      let a : IsIn {X = ℕ × ℕ} (slot_ref w, wire_end n s m u) E = in_edge w (slot_ref w) (wire_end n s m u) (at_slot n m s u l) in
-      let b : IsIn {X = ℕ × ℕ} (slot_ref v, wire_end n s m u) E =
-          in_edge v (slot_ref v) (wire_end n s m u) (at_slot m n u s r ∙ ap (λ k. (slot_ref v, wire_ref (start_wire z k)) ∷ []) (sym (num_swapped n m s u l))) in
+      let a : IsIn {X = ℕ × ℕ} (slot_ref w, wire_end n s m u) all_edges = in_edge w (slot_ref w) (wire_end n s m u) (at_slot n m s u l) in
+      let b : IsIn {X = ℕ × ℕ} (slot_ref v, wire_end n s m u) all_edges =
+      in_edge v (slot_ref v) (wire_end n s m u) (at_slot m n u s r ∙ ap (λ k. (slot_ref v, wire_ref (start_wire z k)) ∷ []) (sym (num_swapped n m s u l))) in
       back (on here a) b
 
-  joined_of : (p q : Port) → Link p q → Joined (EdgeOf E) (end p) (end q)
+  joined_of : (p q : Port) → Link p q → Joined (EdgeOf all_edges) (end p) (end q)
   joined_of p q l = elim (plain_or p q) [
     | inl plain ↦ plain_joined (seat net z p q) (end p) (end q) (at p q l plain)
     | inr b ↦
         let l' : Link (Of b.n (suc b.s)) (Of b.m (suc b.u)) = ap (partner_of net) (sym b.first) ∙ l ∙ ap (λ r. Some r) b.second in
-        subst (λ x. Joined (EdgeOf E) x (end q)) (ap end (sym b.first)) (subst (λ y. Joined (EdgeOf E) (end (Of b.n (suc b.s))) y) (ap end (sym b.second)) (wire_joined b.n b.m b.s b.u l'))
+        subst (λ x. Joined (EdgeOf all_edges) x (end q)) (ap end (sym b.first)) (subst (λ y. Joined (EdgeOf all_edges) (end (Of b.n (suc b.s))) y) (ap end (sym b.second)) (wire_joined b.n b.m b.s b.u l'))
   ]
 
-  contracted_of : (p q : Port) → Link p q → Contracted (EdgeOf E) (IsWireEnd reached) (end p) (end q)
+  contracted_of : (p q : Port) → Link p q → Contracted (EdgeOf all_edges) (IsWireEnd reached) (end p) (end q)
   contracted_of p q l = record { first = not_wire_end p (has p q l); second = not_wire_end q (has_other p q l); apart = ends_apart p q l; joined = joined_of p q l }
 
   -- v stands at the link of p: it is the end of one of its two ports, or of its wire
@@ -464,34 +464,34 @@ module _ (net : Graph) (z : Parts) (words : List ℕ) (reached : ℕ → Bool) (
         go (inl q) = (ap (λ (t : ℕ × ℕ). t.0) q, ap (λ (t : ℕ × ℕ). t.1) q)
         go (inr q) = absurd q
 
-    abbrev Both_ways : ℕ → ℕ → Type 0
-    Both_ways x y = (OfLink p x → OfLink p y) × (OfLink p y → OfLink p x)
+    abbrev BothWays : ℕ → ℕ → Type 0
+    BothWays x y = (OfLink p x → OfLink p y) × (OfLink p y → OfLink p x)
 
-    moved : (x y a b : ℕ) → x ≡ a → y ≡ b → Both_ways a b → Both_ways x y
+    moved : (x y a b : ℕ) → x ≡ a → y ≡ b → BothWays a b → BothWays x y
     moved x y a b e f t = (λ h. subst (OfLink p) (sym f) (t.0 (subst (OfLink p) e h)), λ h. subst (OfLink p) (sym e) (t.1 (subst (OfLink p) f h)))
 
-    direct_ways : (a b : Port) → Link a b → Both_ways (end a) (end b)
+    direct_ways : (a b : Port) → Link a b → BothWays (end a) (end b)
     direct_ways a b l = (direct_step a b l, direct_step b a (turn a b l))
 
-    edge_ways : (w x y a b : ℕ) → EdgeIs w a b → Both_ways a b → IsIn {X = ℕ × ℕ} (x, y) (edge w) → Both_ways x y
+    edge_ways : (w x y a b : ℕ) → EdgeIs w a b → BothWays a b → IsIn {X = ℕ × ℕ} (x, y) (edge w) → BothWays x y
     edge_ways w x y a b (inl e) t h = let o = only_edge w x y a b e h in moved x y a b o.0 o.1 t
     edge_ways w x y a b (inr e) t h = let o = only_edge w x y b a e h in moved x y b a o.0 o.1 (t.1, t.0)
 
-    found_ways : (w x y : ℕ) → IsIn {X = ℕ × ℕ} (x, y) (edge w) → Found net z words N reached g w → Both_ways x y
+    found_ways : (w x y : ℕ) → IsIn {X = ℕ × ℕ} (x, y) (edge w) → Found net z words N reached g w → BothWays x y
     found_ways w x y h (none e) = absurd (subst (λ (l : List (ℕ × ℕ)). IsIn {X = ℕ × ℕ} (x, y) l) e h)
     found_ways w x y h (direct a b l plain e) = edge_ways w x y (end a) (end b) (edge_at w (seat net z a b) (end a) (end b) e (at a b l plain)) (direct_ways a b l) h
     found_ways w x y h (half n m s u l e) =
         edge_ways w x y (slot_ref (start_node z n.0 + s)) (wire_end n s m u) (edge_at w (start_node z n.0 + s) (slot_ref (start_node z n.0 + s)) (wire_end n s m u) e (inl (at_slot n m s u l))) (onto_wire n m s u l, off_wire n m s u l) h
 
-    ways : (x y : ℕ) → IsIn {X = ℕ × ℕ} (x, y) E → Both_ways x y
+    ways : (x y : ℕ) → IsIn {X = ℕ × ℕ} (x, y) all_edges → BothWays x y
     ways x y h = let r = row_of edge (x, y) (size z) h in found_ways r.0 x y r.2 (found_at r.0)
 
-    of_joined : (v : ℕ) → Joined (EdgeOf E) (end p) v → OfLink p v
+    of_joined : (v : ℕ) → Joined (EdgeOf all_edges) (end p) v → OfLink p v
     of_joined v here = own refl
     of_joined v (on {v = u} j e) = (ways u v e).0 (of_joined u j)
     of_joined v (back {v = u} j e) = (ways v u e).1 (of_joined u j)
 
-    linked_from : (q : Port) → IsPortOf q → Contracted (EdgeOf E) (IsWireEnd reached) (end p) (end q) → Link p q
+    linked_from : (q : Port) → IsPortOf q → Contracted (EdgeOf all_edges) (IsWireEnd reached) (end p) (end q) → Link p q
     linked_from q h c = go (of_joined (end q) c.joined)
       where
         go : OfLink p (end q) → Link p q
@@ -499,16 +499,16 @@ module _ (net : Graph) (z : Parts) (words : List ℕ) (reached : ℕ → Bool) (
         go (across r k e) = k ∙ ap (λ t. Some t) (sym (same_port q r h (has_other p r k) e))
         go (along n m s u k i e) = absurd (not_wire q (num n s m u) h e)
 
-  links_of : (P Q : NamedPort NodeName) (d e : ℕ) → IsEnd z N P d → IsEnd z N Q e → Linked N P Q ↔ Contracted (EdgeOf E) (IsWireEnd reached) d e
+  links_of : (P Q : NamedPort NodeName) (d e : ℕ) → IsEnd z N P d → IsEnd z N Q e → Linked N P Q ↔ Contracted (EdgeOf all_edges) (IsWireEnd reached) d e
   links_of P Q d e a b =
       let p = end_port net z g.low P d a in
       let q = end_port net z g.low Q e b in
       let both = link_named net p.0 q.0 g.tabled in (
         λ h.
             let l = both.0 (subst (λ X. Linked N X (named q.0)) p.1 (subst (λ Y. Linked N P Y) q.1 h)) in
-            subst (λ x. Contracted (EdgeOf E) (IsWireEnd reached) x e) (sym p.3) (subst (λ y. Contracted (EdgeOf E) (IsWireEnd reached) (end p.0) y) (sym q.3) (contracted_of p.0 q.0 l)),
+            subst (λ x. Contracted (EdgeOf all_edges) (IsWireEnd reached) x e) (sym p.3) (subst (λ y. Contracted (EdgeOf all_edges) (IsWireEnd reached) (end p.0) y) (sym q.3) (contracted_of p.0 q.0 l)),
         λ c.
-            let k = subst (λ x. Contracted (EdgeOf E) (IsWireEnd reached) x (end q.0)) p.3 (subst (λ y. Contracted (EdgeOf E) (IsWireEnd reached) d y) q.3 c) in
+            let k = subst (λ x. Contracted (EdgeOf all_edges) (IsWireEnd reached) x (end q.0)) p.3 (subst (λ y. Contracted (EdgeOf all_edges) (IsWireEnd reached) d y) q.3 c) in
             let l = both.1 (linked_from p.0 p.2 q.0 q.2 k) in
             subst (λ X. Linked N X Q) (sym p.1) (subst (λ Y. Linked N (named p.0) Y) (sym q.1) l),
       )
@@ -518,8 +518,8 @@ module _ (net : Graph) (z : Parts) (words : List ℕ) (reached : ℕ → Bool) (
     ports = λ P e a.
         let p = end_port net z g.low P e a in
         let q = partner_of-there net p.0 p.2 in
-        ap (λ x. ends nat_eq x E) p.3 ∙ port_once p.0 q.0 q.1;
-    wires = λ e a. let j = g.only a.0 a.1 in ap (λ x. ends nat_eq x E) (a.2 ∙ ap wire_ref j.2) ∙ wire_twice j.0 j.1;
+        ap (λ x. ends nat_eq x all_edges) p.3 ∙ port_once p.0 q.0 q.1;
+    wires = λ e a. let j = g.only a.0 a.1 in ap (λ x. ends nat_eq x all_edges) (a.2 ∙ ap wire_ref j.2) ∙ wire_twice j.0 j.1;
     others = known_all;
     links = links_of;
   }

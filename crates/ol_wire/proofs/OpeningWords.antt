@@ -86,9 +86,9 @@ field_again net z words n s m u place h e back other some le small at =
     let down : suc (u - 1) ≡ u = omega (arith, some) in
     let there : partner_of net (Of (record { 0 = m.0 }) (suc (u - 1))) ≡ Some (Of (record { 0 = n }) (suc s)) = ap (λ k. partner_of net (Of m k)) down ∙ back in
     let first : field_to net z m.0 (u - 1) (Some (Of (record { 0 = n }) (suc s))) ≡ wire_ref (start_wire z (wires_before net m.0 (u - 1))) =
-        not_zero (suc s) (λ q. omega (arith, q)) _ _ ∙ ap (λ k. wire_ref (start_wire z k)) (sooner (3 * m.0 + suc (u - 1)) (3 * n + suc s) (omega (arith, down, lt)) _ _) in
+    not_zero (suc s) (λ q. omega (arith, q)) _ _ ∙ ap (λ k. wire_ref (start_wire z k)) (sooner (3 * m.0 + suc (u - 1)) (3 * n + suc s) (omega (arith, down, lt)) _ _) in
     let second : field_to net z n s (Some (Of m u)) ≡ wire_ref (start_wire z (wires_before net m.0 (u - 1))) =
-        not_zero u some _ _ ∙ ap (λ k. wire_ref (start_wire z k)) (not_sooner (3 * n + suc s) (3 * m.0 + u) le _ _) in
+    not_zero u some _ _ ∙ ap (λ k. wire_ref (start_wire z k)) (not_sooner (3 * n + suc s) (3 * m.0 + u) le _ _) in
     ap (slice_index words) at ∙ h.before m.0 (u - 1) (omega (arith, below.1, some)) (omega (arith, below.1, some, lt, small)) ∙ ap (field_to net z m.0 (u - 1)) there
     ∙ first ∙ sym (ap (field_to net z n s) e ∙ second)
 

@@ -57,14 +57,7 @@ fn word_of_port(net: &Net, parts: Parts, port: u32) -> u64
 }
 
 // The field of slot `slot + 1` of a node, and the number of wires that have come so far.
-fn field_of(
-    net: &Net,
-    parts: Parts,
-    words: &[u64],
-    node: u32,
-    slot: u8,
-    wires: u32,
-) -> (u64, u32)
+fn field_of(net: &Net, parts: Parts, words: &[u64], node: u32, slot: u8, wires: u32) -> (u64, u32)
     requires small { IsSmall parts }
     requires few { length net.now.nodes ≤ 1000000 }
     requires free { net.now.free ≤ 1000000 }
@@ -75,9 +68,17 @@ fn field_of(
     ensures field { result.0 ≡ field_of net.now parts node slot }
     ensures wires { result.1 ≡ wires_before net.now node (suc slot) }
 {
-    match net.partner(Port::Of { node: NodeId(node), slot: slot + 1 }) {
+    match net.partner(Port::Of {
+        node: NodeId(node),
+        slot: slot + 1,
+    }) {
         Some(Port::Free(port)) => (wire_ref(1 + port), wires),
-        Some(Port::Of { node: other, slot: to }) => {
+        Some(
+            Port::Of {
+                node: other,
+                slot: to,
+            },
+        ) => {
             if to == 0 {
                 return (node_word(net, parts, other.0), wires);
             }
@@ -172,12 +173,7 @@ fn put_nodes(net: &Net, parts: Parts, words: &mut Vec<u64>) -> Result<u32, NoMem
 }
 
 // Adds the two words of the cell of a node that faces one of a greater number, and answers how many cells that is.
-fn put_cell(
-    net: &Net,
-    parts: Parts,
-    words: &mut Vec<u64>,
-    node: u32,
-) -> Result<u32, NoMemory>
+fn put_cell(net: &Net, parts: Parts, words: &mut Vec<u64>, node: u32) -> Result<u32, NoMemory>
     requires small { IsSmall parts }
     requires few { length net.now.nodes ≤ 1000000 }
     requires low { top_index_of net.now.nodes ≤ 1000000 }
@@ -185,7 +181,10 @@ fn put_cell(
     ensures cells { IfOk result (λ n. n ≡ length (pair_at net.now node)) }
     ensures few { IfOk result (λ n. n ≤ 1) }
 {
-    match net.partner(Port::Of { node: NodeId(node), slot: 0 }) {
+    match net.partner(Port::Of {
+        node: NodeId(node),
+        slot: 0,
+    }) {
         Some(Port::Of { node: other, slot }) => {
             if slot != 0 {
                 return Ok(0);

@@ -3,6 +3,8 @@
 
 mod law;
 mod laying;
+#[cfg(test)]
+mod laying_tests;
 mod layout;
 mod plan;
 mod reference;

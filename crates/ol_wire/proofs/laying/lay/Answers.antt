@@ -1,4 +1,4 @@
-use Rattle.ol_wire.proofs.OpeningKept.{opens_as}
+use Rattle.ol_wire.proofs.Opening.{opens_as}
 use Rattle.ol_wire.proofs.laying.lay.Goals as goal
 
 pub returns-clause-kept : goal.returns-clause-kept

@@ -1,4 +1,3 @@
-use Rattle.std.proofs.Common.{arith, sym, ◌∙◌, refl, ap, ◌++◌, ◌∷◌, [], subst}
 use Rattle.ol_wire.proofs.OpeningWords.{fields_twice}
 use Rattle.ol_wire.proofs.laying.put_node.Goals as goal
 
