@@ -1,41 +1,37 @@
 -- The words of a start net meet the rule.
-use Rattle.std.proofs.Common.{◌≡◌, ◌≢◌, ℕ, zero, suc, ◌+◌, ◌*◌, ◌%◌, ◌<◌, ◌≤◌, ◌&&◌, nat_eq, nat_lt, true, false, Bool, List, [], ◌∷◌, ◌++◌, length, slice_index, slice_get, Option, Some, None, refl, sym, ap, ◌∙◌, subst, arith, inl, inr, ◌⊎◌}
-use Rattle.std.proofs.lemmas.Bool.{cases_eq, cases_lt}
-use Rattle.std.proofs.lemmas.List.{append-nil, append_assoc}
+use Rattle.std.proofs.Common.{◌≡◌, ◌≢◌, ℕ, zero, suc, ◌+◌, ◌%◌, ◌<◌, ◌≤◌, ◌&&◌, nat_eq, true, false, Bool, List, [], ◌∷◌, ◌++◌, slice_index, slice_get, Option, Some, None, refl, sym, ap, ◌∙◌, subst, arith, inl, inr, ◌⊎◌}
+use Rattle.std.proofs.lemmas.Bool.{cases_lt}
+use Rattle.std.proofs.lemmas.List.{append-nil}
 use mathlib.Core.Option as option
 use lib.ListN.{get_elem?}
 use Rattle.atomic_table.specs.Table.{opening}
-use Rattle.ol_edges.specs.Edges.{IsIn, bit}
+use Rattle.ol_edges.specs.Edges.{IsIn}
 use Rattle.ol_net.specs.declared.parts.Kind.{Kind}
-use Rattle.ol_net.specs.declared.parts.NodeId.{NodeId}
 use Rattle.ol_net.specs.declared.parts.Port.{Port}
 use Rattle.ol_net.specs.declared.parts.Port.TheVariants.{Free, Of}
 use Rattle.ol_net.specs.Graph.{Graph, IsTabled, kind_at, partner_of}
 use Rattle.ol_net.specs.Indexes.{HasIndexes}
-use Rattle.ol_net.specs.Nets.{NamedNet, HasNode, IsNet, net_under}
+use Rattle.ol_net.specs.Nets.{NamedNet, net_under}
 use Rattle.ol_net.specs.Numbered.{net_of}
-use Rattle.ol_net.specs.Parts.{is_eraser}
 use Rattle.ol_net.specs.Replace.{top_index_of}
 use Rattle.ol_net.proofs.Numbered.{has_node, net_is_net}
 use Rattle.ol_rules.specs.declared.journal.NodeName.{NodeName}
 use Rattle.ol_rules.specs.declared.journal.NodeName.TheVariants.{Init}
 use Rattle.ol_rules.specs.Listed.{each}
-use Rattle.ol_rules.specs.Runs.{IsRun, end}
+use Rattle.ol_rules.specs.Runs.{end}
 use Rattle.ol_rules.proofs.Renaming.{node_from}
 use Rattle.ol_rules.proofs.StartNets as start_nets
 use Rattle.ol_wire.specs.declared.layout.Parts.{Parts}
 use Rattle.ol_wire.specs.declared.plan.Plan.{Plan}
 use Rattle.ol_wire.specs.declared.view.View.{View}
-use Rattle.ol_wire.specs.declared.view.Link.{Link}
 use Rattle.ol_wire.specs.References.{node_ref, wire_ref, place_in, IsNodeRef, IsRef}
 use Rattle.ol_wire.specs.Layout.{Part, part_of, port_word, start_node, start_wire, start_cell, block, size}
 use Rattle.ol_wire.specs.Layout as part
 use Rattle.ol_wire.specs.Sizes.{IsSmall}
 use Rattle.ol_wire.specs.Starts.{AreParts, facing_pairs}
-use Rattle.ol_wire.specs.Events.{Event}
 use Rattle.ol_wire.specs.Edges.{is_wire_made, is_made, is_reached, deaths, edge_in, edges_in, edges_of}
 use Rattle.ol_wire.specs.Stands.{Stands}
-use Rattle.ol_wire.specs.Rule.{Kept, JournalKeeps, WordsKeep, SeatsKeep, Drawn, IsPlaced, IsView, opener, start_net}
+use Rattle.ol_wire.specs.Rule.{Kept, JournalKeeps, WordsKeep, SeatsKeep, IsPlaced, IsView, opener}
 use Rattle.ol_wire.specs.Laid.{node_word, ref_of, word_to, field_to, wire_number, IsLaid}
 use Rattle.ol_wire.proofs.References.{node_sort, wire_sort, place_of_ref}
 use Rattle.ol_wire.proofs.Places.{part_port, part_field, part_wire, part_start_cell, is_wire}

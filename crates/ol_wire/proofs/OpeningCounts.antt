@@ -1,7 +1,7 @@
 -- Ends and edges of rows that stand one behind the other.
-use Rattle.std.proofs.Common.{◌≡◌, ◌≢◌, ℕ, zero, suc, ◌+◌, ◌<◌, ◌≤◌, nat_eq, List, [], ◌∷◌, ◌++◌, refl, sym, ap, ◌∙◌, arith, inl, inr, ◌⊎◌}
-use Rattle.std.proofs.lemmas.Bool.{cases_eq, cases_lt}
-use Rattle.ol_edges.specs.Edges.{IsIn, ends, bit}
+use Rattle.std.proofs.Common.{◌≡◌, ◌≢◌, ℕ, zero, suc, ◌+◌, ◌<◌, nat_eq, List, [], ◌∷◌, ◌++◌, refl, sym, ap, ◌∙◌, arith, inl, inr, ◌⊎◌}
+use Rattle.std.proofs.lemmas.Bool.{cases_eq}
+use Rattle.ol_edges.specs.Edges.{IsIn, ends}
 use Rattle.ol_rules.specs.Listed.{each}
 
 pub ends_append : (e : ℕ) (xs ys : List (ℕ × ℕ)) → ends nat_eq e (xs ++ ys) ≡ ends nat_eq e xs + ends nat_eq e ys

@@ -1,15 +1,14 @@
 -- The nodes and ports of a net are within its tables.
-use Rattle.std.proofs.Common.{◌≡◌, ◌≢◌, ℕ, zero, suc, ◌+◌, ◌*◌, ◌<◌, ◌≤◌, max, true, false, Bool, List, [], ◌∷◌, length, Option, Some, None, refl, sym, ap, ◌∙◌, arith}
-use Rattle.std.proofs.lemmas.Bool.{false≢true}
+use Rattle.std.proofs.Common.{◌≡◌, ℕ, zero, suc, ◌<◌, ◌≤◌, true, List, [], ◌∷◌, length, Option, Some, None, ap, arith}
 use Rattle.std.proofs.lemmas.Bool.Decides.{nat_tests}
 use Rattle.ol_net.specs.declared.parts.Kind.{Kind}
 use Rattle.ol_net.specs.declared.parts.NodeId.{NodeId}
 use Rattle.ol_net.specs.declared.parts.Port.{Port}
 use Rattle.ol_net.specs.declared.parts.Port.TheVariants.{Free, Of}
-use Rattle.ol_net.specs.Graph.{Graph, kind_at, has_slot, has_port, partner_of, IsTabled}
+use Rattle.ol_net.specs.Graph.{Graph, kind_at, has_port, partner_of}
 use Rattle.ol_net.specs.Replace.{top_index_of}
 use Rattle.ol_net.proofs.Places.{kind_at-within, has_slot-lt}
-use Rattle.ol_net.proofs.Numbered.{partner_of-parts, partner_of-back}
+use Rattle.ol_net.proofs.Numbered.{partner_of-parts}
 
 pub index_low : (nodes : List (Option (Kind × ℕ))) (n : ℕ) (k : Kind × ℕ) → kind_at nodes n ≡ Some k → k.1 ≤ top_index_of nodes
 index_low [] n k e = absurd (let bad : None ≡ Some k = e in cc)

@@ -1,5 +1,5 @@
 -- The edge of each word of a start net: of what link it is, and where the edge of a link stands.
-use Rattle.std.proofs.Common.{◌≡◌, ◌≢◌, ℕ, zero, suc, ◌+◌, ◌-◌, ◌*◌, ◌/◌, ◌%◌, ◌<◌, ◌≤◌, ◌==◌, nat_eq, nat_lt, if◌then◌else◌, true, false, Bool, List, [], ◌∷◌, length, slice_index, slice_get, Option, Some, None, refl, sym, ap, ◌∙◌, subst, arith, inl, inr, ◌⊎◌, eq-eqb, ne_eqb}
+use Rattle.std.proofs.Common.{◌≡◌, ◌≢◌, ℕ, zero, suc, ◌+◌, ◌-◌, ◌/◌, ◌%◌, ◌<◌, ◌≤◌, ◌==◌, nat_lt, if◌then◌else◌, true, false, Bool, List, [], ◌∷◌, length, slice_index, Option, Some, None, refl, sym, ap, ◌∙◌, arith, inl, inr, ◌⊎◌, eq-eqb, ne_eqb}
 use Rattle.std.proofs.lemmas.Bool.{cases_eq, cases_lt}
 use Rattle.ol_net.specs.declared.parts.Kind.{Kind}
 use Rattle.ol_net.specs.declared.parts.NodeId.{NodeId}
@@ -12,17 +12,17 @@ use Rattle.ol_net.proofs.Numbered.{partner_of-parts, partner_of-back}
 use Rattle.ol_rules.specs.declared.journal.NodeName.{NodeName}
 use Rattle.ol_rules.specs.declared.journal.NodeName.TheVariants.{Init}
 use Rattle.ol_wire.specs.declared.layout.Parts.{Parts}
-use Rattle.ol_wire.specs.References.{node_ref, wire_ref, slot_ref}
+use Rattle.ol_wire.specs.References.{wire_ref, slot_ref}
 use Rattle.ol_wire.specs.Layout.{Part, part_of, port_word, start_node, start_wire, start_cell, block, size}
 use Rattle.ol_wire.specs.Layout as part
 use Rattle.ol_wire.specs.Edges.{is_live, edge_to, edge_in}
 use Rattle.ol_wire.specs.Starts.{facing_pairs, aux_links}
 use Rattle.ol_wire.specs.Laid.{node_word, word_to, field_to, word_of_port, field_of, wire_number, IsLaid}
-use Rattle.ol_wire.proofs.Places.{part_port, part_field, part_wire, part_start_cell}
+use Rattle.ol_wire.proofs.Places.{part_port, part_field, part_start_cell}
 use Rattle.ol_wire.proofs.OpeningPorts.{free_inside, of_inside}
 use Rattle.ol_wire.proofs.OpeningWords.{sooner, not_sooner, not_zero}
 use Rattle.ol_wire.proofs.OpeningEach.{get_there, get_within, pair_get, pair_of, cell_number}
-use Rattle.ol_wire.proofs.OpeningEnds.{end_of, live_of, end_same, Live}
+use Rattle.ol_wire.proofs.OpeningEnds.{end_of, live_of}
 
 -- a net, its parts, and words that it is laid out in
 pub record Given (net : Graph) (z : Parts) (words : List ℕ) (N : NamedNet NodeName) (reached : ℕ → Bool) : Type 0 where

@@ -1,8 +1,8 @@
 -- The edges of the words of a start net stand for the net.
-use Rattle.std.proofs.Common.{◌≡◌, ◌≢◌, ℕ, zero, suc, ◌+◌, ◌-◌, ◌*◌, ◌<◌, ◌≤◌, nat_eq, nat_lt, true, Bool, List, [], ◌∷◌, length, slice_index, slice_get, Option, Some, None, refl, sym, ap, ◌∙◌, subst, arith, inl, inr, ◌⊎◌, eq-eqb, ne_eqb, if◌then◌else◌}
+use Rattle.std.proofs.Common.{◌≡◌, ◌≢◌, ℕ, zero, suc, ◌+◌, ◌-◌, ◌*◌, ◌<◌, nat_eq, nat_lt, true, Bool, List, [], ◌∷◌, length, slice_index, Some, refl, sym, ap, ◌∙◌, subst, arith, inl, inr, ◌⊎◌, eq-eqb, ne_eqb, if◌then◌else◌}
 use Rattle.std.specs.Prelude.{◌↔◌}
 use Rattle.std.proofs.lemmas.Bool.{cases_eq, cases_lt}
-use Rattle.ol_edges.specs.Edges.{IsIn, EdgeOf, Joined, here, on, back, ends, bit, Contracted}
+use Rattle.ol_edges.specs.Edges.{IsIn, EdgeOf, Joined, here, on, back, ends, Contracted}
 use Rattle.ol_net.specs.declared.parts.NodeId.{NodeId}
 use Rattle.ol_net.specs.declared.parts.Port.{Port}
 use Rattle.ol_net.specs.declared.parts.Port.TheVariants.{Free, Of}
@@ -14,12 +14,12 @@ use Rattle.ol_rules.specs.declared.journal.NodeName.{NodeName}
 use Rattle.ol_rules.specs.declared.journal.NodeName.TheVariants.{Init}
 use Rattle.ol_rules.specs.Listed.{each}
 use Rattle.ol_wire.specs.declared.layout.Parts.{Parts}
-use Rattle.ol_wire.specs.References.{node_ref, wire_ref, slot_ref}
-use Rattle.ol_wire.specs.Layout.{part_of, port_word, start_node, start_wire, start_cell, block, size}
+use Rattle.ol_wire.specs.References.{wire_ref, slot_ref}
+use Rattle.ol_wire.specs.Layout.{part_of, port_word, start_node, start_wire, start_cell, size}
 use Rattle.ol_wire.specs.Edges.{edge_in}
 use Rattle.ol_wire.specs.Stands.{IsEnd, IsWireEnd, Stands}
 use Rattle.ol_wire.specs.Starts.{aux_links}
-use Rattle.ol_wire.specs.Laid.{node_word, wire_number, wires_before}
+use Rattle.ol_wire.specs.Laid.{wire_number, wires_before}
 use Rattle.ol_wire.proofs.References.{wire_same, node_not_wire, wire_not_slot}
 use Rattle.ol_wire.proofs.OpeningPorts.{free_inside, of_inside}
 use Rattle.ol_wire.proofs.OpeningWords.{sooner, not_sooner}

@@ -1,18 +1,18 @@
 -- What the code needs while it lays a net out.
 use Rattle.std.proofs.Common.{◌≡◌, ◌≢◌, ℕ, zero, suc, ◌+◌, ◌-◌, ◌*◌, ◌<◌, ◌≤◌, ◌==◌, nat_eq, nat_lt, if◌then◌else◌, true, false, Bool, List, [], ◌∷◌, ◌++◌, length, slice_index, Option, Some, None, inl, inr, refl, sym, ap, ◌∙◌, subst, arith, lt-ltb, ne_eqb}
-use Rattle.std.proofs.lemmas.Bool.{cases_eq, cases_lt, cases_Bool}
+use Rattle.std.proofs.lemmas.Bool.{cases_eq, cases_lt}
 use Rattle.std.proofs.lemmas.Bool.Decides.{nat_tests}
-use Rattle.std.proofs.lemmas.List.{append_assoc, length-append, get_or_append_left, get_or-append-add, get_or_push, length_push}
+use Rattle.std.proofs.lemmas.List.{append_assoc, length-append, get_or_append_left, get_or_push, length_push}
 use Rattle.ol_net.specs.declared.parts.NodeId.{NodeId}
 use Rattle.ol_net.specs.declared.parts.Port.{Port}
 use Rattle.ol_net.specs.declared.parts.Port.TheVariants.{Free, Of}
-use Rattle.ol_net.specs.Graph.{Graph, partner_of, IsTabled}
+use Rattle.ol_net.specs.Graph.{Graph, partner_of}
 use Rattle.ol_rules.specs.Listed.{each}
 use Rattle.ol_wire.specs.declared.layout.Parts.{Parts}
 use Rattle.ol_wire.specs.References.{wire_ref}
 use Rattle.ol_wire.specs.Layout.{start_node, start_wire}
-use Rattle.ol_wire.specs.Starts.{wire_with, pair_with}
-use Rattle.ol_wire.specs.Laid.{wire_at, wires_before, wire_number, field_to, field_of, field_row, cell_words, HasFields}
+use Rattle.ol_wire.specs.Starts.{wire_with}
+use Rattle.ol_wire.specs.Laid.{wire_at, wires_before, field_to, field_of, cell_words, HasFields}
 use Rattle.ol_wire.proofs.OpeningPorts.{partner_node}
 
 pub each_more : {X : Type 0} (rows : ℕ → List X) (n m : ℕ) → m ≡ suc n → each m rows ≡ each n rows ++ rows n
