@@ -37,3 +37,11 @@ pub mod StepsCut
 pub mod StepsHold
 pub mod Steps
 pub mod Opening
+pub mod OpeningPorts
+pub mod OpeningWords
+pub mod OpeningLists
+pub mod OpeningEach
+pub mod OpeningEnds
+pub mod OpeningCounts
+pub mod OpeningSites
+pub mod OpeningStands

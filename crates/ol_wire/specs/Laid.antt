@@ -4,10 +4,12 @@ use Rattle.ol_net.specs.declared.parts.Kind.{Kind}
 use Rattle.ol_net.specs.declared.parts.Port.{Port}
 use Rattle.ol_net.specs.declared.parts.Port.TheVariants.{Free, Of}
 use Rattle.ol_net.specs.Graph.{Graph, kind_at, partner_of}
+use Rattle.ol_net.specs.Replace.{top_index_of}
 use Rattle.ol_rules.specs.Listed.{each}
 use Rattle.ol_wire.specs.declared.layout.Parts.{Parts}
 use Rattle.ol_wire.specs.References.{node_ref, wire_ref}
 use Rattle.ol_wire.specs.Layout.{port_word, start_node, start_wire, start_cell, block, size}
+use Rattle.ol_wire.specs.Sizes.{IsSmall}
 use Rattle.ol_wire.specs.Starts.{wire_with, pair_with, facing_pairs}
 
 -- the reference of a node, or 0 where no live node has the number
@@ -53,6 +55,13 @@ field_of net z n s = field_to net z n s (partner_of net (Of (record { 0 = n }) (
 abbrev pub cell_words : Graph → Parts → List (ℕ × ℕ) → List ℕ
 cell_words net z [] = []
 cell_words net z (p ∷ ps) = node_word net z p.0 ∷ node_word net z p.1 ∷ cell_words net z ps
+
+-- bounds under which all references and all numbers of words are small
+pub record HasRoom (net : Graph) (z : Parts) : Type 0 where
+  pub parts : IsSmall z
+  pub free : net.free ≤ 1000000
+  pub nodes : length net.nodes ≤ 1000000
+  pub indexes : top_index_of net.nodes ≤ 1000000
 
 -- The net is laid out in these words.
 pub record IsLaid (net : Graph) (z : Parts) (words : List ℕ) : Type 0 where

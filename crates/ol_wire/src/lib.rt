@@ -4,6 +4,8 @@
 mod holding;
 mod law;
 mod laying;
+#[cfg(test)]
+mod laying_tests;
 mod layout;
 mod plan;
 mod promise;
