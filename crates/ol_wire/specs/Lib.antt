@@ -12,5 +12,6 @@ pub mod Views
 pub mod Rule
 pub mod Plays
 pub mod Stand
+pub mod Closed
 pub mod Holds
 pub mod Rewrites
