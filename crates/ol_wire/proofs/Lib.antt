@@ -27,6 +27,8 @@ pub mod TicketJournal
 pub mod TicketLists
 pub mod TicketRefs
 pub mod TicketWords
+pub mod TicketDrawn
+pub mod TicketNumbers
 pub mod TicketCells
 pub mod TicketSeats
 pub mod Reached

@@ -1,39 +1,34 @@
 -- The cells after a ticket below the fuel: that of its pair stays empty, and its links are those of the cells in its own block.
-use Rattle.std.proofs.Common.{◌≡◌, ◌≢◌, ℕ, zero, suc, ◌+◌, ◌-◌, ◌*◌, ◌%◌, ◌/◌, ◌<◌, ◌≤◌, if◌then◌else◌, nat_eq, nat_lt, lt-ltb, eq-eqb, ne_eqb, eqb-true, ◌⊎◌, inl, inr, Bool, true, false, ◌&&◌, Option, Some, None, List, [], ◌∷◌, ◌++◌, length, slice_get, slice_index, slice_set, sym, refl, ap, ◌∙◌, subst, arith}
+use Rattle.std.proofs.Common.{◌≡◌, ◌≢◌, ℕ, zero, suc, ◌+◌, ◌-◌, ◌*◌, ◌<◌, ◌≤◌, if◌then◌else◌, nat_eq, eq-eqb, ne_eqb, eqb-true, ◌⊎◌, inl, inr, Bool, true, false, ◌&&◌, Some, None, List, [], ◌∷◌, ◌++◌, length, slice_get, slice_index, sym, refl, ap, ◌∙◌, subst, arith}
 use Rattle.std.proofs.lemmas.Bool.{cases_eq, cases_lt}
-use Rattle.std.proofs.lemmas.Bool.Decides.{nat_tests}
 use Rattle.std.proofs.lemmas.Option.{slice_get_within}
 use mathlib.Core.Option.{some}
 use lib.ListN.{get_elem?}
 use Rattle.ol_edges.specs.Edges.{IsIn}
-use Rattle.ol_net.specs.Parts.{arity}
-use Rattle.ol_rules.specs.declared.journal.NodeName.TheVariants.{Init, Born}
-use Rattle.ol_rules.specs.declared.journal.Entry.{Entry}
 use Rattle.ol_rules.specs.Listed.{each}
 use Rattle.ol_rules.proofs.Lists.{in_each_of}
 use Rattle.ol_wire.specs.declared.layout.Parts.{Parts}
 use Rattle.ol_wire.specs.declared.plan.Plan.{Plan}
 use Rattle.ol_wire.specs.declared.view.Link.{Link}
 use Rattle.ol_wire.specs.declared.view.View.{View}
-use Rattle.ol_wire.specs.References.{kind_in, index_in, place_in}
-use Rattle.ol_wire.specs.Layout.{ticket, port, field, wire, between, left, right, entry, part_of, block, size, place_of, port_word, start_node, start_wire, start_cell, born_wire, born_cell, left_word, cells_of}
-use Rattle.ol_wire.specs.Weights.{total, pairs, numbered}
+use Rattle.ol_wire.specs.References.{index_in}
+use Rattle.ol_wire.specs.Layout.{left, part_of, block, place_of, born_cell, left_word, cells_of}
+use Rattle.ol_wire.specs.Weights.{total}
 use Rattle.ol_wire.specs.Events.{Event, rule_between, acting, event_of, IsStuckPair}
 use Rattle.ol_wire.specs.Blocks.{joins_in, link_of, links_of}
 use Rattle.ol_wire.specs.Plays.{cell_at, cell_in_hand, swept_on, event_in, IsLookedUp, ticketed}
-use Rattle.ol_wire.specs.Rule.{Table, IsView, IsMadeRef, IsRightOf, Kept, CellsKeep, links_at, entries_of}
+use Rattle.ol_wire.specs.Rule.{Table, IsView, IsMadeRef, IsRightOf, Kept, CellsKeep, links_at}
 use Rattle.ol_wire.proofs.References.{index_of_ref}
 use Rattle.ol_wire.proofs.Alike.{total_append}
 use Rattle.ol_wire.proofs.Claimed.{IsNodeAt, IsCellPair, cell_pair}
 use Rattle.ol_wire.proofs.Held.{total_at, total_from}
-use Rattle.ol_wire.proofs.Places.{part_port, part_field, part_wire, part_between, part_entry, part_start_cell, part_born_cell, part_cell, cell_of_left, is_left}
+use Rattle.ol_wire.proofs.Places.{part_born_cell, part_cell, is_left}
 use Rattle.ol_wire.proofs.TicketJournal.{got_one_more, length_one_more}
 use Rattle.ol_wire.proofs.TicketLists.{total_set, by_place}
 use Rattle.ol_wire.proofs.TicketRefs.{event_of_pair, joins_few, link_ends}
 use Rattle.ol_wire.proofs.TicketWords as words
-
-abbrev one_if : Bool → ℕ
-one_if b = if b then 1 else 0
+use Rattle.ol_wire.proofs.TicketDrawn.{one_if, own_before}
+use Rattle.ol_wire.proofs.TicketNumbers.{cell_before, before_cell, left_of_cell}
 
 -- links whose cells stand two words apart
 module _ (row : ℕ → Link) (c : ℕ) (at : (j : ℕ) → (row j).cell ≡ c + 2 * j) where
@@ -78,6 +73,7 @@ link_with u (l ∷ ls) h = elim (cases_eq l.cell u) [
       let r = link_with u ls (omega (arith, h, n)) in
       (r.0, inr r.1, r.2)
 ]
+
 -- two members of a list weigh at most what all do
 two_at : {A : Type 0} (g : A → ℕ) (l : List A) (i j : ℕ) (a b : A) → i ≢ j → get_elem? l i ≡ some a → get_elem? l j ≡ some b → g a + g b ≤ total g l
 two_at g [] i j a b d h q = absurd (cc)
@@ -86,134 +82,11 @@ two_at g (x ∷ l) zero (suc j) a b d h q = let e : x ≡ a = cc in omega (arith
 two_at g (x ∷ l) (suc i) zero a b d h q = let e : x ≡ b = cc in omega (arith, ap g e, total_at g l i a h)
 two_at g (x ∷ l) (suc i) (suc j) a b d h q = omega (arith, two_at g l i j a b (λ e. d (ap suc e)) h q)
 
--- how often a ticket is among those that were drawn
-abbrev of_ticket : ℕ → ℕ → Entry → ℕ
-of_ticket n m x = one_if (nat_eq m n)
-
-ticket_there : (n : ℕ) (x : Entry) (l : List (ℕ × Entry)) → IsIn (n, x) l → 1 ≤ pairs (of_ticket n) l
-ticket_there n x [] h = absurd h
-ticket_there n x (y ∷ l) (inl q) = let one : of_ticket n y.0 y.1 ≡ 1 = ap one_if (eq-eqb y.0 n (sym (ap (λ (a : ℕ × Entry). a.0) q))) in omega (arith, one)
-ticket_there n x (y ∷ l) (inr h) = omega (arith, ticket_there n x l h)
-
-ticket_within : (n m : ℕ) (l : List Entry) → 1 ≤ numbered (of_ticket n) m l → n < m + length l
-ticket_within n m [] h = absurd (omega (arith, h))
-ticket_within n m (x ∷ l) h = elim (cases_eq m n) [
-  | inl q ↦ omega (arith, q)
-  | inr d ↦
-      let none : of_ticket n m x ≡ 0 = ap one_if (ne_eqb m n d) in
-      omega (arith, ticket_within n (suc m) l (omega (arith, h, none)))
-]
-
-pub entries_length : (z : Parts) (log : List Event) → length (entries_of z log) ≡ length log
-entries_length z [] = refl
-entries_length z (x ∷ log) = ap suc (entries_length z log)
-
 -- two nodes of which neither acts are no event
 no_event : (l r : ℕ) → IsStuckPair l r → rule_between (event_of l r).f (event_of l r).g ≡ None
 no_event l r h =
     let q : event_of l r ≡ acting None None l r = ap (λ o. acting o (rule_between r l) l r) h.0 ∙ ap (λ o. acting None o l r) h.1 in
     ap (λ (x : Event). rule_between x.f x.g) q ∙ h.0
-
--- the cells by number
-module _ (z : Parts) where
-  low_cell : (c : ℕ) → c < z.cells → left_word z c ≡ start_cell z c
-  low_cell c lt = ap (λ b. if b then start_cell z c else born_cell z ((c - z.cells) / 4) ((c - z.cells) % 4)) (lt-ltb c z.cells lt)
-
-  high_cell : (c : ℕ) → z.cells ≤ c → left_word z c ≡ born_cell z ((c - z.cells) / 4) ((c - z.cells) % 4)
-  high_cell c le = let q : nat_lt c z.cells ≡ false = grind (arith, nat_tests) in ap (λ b. if b then start_cell z c else born_cell z ((c - z.cells) / 4) ((c - z.cells) % 4)) q
-
-  -- those that were before a ticket have the smaller words
-  pub cell_before : (c t : ℕ) → c < z.cells + 4 * t → left_word z c < block z t
-  cell_before c t lt = elim (cases_lt c z.cells) [
-    | inl low ↦ omega (arith, low, low_cell c low)
-    | inr high ↦ omega (arith, lt, high, high_cell c high)
-  ]
-
-  pub before_cell : (c t : ℕ) → left_word z c < block z t → c < z.cells + 4 * t
-  before_cell c t lt = elim (cases_lt c z.cells) [
-    | inl low ↦ omega (arith, low)
-    | inr high ↦ omega (arith, lt, high, high_cell c high)
-  ]
-
-  numbered_start : (w c : ℕ) → c < z.cells → w ≡ start_cell z c → (c : ℕ) × (c < cells_of z) × (w ≡ left_word z c)
-  numbered_start w c lt q = (c, omega (arith, lt), q ∙ sym (low_cell c lt))
-
-  numbered_born : (w t j : ℕ) → t < z.fuel → j < 4 → w ≡ born_cell z t j → (c : ℕ) × (c < cells_of z) × (w ≡ left_word z c)
-  numbered_born w t j lt small q = (z.cells + 4 * t + j, omega (arith, lt, small), omega (arith, q, small, high_cell (z.cells + 4 * t + j) (omega arith)))
-
-  in_a_block : (w t j : ℕ) → part_of z w ≡ left → t < z.fuel → j < 22 → w ≡ block z t + j → (c : ℕ) × (c < cells_of z) × (w ≡ left_word z c)
-  in_a_block w t j is lt small e = elim (cases_lt j 2) [
-    | inl a ↦ let bad : entry ≡ left = sym (ap (part_of z) e ∙ part_entry z t j lt a) ∙ is in absurd (cc)
-    | inr a ↦ elim (cases_lt j 10) [
-      | inl b ↦
-          let i = (j - 2) / 2 in
-          let s = (j - 2) % 2 in
-          let q : w ≡ place_of z (Born t i) + s = omega (arith, e) in
-          let bad : field (Born t i) s ≡ left = sym (ap (part_of z) q ∙ part_field z (Born t i) s (lt, omega arith) (omega arith)) ∙ is in
-          absurd (cc)
-      | inr b ↦ elim (cases_lt j 14) [
-        | inl d ↦
-            let m = (j - 10) / 2 in
-            let n = (j - 10) % 2 in
-            let q : w ≡ born_wire z t m n = omega (arith, e) in
-            let bad : between t m n ≡ left = sym (ap (part_of z) q ∙ part_between z t m n lt (omega arith) (omega arith)) ∙ is in
-            absurd (cc)
-        | inr d ↦ elim (cases_eq (j % 2) 0) [
-          | inl even ↦ numbered_born w t ((j - 14) / 2) lt (omega arith) (omega (arith, e, even))
-          | inr odd ↦
-              let c = (j - 14) / 2 in
-              let q : w ≡ suc (born_cell z t c) = omega (arith, e, odd) in
-              let bad : right ≡ left = sym (ap (part_of z) q ∙ (part_born_cell z t c lt (omega arith)).1) ∙ is in
-              absurd (cc)
-        ]
-      ]
-    ]
-  ]
-
-  -- each left word is that of a cell
-  pub cell_number : (w : ℕ) → part_of z w ≡ left → (c : ℕ) × (c < cells_of z) × (w ≡ left_word z c)
-  cell_number w is = elim (cases_eq w 0) [
-    | inl e ↦ let bad : ticket ≡ left = ap (part_of z) (sym e) ∙ is in absurd (cc)
-    | inr d0 ↦ elim (cases_lt w (start_node z 0)) [
-      | inl a ↦
-          let q : w ≡ port_word (w - 1) = omega (arith, d0) in
-          let bad : port (w - 1) ≡ left = sym (ap (part_of z) q ∙ part_port z (w - 1) (omega (arith, d0))) ∙ is in
-          absurd (cc)
-      | inr a ↦ elim (cases_lt w (start_wire z 0)) [
-        | inl b ↦
-            let n = (w - start_node z 0) / 2 in
-            let s = (w - start_node z 0) % 2 in
-            let q : w ≡ place_of z (Init n) + s = omega arith in
-            let bad : field (Init n) s ≡ left = sym (ap (part_of z) q ∙ part_field z (Init n) s (omega arith) (omega arith)) ∙ is in
-            absurd (cc)
-        | inr b ↦ elim (cases_lt w (start_cell z 0)) [
-          | inl d ↦
-              let n = w - start_wire z 0 in
-              let q : w ≡ start_wire z n = omega arith in
-              let bad : wire n ≡ left = sym (ap (part_of z) q ∙ part_wire z n (omega arith)) ∙ is in
-              absurd (cc)
-          | inr d ↦ elim (cases_lt w (block z 0)) [
-            | inl f ↦ elim (cases_eq ((w - start_cell z 0) % 2) 0) [
-              | inl even ↦ numbered_start w ((w - start_cell z 0) / 2) (omega arith) (omega (arith, even))
-              | inr odd ↦
-                  let c = (w - start_cell z 0) / 2 in
-                  let q : w ≡ suc (start_cell z c) = omega (arith, odd) in
-                  let bad : right ≡ left = sym (ap (part_of z) q ∙ (part_start_cell z c (omega arith)).1) ∙ is in
-                  absurd (cc)
-            ]
-            | inr f ↦ in_a_block w ((w - block z 0) / 22) ((w - block z 0) % 22) is (omega (arith, (is_left z w is).1)) (omega arith) (omega arith)
-          ]
-        ]
-      ]
-    ]
-  ]
-
-  -- and the cell of that number
-  pub left_of_cell : (w : ℕ) → part_of z w ≡ left → left_word z (cell_at z w) ≡ w
-  left_of_cell w is =
-      let n = cell_number w is in
-      let q : cell_at z w ≡ n.0 = ap (cell_at z) n.2 ∙ cell_of_left z n.0 n.1 in
-      ap (left_word z) q ∙ sym n.2
 
 -- what a view has swept after a claim of cell m
 pub swept_cases : (v : View) (m c : ℕ) → c < swept_on v m → (c < v.swept) ⊎ ((v.holds ≡ v.seats) × (c ≡ m))
@@ -288,20 +161,9 @@ module _ (p : Plan) (s : Table) (k : Kept p s) (id : ℕ) (v : View) (here : get
   viewed : (P : View → Type 0) → P (ticketed v t) → ((u : View) → IsView s u → P u) → (u : View) → IsView s' u → P u
   viewed = words.viewed p s k id v here w ready low
 
-  -- the tickets so far come before this one
-  pub drawn_before : (u : View) (n : ℕ) (x : Entry) → IsView s u → IsIn (n, x) u.made → n < t
-  drawn_before u n x is i =
-      let some_made = total_at (λ (u : View). pairs (of_ticket n) u.made) s.views is.0 u is.1 in
-      let lt = ticket_within n 0 (entries_of z k.log) (omega (arith, some_made, k.seats.made (of_ticket n), ticket_there n x u.made i)) in
-      omega (arith, lt, entries_length z k.log, drawn_is)
-
-  -- and so do the cells of the links that other tickets left
+  -- the cells of the links that other tickets left come before this one
   old_cell : (u : View) (l : Link) → IsView s u → IsIn l u.pending → l.cell < block z t
-  old_cell u l is i =
-      let h = k.seats.links u l is i in
-      let lt = drawn_before u h.0 h.1 is h.2 in
-      let within = h.3.1 in
-      omega (arith, lt, within)
+  old_cell u l is i = omega (arith, own_before p s k u l.cell is (k.seats.links u l is i), drawn_is)
 
   from_length : length from' ≡ length log'
   from_length = omega (arith, length_one_more k.from w, length_one_more k.log e, k.cells.tickets)

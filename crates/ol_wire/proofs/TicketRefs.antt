@@ -1,5 +1,5 @@
 -- What a ticket writes and what its links join are references to what has been made: to the old words, to the block's wires and to its nodes.
-use Rattle.std.proofs.Common.{◌≡◌, ◌≢◌, ℕ, zero, suc, ◌+◌, ◌-◌, ◌<◌, ◌≤◌, if◌then◌else◌, nat_lt, lt-ltb, ◌⊎◌, inl, inr, Bool, true, false, Option, Some, None, List, [], ◌∷◌, ◌++◌, length, get_or, sym, refl, ap, ◌∙◌, subst, arith}
+use Rattle.std.proofs.Common.{◌≡◌, ◌≢◌, ℕ, zero, suc, ◌+◌, ◌-◌, ◌<◌, ◌≤◌, if◌then◌else◌, nat_lt, lt-ltb, inl, inr, Bool, true, false, Option, Some, None, List, [], ◌∷◌, ◌++◌, get_or, sym, refl, ap, ◌∙◌, subst, arith}
 use Rattle.std.proofs.lemmas.Bool.{cases_lt}
 use Rattle.std.proofs.lemmas.Bool.Decides.{nat_tests}
 use Rattle.ol_net.specs.declared.parts.Kind.{Kind}
@@ -7,14 +7,13 @@ use Rattle.ol_net.specs.declared.parts.Kind.TheVariants as kind
 use Rattle.ol_net.specs.declared.parts.Rule.{Rule}
 use Rattle.ol_net.specs.declared.parts.Rule.TheVariants as rules
 use Rattle.ol_net.specs.Parts.{arity}
-use Rattle.ol_rules.specs.declared.journal.NodeName.{NodeName}
 use Rattle.ol_rules.specs.declared.journal.NodeName.TheVariants.{Born}
 use Rattle.ol_rules.specs.Rewriting.{is_meeting, index_after}
 use Rattle.ol_rules.proofs.Alike.{meeting_alike}
 use Rattle.ol_wire.specs.declared.layout.Parts.{Parts}
 use Rattle.ol_wire.specs.References.{kind_in, index_in, place_in, node_ref, wire_ref, IsRef, IsWhole}
 use Rattle.ol_wire.specs.Layout.{block, place_of, born_wire}
-use Rattle.ol_wire.specs.Events.{Event, rule_between, earlier, later, acting, event_of}
+use Rattle.ol_wire.specs.Events.{Event, rule_between, acting, event_of}
 use Rattle.ol_wire.specs.Blocks.{copies_of_f, copies_of_g, born_ref, born_field, block_words, joins_in, link_of}
 use Rattle.ol_wire.specs.Rule.{IsMadeRef}
 use Rattle.ol_wire.proofs.References.{node_sort, wire_sort, kind_of_ref, index_of_ref, place_of_ref, place_of_wire}
@@ -82,24 +81,24 @@ module _ (z : Parts) (e : Event) (t n : ℕ) (in_n : block z (suc t) ≤ n) wher
 
   pub block_refs : IsRefBelow n e.f → IsRefBelow n e.g → MaybeRefs n (block_words z e t)
   block_refs f g = (
-        chosen (MaybeRef n) (nat_lt (place_in e.f) (place_in e.g)) e.f e.g (λ d. f) (λ d. g),
+    chosen (MaybeRef n) (nat_lt (place_in e.f) (place_in e.g)) e.f e.g (λ d. f) (λ d. g),
+    (
+      chosen (MaybeRef n) (nat_lt (place_in e.f) (place_in e.g)) e.g e.f (λ d. g) (λ d. f),
+      (
+        field_maybe 0 0 (omega arith) (omega arith),
         (
-          chosen (MaybeRef n) (nat_lt (place_in e.f) (place_in e.g)) e.g e.f (λ d. g) (λ d. f),
+          field_maybe 0 1 (omega arith) (omega arith),
           (
-            field_maybe 0 0 (omega arith) (omega arith),
+            field_maybe 1 0 (omega arith) (omega arith),
             (
-              field_maybe 0 1 (omega arith) (omega arith),
-              (
-                field_maybe 1 0 (omega arith) (omega arith),
-                (
-                  field_maybe 1 1 (omega arith) (omega arith),
-                  (field_maybe 2 0 (omega arith) (omega arith), (field_maybe 2 1 (omega arith) (omega arith), (field_maybe 3 0 (omega arith) (omega arith), (field_maybe 3 1 (omega arith) (omega arith), tt)))),
-                ),
-              ),
+              field_maybe 1 1 (omega arith) (omega arith),
+              (field_maybe 2 0 (omega arith) (omega arith), (field_maybe 2 1 (omega arith) (omega arith), (field_maybe 3 0 (omega arith) (omega arith), (field_maybe 3 1 (omega arith) (omega arith), tt)))),
             ),
           ),
         ),
-      )
+      ),
+    ),
+  )
 
 pub arity_few : (k : Kind) → arity k ≤ 2
 arity_few kind.Lam = omega arith

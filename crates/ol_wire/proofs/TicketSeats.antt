@@ -1,5 +1,5 @@
 -- The seats after a ticket below the fuel.
-use Rattle.std.proofs.Common.{◌≡◌, ◌≢◌, ℕ, suc, ◌+◌, ◌-◌, ◌/◌, ◌%◌, ◌<◌, ◌≤◌, if◌then◌else◌, nat_lt, lt-ltb, inl, inr, Bool, true, false, List, [], ◌∷◌, ◌++◌, length, slice_index, slice_get, sym, refl, ap, ◌∙◌, subst, arith}
+use Rattle.std.proofs.Common.{◌≡◌, ◌≢◌, ℕ, ◌+◌, ◌-◌, ◌/◌, ◌%◌, ◌<◌, ◌≤◌, if◌then◌else◌, nat_lt, lt-ltb, inl, inr, Bool, true, false, List, [], ◌∷◌, ◌++◌, length, slice_index, slice_get, sym, refl, ap, ◌∙◌, subst, arith}
 use Rattle.std.proofs.lemmas.Bool.{cases_lt}
 use Rattle.std.proofs.lemmas.Bool.Decides.{nat_tests}
 use mathlib.Core.Option.{some}
@@ -12,7 +12,7 @@ use Rattle.ol_net.specs.Nets.{NamedNet, HasNode, Faces}
 use Rattle.ol_rules.specs.declared.journal.NodeName.{NodeName}
 use Rattle.ol_rules.specs.declared.journal.NodeName.TheVariants.{Born}
 use Rattle.ol_rules.specs.declared.journal.Entry.{Entry}
-use Rattle.ol_rules.specs.Rewriting.{Action, is_meeting, index_after, action_of, NodeOf}
+use Rattle.ol_rules.specs.Rewriting.{is_meeting, index_after, action_of, NodeOf}
 use Rattle.ol_rules.specs.Rewriting as rewriting
 use Rattle.ol_rules.proofs.Lists.{in_each}
 use Rattle.ol_wire.specs.declared.layout.Parts.{Parts}
@@ -36,7 +36,7 @@ use Rattle.ol_wire.proofs.References.{kind_of_ref, index_of_ref}
 use Rattle.ol_wire.proofs.TicketJournal.{got_before}
 use Rattle.ol_wire.proofs.TicketLists.{total_set, numbered_more, get_past, Written, to_write_from}
 use Rattle.ol_wire.proofs.TicketRefs.{arity_few, ref_same}
-use Rattle.ol_wire.proofs.TicketCells.{entries_length}
+use Rattle.ol_wire.proofs.TicketDrawn.{entries_length}
 use Rattle.ol_wire.proofs.TicketWords as words
 use Rattle.ol_wire.proofs.TicketCells as cells
 
