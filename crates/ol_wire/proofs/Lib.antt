@@ -25,7 +25,11 @@ pub mod WordEdges
 pub mod WordsAfter
 pub mod TicketJournal
 pub mod TicketLists
+pub mod TicketRefs
 pub mod TicketWords
+pub mod TicketDrawn
+pub mod TicketNumbers
+pub mod TicketCells
 pub mod TicketSeats
 pub mod Reached
 pub mod Ticket

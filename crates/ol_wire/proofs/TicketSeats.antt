@@ -1,5 +1,5 @@
 -- The seats after a ticket below the fuel.
-use Rattle.std.proofs.Common.{◌≡◌, ◌≢◌, ℕ, suc, ◌+◌, ◌-◌, ◌/◌, ◌%◌, ◌<◌, ◌≤◌, if◌then◌else◌, nat_lt, lt-ltb, inl, inr, Bool, true, false, List, [], ◌∷◌, ◌++◌, length, slice_index, slice_get, sym, refl, ap, ◌∙◌, subst, arith}
+use Rattle.std.proofs.Common.{◌≡◌, ◌≢◌, ℕ, ◌+◌, ◌-◌, ◌/◌, ◌%◌, ◌<◌, ◌≤◌, if◌then◌else◌, nat_lt, lt-ltb, inl, inr, Bool, true, false, List, [], ◌∷◌, ◌++◌, length, slice_index, slice_get, sym, refl, ap, ◌∙◌, subst, arith}
 use Rattle.std.proofs.lemmas.Bool.{cases_lt}
 use Rattle.std.proofs.lemmas.Bool.Decides.{nat_tests}
 use mathlib.Core.Option.{some}
@@ -12,7 +12,7 @@ use Rattle.ol_net.specs.Nets.{NamedNet, HasNode, Faces}
 use Rattle.ol_rules.specs.declared.journal.NodeName.{NodeName}
 use Rattle.ol_rules.specs.declared.journal.NodeName.TheVariants.{Born}
 use Rattle.ol_rules.specs.declared.journal.Entry.{Entry}
-use Rattle.ol_rules.specs.Rewriting.{Action, is_meeting, index_after, action_of, NodeOf}
+use Rattle.ol_rules.specs.Rewriting.{is_meeting, index_after, action_of, NodeOf}
 use Rattle.ol_rules.specs.Rewriting as rewriting
 use Rattle.ol_rules.proofs.Lists.{in_each}
 use Rattle.ol_wire.specs.declared.layout.Parts.{Parts}
@@ -27,15 +27,18 @@ use Rattle.ol_wire.specs.Edges.{crosses_at, is_wire_made, is_made, times, deaths
 use Rattle.ol_wire.specs.Blocks.{copies_of_f, born_ref, block_words, to_write, joins_in, link_of, links_of}
 use Rattle.ol_wire.specs.Plays.{event_in, IsLookedUp, ticketed}
 use Rattle.ol_wire.specs.Views.{IsSpent}
-use Rattle.ol_wire.specs.Rule.{Table, IsView, IsPlaced, IsOwn, Kept, SeatsKeep, entries_of}
+use Rattle.ol_wire.specs.Rule.{Table, IsView, IsPlaced, IsOwn, IsInOwnBlock, Kept, SeatsKeep, entries_of}
 use Rattle.ol_wire.proofs.Alike.{pairs_append}
+use Rattle.ol_wire.proofs.Claimed.{in_right}
 use Rattle.ol_wire.proofs.Held.{held_full}
 use Rattle.ol_wire.proofs.Places.{place_before, part_entry, part_field}
 use Rattle.ol_wire.proofs.References.{kind_of_ref, index_of_ref}
 use Rattle.ol_wire.proofs.TicketJournal.{got_before}
 use Rattle.ol_wire.proofs.TicketLists.{total_set, numbered_more, get_past, Written, to_write_from}
-use Rattle.ol_wire.proofs.TicketWords.{arity_few}
+use Rattle.ol_wire.proofs.TicketRefs.{arity_few, ref_same}
+use Rattle.ol_wire.proofs.TicketDrawn.{entries_length}
 use Rattle.ol_wire.proofs.TicketWords as words
+use Rattle.ol_wire.proofs.TicketCells as cells
 
 -- a wire that was made stays made
 crosses_still : (log : List Event) (e : Event) (t q p : ℕ) → bit (crosses_at (slice_get log t) q p) ≤ bit (crosses_at (slice_get (log ++ e ∷ []) t) q p)
@@ -58,10 +61,6 @@ made_still log e past = omega arith
 entries_more : (z : Parts) (log : List Event) (e : Event) → entries_of z (log ++ e ∷ []) ≡ entries_of z log ++ entry_of z e ∷ []
 entries_more z [] e = refl
 entries_more z (x ∷ log) e = ap (λ l. entry_of z x ∷ l) (entries_more z log e)
-
-entries_length : (z : Parts) (log : List Event) → length (entries_of z log) ≡ length log
-entries_length z [] = refl
-entries_length z (x ∷ log) = ap suc (entries_length z log)
 
 -- the ends of a link of a list are an edge
 link_edge : (l : Link) (ls : List Link) → IsIn l ls → IsIn (l.one, l.two) (links_in ls)
@@ -110,9 +109,6 @@ module _ (z : Parts) (e : Event) (t : ℕ) (a b : ℕ → ℕ) (crosses : is_mee
 from_same : (r q : ℕ) (es : List (ℕ × ℕ)) → r ≡ q → (d : ℕ) × IsIn (r, d) es → (d : ℕ) × IsIn (q, d) es
 from_same r q es same h = (h.0, subst (λ r. IsIn (r, h.0) es) same h.1)
 
-ref_same : (k l : Kind) (i j p q : ℕ) → k ≡ l → i ≡ j → p ≡ q → node_ref k i p ≡ node_ref l j q
-ref_same k l i j p q a b c = ap (λ k. node_ref k i p) a ∙ ap (λ i. node_ref l i p) b ∙ ap (node_ref l j) c
-
 -- M is a net whose nodes are those after the step of x and y, which the event names.
 module _ (p : Plan) (s : Table) (k : Kept p s) (id : ℕ) (v : View) (here : get_elem? s.views id ≡ some v) (w : ℕ) (ready : IsLookedUp v w) (low : slice_index s.words 0 < p.parts.fuel)
     (M : NamedNet NodeName) (x y : NodeName) (kf kg : Kind) (i j : ℕ) (faces : Faces k.net x y kf i kg j)
@@ -146,7 +142,7 @@ module _ (p : Plan) (s : Table) (k : Kept p s) (id : ℕ) (v : View) (here : get
   viewed = words.viewed p s k id v here w ready low
 
   small_index : (u : NodeName) (m : Kind) (c : ℕ) → HasNode k.net u m c → c < 16777216
-  small_index u m c h = omega (arith, k.journal.indexes u m c h, drawn_is, low, k.seats.few.0)
+  small_index u m c h = omega (arith, k.journal.indexes u m c h, drawn_is, low, k.plan.small.fuel)
 
   f_kind : kind_in e.f ≡ kf
   f_kind = ap kind_in f_is ∙ kind_of_ref kf i (place_of z x)
@@ -191,13 +187,29 @@ module _ (p : Plan) (s : Table) (k : Kept p s) (id : ℕ) (v : View) (here : get
         subst IsOwn (sym (ap (part_of z) at ∙ part_field z (Born t c) ((j - 2) % 2) (low, omega arith) (omega arith))) tt
   ]
 
+  -- a word of the ticket's block is in the block of the seat's own ticket
+  in_own : (n : ℕ) → block z t ≤ n → n < block z t + 22 → IsInOwnBlock z (ticketed v t) n
+  in_own n le lt = (t, entry_of v.parts e, in_right (t, entry_of v.parts e) v.made ((t, entry_of v.parts e) ∷ []) (inl refl), (le, lt))
+
   abbrev Owns : View → Type 0
-  Owns u = (n y' : ℕ) → IsIn (n, y') u.due → IsOwn (part_of z n)
+  Owns u = (n y' : ℕ) → IsIn (n, y') u.due → (y' ≢ 0) × IsOwn (part_of z n) × IsInOwnBlock z u n
 
   owns_new : Owns (ticketed v t)
   owns_new n y' h =
       let at = to_write_from (block z t) (block_words z e t) n y' (subst (λ ds. IsIn (n, y') ds) (words.due_is p s k id v here w ready low) h) in
-      own_word n at.0 at.1 at.2
+      let lt = at.1 in
+      let q = at.2 in
+      (at.4, own_word n at.0 at.1 at.2, in_own n (omega arith) (omega arith))
+
+  abbrev Links : View → Type 0
+  Links u = (l : Link) → IsIn l u.pending → IsInOwnBlock z u l.cell
+
+  links_new : Links (ticketed v t)
+  links_new l i =
+      let h = cells.new_cell p s k id v here w ready low l i in
+      let lt = h.1 in
+      let c = h.2 in
+      in_own l.cell (omega arith) (omega arith)
 
   abbrev Due : View → Type 0
   Due u = (n : NodeName) (m : Kind) (c l y' : ℕ) → HasNode M n m c → l < arity m → IsIn (place_of z n + l, y') u.due → (d : ℕ) × IsIn (node_ref m c (place_of z n), d) (links_in u.pending)
@@ -212,7 +224,7 @@ module _ (p : Plan) (s : Table) (k : Kept p s) (id : ℕ) (v : View) (here : get
   below : (u : View) (n y' : ℕ) → IsView s u → IsIn (n, y') u.due → n < block z t
   below u n y' is at = elim (cases_lt n (block z t)) [
     | inl lt ↦ lt
-    | inr ge ↦ absurd (k.seats.due u n y' is at (sym (held_full p s k u n y' is (inl at)) ∙ k.words.fresh n (omega (arith, ge, drawn_is))))
+    | inr ge ↦ absurd ((k.seats.due u n y' is at).0 (sym (held_full p s k u n y' is (inl at)) ∙ k.words.fresh n (omega (arith, ge, drawn_is))))
   ]
 
   was_there : (u : NodeName) (m : Kind) (c : ℕ) → NodeOf k.net (λ place. Born t place) x y kf i kg (action_of e.rule j) u m c → place_of z u < block z t → HasNode k.net u m c
@@ -247,15 +259,14 @@ module _ (p : Plan) (s : Table) (k : Kept p s) (id : ℕ) (v : View) (here : get
 
   pub seats_after : SeatsKeep p s' (k.log ++ e ∷ []) M
   seats_after = record {
-    few = k.seats.few;
-    parts = total_same (λ (u : View). u.holds) refl ∙ k.seats.parts;
+    all = total_same (λ (u : View). u.holds) refl ∙ k.seats.all;
     calm = omega (arith, words.ticket_word p s k id v here w ready low, low);
     over = λ u is o. absurd (viewed (λ u. u.over ≡ true → ⊥) (λ o. let bad : false ≡ true = sym ready.under ∙ o in cc) (λ u is o. omega (arith, low, (k.seats.over u is o).0)) u is o);
-    plan = viewed (λ u. 0 < u.holds → (u.parts ≡ p.parts) × (u.seats ≡ p.seats)) (k.seats.plan v seen) k.seats.plan;
+    plans = viewed (λ u. 0 < u.holds → (u.parts ≡ p.parts) × (u.seats ≡ p.seats)) (k.seats.plans v seen) k.seats.plans;
     spent = viewed (λ u. u.holds ≡ 0 → IsSpent u) (λ q. absurd (omega (arith, ready.held, q))) k.seats.spent;
     taken = λ u n y' is. viewed (λ u. (n y' : ℕ) → IsIn (n, y') u.taken → (part_of z n ≡ left) × (y' ≢ 0)) (λ n y' h. absurd (subst (λ l. IsIn (n, y') l) (words.taken_is p s k id v here w ready low) h)) (λ u o n y'. k.seats.taken u n y' o) u is n y';
-    due = λ u n y' is. viewed (λ u. (n y' : ℕ) → IsIn (n, y') u.due → y' ≢ 0) (λ n y' h. (to_write_from (block z t) (block_words z e t) n y' (subst (λ ds. IsIn (n, y') ds) (words.due_is p s k id v here w ready low) h)).4) (λ u o n y'. k.seats.due u n y' o) u is n y';
-    due_parts = λ u n y' is. viewed Owns owns_new (λ u o n y'. k.seats.due_parts u n y' o) u is n y';
+    due = λ u n y' is. viewed Owns owns_new (λ u o n y'. k.seats.due u n y' o) u is n y';
+    links = λ u l is. viewed Links links_new (λ u o l. k.seats.links u l o) u is l;
     hidden = λ u n m c l y' is. viewed Due hidden_new hidden_old u is n m c l y';
     made = made;
     dead = dead;
