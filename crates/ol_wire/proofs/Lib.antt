@@ -35,8 +35,10 @@ pub mod Reached
 pub mod Ticket
 pub mod StepsLists
 pub mod StepsKeep
+pub mod StepsSwept
 pub mod StepsPlain
 pub mod StepsPair
+pub mod StepsReturn
 pub mod StepsCut
 pub mod StepsHold
 pub mod Steps

@@ -12,7 +12,7 @@ use Rattle.ol_wire.specs.References.{kind_in, place_in}
 use Rattle.ol_wire.specs.Layout.{block, size}
 use Rattle.ol_wire.specs.Events.{Event, rule_between, event_of, entry_of}
 use Rattle.ol_wire.specs.Blocks.{block_words, to_write, joins_in, link_of, links_of}
-use Rattle.ol_wire.specs.Plays.{IsNodeOf, IsLookedUp, known_at, event_in, ticketed, rest}
+use Rattle.ol_wire.specs.Plays.{IsNodeOf, IsLookedUp, known_at, event_in, ticketed, rest, cell_at, cell_in_hand, swept_on}
 use Rattle.ol_wire.specs.Rewrites.{event_for}
 use Rattle.ol_wire.specs.Sizes.{IsSmall}
 use Rattle.ol_wire.specs.Views.{IsIdle}
@@ -121,7 +121,7 @@ rewritten v v2 v3 v4 w t ks hand due e2 e3 e4 = record {
 }
   where
     left : List (ℕ × ℕ) → List (ℕ × ℕ) → List Link → View
-    left taken d ls = record v { taken = taken; known = []; made = v.made ++ (t, entry_of v.parts (event_in v)) ∷ []; due = d; pending = ls }
+    left taken d ls = record v { taken = taken; known = []; swept = swept_on v (cell_at v.parts (cell_in_hand v.taken)); made = v.made ++ (t, entry_of v.parts (event_in v)) ∷ []; due = d; pending = ls }
 
     links : List Link
     links = links_of v.parts (event_in v) t (λ s. known_at ks (place_in (event_in v).f + s)) (λ s. known_at ks (place_in (event_in v).g + s))

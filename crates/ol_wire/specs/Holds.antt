@@ -9,13 +9,17 @@ use Rattle.ol_wire.specs.References.{place_in}
 use Rattle.ol_wire.specs.Layout.{left_word}
 use Rattle.ol_wire.specs.Events.{rule_between, entry_of}
 use Rattle.ol_wire.specs.Blocks.{links_of}
-use Rattle.ol_wire.specs.Plays.{IsNodeOf, known_at, event_in}
+use Rattle.ol_wire.specs.Plays.{IsNodeOf, known_at, event_in, cell_at, cell_in_hand, swept_on}
 
 -- a claim of cell c, which read `pair.0`, and nothing more
 abbrev pub claiming : View → ℕ → ℕ × ℕ → View
 claiming v c pair = record v { claimed = v.claimed ++ c ∷ []; last = pair }
 
--- the same, and the pair is in the seat: w is the cell's left word
+-- the cell was empty, and nothing more
+abbrev pub missed : View → ℕ → View
+missed v c = record (claiming v c (0, 0)) { swept = swept_on v c }
+
+-- the pair is in the seat: w is the cell's left word
 abbrev pub in_hand : View → ℕ → ℕ → ℕ × ℕ → View
 in_hand v w c pair = record (claiming v c pair) { taken = (w, pair.0) ∷ []; known = (suc w, pair.1) ∷ v.known }
 
@@ -45,13 +49,13 @@ IsActiveLast v = rule_between (event_in v).f (event_in v).g ≡ Some (event_in v
 
 -- The pair in hand has become ticket t: its words are written, and its links are pending, by what was known of the fields.
 pub record Rewrote (v : View) (t : ℕ) (n : View) : Type 0 where
-  pub view : n ≡ record v { taken = []; known = []; made = v.made ++ (t, entry_of v.parts (event_in v)) ∷ []; pending = n.pending }
+  pub view : n ≡ record v { taken = []; known = []; swept = swept_on v (cell_at v.parts (cell_in_hand v.taken)); made = v.made ++ (t, entry_of v.parts (event_in v)) ∷ []; pending = n.pending }
   pub known : List (ℕ × ℕ)
   pub links : n.pending ≡ links_of v.parts (event_in v) t (λ s. known_at known (place_in (event_in v).f + s)) (λ s. known_at known (place_in (event_in v).g + s))
 
 -- what the call leaves in the view, by its answer
 abbrev pub Leaves : Parts → View → ℕ → Hold → View → Type 0
-Leaves z v c Gone n = n ≡ claiming v c (0, 0)
+Leaves z v c Gone n = n ≡ missed v c
 Leaves z v c Stuck n = n ≡ in_hand v (left_word z c) c n.last
 Leaves z v c Past n = n ≡ record (in_hand v (left_word z c) c n.last) { over = true; known = n.known }
 Leaves z v c (Wrote t r b) n = (t < z.fuel) × (r ≡ (event_in n).rule) × (b ≡ z.cells + 4 * t) × Rewrote (in_hand v (left_word z c) c n.last) t n

@@ -9,7 +9,7 @@ ghost use Rattle.ol_wire.specs.Plays.{IsNodeOf, event_in};
 ghost use Rattle.ol_wire.specs.Rewrites.{event_for};
 ghost use Rattle.ol_wire.specs.Stand.{IsUnder, IsOf};
 ghost use Rattle.ol_wire.specs.Views.{IsIdle};
-ghost use Rattle.ol_wire.specs.Holds.{claiming, in_hand, IsInHand, IsOfPair, fields_known, IsStuckLast, IsActiveLast, Rewrote, Leaves, IsWrote};
+ghost use Rattle.ol_wire.specs.Holds.{missed, in_hand, IsInHand, IsOfPair, fields_known, IsStuckLast, IsActiveLast, Rewrote, Leaves, IsWrote};
 
 use crate::reference::kind_in;
 use crate::rewrite::{Rewrite, rewrite_of};
@@ -79,7 +79,7 @@ impl Shared {
         requires cell { cell < cells_of self.now.plan.parts }
         requires idle { IsIdle token.old.me.0 }
         ensures token { (token.new.table_id ≡ token.old.table_id) × (token.new.me.1 ≡ token.old.me.1) }
-        ensures view { MatchOption result (token.new.me.0 ≡ claiming token.old.me.0 cell (0, 0)) (λ pair. (pair.0 ≢ 0) × (token.new.me.0 ≡ in_hand token.old.me.0 (left_word self.now.plan.parts cell) cell pair)) }
+        ensures view { MatchOption result (token.new.me.0 ≡ missed token.old.me.0 cell) (λ pair. (pair.0 ≢ 0) × (token.new.me.0 ≡ in_hand token.old.me.0 (left_word self.now.plan.parts cell) cell pair)) }
         ensures nodes { IfSome result (λ pair. IsNodeOf self.now.plan.parts pair.0 × IsNodeOf self.now.plan.parts pair.1) }
     {
         let left = self.claim(token, cell);

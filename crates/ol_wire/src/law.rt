@@ -1,6 +1,7 @@
 //! The rule of the table, and what each kind of step tells.
 ghost use Rattle.ol_wire.specs.Rule.{Kept, opener};
 ghost use Rattle.ol_wire.specs.Plays.{claims, pairs_up, looks, draws, writes, fewer, one_seat};
+ghost use Rattle.ol_wire.specs.ReturnPlays.{returns};
 
 use crate::plan::Plan;
 use crate::view::View;
@@ -48,6 +49,13 @@ pub struct Writes;
 
 impl Play<(), View> for Writes {
     ghost then = { writes };
+}
+
+/// A claimed pair that is put back into its cell.
+pub struct Returns;
+
+impl Play<(), View> for Returns {
+    ghost then = { returns };
 }
 
 /// One seat is cut off from a seat that has done nothing.

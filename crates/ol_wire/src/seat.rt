@@ -52,6 +52,7 @@ impl Shared {
     pub(crate) fn cut(&self, seat: &mut Seat) -> Seat
         requires table { seat.old.table ≡ self.now.table }
         requires holds { (1 < seat.old.view.holds) × (seat.old.view.over ≡ false) }
+        requires unswept { seat.old.view.swept ≡ 0 }
         ensures left { (seat.new.table ≡ seat.old.table) × (seat.new.view ≡ fewer seat.old.view) }
         ensures right { (result.table ≡ seat.old.table) × (result.view ≡ one_seat seat.old.view) }
     {
