@@ -51,3 +51,4 @@ pub mod OpeningEnds
 pub mod OpeningCounts
 pub mod OpeningSites
 pub mod OpeningStands
+pub mod OpeningRefs

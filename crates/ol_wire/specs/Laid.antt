@@ -9,7 +9,6 @@ use Rattle.ol_rules.specs.Listed.{each}
 use Rattle.ol_wire.specs.declared.layout.Parts.{Parts}
 use Rattle.ol_wire.specs.References.{node_ref, wire_ref}
 use Rattle.ol_wire.specs.Layout.{port_word, start_node, start_wire, start_cell, block, size}
-use Rattle.ol_wire.specs.Sizes.{IsSmall}
 use Rattle.ol_wire.specs.Starts.{wire_with, pair_with, facing_pairs}
 
 -- the reference of a node, or 0 where no live node has the number
@@ -56,11 +55,10 @@ abbrev pub cell_words : Graph → Parts → List (ℕ × ℕ) → List ℕ
 cell_words net z [] = []
 cell_words net z (p ∷ ps) = node_word net z p.0 ∷ node_word net z p.1 ∷ cell_words net z ps
 
--- bounds under which all references and all numbers of words are small
-pub record HasRoom (net : Graph) (z : Parts) : Type 0 where
-  pub parts : IsSmall z
-  pub free : net.free ≤ 1000000
+-- bounds under which all numbers in references are small
+pub record IsSmallNet (net : Graph) : Type 0 where
   pub nodes : length net.nodes ≤ 1000000
+  pub free : net.free ≤ 1000000
   pub indexes : top_index_of net.nodes ≤ 1000000
 
 -- The net is laid out in these words.
