@@ -28,7 +28,7 @@ use Rattle.ol_wire.specs.Starts.{AreParts}
 use Rattle.ol_wire.specs.Events as events
 use Rattle.ol_wire.specs.Edges.{is_wire_made, is_made, is_reached, deaths, edge_in, edges_in, edges_of}
 use Rattle.ol_wire.specs.Stands.{Stands}
-use Rattle.ol_wire.specs.Rule.{Table, Kept, JournalKeeps, WordsKeep, CellsKeep, SeatsKeep, IsPlaced, IsView, opener}
+use Rattle.ol_wire.specs.Rule.{Table, Kept, PlanKeeps, JournalKeeps, WordsKeep, CellsKeep, SeatsKeep, IsPlaced, IsView, opener}
 use Rattle.ol_wire.specs.Laid.{IsLaid}
 use Rattle.ol_wire.proofs.Places.{part_wire, is_wire}
 use Rattle.ol_wire.proofs.OpeningPorts.{index_low, node_inside}
@@ -62,8 +62,16 @@ and_first : (a b : Bool) → (a && b) ≡ true → a ≡ true
 and_first true b h = refl
 and_first false b h = h
 
-module _ (p : Plan) (words : List ℕ) (parts : AreParts p.start.value p.parts.fuel p.parts) (small : IsSmall p.parts) (laid : IsLaid p.start.value p.parts words) (low : top_index_of p.start.value.nodes ≤ 1000000)
-    (tabled : IsTabled p.start.value.free p.start.value.nodes p.start.value.partners) (indexes : HasIndexes p.start.value.nodes) (some_seat : 0 < p.seats) (few_seats : p.seats ≤ 64) where
+-- The net is laid out in these words, with blocks for so many tickets, and is small enough.
+pub record IsStart (net : Graph) (fuel : ℕ) (z : Parts) (words : List ℕ) : Type 0 where
+  pub parts : AreParts net fuel z
+  pub small : IsSmall z
+  pub laid : IsLaid net z words
+  pub low : top_index_of net.nodes ≤ 1000000
+  pub tabled : IsTabled net.free net.nodes net.partners
+  pub indexes : HasIndexes net.nodes
+
+module _ (p : Plan) (fuel : ℕ) (words : List ℕ) (is : IsStart p.start.value fuel p.parts words) (some_seat : 0 < p.seats) (few_seats : p.seats ≤ 64) where
   abbrev g : Graph
   g = p.start.value
 
@@ -78,13 +86,13 @@ module _ (p : Plan) (words : List ℕ) (parts : AreParts p.start.value p.parts.f
 
   given : Given g z words N reached
   given = record {
-    free = parts.free;
-    nodes = parts.nodes;
-    wires = parts.wires;
-    cells = parts.cells;
-    low = low;
-    tabled = tabled;
-    laid = laid;
+    free = is.parts.free;
+    nodes = is.parts.nodes;
+    wires = is.parts.wires;
+    cells = is.parts.cells;
+    low = is.low;
+    tabled = is.tabled;
+    laid = is.laid;
     live = live_start g;
     reaches = λ j lt. ap (λ pt. is_wire_made [] pt && nat_eq (deaths (start_wire z j) (opener p ∷ [])) 0) (part_wire z j lt);
     only = λ w h. wire_made z w (part_of z w) refl (and_first (is_made z [] w) (nat_eq (deaths w (opener p ∷ [])) 0) h);
@@ -97,18 +105,18 @@ module _ (p : Plan) (words : List ℕ) (parts : AreParts p.start.value p.parts.f
   journal = record {
     run = runs.end;
     played = events.end;
-    is_net = start_nets.start_net (net_of g) (net_is_net g tabled);
-    ports = sym parts.free;
+    is_net = start_nets.start_net (net_of g) (net_is_net g is.tabled);
+    ports = sym is.parts.free;
     names = λ x k i h.
         let t = node_from Init (net_of g) x k i h in
         let b = node_inside g.nodes t.0 (k, i) ((has_node g t.0 k i).0 t.1) in
-        let lt : t.0 < z.nodes = omega (arith, b, parts.nodes) in
+        let lt : t.0 < z.nodes = omega (arith, b, is.parts.nodes) in
         subst (λ y. IsPlaced z 0 y) (sym t.2) lt;
     indexes = λ x k i h.
         let t = node_from Init (net_of g) x k i h in
         let b = index_low g.nodes t.0 (k, i) ((has_node g t.0 k i).0 t.1) in
-        omega (arith, b, low);
-    erasers = λ x k i h e. let t = node_from Init (net_of g) x k i h in indexes.erasers t.0 (k, i) ((has_node g t.0 k i).0 t.1) e;
+        omega (arith, b, is.low);
+    erasers = λ x k i h e. let t = node_from Init (net_of g) x k i h in is.indexes.erasers t.0 (k, i) ((has_node g t.0 k i).0 t.1) e;
     rules = λ t e h. absurd (no_member e h);
   }
 
@@ -133,14 +141,14 @@ module _ (p : Plan) (words : List ℕ) (parts : AreParts p.start.value p.parts.f
 
   words_keep : WordsKeep p start [] words
   words_keep = record {
-    wide = laid.wide;
-    full_wide = laid.wide;
+    wide = is.laid.wide;
+    full_wide = is.laid.wide;
     written = λ h empties. omega arith;
     refs = λ w lt some. start_refs g z words reached given w some;
     cells = start_cells g z words reached given;
-    fields = laid.fields;
-    starts = λ c n get. let both = laid.cells c n get in (inr both.0, both.1);
-    fresh = λ w ge. laid.blocks w ge;
+    fields = is.laid.fields;
+    starts = λ c n get. let both = is.laid.cells c n get in (inr both.0, both.1);
+    fresh = is.laid.blocks;
     entries = λ t j e h lt. absurd (no_member e h);
     known = λ v w y h i. absurd (none_known v (w, y) h i);
   }
@@ -158,7 +166,7 @@ module _ (p : Plan) (words : List ℕ) (parts : AreParts p.start.value p.parts.f
   seats_keep : SeatsKeep p start [] N
   seats_keep = record {
     all = omega arith;
-    calm = omega (arith, laid.ticket);
+    calm = omega (arith, is.laid.ticket);
     over = λ v h e. absurd (let bad : false ≡ true = sym (ap (λ (u : View). u.over) (view_is v h)) ∙ e in cc);
     plans = λ v h held. (ap (λ (u : View). u.parts) (view_is v h), ap (λ (u : View). u.seats) (view_is v h));
     spent = λ v h e. absurd (let q : v.holds ≡ p.seats = ap (λ (u : View). u.holds) (view_is v h) in omega (arith, q, e, some_seat));
@@ -170,14 +178,21 @@ module _ (p : Plan) (words : List ℕ) (parts : AreParts p.start.value p.parts.f
     dead = λ w. omega arith;
   }
 
+  plan_keeps : PlanKeeps p
+  plan_keeps = record {
+    parts = record { free = is.parts.free; nodes = is.parts.nodes; wires = is.parts.wires; cells = is.parts.cells; fuel = refl };
+    small = is.small;
+    seats = (some_seat, few_seats);
+  }
+
   pub opens : Kept p start
   opens = record {
     log = [];
     net = N;
     full = words;
     from = [];
-    plan = record { parts = parts; small = small; seats = (some_seat, few_seats) };
-    tickets = record { few = omega arith; below = λ lt. sym laid.ticket; above = λ le. omega (arith, le, laid.ticket) };
+    plan = plan_keeps;
+    tickets = record { few = omega arith; below = λ lt. sym is.laid.ticket; above = λ le. omega (arith, le, is.laid.ticket) };
     journal = journal;
     words = words_keep;
     cells = cells_keep;
@@ -185,10 +200,5 @@ module _ (p : Plan) (words : List ℕ) (parts : AreParts p.start.value p.parts.f
     stands = stands;
   }
 
-pub opens_as : (p : Plan) (net : Graph) (z : Parts) (fuel : ℕ) (words : List ℕ) → AreParts net fuel z → IsSmall z → IsLaid net z words → top_index_of net.nodes ≤ 1000000 → IsTabled net.free net.nodes net.partners → HasIndexes net.nodes
-    → p.parts ≡ z → p.start.value ≡ net → 0 < p.seats → p.seats ≤ 64 → Kept p (opening words [] (opener p))
-opens_as p net z fuel words parts small laid low tabled indexes is_z is_net some_seat few_seats =
-    let own : AreParts net z.fuel z = record { free = parts.free; nodes = parts.nodes; wires = parts.wires; cells = parts.cells; fuel = refl } in
-    opens p words (subst (λ (n : Graph). AreParts n p.parts.fuel p.parts) (sym is_net) (subst (λ (y : Parts). AreParts net y.fuel y) (sym is_z) own)) (subst IsSmall (sym is_z) small)
-    (subst (λ (n : Graph). IsLaid n p.parts words) (sym is_net) (subst (λ (y : Parts). IsLaid net y words) (sym is_z) laid)) (subst (λ (n : Graph). top_index_of n.nodes ≤ 1000000) (sym is_net) low)
-    (subst (λ (n : Graph). IsTabled n.free n.nodes n.partners) (sym is_net) tabled) (subst (λ (n : Graph). HasIndexes n.nodes) (sym is_net) indexes) some_seat few_seats
+pub opens_as : (p : Plan) (net : Graph) (fuel : ℕ) (z : Parts) (words : List ℕ) → IsStart net fuel z words → p.parts ≡ z → p.start.value ≡ net → 0 < p.seats → p.seats ≤ 64 → Kept p (opening words [] (opener p))
+opens_as p net fuel z words is is_z is_net = opens p fuel words (subst (λ (n : Graph). IsStart n fuel p.parts words) (sym is_net) (subst (λ (y : Parts). IsStart net fuel y words) (sym is_z) is))

@@ -86,19 +86,19 @@ module _ (net : Graph) (z : Parts) (a b c d e f : List ℕ) (free : z.free ≡ n
   ec : c ≡ b ++ each z.nodes (field_row net z)
   ec = fc ∙ ap (λ n. b ++ each n (field_row net z)) (sym nodes)
 
-  pub length_b : length b ≡ start_node z 0
-  length_b = omega (arith, ap length eb, ap length ea, length-append a (each z.free (port_row net z)), length_ones (word_of_port net z) z.free)
+  length_b : length b ≡ start_node z 0
+  length_b = start_length net z a b free ea fb
 
-  pub length_c : length c ≡ start_wire z 0
+  length_c : length c ≡ start_wire z 0
   length_c = omega (arith, ap length ec, length_b, length-append b (each z.nodes (field_row net z)), length_twos (λ n. field_of net z n 0) (λ n. field_of net z n 1) z.nodes)
 
-  pub length_d : length d ≡ start_cell z 0
+  length_d : length d ≡ start_cell z 0
   length_d = omega (arith, ap length ed, length_c, length-append c (replicate z.wires 0), length-replicate {A = ℕ} z.wires 0)
 
-  pub length_e : length e ≡ block z 0
+  length_e : length e ≡ block z 0
   length_e = omega (arith, ap length ee, length_d, length-append d (cell_words net z (facing_pairs net)), length_cells net z (facing_pairs net), few)
 
-  pub length_f : length f ≡ size z
+  length_f : length f ≡ size z
   length_f = omega (arith, ap length ef, length_e, length-append e (replicate (22 * z.fuel) 0), length-replicate {A = ℕ} (22 * z.fuel) 0)
 
   in_c : (w : ℕ) → w < length c → slice_index f w ≡ slice_index c w

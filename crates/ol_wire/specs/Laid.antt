@@ -50,12 +50,7 @@ field_to net z n s (Some (Of m u)) = if u == 0 then node_word net z m.0 else wir
 abbrev pub field_of : Graph → Parts → ℕ → ℕ → ℕ
 field_of net z n s = field_to net z n s (partner_of net (Of (record { 0 = n }) (suc s)))
 
--- the two words of each pair
-abbrev pub cell_words : Graph → Parts → List (ℕ × ℕ) → List ℕ
-cell_words net z [] = []
-cell_words net z (p ∷ ps) = node_word net z p.0 ∷ node_word net z p.1 ∷ cell_words net z ps
-
--- bounds under which all numbers in references are small
+-- The numbers of the net are so small that each reference to a part of it fits its word.
 pub record IsSmallNet (net : Graph) : Type 0 where
   pub nodes : length net.nodes ≤ 1000000
   pub free : net.free ≤ 1000000
@@ -71,11 +66,7 @@ pub record IsLaid (net : Graph) (z : Parts) (words : List ℕ) : Type 0 where
   pub cells : (c : ℕ) (p : ℕ × ℕ) → slice_get (facing_pairs net) c ≡ Some p → (slice_index words (start_cell z c) ≡ node_word net z p.0) × (slice_index words (suc (start_cell z c)) ≡ node_word net z p.1)
   pub blocks : (w : ℕ) → block z 0 ≤ w → slice_index words w ≡ 0
 
--- While it is laid out: the fields before slot s + 1 of node n are there, and nothing is behind them.
-pub record HasFields (net : Graph) (z : Parts) (words : List ℕ) (n s : ℕ) : Type 0 where
-  pub long : length words ≡ start_node z n + s
-  pub before : (m u : ℕ) → u < 2 → 2 * m + u < 2 * n + s → slice_index words (start_node z m + u) ≡ field_of net z m u
-
+-- what is added for each free port, and for each node
 abbrev pub port_row : Graph → Parts → ℕ → List ℕ
 port_row net z n = word_of_port net z n ∷ []
 
@@ -85,3 +76,13 @@ field_row net z n = field_of net z n 0 ∷ field_of net z n 1 ∷ []
 -- the pair of node n, where it faces a node of a greater number
 abbrev pub pair_at : Graph → ℕ → List (ℕ × ℕ)
 pair_at net n = pair_with n (partner_of net (Of (record { 0 = n }) 0))
+
+-- the two words of each pair
+abbrev pub cell_words : Graph → Parts → List (ℕ × ℕ) → List ℕ
+cell_words net z [] = []
+cell_words net z (p ∷ ps) = node_word net z p.0 ∷ node_word net z p.1 ∷ cell_words net z ps
+
+-- While it is laid out: the fields before slot s + 1 of node n are there, and nothing is behind them.
+pub record HasFields (net : Graph) (z : Parts) (words : List ℕ) (n s : ℕ) : Type 0 where
+  pub long : length words ≡ start_node z n + s
+  pub before : (m u : ℕ) → u < 2 → 2 * m + u < 2 * n + s → slice_index words (start_node z m + u) ≡ field_of net z m u

@@ -1,10 +1,8 @@
 //! A net laid out in words.
-ghost use Rattle.std.specs.Prelude.{◌≡◌, ℕ, suc, ◌+◌, ◌*◌, ◌<◌, ◌≤◌, List, [], ◌∷◌, ◌++◌, length, slice_index, is_some, count_by, IfOk, OnOk, replicate, vec_len};
-ghost use Rattle.ol_net.specs.declared.parts.Port.TheVariants.{Free, Of};
-ghost use Rattle.ol_net.specs.Graph.{partner_of};
+ghost use Rattle.std.specs.Prelude.{◌≡◌, suc, ◌<◌, ◌≤◌, [], ◌∷◌, ◌++◌, length, IfOk, OnOk, replicate, vec_len};
 ghost use Rattle.ol_rules.specs.Listed.{each};
 ghost use Rattle.ol_wire.specs.References.{wire_ref};
-ghost use Rattle.ol_wire.specs.Layout.{port_word, start_node, start_wire, size};
+ghost use Rattle.ol_wire.specs.Layout.{port_word, start_node, size};
 ghost use Rattle.ol_wire.specs.Sizes.{IsSmall};
 ghost use Rattle.ol_wire.specs.Starts.{AreParts, aux_links, facing_pairs};
 ghost use Rattle.atomic_table.specs.Table.{opening};
@@ -51,7 +49,8 @@ fn word_of_port(net: &Net, parts: Parts, port: u32) -> u64
     }
 }
 
-// The field of slot `slot + 1` of a node, and the number of wires that have come so far.
+// The field of slot `slot + 1` of a node, and the number of wires that have come so far. Of two auxiliary slots the one
+// that comes first has the next wire, and the field of the other one is the same word again.
 fn field_of(net: &Net, parts: Parts, words: &[u64], node: u32, slot: u8, wires: u32) -> (u64, u32)
     requires small { IsSmall parts × IsSmallNet net.now }
     requires inside { (node < length net.now.nodes) × (slot < 2) }
@@ -163,10 +162,12 @@ fn put_cell(net: &Net, parts: Parts, words: &mut Vec<u64>, node: u32) -> Result<
         node: NodeId(node),
         slot: 0,
     }) {
-        Some(Port::Of {
-            node: other,
-            slot: 0,
-        }) if node < other.0 => {
+        Some(
+            Port::Of {
+                node: other,
+                slot: 0,
+            },
+        ) if node < other.0 => {
             put(words, node_word(net, parts, node))?;
             put(words, node_word(net, parts, other.0))?;
             Ok(1)
@@ -191,15 +192,15 @@ fn put_cells(net: &Net, parts: Parts, words: &mut Vec<u64>) -> Result<u32, NoMem
     Ok(cells)
 }
 
-// The words, and their parts.
+// The parts, and the words.
 fn lay_out(alloc: Global, net: &Net, fuel: u32) -> Result<(Parts, Vec<u64>), NoMemory>
     requires small { IsSmallNet net.now }
     requires fuel { fuel ≤ 2000000 }
     ensures parts { IfOk result (λ r. AreParts net.now fuel r.0) }
     ensures small { IfOk result (λ r. IsSmall r.0) }
-    ensures words { IfOk result (λ r. vec_len r.1 ≡ size r.0) }
     ensures laid { IfOk result (λ r. IsLaid net.now r.0 r.1.items) }
 {
+    // Until its wires and cells are counted.
     let early = Parts {
         free: net.free_ports(),
         nodes: net.born(),
@@ -222,8 +223,8 @@ fn lay_out(alloc: Global, net: &Net, fuel: u32) -> Result<(Parts, Vec<u64>), NoM
     Ok((parts, words))
 }
 
-/// A net laid out in words, with blocks for so many tickets. Whatever number of seats is made over these words, they meet the rule of the
-/// table at the start, with no ticket drawn.
+/// A net laid out in words, with blocks for so many tickets. Whatever number of seats up to 64 is made over these words, they meet the
+/// rule of the table, with no ticket drawn.
 ///
 /// It takes time in proportion to the number of words, and takes memory for them alone. `NoMemory`: no memory was found.
 pub(crate) fn lay(alloc: Global, net: &Net, fuel: u32) -> Result<(Parts, Vec<u64>), NoMemory>
