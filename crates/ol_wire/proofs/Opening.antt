@@ -1,5 +1,5 @@
 -- The words of a start net meet the rule.
-use Rattle.std.proofs.Common.{◌≡◌, ℕ, zero, suc, ◌+◌, ◌<◌, ◌≤◌, ◌&&◌, nat_eq, true, false, Bool, List, [], ◌∷◌, ◌++◌, slice_index, refl, sym, ap, ◌∙◌, subst, arith, inr}
+use Rattle.std.proofs.Common.{is_some, count_by, length, ◌≡◌, ℕ, zero, suc, ◌+◌, ◌<◌, ◌≤◌, ◌&&◌, nat_eq, true, false, Bool, List, [], ◌∷◌, ◌++◌, slice_index, refl, sym, ap, ◌∙◌, subst, arith, inr}
 use Rattle.std.proofs.lemmas.List.{append-nil}
 use mathlib.Core.Option as option
 use lib.ListN.{get_elem?}
@@ -64,6 +64,7 @@ and_first false b h = h
 
 -- The net is laid out in these words, with blocks for so many tickets, and is small enough.
 pub record IsStart (net : Graph) (fuel : ℕ) (z : Parts) (words : List ℕ) : Type 0 where
+  pub whole : count_by is_some net.nodes ≡ length net.nodes
   pub parts : AreParts net fuel z
   pub small : IsSmall z
   pub laid : IsLaid net z words
@@ -180,6 +181,7 @@ module _ (p : Plan) (fuel : ℕ) (words : List ℕ) (is : IsStart p.start.value 
 
   plan_keeps : PlanKeeps p
   plan_keeps = record {
+    whole = is.whole;
     parts = record { free = is.parts.free; nodes = is.parts.nodes; wires = is.parts.wires; cells = is.parts.cells; fuel = refl };
     small = is.small;
     seats = (some_seat, few_seats);

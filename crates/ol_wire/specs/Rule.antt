@@ -1,5 +1,5 @@
 -- What holds of the words and the views between any two steps.
-use Rattle.std.specs.Prelude.{◌≡◌, ◌≢◌, ℕ, suc, ◌+◌, ◌<◌, ◌≤◌, ◌⊎◌, true, nat_eq, if◌then◌else◌, List, [], length, map, Some, slice_index, slice_get}
+use Rattle.std.specs.Prelude.{◌≡◌, ◌≢◌, ℕ, suc, ◌+◌, ◌<◌, ◌≤◌, ◌⊎◌, true, nat_eq, if◌then◌else◌, List, [], length, map, is_some, count_by, Some, slice_index, slice_get}
 use mathlib.Core.Option.{some}
 use lib.ListN.{get_elem?}
 use Rattle.atomic_table.specs.Table.{State}
@@ -69,8 +69,9 @@ pub record Drawn (fuel word tickets : ℕ) : Type 0 where
   pub below : word < fuel → tickets ≡ word
   pub above : fuel ≤ word → tickets ≡ fuel
 
--- The parts are those of the start net, and so small that each number fits its word.
+-- In the start net all numbers are those of live nodes. The parts are those of this net, and so small that each number fits its word.
 pub record PlanKeeps (p : Plan) : Type 0 where
+  pub whole : count_by is_some p.start.value.nodes ≡ length p.start.value.nodes
   pub parts : AreParts p.start.value p.parts.fuel p.parts
   pub small : IsSmall p.parts
   pub seats : (0 < p.seats) × (p.seats ≤ 64)

@@ -1,5 +1,5 @@
 //! A net laid out in words.
-ghost use Rattle.std.specs.Prelude.{◌≡◌, suc, ◌<◌, ◌≤◌, [], ◌∷◌, ◌++◌, length, IfOk, OnOk, replicate, vec_len};
+ghost use Rattle.std.specs.Prelude.{◌≡◌, suc, ◌<◌, ◌≤◌, [], ◌∷◌, ◌++◌, length, IfOk, OnOk, replicate, vec_len, is_some, count_by};
 ghost use Rattle.ol_rules.specs.Listed.{each};
 ghost use Rattle.ol_wire.specs.References.{wire_ref};
 ghost use Rattle.ol_wire.specs.Layout.{port_word, start_node, size};
@@ -228,6 +228,7 @@ fn lay_out(alloc: Global, net: &Net, fuel: u32) -> Result<(Parts, Vec<u64>), NoM
 ///
 /// It takes time in proportion to the number of words, and takes memory for them alone. `NoMemory`: no memory was found.
 pub(crate) fn lay(alloc: Global, net: &Net, fuel: u32) -> Result<(Parts, Vec<u64>), NoMemory>
+    requires whole { count_by is_some net.now.nodes ≡ length net.now.nodes }
     requires small { IsSmallNet net.now }
     requires fuel { fuel ≤ 2000000 }
     ensures parts { IfOk result (λ r. AreParts net.now fuel r.0) }
