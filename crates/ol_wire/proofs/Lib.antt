@@ -36,6 +36,8 @@ pub mod StepsPair
 pub mod StepsCut
 pub mod StepsHold
 pub mod Steps
+pub mod StepsLinkLists
+pub mod StepsLinkKeep
 pub mod Opening
 pub mod OpeningPorts
 pub mod OpeningWords
