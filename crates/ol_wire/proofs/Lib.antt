@@ -38,6 +38,10 @@ pub mod StepsHold
 pub mod Steps
 pub mod StepsLinkLists
 pub mod StepsLinkKeep
+pub mod StepsLinkEdges
+pub mod StepsLinkSites
+pub mod StepsLinkSpread
+pub mod StepsLink
 pub mod Opening
 pub mod OpeningPorts
 pub mod OpeningWords

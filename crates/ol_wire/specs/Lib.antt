@@ -11,6 +11,7 @@ pub mod Weights
 pub mod Views
 pub mod Rule
 pub mod Plays
+pub mod LinkPlays
 pub mod Stand
 pub mod Holds
 pub mod Rewrites
