@@ -42,6 +42,9 @@ pub mod StepsLinkEdges
 pub mod StepsLinkSites
 pub mod StepsLinkSpread
 pub mod StepsLink
+pub mod StepsPublishCells
+pub mod StepsPublish
+pub mod StepsJoin
 pub mod Opening
 pub mod OpeningPorts
 pub mod OpeningWords

@@ -50,7 +50,7 @@ made_some : (r : ℕ) → IsRef r → r ≢ 0
 made_some r (inl sort) e = omega (arith, sort, e)
 made_some r (inr sort) e = omega (arith, sort, e)
 
-rest_fewer : (a : ℕ) (ls : List Link) → links_at a (rest ls) ≤ links_at a ls
+pub rest_fewer : (a : ℕ) (ls : List Link) → links_at a (rest ls) ≤ links_at a ls
 rest_fewer a [] = omega arith
 rest_fewer a (l ∷ ls) = omega arith
 
