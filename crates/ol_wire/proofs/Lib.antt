@@ -45,6 +45,7 @@ pub mod StepsLink
 pub mod StepsPublishCells
 pub mod StepsPublish
 pub mod StepsJoin
+pub mod StepsLinkAllowed
 pub mod Opening
 pub mod OpeningPorts
 pub mod OpeningWords

@@ -1,21 +1,19 @@
 -- Two seats that hold nothing are joined: what one has done goes to the other, and the rule is kept.
-use Rattle.std.proofs.Common.{◌≡◌, ◌≢◌, ℕ, zero, suc, ◌+◌, ◌<◌, ◌≤◌, ◌⊎◌, Bool, true, false, ◌&&◌, ◌||◌, if◌then◌else◌, nat_eq, Some, List, [], ◌∷◌, ◌++◌, length, get_or, set, sym, refl, ap, ◌∙◌, subst, inl, inr, arith}
+use Rattle.std.proofs.Common.{◌≡◌, ◌≢◌, ℕ, suc, ◌+◌, ◌<◌, ◌≤◌, ◌⊎◌, Bool, true, false, ◌&&◌, ◌||◌, if◌then◌else◌, nat_eq, Some, List, [], ◌++◌, get_or, set, sym, refl, ap, ◌∙◌, subst, arith}
 use mathlib.Core.Bool.{false≢true}
 use mathlib.Core.Option.{some}
 use lib.ListN.{get_elem?}
 use Rattle.core.specs.Prelude.{slice_get}
 use Rattle.atomic_table.specs.Table.{Joins}
 use Rattle.atomic_table.proofs.Lists.{set_else}
-use Rattle.ol_edges.specs.Edges.{IsIn, bit}
-use Rattle.ol_net.specs.Nets.{HasNode}
-use Rattle.ol_net.specs.Parts.{arity}
+use Rattle.ol_edges.specs.Edges.{IsIn}
 use Rattle.ol_rules.specs.declared.journal.Entry.{Entry}
 use Rattle.ol_rules.specs.Runs.{HasActive}
 use Rattle.ol_wire.specs.declared.plan.Plan.{Plan}
 use Rattle.ol_wire.specs.declared.view.Link.{Link}
 use Rattle.ol_wire.specs.declared.view.View.{View}
 use Rattle.ol_wire.specs.References.{node_ref}
-use Rattle.ol_wire.specs.Weights.{total, pairs, weigh, Empties}
+use Rattle.ol_wire.specs.Weights.{total, pairs}
 use Rattle.ol_wire.specs.Layout.{left, part_of, place_of, size, left_word}
 use Rattle.ol_wire.specs.Edges.{is_reached, is_made, deaths, times, edges_of, edges_in, pending_in, links_in}
 use Rattle.ol_wire.specs.Events.{IsStuckPair}
@@ -23,7 +21,7 @@ use Rattle.ol_wire.specs.Stands.{Stands}
 use Rattle.ol_wire.specs.Views.{past_fuel, IsSpent, IsIdle}
 use Rattle.ol_wire.specs.Plays.{joined, emptied}
 use Rattle.ol_wire.specs.Rule.{Table, Kept, WordsKeep, CellsKeep, SeatsKeep, IsView, IsLasting, IsOwn, IsMadeRef, IsRightOf, IsInOwnBlock, links_at}
-use Rattle.ol_wire.proofs.Alike.{total_append, pairs_append}
+use Rattle.ol_wire.proofs.Alike.{total_append}
 use Rattle.ol_wire.proofs.StepsLists.{total_set, each_set, pending_set, one_below}
 
 or_past : (a b : Bool) (m n : ℕ) → (if a then m else 0) + (if b then n else 0) ≤ (if a || b then m + n else 0)

@@ -1,11 +1,10 @@
 -- An exchange at the word of a wire or of a free port keeps the rule: where the word was empty the link is made, and else one wire is taken out.
-use Rattle.std.proofs.Common.{◌≡◌, ◌≢◌, ℕ, zero, suc, ◌+◌, ◌-◌, ◌/◌, ◌%◌, ◌==◌, ◌<◌, ◌≤◌, ◌⊎◌, Bool, true, false, ◌&&◌, if◌then◌else◌, nat_eq, nat_lt, eq-eqb, eqb-true, ne_eqb, Some, List, [], ◌∷◌, ◌++◌, length, get_or, set, sym, refl, ap, ◌∙◌, subst, inl, inr, arith, get_or-set_same, get_or-set_other}
+use Rattle.std.proofs.Common.{◌≡◌, ◌≢◌, ℕ, suc, ◌+◌, ◌-◌, ◌/◌, ◌%◌, ◌<◌, ◌≤◌, ◌⊎◌, Bool, true, false, ◌&&◌, if◌then◌else◌, nat_eq, nat_lt, eqb-true, ne_eqb, List, [], ◌∷◌, ◌++◌, get_or, set, sym, refl, ap, ◌∙◌, subst, inl, inr, arith, get_or-set_same, get_or-set_other}
 use Rattle.std.proofs.lemmas.Bool.{cases_eq, cases_lt}
 use Rattle.std.proofs.lemmas.Bool.Decides.{nat_tests}
 use mathlib.Core.Bool.{false≢true}
 use mathlib.Core.Option.{some}
 use lib.ListN.{get_elem?}
-use Rattle.core.specs.Prelude.{slice_get}
 use Rattle.ol_edges.specs.Edges.{IsIn, ends, bit}
 use Rattle.ol_net.specs.Nets.{NamedPort}
 use Rattle.ol_rules.specs.declared.journal.NodeName.{NodeName}
@@ -14,13 +13,13 @@ use Rattle.ol_wire.specs.declared.plan.Plan.{Plan}
 use Rattle.ol_wire.specs.declared.view.Link.{Link}
 use Rattle.ol_wire.specs.declared.view.View.{View}
 use Rattle.ol_wire.specs.References.{wire_ref, IsNodeRef, IsRef}
-use Rattle.ol_wire.specs.Layout.{Part, left, right, part_of, start_cell, born_cell, block, size, left_word, cells_of}
-use Rattle.ol_wire.specs.Weights.{total, pairs, Even}
+use Rattle.ol_wire.specs.Layout.{left, right, part_of, start_cell, born_cell, block, size, left_word, cells_of}
+use Rattle.ol_wire.specs.Weights.{pairs, Even}
 use Rattle.ol_wire.specs.Edges.{is_reached, is_made, deaths, times, edge_to, edges_of, edges_in, pending_in, links_in}
 use Rattle.ol_wire.specs.Stands.{Stands, IsEnd}
 use Rattle.ol_wire.specs.Plays.{rest, relinked, linked, moved}
 use Rattle.ol_wire.specs.LinkPlays.{spread}
-use Rattle.ol_wire.specs.Rule.{Table, Kept, IsView, IsLasting, IsOwn, IsMadeRef, IsRightOf, links_at}
+use Rattle.ol_wire.specs.Rule.{Table, Kept, IsView, IsMadeRef, IsRightOf, links_at}
 use Rattle.ol_wire.proofs.References.{wire_sort}
 use Rattle.ol_wire.proofs.Places.{is_left, part_cell}
 use Rattle.ol_wire.proofs.Alike.{Alike, pairs_append}

@@ -1,14 +1,14 @@
 -- Edges that weigh the same stand for the same net, and the edges where one word is set.
-use Rattle.std.proofs.Common.{◌≡◌, ◌≢◌, ℕ, zero, suc, ◌+◌, ◌==◌, ◌<◌, ◌≤◌, Bool, true, false, if◌then◌else◌, nat_eq, List, [], ◌∷◌, ◌++◌, slice_index, slice_set, ◌⊎◌, inl, inr, ◌↔◌, refl, sym, ap, ◌∙◌, subst, arith, get_or-set_other}
+use Rattle.std.proofs.Common.{◌≡◌, ◌≢◌, ℕ, suc, ◌+◌, ◌==◌, ◌<◌, Bool, if◌then◌else◌, nat_eq, List, [], ◌∷◌, slice_index, slice_set, inl, inr, refl, sym, ap, ◌∙◌, arith, get_or-set_other}
 use Rattle.std.proofs.lemmas.Bool.{cases_eq}
-use Rattle.ol_edges.specs.Edges.{EdgeOf, Joined, ends, Contracted}
+use Rattle.ol_edges.specs.Edges.{ends}
 use Rattle.ol_net.specs.Nets.{NamedNet}
 use Rattle.ol_rules.specs.declared.journal.NodeName.{NodeName}
 use Rattle.ol_wire.specs.declared.layout.Parts.{Parts}
 use Rattle.ol_wire.specs.Layout.{Part, ticket, port, field, wire, between, left, right, entry, past, part_of, size}
 use Rattle.ol_wire.specs.Weights.{pairs}
-use Rattle.ol_wire.specs.Edges.{edge_to, edge_in, edges_in}
-use Rattle.ol_wire.specs.Stands.{Stands, IsWireEnd}
+use Rattle.ol_wire.specs.Edges.{edge_in, edges_in}
+use Rattle.ol_wire.specs.Stands.{Stands}
 use Rattle.ol_wire.proofs.Alike.{Alike, alike_ends, alike_joined, alike_sym}
 use Rattle.ol_wire.proofs.EdgeList.{word_edge}
 use Rattle.ol_wire.proofs.PlaceSums.{sum_to, sum_one}

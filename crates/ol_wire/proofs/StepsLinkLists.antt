@@ -7,7 +7,6 @@ use Rattle.core.specs.Prelude.{slice_get}
 use Rattle.atomic_table.proofs.Lists.{at_set}
 use Rattle.ol_edges.specs.Edges.{IsIn}
 use Rattle.ol_wire.specs.declared.view.Link.{Link}
-use Rattle.ol_wire.specs.declared.view.View.{View}
 use Rattle.ol_wire.specs.Weights.{total, numbered, pairs}
 use Rattle.ol_wire.specs.Rule.{links_at}
 use Rattle.ol_wire.proofs.StepsLists.{one_below}

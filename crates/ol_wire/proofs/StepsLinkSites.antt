@@ -1,9 +1,7 @@
 -- Where a link to a wire or to a free port is made: the word is that of a reached wire, or of a free port.
-use Rattle.std.proofs.Common.{◌≡◌, ◌≢◌, ℕ, zero, suc, ◌+◌, ◌%◌, ◌<◌, ◌≤◌, ◌⊎◌, Bool, true, false, ◌&&◌, nat_eq, if◌then◌else◌, Option, Some, None, List, [], ◌∷◌, ◌++◌, length, get_or, slice_index, sym, refl, ap, ◌∙◌, subst, inl, inr, arith}
+use Rattle.std.proofs.Common.{◌≡◌, ◌≢◌, ℕ, ◌+◌, ◌%◌, ◌<◌, ◌≤◌, ◌⊎◌, Bool, true, false, ◌&&◌, nat_eq, if◌then◌else◌, Option, Some, None, List, [], ◌∷◌, length, get_or, slice_index, sym, refl, ap, ◌∙◌, subst, inl, inr, arith}
 use Rattle.std.proofs.lemmas.Bool.{cases_eq}
 use mathlib.Core.Bool.{false≢true}
-use mathlib.Core.Option.{some}
-use lib.ListN.{get_elem?}
 use Rattle.core.specs.Prelude.{slice_get}
 use Rattle.ol_edges.specs.Edges.{IsIn, ends}
 use Rattle.ol_net.specs.Nets.{NamedPort, NamedNet}
@@ -12,14 +10,14 @@ use Rattle.ol_wire.specs.declared.layout.Parts.{Parts}
 use Rattle.ol_wire.specs.declared.plan.Plan.{Plan}
 use Rattle.ol_wire.specs.declared.view.Link.{Link}
 use Rattle.ol_wire.specs.declared.view.View.{View}
-use Rattle.ol_wire.specs.References.{node_ref, wire_ref, kind_in, index_in, place_in, IsNodeRef, IsWireRef, IsRef}
+use Rattle.ol_wire.specs.References.{node_ref, wire_ref, kind_in, index_in, place_in, IsWireRef, IsRef}
 use Rattle.ol_wire.specs.Layout.{Part, ticket, port, field, wire, between, left, right, entry, past, part_of, place_of, port_word, start_cell, block, size}
 use Rattle.ol_wire.specs.Events.{Event}
 use Rattle.ol_wire.specs.Edges.{crosses_at, is_reached, is_made, is_wire_made, deaths, edge_to, edges_of, edges_in, pending_in, links_in}
 use Rattle.ol_wire.specs.Stands.{IsEnd, of_port, principal, auxiliary, IsWireEnd}
 use Rattle.ol_wire.specs.Plays.{IsNodeOf, IsRefOf}
 use Rattle.ol_wire.specs.Rule.{Table, Kept, IsView, IsOwn, IsLasting, IsMadeRef}
-use Rattle.ol_wire.proofs.References.{node_sort, slot_sort, wire_sort, wire_same, kind_of_ref, index_of_ref, place_of_ref, place_of_wire}
+use Rattle.ol_wire.proofs.References.{node_sort, slot_sort, wire_sort, wire_same, kind_of_ref, index_of_ref, place_of_ref}
 use Rattle.ol_wire.proofs.Places.{part_port, is_wire, is_between, place_before}
 use Rattle.ol_wire.proofs.Held.{Holds, owner, word_full}
 use Rattle.ol_wire.proofs.Claimed.{IsNodeAt, node_of, is_placed, ends_first, ends_second, in_right}

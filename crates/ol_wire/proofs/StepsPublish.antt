@@ -1,21 +1,20 @@
 -- A link between two nodes keeps the rule as it is made: the right word of its cell is written, and then the left one.
-use Rattle.std.proofs.Common.{◌≡◌, ◌≢◌, ℕ, zero, suc, ◌+◌, ◌%◌, ◌==◌, ◌<◌, ◌≤◌, ◌⊎◌, Bool, true, false, ◌&&◌, if◌then◌else◌, nat_eq, eq-eqb, ne_eqb, Some, List, [], ◌∷◌, ◌++◌, length, get_or, set, sym, refl, ap, ◌∙◌, subst, inl, inr, arith, get_or-set_same, get_or-set_other}
-use Rattle.std.proofs.lemmas.Bool.{cases_eq, cases_lt}
+use Rattle.std.proofs.Common.{◌≡◌, ◌≢◌, ℕ, suc, ◌+◌, ◌==◌, ◌<◌, ◌≤◌, ◌⊎◌, Bool, ◌&&◌, if◌then◌else◌, nat_eq, ne_eqb, List, [], ◌∷◌, ◌++◌, length, get_or, set, sym, refl, ap, ◌∙◌, subst, inl, inr, arith, get_or-set_same, get_or-set_other}
+use Rattle.std.proofs.lemmas.Bool.{cases_eq}
 use mathlib.Core.Option.{some}
 use lib.ListN.{get_elem?}
-use Rattle.core.specs.Prelude.{slice_get}
 use Rattle.ol_edges.specs.Edges.{IsIn, bit}
 use Rattle.ol_wire.specs.declared.layout.Parts.{Parts}
 use Rattle.ol_wire.specs.declared.plan.Plan.{Plan}
 use Rattle.ol_wire.specs.declared.view.Link.{Link}
 use Rattle.ol_wire.specs.declared.view.View.{View}
 use Rattle.ol_wire.specs.References.{IsNodeRef}
-use Rattle.ol_wire.specs.Layout.{Part, left, right, part_of, start_cell, block, size, left_word}
-use Rattle.ol_wire.specs.Weights.{total, pairs, Even}
+use Rattle.ol_wire.specs.Layout.{left, right, part_of, block, size}
+use Rattle.ol_wire.specs.Weights.{pairs}
 use Rattle.ol_wire.specs.Edges.{is_reached, is_made, deaths, times, edges_of, edges_in, pending_in, links_in}
 use Rattle.ol_wire.specs.Stands.{Stands}
 use Rattle.ol_wire.specs.Plays.{rest, knowing, publishing, cell_at}
-use Rattle.ol_wire.specs.Rule.{Table, Kept, IsView, IsLasting, IsOwn, IsMadeRef, IsRightOf, links_at}
+use Rattle.ol_wire.specs.Rule.{Table, Kept, IsView, IsLasting, IsOwn, IsRightOf}
 use Rattle.ol_wire.proofs.Places.{is_left}
 use Rattle.ol_wire.proofs.Alike.{Alike, pairs_append}
 use Rattle.ol_wire.proofs.Held.{word_full}
@@ -23,11 +22,11 @@ use Rattle.ol_wire.proofs.EdgeList.{word_edge, pending_weigh}
 use Rattle.ol_wire.proofs.WordEdges.{edge_as}
 use Rattle.ol_wire.proofs.StepsKeep.{after}
 use Rattle.ol_wire.proofs.StepsLists.{total_set}
-use Rattle.ol_wire.proofs.StepsLinkKeep.{LinkStep, linking, link_keeps}
+use Rattle.ol_wire.proofs.StepsLinkKeep.{LinkStep, link_keeps}
 use Rattle.ol_wire.proofs.StepsLinkEdges.{stands_alike, edges_set}
 use Rattle.ol_wire.proofs.StepsLinkSites.{word_written}
 use Rattle.ol_wire.proofs.StepsLink.{rest_fewer}
-use Rattle.ol_wire.proofs.StepsPublishCells.{first_in, cell_open, ends_made, right_part, in_blocks, not_start, behind_apart, others_apart, left_right, swept_apart}
+use Rattle.ol_wire.proofs.StepsPublishCells.{cell_open, ends_made, right_part, in_blocks, not_start, behind_apart, others_apart, left_right, swept_apart}
 
 node_some : (r : ℕ) → IsNodeRef r → r ≢ 0
 node_some r sort e = omega (arith, sort, e)
@@ -210,8 +209,8 @@ module _ (p : Plan) (s : Table) (k : Kept p s) (id : ℕ) (v : View) (here : get
     left_edges h even =
         let none : pairs h (word_edge z k.net reached k.full l.cell) ≡ 0 = ap (pairs h) (edge_as z k.net reached k.full l.cell left is_cell ∙ ap (λ y. if y == 0 then [] else (y, get_or k.full (suc l.cell) 0) ∷ []) empty) in
         let one : pairs h (word_edge z k.net reached left_full l.cell) ≡ h l.one l.two + 0 =
-            ap (pairs h) (edge_as z k.net reached left_full l.cell left is_cell ∙ ap (λ y. if y == 0 then [] else (y, get_or left_full (suc l.cell) 0) ∷ []) left_at
-            ∙ ap (λ y. if l.one == 0 then [] else (l.one, y) ∷ []) two_there ∙ ap (λ q. if q then [] else (l.one, l.two) ∷ []) (ne_eqb l.one 0 (node_some l.one one_node))) in
+        ap (pairs h) (edge_as z k.net reached left_full l.cell left is_cell ∙ ap (λ y. if y == 0 then [] else (y, get_or left_full (suc l.cell) 0) ∷ []) left_at
+        ∙ ap (λ y. if l.one == 0 then [] else (l.one, y) ∷ []) two_there ∙ ap (λ q. if q then [] else (l.one, l.two) ∷ []) (ne_eqb l.one 0 (node_some l.one one_node))) in
         let head : pairs h (links_in v.pending) ≡ h l.one l.two + pairs h (links_in (rest v.pending)) = ap (λ ms. pairs h (links_in ms)) pending ∙ ap (λ ms. h l.one l.two + pairs h (links_in (rest ms))) (sym pending) in
         omega (
           arith,

@@ -1,10 +1,8 @@
 -- What the steps tell that make the links of a rewrite.
 use Rattle.std.specs.Prelude.{◌≡◌, ◌≢◌, ℕ, zero, suc, ◌+◌, ◌≤◌, List}
-use Rattle.atomic_table.specs.Table.{Step}
-use Rattle.ol_wire.specs.declared.view.View.{View}
 use Rattle.ol_wire.specs.Layout.{size}
 use Rattle.ol_wire.specs.Edges.{times}
-use Rattle.ol_wire.specs.Plays.{Seated, Play, linked, moved, knowing, publishing, IsRefOf}
+use Rattle.ol_wire.specs.Plays.{Play, linked, moved, knowing, publishing, IsRefOf}
 
 -- how often the numbers below n stand in the list
 abbrev pub spread : ℕ → List ℕ → ℕ
