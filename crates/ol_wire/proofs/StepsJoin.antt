@@ -9,6 +9,7 @@ use Rattle.atomic_table.proofs.Lists.{set_else}
 use Rattle.ol_edges.specs.Edges.{IsIn}
 use Rattle.ol_rules.specs.declared.journal.Entry.{Entry}
 use Rattle.ol_rules.specs.Runs.{HasActive}
+use Rattle.ol_wire.specs.declared.layout.Parts.{Parts}
 use Rattle.ol_wire.specs.declared.plan.Plan.{Plan}
 use Rattle.ol_wire.specs.declared.view.Link.{Link}
 use Rattle.ol_wire.specs.declared.view.View.{View}
@@ -18,8 +19,9 @@ use Rattle.ol_wire.specs.Layout.{left, part_of, place_of, size, left_word}
 use Rattle.ol_wire.specs.Edges.{is_reached, is_made, deaths, times, edges_of, edges_in, pending_in, links_in}
 use Rattle.ol_wire.specs.Events.{IsStuckPair}
 use Rattle.ol_wire.specs.Stands.{Stands}
-use Rattle.ol_wire.specs.Views.{past_fuel, IsSpent, IsIdle}
+use Rattle.ol_wire.specs.Views.{fresh, past_fuel, IsSpent, IsIdle}
 use Rattle.ol_wire.specs.Plays.{joined, emptied}
+use Rattle.ol_wire.specs.LinkPlays.{no_parts, spent_view}
 use Rattle.ol_wire.specs.Rule.{Table, Kept, WordsKeep, CellsKeep, SeatsKeep, IsView, IsLasting, IsOwn, IsMadeRef, IsRightOf, IsInOwnBlock, links_at}
 use Rattle.ol_wire.proofs.Alike.{total_append}
 use Rattle.ol_wire.proofs.StepsLists.{total_set, each_set, pending_set, one_below}
@@ -37,13 +39,13 @@ or_true false b X f g e = g e
 no_more : {A : Type 0} (x : A) (xs : List A) → xs ≡ [] → IsIn x xs → ⊥
 no_more {A} x xs e i = subst (λ (ys : List A). IsIn x ys) e i
 
-module _ (p : Plan) (id : ℕ) (v : View) (other : ℕ) (w : View) (idle : IsIdle v) (idle' : IsIdle w) (held : 0 < v.holds)
+module _ (p : Plan) (id : ℕ) (v : View) (other : ℕ) (w : View) (parts : Parts) (seats : ℕ) (idle : IsIdle v) (idle' : IsIdle w) (held : 0 < v.holds)
     (s : Table) (k : Kept p s) (here : get_elem? s.views id ≡ some v) (there : get_elem? (set s.views id (joined v w)) other ≡ some w) (was : get_elem? s.views other ≡ some w) where
   abbrev both : View
   both = joined v w
 
   abbrev spent : View
-  spent = emptied w
+  spent = fresh parts seats 0
 
   abbrev views : List View
   views = set (set s.views id both) other spent
@@ -128,8 +130,15 @@ module _ (p : Plan) (id : ℕ) (v : View) (other : ℕ) (w : View) (idle : IsIdl
   join_keeps : Kept p glued
   join_keeps = record { log = k.log; net = k.net; full = k.full; from = k.from; plan = k.plan; tickets = k.tickets; journal = k.journal; words = words_keep; cells = cells_keep; seats = seats_keep; stands = stands }
 
-pub join_allowed : (p : Plan) (id : ℕ) (v : View) (other : ℕ) (w : View) → IsIdle v → IsIdle w → 0 < v.holds → Joins {S = Unit {0}} (Kept p) id v other w (joined v w) (emptied w)
-join_allowed p id v other w idle idle' held s k here apart there = join_keeps p id v other w idle idle' held s k here there (sym (set_else s.views id other (joined v w) apart) ∙ there)
+-- whatever table the spent view names
+joins_there : (p : Plan) (id : ℕ) (v : View) (other : ℕ) (w : View) (parts : Parts) (seats : ℕ) → IsIdle v → IsIdle w → 0 < v.holds → Joins {S = Unit {0}} (Kept p) id v other w (joined v w) (fresh parts seats 0)
+joins_there p id v other w parts seats idle idle' held s k here apart there = join_keeps p id v other w parts seats idle idle' held s k here there (sym (set_else s.views id other (joined v w) apart) ∙ there)
+
+pub join_allowed : (p : Plan) (id : ℕ) (v : View) (other : ℕ) (w : View) → IsIdle v → IsIdle w → 0 < v.holds → Joins {S = Unit {0}} (Kept p) id v other w (joined v w) spent_view
+join_allowed p id v other w = joins_there p id v other w no_parts 0
+
+pub join_empties : (p : Plan) (id : ℕ) (v : View) (other : ℕ) (w : View) → IsIdle v → IsIdle w → 0 < v.holds → Joins {S = Unit {0}} (Kept p) id v other w (joined v w) (emptied w)
+join_empties p id v other w = joins_there p id v other w w.parts w.seats
 
 -- a view stands for no more seats than there are
 pub holds_within : (p : Plan) (s : Table) (k : Kept p s) (id : ℕ) (v : View) → get_elem? s.views id ≡ some v → v.holds ≤ p.seats

@@ -1,7 +1,10 @@
 -- What the steps tell that make the links of a rewrite.
 use Rattle.std.specs.Prelude.{◌≡◌, ◌≢◌, ℕ, zero, suc, ◌+◌, ◌≤◌, List}
+use Rattle.ol_wire.specs.declared.layout.Parts.{Parts}
+use Rattle.ol_wire.specs.declared.view.View.{View}
 use Rattle.ol_wire.specs.Layout.{size}
 use Rattle.ol_wire.specs.Edges.{times}
+use Rattle.ol_wire.specs.Views.{fresh}
 use Rattle.ol_wire.specs.Plays.{Play, linked, moved, knowing, publishing, IsRefOf}
 
 -- how often the numbers below n stand in the list
@@ -26,3 +29,10 @@ publishes s m r n = (n.1 ≡ m.1) × (n.0 ≡ publishing m.0 s.word)
 -- a look at the ticket word, which tells that no seat stands for more than there are
 abbrev pub counts : Play
 counts s m r n = (n.1 ≡ m.1) × (n.0 ≡ m.0) × (m.0.holds ≤ m.0.seats)
+
+-- what a seat is left with that was joined to another: nothing, of no table
+abbrev pub no_parts : Parts
+no_parts = record { free = 0; nodes = 0; wires = 0; cells = 0; fuel = 0 }
+
+abbrev pub spent_view : View
+spent_view = fresh no_parts 0 0
