@@ -18,7 +18,7 @@ use Rattle.ol_wire.specs.Weights.{pairs, Even}
 use Rattle.ol_wire.specs.Edges.{is_reached, is_made, deaths, times, edge_to, edges_of, edges_in, pending_in, links_in}
 use Rattle.ol_wire.specs.Stands.{Stands, IsEnd}
 use Rattle.ol_wire.specs.Plays.{rest, relinked, linked, moved}
-use Rattle.ol_wire.specs.LinkPlays.{spread}
+use Rattle.ol_wire.specs.LinkPlays.{IsBetween, spread}
 use Rattle.ol_wire.specs.Rule.{Table, Kept, IsView, IsMadeRef, IsRightOf, links_at}
 use Rattle.ol_wire.proofs.References.{wire_sort}
 use Rattle.ol_wire.proofs.Places.{is_left, part_cell}
@@ -33,10 +33,6 @@ use Rattle.ol_wire.proofs.StepsLinkKeep.{LinkStep, linking, link_keeps}
 use Rattle.ol_wire.proofs.StepsLinkEdges.{stands_alike, edges_set}
 use Rattle.ol_wire.proofs.StepsLinkSpread.{one_if, one_same, one_other, times_more, spread_more, spread_few}
 use Rattle.ol_wire.proofs.StepsLinkSites.{IsLinked, linked_not_own, linked_not_lasting, IsSite, port_or_reached, site, dead_edge, word_written, link_ends}
-
--- the link is between a and b, either way round
-abbrev pub Turns : Link → ℕ → ℕ → Type 0
-Turns l a b = ((l.one ≡ a) × (l.two ≡ b)) ⊎ ((l.one ≡ b) × (l.two ≡ a))
 
 -- the cells from the last on aren't words of the table
 pub left_past_all : (z : Parts) (c : ℕ) → cells_of z ≤ c → size z ≤ left_word z c
@@ -58,7 +54,7 @@ relinked_same a b c [] = refl
 relinked_same a b c (l ∷ ls) = refl
 
 module _ (p : Plan) (s : Table) (k : Kept p s) (id : ℕ) (v : View) (here : get_elem? s.views id ≡ some v) (held : 0 < v.holds)
-    (l : Link) (ls : List Link) (u b : ℕ) (due : v.due ≡ []) (pending : v.pending ≡ l ∷ ls) (turn : Turns l (wire_ref u) b) where
+    (l : Link) (ls : List Link) (u b : ℕ) (due : v.due ≡ []) (pending : v.pending ≡ l ∷ ls) (turn : IsBetween l (wire_ref u) b) where
   abbrev z : Parts
   z = p.parts
 
@@ -89,21 +85,21 @@ module _ (p : Plan) (s : Table) (k : Kept p s) (id : ℕ) (v : View) (here : get
   pub other_made : IsMadeRef z k.log b
   other_made = of turn
     where
-      of : Turns l (wire_ref u) b → IsMadeRef z k.log b
+      of : IsBetween l (wire_ref u) b → IsMadeRef z k.log b
       of (inl t) = subst (IsMadeRef z k.log) t.1 made_one.1
       of (inr t) = subst (IsMadeRef z k.log) t.0 made_one.0
 
   pub other_end : 1 ≤ ends nat_eq b old_edges
   other_end = of turn
     where
-      of : Turns l (wire_ref u) b → 1 ≤ ends nat_eq b old_edges
+      of : IsBetween l (wire_ref u) b → 1 ≤ ends nat_eq b old_edges
       of (inl t) = subst (λ r. 1 ≤ ends nat_eq r old_edges) t.1 both_ends.1
       of (inr t) = subst (λ r. 1 ≤ ends nat_eq r old_edges) t.0 both_ends.0
 
   wire_end : 1 ≤ ends nat_eq (wire_ref u) old_edges
   wire_end = of turn
     where
-      of : Turns l (wire_ref u) b → 1 ≤ ends nat_eq (wire_ref u) old_edges
+      of : IsBetween l (wire_ref u) b → 1 ≤ ends nat_eq (wire_ref u) old_edges
       of (inl t) = subst (λ r. 1 ≤ ends nat_eq r old_edges) t.0 both_ends.0
       of (inr t) = subst (λ r. 1 ≤ ends nat_eq r old_edges) t.1 both_ends.1
 
@@ -132,7 +128,7 @@ module _ (p : Plan) (s : Table) (k : Kept p s) (id : ℕ) (v : View) (here : get
   right_empty : get_or k.full (suc l.cell) 0 ≡ 0
   right_empty = of (k.cells.unpublished v l seen first_in).2 turn
     where
-      of : IsRightOf v l (get_or k.full (suc l.cell) 0) → Turns l (wire_ref u) b → get_or k.full (suc l.cell) 0 ≡ 0
+      of : IsRightOf v l (get_or k.full (suc l.cell) 0) → IsBetween l (wire_ref u) b → get_or k.full (suc l.cell) 0 ≡ 0
       of (inl e) t = e
       of (inr h) (inl t) = absurd (omega (arith, h.0, t.0, wire_sort u))
       of (inr h) (inr t) = absurd (omega (arith, h.1, t.1, wire_sort u))
@@ -208,7 +204,7 @@ module _ (p : Plan) (s : Table) (k : Kept p s) (id : ℕ) (v : View) (here : get
       whole : pairs h (links_in v.pending) ≡ h l.one l.two + pairs h (links_in (rest v.pending))
       whole = ap (λ ms. pairs h (links_in ms)) pending ∙ ap (λ ms. h l.one l.two + pairs h (links_in (rest ms))) (sym pending)
 
-      of : Turns l (wire_ref u) b → pairs h (links_in v.pending) ≡ h (wire_ref u) b + pairs h (links_in (rest v.pending))
+      of : IsBetween l (wire_ref u) b → pairs h (links_in v.pending) ≡ h (wire_ref u) b + pairs h (links_in (rest v.pending))
       of (inl t) = omega (arith, whole, ap (λ a. h a l.two) t.0, ap (h (wire_ref u)) t.1)
       of (inr t) = omega (arith, whole, ap (λ a. h a l.two) t.0, ap (h b) t.1, even b (wire_ref u))
 
@@ -282,7 +278,7 @@ module _ (p : Plan) (s : Table) (k : Kept p s) (id : ℕ) (v : View) (here : get
         edge : IsIn (l.one, l.two) (pending_in s.views)
         edge = pending_there s.views id v (l.one, l.two) here (subst (λ (ms : List Link). IsIn {X = ℕ × ℕ} (l.one, l.two) (links_in ms)) (sym pending) (inl refl))
 
-        of : Turns l (wire_ref u) b → 1 ≤ ends nat_eq (wire_ref u) (pending_in s.views)
+        of : IsBetween l (wire_ref u) b → 1 ≤ ends nat_eq (wire_ref u) (pending_in s.views)
         of (inl t) = subst (λ r. 1 ≤ ends nat_eq r (pending_in s.views)) t.0 (ends_first _ _ (pending_in s.views) edge)
         of (inr t) = subst (λ r. 1 ≤ ends nat_eq r (pending_in s.views)) t.1 (ends_second _ _ (pending_in s.views) edge)
 

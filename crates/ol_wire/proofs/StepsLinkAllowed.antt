@@ -13,10 +13,10 @@ use Rattle.ol_wire.specs.declared.view.View.{View}
 use Rattle.ol_wire.specs.References.{wire_ref, place_in, IsNodeRef, IsWireRef}
 use Rattle.ol_wire.specs.Layout.{size}
 use Rattle.ol_wire.specs.Plays.{Seated, linked, moved, knowing, publishing, IsRefOf}
-use Rattle.ol_wire.specs.LinkPlays.{spread, links, places, publishes, counts}
+use Rattle.ol_wire.specs.LinkPlays.{IsBetween, spread, links, places, publishes, counts}
 use Rattle.ol_wire.specs.Rule.{Kept, IsMadeRef}
 use Rattle.ol_wire.proofs.StepsLinkSites.{wire_whole, ref_of_end}
-use Rattle.ol_wire.proofs.StepsLink.{Turns, other_made, other_end, empty_keeps, found_keeps, found_made, found_end, found_spread}
+use Rattle.ol_wire.proofs.StepsLink.{other_made, other_end, empty_keeps, found_keeps, found_made, found_end, found_spread}
 use Rattle.ol_wire.proofs.StepsPublishCells.{ends_made}
 use Rattle.ol_wire.proofs.StepsPublish.{place_keeps, publish_keeps}
 use Rattle.ol_wire.proofs.StepsJoin.{holds_within}
@@ -33,7 +33,7 @@ module _ (p : Plan) (slots id : ℕ) (m : Seated) (held : 0 < m.0.holds) where
 
   module _ (l : Link) (ls : List Link) (due : m.0.due ≡ []) (pending : m.0.pending ≡ l ∷ ls) where
     -- the reference r of a wire or of a free port stands at one end of the first link, and b at the other
-    pub links_allowed : (u r b : ℕ) → Turns l r b → IsWireRef r → u ≡ place_in r → Allows (Kept p) slots id m u (λ _. b) (links (step slots u b 0 none) m)
+    pub links_allowed : (u r b : ℕ) → IsBetween l r b → IsWireRef r → u ≡ place_in r → Allows (Kept p) slots id m u (λ _. b) (links (step slots u b 0 none) m)
     links_allowed u r b turn sort place s k homes here small = elim (cases_eq c 0) [
       | inl e ↦ (linked m.0, keeps, tt, empty_keeps p s k id m.0 here held l ls u b due pending at e, (refl, (λ _. refl), (λ ne. absurd (ne e))))
       | inr ne ↦ (moved m.0 u b c, keeps, tt, found_keeps p s k id m.0 here held l ls u b due pending at ne, (refl, (λ e. absurd (ne e)), (λ _. let t = told ne in (refl, t.0, t.1, t.2, t.3))))
@@ -42,12 +42,12 @@ module _ (p : Plan) (slots id : ℕ) (m : Seated) (held : 0 < m.0.holds) where
         c : ℕ
         c = get_or s.words u 0
 
-        made : Turns l r b → IsMadeRef p.parts k.log r
+        made : IsBetween l r b → IsMadeRef p.parts k.log r
         made (inl t) = subst (IsMadeRef p.parts k.log) t.0 (ends_made p s k id m.0 here l ls pending).0
         made (inr t) = subst (IsMadeRef p.parts k.log) t.1 (ends_made p s k id m.0 here l ls pending).1
 
-        at : Turns l (wire_ref u) b
-        at = subst (λ q. Turns l q b) (wire_whole p s k r (made turn) sort ∙ ap wire_ref (sym place)) turn
+        at : IsBetween l (wire_ref u) b
+        at = subst (λ q. IsBetween l q b) (wire_whole p s k r (made turn) sort ∙ ap wire_ref (sym place)) turn
 
         told : c ≢ 0 → IsFound m.0.parts b c m.0.dead (m.0.dead ++ u ∷ [])
         told ne =

@@ -1,11 +1,16 @@
 -- What the steps tell that make the links of a rewrite.
-use Rattle.std.specs.Prelude.{◌≡◌, ◌≢◌, ℕ, zero, suc, ◌+◌, ◌≤◌, List}
+use Rattle.std.specs.Prelude.{◌≡◌, ◌≢◌, ℕ, zero, suc, ◌+◌, ◌≤◌, ◌⊎◌, List}
 use Rattle.ol_wire.specs.declared.layout.Parts.{Parts}
+use Rattle.ol_wire.specs.declared.view.Link.{Link}
 use Rattle.ol_wire.specs.declared.view.View.{View}
 use Rattle.ol_wire.specs.Layout.{size}
 use Rattle.ol_wire.specs.Edges.{times}
 use Rattle.ol_wire.specs.Views.{fresh}
 use Rattle.ol_wire.specs.Plays.{Play, linked, moved, knowing, publishing, IsRefOf}
+
+-- the link is between a and b, either way round
+abbrev pub IsBetween : Link → ℕ → ℕ → Type 0
+IsBetween l a b = ((l.one ≡ a) × (l.two ≡ b)) ⊎ ((l.one ≡ b) × (l.two ≡ a))
 
 -- how often the numbers below n stand in the list
 abbrev pub spread : ℕ → List ℕ → ℕ
