@@ -42,6 +42,16 @@ pub mod StepsReturn
 pub mod StepsCut
 pub mod StepsHold
 pub mod Steps
+pub mod StepsLinkLists
+pub mod StepsLinkKeep
+pub mod StepsLinkEdges
+pub mod StepsLinkSites
+pub mod StepsLinkSpread
+pub mod StepsLink
+pub mod StepsPublishCells
+pub mod StepsPublish
+pub mod StepsJoin
+pub mod StepsLinkAllowed
 pub mod Opening
 pub mod OpeningPorts
 pub mod OpeningWords

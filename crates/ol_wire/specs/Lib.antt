@@ -12,6 +12,7 @@ pub mod Views
 pub mod Rule
 pub mod Plays
 pub mod ReturnPlays
+pub mod LinkPlays
 pub mod Stand
 pub mod Closed
 pub mod Standing
