@@ -11,7 +11,9 @@ pub mod Weights
 pub mod Views
 pub mod Rule
 pub mod Plays
-pub mod ReturnPlays
+pub mod TurnPlays
 pub mod Stand
+pub mod Hands
 pub mod Holds
+pub mod Turns
 pub mod Rewrites
