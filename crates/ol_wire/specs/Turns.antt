@@ -25,6 +25,10 @@ HasCause Stuck n = (n.last.0 ≢ 0) × IsStuckLast n
 HasCause Spent n = FoundActive n × (n.over ≡ true)
 HasCause (Rewrote t r b m) n = FoundActive n × (n.over ≡ false)
 
+abbrev pub IsRewrote : Turn → Type 0
+IsRewrote (Rewrote t r b m) = Unit {0}
+IsRewrote other = ⊥
+
 -- of the four cells from `first` on, those whose bit is set in the mask
 abbrev pub masked : ℕ → ℕ → List ℕ
 masked first mask = each 4 (λ j. if mask / 2 ^ j % 2 == 1 then (first + j) ∷ [] else [])
