@@ -41,6 +41,7 @@ pub mod StepsPair
 pub mod StepsReturn
 pub mod StepsCut
 pub mod StepsHold
+pub mod StepsTurn
 pub mod Steps
 pub mod StepsLinkLists
 pub mod StepsLinkKeep

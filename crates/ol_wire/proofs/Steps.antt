@@ -14,8 +14,8 @@ use Rattle.ol_wire.specs.References.{node_ref, kind_in, index_in, place_in, IsNo
 use Rattle.ol_wire.specs.Weights.{total}
 use Rattle.ol_wire.specs.Layout.{left, right, part_of, place_of, size, left_word, cells_of}
 use Rattle.ol_wire.specs.Views.{past_fuel, IsIdle}
-use Rattle.ol_wire.specs.Plays.{Seated, cell_in_hand, returned, missing, holding, paired, knowing, ticketed, late, wrote, IsNodeOf, IsRefOf, IsLookedUp, claims, pairs_up, looks, draws, writes}
-use Rattle.ol_wire.specs.ReturnPlays.{returns}
+use Rattle.ol_wire.specs.Plays.{Seated, cell_in_hand, returned, missing, holding, paired, knowing, ticketed, late, wrote, IsNodeOf, IsRefOf, IsLookedUp, claims, pairs_up, draws, writes}
+use Rattle.ol_wire.specs.TurnPlays.{reads, returns}
 use Rattle.ol_wire.specs.Rule.{Table, Kept, IsView, IsLasting}
 use Rattle.ol_wire.proofs.References.{kind_of_ref, place_of_ref}
 use Rattle.ol_wire.proofs.Places.{is_left, part_field, part_cell}
@@ -119,14 +119,14 @@ module _ (p : Plan) (slots id : ℕ) (m : Seated) (held : 0 < m.0.holds) where
       found_there : IsLasting (part_of p.parts (place_in r + c)) × (place_in r + c < size p.parts) × (get_or s.words (place_in r + c) 0 ≢ 0) × IsRefOf m.0.parts (get_or s.words (place_in r + c) 0)
       found_there = subst (λ (a : ℕ). IsLasting (part_of p.parts (a + c)) × (a + c < size p.parts) × (get_or s.words (a + c) 0 ≢ 0) × IsRefOf m.0.parts (get_or s.words (a + c) 0)) (sym (place_is node)) (found node)
 
-    looks_there : Allows (Kept p) slots id m (place_in r + c) (λ n. n) (looks (step slots (place_in r + c) 0 0 none) m)
+    looks_there : Allows (Kept p) slots id m (place_in r + c) (λ n. n) (reads (step slots (place_in r + c) 0 0 none) m)
     looks_there s k homes here small =
         let u : ℕ = place_in r + c in
         let h = found_there s k here in
-        (knowing m.0 u (get_or s.words u 0), keeps, tt, knowing_keeps p s k id m.0 here held u h.0 h.1 h.2, (refl, refl, h.3))
+        (knowing m.0 u (get_or s.words u 0), keeps, tt, knowing_keeps p s k id m.0 here held u h.0 h.1 h.2, ((refl, refl, h.3), (λ y known_there. sym (k.words.known m.0 u y (id, here) known_there).0)))
 
-    pub looks_allowed : (u : ℕ) → u ≡ place_in r + c → Allows (Kept p) slots id m u (λ n. n) (looks (step slots u 0 0 none) m)
-    looks_allowed u is = subst (λ (a : ℕ). Allows (Kept p) slots id m a (λ n. n) (looks (step slots a 0 0 none) m)) (sym is) looks_there
+    pub looks_allowed : (u : ℕ) → u ≡ place_in r + c → Allows (Kept p) slots id m u (λ n. n) (reads (step slots u 0 0 none) m)
+    looks_allowed u is = subst (λ (a : ℕ). Allows (Kept p) slots id m a (λ n. n) (reads (step slots a 0 0 none) m)) (sym is) looks_there
 
   pub writes_allowed : (i x : ℕ) (ds : List (ℕ × ℕ)) → m.0.due ≡ (i, x) ∷ ds → Allows (Kept p) slots id m i (λ _. x) (λ _. writes (step slots i x 0 none) m x)
   writes_allowed i x ds due s k homes here small =

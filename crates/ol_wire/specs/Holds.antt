@@ -1,64 +1,18 @@
--- What a call that claims a cell answers, and what it leaves in the seat's view.
-use Rattle.std.specs.Prelude.{◌≡◌, ◌≢◌, ℕ, zero, suc, ◌+◌, ◌*◌, ◌<◌, List, [], ◌∷◌, ◌++◌, true, false, None, Some, ◌⊎◌, slice_index}
-use Rattle.ol_edges.specs.Edges.{IsIn}
+-- What a call of `hold` leaves in the seat's view.
+use Rattle.std.specs.Prelude.{◌≡◌, ℕ, ◌+◌, ◌*◌, ◌<◌, List, true}
 use Rattle.ol_wire.specs.declared.layout.Parts.{Parts}
 use Rattle.ol_wire.specs.declared.view.View.{View}
 use Rattle.ol_wire.specs.declared.holding.Hold.{Hold}
 use Rattle.ol_wire.specs.declared.holding.Hold.TheVariants.{Gone, Stuck, Past, Wrote}
-use Rattle.ol_wire.specs.References.{place_in}
 use Rattle.ol_wire.specs.Layout.{left_word}
-use Rattle.ol_wire.specs.Events.{rule_between, entry_of}
-use Rattle.ol_wire.specs.Blocks.{links_of}
-use Rattle.ol_wire.specs.Plays.{IsNodeOf, known_at, event_in, cell_at, cell_in_hand, swept_on}
+use Rattle.ol_wire.specs.Plays.{event_in}
+use Rattle.ol_wire.specs.Hands.{missed, in_hand, Rewrote}
 
--- a claim of cell c, which read `pair.0`, and nothing more
-abbrev pub claiming : View → ℕ → ℕ × ℕ → View
-claiming v c pair = record v { claimed = v.claimed ++ c ∷ []; last = pair }
-
--- the cell was empty, and nothing more
-abbrev pub missed : View → ℕ → View
-missed v c = record (claiming v c (0, 0)) { swept = swept_on v c }
-
--- the pair is in the seat: w is the cell's left word
-abbrev pub in_hand : View → ℕ → ℕ → ℕ × ℕ → View
-in_hand v w c pair = record (claiming v c pair) { taken = (w, pair.0) ∷ []; known = (suc w, pair.1) ∷ v.known }
-
--- The pair of the cell with left word w is in the seat, and the seat has looked at its right word.
-pub record IsInHand (v : View) (w : ℕ) : Type 0 where
-  pub taken : v.taken ≡ (w, v.last.0) ∷ []
-  pub right : IsIn (suc w, v.last.1) v.known
-  pub nodes : IsNodeOf v.parts v.last.0 × IsNodeOf v.parts v.last.1
-
--- one of the two nodes of the pair that was claimed last
-abbrev pub IsOfPair : View → ℕ → Type 0
-IsOfPair v r = (r ≡ v.last.0) ⊎ (r ≡ v.last.1)
-
--- what is known of the fields of a node with n of them
-abbrev pub fields_known : ℕ → ℕ → List ℕ → List (ℕ × ℕ)
-fields_known zero place found = []
-fields_known (suc zero) place found = (place + 0, slice_index found 0) ∷ []
-fields_known (suc (suc n)) place found = (place + 1, slice_index found 1) ∷ (place + 0, slice_index found 0) ∷ []
-
--- The pair that was claimed last has no rule, whichever of its nodes acts.
-abbrev pub IsStuckLast : View → Type 0
-IsStuckLast v = (rule_between v.last.0 v.last.1 ≡ None) × (rule_between v.last.1 v.last.0 ≡ None)
-
--- it has one
-abbrev pub IsActiveLast : View → Type 0
-IsActiveLast v = rule_between (event_in v).f (event_in v).g ≡ Some (event_in v).rule
-
--- The pair in hand has become ticket t: its words are written, and its links are pending, by what was known of the fields.
-pub record Rewrote (v : View) (t : ℕ) (n : View) : Type 0 where
-  pub view : n ≡ record v { taken = []; known = []; swept = swept_on v (cell_at v.parts (cell_in_hand v.taken)); made = v.made ++ (t, entry_of v.parts (event_in v)) ∷ []; pending = n.pending }
-  pub known : List (ℕ × ℕ)
-  pub links : n.pending ≡ links_of v.parts (event_in v) t (λ s. known_at known (place_in (event_in v).f + s)) (λ s. known_at known (place_in (event_in v).g + s))
-
--- what the call leaves in the view, by its answer
 abbrev pub Leaves : Parts → View → ℕ → Hold → View → Type 0
 Leaves z v c Gone n = n ≡ missed v c
 Leaves z v c Stuck n = n ≡ in_hand v (left_word z c) c n.last
 Leaves z v c Past n = n ≡ record (in_hand v (left_word z c) c n.last) { over = true; known = n.known }
-Leaves z v c (Wrote t r b) n = (t < z.fuel) × (r ≡ (event_in n).rule) × (b ≡ z.cells + 4 * t) × Rewrote (in_hand v (left_word z c) c n.last) t n
+Leaves z v c (Wrote t r b) n = (t < z.fuel) × (r ≡ (event_in n).rule) × (b ≡ z.cells + 4 * t) × (of_f : List ℕ) × (of_g : List ℕ) × Rewrote (in_hand v (left_word z c) c n.last) t of_f of_g n
 
 abbrev pub IsWrote : Hold → Type 0
 IsWrote (Wrote t r b) = Unit {0}

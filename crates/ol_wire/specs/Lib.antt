@@ -16,5 +16,8 @@ pub mod LinkPlays
 pub mod Stand
 pub mod Closed
 pub mod Standing
+pub mod TurnPlays
+pub mod Hands
 pub mod Holds
+pub mod Turns
 pub mod Rewrites

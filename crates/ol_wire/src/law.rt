@@ -1,7 +1,7 @@
 //! The rule of the table, and what each kind of step tells.
 ghost use Rattle.ol_wire.specs.Rule.{Kept, opener};
-ghost use Rattle.ol_wire.specs.Plays.{claims, pairs_up, looks, draws, writes, fewer, one_seat};
-ghost use Rattle.ol_wire.specs.ReturnPlays.{returns};
+ghost use Rattle.ol_wire.specs.Plays.{claims, pairs_up, draws, writes, fewer, one_seat};
+ghost use Rattle.ol_wire.specs.TurnPlays.{reads, returns};
 
 use crate::plan::Plan;
 use crate::view::View;
@@ -34,7 +34,7 @@ impl Play<(), View> for PairsUp {
 pub struct Looks;
 
 impl Play<(), View> for Looks {
-    ghost then = { looks };
+    ghost then = { reads };
 }
 
 /// The addition of one to the ticket word.

@@ -14,6 +14,7 @@ mod rewrite;
 mod seat;
 mod shared;
 mod stepping;
+mod turning;
 mod view;
 
 pub use holding::Hold;
@@ -23,4 +24,5 @@ pub use plan::Plan;
 pub use promise::at_every_moment;
 pub use seat::Seat;
 pub use shared::Shared;
+pub use turning::Turn;
 pub use view::{Link, View};

@@ -1,6 +1,6 @@
 use Rattle.std.proofs.Common.{◌≡◌, ◌<◌, sym, ap, ◌∙◌, subst, arith}
 use Rattle.ol_wire.specs.declared.layout.Parts.{Parts}
-use Rattle.ol_wire.specs.Layout.{left_word, cells_of, part_of, size}
+use Rattle.ol_wire.specs.Layout.{left_word, cells_of, size}
 use Rattle.ol_wire.specs.Stand.{Board}
 use Rattle.ol_wire.proofs.Places.{part_cell}
 use Rattle.ol_wire.proofs.Steps.{claims_allowed}

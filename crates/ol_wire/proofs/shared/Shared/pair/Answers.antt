@@ -1,5 +1,4 @@
-use Rattle.std.proofs.Common.{◌≡◌, ◌+◌, ℕ, sym, refl, ap, ◌∙◌, subst, inl, arith, List}
-use Rattle.ol_edges.specs.Edges.{IsIn}
+use Rattle.std.proofs.Common.{◌≡◌, ◌+◌, ℕ, sym, ap, ◌∙◌, arith}
 use Rattle.ol_wire.specs.declared.layout.Parts.{Parts}
 use Rattle.ol_wire.specs.Layout.{left_word, size}
 use Rattle.ol_wire.specs.Stand.{Board}

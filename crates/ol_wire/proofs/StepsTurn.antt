@@ -1,0 +1,152 @@
+-- What a turn leaves, and that each answer comes by its own cause alone.
+use Rattle.std.proofs.Common.{◌≡◌, ◌≢◌, ℕ, ◌+◌, ◌<◌, true, false, if◌then◌else◌, Bool, None, Some, Option, List, [], ◌∷◌, ◌++◌, sym, refl, ap, ◌∙◌, subst, ◌*◌, ◌↔◌}
+use mathlib.Core.Bool.{false≢true}
+use Rattle.ol_net.specs.declared.parts.Rule.{Rule}
+use Rattle.ol_wire.specs.declared.layout.Parts.{Parts}
+use Rattle.ol_wire.specs.declared.turning.Begun.{Begun}
+use Rattle.ol_wire.specs.declared.turning.Turn.{Turn}
+use Rattle.ol_wire.specs.declared.turning.Turn.TheVariants.{Rewrote, Gone, Stuck, Spent}
+use Rattle.ol_wire.specs.declared.view.Link.{Link}
+use Rattle.ol_wire.specs.declared.view.View.{View}
+use Rattle.ol_wire.specs.Layout.{left_word, cells_of}
+use Rattle.ol_wire.specs.Events.{Event, rule_between, event_of, entry_of, acting}
+use Rattle.ol_wire.specs.Plays.{is_stuck, cell_at, swept_on, event_in, returned}
+use Rattle.ol_wire.specs.declared.rewrite.Rewrite.{Rewrite}
+use Rattle.ol_wire.specs.Rewrites.{event_for}
+use Rattle.ol_wire.specs.Views.{IsIdle}
+use Rattle.ol_wire.specs.Hands.{claiming, in_hand, IsStuckLast, IsActiveLast}
+use Rattle.ol_wire.specs.Turns.{FoundActive, HasCause, IsRewrote, masked, Leaves, Begins}
+use Rattle.ol_wire.proofs.Places.{cell_of_left}
+
+none_some : {x : Rule} → ◌≡◌ {A = Option Rule} None (Some x) → ⊥
+none_some e = absurd (cc)
+
+active_pair : (a b : ℕ) → rule_between (event_of a b).f (event_of a b).g ≡ Some (event_of a b).rule → is_stuck (rule_between a b) (rule_between b a) ≡ false
+active_pair a b fits = of (rule_between a b) (rule_between b a) refl fits
+  where
+    of : (q r : Option Rule) → rule_between a b ≡ q → rule_between (acting q r a b).f (acting q r a b).g ≡ Some (acting q r a b).rule → is_stuck q r ≡ false
+    of (Some q) r e f = refl
+    of None (Some r) e f = refl
+    of None None e f = absurd (none_some (sym e ∙ f))
+
+-- a pair of cell c was in hand, and is put back; `ks` and `o` are what was known then, and whether the fuel was found used up
+module _ (z : Parts) (v t n : View) (c : ℕ) (pair : ℕ × ℕ) (ks : List (ℕ × ℕ)) (o : Bool) (parts : v.parts ≡ z) (low : c < cells_of z) (idle : IsIdle v)
+    (hand : t ≡ record (in_hand v (left_word z c) c pair) { known = ks; over = o }) (back : n ≡ returned t) where
+  abbrev shape : List (ℕ × ℕ) → ℕ → Bool → ℕ × ℕ → View
+  shape taken swept over last = record v { claimed = v.claimed ++ c ∷ []; last = last; taken = taken; known = []; swept = swept; over = over }
+
+  number : cell_at v.parts (left_word z c) ≡ c
+  number = ap (λ (y : Parts). cell_at y (left_word z c)) parts ∙ cell_of_left z c low
+
+  abbrev stuck : Bool
+  stuck = is_stuck (rule_between pair.0 pair.1) (rule_between pair.1 pair.0)
+
+  whole : n ≡ shape [] (if stuck then swept_on v (cell_at v.parts (left_word z c)) else v.swept) o pair
+  whole = back ∙ ap returned hand
+
+  last : n.last ≡ pair
+  last = ap (λ (u : View). u.last) whole
+
+  some_left : pair.0 ≢ 0 → n.last.0 ≢ 0
+  some_left some_pair e = some_pair (sym (ap (λ (q : ℕ × ℕ). q.0) last) ∙ e)
+
+  stuck_last : rule_between pair.0 pair.1 ≡ None → rule_between pair.1 pair.0 ≡ None → IsStuckLast n
+  stuck_last e f = subst (λ (q : ℕ × ℕ). (rule_between q.0 q.1 ≡ None) × (rule_between q.1 q.0 ≡ None)) (sym last) (e, f)
+
+  stuck_leaves : o ≡ v.over → rule_between pair.0 pair.1 ≡ None → rule_between pair.1 pair.0 ≡ None → n ≡ record (claiming v c n.last) { known = []; swept = swept_on v c }
+  stuck_leaves over e f =
+      let sure : stuck ≡ true = ap (λ q. is_stuck q (rule_between pair.1 pair.0)) e ∙ ap (is_stuck None) f in
+      whole ∙ ap (λ b. shape [] (if b then swept_on v (cell_at v.parts (left_word z c)) else v.swept) o pair) sure ∙ ap (λ m. shape [] (swept_on v m) o pair) number ∙ ap (λ l. shape l (swept_on v c) o pair) (sym idle.0)
+      ∙ ap (λ b. shape v.taken (swept_on v c) b pair) over ∙ ap (shape v.taken (swept_on v c) v.over) (sym last)
+
+  -- the pair has no rule
+  pub stuck_after : pair.0 ≢ 0 → o ≡ v.over → rule_between pair.0 pair.1 ≡ None → rule_between pair.1 pair.0 ≡ None
+      → ((n.last.0 ≢ 0) × IsStuckLast n) × (n ≡ record (claiming v c n.last) { known = []; swept = swept_on v c })
+  stuck_after some_pair over e f = ((some_left some_pair, stuck_last e f), stuck_leaves over e f)
+
+  -- the fuel was found used up, now or before
+  pub spent_after : pair.0 ≢ 0 → (r : Rewrite) → event_for r ≡ event_of pair.0 pair.1 → rule_between r.f r.g ≡ Some r.rule → o ≡ true
+      → (FoundActive n × (n.over ≡ true)) × (n ≡ record (claiming v c n.last) { known = []; over = true })
+  spent_after some_pair r is rule over = (((some_left some_pair, active_last), ap (λ (u : View). u.over) whole ∙ over), leaves)
+    where
+      fits : rule_between (event_of pair.0 pair.1).f (event_of pair.0 pair.1).g ≡ Some (event_of pair.0 pair.1).rule
+      fits = subst (λ (e : Event). rule_between e.f e.g ≡ Some e.rule) is rule
+
+      active_last : IsActiveLast n
+      active_last = subst (λ (q : ℕ × ℕ). rule_between (event_of q.0 q.1).f (event_of q.0 q.1).g ≡ Some (event_of q.0 q.1).rule) (sym last) fits
+
+      leaves : n ≡ record (claiming v c n.last) { known = []; over = true }
+      leaves =
+          whole ∙ ap (λ b. shape [] (if b then swept_on v (cell_at v.parts (left_word z c)) else v.swept) o pair) (active_pair pair.0 pair.1 fits) ∙ ap (λ l. shape l v.swept o pair) (sym idle.0)
+          ∙ ap (λ b. shape v.taken v.swept b pair) over ∙ ap (shape v.taken v.swept true) (sym last)
+
+-- the links are made: the whole turn, by its first part and by what the making of the links leaves of it
+module _ (z : Parts) (v m n : View) (c mask : ℕ) (b : Begun) (ws : List ℕ) (parts : v.parts ≡ z) (low : c < cells_of z) (idle : IsIdle v) (begun : Begins z v c b m) (small : mask < 16)
+    (linked : n ≡ record m { pending = []; known = n.known; published = m.published ++ masked (z.cells + 4 * b.ticket) mask; dead = m.dead ++ ws }) where
+  abbrev first_cell : ℕ
+  first_cell = z.cells + 4 * b.ticket
+
+  abbrev done : List (ℕ × ℕ) → List Link → ℕ → Parts → ℕ × ℕ → List ℕ → View
+  done taken pending swept y last dead = record v {
+    claimed = v.claimed ++ c ∷ [];
+    published = v.published ++ masked first_cell mask;
+    made = v.made ++ (b.ticket, entry_of y (event_of last.0 last.1)) ∷ [];
+    last = last;
+    taken = taken;
+    known = n.known;
+    pending = pending;
+    dead = dead;
+    swept = swept;
+  }
+
+  all_of : n ≡ done [] [] (swept_on v (cell_at v.parts (left_word z c))) v.parts m.last (v.dead ++ ws)
+  all_of = linked ∙ ap (λ (u : View). record u { pending = []; known = n.known; published = u.published ++ masked first_cell mask; dead = u.dead ++ ws }) begun.rewrote.view
+
+  same_last : n.last ≡ m.last
+  same_last = ap (λ (u : View). u.last) all_of
+
+  dead_grows : n.dead ≡ v.dead ++ ws
+  dead_grows = ap (λ (u : View). u.dead) all_of
+
+  cell : cell_at v.parts (left_word z c) ≡ c
+  cell = ap (λ (y : Parts). cell_at y (left_word z c)) parts ∙ cell_of_left z c low
+
+  view : n ≡ done v.taken v.pending (swept_on v c) z n.last n.dead
+  view =
+      all_of ∙ ap (λ l. done l [] (swept_on v (cell_at v.parts (left_word z c))) v.parts m.last (v.dead ++ ws)) (sym idle.0)
+      ∙ ap (λ l. done v.taken l (swept_on v (cell_at v.parts (left_word z c))) v.parts m.last (v.dead ++ ws)) (sym idle.2)
+      ∙ ap (λ a. done v.taken v.pending (swept_on v a) v.parts m.last (v.dead ++ ws)) cell
+      ∙ ap (λ y. done v.taken v.pending (swept_on v c) y m.last (v.dead ++ ws)) parts
+      ∙ ap (λ l. done v.taken v.pending (swept_on v c) z l (v.dead ++ ws)) (sym same_last)
+      ∙ ap (done v.taken v.pending (swept_on v c) z n.last) (sym dead_grows)
+
+  pub rewritten_leaves : HasCause (Rewrote b.ticket b.rewrite.rule first_cell mask) n × Leaves z v c (Rewrote b.ticket b.rewrite.rule first_cell mask) n
+  rewritten_leaves = (cause, record { ticket = begun.ticket; rule = rule; first = refl; mask = small; dead = (ws, dead_grows); view = view })
+    where
+      cause : FoundActive n × (n.over ≡ false)
+      cause = (subst (λ (l : ℕ × ℕ). FoundActive (record n { last = l })) (sym same_last) begun.cause.0, ap (λ (u : View). u.over) linked ∙ begun.cause.1)
+
+      rule : b.rewrite.rule ≡ (event_in n).rule
+      rule = ap (λ (e : Event). e.rule) (begun.event ∙ ap (λ (l : ℕ × ℕ). event_of l.0 l.1) (sym same_last))
+
+-- a seat that was idle is idle after a turn, in each case
+pub idle_left : (z : Parts) (v n : View) (c : ℕ) (a : Turn) → IsIdle v → Leaves z v c a n → IsIdle n
+idle_left z v n c Gone idle e = subst IsIdle (sym e) idle
+idle_left z v n c Stuck idle e = subst IsIdle (sym e) idle
+idle_left z v n c Spent idle e = subst IsIdle (sym e) idle
+idle_left z v n c (Rewrote t r b m) idle h = subst IsIdle (sym h.view) idle
+
+not_both : (n : View) → IsStuckLast n → IsActiveLast n → ⊥
+not_both n stuck active =
+    let e : is_stuck (rule_between n.last.0 n.last.1) (rule_between n.last.1 n.last.0) ≡ true = ap (λ q. is_stuck q (rule_between n.last.1 n.last.0)) stuck.0 ∙ ap (is_stuck None) stuck.1 in
+    false≢true (sym (active_pair n.last.0 n.last.1 active) ∙ e)
+
+not_over : (n : View) → n.over ≡ true → n.over ≡ false → ⊥
+not_over n e f = false≢true (sym f ∙ e)
+
+-- so the answer tells the cause, and the cause the answer
+pub by_causes : (a : Turn) (n : View) → HasCause a n → ((a ≡ Gone) ↔ (n.last.0 ≡ 0)) × ((a ≡ Stuck) ↔ ((n.last.0 ≢ 0) × IsStuckLast n)) × ((a ≡ Spent) ↔ (FoundActive n × (n.over ≡ true))) × (IsRewrote a ↔ (FoundActive n × (n.over ≡ false)))
+by_causes Gone n h = (((λ e. h), (λ g. refl)), ((λ e. absurd (cc)), (λ g. absurd (g.0 h))), ((λ e. absurd (cc)), (λ g. absurd (g.0.0 h))), ((λ e. absurd e), (λ g. absurd (g.0.0 h))))
+by_causes Stuck n h = (((λ e. absurd (cc)), (λ g. absurd (h.0 g))), ((λ e. h), (λ g. refl)), ((λ e. absurd (cc)), (λ g. absurd (not_both n h.1 g.0.1))), ((λ e. absurd e), (λ g. absurd (not_both n h.1 g.0.1))))
+by_causes Spent n h = (((λ e. absurd (cc)), (λ g. absurd (h.0.0 g))), ((λ e. absurd (cc)), (λ g. absurd (not_both n g.1 h.0.1))), ((λ e. h), (λ g. refl)), ((λ e. absurd e), (λ g. absurd (not_over n h.1 g.1))))
+by_causes (Rewrote t r b m) n h = (((λ e. absurd (cc)), (λ g. absurd (h.0.0 g))), ((λ e. absurd (cc)), (λ g. absurd (not_both n g.1 h.0.1))), ((λ e. absurd (cc)), (λ g. absurd (not_over n g.1 h.1))), ((λ e. h), (λ g. tt)))
