@@ -11,7 +11,6 @@ pub mod Weights
 pub mod Views
 pub mod Rule
 pub mod Plays
-pub mod ReturnPlays
 pub mod LinkPlays
 pub mod Stand
 pub mod Closed
