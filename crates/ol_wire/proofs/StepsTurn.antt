@@ -10,13 +10,15 @@ use Rattle.ol_wire.specs.declared.view.Link.{Link}
 use Rattle.ol_wire.specs.declared.view.View.{View}
 use Rattle.ol_wire.specs.Layout.{left_word, cells_of}
 use Rattle.ol_wire.specs.Events.{Event, rule_between, event_of, entry_of, acting}
-use Rattle.ol_wire.specs.Plays.{is_stuck, cell_at, swept_on, event_in, returned}
+use Rattle.ol_wire.specs.Plays.{IsNodeOf, is_stuck, cell_at, swept_on, event_in, returned}
 use Rattle.ol_wire.specs.declared.rewrite.Rewrite.{Rewrite}
 use Rattle.ol_wire.specs.Rewrites.{event_for}
 use Rattle.ol_wire.specs.Views.{IsIdle}
-use Rattle.ol_wire.specs.Hands.{claiming, in_hand, IsStuckLast, IsActiveLast}
+use Rattle.ol_wire.specs.Hands as hands
+use Rattle.ol_wire.specs.Hands.{claiming, in_hand, IsOfPair, AreRefs, IsStuckLast, IsActiveLast}
 use Rattle.ol_wire.specs.Turns.{FoundActive, HasCause, IsRewrote, masked, Leaves, Begins}
 use Rattle.ol_wire.proofs.Places.{cell_of_left}
+use Rattle.ol_wire.proofs.StepsHold.{of_pair, node_in_hand, hand_of}
 
 none_some : {x : Rule} → ◌≡◌ {A = Option Rule} None (Some x) → ⊥
 none_some e = absurd (cc)
@@ -79,6 +81,33 @@ module _ (z : Parts) (v t n : View) (c : ℕ) (pair : ℕ × ℕ) (ks : List (�
       leaves =
           whole ∙ ap (λ b. shape [] (if b then swept_on v (cell_at v.parts (left_word z c)) else v.swept) o pair) (active_pair pair.0 pair.1 fits) ∙ ap (λ l. shape l v.swept o pair) (sym idle.0)
           ∙ ap (λ b. shape v.taken v.swept b pair) over ∙ ap (shape v.taken v.swept true) (sym last)
+
+-- a pair of cell c was in hand, and has become a ticket
+pub begins : (z : Parts) (v t n : View) (c : ℕ) (pair : ℕ × ℕ) (r : Rewrite) (b : Begun) → v.parts ≡ z → v.over ≡ false → t ≡ in_hand v (left_word z c) c pair → pair.0 ≢ 0 → IsNodeOf z pair.0 → IsNodeOf z pair.1
+    → event_for r ≡ event_of pair.0 pair.1 → rule_between r.f r.g ≡ Some r.rule → b.ticket < z.fuel → b.rewrite ≡ r → hands.Rewrote t b.ticket b.of_f b.of_g n → AreRefs z r.f b.of_f × AreRefs z r.g b.of_g → Begins z v c b n
+begins z v t n c pair r b parts under hand some_pair f g is rule low same done refs = record {
+  cause = (((λ e. some_pair (sym (ap (λ (q : ℕ × ℕ). q.0) last) ∙ e)), active), ap (λ (u : View). u.over) done.view ∙ ap (λ (u : View). u.over) hand ∙ under);
+  ticket = low;
+  event = ap event_for same ∙ event;
+  nodes = subst (λ (x : Rewrite). IsNodeOf z x.f × IsNodeOf z x.g) (sym same) (node r.f sides.0, node r.g sides.1);
+  fields = subst (λ (x : Rewrite). AreRefs z x.f b.of_f × AreRefs z x.g b.of_g) (sym same) refs;
+  rewrote = subst (λ (u : View). hands.Rewrote u b.ticket b.of_f b.of_g n) (hand ∙ ap (in_hand v (left_word z c) c) (sym last)) done;
+}
+  where
+    last : n.last ≡ pair
+    last = ap (λ (u : View). u.last) done.view ∙ ap (λ (u : View). u.last) hand
+
+    event : event_for r ≡ event_in n
+    event = is ∙ ap (λ (q : ℕ × ℕ). event_of q.0 q.1) (sym last)
+
+    active : IsActiveLast n
+    active = subst (λ (e : Event). rule_between e.f e.g ≡ Some e.rule) event rule
+
+    sides : IsOfPair t r.f × IsOfPair t r.g
+    sides = of_pair t r (is ∙ sym (ap event_in hand))
+
+    node : (x : ℕ) → IsOfPair t x → IsNodeOf z x
+    node x o = subst (λ (y : Parts). IsNodeOf y x) (ap (λ (u : View). u.parts) hand ∙ parts) (node_in_hand t (left_word z c) x (hand_of z v t (left_word z c) c pair parts hand f g) o)
 
 -- the links are made: the whole turn, by its first part and by what the making of the links leaves of it
 module _ (z : Parts) (v m n : View) (c mask : ℕ) (b : Begun) (ws : List ℕ) (parts : v.parts ≡ z) (low : c < cells_of z) (idle : IsIdle v) (begun : Begins z v c b m) (small : mask < 16)

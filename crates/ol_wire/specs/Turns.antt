@@ -9,10 +9,10 @@ use Rattle.ol_wire.specs.declared.turning.Turn.{Turn}
 use Rattle.ol_wire.specs.declared.turning.Turn.TheVariants.{Rewrote, Gone, Stuck, Spent}
 use Rattle.ol_wire.specs.Layout.{left_word}
 use Rattle.ol_wire.specs.Events.{entry_of}
-use Rattle.ol_wire.specs.Plays.{event_in, swept_on}
+use Rattle.ol_wire.specs.Plays.{IsNodeOf, event_in, swept_on}
 use Rattle.ol_wire.specs.Rewrites.{event_for}
 use Rattle.ol_wire.specs.Hands as hands
-use Rattle.ol_wire.specs.Hands.{claiming, missed, in_hand, IsStuckLast, IsActiveLast}
+use Rattle.ol_wire.specs.Hands.{claiming, missed, in_hand, AreRefs, IsStuckLast, IsActiveLast}
 
 -- the turn read a pair, and the pair has a rule
 abbrev pub FoundActive : View → Type 0
@@ -54,4 +54,6 @@ pub record Begins (z : Parts) (v : View) (c : ℕ) (b : Begun) (n : View) : Type
   pub cause : FoundActive n × (n.over ≡ false)
   pub ticket : b.ticket < z.fuel
   pub event : event_for b.rewrite ≡ event_in n
+  pub nodes : IsNodeOf z b.rewrite.f × IsNodeOf z b.rewrite.g
+  pub fields : AreRefs z b.rewrite.f b.of_f × AreRefs z b.rewrite.g b.of_g
   pub rewrote : hands.Rewrote (in_hand v (left_word z c) c n.last) b.ticket b.of_f b.of_g n

@@ -10,7 +10,7 @@ ghost use Rattle.ol_wire.specs.Plays.{IsNodeOf, event_in};
 ghost use Rattle.ol_wire.specs.Rewrites.{event_for};
 ghost use Rattle.ol_wire.specs.Stand.{IsUnder};
 ghost use Rattle.ol_wire.specs.Views.{IsIdle};
-ghost use Rattle.ol_wire.specs.Hands.{missed, in_hand, IsInHand, IsOfPair, fields_known, IsSure, AreFields, Rewrote};
+ghost use Rattle.ol_wire.specs.Hands.{missed, in_hand, IsInHand, IsOfPair, fields_known, IsSure, AreFields, AreRefs, Rewrote};
 ghost use Rattle.ol_wire.specs.Turns.{HasCause, Leaves, Begins};
 
 use crate::reference::kind_in;
@@ -104,6 +104,7 @@ impl Shared {
         requires rule { (event_for rewrite ≡ event_in token.old.me.0) × (rule_between rewrite.f rewrite.g ≡ Some rewrite.rule) }
         ensures token { (token.new.table_id ≡ token.old.table_id) × (token.new.me.1 ≡ token.old.me.1) }
         ensures view { MatchOption result (token.new.me.0 ≡ record token.old.me.0 { known = token.new.me.0.known; over = true }) (λ b. (b.ticket < self.now.plan.parts.fuel) × (b.rewrite ≡ rewrite) × Rewrote token.old.me.0 b.ticket b.of_f b.of_g token.new.me.0) }
+        ensures fields { IfSome result (λ b. AreRefs self.now.plan.parts rewrite.f b.of_f × AreRefs self.now.plan.parts rewrite.g b.of_g) }
         ensures hand { result ≡ None → (w : ℕ) → IsInHand token.old.me.0 w → IsInHand token.new.me.0 w }
     {
         let of_f = self.look_at(token, rewrite.f);
@@ -127,6 +128,7 @@ impl Shared {
         ensures token { (token.new.table_id ≡ token.old.table_id) × (token.new.me.1 ≡ token.old.me.1) }
         ensures view { token.new.me.0 ≡ record token.old.me.0 { known = fields_known (arity (kind_in node)) (place_in node) result ++ token.old.me.0.known } }
         ensures found { AreFields token.new.me.0.known node result }
+        ensures refs { AreRefs self.now.plan.parts node result }
         ensures keeps { (w y : ℕ) → IsSure token.old.me.0.known w y → IsSure token.new.me.0.known w y }
     {
         let slots = kind_in(node).slots();
