@@ -21,6 +21,7 @@ pub mod NetBut
 pub mod Claimed
 pub mod Exchange
 pub mod Overlooked
+pub mod ClosingEntry
 pub mod WordEdges
 pub mod WordsAfter
 pub mod TicketJournal

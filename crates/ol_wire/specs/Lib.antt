@@ -13,5 +13,6 @@ pub mod Rule
 pub mod Plays
 pub mod Stand
 pub mod Closed
+pub mod Standing
 pub mod Holds
 pub mod Rewrites

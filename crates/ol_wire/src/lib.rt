@@ -1,12 +1,15 @@
 //! The shared words: a net laid out in words that any number of threads rewrite by single atomic steps.
 #![tactic(auto)]
 
+mod closed;
+mod closing;
 mod holding;
 mod law;
 mod laying;
 #[cfg(test)]
 mod laying_tests;
 mod layout;
+mod naming;
 mod plan;
 mod promise;
 mod reference;
@@ -16,6 +19,7 @@ mod shared;
 mod stepping;
 mod view;
 
+pub use closed::Words;
 pub use holding::Hold;
 pub use law::Law;
 pub use layout::Parts;
