@@ -22,6 +22,8 @@ pub mod Claimed
 pub mod Exchange
 pub mod Overlooked
 pub mod ClosingEntry
+pub mod ClosingLists
+pub mod ClosingTable
 pub mod WordEdges
 pub mod WordsAfter
 pub mod TicketJournal

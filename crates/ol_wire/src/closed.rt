@@ -2,7 +2,7 @@
 ghost use Rattle.std.specs.Prelude.{◌≡◌, ℕ, ◌+◌, ◌<◌, ◌≤◌, length, MatchOption, slice_get, slice_index};
 ghost use Rattle.core.specs.Mem.Slots.{slots_items, slots_len, IsFull};
 ghost use Rattle.ol_wire.specs.Closed.{ClosedTable, IsClosed, events_in, event_at, journal_in};
-ghost use Rattle.ol_wire.specs.Layout.{size, block};
+ghost use Rattle.ol_wire.specs.Layout.{size as size_of};
 ghost use Rattle.ol_wire.specs.Sizes.{IsSmall};
 
 use crate::law::Law;
@@ -29,7 +29,7 @@ impl Model for Words {
 
     ghost view = { λ w. record { plan = w.was.value.key; words = slots_items w.closed.words; view = w.last.value.me.0 } };
 
-    ghost invariant = { λ w. IsFull w.closed.words × (w.was.value.key.parts ≡ w.parts) × (slots_len w.closed.words ≡ size w.parts) × (slots_len w.closed.slots ≡ 0) × IsSmall w.parts × IsClosed (record { plan = w.was.value.key; words = slots_items w.closed.words; view = w.last.value.me.0 }) };
+    ghost invariant = { λ w. IsFull w.closed.words × (w.was.value.key.parts ≡ w.parts) × (slots_len w.closed.words ≡ size_of w.parts) × (slots_len w.closed.slots ≡ 0) × IsSmall w.parts × IsClosed (record { plan = w.was.value.key; words = slots_items w.closed.words; view = w.last.value.me.0 }) };
 }
 
 impl Words {
@@ -53,7 +53,7 @@ impl Words {
 
     // The word of that number.
     fn at(&self, at: u32) -> u64
-        requires { at < size self.now.plan.parts }
+        requires { at < size_of self.now.plan.parts }
         ensures { result ≡ slice_index self.now.words at }
     {
         self.closed.word(at as usize)
