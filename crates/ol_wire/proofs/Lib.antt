@@ -24,6 +24,8 @@ pub mod Overlooked
 pub mod ClosingEntry
 pub mod ClosingLists
 pub mod ClosingTable
+pub mod ClosingRun
+pub mod ClosingTold
 pub mod WordEdges
 pub mod WordsAfter
 pub mod TicketJournal

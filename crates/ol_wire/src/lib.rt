@@ -10,6 +10,7 @@ mod laying;
 mod laying_tests;
 mod layout;
 mod naming;
+mod outcome;
 mod plan;
 mod promise;
 mod reference;
