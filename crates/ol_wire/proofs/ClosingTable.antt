@@ -70,6 +70,12 @@ module _ (w : ClosedTable) (c : IsClosed w) where
   pub pending_none : pending_in s.views ≡ []
   pending_none = none_pending s.views (all_in (λ (v : View). length v.pending) (λ v o e. ap (λ (v : View). length v.pending) e) ∙ ap length c.idle.2)
 
+  pub no_pending : (v : View) → IsView s v → v.pending ≡ []
+  no_pending v is = no_links v.pending (omega (arith, total_at (λ (v : View). length v.pending) s.views is.0 v is.1, all_pending))
+    where
+      all_pending : total (λ (v : View). length v.pending) s.views ≡ 0
+      all_pending = all_in (λ (v : View). length v.pending) (λ v o e. ap (λ (v : View). length v.pending) e) ∙ ap length c.idle.2
+
   pub is_full : w.words ≡ k.full
   is_full = sym c.words ∙ same_words s.words k.full (k.words.wide ∙ sym k.words.full_wide) (λ n lt. let b : n < size z = omega (arith, lt, k.words.wide) in omega (arith, k.words.written (at_spot n) (spot_none n), weigh_spot n (size z) (λ y. y) s.words b, weigh_spot n (size z) (λ y. y) k.full b, none_held (at_spot n)))
 

@@ -26,6 +26,8 @@ pub mod ClosingLists
 pub mod ClosingTable
 pub mod ClosingRun
 pub mod ClosingTold
+pub mod ClosingCells
+pub mod ClosingStands
 pub mod WordEdges
 pub mod WordsAfter
 pub mod TicketJournal

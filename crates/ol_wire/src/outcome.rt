@@ -5,8 +5,9 @@ ghost use Rattle.ol_net.specs.Nets.{NamedNet, HasNode, IsNet, SameNet};
 ghost use Rattle.ol_net.specs.Numbered.{net_of};
 ghost use Rattle.ol_rules.specs.declared.journal.NodeName.{NodeName};
 ghost use Rattle.ol_rules.specs.declared.journal.Entry.{Entry};
-ghost use Rattle.ol_rules.specs.Runs.{HasActive};
+ghost use Rattle.ol_rules.specs.Runs.{IsComplete, HasActive};
 ghost use Rattle.ol_wire.specs.Closed.{events_in, journal_in};
+ghost use Rattle.ol_wire.specs.Layout.{cells_of};
 ghost use Rattle.ol_wire.specs.Weights.{pairs, numbered};
 ghost use Rattle.ol_wire.specs.Standing.{IsAfter, IsOfEntry, AreOnce};
 
@@ -40,6 +41,13 @@ impl Words {
     pub fn over(&self)
         ensures fuel { self.now.view.over ≡ true → events_in self.now.plan.parts self.now.words ≡ self.now.plan.parts.fuel }
         ensures active { IsNet (net_of self.now.plan.start.value) → self.now.view.over ≡ true → (net : NamedNet NodeName) → IsAfter self.now net → HasActive net }
+    {
+        let _ = &self.closed;
+    }
+
+    /// Law: where the seat has swept all cells, no active pair is left.
+    pub fn swept(&self)
+        ensures complete { IsNet (net_of self.now.plan.start.value) → self.now.view.swept ≡ cells_of self.now.plan.parts → (net : NamedNet NodeName) → IsAfter self.now net → IsComplete net }
     {
         let _ = &self.closed;
     }
