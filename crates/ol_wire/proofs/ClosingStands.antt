@@ -23,6 +23,7 @@ use Rattle.ol_wire.specs.Standing.{IsWirePart, IsMadeNode, IsUntouched, StandsFo
 use Rattle.ol_wire.proofs.Overlooked.{complete}
 use Rattle.ol_wire.proofs.ClosingTable.{z, s, k, is_full, tickets, pending_none, no_pending}
 use Rattle.ol_wire.proofs.ClosingCells.{cell_word}
+use Rattle.ol_wire.proofs.ClosingNodes.{live_after}
 use Rattle.ol_wire.proofs.ClosingTold.{after, one_after}
 
 append_none : {A : Type 0} (xs : List A) → xs ≡ xs ++ []

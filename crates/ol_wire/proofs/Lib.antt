@@ -27,6 +27,7 @@ pub mod ClosingTable
 pub mod ClosingRun
 pub mod ClosingTold
 pub mod ClosingCells
+pub mod ClosingNodes
 pub mod ClosingStands
 pub mod WordEdges
 pub mod WordsAfter
