@@ -28,6 +28,7 @@ pub mod ClosingRun
 pub mod ClosingTold
 pub mod ClosingCells
 pub mod ClosingNodes
+pub mod ClosingStart
 pub mod ClosingStands
 pub mod WordEdges
 pub mod WordsAfter
