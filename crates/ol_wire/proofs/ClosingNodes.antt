@@ -1,8 +1,7 @@
 -- The nodes after a run are those that were there or that came, without those that were rewritten.
-use Rattle.std.proofs.Common.{◌≡◌, ◌≢◌, ℕ, zero, suc, ◌+◌, ◌-◌, ◌<◌, ◌≤◌, Bool, true, false, if◌then◌else◌, List, [], ◌∷◌, length, max, Option, Some, None, is_some, count_by, ◌⊎◌, inl, inr, ◌↔◌, refl, sym, ap, ◌∙◌, subst, arith}
+use Rattle.std.proofs.Common.{◌≡◌, ◌≢◌, ℕ, zero, suc, ◌+◌, ◌-◌, ◌<◌, ◌≤◌, Bool, true, false, if◌then◌else◌, List, [], ◌∷◌, length, Some, ◌⊎◌, inl, inr, ◌↔◌, refl, sym, ap, ◌∙◌, subst, arith}
 use Rattle.std.specs.Prelude.{slice_get}
 use Rattle.std.proofs.lemmas.Bool.{cases_lt}
-use Rattle.ol_edges.specs.Edges.{IsIn}
 use Rattle.ol_net.specs.declared.parts.Kind.{Kind}
 use Rattle.ol_net.specs.declared.parts.Kind.TheVariants as kind
 use Rattle.ol_net.specs.declared.parts.Rule.{Rule}
@@ -11,12 +10,11 @@ use Rattle.ol_net.specs.Parts.{arity}
 use Rattle.ol_net.specs.Nets.{NamedNet, HasNode}
 use Rattle.ol_rules.specs.declared.journal.NodeName.{NodeName}
 use Rattle.ol_rules.specs.declared.journal.NodeName.TheVariants.{Init, Born}
-use Rattle.ol_rules.specs.declared.journal.Entry.{Entry}
-use Rattle.ol_rules.specs.Rewriting.{Action, meeting, crossing, is_meeting, index_after, action_of, NodeOf, left, of_f, of_g, IsStep}
+use Rattle.ol_rules.specs.Rewriting.{meeting, crossing, is_meeting, index_after, action_of, NodeOf, left, of_f, of_g, IsStep}
 use Rattle.ol_wire.specs.declared.layout.Parts.{Parts}
 use Rattle.ol_wire.specs.References.{node_ref, kind_in, place_in}
 use Rattle.ol_wire.specs.Layout.{place_of}
-use Rattle.ol_wire.specs.Events.{Event, IsPlayed, name_at, entry_of, earlier, later}
+use Rattle.ol_wire.specs.Events.{Event, IsPlayed, name_at, entry_of}
 use Rattle.ol_wire.specs.Rule.{IsPlaced}
 use Rattle.ol_wire.proofs.References.{kind_of_ref, place_of_ref}
 use Rattle.ol_wire.proofs.Places.{name_of_place}

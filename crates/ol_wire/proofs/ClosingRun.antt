@@ -1,5 +1,5 @@
 -- A journal leads from a net to one net, and no node is rewritten twice.
-use Rattle.std.proofs.Common.{◌≡◌, ◌≢◌, ℕ, zero, suc, ◌+◌, Bool, true, false, List, [], ◌∷◌, length, Some, ◌⊎◌, inl, inr, refl, sym, ap, ◌∙◌, subst, arith}
+use Rattle.std.proofs.Common.{◌≡◌, ℕ, zero, suc, true, List, [], ◌∷◌, Some, ◌⊎◌, inl, inr, refl, sym, ap, ◌∙◌, subst, arith}
 use Rattle.std.specs.Prelude.{slice_get}
 use Rattle.std.proofs.lemmas.Bool.Decides.{nat_tests}
 use Rattle.ol_net.specs.declared.parts.Kind.{Kind}
@@ -8,7 +8,7 @@ use Rattle.ol_net.specs.Rules.{rule_of}
 use Rattle.ol_net.specs.Nets.{slot, NamedNet, HasNode, IsNet, SameNet}
 use Rattle.ol_net.specs.Pairs.{IsActive}
 use Rattle.ol_rules.specs.declared.journal.NodeName.{NodeName}
-use Rattle.ol_rules.specs.declared.journal.NodeName.TheVariants.{Init, Born}
+use Rattle.ol_rules.specs.declared.journal.NodeName.TheVariants.{Born}
 use Rattle.ol_rules.specs.declared.journal.Entry.{Entry}
 use Rattle.ol_rules.specs.Names.{comes_before, IsNamed}
 use Rattle.ol_rules.specs.Rewriting.{action_of, NodeOf, left, of_f, of_g, IsStep}

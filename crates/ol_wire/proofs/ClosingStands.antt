@@ -1,23 +1,17 @@
 -- What closed words stand for.
-use Rattle.std.proofs.Common.{◌≡◌, ◌≢◌, ℕ, zero, suc, ◌+◌, ◌<◌, ◌≤◌, Bool, true, false, nat_eq, ◌&&◌, List, [], ◌∷◌, ◌++◌, length, Some, None, ◌⊎◌, inl, inr, ◌↔◌, slice_index, refl, sym, ap, ◌∙◌, subst, arith}
-use Rattle.std.specs.Prelude.{slice_get}
+use Rattle.std.proofs.Common.{◌≡◌, ◌≢◌, ℕ, suc, ◌<◌, Bool, true, false, nat_eq, ◌&&◌, List, [], ◌∷◌, ◌++◌, length, ◌⊎◌, inl, inr, ◌↔◌, slice_index, refl, sym, ap, ◌∙◌, subst, arith}
 use Rattle.std.proofs.lemmas.Bool.{false≢true}
-use Rattle.ol_edges.specs.Edges.{IsIn}
 use Rattle.ol_net.specs.declared.parts.Kind.{Kind}
-use Rattle.ol_net.specs.Nets.{NamedNet, HasNode, IsNet}
-use Rattle.ol_net.specs.Numbered.{net_of}
+use Rattle.ol_net.specs.Nets.{NamedNet, HasNode}
 use Rattle.ol_rules.specs.declared.journal.NodeName.{NodeName}
 use Rattle.ol_rules.specs.Runs.{IsComplete}
 use Rattle.ol_rules.proofs.Same.{complete_same}
-use Rattle.ol_wire.specs.declared.layout.Parts.{Parts}
-use Rattle.ol_wire.specs.declared.view.Link.{Link}
-use Rattle.ol_wire.specs.declared.view.View.{View}
 use Rattle.ol_wire.specs.References.{place_in, IsNodeRef, IsRef, IsWhole}
 use Rattle.ol_wire.specs.Layout.{Part, ticket, port, field, wire, between, left, right, entry, past, part_of, left_word, cells_of, block, size}
 use Rattle.ol_wire.specs.Events.{Event, IsStuckPair}
-use Rattle.ol_wire.specs.Edges.{edges_in, edges_of, is_reached, is_made, is_wire_made, deaths, pending_in}
+use Rattle.ol_wire.specs.Edges.{edges_in, edges_of, is_reached, is_made, is_wire_made, deaths}
 use Rattle.ol_wire.specs.Stands.{Stands}
-use Rattle.ol_wire.specs.Rule.{IsView, IsPlaced}
+use Rattle.ol_wire.specs.Rule.{IsPlaced}
 use Rattle.ol_wire.specs.Closed.{ClosedTable, IsClosed, events_in}
 use Rattle.ol_wire.specs.Standing.{IsWirePart, IsMadeNode, IsUntouched, StandsFor, IsStarted, IsAfter}
 use Rattle.ol_wire.proofs.Overlooked.{complete}

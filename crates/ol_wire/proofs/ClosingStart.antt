@@ -1,26 +1,25 @@
 -- The nodes of the net at the start, and those of the net that closed words stand for.
-use Rattle.std.proofs.Common.{◌≡◌, ◌≢◌, ℕ, zero, suc, ◌+◌, ◌<◌, ◌≤◌, List, [], ◌∷◌, length, max, Option, Some, None, is_some, count_by, cond, ◌⊎◌, inl, inr, ◌↔◌, slice_index, refl, sym, ap, ◌∙◌, subst, arith}
+use Rattle.std.proofs.Common.{◌≡◌, ◌≢◌, ℕ, zero, suc, ◌+◌, ◌<◌, ◌≤◌, List, [], ◌∷◌, length, max, Option, Some, None, is_some, count_by, cond, ◌⊎◌, inl, inr, ◌↔◌, refl, sym, ap, ◌∙◌, subst, arith}
 use Rattle.std.specs.Prelude.{slice_get}
 use Rattle.std.proofs.lemmas.Bool.{cases_eq, cases_lt}
 use Rattle.std.proofs.lemmas.List.Sums.{count_by-le-length, sum_by-cons}
-use Rattle.std.proofs.lemmas.Option.{slice_get-get_or, slice_get_within, slice_get_cases}
+use Rattle.std.proofs.lemmas.Option.{slice_get_within}
 use Rattle.ol_edges.specs.Edges.{IsIn}
 use Rattle.ol_net.specs.declared.parts.Kind.{Kind}
 use Rattle.ol_net.specs.Numbered.{nodes_from, net_of}
-use Rattle.ol_net.specs.Nets.{NamedNet, HasNode}
+use Rattle.ol_net.specs.Nets.{HasNode}
 use Rattle.ol_net.specs.Replace.{top_index_of}
 use Rattle.ol_rules.specs.declared.journal.NodeName.{NodeName}
 use Rattle.ol_rules.specs.declared.journal.NodeName.TheVariants.{Init, Born}
 use Rattle.ol_rules.specs.declared.journal.Entry.{Entry}
 use Rattle.ol_rules.proofs.Renaming.{node_to, node_from}
-use Rattle.ol_wire.specs.declared.layout.Parts.{Parts}
 use Rattle.ol_wire.specs.declared.plan.Plan.{Plan}
 use Rattle.ol_wire.specs.Events.{Event, entry_of}
-use Rattle.ol_wire.specs.Rule.{IsPlaced, start_net, entries_of, PlanKeeps}
+use Rattle.ol_wire.specs.Rule.{IsPlaced, start_net, PlanKeeps}
 use Rattle.ol_wire.specs.Closed.{ClosedTable, IsClosed, events_in, event_at, journal_in}
 use Rattle.ol_wire.specs.Standing.{IsStarted, IsMadeNode, IsUntouched}
 use Rattle.ol_wire.proofs.ClosingEntry.{births_of, births_read}
-use Rattle.ol_wire.proofs.ClosingTable.{z, s, k, tickets, event_told, entry_told, entry_at, no_entry}
+use Rattle.ol_wire.proofs.ClosingTable.{k, tickets, event_told, entry_told, entry_at, no_entry}
 use Rattle.ol_wire.proofs.ClosingNodes.{IsLive, Fits, IsMadeFrom, IsLeft, live_after}
 
 some_count : (a : Kind × ℕ) (nodes : List (Option (Kind × ℕ))) → count_by is_some (Some a ∷ nodes) ≡ 1 + count_by is_some nodes

@@ -1,27 +1,22 @@
 -- The table of closed words: its views hold nothing, and its words are what they will be.
-use Rattle.std.proofs.Common.{◌≡◌, ◌≢◌, ℕ, zero, suc, ◌+◌, ◌<◌, ◌≤◌, ◌==◌, nat_eq, nat_lt, eq-eqb, ne_eqb, lt-ltb, if◌then◌else◌, Bool, true, false, List, [], ◌∷◌, ◌++◌, length, map, get_or, slice_index, Some, None, ◌⊎◌, inl, inr, refl, sym, ap, ◌∙◌, subst, arith}
+use Rattle.std.proofs.Common.{◌≡◌, ℕ, zero, suc, ◌+◌, ◌<◌, ◌≤◌, nat_lt, eq-eqb, lt-ltb, if◌then◌else◌, false, List, [], ◌∷◌, ◌++◌, length, get_or, slice_index, Some, None, inl, inr, refl, sym, ap, ◌∙◌, arith}
 use Rattle.std.specs.Prelude.{slice_get}
 use Rattle.std.proofs.lemmas.Bool.{cases_eq, cases_lt}
 use Rattle.std.proofs.lemmas.Bool.Decides.{nat_tests}
-use Rattle.std.proofs.lemmas.List.{get_or_past}
-use Rattle.std.proofs.lemmas.Option.{slice_get-get_or, slice_get_within}
 use mathlib.Core.Option.{some, some-injective, some-ne-none}
 use lib.ListN.{get_elem?}
-use Rattle.ol_edges.specs.Edges.{IsIn}
-use Rattle.ol_rules.specs.declared.journal.Entry.{Entry}
 use Rattle.ol_rules.specs.Listed.{each}
 use Rattle.ol_wire.specs.declared.layout.Parts.{Parts}
-use Rattle.ol_wire.specs.declared.plan.Plan.{Plan}
 use Rattle.ol_wire.specs.declared.view.Link.{Link}
 use Rattle.ol_wire.specs.declared.view.View.{View}
 use Rattle.ol_wire.specs.References.{place_in}
 use Rattle.ol_wire.specs.Layout.{block, size}
 use Rattle.ol_wire.specs.Events.{Event, event_of, entry_of, earlier, later}
-use Rattle.ol_wire.specs.Weights.{total, pairs, numbered, weigh, Empties}
-use Rattle.ol_wire.specs.Edges.{edges_in, edges_of, is_reached, links_in, pending_in}
+use Rattle.ol_wire.specs.Weights.{total, pairs, Empties}
+use Rattle.ol_wire.specs.Edges.{links_in, pending_in}
 use Rattle.ol_wire.specs.Rule.{Table, IsView, Kept, entries_of}
 use Rattle.ol_wire.specs.Closed.{ClosedTable, IsClosed, events_in, event_at, journal_in}
-use Rattle.ol_wire.proofs.Held.{spot, spot_same, spot_else, weigh_spot, total_at}
+use Rattle.ol_wire.proofs.Held.{spot, spot_else, weigh_spot, total_at}
 use Rattle.ol_wire.proofs.ClosingEntry.{entry_read}
 use Rattle.ol_wire.proofs.ClosingLists.{whole, same_words, one_each, none_each, each_map}
 

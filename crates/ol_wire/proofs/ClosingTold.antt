@@ -1,23 +1,21 @@
 -- What closed words tell of the run.
-use Rattle.std.proofs.Common.{◌≡◌, ℕ, ◌+◌, ◌<◌, ◌≤◌, true, List, [], ◌∷◌, Some, ◌⊎◌, inl, inr, refl, sym, ap, ◌∙◌, subst, arith}
+use Rattle.std.proofs.Common.{◌≡◌, ℕ, true, Some, sym, ap, ◌∙◌, subst}
 use Rattle.std.specs.Prelude.{slice_get}
 use Rattle.ol_net.specs.declared.parts.Kind.{Kind}
-use Rattle.ol_net.specs.Nets.{NamedNet, HasNode, IsNet, SameNet}
+use Rattle.ol_net.specs.Nets.{NamedNet, HasNode, SameNet}
 use Rattle.ol_net.specs.Numbered.{net_of}
 use Rattle.ol_rules.specs.declared.journal.NodeName.{NodeName}
 use Rattle.ol_rules.specs.declared.journal.Entry.{Entry}
-use Rattle.ol_rules.specs.Runs.{IsRun, IsComplete, HasActive}
-use Rattle.ol_rules.specs.Laws.{AreNamedBefore}
+use Rattle.ol_rules.specs.Runs.{IsRun, HasActive}
 use Rattle.ol_rules.proofs.Relation.{same_refl}
-use Rattle.ol_rules.proofs.Same.{active_same, complete_same}
+use Rattle.ol_rules.proofs.Same.{active_same}
 use Rattle.ol_rules.proofs.StartNets as starts
 use Rattle.ol_wire.specs.declared.view.View.{View}
-use Rattle.ol_wire.specs.Layout.{cells_of}
 use Rattle.ol_wire.specs.Weights.{pairs, numbered}
 use Rattle.ol_wire.specs.Rule.{start_net}
 use Rattle.ol_wire.specs.Closed.{ClosedTable, IsClosed, events_in, journal_in}
 use Rattle.ol_wire.specs.Standing.{IsStarted, IsOfEntry, AreOnce, IsAfter}
-use Rattle.ol_wire.proofs.ClosingTable.{z, s, k, all_in, tickets, journal_told}
+use Rattle.ol_wire.proofs.ClosingTable.{all_in, tickets, journal_told}
 use Rattle.ol_wire.proofs.ClosingRun.{one_end, each_once, gone_at_end}
 
 module _ (w : ClosedTable) (c : IsClosed w) where

@@ -1,11 +1,10 @@
-use Rattle.std.proofs.Common.{◌≡◌, ℕ, ◌<◌, ◌≤◌, ◌+◌, Some, None, sym, ap, ◌∙◌, subst, arith, slice_index}
-use Rattle.std.specs.Prelude.{slice_get}
+use Rattle.std.proofs.Common.{◌≡◌, ℕ, ◌<◌, ◌+◌, Some, sym, ap, ◌∙◌, subst, arith, slice_index}
 use Rattle.ol_rules.specs.declared.journal.Entry.{Entry}
 use Rattle.ol_wire.specs.declared.layout.Parts.{Parts}
 use Rattle.ol_wire.specs.References.{place_in}
 use Rattle.ol_wire.specs.Layout.{block}
 use Rattle.ol_wire.specs.Events.{event_of, entry_of}
-use Rattle.ol_wire.specs.Closed.{ClosedTable, IsClosed, events_in}
+use Rattle.ol_wire.specs.Closed.{ClosedTable, IsClosed}
 use Rattle.ol_wire.proofs.ClosingTable.{place_small, entry_at, no_entry}
 use Rattle.ol_wire.proofs.closed.Words.journal.Goals as goal
 

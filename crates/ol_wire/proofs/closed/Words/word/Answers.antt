@@ -1,4 +1,4 @@
-use Rattle.std.proofs.Common.{◌≡◌, ℕ, ◌<◌, List, length, ap, subst, slice_index}
+use Rattle.std.proofs.Common.{◌≡◌, ◌<◌, length, subst, slice_index}
 use Rattle.core.specs.Mem.Slots.{slots_items}
 use Rattle.ol_wire.specs.Closed.{ClosedTable}
 use Rattle.ol_wire.proofs.ClosingTable.{got}

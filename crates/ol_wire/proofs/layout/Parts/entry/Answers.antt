@@ -1,4 +1,4 @@
-use Rattle.std.proofs.Common.{◌≡◌, ◌<◌, ◌∙◌, sym, ap, subst}
+use Rattle.std.proofs.Common.{◌<◌, sym, subst}
 use Rattle.ol_wire.specs.References.{place_in}
 use Rattle.ol_wire.specs.Events.{Event}
 use Rattle.ol_wire.proofs.ClosingEntry.{event_small}
