@@ -7,7 +7,6 @@ use Rattle.ol_wire.specs.declared.layout.Parts.{Parts}
 use Rattle.ol_wire.specs.Layout.{Part, ticket, port, field, wire, between, left, right, entry, part_of, port_word, start_node, start_wire, start_cell, block, size, place_of, born_wire, born_cell, left_word, cells_of}
 use Rattle.ol_wire.proofs.Places.{part_port, part_field, part_wire, part_between, part_entry, part_start_cell, part_born_cell, is_left}
 
-
 module _ (z : Parts) where
   abbrev pub IsCellWord : ℕ → Type 0
   IsCellWord n = (c : ℕ) × (c < cells_of z) × (left_word z c ≡ n)

@@ -15,6 +15,7 @@ use Rattle.ol_wire.specs.Events.{Event, event_of, entry_of, earlier, later}
 use Rattle.ol_wire.specs.Weights.{total, pairs, Empties}
 use Rattle.ol_wire.specs.Edges.{links_in, pending_in}
 use Rattle.ol_wire.specs.Rule.{Table, IsView, Kept, entries_of}
+use Rattle.ol_wire.specs.Views.{IsSpent}
 use Rattle.ol_wire.specs.Closed.{ClosedTable, IsClosed, events_in, event_at, journal_in}
 use Rattle.ol_wire.proofs.Held.{spot, spot_else, weigh_spot, total_at}
 use Rattle.ol_wire.proofs.ClosingEntry.{entry_read}
@@ -24,7 +25,6 @@ pub got : (l : List ℕ) (i x : ℕ) → get_elem? l i ≡ some x → (i < lengt
 got [] i x e = absurd (some-ne-none x (sym e))
 got (y ∷ ys) zero x e = (omega arith, sym (some-injective y x e))
 got (y ∷ ys) (suc i) x e = let h = got ys i x e in (omega (arith, h.0), h.1)
-
 
 abbrev at_spot : ℕ → ℕ → ℕ → ℕ
 at_spot w = spot w (λ y. y)
@@ -54,7 +54,7 @@ module _ (w : ClosedTable) (c : IsClosed w) where
   k = c.kept
 
   -- what a view that did nothing has none of is all in the one view
-  pub all_in : (f : View → ℕ) → ((v : View) → v.holds ≡ 0 → v ≡ record { claimed = []; published = []; made = []; last = (0, 0); over = false; holds = 0; taken = []; known = []; due = []; pending = []; dead = []; swept = 0; parts = v.parts; seats = v.seats } → f v ≡ 0) → total f s.views ≡ f w.view
+  pub all_in : (f : View → ℕ) → ((v : View) → v.holds ≡ 0 → IsSpent v → f v ≡ 0) → total f s.views ≡ f w.view
   all_in f h = whole f (λ (v : View). v.holds) s.views c.id w.view c.seat (λ i u e o. h u o (k.seats.spent u (i, e) o)) (k.seats.all ∙ sym c.all)
 
   none_held : (h : ℕ → ℕ → ℕ) → total (λ (v : View). pairs h v.due + pairs h v.taken) s.views ≡ 0

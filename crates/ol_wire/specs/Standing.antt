@@ -8,6 +8,7 @@ use Rattle.ol_net.specs.Replace.{top_index_of}
 use Rattle.ol_rules.specs.declared.journal.NodeName.{NodeName}
 use Rattle.ol_rules.specs.declared.journal.NodeName.TheVariants.{Init, Born}
 use Rattle.ol_rules.specs.declared.journal.Entry.{Entry}
+use Rattle.ol_rules.specs.Runs.{IsRun}
 use Rattle.ol_wire.specs.declared.layout.Parts.{Parts}
 use Rattle.ol_wire.specs.declared.plan.Plan.{Plan}
 use Rattle.ol_wire.specs.References.{place_in, IsNodeRef, IsRef, IsWhole}
@@ -16,10 +17,10 @@ use Rattle.ol_wire.specs.Sizes.{IsSmall}
 use Rattle.ol_wire.specs.Blocks.{copies_of_f, copies_of_g}
 use Rattle.ol_wire.specs.Edges.{edges_in}
 use Rattle.ol_wire.specs.Stands.{Stands}
-use Rattle.ol_rules.specs.Runs.{IsRun}
 use Rattle.ol_wire.specs.Rule.{IsPlaced, start_net}
 use Rattle.ol_wire.specs.Closed.{ClosedTable, events_in, event_at, journal_in}
 
+-- a wire of the start, or one that a ticket made
 abbrev pub IsWirePart : Part → Type 0
 IsWirePart (wire j) = Unit {0}
 IsWirePart (between t q p) = Unit {0}

@@ -3,6 +3,8 @@
 
 mod closed;
 mod closing;
+#[cfg(test)]
+mod closing_tests;
 mod holding;
 mod law;
 mod laying;

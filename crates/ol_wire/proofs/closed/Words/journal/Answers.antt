@@ -27,5 +27,5 @@ returns c =
     let one : c.at-first.result ≡ slice_index w.words (block z c.args.k) = c.at-first.ensures ∙ ap (slice_index w.words) start in
     let two : c.at-second.result ≡ slice_index w.words (block z c.args.k + 1) = c.at-second.ensures ∙ ap (λ n. slice_index w.words (n + 1)) start in
     let entry : c.entry.result ≡ entry_of z (event_of (slice_index w.words (block z c.args.k)) (slice_index w.words (block z c.args.k + 1))) =
-        c.entry.ensures ∙ ap (λ z. entry_of z (event_of c.at-first.result c.at-second.result)) parts ∙ ap (λ x. entry_of z (event_of x c.at-second.result)) one ∙ ap (λ x. entry_of z (event_of (slice_index w.words (block z c.args.k)) x)) two in
+    c.entry.ensures ∙ ap (λ z. entry_of z (event_of c.at-first.result c.at-second.result)) parts ∙ ap (λ x. entry_of z (event_of x c.at-second.result)) one ∙ ap (λ x. entry_of z (event_of (slice_index w.words (block z c.args.k)) x)) two in
     ap (λ (e : Entry). Some e) entry ∙ sym (entry_at z w.words c.args.k (omega (arith, c.events.ensures)))
