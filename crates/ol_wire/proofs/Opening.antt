@@ -7,7 +7,7 @@ use Rattle.atomic_table.specs.Table.{opening}
 use Rattle.ol_edges.specs.Edges.{IsIn}
 use Rattle.ol_net.specs.Graph.{Graph, IsTabled, kind_at}
 use Rattle.ol_net.specs.Indexes.{HasIndexes}
-use Rattle.ol_net.specs.Nets.{NamedNet, net_under}
+use Rattle.ol_net.specs.Nets.{NamedNet, net_under, IsNet}
 use Rattle.ol_net.specs.Numbered.{net_of}
 use Rattle.ol_net.specs.Replace.{top_index_of}
 use Rattle.ol_net.proofs.Numbered.{has_node, net_is_net}
@@ -64,6 +64,7 @@ and_first false b h = h
 
 -- The net is laid out in these words, with blocks for so many tickets, and is small enough.
 pub record IsStart (net : Graph) (fuel : ℕ) (z : Parts) (words : List ℕ) : Type 0 where
+  pub is_net : IsNet (net_of net)
   pub whole : count_by is_some net.nodes ≡ length net.nodes
   pub parts : AreParts net fuel z
   pub small : IsSmall z
@@ -181,7 +182,7 @@ module _ (p : Plan) (fuel : ℕ) (words : List ℕ) (is : IsStart p.start.value 
 
   plan_keeps : PlanKeeps p
   plan_keeps = record {
-    whole = is.whole;
+    started = record { net = is.is_net; whole = is.whole; low = is.low };
     parts = record { free = is.parts.free; nodes = is.parts.nodes; wires = is.parts.wires; cells = is.parts.cells; fuel = refl };
     small = is.small;
     seats = (some_seat, few_seats);

@@ -7,6 +7,7 @@ use Rattle.ol_edges.specs.Edges.{IsIn, bit}
 use Rattle.ol_net.specs.declared.parts.Kind.{Kind}
 use Rattle.ol_net.specs.Nets.{NamedNet, HasNode, IsNet, net_under}
 use Rattle.ol_net.specs.Numbered.{net_of}
+use Rattle.ol_net.specs.Replace.{top_index_of}
 use Rattle.ol_net.specs.Parts.{arity, is_eraser}
 use Rattle.ol_rules.specs.declared.journal.NodeName.{NodeName}
 use Rattle.ol_rules.specs.declared.journal.NodeName.TheVariants.{Init, Born}
@@ -69,9 +70,15 @@ pub record Drawn (fuel word tickets : ℕ) : Type 0 where
   pub below : word < fuel → tickets ≡ word
   pub above : fuel ≤ word → tickets ≡ fuel
 
--- In the start net all numbers are those of live nodes. The parts are those of this net, and so small that each number fits its word.
-pub record PlanKeeps (p : Plan) : Type 0 where
+-- The start is a net, all its numbers are those of live nodes, and no index is great.
+pub record IsStarted (p : Plan) : Type 0 where
+  pub net : IsNet (net_of p.start.value)
   pub whole : count_by is_some p.start.value.nodes ≡ length p.start.value.nodes
+  pub low : top_index_of p.start.value.nodes ≤ 1000000
+
+-- The parts are those of this net, and so small that each number fits its word.
+pub record PlanKeeps (p : Plan) : Type 0 where
+  pub started : IsStarted p
   pub parts : AreParts p.start.value p.parts.fuel p.parts
   pub small : IsSmall p.parts
   pub seats : (0 < p.seats) × (p.seats ≤ 64)

@@ -236,6 +236,7 @@ pub(crate) fn lay(alloc: Global, net: &Net, fuel: u32) -> Result<(Parts, Vec<u64
     ensures words { IfOk result (λ r. vec_len r.1 ≡ size r.0) }
     ensures kept { IfOk result (λ r. (p : Plan) → p.parts ≡ r.0 → p.start.value ≡ net.now → 0 < p.seats → p.seats ≤ 64 → Kept p (opening r.1.items [] (opener p))) }
 {
+    net.is_net();
     net.is_tabled();
     let (parts, words) = lay_out(alloc, net, fuel)?;
     Ok((parts, words))

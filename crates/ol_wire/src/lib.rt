@@ -1,12 +1,18 @@
 //! The shared words: a net laid out in words that any number of threads rewrite by single atomic steps.
 #![tactic(auto)]
 
+mod closed;
+mod closing;
+#[cfg(test)]
+mod closing_tests;
 mod holding;
 mod law;
 mod laying;
 #[cfg(test)]
 mod laying_tests;
 mod layout;
+mod naming;
+mod outcome;
 mod plan;
 mod promise;
 mod reference;
@@ -17,6 +23,7 @@ mod stepping;
 mod turning;
 mod view;
 
+pub use closed::Words;
 pub use holding::Hold;
 pub use law::Law;
 pub use layout::Parts;

@@ -8,6 +8,7 @@ returns-clause-words c = c.in_ok-parts.words.ok.0 ∙ c.in_ok-parts.ensures.laid
 pub returns-clause-kept : goal.returns-clause-kept
 returns-clause-kept c =
     let is : IsStart c.args.net.now c.args.fuel c.in_ok-parts.parts c.in_ok-parts.words.items = record {
+      is_net = c.is_net.ensures.net;
       whole = c.requires.whole;
       parts = c.in_ok-parts.ensures.parts;
       small = c.in_ok-parts.ensures.small;
