@@ -153,7 +153,7 @@ module _ (p : Plan) (s : Table) (k : Kept p s) (id : ℕ) (v w : View) (i x : �
   cells_keep : CellsKeep p there k.log k.from full
   cells_keep = record {
     tickets = k.cells.tickets;
-    used = λ t a at. let h = k.cells.used t a at in (h.0, h.1, c.same a (not_ticket a h.0) ∙ h.2);
+    used = λ t a at. let h = k.cells.used t a at in (h.0, h.1, c.same a (not_ticket a h.0) ∙ h.2, (λ e is. moved (λ y. (y ≡ e.f) ⊎ (y ≡ e.g)) (suc a) (omega arith) (h.3 e is)));
     unpublished = λ u l is. viewed Unpublished unpublished_new unpublished_old u is l;
     one_link = λ a. let e = total_same (λ (u : View). links_at a u.pending) (ap (links_at a) c.pending) in omega (arith, e, k.cells.one_link a);
     link_refs = λ u l is. viewed (λ u'. (l' : Link) → IsIn l' u'.pending → IsMadeRef p.parts k.log l'.one × IsMadeRef p.parts k.log l'.two) (with_pending (λ (ls : List Link). (l' : Link) → IsIn l' ls → IsMadeRef p.parts k.log l'.one × IsMadeRef p.parts k.log l'.two) (λ l' m. k.cells.link_refs v l' seen m)) (λ u' is' l' m. k.cells.link_refs u' l' is' m) u is l;

@@ -147,7 +147,7 @@ module _ (p : Plan) (s : Table) (k : Kept p s) (id : ℕ) (v : View) (here : get
       not_start = λ c lt. not_start c lt at.before_cells;
       same_word = same_word;
       made_ref = other_made;
-      unused = λ t w e. not_left w (k.cells.used t w e).0;
+      unused = λ t w e. not_cell w (k.cells.used t w e).0;
       lasts = λ o ne. absurd (linked_not_lasting (part_of z u) at.part o);
       cells = λ w is ne. let d = not_cell w is in
           let e = get_or-set_other k.full u w b 0 d.0 in

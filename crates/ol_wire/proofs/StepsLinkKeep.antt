@@ -43,7 +43,7 @@ pub record LinkStep (p : Plan) (s : Table) (k : Kept p s) (id : ℕ) (v : View) 
   pub not_start : (c : ℕ) → c < p.parts.cells → (start_cell p.parts c ≢ i) × (suc (start_cell p.parts c) ≢ i)
   pub same_word : get_or k.full i 0 ≡ get_or s.words i 0
   pub made_ref : IsMadeRef p.parts k.log x
-  pub unused : (t w : ℕ) → slice_get k.from t ≡ Some w → w ≢ i
+  pub unused : (t w : ℕ) → slice_get k.from t ≡ Some w → (w ≢ i) × (suc w ≢ i)
   pub lasts : IsLasting (part_of p.parts i) → get_or s.words i 0 ≢ 0 → x ≡ get_or s.words i 0
   pub cells : (w : ℕ) → part_of p.parts w ≡ left → get_or (set k.full i x) w 0 ≢ 0 → IsNodeRef (get_or (set k.full i x) w 0) × IsNodeRef (get_or (set k.full i x) (suc w) 0)
   -- the view
@@ -205,7 +205,9 @@ module _ (p : Plan) (s : Table) (k : Kept p s) (id : ℕ) (v : View) (i x : ℕ)
   cells_keep : CellsKeep p there k.log k.from full
   cells_keep = record {
     tickets = k.cells.tickets;
-    used = λ t a at. let h = k.cells.used t a at in (h.0, h.1, stays (λ y. y ≡ 0) a (c.unused t a at) h.2);
+    used = λ t a at. let h = k.cells.used t a at in
+        let d = c.unused t a at in
+        (h.0, h.1, stays (λ y. y ≡ 0) a d.0 h.2, (λ e is. stays (λ y. (y ≡ e.f) ⊎ (y ≡ e.g)) (suc a) d.1 (h.3 e is)));
     unpublished = λ u l is. viewed Open open_new open_old u is l;
     one_link = λ a. omega (arith, k.cells.one_link a, c.fewer a, total_set (λ (u : View). links_at a u.pending) s.views id v w here);
     link_refs = λ u l is. viewed (λ u'. (l' : Link) → IsIn l' u'.pending → IsMadeRef z k.log l'.one × IsMadeRef z k.log l'.two) c.link_refs (λ j u' d e l' m. k.cells.link_refs u' l' (j, e) m) u is l;

@@ -123,7 +123,7 @@ module _ (p : Plan) (s : Table) (k : Kept p s) (id : ℕ) (v : View) (here : get
     not_start = λ c lt. let h = not_start p s k id v here l ls pending c lt in (h.2, (λ e. h.0 (omega (arith, e))));
     same_word = right_written;
     made_ref = (ends_made p s k id v here l ls pending).1;
-    unused = λ t w e. left_of w (k.cells.used t w e).0;
+    unused = λ t w e. (left_of w (k.cells.used t w e).0, (λ q. (cell_open p s k id v here l ls pending).3 t w e (omega (arith, q))));
     lasts = λ o ne. was (cell_open p s k id v here l ls pending).2 ne;
     cells = cells_after;
     nothing_due = due;
@@ -231,7 +231,7 @@ module _ (p : Plan) (s : Table) (k : Kept p s) (id : ℕ) (v : View) (here : get
       not_start = λ c lt. let h = not_start p s k id v here l ls pending c lt in (h.0, h.1);
       same_word = left_written;
       made_ref = (ends_made p s k id v here l ls pending).0;
-      unused = (cell_open p s k id v here l ls pending).3;
+      unused = λ t w e. ((cell_open p s k id v here l ls pending).3 t w e, right_of w (k.cells.used t w e).0);
       lasts = λ o ne. absurd (subst IsLasting is_cell o);
       cells = cells_after;
       nothing_due = due;

@@ -114,10 +114,11 @@ pub record WordsKeep (p : Plan) (s : Table) (log : List Event) (full : List ℕ)
   -- what a view knows stands there
   pub known : (v : View) (w y : ℕ) → IsView s v → IsIn (w, y) v.known → (slice_index s.words w ≡ y) × (y ≢ 0) × IsLasting (part_of p.parts w)
 
--- The cells. `from` has, for each ticket, the left word of the cell whose pair it rewrote; that cell stays empty.
+-- The cells. `from` has, for each ticket, the left word of the cell whose pair it rewrote; that word stays empty, and the right word stays one of
+-- the two nodes.
 pub record CellsKeep (p : Plan) (s : Table) (log : List Event) (from full : List ℕ) : Type 0 where
   pub tickets : length from ≡ length log
-  pub used : (t w : ℕ) → slice_get from t ≡ Some w → (part_of p.parts w ≡ left) × (w < block p.parts t) × (slice_index full w ≡ 0)
+  pub used : (t w : ℕ) → slice_get from t ≡ Some w → (part_of p.parts w ≡ left) × (w < block p.parts t) × (slice_index full w ≡ 0) × ((e : Event) → slice_get log t ≡ Some e → (slice_index full (suc w) ≡ e.f) ⊎ (slice_index full (suc w) ≡ e.g))
   -- a cell whose join is a pending link hasn't been published, and has no other pending link
   pub unpublished : (v : View) (l : Link) → IsView s v → IsIn l v.pending → (part_of p.parts l.cell ≡ left) × (slice_index full l.cell ≡ 0) × IsRightOf v l (slice_index full (suc l.cell)) × ((t w : ℕ) → slice_get from t ≡ Some w → w ≢ l.cell)
   pub one_link : (w : ℕ) → total (λ (v : View). links_at w v.pending) s.views ≤ 1
