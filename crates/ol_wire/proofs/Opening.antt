@@ -28,7 +28,7 @@ use Rattle.ol_wire.specs.Starts.{AreParts}
 use Rattle.ol_wire.specs.Events as events
 use Rattle.ol_wire.specs.Edges.{is_wire_made, is_made, is_reached, deaths, edge_in, edges_in, edges_of}
 use Rattle.ol_wire.specs.Stands.{Stands}
-use Rattle.ol_wire.specs.Rule.{Table, Kept, PlanKeeps, JournalKeeps, WordsKeep, CellsKeep, SeatsKeep, IsPlaced, IsView, opener}
+use Rattle.ol_wire.specs.Rule.{Table, Kept, PlanKeeps, JournalKeeps, WordsKeep, CellsKeep, SeatsKeep, IsPlaced, IsView, filled, opener}
 use Rattle.ol_wire.specs.Laid.{IsLaid}
 use Rattle.ol_wire.proofs.Places.{part_wire, is_wire}
 use Rattle.ol_wire.proofs.OpeningPorts.{index_low, node_inside}
@@ -162,6 +162,7 @@ module _ (p : Plan) (fuel : ℕ) (words : List ℕ) (is : IsStart p.start.value 
     one_link = λ w. omega arith;
     link_refs = λ v l h i. absurd (none_pending v l h i);
     swept = λ v c h lt. absurd (let e = ap (λ (u : View). u.swept) (view_is v h) in omega (arith, lt, e));
+    published = λ w h le. omega (arith, ap filled (is.laid.blocks w le));
   }
 
   seats_keep : SeatsKeep p start [] N

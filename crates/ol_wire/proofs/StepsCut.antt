@@ -17,7 +17,7 @@ use Rattle.ol_wire.specs.Layout.{left, part_of, place_of, block, size}
 use Rattle.ol_wire.specs.Edges.{is_reached, is_made, times, edges_of, edges_in, pending_in, links_in}
 use Rattle.ol_wire.specs.Stands.{Stands}
 use Rattle.ol_wire.specs.Views.{past_fuel, IsSpent}
-use Rattle.ol_wire.specs.Plays.{fewer, one_seat}
+use Rattle.ol_wire.specs.Plays.{fewer, one_seat, cell_at}
 use Rattle.ol_wire.specs.Rule.{Table, Kept, WordsKeep, CellsKeep, SeatsKeep, IsView, IsLasting, IsOwn, IsRightOf, IsMadeRef, IsInOwnBlock, links_at}
 use Rattle.ol_wire.proofs.StepsKeep.{IsSwept}
 use Rattle.core.specs.Prelude.{slice_get}
@@ -70,6 +70,7 @@ module _ (p : Plan) (id : ℕ) (v : View) (two : 1 < v.holds) (under : v.over �
     one_link = λ a. let e = total_same (λ (u : View). links_at a u.pending) (omega arith) in omega (arith, e, k.cells.one_link a);
     link_refs = λ u l is m. viewed (λ u'. IsIn l u'.pending → IsMadeRef p.parts k.log l.one × IsMadeRef p.parts k.log l.two) (λ m'. k.cells.link_refs v l seen m') (λ m'. elim m' [ ]) (λ u' is' m'. k.cells.link_refs u' l is' m') u is m;
     swept = λ u n is. viewed (λ u'. n < u'.swept → IsSwept p k.full u' n) (λ lt. absurd (omega (arith, lt, unswept))) (λ lt. absurd (omega (arith, lt))) (λ u' is' lt. k.cells.swept u' n is' lt) u is;
+    published = λ a is le. let e = total_same (λ (u : View). times (cell_at p.parts a) u.published) (omega arith) in omega (arith, e, k.cells.published a is le);
   }
 
   seats_keep : SeatsKeep p cut k.log k.net

@@ -20,7 +20,7 @@ use Rattle.ol_wire.specs.Edges.{is_reached, is_made, deaths, times, edges_of, ed
 use Rattle.ol_wire.specs.Events.{IsStuckPair}
 use Rattle.ol_wire.specs.Stands.{Stands}
 use Rattle.ol_wire.specs.Views.{fresh, past_fuel, IsSpent, IsIdle}
-use Rattle.ol_wire.specs.Plays.{joined, emptied}
+use Rattle.ol_wire.specs.Plays.{joined, emptied, cell_at}
 use Rattle.ol_wire.specs.LinkPlays.{no_parts, spent_view}
 use Rattle.ol_wire.specs.Rule.{Table, Kept, WordsKeep, CellsKeep, SeatsKeep, IsView, IsLasting, IsOwn, IsMadeRef, IsRightOf, IsInOwnBlock, links_at}
 use Rattle.ol_wire.proofs.Alike.{total_append}
@@ -93,6 +93,9 @@ module _ (p : Plan) (id : ℕ) (v : View) (other : ℕ) (w : View) (parts : Part
     one_link = λ a. let e = total_same (λ (u : View). links_at a u.pending) (omega (arith, ap (links_at a) idle'.2)) in omega (arith, e, k.cells.one_link a);
     link_refs = λ u l is. viewed (λ u'. IsIn l u'.pending → IsMadeRef p.parts k.log l.one × IsMadeRef p.parts k.log l.two) (λ m. absurd (no_more l v.pending idle.2 m)) (λ m. elim m [ ]) (λ u' is'. k.cells.link_refs u' l is') u is;
     swept = λ u c is. viewed (λ u'. c < u'.swept → Swept u' c) (λ lt. absurd (omega (arith, lt))) (λ lt. absurd (omega (arith, lt))) (λ u' is'. k.cells.swept u' c is') u is;
+    published = λ a is le.
+        let e = total_same (λ (u : View). times (cell_at p.parts a) u.published) (omega (arith, total_append (λ y. if nat_eq y (cell_at p.parts a) then 1 else 0) v.published w.published)) in
+        omega (arith, e, k.cells.published a is le);
   }
 
   seats_keep : SeatsKeep p glued k.log k.net

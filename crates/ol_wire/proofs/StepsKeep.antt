@@ -22,7 +22,8 @@ use Rattle.ol_wire.specs.Layout.{Part, left, part_of, place_of, start_node, bloc
 use Rattle.ol_wire.specs.Edges.{is_reached, is_made, deaths, times, edges_of, edges_in, pending_in, links_in}
 use Rattle.ol_wire.specs.Stands.{Stands}
 use Rattle.ol_wire.specs.Views.{past_fuel, IsSpent}
-use Rattle.ol_wire.specs.Rule.{Table, Kept, JournalKeeps, WordsKeep, CellsKeep, SeatsKeep, Drawn, IsView, IsLasting, IsOwn, IsRightOf, IsMadeRef, IsInOwnBlock, links_at}
+use Rattle.ol_wire.specs.Plays.{cell_at}
+use Rattle.ol_wire.specs.Rule.{Table, Kept, JournalKeeps, WordsKeep, CellsKeep, SeatsKeep, Drawn, IsView, IsLasting, IsOwn, IsRightOf, IsMadeRef, IsInOwnBlock, links_at, filled}
 use Rattle.ol_wire.proofs.StepsLists.{total_set, each_set, edges_same, pending_set}
 
 -- one word and one view are set
@@ -46,6 +47,7 @@ pub record Change (p : Plan) (s : Table) (k : Kept p s) (v w : View) (i x : ℕ)
   pub holds : w.holds ≡ v.holds
   pub parts : (w.parts ≡ v.parts) × (w.seats ≡ v.seats)
   pub made : w.made ≡ v.made
+  pub published : w.published ≡ v.published
   pub pending : w.pending ≡ v.pending
   pub dead : w.dead ≡ v.dead
   -- the words as they would be, but for the ticket word
@@ -85,8 +87,8 @@ module _ (p : Plan) (s : Table) (k : Kept p s) (id : ℕ) (v w : View) (i x : �
   moved : (P : ℕ → Type 0) (u : ℕ) → 0 < u → P (get_or k.full u 0) → P (get_or full u 0)
   moved P u lt = subst P (sym (c.same u lt))
 
-  filled : (u : ℕ) → 0 < u → get_or full u 0 ≢ 0 → get_or k.full u 0 ≢ 0
-  filled u lt ne e = ne (c.same u lt ∙ e)
+  some_before : (u : ℕ) → 0 < u → get_or full u 0 ≢ 0 → get_or k.full u 0 ≢ 0
+  some_before u lt ne e = ne (c.same u lt ∙ e)
 
   two_moved : (P : ℕ → ℕ → Type 0) (u : ℕ) → 0 < u → P (get_or k.full u 0) (get_or k.full (suc u) 0) → P (get_or full u 0) (get_or full (suc u) 0)
   two_moved P u lt h = subst (λ (y : ℕ). P y (get_or full (suc u) 0)) (sym (c.same u lt)) (subst (P (get_or k.full u 0)) (sym (c.same (suc u) (omega arith))) h)
@@ -141,8 +143,8 @@ module _ (p : Plan) (s : Table) (k : Kept p s) (id : ℕ) (v w : View) (i x : �
     wide = length-set s.words i x ∙ k.words.wide;
     full_wide = c.wide ∙ k.words.full_wide;
     written = λ h z. omega (arith, c.written h z, k.words.written h z, total_set (λ (u : View). pairs h u.due + pairs h u.taken) s.views id v w here);
-    refs = λ u lt ne. moved (IsMadeRef p.parts k.log) u lt (k.words.refs u lt (filled u lt ne));
-    cells = λ u l ne. two_moved (λ y y'. IsNodeRef y × IsNodeRef y') u (not_ticket u l) (k.words.cells u l (filled u (not_ticket u l) ne));
+    refs = λ u lt ne. moved (IsMadeRef p.parts k.log) u lt (k.words.refs u lt (some_before u lt ne));
+    cells = λ u l ne. two_moved (λ y y'. IsNodeRef y × IsNodeRef y') u (not_ticket u l) (k.words.cells u l (some_before u (not_ticket u l) ne));
     fields = λ n a lt few. c.same (start_node p.parts n + a) (omega arith) ∙ k.words.fields n a lt few;
     starts = λ n m at. two_moved (λ y y'. ((y ≡ 0) ⊎ (y ≡ node_word p.start.value p.parts m.0)) × (y' ≡ node_word p.start.value p.parts m.1)) (start_cell p.parts n) (omega arith) (k.words.starts n m at);
     fresh = λ u le. c.same u (omega arith) ∙ k.words.fresh u le;
@@ -158,6 +160,9 @@ module _ (p : Plan) (s : Table) (k : Kept p s) (id : ℕ) (v w : View) (i x : �
     one_link = λ a. let e = total_same (λ (u : View). links_at a u.pending) (ap (links_at a) c.pending) in omega (arith, e, k.cells.one_link a);
     link_refs = λ u l is. viewed (λ u'. (l' : Link) → IsIn l' u'.pending → IsMadeRef p.parts k.log l'.one × IsMadeRef p.parts k.log l'.two) (with_pending (λ (ls : List Link). (l' : Link) → IsIn l' ls → IsMadeRef p.parts k.log l'.one × IsMadeRef p.parts k.log l'.two) (λ l' m. k.cells.link_refs v l' seen m)) (λ u' is' l' m. k.cells.link_refs u' l' is' m) u is l;
     swept = λ u n is. viewed (λ u'. (n' : ℕ) → n' < u'.swept → IsSwept p full u' n') swept_new swept_old u is n;
+    published = λ a is le.
+        let e = total_same (λ (u : View). times (cell_at p.parts a) u.published) (ap (times (cell_at p.parts a)) c.published) in
+        omega (arith, e, k.cells.published a is le, ap filled (c.same a (not_ticket a is)));
   }
 
   abbrev Due : View → Type 0

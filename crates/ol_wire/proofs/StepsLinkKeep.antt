@@ -21,10 +21,11 @@ use Rattle.ol_wire.specs.Layout.{left, part_of, place_of, start_node, start_cell
 use Rattle.ol_wire.specs.Weights.{total, pairs, weigh, Empties}
 use Rattle.ol_wire.specs.Events.{IsStuckPair}
 use Rattle.ol_wire.specs.Blocks.{block_words}
-use Rattle.ol_wire.specs.Edges.{is_reached, is_made, deaths, edges_of, links_in}
+use Rattle.ol_wire.specs.Edges.{is_reached, is_made, deaths, times, edges_of, links_in}
 use Rattle.ol_wire.specs.Stands.{Stands}
 use Rattle.ol_wire.specs.Views.{past_fuel, IsSpent}
-use Rattle.ol_wire.specs.Rule.{Table, Kept, Drawn, WordsKeep, CellsKeep, SeatsKeep, IsView, IsLasting, IsOwn, IsMadeRef, IsRightOf, IsInOwnBlock, links_at}
+use Rattle.ol_wire.specs.Plays.{cell_at}
+use Rattle.ol_wire.specs.Rule.{Table, Kept, Drawn, WordsKeep, CellsKeep, SeatsKeep, IsView, IsLasting, IsOwn, IsMadeRef, IsRightOf, IsInOwnBlock, links_at, filled}
 use Rattle.ol_wire.proofs.Places.{part_field, part_entry}
 use Rattle.ol_wire.proofs.StepsKeep.{after}
 use Rattle.ol_wire.proofs.StepsLists.{total_set, weigh_set}
@@ -53,6 +54,7 @@ pub record LinkStep (p : Plan) (s : Table) (k : Kept p s) (id : ℕ) (v : View) 
   pub unpublished : (l : Link) → IsIn l pending → (get_or (set k.full i x) l.cell 0 ≡ 0) × IsRightOf v l (get_or (set k.full i x) (suc l.cell) 0)
   pub link_refs : (l : Link) → IsIn l pending → IsMadeRef p.parts k.log l.one × IsMadeRef p.parts k.log l.two
   pub fewer : (w : ℕ) → links_at w pending ≤ links_at w v.pending
+  pub published_once : (w : ℕ) → part_of p.parts w ≡ left → times (cell_at p.parts w) published + filled (get_or k.full w 0) ≡ times (cell_at p.parts w) v.published + filled (get_or (set k.full i x) w 0)
   -- no other link and no cell that was swept has the word
   pub others : (j : ℕ) (u : View) (l : Link) → j ≢ id → get_elem? s.views j ≡ some u → IsIn l u.pending → (l.cell ≢ i) × (suc l.cell ≢ i)
   pub swept : (c : ℕ) → c < v.swept → (left_word p.parts c ≢ i) × (suc (left_word p.parts c) ≢ i)
@@ -212,6 +214,7 @@ module _ (p : Plan) (s : Table) (k : Kept p s) (id : ℕ) (v : View) (i x : ℕ)
     one_link = λ a. omega (arith, k.cells.one_link a, c.fewer a, total_set (λ (u : View). links_at a u.pending) s.views id v w here);
     link_refs = λ u l is. viewed (λ u'. (l' : Link) → IsIn l' u'.pending → IsMadeRef z k.log l'.one × IsMadeRef z k.log l'.two) c.link_refs (λ j u' d e l' m. k.cells.link_refs u' l' (j, e) m) u is l;
     swept = λ u a is. viewed Swept swept_new swept_old u is a;
+    published = λ a is le. omega (arith, k.cells.published a is le, c.published_once a is, total_set (λ (u : View). times (cell_at z a) u.published) s.views id v w here);
   }
 
   none_due : (a y : ℕ) → IsIn {X = ℕ × ℕ} (a, y) v.due → ⊥

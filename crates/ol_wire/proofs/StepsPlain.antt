@@ -59,6 +59,7 @@ module _ (p : Plan) (s : Table) (k : Kept p s) (id : ℕ) (v : View) (here : get
       holds = refl;
       parts = (refl, refl);
       made = refl;
+      published = refl;
       pending = refl;
       dead = refl;
       wide = refl;
@@ -83,6 +84,7 @@ module _ (p : Plan) (s : Table) (k : Kept p s) (id : ℕ) (v : View) (here : get
       holds = refl;
       parts = (refl, refl);
       made = refl;
+      published = refl;
       pending = refl;
       dead = refl;
       wide = refl;
@@ -119,6 +121,7 @@ module _ (p : Plan) (s : Table) (k : Kept p s) (id : ℕ) (v : View) (here : get
       holds = refl;
       parts = (refl, refl);
       made = refl;
+      published = refl;
       pending = refl;
       dead = refl;
       wide = refl;
@@ -161,6 +164,7 @@ module _ (p : Plan) (s : Table) (k : Kept p s) (id : ℕ) (v : View) (here : get
       holds = refl;
       parts = (refl, refl);
       made = refl;
+      published = refl;
       pending = refl;
       dead = refl;
       wide = refl;
@@ -201,6 +205,7 @@ module _ (p : Plan) (s : Table) (k : Kept p s) (id : ℕ) (v : View) (here : get
       holds = refl;
       parts = (refl, refl);
       made = refl;
+      published = refl;
       pending = refl;
       dead = refl;
       wide = length-set k.full 0 more;

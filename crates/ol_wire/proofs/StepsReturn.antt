@@ -53,6 +53,7 @@ module _ (p : Plan) (s : Table) (k : Kept p s) (id : ℕ) (v : View) (here : get
       holds = refl;
       parts = (refl, refl);
       made = refl;
+      published = refl;
       pending = refl;
       dead = refl;
       wide = refl;

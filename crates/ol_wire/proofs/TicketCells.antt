@@ -15,10 +15,11 @@ use Rattle.ol_wire.specs.declared.view.View.{View}
 use Rattle.ol_wire.specs.References.{index_in}
 use Rattle.ol_wire.specs.Layout.{left, part_of, block, place_of, born_cell, left_word, cells_of}
 use Rattle.ol_wire.specs.Weights.{total}
+use Rattle.ol_wire.specs.Edges.{times}
 use Rattle.ol_wire.specs.Events.{Event, rule_between, acting, event_of, IsStuckPair}
 use Rattle.ol_wire.specs.Blocks.{joins_in, link_of, links_of}
 use Rattle.ol_wire.specs.Plays.{cell_at, cell_in_hand, swept_on, event_in, IsLookedUp, ticketed}
-use Rattle.ol_wire.specs.Rule.{Table, IsView, IsMadeRef, IsRightOf, Kept, CellsKeep, links_at}
+use Rattle.ol_wire.specs.Rule.{Table, IsView, IsMadeRef, IsRightOf, Kept, CellsKeep, links_at, times_published, filled}
 use Rattle.ol_wire.proofs.References.{index_of_ref}
 use Rattle.ol_wire.proofs.Alike.{total_append}
 use Rattle.ol_wire.proofs.Claimed.{IsNodeAt, IsCellPair, cell_pair}
@@ -354,6 +355,25 @@ module _ (p : Plan) (s : Table) (k : Kept p s) (id : ℕ) (v : View) (here : get
       let all_held = (k.cells.swept u c (j, at) lt).0 in
       absurd (omega (arith, all_held, two_at (λ (x : View). x.holds) s.views j id u v d at here, k.seats.all, ready.held))
 
+  -- the cell is empty where its pair was, and is among those that were used once more
+  published : (u : ℕ) → part_of z u ≡ left → block z 0 ≤ u → times_published z u s'.views ≡ filled (slice_index full' u) + times u from'
+  published u is le = elim (cases_eq u w) [
+    | inl q ↦
+        let one : one_if (nat_eq w u) ≡ 1 = ap one_if (eq-eqb w u (sym q)) in
+        let was : filled (slice_index k.full u) ≡ 1 = ap (λ b. if b then 0 else 1) (ne_eqb (slice_index k.full u) 0 (λ o. left_some (ap (slice_index k.full) (sym q) ∙ o))) in
+        let now : filled (slice_index full' u) ≡ 0 = ap filled (ap (slice_index full') q ∙ cell_gone) in
+        omega (arith, same_views, k.cells.published u is le, more, one, was, now)
+    | inr d ↦
+        let none_new : one_if (nat_eq w u) ≡ 0 = ap one_if (ne_eqb w u (λ q. d (sym q))) in
+        omega (arith, same_views, k.cells.published u is le, more, none_new, ap filled (left_word_still u is d))
+  ]
+    where
+      same_views : times_published z u s'.views ≡ times_published z u s.views
+      same_views = omega (arith, total_set (λ (v : View). times (cell_at z u) v.published) s.views id v (ticketed v t) here)
+
+      more : times u from' ≡ times u k.from + one_if (nat_eq w u)
+      more = omega (arith, total_append (λ x. if nat_eq x u then 1 else 0) k.from (w ∷ []))
+
   pub cells_after : CellsKeep p s' log' from' full'
   cells_after = record {
     tickets = from_length;
@@ -362,4 +382,5 @@ module _ (p : Plan) (s : Table) (k : Kept p s) (id : ℕ) (v : View) (here : get
     one_link = one_link;
     link_refs = λ u l is. viewed LinkRefs link_refs_new link_refs_old u is l;
     swept = λ u c is. by_place Swept s.views id (ticketed v t) swept_new swept_old is.0 u is.1 c;
+    published = published;
   }

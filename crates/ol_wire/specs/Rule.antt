@@ -1,5 +1,5 @@
 -- What holds of the words and the views between any two steps.
-use Rattle.std.specs.Prelude.{◌≡◌, ◌≢◌, ℕ, suc, ◌+◌, ◌<◌, ◌≤◌, ◌⊎◌, true, nat_eq, if◌then◌else◌, List, [], length, map, is_some, count_by, Some, slice_index, slice_get}
+use Rattle.std.specs.Prelude.{◌≡◌, ◌≢◌, ℕ, suc, ◌+◌, ◌<◌, ◌≤◌, ◌==◌, ◌⊎◌, true, nat_eq, if◌then◌else◌, List, [], length, map, is_some, count_by, Some, slice_index, slice_get}
 use mathlib.Core.Option.{some}
 use lib.ListN.{get_elem?}
 use Rattle.atomic_table.specs.Table.{State}
@@ -24,9 +24,10 @@ use Rattle.ol_wire.specs.Weights.{total, pairs, numbered, weigh, Empties}
 use Rattle.ol_wire.specs.Events.{Event, rule_between, entry_of, IsStuckPair, IsPlayed}
 use Rattle.ol_wire.specs.Blocks.{block_words}
 use Rattle.ol_wire.specs.Sizes.{IsSmall}
-use Rattle.ol_wire.specs.Edges.{is_made, is_reached, deaths, edges_of, links_in}
+use Rattle.ol_wire.specs.Edges.{is_made, is_reached, times, deaths, edges_of, links_in}
 use Rattle.ol_wire.specs.Stands.{Stands}
 use Rattle.ol_wire.specs.Views.{fresh, IsSpent, past_fuel}
+use Rattle.ol_wire.specs.Plays.{cell_at}
 
 abbrev pub Table : Type 0
 Table = State (Unit {0}) View
@@ -45,6 +46,14 @@ IsView s v = (id : ℕ) × (get_elem? s.views id ≡ some v)
 -- how many links are those of the cell with left word w
 abbrev pub links_at : ℕ → List Link → ℕ
 links_at w links = total (λ (l : Link). if nat_eq l.cell w then 1 else 0) links
+
+-- how often the cell with left word w was published
+abbrev pub times_published : Parts → ℕ → List View → ℕ
+times_published z w views = total (λ (v : View). times (cell_at z w) v.published) views
+
+-- whether a word holds something, as a number
+abbrev pub filled : ℕ → ℕ
+filled word = if word == 0 then 0 else 1
 
 -- a name that a node may have after so many tickets
 abbrev pub IsPlaced : Parts → ℕ → NodeName → Type 0
@@ -125,6 +134,8 @@ pub record CellsKeep (p : Plan) (s : Table) (log : List Event) (from full : List
   pub link_refs : (v : View) (l : Link) → IsView s v → IsIn l v.pending → IsMadeRef p.parts log l.one × IsMadeRef p.parts log l.two
   -- no cell that was swept holds an active pair, and none will be published
   pub swept : (v : View) (c : ℕ) → IsView s v → c < v.swept → (v.holds ≡ p.seats) × ((slice_index full (left_word p.parts c) ≡ 0) ⊎ IsStuckPair (slice_index full (left_word p.parts c)) (slice_index full (suc (left_word p.parts c)))) × ((l : Link) → IsIn l v.pending → l.cell ≢ left_word p.parts c)
+  -- a pair stands in the cell of a block, or was rewritten, as often as the cell is in a view's list of those that it published
+  pub published : (w : ℕ) → part_of p.parts w ≡ left → block p.parts 0 ≤ w → times_published p.parts w s.views ≡ filled (slice_index full w) + times w from
 
 -- a word of the block of a ticket that the view has drawn
 abbrev pub IsInOwnBlock : Parts → View → ℕ → Type 0
