@@ -30,6 +30,7 @@ pub mod TicketWords
 pub mod TicketDrawn
 pub mod TicketNumbers
 pub mod TicketCells
+pub mod TicketFields
 pub mod TicketSeats
 pub mod Reached
 pub mod Ticket

@@ -8,6 +8,7 @@ use Rattle.atomic_table.specs.Table.{Joins}
 use Rattle.atomic_table.proofs.Lists.{set_else}
 use Rattle.ol_edges.specs.Edges.{IsIn}
 use Rattle.ol_rules.specs.declared.journal.Entry.{Entry}
+use Rattle.ol_rules.specs.declared.journal.NodeName.{NodeName}
 use Rattle.ol_rules.specs.Runs.{HasActive}
 use Rattle.ol_wire.specs.declared.layout.Parts.{Parts}
 use Rattle.ol_wire.specs.declared.plan.Plan.{Plan}
@@ -15,14 +16,14 @@ use Rattle.ol_wire.specs.declared.view.Link.{Link}
 use Rattle.ol_wire.specs.declared.view.View.{View}
 use Rattle.ol_wire.specs.References.{node_ref}
 use Rattle.ol_wire.specs.Weights.{total, pairs}
-use Rattle.ol_wire.specs.Layout.{left, part_of, place_of, size, left_word}
+use Rattle.ol_wire.specs.Layout.{field, left, part_of, place_of, size, left_word}
 use Rattle.ol_wire.specs.Edges.{is_reached, is_made, deaths, times, edges_of, edges_in, pending_in, links_in}
 use Rattle.ol_wire.specs.Events.{IsStuckPair}
 use Rattle.ol_wire.specs.Stands.{Stands}
 use Rattle.ol_wire.specs.Views.{fresh, past_fuel, IsSpent, IsIdle}
 use Rattle.ol_wire.specs.Plays.{joined, emptied, cell_at}
 use Rattle.ol_wire.specs.LinkPlays.{no_parts, spent_view}
-use Rattle.ol_wire.specs.Rule.{Table, Kept, WordsKeep, CellsKeep, SeatsKeep, IsView, IsLasting, IsOwn, IsMadeRef, IsRightOf, IsInOwnBlock, links_at}
+use Rattle.ol_wire.specs.Rule.{Table, Kept, WordsKeep, CellsKeep, SeatsKeep, IsView, IsLasting, IsOwn, IsMadeRef, IsRightOf, IsInOwnBlock, links_at, IsLinkedField}
 use Rattle.ol_wire.proofs.Alike.{total_append}
 use Rattle.ol_wire.proofs.StepsLists.{total_set, each_set, pending_set, one_below}
 
@@ -110,6 +111,7 @@ module _ (p : Plan) (id : ℕ) (v : View) (other : ℕ) (w : View) (parts : Part
     links = λ u l is. viewed (λ u'. IsIn l u'.pending → IsInOwnBlock p.parts u' l.cell) (λ m. absurd (no_more l v.pending idle.2 m)) (λ m. elim m [ ]) (λ u' is'. k.seats.links u' l is') u is;
     hidden = λ u n kind j a y is has lt. viewed (λ u'. IsIn (place_of p.parts n + a, y) u'.due → (d : ℕ) × IsIn (node_ref kind j (place_of p.parts n), d) (links_in u'.pending))
         (λ m. absurd (no_more {A = ℕ × ℕ} (place_of p.parts n + a, y) v.due idle.1 m)) (λ m. elim m [ ]) (λ u' is'. k.seats.hidden u' n kind j a y is' has lt) u is;
+    due_fields = λ u a y n b is. viewed (λ u'. IsIn (a, y) u'.due → part_of p.parts a ≡ field n b → IsLinkedField p.parts k.net u'.pending n b) (λ m e. absurd (no_more {A = ℕ × ℕ} (a, y) v.due idle.1 m)) (λ m e. elim m [ ]) (λ u' is'. k.seats.due_fields u' a y n b is') u is;
     made = λ h. total_same (λ (u : View). pairs h u.made) (omega (arith, total_append (λ (e : ℕ × Entry). h e.0 e.1) v.made w.made)) ∙ k.seats.made h;
     dead = λ a. omega (arith, same_deaths a, k.seats.dead a);
   }

@@ -6,6 +6,7 @@ use Rattle.ol_edges.specs.Edges.{IsIn}
 use Rattle.core.specs.Prelude.{slice_get}
 use Rattle.ol_net.specs.Nets.{HasNode}
 use Rattle.ol_net.specs.Parts.{arity}
+use Rattle.ol_rules.specs.declared.journal.NodeName.{NodeName}
 use Rattle.ol_rules.specs.Runs.{HasActive}
 use Rattle.ol_rules.specs.declared.journal.Entry.{Entry}
 use Rattle.ol_wire.specs.declared.layout.Parts.{Parts}
@@ -18,12 +19,12 @@ use Rattle.ol_wire.specs.Blocks.{block_words}
 use Rattle.ol_wire.specs.declared.plan.Plan.{Plan}
 use Rattle.ol_wire.specs.declared.view.View.{View}
 use Rattle.ol_wire.specs.Weights.{total, pairs, weigh, Empties}
-use Rattle.ol_wire.specs.Layout.{Part, left, part_of, place_of, start_node, block, size, start_cell, left_word, born_cell}
+use Rattle.ol_wire.specs.Layout.{Part, field, left, part_of, place_of, start_node, block, size, start_cell, left_word, born_cell}
 use Rattle.ol_wire.specs.Edges.{is_reached, is_made, deaths, times, edges_of, edges_in, pending_in, links_in}
 use Rattle.ol_wire.specs.Stands.{Stands}
 use Rattle.ol_wire.specs.Views.{past_fuel, IsSpent}
 use Rattle.ol_wire.specs.Plays.{cell_at}
-use Rattle.ol_wire.specs.Rule.{Table, Kept, JournalKeeps, WordsKeep, CellsKeep, SeatsKeep, Drawn, IsView, IsLasting, IsOwn, IsRightOf, IsMadeRef, IsInOwnBlock, links_at, filled}
+use Rattle.ol_wire.specs.Rule.{Table, Kept, JournalKeeps, WordsKeep, CellsKeep, SeatsKeep, Drawn, IsView, IsLasting, IsOwn, IsRightOf, IsMadeRef, IsInOwnBlock, links_at, filled, IsLinkedField}
 use Rattle.ol_wire.proofs.StepsLists.{total_set, each_set, edges_same, pending_set}
 
 -- one word and one view are set
@@ -171,6 +172,12 @@ module _ (p : Plan) (s : Table) (k : Kept p s) (id : ℕ) (v w : View) (i x : �
   abbrev Links : View → Type 0
   Links u = (l : Link) → IsIn l u.pending → IsInOwnBlock p.parts u l.cell
 
+  abbrev Fields : View → Type 0
+  Fields u = (a y : ℕ) (n : NodeName) (b : ℕ) → IsIn (a, y) u.due → part_of p.parts a ≡ field n b → IsLinkedField p.parts k.net u.pending n b
+
+  fields_new : Fields w
+  fields_new a y n b m is = with_pending (λ (ls : List Link). IsLinkedField p.parts k.net ls n b) (k.seats.due_fields v a y n b seen (c.due a y m) is)
+
   seats_keep : SeatsKeep p there k.log k.net
   seats_keep = record {
     all = total_same (λ (u : View). u.holds) c.holds ∙ k.seats.all;
@@ -184,6 +191,7 @@ module _ (p : Plan) (s : Table) (k : Kept p s) (id : ℕ) (v w : View) (i x : �
     hidden = λ u n kind j a y is. viewed (λ u'. HasNode k.net n kind j → a < arity kind → IsIn (place_of p.parts n + a, y) u'.due → (d : ℕ) × IsIn (node_ref kind j (place_of p.parts n), d) (links_in u'.pending))
         (λ has lt m. with_pending (λ (ls : List Link). (d : ℕ) × IsIn (node_ref kind j (place_of p.parts n), d) (links_in ls)) (k.seats.hidden v n kind j a y seen has lt (c.due (place_of p.parts n + a) y m)))
         (λ u' is' has lt m. k.seats.hidden u' n kind j a y is' has lt m) u is;
+    due_fields = λ u a y n b is. viewed Fields fields_new (λ u' is' a' y' n' b'. k.seats.due_fields u' a' y' n' b' is') u is a y n b;
     made = λ h. total_same (λ (u : View). pairs h u.made) (ap (pairs h) c.made) ∙ k.seats.made h;
     dead = λ a. let e = total_same (λ (u : View). times a u.dead) (ap (times a) c.dead) in omega (arith, e, k.seats.dead a);
   }

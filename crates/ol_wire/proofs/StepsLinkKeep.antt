@@ -9,6 +9,7 @@ use Rattle.ol_edges.specs.Edges.{IsIn, bit}
 use Rattle.ol_net.specs.Nets.{HasNode}
 use Rattle.ol_net.specs.Parts.{arity}
 use Rattle.ol_rules.specs.declared.journal.NodeName.TheVariants.{Init, Born}
+use Rattle.ol_rules.specs.declared.journal.NodeName.{NodeName}
 use Rattle.ol_rules.specs.Runs.{HasActive}
 use Rattle.ol_wire.specs.declared.layout.Parts.{Parts}
 use Rattle.ol_wire.specs.declared.plan.Plan.{Plan}
@@ -17,7 +18,7 @@ use Rattle.ol_wire.specs.declared.view.View.{View}
 use Rattle.ol_wire.specs.References.{node_ref, IsNodeRef}
 use Rattle.ol_wire.specs.Starts.{facing_pairs}
 use Rattle.ol_wire.specs.Laid.{node_word, field_of}
-use Rattle.ol_wire.specs.Layout.{left, part_of, place_of, start_node, start_cell, left_word, block, size}
+use Rattle.ol_wire.specs.Layout.{field, left, part_of, place_of, start_node, start_cell, left_word, block, size}
 use Rattle.ol_wire.specs.Weights.{total, pairs, weigh, Empties}
 use Rattle.ol_wire.specs.Events.{IsStuckPair}
 use Rattle.ol_wire.specs.Blocks.{block_words}
@@ -25,7 +26,7 @@ use Rattle.ol_wire.specs.Edges.{is_reached, is_made, deaths, times, edges_of, li
 use Rattle.ol_wire.specs.Stands.{Stands}
 use Rattle.ol_wire.specs.Views.{past_fuel, IsSpent}
 use Rattle.ol_wire.specs.Plays.{cell_at}
-use Rattle.ol_wire.specs.Rule.{Table, Kept, Drawn, WordsKeep, CellsKeep, SeatsKeep, IsView, IsLasting, IsOwn, IsMadeRef, IsRightOf, IsInOwnBlock, links_at, filled}
+use Rattle.ol_wire.specs.Rule.{Table, Kept, Drawn, WordsKeep, CellsKeep, SeatsKeep, IsView, IsLasting, IsOwn, IsMadeRef, IsRightOf, IsInOwnBlock, links_at, filled, IsLinkedField}
 use Rattle.ol_wire.proofs.Places.{part_field, part_entry}
 use Rattle.ol_wire.proofs.StepsKeep.{after}
 use Rattle.ol_wire.proofs.StepsLists.{total_set, weigh_set}
@@ -238,6 +239,7 @@ module _ (p : Plan) (s : Table) (k : Kept p s) (id : ℕ) (v : View) (i x : ℕ)
     links = λ u l is. viewed InOwn in_own (λ j u' d e l' m. k.seats.links u' l' (j, e) m) u is l;
     hidden = λ u n kind j a y is. viewed (λ u'. HasNode k.net n kind j → a < arity kind → IsIn (place_of z n + a, y) u'.due → (d : ℕ) × IsIn (node_ref kind j (place_of z n), d) (links_in u'.pending))
         (λ has lt m. absurd (none_due (place_of z n + a) y m)) (λ j' u' d e. k.seats.hidden u' n kind j a y (j', e)) u is;
+    due_fields = λ u a y n b is. viewed (λ u'. IsIn (a, y) u'.due → part_of z a ≡ field n b → IsLinkedField z k.net u'.pending n b) (λ m e. absurd (none_due a y m)) (λ j u' d e. k.seats.due_fields u' a y n b (j, e)) u is;
     made = λ h. total_same (λ (u : View). pairs h u.made) refl ∙ k.seats.made h;
     dead = c.dead_once;
   }

@@ -1,5 +1,5 @@
 -- The seats after a ticket below the fuel.
-use Rattle.std.proofs.Common.{◌≡◌, ◌≢◌, ℕ, ◌+◌, ◌-◌, ◌/◌, ◌%◌, ◌<◌, ◌≤◌, if◌then◌else◌, nat_lt, lt-ltb, inl, inr, Bool, true, false, List, [], ◌∷◌, ◌++◌, length, slice_index, slice_get, sym, refl, ap, ◌∙◌, subst, arith}
+use Rattle.std.proofs.Common.{◌≡◌, ◌≢◌, ℕ, ◌+◌, ◌-◌, ◌/◌, ◌%◌, ◌<◌, ◌≤◌, ◌↔◌, if◌then◌else◌, nat_lt, lt-ltb, inl, inr, Bool, true, false, List, [], ◌∷◌, ◌++◌, length, slice_index, slice_get, sym, refl, ap, ◌∙◌, subst, arith}
 use Rattle.std.proofs.lemmas.Bool.{cases_lt}
 use Rattle.std.proofs.lemmas.Bool.Decides.{nat_tests}
 use mathlib.Core.Option.{some}
@@ -39,6 +39,8 @@ use Rattle.ol_wire.proofs.TicketRefs.{arity_few, ref_same}
 use Rattle.ol_wire.proofs.TicketDrawn.{entries_length}
 use Rattle.ol_wire.proofs.TicketWords as words
 use Rattle.ol_wire.proofs.TicketCells as cells
+use Rattle.ol_wire.proofs.TicketFields.{crossing_of, from_same, copy_of_f, copy_of_g}
+use Rattle.ol_wire.proofs.TicketFields as fields
 
 -- a wire that was made stays made
 crosses_still : (log : List Event) (e : Event) (t q p : ℕ) → bit (crosses_at (slice_get log t) q p) ≤ bit (crosses_at (slice_get (log ++ e ∷ []) t) q p)
@@ -62,58 +64,11 @@ entries_more : (z : Parts) (log : List Event) (e : Event) → entries_of z (log 
 entries_more z [] e = refl
 entries_more z (x ∷ log) e = ap (λ l. entry_of z x ∷ l) (entries_more z log e)
 
--- the ends of a link of a list are an edge
-link_edge : (l : Link) (ls : List Link) → IsIn l ls → IsIn (l.one, l.two) (links_in ls)
-link_edge l [] h = h
-link_edge l (x ∷ ls) (inl q) = inl (ap (λ (l : Link). (l.one, l.two)) q)
-link_edge l (x ∷ ls) (inr h) = inr (link_edge l ls h)
-
--- what an action that crosses says of the rule
-crossing_of : (r : Rule) (j n : ℕ) → action_of r j ≡ rewriting.crossing n → (is_meeting r ≡ false) × (index_after r j ≡ n)
-crossing_of r j n q = go (is_meeting r) q
-  where
-    go : (b : Bool) → (if b then rewriting.meeting else rewriting.crossing (index_after r j)) ≡ rewriting.crossing n → (b ≡ false) × (index_after r j ≡ n)
-    go true q = absurd (cc)
-    go false q = (refl, cc)
-
--- in a crossing the reference of each born node is the first end of a link
-module _ (z : Parts) (e : Event) (t : ℕ) (a b : ℕ → ℕ) (crosses : is_meeting e.rule ≡ false) where
-  copies_f : copies_of_f e ≡ arity (kind_in e.g)
-  copies_f = ap (λ m. if m then 0 else arity (kind_in e.g)) crosses
-
-  joins_are : joins_in e ≡ arity (kind_in e.g) + arity (kind_in e.f)
-  joins_are = ap (λ m. if m then arity (kind_in e.f) else (if m then 0 else arity (kind_in e.g)) + (if m then 0 else arity (kind_in e.f))) crosses
-
-  first_end : (n : ℕ) → n < joins_in e → (d : ℕ) × IsIn (born_ref z e t n, d) (links_in (links_of z e t a b))
-  first_end n lt =
-      let l = link_of z e t a b n in
-      let i : IsIn (l.one, l.two) (links_in (links_of z e t a b)) = link_edge l (links_of z e t a b) (in_each l (joins_in e) (λ j. link_of z e t a b j ∷ []) n lt (inl refl)) in
-      let q : l.one ≡ born_ref z e t n = ap (λ m. if m then a n else born_ref z e t n) crosses in
-      (l.two, subst (λ x. IsIn (x, l.two) (links_in (links_of z e t a b))) q i)
-
-  pub copy_of_f : (n : ℕ) → n < arity (kind_in e.g) → (d : ℕ) × IsIn (node_ref (kind_in e.f) (index_in e.f) (place_of z (Born t n)), d) (links_in (links_of z e t a b))
-  copy_of_f n lt =
-      let r = first_end n (omega (arith, joins_are, lt)) in
-      let q : born_ref z e t n ≡ node_ref (kind_in e.f) (index_in e.f) (place_of z (Born t n)) = ap (λ m. if m then node_ref (kind_in e.f) (index_in e.f) (place_of z (Born t n)) else node_ref (kind_in e.g) (index_after e.rule (index_in e.g)) (place_of z (Born t n))) (lt-ltb n (copies_of_f e) (omega (arith, copies_f, lt))) in
-      (r.0, subst (λ x. IsIn (x, r.0) (links_in (links_of z e t a b))) q r.1)
-
-  pub copy_of_g : (n : ℕ) → n < arity (kind_in e.f) → (d : ℕ) × IsIn (node_ref (kind_in e.g) (index_after e.rule (index_in e.g)) (place_of z (Born t (arity (kind_in e.g) + n))), d) (links_in (links_of z e t a b))
-  copy_of_g n lt =
-      let m = arity (kind_in e.g) + n in
-      let r = first_end m (omega (arith, joins_are, lt)) in
-      let o : nat_lt m (copies_of_f e) ≡ false = let c = copies_f in grind (arith, nat_tests) in
-      let q : born_ref z e t m ≡ node_ref (kind_in e.g) (index_after e.rule (index_in e.g)) (place_of z (Born t m)) = ap (λ x. if x then node_ref (kind_in e.f) (index_in e.f) (place_of z (Born t m)) else node_ref (kind_in e.g) (index_after e.rule (index_in e.g)) (place_of z (Born t m))) o in
-      (r.0, subst (λ x. IsIn (x, r.0) (links_in (links_of z e t a b))) q r.1)
-
--- an edge from an end that is written in another way
-from_same : (r q : ℕ) (es : List (ℕ × ℕ)) → r ≡ q → (d : ℕ) × IsIn (r, d) es → (d : ℕ) × IsIn (q, d) es
-from_same r q es same h = (h.0, subst (λ r. IsIn (r, h.0) es) same h.1)
-
 -- M is a net whose nodes are those after the step of x and y, which the event names.
 module _ (p : Plan) (s : Table) (k : Kept p s) (id : ℕ) (v : View) (here : get_elem? s.views id ≡ some v) (w : ℕ) (ready : IsLookedUp v w) (low : slice_index s.words 0 < p.parts.fuel)
     (M : NamedNet NodeName) (x y : NodeName) (kf kg : Kind) (i j : ℕ) (faces : Faces k.net x y kf i kg j)
     (f_is : (event_in v).f ≡ node_ref kf i (place_of p.parts x)) (g_is : (event_in v).g ≡ node_ref kg j (place_of p.parts y))
-    (nodes : (u : NodeName) (m : Kind) (c : ℕ) → HasNode M u m c → NodeOf k.net (λ place. Born (slice_index s.words 0) place) x y kf i kg (action_of (event_in v).rule j) u m c) where
+    (nodes : (u : NodeName) (m : Kind) (c : ℕ) → HasNode M u m c ↔ NodeOf k.net (λ place. Born (slice_index s.words 0) place) x y kf i kg (action_of (event_in v).rule j) u m c) where
   abbrev z : Parts
   z = p.parts
 
@@ -217,7 +172,7 @@ module _ (p : Plan) (s : Table) (k : Kept p s) (id : ℕ) (v : View) (here : get
   hidden_new : Due (ticketed v t)
   hidden_new n m c l y' h lt at =
       let due : IsIn (place_of z n + l, y') (to_write (block z t) (block_words z e t)) = subst (λ ds. IsIn (place_of z n + l, y') ds) (words.due_is p s k id v here w ready low) at in
-      let r = hidden_born n m c l y' (nodes n m c h) lt (to_write_from (block z t) (block_words z e t) (place_of z n + l) y' due) in
+      let r = hidden_born n m c l y' ((nodes n m c).0 h) lt (to_write_from (block z t) (block_words z e t) (place_of z n + l) y' due) in
       (r.0, subst (λ ls. IsIn (node_ref m c (place_of z n), r.0) (links_in ls)) (sym (words.pending_is p s k id v here w ready low)) r.1)
 
   -- what another view has to write stands below the block
@@ -233,7 +188,7 @@ module _ (p : Plan) (s : Table) (k : Kept p s) (id : ℕ) (v : View) (here : get
   was_there u m c (rewriting.of_g jj acts small) lt = absurd (omega arith)
 
   hidden_old : (u : View) → IsView s u → Due u
-  hidden_old u is n m c l y' h lt at = k.seats.hidden u n m c l y' is (was_there n m c (nodes n m c h) (omega (arith, below u (place_of z n + l) y' is at))) lt at
+  hidden_old u is n m c l y' h lt at = k.seats.hidden u n m c l y' is (was_there n m c ((nodes n m c).0 h) (omega (arith, below u (place_of z n + l) y' is at))) lt at
 
   total_same : (g : View → ℕ) → g (ticketed v t) ≡ g v → total g s'.views ≡ total g s.views
   total_same g q = omega (arith, q, total_set g s.views id v (ticketed v t) here)
@@ -268,6 +223,7 @@ module _ (p : Plan) (s : Table) (k : Kept p s) (id : ℕ) (v : View) (here : get
     due = λ u n y' is. viewed Owns owns_new (λ u o n y'. k.seats.due u n y' o) u is n y';
     links = λ u l is. viewed Links links_new (λ u o l. k.seats.links u l o) u is l;
     hidden = λ u n m c l y' is. viewed Due hidden_new hidden_old u is n m c l y';
+    due_fields = fields.due_fields_after p s k id v here w ready low M x y kf kg i j faces f_is g_is nodes;
     made = made;
     dead = dead;
   }

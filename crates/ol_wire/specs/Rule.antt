@@ -141,6 +141,10 @@ pub record CellsKeep (p : Plan) (s : Table) (log : List Event) (from full : List
 abbrev pub IsInOwnBlock : Parts → View → ℕ → Type 0
 IsInOwnBlock z v w = (t : ℕ) × (x : Entry) × IsIn (t, x) v.made × IsInBlock z t w
 
+-- slot c + 1 of a node of the net whose reference is an end of one of these links
+abbrev pub IsLinkedField : Parts → NamedNet NodeName → List Link → NodeName → ℕ → Type 0
+IsLinkedField z net links x c = (k : Kind) × (i : ℕ) × HasNode net x k i × (c < arity k) × (d : ℕ) × IsIn (node_ref k i (place_of z x), d) (links_in links)
+
 -- The seats, and what each view holds, which is known to it alone.
 pub record SeatsKeep (p : Plan) (s : Table) (log : List Event) (net : NamedNet NodeName) : Type 0 where
   pub all : total (λ (v : View). v.holds) s.views ≡ p.seats
@@ -155,6 +159,8 @@ pub record SeatsKeep (p : Plan) (s : Table) (log : List Event) (net : NamedNet N
   pub links : (v : View) (l : Link) → IsView s v → IsIn l v.pending → IsInOwnBlock p.parts v l.cell
   -- the only reference to a node whose fields aren't written is the view's own
   pub hidden : (v : View) (x : NodeName) (k : Kind) (i c y : ℕ) → IsView s v → HasNode net x k i → c < arity k → IsIn (place_of p.parts x + c, y) v.due → (d : ℕ) × (IsIn (node_ref k i (place_of p.parts x), d) (links_in v.pending))
+  -- and each field that a view has to write is one of such a node
+  pub due_fields : (v : View) (w y : ℕ) (x : NodeName) (c : ℕ) → IsView s v → IsIn (w, y) v.due → part_of p.parts w ≡ field x c → IsLinkedField p.parts net v.pending x c
   -- each ticket below the fuel is one view's
   pub made : (h : ℕ → Entry → ℕ) → total (λ (v : View). pairs h v.made) s.views ≡ numbered h 0 (entries_of p.parts log)
   -- a wire is dead in one view at most, and only where it was made
