@@ -66,7 +66,7 @@ IsLasting (field x s) = Unit {0}
 IsLasting right = Unit {0}
 IsLasting other = ⊥
 
--- a word that the seat with the ticket writes: a field, or a node of the entry
+-- a word that the seat with the ticket writes before it makes links: a field, or a node of the entry
 abbrev pub IsOwn : Part → Type 0
 IsOwn (field x s) = Unit {0}
 IsOwn entry = Unit {0}
@@ -118,7 +118,7 @@ pub record WordsKeep (p : Plan) (s : Table) (log : List Event) (full : List ℕ)
   pub starts : (c : ℕ) (n : ℕ × ℕ) → slice_get (facing_pairs p.start.value) c ≡ Some n → ((slice_index full (start_cell p.parts c) ≡ 0) ⊎ (slice_index full (start_cell p.parts c) ≡ node_word p.start.value p.parts n.0)) × (slice_index full (suc (start_cell p.parts c)) ≡ node_word p.start.value p.parts n.1)
   -- the blocks of tickets that weren't drawn are empty
   pub fresh : (w : ℕ) → block p.parts (length log) ≤ w → slice_index full w ≡ 0
-  -- each other block begins with the nodes of its entry and the fields of the nodes that it made, and the cell of its pair is empty
+  -- each other block begins with the nodes of its entry and the fields of the nodes that it made
   pub entries : (t j : ℕ) (e : Event) → slice_get log t ≡ Some e → j < 10 → slice_index full (block p.parts t + j) ≡ slice_index (block_words p.parts e t) j
   -- what a view knows stands there
   pub known : (v : View) (w y : ℕ) → IsView s v → IsIn (w, y) v.known → (slice_index s.words w ≡ y) × (y ≢ 0) × IsLasting (part_of p.parts w)
@@ -157,9 +157,9 @@ pub record SeatsKeep (p : Plan) (s : Table) (log : List Event) (net : NamedNet N
   -- what a view has to write and to link is in the block of its own ticket
   pub due : (v : View) (w y : ℕ) → IsView s v → IsIn (w, y) v.due → (y ≢ 0) × IsOwn (part_of p.parts w) × IsInOwnBlock p.parts v w
   pub links : (v : View) (l : Link) → IsView s v → IsIn l v.pending → IsInOwnBlock p.parts v l.cell
-  -- the only reference to a node whose fields aren't written is the view's own
+  -- the only edge of a node whose fields aren't written is that of one of the view's own links
   pub hidden : (v : View) (x : NodeName) (k : Kind) (i c y : ℕ) → IsView s v → HasNode net x k i → c < arity k → IsIn (place_of p.parts x + c, y) v.due → (d : ℕ) × (IsIn (node_ref k i (place_of p.parts x), d) (links_in v.pending))
-  -- and each field that a view has to write is one of such a node
+  -- each field that a view has to write is one of a node of the net that such a link names
   pub due_fields : (v : View) (w y : ℕ) (x : NodeName) (c : ℕ) → IsView s v → IsIn (w, y) v.due → part_of p.parts w ≡ field x c → IsLinkedField p.parts net v.pending x c
   -- each ticket below the fuel is one view's
   pub made : (h : ℕ → Entry → ℕ) → total (λ (v : View). pairs h v.made) s.views ≡ numbered h 0 (entries_of p.parts log)
