@@ -5,7 +5,7 @@ use mathlib.Core.Option as option
 use lib.ListN.{get_elem?}
 use Rattle.atomic_table.specs.Table.{opening}
 use Rattle.ol_edges.specs.Edges.{IsIn}
-use Rattle.ol_net.specs.Graph.{Graph, IsTabled, kind_at}
+use Rattle.ol_net.specs.Graph.{Graph, IsTabled}
 use Rattle.ol_net.specs.Indexes.{HasIndexes}
 use Rattle.ol_net.specs.Nets.{NamedNet, net_under}
 use Rattle.ol_net.specs.Numbered.{net_of}

@@ -1,18 +1,17 @@
 -- The fields that the seat of a ticket has to write: each is that of a born node whose reference is an end of one of the ticket's links. The nodes
 -- whose fields another seat has to write aren't rewritten.
-use Rattle.std.proofs.Common.{◌≡◌, ◌≢◌, ℕ, suc, ◌*◌, ◌+◌, ◌-◌, ◌/◌, ◌%◌, ◌<◌, ◌≤◌, ◌↔◌, ◌⊎◌, if◌then◌else◌, nat_lt, lt-ltb, inl, inr, Bool, true, false, List, [], ◌∷◌, ◌++◌, length, slice_index, slice_get, sym, refl, ap, ◌∙◌, subst, arith}
+use Rattle.std.proofs.Common.{◌≡◌, ◌≢◌, ℕ, suc, ◌*◌, ◌+◌, ◌-◌, ◌/◌, ◌%◌, ◌<◌, ◌≤◌, ◌↔◌, ◌⊎◌, if◌then◌else◌, nat_lt, lt-ltb, inl, inr, Bool, true, false, List, [], ◌∷◌, slice_index, sym, refl, ap, ◌∙◌, subst, arith}
 use Rattle.std.proofs.lemmas.Bool.{cases_lt}
 use Rattle.std.proofs.lemmas.Bool.Decides.{nat_tests}
 use mathlib.Core.Option.{some}
 use lib.ListN.{get_elem?}
-use Rattle.ol_edges.specs.Edges.{IsIn, bit}
+use Rattle.ol_edges.specs.Edges.{IsIn}
 use Rattle.ol_net.specs.declared.parts.Kind.{Kind}
 use Rattle.ol_net.specs.declared.parts.Rule.{Rule}
 use Rattle.ol_net.specs.Parts.{arity}
 use Rattle.ol_net.specs.Nets.{NamedNet, HasNode, Faces}
 use Rattle.ol_rules.specs.declared.journal.NodeName.{NodeName}
 use Rattle.ol_rules.specs.declared.journal.NodeName.TheVariants.{Born}
-use Rattle.ol_rules.specs.declared.journal.Entry.{Entry}
 use Rattle.ol_rules.specs.Rewriting.{is_meeting, index_after, action_of, NodeOf}
 use Rattle.ol_rules.specs.Rewriting as rewriting
 use Rattle.ol_rules.proofs.Lists.{in_each}
@@ -21,23 +20,17 @@ use Rattle.ol_wire.specs.declared.plan.Plan.{Plan}
 use Rattle.ol_wire.specs.declared.view.Link.{Link}
 use Rattle.ol_wire.specs.declared.view.View.{View}
 use Rattle.ol_wire.specs.References.{kind_in, index_in, node_ref, wire_ref}
-use Rattle.ol_wire.specs.Layout.{Part, ticket, port, field, wire, between, left, right, entry, past, part_of, block, place_of, born_wire}
-use Rattle.ol_wire.specs.Weights.{total, pairs, numbered}
-use Rattle.ol_wire.specs.Events.{Event, entry_of}
-use Rattle.ol_wire.specs.Edges.{crosses_at, is_wire_made, is_made, times, deaths, links_in}
-use Rattle.ol_wire.specs.Blocks.{copies_of_f, copies_of_g, born_ref, born_field, block_words, to_write, joins_in, link_of, links_of}
+use Rattle.ol_wire.specs.Layout.{field, entry, part_of, block, place_of, born_wire}
+use Rattle.ol_wire.specs.Events.{Event}
+use Rattle.ol_wire.specs.Edges.{links_in}
+use Rattle.ol_wire.specs.Blocks.{copies_of_f, copies_of_g, born_ref, born_field, block_words, joins_in, link_of, links_of}
 use Rattle.ol_wire.specs.Plays.{event_in, IsLookedUp, ticketed}
-use Rattle.ol_wire.specs.Views.{IsSpent}
-use Rattle.ol_wire.specs.Rule.{Table, IsView, IsPlaced, IsOwn, IsInOwnBlock, Kept, SeatsKeep, entries_of, IsLinkedField}
-use Rattle.ol_wire.proofs.Alike.{pairs_append}
+use Rattle.ol_wire.specs.Rule.{Table, IsView, Kept, IsLinkedField}
 use Rattle.ol_wire.proofs.Claimed.{not_pending}
-use Rattle.ol_wire.proofs.Held.{held_full}
-use Rattle.ol_wire.proofs.Places.{place_before, part_entry, part_field}
+use Rattle.ol_wire.proofs.Places.{part_entry, part_field}
 use Rattle.ol_wire.proofs.References.{kind_of_ref, index_of_ref}
-use Rattle.ol_wire.proofs.TicketJournal.{got_before}
-use Rattle.ol_wire.proofs.TicketLists.{total_set, numbered_more, get_past, Written, to_write_from}
-use Rattle.ol_wire.proofs.TicketRefs.{arity_few, ref_same, event_of_pair}
-use Rattle.ol_wire.proofs.TicketDrawn.{entries_length}
+use Rattle.ol_wire.proofs.TicketLists.{to_write_from}
+use Rattle.ol_wire.proofs.TicketRefs.{ref_same, event_of_pair}
 use Rattle.ol_wire.proofs.TicketWords as words
 use Rattle.ol_wire.proofs.LinksNew.{field_told, none_of}
 use Rattle.ol_wire.proofs.WordsAfter.{block_field}
@@ -147,8 +140,8 @@ module _ (p : Plan) (s : Table) (k : Kept p s) (id : ℕ) (v : View) (here : get
           let few : m < arity kg = omega (arith, h.0, ap (λ q. if q then 0 else arity (kind_in e.g)) cross, ap arity g_kind) in
           let slot : c < arity kf = omega (arith, h.1, ap (λ q. if q then 0 else arity (kind_in e.f)) cross, ap arity f_kind) in
           let edge = from_same (node_ref (kind_in e.f) (index_in e.f) (place_of z (Born t m))) (node_ref kf i (place_of z (Born t m))) (links_in ticket_links)
-              (ref_same (kind_in e.f) kf (index_in e.f) i (place_of z (Born t m)) (place_of z (Born t m)) f_kind f_index refl)
-              (copy_of_f z e t a b cross m (omega (arith, few, ap arity g_kind))) in
+          (ref_same (kind_in e.f) kf (index_in e.f) i (place_of z (Born t m)) (place_of z (Born t m)) f_kind f_index refl)
+          (copy_of_f z e t a b cross m (omega (arith, few, ap arity g_kind))) in
           (kf, i, (nodes (Born t m) kf i).1 (rewriting.of_f (index_after e.rule j) (acts cross) few), slot, edge.0, edge.1)
       go (inr h) =
           let cross = none_of (is_meeting e.rule) (arity (kind_in e.g)) c h.2 in
@@ -159,8 +152,8 @@ module _ (p : Plan) (s : Table) (k : Kept p s) (id : ℕ) (v : View) (here : get
           let few : o < arity kf = omega (arith, h.0, h.1, copies, more) in
           let place : place_of z (Born t (arity (kind_in e.g) + o)) ≡ place_of z (Born t m) = ap (λ n. place_of z (Born t n)) (ap (λ q. arity q + o) g_kind ∙ at) in
           let edge = from_same (node_ref (kind_in e.g) (index_after e.rule (index_in e.g)) (place_of z (Born t (arity (kind_in e.g) + o)))) (node_ref kg (index_after e.rule j) (place_of z (Born t m))) (links_in ticket_links)
-              (ref_same (kind_in e.g) kg (index_after e.rule (index_in e.g)) (index_after e.rule j) (place_of z (Born t (arity (kind_in e.g) + o))) (place_of z (Born t m)) g_kind (ap (index_after e.rule) g_index) place)
-              (copy_of_g z e t a b cross o (omega (arith, few, ap arity f_kind))) in
+          (ref_same (kind_in e.g) kg (index_after e.rule (index_in e.g)) (index_after e.rule j) (place_of z (Born t (arity (kind_in e.g) + o))) (place_of z (Born t m)) g_kind (ap (index_after e.rule) g_index) place)
+          (copy_of_g z e t a b cross o (omega (arith, few, ap arity f_kind))) in
           let has : HasNode M (Born t m) kg (index_after e.rule j) = subst (λ n. HasNode M (Born t n) kg (index_after e.rule j)) at ((nodes (Born t (arity kg + o)) kg (index_after e.rule j)).1 (rewriting.of_g (index_after e.rule j) (acts cross) few)) in
           (kg, index_after e.rule j, has, omega (arith, h.2, copies), edge.0, edge.1)
 

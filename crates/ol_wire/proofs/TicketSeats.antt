@@ -1,12 +1,10 @@
 -- The seats after a ticket below the fuel.
-use Rattle.std.proofs.Common.{◌≡◌, ◌≢◌, ℕ, ◌+◌, ◌-◌, ◌/◌, ◌%◌, ◌<◌, ◌≤◌, ◌↔◌, if◌then◌else◌, nat_lt, lt-ltb, inl, inr, Bool, true, false, List, [], ◌∷◌, ◌++◌, length, slice_index, slice_get, sym, refl, ap, ◌∙◌, subst, arith}
+use Rattle.std.proofs.Common.{◌≡◌, ◌≢◌, ℕ, ◌+◌, ◌-◌, ◌/◌, ◌%◌, ◌<◌, ◌≤◌, ◌↔◌, inl, inr, true, false, List, [], ◌∷◌, ◌++◌, length, slice_index, slice_get, sym, refl, ap, ◌∙◌, subst, arith}
 use Rattle.std.proofs.lemmas.Bool.{cases_lt}
-use Rattle.std.proofs.lemmas.Bool.Decides.{nat_tests}
 use mathlib.Core.Option.{some}
 use lib.ListN.{get_elem?}
 use Rattle.ol_edges.specs.Edges.{IsIn, bit}
 use Rattle.ol_net.specs.declared.parts.Kind.{Kind}
-use Rattle.ol_net.specs.declared.parts.Rule.{Rule}
 use Rattle.ol_net.specs.Parts.{arity}
 use Rattle.ol_net.specs.Nets.{NamedNet, HasNode, Faces}
 use Rattle.ol_rules.specs.declared.journal.NodeName.{NodeName}
@@ -14,7 +12,6 @@ use Rattle.ol_rules.specs.declared.journal.NodeName.TheVariants.{Born}
 use Rattle.ol_rules.specs.declared.journal.Entry.{Entry}
 use Rattle.ol_rules.specs.Rewriting.{is_meeting, index_after, action_of, NodeOf}
 use Rattle.ol_rules.specs.Rewriting as rewriting
-use Rattle.ol_rules.proofs.Lists.{in_each}
 use Rattle.ol_wire.specs.declared.layout.Parts.{Parts}
 use Rattle.ol_wire.specs.declared.plan.Plan.{Plan}
 use Rattle.ol_wire.specs.declared.view.Link.{Link}
@@ -24,7 +21,7 @@ use Rattle.ol_wire.specs.Layout.{Part, ticket, port, field, wire, between, left,
 use Rattle.ol_wire.specs.Weights.{total, pairs, numbered}
 use Rattle.ol_wire.specs.Events.{Event, entry_of}
 use Rattle.ol_wire.specs.Edges.{crosses_at, is_wire_made, is_made, times, deaths, links_in}
-use Rattle.ol_wire.specs.Blocks.{copies_of_f, born_ref, block_words, to_write, joins_in, link_of, links_of}
+use Rattle.ol_wire.specs.Blocks.{block_words, to_write, links_of}
 use Rattle.ol_wire.specs.Plays.{event_in, IsLookedUp, ticketed}
 use Rattle.ol_wire.specs.Views.{IsSpent}
 use Rattle.ol_wire.specs.Rule.{Table, IsView, IsPlaced, IsOwn, IsInOwnBlock, Kept, SeatsKeep, entries_of}
