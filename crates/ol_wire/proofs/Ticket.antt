@@ -342,7 +342,7 @@ module _ (p : Plan) (s : Table) (k : Kept p s) (id : ℕ) (v : View) (here : get
       journal = follows.1.journal;
       words = words.words_after p s k id v here w ready low;
       cells = cells.cells_after p s k id v here w ready low;
-      seats = seats.seats_after p s k id v here w ready low M x y kf kg i j faces c.f.is c.g.is nodes;
+      seats = seats.seats_after p s k id v here w ready low M x y kf kg i j faces c.f.is c.g.is nodes follows.1.journal;
       stands = record {
         ports = ports_after z k.net M x y kf kg i j n e.rule a b _ _ rest reached reached' rewritten;
         wires = wires_after z k.net M x y kf kg i j n e.rule a b _ _ rest reached reached' rewritten;

@@ -41,14 +41,6 @@ link_edge l [] h = h
 link_edge l (x ∷ ls) (inl q) = inl (ap (λ (l : Link). (l.one, l.two)) q)
 link_edge l (x ∷ ls) (inr h) = inr (link_edge l ls h)
 
--- what an action that crosses says of the rule
-pub crossing_of : (r : Rule) (j n : ℕ) → action_of r j ≡ rewriting.crossing n → (is_meeting r ≡ false) × (index_after r j ≡ n)
-crossing_of r j n q = go (is_meeting r) q
-  where
-    go : (b : Bool) → (if b then rewriting.meeting else rewriting.crossing (index_after r j)) ≡ rewriting.crossing n → (b ≡ false) × (index_after r j ≡ n)
-    go true q = absurd (cc)
-    go false q = (refl, cc)
-
 -- in a crossing the reference of each born node is the first end of a link
 module _ (z : Parts) (e : Event) (t : ℕ) (a b : ℕ → ℕ) (crosses : is_meeting e.rule ≡ false) where
   copies_f : copies_of_f e ≡ arity (kind_in e.g)
@@ -64,13 +56,13 @@ module _ (z : Parts) (e : Event) (t : ℕ) (a b : ℕ → ℕ) (crosses : is_mee
       let q : l.one ≡ born_ref z e t n = ap (λ m. if m then a n else born_ref z e t n) crosses in
       (l.two, subst (λ x. IsIn (x, l.two) (links_in (links_of z e t a b))) q i)
 
-  pub copy_of_f : (n : ℕ) → n < arity (kind_in e.g) → (d : ℕ) × IsIn (node_ref (kind_in e.f) (index_in e.f) (place_of z (Born t n)), d) (links_in (links_of z e t a b))
+  copy_of_f : (n : ℕ) → n < arity (kind_in e.g) → (d : ℕ) × IsIn (node_ref (kind_in e.f) (index_in e.f) (place_of z (Born t n)), d) (links_in (links_of z e t a b))
   copy_of_f n lt =
       let r = first_end n (omega (arith, joins_are, lt)) in
       let q : born_ref z e t n ≡ node_ref (kind_in e.f) (index_in e.f) (place_of z (Born t n)) = ap (λ m. if m then node_ref (kind_in e.f) (index_in e.f) (place_of z (Born t n)) else node_ref (kind_in e.g) (index_after e.rule (index_in e.g)) (place_of z (Born t n))) (lt-ltb n (copies_of_f e) (omega (arith, copies_f, lt))) in
       (r.0, subst (λ x. IsIn (x, r.0) (links_in (links_of z e t a b))) q r.1)
 
-  pub copy_of_g : (n : ℕ) → n < arity (kind_in e.f) → (d : ℕ) × IsIn (node_ref (kind_in e.g) (index_after e.rule (index_in e.g)) (place_of z (Born t (arity (kind_in e.g) + n))), d) (links_in (links_of z e t a b))
+  copy_of_g : (n : ℕ) → n < arity (kind_in e.f) → (d : ℕ) × IsIn (node_ref (kind_in e.g) (index_after e.rule (index_in e.g)) (place_of z (Born t (arity (kind_in e.g) + n))), d) (links_in (links_of z e t a b))
   copy_of_g n lt =
       let m = arity (kind_in e.g) + n in
       let r = first_end m (omega (arith, joins_are, lt)) in
@@ -79,7 +71,7 @@ module _ (z : Parts) (e : Event) (t : ℕ) (a b : ℕ → ℕ) (crosses : is_mee
       (r.0, subst (λ x. IsIn (x, r.0) (links_in (links_of z e t a b))) q r.1)
 
 -- an edge from an end that is written in another way
-pub from_same : (r q : ℕ) (es : List (ℕ × ℕ)) → r ≡ q → (d : ℕ) × IsIn (r, d) es → (d : ℕ) × IsIn (q, d) es
+from_same : (r q : ℕ) (es : List (ℕ × ℕ)) → r ≡ q → (d : ℕ) × IsIn (r, d) es → (d : ℕ) × IsIn (q, d) es
 from_same r q es same h = (h.0, subst (λ r. IsIn (r, h.0) es) same h.1)
 
 field_same : (x y : NodeName) (a b : ℕ) → field x a ≡ field y b → (x ≡ y) × (a ≡ b)
