@@ -5,34 +5,29 @@ use mathlib.Core.Option.{some}
 use lib.ListN.{get_elem?}
 use Rattle.ol_edges.specs.Edges.{IsIn, bit}
 use Rattle.ol_net.specs.declared.parts.Kind.{Kind}
-use Rattle.ol_net.specs.Parts.{arity}
 use Rattle.ol_net.specs.Nets.{NamedNet, HasNode, Faces}
 use Rattle.ol_rules.specs.declared.journal.NodeName.{NodeName}
 use Rattle.ol_rules.specs.declared.journal.NodeName.TheVariants.{Born}
 use Rattle.ol_rules.specs.declared.journal.Entry.{Entry}
-use Rattle.ol_rules.specs.Rewriting.{is_meeting, index_after, action_of, NodeOf}
-use Rattle.ol_rules.specs.Rewriting as rewriting
+use Rattle.ol_rules.specs.Rewriting.{action_of, NodeOf}
 use Rattle.ol_wire.specs.declared.layout.Parts.{Parts}
 use Rattle.ol_wire.specs.declared.plan.Plan.{Plan}
 use Rattle.ol_wire.specs.declared.view.Link.{Link}
 use Rattle.ol_wire.specs.declared.view.View.{View}
-use Rattle.ol_wire.specs.References.{kind_in, index_in, node_ref}
+use Rattle.ol_wire.specs.References.{node_ref}
 use Rattle.ol_wire.specs.Layout.{Part, ticket, port, field, wire, between, left, right, entry, past, part_of, block, place_of}
 use Rattle.ol_wire.specs.Weights.{total, pairs, numbered}
 use Rattle.ol_wire.specs.Events.{Event, entry_of}
-use Rattle.ol_wire.specs.Edges.{crosses_at, is_wire_made, is_made, times, deaths, links_in}
-use Rattle.ol_wire.specs.Blocks.{block_words, to_write, links_of}
+use Rattle.ol_wire.specs.Edges.{crosses_at, is_wire_made, is_made, times, deaths}
+use Rattle.ol_wire.specs.Blocks.{block_words}
 use Rattle.ol_wire.specs.Plays.{event_in, IsLookedUp, ticketed}
 use Rattle.ol_wire.specs.Views.{IsSpent}
-use Rattle.ol_wire.specs.Rule.{Table, IsView, IsPlaced, IsOwn, IsInOwnBlock, Kept, SeatsKeep, entries_of, IsLinkedField, JournalKeeps}
+use Rattle.ol_wire.specs.Rule.{Table, IsView, IsOwn, IsInOwnBlock, Kept, SeatsKeep, entries_of, IsLinkedField, JournalKeeps}
 use Rattle.ol_wire.proofs.Alike.{pairs_append}
 use Rattle.ol_wire.proofs.Claimed.{in_right}
-use Rattle.ol_wire.proofs.Held.{held_full}
-use Rattle.ol_wire.proofs.Places.{place_before, part_entry, part_field}
-use Rattle.ol_wire.proofs.References.{kind_of_ref, index_of_ref}
+use Rattle.ol_wire.proofs.Places.{part_entry, part_field}
 use Rattle.ol_wire.proofs.TicketJournal.{got_before, length_one_more}
-use Rattle.ol_wire.proofs.TicketLists.{total_set, numbered_more, get_past, Written, to_write_from}
-use Rattle.ol_wire.proofs.TicketRefs.{arity_few, ref_same}
+use Rattle.ol_wire.proofs.TicketLists.{total_set, numbered_more, get_past, to_write_from}
 use Rattle.ol_wire.proofs.TicketDrawn.{entries_length}
 use Rattle.ol_wire.proofs.TicketWords as words
 use Rattle.ol_wire.proofs.TicketCells as cells

@@ -141,7 +141,7 @@ pub record CellsKeep (p : Plan) (s : Table) (log : List Event) (from full : List
 abbrev pub IsInOwnBlock : Parts → View → ℕ → Type 0
 IsInOwnBlock z v w = (t : ℕ) × (x : Entry) × IsIn (t, x) v.made × IsInBlock z t w
 
--- slot c + 1 of a node of the net whose reference is an end of one of these links
+-- slot c + 1 of a node of the net whose reference is the first end of one of these links
 abbrev pub IsLinkedField : Parts → NamedNet NodeName → List Link → NodeName → ℕ → Type 0
 IsLinkedField z net links x c = (k : Kind) × (i : ℕ) × HasNode net x k i × (c < arity k) × (d : ℕ) × IsIn (node_ref k i (place_of z x), d) (links_in links)
 
