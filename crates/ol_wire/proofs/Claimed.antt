@@ -281,7 +281,7 @@ module _ (p : Plan) (s : Table) (k : Kept p s) where
       of (inr t) = omega (arith, t.2, wire_sort t.0, slot_sort (place_of z x + c))
 
   -- a node of a cell's pair stands in no pending link
-  not_pending : (w : ℕ) → part_of z w ≡ left → get_or k.full w 0 ≢ 0 → (x : NodeName) (m : Kind) (i : ℕ) → HasNode k.net x m i → (get_or k.full w 0 ≡ node_ref m i (place_of z x)) ⊎ (get_or k.full (suc w) 0 ≡ node_ref m i (place_of z x)) → (v : View) (d : ℕ) → IsView s v → IsIn (node_ref m i (place_of z x), d) (links_in v.pending) → ⊥
+  pub not_pending : (w : ℕ) → part_of z w ≡ left → get_or k.full w 0 ≢ 0 → (x : NodeName) (m : Kind) (i : ℕ) → HasNode k.net x m i → (get_or k.full w 0 ≡ node_ref m i (place_of z x)) ⊎ (get_or k.full (suc w) 0 ≡ node_ref m i (place_of z x)) → (v : View) (d : ℕ) → IsView s v → IsIn (node_ref m i (place_of z x), d) (links_in v.pending) → ⊥
   not_pending w is_cell some_pair x m i h ref v d is there =
       omega (arith, k.stands.ports (slot x 0) r (principal m i h), ends_append r in_words (pending_in s.views), in_cell ref, ends_first r d (pending_in s.views) (pending_there s.views is.0 v (r, d) is.1 there))
     where

@@ -5,7 +5,7 @@ use mathlib.Core.Option as option
 use lib.ListN.{get_elem?}
 use Rattle.atomic_table.specs.Table.{opening}
 use Rattle.ol_edges.specs.Edges.{IsIn}
-use Rattle.ol_net.specs.Graph.{Graph, IsTabled, kind_at}
+use Rattle.ol_net.specs.Graph.{Graph, IsTabled}
 use Rattle.ol_net.specs.Indexes.{HasIndexes}
 use Rattle.ol_net.specs.Nets.{NamedNet, net_under, IsNet}
 use Rattle.ol_net.specs.Numbered.{net_of}
@@ -28,7 +28,7 @@ use Rattle.ol_wire.specs.Starts.{AreParts}
 use Rattle.ol_wire.specs.Events as events
 use Rattle.ol_wire.specs.Edges.{is_wire_made, is_made, is_reached, deaths, edge_in, edges_in, edges_of}
 use Rattle.ol_wire.specs.Stands.{Stands}
-use Rattle.ol_wire.specs.Rule.{Table, Kept, PlanKeeps, JournalKeeps, WordsKeep, CellsKeep, SeatsKeep, IsPlaced, IsView, opener}
+use Rattle.ol_wire.specs.Rule.{Table, Kept, PlanKeeps, JournalKeeps, WordsKeep, CellsKeep, SeatsKeep, IsPlaced, IsView, filled, opener}
 use Rattle.ol_wire.specs.Laid.{IsLaid}
 use Rattle.ol_wire.proofs.Places.{part_wire, is_wire}
 use Rattle.ol_wire.proofs.OpeningPorts.{index_low, node_inside}
@@ -163,6 +163,7 @@ module _ (p : Plan) (fuel : ℕ) (words : List ℕ) (is : IsStart p.start.value 
     one_link = λ w. omega arith;
     link_refs = λ v l h i. absurd (none_pending v l h i);
     swept = λ v c h lt. absurd (let e = ap (λ (u : View). u.swept) (view_is v h) in omega (arith, lt, e));
+    published = λ w h le. omega (arith, ap filled (is.laid.blocks w le));
   }
 
   seats_keep : SeatsKeep p start [] N
@@ -176,6 +177,7 @@ module _ (p : Plan) (fuel : ℕ) (words : List ℕ) (is : IsStart p.start.value 
     due = λ v w y h i. absurd (none_due v (w, y) h i);
     links = λ v l h i. absurd (none_pending v l h i);
     hidden = λ v x k i c y h node lt held. absurd (none_due v (place_of z x + c, y) h held);
+    due_fields = λ v w y x c h i e. absurd (none_due v (w, y) h i);
     made = λ h. omega arith;
     dead = λ w. omega arith;
   }

@@ -1,24 +1,22 @@
 -- Cutting a seat off keeps the rule.
-use Rattle.std.proofs.Common.{◌≡◌, ◌≢◌, ℕ, zero, suc, ◌+◌, ◌-◌, ◌<◌, ◌≤◌, ◌⊎◌, Bool, true, false, ◌&&◌, nat_eq, if◌then◌else◌, Some, List, [], ◌∷◌, ◌++◌, length, get_or, set, sym, refl, ap, ◌∙◌, subst, inl, inr, arith}
+use Rattle.std.proofs.Common.{◌≡◌, ◌≢◌, ℕ, suc, ◌+◌, ◌-◌, ◌<◌, ◌≤◌, Bool, true, false, ◌&&◌, nat_eq, if◌then◌else◌, Some, List, [], ◌∷◌, ◌++◌, get_or, set, sym, refl, ap, ◌∙◌, subst, arith}
 use mathlib.Core.Bool.{false≢true}
 use mathlib.Core.Option.{some}
 use lib.ListN.{get_elem?}
 use Rattle.atomic_table.specs.Table.{Splits}
 use Rattle.ol_edges.specs.Edges.{IsIn}
-use Rattle.ol_net.specs.Nets.{HasNode}
-use Rattle.ol_net.specs.Parts.{arity}
 use Rattle.ol_rules.specs.Runs.{HasActive}
 use Rattle.ol_wire.specs.declared.plan.Plan.{Plan}
 use Rattle.ol_wire.specs.declared.view.Link.{Link}
 use Rattle.ol_wire.specs.declared.view.View.{View}
 use Rattle.ol_wire.specs.References.{node_ref}
 use Rattle.ol_wire.specs.Weights.{total, pairs}
-use Rattle.ol_wire.specs.Layout.{left, part_of, place_of, block, size}
+use Rattle.ol_wire.specs.Layout.{field, left, part_of, place_of, size}
 use Rattle.ol_wire.specs.Edges.{is_reached, is_made, times, edges_of, edges_in, pending_in, links_in}
 use Rattle.ol_wire.specs.Stands.{Stands}
 use Rattle.ol_wire.specs.Views.{past_fuel, IsSpent}
-use Rattle.ol_wire.specs.Plays.{fewer, one_seat}
-use Rattle.ol_wire.specs.Rule.{Table, Kept, WordsKeep, CellsKeep, SeatsKeep, IsView, IsLasting, IsOwn, IsRightOf, IsMadeRef, IsInOwnBlock, links_at}
+use Rattle.ol_wire.specs.Plays.{fewer, one_seat, cell_at}
+use Rattle.ol_wire.specs.Rule.{Table, Kept, WordsKeep, CellsKeep, SeatsKeep, IsView, IsLasting, IsOwn, IsRightOf, IsMadeRef, IsInOwnBlock, links_at, IsLinkedField}
 use Rattle.ol_wire.proofs.StepsKeep.{IsSwept}
 use Rattle.core.specs.Prelude.{slice_get}
 use Rattle.ol_wire.proofs.StepsLists.{total_cut, each_cut, edges_same, pending_set, pending_more}
@@ -70,6 +68,7 @@ module _ (p : Plan) (id : ℕ) (v : View) (two : 1 < v.holds) (under : v.over �
     one_link = λ a. let e = total_same (λ (u : View). links_at a u.pending) (omega arith) in omega (arith, e, k.cells.one_link a);
     link_refs = λ u l is m. viewed (λ u'. IsIn l u'.pending → IsMadeRef p.parts k.log l.one × IsMadeRef p.parts k.log l.two) (λ m'. k.cells.link_refs v l seen m') (λ m'. elim m' [ ]) (λ u' is' m'. k.cells.link_refs u' l is' m') u is m;
     swept = λ u n is. viewed (λ u'. n < u'.swept → IsSwept p k.full u' n) (λ lt. absurd (omega (arith, lt, unswept))) (λ lt. absurd (omega (arith, lt))) (λ u' is' lt. k.cells.swept u' n is' lt) u is;
+    published = λ a is le. let e = total_same (λ (u : View). times (cell_at p.parts a) u.published) (omega arith) in omega (arith, e, k.cells.published a is le);
   }
 
   seats_keep : SeatsKeep p cut k.log k.net
@@ -84,6 +83,7 @@ module _ (p : Plan) (id : ℕ) (v : View) (two : 1 < v.holds) (under : v.over �
     links = λ u l is m. viewed (λ u'. IsIn l u'.pending → IsInOwnBlock p.parts u' l.cell) (λ m'. k.seats.links v l seen m') (λ m'. elim m' [ ]) (λ u' is' m'. k.seats.links u' l is' m') u is m;
     hidden = λ u n kind j a y is has lt m. viewed (λ u'. IsIn (place_of p.parts n + a, y) u'.due → (d : ℕ) × IsIn (node_ref kind j (place_of p.parts n), d) (links_in u'.pending))
         (λ m'. k.seats.hidden v n kind j a y seen has lt m') (λ m'. elim m' [ ]) (λ u' is' m'. k.seats.hidden u' n kind j a y is' has lt m') u is m;
+    due_fields = λ u a y n b is. viewed (λ u'. IsIn (a, y) u'.due → part_of p.parts a ≡ field n b → IsLinkedField p.parts k.net u'.pending n b) (k.seats.due_fields v a y n b seen) (λ m e. elim m [ ]) (λ u' is'. k.seats.due_fields u' a y n b is') u is;
     made = λ h. total_same (λ (u : View). pairs h u.made) (omega arith) ∙ k.seats.made h;
     dead = λ a. let e = total_same (λ (u : View). times a u.dead) (omega arith) in omega (arith, e, k.seats.dead a);
   }

@@ -1,28 +1,28 @@
 -- A step that changes one word and one view, and neither the journal nor the net, keeps the rule.
-use Rattle.std.proofs.Common.{◌≡◌, ◌≢◌, ℕ, zero, suc, ◌+◌, ◌-◌, ◌/◌, ◌%◌, ◌<◌, ◌≤◌, ◌⊎◌, Bool, true, false, ◌&&◌, nat_eq, nat_lt, if◌then◌else◌, Some, List, [], ◌∷◌, ◌++◌, length, get_or, set, sym, refl, ap, ◌∙◌, subst, inl, inr, arith, length-set, get_or-set_other}
+use Rattle.std.proofs.Common.{◌≡◌, ◌≢◌, ℕ, zero, suc, ◌+◌, ◌-◌, ◌/◌, ◌%◌, ◌<◌, ◌≤◌, ◌⊎◌, Bool, true, false, ◌&&◌, nat_eq, nat_lt, if◌then◌else◌, Some, List, [], ◌∷◌, ◌++◌, length, get_or, set, sym, refl, ap, ◌∙◌, subst, inl, inr, arith, length-set}
 use mathlib.Core.Option.{some}
 use lib.ListN.{get_elem?}
 use Rattle.ol_edges.specs.Edges.{IsIn}
 use Rattle.core.specs.Prelude.{slice_get}
 use Rattle.ol_net.specs.Nets.{HasNode}
 use Rattle.ol_net.specs.Parts.{arity}
+use Rattle.ol_rules.specs.declared.journal.NodeName.{NodeName}
 use Rattle.ol_rules.specs.Runs.{HasActive}
 use Rattle.ol_rules.specs.declared.journal.Entry.{Entry}
 use Rattle.ol_wire.specs.declared.layout.Parts.{Parts}
 use Rattle.ol_wire.specs.declared.view.Link.{Link}
 use Rattle.ol_wire.specs.References.{node_ref, IsNodeRef}
-use Rattle.ol_wire.specs.Starts.{facing_pairs}
-use Rattle.ol_wire.specs.Laid.{field_of, node_word}
+use Rattle.ol_wire.specs.Laid.{node_word}
 use Rattle.ol_wire.specs.Events.{IsStuckPair}
-use Rattle.ol_wire.specs.Blocks.{block_words}
 use Rattle.ol_wire.specs.declared.plan.Plan.{Plan}
 use Rattle.ol_wire.specs.declared.view.View.{View}
 use Rattle.ol_wire.specs.Weights.{total, pairs, weigh, Empties}
-use Rattle.ol_wire.specs.Layout.{Part, left, part_of, place_of, start_node, block, size, start_cell, left_word, born_cell}
-use Rattle.ol_wire.specs.Edges.{is_reached, is_made, deaths, times, edges_of, edges_in, pending_in, links_in}
+use Rattle.ol_wire.specs.Layout.{field, left, part_of, place_of, start_node, block, size, start_cell, left_word, born_cell}
+use Rattle.ol_wire.specs.Edges.{is_reached, is_made, times, edges_of, edges_in, pending_in, links_in}
 use Rattle.ol_wire.specs.Stands.{Stands}
 use Rattle.ol_wire.specs.Views.{past_fuel, IsSpent}
-use Rattle.ol_wire.specs.Rule.{Table, Kept, JournalKeeps, WordsKeep, CellsKeep, SeatsKeep, Drawn, IsView, IsLasting, IsOwn, IsRightOf, IsMadeRef, IsInOwnBlock, links_at}
+use Rattle.ol_wire.specs.Plays.{cell_at}
+use Rattle.ol_wire.specs.Rule.{Table, Kept, WordsKeep, CellsKeep, SeatsKeep, Drawn, IsView, IsLasting, IsOwn, IsRightOf, IsMadeRef, IsInOwnBlock, links_at, filled, IsLinkedField}
 use Rattle.ol_wire.proofs.StepsLists.{total_set, each_set, edges_same, pending_set}
 
 -- one word and one view are set
@@ -46,6 +46,7 @@ pub record Change (p : Plan) (s : Table) (k : Kept p s) (v w : View) (i x : ℕ)
   pub holds : w.holds ≡ v.holds
   pub parts : (w.parts ≡ v.parts) × (w.seats ≡ v.seats)
   pub made : w.made ≡ v.made
+  pub published : w.published ≡ v.published
   pub pending : w.pending ≡ v.pending
   pub dead : w.dead ≡ v.dead
   -- the words as they would be, but for the ticket word
@@ -85,8 +86,8 @@ module _ (p : Plan) (s : Table) (k : Kept p s) (id : ℕ) (v w : View) (i x : �
   moved : (P : ℕ → Type 0) (u : ℕ) → 0 < u → P (get_or k.full u 0) → P (get_or full u 0)
   moved P u lt = subst P (sym (c.same u lt))
 
-  filled : (u : ℕ) → 0 < u → get_or full u 0 ≢ 0 → get_or k.full u 0 ≢ 0
-  filled u lt ne e = ne (c.same u lt ∙ e)
+  some_before : (u : ℕ) → 0 < u → get_or full u 0 ≢ 0 → get_or k.full u 0 ≢ 0
+  some_before u lt ne e = ne (c.same u lt ∙ e)
 
   two_moved : (P : ℕ → ℕ → Type 0) (u : ℕ) → 0 < u → P (get_or k.full u 0) (get_or k.full (suc u) 0) → P (get_or full u 0) (get_or full (suc u) 0)
   two_moved P u lt h = subst (λ (y : ℕ). P y (get_or full (suc u) 0)) (sym (c.same u lt)) (subst (P (get_or k.full u 0)) (sym (c.same (suc u) (omega arith))) h)
@@ -141,8 +142,8 @@ module _ (p : Plan) (s : Table) (k : Kept p s) (id : ℕ) (v w : View) (i x : �
     wide = length-set s.words i x ∙ k.words.wide;
     full_wide = c.wide ∙ k.words.full_wide;
     written = λ h z. omega (arith, c.written h z, k.words.written h z, total_set (λ (u : View). pairs h u.due + pairs h u.taken) s.views id v w here);
-    refs = λ u lt ne. moved (IsMadeRef p.parts k.log) u lt (k.words.refs u lt (filled u lt ne));
-    cells = λ u l ne. two_moved (λ y y'. IsNodeRef y × IsNodeRef y') u (not_ticket u l) (k.words.cells u l (filled u (not_ticket u l) ne));
+    refs = λ u lt ne. moved (IsMadeRef p.parts k.log) u lt (k.words.refs u lt (some_before u lt ne));
+    cells = λ u l ne. two_moved (λ y y'. IsNodeRef y × IsNodeRef y') u (not_ticket u l) (k.words.cells u l (some_before u (not_ticket u l) ne));
     fields = λ n a lt few. c.same (start_node p.parts n + a) (omega arith) ∙ k.words.fields n a lt few;
     starts = λ n m at. two_moved (λ y y'. ((y ≡ 0) ⊎ (y ≡ node_word p.start.value p.parts m.0)) × (y' ≡ node_word p.start.value p.parts m.1)) (start_cell p.parts n) (omega arith) (k.words.starts n m at);
     fresh = λ u le. c.same u (omega arith) ∙ k.words.fresh u le;
@@ -153,11 +154,14 @@ module _ (p : Plan) (s : Table) (k : Kept p s) (id : ℕ) (v w : View) (i x : �
   cells_keep : CellsKeep p there k.log k.from full
   cells_keep = record {
     tickets = k.cells.tickets;
-    used = λ t a at. let h = k.cells.used t a at in (h.0, h.1, c.same a (not_ticket a h.0) ∙ h.2);
+    used = λ t a at. let h = k.cells.used t a at in (h.0, h.1, c.same a (not_ticket a h.0) ∙ h.2, (λ e is. moved (λ y. (y ≡ e.f) ⊎ (y ≡ e.g)) (suc a) (omega arith) (h.3 e is)));
     unpublished = λ u l is. viewed Unpublished unpublished_new unpublished_old u is l;
     one_link = λ a. let e = total_same (λ (u : View). links_at a u.pending) (ap (links_at a) c.pending) in omega (arith, e, k.cells.one_link a);
     link_refs = λ u l is. viewed (λ u'. (l' : Link) → IsIn l' u'.pending → IsMadeRef p.parts k.log l'.one × IsMadeRef p.parts k.log l'.two) (with_pending (λ (ls : List Link). (l' : Link) → IsIn l' ls → IsMadeRef p.parts k.log l'.one × IsMadeRef p.parts k.log l'.two) (λ l' m. k.cells.link_refs v l' seen m)) (λ u' is' l' m. k.cells.link_refs u' l' is' m) u is l;
     swept = λ u n is. viewed (λ u'. (n' : ℕ) → n' < u'.swept → IsSwept p full u' n') swept_new swept_old u is n;
+    published = λ a is le.
+        let e = total_same (λ (u : View). times (cell_at p.parts a) u.published) (ap (times (cell_at p.parts a)) c.published) in
+        omega (arith, e, k.cells.published a is le, ap filled (c.same a (not_ticket a is)));
   }
 
   abbrev Due : View → Type 0
@@ -165,6 +169,12 @@ module _ (p : Plan) (s : Table) (k : Kept p s) (id : ℕ) (v w : View) (i x : �
 
   abbrev Links : View → Type 0
   Links u = (l : Link) → IsIn l u.pending → IsInOwnBlock p.parts u l.cell
+
+  abbrev Fields : View → Type 0
+  Fields u = (a y : ℕ) (n : NodeName) (b : ℕ) → IsIn (a, y) u.due → part_of p.parts a ≡ field n b → IsLinkedField p.parts k.net u.pending n b
+
+  fields_new : Fields w
+  fields_new a y n b m is = with_pending (λ (ls : List Link). IsLinkedField p.parts k.net ls n b) (k.seats.due_fields v a y n b seen (c.due a y m) is)
 
   seats_keep : SeatsKeep p there k.log k.net
   seats_keep = record {
@@ -179,6 +189,7 @@ module _ (p : Plan) (s : Table) (k : Kept p s) (id : ℕ) (v w : View) (i x : �
     hidden = λ u n kind j a y is. viewed (λ u'. HasNode k.net n kind j → a < arity kind → IsIn (place_of p.parts n + a, y) u'.due → (d : ℕ) × IsIn (node_ref kind j (place_of p.parts n), d) (links_in u'.pending))
         (λ has lt m. with_pending (λ (ls : List Link). (d : ℕ) × IsIn (node_ref kind j (place_of p.parts n), d) (links_in ls)) (k.seats.hidden v n kind j a y seen has lt (c.due (place_of p.parts n + a) y m)))
         (λ u' is' has lt m. k.seats.hidden u' n kind j a y is' has lt m) u is;
+    due_fields = λ u a y n b is. viewed Fields fields_new (λ u' is' a' y' n' b'. k.seats.due_fields u' a' y' n' b' is') u is a y n b;
     made = λ h. total_same (λ (u : View). pairs h u.made) (ap (pairs h) c.made) ∙ k.seats.made h;
     dead = λ a. let e = total_same (λ (u : View). times a u.dead) (ap (times a) c.dead) in omega (arith, e, k.seats.dead a);
   }

@@ -19,7 +19,7 @@ use Rattle.ol_wire.specs.Edges.{is_reached, is_made, deaths, times, edge_to, edg
 use Rattle.ol_wire.specs.Stands.{Stands, IsEnd}
 use Rattle.ol_wire.specs.Plays.{rest, relinked, linked, moved}
 use Rattle.ol_wire.specs.LinkPlays.{IsBetween, spread}
-use Rattle.ol_wire.specs.Rule.{Table, Kept, IsView, IsMadeRef, IsRightOf, links_at}
+use Rattle.ol_wire.specs.Rule.{Table, Kept, IsView, IsMadeRef, IsRightOf, links_at, filled}
 use Rattle.ol_wire.proofs.References.{wire_sort}
 use Rattle.ol_wire.proofs.Places.{is_left, part_cell}
 use Rattle.ol_wire.proofs.Alike.{Alike, pairs_append}
@@ -147,7 +147,7 @@ module _ (p : Plan) (s : Table) (k : Kept p s) (id : ℕ) (v : View) (here : get
       not_start = λ c lt. not_start c lt at.before_cells;
       same_word = same_word;
       made_ref = other_made;
-      unused = λ t w e. not_left w (k.cells.used t w e).0;
+      unused = λ t w e. not_cell w (k.cells.used t w e).0;
       lasts = λ o ne. absurd (linked_not_lasting (part_of z u) at.part o);
       cells = λ w is ne. let d = not_cell w is in
           let e = get_or-set_other k.full u w b 0 d.0 in
@@ -160,6 +160,7 @@ module _ (p : Plan) (s : Table) (k : Kept p s) (id : ℕ) (v : View) (here : get
       unpublished = λ m i. open_still m (each m i);
       link_refs = λ m i. refs_of m (each m i);
       fewer = fewer;
+      published_once = λ w is. omega (arith, ap filled (get_or-set_other k.full u w b 0 (not_left w is)));
       others = λ j w m d e i. not_cell m.cell (k.cells.unpublished w m (j, e) i).0;
       swept = λ c lt. swept_other c;
       dead_once = once;

@@ -19,7 +19,7 @@ use Rattle.ol_wire.proofs.StepsLinkSites.{wire_whole, ref_of_end}
 use Rattle.ol_wire.proofs.StepsLink.{other_made, other_end, empty_keeps, found_keeps, found_made, found_end, found_spread}
 use Rattle.ol_wire.proofs.StepsPublishCells.{ends_made}
 use Rattle.ol_wire.proofs.StepsPublish.{place_keeps, publish_keeps}
-use Rattle.ol_wire.proofs.StepsJoin.{holds_within}
+use Rattle.ol_wire.proofs.StepsJoin.{holds_within, drawn_once}
 
 -- what an exchange that found c tells
 abbrev IsFound : Parts → ℕ → ℕ → List ℕ → List ℕ → Type 0
@@ -29,7 +29,7 @@ module _ (p : Plan) (slots id : ℕ) (m : Seated) (held : 0 < m.0.holds) where
   pub counts_allowed : Allows (Kept p) slots id m 0 (λ n. n) (counts (step slots 0 0 0 none) m)
   counts_allowed s k homes here small =
       let P : List ℕ → List View → Type 0 = λ ws vs. Kept p record { words = ws; homes = s.homes; views = vs } in
-      (m.0, keeps, tt, subst (λ ws. P ws (set s.views id m.0)) (sym (set-get_or s.words 0 0)) (subst (P s.words) (sym (set_again s.views id m.0 here)) k), (refl, refl, omega (arith, holds_within p s k id m.0 here, (k.seats.plans m.0 (id, here) held).1)))
+      (m.0, keeps, tt, subst (λ ws. P ws (set s.views id m.0)) (sym (set-get_or s.words 0 0)) (subst (P s.words) (sym (set_again s.views id m.0 here)) k), (refl, refl, omega (arith, holds_within p s k id m.0 here, (k.seats.plans m.0 (id, here) held).1), drawn_once p s k id m.0 here))
 
   module _ (l : Link) (ls : List Link) (due : m.0.due ≡ []) (pending : m.0.pending ≡ l ∷ ls) where
     -- the reference r of a wire or of a free port stands at one end of the first link, and b at the other

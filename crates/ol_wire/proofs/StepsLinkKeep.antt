@@ -17,14 +17,15 @@ use Rattle.ol_wire.specs.declared.view.View.{View}
 use Rattle.ol_wire.specs.References.{node_ref, IsNodeRef}
 use Rattle.ol_wire.specs.Starts.{facing_pairs}
 use Rattle.ol_wire.specs.Laid.{node_word, field_of}
-use Rattle.ol_wire.specs.Layout.{left, part_of, place_of, start_node, start_cell, left_word, block, size}
+use Rattle.ol_wire.specs.Layout.{field, left, part_of, place_of, start_node, start_cell, left_word, block, size}
 use Rattle.ol_wire.specs.Weights.{total, pairs, weigh, Empties}
 use Rattle.ol_wire.specs.Events.{IsStuckPair}
 use Rattle.ol_wire.specs.Blocks.{block_words}
-use Rattle.ol_wire.specs.Edges.{is_reached, is_made, deaths, edges_of, links_in}
+use Rattle.ol_wire.specs.Edges.{is_reached, is_made, deaths, times, edges_of, links_in}
 use Rattle.ol_wire.specs.Stands.{Stands}
 use Rattle.ol_wire.specs.Views.{past_fuel, IsSpent}
-use Rattle.ol_wire.specs.Rule.{Table, Kept, Drawn, WordsKeep, CellsKeep, SeatsKeep, IsView, IsLasting, IsOwn, IsMadeRef, IsRightOf, IsInOwnBlock, links_at}
+use Rattle.ol_wire.specs.Plays.{cell_at}
+use Rattle.ol_wire.specs.Rule.{Table, Kept, Drawn, WordsKeep, CellsKeep, SeatsKeep, IsView, IsLasting, IsOwn, IsMadeRef, IsRightOf, IsInOwnBlock, links_at, filled, IsLinkedField}
 use Rattle.ol_wire.proofs.Places.{part_field, part_entry}
 use Rattle.ol_wire.proofs.StepsKeep.{after}
 use Rattle.ol_wire.proofs.StepsLists.{total_set, weigh_set}
@@ -43,7 +44,7 @@ pub record LinkStep (p : Plan) (s : Table) (k : Kept p s) (id : ℕ) (v : View) 
   pub not_start : (c : ℕ) → c < p.parts.cells → (start_cell p.parts c ≢ i) × (suc (start_cell p.parts c) ≢ i)
   pub same_word : get_or k.full i 0 ≡ get_or s.words i 0
   pub made_ref : IsMadeRef p.parts k.log x
-  pub unused : (t w : ℕ) → slice_get k.from t ≡ Some w → w ≢ i
+  pub unused : (t w : ℕ) → slice_get k.from t ≡ Some w → (w ≢ i) × (suc w ≢ i)
   pub lasts : IsLasting (part_of p.parts i) → get_or s.words i 0 ≢ 0 → x ≡ get_or s.words i 0
   pub cells : (w : ℕ) → part_of p.parts w ≡ left → get_or (set k.full i x) w 0 ≢ 0 → IsNodeRef (get_or (set k.full i x) w 0) × IsNodeRef (get_or (set k.full i x) (suc w) 0)
   -- the view
@@ -53,6 +54,7 @@ pub record LinkStep (p : Plan) (s : Table) (k : Kept p s) (id : ℕ) (v : View) 
   pub unpublished : (l : Link) → IsIn l pending → (get_or (set k.full i x) l.cell 0 ≡ 0) × IsRightOf v l (get_or (set k.full i x) (suc l.cell) 0)
   pub link_refs : (l : Link) → IsIn l pending → IsMadeRef p.parts k.log l.one × IsMadeRef p.parts k.log l.two
   pub fewer : (w : ℕ) → links_at w pending ≤ links_at w v.pending
+  pub published_once : (w : ℕ) → part_of p.parts w ≡ left → times (cell_at p.parts w) published + filled (get_or k.full w 0) ≡ times (cell_at p.parts w) v.published + filled (get_or (set k.full i x) w 0)
   -- no other link and no cell that was swept has the word
   pub others : (j : ℕ) (u : View) (l : Link) → j ≢ id → get_elem? s.views j ≡ some u → IsIn l u.pending → (l.cell ≢ i) × (suc l.cell ≢ i)
   pub swept : (c : ℕ) → c < v.swept → (left_word p.parts c ≢ i) × (suc (left_word p.parts c) ≢ i)
@@ -205,11 +207,14 @@ module _ (p : Plan) (s : Table) (k : Kept p s) (id : ℕ) (v : View) (i x : ℕ)
   cells_keep : CellsKeep p there k.log k.from full
   cells_keep = record {
     tickets = k.cells.tickets;
-    used = λ t a at. let h = k.cells.used t a at in (h.0, h.1, stays (λ y. y ≡ 0) a (c.unused t a at) h.2);
+    used = λ t a at. let h = k.cells.used t a at in
+        let d = c.unused t a at in
+        (h.0, h.1, stays (λ y. y ≡ 0) a d.0 h.2, (λ e is. stays (λ y. (y ≡ e.f) ⊎ (y ≡ e.g)) (suc a) d.1 (h.3 e is)));
     unpublished = λ u l is. viewed Open open_new open_old u is l;
     one_link = λ a. omega (arith, k.cells.one_link a, c.fewer a, total_set (λ (u : View). links_at a u.pending) s.views id v w here);
     link_refs = λ u l is. viewed (λ u'. (l' : Link) → IsIn l' u'.pending → IsMadeRef z k.log l'.one × IsMadeRef z k.log l'.two) c.link_refs (λ j u' d e l' m. k.cells.link_refs u' l' (j, e) m) u is l;
     swept = λ u a is. viewed Swept swept_new swept_old u is a;
+    published = λ a is le. omega (arith, k.cells.published a is le, c.published_once a is, total_set (λ (u : View). times (cell_at z a) u.published) s.views id v w here);
   }
 
   none_due : (a y : ℕ) → IsIn {X = ℕ × ℕ} (a, y) v.due → ⊥
@@ -233,6 +238,7 @@ module _ (p : Plan) (s : Table) (k : Kept p s) (id : ℕ) (v : View) (i x : ℕ)
     links = λ u l is. viewed InOwn in_own (λ j u' d e l' m. k.seats.links u' l' (j, e) m) u is l;
     hidden = λ u n kind j a y is. viewed (λ u'. HasNode k.net n kind j → a < arity kind → IsIn (place_of z n + a, y) u'.due → (d : ℕ) × IsIn (node_ref kind j (place_of z n), d) (links_in u'.pending))
         (λ has lt m. absurd (none_due (place_of z n + a) y m)) (λ j' u' d e. k.seats.hidden u' n kind j a y (j', e)) u is;
+    due_fields = λ u a y n b is. viewed (λ u'. IsIn (a, y) u'.due → part_of z a ≡ field n b → IsLinkedField z k.net u'.pending n b) (λ m e. absurd (none_due a y m)) (λ j u' d e. k.seats.due_fields u' a y n b (j, e)) u is;
     made = λ h. total_same (λ (u : View). pairs h u.made) refl ∙ k.seats.made h;
     dead = c.dead_once;
   }

@@ -66,3 +66,21 @@ number_below n k (x ∷ xs) h = elim (cases_eq k n) [
       let e : at_number n k x ≡ 0 = ap (λ b. if b then 1 else 0) (ne_eqb k n d) in
       omega (arith, number_below n (suc k) xs (omega (arith, h, e)))
 ]
+
+number_past : {A : Type 0} (n k : ℕ) (xs : List A) → n < k → numbered (at_number n) k xs ≡ 0
+number_past n k [] lt = refl
+number_past n k (x ∷ xs) lt =
+    let e : at_number n k x ≡ 0 = ap (λ b. if b then 1 else 0) (ne_eqb k n (λ q. omega (arith, lt, q))) in
+    omega (arith, number_past n (suc k) xs (omega (arith, lt)), e)
+
+-- a numbered list has each number once at most
+pub number_once : {A : Type 0} (n k : ℕ) (xs : List A) → numbered (at_number n) k xs ≤ 1
+number_once n k [] = omega arith
+number_once n k (x ∷ xs) = elim (cases_eq k n) [
+  | inl e ↦
+      let one : at_number n k x ≡ 1 = ap (λ b. if b then 1 else 0) (eq-eqb k n e) in
+      omega (arith, one, number_past n (suc k) xs (omega (arith, e)))
+  | inr d ↦
+      let nothing : at_number n k x ≡ 0 = ap (λ b. if b then 1 else 0) (ne_eqb k n d) in
+      omega (arith, nothing, number_once n (suc k) xs)
+]

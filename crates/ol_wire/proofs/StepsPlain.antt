@@ -1,8 +1,6 @@
 -- Claims, looks, writes and late tickets keep the rule.
-use Rattle.std.proofs.Common.{◌≡◌, ◌≢◌, ℕ, zero, suc, ◌+◌, ◌<◌, ◌≤◌, ◌⊎◌, Bool, true, false, if◌then◌else◌, List, [], ◌∷◌, ◌++◌, length, get_or, set, sym, refl, ap, ◌∙◌, subst, inl, inr, arith, length-set, get_or-set_other, get_or-set_same}
-use Rattle.std.proofs.lemmas.Bool.{cases_eq}
+use Rattle.std.proofs.Common.{◌≡◌, ◌≢◌, ℕ, zero, suc, ◌+◌, ◌<◌, ◌≤◌, ◌⊎◌, false, if◌then◌else◌, List, ◌∷◌, length, get_or, set, sym, refl, ap, ◌∙◌, subst, inl, inr, arith, length-set, get_or-set_other, get_or-set_same}
 use Rattle.std.proofs.lemmas.List.{set-get_or}
-use mathlib.Core.Bool.{false≢true}
 use mathlib.Core.Option.{some}
 use lib.ListN.{get_elem?}
 use Rattle.ol_edges.specs.Edges.{IsIn}
@@ -10,11 +8,11 @@ use Rattle.ol_rules.specs.Runs.{HasActive}
 use Rattle.ol_wire.specs.declared.layout.Parts.{Parts}
 use Rattle.ol_wire.specs.declared.plan.Plan.{Plan}
 use Rattle.ol_wire.specs.declared.view.View.{View}
-use Rattle.ol_wire.specs.Weights.{total, pairs, weigh, Empties}
-use Rattle.ol_wire.specs.Layout.{Part, left, right, field, part_of, size, left_word, cells_of}
-use Rattle.ol_wire.specs.Views.{past_fuel, IsIdle}
+use Rattle.ol_wire.specs.Weights.{pairs, weigh}
+use Rattle.ol_wire.specs.Layout.{Part, left, part_of, size, left_word, cells_of}
+use Rattle.ol_wire.specs.Views.{IsIdle}
 use Rattle.ol_wire.specs.Plays.{missing, holding, paired, knowing, late, wrote, rest}
-use Rattle.ol_wire.specs.Rule.{Table, Kept, Drawn, IsView, IsLasting}
+use Rattle.ol_wire.specs.Rule.{Table, Kept, Drawn, IsLasting}
 use Rattle.ol_wire.proofs.Places.{is_left}
 use Rattle.ol_wire.proofs.Held.{held_within, held_empty}
 use Rattle.ol_wire.proofs.StepsLists.{weigh_set}
@@ -59,6 +57,7 @@ module _ (p : Plan) (s : Table) (k : Kept p s) (id : ℕ) (v : View) (here : get
       holds = refl;
       parts = (refl, refl);
       made = refl;
+      published = refl;
       pending = refl;
       dead = refl;
       wide = refl;
@@ -83,6 +82,7 @@ module _ (p : Plan) (s : Table) (k : Kept p s) (id : ℕ) (v : View) (here : get
       holds = refl;
       parts = (refl, refl);
       made = refl;
+      published = refl;
       pending = refl;
       dead = refl;
       wide = refl;
@@ -119,6 +119,7 @@ module _ (p : Plan) (s : Table) (k : Kept p s) (id : ℕ) (v : View) (here : get
       holds = refl;
       parts = (refl, refl);
       made = refl;
+      published = refl;
       pending = refl;
       dead = refl;
       wide = refl;
@@ -161,6 +162,7 @@ module _ (p : Plan) (s : Table) (k : Kept p s) (id : ℕ) (v : View) (here : get
       holds = refl;
       parts = (refl, refl);
       made = refl;
+      published = refl;
       pending = refl;
       dead = refl;
       wide = refl;
@@ -201,6 +203,7 @@ module _ (p : Plan) (s : Table) (k : Kept p s) (id : ℕ) (v : View) (here : get
       holds = refl;
       parts = (refl, refl);
       made = refl;
+      published = refl;
       pending = refl;
       dead = refl;
       wide = length-set k.full 0 more;

@@ -1,5 +1,5 @@
 -- A link between two nodes keeps the rule as it is made: the right word of its cell is written, and then the left one.
-use Rattle.std.proofs.Common.{◌≡◌, ◌≢◌, ℕ, suc, ◌+◌, ◌==◌, ◌<◌, ◌≤◌, ◌⊎◌, Bool, ◌&&◌, if◌then◌else◌, nat_eq, ne_eqb, List, [], ◌∷◌, ◌++◌, length, get_or, set, sym, refl, ap, ◌∙◌, subst, inl, inr, arith, get_or-set_same, get_or-set_other}
+use Rattle.std.proofs.Common.{◌≡◌, ◌≢◌, ℕ, suc, ◌+◌, ◌==◌, ◌<◌, ◌≤◌, ◌⊎◌, Bool, ◌&&◌, if◌then◌else◌, nat_eq, eq-eqb, ne_eqb, List, [], ◌∷◌, ◌++◌, length, get_or, set, sym, refl, ap, ◌∙◌, subst, inl, inr, arith, get_or-set_same, get_or-set_other}
 use Rattle.std.proofs.lemmas.Bool.{cases_eq}
 use mathlib.Core.Option.{some}
 use lib.ListN.{get_elem?}
@@ -9,17 +9,18 @@ use Rattle.ol_wire.specs.declared.plan.Plan.{Plan}
 use Rattle.ol_wire.specs.declared.view.Link.{Link}
 use Rattle.ol_wire.specs.declared.view.View.{View}
 use Rattle.ol_wire.specs.References.{IsNodeRef}
-use Rattle.ol_wire.specs.Layout.{left, right, part_of, block, size}
+use Rattle.ol_wire.specs.Layout.{left, right, part_of, block, size, left_word}
 use Rattle.ol_wire.specs.Weights.{pairs}
 use Rattle.ol_wire.specs.Edges.{is_reached, is_made, deaths, times, edges_of, edges_in, pending_in, links_in}
 use Rattle.ol_wire.specs.Stands.{Stands}
 use Rattle.ol_wire.specs.Plays.{rest, knowing, publishing, cell_at}
-use Rattle.ol_wire.specs.Rule.{Table, Kept, IsView, IsLasting, IsOwn, IsRightOf}
+use Rattle.ol_wire.specs.Rule.{Table, Kept, IsView, IsLasting, IsOwn, IsRightOf, filled}
 use Rattle.ol_wire.proofs.Places.{is_left}
-use Rattle.ol_wire.proofs.Alike.{Alike, pairs_append}
+use Rattle.ol_wire.proofs.Alike.{Alike, total_append, pairs_append}
 use Rattle.ol_wire.proofs.Held.{word_full}
 use Rattle.ol_wire.proofs.EdgeList.{word_edge, pending_weigh}
 use Rattle.ol_wire.proofs.WordEdges.{edge_as}
+use Rattle.ol_wire.proofs.TicketNumbers.{left_of_cell}
 use Rattle.ol_wire.proofs.StepsKeep.{after}
 use Rattle.ol_wire.proofs.StepsLists.{total_set}
 use Rattle.ol_wire.proofs.StepsLinkKeep.{LinkStep, link_keeps}
@@ -123,7 +124,7 @@ module _ (p : Plan) (s : Table) (k : Kept p s) (id : ℕ) (v : View) (here : get
     not_start = λ c lt. let h = not_start p s k id v here l ls pending c lt in (h.2, (λ e. h.0 (omega (arith, e))));
     same_word = right_written;
     made_ref = (ends_made p s k id v here l ls pending).1;
-    unused = λ t w e. left_of w (k.cells.used t w e).0;
+    unused = λ t w e. (left_of w (k.cells.used t w e).0, (λ q. (cell_open p s k id v here l ls pending).3 t w e (omega (arith, q))));
     lasts = λ o ne. was (cell_open p s k id v here l ls pending).2 ne;
     cells = cells_after;
     nothing_due = due;
@@ -132,6 +133,7 @@ module _ (p : Plan) (s : Table) (k : Kept p s) (id : ℕ) (v : View) (here : get
     unpublished = open_after;
     link_refs = λ m i. k.cells.link_refs v m seen i;
     fewer = λ w. omega arith;
+    published_once = λ w is. omega (arith, ap filled (right_else w (left_of w is)));
     others = λ j w m d e i. let o = others_apart p s k id v here l ls pending j w m d e i in (left_of m.cell (k.cells.unpublished w m (j, e) i).0, (λ q. o (omega (arith, q))));
     swept = λ c lt. let h = swept_apart p s k id v here l ls pending c lt in (h.2, (λ q. h.0 (omega (arith, q))));
     dead_once = once (knowing v (suc l.cell) l.two) refl;
@@ -231,7 +233,7 @@ module _ (p : Plan) (s : Table) (k : Kept p s) (id : ℕ) (v : View) (here : get
       not_start = λ c lt. let h = not_start p s k id v here l ls pending c lt in (h.0, h.1);
       same_word = left_written;
       made_ref = (ends_made p s k id v here l ls pending).0;
-      unused = (cell_open p s k id v here l ls pending).3;
+      unused = λ t w e. ((cell_open p s k id v here l ls pending).3 t w e, right_of w (k.cells.used t w e).0);
       lasts = λ o ne. absurd (subst IsLasting is_cell o);
       cells = cells_after;
       nothing_due = due;
@@ -242,6 +244,7 @@ module _ (p : Plan) (s : Table) (k : Kept p s) (id : ℕ) (v : View) (here : get
           (left_else m.cell (behind_apart p s k id v here l ls pending m (in_rest m i)) ∙ o.1, subst (IsRightOf v m) (sym (left_else (suc m.cell) (right_of m.cell o.0))) o.2);
       link_refs = λ m i. k.cells.link_refs v m seen (behind_in m (in_rest m i));
       fewer = λ w. rest_fewer w v.pending;
+      published_once = published_once;
       others = λ j w m d e i. (others_apart p s k id v here l ls pending j w m d e i, right_of m.cell (k.cells.unpublished w m (j, e) i).0);
       swept = λ c lt. let h = swept_apart p s k id v here l ls pending c lt in (h.0, h.1);
       dead_once = once (publishing v l.cell) refl;
@@ -256,6 +259,29 @@ module _ (p : Plan) (s : Table) (k : Kept p s) (id : ℕ) (v : View) (here : get
               let f = left_else (suc w) (right_of w is) in
               let h = k.words.cells w is (λ q. ne (e ∙ q)) in
               (subst IsNodeRef (sym e) h.0, subst IsNodeRef (sym f) h.1)
+        ]
+
+        -- the cell is published once more, and was empty; each other cell is as it was
+        one : ℕ → ℕ
+        one c = if nat_eq (cell_at v.parts l.cell) c then 1 else 0
+
+        more : (c : ℕ) → times c published ≡ times c v.published + one c
+        more c = omega (arith, total_append (λ y. if nat_eq y c then 1 else 0) v.published (cell_at v.parts l.cell ∷ []))
+
+        number_is : cell_at v.parts l.cell ≡ cell_at z l.cell
+        number_is = ap (λ (y : Parts). cell_at y l.cell) (k.seats.plans v seen held).0
+
+        published_once : (w : ℕ) → part_of z w ≡ left → times (cell_at z w) published + filled (get_or k.full w 0) ≡ times (cell_at z w) v.published + filled (get_or left_full w 0)
+        published_once w is = elim (cases_eq w l.cell) [
+          | inl e ↦
+              let same : one (cell_at z w) ≡ 1 = ap (λ b. if b then 1 else 0) (eq-eqb (cell_at v.parts l.cell) (cell_at z w) (number_is ∙ ap (cell_at z) (sym e))) in
+              let was : filled (get_or k.full w 0) ≡ 0 = ap filled (ap (λ a. get_or k.full a 0) e ∙ empty) in
+              let now : filled (get_or left_full w 0) ≡ 1 = ap filled (ap (λ a. get_or left_full a 0) e ∙ left_at) ∙ ap (λ b. if b then 0 else 1) (ne_eqb l.one 0 (node_some l.one one_node)) in
+              omega (arith, more (cell_at z w), same, was, now)
+          | inr d ↦
+              let apart : cell_at v.parts l.cell ≢ cell_at z w = λ q. d (sym (left_of_cell z w is) ∙ ap (left_word z) (sym q ∙ number_is) ∙ left_of_cell z l.cell is_cell) in
+              let other : one (cell_at z w) ≡ 0 = ap (λ b. if b then 1 else 0) (ne_eqb (cell_at v.parts l.cell) (cell_at z w) apart) in
+              omega (arith, more (cell_at z w), other, ap filled (left_else w d))
         ]
 
     pub publish_keeps : Kept p (after s l.cell l.one id (publishing v l.cell))

@@ -1,16 +1,15 @@
 -- Putting a claimed pair back keeps the rule.
-use Rattle.std.proofs.Common.{◌≡◌, ◌≢◌, ℕ, zero, suc, ◌+◌, ◌<◌, ◌≤◌, ◌⊎◌, if◌then◌else◌, None, List, [], ◌∷◌, length, get_or, set, sym, refl, ap, ◌∙◌, subst, inl, inr, arith, get_or-set_other}
+use Rattle.std.proofs.Common.{◌≡◌, ◌≢◌, ℕ, suc, ◌<◌, ◌⊎◌, None, List, [], ◌∷◌, length, get_or, set, sym, refl, ap, subst, inl, inr, arith, get_or-set_other}
 use mathlib.Core.Option.{some}
 use lib.ListN.{get_elem?}
 use Rattle.ol_edges.specs.Edges.{IsIn}
 use Rattle.ol_wire.specs.declared.plan.Plan.{Plan}
 use Rattle.ol_wire.specs.declared.view.View.{View}
-use Rattle.ol_wire.specs.Weights.{pairs, weigh}
+use Rattle.ol_wire.specs.Weights.{pairs}
 use Rattle.ol_wire.specs.Layout.{left, part_of, size, left_word, cells_of}
 use Rattle.ol_wire.specs.Events.{rule_between}
 use Rattle.ol_wire.specs.Plays.{returned, rest, cell_at, cell_in_hand, swept_on}
-use Rattle.ol_wire.specs.Rule.{Table, Kept, Drawn, IsView}
-use Rattle.ol_wire.proofs.Places.{is_left}
+use Rattle.ol_wire.specs.Rule.{Table, Kept, Drawn}
 use Rattle.ol_wire.proofs.Held.{held_within, held_empty}
 use Rattle.ol_wire.proofs.StepsLists.{weigh_set}
 use Rattle.ol_wire.proofs.StepsKeep.{Change, IsSwept, after, step_keeps}
@@ -53,6 +52,7 @@ module _ (p : Plan) (s : Table) (k : Kept p s) (id : ℕ) (v : View) (here : get
       holds = refl;
       parts = (refl, refl);
       made = refl;
+      published = refl;
       pending = refl;
       dead = refl;
       wide = refl;

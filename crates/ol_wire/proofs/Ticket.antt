@@ -1,5 +1,5 @@
 -- A ticket below the fuel keeps the rule: the seat's pair is rewritten, in the words as in the net.
-use Rattle.std.proofs.Common.{◌≡◌, ◌≢◌, ℕ, suc, ◌+◌, ◌<◌, ◌≤◌, Bool, true, false, if◌then◌else◌, List, [], ◌∷◌, ◌++◌, length, Option, Some, None, ◌⊎◌, inl, inr, refl, sym, ap, ◌∙◌, subst, arith}
+use Rattle.std.proofs.Common.{◌≡◌, ◌≢◌, ℕ, suc, ◌+◌, ◌<◌, ◌≤◌, Bool, true, false, if◌then◌else◌, List, [], ◌∷◌, ◌++◌, length, Option, Some, None, ◌⊎◌, ◌↔◌, inl, inr, refl, sym, ap, ◌∙◌, subst, arith}
 use mathlib.Core.Option.{some}
 use lib.ListN.{get_elem?}
 use Rattle.std.specs.Prelude.{slice_index, slice_set}
@@ -174,8 +174,8 @@ module _ (p : Plan) (s : Table) (k : Kept p s) (id : ℕ) (v : View) (here : get
     abbrev n : ℕ
     n = length k.log
 
-    nodes : (u : NodeName) (m : Kind) (c' : ℕ) → HasNode M u m c' → NodeOf k.net (λ place. Born t place) x y kf i kg (action_of e.rule j) u m c'
-    nodes u m c' h = subst (λ n. NodeOf k.net (λ place. Born n place) x y kf i kg (action_of e.rule j) u m c') drawn_is ((follows.1.rewrites.nodes u m c').0 h)
+    nodes : (u : NodeName) (m : Kind) (c' : ℕ) → HasNode M u m c' ↔ NodeOf k.net (λ place. Born t place) x y kf i kg (action_of e.rule j) u m c'
+    nodes u m c' = subst (λ n. HasNode M u m c' ↔ NodeOf k.net (λ place. Born n place) x y kf i kg (action_of e.rule j) u m c') drawn_is (follows.1.rewrites.nodes u m c')
 
     abbrev event : Event
     event = pair_event z e.rule x y kf kg i j
@@ -342,7 +342,7 @@ module _ (p : Plan) (s : Table) (k : Kept p s) (id : ℕ) (v : View) (here : get
       journal = follows.1.journal;
       words = words.words_after p s k id v here w ready low;
       cells = cells.cells_after p s k id v here w ready low;
-      seats = seats.seats_after p s k id v here w ready low M x y kf kg i j faces c.f.is c.g.is nodes;
+      seats = seats.seats_after p s k id v here w ready low M x y kf kg i j faces c.f.is c.g.is nodes follows.1.journal;
       stands = record {
         ports = ports_after z k.net M x y kf kg i j n e.rule a b _ _ rest reached reached' rewritten;
         wires = wires_after z k.net M x y kf kg i j n e.rule a b _ _ rest reached reached' rewritten;

@@ -1,10 +1,11 @@
 -- The cells after a ticket below the fuel: that of its pair stays empty, and its links are those of the cells in its own block.
-use Rattle.std.proofs.Common.{◌≡◌, ◌≢◌, ℕ, zero, suc, ◌+◌, ◌-◌, ◌*◌, ◌<◌, ◌≤◌, if◌then◌else◌, nat_eq, eq-eqb, ne_eqb, eqb-true, ◌⊎◌, inl, inr, Bool, true, false, ◌&&◌, Some, None, List, [], ◌∷◌, ◌++◌, length, slice_get, slice_index, sym, refl, ap, ◌∙◌, subst, arith}
+use Rattle.std.proofs.Common.{◌≡◌, ◌≢◌, ℕ, zero, suc, ◌+◌, ◌*◌, ◌<◌, ◌≤◌, if◌then◌else◌, nat_eq, eq-eqb, ne_eqb, eqb-true, ◌⊎◌, inl, inr, Bool, true, false, ◌&&◌, Option, Some, None, List, [], ◌∷◌, ◌++◌, length, slice_get, slice_index, sym, refl, ap, ◌∙◌, subst, arith}
 use Rattle.std.proofs.lemmas.Bool.{cases_eq, cases_lt}
 use Rattle.std.proofs.lemmas.Option.{slice_get_within}
 use mathlib.Core.Option.{some}
 use lib.ListN.{get_elem?}
 use Rattle.ol_edges.specs.Edges.{IsIn}
+use Rattle.ol_net.specs.declared.parts.Rule.{Rule}
 use Rattle.ol_rules.specs.Listed.{each}
 use Rattle.ol_rules.proofs.Lists.{in_each_of}
 use Rattle.ol_wire.specs.declared.layout.Parts.{Parts}
@@ -14,16 +15,17 @@ use Rattle.ol_wire.specs.declared.view.View.{View}
 use Rattle.ol_wire.specs.References.{index_in}
 use Rattle.ol_wire.specs.Layout.{left, part_of, block, place_of, born_cell, left_word, cells_of}
 use Rattle.ol_wire.specs.Weights.{total}
+use Rattle.ol_wire.specs.Edges.{times}
 use Rattle.ol_wire.specs.Events.{Event, rule_between, acting, event_of, IsStuckPair}
 use Rattle.ol_wire.specs.Blocks.{joins_in, link_of, links_of}
 use Rattle.ol_wire.specs.Plays.{cell_at, cell_in_hand, swept_on, event_in, IsLookedUp, ticketed}
-use Rattle.ol_wire.specs.Rule.{Table, IsView, IsMadeRef, IsRightOf, Kept, CellsKeep, links_at}
+use Rattle.ol_wire.specs.Rule.{Table, IsView, IsMadeRef, IsRightOf, Kept, CellsKeep, links_at, times_published, filled}
 use Rattle.ol_wire.proofs.References.{index_of_ref}
 use Rattle.ol_wire.proofs.Alike.{total_append}
 use Rattle.ol_wire.proofs.Claimed.{IsNodeAt, IsCellPair, cell_pair}
 use Rattle.ol_wire.proofs.Held.{total_at, total_from}
 use Rattle.ol_wire.proofs.Places.{part_born_cell, part_cell, is_left}
-use Rattle.ol_wire.proofs.TicketJournal.{got_one_more, length_one_more}
+use Rattle.ol_wire.proofs.TicketJournal.{got_before, got_one_more, length_one_more}
 use Rattle.ol_wire.proofs.TicketLists.{total_set, by_place}
 use Rattle.ol_wire.proofs.TicketRefs.{event_of_pair, joins_few, link_ends}
 use Rattle.ol_wire.proofs.TicketWords as words
@@ -81,6 +83,15 @@ two_at g (x ∷ l) zero zero a b d h q = absurd (d refl)
 two_at g (x ∷ l) zero (suc j) a b d h q = let e : x ≡ a = cc in omega (arith, ap g e, total_at g l j b q)
 two_at g (x ∷ l) (suc i) zero a b d h q = let e : x ≡ b = cc in omega (arith, ap g e, total_at g l i a h)
 two_at g (x ∷ l) (suc i) (suc j) a b d h q = omega (arith, two_at g l i j a b (λ e. d (ap suc e)) h q)
+
+-- the second of two nodes is one of those of their event
+right_side : (l r : ℕ) → (r ≡ (event_of l r).f) ⊎ (r ≡ (event_of l r).g)
+right_side l r = go (rule_between l r) (rule_between r l)
+  where
+    go : (o q : Option Rule) → (r ≡ (acting o q l r).f) ⊎ (r ≡ (acting o q l r).g)
+    go (Some x) q = inr refl
+    go None (Some x) = inl refl
+    go None None = inr refl
 
 -- two nodes of which neither acts are no event
 no_event : (l r : ℕ) → IsStuckPair l r → rule_between (event_of l r).f (event_of l r).g ≡ None
@@ -172,15 +183,29 @@ module _ (p : Plan) (s : Table) (k : Kept p s) (id : ℕ) (v : View) (here : get
   still_empty : (u : ℕ) → part_of z u ≡ left → slice_index k.full u ≡ 0 → slice_index full' u ≡ 0
   still_empty u is h = left_word_still u is (λ q. left_some (ap (slice_index k.full) (sym q) ∙ h)) ∙ h
 
-  used : (n u : ℕ) → slice_get from' n ≡ Some u → (part_of z u ≡ left) × (u < block z n) × (slice_index full' u ≡ 0)
+  -- the right word of the pair is one of the two nodes, and stays
+  right_node : (slice_index full' (suc w) ≡ e.f) ⊎ (slice_index full' (suc w) ≡ e.g)
+  right_node = subst (λ y. (y ≡ e.f) ⊎ (y ≡ e.g)) (sym (right_word_still w is_left_word ∙ right_full)) (right_side v.last.0 v.last.1)
+
+  abbrev IsUsed : ℕ → ℕ → Type 0
+  IsUsed n u = (part_of z u ≡ left) × (u < block z n) × (slice_index full' u ≡ 0) × ((d : Event) → slice_get log' n ≡ Some d → (slice_index full' (suc u) ≡ d.f) ⊎ (slice_index full' (suc u) ≡ d.g))
+
+  used : (n u : ℕ) → slice_get from' n ≡ Some u → IsUsed n u
   used n u q = go (got_one_more k.from w u n q)
     where
-      go : (slice_get k.from n ≡ Some u) ⊎ ((n ≡ length k.from) × (u ≡ w)) → (part_of z u ≡ left) × (u < block z n) × (slice_index full' u ≡ 0)
-      go (inl old) = let h = k.cells.used n u old in (h.0, h.1, still_empty u h.0 h.2)
+      go : (slice_get k.from n ≡ Some u) ⊎ ((n ≡ length k.from) × (u ≡ w)) → IsUsed n u
+      go (inl old) =
+          let h = k.cells.used n u old in
+          let lt : n < length k.log = omega (arith, slice_get_within k.from n u old, k.cells.tickets) in
+          (h.0, h.1, still_empty u h.0 h.2, (λ d is. subst (λ y. (y ≡ d.f) ⊎ (y ≡ d.g)) (sym (right_word_still u h.0)) (h.3 d (sym (got_before k.log (e ∷ []) n lt) ∙ is))))
       go (inr new) =
           let is_last : n ≡ length k.from = new.0 in
           let is_w : u ≡ w = new.1 in
-          (ap (part_of z) is_w ∙ is_left_word, omega (arith, is_w, is_last, k.cells.tickets, drawn_is, cell_below), ap (slice_index full') is_w ∙ cell_gone)
+          (ap (part_of z) is_w ∙ is_left_word, omega (arith, is_w, is_last, k.cells.tickets, drawn_is, cell_below), ap (slice_index full') is_w ∙ cell_gone, (λ d is. of d (got_one_more k.log e d n is) is_last is_w))
+        where
+          of : (d : Event) → (slice_get k.log n ≡ Some d) ⊎ ((n ≡ length k.log) × (d ≡ e)) → n ≡ length k.from → u ≡ w → (slice_index full' (suc u) ≡ d.f) ⊎ (slice_index full' (suc u) ≡ d.g)
+          of d (inl old) is_last is_w = absurd (omega (arith, slice_get_within k.log n d old, k.cells.tickets, is_last))
+          of d (inr last) is_last is_w = subst (λ (x : Event). (slice_index full' (suc u) ≡ x.f) ⊎ (slice_index full' (suc u) ≡ x.g)) (sym last.1) (subst (λ a. (slice_index full' (suc a) ≡ e.f) ⊎ (slice_index full' (suc a) ≡ e.g)) (sym is_w) right_node)
 
   used_below : (n u : ℕ) → slice_get from' n ≡ Some u → u < block z t
   used_below n u q =
@@ -330,6 +355,25 @@ module _ (p : Plan) (s : Table) (k : Kept p s) (id : ℕ) (v : View) (here : get
       let all_held = (k.cells.swept u c (j, at) lt).0 in
       absurd (omega (arith, all_held, two_at (λ (x : View). x.holds) s.views j id u v d at here, k.seats.all, ready.held))
 
+  -- the cell is empty where its pair was, and is among those that were used once more
+  published : (u : ℕ) → part_of z u ≡ left → block z 0 ≤ u → times_published z u s'.views ≡ filled (slice_index full' u) + times u from'
+  published u is le = elim (cases_eq u w) [
+    | inl q ↦
+        let one : one_if (nat_eq w u) ≡ 1 = ap one_if (eq-eqb w u (sym q)) in
+        let was : filled (slice_index k.full u) ≡ 1 = ap (λ b. if b then 0 else 1) (ne_eqb (slice_index k.full u) 0 (λ o. left_some (ap (slice_index k.full) (sym q) ∙ o))) in
+        let now : filled (slice_index full' u) ≡ 0 = ap filled (ap (slice_index full') q ∙ cell_gone) in
+        omega (arith, same_views, k.cells.published u is le, more, one, was, now)
+    | inr d ↦
+        let none_new : one_if (nat_eq w u) ≡ 0 = ap one_if (ne_eqb w u (λ q. d (sym q))) in
+        omega (arith, same_views, k.cells.published u is le, more, none_new, ap filled (left_word_still u is d))
+  ]
+    where
+      same_views : times_published z u s'.views ≡ times_published z u s.views
+      same_views = omega (arith, total_set (λ (v : View). times (cell_at z u) v.published) s.views id v (ticketed v t) here)
+
+      more : times u from' ≡ times u k.from + one_if (nat_eq w u)
+      more = omega (arith, total_append (λ x. if nat_eq x u then 1 else 0) k.from (w ∷ []))
+
   pub cells_after : CellsKeep p s' log' from' full'
   cells_after = record {
     tickets = from_length;
@@ -338,4 +382,5 @@ module _ (p : Plan) (s : Table) (k : Kept p s) (id : ℕ) (v : View) (here : get
     one_link = one_link;
     link_refs = λ u l is. viewed LinkRefs link_refs_new link_refs_old u is l;
     swept = λ u c is. by_place Swept s.views id (ticketed v t) swept_new swept_old is.0 u is.1 c;
+    published = published;
   }

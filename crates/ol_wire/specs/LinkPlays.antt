@@ -1,9 +1,11 @@
 -- What the steps tell that make the links of a rewrite.
-use Rattle.std.specs.Prelude.{◌≡◌, ◌≢◌, ℕ, zero, suc, ◌+◌, ◌≤◌, ◌⊎◌, List}
+use Rattle.std.specs.Prelude.{◌≡◌, ◌≢◌, ℕ, zero, suc, ◌+◌, ◌≤◌, ◌⊎◌, nat_eq, if◌then◌else◌, List}
+use Rattle.ol_rules.specs.declared.journal.Entry.{Entry}
 use Rattle.ol_wire.specs.declared.layout.Parts.{Parts}
 use Rattle.ol_wire.specs.declared.view.Link.{Link}
 use Rattle.ol_wire.specs.declared.view.View.{View}
 use Rattle.ol_wire.specs.Layout.{size}
+use Rattle.ol_wire.specs.Weights.{pairs}
 use Rattle.ol_wire.specs.Edges.{times}
 use Rattle.ol_wire.specs.Views.{fresh}
 use Rattle.ol_wire.specs.Plays.{Play, linked, moved, knowing, publishing, IsRefOf}
@@ -31,9 +33,13 @@ places s m r n = (n.1 ≡ m.1) × (n.0 ≡ knowing m.0 s.word s.first)
 abbrev pub publishes : Play
 publishes s m r n = (n.1 ≡ m.1) × (n.0 ≡ publishing m.0 s.word)
 
--- a look at the ticket word, which tells that no seat stands for more than there are
+-- how often ticket t stands in the list
+abbrev pub times_drawn : ℕ → List (ℕ × Entry) → ℕ
+times_drawn t made = pairs (λ (n : ℕ) (x : Entry). if nat_eq n t then 1 else 0) made
+
+-- a look at the ticket word, which tells that no seat stands for more than there are, and has no ticket twice
 abbrev pub counts : Play
-counts s m r n = (n.1 ≡ m.1) × (n.0 ≡ m.0) × (m.0.holds ≤ m.0.seats)
+counts s m r n = (n.1 ≡ m.1) × (n.0 ≡ m.0) × (m.0.holds ≤ m.0.seats) × ((t : ℕ) → times_drawn t m.0.made ≤ 1)
 
 -- what a seat is left with that was joined to another: nothing, of no table
 abbrev pub no_parts : Parts
