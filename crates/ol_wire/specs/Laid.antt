@@ -9,7 +9,7 @@ use Rattle.ol_rules.specs.Listed.{each}
 use Rattle.ol_wire.specs.declared.layout.Parts.{Parts}
 use Rattle.ol_wire.specs.References.{node_ref, wire_ref}
 use Rattle.ol_wire.specs.Layout.{port_word, start_node, start_wire, start_cell, block, size}
-use Rattle.ol_wire.specs.Starts.{wire_with, pair_with, facing_pairs}
+use Rattle.ol_wire.specs.Starts.{facing_pairs, comes_first, wire_at}
 
 -- the reference of a node, or 0 where no live node has the number
 abbrev pub ref_of : Parts → ℕ → Option (Kind × ℕ) → ℕ
@@ -29,17 +29,13 @@ word_to net z n (Some (Of m s)) = if s == 0 then node_word net z m.0 else 0
 abbrev pub word_of_port : Graph → Parts → ℕ → ℕ
 word_of_port net z n = word_to net z n (partner_of net (Free n))
 
--- the wire of slot s + 1 of node n, where it has one and comes first
-abbrev pub wire_at : Graph → ℕ → ℕ → List (ℕ × ℕ)
-wire_at net n s = wire_with n (suc s) (partner_of net (Of (record { 0 = n }) (suc s)))
-
 -- the number of wires that come before that of slot s + 1 of node n
 abbrev pub wires_before : Graph → ℕ → ℕ → ℕ
 wires_before net n s = length (each n (λ m. each 2 (wire_at net m))) + length (each s (wire_at net n))
 
 -- the number of the wire between slot s + 1 of node n and slot u of node m: that of the slot which comes first
 abbrev pub wire_number : Graph → ℕ → ℕ → ℕ → ℕ → ℕ
-wire_number net n s m u = if nat_lt (3 * n + suc s) (3 * m + u) then wires_before net n s else wires_before net m (u - 1)
+wire_number net n s m u = if comes_first n (suc s) m u then wires_before net n s else wires_before net m (u - 1)
 
 -- the field of slot s + 1 of node n, by its partner
 abbrev pub field_to : Graph → Parts → ℕ → ℕ → Option Port → ℕ
@@ -49,12 +45,6 @@ field_to net z n s (Some (Of m u)) = if u == 0 then node_word net z m.0 else wir
 
 abbrev pub field_of : Graph → Parts → ℕ → ℕ → ℕ
 field_of net z n s = field_to net z n s (partner_of net (Of (record { 0 = n }) (suc s)))
-
--- The numbers of the net are so small that each reference to a part of it fits its word.
-pub record IsSmallNet (net : Graph) : Type 0 where
-  pub nodes : length net.nodes ≤ 1000000
-  pub free : net.free ≤ 1000000
-  pub indexes : top_index_of net.nodes ≤ 1000000
 
 -- The net is laid out in these words.
 pub record IsLaid (net : Graph) (z : Parts) (words : List ℕ) : Type 0 where
@@ -72,10 +62,6 @@ port_row net z n = word_of_port net z n ∷ []
 
 abbrev pub field_row : Graph → Parts → ℕ → List ℕ
 field_row net z n = field_of net z n 0 ∷ field_of net z n 1 ∷ []
-
--- the pair of node n, where it faces a node of a greater number
-abbrev pub pair_at : Graph → ℕ → List (ℕ × ℕ)
-pair_at net n = pair_with n (partner_of net (Of (record { 0 = n }) 0))
 
 -- the two words of each pair
 abbrev pub cell_words : Graph → Parts → List (ℕ × ℕ) → List ℕ

@@ -3,12 +3,12 @@ ghost use Rattle.std.specs.Prelude.{◌≡◌, suc, ◌<◌, ◌≤◌, [], ◌�
 ghost use Rattle.ol_rules.specs.Listed.{each};
 ghost use Rattle.ol_wire.specs.References.{wire_ref};
 ghost use Rattle.ol_wire.specs.Layout.{port_word, start_node, size};
-ghost use Rattle.ol_wire.specs.Sizes.{IsSmall};
-ghost use Rattle.ol_wire.specs.Starts.{AreParts, aux_links, facing_pairs};
+ghost use Rattle.ol_wire.specs.Sizes.{IsSmall, IsSmallNet};
+ghost use Rattle.ol_wire.specs.Starts.{AreParts, aux_links, facing_pairs, pair_at};
 ghost use Rattle.atomic_table.specs.Table.{opening};
 ghost use Rattle.ol_wire.specs.Rule.{Kept, opener};
 ghost use Rattle.ol_wire.specs.declared.plan.Plan.{Plan};
-ghost use Rattle.ol_wire.specs.Laid.{node_word, word_of_port, wires_before, field_of, cell_words, port_row, field_row, pair_at, HasFields, IsSmallNet, IsLaid};
+ghost use Rattle.ol_wire.specs.Laid.{node_word, word_of_port, wires_before, field_of, cell_words, port_row, field_row, HasFields, IsLaid};
 
 use crate::layout::{BLOCK, Parts};
 use crate::reference::{node_ref, wire_ref};
