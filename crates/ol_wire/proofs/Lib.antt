@@ -40,7 +40,6 @@ pub mod TicketDrawn
 pub mod TicketNumbers
 pub mod TicketCells
 pub mod TicketFields
-pub mod TicketHidden
 pub mod TicketSeats
 pub mod Reached
 pub mod Ticket

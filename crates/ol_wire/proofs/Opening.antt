@@ -176,7 +176,6 @@ module _ (p : Plan) (fuel : ℕ) (words : List ℕ) (is : IsStart p.start.value 
     taken = λ v w y h i. absurd (none_taken v (w, y) h i);
     due = λ v w y h i. absurd (none_due v (w, y) h i);
     links = λ v l h i. absurd (none_pending v l h i);
-    hidden = λ v x k i c y h node lt held. absurd (none_due v (place_of z x + c, y) h held);
     due_fields = λ v w y x c h i e. absurd (none_due v (w, y) h i);
     made = λ h. omega arith;
     dead = λ w. omega arith;

@@ -81,8 +81,6 @@ module _ (p : Plan) (id : ℕ) (v : View) (two : 1 < v.holds) (under : v.over �
     taken = λ u a y is m. viewed (λ u'. IsIn (a, y) u'.taken → (part_of p.parts a ≡ left) × (y ≢ 0)) (λ m'. k.seats.taken v a y seen m') (λ m'. elim m' [ ]) (λ u' is' m'. k.seats.taken u' a y is' m') u is m;
     due = λ u a y is m. viewed (λ u'. IsIn (a, y) u'.due → (y ≢ 0) × IsOwn (part_of p.parts a) × IsInOwnBlock p.parts u' a) (λ m'. k.seats.due v a y seen m') (λ m'. elim m' [ ]) (λ u' is' m'. k.seats.due u' a y is' m') u is m;
     links = λ u l is m. viewed (λ u'. IsIn l u'.pending → IsInOwnBlock p.parts u' l.cell) (λ m'. k.seats.links v l seen m') (λ m'. elim m' [ ]) (λ u' is' m'. k.seats.links u' l is' m') u is m;
-    hidden = λ u n kind j a y is has lt m. viewed (λ u'. IsIn (place_of p.parts n + a, y) u'.due → (d : ℕ) × IsIn (node_ref kind j (place_of p.parts n), d) (links_in u'.pending))
-        (λ m'. k.seats.hidden v n kind j a y seen has lt m') (λ m'. elim m' [ ]) (λ u' is' m'. k.seats.hidden u' n kind j a y is' has lt m') u is m;
     due_fields = λ u a y n b is. viewed (λ u'. IsIn (a, y) u'.due → part_of p.parts a ≡ field n b → IsLinkedField p.parts k.net u'.pending n b) (k.seats.due_fields v a y n b seen) (λ m e. elim m [ ]) (λ u' is'. k.seats.due_fields u' a y n b is') u is;
     made = λ h. total_same (λ (u : View). pairs h u.made) (omega arith) ∙ k.seats.made h;
     dead = λ a. let e = total_same (λ (u : View). times a u.dead) (omega arith) in omega (arith, e, k.seats.dead a);

@@ -105,8 +105,6 @@ module _ (p : Plan) (id : ℕ) (v : View) (other : ℕ) (w : View) (idle : IsIdl
     taken = λ u a y is. viewed (λ u'. IsIn (a, y) u'.taken → (part_of p.parts a ≡ left) × (y ≢ 0)) (λ m. absurd (no_more {A = ℕ × ℕ} (a, y) v.taken idle.0 m)) (λ m. elim m [ ]) (λ u' is'. k.seats.taken u' a y is') u is;
     due = λ u a y is. viewed (λ u'. IsIn (a, y) u'.due → (y ≢ 0) × IsOwn (part_of p.parts a) × IsInOwnBlock p.parts u' a) (λ m. absurd (no_more {A = ℕ × ℕ} (a, y) v.due idle.1 m)) (λ m. elim m [ ]) (λ u' is'. k.seats.due u' a y is') u is;
     links = λ u l is. viewed (λ u'. IsIn l u'.pending → IsInOwnBlock p.parts u' l.cell) (λ m. absurd (no_more l v.pending idle.2 m)) (λ m. elim m [ ]) (λ u' is'. k.seats.links u' l is') u is;
-    hidden = λ u n kind j a y is has lt. viewed (λ u'. IsIn (place_of p.parts n + a, y) u'.due → (d : ℕ) × IsIn (node_ref kind j (place_of p.parts n), d) (links_in u'.pending))
-        (λ m. absurd (no_more {A = ℕ × ℕ} (place_of p.parts n + a, y) v.due idle.1 m)) (λ m. elim m [ ]) (λ u' is'. k.seats.hidden u' n kind j a y is' has lt) u is;
     due_fields = λ u a y n b is. viewed (λ u'. IsIn (a, y) u'.due → part_of p.parts a ≡ field n b → IsLinkedField p.parts k.net u'.pending n b) (λ m e. absurd (no_more {A = ℕ × ℕ} (a, y) v.due idle.1 m)) (λ m e. elim m [ ]) (λ u' is'. k.seats.due_fields u' a y n b is') u is;
     made = λ h. total_same (λ (u : View). pairs h u.made) (omega (arith, total_append (λ (e : ℕ × Entry). h e.0 e.1) v.made w.made)) ∙ k.seats.made h;
     dead = λ a. omega (arith, same_deaths a, k.seats.dead a);

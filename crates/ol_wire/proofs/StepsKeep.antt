@@ -186,9 +186,6 @@ module _ (p : Plan) (s : Table) (k : Kept p s) (id : ℕ) (v w : View) (i x : �
     taken = λ u a y is. viewed (λ u'. (a' y' : ℕ) → IsIn (a', y') u'.taken → (part_of p.parts a' ≡ left) × (y' ≢ 0)) taken_new (λ u' is' a' y'. k.seats.taken u' a' y' is') u is a y;
     due = λ u a y is. viewed Due (λ a' y' m. due_new a' y' (k.seats.due v a' y' seen (c.due a' y' m))) (λ u' is' a' y'. k.seats.due u' a' y' is') u is a y;
     links = λ u l is. viewed Links (λ l' m. own_new l'.cell (k.seats.links v l' seen (subst (λ (ls : List Link). IsIn l' ls) c.pending m))) (λ u' is' l'. k.seats.links u' l' is') u is l;
-    hidden = λ u n kind j a y is. viewed (λ u'. HasNode k.net n kind j → a < arity kind → IsIn (place_of p.parts n + a, y) u'.due → (d : ℕ) × IsIn (node_ref kind j (place_of p.parts n), d) (links_in u'.pending))
-        (λ has lt m. with_pending (λ (ls : List Link). (d : ℕ) × IsIn (node_ref kind j (place_of p.parts n), d) (links_in ls)) (k.seats.hidden v n kind j a y seen has lt (c.due (place_of p.parts n + a) y m)))
-        (λ u' is' has lt m. k.seats.hidden u' n kind j a y is' has lt m) u is;
     due_fields = λ u a y n b is. viewed Fields fields_new (λ u' is' a' y' n' b'. k.seats.due_fields u' a' y' n' b' is') u is a y n b;
     made = λ h. total_same (λ (u : View). pairs h u.made) (ap (pairs h) c.made) ∙ k.seats.made h;
     dead = λ a. let e = total_same (λ (u : View). times a u.dead) (ap (times a) c.dead) in omega (arith, e, k.seats.dead a);

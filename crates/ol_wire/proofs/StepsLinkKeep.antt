@@ -236,8 +236,6 @@ module _ (p : Plan) (s : Table) (k : Kept p s) (id : ℕ) (v : View) (i x : ℕ)
     taken = λ u a y is. viewed (λ u'. IsIn (a, y) u'.taken → (part_of z a ≡ left) × (y ≢ 0)) (k.seats.taken v a y seen) (λ j u' d e. k.seats.taken u' a y (j, e)) u is;
     due = λ u a y is. viewed (λ u'. IsIn (a, y) u'.due → (y ≢ 0) × IsOwn (part_of z a) × IsInOwnBlock z u' a) (λ m. absurd (none_due a y m)) (λ j u' d e. k.seats.due u' a y (j, e)) u is;
     links = λ u l is. viewed InOwn in_own (λ j u' d e l' m. k.seats.links u' l' (j, e) m) u is l;
-    hidden = λ u n kind j a y is. viewed (λ u'. HasNode k.net n kind j → a < arity kind → IsIn (place_of z n + a, y) u'.due → (d : ℕ) × IsIn (node_ref kind j (place_of z n), d) (links_in u'.pending))
-        (λ has lt m. absurd (none_due (place_of z n + a) y m)) (λ j' u' d e. k.seats.hidden u' n kind j a y (j', e)) u is;
     due_fields = λ u a y n b is. viewed (λ u'. IsIn (a, y) u'.due → part_of z a ≡ field n b → IsLinkedField z k.net u'.pending n b) (λ m e. absurd (none_due a y m)) (λ j u' d e. k.seats.due_fields u' a y n b (j, e)) u is;
     made = λ h. total_same (λ (u : View). pairs h u.made) refl ∙ k.seats.made h;
     dead = c.dead_once;

@@ -32,7 +32,6 @@ use Rattle.ol_wire.proofs.TicketDrawn.{entries_length}
 use Rattle.ol_wire.proofs.TicketWords as words
 use Rattle.ol_wire.proofs.TicketCells as cells
 use Rattle.ol_wire.proofs.TicketFields as fields
-use Rattle.ol_wire.proofs.TicketHidden.{hidden_by}
 
 -- a wire that was made stays made
 crosses_still : (log : List Event) (e : Event) (t q p : ℕ) → bit (crosses_at (slice_get log t) q p) ≤ bit (crosses_at (slice_get (log ++ e ∷ []) t) q p)
@@ -158,7 +157,6 @@ module _ (p : Plan) (s : Table) (k : Kept p s) (id : ℕ) (v : View) (here : get
     taken = λ u n y' is. viewed (λ u. (n y' : ℕ) → IsIn (n, y') u.taken → (part_of z n ≡ left) × (y' ≢ 0)) (λ n y' h. absurd (subst (λ l. IsIn (n, y') l) (words.taken_is p s k id v here w ready low) h)) (λ u o n y'. k.seats.taken u n y' o) u is n y';
     due = λ u n y' is. viewed Owns owns_new (λ u o n y'. k.seats.due u n y' o) u is n y';
     links = λ u l is. viewed Links links_new (λ u o l. k.seats.links u l o) u is l;
-    hidden = λ u n m c l y' is. hidden_by z M (length (k.log ++ e ∷ [])) (omega (arith, length_one_more k.log e, drawn_is, low)) journal.is_net journal.names u (λ n' q n c. due_fields u n' q n c is) n m c l y';
     due_fields = due_fields;
     made = made;
     dead = dead;

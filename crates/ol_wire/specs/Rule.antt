@@ -155,6 +155,7 @@ IsLinkedField z net links x c = (k : Kind) × (i : ℕ) × HasNode net x k i × 
 -- The seats, and what each view holds, which is known to it alone.
 pub record SeatsKeep (p : Plan) (s : Table) (log : List Event) (net : NamedNet NodeName) : Type 0 where
   pub all : total (λ (v : View). v.holds) s.views ≡ p.seats
+  -- each seat draws one ticket at most at or above the fuel
   pub calm : slice_index s.words 0 ≤ p.parts.fuel + total past_fuel s.views
   pub over : (v : View) → IsView s v → v.over ≡ true → (p.parts.fuel ≤ slice_index s.words 0) × HasActive net
   pub plans : (v : View) → IsView s v → 0 < v.holds → (v.parts ≡ p.parts) × (v.seats ≡ p.seats)
@@ -164,9 +165,7 @@ pub record SeatsKeep (p : Plan) (s : Table) (log : List Event) (net : NamedNet N
   -- what a view has to write and to link is in the block of its own ticket
   pub due : (v : View) (w y : ℕ) → IsView s v → IsIn (w, y) v.due → (y ≢ 0) × IsOwn (part_of p.parts w) × IsInOwnBlock p.parts v w
   pub links : (v : View) (l : Link) → IsView s v → IsIn l v.pending → IsInOwnBlock p.parts v l.cell
-  -- the only edge of a node whose fields aren't written is that of one of the view's own links
-  pub hidden : (v : View) (x : NodeName) (k : Kind) (i c y : ℕ) → IsView s v → HasNode net x k i → c < arity k → IsIn (place_of p.parts x + c, y) v.due → (d : ℕ) × (IsIn (node_ref k i (place_of p.parts x), d) (links_in v.pending))
-  -- each field that a view has to write is one of a node of the net that such a link names
+  -- a field that a view has to write is that of a live node, and the one edge at this node's slot 0 is that of one of the view's own links
   pub due_fields : (v : View) (w y : ℕ) (x : NodeName) (c : ℕ) → IsView s v → IsIn (w, y) v.due → part_of p.parts w ≡ field x c → IsLinkedField p.parts net v.pending x c
   -- each ticket below the fuel is one view's
   pub made : (h : ℕ → Entry → ℕ) → total (λ (v : View). pairs h v.made) s.views ≡ numbered h 0 (entries_of p.parts log)

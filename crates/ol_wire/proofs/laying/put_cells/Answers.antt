@@ -1,6 +1,5 @@
 use Rattle.std.proofs.Common.{arith, ◌+◌, suc, ◌≡◌}
 use Rattle.ol_wire.specs.Starts.{pair_at}
-
 use Rattle.ol_wire.proofs.OpeningWords.{cells_more, count_more}
 use Rattle.ol_wire.proofs.laying.put_cells.Goals as goal
 
