@@ -53,6 +53,7 @@ pub mod StepsPublishCells
 pub mod StepsPublish
 pub mod StepsJoin
 pub mod StepsLinkAllowed
+pub mod TurningLinks
 pub mod Opening
 pub mod OpeningPorts
 pub mod OpeningWords

@@ -2,11 +2,12 @@
 use Rattle.std.specs.Prelude.{◌≡◌, ◌≢◌, ℕ, zero, suc, ◌+◌, ◌<◌, List, [], ◌∷◌, ◌++◌, None, Some, ◌⊎◌, slice_index}
 use Rattle.ol_edges.specs.Edges.{IsIn}
 use Rattle.ol_net.specs.Parts.{arity}
+use Rattle.ol_wire.specs.declared.layout.Parts.{Parts}
 use Rattle.ol_wire.specs.declared.view.View.{View}
 use Rattle.ol_wire.specs.References.{kind_in, place_in}
 use Rattle.ol_wire.specs.Events.{rule_between, entry_of, IsStuckPair}
 use Rattle.ol_wire.specs.Blocks.{links_of}
-use Rattle.ol_wire.specs.Plays.{IsNodeOf, event_in, cell_at, cell_in_hand, swept_on}
+use Rattle.ol_wire.specs.Plays.{IsNodeOf, IsRefOf, event_in, cell_at, cell_in_hand, swept_on}
 
 -- a claim of cell c, which read `pair.0`, and nothing more
 abbrev pub claiming : View → ℕ → ℕ × ℕ → View
@@ -51,6 +52,10 @@ IsSure known w y = IsIn (w, y) known × ((x : ℕ) → IsIn (w, x) known → x �
 -- these are the fields of the node
 abbrev pub AreFields : List (ℕ × ℕ) → ℕ → List ℕ → Type 0
 AreFields known node found = (s : ℕ) → s < arity (kind_in node) → IsSure known (place_in node + s) (slice_index found s)
+
+-- what the fields of the node hold are references
+abbrev pub AreRefs : Parts → ℕ → List ℕ → Type 0
+AreRefs z node found = (s : ℕ) → s < arity (kind_in node) → IsRefOf z (slice_index found s)
 
 -- The pair in hand has become ticket t: its words are written, and its links are pending, by what the fields of the two nodes held.
 pub record Rewrote (v : View) (t : ℕ) (of_f of_g : List ℕ) (n : View) : Type 0 where

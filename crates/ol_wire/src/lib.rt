@@ -1,12 +1,13 @@
 //! The shared words: a net laid out in words that any number of threads rewrite by single atomic steps.
 #![tactic(auto)]
 
-mod holding;
+mod joining;
 mod law;
 mod laying;
 #[cfg(test)]
 mod laying_tests;
 mod layout;
+mod linking;
 mod plan;
 mod promise;
 mod reference;
@@ -14,10 +15,11 @@ mod rewrite;
 mod seat;
 mod shared;
 mod stepping;
+#[cfg(test)]
+mod turn_tests;
 mod turning;
 mod view;
 
-pub use holding::Hold;
 pub use law::Law;
 pub use layout::Parts;
 pub use plan::Plan;

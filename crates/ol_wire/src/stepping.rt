@@ -4,7 +4,7 @@ ghost use Rattle.ol_edges.specs.Edges.{IsIn};
 ghost use Rattle.ol_net.specs.Parts.{arity};
 ghost use Rattle.ol_wire.specs.References.{kind_in, place_in};
 ghost use Rattle.ol_wire.specs.Layout.{size, left_word, cells_of};
-ghost use Rattle.ol_wire.specs.Plays.{IsNodeOf, IsLookedUp, paired, knowing, ticketed, late, wrote, returned, rest};
+ghost use Rattle.ol_wire.specs.Plays.{IsNodeOf, IsRefOf, IsLookedUp, paired, knowing, ticketed, late, wrote, returned, rest};
 ghost use Rattle.ol_wire.specs.Sizes.{IsSmall};
 ghost use Rattle.ol_wire.specs.Stand.{IsUnder};
 ghost use Rattle.ol_wire.specs.Views.{IsIdle};
@@ -63,6 +63,7 @@ impl Shared {
         ensures token { (token.new.table_id ≡ token.old.table_id) × (token.new.me.1 ≡ token.old.me.1) }
         ensures view { token.new.me.0 ≡ knowing token.old.me.0 (place_in node + slot) result }
         ensures same { (y : ℕ) → IsIn (place_in node + slot, y) token.old.me.0.known → y ≡ result }
+        ensures found { IsRefOf self.now.plan.parts result }
     {
         let word = self.parts.field(node, slot);
         self.table.shared.load::<Looks>(token, word as usize)
