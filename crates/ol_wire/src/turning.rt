@@ -64,22 +64,21 @@ impl Shared {
         ensures others { seat.new.view.holds ≡ seat.old.view.holds }
         ensures view { Leaves self.now.plan.parts seat.old.view cell result seat.new.view }
     {
-        match self.begin(&mut seat.token, seat.over, cell) {
+        let begun = match self.begin(&mut seat.token, seat.over, cell) {
+            Ok(begun) => begun,
             Err(ended) => {
                 if let Turn::Spent = ended {
                     seat.over = true;
                 }
-                ended
+                return ended;
             }
-            Ok(begun) => {
-                let mask = self.link_all(&mut seat.token, begun);
-                Turn::Rewrote {
-                    ticket: begun.ticket,
-                    rule: begun.rewrite.rule,
-                    first_cell: self.parts.cells + 4 * begun.ticket,
-                    mask,
-                }
-            }
+        };
+        let mask = self.link_all(&mut seat.token, begun);
+        Turn::Rewrote {
+            ticket: begun.ticket,
+            rule: begun.rewrite.rule,
+            first_cell: self.parts.cells + 4 * begun.ticket,
+            mask,
         }
     }
 

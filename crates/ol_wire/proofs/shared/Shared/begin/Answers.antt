@@ -5,7 +5,7 @@ use Rattle.ol_wire.specs.Events.{Event, rule_between}
 use Rattle.ol_wire.specs.Plays.{event_in}
 use Rattle.ol_wire.specs.Hands.{in_hand, IsInHand}
 use Rattle.ol_wire.proofs.StepsHold.{hand_of}
-use Rattle.ol_wire.proofs.StepsTurn.{spent_after}
+use Rattle.ol_wire.proofs.StepsTurn.{spent_after, begun_after}
 use Rattle.ol_wire.proofs.shared.Shared.begin.Goals as goal
 
 pub rewrite-requires-clause-pair : goal.rewrite-requires-clause-pair
@@ -42,3 +42,12 @@ returns-in_default-rewrite-clause-ended c =
     let hand : t ≡ record (in_hand v (left_word z c.args.cell) c.args.cell pair) { known = t.known; over = true } = c.in_default-rewrite.ensures.view ∙ ap (λ (u : View). record u { known = t.known; over = true }) c.in-Some.ensures.view.1 in
     spent_after z v t n c.args.cell pair t.known true c.requires.token.1.0 c.requires.cell c.requires.idle hand c.put_back-in_default-rewrite.ensures.view c.in-Some.ensures.view.0 c.in-Some-rewrite_of.rewrite
     c.in-Some-rewrite_of.ensures.0 c.in-Some-rewrite_of.ensures.1 refl
+
+pub returns-clause-begun : goal.returns-clause-begun
+returns-clause-begun c =
+    let z = c.args.self.now.plan.parts in
+    let v : View = c.args.token.now.me.0 in
+    let pair : ℕ × ℕ = (c.in-Some.left, c.in-Some.right) in
+    let done = c.in-Some-rewrite.ensures in
+    begun_after z v c.take.new.token.me.0 c.rewrite.new.token.me.0 c.args.cell pair c.in-Some-rewrite_of.rewrite c.in-Some-rewrite.begun c.in-Some.ensures.view.1 done.view.1 done.view.2 c.in-Some-rewrite_of.ensures.0 c.in-Some-rewrite_of.ensures.1
+    c.in-Some.ensures.view.0 (c.requires.over ∙ c.if-over.false) done.view.0 c.in-Some.ensures.nodes.0 c.in-Some.ensures.nodes.1 done.refs.0 done.refs.1
