@@ -163,38 +163,9 @@ module _ (z : Parts) (v m n : View) (c mask : ℕ) (b : Begun) (ws : List ℕ) (
       rule : b.rewrite.rule ≡ (event_in n).rule
       rule = ap (λ (e : Event). e.rule) (begun.event ∙ ap (λ (l : ℕ × ℕ). event_of l.0 l.1) (sym same_last))
 
--- a seat that was idle is idle after a turn, in each case
-pub idle_left : (z : Parts) (v n : View) (c : ℕ) (a : Turn) → IsIdle v → Leaves z v c a n → IsIdle n
-idle_left z v n c Gone idle e = subst IsIdle (sym e) idle
-idle_left z v n c Stuck idle e = subst IsIdle (sym e) idle
-idle_left z v n c Spent idle e = subst IsIdle (sym e) idle
-idle_left z v n c (Rewrote t r b m) idle h = subst IsIdle (sym h.view) idle
-
-not_both : (n : View) → IsStuckLast n → IsActiveLast n → ⊥
-not_both n stuck active =
-    let e : is_stuck (rule_between n.last.0 n.last.1) (rule_between n.last.1 n.last.0) ≡ true = ap (λ q. is_stuck q (rule_between n.last.1 n.last.0)) stuck.0 ∙ ap (is_stuck None) stuck.1 in
-    false≢true (sym (active_pair n.last.0 n.last.1 active) ∙ e)
-
-not_over : (n : View) → n.over ≡ true → n.over ≡ false → ⊥
-not_over n e f = false≢true (sym f ∙ e)
-
--- so the answer tells the cause, and the cause the answer
-pub by_causes : (a : Turn) (n : View) → HasCause a n → ((a ≡ Gone) ↔ (n.last.0 ≡ 0)) × ((a ≡ Stuck) ↔ ((n.last.0 ≢ 0) × IsStuckLast n)) × ((a ≡ Spent) ↔ (FoundActive n × (n.over ≡ true))) × (IsRewrote a ↔ (FoundActive n × (n.over ≡ false)))
-by_causes Gone n h = (((λ e. h), (λ g. refl)), ((λ e. absurd (cc)), (λ g. absurd (g.0 h))), ((λ e. absurd (cc)), (λ g. absurd (g.0.0 h))), ((λ e. absurd e), (λ g. absurd (g.0.0 h))))
-by_causes Stuck n h = (((λ e. absurd (cc)), (λ g. absurd (h.0 g))), ((λ e. h), (λ g. refl)), ((λ e. absurd (cc)), (λ g. absurd (not_both n h.1 g.0.1))), ((λ e. absurd e), (λ g. absurd (not_both n h.1 g.0.1))))
-by_causes Spent n h = (((λ e. absurd (cc)), (λ g. absurd (h.0.0 g))), ((λ e. absurd (cc)), (λ g. absurd (not_both n g.1 h.0.1))), ((λ e. h), (λ g. refl)), ((λ e. absurd e), (λ g. absurd (not_over n h.1 g.1))))
-by_causes (Rewrote t r b m) n h = (((λ e. absurd (cc)), (λ g. absurd (h.0.0 g))), ((λ e. absurd (cc)), (λ g. absurd (not_both n g.1 h.0.1))), ((λ e. absurd (cc)), (λ g. absurd (not_over n g.1 h.1))), ((λ e. h), (λ g. tt)))
-
 -- the whole turn, in one
 pub turn_rewrites : (z : Parts) (v m n : View) (c mask : ℕ) (b : Begun) → v.parts ≡ z → c < cells_of z → IsIdle v → Begins z v c b m → AreLinked z m b mask n
     → HasCause (Rewrote b.ticket b.rewrite.rule (z.cells + 4 * b.ticket) mask) n × Leaves z v c (Rewrote b.ticket b.rewrite.rule (z.cells + 4 * b.ticket) mask) n
 turn_rewrites z v m n c mask b parts low idle begun linked =
     rewritten_leaves z v m n c mask b linked.dead.0 parts low idle begun linked.mask
     (linked.view ∙ ap (λ (ds : List ℕ). record m { pending = []; known = n.known; published = m.published ++ masked (z.cells + 4 * b.ticket) mask; dead = ds }) linked.dead.1)
-
--- what each answer leaves as it was
-pub left_as_was : (z : Parts) (v n : View) (c : ℕ) (a : Turn) → Leaves z v c a n → (n.claimed ≡ v.claimed ++ c ∷ []) × (n.holds ≡ v.holds) × (n.parts ≡ v.parts) × (n.seats ≡ v.seats)
-left_as_was z v n c Gone e = (ap (λ (u : View). u.claimed) e, ap (λ (u : View). u.holds) e, ap (λ (u : View). u.parts) e, ap (λ (u : View). u.seats) e)
-left_as_was z v n c Stuck e = (ap (λ (u : View). u.claimed) e, ap (λ (u : View). u.holds) e, ap (λ (u : View). u.parts) e, ap (λ (u : View). u.seats) e)
-left_as_was z v n c Spent e = (ap (λ (u : View). u.claimed) e, ap (λ (u : View). u.holds) e, ap (λ (u : View). u.parts) e, ap (λ (u : View). u.seats) e)
-left_as_was z v n c (Rewrote t r b m) h = (ap (λ (u : View). u.claimed) h.view, ap (λ (u : View). u.holds) h.view, ap (λ (u : View). u.parts) h.view, ap (λ (u : View). u.seats) h.view)

@@ -51,20 +51,6 @@ module _ (z : Parts) (v : View) (w a b : ℕ) (n : View) (h : IsLinking z v w a 
 
   -- an end that is no node, and the other end
   module _ (wire other : ℕ) (open_one : IsNodeRef wire → ⊥) (turn : ((wire ≡ a) × (other ≡ b)) ⊎ ((wire ≡ b) × (other ≡ a))) where
-    of_ends : IsEndOf z wire
-    of_ends = of turn
-      where
-        of : ((wire ≡ a) × (other ≡ b)) ⊎ ((wire ≡ b) × (other ≡ a)) → IsEndOf z wire
-        of (inl t) = subst (IsEndOf z) (sym t.0) h.ends.0
-        of (inr t) = subst (IsEndOf z) (sym t.0) h.ends.1
-
-    pub open_is_wire : IsWireRef wire × (place_in wire < size z)
-    open_is_wire = of of_ends
-      where
-        of : IsEndOf z wire → IsWireRef wire × (place_in wire < size z)
-        of (inl node) = absurd (open_one node)
-        of (inr there) = there
-
     pub open_next : AreNext n wire other
     open_next = record { due = next_now.0; link = link_between w a b; pending = next_now.1; between = of turn }
       where
@@ -82,27 +68,6 @@ module _ (z : Parts) (v : View) (w a b : ℕ) (n : View) (h : IsLinking z v w a 
     where
       whole : m ≡ record v { pending = link_between w other c ∷ rest v.pending; dead = n.dead ++ u ∷ [] }
       whole = e ∙ ap (λ (x : View). moved x u other c) h.view
-
-  pub linking_ends : (m : View) → m ≡ linked n → IsLinked v w false m
-  linking_ends m e = record {
-    dead = (h.dead.0, ap (λ (x : View). x.dead) e ∙ h.dead.1);
-    view = whole ∙ ap (λ (ks : List (ℕ × ℕ)). record v { pending = rest v.pending; known = ks; dead = n.dead }) (sym (ap (λ (x : View). x.known) whole))
-        ∙ ap (λ (ps : List ℕ). record v { pending = rest v.pending; known = m.known; published = ps; dead = n.dead }) (sym (append_nil v.published))
-        ∙ ap (λ (ds : List ℕ). record v { pending = rest v.pending; known = m.known; published = v.published ++ []; dead = ds }) (sym (ap (λ (x : View). x.dead) e));
-  }
-    where
-      whole : m ≡ record v { pending = rest v.pending; dead = n.dead }
-      whole = e ∙ ap linked h.view
-
-  pub linking_publishes : (m : View) → m ≡ publishing n w → IsLinked v w true m
-  linking_publishes m e = record {
-    dead = (h.dead.0, ap (λ (x : View). x.dead) e ∙ h.dead.1);
-    view = whole ∙ ap (λ (ks : List (ℕ × ℕ)). record v { pending = rest v.pending; known = ks; published = v.published ++ cell_at v.parts w ∷ []; dead = n.dead }) (sym (ap (λ (x : View). x.known) whole))
-        ∙ ap (λ (ds : List ℕ). record v { pending = rest v.pending; known = m.known; published = v.published ++ cell_at v.parts w ∷ []; dead = ds }) (sym (ap (λ (x : View). x.dead) e));
-  }
-    where
-      whole : m ≡ record v { pending = rest v.pending; known = []; published = v.published ++ cell_at v.parts w ∷ []; dead = n.dead }
-      whole = e ∙ ap (λ (x : View). publishing x w) h.view
 
 -- the first cells of a mask, and one more
 pub masked_more : (first j m : ℕ) → j < 4 → m < 2 ^ j → masked first (m + 2 ^ j) ≡ masked first m ++ (first + j) ∷ []
@@ -210,9 +175,6 @@ module _ (z : Parts) (v : View) (b : Begun) (begun : IsBegun z v b) where
       go false q few = (born_is_end j, two_of (arity (kind_in b.rewrite.g)) (arity (kind_in b.rewrite.f)) few refl refl)
 
   module _ (j m : ℕ) (n : View) (h : AreLinking z v b j m n) (lt : j < joins) where
-    later : List Link
-    later = links_from (joins - suc j) (suc j) (link_in z b)
-
     pending_now : n.pending ≡ link_in z b j ∷ links_from (joins - suc j) (suc j) (link_in z b)
     pending_now = ap (λ (u : View). u.pending) h.view ∙ one_link_off joins j (link_in z b) lt
 

@@ -11,7 +11,7 @@ use Rattle.ol_wire.specs.Plays.{cell_at, rest}
 abbrev pub link_between : ℕ → ℕ → ℕ → Link
 link_between w a b = record { cell = w; one = a; two = b }
 
--- a reference of a node, or one of a wire or a free port by a word of the table
+-- what an end of a link has to be: a node, or a wire or a free port by a word of the table
 abbrev pub IsEndOf : Parts → ℕ → Type 0
 IsEndOf z r = IsNodeRef r ⊎ (IsWireRef r × (place_in r < size z))
 

@@ -1,5 +1,5 @@
-//! The links that a rewrite leaves: each is made by exchanges with the words of wires and of free ports, until its two ends are nodes or an
-//! empty word has taken one of them.
+//! The links that a rewrite leaves. Each is made by exchanges with the words of wires and of free
+//! ports, until an empty word has taken one of its ends or both ends are nodes.
 ghost use Rattle.std.specs.Prelude.{◌≡◌, ◌≢◌, ℕ, suc, ◌+◌, ◌*◌, ◌^◌, ◌<◌, ◌≤◌, ◌⊎◌, [], Some, MatchOption, IfSome, slice_index};
 ghost use Rattle.ol_wire.specs.References.{index_in, place_in, IsNodeRef, IsWireRef};
 ghost use Rattle.ol_wire.specs.Events.{rule_between};
@@ -105,7 +105,8 @@ impl Shared {
         mask
     }
 
-    // Makes the first pending link, and tells whether its pair was published. `cell` is the left word of its cell.
+    // Makes the first pending link, and tells whether its pair was published. `cell` is the left word of
+    // its cell.
     fn link(&self, token: &mut Token, cell: u32, one: u64, two: u64) -> bool
         requires token { (token.old.table_id ≡ self.now.table) × IsUnder self.now.plan token.old.me.0 }
         requires next { IsNext token.old.me.0 cell one two }
@@ -129,7 +130,8 @@ impl Shared {
         }
     }
 
-    // Puts `other` into the word of `wire`, where these are the ends of the first pending link, and gives what stood there.
+    // Puts `other` into the word of `wire`, where these are the ends of the first pending link, and gives
+    // what stood there.
     fn exchange(&self, token: &mut Token, wire: u64, other: u64) -> Option<u64>
         requires token { (token.old.table_id ≡ self.now.table) × IsUnder self.now.plan token.old.me.0 }
         requires next { AreNext token.old.me.0 wire other }

@@ -11,8 +11,8 @@ use std::marker::Model;
 
 pub(crate) type Token = atomic_table::Seat<(), View>;
 
-/// What a thread steps with on a table. It tells what its turns did. Between two calls it holds no pair, no word to
-/// write and no link to make.
+/// What a thread steps with on a table. It tells what its turns did. Between two calls it holds no
+/// claimed pair, no word to write and no link to make.
 #[derive(Drop)]
 pub struct Seat {
     pub(crate) token: Token,
