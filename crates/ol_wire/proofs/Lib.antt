@@ -63,6 +63,7 @@ pub mod StepsPublishCells
 pub mod StepsPublish
 pub mod StepsJoin
 pub mod StepsLinkAllowed
+pub mod TurningLinks
 pub mod Opening
 pub mod OpeningPorts
 pub mod OpeningWords

@@ -15,11 +15,11 @@ use Rattle.ol_wire.specs.References.{kind_in, index_in, place_in}
 use Rattle.ol_wire.specs.Layout.{block, size, born_cell}
 use Rattle.ol_wire.specs.Events.{Event, rule_between, event_of, entry_of}
 use Rattle.ol_wire.specs.Blocks.{born_ref, block_words, to_write, joins_in, link_of, links_of}
-use Rattle.ol_wire.specs.Plays.{IsNodeOf, IsLookedUp, known_at, event_in, ticketed, late, rest, cell_at, cell_in_hand, swept_on}
+use Rattle.ol_wire.specs.Plays.{IsNodeOf, IsRefOf, IsLookedUp, known_at, event_in, ticketed, late, rest, cell_at, cell_in_hand, swept_on}
 use Rattle.ol_wire.specs.Rewrites.{event_for}
 use Rattle.ol_wire.specs.Sizes.{IsSmall}
 use Rattle.ol_wire.specs.Views.{IsIdle}
-use Rattle.ol_wire.specs.Hands.{in_hand, IsInHand, IsOfPair, IsSure, AreFields, fields_known, Rewrote}
+use Rattle.ol_wire.specs.Hands.{in_hand, IsInHand, IsOfPair, IsSure, AreFields, AreRefs, fields_known, Rewrote}
 use Rattle.ol_wire.proofs.Claimed.{in_left, in_right}
 use Rattle.ol_wire.proofs.StepsPair.{arity_two, event_sides}
 
@@ -227,23 +227,12 @@ hand_of z v n w c pair parts is f g = subst (λ (u : View). IsInHand u w) (sym i
       nodes = (subst (λ (y : Parts). IsNodeOf y pair.0) (sym parts) f, subst (λ (y : Parts). IsNodeOf y pair.1) (sym parts) g);
     }
 
-some_last : {A : Type 0} (xs : List A) (x : A) → xs ++ x ∷ [] ≡ [] → ⊥
-some_last [] x e = absurd (cc)
-some_last (y ∷ xs) x e = absurd (cc)
+-- the fields that the looks found are references
+pub one_ref : (z : Parts) (node a : ℕ) → arity (kind_in node) ≤ 1 → IsRefOf z a → AreRefs z node (a ∷ 0 ∷ [])
+one_ref z node a few h zero lt = h
+one_ref z node a few h (suc s) lt = absurd (omega (arith, few, lt))
 
--- a rewrite leaves no link exactly where it has no join
-pub no_links : (z : Parts) (e : Event) (t : ℕ) (a b : ℕ → ℕ) → (links_of z e t a b ≡ [] → joins_in e ≡ 0) × (joins_in e ≡ 0 → links_of z e t a b ≡ [])
-no_links z e t a b = (of (joins_in e), (λ q. ap (λ (n : ℕ). each n (λ j. link_of z e t a b j ∷ [])) q))
-  where
-    of : (n : ℕ) → each n (λ j. link_of z e t a b j ∷ []) ≡ [] → n ≡ 0
-    of zero q = refl
-    of (suc n) q = absurd (some_last (each n (λ j. link_of z e t a b j ∷ [])) (link_of z e t a b n) q)
-
-idle_by : (n : View) (z : Parts) (e : Event) (t : ℕ) (a b : ℕ → ℕ) → n.taken ≡ [] → n.due ≡ [] → n.pending ≡ links_of z e t a b → (joins_in e ≡ 0 → IsIdle n) × (IsIdle n → joins_in e ≡ 0)
-idle_by n z e t a b taken due pending = ((λ q. (taken, due, pending ∙ (no_links z e t a b).1 q)), (λ idle. (no_links z e t a b).0 (sym pending ∙ idle.2)))
-
--- after the rewrite the seat is idle exactly where there is no join
-pub idle_after : (v n : View) (t : ℕ) (r : Rewrite) (of_f of_g : List ℕ) → event_for r ≡ event_in v → v.due ≡ [] → Rewrote v t of_f of_g n → (joins_in (event_for r) ≡ 0 → IsIdle n) × (IsIdle n → joins_in (event_for r) ≡ 0)
-idle_after v n t r of_f of_g is due done =
-    subst (λ (e : Event). (joins_in e ≡ 0 → IsIdle n) × (IsIdle n → joins_in e ≡ 0)) (sym is)
-    (idle_by n v.parts (event_in v) t _ _ (ap (λ (u : View). u.taken) done.view) (ap (λ (u : View). u.due) done.view ∙ due) done.links)
+pub two_refs : (z : Parts) (node a b : ℕ) → IsRefOf z a → IsRefOf z b → AreRefs z node (a ∷ b ∷ [])
+two_refs z node a b h g zero lt = h
+two_refs z node a b h g (suc zero) lt = g
+two_refs z node a b h g (suc (suc s)) lt = absurd (omega (arith, arity_two (kind_in node), lt))

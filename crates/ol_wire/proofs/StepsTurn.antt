@@ -1,5 +1,5 @@
 -- What a turn leaves, and that each answer comes by its own cause alone.
-use Rattle.std.proofs.Common.{◌≡◌, ◌≢◌, ℕ, ◌+◌, ◌<◌, true, false, if◌then◌else◌, Bool, None, Some, Option, List, [], ◌∷◌, ◌++◌, sym, refl, ap, ◌∙◌, subst, ◌*◌, ◌↔◌}
+use Rattle.std.proofs.Common.{◌≡◌, ◌≢◌, ℕ, ◌+◌, ◌<◌, true, false, get_or, if◌then◌else◌, Bool, None, Some, Option, List, [], ◌∷◌, ◌++◌, sym, refl, ap, ◌∙◌, subst, ◌*◌, ◌↔◌}
 use mathlib.Core.Bool.{false≢true}
 use Rattle.ol_net.specs.declared.parts.Rule.{Rule}
 use Rattle.ol_wire.specs.declared.layout.Parts.{Parts}
@@ -14,11 +14,12 @@ use Rattle.ol_wire.specs.Plays.{IsNodeOf, is_stuck, cell_at, swept_on, event_in,
 use Rattle.ol_wire.specs.declared.rewrite.Rewrite.{Rewrite}
 use Rattle.ol_wire.specs.Rewrites.{event_for}
 use Rattle.ol_wire.specs.Views.{IsIdle}
+use Rattle.ol_wire.specs.Blocks.{links_of}
 use Rattle.ol_wire.specs.Hands as hands
-use Rattle.ol_wire.specs.Hands.{claiming, in_hand, IsOfPair, AreRefs, IsStuckLast, IsActiveLast}
-use Rattle.ol_wire.specs.Turns.{FoundActive, HasCause, IsRewrote, masked, Leaves, Begins}
+use Rattle.ol_wire.specs.Hands.{claiming, in_hand, IsStuckLast, IsActiveLast, AreRefs}
+use Rattle.ol_wire.specs.Turns.{FoundActive, HasCause, IsRewrote, masked, Leaves, Begins, IsBegun, AreLinked}
 use Rattle.ol_wire.proofs.Places.{cell_of_left}
-use Rattle.ol_wire.proofs.StepsHold.{of_pair, node_in_hand, hand_of}
+use Rattle.ol_wire.proofs.TicketRefs.{event_of_pair}
 
 none_some : {x : Rule} → ◌≡◌ {A = Option Rule} None (Some x) → ⊥
 none_some e = absurd (cc)
@@ -82,32 +83,36 @@ module _ (z : Parts) (v t n : View) (c : ℕ) (pair : ℕ × ℕ) (ks : List (�
           whole ∙ ap (λ b. shape [] (if b then swept_on v (cell_at v.parts (left_word z c)) else v.swept) o pair) (active_pair pair.0 pair.1 fits) ∙ ap (λ l. shape l v.swept o pair) (sym idle.0)
           ∙ ap (λ b. shape v.taken v.swept b pair) over ∙ ap (shape v.taken v.swept true) (sym last)
 
--- a pair of cell c was in hand, and has become a ticket
-pub begins : (z : Parts) (v t n : View) (c : ℕ) (pair : ℕ × ℕ) (r : Rewrite) (b : Begun) → v.parts ≡ z → v.over ≡ false → t ≡ in_hand v (left_word z c) c pair → pair.0 ≢ 0 → IsNodeOf z pair.0 → IsNodeOf z pair.1
-    → event_for r ≡ event_of pair.0 pair.1 → rule_between r.f r.g ≡ Some r.rule → b.ticket < z.fuel → b.rewrite ≡ r → hands.Rewrote t b.ticket b.of_f b.of_g n → AreRefs z r.f b.of_f × AreRefs z r.g b.of_g → Begins z v c b n
-begins z v t n c pair r b parts under hand some_pair f g is rule low same done refs = record {
-  cause = (((λ e. some_pair (sym (ap (λ (q : ℕ × ℕ). q.0) last) ∙ e)), active), ap (λ (u : View). u.over) done.view ∙ ap (λ (u : View). u.over) hand ∙ under);
-  ticket = low;
-  event = ap event_for same ∙ event;
-  nodes = subst (λ (x : Rewrite). IsNodeOf z x.f × IsNodeOf z x.g) (sym same) (node r.f sides.0, node r.g sides.1);
-  fields = subst (λ (x : Rewrite). AreRefs z x.f b.of_f × AreRefs z x.g b.of_g) (sym same) refs;
-  rewrote = subst (λ (u : View). hands.Rewrote u b.ticket b.of_f b.of_g n) (hand ∙ ap (in_hand v (left_word z c) c) (sym last)) done;
+-- the pair in hand has become a ticket
+module _ (z : Parts) (v t n : View) (c : ℕ) (pair : ℕ × ℕ) (r : Rewrite) (b : Begun) (hand : t ≡ in_hand v (left_word z c) c pair) (same : b.rewrite ≡ r) (done : hands.Rewrote t b.ticket b.of_f b.of_g n)
+    (is : event_for r ≡ event_of pair.0 pair.1) (rule : rule_between r.f r.g ≡ Some r.rule) where
+  last_pair : n.last ≡ pair
+  last_pair = ap (λ (u : View). u.last) done.view ∙ ap (λ (u : View). u.last) hand
+
+  pub begun_after : pair.0 ≢ 0 → v.over ≡ false → b.ticket < z.fuel → IsNodeOf z pair.0 → IsNodeOf z pair.1 → AreRefs z r.f b.of_f → AreRefs z r.g b.of_g → Begins z v c b n
+  begun_after some_pair under ticket left right of_f of_g = record {
+    cause = (((λ e. some_pair (sym (ap (λ (q : ℕ × ℕ). q.0) last_pair) ∙ e)), active), ap (λ (u : View). u.over) done.view ∙ ap (λ (u : View). u.over) hand ∙ under);
+    ticket = ticket;
+    event = ap (λ (q : Rewrite). event_for q) same ∙ is ∙ ap (λ (q : ℕ × ℕ). event_of q.0 q.1) (sym last_pair);
+    nodes = subst (λ (q : Rewrite). IsNodeOf z q.f × IsNodeOf z q.g) (sym same) (subst (λ (e : Event). IsNodeOf z e.f × IsNodeOf z e.g) (sym is) (event_of_pair (IsNodeOf z) pair.0 pair.1 left right));
+    fields = subst (λ (q : Rewrite). AreRefs z q.f b.of_f × AreRefs z q.g b.of_g) (sym same) (of_f, of_g);
+    rewrote = subst (λ (u : View). hands.Rewrote u b.ticket b.of_f b.of_g n) (hand ∙ ap (in_hand v (left_word z c) c) (sym last_pair)) done;
+  }
+    where
+      active : IsActiveLast n
+      active = subst (λ (q : ℕ × ℕ). rule_between (event_of q.0 q.1).f (event_of q.0 q.1).g ≡ Some (event_of q.0 q.1).rule) (sym last_pair) (subst (λ (e : Event). rule_between e.f e.g ≡ Some e.rule) is rule)
+
+-- and its links are pending
+pub links_pending : (z : Parts) (v m : View) (c : ℕ) (b : Begun) → v.parts ≡ z → IsIdle v → Begins z v c b m → IsBegun z m b
+links_pending z v m c b parts idle begun = record {
+  due = ap (λ (u : View). u.due) begun.rewrote.view ∙ idle.1;
+  pending = begun.rewrote.links ∙ ap (λ (y : Parts). links_of y (event_in m) b.ticket (λ s. get_or b.of_f s 0) (λ s. get_or b.of_g s 0)) parts
+      ∙ ap (λ (e : Event). links_of z e b.ticket (λ s. get_or b.of_f s 0) (λ s. get_or b.of_g s 0)) (sym begun.event);
+  ticket = begun.ticket;
+  rule = subst (λ (e : Event). rule_between e.f e.g ≡ Some e.rule) (sym begun.event) begun.cause.0.1;
+  nodes = begun.nodes;
+  fields = begun.fields;
 }
-  where
-    last : n.last ≡ pair
-    last = ap (λ (u : View). u.last) done.view ∙ ap (λ (u : View). u.last) hand
-
-    event : event_for r ≡ event_in n
-    event = is ∙ ap (λ (q : ℕ × ℕ). event_of q.0 q.1) (sym last)
-
-    active : IsActiveLast n
-    active = subst (λ (e : Event). rule_between e.f e.g ≡ Some e.rule) event rule
-
-    sides : IsOfPair t r.f × IsOfPair t r.g
-    sides = of_pair t r (is ∙ sym (ap event_in hand))
-
-    node : (x : ℕ) → IsOfPair t x → IsNodeOf z x
-    node x o = subst (λ (y : Parts). IsNodeOf y x) (ap (λ (u : View). u.parts) hand ∙ parts) (node_in_hand t (left_word z c) x (hand_of z v t (left_word z c) c pair parts hand f g) o)
 
 -- the links are made: the whole turn, by its first part and by what the making of the links leaves of it
 module _ (z : Parts) (v m n : View) (c mask : ℕ) (b : Begun) (ws : List ℕ) (parts : v.parts ≡ z) (low : c < cells_of z) (idle : IsIdle v) (begun : Begins z v c b m) (small : mask < 16)
@@ -158,24 +163,9 @@ module _ (z : Parts) (v m n : View) (c mask : ℕ) (b : Begun) (ws : List ℕ) (
       rule : b.rewrite.rule ≡ (event_in n).rule
       rule = ap (λ (e : Event). e.rule) (begun.event ∙ ap (λ (l : ℕ × ℕ). event_of l.0 l.1) (sym same_last))
 
--- a seat that was idle is idle after a turn, in each case
-pub idle_left : (z : Parts) (v n : View) (c : ℕ) (a : Turn) → IsIdle v → Leaves z v c a n → IsIdle n
-idle_left z v n c Gone idle e = subst IsIdle (sym e) idle
-idle_left z v n c Stuck idle e = subst IsIdle (sym e) idle
-idle_left z v n c Spent idle e = subst IsIdle (sym e) idle
-idle_left z v n c (Rewrote t r b m) idle h = subst IsIdle (sym h.view) idle
-
-not_both : (n : View) → IsStuckLast n → IsActiveLast n → ⊥
-not_both n stuck active =
-    let e : is_stuck (rule_between n.last.0 n.last.1) (rule_between n.last.1 n.last.0) ≡ true = ap (λ q. is_stuck q (rule_between n.last.1 n.last.0)) stuck.0 ∙ ap (is_stuck None) stuck.1 in
-    false≢true (sym (active_pair n.last.0 n.last.1 active) ∙ e)
-
-not_over : (n : View) → n.over ≡ true → n.over ≡ false → ⊥
-not_over n e f = false≢true (sym f ∙ e)
-
--- so the answer tells the cause, and the cause the answer
-pub by_causes : (a : Turn) (n : View) → HasCause a n → ((a ≡ Gone) ↔ (n.last.0 ≡ 0)) × ((a ≡ Stuck) ↔ ((n.last.0 ≢ 0) × IsStuckLast n)) × ((a ≡ Spent) ↔ (FoundActive n × (n.over ≡ true))) × (IsRewrote a ↔ (FoundActive n × (n.over ≡ false)))
-by_causes Gone n h = (((λ e. h), (λ g. refl)), ((λ e. absurd (cc)), (λ g. absurd (g.0 h))), ((λ e. absurd (cc)), (λ g. absurd (g.0.0 h))), ((λ e. absurd e), (λ g. absurd (g.0.0 h))))
-by_causes Stuck n h = (((λ e. absurd (cc)), (λ g. absurd (h.0 g))), ((λ e. h), (λ g. refl)), ((λ e. absurd (cc)), (λ g. absurd (not_both n h.1 g.0.1))), ((λ e. absurd e), (λ g. absurd (not_both n h.1 g.0.1))))
-by_causes Spent n h = (((λ e. absurd (cc)), (λ g. absurd (h.0.0 g))), ((λ e. absurd (cc)), (λ g. absurd (not_both n g.1 h.0.1))), ((λ e. h), (λ g. refl)), ((λ e. absurd e), (λ g. absurd (not_over n h.1 g.1))))
-by_causes (Rewrote t r b m) n h = (((λ e. absurd (cc)), (λ g. absurd (h.0.0 g))), ((λ e. absurd (cc)), (λ g. absurd (not_both n g.1 h.0.1))), ((λ e. absurd (cc)), (λ g. absurd (not_over n g.1 h.1))), ((λ e. h), (λ g. tt)))
+-- the whole turn, in one
+pub turn_rewrites : (z : Parts) (v m n : View) (c mask : ℕ) (b : Begun) → v.parts ≡ z → c < cells_of z → IsIdle v → Begins z v c b m → AreLinked z m b mask n
+    → HasCause (Rewrote b.ticket b.rewrite.rule (z.cells + 4 * b.ticket) mask) n × Leaves z v c (Rewrote b.ticket b.rewrite.rule (z.cells + 4 * b.ticket) mask) n
+turn_rewrites z v m n c mask b parts low idle begun linked =
+    rewritten_leaves z v m n c mask b linked.dead.0 parts low idle begun linked.mask
+    (linked.view ∙ ap (λ (ds : List ℕ). record m { pending = []; known = n.known; published = m.published ++ masked (z.cells + 4 * b.ticket) mask; dead = ds }) linked.dead.1)

@@ -53,7 +53,7 @@ IsSure known w y = IsIn (w, y) known × ((x : ℕ) → IsIn (w, x) known → x �
 abbrev pub AreFields : List (ℕ × ℕ) → ℕ → List ℕ → Type 0
 AreFields known node found = (s : ℕ) → s < arity (kind_in node) → IsSure known (place_in node + s) (slice_index found s)
 
--- the fields of the node hold references
+-- what the fields of the node hold are references
 abbrev pub AreRefs : Parts → ℕ → List ℕ → Type 0
 AreRefs z node found = (s : ℕ) → s < arity (kind_in node) → IsRefOf z (slice_index found s)
 

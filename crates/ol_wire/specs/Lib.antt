@@ -12,11 +12,11 @@ pub mod Views
 pub mod Rule
 pub mod Plays
 pub mod LinkPlays
+pub mod Links
 pub mod Stand
 pub mod Closed
 pub mod Standing
 pub mod TurnPlays
 pub mod Hands
-pub mod Holds
 pub mod Turns
 pub mod Rewrites

@@ -1,5 +1,5 @@
 -- What a turn answers, by its cause, and what it leaves in the seat's view.
-use Rattle.std.specs.Prelude.{◌≡◌, ◌≢◌, ℕ, ◌+◌, ◌*◌, ◌/◌, ◌%◌, ◌^◌, ◌==◌, ◌<◌, if◌then◌else◌, List, [], ◌∷◌, ◌++◌, true, false}
+use Rattle.std.specs.Prelude.{◌≡◌, ◌≢◌, ℕ, ◌+◌, ◌*◌, ◌/◌, ◌%◌, ◌^◌, ◌==◌, ◌<◌, if◌then◌else◌, List, [], ◌∷◌, ◌++◌, true, false, Some, slice_index}
 use Rattle.ol_net.specs.declared.parts.Rule.{Rule}
 use Rattle.ol_rules.specs.Listed.{each}
 use Rattle.ol_wire.specs.declared.layout.Parts.{Parts}
@@ -8,11 +8,12 @@ use Rattle.ol_wire.specs.declared.turning.Begun.{Begun}
 use Rattle.ol_wire.specs.declared.turning.Turn.{Turn}
 use Rattle.ol_wire.specs.declared.turning.Turn.TheVariants.{Rewrote, Gone, Stuck, Spent}
 use Rattle.ol_wire.specs.Layout.{left_word}
-use Rattle.ol_wire.specs.Events.{entry_of}
+use Rattle.ol_wire.specs.Events.{rule_between, entry_of}
+use Rattle.ol_wire.specs.Blocks.{links_of}
 use Rattle.ol_wire.specs.Plays.{IsNodeOf, event_in, swept_on}
 use Rattle.ol_wire.specs.Rewrites.{event_for}
 use Rattle.ol_wire.specs.Hands as hands
-use Rattle.ol_wire.specs.Hands.{claiming, missed, in_hand, AreRefs, IsStuckLast, IsActiveLast}
+use Rattle.ol_wire.specs.Hands.{claiming, missed, in_hand, IsStuckLast, IsActiveLast, AreRefs}
 
 -- the turn read a pair, and the pair has a rule
 abbrev pub FoundActive : View → Type 0
@@ -57,3 +58,18 @@ pub record Begins (z : Parts) (v : View) (c : ℕ) (b : Begun) (n : View) : Type
   pub nodes : IsNodeOf z b.rewrite.f × IsNodeOf z b.rewrite.g
   pub fields : AreRefs z b.rewrite.f b.of_f × AreRefs z b.rewrite.g b.of_g
   pub rewrote : hands.Rewrote (in_hand v (left_word z c) c n.last) b.ticket b.of_f b.of_g n
+
+-- The links of the rewrite are pending, all of them.
+pub record IsBegun (z : Parts) (v : View) (b : Begun) : Type 0 where
+  pub due : v.due ≡ []
+  pub pending : v.pending ≡ links_of z (event_for b.rewrite) b.ticket (λ s. slice_index b.of_f s) (λ s. slice_index b.of_g s)
+  pub ticket : b.ticket < z.fuel
+  pub rule : rule_between b.rewrite.f b.rewrite.g ≡ Some b.rewrite.rule
+  pub nodes : IsNodeOf z b.rewrite.f × IsNodeOf z b.rewrite.g
+  pub fields : AreRefs z b.rewrite.f b.of_f × AreRefs z b.rewrite.g b.of_g
+
+-- They are made.
+pub record AreLinked (z : Parts) (v : View) (b : Begun) (m : ℕ) (n : View) : Type 0 where
+  pub mask : m < 16
+  pub dead : (ws : List ℕ) × (n.dead ≡ v.dead ++ ws)
+  pub view : n ≡ record v { pending = []; known = n.known; published = v.published ++ masked (z.cells + 4 * b.ticket) m; dead = n.dead }

@@ -1,9 +1,9 @@
 //! A table that is closed after one rewrite.
-ghost use Rattle.std.specs.Prelude.{◌≡◌, ◌≤◌, IfSome, length, is_some, count_by};
-ghost use Rattle.ol_net.specs.Replace.{top_index_of};
+ghost use Rattle.std.specs.Prelude.{◌≡◌, IfSome, length, is_some, count_by};
+ghost use Rattle.ol_wire.specs.Sizes.{IsSmallNet};
 ghost use Rattle.ol_wire.specs.Stand.{IsFresh};
 
-use crate::Hold;
+use crate::Turn;
 use crate::seat::Seat;
 use crate::shared::Shared;
 use ol_net::{Kind, Net, NodeId, Port, Rule};
@@ -22,7 +22,7 @@ fn of(node: u32) -> Port {
 // A table with one seat and two tickets.
 fn alone(alloc: Global, net: &Net) -> Option<(Shared, Seat)>
     requires whole { count_by is_some net.now.nodes ≡ length net.now.nodes }
-    requires small { (length net.now.nodes ≤ 1000000) × (net.now.free ≤ 1000000) × (top_index_of net.now.nodes ≤ 1000000) }
+    requires small { IsSmallNet net.now }
     ensures { IfSome result (λ r. IsFresh r.0 r.1 × (r.0.plan.seats ≡ 1)) }
 {
     let Ok((shared, mut seats)) = Shared::make(alloc, net, 2, 1) else {
@@ -47,18 +47,18 @@ fn tells_the_journal(rt: HostRuntime) -> Result<(), Fail> {
         panic!(rt; "no table")
     };
     assert_eq!(rt; shared.cells(), 9);
-    let held = shared.hold(&mut seat, 0);
+    let turn = shared.turn(&mut seat, 0);
     assert!(rt;
         matches!(
-            held,
-            Hold::Wrote {
+            turn,
+            Turn::Rewrote {
                 ticket: 0,
                 rule: Rule::Erase,
-                first_cell: 1
+                first_cell: 1,
+                mask: 0
             }
         )
     );
-    assert!(rt; seat.idle());
     let words = shared.close(seat);
     assert_eq!(rt; words.parts().cells, 1);
     assert_eq!(rt; words.events(), 1);

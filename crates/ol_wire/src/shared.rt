@@ -77,7 +77,6 @@ impl Shared {
             token,
             over: false,
             holds: seats,
-            idle: true,
         };
         let dealt = shared.deal(alloc, first, seats)?;
         Ok((shared, dealt))

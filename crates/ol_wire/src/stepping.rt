@@ -62,8 +62,8 @@ impl Shared {
         requires slot { slot < arity (kind_in node) }
         ensures token { (token.new.table_id ≡ token.old.table_id) × (token.new.me.1 ≡ token.old.me.1) }
         ensures view { token.new.me.0 ≡ knowing token.old.me.0 (place_in node + slot) result }
-        ensures reference { IsRefOf self.now.plan.parts result }
         ensures same { (y : ℕ) → IsIn (place_in node + slot, y) token.old.me.0.known → y ≡ result }
+        ensures found { IsRefOf self.now.plan.parts result }
     {
         let word = self.parts.field(node, slot);
         self.table.shared.load::<Looks>(token, word as usize)

@@ -8,14 +8,14 @@ ghost use Rattle.ol_wire.specs.Layout.{block, left_word, cells_of};
 ghost use Rattle.ol_wire.specs.Blocks.{to_write};
 ghost use Rattle.ol_wire.specs.Plays.{IsNodeOf, event_in};
 ghost use Rattle.ol_wire.specs.Rewrites.{event_for};
-ghost use Rattle.ol_wire.specs.Stand.{IsUnder};
+ghost use Rattle.ol_wire.specs.Stand.{IsUnder, IsOf};
 ghost use Rattle.ol_wire.specs.Views.{IsIdle};
-ghost use Rattle.ol_wire.specs.Hands.{missed, in_hand, IsInHand, IsOfPair, fields_known, IsSure, AreFields, AreRefs, Rewrote};
-ghost use Rattle.ol_wire.specs.Turns.{HasCause, Leaves, Begins};
+ghost use Rattle.ol_wire.specs.Hands.{IsStuckLast, missed, in_hand, IsInHand, IsOfPair, fields_known, IsSure, AreFields, AreRefs, Rewrote};
+ghost use Rattle.ol_wire.specs.Turns.{FoundActive, IsRewrote, HasCause, Leaves, Begins};
 
 use crate::reference::kind_in;
 use crate::rewrite::{Rewrite, rewrite_of};
-use crate::seat::Token;
+use crate::seat::{Seat, Token};
 use crate::shared::Shared;
 use ol_net::Rule;
 
@@ -51,8 +51,39 @@ pub(crate) struct Begun {
 }
 
 impl Shared {
+    /// Claims a cell and rewrites the pair that stands there, if it has a rule and there is fuel.
+    pub fn turn(&self, seat: &mut Seat, cell: u32) -> Turn
+        requires seat { IsOf self.now seat.old }
+        requires cell { cell < cells_of self.now.plan.parts }
+        ensures seat { IsOf self.now seat.new }
+        ensures gone { (result ≡ Turn.Gone) ↔ (seat.new.view.last.0 ≡ 0) }
+        ensures stuck { (result ≡ Turn.Stuck) ↔ ((seat.new.view.last.0 ≢ 0) × IsStuckLast seat.new.view) }
+        ensures spent { (result ≡ Turn.Spent) ↔ (FoundActive seat.new.view × (seat.new.view.over ≡ true)) }
+        ensures rewrote { IsRewrote result ↔ (FoundActive seat.new.view × (seat.new.view.over ≡ false)) }
+        ensures claimed { seat.new.view.claimed ≡ seat.old.view.claimed ++ cell ∷ [] }
+        ensures others { seat.new.view.holds ≡ seat.old.view.holds }
+        ensures view { Leaves self.now.plan.parts seat.old.view cell result seat.new.view }
+    {
+        let begun = match self.begin(&mut seat.token, seat.over, cell) {
+            Ok(begun) => begun,
+            Err(ended) => {
+                if let Turn::Spent = ended {
+                    seat.over = true;
+                }
+                return ended;
+            }
+        };
+        let mask = self.link_all(&mut seat.token, begun);
+        Turn::Rewrote {
+            ticket: begun.ticket,
+            rule: begun.rewrite.rule,
+            first_cell: self.parts.cells + 4 * begun.ticket,
+            mask,
+        }
+    }
+
     // A turn up to its links: it is over already, or a pair has become a ticket. `over` is the seat's.
-    pub(crate) fn begin(&self, token: &mut Token, over: bool, cell: u32) -> Result<Begun, Turn>
+    fn begin(&self, token: &mut Token, over: bool, cell: u32) -> Result<Begun, Turn>
         requires token { (token.old.table_id ≡ self.now.table) × IsUnder self.now.plan token.old.me.0 }
         requires cell { cell < cells_of self.now.plan.parts }
         requires idle { IsIdle token.old.me.0 }
@@ -80,7 +111,7 @@ impl Shared {
     }
 
     // Claims a cell, and reads its right word if the left one wasn't empty.
-    pub(crate) fn take(&self, token: &mut Token, cell: u32) -> Option<(u64, u64)>
+    fn take(&self, token: &mut Token, cell: u32) -> Option<(u64, u64)>
         requires token { (token.old.table_id ≡ self.now.table) × IsUnder self.now.plan token.old.me.0 }
         requires cell { cell < cells_of self.now.plan.parts }
         requires idle { IsIdle token.old.me.0 }
@@ -97,14 +128,14 @@ impl Shared {
     }
 
     // Draws a ticket for the pair in hand and writes its words, or finds that the fuel is used up.
-    pub(crate) fn rewrite(&self, token: &mut Token, rewrite: Rewrite) -> Option<Begun>
+    fn rewrite(&self, token: &mut Token, rewrite: Rewrite) -> Option<Begun>
         requires token { (token.old.table_id ≡ self.now.table) × IsUnder self.now.plan token.old.me.0 }
         requires pair { (w : ℕ) × IsInHand token.old.me.0 w }
         requires free { (token.old.me.0.due ≡ []) × (token.old.me.0.pending ≡ []) × (token.old.me.0.over ≡ false) }
         requires rule { (event_for rewrite ≡ event_in token.old.me.0) × (rule_between rewrite.f rewrite.g ≡ Some rewrite.rule) }
         ensures token { (token.new.table_id ≡ token.old.table_id) × (token.new.me.1 ≡ token.old.me.1) }
         ensures view { MatchOption result (token.new.me.0 ≡ record token.old.me.0 { known = token.new.me.0.known; over = true }) (λ b. (b.ticket < self.now.plan.parts.fuel) × (b.rewrite ≡ rewrite) × Rewrote token.old.me.0 b.ticket b.of_f b.of_g token.new.me.0) }
-        ensures fields { IfSome result (λ b. AreRefs self.now.plan.parts rewrite.f b.of_f × AreRefs self.now.plan.parts rewrite.g b.of_g) }
+        ensures refs { IfSome result (λ b. AreRefs self.now.plan.parts rewrite.f b.of_f × AreRefs self.now.plan.parts rewrite.g b.of_g) }
         ensures hand { result ≡ None → (w : ℕ) → IsInHand token.old.me.0 w → IsInHand token.new.me.0 w }
     {
         let of_f = self.look_at(token, rewrite.f);

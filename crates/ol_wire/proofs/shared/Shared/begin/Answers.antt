@@ -5,7 +5,7 @@ use Rattle.ol_wire.specs.Events.{Event, rule_between}
 use Rattle.ol_wire.specs.Plays.{event_in}
 use Rattle.ol_wire.specs.Hands.{in_hand, IsInHand}
 use Rattle.ol_wire.proofs.StepsHold.{hand_of}
-use Rattle.ol_wire.proofs.StepsTurn.{spent_after, begins}
+use Rattle.ol_wire.proofs.StepsTurn.{spent_after, begun_after}
 use Rattle.ol_wire.proofs.shared.Shared.begin.Goals as goal
 
 pub rewrite-requires-clause-pair : goal.rewrite-requires-clause-pair
@@ -48,8 +48,6 @@ returns-clause-begun c =
     let z = c.args.self.now.plan.parts in
     let v : View = c.args.token.now.me.0 in
     let pair : ℕ × ℕ = (c.in-Some.left, c.in-Some.right) in
-    let r = c.in-Some-rewrite_of.rewrite in
-    let b = c.in-Some-rewrite.begun in
-    let done = c.in-Some-rewrite.ensures.view in
-    begins z v c.take.new.token.me.0 c.rewrite.new.token.me.0 c.args.cell pair r b c.requires.token.1.0 (c.requires.over ∙ c.if-over.false) c.in-Some.ensures.view.1 c.in-Some.ensures.view.0 c.in-Some.ensures.nodes.0 c.in-Some.ensures.nodes.1
-    c.in-Some-rewrite_of.ensures.0 c.in-Some-rewrite_of.ensures.1 done.0 done.1 done.2 c.in-Some-rewrite.ensures.fields
+    let done = c.in-Some-rewrite.ensures in
+    begun_after z v c.take.new.token.me.0 c.rewrite.new.token.me.0 c.args.cell pair c.in-Some-rewrite_of.rewrite c.in-Some-rewrite.begun c.in-Some.ensures.view.1 done.view.1 done.view.2 c.in-Some-rewrite_of.ensures.0 c.in-Some-rewrite_of.ensures.1
+    c.in-Some.ensures.view.0 (c.requires.over ∙ c.if-over.false) done.view.0 c.in-Some.ensures.nodes.0 c.in-Some.ensures.nodes.1 done.refs.0 done.refs.1

@@ -4,7 +4,7 @@ use Rattle.ol_wire.specs.declared.layout.Parts.{Parts}
 use Rattle.ol_wire.specs.declared.view.View.{View}
 use Rattle.ol_wire.specs.References.{kind_in}
 use Rattle.ol_wire.specs.Layout.{size}
-use Rattle.ol_wire.specs.Plays.{IsNodeOf, IsRefOf}
+use Rattle.ol_wire.specs.Plays.{IsNodeOf}
 use Rattle.ol_wire.specs.Stand.{Board}
 use Rattle.ol_wire.specs.Hands.{IsInHand, IsOfPair}
 use Rattle.ol_wire.proofs.StepsPair.{arity_two}
@@ -35,6 +35,3 @@ load-requires c =
 
 pub returns-clause-same : goal.returns-clause-same
 returns-clause-same c = subst (λ (u : ℕ). (y : ℕ) → IsIn {X = ℕ × ℕ} (u, y) c.args.token.now.me.0.known → y ≡ c.load.result) c.field-word.ensures c.load.ensures.2.1
-
-pub returns-clause-reference : goal.returns-clause-reference
-returns-clause-reference c = subst (λ (z : Parts). IsRefOf z c.load.result) c.requires.token.1.0 c.load.ensures.2.0.2
