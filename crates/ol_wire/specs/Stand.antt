@@ -1,0 +1,28 @@
+-- A table and a seat as contracts see them.
+use Rattle.std.specs.Prelude.{◌≡◌, ◌<◌}
+use Rattle.atomic_table.specs.Seated.{TableId}
+use Rattle.ol_wire.specs.declared.plan.Plan.{Plan}
+use Rattle.ol_wire.specs.declared.view.View.{View}
+use Rattle.ol_wire.specs.Views.{fresh}
+
+-- which table it is, and what it was told when it was made
+pub record Board : Type 0 where
+  pub table : TableId
+  pub plan : Plan
+
+-- which table the seat is of, and what it has done and holds
+pub record Stand : Type 0 where
+  pub table : TableId
+  pub view : View
+
+-- the view is that of a seat of a table with this plan
+abbrev pub IsUnder : Plan → View → Type 0
+IsUnder p v = (v.parts ≡ p.parts) × (v.seats ≡ p.seats) × (0 < v.holds)
+
+-- the seat is of this table
+abbrev pub IsOf : Board → Stand → Type 0
+IsOf b s = (s.table ≡ b.table) × IsUnder b.plan s.view
+
+-- and it is one seat that has done nothing
+abbrev pub IsFresh : Board → Stand → Type 0
+IsFresh b s = (s.table ≡ b.table) × (s.view ≡ fresh b.plan.parts b.plan.seats 1)

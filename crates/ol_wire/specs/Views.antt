@@ -1,0 +1,19 @@
+-- Views that have done nothing, and what one of them is.
+use Rattle.std.specs.Prelude.{◌≡◌, ℕ, [], false, if◌then◌else◌}
+use Rattle.ol_wire.specs.declared.layout.Parts.{Parts}
+use Rattle.ol_wire.specs.declared.view.View.{View}
+
+abbrev pub fresh : Parts → ℕ → ℕ → View
+fresh z seats holds = record { claimed = []; published = []; made = []; last = (0, 0); over = false; holds = holds; taken = []; known = []; due = []; pending = []; dead = []; swept = 0; parts = z; seats = seats }
+
+-- it holds no pair, no word and no link
+abbrev pub IsIdle : View → Type 0
+IsIdle v = (v.taken ≡ []) × (v.due ≡ []) × (v.pending ≡ [])
+
+-- there is nothing in it: its seat was joined to another
+abbrev pub IsSpent : View → Type 0
+IsSpent v = v ≡ fresh v.parts v.seats 0
+
+-- the seats of a view that has read a ticket at or above the fuel
+abbrev pub past_fuel : View → ℕ
+past_fuel v = if v.over then v.holds else 0

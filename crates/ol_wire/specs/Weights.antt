@@ -1,0 +1,27 @@
+-- Things that stand in several places are compared by weight: two lists have the same members, each as often, where they weigh the same by every h.
+use Rattle.std.specs.Prelude.{◌≡◌, ℕ, zero, suc, ◌+◌, List, [], ◌∷◌, slice_index}
+
+abbrev pub total : {A : Type 0} → (A → ℕ) → List A → ℕ
+total f [] = 0
+total f (x ∷ xs) = f x + total f xs
+
+abbrev pub pairs : {A B : Type 0} → (A → B → ℕ) → List (A × B) → ℕ
+pairs {A} {B} h xs = total (λ (x : A × B). h x.0 x.1) xs
+
+-- the members of a list, each under its number, from k on
+abbrev pub numbered : {A : Type 0} → (ℕ → A → ℕ) → ℕ → List A → ℕ
+numbered h k [] = 0
+numbered h k (x ∷ xs) = h k x + numbered h (suc k) xs
+
+-- the first n words, each under its number
+abbrev pub weigh : (ℕ → ℕ → ℕ) → List ℕ → ℕ → ℕ
+weigh h words zero = 0
+weigh h words (suc n) = weigh h words n + h n (slice_index words n)
+
+-- an empty word weighs nothing
+abbrev pub Empties : (ℕ → ℕ → ℕ) → Type 0
+Empties h = (k : ℕ) → h k 0 ≡ 0
+
+-- an edge weighs the same from either end
+abbrev pub Even : (ℕ → ℕ → ℕ) → Type 0
+Even h = (x y : ℕ) → h x y ≡ h y x

@@ -1,0 +1,59 @@
+//! A net with a link of each sort, laid out in words.
+
+use crate::laying::lay;
+use ol_net::{Kind, Net, NodeId, Port};
+use std::alloc::Global;
+use std::process::Abort;
+use std::test::Fail;
+
+fn of(node: u32, slot: u8) -> Port {
+    Port::Of {
+        node: NodeId(node),
+        slot,
+    }
+}
+
+fn small_net(alloc: Global) -> Result<Net, Fail> {
+    let nodes = vec![in alloc;
+        (Kind::App, 0),
+        (Kind::Lam, 0),
+        (Kind::Eraser, 0),
+        (Kind::Croissant, 7),
+        (Kind::Eraser, 0),
+    ]?;
+    let links = vec![in alloc;
+        (of(0, 0), of(1, 0)),
+        (of(0, 1), Port::Free(0)),
+        (of(0, 2), of(2, 0)),
+        (of(1, 1), of(1, 2)),
+        (Port::Free(1), of(3, 0)),
+        (Port::Free(3), Port::Free(2)),
+        (of(3, 1), of(4, 0)),
+    ]?;
+    Net::build(alloc, 4, nodes, links).map_err(Fail::from)
+}
+
+#[test]
+fn lays_a_net_out(rt: HostRuntime) -> Result<(), Fail> {
+    let net = small_net(rt.alloc())?;
+    assert!(rt; net.born() <= 1_000_000);
+    assert!(rt; net.free_ports() <= 1_000_000);
+    assert!(rt; net.top_index() <= 1_000_000);
+    let (parts, words) = lay(rt.alloc(), &net, 1)?;
+    assert_eq!(rt; parts.wires, 1);
+    assert_eq!(rt; parts.cells, 1);
+    let start = vec![in rt.alloc();
+        // The ticket word, and the free ports: port 1 is linked to node 3, and port 2 to port 3.
+        0, 0, 5905580269, 2147483650, 0,
+        // The fields of the application: port 0, and node 2. The two of the abstraction: their wire.
+        536870914, 4831838229, 8053063682, 8053063682,
+        // Of an eraser, of the croissant: node 4, and of the other eraser.
+        0, 0, 6979321877, 0, 0, 0,
+        // The wire, and the cell of the application and the abstraction.
+        0, 2684354565, 3758096385,
+    ]?;
+    assert_eq!(rt; words.len(), 40);
+    assert_eq!(rt; &words[..18], start.as_slice());
+    assert!(rt; words[18..].iter().all(|&word| word == 0));
+    Ok(())
+}

@@ -1,0 +1,85 @@
+//! How the words of a table are laid out.
+ghost use Rattle.std.specs.Prelude.{◌≡◌, ℕ, ◌+◌, ◌*◌, ◌<◌, ◌≤◌};
+ghost use Rattle.ol_wire.specs.Layout.{start_node, start_wire, start_cell, block, size, left_word, cells_of};
+ghost use Rattle.ol_wire.specs.Sizes.{IsSmall};
+
+/// The numbers of the parts of a table.
+#[derive(Clone, Copy, Debug, PartialEq, Eq)]
+pub struct Parts {
+    /// The number of free ports. Each has a word.
+    pub free: u32,
+    /// The number of nodes at the start. Each has two words, the fields of its slots 1 and 2.
+    pub nodes: u32,
+    /// The number of links of two auxiliary slots at the start. Each has a word.
+    pub wires: u32,
+    /// The number of facing pairs at the start. Each has a cell, which is two words.
+    pub cells: u32,
+    /// The greatest number of tickets. Each has a block of 22 words.
+    pub fuel: u32,
+}
+
+/// The words of a block: the two nodes of the entry, two fields for each of four nodes, four wires,
+/// two words for each of four cells.
+pub const BLOCK: u32 = 22;
+
+impl Parts {
+    /// The place of the start node of that number.
+    pub(crate) fn start_node(self, node: u32) -> u32
+        requires { IsSmall self × (node ≤ 1000000) }
+        ensures { result ≡ start_node self node }
+    {
+        1 + self.free + 2 * node
+    }
+
+    /// The word of the start wire of that number.
+    pub(crate) fn start_wire(self, wire: u32) -> u32
+        requires { IsSmall self × (wire ≤ 2000000) }
+        ensures { result ≡ start_wire self wire }
+    {
+        1 + self.free + 2 * self.nodes + wire
+    }
+
+    /// The left word of the start cell of that number.
+    pub(crate) fn start_cell(self, cell: u32) -> u32
+        requires { IsSmall self × (cell ≤ 2000000) }
+        ensures { result ≡ start_cell self cell }
+    {
+        1 + self.free + 2 * self.nodes + self.wires + 2 * cell
+    }
+
+    /// The first word of the block of a ticket.
+    pub(crate) fn block(self, ticket: u32) -> u32
+        requires { IsSmall self × (ticket ≤ 2000000) }
+        ensures { result ≡ block self ticket }
+    {
+        1 + self.free + 2 * self.nodes + self.wires + 2 * self.cells + BLOCK * ticket
+    }
+
+    /// The number of all words.
+    pub(crate) fn size(self) -> u32
+        requires { IsSmall self }
+        ensures { result ≡ size self }
+    {
+        self.block(self.fuel)
+    }
+
+    /// The number of cells: those of the start, and four for each ticket.
+    pub(crate) fn all_cells(self) -> u32
+        requires { IsSmall self }
+        ensures { result ≡ cells_of self }
+    {
+        self.cells + 4 * self.fuel
+    }
+
+    /// The left word of a cell.
+    pub(crate) fn left_word(self, cell: u32) -> u32
+        requires { IsSmall self × (cell < cells_of self) }
+        ensures { result ≡ left_word self cell }
+    {
+        if cell < self.cells {
+            return self.start_cell(cell);
+        }
+        let later = cell - self.cells;
+        self.block(later / 4) + 14 + 2 * (later % 4)
+    }
+}

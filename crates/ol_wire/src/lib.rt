@@ -1,0 +1,37 @@
+//! The shared words: a net laid out in words that any number of threads rewrite by single atomic steps.
+#![tactic(auto)]
+
+mod closed;
+mod closing;
+#[cfg(test)]
+mod closing_tests;
+mod joining;
+mod law;
+mod laying;
+#[cfg(test)]
+mod laying_tests;
+mod layout;
+mod linking;
+mod naming;
+mod outcome;
+mod plan;
+mod promise;
+mod reference;
+mod rewrite;
+mod seat;
+mod shared;
+mod stepping;
+#[cfg(test)]
+mod turn_tests;
+mod turning;
+mod view;
+
+pub use closed::Words;
+pub use law::Law;
+pub use layout::Parts;
+pub use plan::Plan;
+pub use promise::at_every_moment;
+pub use seat::Seat;
+pub use shared::Shared;
+pub use turning::Turn;
+pub use view::{Link, View};

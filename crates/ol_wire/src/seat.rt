@@ -1,0 +1,59 @@
+//! The seat with which a thread steps on a table.
+ghost use Rattle.std.specs.Prelude.{◌≡◌, ◌<◌, [], false};
+ghost use Rattle.ol_wire.specs.Plays.{fewer, one_seat};
+ghost use Rattle.ol_wire.specs.Stand.{Stand};
+ghost use Rattle.ol_wire.specs.Views.{IsIdle};
+
+use crate::law::Cut;
+use crate::shared::Shared;
+use crate::view::View;
+use std::marker::Model;
+
+pub(crate) type Token = atomic_table::Seat<(), View>;
+
+/// What a thread steps with on a table. It tells what its turns did. Between two calls it holds no
+/// claimed pair, no word to write and no link to make.
+#[derive(Drop)]
+pub struct Seat {
+    pub(crate) token: Token,
+    // whether it has read a ticket at or above the fuel
+    pub(crate) over: bool,
+    // how many of the seats that were made stand in it
+    pub(crate) holds: u32,
+}
+
+impl Model for Seat {
+    ghost Value = { Stand };
+
+    ghost view = { λ s. record { table = s.token.table_id; view = s.token.me.0 } };
+
+    ghost invariant = { λ s. (s.token.me.1 ≡ []) × IsIdle s.token.me.0 × (s.token.me.0.over ≡ s.over) × (s.token.me.0.holds ≡ s.holds) × (0 < s.holds) };
+}
+
+impl Seat {
+    /// How many of the seats that were made stand in it.
+    pub fn holds(&self) -> u32
+        ensures { result ≡ self.now.view.holds }
+    {
+        self.holds
+    }
+}
+
+impl Shared {
+    // Cuts one seat off a seat that stands for more than one.
+    pub(crate) fn cut(&self, seat: &mut Seat) -> Seat
+        requires table { seat.old.table ≡ self.now.table }
+        requires holds { (1 < seat.old.view.holds) × (seat.old.view.over ≡ false) }
+        requires unswept { seat.old.view.swept ≡ 0 }
+        ensures left { (seat.new.table ≡ seat.old.table) × (seat.new.view ≡ fewer seat.old.view) }
+        ensures right { (result.table ≡ seat.old.table) × (result.view ≡ one_seat seat.old.view) }
+    {
+        let token = self.table.shared.split_seat::<Cut>(&mut seat.token);
+        seat.holds -= 1;
+        Seat {
+            token,
+            over: false,
+            holds: 1,
+        }
+    }
+}

@@ -1,0 +1,118 @@
+//! The table that threads share.
+ghost use Rattle.std.specs.Prelude.{◌≡◌, ◌+◌, ◌<◌, ◌≤◌, [], All, IfOk, vec_len, length, is_some, count_by};
+ghost use Rattle.ol_wire.specs.Layout.{size as size_of, cells_of};
+ghost use Rattle.ol_wire.specs.Sizes.{IsSmall, IsSmallNet};
+ghost use Rattle.ol_wire.specs.Starts.{AreParts};
+ghost use Rattle.ol_wire.specs.Stand.{Board, IsFresh};
+ghost use Rattle.ol_wire.specs.Views.{fresh};
+
+use crate::law::Law;
+use crate::laying::lay;
+use crate::layout::Parts;
+use crate::plan::Plan;
+use crate::seat::Seat;
+use crate::view::View;
+use atomic_table::Table;
+use ol_io::NoMemory;
+use ol_net::Net;
+use std::alloc::Global;
+use std::marker::Model;
+use std::snapshot::Snapshot;
+
+/// The words of a net, which any number of threads rewrite.
+#[derive(Drop)]
+pub struct Shared {
+    pub(crate) table: Table<(), View, Plan, Law, Global>,
+    pub(crate) parts: Parts,
+    pub(crate) seats: u32,
+}
+
+impl Model for Shared {
+    ghost Value = { Board };
+
+    ghost view = { λ s. record { table = s.table.shared.table_id; plan = s.table.shared.key } };
+
+    ghost invariant = { λ s. (s.table.shared.key.parts ≡ s.parts) × (s.table.shared.key.seats ≡ s.seats) × (s.table.shared.table_id.words ≡ size_of s.parts) × (s.table.shared.table_id.slots ≡ 0) × IsSmall s.parts × (s.seats ≤ 64) };
+}
+
+impl Shared {
+    /// A table with the words of a net, which hands out at most `fuel` tickets, and its seats.
+    ///
+    /// - `net`: a net no number of which is that of a node that went: at most 1,000,000 nodes, at most 1,000,000 free ports, no index above
+    ///   1,000,000.
+    /// - `fuel`: at most 2,000,000 tickets, each of 22 words. `seats`: 1 to 64.
+    ///
+    /// Each facing pair of the net stands in a cell of its own: cell c has the c-th of them by the smaller node number. All words that the run
+    /// can need are taken here. `NoMemory`: there was no memory for them.
+    pub fn make(
+        alloc: Global,
+        net: &Net,
+        fuel: u32,
+        seats: u32,
+    ) -> Result<(Shared, Vec<Seat>), NoMemory>
+        requires whole { count_by is_some net.now.nodes ≡ length net.now.nodes }
+        requires small { IsSmallNet net.now }
+        requires fuel { fuel ≤ 2000000 }
+        requires seats { (0 < seats) × (seats ≤ 64) }
+        ensures parts { IfOk result (λ r. AreParts net.now fuel r.0.plan.parts) }
+        ensures start { IfOk result (λ r. r.0.plan.start.value ≡ net.now) }
+        ensures seats { IfOk result (λ r. (r.0.plan.seats ≡ seats) × (vec_len r.1 ≡ seats)) }
+        ensures dealt { IfOk result (λ r. All (IsFresh r.0) r.1.items) }
+    {
+        let (parts, words) = lay(alloc, net, fuel)?;
+        let plan = Plan {
+            parts,
+            seats,
+            start: Snapshot::of(net),
+        };
+        let Ok((table, token)) = Table::of_words(alloc, words.as_slice(), &plan) else {
+            return Err(NoMemory);
+        };
+        let shared = Shared {
+            table,
+            parts,
+            seats,
+        };
+        let first = Seat {
+            token,
+            over: false,
+            holds: seats,
+        };
+        let dealt = shared.deal(alloc, first, seats)?;
+        Ok((shared, dealt))
+    }
+
+    // Cuts a seat that has done nothing into seats of one each.
+    fn deal(&self, alloc: Global, mut seat: Seat, count: u32) -> Result<Vec<Seat>, NoMemory>
+        requires seat { (seat.table ≡ self.now.table) × (seat.view ≡ fresh self.now.plan.parts self.now.plan.seats count) × (0 < count) }
+        ensures { IfOk result (λ v. (vec_len v ≡ count) × All (IsFresh self.now) v.items) }
+    {
+        let Ok(mut seats) = Vec::with_capacity(alloc, count as usize) else {
+            return Err(NoMemory);
+        };
+        for _ in 1..count {
+            let one = self.cut(&mut seat);
+            let Ok(()) = seats.push(one) else {
+                return Err(NoMemory);
+            };
+        }
+        let Ok(()) = seats.push(seat) else {
+            return Err(NoMemory);
+        };
+        Ok(seats)
+    }
+
+    /// The number of cells: those of the net at the start, and four for each ticket.
+    pub fn cells(&self) -> u32
+        ensures { result ≡ cells_of self.now.plan.parts }
+    {
+        self.parts.all_cells()
+    }
+
+    /// The number of seats that were made.
+    pub fn seats(&self) -> u32
+        ensures { result ≡ self.now.plan.seats }
+    {
+        self.seats
+    }
+}
