@@ -1,13 +1,12 @@
-use Rattle.std.proofs.Common.{◌≡◌, ◌+◌, ◌<◌, ℕ, true, false, refl, sym, ap, ◌∙◌, subst, arith, get_or}
+use Rattle.std.proofs.Common.{◌≡◌, ◌<◌, ℕ, refl, sym, ap, ◌∙◌, subst, arith}
 use mathlib.Core.Bool.{false≢true}
 use Rattle.ol_wire.specs.declared.layout.Parts.{Parts}
 use Rattle.ol_wire.specs.declared.view.View.{View}
 use Rattle.ol_wire.specs.Layout.{born_cell}
-use Rattle.ol_wire.specs.Blocks.{joins_in, link_of}
+use Rattle.ol_wire.specs.Blocks.{joins_in}
 use Rattle.ol_wire.specs.Rewrites.{event_for}
 use Rattle.ol_wire.specs.Links.{link_between}
 use Rattle.ol_wire.specs.Stand.{Board}
-use Rattle.ol_wire.specs.Turns.{AreLinked}
 use Rattle.ol_wire.proofs.TurningLinks.{link_in, AreLinking, all_begin, link_is_next, both_ends, one_more, all_linked}
 use Rattle.ol_wire.proofs.shared.Shared.link_all.Goals as goal
 use Rattle.ol_wire.proofs.shared.Shared.link_all.Goals.{then-link, else-link}
@@ -24,7 +23,7 @@ link-requires-clause-next c =
     let parts : c.self.inside.parts ≡ z = sym c.self.invariant.0 ∙ ap (λ (x : Board). x.plan.parts) c.self.view_is in
     let lt : c.loop-j.j < joins_in (event_for b.rewrite) = omega (arith, c.loop-j-test.true, c.joins-j-end.ensures) in
     let is : link_between c.born_cell-cell.result one two ≡ link_in z b c.loop-j.j =
-        ap (λ (w : ℕ). link_between w one two) c.born_cell-cell.ensures ∙ c.ends-one.ensures ∙ ap (λ (y : Parts). link_in y b c.loop-j.j) parts in
+    ap (λ (w : ℕ). link_between w one two) c.born_cell-cell.ensures ∙ c.ends-one.ensures ∙ ap (λ (y : Parts). link_in y b c.loop-j.j) parts in
     link_is_next z c.args.token.now.me.0 b c.requires.begun c.loop-j.j c.loop-j.mask c.loop-j.token.me.0 c.loop-j.invariant.2 lt c.born_cell-cell.result one two is
 
 pub link-requires-clause-ends : goal.link-requires-clause-ends
@@ -36,7 +35,7 @@ link-requires-clause-ends c =
     let parts : c.self.inside.parts ≡ z = sym c.self.invariant.0 ∙ ap (λ (x : Board). x.plan.parts) c.self.view_is in
     let lt : c.loop-j.j < joins_in (event_for b.rewrite) = omega (arith, c.loop-j-test.true, c.joins-j-end.ensures) in
     let is : link_between c.born_cell-cell.result one two ≡ link_in z b c.loop-j.j =
-        ap (λ (w : ℕ). link_between w one two) c.born_cell-cell.ensures ∙ c.ends-one.ensures ∙ ap (λ (y : Parts). link_in y b c.loop-j.j) parts in
+    ap (λ (w : ℕ). link_between w one two) c.born_cell-cell.ensures ∙ c.ends-one.ensures ∙ ap (λ (y : Parts). link_in y b c.loop-j.j) parts in
     both_ends z c.args.token.now.me.0 b c.requires.begun c.loop-j.j c.loop-j.mask c.loop-j.token.me.0 c.loop-j.invariant.2 lt c.born_cell-cell.result one two is
 
 pub loop-j-preserved : goal.loop-j-preserved

@@ -1,7 +1,6 @@
-use Rattle.std.proofs.Common.{◌≡◌, ◌+◌, ◌*◌, ℕ, sym, ap, ◌∙◌, subst}
+use Rattle.std.proofs.Common.{◌≡◌, ◌+◌, ◌*◌, sym, ap, ◌∙◌, subst}
 use Rattle.ol_wire.specs.declared.layout.Parts.{Parts}
 use Rattle.ol_wire.specs.declared.view.View.{View}
-use Rattle.ol_wire.specs.Layout.{cells_of}
 use Rattle.ol_wire.specs.Stand.{Stand, Board}
 use Rattle.ol_wire.specs.Turns.{Rewritten}
 use Rattle.ol_wire.proofs.StepsTurn.{links_pending, turn_rewrites}
@@ -23,6 +22,6 @@ returns-clause-view c =
     let parts : v.parts ≡ z = ap (λ (s : Stand). s.view.parts) c.seat.view_is ∙ c.requires.seat.1.0 in
     let inside : z ≡ c.self.inside.parts = sym (ap (λ (x : Board). x.plan.parts) c.self.view_is) ∙ c.self.invariant.0 in
     let done : Rewritten z v c.args.cell b.ticket b.rewrite.rule (z.cells + 4 * b.ticket) c.link_all-mask.result n =
-        (turn_rewrites z v c.begin.new.token.me.0 n c.args.cell c.link_all-mask.result b parts c.requires.cell c.seat.invariant.1 c.in-Ok.ensures.begun c.link_all-mask.ensures.view).1 in
+    (turn_rewrites z v c.begin.new.token.me.0 n c.args.cell c.link_all-mask.result b parts c.requires.cell c.seat.invariant.1 c.in-Ok.ensures.begun c.link_all-mask.ensures.view).1 in
     subst (λ (u : View). Rewritten z u c.args.cell b.ticket b.rewrite.rule (c.self.inside.parts.cells + 4 * b.ticket) c.link_all-mask.result n) (ap (λ (s : Stand). s.view) c.seat.view_is)
     (subst (λ (y : Parts). Rewritten z v c.args.cell b.ticket b.rewrite.rule (y.cells + 4 * b.ticket) c.link_all-mask.result n) inside done)
