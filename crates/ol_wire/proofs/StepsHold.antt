@@ -1,5 +1,5 @@
 -- What a seat knows before it draws a ticket, and what it has done after.
-use Rattle.std.proofs.Common.{◌≡◌, ◌≢◌, ℕ, zero, suc, ◌+◌, ◌-◌, ◌<◌, ◌≤◌, ◌⊎◌, Bool, true, false, nat_eq, nat_lt, lt-ltb, eq-eqb, ne_eqb, if◌then◌else◌, Some, List, [], ◌∷◌, ◌++◌, get_or, sym, refl, ap, ◌∙◌, subst, inl, inr, arith}
+use Rattle.std.proofs.Common.{◌≡◌, ℕ, zero, suc, ◌+◌, ◌-◌, ◌<◌, ◌≤◌, ◌⊎◌, Bool, true, false, nat_lt, lt-ltb, eq-eqb, ne_eqb, if◌then◌else◌, Some, List, [], ◌∷◌, ◌++◌, get_or, sym, refl, ap, ◌∙◌, subst, inl, inr, arith}
 use Rattle.std.proofs.lemmas.Bool.{cases_eq, cases_lt}
 use Rattle.std.proofs.lemmas.Bool.Decides.{nat_tests}
 use Rattle.ol_edges.specs.Edges.{IsIn}
@@ -12,13 +12,12 @@ use Rattle.ol_wire.specs.declared.rewrite.Rewrite.{Rewrite}
 use Rattle.ol_wire.specs.declared.view.Link.{Link}
 use Rattle.ol_wire.specs.declared.view.View.{View}
 use Rattle.ol_wire.specs.References.{kind_in, index_in, place_in}
-use Rattle.ol_wire.specs.Layout.{block, size, born_cell}
-use Rattle.ol_wire.specs.Events.{Event, rule_between, event_of, entry_of}
+use Rattle.ol_wire.specs.Layout.{block, born_cell}
+use Rattle.ol_wire.specs.Events.{Event, rule_between, entry_of}
 use Rattle.ol_wire.specs.Blocks.{born_ref, block_words, to_write, joins_in, link_of, links_of}
 use Rattle.ol_wire.specs.Plays.{IsNodeOf, IsRefOf, IsLookedUp, known_at, event_in, ticketed, late, rest, cell_at, cell_in_hand, swept_on}
 use Rattle.ol_wire.specs.Rewrites.{event_for}
 use Rattle.ol_wire.specs.Sizes.{IsSmall}
-use Rattle.ol_wire.specs.Views.{IsIdle}
 use Rattle.ol_wire.specs.Hands.{in_hand, IsInHand, IsOfPair, IsSure, AreFields, AreRefs, fields_known, Rewrote}
 use Rattle.ol_wire.proofs.Claimed.{in_left, in_right}
 use Rattle.ol_wire.proofs.StepsPair.{arity_two, event_sides}

@@ -1,11 +1,9 @@
 -- What a turn leaves, and that each answer comes by its own cause alone.
-use Rattle.std.proofs.Common.{◌≡◌, ◌≢◌, ℕ, ◌+◌, ◌<◌, true, false, get_or, if◌then◌else◌, Bool, None, Some, Option, List, [], ◌∷◌, ◌++◌, sym, refl, ap, ◌∙◌, subst, ◌*◌, ◌↔◌}
-use mathlib.Core.Bool.{false≢true}
+use Rattle.std.proofs.Common.{◌≡◌, ◌≢◌, ℕ, ◌+◌, ◌<◌, true, false, get_or, if◌then◌else◌, Bool, None, Some, Option, List, [], ◌∷◌, ◌++◌, sym, refl, ap, ◌∙◌, subst, ◌*◌}
 use Rattle.ol_net.specs.declared.parts.Rule.{Rule}
 use Rattle.ol_wire.specs.declared.layout.Parts.{Parts}
 use Rattle.ol_wire.specs.declared.turning.Begun.{Begun}
-use Rattle.ol_wire.specs.declared.turning.Turn.{Turn}
-use Rattle.ol_wire.specs.declared.turning.Turn.TheVariants.{Rewrote, Gone, Stuck, Spent}
+use Rattle.ol_wire.specs.declared.turning.Turn.TheVariants.{Rewrote}
 use Rattle.ol_wire.specs.declared.view.Link.{Link}
 use Rattle.ol_wire.specs.declared.view.View.{View}
 use Rattle.ol_wire.specs.Layout.{left_word, cells_of}
@@ -17,7 +15,7 @@ use Rattle.ol_wire.specs.Views.{IsIdle}
 use Rattle.ol_wire.specs.Blocks.{links_of}
 use Rattle.ol_wire.specs.Hands as hands
 use Rattle.ol_wire.specs.Hands.{claiming, in_hand, IsStuckLast, IsActiveLast, AreRefs}
-use Rattle.ol_wire.specs.Turns.{FoundActive, HasCause, IsRewrote, masked, Leaves, Begins, IsBegun, AreLinked}
+use Rattle.ol_wire.specs.Turns.{FoundActive, HasCause, masked, Leaves, Begins, IsBegun, AreLinked}
 use Rattle.ol_wire.proofs.Places.{cell_of_left}
 use Rattle.ol_wire.proofs.TicketRefs.{event_of_pair}
 

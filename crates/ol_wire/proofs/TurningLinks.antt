@@ -1,5 +1,5 @@
 -- How a seat makes the links of its rewrite: one link by exchanges, and then one after the other.
-use Rattle.std.proofs.Common.{◌≡◌, ◌≢◌, ℕ, zero, suc, ◌+◌, ◌-◌, ◌*◌, ◌/◌, ◌%◌, ◌^◌, ◌<◌, ◌≤◌, ◌⊎◌, Bool, true, false, nat_lt, lt-ltb, if◌then◌else◌, Some, List, [], ◌∷◌, ◌++◌, get_or, sym, refl, ap, ◌∙◌, subst, inl, inr, arith}
+use Rattle.std.proofs.Common.{◌≡◌, ℕ, zero, suc, ◌+◌, ◌-◌, ◌*◌, ◌/◌, ◌%◌, ◌^◌, ◌<◌, ◌≤◌, ◌⊎◌, Bool, true, false, nat_lt, lt-ltb, if◌then◌else◌, List, [], ◌∷◌, ◌++◌, get_or, sym, refl, ap, ◌∙◌, subst, inl, inr, arith}
 use Rattle.std.proofs.lemmas.Bool.{cases_lt}
 use Rattle.std.proofs.lemmas.Bool.Decides.{nat_tests}
 use Rattle.ol_net.specs.Parts.{arity}
@@ -10,17 +10,15 @@ use Rattle.ol_wire.specs.declared.layout.Parts.{Parts}
 use Rattle.ol_wire.specs.declared.turning.Begun.{Begun}
 use Rattle.ol_wire.specs.declared.view.Link.{Link}
 use Rattle.ol_wire.specs.declared.view.View.{View}
-use Rattle.ol_wire.specs.References.{kind_in, index_in, place_in, node_ref, IsNodeRef, IsWireRef}
+use Rattle.ol_wire.specs.References.{kind_in, index_in, node_ref, IsNodeRef}
 use Rattle.ol_net.specs.declared.parts.Kind.{Kind}
 use Rattle.ol_rules.specs.declared.journal.NodeName.TheVariants.{Born}
-use Rattle.ol_wire.specs.Layout.{size, block, born_cell, place_of, start_cell}
-use Rattle.ol_wire.specs.Events.{Event, rule_between}
-use Rattle.ol_wire.specs.Blocks.{copies_of_f, born_ref, joins_in, link_of, links_of}
-use Rattle.ol_wire.specs.Plays.{IsRefOf, cell_at, linked, moved, publishing, relinked, rest}
+use Rattle.ol_wire.specs.Layout.{block, born_cell, place_of, start_cell}
+use Rattle.ol_wire.specs.Blocks.{copies_of_f, born_ref, joins_in, link_of}
+use Rattle.ol_wire.specs.Plays.{IsRefOf, cell_at, moved, rest}
 use Rattle.ol_wire.specs.Rewrites.{event_for}
 use Rattle.ol_wire.specs.Links.{link_between, IsEndOf, IsNext, AreNext, IsLinked}
 use Rattle.ol_wire.specs.Turns.{masked, IsBegun, AreLinked}
-use Rattle.ol_wire.proofs.Places.{cell_of_left}
 use Rattle.ol_wire.proofs.TicketRefs.{joins_few}
 
 append_nil : {A : Type 0} (xs : List A) → xs ++ [] ≡ xs

@@ -1,5 +1,5 @@
 -- What a seat has in hand in the midst of a call: a claimed pair, and what it has read of its nodes.
-use Rattle.std.specs.Prelude.{◌≡◌, ◌≢◌, ℕ, zero, suc, ◌+◌, ◌<◌, List, [], ◌∷◌, ◌++◌, None, Some, ◌⊎◌, slice_index}
+use Rattle.std.specs.Prelude.{◌≡◌, ℕ, zero, suc, ◌+◌, ◌<◌, List, [], ◌∷◌, ◌++◌, Some, ◌⊎◌, slice_index}
 use Rattle.ol_edges.specs.Edges.{IsIn}
 use Rattle.ol_net.specs.Parts.{arity}
 use Rattle.ol_wire.specs.declared.layout.Parts.{Parts}

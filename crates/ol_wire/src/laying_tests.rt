@@ -36,6 +36,7 @@ fn small_net(alloc: Global) -> Result<Net, Fail> {
 #[test]
 fn lays_a_net_out(rt: HostRuntime) -> Result<(), Fail> {
     let net = small_net(rt.alloc())?;
+    assert!(rt; net.nodes() == net.born());
     assert!(rt; net.born() <= 1_000_000);
     assert!(rt; net.free_ports() <= 1_000_000);
     assert!(rt; net.top_index() <= 1_000_000);

@@ -1,13 +1,12 @@
-use Rattle.std.proofs.Common.{◌≡◌, ◌+◌, ◌<◌, ℕ, true, false, refl, sym, ap, ◌∙◌, subst, arith, get_or}
+use Rattle.std.proofs.Common.{◌≡◌, ◌<◌, ℕ, refl, sym, ap, ◌∙◌, subst, arith}
 use mathlib.Core.Bool.{false≢true}
 use Rattle.ol_wire.specs.declared.layout.Parts.{Parts}
 use Rattle.ol_wire.specs.declared.view.View.{View}
 use Rattle.ol_wire.specs.Layout.{born_cell}
-use Rattle.ol_wire.specs.Blocks.{joins_in, link_of}
+use Rattle.ol_wire.specs.Blocks.{joins_in}
 use Rattle.ol_wire.specs.Rewrites.{event_for}
 use Rattle.ol_wire.specs.Links.{link_between}
 use Rattle.ol_wire.specs.Stand.{Board}
-use Rattle.ol_wire.specs.Turns.{AreLinked}
 use Rattle.ol_wire.proofs.TurningLinks.{link_in, AreLinking, all_begin, link_is_next, both_ends, one_more, all_linked}
 use Rattle.ol_wire.proofs.shared.Shared.link_all.Goals as goal
 use Rattle.ol_wire.proofs.shared.Shared.link_all.Goals.{then-link, else-link}

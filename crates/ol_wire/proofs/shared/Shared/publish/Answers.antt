@@ -1,4 +1,4 @@
-use Rattle.std.proofs.Common.{◌≡◌, ◌+◌, ◌<◌, suc, ◌∷◌, List, sym, refl, ap, ◌∙◌, subst, inl, arith, ℕ}
+use Rattle.std.proofs.Common.{◌≡◌, ◌+◌, ◌<◌, suc, ◌∷◌, sym, refl, ap, ◌∙◌, subst, inl, arith, ℕ}
 use Rattle.ol_edges.specs.Edges.{IsIn}
 use Rattle.ol_wire.specs.declared.layout.Parts.{Parts}
 use Rattle.ol_wire.specs.declared.view.Link.{Link}

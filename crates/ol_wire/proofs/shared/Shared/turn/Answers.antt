@@ -1,7 +1,6 @@
-use Rattle.std.proofs.Common.{◌≡◌, ◌+◌, ◌*◌, ℕ, sym, ap, ◌∙◌, subst}
+use Rattle.std.proofs.Common.{◌≡◌, ◌+◌, ◌*◌, sym, ap, ◌∙◌, subst}
 use Rattle.ol_wire.specs.declared.layout.Parts.{Parts}
 use Rattle.ol_wire.specs.declared.view.View.{View}
-use Rattle.ol_wire.specs.Layout.{cells_of}
 use Rattle.ol_wire.specs.Stand.{Stand, Board}
 use Rattle.ol_wire.specs.Turns.{Rewritten}
 use Rattle.ol_wire.proofs.StepsTurn.{links_pending, turn_rewrites}
