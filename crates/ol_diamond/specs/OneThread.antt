@@ -1,5 +1,5 @@
--- The journal of any complete run, whatever pairs it takes first, tells how long the one-thread run is, how often each rule stands in
--- it, and its last net.
+-- Any run, whatever pairs it takes first, tells of the one-thread run: whether it ends within the fuel, how many steps it has and how
+-- often each rule, and its last net.
 use Rattle.std.specs.Prelude.{◌≡◌, ℕ, ◌≤◌, ◌<◌, ◌↔◌, List, length}
 use Rattle.ol_net.specs.declared.parts.Kind.{Kind}
 use Rattle.ol_net.specs.declared.parts.Rule.{Rule}
