@@ -8,3 +8,8 @@ pub mod Confluence
 pub mod Renaming
 pub mod Journals
 pub mod Turns
+pub mod OneThreadLeads
+pub mod OneThreadCounts
+pub mod OneThreadNames
+pub mod OneThreadRuns
+pub mod OneThread

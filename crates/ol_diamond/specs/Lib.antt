@@ -2,3 +2,4 @@ pub mod Births
 pub mod Runs
 pub mod Laws
 pub mod Squares
+pub mod OneThread
