@@ -1,13 +1,13 @@
 -- Any run tells the answer of the one-thread run.
-use Rattle.std.proofs.Common.{◌≡◌, ℕ, suc, ◌+◌, ◌*◌, ◌≤◌, ◌<◌, List, [], ◌∷◌, length, ◌⊎◌, inl, inr, sym, ◌∙◌, subst, arith}
+use Rattle.std.proofs.Common.{◌≡◌, ℕ, suc, ◌+◌, ◌*◌, List, [], ◌∷◌, length, inl, inr, sym, ◌∙◌, subst}
 use Rattle.ol_term.specs.Trees.{Tree}
 use Rattle.ol_net.specs.declared.parts.Kind.{Kind}
-use Rattle.ol_net.specs.Nets.{NamedNet, HasNode, IsNet, SameNet, net_under}
+use Rattle.ol_net.specs.Nets.{NamedNet, HasNode, SameNet, net_under}
 use Rattle.ol_rules.specs.declared.journal.NodeName.{NodeName}
 use Rattle.ol_rules.specs.declared.journal.NodeName.TheVariants.{Init, Born}
 use Rattle.ol_rules.specs.declared.journal.Entry.{Entry}
 use Rattle.ol_rules.specs.Rewriting.{Action, action_of, Rewrites}
-use Rattle.ol_rules.specs.Runs.{IsEntryStep, IsRun, IsLeadRun, IsOneThread, IsComplete, HasActive}
+use Rattle.ol_rules.specs.Runs.{IsEntryStep, IsLeadRun, HasActive}
 use Rattle.ol_rules.proofs.Recount.{net_same}
 use Rattle.ol_rules.proofs.Relation.{same_refl, same_sym, same_trans}
 use Rattle.ol_rules.proofs.Same.{complete_same, has_stuck_same}
@@ -15,17 +15,14 @@ use Rattle.ol_rules.proofs.UnderNames.{same_under}
 use Rattle.ol_translate.specs.Translation.{nodes_of, links_of, translation_of}
 use Rattle.ol_readback.specs.Heads.{live}
 use Rattle.ol_readback.specs.Trees.{IsTree}
-use Rattle.ol_diamond.proofs.Renaming.{renamed_under}
 use Rattle.ol_cli.specs.Listing.{ListsOnce}
 use Rattle.ol_cli.specs.Evaluation.{start_net, Shows}
 use Rattle.ol_cli.specs.Journals.{OneThreadIsThere, AnyRunPrints, AnyRunRunsOut}
 use Rattle.ol_cli.proofs.EveryRun.{shows_under}
-use Rattle.ol_cli.proofs.LeadSearch.{lead_or_complete, one_thread_run}
+use Rattle.ol_diamond.proofs.OneThread.{one_thread_exists, done_tells, spent_tells, longer_tells}
 use Rattle.ol_cli.proofs.ListedOnce.{net_of_parts_once, net_under_once, same_length}
-use Rattle.ol_cli.proofs.NetRuns.{run_net, as_run}
 use Rattle.ol_cli.proofs.OnePrint.{start_is_net, start_is_named}
 use Rattle.ol_cli.proofs.TreeTransport.{tree_same}
-use Rattle.ol_cli.proofs.TwoRuns.{complete_runs_agree, goes_on_shorter, not_longer}
 
 -- ---- another order of the last net's lists
 
@@ -81,68 +78,39 @@ start_once t names = net_under_once Init (translation_of t (length names)) (λ x
 
 -- ---- the laws
 
-active_or_complete : (N : NamedNet NodeName) → IsNet N → HasActive N ⊎ IsComplete N
-active_or_complete N is_net = elim (lead_or_complete N is_net) [ inl d ↦ inl (d.1.f, d.1.g, d.0.rule, d.1.active) | inr c ↦ inr c ]
-
 pub one_thread_is_there : OneThreadIsThere
-one_thread_is_there t names fuel is_net = one_thread_run (start_net t names) fuel (start_is_net t names is_net) (start_is_named t names is_net)
-
-module _ (t : Tree) (names : List (List ℕ)) (fuel : ℕ) (is_net : IsNet (translation_of t (length names))) (journal : List Entry) (net : NamedNet NodeName) (run : IsRun (start_net t names) 0 journal net) where
-  abbrev N : NamedNet NodeName
-  N = start_net t names
-
-  abbrev IsTheRun : List Entry → NamedNet NodeName → Type 0
-  IsTheRun es M = IsOneThread N fuel es M
-
-  n : IsNet N
-  n = start_is_net t names is_net
-
-  lead_net : (es : List Entry) (M : NamedNet NodeName) → IsTheRun es M → IsNet M
-  lead_net es M o = run_net N M 0 es n (start_is_named t names is_net) (as_run N M 0 es o.leads)
-
-  -- where a complete run is within the fuel, the one-thread run ends
-  ends : (es : List Entry) (M : NamedNet NodeName) → IsTheRun es M → IsComplete net → length journal ≤ fuel → IsComplete M
-  ends es M o complete within = elim o.ended [ inl c ↦ c | inr full ↦ go full (active_or_complete M (lead_net es M o)) ]
-    where
-      go : length es ≡ fuel → HasActive M ⊎ IsComplete M → IsComplete M
-      go full (inr c) = c
-      go full (inl a) = let b = goes_on_shorter N n (start_is_named t names is_net) M net es journal (as_run N M 0 es o.leads) run a complete in absurd (omega arith)
-
-  -- where a run is longer, the one-thread run can go on
-  stays : (es : List Entry) (M : NamedNet NodeName) → IsTheRun es M → (fuel < length journal) ⊎ ((length journal ≡ fuel) × HasActive net) → HasActive M
-  stays es M o long = go (active_or_complete M (lead_net es M o))
-    where
-      clash : IsComplete M → (fuel < length journal) ⊎ ((length journal ≡ fuel) × HasActive net) → ⊥
-      clash c (inl b) = let d = not_longer N n (start_is_named t names is_net) net M journal es run (as_run N M 0 es o.leads) c in let w = o.within in absurd (omega arith)
-      clash c (inr (e, a)) = let d = goes_on_shorter N n (start_is_named t names is_net) net M journal es run (as_run N M 0 es o.leads) a c in let w = o.within in absurd (omega arith)
-
-      go : HasActive M ⊎ IsComplete M → HasActive M
-      go (inl a) = a
-      go (inr c) = absurd (clash c long)
+one_thread_is_there t names fuel is_net = one_thread_exists (start_net t names) fuel (start_is_net t names is_net) (start_is_named t names is_net)
 
 pub any_run_prints : AnyRunPrints
 any_run_prints t names fuel heads text is_net journal net run complete p =
     let N = start_net t names in
     let n = start_is_net t names is_net in
     let b = start_is_named t names is_net in
-    let o = one_thread_run N fuel n b in
-    let c = ends t names fuel is_net journal net run o.0 o.1 o.2 complete p.within in
-    let a = complete_runs_agree N n b net o.1 journal o.0 run (as_run N o.1 0 o.0 o.2.leads) complete c in
+    let o = one_thread_exists N fuel n b in
+    let d = done_tells N net o.1 fuel journal o.0 n b run complete p.within o.2 in
+    let a = d.1 in
     let listed = net_under a.names p.listed in
-    let apart : (x y : NodeName) (k l : Kind) (i j : ℕ) → HasNode p.listed x k i → HasNode p.listed y l j → a.names x ≡ a.names y → x ≡ y = λ x y k l i j h h' e. a.renamed.apart x y k l i j ((p.same.nodes x k i).1 h) ((p.same.nodes y l j).1 h') e in
-    let shows = shows_under names heads journal o.0 a.names p.listed text apart a.counts p.shows in
-    let same : SameNet o.1 listed = same_trans o.1 (net_under a.names net) listed (renamed_under a.names net o.1 a.renamed) (same_under a.names net p.listed p.same) in
+    let apart : (x y : NodeName) (k l : Kind) (i j : ℕ) → HasNode p.listed x k i → HasNode p.listed y l j → a.names x ≡ a.names y → x ≡ y = λ x y k l i j h h' e. a.written.apart x y k l i j ((p.same.nodes x k i).1 h) ((p.same.nodes y l j).1 h') e in
+    let shows = shows_under names heads journal o.0 a.names p.listed text apart (sym a.counts) p.shows in
+    let same : SameNet o.1 listed = same_trans o.1 (net_under a.names net) listed (same_sym (net_under a.names net) o.1 a.written.same) (same_under a.names net p.listed p.same) in
     let e = ends_once N o.1 listed 0 o.0 same (start_once t names) shows.once o.2.leads in
+    let c = complete_same o.1 e.net (same_trans o.1 listed e.net same e.same) d.0 in
     record {
       journal = o.0;
       net = e.net;
-      run = record { leads = e.leads; within = o.2.within; ended = inl (complete_same o.1 e.net (same_trans o.1 listed e.net same e.same) c) };
-      complete = complete_same o.1 e.net (same_trans o.1 listed e.net same e.same) c;
+      run = record { leads = e.leads; within = o.2.within; ended = inl c };
+      complete = c;
       shows = shows_same names heads o.0 listed e.net text e.same e.once shows;
     }
 
 pub any_run_runs_out : AnyRunRunsOut
 any_run_runs_out t names fuel is_net journal net run long =
-    let o = one_thread_run (start_net t names) fuel (start_is_net t names is_net) (start_is_named t names is_net) in
-    let a = stays t names fuel is_net journal net run o.0 o.1 o.2 long in
-    record { journal = o.0; net = o.1; run = o.2; full = elim o.2.ended [ inl c ↦ absurd (c a.0 a.1 a.2 a.3) | inr e ↦ e ]; left = a }
+    let N = start_net t names in
+    let n = start_is_net t names is_net in
+    let b = start_is_named t names is_net in
+    let o = one_thread_exists N fuel n b in
+    let d : HasActive o.1 × (length o.0 ≡ fuel) = elim long [
+      | inl l ↦ longer_tells N net o.1 fuel journal o.0 n b run l o.2
+      | inr e ↦ spent_tells N net o.1 fuel journal o.0 n b run e.1 e.0 o.2
+    ] in
+    record { journal = o.0; net = o.1; run = o.2; full = d.1; left = d.0 }

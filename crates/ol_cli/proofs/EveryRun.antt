@@ -6,18 +6,17 @@ use Rattle.ol_net.specs.Nets.{NamedNet, HasNode, net_under}
 use Rattle.ol_rules.specs.declared.journal.NodeName.{NodeName}
 use Rattle.ol_rules.specs.declared.journal.Entry.{Entry}
 use Rattle.ol_rules.specs.Counting.{counts_of}
+use Rattle.ol_rules.proofs.Relation.{same_sym}
 use Rattle.ol_rules.proofs.UnderNames.{has_stuck_under}
 use Rattle.ol_readback.specs.Heads.{live}
 use Rattle.ol_readback.specs.Trees.{IsTree}
-use Rattle.ol_diamond.proofs.Renaming.{renamed_under}
+use Rattle.ol_diamond.proofs.OneThreadRuns.{as_run, runs_agree, goes_on_shorter}
 use Rattle.ol_cli.specs.Texts.{answer_text}
 use Rattle.ol_cli.specs.Evaluation.{start_net, Shows, EveryRunPrints, EveryRunIsLonger}
 use Rattle.ol_cli.proofs.ListedOnce.{net_under_once}
 use Rattle.ol_cli.proofs.NamedNets.{named_net}
 use Rattle.ol_cli.proofs.TreeTransport.{tree_under}
-use Rattle.ol_cli.proofs.NetRuns.{as_run}
 use Rattle.ol_cli.proofs.OnePrint.{start_is_net, start_is_named}
-use Rattle.ol_cli.proofs.TwoRuns.{complete_runs_agree, goes_on_shorter}
 
 -- a net under other names shows the same text, with another journal of the same counts
 pub shows_under : (names : List (List ℕ)) (heads : ℕ) (es fs : List Entry) (m : NodeName → NodeName) (N : NamedNet NodeName) (text : List ℕ) →
@@ -36,18 +35,18 @@ shows_under names heads es fs m N text apart counts s =
       written = s.written ∙ ap (λ c. answer_text s.term c s.stuck) counts;
     }
 
-within : (m n fuel : ℕ) → m ≡ n → m ≤ fuel → n ≤ fuel
+within : (m n fuel : ℕ) → n ≡ m → m ≤ fuel → n ≤ fuel
 within m n fuel e b = omega arith
 
 pub every_run_prints : EveryRunPrints
 every_run_prints t names fuel heads text is_net p journal net run complete =
     let N = start_net t names in
-    let a = complete_runs_agree N (start_is_net t names is_net) (start_is_named t names is_net) p.net net p.journal journal (as_run N p.net 0 p.journal p.run.leads) run p.complete complete in
+    let a = runs_agree N (start_is_net t names is_net) (start_is_named t names is_net) p.net net p.journal journal (as_run N p.net 0 p.journal p.run.leads) run p.complete complete in
     record {
-      within = within (length p.journal) (length journal) fuel a.size p.run.within;
+      within = within (length p.journal) (length journal) fuel a.steps p.run.within;
       listed = net_under a.names p.net;
-      same = renamed_under a.names p.net net a.renamed;
-      shows = shows_under names heads p.journal journal a.names p.net text a.renamed.apart a.counts p.shows;
+      same = same_sym (net_under a.names p.net) net a.written.same;
+      shows = shows_under names heads p.journal journal a.names p.net text a.written.apart (sym a.counts) p.shows;
     }
 
 pub every_run_is_longer : EveryRunIsLonger

@@ -10,13 +10,8 @@ mod OneTree
 mod KeptPorts
 mod OneText
 mod OnePrint
-mod BirthCounts
-mod NetRuns
-mod BirthNets
-mod TwoRuns
 mod EveryRun
 mod NoFacing
-mod LeadSearch
 mod AnyRun
 mod Sourced
 mod Within

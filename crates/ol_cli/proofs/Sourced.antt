@@ -24,7 +24,7 @@ use Rattle.ol_cli.specs.Evaluation.{start_net, Prints}
 use Rattle.ol_cli.specs.Answers.{IsTerm, TermAnswer, IsAnswer}
 use Rattle.ol_cli.specs.Sources.{PrintsTree, TellsTree, WritesTree, EveryRunTells}
 use Rattle.ol_cli.specs.Trees.{TextIsReadAgain, WritesReadable}
-use Rattle.ol_cli.proofs.NetRuns.{as_run}
+use Rattle.ol_diamond.proofs.OneThreadRuns.{as_run}
 use Rattle.ol_cli.proofs.NoFacing.{no_facing}
 use Rattle.ol_cli.proofs.OnePrint.{start_is_net, start_is_named}
 use Rattle.ol_cli.proofs.EveryRun.{every_run_prints, every_run_is_longer}
