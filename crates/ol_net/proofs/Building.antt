@@ -389,9 +389,9 @@ SameNet-given free nodes links xs good table =
       );
     }
 
-pub Builds-from_tables : (free : ℕ) (nodes : List (Kind × ℕ)) (links : List (Port × Port)) (live : List (Option (Kind × ℕ))) (xs : List ℕ) →
-    AreTables free nodes links live xs → Builds free nodes links (record { free = free; nodes = live; partners = xs })
-Builds-from_tables free nodes links live xs t = record {
+pub Builds-from_tables : (top free : ℕ) (nodes : List (Kind × ℕ)) (links : List (Port × Port)) (live : List (Option (Kind × ℕ))) (xs : List ℕ) →
+    AreTables top free nodes links live xs → Builds top free nodes links (record { free = free; nodes = live; partners = xs })
+Builds-from_tables top free nodes links live xs t = record {
   good_indexes = t.good_indexes;
   good_ports = t.good_ports;
   once = t.table.once;

@@ -75,8 +75,8 @@ HasIndexes-renewed nodes first second born has may len =
     top_index_of-born nodes [] may = omega arith
     top_index_of-born nodes (k ∷ ks) may = omega (arith, top_index_of-live (k ∷ ks) (top_index_of nodes + 1) (λ p k' e. (may p k' e).0))
 
-good_index : (k : Kind × ℕ) → (is_bad_index k ≡ true → ⊥) → (k.1 ≤ 1000000) × (is_eraser k.0 ≡ true → k.1 ≡ 0)
-good_index k h = elim (cases_Bool (is_eraser k.0)) [
+good_index : (top : ℕ) (k : Kind × ℕ) → (is_bad_index top k ≡ true → ⊥) → (k.1 ≤ top) × (is_eraser k.0 ≡ true → k.1 ≡ 0)
+good_index top k h = elim (cases_Bool (is_eraser k.0)) [
   | inl t ↦
       let z : k.1 ≡ 0 = grind (arith, nat_tests) in
       (omega arith, λ _. z)
@@ -84,20 +84,20 @@ good_index k h = elim (cases_Bool (is_eraser k.0)) [
 ]
 
 -- The nodes that a net is built from keep it.
-pub HasIndexes-built : (nodes : List (Kind × ℕ)) → NoneOf (BadIndexAt nodes) → HasIndexes (all_live nodes)
-HasIndexes-built nodes good = record {
-  top = omega (arith, top_index_of-live nodes 1000000 (λ p k e. (good_index k (λ bad. good p (at nodes p k e bad))).0));
-  erasers = λ x k h e. (good_index k (λ bad. good x (at nodes x k (kind_at-live nodes x k h) bad))).1 e;
+pub HasIndexes-built : (top : ℕ) (nodes : List (Kind × ℕ)) → top ≤ 100000000 → NoneOf (BadIndexAt top nodes) → HasIndexes (all_live nodes)
+HasIndexes-built top nodes low good = record {
+  top = omega (arith, low, top_index_of-live nodes top (λ p k e. (good_index top k (λ bad. good p (at nodes p k e bad))).0));
+  erasers = λ x k h e. (good_index top k (λ bad. good x (at nodes x k (kind_at-live nodes x k h) bad))).1 e;
 }
   where
-    at : (ks : List (Kind × ℕ)) (p : ℕ) (k : Kind × ℕ) → slice_get ks p ≡ Some k → is_bad_index k ≡ true → BadIndexAt ks p
+    at : (ks : List (Kind × ℕ)) (p : ℕ) (k : Kind × ℕ) → slice_get ks p ≡ Some k → is_bad_index top k ≡ true → BadIndexAt top ks p
     at [] p k e bad = absurd (let no_node : None ≡ Some k = e in cc)
     at (f ∷ ks) zero k e bad = let same : f ≡ k = cc in rw same bad
     at (f ∷ ks) (suc p) k e bad = at ks p k e bad
 
-pub HasIndexes-of_tables : (free : ℕ) (nodes : List (Kind × ℕ)) (links : List (Port × Port)) (live : List (Option (Kind × ℕ))) (xs : List ℕ) →
-    AreTables free nodes links live xs → HasIndexes live
-HasIndexes-of_tables free nodes links live xs t = rw t.same_nodes (HasIndexes-built nodes t.good_indexes)
+pub HasIndexes-of_tables : (top free : ℕ) (nodes : List (Kind × ℕ)) (links : List (Port × Port)) (live : List (Option (Kind × ℕ))) (xs : List ℕ) →
+    AreTables top free nodes links live xs → top ≤ 100000000 → HasIndexes live
+HasIndexes-of_tables top free nodes links live xs t low = rw t.same_nodes (HasIndexes-built top nodes low t.good_indexes)
 
 pub HasIndexes-kept : (nodes nodes' : List (Option (Kind × ℕ))) (first second : ℕ) (born : List (Kind × ℕ)) → HasIndexes nodes →
     ((p : ℕ) (k : Kind × ℕ) → slice_get born p ≡ Some k → MayBeBorn (top_index_of nodes) k) → nodes' ≡ renewed nodes first second born →

@@ -113,9 +113,9 @@ count_by-all_live (k ∷ nodes) =
     let e : count_by is_some (Some k ∷ all_live nodes) ≡ 1 + count_by is_some (all_live nodes) = sum_by-cons (λ (x : Option (Kind × ℕ)). cond (is_some x) 1 0) (Some k) (all_live nodes) in
     omega (arith, e, count_by-all_live nodes)
 
-pub IsTabled-from_tables : (free : ℕ) (nodes : List (Kind × ℕ)) (links : List (Port × Port)) (live : List (Option (Kind × ℕ))) (xs : List ℕ) →
-    AreTables free nodes links live xs → (count_by is_some live ≡ length live) × (length live ≡ length nodes) × IsTabled free live xs
-IsTabled-from_tables free nodes links live xs t =
+pub IsTabled-from_tables : (top free : ℕ) (nodes : List (Kind × ℕ)) (links : List (Port × Port)) (live : List (Option (Kind × ℕ))) (xs : List ℕ) →
+    AreTables top free nodes links live xs → (count_by is_some live ≡ length live) × (length live ≡ length nodes) × IsTabled free live xs
+IsTabled-from_tables top free nodes links live xs t =
     rw t.same_nodes (
       count_by-all_live nodes ∙ sym (length-all_live nodes),
       length-all_live nodes,

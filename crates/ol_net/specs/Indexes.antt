@@ -5,8 +5,8 @@ use Rattle.ol_net.specs.Parts.{is_eraser}
 use Rattle.ol_net.specs.Graph.{kind_at}
 use Rattle.ol_net.specs.Replace.{top_index_of}
 
--- There is room for nets that begin with indexes of up to 100,000,000 (`build` allows 1,000,000), and each node born may raise
--- the greatest by one. An eraser has index 0.
+-- A net begins with indexes of at most 100,000,000, the greatest `top` of `build_to`, and each node born may raise the greatest
+-- by one. An eraser has index 0.
 pub record HasIndexes (nodes : List (Option (Kind × ℕ))) : Type 0 where
   pub top : top_index_of nodes ≤ 100000000 + length nodes
   pub erasers : (x : ℕ) (k : Kind × ℕ) → kind_at nodes x ≡ Some k → is_eraser k.0 ≡ true → k.1 ≡ 0

@@ -47,8 +47,8 @@ pub record IsTable (free : ℕ) (nodes : List (Option (Kind × ℕ))) (links : L
   pub none_alone : NoneOf (AloneAt free nodes partners)
 
 -- good parts, and their tables
-pub record AreTables (free : ℕ) (nodes : List (Kind × ℕ)) (links : List (Port × Port)) (live : List (Option (Kind × ℕ))) (partners : List ℕ) : Type 0 where
-  pub good_indexes : NoneOf (BadIndexAt nodes)
+pub record AreTables (top free : ℕ) (nodes : List (Kind × ℕ)) (links : List (Port × Port)) (live : List (Option (Kind × ℕ))) (partners : List ℕ) : Type 0 where
+  pub good_indexes : NoneOf (BadIndexAt top nodes)
   pub good_ports : NoneOf (BadPortAt free (all_live nodes) links)
   pub same_nodes : live ≡ all_live nodes
   pub table : IsTable free (all_live nodes) links partners

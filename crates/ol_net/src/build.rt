@@ -10,26 +10,23 @@ use crate::graph::{is_port, place_of, port_of};
 use crate::parts::{BuildFault, Kind, Port};
 use std::alloc::{AllocError, Global};
 
-// The greatest index that a net may begin with.
-const TOP_INDEX: u32 = 1_000_000;
-
-fn is_bad_index(node: (Kind, u32)) -> bool
-    ensures { result ≡ is_bad_index node }
+fn is_bad_index(top: u32, node: (Kind, u32)) -> bool
+    ensures { result ≡ is_bad_index top node }
 {
     if node.0.is_eraser() {
         node.1 != 0
     } else {
-        node.1 > TOP_INDEX
+        node.1 > top
     }
 }
 
-/// The first node with an index that is not allowed.
-pub fn first_bad_index(nodes: &[(Kind, u32)]) -> Option<u32>
+/// The first node with an index above `top`, or that is an eraser with an index other than 0.
+pub fn first_bad_index(top: u32, nodes: &[(Kind, u32)]) -> Option<u32>
     requires { length nodes.now < 2 ^ 32 }
-    ensures { MatchOption result (NoneOf (BadIndexAt nodes.now)) (λ n. FirstOf (BadIndexAt nodes.now) n) }
+    ensures { MatchOption result (NoneOf (BadIndexAt top nodes.now)) (λ n. FirstOf (BadIndexAt top nodes.now) n) }
 {
     for (i, node) in nodes.iter().enumerate() {
-        if is_bad_index(*node) {
+        if is_bad_index(top, *node) {
             return Some(i as u32);
         }
     }
@@ -157,18 +154,19 @@ pub fn table_of(
     Ok(partners)
 }
 
-/// The tables of a net with these nodes and links.
+/// The tables of a net with these nodes and links, whose indexes may be at most `top`.
 pub fn tables(
     alloc: Global,
+    top: u32,
     free: u32,
     nodes: &[(Kind, u32)],
     links: &[(Port, Port)],
 ) -> Result<(Vec<Option<(Kind, u32)>>, Vec<usize>), BuildFault>
     requires few_nodes { length nodes.now < 2 ^ 31 }
     requires few_links { length links.now < 2 ^ 32 }
-    ensures { MatchResult result (λ t. AreTables free nodes.now links.now t.0.items t.1.items) (FaultIs free nodes.now links.now) }
+    ensures { MatchResult result (λ t. AreTables top free nodes.now links.now t.0.items t.1.items) (FaultIs top free nodes.now links.now) }
 {
-    if let Some(node) = first_bad_index(nodes) {
+    if let Some(node) = first_bad_index(top, nodes) {
         return Err(BuildFault::BadIndex { node });
     }
     let Ok(live) = live_nodes(alloc, nodes) else {

@@ -12,7 +12,7 @@ ghost use Rattle.ol_net.specs.Joins.{uses_up, open_ends};
 ghost use Rattle.ol_net.specs.Replace.{AreFacing, MayBeBorn, Replaces, top_index_of};
 ghost use Rattle.ol_net.specs.declared.parts.Kind.{Kind};
 ghost use Rattle.ol_net.specs.Pairing.{other};
-ghost use Rattle.ol_net.specs.Build.{Builds, FaultIs};
+ghost use Rattle.ol_net.specs.Build.{Builds, FaultIs, build_top};
 ghost use Rattle.ol_net.specs.Graph.{kind_at, partner_of, partner_in, IsTabled, facing_at, place, port_at, has_port, has_slot};
 
 use crate::build::tables;
@@ -22,6 +22,9 @@ use crate::rewire::replace_in;
 use ol_io::NoMemory;
 use std::alloc::Global;
 use std::marker::Model;
+
+// The greatest index that `build` allows.
+const TOP_INDEX: u32 = 1_000_000;
 
 /// A net: nodes with a kind and an index under numbers of their own, free ports, and links, each of
 /// two ports. Each port stands in one link. A node's number is never given to another node.
@@ -53,7 +56,8 @@ impl Net {
     /// Numbers the nodes from 0 in the order given, and links their ports.
     ///
     /// - `free`: the number of free ports.
-    /// - `nodes`: each node's kind and index, fewer than 1,000,000,000 of them.
+    /// - `nodes`: each node's kind and index, fewer than 1,000,000,000 of them. An index is at most
+    ///   1,000,000, and 0 for an eraser; else `BadIndex` is answered.
     /// - `links`: the two ports of each link, fewer than 2^32 of them.
     ///
     /// The first fault in the order of `BuildFault` is answered. `NoMemory` may stand in the place
@@ -66,10 +70,37 @@ impl Net {
     ) -> Result<Net, BuildFault>
         requires few_nodes { vec_len nodes < 1000000000 }
         requires few_links { vec_len links < 2 ^ 32 }
-        ensures built { IfOk result (Builds free nodes.items links.items) }
-        ensures fault { IfErr result (FaultIs free nodes.items links.items) }
+        ensures built { IfOk result (Builds build_top free nodes.items links.items) }
+        ensures fault { IfErr result (FaultIs build_top free nodes.items links.items) }
     {
-        match tables(alloc, free, &nodes, &links) {
+        Net::build_to(alloc, TOP_INDEX, free, nodes, links)
+    }
+
+    /// As `build`, with another greatest index in the place of 1,000,000: for a net whose indexes
+    /// have risen while it was rewritten.
+    ///
+    /// - `top`: the greatest index that a node may have, itself at most 100,000,000.
+    /// - `free`: the number of free ports.
+    /// - `nodes`: each node's kind and index, fewer than 1,000,000,000 of them. An index is at most
+    ///   `top`, and 0 for an eraser; else `BadIndex` is answered.
+    /// - `links`: the two ports of each link, fewer than 2^32 of them.
+    ///
+    /// The first fault in the order of `BuildFault` is answered. `NoMemory` may stand in the place
+    /// of any answer.
+    pub fn build_to(
+        alloc: Global,
+        top: u32,
+        free: u32,
+        nodes: Vec<(Kind, u32)>,
+        links: Vec<(Port, Port)>,
+    ) -> Result<Net, BuildFault>
+        requires top { top ≤ 100000000 }
+        requires few_nodes { vec_len nodes < 1000000000 }
+        requires few_links { vec_len links < 2 ^ 32 }
+        ensures built { IfOk result (Builds top free nodes.items links.items) }
+        ensures fault { IfErr result (FaultIs top free nodes.items links.items) }
+    {
+        match tables(alloc, top, free, &nodes, &links) {
             Ok((live, partners)) => Ok(Net {
                 free,
                 live: live.len() as u32,

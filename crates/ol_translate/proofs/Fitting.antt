@@ -13,7 +13,7 @@ use Rattle.ol_net.specs.Nets.{NamedNet, SameNet}
 use Rattle.ol_net.specs.Numbered.{net_of_parts}
 use Rattle.ol_translate.specs.Translation.{nodes_of, links_of, translation_of}
 use Rattle.ol_translate.specs.Names.{HasNames}
-use Rattle.ol_net.specs.Build.{HasEnd, FaultIs}
+use Rattle.ol_net.specs.Build.{HasEnd, FaultIs, build_top}
 use Rattle.ol_translate.proofs.Counts.{port_eq, hit, uses}
 use Rattle.ol_translate.proofs.Ports.{bit, each_port_once}
 use Rattle.ol_translate.proofs.Indexes.{good_indexes}
@@ -116,7 +116,7 @@ used_somewhere free nodes links p once there loose =
     absurd (omega (arith, count, uses-none p links loose))
 
 only_memory : (t : Tree) (names : ℕ) (fault : BuildFault) → HasNames t names → length (nodes_of t) ≤ 200000
-    → FaultIs (1 + names) (nodes_of t) (links_of t) fault → fault ≢ NoMemory → ⊥
+    → FaultIs build_top (1 + names) (nodes_of t) (links_of t) fault → fault ≢ NoMemory → ⊥
 only_memory t names (BadIndex n) h few is ne = good_indexes t few n is.0
 only_memory t names (BadPort j) h few is ne = elim (is.1.0.1) [
   | inl gone ↦ used_exists (1 + names) (nodes_of t) (links_of t) (link_at (links_of t) j).0 j (each_port_once t names h) is.1.0.0 (inl refl) gone
@@ -131,12 +131,12 @@ only_memory t names NoMemory h few is ne = ne refl
 
 -- the same of parts that were laid down
 pub never_refused : (t : Tree) (names free : ℕ) (nodes : List (Kind × ℕ)) (links : List (Port × Port)) (fault : BuildFault) → HasNames t names
-    → free ≡ 1 + names → nodes ≡ nodes_of t → links ≡ links_of t → length nodes ≤ 200000 → FaultIs free nodes links fault → fault ≢ NoMemory → ⊥
+    → free ≡ 1 + names → nodes ≡ nodes_of t → links ≡ links_of t → length nodes ≤ 200000 → FaultIs build_top free nodes links fault → fault ≢ NoMemory → ⊥
 never_refused t names free nodes links fault h f n l few is ne =
     let few' : length (nodes_of t) ≤ 200000 = omega (arith, ap length n) in
-    let F : ℕ → Type 0 = λ m. FaultIs m nodes links fault in
-    let N : List (Kind × ℕ) → Type 0 = λ m. FaultIs (1 + names) m links fault in
-    let L : List (Port × Port) → Type 0 = λ m. FaultIs (1 + names) (nodes_of t) m fault in
+    let F : ℕ → Type 0 = λ m. FaultIs build_top m nodes links fault in
+    let N : List (Kind × ℕ) → Type 0 = λ m. FaultIs build_top (1 + names) m links fault in
+    let L : List (Port × Port) → Type 0 = λ m. FaultIs build_top (1 + names) (nodes_of t) m fault in
     only_memory t names fault h few' (subst L l (subst N n (subst F f is))) ne
 
 -- a net of the parts that were laid down is the translation

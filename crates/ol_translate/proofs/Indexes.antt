@@ -5,7 +5,7 @@ use Rattle.ol_term.specs.Trees.{Tree, var, free, lam, app}
 use Rattle.ol_net.specs.declared.parts.Kind.{Kind}
 use Rattle.ol_net.specs.declared.parts.Kind.TheVariants as kind
 use Rattle.ol_net.specs.declared.parts.Port.{Port}
-use Rattle.ol_net.specs.Build.{is_bad_index, BadIndexAt, NoneOf}
+use Rattle.ol_net.specs.Build.{build_top, is_bad_index, BadIndexAt, NoneOf}
 use Rattle.ol_translate.specs.Translation.{Part, part_of, application, erasers, bracket_nodes, bracketed, fans, fan_nodes, merged, wire_of, nodes_of}
 
 -- the index of a node that is no eraser is at most m, and an eraser's is 0
@@ -92,7 +92,7 @@ part_low (app M N) d n k =
 
 -- ---- no index is refused
 
-low_is_good : (m : ℕ) (node : Kind × ℕ) → m ≤ 1000000 → IsLow m node → is_bad_index node ≡ false
+low_is_good : (m : ℕ) (node : Kind × ℕ) → m ≤ build_top → IsLow m node → is_bad_index build_top node ≡ false
 low_is_good m (kind.Lam, i) h low = grind (arith, nat_tests)
 low_is_good m (kind.App, i) h low = grind (arith, nat_tests)
 low_is_good m (kind.Fan, i) h low = grind (arith, nat_tests)
@@ -100,12 +100,12 @@ low_is_good m (kind.Croissant, i) h low = grind (arith, nat_tests)
 low_is_good m (kind.Bracket, i) h low = grind (arith, nat_tests)
 low_is_good m (kind.Eraser, i) h low = rw low refl
 
-none_bad : (m j : ℕ) (nodes : List (Kind × ℕ)) → m ≤ 1000000 → AreLow m nodes → is_bad_index (get_or nodes j (kind.Eraser, 0)) ≡ false
+none_bad : (m j : ℕ) (nodes : List (Kind × ℕ)) → m ≤ build_top → AreLow m nodes → is_bad_index build_top (get_or nodes j (kind.Eraser, 0)) ≡ false
 none_bad m j [] h low = refl
 none_bad m zero (node ∷ nodes) h low = low_is_good m node h low.0
 none_bad m (suc j) (node ∷ nodes) h low = none_bad m j nodes h low.1
 
-pub good_indexes : (t : Tree) → length (nodes_of t) ≤ 200000 → NoneOf (BadIndexAt (nodes_of t))
+pub good_indexes : (t : Tree) → length (nodes_of t) ≤ 200000 → NoneOf (BadIndexAt build_top (nodes_of t))
 good_indexes t h j bad =
     let good = none_bad (0 + length (nodes_of t)) j (nodes_of t) (omega arith) (part_low t 0 0 0) in
     absurd (cc)
