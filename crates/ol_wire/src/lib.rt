@@ -1,6 +1,7 @@
 //! The shared words: a net laid out in words that any number of threads rewrite by single atomic steps.
 #![tactic(auto)]
 
+mod closed;
 mod holding;
 mod law;
 mod laying;
@@ -16,11 +17,13 @@ mod shared;
 mod stepping;
 mod view;
 
+pub use closed::Words;
 pub use holding::Hold;
 pub use law::Law;
 pub use layout::Parts;
 pub use plan::Plan;
 pub use promise::at_every_moment;
+pub use reference::{index_in, is_node, kind_in, place_in};
 pub use seat::Seat;
 pub use shared::Shared;
 pub use view::{Link, View};

@@ -1,0 +1,81 @@
+//! A stub, until the closing of tables is there: words that no thread shares.
+ghost use Rattle.std.specs.Prelude.{◌≡◌, ℕ, Bool, List, Some, None, length, slice_index, slice_get, ◌<◌, ◌≤◌, MatchOption};
+ghost use Rattle.ol_net.specs.Nets.{NamedNet};
+ghost use Rattle.ol_rules.specs.declared.journal.NodeName.{NodeName};
+ghost use Rattle.ol_rules.specs.Runs.{IsRun};
+ghost use Rattle.ol_wire.specs.Closed.{ClosedTable, events_in, journal_in};
+ghost use Rattle.ol_wire.specs.Rule.{start_net};
+ghost use Rattle.ol_wire.specs.Standing.{StandsFor};
+ghost use Rattle.ol_wire.specs.Views.{fresh};
+
+use crate::layout::Parts;
+use crate::plan::Plan;
+use ol_rules::Entry;
+use std::marker::Model;
+
+#[derive(Drop)]
+pub struct Words {
+    plan: Plan,
+    words: Vec<u64>,
+    entries: Vec<Entry>,
+}
+
+impl Model for Words {
+    ghost use Rattle.std.specs.Prelude.{◌≡◌, ℕ, Bool, length, ◌<◌, ◌^◌};
+    ghost use Rattle.ol_net.specs.Nets.{NamedNet};
+    ghost use Rattle.ol_rules.specs.declared.journal.NodeName.{NodeName};
+    ghost use Rattle.ol_rules.specs.Runs.{IsRun};
+    ghost use Rattle.ol_wire.specs.Closed.{ClosedTable, events_in, journal_in};
+    ghost use Rattle.ol_wire.specs.Rule.{start_net};
+    ghost use Rattle.ol_wire.specs.Standing.{StandsFor};
+    ghost use Rattle.ol_wire.specs.Views.{fresh};
+
+    ghost Value = { ClosedTable };
+
+    ghost view = { λ w. record { plan = w.plan; words = w.words.items; view = fresh w.plan.parts 0 0 } };
+
+    ghost invariant = { λ w. (w.entries.items ≡ journal_in w.plan.parts w.words.items) × (length w.words.items < 2 ^ 32) × (length w.entries.items ≡ events_in w.plan.parts w.words.items) × (length w.entries.items < 2 ^ 32) × ((net : NamedNet NodeName) × (reached : ℕ → Bool) × IsRun (start_net w.plan) 0 (journal_in w.plan.parts w.words.items) net × StandsFor (record { plan = w.plan; words = w.words.items; view = fresh w.plan.parts 0 0 }) net reached) };
+}
+
+impl Words {
+    pub fn of(plan: Plan, words: Vec<u64>, entries: Vec<Entry>) -> Words
+        requires { (entries.items ≡ journal_in plan.parts words.items) × (length words.items < 4294967296) × (length entries.items ≡ events_in plan.parts words.items) × (length entries.items < 4294967296) × ((net : NamedNet NodeName) × (reached : ℕ → Bool) × IsRun (start_net plan) 0 (journal_in plan.parts words.items) net × StandsFor (record { plan = plan; words = words.items; view = fresh plan.parts 0 0 }) net reached) }
+    {
+        Words {
+            plan,
+            words,
+            entries,
+        }
+    }
+
+    pub fn parts(&self) -> Parts
+        ensures { result ≡ self.now.plan.parts }
+    {
+        self.plan.parts
+    }
+
+    pub fn word(&self, at: u32) -> Option<u64>
+        ensures { at < length self.now.words → result ≡ Some (slice_index self.now.words at) }
+    {
+        self.words.get(at as usize).copied()
+    }
+
+    pub fn events(&self) -> u32
+        ensures { result ≡ events_in self.now.plan.parts self.now.words }
+    {
+        self.entries.len() as u32
+    }
+
+    pub fn journal(&self, k: u32) -> Option<Entry>
+        ensures { result ≡ slice_get (journal_in self.now.plan.parts self.now.words) k }
+    {
+        self.entries.get(k as usize).copied()
+    }
+
+    /// Law.
+    pub fn stands(&self)
+        ensures stands { (net : NamedNet NodeName) × (reached : ℕ → Bool) × IsRun (start_net self.now.plan) 0 (journal_in self.now.plan.parts self.now.words) net × StandsFor self.now net reached }
+    {
+        let _ = &self.plan;
+    }
+}
