@@ -20,6 +20,7 @@ pub mod PlaceSums
 pub mod NetBut
 pub mod Claimed
 pub mod Exchange
+pub mod ClosingLive
 pub mod Overlooked
 pub mod WordEdges
 pub mod WordsAfter
