@@ -14,6 +14,7 @@ use Rattle.ol_wire.specs.Edges.{edges_in}
 use Rattle.ol_wire.specs.Stands.{Stands, IsEnd, of_port, principal, auxiliary, IsWireEnd}
 use Rattle.ol_wire.specs.Closed.{ClosedTable}
 use Rattle.ol_wire.specs.Standing.{StandsFor, IsWirePart}
+use Rattle.ol_reduce.specs.Following.{OwnsWord, LeadsTo, last, more}
 use Rattle.ol_wire.proofs.References.{node_sort, wire_sort, slot_sort, wire_same}
 use Rattle.ol_wire.proofs.Alike.{pairs_append}
 use Rattle.ol_wire.proofs.EdgeList.{word_edge, edge_there, edge_found}
@@ -42,7 +43,7 @@ second_counts e a [] h = elim h [ ]
 second_counts e a (d ∷ es) (inl q) = omega (arith, same_bit e d.1 (ap (λ (x : ℕ × ℕ). x.1) q))
 second_counts e a (d ∷ es) (inr h) = omega (arith, second_counts e a es h)
 
-seconds_append : (e : ℕ) (es fs : List (ℕ × ℕ)) → seconds e (es ++ fs) ≡ seconds e es + seconds e fs
+pub seconds_append : (e : ℕ) (es fs : List (ℕ × ℕ)) → seconds e (es ++ fs) ≡ seconds e es + seconds e fs
 seconds_append e [] fs = omega arith
 seconds_append e (d ∷ es) fs = omega (arith, seconds_append e es fs)
 
@@ -59,12 +60,11 @@ module _ (w : ClosedTable) (N : NamedNet NodeName) (reached : ℕ → Bool) (s :
   abbrev pub es : List (ℕ × ℕ)
   es = edges_in z N reached w.words (size z)
 
-  -- word n isn't empty, and is that of the end e
-  pub record Owns (n e : ℕ) : Type 0 where
-    pub within : n < size z
-    pub filled : word n ≢ 0
-    pub end : (e ≡ wire_ref n) ⊎ (e ≡ slot_ref n)
-    pub edge : IsIn {X = ℕ × ℕ} (e, word n) (row n)
+  abbrev pub Owns : ℕ → ℕ → Type 0
+  Owns n e = OwnsWord w N reached n e
+
+  abbrev pub Goes : ℕ → ℕ → Type 0
+  Goes e t = LeadsTo w N reached e t
 
   pub own_edge : (n e : ℕ) → Owns n e → IsIn {X = ℕ × ℕ} (e, word n) es
   own_edge n e o = edge_there z N reached w.words (size z) n (e, word n) o.within o.edge
@@ -99,11 +99,6 @@ module _ (w : ClosedTable) (N : NamedNet NodeName) (reached : ℕ → Bool) (s :
       go n lt i (at_wire p e q f) = owned n (record { within = lt; filled = f; end = inl e; edge = subst (λ y. IsIn {X = ℕ × ℕ} (a, y) (row n)) q i }) q
       go n lt i (at_field x c p e q f) = owned n (record { within = lt; filled = f; end = inr e; edge = subst (λ y. IsIn {X = ℕ × ℕ} (a, y) (row n)) q i }) q
       go n lt i (at_cell p e q f) = celled n p f e q
-
-  -- e owns a word, and what it holds is followed through words of wires to t
-  pub data Goes : ℕ → ℕ → Type 0 where
-    last : {e t : ℕ} (n : ℕ) → Owns n e → word n ≡ t → Goes e t
-    more : {e t : ℕ} (n : ℕ) → Owns n e → Goes (word n) t → Goes e t
 
   pub goes_on : (e u t : ℕ) → Goes e u → (n : ℕ) → Owns n u → word n ≡ t → Goes e t
   goes_on e u t (last m o q) n p r = more m o (last n (subst (λ u. Owns n u) (sym q) p) r)

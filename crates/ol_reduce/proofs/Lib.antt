@@ -1,1 +1,6 @@
 pub mod Forward
+pub mod Bounded
+pub mod Followed
+pub mod Building
+pub mod Births
+pub mod Numbering

@@ -3,9 +3,5 @@
 
 mod chains;
 mod draft;
-mod freezing;
-#[cfg(test)]
-mod freezing_tests;
 mod live;
-
-pub use freezing::freeze;
+mod reading;

@@ -242,7 +242,7 @@ got_below (d ∷ log) zero e h = omega arith
 got_below (d ∷ log) (suc t) e h = omega (arith, got_below log t e h)
 
 -- how many nodes an event makes, whichever of its two nodes comes first
-acting_copies : (a b : Option Rule) (l r : ℕ) → copies_of_f (acting a b l r) + copies_of_g (acting a b l r) ≡ (if is_meeting (acting a b l r).rule then 0 else arity (kind_in l) + arity (kind_in r))
+pub acting_copies : (a b : Option Rule) (l r : ℕ) → copies_of_f (acting a b l r) + copies_of_g (acting a b l r) ≡ (if is_meeting (acting a b l r).rule then 0 else arity (kind_in l) + arity (kind_in r))
 acting_copies (Some s) b l r = go (is_meeting s)
   where
     go : (m : Bool) → (if m then 0 else arity (kind_in r)) + (if m then 0 else arity (kind_in l)) ≡ (if m then 0 else arity (kind_in l) + arity (kind_in r))

@@ -55,9 +55,13 @@ impl Words {
     }
 
     pub fn word(&self, at: u32) -> Option<u64>
-        ensures { at < length self.now.words → result ≡ Some (slice_index self.now.words at) }
+        ensures { MatchOption result (length self.now.words ≤ at) (λ x. (at < length self.now.words) × (x ≡ slice_index self.now.words at)) }
     {
-        self.words.get(at as usize).copied()
+        if (at as usize) < self.words.len() {
+            Some(self.words[at as usize])
+        } else {
+            None
+        }
     }
 
     pub fn events(&self) -> u32
