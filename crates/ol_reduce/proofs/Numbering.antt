@@ -1,9 +1,9 @@
 -- Numbers and ranks of the nodes that are left.
-use Rattle.std.proofs.Common.{◌≡◌, ◌≢◌, ℕ, zero, suc, ◌+◌, ◌-◌, ◌*◌, ◌/◌, ◌%◌, ◌<◌, ◌≤◌, Bool, true, false, not, ◌&&◌, nat_lt, lt-ltb, ltb-true, if◌then◌else◌, List, [], ◌∷◌, ◌++◌, length, slice_index, Option, Some, None, ◌⊎◌, inl, inr, ◌↔◌, refl, sym, ap, ◌∙◌, subst, arith}
+use Rattle.std.proofs.Common.{◌≡◌, ◌≢◌, ℕ, zero, suc, ◌+◌, ◌-◌, ◌*◌, ◌/◌, ◌%◌, ◌<◌, ◌≤◌, Bool, true, false, not, ◌&&◌, nat_lt, lt-ltb, ltb-true, if◌then◌else◌, List, [], ◌∷◌, ◌++◌, length, slice_index, get_or, Option, Some, None, ◌⊎◌, inl, inr, ◌↔◌, refl, sym, ap, ◌∙◌, subst, arith}
 use Rattle.std.specs.Prelude.{slice_get, replicate}
 use Rattle.std.proofs.lemmas.Bool.{cases_eq, cases_lt, cases_Bool, false≢true}
 use Rattle.std.proofs.lemmas.Bool.Decides.{nat_tests}
-use Rattle.std.proofs.lemmas.List.{length-append, length-replicate}
+use Rattle.std.proofs.lemmas.List.{length-append, length-replicate, get_or_default}
 use Rattle.ol_rules.specs.declared.journal.NodeName.{NodeName}
 use Rattle.ol_rules.specs.declared.journal.NodeName.TheVariants.{Init, Born}
 use Rattle.ol_rules.specs.declared.journal.Entry.{Entry}
@@ -13,8 +13,9 @@ use Rattle.ol_wire.specs.Blocks.{copies_of_f, copies_of_g}
 use Rattle.ol_wire.specs.Closed.{ClosedTable, events_in, event_at, journal_in}
 use Rattle.ol_wire.specs.Events.{entry_of}
 use Rattle.ol_wire.specs.Rule.{IsPlaced}
-use Rattle.ol_wire.specs.Standing.{IsUntouched}
+use Rattle.ol_wire.specs.Standing.{IsUntouched, IsMadeNode}
 use Rattle.ol_reduce.proofs.Births.{length_each}
+use Rattle.ol_wire.proofs.Claimed.{wider}
 use Rattle.ol_reduce.specs.Left.{rank_of, name_of_rank, ranks_in, IsLeft, IsNamedBefore, AreMarked, AreLeft}
 
 name_low : (z : Parts) (r : ℕ) → r < z.nodes → name_of_rank z r ≡ Init r
@@ -188,8 +189,15 @@ none_marked w n e = record {
   marked = λ x p. ((λ h. absurd (get_replicate n (rank_of w.plan.parts x) h)), (λ h. absurd (omega (arith, h.2))));
 }
 
+abbrev pub IsMarkedBy : Parts → ℕ → List Bool → NodeName → List Bool → Type 0
+IsMarkedBy z n old name new = (x : NodeName) → IsPlaced z n x → (slice_get new (rank_of z x) ≡ Some true) ↔ ((slice_get old (rank_of z x) ≡ Some true) ⊎ (name ≡ x))
+
 abbrev pub IsMarkedWith : ClosedTable → List Bool → NodeName → List Bool → Type 0
-IsMarkedWith w old name new = (x : NodeName) → IsPlaced w.plan.parts (events_in w.plan.parts w.words) x → (slice_get new (rank_of w.plan.parts x) ≡ Some true) ↔ ((slice_get old (rank_of w.plan.parts x) ≡ Some true) ⊎ (name ≡ x))
+IsMarkedWith w old name new = IsMarkedBy w.plan.parts (events_in w.plan.parts w.words) old name new
+
+-- the parts and the number of events as the code has them
+pub marked_told : (w : ClosedTable) (z : Parts) (n : ℕ) (old new : List Bool) (name : NodeName) → z ≡ w.plan.parts → n ≡ events_in w.plan.parts w.words → IsMarkedBy z n old name new → IsMarkedWith w old name new
+marked_told w z n old new name e f h = subst (λ z. IsMarkedBy z (events_in w.plan.parts w.words) old name new) e (subst (λ n. IsMarkedBy z n old name new) f h)
 
 pub more_marked : (w : ClosedTable) (t : ℕ) (marks one two : List Bool) (e : Entry) → AreMarked w t marks → slice_get (journal_in w.plan.parts w.words) t ≡ Some e
     → length two ≡ length marks → IsMarkedWith w marks e.first one → IsMarkedWith w one e.second two → AreMarked w (t + 1) two
@@ -218,3 +226,71 @@ more_marked w t marks one two e m at long first second = record { long = long �
         now : h.1 ≡ e → (h.1.first ≡ x) ⊎ (h.1.second ≡ x) → slice_get two (rank_of w.plan.parts x) ≡ Some true
         now q (inl f) = (second x p).1 (inl ((first x p).1 (inr (sym (ap (λ (e : Entry). e.first) q) ∙ f))))
         now q (inr f) = (second x p).1 (inr (sym (ap (λ (e : Entry). e.second) q) ∙ f))
+
+-- ---- turns of the loops
+
+got_read : (xs : List Bool) (r : ℕ) (b : Bool) → r < length xs → b ≡ get_or xs r b → slice_get xs r ≡ Some b
+got_read [] r b lt e = absurd (omega arith)
+got_read (x ∷ xs) zero b lt e = ap (λ b. Some b) (sym e)
+got_read (x ∷ xs) (suc r) b lt e = got_read xs r b (omega arith) e
+
+not_false : (m : Bool) → not m ≡ true → m ≡ false
+not_false true h = absurd (false≢true h)
+not_false false h = refl
+
+not_true : (m : Bool) → not m ≡ false → m ≡ true
+not_true true h = refl
+not_true false h = absurd (false≢true (sym h))
+
+module _ (w : ClosedTable) (marks : List Bool) (m : AreMarked w (events_in w.plan.parts w.words) marks) (n : ℕ) (low : n < ranks_in w) (x : NodeName) (is : name_of_rank w.plan.parts n ≡ x)
+    (places numbers places' numbers' : List ℕ) (before : AreLeft w n places numbers) (place : ℕ) (at : place ≡ place_of w.plan.parts x) (b : Bool)
+    (more : places' ≡ (if b then places ++ place ∷ [] else places)) (number : numbers' ≡ numbers ++ (if b then length places + 1 else 0) ∷ []) where
+  placed : IsPlaced w.plan.parts (events_in w.plan.parts w.words) x
+  placed = subst (IsPlaced w.plan.parts (events_in w.plan.parts w.words)) is (name_placed w.plan.parts (events_in w.plan.parts w.words) n low)
+
+  rank : rank_of w.plan.parts x ≡ n
+  rank = ap (rank_of w.plan.parts) (sym is) ∙ rank_back w.plan.parts n
+
+  -- it was made, and the mark tells whether it is left
+  pub by_mark : (mark : Bool) → mark ≡ get_or marks n mark → b ≡ not mark → IsMadeNode w.plan.parts w.words x → AreLeft w (suc n) places' numbers'
+  by_mark mark e q made = added w n places numbers before b place places' numbers' (at ∙ ap (place_of w.plan.parts) (sym is)) left gone more number
+    where
+      read : slice_get marks (rank_of w.plan.parts x) ≡ Some mark
+      read = ap (slice_get marks) rank ∙ got_read marks n mark (omega (arith, low, m.long)) e
+
+      left : b ≡ true → IsLeft w (name_of_rank w.plan.parts n)
+      left h = subst (IsLeft w) (sym is) (made, is_untouched w marks m x placed (read ∙ ap (λ b. Some b) (not_false mark (sym q ∙ h))))
+
+      gone : b ≡ false → IsLeft w (name_of_rank w.plan.parts n) → ⊥
+      gone h l = is_gone w marks m x placed (read ∙ ap (λ b. Some b) (not_true mark (sym q ∙ h))) (subst (IsLeft w) is l)
+
+  -- it wasn't made
+  pub by_births : b ≡ false → (IsMadeNode w.plan.parts w.words x → ⊥) → AreLeft w (suc n) places' numbers'
+  by_births q none = added w n places numbers before b place places' numbers' (at ∙ ap (place_of w.plan.parts) (sym is)) (λ h. absurd (false≢true (sym q ∙ h))) (λ h l. none (subst (IsLeft w) is l).0) more number
+
+pub name_of_born : (z : Parts) (t p : ℕ) → p < 4 → name_of_rank z (z.nodes + 4 * t + p) ≡ Born t p
+name_of_born z t p lt = name_back z (Born t p) (suc t) (omega arith, lt)
+
+pub name_of_start : (z : Parts) (k : ℕ) → k < z.nodes → name_of_rank z k ≡ Init k
+name_of_start z k lt = name_low z k lt
+
+-- the number of a node that is left
+pub number_told : (w : ClosedTable) (places numbers : List ℕ) → AreLeft w (ranks_in w) places numbers → (x : NodeName) → IsPlaced w.plan.parts (events_in w.plan.parts w.words) x → IsLeft w x → (rank number : ℕ)
+    → rank ≡ rank_of w.plan.parts x → number ≡ get_or numbers rank number → (0 < number) × (number - 1 < length places) × (slice_index places (number - 1) ≡ place_of w.plan.parts x)
+number_told w places numbers h x p l rank number e read =
+    let low = rank_low w.plan.parts x (events_in w.plan.parts w.words) p in
+    let back = name_back w.plan.parts x (events_in w.plan.parts w.words) p in
+    let t = h.found (rank_of w.plan.parts x) low (subst (IsLeft w) (sym back) l) in
+    let q : number ≡ slice_index numbers (rank_of w.plan.parts x) = read ∙ get_or_default numbers rank number 0 (omega (arith, e, low, h.long)) ∙ ap (slice_index numbers) e in
+    (omega (arith, t.0, q), omega (arith, t.0, t.1, q), ap (λ n. slice_index places (n - 1)) q ∙ t.2 ∙ ap (place_of w.plan.parts) back)
+
+-- the same, by the parts and the rank as the code has them
+pub number_read : (w : ClosedTable) (places numbers : List ℕ) → AreLeft w (ranks_in w) places numbers → events_in w.plan.parts w.words ≤ w.plan.parts.fuel → (place : ℕ)
+    → (x : NodeName) × IsPlaced w.plan.parts (events_in w.plan.parts w.words) x × IsLeft w x × (place ≡ place_of w.plan.parts x) → (z : Parts) → z ≡ w.plan.parts → (rank : ℕ)
+    → ((x : NodeName) → IsPlaced z z.fuel x → place ≡ place_of z x → rank ≡ rank_of z x) → (number : ℕ) → number ≡ get_or numbers rank number
+    → (0 < number) × (number - 1 < length places) × (slice_index places (number - 1) ≡ place)
+number_read w places numbers h few place n z e rank told number read =
+    let placed = subst (λ (z : Parts). IsPlaced z z.fuel n.0) (sym e) (wider w.plan.parts n.0 (events_in w.plan.parts w.words) w.plan.parts.fuel few n.1) in
+    let r = told n.0 placed (n.3 ∙ ap (λ (z : Parts). place_of z n.0) (sym e)) ∙ ap (λ (z : Parts). rank_of z n.0) e in
+    let t = number_told w places numbers h n.0 n.1 n.2 rank number r read in
+    (t.0, t.1, t.2 ∙ sym n.3)
