@@ -134,7 +134,7 @@ module _ (w : ClosedTable) (N : NamedNet NodeName) (reached : ℕ → Bool) (s :
       let q = subst (λ t. IsRef t × IsWhole t × (place_in t < block z (events_in z w.words))) l.3 r in
       (q.0, q.1, omega (arith, q.2, events_few z w.words))
 
-  led_ends : (e t : ℕ) → Goes e t → 0 < ends nat_eq t (es w N reached s)
+  pub led_ends : (e t : ℕ) → Goes e t → 0 < ends nat_eq t (es w N reached s)
   led_ends e t g =
       let l = last_word e t g in
       let i = subst (λ t. IsIn {X = ℕ × ℕ} (l.1, t) (es w N reached s)) l.3 (own_edge w N reached s l.0 l.1 l.2) in

@@ -171,7 +171,7 @@ module _ (w : ClosedTable) (N : NamedNet NodeName) (reached : ℕ → Bool) (s :
   last_edge e t (last n o q) = (e, subst (λ t. IsIn {X = ℕ × ℕ} (e, t) es) q (own_edge n e o))
   last_edge e t (more n o g) = last_edge (word n) t g
 
-  owner_of : (e t : ℕ) → Goes e t → (n : ℕ) × Owns n e
+  pub owner_of : (e t : ℕ) → Goes e t → (n : ℕ) × Owns n e
   owner_of e t (last n o q) = (n, o)
   owner_of e t (more n o g) = (n, o)
 

@@ -4,3 +4,5 @@ pub mod Followed
 pub mod Building
 pub mod Births
 pub mod Numbering
+pub mod Sites
+pub mod Linking
