@@ -15,7 +15,7 @@ use Rattle.ol_wire.specs.Standing.{StandsFor, IsWirePart}
 use Rattle.ol_wire.proofs.References.{node_sort, wire_sort, slot_sort, wire_same}
 use Rattle.ol_wire.proofs.Places.{part_port}
 use Rattle.ol_wire.proofs.Claimed.{EdgeAt, at_wire, at_field, at_cell, edge_at}
-use Rattle.ol_reduce.specs.Following.{OwnsWord, LeadsTo, last, more, IsStart, value_after, IsPassed, IsAfter}
+use Rattle.ol_reduce.specs.Following.{OwnsWord, LeadsTo, last, more, IsStart, value_after, IsPassed, IsValueAfter}
 use Rattle.ol_reduce.proofs.Forward.{firsts, seconds, ends_split, first_counts, second_counts, seconds_append, own_edge, goes_on, es, row}
 
 -- ---- so many different numbers below m are at most m
@@ -111,7 +111,7 @@ module _ (w : ClosedTable) (N : NamedNet NodeName) (reached : ℕ → Bool) (s :
 
   -- ---- what a chain leads to
 
-  owner_behind : (n e : ℕ) → Owns n e → 0 < n
+  pub owner_behind : (n e : ℕ) → Owns n e → 0 < n
   owner_behind n e o = elim (cases_eq n 0) [
     | inl q ↦ absurd (go (edge_at N (reached n) (part_of z n) n (word n) (word (suc n)) e (word n) o.edge) (ap (part_of z) q))
     | inr d ↦ omega (arith, d)

@@ -10,7 +10,7 @@ use Rattle.ol_wire.specs.Sizes.{IsSmall}
 use Rattle.ol_wire.specs.declared.layout.Parts.{Parts}
 use Rattle.ol_wire.specs.Closed.{ClosedTable}
 use Rattle.ol_wire.specs.Standing.{StandsFor}
-use Rattle.ol_reduce.specs.Following.{LeadsTo, IsStart, IsFirst, EndsAt, value_after, IsPassed, IsAfter}
+use Rattle.ol_reduce.specs.Following.{LeadsTo, IsStart, IsFirst, EndsAt, value_after, IsPassed, IsValueAfter}
 use Rattle.ol_reduce.proofs.Bounded.{along, few, led_ref, led_wire, Names, a_port, a_wire, no_wire_below}
 
 small_size : (z : Parts) → IsSmall z → size z ≤ 100000000
@@ -21,7 +21,7 @@ wire_sort : (at : ℕ) (b : Bool) → (b ≡ true) ↔ IsNodeRef at → b ≡ fa
 wire_sort at b t f (inl h) = absurd (false≢true (sym f ∙ t.1 h))
 wire_sort at b t f (inr h) = h
 
-module _ (w : ClosedTable) (first k at : ℕ) (h : IsAfter w first k at) where
+module _ (w : ClosedTable) (first k at : ℕ) (h : IsValueAfter w first k at) where
   leads : (N : NamedNet NodeName) (reached : ℕ → Bool) (e : ℕ) (s : StandsFor w N reached) → IsStart w N reached e first → LeadsTo w N reached e at
   leads N reached e s start = subst (λ v. LeadsTo w N reached e v) h.0 (along w N reached s e first start k h.1)
 
@@ -78,10 +78,10 @@ module _ (w : ClosedTable) (first k at : ℕ) (h : IsAfter w first k at) where
           go (a_port m low q r) = absurd (omega (arith, low, r, lt))
           go (a_wire q r) = (r, empty, subst (λ v. LeadsTo w N reached e v) q (leads N reached e s start))
 
-      pub goes_on : w.plan.parts.free < place_in at → slice_index w.words (place_in at) ≢ 0 → IsAfter w first (k + 1) (slice_index w.words (place_in at))
+      pub goes_on : w.plan.parts.free < place_in at → slice_index w.words (place_in at) ≢ 0 → IsValueAfter w first (k + 1) (slice_index w.words (place_in at))
       goes_on lt filled =
           let e : k + 1 ≡ suc k = omega arith in
-          subst (λ j. IsAfter w first j (slice_index w.words (place_in at))) (sym e) (ap (λ v. slice_index w.words (place_in v)) h.0, passed)
+          subst (λ j. IsValueAfter w first j (slice_index w.words (place_in at))) (sym e) (ap (λ v. slice_index w.words (place_in v)) h.0, passed)
         where
           passed : (j : ℕ) → j < suc k → IsPassed w (value_after w.words first j)
           passed j below = elim (cases_lt j k) [
@@ -98,7 +98,7 @@ module _ (w : ClosedTable) (first k at : ℕ) (h : IsAfter w first k at) where
         wire_answer next lt read empty N reached e s start =
             subst (λ p. EndsAt w N reached e (Wire p)) (sym is) (at_wire (omega (arith, lt, is)) (ap (slice_index w.words) (sym is) ∙ sym read ∙ empty) N reached e s start)
 
-        pub next_answer : (next : ℕ) → w.plan.parts.free < place → next ≡ slice_index w.words place → next ≢ 0 → IsAfter w first (k + 1) next
+        pub next_answer : (next : ℕ) → w.plan.parts.free < place → next ≡ slice_index w.words place → next ≢ 0 → IsValueAfter w first (k + 1) next
         next_answer next lt read filled =
             let q : slice_index w.words (place_in at) ≡ next = ap (slice_index w.words) (sym is) ∙ sym read in
-            subst (λ v. IsAfter w first (k + 1) v) q (goes_on (omega (arith, lt, is)) (λ e. filled (sym q ∙ e)))
+            subst (λ v. IsValueAfter w first (k + 1) v) q (goes_on (omega (arith, lt, is)) (λ e. filled (sym q ∙ e)))

@@ -160,7 +160,7 @@ module _ (w : ClosedTable) (N : NamedNet NodeName) (reached : ℕ → Bool) (s :
 
   -- ---- ends of ports
 
-  port_no_wire : (p : NamedPort NodeName) (e : ℕ) → IsEnd z N p e → IsWireEnd reached e → ⊥
+  pub port_no_wire : (p : NamedPort NodeName) (e : ℕ) → IsEnd z N p e → IsWireEnd reached e → ⊥
   port_no_wire p e h t = omega (arith, s.stands.ports p e h, s.stands.wires e t)
 
   -- a port's own edge is its only one

@@ -6,3 +6,6 @@ pub mod Births
 pub mod Numbering
 pub mod Sites
 pub mod Linking
+pub mod Meeting
+pub mod WordOf
+pub mod Finished

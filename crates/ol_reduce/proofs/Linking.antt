@@ -58,7 +58,7 @@ turned : (N : NamedNet NodeName) (p q : NamedPort NodeName) → Linked N p q →
 turned N p q (inl h) = inr h
 turned N p q (inr h) = inl h
 
-within_table : (xs : List ℕ) (k : ℕ) → other xs k ≢ k → k < length xs
+pub within_table : (xs : List ℕ) (k : ℕ) → other xs k ≢ k → k < length xs
 within_table xs k n = elim (cases_lt k (length xs)) [
   | inl a ↦ a
   | inr a ↦ absurd (n (other-past xs k a))

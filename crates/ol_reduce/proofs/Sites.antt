@@ -33,10 +33,10 @@ events_few z words = elim (cases_lt (slice_index words 0) z.fuel) [
   | inr ge ↦ let e : nat_lt (slice_index words 0) z.fuel ≡ false = grind (arith, nat_tests) in let q : events_in z words ≡ z.fuel = ap (λ b. if b then slice_index words 0 else z.fuel) e in omega (arith, q)
 ]
 
-port_low : (m a : ℕ) → a < m → port_at m a ≡ Free a
+pub port_low : (m a : ℕ) → a < m → port_at m a ≡ Free a
 port_low m a lt = ap (λ b. if b then Free a else Of (record { 0 = (a - m) / 3 }) ((a - m) % 3)) (lt-ltb a m lt)
 
-port_high : (m a n s : ℕ) → s < 3 → a ≡ m + 3 * n + s → port_at m a ≡ Of (record { 0 = n }) s
+pub port_high : (m a n s : ℕ) → s < 3 → a ≡ m + 3 * n + s → port_at m a ≡ Of (record { 0 = n }) s
 port_high m a n s lt e =
     let f : nat_lt a m ≡ false = grind (arith, nat_tests) in
     let q : (a - m) / 3 ≡ n = omega (arith, e, lt) in

@@ -50,5 +50,5 @@ abbrev pub IsPassed : ClosedTable → ℕ → Type 0
 IsPassed w v = IsWireRef v × (w.plan.parts.free < place_in v) × (slice_index w.words (place_in v) ≢ 0)
 
 -- at is the value after k words, all of wires
-abbrev pub IsAfter : ClosedTable → ℕ → ℕ → ℕ → Type 0
-IsAfter w first k at = (value_after w.words first k ≡ at) × ((j : ℕ) → j < k → IsPassed w (value_after w.words first j))
+abbrev pub IsValueAfter : ClosedTable → ℕ → ℕ → ℕ → Type 0
+IsValueAfter w first k at = (value_after w.words first k ≡ at) × ((j : ℕ) → j < k → IsPassed w (value_after w.words first j))

@@ -63,13 +63,13 @@ pub record IsWordOf (w : ClosedTable) (net : NamedNet NodeName) (reached : ℕ �
 
 -- the reference is that of a node of the net
 abbrev pub IsOfNode : ClosedTable → NamedNet NodeName → ℕ → Type 0
-IsOfNode w net r = (x : NodeName) × (k : Kind) × (i : ℕ) × HasNode net x k i × IsEnd w.plan.parts net (slot x 0) r
+IsOfNode w net r = (x : NodeName) × IsEnd w.plan.parts net (slot x 0) r
 
--- a is the place of slot 0 of the node of this reference
-abbrev pub IsSiteOf : ClosedTable → NamedNet NodeName → List ℕ → ℕ → ℕ → Type 0
-IsSiteOf w net places r a = IsEnd w.plan.parts net (port_of w.plan.parts places a) r
+-- the place is that of slot 0 of the node of this reference, whose kind is known
+abbrev pub IsSiteOf : ClosedTable → NamedNet NodeName → List ℕ → List (Kind × ℕ) → ℕ → ℕ → Type 0
+IsSiteOf w net places kinds r a = IsEnd w.plan.parts net (port_of w.plan.parts places a) r × IsKnown w net places kinds a
 
 -- the nodes of the first n cells have partners
 abbrev pub AreCelled : ClosedTable → NamedNet NodeName → List ℕ → List ℕ → ℕ → Type 0
-AreCelled w net places partners n = (c r a : ℕ) → c < n → slice_index w.words (left_word w.plan.parts c) ≢ 0
+AreCelled w net places partners n = (c r a : ℕ) → c < n → a < length partners → slice_index w.words (left_word w.plan.parts c) ≢ 0
     → (r ≡ slice_index w.words (left_word w.plan.parts c)) ⊎ (r ≡ slice_index w.words (suc (left_word w.plan.parts c))) → IsEnd w.plan.parts net (port_of w.plan.parts places a) r → other partners a ≢ a
