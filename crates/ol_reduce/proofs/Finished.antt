@@ -41,12 +41,12 @@ use Rattle.ol_reduce.proofs.Sites.{one_site, site, IsSite, of_free, of_slot, por
 use Rattle.ol_reduce.proofs.Linking.{within_table, view, EndView, at_port, at_node, at_slot, one_end, one_port}
 use Rattle.ol_reduce.proofs.Building.{link_of, link_in}
 
-kind_there : (kinds : List (Kind × ℕ)) (n : ℕ) → n < length kinds → kind_at (all_live kinds) n ≡ Some (kind_of kinds n)
+pub kind_there : (kinds : List (Kind × ℕ)) (n : ℕ) → n < length kinds → kind_at (all_live kinds) n ≡ Some (kind_of kinds n)
 kind_there [] n lt = absurd (omega arith)
 kind_there (k ∷ kinds) zero lt = refl
 kind_there (k ∷ kinds) (suc n) lt = kind_there kinds n (omega arith)
 
-kind_past : (kinds : List (Kind × ℕ)) (n : ℕ) (k : Kind × ℕ) → kind_at (all_live kinds) n ≡ Some k → n < length kinds
+pub kind_past : (kinds : List (Kind × ℕ)) (n : ℕ) (k : Kind × ℕ) → kind_at (all_live kinds) n ≡ Some k → n < length kinds
 kind_past [] n k h = absurd (let bad : None ≡ Some k = h in cc)
 kind_past (o ∷ kinds) zero k h = omega arith
 kind_past (o ∷ kinds) (suc n) k h = omega (arith, kind_past kinds n k h)

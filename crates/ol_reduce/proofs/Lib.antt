@@ -9,3 +9,5 @@ pub mod Linking
 pub mod Meeting
 pub mod WordOf
 pub mod Finished
+pub mod TheNet
+pub mod Arriving

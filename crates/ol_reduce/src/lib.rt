@@ -3,5 +3,6 @@
 
 mod chains;
 mod draft;
+mod freezing;
 mod live;
 mod reading;
