@@ -11,3 +11,4 @@ pub mod WordOf
 pub mod Finished
 pub mod TheNet
 pub mod Arriving
+pub mod Walking

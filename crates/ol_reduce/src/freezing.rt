@@ -1,6 +1,7 @@
 //! The net that the words of a closed table stand for.
-ghost use Rattle.std.specs.Prelude.{◌≡◌, ◌≢◌, ℕ, Bool, ◌+◌, ◌*◌, ◌<◌, ◌≤◌, length, slice_index, IfOk, OnOk};
+ghost use Rattle.std.specs.Prelude.{◌≡◌, ◌≢◌, ℕ, Bool, ◌+◌, ◌-◌, ◌*◌, ◌<◌, ◌≤◌, length, slice_index, slice_set, IfOk, OnOk};
 ghost use Rattle.ol_net.specs.Nets.{NamedNet};
+ghost use Rattle.ol_net.specs.Pairing.{linked};
 ghost use Rattle.ol_rules.specs.declared.journal.NodeName.{NodeName};
 ghost use Rattle.ol_wire.specs.Layout.{size, cells_of};
 ghost use Rattle.ol_wire.specs.Standing.{IsStarted, IsAfter, StandsFor};
@@ -70,5 +71,61 @@ fn link_cells(words: &Words, live: &Live, draft: &mut Draft)
     words.stands();
     for cell in 0..words.parts().all_cells() {
         link_cell(words, live, draft, cell);
+    }
+}
+
+// Of two chains that lead to one wire, the one that comes second links both ports: `met` has for each wire 1 more
+// than the place of the port that came first, or 0.
+fn meet(draft: &mut Draft, met: &mut Vec<u32>, place: usize, wire: u32)
+    requires wire { wire < length met.old.items }
+    requires place { (place < length draft.old.partners.items) × (place < 100000000) }
+    requires other { slice_index met.old.items wire ≢ 0 → slice_index met.old.items wire - 1 < length draft.old.partners.items }
+    ensures free { draft.new.free ≡ draft.old.free }
+    ensures kinds { draft.new.kinds.items ≡ draft.old.kinds.items }
+    ensures waits { slice_index met.old.items wire ≡ 0 → (met.new.items ≡ slice_set met.old.items wire (place + 1)) × (draft.new.partners.items ≡ draft.old.partners.items) }
+    ensures links { slice_index met.old.items wire ≢ 0 → (met.new.items ≡ met.old.items) × (draft.new.partners.items ≡ linked draft.old.partners.items place (slice_index met.old.items wire - 1)) }
+{
+    let before = met[wire as usize];
+    if before == 0 {
+        met[wire as usize] = place as u32 + 1;
+    } else {
+        draft.link(place, before as usize - 1);
+    }
+}
+
+// Links the port at `place`, whose word is `at`, or lets it wait.
+fn link_one(
+    words: &Words,
+    live: &Live,
+    draft: &mut Draft,
+    met: &mut Vec<u32>,
+    place: usize,
+    at: u32,
+)
+    requires started { IsStarted words.now.plan }
+    requires live { AreLeft words.now (ranks_in words.now) live.now.places.items live.now.numbers.items }
+    requires free { draft.old.free ≡ words.now.plan.parts.free }
+    requires met { length met.old.items ≡ size words.now.plan.parts }
+    requires at { at < size words.now.plan.parts }
+    requires place { (place < length draft.old.partners.items) × ((n : ℕ) → place ≢ words.now.plan.parts.free + 3 * n) }
+    requires word { IsWordAt words.now live.now.places.items place at }
+    requires before { IsPartly words.now live.now.places.items draft.old.kinds.items draft.old.partners.items × AreMetTo words.now live.now.places.items draft.old.partners.items met.old.items place }
+    ensures free { draft.new.free ≡ draft.old.free }
+    ensures met { length met.new.items ≡ length met.old.items }
+    ensures keeps { KeepsPartners draft.old.partners.items draft.new.partners.items × (length draft.new.partners.items ≡ length draft.old.partners.items) }
+    ensures after { IsPartly words.now live.now.places.items draft.new.kinds.items draft.new.partners.items × AreMetTo words.now live.now.places.items draft.new.partners.items met.new.items (place + 1) }
+{
+    words.stands();
+    let first = word_at(words, at);
+    if first == 0 {
+        return;
+    }
+    match follow(words, words.parts(), first) {
+        End::Node(reference) => {
+            let other = arrive(words, live, draft, reference);
+            draft.link(place, other);
+        }
+        End::Port(port) => draft.link(place, port as usize),
+        End::Wire(wire) => meet(draft, met, place, wire),
     }
 }
