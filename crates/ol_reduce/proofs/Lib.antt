@@ -12,3 +12,4 @@ pub mod Finished
 pub mod TheNet
 pub mod Arriving
 pub mod Walking
+pub mod Rounds

@@ -1,5 +1,5 @@
 //! The net that the words of a closed table stand for.
-ghost use Rattle.std.specs.Prelude.{◌≡◌, ◌≢◌, ℕ, Bool, ◌+◌, ◌-◌, ◌*◌, ◌<◌, ◌≤◌, length, slice_index, slice_set, IfOk, OnOk};
+ghost use Rattle.std.specs.Prelude.{◌≡◌, ◌≢◌, ℕ, Bool, List, ◌+◌, ◌-◌, ◌*◌, ◌<◌, ◌≤◌, length, slice_index, slice_set, IfOk, OnOk};
 ghost use Rattle.ol_net.specs.Nets.{NamedNet};
 ghost use Rattle.ol_net.specs.Pairing.{linked};
 ghost use Rattle.ol_rules.specs.declared.journal.NodeName.{NodeName};
@@ -16,6 +16,21 @@ use ol_io::NoMemory;
 use ol_net::Net;
 use ol_wire::{Words, index_in, kind_in, place_in};
 use std::alloc::Global;
+
+/// The net that the words stand for, its nodes numbered from 0 by ascending place. `NoMemory`: no
+/// memory was found for it.
+pub fn freeze(alloc: Global, words: &Words) -> Result<Net, NoMemory>
+    requires started { IsStarted words.now.plan }
+    ensures frozen { IfOk result (λ g. (net : NamedNet NodeName) → IsAfter words.now net → IsFrozen net g) }
+{
+    words.stands();
+    words.runs();
+    let live = Live::find(alloc, words)?;
+    let mut draft = Draft::new(alloc, words.parts().free, live.count())?;
+    link_cells(words, &live, &mut draft);
+    link_chains(alloc, words, &live, &mut draft)?;
+    draft.build(alloc)
+}
 
 // The place of slot 0 of the node of a reference, whose kind and index are told by it.
 fn arrive(words: &Words, live: &Live, draft: &mut Draft, reference: u64) -> usize
@@ -128,4 +143,81 @@ fn link_one(
         End::Port(port) => draft.link(place, port as usize),
         End::Wire(wire) => meet(draft, met, place, wire),
     }
+}
+
+// Walks the chain of each free port that has a word.
+fn link_ports(words: &Words, live: &Live, draft: &mut Draft, met: &mut Vec<u32>)
+    requires started { IsStarted words.now.plan }
+    requires live { AreLeft words.now (ranks_in words.now) live.now.places.items live.now.numbers.items }
+    requires free { draft.old.free ≡ words.now.plan.parts.free }
+    requires met { length met.old.items ≡ size words.now.plan.parts }
+    requires before { IsPartly words.now live.now.places.items draft.old.kinds.items draft.old.partners.items × AreMetTo words.now live.now.places.items draft.old.partners.items met.old.items 0 }
+    ensures free { draft.new.free ≡ draft.old.free }
+    ensures met { length met.new.items ≡ length met.old.items }
+    ensures keeps { KeepsPartners draft.old.partners.items draft.new.partners.items × (length draft.new.partners.items ≡ length draft.old.partners.items) }
+    ensures after { IsPartly words.now live.now.places.items draft.new.kinds.items draft.new.partners.items × AreMetTo words.now live.now.places.items draft.new.partners.items met.new.items words.now.plan.parts.free }
+{
+    words.stands();
+    for port in 0..words.parts().free {
+        link_one(words, live, draft, met, port as usize, 1 + port);
+    }
+}
+
+// Walks the chains of the fields of a node.
+fn link_node(words: &Words, live: &Live, draft: &mut Draft, met: &mut Vec<u32>, node: u32)
+    requires started { IsStarted words.now.plan }
+    requires live { AreLeft words.now (ranks_in words.now) live.now.places.items live.now.numbers.items }
+    requires free { draft.old.free ≡ words.now.plan.parts.free }
+    requires met { length met.old.items ≡ size words.now.plan.parts }
+    requires node { node < length live.now.places.items }
+    requires before { IsPartly words.now live.now.places.items draft.old.kinds.items draft.old.partners.items × AreMetTo words.now live.now.places.items draft.old.partners.items met.old.items (words.now.plan.parts.free + 3 * node) }
+    ensures free { draft.new.free ≡ draft.old.free }
+    ensures met { length met.new.items ≡ length met.old.items }
+    ensures keeps { KeepsPartners draft.old.partners.items draft.new.partners.items × (length draft.new.partners.items ≡ length draft.old.partners.items) }
+    ensures after { IsPartly words.now live.now.places.items draft.new.kinds.items draft.new.partners.items × AreMetTo words.now live.now.places.items draft.new.partners.items met.new.items (words.now.plan.parts.free + 3 * (node + 1)) }
+{
+    words.stands();
+    let at = live.places[node as usize];
+    let one = draft.place_of(node, 1);
+    link_one(words, live, draft, met, one, at);
+    let two = draft.place_of(node, 2);
+    link_one(words, live, draft, met, two, at + 1);
+}
+
+// Walks the chains of the fields of all nodes.
+fn link_nodes(words: &Words, live: &Live, draft: &mut Draft, met: &mut Vec<u32>)
+    requires started { IsStarted words.now.plan }
+    requires live { AreLeft words.now (ranks_in words.now) live.now.places.items live.now.numbers.items }
+    requires free { draft.old.free ≡ words.now.plan.parts.free }
+    requires met { length met.old.items ≡ size words.now.plan.parts }
+    requires before { IsPartly words.now live.now.places.items draft.old.kinds.items draft.old.partners.items × AreMetTo words.now live.now.places.items draft.old.partners.items met.old.items words.now.plan.parts.free }
+    ensures free { draft.new.free ≡ draft.old.free }
+    ensures keeps { KeepsPartners draft.old.partners.items draft.new.partners.items × (length draft.new.partners.items ≡ length draft.old.partners.items) }
+    ensures after { IsPartly words.now live.now.places.items draft.new.kinds.items draft.new.partners.items × AreMetTo words.now live.now.places.items draft.new.partners.items met.new.items (length draft.new.partners.items) }
+{
+    words.stands();
+    for node in 0..live.count() {
+        link_node(words, live, draft, met, node);
+    }
+}
+
+// Walks all chains.
+fn link_chains(alloc: Global, words: &Words, live: &Live, draft: &mut Draft) -> Result<(), NoMemory>
+    requires started { IsStarted words.now.plan }
+    requires live { AreLeft words.now (ranks_in words.now) live.now.places.items live.now.numbers.items }
+    requires free { draft.old.free ≡ words.now.plan.parts.free }
+    requires before { IsPartly words.now live.now.places.items draft.old.kinds.items draft.old.partners.items × AreCelledTo words.now live.now.places.items draft.old.partners.items (cells_of words.now.plan.parts) }
+    ensures free { OnOk result (draft.new.free ≡ draft.old.free) }
+    ensures after { OnOk result (IsPartly words.now live.now.places.items draft.new.kinds.items draft.new.partners.items) }
+    ensures celled { OnOk result (AreCelledTo words.now live.now.places.items draft.new.partners.items (cells_of words.now.plan.parts)) }
+    ensures walked { OnOk result ((met : List ℕ) × AreMetTo words.now live.now.places.items draft.new.partners.items met (length draft.new.partners.items)) }
+{
+    words.stands();
+    let mut met = Vec::new(alloc);
+    let Ok(()) = met.resize(words.parts().size() as usize, 0) else {
+        return Err(NoMemory);
+    };
+    link_ports(words, live, draft, &mut met);
+    link_nodes(words, live, draft, &mut met);
+    Ok(())
 }

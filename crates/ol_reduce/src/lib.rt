@@ -6,3 +6,5 @@ mod draft;
 mod freezing;
 mod live;
 mod reading;
+
+pub use freezing::freeze;
