@@ -13,3 +13,4 @@ pub mod TheNet
 pub mod Arriving
 pub mod Walking
 pub mod Rounds
+pub mod Whole

@@ -1,6 +1,6 @@
 -- The rounds over free ports and nodes, over all nets that the words stand for.
-use Rattle.std.proofs.Common.{◌≡◌, ◌≢◌, ℕ, zero, suc, ◌+◌, ◌-◌, ◌*◌, ◌<◌, ◌≤◌, Bool, List, [], ◌∷◌, length, get_or, slice_index, ◌⊎◌, inl, inr, refl, sym, ap, ◌∙◌, subst, arith}
-use Rattle.std.specs.Prelude.{replicate}
+use Rattle.std.proofs.Common.{◌≡◌, ◌≢◌, ℕ, zero, suc, ◌+◌, ◌-◌, ◌*◌, ◌<◌, ◌≤◌, Bool, List, [], ◌∷◌, ◌++◌, length, get_or, slice_index, ◌⊎◌, inl, inr, refl, sym, ap, ◌∙◌, subst, arith}
+use Rattle.std.specs.Prelude.{replicate, take}
 use Rattle.std.proofs.lemmas.List.{get_or_default}
 use Rattle.ol_net.specs.declared.parts.Kind.{Kind}
 use Rattle.ol_net.specs.Nets.{NamedNet}
@@ -58,3 +58,10 @@ zeros (suc n) (suc u) = zeros n u
 
 pub place_read : (places : List ℕ) (j v : ℕ) → j < length places → v ≡ get_or places j v → v ≡ slice_index places j
 place_read places j v lt e = e ∙ get_or_default places j v 0 lt
+
+take_none : (n : ℕ) → take {A = ℕ} n [] ≡ []
+take_none zero = refl
+take_none (suc n) = refl
+
+pub filled_zeros : (items xs : List ℕ) (n m : ℕ) → xs ≡ [] → items ≡ take n xs ++ replicate m 0 → (u : ℕ) → slice_index items u ≡ 0
+filled_zeros items xs n m e h u = ap (λ ys. slice_index ys u) (h ∙ ap (λ xs. take n xs ++ replicate m 0) e ∙ ap (λ ys. ys ++ replicate m 0) (take_none n)) ∙ zeros m u
