@@ -20,8 +20,16 @@ pub mod PlaceSums
 pub mod NetBut
 pub mod Claimed
 pub mod Exchange
-pub mod ClosingLive
 pub mod Overlooked
+pub mod ClosingEntry
+pub mod ClosingLists
+pub mod ClosingTable
+pub mod ClosingRun
+pub mod ClosingTold
+pub mod ClosingCells
+pub mod ClosingNodes
+pub mod ClosingStart
+pub mod ClosingStands
 pub mod WordEdges
 pub mod WordsAfter
 pub mod TicketJournal

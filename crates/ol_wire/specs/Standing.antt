@@ -1,25 +1,36 @@
 -- What the words of a closed table stand for.
-use Rattle.std.specs.Prelude.{◌≡◌, ◌≢◌, ℕ, suc, ◌+◌, ◌<◌, ◌≤◌, Bool, true, List, Some, length, slice_index, slice_get, ◌↔◌}
+use Rattle.std.specs.Prelude.{◌≡◌, ◌≢◌, ℕ, suc, ◌+◌, ◌<◌, ◌≤◌, Bool, true, List, Some, is_some, count_by, length, slice_index, slice_get, ◌↔◌, ◌⊎◌}
 use Rattle.ol_net.specs.declared.parts.Kind.{Kind}
 use Rattle.ol_net.specs.Nets.{NamedNet, HasNode, IsNet}
+use Rattle.ol_net.specs.Numbered.{net_of}
 use Rattle.ol_net.specs.Parts.{is_eraser}
+use Rattle.ol_net.specs.Replace.{top_index_of}
 use Rattle.ol_rules.specs.declared.journal.NodeName.{NodeName}
 use Rattle.ol_rules.specs.declared.journal.NodeName.TheVariants.{Init, Born}
 use Rattle.ol_rules.specs.declared.journal.Entry.{Entry}
+use Rattle.ol_rules.specs.Runs.{IsRun}
 use Rattle.ol_wire.specs.declared.layout.Parts.{Parts}
+use Rattle.ol_wire.specs.declared.plan.Plan.{Plan}
 use Rattle.ol_wire.specs.References.{place_in, IsNodeRef, IsRef, IsWhole}
 use Rattle.ol_wire.specs.Layout.{Part, wire, between, left, part_of, block, size}
 use Rattle.ol_wire.specs.Sizes.{IsSmall}
 use Rattle.ol_wire.specs.Blocks.{copies_of_f, copies_of_g}
 use Rattle.ol_wire.specs.Edges.{edges_in}
 use Rattle.ol_wire.specs.Stands.{Stands}
-use Rattle.ol_wire.specs.Rule.{IsPlaced}
+use Rattle.ol_wire.specs.Rule.{IsPlaced, start_net}
 use Rattle.ol_wire.specs.Closed.{ClosedTable, events_in, event_at, journal_in}
 
+-- a wire of the start, or one that a ticket made
 abbrev pub IsWirePart : Part → Type 0
 IsWirePart (wire j) = Unit {0}
 IsWirePart (between t q p) = Unit {0}
 IsWirePart other = ⊥
+
+-- What whoever made the table knows of the net at the start: it is a net, each number has a node, and no index is great.
+pub record IsStarted (p : Plan) : Type 0 where
+  pub net : IsNet (net_of p.start.value)
+  pub whole : count_by is_some p.start.value.nodes ≡ length p.start.value.nodes
+  pub low : top_index_of p.start.value.nodes ≤ 1000000
 
 -- a node of the start, or one that a ticket made
 abbrev pub IsMadeNode : Parts → List ℕ → NodeName → Type 0
@@ -45,3 +56,15 @@ pub record StandsFor (w : ClosedTable) (net : NamedNet NodeName) (reached : ℕ 
   pub cells : (n : ℕ) → part_of w.plan.parts n ≡ left → slice_index w.words n ≢ 0 → IsNodeRef (slice_index w.words n) × IsNodeRef (slice_index w.words (suc n))
   pub wires : (n : ℕ) → reached n ≡ true → IsWirePart (part_of w.plan.parts n)
   pub stands : Stands w.plan.parts net reached (edges_in w.plan.parts net reached w.words (size w.plan.parts))
+
+-- the node is one of the two that the entry names
+abbrev pub IsOfEntry : NodeName → Entry → Type 0
+IsOfEntry x e = (e.first ≡ x) ⊎ (e.second ≡ x)
+
+-- no two entries name one node
+abbrev pub AreOnce : List Entry → Type 0
+AreOnce journal = (t u : ℕ) (d e : Entry) (x : NodeName) → slice_get journal t ≡ Some d → slice_get journal u ≡ Some e → IsOfEntry x d → IsOfEntry x e → t ≡ u
+
+-- the net after the journal that the words tell
+abbrev pub IsAfter : ClosedTable → NamedNet NodeName → Type 0
+IsAfter w net = IsRun (start_net w.plan) 0 (journal_in w.plan.parts w.words) net

@@ -1,95 +1,98 @@
-//! A stub, until the closing of tables is there: words that no thread shares.
-ghost use Rattle.std.specs.Prelude.{◌≡◌, ℕ, Bool, List, Some, None, length, slice_index, slice_get, ◌<◌, ◌≤◌, MatchOption};
-ghost use Rattle.ol_net.specs.Nets.{NamedNet};
-ghost use Rattle.ol_rules.specs.declared.journal.NodeName.{NodeName};
-ghost use Rattle.ol_rules.specs.Runs.{IsRun};
-ghost use Rattle.ol_wire.specs.Closed.{ClosedTable, events_in, journal_in};
-ghost use Rattle.ol_wire.specs.Rule.{start_net};
-ghost use Rattle.ol_wire.specs.Standing.{StandsFor, IsStarted, IsAfter};
-ghost use Rattle.ol_wire.specs.Told.{IsTold};
-ghost use Rattle.ol_net.specs.Nets.{SameNet};
-ghost use Rattle.ol_wire.specs.Views.{fresh};
+//! The words of a table that no thread shares any more, and what they say.
+ghost use Rattle.std.specs.Prelude.{◌≡◌, ℕ, ◌+◌, ◌<◌, ◌≤◌, length, MatchOption, slice_get, slice_index};
+ghost use Rattle.core.specs.Mem.Slots.{slots_items, slots_len, IsFull};
+ghost use Rattle.ol_wire.specs.Closed.{ClosedTable, IsClosed, events_in, event_at, journal_in};
+ghost use Rattle.ol_wire.specs.Layout.{size as size_of};
+ghost use Rattle.ol_wire.specs.Sizes.{IsSmall};
 
+use crate::law::Law;
 use crate::layout::Parts;
 use crate::plan::Plan;
+use crate::seat::Token;
+use crate::view::View;
 use ol_rules::Entry;
+use std::alloc::Global;
 use std::marker::Model;
+use std::snapshot::Snapshot;
 
-#[derive(Drop)]
+/// The words of a table that no thread shares any more. They tell a journal, and the net after it.
 pub struct Words {
-    plan: Plan,
-    words: Vec<u64>,
-    entries: Vec<Entry>,
+    pub(crate) closed: atomic_table::Closed<(), Global>,
+    pub(crate) parts: Parts,
+    // What the table and the last seat were. They take no memory.
+    pub(crate) was: Snapshot<atomic_table::Shared<(), View, Plan, Law>>,
+    pub(crate) last: Snapshot<Token>,
 }
 
 impl Model for Words {
-    ghost use Rattle.std.specs.Prelude.{◌≡◌, ℕ, Bool, length, ◌<◌, ◌^◌};
-    ghost use Rattle.ol_net.specs.Nets.{NamedNet};
-    ghost use Rattle.ol_rules.specs.declared.journal.NodeName.{NodeName};
-    ghost use Rattle.ol_rules.specs.Runs.{IsRun};
-    ghost use Rattle.ol_wire.specs.Closed.{ClosedTable, events_in, journal_in};
-    ghost use Rattle.ol_wire.specs.Rule.{start_net};
-    ghost use Rattle.ol_wire.specs.Told.{IsTold};
-    ghost use Rattle.ol_wire.specs.Views.{fresh};
-
     ghost Value = { ClosedTable };
 
-    ghost view = { λ w. record { plan = w.plan; words = w.words.items; view = fresh w.plan.parts 0 0 } };
+    ghost view = { λ w. record { plan = w.was.value.key; words = slots_items w.closed.words; view = w.last.value.me.0 } };
 
-    ghost invariant = { λ w. (w.entries.items ≡ journal_in w.plan.parts w.words.items) × (length w.words.items < 2 ^ 32) × (length w.entries.items ≡ events_in w.plan.parts w.words.items) × (length w.entries.items < 2 ^ 32) × IsTold (record { plan = w.plan; words = w.words.items; view = fresh w.plan.parts 0 0 }) };
+    ghost invariant = { λ w. IsFull w.closed.words × (w.was.value.key.parts ≡ w.parts) × (slots_len w.closed.words ≡ size_of w.parts) × (slots_len w.closed.slots ≡ 0) × IsSmall w.parts × IsClosed (record { plan = w.was.value.key; words = slots_items w.closed.words; view = w.last.value.me.0 }) };
 }
 
 impl Words {
-    pub fn of(plan: Plan, words: Vec<u64>, entries: Vec<Entry>) -> Words
-        requires { (entries.items ≡ journal_in plan.parts words.items) × (length words.items < 4294967296) × (length entries.items ≡ events_in plan.parts words.items) × (length entries.items < 4294967296) × IsTold (record { plan = plan; words = words.items; view = fresh plan.parts 0 0 }) }
-    {
-        Words {
-            plan,
-            words,
-            entries,
-        }
-    }
-
+    /// How the words are laid out.
     pub fn parts(&self) -> Parts
         ensures { result ≡ self.now.plan.parts }
     {
-        self.plan.parts
+        self.parts
     }
 
+    /// The word of that number. `None`: there are only as many words as that, or fewer.
     pub fn word(&self, at: u32) -> Option<u64>
         ensures { MatchOption result (length self.now.words ≤ at) (λ x. (at < length self.now.words) × (x ≡ slice_index self.now.words at)) }
     {
-        if (at as usize) < self.words.len() {
-            Some(self.words[at as usize])
+        if at < self.parts.size() {
+            Some(self.closed.word(at as usize))
         } else {
             None
         }
     }
 
+    // The word of that number.
+    fn at(&self, at: u32) -> u64
+        requires { at < size_of self.now.plan.parts }
+        ensures { result ≡ slice_index self.now.words at }
+    {
+        self.closed.word(at as usize)
+    }
+
+    /// The number of entries of the journal.
     pub fn events(&self) -> u32
         ensures { result ≡ events_in self.now.plan.parts self.now.words }
     {
-        self.entries.len() as u32
+        let drawn = self.at(0);
+        if drawn < self.parts.fuel as u64 {
+            drawn as u32
+        } else {
+            self.parts.fuel
+        }
     }
 
+    /// The entry of that number, counted from 0. `None`: there are only as many entries as that, or fewer.
     pub fn journal(&self, k: u32) -> Option<Entry>
         ensures { result ≡ slice_get (journal_in self.now.plan.parts self.now.words) k }
     {
-        self.entries.get(k as usize).copied()
+        if k >= self.events() {
+            return None;
+        }
+        let start = self.parts.block(k);
+        let first = self.at(start);
+        let second = self.at(start + 1);
+        Some(self.parts.entry(first, second))
     }
+}
 
-    /// Law: the journal leads from the net that the table was made from to a net, and to one alone.
-    pub fn runs(&self)
-        ensures some { (net : NamedNet NodeName) × IsAfter self.now net }
-        ensures one { IsStarted self.now.plan → (M N : NamedNet NodeName) → IsAfter self.now M → IsAfter self.now N → SameNet M N }
-    {
-        let _ = &self.plan;
-    }
-
-    /// Law: the words stand for the net after the journal.
-    pub fn stands(&self)
-        ensures stands { IsStarted self.now.plan → (net : NamedNet NodeName) × (reached : ℕ → Bool) × IsAfter self.now net × StandsFor self.now net reached }
-    {
-        let _ = &self.plan;
+impl Drop for Words {
+    fn drop(self) {
+        let Self {
+            closed,
+            parts: _,
+            was: _,
+            last: _,
+        } = self;
+        closed.free();
     }
 }

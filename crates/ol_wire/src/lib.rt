@@ -2,12 +2,17 @@
 #![tactic(auto)]
 
 mod closed;
+mod closing;
+#[cfg(test)]
+mod closing_tests;
 mod holding;
 mod law;
 mod laying;
 #[cfg(test)]
 mod laying_tests;
 mod layout;
+mod naming;
+mod outcome;
 mod plan;
 mod promise;
 mod reference;

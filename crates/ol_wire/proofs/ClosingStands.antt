@@ -1,0 +1,95 @@
+-- What closed words stand for.
+use Rattle.std.proofs.Common.{◌≡◌, ◌≢◌, ℕ, suc, ◌<◌, Bool, true, false, nat_eq, ◌&&◌, List, [], ◌∷◌, ◌++◌, length, ◌⊎◌, inl, inr, ◌↔◌, slice_index, refl, sym, ap, ◌∙◌, subst, arith}
+use Rattle.std.proofs.lemmas.Bool.{false≢true}
+use Rattle.ol_net.specs.declared.parts.Kind.{Kind}
+use Rattle.ol_net.specs.Nets.{NamedNet, HasNode}
+use Rattle.ol_rules.specs.declared.journal.NodeName.{NodeName}
+use Rattle.ol_rules.specs.Runs.{IsComplete}
+use Rattle.ol_rules.proofs.Same.{complete_same}
+use Rattle.ol_wire.specs.References.{place_in, IsNodeRef, IsRef, IsWhole}
+use Rattle.ol_wire.specs.Layout.{Part, ticket, port, field, wire, between, left, right, entry, past, part_of, left_word, cells_of, block, size}
+use Rattle.ol_wire.specs.Events.{Event, IsStuckPair}
+use Rattle.ol_wire.specs.Edges.{edges_in, edges_of, is_reached, is_made, is_wire_made, deaths}
+use Rattle.ol_wire.specs.Stands.{Stands}
+use Rattle.ol_wire.specs.Rule.{IsPlaced}
+use Rattle.ol_wire.specs.Closed.{ClosedTable, IsClosed, events_in}
+use Rattle.ol_wire.specs.Standing.{IsWirePart, IsMadeNode, IsUntouched, StandsFor, IsStarted, IsAfter}
+use Rattle.ol_wire.proofs.Overlooked.{complete}
+use Rattle.ol_wire.proofs.ClosingTable.{z, s, k, is_full, tickets, pending_none, no_pending}
+use Rattle.ol_wire.proofs.ClosingCells.{cell_word}
+use Rattle.ol_wire.proofs.ClosingStart.{live_told}
+use Rattle.ol_wire.proofs.ClosingTold.{after, one_after}
+
+append_none : {A : Type 0} (xs : List A) → xs ≡ xs ++ []
+append_none [] = refl
+append_none (x ∷ xs) = ap (λ xs. x ∷ xs) (append_none xs)
+
+left_true : (a b : Bool) → (a && b) ≡ true → a ≡ true
+left_true true b h = refl
+left_true false b h = absurd (false≢true h)
+
+-- a wire that was made is a wire
+wire_part : (log : List Event) (q : Part) → is_wire_made log q ≡ true → IsWirePart q
+wire_part log (wire j) h = tt
+wire_part log (between t u v) h = tt
+wire_part log ticket h = absurd (false≢true h)
+wire_part log (port n) h = absurd (false≢true h)
+wire_part log (field x c) h = absurd (false≢true h)
+wire_part log left h = absurd (false≢true h)
+wire_part log right h = absurd (false≢true h)
+wire_part log entry h = absurd (false≢true h)
+wire_part log past h = absurd (false≢true h)
+
+module _ (w : ClosedTable) (c : IsClosed w) where
+  abbrev pub reached : ℕ → Bool
+  reached = is_reached (z w c) (k w c).log (s w c).views
+
+  edges_same : edges_of (z w c) (k w c).net (k w c).log (k w c).full (s w c).views ≡ edges_in (z w c) (k w c).net reached w.words (size (z w c))
+  edges_same = ap (λ es. edges_in (z w c) (k w c).net reached (k w c).full (size (z w c)) ++ es) (pending_none w c) ∙ sym (append_none (edges_in (z w c) (k w c).net reached (k w c).full (size (z w c)))) ∙ ap (λ l. edges_in (z w c) (k w c).net reached l (size (z w c))) (sym (is_full w c))
+
+  -- the words stand for the net, where the nodes are those
+  pub stands_for : ((x : NodeName) → ((m : Kind) × (i : ℕ) × HasNode (k w c).net x m i) ↔ (IsMadeNode w.plan.parts w.words x × IsUntouched w.plan.parts w.words x)) → StandsFor w (k w c).net reached
+  stands_for live = record {
+    wide = ap length (sym c.words) ∙ (k w c).words.wide;
+    small = (k w c).plan.small;
+    is_net = (k w c).journal.is_net;
+    ports = (k w c).journal.ports;
+    live = live;
+    names = λ x m i h. subst (λ n. IsPlaced (z w c) n x) (sym (tickets w c)) ((k w c).journal.names x m i h);
+    indexes = λ x m i h. omega (arith, tickets w c, (k w c).journal.indexes x m i h);
+    erasers = (k w c).journal.erasers;
+    refs = λ n lt d. ref n lt (λ e. d (ap (λ l. slice_index l n) (is_full w c) ∙ e));
+    cells = λ n q d. cell n q (λ e. d (ap (λ l. slice_index l n) (is_full w c) ∙ e));
+    wires = λ n h. wire_part (k w c).log (part_of (z w c) n) (left_true (is_made (z w c) (k w c).log n) (nat_eq (deaths n (s w c).views) 0) h);
+    stands = subst (λ es. Stands (z w c) (k w c).net reached es) edges_same (k w c).stands;
+  }
+    where
+      ref : (n : ℕ) → 0 < n → slice_index (k w c).full n ≢ 0 → IsRef (slice_index w.words n) × IsWhole (slice_index w.words n) × (place_in (slice_index w.words n) < block w.plan.parts (events_in w.plan.parts w.words))
+      ref n lt d =
+          let h = (k w c).words.refs n lt d in
+          let e : slice_index (k w c).full n ≡ slice_index w.words n = ap (λ l. slice_index l n) (sym (is_full w c)) in
+          (subst (λ x. IsRef x) e h.0, subst (λ x. IsWhole x) e h.1, subst (λ t. place_in (slice_index w.words n) < block w.plan.parts t) (sym (tickets w c)) (subst (λ x. place_in x < block w.plan.parts (length (k w c).log)) e h.2))
+
+      cell : (n : ℕ) → part_of (z w c) n ≡ left → slice_index (k w c).full n ≢ 0 → IsNodeRef (slice_index w.words n) × IsNodeRef (slice_index w.words (suc n))
+      cell n q d =
+          let h = (k w c).words.cells n q d in
+          (subst (λ l. IsNodeRef (slice_index l n)) (sym (is_full w c)) h.0, subst (λ l. IsNodeRef (slice_index l (suc n))) (sym (is_full w c)) h.1)
+
+  -- where all cells were swept the net is complete
+  pub all_swept : w.view.swept ≡ cells_of (z w c) → IsComplete (k w c).net
+  all_swept all = complete w.plan (s w c) (k w c) (no_pending w c) still
+    where
+      still : (n : ℕ) → part_of (z w c) n ≡ left → slice_index (k w c).full n ≢ 0 → IsStuckPair (slice_index (k w c).full n) (slice_index (k w c).full (suc n))
+      still n q d =
+          let t = cell_word (z w c) n q in
+          go t.0 t.2 ((k w c).cells.swept w.view t.0 (c.id, c.seat) (omega (arith, all, t.1))).1
+        where
+          go : (a : ℕ) → left_word (z w c) a ≡ n → (slice_index (k w c).full (left_word (z w c) a) ≡ 0) ⊎ IsStuckPair (slice_index (k w c).full (left_word (z w c) a)) (slice_index (k w c).full (suc (left_word (z w c) a))) → IsStuckPair (slice_index (k w c).full n) (slice_index (k w c).full (suc n))
+          go a e (inl h) = absurd (d (ap (slice_index (k w c).full) (sym e) ∙ h))
+          go a e (inr h) = subst (λ n. IsStuckPair (slice_index (k w c).full n) (slice_index (k w c).full (suc n))) e h
+
+  pub complete_after : IsStarted w.plan → w.view.swept ≡ cells_of w.plan.parts → (net : NamedNet NodeName) → IsAfter w net → IsComplete net
+  complete_after n all net a = complete_same (k w c).net net (one_after w c n (k w c).net net (after w c) a) (all_swept all)
+
+  pub stands_told : IsStarted w.plan → (net : NamedNet NodeName) × (reached : ℕ → Bool) × IsAfter w net × StandsFor w net reached
+  stands_told started = ((k w c).net, reached, after w c, stands_for (live_told w c started))

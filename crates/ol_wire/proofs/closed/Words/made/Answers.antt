@@ -1,0 +1,7 @@
+use Rattle.std.proofs.Common.{subst}
+use Rattle.ol_wire.specs.Closed.{IsClosed}
+use Rattle.ol_wire.proofs.ClosingTold as told
+use Rattle.ol_wire.proofs.closed.Words.made.Goals as goal
+
+pub returns : goal.returns
+returns c = let closed : IsClosed c.args.self.now = subst IsClosed c.self.view_is c.self.invariant.5 in record { made = told.made c.args.self.now closed }

@@ -1,0 +1,7 @@
+use Rattle.std.proofs.Common.{subst}
+use Rattle.ol_wire.specs.Closed.{IsClosed}
+use Rattle.ol_wire.proofs.ClosingStands.{stands_told}
+use Rattle.ol_wire.proofs.closed.Words.stands.Goals as goal
+
+pub returns : goal.returns
+returns c = let closed : IsClosed c.args.self.now = subst IsClosed c.self.view_is c.self.invariant.5 in record { stands = stands_told c.args.self.now closed }
