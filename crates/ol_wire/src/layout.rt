@@ -24,7 +24,7 @@ pub const BLOCK: u32 = 22;
 
 impl Parts {
     /// The place of the start node of that number.
-    pub(crate) fn start_node(self, node: u32) -> u32
+    pub fn start_node(self, node: u32) -> u32
         requires { IsSmall self × (node ≤ 1000000) }
         ensures { result ≡ start_node self node }
     {
@@ -32,7 +32,7 @@ impl Parts {
     }
 
     /// The word of the start wire of that number.
-    pub(crate) fn start_wire(self, wire: u32) -> u32
+    pub fn start_wire(self, wire: u32) -> u32
         requires { IsSmall self × (wire ≤ 2000000) }
         ensures { result ≡ start_wire self wire }
     {
@@ -40,7 +40,7 @@ impl Parts {
     }
 
     /// The left word of the start cell of that number.
-    pub(crate) fn start_cell(self, cell: u32) -> u32
+    pub fn start_cell(self, cell: u32) -> u32
         requires { IsSmall self × (cell ≤ 2000000) }
         ensures { result ≡ start_cell self cell }
     {
@@ -48,7 +48,7 @@ impl Parts {
     }
 
     /// The first word of the block of a ticket.
-    pub(crate) fn block(self, ticket: u32) -> u32
+    pub fn block(self, ticket: u32) -> u32
         requires { IsSmall self × (ticket ≤ 2000000) }
         ensures { result ≡ block self ticket }
     {
@@ -56,7 +56,7 @@ impl Parts {
     }
 
     /// The number of all words.
-    pub(crate) fn size(self) -> u32
+    pub fn size(self) -> u32
         requires { IsSmall self }
         ensures { result ≡ size self }
     {
@@ -64,7 +64,7 @@ impl Parts {
     }
 
     /// The number of cells: those of the start, and four for each ticket.
-    pub(crate) fn all_cells(self) -> u32
+    pub fn all_cells(self) -> u32
         requires { IsSmall self }
         ensures { result ≡ cells_of self }
     {
@@ -72,7 +72,7 @@ impl Parts {
     }
 
     /// The left word of a cell.
-    pub(crate) fn left_word(self, cell: u32) -> u32
+    pub fn left_word(self, cell: u32) -> u32
         requires { IsSmall self × (cell < cells_of self) }
         ensures { result ≡ left_word self cell }
     {

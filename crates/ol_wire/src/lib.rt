@@ -31,6 +31,7 @@ pub use law::Law;
 pub use layout::Parts;
 pub use plan::Plan;
 pub use promise::at_every_moment;
+pub use reference::{index_in, is_node, kind_in, place_in};
 pub use seat::Seat;
 pub use shared::Shared;
 pub use turning::Turn;

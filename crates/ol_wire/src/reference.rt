@@ -34,13 +34,13 @@ pub(crate) fn wire_ref(place: u32) -> u64
 }
 
 /// Whether the reference is that of a node.
-pub(crate) fn is_node(reference: u64) -> bool
+pub fn is_node(reference: u64) -> bool
     ensures { (result ≡ true) ↔ IsNodeRef reference }
 {
     reference % 4 == 1
 }
 
-pub(crate) fn kind_in(reference: u64) -> Kind
+pub fn kind_in(reference: u64) -> Kind
     ensures { result ≡ kind_in reference }
 {
     match reference / 4 % 8 {
@@ -53,13 +53,13 @@ pub(crate) fn kind_in(reference: u64) -> Kind
     }
 }
 
-pub(crate) fn index_in(reference: u64) -> u32
+pub fn index_in(reference: u64) -> u32
     ensures { result ≡ index_in reference }
 {
     (reference / 32 % 16777216) as u32
 }
 
-pub(crate) fn place_in(reference: u64) -> u32
+pub fn place_in(reference: u64) -> u32
     requires { place_in reference < 4294967296 }
     ensures { result ≡ place_in reference }
 {

@@ -1,0 +1,52 @@
+-- From an empty draft to the frozen net.
+use Rattle.std.proofs.Common.{◌≡◌, ◌≢◌, ℕ, zero, suc, ◌+◌, ◌*◌, ◌<◌, ◌≤◌, Bool, List, [], ◌∷◌, length, refl, sym, ap, ◌∙◌, subst, arith}
+use Rattle.std.specs.Prelude.{Result, Ok, Err, IfOk}
+use Rattle.ol_net.specs.declared.parts.Kind.{Kind}
+use Rattle.ol_net.specs.Nets.{NamedNet, SameNet}
+use Rattle.ol_net.specs.Graph.{Graph}
+use Rattle.ol_net.specs.Build.{Builds}
+use Rattle.ol_net.specs.Pairing.{other}
+use Rattle.ol_rules.specs.declared.journal.NodeName.{NodeName}
+use Rattle.ol_wire.specs.declared.layout.Parts.{Parts}
+use Rattle.ol_wire.specs.Layout.{cells_of}
+use Rattle.ol_wire.specs.Closed.{ClosedTable}
+use Rattle.ol_wire.specs.Standing.{StandsFor, IsAfter}
+use Rattle.ol_reduce.specs.Left.{ranks_in, AreLeft}
+use Rattle.ol_reduce.specs.Drafts.{frozen_top, links_below, IsComplete}
+use Rattle.ol_reduce.specs.Frozen.{IsPartly, AreMetTo, AreCelledTo, IsFrozen}
+use Rattle.ol_reduce.proofs.Arriving.{Told, table_long}
+use Rattle.ol_reduce.proofs.Sites.{events_few}
+use Rattle.ol_reduce.proofs.Finished.{is_complete}
+use Rattle.ol_reduce.proofs.TheNet.{is_frozen, frozen_same}
+
+-- nothing is known at first
+pub fresh_partly : (w : ClosedTable) (places : List ℕ) (kinds : List (Kind × ℕ)) (partners : List ℕ) → length kinds ≡ length places → length partners ≡ w.plan.parts.free + 3 * length places → ((k : ℕ) → other partners k ≡ k) → IsPartly w places kinds partners
+fresh_partly w places kinds partners k p alone N reached s = record {
+  kinds_long = k;
+  partners_long = p;
+  paired = λ a. ap (other partners) (alone a) ∙ alone a;
+  linked = λ a d. absurd (d (alone a));
+  known = λ a d. absurd (d (alone a));
+}
+
+module _ (w : ClosedTable) (places numbers : List ℕ) (left_are : AreLeft w (ranks_in w) places numbers) (told : Told w) (kinds : List (Kind × ℕ)) (partners : List ℕ)
+    (whole : IsPartly w places kinds partners) (cells : AreCelledTo w places partners (cells_of w.plan.parts)) (walked : (met : List ℕ) × AreMetTo w places partners met (length partners)) (free : ℕ) (same : free ≡ w.plan.parts.free) where
+  pub few : (length kinds ≤ 10000000) × (length partners < 100000000)
+  few =
+      let t = table_long w places numbers left_are told kinds partners whole in
+      (omega (arith, t.0, left_are.few, told.3.small.nodes, told.3.small.fuel, events_few w.plan.parts w.words), t.2)
+
+  pub completed : IsComplete free kinds partners
+  completed =
+      subst (λ f. IsComplete f kinds partners) (sym same)
+      (is_complete w places numbers left_are told.0 told.1 told.3 kinds partners walked.0 (whole told.0 told.1 told.3) (walked.1 told.0 told.1 told.3) (cells told.0 told.1 told.3))
+
+  pub built : (one : (M N : NamedNet NodeName) → IsAfter w M → IsAfter w N → SameNet M N) → (g : Graph) → Builds frozen_top free kinds (links_below free partners (length partners)) g → (net : NamedNet NodeName) → IsAfter w net → IsFrozen net g
+  built one g b net h =
+      let b' = subst (λ f. Builds frozen_top f kinds (links_below f partners (length partners)) g) same b in
+      frozen_same told.0 net g (one told.0 net told.2 h)
+      (is_frozen w places numbers left_are told.0 told.1 told.3 kinds partners walked.0 (whole told.0 told.1 told.3) (walked.1 told.0 told.1 told.3) (cells told.0 told.1 told.3) g b')
+
+pub map_ok : {A E : Type 0} (P Q : A → Type 0) (r : Result A E) → ((x : A) → P x → Q x) → IfOk r P → IfOk r Q
+map_ok P Q (Ok x) f h = f x h
+map_ok P Q (Err e) f h = tt

@@ -1,0 +1,24 @@
+-- A net while its links are found, and what it becomes.
+use Rattle.std.specs.Prelude.{◌≡◌, ℕ, ◌+◌, ◌*◌, nat_lt, if◌then◌else◌, List, [], ◌∷◌, length}
+use Rattle.ol_net.specs.declared.parts.Kind.{Kind}
+use Rattle.ol_net.specs.declared.parts.Port.{Port}
+use Rattle.ol_net.specs.Pairing.{other}
+use Rattle.ol_net.specs.Graph.{port_at, IsTabled}
+use Rattle.ol_net.specs.Build.{NoneOf, BadIndexAt, all_live}
+use Rattle.ol_rules.specs.Listed.{each}
+
+-- the greatest index that a frozen net may have
+abbrev pub frozen_top : ℕ
+frozen_top = 100000000
+
+-- the link of place k and its partner, where k is the lower one
+abbrev pub link_row : ℕ → List ℕ → ℕ → List (Port × Port)
+link_row free partners k = if nat_lt k (other partners k) then (port_at free k, port_at free (other partners k)) ∷ [] else []
+
+abbrev pub links_below : ℕ → List ℕ → ℕ → List (Port × Port)
+links_below free partners n = each n (link_row free partners)
+
+-- Each port has a partner, and no index is too great.
+pub record IsComplete (free : ℕ) (kinds : List (Kind × ℕ)) (partners : List ℕ) : Type 0 where
+  pub tabled : IsTabled free (all_live kinds) partners
+  pub indexes : NoneOf (BadIndexAt frozen_top kinds)

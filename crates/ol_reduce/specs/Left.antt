@@ -1,0 +1,42 @@
+-- The nodes that are left, and their numbers. Ranks have the order of places: first the start nodes, and then four for each ticket.
+use Rattle.std.specs.Prelude.{◌≡◌, ◌≢◌, ℕ, ◌+◌, ◌-◌, ◌*◌, ◌/◌, ◌%◌, ◌<◌, ◌≤◌, nat_lt, if◌then◌else◌, Bool, true, List, length, slice_index, slice_get, Some, ◌⊎◌, ◌↔◌}
+use Rattle.ol_rules.specs.declared.journal.NodeName.{NodeName}
+use Rattle.ol_rules.specs.declared.journal.NodeName.TheVariants.{Init, Born}
+use Rattle.ol_rules.specs.declared.journal.Entry.{Entry}
+use Rattle.ol_wire.specs.declared.layout.Parts.{Parts}
+use Rattle.ol_wire.specs.Layout.{place_of}
+use Rattle.ol_wire.specs.Rule.{IsPlaced}
+use Rattle.ol_wire.specs.Closed.{ClosedTable, events_in, journal_in}
+use Rattle.ol_wire.specs.Standing.{IsMadeNode, IsUntouched}
+
+abbrev pub rank_of : Parts → NodeName → ℕ
+rank_of z (Init k) = k
+rank_of z (Born t i) = z.nodes + 4 * t + i
+
+abbrev pub name_of_rank : Parts → ℕ → NodeName
+name_of_rank z r = if nat_lt r z.nodes then Init r else Born ((r - z.nodes) / 4) ((r - z.nodes) % 4)
+
+abbrev pub ranks_in : ClosedTable → ℕ
+ranks_in w = w.plan.parts.nodes + 4 * events_in w.plan.parts w.words
+
+abbrev pub IsLeft : ClosedTable → NodeName → Type 0
+IsLeft w x = IsMadeNode w.plan.parts w.words x × IsUntouched w.plan.parts w.words x
+
+-- an entry before ticket t names x
+abbrev pub IsNamedBefore : ClosedTable → ℕ → NodeName → Type 0
+IsNamedBefore w t x = (u : ℕ) × (e : Entry) × (u < t) × (slice_get (journal_in w.plan.parts w.words) u ≡ Some e) × ((e.first ≡ x) ⊎ (e.second ≡ x))
+
+-- `marks` tells by rank which nodes the entries before ticket t name
+pub record AreMarked (w : ClosedTable) (t : ℕ) (marks : List Bool) : Type 0 where
+  pub long : length marks ≡ ranks_in w
+  pub marked : (x : NodeName) → IsPlaced w.plan.parts (events_in w.plan.parts w.words) x → (slice_get marks (rank_of w.plan.parts x) ≡ Some true) ↔ IsNamedBefore w t x
+
+-- The places of the nodes that are left, of those of the first n ranks, in order. `numbers` has for each rank 1 more than the number of the
+-- node, or 0 where it isn't left.
+pub record AreLeft (w : ClosedTable) (n : ℕ) (places numbers : List ℕ) : Type 0 where
+  pub long : length numbers ≡ n
+  pub few : length places ≤ n
+  pub each : (j : ℕ) → j < length places → (r : ℕ) × (r < n) × IsLeft w (name_of_rank w.plan.parts r) × (slice_index places j ≡ place_of w.plan.parts (name_of_rank w.plan.parts r))
+  pub rising : (j k : ℕ) → j < k → k < length places → slice_index places j < slice_index places k
+  pub found : (r : ℕ) → r < n → IsLeft w (name_of_rank w.plan.parts r) →
+      (0 < slice_index numbers r) × (slice_index numbers r ≤ length places) × (slice_index places (slice_index numbers r - 1) ≡ place_of w.plan.parts (name_of_rank w.plan.parts r))

@@ -1,0 +1,4 @@
+pub mod Following
+pub mod Drafts
+pub mod Left
+pub mod Frozen

@@ -1,0 +1,44 @@
+//! Chains of wires, as they are walked from a port that has a word.
+ghost use Rattle.std.specs.Prelude.{◌≡◌, ℕ, Bool};
+ghost use Rattle.ol_net.specs.Nets.{NamedNet};
+ghost use Rattle.ol_rules.specs.declared.journal.NodeName.{NodeName};
+ghost use Rattle.ol_wire.specs.Standing.{StandsFor};
+ghost use Rattle.ol_reduce.specs.Following.{IsFirst, IsStart, EndsAt};
+
+use crate::reading::word_at;
+use ol_wire::{Parts, Words, is_node, place_in};
+
+/// Where a chain leads.
+#[derive(Clone, Copy)]
+pub(crate) enum End {
+    /// To slot 0 of the node of this reference.
+    Node(u64),
+    /// To a free port, by number.
+    Port(u32),
+    /// To a wire whose word is empty, by place: a second chain leads there.
+    Wire(u32),
+}
+
+/// Goes on from what a port's word holds, through the words of wires.
+pub(crate) fn follow(words: &Words, parts: Parts, first: u64) -> End
+    requires parts { parts ≡ words.now.plan.parts }
+    requires first { IsFirst words.now first }
+    ensures { (net : NamedNet NodeName) (reached : ℕ → Bool) (e : ℕ) → StandsFor words.now net reached → IsStart words.now net reached e first → EndsAt words.now net reached e result }
+{
+    let mut at = first;
+    for step in 0..parts.size() {
+        if is_node(at) {
+            return End::Node(at);
+        }
+        let place = place_in(at);
+        if place <= parts.free {
+            return End::Port(place - 1);
+        }
+        let next = word_at(words, place);
+        if next == 0 {
+            return End::Wire(place);
+        }
+        at = next;
+    }
+    End::Node(at)
+}

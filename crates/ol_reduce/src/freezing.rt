@@ -1,0 +1,223 @@
+//! The net that the words of a closed table stand for.
+ghost use Rattle.std.specs.Prelude.{◌≡◌, ◌≢◌, ℕ, Bool, List, ◌+◌, ◌-◌, ◌*◌, ◌<◌, ◌≤◌, length, slice_index, slice_set, IfOk, OnOk};
+ghost use Rattle.ol_net.specs.Nets.{NamedNet};
+ghost use Rattle.ol_net.specs.Pairing.{linked};
+ghost use Rattle.ol_rules.specs.declared.journal.NodeName.{NodeName};
+ghost use Rattle.ol_wire.specs.Layout.{size, cells_of};
+ghost use Rattle.ol_wire.specs.Standing.{IsStarted, IsAfter, StandsFor};
+ghost use Rattle.ol_reduce.specs.Left.{ranks_in, AreLeft};
+ghost use Rattle.ol_reduce.specs.Frozen.{IsFrozen, IsPartly, AreMetTo, AreCelledTo, IsNodeIn, IsSiteIn, IsWordAt, KeepsKnown, KeepsPartners};
+
+use crate::chains::{End, follow};
+use crate::draft::Draft;
+use crate::live::Live;
+use crate::reading::word_at;
+use ol_io::NoMemory;
+use ol_net::Net;
+use ol_wire::{Words, index_in, kind_in, place_in};
+use std::alloc::Global;
+
+/// The net that the words stand for, its nodes numbered from 0 by ascending place. `NoMemory`: no
+/// memory was found for it.
+pub fn freeze(alloc: Global, words: &Words) -> Result<Net, NoMemory>
+    requires started { IsStarted words.now.plan }
+    ensures frozen { IfOk result (λ g. (net : NamedNet NodeName) → IsAfter words.now net → IsFrozen net g) }
+{
+    words.stands();
+    words.runs();
+    let live = Live::find(alloc, words)?;
+    let mut draft = Draft::new(alloc, words.parts().free, live.count())?;
+    link_cells(words, &live, &mut draft);
+    link_chains(alloc, words, &live, &mut draft)?;
+    draft.build(alloc)
+}
+
+// The place of slot 0 of the node of a reference, whose kind and index are told by it.
+fn arrive(words: &Words, live: &Live, draft: &mut Draft, reference: u64) -> usize
+    requires started { IsStarted words.now.plan }
+    requires live { AreLeft words.now (ranks_in words.now) live.now.places.items live.now.numbers.items }
+    requires free { draft.old.free ≡ words.now.plan.parts.free }
+    requires before { IsPartly words.now live.now.places.items draft.old.kinds.items draft.old.partners.items }
+    requires node { IsNodeIn words.now reference }
+    ensures free { draft.new.free ≡ draft.old.free }
+    ensures partners { draft.new.partners.items ≡ draft.old.partners.items }
+    ensures within { result < length draft.old.partners.items }
+    ensures after { IsPartly words.now live.now.places.items draft.new.kinds.items draft.new.partners.items }
+    ensures site { IsSiteIn words.now live.now.places.items draft.new.kinds.items reference result }
+    ensures keeps { KeepsKnown words.now live.now.places.items draft.old.kinds.items draft.new.kinds.items }
+{
+    words.stands();
+    let node = live.number_at(words, place_in(reference));
+    draft.set_kind(node, kind_in(reference), index_in(reference));
+    draft.place_of(node, 0)
+}
+
+// Links the two nodes of a cell, if it isn't empty.
+fn link_cell(words: &Words, live: &Live, draft: &mut Draft, cell: u32)
+    requires started { IsStarted words.now.plan }
+    requires live { AreLeft words.now (ranks_in words.now) live.now.places.items live.now.numbers.items }
+    requires free { draft.old.free ≡ words.now.plan.parts.free }
+    requires cell { cell < cells_of words.now.plan.parts }
+    requires before { IsPartly words.now live.now.places.items draft.old.kinds.items draft.old.partners.items × AreCelledTo words.now live.now.places.items draft.old.partners.items cell }
+    ensures free { draft.new.free ≡ draft.old.free }
+    ensures after { IsPartly words.now live.now.places.items draft.new.kinds.items draft.new.partners.items × AreCelledTo words.now live.now.places.items draft.new.partners.items (cell + 1) }
+{
+    words.stands();
+    let at = words.parts().left_word(cell);
+    let left = word_at(words, at);
+    if left == 0 {
+        return;
+    }
+    let right = word_at(words, at + 1);
+    let one = arrive(words, live, draft, left);
+    let other = arrive(words, live, draft, right);
+    draft.link(one, other);
+}
+
+// Links the two nodes of each cell that isn't empty.
+fn link_cells(words: &Words, live: &Live, draft: &mut Draft)
+    requires started { IsStarted words.now.plan }
+    requires live { AreLeft words.now (ranks_in words.now) live.now.places.items live.now.numbers.items }
+    requires free { draft.old.free ≡ words.now.plan.parts.free }
+    requires before { IsPartly words.now live.now.places.items draft.old.kinds.items draft.old.partners.items }
+    ensures free { draft.new.free ≡ draft.old.free }
+    ensures after { IsPartly words.now live.now.places.items draft.new.kinds.items draft.new.partners.items × AreCelledTo words.now live.now.places.items draft.new.partners.items (cells_of words.now.plan.parts) }
+{
+    words.stands();
+    for cell in 0..words.parts().all_cells() {
+        link_cell(words, live, draft, cell);
+    }
+}
+
+// Of two chains that lead to one wire, the one that comes second links both ports: `met` has for each wire 1 more
+// than the place of the port that came first, or 0.
+fn meet(draft: &mut Draft, met: &mut Vec<u32>, place: usize, wire: u32)
+    requires wire { wire < length met.old.items }
+    requires place { (place < length draft.old.partners.items) × (place < 100000000) }
+    requires other { slice_index met.old.items wire ≢ 0 → slice_index met.old.items wire - 1 < length draft.old.partners.items }
+    ensures free { draft.new.free ≡ draft.old.free }
+    ensures kinds { draft.new.kinds.items ≡ draft.old.kinds.items }
+    ensures waits { slice_index met.old.items wire ≡ 0 → (met.new.items ≡ slice_set met.old.items wire (place + 1)) × (draft.new.partners.items ≡ draft.old.partners.items) }
+    ensures links { slice_index met.old.items wire ≢ 0 → (met.new.items ≡ met.old.items) × (draft.new.partners.items ≡ linked draft.old.partners.items place (slice_index met.old.items wire - 1)) }
+{
+    let before = met[wire as usize];
+    if before == 0 {
+        met[wire as usize] = place as u32 + 1;
+    } else {
+        draft.link(place, before as usize - 1);
+    }
+}
+
+// Links the port at `place`, whose word is `at`, or lets it wait.
+fn link_one(
+    words: &Words,
+    live: &Live,
+    draft: &mut Draft,
+    met: &mut Vec<u32>,
+    place: usize,
+    at: u32,
+)
+    requires started { IsStarted words.now.plan }
+    requires live { AreLeft words.now (ranks_in words.now) live.now.places.items live.now.numbers.items }
+    requires free { draft.old.free ≡ words.now.plan.parts.free }
+    requires met { length met.old.items ≡ size words.now.plan.parts }
+    requires at { at < size words.now.plan.parts }
+    requires place { (place < length draft.old.partners.items) × ((n : ℕ) → place ≢ words.now.plan.parts.free + 3 * n) }
+    requires word { IsWordAt words.now live.now.places.items place at }
+    requires before { IsPartly words.now live.now.places.items draft.old.kinds.items draft.old.partners.items × AreMetTo words.now live.now.places.items draft.old.partners.items met.old.items place }
+    ensures free { draft.new.free ≡ draft.old.free }
+    ensures met { length met.new.items ≡ length met.old.items }
+    ensures keeps { KeepsPartners draft.old.partners.items draft.new.partners.items × (length draft.new.partners.items ≡ length draft.old.partners.items) }
+    ensures after { IsPartly words.now live.now.places.items draft.new.kinds.items draft.new.partners.items × AreMetTo words.now live.now.places.items draft.new.partners.items met.new.items (place + 1) }
+{
+    words.stands();
+    let first = word_at(words, at);
+    if first == 0 {
+        return;
+    }
+    match follow(words, words.parts(), first) {
+        End::Node(reference) => {
+            let other = arrive(words, live, draft, reference);
+            draft.link(place, other);
+        }
+        End::Port(port) => draft.link(place, port as usize),
+        End::Wire(wire) => meet(draft, met, place, wire),
+    }
+}
+
+// Walks the chain of each free port that has a word.
+fn link_ports(words: &Words, live: &Live, draft: &mut Draft, met: &mut Vec<u32>)
+    requires started { IsStarted words.now.plan }
+    requires live { AreLeft words.now (ranks_in words.now) live.now.places.items live.now.numbers.items }
+    requires free { draft.old.free ≡ words.now.plan.parts.free }
+    requires met { length met.old.items ≡ size words.now.plan.parts }
+    requires before { IsPartly words.now live.now.places.items draft.old.kinds.items draft.old.partners.items × AreMetTo words.now live.now.places.items draft.old.partners.items met.old.items 0 }
+    ensures free { draft.new.free ≡ draft.old.free }
+    ensures met { length met.new.items ≡ length met.old.items }
+    ensures keeps { KeepsPartners draft.old.partners.items draft.new.partners.items × (length draft.new.partners.items ≡ length draft.old.partners.items) }
+    ensures after { IsPartly words.now live.now.places.items draft.new.kinds.items draft.new.partners.items × AreMetTo words.now live.now.places.items draft.new.partners.items met.new.items words.now.plan.parts.free }
+{
+    words.stands();
+    for port in 0..words.parts().free {
+        link_one(words, live, draft, met, port as usize, 1 + port);
+    }
+}
+
+// Walks the chains of the fields of a node.
+fn link_node(words: &Words, live: &Live, draft: &mut Draft, met: &mut Vec<u32>, node: u32)
+    requires started { IsStarted words.now.plan }
+    requires live { AreLeft words.now (ranks_in words.now) live.now.places.items live.now.numbers.items }
+    requires free { draft.old.free ≡ words.now.plan.parts.free }
+    requires met { length met.old.items ≡ size words.now.plan.parts }
+    requires node { node < length live.now.places.items }
+    requires before { IsPartly words.now live.now.places.items draft.old.kinds.items draft.old.partners.items × AreMetTo words.now live.now.places.items draft.old.partners.items met.old.items (words.now.plan.parts.free + 3 * node) }
+    ensures free { draft.new.free ≡ draft.old.free }
+    ensures met { length met.new.items ≡ length met.old.items }
+    ensures keeps { KeepsPartners draft.old.partners.items draft.new.partners.items × (length draft.new.partners.items ≡ length draft.old.partners.items) }
+    ensures after { IsPartly words.now live.now.places.items draft.new.kinds.items draft.new.partners.items × AreMetTo words.now live.now.places.items draft.new.partners.items met.new.items (words.now.plan.parts.free + 3 * (node + 1)) }
+{
+    words.stands();
+    let at = live.places[node as usize];
+    let one = draft.place_of(node, 1);
+    link_one(words, live, draft, met, one, at);
+    let two = draft.place_of(node, 2);
+    link_one(words, live, draft, met, two, at + 1);
+}
+
+// Walks the chains of the fields of all nodes.
+fn link_nodes(words: &Words, live: &Live, draft: &mut Draft, met: &mut Vec<u32>)
+    requires started { IsStarted words.now.plan }
+    requires live { AreLeft words.now (ranks_in words.now) live.now.places.items live.now.numbers.items }
+    requires free { draft.old.free ≡ words.now.plan.parts.free }
+    requires met { length met.old.items ≡ size words.now.plan.parts }
+    requires before { IsPartly words.now live.now.places.items draft.old.kinds.items draft.old.partners.items × AreMetTo words.now live.now.places.items draft.old.partners.items met.old.items words.now.plan.parts.free }
+    ensures free { draft.new.free ≡ draft.old.free }
+    ensures keeps { KeepsPartners draft.old.partners.items draft.new.partners.items × (length draft.new.partners.items ≡ length draft.old.partners.items) }
+    ensures after { IsPartly words.now live.now.places.items draft.new.kinds.items draft.new.partners.items × AreMetTo words.now live.now.places.items draft.new.partners.items met.new.items (length draft.new.partners.items) }
+{
+    words.stands();
+    for node in 0..live.count() {
+        link_node(words, live, draft, met, node);
+    }
+}
+
+// Walks all chains.
+fn link_chains(alloc: Global, words: &Words, live: &Live, draft: &mut Draft) -> Result<(), NoMemory>
+    requires started { IsStarted words.now.plan }
+    requires live { AreLeft words.now (ranks_in words.now) live.now.places.items live.now.numbers.items }
+    requires free { draft.old.free ≡ words.now.plan.parts.free }
+    requires before { IsPartly words.now live.now.places.items draft.old.kinds.items draft.old.partners.items × AreCelledTo words.now live.now.places.items draft.old.partners.items (cells_of words.now.plan.parts) }
+    ensures free { OnOk result (draft.new.free ≡ draft.old.free) }
+    ensures after { OnOk result (IsPartly words.now live.now.places.items draft.new.kinds.items draft.new.partners.items) }
+    ensures celled { OnOk result (AreCelledTo words.now live.now.places.items draft.new.partners.items (cells_of words.now.plan.parts)) }
+    ensures walked { OnOk result ((met : List ℕ) × AreMetTo words.now live.now.places.items draft.new.partners.items met (length draft.new.partners.items)) }
+{
+    words.stands();
+    let mut met = Vec::new(alloc);
+    let Ok(()) = met.resize(words.parts().size() as usize, 0) else {
+        return Err(NoMemory);
+    };
+    link_ports(words, live, draft, &mut met);
+    link_nodes(words, live, draft, &mut met);
+    Ok(())
+}

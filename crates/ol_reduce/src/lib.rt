@@ -1,0 +1,10 @@
+//! Reduction by many threads, back to a net: the net that the words of a closed table stand for.
+#![tactic(auto)]
+
+mod chains;
+mod draft;
+mod freezing;
+mod live;
+mod reading;
+
+pub use freezing::freeze;

@@ -1,0 +1,211 @@
+//! The nodes that are left: those that were made and that no ticket rewrote.
+ghost use Rattle.std.specs.Prelude.{◌≡◌, ℕ, Bool, true, false, Some, ◌⊎◌, ◌+◌, ◌-◌, ◌*◌, ◌<◌, ◌≤◌, ◌++◌, [], ◌∷◌, length, slice_index, slice_get, if◌then◌else◌, IfOk, OnOk, MatchOption, ◌↔◌, vec_len, replicate};
+ghost use Rattle.ol_net.specs.Parts.{arity};
+ghost use Rattle.ol_rules.specs.declared.journal.NodeName.{NodeName};
+ghost use Rattle.ol_rules.specs.Rewriting.{is_meeting};
+ghost use Rattle.ol_wire.specs.Blocks.{copies_of_f, copies_of_g};
+ghost use Rattle.ol_wire.specs.Closed.{ClosedTable, events_in, event_at};
+ghost use Rattle.ol_wire.specs.Layout.{place_of, size};
+ghost use Rattle.ol_wire.specs.Rule.{IsPlaced};
+ghost use Rattle.ol_wire.specs.Sizes.{IsSmall};
+ghost use Rattle.ol_reduce.specs.Left.{rank_of, name_of_rank, ranks_in, IsLeft, AreMarked, AreLeft};
+
+use crate::reading::word_at;
+use ol_io::NoMemory;
+use ol_net::{Kind, Rule};
+use ol_rules::NodeName;
+use ol_wire::{Parts, Words, kind_in};
+use std::alloc::Global;
+
+/// The nodes that are left, numbered from 0 by ascending place.
+#[derive(Drop)]
+pub(crate) struct Live {
+    // By number: the place of the node.
+    pub(crate) places: Vec<u32>,
+    // By rank: 1 more than the number of the node, or 0 where it isn't left.
+    pub(crate) numbers: Vec<u32>,
+}
+
+// The rank of a name. `None`: no node can have the name after so many tickets.
+fn rank_of(parts: Parts, events: u32, name: NodeName) -> Option<u32>
+    requires { IsSmall parts × (events ≤ 2000000) }
+    ensures { MatchOption result (IsPlaced parts events name → ⊥) (λ r. IsPlaced parts events name × (r ≡ rank_of parts name)) }
+{
+    match name {
+        NodeName::Init(node) => {
+            if node < parts.nodes {
+                return Some(node);
+            }
+            None
+        }
+        NodeName::Born { ticket, place } => {
+            if ticket < events && place < 4 {
+                return Some(parts.nodes + 4 * ticket + place as u32);
+            }
+            None
+        }
+    }
+}
+
+fn is_meeting(rule: Rule) -> bool
+    ensures { result ≡ is_meeting rule }
+{
+    match rule {
+        Rule::Beta => true,
+        Rule::Fan => true,
+        Rule::Croissant => true,
+        Rule::Bracket => true,
+        _ => false,
+    }
+}
+
+fn arity(kind: Kind) -> u32
+    ensures { result ≡ arity kind }
+{
+    kind.slots() as u32 - 1
+}
+
+// How many nodes a ticket made.
+fn births(words: &Words, ticket: u32) -> u32
+    requires small { IsSmall words.now.plan.parts × (length words.now.words ≡ size words.now.plan.parts) }
+    requires drawn { ticket < events_in words.now.plan.parts words.now.words }
+    ensures { result ≡ copies_of_f (event_at words.now.plan.parts words.now.words ticket) + copies_of_g (event_at words.now.plan.parts words.now.words ticket) }
+{
+    let Some(entry) = words.journal(ticket) else {
+        return 0;
+    };
+    if is_meeting(entry.rule) {
+        return 0;
+    }
+    let block = words.parts().block(ticket);
+    arity(kind_in(word_at(words, block))) + arity(kind_in(word_at(words, block + 1)))
+}
+
+// Marks a name.
+fn mark(parts: Parts, events: u32, marks: &mut Vec<bool>, name: NodeName)
+    requires small { IsSmall parts × (events ≤ 2000000) }
+    requires long { length marks.old.items ≡ parts.nodes + 4 * events }
+    ensures long { length marks.new.items ≡ length marks.old.items }
+    ensures marked { (x : NodeName) → IsPlaced parts events x → (slice_get marks.new.items (rank_of parts x) ≡ Some true) ↔ ((slice_get marks.old.items (rank_of parts x) ≡ Some true) ⊎ (name ≡ x)) }
+{
+    if let Some(rank) = rank_of(parts, events, name) {
+        marks[rank as usize] = true;
+    }
+}
+
+// By rank, whether a ticket rewrote the node.
+fn rewritten(alloc: Global, words: &Words) -> Result<Vec<bool>, NoMemory>
+    requires small { IsSmall words.now.plan.parts }
+    requires drawn { events_in words.now.plan.parts words.now.words ≤ 2000000 }
+    ensures { IfOk result (λ v. AreMarked words.now (events_in words.now.plan.parts words.now.words) v.items) }
+{
+    let parts = words.parts();
+    let events = words.events();
+    let mut marks = Vec::new(alloc);
+    let Ok(()) = marks.resize((parts.nodes + 4 * events) as usize, false) else {
+        return Err(NoMemory);
+    };
+    for ticket in 0..events {
+        if let Some(entry) = words.journal(ticket) {
+            mark(parts, events, &mut marks, entry.first);
+            mark(parts, events, &mut marks, entry.second);
+        }
+    }
+    Ok(marks)
+}
+
+// The rank of the node with that place.
+fn rank_at(parts: Parts, place: u32) -> u32
+    requires small { IsSmall parts }
+    requires place { (x : NodeName) × IsPlaced parts parts.fuel x × (place ≡ place_of parts x) }
+    ensures { (x : NodeName) → IsPlaced parts parts.fuel x → place ≡ place_of parts x → result ≡ rank_of parts x }
+{
+    if place < parts.start_wire(0) {
+        return (place - parts.start_node(0)) / 2;
+    }
+    let behind = place - parts.block(0);
+    parts.nodes + 4 * (behind / 22) + (behind % 22 - 2) / 2
+}
+
+fn put(numbers: &mut Vec<u32>, number: u32) -> Result<(), NoMemory>
+    ensures { OnOk result (numbers.new.items ≡ numbers.old.items ++ number ∷ []) }
+{
+    let Ok(()) = numbers.push(number) else {
+        return Err(NoMemory);
+    };
+    Ok(())
+}
+
+impl Live {
+    /// The nodes that the words tell as left.
+    pub(crate) fn find(alloc: Global, words: &Words) -> Result<Live, NoMemory>
+        requires small { IsSmall words.now.plan.parts × (length words.now.words ≡ size words.now.plan.parts) }
+        requires drawn { events_in words.now.plan.parts words.now.words ≤ words.now.plan.parts.fuel }
+        ensures { IfOk result (λ live. AreLeft words.now (ranks_in words.now) live.places.items live.numbers.items) }
+    {
+        let marks = rewritten(alloc, words)?;
+        let parts = words.parts();
+        let mut live = Live {
+            places: Vec::new(alloc),
+            numbers: Vec::new(alloc),
+        };
+        for node in 0..parts.nodes {
+            live.add(!marks[node as usize], parts.start_node(node))?;
+        }
+        for ticket in 0..words.events() {
+            live.add_born(words, &marks, ticket)?;
+        }
+        Ok(live)
+    }
+
+    // The four ranks of a ticket.
+    fn add_born(&mut self, words: &Words, marks: &Vec<bool>, ticket: u32) -> Result<(), NoMemory>
+        requires small { IsSmall words.now.plan.parts × (length words.now.words ≡ size words.now.plan.parts) }
+        requires drawn { (events_in words.now.plan.parts words.now.words ≤ words.now.plan.parts.fuel) × (ticket < events_in words.now.plan.parts words.now.words) }
+        requires marked { AreMarked words.now (events_in words.now.plan.parts words.now.words) marks.now.items }
+        requires before { AreLeft words.now (words.now.plan.parts.nodes + 4 * ticket) self.old.places.items self.old.numbers.items }
+        ensures { OnOk result (AreLeft words.now (words.now.plan.parts.nodes + 4 * (ticket + 1)) self.new.places.items self.new.numbers.items) }
+    {
+        let parts = words.parts();
+        let births = births(words, ticket);
+        for place in 0..4 {
+            let rank = parts.nodes + 4 * ticket + place;
+            let is_left = place < births && !marks[rank as usize];
+            self.add(is_left, parts.block(ticket) + 2 + 2 * place)?;
+        }
+        Ok(())
+    }
+
+    // The next rank.
+    fn add(&mut self, is_left: bool, place: u32) -> Result<(), NoMemory>
+        requires few { length self.old.places.items < 100000000 }
+        ensures places { OnOk result (self.new.places.items ≡ (if is_left then self.old.places.items ++ place ∷ [] else self.old.places.items)) }
+        ensures numbers { OnOk result (self.new.numbers.items ≡ self.old.numbers.items ++ (if is_left then length self.old.places.items + 1 else 0) ∷ []) }
+    {
+        if !is_left {
+            return put(&mut self.numbers, 0);
+        }
+        let number = self.places.len() as u32 + 1;
+        put(&mut self.places, place)?;
+        put(&mut self.numbers, number)
+    }
+
+    /// How many there are.
+    pub(crate) fn count(&self) -> u32
+        requires few { length self.now.places.items < 100000000 }
+        ensures { result ≡ length self.now.places.items }
+    {
+        self.places.len() as u32
+    }
+
+    /// The number of the node with that place.
+    pub(crate) fn number_at(&self, words: &Words, place: u32) -> u32
+        requires small { IsSmall words.now.plan.parts × (events_in words.now.plan.parts words.now.words ≤ words.now.plan.parts.fuel) }
+        requires live { AreLeft words.now (ranks_in words.now) self.now.places.items self.now.numbers.items }
+        requires place { (x : NodeName) × IsPlaced words.now.plan.parts (events_in words.now.plan.parts words.now.words) x × IsLeft words.now x × (place ≡ place_of words.now.plan.parts x) }
+        ensures below { result < length self.now.places.items }
+        ensures place { slice_index self.now.places.items result ≡ place }
+    {
+        self.numbers[rank_at(words.parts(), place) as usize] - 1
+    }
+}
