@@ -281,7 +281,7 @@ module _ (p : Plan) (s : Table) (k : Kept p s) where
       of (inr t) = omega (arith, t.2, wire_sort t.0, slot_sort (place_of z x + c))
 
   -- a node of a cell's pair stands in no pending link
-  not_pending : (w : ℕ) → part_of z w ≡ left → get_or k.full w 0 ≢ 0 → (x : NodeName) (m : Kind) (i : ℕ) → HasNode k.net x m i → (get_or k.full w 0 ≡ node_ref m i (place_of z x)) ⊎ (get_or k.full (suc w) 0 ≡ node_ref m i (place_of z x)) → (v : View) (d : ℕ) → IsView s v → IsIn (node_ref m i (place_of z x), d) (links_in v.pending) → ⊥
+  pub not_pending : (w : ℕ) → part_of z w ≡ left → get_or k.full w 0 ≢ 0 → (x : NodeName) (m : Kind) (i : ℕ) → HasNode k.net x m i → (get_or k.full w 0 ≡ node_ref m i (place_of z x)) ⊎ (get_or k.full (suc w) 0 ≡ node_ref m i (place_of z x)) → (v : View) (d : ℕ) → IsView s v → IsIn (node_ref m i (place_of z x), d) (links_in v.pending) → ⊥
   not_pending w is_cell some_pair x m i h ref v d is there =
       omega (arith, k.stands.ports (slot x 0) r (principal m i h), ends_append r in_words (pending_in s.views), in_cell ref, ends_first r d (pending_in s.views) (pending_there s.views is.0 v (r, d) is.1 there))
     where
@@ -304,7 +304,11 @@ module _ (p : Plan) (s : Table) (k : Kept p s) where
 
       of : (get_or s.words place 0 ≡ get_or k.full place 0) ⊎ ((v : View) × IsView s v × Holds v place (get_or k.full place 0)) → get_or s.words place 0 ≡ get_or k.full place 0
       of (inl e) = e
-      of (inr (v, is, inl due)) = let t = k.seats.hidden v x m i c (get_or k.full place 0) is h lt due in absurd (not_pending w is_cell some_pair x m i h ref v t.0 is t.1)
+      of (inr (v, is, inl due)) =
+          let t = k.seats.due_fields v place (get_or k.full place 0) x c is due is_field in
+          let u = k.journal.is_net.one_node x t.0 m t.1 i t.2 h in
+          let e : node_ref t.0 t.1 (place_of z x) ≡ node_ref m i (place_of z x) = ap (λ n. node_ref n t.1 (place_of z x)) u.0 ∙ ap (λ n. node_ref m n (place_of z x)) u.1 in
+          absurd (not_pending w is_cell some_pair x m i h ref v t.4 is (subst (λ r. IsIn {X = ℕ × ℕ} (r, t.4) (links_in v.pending)) e t.5))
       of (inr (v, is, inr taken)) = let e : field x c ≡ left = sym is_field ∙ (k.seats.taken v place _ is taken).0 in absurd (cc)
 
   -- and so is the right word of a cell

@@ -13,7 +13,7 @@ use Rattle.ol_wire.specs.Edges.{edges_in, edges_of, is_reached, is_made, is_wire
 use Rattle.ol_wire.specs.Stands.{Stands}
 use Rattle.ol_wire.specs.Rule.{IsPlaced}
 use Rattle.ol_wire.specs.Closed.{ClosedTable, IsClosed, events_in}
-use Rattle.ol_wire.specs.Standing.{IsWirePart, IsMadeNode, IsUntouched, StandsFor, IsStarted, IsAfter}
+use Rattle.ol_wire.specs.Standing.{IsWirePart, IsMadeNode, IsUntouched, StandsFor, IsAfter}
 use Rattle.ol_wire.proofs.Overlooked.{complete}
 use Rattle.ol_wire.proofs.ClosingTable.{z, s, k, is_full, tickets, pending_none, no_pending}
 use Rattle.ol_wire.proofs.ClosingCells.{cell_word}
@@ -88,8 +88,8 @@ module _ (w : ClosedTable) (c : IsClosed w) where
           go a e (inl h) = absurd (d (ap (slice_index (k w c).full) (sym e) ∙ h))
           go a e (inr h) = subst (λ n. IsStuckPair (slice_index (k w c).full n) (slice_index (k w c).full (suc n))) e h
 
-  pub complete_after : IsStarted w.plan → w.view.swept ≡ cells_of w.plan.parts → (net : NamedNet NodeName) → IsAfter w net → IsComplete net
-  complete_after n all net a = complete_same (k w c).net net (one_after w c n (k w c).net net (after w c) a) (all_swept all)
+  pub complete_after : w.view.swept ≡ cells_of w.plan.parts → (net : NamedNet NodeName) → IsAfter w net → IsComplete net
+  complete_after all net a = complete_same (k w c).net net (one_after w c (k w c).net net (after w c) a) (all_swept all)
 
-  pub stands_told : IsStarted w.plan → (net : NamedNet NodeName) × (reached : ℕ → Bool) × IsAfter w net × StandsFor w net reached
-  stands_told started = ((k w c).net, reached, after w c, stands_for (live_told w c started))
+  pub stands_told : (net : NamedNet NodeName) × (reached : ℕ → Bool) × IsAfter w net × StandsFor w net reached
+  stands_told = ((k w c).net, reached, after w c, stands_for (live_told w c (k w c).plan.started))

@@ -17,7 +17,8 @@ use Rattle.ol_wire.specs.declared.plan.Plan.{Plan}
 use Rattle.ol_wire.specs.Events.{Event, entry_of}
 use Rattle.ol_wire.specs.Rule.{IsPlaced, start_net, PlanKeeps}
 use Rattle.ol_wire.specs.Closed.{ClosedTable, IsClosed, events_in, event_at, journal_in}
-use Rattle.ol_wire.specs.Standing.{IsStarted, IsMadeNode, IsUntouched}
+use Rattle.ol_wire.specs.Standing.{IsMadeNode, IsUntouched}
+use Rattle.ol_wire.specs.Rule.{IsStarted}
 use Rattle.ol_wire.proofs.ClosingEntry.{births_of, births_read}
 use Rattle.ol_wire.proofs.ClosingTable.{k, tickets, event_told, entry_told, entry_at, no_entry}
 use Rattle.ol_wire.proofs.ClosingNodes.{IsLive, Fits, IsMadeFrom, IsLeft, live_after}

@@ -14,7 +14,7 @@ use Rattle.ol_wire.specs.declared.view.View.{View}
 use Rattle.ol_wire.specs.Weights.{pairs, numbered}
 use Rattle.ol_wire.specs.Rule.{start_net}
 use Rattle.ol_wire.specs.Closed.{ClosedTable, IsClosed, events_in, journal_in}
-use Rattle.ol_wire.specs.Standing.{IsStarted, IsOfEntry, AreOnce, IsAfter}
+use Rattle.ol_wire.specs.Standing.{IsOfEntry, AreOnce, IsAfter}
 use Rattle.ol_wire.proofs.ClosingTable.{all_in, tickets, journal_told}
 use Rattle.ol_wire.proofs.ClosingRun.{one_end, each_once, gone_at_end}
 
@@ -22,8 +22,8 @@ module _ (w : ClosedTable) (c : IsClosed w) where
   pub after : IsAfter w (c.kept).net
   after = subst (λ es. IsRun (start_net w.plan) 0 es (c.kept).net) (sym (journal_told w c)) (c.kept).journal.run
 
-  pub one_after : IsStarted w.plan → (M N : NamedNet NodeName) → IsAfter w M → IsAfter w N → SameNet M N
-  one_after n M N a b = one_end (start_net w.plan) (start_net w.plan) M N 0 (journal_in w.plan.parts w.words) (starts.start_net (net_of w.plan.start.value) n.net) (starts.start_named (net_of w.plan.start.value)) (same_refl (start_net w.plan)) a b
+  pub one_after : (M N : NamedNet NodeName) → IsAfter w M → IsAfter w N → SameNet M N
+  one_after M N a b = one_end (start_net w.plan) (start_net w.plan) M N 0 (journal_in w.plan.parts w.words) (starts.start_net (net_of w.plan.start.value) (c.kept).plan.started.net) (starts.start_named (net_of w.plan.start.value)) (same_refl (start_net w.plan)) a b
 
   pub once : AreOnce (journal_in w.plan.parts w.words)
   once = each_once (start_net w.plan) (c.kept).net 0 (journal_in w.plan.parts w.words) (starts.start_named (net_of w.plan.start.value)) after
@@ -37,5 +37,5 @@ module _ (w : ClosedTable) (c : IsClosed w) where
   pub used_up : w.view.over ≡ true → events_in w.plan.parts w.words ≡ w.plan.parts.fuel
   used_up o = tickets w c ∙ (c.kept).tickets.above ((c.kept).seats.over w.view (c.id, c.seat) o).0
 
-  pub active_after : IsStarted w.plan → w.view.over ≡ true → (net : NamedNet NodeName) → IsAfter w net → HasActive net
-  active_after n o net a = let h = ((c.kept).seats.over w.view (c.id, c.seat) o).1 in (h.0, h.1, h.2, active_same (c.kept).net net (one_after n (c.kept).net net after a) h.0 h.1 h.2 h.3)
+  pub active_after : w.view.over ≡ true → (net : NamedNet NodeName) → IsAfter w net → HasActive net
+  active_after o net a = let h = ((c.kept).seats.over w.view (c.id, c.seat) o).1 in (h.0, h.1, h.2, active_same (c.kept).net net (one_after (c.kept).net net after a) h.0 h.1 h.2 h.3)

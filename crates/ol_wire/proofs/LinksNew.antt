@@ -50,10 +50,10 @@ not_below : {A : Type 0} (m n : ℕ) (x y : A) → n ≤ m → (if nat_lt m n th
 not_below m n x y le = let e : nat_lt m n ≡ false = grind (arith, nat_tests) in ap (λ b. if b then x else y) e
 
 -- the field of slot s + 1 of place i, where m copies of f and n of g are born
-abbrev field_value : ℕ → ℕ → ℕ → ℕ → ℕ → ℕ → ℕ
+abbrev pub field_value : ℕ → ℕ → ℕ → ℕ → ℕ → ℕ → ℕ
 field_value m n i s at_f at_g = if nat_lt i m then (if nat_lt s n then at_f else 0) else if nat_lt i (m + n) then (if nat_lt s m then at_g else 0) else 0
 
-field_told : (m n i s at_f at_g : ℕ) → field_value m n i s at_f at_g ≢ 0 →
+pub field_told : (m n i s at_f at_g : ℕ) → field_value m n i s at_f at_g ≢ 0 →
     ((i < m) × (s < n) × (field_value m n i s at_f at_g ≡ at_f)) ⊎ ((m ≤ i) × (i < m + n) × (s < m) × (field_value m n i s at_f at_g ≡ at_g))
 field_told m n i s at_f at_g some = elim (cases_lt i m) [
   | inl low ↦
@@ -75,7 +75,7 @@ field_told m n i s at_f at_g some = elim (cases_lt i m) [
       ]
 ]
 
-none_of : (m : Bool) (n i : ℕ) → i < (if m then 0 else n) → m ≡ false
+pub none_of : (m : Bool) (n i : ℕ) → i < (if m then 0 else n) → m ≡ false
 none_of true n i h = absurd (omega (arith, h))
 none_of false n i h = refl
 

@@ -7,8 +7,8 @@ use Rattle.ol_net.specs.declared.parts.Port.{Port}
 use Rattle.ol_net.specs.declared.parts.Port.TheVariants.{Free, Of}
 use Rattle.ol_net.specs.Graph.{Graph, partner_of}
 use Rattle.ol_rules.specs.Listed.{each}
-use Rattle.ol_wire.specs.Starts.{wire_with, pair_with, facing_pairs, aux_links}
-use Rattle.ol_wire.specs.Laid.{wire_at, wires_before, pair_at}
+use Rattle.ol_wire.specs.Starts.{wire_with, pair_with, facing_pairs, aux_links, wire_at, pair_at}
+use Rattle.ol_wire.specs.Laid.{wires_before}
 
 pub no_member : {X : Type 0} (x : X) → None ≡ Some x → ⊥
 no_member x e = absurd (let bad : None ≡ Some x = e in cc)

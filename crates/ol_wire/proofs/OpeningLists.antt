@@ -75,12 +75,6 @@ empty_at n k = elim (cases_lt k n) [
 pub start_length : (net : Graph) (z : Parts) (a b : List ℕ) → z.free ≡ net.free → a ≡ 0 ∷ [] → b ≡ a ++ each net.free (port_row net z) → length b ≡ start_node z 0
 start_length net z a b free ea eb = omega (arith, free, ap length eb, ap length ea, length-append a (each net.free (port_row net z)), length_ones (word_of_port net z) net.free)
 
-pub nodes_length : (net : Graph) (z : Parts) (b c : List ℕ) → length b ≡ start_node z 0 → c ≡ b ++ each (length net.nodes) (field_row net z) → length c ≡ 1 + z.free + 2 * length net.nodes
-nodes_length net z b c h ec = omega (arith, h, ap length ec, length-append b (each (length net.nodes) (field_row net z)), length_twos (λ n. field_of net z n 0) (λ n. field_of net z n 1) (length net.nodes))
-
-pub cells_length : (net : Graph) (z : Parts) (c d e : List ℕ) (w : ℕ) → d ≡ c ++ replicate w 0 → e ≡ d ++ cell_words net z (facing_pairs net) → length e ≡ length c + w + 2 * length (facing_pairs net)
-cells_length net z c d e w ed ee = omega (arith, ap length ed, length-append c (replicate w 0), length-replicate {A = ℕ} w 0, ap length ee, length-append d (cell_words net z (facing_pairs net)), length_cells net z (facing_pairs net))
-
 pub wires_bound : (net : Graph) (w : ℕ) → w ≡ length (aux_links net) → w ≤ 2 * length net.nodes
 wires_bound net w e = omega (arith, e, wires_few net (length net.nodes) 0)
 
@@ -92,19 +86,19 @@ module _ (net : Graph) (z : Parts) (a b c d e f : List ℕ) (free : z.free ≡ n
   ec : c ≡ b ++ each z.nodes (field_row net z)
   ec = fc ∙ ap (λ n. b ++ each n (field_row net z)) (sym nodes)
 
-  pub length_b : length b ≡ start_node z 0
-  length_b = omega (arith, ap length eb, ap length ea, length-append a (each z.free (port_row net z)), length_ones (word_of_port net z) z.free)
+  length_b : length b ≡ start_node z 0
+  length_b = start_length net z a b free ea fb
 
-  pub length_c : length c ≡ start_wire z 0
+  length_c : length c ≡ start_wire z 0
   length_c = omega (arith, ap length ec, length_b, length-append b (each z.nodes (field_row net z)), length_twos (λ n. field_of net z n 0) (λ n. field_of net z n 1) z.nodes)
 
-  pub length_d : length d ≡ start_cell z 0
+  length_d : length d ≡ start_cell z 0
   length_d = omega (arith, ap length ed, length_c, length-append c (replicate z.wires 0), length-replicate {A = ℕ} z.wires 0)
 
-  pub length_e : length e ≡ block z 0
+  length_e : length e ≡ block z 0
   length_e = omega (arith, ap length ee, length_d, length-append d (cell_words net z (facing_pairs net)), length_cells net z (facing_pairs net), few)
 
-  pub length_f : length f ≡ size z
+  length_f : length f ≡ size z
   length_f = omega (arith, ap length ef, length_e, length-append e (replicate (22 * z.fuel) 0), length-replicate {A = ℕ} (22 * z.fuel) 0)
 
   in_c : (w : ℕ) → w < length c → slice_index f w ≡ slice_index c w

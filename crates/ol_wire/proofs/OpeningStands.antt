@@ -222,7 +222,7 @@ module _ (net : Graph) (z : Parts) (words : List ℕ) (reached : ℕ → Bool) (
     ]
   ]
 
-  num_small : (n m : NodeId) (s u : ℕ) → Link (Of n (suc s)) (Of m (suc u)) → num n s m u < z.wires
+  pub num_small : (n m : NodeId) (s u : ℕ) → Link (Of n (suc s)) (Of m (suc u)) → num n s m u < z.wires
   num_small n m s u l = elim (ordered n m s u l) [
     | inl f ↦
         let a = first_small n m s (suc u) f.0 in

@@ -12,17 +12,19 @@ use Rattle.ol_wire.specs.declared.plan.Plan.{Plan}
 use Rattle.ol_wire.specs.declared.view.View.{View}
 use Rattle.ol_wire.specs.References.{node_ref, kind_in, index_in, place_in, IsNodeRef}
 use Rattle.ol_wire.specs.Weights.{total}
-use Rattle.ol_wire.specs.Layout.{left, right, part_of, place_of, size}
-use Rattle.ol_wire.specs.Views.{past_fuel}
-use Rattle.ol_wire.specs.Plays.{Seated, missing, holding, paired, knowing, ticketed, late, wrote, IsNodeOf, IsRefOf, IsLookedUp, claims, pairs_up, looks, draws, writes}
+use Rattle.ol_wire.specs.Layout.{left, right, part_of, place_of, size, left_word, cells_of}
+use Rattle.ol_wire.specs.Views.{past_fuel, IsIdle}
+use Rattle.ol_wire.specs.Plays.{Seated, cell_in_hand, returned, missing, holding, paired, knowing, ticketed, late, wrote, IsNodeOf, IsRefOf, IsLookedUp, claims, pairs_up, draws, writes}
+use Rattle.ol_wire.specs.TurnPlays.{reads, returns}
 use Rattle.ol_wire.specs.Rule.{Table, Kept, IsView, IsLasting}
 use Rattle.ol_wire.proofs.References.{kind_of_ref, place_of_ref}
-use Rattle.ol_wire.proofs.Places.{is_left, part_field}
+use Rattle.ol_wire.proofs.Places.{is_left, part_field, part_cell}
 use Rattle.ol_wire.proofs.Claimed.{IsNodeAt, IsCellPair, cell_pair, node_of, is_placed, field_full, field_within, field_written, right_written}
 use Rattle.ol_wire.proofs.Held.{word_full}
 use Rattle.ol_wire.proofs.Ticket.{ticket_keeps}
 use Rattle.ol_wire.proofs.StepsKeep.{after}
 use Rattle.ol_wire.proofs.StepsPlain.{miss_keeps, claim_keeps, knowing_keeps, paired_keeps, write_keeps, late_keeps}
+use Rattle.ol_wire.proofs.StepsReturn.{return_keeps}
 use Rattle.ol_wire.proofs.StepsPair.{arity_two, node_of_ref, ref_of_field, ticket_stands, due_past, full_of_claimed, right_of_claimed, pair_active, small_index}
 
 past_one : (v : View) → past_fuel v ≤ v.holds
@@ -34,14 +36,17 @@ past_le (v ∷ vs) = omega (arith, past_one v, past_le vs)
 
 module _ (p : Plan) (slots id : ℕ) (m : Seated) (held : 0 < m.0.holds) where
   of_plan : (s : Table) (k : Kept p s) → get_elem? s.views id ≡ some m.0 → m.0.parts ≡ p.parts
-  of_plan s k here = (k.seats.plan m.0 (id, here) held).0
+  of_plan s k here = (k.seats.plans m.0 (id, here) held).0
 
-  pub claims_allowed : (w : ℕ) → part_of p.parts w ≡ left → Allows (Kept p) slots id m w (λ _. 0) (claims (step slots w 0 0 none) m)
-  claims_allowed w is s k homes here small = elim (cases_eq (get_or s.words w 0) 0) [
-    | inl e ↦ (missing m.0 w, keeps, tt, miss_keeps p s k id m.0 here held w is e, (refl, (λ _. refl), (λ ne. absurd (ne e))))
+  pub claims_allowed : (c w : ℕ) → c < cells_of p.parts → w ≡ left_word p.parts c → IsIdle m.0 → Allows (Kept p) slots id m w (λ _. 0) (claims (step slots w 0 0 none) m)
+  claims_allowed c w low at idle s k homes here small = elim (cases_eq (get_or s.words w 0) 0) [
+    | inl e ↦ (missing m.0 w, keeps, tt, miss_keeps p s k id m.0 here held w is c low at idle e, (refl, (λ _. refl), (λ ne. absurd (ne e))))
     | inr ne ↦ (holding m.0 w (get_or s.words w 0), keeps, tt, next ne, (refl, (λ e. absurd (ne e)), (λ _. (refl, is_node ne))))
   ]
     where
+      is : part_of p.parts w ≡ left
+      is = ap (part_of p.parts) at ∙ (part_cell p.parts c low).0
+
       next : get_or s.words w 0 ≢ 0 → Kept p (after s w 0 id (holding m.0 w (get_or s.words w 0)))
       next = claim_keeps p s k id m.0 here held w is
 
@@ -52,16 +57,17 @@ module _ (p : Plan) (slots id : ℕ) (m : Seated) (held : 0 < m.0.holds) where
           let pair = cell_pair p s k w is (λ q. ne (sym e ∙ q)) in
           subst (λ z. IsNodeOf z (get_or s.words w 0)) (sym (of_plan s k here)) (subst (IsNodeOf p.parts) e (node_of_ref p s k (get_or k.full w 0) pair.f))
 
-  pub pairs_allowed : (w x : ℕ) → IsIn (w, x) m.0.taken → Allows (Kept p) slots id m (suc w) (λ n. n) (pairs_up (step slots (suc w) 0 0 none) m)
-  pairs_allowed w x taken s k homes here small =
+  pub pairs_allowed : (w x : ℕ) → m.0.taken ≡ (w, x) ∷ [] → Allows (Kept p) slots id m (suc w) (λ n. n) (pairs_up (step slots (suc w) 0 0 none) m)
+  pairs_allowed w x only s k homes here small =
+      let taken : IsIn (w, x) m.0.taken = subst (λ (l : List (ℕ × ℕ)). IsIn {X = ℕ × ℕ} (w, x) l) (sym only) (inl refl) in
       let h = full_of_claimed p s k m.0 w x (id, here) taken in
       let pair = cell_pair p s k w h.0 h.2 in
       let e : get_or s.words (suc w) 0 ≡ get_or k.full (suc w) 0 = right_written p s k w h.0 h.2 in
       let node = subst (λ z. IsNodeOf z (get_or s.words (suc w) 0)) (sym (of_plan s k here)) (subst (IsNodeOf p.parts) (sym e) (node_of_ref p s k (get_or k.full (suc w) 0) pair.g)) in
       let lasting = subst IsLasting (sym (is_left p.parts w h.0).0) tt in
-      (paired m.0 (suc w) (get_or s.words (suc w) 0), keeps, tt, paired_keeps p s k id m.0 here held (suc w) lasting (is_left p.parts w h.0).1 (λ q. omega (arith, node.0, q)), (refl, refl, node))
+      (paired m.0 (suc w) (get_or s.words (suc w) 0), keeps, tt, paired_keeps p s k id m.0 here held (suc w) lasting (is_left p.parts w h.0).1 (λ q. omega (arith, node.0, q)), (refl, sym (ap (λ (l : List (ℕ × ℕ)). suc (cell_in_hand l)) only), refl, node))
 
-  pub pairs_allowed_at : (w x : ℕ) → IsIn (w, x) m.0.taken → (u : ℕ) → u ≡ suc w → Allows (Kept p) slots id m u (λ n. n) (pairs_up (step slots u 0 0 none) m)
+  pub pairs_allowed_at : (w x : ℕ) → m.0.taken ≡ (w, x) ∷ [] → (u : ℕ) → u ≡ suc w → Allows (Kept p) slots id m u (λ n. n) (pairs_up (step slots u 0 0 none) m)
   pairs_allowed_at w x taken u is = subst (λ (a : ℕ). Allows (Kept p) slots id m a (λ n. n) (pairs_up (step slots a 0 0 none) m)) (sym is) (pairs_allowed w x taken)
 
   -- a field of one of the two nodes of the pair
@@ -113,26 +119,34 @@ module _ (p : Plan) (slots id : ℕ) (m : Seated) (held : 0 < m.0.holds) where
       found_there : IsLasting (part_of p.parts (place_in r + c)) × (place_in r + c < size p.parts) × (get_or s.words (place_in r + c) 0 ≢ 0) × IsRefOf m.0.parts (get_or s.words (place_in r + c) 0)
       found_there = subst (λ (a : ℕ). IsLasting (part_of p.parts (a + c)) × (a + c < size p.parts) × (get_or s.words (a + c) 0 ≢ 0) × IsRefOf m.0.parts (get_or s.words (a + c) 0)) (sym (place_is node)) (found node)
 
-    looks_there : Allows (Kept p) slots id m (place_in r + c) (λ n. n) (looks (step slots (place_in r + c) 0 0 none) m)
+    looks_there : Allows (Kept p) slots id m (place_in r + c) (λ n. n) (reads (step slots (place_in r + c) 0 0 none) m)
     looks_there s k homes here small =
         let u : ℕ = place_in r + c in
         let h = found_there s k here in
-        (knowing m.0 u (get_or s.words u 0), keeps, tt, knowing_keeps p s k id m.0 here held u h.0 h.1 h.2, (refl, refl, h.3))
+        (knowing m.0 u (get_or s.words u 0), keeps, tt, knowing_keeps p s k id m.0 here held u h.0 h.1 h.2, ((refl, refl, h.3), (λ y known_there. sym (k.words.known m.0 u y (id, here) known_there).0)))
 
-    pub looks_allowed : (u : ℕ) → u ≡ place_in r + c → Allows (Kept p) slots id m u (λ n. n) (looks (step slots u 0 0 none) m)
-    looks_allowed u is = subst (λ (a : ℕ). Allows (Kept p) slots id m a (λ n. n) (looks (step slots a 0 0 none) m)) (sym is) looks_there
+    pub looks_allowed : (u : ℕ) → u ≡ place_in r + c → Allows (Kept p) slots id m u (λ n. n) (reads (step slots u 0 0 none) m)
+    looks_allowed u is = subst (λ (a : ℕ). Allows (Kept p) slots id m a (λ n. n) (reads (step slots a 0 0 none) m)) (sym is) looks_there
 
   pub writes_allowed : (i x : ℕ) (ds : List (ℕ × ℕ)) → m.0.due ≡ (i, x) ∷ ds → Allows (Kept p) slots id m i (λ _. x) (λ _. writes (step slots i x 0 none) m x)
   writes_allowed i x ds due s k homes here small =
       let first : IsIn {X = ℕ × ℕ} (i, x) m.0.due = subst (λ (l : List (ℕ × ℕ)). IsIn {X = ℕ × ℕ} (i, x) l) (sym due) (inl refl) in
       (wrote m.0, keeps, tt, write_keeps p s k id m.0 here held i x ds due (due_past p s k m.0 i x (id, here) first), (refl, refl))
 
+  pub returns_allowed : (c w x u : ℕ) → c < cells_of p.parts → w ≡ left_word p.parts c → u ≡ w → x ≡ m.0.last.0 → m.0.taken ≡ (w, m.0.last.0) ∷ [] → IsIn (suc w, m.0.last.1) m.0.known → Allows (Kept p) slots id m u (λ _. x) (λ _. returns (step slots u x 0 none) m x)
+  returns_allowed c w x u low at same first taken known =
+      subst (λ (a : ℕ). Allows (Kept p) slots id m a (λ _. x) (λ _. returns (step slots a x 0 none) m x)) (sym same)
+      (subst (λ (b : ℕ). Allows (Kept p) slots id m w (λ _. b) (λ _. returns (step slots w b 0 none) m b)) (sym first) there)
+    where
+      there : Allows (Kept p) slots id m w (λ _. m.0.last.0) (λ _. returns (step slots w m.0.last.0 0 none) m m.0.last.0)
+      there s k homes here small = (returned m.0, keeps, tt, return_keeps p s k id m.0 here held c w low at taken known, (refl, refl))
+
 module _ (p : Plan) (slots id : ℕ) (m : Seated) where
   pub draws_allowed : (w : ℕ) → IsLookedUp m.0 w → Allows (Kept p) slots id m 0 (λ n. (n + 1) % 2 ^ 64) (draws (step slots 0 1 0 none) m)
   draws_allowed w up s k homes here small =
       let n : ℕ = get_or s.words 0 0 in
       let fuel : m.0.parts.fuel ≡ p.parts.fuel = ap (λ (z : Parts). z.fuel) (of_plan p slots id m up.held s k here) in
-      let fits : n + 1 < 18446744073709551616 = omega (arith, k.seats.calm, k.seats.few, k.seats.parts, past_le s.views) in
+      let fits : n + 1 < 18446744073709551616 = omega (arith, k.seats.calm, k.plan.small.fuel, k.plan.seats.1, k.seats.all, past_le s.views) in
       let next : (n + 1) % 2 ^ 64 ≡ n + 1 = mod-eq_of_lt fits in
       let P : ℕ → Type 0 = λ y. (w : View) × (a : Act (Unit {0})) × Valid s.homes m.1 a × Kept p (stepped s 0 y id m.1 w a) × draws (step slots 0 1 0 none) m n (w, carried_after m.1 a) in
       subst P (sym next) (elim (cases_lt n p.parts.fuel) [

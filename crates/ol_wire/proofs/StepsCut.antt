@@ -1,27 +1,27 @@
 -- Cutting a seat off keeps the rule.
-use Rattle.std.proofs.Common.{◌≡◌, ◌≢◌, ℕ, zero, suc, ◌+◌, ◌-◌, ◌<◌, ◌≤◌, ◌⊎◌, Bool, true, false, ◌&&◌, nat_eq, if◌then◌else◌, Some, List, [], ◌∷◌, ◌++◌, length, get_or, set, sym, refl, ap, ◌∙◌, subst, inl, inr, arith}
+use Rattle.std.proofs.Common.{◌≡◌, ◌≢◌, ℕ, suc, ◌+◌, ◌-◌, ◌<◌, ◌≤◌, Bool, true, false, ◌&&◌, nat_eq, if◌then◌else◌, Some, List, [], ◌∷◌, ◌++◌, get_or, set, sym, refl, ap, ◌∙◌, subst, arith}
 use mathlib.Core.Bool.{false≢true}
 use mathlib.Core.Option.{some}
 use lib.ListN.{get_elem?}
 use Rattle.atomic_table.specs.Table.{Splits}
 use Rattle.ol_edges.specs.Edges.{IsIn}
-use Rattle.ol_net.specs.Nets.{HasNode}
-use Rattle.ol_net.specs.Parts.{arity}
 use Rattle.ol_rules.specs.Runs.{HasActive}
 use Rattle.ol_wire.specs.declared.plan.Plan.{Plan}
 use Rattle.ol_wire.specs.declared.view.Link.{Link}
 use Rattle.ol_wire.specs.declared.view.View.{View}
-use Rattle.ol_wire.specs.References.{node_ref, IsRef}
+use Rattle.ol_wire.specs.References.{node_ref}
 use Rattle.ol_wire.specs.Weights.{total, pairs}
-use Rattle.ol_wire.specs.Layout.{left, part_of, place_of, block, size}
+use Rattle.ol_wire.specs.Layout.{field, left, part_of, place_of, size}
 use Rattle.ol_wire.specs.Edges.{is_reached, is_made, times, edges_of, edges_in, pending_in, links_in}
 use Rattle.ol_wire.specs.Stands.{Stands}
 use Rattle.ol_wire.specs.Views.{past_fuel, IsSpent}
-use Rattle.ol_wire.specs.Plays.{fewer, one_seat}
-use Rattle.ol_wire.specs.Rule.{Table, Kept, WordsKeep, SeatsKeep, IsView, IsLasting, IsOwn, links_at}
+use Rattle.ol_wire.specs.Plays.{fewer, one_seat, cell_at}
+use Rattle.ol_wire.specs.Rule.{Table, Kept, WordsKeep, CellsKeep, SeatsKeep, IsView, IsLasting, IsOwn, IsRightOf, IsMadeRef, IsInOwnBlock, links_at, IsLinkedField}
+use Rattle.ol_wire.proofs.StepsKeep.{IsSwept}
+use Rattle.core.specs.Prelude.{slice_get}
 use Rattle.ol_wire.proofs.StepsLists.{total_cut, each_cut, edges_same, pending_set, pending_more}
 
-module _ (p : Plan) (id : ℕ) (v : View) (two : 1 < v.holds) (under : v.over ≡ false) (s : Table) (k : Kept p s) (here : get_elem? s.views id ≡ some v) where
+module _ (p : Plan) (id : ℕ) (v : View) (two : 1 < v.holds) (under : v.over ≡ false) (unswept : v.swept ≡ 0) (s : Table) (k : Kept p s) (here : get_elem? s.views id ≡ some v) where
   abbrev views : List View
   views = set s.views id (fewer v) ++ one_seat v ∷ []
 
@@ -49,29 +49,39 @@ module _ (p : Plan) (id : ℕ) (v : View) (two : 1 < v.holds) (under : v.over �
     full_wide = k.words.full_wide;
     written = λ h z. let e = total_same (λ (u : View). pairs h u.due + pairs h u.taken) (omega arith) in omega (arith, e, k.words.written h z);
     refs = k.words.refs;
-    pairs = k.words.pairs;
+    cells = k.words.cells;
+    fields = k.words.fields;
     starts = k.words.starts;
     fresh = k.words.fresh;
     entries = k.words.entries;
-    unpublished = λ u l is m. viewed (λ u'. IsIn l u'.pending → (part_of p.parts l.cell ≡ left) × (l.cell < block p.parts (length k.log)) × (get_or k.full l.cell 0 ≡ 0) × (get_or k.full (suc l.cell) 0 ≡ 0)) (λ m'. k.words.unpublished v l seen m') (λ m'. elim m' [ ]) (λ u' is' m'. k.words.unpublished u' l is' m') u is m;
-    link_refs = λ u l is m. viewed (λ u'. IsIn l u'.pending → IsRef l.one × IsRef l.two) (λ m'. k.words.link_refs v l seen m') (λ m'. elim m' [ ]) (λ u' is' m'. k.words.link_refs u' l is' m') u is m;
-    one_link = λ a. let e = total_same (λ (u : View). links_at a u.pending) (omega arith) in omega (arith, e, k.words.one_link a);
     known = λ u a y is m. viewed (λ u'. IsIn (a, y) u'.known → (get_or s.words a 0 ≡ y) × (y ≢ 0) × IsLasting (part_of p.parts a)) (λ m'. k.words.known v a y seen m') (λ m'. elim m' [ ]) (λ u' is' m'. k.words.known u' a y is' m') u is m;
+  }
+
+  abbrev Unpublished : Link → View → Type 0
+  Unpublished l u = IsIn l u.pending → (part_of p.parts l.cell ≡ left) × (get_or k.full l.cell 0 ≡ 0) × IsRightOf u l (get_or k.full (suc l.cell) 0) × ((t w : ℕ) → slice_get k.from t ≡ Some w → w ≢ l.cell)
+
+  cells_keep : CellsKeep p cut k.log k.from k.full
+  cells_keep = record {
+    tickets = k.cells.tickets;
+    used = k.cells.used;
+    unpublished = λ u l is. viewed (Unpublished l) (λ m. k.cells.unpublished v l seen m) (λ m. elim m [ ]) (λ u' is' m. k.cells.unpublished u' l is' m) u is;
+    one_link = λ a. let e = total_same (λ (u : View). links_at a u.pending) (omega arith) in omega (arith, e, k.cells.one_link a);
+    link_refs = λ u l is m. viewed (λ u'. IsIn l u'.pending → IsMadeRef p.parts k.log l.one × IsMadeRef p.parts k.log l.two) (λ m'. k.cells.link_refs v l seen m') (λ m'. elim m' [ ]) (λ u' is' m'. k.cells.link_refs u' l is' m') u is m;
+    swept = λ u n is. viewed (λ u'. n < u'.swept → IsSwept p k.full u' n) (λ lt. absurd (omega (arith, lt, unswept))) (λ lt. absurd (omega (arith, lt))) (λ u' is' lt. k.cells.swept u' n is' lt) u is;
+    published = λ a is le. let e = total_same (λ (u : View). times (cell_at p.parts a) u.published) (omega arith) in omega (arith, e, k.cells.published a is le);
   }
 
   seats_keep : SeatsKeep p cut k.log k.net
   seats_keep = record {
-    few = k.seats.few;
-    parts = total_same (λ (u : View). u.holds) (omega arith) ∙ k.seats.parts;
+    all = total_same (λ (u : View). u.holds) (omega arith) ∙ k.seats.all;
     calm = let e = total_same past_fuel (omega (arith, not_past, not_past_fewer)) in omega (arith, e, k.seats.calm);
     over = viewed (λ u. u.over ≡ true → (p.parts.fuel ≤ get_or s.words 0 0) × HasActive k.net) (k.seats.over v seen) (λ o. absurd (false≢true o)) k.seats.over;
-    plan = viewed (λ u. 0 < u.holds → (u.parts ≡ p.parts) × (u.seats ≡ p.seats)) (λ _. k.seats.plan v seen (omega arith)) (λ _. k.seats.plan v seen (omega arith)) k.seats.plan;
+    plans = viewed (λ u. 0 < u.holds → (u.parts ≡ p.parts) × (u.seats ≡ p.seats)) (λ _. k.seats.plans v seen (omega arith)) (λ _. k.seats.plans v seen (omega arith)) k.seats.plans;
     spent = viewed (λ u. u.holds ≡ 0 → IsSpent u) (λ q. absurd (omega (arith, two, q))) (λ q. absurd (omega (arith, q))) k.seats.spent;
     taken = λ u a y is m. viewed (λ u'. IsIn (a, y) u'.taken → (part_of p.parts a ≡ left) × (y ≢ 0)) (λ m'. k.seats.taken v a y seen m') (λ m'. elim m' [ ]) (λ u' is' m'. k.seats.taken u' a y is' m') u is m;
-    due = λ u a y is m. viewed (λ u'. IsIn (a, y) u'.due → y ≢ 0) (λ m'. k.seats.due v a y seen m') (λ m'. elim m' [ ]) (λ u' is' m'. k.seats.due u' a y is' m') u is m;
-    due_parts = λ u a y is m. viewed (λ u'. IsIn (a, y) u'.due → IsOwn (part_of p.parts a)) (λ m'. k.seats.due_parts v a y seen m') (λ m'. elim m' [ ]) (λ u' is' m'. k.seats.due_parts u' a y is' m') u is m;
-    hidden = λ u n kind j a y is has lt m. viewed (λ u'. IsIn (place_of p.parts n + a, y) u'.due → (d : ℕ) × IsIn (node_ref kind j (place_of p.parts n), d) (links_in u'.pending))
-        (λ m'. k.seats.hidden v n kind j a y seen has lt m') (λ m'. elim m' [ ]) (λ u' is' m'. k.seats.hidden u' n kind j a y is' has lt m') u is m;
+    due = λ u a y is m. viewed (λ u'. IsIn (a, y) u'.due → (y ≢ 0) × IsOwn (part_of p.parts a) × IsInOwnBlock p.parts u' a) (λ m'. k.seats.due v a y seen m') (λ m'. elim m' [ ]) (λ u' is' m'. k.seats.due u' a y is' m') u is m;
+    links = λ u l is m. viewed (λ u'. IsIn l u'.pending → IsInOwnBlock p.parts u' l.cell) (λ m'. k.seats.links v l seen m') (λ m'. elim m' [ ]) (λ u' is' m'. k.seats.links u' l is' m') u is m;
+    due_fields = λ u a y n b is. viewed (λ u'. IsIn (a, y) u'.due → part_of p.parts a ≡ field n b → IsLinkedField p.parts k.net u'.pending n b) (k.seats.due_fields v a y n b seen) (λ m e. elim m [ ]) (λ u' is'. k.seats.due_fields u' a y n b is') u is;
     made = λ h. total_same (λ (u : View). pairs h u.made) (omega arith) ∙ k.seats.made h;
     dead = λ a. let e = total_same (λ (u : View). times a u.dead) (omega arith) in omega (arith, e, k.seats.dead a);
   }
@@ -90,7 +100,7 @@ module _ (p : Plan) (id : ℕ) (v : View) (two : 1 < v.holds) (under : v.over �
       (subst (Stands p.parts k.net (is_reached p.parts k.log s.views)) (sym edges_kept) k.stands)
 
   cut_keeps : Kept p cut
-  cut_keeps = record { log = k.log; net = k.net; full = k.full; tickets = k.tickets; journal = k.journal; words = words_keep; seats = seats_keep; stands = stands_kept }
+  cut_keeps = record { log = k.log; net = k.net; full = k.full; from = k.from; plan = k.plan; tickets = k.tickets; journal = k.journal; words = words_keep; cells = cells_keep; seats = seats_keep; stands = stands_kept }
 
-pub cut_allowed : (p : Plan) (id : ℕ) (v : View) → 1 < v.holds → v.over ≡ false → Splits {S = Unit {0}} (Kept p) id v (fewer v) (one_seat v)
-cut_allowed p id v two under s k here = cut_keeps p id v two under s k here
+pub cut_allowed : (p : Plan) (id : ℕ) (v : View) → 1 < v.holds → v.over ≡ false → v.swept ≡ 0 → Splits {S = Unit {0}} (Kept p) id v (fewer v) (one_seat v)
+cut_allowed p id v two under unswept s k here = cut_keeps p id v two under unswept s k here

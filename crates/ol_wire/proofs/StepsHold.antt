@@ -1,22 +1,24 @@
 -- What a seat knows before it draws a ticket, and what it has done after.
-use Rattle.std.proofs.Common.{◌≡◌, ◌≢◌, ℕ, zero, suc, ◌+◌, ◌<◌, ◌≤◌, ◌⊎◌, Bool, true, false, nat_eq, eq-eqb, ne_eqb, if◌then◌else◌, Some, List, [], ◌∷◌, ◌++◌, get_or, sym, refl, ap, ◌∙◌, subst, inl, inr, arith}
-use Rattle.std.proofs.lemmas.Bool.{cases_eq}
+use Rattle.std.proofs.Common.{◌≡◌, ℕ, zero, suc, ◌+◌, ◌-◌, ◌<◌, ◌≤◌, ◌⊎◌, Bool, true, false, nat_lt, lt-ltb, eq-eqb, ne_eqb, if◌then◌else◌, Some, List, [], ◌∷◌, ◌++◌, get_or, sym, refl, ap, ◌∙◌, subst, inl, inr, arith}
+use Rattle.std.proofs.lemmas.Bool.{cases_eq, cases_lt}
+use Rattle.std.proofs.lemmas.Bool.Decides.{nat_tests}
 use Rattle.ol_edges.specs.Edges.{IsIn}
 use Rattle.ol_net.specs.Parts.{arity}
 use Rattle.ol_rules.specs.Listed.{each}
+use Rattle.ol_rules.specs.Rewriting.{is_meeting}
+use Rattle.ol_rules.proofs.Alike.{meeting_alike}
 use Rattle.ol_wire.specs.declared.layout.Parts.{Parts}
 use Rattle.ol_wire.specs.declared.rewrite.Rewrite.{Rewrite}
 use Rattle.ol_wire.specs.declared.view.Link.{Link}
 use Rattle.ol_wire.specs.declared.view.View.{View}
-use Rattle.ol_wire.specs.References.{kind_in, place_in}
-use Rattle.ol_wire.specs.Layout.{block, size}
-use Rattle.ol_wire.specs.Events.{Event, rule_between, event_of, entry_of}
-use Rattle.ol_wire.specs.Blocks.{block_words, to_write, joins_in, link_of, links_of}
-use Rattle.ol_wire.specs.Plays.{IsNodeOf, IsLookedUp, known_at, event_in, ticketed, rest}
+use Rattle.ol_wire.specs.References.{kind_in, index_in, place_in}
+use Rattle.ol_wire.specs.Layout.{block, born_cell}
+use Rattle.ol_wire.specs.Events.{Event, rule_between, entry_of}
+use Rattle.ol_wire.specs.Blocks.{born_ref, block_words, to_write, joins_in, link_of, links_of}
+use Rattle.ol_wire.specs.Plays.{IsNodeOf, IsRefOf, IsLookedUp, known_at, event_in, ticketed, late, rest, cell_at, cell_in_hand, swept_on}
 use Rattle.ol_wire.specs.Rewrites.{event_for}
 use Rattle.ol_wire.specs.Sizes.{IsSmall}
-use Rattle.ol_wire.specs.Views.{IsIdle}
-use Rattle.ol_wire.specs.Holds.{in_hand, IsInHand, IsOfPair, fields_known, Rewrote}
+use Rattle.ol_wire.specs.Hands.{in_hand, IsInHand, IsOfPair, IsSure, AreFields, AreRefs, fields_known, Rewrote}
 use Rattle.ol_wire.proofs.Claimed.{in_left, in_right}
 use Rattle.ol_wire.proofs.StepsPair.{arity_two, event_sides}
 
@@ -108,20 +110,94 @@ pub looked_twice : (v v1 v2 : View) (r : Rewrite) (a b : List ℕ)
     → v2 ≡ record v { known = seen v r a b }
 looked_twice v v1 v2 r a b e f = f ∙ ap (λ (u : View). record u { known = fields_known (arity (kind_in r.g)) (place_in r.g) b ++ u.known }) e
 
+-- after the looks the pair is in hand as before, also where the fuel is used up
+pub still_in_hand : (v : View) (w : ℕ) (r : Rewrite) (a b : List ℕ) → IsInHand v w → IsInHand (late (record v { known = seen v r a b })) w
+still_in_hand v w r a b hand = record {
+  taken = hand.taken;
+  right = in_right _ (fields_known (arity (kind_in r.g)) (place_in r.g) b) (fields_known (arity (kind_in r.f)) (place_in r.f) a ++ v.known) (in_right _ (fields_known (arity (kind_in r.f)) (place_in r.f) a) v.known hand.right);
+  nodes = hand.nodes;
+}
+
 -- the words of the ticket
 pub due_of_ticket : (v : View) (r : Rewrite) (ks : List (ℕ × ℕ)) (t : ℕ) → event_for r ≡ event_in v → (ticketed (record v { known = ks }) t).due ≡ to_write (block v.parts t) (block_words v.parts (event_for r) t)
 due_of_ticket v r ks t is = ap (λ (e : Event). to_write (block v.parts t) (block_words v.parts e t)) (sym is)
 
+each_same : {X : Type 0} (n : ℕ) (f g : ℕ → List X) → ((j : ℕ) → j < n → f j ≡ g j) → each n f ≡ each n g
+each_same zero f g same = refl
+each_same (suc n) f g same = ap (λ xs. xs ++ f n) (each_same n f g (λ j lt. same j (omega (arith, lt)))) ∙ ap (λ xs. each n g ++ xs) (same n (omega arith))
+
+-- the links of a ticket, by what the fields of its two nodes hold
+module _ (z : Parts) (e : Event) (t : ℕ) (a b c d : ℕ → ℕ) (fits : rule_between e.f e.g ≡ Some e.rule) (of_f : (s : ℕ) → s < arity (kind_in e.f) → a s ≡ c s) (of_g : (s : ℕ) → s < arity (kind_in e.g) → b s ≡ d s) where
+  link_same : (j : ℕ) → j < joins_in e → link_of z e t a b j ≡ link_of z e t c d j
+  link_same j lt = go (is_meeting e.rule) refl lt
+    where
+      shape : ℕ → ℕ → Link
+      shape one two = record { cell = born_cell z t j; one = one; two = two }
+
+      two_same : (n m : ℕ) → n ≡ arity (kind_in e.g) → m ≡ arity (kind_in e.f) → j < n + m → (if nat_lt j n then b j else a (j - n)) ≡ (if nat_lt j n then d j else c (j - n))
+      two_same n m p q small = elim (cases_lt j n) [
+        | inl below ↦ ap (λ x. if x then b j else a (j - n)) (lt-ltb j n below) ∙ of_g j (omega (arith, p, below)) ∙ sym (ap (λ x. if x then d j else c (j - n)) (lt-ltb j n below))
+        | inr above ↦
+            let x : nat_lt j n ≡ false = grind (arith, nat_tests) in
+            ap (λ y. if y then b j else a (j - n)) x ∙ of_f (j - n) (omega (arith, q, small, above)) ∙ sym (ap (λ y. if y then d j else c (j - n)) x)
+      ]
+
+      go : (m : Bool) → is_meeting e.rule ≡ m → j < (if m then arity (kind_in e.f) else (if m then 0 else arity (kind_in e.g)) + (if m then 0 else arity (kind_in e.f)))
+          → shape (if m then a j else born_ref z e t j) (if m then b j else if nat_lt j (if m then 0 else arity (kind_in e.g)) then b j else a (j - (if m then 0 else arity (kind_in e.g))))
+          ≡ shape (if m then c j else born_ref z e t j) (if m then d j else if nat_lt j (if m then 0 else arity (kind_in e.g)) then d j else c (j - (if m then 0 else arity (kind_in e.g))))
+      go true q small = ap (λ x. shape x (b j)) (of_f j small) ∙ ap (shape (c j)) (of_g j (omega (arith, small, meeting_alike (kind_in e.f) (index_in e.f) (kind_in e.g) (index_in e.g) e.rule fits q)))
+      go false q small = ap (shape (born_ref z e t j)) (two_same (arity (kind_in e.g)) (arity (kind_in e.f)) refl refl small)
+
+  links_same : links_of z e t a b ≡ links_of z e t c d
+  links_same = each_same (joins_in e) (λ j. link_of z e t a b j ∷ []) (λ j. link_of z e t c d j ∷ []) (λ j lt. ap (λ l. l ∷ []) (link_same j lt))
+
+-- what is known of one word alone is what is found first
+known_sure : (known : List (ℕ × ℕ)) (w y : ℕ) → IsSure known w y → known_at known w ≡ y
+known_sure known w y sure = sure.1 (known_at known w) (known_there w y known sure.0)
+
+-- a word more is known, and it agrees with what was known of it
+module _ (known : List (ℕ × ℕ)) (u x : ℕ) (same : (y : ℕ) → IsIn (u, y) known → y ≡ x) where
+  pub sure_more : (w y : ℕ) → IsSure known w y → IsSure ((u, x) ∷ known) w y
+  sure_more w y sure = (inr sure.0, only)
+    where
+      only : (x' : ℕ) → IsIn {X = ℕ × ℕ} (w, x') ((u, x) ∷ known) → x' ≡ y
+      only x' (inl e) = ap (λ (q : ℕ × ℕ). q.1) e ∙ sym (same y (subst (λ (n : ℕ). IsIn {X = ℕ × ℕ} (n, y) known) (ap (λ (q : ℕ × ℕ). q.0) e) sure.0))
+      only x' (inr m) = sure.1 x' m
+
+  pub sure_now : IsSure ((u, x) ∷ known) u x
+  sure_now = (inl refl, only)
+    where
+      only : (x' : ℕ) → IsIn {X = ℕ × ℕ} (u, x') ((u, x) ∷ known) → x' ≡ x
+      only x' (inl e) = ap (λ (q : ℕ × ℕ). q.1) e
+      only x' (inr m) = same x' m
+
+pub keeps_sure : (known more : List (ℕ × ℕ)) (u x : ℕ) → more ≡ (u, x) ∷ known → ((y : ℕ) → IsIn (u, y) known → y ≡ x) → (w y : ℕ) → IsSure known w y → IsSure more w y
+keeps_sure known more u x e same w y sure = subst (λ (l : List (ℕ × ℕ)). IsSure l w y) (sym e) (sure_more known u x same w y sure)
+
+now_sure : (known more : List (ℕ × ℕ)) (u x : ℕ) → more ≡ (u, x) ∷ known → ((y : ℕ) → IsIn (u, y) known → y ≡ x) → IsSure more u x
+now_sure known more u x e same = subst (λ (l : List (ℕ × ℕ)). IsSure l u x) (sym e) (sure_now known u x same)
+
+-- the fields of a node, by looks at them
+pub one_field : (known more : List (ℕ × ℕ)) (node a : ℕ) → arity (kind_in node) ≤ 1 → more ≡ (place_in node + 0, a) ∷ known → ((y : ℕ) → IsIn (place_in node + 0, y) known → y ≡ a) → AreFields more node (a ∷ 0 ∷ [])
+one_field known more node a few e same zero lt = now_sure known more (place_in node + 0) a e same
+one_field known more node a few e same (suc s) lt = absurd (omega (arith, few, lt))
+
+pub two_fields : (known more most : List (ℕ × ℕ)) (node a b : ℕ) → more ≡ (place_in node + 0, a) ∷ known → ((y : ℕ) → IsIn (place_in node + 0, y) known → y ≡ a)
+    → most ≡ (place_in node + 1, b) ∷ more → ((y : ℕ) → IsIn (place_in node + 1, y) more → y ≡ b) → AreFields most node (a ∷ b ∷ [])
+two_fields known more most node a b e same f twice zero lt = keeps_sure more most (place_in node + 1) b f twice (place_in node + 0) a (now_sure known more (place_in node + 0) a e same)
+two_fields known more most node a b e same f twice (suc zero) lt = now_sure more most (place_in node + 1) b f twice
+two_fields known more most node a b e same f twice (suc (suc s)) lt = absurd (omega (arith, arity_two (kind_in node), lt))
+
 -- the ticket is drawn, and its words are written
-pub rewritten : (v v2 v3 v4 : View) (w t : ℕ) (ks : List (ℕ × ℕ)) → IsInHand v w → v.due ≡ [] → v2 ≡ record v { known = ks } → v3 ≡ ticketed v2 t → v4 ≡ record v3 { due = [] } → Rewrote v t v4
-rewritten v v2 v3 v4 w t ks hand due e2 e3 e4 = record {
+pub rewritten : (v v2 v3 v4 : View) (w t : ℕ) (r : Rewrite) (ks : List (ℕ × ℕ)) (of_f of_g : List ℕ) → IsInHand v w → v.due ≡ [] → event_for r ≡ event_in v → rule_between r.f r.g ≡ Some r.rule → AreFields ks r.f of_f → AreFields ks r.g of_g
+    → v2 ≡ record v { known = ks } → v3 ≡ ticketed v2 t → v4 ≡ record v3 { due = [] } → Rewrote v t of_f of_g v4
+rewritten v v2 v3 v4 w t r ks of_f of_g hand due is fits f_known g_known e2 e3 e4 = record {
   view = whole ∙ ap (λ (l : List (ℕ × ℕ)). left l [] links) (ap (λ (l : List (ℕ × ℕ)). rest l) hand.taken) ∙ ap (λ (l : List (ℕ × ℕ)). left [] l links) (sym due) ∙ ap (left [] v.due) (sym pending);
-  known = ks;
-  links = pending;
+  links = pending ∙ same;
 }
   where
     left : List (ℕ × ℕ) → List (ℕ × ℕ) → List Link → View
-    left taken d ls = record v { taken = taken; known = []; made = v.made ++ (t, entry_of v.parts (event_in v)) ∷ []; due = d; pending = ls }
+    left taken d ls = record v { taken = taken; known = []; swept = swept_on v (cell_at v.parts (cell_in_hand v.taken)); made = v.made ++ (t, entry_of v.parts (event_in v)) ∷ []; due = d; pending = ls }
 
     links : List Link
     links = links_of v.parts (event_in v) t (λ s. known_at ks (place_in (event_in v).f + s)) (λ s. known_at ks (place_in (event_in v).g + s))
@@ -131,6 +207,13 @@ rewritten v v2 v3 v4 w t ks hand due e2 e3 e4 = record {
 
     pending : v4.pending ≡ links
     pending = ap (λ (u : View). u.pending) whole
+
+    Same : Event → Type 0
+    Same e = links_of v.parts e t (λ s. known_at ks (place_in e.f + s)) (λ s. known_at ks (place_in e.g + s)) ≡ links_of v.parts e t (λ s. get_or of_f s 0) (λ s. get_or of_g s 0)
+
+    same : Same (event_in v)
+    same = subst Same is (links_same v.parts (event_for r) t _ _ (λ s. get_or of_f s 0) (λ s. get_or of_g s 0) fits
+        (λ s lt. known_sure ks (place_in r.f + s) (get_or of_f s 0) (f_known s lt)) (λ s lt. known_sure ks (place_in r.g + s) (get_or of_g s 0) (g_known s lt)))
 
 -- the view with the pair in hand
 pub hand_of : (z : Parts) (v n : View) (w c : ℕ) (pair : ℕ × ℕ) → v.parts ≡ z → n ≡ in_hand v w c pair → IsNodeOf z pair.0 → IsNodeOf z pair.1 → IsInHand n w
@@ -143,23 +226,12 @@ hand_of z v n w c pair parts is f g = subst (λ (u : View). IsInHand u w) (sym i
       nodes = (subst (λ (y : Parts). IsNodeOf y pair.0) (sym parts) f, subst (λ (y : Parts). IsNodeOf y pair.1) (sym parts) g);
     }
 
-some_last : {A : Type 0} (xs : List A) (x : A) → xs ++ x ∷ [] ≡ [] → ⊥
-some_last [] x e = absurd (cc)
-some_last (y ∷ xs) x e = absurd (cc)
+-- the fields that the looks found are references
+pub one_ref : (z : Parts) (node a : ℕ) → arity (kind_in node) ≤ 1 → IsRefOf z a → AreRefs z node (a ∷ 0 ∷ [])
+one_ref z node a few h zero lt = h
+one_ref z node a few h (suc s) lt = absurd (omega (arith, few, lt))
 
--- a rewrite leaves no link exactly where it has no join
-pub no_links : (z : Parts) (e : Event) (t : ℕ) (a b : ℕ → ℕ) → (links_of z e t a b ≡ [] → joins_in e ≡ 0) × (joins_in e ≡ 0 → links_of z e t a b ≡ [])
-no_links z e t a b = (of (joins_in e), (λ q. ap (λ (n : ℕ). each n (λ j. link_of z e t a b j ∷ [])) q))
-  where
-    of : (n : ℕ) → each n (λ j. link_of z e t a b j ∷ []) ≡ [] → n ≡ 0
-    of zero q = refl
-    of (suc n) q = absurd (some_last (each n (λ j. link_of z e t a b j ∷ [])) (link_of z e t a b n) q)
-
-idle_by : (n : View) (z : Parts) (e : Event) (t : ℕ) (a b : ℕ → ℕ) → n.taken ≡ [] → n.due ≡ [] → n.pending ≡ links_of z e t a b → (joins_in e ≡ 0 → IsIdle n) × (IsIdle n → joins_in e ≡ 0)
-idle_by n z e t a b taken due pending = ((λ q. (taken, due, pending ∙ (no_links z e t a b).1 q)), (λ idle. (no_links z e t a b).0 (sym pending ∙ idle.2)))
-
--- after the rewrite the seat is idle exactly where there is no join
-pub idle_after : (v n : View) (t : ℕ) (r : Rewrite) → event_for r ≡ event_in v → v.due ≡ [] → Rewrote v t n → (joins_in (event_for r) ≡ 0 → IsIdle n) × (IsIdle n → joins_in (event_for r) ≡ 0)
-idle_after v n t r is due done =
-    subst (λ (e : Event). (joins_in e ≡ 0 → IsIdle n) × (IsIdle n → joins_in e ≡ 0)) (sym is)
-    (idle_by n v.parts (event_in v) t _ _ (ap (λ (u : View). u.taken) done.view) (ap (λ (u : View). u.due) done.view ∙ due) done.links)
+pub two_refs : (z : Parts) (node a b : ℕ) → IsRefOf z a → IsRefOf z b → AreRefs z node (a ∷ b ∷ [])
+two_refs z node a b h g zero lt = h
+two_refs z node a b h g (suc zero) lt = g
+two_refs z node a b h g (suc (suc s)) lt = absurd (omega (arith, arity_two (kind_in node), lt))

@@ -78,7 +78,7 @@ module _ (p : Plan) (s : Table) (k : Kept p s) where
   z = p.parts
 
   pub small_index : (x : NodeName) (m : Kind) (i : ℕ) → HasNode k.net x m i → i < 16777216
-  small_index x m i h = omega (arith, k.journal.indexes x m i h, k.tickets.few, k.seats.few)
+  small_index x m i h = omega (arith, k.journal.indexes x m i h, k.tickets.few, k.plan.small.fuel)
 
   pub node_of_ref : (r : ℕ) → IsNodeAt z k.net r → IsNodeOf z r
   node_of_ref r n =
@@ -103,12 +103,12 @@ module _ (p : Plan) (s : Table) (k : Kept p s) where
     where
       owned : (get_or s.words 0 0 ≡ get_or k.full 0 0) ⊎ ((v : View) × IsView s v × Holds v 0 (get_or k.full 0 0)) → get_or k.full 0 0 ≡ get_or s.words 0 0
       owned (inl e) = sym e
-      owned (inr (v, is, inl due)) = absurd (k.seats.due_parts v 0 (get_or k.full 0 0) is due)
+      owned (inr (v, is, inl due)) = absurd (k.seats.due v 0 (get_or k.full 0 0) is due).1
       owned (inr (v, is, inr taken)) = let e : ticket ≡ left = (k.seats.taken v 0 (get_or k.full 0 0) is taken).0 in absurd (cc)
 
   -- a word that is due isn't the ticket word
   pub due_past : (v : View) (i x : ℕ) → IsView s v → IsIn (i, x) v.due → 0 < i
-  due_past v zero x is m = absurd (k.seats.due_parts v zero x is m)
+  due_past v zero x is m = absurd (k.seats.due v zero x is m).1
   due_past v (suc i) x is m = omega arith
 
   pub full_of_claimed : (v : View) (w x : ℕ) → IsView s v → IsIn (w, x) v.taken → (part_of z w ≡ left) × (get_or k.full w 0 ≡ x) × (get_or k.full w 0 ≢ 0)
@@ -119,7 +119,7 @@ module _ (p : Plan) (s : Table) (k : Kept p s) where
 
   -- what the field of a node of the net refers to
   pub ref_of_field : (x : NodeName) (m : Kind) (i c : ℕ) → HasNode k.net x m i → c < arity m → IsRefOf z (get_or k.full (place_of z x + c) 0)
-  ref_of_field x m i c h lt = of_sort (k.words.refs place (omega (arith, before)) some_word)
+  ref_of_field x m i c h lt = of_sort (k.words.refs place (omega (arith, before)) some_word).0
     where
       place : ℕ
       place = place_of z x + c

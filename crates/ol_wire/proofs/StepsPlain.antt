@@ -1,8 +1,6 @@
 -- Claims, looks, writes and late tickets keep the rule.
-use Rattle.std.proofs.Common.{◌≡◌, ◌≢◌, ℕ, zero, suc, ◌+◌, ◌<◌, ◌≤◌, ◌⊎◌, Bool, true, false, if◌then◌else◌, List, [], ◌∷◌, ◌++◌, length, get_or, set, sym, refl, ap, ◌∙◌, subst, inl, inr, arith, length-set, get_or-set_other, get_or-set_same}
-use Rattle.std.proofs.lemmas.Bool.{cases_eq}
+use Rattle.std.proofs.Common.{◌≡◌, ◌≢◌, ℕ, zero, suc, ◌+◌, ◌<◌, ◌≤◌, ◌⊎◌, false, if◌then◌else◌, List, ◌∷◌, length, get_or, set, sym, refl, ap, ◌∙◌, subst, inl, inr, arith, length-set, get_or-set_other, get_or-set_same}
 use Rattle.std.proofs.lemmas.List.{set-get_or}
-use mathlib.Core.Bool.{false≢true}
 use mathlib.Core.Option.{some}
 use lib.ListN.{get_elem?}
 use Rattle.ol_edges.specs.Edges.{IsIn}
@@ -10,15 +8,16 @@ use Rattle.ol_rules.specs.Runs.{HasActive}
 use Rattle.ol_wire.specs.declared.layout.Parts.{Parts}
 use Rattle.ol_wire.specs.declared.plan.Plan.{Plan}
 use Rattle.ol_wire.specs.declared.view.View.{View}
-use Rattle.ol_wire.specs.Weights.{total, pairs, weigh, Empties}
-use Rattle.ol_wire.specs.Layout.{Part, left, right, field, part_of, size}
-use Rattle.ol_wire.specs.Views.{past_fuel}
+use Rattle.ol_wire.specs.Weights.{pairs, weigh}
+use Rattle.ol_wire.specs.Layout.{Part, left, part_of, size, left_word, cells_of}
+use Rattle.ol_wire.specs.Views.{IsIdle}
 use Rattle.ol_wire.specs.Plays.{missing, holding, paired, knowing, late, wrote, rest}
-use Rattle.ol_wire.specs.Rule.{Table, Kept, Drawn, IsView, IsLasting}
+use Rattle.ol_wire.specs.Rule.{Table, Kept, Drawn, IsLasting}
 use Rattle.ol_wire.proofs.Places.{is_left}
 use Rattle.ol_wire.proofs.Held.{held_within, held_empty}
 use Rattle.ol_wire.proofs.StepsLists.{weigh_set}
 use Rattle.ol_wire.proofs.StepsKeep.{Change, after, step_keeps}
+use Rattle.ol_wire.proofs.StepsSwept.{swept_empty}
 
 ticket_first : (z : Parts) (u : ℕ) (a : Part) → part_of z u ≡ a → part_of z 0 ≢ a → 0 < u
 ticket_first z zero a e d = absurd (d e)
@@ -53,11 +52,12 @@ module _ (p : Plan) (s : Table) (k : Kept p s) (id : ℕ) (v : View) (here : get
     within : w < size p.parts
     within = omega (arith, (is_left p.parts w is).1)
 
-    miss : get_or s.words w 0 ≡ 0 → Change p s k v (missing v w) w 0 k.full
-    miss empty = record {
+    miss : (c : ℕ) → c < cells_of p.parts → w ≡ left_word p.parts c → IsIdle v → get_or s.words w 0 ≡ 0 → Change p s k v (missing v w) w 0 k.full
+    miss c low at idle empty = record {
       holds = refl;
       parts = (refl, refl);
       made = refl;
+      published = refl;
       pending = refl;
       dead = refl;
       wide = refl;
@@ -71,16 +71,18 @@ module _ (p : Plan) (s : Table) (k : Kept p s) (id : ℕ) (v : View) (here : get
       known = λ u y m. inl m;
       taken = λ u y m. inl m;
       due = λ u y m. m;
+      swept = swept_empty p s k id v here held c w low at is empty idle.0 idle.2;
     }
 
-    pub miss_keeps : get_or s.words w 0 ≡ 0 → Kept p (after s w 0 id (missing v w))
-    miss_keeps empty = step_keeps p s k id v (missing v w) w 0 k.full here held (miss empty)
+    pub miss_keeps : (c : ℕ) → c < cells_of p.parts → w ≡ left_word p.parts c → IsIdle v → get_or s.words w 0 ≡ 0 → Kept p (after s w 0 id (missing v w))
+    miss_keeps c low at idle empty = step_keeps p s k id v (missing v w) w 0 k.full here held (miss c low at idle empty)
 
     claim : get_or s.words w 0 ≢ 0 → Change p s k v (holding v w (get_or s.words w 0)) w 0 k.full
     claim some_pair = record {
       holds = refl;
       parts = (refl, refl);
       made = refl;
+      published = refl;
       pending = refl;
       dead = refl;
       wide = refl;
@@ -94,6 +96,7 @@ module _ (p : Plan) (s : Table) (k : Kept p s) (id : ℕ) (v : View) (here : get
       known = λ u y m. inl m;
       taken = claimed;
       due = λ u y m. m;
+      swept = λ n lt. inl lt;
     }
       where
         claimed : (u y : ℕ) → IsIn {X = ℕ × ℕ} (u, y) ((w, get_or s.words w 0) ∷ v.taken) → IsIn {X = ℕ × ℕ} (u, y) v.taken ⊎ ((part_of p.parts u ≡ left) × (y ≢ 0))
@@ -116,6 +119,7 @@ module _ (p : Plan) (s : Table) (k : Kept p s) (id : ℕ) (v : View) (here : get
       holds = refl;
       parts = (refl, refl);
       made = refl;
+      published = refl;
       pending = refl;
       dead = refl;
       wide = refl;
@@ -129,6 +133,7 @@ module _ (p : Plan) (s : Table) (k : Kept p s) (id : ℕ) (v : View) (here : get
       known = seen;
       taken = λ a y m. inl m;
       due = λ a y m. m;
+      swept = λ n lt. inl lt;
     }
       where
         seen : (a y : ℕ) → IsIn {X = ℕ × ℕ} (a, y) ((u, get_or s.words u 0) ∷ v.known) → IsIn {X = ℕ × ℕ} (a, y) v.known ⊎ ((get_or (set s.words u (get_or s.words u 0)) a 0 ≡ y) × (y ≢ 0) × IsLasting (part_of p.parts a))
@@ -157,6 +162,7 @@ module _ (p : Plan) (s : Table) (k : Kept p s) (id : ℕ) (v : View) (here : get
       holds = refl;
       parts = (refl, refl);
       made = refl;
+      published = refl;
       pending = refl;
       dead = refl;
       wide = refl;
@@ -177,6 +183,7 @@ module _ (p : Plan) (s : Table) (k : Kept p s) (id : ℕ) (v : View) (here : get
       known = λ u y m. inl m;
       taken = λ u y m. inl m;
       due = λ u y m. subst (λ (l : List (ℕ × ℕ)). IsIn {X = ℕ × ℕ} (u, y) l) (sym due) (inr (subst (λ (l : List (ℕ × ℕ)). IsIn {X = ℕ × ℕ} (u, y) (rest l)) due m));
+      swept = λ n lt. inl lt;
     }
 
     pub write_keeps : Kept p (after s i x id (wrote v))
@@ -196,6 +203,7 @@ module _ (p : Plan) (s : Table) (k : Kept p s) (id : ℕ) (v : View) (here : get
       holds = refl;
       parts = (refl, refl);
       made = refl;
+      published = refl;
       pending = refl;
       dead = refl;
       wide = length-set k.full 0 more;
@@ -209,6 +217,7 @@ module _ (p : Plan) (s : Table) (k : Kept p s) (id : ℕ) (v : View) (here : get
       known = λ u y m. inl m;
       taken = λ u y m. inl m;
       due = λ u y m. m;
+      swept = λ n lt. inl lt;
     }
 
     pub late_keeps : Kept p (after s 0 (get_or s.words 0 0 + 1) id (late v))

@@ -1,5 +1,5 @@
 -- A ticket below the fuel keeps the rule: the seat's pair is rewritten, in the words as in the net.
-use Rattle.std.proofs.Common.{◌≡◌, ◌≢◌, ℕ, suc, ◌+◌, ◌<◌, ◌≤◌, Bool, true, false, if◌then◌else◌, List, [], ◌∷◌, ◌++◌, length, Option, Some, None, ◌⊎◌, inl, inr, refl, sym, ap, ◌∙◌, subst, arith}
+use Rattle.std.proofs.Common.{◌≡◌, ◌≢◌, ℕ, suc, ◌+◌, ◌<◌, ◌≤◌, Bool, true, false, if◌then◌else◌, List, [], ◌∷◌, ◌++◌, length, Option, Some, None, ◌⊎◌, ◌↔◌, inl, inr, refl, sym, ap, ◌∙◌, subst, arith}
 use mathlib.Core.Option.{some}
 use lib.ListN.{get_elem?}
 use Rattle.std.specs.Prelude.{slice_index, slice_set}
@@ -17,13 +17,12 @@ use Rattle.ol_wire.specs.declared.plan.Plan.{Plan}
 use Rattle.ol_wire.specs.declared.view.View.{View}
 use Rattle.ol_wire.specs.References.{node_ref, kind_in, index_in, place_in, IsRef}
 use Rattle.ol_wire.specs.Layout.{block, place_of, size, born_wire}
-use Rattle.ol_wire.specs.Weights.{total, pairs, Even}
+use Rattle.ol_wire.specs.Weights.{pairs}
 use Rattle.ol_wire.specs.Events.{Event, rule_between, acting, event_of}
 use Rattle.ol_wire.specs.Edges.{edges_in, edges_of, pending_in, links_in, deaths, times, is_reached}
 use Rattle.ol_wire.specs.Blocks.{copies_of_f, copies_of_g, links_of, block_words}
 use Rattle.ol_wire.specs.Plays.{event_in, IsLookedUp, ticketed}
-use Rattle.ol_wire.specs.Stands.{Stands}
-use Rattle.ol_wire.specs.Rule.{Table, IsPlaced, Kept}
+use Rattle.ol_wire.specs.Rule.{Table, Kept}
 use Rattle.ol_wire.proofs.References.{kind_of_ref, index_of_ref, place_of_ref}
 use Rattle.ol_wire.proofs.Alike.{Alike, pairs_append}
 use Rattle.ol_wire.proofs.Claimed.{IsNodeAt, IsCellPair, cell_pair, field_none}
@@ -38,7 +37,9 @@ use Rattle.ol_wire.proofs.WordsAfter.{BlockStands, pair_event, event_is, emptied
 use Rattle.ol_wire.proofs.WordsAfter as words_after
 use Rattle.ol_wire.proofs.TicketJournal as journals
 use Rattle.ol_wire.proofs.TicketLists.{total_set}
+use Rattle.ol_wire.proofs.TicketRefs.{arity_few}
 use Rattle.ol_wire.proofs.TicketWords as words
+use Rattle.ol_wire.proofs.TicketCells as cells
 use Rattle.ol_wire.proofs.TicketSeats as seats
 use Rattle.ol_wire.proofs.Reached as reaching
 
@@ -173,8 +174,8 @@ module _ (p : Plan) (s : Table) (k : Kept p s) (id : ℕ) (v : View) (here : get
     abbrev n : ℕ
     n = length k.log
 
-    nodes : (u : NodeName) (m : Kind) (c' : ℕ) → HasNode M u m c' → NodeOf k.net (λ place. Born t place) x y kf i kg (action_of e.rule j) u m c'
-    nodes u m c' h = subst (λ n. NodeOf k.net (λ place. Born n place) x y kf i kg (action_of e.rule j) u m c') drawn_is ((follows.1.rewrites.nodes u m c').0 h)
+    nodes : (u : NodeName) (m : Kind) (c' : ℕ) → HasNode M u m c' ↔ NodeOf k.net (λ place. Born t place) x y kf i kg (action_of e.rule j) u m c'
+    nodes u m c' = subst (λ n. HasNode M u m c' ↔ NodeOf k.net (λ place. Born n place) x y kf i kg (action_of e.rule j) u m c') drawn_is (follows.1.rewrites.nodes u m c')
 
     abbrev event : Event
     event = pair_event z e.rule x y kf kg i j
@@ -198,10 +199,10 @@ module _ (p : Plan) (s : Table) (k : Kept p s) (id : ℕ) (v : View) (here : get
     g_slot q lt = omega (arith, lt, ap arity kind_g)
 
     f_field : (q : ℕ) → q < arity kf → (slice_index k.full (place_of z x + q) ≡ a q) × (a q ≢ 0) × IsRef (a q)
-    f_field q lt = let h = words.f_field p s k id v here w ready low q (f_slot q lt) in (ap (λ place. slice_index k.full (place + q)) (sym place_f) ∙ h.0, h.1, h.2)
+    f_field q lt = let h = words.f_field p s k id v here w ready low q (f_slot q lt) in (ap (λ place. slice_index k.full (place + q)) (sym place_f) ∙ h.0, h.1, h.2.0)
 
     g_field : (q : ℕ) → q < arity kg → (slice_index k.full (place_of z y + q) ≡ b q) × (b q ≢ 0) × IsRef (b q)
-    g_field q lt = let h = words.g_field p s k id v here w ready low q (g_slot q lt) in (ap (λ place. slice_index k.full (place + q)) (sym place_g) ∙ h.0, h.1, h.2)
+    g_field q lt = let h = words.g_field p s k id v here w ready low q (g_slot q lt) in (ap (λ place. slice_index k.full (place + q)) (sym place_g) ∙ h.0, h.1, h.2.0)
 
     pair_is : ((slice_index k.full w ≡ node_ref kf i (place_of z x)) × (slice_index k.full (suc w) ≡ node_ref kg j (place_of z y))) ⊎ ((slice_index k.full w ≡ node_ref kg j (place_of z y)) × (slice_index k.full (suc w) ≡ node_ref kf i (place_of z x)))
     pair_is = of c.pair
@@ -322,7 +323,7 @@ module _ (p : Plan) (s : Table) (k : Kept p s) (id : ℕ) (v : View) (here : get
           where
             few : (m : Bool) (k : Kind) → (if m then 0 else arity k) ≤ 2
             few true k = omega arith
-            few false k = words.arity_few k
+            few false k = arity_few k
 
             copies_few : (q : ℕ) → q < copies_of_f e → q < 2
             copies_few q h = omega (arith, h, few (is_meeting e.rule) (kind_in e.g))
@@ -335,10 +336,13 @@ module _ (p : Plan) (s : Table) (k : Kept p s) (id : ℕ) (v : View) (here : get
       log = log';
       net = M;
       full = full';
+      from = k.from ++ w ∷ [];
+      plan = k.plan;
       tickets = words.tickets_after p s k id v here w ready low;
       journal = follows.1.journal;
       words = words.words_after p s k id v here w ready low;
-      seats = seats.seats_after p s k id v here w ready low M x y kf kg i j faces c.f.is c.g.is nodes;
+      cells = cells.cells_after p s k id v here w ready low;
+      seats = seats.seats_after p s k id v here w ready low M x y kf kg i j faces c.f.is c.g.is nodes follows.1.journal;
       stands = record {
         ports = ports_after z k.net M x y kf kg i j n e.rule a b _ _ rest reached reached' rewritten;
         wires = wires_after z k.net M x y kf kg i j n e.rule a b _ _ rest reached reached' rewritten;

@@ -1,39 +1,30 @@
 -- The words after a ticket below the fuel.
-use Rattle.std.proofs.Common.{◌≡◌, ◌≢◌, ℕ, zero, suc, ◌+◌, ◌-◌, ◌*◌, ◌%◌, ◌/◌, ◌<◌, ◌≤◌, if◌then◌else◌, nat_eq, nat_lt, lt-ltb, eq-eqb, ne_eqb, ◌⊎◌, inl, inr, Bool, true, false, Option, Some, None, List, [], ◌∷◌, ◌++◌, length, get_or, set, slice_get, slice_index, slice_set, sym, refl, ap, ◌∙◌, subst, arith, length-set, get_or-set_other, get_or-set_same}
+use Rattle.std.proofs.Common.{◌≡◌, ◌≢◌, ℕ, zero, suc, ◌+◌, ◌-◌, ◌%◌, ◌/◌, ◌<◌, ◌≤◌, ◌⊎◌, inl, inr, Some, List, [], ◌∷◌, ◌++◌, length, get_or, set, slice_get, slice_index, slice_set, sym, refl, ap, ◌∙◌, subst, arith, length-set, get_or-set_other, get_or-set_same}
 use Rattle.std.proofs.lemmas.Bool.{cases_eq, cases_lt}
-use Rattle.std.proofs.lemmas.Bool.Decides.{nat_tests}
 use Rattle.std.proofs.lemmas.Option.{slice_get_within}
 use mathlib.Core.Option.{some}
 use lib.ListN.{get_elem?}
 use Rattle.ol_edges.specs.Edges.{IsIn}
-use Rattle.ol_net.specs.declared.parts.Kind.{Kind}
-use Rattle.ol_net.specs.declared.parts.Kind.TheVariants as kind
-use Rattle.ol_net.specs.declared.parts.Rule.{Rule}
 use Rattle.ol_net.specs.Parts.{arity}
 use Rattle.ol_rules.specs.declared.journal.NodeName.{NodeName}
-use Rattle.ol_rules.specs.declared.journal.NodeName.TheVariants.{Born}
-use Rattle.ol_rules.specs.Rewriting.{is_meeting}
-use Rattle.ol_rules.specs.Listed.{each}
-use Rattle.ol_rules.proofs.Alike.{meeting_alike}
-use Rattle.ol_rules.proofs.Lists.{in_each_of}
+use Rattle.ol_rules.specs.declared.journal.NodeName.TheVariants.{Init, Born}
 use Rattle.ol_wire.specs.declared.layout.Parts.{Parts}
 use Rattle.ol_wire.specs.declared.plan.Plan.{Plan}
-use Rattle.ol_wire.specs.declared.view.Link.{Link}
 use Rattle.ol_wire.specs.declared.view.View.{View}
-use Rattle.ol_wire.specs.References.{kind_in, index_in, place_in, wire_ref, IsNodeRef, IsRef}
-use Rattle.ol_wire.specs.Layout.{ticket, field, left, right, entry, part_of, block, size, place_of, born_wire, born_cell, start_cell, start_node}
+use Rattle.ol_wire.specs.References.{kind_in, place_in, IsNodeRef}
+use Rattle.ol_wire.specs.Layout.{ticket, field, left, right, entry, part_of, block, size, place_of, start_cell, start_node}
 use Rattle.ol_wire.specs.Weights.{total, pairs, weigh, Empties}
-use Rattle.ol_wire.specs.Events.{Event, rule_between, earlier, later, acting, event_of}
-use Rattle.ol_wire.specs.Blocks.{copies_of_f, copies_of_g, born_ref, born_field, block_words, to_write, joins_in, link_of, links_of}
+use Rattle.ol_wire.specs.Events.{Event}
+use Rattle.ol_wire.specs.Blocks.{block_words, to_write, links_of}
 use Rattle.ol_wire.specs.Plays.{rest, known_at, event_in, IsLookedUp, ticketed}
 use Rattle.ol_wire.specs.Starts.{facing_pairs}
-use Rattle.ol_wire.specs.Rule.{Table, IsView, IsLasting, Kept, WordsKeep, Drawn, links_at}
-use Rattle.ol_wire.proofs.Alike.{total_append}
-use Rattle.ol_wire.proofs.Held.{Holds, held_full, held_within, word_full, owner, total_from}
-use Rattle.ol_wire.proofs.Places.{part_entry, part_field, part_born_cell, part_start_cell, is_left}
-use Rattle.ol_wire.proofs.References.{node_sort, wire_sort}
+use Rattle.ol_wire.specs.Laid.{field_of, node_word}
+use Rattle.ol_wire.specs.Rule.{Table, IsView, IsLasting, IsMadeRef, Kept, WordsKeep, Drawn}
+use Rattle.ol_wire.proofs.Held.{Holds, held_full, held_within, word_full, owner}
+use Rattle.ol_wire.proofs.Places.{part_entry, part_field, part_start_cell, is_left}
 use Rattle.ol_wire.proofs.TicketJournal.{got_one_more, length_one_more}
 use Rattle.ol_wire.proofs.TicketLists.{total_set, by_place, weigh_set, put_words, put_length, put_else, put_there, put_weigh}
+use Rattle.ol_wire.proofs.TicketRefs.{event_of_pair, made_on, maybe_at, block_refs}
 
 -- the table after ticket t of seat id, whose view is v
 abbrev pub table_after : Table → ℕ → View → Table
@@ -77,137 +68,6 @@ module _ (z : Parts) (e : Event) (t w : ℕ) (full : List ℕ) where
 
   pub full_ticket : w ≢ 0 → 0 < length full → slice_index (full_after z e t w full) 0 ≡ t + 1
   full_ticket some_w wide = put_else (block z t) (block_words z e t) (set (set full 0 (t + 1)) w 0) 0 (inl (omega arith)) ∙ get_or-set_other (set full 0 (t + 1)) w 0 0 0 (λ e. some_w (sym e)) ∙ get_or-set_same full 0 (t + 1) 0 wide
-
--- the two references of an event are those of the pair
-acting_of : (P : ℕ → Type 0) (a b : Option Rule) (l r : ℕ) → P l → P r → P (acting a b l r).f × P (acting a b l r).g
-acting_of P (Some q) b l r x y = (x, y)
-acting_of P None (Some q) l r x y = (y, x)
-acting_of P None None l r x y = (x, y)
-
-pub event_of_pair : (P : ℕ → Type 0) (l r : ℕ) → P l → P r → P (event_of l r).f × P (event_of l r).g
-event_of_pair P l r x y = acting_of P (rule_between l r) (rule_between r l) l r x y
-
-chosen : (P : ℕ → Type 0) (b : Bool) (l r : ℕ) → P l → P r → P (if b then l else r)
-chosen P true l r x y = x
-chosen P false l r x y = y
-
--- what is a reference, if it isn't empty
-abbrev MaybeRef : ℕ → Type 0
-MaybeRef x = x ≢ 0 → IsRef x
-
-abbrev MaybeRefs : List ℕ → Type 0
-MaybeRefs [] = Unit {0}
-MaybeRefs (x ∷ xs) = MaybeRef x × MaybeRefs xs
-
-maybe_at : (xs : List ℕ) → MaybeRefs xs → (j : ℕ) → MaybeRef (get_or xs j 0)
-maybe_at [] h j n = absurd (n refl)
-maybe_at (x ∷ xs) h zero n = h.0 n
-maybe_at (x ∷ xs) h (suc j) n = maybe_at xs h.1 j n
-
-no_ref : MaybeRef 0
-no_ref n = absurd (n refl)
-
-wire_maybe : (u : ℕ) → MaybeRef (wire_ref u)
-wire_maybe u n = inr (wire_sort u)
-
-born_field_ref : (z : Parts) (e : Event) (t i s : ℕ) → MaybeRef (born_field z e t i s)
-born_field_ref z e t i s =
-    chosen MaybeRef (nat_lt i (copies_of_f e)) _ _ (chosen MaybeRef (nat_lt s (copies_of_g e)) _ _ (wire_maybe (born_wire z t i s)) no_ref)
-    (chosen MaybeRef (nat_lt i (copies_of_f e + copies_of_g e)) _ _ (chosen MaybeRef (nat_lt s (copies_of_f e)) _ _ (wire_maybe (born_wire z t s (i - copies_of_f e))) no_ref) no_ref)
-
-block_refs : (z : Parts) (e : Event) (t : ℕ) → IsNodeRef e.f → IsNodeRef e.g → MaybeRefs (block_words z e t)
-block_refs z e t f g =
-    let b = born_field_ref z e t in (
-      chosen MaybeRef (nat_lt (place_in e.f) (place_in e.g)) e.f e.g (λ n. inl f) (λ n. inl g),
-      (
-        chosen MaybeRef (nat_lt (place_in e.f) (place_in e.g)) e.g e.f (λ n. inl g) (λ n. inl f),
-        (b 0 0, (b 0 1, (b 1 0, (b 1 1, (b 2 0, (b 2 1, (b 3 0, (b 3 1, tt)))))))),
-      ),
-    )
-
-pub arity_few : (k : Kind) → arity k ≤ 2
-arity_few kind.Lam = omega arith
-arity_few kind.App = omega arith
-arity_few kind.Fan = omega arith
-arity_few kind.Croissant = omega arith
-arity_few kind.Bracket = omega arith
-arity_few kind.Eraser = omega arith
-
-few_joins : (b : Bool) (m n : ℕ) → m ≤ 2 → n ≤ 2 → (if b then m else (if b then 0 else n) + (if b then 0 else m)) ≤ 4
-few_joins true m n lm ln = omega arith
-few_joins false m n lm ln = omega arith
-
-pub joins_few : (e : Event) → joins_in e ≤ 4
-joins_few e = few_joins (is_meeting e.rule) (arity (kind_in e.f)) (arity (kind_in e.g)) (arity_few (kind_in e.f)) (arity_few (kind_in e.g))
-
-born_ref_node : (z : Parts) (e : Event) (t i : ℕ) → IsNodeRef (born_ref z e t i)
-born_ref_node z e t i = chosen IsNodeRef (nat_lt i (copies_of_f e)) _ _ (node_sort _ _ _) (node_sort _ _ _)
-
--- the ends of a ticket's links are references, where the fields hold references
-module _ (z : Parts) (e : Event) (t : ℕ) (a b : ℕ → ℕ) (fits : rule_between e.f e.g ≡ Some e.rule)
-    (a_refs : (s : ℕ) → s < arity (kind_in e.f) → IsRef (a s)) (b_refs : (s : ℕ) → s < arity (kind_in e.g) → IsRef (b s)) where
-  pub link_ends : (j : ℕ) → j < joins_in e → IsRef (link_of z e t a b j).one × IsRef (link_of z e t a b j).two
-  link_ends j lt = go (is_meeting e.rule) refl lt
-    where
-      two_of : (c d : ℕ) → j < c + d → c ≡ arity (kind_in e.g) → d ≡ arity (kind_in e.f) → IsRef (if nat_lt j c then b j else a (j - c))
-      two_of c d small p q = elim (cases_lt j c) [
-        | inl below ↦ subst IsRef (sym (ap (λ x. if x then b j else a (j - c)) (lt-ltb j c below))) (b_refs j (omega (arith, p, below)))
-        | inr above ↦
-            let x : nat_lt j c ≡ false = grind (arith, nat_tests) in
-            subst IsRef (sym (ap (λ x. if x then b j else a (j - c)) x)) (a_refs (j - c) (omega (arith, q, small, above)))
-      ]
-
-      go : (m : Bool) → is_meeting e.rule ≡ m → j < (if m then arity (kind_in e.f) else (if m then 0 else arity (kind_in e.g)) + (if m then 0 else arity (kind_in e.f)))
-          → IsRef (if m then a j else born_ref z e t j) × IsRef (if m then b j else if nat_lt j (if m then 0 else arity (kind_in e.g)) then b j else a (j - (if m then 0 else arity (kind_in e.g))))
-      go true q small = (a_refs j small, b_refs j (omega (arith, small, meeting_alike (kind_in e.f) (index_in e.f) (kind_in e.g) (index_in e.g) e.rule fits q)))
-      go false q small = (inl (born_ref_node z e t j), two_of (arity (kind_in e.g)) (arity (kind_in e.f)) small refl refl)
-
-abbrev one_if : Bool → ℕ
-one_if b = if b then 1 else 0
-
--- links whose cells stand two words apart
-module _ (row : ℕ → Link) (c : ℕ) (at : (j : ℕ) → (row j).cell ≡ c + 2 * j) where
-  row_links : ℕ → List Link
-  row_links n = each n (λ j. row j ∷ [])
-
-  last_at : (u n : ℕ) → links_at u (each (suc n) (λ j. row j ∷ [])) ≡ links_at u (each n (λ j. row j ∷ [])) + one_if (nat_eq (row n).cell u)
-  last_at u n = omega (arith, total_append (λ (l : Link). if nat_eq l.cell u then 1 else 0) (each n (λ j. row j ∷ [])) (row n ∷ []))
-
-  pub cell_from : (n u : ℕ) → 0 < links_at u (each n (λ j. row j ∷ [])) → (j : ℕ) × (j < n) × (u ≡ c + 2 * j)
-  cell_from zero u h = absurd (omega (arith, h))
-  cell_from (suc n) u h = elim (cases_eq (row n).cell u) [
-    | inl q ↦ (n, omega arith, omega (arith, at n, q))
-    | inr d ↦
-        let z : one_if (nat_eq (row n).cell u) ≡ 0 = ap one_if (ne_eqb (row n).cell u d) in
-        let t = cell_from n u (omega (arith, h, last_at u n, z)) in
-        let lt = t.1 in
-        (t.0, omega arith, t.2)
-  ]
-
-  pub cell_once : (n u : ℕ) → links_at u (each n (λ j. row j ∷ [])) ≤ 1
-  cell_once zero u = omega arith
-  cell_once (suc n) u = elim (cases_eq (row n).cell u) [
-    | inl q ↦
-        let one : one_if (nat_eq (row n).cell u) ≡ 1 = ap one_if (eq-eqb (row n).cell u q) in
-        elim (cases_eq (links_at u (each n (λ j. row j ∷ []))) 0) [
-          | inl empty ↦ omega (arith, last_at u n, one, empty)
-          | inr more ↦ let t = cell_from n u (omega (arith, more)) in absurd (let lt = t.1 in let e = t.2 in omega (arith, at n, q))
-        ]
-    | inr d ↦
-        let z : one_if (nat_eq (row n).cell u) ≡ 0 = ap one_if (ne_eqb (row n).cell u d) in
-        omega (arith, last_at u n, z, cell_once n u)
-  ]
-
--- a link whose cell has left word u
-pub link_with : (u : ℕ) (ls : List Link) → 0 < links_at u ls → (l : Link) × IsIn l ls × (l.cell ≡ u)
-link_with u [] h = absurd (omega (arith, h))
-link_with u (l ∷ ls) h = elim (cases_eq l.cell u) [
-  | inl q ↦ (l, inl refl, q)
-  | inr d ↦
-      let n : one_if (nat_eq l.cell u) ≡ 0 = ap one_if (ne_eqb l.cell u d) in
-      let r = link_with u ls (omega (arith, h, n)) in
-      (r.0, inr r.1, r.2)
-]
 
 -- What all views hold with the words: the seat's pair is gone, and its block is due.
 written_after : (h : ℕ → ℕ → ℕ) → Empties h → (words full : List ℕ) (views : List View) (id : ℕ) (v v' : View) (n b t w x : ℕ) (xs : List ℕ)
@@ -274,7 +134,7 @@ module _ (p : Plan) (s : Table) (k : Kept p s) (id : ℕ) (v : View) (here : get
   seen = (id, here)
 
   pub parts_are : v.parts ≡ z
-  parts_are = (k.seats.plan v seen ready.held).0
+  parts_are = (k.seats.plans v seen ready.held).0
 
   claimed : IsIn (w, v.last.0) v.taken
   claimed = subst (λ l. IsIn (w, v.last.0) l) (sym ready.taken) (inl refl)
@@ -319,24 +179,24 @@ module _ (p : Plan) (s : Table) (k : Kept p s) (id : ℕ) (v : View) (here : get
 
   sides : IsNodeRef v.last.0 × IsNodeRef v.last.1
   sides =
-      let h = k.words.pairs w is_left_word (λ q. left_some (sym left_full ∙ q)) in
+      let h = k.words.cells w is_left_word (λ q. left_some (sym left_full ∙ q)) in
       (subst IsNodeRef left_full h.0, subst IsNodeRef right_full h.1)
 
   pub nodes_are : IsNodeRef e.f × IsNodeRef e.g
   nodes_are = event_of_pair IsNodeRef v.last.0 v.last.1 sides.0 sides.1
 
-  field_of : (n y : ℕ) → IsIn (n, y) v.known → (slice_index k.full n ≡ y) × (y ≢ 0) × IsRef y
-  field_of n y i =
+  field_known : (n y : ℕ) → IsIn (n, y) v.known → (slice_index k.full n ≡ y) × (y ≢ 0) × IsMadeRef z k.log y
+  field_known n y i =
       let f = known_full v n y seen i in
       let g : n ≢ 0 = f.2 in
-      (f.0, f.1, subst IsRef f.0 (k.words.refs n (omega (arith, g)) (λ q. f.1 (sym f.0 ∙ q))))
+      (f.0, f.1, subst (IsMadeRef z k.log) f.0 (k.words.refs n (omega (arith, g)) (λ q. f.1 (sym f.0 ∙ q))))
 
   -- the fields of f and of g
-  pub f_field : (n : ℕ) → n < arity (kind_in e.f) → (slice_index k.full (place_in e.f + n) ≡ a n) × (a n ≢ 0) × IsRef (a n)
-  f_field n lt = field_of (place_in e.f + n) (a n) (ready.f_fields n lt)
+  pub f_field : (n : ℕ) → n < arity (kind_in e.f) → (slice_index k.full (place_in e.f + n) ≡ a n) × (a n ≢ 0) × IsMadeRef z k.log (a n)
+  f_field n lt = field_known (place_in e.f + n) (a n) (ready.f_fields n lt)
 
-  pub g_field : (n : ℕ) → n < arity (kind_in e.g) → (slice_index k.full (place_in e.g + n) ≡ b n) × (b n ≢ 0) × IsRef (b n)
-  g_field n lt = field_of (place_in e.g + n) (b n) (ready.g_fields n lt)
+  pub g_field : (n : ℕ) → n < arity (kind_in e.g) → (slice_index k.full (place_in e.g + n) ≡ b n) × (b n ≢ 0) × IsMadeRef z k.log (b n)
+  g_field n lt = field_known (place_in e.g + n) (b n) (ready.g_fields n lt)
 
   pub due_is : (ticketed v t).due ≡ to_write (block z t) (block_words z e t)
   due_is = ap (λ x. to_write (block x t) (block_words x e t)) parts_are
@@ -424,7 +284,7 @@ module _ (p : Plan) (s : Table) (k : Kept p s) (id : ℕ) (v : View) (here : get
     where
       of_owner : (slice_index s.words 0 ≡ slice_index k.full 0) ⊎ ((u : View) × IsView s u × Holds u 0 (slice_index k.full 0)) → slice_index k.full 0 ≡ t
       of_owner (inl q) = sym q
-      of_owner (inr (u, is, inl i)) = absurd (k.seats.due_parts u 0 (slice_index k.full 0) is i)
+      of_owner (inr (u, is, inl i)) = absurd ((k.seats.due u 0 (slice_index k.full 0) is i).1)
       of_owner (inr (u, is, inr i)) = let bad : ticket ≡ left = (k.seats.taken u 0 (slice_index k.full 0) is i).0 in absurd (cc)
 
   written : (h : ℕ → ℕ → ℕ) → Empties h → weigh h s'.words (size z) + total (λ (u : View). pairs h u.due + pairs h u.taken) s'.views ≡ weigh h full' (size z)
@@ -449,111 +309,74 @@ module _ (p : Plan) (s : Table) (k : Kept p s) (id : ℕ) (v : View) (here : get
     ]
   ]
 
-  refs : (u : ℕ) → 0 < u → slice_index full' u ≢ 0 → IsRef (slice_index full' u)
-  refs u some_u = by_word (λ u y. y ≢ 0 → IsRef y) (λ j lt. maybe_at (block_words z e t) (block_refs z e t nodes_are.0 nodes_are.1) j) (λ n. absurd (n refl)) (λ u n d. k.words.refs u (omega (arith, n))) u (λ q. omega (arith, q, some_u))
+  -- the two nodes of the pair have been made
+  nodes_made : IsMadeRef z k.log e.f × IsMadeRef z k.log e.g
+  nodes_made = event_of_pair (IsMadeRef z k.log) v.last.0 v.last.1 (subst (IsMadeRef z k.log) left_full (k.words.refs w (omega (arith, not_ticket)) (λ q. left_some (sym left_full ∙ q))))
+      (subst (IsMadeRef z k.log) right_full (k.words.refs (suc w) (omega arith) (λ q. right_some (sym right_full ∙ q))))
 
-  pairs_are : (u : ℕ) → part_of z u ≡ left → slice_index full' u ≢ 0 → IsNodeRef (slice_index full' u) × IsNodeRef (slice_index full' (suc u))
-  pairs_are u r n =
+  pub made_longer : (r : ℕ) → IsMadeRef z k.log r → IsMadeRef z (k.log ++ e ∷ []) r
+  made_longer r h = made_on z k.log e r h
+
+  refs : (u : ℕ) → 0 < u → slice_index full' u ≢ 0 → IsMadeRef z (k.log ++ e ∷ []) (slice_index full' u)
+  refs u some_u =
+      let n = block z (length (k.log ++ e ∷ [])) in
+      let new = block_refs z e t n (omega (arith, log_longer)) (made_longer e.f nodes_made.0) (made_longer e.g nodes_made.1) in
+      by_word (λ u y. y ≢ 0 → IsMadeRef z (k.log ++ e ∷ []) y) (λ j lt. maybe_at n (block_words z e t) new j) (λ d. absurd (d refl)) (λ u d d' y. made_longer (slice_index k.full u) (k.words.refs u (omega (arith, d)) y)) u (λ q. omega (arith, q, some_u))
+
+  cells : (u : ℕ) → part_of z u ≡ left → slice_index full' u ≢ 0 → IsNodeRef (slice_index full' u) × IsNodeRef (slice_index full' (suc u))
+  cells u r n =
       let d : u ≢ w = λ q. n (ap (slice_index full') q ∙ cell_gone) in
       let x = left_word_still u r d in
       let y = right_word_still (suc u) (is_left z u r).0 in
-      let h = k.words.pairs u r (λ q. n (x ∙ q)) in
+      let h = k.words.cells u r (λ q. n (x ∙ q)) in
       (subst IsNodeRef (sym x) h.0, subst IsNodeRef (sym y) h.1)
 
-  starts : (c : ℕ) → c < z.cells → slice_index full' (start_cell z c) ≢ 0
-      → (n : ℕ × ℕ) × (slice_get (facing_pairs p.start.value) c ≡ Some n) × (place_in (slice_index full' (start_cell z c)) ≡ start_node z n.0) × (place_in (slice_index full' (suc (start_cell z c))) ≡ start_node z n.1)
-  starts c lt n =
-      let r = part_start_cell z c lt in
-      let d : start_cell z c ≢ w = λ q. n (ap (slice_index full') q ∙ cell_gone) in
-      let x = left_word_still (start_cell z c) r.0 d in
-      let y = right_word_still (suc (start_cell z c)) r.1 in
-      let h = k.words.starts c lt (λ q. n (x ∙ q)) in
-      (h.0, h.1, ap place_in x ∙ h.2, ap place_in y ∙ h.3)
+  fields : (n c : ℕ) → n < z.nodes → c < 2 → slice_index full' (start_node z n + c) ≡ field_of p.start.value z n c
+  fields n c lt small = full_else z e t w k.full (start_node z n + c) (inl (omega (arith, lt, small))) (λ q. omega (arith, q))
+      (λ q. let bad : field (Init n) c ≡ left = sym (part_field z (Init n) c lt small) ∙ ap (part_of z) q ∙ is_left_word in cc) ∙ k.words.fields n c lt small
+
+  starts : (c : ℕ) (n : ℕ × ℕ) → slice_get (facing_pairs p.start.value) c ≡ Some n
+      → ((slice_index full' (start_cell z c) ≡ 0) ⊎ (slice_index full' (start_cell z c) ≡ node_word p.start.value z n.0)) × (slice_index full' (suc (start_cell z c)) ≡ node_word p.start.value z n.1)
+  starts c n at =
+      let r = part_start_cell z c (omega (arith, slice_get_within (facing_pairs p.start.value) c n at, k.plan.parts.cells)) in
+      let h = k.words.starts c n at in
+      (first r.0 h.0 (cases_eq (start_cell z c) w), right_word_still (suc (start_cell z c)) r.1 ∙ h.1)
+    where
+      node : ℕ
+      node = node_word p.start.value z n.0
+
+      first : part_of z (start_cell z c) ≡ left → (slice_index k.full (start_cell z c) ≡ 0) ⊎ (slice_index k.full (start_cell z c) ≡ node) → (start_cell z c ≡ w) ⊎ (start_cell z c ≢ w)
+          → (slice_index full' (start_cell z c) ≡ 0) ⊎ (slice_index full' (start_cell z c) ≡ node)
+      first r h (inl q) = inl (ap (slice_index full') q ∙ cell_gone)
+      first r (inl h) (inr d) = inl (left_word_still (start_cell z c) r d ∙ h)
+      first r (inr h) (inr d) = inr (left_word_still (start_cell z c) r d ∙ h)
 
   fresh : (u : ℕ) → block z (length (k.log ++ e ∷ [])) ≤ u → slice_index full' u ≡ 0
   fresh u le = full_else z e t w k.full u (inr (omega (arith, le, log_longer))) (λ q. omega (arith, le, q)) (λ q. omega (arith, le, q, cell_below, log_longer)) ∙ k.words.fresh u (omega (arith, le, log_longer, drawn_is))
 
-  entry_word_still : (n j : ℕ) → n < t → j < 2 → slice_index full' (block z n + j) ≡ slice_index k.full (block z n + j)
-  entry_word_still n j lt small = full_else z e t w k.full (block z n + j) (inl (omega (arith, lt, small))) (λ q. omega (arith, q)) (λ q.
-      let bad : entry ≡ left = sym (part_entry z n j (omega (arith, lt, low)) small) ∙ ap (part_of z) q ∙ is_left_word in cc)
+  -- the first ten words of a block aren't those of a cell
+  no_cell : (n j : ℕ) → n < z.fuel → j < 10 → part_of z (block z n + j) ≢ left
+  no_cell n j lt small r = elim (cases_lt j 2) [
+    | inl first ↦ let bad : entry ≡ left = sym (part_entry z n j lt first) ∙ r in cc
+    | inr later ↦
+        let i = (j - 2) / 2 in
+        let c = (j - 2) % 2 in
+        let q : block z n + j ≡ place_of z (Born n i) + c = omega arith in
+        let bad : field (Born n i) c ≡ left = sym (ap (part_of z) q ∙ part_field z (Born n i) c (lt, omega arith) (omega arith)) ∙ r in
+        cc
+  ]
 
-  entries : (n : ℕ) (x : Event) → slice_get (k.log ++ e ∷ []) n ≡ Some x → (slice_index full' (block z n) ≡ earlier x.f x.g) × (slice_index full' (block z n + 1) ≡ later x.f x.g)
-  entries n x q = go (got_one_more k.log e x n q)
+  block_still : (n j : ℕ) → n < t → j < 10 → slice_index full' (block z n + j) ≡ slice_index k.full (block z n + j)
+  block_still n j lt small = full_else z e t w k.full (block z n + j) (inl (omega (arith, lt, small))) (λ q. omega (arith, q)) (λ q. no_cell n j (omega (arith, lt, low)) small (ap (part_of z) q ∙ is_left_word))
+
+  entries : (n j : ℕ) (x : Event) → slice_get (k.log ++ e ∷ []) n ≡ Some x → j < 10 → slice_index full' (block z n + j) ≡ slice_index (block_words z x n) j
+  entries n j x q small = go (got_one_more k.log e x n q)
     where
-      go : (slice_get k.log n ≡ Some x) ⊎ ((n ≡ length k.log) × (x ≡ e)) → (slice_index full' (block z n) ≡ earlier x.f x.g) × (slice_index full' (block z n + 1) ≡ later x.f x.g)
-      go (inl old) =
-          let lt : n < t = omega (arith, slice_get_within k.log n x old, drawn_is) in
-          let h = k.words.entries n x old in
-          let at : block z n + 0 ≡ block z n = omega arith in
-          (sym (ap (slice_index full') at) ∙ entry_word_still n 0 lt (omega arith) ∙ ap (slice_index k.full) at ∙ h.0, entry_word_still n 1 lt (omega arith) ∙ h.1)
+      go : (slice_get k.log n ≡ Some x) ⊎ ((n ≡ length k.log) × (x ≡ e)) → slice_index full' (block z n + j) ≡ slice_index (block_words z x n) j
+      go (inl old) = block_still n j (omega (arith, slice_get_within k.log n x old, drawn_is)) small ∙ k.words.entries n j x old small
       go (inr new) =
-          let is_last : n ≡ length k.log = new.0 in
-          let at : block z n ≡ block z t + 0 = omega (arith, is_last, drawn_is) in
-          let next : block z n + 1 ≡ block z t + 1 = omega (arith, is_last, drawn_is) in (
-            ap (slice_index full') at ∙ full_there z e t w k.full 0 (omega arith) low k.words.full_wide ∙ ap (λ (x : Event). earlier x.f x.g) (sym new.1),
-            ap (slice_index full') next ∙ full_there z e t w k.full 1 (omega arith) low k.words.full_wide ∙ ap (λ (x : Event). later x.f x.g) (sym new.1),
-          )
-
-  -- the links of the ticket
-  pub link_found : (l : Link) → IsIn l (ticketed v t).pending → (j : ℕ) × (j < joins_in e) × (l ≡ link_of z e t a b j)
-  link_found l i = of_row (in_each_of l (joins_in e) (λ j. link_of z e t a b j ∷ []) (subst (λ ls. IsIn l ls) pending_is i))
-    where
-      one : (j : ℕ) → IsIn l (link_of z e t a b j ∷ []) → l ≡ link_of z e t a b j
-      one j (inl q) = q
-      one j (inr h) = absurd h
-
-      of_row : (j : ℕ) × (j < joins_in e) × IsIn l (link_of z e t a b j ∷ []) → (j : ℕ) × (j < joins_in e) × (l ≡ link_of z e t a b j)
-      of_row r = (r.0, r.1, one r.0 r.2)
-
-  abbrev Unpublished : View → Type 0
-  Unpublished u = (l : Link) → IsIn l u.pending → (part_of z l.cell ≡ left) × (l.cell < block z (length (k.log ++ e ∷ []))) × (slice_index full' l.cell ≡ 0) × (slice_index full' (suc l.cell) ≡ 0)
-
-  unpublished_new : Unpublished (ticketed v t)
-  unpublished_new l i =
-      let h = link_found l i in
-      let lt : h.0 < 4 = omega (arith, h.1, joins_few e) in
-      let c : l.cell ≡ born_cell z t h.0 = ap (λ (l : Link). l.cell) h.2 in
-      let r = part_born_cell z t h.0 low lt in
-      let empty : (u : ℕ) → block z t + 10 ≤ u → slice_index full' u ≡ 0 = λ u le. full_else z e t w k.full u (inr le) (λ q. omega (arith, le, q)) (λ q. omega (arith, le, q, cell_below)) ∙ k.words.fresh u (omega (arith, le, drawn_is)) in
-      (ap (part_of z) c ∙ r.0, omega (arith, c, lt, log_longer), empty l.cell (omega (arith, c)), empty (suc l.cell) (omega (arith, c)))
-
-  unpublished_old : (u : View) → IsView s u → Unpublished u
-  unpublished_old u is l i =
-      let h = k.words.unpublished u l is i in
-      let d : l.cell ≢ w = λ q. left_some (sym left_full ∙ ap (slice_index k.full) (sym q) ∙ h.2) in
-      (h.0, omega (arith, h.1, log_longer, drawn_is), left_word_still l.cell h.0 d ∙ h.2, right_word_still (suc l.cell) (is_left z l.cell h.0).0 ∙ h.3)
-
-  abbrev LinkRefs : View → Type 0
-  LinkRefs u = (l : Link) → IsIn l u.pending → IsRef l.one × IsRef l.two
-
-  link_refs_new : LinkRefs (ticketed v t)
-  link_refs_new l i =
-      let h = link_found l i in
-      let r = link_ends z e t a b ready.rule (λ n lt. (f_field n lt).2) (λ n lt. (g_field n lt).2) h.0 h.1 in
-      subst (λ (l : Link). IsRef l.one × IsRef l.two) (sym h.2) r
-
-  one_link : (u : ℕ) → total (λ (x : View). links_at u x.pending) s'.views ≤ 1
-  one_link u =
-      let change = total_set (λ (x : View). links_at u x.pending) s.views id v (ticketed v t) here in
-      let gone : links_at u v.pending ≡ 0 = ap (links_at u) ready.nothing_pending in
-      let come : links_at u (ticketed v t).pending ≡ links_at u (links_of z e t a b) = ap (links_at u) pending_is in
-      elim (cases_eq (links_at u (links_of z e t a b)) 0) [
-        | inl nothing ↦ omega (arith, change, gone, come, nothing, k.words.one_link u)
-        | inr some_new ↦ elim (cases_eq (total (λ (x : View). links_at u x.pending) s.views) 0) [
-          | inl nothing ↦ omega (arith, change, gone, come, nothing, cell_once (link_of z e t a b) (block z t + 14) (λ j. refl) (joins_in e) u)
-          | inr some_old ↦
-              let at = cell_from (link_of z e t a b) (block z t + 14) (λ j. refl) (joins_in e) u (omega (arith, some_new)) in
-              absurd (omega (arith, at.2, old_cell u (omega (arith, some_old))))
-        ]
-      ]
-    where
-      old_cell : (u : ℕ) → 0 < total (λ (x : View). links_at u x.pending) s.views → u < block z t
-      old_cell u h =
-          let o = total_from (λ (x : View). links_at u x.pending) s.views h in
-          let l = link_with u o.1.pending o.3 in
-          let lt = (k.words.unpublished o.1 l.0 (o.0, o.2) l.1).1 in
-          let c : l.0.cell ≡ u = l.2 in
-          omega (arith, lt, c, drawn_is)
+          let is_t : n ≡ t = new.0 ∙ drawn_is in
+          ap (λ n. slice_index full' (block z n + j)) is_t ∙ full_there z e t w k.full j small low k.words.full_wide ∙ ap (λ t. slice_index (block_words z e t) j) (sym is_t) ∙ ap (λ (x : Event). slice_index (block_words z x n) j) (sym new.1)
 
   abbrev Knows : View → Type 0
   Knows u = (n y : ℕ) → IsIn (n, y) u.known → (slice_index s'.words n ≡ y) × (y ≢ 0) × IsLasting (part_of z n)
@@ -570,12 +393,10 @@ module _ (p : Plan) (s : Table) (k : Kept p s) (id : ℕ) (v : View) (here : get
     full_wide = wide';
     written = written;
     refs = refs;
-    pairs = pairs_are;
+    cells = cells;
+    fields = fields;
     starts = starts;
     fresh = fresh;
     entries = entries;
-    unpublished = λ u l is. viewed Unpublished unpublished_new unpublished_old u is l;
-    link_refs = λ u l is. viewed LinkRefs link_refs_new (λ x o l. k.words.link_refs x l o) u is l;
-    one_link = one_link;
     known = λ u n y is. viewed Knows (λ n y i. absurd i) known_old u is n y;
   }

@@ -9,8 +9,7 @@ use Rattle.ol_rules.specs.Listed.{each}
 use Rattle.ol_wire.specs.declared.layout.Parts.{Parts}
 use Rattle.ol_wire.specs.References.{node_ref, wire_ref}
 use Rattle.ol_wire.specs.Layout.{port_word, start_node, start_wire, start_cell, block, size}
-use Rattle.ol_wire.specs.Sizes.{IsSmall}
-use Rattle.ol_wire.specs.Starts.{wire_with, pair_with, facing_pairs}
+use Rattle.ol_wire.specs.Starts.{facing_pairs, comes_first, wire_at}
 
 -- the reference of a node, or 0 where no live node has the number
 abbrev pub ref_of : Parts → ℕ → Option (Kind × ℕ) → ℕ
@@ -30,17 +29,13 @@ word_to net z n (Some (Of m s)) = if s == 0 then node_word net z m.0 else 0
 abbrev pub word_of_port : Graph → Parts → ℕ → ℕ
 word_of_port net z n = word_to net z n (partner_of net (Free n))
 
--- the wire of slot s + 1 of node n, where it has one and comes first
-abbrev pub wire_at : Graph → ℕ → ℕ → List (ℕ × ℕ)
-wire_at net n s = wire_with n (suc s) (partner_of net (Of (record { 0 = n }) (suc s)))
-
 -- the number of wires that come before that of slot s + 1 of node n
 abbrev pub wires_before : Graph → ℕ → ℕ → ℕ
 wires_before net n s = length (each n (λ m. each 2 (wire_at net m))) + length (each s (wire_at net n))
 
 -- the number of the wire between slot s + 1 of node n and slot u of node m: that of the slot which comes first
 abbrev pub wire_number : Graph → ℕ → ℕ → ℕ → ℕ → ℕ
-wire_number net n s m u = if nat_lt (3 * n + suc s) (3 * m + u) then wires_before net n s else wires_before net m (u - 1)
+wire_number net n s m u = if comes_first n (suc s) m u then wires_before net n s else wires_before net m (u - 1)
 
 -- the field of slot s + 1 of node n, by its partner
 abbrev pub field_to : Graph → Parts → ℕ → ℕ → Option Port → ℕ
@@ -50,18 +45,6 @@ field_to net z n s (Some (Of m u)) = if u == 0 then node_word net z m.0 else wir
 
 abbrev pub field_of : Graph → Parts → ℕ → ℕ → ℕ
 field_of net z n s = field_to net z n s (partner_of net (Of (record { 0 = n }) (suc s)))
-
--- the two words of each pair
-abbrev pub cell_words : Graph → Parts → List (ℕ × ℕ) → List ℕ
-cell_words net z [] = []
-cell_words net z (p ∷ ps) = node_word net z p.0 ∷ node_word net z p.1 ∷ cell_words net z ps
-
--- bounds under which all references and all numbers of words are small
-pub record HasRoom (net : Graph) (z : Parts) : Type 0 where
-  pub parts : IsSmall z
-  pub free : net.free ≤ 1000000
-  pub nodes : length net.nodes ≤ 1000000
-  pub indexes : top_index_of net.nodes ≤ 1000000
 
 -- The net is laid out in these words.
 pub record IsLaid (net : Graph) (z : Parts) (words : List ℕ) : Type 0 where
@@ -73,17 +56,19 @@ pub record IsLaid (net : Graph) (z : Parts) (words : List ℕ) : Type 0 where
   pub cells : (c : ℕ) (p : ℕ × ℕ) → slice_get (facing_pairs net) c ≡ Some p → (slice_index words (start_cell z c) ≡ node_word net z p.0) × (slice_index words (suc (start_cell z c)) ≡ node_word net z p.1)
   pub blocks : (w : ℕ) → block z 0 ≤ w → slice_index words w ≡ 0
 
--- While it is laid out: the fields before slot s + 1 of node n are there, and nothing is behind them.
-pub record HasFields (net : Graph) (z : Parts) (words : List ℕ) (n s : ℕ) : Type 0 where
-  pub long : length words ≡ start_node z n + s
-  pub before : (m u : ℕ) → u < 2 → 2 * m + u < 2 * n + s → slice_index words (start_node z m + u) ≡ field_of net z m u
-
+-- what is added for each free port, and for each node
 abbrev pub port_row : Graph → Parts → ℕ → List ℕ
 port_row net z n = word_of_port net z n ∷ []
 
 abbrev pub field_row : Graph → Parts → ℕ → List ℕ
 field_row net z n = field_of net z n 0 ∷ field_of net z n 1 ∷ []
 
--- the pair of node n, where it faces a node of a greater number
-abbrev pub pair_at : Graph → ℕ → List (ℕ × ℕ)
-pair_at net n = pair_with n (partner_of net (Of (record { 0 = n }) 0))
+-- the two words of each pair
+abbrev pub cell_words : Graph → Parts → List (ℕ × ℕ) → List ℕ
+cell_words net z [] = []
+cell_words net z (p ∷ ps) = node_word net z p.0 ∷ node_word net z p.1 ∷ cell_words net z ps
+
+-- While it is laid out: the fields before slot s + 1 of node n are there, and nothing is behind them.
+pub record HasFields (net : Graph) (z : Parts) (words : List ℕ) (n s : ℕ) : Type 0 where
+  pub long : length words ≡ start_node z n + s
+  pub before : (m u : ℕ) → u < 2 → 2 * m + u < 2 * n + s → slice_index words (start_node z m + u) ≡ field_of net z m u

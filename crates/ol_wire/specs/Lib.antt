@@ -11,8 +11,12 @@ pub mod Weights
 pub mod Views
 pub mod Rule
 pub mod Plays
+pub mod LinkPlays
+pub mod Links
 pub mod Stand
 pub mod Closed
 pub mod Standing
-pub mod Holds
+pub mod TurnPlays
+pub mod Hands
+pub mod Turns
 pub mod Rewrites

@@ -119,7 +119,7 @@ moved v w b c = record v { pending = relinked v.pending b c; dead = v.dead ++ w 
 abbrev pub publishing : View → ℕ → View
 publishing v w = record v { pending = rest v.pending; known = []; published = v.published ++ cell_at v.parts w ∷ [] }
 
--- what one seat holds and has done goes to another, and nothing is left
+-- what one seat holds and has done goes to another
 abbrev pub joined : View → View → View
 joined v w = record v {
   claimed = v.claimed ++ w.claimed;
@@ -130,9 +130,6 @@ joined v w = record v {
   dead = v.dead ++ w.dead;
   swept = 0;
 }
-
-abbrev pub emptied : View → View
-emptied w = fresh w.parts w.seats 0
 
 -- one seat is cut off
 abbrev pub one_seat : View → View

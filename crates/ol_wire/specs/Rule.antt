@@ -1,5 +1,5 @@
 -- What holds of the words and the views between any two steps.
-use Rattle.std.specs.Prelude.{◌≡◌, ◌≢◌, ℕ, suc, ◌+◌, ◌<◌, ◌≤◌, ◌⊎◌, true, nat_eq, if◌then◌else◌, List, [], length, map, Some, slice_index, slice_get}
+use Rattle.std.specs.Prelude.{◌≡◌, ◌≢◌, ℕ, suc, ◌+◌, ◌<◌, ◌≤◌, ◌==◌, ◌⊎◌, true, nat_eq, if◌then◌else◌, List, [], length, map, is_some, count_by, Some, slice_index, slice_get}
 use mathlib.Core.Option.{some}
 use lib.ListN.{get_elem?}
 use Rattle.atomic_table.specs.Table.{State}
@@ -7,6 +7,7 @@ use Rattle.ol_edges.specs.Edges.{IsIn, bit}
 use Rattle.ol_net.specs.declared.parts.Kind.{Kind}
 use Rattle.ol_net.specs.Nets.{NamedNet, HasNode, IsNet, net_under}
 use Rattle.ol_net.specs.Numbered.{net_of}
+use Rattle.ol_net.specs.Replace.{top_index_of}
 use Rattle.ol_net.specs.Parts.{arity, is_eraser}
 use Rattle.ol_rules.specs.declared.journal.NodeName.{NodeName}
 use Rattle.ol_rules.specs.declared.journal.NodeName.TheVariants.{Init, Born}
@@ -24,9 +25,10 @@ use Rattle.ol_wire.specs.Weights.{total, pairs, numbered, weigh, Empties}
 use Rattle.ol_wire.specs.Events.{Event, rule_between, entry_of, IsStuckPair, IsPlayed}
 use Rattle.ol_wire.specs.Blocks.{block_words}
 use Rattle.ol_wire.specs.Sizes.{IsSmall}
-use Rattle.ol_wire.specs.Edges.{is_made, is_reached, deaths, edges_of, links_in}
+use Rattle.ol_wire.specs.Edges.{is_made, is_reached, times, deaths, edges_of, links_in}
 use Rattle.ol_wire.specs.Stands.{Stands}
 use Rattle.ol_wire.specs.Views.{fresh, IsSpent, past_fuel}
+use Rattle.ol_wire.specs.Plays.{cell_at}
 
 abbrev pub Table : Type 0
 Table = State (Unit {0}) View
@@ -46,6 +48,14 @@ IsView s v = (id : ℕ) × (get_elem? s.views id ≡ some v)
 abbrev pub links_at : ℕ → List Link → ℕ
 links_at w links = total (λ (l : Link). if nat_eq l.cell w then 1 else 0) links
 
+-- how often the cell with left word w was published
+abbrev pub times_published : Parts → ℕ → List View → ℕ
+times_published z w views = total (λ (v : View). times (cell_at z w) v.published) views
+
+-- whether a word holds something, as a number
+abbrev pub filled : ℕ → ℕ
+filled word = if word == 0 then 0 else 1
+
 -- a name that a node may have after so many tickets
 abbrev pub IsPlaced : Parts → ℕ → NodeName → Type 0
 IsPlaced z tickets (Init k) = k < z.nodes
@@ -57,7 +67,7 @@ IsLasting (field x s) = Unit {0}
 IsLasting right = Unit {0}
 IsLasting other = ⊥
 
--- a word that the seat with the ticket writes: a field, or a node of the entry
+-- a word that the seat with the ticket writes before it makes links: a field, or a node of the entry
 abbrev pub IsOwn : Part → Type 0
 IsOwn (field x s) = Unit {0}
 IsOwn entry = Unit {0}
@@ -69,8 +79,15 @@ pub record Drawn (fuel word tickets : ℕ) : Type 0 where
   pub below : word < fuel → tickets ≡ word
   pub above : fuel ≤ word → tickets ≡ fuel
 
--- The parts are those of the start net, and so small that each number fits its word.
+-- The start is a net, all its numbers are those of live nodes, and no index is great.
+pub record IsStarted (p : Plan) : Type 0 where
+  pub net : IsNet (net_of p.start.value)
+  pub whole : count_by is_some p.start.value.nodes ≡ length p.start.value.nodes
+  pub low : top_index_of p.start.value.nodes ≤ 1000000
+
+-- The parts are those of this net, and so small that each number fits its word.
 pub record PlanKeeps (p : Plan) : Type 0 where
+  pub started : IsStarted p
   pub parts : AreParts p.start.value p.parts.fuel p.parts
   pub small : IsSmall p.parts
   pub seats : (0 < p.seats) × (p.seats ≤ 64)
@@ -108,29 +125,37 @@ pub record WordsKeep (p : Plan) (s : Table) (log : List Event) (full : List ℕ)
   pub starts : (c : ℕ) (n : ℕ × ℕ) → slice_get (facing_pairs p.start.value) c ≡ Some n → ((slice_index full (start_cell p.parts c) ≡ 0) ⊎ (slice_index full (start_cell p.parts c) ≡ node_word p.start.value p.parts n.0)) × (slice_index full (suc (start_cell p.parts c)) ≡ node_word p.start.value p.parts n.1)
   -- the blocks of tickets that weren't drawn are empty
   pub fresh : (w : ℕ) → block p.parts (length log) ≤ w → slice_index full w ≡ 0
-  -- each other block begins with the nodes of its entry and the fields of the nodes that it made, and the cell of its pair is empty
+  -- each other block begins with the nodes of its entry and the fields of the nodes that it made
   pub entries : (t j : ℕ) (e : Event) → slice_get log t ≡ Some e → j < 10 → slice_index full (block p.parts t + j) ≡ slice_index (block_words p.parts e t) j
   -- what a view knows stands there
   pub known : (v : View) (w y : ℕ) → IsView s v → IsIn (w, y) v.known → (slice_index s.words w ≡ y) × (y ≢ 0) × IsLasting (part_of p.parts w)
 
--- The cells. `from` has, for each ticket, the left word of the cell whose pair it rewrote; that cell stays empty.
+-- The cells. `from` has, for each ticket, the left word of the cell whose pair it rewrote; that word stays empty, and the right word stays one of
+-- the two nodes.
 pub record CellsKeep (p : Plan) (s : Table) (log : List Event) (from full : List ℕ) : Type 0 where
   pub tickets : length from ≡ length log
-  pub used : (t w : ℕ) → slice_get from t ≡ Some w → (part_of p.parts w ≡ left) × (w < block p.parts t) × (slice_index full w ≡ 0)
+  pub used : (t w : ℕ) → slice_get from t ≡ Some w → (part_of p.parts w ≡ left) × (w < block p.parts t) × (slice_index full w ≡ 0) × ((e : Event) → slice_get log t ≡ Some e → (slice_index full (suc w) ≡ e.f) ⊎ (slice_index full (suc w) ≡ e.g))
   -- a cell whose join is a pending link hasn't been published, and has no other pending link
   pub unpublished : (v : View) (l : Link) → IsView s v → IsIn l v.pending → (part_of p.parts l.cell ≡ left) × (slice_index full l.cell ≡ 0) × IsRightOf v l (slice_index full (suc l.cell)) × ((t w : ℕ) → slice_get from t ≡ Some w → w ≢ l.cell)
   pub one_link : (w : ℕ) → total (λ (v : View). links_at w v.pending) s.views ≤ 1
   pub link_refs : (v : View) (l : Link) → IsView s v → IsIn l v.pending → IsMadeRef p.parts log l.one × IsMadeRef p.parts log l.two
   -- no cell that was swept holds an active pair, and none will be published
   pub swept : (v : View) (c : ℕ) → IsView s v → c < v.swept → (v.holds ≡ p.seats) × ((slice_index full (left_word p.parts c) ≡ 0) ⊎ IsStuckPair (slice_index full (left_word p.parts c)) (slice_index full (suc (left_word p.parts c)))) × ((l : Link) → IsIn l v.pending → l.cell ≢ left_word p.parts c)
+  -- a pair stands in the cell of a block, or was rewritten, as often as the cell is in a view's list of those that it published
+  pub published : (w : ℕ) → part_of p.parts w ≡ left → block p.parts 0 ≤ w → times_published p.parts w s.views ≡ filled (slice_index full w) + times w from
 
 -- a word of the block of a ticket that the view has drawn
 abbrev pub IsInOwnBlock : Parts → View → ℕ → Type 0
 IsInOwnBlock z v w = (t : ℕ) × (x : Entry) × IsIn (t, x) v.made × IsInBlock z t w
 
+-- slot c + 1 of a node of the net whose reference is the first end of one of these links
+abbrev pub IsLinkedField : Parts → NamedNet NodeName → List Link → NodeName → ℕ → Type 0
+IsLinkedField z net links x c = (k : Kind) × (i : ℕ) × HasNode net x k i × (c < arity k) × (d : ℕ) × IsIn (node_ref k i (place_of z x), d) (links_in links)
+
 -- The seats, and what each view holds, which is known to it alone.
 pub record SeatsKeep (p : Plan) (s : Table) (log : List Event) (net : NamedNet NodeName) : Type 0 where
   pub all : total (λ (v : View). v.holds) s.views ≡ p.seats
+  -- each seat draws one ticket at most at or above the fuel
   pub calm : slice_index s.words 0 ≤ p.parts.fuel + total past_fuel s.views
   pub over : (v : View) → IsView s v → v.over ≡ true → (p.parts.fuel ≤ slice_index s.words 0) × HasActive net
   pub plans : (v : View) → IsView s v → 0 < v.holds → (v.parts ≡ p.parts) × (v.seats ≡ p.seats)
@@ -140,8 +165,8 @@ pub record SeatsKeep (p : Plan) (s : Table) (log : List Event) (net : NamedNet N
   -- what a view has to write and to link is in the block of its own ticket
   pub due : (v : View) (w y : ℕ) → IsView s v → IsIn (w, y) v.due → (y ≢ 0) × IsOwn (part_of p.parts w) × IsInOwnBlock p.parts v w
   pub links : (v : View) (l : Link) → IsView s v → IsIn l v.pending → IsInOwnBlock p.parts v l.cell
-  -- the only reference to a node whose fields aren't written is the view's own
-  pub hidden : (v : View) (x : NodeName) (k : Kind) (i c y : ℕ) → IsView s v → HasNode net x k i → c < arity k → IsIn (place_of p.parts x + c, y) v.due → (d : ℕ) × (IsIn (node_ref k i (place_of p.parts x), d) (links_in v.pending))
+  -- a field that a view has to write is that of a live node, and the one edge at this node's slot 0 is that of one of the view's own links
+  pub due_fields : (v : View) (w y : ℕ) (x : NodeName) (c : ℕ) → IsView s v → IsIn (w, y) v.due → part_of p.parts w ≡ field x c → IsLinkedField p.parts net v.pending x c
   -- each ticket below the fuel is one view's
   pub made : (h : ℕ → Entry → ℕ) → total (λ (v : View). pairs h v.made) s.views ≡ numbered h 0 (entries_of p.parts log)
   -- a wire is dead in one view at most, and only where it was made

@@ -1,5 +1,7 @@
 -- Bounds of the parts of a table, under which each word's number is below 2^32.
-use Rattle.std.specs.Prelude.{ℕ, ◌≤◌}
+use Rattle.std.specs.Prelude.{ℕ, ◌≤◌, length}
+use Rattle.ol_net.specs.Graph.{Graph}
+use Rattle.ol_net.specs.Replace.{top_index_of}
 use Rattle.ol_wire.specs.declared.layout.Parts.{Parts}
 
 pub record IsSmall (z : Parts) : Type 0 where
@@ -8,3 +10,9 @@ pub record IsSmall (z : Parts) : Type 0 where
   pub wires : z.wires ≤ 2000000
   pub cells : z.cells ≤ 2000000
   pub fuel : z.fuel ≤ 2000000
+
+-- The numbers of the net are so small that each reference to a part of it fits its word.
+pub record IsSmallNet (net : Graph) : Type 0 where
+  pub nodes : length net.nodes ≤ 1000000
+  pub free : net.free ≤ 1000000
+  pub indexes : top_index_of net.nodes ≤ 1000000

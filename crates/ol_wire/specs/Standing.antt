@@ -1,16 +1,13 @@
 -- What the words of a closed table stand for.
-use Rattle.std.specs.Prelude.{◌≡◌, ◌≢◌, ℕ, suc, ◌+◌, ◌<◌, ◌≤◌, Bool, true, List, Some, is_some, count_by, length, slice_index, slice_get, ◌↔◌, ◌⊎◌}
+use Rattle.std.specs.Prelude.{◌≡◌, ◌≢◌, ℕ, suc, ◌+◌, ◌<◌, ◌≤◌, Bool, true, List, Some, length, slice_index, slice_get, ◌↔◌, ◌⊎◌}
 use Rattle.ol_net.specs.declared.parts.Kind.{Kind}
 use Rattle.ol_net.specs.Nets.{NamedNet, HasNode, IsNet}
-use Rattle.ol_net.specs.Numbered.{net_of}
 use Rattle.ol_net.specs.Parts.{is_eraser}
-use Rattle.ol_net.specs.Replace.{top_index_of}
 use Rattle.ol_rules.specs.declared.journal.NodeName.{NodeName}
 use Rattle.ol_rules.specs.declared.journal.NodeName.TheVariants.{Init, Born}
 use Rattle.ol_rules.specs.declared.journal.Entry.{Entry}
 use Rattle.ol_rules.specs.Runs.{IsRun}
 use Rattle.ol_wire.specs.declared.layout.Parts.{Parts}
-use Rattle.ol_wire.specs.declared.plan.Plan.{Plan}
 use Rattle.ol_wire.specs.References.{place_in, IsNodeRef, IsRef, IsWhole}
 use Rattle.ol_wire.specs.Layout.{Part, wire, between, left, part_of, block, size}
 use Rattle.ol_wire.specs.Sizes.{IsSmall}
@@ -25,12 +22,6 @@ abbrev pub IsWirePart : Part → Type 0
 IsWirePart (wire j) = Unit {0}
 IsWirePart (between t q p) = Unit {0}
 IsWirePart other = ⊥
-
--- What whoever made the table knows of the net at the start: it is a net, each number has a node, and no index is great.
-pub record IsStarted (p : Plan) : Type 0 where
-  pub net : IsNet (net_of p.start.value)
-  pub whole : count_by is_some p.start.value.nodes ≡ length p.start.value.nodes
-  pub low : top_index_of p.start.value.nodes ≤ 1000000
 
 -- a node of the start, or one that a ticket made
 abbrev pub IsMadeNode : Parts → List ℕ → NodeName → Type 0

@@ -1,6 +1,5 @@
 //! The end of a table: its words are kept, once all seats stand in one.
 ghost use Rattle.std.specs.Prelude.{◌≡◌};
-ghost use Rattle.ol_wire.specs.Views.{IsIdle};
 
 use crate::closed::Words;
 use crate::seat::Seat;
@@ -8,13 +7,12 @@ use crate::shared::Shared;
 use std::snapshot::Snapshot;
 
 impl Shared {
-    /// Keeps the words, once every seat that was made stands in this one, and it holds nothing.
+    /// Keeps the words, once every seat that was made stands in this one.
     ///
     /// It takes no memory and doesn't wait.
     pub fn close(self, seat: Seat) -> Words
         requires table { seat.table ≡ self.table }
         requires holds { seat.view.holds ≡ self.plan.seats }
-        requires idle { IsIdle seat.view }
         ensures plan { result.plan ≡ self.plan }
         ensures view { result.view ≡ seat.view }
     {
@@ -27,7 +25,6 @@ impl Shared {
             token,
             over: _,
             holds: _,
-            idle: _,
         } = seat;
         let was = Snapshot::of(&table.shared);
         let last = Snapshot::of(&token);

@@ -1,10 +1,12 @@
 //! The rule of the table, and what each kind of step tells.
 ghost use Rattle.ol_wire.specs.Rule.{Kept, opener};
-ghost use Rattle.ol_wire.specs.Plays.{claims, pairs_up, looks, draws, writes, fewer, one_seat};
+ghost use Rattle.ol_wire.specs.Plays.{claims, pairs_up, draws, writes, fewer, one_seat, joined};
+ghost use Rattle.ol_wire.specs.TurnPlays.{reads, returns};
+ghost use Rattle.ol_wire.specs.LinkPlays.{links, places, publishes, counts, spent_view};
 
 use crate::plan::Plan;
 use crate::view::View;
-use atomic_table::{Play, Split, TableRule};
+use atomic_table::{Join, Play, Split, TableRule};
 
 /// What holds of the words and of all views between any two steps.
 pub struct Law;
@@ -33,7 +35,7 @@ impl Play<(), View> for PairsUp {
 pub struct Looks;
 
 impl Play<(), View> for Looks {
-    ghost then = { looks };
+    ghost then = { reads };
 }
 
 /// The addition of one to the ticket word.
@@ -48,6 +50,50 @@ pub struct Writes;
 
 impl Play<(), View> for Writes {
     ghost then = { writes };
+}
+
+/// A claimed pair that is put back into its cell.
+pub struct Returns;
+
+impl Play<(), View> for Returns {
+    ghost then = { returns };
+}
+
+/// An exchange with the word of a wire or of a free port, for a link.
+pub struct Links;
+
+impl Play<(), View> for Links {
+    ghost then = { links };
+}
+
+/// The right word of a cell that is published.
+pub struct Places;
+
+impl Play<(), View> for Places {
+    ghost then = { places };
+}
+
+/// The left word of a cell that is published.
+pub struct Publishes;
+
+impl Play<(), View> for Publishes {
+    ghost then = { publishes };
+}
+
+/// A look at the ticket word, for the number of seats.
+pub struct Counts;
+
+impl Play<(), View> for Counts {
+    ghost then = { counts };
+}
+
+/// What one seat has done goes to another.
+pub struct Joins;
+
+impl Join<View> for Joins {
+    ghost both = { joined };
+
+    ghost spent = { spent_view };
 }
 
 /// One seat is cut off from a seat that has done nothing.

@@ -1,16 +1,14 @@
 //! A net laid out in words.
-ghost use Rattle.std.specs.Prelude.{◌≡◌, ℕ, suc, ◌+◌, ◌*◌, ◌<◌, ◌≤◌, List, [], ◌∷◌, ◌++◌, length, slice_index, is_some, count_by, IfOk, OnOk, replicate, vec_len};
-ghost use Rattle.ol_net.specs.declared.parts.Port.TheVariants.{Free, Of};
-ghost use Rattle.ol_net.specs.Graph.{partner_of};
-ghost use Rattle.ol_net.specs.Replace.{top_index_of};
+ghost use Rattle.std.specs.Prelude.{◌≡◌, suc, ◌<◌, ◌≤◌, [], ◌∷◌, ◌++◌, length, IfOk, OnOk, replicate, vec_len, is_some, count_by};
 ghost use Rattle.ol_rules.specs.Listed.{each};
-ghost use Rattle.ol_wire.specs.Layout.{start_node, start_wire, size};
-ghost use Rattle.ol_wire.specs.Sizes.{IsSmall};
-ghost use Rattle.ol_wire.specs.Starts.{AreParts, aux_links, facing_pairs};
+ghost use Rattle.ol_wire.specs.References.{wire_ref};
+ghost use Rattle.ol_wire.specs.Layout.{port_word, start_node, size};
+ghost use Rattle.ol_wire.specs.Sizes.{IsSmall, IsSmallNet};
+ghost use Rattle.ol_wire.specs.Starts.{AreParts, aux_links, facing_pairs, pair_at};
 ghost use Rattle.atomic_table.specs.Table.{opening};
 ghost use Rattle.ol_wire.specs.Rule.{Kept, opener};
 ghost use Rattle.ol_wire.specs.declared.plan.Plan.{Plan};
-ghost use Rattle.ol_wire.specs.Laid.{node_word, word_of_port, wires_before, field_of, cell_words, port_row, field_row, pair_at, HasFields, IsLaid};
+ghost use Rattle.ol_wire.specs.Laid.{node_word, word_of_port, wires_before, field_of, cell_words, port_row, field_row, HasFields, IsLaid};
 
 use crate::layout::{BLOCK, Parts};
 use crate::reference::{node_ref, wire_ref};
@@ -20,9 +18,7 @@ use std::alloc::Global;
 
 // The reference of a node, or 0 where no live node has the number.
 fn node_word(net: &Net, parts: Parts, node: u32) -> u64
-    requires small { IsSmall parts }
-    requires few { length net.now.nodes ≤ 1000000 }
-    requires low { top_index_of net.now.nodes ≤ 1000000 }
+    requires small { IsSmall parts × IsSmallNet net.now }
     ensures { result ≡ node_word net.now parts node }
 {
     match net.kind_of(NodeId(node)) {
@@ -31,37 +27,32 @@ fn node_word(net: &Net, parts: Parts, node: u32) -> u64
     }
 }
 
+// The reference of a free port.
+fn port_ref(port: u32) -> u64
+    requires { port < 4294967295 }
+    ensures { result ≡ wire_ref (port_word port) }
+{
+    wire_ref(1 + port)
+}
+
 // The word of a free port.
 fn word_of_port(net: &Net, parts: Parts, port: u32) -> u64
-    requires small { IsSmall parts }
-    requires few { length net.now.nodes ≤ 1000000 }
-    requires free { net.now.free ≤ 1000000 }
-    requires low { top_index_of net.now.nodes ≤ 1000000 }
+    requires small { IsSmall parts × IsSmallNet net.now }
     ensures { result ≡ word_of_port net.now parts port }
 {
     match net.partner(Port::Free(port)) {
-        Some(Port::Free(other)) => {
-            if port < other {
-                return wire_ref(1 + other);
-            }
-            0
-        }
-        Some(Port::Of { node, slot }) => {
-            if slot == 0 {
-                return node_word(net, parts, node.0);
-            }
-            0
-        }
+        Some(Port::Free(other)) if port < other => port_ref(other),
+        Some(Port::Free(_)) => 0,
+        Some(Port::Of { node, slot: 0 }) => node_word(net, parts, node.0),
+        Some(Port::Of { .. }) => 0,
         None => 0,
     }
 }
 
-// The field of slot `slot + 1` of a node, and the number of wires that have come so far.
+// The field of slot `slot + 1` of a node, and the number of wires that have come so far. Of two auxiliary slots the one
+// that comes first has the next wire, and the field of the other one is the same word again.
 fn field_of(net: &Net, parts: Parts, words: &[u64], node: u32, slot: u8, wires: u32) -> (u64, u32)
-    requires small { IsSmall parts }
-    requires few { length net.now.nodes ≤ 1000000 }
-    requires free { net.now.free ≤ 1000000 }
-    requires low { top_index_of net.now.nodes ≤ 1000000 }
+    requires small { IsSmall parts × IsSmallNet net.now }
     requires inside { (node < length net.now.nodes) × (slot < 2) }
     requires wires { wires ≡ wires_before net.now node slot }
     requires before { HasFields net.now parts words.now node slot }
@@ -72,7 +63,7 @@ fn field_of(net: &Net, parts: Parts, words: &[u64], node: u32, slot: u8, wires: 
         node: NodeId(node),
         slot: slot + 1,
     }) {
-        Some(Port::Free(port)) => (wire_ref(1 + port), wires),
+        Some(Port::Free(port)) => (port_ref(port), wires),
         Some(
             Port::Of {
                 node: other,
@@ -104,11 +95,9 @@ fn put(words: &mut Vec<u64>, word: u64) -> Result<(), NoMemory>
 
 // Adds empty words.
 fn put_empty(words: &mut Vec<u64>, count: u32) -> Result<(), NoMemory>
-    requires { (length words.old.items ≤ 100000000) × (count ≤ 100000000) }
     ensures { OnOk result (words.new.items ≡ words.old.items ++ replicate count 0) }
 {
-    let length = words.len() + count as usize;
-    let Ok(()) = words.resize(length, 0) else {
+    let Ok(()) = words.resize(words.len() + count as usize, 0) else {
         return Err(NoMemory);
     };
     Ok(())
@@ -116,15 +105,11 @@ fn put_empty(words: &mut Vec<u64>, count: u32) -> Result<(), NoMemory>
 
 // Adds the words of the free ports.
 fn put_ports(net: &Net, parts: Parts, words: &mut Vec<u64>) -> Result<(), NoMemory>
-    requires small { IsSmall parts }
-    requires few { length net.now.nodes ≤ 1000000 }
-    requires free { net.now.free ≤ 1000000 }
-    requires low { top_index_of net.now.nodes ≤ 1000000 }
+    requires small { IsSmall parts × IsSmallNet net.now }
     ensures { OnOk result (words.new.items ≡ words.old.items ++ each net.now.free (port_row net.now parts)) }
 {
     for port in 0..net.free_ports() {
-        let word = word_of_port(net, parts, port);
-        put(words, word)?;
+        put(words, word_of_port(net, parts, port))?;
     }
     Ok(())
 }
@@ -137,10 +122,7 @@ fn put_node(
     node: u32,
     wires: u32,
 ) -> Result<u32, NoMemory>
-    requires small { IsSmall parts }
-    requires few { length net.now.nodes ≤ 1000000 }
-    requires free { net.now.free ≤ 1000000 }
-    requires low { top_index_of net.now.nodes ≤ 1000000 }
+    requires small { IsSmall parts × IsSmallNet net.now }
     requires inside { node < length net.now.nodes }
     requires wires { wires ≡ wires_before net.now node 0 }
     requires before { HasFields net.now parts words.old.items node 0 }
@@ -157,10 +139,7 @@ fn put_node(
 
 // Adds the fields of all nodes, and answers the number of wires.
 fn put_nodes(net: &Net, parts: Parts, words: &mut Vec<u64>) -> Result<u32, NoMemory>
-    requires small { IsSmall parts }
-    requires few { length net.now.nodes ≤ 1000000 }
-    requires free { net.now.free ≤ 1000000 }
-    requires low { top_index_of net.now.nodes ≤ 1000000 }
+    requires small { IsSmall parts × IsSmallNet net.now }
     requires behind { length words.old.items ≡ start_node parts 0 }
     ensures added { OnOk result (words.new.items ≡ words.old.items ++ each (length net.now.nodes) (field_row net.now parts)) }
     ensures wires { IfOk result (λ n. n ≡ length (aux_links net.now)) }
@@ -174,9 +153,7 @@ fn put_nodes(net: &Net, parts: Parts, words: &mut Vec<u64>) -> Result<u32, NoMem
 
 // Adds the two words of the cell of a node that faces one of a greater number, and answers how many cells that is.
 fn put_cell(net: &Net, parts: Parts, words: &mut Vec<u64>, node: u32) -> Result<u32, NoMemory>
-    requires small { IsSmall parts }
-    requires few { length net.now.nodes ≤ 1000000 }
-    requires low { top_index_of net.now.nodes ≤ 1000000 }
+    requires small { IsSmall parts × IsSmallNet net.now }
     ensures added { OnOk result (words.new.items ≡ words.old.items ++ cell_words net.now parts (pair_at net.now node)) }
     ensures cells { IfOk result (λ n. n ≡ length (pair_at net.now node)) }
     ensures few { IfOk result (λ n. n ≤ 1) }
@@ -185,19 +162,17 @@ fn put_cell(net: &Net, parts: Parts, words: &mut Vec<u64>, node: u32) -> Result<
         node: NodeId(node),
         slot: 0,
     }) {
-        Some(Port::Of { node: other, slot }) => {
-            if slot != 0 {
-                return Ok(0);
-            }
-            if node < other.0 {
-                let left = node_word(net, parts, node);
-                let right = node_word(net, parts, other.0);
-                put(words, left)?;
-                put(words, right)?;
-                return Ok(1);
-            }
-            Ok(0)
+        Some(
+            Port::Of {
+                node: other,
+                slot: 0,
+            },
+        ) if node < other.0 => {
+            put(words, node_word(net, parts, node))?;
+            put(words, node_word(net, parts, other.0))?;
+            Ok(1)
         }
+        Some(Port::Of { .. }) => Ok(0),
         Some(Port::Free(_)) => Ok(0),
         None => Ok(0),
     }
@@ -205,29 +180,27 @@ fn put_cell(net: &Net, parts: Parts, words: &mut Vec<u64>, node: u32) -> Result<
 
 // Adds the cells, and answers their number.
 fn put_cells(net: &Net, parts: Parts, words: &mut Vec<u64>) -> Result<u32, NoMemory>
-    requires small { IsSmall parts }
-    requires few { length net.now.nodes ≤ 1000000 }
-    requires low { top_index_of net.now.nodes ≤ 1000000 }
+    requires small { IsSmall parts × IsSmallNet net.now }
     ensures added { OnOk result (words.new.items ≡ words.old.items ++ cell_words net.now parts (facing_pairs net.now)) }
     ensures cells { IfOk result (λ n. n ≡ length (facing_pairs net.now)) }
     ensures few { IfOk result (λ n. n ≤ length net.now.nodes) }
 {
     let mut cells: u32 = 0;
     for node in 0..net.born() {
-        let come = put_cell(net, parts, words, node)?;
-        cells += come;
+        cells += put_cell(net, parts, words, node)?;
     }
     Ok(cells)
 }
 
-// The words, and their parts.
+// The parts, and the words.
 fn lay_out(alloc: Global, net: &Net, fuel: u32) -> Result<(Parts, Vec<u64>), NoMemory>
-    requires small { (length net.now.nodes ≤ 1000000) × (net.now.free ≤ 1000000) × (top_index_of net.now.nodes ≤ 1000000) × (fuel ≤ 2000000) }
+    requires small { IsSmallNet net.now }
+    requires fuel { fuel ≤ 2000000 }
     ensures parts { IfOk result (λ r. AreParts net.now fuel r.0) }
     ensures small { IfOk result (λ r. IsSmall r.0) }
-    ensures words { IfOk result (λ r. vec_len r.1 ≡ size r.0) }
     ensures laid { IfOk result (λ r. IsLaid net.now r.0 r.1.items) }
 {
+    // Until its wires and cells are counted.
     let early = Parts {
         free: net.free_ports(),
         nodes: net.born(),
@@ -243,26 +216,27 @@ fn lay_out(alloc: Global, net: &Net, fuel: u32) -> Result<(Parts, Vec<u64>), NoM
     let cells = put_cells(net, early, &mut words)?;
     put_empty(&mut words, BLOCK * fuel)?;
     let parts = Parts {
-        free: early.free,
-        nodes: early.nodes,
         wires,
         cells,
-        fuel,
+        ..early
     };
     Ok((parts, words))
 }
 
-/// A net laid out in words, with blocks for so many tickets. Whatever number of seats is made over these words, they meet the rule of the
-/// table at the start, with no ticket drawn.
+/// A net laid out in words, with blocks for so many tickets. Whatever number of seats up to 64 is made over these words, they meet the
+/// rule of the table, with no ticket drawn.
 ///
 /// It takes time in proportion to the number of words, and takes memory for them alone. `NoMemory`: no memory was found.
 pub(crate) fn lay(alloc: Global, net: &Net, fuel: u32) -> Result<(Parts, Vec<u64>), NoMemory>
-    requires small { (length net.now.nodes ≤ 1000000) × (net.now.free ≤ 1000000) × (top_index_of net.now.nodes ≤ 1000000) × (fuel ≤ 2000000) }
+    requires whole { count_by is_some net.now.nodes ≡ length net.now.nodes }
+    requires small { IsSmallNet net.now }
+    requires fuel { fuel ≤ 2000000 }
     ensures parts { IfOk result (λ r. AreParts net.now fuel r.0) }
     ensures small { IfOk result (λ r. IsSmall r.0) }
     ensures words { IfOk result (λ r. vec_len r.1 ≡ size r.0) }
     ensures kept { IfOk result (λ r. (p : Plan) → p.parts ≡ r.0 → p.start.value ≡ net.now → 0 < p.seats → p.seats ≤ 64 → Kept p (opening r.1.items [] (opener p))) }
 {
+    net.is_net();
     net.is_tabled();
     let (parts, words) = lay_out(alloc, net, fuel)?;
     Ok((parts, words))

@@ -36,6 +36,7 @@ fn small_net(alloc: Global) -> Result<Net, Fail> {
 #[test]
 fn lays_a_net_out(rt: HostRuntime) -> Result<(), Fail> {
     let net = small_net(rt.alloc())?;
+    assert!(rt; net.nodes() == net.born());
     assert!(rt; net.born() <= 1_000_000);
     assert!(rt; net.free_ports() <= 1_000_000);
     assert!(rt; net.top_index() <= 1_000_000);
@@ -43,13 +44,17 @@ fn lays_a_net_out(rt: HostRuntime) -> Result<(), Fail> {
     assert_eq!(rt; parts.wires, 1);
     assert_eq!(rt; parts.cells, 1);
     let start = vec![in rt.alloc();
-        0, 0, 5905580269, 2147483650, 0, 536870914, 4831838229, 8053063682, 8053063682, 0, 0,
-        6979321877, 0, 0, 0, 0, 2684354565, 3758096385,
+        // The ticket word, and the free ports: port 1 is linked to node 3, and port 2 to port 3.
+        0, 0, 5905580269, 2147483650, 0,
+        // The fields of the application: port 0, and node 2. The two of the abstraction: their wire.
+        536870914, 4831838229, 8053063682, 8053063682,
+        // Of an eraser, of the croissant: node 4, and of the other eraser.
+        0, 0, 6979321877, 0, 0, 0,
+        // The wire, and the cell of the application and the abstraction.
+        0, 2684354565, 3758096385,
     ]?;
     assert_eq!(rt; words.len(), 40);
-    for place in 0..40usize {
-        let found = words.get(place).copied().unwrap_or(1);
-        assert_eq!(rt; found, start.get(place).copied().unwrap_or(0));
-    }
+    assert_eq!(rt; &words[..18], start.as_slice());
+    assert!(rt; words[18..].iter().all(|&word| word == 0));
     Ok(())
 }

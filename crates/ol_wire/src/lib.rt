@@ -5,12 +5,13 @@ mod closed;
 mod closing;
 #[cfg(test)]
 mod closing_tests;
-mod holding;
+mod joining;
 mod law;
 mod laying;
 #[cfg(test)]
 mod laying_tests;
 mod layout;
+mod linking;
 mod naming;
 mod outcome;
 mod plan;
@@ -20,10 +21,12 @@ mod rewrite;
 mod seat;
 mod shared;
 mod stepping;
+#[cfg(test)]
+mod turn_tests;
+mod turning;
 mod view;
 
 pub use closed::Words;
-pub use holding::Hold;
 pub use law::Law;
 pub use layout::Parts;
 pub use plan::Plan;
@@ -31,4 +34,5 @@ pub use promise::at_every_moment;
 pub use reference::{index_in, is_node, kind_in, place_in};
 pub use seat::Seat;
 pub use shared::Shared;
+pub use turning::Turn;
 pub use view::{Link, View};

@@ -8,7 +8,7 @@ ghost use Rattle.ol_rules.specs.Runs.{IsComplete, HasActive};
 ghost use Rattle.ol_wire.specs.Closed.{events_in, journal_in};
 ghost use Rattle.ol_wire.specs.Layout.{cells_of};
 ghost use Rattle.ol_wire.specs.Weights.{pairs, numbered};
-ghost use Rattle.ol_wire.specs.Standing.{StandsFor, IsStarted, IsAfter, IsOfEntry, AreOnce};
+ghost use Rattle.ol_wire.specs.Standing.{StandsFor, IsAfter, IsOfEntry, AreOnce};
 
 use crate::closed::Words;
 
@@ -16,14 +16,14 @@ impl Words {
     /// Law: the journal leads from the net that the table was made from to a net, and to one alone.
     pub fn runs(&self)
         ensures some { (net : NamedNet NodeName) × IsAfter self.now net }
-        ensures one { IsStarted self.now.plan → (M N : NamedNet NodeName) → IsAfter self.now M → IsAfter self.now N → SameNet M N }
+        ensures one { (M N : NamedNet NodeName) → IsAfter self.now M → IsAfter self.now N → SameNet M N }
     {
         let _ = &self.closed;
     }
 
     /// Law: the words stand for the net after the journal.
     pub fn stands(&self)
-        ensures stands { IsStarted self.now.plan → (net : NamedNet NodeName) × (reached : ℕ → Bool) × IsAfter self.now net × StandsFor self.now net reached }
+        ensures stands { (net : NamedNet NodeName) × (reached : ℕ → Bool) × IsAfter self.now net × StandsFor self.now net reached }
     {
         let _ = &self.closed;
     }
@@ -46,14 +46,14 @@ impl Words {
     /// Law: where the seat read a ticket at or above the fuel, the fuel is used up and an active pair is left.
     pub fn over(&self)
         ensures fuel { self.now.view.over ≡ true → events_in self.now.plan.parts self.now.words ≡ self.now.plan.parts.fuel }
-        ensures active { IsStarted self.now.plan → self.now.view.over ≡ true → (net : NamedNet NodeName) → IsAfter self.now net → HasActive net }
+        ensures active { self.now.view.over ≡ true → (net : NamedNet NodeName) → IsAfter self.now net → HasActive net }
     {
         let _ = &self.closed;
     }
 
     /// Law: where the seat has swept all cells, no active pair is left.
     pub fn swept(&self)
-        ensures complete { IsStarted self.now.plan → self.now.view.swept ≡ cells_of self.now.plan.parts → (net : NamedNet NodeName) → IsAfter self.now net → IsComplete net }
+        ensures complete { self.now.view.swept ≡ cells_of self.now.plan.parts → (net : NamedNet NodeName) → IsAfter self.now net → IsComplete net }
     {
         let _ = &self.closed;
     }

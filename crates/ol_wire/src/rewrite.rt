@@ -1,16 +1,16 @@
 //! What a ticket is drawn for, and the words that its seat writes.
 ghost use Rattle.std.specs.Prelude.{◌≡◌, ◌+◌, ◌*◌, ◌<◌, ◌≤◌, None, Some, MatchOption, slice_index};
 ghost use Rattle.ol_net.specs.Parts.{arity};
-ghost use Rattle.ol_rules.specs.Rewriting.{is_meeting};
-ghost use Rattle.ol_wire.specs.References.{kind_in, place_in};
+ghost use Rattle.ol_rules.specs.Rewriting.{is_meeting, index_after};
+ghost use Rattle.ol_wire.specs.References.{kind_in, index_in, place_in};
 ghost use Rattle.ol_wire.specs.Events.{rule_between, event_of, earlier, later};
 ghost use Rattle.ol_wire.specs.Layout.{block, born_wire};
-ghost use Rattle.ol_wire.specs.Blocks.{copies_of_f, copies_of_g, joins_in, born_field, block_words};
+ghost use Rattle.ol_wire.specs.Blocks.{copies_of_f, copies_of_g, joins_in, born_ref, born_field, block_words};
 ghost use Rattle.ol_wire.specs.Rewrites.{event_for};
 ghost use Rattle.ol_wire.specs.Sizes.{IsSmall};
 
 use crate::layout::Parts;
-use crate::reference::{index_in, kind_in, place_in, wire_ref};
+use crate::reference::{index_in, kind_in, node_ref, place_in, wire_ref};
 use ol_net::{Kind, Rule, rule_of};
 
 /// The rewrite of two nodes, by their references. The one that acts comes first.
@@ -29,7 +29,7 @@ fn arity(kind: Kind) -> u32
 }
 
 /// Whether the rule joins the slots of the two nodes side by side.
-fn is_meeting(rule: Rule) -> bool
+pub(crate) fn is_meeting(rule: Rule) -> bool
     ensures { result ≡ is_meeting rule }
 {
     match rule {
@@ -71,7 +71,7 @@ pub(crate) fn rewrite_of(left: u64, right: u64) -> Option<Rewrite>
 
 impl Rewrite {
     /// How many copies of f it makes.
-    fn copies_of_f(self) -> u32
+    pub(crate) fn copies_of_f(self) -> u32
         ensures { result ≡ copies_of_f (event_for self) }
     {
         if is_meeting(self.rule) {
@@ -100,6 +100,19 @@ impl Rewrite {
             arity(kind_in(self.f))
         } else {
             self.copies_of_f() + self.copies_of_g()
+        }
+    }
+
+    /// The index of a copy of g.
+    fn index_after(self) -> u32
+        requires { index_in self.g < 16777215 }
+        ensures { result ≡ index_after self.rule (index_in self.g) }
+    {
+        let index = index_in(self.g);
+        match self.rule {
+            Rule::CrossCroissant => index.saturating_sub(1),
+            Rule::CrossBracket => index + 1,
+            _ => index,
         }
     }
 
@@ -135,6 +148,19 @@ impl Parts {
         ensures { result ≡ born_wire self ticket q p }
     {
         self.block(ticket) + 10 + 2 * q + p
+    }
+
+    /// The reference of the node that the ticket makes at place i.
+    pub(crate) fn born_ref(self, rewrite: Rewrite, ticket: u32, i: u32) -> u64
+        requires { IsSmall self × (ticket ≤ 2000000) × (i < 4) × (index_in rewrite.g < 16777215) }
+        ensures { result ≡ born_ref self (event_for rewrite) ticket i }
+    {
+        let place = self.block(ticket) + 2 + 2 * i;
+        if i < rewrite.copies_of_f() {
+            node_ref(kind_in(rewrite.f), index_in(rewrite.f), place)
+        } else {
+            node_ref(kind_in(rewrite.g), rewrite.index_after(), place)
+        }
     }
 
     /// What the field of slot s + 1 of the node that the ticket makes at place i holds at first.

@@ -1,5 +1,5 @@
 //! The seat with which a thread steps on a table.
-ghost use Rattle.std.specs.Prelude.{◌≡◌, ◌<◌, [], true, false, ◌↔◌};
+ghost use Rattle.std.specs.Prelude.{◌≡◌, ◌<◌, [], false};
 ghost use Rattle.ol_wire.specs.Plays.{fewer, one_seat};
 ghost use Rattle.ol_wire.specs.Stand.{Stand};
 ghost use Rattle.ol_wire.specs.Views.{IsIdle};
@@ -11,7 +11,8 @@ use std::marker::Model;
 
 pub(crate) type Token = atomic_table::Seat<(), View>;
 
-/// What a thread steps with on a table. It tells what its steps did.
+/// What a thread steps with on a table. It tells what its turns did. Between two calls it holds no
+/// claimed pair, no word to write and no link to make.
 #[derive(Drop)]
 pub struct Seat {
     pub(crate) token: Token,
@@ -19,8 +20,6 @@ pub struct Seat {
     pub(crate) over: bool,
     // how many of the seats that were made stand in it
     pub(crate) holds: u32,
-    // whether it holds no pair and no link
-    pub(crate) idle: bool,
 }
 
 impl Model for Seat {
@@ -28,7 +27,7 @@ impl Model for Seat {
 
     ghost view = { λ s. record { table = s.token.table_id; view = s.token.me.0 } };
 
-    ghost invariant = { λ s. (s.token.me.1 ≡ []) × (s.token.me.0.due ≡ []) × (s.token.me.0.over ≡ s.over) × (s.token.me.0.holds ≡ s.holds) × (0 < s.holds) × ((s.idle ≡ true) ↔ IsIdle s.token.me.0) };
+    ghost invariant = { λ s. (s.token.me.1 ≡ []) × IsIdle s.token.me.0 × (s.token.me.0.over ≡ s.over) × (s.token.me.0.holds ≡ s.holds) × (0 < s.holds) };
 }
 
 impl Seat {
@@ -38,13 +37,6 @@ impl Seat {
     {
         self.holds
     }
-
-    /// Whether it holds no claimed pair, no word to write and no link to make.
-    pub fn idle(&self) -> bool
-        ensures { (result ≡ true) ↔ IsIdle self.now.view }
-    {
-        self.idle
-    }
 }
 
 impl Shared {
@@ -52,6 +44,7 @@ impl Shared {
     pub(crate) fn cut(&self, seat: &mut Seat) -> Seat
         requires table { seat.old.table ≡ self.now.table }
         requires holds { (1 < seat.old.view.holds) × (seat.old.view.over ≡ false) }
+        requires unswept { seat.old.view.swept ≡ 0 }
         ensures left { (seat.new.table ≡ seat.old.table) × (seat.new.view ≡ fewer seat.old.view) }
         ensures right { (result.table ≡ seat.old.table) × (result.view ≡ one_seat seat.old.view) }
     {
@@ -61,7 +54,6 @@ impl Shared {
             token,
             over: false,
             holds: 1,
-            idle: true,
         }
     }
 }

@@ -1,8 +1,7 @@
 //! The table that threads share.
 ghost use Rattle.std.specs.Prelude.{◌≡◌, ◌+◌, ◌<◌, ◌≤◌, [], All, IfOk, vec_len, length, is_some, count_by};
-ghost use Rattle.ol_net.specs.Replace.{top_index_of};
 ghost use Rattle.ol_wire.specs.Layout.{size as size_of, cells_of};
-ghost use Rattle.ol_wire.specs.Sizes.{IsSmall};
+ghost use Rattle.ol_wire.specs.Sizes.{IsSmall, IsSmallNet};
 ghost use Rattle.ol_wire.specs.Starts.{AreParts};
 ghost use Rattle.ol_wire.specs.Stand.{Board, IsFresh};
 ghost use Rattle.ol_wire.specs.Views.{fresh};
@@ -37,7 +36,14 @@ impl Model for Shared {
 }
 
 impl Shared {
-    /// A table with the words of this net, which hands out at most `fuel` tickets, and its seats.
+    /// A table with the words of a net, which hands out at most `fuel` tickets, and its seats.
+    ///
+    /// - `net`: a net no number of which is that of a node that went: at most 1,000,000 nodes, at most 1,000,000 free ports, no index above
+    ///   1,000,000.
+    /// - `fuel`: at most 2,000,000 tickets, each of 22 words. `seats`: 1 to 64.
+    ///
+    /// Each facing pair of the net stands in a cell of its own: cell c has the c-th of them by the smaller node number. All words that the run
+    /// can need are taken here. `NoMemory`: there was no memory for them.
     pub fn make(
         alloc: Global,
         net: &Net,
@@ -45,7 +51,8 @@ impl Shared {
         seats: u32,
     ) -> Result<(Shared, Vec<Seat>), NoMemory>
         requires whole { count_by is_some net.now.nodes ≡ length net.now.nodes }
-        requires small { (length net.now.nodes ≤ 1000000) × (net.now.free ≤ 1000000) × (top_index_of net.now.nodes ≤ 1000000) × (fuel ≤ 2000000) }
+        requires small { IsSmallNet net.now }
+        requires fuel { fuel ≤ 2000000 }
         requires seats { (0 < seats) × (seats ≤ 64) }
         ensures parts { IfOk result (λ r. AreParts net.now fuel r.0.plan.parts) }
         ensures start { IfOk result (λ r. r.0.plan.start.value ≡ net.now) }
@@ -70,7 +77,6 @@ impl Shared {
             token,
             over: false,
             holds: seats,
-            idle: true,
         };
         let dealt = shared.deal(alloc, first, seats)?;
         Ok((shared, dealt))

@@ -1,14 +1,16 @@
 //! The single steps of a seat: each changes one word at most, and tells what it found.
 ghost use Rattle.std.specs.Prelude.{◌≡◌, ◌≢◌, ℕ, suc, ◌+◌, ◌<◌, [], ◌∷◌, MatchOption};
+ghost use Rattle.ol_edges.specs.Edges.{IsIn};
 ghost use Rattle.ol_net.specs.Parts.{arity};
 ghost use Rattle.ol_wire.specs.References.{kind_in, place_in};
 ghost use Rattle.ol_wire.specs.Layout.{size, left_word, cells_of};
-ghost use Rattle.ol_wire.specs.Plays.{IsNodeOf, IsLookedUp, paired, knowing, ticketed, late, wrote, rest};
+ghost use Rattle.ol_wire.specs.Plays.{IsNodeOf, IsRefOf, IsLookedUp, paired, knowing, ticketed, late, wrote, returned, rest};
 ghost use Rattle.ol_wire.specs.Sizes.{IsSmall};
 ghost use Rattle.ol_wire.specs.Stand.{IsUnder};
-ghost use Rattle.ol_wire.specs.Holds.{claiming, IsInHand, IsOfPair};
+ghost use Rattle.ol_wire.specs.Views.{IsIdle};
+ghost use Rattle.ol_wire.specs.Hands.{claiming, missed, IsInHand, IsOfPair};
 
-use crate::law::{Claims, Draws, Looks, PairsUp, Writes};
+use crate::law::{Claims, Draws, Looks, PairsUp, Returns, Writes};
 use crate::layout::Parts;
 use crate::reference::place_in;
 use crate::seat::Token;
@@ -29,9 +31,9 @@ impl Shared {
     pub(crate) fn claim(&self, token: &mut Token, cell: u32) -> u64
         requires token { (token.old.table_id ≡ self.now.table) × IsUnder self.now.plan token.old.me.0 }
         requires cell { cell < cells_of self.now.plan.parts }
-        requires empty { token.old.me.0.taken ≡ [] }
+        requires idle { IsIdle token.old.me.0 }
         ensures token { (token.new.table_id ≡ token.old.table_id) × (token.new.me.1 ≡ token.old.me.1) }
-        ensures gone { result ≡ 0 → token.new.me.0 ≡ claiming token.old.me.0 cell (0, 0) }
+        ensures gone { result ≡ 0 → token.new.me.0 ≡ missed token.old.me.0 cell }
         ensures taken { result ≢ 0 → token.new.me.0 ≡ record (claiming token.old.me.0 cell (result, 0)) { taken = (left_word self.now.plan.parts cell, result) ∷ [] } }
         ensures node { result ≢ 0 → IsNodeOf self.now.plan.parts result }
     {
@@ -60,6 +62,8 @@ impl Shared {
         requires slot { slot < arity (kind_in node) }
         ensures token { (token.new.table_id ≡ token.old.table_id) × (token.new.me.1 ≡ token.old.me.1) }
         ensures view { token.new.me.0 ≡ knowing token.old.me.0 (place_in node + slot) result }
+        ensures same { (y : ℕ) → IsIn (place_in node + slot, y) token.old.me.0.known → y ≡ result }
+        ensures found { IsRefOf self.now.plan.parts result }
     {
         let word = self.parts.field(node, slot);
         self.table.shared.load::<Looks>(token, word as usize)
@@ -89,5 +93,20 @@ impl Shared {
         ensures view { token.new.me.0 ≡ wrote token.old.me.0 }
     {
         self.table.shared.store::<Writes>(token, at as usize, word);
+    }
+
+    // Puts the pair in hand back into its cell.
+    pub(crate) fn put_back(&self, token: &mut Token, cell: u32, left: u64)
+        requires token { (token.old.table_id ≡ self.now.table) × IsUnder self.now.plan token.old.me.0 }
+        requires cell { cell < cells_of self.now.plan.parts }
+        requires pair { IsInHand token.old.me.0 (left_word self.now.plan.parts cell) }
+        requires left { left ≡ token.old.me.0.last.0 }
+        ensures token { (token.new.table_id ≡ token.old.table_id) × (token.new.me.1 ≡ token.old.me.1) }
+        ensures view { token.new.me.0 ≡ returned token.old.me.0 }
+    {
+        let word = self.parts.left_word(cell);
+        self.table
+            .shared
+            .store::<Returns>(token, word as usize, left);
     }
 }

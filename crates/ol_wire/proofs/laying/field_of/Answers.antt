@@ -3,7 +3,7 @@ use Rattle.ol_wire.proofs.OpeningWords.{wires_few, wire_comes_up, field_again_up
 use Rattle.ol_wire.proofs.laying.field_of.Goals as goal
 
 pub start_wire-requires : goal.start_wire-requires
-start_wire-requires c = (c.requires.small, omega (arith, wires_few c.args.net.now c.args.node c.args.slot, c.requires.wires, c.requires.inside, c.requires.few))
+start_wire-requires c = (c.requires.small.0, omega (arith, wires_few c.args.net.now c.args.node c.args.slot, c.requires.wires, c.requires.inside, c.requires.small.1.nodes))
 
 pub returns-then-node-slot-clause-wires : goal.returns-then-node-slot-clause-wires
 returns-then-node-slot-clause-wires c =

@@ -1,6 +1,6 @@
 use Rattle.std.proofs.Common.{◌≡◌, [], ◌∷◌, ◌++◌, arith, ◌∙◌, ap}
 use Rattle.ol_wire.specs.declared.layout.Parts.{Parts}
-use Rattle.ol_wire.proofs.OpeningLists.{wires_bound, start_length, nodes_length, cells_length, length_f, laid}
+use Rattle.ol_wire.proofs.OpeningLists.{wires_bound, start_length, laid}
 use Rattle.ol_wire.proofs.laying.lay_out.Goals as goal
 
 pub put_nodes-requires-clause-behind : goal.put_nodes-requires-clause-behind
@@ -8,25 +8,6 @@ put_nodes-requires-clause-behind c =
     let z : Parts = record { free = c.free_ports.result; nodes = c.born.result; wires = 0; cells = 0; fuel = c.args.fuel } in
     let ea : c.put.new.words.items ≡ 0 ∷ [] = c.in_ok-put.ensures ∙ ap (λ xs. xs ++ 0 ∷ []) c.new-words.ensures.items in
     start_length c.args.net.now z c.put.new.words.items c.put_ports.new.words.items c.free_ports.ensures.free ea c.in_ok-put_ports.ensures
-
-pub put_empty-requires : goal.put_empty-requires
-put_empty-requires c =
-    let z : Parts = record { free = c.free_ports.result; nodes = c.born.result; wires = 0; cells = 0; fuel = c.args.fuel } in
-    let ea : c.put.new.words.items ≡ 0 ∷ [] = c.in_ok-put.ensures ∙ ap (λ xs. xs ++ 0 ∷ []) c.new-words.ensures.items in
-    let lb = start_length c.args.net.now z c.put.new.words.items c.put_ports.new.words.items c.free_ports.ensures.free ea c.in_ok-put_ports.ensures in
-    let lc = nodes_length c.args.net.now z c.put_ports.new.words.items c.put_nodes.new.words.items lb c.in_ok-wires.ensures.added in
-    let w = wires_bound c.args.net.now c.in_ok-wires.wires c.in_ok-wires.ensures.wires in
-    (omega (arith, lc, c.requires.small, c.free_ports.ensures.free), omega (arith, w, c.requires.small))
-
-pub put_empty-requires-2 : goal.put_empty-requires-2
-put_empty-requires-2 c =
-    let z : Parts = record { free = c.free_ports.result; nodes = c.born.result; wires = 0; cells = 0; fuel = c.args.fuel } in
-    let ea : c.put.new.words.items ≡ 0 ∷ [] = c.in_ok-put.ensures ∙ ap (λ xs. xs ++ 0 ∷ []) c.new-words.ensures.items in
-    let lb = start_length c.args.net.now z c.put.new.words.items c.put_ports.new.words.items c.free_ports.ensures.free ea c.in_ok-put_ports.ensures in
-    let lc = nodes_length c.args.net.now z c.put_ports.new.words.items c.put_nodes.new.words.items lb c.in_ok-wires.ensures.added in
-    let w = wires_bound c.args.net.now c.in_ok-wires.wires c.in_ok-wires.ensures.wires in
-    let le = cells_length c.args.net.now z c.put_nodes.new.words.items c.put_empty.new.words.items c.put_cells.new.words.items c.in_ok-wires.wires c.in_ok-put_empty.ensures c.in_ok-cells.ensures.added in
-    (omega (arith, lc, w, le, c.requires.small, c.free_ports.ensures.free, c.in_ok-cells.ensures.cells, c.in_ok-cells.ensures.few), omega (arith, c.requires.small))
 
 pub returns-clause-small : goal.returns-clause-small
 returns-clause-small c =
@@ -36,16 +17,8 @@ returns-clause-small c =
       nodes = omega (arith, c.requires.small, c.born.ensures.born);
       wires = omega (arith, c.requires.small, w);
       cells = omega (arith, c.requires.small, c.in_ok-cells.ensures.few);
-      fuel = c.requires.small.3;
+      fuel = c.requires.fuel;
     }
-
-pub returns-clause-words : goal.returns-clause-words
-returns-clause-words c =
-    let z : Parts = record { free = c.free_ports.result; nodes = c.born.result; wires = c.in_ok-wires.wires; cells = c.in_ok-cells.cells; fuel = c.args.fuel } in
-    let ea : c.put.new.words.items ≡ 0 ∷ [] = c.in_ok-put.ensures ∙ ap (λ xs. xs ++ 0 ∷ []) c.new-words.ensures.items in
-    c.put_empty-2.new.words.ok.0
-    ∙ length_f c.args.net.now z c.put.new.words.items c.put_ports.new.words.items c.put_nodes.new.words.items c.put_empty.new.words.items c.put_cells.new.words.items c.put_empty-2.new.words.items c.free_ports.ensures.free c.born.ensures.born ea
-    c.in_ok-put_ports.ensures c.in_ok-wires.ensures.added c.in_ok-put_empty.ensures c.in_ok-cells.ensures.added c.in_ok-put_empty-2.ensures c.in_ok-cells.ensures.cells
 
 pub returns-clause-laid : goal.returns-clause-laid
 returns-clause-laid c =

@@ -1,6 +1,7 @@
 use Rattle.std.proofs.Common.{◌≡◌, ◌≤◌, ◌++◌, length}
 use Rattle.ol_rules.specs.Listed.{each}
-use Rattle.ol_wire.specs.Laid.{cell_words, pair_at}
+use Rattle.ol_wire.specs.Laid.{cell_words}
+use Rattle.ol_wire.specs.Starts.{pair_at}
 use Rattle.ol_wire.proofs.laying.put_cells.Given as goal
 
 abbrev pub invariant-loop-node : goal.invariant-loop-node

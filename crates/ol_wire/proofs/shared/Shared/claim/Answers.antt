@@ -1,6 +1,6 @@
 use Rattle.std.proofs.Common.{◌≡◌, ◌<◌, sym, ap, ◌∙◌, subst, arith}
 use Rattle.ol_wire.specs.declared.layout.Parts.{Parts}
-use Rattle.ol_wire.specs.Layout.{left_word, cells_of, part_of, size}
+use Rattle.ol_wire.specs.Layout.{left_word, cells_of, size}
 use Rattle.ol_wire.specs.Stand.{Board}
 use Rattle.ol_wire.proofs.Places.{part_cell}
 use Rattle.ol_wire.proofs.Steps.{claims_allowed}
@@ -15,4 +15,4 @@ swap-requires c =
     let cell : c.args.cell < cells_of t.key.parts = subst (λ (z : Parts). c.args.cell < cells_of z) (sym parts) c.requires.cell in
     let word : c.left_word-word.result ≡ left_word t.key.parts c.args.cell = c.left_word-word.ensures ∙ ap (λ (z : Parts). left_word z c.args.cell) (sym c.self.invariant.0) in
     let place = part_cell t.key.parts c.args.cell cell in
-    (of, omega (arith, word, place.2, c.self.invariant.2, ap (λ (z : Parts). size z) c.self.invariant.0), claims_allowed t.key t.table_id.slots me.id me.me c.requires.token.1.2 c.left_word-word.result (ap (part_of t.key.parts) word ∙ place.0))
+    (of, omega (arith, word, place.2, c.self.invariant.2, ap (λ (z : Parts). size z) c.self.invariant.0), claims_allowed t.key t.table_id.slots me.id me.me c.requires.token.1.2 c.args.cell c.left_word-word.result cell word c.requires.idle)

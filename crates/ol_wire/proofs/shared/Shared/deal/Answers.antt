@@ -18,6 +18,9 @@ cut-one-requires-clause-table c = c.loop.invariant.0
 pub cut-one-requires-clause-holds : goal.cut-one-requires-clause-holds
 cut-one-requires-clause-holds c = (omega (arith, ap (λ v. v.holds) c.loop.invariant.1, c.loop-test.true), ap (λ v. v.over) c.loop.invariant.1)
 
+pub cut-one-requires-clause-unswept : goal.cut-one-requires-clause-unswept
+cut-one-requires-clause-unswept c = ap (λ v. v.swept) c.loop.invariant.1
+
 pub loop-init : goal.loop-init
 loop-init c = let e : c.args.count + 1 - 1 ≡ c.args.count = omega arith in
     (c.requires.seat.0, c.requires.seat.1 ∙ ap (fresh c.args.self.now.plan.parts c.args.self.now.plan.seats) (sym e), omega (arith, c.in-Ok.ensures.len), none_fresh c.args.self.now c.in-Ok.seats.items c.in-Ok.ensures.items)

@@ -1,6 +1,5 @@
 use Rattle.std.proofs.Common.{◌≡◌, sym, ap, ◌∙◌, arith}
 use Rattle.ol_wire.specs.Stand.{Board}
-use Rattle.ol_wire.specs.Layout.{size}
 use Rattle.ol_wire.proofs.Steps.{draws_allowed}
 use Rattle.ol_wire.proofs.shared.Shared.draw.Goals as goal
 

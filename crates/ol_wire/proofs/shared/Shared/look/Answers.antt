@@ -6,7 +6,7 @@ use Rattle.ol_wire.specs.References.{kind_in}
 use Rattle.ol_wire.specs.Layout.{size}
 use Rattle.ol_wire.specs.Plays.{IsNodeOf}
 use Rattle.ol_wire.specs.Stand.{Board}
-use Rattle.ol_wire.specs.Holds.{IsInHand, IsOfPair}
+use Rattle.ol_wire.specs.Hands.{IsInHand, IsOfPair}
 use Rattle.ol_wire.proofs.StepsPair.{arity_two}
 use Rattle.ol_wire.proofs.Steps.{looks_allowed}
 use Rattle.ol_wire.proofs.shared.Shared.look.Goals as goal
@@ -32,3 +32,6 @@ load-requires c =
     let w : ℕ = c.requires.pair.0 in
     let taken : IsIn {X = ℕ × ℕ} (w, me.me.0.last.0) me.me.0.taken = subst (λ (l : List (ℕ × ℕ)). IsIn {X = ℕ × ℕ} (w, me.me.0.last.0) l) (sym h.taken) (inl refl) in
     (of, omega (arith, c.field-word.ensures, node.4, c.requires.slot, arity_two (kind_in c.args.node), c.self.invariant.2, ap (λ (z : Parts). size z) parts), looks_allowed t.key t.table_id.slots me.id me.me c.requires.token.1.2 w c.args.node c.args.slot taken h.right c.requires.node c.requires.slot c.field-word.result c.field-word.ensures)
+
+pub returns-clause-same : goal.returns-clause-same
+returns-clause-same c = subst (λ (u : ℕ). (y : ℕ) → IsIn {X = ℕ × ℕ} (u, y) c.args.token.now.me.0.known → y ≡ c.load.result) c.field-word.ensures c.load.ensures.2.1

@@ -1,5 +1,4 @@
-use Rattle.std.proofs.Common.{◌≡◌, ◌+◌, ℕ, sym, refl, ap, ◌∙◌, subst, inl, arith, List}
-use Rattle.ol_edges.specs.Edges.{IsIn}
+use Rattle.std.proofs.Common.{◌≡◌, ◌+◌, ℕ, sym, ap, ◌∙◌, arith}
 use Rattle.ol_wire.specs.declared.layout.Parts.{Parts}
 use Rattle.ol_wire.specs.Layout.{left_word, size}
 use Rattle.ol_wire.specs.Stand.{Board}
@@ -16,5 +15,4 @@ load-requires c =
     let parts : c.self.inside.parts ≡ z = sym c.self.invariant.0 ∙ ap (λ (b : Board). b.plan.parts) c.self.view_is in
     let w : ℕ = left_word z c.args.cell in
     let word : c.left_word-word.result ≡ w = c.left_word-word.ensures ∙ ap (λ (z : Parts). left_word z c.args.cell) parts in
-    let taken : IsIn {X = ℕ × ℕ} (w, me.me.0.last.0) me.me.0.taken = subst (λ (l : List (ℕ × ℕ)). IsIn {X = ℕ × ℕ} (w, me.me.0.last.0) l) (sym c.requires.taken) (inl refl) in
-    (of, omega (arith, word, (part_cell z c.args.cell c.requires.cell).2, c.self.invariant.2, ap (λ (z : Parts). size z) parts), pairs_allowed_at t.key t.table_id.slots me.id me.me c.requires.token.1.2 w me.me.0.last.0 taken (c.left_word-word.result + 1) (omega (arith, word)))
+    (of, omega (arith, word, (part_cell z c.args.cell c.requires.cell).2, c.self.invariant.2, ap (λ (z : Parts). size z) parts), pairs_allowed_at t.key t.table_id.slots me.id me.me c.requires.token.1.2 w me.me.0.last.0 c.requires.taken (c.left_word-word.result + 1) (omega (arith, word)))

@@ -1,27 +1,28 @@
-use Rattle.std.proofs.Common.{◌≡◌, ℕ, List, sym, ap, ◌∙◌, subst, arith}
+use Rattle.std.proofs.Common.{◌≡◌, ◌+◌, ℕ, List, get_or, refl, sym, ap, ◌∙◌, subst}
 use Rattle.ol_wire.specs.declared.layout.Parts.{Parts}
 use Rattle.ol_wire.specs.declared.view.View.{View}
-use Rattle.ol_wire.specs.Plays.{IsNodeOf, IsLookedUp}
+use Rattle.ol_wire.specs.References.{place_in}
+use Rattle.ol_wire.specs.Plays.{IsNodeOf, IsLookedUp, late}
 use Rattle.ol_wire.specs.Stand.{Board}
-use Rattle.ol_wire.specs.Holds.{IsOfPair, Rewrote}
-use Rattle.ol_wire.proofs.StepsHold.{of_pair, node_in_hand, place_small, seen, looked_up, looked_twice, rewritten}
+use Rattle.ol_wire.specs.Hands.{IsInHand, IsOfPair, AreFields}
+use Rattle.ol_wire.proofs.StepsHold.{of_pair, node_in_hand, place_small, seen, still_in_hand, looked_up, looked_twice, rewritten}
 use Rattle.ol_wire.proofs.shared.Shared.rewrite.Goals as goal
 
-pub look_at-requires-clause-node : goal.look_at-requires-clause-node
-look_at-requires-clause-node c = (of_pair c.args.token.now.me.0 c.args.rewrite c.requires.rule.0).0
+pub look_at-of_f-requires-clause-node : goal.look_at-of_f-requires-clause-node
+look_at-of_f-requires-clause-node c = (of_pair c.args.token.now.me.0 c.args.rewrite c.requires.rule.0).0
 
-pub look_at-requires-2-clause-node : goal.look_at-requires-2-clause-node
-look_at-requires-2-clause-node c =
+pub look_at-of_g-requires-clause-node : goal.look_at-of_g-requires-clause-node
+look_at-of_g-requires-clause-node c =
     let v : View = c.args.token.now.me.0 in
-    let last : v.last ≡ c.look_at.new.token.me.0.last = sym (ap (λ (u : View). u.last) c.look_at.ensures.view) in
+    let last : v.last ≡ c.look_at-of_f.new.token.me.0.last = sym (ap (λ (u : View). u.last) c.look_at-of_f.ensures.view) in
     subst (λ (pair : ℕ × ℕ). IsOfPair (record v { last = pair }) c.args.rewrite.g) last (of_pair v c.args.rewrite c.requires.rule.0).1
 
 pub draw-requires-clause-pair : goal.draw-requires-clause-pair
 draw-requires-clause-pair c =
     let v : View = c.args.token.now.me.0 in
     let r = c.args.rewrite in
-    let e = looked_twice v c.look_at.new.token.me.0 c.look_at-2.new.token.me.0 r c.look_at.result c.look_at-2.result c.look_at.ensures.view c.look_at-2.ensures.view in
-    (c.requires.pair.0, subst (λ (u : View). IsLookedUp u c.requires.pair.0) (sym e) (looked_up v c.requires.pair.0 r c.look_at.result c.look_at-2.result c.requires.token.1.2 c.requires.pair.1 c.requires.free.0 c.requires.free.1 c.requires.free.2 c.requires.rule.0 c.requires.rule.1))
+    let e = looked_twice v c.look_at-of_f.new.token.me.0 c.look_at-of_g.new.token.me.0 r c.look_at-of_f.result c.look_at-of_g.result c.look_at-of_f.ensures.view c.look_at-of_g.ensures.view in
+    (c.requires.pair.0, subst (λ (u : View). IsLookedUp u c.requires.pair.0) (sym e) (looked_up v c.requires.pair.0 r c.look_at-of_f.result c.look_at-of_g.result c.requires.token.1.2 c.requires.pair.1 c.requires.free.0 c.requires.free.1 c.requires.free.2 c.requires.rule.0 c.requires.rule.1))
 
 pub block_words-words-requires-clause-places : goal.block_words-words-requires-clause-places
 block_words-words-requires-clause-places c =
@@ -35,5 +36,24 @@ pub returns-clause-view : goal.returns-clause-view
 returns-clause-view c =
     let v : View = c.args.token.now.me.0 in
     let r = c.args.rewrite in
-    let e = looked_twice v c.look_at.new.token.me.0 c.look_at-2.new.token.me.0 r c.look_at.result c.look_at-2.result c.look_at.ensures.view c.look_at-2.ensures.view in
-    (c.in_ok-ticket.ensures.view.0, rewritten v c.look_at-2.new.token.me.0 c.draw.new.token.me.0 c.write_block.new.token.me.0 c.requires.pair.0 c.in_ok-ticket.ticket (seen v r c.look_at.result c.look_at-2.result) c.requires.pair.1 c.requires.free.0 e c.in_ok-ticket.ensures.view.1 c.write_block.ensures.view)
+    let v1 : View = c.look_at-of_f.new.token.me.0 in
+    let v2 : View = c.look_at-of_g.new.token.me.0 in
+    let of_f = c.look_at-of_f.result in
+    let of_g = c.look_at-of_g.result in
+    let e = looked_twice v v1 v2 r of_f of_g c.look_at-of_f.ensures.view c.look_at-of_g.ensures.view in
+    let f_known : AreFields v2.known r.f of_f = λ s lt. c.look_at-of_g.ensures.keeps (place_in r.f + s) (get_or of_f s 0) (c.look_at-of_f.ensures.found s lt) in
+    let ks : v2.known ≡ seen v r of_f of_g = ap (λ (u : View). u.known) e in (
+      c.in_ok-ticket.ensures.view.0,
+      refl,
+      rewritten v v2 c.draw.new.token.me.0 c.write_block.new.token.me.0 c.requires.pair.0 c.in_ok-ticket.ticket r (seen v r of_f of_g) of_f of_g c.requires.pair.1 c.requires.free.0 c.requires.rule.0 c.requires.rule.1
+          (subst (λ (l : List (ℕ × ℕ)). AreFields l r.f of_f) ks f_known) (subst (λ (l : List (ℕ × ℕ)). AreFields l r.g of_g) ks c.look_at-of_g.ensures.found) e c.in_ok-ticket.ensures.view.1 c.write_block.ensures.view,
+    )
+
+pub returns-in_err-ticket-clause-hand : goal.returns-in_err-ticket-clause-hand
+returns-in_err-ticket-clause-hand c =
+    let v : View = c.args.token.now.me.0 in
+    let r = c.args.rewrite in
+    let of_f = c.look_at-of_f.result in
+    let of_g = c.look_at-of_g.result in
+    let e = looked_twice v c.look_at-of_f.new.token.me.0 c.look_at-of_g.new.token.me.0 r of_f of_g c.look_at-of_f.ensures.view c.look_at-of_g.ensures.view in
+    λ none_drawn w hand. subst (λ (u : View). IsInHand u w) (sym (c.in_err-ticket.ensures.view ∙ ap late e)) (still_in_hand v w r of_f of_g hand)

@@ -1,0 +1,32 @@
+-- A link that a seat makes: its two ends, and what is left once it is made.
+use Rattle.std.specs.Prelude.{◌≡◌, ℕ, ◌<◌, ◌⊎◌, Bool, if◌then◌else◌, List, [], ◌∷◌, ◌++◌}
+use Rattle.ol_wire.specs.declared.layout.Parts.{Parts}
+use Rattle.ol_wire.specs.declared.view.Link.{Link}
+use Rattle.ol_wire.specs.declared.view.View.{View}
+use Rattle.ol_wire.specs.References.{place_in, IsNodeRef, IsWireRef}
+use Rattle.ol_wire.specs.Layout.{size}
+use Rattle.ol_wire.specs.LinkPlays.{IsBetween}
+use Rattle.ol_wire.specs.Plays.{cell_at, rest}
+
+abbrev pub link_between : ℕ → ℕ → ℕ → Link
+link_between w a b = record { cell = w; one = a; two = b }
+
+-- what an end of a link has to be: a node, or a wire or a free port by a word of the table
+abbrev pub IsEndOf : Parts → ℕ → Type 0
+IsEndOf z r = IsNodeRef r ⊎ (IsWireRef r × (place_in r < size z))
+
+-- nothing is to be written before the links, and the first of them is that from a to b, of the cell with left word w
+abbrev pub IsNext : View → ℕ → ℕ → ℕ → Type 0
+IsNext v w a b = (v.due ≡ []) × (v.pending ≡ link_between w a b ∷ rest v.pending)
+
+-- the ends of the first link, in either order
+pub record AreNext (v : View) (a b : ℕ) : Type 0 where
+  pub due : v.due ≡ []
+  pub link : Link
+  pub pending : v.pending ≡ link ∷ rest v.pending
+  pub between : IsBetween link a b
+
+-- The first link, of the cell with left word w, is made. Wires may have died, and its pair may have been published.
+pub record IsLinked (v : View) (w : ℕ) (published : Bool) (n : View) : Type 0 where
+  pub dead : (ws : List ℕ) × (n.dead ≡ v.dead ++ ws)
+  pub view : n ≡ record v { pending = rest v.pending; known = n.known; published = v.published ++ (if published then cell_at v.parts w ∷ [] else []); dead = n.dead }

@@ -1,0 +1,11 @@
+-- What two more steps of a turn tell: the look at a field, and the step that puts a claimed pair back.
+use Rattle.std.specs.Prelude.{◌≡◌, ℕ}
+use Rattle.ol_edges.specs.Edges.{IsIn}
+use Rattle.ol_wire.specs.Plays.{Play, looks, returned}
+
+-- a look that agrees with what the seat knows of that word already
+abbrev pub reads : Play
+reads s m r n = looks s m r n × ((y : ℕ) → IsIn (s.word, y) m.0.known → y ≡ r)
+
+abbrev pub returns : Play
+returns s m r n = (n.1 ≡ m.1) × (n.0 ≡ returned m.0)

@@ -1,0 +1,168 @@
+//! The links that a rewrite leaves. Each is made by exchanges with the words of wires and of free
+//! ports, until an empty word has taken one of its ends or both ends are nodes.
+ghost use Rattle.std.specs.Prelude.{◌≡◌, ◌≢◌, ℕ, suc, ◌+◌, ◌*◌, ◌^◌, ◌<◌, ◌≤◌, ◌⊎◌, [], Some, MatchOption, IfSome, slice_index};
+ghost use Rattle.ol_wire.specs.References.{index_in, place_in, IsNodeRef, IsWireRef};
+ghost use Rattle.ol_wire.specs.Events.{rule_between};
+ghost use Rattle.ol_wire.specs.Layout.{size, born_cell};
+ghost use Rattle.ol_wire.specs.Blocks.{joins_in, link_of};
+ghost use Rattle.ol_wire.specs.Plays.{IsRefOf, linked, moved, publishing};
+ghost use Rattle.ol_wire.specs.LinkPlays.{spread};
+ghost use Rattle.ol_wire.specs.Rewrites.{event_for};
+ghost use Rattle.ol_wire.specs.Sizes.{IsSmall};
+ghost use Rattle.ol_wire.specs.Stand.{IsUnder};
+ghost use Rattle.ol_wire.specs.Links.{link_between, IsEndOf, IsNext, AreNext, IsLinked};
+ghost use Rattle.ol_wire.specs.Turns.{IsBegun, AreLinked};
+
+use crate::law::{Links, Places, Publishes};
+use crate::layout::Parts;
+use crate::reference::{is_node, place_in};
+use crate::rewrite::is_meeting;
+use crate::seat::Token;
+use crate::shared::Shared;
+use crate::turning::Begun;
+
+// Of two ends of which one is no node, the first such one, and then the other.
+fn open_end(one: u64, two: u64) -> Option<(u64, u64)>
+    ensures { MatchOption result (IsNodeRef one × IsNodeRef two) (λ ends. (IsNodeRef ends.0 → ⊥) × (((ends.0 ≡ one) × (ends.1 ≡ two)) ⊎ ((ends.0 ≡ two) × (ends.1 ≡ one)))) }
+{
+    if !is_node(one) {
+        return Some((one, two));
+    }
+    if !is_node(two) {
+        return Some((two, one));
+    }
+    None
+}
+
+// The bit of a join in the mask.
+fn bit(join: u32) -> u8
+    requires { join < 4 }
+    ensures { result ≡ 2 ^ join }
+{
+    match join {
+        0 => 1,
+        1 => 2,
+        2 => 4,
+        _ => 8,
+    }
+}
+
+impl Parts {
+    // The left word of the cell of a join of a ticket.
+    fn born_cell(self, ticket: u32, join: u32) -> u32
+        requires { IsSmall self × (ticket ≤ 2000000) × (join < 4) }
+        ensures { result ≡ born_cell self ticket join }
+    {
+        self.block(ticket) + 14 + 2 * join
+    }
+
+    // The word of a wire or of a free port.
+    fn word_of(self, wire: u64) -> u32
+        requires { IsSmall self × (place_in wire < size self) }
+        ensures { result ≡ place_in wire }
+    {
+        place_in(wire)
+    }
+}
+
+impl Begun {
+    // The two ends of a join.
+    fn ends(self, parts: Parts, join: u32) -> (u64, u64)
+        requires small { IsSmall parts × (self.ticket ≤ 2000000) }
+        requires join { join < joins_in (event_for self.rewrite) }
+        requires rule { rule_between self.rewrite.f self.rewrite.g ≡ Some self.rewrite.rule }
+        requires index { index_in self.rewrite.g < 16777215 }
+        ensures { link_between (born_cell parts self.ticket join) result.0 result.1 ≡ link_of parts (event_for self.rewrite) self.ticket (λ s. slice_index self.of_f s) (λ s. slice_index self.of_g s) join }
+    {
+        if is_meeting(self.rewrite.rule) {
+            return (self.of_f[join as usize], self.of_g[join as usize]);
+        }
+        let born = parts.born_ref(self.rewrite, self.ticket, join);
+        let copies = self.rewrite.copies_of_f();
+        if join < copies {
+            return (born, self.of_g[join as usize]);
+        }
+        (born, self.of_f[(join - copies) as usize])
+    }
+}
+
+impl Shared {
+    // Makes the links of a rewrite. Bit j of the answer is set where the pair of join j was published.
+    pub(crate) fn link_all(&self, token: &mut Token, begun: Begun) -> u8
+        requires token { (token.old.table_id ≡ self.now.table) × IsUnder self.now.plan token.old.me.0 }
+        requires begun { IsBegun self.now.plan.parts token.old.me.0 begun }
+        ensures token { (token.new.table_id ≡ token.old.table_id) × (token.new.me.1 ≡ token.old.me.1) }
+        ensures view { AreLinked self.now.plan.parts token.old.me.0 begun result token.new.me.0 }
+    {
+        let mut mask: u8 = 0;
+        for j in 0..begun.rewrite.joins() {
+            let (one, two) = begun.ends(self.parts, j);
+            let cell = self.parts.born_cell(begun.ticket, j);
+            if self.link(token, cell, one, two) {
+                mask += bit(j);
+            }
+        }
+        mask
+    }
+
+    // Makes the first pending link, and tells whether its pair was published. `cell` is the left word of
+    // its cell.
+    fn link(&self, token: &mut Token, cell: u32, one: u64, two: u64) -> bool
+        requires token { (token.old.table_id ≡ self.now.table) × IsUnder self.now.plan token.old.me.0 }
+        requires next { IsNext token.old.me.0 cell one two }
+        requires ends { IsEndOf self.now.plan.parts one × IsEndOf self.now.plan.parts two }
+        requires cell { suc cell < size self.now.plan.parts }
+        ensures token { (token.new.table_id ≡ token.old.table_id) × (token.new.me.1 ≡ token.old.me.1) }
+        ensures view { IsLinked token.old.me.0 cell result token.new.me.0 }
+    {
+        let mut a = one;
+        let mut b = two;
+        loop {
+            let Some((wire, other)) = open_end(a, b) else {
+                self.publish(token, cell, a, b);
+                return true;
+            };
+            let Some(found) = self.exchange(token, wire, other) else {
+                return false;
+            };
+            a = other;
+            b = found;
+        }
+    }
+
+    // Puts `other` into the word of `wire`, where these are the ends of the first pending link, and gives
+    // what stood there.
+    fn exchange(&self, token: &mut Token, wire: u64, other: u64) -> Option<u64>
+        requires token { (token.old.table_id ≡ self.now.table) × IsUnder self.now.plan token.old.me.0 }
+        requires next { AreNext token.old.me.0 wire other }
+        requires wire { IsWireRef wire × (place_in wire < size self.now.plan.parts) }
+        ensures token { (token.new.table_id ≡ token.old.table_id) × (token.new.me.1 ≡ token.old.me.1) }
+        ensures view { MatchOption result (token.new.me.0 ≡ linked token.old.me.0) (λ found. token.new.me.0 ≡ moved token.old.me.0 (place_in wire) other found) }
+        ensures ends { IfSome result (λ found. IsRefOf self.now.plan.parts other × IsRefOf self.now.plan.parts found) }
+        ensures falls { IfSome result (λ found. (spread (size self.now.plan.parts) token.new.me.0.dead ≡ spread (size self.now.plan.parts) token.old.me.0.dead + 1) × (spread (size self.now.plan.parts) token.new.me.0.dead ≤ size self.now.plan.parts)) }
+    {
+        let place = self.parts.word_of(wire);
+        let found = self
+            .table
+            .shared
+            .swap::<Links>(token, place as usize, other);
+        if found == 0 { None } else { Some(found) }
+    }
+
+    // Writes the two nodes of the first pending link into its cell, the right word first.
+    fn publish(&self, token: &mut Token, cell: u32, one: u64, two: u64)
+        requires token { (token.old.table_id ≡ self.now.table) × IsUnder self.now.plan token.old.me.0 }
+        requires next { IsNext token.old.me.0 cell one two }
+        requires nodes { IsNodeRef one × IsNodeRef two }
+        requires cell { suc cell < size self.now.plan.parts }
+        ensures token { (token.new.table_id ≡ token.old.table_id) × (token.new.me.1 ≡ token.old.me.1) }
+        ensures view { token.new.me.0 ≡ publishing token.old.me.0 cell }
+    {
+        self.table
+            .shared
+            .store::<Places>(token, cell as usize + 1, two);
+        self.table
+            .shared
+            .store::<Publishes>(token, cell as usize, one);
+    }
+}

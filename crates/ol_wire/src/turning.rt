@@ -1,0 +1,193 @@
+//! A turn: a claim, and what becomes of the pair that it finds.
+ghost use Rattle.std.specs.Prelude.{◌≡◌, ◌≢◌, ℕ, ◌+◌, ◌*◌, ◌<◌, ◌≤◌, [], ◌∷◌, ◌++◌, true, false, None, Some, MatchOption, IfSome, IfOk, IfErr, ◌↔◌};
+ghost use Rattle.ol_edges.specs.Edges.{IsIn};
+ghost use Rattle.ol_net.specs.Parts.{arity};
+ghost use Rattle.ol_wire.specs.References.{kind_in, place_in};
+ghost use Rattle.ol_wire.specs.Events.{rule_between};
+ghost use Rattle.ol_wire.specs.Layout.{block, left_word, cells_of};
+ghost use Rattle.ol_wire.specs.Blocks.{to_write};
+ghost use Rattle.ol_wire.specs.Plays.{IsNodeOf, event_in};
+ghost use Rattle.ol_wire.specs.Rewrites.{event_for};
+ghost use Rattle.ol_wire.specs.Stand.{IsUnder, IsOf};
+ghost use Rattle.ol_wire.specs.Views.{IsIdle};
+ghost use Rattle.ol_wire.specs.Hands.{IsStuckLast, missed, in_hand, IsInHand, IsOfPair, fields_known, IsSure, AreFields, AreRefs, Rewrote};
+ghost use Rattle.ol_wire.specs.Turns.{FoundActive, IsRewrote, HasCause, Leaves, Begins};
+
+use crate::reference::kind_in;
+use crate::rewrite::{Rewrite, rewrite_of};
+use crate::seat::{Seat, Token};
+use crate::shared::Shared;
+use ol_net::Rule;
+
+/// What a turn came to.
+///
+/// - `Rewrote`: the pair is rewritten, and its entry is in the journal. The four cells from `first_cell`
+///   on are the ticket's own; bit j of `mask` is set where the turn published a pair in the one of number
+///   `first_cell + j`.
+/// - `Gone`: the cell was empty.
+/// - `Stuck`: the pair has no rule. It is in its cell again.
+/// - `Spent`: the pair is active, and the fuel is used up. It is in its cell again.
+#[derive(Clone, Copy, Debug, PartialEq, Eq)]
+pub enum Turn {
+    Rewrote {
+        ticket: u32,
+        rule: Rule,
+        first_cell: u32,
+        mask: u8,
+    },
+    Gone,
+    Stuck,
+    Spent,
+}
+
+/// A rewrite whose ticket is drawn and whose block is written, and what the fields of its two nodes held.
+/// Its links are to be made.
+#[derive(Clone, Copy)]
+pub(crate) struct Begun {
+    pub(crate) rewrite: Rewrite,
+    pub(crate) ticket: u32,
+    pub(crate) of_f: [u64; 2],
+    pub(crate) of_g: [u64; 2],
+}
+
+impl Shared {
+    /// Claims a cell and rewrites the pair that stands there, if it has a rule and there is fuel.
+    pub fn turn(&self, seat: &mut Seat, cell: u32) -> Turn
+        requires seat { IsOf self.now seat.old }
+        requires cell { cell < cells_of self.now.plan.parts }
+        ensures seat { IsOf self.now seat.new }
+        ensures gone { (result ≡ Turn.Gone) ↔ (seat.new.view.last.0 ≡ 0) }
+        ensures stuck { (result ≡ Turn.Stuck) ↔ ((seat.new.view.last.0 ≢ 0) × IsStuckLast seat.new.view) }
+        ensures spent { (result ≡ Turn.Spent) ↔ (FoundActive seat.new.view × (seat.new.view.over ≡ true)) }
+        ensures rewrote { IsRewrote result ↔ (FoundActive seat.new.view × (seat.new.view.over ≡ false)) }
+        ensures claimed { seat.new.view.claimed ≡ seat.old.view.claimed ++ cell ∷ [] }
+        ensures others { seat.new.view.holds ≡ seat.old.view.holds }
+        ensures view { Leaves self.now.plan.parts seat.old.view cell result seat.new.view }
+    {
+        let begun = match self.begin(&mut seat.token, seat.over, cell) {
+            Ok(begun) => begun,
+            Err(ended) => {
+                if let Turn::Spent = ended {
+                    seat.over = true;
+                }
+                return ended;
+            }
+        };
+        let mask = self.link_all(&mut seat.token, begun);
+        Turn::Rewrote {
+            ticket: begun.ticket,
+            rule: begun.rewrite.rule,
+            first_cell: self.parts.cells + 4 * begun.ticket,
+            mask,
+        }
+    }
+
+    // A turn up to its links: it is over already, or a pair has become a ticket. `over` is the seat's.
+    fn begin(&self, token: &mut Token, over: bool, cell: u32) -> Result<Begun, Turn>
+        requires token { (token.old.table_id ≡ self.now.table) × IsUnder self.now.plan token.old.me.0 }
+        requires cell { cell < cells_of self.now.plan.parts }
+        requires idle { IsIdle token.old.me.0 }
+        requires over { token.old.me.0.over ≡ over }
+        ensures token { (token.new.table_id ≡ token.old.table_id) × (token.new.me.1 ≡ token.old.me.1) }
+        ensures begun { IfOk result (λ b. Begins self.now.plan.parts token.old.me.0 cell b token.new.me.0) }
+        ensures ended { IfErr result (λ t. HasCause t token.new.me.0 × Leaves self.now.plan.parts token.old.me.0 cell t token.new.me.0) }
+    {
+        let Some((left, right)) = self.take(token, cell) else {
+            return Err(Turn::Gone);
+        };
+        let Some(rewrite) = rewrite_of(left, right) else {
+            self.put_back(token, cell, left);
+            return Err(Turn::Stuck);
+        };
+        if over {
+            self.put_back(token, cell, left);
+            return Err(Turn::Spent);
+        }
+        let Some(begun) = self.rewrite(token, rewrite) else {
+            self.put_back(token, cell, left);
+            return Err(Turn::Spent);
+        };
+        Ok(begun)
+    }
+
+    // Claims a cell, and reads its right word if the left one wasn't empty.
+    fn take(&self, token: &mut Token, cell: u32) -> Option<(u64, u64)>
+        requires token { (token.old.table_id ≡ self.now.table) × IsUnder self.now.plan token.old.me.0 }
+        requires cell { cell < cells_of self.now.plan.parts }
+        requires idle { IsIdle token.old.me.0 }
+        ensures token { (token.new.table_id ≡ token.old.table_id) × (token.new.me.1 ≡ token.old.me.1) }
+        ensures view { MatchOption result (token.new.me.0 ≡ missed token.old.me.0 cell) (λ pair. (pair.0 ≢ 0) × (token.new.me.0 ≡ in_hand token.old.me.0 (left_word self.now.plan.parts cell) cell pair)) }
+        ensures nodes { IfSome result (λ pair. IsNodeOf self.now.plan.parts pair.0 × IsNodeOf self.now.plan.parts pair.1) }
+    {
+        let left = self.claim(token, cell);
+        if left == 0 {
+            return None;
+        }
+        let right = self.pair(token, cell);
+        Some((left, right))
+    }
+
+    // Draws a ticket for the pair in hand and writes its words, or finds that the fuel is used up.
+    fn rewrite(&self, token: &mut Token, rewrite: Rewrite) -> Option<Begun>
+        requires token { (token.old.table_id ≡ self.now.table) × IsUnder self.now.plan token.old.me.0 }
+        requires pair { (w : ℕ) × IsInHand token.old.me.0 w }
+        requires free { (token.old.me.0.due ≡ []) × (token.old.me.0.pending ≡ []) × (token.old.me.0.over ≡ false) }
+        requires rule { (event_for rewrite ≡ event_in token.old.me.0) × (rule_between rewrite.f rewrite.g ≡ Some rewrite.rule) }
+        ensures token { (token.new.table_id ≡ token.old.table_id) × (token.new.me.1 ≡ token.old.me.1) }
+        ensures view { MatchOption result (token.new.me.0 ≡ record token.old.me.0 { known = token.new.me.0.known; over = true }) (λ b. (b.ticket < self.now.plan.parts.fuel) × (b.rewrite ≡ rewrite) × Rewrote token.old.me.0 b.ticket b.of_f b.of_g token.new.me.0) }
+        ensures refs { IfSome result (λ b. AreRefs self.now.plan.parts rewrite.f b.of_f × AreRefs self.now.plan.parts rewrite.g b.of_g) }
+        ensures hand { result ≡ None → (w : ℕ) → IsInHand token.old.me.0 w → IsInHand token.new.me.0 w }
+    {
+        let of_f = self.look_at(token, rewrite.f);
+        let of_g = self.look_at(token, rewrite.g);
+        let ticket = self.draw(token)?;
+        let words = self.parts.block_words(rewrite, ticket);
+        self.write_block(token, ticket, &words);
+        Some(Begun {
+            rewrite,
+            ticket,
+            of_f,
+            of_g,
+        })
+    }
+
+    // Reads the fields of one of the two nodes in hand.
+    fn look_at(&self, token: &mut Token, node: u64) -> [u64; 2]
+        requires token { (token.old.table_id ≡ self.now.table) × IsUnder self.now.plan token.old.me.0 }
+        requires pair { (w : ℕ) × IsInHand token.old.me.0 w }
+        requires node { IsOfPair token.old.me.0 node }
+        ensures token { (token.new.table_id ≡ token.old.table_id) × (token.new.me.1 ≡ token.old.me.1) }
+        ensures view { token.new.me.0 ≡ record token.old.me.0 { known = fields_known (arity (kind_in node)) (place_in node) result ++ token.old.me.0.known } }
+        ensures found { AreFields token.new.me.0.known node result }
+        ensures refs { AreRefs self.now.plan.parts node result }
+        ensures keeps { (w y : ℕ) → IsSure token.old.me.0.known w y → IsSure token.new.me.0.known w y }
+    {
+        let slots = kind_in(node).slots();
+        if slots == 1 {
+            return [0, 0];
+        }
+        let first = self.look(token, node, 0);
+        if slots == 2 {
+            return [first, 0];
+        }
+        let second = self.look(token, node, 1);
+        [first, second]
+    }
+
+    // Writes those of the first words of a block that aren't empty.
+    fn write_block(&self, token: &mut Token, ticket: u32, words: &[u64; 10])
+        requires token { (token.old.table_id ≡ self.now.table) × IsUnder self.now.plan token.old.me.0 }
+        requires ticket { ticket < self.now.plan.parts.fuel }
+        requires due { token.old.me.0.due ≡ to_write (block self.now.plan.parts ticket) words.now }
+        ensures token { (token.new.table_id ≡ token.old.table_id) × (token.new.me.1 ≡ token.old.me.1) }
+        ensures view { token.new.me.0 ≡ record token.old.me.0 { due = [] } }
+    {
+        let first = self.parts.block(ticket);
+        for i in 0..10 {
+            let word = words[i];
+            if word != 0 {
+                self.write(token, first + i as u32, word);
+            }
+        }
+    }
+}
