@@ -76,7 +76,10 @@ fn assert_same(rt: &impl Abort, frozen: &Net, net: &Net) {
     assert_eq!(rt; frozen.born(), net.born());
     assert_eq!(rt; frozen.free_ports(), net.free_ports());
     for port in 0..net.free_ports() {
-        assert_eq!(rt; frozen.partner(Port::Free(port)), net.partner(Port::Free(port)));
+        assert_eq!(rt;
+            frozen.partner(Port::Free(port)),
+            net.partner(Port::Free(port))
+        );
     }
     for node in 0..net.born() {
         assert_eq!(rt; frozen.kind_of(NodeId(node)), net.kind_of(NodeId(node)));

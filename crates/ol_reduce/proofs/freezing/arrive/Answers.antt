@@ -1,7 +1,6 @@
-use Rattle.std.proofs.Common.{◌≡◌, ℕ, ◌+◌, ◌*◌, ◌<◌, length, slice_set, List, sym, ap, ◌∙◌, subst, arith}
-use Rattle.ol_net.specs.declared.parts.Kind.{Kind}
-use Rattle.ol_wire.specs.References.{kind_in, index_in}
-use Rattle.ol_reduce.proofs.Arriving.{node_place, node_small, table_long, arrived_after, arrived_site, arrived_keeps}
+use Rattle.std.proofs.Common.{◌+◌, ◌*◌, slice_set, ap, ◌∙◌}
+use Rattle.ol_wire.specs.References.{kind_in}
+use Rattle.ol_reduce.proofs.Arriving.{node_place, node_small, arrived_after, arrived_site, arrived_keeps}
 use Rattle.ol_reduce.proofs.freezing.arrive.Goals as goal
 
 pub place_in-requires : goal.place_in-requires

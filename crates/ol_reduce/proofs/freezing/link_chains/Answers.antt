@@ -1,4 +1,4 @@
-use Rattle.std.proofs.Common.{◌≡◌, ℕ, ◌+◌, ◌<◌, List, length, slice_index, sym, ap, ◌∙◌, subst, arith}
+use Rattle.std.proofs.Common.{◌∙◌}
 use Rattle.ol_wire.specs.Layout.{cells_of}
 use Rattle.ol_reduce.proofs.Rounds.{met_first, celled_kept, keeps_all, filled_zeros}
 use Rattle.ol_reduce.proofs.freezing.link_chains.Goals as goal

@@ -1,4 +1,4 @@
-use Rattle.std.proofs.Common.{◌≡◌, ℕ, ◌+◌, ◌-◌, ◌*◌, ◌<◌, length, slice_index, List, Fits, lit<, w32, refl, sym, ap, ◌∙◌, subst, arith}
+use Rattle.std.proofs.Common.{◌+◌, refl, ◌∙◌, arith}
 use Rattle.ol_reduce.proofs.Rounds.{slot_word_at, slot_within, slot_below, past_slot, keeps_all, place_read}
 use Rattle.ol_reduce.proofs.freezing.link_node.Goals as goal
 

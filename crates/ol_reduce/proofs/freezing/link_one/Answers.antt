@@ -1,4 +1,4 @@
-use Rattle.std.proofs.Common.{◌≡◌, ◌≢◌, ℕ, ◌+◌, ◌-◌, ◌*◌, ◌<◌, length, slice_index, List, refl, sym, ap, ◌∙◌, subst, arith}
+use Rattle.std.proofs.Common.{refl, arith}
 use Rattle.ol_reduce.proofs.Arriving.{table_long}
 use Rattle.ol_reduce.proofs.Walking.{empty_done, is_first, link_done, link_keeps, node_in, node_linked, port_within, port_linked, port_known, wire_within, other_within, wire_done, wire_keeps}
 use Rattle.ol_reduce.proofs.freezing.link_one.Goals as goal
