@@ -1,14 +1,14 @@
 -- The steps of the code, over all nets that the words stand for.
-use Rattle.std.proofs.Common.{◌≡◌, ◌≢◌, ℕ, zero, suc, ◌+◌, ◌-◌, ◌*◌, ◌<◌, ◌≤◌, Bool, true, List, [], ◌∷◌, length, slice_index, slice_set, ◌⊎◌, inl, inr, refl, sym, ap, ◌∙◌, subst, arith}
-use Rattle.std.proofs.lemmas.Bool.{cases_eq, cases_lt}
+use Rattle.std.proofs.Common.{◌≡◌, ◌≢◌, ℕ, suc, ◌+◌, ◌*◌, ◌<◌, ◌≤◌, Bool, List, length, slice_index, slice_set, ◌⊎◌, inl, inr, refl, sym, ap, ◌∙◌, subst, arith}
+use Rattle.std.proofs.lemmas.Bool.{cases_lt}
 use Rattle.ol_net.specs.declared.parts.Kind.{Kind}
-use Rattle.ol_net.specs.Nets.{NamedPort, free, slot, NamedNet, Linked}
+use Rattle.ol_net.specs.Nets.{slot, NamedNet, Linked}
 use Rattle.ol_net.specs.Pairing.{other, linked}
 use Rattle.ol_net.proofs.Tables.{length-linked}
 use Rattle.ol_rules.specs.declared.journal.NodeName.{NodeName}
 use Rattle.ol_wire.specs.declared.layout.Parts.{Parts}
-use Rattle.ol_wire.specs.References.{kind_in, index_in, place_in, wire_ref, IsNodeRef}
-use Rattle.ol_wire.specs.Layout.{place_of, size, left_word, cells_of, port_word}
+use Rattle.ol_wire.specs.References.{kind_in, index_in, place_in}
+use Rattle.ol_wire.specs.Layout.{place_of, size, left_word, cells_of}
 use Rattle.ol_wire.specs.Rule.{IsPlaced}
 use Rattle.ol_wire.specs.Stands.{IsEnd}
 use Rattle.ol_wire.specs.Closed.{ClosedTable, events_in}
@@ -16,10 +16,9 @@ use Rattle.ol_wire.specs.Standing.{StandsFor, IsAfter}
 use Rattle.ol_wire.proofs.Places.{part_cell, place_before}
 use Rattle.ol_wire.proofs.Claimed.{wider}
 use Rattle.ol_reduce.specs.Left.{ranks_in, IsLeft, AreLeft}
-use Rattle.ol_reduce.specs.Following.{IsFirst, IsStart, EndsAt, LeadsTo, OwnsWord}
-use Rattle.ol_reduce.specs.Frozen.{port_of, IsKnown, IsPartial, AreMet, AreCelled, IsWordOf, IsPartly, AreMetTo, AreCelledTo, IsNodeIn, IsSiteIn, IsWordAt, KeepsKnown, KeepsPartners}
-use Rattle.ol_reduce.proofs.Sites.{one_site, events_few, port_free}
-use Rattle.ol_reduce.proofs.Linking.{still_linked, now_linked, node_told, one_port, one_end, led_node, linked_partial, ends_apart, set_partial, set_known, set_keeps, set_site}
+use Rattle.ol_reduce.specs.Frozen.{port_of, IsKnown, IsPartial, IsPartly, AreCelledTo, IsNodeIn, IsSiteIn, KeepsKnown}
+use Rattle.ol_reduce.proofs.Sites.{one_site, events_few}
+use Rattle.ol_reduce.proofs.Linking.{still_linked, now_linked, node_told, one_port, linked_partial, ends_apart, set_partial, set_known, set_keeps, set_site}
 use Rattle.ol_reduce.proofs.Meeting.{left_node, right_node, cell_linked}
 
 abbrev pub Told : ClosedTable → Type 0

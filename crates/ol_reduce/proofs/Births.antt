@@ -1,5 +1,5 @@
 -- How many nodes a ticket made, as its entry and the two nodes of its block tell.
-use Rattle.std.proofs.Common.{◌≡◌, ◌≢◌, ℕ, zero, suc, ◌+◌, ◌<◌, ◌≤◌, Bool, true, false, if◌then◌else◌, List, [], ◌∷◌, ◌++◌, length, slice_index, Option, Some, None, ◌⊎◌, inl, inr, refl, sym, ap, ◌∙◌, subst, arith}
+use Rattle.std.proofs.Common.{◌≡◌, ℕ, zero, suc, ◌+◌, ◌<◌, Bool, true, false, if◌then◌else◌, List, [], ◌∷◌, ◌++◌, length, slice_index, Option, Some, None, inl, inr, refl, sym, ap, ◌∙◌, arith}
 use Rattle.std.specs.Prelude.{slice_get}
 use Rattle.std.proofs.lemmas.Bool.{cases_lt}
 use Rattle.ol_net.specs.Parts.{arity}
@@ -9,10 +9,10 @@ use Rattle.ol_rules.specs.Rewriting.{is_meeting}
 use Rattle.ol_wire.specs.declared.layout.Parts.{Parts}
 use Rattle.ol_wire.specs.References.{kind_in}
 use Rattle.ol_wire.specs.Layout.{block}
-use Rattle.ol_wire.specs.Events.{Event, rule_between, entry_of, event_of}
+use Rattle.ol_net.specs.declared.parts.Rule.{Rule}
+use Rattle.ol_wire.specs.Events.{rule_between, acting, entry_of}
 use Rattle.ol_wire.specs.Blocks.{copies_of_f, copies_of_g}
 use Rattle.ol_wire.specs.Closed.{events_in, event_at, journal_in}
-use Rattle.ol_wire.proofs.ClosingLive.{acting_copies}
 
 pub length_each : {X : Type 0} (f : ℕ → X) (n : ℕ) → length (each n (λ t. f t ∷ [])) ≡ n
 length_each f zero = refl
@@ -42,6 +42,20 @@ one_each f (suc n) t lt = elim (cases_lt t n) [
 
 pub entry_at : (z : Parts) (words : List ℕ) (t : ℕ) → t < events_in z words → slice_get (journal_in z words) t ≡ Some (entry_of z (event_at z words t))
 entry_at z words t lt = one_each (λ t. entry_of z (event_at z words t)) (events_in z words) t lt
+
+-- how many nodes an event makes, whichever of its two nodes comes first
+acting_copies : (a b : Option Rule) (l r : ℕ) → copies_of_f (acting a b l r) + copies_of_g (acting a b l r) ≡ (if is_meeting (acting a b l r).rule then 0 else arity (kind_in l) + arity (kind_in r))
+acting_copies (Some s) b l r = go (is_meeting s)
+  where
+    go : (m : Bool) → (if m then 0 else arity (kind_in r)) + (if m then 0 else arity (kind_in l)) ≡ (if m then 0 else arity (kind_in l) + arity (kind_in r))
+    go true = omega arith
+    go false = omega arith
+acting_copies None (Some s) l r = go (is_meeting s)
+  where
+    go : (m : Bool) → (if m then 0 else arity (kind_in l)) + (if m then 0 else arity (kind_in r)) ≡ (if m then 0 else arity (kind_in l) + arity (kind_in r))
+    go true = omega arith
+    go false = omega arith
+acting_copies None None l r = omega arith
 
 module _ (z : Parts) (words : List ℕ) (t : ℕ) (lt : t < events_in z words) where
   abbrev made : ℕ

@@ -1,22 +1,22 @@
 -- A chain that is followed from a port's word passes no wire twice, so it ends within as many steps as there are words.
-use Rattle.std.proofs.Common.{◌≡◌, ◌≢◌, ℕ, zero, suc, ◌+◌, ◌-◌, ◌*◌, ◌%◌, ◌/◌, ◌==◌, ◌<◌, ◌≤◌, Bool, true, false, if◌then◌else◌, nat_eq, nat_lt, eq-eqb, ne_eqb, List, [], ◌∷◌, ◌++◌, slice_index, ◌⊎◌, inl, inr, refl, sym, ap, ◌∙◌, subst, arith}
+use Rattle.std.proofs.Common.{◌≡◌, ◌≢◌, ℕ, zero, suc, ◌+◌, ◌-◌, ◌==◌, ◌<◌, ◌≤◌, Bool, true, false, if◌then◌else◌, nat_eq, nat_lt, eq-eqb, ne_eqb, List, [], ◌∷◌, slice_index, ◌⊎◌, inl, inr, refl, sym, ap, ◌∙◌, subst, arith}
 use Rattle.std.proofs.lemmas.Bool.{cases_eq, cases_lt}
 use Rattle.std.proofs.lemmas.Bool.Decides.{nat_tests}
-use Rattle.ol_edges.specs.Edges.{IsIn, ends, bit}
-use Rattle.ol_net.specs.Nets.{NamedPort, free, slot, NamedNet}
+use Rattle.ol_edges.specs.Edges.{IsIn, ends}
+use Rattle.ol_net.specs.Nets.{NamedPort, NamedNet}
 use Rattle.ol_rules.specs.declared.journal.NodeName.{NodeName}
 use Rattle.ol_wire.specs.declared.layout.Parts.{Parts}
-use Rattle.ol_wire.specs.References.{node_ref, wire_ref, slot_ref, kind_in, index_in, place_in, IsNodeRef, IsWireRef, IsRef, IsWhole}
+use Rattle.ol_wire.specs.References.{wire_ref, place_in, IsWireRef, IsRef, IsWhole}
 use Rattle.ol_wire.specs.Layout.{Part, ticket, port, field, wire, between, left, right, entry, past, part_of, place_of, size, block, port_word}
-use Rattle.ol_wire.specs.Edges.{edge_to, edge_in, edges_in}
+use Rattle.ol_wire.specs.Edges.{edge_in, edges_in}
 use Rattle.ol_wire.specs.Stands.{IsEnd, of_port, principal, auxiliary, IsWireEnd}
 use Rattle.ol_wire.specs.Closed.{ClosedTable, events_in}
 use Rattle.ol_wire.specs.Standing.{StandsFor, IsWirePart}
-use Rattle.ol_wire.proofs.References.{node_sort, wire_sort, slot_sort, wire_same}
+use Rattle.ol_wire.proofs.References.{node_sort, slot_sort}
 use Rattle.ol_wire.proofs.Places.{part_port}
 use Rattle.ol_wire.proofs.Claimed.{EdgeAt, at_wire, at_field, at_cell, edge_at}
-use Rattle.ol_reduce.specs.Following.{OwnsWord, LeadsTo, last, more, IsStart, value_after, IsPassed, IsValueAfter}
-use Rattle.ol_reduce.proofs.Forward.{firsts, seconds, ends_split, first_counts, second_counts, seconds_append, own_edge, goes_on, es, row}
+use Rattle.ol_reduce.specs.Following.{OwnsWord, LeadsTo, last, more, IsStart, value_after, IsPassed}
+use Rattle.ol_reduce.proofs.Forward.{seconds, ends_split, first_counts, second_counts, seconds_append, own_edge, goes_on, es, row}
 
 -- ---- so many different numbers below m are at most m
 

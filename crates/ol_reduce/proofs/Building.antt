@@ -1,20 +1,18 @@
 -- A table in which each port has a partner makes links that fit a net.
-use Rattle.std.proofs.Common.{◌≡◌, ◌≢◌, ℕ, zero, suc, ◌+◌, ◌-◌, ◌*◌, ◌<◌, ◌≤◌, ◌==◌, Bool, true, false, not, nat_lt, nat_eq, eq-eqb, lt-ltb, ltb-true, if◌then◌else◌, List, [], ◌∷◌, ◌++◌, length, get_or, Option, Some, ◌⊎◌, inl, inr, refl, sym, ap, ◌∙◌, subst, arith}
-use Rattle.std.proofs.lemmas.Bool.{cases_eq, cases_lt, cases_Bool, false≢true}
+use Rattle.std.proofs.Common.{◌≡◌, ◌≢◌, ℕ, zero, suc, ◌+◌, ◌<◌, ◌≤◌, ◌==◌, Bool, true, false, not, nat_lt, eq-eqb, lt-ltb, if◌then◌else◌, List, [], ◌∷◌, ◌++◌, length, get_or, Option, ◌⊎◌, inl, inr, refl, sym, ap, ◌∙◌, subst, arith}
+use Rattle.std.proofs.lemmas.Bool.{cases_eq, cases_lt, false≢true}
 use Rattle.std.proofs.lemmas.Bool.Decides.{nat_tests}
 use Rattle.std.proofs.lemmas.List.{length-append, get_or_default}
 use Rattle.ol_edges.specs.Edges.{IsIn}
 use Rattle.ol_net.specs.declared.parts.Kind.{Kind}
 use Rattle.ol_net.specs.declared.parts.Port.{Port}
-use Rattle.ol_net.specs.declared.parts.Port.TheVariants.{Free, Of}
 use Rattle.ol_net.specs.declared.parts.BuildFault.{BuildFault}
 use Rattle.ol_net.specs.declared.parts.BuildFault.TheVariants.{BadIndex, BadPort, Twice, Loose, NoMemory}
-use Rattle.ol_net.specs.Pairing.{other, IsPaired}
+use Rattle.ol_net.specs.Pairing.{other}
 use Rattle.ol_net.specs.Graph.{has_port, place, port_at, IsTabled}
-use Rattle.ol_net.specs.Build.{NoneOf, FirstOf, BadIndexAt, BadPortAt, TwiceAt, HasEnd, link_at, IsLoose, FaultIs, all_live}
+use Rattle.ol_net.specs.Build.{BadPortAt, TwiceAt, HasEnd, link_at, IsLoose, FaultIs, all_live}
 use Rattle.ol_net.proofs.Places.{place-port_at, port_at-place, place-within}
 use Rattle.ol_net.proofs.Tables.{other-within}
-use Rattle.ol_rules.specs.Listed.{each}
 use Rattle.ol_reduce.specs.Drafts.{frozen_top, link_row, links_below, IsComplete}
 
 -- ---- where an element of a list stands

@@ -1,45 +1,33 @@
 -- Once all cells and all chains are walked, each port has its partner, and the table is the net that the words stand for.
-use Rattle.std.proofs.Common.{◌≡◌, ◌≢◌, ℕ, zero, suc, ◌+◌, ◌-◌, ◌*◌, ◌/◌, ◌%◌, ◌==◌, ◌<◌, ◌≤◌, Bool, true, false, not, nat_eq, nat_lt, eq-eqb, ne_eqb, lt-ltb, ltb-true, if◌then◌else◌, List, [], ◌∷◌, length, map, get_or, slice_index, Option, Some, None, is_some, count_by, ◌⊎◌, inl, inr, ◌↔◌, refl, sym, ap, ◌∙◌, subst, arith}
+use Rattle.std.proofs.Common.{◌≡◌, ◌≢◌, ℕ, zero, suc, ◌+◌, ◌*◌, ◌%◌, ◌==◌, ◌<◌, ◌≤◌, Bool, true, false, not, nat_lt, eq-eqb, ne_eqb, lt-ltb, ltb-true, if◌then◌else◌, List, [], ◌∷◌, length, slice_index, Option, Some, None, ◌⊎◌, inl, inr, refl, sym, ap, ◌∙◌, subst, arith}
 use Rattle.std.proofs.lemmas.Bool.{cases_eq, cases_lt, cases_Bool, false≢true}
-use Rattle.std.proofs.lemmas.Bool.Decides.{nat_tests}
-use Rattle.ol_edges.specs.Edges.{IsIn}
 use Rattle.ol_net.specs.declared.parts.Kind.{Kind}
-use Rattle.ol_net.specs.declared.parts.Kind.TheVariants.{Eraser}
-use Rattle.ol_net.specs.declared.parts.NodeId.{NodeId}
-use Rattle.ol_net.specs.declared.parts.Port.{Port}
-use Rattle.ol_net.specs.declared.parts.Port.TheVariants.{Free, Of}
 use Rattle.ol_net.specs.Parts.{arity, slots_of, is_eraser}
-use Rattle.ol_net.specs.Nets.{NamedPort, free, slot, NamedNet, HasNode, Linked, IsPort, SameNet, net_under, port_under}
-use Rattle.ol_net.specs.Numbered.{numbered_port, net_of, net_of_parts, numbered_from}
-use Rattle.ol_net.specs.Graph.{Graph, IsTabled, kind_at, has_slot, has_port, port_at}
-use Rattle.ol_net.specs.Build.{Builds, NoneOf, BadIndexAt, is_bad_index, all_live}
-use Rattle.ol_net.specs.Pairing.{other, IsPaired}
-use Rattle.ol_net.proofs.Numbered.{has_node}
+use Rattle.ol_net.specs.Nets.{NamedPort, free, slot, NamedNet, HasNode, Linked, IsPort}
+use Rattle.ol_net.specs.Graph.{IsTabled, kind_at, has_slot, has_port, port_at}
+use Rattle.ol_net.specs.Build.{NoneOf, BadIndexAt, is_bad_index, all_live}
+use Rattle.ol_net.specs.Pairing.{other}
 use Rattle.ol_net.proofs.Places.{port_at-within}
-use Rattle.ol_net.proofs.Linking.{length-all_live, count_by-all_live}
+use Rattle.ol_net.proofs.Linking.{length-all_live}
 use Rattle.ol_rules.specs.declared.journal.NodeName.{NodeName}
-use Rattle.ol_rules.proofs.Renaming.{node_to, node_from, link_to, link_from}
-use Rattle.ol_rules.proofs.Lists.{in_each_of}
 use Rattle.ol_wire.specs.declared.layout.Parts.{Parts}
 use Rattle.ol_wire.specs.References.{node_ref, wire_ref, slot_ref, IsNodeRef, IsRef}
-use Rattle.ol_wire.specs.Layout.{left, part_of, port_word, size, left_word, cells_of, place_of}
-use Rattle.ol_edges.specs.Edges.{ends}
+use Rattle.ol_wire.specs.Layout.{port_word, left_word, cells_of, place_of}
 use Rattle.ol_wire.proofs.ClosingCells.{cell_word}
 use Rattle.ol_wire.proofs.Claimed.{ends_found}
-use Rattle.ol_wire.specs.Stands.{IsEnd, of_port, principal, auxiliary, IsWireEnd}
-use Rattle.ol_wire.specs.Closed.{ClosedTable, events_in}
+use Rattle.ol_wire.specs.Stands.{IsEnd}
+use Rattle.ol_wire.specs.Closed.{ClosedTable}
 use Rattle.ol_wire.specs.Standing.{StandsFor}
 use Rattle.ol_wire.proofs.References.{node_sort, wire_sort, slot_sort}
-use Rattle.ol_reduce.specs.Left.{ranks_in, IsLeft, AreLeft}
+use Rattle.ol_reduce.specs.Left.{ranks_in, AreLeft}
 use Rattle.ol_reduce.specs.Following.{OwnsWord, LeadsTo}
-use Rattle.ol_reduce.specs.Drafts.{frozen_top, links_below, link_row, IsComplete}
-use Rattle.ol_reduce.specs.Frozen.{name_of, port_of, kind_of, IsKnown, IsPartial, WaitsAt, AreMet, AreCelled, IsFrozen}
+use Rattle.ol_reduce.specs.Drafts.{frozen_top, IsComplete}
+use Rattle.ol_reduce.specs.Frozen.{name_of, port_of, kind_of, IsPartial, WaitsAt, AreMet, AreCelled}
 use Rattle.ol_reduce.proofs.Forward.{IsSink, linked_goes, linked_meets, one_sink, owner_of, port_no_wire, owner_no_node, EdgeIs, owned, celled, edge_is, es}
 use Rattle.ol_reduce.proofs.Bounded.{owner_behind}
 use Rattle.ol_reduce.proofs.WordOf.{word_of_port}
-use Rattle.ol_reduce.proofs.Sites.{one_site, site, IsSite, of_free, of_slot, port_low, port_high, port_free, port_slot, numbered, IsNumbered, names_rise, number_of, site_of_node, site_of_port, end_of_port, port_of_end, events_few}
-use Rattle.ol_reduce.proofs.Linking.{within_table, view, EndView, at_port, at_node, at_slot, one_end, one_port}
-use Rattle.ol_reduce.proofs.Building.{link_of, link_in}
+use Rattle.ol_reduce.proofs.Sites.{one_site, site, IsSite, of_free, of_slot, port_low, port_high, port_free, port_slot, numbered, site_of_port, end_of_port, events_few}
+use Rattle.ol_reduce.proofs.Linking.{within_table, view, EndView, at_port, at_node, at_slot, one_end}
 
 pub kind_there : (kinds : List (Kind × ℕ)) (n : ℕ) → n < length kinds → kind_at (all_live kinds) n ≡ Some (kind_of kinds n)
 kind_there [] n lt = absurd (omega arith)
@@ -146,12 +134,12 @@ module _ (w : ClosedTable) (places numbers : List ℕ) (left_are : AreLeft w (ra
         node_sink sort = record {
           owns_none = λ n o. owner_no_node w N reached s n d o sort;
           no_cell = λ n p f. (
-            let c = cell_word z n p in
-            let filled : slice_index w.words (left_word z c.0) ≢ 0 = (λ q. f (ap (slice_index w.words) (sym c.2) ∙ q)) in (
-              (λ q. cells_are c.0 d a c.1 lta filled (inl (sym q ∙ ap (slice_index w.words) (sym c.2))) hd alone),
-              (λ q. cells_are c.0 d a c.1 lta filled (inr (sym q ∙ ap (λ n. slice_index w.words (suc n)) (sym c.2))) hd alone),
-            )
-          );
+              let c = cell_word z n p in
+              let filled : slice_index w.words (left_word z c.0) ≢ 0 = (λ q. f (ap (slice_index w.words) (sym c.2) ∙ q)) in (
+                (λ q. cells_are c.0 d a c.1 lta filled (inl (sym q ∙ ap (slice_index w.words) (sym c.2))) hd alone),
+                (λ q. cells_are c.0 d a c.1 lta filled (inr (sym q ∙ ap (λ n. slice_index w.words (suc n)) (sym c.2))) hd alone),
+              )
+              );
         }
 
         port_owned : (k : ℕ) → k < z.free → port a ≡ free k → slice_index w.words (port_word k) ≢ 0 → (n : ℕ) × OwnsWord w N reached n d

@@ -1,11 +1,11 @@
 -- What each turn of the walk along a chain knows.
-use Rattle.std.proofs.Common.{◌≡◌, ◌≢◌, ℕ, zero, suc, ◌+◌, ◌-◌, ◌*◌, ◌%◌, ◌/◌, ◌<◌, ◌≤◌, Bool, true, false, length, slice_index, ◌⊎◌, inl, inr, ◌↔◌, refl, sym, ap, ◌∙◌, subst, arith}
+use Rattle.std.proofs.Common.{◌≡◌, ◌≢◌, ℕ, suc, ◌+◌, ◌-◌, ◌<◌, ◌≤◌, Bool, true, false, length, slice_index, inl, inr, ◌↔◌, sym, ap, ◌∙◌, subst, arith}
 use Rattle.std.proofs.lemmas.Bool.{cases_eq, cases_lt, false≢true}
 use Rattle.ol_net.specs.Nets.{NamedNet}
 use Rattle.ol_rules.specs.declared.journal.NodeName.{NodeName}
 use Rattle.ol_reduce.specs.declared.chains.End.TheVariants.{Node, Port, Wire}
-use Rattle.ol_wire.specs.References.{wire_ref, place_in, IsNodeRef, IsWireRef, IsRef}
-use Rattle.ol_wire.specs.Layout.{size, port_word}
+use Rattle.ol_wire.specs.References.{place_in, IsNodeRef, IsWireRef, IsRef}
+use Rattle.ol_wire.specs.Layout.{size}
 use Rattle.ol_wire.specs.Sizes.{IsSmall}
 use Rattle.ol_wire.specs.declared.layout.Parts.{Parts}
 use Rattle.ol_wire.specs.Closed.{ClosedTable}

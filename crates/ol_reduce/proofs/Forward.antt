@@ -1,24 +1,19 @@
 -- Chains in the words of a closed table: from each end that owns a word they are followed forward, and lead to the port that the net links it with.
-use Rattle.std.proofs.Common.{◌≡◌, ◌≢◌, ℕ, zero, suc, ◌+◌, ◌*◌, ◌%◌, ◌/◌, ◌<◌, ◌≤◌, Bool, true, false, nat_eq, List, [], ◌∷◌, ◌++◌, slice_index, ◌⊎◌, inl, inr, ◌↔◌, refl, sym, ap, ◌∙◌, subst, arith}
-use Rattle.std.proofs.lemmas.Bool.{cases_eq, cases_lt}
+use Rattle.std.proofs.Common.{◌≡◌, ◌≢◌, ℕ, suc, ◌+◌, ◌<◌, ◌≤◌, Bool, nat_eq, List, [], ◌∷◌, ◌++◌, slice_index, ◌⊎◌, inl, inr, refl, sym, ap, ◌∙◌, subst, arith}
 use Rattle.ol_edges.specs.Edges.{IsIn, EdgeOf, Joined, here, on, back, ends, bit, Contracted}
 use Rattle.ol_edges.proofs.Joining.{joined_trans, joined_sym}
-use Rattle.ol_net.specs.declared.parts.Kind.{Kind}
-use Rattle.ol_net.specs.Nets.{NamedPort, free, slot, NamedNet, HasNode, Linked}
-use Rattle.ol_net.specs.Parts.{arity}
+use Rattle.ol_net.specs.Nets.{NamedPort, NamedNet, Linked}
 use Rattle.ol_rules.specs.declared.journal.NodeName.{NodeName}
 use Rattle.ol_wire.specs.declared.layout.Parts.{Parts}
-use Rattle.ol_wire.specs.References.{node_ref, wire_ref, slot_ref, IsNodeRef, IsWireRef, place_in}
-use Rattle.ol_wire.specs.Layout.{Part, ticket, port, field, wire, between, left, right, entry, past, part_of, place_of, size, port_word}
+use Rattle.ol_wire.specs.References.{wire_ref, slot_ref, IsNodeRef}
+use Rattle.ol_wire.specs.Layout.{left, part_of, size}
 use Rattle.ol_wire.specs.Edges.{edges_in}
-use Rattle.ol_wire.specs.Stands.{Stands, IsEnd, of_port, principal, auxiliary, IsWireEnd}
+use Rattle.ol_wire.specs.Stands.{IsEnd, IsWireEnd}
 use Rattle.ol_wire.specs.Closed.{ClosedTable}
-use Rattle.ol_wire.specs.Standing.{StandsFor, IsWirePart}
+use Rattle.ol_wire.specs.Standing.{StandsFor}
 use Rattle.ol_reduce.specs.Following.{OwnsWord, LeadsTo, last, more}
-use Rattle.ol_wire.proofs.References.{node_sort, wire_sort, slot_sort, wire_same}
-use Rattle.ol_wire.proofs.Alike.{pairs_append}
 use Rattle.ol_wire.proofs.EdgeList.{word_edge, edge_there, edge_found}
-use Rattle.ol_wire.proofs.Claimed.{EdgeAt, at_wire, at_field, at_cell, edge_at, same_bit, other_bit}
+use Rattle.ol_wire.proofs.Claimed.{EdgeAt, at_wire, at_field, at_cell, edge_at, same_bit}
 
 -- how often an end stands first in an edge, and how often second
 abbrev pub firsts : ℕ → List (ℕ × ℕ) → ℕ

@@ -1,30 +1,29 @@
 -- What a link and a reference add to what is known of the net.
-use Rattle.std.proofs.Common.{◌≡◌, ◌≢◌, ℕ, zero, suc, ◌+◌, ◌-◌, ◌*◌, ◌/◌, ◌%◌, ◌==◌, ◌<◌, ◌≤◌, Bool, true, false, nat_eq, eq-eqb, ne_eqb, if◌then◌else◌, List, [], ◌∷◌, length, length-set, get_or, get_or-set_same, get_or-set_other, slice_index, slice_set, ◌⊎◌, inl, inr, ◌↔◌, refl, sym, ap, ◌∙◌, subst, arith}
+use Rattle.std.proofs.Common.{◌≡◌, ◌≢◌, ℕ, suc, ◌+◌, ◌*◌, ◌==◌, ◌<◌, Bool, nat_eq, eq-eqb, ne_eqb, if◌then◌else◌, List, length, length-set, get_or-set_same, get_or-set_other, slice_index, slice_set, ◌⊎◌, inl, inr, refl, sym, ap, ◌∙◌, subst, arith}
 use Rattle.std.proofs.lemmas.Bool.{cases_eq, cases_lt}
 use Rattle.ol_net.specs.declared.parts.Kind.{Kind}
 use Rattle.ol_net.specs.declared.parts.Kind.TheVariants.{Eraser}
 use Rattle.ol_net.specs.Parts.{arity}
-use Rattle.ol_net.specs.Nets.{NamedPort, free, slot, NamedNet, HasNode, Linked, IsPort}
-use Rattle.ol_net.specs.Pairing.{other, linked, IsPaired}
+use Rattle.ol_net.specs.Nets.{NamedPort, free, slot, NamedNet, HasNode, Linked}
+use Rattle.ol_net.specs.Pairing.{other, linked}
 use Rattle.ol_net.proofs.Tables.{other-past, other-linked, length-linked}
 use Rattle.ol_rules.specs.declared.journal.NodeName.{NodeName}
 use Rattle.ol_wire.specs.declared.layout.Parts.{Parts}
 use Rattle.ol_wire.specs.References.{node_ref, wire_ref, slot_ref, kind_in, index_in, place_in, IsNodeRef}
-use Rattle.ol_wire.specs.Layout.{place_of, port_word, size}
-use Rattle.ol_wire.specs.Rule.{IsPlaced}
+use Rattle.ol_wire.specs.Layout.{place_of, port_word}
 use Rattle.ol_wire.specs.Stands.{IsEnd, of_port, principal, auxiliary, IsWireEnd}
 use Rattle.ol_wire.specs.Closed.{ClosedTable, events_in}
 use Rattle.ol_wire.specs.Standing.{StandsFor}
 use Rattle.ol_wire.proofs.References.{kind_of_ref, index_of_ref, place_of_ref, node_same, node_sort, wire_sort, slot_sort}
 use Rattle.ol_wire.proofs.Places.{place_same}
-use Rattle.ol_reduce.specs.Left.{ranks_in, IsLeft, AreLeft}
-use Rattle.ol_reduce.specs.Following.{OwnsWord, LeadsTo, IsStart, EndsAt}
-use Rattle.ol_reduce.specs.Frozen.{name_of, port_of, kind_of, IsKnown, IsPartial, WaitsAt, AreMet, IsWordOf}
+use Rattle.ol_reduce.specs.Left.{ranks_in, AreLeft}
+use Rattle.ol_reduce.specs.Following.{LeadsTo}
+use Rattle.ol_reduce.specs.Frozen.{name_of, port_of, kind_of, IsKnown, IsPartial}
 use Rattle.ol_edges.specs.Edges.{ends}
 use Rattle.ol_rules.proofs.Born.{at_most_two}
-use Rattle.ol_reduce.proofs.Forward.{goes_linked, meet_linked, owner_no_node, owner_of, es}
+use Rattle.ol_reduce.proofs.Forward.{es}
 use Rattle.ol_reduce.proofs.Bounded.{led_ends}
-use Rattle.ol_reduce.proofs.Sites.{one_site, site, IsSite, of_free, of_slot, port_free, port_slot, one_name, numbered, IsNumbered, events_few}
+use Rattle.ol_reduce.proofs.Sites.{one_site, port_slot, numbered, events_few}
 
 -- ---- the table of partners
 

@@ -1,30 +1,28 @@
 -- What each port that owns a word does: it finds a partner, or it waits where its chain ends.
-use Rattle.std.proofs.Common.{◌≡◌, ◌≢◌, ℕ, zero, suc, ◌+◌, ◌-◌, ◌*◌, ◌/◌, ◌%◌, ◌==◌, ◌<◌, ◌≤◌, Bool, true, false, nat_eq, ne_eqb, if◌then◌else◌, List, [], ◌∷◌, length, get_or, get_or-set_same, get_or-set_other, slice_index, slice_set, ◌⊎◌, inl, inr, ◌↔◌, refl, sym, ap, ◌∙◌, subst, arith}
+use Rattle.std.proofs.Common.{◌≡◌, ◌≢◌, ℕ, suc, ◌+◌, ◌-◌, ◌*◌, ◌%◌, ◌<◌, ◌≤◌, Bool, true, ne_eqb, if◌then◌else◌, List, [], ◌∷◌, length, get_or-set_same, get_or-set_other, slice_index, slice_set, ◌⊎◌, inl, inr, refl, sym, ap, ◌∙◌, subst, arith}
 use Rattle.std.proofs.lemmas.Bool.{cases_eq, cases_lt}
-use Rattle.ol_edges.specs.Edges.{IsIn, EdgeOf, Joined, here, on, ends}
+use Rattle.ol_edges.specs.Edges.{IsIn, here, on}
 use Rattle.ol_net.specs.declared.parts.Kind.{Kind}
-use Rattle.ol_net.specs.Parts.{arity}
-use Rattle.ol_net.specs.Nets.{NamedPort, free, slot, NamedNet, HasNode, Linked, IsPort}
-use Rattle.ol_net.specs.Pairing.{other, linked, IsPaired}
+use Rattle.ol_net.specs.Nets.{NamedPort, free, slot, NamedNet, Linked}
+use Rattle.ol_net.specs.Pairing.{other, linked}
 use Rattle.ol_rules.specs.declared.journal.NodeName.{NodeName}
 use Rattle.ol_wire.specs.declared.layout.Parts.{Parts}
-use Rattle.ol_wire.specs.References.{node_ref, wire_ref, slot_ref, place_in, IsNodeRef}
-use Rattle.ol_wire.specs.Layout.{Part, left, part_of, place_of, port_word, size, left_word, cells_of}
+use Rattle.ol_wire.specs.References.{node_ref, wire_ref, IsNodeRef}
+use Rattle.ol_wire.specs.Layout.{Part, left, part_of, place_of, size}
 use Rattle.ol_wire.specs.Edges.{edge_in}
-use Rattle.ol_wire.specs.Stands.{IsEnd, of_port, principal, auxiliary, IsWireEnd}
-use Rattle.ol_wire.specs.Closed.{ClosedTable, events_in}
-use Rattle.ol_wire.specs.Standing.{StandsFor, IsWirePart}
-use Rattle.ol_wire.proofs.References.{node_sort, wire_sort, slot_sort}
+use Rattle.ol_wire.specs.Stands.{IsEnd}
+use Rattle.ol_wire.specs.Closed.{ClosedTable}
+use Rattle.ol_wire.specs.Standing.{StandsFor}
+use Rattle.ol_wire.proofs.References.{node_sort}
 use Rattle.ol_wire.proofs.Claimed.{ends_first, ends_second, ends_twice}
-use Rattle.ol_wire.proofs.Places.{part_cell, is_left}
+use Rattle.ol_wire.proofs.Places.{is_left}
 use Rattle.ol_wire.proofs.EdgeList.{edge_there}
-use Rattle.ol_reduce.specs.Left.{ranks_in, IsLeft, AreLeft}
-use Rattle.ol_reduce.specs.Following.{OwnsWord, LeadsTo, IsStart, EndsAt}
-use Rattle.ol_reduce.specs.Frozen.{name_of, port_of, kind_of, IsKnown, IsPartial, WaitsAt, AreMet, AreCelled, IsWordOf, IsOfNode, IsSiteOf}
-use Rattle.ol_reduce.proofs.Forward.{goes_linked, meet_linked, owner_no_node, owner_of, port_no_wire, es}
-use Rattle.ol_reduce.proofs.Bounded.{led_ref}
-use Rattle.ol_reduce.proofs.Sites.{one_site, site, IsSite, of_free, of_slot, port_free, port_slot}
-use Rattle.ol_reduce.proofs.Linking.{still_linked, now_linked, view, EndView, at_port, at_node, at_slot, one_end, one_port, node_at, led_node, ends_apart, linked_partial}
+use Rattle.ol_reduce.specs.Left.{ranks_in, AreLeft}
+use Rattle.ol_reduce.specs.Following.{OwnsWord, LeadsTo}
+use Rattle.ol_reduce.specs.Frozen.{name_of, port_of, IsKnown, IsPartial, WaitsAt, AreMet, IsWordOf}
+use Rattle.ol_reduce.proofs.Forward.{meet_linked, owner_no_node, owner_of, port_no_wire, es}
+use Rattle.ol_reduce.proofs.Sites.{one_site, port_slot}
+use Rattle.ol_reduce.proofs.Linking.{still_linked, now_linked, view, EndView, at_port, at_node, at_slot, one_end, one_port, node_at, ends_apart}
 
 module _ (w : ClosedTable) (places numbers : List ℕ) (left_are : AreLeft w (ranks_in w) places numbers) (N : NamedNet NodeName) (reached : ℕ → Bool) (s : StandsFor w N reached) where
   abbrev z : Parts
@@ -144,9 +142,11 @@ module _ (w : ClosedTable) (places numbers : List ℕ) (left_are : AreLeft w (ra
         let t = are.came u (λ q. some (sym is ∙ q)) in
         let q : v - 1 ≡ t.0 = omega (arith, is, t.2) in
         let ltb : t.0 < length partners = omega (arith, t.3, low) in
-        let apart : e ≢ t.1 = (λ same. omega (arith, t.3, one_site w places numbers left_are a t.0 (omega (arith, low, before.partners_long)) (omega (arith, ltb, before.partners_long)) (one_port w places numbers left_are N reached s (port a) (port t.0) e h (subst (λ e. IsEnd z N (port t.0) e) (sym same) t.4)))) in
-        (omega (arith, q, ltb), subst (λ b. Linked N (port a) (port b)) (sym q) (meet_linked w N reached s (port a) (port t.0) e t.1 (wire_ref u) h t.4 apart leads t.5),
-        (λ m ltm f. let o = owner_of w N reached s t.1 (wire_ref u) t.5 in absurd (owner_no_slot t.0 t.1 o.0 m t.4 o.1 (sym q ∙ f))))
+        let apart : e ≢ t.1 = (λ same. omega (arith, t.3, one_site w places numbers left_are a t.0 (omega (arith, low, before.partners_long)) (omega (arith, ltb, before.partners_long)) (one_port w places numbers left_are N reached s (port a) (port t.0) e h (subst (λ e. IsEnd z N (port t.0) e) (sym same) t.4)))) in (
+          omega (arith, q, ltb),
+          subst (λ b. Linked N (port a) (port b)) (sym q) (meet_linked w N reached s (port a) (port t.0) e t.1 (wire_ref u) h t.4 apart leads t.5),
+          (λ m ltm f. let o = owner_of w N reached s t.1 (wire_ref u) t.5 in absurd (owner_no_slot t.0 t.1 o.0 m t.4 o.1 (sym q ∙ f))),
+        )
 
     pub self_known : ((m : ℕ) → a ≡ z.free + 3 * m → ⊥) → IsKnown w N places kinds a
     self_known aux m ltm e = absurd (aux m e)

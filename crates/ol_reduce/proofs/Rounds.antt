@@ -1,17 +1,12 @@
 -- The rounds over free ports and nodes, over all nets that the words stand for.
-use Rattle.std.proofs.Common.{◌≡◌, ◌≢◌, ℕ, zero, suc, ◌+◌, ◌-◌, ◌*◌, ◌<◌, ◌≤◌, Bool, List, [], ◌∷◌, ◌++◌, length, get_or, slice_index, ◌⊎◌, inl, inr, refl, sym, ap, ◌∙◌, subst, arith}
+use Rattle.std.proofs.Common.{◌≡◌, ℕ, zero, suc, ◌+◌, ◌*◌, ◌<◌, List, [], ◌++◌, length, get_or, slice_index, refl, sym, ap, ◌∙◌, subst, arith}
 use Rattle.std.specs.Prelude.{replicate, take}
 use Rattle.std.proofs.lemmas.List.{get_or_default}
-use Rattle.ol_net.specs.declared.parts.Kind.{Kind}
-use Rattle.ol_net.specs.Nets.{NamedNet}
-use Rattle.ol_net.specs.Pairing.{other}
-use Rattle.ol_rules.specs.declared.journal.NodeName.{NodeName}
 use Rattle.ol_wire.specs.declared.layout.Parts.{Parts}
-use Rattle.ol_wire.specs.Layout.{size, cells_of}
+use Rattle.ol_wire.specs.Layout.{size}
 use Rattle.ol_wire.specs.Closed.{ClosedTable}
-use Rattle.ol_wire.specs.Standing.{StandsFor}
 use Rattle.ol_reduce.specs.Left.{ranks_in, AreLeft}
-use Rattle.ol_reduce.specs.Frozen.{IsPartly, AreMet, AreMetTo, AreCelledTo, IsWordOf, IsWordAt, KeepsPartners}
+use Rattle.ol_reduce.specs.Frozen.{AreMetTo, AreCelledTo, IsWordOf, IsWordAt, KeepsPartners}
 use Rattle.ol_reduce.proofs.Arriving.{Told, small_of}
 use Rattle.ol_reduce.proofs.WordOf.{word_of_port, word_of_slot, field_within}
 use Rattle.ol_reduce.proofs.Meeting.{wider_met, none_met, owner_no_slot}

@@ -1,28 +1,26 @@
 -- Places of the table of partners, and the ports of the net that they stand for.
-use Rattle.std.proofs.Common.{◌≡◌, ◌≢◌, ℕ, zero, suc, ◌+◌, ◌-◌, ◌*◌, ◌/◌, ◌%◌, ◌<◌, ◌≤◌, Bool, true, false, nat_lt, lt-ltb, if◌then◌else◌, List, [], ◌∷◌, length, slice_index, ◌⊎◌, inl, inr, ◌↔◌, refl, sym, ap, ◌∙◌, subst, arith}
-use Rattle.std.proofs.lemmas.Bool.{cases_eq, cases_lt}
+use Rattle.std.proofs.Common.{◌≡◌, ℕ, zero, suc, ◌+◌, ◌-◌, ◌*◌, ◌/◌, ◌%◌, ◌<◌, ◌≤◌, Bool, true, false, nat_lt, lt-ltb, if◌then◌else◌, List, length, slice_index, inl, inr, refl, sym, ap, ◌∙◌, subst, arith}
+use Rattle.std.proofs.lemmas.Bool.{cases_lt}
 use Rattle.std.proofs.lemmas.Bool.Decides.{nat_tests}
 use Rattle.ol_net.specs.declared.parts.Kind.{Kind}
-use Rattle.ol_net.specs.declared.parts.Port.{Port}
 use Rattle.ol_net.specs.declared.parts.Port.TheVariants.{Free, Of}
 use Rattle.ol_net.specs.Parts.{arity}
-use Rattle.ol_net.specs.Nets.{NamedPort, free, slot, NamedNet, HasNode, Linked, IsPort, port_under}
+use Rattle.ol_net.specs.Nets.{NamedPort, free, slot, NamedNet, HasNode, IsPort, port_under}
 use Rattle.ol_net.specs.Numbered.{numbered_port}
 use Rattle.ol_net.specs.Graph.{port_at}
 use Rattle.ol_rules.specs.declared.journal.NodeName.{NodeName}
 use Rattle.ol_rules.specs.Names.{comes_before}
 use Rattle.ol_rules.proofs.Born.{at_most_two}
 use Rattle.ol_wire.specs.declared.layout.Parts.{Parts}
-use Rattle.ol_wire.specs.References.{node_ref, wire_ref, slot_ref, place_in}
-use Rattle.ol_wire.specs.Layout.{place_of, port_word, size}
+use Rattle.ol_wire.specs.References.{node_ref, wire_ref, slot_ref}
+use Rattle.ol_wire.specs.Layout.{place_of, port_word}
 use Rattle.ol_wire.specs.Events.{name_at}
 use Rattle.ol_wire.specs.Rule.{IsPlaced}
 use Rattle.ol_wire.specs.Stands.{IsEnd, of_port, principal, auxiliary}
 use Rattle.ol_wire.specs.Closed.{ClosedTable, events_in}
 use Rattle.ol_wire.specs.Standing.{StandsFor}
-use Rattle.ol_wire.proofs.Places.{name_of_place, place_order, place_same}
+use Rattle.ol_wire.proofs.Places.{name_of_place, place_order}
 use Rattle.ol_wire.proofs.Claimed.{wider}
-use Rattle.ol_wire.proofs.References.{place_of_ref}
 use Rattle.ol_reduce.specs.Left.{ranks_in, rank_of, name_of_rank, IsLeft, AreLeft}
 use Rattle.ol_reduce.specs.Frozen.{name_of, port_of}
 use Rattle.ol_reduce.proofs.Numbering.{name_placed, name_back, rank_low}

@@ -1,6 +1,6 @@
 -- The net that is built of the finished table is the net that the words stand for.
-use Rattle.std.proofs.Common.{◌≡◌, ◌≢◌, ℕ, zero, suc, ◌+◌, ◌*◌, ◌<◌, ◌≤◌, Bool, true, false, nat_lt, ltb-true, if◌then◌else◌, List, [], ◌∷◌, length, map, Option, Some, is_some, count_by, ◌⊎◌, inl, inr, ◌↔◌, refl, sym, ap, ◌∙◌, subst, arith}
-use Rattle.std.proofs.lemmas.Bool.{cases_eq, cases_lt, cases_Bool}
+use Rattle.std.proofs.Common.{◌≡◌, ◌≢◌, ℕ, ◌<◌, Bool, true, false, nat_lt, ltb-true, if◌then◌else◌, List, [], ◌∷◌, length, Some, is_some, count_by, inl, inr, refl, sym, ap, ◌∙◌, subst, arith}
+use Rattle.std.proofs.lemmas.Bool.{cases_lt}
 use Rattle.ol_edges.specs.Edges.{IsIn}
 use Rattle.ol_net.specs.declared.parts.Kind.{Kind}
 use Rattle.ol_net.specs.declared.parts.Port.{Port}
@@ -12,7 +12,6 @@ use Rattle.ol_net.specs.Pairing.{other}
 use Rattle.ol_net.proofs.Numbered.{has_node}
 use Rattle.ol_net.proofs.Linking.{length-all_live, count_by-all_live}
 use Rattle.ol_rules.specs.declared.journal.NodeName.{NodeName}
-use Rattle.ol_rules.specs.Names.{comes_before}
 use Rattle.ol_rules.proofs.Renaming.{node_to, node_from, link_to, link_from, in_map, in_map_of}
 use Rattle.ol_rules.proofs.Lists.{in_each_of}
 use Rattle.ol_wire.specs.declared.layout.Parts.{Parts}

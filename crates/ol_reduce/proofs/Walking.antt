@@ -1,13 +1,13 @@
 -- What walking the chain of one port does, over all nets that the words stand for.
-use Rattle.std.proofs.Common.{◌≡◌, ◌≢◌, ℕ, zero, suc, ◌+◌, ◌-◌, ◌*◌, ◌/◌, ◌<◌, ◌≤◌, Bool, true, List, [], ◌∷◌, length, slice_index, slice_set, ◌⊎◌, inl, inr, refl, sym, ap, ◌∙◌, subst, arith}
-use Rattle.std.proofs.lemmas.Bool.{cases_eq, cases_lt}
+use Rattle.std.proofs.Common.{◌≡◌, ◌≢◌, ℕ, ◌+◌, ◌-◌, ◌*◌, ◌<◌, Bool, List, length, slice_index, slice_set, inl, inr, refl, sym, ap, ◌∙◌, subst, arith}
+use Rattle.std.proofs.lemmas.Bool.{cases_eq}
 use Rattle.ol_net.specs.declared.parts.Kind.{Kind}
-use Rattle.ol_net.specs.Nets.{NamedPort, free, slot, NamedNet, Linked}
+use Rattle.ol_net.specs.Nets.{NamedNet, Linked}
 use Rattle.ol_net.specs.Pairing.{other, linked}
 use Rattle.ol_net.proofs.Tables.{length-linked}
 use Rattle.ol_rules.specs.declared.journal.NodeName.{NodeName}
 use Rattle.ol_wire.specs.declared.layout.Parts.{Parts}
-use Rattle.ol_wire.specs.References.{place_in, wire_ref, IsNodeRef}
+use Rattle.ol_wire.specs.References.{place_in, wire_ref}
 use Rattle.ol_wire.specs.Layout.{size, port_word}
 use Rattle.ol_wire.specs.Stands.{IsEnd, of_port}
 use Rattle.ol_wire.specs.Closed.{ClosedTable}
@@ -15,14 +15,14 @@ use Rattle.ol_wire.specs.Standing.{StandsFor}
 use Rattle.ol_reduce.specs.declared.chains.End.{End}
 use Rattle.ol_reduce.specs.declared.chains.End.TheVariants.{Node, Port, Wire}
 use Rattle.ol_reduce.specs.Left.{ranks_in, AreLeft}
-use Rattle.ol_reduce.specs.Following.{IsStart, IsFirst, EndsAt, LeadsTo}
-use Rattle.ol_reduce.specs.Frozen.{port_of, IsKnown, IsPartial, AreMet, IsWordOf, IsPartly, AreMetTo, IsNodeIn, IsSiteIn, IsWordAt, KeepsKnown, KeepsPartners}
+use Rattle.ol_reduce.specs.Following.{IsStart, IsFirst, EndsAt}
+use Rattle.ol_reduce.specs.Frozen.{port_of, IsKnown, IsPartial, AreMet, IsPartly, AreMetTo, IsNodeIn, IsSiteIn, IsWordAt, KeepsPartners}
 use Rattle.ol_reduce.proofs.Arriving.{Told}
 use Rattle.ol_reduce.proofs.Bounded.{led_ref}
 use Rattle.ol_reduce.proofs.Forward.{goes_linked}
 use Rattle.ol_reduce.proofs.Sites.{port_free}
 use Rattle.ol_reduce.proofs.Linking.{still_linked, led_node, linked_partial, ends_apart}
-use Rattle.ol_reduce.proofs.Meeting.{skip_met, link_met, wait_met, waiting, self_known}
+use Rattle.ol_reduce.proofs.Meeting.{skip_met, link_met, wait_met, waiting}
 
 module _ (w : ClosedTable) (places numbers : List ℕ) (left_are : AreLeft w (ranks_in w) places numbers) (told : Told w)
     (kinds : List (Kind × ℕ)) (partners met : List ℕ) (a n : ℕ) (low : a < length partners) (no_slot : (m : ℕ) → a ≢ w.plan.parts.free + 3 * m) (is_word : IsWordAt w places a n)
@@ -52,10 +52,10 @@ module _ (w : ClosedTable) (places numbers : List ℕ) (left_are : AreLeft w (ra
     pub link_done : After kinds3 partners3 met
     link_done = (
       (λ N reached s. subst (λ ks. IsPartial w N places ks partners3) (sym k3) (subst (λ ps. IsPartial w N places kinds1 ps) (sym p3)
-      (linked_partial w places numbers left_are N reached s kinds1 partners1 (after1 N reached s) a b low1 ltb1 (link N reached s)
-      (λ m ltm e. absurd (no_slot m e)) (known N reached s)))),
+          (linked_partial w places numbers left_are N reached s kinds1 partners1 (after1 N reached s) a b low1 ltb1 (link N reached s)
+          (λ m ltm e. absurd (no_slot m e)) (known N reached s)))),
       (λ N reached s. subst (λ ps. AreMet w N reached places ps met (a + 1)) (sym p3)
-      (link_met w places numbers left_are N reached s kinds1 partners1 met a n low1 (after1 N reached s) (subst (λ ps. AreMet w N reached places ps met a) (sym p1) (are N reached s)) (is_word N reached s) b ltb1 (link N reached s))),
+          (link_met w places numbers left_are N reached s kinds1 partners1 met a n low1 (after1 N reached s) (subst (λ ps. AreMet w N reached places ps met a) (sym p1) (are N reached s)) (is_word N reached s) b ltb1 (link N reached s))),
     )
 
     pub link_keeps : KeepsPartners partners partners3 × (length partners3 ≡ length partners)
@@ -140,8 +140,8 @@ module _ (w : ClosedTable) (places numbers : List ℕ) (left_are : AreLeft w (ra
             waited e t = (
               (λ N reached s. subst (λ ks. IsPartial w N places ks partners3) (sym k3) (subst (λ ps. IsPartial w N places kinds ps) (sym t.1) (before N reached s))),
               (λ N reached s. subst (λ ps. AreMet w N reached places ps met3 (a + 1)) (sym t.1) (subst (λ ms. AreMet w N reached places partners ms (a + 1)) (sym t.0)
-              (let o = own N reached s in let d = ends_at N reached s in
-              wait_met w places numbers left_are N reached s kinds partners met a n low (before N reached s) (are N reached s) (is_word N reached s) o.0 u o.1 d.0 d.1 d.2 e wire_within))),
+                  (let o = own N reached s in let d = ends_at N reached s in
+                  wait_met w places numbers left_are N reached s kinds partners met a n low (before N reached s) (are N reached s) (is_word N reached s) o.0 u o.1 d.0 d.1 d.2 e wire_within))),
             )
 
             met_one : (f : slice_index met u ≢ 0) → (met3 ≡ met) × (partners3 ≡ linked partners a (slice_index met u - 1)) → IsPartly w places kinds3 partners3 × AreMetTo w places partners3 met3 (a + 1)

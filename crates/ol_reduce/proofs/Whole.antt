@@ -1,5 +1,5 @@
 -- From an empty draft to the frozen net.
-use Rattle.std.proofs.Common.{◌≡◌, ◌≢◌, ℕ, zero, suc, ◌+◌, ◌*◌, ◌<◌, ◌≤◌, Bool, List, [], ◌∷◌, length, refl, sym, ap, ◌∙◌, subst, arith}
+use Rattle.std.proofs.Common.{◌≡◌, ℕ, ◌+◌, ◌*◌, ◌<◌, ◌≤◌, List, length, sym, ap, ◌∙◌, subst, arith}
 use Rattle.std.specs.Prelude.{Result, Ok, Err, IfOk}
 use Rattle.ol_net.specs.declared.parts.Kind.{Kind}
 use Rattle.ol_net.specs.Nets.{NamedNet, SameNet}
@@ -7,10 +7,9 @@ use Rattle.ol_net.specs.Graph.{Graph}
 use Rattle.ol_net.specs.Build.{Builds}
 use Rattle.ol_net.specs.Pairing.{other}
 use Rattle.ol_rules.specs.declared.journal.NodeName.{NodeName}
-use Rattle.ol_wire.specs.declared.layout.Parts.{Parts}
 use Rattle.ol_wire.specs.Layout.{cells_of}
 use Rattle.ol_wire.specs.Closed.{ClosedTable}
-use Rattle.ol_wire.specs.Standing.{StandsFor, IsAfter}
+use Rattle.ol_wire.specs.Standing.{IsAfter}
 use Rattle.ol_reduce.specs.Left.{ranks_in, AreLeft}
 use Rattle.ol_reduce.specs.Drafts.{frozen_top, links_below, IsComplete}
 use Rattle.ol_reduce.specs.Frozen.{IsPartly, AreMetTo, AreCelledTo, IsFrozen}

@@ -1,13 +1,11 @@
 -- The word of each port: of a free port by its number, of an auxiliary slot by the place of its node.
-use Rattle.std.proofs.Common.{◌≡◌, ◌≢◌, ℕ, zero, suc, ◌+◌, ◌-◌, ◌*◌, ◌<◌, ◌≤◌, ◌==◌, Bool, true, false, nat_eq, ne_eqb, if◌then◌else◌, List, [], ◌∷◌, length, slice_index, ◌⊎◌, inl, inr, ◌↔◌, refl, sym, ap, ◌∙◌, subst, arith}
-use Rattle.ol_edges.specs.Edges.{IsIn, ends}
-use Rattle.ol_net.specs.declared.parts.Kind.{Kind}
-use Rattle.ol_net.specs.Parts.{arity}
-use Rattle.ol_net.specs.Nets.{NamedPort, free, slot, NamedNet, HasNode}
+use Rattle.std.proofs.Common.{◌≡◌, ◌≢◌, ℕ, suc, ◌+◌, ◌*◌, ◌<◌, Bool, true, ne_eqb, if◌then◌else◌, List, [], ◌∷◌, length, slice_index, ◌⊎◌, inl, inr, refl, sym, ap, ◌∙◌, subst, arith}
+use Rattle.ol_edges.specs.Edges.{IsIn}
+use Rattle.ol_net.specs.Nets.{NamedPort, free, slot, NamedNet}
 use Rattle.ol_rules.specs.declared.journal.NodeName.{NodeName}
 use Rattle.ol_rules.proofs.Born.{at_most_two}
 use Rattle.ol_wire.specs.declared.layout.Parts.{Parts}
-use Rattle.ol_wire.specs.References.{node_ref, wire_ref, slot_ref}
+use Rattle.ol_wire.specs.References.{wire_ref, slot_ref}
 use Rattle.ol_wire.specs.Layout.{Part, field, part_of, place_of, port_word, size}
 use Rattle.ol_wire.specs.Layout as layout
 use Rattle.ol_wire.specs.Edges.{edge_to, edge_in, is_live}
@@ -15,12 +13,12 @@ use Rattle.ol_wire.specs.Rule.{IsPlaced}
 use Rattle.ol_wire.specs.Stands.{IsEnd, of_port, IsWireEnd}
 use Rattle.ol_wire.specs.Closed.{ClosedTable, events_in}
 use Rattle.ol_wire.specs.Standing.{StandsFor, IsWirePart}
-use Rattle.ol_wire.proofs.References.{node_sort, wire_sort, slot_sort}
+use Rattle.ol_wire.proofs.References.{node_sort, slot_sort}
 use Rattle.ol_wire.proofs.Places.{part_port, part_field, place_before, place_same}
 use Rattle.ol_wire.proofs.Claimed.{wider}
 use Rattle.ol_wire.proofs.EdgeList.{live_there}
-use Rattle.ol_reduce.specs.Left.{ranks_in, IsLeft, AreLeft}
-use Rattle.ol_reduce.specs.Following.{OwnsWord, IsStart}
+use Rattle.ol_reduce.specs.Left.{ranks_in, AreLeft}
+use Rattle.ol_reduce.specs.Following.{OwnsWord}
 use Rattle.ol_reduce.specs.Frozen.{name_of, port_of, IsWordOf}
 use Rattle.ol_reduce.proofs.Forward.{own_edge, first_counts, ends_split, es}
 use Rattle.ol_reduce.proofs.Sites.{port_free, port_slot, numbered, IsNumbered, events_few}
@@ -49,12 +47,16 @@ module _ (w : ClosedTable) (places numbers : List ℕ) (left_are : AreLeft w (ra
   pub word_of_port : (k : ℕ) → k < z.free → IsWordOf w N reached places k (1 + k)
   word_of_port k lt = record {
     only = λ e m h o. only e m (view w places numbers left_are N reached s (port k) e h) o;
-    owned = λ f. (wire_ref (port_word k), subst (λ p. IsEnd z N p (wire_ref (port_word k))) (sym is) (of_port (omega (arith, lt, s.ports))), record {
-      n = port_word k;
-      owns = record { within = omega arith; filled = f; end = inl refl; edge = port_row N (reached (port_word k)) (part_of z (port_word k)) k (port_word k) (word (port_word k)) (word (suc (port_word k))) (part_port z k lt) f };
-      no_wire = λ h. subst IsWirePart (part_port z k lt) h;
-      holds = refl;
-    });
+    owned = λ f. (
+      wire_ref (port_word k),
+      subst (λ p. IsEnd z N p (wire_ref (port_word k))) (sym is) (of_port (omega (arith, lt, s.ports))),
+      record {
+        n = port_word k;
+        owns = record { within = omega arith; filled = f; end = inl refl; edge = port_row N (reached (port_word k)) (part_of z (port_word k)) k (port_word k) (word (port_word k)) (word (suc (port_word k))) (part_port z k lt) f };
+        no_wire = λ h. subst IsWirePart (part_port z k lt) h;
+        holds = refl;
+      },
+    );
   }
     where
       is : port k ≡ free k

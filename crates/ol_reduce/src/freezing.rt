@@ -4,7 +4,7 @@ ghost use Rattle.ol_net.specs.Nets.{NamedNet};
 ghost use Rattle.ol_net.specs.Pairing.{linked};
 ghost use Rattle.ol_rules.specs.declared.journal.NodeName.{NodeName};
 ghost use Rattle.ol_wire.specs.Layout.{size, cells_of};
-ghost use Rattle.ol_wire.specs.Standing.{IsStarted, IsAfter, StandsFor};
+ghost use Rattle.ol_wire.specs.Standing.{IsAfter};
 ghost use Rattle.ol_reduce.specs.Left.{ranks_in, AreLeft};
 ghost use Rattle.ol_reduce.specs.Frozen.{IsFrozen, IsPartly, AreMetTo, AreCelledTo, IsNodeIn, IsSiteIn, IsWordAt, KeepsKnown, KeepsPartners};
 
@@ -20,7 +20,6 @@ use std::alloc::Global;
 /// The net that the words stand for, its nodes numbered from 0 by ascending place. `NoMemory`: no
 /// memory was found for it.
 pub fn freeze(alloc: Global, words: &Words) -> Result<Net, NoMemory>
-    requires started { IsStarted words.now.plan }
     ensures frozen { IfOk result (λ g. (net : NamedNet NodeName) → IsAfter words.now net → IsFrozen net g) }
 {
     words.stands();
@@ -34,7 +33,6 @@ pub fn freeze(alloc: Global, words: &Words) -> Result<Net, NoMemory>
 
 // The place of slot 0 of the node of a reference, whose kind and index are told by it.
 fn arrive(words: &Words, live: &Live, draft: &mut Draft, reference: u64) -> usize
-    requires started { IsStarted words.now.plan }
     requires live { AreLeft words.now (ranks_in words.now) live.now.places.items live.now.numbers.items }
     requires free { draft.old.free ≡ words.now.plan.parts.free }
     requires before { IsPartly words.now live.now.places.items draft.old.kinds.items draft.old.partners.items }
@@ -54,7 +52,6 @@ fn arrive(words: &Words, live: &Live, draft: &mut Draft, reference: u64) -> usiz
 
 // Links the two nodes of a cell, if it isn't empty.
 fn link_cell(words: &Words, live: &Live, draft: &mut Draft, cell: u32)
-    requires started { IsStarted words.now.plan }
     requires live { AreLeft words.now (ranks_in words.now) live.now.places.items live.now.numbers.items }
     requires free { draft.old.free ≡ words.now.plan.parts.free }
     requires cell { cell < cells_of words.now.plan.parts }
@@ -76,7 +73,6 @@ fn link_cell(words: &Words, live: &Live, draft: &mut Draft, cell: u32)
 
 // Links the two nodes of each cell that isn't empty.
 fn link_cells(words: &Words, live: &Live, draft: &mut Draft)
-    requires started { IsStarted words.now.plan }
     requires live { AreLeft words.now (ranks_in words.now) live.now.places.items live.now.numbers.items }
     requires free { draft.old.free ≡ words.now.plan.parts.free }
     requires before { IsPartly words.now live.now.places.items draft.old.kinds.items draft.old.partners.items }
@@ -117,7 +113,6 @@ fn link_one(
     place: usize,
     at: u32,
 )
-    requires started { IsStarted words.now.plan }
     requires live { AreLeft words.now (ranks_in words.now) live.now.places.items live.now.numbers.items }
     requires free { draft.old.free ≡ words.now.plan.parts.free }
     requires met { length met.old.items ≡ size words.now.plan.parts }
@@ -147,7 +142,6 @@ fn link_one(
 
 // Walks the chain of each free port that has a word.
 fn link_ports(words: &Words, live: &Live, draft: &mut Draft, met: &mut Vec<u32>)
-    requires started { IsStarted words.now.plan }
     requires live { AreLeft words.now (ranks_in words.now) live.now.places.items live.now.numbers.items }
     requires free { draft.old.free ≡ words.now.plan.parts.free }
     requires met { length met.old.items ≡ size words.now.plan.parts }
@@ -165,7 +159,6 @@ fn link_ports(words: &Words, live: &Live, draft: &mut Draft, met: &mut Vec<u32>)
 
 // Walks the chains of the fields of a node.
 fn link_node(words: &Words, live: &Live, draft: &mut Draft, met: &mut Vec<u32>, node: u32)
-    requires started { IsStarted words.now.plan }
     requires live { AreLeft words.now (ranks_in words.now) live.now.places.items live.now.numbers.items }
     requires free { draft.old.free ≡ words.now.plan.parts.free }
     requires met { length met.old.items ≡ size words.now.plan.parts }
@@ -186,7 +179,6 @@ fn link_node(words: &Words, live: &Live, draft: &mut Draft, met: &mut Vec<u32>, 
 
 // Walks the chains of the fields of all nodes.
 fn link_nodes(words: &Words, live: &Live, draft: &mut Draft, met: &mut Vec<u32>)
-    requires started { IsStarted words.now.plan }
     requires live { AreLeft words.now (ranks_in words.now) live.now.places.items live.now.numbers.items }
     requires free { draft.old.free ≡ words.now.plan.parts.free }
     requires met { length met.old.items ≡ size words.now.plan.parts }
@@ -203,7 +195,6 @@ fn link_nodes(words: &Words, live: &Live, draft: &mut Draft, met: &mut Vec<u32>)
 
 // Walks all chains.
 fn link_chains(alloc: Global, words: &Words, live: &Live, draft: &mut Draft) -> Result<(), NoMemory>
-    requires started { IsStarted words.now.plan }
     requires live { AreLeft words.now (ranks_in words.now) live.now.places.items live.now.numbers.items }
     requires free { draft.old.free ≡ words.now.plan.parts.free }
     requires before { IsPartly words.now live.now.places.items draft.old.kinds.items draft.old.partners.items × AreCelledTo words.now live.now.places.items draft.old.partners.items (cells_of words.now.plan.parts) }

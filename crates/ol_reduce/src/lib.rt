@@ -4,6 +4,8 @@
 mod chains;
 mod draft;
 mod freezing;
+#[cfg(test)]
+mod freezing_tests;
 mod live;
 mod reading;
 

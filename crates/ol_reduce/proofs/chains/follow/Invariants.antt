@@ -1,4 +1,3 @@
-use Rattle.std.proofs.Common.{◌≡◌, ℕ, ◌+◌, ◌<◌, ◌≤◌}
 use Rattle.ol_reduce.specs.Following.{IsValueAfter}
 use Rattle.ol_reduce.proofs.chains.follow.Given as goal
 

@@ -1,4 +1,4 @@
-use Rattle.std.proofs.Common.{◌≡◌, ℕ, ◌+◌, ◌*◌, ◌<◌, ◌≤◌, length, sym, ap, ◌∙◌, arith}
+use Rattle.std.proofs.Common.{length, ap, ◌∙◌, arith}
 use Rattle.ol_wire.specs.declared.layout.Parts.{Parts}
 use Rattle.ol_net.specs.Nets.{NamedNet}
 use Rattle.ol_net.specs.Build.{Builds}
@@ -16,13 +16,13 @@ link_cells-requires-clause-before c =
 
 pub build-requires-clause-few : goal.build-requires-clause-few
 build-requires-clause-few c =
-    few c.args.words.now c.in_ok-live.live.places.items c.in_ok-live.live.numbers.items c.in_ok-live.ensures (c.stands.ensures.stands c.requires.started) c.link_chains.new.draft.kinds.items c.link_chains.new.draft.partners.items
+    few c.args.words.now c.in_ok-live.live.places.items c.in_ok-live.live.numbers.items c.in_ok-live.ensures c.stands.ensures.stands c.link_chains.new.draft.kinds.items c.link_chains.new.draft.partners.items
     c.in_ok-link_chains.ensures.after c.in_ok-link_chains.ensures.celled c.in_ok-link_chains.ensures.walked c.link_chains.new.draft.free
     (c.in_ok-link_chains.ensures.free ∙ c.link_cells.ensures.free ∙ c.in_ok-draft.ensures.free ∙ ap (λ (z : Parts). z.free) c.parts.ensures)
 
 pub build-requires-clause-complete : goal.build-requires-clause-complete
 build-requires-clause-complete c =
-    completed c.args.words.now c.in_ok-live.live.places.items c.in_ok-live.live.numbers.items c.in_ok-live.ensures (c.stands.ensures.stands c.requires.started) c.link_chains.new.draft.kinds.items c.link_chains.new.draft.partners.items
+    completed c.args.words.now c.in_ok-live.live.places.items c.in_ok-live.live.numbers.items c.in_ok-live.ensures c.stands.ensures.stands c.link_chains.new.draft.kinds.items c.link_chains.new.draft.partners.items
     c.in_ok-link_chains.ensures.after c.in_ok-link_chains.ensures.celled c.in_ok-link_chains.ensures.walked c.link_chains.new.draft.free
     (c.in_ok-link_chains.ensures.free ∙ c.link_cells.ensures.free ∙ c.in_ok-draft.ensures.free ∙ ap (λ (z : Parts). z.free) c.parts.ensures)
 
@@ -30,7 +30,7 @@ pub returns : goal.returns
 returns c = record {
   frozen = map_ok (Builds frozen_top c.link_chains.new.draft.free c.link_chains.new.draft.kinds.items (links_below c.link_chains.new.draft.free c.link_chains.new.draft.partners.items (length c.link_chains.new.draft.partners.items)))
       (λ g. (net : NamedNet NodeName) → IsAfter c.args.words.now net → IsFrozen net g) c.build.result
-      (λ g b. built c.args.words.now c.in_ok-live.live.places.items c.in_ok-live.live.numbers.items c.in_ok-live.ensures (c.stands.ensures.stands c.requires.started) c.link_chains.new.draft.kinds.items c.link_chains.new.draft.partners.items
+      (λ g b. built c.args.words.now c.in_ok-live.live.places.items c.in_ok-live.live.numbers.items c.in_ok-live.ensures c.stands.ensures.stands c.link_chains.new.draft.kinds.items c.link_chains.new.draft.partners.items
       c.in_ok-link_chains.ensures.after c.in_ok-link_chains.ensures.celled c.in_ok-link_chains.ensures.walked c.link_chains.new.draft.free
-      (c.in_ok-link_chains.ensures.free ∙ c.link_cells.ensures.free ∙ c.in_ok-draft.ensures.free ∙ ap (λ (z : Parts). z.free) c.parts.ensures) (c.runs.ensures.one c.requires.started) g b) c.build.ensures;
+      (c.in_ok-link_chains.ensures.free ∙ c.link_cells.ensures.free ∙ c.in_ok-draft.ensures.free ∙ ap (λ (z : Parts). z.free) c.parts.ensures) c.runs.ensures.one g b) c.build.ensures;
 }

@@ -1,4 +1,4 @@
-use Rattle.std.proofs.Common.{◌≡◌, ℕ}
+use Rattle.std.proofs.Common.{◌≡◌}
 use Rattle.ol_reduce.specs.Frozen.{IsPartly, AreCelledTo}
 use Rattle.ol_reduce.proofs.freezing.link_cells.Given as goal
 

@@ -1,4 +1,4 @@
-use Rattle.std.proofs.Common.{◌≡◌, ℕ, ◌+◌, ◌*◌, length}
+use Rattle.std.proofs.Common.{◌≡◌, ◌+◌, ◌*◌, length}
 use Rattle.ol_reduce.specs.Frozen.{IsPartly, AreMetTo, KeepsPartners}
 use Rattle.ol_reduce.proofs.freezing.link_nodes.Given as goal
 

@@ -1,4 +1,4 @@
-use Rattle.std.proofs.Common.{◌≡◌, ℕ, ◌+◌, ◌<◌, Some, slice_index, sym, ap, ◌∙◌, arith}
+use Rattle.std.proofs.Common.{◌≡◌, ◌+◌, slice_index, sym, ap, ◌∙◌, arith}
 use Rattle.ol_net.specs.Parts.{arity}
 use Rattle.ol_wire.specs.References.{kind_in}
 use Rattle.ol_wire.specs.Layout.{block}

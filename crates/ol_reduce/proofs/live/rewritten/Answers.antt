@@ -1,4 +1,4 @@
-use Rattle.std.proofs.Common.{◌≡◌, ℕ, ◌+◌, ◌*◌, ◌<◌, Bool, List, Vec, Global, sym, ap, ◌∙◌, subst, arith}
+use Rattle.std.proofs.Common.{◌+◌, Bool, Vec, Global, sym, ◌∙◌, subst, arith}
 use Rattle.ol_reduce.specs.Left.{AreMarked}
 use Rattle.ol_reduce.proofs.Births.{no_entry}
 use Rattle.ol_reduce.proofs.Numbering.{more_marked, marked_told}

@@ -1,4 +1,3 @@
-use Rattle.std.proofs.Common.{◌≡◌, ℕ, ◌<◌}
 use Rattle.ol_reduce.specs.Left.{AreMarked}
 use Rattle.ol_reduce.proofs.live.rewritten.Given as goal
 

@@ -1,4 +1,4 @@
-use Rattle.std.proofs.Common.{◌≡◌, ℕ, ◌<◌, length, sym, ◌∙◌, subst, ap, arith}
+use Rattle.std.proofs.Common.{length, sym, ◌∙◌, subst, ap, arith}
 use Rattle.std.proofs.lemmas.Bool.{false≢true}
 use Rattle.ol_net.specs.declared.parts.Port.{Port}
 use Rattle.ol_net.specs.Build.{FaultIs}
@@ -14,7 +14,7 @@ build_to-requires-clause-few_links c =
 pub prove-unreachable-requires : goal.prove-unreachable-requires
 prove-unreachable-requires c =
     let q = no_fault c.args.self.free c.args.self.partners.items c.args.self.kinds.items c.requires.complete c.in-Err.fault
-        (subst (λ ls. FaultIs frozen_top c.args.self.free c.args.self.kinds.items ls c.in-Err.fault) c.in_ok-links.ensures c.in-Err.ensures.fault) in
+    (subst (λ ls. FaultIs frozen_top c.args.self.free c.args.self.kinds.items ls c.in-Err.fault) c.in_ok-links.ensures c.in-Err.ensures.fault) in
     elim c.match-matches.branch [
       | in-NoMemory w ↦ absurd (false≢true (sym c.if-prove.true ∙ w.matches-is))
       | in_default w ↦ absurd (w.in_default.not-NoMemory q)

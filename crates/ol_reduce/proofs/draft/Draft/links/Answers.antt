@@ -1,5 +1,5 @@
-use Rattle.std.proofs.Common.{◌≡◌, ℕ, ◌<◌, length, arith}
-use Rattle.ol_reduce.proofs.Building.{read_other, more_links, same_links}
+use Rattle.std.proofs.Common.{◌<◌, length, arith}
+use Rattle.ol_reduce.proofs.Building.{read_other}
 use Rattle.ol_reduce.proofs.draft.Draft.links.Goals as goal
 
 pub port_at-requires-then-place-partner : goal.port_at-requires-then-place-partner

@@ -1,4 +1,4 @@
-use Rattle.std.proofs.Common.{◌≡◌, ℕ, length}
+use Rattle.std.proofs.Common.{◌≡◌}
 use Rattle.ol_reduce.specs.Drafts.{links_below}
 use Rattle.ol_reduce.proofs.draft.Draft.links.Given as goal
 

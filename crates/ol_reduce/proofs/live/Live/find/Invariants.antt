@@ -1,4 +1,4 @@
-use Rattle.std.proofs.Common.{◌≡◌, ℕ, ◌+◌, ◌*◌}
+use Rattle.std.proofs.Common.{◌+◌, ◌*◌}
 use Rattle.ol_reduce.specs.Left.{AreLeft}
 use Rattle.ol_reduce.proofs.live.Live.find.Given as goal
 

@@ -1,4 +1,3 @@
-use Rattle.std.proofs.Common.{◌≡◌, ℕ, ◌-◌, ◌<◌, arith}
 use Rattle.ol_reduce.proofs.Numbering.{number_read}
 use Rattle.ol_reduce.proofs.live.Live.number_at.Goals as goal
 
