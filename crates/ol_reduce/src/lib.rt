@@ -2,7 +2,10 @@
 #![tactic(auto)]
 
 mod answers;
+mod gathering;
 mod sweeping;
+#[cfg(test)]
+mod tests;
 mod workers;
 mod working;
 

@@ -1,8 +1,5 @@
-use Rattle.std.proofs.Common.{◌≡◌, ℕ, List, ◌<◌, refl, sym, ap, ◌∙◌, subst}
+use Rattle.std.proofs.Common.{◌<◌, refl, ap, ◌∙◌, subst}
 use Rattle.ol_pool.specs.Pools.{HandState}
-use Rattle.ol_wire.specs.declared.turning.Turn.TheVariants.{Spent}
-use Rattle.ol_wire.specs.Layout.{cells_of}
-use Rattle.ol_reduce.specs.Turned.{HasTurned}
 use Rattle.ol_reduce.proofs.Turns.{worked_first, worked_next, ended_next}
 use Rattle.ol_reduce.proofs.working.worker.Goals as goal
 
