@@ -1,5 +1,5 @@
 //! What a worker does: it takes cells from the pool and makes turns on them.
-ghost use Rattle.std.specs.Prelude.{◌≡◌, ℕ, List, ◌+◌, ◌<◌, ◌≤◌, true};
+ghost use Rattle.std.specs.Prelude.{◌≡◌, ℕ, List, ◌+◌, ◌<◌, ◌≤◌, ◌↔◌, true};
 ghost use Rattle.ol_pool.specs.Pools.{IsOf as IsOfPool};
 ghost use Rattle.ol_wire.specs.Layout.{cells_of};
 ghost use Rattle.ol_wire.specs.Stand.{IsOf};
@@ -33,7 +33,7 @@ pub fn worker<R: Wait, G: Gate>(
     ensures number { own.new.number ≡ own.old.number }
     ensures holds { own.new.seat.view.holds ≡ own.old.seat.view.holds }
     ensures swept { own.old.seat.view.swept ≤ cells_of shared.now.plan.parts → own.new.seat.view.swept ≤ cells_of shared.now.plan.parts }
-    ensures left { result ≡ End.Left → own.new.hand.missed ≡ true }
+    ensures left { (result ≡ End.Left) ↔ (own.new.hand.missed ≡ true) }
     ensures turned { result ≡ End.Left → (cells : List ℕ) × HasTurned own.old.seat.view cells own.new.seat.view }
     ensures spent { result ≡ End.Spent → (cells : List ℕ) × (c : ℕ) × HasSpent own.old.seat.view cells c own.new.seat.view }
 {
@@ -67,10 +67,12 @@ fn put_published<R: Wait>(rt: &R, pool: &Pool, hand: &mut Hand, first_cell: u32,
     requires cells { first_cell + 4 ≤ pool.now.cells }
     ensures hand { hand.new ≡ hand.old }
 {
+    // The four are below this number, so none of them wraps.
+    let _end = pool.cells();
     for j in 0..4u32 {
         if (mask >> j) & 1 == 1 {
             // One that no memory was found for is left for the sweep.
-            let _ = pool.put(rt, hand, first_cell.saturating_add(j));
+            let _ = pool.put(rt, hand, first_cell + j);
         }
     }
 }
