@@ -72,7 +72,7 @@ fn put_start<R: Wait>(rt: &R, pool: &Pool, hands: &mut Vec<Hand>, workers: u32, 
 }
 
 // A worker for each seat and each hand, with the number of its hand.
-fn hire(
+pub(crate) fn hire(
     alloc: Global,
     shared: &Shared,
     pool: &Pool,

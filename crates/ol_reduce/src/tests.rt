@@ -1,12 +1,12 @@
 //! A small net that is swept, worked on by one worker, and worked on by several.
-ghost use Rattle.std.specs.Prelude.{◌≡◌, ◌≤◌, IfSome, IsTrue, count_by, is_some, length};
+ghost use Rattle.std.specs.Prelude.{◌≡◌, ◌≤◌, IfOk, IsTrue, count_by, is_some, length};
 ghost use Rattle.ol_reduce.specs.Works.{IsWorker};
 ghost use Rattle.ol_wire.specs.Layout.{cells_of};
 ghost use Rattle.ol_wire.specs.Sizes.{IsSmallNet};
 
-use crate::gathering::run_workers;
+use crate::gathering::{hire, run_workers};
 use crate::{End, Sweep, Worker, sweep, worker};
-use ol_io::OpenGate;
+use ol_io::{NoMemory, OpenGate};
 use ol_net::{Kind, Net, NodeId, Port};
 use ol_pool::Pool;
 use ol_wire::Shared;
@@ -52,18 +52,19 @@ fn is_small(net: &Net) -> bool
 }
 
 // A table with one seat, and a pool with one hand.
-fn alone(alloc: Global, net: &Net, fuel: u32) -> Option<(Shared, Pool, Worker)>
+fn alone(alloc: Global, net: &Net, fuel: u32) -> Result<(Shared, Pool, Worker), NoMemory>
     requires whole { count_by is_some net.now.nodes ≡ length net.now.nodes }
     requires small { IsSmallNet net.now }
     requires fuel { fuel ≤ 2000000 }
-    ensures worker { IfSome result (λ r. IsWorker r.0 r.1 r.2) }
-    ensures alone { IfSome result (λ r. r.0.plan.seats ≡ 1) }
-    ensures cells { IfSome result (λ r. r.1.cells ≡ cells_of r.0.plan.parts) }
+    ensures worker { IfOk result (λ r. IsWorker r.0 r.1 r.2) }
+    ensures alone { IfOk result (λ r. r.0.plan.seats ≡ 1) }
+    ensures cells { IfOk result (λ r. r.1.cells ≡ cells_of r.0.plan.parts) }
 {
-    let (table, mut seats) = Shared::make(alloc, net, fuel, 1).ok()?;
-    let (pool, mut hands) = Pool::new(alloc, 1, table.cells()).ok()?;
-    let own = Worker::new(0, seats.pop()?, hands.pop()?);
-    Some((table, pool, own))
+    let (table, seats) = Shared::make(alloc, net, fuel, 1)?;
+    let (pool, hands) = Pool::new(alloc, 1, table.cells())?;
+    let mut hired = hire(alloc, &table, &pool, seats, hands)?;
+    let own = hired.pop().unwrap();
+    Ok((table, pool, own))
 }
 
 #[test]
@@ -71,9 +72,7 @@ fn a_sweep_ends_the_work(rt: HostRuntime) -> Result<(), Fail> {
     let net = identity_of_identity(rt.alloc())?;
     assert!(rt; is_small(&net));
     for (fuel, end) in [(4, Sweep::Clean), (3, Sweep::Spent)] {
-        let Some((table, _, own)) = alone(rt.alloc(), &net, fuel) else {
-            panic!(rt; "no table")
-        };
+        let (table, _, own) = alone(rt.alloc(), &net, fuel)?;
         let mut seat = own.into_seat();
         assert_eq!(rt; sweep(&table, &mut seat), end);
         assert_eq!(rt; table.close(seat).events(), fuel);
@@ -86,9 +85,7 @@ fn a_worker_leaves_when_no_cell_waits(rt: HostRuntime) -> Result<(), Fail> {
     let net = identity_of_identity(rt.alloc())?;
     assert!(rt; is_small(&net));
     for (fuel, end) in [(4, End::Left), (3, End::Spent)] {
-        let Some((table, pool, mut own)) = alone(rt.alloc(), &net, fuel) else {
-            panic!(rt; "no table")
-        };
+        let (table, pool, mut own) = alone(rt.alloc(), &net, fuel)?;
         assert!(rt; 0 < pool.cells());
         assert_eq!(rt; pool.put(&rt, &mut own.hand, 0), Ok(()));
         assert_eq!(rt; worker(&rt, &table, &pool, &mut own, &OpenGate), end);
