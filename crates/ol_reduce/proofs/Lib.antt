@@ -14,3 +14,5 @@ pub mod Arriving
 pub mod Walking
 pub mod Rounds
 pub mod Whole
+pub mod Hired
+pub mod Turns

@@ -2,3 +2,5 @@ pub mod Following
 pub mod Drafts
 pub mod Left
 pub mod Frozen
+pub mod Turned
+pub mod Works

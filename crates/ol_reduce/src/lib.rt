@@ -1,12 +1,24 @@
-//! Reduction by many threads, back to a net: the net that the words of a closed table stand for.
+//! Reduction by many threads: workers that take cells and make turns on them, the sweep that ends the work, and the net that the words
+//! of a closed table stand for.
 #![tactic(auto)]
 
+mod answers;
 mod chains;
 mod draft;
 mod freezing;
 #[cfg(test)]
 mod freezing_tests;
+mod gathering;
 mod live;
 mod reading;
+mod sweeping;
+#[cfg(test)]
+mod tests;
+mod workers;
+mod working;
 
+pub use answers::{End, Sweep};
 pub use freezing::freeze;
+pub use sweeping::sweep;
+pub use workers::Worker;
+pub use working::worker;

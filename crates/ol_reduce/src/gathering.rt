@@ -1,0 +1,145 @@
+//! From seats to workers and back, and the work of all of them.
+ghost use Rattle.std.specs.Prelude.{◌≡◌, ℕ, ◌+◌, ◌<◌, ◌≤◌, All, IfOk, IfSome, vec_len, length, is_some, count_by, true, ◌⊎◌};
+ghost use Rattle.ol_pool.specs.Pools.{IsOf as IsOfPool};
+ghost use Rattle.ol_wire.specs.Layout.{cells_of};
+ghost use Rattle.ol_wire.specs.Sizes.{IsSmallNet};
+ghost use Rattle.ol_wire.specs.Stand.{IsOf, IsFresh};
+ghost use Rattle.ol_wire.specs.Starts.{AreParts};
+ghost use Rattle.ol_reduce.specs.Works.{IsSeat, IsSeated, IsWorker};
+
+use crate::sweeping::sweep;
+use crate::workers::Worker;
+use crate::working::worker;
+use ol_io::{Gate, NoMemory};
+use ol_net::Net;
+use ol_pool::{Hand, Pool};
+use ol_wire::{Seat, Shared, Words};
+use std::alloc::Global;
+use std::sync::Wait;
+use std::thread;
+use std::thread::Threads;
+
+/// The closed words of a net that so many workers have rewritten, with at most `fuel` tickets.
+///
+/// `NoMemory`: there was no memory for the words, the pool or the workers.
+pub(crate) fn run_workers<R: Threads + Wait + Sync, G: Gate + Sync>(
+    rt: &R,
+    alloc: Global,
+    net: &Net,
+    workers: u32,
+    fuel: u32,
+    gate: &G,
+) -> Result<Words, NoMemory>
+    requires whole { count_by is_some net.now.nodes ≡ length net.now.nodes }
+    requires small { IsSmallNet net.now }
+    requires fuel { fuel ≤ 2000000 }
+    requires workers { (0 < workers) × (workers ≤ 64) }
+    ensures parts { IfOk result (λ w. AreParts net.now fuel w.plan.parts) }
+    ensures start { IfOk result (λ w. w.plan.start.value ≡ net.now) }
+    ensures seats { IfOk result (λ w. w.plan.seats ≡ workers) }
+    ensures ended { IfOk result (λ w. (w.view.swept ≡ cells_of w.plan.parts) ⊎ (w.view.over ≡ true)) }
+{
+    let (shared, seats) = Shared::make(alloc, net, fuel, workers)?;
+    let (pool, mut hands) = Pool::new(alloc, workers, shared.cells())?;
+    put_start(rt, &pool, &mut hands, workers, shared.cells() - 4 * fuel);
+    let mut hired = hire(alloc, &shared, &pool, seats, hands)?;
+    run(
+        rt,
+        &shared,
+        &pool,
+        hired.as_mut_slice(),
+        workers as usize,
+        gate,
+    );
+    let mut seat = gather(&shared, hired);
+    sweep(&shared, &mut seat);
+    Ok(shared.close(seat))
+}
+
+// Puts the cells below `count` into the pool, each by the hand whose number is the remainder by the number
+// of hands.
+fn put_start<R: Wait>(rt: &R, pool: &Pool, hands: &mut Vec<Hand>, workers: u32, count: u32)
+    requires hands { All (λ hand. IsOfPool hand pool.now) hands.old.items }
+    requires workers { (vec_len hands.old ≡ workers) × (0 < workers) }
+    requires count { count ≤ pool.now.cells }
+    ensures hands { All (λ hand. IsOfPool hand pool.now) hands.new.items }
+    ensures workers { vec_len hands.new ≡ vec_len hands.old }
+{
+    for cell in 0..count {
+        // One that no memory was found for is left for the sweep.
+        let _ = pool.put(rt, &mut hands[(cell % workers) as usize], cell);
+    }
+}
+
+// A worker for each seat and each hand, with the number of its hand.
+pub(crate) fn hire(
+    alloc: Global,
+    shared: &Shared,
+    pool: &Pool,
+    mut seats: Vec<Seat>,
+    mut hands: Vec<Hand>,
+) -> Result<Vec<Worker>, NoMemory>
+    requires seats { All (IsFresh shared.now) seats.items }
+    requires hands { All (λ hand. IsOfPool hand pool.now) hands.items }
+    requires count { vec_len hands ≡ vec_len seats }
+    ensures each { IfOk result (λ made. All (IsWorker shared.now pool.now) made.items) }
+    ensures count { IfOk result (λ made. vec_len made ≡ vec_len seats) }
+{
+    let Ok(mut workers) = Vec::with_capacity(alloc, seats.len()) else {
+        return Err(NoMemory);
+    };
+    while let Some(seat) = seats.pop() {
+        let hand = hands.pop().unwrap();
+        let number = hand.number();
+        let Ok(()) = workers.push(Worker::new(number, seat, hand)) else {
+            return Err(NoMemory);
+        };
+    }
+    Ok(workers)
+}
+
+// One worker's part of the work.
+fn work<R: Wait, G: Gate>(rt: &R, shared: &Shared, pool: &Pool, own: &mut Worker, gate: &G)
+    requires worker { IsWorker shared.now pool.now own.old }
+    requires cells { pool.now.cells ≡ cells_of shared.now.plan.parts }
+    ensures seated { IsSeated shared.now own.new }
+{
+    worker(rt, shared, pool, own, gate);
+}
+
+// All workers work, in at most `count` threads.
+fn run<R: Threads + Wait + Sync, G: Gate + Sync>(
+    rt: &R,
+    shared: &Shared,
+    pool: &Pool,
+    workers: &mut [Worker],
+    count: usize,
+    gate: &G,
+)
+    requires workers { All (IsWorker shared.now pool.now) workers.old }
+    requires cells { pool.now.cells ≡ cells_of shared.now.plan.parts }
+    requires count { 0 < count }
+    ensures seated { All (IsSeated shared.now) workers.new }
+    ensures length { length workers.new ≡ length workers.old }
+{
+    thread::for_each_mut(
+        rt,
+        workers,
+        count,
+        &|_, own| { work(rt, shared, pool, own, gate) },
+    );
+}
+
+// One seat of the seats of all workers.
+fn gather(shared: &Shared, mut workers: Vec<Worker>) -> Seat
+    requires workers { All (IsSeated shared.now) workers.items }
+    requires some { 0 < vec_len workers }
+    ensures seat { IsSeat shared.now result }
+    ensures holds { result.view.holds ≡ vec_len workers }
+{
+    let mut seat = workers.pop().unwrap().into_seat();
+    while let Some(other) = workers.pop() {
+        shared.join(&mut seat, other.into_seat());
+    }
+    seat
+}

@@ -1,0 +1,106 @@
+//! A small net that is swept, worked on by one worker, and worked on by several.
+ghost use Rattle.std.specs.Prelude.{◌≡◌, ◌≤◌, IfOk, IsTrue, count_by, is_some, length};
+ghost use Rattle.ol_reduce.specs.Works.{IsWorker};
+ghost use Rattle.ol_wire.specs.Layout.{cells_of};
+ghost use Rattle.ol_wire.specs.Sizes.{IsSmallNet};
+
+use crate::gathering::{hire, run_workers};
+use crate::{End, Sweep, Worker, sweep, worker};
+use ol_io::{NoMemory, OpenGate};
+use ol_net::{Kind, Net, NodeId, Port};
+use ol_pool::Pool;
+use ol_wire::Shared;
+use std::alloc::Global;
+use std::test::Fail;
+
+fn of(node: u32, slot: u8) -> Port {
+    Port::Of {
+        node: NodeId(node),
+        slot,
+    }
+}
+
+/// The net of (\x. x) (\y. y), which four steps make \y. y.
+fn identity_of_identity(alloc: Global) -> Result<Net, Fail> {
+    let nodes = vec![in alloc;
+        (Kind::App, 0),
+        (Kind::Lam, 0),
+        (Kind::Croissant, 0),
+        (Kind::Lam, 1),
+        (Kind::Croissant, 1),
+    ]?;
+    let links = vec![in alloc;
+        (Port::Free(0), of(0, 1)),
+        (of(0, 0), of(1, 0)),
+        (of(0, 2), of(3, 0)),
+        (of(1, 1), of(2, 1)),
+        (of(1, 2), of(2, 0)),
+        (of(3, 1), of(4, 1)),
+        (of(3, 2), of(4, 0)),
+    ]?;
+    Net::build(alloc, 1, nodes, links).map_err(Fail::from)
+}
+
+// The net is small enough to be laid out.
+fn is_small(net: &Net) -> bool
+    ensures { IsTrue result → (count_by is_some net.now.nodes ≡ length net.now.nodes) × IsSmallNet net.now }
+{
+    net.nodes() == net.born()
+        && net.born() <= 1_000_000
+        && net.free_ports() <= 1_000_000
+        && net.top_index() <= 1_000_000
+}
+
+// A table with one seat, and a pool with one hand.
+fn alone(alloc: Global, net: &Net, fuel: u32) -> Result<(Shared, Pool, Worker), NoMemory>
+    requires whole { count_by is_some net.now.nodes ≡ length net.now.nodes }
+    requires small { IsSmallNet net.now }
+    requires fuel { fuel ≤ 2000000 }
+    ensures worker { IfOk result (λ r. IsWorker r.0 r.1 r.2) }
+    ensures alone { IfOk result (λ r. r.0.plan.seats ≡ 1) }
+    ensures cells { IfOk result (λ r. r.1.cells ≡ cells_of r.0.plan.parts) }
+{
+    let (table, seats) = Shared::make(alloc, net, fuel, 1)?;
+    let (pool, hands) = Pool::new(alloc, 1, table.cells())?;
+    let mut hired = hire(alloc, &table, &pool, seats, hands)?;
+    let own = hired.pop().unwrap();
+    Ok((table, pool, own))
+}
+
+#[test]
+fn a_sweep_ends_the_work(rt: HostRuntime) -> Result<(), Fail> {
+    let net = identity_of_identity(rt.alloc())?;
+    assert!(rt; is_small(&net));
+    for (fuel, end) in [(4, Sweep::Clean), (3, Sweep::Spent)] {
+        let (table, _, own) = alone(rt.alloc(), &net, fuel)?;
+        let mut seat = own.into_seat();
+        assert_eq!(rt; sweep(&table, &mut seat), end);
+        assert_eq!(rt; table.close(seat).events(), fuel);
+    }
+    Ok(())
+}
+
+#[test]
+fn a_worker_leaves_when_no_cell_waits(rt: HostRuntime) -> Result<(), Fail> {
+    let net = identity_of_identity(rt.alloc())?;
+    assert!(rt; is_small(&net));
+    for (fuel, end) in [(4, End::Left), (3, End::Spent)] {
+        let (table, pool, mut own) = alone(rt.alloc(), &net, fuel)?;
+        assert!(rt; 0 < pool.cells());
+        assert_eq!(rt; pool.put(&rt, &mut own.hand, 0), Ok(()));
+        assert_eq!(rt; worker(&rt, &table, &pool, &mut own, &OpenGate), end);
+        assert_eq!(rt; table.close(own.into_seat()).events(), fuel);
+    }
+    Ok(())
+}
+
+#[test]
+fn workers_share_a_net(rt: HostRuntime) -> Result<(), Fail> {
+    let net = identity_of_identity(rt.alloc())?;
+    assert!(rt; is_small(&net));
+    for (workers, fuel) in [(1, 4), (2, 4), (2, 3)] {
+        let words = run_workers(&rt, rt.alloc(), &net, workers, fuel, &OpenGate)?;
+        assert_eq!(rt; words.events(), fuel);
+    }
+    Ok(())
+}

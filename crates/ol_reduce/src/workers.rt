@@ -1,0 +1,36 @@
+//! A worker: a seat at the table, and a hand in the pool.
+ghost use Rattle.std.specs.Prelude.{◌≡◌};
+
+use ol_pool::Hand;
+use ol_wire::Seat;
+
+/// What one worker works with, and its number.
+#[derive(Drop)]
+pub struct Worker {
+    pub(crate) number: u32,
+    pub(crate) seat: Seat,
+    pub(crate) hand: Hand,
+}
+
+impl Worker {
+    /// A worker of that number. Takes no memory.
+    pub fn new(number: u32, seat: Seat, hand: Hand) -> Worker
+        ensures number { result.number ≡ number }
+        ensures seat { result.seat ≡ seat }
+        ensures hand { result.hand ≡ hand }
+    {
+        Worker { number, seat, hand }
+    }
+
+    /// Gives its seat back. Takes no memory.
+    pub fn into_seat(self) -> Seat
+        ensures { result ≡ self.seat }
+    {
+        let Worker {
+            number: _,
+            seat,
+            hand: _,
+        } = self;
+        seat
+    }
+}

@@ -1,0 +1,78 @@
+//! What a worker does: it takes cells from the pool and makes turns on them.
+ghost use Rattle.std.specs.Prelude.{◌≡◌, ℕ, List, ◌+◌, ◌<◌, ◌≤◌, ◌↔◌, true};
+ghost use Rattle.ol_pool.specs.Pools.{IsOf as IsOfPool};
+ghost use Rattle.ol_wire.specs.Layout.{cells_of};
+ghost use Rattle.ol_wire.specs.Stand.{IsOf};
+ghost use Rattle.ol_reduce.specs.Turned.{HasTurned, HasSpent};
+
+use crate::answers::End;
+use crate::workers::Worker;
+use ol_io::Gate;
+use ol_pool::{Hand, Pool};
+use ol_wire::{Shared, Turn};
+use std::sync::Wait;
+
+/// Takes cells from the pool and makes a turn on each, up to the first that answers `Spent`, or until no cell
+/// waits. A cell in which a turn published a pair is put into the pool.
+///
+/// The gate is passed at the start with 0, and after each turn with the number of turns made, which stays at
+/// its last value. The call may wait for the pool's lock. A cell for which the pool finds no memory isn't put: its pair stays
+/// where it is.
+pub fn worker<R: Wait, G: Gate>(
+    rt: &R,
+    shared: &Shared,
+    pool: &Pool,
+    own: &mut Worker,
+    gate: &G,
+) -> End
+    requires seat { IsOf shared.now own.old.seat }
+    requires hand { IsOfPool own.old.hand pool.now }
+    requires cells { pool.now.cells ≡ cells_of shared.now.plan.parts }
+    ensures seat { IsOf shared.now own.new.seat }
+    ensures hand { IsOfPool own.new.hand pool.now }
+    ensures number { own.new.number ≡ own.old.number }
+    ensures holds { own.new.seat.view.holds ≡ own.old.seat.view.holds }
+    ensures swept { own.old.seat.view.swept ≤ cells_of shared.now.plan.parts → own.new.seat.view.swept ≤ cells_of shared.now.plan.parts }
+    ensures left { (result ≡ End.Left) ↔ (own.new.hand.missed ≡ true) }
+    ensures turned { result ≡ End.Left → (cells : List ℕ) × HasTurned own.old.seat.view cells own.new.seat.view }
+    ensures spent { result ≡ End.Spent → (cells : List ℕ) × (c : ℕ) × HasSpent own.old.seat.view cells c own.new.seat.view }
+{
+    let number = own.number;
+    let mut turns: u64 = 0;
+    gate.pass(number, turns);
+    for _ in rt.forever() {
+        let Some(cell) = pool.take(rt, &mut own.hand) else {
+            return End::Left;
+        };
+        let turn = shared.turn(&mut own.seat, cell);
+        turns = turns.saturating_add(1);
+        gate.pass(number, turns);
+        match turn {
+            Turn::Spent => return End::Spent,
+            Turn::Rewrote {
+                ticket: _,
+                rule: _,
+                first_cell,
+                mask,
+            } => put_published(rt, pool, &mut own.hand, first_cell, mask),
+            _ => {}
+        }
+    }
+    unreachable!()
+}
+
+// Puts those of the four cells from `first_cell` on whose bit is set in the mask.
+fn put_published<R: Wait>(rt: &R, pool: &Pool, hand: &mut Hand, first_cell: u32, mask: u8)
+    requires hand { IsOfPool hand.old pool.now }
+    requires cells { first_cell + 4 ≤ pool.now.cells }
+    ensures hand { hand.new ≡ hand.old }
+{
+    // The four are below this number, so none of them wraps.
+    let _end = pool.cells();
+    for j in 0..4u32 {
+        if (mask >> j) & 1 == 1 {
+            // One that no memory was found for is left for the sweep.
+            let _ = pool.put(rt, hand, first_cell + j);
+        }
+    }
+}
