@@ -1,11 +1,9 @@
 -- What a cell holds that isn't empty: two nodes that face each other, whose fields are written.
-use Rattle.std.proofs.Common.{◌≡◌, ◌≢◌, ℕ, zero, suc, ◌+◌, ◌%◌, ◌<◌, ◌≤◌, ◌==◌, Bool, true, false, if◌then◌else◌, nat_eq, eq-eqb, ne_eqb, eqb-true, List, [], ◌∷◌, ◌++◌, length, get_or, ◌⊎◌, inl, inr, refl, sym, ap, ◌∙◌, subst, arith}
-use Rattle.std.proofs.lemmas.Bool.{cases_eq, cases_lt}
-use mathlib.Core.Option.{some}
-use lib.ListN.{get_elem?}
-use Rattle.ol_edges.specs.Edges.{IsIn, EdgeOf, Joined, here, on, ends, bit, Contracted}
+use Rattle.std.proofs.Common.{◌≡◌, ◌≢◌, ℕ, suc, ◌+◌, ◌<◌, ◌≤◌, Bool, true, false, if◌then◌else◌, nat_eq, eq-eqb, ne_eqb, List, [], ◌∷◌, ◌++◌, length, get_or, ◌⊎◌, inl, inr, refl, sym, ap, ◌∙◌, subst, arith}
+use Rattle.std.proofs.lemmas.Bool.{cases_eq}
+use Rattle.ol_edges.specs.Edges.{IsIn, here, on, ends, bit}
 use Rattle.ol_net.specs.declared.parts.Kind.{Kind}
-use Rattle.ol_net.specs.Nets.{NamedPort, free, slot, NamedNet, HasNode, Linked, Faces}
+use Rattle.ol_net.specs.Nets.{NamedPort, slot, NamedNet, HasNode, Linked}
 use Rattle.ol_net.specs.Parts.{arity}
 use Rattle.ol_net.specs.declared.parts.Kind.TheVariants as kind
 use Rattle.ol_rules.specs.declared.journal.NodeName.{NodeName}
@@ -14,14 +12,14 @@ use Rattle.ol_wire.specs.declared.layout.Parts.{Parts}
 use Rattle.ol_wire.specs.declared.plan.Plan.{Plan}
 use Rattle.ol_wire.specs.declared.view.Link.{Link}
 use Rattle.ol_wire.specs.declared.view.View.{View}
-use Rattle.ol_wire.specs.References.{node_ref, wire_ref, slot_ref, IsNodeRef, IsWireRef, IsRef}
+use Rattle.ol_wire.specs.References.{node_ref, wire_ref, slot_ref, IsNodeRef, IsRef}
 use Rattle.ol_wire.specs.Layout.{Part, ticket, port, field, wire, between, left, right, entry, past, part_of, place_of, size}
 use Rattle.ol_wire.specs.Edges.{edge_to, edge_in, edges_in, edges_of, links_in, pending_in, is_reached, is_live}
 use Rattle.ol_wire.specs.Stands.{IsEnd, of_port, principal, auxiliary, IsWireEnd}
 use Rattle.ol_wire.specs.Rule.{Table, IsView, IsPlaced, IsOwn, Kept}
 use Rattle.ol_wire.proofs.References.{node_sort, wire_sort, slot_sort, slot_same}
 use Rattle.ol_wire.proofs.Places.{part_field, is_left, place_before, place_same}
-use Rattle.ol_wire.proofs.Alike.{total_append, pairs_append, ends_weigh, end_weight}
+use Rattle.ol_wire.proofs.Alike.{pairs_append, ends_weigh, end_weight}
 use Rattle.ol_wire.proofs.EdgeList.{edge_there, edge_found, pending_there, pending_found, live_there}
 use Rattle.ol_wire.proofs.Held.{Holds, owner}
 

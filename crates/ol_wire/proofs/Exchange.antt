@@ -1,9 +1,9 @@
 -- One exchange that finds a reference takes one wire out: the two edges at it become one, and the edges stand for the same net.
-use Rattle.std.proofs.Common.{◌≡◌, ◌≢◌, ℕ, ◌+◌, ◌<◌, ◌≤◌, ◌==◌, Bool, true, if◌then◌else◌, nat_eq, eq-eqb, ne_eqb, List, [], ◌∷◌, ◌⊎◌, inl, inr, ◌↔◌, refl, sym, ap, ◌∙◌, subst, arith}
+use Rattle.std.proofs.Common.{◌≡◌, ◌≢◌, ℕ, ◌<◌, ◌≤◌, ◌==◌, Bool, true, if◌then◌else◌, nat_eq, eq-eqb, ne_eqb, List, ◌∷◌, ◌⊎◌, inl, inr, ◌↔◌, refl, sym, ap, ◌∙◌, subst, arith}
 use Rattle.std.proofs.lemmas.Bool.{cases_eq}
-use Rattle.ol_edges.specs.Edges.{IsIn, EdgeOf, Joined, here, on, back, ends, bit, Contracted}
-use Rattle.ol_edges.proofs.Joining.{joined_map, joined_image, joined_sym}
-use Rattle.ol_net.specs.Nets.{NamedPort, NamedNet, Linked}
+use Rattle.ol_edges.specs.Edges.{IsIn, EdgeOf, Joined, here, on, back, ends}
+use Rattle.ol_edges.proofs.Joining.{joined_map, joined_image}
+use Rattle.ol_net.specs.Nets.{NamedPort, NamedNet}
 use Rattle.ol_rules.specs.declared.journal.NodeName.{NodeName}
 use Rattle.ol_wire.specs.declared.layout.Parts.{Parts}
 use Rattle.ol_wire.specs.References.{wire_ref}

@@ -1,5 +1,5 @@
 -- Each word of a start net that isn't empty holds a whole reference to a node, a wire or a free port of the start.
-use Rattle.std.proofs.Common.{◌≡◌, ◌≢◌, ℕ, zero, suc, ◌<◌, Bool, true, List, [], ◌∷◌, slice_index, slice_get, Option, Some, None, refl, sym, ap, ◌∙◌, subst, arith, inl, inr}
+use Rattle.std.proofs.Common.{◌≡◌, ◌≢◌, ℕ, zero, suc, ◌<◌, Bool, true, List, [], slice_index, Option, Some, None, refl, sym, ap, ◌∙◌, subst, arith, inl, inr}
 use Rattle.std.proofs.lemmas.Bool.{cases_lt}
 use Rattle.ol_net.specs.declared.parts.Kind.{Kind}
 use Rattle.ol_net.specs.declared.parts.NodeId.{NodeId}
@@ -11,7 +11,7 @@ use Rattle.ol_net.specs.Numbered.{net_of}
 use Rattle.ol_rules.specs.declared.journal.NodeName.{NodeName}
 use Rattle.ol_rules.specs.declared.journal.NodeName.TheVariants.{Init}
 use Rattle.ol_wire.specs.declared.layout.Parts.{Parts}
-use Rattle.ol_wire.specs.References.{node_ref, wire_ref, kind_in, index_in, place_in, IsNodeRef, IsWhole}
+use Rattle.ol_wire.specs.References.{node_ref, wire_ref, index_in, place_in, IsNodeRef, IsWhole}
 use Rattle.ol_wire.specs.Layout.{part_of, port_word, start_node, start_wire, start_cell}
 use Rattle.ol_wire.specs.Layout as part
 use Rattle.ol_wire.specs.Starts.{facing_pairs}

@@ -1,7 +1,7 @@
 -- Where no link is pending and no cell holds an active pair, the net has none: no pair is hidden behind wires.
-use Rattle.std.proofs.Common.{◌≡◌, ◌≢◌, ℕ, zero, suc, ◌+◌, ◌%◌, ◌<◌, ◌≤◌, Bool, true, false, nat_eq, List, [], ◌∷◌, ◌++◌, get_or, Some, None, ◌⊎◌, inl, inr, refl, sym, ap, ◌∙◌, subst, arith}
+use Rattle.std.proofs.Common.{◌≡◌, ◌≢◌, ℕ, suc, ◌<◌, ◌≤◌, nat_eq, List, [], ◌∷◌, get_or, Some, None, ◌⊎◌, inl, inr, refl, sym, ap, ◌∙◌, subst, arith}
 use Rattle.std.proofs.lemmas.Bool.{cases_eq}
-use Rattle.ol_edges.specs.Edges.{IsIn, EdgeOf, Joined, here, on, back, ends, bit, Contracted}
+use Rattle.ol_edges.specs.Edges.{IsIn, EdgeOf, Joined, here, on, back, ends, Contracted}
 use Rattle.ol_net.specs.declared.parts.Kind.{Kind}
 use Rattle.ol_net.specs.declared.parts.Rule.{Rule}
 use Rattle.ol_net.specs.Nets.{NamedPort, slot, HasNode}
@@ -12,7 +12,7 @@ use Rattle.ol_rules.specs.Runs.{IsComplete}
 use Rattle.ol_wire.specs.declared.layout.Parts.{Parts}
 use Rattle.ol_wire.specs.declared.plan.Plan.{Plan}
 use Rattle.ol_wire.specs.declared.view.View.{View}
-use Rattle.ol_wire.specs.References.{node_ref, wire_ref, slot_ref, kind_in, index_in, IsNodeRef}
+use Rattle.ol_wire.specs.References.{node_ref, wire_ref, kind_in, index_in, IsNodeRef}
 use Rattle.ol_wire.specs.Layout.{left, part_of, place_of, size}
 use Rattle.ol_wire.specs.Events.{rule_between}
 use Rattle.ol_wire.specs.Edges.{edges_in, edges_of, pending_in, links_in, is_reached}
@@ -20,7 +20,7 @@ use Rattle.ol_wire.specs.Stands.{IsEnd, principal, IsWireEnd}
 use Rattle.ol_wire.specs.Rule.{Table, IsView, Kept}
 use Rattle.ol_wire.proofs.References.{node_sort, wire_sort, slot_sort, wire_same, kind_of_ref, index_of_ref}
 use Rattle.ol_wire.proofs.EdgeList.{edge_found, pending_found}
-use Rattle.ol_wire.proofs.Claimed.{node_of, in_either, ends_first, ends_second, ends_twice, ends_found, same_bit, other_bit, EdgeAt, at_wire, at_field, at_cell, edge_at}
+use Rattle.ol_wire.proofs.Claimed.{node_of, in_either, ends_first, ends_second, ends_twice, same_bit, EdgeAt, at_wire, at_field, at_cell, edge_at}
 
 -- an end that has edges to two others stands at two edges
 two_edges : (v u w : ℕ) (es : List (ℕ × ℕ)) → u ≢ w → IsIn (v, u) es → IsIn (v, w) es → 2 ≤ ends nat_eq v es

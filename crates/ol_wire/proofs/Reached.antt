@@ -1,6 +1,5 @@
 -- Which wires are reached before and after a ticket.
-use Rattle.std.proofs.Common.{◌≡◌, ◌≢◌, ℕ, zero, suc, ◌+◌, ◌<◌, ◌≤◌, Bool, true, false, not, ◌&&◌, nat_eq, nat_lt, eq-eqb, ne_eqb, eqb-true, ltb-true, lt-ltb, if◌then◌else◌, List, [], ◌∷◌, ◌++◌, length, Option, Some, None, ◌⊎◌, inl, inr, refl, sym, ap, ◌∙◌, subst, slice_get, arith}
-use Rattle.std.proofs.lemmas.Bool.{cases_eq, cases_lt}
+use Rattle.std.proofs.Common.{◌≡◌, ℕ, zero, suc, ◌<◌, ◌≤◌, Bool, true, false, not, ◌&&◌, nat_eq, nat_lt, eq-eqb, ltb-true, lt-ltb, if◌then◌else◌, List, [], ◌∷◌, ◌++◌, length, Option, Some, None, ◌⊎◌, inl, inr, refl, sym, ap, ◌∙◌, slice_get, arith}
 use Rattle.ol_edges.specs.Edges.{bit}
 use Rattle.ol_net.specs.Parts.{arity}
 use Rattle.ol_rules.specs.Rewriting.{is_meeting}

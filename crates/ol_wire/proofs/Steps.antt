@@ -1,5 +1,5 @@
 -- What each kind of step asks of its seat.
-use Rattle.std.proofs.Common.{◌≡◌, ◌≢◌, ℕ, zero, suc, ◌+◌, ◌%◌, ◌^◌, ◌<◌, ◌≤◌, ◌⊎◌, Bool, true, false, if◌then◌else◌, Some, List, [], ◌∷◌, get_or, set, sym, refl, ap, ◌∙◌, subst, inl, inr, arith}
+use Rattle.std.proofs.Common.{◌≡◌, ◌≢◌, ℕ, suc, ◌+◌, ◌%◌, ◌^◌, ◌<◌, ◌≤◌, ◌⊎◌, true, false, if◌then◌else◌, List, [], ◌∷◌, get_or, sym, refl, ap, ◌∙◌, subst, inl, inr, arith}
 use Rattle.std.proofs.lemmas.Bool.{cases_eq, cases_lt}
 use native.Mathlib.Nat.{mod-eq_of_lt}
 use mathlib.Core.Option.{none, some}
@@ -10,16 +10,16 @@ use Rattle.ol_net.specs.Parts.{arity}
 use Rattle.ol_wire.specs.declared.layout.Parts.{Parts}
 use Rattle.ol_wire.specs.declared.plan.Plan.{Plan}
 use Rattle.ol_wire.specs.declared.view.View.{View}
-use Rattle.ol_wire.specs.References.{node_ref, kind_in, index_in, place_in, IsNodeRef}
+use Rattle.ol_wire.specs.References.{node_ref, kind_in, place_in}
 use Rattle.ol_wire.specs.Weights.{total}
-use Rattle.ol_wire.specs.Layout.{left, right, part_of, place_of, size, left_word, cells_of}
+use Rattle.ol_wire.specs.Layout.{left, part_of, place_of, size, left_word, cells_of}
 use Rattle.ol_wire.specs.Views.{past_fuel, IsIdle}
 use Rattle.ol_wire.specs.Plays.{Seated, cell_in_hand, returned, missing, holding, paired, knowing, ticketed, late, wrote, IsNodeOf, IsRefOf, IsLookedUp, claims, pairs_up, draws, writes}
 use Rattle.ol_wire.specs.TurnPlays.{reads, returns}
-use Rattle.ol_wire.specs.Rule.{Table, Kept, IsView, IsLasting}
+use Rattle.ol_wire.specs.Rule.{Table, Kept, IsLasting}
 use Rattle.ol_wire.proofs.References.{kind_of_ref, place_of_ref}
 use Rattle.ol_wire.proofs.Places.{is_left, part_field, part_cell}
-use Rattle.ol_wire.proofs.Claimed.{IsNodeAt, IsCellPair, cell_pair, node_of, is_placed, field_full, field_within, field_written, right_written}
+use Rattle.ol_wire.proofs.Claimed.{IsNodeAt, IsCellPair, cell_pair, is_placed, field_full, field_within, field_written, right_written}
 use Rattle.ol_wire.proofs.Held.{word_full}
 use Rattle.ol_wire.proofs.Ticket.{ticket_keeps}
 use Rattle.ol_wire.proofs.StepsKeep.{after}

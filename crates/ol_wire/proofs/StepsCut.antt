@@ -9,10 +9,9 @@ use Rattle.ol_rules.specs.Runs.{HasActive}
 use Rattle.ol_wire.specs.declared.plan.Plan.{Plan}
 use Rattle.ol_wire.specs.declared.view.Link.{Link}
 use Rattle.ol_wire.specs.declared.view.View.{View}
-use Rattle.ol_wire.specs.References.{node_ref}
 use Rattle.ol_wire.specs.Weights.{total, pairs}
-use Rattle.ol_wire.specs.Layout.{field, left, part_of, place_of, size}
-use Rattle.ol_wire.specs.Edges.{is_reached, is_made, times, edges_of, edges_in, pending_in, links_in}
+use Rattle.ol_wire.specs.Layout.{field, left, part_of, size}
+use Rattle.ol_wire.specs.Edges.{is_reached, is_made, times, edges_of, edges_in, pending_in}
 use Rattle.ol_wire.specs.Stands.{Stands}
 use Rattle.ol_wire.specs.Views.{past_fuel, IsSpent}
 use Rattle.ol_wire.specs.Plays.{fewer, one_seat, cell_at}

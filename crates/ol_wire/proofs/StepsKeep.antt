@@ -4,21 +4,19 @@ use mathlib.Core.Option.{some}
 use lib.ListN.{get_elem?}
 use Rattle.ol_edges.specs.Edges.{IsIn}
 use Rattle.core.specs.Prelude.{slice_get}
-use Rattle.ol_net.specs.Nets.{HasNode}
-use Rattle.ol_net.specs.Parts.{arity}
 use Rattle.ol_rules.specs.declared.journal.NodeName.{NodeName}
 use Rattle.ol_rules.specs.Runs.{HasActive}
 use Rattle.ol_rules.specs.declared.journal.Entry.{Entry}
 use Rattle.ol_wire.specs.declared.layout.Parts.{Parts}
 use Rattle.ol_wire.specs.declared.view.Link.{Link}
-use Rattle.ol_wire.specs.References.{node_ref, IsNodeRef}
+use Rattle.ol_wire.specs.References.{IsNodeRef}
 use Rattle.ol_wire.specs.Laid.{node_word}
 use Rattle.ol_wire.specs.Events.{IsStuckPair}
 use Rattle.ol_wire.specs.declared.plan.Plan.{Plan}
 use Rattle.ol_wire.specs.declared.view.View.{View}
 use Rattle.ol_wire.specs.Weights.{total, pairs, weigh, Empties}
-use Rattle.ol_wire.specs.Layout.{field, left, part_of, place_of, start_node, block, size, start_cell, left_word, born_cell}
-use Rattle.ol_wire.specs.Edges.{is_reached, is_made, times, edges_of, edges_in, pending_in, links_in}
+use Rattle.ol_wire.specs.Layout.{field, left, part_of, start_node, block, size, start_cell, left_word, born_cell}
+use Rattle.ol_wire.specs.Edges.{is_reached, is_made, times, edges_of, edges_in, pending_in}
 use Rattle.ol_wire.specs.Stands.{Stands}
 use Rattle.ol_wire.specs.Views.{past_fuel, IsSpent}
 use Rattle.ol_wire.specs.Plays.{cell_at}

@@ -6,22 +6,20 @@ use mathlib.Core.Option.{some}
 use lib.ListN.{get_elem?}
 use Rattle.core.specs.Prelude.{slice_get}
 use Rattle.ol_edges.specs.Edges.{IsIn, bit}
-use Rattle.ol_net.specs.Nets.{HasNode}
-use Rattle.ol_net.specs.Parts.{arity}
 use Rattle.ol_rules.specs.declared.journal.NodeName.TheVariants.{Init, Born}
 use Rattle.ol_rules.specs.Runs.{HasActive}
 use Rattle.ol_wire.specs.declared.layout.Parts.{Parts}
 use Rattle.ol_wire.specs.declared.plan.Plan.{Plan}
 use Rattle.ol_wire.specs.declared.view.Link.{Link}
 use Rattle.ol_wire.specs.declared.view.View.{View}
-use Rattle.ol_wire.specs.References.{node_ref, IsNodeRef}
+use Rattle.ol_wire.specs.References.{IsNodeRef}
 use Rattle.ol_wire.specs.Starts.{facing_pairs}
 use Rattle.ol_wire.specs.Laid.{node_word, field_of}
 use Rattle.ol_wire.specs.Layout.{field, left, part_of, place_of, start_node, start_cell, left_word, block, size}
 use Rattle.ol_wire.specs.Weights.{total, pairs, weigh, Empties}
 use Rattle.ol_wire.specs.Events.{IsStuckPair}
 use Rattle.ol_wire.specs.Blocks.{block_words}
-use Rattle.ol_wire.specs.Edges.{is_reached, is_made, deaths, times, edges_of, links_in}
+use Rattle.ol_wire.specs.Edges.{is_reached, is_made, deaths, times, edges_of}
 use Rattle.ol_wire.specs.Stands.{Stands}
 use Rattle.ol_wire.specs.Views.{past_fuel, IsSpent}
 use Rattle.ol_wire.specs.Plays.{cell_at}

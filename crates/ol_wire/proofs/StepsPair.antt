@@ -1,15 +1,12 @@
 -- What a look finds: references of nodes, of wires and of free ports, by words of the table; and that a pair in hand is active.
-use Rattle.std.proofs.Common.{◌≡◌, ◌≢◌, ℕ, zero, suc, ◌+◌, ◌%◌, ◌<◌, ◌≤◌, ◌⊎◌, Bool, true, false, ◌&&◌, nat_eq, eq-eqb, ne_eqb, if◌then◌else◌, Some, None, Option, List, [], ◌∷◌, ◌++◌, get_or, sym, refl, ap, ◌∙◌, subst, inl, inr, arith}
+use Rattle.std.proofs.Common.{◌≡◌, ◌≢◌, ℕ, zero, suc, ◌+◌, ◌%◌, ◌<◌, ◌≤◌, ◌⊎◌, Bool, true, false, ◌&&◌, ne_eqb, if◌then◌else◌, Some, None, Option, List, [], ◌∷◌, get_or, sym, refl, ap, ◌∙◌, subst, inl, inr, arith}
 use Rattle.std.proofs.lemmas.Bool.{cases_eq}
 use mathlib.Core.Bool.{false≢true}
-use mathlib.Core.Option.{some}
-use lib.ListN.{get_elem?}
-use Rattle.ol_edges.specs.Edges.{IsIn, ends}
+use Rattle.ol_edges.specs.Edges.{IsIn}
 use Rattle.ol_net.specs.declared.parts.Kind.{Kind}
 use Rattle.ol_net.specs.declared.parts.Kind.TheVariants as kind
 use Rattle.ol_net.specs.declared.parts.Rule.{Rule}
-use Rattle.ol_net.specs.Nets.{NamedPort, free, slot, NamedNet, HasNode, Linked, Faces}
-use Rattle.ol_net.specs.Pairs.{IsActive}
+use Rattle.ol_net.specs.Nets.{NamedPort, slot, NamedNet, HasNode, Linked}
 use Rattle.ol_net.specs.Parts.{arity}
 use Rattle.ol_net.specs.Rules.{rule_of}
 use Rattle.ol_rules.specs.declared.journal.NodeName.{NodeName}
@@ -17,17 +14,17 @@ use Rattle.ol_rules.specs.Runs.{HasActive}
 use Rattle.ol_wire.specs.declared.layout.Parts.{Parts}
 use Rattle.ol_wire.specs.declared.plan.Plan.{Plan}
 use Rattle.ol_wire.specs.declared.view.View.{View}
-use Rattle.ol_wire.specs.References.{node_ref, wire_ref, slot_ref, kind_in, index_in, place_in, IsNodeRef, IsWireRef, IsRef}
-use Rattle.ol_wire.specs.Layout.{Part, ticket, port, field, wire, between, left, right, entry, past, part_of, place_of, port_word, block, size}
+use Rattle.ol_wire.specs.References.{node_ref, slot_ref, kind_in, index_in, place_in, IsWireRef, IsRef}
+use Rattle.ol_wire.specs.Layout.{Part, ticket, port, field, wire, between, left, right, entry, past, part_of, place_of, port_word, size}
 use Rattle.ol_wire.specs.Events.{Event, rule_between, event_of, acting}
 use Rattle.ol_wire.specs.Edges.{is_reached, is_made, is_wire_made, is_live, edge_to, edge_in, edges_in, edges_of, pending_in}
 use Rattle.ol_wire.specs.Stands.{IsEnd, of_port, principal, auxiliary, IsWireEnd}
 use Rattle.ol_wire.specs.Plays.{IsNodeOf, IsRefOf, IsLookedUp, event_in}
-use Rattle.ol_wire.specs.Rule.{Table, IsView, IsOwn, Kept}
-use Rattle.ol_wire.proofs.References.{kind_of_ref, index_of_ref, place_of_ref, place_of_wire, node_sort, wire_sort, slot_sort}
-use Rattle.ol_wire.proofs.Places.{is_left, place_before, is_wire, is_between, part_field}
+use Rattle.ol_wire.specs.Rule.{Table, IsView, Kept}
+use Rattle.ol_wire.proofs.References.{kind_of_ref, index_of_ref, place_of_ref, place_of_wire, node_sort, slot_sort}
+use Rattle.ol_wire.proofs.Places.{place_before, is_wire, is_between, part_field}
 use Rattle.ol_wire.proofs.Held.{Holds, owner, word_full, held_full}
-use Rattle.ol_wire.proofs.Claimed.{IsNodeAt, IsCellPair, cell_pair, node_of, is_placed, in_left, ends_second, field_full, field_within, field_written, right_written}
+use Rattle.ol_wire.proofs.Claimed.{IsNodeAt, IsCellPair, cell_pair, node_of, is_placed, in_left, ends_second, field_full, field_within, right_written}
 use Rattle.ol_wire.proofs.EdgeList.{edge_there, live_there}
 
 pub arity_two : (m : Kind) → arity m ≤ 2

@@ -1,6 +1,6 @@
 -- What the one seat that is left knows of the cells that it sweeps.
 use Rattle.std.proofs.Common.{◌≡◌, ◌≢◌, ℕ, zero, suc, ◌+◌, ◌<◌, ◌≤◌, ◌⊎◌, ◌&&◌, nat_eq, eq-eqb, ne_eqb, if◌then◌else◌, None, Some, Option, List, [], ◌∷◌, get_or, sym, refl, ap, ◌∙◌, subst, inl, inr, arith}
-use Rattle.std.proofs.lemmas.Bool.{cases_eq, cases_lt}
+use Rattle.std.proofs.lemmas.Bool.{cases_eq}
 use mathlib.Core.Option.{some, some-injective, some-ne-none}
 use lib.ListN.{get_elem?}
 use Rattle.ol_edges.specs.Edges.{IsIn}
@@ -10,7 +10,7 @@ use Rattle.ol_wire.specs.declared.plan.Plan.{Plan}
 use Rattle.ol_wire.specs.declared.view.Link.{Link}
 use Rattle.ol_wire.specs.declared.view.View.{View}
 use Rattle.ol_wire.specs.Weights.{total}
-use Rattle.ol_wire.specs.Layout.{Part, left, part_of, left_word, cells_of, size}
+use Rattle.ol_wire.specs.Layout.{Part, left, part_of, left_word, cells_of}
 use Rattle.ol_wire.specs.Events.{IsStuckPair}
 use Rattle.ol_wire.specs.Plays.{is_stuck, cell_at, swept_on}
 use Rattle.ol_wire.specs.Rule.{Table, Kept, IsView, IsOwn}

@@ -1,5 +1,5 @@
 -- The tickets that the views have drawn, and the words of their own blocks.
-use Rattle.std.proofs.Common.{◌≡◌, ℕ, suc, ◌+◌, ◌-◌, ◌<◌, ◌≤◌, if◌then◌else◌, nat_eq, eq-eqb, ne_eqb, inl, inr, Bool, List, [], ◌∷◌, length, sym, refl, ap, arith}
+use Rattle.std.proofs.Common.{◌≡◌, ℕ, suc, ◌+◌, ◌<◌, ◌≤◌, if◌then◌else◌, nat_eq, eq-eqb, ne_eqb, inl, inr, Bool, List, [], ◌∷◌, length, sym, refl, ap, arith}
 use Rattle.std.proofs.lemmas.Bool.{cases_eq}
 use Rattle.ol_edges.specs.Edges.{IsIn}
 use Rattle.ol_rules.specs.declared.journal.Entry.{Entry}

@@ -26,7 +26,7 @@ use Rattle.ol_wire.specs.Rule.{Table, IsView, IsOwn, IsInOwnBlock, Kept, SeatsKe
 use Rattle.ol_wire.proofs.Alike.{pairs_append}
 use Rattle.ol_wire.proofs.Claimed.{in_right}
 use Rattle.ol_wire.proofs.Places.{part_entry, part_field}
-use Rattle.ol_wire.proofs.TicketJournal.{got_before, length_one_more}
+use Rattle.ol_wire.proofs.TicketJournal.{got_before}
 use Rattle.ol_wire.proofs.TicketLists.{total_set, numbered_more, get_past, to_write_from}
 use Rattle.ol_wire.proofs.TicketDrawn.{entries_length}
 use Rattle.ol_wire.proofs.TicketWords as words

@@ -1,14 +1,14 @@
 -- What the seat that draws a ticket writes into its block, and the links that it has to make. In a crossing of f and g the copy of f at slot
 -- q + 1 of g is born at place q, and the copy of g at slot p + 1 of f behind these.
-use Rattle.std.specs.Prelude.{◌≡◌, ℕ, suc, ◌+◌, ◌-◌, ◌==◌, nat_eq, nat_lt, if◌then◌else◌, List, [], ◌∷◌}
+use Rattle.std.specs.Prelude.{ℕ, suc, ◌+◌, ◌-◌, ◌==◌, nat_lt, if◌then◌else◌, List, [], ◌∷◌}
 use Rattle.ol_net.specs.Parts.{arity}
 use Rattle.ol_rules.specs.declared.journal.NodeName.TheVariants.{Born}
 use Rattle.ol_rules.specs.Rewriting.{is_meeting, index_after}
 use Rattle.ol_rules.specs.Listed.{each}
 use Rattle.ol_wire.specs.declared.layout.Parts.{Parts}
 use Rattle.ol_wire.specs.declared.view.Link.{Link}
-use Rattle.ol_wire.specs.References.{kind_in, index_in, place_in, node_ref, wire_ref}
-use Rattle.ol_wire.specs.Layout.{block, place_of, born_wire, born_cell}
+use Rattle.ol_wire.specs.References.{kind_in, index_in, node_ref, wire_ref}
+use Rattle.ol_wire.specs.Layout.{place_of, born_wire, born_cell}
 use Rattle.ol_wire.specs.Events.{Event, earlier, later}
 
 -- how many copies of f, and of g, an event makes
