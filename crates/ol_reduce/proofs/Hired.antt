@@ -1,12 +1,10 @@
--- A new worker is one of this table and this pool, and how a sweep ended.
-use Rattle.std.proofs.Common.{◌≡◌, ◌⊎◌, inl, inr, refl, ap, arith}
+-- A new worker is one of this table and this pool.
+use Rattle.std.proofs.Common.{◌≡◌, ap, arith}
 use Rattle.ol_pool.specs.Pools.{PoolState, IsOf as IsOfPool}
 use Rattle.ol_wire.specs.declared.view.View.{View}
 use Rattle.ol_wire.specs.Stand.{Board, IsFresh}
 use Rattle.ol_reduce.specs.Works.{IsWorker}
 use Rattle.ol_reduce.specs.declared.workers.Worker.{Worker}
-use Rattle.ol_reduce.specs.declared.answers.Sweep.{Sweep}
-use Rattle.ol_reduce.specs.declared.answers.Sweep.TheVariants.{Clean, Spent}
 
 pub worker_of_fresh : (b : Board) (p : PoolState) (w : Worker) → IsFresh b w.seat → IsOfPool w.hand p → IsWorker b p w
 worker_of_fresh b p w f h =
@@ -15,8 +13,3 @@ worker_of_fresh b p w f h =
       (((f.0, (ap (λ (v : View). v.parts) f.1, ap (λ (v : View). v.seats) f.1, omega (arith, holds))), omega (arith, swept)), holds),
       h,
     )
-
--- a sweep answers one or the other
-pub one_end : {A B : Type 0} → (r : Sweep) → (r ≡ Clean → A) → (r ≡ Spent → B) → A ⊎ B
-one_end Clean a b = inl (a refl)
-one_end Spent a b = inr (b refl)

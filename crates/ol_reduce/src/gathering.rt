@@ -1,12 +1,13 @@
 //! From seats to workers and back, and the work of all of them.
-ghost use Rattle.std.specs.Prelude.{◌≡◌, ℕ, ◌+◌, ◌<◌, ◌≤◌, All, IfOk, IfSome, vec_len, length, is_some, count_by, true, ◌⊎◌};
+ghost use Rattle.std.specs.Prelude.{◌≡◌, ◌<◌, ◌≤◌, All, IfOk, vec_len, length, is_some, count_by, true};
 ghost use Rattle.ol_pool.specs.Pools.{IsOf as IsOfPool};
 ghost use Rattle.ol_wire.specs.Layout.{cells_of};
 ghost use Rattle.ol_wire.specs.Sizes.{IsSmallNet};
-ghost use Rattle.ol_wire.specs.Stand.{IsOf, IsFresh};
+ghost use Rattle.ol_wire.specs.Stand.{IsFresh};
 ghost use Rattle.ol_wire.specs.Starts.{AreParts};
 ghost use Rattle.ol_reduce.specs.Works.{IsSeat, IsSeated, IsWorker};
 
+use crate::answers::Sweep;
 use crate::sweeping::sweep;
 use crate::workers::Worker;
 use crate::working::worker;
@@ -19,7 +20,8 @@ use std::sync::Wait;
 use std::thread;
 use std::thread::Threads;
 
-/// The closed words of a net that so many workers have rewritten, with at most `fuel` tickets.
+/// The closed words of a net that so many workers have rewritten, with at most `fuel` tickets, and what the sweep
+/// after their work came to.
 ///
 /// `NoMemory`: there was no memory for the words, the pool or the workers.
 pub(crate) fn run_workers<R: Threads + Wait + Sync, G: Gate + Sync>(
@@ -29,15 +31,16 @@ pub(crate) fn run_workers<R: Threads + Wait + Sync, G: Gate + Sync>(
     workers: u32,
     fuel: u32,
     gate: &G,
-) -> Result<Words, NoMemory>
+) -> Result<(Words, Sweep), NoMemory>
     requires whole { count_by is_some net.now.nodes ≡ length net.now.nodes }
     requires small { IsSmallNet net.now }
     requires fuel { fuel ≤ 2000000 }
     requires workers { (0 < workers) × (workers ≤ 64) }
-    ensures parts { IfOk result (λ w. AreParts net.now fuel w.plan.parts) }
-    ensures start { IfOk result (λ w. w.plan.start.value ≡ net.now) }
-    ensures seats { IfOk result (λ w. w.plan.seats ≡ workers) }
-    ensures ended { IfOk result (λ w. (w.view.swept ≡ cells_of w.plan.parts) ⊎ (w.view.over ≡ true)) }
+    ensures parts { IfOk result (λ r. AreParts net.now fuel r.0.plan.parts) }
+    ensures start { IfOk result (λ r. r.0.plan.start.value ≡ net.now) }
+    ensures seats { IfOk result (λ r. r.0.plan.seats ≡ workers) }
+    ensures clean { IfOk result (λ r. r.1 ≡ Sweep.Clean → r.0.view.swept ≡ cells_of r.0.plan.parts) }
+    ensures spent { IfOk result (λ r. r.1 ≡ Sweep.Spent → r.0.view.over ≡ true) }
 {
     let (shared, seats) = Shared::make(alloc, net, fuel, workers)?;
     let (pool, mut hands) = Pool::new(alloc, workers, shared.cells())?;
@@ -52,8 +55,8 @@ pub(crate) fn run_workers<R: Threads + Wait + Sync, G: Gate + Sync>(
         gate,
     );
     let mut seat = gather(&shared, hired);
-    sweep(&shared, &mut seat);
-    Ok(shared.close(seat))
+    let end = sweep(&shared, &mut seat);
+    Ok((shared.close(seat), end))
 }
 
 // Puts the cells below `count` into the pool, each by the hand whose number is the remainder by the number

@@ -10,7 +10,7 @@ use ol_wire::{Seat, Shared, Turn};
 
 /// Makes a turn on each cell in ascending order, up to the first that answers `Spent`. Takes no memory.
 ///
-/// What a turn publishes has a greater number than every cell before it, so one pass is enough.
+/// A turn publishes only in cells of a greater number than its own, so one pass is enough.
 pub fn sweep(shared: &Shared, seat: &mut Seat) -> Sweep
     requires seat { IsOf shared.now seat.old }
     requires all { seat.old.view.holds ≡ shared.now.plan.seats }

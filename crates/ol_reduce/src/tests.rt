@@ -98,9 +98,14 @@ fn a_worker_leaves_when_no_cell_waits(rt: HostRuntime) -> Result<(), Fail> {
 fn workers_share_a_net(rt: HostRuntime) -> Result<(), Fail> {
     let net = identity_of_identity(rt.alloc())?;
     assert!(rt; is_small(&net));
-    for (workers, fuel) in [(1, 4), (2, 4), (2, 3)] {
-        let words = run_workers(&rt, rt.alloc(), &net, workers, fuel, &OpenGate)?;
+    for (workers, fuel, end) in [
+        (1, 4, Sweep::Clean),
+        (2, 4, Sweep::Clean),
+        (2, 3, Sweep::Spent),
+    ] {
+        let (words, swept) = run_workers(&rt, rt.alloc(), &net, workers, fuel, &OpenGate)?;
         assert_eq!(rt; words.events(), fuel);
+        assert_eq!(rt; swept, end);
     }
     Ok(())
 }

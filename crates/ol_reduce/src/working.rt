@@ -1,5 +1,5 @@
 //! What a worker does: it takes cells from the pool and makes turns on them.
-ghost use Rattle.std.specs.Prelude.{◌≡◌, ℕ, List, ◌+◌, ◌<◌, ◌≤◌, ◌↔◌, true};
+ghost use Rattle.std.specs.Prelude.{◌≡◌, ℕ, List, ◌+◌, ◌≤◌, ◌↔◌, true};
 ghost use Rattle.ol_pool.specs.Pools.{IsOf as IsOfPool};
 ghost use Rattle.ol_wire.specs.Layout.{cells_of};
 ghost use Rattle.ol_wire.specs.Stand.{IsOf};
@@ -16,8 +16,8 @@ use std::sync::Wait;
 /// waits. A cell in which a turn published a pair is put into the pool.
 ///
 /// The gate is passed at the start with 0, and after each turn with the number of turns made, which stays at
-/// its last value. The call may wait for the pool's lock. A cell for which the pool finds no memory isn't put: its pair stays
-/// where it is.
+/// its last value. The call may wait for the pool's lock. A cell for which the pool finds no memory isn't put:
+/// its pair stays where it is.
 pub fn worker<R: Wait, G: Gate>(
     rt: &R,
     shared: &Shared,
