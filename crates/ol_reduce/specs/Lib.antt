@@ -4,3 +4,4 @@ pub mod Left
 pub mod Frozen
 pub mod Turned
 pub mod Works
+pub mod Reduced

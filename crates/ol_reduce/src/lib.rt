@@ -11,6 +11,8 @@ mod freezing_tests;
 mod gathering;
 mod live;
 mod reading;
+mod reduced;
+mod reducing;
 mod sweeping;
 #[cfg(test)]
 mod tests;
@@ -19,6 +21,8 @@ mod working;
 
 pub use answers::{End, Sweep};
 pub use freezing::freeze;
+pub use reduced::Reduced;
+pub use reducing::reduce;
 pub use sweeping::sweep;
 pub use workers::Worker;
 pub use working::worker;

@@ -1,0 +1,72 @@
+//! A net rewritten by any number of workers.
+ghost use Rattle.std.specs.Prelude.{◌≡◌, ◌<◌, ◌≤◌, length, is_some, count_by, IfOk, ◌↔◌};
+ghost use Rattle.ol_wire.specs.Closed.{journal_in};
+ghost use Rattle.ol_wire.specs.Sizes.{IsSmallNet};
+ghost use Rattle.ol_reduce.specs.Reduced.{EndsWithin, IsDoneAnswer, Reduces};
+
+use crate::answers::Sweep;
+use crate::freezing::freeze;
+use crate::gathering::run_workers;
+use crate::reduced::Reduced;
+use ol_diamond::one_thread_agrees;
+use ol_io::{Gate, NoMemory};
+use ol_net::Net;
+use ol_rules::Journal;
+use ol_wire::Words;
+use std::alloc::Global;
+use std::sync::Wait;
+use std::thread::Threads;
+
+/// Rewrites a net by so many workers, in whatever order they take its pairs, with at most `fuel` rewrites.
+///
+/// - `net`: no number of it is that of a node that went; at most 1,000,000 nodes, at most 1,000,000 free ports, no index above 1,000,000.
+/// - `workers`: 1 to 64. Where fewer threads can be had, the workers work in turn.
+/// - `fuel`: at most 2,000,000.
+///
+/// `Done` comes exactly where the one-thread run has at most `fuel` steps. `NoMemory`: there was no memory for the words, the workers, the
+/// journal or the last net.
+pub fn reduce<R: Threads + Wait + Sync, G: Gate + Sync>(
+    rt: &R,
+    alloc: Global,
+    net: &Net,
+    workers: u32,
+    fuel: u32,
+    gate: &G,
+) -> Result<Reduced, NoMemory>
+    requires whole { count_by is_some net.now.nodes ≡ length net.now.nodes }
+    requires small { IsSmallNet net.now }
+    requires fuel { fuel ≤ 2000000 }
+    requires workers { (0 < workers) × (workers ≤ 64) }
+    ensures reduced { IfOk result (λ r. Reduces net.now fuel workers r) }
+    ensures done { IfOk result (λ r. IsDoneAnswer r ↔ EndsWithin net.now fuel) }
+{
+    one_thread_agrees();
+    net.is_net();
+    let (words, end) = run_workers(rt, alloc, net, workers, fuel, gate)?;
+    words.runs();
+    words.over();
+    words.swept();
+    let journal = journal_of(alloc, &words)?;
+    match end {
+        Sweep::Clean => {
+            let last = freeze(alloc, &words)?;
+            Ok(Reduced::Done {
+                net: last,
+                journal,
+                words,
+            })
+        }
+        Sweep::Spent => Ok(Reduced::Spent { journal, words }),
+    }
+}
+
+// The journal of closed words.
+fn journal_of(alloc: Global, words: &Words) -> Result<Journal, NoMemory>
+    ensures { IfOk result (λ journal. journal ≡ journal_in words.now.plan.parts words.now.words) }
+{
+    let mut journal = Journal::new(alloc);
+    for k in 0..words.events() {
+        journal.push(words.journal(k).unwrap())?;
+    }
+    Ok(journal)
+}
