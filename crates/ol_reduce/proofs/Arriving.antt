@@ -16,10 +16,11 @@ use Rattle.ol_wire.specs.Standing.{StandsFor, IsAfter}
 use Rattle.ol_wire.proofs.Places.{part_cell, place_before}
 use Rattle.ol_wire.proofs.Claimed.{wider}
 use Rattle.ol_reduce.specs.Left.{ranks_in, IsLeft, AreLeft}
-use Rattle.ol_reduce.specs.Frozen.{port_of, IsKnown, IsPartial, IsPartly, AreCelledTo, IsNodeIn, IsSiteIn, KeepsKnown}
-use Rattle.ol_reduce.proofs.Sites.{one_site, events_few}
+use Rattle.ol_reduce.specs.Found.{port_of, IsKnown, IsPartial, IsPartly, AreCelledTo, IsNodeIn, IsSiteIn, KeepsKnown}
+use Rattle.ol_reduce.proofs.Sites.{one_site}
 use Rattle.ol_reduce.proofs.Linking.{still_linked, now_linked, node_told, one_port, linked_partial, ends_apart, set_partial, set_known, set_keeps, set_site}
 use Rattle.ol_reduce.proofs.Meeting.{left_node, right_node, cell_linked}
+use Rattle.ol_reduce.proofs.Bounded.{events_few}
 
 abbrev pub Told : ClosedTable → Type 0
 Told w = (net : NamedNet NodeName) × (reached : ℕ → Bool) × IsAfter w net × StandsFor w net reached
@@ -74,9 +75,6 @@ module _ (w : ClosedTable) (places numbers : List ℕ) (left_are : AreLeft w (ra
   -- ---- a cell
 
   module _ (cell at : ℕ) (low : cell < cells_of z) (is : at ≡ left_word z cell) where
-    pub cell_within : suc at < size z
-    cell_within = omega (arith, is, (part_cell z cell low).2)
-
     pub cell_left : (value : ℕ) → value ≡ slice_index w.words at → value ≢ 0 → IsNodeIn w value
     cell_left value e f N reached s =
         let q : slice_index w.words (left_word z cell) ≡ value = ap (slice_index w.words) (sym is) ∙ sym e in

@@ -65,7 +65,7 @@ wire_row net right n word next h f = elim h [ ]
 wire_row net entry n word next h f = elim h [ ]
 wire_row net past n word next h f = elim h [ ]
 
-events_few : (z : Parts) (words : List ℕ) → events_in z words ≤ z.fuel
+pub events_few : (z : Parts) (words : List ℕ) → events_in z words ≤ z.fuel
 events_few z words = elim (cases_lt (slice_index words 0) z.fuel) [
   | inl lt ↦ let e : nat_lt (slice_index words 0) z.fuel ≡ true = grind (arith, nat_tests) in let q : events_in z words ≡ slice_index words 0 = ap (λ b. if b then slice_index words 0 else z.fuel) e in omega (arith, q, lt)
   | inr ge ↦ let e : nat_lt (slice_index words 0) z.fuel ≡ false = grind (arith, nat_tests) in let q : events_in z words ≡ z.fuel = ap (λ b. if b then slice_index words 0 else z.fuel) e in omega (arith, q)

@@ -12,7 +12,6 @@ use Rattle.ol_net.specs.Pairing.{other}
 use Rattle.ol_net.specs.Graph.{has_port, place, port_at, IsTabled}
 use Rattle.ol_net.specs.Build.{BadPortAt, TwiceAt, HasEnd, link_at, IsLoose, FaultIs, all_live}
 use Rattle.ol_net.proofs.Places.{place-port_at, port_at-place, place-within}
-use Rattle.ol_net.proofs.Tables.{other-within}
 use Rattle.ol_reduce.specs.Drafts.{frozen_top, link_row, links_below, IsComplete}
 
 -- ---- where an element of a list stands
@@ -45,17 +44,9 @@ module _ (free : ℕ) (partners : List ℕ) where
   row_no : (k : ℕ) → other partners k ≤ k → link_row free partners k ≡ []
   row_no k ge = let e : nat_lt k (other partners k) ≡ false = grind (arith, nat_tests) in ap (λ b. if b then link_of k ∷ [] else []) e
 
-  -- the loop's turns
-  pub more_links : (n : ℕ) (xs : List (Port × Port)) (partner : ℕ) → xs ≡ links n → partner ≡ other partners n → n < partner → xs ++ (port_at free n, port_at free partner) ∷ [] ≡ links (suc n)
-  more_links n xs partner e q lt =
-      ap (λ xs. xs ++ (port_at free n, port_at free partner) ∷ []) e ∙ ap (λ p. links n ++ (port_at free n, port_at free p) ∷ []) q ∙ ap (λ ys. links n ++ ys) (sym (row_yes n (omega (arith, lt, q))))
-
   append_nil : (xs : List (Port × Port)) → xs ≡ xs ++ []
   append_nil [] = refl
   append_nil (x ∷ xs) = ap (λ xs. x ∷ xs) (append_nil xs)
-
-  pub same_links : (n : ℕ) (xs : List (Port × Port)) → xs ≡ links n → other partners n ≤ n → xs ≡ links (suc n)
-  same_links n xs e ge = e ∙ append_nil (links n) ∙ ap (λ ys. links n ++ ys) (sym (row_no n ge))
 
   -- the place that link j is of
   pub record LinkAt (n j : ℕ) : Type 0 where
@@ -212,9 +203,6 @@ module _ (free : ℕ) (partners : List ℕ) where
     no_fault (Twice j) h = absurd (no_twice j h.2.0)
     no_fault (Loose p) h = absurd (no_loose p h.3.0)
     no_fault NoMemory h = refl
-
-    pub partner_within : (k : ℕ) → k < length partners → other partners k < length partners
-    partner_within k lt = other-within partners k t.paired lt
 
 -- what was read at a place is its partner
 pub read_other : (xs : List ℕ) (n v : ℕ) → n < length xs → v ≡ get_or xs n v → v ≡ other xs n

@@ -22,11 +22,11 @@ use Rattle.ol_wire.proofs.References.{node_sort, wire_sort, slot_sort}
 use Rattle.ol_reduce.specs.Left.{ranks_in, AreLeft}
 use Rattle.ol_reduce.specs.Following.{OwnsWord, LeadsTo}
 use Rattle.ol_reduce.specs.Drafts.{frozen_top, IsComplete}
-use Rattle.ol_reduce.specs.Frozen.{name_of, port_of, kind_of, IsPartial, WaitsAt, AreMet, AreCelled}
+use Rattle.ol_reduce.specs.Found.{name_of, port_of, kind_of, IsPartial, WaitsAt, AreMet, AreCelled}
 use Rattle.ol_reduce.proofs.Forward.{IsSink, linked_goes, linked_meets, one_sink, owner_of, port_no_wire, owner_no_node, EdgeIs, owned, celled, edge_is, es}
-use Rattle.ol_reduce.proofs.Bounded.{owner_behind}
+use Rattle.ol_reduce.proofs.Bounded.{owner_behind, events_few}
 use Rattle.ol_reduce.proofs.WordOf.{word_of_port}
-use Rattle.ol_reduce.proofs.Sites.{one_site, site, IsSite, of_free, of_slot, port_low, port_high, port_free, port_slot, numbered, site_of_port, end_of_port, events_few}
+use Rattle.ol_reduce.proofs.Sites.{one_site, site, IsSite, of_free, of_slot, port_low, port_high, port_free, port_slot, numbered, site_of_port, end_of_port}
 use Rattle.ol_reduce.proofs.Linking.{within_table, view, EndView, at_port, at_node, at_slot, one_end}
 
 pub kind_there : (kinds : List (Kind × ℕ)) (n : ℕ) → n < length kinds → kind_at (all_live kinds) n ≡ Some (kind_of kinds n)

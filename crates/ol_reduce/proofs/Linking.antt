@@ -18,12 +18,12 @@ use Rattle.ol_wire.proofs.References.{kind_of_ref, index_of_ref, place_of_ref, n
 use Rattle.ol_wire.proofs.Places.{place_same}
 use Rattle.ol_reduce.specs.Left.{ranks_in, AreLeft}
 use Rattle.ol_reduce.specs.Following.{LeadsTo}
-use Rattle.ol_reduce.specs.Frozen.{name_of, port_of, kind_of, IsKnown, IsPartial}
+use Rattle.ol_reduce.specs.Found.{name_of, port_of, kind_of, IsKnown, IsPartial}
 use Rattle.ol_edges.specs.Edges.{ends}
 use Rattle.ol_rules.proofs.Born.{at_most_two}
 use Rattle.ol_reduce.proofs.Forward.{es}
-use Rattle.ol_reduce.proofs.Bounded.{led_ends}
-use Rattle.ol_reduce.proofs.Sites.{one_site, port_slot, numbered, events_few}
+use Rattle.ol_reduce.proofs.Bounded.{led_ends, events_few}
+use Rattle.ol_reduce.proofs.Sites.{one_site, port_slot, numbered}
 
 -- ---- the table of partners
 

@@ -19,7 +19,7 @@ use Rattle.ol_wire.proofs.Places.{is_left}
 use Rattle.ol_wire.proofs.EdgeList.{edge_there}
 use Rattle.ol_reduce.specs.Left.{ranks_in, AreLeft}
 use Rattle.ol_reduce.specs.Following.{OwnsWord, LeadsTo}
-use Rattle.ol_reduce.specs.Frozen.{name_of, port_of, IsKnown, IsPartial, WaitsAt, AreMet, IsWordOf}
+use Rattle.ol_reduce.specs.Found.{name_of, port_of, IsKnown, IsPartial, WaitsAt, AreMet, IsWordOf}
 use Rattle.ol_reduce.proofs.Forward.{meet_linked, owner_no_node, owner_of, port_no_wire, es}
 use Rattle.ol_reduce.proofs.Sites.{one_site, port_slot}
 use Rattle.ol_reduce.proofs.Linking.{still_linked, now_linked, view, EndView, at_port, at_node, at_slot, one_end, one_port, node_at, ends_apart}
@@ -147,9 +147,6 @@ module _ (w : ClosedTable) (places numbers : List ℕ) (left_are : AreLeft w (ra
           subst (λ b. Linked N (port a) (port b)) (sym q) (meet_linked w N reached s (port a) (port t.0) e t.1 (wire_ref u) h t.4 apart leads t.5),
           (λ m ltm f. let o = owner_of w N reached s t.1 (wire_ref u) t.5 in absurd (owner_no_slot t.0 t.1 o.0 m t.4 o.1 (sym q ∙ f))),
         )
-
-    pub self_known : ((m : ℕ) → a ≡ z.free + 3 * m → ⊥) → IsKnown w N places kinds a
-    self_known aux m ltm e = absurd (aux m e)
 
   -- ---- more sites without a word between
 

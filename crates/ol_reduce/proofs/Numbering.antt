@@ -3,12 +3,12 @@ use Rattle.std.proofs.Common.{◌≡◌, ◌≢◌, ℕ, zero, suc, ◌+◌, ◌
 use Rattle.std.specs.Prelude.{slice_get, replicate}
 use Rattle.std.proofs.lemmas.Bool.{cases_eq, cases_lt, false≢true}
 use Rattle.std.proofs.lemmas.Bool.Decides.{nat_tests}
-use Rattle.std.proofs.lemmas.List.{length-append, length-replicate, get_or_default}
+use Rattle.std.proofs.lemmas.List.{length-append, get_or_default}
 use Rattle.ol_rules.specs.declared.journal.NodeName.{NodeName}
 use Rattle.ol_rules.specs.declared.journal.NodeName.TheVariants.{Init, Born}
 use Rattle.ol_rules.specs.declared.journal.Entry.{Entry}
 use Rattle.ol_wire.specs.declared.layout.Parts.{Parts}
-use Rattle.ol_wire.specs.Layout.{start_node, start_wire, block, place_of}
+use Rattle.ol_wire.specs.Layout.{place_of}
 use Rattle.ol_wire.specs.Closed.{ClosedTable, events_in, event_at, journal_in}
 use Rattle.ol_wire.specs.Events.{entry_of}
 use Rattle.ol_wire.specs.Rule.{IsPlaced}
@@ -55,20 +55,6 @@ rank_back z r = elim (cases_lt r z.nodes) [
   | inl a ↦ ap (rank_of z) (name_low z r a)
   | inr a ↦ ap (rank_of z) (name_high z r a) ∙ (let e : z.nodes + 4 * ((r - z.nodes) / 4) + (r - z.nodes) % 4 ≡ r = omega (arith, a) in e)
 ]
-
--- the rank, by the place
-pub rank_by_place : (z : Parts) (place : ℕ) (x : NodeName) (n : ℕ) → IsPlaced z n x → place ≡ place_of z x → place < start_wire z 0 → (place - start_node z 0) / 2 ≡ rank_of z x
-rank_by_place z place (Init k) n h e lt = omega (arith, e)
-rank_by_place z place (Born t i) n h e lt = absurd (omega (arith, e, lt))
-
-pub rank_behind : (z : Parts) (place : ℕ) (x : NodeName) (n : ℕ) → IsPlaced z n x → place ≡ place_of z x → start_wire z 0 ≤ place → z.nodes + 4 * ((place - block z 0) / 22) + ((place - block z 0) % 22 - 2) / 2 ≡ rank_of z x
-rank_behind z place (Init k) n h e ge = absurd (omega (arith, e, ge, h))
-rank_behind z place (Born t i) n h e ge = omega (arith, e, h.1)
-
-pub place_where : (z : Parts) (place : ℕ) (x : NodeName) (n : ℕ) → IsPlaced z n x → place ≡ place_of z x →
-    (start_node z 0 ≤ place) × (start_wire z 0 ≤ place → (block z 0 ≤ place) × (2 ≤ (place - block z 0) % 22) × ((place - block z 0) / 22 < n))
-place_where z place (Init k) n h e = (omega (arith, e), λ ge. absurd (omega (arith, e, ge, h)))
-place_where z place (Born t i) n h e = (omega (arith, e), λ ge. (omega (arith, e), omega (arith, e, h.1), omega (arith, e, h.0, h.1)))
 
 -- ---- lists with one more at the end
 
@@ -181,12 +167,6 @@ get_replicate : (n r : ℕ) → slice_get (replicate n false) r ≡ Some true �
 get_replicate zero r h = let q : None ≡ Some true = h in cc
 get_replicate (suc n) zero h = let q : Some false ≡ Some true = h in absurd (false≢true (cc))
 get_replicate (suc n) (suc r) h = get_replicate n r h
-
-pub none_marked : (w : ClosedTable) (n : ℕ) → n ≡ ranks_in w → AreMarked w 0 (replicate n false)
-none_marked w n e = record {
-  long = length-replicate n false ∙ e;
-  marked = λ x p. ((λ h. absurd (get_replicate n (rank_of w.plan.parts x) h)), (λ h. absurd (omega (arith, h.2))));
-}
 
 abbrev pub IsMarkedBy : Parts → ℕ → List Bool → NodeName → List Bool → Type 0
 IsMarkedBy z n old name new = (x : NodeName) → IsPlaced z n x → (slice_get new (rank_of z x) ≡ Some true) ↔ ((slice_get old (rank_of z x) ≡ Some true) ⊎ (name ≡ x))

@@ -6,7 +6,7 @@ use Rattle.ol_wire.specs.declared.layout.Parts.{Parts}
 use Rattle.ol_wire.specs.Layout.{size}
 use Rattle.ol_wire.specs.Closed.{ClosedTable}
 use Rattle.ol_reduce.specs.Left.{ranks_in, AreLeft}
-use Rattle.ol_reduce.specs.Frozen.{AreMetTo, AreCelledTo, IsWordOf, IsWordAt, KeepsPartners}
+use Rattle.ol_reduce.specs.Found.{AreMetTo, AreCelledTo, IsWordOf, IsWordAt, KeepsPartners}
 use Rattle.ol_reduce.proofs.Arriving.{Told, small_of}
 use Rattle.ol_reduce.proofs.WordOf.{word_of_port, word_of_slot, field_within}
 use Rattle.ol_reduce.proofs.Meeting.{wider_met, none_met, owner_no_slot}

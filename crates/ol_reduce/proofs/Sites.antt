@@ -22,14 +22,9 @@ use Rattle.ol_wire.specs.Standing.{StandsFor}
 use Rattle.ol_wire.proofs.Places.{name_of_place, place_order}
 use Rattle.ol_wire.proofs.Claimed.{wider}
 use Rattle.ol_reduce.specs.Left.{ranks_in, rank_of, name_of_rank, IsLeft, AreLeft}
-use Rattle.ol_reduce.specs.Frozen.{name_of, port_of}
+use Rattle.ol_reduce.specs.Found.{name_of, port_of}
 use Rattle.ol_reduce.proofs.Numbering.{name_placed, name_back, rank_low}
-
-pub events_few : (z : Parts) (words : List ℕ) → events_in z words ≤ z.fuel
-events_few z words = elim (cases_lt (slice_index words 0) z.fuel) [
-  | inl lt ↦ let e : nat_lt (slice_index words 0) z.fuel ≡ true = grind (arith, nat_tests) in let q : events_in z words ≡ slice_index words 0 = ap (λ b. if b then slice_index words 0 else z.fuel) e in omega (arith, q, lt)
-  | inr ge ↦ let e : nat_lt (slice_index words 0) z.fuel ≡ false = grind (arith, nat_tests) in let q : events_in z words ≡ z.fuel = ap (λ b. if b then slice_index words 0 else z.fuel) e in omega (arith, q)
-]
+use Rattle.ol_reduce.proofs.Bounded.{events_few}
 
 pub port_low : (m a : ℕ) → a < m → port_at m a ≡ Free a
 port_low m a lt = ap (λ b. if b then Free a else Of (record { 0 = (a - m) / 3 }) ((a - m) % 3)) (lt-ltb a m lt)
@@ -138,9 +133,3 @@ module _ (w : ClosedTable) (places numbers : List ℕ) (left : AreLeft w (ranks_
     end_of_port (free a) lt = (wire_ref (port_word a), of_port lt)
     end_of_port (slot x zero) (k, i, h, le) = (node_ref k i (place_of z x), principal k i h)
     end_of_port (slot x (suc c)) (k, i, h, le) = (slot_ref (place_of z x + c), auxiliary k i h (omega (arith, le)))
-
-    -- and an end that of a port of the net
-    pub port_of_end : (p : NamedPort NodeName) (e : ℕ) → IsEnd z N p e → IsPort N p
-    port_of_end p e (of_port lt) = lt
-    port_of_end p e (principal k i h) = (k, i, h, omega arith)
-    port_of_end p e (auxiliary k i h lt) = (k, i, h, omega (arith, lt))

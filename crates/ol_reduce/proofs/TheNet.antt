@@ -20,7 +20,8 @@ use Rattle.ol_wire.specs.Closed.{ClosedTable}
 use Rattle.ol_wire.specs.Standing.{StandsFor}
 use Rattle.ol_reduce.specs.Left.{ranks_in, AreLeft}
 use Rattle.ol_reduce.specs.Drafts.{frozen_top, links_below, link_row}
-use Rattle.ol_reduce.specs.Frozen.{name_of, port_of, kind_of, IsPartial, AreMet, AreCelled, IsFrozen}
+use Rattle.ol_reduce.specs.Frozen.{IsFrozen}
+use Rattle.ol_reduce.specs.Found.{name_of, port_of, kind_of, IsPartial, AreMet, AreCelled}
 use Rattle.ol_reduce.proofs.Sites.{names_rise, number_of, site_of_port}
 use Rattle.ol_reduce.proofs.Linking.{within_table}
 use Rattle.ol_reduce.proofs.Building.{link_of, link_in}

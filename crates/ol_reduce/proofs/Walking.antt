@@ -16,7 +16,7 @@ use Rattle.ol_reduce.specs.declared.chains.End.{End}
 use Rattle.ol_reduce.specs.declared.chains.End.TheVariants.{Node, Port, Wire}
 use Rattle.ol_reduce.specs.Left.{ranks_in, AreLeft}
 use Rattle.ol_reduce.specs.Following.{IsStart, IsFirst, EndsAt}
-use Rattle.ol_reduce.specs.Frozen.{port_of, IsKnown, IsPartial, AreMet, IsPartly, AreMetTo, IsNodeIn, IsSiteIn, IsWordAt, KeepsPartners}
+use Rattle.ol_reduce.specs.Found.{port_of, IsKnown, IsPartial, AreMet, IsPartly, AreMetTo, IsNodeIn, IsSiteIn, IsWordAt, KeepsPartners}
 use Rattle.ol_reduce.proofs.Arriving.{Told}
 use Rattle.ol_reduce.proofs.Bounded.{led_ref}
 use Rattle.ol_reduce.proofs.Forward.{goes_linked}

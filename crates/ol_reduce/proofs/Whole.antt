@@ -12,11 +12,12 @@ use Rattle.ol_wire.specs.Closed.{ClosedTable}
 use Rattle.ol_wire.specs.Standing.{IsAfter}
 use Rattle.ol_reduce.specs.Left.{ranks_in, AreLeft}
 use Rattle.ol_reduce.specs.Drafts.{frozen_top, links_below, IsComplete}
-use Rattle.ol_reduce.specs.Frozen.{IsPartly, AreMetTo, AreCelledTo, IsFrozen}
+use Rattle.ol_reduce.specs.Frozen.{IsFrozen}
+use Rattle.ol_reduce.specs.Found.{IsPartly, AreMetTo, AreCelledTo}
 use Rattle.ol_reduce.proofs.Arriving.{Told, table_long}
-use Rattle.ol_reduce.proofs.Sites.{events_few}
 use Rattle.ol_reduce.proofs.Finished.{is_complete}
 use Rattle.ol_reduce.proofs.TheNet.{is_frozen, frozen_same}
+use Rattle.ol_reduce.proofs.Bounded.{events_few}
 
 -- nothing is known at first
 pub fresh_partly : (w : ClosedTable) (places : List ℕ) (kinds : List (Kind × ℕ)) (partners : List ℕ) → length kinds ≡ length places → length partners ≡ w.plan.parts.free + 3 * length places → ((k : ℕ) → other partners k ≡ k) → IsPartly w places kinds partners

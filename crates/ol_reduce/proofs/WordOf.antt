@@ -19,10 +19,11 @@ use Rattle.ol_wire.proofs.Claimed.{wider}
 use Rattle.ol_wire.proofs.EdgeList.{live_there}
 use Rattle.ol_reduce.specs.Left.{ranks_in, AreLeft}
 use Rattle.ol_reduce.specs.Following.{OwnsWord}
-use Rattle.ol_reduce.specs.Frozen.{name_of, port_of, IsWordOf}
+use Rattle.ol_reduce.specs.Found.{name_of, port_of, IsWordOf}
 use Rattle.ol_reduce.proofs.Forward.{own_edge, first_counts, ends_split, es}
-use Rattle.ol_reduce.proofs.Sites.{port_free, port_slot, numbered, IsNumbered, events_few}
+use Rattle.ol_reduce.proofs.Sites.{port_free, port_slot, numbered, IsNumbered}
 use Rattle.ol_reduce.proofs.Linking.{view, EndView, at_port, at_node, at_slot}
+use Rattle.ol_reduce.proofs.Bounded.{events_few}
 
 port_row : (net : NamedNet NodeName) (r : Bool) (at : Part) (k n word next : ℕ) → at ≡ layout.port k → word ≢ 0 → IsIn {X = ℕ × ℕ} (wire_ref n, word) (edge_in net r at n word next)
 port_row net r at k n word next e f =

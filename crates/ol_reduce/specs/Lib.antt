@@ -5,3 +5,4 @@ pub mod Frozen
 pub mod Turned
 pub mod Works
 pub mod Reduced
+pub mod Found

@@ -6,7 +6,8 @@ ghost use Rattle.ol_rules.specs.declared.journal.NodeName.{NodeName};
 ghost use Rattle.ol_wire.specs.Layout.{size, cells_of};
 ghost use Rattle.ol_wire.specs.Standing.{IsAfter};
 ghost use Rattle.ol_reduce.specs.Left.{ranks_in, AreLeft};
-ghost use Rattle.ol_reduce.specs.Frozen.{IsFrozen, IsPartly, AreMetTo, AreCelledTo, IsNodeIn, IsSiteIn, IsWordAt, KeepsKnown, KeepsPartners};
+ghost use Rattle.ol_reduce.specs.Frozen.{IsFrozen};
+ghost use Rattle.ol_reduce.specs.Found.{IsPartly, AreMetTo, AreCelledTo, IsNodeIn, IsSiteIn, IsWordAt, KeepsKnown, KeepsPartners};
 
 use crate::chains::{End, follow};
 use crate::draft::Draft;

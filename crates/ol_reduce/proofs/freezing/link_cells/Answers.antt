@@ -1,7 +1,7 @@
 use Rattle.std.proofs.Common.{◌≡◌, ap, ◌∙◌, subst, arith}
 use Rattle.ol_wire.specs.declared.layout.Parts.{Parts}
 use Rattle.ol_wire.specs.Layout.{cells_of}
-use Rattle.ol_reduce.specs.Frozen.{AreCelledTo}
+use Rattle.ol_reduce.specs.Found.{AreCelledTo}
 use Rattle.ol_reduce.proofs.freezing.link_cells.Goals as goal
 
 pub returns-clause-after : goal.returns-clause-after

@@ -1,5 +1,5 @@
 use Rattle.std.proofs.Common.{◌≡◌}
-use Rattle.ol_reduce.specs.Frozen.{IsPartly, AreCelledTo}
+use Rattle.ol_reduce.specs.Found.{IsPartly, AreCelledTo}
 use Rattle.ol_reduce.proofs.freezing.link_cells.Given as goal
 
 abbrev pub invariant-loop-cell : goal.invariant-loop-cell

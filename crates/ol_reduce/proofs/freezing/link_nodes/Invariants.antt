@@ -1,5 +1,5 @@
 use Rattle.std.proofs.Common.{◌≡◌, ◌+◌, ◌*◌, length}
-use Rattle.ol_reduce.specs.Frozen.{IsPartly, AreMetTo, KeepsPartners}
+use Rattle.ol_reduce.specs.Found.{IsPartly, AreMetTo, KeepsPartners}
 use Rattle.ol_reduce.proofs.freezing.link_nodes.Given as goal
 
 abbrev pub invariant-loop-node : goal.invariant-loop-node
