@@ -16,3 +16,5 @@ pub mod Rounds
 pub mod Whole
 pub mod Hired
 pub mod Turns
+mod Counted
+mod Answered

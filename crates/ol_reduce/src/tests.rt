@@ -4,8 +4,8 @@ ghost use Rattle.ol_reduce.specs.Works.{IsWorker};
 ghost use Rattle.ol_wire.specs.Layout.{cells_of};
 ghost use Rattle.ol_wire.specs.Sizes.{IsSmallNet};
 
-use crate::gathering::{hire, run_workers};
-use crate::{End, Sweep, Worker, sweep, worker};
+use crate::gathering::hire;
+use crate::{End, Reduced, Sweep, Worker, reduce, sweep, worker};
 use ol_io::{NoMemory, OpenGate};
 use ol_net::{Kind, Net, NodeId, Port};
 use ol_pool::Pool;
@@ -98,14 +98,57 @@ fn a_worker_leaves_when_no_cell_waits(rt: HostRuntime) -> Result<(), Fail> {
 fn workers_share_a_net(rt: HostRuntime) -> Result<(), Fail> {
     let net = identity_of_identity(rt.alloc())?;
     assert!(rt; is_small(&net));
-    for (workers, fuel, end) in [
-        (1, 4, Sweep::Clean),
-        (2, 4, Sweep::Clean),
-        (2, 3, Sweep::Spent),
-    ] {
-        let (words, swept) = run_workers(&rt, rt.alloc(), &net, workers, fuel, &OpenGate)?;
-        assert_eq!(rt; words.events(), fuel);
-        assert_eq!(rt; swept, end);
+    for (workers, fuel, is_done) in [(1, 4, true), (2, 4, true), (1, 3, false), (2, 3, false)] {
+        match reduce(&rt, rt.alloc(), &net, workers, fuel, &OpenGate)? {
+            Reduced::Done {
+                net: last,
+                journal,
+                words,
+            } => {
+                assert!(rt; is_done);
+                assert_eq!(rt; journal.len(), fuel);
+                assert_eq!(rt; words.events(), fuel);
+                // An abstraction and its croissant.
+                assert_eq!(rt; last.nodes(), 2);
+                assert_eq!(rt; last.free_ports(), 1);
+            }
+            Reduced::Spent { journal, words } => {
+                assert!(rt; !is_done);
+                assert_eq!(rt; journal.len(), fuel);
+                assert_eq!(rt; words.events(), fuel);
+            }
+        }
+    }
+    Ok(())
+}
+
+#[test]
+fn a_pair_without_a_rule_stays(rt: HostRuntime) -> Result<(), Fail> {
+    let nodes = vec![in rt.alloc(); (Kind::Fan, 0), (Kind::Lam, 0)]?;
+    let links = vec![in rt.alloc();
+        (of(0, 0), of(1, 0)),
+        (of(0, 1), Port::Free(0)),
+        (of(0, 2), Port::Free(1)),
+        (of(1, 1), Port::Free(2)),
+        (of(1, 2), Port::Free(3)),
+    ]?;
+    let net = Net::build(rt.alloc(), 4, nodes, links).map_err(Fail::from)?;
+    assert!(rt; is_small(&net));
+    match reduce(&rt, rt.alloc(), &net, 2, 0, &OpenGate)? {
+        Reduced::Done {
+            net: last,
+            journal,
+            words,
+        } => {
+            assert_eq!(rt; journal.len(), 0);
+            assert_eq!(rt; words.events(), 0);
+            assert_eq!(rt; last.partner(of(0, 0)), Some(of(1, 0)));
+            assert_eq!(rt; last.partner(Port::Free(3)), Some(of(1, 2)));
+        }
+        Reduced::Spent {
+            journal: _,
+            words: _,
+        } => assert!(rt; false),
     }
     Ok(())
 }

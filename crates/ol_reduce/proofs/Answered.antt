@@ -1,0 +1,52 @@
+-- What the closed words of a table tell of the one-thread run of its net.
+use Rattle.std.proofs.Common.{Bool, slice_index, ◌≡◌, ℕ, ◌≤◌, ◌<◌, List, length, refl, subst, nat_lt, true, false, if◌then◌else◌, arith}
+use Rattle.std.proofs.lemmas.Bool.Decides.{nat_tests}
+use Rattle.ol_net.specs.Graph.{Graph}
+use Rattle.ol_net.specs.Nets.{NamedNet, IsNet, net_under}
+use Rattle.ol_net.specs.Numbered.{net_of}
+use Rattle.ol_rules.specs.declared.journal.NodeName.{NodeName}
+use Rattle.ol_rules.specs.declared.journal.NodeName.TheVariants.{Init}
+use Rattle.ol_rules.specs.declared.journal.Entry.{Entry}
+use Rattle.ol_rules.specs.Listed.{each}
+use Rattle.ol_rules.specs.Runs.{IsRun, IsComplete, HasActive, IsOneThread}
+use Rattle.ol_rules.proofs.StartNets.{start_net, start_named}
+use Rattle.ol_diamond.specs.OneThread.{DoneTells, OneThreadExists, SpentTells}
+use Rattle.ol_wire.specs.declared.layout.Parts.{Parts}
+use Rattle.ol_wire.specs.Closed.{ClosedTable, events_in, journal_in, event_at}
+use Rattle.ol_wire.specs.Events.{entry_of}
+use Rattle.ol_wire.specs.Standing.{IsAfter}
+use Rattle.ol_reduce.specs.Reduced.{EndsWithin}
+use Rattle.ol_reduce.proofs.Counted.{row_count}
+
+-- the journal has an entry for each ticket below the fuel
+pub steps_in : (z : Parts) (words : List ℕ) → length (journal_in z words) ≡ events_in z words
+steps_in z words = row_count (λ t. entry_of z (event_at z words t)) (events_in z words)
+
+few_of : (b : Bool) (n m : ℕ) → (b ≡ true → n ≤ m) → (if b then n else m) ≤ m
+few_of true n m h = h refl
+few_of false n m h = omega arith
+
+pub events_few : (z : Parts) (words : List ℕ) → events_in z words ≤ z.fuel
+events_few z words = few_of (nat_lt (slice_index words 0) z.fuel) (slice_index words 0) z.fuel (λ e. let lt : slice_index words 0 < z.fuel = grind (arith, nat_tests) in omega (arith, lt))
+
+-- a run of the words is one of the net that the table was made from
+pub from_net : (net : Graph) (w : ClosedTable) → w.plan.start.value ≡ net → (M : NamedNet NodeName) → IsAfter w M → IsRun (net_under Init (net_of net)) 0 (journal_in w.plan.parts w.words) M
+from_net net w e M r = subst (λ (g : Graph). IsRun (net_under Init (net_of g)) 0 (journal_in w.plan.parts w.words) M) e r
+
+pub few_steps : (w : ClosedTable) (fuel : ℕ) → w.plan.parts.fuel ≡ fuel → events_in w.plan.parts w.words ≤ w.plan.parts.fuel → length (journal_in w.plan.parts w.words) ≤ fuel
+few_steps w fuel e few = omega (arith, steps_in w.plan.parts w.words, e, few)
+
+-- where the net after the journal is complete, the one-thread run ends
+pub ends : DoneTells → (net : Graph) (w : ClosedTable) (fuel : ℕ) → IsNet (net_of net) → w.plan.start.value ≡ net → length (journal_in w.plan.parts w.words) ≤ fuel
+    → (M : NamedNet NodeName) → IsAfter w M → IsComplete M → EndsWithin net fuel
+ends done net w fuel is_net e few M r complete one_thread P one =
+    (done (net_under Init (net_of net)) M P fuel (journal_in w.plan.parts w.words) one_thread (start_net (net_of net) is_net) (start_named (net_of net)) (from_net net w e M r) complete few one).0
+
+-- where the fuel is used up and a pair is active, it doesn't end
+pub goes_on : SpentTells → OneThreadExists → (net : Graph) (w : ClosedTable) (fuel : ℕ) → IsNet (net_of net) → w.plan.start.value ≡ net → length (journal_in w.plan.parts w.words) ≡ fuel
+    → (M : NamedNet NodeName) → IsAfter w M → HasActive M → EndsWithin net fuel → ⊥
+goes_on spent exists net w fuel is_net e all M r active within =
+    let N = net_under Init (net_of net) in
+    let one = exists N fuel (start_net (net_of net) is_net) (start_named (net_of net)) in
+    let on = spent N M one.1 fuel (journal_in w.plan.parts w.words) one.0 (start_net (net_of net) is_net) (start_named (net_of net)) (from_net net w e M r) active all one.2 in
+    within one.0 one.1 one.2 on.0.0 on.0.1 on.0.2 on.0.3
