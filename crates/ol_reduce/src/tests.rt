@@ -146,8 +146,8 @@ fn a_pair_without_a_rule_stays(rt: HostRuntime) -> Result<(), Fail> {
             assert_eq!(rt; last.partner(Port::Free(3)), Some(of(1, 2)));
         }
         Reduced::Spent {
-            journal: _,
-            words: _,
+            journal: _journal,
+            words: _words,
         } => assert!(rt; false),
     }
     Ok(())

@@ -1,9 +1,9 @@
-use Rattle.std.proofs.Common.{◌≡◌, ℕ, suc, ◌+◌, ◌<◌, ◌≤◌, List, [], ◌∷◌, ◌++◌, length, Option, Some, None, refl, sym, ap, ◌∙◌, subst, slice_get, arith}
+use Rattle.std.proofs.Common.{◌≡◌, ℕ, suc, ◌+◌, ◌<◌, List, [], ◌∷◌, ◌++◌, length, Option, Some, refl, sym, ap, ◌∙◌, subst, arith}
 use Rattle.core.specs.Option.{IsSome}
 use Rattle.ol_rules.specs.Listed.{each}
 use Rattle.ol_rules.specs.declared.journal.Entry.{Entry}
 use Rattle.ol_wire.specs.declared.layout.Parts.{Parts}
-use Rattle.ol_wire.specs.Closed.{event_at, events_in, journal_in}
+use Rattle.ol_wire.specs.Closed.{event_at, events_in}
 use Rattle.ol_wire.specs.Events.{entry_of}
 use Rattle.ol_reduce.proofs.Counted.{row_count}
 use Rattle.ol_wire.proofs.ClosingTable.{entry_at}
