@@ -18,11 +18,11 @@ use Rattle.ol_reduce.specs.declared.reduced.Reduced.TheVariants.{Done, Spent}
 abbrev pub IsTableOf : Graph → ℕ → ℕ → ClosedTable → Type 0
 IsTableOf net fuel seats w = AreParts net fuel w.plan.parts × (w.plan.start.value ≡ net) × (w.plan.seats ≡ seats)
 
--- the one-thread run from the net has at most so many steps: it ends
+-- the one-thread run from the net has at most so many steps: it ends. There is one such run for each fuel.
 abbrev pub EndsWithin : Graph → ℕ → Type 0
 EndsWithin net fuel = (journal : List Entry) (P : NamedNet NodeName) → IsOneThread (net_under Init (net_of net)) fuel journal P → IsComplete P
 
--- the journal of these words leads to a net without an active pair, and `last` is this net
+-- the journal of these words leads to a net without an active pair, and `last` is this net; there is such a net, and one alone
 pub record IsDone (net : Graph) (fuel seats : ℕ) (last : Graph) (journal : List Entry) (w : ClosedTable) : Type 0 where
   pub table : IsTableOf net fuel seats w
   pub read : journal ≡ journal_in w.plan.parts w.words

@@ -8,7 +8,7 @@ use Rattle.ol_wire.specs.Turns.{FoundActive}
 abbrev pub cells_below : ℕ → List ℕ
 cells_below n = each n (λ c. c ∷ [])
 
--- Turns on these cells led from the one view to the other, and none of them answered Spent.
+-- Turns on these cells led from the one view to the other. Where the seat wasn't over before, none of them answered Spent.
 pub record HasTurned (v : View) (cells : List ℕ) (n : View) : Type 0 where
   pub claimed : n.claimed ≡ v.claimed ++ cells
   pub over : n.over ≡ v.over

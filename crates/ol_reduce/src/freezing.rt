@@ -18,8 +18,9 @@ use ol_net::Net;
 use ol_wire::{Words, index_in, kind_in, place_in};
 use std::alloc::Global;
 
-/// The net that the words stand for, its nodes numbered from 0 by ascending place. `NoMemory`: no
-/// memory was found for it.
+/// The net that the words stand for, its nodes numbered from 0 by ascending name: first those of the start, and then
+/// those that a ticket made, by ticket, which is the order of their places in the words. `NoMemory`: no memory was
+/// found for it.
 pub fn freeze(alloc: Global, words: &Words) -> Result<Net, NoMemory>
     ensures frozen { IfOk result (λ g. (net : NamedNet NodeName) → IsAfter words.now net → IsFrozen net g) }
 {

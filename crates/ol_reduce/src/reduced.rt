@@ -5,7 +5,7 @@ use ol_wire::Words;
 
 /// A net that workers have rewritten.
 ///
-/// - `Done`: no active pair is left. `net` is the last net, its nodes numbered by ascending place, and
+/// - `Done`: no active pair is left. `net` is the last net, its nodes numbered by ascending name, and
 ///   `journal` leads to it.
 /// - `Spent`: as many pairs were rewritten as the fuel allows, and an active one is left.
 ///

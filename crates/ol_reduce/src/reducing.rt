@@ -23,8 +23,10 @@ use std::thread::Threads;
 /// - `workers`: 1 to 64. Where fewer threads can be had, the workers work in turn.
 /// - `fuel`: at most 2,000,000.
 ///
-/// `Done` comes exactly where the one-thread run has at most `fuel` steps. `NoMemory`: there was no memory for the words, the workers, the
-/// journal or the last net.
+/// `Done` comes exactly where the one-thread run has at most `fuel` steps, with a journal of as many entries and the net that it leads to.
+/// `Spent` comes exactly where that run has more: the journal has `fuel` entries then, and an active pair is left. In both, `words` are
+/// the closed words of a table that was made from this net, with this fuel and `workers` seats, and `journal` is theirs. `NoMemory`:
+/// there was no memory for the words, the pool, the workers, the journal or the last net.
 pub fn reduce<R: Threads + Wait + Sync, G: Gate + Sync>(
     rt: &R,
     alloc: Global,

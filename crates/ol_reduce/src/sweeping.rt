@@ -10,7 +10,10 @@ use ol_wire::{Seat, Shared, Turn};
 
 /// Makes a turn on each cell in ascending order, up to the first that answers `Spent`. Takes no memory.
 ///
-/// A turn publishes only in cells of a greater number than its own, so one pass is enough.
+/// A turn publishes only in cells of a greater number than its own, so one pass is enough. `Clean` leaves no active
+/// pair: the seat has then swept all cells. `Spent` comes only where the last turn of this call answered it. A seat's
+/// `swept` is at most the number of cells, as it starts with 0 and rises by one cell of the table at a time; the law of
+/// it is said for such a seat.
 pub fn sweep(shared: &Shared, seat: &mut Seat) -> Sweep
     requires seat { IsOf shared.now seat.old }
     requires all { seat.old.view.holds ≡ shared.now.plan.seats }
