@@ -14,11 +14,11 @@ use Rattle.ol_wire.specs.Closed.{ClosedTable, events_in, journal_in, event_at}
 use Rattle.ol_wire.specs.Events.{entry_of}
 use Rattle.ol_wire.specs.Standing.{IsAfter}
 use Rattle.ol_reduce.specs.Reduced.{EndsWithin}
-use Rattle.ol_reduce.proofs.Counted.{row_count}
+use Rattle.ol_reduce.proofs.Births.{length_each}
 
 -- the journal has an entry for each ticket below the fuel
 pub steps_in : (z : Parts) (words : List ℕ) → length (journal_in z words) ≡ events_in z words
-steps_in z words = row_count (λ t. entry_of z (event_at z words t)) (events_in z words)
+steps_in z words = length_each (λ t. entry_of z (event_at z words t)) (events_in z words)
 
 few_of : (b : Bool) (n m : ℕ) → (b ≡ true → n ≤ m) → (if b then n else m) ≤ m
 few_of true n m h = h refl

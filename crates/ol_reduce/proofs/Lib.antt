@@ -16,5 +16,4 @@ pub mod Rounds
 pub mod Whole
 pub mod Hired
 pub mod Turns
-mod Counted
 mod Answered

@@ -5,7 +5,7 @@ use Rattle.ol_rules.specs.declared.journal.Entry.{Entry}
 use Rattle.ol_wire.specs.declared.layout.Parts.{Parts}
 use Rattle.ol_wire.specs.Closed.{event_at, events_in}
 use Rattle.ol_wire.specs.Events.{entry_of}
-use Rattle.ol_reduce.proofs.Counted.{row_count}
+use Rattle.ol_reduce.proofs.Births.{length_each}
 use Rattle.ol_wire.proofs.ClosingTable.{entry_at}
 use Rattle.ol_reduce.proofs.reducing.journal_of.Goals as goal
 
@@ -30,7 +30,7 @@ unwrap-requires c =
 pub push-requires : goal.push-requires
 push-requires c =
     let w = c.args.words.now in
-    record { few = omega (arith, ap length c.loop-k.invariant, row_count (told w.plan.parts w.words) c.loop-k.k, c.loop-k-test.true, c.events-k-end.type_inv) }
+    record { few = omega (arith, ap length c.loop-k.invariant, length_each (told w.plan.parts w.words) c.loop-k.k, c.loop-k-test.true, c.events-k-end.type_inv) }
 
 pub loop-k-preserved : goal.loop-k-preserved
 loop-k-preserved c =
