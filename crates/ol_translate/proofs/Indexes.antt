@@ -1,11 +1,12 @@
 -- The indexes of a term's nodes: none is greater than the level by more than the number of nodes.
-use Rattle.std.proofs.Common.{◌≡◌, ℕ, zero, suc, ◌≤◌, ◌+◌, List, [], ◌∷◌, ◌++◌, length, false, Option, None, Some, refl, arith, length-append, get_or}
+use Rattle.std.proofs.Common.{◌≡◌, ℕ, zero, suc, ◌≤◌, ◌+◌, List, [], ◌∷◌, ◌++◌, length, true, false, nat_eq, nat_lt, Option, None, Some, refl, arith, length-append, get_or}
 use Rattle.std.proofs.lemmas.Bool.Decides.{nat_tests}
 use Rattle.ol_term.specs.Trees.{Tree, var, free, lam, app}
 use Rattle.ol_net.specs.declared.parts.Kind.{Kind}
 use Rattle.ol_net.specs.declared.parts.Kind.TheVariants as kind
 use Rattle.ol_net.specs.declared.parts.Port.{Port}
-use Rattle.ol_net.specs.Build.{build_top, is_bad_index, BadIndexAt, NoneOf}
+use Rattle.ol_net.specs.Build.{build_top, all_live, is_bad_index, BadIndexAt, NoneOf}
+use Rattle.ol_net.specs.Replace.{top_index_of}
 use Rattle.ol_translate.specs.Translation.{Part, part_of, application, erasers, bracket_nodes, bracketed, fans, fan_nodes, merged, wire_of, nodes_of}
 
 -- the index of a node that is no eraser is at most m, and an eraser's is 0
@@ -109,3 +110,19 @@ pub good_indexes : (t : Tree) → length (nodes_of t) ≤ 200000 → NoneOf (Bad
 good_indexes t h j bad =
     let good = none_bad (0 + length (nodes_of t)) j (nodes_of t) (omega arith) (part_low t 0 0 0) in
     absurd (cc)
+
+not_above : (m i : ℕ) → (nat_lt m i ≡ true → ⊥) → i ≤ m
+not_above m i h = elim (nat_lt m i) as (λ b. nat_lt m i ≡ b → i ≤ m) [ true ↦ (λ t. absurd (h t)) | false ↦ (λ t. grind (arith, nat_tests, t)) ] refl
+
+-- where no node is refused for its index, none is above the bound
+node_is_low : (m : ℕ) (node : Kind × ℕ) → (is_bad_index m node ≡ true → ⊥) → node.1 ≤ m
+node_is_low m (kind.Lam, i) h = not_above m i h
+node_is_low m (kind.App, i) h = not_above m i h
+node_is_low m (kind.Fan, i) h = not_above m i h
+node_is_low m (kind.Croissant, i) h = not_above m i h
+node_is_low m (kind.Bracket, i) h = not_above m i h
+node_is_low m (kind.Eraser, i) h = elim (nat_eq i 0) as (λ b. nat_eq i 0 ≡ b → i ≤ m) [ true ↦ (λ t. grind (arith, nat_tests, t)) | false ↦ (λ t. absurd (h (rw t refl))) ] refl
+
+pub top_is_low : (m : ℕ) (nodes : List (Kind × ℕ)) → NoneOf (BadIndexAt m nodes) → top_index_of (all_live nodes) ≤ m
+top_is_low m [] h = omega arith
+top_is_low m (node ∷ nodes) h = omega (arith, node_is_low m node (h 0), top_is_low m nodes (λ j bad. h (suc j) bad))

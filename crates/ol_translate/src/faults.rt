@@ -8,7 +8,7 @@ use std::alloc::{AllocError, AllocFailed};
 /// Why a term is not translated.
 #[derive(Clone, Copy, Debug, PartialEq, Eq)]
 pub enum TransFault {
-    /// The net would have more than `MOST_NODES` nodes.
+    /// The net would have more than 200,000 nodes.
     TooMany,
     /// Memory ran out.
     NoMemory,

@@ -6,6 +6,7 @@ ghost use Rattle.ol_term.specs.Trees.{tree_of, depth};
 ghost use Rattle.ol_net.specs.Nets.{SameNet};
 ghost use Rattle.ol_net.specs.Numbered.{net_of};
 ghost use Rattle.ol_net.specs.Build.{all_live};
+ghost use Rattle.ol_net.specs.Replace.{top_index_of};
 ghost use Rattle.ol_translate.specs.Translation.{nodes_of, translation_of};
 ghost use Rattle.ol_translate.specs.Sizes.{size_of_translation};
 ghost use Rattle.ol_term.specs.Trees.{has_name};
@@ -27,7 +28,7 @@ use parts::Parts;
 use std::alloc::Global;
 
 /// The most nodes that a translated term has.
-pub const MOST_NODES: usize = 200_000;
+const MOST_NODES: usize = 200_000;
 
 /// The net of a term: Lamping's graph of it, with croissants and brackets for levels (Gonthier, Abadi and
 /// Lévy, The geometry of optimal lambda reduction, 1992; which of their variants it is, this says).
@@ -44,16 +45,19 @@ pub const MOST_NODES: usize = 200_000;
 /// their application.
 ///
 /// Each name of the file occurs in its term, whose depth is at most 1,000, as in every file that is
-/// parsed. `TooMany` comes exactly where the net would have more than `MOST_NODES` nodes; nothing is
-/// built past that. `NoMemory`: no memory was found.
+/// parsed: so there are no more names than nodes. `TooMany` comes exactly where the net would have more
+/// than 200,000 nodes; nothing is built past that. `NoMemory`: no memory was found.
 pub fn translate(alloc: Global, file: &TermFile) -> Result<Net, TransFault>
     requires each_name { (k : ℕ) → k < length file.now.names → has_name k (tree_of file.now.term) ≡ true }
     requires shallow { depth (tree_of file.now.term) ≤ 1000 }
     ensures net { IfOk result (λ net. SameNet (net_of net) (translation_of (tree_of file.now.term) (length file.now.names))) }
     ensures numbers { IfOk result (λ net. net.nodes ≡ all_live (nodes_of (tree_of file.now.term))) }
     ensures size { IfOk result (λ net. length net.nodes ≡ size_of_translation (tree_of file.now.term)) }
+    ensures free { IfOk result (λ net. net.free ≡ length file.now.names + 1) }
+    ensures few_names { IfOk result (λ net. length file.now.names ≤ length net.nodes) }
+    ensures indexes { IfOk result (λ net. top_index_of net.nodes ≤ 1000000) }
     ensures too_many { result ≢ Err TransFault.NoMemory
-        → ((result ≡ Err TransFault.TooMany) ↔ (MOST_NODES < size_of_translation (tree_of file.now.term))) }
+        → ((result ≡ Err TransFault.TooMany) ↔ (200000 < size_of_translation (tree_of file.now.term))) }
 {
     let parts = Parts::whole(alloc, &file.term)?;
     match Net::build(alloc, file.names.len() + 1, parts.nodes, parts.links) {

@@ -6,6 +6,8 @@ use Rattle.ol_translate.specs.Sizes.{size_of_translation}
 use Rattle.ol_translate.proofs.Bound.{few_names, few_links}
 use Rattle.ol_translate.proofs.Sizing.{size_of_nodes}
 use Rattle.ol_translate.proofs.Fitting.{never_refused, same_translation, length-all_live}
+use Rattle.ol_translate.proofs.Indexes.{top_is_low}
+use Rattle.ol_net.specs.Replace.{top_index_of}
 use Rattle.ol_translate.proofs.Answering.{names_of, refused_where, given_where}
 use Rattle.ol_translate.proofs.translate.Goals as goal
 
@@ -51,3 +53,17 @@ pub returns-in-Ok-clause-too_many : goal.returns-in-Ok-clause-too_many
 returns-in-Ok-clause-too_many c =
     λ _. given_where _ c.in-Ok.net 200000 (size_of_translation (tree_of c.args.file.now.term)) refl
     (omega (arith, size_of_nodes (tree_of c.args.file.now.term), ap length c.in_ok-parts.ensures.nodes, c.in_ok-parts.parts.few))
+
+pub returns-in-Ok-clause-few_names : goal.returns-in-Ok-clause-few_names
+returns-in-Ok-clause-few_names c =
+    omega (
+      arith,
+      few_names (tree_of c.args.file.now.term) (length c.args.file.now.names) (names_of c.args.file.now c.requires.each_name),
+      ap length c.in-Ok.ensures.built.same_nodes,
+      length-all_live c.in_ok-parts.parts.nodes.items,
+      ap length c.in_ok-parts.ensures.nodes,
+    )
+
+pub returns-in-Ok-clause-indexes : goal.returns-in-Ok-clause-indexes
+returns-in-Ok-clause-indexes c =
+    omega (arith, ap top_index_of c.in-Ok.ensures.built.same_nodes, top_is_low 1000000 c.in_ok-parts.parts.nodes.items c.in-Ok.ensures.built.good_indexes)
