@@ -2,3 +2,4 @@ pub mod Indexing
 pub mod Binders
 pub mod BinderTexts
 pub mod Items
+pub mod Doubling

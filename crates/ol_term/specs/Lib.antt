@@ -6,3 +6,4 @@ pub mod BinderLaws
 pub mod BinderNumbers
 pub mod Texts
 pub mod Printing
+pub mod Generated

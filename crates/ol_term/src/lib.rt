@@ -4,6 +4,7 @@
 
 mod binder_laws;
 mod binder_names;
+mod generating;
 mod measures;
 mod name_list;
 mod printing;
@@ -14,6 +15,7 @@ mod tests;
 
 pub use binder_laws::binder_names_are_new;
 pub use binder_names::BinderNames;
+pub use generating::{Made, make};
 pub use measures::{alpha_eq, depth, size};
 pub use name_list::Names;
 pub use printing::print_term;

@@ -3,7 +3,7 @@
 ghost use Rattle.std.specs.Prelude.{◌≡◌, ◌<◌, ◌≤◌, ◌^◌, true, length, IfOk};
 ghost use Rattle.ol_term.specs.Trees.{tree_of, var, free, lam, app, is_below, is_named_below, size, depth};
 
-use crate::{BinderNames, Names, Term, alpha_eq, depth, print_term, size};
+use crate::{BinderNames, Made, Names, Term, alpha_eq, depth, make, print_term, size};
 use std::alloc::Global;
 use std::test::Fail;
 
@@ -139,5 +139,20 @@ fn terms_are_equal_as_trees(rt: HostRuntime) -> Result<(), Fail> {
     assert!(rt; !alpha_eq(&first, &*identity(alloc)?));
     assert!(rt; !alpha_eq(&Term::Free(0), &Term::Free(1)));
     assert!(rt; !alpha_eq(&Term::Free(0), &Term::Var(0)));
+    Ok(())
+}
+
+#[test]
+fn makes_terms_by_doubling(rt: HostRuntime) -> Result<(), Fail> {
+    let least = make(rt.alloc(), 0).ok().ok_or("memory")?;
+    assert!(rt; least.as_slice() == b"((\\x. x x) (\\y. y))\n".as_slice());
+    let twice = make(rt.alloc(), 1).ok().ok_or("memory")?;
+    let text = b"(((\\x. x x) (\\y. y)) ((\\x. x x) (\\y. y)))\n";
+    assert!(rt; twice.as_slice() == text.as_slice());
+    let sixth = make(rt.alloc(), 6).ok().ok_or("memory")?;
+    assert_eq!(rt; sixth.len(), 1_406);
+    let tenth = make(rt.alloc(), 10).ok().ok_or("memory")?;
+    assert_eq!(rt; tenth.len(), 22_526);
+    assert_eq!(rt; make(rt.alloc(), 11).err(), Some(Made::TooLarge));
     Ok(())
 }

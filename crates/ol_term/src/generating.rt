@@ -1,0 +1,69 @@
+//! Large terms, made by doubling.
+
+ghost use Rattle.std.specs.Prelude.{◌≡◌, ◌≢◌, ◌+◌, ◌*◌, ◌^◌, ◌<◌, ◌++◌, ◌∷◌, [], ◌↔◌, length, Err, IfOk, OnOk};
+ghost use Rattle.ol_term.specs.Generated.{doubled, doubled_text};
+ghost use Rattle.ol_term.specs.declared.generating.Made.TheVariants.{TooLarge};
+
+use std::alloc::Global;
+
+/// Why a text was not made.
+#[derive(Clone, Copy, Debug, PartialEq, Eq)]
+pub enum Made {
+    /// The term would be doubled more than ten times.
+    TooLarge,
+    /// No memory was found.
+    NoMemory,
+}
+
+// A term applied to itself, in brackets.
+fn applied(alloc: Global, term: &[u8]) -> Result<Vec<u8>, Made>
+    ensures made { IfOk result (λ text. text.items ≡ 40 ∷ term.now ++ (32 ∷ term.now ++ 41 ∷ [])) }
+    ensures refused { result ≢ Err TooLarge }
+{
+    let mut text = Vec::new(alloc);
+    put(&mut text, b"(")?;
+    put(&mut text, term)?;
+    put(&mut text, b" ")?;
+    put(&mut text, term)?;
+    put(&mut text, b")")?;
+    Ok(text)
+}
+
+fn put(text: &mut Vec<u8>, piece: &[u8]) -> Result<(), Made>
+    ensures put { OnOk result (text.new.items ≡ text.old.items ++ piece.now) }
+    ensures refused { result ≢ Err TooLarge }
+{
+    match text.extend_from_slice(piece) {
+        Ok(()) => Ok(()),
+        Err(_) => Err(Made::NoMemory),
+    }
+}
+
+// The term that is doubled k times.
+fn double(alloc: Global, k: u32) -> Result<Vec<u8>, Made>
+    ensures made { IfOk result (λ text. text.items ≡ doubled k) }
+    ensures refused { result ≢ Err TooLarge }
+{
+    let mut text = Vec::new(alloc);
+    put(&mut text, b"((\\x. x x) (\\y. y))")?;
+    for _ in 0..k {
+        text = applied(alloc, &text)?;
+    }
+    Ok(text)
+}
+
+/// A text of the grammar whose term is large and reduces to an identity: `((\x. x x) (\y. y))`, and k
+/// times over that the term so far applied to itself, as `(T T)`; and a line feed. It has
+/// 22 * 2^k - 2 bytes. `TooLarge`: k is above 10. `NoMemory`: no memory was found.
+pub fn make(alloc: Global, k: u32) -> Result<Vec<u8>, Made>
+    ensures made { IfOk result (λ text. text.items ≡ doubled_text k) }
+    ensures size { IfOk result (λ text. length text.items + 2 ≡ 22 * 2 ^ k) }
+    ensures too_large { result ≡ Err TooLarge ↔ 10 < k }
+{
+    if k > 10 {
+        return Err(Made::TooLarge);
+    }
+    let mut text = double(alloc, k)?;
+    put(&mut text, b"\n")?;
+    Ok(text)
+}

@@ -1,0 +1,22 @@
+//! What users see of nets and runs: the text of a net, a net after some leads, the text of a journal,
+//! and what such a text is found to be when it is replayed.
+#![tactic(auto)]
+
+mod answers;
+#[cfg(test)]
+mod check_tests;
+mod checking;
+mod leading;
+mod line_reading;
+mod pieces;
+mod replay;
+#[cfg(test)]
+mod show_tests;
+mod showing;
+mod tracing;
+
+pub use answers::{After, Check};
+pub use checking::check;
+pub use leading::after;
+pub use showing::show;
+pub use tracing::trace_text;

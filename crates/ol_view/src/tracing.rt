@@ -1,0 +1,52 @@
+//! The text of a journal.
+
+ghost use Rattle.std.specs.Prelude.{◌≡◌, ◌++◌, OnOk, IfOk, string_bytes};
+ghost use Rattle.ol_view.specs.TraceTexts.{name_text, line_text, trace_text};
+
+use crate::pieces::{put, put_number};
+use ol_io::NoMemory;
+use ol_rules::{Entry, Journal, NodeName};
+use std::alloc::Global;
+
+// The first line of a trace text.
+pub(crate) const HEADER: &str = "ol trace 1\n";
+
+fn put_name(text: &mut String, name: NodeName) -> Result<(), NoMemory>
+    ensures { OnOk result (string_bytes text.new ≡ string_bytes text.old ++ name_text name) }
+{
+    match name {
+        NodeName::Init(k) => put_number(text, k),
+        NodeName::Born { ticket, place } => {
+            put_number(text, ticket)?;
+            put(text, ".")?;
+            put_number(text, place as u32)
+        }
+    }
+}
+
+fn put_line(text: &mut String, entry: Entry) -> Result<(), NoMemory>
+    ensures { OnOk result (string_bytes text.new
+        ≡ string_bytes text.old ++ line_text entry.first entry.second) }
+{
+    put_name(text, entry.first)?;
+    put(text, " ")?;
+    put_name(text, entry.second)?;
+    put(text, "\n")
+}
+
+/// The text of a journal: the line `ol trace 1`, and then a line for each entry, in the order of
+/// tickets, of its two names with one space between. A start node is written by its number, and one
+/// that was born as `ticket.place`. Each line ends with a line feed. `NoMemory`: no memory was found.
+pub fn trace_text(alloc: Global, journal: &Journal) -> Result<Vec<u8>, NoMemory>
+    ensures { IfOk result (λ text. text.items ≡ trace_text journal.now) }
+{
+    let mut text = String::new(alloc);
+    put(&mut text, HEADER)?;
+    for k in 0..journal.len() {
+        let Some(entry) = journal.get(k) else {
+            unreachable!()
+        };
+        put_line(&mut text, entry)?;
+    }
+    Ok(text.into_bytes())
+}
