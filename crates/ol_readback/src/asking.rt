@@ -1,6 +1,6 @@
 //! Asking a frame for its head.
 
-ghost use Rattle.std.specs.Prelude.{◌≡◌, ◌≢◌, ◌<◌, ◌≤◌, ◌*◌, ◌↔◌, length, IfOk};
+ghost use Rattle.std.specs.Prelude.{◌≡◌, ◌≢◌, ◌<◌, ◌≤◌, ◌+◌, ◌*◌, ◌↔◌, length, IfOk};
 ghost use Rattle.ol_net.specs.Numbered.{net_of};
 ghost use Rattle.ol_context.specs.Shapes.{Extends};
 ghost use Rattle.ol_context.specs.Short.{HasNoFacing, live};
@@ -11,14 +11,102 @@ ghost use Rattle.ol_readback.specs.declared.answers.Head.TheVariants.{NoHead, Bu
 
 use crate::answers::Head;
 use crate::frames::Frame;
-use crate::leaving::{leave, question};
-use ol_context::{Values, Walk, walk};
+use crate::leaving::{copied, leave};
+use ol_context::{OpenWalk, Steps, Values, walk_open};
 use ol_io::NoMemory;
 use ol_net::Net;
 use std::alloc::Global;
+use std::marker::Brand;
+use std::sync::ledger::{Blank, Ledger};
 
-/// The head of frame `at`: asks it for 0, 1, 2 abstractions and so on, up to the number of live
-/// nodes, each time by a walk of at most `edges` crossings, until one leaves the net.
+/// The head of frame `at`: asks it for all numbers of abstractions at once, by one walk of at most
+/// `edges` crossings, which it counts.
+///
+/// The answer, and what has to hold, are those of `head`.
+pub fn head_counted<L: Ledger>(
+    alloc: Global,
+    net: &Net,
+    values: &mut Values,
+    frames: &Vec<Frame>,
+    at: u32,
+    edges: u64,
+    steps: &mut Steps<L>,
+) -> Result<Head, NoMemory>
+    requires at { at < length frames.now.items }
+    requires parents { ParentsFirst (frames_of values.old frames.now.items) }
+    requires frames { AreHeldFrames values.old frames.now.items }
+    requires ports { AreAtPorts net.now.free frames.now.items }
+    ensures answer { IfOk result (λ h. IsHeadWithin (net_of net.now) (frames_of values.old frames.now.items) at edges (answer_of values.new h)) }
+    ensures no_head { IfOk result (λ h. (h ≡ NoHead) ↔ HasNoHead (net_of net.now) (frames_of values.old frames.now.items) at edges) }
+    ensures budget { IfOk result (λ h. (h ≡ Budget) ↔ MeetsBudget (net_of net.now) (frame_at (frames_of values.old frames.now.items) at) edges) }
+    ensures found { IfOk result (λ h. h ≢ Budget → h ≢ NoHead → IsHead (net_of net.now) (frames_of values.old frames.now.items) at (answer_of values.new h)) }
+    ensures lost { IfOk result (λ h. h ≡ NoHead → HasNoFacing (net_of net.now) → IsHead (net_of net.now) (frames_of values.old frames.now.items) at no_head) }
+    ensures ring { IfOk result (λ h. h ≡ Budget → HasNoFacing (net_of net.now) → 2 * live (net_of net.now) ≤ edges → MeetsRing (net_of net.now) (frame_at (frames_of values.old frames.now.items) at) edges) }
+    ensures held { IfOk result (λ h. IsHeldHead values.new h) }
+    ensures extends { Extends values.old values.new }
+    ensures ticks { steps.new ≤ steps.old + edges }
+{
+    net.is_net();
+    let frame = &frames[at as usize];
+    let top = net.nodes();
+    let levels = copied(alloc, &frame.levels)?;
+    let walked = walk_open(net, values, frame.port, levels, edges, steps)?;
+    match walked {
+        OpenWalk::Exit {
+            lams,
+            port,
+            context,
+            ..
+        } => {
+            if lams > top as u64 {
+                return Ok(Head::NoHead);
+            }
+            let left = leave(alloc, values, frames, at, lams as u32, port, &context)?;
+            Ok(left)
+        }
+        OpenWalk::Budget { lams } => {
+            if lams > top as u64 {
+                return Ok(Head::NoHead);
+            }
+            Ok(Head::Budget)
+        }
+        OpenWalk::Undefined { .. } => Ok(Head::NoHead),
+    }
+}
+
+// The same, with a counter of its own.
+fn head_for<L: Ledger>(
+    alloc: Global,
+    net: &Net,
+    values: &mut Values,
+    frames: &Vec<Frame>,
+    at: u32,
+    edges: u64,
+    blank: Blank,
+) -> Result<Head, NoMemory>
+    requires at { at < length frames.now.items }
+    requires parents { ParentsFirst (frames_of values.old frames.now.items) }
+    requires frames { AreHeldFrames values.old frames.now.items }
+    requires ports { AreAtPorts net.now.free frames.now.items }
+    requires name { blank.name ≡ L.name }
+    requires parts { blank.parts ≡ L.parts }
+    requires some { 0 < blank.parts }
+    ensures answer { IfOk result (λ h. IsHeadWithin (net_of net.now) (frames_of values.old frames.now.items) at edges (answer_of values.new h)) }
+    ensures no_head { IfOk result (λ h. (h ≡ NoHead) ↔ HasNoHead (net_of net.now) (frames_of values.old frames.now.items) at edges) }
+    ensures budget { IfOk result (λ h. (h ≡ Budget) ↔ MeetsBudget (net_of net.now) (frame_at (frames_of values.old frames.now.items) at) edges) }
+    ensures found { IfOk result (λ h. h ≢ Budget → h ≢ NoHead → IsHead (net_of net.now) (frames_of values.old frames.now.items) at (answer_of values.new h)) }
+    ensures lost { IfOk result (λ h. h ≡ NoHead → HasNoFacing (net_of net.now) → IsHead (net_of net.now) (frames_of values.old frames.now.items) at no_head) }
+    ensures ring { IfOk result (λ h. h ≡ Budget → HasNoFacing (net_of net.now) → 2 * live (net_of net.now) ≤ edges → MeetsRing (net_of net.now) (frame_at (frames_of values.old frames.now.items) at) edges) }
+    ensures held { IfOk result (λ h. IsHeldHead values.new h) }
+    ensures extends { Extends values.old values.new }
+{
+    let mut steps: Steps<L> = Steps::new(blank);
+    head_counted(alloc, net, values, frames, at, edges, &mut steps)
+}
+
+/// The head of frame `at`: what the least number of abstractions says for which a walk from it leaves
+/// the net. The numbers 0, 1, 2 and so on, up to the number of live nodes, are tried up to the first
+/// whose walk leaves, or makes all its `edges` crossings; one walk is made for all of them.
 ///
 /// `Is` is what the first exit says. `Budget` comes exactly where one of these walks made all its
 /// crossings without an exit. `NoHead` comes exactly where none did, and either none of them leaves
@@ -48,27 +136,5 @@ pub fn head(
     ensures held { IfOk result (λ h. IsHeldHead values.new h) }
     ensures extends { Extends values.old values.new }
 {
-    net.is_net();
-    let frame = &frames[at as usize];
-    let top = net.nodes();
-    let mut hole = values.empty();
-    let mut n: u32 = 0;
-    loop {
-        let context = question(alloc, &frame.levels, hole)?;
-        let walked = walk(net, values, frame.port, context, edges)?;
-        match walked {
-            Walk::Exit { port, context, .. } => {
-                let left = leave(alloc, values, frames, at, n, port, &context)?;
-                return Ok(left);
-            }
-            Walk::Budget => return Ok(Head::Budget),
-            Walk::Undefined { .. } => {
-                if n >= top {
-                    return Ok(Head::NoHead);
-                }
-                hole = values.put_o(hole)?;
-                n += 1;
-            }
-        }
-    }
+    head_for::<Brand>(alloc, net, values, frames, at, edges, Blank::new(1))
 }

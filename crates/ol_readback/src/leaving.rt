@@ -54,14 +54,14 @@ pub fn push_level(alloc: Global, levels: &Levels, last: Val) -> Result<Levels, N
     Ok(Levels::of(longer))
 }
 
-/// The context that begins with these levels and one more.
-pub fn question(alloc: Global, levels: &Levels, last: Val) -> Result<Context, NoMemory>
-    ensures { IfOk result (λ r. r ≡ levels.now ++ last ∷ []) }
+/// A list of its own with these levels.
+pub fn copied(alloc: Global, levels: &Levels) -> Result<Vec<Val>, NoMemory>
+    ensures { IfOk result (λ r. r.items ≡ levels.now) }
 {
-    let Ok(longer) = with_last(alloc, levels.levels.as_slice(), last) else {
+    let Ok(copy) = Vec::from_slice(alloc, levels.levels.as_slice()) else {
         return Err(NoMemory);
     };
-    Ok(Context::of(longer))
+    Ok(copy)
 }
 
 // The free name of a port, or no head.
