@@ -1,7 +1,7 @@
 -- The arena holds each value once.
-use Rattle.std.proofs.Common.{◌≡◌, ◌≢◌, ℕ, zero, suc, ◌+◌, ◌<◌, ◌≤◌, ◌⊎◌, inl, inr, Bool, true, false, ◌&&◌, eqb, eqb-true, eq-eqb, List, [], ◌∷◌, ◌++◌, if◌then◌else◌, length, get_or, slice_get, Some, refl, sym, ap, ◌∙◌, subst, arith}
+use Rattle.std.proofs.Common.{◌≡◌, ◌≢◌, ℕ, zero, suc, ◌+◌, ◌<◌, ◌≤◌, ◌⊎◌, inl, inr, Bool, true, false, ◌&&◌, eqb, eqb-true, eq-eqb, List, [], ◌∷◌, ◌++◌, if◌then◌else◌, length, take, get_or, slice_get, Some, refl, sym, ap, ◌∙◌, subst, arith}
 use Rattle.std.specs.List.{list_any}
-use Rattle.std.proofs.lemmas.List.{get_or_append_left, get_or_push, length_push}
+use Rattle.std.proofs.lemmas.List.{get_or_append_left, get_or_push, length_push, take-append-le, take_all, get_or-take}
 use Rattle.std.proofs.lemmas.Option.{slice_get_within, get_or_from_slice_get}
 use Rattle.std.proofs.lemmas.List.Folds.{list_any_at}
 use Rattle.ol_context.specs.contracts.arena.ShapePartialEq.TheImpl.{eq-value}
@@ -9,7 +9,7 @@ use Rattle.ol_context.specs.Contexts.{Level, empty}
 use Rattle.ol_context.specs.declared.arena.Shape.{Shape}
 use Rattle.ol_context.specs.declared.arena.Shape.TheVariants.{Empty, O, Star, Pair}
 use Rattle.ol_context.specs.Shapes.{value, tree_of, IsBelow, Extends, IsNumberOf}
-use Rattle.ol_context.specs.Trees.{trees, IsRow, AreOnce}
+use Rattle.ol_context.specs.Trees.{grow, trees, IsRow, AreOnce}
 use Rattle.ol_context.proofs.Shapes.{row_push, trees_push, trees_length, extends_push, extends_refl, shape_at, below_at, first_is_empty, tree_keeps}
 
 abbrev pub same : Shape → Shape → Bool
@@ -174,3 +174,35 @@ one_number ss r u zero a b f p q e = absurd (omega arith)
 one_number ss r u (suc m) a b f p q e =
     shape_one ss u a b p q (tree_one (trees ss) a b (λ x y c d i. one_number ss r u m x y (omega arith) (omega arith) (omega arith) i)
     (shape_of ss a) (shape_of ss b) (below_is ss r a p) (below_is ss r b q) (sym (value_is ss r a p) ∙ e ∙ value_is ss r b q))
+
+-- the first shapes, and their values
+grow_cut : (vs : List Level) (ss : List Shape) (m : ℕ) → m ≤ length vs → take m (grow vs ss) ≡ take m vs
+grow_cut vs [] m b = refl
+grow_cut vs (t ∷ ss) m b = let l = length_push vs (tree_of vs t) in grow_cut (vs ++ tree_of vs t ∷ []) ss m (omega arith) ∙ take-append-le m vs (tree_of vs t ∷ []) b
+
+grow_take : (vs : List Level) (ss : List Shape) (n m : ℕ) → m ≡ length vs + n → take m (grow vs ss) ≡ grow vs (take n ss)
+grow_take vs [] zero m e = take_all m vs (omega arith)
+grow_take vs [] (suc n) m e = take_all m vs (omega arith)
+grow_take vs (t ∷ ss) zero m e = grow_cut vs (t ∷ ss) m (omega arith) ∙ take_all m vs (omega arith)
+grow_take vs (t ∷ ss) (suc n) m e = let l = length_push vs (tree_of vs t) in grow_take (vs ++ tree_of vs t ∷ []) ss n m (omega arith)
+
+pub trees_take : (ss : List Shape) (n m : ℕ) → m ≡ suc n → trees (take n ss) ≡ take m (trees ss)
+trees_take ss n m e = sym (grow_take (empty ∷ []) ss n m (omega arith))
+
+pub row_take : (m : ℕ) (ss : List Shape) (n : ℕ) → IsRow m ss → IsRow m (take n ss)
+row_take m [] zero r = tt
+row_take m [] (suc n) r = tt
+row_take m (t ∷ ss) zero r = tt
+row_take m (t ∷ ss) (suc n) r = (r.0, row_take (suc m) ss n r.1)
+
+pub fewer_take : (ss : List Shape) (n : ℕ) → (length (take n ss) ≤ n) × (length (take n ss) ≤ length ss)
+fewer_take [] zero = (omega arith, omega arith)
+fewer_take [] (suc n) = (omega arith, omega arith)
+fewer_take (t ∷ ss) zero = (omega arith, omega arith)
+fewer_take (t ∷ ss) (suc n) = let r = fewer_take ss n in (omega arith, omega arith)
+
+pub once_take : (ss : List Shape) (n : ℕ) → AreOnce ss → AreOnce (take n ss)
+once_take ss n u = (
+  λ j k d a b e. let f = fewer_take ss n in u.0 j k d (omega arith) (omega arith) (sym (get_or-take n ss j d (omega arith)) ∙ e ∙ get_or-take n ss k d (omega arith)),
+  λ k d b e. let f = fewer_take ss n in u.1 k d (omega arith) (sym (get_or-take n ss k d (omega arith)) ∙ e),
+)

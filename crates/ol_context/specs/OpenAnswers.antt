@@ -1,8 +1,10 @@
 -- What an open walk answers.
-use Rattle.std.specs.Prelude.{◌≡◌, ℕ, ◌<◌, ◌≤◌, ◌↔◌, List}
+use Rattle.std.specs.Prelude.{◌≡◌, ℕ, ◌<◌, ◌≤◌, ◌↔◌, List, map}
+use Rattle.ol_net.specs.Graph.{Graph}
+use Rattle.ol_net.specs.Numbered.{net_of}
 use Rattle.ol_net.specs.Nets.{NamedNet, free}
 use Rattle.ol_context.specs.Contexts.{Level, Context}
-use Rattle.ol_context.specs.Shapes.{AreHeld, context_of}
+use Rattle.ol_context.specs.Shapes.{value, AreHeld, context_of}
 use Rattle.ol_context.specs.Asked.{asked}
 use Rattle.ol_context.specs.Ways.{Exits, Stops, Stands}
 use Rattle.ol_context.specs.declared.answers.OpenWalk.{OpenWalk}
@@ -12,7 +14,7 @@ use Rattle.ol_context.specs.declared.answers.OpenWalk.TheVariants as walk
 abbrev pub BreaksOff : NamedNet ℕ → ℕ → List Level → ℕ → ℕ → ℕ → Type 0
 BreaksOff N p ls edges n k = Stops N (free p) (asked ls n) edges k
 
--- n is the least number of abstractions for which the walk doesn't break off, if it doesn't for n
+-- each walk that asks for fewer than n abstractions breaks off
 abbrev pub AllBelowBreakOff : NamedNet ℕ → ℕ → List Level → ℕ → ℕ → Type 0
 AllBelowBreakOff N p ls edges n = (m : ℕ) → m < n → (k : ℕ) × BreaksOff N p ls edges m k
 
@@ -49,3 +51,13 @@ abbrev pub IsHeldOpenExit : List Level → OpenWalk → Type 0
 IsHeldOpenExit vs (walk.Exit n q ms k) = AreHeld vs ms
 IsHeldOpenExit vs (walk.Undefined n k) = Unit {0}
 IsHeldOpenExit vs (walk.Budget n) = Unit {0}
+
+-- The same of a graph, and of levels by their numbers.
+abbrev pub OpenExits : Graph → ℕ → List Level → List ℕ → ℕ → List Level → OpenWalk → Type 0
+OpenExits g p old ns edges new w = OpenExitsExactly (net_of g) p (map (value old) ns) edges new w
+
+abbrev pub OpenStands : Graph → ℕ → List Level → List ℕ → ℕ → OpenWalk → Type 0
+OpenStands g p old ns edges w = OpenStandsExactly (net_of g) p (map (value old) ns) edges w
+
+abbrev pub OpenStops : Graph → ℕ → List Level → List ℕ → ℕ → OpenWalk → Type 0
+OpenStops g p old ns edges w = OpenStopsExactly (net_of g) p (map (value old) ns) edges w

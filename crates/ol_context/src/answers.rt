@@ -29,25 +29,25 @@ pub enum Walk {
     Budget,
 }
 
-/// What the walk of an open context answers. `lams` is a number of abstractions that is asked for.
+/// What the walk that asks for all numbers of abstractions answers.
 #[derive(Drop)]
 pub enum OpenWalk {
-    /// Asked for `lams`, and for no fewer, the walk has reached the free port with number `port`, with
-    /// this context, after so many crossings.
+    /// Asked for `lams` abstractions the walk reaches the free port with number `port`, with this
+    /// context, after so many crossings. Asked for fewer it tries a crossing that is not defined.
     Exit {
         lams: u64,
         port: u32,
         context: Context,
         crossings: u64,
     },
-    /// However many are asked for, some crossing that is tried is not defined, at the latest the one
-    /// tried as number `crossings`, counted from 1, and there for `lams`, and for no fewer.
+    /// Whatever it is asked for, the walk tries a crossing that is not defined: at the latest the one
+    /// tried as number `crossings`, counted from 1. `lams` is the least number for which it is that one.
     Undefined {
         lams: u64,
         crossings: u64,
     },
-    /// Asked for `lams`, and for no fewer, all crossings that were allowed were made, and the walk
-    /// stands at a node.
+    /// Asked for `lams` abstractions the walk makes all crossings that are allowed and stands at a
+    /// node. Asked for fewer it tries a crossing that is not defined.
     Budget {
         lams: u64,
     },

@@ -1,6 +1,6 @@
 //! The holder of level values.
 
-ghost use Rattle.std.specs.Prelude.{◌≡◌, ◌≢◌, ◌^◌, ◌<◌, ◌≤◌, ◌↔◌, [], ◌∷◌, length, IfOk, OnErr, IsTrue};
+ghost use Rattle.std.specs.Prelude.{◌≡◌, ◌≢◌, ◌^◌, ◌<◌, ◌≤◌, ◌↔◌, [], ◌∷◌, length, take, IfOk, OnErr, IsTrue};
 ghost use Rattle.ol_context.specs.Contexts.{empty, o, star, pair};
 ghost use Rattle.ol_context.specs.Shapes.{value, IsHeld, IsNumberOf, Extends, IsBelow, tree_of};
 
@@ -44,7 +44,7 @@ pub enum Shape {
 
 /// Level values, each held once and named by a `Val`. Contracts see the list of the values, by number.
 ///
-/// No call takes a value away, so each `Val` keeps its value. There are at most 4294967295 values.
+/// Each `Val` keeps its value, until `cut` takes it away. There are at most 4294967295 values.
 #[derive(Drop)]
 pub struct Values {
     // number 0 is the empty value, number k + 1 has shape k
@@ -81,6 +81,24 @@ impl Values {
         ensures few { length self.now < 2 ^ 32 }
     {
         let _ = &self.shapes;
+    }
+
+    /// How many values there are.
+    pub fn count(&self) -> u32
+        ensures is { result ≡ length self.now }
+        ensures some { 0 < result }
+    {
+        let _ = &self.shapes;
+        self.shapes.len() as u32 + 1
+    }
+
+    /// Keeps the first `count` values, of which there is at least one, and takes the others away.
+    pub fn cut(&mut self, count: u32)
+        requires { 0 < count }
+        ensures { self.new ≡ take count self.old }
+    {
+        let _ = &self.shapes;
+        self.shapes.truncate(count as usize - 1);
     }
 
     /// The empty value. Takes no memory.
@@ -165,7 +183,8 @@ impl Values {
         self.put(Shape::Pair(a, b))
     }
 
-    /// Whether two values of this holder are equal as trees, which is whether they are one number.
+    /// Whether two values of this holder are equal as trees: exactly where they are one number. Takes no
+    /// memory.
     pub fn equal(&self, a: Val, b: Val) -> bool
         requires first { IsHeld self.now a }
         requires second { IsHeld self.now b }
@@ -176,7 +195,7 @@ impl Values {
         a.at == b.at
     }
 
-    /// Whether two values of this holder are equal as trees. `NoMemory` never comes.
+    /// Whether two values of this holder are equal as trees, as `equal` says.
     pub fn same(&self, a: Val, b: Val) -> Result<bool, NoMemory>
         requires first { IsHeld self.now a }
         requires second { IsHeld self.now b }

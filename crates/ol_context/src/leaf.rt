@@ -18,13 +18,13 @@ pub struct Leaf {
     pub around: Vec<Around>,
 }
 
-/// What a crossing makes of a leaf that stands for so many `o`.
+/// What a crossing makes of a leaf, which is a number of `o` before the empty value.
 #[derive(Clone, Copy)]
 pub enum Fate {
     /// It only moves.
     Stays,
     /// It has given off one `o`.
     Grows,
-    /// It was empty, and is gone.
+    /// It was the empty value, and is gone.
     Goes,
 }

@@ -14,6 +14,7 @@ use crate::row::level_or;
 use ol_io::NoMemory;
 use ol_net::Kind;
 
+// Puts one more part round the leaf, the outermost.
 fn wrap(leaf: &mut Leaf, part: Around) -> Result<(), NoMemory>
     ensures ok { OnOk result (leaf.new.around.items ≡ leaf.old.around.items ++ part ∷ []) }
     ensures at { leaf.new.at ≡ leaf.old.at }
@@ -51,6 +52,7 @@ pub fn put_in(levels: &mut Vec<Val>, i: usize, v: Val, none: Val) -> Result<(), 
     Ok(())
 }
 
+// Level `i`, which is not after the one with the leaf, gets the mark of slot `s + 1`.
 fn mark_round(
     values: &mut Values,
     levels: &mut Vec<Val>,
@@ -78,6 +80,7 @@ fn mark_round(
     Ok(())
 }
 
+// An empty level is put in as level `i`, which is not after the one with the leaf.
 fn put_before(
     values: &Values,
     levels: &mut Vec<Val>,
@@ -99,6 +102,7 @@ fn put_before(
     Ok(())
 }
 
+// Levels `i` and `i + 1` become one, where level `i` is not after the one with the leaf.
 fn pack_round(
     values: &mut Values,
     levels: &mut Vec<Val>,
@@ -161,7 +165,8 @@ pub fn rise_open(
     }
 }
 
-// From slot 0, where the level of the node's index has the leaf.
+// From the slot 0 of an abstraction, an application or a fan whose level has the leaf: its mark is
+// taken off, and a leaf without parts round it gives off one `o`.
 fn unmark(leaf: &mut Leaf) -> Option<(u8, Fate)>
     ensures held { (vs : List Level) → AreHeldParts vs leaf.old.around.items → AreHeldParts vs leaf.new.around.items }
     ensures moved { (vs : List Level) (ns : List ℕ) → LeafHasMoved Kind.Fan leaf.old.at 0 vs vs ns ns leaf.old leaf.new result }
@@ -185,6 +190,7 @@ fn unmark(leaf: &mut Leaf) -> Option<(u8, Fate)>
     }
 }
 
+// From a croissant's slot 0, where its level has the leaf: only a leaf that is empty goes out.
 fn unput(leaf: &Leaf) -> Option<(u8, Fate)>
     ensures { (vs : List Level) (ns : List ℕ) → LeafHasMoved Kind.Croissant leaf.now.at 0 vs vs ns ns leaf.now leaf.now result }
 {
@@ -195,6 +201,7 @@ fn unput(leaf: &Leaf) -> Option<(u8, Fate)>
     }
 }
 
+// From a bracket's slot 0, where its level has the leaf: that level becomes two.
 fn unpack(
     values: &Values,
     levels: &mut Vec<Val>,
@@ -232,6 +239,7 @@ fn unpack(
     }
 }
 
+// From slot 0, where the level of the node's index has the leaf.
 fn fall_there(
     values: &Values,
     levels: &mut Vec<Val>,

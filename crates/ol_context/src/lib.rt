@@ -5,6 +5,10 @@
 //! unending row of level values, of which all but finitely many are empty. A walk starts at a free
 //! port with a context, follows the link, and crosses node after node, each of which changes the
 //! context, until it comes to a free port.
+//!
+//! An open context has a leaf in the place of one level's value and stands for many contexts at once,
+//! one for each number of abstractions that may be asked for. An open walk finds the least number for
+//! which the walk leaves, without a walk for each.
 #![tactic(auto)]
 
 mod answers;

@@ -118,9 +118,9 @@ impl OpenContext {
         self.lams
     }
 
-    /// The context that it stands for at `lams`: a leaf that is left is empty. Its values are of this
-    /// holder. `NoMemory`: no memory was found.
-    pub fn closed(self, values: &mut Values) -> Result<Context, NoMemory>
+    /// The context that it stands for at `lams`: a leaf that is left is the empty value. Its values are
+    /// of this holder. `NoMemory`: no memory was found.
+    pub(crate) fn closed(self, values: &mut Values) -> Result<Context, NoMemory>
         requires { IsHeldOpen values.old self }
         ensures extends { Extends values.old values.new }
         ensures held { IfOk result (λ c. AreHeld values.new c) }
@@ -140,8 +140,9 @@ impl OpenContext {
         Ok(Context::of(levels))
     }
 
-    /// Enters a node of this kind and index by a slot. The answer is the slot by which the walk leaves.
-    pub fn pass(
+    /// Enters a node of this kind and index by a slot. The answer is the slot by which the walk leaves,
+    /// or `None` where no crossing is defined for any number that the context stands for.
+    pub(crate) fn pass(
         &mut self,
         values: &mut Values,
         kind: Kind,

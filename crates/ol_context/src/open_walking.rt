@@ -1,12 +1,11 @@
 //! Crossings and walks of open contexts.
 
-ghost use Rattle.std.specs.Prelude.{◌≡◌, ◌^◌, ◌+◌, ◌-◌, ◌<◌, ◌≤◌, ◌↔◌, map, IfOk, OnErr};
-ghost use Rattle.ol_net.specs.Numbered.{net_of, numbered_port};
-ghost use Rattle.ol_context.specs.Shapes.{value, AreHeld, Extends};
-ghost use Rattle.ol_context.specs.Crossed.{IsNodePort, IfOut};
+ghost use Rattle.std.specs.Prelude.{◌≡◌, ◌^◌, ◌+◌, ◌-◌, ◌<◌, ◌≤◌, IfOk, OnErr};
+ghost use Rattle.ol_context.specs.Shapes.{AreHeld, Extends};
+ghost use Rattle.ol_context.specs.Crossed.{IsNodePort};
 ghost use Rattle.ol_context.specs.Open.{IsHeldOpen};
-ghost use Rattle.ol_context.specs.Passed.{OpenThrough, IsOpenBarred};
-ghost use Rattle.ol_context.specs.OpenAnswers.{OpenExitsExactly, OpenStopsExactly, OpenStandsExactly, IsHeldOpenExit};
+ghost use Rattle.ol_context.specs.Passed.{GoesOut, IsBarredExactly};
+ghost use Rattle.ol_context.specs.OpenAnswers.{OpenExits, OpenStops, OpenStands, IsHeldOpenExit};
 
 use crate::answers::{Cross, OpenWalk};
 use crate::arena::{Val, Values};
@@ -20,8 +19,8 @@ use std::sync::ledger::Ledger;
 /// open context stands for, whose values are of this holder. `lams` is below 18446744073709551615.
 /// Ticks once.
 ///
-/// By the port that is answered the walk leaves for those n alone for which the crossing is defined,
-/// and for these the context stands afterwards. `Undefined` comes exactly where no crossing is
+/// The walk leaves by the port that is answered, for just those n for which the crossing is defined,
+/// and the context stands for these n afterwards. `Undefined` comes exactly where no crossing is
 /// defined for any n that the context stands for, and then it is unchanged. `NoMemory`: no memory was
 /// found, and the context is unchanged.
 pub fn cross_open<L: Ledger>(
@@ -36,8 +35,8 @@ pub fn cross_open<L: Ledger>(
     requires few { context.old.lams < 2 ^ 64 - 1 }
     ensures extends { Extends values.old values.new }
     ensures held { IsHeldOpen values.new context.new }
-    ensures out { IfOk result (λ r. IfOut r (λ q. OpenThrough (net_of net.now) (numbered_port at) (numbered_port q) values.old values.new context.old context.new)) }
-    ensures undefined { IfOk result (λ r. (r ≡ Cross.Undefined) ↔ IsOpenBarred (net_of net.now) (numbered_port at) values.old context.old) }
+    ensures out { IfOk result (GoesOut net.now at values.old values.new context.old context.new) }
+    ensures undefined { IfOk result (IsBarredExactly net.now at values.old context.old) }
     ensures unchanged { IfOk result (λ r. r ≡ Cross.Undefined → context.new ≡ context.old) }
     ensures err { OnErr result (context.new ≡ context.old) }
     ensures lams { context.new.lams ≤ context.old.lams + 1 }
@@ -58,12 +57,12 @@ pub fn cross_open<L: Ledger>(
 }
 
 /// Starts at the free port `from`, which the net has, and asks for all numbers of abstractions at once:
-/// the context is that of these levels, which are of this holder, then a number of `o` that isn't
-/// known, then empty levels. Tries and counts at most `edges` crossings.
+/// the walk for n has these levels, which are of this holder, then n times `o` before the empty value,
+/// then empty levels. Tries, and counts, at most `edges` crossings.
 ///
-/// `Exit` and `Budget` come exactly where `walk` with the context that asks for `lams` abstractions
-/// gives the same answer, and where for each smaller number some crossing is not defined. `Undefined`
-/// comes exactly where that is so for every number. `NoMemory`: no memory was found.
+/// `Exit` and `Budget` come exactly where `walk` for `lams` abstractions gives the same answer, and for
+/// each smaller number a crossing is not defined. `Undefined` comes exactly where that is so for every
+/// number. `NoMemory`: no memory was found.
 pub fn walk_open<L: Ledger>(
     net: &Net,
     values: &mut Values,
@@ -75,10 +74,10 @@ pub fn walk_open<L: Ledger>(
     requires port { from < net.now.free }
     requires held { AreHeld values.old levels.items }
     ensures extends { Extends values.old values.new }
-    ensures held { IfOk result (λ w. IsHeldOpenExit values.new w) }
-    ensures exit { IfOk result (λ w. OpenExitsExactly (net_of net.now) from (map (value values.old) levels.items) edges values.new w) }
-    ensures undefined { IfOk result (λ w. OpenStopsExactly (net_of net.now) from (map (value values.old) levels.items) edges w) }
-    ensures budget { IfOk result (λ w. OpenStandsExactly (net_of net.now) from (map (value values.old) levels.items) edges w) }
+    ensures held { IfOk result (IsHeldOpenExit values.new) }
+    ensures exit { IfOk result (OpenExits net.now from values.old levels.items edges values.new) }
+    ensures undefined { IfOk result (OpenStops net.now from values.old levels.items edges) }
+    ensures budget { IfOk result (OpenStands net.now from values.old levels.items edges) }
     ensures ticks { steps.new ≤ steps.old + edges }
 {
     net.is_net();
