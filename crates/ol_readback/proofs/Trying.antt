@@ -1,15 +1,14 @@
 -- What one walk for all numbers of abstractions says of a frame's head.
-use Rattle.std.proofs.Common.{◌≡◌, ℕ, suc, ◌<◌, ◌≤◌, List, map, refl, sym, ap, ◌∙◌, subst, arith}
+use Rattle.std.proofs.Common.{◌≡◌, ℕ, suc, ◌<◌, ◌≤◌, List, refl, sym, subst, arith}
 use Rattle.ol_net.specs.Nets.{NamedNet, free, IsNet}
-use Rattle.ol_context.specs.Contexts.{Level, Context}
-use Rattle.ol_context.specs.Shapes.{value, AreHeld, context_of}
-use Rattle.ol_context.specs.Ways.{Exits, Stands}
-use Rattle.ol_context.specs.OpenAnswers.{BreaksOff, AllBelowBreakOff, AllBreakOff, OpenExitsExactly, OpenStopsExactly, OpenStandsExactly}
+use Rattle.ol_context.specs.Contexts.{Level}
+use Rattle.ol_context.specs.Shapes.{context_of}
+use Rattle.ol_context.specs.OpenAnswers.{BreaksOff, AllBelowBreakOff, OpenExitsExactly, OpenStopsExactly, OpenStandsExactly}
 use Rattle.ol_context.specs.declared.answers.OpenWalk.{OpenWalk}
 use Rattle.ol_context.specs.declared.answers.OpenWalk.TheVariants as walk
 use Rattle.ol_context.proofs.Exits.{no_stop, no_stand_past}
 use Rattle.ol_readback.specs.Frames.{Frame, frame_at, asked}
-use Rattle.ol_readback.specs.Heads.{Answer, budget, no_head, IsMatched, IsHeadWithin, leaves, spends, never, live, Fails, FailsBelow, LeavesWithin}
+use Rattle.ol_readback.specs.Heads.{Answer, budget, no_head, IsMatched, IsHeadWithin, leaves, spends, never, live, Fails, FailsBelow}
 
 -- what the walk says of the frame
 pub record Tried (N : NamedNet ℕ) (f : Frame) (e : ℕ) (vs : List Level) (w : OpenWalk) : Type 0 where
