@@ -38,7 +38,7 @@ module _ (vs : List Level) (ns ms : List ℕ) (i : ℕ) where
   fallen_bracket None h = (h.0, λ s d b e. h.1 s d e)
   fallen_bracket (Some s) h = let e = h.0 in (omega arith, h.1)
 
-no_crossing : (k : Kind) (i : ℕ) (c : Context) → ((s : ℕ) (d : Context) → s < arity k → up k i s d ≡ c → ⊥) → NoCrossing k i 0 c
+pub no_crossing : (k : Kind) (i : ℕ) (c : Context) → ((s : ℕ) (d : Context) → s < arity k → up k i s d ≡ c → ⊥) → NoCrossing k i 0 c
 no_crossing k i c h t d (outward {s = s} b e) = h s d b e
 
 pub crossed_none : (vs : List Level) (k : Kind) (i s : ℕ) (ns ms : List ℕ) → s ≡ 0 → HasFallen k i vs ns ms None → IsCrossed k i s vs vs ns ms None

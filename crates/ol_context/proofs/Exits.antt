@@ -10,10 +10,10 @@ use Rattle.ol_context.specs.declared.answers.Walk.TheVariants.{Exit, Undefined, 
 use Rattle.ol_context.specs.Laws.{WalkIsOne}
 use Rattle.ol_context.proofs.Ways.{path_way, way_passes, way_one, ended, stopped}
 
-abbrev Three : ℕ → ℕ → Type 0
+abbrev pub Three : ℕ → ℕ → Type 0
 Three m n = ((m < n) ⊎ (m ≡ n)) ⊎ (n < m)
 
-three : (m n : ℕ) → Three m n
+pub three : (m n : ℕ) → Three m n
 three m n = grind arith
 
 module _ {A : Type 0} (N : NamedNet A) (is_net : IsNet N) (p : NamedPort A) (c : Context) where

@@ -4,11 +4,15 @@ pub mod Ways
 pub mod Exits
 pub mod LevelLists
 pub mod Shapes
+pub mod Once
+pub mod Leaves
+pub mod LeafMoves
+pub mod Passing
 pub mod ValueLists
 pub mod Marks
 pub mod Crossings
 pub mod Walked
-pub mod Compared
+pub mod OpenWalked
 pub mod Short
 pub mod Turning
 pub mod Facing

@@ -25,7 +25,7 @@ pub record Walking (g : Graph) (from : ℕ) (c : Context) (old vs : List Level) 
 abbrev pub IsNotFree : Port → Type 0
 IsNotFree q = (k : ℕ) → q ≡ Free k → ⊥
 
-through_port : (N : NamedNet ℕ) (p q : NamedPort ℕ) (c d : Context) → Through N p c q d → IsPort N q
+pub through_port : (N : NamedNet ℕ) (p q : NamedPort ℕ) (c d : Context) → Through N p c q d → IsPort N q
 through_port N p q c d (through {k = k} {i = i} h (inward b e)) = (k, i, h, omega arith)
 through_port N p q c d (through {k = k} {i = i} h (outward b e)) = (k, i, h, omega arith)
 

@@ -6,8 +6,12 @@ pub mod Codes
 pub mod Shapes
 pub mod Trees
 pub mod Crossed
-pub mod Comparing
 pub mod Answers
 pub mod Short
 pub mod Facing
+pub mod Asked
+pub mod Open
+pub mod Leaves
+pub mod Passed
+pub mod OpenAnswers
 pub mod Laws

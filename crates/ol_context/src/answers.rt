@@ -28,3 +28,27 @@ pub enum Walk {
     /// All crossings that were allowed were made, and the walk stands at a node.
     Budget,
 }
+
+/// What the walk that asks for all numbers of abstractions answers.
+#[derive(Drop)]
+pub enum OpenWalk {
+    /// Asked for `lams` abstractions the walk reaches the free port with number `port`, with this
+    /// context, after so many crossings. Asked for fewer it tries a crossing that is not defined.
+    Exit {
+        lams: u64,
+        port: u32,
+        context: Context,
+        crossings: u64,
+    },
+    /// Whatever it is asked for, the walk tries a crossing that is not defined: at the latest the one
+    /// tried as number `crossings`, counted from 1. `lams` is the least number for which it is that one.
+    Undefined {
+        lams: u64,
+        crossings: u64,
+    },
+    /// Asked for `lams` abstractions the walk makes all crossings that are allowed and stands at a
+    /// node. Asked for fewer it tries a crossing that is not defined.
+    Budget {
+        lams: u64,
+    },
+}

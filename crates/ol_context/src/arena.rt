@@ -1,16 +1,16 @@
 //! The holder of level values.
 
-ghost use Rattle.std.specs.Prelude.{◌≡◌, ◌^◌, ◌<◌, ◌≤◌, ◌↔◌, [], ◌∷◌, length, IfOk, OnErr, IsTrue};
+ghost use Rattle.std.specs.Prelude.{◌≡◌, ◌≢◌, ◌^◌, ◌<◌, ◌≤◌, ◌↔◌, [], ◌∷◌, length, take, IfOk, OnErr, IsTrue};
 ghost use Rattle.ol_context.specs.Contexts.{empty, o, star, pair};
 ghost use Rattle.ol_context.specs.Shapes.{value, IsHeld, IsNumberOf, Extends, IsBelow, tree_of};
 
-use crate::comparing::are_same;
+use indexmap::IndexSet;
 use ol_io::NoMemory;
 use std::alloc::Global;
 use std::marker::Model;
 
 /// The number of a level value in its holder. Contracts see it as that number.
-#[derive(Clone, Copy)]
+#[derive(Clone, Copy, PartialEq, Eq, Hash)]
 pub struct Val {
     at: u32,
 }
@@ -34,7 +34,7 @@ impl Val {
 }
 
 /// A level value by its parts: `empty`, `o.v`, `*.v` or `<v,w>`.
-#[derive(Clone, Copy)]
+#[derive(Clone, Copy, PartialEq, Eq, Hash)]
 pub enum Shape {
     Empty,
     O(Val),
@@ -42,28 +42,28 @@ pub enum Shape {
     Pair(Val, Val),
 }
 
-/// Level values, each named by a `Val`. Contracts see the list of the values, by number.
+/// Level values, each held once and named by a `Val`. Contracts see the list of the values, by number.
 ///
-/// No call takes a value away, so each `Val` keeps its value. There are at most 4294967295 values.
+/// Each `Val` keeps its value, until `cut` takes it away. There are at most 4294967295 values.
 #[derive(Drop)]
 pub struct Values {
     // number 0 is the empty value, number k + 1 has shape k
-    shapes: Vec<Shape>,
+    shapes: IndexSet<Shape>,
 }
 
 impl Model for Values {
     ghost use Rattle.std.specs.Prelude.{◌^◌, ◌<◌, List, length};
     ghost use Rattle.ol_context.specs.Contexts.{Level};
     ghost use Rattle.ol_context.specs.Codes.{levels_code};
-    ghost use Rattle.ol_context.specs.Trees.{trees, IsRow};
+    ghost use Rattle.ol_context.specs.Trees.{trees, IsRow, AreOnce};
 
     ghost Value = { List Level };
 
     ghost coded = { levels_code };
 
-    ghost view = { λ a. trees a.shapes.items };
+    ghost view = { λ a. trees a.shapes.keys };
 
-    ghost invariant = { λ a. IsRow 1 a.shapes.items × (length a.shapes.items < 4294967295) };
+    ghost invariant = { λ a. IsRow 1 a.shapes.keys × AreOnce a.shapes.keys × (length a.shapes.keys < 4294967295) };
 }
 
 impl Values {
@@ -72,7 +72,7 @@ impl Values {
         ensures { result ≡ empty ∷ [] }
     {
         Values {
-            shapes: Vec::new(alloc),
+            shapes: IndexSet::new(alloc),
         }
     }
 
@@ -81,6 +81,24 @@ impl Values {
         ensures few { length self.now < 2 ^ 32 }
     {
         let _ = &self.shapes;
+    }
+
+    /// How many values there are.
+    pub fn count(&self) -> u32
+        ensures is { result ≡ length self.now }
+        ensures some { 0 < result }
+    {
+        let _ = &self.shapes;
+        self.shapes.len() as u32 + 1
+    }
+
+    /// Keeps the first `count` values, of which there is at least one, and takes the others away.
+    pub fn cut(&mut self, count: u32)
+        requires { 0 < count }
+        ensures { self.new ≡ take count self.old }
+    {
+        let _ = &self.shapes;
+        self.shapes.truncate(count as usize - 1);
     }
 
     /// The empty value. Takes no memory.
@@ -103,12 +121,15 @@ impl Values {
         if at == 0 {
             return Shape::Empty;
         }
-        let at = at - 1;
-        self.shapes[at]
+        let Some(shape) = self.shapes.get_index(at - 1) else {
+            unreachable!()
+        };
+        *shape
     }
 
     fn put(&mut self, shape: Shape) -> Result<Val, NoMemory>
-        requires { IsBelow (length self.old) shape }
+        requires below { IsBelow (length self.old) shape }
+        requires full { shape ≢ Shape.Empty }
         ensures extends { Extends self.old self.new }
         ensures new { IfOk result (λ w. IsNumberOf self.new w (tree_of self.old shape)) }
         ensures err { OnErr result (self.new ≡ self.old) }
@@ -117,11 +138,12 @@ impl Values {
         if count >= 4294967294 {
             return Err(NoMemory);
         }
-        let at = (count + 1) as u32;
-        let Ok(()) = self.shapes.push(shape) else {
+        let Ok((at, _)) = self.shapes.insert_full(shape) else {
             return Err(NoMemory);
         };
-        Ok(Val { at })
+        Ok(Val {
+            at: (at + 1) as u32,
+        })
     }
 
     /// The value `o.v`, of a value of this holder. Earlier values stay.
@@ -161,16 +183,24 @@ impl Values {
         self.put(Shape::Pair(a, b))
     }
 
-    /// Whether two values of this holder are equal as trees. Equal values may have two numbers. The
-    /// trees are gone through together, down to parts that have the same number.
-    ///
-    /// `NoMemory`: no memory was found for what is still to be compared.
+    /// Whether two values of this holder are equal as trees: exactly where they are one number. Takes no
+    /// memory.
+    pub fn equal(&self, a: Val, b: Val) -> bool
+        requires first { IsHeld self.now a }
+        requires second { IsHeld self.now b }
+        ensures trees { IsTrue result ↔ (value self.now a ≡ value self.now b) }
+        ensures numbers { IsTrue result ↔ (a ≡ b) }
+    {
+        let _ = &self.shapes;
+        a.at == b.at
+    }
+
+    /// Whether two values of this holder are equal as trees, as `equal` says.
     pub fn same(&self, a: Val, b: Val) -> Result<bool, NoMemory>
         requires first { IsHeld self.now a }
         requires second { IsHeld self.now b }
         ensures { IfOk result (λ r. IsTrue r ↔ (value self.now a ≡ value self.now b)) }
     {
-        let alloc = *self.shapes.allocator();
-        are_same(alloc, self, a, b)
+        Ok(self.equal(a, b))
     }
 }

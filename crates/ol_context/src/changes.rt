@@ -13,7 +13,7 @@ use ol_io::NoMemory;
 use ol_net::Kind;
 
 // Makes the list at least `n` levels long.
-fn reach(levels: &mut Vec<Val>, n: usize, none: Val) -> Result<(), NoMemory>
+pub fn reach(levels: &mut Vec<Val>, n: usize, none: Val) -> Result<(), NoMemory>
     ensures ok { OnOk result (levels.new.items ≡ levels.old.items ++ replicate (n - length levels.old.items) none) }
     ensures err { OnErr result (levels.new.items ≡ levels.old.items) }
 {
@@ -26,7 +26,7 @@ fn reach(levels: &mut Vec<Val>, n: usize, none: Val) -> Result<(), NoMemory>
     Ok(())
 }
 
-fn insert(levels: &mut Vec<Val>, i: usize, v: Val) -> Result<(), NoMemory>
+pub fn insert(levels: &mut Vec<Val>, i: usize, v: Val) -> Result<(), NoMemory>
     requires { i ≤ length levels.old.items }
     ensures ok { OnOk result (levels.new.items ≡ inserted levels.old.items i v) }
     ensures err { OnErr result (levels.new.items ≡ levels.old.items) }
@@ -49,7 +49,7 @@ fn put_marked(values: &mut Values, s: u8, v: Val) -> Result<Val, NoMemory>
     }
 }
 
-fn mark_up(values: &mut Values, levels: &mut Vec<Val>, i: usize, s: u8) -> Result<(), NoMemory>
+pub fn mark_up(values: &mut Values, levels: &mut Vec<Val>, i: usize, s: u8) -> Result<(), NoMemory>
     requires held { AreHeld values.old levels.old.items }
     requires small { i < 4294967296 }
     ensures extends { Extends values.old values.new }
@@ -86,7 +86,7 @@ fn mark_down(values: &Values, levels: &mut Vec<Val>, i: usize) -> Option<u8>
     }
 }
 
-fn croissant_up(values: &Values, levels: &mut Vec<Val>, i: usize) -> Result<(), NoMemory>
+pub fn croissant_up(values: &Values, levels: &mut Vec<Val>, i: usize) -> Result<(), NoMemory>
     requires { AreHeld values.now levels.old.items }
     ensures ok { OnOk result (Becomes values.now values.now levels.old.items levels.new.items (at_level i (cons empty))) }
     ensures err { OnErr result (levels.new.items ≡ levels.old.items) }
@@ -118,7 +118,7 @@ fn croissant_down(values: &Values, levels: &mut Vec<Val>, i: usize) -> Option<u8
     }
 }
 
-fn bracket_up(values: &mut Values, levels: &mut Vec<Val>, i: usize) -> Result<(), NoMemory>
+pub fn bracket_up(values: &mut Values, levels: &mut Vec<Val>, i: usize) -> Result<(), NoMemory>
     requires held { AreHeld values.old levels.old.items }
     requires small { i < 4294967296 }
     ensures extends { Extends values.old values.new }

@@ -16,7 +16,7 @@ use ol_net::{Kind, Net, Port};
 
 // Enters a node of this kind and index by a slot, and changes the levels. The answer is the slot by
 // which the walk leaves.
-fn cross_node(
+pub fn cross_node(
     values: &mut Values,
     levels: &mut Vec<Val>,
     kind: Kind,

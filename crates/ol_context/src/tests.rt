@@ -57,16 +57,21 @@ pub fn tower(values: &mut Values, count: u32, v: Val) -> Result<Val, NoMemory>
     Ok(top)
 }
 
+/// Equal values are one number, however they were made.
 #[test]
 fn compares_trees(rt: HostRuntime) -> Result<(), Fail> {
     let mut values = Values::new(rt.alloc());
     let empty = values.empty();
-    let first = values.put_o(empty)?;
-    let second = values.put_o(empty)?;
+    let first = values.put_pair(empty, empty)?;
+    let second = values.put_pair(empty, empty)?;
+    assert!(rt; values.equal(first, second));
     assert!(rt; values.same(first, second)?);
-    let both = values.put_pair(empty, empty)?;
-    let star = values.put_star(both)?;
-    assert!(rt; !values.same(first, star)?);
+    let o = values.put_o(empty)?;
+    assert!(rt; !values.equal(first, o));
+    let star = values.put_star(first)?;
+    let other = values.put_star(second)?;
+    assert!(rt; values.equal(star, other));
+    assert!(rt; !values.equal(star, o));
     Ok(())
 }
 
@@ -78,8 +83,8 @@ fn holds_deep_values(rt: HostRuntime) -> Result<(), Fail> {
     let first = tower(&mut values, 100_000, empty)?;
     let second = tower(&mut values, 100_000, empty)?;
     let third = tower(&mut values, 99_999, empty)?;
-    assert!(rt; values.same(first, second)?);
-    assert!(rt; !values.same(second, third)?);
+    assert!(rt; values.equal(first, second));
+    assert!(rt; !values.equal(second, third));
     Ok(())
 }
 

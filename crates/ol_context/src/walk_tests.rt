@@ -52,7 +52,7 @@ fn leaves(
 }
 
 /// The net of `\x. f x`.
-fn applied_name(alloc: Global) -> Result<Net, Fail> {
+pub fn applied_name(alloc: Global) -> Result<Net, Fail> {
     let nodes = vec![in alloc;
         (Kind::Lam, 0),
         (Kind::App, 0),
@@ -92,7 +92,7 @@ fn walks_to_a_name(rt: HostRuntime) -> Result<(), Fail> {
 }
 
 /// The net of `x x`.
-fn shared_name(alloc: Global) -> Result<Net, Fail> {
+pub fn shared_name(alloc: Global) -> Result<Net, Fail> {
     let nodes = vec![in alloc;
         (Kind::App, 0),
         (Kind::Croissant, 0),
@@ -162,7 +162,7 @@ fn twice_twice_nodes(alloc: Global) -> Result<Vec<(Kind, u32)>, Fail>
 }
 
 /// The net of `(\t. t t) (\f x. f (f x))`.
-fn twice_twice(alloc: Global) -> Result<Net, Fail> {
+pub fn twice_twice(alloc: Global) -> Result<Net, Fail> {
     let nodes = twice_twice_nodes(alloc)?;
     let links = vec![in alloc;
         (Port::Free(0), of(0, 1)),
@@ -218,7 +218,7 @@ fn walks_with_nested_levels(rt: HostRuntime) -> Result<(), Fail> {
 }
 
 /// The net of `(\x. x x) (\y. y)`.
-fn applied_to_itself(alloc: Global) -> Result<Net, Fail> {
+pub fn applied_to_itself(alloc: Global) -> Result<Net, Fail> {
     let nodes = vec![in alloc;
         (Kind::App, 0),
         (Kind::Lam, 0),

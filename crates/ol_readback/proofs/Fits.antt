@@ -8,8 +8,7 @@ use Rattle.ol_context.proofs.Contexts.{eta, cons_eq}
 use Rattle.ol_context.proofs.LevelLists.{levels_cons}
 use Rattle.ol_readback.specs.Frames.{os}
 use Rattle.ol_readback.specs.Matching.{Fits}
-use Rattle.ol_context.specs.Comparing.{IsNoO, IsNoStar}
-use Rattle.ol_readback.specs.Fitting.{IsFit, BeginsWith, BeginsNotWith, IsMark, IsCount, IsLastCount, IsNameOf}
+use Rattle.ol_readback.specs.Fitting.{IsNoO, IsNoStar, IsFit, BeginsWith, BeginsNotWith, IsMark, IsCount, IsLastCount, IsNameOf}
 
 pub os_o : (n : ℕ) (v : Level) → os n (o v) ≡ os (n + 1) v
 os_o zero v = refl

@@ -2,6 +2,8 @@ pub mod Fits
 pub mod FrameLists
 pub mod Climbing
 pub mod Trying
+pub mod Skips
+pub mod Dropped
 pub mod Forests
 pub mod GroupLists
 pub mod Places

@@ -1,5 +1,5 @@
 -- One answer to each question.
-use Rattle.std.proofs.Common.{◌≡◌, ℕ, suc, ◌<◌, ◌⊎◌, ◌↔◌, inl, inr, List, [], ◌∷◌, ◌++◌, length, map, Some, None, refl, sym, ap, ◌∙◌, subst, arith}
+use Rattle.std.proofs.Common.{◌≡◌, ℕ, suc, ◌<◌, ◌≤◌, ◌⊎◌, ◌↔◌, inl, inr, List, [], ◌∷◌, ◌++◌, length, map, Some, None, refl, sym, ap, ◌∙◌, subst, arith}
 use Rattle.ol_net.specs.Nets.{NamedNet, free, IsNet}
 use Rattle.ol_context.specs.Contexts.{Level, empty, star, Context, levels}
 use Rattle.ol_context.specs.Paths.{Path}
@@ -8,7 +8,7 @@ use Rattle.ol_context.specs.Ways.{Stands}
 use Rattle.ol_context.proofs.Exits.{path_one, no_stand}
 use Rattle.ol_readback.specs.Frames.{Frame, frame_at, os, asked}
 use Rattle.ol_readback.specs.Matching.{Fits, Matches, here, above, name, MatchesNothing}
-use Rattle.ol_readback.specs.Heads.{Answer, head, no_head, budget, IsMatched, matched, unmatched, IsHead, IsHeadWithin, spends, live, Fails, FailsBelow, LeavesWithin, MeetsBudget, HasNoHead, answer_of}
+use Rattle.ol_readback.specs.Heads.{Answer, head, no_head, budget, IsMatched, matched, unmatched, IsHead, IsHeadWithin, spends, live, Fails, FailsBelow, LeavesWithin, answer_of}
 use Rattle.ol_readback.specs.Heads as heads
 use Rattle.ol_readback.specs.Trees.{Subterm, framed, port_of, arguments, Reads, end, past, spent, lost, found}
 use Rattle.ol_readback.specs.Laws.{ExitIsOne, HeadIsOne, HeadWithinIsOne, TreeIsOne}
@@ -169,11 +169,6 @@ is_no_head vs (code.Is l v k m) e = let z : head l v k (map (value vs) m) ≡ no
 is_no_head vs code.NoHead e = refl
 is_no_head vs code.Budget e = let z : budget ≡ no_head = e in absurd (cc)
 
-pub is_budget : (vs : List Level) (h : Head) → answer_of vs h ≡ budget → h ≡ code.Budget
-is_budget vs (code.Is l v k m) e = let z : head l v k (map (value vs) m) ≡ budget = e in absurd (cc)
-is_budget vs code.NoHead e = let z : no_head ≡ budget = e in absurd (cc)
-is_budget vs code.Budget e = refl
-
 -- exactly where leaving has no head
 nothing : {F : List Frame} {i n q : ℕ} {X : Context} → IsMatched F i n q X no_head → MatchesNothing F q X i n
 nothing (unmatched z) = z
@@ -194,27 +189,13 @@ left_no_head F i n q X vs h m = (
 pub left_no_budget : (F : List Frame) (i n q : ℕ) (X : Context) (vs : List Level) (h : Head) → IsMatched F i n q X (answer_of vs h) → h ≡ code.Budget → ⊥
 left_no_budget F i n q X vs h m e = never_budget (subst (λ (h : Head). IsMatched F i n q X (answer_of vs h)) e m)
 
--- exactly where asking has none, and where it meets the budget
-meets : {A : Type 0} {N : NamedNet A} {F : List Frame} {i edges : ℕ} {a : Answer} → IsHeadWithin N F i edges a → a ≡ budget → MeetsBudget N (frame_at F i) edges
+-- each answer comes exactly where it is the head
+pub answer_exactly : {A : Type 0} (N : NamedNet A) → IsNet N → (F : List Frame) (i edges : ℕ) (a : Answer) → IsHeadWithin N F i edges a → (b : Answer) → (a ≡ b) ↔ IsHeadWithin N F i edges b
+answer_exactly N is_net F i edges a h b = (λ e. subst (IsHeadWithin N F i edges) e h, λ k. within_one N is_net edges F i a b h k)
+
+-- where the budget is met, a try makes all its crossings
+pub meets : {A : Type 0} {N : NamedNet A} {F : List Frame} {i edges : ℕ} {a : Answer} → IsHeadWithin N F i edges a → a ≡ budget →
+    (n : ℕ) × (n ≤ live N) × FailsBelow N (frame_at F i) edges n × Stands N (free (frame_at F i).port) (asked (frame_at F i).levels n) edges
 meets (heads.leaves {n = n} {q = q} {X = X} b h w m) e = absurd (never_budget (subst (IsMatched _ _ n q X) e m))
 meets (spends {n = n} b h s) e = (n, b, h, s)
 meets (heads.never z) e = absurd (cc)
-
-lacks : {A : Type 0} {N : NamedNet A} {F : List Frame} {i edges : ℕ} {a : Answer} → IsHeadWithin N F i edges a → a ≡ no_head → HasNoHead N F i edges
-lacks (heads.leaves {n = n} {q = q} {X = X} b h w m) e = inr (n, q, X, b, h, w, nothing (subst (IsMatched _ _ n q X) e m))
-lacks (spends {n = n} b h s) e = absurd (cc)
-lacks (heads.never z) e = inl z
-
-module _ {A : Type 0} (N : NamedNet A) (is_net : IsNet N) (F : List Frame) (i edges : ℕ) (vs : List Level) (h : Head) (a : IsHeadWithin N F i edges (answer_of vs h)) where
-  pub asked_budget : (h ≡ code.Budget) ↔ MeetsBudget N (frame_at F i) edges
-  asked_budget = (
-    λ e. meets (subst (λ (h : Head). IsHeadWithin N F i edges (answer_of vs h)) e a) refl,
-    λ m. is_budget vs h (within_one N is_net edges F i (answer_of vs h) budget a (spends {n = m.0} m.1 m.2 m.3)),
-  )
-
-  pub asked_no_head : (h ≡ code.NoHead) ↔ HasNoHead N F i edges
-  asked_no_head = (λ e. lacks (subst (λ (h : Head). IsHeadWithin N F i edges (answer_of vs h)) e a) refl, λ m. is_no_head vs h (within_one N is_net edges F i (answer_of vs h) no_head a (has m)))
-    where
-      has : HasNoHead N F i edges → IsHeadWithin N F i edges no_head
-      has (inl z) = heads.never z
-      has (inr m) = heads.leaves m.3 m.4 m.5 (unmatched m.6)

@@ -6,7 +6,7 @@ use Rattle.ol_context.specs.Paths.{HaveSamePaths}
 use Rattle.ol_context.specs.Short.{HasNoFacing, live}
 use Rattle.ol_context.proofs.Turning.{goes_on}
 use Rattle.ol_readback.specs.Frames.{Frame, frame_at, asked}
-use Rattle.ol_readback.specs.Heads.{Answer, head, no_head, NoPath, IsHead, IsHeadWithin, spends, answer_of, MeetsBudget}
+use Rattle.ol_readback.specs.Heads.{Answer, head, no_head, NoPath, IsHead, IsHeadWithin, spends, answer_of}
 use Rattle.ol_readback.specs.Heads as heads
 use Rattle.ol_readback.specs.Sources.{HaveHeadsOf, NoHeadIsNoHead, PrintedHeads, MeetsRing}
 use Rattle.ol_readback.specs.Sources as sources
@@ -17,6 +17,7 @@ use Rattle.ol_readback.specs.declared.answers.Head.TheVariants as code
 use Rattle.ol_readback.specs.declared.answers.ReadNode.{ReadNode}
 use Rattle.ol_readback.specs.declared.answers.ReadNode.TheVariants as node
 use Rattle.ol_readback.proofs.Enough.{few_are_enough}
+use Rattle.ol_readback.proofs.One.{meets}
 use Rattle.ol_readback.proofs.Kept.{heads_are_kept, found_is_head, no_path}
 
 -- no head within a budget
@@ -73,5 +74,7 @@ module _ (N : NamedNet ℕ) (is_net : IsNet N) (F : List Frame) (i e : ℕ) (vs 
   pub asked_lost : (h : Head) → IsHeadWithin N F i e (answer_of vs h) → h ≡ code.NoHead → HasNoFacing N → IsHead N F i no_head
   asked_lost h w q apart = no_head_is N is_net apart F i e (subst (λ h. IsHeadWithin N F i e (answer_of vs h)) q w)
 
-  pub asked_ring : MeetsBudget N (frame_at F i) e → HasNoFacing N → 2 * live N ≤ e → MeetsRing N (frame_at F i) e
-  asked_ring m apart b = (m.0, m.1, m.2, λ made. goes_on N is_net apart (frame_at F i).port (asked (frame_at F i).levels m.0) e b m.3 made)
+  pub asked_ring : (h : Head) → IsHeadWithin N F i e (answer_of vs h) → h ≡ code.Budget → HasNoFacing N → 2 * live N ≤ e → MeetsRing N (frame_at F i) e
+  asked_ring h w q apart b =
+      let m = meets (subst (λ h. IsHeadWithin N F i e (answer_of vs h)) q w) refl in
+      (m.0, m.1, m.2, λ made. goes_on N is_net apart (frame_at F i).port (asked (frame_at F i).levels m.0) e b m.3 made)

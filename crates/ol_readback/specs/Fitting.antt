@@ -1,12 +1,17 @@
 -- What an exit says against one frame.
 use Rattle.std.specs.Prelude.{◌≡◌, ℕ, ◌<◌, ◌≤◌, List, [], ◌∷◌, length, Option, Some, None, slice_index_or}
-use Rattle.ol_context.specs.Contexts.{Level, empty, star, Context}
-use Rattle.ol_context.specs.Comparing.{IsNoO}
+use Rattle.ol_context.specs.Contexts.{Level, empty, o, star, Context}
 use Rattle.ol_context.specs.Shapes.{value}
 use Rattle.ol_readback.specs.Frames.{os, Frame}
 use Rattle.ol_readback.specs.Matching.{Fits, NoFit, IsOpen}
 use Rattle.ol_readback.specs.Heads.{Answer, head, no_head}
 use Rattle.ol_readback.specs.declared.answers.HeadVar.TheVariants as var
+
+abbrev pub IsNoO : Level → Type 0
+IsNoO v = (w : Level) → v ≡ o w → ⊥
+
+abbrev pub IsNoStar : Level → Type 0
+IsNoStar v = (w : Level) → v ≡ star w → ⊥
 
 abbrev pub IsSomeStar : Level → Type 0
 IsSomeStar v = (d : Level) × (v ≡ star d)

@@ -1,13 +1,9 @@
 -- Frames, and what is asked of them.
-use Rattle.std.specs.Prelude.{◌≡◌, ℕ, zero, suc, ◌<◌, List, [], ◌∷◌, ◌++◌, map, Option, Some, None, slice_index_or}
-use Rattle.ol_context.specs.Contexts.{Level, empty, o, Context, levels}
+use Rattle.std.specs.Prelude.{◌≡◌, ℕ, ◌<◌, List, [], ◌∷◌, map, Option, Some, None, slice_index_or}
+use Rattle.ol_context.specs.Contexts.{Level}
+pub use Rattle.ol_context.specs.Asked.{os, asked}
 use Rattle.ol_context.specs.Shapes.{value, AreHeld}
 use Rattle.ol_readback.specs.declared.frames.Frame as code
-
--- o n times before a value
-abbrev pub os : ℕ → Level → Level
-os zero v = v
-os (suc n) v = o (os n v)
 
 -- A frame: a free port, the levels that each question to it begins with, the number of the frame round it, and the number
 -- of abstractions of the head that was found there.
@@ -28,10 +24,6 @@ frame_at frames i = slice_index_or frames i root
 -- each parent stands before its child
 abbrev pub ParentsFirst : List Frame → Type 0
 ParentsFirst frames = (i p : ℕ) → (frame_at frames i).parent ≡ Some p → p < i
-
--- The question for n abstractions: the frame's levels, then n times o before empty, then empty levels.
-abbrev pub asked : List Level → ℕ → Context
-asked ls n = levels (ls ++ os n empty ∷ [])
 
 -- the frame that has the levels of these numbers
 abbrev pub frame_of : List Level → code.Frame → Frame

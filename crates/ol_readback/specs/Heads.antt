@@ -1,5 +1,5 @@
 -- The head of a frame: the least number of abstractions for which a walk leaves the net, and what its exit says.
-use Rattle.std.specs.Prelude.{ℕ, suc, ◌<◌, ◌≤◌, ◌⊎◌, List, map}
+use Rattle.std.specs.Prelude.{ℕ, suc, ◌<◌, ◌≤◌, List, map}
 use Rattle.ol_net.specs.Nets.{NamedNet, free}
 use Rattle.ol_context.specs.Contexts.{Level, Context}
 use Rattle.ol_context.specs.Paths.{Path}
@@ -69,14 +69,3 @@ abbrev pub IsHeldHead : List Level → Head → Type 0
 IsHeldHead vs (code.Is lams v args at) = AreHeld vs at
 IsHeldHead vs code.NoHead = Unit {0}
 IsHeldHead vs code.Budget = Unit {0}
-
--- Some try makes all its crossings and stands at a node, and none before it leaves.
-abbrev pub MeetsBudget : {A : Type 0} → NamedNet A → Frame → ℕ → Type 0
-MeetsBudget N f edges = (n : ℕ) × (n ≤ live N) × FailsBelow N f edges n × Stands N (free f.port) (asked f.levels n) edges
-
--- All tries fail, or the first that doesn't leaves and nothing matches its exit.
-abbrev pub HasNoHead : {A : Type 0} → NamedNet A → List Frame → ℕ → ℕ → Type 0
-HasNoHead N frames i edges =
-    FailsBelow N (frame_at frames i) edges (suc (live N)) ⊎
-    ((n : ℕ) × (q : ℕ) × (X : Context) × (n ≤ live N) × FailsBelow N (frame_at frames i) edges n
-    × LeavesWithin N (frame_at frames i).port (asked (frame_at frames i).levels n) edges q X × MatchesNothing frames q X i n)

@@ -9,6 +9,8 @@ pub mod Reading
 pub mod Texts
 pub mod Printing
 pub mod Sources
+pub mod Asking
+pub mod Skipping
 pub mod Laws
 pub mod Terms
 pub mod PrintedLaws

@@ -1,32 +1,193 @@
 //! Asking a frame for its head.
 
-ghost use Rattle.std.specs.Prelude.{◌≡◌, ◌≢◌, ◌<◌, ◌≤◌, ◌*◌, ◌↔◌, length, IfOk};
-ghost use Rattle.ol_net.specs.Numbered.{net_of};
+ghost use Rattle.std.specs.Prelude.{◌≡◌, ◌<◌, ◌≤◌, ◌+◌, length, IfOk};
 ghost use Rattle.ol_context.specs.Shapes.{Extends};
-ghost use Rattle.ol_context.specs.Short.{HasNoFacing, live};
-ghost use Rattle.ol_readback.specs.Frames.{frame_at, frames_of, ParentsFirst, AreHeldFrames, AreAtPorts};
-ghost use Rattle.ol_readback.specs.Heads.{IsHead, no_head, IsHeadWithin, HasNoHead, MeetsBudget, answer_of, IsHeldHead};
-ghost use Rattle.ol_readback.specs.Sources.{MeetsRing};
-ghost use Rattle.ol_readback.specs.declared.answers.Head.TheVariants.{NoHead, Budget};
+ghost use Rattle.ol_readback.specs.Frames.{frames_of, ParentsFirst, AreHeldFrames, AreAtPorts};
+ghost use Rattle.ol_readback.specs.Heads.{IsHeldHead};
+ghost use Rattle.ol_readback.specs.Skipping.{AreSkipsOf};
+ghost use Rattle.ol_readback.specs.Asking.{IsAsked, IsAnswer, IsHeadIfFound, IsLostIfNoHead, IsRingIfBudget, KeepsFirst, IsUnchangedUnlessFound};
 
 use crate::answers::Head;
 use crate::frames::Frame;
-use crate::leaving::{leave, question};
-use ol_context::{Values, Walk, walk};
+use crate::leaving::{copied, leave_by};
+use ol_context::{OpenWalk, Steps, Values, walk_open};
 use ol_io::NoMemory;
 use ol_net::Net;
 use std::alloc::Global;
+use std::marker::Brand;
+use std::sync::ledger::{Blank, Ledger};
 
-/// The head of frame `at`: asks it for 0, 1, 2 abstractions and so on, up to the number of live
-/// nodes, each time by a walk of at most `edges` crossings, until one leaves the net.
+// What one walk for all numbers of abstractions says of frame `at`.
+fn ask<L: Ledger>(
+    alloc: Global,
+    net: &Net,
+    values: &mut Values,
+    frames: &Vec<Frame>,
+    skips: &Vec<Option<u32>>,
+    at: u32,
+    edges: u64,
+    steps: &mut Steps<L>,
+) -> Result<Head, NoMemory>
+    requires at { at < length frames.now.items }
+    requires parents { ParentsFirst (frames_of values.old frames.now.items) }
+    requires frames { AreHeldFrames values.old frames.now.items }
+    requires ports { AreAtPorts net.now.free frames.now.items }
+    requires skips { AreSkipsOf frames.now.items skips.now.items }
+    ensures answer { IfOk result (IsAsked net.now values.old frames.now.items at edges values.new) }
+    ensures held { IfOk result (IsHeldHead values.new) }
+    ensures extends { Extends values.old values.new }
+    ensures ticks { steps.new ≤ steps.old + edges }
+{
+    net.is_net();
+    let frame = &frames[at as usize];
+    let top = net.nodes();
+    let levels = copied(alloc, &frame.levels)?;
+    let walked = walk_open(net, values, frame.port, levels, edges, steps)?;
+    match walked {
+        OpenWalk::Exit {
+            lams,
+            port,
+            context,
+            ..
+        } => {
+            if lams > top as u64 {
+                return Ok(Head::NoHead);
+            }
+            let left = leave_by(
+                alloc,
+                values,
+                frames,
+                skips,
+                at,
+                lams as u32,
+                port,
+                &context,
+            )?;
+            Ok(left)
+        }
+        OpenWalk::Budget { lams } => {
+            if lams > top as u64 {
+                return Ok(Head::NoHead);
+            }
+            Ok(Head::Budget)
+        }
+        OpenWalk::Undefined { .. } => Ok(Head::NoHead),
+    }
+}
+
+// Takes the values from number `count` on away, unless a head was found, which may refer to them.
+fn drop_unused(values: &mut Values, count: u32, answer: &Head)
+    requires { 0 < count }
+    ensures { KeepsFirst count values.old values.new answer.now }
+{
+    match answer {
+        Head::Is { .. } => {}
+        Head::NoHead => values.cut(count),
+        Head::Budget => values.cut(count),
+    }
+}
+
+// The same, and where no head was found, no value stays that the walk put in.
+fn ask_and_drop<L: Ledger>(
+    alloc: Global,
+    net: &Net,
+    values: &mut Values,
+    frames: &Vec<Frame>,
+    skips: &Vec<Option<u32>>,
+    at: u32,
+    edges: u64,
+    steps: &mut Steps<L>,
+) -> Result<Head, NoMemory>
+    requires at { at < length frames.now.items }
+    requires parents { ParentsFirst (frames_of values.old frames.now.items) }
+    requires frames { AreHeldFrames values.old frames.now.items }
+    requires ports { AreAtPorts net.now.free frames.now.items }
+    requires skips { AreSkipsOf frames.now.items skips.now.items }
+    ensures answer { IfOk result (IsAsked net.now values.old frames.now.items at edges values.new) }
+    ensures held { IfOk result (IsHeldHead values.new) }
+    ensures unchanged { IfOk result (IsUnchangedUnlessFound values.old values.new) }
+    ensures extends { Extends values.old values.new }
+    ensures ticks { steps.new ≤ steps.old + edges }
+{
+    let count = values.count();
+    let answer = ask(alloc, net, values, frames, skips, at, edges, steps)?;
+    drop_unused(values, count, &answer);
+    Ok(answer)
+}
+
+/// The head of frame `at`: asks it for all numbers of abstractions at once, by one walk of at most
+/// `edges` crossings, which it counts.
+///
+/// The answer, and what has to hold, are those of `head`.
+pub fn head_counted<L: Ledger>(
+    alloc: Global,
+    net: &Net,
+    values: &mut Values,
+    frames: &Vec<Frame>,
+    at: u32,
+    edges: u64,
+    steps: &mut Steps<L>,
+) -> Result<Head, NoMemory>
+    requires at { at < length frames.now.items }
+    requires parents { ParentsFirst (frames_of values.old frames.now.items) }
+    requires frames { AreHeldFrames values.old frames.now.items }
+    requires ports { AreAtPorts net.now.free frames.now.items }
+    ensures answer { IfOk result (IsAnswer net.now values.old frames.now.items at edges values.new) }
+    ensures found { IfOk result (IsHeadIfFound net.now values.old frames.now.items at values.new) }
+    ensures lost { IfOk result (IsLostIfNoHead net.now values.old frames.now.items at) }
+    ensures ring { IfOk result (IsRingIfBudget net.now values.old frames.now.items at edges) }
+    ensures held { IfOk result (IsHeldHead values.new) }
+    ensures unchanged { IfOk result (IsUnchangedUnlessFound values.old values.new) }
+    ensures extends { Extends values.old values.new }
+    ensures ticks { steps.new ≤ steps.old + edges }
+{
+    net.is_net();
+    let skips: Vec<Option<u32>> = Vec::new(alloc);
+    let answer = ask_and_drop(alloc, net, values, frames, &skips, at, edges, steps)?;
+    Ok(answer)
+}
+
+/// As `head`, with skips, and a ledger of at least one part for the crossings.
+pub fn head_by<L: Ledger>(
+    alloc: Global,
+    net: &Net,
+    values: &mut Values,
+    frames: &Vec<Frame>,
+    skips: &Vec<Option<u32>>,
+    at: u32,
+    edges: u64,
+    blank: Blank,
+) -> Result<Head, NoMemory>
+    requires at { at < length frames.now.items }
+    requires parents { ParentsFirst (frames_of values.old frames.now.items) }
+    requires frames { AreHeldFrames values.old frames.now.items }
+    requires ports { AreAtPorts net.now.free frames.now.items }
+    requires skips { AreSkipsOf frames.now.items skips.now.items }
+    requires name { blank.name ≡ L.name }
+    requires parts { blank.parts ≡ L.parts }
+    requires some { 0 < blank.parts }
+    ensures answer { IfOk result (IsAsked net.now values.old frames.now.items at edges values.new) }
+    ensures held { IfOk result (IsHeldHead values.new) }
+    ensures unchanged { IfOk result (IsUnchangedUnlessFound values.old values.new) }
+    ensures extends { Extends values.old values.new }
+{
+    let mut steps: Steps<L> = Steps::new(blank);
+    ask_and_drop(alloc, net, values, frames, skips, at, edges, &mut steps)
+}
+
+/// The head of frame `at`: what the least number of abstractions says for which a walk from it leaves
+/// the net. The numbers 0, 1, 2 and so on, up to the number of live nodes, are tried up to the first
+/// whose walk leaves, or makes all its `edges` crossings; one walk is made for all of them.
 ///
 /// `Is` is what the first exit says. `Budget` comes exactly where one of these walks made all its
 /// crossings without an exit. `NoHead` comes exactly where none did, and either none of them leaves
-/// or nothing matches the exit. An answer `Is` is the head by paths of any length. Where no two
-/// principal ports are linked, so is `NoHead`, and with a budget of at least twice the number of nodes
-/// `Budget` comes only where a walk goes on for ever. `NoMemory`: no memory was found. `at` is below the list's length,
-/// each parent stands before its child, each frame's port is a free port of the net, and all values
-/// are of this holder. Earlier values stay.
+/// or nothing matches the exit. Unless the answer is `Is` the holder is unchanged. `NoMemory`: no
+/// memory was found. `at` is below the list's length, each parent stands before its child, each
+/// frame's port is a free port of the net, and all values are of this holder. Earlier values stay.
+///
+/// An answer `Is` is the head by paths of any length. Where no two principal ports are linked, so is
+/// `NoHead`, and with a budget of at least twice the number of nodes `Budget` comes only where a walk
+/// goes on for ever.
 pub fn head(
     alloc: Global,
     net: &Net,
@@ -39,36 +200,17 @@ pub fn head(
     requires parents { ParentsFirst (frames_of values.old frames.now.items) }
     requires frames { AreHeldFrames values.old frames.now.items }
     requires ports { AreAtPorts net.now.free frames.now.items }
-    ensures answer { IfOk result (λ h. IsHeadWithin (net_of net.now) (frames_of values.old frames.now.items) at edges (answer_of values.new h)) }
-    ensures no_head { IfOk result (λ h. (h ≡ NoHead) ↔ HasNoHead (net_of net.now) (frames_of values.old frames.now.items) at edges) }
-    ensures budget { IfOk result (λ h. (h ≡ Budget) ↔ MeetsBudget (net_of net.now) (frame_at (frames_of values.old frames.now.items) at) edges) }
-    ensures found { IfOk result (λ h. h ≢ Budget → h ≢ NoHead → IsHead (net_of net.now) (frames_of values.old frames.now.items) at (answer_of values.new h)) }
-    ensures lost { IfOk result (λ h. h ≡ NoHead → HasNoFacing (net_of net.now) → IsHead (net_of net.now) (frames_of values.old frames.now.items) at no_head) }
-    ensures ring { IfOk result (λ h. h ≡ Budget → HasNoFacing (net_of net.now) → 2 * live (net_of net.now) ≤ edges → MeetsRing (net_of net.now) (frame_at (frames_of values.old frames.now.items) at) edges) }
-    ensures held { IfOk result (λ h. IsHeldHead values.new h) }
+    ensures answer { IfOk result (IsAnswer net.now values.old frames.now.items at edges values.new) }
+    ensures found { IfOk result (IsHeadIfFound net.now values.old frames.now.items at values.new) }
+    ensures lost { IfOk result (IsLostIfNoHead net.now values.old frames.now.items at) }
+    ensures ring { IfOk result (IsRingIfBudget net.now values.old frames.now.items at edges) }
+    ensures held { IfOk result (IsHeldHead values.new) }
+    ensures unchanged { IfOk result (IsUnchangedUnlessFound values.old values.new) }
     ensures extends { Extends values.old values.new }
 {
     net.is_net();
-    let frame = &frames[at as usize];
-    let top = net.nodes();
-    let mut hole = values.empty();
-    let mut n: u32 = 0;
-    loop {
-        let context = question(alloc, &frame.levels, hole)?;
-        let walked = walk(net, values, frame.port, context, edges)?;
-        match walked {
-            Walk::Exit { port, context, .. } => {
-                let left = leave(alloc, values, frames, at, n, port, &context)?;
-                return Ok(left);
-            }
-            Walk::Budget => return Ok(Head::Budget),
-            Walk::Undefined { .. } => {
-                if n >= top {
-                    return Ok(Head::NoHead);
-                }
-                hole = values.put_o(hole)?;
-                n += 1;
-            }
-        }
-    }
+    let skips: Vec<Option<u32>> = Vec::new(alloc);
+    let blank = Blank::new(1);
+    let answer = head_by::<Brand>(alloc, net, values, frames, &skips, at, edges, blank)?;
+    Ok(answer)
 }

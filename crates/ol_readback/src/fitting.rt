@@ -3,8 +3,7 @@
 ghost use Rattle.std.specs.Prelude.{◌≡◌, ℕ, ◌+◌, ◌^◌, ◌<◌, ◌≤◌, ◌↔◌, length, map, IfOk, IsTrue, MatchBool};
 ghost use Rattle.ol_context.specs.Contexts.{empty};
 ghost use Rattle.ol_context.specs.Shapes.{value, IsHeld, AreHeld, context_of};
-ghost use Rattle.ol_context.specs.Comparing.{IsNoStar};
-ghost use Rattle.ol_readback.specs.Fitting.{Stripped, IsFit, IsSomeStar, BeginsWith, BeginsNotWith, IsMark, IsCount, IsLastCount, IsNameOf};
+ghost use Rattle.ol_readback.specs.Fitting.{Stripped, IsFit, IsSomeStar, IsNoStar, BeginsWith, BeginsNotWith, IsMark, IsCount, IsLastCount, IsNameOf};
 
 use ol_context::{Context, Shape, Val, Values};
 use ol_io::NoMemory;

@@ -12,7 +12,7 @@ use std::alloc::Global;
 use std::process::Abort;
 use std::test::Fail;
 
-/// Asserts that an exit says a variable with one argument, and one level for its frame.
+/// Asserts that an exit says a variable with one argument, and one level for its frame, or no head.
 fn assert_left(
     rt: &impl Abort,
     alloc: Global,
@@ -21,7 +21,7 @@ fn assert_left(
     lams: u32,
     port: u32,
     context: &Context,
-    wanted: HeadVar,
+    wanted: Option<HeadVar>,
 ) -> Result<(), Fail>
     requires count { length frames.now.items ≡ 1 }
     requires parents { (vs : List Level) → ParentsFirst (frames_of vs frames.now.items) }
@@ -36,12 +36,12 @@ fn assert_left(
             at,
         } => {
             assert!(rt; there == lams && args == 1 && at.len() == 1);
-            assert!(rt; var == wanted);
-            Ok(())
+            assert!(rt; Some(var) == wanted);
         }
-        Head::NoHead => panic!(rt; "no head"),
+        Head::NoHead => assert!(rt; wanted.is_none(), "no head"),
         Head::Budget => panic!(rt; "budget"),
     }
+    Ok(())
 }
 
 /// `\x. f x`, asked for one abstraction, leaves by the port of f with levels `empty`, `o.empty`.
@@ -61,7 +61,7 @@ fn leaves_by_a_name(rt: HostRuntime) -> Result<(), Fail> {
         1,
         1,
         &context,
-        HeadVar::Free(1),
+        Some(HeadVar::Free(1)),
     )
 }
 
@@ -79,5 +79,23 @@ fn leaves_by_a_nested_level(rt: HostRuntime) -> Result<(), Fail> {
     let context = Context::of(vec![in alloc; star, o]?);
     let frames = root_alone(alloc)?;
     let binder = HeadVar::Bound { node: 0, binder: 1 };
-    assert_left(&rt, alloc, &values, &frames, 2, 0, &context, binder)
+    assert_left(&rt, alloc, &values, &frames, 2, 0, &context, Some(binder))
+}
+
+/// By port 0, which is no free name, with the context of one; by the port of f, and as a binder, where
+/// a level after the arguments' is not empty.
+#[test]
+fn leaves_without_a_head(rt: HostRuntime) -> Result<(), Fail> {
+    let alloc = rt.alloc();
+    let mut values = Values::new(alloc);
+    let empty = values.empty();
+    let o = values.put_o(empty)?;
+    let star = values.put_star(empty)?;
+    let frames = root_alone(alloc)?;
+    let name = Context::of(vec![in alloc; empty, o]?);
+    assert_left(&rt, alloc, &values, &frames, 2, 0, &name, None)?;
+    let name = Context::of(vec![in alloc; empty, o, star]?);
+    assert_left(&rt, alloc, &values, &frames, 2, 1, &name, None)?;
+    let binder = Context::of(vec![in alloc; star, o, star]?);
+    assert_left(&rt, alloc, &values, &frames, 2, 0, &binder, None)
 }

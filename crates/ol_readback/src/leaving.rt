@@ -5,6 +5,7 @@ ghost use Rattle.ol_context.specs.Shapes.{IsHeld, AreHeld, context_of};
 ghost use Rattle.ol_readback.specs.Frames.{frame_of, frames_of, ParentsFirst, AreHeldFrames};
 ghost use Rattle.ol_readback.specs.Fitting.{IsFitOf, IsNamed};
 ghost use Rattle.ol_readback.specs.Matching.{MatchesNothing};
+ghost use Rattle.ol_readback.specs.Skipping.{AreSkipsOf};
 ghost use Rattle.ol_readback.specs.declared.answers.Head.TheVariants.{NoHead, Budget};
 ghost use Rattle.ol_readback.specs.Heads.{IsMatched, answer_of, IsHeldHead};
 
@@ -12,6 +13,7 @@ use crate::answers::{Head, HeadVar};
 use crate::fitting::{fits, is_name};
 use crate::frames::Frame;
 use crate::levels::Levels;
+use crate::skipping::next_round;
 use ol_context::{Context, Val, Values};
 use ol_io::NoMemory;
 use std::alloc::{AllocError, Global};
@@ -28,7 +30,7 @@ fn fits_frame(
     requires context { AreHeld values.now context.now }
     ensures { IfOk result (λ r. IsFitOf (frame_of values.now frame.now) lams port (context_of values.now context.now) r) }
 {
-    if frame.port != port {
+    if lams == 0 || frame.port != port {
         return Ok(None);
     }
     let levels = &frame.levels;
@@ -54,14 +56,14 @@ pub fn push_level(alloc: Global, levels: &Levels, last: Val) -> Result<Levels, N
     Ok(Levels::of(longer))
 }
 
-/// The context that begins with these levels and one more.
-pub fn question(alloc: Global, levels: &Levels, last: Val) -> Result<Context, NoMemory>
-    ensures { IfOk result (λ r. r ≡ levels.now ++ last ∷ []) }
+/// A list of its own with these levels.
+pub fn copied(alloc: Global, levels: &Levels) -> Result<Vec<Val>, NoMemory>
+    ensures { IfOk result (λ r. r.items ≡ levels.now) }
 {
-    let Ok(longer) = with_last(alloc, levels.levels.as_slice(), last) else {
+    let Ok(copy) = Vec::from_slice(alloc, levels.levels.as_slice()) else {
         return Err(NoMemory);
     };
-    Ok(Context::of(longer))
+    Ok(copy)
 }
 
 // The free name of a port, or no head.
@@ -93,6 +95,58 @@ fn named(
     }
 }
 
+/// As `leave`, with skips: a frame that binds nothing is not tried where they lead past it.
+pub fn leave_by(
+    alloc: Global,
+    values: &Values,
+    frames: &Vec<Frame>,
+    skips: &Vec<Option<u32>>,
+    at: u32,
+    lams: u32,
+    port: u32,
+    context: &Context,
+) -> Result<Head, NoMemory>
+    requires at { at < length frames.now.items }
+    requires parents { ParentsFirst (frames_of values.now frames.now.items) }
+    requires frames { AreHeldFrames values.now frames.now.items }
+    requires context { AreHeld values.now context.now }
+    requires skips { AreSkipsOf frames.now.items skips.now.items }
+    ensures answer { IfOk result (λ h. IsMatched (frames_of values.now frames.now.items) at lams port (context_of values.now context.now) (answer_of values.now h)) }
+    ensures held { IfOk result (IsHeldHead values.now) }
+{
+    let mut i = at;
+    let mut abstractions = lams;
+    loop {
+        let frame = &frames[i as usize];
+        let fit = fits_frame(values, frame, abstractions, port, context)?;
+        match fit {
+            Some(found) => {
+                let last = context.level(values, frame.levels.len());
+                let levels = push_level(alloc, &frame.levels, last)?;
+                return Ok(Head::Is {
+                    lams,
+                    var: HeadVar::Bound {
+                        node: i,
+                        binder: found.0 + 1,
+                    },
+                    args: found.1,
+                    at: levels,
+                });
+            }
+            None => match next_round(frames, skips, i) {
+                Some(round) => {
+                    abstractions = frames[round as usize].lams;
+                    i = round;
+                }
+                None => {
+                    let last = named(alloc, values, lams, port, context)?;
+                    return Ok(last);
+                }
+            },
+        }
+    }
+}
+
 /// What the exit by `port` with `context` says of the walk by which frame `at` was asked for `lams`
 /// abstractions.
 ///
@@ -119,35 +173,7 @@ pub fn leave(
     ensures no_budget { IfOk result (λ h. h ≢ Budget) }
     ensures held { IfOk result (λ h. IsHeldHead values.now h) }
 {
-    let mut i = at;
-    let mut abstractions = lams;
-    loop {
-        let frame = &frames[i as usize];
-        let fit = fits_frame(values, frame, abstractions, port, context)?;
-        match fit {
-            Some(found) => {
-                let last = context.level(values, frame.levels.len());
-                let levels = push_level(alloc, &frame.levels, last)?;
-                return Ok(Head::Is {
-                    lams,
-                    var: HeadVar::Bound {
-                        node: i,
-                        binder: found.0 + 1,
-                    },
-                    args: found.1,
-                    at: levels,
-                });
-            }
-            None => match frame.parent {
-                Some(parent) => {
-                    abstractions = frames[parent as usize].lams;
-                    i = parent;
-                }
-                None => {
-                    let last = named(alloc, values, lams, port, context)?;
-                    return Ok(last);
-                }
-            },
-        }
-    }
+    let skips: Vec<Option<u32>> = Vec::new(alloc);
+    let left = leave_by(alloc, values, frames, &skips, at, lams, port, context)?;
+    Ok(left)
 }

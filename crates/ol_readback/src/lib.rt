@@ -2,8 +2,9 @@
 //! Reduction, 1992).
 //!
 //! A subterm is asked for by a frame: a free port and a list of levels. A walk starts from that port,
-//! with these levels and then n times o. The least n for which it leaves the net is the subterm's
-//! number of abstractions. Its exit says which variable is the head, and how many arguments it has.
+//! with these levels and then n times o, for all n at once. The least n for which it leaves the net is
+//! the subterm's number of abstractions. Its exit says which variable is the head, and how many
+//! arguments it has.
 #![tactic(auto)]
 
 mod answers;
@@ -18,12 +19,13 @@ mod leaving;
 mod levels;
 mod printing;
 mod reading;
+mod skipping;
 #[cfg(test)]
 mod tests;
 mod tree;
 
 pub use answers::{Head, HeadVar, ReadNode};
-pub use asking::head;
+pub use asking::{head, head_counted};
 pub use frames::Frame;
 pub use laws::{
     answers_are_one, heads_kept, printed_heads, printed_terms_are_read, trees_are_whole,

@@ -1,11 +1,12 @@
 //! Reading a whole net back.
 
-ghost use Rattle.std.specs.Prelude.{◌≡◌, ℕ, ◌+◌, ◌-◌, ◌^◌, ◌<◌, ◌≤◌, ◌++◌, [], ◌∷◌, List, length, replicate, option_to_list, IfOk, OnOk, true, false};
+ghost use Rattle.std.specs.Prelude.{◌≡◌, ℕ, ◌+◌, ◌-◌, ◌^◌, ◌<◌, ◌≤◌, ◌++◌, [], ◌∷◌, List, length, replicate, option_to_list, Some, IfOk, OnOk, true, false};
 ghost use Rattle.ol_net.specs.Numbered.{net_of};
 ghost use Rattle.ol_context.specs.Contexts.{Level};
 ghost use Rattle.ol_context.specs.Shapes.{Extends};
 ghost use Rattle.ol_context.specs.Short.{HasNoFacing};
 ghost use Rattle.ol_readback.specs.Frames.{frames_of};
+ghost use Rattle.ol_readback.specs.Skipping.{AreSkipsOf, HaveSkip, AreParentsFirst};
 ghost use Rattle.ol_readback.specs.Texts.{AreNamed};
 ghost use Rattle.ol_readback.specs.Trees.{IsTree, port_of};
 ghost use Rattle.ol_readback.specs.Groups.{AreHeldIn, ArePlacedIn, IsNextFrame};
@@ -14,15 +15,18 @@ ghost use Rattle.ol_readback.specs.Reading.{IsFrameList, IsKnown, IsRead, cuts_o
 ghost use Rattle.ol_readback.specs.declared.answers.ReadNode.TheVariants.{Cut};
 
 use crate::answers::{Head, HeadVar, ReadNode};
-use crate::asking::head;
+use crate::asking::head_by;
 use crate::frames::Frame;
 use crate::groups::{Group, group_of, next};
 use crate::levels::Levels;
+use crate::skipping::skip_from;
 use crate::tree::ReadTree;
 use ol_context::Values;
 use ol_io::NoMemory;
 use ol_net::Net;
 use std::alloc::Global;
+use std::marker::Brand;
+use std::sync::ledger::Blank;
 
 // The port by which the walk of a head with this variable left.
 fn exit_port(frames: &Vec<Frame>, var: HeadVar) -> u32
@@ -35,31 +39,59 @@ fn exit_port(frames: &Vec<Frame>, var: HeadVar) -> u32
     }
 }
 
+// Adds the frame, and to the skips the nearest frame round it that has abstractions.
+fn add_frame(
+    frames: &mut Vec<Frame>,
+    skips: &mut Vec<Option<u32>>,
+    frame: Frame,
+) -> Result<(), NoMemory>
+    requires parents { AreParentsFirst frames.old.items }
+    requires parent { (p : ℕ) → frame.parent ≡ Some p → p < length frames.old.items }
+    requires skips { AreSkipsOf frames.old.items skips.old.items }
+    requires each { length skips.old.items ≡ length frames.old.items }
+    ensures frames { OnOk result (frames.new.items ≡ frames.old.items ++ frame ∷ []) }
+    ensures skips { OnOk result (HaveSkip frames.old.items frame skips.new.items) }
+    ensures each { OnOk result (length skips.new.items ≡ length frames.new.items) }
+{
+    let skip = skip_from(frames, skips, frame.parent);
+    let Ok(()) = skips.push(skip) else {
+        return Err(NoMemory);
+    };
+    let Ok(()) = frames.push(frame) else {
+        return Err(NoMemory);
+    };
+    Ok(())
+}
+
 // Adds the frame to the frames and asks it: what stands at its place, and the arguments of its head.
 fn read_frame(
     alloc: Global,
     net: &Net,
     values: &mut Values,
     frames: &mut Vec<Frame>,
+    skips: &mut Vec<Option<u32>>,
     frame: Frame,
     edges: u64,
 ) -> Result<(ReadNode, Option<Group>), NoMemory>
     requires frames { IsFrameList net.now.free values.old frames.old.items }
     requires frame { IsNextFrame net.now.free (length frames.old.items) values.old frame }
     requires few { length frames.old.items + 1 < 2 ^ 32 }
+    requires skips { AreSkipsOf frames.old.items skips.old.items }
+    requires each { length skips.old.items ≡ length frames.old.items }
     ensures read { IfOk result (λ r. IsRead (net_of net.now) edges values.old values.new frames.old.items frame frames.new.items r.0 r.1) }
     ensures frames { OnOk result (IsFrameList net.now.free values.new frames.new.items) }
     ensures held { IfOk result (λ r. AreHeldIn values.new r.1) }
     ensures placed { IfOk result (λ r. ArePlacedIn net.now.free (length frames.new.items) r.1) }
     ensures longer { OnOk result (length frames.new.items ≡ length frames.old.items + 1) }
+    ensures skips { OnOk result (AreSkipsOf frames.new.items skips.new.items) }
+    ensures each { OnOk result (length skips.new.items ≡ length frames.new.items) }
     ensures extends { Extends values.old values.new }
 {
     net.is_net();
     let at = frames.len() as u32;
-    let Ok(()) = frames.push(frame) else {
-        return Err(NoMemory);
-    };
-    let answer = head(alloc, net, values, frames, at, edges)?;
+    add_frame(frames, skips, frame)?;
+    let blank = Blank::new(1);
+    let answer = head_by::<Brand>(alloc, net, values, frames, skips, at, edges, blank)?;
     match answer {
         Head::NoHead => Ok((ReadNode::NoHead, None)),
         Head::Budget => Ok((ReadNode::Cut, None)),
@@ -151,6 +183,7 @@ pub fn read_back(alloc: Global, net: &Net, heads: u32, edges: u64) -> Result<Rea
     net.is_net();
     let mut values = Values::new(alloc);
     let mut frames: Vec<Frame> = Vec::new(alloc);
+    let mut skips: Vec<Option<u32>> = Vec::new(alloc);
     let mut nodes: Vec<ReadNode> = Vec::new(alloc);
     let mut pending: Vec<Group> = Vec::new(alloc);
     let mut frame = Frame {
@@ -161,7 +194,15 @@ pub fn read_back(alloc: Global, net: &Net, heads: u32, edges: u64) -> Result<Rea
     };
     let most = heads as usize;
     loop {
-        let read = read_frame(alloc, net, &mut values, &mut frames, frame, edges)?;
+        let read = read_frame(
+            alloc,
+            net,
+            &mut values,
+            &mut frames,
+            &mut skips,
+            frame,
+            edges,
+        )?;
         put(&mut nodes, read.0)?;
         add(&mut pending, read.1)?;
         if frames.len() >= most {

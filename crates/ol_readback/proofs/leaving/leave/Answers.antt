@@ -1,112 +1,16 @@
-use Rattle.std.proofs.Common.{◌≡◌, ℕ, ◌∷◌, [], ◌+◌, ◌^◌, ◌<◌, List, Option, map, length, sym, ap, ◌∙◌, subst, arith, add-one}
-use Rattle.std.proofs.lemmas.List.{length-map}
-use Rattle.ol_context.specs.Shapes.{value, AreHeld, context_of}
-use Rattle.ol_context.proofs.ValueLists.{held_append}
-use Rattle.ol_readback.specs.Frames.{Frame, frame_of, frames_of}
-use Rattle.ol_readback.specs.Matching.{NoFit}
-use Rattle.ol_readback.specs.Fitting.{IsFitOf}
-use Rattle.ol_readback.specs.Heads.{answer_of}
-use Rattle.ol_readback.proofs.Climbing.{Climbing, climb_start, climb_on, climb_end, found_is, levels_found}
-use Rattle.ol_readback.proofs.FrameLists.{frame_is, held_this, count_frames}
-use Rattle.ol_readback.specs.declared.answers.HeadVar.TheVariants.{Bound}
-use Rattle.ol_readback.specs.declared.answers.Head.TheVariants.{Is}
+use Rattle.ol_context.specs.Shapes.{context_of}
+use Rattle.ol_readback.specs.Frames.{frames_of}
+use Rattle.ol_readback.proofs.Skips.{no_skips}
 use Rattle.ol_readback.proofs.One.{left_no_head, left_no_budget}
 use Rattle.ol_readback.proofs.leaving.leave.Goals as goal
 
-pub loop-fit-init : goal.loop-fit-init
-loop-fit-init c =
-    let n = count_frames c.args.values.now c.args.frames.now.items in
-    climb_start (frames_of c.args.values.now c.args.frames.now.items) c.args.at c.args.lams c.args.port (context_of c.args.values.now c.args.context.now) (omega (arith, c.requires.at)) c.ranges.lams.fits
+pub leave_by-requires-clause-skips : goal.leave_by-requires-clause-skips
+leave_by-requires-clause-skips c = no_skips c.args.frames.now.items c.new-skips.result.items c.new-skips.ensures.items
 
-pub fits_frame-requires-clause-levels : goal.fits_frame-requires-clause-levels
-fits_frame-requires-clause-levels c =
-    let n = count_frames c.args.values.now c.args.frames.now.items in
-    held_this c.args.values.now c.args.frames.now.items c.loop-fit.i c.index-frame.result.now c.requires.frames (omega (arith, c.loop-fit.invariant.below)) c.index-frame.ensures
+pub returns-clause-no_head : goal.returns-clause-no_head
+returns-clause-no_head c =
+    left_no_head (frames_of c.args.values.now c.args.frames.now.items) c.args.at c.args.lams c.args.port (context_of c.args.values.now c.args.context.now) c.args.values.now c.in_ok-left.left c.in_ok-left.ensures.answer
 
-pub overflow_add-result : goal.overflow_add-result
-overflow_add-result c =
-    let h = subst (λ (r : Option (ℕ × ℕ)). IsFitOf (frame_of c.args.values.now c.index-frame.result.now) c.loop-fit.abstractions c.args.port (context_of c.args.values.now c.args.context.now) r) c.in-Some.is c.in_ok-fit.ensures in
-    omega (arith, h.1.1.below, c.loop-fit.invariant.few)
-
-pub returns-in-Some-clause-answer : goal.returns-in-Some-clause-answer
-returns-in-Some-clause-answer c =
-    let vs = c.args.values.now in
-    let fs = c.args.frames.now.items in
-    let f = c.index-frame.result.now in
-    let X = context_of vs c.args.context.now in
-    let n = count_frames vs fs in
-    let h = subst (λ (r : Option (ℕ × ℕ)). IsFitOf (frame_of vs f) c.loop-fit.abstractions c.args.port X r) c.in-Some.is c.in_ok-fit.ensures in
-    let g : value vs c.level-last.result ≡ X (length (map (value vs) f.levels)) = c.level-last.ensures.is ∙ ap X (c.len.ensures ∙ sym (length-map f.levels (value vs))) in
-    found_is (frames_of vs fs) c.args.at c.args.lams c.args.port X c.loop-fit.i c.loop-fit.abstractions c.loop-fit.invariant (frame_of vs f)
-    (frame_is vs fs c.loop-fit.i f (omega (arith, c.loop-fit.invariant.below)) c.index-frame.ensures)
-    c.in-Some.found h (c.in-Some.found.0 + 1) (add-one c.in-Some.found.0) (map (value vs) c.in_ok-levels-in-Some.levels)
-    (λ d z. levels_found vs f.levels c.in_ok-levels-in-Some.levels c.level-last.result c.in-Some.found.0 c.in-Some.found.1 c.loop-fit.abstractions d X z c.in_ok-levels-in-Some.ensures g)
-
-pub returns-in-Some-clause-held : goal.returns-in-Some-clause-held
-returns-in-Some-clause-held c =
-    let vs = c.args.values.now in
-    let fs = c.args.frames.now.items in
-    let f = c.index-frame.result.now in
-    let n = count_frames vs fs in
-    subst (λ (ns : List ℕ). AreHeld vs ns) (sym c.in_ok-levels-in-Some.ensures)
-    (held_append vs f.levels (c.level-last.result ∷ []) (held_this vs fs c.loop-fit.i f c.requires.frames (omega (arith, c.loop-fit.invariant.below)) c.index-frame.ensures) (c.level-last.ensures.held, tt))
-
-pub index-requires : goal.index-requires
-index-requires c =
-    let vs = c.args.values.now in
-    let fs = c.args.frames.now.items in
-    let f = c.index-frame.result.now in
-    let n = count_frames vs fs in
-    let e = frame_is vs fs c.loop-fit.i f (omega (arith, c.loop-fit.invariant.below)) c.index-frame.ensures in
-    let b = c.requires.parents c.loop-fit.i c.in-Some-parent.parent (ap (λ (f : Frame). f.parent) e ∙ c.in-Some-parent.is) in
-    omega (arith, c.loop-fit.invariant.below, c.args.frames.now.ok.0)
-
-pub loop-fit-smaller : goal.loop-fit-smaller
-loop-fit-smaller c =
-    let vs = c.args.values.now in
-    let fs = c.args.frames.now.items in
-    let f = c.index-frame.result.now in
-    let n = count_frames vs fs in
-    let e = frame_is vs fs c.loop-fit.i f (omega (arith, c.loop-fit.invariant.below)) c.index-frame.ensures in
-    c.requires.parents c.loop-fit.i c.in-Some-parent.parent (ap (λ (f : Frame). f.parent) e ∙ c.in-Some-parent.is)
-
-pub loop-fit-preserved : goal.loop-fit-preserved
-loop-fit-preserved c =
-    let vs = c.args.values.now in
-    let fs = c.args.frames.now.items in
-    let f = c.index-frame.result.now in
-    let X = context_of vs c.args.context.now in
-    let n = count_frames vs fs in
-    let e = frame_is vs fs c.loop-fit.i f (omega (arith, c.loop-fit.invariant.below)) c.index-frame.ensures in
-    let b = c.requires.parents c.loop-fit.i c.in-Some-parent.parent (ap (λ (f : Frame). f.parent) e ∙ c.in-Some-parent.is) in
-    let p = frame_is vs fs c.in-Some-parent.parent c.index.result.now (omega (arith, c.loop-fit.invariant.below)) c.index.ensures in
-    let w : c.index.result.now.lams < 2 ^ 32 = omega arith in
-    let h = subst (λ (r : Option (ℕ × ℕ)). IsFitOf (frame_of vs f) c.loop-fit.abstractions c.args.port X r) c.in-None.is c.in_ok-fit.ensures in
-    subst (λ (l : ℕ). Climbing (frames_of vs fs) c.args.at c.args.lams c.args.port X c.in-Some-parent.parent l) (ap (λ (f : Frame). f.lams) p)
-    (climb_on (frames_of vs fs) c.args.at c.args.lams c.args.port X c.loop-fit.i c.loop-fit.abstractions c.loop-fit.invariant c.in-Some-parent.parent
-    (subst (λ (f : Frame). NoFit f c.loop-fit.abstractions c.args.port X) (sym e) h) (ap (λ (f : Frame). f.parent) e ∙ c.in-Some-parent.is) b (subst (λ (f : Frame). f.lams < 2 ^ 32) (sym p) w))
-
-pub returns-in-None-parent-clause-answer : goal.returns-in-None-parent-clause-answer
-returns-in-None-parent-clause-answer c =
-    let vs = c.args.values.now in
-    let fs = c.args.frames.now.items in
-    let f = c.index-frame.result.now in
-    let X = context_of vs c.args.context.now in
-    let n = count_frames vs fs in
-    let e = frame_is vs fs c.loop-fit.i f (omega (arith, c.loop-fit.invariant.below)) c.index-frame.ensures in
-    let h = subst (λ (r : Option (ℕ × ℕ)). IsFitOf (frame_of vs f) c.loop-fit.abstractions c.args.port X r) c.in-None.is c.in_ok-fit.ensures in
-    climb_end (frames_of vs fs) c.args.at c.args.lams c.args.port X c.loop-fit.i c.loop-fit.abstractions c.loop-fit.invariant (answer_of vs c.in_ok-last-in-None-parent.last)
-    (subst (λ (f : Frame). NoFit f c.loop-fit.abstractions c.args.port X) (sym e) h) (ap (λ (f : Frame). f.parent) e ∙ c.in-None-parent.is) c.in_ok-last-in-None-parent.ensures.answer
-
-pub returns-in-Some-clause-no_head : goal.returns-in-Some-clause-no_head
-returns-in-Some-clause-no_head c =
-    left_no_head (frames_of c.args.values.now c.args.frames.now.items) c.args.at c.args.lams c.args.port (context_of c.args.values.now c.args.context.now) c.args.values.now
-    (Is c.args.lams (Bound c.loop-fit.i (c.in-Some.found.0 + 1)) c.in-Some.found.1 c.in_ok-levels-in-Some.levels) (returns-in-Some-clause-answer c)
-
-pub returns-in-None-parent-clause-no_head : goal.returns-in-None-parent-clause-no_head
-returns-in-None-parent-clause-no_head c =
-    left_no_head (frames_of c.args.values.now c.args.frames.now.items) c.args.at c.args.lams c.args.port (context_of c.args.values.now c.args.context.now) c.args.values.now c.in_ok-last-in-None-parent.last (returns-in-None-parent-clause-answer c)
-
-pub returns-in-None-parent-clause-no_budget : goal.returns-in-None-parent-clause-no_budget
-returns-in-None-parent-clause-no_budget c =
-    left_no_budget (frames_of c.args.values.now c.args.frames.now.items) c.args.at c.args.lams c.args.port (context_of c.args.values.now c.args.context.now) c.args.values.now c.in_ok-last-in-None-parent.last (returns-in-None-parent-clause-answer c)
+pub returns-clause-no_budget : goal.returns-clause-no_budget
+returns-clause-no_budget c =
+    left_no_budget (frames_of c.args.values.now c.args.frames.now.items) c.args.at c.args.lams c.args.port (context_of c.args.values.now c.args.context.now) c.args.values.now c.in_ok-left.left c.in_ok-left.ensures.answer

@@ -18,7 +18,7 @@ of-requires-then-len-most-clause-whole c =
     let nodes = c.put.new.nodes.items in
     let gs = c.add.new.pending.items in
     let a = after_read N c.args.heads c.args.edges c.args.net.now.free c.loop-pending.values ws c.loop-pending.frames.items fs c.loop-pending.frame c.loop-pending.nodes.items nodes c.loop-pending.pending.items gs
-    c.in_ok-read.read.0 c.in_ok-read.read.1 c.loop-pending.invariant c.read_frame.ensures.extends c.in_ok-read.ensures.read c.in_ok-read.ensures.frames c.in_ok-read.ensures.held c.in_ok-read.ensures.placed
+    c.in_ok-read.read.0 c.in_ok-read.read.1 c.loop-pending.invariant.0 c.read_frame.ensures.extends c.in_ok-read.ensures.read c.in_ok-read.ensures.frames c.in_ok-read.ensures.held c.in_ok-read.ensures.placed
     c.in_ok-read.ensures.longer c.in_ok-put.ensures.last c.in_ok-add.ensures in
     let t = cut_off N c.args.heads c.args.edges c.args.net.now.free ws fs nodes c.cut_all.new.nodes.items gs a (omega (arith, c.if-len-most.true, c.len.ensures, c.read_frame.new.frames.ok.0)) (c.in_ok-cut_all.ensures.cut ws) in
     tree_is_whole N c.args.heads c.args.edges c.cut_all.new.nodes.items t
@@ -31,7 +31,7 @@ returns-then-len-most-clause-tree c =
     let nodes = c.put.new.nodes.items in
     let gs = c.add.new.pending.items in
     let a = after_read N c.args.heads c.args.edges c.args.net.now.free c.loop-pending.values ws c.loop-pending.frames.items fs c.loop-pending.frame c.loop-pending.nodes.items nodes c.loop-pending.pending.items gs
-    c.in_ok-read.read.0 c.in_ok-read.read.1 c.loop-pending.invariant c.read_frame.ensures.extends c.in_ok-read.ensures.read c.in_ok-read.ensures.frames c.in_ok-read.ensures.held c.in_ok-read.ensures.placed
+    c.in_ok-read.read.0 c.in_ok-read.read.1 c.loop-pending.invariant.0 c.read_frame.ensures.extends c.in_ok-read.ensures.read c.in_ok-read.ensures.frames c.in_ok-read.ensures.held c.in_ok-read.ensures.placed
     c.in_ok-read.ensures.longer c.in_ok-put.ensures.last c.in_ok-add.ensures in
     let t = cut_off N c.args.heads c.args.edges c.args.net.now.free ws fs nodes c.cut_all.new.nodes.items gs a (omega (arith, c.if-len-most.true, c.len.ensures, c.read_frame.new.frames.ok.0)) (c.in_ok-cut_all.ensures.cut ws) in
     subst (λ (ns : List ReadNode). IsTree N c.args.heads c.args.edges ns) (sym c.of-then-len-most.ensures) t
@@ -44,7 +44,7 @@ next-requires c =
     let nodes = c.put.new.nodes.items in
     let gs = c.add.new.pending.items in
     let a = after_read N c.args.heads c.args.edges c.args.net.now.free c.loop-pending.values ws c.loop-pending.frames.items fs c.loop-pending.frame c.loop-pending.nodes.items nodes c.loop-pending.pending.items gs
-    c.in_ok-read.read.0 c.in_ok-read.read.1 c.loop-pending.invariant c.read_frame.ensures.extends c.in_ok-read.ensures.read c.in_ok-read.ensures.frames c.in_ok-read.ensures.held c.in_ok-read.ensures.placed
+    c.in_ok-read.read.0 c.in_ok-read.read.1 c.loop-pending.invariant.0 c.read_frame.ensures.extends c.in_ok-read.ensures.read c.in_ok-read.ensures.frames c.in_ok-read.ensures.held c.in_ok-read.ensures.placed
     c.in_ok-read.ensures.longer c.in_ok-put.ensures.last c.in_ok-add.ensures in
     a.held
 
@@ -56,7 +56,7 @@ of-requires-in-None-clause-whole c =
     let nodes = c.put.new.nodes.items in
     let gs = c.add.new.pending.items in
     let a = after_read N c.args.heads c.args.edges c.args.net.now.free c.loop-pending.values ws c.loop-pending.frames.items fs c.loop-pending.frame c.loop-pending.nodes.items nodes c.loop-pending.pending.items gs
-    c.in_ok-read.read.0 c.in_ok-read.read.1 c.loop-pending.invariant c.read_frame.ensures.extends c.in_ok-read.ensures.read c.in_ok-read.ensures.frames c.in_ok-read.ensures.held c.in_ok-read.ensures.placed
+    c.in_ok-read.read.0 c.in_ok-read.read.1 c.loop-pending.invariant.0 c.read_frame.ensures.extends c.in_ok-read.ensures.read c.in_ok-read.ensures.frames c.in_ok-read.ensures.held c.in_ok-read.ensures.placed
     c.in_ok-read.ensures.longer c.in_ok-put.ensures.last c.in_ok-add.ensures in
     let n = subst (λ (r : Option Frame). MatchOption r (NoneLeft ws gs) (λ f. IsNext ws c.next.new.values gs c.next.new.pending.items f)) c.in-None.is c.in_ok-following.ensures.next in
     let t = ended N c.args.heads c.args.edges c.args.net.now.free ws fs nodes gs a n in
@@ -70,7 +70,7 @@ returns-in-None-clause-tree c =
     let nodes = c.put.new.nodes.items in
     let gs = c.add.new.pending.items in
     let a = after_read N c.args.heads c.args.edges c.args.net.now.free c.loop-pending.values ws c.loop-pending.frames.items fs c.loop-pending.frame c.loop-pending.nodes.items nodes c.loop-pending.pending.items gs
-    c.in_ok-read.read.0 c.in_ok-read.read.1 c.loop-pending.invariant c.read_frame.ensures.extends c.in_ok-read.ensures.read c.in_ok-read.ensures.frames c.in_ok-read.ensures.held c.in_ok-read.ensures.placed
+    c.in_ok-read.read.0 c.in_ok-read.read.1 c.loop-pending.invariant.0 c.read_frame.ensures.extends c.in_ok-read.ensures.read c.in_ok-read.ensures.frames c.in_ok-read.ensures.held c.in_ok-read.ensures.placed
     c.in_ok-read.ensures.longer c.in_ok-put.ensures.last c.in_ok-add.ensures in
     let n = subst (λ (r : Option Frame). MatchOption r (NoneLeft ws gs) (λ f. IsNext ws c.next.new.values gs c.next.new.pending.items f)) c.in-None.is c.in_ok-following.ensures.next in
     let t = ended N c.args.heads c.args.edges c.args.net.now.free ws fs nodes gs a n in
@@ -84,11 +84,14 @@ loop-pending-preserved c =
     let nodes = c.put.new.nodes.items in
     let gs = c.add.new.pending.items in
     let a = after_read N c.args.heads c.args.edges c.args.net.now.free c.loop-pending.values ws c.loop-pending.frames.items fs c.loop-pending.frame c.loop-pending.nodes.items nodes c.loop-pending.pending.items gs
-    c.in_ok-read.read.0 c.in_ok-read.read.1 c.loop-pending.invariant c.read_frame.ensures.extends c.in_ok-read.ensures.read c.in_ok-read.ensures.frames c.in_ok-read.ensures.held c.in_ok-read.ensures.placed
+    c.in_ok-read.read.0 c.in_ok-read.read.1 c.loop-pending.invariant.0 c.read_frame.ensures.extends c.in_ok-read.ensures.read c.in_ok-read.ensures.frames c.in_ok-read.ensures.held c.in_ok-read.ensures.placed
     c.in_ok-read.ensures.longer c.in_ok-put.ensures.last c.in_ok-add.ensures in
-    let n = subst (λ (r : Option Frame). MatchOption r (NoneLeft ws gs) (λ f. IsNext ws c.next.new.values gs c.next.new.pending.items f)) c.in-Some.is c.in_ok-following.ensures.next in
-    before_next N c.args.heads c.args.edges c.args.net.now.free ws c.next.new.values fs c.in-Some.argument nodes gs c.next.new.pending.items a c.next.ensures.extends n
-    (omega (arith, c.if-len-most.false, c.len.ensures, c.read_frame.new.frames.ok.0)) c.in_ok-put.ensures.few
+    let n = subst (λ (r : Option Frame). MatchOption r (NoneLeft ws gs) (λ f. IsNext ws c.next.new.values gs c.next.new.pending.items f)) c.in-Some.is c.in_ok-following.ensures.next in (
+      before_next N c.args.heads c.args.edges c.args.net.now.free ws c.next.new.values fs c.in-Some.argument nodes gs c.next.new.pending.items a c.next.ensures.extends n
+          (omega (arith, c.if-len-most.false, c.len.ensures, c.read_frame.new.frames.ok.0)) c.in_ok-put.ensures.few,
+      c.in_ok-read.ensures.skips,
+      c.in_ok-read.ensures.each,
+    )
 
 pub returns-then-len-most-clause-names : goal.returns-then-len-most-clause-names
 returns-then-len-most-clause-names c = tree_is_named (net_of c.args.net.now) c.args.heads c.args.edges c.of-then-len-most.result c.is_net.ensures.net (returns-then-len-most-clause-tree c)

@@ -1,10 +1,11 @@
-use Rattle.std.proofs.Common.{◌-◌, length}
+use Rattle.std.proofs.Common.{◌≡◌, ◌-◌, length}
 use Rattle.ol_net.specs.Numbered.{net_of}
+use Rattle.ol_readback.specs.Skipping.{AreSkipsOf}
 use Rattle.ol_readback.proofs.Onward.{Before}
 use Rattle.ol_readback.proofs.reading.read_back.Given as goal
 
 abbrev pub invariant-loop-pending : goal.invariant-loop-pending
-invariant-loop-pending l = Before (net_of l.net) l.heads l.edges l.net.free l.values l.frames.items l.frame l.nodes.items l.pending.items
+invariant-loop-pending l = Before (net_of l.net) l.heads l.edges l.net.free l.values l.frames.items l.frame l.nodes.items l.pending.items × AreSkipsOf l.frames.items l.skips.items × (length l.skips.items ≡ length l.frames.items)
 
 abbrev pub decreases-loop-pending : goal.decreases-loop-pending
 decreases-loop-pending l = l.heads - length l.frames.items

@@ -1,27 +1,26 @@
-use Rattle.std.proofs.Common.{◌≡◌, ◌+◌, length, arith, subst, sym, ap, ◌∙◌}
-use Rattle.std.proofs.lemmas.List.{get_or_push, length_push}
-use Rattle.ol_context.specs.Contexts.{empty}
-use Rattle.ol_context.specs.Shapes.{IsBelow, tree_of}
-use Rattle.ol_context.specs.Trees.{trees}
-use Rattle.ol_context.proofs.Shapes.{row_push, trees_push, trees_length, extends_push}
+use Rattle.std.proofs.Common.{length, arith, subst, sym, ap, ◌∙◌}
+use Rattle.ol_context.specs.Shapes.{IsBelow}
+use Rattle.ol_context.proofs.Shapes.{trees_length}
+use Rattle.ol_context.proofs.Once.{row_put, extends_put, few_put, once_put, new_put}
 use Rattle.ol_context.proofs.arena.Values.put.Goals as goal
 
 pub invariant_of-self-2 : goal.invariant_of-self-2
 invariant_of-self-2 c =
-    let l = length_push c.self.inside.shapes.items c.args.shape in
-    rw c.in-Ok.ensures.items (
-      row_push 1 c.self.inside.shapes.items c.args.shape c.self.invariant.0
-          (subst (λ m. IsBelow m c.args.shape) (ap length (sym c.self.view_is) ∙ trees_length c.self.inside.shapes.items ∙ omega arith) c.requires),
-      omega (arith, c.self.inside.shapes.ok.0, c.len-count.ensures),
+    let ks = c.self.inside.shapes.keys in
+    let js = c.insert_full.new.self.keys in
+    let b = subst (λ m. IsBelow m c.args.shape) (ap length (sym c.self.view_is) ∙ trees_length ks) c.requires.below in
+    let f = few_put ks js c.args.shape c.in-Ok.ensures.keys in (
+      row_put ks js c.args.shape c.self.invariant.0 b c.in-Ok.ensures.keys,
+      once_put ks js c.args.shape c.self.invariant.1 c.requires.full c.in-Ok.ensures.keys,
+      omega (arith, f, c.len-count.ensures.len, c.if-count-ge4294967294.false),
     )
 
 pub returns-clause-extends : goal.returns-clause-extends
-returns-clause-extends c = rw (c.in-Ok.ensures.items, ← c.self.view_is, trees_push) (extends_push _ _)
+returns-clause-extends c = rw (← c.self.view_is) (extends_put c.self.inside.shapes.keys c.insert_full.new.self.keys c.args.shape c.in-Ok.ensures.keys)
 
 pub returns-clause-new : goal.returns-clause-new
 returns-clause-new c =
-    let n : length c.self.inside.shapes.items ≡ c.len-count.result = omega (arith, c.self.inside.shapes.ok.0, c.len-count.ensures) in
-    let l = trees_length c.self.inside.shapes.items in
-    let p = length_push (trees c.self.inside.shapes.items) (tree_of (trees c.self.inside.shapes.items) c.args.shape) in
-    rw (c.in-Ok.ensures.items, ← c.self.view_is, trees_push)
-    (record { held = omega arith; is = get_or_push (trees c.self.inside.shapes.items) (tree_of (trees c.self.inside.shapes.items) c.args.shape) empty (c.len-count.result + 1) (omega arith) })
+    let ks = c.self.inside.shapes.keys in
+    let b = subst (λ m. IsBelow m c.args.shape) (ap length (sym c.self.view_is) ∙ trees_length ks) c.requires.below in
+    let t = c.in-Ok.ensures.stored in
+    rw (← c.self.view_is) (new_put ks c.insert_full.new.self.keys c.args.shape t.0 c.in-Ok.at c.self.invariant.0 b c.in-Ok.ensures.keys t.1 t.2)
