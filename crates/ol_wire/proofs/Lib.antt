@@ -30,6 +30,7 @@ pub mod ClosingCells
 pub mod ClosingNodes
 pub mod ClosingStart
 pub mod ClosingStands
+pub mod NothingLeft
 pub mod WordEdges
 pub mod WordsAfter
 pub mod TicketJournal
