@@ -64,6 +64,7 @@ pub mod StepsPublishCells
 pub mod StepsPublish
 pub mod StepsJoin
 pub mod StepsLinkAllowed
+pub mod Sight
 pub mod TurningLinks
 pub mod Opening
 pub mod OpeningPorts

@@ -11,6 +11,7 @@ pub mod Weights
 pub mod Views
 pub mod Rule
 pub mod Still
+pub mod Moments
 pub mod Plays
 pub mod LinkPlays
 pub mod Links

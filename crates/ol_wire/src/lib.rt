@@ -19,6 +19,7 @@ mod promise;
 mod reference;
 mod rewrite;
 mod seat;
+mod seeing;
 mod shared;
 mod stepping;
 #[cfg(test)]
