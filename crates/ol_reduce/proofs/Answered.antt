@@ -1,19 +1,20 @@
 -- What the closed words of a table tell of the one-thread run of its net.
-use Rattle.std.proofs.Common.{Bool, slice_index, ◌≡◌, ℕ, ◌≤◌, ◌<◌, List, length, refl, subst, nat_lt, true, false, if◌then◌else◌, arith}
+use Rattle.std.proofs.Common.{Bool, slice_index, ◌≡◌, ℕ, ◌≤◌, ◌<◌, List, length, refl, sym, subst, nat_lt, true, false, if◌then◌else◌, arith}
 use Rattle.std.proofs.lemmas.Bool.Decides.{nat_tests}
 use Rattle.ol_net.specs.Graph.{Graph}
 use Rattle.ol_net.specs.Nets.{NamedNet, IsNet, net_under}
 use Rattle.ol_net.specs.Numbered.{net_of}
 use Rattle.ol_rules.specs.declared.journal.NodeName.{NodeName}
 use Rattle.ol_rules.specs.declared.journal.NodeName.TheVariants.{Init}
-use Rattle.ol_rules.specs.Runs.{IsRun, IsComplete, HasActive}
+use Rattle.ol_rules.specs.declared.journal.Entry.{Entry}
+use Rattle.ol_rules.specs.Runs.{IsRun, IsComplete, HasActive, IsOneThread}
 use Rattle.ol_rules.proofs.StartNets.{start_net, start_named}
-use Rattle.ol_diamond.specs.OneThread.{DoneTells, OneThreadExists, SpentTells}
+use Rattle.ol_diamond.specs.OneThread.{DoneTells, OneThreadExists, RunsAgree, SpentTells}
 use Rattle.ol_wire.specs.declared.layout.Parts.{Parts}
 use Rattle.ol_wire.specs.Closed.{ClosedTable, events_in, journal_in, event_at}
 use Rattle.ol_wire.specs.Events.{entry_of}
 use Rattle.ol_wire.specs.Standing.{IsAfter}
-use Rattle.ol_reduce.specs.Reduced.{EndsWithin}
+use Rattle.ol_reduce.specs.Reduced.{EndsWithin, IsAsLong}
 use Rattle.ol_reduce.proofs.Births.{length_each}
 
 -- the journal has an entry for each ticket below the fuel
@@ -34,11 +35,20 @@ from_net net w e M r = subst (λ (g : Graph). IsRun (net_under Init (net_of g)) 
 pub few_steps : (w : ClosedTable) (fuel : ℕ) → w.plan.parts.fuel ≡ fuel → events_in w.plan.parts w.words ≤ w.plan.parts.fuel → length (journal_in w.plan.parts w.words) ≤ fuel
 few_steps w fuel e few = omega (arith, steps_in w.plan.parts w.words, e, few)
 
--- where the net after the journal is complete, the one-thread run ends
+-- where the net after the journal is complete, the one-thread run ends, and has as many steps
 pub ends : DoneTells → (net : Graph) (w : ClosedTable) (fuel : ℕ) → IsNet (net_of net) → w.plan.start.value ≡ net → length (journal_in w.plan.parts w.words) ≤ fuel
-    → (M : NamedNet NodeName) → IsAfter w M → IsComplete M → EndsWithin net fuel
-ends done net w fuel is_net e few M r complete one_thread P one =
-    (done (net_under Init (net_of net)) M P fuel (journal_in w.plan.parts w.words) one_thread (start_net (net_of net) is_net) (start_named (net_of net)) (from_net net w e M r) complete few one).0
+    → (M : NamedNet NodeName) → IsAfter w M → IsComplete M → EndsWithin net fuel × IsAsLong net fuel (journal_in w.plan.parts w.words)
+ends done net w fuel is_net e few M r complete =
+    let agrees : (one_thread : List Entry) (P : NamedNet NodeName) → IsOneThread (net_under Init (net_of net)) fuel one_thread P
+    → IsComplete P × RunsAgree (net_under Init (net_of net)) (journal_in w.plan.parts w.words) M one_thread P
+    = λ one_thread P one. done (net_under Init (net_of net)) M P fuel (journal_in w.plan.parts w.words) one_thread (start_net (net_of net) is_net) (start_named (net_of net)) (from_net net w e M r) complete few one in (
+      (λ one_thread P one. (agrees one_thread P one).0),
+      (λ one_thread P one. (agrees one_thread P one).1.steps),
+    )
+
+-- a journal that was read from the words is one of them
+pub as_long : (net : Graph) (fuel : ℕ) (journal read : List Entry) → read ≡ journal → IsAsLong net fuel journal → IsAsLong net fuel read
+as_long net fuel journal read e long = subst (λ j. IsAsLong net fuel j) (sym e) long
 
 -- where the fuel is used up and a pair is active, it doesn't end
 pub goes_on : SpentTells → OneThreadExists → (net : Graph) (w : ClosedTable) (fuel : ℕ) → IsNet (net_of net) → w.plan.start.value ≡ net → length (journal_in w.plan.parts w.words) ≡ fuel

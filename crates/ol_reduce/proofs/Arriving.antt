@@ -12,7 +12,7 @@ use Rattle.ol_wire.specs.Layout.{place_of, size, left_word, cells_of}
 use Rattle.ol_wire.specs.Rule.{IsPlaced}
 use Rattle.ol_wire.specs.Stands.{IsEnd}
 use Rattle.ol_wire.specs.Closed.{ClosedTable, events_in}
-use Rattle.ol_wire.specs.Standing.{StandsFor, IsAfter}
+use Rattle.ol_wire.specs.Standing.{is_reached_in, StandsFor, IsAfter}
 use Rattle.ol_wire.proofs.Places.{part_cell, place_before}
 use Rattle.ol_wire.proofs.Claimed.{wider}
 use Rattle.ol_reduce.specs.Left.{ranks_in, IsLeft, AreLeft}
@@ -23,10 +23,10 @@ use Rattle.ol_reduce.proofs.Meeting.{left_node, right_node, cell_linked}
 use Rattle.ol_reduce.proofs.Bounded.{events_few}
 
 abbrev pub Told : ClosedTable → Type 0
-Told w = (net : NamedNet NodeName) × (reached : ℕ → Bool) × IsAfter w net × StandsFor w net reached
+Told w = (net : NamedNet NodeName) × IsAfter w net × StandsFor w net (is_reached_in w)
 
 pub small_of : (w : ClosedTable) → Told w → size w.plan.parts ≤ 100000000
-small_of w t = omega (arith, t.3.small.free, t.3.small.nodes, t.3.small.wires, t.3.small.cells, t.3.small.fuel)
+small_of w t = omega (arith, t.2.small.free, t.2.small.nodes, t.2.small.wires, t.2.small.cells, t.2.small.fuel)
 
 module _ (w : ClosedTable) (places numbers : List ℕ) (left_are : AreLeft w (ranks_in w) places numbers) (told : Told w) where
   abbrev z : Parts
@@ -36,9 +36,9 @@ module _ (w : ClosedTable) (places numbers : List ℕ) (left_are : AreLeft w (ra
 
   pub node_place : (r place : ℕ) → IsNodeIn w r → place ≡ place_in r → (x : NodeName) × IsPlaced z (events_in z w.words) x × IsLeft w x × (place ≡ place_of z x)
   node_place r place node e =
-      let x = node told.0 told.1 told.3 in
-      let t = node_told w places numbers left_are told.0 told.1 told.3 x.0 r x.1 in
-      (x.0, told.3.names x.0 (kind_in r) (index_in r) t.0, (told.3.live x.0).0 (kind_in r, index_in r, t.0), e ∙ t.1)
+      let x = node told.0 (is_reached_in w) told.2 in
+      let t = node_told w places numbers left_are told.0 (is_reached_in w) told.2 x.0 r x.1 in
+      (x.0, told.2.names x.0 (kind_in r) (index_in r) t.0, (told.2.live x.0).0 (kind_in r, index_in r, t.0), e ∙ t.1)
 
   pub node_small : (r : ℕ) → IsNodeIn w r → place_in r < 4294967296
   node_small r node =
@@ -48,8 +48,8 @@ module _ (w : ClosedTable) (places numbers : List ℕ) (left_are : AreLeft w (ra
 
   pub table_long : (kinds : List (Kind × ℕ)) (partners : List ℕ) → IsPartly w places kinds partners → (length kinds ≡ length places) × (length partners ≡ z.free + 3 * length places) × (length partners < 100000000)
   table_long kinds partners h =
-      let k = h told.0 told.1 told.3 in
-      (k.kinds_long, k.partners_long, omega (arith, k.partners_long, left_are.few, told.3.small.free, told.3.small.nodes, told.3.small.fuel, events_few z w.words))
+      let k = h told.0 (is_reached_in w) told.2 in
+      (k.kinds_long, k.partners_long, omega (arith, k.partners_long, left_are.few, told.2.small.free, told.2.small.nodes, told.2.small.fuel, events_few z w.words))
 
   module _ (kinds : List (Kind × ℕ)) (partners : List ℕ) (before : IsPartly w places kinds partners) (r : ℕ) (node : IsNodeIn w r) (n : ℕ) (lt : n < length places) (at : slice_index places n ≡ place_in r)
       (kinds' : List (Kind × ℕ)) (partners' : List ℕ) (k : kinds' ≡ slice_set kinds n (kind_in r, index_in r)) (p : partners' ≡ partners) where

@@ -8,8 +8,7 @@ use Rattle.ol_reduce.specs.declared.workers.Worker.{Worker}
 
 pub worker_of_fresh : (b : Board) (p : PoolState) (w : Worker) → IsFresh b w.seat → IsOfPool w.hand p → IsWorker b p w
 worker_of_fresh b p w f h =
-    let swept : w.seat.view.swept ≡ 0 = ap (λ (v : View). v.swept) f.1 in
     let holds : w.seat.view.holds ≡ 1 = ap (λ (v : View). v.holds) f.1 in (
-      (((f.0, (ap (λ (v : View). v.parts) f.1, ap (λ (v : View). v.seats) f.1, omega (arith, holds))), omega (arith, swept)), holds),
+      ((f.0, (ap (λ (v : View). v.parts) f.1, ap (λ (v : View). v.seats) f.1, omega (arith, holds), ap (λ (v : View). v.start) f.1)), holds),
       h,
     )

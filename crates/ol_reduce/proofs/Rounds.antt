@@ -4,6 +4,7 @@ use Rattle.std.specs.Prelude.{replicate, take}
 use Rattle.std.proofs.lemmas.List.{get_or_default}
 use Rattle.ol_wire.specs.declared.layout.Parts.{Parts}
 use Rattle.ol_wire.specs.Layout.{size}
+use Rattle.ol_wire.specs.Standing.{is_reached_in}
 use Rattle.ol_wire.specs.Closed.{ClosedTable}
 use Rattle.ol_reduce.specs.Left.{ranks_in, AreLeft}
 use Rattle.ol_reduce.specs.Found.{AreMetTo, AreCelledTo, IsWordOf, IsWordAt, KeepsPartners}
@@ -24,7 +25,7 @@ module _ (w : ClosedTable) (places numbers : List ℕ) (left_are : AreLeft w (ra
       subst (λ a. IsWordOf w N reached places a at) (sym p) (subst (λ n. IsWordOf w N reached places (z.free + 3 * j + (c + 1)) n) (sym q) (word_of_slot w places numbers left_are N reached s j c lt small))
 
   pub slot_within : (j c at : ℕ) → j < length places → c < 2 → at ≡ slice_index places j + c → at < size z
-  slot_within j c at lt small q = omega (arith, q, field_within w places numbers left_are told.0 told.1 told.3 j c lt small)
+  slot_within j c at lt small q = omega (arith, q, field_within w places numbers left_are told.0 (is_reached_in w) told.2 j c lt small)
 
   pub slot_below : (j c at : ℕ) → j < length places → c < 2 → at ≡ slice_index places j + c → at < 100000000
   slot_below j c at lt small q = omega (arith, slot_within j c at lt small q, small_of w told)

@@ -1,5 +1,5 @@
 -- What one turn leaves, by its answer, and what one turn more leaves.
-use Rattle.std.proofs.Common.{◌≡◌, ℕ, suc, ◌+◌, ◌<◌, ◌≤◌, List, [], ◌∷◌, ◌++◌, Bool, true, false, refl, sym, ap, ◌∙◌, subst, arith, nat_eq, eq-eqb, ne_eqb, ◌&&◌, if◌then◌else◌, inl, inr}
+use Rattle.std.proofs.Common.{◌≡◌, ◌≢◌, ℕ, suc, ◌+◌, ◌≤◌, List, [], ◌∷◌, ◌++◌, true, false, refl, sym, ap, ◌∙◌, subst, arith, nat_eq, eq-eqb, ne_eqb, ◌&&◌, if◌then◌else◌, inl, inr}
 use Rattle.std.proofs.lemmas.Bool.{cases_eq, cases_lt}
 use Rattle.std.proofs.lemmas.List.{append_assoc, append-nil}
 use Rattle.ol_net.specs.declared.parts.Rule.{Rule}
@@ -7,22 +7,40 @@ use Rattle.ol_wire.specs.declared.layout.Parts.{Parts}
 use Rattle.ol_wire.specs.declared.view.View.{View}
 use Rattle.ol_wire.specs.declared.turning.Turn.{Turn}
 use Rattle.ol_wire.specs.declared.turning.Turn.TheVariants.{Rewrote, Gone, Stuck, Spent}
+use Rattle.ol_wire.specs.Hands.{IsStuckLast}
 use Rattle.ol_wire.specs.Layout.{cells_of}
 use Rattle.ol_wire.specs.Plays.{swept_on}
-use Rattle.ol_wire.specs.Turns.{FoundActive, Leaves}
-use Rattle.ol_reduce.specs.Turned.{cells_below, HasTurned, HasSpent}
+use Rattle.ol_wire.specs.Turns.{FoundActive, IsRewrote, HasCause, Leaves}
+use Rattle.ol_reduce.specs.Turned.{cells_below, IsTurn, HasTurned, HasSpent, TurnsTell}
 
-pub swept_by : (z : Parts) (v : View) (c : ℕ) (t : Turn) (n : View) → Leaves z v c t n → (t ≡ Spent → ⊥) → n.swept ≡ swept_on v c
+-- the view after a turn shows the cause of the answer
+pub cause_of : (t : Turn) (n : View) → (t ≡ Gone → n.last.0 ≡ 0) → (t ≡ Stuck → (n.last.0 ≢ 0) × IsStuckLast n) → (t ≡ Spent → FoundActive n × (n.over ≡ true))
+    → (IsRewrote t → FoundActive n × (n.over ≡ false)) → HasCause t n
+cause_of Gone n gone stuck spent rewrote = gone refl
+cause_of Stuck n gone stuck spent rewrote = stuck refl
+cause_of Spent n gone stuck spent rewrote = spent refl
+cause_of (Rewrote t r b m) n gone stuck spent rewrote = rewrote tt
+
+swept_by : (z : Parts) (v : View) (c : ℕ) (t : Turn) (n : View) → Leaves z v c t n → t ≢ Spent → n.swept ≡ swept_on v c
 swept_by z v c Gone n l d = ap (λ (u : View). u.swept) l
 swept_by z v c Stuck n l d = ap (λ (u : View). u.swept) l
 swept_by z v c Spent n l d = absurd (d refl)
 swept_by z v c (Rewrote t r b m) n l d = ap (λ (u : View). u.swept) l.view
 
-pub over_by : (z : Parts) (v : View) (c : ℕ) (t : Turn) (n : View) → Leaves z v c t n → (t ≡ Spent → ⊥) → n.over ≡ v.over
-over_by z v c Gone n l d = ap (λ (u : View). u.over) l
-over_by z v c Stuck n l d = ap (λ (u : View). u.over) l
-over_by z v c Spent n l d = absurd (d refl)
-over_by z v c (Rewrote t r b m) n l d = ap (λ (u : View). u.over) l.view
+claimed_by : (z : Parts) (v : View) (c : ℕ) (t : Turn) (n : View) → Leaves z v c t n → n.claimed ≡ v.claimed ++ c ∷ []
+claimed_by z v c Gone n l = ap (λ (u : View). u.claimed) l
+claimed_by z v c Stuck n l = ap (λ (u : View). u.claimed) l
+claimed_by z v c Spent n l = ap (λ (u : View). u.claimed) l
+claimed_by z v c (Rewrote t r b m) n l = ap (λ (u : View). u.claimed) l.view
+
+-- one turn more
+pub turned_more : (z : Parts) (v : View) (cells : List ℕ) (m n : View) (c : ℕ) (t : Turn) → HasTurned z v cells m → IsTurn z m c t n → t ≢ Spent → HasTurned z v (cells ++ c ∷ []) n
+turned_more z v [] m n c t same turn not_spent = (n, t, subst (λ (u : View). IsTurn z u c t n) same turn, not_spent, refl)
+turned_more z v (a ∷ cells) m n c t (u, s, first, not_first, rest) turn not_spent = (u, s, first, not_first, turned_more z u cells m n c t rest turn not_spent)
+
+pub turns_tell : TurnsTell
+turns_tell z v n [] same = ap (λ (u : View). u.claimed) same ∙ sym (append-nil v.claimed)
+turns_tell z v n (c ∷ cells) (m, t, turn, not_spent, rest) = turns_tell z m n cells rest ∙ ap (λ xs. xs ++ cells) (claimed_by z v c t m turn.leaves) ∙ append_assoc v.claimed (c ∷ []) cells
 
 -- a sweep that began with s swept has swept x before cell c
 abbrev pub IsSweptTo : ℕ → ℕ → ℕ → Type 0
@@ -44,75 +62,40 @@ swept_more s c x h all e to = elim (cases_eq c x) [
 ]
 
 -- a sweep that began at v and made its turns on the cells below c
-pub record IsAt (v : View) (c : ℕ) (n : View) : Type 0 where
-  pub turned : HasTurned v (cells_below c) n
+pub record IsAt (z : Parts) (v : View) (c : ℕ) (n : View) : Type 0 where
+  pub turned : HasTurned z v (cells_below c) n
   pub swept : IsSweptTo v.swept c n.swept
 
-pub at_first : (v : View) → IsAt v 0 v
-at_first v = record { turned = record { claimed = sym (append-nil v.claimed); over = refl }; swept = (λ le. omega (arith, le), λ le. refl) }
+pub at_first : (z : Parts) (v : View) → IsAt z v 0 v
+at_first z v = record { turned = refl; swept = (λ le. omega (arith, le), λ le. refl) }
 
-pub at_next : (v : View) (c d : ℕ) (m n : View) → d ≡ c + 1 → m.holds ≡ m.seats → IsAt v c m → n.swept ≡ swept_on m c → HasTurned m (c ∷ []) n → IsAt v d n
-at_next v c d m n e all at swept turned =
+pub at_next : (z : Parts) (v : View) (c d : ℕ) (m n : View) (t : Turn) → d ≡ c + 1 → m.holds ≡ m.seats → IsAt z v c m → IsTurn z m c t n → t ≢ Spent → IsAt z v d n
+at_next z v c d m n t e all at turn not_spent =
+    let swept : n.swept ≡ swept_on m c = swept_by z m c t n turn.leaves not_spent in
     let more : IsSweptTo v.swept (suc c) n.swept = subst (λ x. IsSweptTo v.swept (suc c) x) (sym swept) (swept_more v.swept c m.swept m.holds m.seats all at.swept) in
-    let claimed : n.claimed ≡ v.claimed ++ cells_below (suc c) = turned.claimed ∙ ap (λ xs. xs ++ c ∷ []) at.turned.claimed ∙ append_assoc v.claimed (cells_below c) (c ∷ []) in
     let up : suc c ≡ d = omega (arith, e) in
-    let here : IsAt v (suc c) n = record { turned = record { claimed = claimed; over = turned.over ∙ at.turned.over }; swept = more } in
-    subst (λ k. IsAt v k n) up here
-
--- a turn sweeps at most all cells
-swept_within : (v : View) (c all : ℕ) → c < all → v.swept ≤ all → swept_on v c ≤ all
-swept_within v c all lt le = elim (cases_eq c v.swept) [
-  | inl f ↦ within (nat_eq v.holds v.seats && nat_eq c v.swept) (omega (arith, f, lt))
-  | inr f ↦ subst (λ b. (if nat_eq v.holds v.seats && b then suc v.swept else v.swept) ≤ all) (sym (ne_eqb c v.swept f)) (neither (nat_eq v.holds v.seats))
-]
-  where
-    within : (b : Bool) → suc v.swept ≤ all → (if b then suc v.swept else v.swept) ≤ all
-    within true h = h
-    within false h = le
-
-    neither : (b : Bool) → (if b && false then suc v.swept else v.swept) ≤ all
-    neither true = le
-    neither false = le
-
-pub within_by : (z : Parts) (v : View) (c : ℕ) (t : Turn) (n : View) → Leaves z v c t n → c < cells_of z → v.swept ≤ cells_of z → n.swept ≤ cells_of z
-within_by z v c Gone n l lt le = subst (λ x. x ≤ cells_of z) (sym (ap (λ (u : View). u.swept) l)) (swept_within v c (cells_of z) lt le)
-within_by z v c Stuck n l lt le = subst (λ x. x ≤ cells_of z) (sym (ap (λ (u : View). u.swept) l)) (swept_within v c (cells_of z) lt le)
-within_by z v c Spent n l lt le = subst (λ x. x ≤ cells_of z) (sym (ap (λ (u : View). u.swept) l)) le
-within_by z v c (Rewrote t r b m) n l lt le = subst (λ x. x ≤ cells_of z) (sym (ap (λ (u : View). u.swept) l.view)) (swept_within v c (cells_of z) lt le)
+    let here : IsAt z v (suc c) n = record { turned = turned_more z v (cells_below c) m n c t at.turned turn not_spent; swept = more } in
+    subst (λ k. IsAt z v k n) up here
 
 -- a worker that began at v and made turns, none of which answered Spent
 pub record HasWorked (z : Parts) (v n : View) : Type 0 where
   pub holds : n.holds ≡ v.holds
-  pub swept : v.swept ≤ cells_of z → n.swept ≤ cells_of z
   pub cells : List ℕ
-  pub turned : HasTurned v cells n
+  pub turned : HasTurned z v cells n
 
 pub worked_first : (z : Parts) (v : View) → HasWorked z v v
-worked_first z v = record { holds = refl; swept = (λ le. le); cells = []; turned = record { claimed = sym (append-nil v.claimed); over = refl } }
+worked_first z v = record { holds = refl; cells = []; turned = refl }
 
-pub worked_next : (z : Parts) (v m n : View) (c : ℕ) (t : Turn) → HasWorked z v m → Leaves z m c t n → (t ≡ Spent → ⊥) → c < cells_of z → n.holds ≡ m.holds → n.claimed ≡ m.claimed ++ c ∷ [] → HasWorked z v n
-worked_next z v m n c t w l d lt holds claimed = record {
+pub worked_next : (z : Parts) (v m n : View) (c : ℕ) (t : Turn) → HasWorked z v m → IsTurn z m c t n → t ≢ Spent → n.holds ≡ m.holds → HasWorked z v n
+worked_next z v m n c t w turn not_spent holds = record {
   holds = holds ∙ w.holds;
-  swept = λ le. within_by z m c t n l lt (w.swept le);
   cells = w.cells ++ c ∷ [];
-  turned = record {
-    claimed = claimed ∙ ap (λ xs. xs ++ c ∷ []) w.turned.claimed ∙ append_assoc v.claimed w.cells (c ∷ []);
-    over = over_by z m c t n l d ∙ w.turned.over;
-  };
+  turned = turned_more z v w.cells m n c t w.turned turn not_spent;
 }
 
--- what its last turn leaves, where it answered Spent
-pub record HasEnded (z : Parts) (v n : View) : Type 0 where
-  pub holds : n.holds ≡ v.holds
-  pub swept : v.swept ≤ cells_of z → n.swept ≤ cells_of z
-  pub spent : (cells : List ℕ) × (c : ℕ) × HasSpent v cells c n
-
-pub ended_next : (z : Parts) (v m n : View) (c : ℕ) (t : Turn) → HasWorked z v m → Leaves z m c t n → c < cells_of z → n.holds ≡ m.holds → n.claimed ≡ m.claimed ++ c ∷ [] → FoundActive n × (n.over ≡ true) → HasEnded z v n
-ended_next z v m n c t w l lt holds claimed found = record {
-  holds = holds ∙ w.holds;
-  swept = λ le. within_by z m c t n l lt (w.swept le);
-  spent = (w.cells, c, record { claimed = claimed ∙ ap (λ xs. xs ++ c ∷ []) w.turned.claimed; active = found.0; over = found.1 });
-}
+-- its last turn answered Spent
+pub ended_next : (z : Parts) (v m n : View) (c : ℕ) (t : Turn) → HasWorked z v m → IsTurn z m c t n → t ≡ Spent → (cells : List ℕ) × (c : ℕ) × HasSpent z v cells c n
+ended_next z v m n c t w turn e = (w.cells, c, (m, w.turned, subst (λ (s : Turn). IsTurn z m c s n) e turn))
 
 -- the four cells of a ticket are cells
 pub born_within : (z : Parts) (v : View) (c t : ℕ) (r : Rule) (b m : ℕ) (n : View) → Leaves z v c (Rewrote t r b m) n → b + 4 ≤ cells_of z

@@ -11,7 +11,7 @@ use Rattle.ol_wire.specs.References.{place_in, wire_ref}
 use Rattle.ol_wire.specs.Layout.{size, port_word}
 use Rattle.ol_wire.specs.Stands.{IsEnd, of_port}
 use Rattle.ol_wire.specs.Closed.{ClosedTable}
-use Rattle.ol_wire.specs.Standing.{StandsFor}
+use Rattle.ol_wire.specs.Standing.{is_reached_in, StandsFor}
 use Rattle.ol_reduce.specs.declared.chains.End.{End}
 use Rattle.ol_reduce.specs.declared.chains.End.TheVariants.{Node, Port, Wire}
 use Rattle.ol_reduce.specs.Left.{ranks_in, AreLeft}
@@ -60,7 +60,7 @@ module _ (w : ClosedTable) (places numbers : List ℕ) (left_are : AreLeft w (ra
 
     pub link_keeps : KeepsPartners partners partners3 × (length partners3 ≡ length partners)
     link_keeps = (
-      (λ c h. subst (λ ps. other ps c ≢ c) (sym p3) (still_linked partners1 a b low1 ltb1 (ends_apart w places numbers left_are told.0 told.1 told.3 kinds1 partners1 (after1 told.0 told.1 told.3) a b low1 ltb1 (link told.0 told.1 told.3)) c (subst (λ ps. other ps c ≢ c) (sym p1) h))),
+      (λ c h. subst (λ ps. other ps c ≢ c) (sym p3) (still_linked partners1 a b low1 ltb1 (ends_apart w places numbers left_are told.0 (is_reached_in w) told.2 kinds1 partners1 (after1 told.0 (is_reached_in w) told.2) a b low1 ltb1 (link told.0 (is_reached_in w) told.2)) c (subst (λ ps. other ps c ≢ c) (sym p1) h))),
       ap (λ (l : List ℕ). length l) p3 ∙ length-linked partners1 a b ∙ ap (λ (l : List ℕ). length l) p1,
     )
 
@@ -74,7 +74,7 @@ module _ (w : ClosedTable) (places numbers : List ℕ) (left_are : AreLeft w (ra
     own N reached s = let t = (is_word N reached s).owned (λ q. filled (read ∙ q)) in (t.0, t.1, subst (λ v. IsStart w N reached t.0 v) (sym read) t.2)
 
     pub is_first : IsFirst w first
-    is_first = let t = own told.0 told.1 told.3 in (told.0, told.1, t.0, told.3, t.2)
+    is_first = let t = own told.0 (is_reached_in w) told.2 in (told.0, (is_reached_in w), t.0, told.2, t.2)
 
     abbrev Ends : End → Type 0
     Ends r = (N : NamedNet NodeName) (reached : ℕ → Bool) (e : ℕ) → StandsFor w N reached → IsStart w N reached e first → EndsAt w N reached e r
@@ -93,11 +93,11 @@ module _ (w : ClosedTable) (places numbers : List ℕ) (left_are : AreLeft w (ra
 
     pub port_low : (found : End) (k : ℕ) → found ≡ Port k → Ends found → k < z.free
     port_low found k q h =
-        let t = own told.0 told.1 told.3 in
-        (subst (λ f. EndsAt w told.0 told.1 t.0 f) q (h told.0 told.1 t.0 told.3 t.2)).0
+        let t = own told.0 (is_reached_in w) told.2 in
+        (subst (λ f. EndsAt w told.0 (is_reached_in w) t.0 f) q (h told.0 (is_reached_in w) t.0 told.2 t.2)).0
 
     pub port_within : (found : End) (k : ℕ) → found ≡ Port k → Ends found → k < length partners
-    port_within found k q h = omega (arith, port_low found k q h, (before told.0 told.1 told.3).partners_long)
+    port_within found k q h = omega (arith, port_low found k q h, (before told.0 (is_reached_in w) told.2).partners_long)
 
     pub port_linked : (found : End) (k : ℕ) → found ≡ Port k → Ends found → AllLinked k
     port_linked found k q h N reached s =
@@ -115,7 +115,7 @@ module _ (w : ClosedTable) (places numbers : List ℕ) (left_are : AreLeft w (ra
 
       pub wire_within : u < length met
       wire_within =
-          let r = led_ref w told.0 told.1 told.3 (own told.0 told.1 told.3).0 (wire_ref u) (ends_at told.0 told.1 told.3).2 in
+          let r = led_ref w told.0 (is_reached_in w) told.2 (own told.0 (is_reached_in w) told.2).0 (wire_ref u) (ends_at told.0 (is_reached_in w) told.2).2 in
           let p : place_in (wire_ref u) ≡ u = omega arith in
           omega (arith, r.2, p, long)
 
@@ -126,7 +126,7 @@ module _ (w : ClosedTable) (places numbers : List ℕ) (left_are : AreLeft w (ra
           waiting w places numbers left_are N reached s kinds partners met a n low (before N reached s) (are N reached s) (is_word N reached s) u (slice_index met u) refl f t.0 t.1 (ends_at N reached s).2
 
       pub other_within : slice_index met u ≢ 0 → slice_index met u - 1 < length partners
-      other_within f = (waits told.0 told.1 told.3 f).0
+      other_within f = (waits told.0 (is_reached_in w) told.2 f).0
 
       module _ (kinds3 : List (Kind × ℕ)) (partners3 met3 : List ℕ) (k3 : kinds3 ≡ kinds) (wait : slice_index met u ≡ 0 → (met3 ≡ slice_set met u (a + 1)) × (partners3 ≡ partners))
           (link : slice_index met u ≢ 0 → (met3 ≡ met) × (partners3 ≡ linked partners a (slice_index met u - 1))) where

@@ -9,7 +9,7 @@ use Rattle.ol_net.specs.Pairing.{other}
 use Rattle.ol_rules.specs.declared.journal.NodeName.{NodeName}
 use Rattle.ol_wire.specs.Layout.{cells_of}
 use Rattle.ol_wire.specs.Closed.{ClosedTable}
-use Rattle.ol_wire.specs.Standing.{IsAfter}
+use Rattle.ol_wire.specs.Standing.{is_reached_in, IsAfter}
 use Rattle.ol_reduce.specs.Left.{ranks_in, AreLeft}
 use Rattle.ol_reduce.specs.Drafts.{frozen_top, links_below, IsComplete}
 use Rattle.ol_reduce.specs.Frozen.{IsFrozen}
@@ -34,18 +34,18 @@ module _ (w : ClosedTable) (places numbers : List ℕ) (left_are : AreLeft w (ra
   pub few : (length kinds ≤ 10000000) × (length partners < 100000000)
   few =
       let t = table_long w places numbers left_are told kinds partners whole in
-      (omega (arith, t.0, left_are.few, told.3.small.nodes, told.3.small.fuel, events_few w.plan.parts w.words), t.2)
+      (omega (arith, t.0, left_are.few, told.2.small.nodes, told.2.small.fuel, events_few w.plan.parts w.words), t.2)
 
   pub completed : IsComplete free kinds partners
   completed =
       subst (λ f. IsComplete f kinds partners) (sym same)
-      (is_complete w places numbers left_are told.0 told.1 told.3 kinds partners walked.0 (whole told.0 told.1 told.3) (walked.1 told.0 told.1 told.3) (cells told.0 told.1 told.3))
+      (is_complete w places numbers left_are told.0 (is_reached_in w) told.2 kinds partners walked.0 (whole told.0 (is_reached_in w) told.2) (walked.1 told.0 (is_reached_in w) told.2) (cells told.0 (is_reached_in w) told.2))
 
   pub built : (one : (M N : NamedNet NodeName) → IsAfter w M → IsAfter w N → SameNet M N) → (g : Graph) → Builds frozen_top free kinds (links_below free partners (length partners)) g → (net : NamedNet NodeName) → IsAfter w net → IsFrozen net g
   built one g b net h =
       let b' = subst (λ f. Builds frozen_top f kinds (links_below f partners (length partners)) g) same b in
-      frozen_same told.0 net g (one told.0 net told.2 h)
-      (is_frozen w places numbers left_are told.0 told.1 told.3 kinds partners walked.0 (whole told.0 told.1 told.3) (walked.1 told.0 told.1 told.3) (cells told.0 told.1 told.3) g b')
+      frozen_same told.0 net g (one told.0 net told.1 h)
+      (is_frozen w places numbers left_are told.0 (is_reached_in w) told.2 kinds partners walked.0 (whole told.0 (is_reached_in w) told.2) (walked.1 told.0 (is_reached_in w) told.2) (cells told.0 (is_reached_in w) told.2) g b')
 
 pub map_ok : {A E : Type 0} (P Q : A → Type 0) (r : Result A E) → ((x : A) → P x → Q x) → IfOk r P → IfOk r Q
 map_ok P Q (Ok x) f h = f x h

@@ -1,5 +1,5 @@
 -- What the work of all workers comes to.
-use Rattle.std.specs.Prelude.{◌≡◌, ℕ, List, length}
+use Rattle.std.specs.Prelude.{◌≡◌, ◌≤◌, ℕ, List, length}
 use Rattle.ol_net.specs.Graph.{Graph}
 use Rattle.ol_net.specs.Nets.{NamedNet, net_under}
 use Rattle.ol_net.specs.Numbered.{net_of}
@@ -22,19 +22,30 @@ IsTableOf net fuel seats w = AreParts net fuel w.plan.parts × (w.plan.start.val
 abbrev pub EndsWithin : Graph → ℕ → Type 0
 EndsWithin net fuel = (journal : List Entry) (P : NamedNet NodeName) → IsOneThread (net_under Init (net_of net)) fuel journal P → IsComplete P
 
--- the journal of these words leads to a net without an active pair, and `last` is this net; there is such a net, and one alone
+-- The one-thread run from the net has as many steps as this journal. There is such a run for each fuel.
+abbrev pub IsAsLong : Graph → ℕ → List Entry → Type 0
+IsAsLong net fuel journal = (one_thread : List Entry) (P : NamedNet NodeName) → IsOneThread (net_under Init (net_of net)) fuel one_thread P
+    → length one_thread ≡ length journal
+
+-- The journal of these words is within the fuel and leads to a net without an active pair, and `last` is this net.
 pub record IsDone (net : Graph) (fuel seats : ℕ) (last : Graph) (journal : List Entry) (w : ClosedTable) : Type 0 where
   pub table : IsTableOf net fuel seats w
   pub read : journal ≡ journal_in w.plan.parts w.words
-  pub complete : (M : NamedNet NodeName) → IsAfter w M → IsComplete M
-  pub frozen : (M : NamedNet NodeName) → IsAfter w M → IsFrozen M last
+  pub last_net : NamedNet NodeName
+  pub after : IsAfter w last_net
+  pub complete : IsComplete last_net
+  pub frozen : IsFrozen last_net last
+  pub within : length journal ≤ fuel
+  pub steps : IsAsLong net fuel journal
 
--- the journal has as many entries as the fuel, and leads to a net with an active pair
+-- The journal has as many entries as the fuel, and leads to a net with an active pair.
 pub record IsSpent (net : Graph) (fuel seats : ℕ) (journal : List Entry) (w : ClosedTable) : Type 0 where
   pub table : IsTableOf net fuel seats w
   pub read : journal ≡ journal_in w.plan.parts w.words
+  pub last_net : NamedNet NodeName
+  pub after : IsAfter w last_net
+  pub active : HasActive last_net
   pub steps : length journal ≡ fuel
-  pub active : (M : NamedNet NodeName) → IsAfter w M → HasActive M
 
 abbrev pub Reduces : Graph → ℕ → ℕ → Reduced → Type 0
 Reduces net fuel seats (Done last journal words) = IsDone net fuel seats last journal words

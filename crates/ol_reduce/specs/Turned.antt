@@ -1,20 +1,32 @@
 -- What several turns of a seat leave, one after the other.
-use Rattle.std.specs.Prelude.{◌≡◌, ℕ, List, [], ◌∷◌, ◌++◌, true}
+use Rattle.std.specs.Prelude.{◌≡◌, ◌≢◌, ◌<◌, ℕ, List, [], ◌∷◌, ◌++◌}
 use Rattle.ol_rules.specs.Listed.{each}
+use Rattle.ol_wire.specs.declared.layout.Parts.{Parts}
+use Rattle.ol_wire.specs.declared.turning.Turn.{Turn}
+use Rattle.ol_wire.specs.declared.turning.Turn.TheVariants.{Spent}
 use Rattle.ol_wire.specs.declared.view.View.{View}
-use Rattle.ol_wire.specs.Turns.{FoundActive}
+use Rattle.ol_wire.specs.Layout.{cells_of}
+use Rattle.ol_wire.specs.Turns.{HasCause, Leaves}
 
 -- the cells below n, in order
 abbrev pub cells_below : ℕ → List ℕ
 cells_below n = each n (λ c. c ∷ [])
 
--- Turns on these cells led from the one view to the other. Where the seat wasn't over before, none of them answered Spent.
-pub record HasTurned (v : View) (cells : List ℕ) (n : View) : Type 0 where
-  pub claimed : n.claimed ≡ v.claimed ++ cells
-  pub over : n.over ≡ v.over
+-- One turn on cell c of a table with these parts led from v to n and answered t: n shows the cause of this answer, and is what it leaves of v.
+pub record IsTurn (z : Parts) (v : View) (c : ℕ) (t : Turn) (n : View) : Type 0 where
+  pub within : c < cells_of z
+  pub cause : HasCause t n
+  pub leaves : Leaves z v c t n
 
--- Turns on these cells and one on c came between the two views, and the last one answered Spent: it found an active pair, and the fuel used up.
-pub record HasSpent (v : View) (cells : List ℕ) (c : ℕ) (n : View) : Type 0 where
-  pub claimed : n.claimed ≡ v.claimed ++ cells ++ c ∷ []
-  pub active : FoundActive n
-  pub over : n.over ≡ true
+-- Turns on these cells, one after the other, led from v to n, and none of them answered Spent.
+abbrev pub HasTurned : Parts → View → List ℕ → View → Type 0
+HasTurned z v [] n = n ≡ v
+HasTurned z v (c ∷ cells) n = (m : View) × (t : Turn) × IsTurn z v c t m × (t ≢ Spent) × HasTurned z m cells n
+
+-- Such turns led from v to a view between, and then one on c, which answered Spent, to n.
+abbrev pub HasSpent : Parts → View → List ℕ → ℕ → View → Type 0
+HasSpent z v cells c n = (m : View) × HasTurned z v cells m × IsTurn z m c Spent n
+
+-- Turns claim their cells, in order.
+abbrev pub TurnsTell : Type 0
+TurnsTell = (z : Parts) (v n : View) (cells : List ℕ) → HasTurned z v cells n → n.claimed ≡ v.claimed ++ cells

@@ -1,4 +1,5 @@
 //! What the work of a seat came to.
+ghost use Rattle.ol_reduce.specs.Turned.{TurnsTell};
 
 /// What a sweep came to.
 ///
@@ -19,3 +20,8 @@ pub enum End {
     Spent,
     Left,
 }
+
+/// Law: turns on some cells, one after the other, add just these cells to those that the seat has claimed.
+pub fn turns_tell()
+    ensures { TurnsTell }
+{}

@@ -3,9 +3,9 @@ ghost use Rattle.std.specs.Prelude.{◌≡◌, ◌<◌, ◌≤◌, All, IfOk, ve
 ghost use Rattle.ol_pool.specs.Pools.{IsOf as IsOfPool};
 ghost use Rattle.ol_wire.specs.Layout.{cells_of};
 ghost use Rattle.ol_wire.specs.Sizes.{IsSmallNet};
-ghost use Rattle.ol_wire.specs.Stand.{IsFresh};
+ghost use Rattle.ol_wire.specs.Stand.{IsFresh, IsOf};
 ghost use Rattle.ol_wire.specs.Starts.{AreParts};
-ghost use Rattle.ol_reduce.specs.Works.{IsSeat, IsSeated, IsWorker};
+ghost use Rattle.ol_reduce.specs.Works.{IsSeated, IsWorker};
 
 use crate::answers::Sweep;
 use crate::sweeping::sweep;
@@ -137,7 +137,7 @@ fn run<R: Threads + Wait + Sync, G: Gate + Sync>(
 fn gather(shared: &Shared, mut workers: Vec<Worker>) -> Seat
     requires workers { All (IsSeated shared.now) workers.items }
     requires some { 0 < vec_len workers }
-    ensures seat { IsSeat shared.now result }
+    ensures seat { IsOf shared.now result }
     ensures holds { result.view.holds ≡ vec_len workers }
 {
     let mut seat = workers.pop().unwrap().into_seat();

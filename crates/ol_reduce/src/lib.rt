@@ -19,7 +19,7 @@ mod tests;
 mod workers;
 mod working;
 
-pub use answers::{End, Sweep};
+pub use answers::{End, Sweep, turns_tell};
 pub use freezing::freeze;
 pub use reduced::Reduced;
 pub use reducing::reduce;

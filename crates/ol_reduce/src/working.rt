@@ -15,9 +15,10 @@ use std::sync::Wait;
 /// Takes cells from the pool and makes a turn on each, up to the first that answers `Spent`, or until no cell
 /// waits. A cell in which a turn published a pair is put into the pool.
 ///
-/// `Spent` comes only where its last turn answered `Spent`, and `Left` exactly where its last `take` answered None. No
-/// clause says that it makes a turn on each cell that it takes, or puts each cell in which it published: a pool's lock
-/// tells nothing of what it guards.
+/// `Spent` comes only where its last turn answered `Spent`, and `Left` exactly where its last `take` answered None. Between
+/// the seat's view before the call and the one after it lie the call's turns, none of which but such a last one answered
+/// `Spent`. No clause says that it makes a turn on each cell that it takes, or puts each cell in which it published: a
+/// pool's lock tells nothing of what it guards.
 ///
 /// The gate is passed at the start with 0, and after each turn with the number of turns made, up to 2^64 - 1, at which
 /// it stays. The call may wait for the pool's lock. A cell for which the pool finds no memory isn't put: its pair stays
@@ -36,10 +37,9 @@ pub fn worker<R: Wait, G: Gate>(
     ensures hand { IsOfPool own.new.hand pool.now }
     ensures number { own.new.number ≡ own.old.number }
     ensures holds { own.new.seat.view.holds ≡ own.old.seat.view.holds }
-    ensures swept { own.old.seat.view.swept ≤ cells_of shared.now.plan.parts → own.new.seat.view.swept ≤ cells_of shared.now.plan.parts }
     ensures left { (result ≡ End.Left) ↔ (own.new.hand.missed ≡ true) }
-    ensures turned { result ≡ End.Left → (cells : List ℕ) × HasTurned own.old.seat.view cells own.new.seat.view }
-    ensures spent { result ≡ End.Spent → (cells : List ℕ) × (c : ℕ) × HasSpent own.old.seat.view cells c own.new.seat.view }
+    ensures turned { result ≡ End.Left → (cells : List ℕ) × HasTurned shared.now.plan.parts own.old.seat.view cells own.new.seat.view }
+    ensures spent { result ≡ End.Spent → (cells : List ℕ) × (c : ℕ) × HasSpent shared.now.plan.parts own.old.seat.view cells c own.new.seat.view }
 {
     let number = own.number;
     let mut turns: u64 = 0;

@@ -1,5 +1,6 @@
 -- The entry that the first two words of a block tell is that of the event that wrote them.
-use Rattle.std.proofs.Common.{◌≡◌, ℕ, ◌+◌, ◌<◌, ◌≤◌, Bool, true, false, nat_lt, if◌then◌else◌, lt-ltb, Option, Some, None, inl, inr, refl, sym, ap, ◌∙◌, arith}
+use Rattle.std.specs.Prelude.{not}
+use Rattle.std.proofs.Common.{◌≡◌, ◌⊎◌, ◌&&◌, ℕ, ◌+◌, ◌<◌, ◌≤◌, Bool, true, false, nat_lt, if◌then◌else◌, lt-ltb, Option, Some, None, inl, inr, refl, sym, ap, ◌∙◌, arith}
 use Rattle.std.proofs.lemmas.Bool.{cases_lt}
 use Rattle.std.proofs.lemmas.Bool.Decides.{nat_tests}
 use Rattle.ol_net.specs.declared.parts.Rule.{Rule}
@@ -11,6 +12,7 @@ use Rattle.ol_wire.specs.References.{kind_in, index_in, place_in}
 use Rattle.ol_net.specs.Parts.{arity}
 use Rattle.ol_rules.specs.Rewriting.{is_meeting}
 use Rattle.ol_wire.specs.Blocks.{copies_of_f, copies_of_g}
+use Rattle.ol_wire.specs.Edges.{crosses_at}
 use Rattle.ol_wire.specs.Events.{Event, rule_between, name_at, earlier, later, entry_of, acting, event_of}
 
 acting_small : (a b : Option Rule) (l r n : ℕ) → place_in l < n → place_in r < n → (place_in (acting a b l r).f < n) × (place_in (acting a b l r).g < n)
@@ -55,7 +57,7 @@ swap_names z r f g = elim (cases_lt (place_in f) (place_in g)) [
     entries r a b x y p q = λ i. record { rule = r; first = p i; second = q i }
 
 -- What is the same whichever of the two nodes comes first is told by the two in order.
-module _ {A : Type 0} (of : Event → A) (turns : (r : Rule) (f g : ℕ) → of (record { rule = r; f = f; g = g }) ≡ of (record { rule = r; f = g; g = f })) where
+module _ {A : Type 0} (of : Event → A) (turns : (r : Rule) (f g : ℕ) → rule_between f g ≡ Some r → rule_between g f ≡ Some r → of (record { rule = r; f = f; g = g }) ≡ of (record { rule = r; f = g; g = f })) where
   read_as : (f g : ℕ) (r : Rule) → rule_between f g ≡ Some r → of (event_of f g) ≡ of (record { rule = r; f = f; g = g })
   read_as f g r h = ap (λ a. of (acting a (rule_between g f) f g)) h
 
@@ -64,7 +66,7 @@ module _ {A : Type 0} (of : Event → A) (turns : (r : Rule) (f g : ℕ) → of 
     where
       go : (a : Option Rule) → a ≡ rule_between g f → of (event_of g f) ≡ of (record { rule = r; f = f; g = g })
       go None e = ap (λ a. of (acting a (rule_between f g) g f)) (sym e) ∙ ap (λ a. of (acting None a g f)) h
-      go (Some s) e = ap (λ a. of (acting a (rule_between f g) g f)) (sym e) ∙ ap (λ (s : Rule). of (record { rule = s; f = g; g = f })) (one_rule g f s r (sym e) h) ∙ turns r g f
+      go (Some s) e = ap (λ a. of (acting a (rule_between f g) g f)) (sym e) ∙ ap (λ (s : Rule). of (record { rule = s; f = g; g = f })) (one_rule g f s r (sym e) h) ∙ turns r g f (sym e ∙ ap (λ (s : Rule). Some s) (one_rule g f s r (sym e) h)) h
 
   pub read_event : (e : Event) → rule_between e.f e.g ≡ Some e.rule → of (event_of (earlier e.f e.g) (later e.f e.g)) ≡ of e
   read_event e h = elim (cases_lt (place_in e.f) (place_in e.g)) [
@@ -73,7 +75,7 @@ module _ {A : Type 0} (of : Event → A) (turns : (r : Rule) (f g : ℕ) → of 
   ]
 
 pub entry_read : (z : Parts) (e : Event) → rule_between e.f e.g ≡ Some e.rule → entry_of z (event_of (earlier e.f e.g) (later e.f e.g)) ≡ entry_of z e
-entry_read z e h = read_event (entry_of z) (swap_names z) e h
+entry_read z e h = read_event (entry_of z) (λ r f g a b. swap_names z r f g) e h
 
 -- how many nodes an event makes
 abbrev pub births_of : Event → ℕ
@@ -87,4 +89,21 @@ births_turn r f g = go (is_meeting r)
     go false = omega arith
 
 pub births_read : (e : Event) → rule_between e.f e.g ≡ Some e.rule → births_of (event_of (earlier e.f e.g) (later e.f e.g)) ≡ births_of e
-births_read e h = read_event births_of births_turn e h
+births_read e h = read_event births_of (λ r f g a b. births_turn r f g) e h
+
+-- whether it made the wire of q and p
+abbrev pub crosses : ℕ → ℕ → Event → Bool
+crosses q p e = crosses_at (Some e) q p
+
+crosses_turn : (q p : ℕ) (r : Rule) (f g : ℕ) → rule_between f g ≡ Some r → rule_between g f ≡ Some r → crosses q p (record { rule = r; f = f; g = g }) ≡ crosses q p (record { rule = r; f = g; g = f })
+crosses_turn q p r f g a b = go (both_ways (kind_in f) (kind_in g) (index_in f) (index_in g) r r a b).plain
+  where
+    go : ((is_meeting r ≡ true) × (arity (kind_in f) ≡ arity (kind_in g))) ⊎ ((arity (kind_in f) ≡ 0) × (arity (kind_in g) ≡ 0))
+        → (not (is_meeting r) && (nat_lt q (arity (kind_in g)) && nat_lt p (arity (kind_in f)))) ≡ (not (is_meeting r) && (nat_lt q (arity (kind_in f)) && nat_lt p (arity (kind_in g))))
+    go (inl h) = ap (λ k. not (is_meeting r) && (nat_lt q (arity (kind_in g)) && nat_lt p k)) h.1 ∙ ap (λ k. not (is_meeting r) && (nat_lt q k && nat_lt p (arity (kind_in g)))) (sym h.1)
+    go (inr h) =
+        ap (λ k. not (is_meeting r) && (nat_lt q (arity (kind_in g)) && nat_lt p k)) (h.0 ∙ sym h.1)
+        ∙ ap (λ k. not (is_meeting r) && (nat_lt q k && nat_lt p (arity (kind_in g)))) (h.1 ∙ sym h.0)
+
+pub crosses_read : (q p : ℕ) (e : Event) → rule_between e.f e.g ≡ Some e.rule → crosses q p (event_of (earlier e.f e.g) (later e.f e.g)) ≡ crosses q p e
+crosses_read q p e h = read_event (crosses q p) (crosses_turn q p) e h

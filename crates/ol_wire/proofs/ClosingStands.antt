@@ -1,21 +1,24 @@
 -- What closed words stand for.
-use Rattle.std.proofs.Common.{◌≡◌, ◌≢◌, ℕ, suc, ◌<◌, Bool, true, false, nat_eq, ◌&&◌, List, [], ◌∷◌, ◌++◌, length, ◌⊎◌, inl, inr, ◌↔◌, slice_index, refl, sym, ap, ◌∙◌, subst, arith}
+use Rattle.std.specs.Prelude.{slice_get}
+use Rattle.std.proofs.Common.{◌≡◌, ◌≢◌, ℕ, zero, suc, ◌<◌, ◌≤◌, Bool, true, false, nat_eq, ◌&&◌, List, [], ◌∷◌, ◌++◌, length, map, Some, ◌⊎◌, inl, inr, ◌↔◌, slice_index, refl, sym, ap, ◌∙◌, subst, arith}
 use Rattle.std.proofs.lemmas.Bool.{false≢true}
 use Rattle.ol_net.specs.declared.parts.Kind.{Kind}
 use Rattle.ol_net.specs.Nets.{NamedNet, HasNode}
 use Rattle.ol_rules.specs.declared.journal.NodeName.{NodeName}
 use Rattle.ol_rules.specs.Runs.{IsComplete}
 use Rattle.ol_rules.proofs.Same.{complete_same}
+use Rattle.ol_wire.specs.declared.view.View.{View}
 use Rattle.ol_wire.specs.References.{place_in, IsNodeRef, IsRef, IsWhole}
 use Rattle.ol_wire.specs.Layout.{Part, ticket, port, field, wire, between, left, right, entry, past, part_of, left_word, cells_of, block, size}
 use Rattle.ol_wire.specs.Events.{Event, IsStuckPair}
-use Rattle.ol_wire.specs.Edges.{edges_in, edges_of, is_reached, is_made, is_wire_made, deaths}
+use Rattle.ol_wire.specs.Edges.{edges_in, edges_of, is_reached, is_made, is_wire_made, crosses_at, times, deaths}
 use Rattle.ol_wire.specs.Stands.{Stands}
 use Rattle.ol_wire.specs.Rule.{IsPlaced}
-use Rattle.ol_wire.specs.Closed.{ClosedTable, IsClosed, events_in}
-use Rattle.ol_wire.specs.Standing.{IsWirePart, IsMadeNode, IsUntouched, StandsFor, IsAfter}
+use Rattle.ol_wire.specs.Closed.{ClosedTable, IsClosed, events_in, log_in}
+use Rattle.ol_wire.specs.Standing.{is_reached_in, IsWirePart, IsMadeNode, IsUntouched, StandsFor, IsAfter}
 use Rattle.ol_wire.proofs.Overlooked.{complete}
-use Rattle.ol_wire.proofs.ClosingTable.{z, s, k, is_full, tickets, pending_none, no_pending}
+use Rattle.ol_wire.proofs.ClosingEntry.{crosses, crosses_read}
+use Rattle.ol_wire.proofs.ClosingTable.{z, s, k, all_in, read, log_told, is_full, tickets, pending_none, no_pending}
 use Rattle.ol_wire.proofs.ClosingCells.{cell_word}
 use Rattle.ol_wire.proofs.ClosingStart.{live_told}
 use Rattle.ol_wire.proofs.ClosingTold.{after, one_after}
@@ -40,9 +43,39 @@ wire_part log right h = absurd (false≢true h)
 wire_part log entry h = absurd (false≢true h)
 wire_part log past h = absurd (false≢true h)
 
+crosses_map : (xs : List Event) (t q p : ℕ) → ((u : ℕ) (e : Event) → slice_get xs u ≡ Some e → crosses q p (read e) ≡ crosses q p e) → crosses_at (slice_get (map read xs) t) q p ≡ crosses_at (slice_get xs t) q p
+crosses_map [] t q p h = refl
+crosses_map (x ∷ xs) zero q p h = h 0 x refl
+crosses_map (x ∷ xs) (suc t) q p h = crosses_map xs t q p (λ u. h (suc u))
+
+made_same : (a b : List Event) → ((t q p : ℕ) → crosses_at (slice_get a t) q p ≡ crosses_at (slice_get b t) q p) → (x : Part) → is_wire_made a x ≡ is_wire_made b x
+made_same a b h (wire j) = refl
+made_same a b h (between t q p) = h t q p
+made_same a b h ticket = refl
+made_same a b h (port n) = refl
+made_same a b h (field x c) = refl
+made_same a b h left = refl
+made_same a b h right = refl
+made_same a b h entry = refl
+made_same a b h past = refl
+
 module _ (w : ClosedTable) (c : IsClosed w) where
   abbrev pub reached : ℕ → Bool
   reached = is_reached (z w c) (k w c).log (s w c).views
+
+  -- a wire is reached where the words tell that it was made, and the last view doesn't have it as dead
+  reached_told : reached ≡ is_reached_in w
+  reached_told = λ i n. (told n) i
+    where
+      crosses_same : (t q p : ℕ) → crosses_at (slice_get (k w c).log t) q p ≡ crosses_at (slice_get (log_in (z w c) w.words) t) q p
+      crosses_same t q p =
+          sym (crosses_map (k w c).log t q p (λ u e h. crosses_read q p e ((k w c).journal.rules u e h)))
+          ∙ ap (λ l. crosses_at (slice_get l t) q p) (sym (log_told w c))
+
+      told : (n : ℕ) → reached n ≡ is_reached_in w n
+      told n =
+          ap (λ b. b && nat_eq (deaths n (s w c).views) 0) (made_same (k w c).log (log_in (z w c) w.words) crosses_same (part_of (z w c) n))
+          ∙ ap (λ d. is_made (z w c) (log_in (z w c) w.words) n && nat_eq d 0) (all_in w c (λ (v : View). times n v.dead) (λ v o e. ap (λ (v : View). times n v.dead) e))
 
   edges_same : edges_of (z w c) (k w c).net (k w c).log (k w c).full (s w c).views ≡ edges_in (z w c) (k w c).net reached w.words (size (z w c))
   edges_same = ap (λ es. edges_in (z w c) (k w c).net reached (k w c).full (size (z w c)) ++ es) (pending_none w c) ∙ sym (append_none (edges_in (z w c) (k w c).net reached (k w c).full (size (z w c)))) ∙ ap (λ l. edges_in (z w c) (k w c).net reached l (size (z w c))) (sym (is_full w c))
@@ -91,5 +124,9 @@ module _ (w : ClosedTable) (c : IsClosed w) where
   pub complete_after : w.view.swept ≡ cells_of w.plan.parts → (net : NamedNet NodeName) → IsAfter w net → IsComplete net
   complete_after all net a = complete_same (k w c).net net (one_after w c (k w c).net net (after w c) a) (all_swept all)
 
-  pub stands_told : (net : NamedNet NodeName) × (reached : ℕ → Bool) × IsAfter w net × StandsFor w net reached
-  stands_told = ((k w c).net, reached, after w c, stands_for (live_told w c (k w c).plan.started))
+  pub stands_told : (net : NamedNet NodeName) × IsAfter w net × StandsFor w net (is_reached_in w)
+  stands_told = ((k w c).net, after w c, subst (λ (r : ℕ → Bool). StandsFor w (k w c).net r) reached_told (stands_for (live_told w c (k w c).plan.started)))
+
+  -- the blocks of tickets that weren't drawn are empty
+  pub undrawn : (n : ℕ) → block w.plan.parts (events_in w.plan.parts w.words) ≤ n → slice_index w.words n ≡ 0
+  undrawn n le = ap (λ l. slice_index l n) (is_full w c) ∙ (k w c).words.fresh n (subst (λ t. block w.plan.parts t ≤ n) (tickets w c) le)

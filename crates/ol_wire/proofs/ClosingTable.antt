@@ -1,5 +1,5 @@
 -- The table of closed words: its views hold nothing, and its words are what they will be.
-use Rattle.std.proofs.Common.{◌≡◌, ℕ, zero, suc, ◌+◌, ◌<◌, ◌≤◌, nat_lt, eq-eqb, lt-ltb, if◌then◌else◌, false, List, [], ◌∷◌, ◌++◌, length, get_or, slice_index, Some, None, inl, inr, refl, sym, ap, ◌∙◌, arith}
+use Rattle.std.proofs.Common.{◌≡◌, ℕ, zero, suc, ◌+◌, ◌<◌, ◌≤◌, nat_lt, eq-eqb, lt-ltb, if◌then◌else◌, false, List, [], ◌∷◌, ◌++◌, map, length, get_or, slice_index, Some, None, inl, inr, refl, sym, ap, ◌∙◌, arith}
 use Rattle.std.specs.Prelude.{slice_get}
 use Rattle.std.proofs.lemmas.Bool.{cases_eq, cases_lt}
 use Rattle.std.proofs.lemmas.Bool.Decides.{nat_tests}
@@ -16,7 +16,7 @@ use Rattle.ol_wire.specs.Weights.{total, pairs, Empties}
 use Rattle.ol_wire.specs.Edges.{links_in, pending_in}
 use Rattle.ol_wire.specs.Rule.{Table, IsView, Kept, entries_of}
 use Rattle.ol_wire.specs.Views.{IsSpent}
-use Rattle.ol_wire.specs.Closed.{ClosedTable, IsClosed, events_in, event_at, journal_in}
+use Rattle.ol_wire.specs.Closed.{ClosedTable, IsClosed, events_in, event_at, log_in, journal_in}
 use Rattle.ol_wire.proofs.Held.{spot, spot_else, weigh_spot, total_at}
 use Rattle.ol_wire.proofs.ClosingEntry.{entry_read}
 use Rattle.ol_wire.proofs.ClosingLists.{whole, same_words, one_each, none_each, each_map}
@@ -42,6 +42,10 @@ no_links (x ∷ l) e = absurd (omega (arith, e))
 none_pending : (views : List View) → total (λ (v : View). length v.pending) views ≡ 0 → pending_in views ≡ []
 none_pending [] e = refl
 none_pending (v ∷ views) e = ap (λ l. links_in l ++ pending_in views) (no_links v.pending (omega (arith, e))) ∙ none_pending views (omega (arith, e))
+
+-- an event, read from the two references in their order
+abbrev pub read : Event → Event
+read e = event_of (earlier e.f e.g) (later e.f e.g)
 
 module _ (w : ClosedTable) (c : IsClosed w) where
   abbrev pub z : Parts
@@ -89,6 +93,10 @@ module _ (w : ClosedTable) (c : IsClosed w) where
     where
       first : slice_index k.full (block z t) ≡ earlier e.f e.g
       first = let q : block z t ≡ block z t + 0 = omega arith in ap (slice_index k.full) q ∙ k.words.entries t 0 e h (omega arith)
+
+  -- the events, read from the words
+  pub log_told : log_in z w.words ≡ map read k.log
+  log_told = ap (λ n. each n (λ t. event_at z w.words t ∷ [])) tickets ∙ each_map read k.log (λ t. event_at z w.words t) event_told
 
   pub entry_told : (t : ℕ) (e : Event) → slice_get k.log t ≡ Some e → entry_of z (event_at z w.words t) ≡ entry_of z e
   entry_told t e h = ap (entry_of z) (event_told t e h) ∙ entry_read z e (k.journal.rules t e h)

@@ -30,6 +30,7 @@ pub mod ClosingCells
 pub mod ClosingNodes
 pub mod ClosingStart
 pub mod ClosingStands
+pub mod NothingLeft
 pub mod WordEdges
 pub mod WordsAfter
 pub mod TicketJournal
@@ -63,6 +64,7 @@ pub mod StepsPublishCells
 pub mod StepsPublish
 pub mod StepsJoin
 pub mod StepsLinkAllowed
+pub mod Sight
 pub mod TurningLinks
 pub mod Opening
 pub mod OpeningPorts

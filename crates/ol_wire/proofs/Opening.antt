@@ -171,7 +171,7 @@ module _ (p : Plan) (fuel : ℕ) (words : List ℕ) (is : IsStart p.start.value 
     all = omega arith;
     calm = omega (arith, is.laid.ticket);
     over = λ v h e. absurd (let bad : false ≡ true = sym (ap (λ (u : View). u.over) (view_is v h)) ∙ e in cc);
-    plans = λ v h held. (ap (λ (u : View). u.parts) (view_is v h), ap (λ (u : View). u.seats) (view_is v h));
+    plans = λ v h held. (ap (λ (u : View). u.parts) (view_is v h), ap (λ (u : View). u.seats) (view_is v h), ap (λ (u : View). u.start) (view_is v h));
     spent = λ v h e. absurd (let q : v.holds ≡ p.seats = ap (λ (u : View). u.holds) (view_is v h) in omega (arith, q, e, some_seat));
     taken = λ v w y h i. absurd (none_taken v (w, y) h i);
     due = λ v w y h i. absurd (none_due v (w, y) h i);

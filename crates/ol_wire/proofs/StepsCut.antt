@@ -15,7 +15,7 @@ use Rattle.ol_wire.specs.Edges.{is_reached, is_made, times, edges_of, edges_in, 
 use Rattle.ol_wire.specs.Stands.{Stands}
 use Rattle.ol_wire.specs.Views.{past_fuel, IsSpent}
 use Rattle.ol_wire.specs.Plays.{fewer, one_seat, cell_at}
-use Rattle.ol_wire.specs.Rule.{Table, Kept, WordsKeep, CellsKeep, SeatsKeep, IsView, IsLasting, IsOwn, IsRightOf, IsMadeRef, IsInOwnBlock, links_at, IsLinkedField}
+use Rattle.ol_wire.specs.Rule.{KnowsPlan, Table, Kept, WordsKeep, CellsKeep, SeatsKeep, IsView, IsLasting, IsOwn, IsRightOf, IsMadeRef, IsInOwnBlock, links_at, IsLinkedField}
 use Rattle.ol_wire.proofs.StepsKeep.{IsSwept}
 use Rattle.core.specs.Prelude.{slice_get}
 use Rattle.ol_wire.proofs.StepsLists.{total_cut, each_cut, edges_same, pending_set, pending_more}
@@ -75,7 +75,7 @@ module _ (p : Plan) (id : ℕ) (v : View) (two : 1 < v.holds) (under : v.over �
     all = total_same (λ (u : View). u.holds) (omega arith) ∙ k.seats.all;
     calm = let e = total_same past_fuel (omega (arith, not_past, not_past_fewer)) in omega (arith, e, k.seats.calm);
     over = viewed (λ u. u.over ≡ true → (p.parts.fuel ≤ get_or s.words 0 0) × HasActive k.net) (k.seats.over v seen) (λ o. absurd (false≢true o)) k.seats.over;
-    plans = viewed (λ u. 0 < u.holds → (u.parts ≡ p.parts) × (u.seats ≡ p.seats)) (λ _. k.seats.plans v seen (omega arith)) (λ _. k.seats.plans v seen (omega arith)) k.seats.plans;
+    plans = viewed (λ u. 0 < u.holds → KnowsPlan p u) (λ _. k.seats.plans v seen (omega arith)) (λ _. k.seats.plans v seen (omega arith)) k.seats.plans;
     spent = viewed (λ u. u.holds ≡ 0 → IsSpent u) (λ q. absurd (omega (arith, two, q))) (λ q. absurd (omega (arith, q))) k.seats.spent;
     taken = λ u a y is m. viewed (λ u'. IsIn (a, y) u'.taken → (part_of p.parts a ≡ left) × (y ≢ 0)) (λ m'. k.seats.taken v a y seen m') (λ m'. elim m' [ ]) (λ u' is' m'. k.seats.taken u' a y is' m') u is m;
     due = λ u a y is m. viewed (λ u'. IsIn (a, y) u'.due → (y ≢ 0) × IsOwn (part_of p.parts a) × IsInOwnBlock p.parts u' a) (λ m'. k.seats.due v a y seen m') (λ m'. elim m' [ ]) (λ u' is' m'. k.seats.due u' a y is' m') u is m;

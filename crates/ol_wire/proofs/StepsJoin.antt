@@ -20,7 +20,7 @@ use Rattle.ol_wire.specs.Stands.{Stands}
 use Rattle.ol_wire.specs.Views.{past_fuel, IsSpent, IsIdle}
 use Rattle.ol_wire.specs.Plays.{joined, cell_at}
 use Rattle.ol_wire.specs.LinkPlays.{spent_view, times_drawn}
-use Rattle.ol_wire.specs.Rule.{Table, Kept, WordsKeep, CellsKeep, SeatsKeep, IsView, IsLasting, IsOwn, IsMadeRef, IsRightOf, IsInOwnBlock, links_at, IsLinkedField, entries_of}
+use Rattle.ol_wire.specs.Rule.{KnowsPlan, Table, Kept, WordsKeep, CellsKeep, SeatsKeep, IsView, IsLasting, IsOwn, IsMadeRef, IsRightOf, IsInOwnBlock, links_at, IsLinkedField, entries_of}
 use Rattle.ol_wire.proofs.Alike.{total_append}
 use Rattle.ol_wire.proofs.StepsLists.{total_set, each_set, pending_set, one_below}
 use Rattle.ol_wire.proofs.StepsLinkLists.{at_number, number_once}
@@ -99,7 +99,7 @@ module _ (p : Plan) (id : ℕ) (v : View) (other : ℕ) (w : View) (idle : IsIdl
     all = total_same (λ (u : View). u.holds) (omega arith) ∙ k.seats.all;
     calm = omega (arith, k.seats.calm, or_past v.over w.over v.holds w.holds, total_glued past_fuel);
     over = viewed (λ u. u.over ≡ true → (p.parts.fuel ≤ get_or s.words 0 0) × HasActive k.net) (or_true v.over w.over _ (k.seats.over v (id, here)) (k.seats.over w (other, was))) (λ o. absurd (false≢true o)) k.seats.over;
-    plans = viewed (λ u. 0 < u.holds → (u.parts ≡ p.parts) × (u.seats ≡ p.seats)) (λ _. k.seats.plans v (id, here) held) (λ lt. absurd (omega (arith, lt))) k.seats.plans;
+    plans = viewed (λ u. 0 < u.holds → KnowsPlan p u) (λ _. k.seats.plans v (id, here) held) (λ lt. absurd (omega (arith, lt))) k.seats.plans;
     spent = viewed (λ u. u.holds ≡ 0 → IsSpent u) (λ q. absurd (omega (arith, held, q))) (λ q. refl) k.seats.spent;
     taken = λ u a y is. viewed (λ u'. IsIn (a, y) u'.taken → (part_of p.parts a ≡ left) × (y ≢ 0)) (λ m. absurd (no_more {A = ℕ × ℕ} (a, y) v.taken idle.0 m)) (λ m. elim m [ ]) (λ u' is'. k.seats.taken u' a y is') u is;
     due = λ u a y is. viewed (λ u'. IsIn (a, y) u'.due → (y ≢ 0) × IsOwn (part_of p.parts a) × IsInOwnBlock p.parts u' a) (λ m. absurd (no_more {A = ℕ × ℕ} (a, y) v.due idle.1 m)) (λ m. elim m [ ]) (λ u' is'. k.seats.due u' a y is') u is;

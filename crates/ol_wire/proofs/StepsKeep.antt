@@ -20,7 +20,7 @@ use Rattle.ol_wire.specs.Edges.{is_reached, is_made, times, edges_of, edges_in, 
 use Rattle.ol_wire.specs.Stands.{Stands}
 use Rattle.ol_wire.specs.Views.{past_fuel, IsSpent}
 use Rattle.ol_wire.specs.Plays.{cell_at}
-use Rattle.ol_wire.specs.Rule.{Table, Kept, WordsKeep, CellsKeep, SeatsKeep, Drawn, IsView, IsLasting, IsOwn, IsRightOf, IsMadeRef, IsInOwnBlock, links_at, filled, IsLinkedField}
+use Rattle.ol_wire.specs.Rule.{KnowsPlan, Table, Kept, WordsKeep, CellsKeep, SeatsKeep, Drawn, IsView, IsLasting, IsOwn, IsRightOf, IsMadeRef, IsInOwnBlock, links_at, filled, IsLinkedField}
 use Rattle.ol_wire.proofs.StepsLists.{total_set, each_set, edges_same, pending_set}
 
 -- one word and one view are set
@@ -42,7 +42,7 @@ empty_list (x ∷ xs) none_in = absurd (none_in x (inl refl))
 -- what a view and a step's other parts share
 pub record Change (p : Plan) (s : Table) (k : Kept p s) (v w : View) (i x : ℕ) (full : List ℕ) : Type 0 where
   pub holds : w.holds ≡ v.holds
-  pub parts : (w.parts ≡ v.parts) × (w.seats ≡ v.seats)
+  pub parts : (w.parts ≡ v.parts) × (w.seats ≡ v.seats) × (w.start ≡ v.start)
   pub made : w.made ≡ v.made
   pub published : w.published ≡ v.published
   pub pending : w.pending ≡ v.pending
@@ -179,7 +179,7 @@ module _ (p : Plan) (s : Table) (k : Kept p s) (id : ℕ) (v w : View) (i x : �
     all = total_same (λ (u : View). u.holds) c.holds ∙ k.seats.all;
     calm = omega (arith, k.seats.calm, c.calm, total_set past_fuel s.views id v w here);
     over = viewed (λ u. u.over ≡ true → (p.parts.fuel ≤ get_or (set s.words i x) 0 0) × HasActive k.net) over_new over_old;
-    plans = viewed (λ u. 0 < u.holds → (u.parts ≡ p.parts) × (u.seats ≡ p.seats)) (λ _. let h = k.seats.plans v seen held in (c.parts.0 ∙ h.0, c.parts.1 ∙ h.1)) k.seats.plans;
+    plans = viewed (λ u. 0 < u.holds → KnowsPlan p u) (λ _. let h = k.seats.plans v seen held in (c.parts.0 ∙ h.0, c.parts.1 ∙ h.1, c.parts.2 ∙ h.2)) k.seats.plans;
     spent = viewed (λ u. u.holds ≡ 0 → IsSpent u) (λ q. absurd (omega (arith, held, c.holds, q))) k.seats.spent;
     taken = λ u a y is. viewed (λ u'. (a' y' : ℕ) → IsIn (a', y') u'.taken → (part_of p.parts a' ≡ left) × (y' ≢ 0)) taken_new (λ u' is' a' y'. k.seats.taken u' a' y' is') u is a y;
     due = λ u a y is. viewed Due (λ a' y' m. due_new a' y' (k.seats.due v a' y' seen (c.due a' y' m))) (λ u' is' a' y'. k.seats.due u' a' y' is') u is a y;

@@ -23,7 +23,7 @@ use Rattle.ol_wire.specs.Edges.{is_reached, is_made, deaths, times, edges_of}
 use Rattle.ol_wire.specs.Stands.{Stands}
 use Rattle.ol_wire.specs.Views.{past_fuel, IsSpent}
 use Rattle.ol_wire.specs.Plays.{cell_at}
-use Rattle.ol_wire.specs.Rule.{Table, Kept, Drawn, WordsKeep, CellsKeep, SeatsKeep, IsView, IsLasting, IsOwn, IsMadeRef, IsRightOf, IsInOwnBlock, links_at, filled, IsLinkedField}
+use Rattle.ol_wire.specs.Rule.{KnowsPlan, Table, Kept, Drawn, WordsKeep, CellsKeep, SeatsKeep, IsView, IsLasting, IsOwn, IsMadeRef, IsRightOf, IsInOwnBlock, links_at, filled, IsLinkedField}
 use Rattle.ol_wire.proofs.Places.{part_field, part_entry}
 use Rattle.ol_wire.proofs.StepsKeep.{after}
 use Rattle.ol_wire.proofs.StepsLists.{total_set, weigh_set}
@@ -229,7 +229,7 @@ module _ (p : Plan) (s : Table) (k : Kept p s) (id : ℕ) (v : View) (i x : ℕ)
     all = total_same (λ (u : View). u.holds) refl ∙ k.seats.all;
     calm = omega (arith, k.seats.calm, ticket_same, total_same past_fuel refl);
     over = viewed (λ u. u.over ≡ true → (z.fuel ≤ get_or (set s.words i x) 0 0) × HasActive k.net) (over v seen) (λ j u d e. over u (j, e));
-    plans = viewed (λ u. 0 < u.holds → (u.parts ≡ z) × (u.seats ≡ p.seats)) (k.seats.plans v seen) (λ j u d e. k.seats.plans u (j, e));
+    plans = viewed (λ u. 0 < u.holds → KnowsPlan p u) (k.seats.plans v seen) (λ j u d e. k.seats.plans u (j, e));
     spent = viewed (λ u. u.holds ≡ 0 → IsSpent u) (λ q. absurd (omega (arith, held, q))) (λ j u d e. k.seats.spent u (j, e));
     taken = λ u a y is. viewed (λ u'. IsIn (a, y) u'.taken → (part_of z a ≡ left) × (y ≢ 0)) (k.seats.taken v a y seen) (λ j u' d e. k.seats.taken u' a y (j, e)) u is;
     due = λ u a y is. viewed (λ u'. IsIn (a, y) u'.due → (y ≢ 0) × IsOwn (part_of z a) × IsInOwnBlock z u' a) (λ m. absurd (none_due a y m)) (λ j u' d e. k.seats.due u' a y (j, e)) u is;

@@ -55,7 +55,7 @@ module _ (p : Plan) (s : Table) (k : Kept p s) (id : ℕ) (v : View) (here : get
     miss : (c : ℕ) → c < cells_of p.parts → w ≡ left_word p.parts c → IsIdle v → get_or s.words w 0 ≡ 0 → Change p s k v (missing v w) w 0 k.full
     miss c low at idle empty = record {
       holds = refl;
-      parts = (refl, refl);
+      parts = (refl, refl, refl);
       made = refl;
       published = refl;
       pending = refl;
@@ -80,7 +80,7 @@ module _ (p : Plan) (s : Table) (k : Kept p s) (id : ℕ) (v : View) (here : get
     claim : get_or s.words w 0 ≢ 0 → Change p s k v (holding v w (get_or s.words w 0)) w 0 k.full
     claim some_pair = record {
       holds = refl;
-      parts = (refl, refl);
+      parts = (refl, refl, refl);
       made = refl;
       published = refl;
       pending = refl;
@@ -117,7 +117,7 @@ module _ (p : Plan) (s : Table) (k : Kept p s) (id : ℕ) (v : View) (here : get
     look : (last : ℕ × ℕ) → Change p s k v (record (knowing v u (get_or s.words u 0)) { last = last }) u (get_or s.words u 0) k.full
     look last = record {
       holds = refl;
-      parts = (refl, refl);
+      parts = (refl, refl, refl);
       made = refl;
       published = refl;
       pending = refl;
@@ -160,7 +160,7 @@ module _ (p : Plan) (s : Table) (k : Kept p s) (id : ℕ) (v : View) (here : get
     write : Change p s k v (wrote v) i x k.full
     write = record {
       holds = refl;
-      parts = (refl, refl);
+      parts = (refl, refl, refl);
       made = refl;
       published = refl;
       pending = refl;
@@ -201,7 +201,7 @@ module _ (p : Plan) (s : Table) (k : Kept p s) (id : ℕ) (v : View) (here : get
     unfolding more
     is_late = record {
       holds = refl;
-      parts = (refl, refl);
+      parts = (refl, refl, refl);
       made = refl;
       published = refl;
       pending = refl;

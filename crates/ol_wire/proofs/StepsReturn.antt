@@ -50,7 +50,7 @@ module _ (p : Plan) (s : Table) (k : Kept p s) (id : ℕ) (v : View) (here : get
     return : Change p s k v (returned v) w x k.full
     return = record {
       holds = refl;
-      parts = (refl, refl);
+      parts = (refl, refl, refl);
       made = refl;
       published = refl;
       pending = refl;

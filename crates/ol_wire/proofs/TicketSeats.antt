@@ -22,7 +22,7 @@ use Rattle.ol_wire.specs.Edges.{crosses_at, is_wire_made, is_made, times, deaths
 use Rattle.ol_wire.specs.Blocks.{block_words}
 use Rattle.ol_wire.specs.Plays.{event_in, IsLookedUp, ticketed}
 use Rattle.ol_wire.specs.Views.{IsSpent}
-use Rattle.ol_wire.specs.Rule.{Table, IsView, IsOwn, IsInOwnBlock, Kept, SeatsKeep, entries_of, IsLinkedField, JournalKeeps}
+use Rattle.ol_wire.specs.Rule.{KnowsPlan, Table, IsView, IsOwn, IsInOwnBlock, Kept, SeatsKeep, entries_of, IsLinkedField, JournalKeeps}
 use Rattle.ol_wire.proofs.Alike.{pairs_append}
 use Rattle.ol_wire.proofs.Claimed.{in_right}
 use Rattle.ol_wire.proofs.Places.{part_entry, part_field}
@@ -152,7 +152,7 @@ module _ (p : Plan) (s : Table) (k : Kept p s) (id : ℕ) (v : View) (here : get
     all = total_same (λ (u : View). u.holds) refl ∙ k.seats.all;
     calm = omega (arith, words.ticket_word p s k id v here w ready low, low);
     over = λ u is o. absurd (viewed (λ u. u.over ≡ true → ⊥) (λ o. let bad : false ≡ true = sym ready.under ∙ o in cc) (λ u is o. omega (arith, low, (k.seats.over u is o).0)) u is o);
-    plans = viewed (λ u. 0 < u.holds → (u.parts ≡ p.parts) × (u.seats ≡ p.seats)) (k.seats.plans v seen) k.seats.plans;
+    plans = viewed (λ u. 0 < u.holds → KnowsPlan p u) (k.seats.plans v seen) k.seats.plans;
     spent = viewed (λ u. u.holds ≡ 0 → IsSpent u) (λ q. absurd (omega (arith, ready.held, q))) k.seats.spent;
     taken = λ u n y' is. viewed (λ u. (n y' : ℕ) → IsIn (n, y') u.taken → (part_of z n ≡ left) × (y' ≢ 0)) (λ n y' h. absurd (subst (λ l. IsIn (n, y') l) (words.taken_is p s k id v here w ready low) h)) (λ u o n y'. k.seats.taken u n y' o) u is n y';
     due = λ u n y' is. viewed Owns owns_new (λ u o n y'. k.seats.due u n y' o) u is n y';

@@ -25,6 +25,10 @@ events_in z words = if nat_lt (slice_index words 0) z.fuel then slice_index word
 abbrev pub event_at : Parts → List ℕ → ℕ → Event
 event_at z words t = event_of (slice_index words (block z t)) (slice_index words (block z t + 1))
 
+-- the events, which the tickets were drawn for
+abbrev pub log_in : Parts → List ℕ → List Event
+log_in z words = each (events_in z words) (λ t. event_at z words t ∷ [])
+
 abbrev pub journal_in : Parts → List ℕ → List Entry
 journal_in z words = each (events_in z words) (λ t. entry_of z (event_at z words t) ∷ [])
 

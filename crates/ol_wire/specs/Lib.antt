@@ -10,6 +10,8 @@ pub mod Stands
 pub mod Weights
 pub mod Views
 pub mod Rule
+pub mod Still
+pub mod Moments
 pub mod Plays
 pub mod LinkPlays
 pub mod Links

@@ -1,5 +1,6 @@
 -- What the steps tell that make the links of a rewrite.
-use Rattle.std.specs.Prelude.{◌≡◌, ◌≢◌, ℕ, zero, suc, ◌+◌, ◌≤◌, ◌⊎◌, nat_eq, if◌then◌else◌, List}
+use Rattle.std.specs.Prelude.{◌≡◌, ◌≢◌, ℕ, zero, suc, ◌+◌, ◌≤◌, ◌⊎◌, nat_eq, if◌then◌else◌, List, []}
+use Rattle.ol_net.specs.Graph.{Graph}
 use Rattle.ol_rules.specs.declared.journal.Entry.{Entry}
 use Rattle.ol_wire.specs.declared.layout.Parts.{Parts}
 use Rattle.ol_wire.specs.declared.view.Link.{Link}
@@ -45,5 +46,8 @@ counts s m r n = (n.1 ≡ m.1) × (n.0 ≡ m.0) × (m.0.holds ≤ m.0.seats) × 
 abbrev pub no_parts : Parts
 no_parts = record { free = 0; nodes = 0; wires = 0; cells = 0; fuel = 0 }
 
+abbrev pub no_net : Graph
+no_net = record { free = 0; nodes = []; partners = [] }
+
 abbrev pub spent_view : View
-spent_view = fresh no_parts 0 0
+spent_view = fresh no_parts no_net 0 0

@@ -133,7 +133,7 @@ joined v w = record v {
 
 -- one seat is cut off
 abbrev pub one_seat : View → View
-one_seat v = fresh v.parts v.seats 1
+one_seat v = fresh v.parts v.start v.seats 1
 
 abbrev pub fewer : View → View
 fewer v = record v { holds = v.holds - 1 }

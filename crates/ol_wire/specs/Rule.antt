@@ -44,6 +44,10 @@ entries_of z log = map (entry_of z) log
 abbrev pub IsView : Table → View → Type 0
 IsView s v = (id : ℕ) × (get_elem? s.views id ≡ some v)
 
+-- the view has what the table was told when it was made
+abbrev pub KnowsPlan : Plan → View → Type 0
+KnowsPlan p v = (v.parts ≡ p.parts) × (v.seats ≡ p.seats) × (v.start ≡ p.start.value)
+
 -- how many links are those of the cell with left word w
 abbrev pub links_at : ℕ → List Link → ℕ
 links_at w links = total (λ (l : Link). if nat_eq l.cell w then 1 else 0) links
@@ -158,7 +162,7 @@ pub record SeatsKeep (p : Plan) (s : Table) (log : List Event) (net : NamedNet N
   -- each seat draws one ticket at most at or above the fuel
   pub calm : slice_index s.words 0 ≤ p.parts.fuel + total past_fuel s.views
   pub over : (v : View) → IsView s v → v.over ≡ true → (p.parts.fuel ≤ slice_index s.words 0) × HasActive net
-  pub plans : (v : View) → IsView s v → 0 < v.holds → (v.parts ≡ p.parts) × (v.seats ≡ p.seats)
+  pub plans : (v : View) → IsView s v → 0 < v.holds → KnowsPlan p v
   pub spent : (v : View) → IsView s v → v.holds ≡ 0 → IsSpent v
   -- a claimed pair is that of a cell
   pub taken : (v : View) (w y : ℕ) → IsView s v → IsIn (w, y) v.taken → (part_of p.parts w ≡ left) × (y ≢ 0)
@@ -174,7 +178,7 @@ pub record SeatsKeep (p : Plan) (s : Table) (log : List Event) (net : NamedNet N
 
 -- a view that has done nothing, of a seat that holds all
 abbrev pub opener : Plan → View
-opener p = fresh p.parts p.seats p.seats
+opener p = fresh p.parts p.start.value p.seats p.seats
 
 -- The rule.
 pub record Kept (p : Plan) (s : Table) : Type 0 where

@@ -17,7 +17,7 @@ pub record Stand : Type 0 where
 
 -- the view is that of a seat of a table with this plan
 abbrev pub IsUnder : Plan → View → Type 0
-IsUnder p v = (v.parts ≡ p.parts) × (v.seats ≡ p.seats) × (0 < v.holds)
+IsUnder p v = (v.parts ≡ p.parts) × (v.seats ≡ p.seats) × (0 < v.holds) × (v.start ≡ p.start.value)
 
 -- the seat is of this table
 abbrev pub IsOf : Board → Stand → Type 0
@@ -25,4 +25,4 @@ IsOf b s = (s.table ≡ b.table) × IsUnder b.plan s.view
 
 -- and it is one seat that has done nothing
 abbrev pub IsFresh : Board → Stand → Type 0
-IsFresh b s = (s.table ≡ b.table) × (s.view ≡ fresh b.plan.parts b.plan.seats 1)
+IsFresh b s = (s.table ≡ b.table) × (s.view ≡ fresh b.plan.parts b.plan.start.value b.plan.seats 1)

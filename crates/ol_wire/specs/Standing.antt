@@ -1,5 +1,5 @@
 -- What the words of a closed table stand for.
-use Rattle.std.specs.Prelude.{◌≡◌, ◌≢◌, ℕ, suc, ◌+◌, ◌<◌, ◌≤◌, Bool, true, List, Some, length, slice_index, slice_get, ◌↔◌, ◌⊎◌}
+use Rattle.std.specs.Prelude.{◌&&◌, nat_eq, ◌≡◌, ◌≢◌, ℕ, suc, ◌+◌, ◌<◌, ◌≤◌, Bool, true, List, Some, length, slice_index, slice_get, ◌↔◌, ◌⊎◌}
 use Rattle.ol_net.specs.declared.parts.Kind.{Kind}
 use Rattle.ol_net.specs.Nets.{NamedNet, HasNode, IsNet}
 use Rattle.ol_net.specs.Parts.{is_eraser}
@@ -12,16 +12,20 @@ use Rattle.ol_wire.specs.References.{place_in, IsNodeRef, IsRef, IsWhole}
 use Rattle.ol_wire.specs.Layout.{Part, wire, between, left, part_of, block, size}
 use Rattle.ol_wire.specs.Sizes.{IsSmall}
 use Rattle.ol_wire.specs.Blocks.{copies_of_f, copies_of_g}
-use Rattle.ol_wire.specs.Edges.{edges_in}
+use Rattle.ol_wire.specs.Edges.{edges_in, is_made, times}
 use Rattle.ol_wire.specs.Stands.{Stands}
 use Rattle.ol_wire.specs.Rule.{IsPlaced, start_net}
-use Rattle.ol_wire.specs.Closed.{ClosedTable, events_in, event_at, journal_in}
+use Rattle.ol_wire.specs.Closed.{ClosedTable, events_in, event_at, log_in, journal_in}
 
 -- a wire of the start, or one that a ticket made
 abbrev pub IsWirePart : Part → Type 0
 IsWirePart (wire j) = Unit {0}
 IsWirePart (between t q p) = Unit {0}
 IsWirePart other = ⊥
+
+-- whether the wire of that word is reached: it was made, and no exchange made it dead
+abbrev pub is_reached_in : ClosedTable → ℕ → Bool
+is_reached_in w n = is_made w.plan.parts (log_in w.plan.parts w.words) n && nat_eq (times n w.view.dead) 0
 
 -- a node of the start, or one that a ticket made
 abbrev pub IsMadeNode : Parts → List ℕ → NodeName → Type 0

@@ -3,6 +3,7 @@ ghost use Rattle.ol_wire.specs.Rule.{Kept, opener};
 ghost use Rattle.ol_wire.specs.Plays.{claims, pairs_up, draws, writes, fewer, one_seat, joined};
 ghost use Rattle.ol_wire.specs.TurnPlays.{reads, returns};
 ghost use Rattle.ol_wire.specs.LinkPlays.{links, places, publishes, counts, spent_view};
+ghost use Rattle.ol_wire.specs.Moments.{sees};
 
 use crate::plan::Plan;
 use crate::view::View;
@@ -85,6 +86,13 @@ pub struct Counts;
 
 impl Play<(), View> for Counts {
     ghost then = { counts };
+}
+
+/// A look at the ticket word, for what holds of the whole table then.
+pub struct Sees;
+
+impl Play<(), View> for Sees {
+    ghost then = { sees };
 }
 
 /// What one seat has done goes to another.

@@ -19,6 +19,7 @@ mod promise;
 mod reference;
 mod rewrite;
 mod seat;
+mod seeing;
 mod shared;
 mod stepping;
 #[cfg(test)]
@@ -30,7 +31,7 @@ pub use closed::Words;
 pub use law::Law;
 pub use layout::Parts;
 pub use plan::Plan;
-pub use promise::at_every_moment;
+pub use promise::{at_every_moment, nothing_is_overlooked};
 pub use reference::{index_in, is_node, kind_in, place_in};
 pub use seat::Seat;
 pub use shared::Shared;

@@ -1,14 +1,14 @@
 //! What the words of a closed table tell, as laws.
-ghost use Rattle.std.specs.Prelude.{◌≡◌, ℕ, Bool, true, Some, slice_get};
+ghost use Rattle.std.specs.Prelude.{◌≡◌, ◌≤◌, ℕ, true, Some, slice_get, slice_index};
 ghost use Rattle.ol_net.specs.declared.parts.Kind.{Kind};
 ghost use Rattle.ol_net.specs.Nets.{NamedNet, HasNode, SameNet};
 ghost use Rattle.ol_rules.specs.declared.journal.NodeName.{NodeName};
 ghost use Rattle.ol_rules.specs.declared.journal.Entry.{Entry};
 ghost use Rattle.ol_rules.specs.Runs.{IsComplete, HasActive};
 ghost use Rattle.ol_wire.specs.Closed.{events_in, journal_in};
-ghost use Rattle.ol_wire.specs.Layout.{cells_of};
+ghost use Rattle.ol_wire.specs.Layout.{block, cells_of};
 ghost use Rattle.ol_wire.specs.Weights.{pairs, numbered};
-ghost use Rattle.ol_wire.specs.Standing.{StandsFor, IsAfter, IsOfEntry, AreOnce};
+ghost use Rattle.ol_wire.specs.Standing.{StandsFor, is_reached_in, IsAfter, IsOfEntry, AreOnce};
 
 use crate::closed::Words;
 
@@ -21,9 +21,17 @@ impl Words {
         let _ = &self.closed;
     }
 
-    /// Law: the words stand for the net after the journal.
+    /// Law: the words stand for the net after the journal. A wire is reached where it was made, by the net at the start or
+    /// by a crossing of the journal, and no exchange of any seat made it dead.
     pub fn stands(&self)
-        ensures stands { (net : NamedNet NodeName) × (reached : ℕ → Bool) × IsAfter self.now net × StandsFor self.now net reached }
+        ensures stands { (net : NamedNet NodeName) × IsAfter self.now net × StandsFor self.now net (is_reached_in self.now) }
+    {
+        let _ = &self.closed;
+    }
+
+    /// Law: the blocks of tickets that weren't drawn are empty.
+    pub fn undrawn(&self)
+        ensures empty { (n : ℕ) → block self.now.plan.parts (events_in self.now.plan.parts self.now.words) ≤ n → slice_index self.now.words n ≡ 0 }
     {
         let _ = &self.closed;
     }

@@ -1,5 +1,6 @@
 //! The seat with which a thread steps on a table.
-ghost use Rattle.std.specs.Prelude.{◌≡◌, ◌<◌, [], false};
+ghost use Rattle.std.specs.Prelude.{◌≡◌, ◌<◌, ◌≤◌, [], false};
+ghost use Rattle.ol_wire.specs.Layout.{cells_of};
 ghost use Rattle.ol_wire.specs.Plays.{fewer, one_seat};
 ghost use Rattle.ol_wire.specs.Stand.{Stand};
 ghost use Rattle.ol_wire.specs.Views.{IsIdle};
@@ -27,7 +28,7 @@ impl Model for Seat {
 
     ghost view = { λ s. record { table = s.token.table_id; view = s.token.me.0 } };
 
-    ghost invariant = { λ s. (s.token.me.1 ≡ []) × IsIdle s.token.me.0 × (s.token.me.0.over ≡ s.over) × (s.token.me.0.holds ≡ s.holds) × (0 < s.holds) };
+    ghost invariant = { λ s. (s.token.me.1 ≡ []) × IsIdle s.token.me.0 × (s.token.me.0.over ≡ s.over) × (s.token.me.0.holds ≡ s.holds) × (0 < s.holds) × (s.token.me.0.swept ≤ cells_of s.token.me.0.parts) };
 }
 
 impl Seat {
@@ -36,6 +37,13 @@ impl Seat {
         ensures { result ≡ self.now.view.holds }
     {
         self.holds
+    }
+
+    /// Law: it has swept at most all cells of its table.
+    pub fn swept_within(&self)
+        ensures within { self.now.view.swept ≤ cells_of self.now.view.parts }
+    {
+        let _ = &self.holds;
     }
 }
 

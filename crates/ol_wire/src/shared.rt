@@ -84,7 +84,7 @@ impl Shared {
 
     // Cuts a seat that has done nothing into seats of one each.
     fn deal(&self, alloc: Global, mut seat: Seat, count: u32) -> Result<Vec<Seat>, NoMemory>
-        requires seat { (seat.table ≡ self.now.table) × (seat.view ≡ fresh self.now.plan.parts self.now.plan.seats count) × (0 < count) }
+        requires seat { (seat.table ≡ self.now.table) × (seat.view ≡ fresh self.now.plan.parts self.now.plan.start.value self.now.plan.seats count) × (0 < count) }
         ensures { IfOk result (λ v. (vec_len v ≡ count) × All (IsFresh self.now) v.items) }
     {
         let Ok(mut seats) = Vec::with_capacity(alloc, count as usize) else {

@@ -107,6 +107,7 @@ fn four_turns_leave_an_identity(rt: HostRuntime) -> Result<(), Fail> {
         turn(&rt, &table, &mut seat, 9),
         rewrote(3, Rule::Croissant, 13, 0)
     );
+    assert_eq!(rt; table.events(&mut seat), 4);
     Ok(())
 }
 
@@ -120,6 +121,7 @@ fn the_fuel_is_spent(rt: HostRuntime) -> Result<(), Fail> {
     turn(&rt, &table, &mut seat, 6);
     assert_eq!(rt; turn(&rt, &table, &mut seat, 9), Turn::Spent);
     assert_eq!(rt; turn(&rt, &table, &mut seat, 9), Turn::Spent);
+    assert_eq!(rt; table.events(&mut seat), 3);
     Ok(())
 }
 

@@ -2,6 +2,7 @@
 //! contracts alone, and takes no memory.
 ghost use Rattle.std.specs.Prelude.{ℕ, List, Bool};
 ghost use Rattle.std.specs.Borrow.{ftrue};
+ghost use Rattle.ol_net.specs.Graph.{Graph};
 ghost use Rattle.ol_rules.specs.declared.journal.Entry.{Entry};
 ghost use Rattle.ol_wire.specs.declared.layout.Parts.{Parts};
 ghost use Rattle.ol_wire.specs.declared.view.Link.{Link};
@@ -43,9 +44,11 @@ pub struct View {
     /// How many cells, from the first on, hold no active pair as far as it knows, once it is the one seat
     /// that is left.
     pub ghost swept: { ℕ },
-    /// The parts and the seats of its table, which a step cannot read elsewhere.
+    /// The parts and the seats of its table, and the net that the table was made from, which a step cannot
+    /// read elsewhere.
     pub ghost parts: { Parts },
     pub ghost seats: { ℕ },
+    pub ghost start: { Graph },
 }
 
 impl Model for View {

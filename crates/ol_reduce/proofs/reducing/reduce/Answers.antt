@@ -1,21 +1,32 @@
-use Rattle.std.proofs.Common.{length, ap, ◌∙◌}
-use Rattle.ol_reduce.proofs.Answered.{steps_in, events_few, few_steps, ends, goes_on}
+use Rattle.std.proofs.Common.{length, ap, sym, ◌∙◌, subst, ◌≤◌}
+use Rattle.ol_reduce.proofs.Answered.{steps_in, events_few, few_steps, ends, as_long, goes_on}
 use Rattle.ol_reduce.proofs.reducing.reduce.Goals as goal
 
 pub returns-in_ok-last-in-Clean-clause-reduced : goal.returns-in_ok-last-in-Clean-clause-reduced
-returns-in_ok-last-in-Clean-clause-reduced g c = record {
-  table = (c.in_ok-words.ensures.parts, c.in_ok-words.ensures.start, c.in_ok-words.ensures.seats);
-  read = c.in_ok-journal.ensures;
-  complete = c.swept.ensures.complete (c.in_ok-words.ensures.clean c.in-Clean.is);
-  frozen = c.in_ok-last-in-Clean.ensures.frozen;
-}
+returns-in_ok-last-in-Clean-clause-reduced g c =
+    let w = c.in_ok-words.words in
+    let M = c.runs.ensures.some.0 in
+    let after = c.runs.ensures.some.1 in
+    let complete = c.swept.ensures.complete (c.in_ok-words.ensures.clean c.in-Clean.is) M after in
+    let few = few_steps w c.args.fuel c.in_ok-words.ensures.parts.fuel (events_few w.plan.parts w.words) in
+    let told = ends c.one_thread_agrees.ensures.done c.args.net.now w c.args.fuel c.is_net.ensures.net c.in_ok-words.ensures.start few M after complete in
+    record {
+      table = (c.in_ok-words.ensures.parts, c.in_ok-words.ensures.start, c.in_ok-words.ensures.seats);
+      read = c.in_ok-journal.ensures;
+      last_net = M;
+      after = after;
+      complete = complete;
+      frozen = c.in_ok-last-in-Clean.ensures.frozen M after;
+      within = subst (λ j. length j ≤ c.args.fuel) (sym c.in_ok-journal.ensures) few;
+      steps = as_long c.args.net.now c.args.fuel _ _ c.in_ok-journal.ensures told.1;
+    }
 
 pub returns-in_ok-last-in-Clean-clause-done : goal.returns-in_ok-last-in-Clean-clause-done
 returns-in_ok-last-in-Clean-clause-done g c =
     let w = c.in_ok-words.words in
     let few = few_steps w c.args.fuel c.in_ok-words.ensures.parts.fuel (events_few w.plan.parts w.words) in (
-      (λ _. ends c.one_thread_agrees.ensures.done c.args.net.now w c.args.fuel c.is_net.ensures.net c.in_ok-words.ensures.start few c.runs.ensures.some.0 c.runs.ensures.some.1
-          (c.swept.ensures.complete (c.in_ok-words.ensures.clean c.in-Clean.is) c.runs.ensures.some.0 c.runs.ensures.some.1)),
+      (λ _. (ends c.one_thread_agrees.ensures.done c.args.net.now w c.args.fuel c.is_net.ensures.net c.in_ok-words.ensures.start few c.runs.ensures.some.0 c.runs.ensures.some.1
+          (c.swept.ensures.complete (c.in_ok-words.ensures.clean c.in-Clean.is) c.runs.ensures.some.0 c.runs.ensures.some.1)).0),
       (λ _. tt),
     )
 
@@ -23,8 +34,10 @@ pub returns-in-Spent-clause-reduced : goal.returns-in-Spent-clause-reduced
 returns-in-Spent-clause-reduced g c = record {
   table = (c.in_ok-words.ensures.parts, c.in_ok-words.ensures.start, c.in_ok-words.ensures.seats);
   read = c.in_ok-journal.ensures;
+  last_net = c.runs.ensures.some.0;
+  after = c.runs.ensures.some.1;
+  active = c.over.ensures.active (c.in_ok-words.ensures.spent c.in-Spent.is) c.runs.ensures.some.0 c.runs.ensures.some.1;
   steps = ap length c.in_ok-journal.ensures ∙ steps_in c.in_ok-words.words.plan.parts c.in_ok-words.words.words ∙ c.over.ensures.fuel (c.in_ok-words.ensures.spent c.in-Spent.is) ∙ c.in_ok-words.ensures.parts.fuel;
-  active = c.over.ensures.active (c.in_ok-words.ensures.spent c.in-Spent.is);
 }
 
 pub returns-in-Spent-clause-done : goal.returns-in-Spent-clause-done

@@ -1,0 +1,33 @@
+-- What a look at the table asks of its seat.
+use Rattle.std.proofs.Common.{◌≡◌, ℕ, ◌<◌, ◌≤◌, List, length, get_or, set, sym, refl, ◌∙◌, subst, arith}
+use Rattle.std.proofs.lemmas.List.{set-get_or}
+use mathlib.Core.Option.{none}
+use Rattle.atomic_table.specs.Table.{step, keeps, Allows}
+use Rattle.atomic_table.proofs.Lists.{set_again}
+use Rattle.ol_wire.specs.declared.plan.Plan.{Plan}
+use Rattle.ol_wire.specs.declared.view.View.{View}
+use Rattle.ol_wire.specs.Plays.{Seated}
+use Rattle.ol_wire.specs.Rule.{Kept, KnowsPlan}
+use Rattle.ol_wire.specs.Moments.{Moment, MomentWith, sees}
+
+-- a view knows one plan
+one_plan : (p q : Plan) (v : View) → KnowsPlan p v → KnowsPlan q v → p ≡ q
+one_plan p q v a b =
+    let parts : p.parts ≡ q.parts = sym a.0 ∙ b.0 in
+    let seats : p.seats ≡ q.seats = sym a.1 ∙ b.1 in
+    let start : p.start.value ≡ q.start.value = sym a.2 ∙ b.2 in
+    λ i. record { parts = parts i; seats = seats i; start = record { marker = p.start.marker; value = start i } }
+
+pub sees_allowed : (p : Plan) (slots id : ℕ) (m : Seated) → 0 < m.0.holds → Allows (Kept p) slots id m 0 (λ n. n) (sees (step slots 0 0 0 none) m)
+sees_allowed p slots id m held s k homes here small =
+    let P : List ℕ → List View → Type 0 = λ ws vs. Kept p record { words = ws; homes = s.homes; views = vs } in
+    let told : (q : Plan) → KnowsPlan q m.0 → MomentWith q m.0 (get_or s.words 0 0) =
+    λ q knows. (record { table = s; kept = subst (λ (t : Plan). Kept t s) (one_plan p q m.0 (k.seats.plans m.0 (id, here) held) knows) k; seen = (id, here) }, refl) in
+    (m.0, keeps, tt, subst (λ ws. P ws (set s.views id m.0)) (sym (set-get_or s.words 0 0)) (subst (P s.words) (sym (set_again s.views id m.0 here)) k), (refl, refl, told))
+
+-- the journal has as many entries as tickets below the fuel were drawn
+pub entries_below : (p : Plan) (v : View) (word : ℕ) (m : Moment p v) → get_or m.table.words 0 0 ≡ word → word < p.parts.fuel → length m.kept.log ≡ word
+entries_below p v word m e lt = m.kept.tickets.below (omega (arith, e, lt)) ∙ e
+
+pub entries_above : (p : Plan) (v : View) (word : ℕ) (m : Moment p v) → get_or m.table.words 0 0 ≡ word → p.parts.fuel ≤ word → length m.kept.log ≡ p.parts.fuel
+entries_above p v word m e le = m.kept.tickets.above (omega (arith, e, le))

@@ -1,0 +1,7 @@
+use Rattle.std.proofs.Common.{subst}
+use Rattle.ol_wire.specs.Closed.{IsClosed}
+use Rattle.ol_wire.proofs.ClosingStands as stands
+use Rattle.ol_wire.proofs.closed.Words.undrawn.Goals as goal
+
+pub returns : goal.returns
+returns c = let closed : IsClosed c.args.self.now = subst IsClosed c.self.view_is c.self.invariant.5 in record { empty = stands.undrawn c.args.self.now closed }

@@ -1,0 +1,37 @@
+//! A look at the whole table, by a seat.
+ghost use Rattle.std.specs.Prelude.{◌≡◌, ℕ, length};
+ghost use Rattle.ol_wire.specs.Moments.{Moment, MomentWith};
+ghost use Rattle.ol_wire.specs.Stand.{IsUnder, IsOf};
+
+use crate::law::Sees;
+use crate::seat::{Seat, Token};
+use crate::shared::Shared;
+
+impl Shared {
+    /// The number of entries that the journal has at a moment of this call. At that moment the words and the views of all
+    /// seats met the rule, for the net that the table was made from, and this seat's view was among them; it stays as it is.
+    ///
+    /// It is one load. It takes no memory and doesn't wait.
+    pub fn events(&self, seat: &mut Seat) -> u32
+        requires seat { IsOf self.now seat.old }
+        ensures seat { seat.new ≡ seat.old }
+        ensures moment { (m : Moment self.now.plan seat.old.view) × (length m.kept.log ≡ result) }
+    {
+        let drawn = self.see(&mut seat.token);
+        if drawn < self.parts.fuel as u64 {
+            drawn as u32
+        } else {
+            self.parts.fuel
+        }
+    }
+
+    // Reads the ticket word.
+    fn see(&self, token: &mut Token) -> u64
+        requires token { (token.old.table_id ≡ self.now.table) × IsUnder self.now.plan token.old.me.0 }
+        ensures token { (token.new.table_id ≡ token.old.table_id) × (token.new.me.1 ≡ token.old.me.1) }
+        ensures view { token.new.me.0 ≡ token.old.me.0 }
+        ensures moment { MomentWith self.now.plan token.old.me.0 result }
+    {
+        self.table.shared.load::<Sees>(token, 0)
+    }
+}
