@@ -20,6 +20,6 @@ fn main(rt: HostRuntime) -> ExitCode {
     };
     let mut src = StdSource::new(&rt);
     let mut out = StdSink::new(&rt);
-    let status = ol(rt.alloc(), &words, &mut src, &mut out, &OpenGate);
-    ExitCode::from(status.number())
+    let outcome = ol(&rt, rt.alloc(), &words, &mut src, &mut out, &OpenGate);
+    ExitCode::from(outcome.status.number())
 }

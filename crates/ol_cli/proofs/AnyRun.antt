@@ -2,12 +2,12 @@
 use Rattle.std.proofs.Common.{◌≡◌, ℕ, suc, ◌+◌, ◌*◌, List, [], ◌∷◌, length, inl, inr, sym, ◌∙◌, subst}
 use Rattle.ol_term.specs.Trees.{Tree}
 use Rattle.ol_net.specs.declared.parts.Kind.{Kind}
-use Rattle.ol_net.specs.Nets.{NamedNet, HasNode, SameNet, net_under}
+use Rattle.ol_net.specs.Nets.{NamedNet, HasNode, IsNet, SameNet, net_under}
 use Rattle.ol_rules.specs.declared.journal.NodeName.{NodeName}
 use Rattle.ol_rules.specs.declared.journal.NodeName.TheVariants.{Init, Born}
 use Rattle.ol_rules.specs.declared.journal.Entry.{Entry}
 use Rattle.ol_rules.specs.Rewriting.{Action, action_of, Rewrites}
-use Rattle.ol_rules.specs.Runs.{IsEntryStep, IsLeadRun, HasActive}
+use Rattle.ol_rules.specs.Runs.{IsEntryStep, IsRun, IsLeadRun, IsComplete, HasActive}
 use Rattle.ol_rules.proofs.Recount.{net_same}
 use Rattle.ol_rules.proofs.Relation.{same_refl, same_sym, same_trans}
 use Rattle.ol_rules.proofs.Same.{complete_same, has_stuck_same}
@@ -15,8 +15,9 @@ use Rattle.ol_rules.proofs.UnderNames.{same_under}
 use Rattle.ol_translate.specs.Translation.{nodes_of, links_of, translation_of}
 use Rattle.ol_readback.specs.Heads.{live}
 use Rattle.ol_readback.specs.Trees.{IsTree}
+use Rattle.ol_readback.specs.declared.answers.ReadNode.{ReadNode}
 use Rattle.ol_cli.specs.Listing.{ListsOnce}
-use Rattle.ol_cli.specs.Evaluation.{start_net, Shows}
+use Rattle.ol_cli.specs.Evaluation.{start_net, Shows, Prints, PrintsOf}
 use Rattle.ol_cli.specs.Journals.{OneThreadIsThere, AnyRunPrints, AnyRunRunsOut}
 use Rattle.ol_cli.proofs.EveryRun.{shows_under}
 use Rattle.ol_diamond.proofs.OneThread.{one_thread_exists, done_tells, spent_tells, longer_tells}
@@ -81,8 +82,12 @@ start_once t names = net_under_once Init (translation_of t (length names)) (λ x
 pub one_thread_is_there : OneThreadIsThere
 one_thread_is_there t names fuel is_net = one_thread_exists (start_net t names) fuel (start_is_net t names is_net) (start_is_named t names is_net)
 
-pub any_run_prints : AnyRunPrints
-any_run_prints t names fuel heads text is_net journal net run complete p =
+-- and what holds of the tree and the term that are printed of the run holds of those that are printed of the one-thread run
+pub any_run_with : (P : List ReadNode → List ℕ → Type 0) (t : Tree) (names : List (List ℕ)) (fuel heads : ℕ) (text : List ℕ) → IsNet (translation_of t (length names)) →
+    (journal : List Entry) (net : NamedNet NodeName) → IsRun (start_net t names) 0 journal net → IsComplete net → (p : PrintsOf names fuel heads journal net text) →
+    P p.shows.tree p.shows.term → (q : Prints t names fuel heads text) × P q.shows.tree q.shows.term
+unfolding shows_under shows_same
+any_run_with P t names fuel heads text is_net journal net run complete p h =
     let N = start_net t names in
     let n = start_is_net t names is_net in
     let b = start_is_named t names is_net in
@@ -94,14 +99,19 @@ any_run_prints t names fuel heads text is_net journal net run complete p =
     let shows = shows_under names heads journal o.0 a.names p.listed text apart (sym a.counts) p.shows in
     let same : SameNet o.1 listed = same_trans o.1 (net_under a.names net) listed (same_sym (net_under a.names net) o.1 a.written.same) (same_under a.names net p.listed p.same) in
     let e = ends_once N o.1 listed 0 o.0 same (start_once t names) shows.once o.2.leads in
-    let c = complete_same o.1 e.net (same_trans o.1 listed e.net same e.same) d.0 in
-    record {
-      journal = o.0;
-      net = e.net;
-      run = record { leads = e.leads; within = o.2.within; ended = inl c };
-      complete = c;
-      shows = shows_same names heads o.0 listed e.net text e.same e.once shows;
-    }
+    let c = complete_same o.1 e.net (same_trans o.1 listed e.net same e.same) d.0 in (
+      record {
+        journal = o.0;
+        net = e.net;
+        run = record { leads = e.leads; within = o.2.within; ended = inl c };
+        complete = c;
+        shows = shows_same names heads o.0 listed e.net text e.same e.once shows;
+      },
+      h,
+    )
+
+pub any_run_prints : AnyRunPrints
+any_run_prints t names fuel heads text is_net journal net run complete p = (any_run_with (λ ns x. Unit {0}) t names fuel heads text is_net journal net run complete p tt).0
 
 pub any_run_runs_out : AnyRunRunsOut
 any_run_runs_out t names fuel is_net journal net run long =

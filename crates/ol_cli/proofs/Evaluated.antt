@@ -1,14 +1,10 @@
--- From the run of the code's net to the run of the term's own.
+-- From the workers' net to what is printed of the term.
 use Rattle.std.proofs.Common.{◌≡◌, ℕ, ◌+◌, ◌*◌, ◌<◌, ◌≤◌, Vec, Global, Result, Ok, Err, IfOk, true, false, List, length, sym, ◌∙◌, subst, inl, inr, ◌⊎◌, arith}
 use Rattle.std.proofs.lemmas.List.{length-map}
 use Rattle.ol_io.specs.declared.outside.NoMemory.{NoMemory}
 use Rattle.ol_term.specs.Trees.{Tree, depth}
 use Rattle.ol_parse.specs.Parsed.{IsFileOf}
 use Rattle.ol_words.specs.Jobs.{Asked, run, walk}
-use Rattle.ol_cli.specs.declared.status.Status.{Status}
-use Rattle.ol_cli.specs.declared.status.Status.TheVariants as status
-use Rattle.ol_cli.specs.Answers.{large, TermAnswer, FileAnswer}
-use Rattle.ol_cli.specs.Trees.{TreeAnswer}
 use Rattle.ol_net.specs.declared.parts.Kind.{Kind}
 use Rattle.ol_net.specs.Graph.{Graph}
 use Rattle.ol_net.specs.Nets.{NamedNet, HasNode, IsNet, SameNet, net_under}
@@ -19,33 +15,42 @@ use Rattle.ol_rules.specs.declared.journal.NodeName.TheVariants.{Init}
 use Rattle.ol_rules.specs.declared.journal.Entry.{Entry}
 use Rattle.ol_rules.specs.Counting.{counts_of}
 use Rattle.ol_rules.specs.Names.{comes_before}
-use Rattle.ol_rules.specs.Runs.{IsComplete, HasActive, IsNaming, RunsTo}
+use Rattle.ol_rules.specs.Runs.{IsRun, IsComplete, HasActive}
 use Rattle.ol_rules.proofs.NameOrder.{not_before_itself}
 use Rattle.ol_rules.proofs.Recount.{net_same}
-use Rattle.ol_rules.proofs.Renaming.{active_to}
-use Rattle.ol_rules.proofs.Same.{complete_same, has_stuck_same, active_same}
-use Rattle.ol_rules.proofs.UnderNames.{same_under, complete_under, has_stuck_under}
+use Rattle.ol_rules.proofs.Relation.{same_sym, same_trans}
+use Rattle.ol_rules.proofs.Same.{complete_same, active_same}
+use Rattle.ol_rules.proofs.UnderNames.{same_under, has_stuck_under}
 use Rattle.ol_rules.proofs.UnderWay.{node_below}
+use Rattle.ol_diamond.proofs.SameNets.{run_from_same}
 use Rattle.ol_translate.specs.Translation.{nodes_of, links_of, translation_of}
+use Rattle.ol_wire.specs.Closed.{ClosedTable}
+use Rattle.ol_wire.specs.Standing.{IsAfter}
+use Rattle.ol_reduce.specs.Frozen.{IsFrozen}
+use Rattle.ol_reduce.specs.Reduced.{IsTableOf}
 use Rattle.ol_readback.specs.Heads.{live}
 use Rattle.ol_readback.specs.Trees.{IsTree}
 use Rattle.ol_readback.specs.Texts.{IsTextOf}
 use Rattle.ol_readback.specs.declared.answers.ReadNode.{ReadNode}
-use Rattle.ol_cli.specs.Listing.{ListsOnce}
+use Rattle.ol_cli.specs.declared.status.Status.{Status}
+use Rattle.ol_cli.specs.declared.status.Status.TheVariants as status
+use Rattle.ol_cli.specs.Answers.{large, TermAnswer, FileAnswer}
+use Rattle.ol_cli.specs.Trees.{TreeAnswer}
 use Rattle.ol_cli.specs.Texts.{line, answer_text}
 use Rattle.ol_cli.specs.Evaluation.{start_net, Shows, RunsOut, Prints, Walks}
+use Rattle.ol_cli.specs.Handed.{journal_of, PrintsWork}
 use Rattle.ol_cli.proofs.NamedNets.{named_net}
-use Rattle.ol_cli.proofs.Alike.{RunsAlike, runs_alike}
 use Rattle.ol_cli.proofs.ListedOnce.{net_of_once, net_of_parts_once, net_under_once, same_length}
 use Rattle.ol_cli.proofs.TreeTransport.{tree_same, tree_under}
 use Rattle.ol_cli.proofs.KeptPorts.{same_ports}
+use Rattle.ol_cli.proofs.AnyRun.{any_run_with, any_run_runs_out}
 
--- a naming gives two numbers that were given out two names
-naming_apart : (start : ℕ) (made : List NodeName) (names : ℕ → NodeName) → IsNaming start made names → (j k : ℕ) → j < start + length made → k < start + length made → names j ≡ names k → j ≡ k
-naming_apart start made names n j k bj bk e = elim (which j k) [
+-- names that rise with their numbers give two numbers two names
+rising_apart : (names : ℕ → NodeName) (n : ℕ) → ((j k : ℕ) → j < k → k < n → comes_before (names j) (names k) ≡ true) → (j k : ℕ) → j < n → k < n → names j ≡ names k → j ≡ k
+rising_apart names n rising j k bj bk e = elim (which j k) [
   | inl r ↦ elim r [
-    | inl lt ↦ absurd (clash j k (n.rising j k lt bk) e)
-    | inr gt ↦ absurd (clash k j (n.rising k j gt bj) (sym e))
+    | inl lt ↦ absurd (clash j k (rising j k lt bk) e)
+    | inr gt ↦ absurd (clash k j (rising k j gt bj) (sym e))
   ]
   | inr q ↦ q
 ]
@@ -59,66 +64,69 @@ naming_apart start made names n j k bj bk e = elim (which j k) [
         let no = not_before_itself (names k) in
         (let z : true ≡ false = sym itself ∙ no in cc)
 
-module _ (t : Tree) (names : List (List ℕ)) (old new : Graph) (fuel : ℕ) (journal : List Entry)
-    (start : SameNet (net_of old) (translation_of t (length names))) (is_net : IsNet (net_of new)) (ran : RunsTo old fuel journal new)
+-- what was read, counted and written of a last net
+pub record Told (names : List (List ℕ)) (heads stuck : ℕ) (journal : List Entry) (last : Graph) (tree : List ReadNode) (term text : List ℕ) : Type 0 where
+  pub is_net : IsNet (net_of last)
+  pub counted : HasStuck (net_of last) stuck
+  pub read : IsTree (net_of last) heads (2 * live (net_of last)) tree
+  pub shown : IsTextOf names tree term
+  pub written : text ≡ answer_text term (counts_of journal) stuck
+
+module _ (t : Tree) (names : List (List ℕ)) (start : Graph) (same : SameNet (net_of start) (translation_of t (length names)))
+    (fuel seats : ℕ) (w : ClosedTable) (table : IsTableOf start fuel seats w) (net : NamedNet NodeName) (after : IsAfter w net)
   where
-    abbrev named : NamedNet NodeName
-    named = net_under ran.leads.names (net_of new)
+    words_run : IsRun (net_under Init (net_of start)) 0 (journal_of w) net
+    words_run = subst (λ (g : Graph). IsRun (net_under Init (net_of g)) 0 (journal_of w) net) table.1 after
 
-    one_name : (x y : ℕ) (k l : Kind) (i j : ℕ) → HasNode (net_of new) x k i → HasNode (net_of new) y l j → ran.leads.names x ≡ ran.leads.names y → x ≡ y
-    one_name x y k l i j h h' e =
-        let b = node_below new x k i h in
-        let b' = node_below new y l j h' in
-        let c = ran.leads.numbers in
-        naming_apart _ _ _ ran.leads.naming x y (omega arith) (omega arith) e
+    -- the run of the words is one from the term's own net
+    own_run : (M : NamedNet NodeName) × IsRun (start_net t names) 0 (journal_of w) M × SameNet net M
+    own_run = run_from_same _ (start_net t names) net 0 (journal_of w) (same_under Init (net_of start) (translation_of t (length names)) same) words_run
 
-    named_once : ListsOnce named
-    named_once = net_under_once ran.leads.names (net_of new) one_name (net_of_once new)
+    own_net : IsNet (net_of start) → IsNet (translation_of t (length names))
+    own_net n = net_same (net_of start) (translation_of t (length names)) same n
 
-    start_once : ListsOnce (start_net t names)
-    start_once = net_under_once Init (translation_of t (length names)) (λ x y k l i j h h' e. cc) (net_of_parts_once (1 + length names) (nodes_of t) (links_of t))
+    pub runs_out : IsNet (net_of start) → HasActive net → length (journal_of w) ≡ fuel → RunsOut t names fuel
+    runs_out n a full =
+        let r = own_run in
+        any_run_runs_out t names fuel (own_net n) (journal_of w) r.0 r.1 (inr (full, (a.0, a.1, a.2, active_same net r.0 r.2 a.0 a.1 a.2 a.3)))
 
-    alike : RunsAlike (start_net t names) fuel journal named
-    alike = runs_alike _ _ named fuel journal (same_under Init (net_of old) (translation_of t (length names)) start) start_once named_once ran.one_thread
+    module _ (last : Graph) (f : IsFrozen net last) where
+      one_name : (x y : ℕ) (k l : Kind) (i j : ℕ) → HasNode (net_of last) x k i → HasNode (net_of last) y l j → f.names x ≡ f.names y → x ≡ y
+      one_name x y k l i j h h' e = rising_apart f.names (length last.nodes) f.rising x y (node_below last x k i h) (node_below last y l j h') e
 
-    -- the tree of the code's net is that of the run's
-    tree_alike : (heads : ℕ) (tree : List ReadNode) → IsTree (net_of new) heads (2 * live (net_of new)) tree → IsTree alike.net heads (2 * live alike.net) tree
-    tree_alike heads tree r =
-        let under = tree_under ran.leads.names (net_of new) is_net one_name heads (2 * live (net_of new)) tree r in
-        let length_under : live named ≡ live (net_of new) = length-map (net_of new).nodes (λ (n : ℕ × Kind × ℕ). (ran.leads.names n.0, n.1, n.2)) in
-        let length_same : live named ≡ live alike.net = same_length named alike.net alike.same named_once alike.once in
-        let e : live (net_of new) ≡ live alike.net = sym length_under ∙ length_same in
-        subst (λ n. IsTree alike.net heads (2 * n) tree) e (tree_same named alike.net alike.same length_same heads (2 * live (net_of new)) tree under)
+      -- the run keeps the free ports
+      pub ports_kept : last.free ≡ 1 + length names
+      ports_kept = f.same.free_ports ∙ same_ports _ net 0 (journal_of w) words_run ∙ same.free_ports
 
-    -- what is printed of the code's net is printed of the run's, and what holds of its tree and term holds of those
-    pub prints_with : (P : List ReadNode → List ℕ → Type 0) (heads n : ℕ) (tree : List ReadNode) (term text : List ℕ) → IsComplete (net_of new) → HasStuck (net_of new) n → IsTree (net_of new) heads (2 * live (net_of new)) tree
-        → IsTextOf names tree term → text ≡ answer_text term (counts_of journal) n → P tree term → (p : Prints t names fuel heads text) × P p.shows.tree p.shows.term
-    prints_with P heads n tree term text c s r sh w h =
-        let shows : Shows names heads journal alike.net text = record {
-          stuck = n;
-          tree = tree;
-          term = term;
-          is_net = net_same named alike.net alike.same (named_net ran.leads.names (net_of new) is_net one_name);
-          once = alike.once;
-          counted = has_stuck_same named alike.net n alike.same (has_stuck_under ran.leads.names (net_of new) is_net one_name n s);
-          read = tree_alike heads tree r;
-          shown = sh;
-          written = w;
-        } in
-        (record { journal = journal; net = alike.net; run = alike.run; complete = complete_same named alike.net alike.same (complete_under ran.leads.names (net_of new) is_net one_name c); shows = shows }, h)
+      module _ (heads stuck : ℕ) (tree : List ReadNode) (term text : List ℕ) (told : Told names heads stuck (journal_of w) last tree term text) (within : length (journal_of w) ≤ fuel) (complete : IsComplete net) where
+        abbrev named : NamedNet NodeName
+        named = net_under f.names (net_of last)
 
-    -- the run keeps the free ports
-    pub ports_kept : new.free ≡ 1 + length names
-    ports_kept = same_ports _ named 0 journal ran.leads.run ∙ start.free_ports
+        shows : Shows names heads (journal_of w) named text
+        shows =
+            let size : live (net_of last) ≡ live named = sym (length-map (net_of last).nodes (λ (n : ℕ × Kind × ℕ). (f.names n.0, n.1, n.2))) in
+            record {
+              stuck = stuck;
+              tree = tree;
+              term = term;
+              is_net = named_net f.names (net_of last) told.is_net one_name;
+              once = net_under_once f.names (net_of last) one_name (net_of_once last);
+              counted = has_stuck_under f.names (net_of last) told.is_net one_name stuck told.counted;
+              read = subst (λ n. IsTree named heads (2 * n) tree) size (tree_under f.names (net_of last) told.is_net one_name heads (2 * live (net_of last)) tree told.read);
+              shown = told.shown;
+              written = told.written;
+            }
 
-    pub runs_out : length journal ≡ fuel → HasActive (net_of new) → RunsOut t names fuel
-    runs_out e a = record {
-      journal = journal;
-      net = alike.net;
-      run = alike.run;
-      full = e;
-      left = (ran.leads.names a.0, ran.leads.names a.1, a.2, active_same named alike.net alike.same _ _ a.2 (active_to ran.leads.names (net_of new) a.0 a.1 a.2 a.3));
-    }
+        pub prints_work : PrintsWork names fuel heads (journal_of w) net text
+        prints_work = record { complete = complete; within = within; last = last; frozen = f; shows = shows }
+
+        -- what is printed of the workers' net is printed of the one-thread run, and what holds of its tree and term holds of those
+        pub prints_with : (P : List ReadNode → List ℕ → Type 0) → IsNet (net_of start) → P tree term → (p : Prints t names fuel heads text) × P p.shows.tree p.shows.term
+        unfolding shows
+        prints_with P n h =
+            let r = own_run in
+            let listed : SameNet r.0 named = same_trans r.0 net named (same_sym net r.0 r.2) (same_sym named net f.same) in
+            any_run_with P t names fuel heads text (own_net n) (journal_of w) r.0 r.1 (complete_same net r.0 r.2 complete) (record { within = within; listed = named; same = listed; shows = shows }) h
 
 -- the tree of the untouched net is that of the translation, and what holds of its tree and term holds of those
 pub walks_with : (P : List ReadNode → List ℕ → Type 0) (t : Tree) (names : List (List ℕ)) (net : Graph) → SameNet (net_of net) (translation_of t (length names)) → (edges heads : ℕ) (tree : List ReadNode) (term text : List ℕ) →

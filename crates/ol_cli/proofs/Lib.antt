@@ -1,7 +1,6 @@
 mod Exact
 mod Evaluated
 mod OneAnswer
-mod Alike
 mod NamedNets
 mod ListedOnce
 mod Following
@@ -16,3 +15,5 @@ mod AnyRun
 mod Sourced
 mod Within
 mod ReadAgain
+mod Handing
+mod Worked

@@ -65,9 +65,10 @@ run_within line asked h =
     let all : w.0 ∷ f.0 ∷ q.0 ∷ [] ≡ t.0 = three_numbers w.0 f.0 q.0 w.1 f.1 q.1 t.0 none q.4 f.4 w.4 in
     let job : run_asks (w.0 ∷ f.0 ∷ q.0 ∷ []) line.names ≡ Some asked = same_job (λ ns. run_asks ns line.names) (w.0 ∷ f.0 ∷ q.0 ∷ []) t.0 asked all t.2 in
     let is = map_some (run w.0 f.0 q.0) (only line.names) asked job in
+    let workers = setting_within workers_setting.limits (values_of workers_setting.option line.options) w.0 (omega arith, omega arith) w.2 in
     let fuel = setting_within fuel_setting.limits (values_of fuel_setting.option line.options) f.0 (omega arith, omega arith) f.2 in
     let heads = setting_within heads_setting.limits (values_of heads_setting.option line.options) q.0 (omega arith, omega arith) q.2 in
-    subst IsWithinLimits {x = run w.0 f.0 q.0 is.0} is.2 (fuel.1, heads.0)
+    subst IsWithinLimits {x = run w.0 f.0 q.0 is.0} is.2 (workers.0, workers.1, fuel.1, heads.0)
 
 walk_within : (line : Line) (asked : Asked) → job_on walk_verb line ≡ Some asked → IsWithinLimits asked
 walk_within line asked h =

@@ -19,7 +19,7 @@ name_of (walk edges heads name) = name
 
 -- the numbers of a job are within the limits of their options
 abbrev pub IsWithinLimits : Asked → Type 0
-IsWithinLimits (run workers fuel heads name) = (fuel ≤ 2000000) × (1 ≤ heads)
+IsWithinLimits (run workers fuel heads name) = (1 ≤ workers) × (workers ≤ 64) × (fuel ≤ 2000000) × (1 ≤ heads)
 IsWithinLimits (walk edges heads name) = 1 ≤ heads
 
 -- how many files a job has

@@ -7,3 +7,4 @@ pub mod Answers
 pub mod Sources
 pub mod Trees
 pub mod Laws
+pub mod Handed

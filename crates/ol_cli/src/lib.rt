@@ -12,7 +12,9 @@ mod texts;
 mod top;
 #[cfg(test)]
 mod walk_tests;
+#[cfg(test)]
+mod worker_tests;
 
 pub use laws::{any_run_tells, every_run_answers, one_answer};
 pub use status::Status;
-pub use top::ol;
+pub use top::{Outcome, ol};

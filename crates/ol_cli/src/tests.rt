@@ -3,7 +3,9 @@ use crate::{Status, ol};
 use ol_io::{MemFile, MemSink, MemSource, OpenGate};
 use std::alloc::{AllocError, Global};
 use std::process::Abort;
+use std::sync::Wait;
 use std::test::Fail;
+use std::thread::Threads;
 
 // The words after the program's name, apart by spaces, and the name and the bytes of the one file.
 #[derive(Drop)]
@@ -30,9 +32,10 @@ fn words_of(alloc: Global, line: &str) -> Result<Vec<String>, AllocError> {
     Ok(words)
 }
 
-// What is written, where the status is this one.
+// What is written, where the status is this one. There are closed words exactly where `run` came to an
+// end, or used up its fuel.
 fn written(
-    rt: &impl Abort,
+    rt: &(impl Abort + Threads + Wait + Sync),
     alloc: Global,
     given: &Given,
     faults: &Faults,
@@ -54,15 +57,17 @@ fn written(
     .ok()
     .ok_or("no memory")?;
     let words = words_of(alloc, given.words)?;
-    let answer = ol(alloc, &words, &mut src, &mut out, &OpenGate);
-    assert_eq!(rt; answer, status, "{}", given.words);
+    let outcome = ol(rt, alloc, &words, &mut src, &mut out, &OpenGate);
+    assert_eq!(rt; outcome.status, status, "{}", given.words);
+    let ran = matches!(status, Status::Done | Status::Spent) && given.words.starts_with("run");
+    assert_eq!(rt; outcome.closed.is_some(), ran, "{}", given.words);
     let text = Vec::from_slice(alloc, out.bytes())?;
     Ok(text)
 }
 
 // Asserts the status and the whole text.
 fn row(
-    rt: &impl Abort,
+    rt: &(impl Abort + Threads + Wait + Sync),
     alloc: Global,
     given: &Given,
     faults: &Faults,
@@ -77,7 +82,7 @@ fn row(
 
 // The same of standard input where nothing fails.
 fn plain(
-    rt: &impl Abort,
+    rt: &(impl Abort + Threads + Wait + Sync),
     alloc: Global,
     words: &str,
     input: &[u8],
@@ -108,7 +113,7 @@ fn answered(alloc: Global, term: &str, n: [u32; 9]) -> Result<String, AllocError
 
 // Asserts the whole text of a run that is done.
 fn run_row(
-    rt: &impl Abort,
+    rt: &(impl Abort + Threads + Wait + Sync),
     alloc: Global,
     words: &str,
     input: &str,
@@ -135,6 +140,8 @@ fn terms_are_printed_with_their_counts(rt: HostRuntime) -> Result<(), Fail> {
             [1, 0, 1, 0, 0, 2, 0, 0, 0],
         ),
         ("run -", pair, "\\a. a", pairs),
+        ("run --workers 1 --fuel 17 -", pair, "\\a. a", pairs),
+        ("run --workers 2 --fuel 17 -", pair, "\\a. a", pairs),
         ("run --workers 64 --fuel 17 -", pair, "\\a. a", pairs),
         (
             "run -",
@@ -158,6 +165,7 @@ fn terms_without_a_redex_are_printed_as_they_are(rt: HostRuntime) -> Result<(), 
     let alloc = rt.alloc();
     let rows = [
         ("run -", "\\x. x", "\\a. a"),
+        ("run -", "\\x. \\y. x y", "\\a b. a b"),
         ("run --fuel 0 -", "\\x. x", "\\a. a"),
         ("run -", "\\x. f x", "\\a. f a"),
         ("run -", "x x", "x x"),
@@ -174,10 +182,38 @@ fn terms_without_a_redex_are_printed_as_they_are(rt: HostRuntime) -> Result<(), 
 fn fuel_is_used_up(rt: HostRuntime) -> Result<(), Fail> {
     let alloc = rt.alloc();
     let rows = [
-        ("run --fuel 16 -", "(\\x. x x) (\\y. y)", "fuel 16\n"),
+        (
+            "run --workers 1 --fuel 16 -",
+            "(\\x. x x) (\\y. y)",
+            "fuel 16\n",
+        ),
+        (
+            "run --workers 2 --fuel 16 -",
+            "(\\x. x x) (\\y. y)",
+            "fuel 16\n",
+        ),
+        (
+            "run --workers 64 --fuel 16 -",
+            "(\\x. x x) (\\y. y)",
+            "fuel 16\n",
+        ),
         ("run --fuel 0 -", "(\\x. x) (\\y. y)", "fuel 0\n"),
         ("run --fuel=007 -- -", "(\\x. x x) (\\y. y)", "fuel 7\n"),
-        ("run -", "(\\x. x x) (\\x. x x)", "fuel 200000\n"),
+        (
+            "run --workers 1 -",
+            "(\\x. x x) (\\x. x x)",
+            "fuel 200000\n",
+        ),
+        (
+            "run --workers 2 -",
+            "(\\x. x x) (\\x. x x)",
+            "fuel 200000\n",
+        ),
+        (
+            "run --workers 64 -",
+            "(\\x. x x) (\\x. x x)",
+            "fuel 200000\n",
+        ),
         (
             "run -",
             "(\\x y. x) (\\z. z) ((\\x. x x) (\\x. x x))",
@@ -348,7 +384,25 @@ fn faults_are_told(rt: HostRuntime) -> Result<(), Fail> {
         };
         row(&rt, alloc, &given, &faults, status, text)?;
     }
-    Ok(())
+    // The three bytes that were read would be refused at byte 2.
+    let given = Given {
+        words: "run -",
+        name: "-",
+        input: b"x $ y",
+    };
+    let faults = Faults {
+        reads: &[2],
+        writes: &[],
+        most: 3,
+    };
+    row(
+        &rt,
+        alloc,
+        &given,
+        &faults,
+        Status::ReadFault,
+        "read fault\n",
+    )
 }
 
 #[test]
@@ -381,9 +435,15 @@ fn other_words_are_usage(rt: HostRuntime) -> Result<(), Fail> {
     Ok(())
 }
 
-// `count` times a text, and then another.
-fn repeated(alloc: Global, text: &[u8], count: u32, last: &[u8]) -> Result<Vec<u8>, AllocError> {
-    let mut all = Vec::new(alloc);
+// A text, `count` times another, and a third.
+fn repeated(
+    alloc: Global,
+    first: &[u8],
+    text: &[u8],
+    count: u32,
+    last: &[u8],
+) -> Result<Vec<u8>, AllocError> {
+    let mut all = Vec::from_slice(alloc, first)?;
     for place in 0..count {
         all.extend_from_slice(text)?;
     }
@@ -394,20 +454,20 @@ fn repeated(alloc: Global, text: &[u8], count: u32, last: &[u8]) -> Result<Vec<u
 #[test]
 fn bytes_are_limited(rt: HostRuntime) -> Result<(), Fail> {
     let alloc = rt.alloc();
-    let mut text = repeated(alloc, b" ", 1_048_575, b"x")?;
+    let mut text = repeated(alloc, b"x", b" ", 1_048_575, b"")?;
     let done = answered(alloc, "x", [0; 9])?;
     plain(&rt, alloc, "run -", &text, Status::Done, &done)?;
     text.push(b' ')?;
     let refused = "limit bytes 1048576\n";
     plain(&rt, alloc, "run -", &text, Status::Limit, refused)?;
-    let open = repeated(alloc, b" ", 1_048_576, b"(")?;
+    let open = repeated(alloc, b"(", b" ", 1_048_576, b"")?;
     plain(&rt, alloc, "walk -", &open, Status::Limit, refused)
 }
 
 #[test]
 fn depth_is_limited(rt: HostRuntime) -> Result<(), Fail> {
     let alloc = rt.alloc();
-    let deep = repeated(alloc, b"\\x. ", 999, b"x")?;
+    let deep = repeated(alloc, b"", b"\\x. ", 999, b"x")?;
     let mut line = String::from_str(
         alloc,
         "\\a b c d e f g h i j k l m n o p q r s t u v w x y z",
@@ -423,17 +483,13 @@ fn depth_is_limited(rt: HostRuntime) -> Result<(), Fail> {
     line.push_str(". k38")?;
     let done = answered(alloc, &line, [0; 9])?;
     plain(&rt, alloc, "run -", &deep, Status::Done, &done)?;
-    let deeper = repeated(alloc, b"\\x. ", 1000, b"x")?;
-    plain(
-        &rt,
-        alloc,
-        "run -",
-        &deeper,
-        Status::Limit,
-        "limit depth 1000\n",
-    )?;
-    let mut inside = repeated(alloc, b"(", 100_000, b"x")?;
-    let closing = repeated(alloc, b")", 100_000, b"")?;
+    let refused = "limit depth 1000\n";
+    let deeper = repeated(alloc, b"", b"\\x. ", 1000, b"x")?;
+    plain(&rt, alloc, "run -", &deeper, Status::Limit, refused)?;
+    let deepest = repeated(alloc, b"\\", b"x ", 500_000, b". x")?;
+    plain(&rt, alloc, "run -", &deepest, Status::Limit, refused)?;
+    let mut inside = repeated(alloc, b"", b"(", 100_000, b"x")?;
+    let closing = repeated(alloc, b"", b")", 100_000, b"")?;
     inside.extend_from_slice(&closing)?;
     let done = answered(alloc, "x", [0; 9])?;
     plain(&rt, alloc, "run -", &inside, Status::Done, &done)
@@ -456,7 +512,7 @@ fn put_tree(text: &mut Vec<u8>, levels: u32) -> Result<(), AllocError> {
 #[test]
 fn nodes_are_limited(rt: HostRuntime) -> Result<(), Fail> {
     let alloc = rt.alloc();
-    let mut text = repeated(alloc, b"(", 5, b"")?;
+    let mut text = repeated(alloc, b"", b"(", 5, b"")?;
     put_tree(&mut text, 15)?;
     for levels in [14, 9, 8, 6, 4] {
         text.push(b' ')?;

@@ -6,127 +6,190 @@ ghost use Rattle.ol_cli.specs.Jobs.{AskForNothing, IsKnownTo, IsWithinLimits, Te
 ghost use Rattle.ol_cli.specs.Answers.{seen, Cause, Ends, IsAnswer, JobCause};
 ghost use Rattle.ol_cli.specs.Sources.{EveryRunTells, WritesTree};
 ghost use Rattle.ol_cli.specs.Trees.{FileIsReadAgain, WordsAreReadAgain, WritesReadable};
+ghost use Rattle.ol_cli.specs.Handed.{Hands, JobHands, WhereEnded, WordsHand};
 
 use crate::evaluation::{Answer, evaluate};
 use crate::status::Status;
 use crate::texts::line;
 use ol_io::{Gate, NoMemory, ReadAll, Sink, Source, Written, read_all, write_all};
+use ol_wire::Words;
 use ol_words::{Job, UsageFault, job};
 use std::alloc::Global;
+use std::sync::Wait;
+use std::thread::Threads;
 
 /// The greatest number of bytes of a term file.
 const MOST_BYTES: usize = 1_048_576;
 
+/// How a call of `ol` ended.
+///
+/// - `status`: what came of it.
+/// - `closed`: the closed words of the table on which the workers rewrote. They are there exactly where
+///   the job was `run` and `status` is `Done` or `Spent`.
+#[derive(Drop)]
+pub struct Outcome {
+    pub status: Status,
+    pub closed: Option<Words>,
+}
+
 /// Does what the words ask for, and tells it to the sink. The words are those of a command line, the
-/// program's name first. No gate is passed yet, since one thread does the work.
+/// program's name first.
 ///
 /// - `run [--workers N] [--fuel F] [--heads Q] NAME` reads a term from the file of that name, `-` being
-///   standard input, translates it into a net, and rewrites the net by at most F interactions. It writes
-///   the term that is read back from the last net, of which the first Q subterms are asked for, and then
-///   how often each rule was applied and how many pairs are stuck.
+///   standard input, translates it into a net, and has N workers rewrite the net by at most F
+///   interactions. It writes the term that is read back from the last net, of which the first Q subterms
+///   are asked for, and then how often each rule was applied and how many pairs are stuck.
 /// - `walk [--edges E] [--heads Q] NAME` writes the term that is read back from the untouched net, each
 ///   walk trying at most E crossings.
 ///
 /// A part of a term that isn't asked for, or whose walk used up its crossings, is written `...`, and one
 /// that has no head `?`.
 ///
-/// Where nothing fails, the words and the bytes of the file alone decide on the text and the status. The
-/// run is the one-thread run, which always rewrites the active pair whose smaller name is least; every
-/// other complete run prints the same, and each is longer than F where that one is. Each head that is
-/// written is the one that walks of any length give in the source's untouched net (Gonthier, Abadi and
-/// Lévy, The Geometry of Optimal Lambda Reduction, 1992). So is each `?` of `run` where it writes `stuck
-/// 0`; one of `walk` says only that none of the walks that were tried gave a head. A term without `...`
-/// and `?` is in the grammar, and read again it has no redex.
+/// The workers are threads that share the net, each under its number from 0, and pass `gate` before their
+/// first turn and after each. Where fewer threads can be had, they work in turn. So `ol` may wait, for
+/// these threads and for what the gate does; what is promised here holds if it returns.
+///
+/// Where nothing fails, the words and the bytes of the file alone decide on the text and the status: not
+/// the number of workers, nor the order in which they take pairs. The answer is that of the one-thread
+/// run, which always rewrites the active pair whose smaller name is least; each complete run prints the
+/// same, and each is longer than F where that one is. Each head that is written is the one that walks of
+/// any length give in the source's untouched net (Gonthier, Abadi and Lévy, The Geometry of Optimal Lambda
+/// Reduction, 1992). So is each `?` of `run` where it writes `stuck 0`; one of `walk` says only that none
+/// of the walks that were tried gave a head. A term without `...` and `?` is in the grammar, and read again
+/// it has no redex.
 ///
 /// Refusals are tried in the order that `Status` tells. Each has a line of its own: the usage, `read
 /// fault`, `syntax at byte B` with the length of the longest prefix that begins a text of the grammar,
 /// `fuel F`, `limit bytes 1048576`, `limit depth 1000`, or `limit nodes 200000`. With `WriteFault` the sink
 /// took a prefix of the text, and with `NoMemory` nothing.
-pub fn ol<S: Source, W: Sink, G: Gate + Sync>(
+///
+/// With `Done` or `Spent` of `run`, the closed words are handed back: those of a table that was made from
+/// the term's own net, with F as its fuel and N seats. What is written is what their journal tells.
+pub fn ol<R: Threads + Wait + Sync, S: Source, W: Sink, G: Gate + Sync>(
+    rt: &R,
     alloc: Global,
     words: &Vec<String>,
     src: &mut S,
     out: &mut W,
     gate: &G,
-) -> Status
+) -> Outcome
     // The source knows the name of the job's file.
     requires known { IsKnownTo (S.knows src.old) words.now.items }
 
     // Each status has its cause, and its text is appended whole, or a prefix of it where the sink failed.
     ensures ends { Ends words.now.items
         (seen (S.faults src.old) (S.faults src.new) (S.contents src.old) (S.given src.new) (S.ended src.new))
-        result (W.faults out.old) (W.faults out.new) (W.taken out.old) (W.taken out.new) }
+        result.status (W.faults out.old) (W.faults out.new) (W.taken out.old) (W.taken out.new) }
 
     // Where the source tells the bytes of the job's file and nothing fails, the status and the text are those of the answer.
     ensures exact { (bytes : List ℕ) → TellsFile (S.contents src.old) words.now.items bytes
-        → ¬ Rose (S.faults src.old) (S.faults src.new) → ¬ Rose (W.faults out.old) (W.faults out.new) → result ≢ Status.NoMemory
-        → (text : List ℕ) × IsAnswer words.now.items bytes result text × Appended (W.taken out.old) text (W.taken out.new) }
+        → ¬ Rose (S.faults src.old) (S.faults src.new) → ¬ Rose (W.faults out.old) (W.faults out.new) → result.status ≢ Status.NoMemory
+        → (text : List ℕ) × IsAnswer words.now.items bytes result.status text × Appended (W.taken out.old) text (W.taken out.new) }
 
     // And where such a job is done, two facts hold of the tree whose text is written. Each of its heads is the one that paths of
     // any length give in the untouched net of the file's own term; so is each `?`, for `run` where the printed `stuck` is 0, while
     // of a `?` of `walk` nothing is said. And where each of its places has a head, its text is in the grammar, and read back it is
     // the tree's term, which has no redex.
     ensures tree { (bytes : List ℕ) → TellsFile (S.contents src.old) words.now.items bytes
-        → ¬ Rose (S.faults src.old) (S.faults src.new) → ¬ Rose (W.faults out.old) (W.faults out.new) → result ≡ Status.Done
+        → ¬ Rose (S.faults src.old) (S.faults src.new) → ¬ Rose (W.faults out.old) (W.faults out.new) → result.status ≡ Status.Done
         → WritesTree words.now.items bytes (W.taken out.old) (W.taken out.new) }
 
     // And each complete run of the file's own term, whatever pairs it takes first, prints what is written, or is longer than the
     // fuel where that is spent.
     ensures every_run { (bytes : List ℕ) → TellsFile (S.contents src.old) words.now.items bytes
-        → ¬ Rose (S.faults src.old) (S.faults src.new) → ¬ Rose (W.faults out.old) (W.faults out.new) → result ≢ Status.NoMemory
-        → EveryRunTells words.now.items bytes result (W.taken out.old) (W.taken out.new) }
+        → ¬ Rose (S.faults src.old) (S.faults src.new) → ¬ Rose (W.faults out.old) (W.faults out.new) → result.status ≢ Status.NoMemory
+        → EveryRunTells words.now.items bytes result.status (W.taken out.old) (W.taken out.new) }
 
     // A fault that is told has risen, and one that has risen is told.
-    ensures read { result ≡ Status.ReadFault → Rose (S.faults src.old) (S.faults src.new) }
-    ensures write { result ≡ Status.WriteFault → Rose (W.faults out.old) (W.faults out.new) }
-    ensures write_told { W.faults out.old < W.faults out.new → result ≡ Status.WriteFault }
+    ensures read { result.status ≡ Status.ReadFault → Rose (S.faults src.old) (S.faults src.new) }
+    ensures write { result.status ≡ Status.WriteFault → Rose (W.faults out.old) (W.faults out.new) }
+    ensures write_told { W.faults out.old < W.faults out.new → result.status ≡ Status.WriteFault }
     ensures read_told { S.faults src.old < S.faults src.new → ¬ Rose (W.faults out.old) (W.faults out.new)
-        → (result ≡ Status.ReadFault) ⊎ (result ≡ Status.NoMemory) }
+        → (result.status ≡ Status.ReadFault) ⊎ (result.status ≡ Status.NoMemory) }
 
     // The words alone decide on `Usage`.
-    ensures usage { result ≡ Status.Usage → AskForNothing words.now.items }
-    ensures usage_told { AskForNothing words.now.items → (result ≡ Status.Usage) ⊎ ((result ≡ Status.WriteFault) ⊎ (result ≡ Status.NoMemory)) }
+    ensures usage { result.status ≡ Status.Usage → AskForNothing words.now.items }
+    ensures usage_told { AskForNothing words.now.items → (result.status ≡ Status.Usage) ⊎ ((result.status ≡ Status.WriteFault) ⊎ (result.status ≡ Status.NoMemory)) }
 
     // `Done` comes after the end of the input was seen.
-    ensures done { result ≡ Status.Done → S.ended src.new ≡ true }
+    ensures done { result.status ≡ Status.Done → S.ended src.new ≡ true }
+
+    // Where a job `run` was done or its fuel was spent, the closed words are those of a table that was made from the net of the
+    // file's term, with the job's fuel and as many seats as the job has workers, and the text is what their journal tells. In every
+    // other case there are none.
+    ensures closed { Hands words.now.items
+        (seen (S.faults src.old) (S.faults src.new) (S.contents src.old) (S.given src.new) (S.ended src.new))
+        result.status result.closed (W.taken out.old) (W.taken out.new) }
 
     // It begins one name at most, and where there is no job none. It knows of no name but that of its job's file.
     ensures begins { S.begins src.new ≤ S.begins src.old + files_of words.now.items }
 {
-    let _not_passed = gate;
-    answer(alloc, words, src, out)
+    answer(rt, alloc, words, src, out, gate)
 }
 
-fn answer<S: Source, W: Sink>(
+// The text is made, and then written.
+fn answer<R: Threads + Wait + Sync, S: Source, W: Sink, G: Gate + Sync>(
+    rt: &R,
     alloc: Global,
     words: &Vec<String>,
     src: &mut S,
     out: &mut W,
-) -> Status
+    gate: &G,
+) -> Outcome
     requires known { IsKnownTo (S.knows src.old) words.now.items }
     ensures ends { Ends words.now.items
         (seen (S.faults src.old) (S.faults src.new) (S.contents src.old) (S.given src.new) (S.ended src.new))
-        result (W.faults out.old) (W.faults out.new) (W.taken out.old) (W.taken out.new) }
-    ensures read_again { (bytes : List ℕ) → TellsFile (S.contents src.old) words.now.items bytes → result ≡ Status.Done
+        result.status (W.faults out.old) (W.faults out.new) (W.taken out.old) (W.taken out.new) }
+    ensures read_again { (bytes : List ℕ) → TellsFile (S.contents src.old) words.now.items bytes → result.status ≡ Status.Done
         → WritesReadable words.now.items bytes (W.taken out.old) (W.taken out.new) }
+    ensures closed { Hands words.now.items
+        (seen (S.faults src.old) (S.faults src.new) (S.contents src.old) (S.given src.new) (S.ended src.new))
+        result.status result.closed (W.taken out.old) (W.taken out.new) }
     ensures begins { S.begins src.new ≤ S.begins src.old + files_of words.now.items }
 {
-    match plan(alloc, words, src) {
-        Err(NoMemory) => Status::NoMemory,
-        Ok(answer) => match write_all(out, &answer.text) {
-            Written::All => answer.status,
-            Written::Fault { .. } => Status::WriteFault,
+    match plan(rt, alloc, words, src, gate) {
+        Err(NoMemory) => {
+            let status = Status::NoMemory;
+            Outcome {
+                status,
+                closed: None,
+            }
+        }
+        Ok(
+            Answer {
+                text,
+                status,
+                closed,
+            },
+        ) => match write_all(out, &text) {
+            Written::All => Outcome { status, closed },
+            Written::Fault { .. } => {
+                let status = Status::WriteFault;
+                Outcome {
+                    status,
+                    closed: None,
+                }
+            }
         },
     }
 }
 
 // The text that is to be written, and its status.
-fn plan<S: Source>(alloc: Global, words: &Vec<String>, src: &mut S) -> Result<Answer, NoMemory>
+fn plan<R: Threads + Wait + Sync, S: Source, G: Gate + Sync>(
+    rt: &R,
+    alloc: Global,
+    words: &Vec<String>,
+    src: &mut S,
+    gate: &G,
+) -> Result<Answer, NoMemory>
     requires known { IsKnownTo (S.knows src.old) words.now.items }
     ensures planned { IfOk result (λ a. Cause words.now.items
         (seen (S.faults src.old) (S.faults src.new) (S.contents src.old) (S.given src.new) (S.ended src.new))
         a.status a.text.items) }
     ensures read { IfOk result (λ a. WordsAreReadAgain words.now.items (S.contents src.old) a.status a.text.items) }
+    ensures closed { IfOk result (λ a. WhereEnded a.status a.closed (WordsHand words.now.items
+        (seen (S.faults src.old) (S.faults src.new) (S.contents src.old) (S.given src.new) (S.ended src.new))
+        a.status a.text.items a.closed)) }
     ensures begins { S.begins src.new ≤ S.begins src.old + files_of words.now.items }
 {
     match job(alloc, words) {
@@ -137,17 +200,27 @@ fn plan<S: Source>(alloc: Global, words: &Vec<String>, src: &mut S) -> Result<An
                 "usage: ol run|walk|view|trace|check|gen [options] NAME",
             )?;
             let status = Status::Usage;
-            Ok(Answer { text, status })
+            Ok(Answer {
+                text,
+                status,
+                closed: None,
+            })
         }
         Ok(job) => {
-            let answer = answer_job(alloc, &job, src)?;
+            let answer = answer_job(rt, alloc, &job, src, gate)?;
             Ok(answer)
         }
     }
 }
 
 // The text of a job, and its status.
-fn answer_job<S: Source>(alloc: Global, job: &Job, src: &mut S) -> Result<Answer, NoMemory>
+fn answer_job<R: Threads + Wait + Sync, S: Source, G: Gate + Sync>(
+    rt: &R,
+    alloc: Global,
+    job: &Job,
+    src: &mut S,
+    gate: &G,
+) -> Result<Answer, NoMemory>
     requires known { S.knows src.old (name_of (asked_by job.now)) ≡ true }
     requires within { IsWithinLimits (asked_by job.now) }
     ensures caused { IfOk result (λ a. JobCause (asked_by job.now)
@@ -155,6 +228,9 @@ fn answer_job<S: Source>(alloc: Global, job: &Job, src: &mut S) -> Result<Answer
         a.status a.text.items) }
     ensures read { IfOk result (λ a. (bytes : List ℕ) → S.contents src.old (name_of (asked_by job.now)) ≡ Some bytes
         → FileIsReadAgain (asked_by job.now) bytes a.status a.text.items) }
+    ensures closed { IfOk result (λ a. WhereEnded a.status a.closed (JobHands (asked_by job.now)
+        (seen (S.faults src.old) (S.faults src.new) (S.contents src.old) (S.given src.new) (S.ended src.new))
+        a.status a.text.items a.closed)) }
     ensures begins { S.begins src.new ≤ S.begins src.old + 1 }
 {
     match read_all(alloc, src, file_name(job), MOST_BYTES) {
@@ -162,15 +238,23 @@ fn answer_job<S: Source>(alloc: Global, job: &Job, src: &mut S) -> Result<Answer
         Err(ReadAll::Fault) => {
             let text = line(alloc, "read fault")?;
             let status = Status::ReadFault;
-            Ok(Answer { text, status })
+            Ok(Answer {
+                text,
+                status,
+                closed: None,
+            })
         }
         Err(ReadAll::TooLong) => {
             let text = line(alloc, "limit bytes 1048576")?;
             let status = Status::Limit;
-            Ok(Answer { text, status })
+            Ok(Answer {
+                text,
+                status,
+                closed: None,
+            })
         }
         Ok(bytes) => {
-            let answer = evaluate(alloc, job, &bytes)?;
+            let answer = evaluate(rt, alloc, job, &bytes, gate)?;
             Ok(answer)
         }
     }

@@ -13,3 +13,4 @@ pub mod OneThreadCounts
 pub mod OneThreadNames
 pub mod OneThreadRuns
 pub mod OneThread
+pub mod SameNets

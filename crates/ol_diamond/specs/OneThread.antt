@@ -62,3 +62,8 @@ SomeEndsWithin N fuel = (journal : List Entry) × (M : NamedNet NodeName) × IsR
 abbrev pub EndsWhereSomeEnds : Type 0
 EndsWhereSomeEnds = (N P : NamedNet NodeName) (fuel : ℕ) (one_thread : List Entry) → IsNet N → AreNamedBefore N 0 →
     IsOneThread N fuel one_thread P → (IsComplete P ↔ SomeEndsWithin N fuel) × (HasActive P ↔ (SomeEndsWithin N fuel → ⊥))
+
+-- A run from a net is a run from each net that is the same, however the lists of the two are ordered, and leads to the same net.
+abbrev pub RunFromSame : Type 0
+RunFromSame = (M N P : NamedNet NodeName) (ticket : ℕ) (journal : List Entry) → SameNet M N → IsRun M ticket journal P →
+    (Q : NamedNet NodeName) × IsRun N ticket journal Q × SameNet P Q

@@ -1,7 +1,10 @@
 use Rattle.ol_cli.proofs.evaluation.evaluate_net.Goals as goal
 
 pub returns-in_ok-answer-in-Run-clause-read : goal.returns-in_ok-answer-in-Run-clause-read
-returns-in_ok-answer-in-Run-clause-read c = rw c.in-Run.is (c.in_ok-answer-in-Run.ensures.read c.in-Run.workers c.in-Run.name)
+returns-in_ok-answer-in-Run-clause-read g c = rw c.in-Run.is (c.in_ok-answer-in-Run.ensures.read c.in-Run.workers c.in-Run.name)
 
 pub returns-in_ok-text-in-Walk-clause-read : goal.returns-in_ok-text-in-Walk-clause-read
-returns-in_ok-text-in-Walk-clause-read c = rw c.in-Walk.is (c.in_ok-text-in-Walk.ensures.read c.in-Walk.name)
+returns-in_ok-text-in-Walk-clause-read g c = rw c.in-Walk.is (c.in_ok-text-in-Walk.ensures.read c.in-Walk.name)
+
+pub returns-in_ok-answer-in-Run-clause-closed : goal.returns-in_ok-answer-in-Run-clause-closed
+returns-in_ok-answer-in-Run-clause-closed g c = rw c.in-Run.is c.in_ok-answer-in-Run.ensures.closed

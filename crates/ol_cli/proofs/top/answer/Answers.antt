@@ -1,7 +1,13 @@
 use Rattle.ol_cli.proofs.ReadAgain.{written_read}
+use Rattle.ol_cli.proofs.Handing.{text_hands}
 use Rattle.ol_cli.proofs.top.answer.Goals as goal
 
 pub returns-in-All-clause-read_again : goal.returns-in-All-clause-read_again
 returns-in-All-clause-read_again g c =
     let written = rw c.deref.ensures.value at c.in-All.ensures.bytes in
-    written_read c.args.words.now.items (g.S.Source.contents c.args.src.now) c.in-Ok.answer.status c.in-Ok.answer.text.items (g.W.Sink.taken c.args.out.now) (g.W.Sink.taken c.write_all.new.out) c.in-Ok.ensures.read written
+    written_read c.args.words.now.items (g.S.Source.contents c.args.src.now) c.in-Ok.field-0.status c.in-Ok.field-0.text.items (g.W.Sink.taken c.args.out.now) (g.W.Sink.taken c.write_all.new.out) c.in-Ok.ensures.read written
+
+pub returns-in-All-clause-closed : goal.returns-in-All-clause-closed
+returns-in-All-clause-closed g c =
+    let written = rw c.deref.ensures.value at c.in-All.ensures.bytes in
+    text_hands c.args.words.now.items _ c.in-Ok.field-0.status c.in-Ok.field-0.text.items c.in-Ok.field-0.closed (g.W.Sink.taken c.args.out.now) (g.W.Sink.taken c.write_all.new.out) written c.in-Ok.ensures.closed

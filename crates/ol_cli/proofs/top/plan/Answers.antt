@@ -2,14 +2,20 @@ use Rattle.ol_cli.proofs.Exact.{job_cause}
 use Rattle.ol_words.specs.Jobs.{asked_by, texts_of}
 use Rattle.ol_cli.proofs.Within.{job_within}
 use Rattle.ol_cli.proofs.ReadAgain.{words_read}
+use Rattle.ol_cli.proofs.Handing.{words_hand}
 use Rattle.ol_cli.proofs.top.plan.Goals as goal
 
 pub returns-in_ok-answer-in-Ok-clause-planned : goal.returns-in_ok-answer-in-Ok-clause-planned
 returns-in_ok-answer-in-Ok-clause-planned g c = job_cause c.args.words.now.items _ (asked_by c.in-Ok.job) c.in_ok-answer-in-Ok.answer.status c.in_ok-answer-in-Ok.answer.text.items c.in-Ok.ensures.job c.in_ok-answer-in-Ok.ensures.caused
 
 pub answer_job-requires-clause-within : goal.answer_job-requires-clause-within
-answer_job-requires-clause-within g c = job_within (texts_of c.args.words.now.items) (asked_by c.in-Ok.job) c.in-Ok.ensures.job
+answer_job-requires-clause-within g c = λ κs alive. job_within (texts_of c.args.words.now.items) (asked_by c.in-Ok.job) c.in-Ok.ensures.job
 
 pub returns-in_ok-answer-in-Ok-clause-read : goal.returns-in_ok-answer-in-Ok-clause-read
 returns-in_ok-answer-in-Ok-clause-read g c =
     words_read c.args.words.now.items (g.S.Source.contents c.args.src.now) (asked_by c.in-Ok.job) c.in_ok-answer-in-Ok.answer.status c.in_ok-answer-in-Ok.answer.text.items c.in-Ok.ensures.job c.in_ok-answer-in-Ok.ensures.read
+
+pub returns-in_ok-answer-in-Ok-clause-closed : goal.returns-in_ok-answer-in-Ok-clause-closed
+returns-in_ok-answer-in-Ok-clause-closed g c =
+    let a = c.in_ok-answer-in-Ok.answer in
+    words_hand c.args.words.now.items (asked_by c.in-Ok.job) _ a.status a.text.items a.closed c.in-Ok.ensures.job c.in_ok-answer-in-Ok.ensures.closed

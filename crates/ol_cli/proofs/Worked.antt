@@ -1,0 +1,57 @@
+-- What is answered to a term, and handed back, by what the workers' work came to.
+use Rattle.std.proofs.Common.{◌≡◌, ℕ, ◌+◌, ◌≤◌, List, length, Some, refl, sym, ap, ◌∙◌, subst}
+use Rattle.ol_term.specs.Trees.{Tree}
+use Rattle.ol_net.specs.Graph.{Graph}
+use Rattle.ol_net.specs.Nets.{IsNet, SameNet}
+use Rattle.ol_net.specs.Numbered.{net_of}
+use Rattle.ol_rules.specs.declared.journal.Entry.{Entry}
+use Rattle.ol_translate.specs.Translation.{translation_of}
+use Rattle.ol_wire.specs.Closed.{ClosedTable}
+use Rattle.ol_wire.specs.Standing.{AreOnce}
+use Rattle.ol_reduce.specs.Reduced.{IsDone, IsSpent}
+use Rattle.ol_readback.specs.declared.answers.ReadNode.{ReadNode}
+use Rattle.ol_cli.specs.declared.status.Status.TheVariants as status
+use Rattle.ol_cli.specs.Texts.{spent_text}
+use Rattle.ol_cli.specs.Evaluation.{RunsOut, Prints}
+use Rattle.ol_cli.specs.Handed.{journal_of, RunHands}
+use Rattle.ol_cli.proofs.Evaluated.{Told, runs_out, ports_kept, prints_work, prints_with}
+
+module _ (t : Tree) (names : List (List ℕ)) (start : Graph) (same : SameNet (net_of start) (translation_of t (length names))) (fuel seats heads : ℕ) (journal : List Entry) (w : ClosedTable) where
+  module _ (d : IsSpent start fuel seats journal w) where
+    full : length (journal_of w) ≡ fuel
+    full = sym (ap length d.read) ∙ d.steps
+
+    pub spent_answer : IsNet (net_of start) → RunsOut t names fuel
+    spent_answer n = runs_out t names start same fuel seats w d.table d.last_net d.after n d.active full
+
+    pub spent_hands : (text : List ℕ) → AreOnce (journal_of w) → text ≡ spent_text fuel → RunHands t names seats fuel heads status.Spent text (Some w)
+    spent_hands text once e = (
+      w,
+      refl,
+      d.last_net,
+      record { start = start; same = same; table = d.table; after = d.after; once = once },
+      record { full = full; left = d.active; written = e },
+    )
+
+  module _ (last : Graph) (d : IsDone start fuel seats last journal w) where
+    pub done_ports : last.free ≡ 1 + length names
+    done_ports = ports_kept t names start same fuel seats w d.table d.last_net d.after last d.frozen
+
+    module _ (stuck : ℕ) (tree : List ReadNode) (term text : List ℕ) (told : Told names heads stuck journal last tree term text) where
+      own_told : Told names heads stuck (journal_of w) last tree term text
+      own_told = subst (λ j. Told names heads stuck j last tree term text) d.read told
+
+      within : length (journal_of w) ≤ fuel
+      within = subst (λ (j : List Entry). length j ≤ fuel) d.read d.within
+
+      pub done_answer : (P : List ReadNode → List ℕ → Type 0) → IsNet (net_of start) → P tree term → (p : Prints t names fuel heads text) × P p.shows.tree p.shows.term
+      done_answer P n h = prints_with t names start same fuel seats w d.table d.last_net d.after last d.frozen heads stuck tree term text own_told within d.complete P n h
+
+      pub done_hands : AreOnce (journal_of w) → RunHands t names seats fuel heads status.Done text (Some w)
+      done_hands once = (
+        w,
+        refl,
+        d.last_net,
+        record { start = start; same = same; table = d.table; after = d.after; once = once },
+        prints_work t names start same fuel seats w d.table d.last_net d.after last d.frozen heads stuck tree term text own_told within d.complete,
+      )

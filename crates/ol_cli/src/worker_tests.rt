@@ -1,0 +1,179 @@
+//! Many workers, and gates that they pass.
+
+use crate::{Outcome, Status, ol};
+use ol_io::{Gate, MemFile, MemSink, MemSource, OpenGate};
+use ol_net::{Kind, NodeId};
+use ol_reduce::freeze;
+use std::alloc::{AllocError, Global};
+use std::sync::Wait;
+use std::sync::atomic::{AtomicU64, Ordering};
+use std::test::Fail;
+use std::thread::Threads;
+
+// The generator's text: `((\x. x x) (\y. y))` for 0, and for each greater number the one before applied
+// to itself.
+fn generated(alloc: Global, rounds: u32) -> Result<Vec<u8>, AllocError> {
+    let mut text = Vec::from_slice(alloc, b"((\\x. x x) (\\y. y))")?;
+    for _round in 0..rounds {
+        let mut twice = Vec::from_slice(alloc, b"(")?;
+        twice.extend_from_slice(&text)?;
+        twice.push(b' ')?;
+        twice.extend_from_slice(&text)?;
+        twice.push(b')')?;
+        text = twice;
+    }
+    Ok(text)
+}
+
+// How `run -` with so many workers ends on a text, and what it writes.
+fn run(
+    rt: &(impl Threads + Wait + Sync),
+    alloc: Global,
+    workers: u32,
+    text: &[u8],
+    gate: &(impl Gate + Sync),
+) -> Result<(Outcome, Vec<u8>), Fail> {
+    let mut words = Vec::new(alloc);
+    for word in ["ol", "run", "--workers"] {
+        words.push(String::from_str(alloc, word)?)?;
+    }
+    words.push(format!(in alloc; "{workers}")?)?;
+    words.push(String::from_str(alloc, "-")?)?;
+    let mut files = Vec::new(alloc);
+    files.push(MemFile {
+        name: String::from_str(alloc, "-")?,
+        bytes: Vec::from_slice(alloc, text)?,
+    })?;
+    let mut src = MemSource::new(files, 65_536, Vec::new(alloc));
+    let mut out = MemSink::new(alloc, 1_048_576, 65_536, Vec::new(alloc))
+        .ok()
+        .ok_or("no memory")?;
+    let outcome = ol(rt, alloc, &words, &mut src, &mut out, gate);
+    let written = Vec::from_slice(alloc, out.bytes())?;
+    Ok((outcome, written))
+}
+
+#[test]
+fn any_number_of_workers_gives_one_text(rt: HostRuntime) -> Result<(), Fail> {
+    let alloc = rt.alloc();
+    let text = generated(alloc, 6)?;
+    let wanted =
+        "\\a. a\nbeta 191\nfan 64\ncroissant 255\nbracket 64\ncross-fan 128\ncross-croissant 510\ncross-bracket 128\nerase 0\nstuck 0\n";
+    for workers in [1, 2, 64] {
+        let (outcome, written) = run(&rt, alloc, workers, &text, &OpenGate)?;
+        assert_eq!(rt; outcome.status, Status::Done);
+        assert_eq!(rt; outcome.closed.map(|words| words.events()), Some(1_340));
+        assert!(rt; written.as_slice() == wanted.as_bytes(), "{workers}");
+    }
+    Ok(())
+}
+
+#[test]
+fn an_abstraction_and_its_croissant_are_left(rt: HostRuntime) -> Result<(), Fail> {
+    let alloc = rt.alloc();
+    let (outcome, _) = run(&rt, alloc, 2, b"(\\x. x x) (\\y. y)", &OpenGate)?;
+    let words = outcome.closed.ok_or("no closed words")?;
+    let last = freeze(alloc, &words)?;
+    assert_eq!(rt; last.nodes(), 2);
+    let found = (last.kind_of(NodeId(0)), last.kind_of(NodeId(1)));
+    let abstraction = Some((Kind::Lam, 0));
+    let croissant = Some((Kind::Croissant, 0));
+    assert!(rt; found == (abstraction, croissant) || found == (croissant, abstraction));
+    Ok(())
+}
+
+/// A flag for each of two workers.
+#[derive(Drop)]
+struct Flags {
+    first: AtomicU64,
+    second: AtomicU64,
+}
+
+impl Flags {
+    fn lowered() -> Flags {
+        Flags {
+            first: AtomicU64::new(0),
+            second: AtomicU64::new(0),
+        }
+    }
+
+    /// Raises the worker's own flag, and looks for the other's. Tells whether it was seen.
+    fn meet(&self, worker: u32) -> bool {
+        let (own, other) = if worker == 0 {
+            (&self.first, &self.second)
+        } else {
+            (&self.second, &self.first)
+        };
+        own.store(1, Ordering::SeqCst);
+        for _look in 0..100_000_000u32 {
+            if other.load(Ordering::SeqCst) == 1 {
+                return true;
+            }
+        }
+        false
+    }
+}
+
+/// Two workers wait here for each other: before their first turns, and again after them.
+#[derive(Drop)]
+struct Meeting {
+    before: Flags,
+    after: Flags,
+    met: AtomicU64,
+}
+
+impl Gate for Meeting {
+    fn pass(&self, worker: u32, turn: u64) {
+        let has_met = match turn {
+            0 => self.before.meet(worker),
+            1 => self.after.meet(worker),
+            _ => return,
+        };
+        if has_met {
+            self.met.fetch_add(1, Ordering::SeqCst);
+        }
+    }
+}
+
+// Were the workers to work one after the other, the second would not come while the first looks for it;
+// and were one to make all turns, the other would not pass after a turn.
+#[test]
+fn two_workers_meet(rt: HostRuntime) -> Result<(), Fail> {
+    let alloc = rt.alloc();
+    let text = generated(alloc, 1)?;
+    let meeting = Meeting {
+        before: Flags::lowered(),
+        after: Flags::lowered(),
+        met: AtomicU64::new(0),
+    };
+    let (outcome, _) = run(&rt, alloc, 2, &text, &meeting)?;
+    assert_eq!(rt; outcome.status, Status::Done);
+    assert_eq!(rt; meeting.met.load(Ordering::SeqCst), 4);
+    Ok(())
+}
+
+/// The greatest number of turns that a worker has told.
+#[derive(Drop)]
+struct Turns {
+    most: AtomicU64,
+}
+
+impl Gate for Turns {
+    fn pass(&self, _worker: u32, turn: u64) {
+        self.most.fetch_max(turn, Ordering::SeqCst);
+    }
+}
+
+// The sweep after the work leaves nothing to the end: the worker made a turn for each interaction.
+#[test]
+fn a_worker_makes_all_turns(rt: HostRuntime) -> Result<(), Fail> {
+    let alloc = rt.alloc();
+    let text = generated(alloc, 6)?;
+    let turns = Turns {
+        most: AtomicU64::new(0),
+    };
+    let (outcome, _) = run(&rt, alloc, 1, &text, &turns)?;
+    assert_eq!(rt; outcome.status, Status::Done);
+    assert!(rt; turns.most.load(Ordering::SeqCst) >= 1_340);
+    Ok(())
+}
