@@ -1,15 +1,15 @@
 //! Frames that bind nothing are passed over, so that a chain of them is not climbed anew for each head.
 //!
-//! A list of skips has for each frame, in the order of the frames, a frame round it between which and
-//! it no frame has abstractions, or None where there is none. It may be shorter than the list of frames.
+//! A list of skips has an entry for each frame, in the order of the frames, or for the first ones
+//! alone: the number of a frame round that frame, where no frame between the two has abstractions, or
+//! None, where no frame round it has any.
 
 ghost use Rattle.std.specs.Prelude.{◌≡◌, ◌<◌, ℕ, length, Some};
 ghost use Rattle.ol_readback.specs.Skipping.{AreSkipsOf, SkipsFrom, SkipsPast};
 
 use crate::frames::Frame;
 
-/// A frame round frame `i` between which and it no frame has abstractions: that of the skips, or the
-/// parent where they have none for it.
+/// The frame to try after frame `i`: that of the skips, or its parent where they have no entry for it.
 pub fn next_round(frames: &Vec<Frame>, skips: &Vec<Option<u32>>, i: u32) -> Option<u32>
     requires at { i < length frames.now.items }
     requires skips { AreSkipsOf frames.now.items skips.now.items }
@@ -22,7 +22,7 @@ pub fn next_round(frames: &Vec<Frame>, skips: &Vec<Option<u32>>, i: u32) -> Opti
     frames[k].parent
 }
 
-/// The entry of the skips for a frame with this parent: the nearest frame round it with abstractions.
+/// The entry for a frame with this parent: the nearest frame round it that has abstractions.
 pub fn skip_from(frames: &Vec<Frame>, skips: &Vec<Option<u32>>, parent: Option<u32>) -> Option<u32>
     requires parent { (p : ℕ) → parent ≡ Some p → p < length frames.now.items }
     requires skips { AreSkipsOf frames.now.items skips.now.items }
