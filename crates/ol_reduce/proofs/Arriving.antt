@@ -1,6 +1,7 @@
 -- The steps of the code, over all nets that the words stand for.
-use Rattle.std.proofs.Common.{◌≡◌, ◌≢◌, ℕ, suc, ◌+◌, ◌*◌, ◌<◌, ◌≤◌, Bool, List, length, slice_index, slice_set, ◌⊎◌, inl, inr, refl, sym, ap, ◌∙◌, subst, arith}
+use Rattle.std.proofs.Common.{◌≡◌, ◌≢◌, ℕ, suc, ◌+◌, ◌-◌, ◌*◌, ◌/◌, ◌%◌, ◌<◌, ◌≤◌, Bool, false, nat_lt, if◌then◌else◌, List, length, slice_index, slice_set, ◌⊎◌, inl, inr, refl, sym, ap, ◌∙◌, subst, arith}
 use Rattle.std.proofs.lemmas.Bool.{cases_lt}
+use Rattle.std.proofs.lemmas.Bool.Decides.{nat_tests}
 use Rattle.ol_net.specs.declared.parts.Kind.{Kind}
 use Rattle.ol_net.specs.Nets.{slot, NamedNet, Linked}
 use Rattle.ol_net.specs.Pairing.{other, linked}
@@ -8,7 +9,7 @@ use Rattle.ol_net.proofs.Tables.{length-linked}
 use Rattle.ol_rules.specs.declared.journal.NodeName.{NodeName}
 use Rattle.ol_wire.specs.declared.layout.Parts.{Parts}
 use Rattle.ol_wire.specs.References.{kind_in, index_in, place_in}
-use Rattle.ol_wire.specs.Layout.{place_of, size, left_word, cells_of}
+use Rattle.ol_wire.specs.Layout.{block, place_of, size, start_cell, born_cell, left_word, cells_of}
 use Rattle.ol_wire.specs.Rule.{IsPlaced}
 use Rattle.ol_wire.specs.Stands.{IsEnd}
 use Rattle.ol_wire.specs.Closed.{ClosedTable, events_in}
@@ -16,6 +17,7 @@ use Rattle.ol_wire.specs.Standing.{is_reached_in, StandsFor, IsAfter}
 use Rattle.ol_wire.proofs.Places.{part_cell, place_before}
 use Rattle.ol_wire.proofs.Claimed.{wider}
 use Rattle.ol_reduce.specs.Left.{ranks_in, IsLeft, AreLeft}
+use Rattle.ol_reduce.specs.Used.{words_used, cells_used}
 use Rattle.ol_reduce.specs.Found.{port_of, IsKnown, IsPartial, IsPartly, AreCelledTo, IsNodeIn, IsSiteIn, KeepsKnown}
 use Rattle.ol_reduce.proofs.Sites.{one_site}
 use Rattle.ol_reduce.proofs.Linking.{still_linked, now_linked, node_told, one_port, linked_partial, ends_apart, set_partial, set_known, set_keeps, set_site}
@@ -27,6 +29,13 @@ Told w = (net : NamedNet NodeName) × IsAfter w net × StandsFor w net (is_reach
 
 pub small_of : (w : ClosedTable) → Told w → size w.plan.parts ≤ 100000000
 small_of w t = omega (arith, t.2.small.free, t.2.small.nodes, t.2.small.wires, t.2.small.cells, t.2.small.fuel)
+
+-- a cell that isn't in use is behind the words in use
+pub left_behind : (z : Parts) (n c : ℕ) → z.cells + 4 * n ≤ c → block z n ≤ left_word z c
+left_behind z n c le =
+    let high : nat_lt c z.cells ≡ false = grind (arith, nat_tests) in
+    let e : left_word z c ≡ born_cell z ((c - z.cells) / 4) ((c - z.cells) % 4) = ap (λ b. if b then start_cell z c else born_cell z ((c - z.cells) / 4) ((c - z.cells) % 4)) high in
+    omega (arith, e, le)
 
 module _ (w : ClosedTable) (places numbers : List ℕ) (left_are : AreLeft w (ranks_in w) places numbers) (told : Told w) where
   abbrev z : Parts
@@ -144,3 +153,11 @@ module _ (w : ClosedTable) (places numbers : List ℕ) (left_are : AreLeft w (ra
           go (inl b) q = still_linked partners2 one two lt1' lt2' d a (subst (λ ps. other ps a ≢ a) (sym (p2 ∙ p1)) (before N reached s c r a b (omega (arith, lta2, ap (λ (l : List ℕ). length l) p1, ap (λ (l : List ℕ). length l) p2)) filled q h))
           go (inr b) (inl q) = subst (λ a. other (linked partners2 one two) a ≢ a) (sym (site_is one value lt1' (s1 N reached s).0 (q ∙ ap (λ c. slice_index w.words (left_word z c)) b ∙ q0))) (now_linked partners2 one two lt1' lt2' d).0
           go (inr b) (inr q) = subst (λ a. other (linked partners2 one two) a ≢ a) (sym (site_is two right lt2' (s2 N reached s).0 (q ∙ ap (λ c. slice_index w.words (suc (left_word z c))) b ∙ q1))) (now_linked partners2 one two lt1' lt2' d).1
+
+  -- ---- the cells that aren't in use
+
+  pub rest_empty : (partners : List ℕ) (cells : ℕ) → cells ≡ cells_used w → ((n : ℕ) → words_used w ≤ n → slice_index w.words n ≡ 0) → AreCelledTo w places partners cells → AreCelledTo w places partners (cells_of z)
+  rest_empty partners cells is empty before N reached s c r a lt lta filled q h = elim (cases_lt c cells) [
+    | inl b ↦ before N reached s c r a b lta filled q h
+    | inr ge ↦ absurd (filled (empty (left_word z c) (left_behind z (events_in z w.words) c (omega (arith, ge, is)))))
+  ]

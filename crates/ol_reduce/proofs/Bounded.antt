@@ -134,6 +134,13 @@ module _ (w : ClosedTable) (N : NamedNet NodeName) (reached : ℕ → Bool) (s :
       let q = subst (λ t. IsRef t × IsWhole t × (place_in t < block z (events_in z w.words))) l.3 r in
       (q.0, q.1, omega (arith, q.2, events_few z w.words))
 
+  -- which has its place among the words in use
+  pub led_used : (e t : ℕ) → Goes e t → place_in t < block z (events_in z w.words)
+  led_used e t g =
+      let l = last_word e t g in
+      let r = s.refs l.0 (owner_behind l.0 l.1 l.2) l.2.filled in
+      (subst (λ t. IsRef t × IsWhole t × (place_in t < block z (events_in z w.words))) l.3 r).2
+
   pub led_ends : (e t : ℕ) → Goes e t → 0 < ends nat_eq t (es w N reached s)
   led_ends e t g =
       let l = last_word e t g in

@@ -8,7 +8,7 @@ use Rattle.ol_net.proofs.Tables.{length-linked}
 use Rattle.ol_rules.specs.declared.journal.NodeName.{NodeName}
 use Rattle.ol_wire.specs.declared.layout.Parts.{Parts}
 use Rattle.ol_wire.specs.References.{place_in, wire_ref}
-use Rattle.ol_wire.specs.Layout.{size, port_word}
+use Rattle.ol_wire.specs.Layout.{port_word}
 use Rattle.ol_wire.specs.Stands.{IsEnd, of_port}
 use Rattle.ol_wire.specs.Closed.{ClosedTable}
 use Rattle.ol_wire.specs.Standing.{is_reached_in, StandsFor}
@@ -16,9 +16,10 @@ use Rattle.ol_reduce.specs.declared.chains.End.{End}
 use Rattle.ol_reduce.specs.declared.chains.End.TheVariants.{Node, Port, Wire}
 use Rattle.ol_reduce.specs.Left.{ranks_in, AreLeft}
 use Rattle.ol_reduce.specs.Following.{IsStart, IsFirst, EndsAt}
+use Rattle.ol_reduce.specs.Used.{words_used}
 use Rattle.ol_reduce.specs.Found.{port_of, IsKnown, IsPartial, AreMet, IsPartly, AreMetTo, IsNodeIn, IsSiteIn, IsWordAt, KeepsPartners}
 use Rattle.ol_reduce.proofs.Arriving.{Told}
-use Rattle.ol_reduce.proofs.Bounded.{led_ref}
+use Rattle.ol_reduce.proofs.Bounded.{led_used}
 use Rattle.ol_reduce.proofs.Forward.{goes_linked}
 use Rattle.ol_reduce.proofs.Sites.{port_free}
 use Rattle.ol_reduce.proofs.Linking.{still_linked, led_node, linked_partial, ends_apart}
@@ -109,15 +110,15 @@ module _ (w : ClosedTable) (places numbers : List ℕ) (left_are : AreLeft w (ra
     pub port_known : (found : End) (k : ℕ) → found ≡ Port k → Ends found → (N : NamedNet NodeName) (reached : ℕ → Bool) → StandsFor w N reached → IsKnown w N places kinds k
     port_known found k q h N reached s m ltm e = absurd (omega (arith, e, port_low found k q h))
 
-    module _ (long : length met ≡ size z) (found : End) (u : ℕ) (q : found ≡ Wire u) (h : Ends found) where
+    module _ (long : length met ≡ words_used w) (found : End) (u : ℕ) (q : found ≡ Wire u) (h : Ends found) where
       ends_at : (N : NamedNet NodeName) (reached : ℕ → Bool) → (s : StandsFor w N reached) → EndsAt w N reached (own N reached s).0 (Wire u)
       ends_at N reached s = let t = own N reached s in subst (λ f. EndsAt w N reached t.0 f) q (h N reached t.0 s t.2)
 
       pub wire_within : u < length met
       wire_within =
-          let r = led_ref w told.0 (is_reached_in w) told.2 (own told.0 (is_reached_in w) told.2).0 (wire_ref u) (ends_at told.0 (is_reached_in w) told.2).2 in
+          let r = led_used w told.0 (is_reached_in w) told.2 (own told.0 (is_reached_in w) told.2).0 (wire_ref u) (ends_at told.0 (is_reached_in w) told.2).2 in
           let p : place_in (wire_ref u) ≡ u = omega arith in
-          omega (arith, r.2, p, long)
+          omega (arith, r, p, long)
 
       -- the one that waits there
       waits : (N : NamedNet NodeName) (reached : ℕ → Bool) → StandsFor w N reached → slice_index met u ≢ 0 → (slice_index met u - 1 < length partners) × Linked N (port_of z places a) (port_of z places (slice_index met u - 1)) × IsKnown w N places kinds (slice_index met u - 1)

@@ -6,3 +6,4 @@ pub mod Turned
 pub mod Works
 pub mod Reduced
 pub mod Found
+pub mod Used

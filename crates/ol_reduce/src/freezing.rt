@@ -7,6 +7,7 @@ ghost use Rattle.ol_wire.specs.Layout.{size, cells_of};
 ghost use Rattle.ol_wire.specs.Standing.{IsAfter};
 ghost use Rattle.ol_reduce.specs.Left.{ranks_in, AreLeft};
 ghost use Rattle.ol_reduce.specs.Frozen.{IsFrozen};
+ghost use Rattle.ol_reduce.specs.Used.{words_used, cells_used};
 ghost use Rattle.ol_reduce.specs.Found.{IsPartly, AreMetTo, AreCelledTo, IsNodeIn, IsSiteIn, IsWordAt, KeepsKnown, KeepsPartners};
 
 use crate::chains::{End, follow};
@@ -20,7 +21,7 @@ use std::alloc::Global;
 
 /// The net that the words stand for, its nodes numbered from 0 by ascending name: first those of the start, and then
 /// those that a ticket made, by ticket, which is the order of their places in the words. `NoMemory`: no memory was
-/// found for it.
+/// found for it. It looks only at the words of the start and of tickets that were drawn, however great the fuel was.
 pub fn freeze(alloc: Global, words: &Words) -> Result<Net, NoMemory>
     ensures frozen { IfOk result (λ g. (net : NamedNet NodeName) → IsAfter words.now net → IsFrozen net g) }
 {
@@ -73,7 +74,23 @@ fn link_cell(words: &Words, live: &Live, draft: &mut Draft, cell: u32)
     draft.link(one, other);
 }
 
-// Links the two nodes of each cell that isn't empty.
+// The number of words in use, which grows with the tickets that were drawn and not with the fuel.
+fn words_used(words: &Words) -> u32
+    ensures { result ≡ words_used words.now }
+{
+    words.stands();
+    words.parts().block(words.events())
+}
+
+// The number of cells in use.
+fn cells_used(words: &Words) -> u32
+    ensures { result ≡ cells_used words.now }
+{
+    words.stands();
+    words.parts().cells + 4 * words.events()
+}
+
+// Links the two nodes of each cell that isn't empty. The cells of tickets that weren't drawn are empty.
 fn link_cells(words: &Words, live: &Live, draft: &mut Draft)
     requires live { AreLeft words.now (ranks_in words.now) live.now.places.items live.now.numbers.items }
     requires free { draft.old.free ≡ words.now.plan.parts.free }
@@ -82,7 +99,8 @@ fn link_cells(words: &Words, live: &Live, draft: &mut Draft)
     ensures after { IsPartly words.now live.now.places.items draft.new.kinds.items draft.new.partners.items × AreCelledTo words.now live.now.places.items draft.new.partners.items (cells_of words.now.plan.parts) }
 {
     words.stands();
-    for cell in 0..words.parts().all_cells() {
+    words.undrawn();
+    for cell in 0..cells_used(words) {
         link_cell(words, live, draft, cell);
     }
 }
@@ -117,7 +135,7 @@ fn link_one(
 )
     requires live { AreLeft words.now (ranks_in words.now) live.now.places.items live.now.numbers.items }
     requires free { draft.old.free ≡ words.now.plan.parts.free }
-    requires met { length met.old.items ≡ size words.now.plan.parts }
+    requires met { length met.old.items ≡ words_used words.now }
     requires at { at < size words.now.plan.parts }
     requires place { (place < length draft.old.partners.items) × ((n : ℕ) → place ≢ words.now.plan.parts.free + 3 * n) }
     requires word { IsWordAt words.now live.now.places.items place at }
@@ -146,7 +164,7 @@ fn link_one(
 fn link_ports(words: &Words, live: &Live, draft: &mut Draft, met: &mut Vec<u32>)
     requires live { AreLeft words.now (ranks_in words.now) live.now.places.items live.now.numbers.items }
     requires free { draft.old.free ≡ words.now.plan.parts.free }
-    requires met { length met.old.items ≡ size words.now.plan.parts }
+    requires met { length met.old.items ≡ words_used words.now }
     requires before { IsPartly words.now live.now.places.items draft.old.kinds.items draft.old.partners.items × AreMetTo words.now live.now.places.items draft.old.partners.items met.old.items 0 }
     ensures free { draft.new.free ≡ draft.old.free }
     ensures met { length met.new.items ≡ length met.old.items }
@@ -163,7 +181,7 @@ fn link_ports(words: &Words, live: &Live, draft: &mut Draft, met: &mut Vec<u32>)
 fn link_node(words: &Words, live: &Live, draft: &mut Draft, met: &mut Vec<u32>, node: u32)
     requires live { AreLeft words.now (ranks_in words.now) live.now.places.items live.now.numbers.items }
     requires free { draft.old.free ≡ words.now.plan.parts.free }
-    requires met { length met.old.items ≡ size words.now.plan.parts }
+    requires met { length met.old.items ≡ words_used words.now }
     requires node { node < length live.now.places.items }
     requires before { IsPartly words.now live.now.places.items draft.old.kinds.items draft.old.partners.items × AreMetTo words.now live.now.places.items draft.old.partners.items met.old.items (words.now.plan.parts.free + 3 * node) }
     ensures free { draft.new.free ≡ draft.old.free }
@@ -183,7 +201,7 @@ fn link_node(words: &Words, live: &Live, draft: &mut Draft, met: &mut Vec<u32>, 
 fn link_nodes(words: &Words, live: &Live, draft: &mut Draft, met: &mut Vec<u32>)
     requires live { AreLeft words.now (ranks_in words.now) live.now.places.items live.now.numbers.items }
     requires free { draft.old.free ≡ words.now.plan.parts.free }
-    requires met { length met.old.items ≡ size words.now.plan.parts }
+    requires met { length met.old.items ≡ words_used words.now }
     requires before { IsPartly words.now live.now.places.items draft.old.kinds.items draft.old.partners.items × AreMetTo words.now live.now.places.items draft.old.partners.items met.old.items words.now.plan.parts.free }
     ensures free { draft.new.free ≡ draft.old.free }
     ensures keeps { KeepsPartners draft.old.partners.items draft.new.partners.items × (length draft.new.partners.items ≡ length draft.old.partners.items) }
@@ -207,7 +225,7 @@ fn link_chains(alloc: Global, words: &Words, live: &Live, draft: &mut Draft) -> 
 {
     words.stands();
     let mut met = Vec::new(alloc);
-    let Ok(()) = met.resize(words.parts().size() as usize, 0) else {
+    let Ok(()) = met.resize(words_used(words) as usize, 0) else {
         return Err(NoMemory);
     };
     link_ports(words, live, draft, &mut met);
