@@ -1,9 +1,14 @@
 //! Many workers, and gates that they pass.
 
+ghost use Rattle.std.specs.Prelude.{◌≡◌, ◌≤◌, IsTrue, count_by, is_some, length};
+ghost use Rattle.ol_wire.specs.Sizes.{IsSmallNet};
+
 use crate::{Outcome, Status, ol};
 use ol_io::{Gate, MemFile, MemSink, MemSource, OpenGate};
-use ol_net::{Kind, NodeId};
-use ol_reduce::freeze;
+use ol_net::{Kind, Net, NodeId};
+use ol_parse::parse;
+use ol_reduce::{Reduced, freeze, reduce};
+use ol_translate::translate;
 use std::alloc::{AllocError, Global};
 use std::sync::Wait;
 use std::sync::atomic::{AtomicU64, Ordering};
@@ -148,6 +153,36 @@ fn two_workers_meet(rt: HostRuntime) -> Result<(), Fail> {
     };
     let (outcome, _) = run(&rt, alloc, 2, &text, &meeting)?;
     assert_eq!(rt; outcome.status, Status::Done);
+    assert_eq!(rt; meeting.met.load(Ordering::SeqCst), 4);
+    Ok(())
+}
+
+// The net is small enough to be laid out.
+fn is_small(net: &Net) -> bool
+    ensures { IsTrue result → (count_by is_some net.now.nodes ≡ length net.now.nodes) × IsSmallNet net.now }
+{
+    net.nodes() == net.born()
+        && net.born() <= 1_000_000
+        && net.free_ports() <= 1_000_000
+        && net.top_index() <= 1_000_000
+}
+
+// The same of the reduction alone.
+#[test]
+fn two_workers_of_a_reduction_meet(rt: HostRuntime) -> Result<(), Fail> {
+    let alloc = rt.alloc();
+    let text = generated(alloc, 1)?;
+    assert!(rt; text.len() <= 1_000_000);
+    let file = parse(alloc, &text).ok().ok_or("no term")?;
+    let net = translate(alloc, &file).ok().ok_or("no net")?;
+    assert!(rt; is_small(&net));
+    let meeting = Meeting {
+        before: Flags::lowered(),
+        after: Flags::lowered(),
+        met: AtomicU64::new(0),
+    };
+    let reduced = reduce(&rt, alloc, &net, 2, 64, &meeting)?;
+    assert!(rt; matches!(reduced, Reduced::Done { .. }));
     assert_eq!(rt; meeting.met.load(Ordering::SeqCst), 4);
     Ok(())
 }
