@@ -1,11 +1,10 @@
 -- The job of the words, by what clap finds in them.
-use Rattle.std.proofs.Common.{ℕ, ◌≡◌, ◌<◌, ◌∙◌, sym, ap, ap₂, refl, arith, true, false, true≢false, Bool, ◌&&◌, ◌||◌, List, [], ◌∷◌, Option, Some, None, option_map, if◌then◌else◌, codes, inl, inr, length, map, nat_lt, nat_eq, subst}
+use Rattle.std.proofs.Common.{ℕ, ◌≡◌, ◌∙◌, sym, ap, refl, true, false, true≢false, ◌&&◌, List, [], ◌∷◌, Option, Some, None, option_map, if◌then◌else◌, inl, inr, length, map, nat_lt, nat_eq, subst}
 use Rattle.std.specs.Prelude.{option_and_then}
 use Rattle.std.specs.Option.{option_map_or}
 use Rattle.std.specs.List.{list_all}
-use Rattle.std.specs.Str.{bytes_eq}
-use Rattle.std.proofs.lemmas.Bool.Decides.{nat_tests}
-use Rattle.clap.specs.Walk.{Row, first_of, rows_after}
+use Rattle.clap.specs.Walk.{Row, first_of, nothing_held, rows_after}
+use Rattle.clap.specs.Takes.{level_passes}
 use Rattle.clap.specs.Words.{first_value, rows_of, subcommand_of, takes}
 use Rattle.clap.specs.declared.parser.matches.Found.{Found}
 use Rattle.clap.proofs.WalkLemmas.{first_value-rows}
@@ -16,15 +15,12 @@ use Rattle.clap.specs.declared.error.kind.ErrorKind.TheVariants.{OutOfMemory}
 use Rattle.ol_words.specs.declared.jobs.Job.{Job}
 use Rattle.ol_words.specs.declared.jobs.UsageFault.{UsageFault}
 use Rattle.ol_words.specs.declared.jobs.UsageFault.TheVariants.{NoMemory, Refused}
-use Rattle.ol_words.specs.Lines.{Text, Line, line_of, is_option}
-use Rattle.ol_words.specs.Numbers.{Limits, setting, setting_by}
-use Rattle.ol_words.specs.Jobs.{Asked, Setting, Verb, options_of, verb_named, values_of, number_on, number_by, numbers, name_list, job_on, job_by, job_behind, job_of, is_given_once, is_told_once, is_agreed, agreed_verb}
+use Rattle.ol_words.specs.Lines.{Text, Line, line_of}
+use Rattle.ol_words.specs.Numbers.{Limits, setting}
+use Rattle.ol_words.specs.Jobs.{Asked, Setting, Verb, options_of, known_of, verb_named, values_of, number_on, numbers, job_on, job_by, job_behind, job_of, is_given_once, is_told_once, is_agreed, agreed_verb}
 use Rattle.ol_words.specs.Command.{app}
-use Rattle.ol_words.proofs.Rows.{cases, itself}
-use Rattle.ol_words.proofs.Told.{Told}
-use Rattle.ol_words.proofs.Options.{rules_for}
-use Rattle.ol_words.proofs.Matched.{told, given_once, first_told}
-use Rattle.ol_words.proofs.Passing.{level}
+use Rattle.ol_words.proofs.Rows.{cases}
+use Rattle.ol_words.proofs.Passing.{shape_with}
 use Rattle.ol_words.proofs.Subcommands.{IsVerb, named_is}
 
 -- ---- words that aren't agreed have no job
@@ -51,15 +47,15 @@ none_each : (asks : List ℕ → Option Asked) → ((ns : List ℕ) → asks ns 
 none_each asks none None = refl
 none_each asks none (Some ns) = none ns
 
-not_told : (v : Verb) → IsVerb v → (line : Line) → is_told_once (options_of v) line ≡ false → job_on v line ≡ None
+not_told : (v : Verb) → IsVerb v → (line : Line) → is_told_once (options_of v) (length v.names) line ≡ false → job_on v line ≡ None
 not_told v is line e = elim (cases (list_all (is_given_once line) (options_of v))) [
   | inr twice ↦ ap (λ (ns : Option (List ℕ)). option_and_then (λ ns. v.asks ns line.names) ns) (numbers_twice line v.settings twice)
   | inl once ↦
-      let others : nat_eq (length line.names) 1 ≡ false = sym (ap (λ b. b && nat_eq (length line.names) 1) once) ∙ e in
+      let others : nat_eq (length line.names) (length v.names) ≡ false = sym (ap (λ b. b && nat_eq (length line.names) (length v.names)) once) ∙ e in
       none_each (λ ns. v.asks ns line.names) (λ ns. is.one ns line.names others) (numbers (number_on line) v.settings)
 ]
 
-line_not_told : (v : Verb) → IsVerb v → (line : Option Line) → option_map_or (is_told_once (options_of v)) line false ≡ false → option_and_then (job_on v) line ≡ None
+line_not_told : (v : Verb) → IsVerb v → (line : Option Line) → option_map_or (is_told_once (options_of v) (length v.names)) line false ≡ false → option_and_then (job_on v) line ≡ None
 line_not_told v is None e = refl
 line_not_told v is (Some line) e = not_told v is line e
 
@@ -67,65 +63,17 @@ some_verb : (v : Verb) → ◌≡◌ {A = Option Verb} (Some v) None → ⊥
 some_verb v e = cc
 
 behind_not_agreed : (word : Text) (rest : List Text) (r : Option Verb) → verb_named word ≡ r
-    → option_and_then (λ v. if is_agreed (options_of v) rest then Some v else None) r ≡ None → option_and_then (job_behind rest) r ≡ None
+    → option_and_then (λ v. if is_agreed v rest then Some v else None) r ≡ None → option_and_then (job_behind rest) r ≡ None
 behind_not_agreed word rest None is e = refl
-behind_not_agreed word rest (Some v) is e = elim (cases (is_agreed (options_of v) rest)) [
+behind_not_agreed word rest (Some v) is e = elim (cases (is_agreed v rest)) [
   | inl agreed ↦ absurd (some_verb v (sym (ap (λ b. if b then Some v else None) agreed) ∙ e))
-  | inr other ↦ line_not_told v (named_is word v is).0 (line_of (options_of v) rest) other
+  | inr other ↦ line_not_told v (named_is word v is).0 (line_of (known_of v) rest) other
 ]
 
 pub not_agreed : (words : List Text) → agreed_verb words ≡ None → job_of words ≡ None
 not_agreed [] e = refl
 not_agreed (program ∷ []) e = refl
 not_agreed (program ∷ word ∷ rest) e = behind_not_agreed word rest (verb_named word) refl e
-
--- ---- the job of agreed words is that of the rows that clap finds
-
-setting_given : (limits : Limits) (vs : List Text) → nat_lt (length vs) 2 ≡ true → setting limits vs ≡ setting_by limits (given_once vs)
-setting_given limits [] e = refl
-setting_given limits (v ∷ []) e = refl
-setting_given limits (v ∷ w ∷ vs) e = absurd (grind (arith, nat_tests))
-
-few : (vs : List Text) → nat_lt (length vs) 2 ≡ true → length vs < 2
-few vs e = grind (arith, nat_tests)
-
-pub both : (a b : Bool) → (a && b) ≡ true → (a ≡ true) × (b ≡ true)
-both true b e = (refl, e)
-both false b e = absurd (true≢false (sym e))
-
-or_second : (a b : Bool) → b ≡ true → (a || b) ≡ true
-or_second true b e = refl
-or_second false b e = e
-
-names_given : (os : List Text) (rows : List Row) (line : Line) → Told os [] rows line true → (names : List Text) → line.names ≡ names → nat_eq (length names) 1 ≡ true
-    → names ≡ name_list (first_of (codes "name") rows)
-names_given os rows line t [] is e = absurd (true≢false (sym e))
-names_given os rows line t (n ∷ []) is e = ap name_list (sym (t.one_name n refl refl is))
-names_given os rows line t (n ∷ m ∷ names) is e = absurd (grind (arith, nat_tests))
-
-numbers_told : (os : List Text) (rows : List Row) (line : Line) → Told os [] rows line true → (ss : List Setting)
-    → ((o : Text) → is_option (map (λ s. s.option) ss) o ≡ true → is_option os o ≡ true) → list_all (is_given_once line) (map (λ s. s.option) ss) ≡ true
-    → numbers (number_on line) ss ≡ numbers (number_by (λ id. first_of id rows)) ss
-numbers_told os rows line t [] known e = refl
-numbers_told os rows line t (s ∷ rest) known e =
-    let parts = both _ _ e in
-    let first : is_option (map (λ (s : Setting). s.option) (s ∷ rest)) s.option ≡ true = rw (itself s.option) refl in
-    let is_first = first_told os rows line s.option (values_of s.option line.options) t (known s.option first) refl (few (values_of s.option line.options) parts.0) in
-    let here : number_on line s ≡ number_by (λ id. first_of id rows) s = setting_given s.limits (values_of s.option line.options) parts.0 ∙ ap (setting_by s.limits) (sym is_first) in
-    let more = numbers_told os rows line t rest (λ o later. known o (or_second (bytes_eq s.option o) (is_option (map (λ (s : Setting). s.option) rest) o) later)) parts.1 in
-    ap₂ (λ (ns : Option (List ℕ)) (number : Option ℕ). option_and_then (λ n. option_map (λ more. n ∷ more) ns) number) more here
-
-by_rows : (v : Verb) (rows : List Row) (line : Line) → Told (options_of v) [] rows line true → is_told_once (options_of v) line ≡ true
-    → job_on v line ≡ job_by v (λ id. first_of id rows)
-by_rows v rows line t e =
-    let parts = both _ _ e in
-    ap₂ (λ (ns : Option (List ℕ)) (names : List Text). option_and_then (λ ns. v.asks ns names) ns)
-    (numbers_told (options_of v) rows line t v.settings (λ o known. known) parts.0) (names_given (options_of v) rows line t line.names refl parts.1)
-
-line_by_rows : (v : Verb) → IsVerb v → (rest : List Text) (line : Option Line) → line_of (options_of v) rest ≡ line → option_map_or (is_told_once (options_of v)) line false ≡ true
-    → option_and_then (job_on v) line ≡ job_by v (λ id. first_of id (rows_after (rules_for (options_of v)) [] rest))
-line_by_rows v is rest None line_is e = absurd (true≢false (sym e))
-line_by_rows v is rest (Some line) line_is e = by_rows v _ line (told (options_of v) is.apart rest line line_is) e
 
 -- what clap finds in agreed words
 pub record Read (words : List Text) (v : Verb) : Type 0 where
@@ -134,24 +82,28 @@ pub record Read (words : List Text) (v : Verb) : Type 0 where
   pub job : job_of words ≡ job_by v (λ id. first_of id rows)
   pub taken : takes app words ≡ true
 
+line_reads : (v : Verb) (is : IsVerb v) (rest : List Text) (line : Option Line) → line_of (known_of v) rest ≡ line → option_map_or (is_told_once (options_of v) (length v.names)) line false ≡ true
+    → (option_and_then (job_on v) line ≡ job_by v (λ id. first_of id (rows_after is.rules [] rest))) × (level_passes (shape_with v.word is.rules) [] nothing_held rest false ≡ true)
+line_reads v is rest None line_is e = absurd (true≢false (sym e))
+line_reads v is rest (Some line) line_is e = is.reads rest line line_is e
+
 the_verb : (a b : Verb) → ◌≡◌ {A = Option Verb} (Some a) (Some b) → a ≡ b
 the_verb a b e = cc
 
 read_behind : (program word : Text) (rest : List Text) (v : Verb) (r : Option Verb) → verb_named word ≡ r
-    → option_and_then (λ v. if is_agreed (options_of v) rest then Some v else None) r ≡ Some v → Read (program ∷ word ∷ rest) v
+    → option_and_then (λ v. if is_agreed v rest then Some v else None) r ≡ Some v → Read (program ∷ word ∷ rest) v
 read_behind program word rest v None named e = absurd (some_verb v (sym e))
-read_behind program word rest v (Some x) named e = elim (cases (is_agreed (options_of x) rest)) [
+read_behind program word rest v (Some x) named e = elim (cases (is_agreed x rest)) [
   | inr other ↦ absurd (some_verb v (sym (sym (ap (λ b. if b then Some x else None) other) ∙ e)))
   | inl agreed ↦
       let is = named_is word x named in
       let same = the_verb x v (sym (ap (λ b. if b then Some x else None) agreed) ∙ e) in
-      let rows = rows_after (rules_for (options_of x)) [] rest in
+      let reads = line_reads x is.0 rest (line_of (known_of x) rest) refl agreed in
       let read : Read (program ∷ word ∷ rest) x = record {
-        rows = rows;
+        rows = rows_after is.0.rules [] rest;
         found = ap (λ w. subcommand_of app (program ∷ w ∷ rest)) is.1 ∙ is.0.rows program rest;
-        job = ap (option_and_then (job_behind rest)) named ∙ line_by_rows x is.0 rest (line_of (options_of x) rest) refl agreed;
-        taken = ap (λ w. takes app (program ∷ w ∷ rest)) is.1
-            ∙ is.0.taken program rest (level (options_of x) is.0.apart x.word rest (line_of (options_of x) rest) refl agreed);
+        job = ap (option_and_then (job_behind rest)) named ∙ reads.0;
+        taken = ap (λ w. takes app (program ∷ w ∷ rest)) is.1 ∙ is.0.taken program rest reads.1;
       } in
       subst (λ y. Read (program ∷ word ∷ rest) y) same read
 ]

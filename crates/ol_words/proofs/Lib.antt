@@ -12,3 +12,9 @@ mod Fits
 mod Passing
 mod Subcommands
 mod Agreed
+mod FixedRules
+mod Views
+mod TwoFiles
+mod Flagged
+mod FileVerbs
+mod AgreedVerbs

@@ -8,7 +8,7 @@ use Rattle.ol_words.specs.Lines.{Text, Line, line_of, is_option}
 use Rattle.ol_words.specs.Jobs.{values_of}
 use Rattle.ol_words.proofs.Rows.{cases}
 use Rattle.ol_words.proofs.Told.{Told}
-use Rattle.ol_words.proofs.Options.{rules_for, name_filled}
+use Rattle.ol_words.proofs.Options.{valued, rules_for, name_filled}
 use Rattle.ol_words.proofs.Walking.{rows_in}
 use Rattle.ol_words.proofs.Walks.{walks}
 
@@ -25,7 +25,7 @@ no_defaults (o ∷ os) rows = ap (λ r. fold with_default r (rules_for os)) (no_
 none_waits : (os : List Text) (o : Text) → ◌≡◌ {A = Option Text} None (Some o) → is_option os o ≡ true
 none_waits os o e = absurd (cc)
 
-pub told : (os : List Text) → is_option os (codes "name") ≡ false → (rest : List Text) (line : Line) → line_of os rest ≡ Some line
+pub told : (os : List Text) → is_option os (codes "name") ≡ false → (rest : List Text) (line : Line) → line_of (valued os) rest ≡ Some line
     → Told os [] (rows_after (rules_for os) [] rest) line true
 told os apart rest line e =
     let end : Held = (fold (walked (rules_for os) []) (walk_from nothing_held) rest).held in

@@ -5,13 +5,17 @@ use Rattle.std.specs.Str.{bytes_eq}
 use Rattle.clap.specs.Walk.{Rule, arg_by_long, arg_by_id, arg_by_index, takes_values, most_values, action_of}
 use Rattle.clap.specs.Simple.{filled, with_index}
 use Rattle.clap.specs.declared.builder.action.ArgAction.TheVariants.{Set}
-use Rattle.ol_words.specs.Lines.{Text, is_option}
+use Rattle.ol_words.specs.Lines.{Text, Known, is_option}
 use Rattle.ol_words.specs.Command.{option_rule, name_rule}
 use Rattle.ol_words.proofs.Rows.{cases}
 
 -- the positional for the name
 abbrev pub name_filled : Rule
-name_filled = with_index 1 (filled name_rule)
+name_filled = with_index 1 (filled (name_rule (codes "name")))
+
+-- options that all take a value
+abbrev pub valued : List Text → Known
+valued os = record { options = os; flags = [] }
 
 -- the rules of the subcommand, filled in
 abbrev pub rules_for : List Text → List Rule

@@ -14,14 +14,23 @@ use Rattle.ol_words.specs.Lines.{Text, Line, line_of, line_from, is_dashed, is_e
 use Rattle.ol_words.specs.Command.{option_rule}
 use Rattle.ol_words.proofs.Rows.{cases, found_in}
 use Rattle.ol_words.proofs.Shapes.{plain_long, plain_short, option_long}
-use Rattle.ol_words.proofs.Options.{rules_for, option_facts, name_filled, name_by_id, first_position}
+use Rattle.ol_words.proofs.Options.{valued, rules_for, option_facts, name_filled, name_by_id, first_position}
 use Rattle.ol_words.proofs.Walking.{at, position_of, rows_in, other, met_plain, met_long, step_name, step_trailing, step_end, step_attached, step_waits, step_value}
 use Rattle.ol_words.proofs.Walks.{walk_on, start, mapped, named}
 use Rattle.ol_words.proofs.Fits.{Fits, lacks, next_fresh, fits_option, fits_name, no_more}
 
 -- a subcommand of the command line, as clap builds it
+abbrev pub shape_with : Text → List Rule → Shape
+shape_with word rules = record (new_shape word) {
+  rules = rules;
+  disable_help_flag = true;
+  disable_version_flag = true;
+  disable_help_subcommand = true;
+  is_built = true;
+}
+
 abbrev pub sub_shape : Text → List Text → Shape
-sub_shape word os = record (new_shape word) { rules = rules_for os; disable_help_flag = true; disable_version_flag = true; disable_help_subcommand = true; is_built = true }
+sub_shape word os = shape_with word (rules_for os)
 
 option_fits : (o v : Text) (rows : List Row) → found_in o rows ≡ None → use_passes false (filled (option_rule o)) (v ∷ []) rows ≡ true
 option_fits o v rows e = rw (lacks o rows e) refl
@@ -33,7 +42,7 @@ pub and_true : (a b : Bool) → a ≡ true → b ≡ true → (a && b) ≡ true
 and_true true b e f = f
 and_true false b e f = e
 
-or_true : (a b : Bool) → b ≡ true → (a || b) ≡ true
+pub or_true : (a b : Bool) → b ≡ true → (a || b) ≡ true
 or_true true b e = refl
 or_true false b e = e
 
@@ -91,19 +100,19 @@ module _ (os : List Text) (apart : is_option os (codes "name") ≡ false) (verb 
 
   pub AllPass : List Text → Type 0
   AllPass words = (waiting : Option Text) (h : Held) (first : Bool) (line : Line) → ((o : Text) → waiting ≡ Some o → is_option os o ≡ true)
-      → line_from os waiting words ≡ Some line → Fits os (rows_in os h) line first → Settles h → Passes (start os waiting h first) words
+      → line_from (valued os) waiting words ≡ Some line → Fits os (rows_in os h) line first → Settles h → Passes (start os waiting h first) words
 
   none_waits : (o : Text) → ◌≡◌ {A = Option Text} None (Some o) → is_option os o ≡ true
   none_waits o e = absurd (cc)
 
   module _ (word : Text) (rest : List Text) (more : AllPass rest) (h : Held) (first : Bool) (line : Line) where
-    pass_value : (o : Text) → is_option os o ≡ true → line_from os (Some o) (word ∷ rest) ≡ Some line → Fits os (rows_in os h) line first → Passes (start os (Some o) h first) (word ∷ rest)
+    pass_value : (o : Text) → is_option os o ≡ true → line_from (valued os) (Some o) (word ∷ rest) ≡ Some line → Fits os (rows_in os h) line first → Passes (start os (Some o) h first) (word ∷ rest)
     unfolding line_from AllPass Settles
     pass_value o known e f = elim (cases (is_dashed word)) [
-      | inl dashed ↦ absurd (none (sym (ap (λ b. if b then None else option_map (with_option o word) (line_from os None rest)) dashed) ∙ e))
+      | inl dashed ↦ absurd (none (sym (ap (λ b. if b then None else option_map (with_option o word) (line_from (valued os) None rest)) dashed) ∙ e))
       | inr plain ↦
           let facts = option_facts os o known in
-          let read = mapped (with_option o word) (line_from os None rest) line (sym (ap (λ b. if b then None else option_map (with_option o word) (line_from os None rest)) plain) ∙ e) in
+          let read = mapped (with_option o word) (line_from (valued os) None rest) line (sym (ap (λ b. if b then None else option_map (with_option o word) (line_from (valued os) None rest)) plain) ∙ e) in
           let waits : Held = record { rows = rows_in os h; pending = Some (o, []); skip = h.skip } in
           let after : Held = record { rows = rows_in os h; pending = Some (o, word ∷ []); skip = h.skip } in
           let f' = subst (λ l. Fits os (rows_in os h) l first) (sym read.2) f in
@@ -118,8 +127,8 @@ module _ (os : List Text) (apart : is_option os (codes "name") ≡ false) (verb 
         none : ◌≡◌ {A = Option Line} None (Some line) → ⊥
         none x = cc
 
-    pass_option : is_end word ≡ false → (found : Option (Text × Option Text)) → option_of os word ≡ found
-        → after_option found (λ option. line_from os (Some option) rest) (line_from os None rest) ≡ Some line
+    pass_option : is_end word ≡ false → (found : Option (Text × Option Text)) → option_of (valued os) word ≡ found
+        → after_option found (λ option. line_from (valued os) (Some option) rest) (line_from (valued os) None rest) ≡ Some line
         → Fits os (rows_in os h) line first → Settles h → Passes (at h idle first false) (word ∷ rest)
     unfolding AllPass Settles S
     pass_option goes None is e f settles = absurd (cc)
@@ -136,7 +145,7 @@ module _ (os : List Text) (apart : is_option os (codes "name") ≡ false) (verb 
     pass_option goes (Some (o, Some v)) is e f settles =
         let long = option_long os word o (Some v) goes is in
         let facts = option_facts os o long.1 in
-        let read = mapped (with_option o v) (line_from os None rest) line e in
+        let read = mapped (with_option o v) (line_from (valued os) None rest) line e in
         let f' = subst (λ l. Fits os (rows_in os h) l first) (sym read.2) f in
         let passes = or_true (bytes_eq word (codes "--")) _ (ap (λ (l : Option (Text × Option Text)). flag_word_passes (rules_for os) false l word h) long.0
         ∙ ap (λ (r : Option Rule). long_passes (rules_for os) false r (Some v) h) facts.by_long
@@ -145,7 +154,7 @@ module _ (os : List Text) (apart : is_option os (codes "name") ≡ false) (verb 
         (went _ _ rest (step_attached os word h o v (filled (option_rule o)) first goes long.0 facts)
         (more None (reacted (rules_for os) (filled (option_rule o)) (v ∷ []) h) first read.0 none_waits read.1 (fits_option os apart (rows_in os h) read.0 first o v long.1 f') refl))
 
-  pass_name : (word : Text) (rest : List Text) → AllPass rest → (h : Held) (first : Bool) (line : Line) → is_dashed word ≡ false → line_from os None rest ≡ Some line
+  pass_name : (word : Text) (rest : List Text) → AllPass rest → (h : Held) (first : Bool) (line : Line) → is_dashed word ≡ false → line_from (valued os) None rest ≡ Some line
       → Fits os (rows_in os h) (with_name word line) first → Settles h → Passes (at h idle first false) (word ∷ rest)
   unfolding AllPass
   pass_name word rest more h true line plain e f settles =
@@ -163,12 +172,12 @@ module _ (os : List Text) (apart : is_option os (codes "name") ≡ false) (verb 
       let met : other os word h (position_of first) idle ≡ (h, trailing (position_of first)) = ap (λ b. if b then (h, trailing (position_of first)) else long_or_other (rules_for os) idle word (long_of word) h) ends in
       turned (at h idle first false) word rest (turn_idle word h first _ passes met refl) (went _ _ rest (step_end os word h first ends) (pass_names rest h first f settles))
 
-  pass_none : (word : Text) (rest : List Text) → AllPass rest → (h : Held) (first : Bool) (line : Line) → line_from os None (word ∷ rest) ≡ Some line
+  pass_none : (word : Text) (rest : List Text) → AllPass rest → (h : Held) (first : Bool) (line : Line) → line_from (valued os) None (word ∷ rest) ≡ Some line
       → Fits os (rows_in os h) line first → Settles h → Passes (at h idle first false) (word ∷ rest)
   unfolding line_from
   pass_none word rest more h first line e f settles =
-      let dashed_or_name = λ (b : Bool). if b then after_option (option_of os word) (λ option. line_from os (Some option) rest) (line_from os None rest)
-      else option_map (with_name word) (line_from os None rest) in
+      let dashed_or_name = λ (b : Bool). if b then after_option (option_of (valued os) word) (λ option. line_from (valued os) (Some option) rest) (line_from (valued os) None rest)
+      else option_map (with_name word) (line_from (valued os) None rest) in
       let ended : Option Line = Some (record { options = []; names = rest }) in
       elim (cases (is_end word)) [
         | inl ends ↦
@@ -178,9 +187,9 @@ module _ (os : List Text) (apart : is_option os (codes "name") ≡ false) (verb 
         | inr goes ↦
             let read_on : dashed_or_name (is_dashed word) ≡ Some line = sym (ap (λ b. if b then ended else dashed_or_name (is_dashed word)) goes) ∙ e in
             elim (cases (is_dashed word)) [
-              | inl dashed ↦ pass_option word rest more h first line goes (option_of os word) refl (sym (ap dashed_or_name dashed) ∙ read_on) f settles
+              | inl dashed ↦ pass_option word rest more h first line goes (option_of (valued os) word) refl (sym (ap dashed_or_name dashed) ∙ read_on) f settles
               | inr plain ↦
-                  let read = mapped (with_name word) (line_from os None rest) line (sym (ap dashed_or_name plain) ∙ read_on) in
+                  let read = mapped (with_name word) (line_from (valued os) None rest) line (sym (ap dashed_or_name plain) ∙ read_on) in
                   pass_name word rest more h first read.0 plain read.1 (subst (λ l. Fits os (rows_in os h) l first) (sym read.2) f) settles
             ]
       ]
@@ -237,7 +246,7 @@ one_name [] e = omega arith
 one_name (n ∷ []) e = omega arith
 one_name (n ∷ m ∷ names) e = absurd (grind (arith, nat_tests))
 
-at_first : (os : List Text) (line : Line) → is_told_once os line ≡ true → Fits os [] line true
+at_first : (os : List Text) (line : Line) → is_told_once os 1 line ≡ true → Fits os [] line true
 at_first os line e =
     let parts = both _ _ e in
     record {
@@ -251,13 +260,13 @@ at_first os line e =
 nothing_waits : (os : List Text) (o : Text) → ◌≡◌ {A = Option Text} None (Some o) → is_option os o ≡ true
 nothing_waits os o e = absurd (cc)
 
-all_passes : (os : List Text) (apart : is_option os (codes "name") ≡ false) (word : Text) (rest : List Text) (line : Line) → line_of os rest ≡ Some line → is_told_once os line ≡ true
+all_passes : (os : List Text) (apart : is_option os (codes "name") ≡ false) (word : Text) (rest : List Text) (line : Line) → line_of (valued os) rest ≡ Some line → is_told_once os 1 line ≡ true
     → (walk_passes (sub_shape word os) [] (walk_from nothing_held) rest ≡ true) × (settle_passes (rules_for os) false (walk_on os (walk_from nothing_held) rest).held ≡ true)
 unfolding AllPass Passes S Settles
 all_passes os apart word rest line is e = all_pass os apart word rest None nothing_held true line (nothing_waits os) is (at_first os line e) refl
 
-pub level : (os : List Text) → is_option os (codes "name") ≡ false → (word : Text) (rest : List Text) (line : Option Line) → line_of os rest ≡ line
-    → option_map_or (is_told_once os) line false ≡ true → level_passes (sub_shape word os) [] nothing_held rest false ≡ true
+pub level : (os : List Text) → is_option os (codes "name") ≡ false → (word : Text) (rest : List Text) (line : Option Line) → line_of (valued os) rest ≡ line
+    → option_map_or (is_told_once os 1) line false ≡ true → level_passes (sub_shape word os) [] nothing_held rest false ≡ true
 level os apart word rest None is e = absurd (true≢false (sym e))
 level os apart word rest (Some line) is e =
     let p = all_passes os apart word rest line is e in

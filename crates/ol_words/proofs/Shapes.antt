@@ -5,8 +5,9 @@ use Rattle.std.proofs.lemmas.Bool.{cases_lt}
 use Rattle.std.proofs.lemmas.Bool.Decides.{nat_tests}
 use Rattle.std.specs.List.{position_or_len, before_first, after_first}
 use Rattle.clap.specs.Lexer.{long_of, short_of, has_byte}
-use Rattle.ol_words.specs.Lines.{Text, is_dashed, is_end, is_option, is_equals, option_of, name_and_value, value_in}
+use Rattle.ol_words.specs.Lines.{Text, Known, is_dashed, is_end, is_option, is_equals, option_of, name_and_value, value_in}
 use Rattle.ol_words.proofs.Rows.{cases}
+use Rattle.ol_words.proofs.Options.{valued}
 
 some_left : (rest : Text) → (suc (length rest) == 0) ≡ false
 some_left rest = grind (arith, nat_tests)
@@ -48,20 +49,20 @@ equals_inside (x ∷ rest) = let before = equals_inside rest in elim (cases (x =
 value_same : (text : Text) → (if has_byte 61 text then Some (after_first (λ x. x == 61) text) else None) ≡ value_in text
 value_same text = ap (λ b. if b then Some (after_first (λ x. x == 61) text) else None) (equals_inside text)
 
-hyphens : (os : List Text) (x y : ℕ) (text o : Text) (value : Option Text) → option_of os (x ∷ y ∷ text) ≡ Some (o, value)
-    → ((x == 45) ≡ true) × ((y == 45) ≡ true) × (name_and_value os text ≡ Some (o, value))
-hyphens os x y text o value e = elim (cases (x == 45)) [
+pub hyphens : (known : Known) (x y : ℕ) (text o : Text) (value : Option Text) → option_of known (x ∷ y ∷ text) ≡ Some (o, value)
+    → ((x == 45) ≡ true) × ((y == 45) ≡ true) × (name_and_value known text ≡ Some (o, value))
+hyphens known x y text o value e = elim (cases (x == 45)) [
   | inl one ↦ elim (cases (y == 45)) [
-    | inl two ↦ (one, two, sym (ap₂ (λ p q. option_and_then (name_and_value os) (if p && q then Some text else None)) one two) ∙ e)
-    | inr other ↦ absurd (nothing (sym (ap₂ (λ p q. option_and_then (name_and_value os) (if p && q then Some text else None)) one other) ∙ e))
+    | inl two ↦ (one, two, sym (ap₂ (λ p q. option_and_then (name_and_value known) (if p && q then Some text else None)) one two) ∙ e)
+    | inr other ↦ absurd (nothing (sym (ap₂ (λ p q. option_and_then (name_and_value known) (if p && q then Some text else None)) one other) ∙ e))
   ]
-  | inr other ↦ absurd (nothing (sym (ap (λ p. option_and_then (name_and_value os) (if p && (y == 45) then Some text else None)) other) ∙ e))
+  | inr other ↦ absurd (nothing (sym (ap (λ p. option_and_then (name_and_value known) (if p && (y == 45) then Some text else None)) other) ∙ e))
 ]
   where
     nothing : ◌≡◌ {A = Option (Text × Option Text)} None (Some (o, value)) → ⊥
     nothing e = cc
 
-named : (os : List Text) (text o : Text) (value : Option Text) → name_and_value os text ≡ Some (o, value)
+named : (os : List Text) (text o : Text) (value : Option Text) → name_and_value (valued os) text ≡ Some (o, value)
     → (◌≡◌ {A = Option (Text × Option Text)} (Some (before_first is_equals text, value_in text)) (Some (o, value))) × (is_option os o ≡ true)
 named os text o value e = elim (cases (is_option os (before_first is_equals text))) [
   | inl known ↦
@@ -79,14 +80,14 @@ two_hyphens : (x y : ℕ) → (x == 45) ≡ true → (y == 45) ≡ true → is_e
 two_hyphens x y one two = rw one (rw two refl)
 
 -- a word that writes out an option is a long flag with that name and value
-pub option_long : (os : List Text) (word o : Text) (value : Option Text) → is_end word ≡ false → option_of os word ≡ Some (o, value) → (long_of word ≡ Some (o, value)) × (is_option os o ≡ true)
+pub option_long : (os : List Text) (word o : Text) (value : Option Text) → is_end word ≡ false → option_of (valued os) word ≡ Some (o, value) → (long_of word ≡ Some (o, value)) × (is_option os o ≡ true)
 option_long os [] o value goes e = absurd (cc)
 option_long os (x ∷ []) o value goes e = absurd (cc)
 option_long os (x ∷ y ∷ []) o value goes e =
-    let parts = hyphens os x y [] o value e in
+    let parts = hyphens (valued os) x y [] o value e in
     absurd (true≢false (sym (two_hyphens x y parts.0 parts.1) ∙ goes))
 option_long os (x ∷ y ∷ z ∷ zs) o value goes e =
-    let parts = hyphens os x y (z ∷ zs) o value e in
+    let parts = hyphens (valued os) x y (z ∷ zs) o value e in
     let is = named os (z ∷ zs) o value parts.2 in
     let pair : long_of (x ∷ y ∷ z ∷ zs) ≡ Some (before_first is_equals (z ∷ zs), if has_byte 61 (z ∷ zs) then Some (after_first is_equals (z ∷ zs)) else None) = rw parts.0 (rw parts.1 refl) in
     (pair ∙ ap (λ v. Some (before_first is_equals (z ∷ zs), v)) (value_same (z ∷ zs)) ∙ is.0, is.1)

@@ -4,7 +4,7 @@ use Rattle.std.specs.declared.alloc.Global.{Global}
 use Rattle.std.proofs.lemmas.List.{drop_more, drop_all, length-drop}
 use Rattle.ol_words.specs.Jobs.{texts_of}
 use Rattle.std.specs.Borrow.{Bor}
-use Rattle.ol_words.specs.Lines.{Text, Line, line_from, is_dashed, is_end, option_of, after_option, with_option, with_name}
+use Rattle.ol_words.specs.Lines.{Text, Line, Known, line_from, is_dashed, is_end, option_of, after_option, with_option, with_name}
 
 abbrev pub seen : List (Bor Text × Bor Text) → List (Text × Text)
 seen options = map (λ p. (p.0.now, p.1.now)) options
@@ -12,7 +12,7 @@ seen options = map (λ p. (p.0.now, p.1.now)) options
 abbrev pub joined : List (Text × Text) → List Text → Line → Line
 joined options names line = record { options = options ++ line.options; names = names ++ line.names }
 
-abbrev pub so_far : List Text → List (Text × Text) → List Text → Option Text → List Text → Option Line
+abbrev pub so_far : Known → List (Text × Text) → List Text → Option Text → List Text → Option Line
 so_far known options names waiting rest = option_map (joined options names) (line_from known waiting rest)
 
 app_nil : {X : Type 0} (xs : List X) → xs ++ [] ≡ xs
@@ -34,15 +34,15 @@ name_joins os ns name None = refl
 name_joins os ns name (Some line) = ap (λ names. Some (record { options = os ++ line.options; names = names })) (app_more ns name line.names)
 
 -- nothing is left
-pub all_read : (known : List Text) (os : List (Text × Text)) (ns : List Text) (all : Option Line) → so_far known os ns None [] ≡ all → all ≡ Some (record { options = os; names = ns })
+pub all_read : (known : Known) (os : List (Text × Text)) (ns : List Text) (all : Option Line) → so_far known os ns None [] ≡ all → all ≡ Some (record { options = os; names = ns })
 unfolding line_from
 all_read known os ns all e = sym e ∙ ap (λ options. Some (record { options = options; names = ns ++ [] })) (app_nil os) ∙ ap (λ names. Some (record { options = os; names = names })) (app_nil ns)
 
-pub value_lacks : (known : List Text) (os : List (Text × Text)) (ns : List Text) (option : Text) (all : Option Line) → so_far known os ns (Some option) [] ≡ all → all ≡ None
+pub value_lacks : (known : Known) (os : List (Text × Text)) (ns : List Text) (option : Text) (all : Option Line) → so_far known os ns (Some option) [] ≡ all → all ≡ None
 unfolding line_from
 value_lacks known os ns option all e = sym e
 
-module _ (known : List Text) (os : List (Text × Text)) (ns : List Text) (word : Text) (rest : List Text) (all : Option Line) where
+module _ (known : Known) (os : List (Text × Text)) (ns : List Text) (word : Text) (rest : List Text) (all : Option Line) where
   pub value_taken : (option : Text) → is_dashed word ≡ false → so_far known os ns (Some option) (word ∷ rest) ≡ all
       → so_far known (os ++ (option, word) ∷ []) ns None rest ≡ all
   unfolding line_from
@@ -89,12 +89,12 @@ module _ (known : List Text) (os : List (Text × Text)) (ns : List Text) (word :
   attached_taken option value e = option_joins os ns option value (line_from known None rest) ∙ e
 
 -- the word at a place stands before the words behind it
-pub word_here : (known : List Text) (os : List (Text × Text)) (ns : List Text) (waiting : Option Text) (words : List (String Global)) (i : ℕ) (word : String Global)
+pub word_here : (known : Known) (os : List (Text × Text)) (ns : List Text) (waiting : Option Text) (words : List (String Global)) (i : ℕ) (word : String Global)
     → i < length words → word ≡ slice_index_or words i word
     → so_far known os ns waiting (texts_of (drop i words)) ≡ so_far known os ns waiting (string_bytes word ∷ texts_of (drop (i + 1) words))
 word_here known os ns waiting words i word here is = ap (λ l. so_far known os ns waiting (texts_of l)) (drop_more words i word here ∙ ap (λ w. w ∷ drop (i + 1) words) (sym is))
 
-pub none_left : (known : List Text) (os : List (Text × Text)) (ns : List Text) (waiting : Option Text) (words : List (String Global)) (i : ℕ) → length words ≤ i
+pub none_left : (known : Known) (os : List (Text × Text)) (ns : List Text) (waiting : Option Text) (words : List (String Global)) (i : ℕ) → length words ≤ i
     → so_far known os ns waiting (texts_of (drop i words)) ≡ so_far known os ns waiting []
 none_left known os ns waiting words i end = ap (λ l. so_far known os ns waiting (texts_of l)) (drop_all i words end)
 
@@ -109,7 +109,7 @@ option_pushed now before option value is = ap seen is ∙ map_more (λ p. (p.0.n
 pub name_pushed : (now before : List (Bor Text)) (name : Bor Text) → now ≡ before ++ name ∷ [] → map (λ n. n.now) now ≡ map (λ n. n.now) before ++ name.now ∷ []
 name_pushed now before name is = ap (λ l. map (λ (n : Bor Text). n.now) l) is ∙ map_more (λ n. n.now) before name
 
-pub went_on : (known : List Text) (os os' : List (Text × Text)) (ns ns' : List Text) (w w' : Option Text) (rest : List Text) (all : Option Line)
+pub went_on : (known : Known) (os os' : List (Text × Text)) (ns ns' : List Text) (w w' : Option Text) (rest : List Text) (all : Option Line)
     → os ≡ os' → ns ≡ ns' → w ≡ w' → so_far known os' ns' w' rest ≡ all → so_far known os ns w rest ≡ all
 went_on known os os' ns ns' w w' rest all o n v e = ap (λ l. so_far known l ns w rest) o ∙ ap (λ l. so_far known os' l w rest) n ∙ ap (λ l. so_far known os' ns' l rest) v ∙ e
 

@@ -1,52 +1,83 @@
 -- The verbs, as clap is told of them.
-use Rattle.std.proofs.Common.{ℕ, ◌≡◌, ◌∙◌, ap, refl, true, false, List, [], ◌∷◌, ◌++◌, Option, Some, None, if◌then◌else◌, codes, inl, inr, true≢false, sym, subst, fold, find}
+use Rattle.std.proofs.Common.{ℕ, ◌≡◌, ◌∙◌, ap, refl, true, false, List, [], ◌∷◌, ◌++◌, Option, Some, None, if◌then◌else◌, inl, inr, true≢false, sym, subst, fold, find}
 use Rattle.std.specs.Option.{option_map_or}
 use Rattle.std.specs.Prelude.{option_map, nat_eq, length}
 use Rattle.std.specs.Str.{bytes_eq}
 use Rattle.std.proofs.lemmas.Slice.Eq.{bytes_eq-Decides}
-use Rattle.clap.specs.Walk.{Held, Names, Walk, answers_to, rows_after, walked, walk_from, nothing_held}
+use Rattle.clap.specs.Walk.{Held, Names, Rule, Walk, answers_to, rows_after, walked, walk_from, nothing_held}
 use Rattle.clap.specs.Takes.{entered_passes, level_passes, settle_passes, turn_passes, walk_passes}
 use Rattle.clap.specs.Simple.{Shape, names_of, entered, label_of, rows_at}
 use Rattle.clap.specs.Words.{is_simple, built, subcommand_of, takes}
-use Rattle.ol_words.specs.Lines.{Text, is_option}
-use Rattle.ol_words.specs.Jobs.{Verb, options_of, verb_named, run_verb, walk_verb, run, walk, only}
+use Rattle.ol_words.specs.Lines.{Text, Line, line_of}
+use Rattle.ol_words.specs.Jobs.{Verb, is_told_once, known_of, options_of, only, verb_named, check_asks, gen_asks, run_asks, trace_asks, view_asks, walk_asks, check_verb, gen_verb, run_verb, trace_verb, view_verb, walk_verb, run, walk, view, trace}
 use Rattle.ol_words.specs.Command.{app}
 use Rattle.ol_words.proofs.Rows.{cases}
 use Rattle.ol_words.proofs.Options.{rules_for}
 use Rattle.ol_words.proofs.Matched.{left_to_it, held_before}
-use Rattle.ol_words.proofs.Passing.{sub_shape, and_true}
+use Rattle.ol_words.proofs.Passing.{shape_with, and_true}
+use Rattle.ol_words.proofs.FixedRules.{Reads}
+use Rattle.ol_words.proofs.FileVerbs.{file_reads}
+use Rattle.ol_words.proofs.TwoFiles.{check_rules, check_reads}
+use Rattle.ol_words.proofs.Flagged.{gen_rules, gen_reads}
 
 pub is_simple_app : is_simple app ≡ true
 is_simple_app = refl
 
 -- what a verb is to the command line
 pub record IsVerb (v : Verb) : Type 0 where
-  -- no option has the id of the name
-  pub apart : is_option (options_of v) (codes "name") ≡ false
-  -- there is a job only for one name
-  pub one : (ns : List ℕ) (names : List Text) → nat_eq (length names) 1 ≡ false → v.asks ns names ≡ None
+  -- there is a job only for as many names as the verb has
+  pub one : (ns : List ℕ) (names : List Text) → nat_eq (length names) (length v.names) ≡ false → v.asks ns names ≡ None
+  -- what clap is told of the words behind the verb
+  pub rules : List Rule
   -- clap leaves the words behind the verb to its subcommand
-  pub rows : (program : Text) (rest : List Text) → subcommand_of app (program ∷ v.word ∷ rest) ≡ Some (v.word, rows_after (rules_for (options_of v)) [] rest)
+  pub rows : (program : Text) (rest : List Text) → subcommand_of app (program ∷ v.word ∷ rest) ≡ Some (v.word, rows_after rules [] rest)
   -- clap takes the words where the subcommand takes those behind the verb
-  pub taken : (program : Text) (rest : List Text) → level_passes (sub_shape v.word (options_of v)) [] nothing_held rest false ≡ true → takes app (program ∷ v.word ∷ rest) ≡ true
+  pub taken : (program : Text) (rest : List Text) → level_passes (shape_with v.word rules) [] nothing_held rest false ≡ true → takes app (program ∷ v.word ∷ rest) ≡ true
+  -- clap finds in agreed words what they say
+  pub reads : (rest : List Text) (line : Line) → line_of (known_of v) rest ≡ Some line → is_told_once (options_of v) (length v.names) line ≡ true → Reads v rules rest line
 
 not_only : (names : List Text) → nat_eq (length names) 1 ≡ false → only names ≡ None
 not_only [] e = refl
 not_only (n ∷ []) e = absurd (true≢false e)
 not_only (n ∷ m ∷ names) e = refl
 
-run_one : (ns : List ℕ) (names : List Text) → nat_eq (length names) 1 ≡ false → run_verb.asks ns names ≡ None
+run_one : (ns : List ℕ) (names : List Text) → nat_eq (length names) 1 ≡ false → run_asks ns names ≡ None
 run_one [] names e = refl
 run_one (w ∷ []) names e = refl
 run_one (w ∷ f ∷ []) names e = refl
 run_one (w ∷ f ∷ h ∷ []) names e = ap (option_map (run w f h)) (not_only names e)
 run_one (w ∷ f ∷ h ∷ x ∷ xs) names e = refl
 
-walk_one : (ns : List ℕ) (names : List Text) → nat_eq (length names) 1 ≡ false → walk_verb.asks ns names ≡ None
+walk_one : (ns : List ℕ) (names : List Text) → nat_eq (length names) 1 ≡ false → walk_asks ns names ≡ None
 walk_one [] names e = refl
 walk_one (g ∷ []) names e = refl
 walk_one (g ∷ h ∷ []) names e = ap (option_map (walk g h)) (not_only names e)
 walk_one (g ∷ h ∷ x ∷ xs) names e = refl
+
+view_one : (ns : List ℕ) (names : List Text) → nat_eq (length names) 1 ≡ false → view_asks ns names ≡ None
+view_one [] names e = refl
+view_one (k ∷ []) names e = ap (option_map (view k)) (not_only names e)
+view_one (k ∷ x ∷ xs) names e = refl
+
+trace_one : (ns : List ℕ) (names : List Text) → nat_eq (length names) 1 ≡ false → trace_asks ns names ≡ None
+trace_one [] names e = refl
+trace_one (w ∷ []) names e = refl
+trace_one (w ∷ f ∷ []) names e = ap (option_map (trace w f)) (not_only names e)
+trace_one (w ∷ f ∷ x ∷ xs) names e = refl
+
+check_two : (ns : List ℕ) (names : List Text) → nat_eq (length names) 2 ≡ false → check_asks ns names ≡ None
+check_two (x ∷ xs) names e = refl
+check_two [] [] e = refl
+check_two [] (a ∷ []) e = refl
+check_two [] (a ∷ b ∷ []) e = absurd (true≢false e)
+check_two [] (a ∷ b ∷ c ∷ names) e = refl
+
+gen_one : (ns : List ℕ) (names : List Text) → nat_eq (length names) 1 ≡ false → gen_asks ns names ≡ None
+gen_one [] names e = refl
+gen_one (r ∷ x ∷ xs) names e = refl
+gen_one (r ∷ []) [] e = refl
+gen_one (r ∷ []) (n ∷ []) e = absurd (true≢false e)
+gen_one (r ∷ []) (n ∷ m ∷ names) e = refl
 
 top_shape : Shape
 top_shape = (built app).top
@@ -60,10 +91,10 @@ top_settles : (h : Held) → h ≡ nothing_held → settle_passes top_shape.rule
 top_settles h is = ap (settle_passes top_shape.rules false) is
 
 -- a word that clap takes for a subcommand, as the first of the words
-module _ (word : Text) (os : List Text)
+module _ (word : Text) (rules : List Rule)
     (starts : walked top_shape.rules (names_of (built app)) (walk_from nothing_held) word ≡ record (walk_from nothing_held) { stopped = Some (word, []) })
     (passes : turn_passes top_shape (names_of (built app)) (walk_from nothing_held) word ≡ true)
-    (finds : find (λ s. answers_to word (label_of s)) (built app).subs ≡ Some (sub_shape word os)) where
+    (finds : find (λ s. answers_to word (label_of s)) (built app).subs ≡ Some (shape_with word rules)) where
   stops : (rest : List Text) → (fold (walked top_shape.rules (names_of (built app))) (walk_from nothing_held) (word ∷ rest)).stopped ≡ Some (word, rest)
   stops rest = ap (λ (w : Walk). (fold (walked top_shape.rules (names_of (built app))) w rest).stopped) starts
       ∙ left_to_it top_shape.rules (names_of (built app)) (walk_from nothing_held) word [] rest
@@ -72,7 +103,7 @@ module _ (word : Text) (os : List Text)
   holds rest = ap (λ (w : Walk). (fold (walked top_shape.rules (names_of (built app))) w rest).held) starts
       ∙ held_before top_shape.rules (names_of (built app)) (walk_from nothing_held) word [] rest
 
-  rows_behind : (program : Text) (rest : List Text) → subcommand_of app (program ∷ word ∷ rest) ≡ Some (word, rows_after (rules_for os) [] rest)
+  rows_behind : (program : Text) (rest : List Text) → subcommand_of app (program ∷ word ∷ rest) ≡ Some (word, rows_after rules [] rest)
   unfolding top_shape
   rows_behind program rest = ap (entered (built app)) (stops rest) ∙ ap (option_map (λ (s : Shape). rows_at s rest)) finds
 
@@ -81,7 +112,7 @@ module _ (word : Text) (os : List Text)
   walk_on_passes rest = and_true _ _ passes (ap (λ (w : Walk). walk_passes top_shape (names_of (built app)) w rest) starts
       ∙ stopped_passes top_shape (names_of (built app)) (walk_from nothing_held) word [] rest)
 
-  taken_behind : (program : Text) (rest : List Text) → level_passes (sub_shape word os) [] nothing_held rest false ≡ true → takes app (program ∷ word ∷ rest) ≡ true
+  taken_behind : (program : Text) (rest : List Text) → level_passes (shape_with word rules) [] nothing_held rest false ≡ true → takes app (program ∷ word ∷ rest) ≡ true
   unfolding top_shape
   taken_behind program rest below =
       let above = and_true _ _ (walk_on_passes rest) (and_true _ _ (top_settles _ (holds rest)) refl) in
@@ -90,42 +121,81 @@ module _ (word : Text) (os : List Text)
 is_run : IsVerb run_verb
 unfolding walked top_shape
 is_run = record {
-  apart = refl;
   one = run_one;
-  rows = rows_behind run_verb.word (options_of run_verb) refl refl refl;
-  taken = taken_behind run_verb.word (options_of run_verb) refl refl refl;
+  rules = rules_for (options_of run_verb);
+  rows = rows_behind run_verb.word (rules_for (options_of run_verb)) refl refl refl;
+  taken = taken_behind run_verb.word (rules_for (options_of run_verb)) refl refl refl;
+  reads = file_reads run_verb.word run_verb.settings run_asks refl;
 }
 
 is_walk : IsVerb walk_verb
 unfolding walked top_shape
 is_walk = record {
-  apart = refl;
   one = walk_one;
-  rows = rows_behind walk_verb.word (options_of walk_verb) refl refl refl;
-  taken = taken_behind walk_verb.word (options_of walk_verb) refl refl refl;
+  rules = rules_for (options_of walk_verb);
+  rows = rows_behind walk_verb.word (rules_for (options_of walk_verb)) refl refl refl;
+  taken = taken_behind walk_verb.word (rules_for (options_of walk_verb)) refl refl refl;
+  reads = file_reads walk_verb.word walk_verb.settings walk_asks refl;
 }
+
+is_view : IsVerb view_verb
+unfolding walked top_shape
+is_view = record {
+  one = view_one;
+  rules = rules_for (options_of view_verb);
+  rows = rows_behind view_verb.word (rules_for (options_of view_verb)) refl refl refl;
+  taken = taken_behind view_verb.word (rules_for (options_of view_verb)) refl refl refl;
+  reads = file_reads view_verb.word view_verb.settings view_asks refl;
+}
+
+is_trace : IsVerb trace_verb
+unfolding walked top_shape
+is_trace = record {
+  one = trace_one;
+  rules = rules_for (options_of trace_verb);
+  rows = rows_behind trace_verb.word (rules_for (options_of trace_verb)) refl refl refl;
+  taken = taken_behind trace_verb.word (rules_for (options_of trace_verb)) refl refl refl;
+  reads = file_reads trace_verb.word trace_verb.settings trace_asks refl;
+}
+
+is_check : IsVerb check_verb
+unfolding walked top_shape
+is_check = record {
+  one = check_two;
+  rules = check_rules;
+  rows = rows_behind check_verb.word check_rules refl refl refl;
+  taken = taken_behind check_verb.word check_rules refl refl refl;
+  reads = check_reads;
+}
+
+is_gen : IsVerb gen_verb
+unfolding walked top_shape
+is_gen = record {
+  one = gen_one;
+  rules = gen_rules;
+  rows = rows_behind gen_verb.word gen_rules refl refl refl;
+  taken = taken_behind gen_verb.word gen_rules refl refl refl;
+  reads = gen_reads;
+}
+
+-- a verb among some
+module _ (word : Text) (v : Verb) where
+  here_or_later : (x : Verb) (later : Option Verb) → IsVerb x → (later ≡ Some v → IsVerb v × (word ≡ v.word))
+      → (if bytes_eq x.word word then Some x else later) ≡ Some v → IsVerb v × (word ≡ v.word)
+  here_or_later x later is_x more e = elim (cases (bytes_eq x.word word)) [
+    | inl same ↦
+        let is : x ≡ v = the x (sym (ap (λ b. if b then Some x else later) same) ∙ e) in
+        subst (λ y. IsVerb y × (word ≡ y.word)) is (is_x, sym ((bytes_eq-Decides x.word word).0 same))
+    | inr other ↦ more (sym (ap (λ b. if b then Some x else later) other) ∙ e)
+  ]
+    where
+      the : (x : Verb) → ◌≡◌ {A = Option Verb} (Some x) (Some v) → x ≡ v
+      the x e = cc
+
+  none_left : ◌≡◌ {A = Option Verb} None (Some v) → IsVerb v × (word ≡ v.word)
+  none_left e = absurd (cc)
 
 -- each verb that a word names is one of the command line's, and is written so
 pub named_is : (word : Text) (v : Verb) → verb_named word ≡ Some v → IsVerb v × (word ≡ v.word)
-named_is word v e = elim (cases (bytes_eq run_verb.word word)) [
-  | inl same ↦
-      let is : run_verb ≡ v = the (sym (ap (λ b. if b then Some run_verb else other) same) ∙ e) in
-      subst (λ x. IsVerb x × (word ≡ x.word)) is (is_run, sym ((bytes_eq-Decides run_verb.word word).0 same))
-  | inr not_run ↦
-      let rest : other ≡ Some v = sym (ap (λ b. if b then Some run_verb else other) not_run) ∙ e in
-      elim (cases (bytes_eq walk_verb.word word)) [
-        | inl same ↦
-            let is : walk_verb ≡ v = the (sym (ap (λ b. if b then Some walk_verb else None) same) ∙ rest) in
-            subst (λ x. IsVerb x × (word ≡ x.word)) is (is_walk, sym ((bytes_eq-Decides walk_verb.word word).0 same))
-        | inr not_walk ↦ absurd (nothing (sym (ap (λ b. if b then Some walk_verb else None) not_walk) ∙ rest))
-      ]
-]
-  where
-    other : Option Verb
-    other = if bytes_eq walk_verb.word word then Some walk_verb else None
-
-    the : {a b : Verb} → ◌≡◌ {A = Option Verb} (Some a) (Some b) → a ≡ b
-    the x = cc
-
-    nothing : ◌≡◌ {A = Option Verb} None (Some v) → ⊥
-    nothing x = cc
+named_is word v = here_or_later word v run_verb _ is_run (here_or_later word v walk_verb _ is_walk (here_or_later word v view_verb _ is_view
+    (here_or_later word v trace_verb _ is_trace (here_or_later word v check_verb _ is_check (here_or_later word v gen_verb _ is_gen (none_left word v))))))

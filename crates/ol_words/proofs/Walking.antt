@@ -20,7 +20,7 @@ at h waiting first is_trailing = record { held = h; waiting = waiting; position 
 abbrev pub rows_in : List Text → Held → List Row
 rows_in os h = (settled (rules_for os) h).rows
 
-and_false : (b : Bool) → (b && false) ≡ false
+pub and_false : (b : Bool) → (b && false) ≡ false
 and_false true = refl
 and_false false = refl
 

@@ -5,7 +5,7 @@ use Rattle.ol_words.specs.Lines.{Text, Line, line_from, is_dashed, is_end, is_op
 use Rattle.ol_words.proofs.Rows.{cases}
 use Rattle.ol_words.proofs.Told.{Told, told_nothing, told_option, told_name, told_again}
 use Rattle.ol_words.proofs.Shapes.{option_long}
-use Rattle.ol_words.proofs.Options.{rules_for, option_known, name_filled, name_by_id}
+use Rattle.ol_words.proofs.Options.{valued, rules_for, option_known, name_filled, name_by_id}
 use Rattle.ol_words.proofs.Walking.{at, rows_in, step_name, step_again, step_trailing, step_further, step_end, step_attached, step_waits, step_value}
 
 abbrev pub walk_on : List Text → Walk → List Text → Walk
@@ -18,7 +18,7 @@ start os (Some o) h first = at (record (settled (rules_for os) h) { pending = So
 -- the walk from here on tells the line of the words
 abbrev Tells : List Text → List Text → Type 0
 Tells os words = (waiting : Option Text) (h : Held) (first : Bool) (line : Line) → ((o : Text) → waiting ≡ Some o → is_option os o ≡ true)
-    → line_from os waiting words ≡ Some line → Told os (rows_in os h) (rows_in os (walk_on os (start os waiting h first) words).held) line first
+    → line_from (valued os) waiting words ≡ Some line → Told os (rows_in os h) (rows_in os (walk_on os (start os waiting h first) words).held) line first
 
 pub mapped : (f : Line → Line) (r : Option Line) (line : Line) → option_map f r ≡ Some line → (l : Line) × (r ≡ Some l) × (f l ≡ line)
 mapped f None line e = absurd (cc)
@@ -45,14 +45,14 @@ module _ (os : List Text) (apart : is_option os (codes "name") ≡ false) where
   none_waits o e = absurd (cc)
 
   module _ (word : Text) (rest : List Text) (more : Tells os rest) (h : Held) (first : Bool) (line : Line) where
-    turn_value : (o : Text) → is_option os o ≡ true → line_from os (Some o) (word ∷ rest) ≡ Some line
+    turn_value : (o : Text) → is_option os o ≡ true → line_from (valued os) (Some o) (word ∷ rest) ≡ Some line
         → Told os (rows_in os h) (rows_in os (walk_on os (start os (Some o) h first) (word ∷ rest)).held) line first
     unfolding line_from
     turn_value o known e = elim (cases (is_dashed word)) [
-      | inl dashed ↦ absurd (none (sym (ap (λ b. if b then None else option_map (with_option o word) (line_from os None rest)) dashed) ∙ e))
+      | inl dashed ↦ absurd (none (sym (ap (λ b. if b then None else option_map (with_option o word) (line_from (valued os) None rest)) dashed) ∙ e))
       | inr plain ↦
           let rule = option_known os o known in
-          let read = mapped (with_option o word) (line_from os None rest) line (sym (ap (λ b. if b then None else option_map (with_option o word) (line_from os None rest)) plain) ∙ e) in
+          let read = mapped (with_option o word) (line_from (valued os) None rest) line (sym (ap (λ b. if b then None else option_map (with_option o word) (line_from (valued os) None rest)) plain) ∙ e) in
           let after : Held = record { rows = rows_in os h; pending = Some (o, word ∷ []); skip = h.skip } in
           let t = more None after first read.0 none_waits read.1 in
           let use_is : rows_in os after ≡ used rule.0 (word ∷ []) (rows_in os h) = ap (λ (r : Option Rule). used_by_id r (word ∷ []) (rows_in os h)) rule.1.by_id in
@@ -65,8 +65,8 @@ module _ (os : List Text) (apart : is_option os (codes "name") ≡ false) where
         none : ◌≡◌ {A = Option Line} None (Some line) → ⊥
         none x = cc
 
-    turn_option : is_end word ≡ false → (found : Option (Text × Option Text)) → option_of os word ≡ found
-        → after_option found (λ option. line_from os (Some option) rest) (line_from os None rest) ≡ Some line
+    turn_option : is_end word ≡ false → (found : Option (Text × Option Text)) → option_of (valued os) word ≡ found
+        → after_option found (λ option. line_from (valued os) (Some option) rest) (line_from (valued os) None rest) ≡ Some line
         → Told os (rows_in os h) (rows_in os (walk_on os (at h idle first false) (word ∷ rest)).held) line first
     turn_option goes None is e = absurd (cc)
     turn_option goes (Some (o, None)) is e =
@@ -80,13 +80,13 @@ module _ (os : List Text) (apart : is_option os (codes "name") ≡ false) where
     turn_option goes (Some (o, Some v)) is e =
         let long = option_long os word o (Some v) goes is in
         let rule = option_known os o long.1 in
-        let read = mapped (with_option o v) (line_from os None rest) line e in
+        let read = mapped (with_option o v) (line_from (valued os) None rest) line e in
         let t = more None (reacted (rules_for os) rule.0 (v ∷ []) h) first read.0 none_waits read.1 in
         let u = told_option os apart rule.0 (rows_in os h) _ read.0 first o v rule.1.id rule.1.sets long.1 t in
         subst (λ l. Told os (rows_in os h) (rows_in os (walk_on os (at h idle first false) (word ∷ rest)).held) l first) read.2
         (subst (λ (w : Walk). Told os (rows_in os h) (rows_in os (walk_on os w rest).held) (with_option o v read.0) first) (sym (step_attached os word h o v rule.0 first goes long.0 rule.1)) u)
 
-  turn_name : (word : Text) (rest : List Text) (more : Tells os rest) (h : Held) (first : Bool) (line : Line) → is_dashed word ≡ false → line_from os None rest ≡ Some line
+  turn_name : (word : Text) (rest : List Text) (more : Tells os rest) (h : Held) (first : Bool) (line : Line) → is_dashed word ≡ false → line_from (valued os) None rest ≡ Some line
       → Told os (rows_in os h) (rows_in os (walk_on os (at h idle first false) (word ∷ rest)).held) (with_name word line) first
   turn_name word rest more h true line plain e =
       let t = more None (pushed (codes "name") word (settled (rules_for os) h)) false line none_waits e in
@@ -98,12 +98,12 @@ module _ (os : List Text) (apart : is_option os (codes "name") ≡ false) where
       subst (λ (w : Walk). Told os (rows_in os h) (rows_in os (walk_on os w rest).held) (with_name word line) false) (sym (step_again os word h plain))
       (told_again os (rows_in os h) _ line word t)
 
-  turn_none : (word : Text) (rest : List Text) (more : Tells os rest) (h : Held) (first : Bool) (line : Line) → line_from os None (word ∷ rest) ≡ Some line
+  turn_none : (word : Text) (rest : List Text) (more : Tells os rest) (h : Held) (first : Bool) (line : Line) → line_from (valued os) None (word ∷ rest) ≡ Some line
       → Told os (rows_in os h) (rows_in os (walk_on os (at h idle first false) (word ∷ rest)).held) line first
   unfolding line_from
   turn_none word rest more h first line e =
-      let dashed_or_name = λ (b : Bool). if b then after_option (option_of os word) (λ option. line_from os (Some option) rest) (line_from os None rest)
-      else option_map (with_name word) (line_from os None rest) in
+      let dashed_or_name = λ (b : Bool). if b then after_option (option_of (valued os) word) (λ option. line_from (valued os) (Some option) rest) (line_from (valued os) None rest)
+      else option_map (with_name word) (line_from (valued os) None rest) in
       let ended : Option Line = Some (record { options = []; names = rest }) in
       elim (cases (is_end word)) [
         | inl ends ↦
@@ -114,9 +114,9 @@ module _ (os : List Text) (apart : is_option os (codes "name") ≡ false) where
         | inr goes ↦
             let read_on : dashed_or_name (is_dashed word) ≡ Some line = sym (ap (λ b. if b then ended else dashed_or_name (is_dashed word)) goes) ∙ e in
             elim (cases (is_dashed word)) [
-              | inl dashed ↦ turn_option word rest more h first line goes (option_of os word) refl (sym (ap dashed_or_name dashed) ∙ read_on)
+              | inl dashed ↦ turn_option word rest more h first line goes (option_of (valued os) word) refl (sym (ap dashed_or_name dashed) ∙ read_on)
               | inr plain ↦
-                  let read = mapped (with_name word) (line_from os None rest) line (sym (ap dashed_or_name plain) ∙ read_on) in
+                  let read = mapped (with_name word) (line_from (valued os) None rest) line (sym (ap dashed_or_name plain) ∙ read_on) in
                   subst (λ l. Told os (rows_in os h) (rows_in os (walk_on os (at h idle first false) (word ∷ rest)).held) l first) read.2
                   (turn_name word rest more h first read.0 plain read.1)
             ]

@@ -1,32 +1,46 @@
 -- The command line as clap is told of it.
-use Rattle.std.specs.Prelude.{Some, true, codes, List, fold}
+use Rattle.std.specs.Prelude.{Some, true, codes, if◌then◌else◌, List, fold}
 use Rattle.clap.specs.Walk.{Rule}
 use Rattle.clap.specs.Words.{App, new_app, new_rule, with_rule, with_subcommand}
-use Rattle.clap.specs.declared.builder.action.ArgAction.TheVariants.{Set}
-use Rattle.ol_words.specs.Lines.{Text}
+use Rattle.clap.specs.declared.builder.action.ArgAction.TheVariants.{Set, SetTrue}
+use Rattle.ol_words.specs.Lines.{Text, is_option}
 use Rattle.ol_words.specs.Jobs.{Verb, options_of, verbs}
 
 -- an option with a value
 abbrev pub option_rule : Text → Rule
 option_rule name = record (new_rule name) { long = Some name; action = Some Set }
 
--- the positional for the name of the file
-abbrev pub name_rule : Rule
-name_rule = record (new_rule (codes "name")) { action = Some Set }
+-- an option without a value
+abbrev pub flag_rule : Text → Rule
+flag_rule name = record (new_rule name) { long = Some name; action = Some SetTrue }
 
-abbrev pub with_option_rule : App → Text → App
-with_option_rule app option = with_rule app (option_rule option)
+-- a positional, as the name of a file
+abbrev pub name_rule : Text → Rule
+name_rule name = record (new_rule name) { action = Some Set }
 
--- a subcommand with these options and a name
-abbrev pub sub_app : Text → List Text → App
-sub_app word options = with_rule (fold with_option_rule (new_app word) options) name_rule
+abbrev pub with_option_rule : List Text → App → Text → App
+with_option_rule flags app option =
+    with_rule app (if is_option flags option then flag_rule option else option_rule option)
+
+abbrev pub with_name_rule : App → Text → App
+with_name_rule app name = with_rule app (name_rule name)
+
+-- the subcommand of a verb: its options, and then its names
+abbrev pub sub_app : Verb → App
+sub_app v = fold with_name_rule (fold (with_option_rule v.flags) (new_app v.word) (options_of v)) v.names
 
 -- the command above, without help and version
 abbrev pub quiet_app : App
-quiet_app = let top = new_app (codes "ol") in record top { top = record top.top { disable_help_flag = true; disable_version_flag = true; disable_help_subcommand = true } }
+quiet_app = let top = new_app (codes "ol") in record top {
+  top = record top.top {
+    disable_help_flag = true;
+    disable_version_flag = true;
+    disable_help_subcommand = true;
+  };
+}
 
 abbrev pub with_verb : App → Verb → App
-with_verb app v = with_subcommand app (sub_app v.word (options_of v)).top
+with_verb app v = with_subcommand app (sub_app v).top
 
 -- the command line: a subcommand for each verb
 abbrev pub app : App

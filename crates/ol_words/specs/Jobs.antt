@@ -1,11 +1,11 @@
 -- The job of a list of words.
-use Rattle.std.specs.Prelude.{ℕ, ◌&&◌, List, [], ◌∷◌, Option, None, Some, if◌then◌else◌, length, map, codes, nat_lt, nat_eq, Bool, false, filter, find, option_map, option_and_then, String, string_bytes}
+use Rattle.std.specs.Prelude.{ℕ, ◌&&◌, ◌==◌, List, [], ◌∷◌, Option, None, Some, if◌then◌else◌, length, map, codes, nat_lt, nat_eq, Bool, false, filter, find, option_map, option_and_then, String, string_bytes}
 use Rattle.std.specs.declared.alloc.Global.{Global}
 use Rattle.std.specs.Option.{option_map_or}
 use Rattle.std.specs.List.{list_all}
 use Rattle.std.specs.Str.{bytes_eq}
-use Rattle.ol_words.specs.Lines.{Text, Line, line_of}
-use Rattle.ol_words.specs.Numbers.{Limits, setting, setting_by}
+use Rattle.ol_words.specs.Lines.{Text, Line, Known, is_option, line_of}
+use Rattle.ol_words.specs.Numbers.{Limits, number_within, setting, setting_by}
 use Rattle.ol_words.specs.declared.jobs.Job.{Job}
 use Rattle.ol_words.specs.declared.jobs.Job.TheVariants as job
 use Rattle.ol_words.specs.declared.verbs.Verb.{Verb as RustVerb}
@@ -15,10 +15,18 @@ use Rattle.ol_words.specs.declared.verbs.Verb.TheVariants as verb
 pub data Asked : Type 0 where
   run : (workers : ℕ) → (fuel : ℕ) → (heads : ℕ) → (name : Text) → Asked
   walk : (edges : ℕ) → (heads : ℕ) → (name : Text) → Asked
+  view : (after : ℕ) → (name : Text) → Asked
+  trace : (workers : ℕ) → (fuel : ℕ) → (name : Text) → Asked
+  check : (term : Text) → (journal : Text) → Asked
+  gen : (runs : Bool) → (k : ℕ) → Asked
 
 abbrev pub asked_by : Job → Asked
 asked_by (job.Run workers fuel heads name) = run workers fuel heads name
 asked_by (job.Walk edges heads name) = walk edges heads name
+asked_by (job.View after name) = view after name
+asked_by (job.Trace workers fuel name) = trace workers fuel name
+asked_by (job.Check term journal) = check term journal
+asked_by (job.Gen runs k) = gen runs k
 
 -- ---- the verbs
 
@@ -39,11 +47,35 @@ heads_setting = record { option = codes "heads"; limits = record { least = 1; mo
 abbrev pub edges_setting : Setting
 edges_setting = record { option = codes "edges"; limits = record { least = 1; most = 10000000; default = 100000 } }
 
--- a verb: how it is written, the settings that it has, and the job that the numbers of these settings and the names ask for
+abbrev pub after_setting : Setting
+after_setting = record { option = codes "after"; limits = record { least = 0; most = 2000000; default = 0 } }
+
+-- a flag is 1 where it is given, else 0
+abbrev pub runs_setting : Setting
+runs_setting = record { option = codes "run"; limits = record { least = 0; most = 1; default = 0 } }
+
+-- how often a term may be doubled
+abbrev pub doublings : Limits
+doublings = record { least = 0; most = 10; default = 0 }
+
+-- A verb: how it is written, the settings that it has, those of their options that are flags, what
+-- its names are called, and the job that the numbers of its settings and its names ask for.
 pub record Verb : Type 0 where
   pub word : Text
   pub settings : List Setting
+  pub flags : List Text
+  pub names : List Text
   pub asks : List ℕ → List Text → Option Asked
+
+-- a verb without flags, which takes the name of one file
+abbrev pub file_verb : Text → List Setting → (List ℕ → List Text → Option Asked) → Verb
+file_verb word settings asks = record {
+  word = word;
+  settings = settings;
+  flags = [];
+  names = codes "name" ∷ [];
+  asks = asks;
+}
 
 abbrev pub only : List Text → Option Text
 only (name ∷ []) = Some name
@@ -57,14 +89,63 @@ abbrev pub walk_asks : List ℕ → List Text → Option Asked
 walk_asks (edges ∷ heads ∷ []) names = option_map (walk edges heads) (only names)
 walk_asks _ names = None
 
+abbrev pub view_asks : List ℕ → List Text → Option Asked
+view_asks (after ∷ []) names = option_map (view after) (only names)
+view_asks _ names = None
+
+abbrev pub trace_asks : List ℕ → List Text → Option Asked
+trace_asks (workers ∷ fuel ∷ []) names = option_map (trace workers fuel) (only names)
+trace_asks _ names = None
+
+-- the name of standard input
+abbrev pub is_input : Text → Bool
+is_input name = bytes_eq name (codes "-")
+
+-- standard input can't be both files
+abbrev pub check_asks : List ℕ → List Text → Option Asked
+check_asks [] (term ∷ journal ∷ []) =
+    if is_input term && is_input journal then None else Some (check term journal)
+check_asks _ names = None
+
+abbrev pub gen_of : Bool → Option ℕ → Option Asked
+gen_of runs number = option_map (gen runs) number
+
+abbrev pub gen_asks : List ℕ → List Text → Option Asked
+gen_asks (runs ∷ []) (number ∷ []) = gen_of (runs == 1) (number_within doublings number)
+gen_asks _ names = None
+
 abbrev pub run_verb : Verb
-run_verb = record { word = codes "run"; settings = workers_setting ∷ fuel_setting ∷ heads_setting ∷ []; asks = run_asks }
+run_verb = file_verb (codes "run") (workers_setting ∷ fuel_setting ∷ heads_setting ∷ []) run_asks
 
 abbrev pub walk_verb : Verb
-walk_verb = record { word = codes "walk"; settings = edges_setting ∷ heads_setting ∷ []; asks = walk_asks }
+walk_verb = file_verb (codes "walk") (edges_setting ∷ heads_setting ∷ []) walk_asks
+
+abbrev pub view_verb : Verb
+view_verb = file_verb (codes "view") (after_setting ∷ []) view_asks
+
+abbrev pub trace_verb : Verb
+trace_verb = file_verb (codes "trace") (workers_setting ∷ fuel_setting ∷ []) trace_asks
+
+abbrev pub check_verb : Verb
+check_verb = record {
+  word = codes "check";
+  settings = [];
+  flags = [];
+  names = codes "term" ∷ codes "journal" ∷ [];
+  asks = check_asks;
+}
+
+abbrev pub gen_verb : Verb
+gen_verb = record {
+  word = codes "gen";
+  settings = runs_setting ∷ [];
+  flags = codes "run" ∷ [];
+  names = codes "number" ∷ [];
+  asks = gen_asks;
+}
 
 abbrev pub verbs : List Verb
-verbs = run_verb ∷ walk_verb ∷ []
+verbs = run_verb ∷ walk_verb ∷ view_verb ∷ trace_verb ∷ check_verb ∷ gen_verb ∷ []
 
 abbrev pub verb_named : Text → Option Verb
 verb_named word = find (λ v. bytes_eq v.word word) verbs
@@ -72,9 +153,16 @@ verb_named word = find (λ v. bytes_eq v.word word) verbs
 abbrev pub verb_of : RustVerb → Verb
 verb_of verb.Run = run_verb
 verb_of verb.Walk = walk_verb
+verb_of verb.View = view_verb
+verb_of verb.Trace = trace_verb
+verb_of verb.Check = check_verb
+verb_of verb.Gen = gen_verb
 
 abbrev pub options_of : Verb → List Text
 options_of v = map (λ s. s.option) v.settings
+
+abbrev pub known_of : Verb → Known
+known_of v = record { options = options_of v; flags = v.flags }
 
 -- ---- the job
 
@@ -96,7 +184,7 @@ abbrev pub job_on : Verb → Line → Option Asked
 job_on v line = option_and_then (λ ns. v.asks ns line.names) (numbers (number_on line) v.settings)
 
 abbrev pub job_behind : List Text → Verb → Option Asked
-job_behind rest v = option_and_then (job_on v) (line_of (options_of v) rest)
+job_behind rest v = option_and_then (job_on v) (line_of (known_of v) rest)
 
 -- the job of the words of a command line: the first is the program's name and isn't looked at, the second is the verb
 abbrev pub job_of : List Text → Option Asked
@@ -111,26 +199,41 @@ texts_of words = map string_bytes words
 abbrev pub is_given_once : Line → Text → Bool
 is_given_once line option = nat_lt (length (values_of option line.options)) 2
 
--- each option is given once at most, and there is one name
-abbrev pub is_told_once : List Text → Line → Bool
-is_told_once options line = list_all (is_given_once line) options && nat_eq (length line.names) 1
+-- each option is given once at most, and there are so many names
+abbrev pub is_told_once : List Text → ℕ → Line → Bool
+is_told_once options names line =
+    list_all (is_given_once line) options && nat_eq (length line.names) names
 
-abbrev pub is_agreed : List Text → List Text → Bool
-is_agreed options rest = option_map_or (is_told_once options) (line_of options rest) false
+abbrev pub is_agreed : Verb → List Text → Bool
+is_agreed v rest =
+    option_map_or (is_told_once (options_of v) (length v.names)) (line_of (known_of v) rest) false
 
--- the verb of words that are left to clap: all words that have a job, and of the others those with a bad number
+-- the verb of words that are left to clap: all words that have a job, and of the others those with a
+-- bad number and those that name standard input twice
 abbrev pub agreed_verb : List Text → Option Verb
-agreed_verb (program ∷ word ∷ rest) = option_and_then (λ v. if is_agreed (options_of v) rest then Some v else None) (verb_named word)
+agreed_verb (program ∷ word ∷ rest) =
+    option_and_then (λ v. if is_agreed v rest then Some v else None) (verb_named word)
 agreed_verb _ = None
 
-abbrev pub number_by : (Text → Option Text) → Setting → Option ℕ
-number_by given s = setting_by s.limits (given s.option)
+-- clap gives a flag the value `true` where it is written out
+abbrev pub flag_by : Option Text → ℕ
+flag_by None = 0
+flag_by (Some value) = if bytes_eq value (codes "true") then 1 else 0
 
--- a name, if there is one
-abbrev pub name_list : Option Text → List Text
-name_list None = []
-name_list (Some name) = name ∷ []
+abbrev pub number_by : List Text → (Text → Option Text) → Setting → Option ℕ
+number_by flags given s = if is_option flags s.option then Some (flag_by (given s.option))
+    else setting_by s.limits (given s.option)
+
+-- a name before others, if there is one
+abbrev pub name_before : Option Text → List Text → List Text
+name_before None names = names
+name_before (Some name) names = name ∷ names
+
+abbrev pub names_by : (Text → Option Text) → List Text → List Text
+names_by given [] = []
+names_by given (id ∷ ids) = name_before (given id) (names_by given ids)
 
 -- the job of a verb by what is given to each id
 abbrev pub job_by : Verb → (Text → Option Text) → Option Asked
-job_by v given = option_and_then (λ ns. v.asks ns (name_list (given (codes "name")))) (numbers (number_by given) v.settings)
+job_by v given = option_and_then (λ ns. v.asks ns (names_by given v.names))
+    (numbers (number_by v.flags given) v.settings)

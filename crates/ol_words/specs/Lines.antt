@@ -35,13 +35,31 @@ after_hyphens _ = None
 abbrev pub value_in : Text → Option Text
 value_in text = if nat_lt (position_or_len is_equals text) (length text) then Some (after_first is_equals text) else None
 
+-- the options that a command has, and those of them that take no value: the flags
+pub record Known : Type 0 where
+  pub options : List Text
+  pub flags : List Text
+
+abbrev pub known_by : List (Bor Text) → List (Bor Text) → Known
+known_by options flags = record { options = texts options; flags = texts flags }
+
+-- a flag stands alone, and has the value 1 where it is written out
+abbrev pub flag_alone : Text → Option Text → Option (Text × Option Text)
+flag_alone flag None = Some (flag, Some (codes "1"))
+flag_alone flag (Some value) = None
+
 -- `name` or `name=value`
-abbrev pub name_and_value : List Text → Text → Option (Text × Option Text)
-name_and_value options text = if is_option options (before_first is_equals text) then Some (before_first is_equals text, value_in text) else None
+abbrev pub name_and_value : Known → Text → Option (Text × Option Text)
+name_and_value known text =
+    if is_option known.flags (before_first is_equals text)
+    then flag_alone (before_first is_equals text) (value_in text)
+    else (if is_option known.options (before_first is_equals text)
+    then Some (before_first is_equals text, value_in text)
+    else None)
 
 -- the option that a word writes out whole, with its value where that is attached
-abbrev pub option_of : List Text → Text → Option (Text × Option Text)
-option_of options word = option_and_then (name_and_value options) (after_hyphens word)
+abbrev pub option_of : Known → Text → Option (Text × Option Text)
+option_of known word = option_and_then (name_and_value known) (after_hyphens word)
 
 -- the options with their values, and the names, each in order
 pub record Line : Type 0 where
@@ -61,7 +79,7 @@ after_option (Some (option, None)) waits line = waits option
 after_option (Some (option, Some value)) waits line = option_map (with_option option value) line
 
 -- the words are read where no option, or this one, waits for its value
-unfoldable pub line_from : List Text → Option Text → List Text → Option Line
+unfoldable pub line_from : Known → Option Text → List Text → Option Line
 line_from known None [] = Some (record { options = []; names = [] })
 line_from known None (word ∷ rest) =
     if is_end word then Some (record { options = []; names = rest })
@@ -71,7 +89,8 @@ line_from known (Some option) [] = None
 line_from known (Some option) (value ∷ rest) =
     if is_dashed value then None else option_map (with_option option value) (line_from known None rest)
 
--- what the words of a command with these options say: a word `--name` is followed by its value, a word `--name=value` has it,
--- `--` ends the options, and every other word is a name
-abbrev pub line_of : List Text → List Text → Option Line
+-- what the words of a command with these options say: a word `--name` is followed by its value where
+-- the option takes one, a word `--name=value` has it, `--` ends the options, and every other word is
+-- a name
+abbrev pub line_of : Known → List Text → Option Line
 line_of known words = line_from known None words

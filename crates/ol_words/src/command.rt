@@ -1,11 +1,13 @@
 //! The command line as clap is told of it.
 
-ghost use Rattle.std.specs.Prelude.{◌≡◌, false, true, IfOk, IfErr};
+ghost use Rattle.std.specs.Prelude.{◌≡◌, false, true, if◌then◌else◌, IfOk, IfErr};
 ghost use Rattle.clap.specs.Words.{app_of, kind_of, rule_of, subcommand_of, subcommand_rows_of, takes};
 ghost use Rattle.clap.specs.declared.builder.command.Command.TheViews.{out-Command};
-ghost use Rattle.ol_words.specs.Command.{app, name_rule, option_rule, sub_app};
-ghost use Rattle.ol_words.specs.Jobs.{options_of, texts_of, verb_of};
+ghost use Rattle.ol_words.specs.Command.{app, flag_rule, name_rule, option_rule, sub_app};
+ghost use Rattle.ol_words.specs.Jobs.{texts_of, verb_of};
+ghost use Rattle.ol_words.specs.Lines.{is_option, texts};
 
+use crate::lines::is_option;
 use crate::verbs::Verb;
 use clap::error::ErrorKind;
 use clap::{Arg, ArgAction, ArgMatches, Command, Error};
@@ -28,26 +30,51 @@ fn option<'a>(alloc: Global, name: &'a str) -> Arg<'a>
     Arg::new(alloc, name).long(name).action(ArgAction::Set)
 }
 
-// The name of a file.
-fn file_name<'a>(alloc: Global) -> Arg<'a>
-    ensures rule { rule_of result ≡ name_rule }
+// An option without a value.
+fn flag<'a>(alloc: Global, name: &'a str) -> Arg<'a>
+    ensures rule { rule_of result ≡ flag_rule name.entry.now }
     ensures own { result.global ≡ false }
 {
-    Arg::new(alloc, "name").action(ArgAction::Set)
+    Arg::new(alloc, name).long(name).action(ArgAction::SetTrue)
 }
 
-// The subcommand of a verb: its options, and a name.
+// An option, which is a flag where it is one of these.
+fn option_or_flag<'a>(alloc: Global, flags: &[&str], name: &'a str) -> Arg<'a>
+    ensures rule { rule_of result ≡ (if is_option (texts flags.now) name.entry.now
+        then flag_rule name.entry.now else option_rule name.entry.now) }
+    ensures own { result.global ≡ false }
+{
+    if is_option(flags, name.as_bytes()) {
+        flag(alloc, name)
+    } else {
+        option(alloc, name)
+    }
+}
+
+// A positional, as the name of a file.
+fn positional<'a>(alloc: Global, name: &'a str) -> Arg<'a>
+    ensures rule { rule_of result ≡ name_rule name.entry.now }
+    ensures own { result.global ≡ false }
+{
+    Arg::new(alloc, name).action(ArgAction::Set)
+}
+
+// The subcommand of a verb: its options, and then its names.
 fn subcommand<'a>(alloc: Global, verb: Verb) -> Result<Command<'a>, AllocError>
-    ensures app { IfOk result (λ c. app_of c ≡ sub_app (verb_of verb).word (options_of (verb_of verb))) }
+    ensures app { IfOk result (λ c. app_of c ≡ sub_app (verb_of verb)) }
     ensures local { IfOk result (λ c. (out-Command c).has_globals ≡ false) }
 {
     let word: &'a str = verb.word();
     let mut command: Command<'a> = Command::new(alloc, word);
-    for name in verb.options() {
-        let name: &'a str = name;
-        command = command.arg(option(alloc, name))?;
+    for option in verb.options() {
+        let option: &'a str = option;
+        command = command.arg(option_or_flag(alloc, verb.flags(), option))?;
     }
-    command.arg(file_name(alloc))
+    for name in verb.names() {
+        let name: &'a str = name;
+        command = command.arg(positional(alloc, name))?;
+    }
+    Ok(command)
 }
 
 fn command<'a>(alloc: Global) -> Result<Command<'a>, AllocError>
@@ -58,6 +85,10 @@ fn command<'a>(alloc: Global) -> Result<Command<'a>, AllocError>
         .disable_version_flag(true)
         .disable_help_subcommand(true)
         .subcommand(subcommand(alloc, Verb::Run)?)?
-        .subcommand(subcommand(alloc, Verb::Walk)?)?;
+        .subcommand(subcommand(alloc, Verb::Walk)?)?
+        .subcommand(subcommand(alloc, Verb::View)?)?
+        .subcommand(subcommand(alloc, Verb::Trace)?)?
+        .subcommand(subcommand(alloc, Verb::Check)?)?
+        .subcommand(subcommand(alloc, Verb::Gen)?)?;
     Ok(command)
 }

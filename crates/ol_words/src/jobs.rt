@@ -64,6 +64,36 @@ pub enum Job {
         /// The file with the term, or `-` for standard input.
         name: Word,
     },
+    /// Rewrite the net of a term in one thread, so far, and show it.
+    View {
+        /// After how many interactions, 0 to 2,000,000.
+        after: u32,
+        /// The file with the term, or `-` for standard input.
+        name: Word,
+    },
+    /// Rewrite the net of a term, and tell which pairs were rewritten.
+    Trace {
+        /// How many workers rewrite, 1 to 64.
+        workers: u32,
+        /// How many interactions may be made, 0 to 2,000,000.
+        fuel: u32,
+        /// The file with the term, or `-` for standard input.
+        name: Word,
+    },
+    /// Tell whether a trace is one of a term.
+    Check {
+        /// The file with the term, or `-` for standard input.
+        term: Word,
+        /// The file with the trace, or `-` for standard input where the term is in another file.
+        journal: Word,
+    },
+    /// Make a large term that reduces to an identity.
+    Gen {
+        /// Whether to do with it what `Run` does, in place of printing it.
+        run: bool,
+        /// How often it is applied to itself, 0 to 10.
+        k: u32,
+    },
 }
 
 /// Why no job is given.

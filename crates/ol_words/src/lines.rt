@@ -1,8 +1,8 @@
 //! What the words after the command say.
 
 ghost use Rattle.std.specs.Prelude.{◌≡◌, ◌++◌, ◌∷◌, [], Some, None, IfOk, MatchOption, option_map, length, map, true, false, if◌then◌else◌};
-ghost use Rattle.ol_words.specs.Lines.{Line, line_of, is_dashed, is_end, option_of, after_hyphens, name_and_value, value_in, is_equals, is_option};
-ghost use Rattle.ol_words.specs.Lines.{texts};
+ghost use Rattle.ol_words.specs.Lines.{Line, line_of, is_dashed, is_end, option_of, after_hyphens, name_and_value, flag_alone, value_in, is_equals, is_option};
+ghost use Rattle.ol_words.specs.Lines.{known_by, texts};
 ghost use Rattle.std.specs.List.{position_or_len};
 ghost use Rattle.ol_words.specs.Jobs.{texts_of, values_of, is_given_once, is_told_once};
 
@@ -35,8 +35,8 @@ fn is_dashed(word: &[u8]) -> bool
     matches!(word, [b'-', _, ..])
 }
 
-// The name is that of one of the options.
-fn is_option(options: &[&str], name: &[u8]) -> bool
+/// The name is that of one of the options.
+pub(crate) fn is_option(options: &[&str], name: &[u8]) -> bool
     ensures { result ≡ is_option (texts options.now) name.now }
 {
     for option in options {
@@ -71,12 +71,30 @@ fn value_in<'a>(text: &'a [u8]) -> Option<&'a [u8]>
     }
 }
 
+// A flag, which stands alone and has then the value 1.
+fn flag_alone<'a>(flag: &'a [u8], value: Option<&'a [u8]>) -> Option<(&'a [u8], Option<&'a [u8]>)>
+    ensures { option_map (λ p. (p.0.now, option_map (λ v. v.now) p.1)) result
+        ≡ flag_alone flag.now (option_map (λ v. v.now) value.entry) }
+{
+    match value {
+        None => Some((flag, Some(b"1"))),
+        Some(_) => None,
+    }
+}
+
 // An option, with its value where that is attached by `=`.
-fn name_and_value<'a>(options: &[&str], text: &'a [u8]) -> Option<(&'a [u8], Option<&'a [u8]>)>
-    ensures { option_map (λ p. (p.0.now, option_map (λ v. v.now) p.1)) result ≡ name_and_value (texts options.now) text.now }
+fn name_and_value<'a>(
+    options: &[&str],
+    flags: &[&str],
+    text: &'a [u8],
+) -> Option<(&'a [u8], Option<&'a [u8]>)>
+    ensures { option_map (λ p. (p.0.now, option_map (λ v. v.now) p.1)) result
+        ≡ name_and_value (known_by options.now flags.now) text.now }
 {
     let name = &text[..place_of_equals(text)];
-    if is_option(options, name) {
+    if is_option(flags, name) {
+        flag_alone(name, value_in(text))
+    } else if is_option(options, name) {
         Some((name, value_in(text)))
     } else {
         None
@@ -84,11 +102,16 @@ fn name_and_value<'a>(options: &[&str], text: &'a [u8]) -> Option<(&'a [u8], Opt
 }
 
 // The option that a word writes out, with its value where that is attached.
-fn option_of<'a>(options: &[&str], word: &'a [u8]) -> Option<(&'a [u8], Option<&'a [u8]>)>
-    ensures { option_map (λ p. (p.0.now, option_map (λ v. v.now) p.1)) result ≡ option_of (texts options.now) word.now }
+fn option_of<'a>(
+    options: &[&str],
+    flags: &[&str],
+    word: &'a [u8],
+) -> Option<(&'a [u8], Option<&'a [u8]>)>
+    ensures { option_map (λ p. (p.0.now, option_map (λ v. v.now) p.1)) result
+        ≡ option_of (known_by options.now flags.now) word.now }
 {
     match word {
-        [b'-', b'-', text @ ..] => name_and_value(options, text),
+        [b'-', b'-', text @ ..] => name_and_value(options, flags, text),
         _ => None,
     }
 }
@@ -103,13 +126,16 @@ fn push_all<'a>(names: &mut Vec<&'a str>, words: &'a [String]) -> Result<(), All
     Ok(())
 }
 
-/// What the words behind a verb with these options say, or None where they aren't read.
+/// What the words behind a verb with these options, some of which are flags, say, or None where they
+/// aren't read.
 pub(crate) fn line_of<'a>(
     alloc: Global,
     known: &[&str],
+    flags: &[&str],
     words: &'a [String],
 ) -> Result<Option<Line<'a>>, AllocError>
-    ensures { IfOk result (λ line. line ≡ line_of (texts known.now) (texts_of words.now)) }
+    ensures { IfOk result (λ line. line
+        ≡ line_of (known_by known.now flags.now) (texts_of words.now)) }
 {
     let mut options: Vec<(&'a [u8], &'a [u8])> = Vec::new(alloc);
     let mut names: Vec<&'a str> = Vec::new(alloc);
@@ -133,7 +159,7 @@ pub(crate) fn line_of<'a>(
                 if !is_dashed(bytes) {
                     names.push(word)?;
                 } else {
-                    match option_of(known, bytes) {
+                    match option_of(known, flags, bytes) {
                         None => return Ok(None),
                         Some((option, Some(value))) => options.push((option, value))?,
                         Some((option, None)) => waiting = Some(option),
@@ -149,16 +175,16 @@ pub(crate) fn line_of<'a>(
 }
 
 impl<'a> Line<'a> {
-    /// Each option is given once at most, and there is one name.
-    pub(crate) fn is_told_once(&self, options: &[&str]) -> bool
-        ensures { result ≡ is_told_once (texts options.now) self.now }
+    /// Each option is given once at most, and there are so many names.
+    pub(crate) fn is_told_once(&self, options: &[&str], names: usize) -> bool
+        ensures { result ≡ is_told_once (texts options.now) names self.now }
     {
         for option in options {
             if count_of(&self.options, option.as_bytes()) >= 2 {
                 return false;
             }
         }
-        self.names.len() == 1
+        self.names.len() == names
     }
 }
 

@@ -35,6 +35,19 @@ pub(crate) const EDGES: Limits = Limits {
     default: 100_000,
 };
 
+pub(crate) const AFTER: Limits = Limits {
+    least: 0,
+    most: 2_000_000,
+    default: 0,
+};
+
+/// How often a term may be doubled.
+pub(crate) const DOUBLINGS: Limits = Limits {
+    least: 0,
+    most: 10,
+    default: 0,
+};
+
 /// What a setting is by its value, if it has one: None where that is no number within the limits.
 pub(crate) fn setting_by(value: Option<&str>, limits: Limits) -> Option<u32>
     ensures { result ≡ setting_by (limits_of limits) (option_map (λ v. v.now) value.entry) }
@@ -45,8 +58,8 @@ pub(crate) fn setting_by(value: Option<&str>, limits: Limits) -> Option<u32>
     }
 }
 
-// The number of 1 to 8 ASCII digits, where it lies within the limits.
-fn number_within(text: &[u8], limits: Limits) -> Option<u32>
+/// The number of 1 to 8 ASCII digits, where it lies within the limits.
+pub(crate) fn number_within(text: &[u8], limits: Limits) -> Option<u32>
     ensures { result ≡ number_within (limits_of limits) text.now }
 {
     let number = number_in(text)?;

@@ -1,26 +1,35 @@
 //! The job of a list of words.
 
-ghost use Rattle.std.specs.Prelude.{◌≡◌, IfOk, Err, Some, None, option_map, option_and_then};
+ghost use Rattle.std.specs.Prelude.{◌≡◌, ◌==◌, IfOk, Err, Some, None, option_map, option_and_then};
 ghost use Rattle.clap.specs.Words.{first_value, found_of};
-ghost use Rattle.ol_words.specs.Jobs.{agreed_verb, asked_by, job_by, job_of, run_verb, texts_of, verb_of, walk_verb};
+ghost use Rattle.ol_words.specs.Jobs.{agreed_verb, asked_by, flag_by, job_by, job_of, texts_of, verb_of};
+ghost use Rattle.ol_words.specs.Jobs.{check_verb, gen_verb, run_verb, trace_verb, view_verb, walk_verb};
 
 use crate::command::matches_of;
 use crate::jobs::{Job, UsageFault, Word};
 use crate::lines::line_of;
-use crate::numbers::{EDGES, FUEL, HEADS, WORKERS, setting_by};
+use crate::numbers::{AFTER, DOUBLINGS, EDGES, FUEL, HEADS, WORKERS, number_within, setting_by};
 use crate::verbs::Verb;
 use clap::ArgMatches;
 use std::alloc::{AllocError, Global};
 
-/// The job of the words of a command line: the program's name, which isn't looked at, then the command `run` or `walk`,
-/// then its options and exactly one file name in any order.
+/// The job of the words of a command line: the program's name, which isn't looked at, then the
+/// command `run`, `walk`, `view`, `trace`, `check` or `gen`, then its options and its names in any
+/// order.
 ///
-/// `run` has the options `--workers`, `--fuel` and `--heads`, `walk` has `--edges` and `--heads`. An option is written out whole,
-/// as `--name value` or `--name=value`, and comes at most once; its value is 1 to 8 ASCII digits within the range that `Job` gives.
-/// By themselves there are 4 workers, a fuel of 200,000, 4,096 heads and 100,000 edges. The word `--` ends the options;
-/// before it a word that begins with `-`, and isn't `-` alone, is no file name and no value.
+/// `run` has the options `--workers`, `--fuel` and `--heads`, `walk` has `--edges` and `--heads`,
+/// `view` has `--after`, `trace` has `--workers` and `--fuel`, and `gen` has `--run`, which takes no
+/// value; `check` has none. `run`, `walk`, `view` and `trace` take the name of one file, `check` those
+/// of two, which aren't both `-`, and `gen` takes one number in a name's place.
 ///
-/// `Refused` comes exactly where the words have no job by these rules. `NoMemory` comes where memory runs out.
+/// An option is written out whole, as `--name value` or `--name=value`, and comes at most once. A
+/// number is 1 to 8 ASCII digits within the range that `Job` gives. By themselves there are 4 workers,
+/// a fuel of 200,000, 4,096 heads and 100,000 edges, and a net is viewed after no interaction. The
+/// word `--` ends the options; before it a word that begins with `-`, and isn't `-` alone, is no name
+/// and no value.
+///
+/// `Refused` comes exactly where the words have no job by these rules. `NoMemory` comes where memory
+/// runs out.
 pub fn job(alloc: Global, words: &Vec<String>) -> Result<Job, UsageFault>
     // The job is that of the words.
     ensures job { IfOk result (λ job. job_of (texts_of words.now.items) ≡ Some (asked_by job)) }
@@ -39,7 +48,8 @@ pub fn job(alloc: Global, words: &Vec<String>) -> Result<Job, UsageFault>
     job_by(alloc, verb, found)
 }
 
-// The verb of words that give each of its options once at most and one name, or None where they don't.
+// The verb of words that give each of its options once at most and as many names as it has, or None
+// where they don't.
 fn agreed_verb(alloc: Global, words: &Vec<String>) -> Result<Option<Verb>, AllocError>
     ensures { IfOk result (λ verb. option_map verb_of verb ≡ agreed_verb (texts_of words.now.items)) }
 {
@@ -49,10 +59,10 @@ fn agreed_verb(alloc: Global, words: &Vec<String>) -> Result<Option<Verb>, Alloc
     let Some(verb) = Verb::named(word.as_str()) else {
         return Ok(None);
     };
-    let Some(line) = line_of(alloc, verb.options(), rest)? else {
+    let Some(line) = line_of(alloc, verb.options(), verb.flags(), rest)? else {
         return Ok(None);
     };
-    if !line.is_told_once(verb.options()) {
+    if !line.is_told_once(verb.options(), verb.names().len()) {
         return Ok(None);
     }
     Ok(Some(verb))
@@ -66,6 +76,10 @@ fn job_by(alloc: Global, verb: Verb, found: &ArgMatches) -> Result<Job, UsageFau
     match verb {
         Verb::Run => run_by(alloc, found),
         Verb::Walk => walk_by(alloc, found),
+        Verb::View => view_by(alloc, found),
+        Verb::Trace => trace_by(alloc, found),
+        Verb::Check => check_by(alloc, found),
+        Verb::Gen => gen_by(found),
     }
 }
 
@@ -115,4 +129,93 @@ fn walk_by(alloc: Global, found: &ArgMatches) -> Result<Job, UsageFault>
         heads,
         name,
     })
+}
+
+// The job by what was given behind `view`.
+fn view_by(alloc: Global, found: &ArgMatches) -> Result<Job, UsageFault>
+    ensures job { IfOk result (λ job.
+        job_by view_verb (λ id. first_value (found_of found.now) id) ≡ Some (asked_by job)) }
+    ensures refused { result ≡ Err UsageFault.Refused
+        → job_by view_verb (λ id. first_value (found_of found.now) id) ≡ None }
+{
+    let Some(after) = setting_by(found.get_str("after"), AFTER) else {
+        return Err(UsageFault::Refused);
+    };
+    let Some(name) = found.get_str("name") else {
+        return Err(UsageFault::Refused);
+    };
+    let name = Word::of(alloc, name)?;
+    Ok(Job::View { after, name })
+}
+
+// The job by what was given behind `trace`.
+fn trace_by(alloc: Global, found: &ArgMatches) -> Result<Job, UsageFault>
+    ensures job { IfOk result (λ job.
+        job_by trace_verb (λ id. first_value (found_of found.now) id) ≡ Some (asked_by job)) }
+    ensures refused { result ≡ Err UsageFault.Refused
+        → job_by trace_verb (λ id. first_value (found_of found.now) id) ≡ None }
+{
+    let Some(workers) = setting_by(found.get_str("workers"), WORKERS) else {
+        return Err(UsageFault::Refused);
+    };
+    let Some(fuel) = setting_by(found.get_str("fuel"), FUEL) else {
+        return Err(UsageFault::Refused);
+    };
+    let Some(name) = found.get_str("name") else {
+        return Err(UsageFault::Refused);
+    };
+    let name = Word::of(alloc, name)?;
+    Ok(Job::Trace {
+        workers,
+        fuel,
+        name,
+    })
+}
+
+// The job by what was given behind `check`.
+fn check_by(alloc: Global, found: &ArgMatches) -> Result<Job, UsageFault>
+    ensures job { IfOk result (λ job.
+        job_by check_verb (λ id. first_value (found_of found.now) id) ≡ Some (asked_by job)) }
+    ensures refused { result ≡ Err UsageFault.Refused
+        → job_by check_verb (λ id. first_value (found_of found.now) id) ≡ None }
+{
+    let Some(term) = found.get_str("term") else {
+        return Err(UsageFault::Refused);
+    };
+    let Some(journal) = found.get_str("journal") else {
+        return Err(UsageFault::Refused);
+    };
+    if term == "-" && journal == "-" {
+        return Err(UsageFault::Refused);
+    }
+    let term = Word::of(alloc, term)?;
+    let journal = Word::of(alloc, journal)?;
+    Ok(Job::Check { term, journal })
+}
+
+// The job by what was given behind `gen`.
+fn gen_by(found: &ArgMatches) -> Result<Job, UsageFault>
+    ensures job { IfOk result (λ job.
+        job_by gen_verb (λ id. first_value (found_of found.now) id) ≡ Some (asked_by job)) }
+    ensures refused { result ≡ Err UsageFault.Refused
+        → job_by gen_verb (λ id. first_value (found_of found.now) id) ≡ None }
+{
+    let Some(number) = found.get_str("number") else {
+        return Err(UsageFault::Refused);
+    };
+    let Some(k) = number_within(number.as_bytes(), DOUBLINGS) else {
+        return Err(UsageFault::Refused);
+    };
+    let run = is_true(found.get_str("run"));
+    Ok(Job::Gen { run, k })
+}
+
+// Whether clap has given a flag the value `true`.
+fn is_true(value: Option<&str>) -> bool
+    ensures { result ≡ (flag_by (option_map (λ v. v.now) value.entry) == 1) }
+{
+    match value {
+        None => false,
+        Some(text) => text == "true",
+    }
 }

@@ -4,7 +4,7 @@ use std::alloc::Global;
 use std::process::Abort;
 use std::test::Fail;
 
-static REFUSED: [&str; 32] = [
+static REFUSED: [&str; 63] = [
     "ol",
     "ol run",
     "ol run a b",
@@ -32,9 +32,40 @@ static REFUSED: [&str; 32] = [
     "ol walk --edges= -",
     "ol walk --edges 0 -",
     "ol walk --edges 10000001 -",
-    "ol view -",
+    "ol view",
+    "ol view a b",
+    "ol view --after",
+    "ol view --after 2000001 -",
+    "ol view --after 1 --after=1 -",
+    "ol view --fuel 1 -",
+    "ol trace",
+    "ol trace --workers 65 -",
+    "ol trace --fuel 2000001 -",
+    "ol trace --heads 3 -",
+    "ol trace --work 3 -",
+    "ol check",
+    "ol check a",
+    "ol check a b c",
     "ol check - -",
-    "ol gen 3",
+    "ol check -- - -",
+    "ol check - -- -",
+    "ol check --fuel 1 a b",
+    "ol check --help a b",
+    "ol gen",
+    "ol gen 11",
+    "ol gen x",
+    "ol gen -",
+    "ol gen -3",
+    "ol gen +3",
+    "ol gen 1 2",
+    "ol gen 000000001",
+    "ol gen --run",
+    "ol gen --run 3 --run",
+    "ol gen --run=1 3",
+    "ol gen --run= 3",
+    "ol gen --ru 3",
+    "ol gen -- --run",
+    "ol gen -r 3",
     "ol help run",
     "ol --help",
 ];
@@ -91,6 +122,66 @@ fn walks(
     }
 }
 
+fn asked(alloc: Global, line: &str) -> Result<Job, Fail> {
+    let words = words(alloc, line)?;
+    match job(alloc, &words) {
+        Ok(job) => Ok(job),
+        Err(_) => Err("no job".into()),
+    }
+}
+
+fn views(rt: &impl Abort, alloc: Global, line: &str, number: u32, file: &str) -> Result<(), Fail> {
+    let Job::View { after, name } = asked(alloc, line)? else {
+        return Err("no job to view".into());
+    };
+    assert_eq!(rt; after, number, "of {line}");
+    assert_eq!(rt; name.as_str(), file, "of {line}");
+    Ok(())
+}
+
+fn traces(
+    rt: &impl Abort,
+    alloc: Global,
+    line: &str,
+    numbers: (u32, u32),
+    file: &str,
+) -> Result<(), Fail> {
+    let Job::Trace {
+        workers,
+        fuel,
+        name,
+    } = asked(alloc, line)?
+    else {
+        return Err("no job to trace".into());
+    };
+    assert_eq!(rt; (workers, fuel), numbers, "of {line}");
+    assert_eq!(rt; name.as_str(), file, "of {line}");
+    Ok(())
+}
+
+fn checks(
+    rt: &impl Abort,
+    alloc: Global,
+    line: &str,
+    first: &str,
+    second: &str,
+) -> Result<(), Fail> {
+    let Job::Check { term, journal } = asked(alloc, line)? else {
+        return Err("no job to check".into());
+    };
+    assert_eq!(rt; term.as_str(), first, "of {line}");
+    assert_eq!(rt; journal.as_str(), second, "of {line}");
+    Ok(())
+}
+
+fn makes(rt: &impl Abort, alloc: Global, line: &str, runs: bool, number: u32) -> Result<(), Fail> {
+    let Job::Gen { run, k } = asked(alloc, line)? else {
+        return Err("no job to make a term".into());
+    };
+    assert_eq!(rt; (run, k), (runs, number), "of {line}");
+    Ok(())
+}
+
 #[test]
 fn lines_without_a_job(rt: HostRuntime) -> Result<(), Fail> {
     let alloc = rt.alloc();
@@ -131,4 +222,38 @@ fn lines_with_a_job(rt: HostRuntime) -> Result<(), Fail> {
         "a.lam",
     )?;
     Ok(())
+}
+
+#[test]
+fn lines_that_view_and_trace(rt: HostRuntime) -> Result<(), Fail> {
+    let a = rt.alloc();
+    views(&rt, a, "ol view -", 0, "-")?;
+    views(&rt, a, "ol view --after=2000000 -- -x", 2_000_000, "-x")?;
+    views(&rt, a, "ol view view --after 00000009", 9, "view")?;
+    traces(&rt, a, "ol trace -", (4, 200_000), "-")?;
+    traces(&rt, a, "ol trace --fuel 0 a --workers=64", (64, 0), "a")
+}
+
+#[test]
+fn lines_that_check(rt: HostRuntime) -> Result<(), Fail> {
+    let a = rt.alloc();
+    checks(&rt, a, "ol check a b", "a", "b")?;
+    checks(&rt, a, "ol check - b", "-", "b")?;
+    checks(&rt, a, "ol check b -", "b", "-")?;
+    checks(&rt, a, "ol check -- --a -b", "--a", "-b")?;
+    checks(&rt, a, "ol check a -- --", "a", "--")?;
+    checks(&rt, a, "ol check a a --", "a", "a")
+}
+
+#[test]
+fn lines_that_make_a_term(rt: HostRuntime) -> Result<(), Fail> {
+    let a = rt.alloc();
+    makes(&rt, a, "ol gen 0", false, 0)?;
+    makes(&rt, a, "ol gen 10 --run", true, 10)?;
+    makes(&rt, a, "ol gen --run 007", true, 7)?;
+    makes(&rt, a, "ol gen -- 3", false, 3)?;
+    makes(&rt, a, "ol gen 00000003 --", false, 3)?;
+    makes(&rt, a, "ol gen --run -- 3", true, 3)?;
+    makes(&rt, a, "ol gen --run 3 --", true, 3)?;
+    makes(&rt, a, "ol gen 3 --run --", true, 3)
 }

@@ -1,4 +1,4 @@
-//! The verbs of a command line, and the options of each.
+//! The verbs of a command line, and what each has: options, flags and names.
 
 ghost use Rattle.std.specs.Prelude.{◌≡◌, option_map};
 ghost use Rattle.ol_words.specs.Jobs.{options_of, verb_named, verb_of};
@@ -8,11 +8,29 @@ static RUN_OPTIONS: [&str; 3] = ["workers", "fuel", "heads"];
 
 static WALK_OPTIONS: [&str; 2] = ["edges", "heads"];
 
+static VIEW_OPTIONS: [&str; 1] = ["after"];
+
+static TRACE_OPTIONS: [&str; 2] = ["workers", "fuel"];
+
+static GEN_OPTIONS: [&str; 1] = ["run"];
+
+static FILE_NAMES: [&str; 1] = ["name"];
+
+static CHECK_NAMES: [&str; 2] = ["term", "journal"];
+
+static GEN_NAMES: [&str; 1] = ["number"];
+
+static NOTHING: [&str; 0] = [];
+
 /// What stands first behind the program's name.
 #[derive(Clone, Copy)]
 pub(crate) enum Verb {
     Run,
     Walk,
+    View,
+    Trace,
+    Check,
+    Gen,
 }
 
 impl Verb {
@@ -23,6 +41,10 @@ impl Verb {
         match word {
             "run" => Some(Verb::Run),
             "walk" => Some(Verb::Walk),
+            "view" => Some(Verb::View),
+            "trace" => Some(Verb::Trace),
+            "check" => Some(Verb::Check),
+            "gen" => Some(Verb::Gen),
             _ => None,
         }
     }
@@ -34,16 +56,45 @@ impl Verb {
         match self {
             Verb::Run => "run",
             Verb::Walk => "walk",
+            Verb::View => "view",
+            Verb::Trace => "trace",
+            Verb::Check => "check",
+            Verb::Gen => "gen",
         }
     }
 
-    /// The options that may be given to the verb, each with a value.
+    /// The options that may be given to the verb.
     pub(crate) fn options(self) -> &'static [&'static str]
         ensures { texts result.now ≡ options_of (verb_of self) }
     {
         match self {
             Verb::Run => RUN_OPTIONS.as_slice(),
             Verb::Walk => WALK_OPTIONS.as_slice(),
+            Verb::View => VIEW_OPTIONS.as_slice(),
+            Verb::Trace => TRACE_OPTIONS.as_slice(),
+            Verb::Check => NOTHING.as_slice(),
+            Verb::Gen => GEN_OPTIONS.as_slice(),
+        }
+    }
+
+    /// Those of the options that take no value.
+    pub(crate) fn flags(self) -> &'static [&'static str]
+        ensures { texts result.now ≡ (verb_of self).flags }
+    {
+        match self {
+            Verb::Run | Verb::Walk | Verb::View | Verb::Trace | Verb::Check => NOTHING.as_slice(),
+            Verb::Gen => GEN_OPTIONS.as_slice(),
+        }
+    }
+
+    /// What the names are called that stand behind the verb, in their order.
+    pub(crate) fn names(self) -> &'static [&'static str]
+        ensures { texts result.now ≡ (verb_of self).names }
+    {
+        match self {
+            Verb::Run | Verb::Walk | Verb::View | Verb::Trace => FILE_NAMES.as_slice(),
+            Verb::Check => CHECK_NAMES.as_slice(),
+            Verb::Gen => GEN_NAMES.as_slice(),
         }
     }
 }

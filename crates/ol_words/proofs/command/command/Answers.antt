@@ -14,4 +14,8 @@ returns c =
     ∙ ap (λ (f : Command-F Command). app_of_fields (record f { disable_version_flag = true; disable_help_subcommand = true })) c.disable_help_flag.ensures
     ∙ ap (λ (a : App). record a { top = record a.top { disable_help_flag = true; disable_version_flag = true; disable_help_subcommand = true } }) c.new.ensures.app in
     let run_is = c.in_ok-subcommand-2.ensures.shape c.in_ok-subcommand.ensures.local ∙ ap₂ with_subcommand quiet_is (ap (λ (a : App). a.top) c.in_ok-subcommand.ensures.app) in
-    record { app = c.in_ok-command.ensures.shape c.in_ok-subcommand-3.ensures.local ∙ ap₂ with_subcommand run_is (ap (λ (a : App). a.top) c.in_ok-subcommand-3.ensures.app) }
+    let walk_is = c.in_ok-subcommand-4.ensures.shape c.in_ok-subcommand-3.ensures.local ∙ ap₂ with_subcommand run_is (ap (λ (a : App). a.top) c.in_ok-subcommand-3.ensures.app) in
+    let view_is = c.in_ok-subcommand-6.ensures.shape c.in_ok-subcommand-5.ensures.local ∙ ap₂ with_subcommand walk_is (ap (λ (a : App). a.top) c.in_ok-subcommand-5.ensures.app) in
+    let trace_is = c.in_ok-subcommand-8.ensures.shape c.in_ok-subcommand-7.ensures.local ∙ ap₂ with_subcommand view_is (ap (λ (a : App). a.top) c.in_ok-subcommand-7.ensures.app) in
+    let check_is = c.in_ok-subcommand-10.ensures.shape c.in_ok-subcommand-9.ensures.local ∙ ap₂ with_subcommand trace_is (ap (λ (a : App). a.top) c.in_ok-subcommand-9.ensures.app) in
+    record { app = c.in_ok-command.ensures.shape c.in_ok-subcommand-11.ensures.local ∙ ap₂ with_subcommand check_is (ap (λ (a : App). a.top) c.in_ok-subcommand-11.ensures.app) }

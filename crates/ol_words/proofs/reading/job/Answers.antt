@@ -1,9 +1,14 @@
-use Rattle.std.proofs.Common.{◌≡◌, ◌∙◌, rules, Some}
+use Rattle.std.proofs.Common.{◌≡◌, ◌∙◌, ap, sym, option_map, rules, None, Some}
 use Rattle.std.proofs.lemmas.Result.{IfOk-weaker}
 use Rattle.clap.specs.Words.{found_of, rows_of, subcommand_rows_of}
 use Rattle.ol_words.specs.Jobs.{agreed_verb, texts_of, verb_of}
-use Rattle.ol_words.proofs.Agreed.{by_values, job_found, none_found, not_refused}
+use Rattle.ol_words.proofs.Agreed.{by_values, job_found, none_found, not_agreed, not_refused}
 use Rattle.ol_words.proofs.reading.job.Goals as goal
+
+pub returns-in_default-clause-refused : goal.returns-in_default-clause-refused
+returns-in_default-clause-refused c =
+    let none : agreed_verb (texts_of c.args.words.now.items) ≡ None = sym c.in_ok-verb.ensures ∙ ap (option_map verb_of) c.in_default.is in
+    λ e. not_agreed (texts_of c.args.words.now.items) none
 
 pub returns-in_err-matches-clause-refused : goal.returns-in_err-matches-clause-refused
 returns-in_err-matches-clause-refused c =

@@ -1,0 +1,52 @@
+-- The words of a line, by what the first of them is.
+use Rattle.std.proofs.Common.{◌≡◌, ◌∙◌, sym, ap, refl, false, Bool, List, [], ◌∷◌, Option, Some, None, option_map, if◌then◌else◌, codes, inl, inr, subst}
+use Rattle.std.proofs.lemmas.Slice.Eq.{bytes_eq-Decides}
+use Rattle.ol_words.specs.Lines.{Text, Known, Line, line_from, is_dashed, is_end, option_of, after_option, with_option, with_name}
+use Rattle.ol_words.proofs.Rows.{cases}
+use Rattle.ol_words.proofs.Walks.{mapped}
+
+pub data View (known : Known) : List Text → Line → Type 0 where
+  nothing : View known [] (record { options = []; names = [] })
+  ended : (rest : List Text) → View known (codes "--" ∷ rest) (record { options = []; names = rest })
+  plain : (word : Text) (rest : List Text) (line : Line) → is_dashed word ≡ false → line_from known None rest ≡ Some line → View known (word ∷ rest) (with_name word line)
+  written : (word : Text) (rest : List Text) (line : Line) (option value : Text) → option_of known word ≡ Some (option, Some value) → line_from known None rest ≡ Some line
+      → View known (word ∷ rest) (with_option option value line)
+  waits : (word : Text) (rest : List Text) (line : Line) (option : Text) → option_of known word ≡ Some (option, None) → View known (word ∷ rest) line
+
+module _ (known : Known) (word : Text) (rest : List Text) (line : Line) where
+  view_option : (found : Option (Text × Option Text)) → option_of known word ≡ found
+      → after_option found (λ option. line_from known (Some option) rest) (line_from known None rest) ≡ Some line → View known (word ∷ rest) line
+  view_option None is e = absurd (cc)
+  view_option (Some (o, None)) is e = waits word rest line o is
+  view_option (Some (o, Some v)) is e =
+      let read = mapped (with_option o v) (line_from known None rest) line e in
+      subst (λ l. View known (word ∷ rest) l) read.2 (written word rest read.0 o v is read.1)
+
+  view_word : line_from known None (word ∷ rest) ≡ Some line → View known (word ∷ rest) line
+  unfolding line_from
+  view_word e =
+      let dashed_or_name = λ (b : Bool). if b then after_option (option_of known word) (λ option. line_from known (Some option) rest) (line_from known None rest)
+      else option_map (with_name word) (line_from known None rest) in
+      let all : Option Line = Some (record { options = []; names = rest }) in
+      elim (cases (is_end word)) [
+        | inl ends ↦
+            let is : all ≡ Some line = sym (ap (λ b. if b then all else dashed_or_name (is_dashed word)) ends) ∙ e in
+            let same : ◌≡◌ {A = Line} (record { options = []; names = rest }) line = cc in
+            let marks : codes "--" ≡ word = sym ((bytes_eq-Decides word (codes "--")).0 ends) in
+            subst (λ l. View known (word ∷ rest) l) same (subst (λ w. View known (w ∷ rest) (record { options = []; names = rest })) marks (ended rest))
+        | inr goes ↦
+            let read_on : dashed_or_name (is_dashed word) ≡ Some line = sym (ap (λ b. if b then all else dashed_or_name (is_dashed word)) goes) ∙ e in
+            elim (cases (is_dashed word)) [
+              | inl dashed ↦ view_option (option_of known word) refl (sym (ap dashed_or_name dashed) ∙ read_on)
+              | inr is_plain ↦
+                  let read = mapped (with_name word) (line_from known None rest) line (sym (ap dashed_or_name is_plain) ∙ read_on) in
+                  subst (λ l. View known (word ∷ rest) l) read.2 (plain word rest read.0 is_plain read.1)
+            ]
+      ]
+
+pub view : (known : Known) (words : List Text) (line : Line) → line_from known None words ≡ Some line → View known words line
+unfolding line_from
+view known [] line e =
+    let same : ◌≡◌ {A = Line} (record { options = []; names = [] }) line = cc in
+    subst (λ l. View known [] l) same nothing
+view known (word ∷ rest) line e = view_word known word rest line e
