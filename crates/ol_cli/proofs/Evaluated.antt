@@ -2,9 +2,7 @@
 use Rattle.std.proofs.Common.{◌≡◌, ℕ, ◌+◌, ◌*◌, ◌<◌, ◌≤◌, Vec, Global, Result, Ok, Err, IfOk, true, false, List, length, sym, ◌∙◌, subst, inl, inr, ◌⊎◌, arith}
 use Rattle.std.proofs.lemmas.List.{length-map}
 use Rattle.ol_io.specs.declared.outside.NoMemory.{NoMemory}
-use Rattle.ol_term.specs.Trees.{Tree, depth}
-use Rattle.ol_parse.specs.Parsed.{IsFileOf}
-use Rattle.ol_words.specs.Jobs.{Asked, run, walk}
+use Rattle.ol_term.specs.Trees.{Tree}
 use Rattle.ol_net.specs.declared.parts.Kind.{Kind}
 use Rattle.ol_net.specs.Graph.{Graph}
 use Rattle.ol_net.specs.Nets.{NamedNet, HasNode, IsNet, SameNet, net_under}
@@ -32,10 +30,6 @@ use Rattle.ol_readback.specs.Heads.{live}
 use Rattle.ol_readback.specs.Trees.{IsTree}
 use Rattle.ol_readback.specs.Texts.{IsTextOf}
 use Rattle.ol_readback.specs.declared.answers.ReadNode.{ReadNode}
-use Rattle.ol_cli.specs.declared.status.Status.{Status}
-use Rattle.ol_cli.specs.declared.status.Status.TheVariants as status
-use Rattle.ol_cli.specs.Answers.{large, TermAnswer, FileAnswer}
-use Rattle.ol_cli.specs.Trees.{TreeAnswer}
 use Rattle.ol_cli.specs.Texts.{line, answer_text}
 use Rattle.ol_cli.specs.Evaluation.{start_net, Shows, RunsOut, Prints, Walks}
 use Rattle.ol_cli.specs.Handed.{journal_of, PrintsWork}
@@ -79,7 +73,7 @@ module _ (t : Tree) (names : List (List ℕ)) (start : Graph) (same : SameNet (n
     words_run = subst (λ (g : Graph). IsRun (net_under Init (net_of g)) 0 (journal_of w) net) table.1 after
 
     -- the run of the words is one from the term's own net
-    own_run : (M : NamedNet NodeName) × IsRun (start_net t names) 0 (journal_of w) M × SameNet net M
+    pub own_run : (M : NamedNet NodeName) × IsRun (start_net t names) 0 (journal_of w) M × SameNet net M
     own_run = run_from_same _ (start_net t names) net 0 (journal_of w) (same_under Init (net_of start) (translation_of t (length names)) same) words_run
 
     own_net : IsNet (net_of start) → IsNet (translation_of t (length names))
@@ -139,18 +133,3 @@ walks_with P t names net start edges heads tree term text r sh w h =
 pub reads_text : (P : List ℕ → Type 0) (r : Result (Vec ℕ Global) NoMemory) (text : List ℕ) → IfOk r (λ v. v.items ≡ text) → ((x : List ℕ) → x ≡ text → P x) → IfOk r (λ v. P v.items)
 reads_text P (Ok v) text h p = p v.items h
 reads_text P (Err e) text h p = tt
-
--- the answer to a term that isn't too deep is that of its file
-pub file_answer : (asked : Asked) (bytes : List ℕ) (t : Tree) (names : List (List ℕ)) (st : Status) (text : List ℕ) → length bytes ≤ 1048576 → IsFileOf bytes t names → depth t ≤ 1000 → TreeAnswer asked t names st text → FileAnswer asked bytes st text
-file_answer asked bytes t names status.Limit text b f d h = large b f d h.0 h.1
-file_answer asked bytes t names status.Syntax text b f d h = absurd (no_syntax asked t names text h.1)
-  where
-    no_syntax : (asked : Asked) (t : Tree) (names : List (List ℕ)) (text : List ℕ) → TermAnswer asked t names status.Syntax text → ⊥
-    no_syntax (run w fuel heads name) t names text h = h
-    no_syntax (walk edges heads name) t names text h = h
-file_answer asked bytes t names status.Done text b f d h = (t, names, record { short = b; file = f; shallow = d; small = h.0 }, h.1)
-file_answer asked bytes t names status.Usage text b f d h = (t, names, record { short = b; file = f; shallow = d; small = h.0 }, h.1)
-file_answer asked bytes t names status.Spent text b f d h = (t, names, record { short = b; file = f; shallow = d; small = h.0 }, h.1)
-file_answer asked bytes t names status.ReadFault text b f d h = (t, names, record { short = b; file = f; shallow = d; small = h.0 }, h.1)
-file_answer asked bytes t names status.WriteFault text b f d h = (t, names, record { short = b; file = f; shallow = d; small = h.0 }, h.1)
-file_answer asked bytes t names status.NoMemory text b f d h = (t, names, record { short = b; file = f; shallow = d; small = h.0 }, h.1)

@@ -1,17 +1,20 @@
 -- What follows from the causes of the statuses.
-use Rattle.std.proofs.Common.{◌≡◌, ◌≢◌, ℕ, ◌<◌, ◌≤◌, Bool, List, Option, Some, refl, sym, ◌∙◌, subst, inl, inr, ◌⊎◌, arith, String, Global, Vec, Ok, ◌↔◌}
+use Rattle.std.proofs.Common.{◌≡◌, ◌≢◌, ℕ, ◌<◌, ◌≤◌, ◌&&◌, Bool, true, false, List, length, Option, None, Some, is_some, refl, sym, ap, ◌∙◌, subst, inl, inr, ◌⊎◌, arith, String, Global, Vec, Ok, ◌↔◌}
+use Rattle.std.specs.List.{list_all}
+use Rattle.std.specs.Option.{option_map_or}
 use Rattle.std.specs.Result.{IsErrOf}
 use Rattle.ol_io.specs.declared.calls.ReadAll.{ReadAll}
 use Rattle.ol_io.specs.declared.calls.ReadAll.TheVariants.{TooLong}
 use Rattle.ol_io.specs.Outside.{Rose, Appended, IsWhole, IsLonger}
 use Rattle.ol_term.specs.Trees.{Tree}
+use Rattle.ol_term.specs.Generated.{doubled_text}
 use Rattle.ol_words.specs.Lines.{Text}
-use Rattle.ol_words.specs.Jobs.{Asked, run, walk}
+use Rattle.ol_words.specs.Jobs.{Asked, run, walk, view, trace, check, gen}
 use Rattle.ol_cli.specs.declared.status.Status.{Status}
 use Rattle.ol_cli.specs.declared.status.Status.TheVariants.{Done, Usage, Syntax, Spent, ReadFault, WriteFault, NoMemory, Limit}
-use Rattle.ol_cli.specs.Texts.{bytes_text}
-use Rattle.ol_cli.specs.Jobs.{AskFor, AskForNothing, TellsFile, name_of}
-use Rattle.ol_cli.specs.Answers.{TermAnswer, FileAnswer, IsAnswer, long, Seen, GaveTooMany, Read, JobCause, Cause, Ends}
+use Rattle.ol_cli.specs.Jobs.{AskFor, AskForNothing, HasTermFile, TellsFiles, count_of_files, files_of, name_of, names_of}
+use Rattle.ol_cli.specs.Texts.{bytes_text, fault_text}
+use Rattle.ol_cli.specs.Answers.{IsTerm, TermAnswer, FileAnswer, JournalAnswer, JobAnswer, of_file, of_journal, made, IsAnswer, long, Seen, seen, GaveTooMany, Read, FileCause, JournalCause, EndsJournal, JobCause, by_file, by_journal, by_making, Cause, Ends, plain_run}
 
 -- where all bytes were given, they are within the limit
 pub within_ok : (bytes : Vec ℕ Global) (most given : ℕ) → IsErrOf {T = Vec ℕ Global} {E = ReadAll} (Ok bytes) TooLong ↔ (most < given) → given ≤ most
@@ -24,12 +27,12 @@ within_ok bytes most given h = elim (which most given) [ inl past ↦ absurd (no
     no h = absurd (cc)
 
 -- the statuses that a term is answered
-abbrev IsOfTerm : Status → Type 0
+abbrev pub IsOfTerm : Status → Type 0
 IsOfTerm Done = Unit {0}
 IsOfTerm Spent = Unit {0}
 IsOfTerm _ = ⊥
 
-term_status : (asked : Asked) (t : Tree) (names : List (List ℕ)) (st : Status) (text : List ℕ) → TermAnswer asked t names st text → IsOfTerm st
+pub term_status : (asked : Asked) (t : Tree) (names : List (List ℕ)) (st : Status) (text : List ℕ) → TermAnswer asked t names st text → IsOfTerm st
 term_status (run w f q name) t names Done text h = tt
 term_status (run w f q name) t names Spent text h = tt
 term_status (run w f q name) t names Usage text h = h
@@ -46,9 +49,27 @@ term_status (walk e q name) t names ReadFault text h = h
 term_status (walk e q name) t names WriteFault text h = h
 term_status (walk e q name) t names NoMemory text h = h
 term_status (walk e q name) t names Limit text h = h
+term_status (view k name) t names Done text h = tt
+term_status (view k name) t names Spent text h = absurd h
+term_status (view k name) t names Usage text h = h
+term_status (view k name) t names Syntax text h = h
+term_status (view k name) t names ReadFault text h = h
+term_status (view k name) t names WriteFault text h = h
+term_status (view k name) t names NoMemory text h = h
+term_status (view k name) t names Limit text h = h
+term_status (trace w f name) t names Done text h = tt
+term_status (trace w f name) t names Spent text h = tt
+term_status (trace w f name) t names Usage text h = h
+term_status (trace w f name) t names Syntax text h = h
+term_status (trace w f name) t names ReadFault text h = h
+term_status (trace w f name) t names WriteFault text h = h
+term_status (trace w f name) t names NoMemory text h = h
+term_status (trace w f name) t names Limit text h = h
+term_status (check term journal) t names st text h = absurd h
+term_status (gen runs k) t names st text h = absurd h
 
 -- the cause of an answer to bytes that were read
-pub read_cause : (asked : Asked) (s : Seen) (st : Status) (text : List ℕ) → s.faults' ≡ s.faults → Read asked s st text → JobCause asked s st text
+pub read_cause : (asked : Asked) (s : Seen) (st : Status) (text : List ℕ) → s.faults' ≡ s.faults → Read asked s st text → FileCause asked s st text
 read_cause asked s Limit text same r = (same, inr r)
 read_cause asked s Syntax text same r = (same, r)
 read_cause asked s Spent text same r = (same, r)
@@ -58,8 +79,15 @@ read_cause asked s ReadFault text same r = absurd (term_status asked r.2.0 r.2.1
 read_cause asked s WriteFault text same r = (same, r)
 read_cause asked s NoMemory text same r = (same, r)
 
+-- no job has the cause of words that ask for nothing
+no_usage : (s : Seen) (text : List ℕ) (asked : Asked) → JobCause s Usage text asked → ⊥
+no_usage s text asked (by_file has c) = absurd (term_status asked c.1.2.0 c.1.2.1 Usage text c.1.2.3)
+no_usage s text asked (by_journal same w i c) = c
+no_usage s text asked (by_making {runs = false} same m) = let e = m.0 in absurd (cc)
+no_usage s text asked (by_making {runs = true} same m) = absurd (term_status plain_run m.0 m.1 Usage text m.3)
+
 -- the cause of a job's answer is that of the words
-pub job_cause : (words : List (String Global)) (s : Seen) (asked : Asked) (st : Status) (text : List ℕ) → AskFor words asked → JobCause asked s st text → Cause words s st text
+pub job_cause : (words : List (String Global)) (s : Seen) (asked : Asked) (st : Status) (text : List ℕ) → AskFor words asked → JobCause s st text asked → Cause words s st text
 job_cause words s asked Limit text j c = (asked, j, c)
 job_cause words s asked Syntax text j c = (asked, j, c)
 job_cause words s asked Spent text j c = (asked, j, c)
@@ -67,61 +95,135 @@ job_cause words s asked Done text j c = (asked, j, c)
 job_cause words s asked ReadFault text j c = (asked, j, c)
 job_cause words s asked WriteFault text j c = (asked, j, c)
 job_cause words s asked NoMemory text j c = (asked, j, c)
-job_cause words s asked Usage text j c = absurd (term_status asked c.1.2.0 c.1.2.1 Usage text c.1.2.3)
+job_cause words s asked Usage text j c = absurd (no_usage s text asked c)
 
--- ---- where the source tells the bytes of the file
+-- ---- where the source tells the bytes of the files
 
-module _ (words : List (String Global)) (f f' given : ℕ) (contents : Text → Option (List ℕ)) (ended : Bool) (bytes : List ℕ) (tells : TellsFile contents words bytes) (quiet : Rose f f' → ⊥) where
+-- a value that is there
+some_of : {A : Type 0} (o : Option A) → is_some o ≡ true → (a : A) × (o ≡ Some a)
+some_of (Some a) e = (a, refl)
+some_of None e = absurd (cc)
+
+both : (a b : Bool) → (a && b) ≡ true → (a ≡ true) × (b ≡ true)
+both true b e = (refl, e)
+both false b e = absurd (cc)
+
+abbrev AreTold : (Text → Option (List ℕ)) → Asked → Type 0
+AreTold contents asked = list_all (λ name. is_some (contents name)) (names_of asked) ≡ true
+
+-- the bytes of the term file are told
+told_first : (contents : Text → Option (List ℕ)) (asked : Asked) → HasTermFile asked → AreTold contents asked → (bytes : List ℕ) × (contents (name_of asked) ≡ Some bytes)
+told_first contents (run w f q name) has e = some_of (contents name) (both _ _ e).0
+told_first contents (walk g q name) has e = some_of (contents name) (both _ _ e).0
+told_first contents (view k name) has e = some_of (contents name) (both _ _ e).0
+told_first contents (trace w f name) has e = some_of (contents name) (both _ _ e).0
+told_first contents (check term journal) has e = some_of (contents term) (both _ _ e).0
+told_first contents (gen runs k) has e = absurd has
+
+-- and those of the journal file
+told_second : (contents : Text → Option (List ℕ)) (term journal : Text) → AreTold contents (check term journal) → (bytes : List ℕ) × (contents journal ≡ Some bytes)
+told_second contents term journal e = some_of (contents journal) (both _ _ (both _ _ e).1).0
+
+-- what was read is what is told
+same_read : (contents : Option (List ℕ)) (read told : List ℕ) → contents ≡ Some told → IsWhole contents read → read ≡ told
+same_read contents read told e w = subst (λ k. IsWhole k read) e w
+
+past_told : (contents : Option (List ℕ)) (told : List ℕ) (most : ℕ) → contents ≡ Some told → IsLonger contents most → most < length told
+past_told contents told most e l = subst (λ k. IsLonger k most) e l
+
+module _ (words : List (String Global)) (f f' given : ℕ) (contents : Text → Option (List ℕ)) (ended : Bool) (quiet : Rose f f' → ⊥) where
   abbrev pub at_hand : Seen
   at_hand = record { faults = f; faults' = f'; contents = contents; given = given; ended = ended }
 
-  -- what was read is what the source tells
-  same_bytes : (asked : Asked) (st : Status) (text : List ℕ) → AskFor words asked → Read asked at_hand st text → FileAnswer asked bytes st text
-  same_bytes asked st text j (read, gave, h) =
-      let whole : IsWhole (Some bytes) read = subst (λ k. IsWhole k read) (tells asked j) gave.whole in
-      subst (λ b. FileAnswer asked b st text) whole h
+  file_answer : (asked : Asked) (bytes : List ℕ) → contents (name_of asked) ≡ Some bytes → (st : Status) (text : List ℕ) → FileCause asked at_hand st text → FileAnswer asked bytes st text
+  file_answer asked bytes told st text c = go st text c
+    where
+      same : (st : Status) (text : List ℕ) → Read asked at_hand st text → FileAnswer asked bytes st text
+      same st text (read, gave, h) = subst (λ b. FileAnswer asked b st text) (same_read (contents (name_of asked)) read bytes told gave.whole) h
 
-  too_many : (asked : Asked) (text : List ℕ) → AskFor words asked → GaveTooMany at_hand (name_of asked) → text ≡ bytes_text → FileAnswer asked bytes Limit text
-  too_many asked text j g e =
-      let longer : IsLonger (Some bytes) 1048576 = subst (λ k. IsLonger k 1048576) (tells asked j) g.longer in
-      long longer e
+      go : (st : Status) (text : List ℕ) → FileCause asked at_hand st text → FileAnswer asked bytes st text
+      go ReadFault text c = absurd (quiet c.0)
+      go Limit text c = elim c.1 [
+        | inl g ↦ long (past_told (contents (name_of asked)) bytes 1048576 told g.0.longer) g.1
+        | inr r ↦ same Limit text r
+      ]
+      go Usage text c = same Usage text c.1
+      go Syntax text c = same Syntax text c.1
+      go Spent text c = same Spent text c.1
+      go Done text c = same Done text c.1
+      go WriteFault text c = same WriteFault text c.1
+      go NoMemory text c = same NoMemory text c.1
 
-  pub cause_answer : (st : Status) (text : List ℕ) → Cause words at_hand st text → IsAnswer words bytes st text
-  cause_answer Usage text c = (c.0, c.2)
-  cause_answer ReadFault text c = absurd (quiet c.2.0)
-  cause_answer Limit text c = (c.0, c.1, elim c.2.1 [ inl g ↦ too_many c.0 text c.1 g.0 g.1 | inr r ↦ same_bytes c.0 Limit text c.1 r ])
-  cause_answer Syntax text c = (c.0, c.1, same_bytes c.0 Syntax text c.1 c.2.1)
-  cause_answer Spent text c = (c.0, c.1, same_bytes c.0 Spent text c.1 c.2.1)
-  cause_answer Done text c = (c.0, c.1, same_bytes c.0 Done text c.1 c.2.1)
-  cause_answer WriteFault text c = (c.0, c.1, same_bytes c.0 WriteFault text c.1 c.2.1)
-  cause_answer NoMemory text c = (c.0, c.1, same_bytes c.0 NoMemory text c.1 c.2.1)
+  journal_answer : (journal : Text) (bytes : List ℕ) → contents journal ≡ Some bytes → (t : Tree) (names : List (List ℕ)) (st : Status) (text : List ℕ) → JournalCause at_hand journal t names st text → JournalAnswer t names bytes st text
+  journal_answer journal bytes told t names Limit text c = (past_told (contents journal) bytes 67108864 told c.0.longer, c.1)
+  journal_answer journal bytes told t names Done text c = subst (λ b. JournalAnswer t names b Done text) (same_read (contents journal) c.0 bytes told c.1.whole) c.2
+  journal_answer journal bytes told t names Usage text c = absurd c
+  journal_answer journal bytes told t names Syntax text c = absurd c
+  journal_answer journal bytes told t names Spent text c = absurd c
+  journal_answer journal bytes told t names ReadFault text c = absurd c
+  journal_answer journal bytes told t names WriteFault text c = absurd c
+  journal_answer journal bytes told t names NoMemory text c = absurd c
 
-  told : (r st : Status) (text : List ℕ) (g g' : ℕ) (old new : Option (List ℕ)) → Cause words at_hand st text
-      → (r ≡ st) × (g' ≡ g) × Appended old text new → (text : List ℕ) × IsAnswer words bytes r text × Appended old text new
-  told r st text g g' old new c t = (text, subst (λ s. IsAnswer words bytes s text) (sym t.0) (cause_answer st text c), t.2)
+  job_answer : (asked : Asked) → AreTold contents asked → (st : Status) (text : List ℕ) → JobCause at_hand st text asked → JobAnswer contents st text asked
+  job_answer asked e st text (by_file has c) = let b = told_first contents asked has e in of_file has b.1 (file_answer asked b.0 b.1 st text c)
+  job_answer _ e st text (by_journal {term = term} {journal = journal} {bytes = bytes} {t = t} {names = names} same whole i c) =
+      let b = told_first contents (check term journal) tt e in
+      let d = told_second contents term journal e in
+      of_journal b.1 (subst (λ b. IsTerm b t names) (same_read (contents term) bytes b.0 b.1 whole) i) d.1 (journal_answer journal d.0 d.1 t names st text c)
+  job_answer _ e st text (by_making same m) = made m
 
-  pub ends_exact : (r : Status) (g g' : ℕ) (old new : Option (List ℕ)) → (Rose g g' → ⊥) → r ≢ NoMemory → Ends words at_hand r g g' old new
-      → (text : List ℕ) × IsAnswer words bytes r text × Appended old text new
-  ends_exact NoMemory g g' old new calm has e = absurd (has refl)
-  ends_exact WriteFault g g' old new calm has e = absurd (calm e.3.0)
-  ends_exact Done g g' old new calm has e = told Done e.0 e.1 g g' old new e.2 e.3
-  ends_exact Usage g g' old new calm has e = told Usage e.0 e.1 g g' old new e.2 e.3
-  ends_exact Syntax g g' old new calm has e = told Syntax e.0 e.1 g g' old new e.2 e.3
-  ends_exact Spent g g' old new calm has e = told Spent e.0 e.1 g g' old new e.2 e.3
-  ends_exact ReadFault g g' old new calm has e = told ReadFault e.0 e.1 g g' old new e.2 e.3
-  ends_exact Limit g g' old new calm has e = told Limit e.0 e.1 g g' old new e.2 e.3
+  module _ (tells : TellsFiles contents words) where
+    pub cause_answer : (st : Status) (text : List ℕ) → Cause words at_hand st text → IsAnswer words contents st text
+    cause_answer Usage text c = (c.0, c.2)
+    cause_answer ReadFault text c = (c.0, c.1, job_answer c.0 (tells c.0 c.1) ReadFault text c.2)
+    cause_answer Limit text c = (c.0, c.1, job_answer c.0 (tells c.0 c.1) Limit text c.2)
+    cause_answer Syntax text c = (c.0, c.1, job_answer c.0 (tells c.0 c.1) Syntax text c.2)
+    cause_answer Spent text c = (c.0, c.1, job_answer c.0 (tells c.0 c.1) Spent text c.2)
+    cause_answer Done text c = (c.0, c.1, job_answer c.0 (tells c.0 c.1) Done text c.2)
+    cause_answer WriteFault text c = (c.0, c.1, job_answer c.0 (tells c.0 c.1) WriteFault text c.2)
+    cause_answer NoMemory text c = (c.0, c.1, job_answer c.0 (tells c.0 c.1) NoMemory text c.2)
+
+    told : (r st : Status) (text : List ℕ) (g g' : ℕ) (old new : Option (List ℕ)) → Cause words at_hand st text
+        → (r ≡ st) × (g' ≡ g) × Appended old text new → (text : List ℕ) × IsAnswer words contents r text × Appended old text new
+    told r st text g g' old new c t = (text, subst (λ s. IsAnswer words contents s text) (sym t.0) (cause_answer st text c), t.2)
+
+    pub ends_exact : (r : Status) (g g' : ℕ) (old new : Option (List ℕ)) → (Rose g g' → ⊥) → r ≢ NoMemory → Ends words at_hand r g g' old new
+        → (text : List ℕ) × IsAnswer words contents r text × Appended old text new
+    ends_exact NoMemory g g' old new calm has e = absurd (has refl)
+    ends_exact WriteFault g g' old new calm has e = absurd (calm e.3.0)
+    ends_exact Done g g' old new calm has e = told Done e.0 e.1 g g' old new e.2 e.3
+    ends_exact Usage g g' old new calm has e = told Usage e.0 e.1 g g' old new e.2 e.3
+    ends_exact Syntax g g' old new calm has e = told Syntax e.0 e.1 g g' old new e.2 e.3
+    ends_exact Spent g g' old new calm has e = told Spent e.0 e.1 g g' old new e.2 e.3
+    ends_exact ReadFault g g' old new calm has e = told ReadFault e.0 e.1 g g' old new e.2 e.3
+    ends_exact Limit g g' old new calm has e = told Limit e.0 e.1 g g' old new e.2 e.3
 
 -- ---- faults of the source
+
+file_risen : (asked : Asked) (s : Seen) (text : List ℕ) (st : Status) → s.faults < s.faults' → FileCause asked s st text → st ≡ ReadFault
+file_risen asked s text ReadFault h p = refl
+file_risen asked s text Usage h p = absurd (omega (arith, p.0))
+file_risen asked s text Limit h p = absurd (omega (arith, p.0))
+file_risen asked s text Syntax h p = absurd (omega (arith, p.0))
+file_risen asked s text Spent h p = absurd (omega (arith, p.0))
+file_risen asked s text Done h p = absurd (omega (arith, p.0))
+file_risen asked s text WriteFault h p = absurd (omega (arith, p.0))
+file_risen asked s text NoMemory h p = absurd (omega (arith, p.0))
+
+job_risen : (asked : Asked) (s : Seen) (text : List ℕ) (st : Status) → s.faults < s.faults' → JobCause s st text asked → st ≡ ReadFault
+job_risen asked s text st h (by_file has c) = file_risen asked s text st h c
+job_risen _ s text st h (by_journal same whole i c) = absurd (omega (arith, same))
+job_risen _ s text st h (by_making same m) = absurd (omega (arith, same))
 
 cause_risen : (words : List (String Global)) (s : Seen) (text : List ℕ) (st : Status) → s.faults < s.faults' → Cause words s st text → st ≡ ReadFault
 cause_risen words s text Usage h p = absurd (omega (arith, p.1))
 cause_risen words s text ReadFault h p = refl
-cause_risen words s text Limit h p = absurd (omega (arith, p.2.0))
-cause_risen words s text Syntax h p = absurd (omega (arith, p.2.0))
-cause_risen words s text Spent h p = absurd (omega (arith, p.2.0))
-cause_risen words s text Done h p = absurd (omega (arith, p.2.0))
-cause_risen words s text WriteFault h p = absurd (omega (arith, p.2.0))
-cause_risen words s text NoMemory h p = absurd (omega (arith, p.2.0))
+cause_risen words s text Limit h p = job_risen p.0 s text Limit h p.2
+cause_risen words s text Syntax h p = job_risen p.0 s text Syntax h p.2
+cause_risen words s text Spent h p = job_risen p.0 s text Spent h p.2
+cause_risen words s text Done h p = job_risen p.0 s text Done h p.2
+cause_risen words s text WriteFault h p = job_risen p.0 s text WriteFault h p.2
+cause_risen words s text NoMemory h p = job_risen p.0 s text NoMemory h p.2
 
 -- a fault of the source that has risen is told
 pub ends_risen : (words : List (String Global)) (s : Seen) (r : Status) (g g' : ℕ) (old new : Option (List ℕ)) → s.faults < s.faults' → (Rose g g' → ⊥)
@@ -161,3 +263,116 @@ ends_usage words s Usage g g' old new lacks e = inl refl
 ends_usage words s Syntax g g' old new lacks e = inl (e.3.0 ∙ planned_usage words s e.1 e.0 lacks e.2)
 ends_usage words s Spent g g' old new lacks e = inl (e.3.0 ∙ planned_usage words s e.1 e.0 lacks e.2)
 ends_usage words s Limit g g' old new lacks e = inl (e.3.0 ∙ planned_usage words s e.1 e.0 lacks e.2)
+
+-- ---- a read fault has risen
+
+job_fault : (asked : Asked) (s : Seen) (text : List ℕ) → JobCause s ReadFault text asked → Rose s.faults s.faults'
+job_fault asked s text (by_file has c) = c.0
+job_fault _ s text (by_journal same whole i c) = absurd c
+job_fault _ s text (by_making {runs = false} same m) = let e = m.0 in absurd (cc)
+job_fault _ s text (by_making {runs = true} same m) = absurd (term_status plain_run m.0 m.1 ReadFault text m.3)
+
+pub ends_fault : (words : List (String Global)) (s : Seen) (r : Status) (g g' : ℕ) (old new : Option (List ℕ)) → Ends words s r g g' old new → r ≡ ReadFault → Rose s.faults s.faults'
+ends_fault words s ReadFault g g' old new e is = let c = subst (λ st. Cause words s st e.1) (sym e.3.0) e.2 in job_fault c.0 s e.1 c.2
+ends_fault words s NoMemory g g' old new e is = absurd (cc)
+ends_fault words s WriteFault g g' old new e is = absurd (cc)
+ends_fault words s Done g g' old new e is = absurd (cc)
+ends_fault words s Usage g g' old new e is = absurd (cc)
+ends_fault words s Syntax g g' old new e is = absurd (cc)
+ends_fault words s Spent g g' old new e is = absurd (cc)
+ends_fault words s Limit g g' old new e is = absurd (cc)
+
+-- ---- what was done came to the end of its input
+
+no_files : (words : List (String Global)) (runs : Bool) (k : ℕ) → AskFor words (gen runs k) → files_of words ≡ 0
+no_files words runs k j = ap (λ (a : Option Asked). option_map_or count_of_files a 0) j
+
+job_ended : (words : List (String Global)) (asked : Asked) (s : Seen) (text : List ℕ) → 0 < files_of words → AskFor words asked → JobCause s Done text asked → s.ended ≡ true
+job_ended words asked s text some j (by_file has c) = c.1.1.to_end
+job_ended words _ s text some j (by_journal same whole i c) = c.1.to_end
+job_ended words _ s text some j (by_making {runs = runs} {k = k} same m) = let none = no_files words runs k j in absurd (omega arith)
+
+pub ends_done : (words : List (String Global)) (s : Seen) (r : Status) (g g' : ℕ) (old new : Option (List ℕ)) → Ends words s r g g' old new → 0 < files_of words → r ≡ Done → s.ended ≡ true
+ends_done words s Done g g' old new e some is = let c = subst (λ st. Cause words s st e.1) (sym e.3.0) e.2 in job_ended words c.0 s e.1 some c.1 c.2
+ends_done words s ReadFault g g' old new e some is = absurd (cc)
+ends_done words s NoMemory g g' old new e some is = absurd (cc)
+ends_done words s WriteFault g g' old new e some is = absurd (cc)
+ends_done words s Usage g g' old new e some is = absurd (cc)
+ends_done words s Syntax g g' old new e some is = absurd (cc)
+ends_done words s Spent g g' old new e some is = absurd (cc)
+ends_done words s Limit g g' old new e some is = absurd (cc)
+
+-- ---- a text that was written whole
+
+job_status : (s : Seen) (st : Status) (text : List ℕ) (asked : Asked) → JobCause s st text asked → (st ≢ NoMemory) × (st ≢ WriteFault)
+job_status s st text asked (by_file has c) = file st c
+  where
+    file : (st : Status) → FileCause asked s st text → (st ≢ NoMemory) × (st ≢ WriteFault)
+    file NoMemory c = absurd (term_status asked c.1.2.0 c.1.2.1 NoMemory text c.1.2.3)
+    file WriteFault c = absurd (term_status asked c.1.2.0 c.1.2.1 WriteFault text c.1.2.3)
+    file ReadFault c = ((λ e. cc), (λ e. cc))
+    file Limit c = ((λ e. cc), (λ e. cc))
+    file Usage c = ((λ e. cc), (λ e. cc))
+    file Syntax c = ((λ e. cc), (λ e. cc))
+    file Spent c = ((λ e. cc), (λ e. cc))
+    file Done c = ((λ e. cc), (λ e. cc))
+job_status s st text _ (by_journal {journal = journal} {t = t} {names = names} same w i c) = on_journal st c
+  where
+    on_journal : (st : Status) → JournalCause s journal t names st text → (st ≢ NoMemory) × (st ≢ WriteFault)
+    on_journal NoMemory c = absurd c
+    on_journal WriteFault c = absurd c
+    on_journal ReadFault c = absurd c
+    on_journal Usage c = absurd c
+    on_journal Syntax c = absurd c
+    on_journal Spent c = absurd c
+    on_journal Limit c = ((λ e. cc), (λ e. cc))
+    on_journal Done c = ((λ e. cc), (λ e. cc))
+job_status s st text _ (by_making {runs = false} same m) = ((λ e. let z : NoMemory ≡ Done = sym e ∙ m.0 in cc), (λ e. let z : WriteFault ≡ Done = sym e ∙ m.0 in cc))
+job_status s st text _ (by_making {runs = true} {k = k} same m) = making st m
+  where
+    making : (st : Status) → FileAnswer plain_run (doubled_text k) st text → (st ≢ NoMemory) × (st ≢ WriteFault)
+    making NoMemory m = absurd (term_status plain_run m.0 m.1 NoMemory text m.3)
+    making WriteFault m = absurd (term_status plain_run m.0 m.1 WriteFault text m.3)
+    making ReadFault m = ((λ e. cc), (λ e. cc))
+    making Limit m = ((λ e. cc), (λ e. cc))
+    making Usage m = ((λ e. cc), (λ e. cc))
+    making Syntax m = ((λ e. cc), (λ e. cc))
+    making Spent m = ((λ e. cc), (λ e. cc))
+    making Done m = ((λ e. cc), (λ e. cc))
+
+pub written_ends : (words : List (String Global)) (s : Seen) (st : Status) (text : List ℕ) (g g' : ℕ) (old new : Option (List ℕ)) → Cause words s st text → g' ≡ g → Appended old text new → Ends words s st g g' old new
+written_ends words s NoMemory text g g' old new c same w = absurd ((job_status s NoMemory text c.0 c.2).0 refl)
+written_ends words s WriteFault text g g' old new c same w = absurd ((job_status s WriteFault text c.0 c.2).1 refl)
+written_ends words s ReadFault text g g' old new c same w = (ReadFault, text, c, (refl, same, w))
+written_ends words s Limit text g g' old new c same w = (Limit, text, c, (refl, same, w))
+written_ends words s Usage text g g' old new c same w = (Usage, text, c, (refl, same, w))
+written_ends words s Syntax text g g' old new c same w = (Syntax, text, c, (refl, same, w))
+written_ends words s Spent text g g' old new c same w = (Spent, text, c, (refl, same, w))
+written_ends words s Done text g g' old new c same w = (Done, text, c, (refl, same, w))
+
+-- ---- a journal that was read last
+
+pub checked_cause : (s : Seen) (term journal : Text) (bytes : List ℕ) (t : Tree) (names : List (List ℕ)) → IsWhole (s.contents term) bytes → IsTerm bytes t names → (st : Status) (text : List ℕ) →
+    EndsJournal s journal t names st text → JobCause s st text (check term journal)
+checked_cause s term journal bytes t names whole i ReadFault text h = by_file tt h
+checked_cause s term journal bytes t names whole i Limit text h = by_journal h.0 whole i h.1
+checked_cause s term journal bytes t names whole i Done text h = by_journal h.0 whole i h.1
+checked_cause s term journal bytes t names whole i Usage text h = absurd h.1
+checked_cause s term journal bytes t names whole i Syntax text h = absurd h.1
+checked_cause s term journal bytes t names whole i Spent text h = absurd h.1
+checked_cause s term journal bytes t names whole i WriteFault text h = absurd h.1
+checked_cause s term journal bytes t names whole i NoMemory text h = absurd h.1
+
+-- ---- a file that isn't read
+
+pub fault_cause : (s : Seen) (asked : Asked) → HasTermFile asked → (st : Status) (text : List ℕ) → Rose s.faults s.faults' → st ≡ ReadFault → text ≡ fault_text → JobCause s st text asked
+fault_cause s asked has st text rose is e = subst (λ st. JobCause s st text asked) (sym is) (by_file has (rose, e))
+
+pub past_cause : (s : Seen) (asked : Asked) → HasTermFile asked → (st : Status) (text : List ℕ) → s.faults' ≡ s.faults → GaveTooMany s (name_of asked) → st ≡ Limit → text ≡ bytes_text → JobCause s st text asked
+past_cause s asked has st text same gave is e = subst (λ st. JobCause s st text asked) (sym is) (by_file has (same, inl (gave, e)))
+
+-- what the read of the journal ended with, after that of the term
+pub after_term : (faults mid faults' given : ℕ) (contents then : Text → Option (List ℕ)) (ended : Bool) (journal : Text) (t : Tree) (names : List (List ℕ)) (st : Status) (text : List ℕ) → mid ≡ faults → then ≡ contents →
+    EndsJournal (seen mid faults' then given ended) journal t names st text → EndsJournal (seen faults faults' contents given ended) journal t names st text
+after_term faults mid faults' given contents then ended journal t names st text e d h =
+    subst (λ f. EndsJournal (seen f faults' contents given ended) journal t names st text) e (subst (λ k. EndsJournal (seen mid faults' k given ended) journal t names st text) d h)

@@ -1,20 +1,18 @@
 -- What is handed back of a term is handed back of its file, of the source's bytes, and of the words.
-use Rattle.std.proofs.Common.{◌≡◌, ℕ, ◌≤◌, List, length, Option, String, Global, count_by, is_some, sym, ap, ◌∙◌}
+use Rattle.std.proofs.Common.{◌≡◌, ℕ, List, length, Option, None, String, Global, count_by, is_some, sym, ap, ◌∙◌}
 use Rattle.ol_io.specs.Outside.{Appended}
-use Rattle.ol_term.specs.Trees.{Tree, depth}
-use Rattle.ol_parse.specs.Parsed.{IsFileOf}
+use Rattle.ol_term.specs.Trees.{Tree}
 use Rattle.ol_net.specs.declared.parts.Kind.{Kind}
 use Rattle.ol_net.specs.Build.{all_live}
 use Rattle.ol_net.specs.Graph.{Graph}
 use Rattle.ol_net.proofs.Linking.{length-all_live, count_by-all_live}
 use Rattle.ol_wire.specs.Closed.{ClosedTable}
-use Rattle.ol_words.specs.Jobs.{Asked, run, walk}
+use Rattle.ol_words.specs.Jobs.{Asked, run, walk, view, trace, check, gen}
 use Rattle.ol_cli.specs.declared.status.Status.{Status}
 use Rattle.ol_cli.specs.declared.status.Status.TheVariants as status
 use Rattle.ol_cli.specs.Jobs.{AskFor, name_of}
-use Rattle.ol_cli.specs.Answers.{Seen, GaveAll}
-use Rattle.ol_cli.specs.Trees.{TreeAnswer}
-use Rattle.ol_cli.specs.Handed.{TermHands, FileHands, JobHands, WordsHand, WhereEnded}
+use Rattle.ol_cli.specs.Answers.{IsTerm, Seen, GaveAll}
+use Rattle.ol_cli.specs.Handed.{TermHands, FileHands, ReadHands, JobHands, WordsHand, WhereEnded}
 
 -- ---- the net that is handed to the workers
 
@@ -33,37 +31,82 @@ where_ended status.WriteFault closed P Q f h = h
 where_ended status.NoMemory closed P Q f h = h
 where_ended status.Limit closed P Q f h = h
 
-pub term_hands : (asked : Asked) (t : Tree) (names : List (List ℕ)) (st : Status) (text : List ℕ) (closed : Option ClosedTable) →
-    TermHands asked t names st text closed → WhereEnded st closed (TermHands asked t names st text closed)
-term_hands asked t names status.Done text closed h = h
-term_hands asked t names status.Spent text closed h = h
-term_hands (run workers fuel heads name) t names status.Usage text closed h = absurd h.4
-term_hands (run workers fuel heads name) t names status.Syntax text closed h = absurd h.4
-term_hands (run workers fuel heads name) t names status.ReadFault text closed h = absurd h.4
-term_hands (run workers fuel heads name) t names status.WriteFault text closed h = absurd h.4
-term_hands (run workers fuel heads name) t names status.NoMemory text closed h = absurd h.4
-term_hands (run workers fuel heads name) t names status.Limit text closed h = absurd h.4
-term_hands (walk edges heads name) t names status.Usage text closed h = h
-term_hands (walk edges heads name) t names status.Syntax text closed h = h
-term_hands (walk edges heads name) t names status.ReadFault text closed h = h
-term_hands (walk edges heads name) t names status.WriteFault text closed h = h
-term_hands (walk edges heads name) t names status.NoMemory text closed h = h
-term_hands (walk edges heads name) t names status.Limit text closed h = h
+-- where no job ends so, nothing is handed back
+module _ (t : Tree) (names : List (List ℕ)) (text : List ℕ) (closed : Option ClosedTable) where
+  none_at_usage : (asked : Asked) → TermHands asked t names status.Usage text closed → closed ≡ None
+  none_at_usage (run workers fuel heads name) h = absurd h.4
+  none_at_usage (walk edges heads name) h = h
+  none_at_usage (view after name) h = h
+  none_at_usage (trace workers fuel name) h = absurd h.4
+  none_at_usage (check term journal) h = h
+  none_at_usage (gen runs k) h = h
 
-pub file_hands : (asked : Asked) (bytes : List ℕ) (t : Tree) (names : List (List ℕ)) (st : Status) (text : List ℕ) (closed : Option ClosedTable) → length bytes ≤ 1048576 → IsFileOf bytes t names → depth t ≤ 1000 →
-    TreeAnswer asked t names st text → WhereEnded st closed (TermHands asked t names st text closed) → WhereEnded st closed (FileHands asked bytes st text closed)
-file_hands asked bytes t names status.Done text closed b f d a h = (t, names, record { short = b; file = f; shallow = d; small = a.0 }, h)
-file_hands asked bytes t names status.Spent text closed b f d a h = (t, names, record { short = b; file = f; shallow = d; small = a.0 }, h)
-file_hands asked bytes t names status.Usage text closed b f d a h = h
-file_hands asked bytes t names status.Syntax text closed b f d a h = h
-file_hands asked bytes t names status.ReadFault text closed b f d a h = h
-file_hands asked bytes t names status.WriteFault text closed b f d a h = h
-file_hands asked bytes t names status.NoMemory text closed b f d a h = h
-file_hands asked bytes t names status.Limit text closed b f d a h = h
+  none_at_syntax : (asked : Asked) → TermHands asked t names status.Syntax text closed → closed ≡ None
+  none_at_syntax (run workers fuel heads name) h = absurd h.4
+  none_at_syntax (walk edges heads name) h = h
+  none_at_syntax (view after name) h = h
+  none_at_syntax (trace workers fuel name) h = absurd h.4
+  none_at_syntax (check term journal) h = h
+  none_at_syntax (gen runs k) h = h
 
-pub job_hands : (asked : Asked) (s : Seen) (bytes : List ℕ) (st : Status) (text : List ℕ) (closed : Option ClosedTable) → GaveAll s (name_of asked) bytes →
-    WhereEnded st closed (FileHands asked bytes st text closed) → WhereEnded st closed (JobHands asked s st text closed)
-job_hands asked s bytes st text closed gave h = where_ended st closed (FileHands asked bytes st text closed) (JobHands asked s st text closed) (λ h. (bytes, gave, h)) h
+  none_at_read_fault : (asked : Asked) → TermHands asked t names status.ReadFault text closed → closed ≡ None
+  none_at_read_fault (run workers fuel heads name) h = absurd h.4
+  none_at_read_fault (walk edges heads name) h = h
+  none_at_read_fault (view after name) h = h
+  none_at_read_fault (trace workers fuel name) h = absurd h.4
+  none_at_read_fault (check term journal) h = h
+  none_at_read_fault (gen runs k) h = h
+
+  none_at_write_fault : (asked : Asked) → TermHands asked t names status.WriteFault text closed → closed ≡ None
+  none_at_write_fault (run workers fuel heads name) h = absurd h.4
+  none_at_write_fault (walk edges heads name) h = h
+  none_at_write_fault (view after name) h = h
+  none_at_write_fault (trace workers fuel name) h = absurd h.4
+  none_at_write_fault (check term journal) h = h
+  none_at_write_fault (gen runs k) h = h
+
+  none_at_no_memory : (asked : Asked) → TermHands asked t names status.NoMemory text closed → closed ≡ None
+  none_at_no_memory (run workers fuel heads name) h = absurd h.4
+  none_at_no_memory (walk edges heads name) h = h
+  none_at_no_memory (view after name) h = h
+  none_at_no_memory (trace workers fuel name) h = absurd h.4
+  none_at_no_memory (check term journal) h = h
+  none_at_no_memory (gen runs k) h = h
+
+  none_at_limit : (asked : Asked) → TermHands asked t names status.Limit text closed → closed ≡ None
+  none_at_limit (run workers fuel heads name) h = absurd h.4
+  none_at_limit (walk edges heads name) h = h
+  none_at_limit (view after name) h = h
+  none_at_limit (trace workers fuel name) h = absurd h.4
+  none_at_limit (check term journal) h = h
+  none_at_limit (gen runs k) h = h
+
+-- what is handed back of a term is handed back of its file
+pub file_hands : (asked : Asked) (bytes : List ℕ) (t : Tree) (names : List (List ℕ)) → IsTerm bytes t names → (st : Status) (text : List ℕ) (closed : Option ClosedTable) →
+    TermHands asked t names st text closed → WhereEnded st closed (FileHands asked bytes st text closed)
+file_hands asked bytes t names i status.Done text closed h = (t, names, i, h)
+file_hands asked bytes t names i status.Spent text closed h = (t, names, i, h)
+file_hands asked bytes t names i status.Usage text closed h = none_at_usage t names text closed asked h
+file_hands asked bytes t names i status.Syntax text closed h = none_at_syntax t names text closed asked h
+file_hands asked bytes t names i status.ReadFault text closed h = none_at_read_fault t names text closed asked h
+file_hands asked bytes t names i status.WriteFault text closed h = none_at_write_fault t names text closed asked h
+file_hands asked bytes t names i status.NoMemory text closed h = none_at_no_memory t names text closed asked h
+file_hands asked bytes t names i status.Limit text closed h = none_at_limit t names text closed asked h
+
+-- where nothing is handed back, nothing is
+pub none_ended : (st : Status) (closed : Option ClosedTable) → closed ≡ None → WhereEnded st closed (closed ≡ None)
+none_ended status.Done closed h = h
+none_ended status.Spent closed h = h
+none_ended status.Usage closed h = h
+none_ended status.Syntax closed h = h
+none_ended status.ReadFault closed h = h
+none_ended status.WriteFault closed h = h
+none_ended status.NoMemory closed h = h
+none_ended status.Limit closed h = h
+
+pub read_hands : (asked : Asked) (s : Seen) (bytes : List ℕ) (st : Status) (text : List ℕ) (closed : Option ClosedTable) → GaveAll s (name_of asked) bytes →
+    WhereEnded st closed (FileHands asked bytes st text closed) → WhereEnded st closed (ReadHands asked s st text closed)
+read_hands asked s bytes st text closed gave h = where_ended st closed (FileHands asked bytes st text closed) (ReadHands asked s st text closed) (λ h. (bytes, gave, h)) h
 
 pub words_hand : (words : List (String Global)) (asked : Asked) (s : Seen) (st : Status) (text : List ℕ) (closed : Option ClosedTable) → AskFor words asked →
     WhereEnded st closed (JobHands asked s st text closed) → WhereEnded st closed (WordsHand words s st text closed)

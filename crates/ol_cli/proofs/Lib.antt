@@ -17,3 +17,6 @@ mod Within
 mod ReadAgain
 mod Handing
 mod Worked
+mod Readied
+mod JournalFound
+mod Traced

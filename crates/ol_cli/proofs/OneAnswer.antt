@@ -1,6 +1,7 @@
--- The same words and bytes have one answer.
-use Rattle.std.proofs.Common.{◌≡◌, ℕ, ◌<◌, ◌≤◌, List, length, Some, refl, sym, ap, ◌∙◌, subst, arith, String, Global}
+-- The same words and files have one answer.
+use Rattle.std.proofs.Common.{◌≡◌, ℕ, ◌<◌, ◌≤◌, Bool, true, false, List, length, Option, Some, refl, sym, ap, ◌∙◌, subst, arith, String, Global}
 use Rattle.ol_term.specs.Trees.{Tree, depth}
+use Rattle.ol_term.specs.Generated.{doubled_text}
 use Rattle.ol_parse.specs.Texts.{IsRefusedAt}
 use Rattle.ol_parse.specs.Numbered.{names_of, number}
 use Rattle.ol_parse.specs.Parsed.{IsFileOf}
@@ -12,13 +13,17 @@ use Rattle.ol_translate.specs.Names.{HasNames}
 use Rattle.ol_translate.specs.Sizes.{size_of_translation}
 use Rattle.ol_translate.specs.Translation.{translation_of}
 use Rattle.ol_translate.proofs.Whole.{translation_net}
-use Rattle.ol_words.specs.Jobs.{Asked, run, walk}
+use Rattle.ol_view.specs.declared.answers.Check.{Check}
+use Rattle.ol_view.specs.Checks.{OnlyIsFound}
+use Rattle.ol_words.specs.Lines.{Text}
+use Rattle.ol_words.specs.Jobs.{Asked, run, walk, view, trace, check, gen}
 use Rattle.ol_cli.specs.declared.status.Status.{Status}
 use Rattle.ol_cli.specs.declared.status.Status.TheVariants.{Done, Usage, Syntax, Spent, ReadFault, WriteFault, NoMemory, Limit}
-use Rattle.ol_cli.specs.Jobs.{AskFor, AskForNothing}
-use Rattle.ol_cli.specs.Texts.{usage_text, bytes_text, depth_text, nodes_text, syntax_text, spent_text}
-use Rattle.ol_cli.specs.Evaluation.{RunsOut, Prints, Walks}
-use Rattle.ol_cli.specs.Answers.{long, deep, large, TermAnswer, FileAnswer, IsAnswer}
+use Rattle.ol_cli.specs.Jobs.{AskFor, AskForNothing, IsOnTerm, name_of}
+use Rattle.ol_cli.specs.Laws.{TellsOne}
+use Rattle.ol_cli.specs.Texts.{usage_text, bytes_text, depth_text, nodes_text, journal_text, syntax_text, spent_text, found_text}
+use Rattle.ol_cli.specs.Evaluation.{start_net, RunsOut, Prints, Walks}
+use Rattle.ol_cli.specs.Answers.{long, deep, large, IsTerm, TermAnswer, FileAnswer, JournalAnswer, JobAnswer, of_file, of_journal, made, Makes, plain_run, IsAnswer}
 use Rattle.ol_cli.proofs.OnePrint.{ends_or_not, one_print, one_walk}
 
 abbrev pub Same : Status → Status → List ℕ → List ℕ → Type 0
@@ -43,23 +48,27 @@ data OfTerm (t : Tree) (names : List (List ℕ)) : Asked → Status → List ℕ
   printed : {w fuel heads : ℕ} {name x : List ℕ} → Prints t names fuel heads x → OfTerm t names (run w fuel heads name) Done x
   walked : {edges heads : ℕ} {name x : List ℕ} → Walks t names edges heads x → OfTerm t names (walk edges heads name) Done x
 
-of_term : (t : Tree) (names : List (List ℕ)) (a : Asked) (s : Status) (x : List ℕ) → TermAnswer a t names s x → OfTerm t names a s x
-of_term t names (run w fuel heads name) Spent x h = spent h.0 h.1
-of_term t names (run w fuel heads name) Done x h = printed h
-of_term t names (run w fuel heads name) Usage x h = absurd h
-of_term t names (run w fuel heads name) Syntax x h = absurd h
-of_term t names (run w fuel heads name) ReadFault x h = absurd h
-of_term t names (run w fuel heads name) WriteFault x h = absurd h
-of_term t names (run w fuel heads name) NoMemory x h = absurd h
-of_term t names (run w fuel heads name) Limit x h = absurd h
-of_term t names (walk edges heads name) Done x h = walked h
-of_term t names (walk edges heads name) Spent x h = absurd h
-of_term t names (walk edges heads name) Usage x h = absurd h
-of_term t names (walk edges heads name) Syntax x h = absurd h
-of_term t names (walk edges heads name) ReadFault x h = absurd h
-of_term t names (walk edges heads name) WriteFault x h = absurd h
-of_term t names (walk edges heads name) NoMemory x h = absurd h
-of_term t names (walk edges heads name) Limit x h = absurd h
+of_term : (t : Tree) (names : List (List ℕ)) (a : Asked) (s : Status) (x : List ℕ) → TellsOne a → TermAnswer a t names s x → OfTerm t names a s x
+of_term t names (run w fuel heads name) Spent x one h = spent h.0 h.1
+of_term t names (run w fuel heads name) Done x one h = printed h
+of_term t names (run w fuel heads name) Usage x one h = absurd h
+of_term t names (run w fuel heads name) Syntax x one h = absurd h
+of_term t names (run w fuel heads name) ReadFault x one h = absurd h
+of_term t names (run w fuel heads name) WriteFault x one h = absurd h
+of_term t names (run w fuel heads name) NoMemory x one h = absurd h
+of_term t names (run w fuel heads name) Limit x one h = absurd h
+of_term t names (walk edges heads name) Spent x one h = absurd h
+of_term t names (walk edges heads name) Done x one h = walked h
+of_term t names (walk edges heads name) Usage x one h = absurd h
+of_term t names (walk edges heads name) Syntax x one h = absurd h
+of_term t names (walk edges heads name) ReadFault x one h = absurd h
+of_term t names (walk edges heads name) WriteFault x one h = absurd h
+of_term t names (walk edges heads name) NoMemory x one h = absurd h
+of_term t names (walk edges heads name) Limit x one h = absurd h
+of_term t names (view k name) s x one h = absurd one
+of_term t names (trace w f name) s x one h = absurd one
+of_term t names (check term journal) s x one h = absurd h
+of_term t names (gen runs k) s x one h = absurd h
 
 one_of_term : (t : Tree) (names : List (List ℕ)) → IsNet (translation_of t (length names)) → (a : Asked) (s s' : Status) (x x' : List ℕ) → OfTerm t names a s x → OfTerm t names a s' x' → Same s s' x x'
 one_of_term t names n a s s' x x' (spent r e) (spent r' e') = (refl, e ∙ sym e')
@@ -74,16 +83,16 @@ data OfTree (asked : Asked) (t : Tree) (names : List (List ℕ)) (s : Status) (x
   too_large : depth t ≤ 1000 → 200000 < size_of_translation t → Same s Limit x nodes_text → OfTree asked t names s x
   done : depth t ≤ 1000 → size_of_translation t ≤ 200000 → TermAnswer asked t names s x → OfTree asked t names s x
 
-one_of_tree : (asked : Asked) (t : Tree) (names : List (List ℕ)) → IsNet (translation_of t (length names)) → (s s' : Status) (x x' : List ℕ) → OfTree asked t names s x → OfTree asked t names s' x' → Same s s' x x'
-one_of_tree asked t names n s s' x x' (too_deep d h) (too_deep d' h') = same_as s s' Limit x x' depth_text h h'
-one_of_tree asked t names n s s' x x' (too_deep d h) (too_large d' z' h') = absurd (omega arith)
-one_of_tree asked t names n s s' x x' (too_deep d h) (done d' z' h') = absurd (omega arith)
-one_of_tree asked t names n s s' x x' (too_large d z h) (too_deep d' h') = absurd (omega arith)
-one_of_tree asked t names n s s' x x' (too_large d z h) (too_large d' z' h') = same_as s s' Limit x x' nodes_text h h'
-one_of_tree asked t names n s s' x x' (too_large d z h) (done d' z' h') = absurd (omega arith)
-one_of_tree asked t names n s s' x x' (done d z h) (too_deep d' h') = absurd (omega arith)
-one_of_tree asked t names n s s' x x' (done d z h) (too_large d' z' h') = absurd (omega arith)
-one_of_tree asked t names n s s' x x' (done d z h) (done d' z' h') = one_of_term t names n asked s s' x x' (of_term t names asked s x h) (of_term t names asked s' x' h')
+one_of_tree : (asked : Asked) (t : Tree) (names : List (List ℕ)) → TellsOne asked → IsNet (translation_of t (length names)) → (s s' : Status) (x x' : List ℕ) → OfTree asked t names s x → OfTree asked t names s' x' → Same s s' x x'
+one_of_tree asked t names one n s s' x x' (too_deep d h) (too_deep d' h') = same_as s s' Limit x x' depth_text h h'
+one_of_tree asked t names one n s s' x x' (too_deep d h) (too_large d' z' h') = absurd (omega arith)
+one_of_tree asked t names one n s s' x x' (too_deep d h) (done d' z' h') = absurd (omega arith)
+one_of_tree asked t names one n s s' x x' (too_large d z h) (too_deep d' h') = absurd (omega arith)
+one_of_tree asked t names one n s s' x x' (too_large d z h) (too_large d' z' h') = same_as s s' Limit x x' nodes_text h h'
+one_of_tree asked t names one n s s' x x' (too_large d z h) (done d' z' h') = absurd (omega arith)
+one_of_tree asked t names one n s s' x x' (done d z h) (too_deep d' h') = absurd (omega arith)
+one_of_tree asked t names one n s s' x x' (done d z h) (too_large d' z' h') = absurd (omega arith)
+one_of_tree asked t names one n s s' x x' (done d z h) (done d' z' h') = one_of_term t names n asked s s' x x' (of_term t names asked s x one h) (of_term t names asked s' x' one h')
 
 -- ---- a file
 
@@ -91,61 +100,147 @@ one_of_tree asked t names n s s' x x' (done d z h) (done d' z' h') = one_of_term
 data OfFile (asked : Asked) (bytes : List ℕ) (s : Status) (x : List ℕ) : Type 0 where
   too_long : 1048576 < length bytes → Same s Limit x bytes_text → OfFile asked bytes s x
   refused : length bytes ≤ 1048576 → (at : ℕ) → IsRefusedAt bytes at → Same s Syntax x (syntax_text at) → OfFile asked bytes s x
-  term : length bytes ≤ 1048576 → (t : Tree) (names : List (List ℕ)) → IsFileOf bytes t names → OfTree asked t names s x → OfFile asked bytes s x
+  has_term : length bytes ≤ 1048576 → (t : Tree) (names : List (List ℕ)) → IsFileOf bytes t names → OfTree asked t names s x → OfFile asked bytes s x
 
-of_file : (asked : Asked) (bytes : List ℕ) (s : Status) (x : List ℕ) → FileAnswer asked bytes s x → OfFile asked bytes s x
-of_file asked bytes Limit x (long l e) = too_long l (refl, e)
-of_file asked bytes Limit x (deep l {t = t} {names = names} f d e) = term l t names f (too_deep d (refl, e))
-of_file asked bytes Limit x (large l {t = t} {names = names} f d z e) = term l t names f (too_large d z (refl, e))
-of_file asked bytes Syntax x (at, l, r, e) = refused l at r (refl, e)
-of_file asked bytes Done x (t, names, i, h) = term i.short t names i.file (done i.shallow i.small h)
-of_file asked bytes Usage x (t, names, i, h) = term i.short t names i.file (done i.shallow i.small h)
-of_file asked bytes Spent x (t, names, i, h) = term i.short t names i.file (done i.shallow i.small h)
-of_file asked bytes ReadFault x (t, names, i, h) = term i.short t names i.file (done i.shallow i.small h)
-of_file asked bytes WriteFault x (t, names, i, h) = term i.short t names i.file (done i.shallow i.small h)
-of_file asked bytes NoMemory x (t, names, i, h) = term i.short t names i.file (done i.shallow i.small h)
+of_file_answer : (asked : Asked) (bytes : List ℕ) (s : Status) (x : List ℕ) → FileAnswer asked bytes s x → OfFile asked bytes s x
+of_file_answer asked bytes Limit x (long l e) = too_long l (refl, e)
+of_file_answer asked bytes Limit x (deep l {t = t} {names = names} f d e) = has_term l t names f (too_deep d (refl, e))
+of_file_answer asked bytes Limit x (large l {t = t} {names = names} f d z e) = has_term l t names f (too_large d z (refl, e))
+of_file_answer asked bytes Syntax x (at, l, r, e) = refused l at r (refl, e)
+of_file_answer asked bytes Done x (t, names, i, h) = has_term i.short t names i.file (done i.shallow i.small h)
+of_file_answer asked bytes Usage x (t, names, i, h) = has_term i.short t names i.file (done i.shallow i.small h)
+of_file_answer asked bytes Spent x (t, names, i, h) = has_term i.short t names i.file (done i.shallow i.small h)
+of_file_answer asked bytes ReadFault x (t, names, i, h) = has_term i.short t names i.file (done i.shallow i.small h)
+of_file_answer asked bytes WriteFault x (t, names, i, h) = has_term i.short t names i.file (done i.shallow i.small h)
+of_file_answer asked bytes NoMemory x (t, names, i, h) = has_term i.short t names i.file (done i.shallow i.small h)
 
-one_of_file : (asked : Asked) (bytes : List ℕ) (s s' : Status) (x x' : List ℕ) → OfFile asked bytes s x → OfFile asked bytes s' x' → Same s s' x x'
-one_of_file asked bytes s s' x x' (too_long l h) (too_long l' h') = same_as s s' Limit x x' bytes_text h h'
-one_of_file asked bytes s s' x x' (too_long l h) (refused l' at' r' h') = absurd (omega arith)
-one_of_file asked bytes s s' x x' (too_long l h) (term l' t' names' f' h') = absurd (omega arith)
-one_of_file asked bytes s s' x x' (refused l at r h) (too_long l' h') = absurd (omega arith)
-one_of_file asked bytes s s' x x' (refused l at r h) (refused l' at' r' h') =
+one_of_file : (asked : Asked) (bytes : List ℕ) → TellsOne asked → (s s' : Status) (x x' : List ℕ) → OfFile asked bytes s x → OfFile asked bytes s' x' → Same s s' x x'
+one_of_file asked bytes one s s' x x' (too_long l h) (too_long l' h') = same_as s s' Limit x x' bytes_text h h'
+one_of_file asked bytes one s s' x x' (too_long l h) (refused l' at' r' h') = absurd (omega arith)
+one_of_file asked bytes one s s' x x' (too_long l h) (has_term l' t' names' f' h') = absurd (omega arith)
+one_of_file asked bytes one s s' x x' (refused l at r h) (too_long l' h') = absurd (omega arith)
+one_of_file asked bytes one s s' x x' (refused l at r h) (refused l' at' r' h') =
     let e : at ≡ at' = one_dead_place bytes at at' r.1 r'.1 in
     (h.0 ∙ sym h'.0, h.1 ∙ ap (λ at. syntax_text at) e ∙ sym h'.1)
-one_of_file asked bytes s s' x x' (refused l at r h) (term l' t' names' f' h') = absurd (r.0 f'.named f'.text)
-one_of_file asked bytes s s' x x' (term l t names f h) (too_long l' h') = absurd (omega arith)
-one_of_file asked bytes s s' x x' (term l t names f h) (refused l' at' r' h') = absurd (r'.0 f.named f.text)
-one_of_file asked bytes s s' x x' (term l t names f h) (term l' t' names' f' h') =
+one_of_file asked bytes one s s' x x' (refused l at r h) (has_term l' t' names' f' h') = absurd (r.0 f'.named f'.text)
+one_of_file asked bytes one s s' x x' (has_term l t names f h) (too_long l' h') = absurd (omega arith)
+one_of_file asked bytes one s s' x x' (has_term l t names f h) (refused l' at' r' h') = absurd (r'.0 f.named f.text)
+one_of_file asked bytes one s s' x x' (has_term l t names f h) (has_term l' t' names' f' h') =
     let e = one_file bytes t' t names' names f' f in
-    one_of_tree asked t names (file_net bytes t names f) s s' x x' h (subst (λ t. OfTree asked t names s' x') e.0 (subst (λ names. OfTree asked t' names s' x') e.1 h'))
+    one_of_tree asked t names one (file_net bytes t names f) s s' x x' h (subst (λ t. OfTree asked t names s' x') e.0 (subst (λ names. OfTree asked t' names s' x') e.1 h'))
 
--- ---- words and bytes
+one_file_answer : (asked : Asked) (bytes : List ℕ) → TellsOne asked → (s s' : Status) (x x' : List ℕ) → FileAnswer asked bytes s x → FileAnswer asked bytes s' x' → Same s s' x x'
+one_file_answer asked bytes one s s' x x' h h' = one_of_file asked bytes one s s' x x' (of_file_answer asked bytes s x h) (of_file_answer asked bytes s' x' h')
 
-data OfWords (words : List (String Global)) (bytes : List ℕ) (s : Status) (x : List ℕ) : Type 0 where
-  no_job : AskForNothing words → Same s Usage x usage_text → OfWords words bytes s x
-  job : (asked : Asked) → AskFor words asked → FileAnswer asked bytes s x → OfWords words bytes s x
+-- ---- a job
 
-of_words : (words : List (String Global)) (bytes : List ℕ) (s : Status) (x : List ℕ) → IsAnswer words bytes s x → OfWords words bytes s x
-of_words words bytes Usage x a = no_job a.0 (refl, a.1)
-of_words words bytes Syntax x a = job a.0 a.1 a.2
-of_words words bytes Spent x a = job a.0 a.1 a.2
-of_words words bytes Done x a = job a.0 a.1 a.2
-of_words words bytes ReadFault x a = job a.0 a.1 a.2
-of_words words bytes WriteFault x a = job a.0 a.1 a.2
-of_words words bytes NoMemory x a = job a.0 a.1 a.2
-of_words words bytes Limit x a = job a.0 a.1 a.2
+-- a file that is refused has no term within the limits
+not_refused : (term journal : Text) (bytes : List ℕ) (t : Tree) (names : List (List ℕ)) (s : Status) (x : List ℕ) → OfFile (check term journal) bytes s x → IsTerm bytes t names → ⊥
+not_refused term journal bytes t names s x (too_long l h) i = let b = i.short in omega arith
+not_refused term journal bytes t names s x (refused l at r h) i = r.0 i.file.named i.file.text
+not_refused term journal bytes t names s x (has_term l u others f h) i = go h
+  where
+    same : (t ≡ u) × (names ≡ others)
+    same = one_file bytes t u names others i.file f
+
+    go : OfTree (check term journal) u others s x → ⊥
+    go (too_deep d h) = let b = i.shallow in let e = ap depth same.0 in omega arith
+    go (too_large d z h) = let b = i.small in let e = ap size_of_translation same.0 in omega arith
+    go (done d z h) = h
+
+-- what is found of a journal, by cases
+data OfJournal (t : Tree) (names : List (List ℕ)) (journal : List ℕ) (s : Status) (x : List ℕ) : Type 0 where
+  past : 67108864 < length journal → Same s Limit x journal_text → OfJournal t names journal s x
+  found : length journal ≤ 67108864 → (v : Check) → OnlyIsFound (start_net t names) journal v → Same s Done x (found_text v) → OfJournal t names journal s x
+
+of_journal_answer : (t : Tree) (names : List (List ℕ)) (journal : List ℕ) (s : Status) (x : List ℕ) → JournalAnswer t names journal s x → OfJournal t names journal s x
+of_journal_answer t names journal Limit x h = past h.0 (refl, h.1)
+of_journal_answer t names journal Done x h = found h.0 h.1.0 h.1.1 (refl, h.1.2)
+of_journal_answer t names journal Spent x h = absurd h
+of_journal_answer t names journal Usage x h = absurd h
+of_journal_answer t names journal Syntax x h = absurd h
+of_journal_answer t names journal ReadFault x h = absurd h
+of_journal_answer t names journal WriteFault x h = absurd h
+of_journal_answer t names journal NoMemory x h = absurd h
+
+one_journal : (t : Tree) (names : List (List ℕ)) (journal : List ℕ) (s s' : Status) (x x' : List ℕ) → OfJournal t names journal s x → OfJournal t names journal s' x' → Same s s' x x'
+one_journal t names journal s s' x x' (past l h) (past l' h') = same_as s s' Limit x x' journal_text h h'
+one_journal t names journal s s' x x' (past l h) (found l' v f h') = absurd (omega arith)
+one_journal t names journal s s' x x' (found l v f h) (past l' h') = absurd (omega arith)
+one_journal t names journal s s' x x' (found l v f h) (found l' w g h') =
+    let e : v ≡ w = (f w).1 ((g w).0 refl) in
+    (h.0 ∙ sym h'.0, h.1 ∙ ap found_text e ∙ sym h'.1)
+
+one_making : (runs : Bool) (k : ℕ) (s s' : Status) (x x' : List ℕ) → Makes runs k s x → Makes runs k s' x' → Same s s' x x'
+one_making false k s s' x x' m m' = (m.0 ∙ sym m'.0, m.1 ∙ sym m'.1)
+one_making true k s s' x x' m m' = one_file_answer plain_run (doubled_text k) tt s s' x x' m m'
+
+module _ (files : Text → Option (List ℕ)) where
+  one_bytes : (name : Text) (a b : List ℕ) → files name ≡ Some a → files name ≡ Some b → a ≡ b
+  one_bytes name a b e f = let z : Some a ≡ Some b = sym e ∙ f in cc
+
+  one_checked : (term journal : Text) (s s' : Status) (x x' : List ℕ) → JobAnswer files s x (check term journal) → JobAnswer files s' x' (check term journal) → Same s s' x x'
+  one_checked term journal s s' x x' (of_file {bytes = a} has e h) (of_file {bytes = b} has' e' h') =
+      one_file_answer (check term journal) b tt s s' x x' (subst (λ a. FileAnswer (check term journal) a s x) (one_bytes term a b e e') h) h'
+  one_checked term journal s s' x x' (of_file {bytes = a} has e h) (of_journal {bytes = b} {t = t} {names = names} e' i f' h') =
+      absurd (not_refused term journal b t names s x (of_file_answer (check term journal) b s x (subst (λ a. FileAnswer (check term journal) a s x) (one_bytes term a b e e') h)) i)
+  one_checked term journal s s' x x' (of_journal {bytes = b} {t = t} {names = names} e i f h) (of_file {bytes = a} has' e' h') =
+      absurd (not_refused term journal b t names s' x' (of_file_answer (check term journal) b s' x' (subst (λ a. FileAnswer (check term journal) a s' x') (one_bytes term a b e' e) h')) i)
+  one_checked term journal s s' x x' (of_journal {bytes = a} {trace = u} {t = t} {names = names} e i f h) (of_journal {bytes = b} {trace = v} {t = t'} {names = names'} e' i' f' h') =
+      let same_file = subst (λ b. IsTerm b t' names') (one_bytes term b a e' e) i' in
+      let term_is = one_file a t' t names' names same_file.file i.file in
+      let trace_is = one_bytes journal v u f' f in
+      let h'' = subst (λ t. JournalAnswer t names u s' x') term_is.0 (subst (λ names. JournalAnswer t' names u s' x') term_is.1 (subst (λ v. JournalAnswer t' names' v s' x') trace_is h')) in
+      one_journal t names u s s' x x' (of_journal_answer t names u s x h) (of_journal_answer t names u s' x' h'')
+
+  one_on_file : (asked : Asked) → IsOnTerm asked → TellsOne asked → (s s' : Status) (x x' : List ℕ) → JobAnswer files s x asked → JobAnswer files s' x' asked → Same s s' x x'
+  one_on_file asked on one s s' x x' (of_file {bytes = a} has e h) (of_file {bytes = b} has' e' h') =
+      one_file_answer asked b one s s' x x' (subst (λ a. FileAnswer asked a s x) (one_bytes (name_of asked) a b e e') h) h'
+  one_on_file asked on one s s' x x' (of_file has e h) (of_journal e' i f' h') = absurd on
+  one_on_file asked on one s s' x x' (of_file has e h) (made m) = absurd on
+  one_on_file asked on one s s' x x' (of_journal e' i f' h') k = absurd on
+  one_on_file asked on one s s' x x' (made m) k = absurd on
+
+  one_made : (runs : Bool) (k : ℕ) (s s' : Status) (x x' : List ℕ) → JobAnswer files s x (gen runs k) → JobAnswer files s' x' (gen runs k) → Same s s' x x'
+  one_made runs k s s' x x' (of_file has e h) a = absurd has
+  one_made runs k s s' x x' (made m) (of_file has e h) = absurd has
+  one_made runs k s s' x x' (made m) (made m') = one_making runs k s s' x x' m m'
+
+  one_of_job : (asked : Asked) → TellsOne asked → (s s' : Status) (x x' : List ℕ) → JobAnswer files s x asked → JobAnswer files s' x' asked → Same s s' x x'
+  one_of_job (run w f q name) one s s' x x' a a' = one_on_file (run w f q name) tt one s s' x x' a a'
+  one_of_job (walk g q name) one s s' x x' a a' = one_on_file (walk g q name) tt one s s' x x' a a'
+  one_of_job (view k name) one s s' x x' a a' = absurd one
+  one_of_job (trace w f name) one s s' x x' a a' = absurd one
+  one_of_job (check term journal) one s s' x x' a a' = one_checked term journal s s' x x' a a'
+  one_of_job (gen runs k) one s s' x x' a a' = one_made runs k s s' x x' a a'
+
+-- ---- words and files
+
+data OfWords (words : List (String Global)) (files : Text → Option (List ℕ)) (s : Status) (x : List ℕ) : Type 0 where
+  no_job : AskForNothing words → Same s Usage x usage_text → OfWords words files s x
+  job : (asked : Asked) → AskFor words asked → JobAnswer files s x asked → OfWords words files s x
+
+of_words : (words : List (String Global)) (files : Text → Option (List ℕ)) (s : Status) (x : List ℕ) → IsAnswer words files s x → OfWords words files s x
+of_words words files Usage x a = no_job a.0 (refl, a.1)
+of_words words files Syntax x a = job a.0 a.1 a.2
+of_words words files Spent x a = job a.0 a.1 a.2
+of_words words files Done x a = job a.0 a.1 a.2
+of_words words files ReadFault x a = job a.0 a.1 a.2
+of_words words files WriteFault x a = job a.0 a.1 a.2
+of_words words files NoMemory x a = job a.0 a.1 a.2
+of_words words files Limit x a = job a.0 a.1 a.2
 
 -- words ask for one job
 pub one_job : (words : List (String Global)) (a b : Asked) → AskFor words a → AskFor words b → a ≡ b
 one_job words a b h h' = let e : Some a ≡ Some b = sym h ∙ h' in cc
 
-one_of_words : (words : List (String Global)) (bytes : List ℕ) (s s' : Status) (x x' : List ℕ) → OfWords words bytes s x → OfWords words bytes s' x' → Same s s' x x'
-one_of_words words bytes s s' x x' (no_job j h) (no_job j' h') = same_as s s' Usage x x' usage_text h h'
-one_of_words words bytes s s' x x' (no_job j h) (job a' j' h') = let e = sym j ∙ j' in absurd (cc)
-one_of_words words bytes s s' x x' (job a j h) (no_job j' h') = let e = sym j ∙ j' in absurd (cc)
-one_of_words words bytes s s' x x' (job a j h) (job a' j' h') =
-    one_of_file a bytes s s' x x' (of_file a bytes s x h) (of_file a bytes s' x' (subst (λ a. FileAnswer a bytes s' x') (one_job words a' a j' j) h'))
+one_of_words : (words : List (String Global)) (files : Text → Option (List ℕ)) (s s' : Status) (x x' : List ℕ) → ((asked : Asked) → AskFor words asked → TellsOne asked) → OfWords words files s x → OfWords words files s' x' → Same s s' x x'
+one_of_words words files s s' x x' one (no_job j h) (no_job j' h') = same_as s s' Usage x x' usage_text h h'
+one_of_words words files s s' x x' one (no_job j h) (job a' j' h') = let e = sym j ∙ j' in absurd (cc)
+one_of_words words files s s' x x' one (job a j h) (no_job j' h') = let e = sym j ∙ j' in absurd (cc)
+one_of_words words files s s' x x' one (job a j h) (job a' j' h') =
+    one_of_job files a (one a j) s s' x x' h (subst (λ a. JobAnswer files s' x' a) (one_job words a' a j' j) h')
 
-pub answers_one : (words : List (String Global)) (bytes : List ℕ) (s s' : Status) (x x' : List ℕ) → IsAnswer words bytes s x → IsAnswer words bytes s' x' → (s ≡ s') × (x ≡ x')
-answers_one words bytes s s' x x' a a' = one_of_words words bytes s s' x x' (of_words words bytes s x a) (of_words words bytes s' x' a')
+pub answers_one : (words : List (String Global)) (files : Text → Option (List ℕ)) (s s' : Status) (x x' : List ℕ) → ((asked : Asked) → AskFor words asked → TellsOne asked) →
+    IsAnswer words files s x → IsAnswer words files s' x' → (s ≡ s') × (x ≡ x')
+answers_one words files s s' x x' one a a' = one_of_words words files s s' x x' one (of_words words files s x a) (of_words words files s' x' a')

@@ -1,10 +1,10 @@
 -- The numbers of a job are within the limits of their options.
-use Rattle.std.proofs.Common.{◌≡◌, ℕ, ◌≤◌, Bool, true, false, ◌&&◌, if◌then◌else◌, List, [], ◌∷◌, Option, None, Some, option_map, option_and_then, nat_le, refl, ap, ◌∙◌, subst, arith}
+use Rattle.std.proofs.Common.{◌≡◌, ℕ, ◌≤◌, ◌==◌, Bool, true, false, ◌&&◌, if◌then◌else◌, List, [], ◌∷◌, Option, None, Some, option_map, option_and_then, nat_le, refl, ap, ◌∙◌, subst, arith}
 use Rattle.std.proofs.lemmas.Bool.Decides.{nat_tests}
 use Rattle.std.specs.Str.{bytes_eq}
 use Rattle.ol_words.specs.Lines.{Text, Line, line_of}
-use Rattle.ol_words.specs.Numbers.{Limits, number_of, is_number, setting}
-use Rattle.ol_words.specs.Jobs.{Asked, run, walk, Setting, workers_setting, fuel_setting, heads_setting, edges_setting, run_verb, walk_verb, run_asks, walk_asks, only, options_of, values_of, number_on, numbers, job_on, job_behind, job_of}
+use Rattle.ol_words.specs.Numbers.{Limits, number_of, number_within, is_number, setting}
+use Rattle.ol_words.specs.Jobs.{Asked, run, walk, view, trace, check, gen, Setting, Verb, workers_setting, fuel_setting, heads_setting, edges_setting, after_setting, runs_setting, doublings, run_verb, walk_verb, view_verb, trace_verb, check_verb, gen_verb, run_asks, walk_asks, view_asks, trace_asks, check_asks, gen_asks, is_input, only, known_of, values_of, number_on, numbers, job_on, job_behind, job_of}
 use Rattle.ol_cli.specs.Jobs.{IsWithinLimits}
 
 and_then_some : {A B : Type 0} (f : A → Option B) (o : Option A) (b : B) → option_and_then f o ≡ Some b → (a : A) × (o ≡ Some a) × (f a ≡ Some b)
@@ -52,6 +52,9 @@ three_numbers w f q a b c ns h i j k = cc
 two_numbers : (e q : ℕ) (b c ns : List ℕ) → [] ≡ c → q ∷ c ≡ b → e ∷ b ≡ ns → e ∷ q ∷ [] ≡ ns
 two_numbers e q b c ns h i j = cc
 
+one_number : (k : ℕ) (b ns : List ℕ) → [] ≡ b → k ∷ b ≡ ns → k ∷ [] ≡ ns
+one_number k b ns h i = cc
+
 same_job : (asks : List ℕ → Option Asked) (ns ms : List ℕ) (asked : Asked) → ns ≡ ms → asks ms ≡ Some asked → asks ns ≡ Some asked
 same_job asks ns ms asked e h = ap asks e ∙ h
 
@@ -82,14 +85,82 @@ walk_within line asked h =
     let heads = setting_within heads_setting.limits (values_of heads_setting.option line.options) q.0 (omega arith, omega arith) q.2 in
     subst IsWithinLimits {x = walk e.0 q.0 is.0} is.2 heads.0
 
+view_within : (line : Line) (asked : Asked) → job_on view_verb line ≡ Some asked → IsWithinLimits asked
+view_within line asked h =
+    let t = and_then_some (λ ns. view_asks ns line.names) (numbers (number_on line) view_verb.settings) asked h in
+    let a = first_number (number_on line) after_setting [] t.0 t.1 in
+    let none : [] ≡ a.1 = cc in
+    let all : a.0 ∷ [] ≡ t.0 = one_number a.0 a.1 t.0 none a.4 in
+    let job : view_asks (a.0 ∷ []) line.names ≡ Some asked = same_job (λ ns. view_asks ns line.names) (a.0 ∷ []) t.0 asked all t.2 in
+    let is = map_some (view a.0) (only line.names) asked job in
+    let after = setting_within after_setting.limits (values_of after_setting.option line.options) a.0 (omega arith, omega arith) a.2 in
+    subst IsWithinLimits {x = view a.0 is.0} is.2 after.1
+
+trace_within : (line : Line) (asked : Asked) → job_on trace_verb line ≡ Some asked → IsWithinLimits asked
+trace_within line asked h =
+    let t = and_then_some (λ ns. trace_asks ns line.names) (numbers (number_on line) trace_verb.settings) asked h in
+    let w = first_number (number_on line) workers_setting (fuel_setting ∷ []) t.0 t.1 in
+    let f = first_number (number_on line) fuel_setting [] w.1 w.3 in
+    let none : [] ≡ f.1 = cc in
+    let all : w.0 ∷ f.0 ∷ [] ≡ t.0 = two_numbers w.0 f.0 w.1 f.1 t.0 none f.4 w.4 in
+    let job : trace_asks (w.0 ∷ f.0 ∷ []) line.names ≡ Some asked = same_job (λ ns. trace_asks ns line.names) (w.0 ∷ f.0 ∷ []) t.0 asked all t.2 in
+    let is = map_some (trace w.0 f.0) (only line.names) asked job in
+    let workers = setting_within workers_setting.limits (values_of workers_setting.option line.options) w.0 (omega arith, omega arith) w.2 in
+    let fuel = setting_within fuel_setting.limits (values_of fuel_setting.option line.options) f.0 (omega arith, omega arith) f.2 in
+    subst IsWithinLimits {x = trace w.0 f.0 is.0} is.2 (workers.0, workers.1, fuel.1)
+
+checked : (b : Bool) (term journal : Text) (asked : Asked) → (if b then None else Some (check term journal)) ≡ Some asked → IsWithinLimits asked
+checked true term journal asked h = absurd (cc)
+checked false term journal asked h = let is : check term journal ≡ asked = cc in subst IsWithinLimits is tt
+
+check_names : (names : List Text) (asked : Asked) → check_asks [] names ≡ Some asked → IsWithinLimits asked
+check_names [] asked h = absurd (cc)
+check_names (a ∷ []) asked h = absurd (cc)
+check_names (a ∷ b ∷ []) asked h = checked (is_input a && is_input b) a b asked h
+check_names (a ∷ b ∷ c ∷ names) asked h = absurd (cc)
+
+check_within : (line : Line) (asked : Asked) → job_on check_verb line ≡ Some asked → IsWithinLimits asked
+check_within line asked h = check_names line.names asked h
+
+gen_names : (runs : ℕ) (names : List Text) (asked : Asked) → gen_asks (runs ∷ []) names ≡ Some asked → IsWithinLimits asked
+gen_names runs [] asked h = absurd (cc)
+gen_names runs (n ∷ []) asked h =
+    let is = map_some (gen (runs == 1)) (number_within doublings n) asked h in
+    let t = three (is_number n) (nat_le doublings.least (number_of n)) (nat_le (number_of n) doublings.most) (number_of n) is.0 is.1 in
+    subst IsWithinLimits {x = gen (runs == 1) is.0} is.2 (subst (λ k. k ≤ 10) t.2 (le_of (number_of n) doublings.most t.1))
+gen_names runs (n ∷ m ∷ names) asked h = absurd (cc)
+
+gen_within : (line : Line) (asked : Asked) → job_on gen_verb line ≡ Some asked → IsWithinLimits asked
+gen_within line asked h =
+    let t = and_then_some (λ ns. gen_asks ns line.names) (numbers (number_on line) gen_verb.settings) asked h in
+    let r = first_number (number_on line) runs_setting [] t.0 t.1 in
+    let none : [] ≡ r.1 = cc in
+    let all : r.0 ∷ [] ≡ t.0 = one_number r.0 r.1 t.0 none r.4 in
+    gen_names r.0 line.names asked (same_job (λ ns. gen_asks ns line.names) (r.0 ∷ []) t.0 asked all t.2)
+
 -- ---- words
 
-behind_within : (rest : List Text) (a b : Bool) (asked : Asked) → option_and_then (job_behind rest) (if a then Some run_verb else (if b then Some walk_verb else None)) ≡ Some asked → IsWithinLimits asked
-behind_within rest true b asked h = let t = and_then_some (job_on run_verb) (line_of (options_of run_verb) rest) asked h in run_within t.0 asked t.2
-behind_within rest false true asked h = let t = and_then_some (job_on walk_verb) (line_of (options_of walk_verb) rest) asked h in walk_within t.0 asked t.2
-behind_within rest false false asked h = absurd (cc)
+abbrev VerbIsWithin : Verb → Type 0
+VerbIsWithin v = (line : Line) (asked : Asked) → job_on v line ≡ Some asked → IsWithinLimits asked
+
+module _ (rest : List Text) (asked : Asked) where
+  abbrev FromVerb : Option Verb → Type 0
+  FromVerb v = option_and_then (job_behind rest) v ≡ Some asked → IsWithinLimits asked
+
+  here_or_later : (v : Verb) (later : Option Verb) (b : Bool) → VerbIsWithin v → FromVerb later → FromVerb (if b then Some v else later)
+  here_or_later v later true within more h = let t = and_then_some (job_on v) (line_of (known_of v) rest) asked h in within t.0 asked t.2
+  here_or_later v later false within more h = more h
+
+  nothing : FromVerb None
+  nothing h = absurd (cc)
 
 pub job_within : (texts : List Text) (asked : Asked) → job_of texts ≡ Some asked → IsWithinLimits asked
 job_within [] asked h = absurd (cc)
 job_within (program ∷ []) asked h = absurd (cc)
-job_within (program ∷ word ∷ rest) asked h = behind_within rest (bytes_eq run_verb.word word) (bytes_eq walk_verb.word word) asked h
+job_within (program ∷ word ∷ rest) asked h =
+    here_or_later rest asked run_verb _ (bytes_eq run_verb.word word) run_within
+    (here_or_later rest asked walk_verb _ (bytes_eq walk_verb.word word) walk_within
+    (here_or_later rest asked view_verb _ (bytes_eq view_verb.word word) view_within
+    (here_or_later rest asked trace_verb _ (bytes_eq trace_verb.word word) trace_within
+    (here_or_later rest asked check_verb _ (bytes_eq check_verb.word word) check_within
+    (here_or_later rest asked gen_verb _ (bytes_eq gen_verb.word word) gen_within (nothing rest asked)))))) h

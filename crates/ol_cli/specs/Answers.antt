@@ -1,18 +1,21 @@
--- The answer to a list of words and to the bytes of a term file: a text and a status, by the order of refusals.
-use Rattle.std.specs.Prelude.{◌≡◌, ℕ, ◌≤◌, ◌<◌, ◌⊎◌, Bool, true, List, length, take, Option, String}
+-- The answer to a list of words and to the bytes of the files that they name: a text and a status, by the order of refusals.
+use Rattle.std.specs.Prelude.{◌≡◌, ℕ, ◌≤◌, ◌<◌, ◌⊎◌, Bool, true, false, List, length, take, codes, Option, Some, String}
 use Rattle.std.specs.declared.alloc.Global.{Global}
 use Rattle.ol_io.specs.Outside.{Rose, Appended, IsWhole, IsLonger}
 use Rattle.ol_term.specs.Trees.{Tree, depth}
+use Rattle.ol_term.specs.Generated.{doubled_text}
 use Rattle.ol_parse.specs.Texts.{IsRefusedAt}
 use Rattle.ol_parse.specs.Parsed.{IsFileOf}
 use Rattle.ol_translate.specs.Sizes.{size_of_translation}
 use Rattle.ol_words.specs.Lines.{Text}
-use Rattle.ol_words.specs.Jobs.{Asked, run, walk}
+use Rattle.ol_words.specs.Jobs.{Asked, run, walk, view, trace, check, gen}
+use Rattle.ol_view.specs.declared.answers.Check.{Check}
+use Rattle.ol_view.specs.Checks.{OnlyIsFound}
 use Rattle.ol_cli.specs.declared.status.Status.{Status}
 use Rattle.ol_cli.specs.declared.status.Status.TheVariants as status
-use Rattle.ol_cli.specs.Jobs.{AskFor, AskForNothing, name_of}
-use Rattle.ol_cli.specs.Texts.{usage_text, fault_text, bytes_text, depth_text, nodes_text, syntax_text, spent_text}
-use Rattle.ol_cli.specs.Evaluation.{RunsOut, Prints, Walks}
+use Rattle.ol_cli.specs.Jobs.{AskFor, AskForNothing, HasTermFile, name_of}
+use Rattle.ol_cli.specs.Texts.{usage_text, fault_text, bytes_text, depth_text, nodes_text, journal_text, syntax_text, spent_text, found_text}
+use Rattle.ol_cli.specs.Evaluation.{start_net, RunsOut, Prints, Walks, Views, TracesWhole, TracesFuel}
 
 -- the number that a process ends with
 abbrev pub number_of : Status → ℕ
@@ -51,10 +54,25 @@ abbrev pub WalkAnswer : Tree → List (List ℕ) → (edges heads : ℕ) → Sta
 WalkAnswer t names edges heads status.Done text = Walks t names edges heads text
 WalkAnswer t names edges heads _ text = ⊥
 
--- What a job answers to a term with these free names.
+-- What `view` answers to a term: its net after some leads is shown.
+abbrev pub ViewAnswer : Tree → List (List ℕ) → (after : ℕ) → Status → List ℕ → Type 0
+ViewAnswer t names after status.Done text = Views t names after text
+ViewAnswer t names after _ text = ⊥
+
+-- What `trace` answers to a term: the trace of any run of it that is complete, or that has as many entries as the fuel and goes on.
+abbrev pub TraceAnswer : Tree → List (List ℕ) → (fuel : ℕ) → Status → List ℕ → Type 0
+TraceAnswer t names fuel status.Done text = TracesWhole t names fuel text
+TraceAnswer t names fuel status.Spent text = TracesFuel t names fuel text
+TraceAnswer t names fuel _ text = ⊥
+
+-- What a job answers to a term with these free names. A term alone is no answer of `check`, and `gen` has none.
 abbrev pub TermAnswer : Asked → Tree → List (List ℕ) → Status → List ℕ → Type 0
 TermAnswer (run workers fuel heads name) t names st text = RunAnswer t names fuel heads st text
 TermAnswer (walk edges heads name) t names st text = WalkAnswer t names edges heads st text
+TermAnswer (view after name) t names st text = ViewAnswer t names after st text
+TermAnswer (trace workers fuel name) t names st text = TraceAnswer t names fuel st text
+TermAnswer (check term journal) t names st text = ⊥
+TermAnswer (gen runs k) t names st text = ⊥
 
 -- What a job answers to the bytes of its file: a limit that they pass, the place where they are refused, or the answer to their term.
 abbrev pub FileAnswer : Asked → List ℕ → Status → List ℕ → Type 0
@@ -62,10 +80,37 @@ FileAnswer asked bytes status.Limit text = IsPastLimit bytes text
 FileAnswer asked bytes status.Syntax text = (at : ℕ) × (length bytes ≤ 1048576) × IsRefusedAt bytes at × (text ≡ syntax_text at)
 FileAnswer asked bytes st text = (t : Tree) × (names : List (List ℕ)) × IsTerm bytes t names × TermAnswer asked t names st text
 
--- The answer to these words, where nothing fails and the file that they ask for has these bytes.
-abbrev pub IsAnswer : List (String Global) → List ℕ → Status → List ℕ → Type 0
-IsAnswer words bytes status.Usage text = AskForNothing words × (text ≡ usage_text)
-IsAnswer words bytes st text = (asked : Asked) × AskFor words asked × FileAnswer asked bytes st text
+-- What `check` answers to the bytes of a journal file, against a term: a limit that they pass, or the one thing that they are found
+-- to be.
+abbrev pub JournalAnswer : Tree → List (List ℕ) → List ℕ → Status → List ℕ → Type 0
+JournalAnswer t names journal status.Limit text = (67108864 < length journal) × (text ≡ journal_text)
+JournalAnswer t names journal status.Done text =
+    (length journal ≤ 67108864) × ((found : Check) × OnlyIsFound (start_net t names) journal found × (text ≡ found_text found))
+JournalAnswer t names journal _ text = ⊥
+
+-- `run` without options
+abbrev pub plain_run : Asked
+plain_run = run 4 200000 4096 (codes "-")
+
+-- What `gen` answers: the text that it makes, or the answer of `run` to that.
+abbrev pub Makes : (runs : Bool) → (k : ℕ) → Status → List ℕ → Type 0
+Makes false k st text = (st ≡ status.Done) × (text ≡ doubled_text k)
+Makes true k st text = FileAnswer plain_run (doubled_text k) st text
+
+-- The answer to a job, where its files have these bytes: that to the file of its term; for `check`, where that file is no refusal, the
+-- answer to its journal; and for `gen` the text that is made, or the answer of `run` to it.
+pub data JobAnswer (files : Text → Option (List ℕ)) (st : Status) (text : List ℕ) : Asked → Type 0 where
+  of_file : {asked : Asked} {bytes : List ℕ} → HasTermFile asked → files (name_of asked) ≡ Some bytes →
+      FileAnswer asked bytes st text → JobAnswer files st text asked
+  of_journal : {term journal : Text} {bytes trace : List ℕ} {t : Tree} {names : List (List ℕ)} →
+      files term ≡ Some bytes → IsTerm bytes t names → files journal ≡ Some trace →
+      JournalAnswer t names trace st text → JobAnswer files st text (check term journal)
+  made : {runs : Bool} {k : ℕ} → Makes runs k st text → JobAnswer files st text (gen runs k)
+
+-- The answer to these words, where nothing fails and the files have these bytes.
+abbrev pub IsAnswer : List (String Global) → (Text → Option (List ℕ)) → Status → List ℕ → Type 0
+IsAnswer words files status.Usage text = AskForNothing words × (text ≡ usage_text)
+IsAnswer words files st text = (asked : Asked) × AskFor words asked × JobAnswer files st text asked
 
 -- ---- what the call did
 
@@ -81,32 +126,60 @@ pub record Seen : Type 0 where
 abbrev pub seen : (faults faults' : ℕ) → (Text → Option (List ℕ)) → (given : ℕ) → Bool → Seen
 seen faults faults' contents given ended = record { faults = faults; faults' = faults'; contents = contents; given = given; ended = ended }
 
--- the source gave these bytes, to their end, and they are all bytes of the name where it tells them
-pub record GaveAll (s : Seen) (name : Text) (bytes : List ℕ) : Type 0 where
+-- the source gave these bytes last, to their end and at most so many, and they are all bytes of the name where it tells them
+pub record GaveWithin (s : Seen) (most : ℕ) (name : Text) (bytes : List ℕ) : Type 0 where
   pub whole : IsWhole (s.contents name) bytes
   pub counted : length bytes ≡ s.given
-  pub within : s.given ≤ 1048576
+  pub within : s.given ≤ most
   pub to_end : s.ended ≡ true
 
--- the source gave more than 1,048,576 bytes
-pub record GaveTooMany (s : Seen) (name : Text) : Type 0 where
-  pub past : 1048576 < s.given
-  pub longer : IsLonger (s.contents name) 1048576
+-- the source gave more bytes than this last
+pub record GavePast (s : Seen) (most : ℕ) (name : Text) : Type 0 where
+  pub past : most < s.given
+  pub longer : IsLonger (s.contents name) most
+
+-- the same of a term file
+abbrev pub GaveAll : Seen → Text → List ℕ → Type 0
+GaveAll s name bytes = GaveWithin s 1048576 name bytes
+
+abbrev pub GaveTooMany : Seen → Text → Type 0
+GaveTooMany s name = GavePast s 1048576 name
 
 -- all bytes that the source gave, and what they are answered
 abbrev pub Read : Asked → Seen → Status → List ℕ → Type 0
 Read asked s st text = (bytes : List ℕ) × GaveAll s (name_of asked) bytes × FileAnswer asked bytes st text
 
--- Each status of a job, where it comes, and its text.
-abbrev pub JobCause : Asked → Seen → Status → List ℕ → Type 0
-JobCause asked s status.ReadFault text = Rose s.faults s.faults' × (text ≡ fault_text)
-JobCause asked s status.Limit text = (s.faults' ≡ s.faults) × ((GaveTooMany s (name_of asked) × (text ≡ bytes_text)) ⊎ Read asked s status.Limit text)
-JobCause asked s st text = (s.faults' ≡ s.faults) × Read asked s st text
+-- Each status of a job with a term file, where it comes of this file or of a fault, and its text.
+abbrev pub FileCause : Asked → Seen → Status → List ℕ → Type 0
+FileCause asked s status.ReadFault text = Rose s.faults s.faults' × (text ≡ fault_text)
+FileCause asked s status.Limit text = (s.faults' ≡ s.faults) × ((GaveTooMany s (name_of asked) × (text ≡ bytes_text)) ⊎ Read asked s status.Limit text)
+FileCause asked s st text = (s.faults' ≡ s.faults) × Read asked s st text
+
+-- What comes of a journal file, against a term.
+abbrev pub JournalCause : Seen → Text → Tree → List (List ℕ) → Status → List ℕ → Type 0
+JournalCause s journal t names status.Limit text = GavePast s 67108864 journal × (text ≡ journal_text)
+JournalCause s journal t names status.Done text =
+    (trace : List ℕ) × GaveWithin s 67108864 journal trace × JournalAnswer t names trace status.Done text
+JournalCause s journal t names _ text = ⊥
+
+-- The same where the read of the journal may fail.
+abbrev pub EndsJournal : Seen → Text → Tree → List (List ℕ) → Status → List ℕ → Type 0
+EndsJournal s journal t names status.ReadFault text = Rose s.faults s.faults' × (text ≡ fault_text)
+EndsJournal s journal t names st text = (s.faults' ≡ s.faults) × JournalCause s journal t names st text
+
+-- Each status of a job, where it comes, and its text: of its term file; of its journal file, once the term file was read and is no
+-- refusal; or of a text that is made.
+pub data JobCause (s : Seen) (st : Status) (text : List ℕ) : Asked → Type 0 where
+  by_file : {asked : Asked} → HasTermFile asked → FileCause asked s st text → JobCause s st text asked
+  by_journal : {term journal : Text} {bytes : List ℕ} {t : Tree} {names : List (List ℕ)} → s.faults' ≡ s.faults →
+      IsWhole (s.contents term) bytes → IsTerm bytes t names → JournalCause s journal t names st text →
+      JobCause s st text (check term journal)
+  by_making : {runs : Bool} {k : ℕ} → s.faults' ≡ s.faults → Makes runs k st text → JobCause s st text (gen runs k)
 
 -- Each status, where it comes, and its text.
 abbrev pub Cause : List (String Global) → Seen → Status → List ℕ → Type 0
 Cause words s status.Usage text = AskForNothing words × (s.faults' ≡ s.faults) × (text ≡ usage_text)
-Cause words s st text = (asked : Asked) × AskFor words asked × JobCause asked s st text
+Cause words s st text = (asked : Asked) × AskFor words asked × JobCause s st text asked
 
 -- The text of a status is appended whole and the status is told, or the sink failed and took a prefix of it.
 abbrev pub Told : Status → List ℕ → Status → (faults faults' : ℕ) → Option (List ℕ) → Option (List ℕ) → Type 0

@@ -1,6 +1,9 @@
--- What a term is answered: its one-thread run and what is printed of it, or its untouched translation read back.
-use Rattle.std.specs.Prelude.{◌≡◌, ℕ, ◌*◌, ◌≤◌, ◌<◌, List, length}
+-- What a term is answered: its one-thread run and what is printed of it, its untouched translation read back, its net after some
+-- leads, or the trace of a run of it.
+use Rattle.std.specs.Prelude.{◌≡◌, ℕ, ◌*◌, ◌≤◌, ◌<◌, List, length, count_by, is_some}
 use Rattle.ol_term.specs.Trees.{Tree}
+use Rattle.ol_net.specs.Graph.{Graph}
+use Rattle.ol_net.specs.Numbered.{net_of}
 use Rattle.ol_net.specs.Nets.{NamedNet, IsNet, SameNet, net_under}
 use Rattle.ol_net.specs.Pairs.{HasStuck}
 use Rattle.ol_rules.specs.declared.journal.NodeName.{NodeName}
@@ -14,7 +17,10 @@ use Rattle.ol_readback.specs.Texts.{IsTextOf}
 use Rattle.ol_readback.specs.declared.answers.ReadNode.{ReadNode}
 use Rattle.ol_translate.specs.Translation.{translation_of}
 use Rattle.ol_cli.specs.Listing.{ListsOnce}
-use Rattle.ol_cli.specs.Texts.{line, answer_text}
+use Rattle.ol_view.specs.Leads.{IsAfter}
+use Rattle.ol_view.specs.ShowTexts.{show_text}
+use Rattle.ol_view.specs.TraceTexts.{trace_text}
+use Rattle.ol_cli.specs.Texts.{line, answer_text, view_text}
 
 -- the net of a term with these free names, its nodes named by their numbers
 abbrev pub start_net : Tree → List (List ℕ) → NamedNet NodeName
@@ -57,6 +63,35 @@ pub record Walks (t : Tree) (names : List (List ℕ)) (edges heads : ℕ) (text 
   pub read : IsTree (translation_of t (length names)) heads edges tree
   pub shown : IsTextOf names tree term
   pub written : text ≡ line term
+
+-- The net of the term is rewritten by at most so many leads, and what is left is shown, with the number of leads. The nodes have the
+-- numbers of the translation, and the new ones the next numbers in the order in which they come.
+pub record Views (t : Tree) (names : List (List ℕ)) (after : ℕ) (text : List ℕ) : Type 0 where
+  pub start : Graph
+  pub last : Graph
+  pub steps : ℕ
+  pub same : SameNet (net_of start) (translation_of t (length names))
+  pub whole : count_by is_some start.nodes ≡ length start.nodes
+  pub leads : IsAfter start after last steps
+  pub written : text ≡ view_text steps (show_text last)
+
+-- The text is the trace of a run of the term, after which no pair is active, with at most `fuel` entries.
+pub record TracesWhole (t : Tree) (names : List (List ℕ)) (fuel : ℕ) (text : List ℕ) : Type 0 where
+  pub journal : List Entry
+  pub net : NamedNet NodeName
+  pub run : IsRun (start_net t names) 0 journal net
+  pub complete : IsComplete net
+  pub within : length journal ≤ fuel
+  pub written : text ≡ trace_text journal
+
+-- The text is the trace of a run of the term with `fuel` entries, after which some pair is active.
+pub record TracesFuel (t : Tree) (names : List (List ℕ)) (fuel : ℕ) (text : List ℕ) : Type 0 where
+  pub journal : List Entry
+  pub net : NamedNet NodeName
+  pub run : IsRun (start_net t names) 0 journal net
+  pub left : HasActive net
+  pub full : length journal ≡ fuel
+  pub written : text ≡ trace_text journal
 
 -- ---- every complete run, not the one-thread run alone, gives these answers
 

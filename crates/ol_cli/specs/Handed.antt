@@ -1,8 +1,9 @@
 -- What the call hands back beside its status: the closed words of the table on which the workers rewrote.
-use Rattle.std.specs.Prelude.{◌≡◌, ℕ, ◌≤◌, List, length, Option, None, Some, String}
+use Rattle.std.specs.Prelude.{◌≡◌, ℕ, ◌≤◌, Bool, true, false, List, length, Option, None, Some, String}
 use Rattle.std.specs.declared.alloc.Global.{Global}
 use Rattle.ol_io.specs.Outside.{Appended}
 use Rattle.ol_term.specs.Trees.{Tree}
+use Rattle.ol_term.specs.Generated.{doubled_text}
 use Rattle.ol_net.specs.Graph.{Graph}
 use Rattle.ol_net.specs.Nets.{NamedNet, SameNet, net_under}
 use Rattle.ol_net.specs.Numbered.{net_of}
@@ -14,13 +15,14 @@ use Rattle.ol_wire.specs.Closed.{ClosedTable, journal_in}
 use Rattle.ol_wire.specs.Standing.{IsAfter, AreOnce}
 use Rattle.ol_reduce.specs.Frozen.{IsFrozen}
 use Rattle.ol_reduce.specs.Reduced.{IsTableOf}
-use Rattle.ol_words.specs.Jobs.{Asked, run, walk}
+use Rattle.ol_words.specs.Jobs.{Asked, run, trace, check, gen}
+use Rattle.ol_view.specs.TraceTexts.{trace_text}
 use Rattle.ol_cli.specs.declared.status.Status.{Status}
 use Rattle.ol_cli.specs.declared.status.Status.TheVariants as status
 use Rattle.ol_cli.specs.Jobs.{AskFor, name_of}
 use Rattle.ol_cli.specs.Texts.{spent_text}
 use Rattle.ol_cli.specs.Evaluation.{Shows}
-use Rattle.ol_cli.specs.Answers.{IsTerm, Seen, GaveAll}
+use Rattle.ol_cli.specs.Answers.{IsTerm, Seen, GaveAll, plain_run}
 
 -- the journal of closed words
 abbrev pub journal_of : ClosedTable → List Entry
@@ -61,18 +63,42 @@ abbrev pub RunHands : Tree → List (List ℕ) → (workers fuel heads : ℕ) �
 RunHands t names workers fuel heads st text closed =
     (w : ClosedTable) × (closed ≡ Some w) × (net : NamedNet NodeName) × IsWorkOn t names fuel workers w net × EndsWork names fuel heads (journal_of w) net st text
 
--- what a job hands back of a term, with its text: `walk` rewrites nothing
+-- how the work ended whose trace is written
+abbrev pub EndsTrace : (fuel : ℕ) → List Entry → NamedNet NodeName → Status → Type 0
+EndsTrace fuel journal net status.Done = IsComplete net × (length journal ≤ fuel)
+EndsTrace fuel journal net status.Spent = HasActive net × (length journal ≡ fuel)
+EndsTrace fuel journal net _ = ⊥
+
+-- the closed words of a term's work that ended so, and the text is the trace of their journal
+abbrev pub TraceHands : Tree → List (List ℕ) → (workers fuel : ℕ) → Status → List ℕ → Option ClosedTable → Type 0
+TraceHands t names workers fuel st text closed =
+    (w : ClosedTable) × (closed ≡ Some w) × (net : NamedNet NodeName) × IsWorkOn t names fuel workers w net
+    × EndsTrace fuel (journal_of w) net st × (text ≡ trace_text (journal_of w))
+
+-- what a job hands back of a term, with its text: the others have no workers
 abbrev pub TermHands : Asked → Tree → List (List ℕ) → Status → List ℕ → Option ClosedTable → Type 0
 TermHands (run workers fuel heads name) t names st text closed = RunHands t names workers fuel heads st text closed
-TermHands (walk edges heads name) t names st text closed = closed ≡ None
+TermHands (trace workers fuel name) t names st text closed = TraceHands t names workers fuel st text closed
+TermHands _ t names st text closed = closed ≡ None
 
 -- what it hands back of a file: that of the file's term
 abbrev pub FileHands : Asked → List ℕ → Status → List ℕ → Option ClosedTable → Type 0
 FileHands asked bytes st text closed = (t : Tree) × (names : List (List ℕ)) × IsTerm bytes t names × TermHands asked t names st text closed
 
 -- the file's bytes are all that the source gave, to their end
+abbrev pub ReadHands : Asked → Seen → Status → List ℕ → Option ClosedTable → Type 0
+ReadHands asked s st text closed = (bytes : List ℕ) × GaveAll s (name_of asked) bytes × FileHands asked bytes st text closed
+
+-- what `gen` hands back: what `run` does of the text that is made
+abbrev pub MakingHands : (runs : Bool) → (k : ℕ) → Status → List ℕ → Option ClosedTable → Type 0
+MakingHands false k st text closed = closed ≡ None
+MakingHands true k st text closed = FileHands plain_run (doubled_text k) st text closed
+
+-- what a job hands back; `check` has no workers
 abbrev pub JobHands : Asked → Seen → Status → List ℕ → Option ClosedTable → Type 0
-JobHands asked s st text closed = (bytes : List ℕ) × GaveAll s (name_of asked) bytes × FileHands asked bytes st text closed
+JobHands (check term journal) s st text closed = closed ≡ None
+JobHands (gen runs k) s st text closed = MakingHands runs k st text closed
+JobHands asked s st text closed = ReadHands asked s st text closed
 
 -- where the job was done or its fuel was spent, this; in every other case nothing is handed back
 abbrev pub WhereEnded : Status → Option ClosedTable → Type 0 → Type 0

@@ -1,8 +1,10 @@
--- What the words ask for, and the file of it.
-use Rattle.std.specs.Prelude.{◌≡◌, ℕ, ◌≤◌, true, Bool, Option, None, Some, List, String, if◌then◌else◌, is_some}
+-- What the words ask for, and the files of it.
+use Rattle.std.specs.Prelude.{◌≡◌, ℕ, ◌≤◌, true, Bool, Option, None, Some, List, [], ◌∷◌, String, length, is_some}
 use Rattle.std.specs.declared.alloc.Global.{Global}
+use Rattle.std.specs.List.{list_all}
+use Rattle.std.specs.Option.{option_map_or}
 use Rattle.ol_words.specs.Lines.{Text}
-use Rattle.ol_words.specs.Jobs.{Asked, run, walk, job_of, texts_of}
+use Rattle.ol_words.specs.Jobs.{Asked, run, walk, view, trace, check, gen, job_of, texts_of}
 
 -- the words ask for this
 abbrev pub AskFor : List (String Global) → Asked → Type 0
@@ -12,24 +14,60 @@ AskFor words asked = job_of (texts_of words) ≡ Some asked
 abbrev pub AskForNothing : List (String Global) → Type 0
 AskForNothing words = job_of (texts_of words) ≡ None
 
--- the name of the file with the term
+-- the names of a job's files, in the order in which they are read
+abbrev pub names_of : Asked → List Text
+names_of (run workers fuel heads name) = name ∷ []
+names_of (walk edges heads name) = name ∷ []
+names_of (view after name) = name ∷ []
+names_of (trace workers fuel name) = name ∷ []
+names_of (check term journal) = term ∷ journal ∷ []
+names_of (gen runs k) = []
+
+-- the name of the file with the term, which is read first; `gen` makes its term itself
 abbrev pub name_of : Asked → Text
 name_of (run workers fuel heads name) = name
 name_of (walk edges heads name) = name
+name_of (view after name) = name
+name_of (trace workers fuel name) = name
+name_of (check term journal) = term
+name_of (gen runs k) = []
+
+-- the job has a file with a term
+abbrev pub HasTermFile : Asked → Type 0
+HasTermFile (gen runs k) = ⊥
+HasTermFile _ = Unit {0}
+
+-- the job is done on one term, that of its one file
+abbrev pub IsOnTerm : Asked → Type 0
+IsOnTerm (check term journal) = ⊥
+IsOnTerm (gen runs k) = ⊥
+IsOnTerm _ = Unit {0}
 
 -- the numbers of a job are within the limits of their options
 abbrev pub IsWithinLimits : Asked → Type 0
 IsWithinLimits (run workers fuel heads name) = (1 ≤ workers) × (workers ≤ 64) × (fuel ≤ 2000000) × (1 ≤ heads)
 IsWithinLimits (walk edges heads name) = 1 ≤ heads
+IsWithinLimits (view after name) = after ≤ 2000000
+IsWithinLimits (trace workers fuel name) = (1 ≤ workers) × (workers ≤ 64) × (fuel ≤ 2000000)
+IsWithinLimits (check term journal) = Unit {0}
+IsWithinLimits (gen runs k) = k ≤ 10
 
--- how many files a job has
+-- how many files a job has, and how many the words name, which is none where they ask for nothing
+abbrev pub count_of_files : Asked → ℕ
+count_of_files asked = length (names_of asked)
+
 abbrev pub files_of : List (String Global) → ℕ
-files_of words = if is_some (job_of (texts_of words)) then 1 else 0
+files_of words = option_map_or count_of_files (job_of (texts_of words)) 0
 
 -- each name of a file that the words ask for is known
 abbrev pub IsKnownTo : (Text → Bool) → List (String Global) → Type 0
-IsKnownTo knows words = (asked : Asked) → AskFor words asked → knows (name_of asked) ≡ true
+IsKnownTo knows words = (asked : Asked) → AskFor words asked → list_all knows (names_of asked) ≡ true
 
--- these are the bytes of the file that the words ask for, where they ask for one
+-- the bytes of each file that the words ask for are told
+abbrev pub TellsFiles : (Text → Option (List ℕ)) → List (String Global) → Type 0
+TellsFiles contents words =
+    (asked : Asked) → AskFor words asked → list_all (λ name. is_some (contents name)) (names_of asked) ≡ true
+
+-- these are the bytes of the file with the term that the words ask for, where they ask for one
 abbrev pub TellsFile : (Text → Option (List ℕ)) → List (String Global) → List ℕ → Type 0
 TellsFile contents words bytes = (asked : Asked) → AskFor words asked → contents (name_of asked) ≡ Some bytes

@@ -1,17 +1,27 @@
 -- The laws of answers.
-use Rattle.std.specs.Prelude.{◌≡◌, ℕ, List, length, String}
+use Rattle.std.specs.Prelude.{◌≡◌, ℕ, List, length, Option, String}
 use Rattle.std.specs.declared.alloc.Global.{Global}
 use Rattle.ol_term.specs.Trees.{Tree}
 use Rattle.ol_net.specs.Nets.{IsNet}
 use Rattle.ol_translate.specs.Translation.{translation_of}
 use Rattle.ol_cli.specs.declared.status.Status.{Status}
+use Rattle.ol_words.specs.Lines.{Text}
+use Rattle.ol_words.specs.Jobs.{Asked, view, trace}
+use Rattle.ol_cli.specs.Jobs.{AskFor}
 use Rattle.ol_cli.specs.Answers.{IsAnswer}
 use Rattle.ol_cli.specs.Evaluation.{Prints, Walks}
 
--- The same words and bytes have one answer: each status and each text comes just where the answer is that.
+-- a job whose answer is one text: what `trace` writes is any of many, and of `view` this isn't said here
+abbrev pub TellsOne : Asked → Type 0
+TellsOne (view after name) = ⊥
+TellsOne (trace workers fuel name) = ⊥
+TellsOne _ = Unit {0}
+
+-- The same words and files have one answer: each status and each text comes just where the answer is that.
 abbrev pub OneAnswer : Type 0
-OneAnswer = (words : List (String Global)) (bytes : List ℕ) (status status' : Status) (text text' : List ℕ) →
-    IsAnswer words bytes status text → IsAnswer words bytes status' text' → (status ≡ status') × (text ≡ text')
+OneAnswer = (words : List (String Global)) (files : Text → Option (List ℕ)) (status status' : Status) (text text' : List ℕ) →
+    ((asked : Asked) → AskFor words asked → TellsOne asked) →
+    IsAnswer words files status text → IsAnswer words files status' text' → (status ≡ status') × (text ≡ text')
 
 -- However the answer to a term is come by, one tree is printed, one term and one number of stuck pairs.
 abbrev pub OneTreeIsPrinted : Type 0

@@ -8,3 +8,4 @@ pub mod Sources
 pub mod Trees
 pub mod Laws
 pub mod Handed
+pub mod Prepared

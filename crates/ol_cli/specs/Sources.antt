@@ -35,10 +35,11 @@ pub record WalksTree (t : Tree) (names : List (List ℕ)) (edges heads : ℕ) (t
   pub own_heads : HasHeadsOf (translation_of t (length names)) false walks.tree
   pub read_again : HasAllHeads walks.tree → IsReadBack names walks.tree walks.term
 
--- what a job prints of a term, with the facts of its tree
+-- what a job prints of a term, with the facts of its tree, if it prints one
 abbrev pub TellsTree : Asked → Tree → List (List ℕ) → List ℕ → Type 0
 TellsTree (run workers fuel heads name) t names text = PrintsTree t names fuel heads text
 TellsTree (walk edges heads name) t names text = WalksTree t names edges heads text
+TellsTree _ t names text = Unit {0}
 
 -- The text was written for the term of the job's file, and these are the facts of its tree.
 abbrev pub WritesTree : List (String Global) → List ℕ → Option (List ℕ) → Option (List ℕ) → Type 0

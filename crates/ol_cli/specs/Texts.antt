@@ -2,6 +2,8 @@
 use Rattle.std.specs.Prelude.{ℕ, List, [], ◌∷◌, ◌++◌, codes}
 use Rattle.std.specs.Fmt.{decimal}
 use Rattle.ol_rules.specs.declared.journal.Counts.{Counts}
+use Rattle.ol_view.specs.declared.answers.Check.{Check}
+use Rattle.ol_view.specs.declared.answers.Check.TheVariants as check
 
 -- the words and a line feed
 abbrev pub line : List ℕ → List ℕ
@@ -26,11 +28,25 @@ depth_text = line (codes "limit depth 1000")
 abbrev pub nodes_text : List ℕ
 nodes_text = line (codes "limit nodes 200000")
 
+abbrev pub journal_text : List ℕ
+journal_text = line (codes "limit journal 67108864")
+
 abbrev pub syntax_text : ℕ → List ℕ
 syntax_text at = count_line (codes "syntax at byte") at
 
 abbrev pub spent_text : ℕ → List ℕ
 spent_text fuel = count_line (codes "fuel") fuel
+
+-- what is found of a journal
+abbrev pub found_text : Check → List ℕ
+found_text check.Complete = line (codes "complete")
+found_text (check.Run k) = count_line (codes "run") k
+found_text (check.BadText l) = count_line (codes "bad text at line") l
+found_text (check.NotARun l) = count_line (codes "not a run at line") l
+
+-- the line of the number of steps, and the net after them as it is shown
+abbrev pub view_text : ℕ → List ℕ → List ℕ
+view_text steps shown = count_line (codes "step") steps ++ shown
 
 -- the line of the term, and the nine lines: the number of interactions of each rule, and of the pairs that are stuck
 abbrev pub answer_text : List ℕ → Counts → ℕ → List ℕ

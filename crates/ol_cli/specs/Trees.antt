@@ -1,29 +1,23 @@
--- What a term is answered once its depth is within the limit.
-use Rattle.std.specs.Prelude.{◌≡◌, ℕ, ◌≤◌, ◌<◌, List, Option, Some, String}
+-- What is read again of the answer to a term.
+use Rattle.std.specs.Prelude.{◌≡◌, ℕ, List, Option, Some, String}
 use Rattle.std.specs.declared.alloc.Global.{Global}
 use Rattle.ol_io.specs.Outside.{Appended}
 use Rattle.ol_term.specs.Trees.{Tree}
 use Rattle.ol_parse.specs.Parsed.{IsFileOf, AreNames}
-use Rattle.ol_translate.specs.Sizes.{size_of_translation}
 use Rattle.ol_readback.specs.Terms.{HasAllHeads, IsReadBack}
 use Rattle.ol_words.specs.Lines.{Text}
 use Rattle.ol_words.specs.Jobs.{Asked, run, walk}
 use Rattle.ol_cli.specs.declared.status.Status.{Status}
 use Rattle.ol_cli.specs.declared.status.Status.TheVariants as status
-use Rattle.ol_cli.specs.Texts.{nodes_text}
 use Rattle.ol_cli.specs.Jobs.{AskFor, name_of}
-use Rattle.ol_cli.specs.Answers.{TermAnswer}
 use Rattle.ol_cli.specs.Evaluation.{Prints, Walks}
 
--- its translation has too many nodes, or the job is done on it
-abbrev pub TreeAnswer : Asked → Tree → List (List ℕ) → Status → List ℕ → Type 0
-TreeAnswer asked t names status.Limit text = (200000 < size_of_translation t) × (text ≡ nodes_text)
-TreeAnswer asked t names st text = (size_of_translation t ≤ 200000) × TermAnswer asked t names st text
-
--- What a job answers to a term, and that the tree whose text it prints is read again, where each of its places has a head.
+-- What a job answers to a term, and that the tree whose text it prints is read again, where each of its places has a head. The other
+-- jobs print no tree.
 abbrev pub TextIsReadAgain : Asked → Tree → List (List ℕ) → List ℕ → Type 0
 TextIsReadAgain (run workers fuel heads name) t names text = (p : Prints t names fuel heads text) × (HasAllHeads p.shows.tree → IsReadBack names p.shows.tree p.shows.term)
 TextIsReadAgain (walk edges heads name) t names text = (w : Walks t names edges heads text) × (HasAllHeads w.tree → IsReadBack names w.tree w.term)
+TextIsReadAgain _ t names text = Unit {0}
 
 -- where the job is done, its text is read again by these names, if they are names of the grammar
 abbrev pub AnswerIsReadAgain : Asked → Tree → List (List ℕ) → Status → List ℕ → Type 0

@@ -1,28 +1,28 @@
 //! The job itself: from the bytes of a term file to a text and a status.
 ghost use Rattle.std.specs.Prelude.{◌≡◌, ◌≤◌, ◌<◌, ◌+◌, ◌*◌, ℕ, List, length, count_by, is_some, IfOk, true};
-ghost use Rattle.ol_term.specs.Trees.{Tree, tree_of, has_name, depth};
+ghost use Rattle.ol_term.specs.Trees.{Tree, tree_of};
 ghost use Rattle.ol_net.specs.Numbered.{net_of};
 ghost use Rattle.ol_net.specs.Nets.{SameNet};
-ghost use Rattle.ol_parse.specs.Parsed.{IsFileOf};
 ghost use Rattle.ol_translate.specs.Translation.{translation_of};
 ghost use Rattle.ol_wire.specs.Sizes.{IsSmallNet};
 ghost use Rattle.ol_words.specs.Jobs.{Asked, asked_by, run, walk};
-ghost use Rattle.ol_cli.specs.Jobs.{IsWithinLimits};
-ghost use Rattle.ol_cli.specs.Trees.{TreeAnswer, AnswerIsReadAgain, FileIsReadAgain};
-ghost use Rattle.ol_cli.specs.Answers.{FileAnswer, RunAnswer, TermAnswer};
-ghost use Rattle.ol_cli.specs.Evaluation.{Walks};
-ghost use Rattle.ol_cli.specs.Handed.{WhereEnded, FileHands, TermHands, RunHands};
+ghost use Rattle.ol_cli.specs.Jobs.{IsOnTerm, IsWithinLimits};
+ghost use Rattle.ol_cli.specs.Trees.{AnswerIsReadAgain, FileIsReadAgain};
+ghost use Rattle.ol_cli.specs.Answers.{FileAnswer, RunAnswer, TermAnswer, TraceAnswer, plain_run};
+ghost use Rattle.ol_cli.specs.Evaluation.{Views, Walks};
+ghost use Rattle.ol_cli.specs.Handed.{WhereEnded, FileHands, TermHands, RunHands, TraceHands};
+ghost use Rattle.ol_cli.specs.Prepared.{IsNetOf};
 
+use crate::preparing::{Prepared, prepare};
 use crate::status::Status;
-use crate::texts::{answer_lines, line, spent_line, syntax_line, term_line};
+use crate::texts::{answer_lines, spent_line, term_line, view_lines};
 use ol_io::{Gate, NoMemory};
 use ol_net::Net;
-use ol_parse::{ParseFault, parse};
 use ol_readback::{read_back, tree_text};
 use ol_reduce::{Reduced, reduce};
 use ol_rules::counts;
-use ol_term::{Names, TermFile};
-use ol_translate::{TransFault, translate};
+use ol_term::TermFile;
+use ol_view::{after, show, trace_text};
 use ol_wire::Words;
 use ol_words::Job;
 use std::alloc::Global;
@@ -31,8 +31,8 @@ use std::thread::Threads;
 
 /// A text that is to be written, and the status that goes with it.
 ///
-/// `closed` are the closed words of the workers' table, where the job was `run` and its work came to an
-/// end, or used up its fuel.
+/// `closed` are the closed words of the workers' table, where the job has workers and their work came to
+/// an end, or used up its fuel.
 #[derive(Drop)]
 pub struct Answer {
     pub text: Vec<u8>,
@@ -48,7 +48,14 @@ struct RunNumbers {
     heads: u32,
 }
 
-/// The answer to the bytes of a job's file, none of which are past the limit.
+// The numbers of `run` without options.
+const PLAIN_RUN: RunNumbers = RunNumbers {
+    workers: 4,
+    fuel: 200_000,
+    heads: 4_096,
+};
+
+/// The answer to the bytes of a job's one file, none of which are past the limit.
 pub fn evaluate<R: Threads + Wait + Sync, G: Gate + Sync>(
     rt: &R,
     alloc: Global,
@@ -57,74 +64,40 @@ pub fn evaluate<R: Threads + Wait + Sync, G: Gate + Sync>(
     gate: &G,
 ) -> Result<Answer, NoMemory>
     requires short { length bytes.now ≤ 1048576 }
+    requires on_term { IsOnTerm (asked_by job.now) }
     requires within { IsWithinLimits (asked_by job.now) }
     ensures answer { IfOk result (λ a. FileAnswer (asked_by job.now) bytes.now a.status a.text.items) }
     ensures read { IfOk result (λ a. FileIsReadAgain (asked_by job.now) bytes.now a.status a.text.items) }
     ensures closed { IfOk result (λ a. WhereEnded a.status a.closed
         (FileHands (asked_by job.now) bytes.now a.status a.text.items a.closed)) }
 {
-    match parse(alloc, bytes) {
-        Ok(file) => {
-            let answer = evaluate_file(rt, alloc, job, &file, gate)?;
+    match prepare(alloc, bytes)? {
+        Prepared::Refused(answer) => Ok(answer),
+        Prepared::Net { net, file } => {
+            let answer = evaluate_net(rt, alloc, job, &net, &file, gate)?;
             Ok(answer)
         }
-        Err(fault) => match fault {
-            ParseFault::NoMemory => Err(NoMemory),
-            ParseFault::Syntax { at } => {
-                let text = syntax_line(alloc, at)?;
-                let status = Status::Syntax;
-                Ok(Answer {
-                    text,
-                    status,
-                    closed: None,
-                })
-            }
-            ParseFault::Depth { .. } => {
-                let text = line(alloc, "limit depth 1000")?;
-                let status = Status::Limit;
-                Ok(Answer {
-                    text,
-                    status,
-                    closed: None,
-                })
-            }
-        },
     }
 }
 
-// The answer to a term that is within the limit of depth.
-fn evaluate_file<R: Threads + Wait + Sync, G: Gate + Sync>(
+/// The answer of `run` without options to a text that is made.
+pub fn run_made<R: Threads + Wait + Sync, G: Gate + Sync>(
     rt: &R,
     alloc: Global,
-    job: &Job,
-    file: &TermFile,
+    bytes: &[u8],
     gate: &G,
 ) -> Result<Answer, NoMemory>
-    requires each_name { (k : ℕ) → k < length file.now.names → has_name k (tree_of file.now.term) ≡ true }
-    requires shallow { depth (tree_of file.now.term) ≤ 1000 }
-    requires within { IsWithinLimits (asked_by job.now) }
-    ensures answer { IfOk result (λ a. TreeAnswer (asked_by job.now) (tree_of file.now.term) file.now.names a.status a.text.items) }
-    ensures read { IfOk result (λ a. AnswerIsReadAgain (asked_by job.now) (tree_of file.now.term) file.now.names a.status a.text.items) }
+    requires short { length bytes.now ≤ 1048576 }
+    ensures answer { IfOk result (λ a. FileAnswer plain_run bytes.now a.status a.text.items) }
     ensures closed { IfOk result (λ a. WhereEnded a.status a.closed
-        (TermHands (asked_by job.now) (tree_of file.now.term) file.now.names a.status a.text.items a.closed)) }
+        (FileHands plain_run bytes.now a.status a.text.items a.closed)) }
 {
-    match translate(alloc, file) {
-        Ok(net) => {
-            let answer = evaluate_net(rt, alloc, job, &net, file, gate)?;
+    match prepare(alloc, bytes)? {
+        Prepared::Refused(answer) => Ok(answer),
+        Prepared::Net { net, file } => {
+            let answer = run_net(rt, alloc, &net, &file, PLAIN_RUN, gate)?;
             Ok(answer)
         }
-        Err(fault) => match fault {
-            TransFault::NoMemory => Err(NoMemory),
-            TransFault::TooMany => {
-                let text = line(alloc, "limit nodes 200000")?;
-                let status = Status::Limit;
-                Ok(Answer {
-                    text,
-                    status,
-                    closed: None,
-                })
-            }
-        },
     }
 }
 
@@ -137,9 +110,8 @@ fn evaluate_net<R: Threads + Wait + Sync, G: Gate + Sync>(
     file: &TermFile,
     gate: &G,
 ) -> Result<Answer, NoMemory>
-    requires net { SameNet (net_of net.now) (translation_of (tree_of file.now.term) (length file.now.names)) }
-    requires whole { count_by is_some net.now.nodes ≡ length net.now.nodes }
-    requires small { IsSmallNet net.now }
+    requires net { IsNetOf (tree_of file.now.term) file.now.names net.now }
+    requires on_term { IsOnTerm (asked_by job.now) }
     requires within { IsWithinLimits (asked_by job.now) }
     ensures answer { IfOk result (λ a. TermAnswer (asked_by job.now) (tree_of file.now.term) file.now.names a.status a.text.items) }
     ensures read { IfOk result (λ a. AnswerIsReadAgain (asked_by job.now) (tree_of file.now.term) file.now.names a.status a.text.items) }
@@ -170,6 +142,21 @@ fn evaluate_net<R: Threads + Wait + Sync, G: Gate + Sync>(
                 closed: None,
             })
         }
+        Job::View { after, .. } => {
+            let text = view_net(alloc, net, *after)?;
+            let status = Status::Done;
+            Ok(Answer {
+                text,
+                status,
+                closed: None,
+            })
+        }
+        Job::Trace { workers, fuel, .. } => {
+            let answer = trace_net(rt, alloc, net, *workers, *fuel, gate)?;
+            Ok(answer)
+        }
+        Job::Check { .. } => unreachable!(),
+        Job::Gen { .. } => unreachable!(),
     }
 }
 
@@ -183,9 +170,7 @@ fn run_net<R: Threads + Wait + Sync, G: Gate + Sync>(
     numbers: RunNumbers,
     gate: &G,
 ) -> Result<Answer, NoMemory>
-    requires net { SameNet (net_of net.now) (translation_of (tree_of file.now.term) (length file.now.names)) }
-    requires whole { count_by is_some net.now.nodes ≡ length net.now.nodes }
-    requires small { IsSmallNet net.now }
+    requires net { IsNetOf (tree_of file.now.term) file.now.names net.now }
     requires workers { (1 ≤ numbers.workers) × (numbers.workers ≤ 64) }
     requires fuel { numbers.fuel ≤ 2000000 }
     requires heads { 1 ≤ numbers.heads }
@@ -246,4 +231,67 @@ fn walk_net(
     let tree = read_back(alloc, net, heads, edges)?;
     let term = tree_text(alloc, &tree, &file.names)?;
     term_line(alloc, &term)
+}
+
+// The net is rewritten by leads, one after another, and shown. This holds of each term whose net it is.
+fn view_net(alloc: Global, net: &Net, leads: u32) -> Result<Vec<u8>, NoMemory>
+    requires small { IsSmallNet net.now }
+    requires leads { leads ≤ 2000000 }
+    ensures { IfOk result (λ text. (t : Tree) (names : List (List ℕ)) → IsNetOf t names net.now
+        → Views t names leads text.items) }
+{
+    let last = after(alloc, net, leads)?;
+    let shown = show(alloc, &last.net)?;
+    view_lines(alloc, last.steps, &shown)
+}
+
+// The net is rewritten by the workers, and their journal is traced. This holds of each term whose net it
+// is.
+fn trace_net<R: Threads + Wait + Sync, G: Gate + Sync>(
+    rt: &R,
+    alloc: Global,
+    net: &Net,
+    workers: u32,
+    fuel: u32,
+    gate: &G,
+) -> Result<Answer, NoMemory>
+    requires whole { count_by is_some net.now.nodes ≡ length net.now.nodes }
+    requires small { IsSmallNet net.now }
+    requires workers { (1 ≤ workers) × (workers ≤ 64) }
+    requires fuel { fuel ≤ 2000000 }
+    ensures answer { IfOk result (λ a. (t : Tree) (names : List (List ℕ)) → IsNetOf t names net.now
+        → TraceAnswer t names fuel a.status a.text.items) }
+    ensures closed { IfOk result (λ a. (t : Tree) (names : List (List ℕ)) → IsNetOf t names net.now
+        → TraceHands t names workers fuel a.status a.text.items a.closed) }
+{
+    net.is_net();
+    let reduced = reduce(rt, alloc, net, workers, fuel, gate)?;
+    match reduced {
+        Reduced::Spent { journal, words } => {
+            words.once();
+            let text = trace_text(alloc, &journal)?;
+            let status = Status::Spent;
+            let closed = Some(words);
+            Ok(Answer {
+                text,
+                status,
+                closed,
+            })
+        }
+        Reduced::Done {
+            net: _,
+            journal,
+            words,
+        } => {
+            words.once();
+            let text = trace_text(alloc, &journal)?;
+            let status = Status::Done;
+            let closed = Some(words);
+            Ok(Answer {
+                text,
+                status,
+                closed,
+            })
+        }
+    }
 }

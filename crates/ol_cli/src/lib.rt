@@ -1,10 +1,13 @@
 //! The top call: from words to a text on a sink and a status.
 #![tactic(auto)]
 
+#[cfg(test)]
+mod command_tests;
 mod evaluation;
 mod laws;
 #[cfg(test)]
 mod order_tests;
+mod preparing;
 mod status;
 #[cfg(test)]
 mod tests;

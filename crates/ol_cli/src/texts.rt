@@ -1,9 +1,10 @@
 //! The texts that the program writes.
 ghost use Rattle.std.specs.Prelude.{◌≡◌, ◌++◌, IfOk, OnOk};
-ghost use Rattle.ol_cli.specs.Texts.{line, count_line, syntax_text, spent_text, answer_text};
+ghost use Rattle.ol_cli.specs.Texts.{line, count_line, syntax_text, spent_text, found_text, view_text, answer_text};
 
 use ol_io::NoMemory;
 use ol_rules::Counts;
+use ol_view::Check;
 use std::alloc::Global;
 
 /// The words and a line feed.
@@ -30,9 +31,30 @@ pub fn syntax_line(alloc: Global, at: usize) -> Result<Vec<u8>, NoMemory>
 pub fn spent_line(alloc: Global, fuel: u32) -> Result<Vec<u8>, NoMemory>
     ensures { IfOk result (λ text. text.items ≡ spent_text fuel) }
 {
-    let mut text = Vec::new(alloc);
-    add_count(alloc, &mut text, "fuel", fuel)?;
-    Ok(text)
+    count_line(alloc, "fuel", fuel)
+}
+
+/// What a journal is found to be.
+pub fn found_line(alloc: Global, found: Check) -> Result<Vec<u8>, NoMemory>
+    ensures { IfOk result (λ text. text.items ≡ found_text found) }
+{
+    match found {
+        Check::Complete => line(alloc, "complete"),
+        Check::Run { k } => count_line(alloc, "run", k),
+        Check::BadText { line } => count_line(alloc, "bad text at line", line),
+        Check::NotARun { line } => count_line(alloc, "not a run at line", line),
+    }
+}
+
+/// The line of a number of steps, and the net after them as it is shown.
+pub fn view_lines(alloc: Global, steps: u32, shown: &[u8]) -> Result<Vec<u8>, NoMemory>
+    ensures { IfOk result (λ text. text.items ≡ view_text steps shown.now) }
+{
+    let mut text = count_line(alloc, "step", steps)?;
+    match text.extend_from_slice(shown) {
+        Ok(()) => Ok(text),
+        Err(_) => Err(NoMemory),
+    }
 }
 
 /// The lines of a run that ended: its term, the interactions of each rule, and the pairs that are
@@ -68,6 +90,15 @@ pub fn term_line(alloc: Global, term: &[u8]) -> Result<Vec<u8>, NoMemory>
     let Ok(()) = text.push(10) else {
         return Err(NoMemory);
     };
+    Ok(text)
+}
+
+// A name, a space, a number and a line feed.
+fn count_line(alloc: Global, name: &str, count: u32) -> Result<Vec<u8>, NoMemory>
+    ensures { IfOk result (λ text. text.items ≡ count_line name.now count) }
+{
+    let mut text = Vec::new(alloc);
+    add_count(alloc, &mut text, name, count)?;
     Ok(text)
 }
 

@@ -1,17 +1,26 @@
 //! The top call.
-ghost use Rattle.std.specs.Prelude.{List, ℕ, ◌≢◌, ◌≤◌, ◌+◌, ◌≡◌, ◌<◌, ◌⊎◌, true, length, IfOk, Some};
+ghost use Rattle.std.specs.Prelude.{List, ℕ, ◌≢◌, ◌≤◌, ◌+◌, ◌≡◌, ◌<◌, ◌⊎◌, true, length, IfOk, None, Some};
+ghost use Rattle.std.specs.List.{list_all};
 ghost use Rattle.ol_io.specs.Outside.{Rose, Appended};
-ghost use Rattle.ol_words.specs.Jobs.{asked_by};
-ghost use Rattle.ol_cli.specs.Jobs.{AskForNothing, IsKnownTo, IsWithinLimits, TellsFile, files_of, name_of};
-ghost use Rattle.ol_cli.specs.Answers.{seen, Cause, Ends, IsAnswer, JobCause};
+ghost use Rattle.ol_term.specs.Trees.{Tree};
+ghost use Rattle.ol_wire.specs.Sizes.{IsSmallNet};
+ghost use Rattle.ol_words.specs.Jobs.{asked_by, check};
+ghost use Rattle.ol_cli.specs.Texts.{line};
+ghost use Rattle.ol_cli.specs.Jobs.{AskForNothing, IsKnownTo, IsOnTerm, IsWithinLimits, TellsFile, TellsFiles, count_of_files, files_of, name_of, names_of};
+ghost use Rattle.ol_cli.specs.Answers.{seen, Cause, EndsJournal, Ends, FileCause, IsAnswer, JobCause, Makes};
+ghost use Rattle.ol_cli.specs.Prepared.{IsNetOf};
 ghost use Rattle.ol_cli.specs.Sources.{EveryRunTells, WritesTree};
 ghost use Rattle.ol_cli.specs.Trees.{FileIsReadAgain, WordsAreReadAgain, WritesReadable};
-ghost use Rattle.ol_cli.specs.Handed.{Hands, JobHands, WhereEnded, WordsHand};
+ghost use Rattle.ol_cli.specs.Handed.{Hands, JobHands, MakingHands, ReadHands, WhereEnded, WordsHand};
 
-use crate::evaluation::{Answer, evaluate};
+use crate::evaluation::{Answer, evaluate, run_made};
+use crate::preparing::{Prepared, prepare};
 use crate::status::Status;
-use crate::texts::line;
+use crate::texts::{found_line, line};
 use ol_io::{Gate, NoMemory, ReadAll, Sink, Source, Written, read_all, write_all};
+use ol_net::Net;
+use ol_term::{Made, make};
+use ol_view::check;
 use ol_wire::Words;
 use ol_words::{Job, UsageFault, job};
 use std::alloc::Global;
@@ -20,6 +29,9 @@ use std::thread::Threads;
 
 /// The greatest number of bytes of a term file.
 const MOST_BYTES: usize = 1_048_576;
+
+/// The greatest number of bytes of a journal file.
+const MOST_JOURNAL_BYTES: usize = 67_108_864;
 
 /// How a call of `ol` ended.
 ///
@@ -73,7 +85,7 @@ pub fn ol<R: Threads + Wait + Sync, S: Source, W: Sink, G: Gate + Sync>(
     out: &mut W,
     gate: &G,
 ) -> Outcome
-    // The source knows the name of the job's file.
+    // The source knows the names of the job's files.
     requires known { IsKnownTo (S.knows src.old) words.now.items }
 
     // Each status has its cause, and its text is appended whole, or a prefix of it where the sink failed.
@@ -81,10 +93,11 @@ pub fn ol<R: Threads + Wait + Sync, S: Source, W: Sink, G: Gate + Sync>(
         (seen (S.faults src.old) (S.faults src.new) (S.contents src.old) (S.given src.new) (S.ended src.new))
         result.status (W.faults out.old) (W.faults out.new) (W.taken out.old) (W.taken out.new) }
 
-    // Where the source tells the bytes of the job's file and nothing fails, the status and the text are those of the answer.
-    ensures exact { (bytes : List ℕ) → TellsFile (S.contents src.old) words.now.items bytes
+    // Where the source tells the bytes of the job's files and nothing fails, the status and the text are those of the answer.
+    ensures exact { TellsFiles (S.contents src.old) words.now.items
         → ¬ Rose (S.faults src.old) (S.faults src.new) → ¬ Rose (W.faults out.old) (W.faults out.new) → result.status ≢ Status.NoMemory
-        → (text : List ℕ) × IsAnswer words.now.items bytes result.status text × Appended (W.taken out.old) text (W.taken out.new) }
+        → (text : List ℕ) × IsAnswer words.now.items (S.contents src.old) result.status text
+        × Appended (W.taken out.old) text (W.taken out.new) }
 
     // And where such a job is done, two facts hold of the tree whose text is written. Each of its heads is the one that paths of
     // any length give in the untouched net of the file's own term; so is each `?`, for `run` where the printed `stuck` is 0, while
@@ -111,17 +124,17 @@ pub fn ol<R: Threads + Wait + Sync, S: Source, W: Sink, G: Gate + Sync>(
     ensures usage { result.status ≡ Status.Usage → AskForNothing words.now.items }
     ensures usage_told { AskForNothing words.now.items → (result.status ≡ Status.Usage) ⊎ ((result.status ≡ Status.WriteFault) ⊎ (result.status ≡ Status.NoMemory)) }
 
-    // `Done` comes after the end of the input was seen.
-    ensures done { result.status ≡ Status.Done → S.ended src.new ≡ true }
+    // `Done` of a job with a file comes after the end of the input was seen.
+    ensures done { 0 < files_of words.now.items → result.status ≡ Status.Done → S.ended src.new ≡ true }
 
-    // Where a job `run` was done or its fuel was spent, the closed words are those of a table that was made from the net of the
-    // file's term, with the job's fuel and as many seats as the job has workers, and the text is what their journal tells. In every
-    // other case there are none.
+    // Where `run`, `trace` or `gen --run` was done or its fuel was spent, the closed words are those of a table that was made from the
+    // net of the job's term, with the job's fuel and as many seats as the job has workers, which for `gen --run` are those of `run`
+    // without options, and the text is what their journal tells. In every other case there are none.
     ensures closed { Hands words.now.items
         (seen (S.faults src.old) (S.faults src.new) (S.contents src.old) (S.given src.new) (S.ended src.new))
         result.status result.closed (W.taken out.old) (W.taken out.new) }
 
-    // It begins one name at most, and where there is no job none. It knows of no name but that of its job's file.
+    // It begins as many names at most as the job has files. It knows of no name but those of its job's files.
     ensures begins { S.begins src.new ≤ S.begins src.old + files_of words.now.items }
 {
     answer(rt, alloc, words, src, out, gate)
@@ -221,37 +234,62 @@ fn answer_job<R: Threads + Wait + Sync, S: Source, G: Gate + Sync>(
     src: &mut S,
     gate: &G,
 ) -> Result<Answer, NoMemory>
-    requires known { S.knows src.old (name_of (asked_by job.now)) ≡ true }
+    requires known { list_all (S.knows src.old) (names_of (asked_by job.now)) ≡ true }
     requires within { IsWithinLimits (asked_by job.now) }
-    ensures caused { IfOk result (λ a. JobCause (asked_by job.now)
+    ensures caused { IfOk result (λ a. JobCause
         (seen (S.faults src.old) (S.faults src.new) (S.contents src.old) (S.given src.new) (S.ended src.new))
-        a.status a.text.items) }
+        a.status a.text.items (asked_by job.now)) }
     ensures read { IfOk result (λ a. (bytes : List ℕ) → S.contents src.old (name_of (asked_by job.now)) ≡ Some bytes
         → FileIsReadAgain (asked_by job.now) bytes a.status a.text.items) }
     ensures closed { IfOk result (λ a. WhereEnded a.status a.closed (JobHands (asked_by job.now)
         (seen (S.faults src.old) (S.faults src.new) (S.contents src.old) (S.given src.new) (S.ended src.new))
         a.status a.text.items a.closed)) }
+    ensures begins { S.begins src.new ≤ S.begins src.old + count_of_files (asked_by job.now) }
+{
+    match job {
+        Job::Run { name, .. } => answer_file(rt, alloc, job, name.as_str(), src, gate),
+        Job::Walk { name, .. } => answer_file(rt, alloc, job, name.as_str(), src, gate),
+        Job::View { name, .. } => answer_file(rt, alloc, job, name.as_str(), src, gate),
+        Job::Trace { name, .. } => answer_file(rt, alloc, job, name.as_str(), src, gate),
+        Job::Check { term, journal } => {
+            answer_check(alloc, term.as_str(), journal.as_str(), src)
+        }
+        Job::Gen { run, k } => answer_made(rt, alloc, *run, *k, gate),
+    }
+}
+
+// The text of a job on one file, which has this name, and its status.
+fn answer_file<R: Threads + Wait + Sync, S: Source, G: Gate + Sync>(
+    rt: &R,
+    alloc: Global,
+    job: &Job,
+    name: &str,
+    src: &mut S,
+    gate: &G,
+) -> Result<Answer, NoMemory>
+    requires name { name.now ≡ name_of (asked_by job.now) }
+    requires known { S.knows src.old name.now ≡ true }
+    requires on_term { IsOnTerm (asked_by job.now) }
+    requires within { IsWithinLimits (asked_by job.now) }
+    ensures caused { IfOk result (λ a. FileCause (asked_by job.now)
+        (seen (S.faults src.old) (S.faults src.new) (S.contents src.old) (S.given src.new) (S.ended src.new))
+        a.status a.text.items) }
+    ensures read { IfOk result (λ a. (bytes : List ℕ) → S.contents src.old (name_of (asked_by job.now)) ≡ Some bytes
+        → FileIsReadAgain (asked_by job.now) bytes a.status a.text.items) }
+    ensures closed { IfOk result (λ a. WhereEnded a.status a.closed (ReadHands (asked_by job.now)
+        (seen (S.faults src.old) (S.faults src.new) (S.contents src.old) (S.given src.new) (S.ended src.new))
+        a.status a.text.items a.closed)) }
     ensures begins { S.begins src.new ≤ S.begins src.old + 1 }
 {
-    match read_all(alloc, src, file_name(job), MOST_BYTES) {
+    match read_all(alloc, src, name, MOST_BYTES) {
         Err(ReadAll::NoMemory) => Err(NoMemory),
         Err(ReadAll::Fault) => {
-            let text = line(alloc, "read fault")?;
-            let status = Status::ReadFault;
-            Ok(Answer {
-                text,
-                status,
-                closed: None,
-            })
+            let answer = refusal(alloc, "read fault", Status::ReadFault)?;
+            Ok(answer)
         }
         Err(ReadAll::TooLong) => {
-            let text = line(alloc, "limit bytes 1048576")?;
-            let status = Status::Limit;
-            Ok(Answer {
-                text,
-                status,
-                closed: None,
-            })
+            let answer = refusal(alloc, "limit bytes 1048576", Status::Limit)?;
+            Ok(answer)
         }
         Ok(bytes) => {
             let answer = evaluate(rt, alloc, job, &bytes, gate)?;
@@ -260,12 +298,120 @@ fn answer_job<R: Threads + Wait + Sync, S: Source, G: Gate + Sync>(
     }
 }
 
-// The name of the job's file.
-fn file_name(job: &Job) -> &str
-    ensures name { result.now ≡ name_of (asked_by job.now) }
+// A line that tells why there is no answer.
+fn refusal(alloc: Global, words: &str, status: Status) -> Result<Answer, NoMemory>
+    ensures text { IfOk result (λ a. a.text.items ≡ line words.now) }
+    ensures status { IfOk result (λ a. a.status ≡ status) }
+    ensures closed { IfOk result (λ a. a.closed ≡ None) }
 {
-    match job {
-        Job::Run { name, .. } => name.as_str(),
-        Job::Walk { name, .. } => name.as_str(),
+    let text = line(alloc, words)?;
+    Ok(Answer {
+        text,
+        status,
+        closed: None,
+    })
+}
+
+// The text of `check` on two files, which have these names, and its status.
+fn answer_check<S: Source>(
+    alloc: Global,
+    term: &str,
+    journal: &str,
+    src: &mut S,
+) -> Result<Answer, NoMemory>
+    requires term { S.knows src.old term.now ≡ true }
+    requires journal { S.knows src.old journal.now ≡ true }
+    ensures caused { IfOk result (λ a. JobCause
+        (seen (S.faults src.old) (S.faults src.new) (S.contents src.old) (S.given src.new) (S.ended src.new))
+        a.status a.text.items (check term.now journal.now)) }
+    ensures closed { IfOk result (λ a. a.closed ≡ None) }
+    ensures begins { S.begins src.new ≤ S.begins src.old + 2 }
+{
+    match read_all(alloc, src, term, MOST_BYTES) {
+        Err(ReadAll::NoMemory) => Err(NoMemory),
+        Err(ReadAll::Fault) => {
+            let answer = refusal(alloc, "read fault", Status::ReadFault)?;
+            Ok(answer)
+        }
+        Err(ReadAll::TooLong) => {
+            let answer = refusal(alloc, "limit bytes 1048576", Status::Limit)?;
+            Ok(answer)
+        }
+        Ok(bytes) => match prepare(alloc, &bytes)? {
+            Prepared::Refused(answer) => Ok(answer),
+            Prepared::Net { net, file: _ } => {
+                let answer = answer_journal(alloc, &net, journal, src)?;
+                Ok(answer)
+            }
+        },
+    }
+}
+
+// The text of `check` on a journal file, against a net, and its status. It holds of each term whose net it
+// is.
+fn answer_journal<S: Source>(
+    alloc: Global,
+    net: &Net,
+    name: &str,
+    src: &mut S,
+) -> Result<Answer, NoMemory>
+    requires known { S.knows src.old name.now ≡ true }
+    requires small { IsSmallNet net.now }
+    ensures caused { IfOk result (λ a. (t : Tree) (names : List (List ℕ)) → IsNetOf t names net.now → EndsJournal
+        (seen (S.faults src.old) (S.faults src.new) (S.contents src.old) (S.given src.new) (S.ended src.new))
+        name.now t names a.status a.text.items) }
+    ensures closed { IfOk result (λ a. a.closed ≡ None) }
+    ensures begins { S.begins src.new ≤ S.begins src.old + 1 }
+{
+    match read_all(alloc, src, name, MOST_JOURNAL_BYTES) {
+        Err(ReadAll::NoMemory) => Err(NoMemory),
+        Err(ReadAll::Fault) => {
+            let answer = refusal(alloc, "read fault", Status::ReadFault)?;
+            Ok(answer)
+        }
+        Err(ReadAll::TooLong) => {
+            let answer = refusal(alloc, "limit journal 67108864", Status::Limit)?;
+            Ok(answer)
+        }
+        Ok(bytes) => {
+            let found = check(alloc, net, &bytes)?;
+            let text = found_line(alloc, found)?;
+            let status = Status::Done;
+            Ok(Answer {
+                text,
+                status,
+                closed: None,
+            })
+        }
+    }
+}
+
+// The text that is made, or the answer of `run` to it.
+fn answer_made<R: Threads + Wait + Sync, G: Gate + Sync>(
+    rt: &R,
+    alloc: Global,
+    run: bool,
+    k: u32,
+    gate: &G,
+) -> Result<Answer, NoMemory>
+    requires few { k ≤ 10 }
+    ensures made { IfOk result (λ a. Makes run k a.status a.text.items) }
+    ensures closed { IfOk result (λ a. WhereEnded a.status a.closed (MakingHands run k a.status a.text.items a.closed)) }
+{
+    match make(alloc, k) {
+        Ok(text) => {
+            if run {
+                let answer = run_made(rt, alloc, &text, gate)?;
+                return Ok(answer);
+            }
+            let status = Status::Done;
+            Ok(Answer {
+                text,
+                status,
+                closed: None,
+            })
+        }
+        Err(Made::TooLarge) => unreachable!(),
+        Err(Made::NoMemory) => Err(NoMemory),
     }
 }

@@ -1,34 +1,42 @@
-use Rattle.std.proofs.Common.{refl}
-use Rattle.ol_cli.specs.Answers.{deep}
 use Rattle.ol_term.specs.Trees.{tree_of}
 use Rattle.ol_words.specs.Jobs.{asked_by}
-use Rattle.ol_cli.proofs.Evaluated.{file_answer}
-use Rattle.ol_cli.proofs.ReadAgain.{file_read}
 use Rattle.ol_cli.proofs.Handing.{file_hands}
+use Rattle.ol_cli.proofs.ReadAgain.{file_read}
+use Rattle.ol_cli.proofs.Readied.{refuses_answer, refuses_read, refuses_hands, term_answer}
 use Rattle.ol_cli.proofs.evaluation.evaluate.Goals as goal
 
-pub returns-in_ok-answer-in-Ok-clause-answer : goal.returns-in_ok-answer-in-Ok-clause-answer
-returns-in_ok-answer-in-Ok-clause-answer g c =
-    file_answer (asked_by c.args.job.now) c.args.bytes.now (tree_of c.in-Ok.file.term) c.in-Ok.file.names c.in_ok-answer-in-Ok.answer.status c.in_ok-answer-in-Ok.answer.text.items
-    c.requires.short c.in-Ok.ensures.file c.in-Ok.ensures.shallow c.in_ok-answer-in-Ok.ensures.answer
+pub returns-in_ok-answer-in-Net-clause-answer : goal.returns-in_ok-answer-in-Net-clause-answer
+returns-in_ok-answer-in-Net-clause-answer g c =
+    let ready = rw c.in-Net.is at c.in_ok-answer.ensures.prepared in
+    let a = c.in_ok-answer-in-Net.answer in
+    term_answer (asked_by c.args.job.now) c.args.bytes.now (tree_of c.in-Net.file.term) c.in-Net.file.names ready.term a.status a.text.items c.in_ok-answer-in-Net.ensures.answer
 
-pub returns-in_ok-answer-in-Ok-clause-read : goal.returns-in_ok-answer-in-Ok-clause-read
-returns-in_ok-answer-in-Ok-clause-read g c =
-    file_read (asked_by c.args.job.now) c.args.bytes.now (tree_of c.in-Ok.file.term) c.in-Ok.file.names c.in_ok-answer-in-Ok.answer.status c.in_ok-answer-in-Ok.answer.text.items
-    c.in-Ok.ensures.file c.in-Ok.ensures.names c.in_ok-answer-in-Ok.ensures.read
+pub returns-in_ok-answer-in-Net-clause-closed : goal.returns-in_ok-answer-in-Net-clause-closed
+returns-in_ok-answer-in-Net-clause-closed g c =
+    let ready = rw c.in-Net.is at c.in_ok-answer.ensures.prepared in
+    let a = c.in_ok-answer-in-Net.answer in
+    file_hands (asked_by c.args.job.now) c.args.bytes.now (tree_of c.in-Net.file.term) c.in-Net.file.names ready.term a.status a.text.items a.closed c.in_ok-answer-in-Net.ensures.closed
 
-pub returns-in_ok-text-in-Syntax-clause-answer : goal.returns-in_ok-text-in-Syntax-clause-answer
-returns-in_ok-text-in-Syntax-clause-answer g c =
-    let told = (c.in-Err.ensures.syntax (λ e. absurd (cc)) c.in-Syntax.at).0 (rw c.in-Syntax.is refl) in
-    (c.in-Syntax.at, c.requires.short, told, c.in_ok-text-in-Syntax.ensures)
+pub returns-in-Refused-clause-answer : goal.returns-in-Refused-clause-answer
+returns-in-Refused-clause-answer g c =
+    let refused = rw c.in-Refused.is at c.in_ok-answer.ensures.prepared in
+    let a = c.in-Refused.answer in
+    refuses_answer (asked_by c.args.job.now) c.args.bytes.now a.status a.text.items refused.0
 
-pub returns-in_ok-text-in-Depth-clause-answer : goal.returns-in_ok-text-in-Depth-clause-answer
-returns-in_ok-text-in-Depth-clause-answer g c =
-    let told = (c.in-Err.ensures.too_deep (λ e. absurd (cc)) c.in-Depth.depth).0 (rw c.in-Depth.is refl) in
-    deep c.requires.short told.file (rw told.is at told.above) c.in_ok-text-in-Depth.ensures
+pub returns-in-Refused-clause-closed : goal.returns-in-Refused-clause-closed
+returns-in-Refused-clause-closed g c =
+    let refused = rw c.in-Refused.is at c.in_ok-answer.ensures.prepared in
+    let a = c.in-Refused.answer in
+    refuses_hands c.args.bytes.now a.status a.text.items a.closed _ refused.0 refused.1
 
-pub returns-in_ok-answer-in-Ok-clause-closed : goal.returns-in_ok-answer-in-Ok-clause-closed
-returns-in_ok-answer-in-Ok-clause-closed g c =
-    let a = c.in_ok-answer-in-Ok.answer in
-    file_hands (asked_by c.args.job.now) c.args.bytes.now (tree_of c.in-Ok.file.term) c.in-Ok.file.names a.status a.text.items a.closed
-    c.requires.short c.in-Ok.ensures.file c.in-Ok.ensures.shallow c.in_ok-answer-in-Ok.ensures.answer c.in_ok-answer-in-Ok.ensures.closed
+pub returns-in_ok-answer-in-Net-clause-read : goal.returns-in_ok-answer-in-Net-clause-read
+returns-in_ok-answer-in-Net-clause-read g c =
+    let ready = rw c.in-Net.is at c.in_ok-answer.ensures.prepared in
+    let a = c.in_ok-answer-in-Net.answer in
+    file_read (asked_by c.args.job.now) c.args.bytes.now (tree_of c.in-Net.file.term) c.in-Net.file.names a.status a.text.items ready.term.file ready.named c.in_ok-answer-in-Net.ensures.read
+
+pub returns-in-Refused-clause-read : goal.returns-in-Refused-clause-read
+returns-in-Refused-clause-read g c =
+    let refused = rw c.in-Refused.is at c.in_ok-answer.ensures.prepared in
+    let a = c.in-Refused.answer in
+    refuses_read (asked_by c.args.job.now) c.args.bytes.now a.status a.text.items refused.0

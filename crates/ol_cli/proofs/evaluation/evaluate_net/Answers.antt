@@ -1,3 +1,4 @@
+use Rattle.ol_term.specs.Trees.{tree_of}
 use Rattle.ol_cli.proofs.evaluation.evaluate_net.Goals as goal
 
 pub returns-in_ok-answer-in-Run-clause-read : goal.returns-in_ok-answer-in-Run-clause-read
@@ -8,3 +9,6 @@ returns-in_ok-text-in-Walk-clause-read g c = rw c.in-Walk.is (c.in_ok-text-in-Wa
 
 pub returns-in_ok-answer-in-Run-clause-closed : goal.returns-in_ok-answer-in-Run-clause-closed
 returns-in_ok-answer-in-Run-clause-closed g c = rw c.in-Run.is c.in_ok-answer-in-Run.ensures.closed
+
+pub returns-in_ok-answer-in-Trace-clause-closed : goal.returns-in_ok-answer-in-Trace-clause-closed
+returns-in_ok-answer-in-Trace-clause-closed g c = rw c.in-Trace.is (c.in_ok-answer-in-Trace.ensures.closed (tree_of c.args.file.now.term) c.args.file.now.names c.requires.net)

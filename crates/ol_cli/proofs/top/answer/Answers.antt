@@ -1,6 +1,12 @@
+use Rattle.ol_cli.proofs.Exact.{written_ends}
 use Rattle.ol_cli.proofs.ReadAgain.{written_read}
 use Rattle.ol_cli.proofs.Handing.{text_hands}
 use Rattle.ol_cli.proofs.top.answer.Goals as goal
+
+pub returns-in-All-clause-ends : goal.returns-in-All-clause-ends
+returns-in-All-clause-ends g c =
+    let written = rw c.deref.ensures.value at c.in-All.ensures.bytes in
+    written_ends c.args.words.now.items _ c.in-Ok.field-0.status c.in-Ok.field-0.text.items (g.W.Sink.faults c.args.out.now) (g.W.Sink.faults c.write_all.new.out) (g.W.Sink.taken c.args.out.now) (g.W.Sink.taken c.write_all.new.out) c.in-Ok.ensures.planned c.in-All.ensures.cause written
 
 pub returns-in-All-clause-read_again : goal.returns-in-All-clause-read_again
 returns-in-All-clause-read_again g c =

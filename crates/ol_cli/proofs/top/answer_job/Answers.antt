@@ -1,28 +1,19 @@
-use Rattle.ol_words.specs.Jobs.{asked_by}
-use Rattle.ol_cli.specs.Jobs.{name_of}
-use Rattle.ol_cli.specs.Answers.{Seen, GaveAll}
-use Rattle.ol_cli.proofs.Exact.{read_cause, within_ok}
-use Rattle.ol_cli.proofs.ReadAgain.{told_read}
-use Rattle.ol_cli.proofs.Handing.{job_hands}
+use Rattle.std.proofs.Common.{refl}
+use Rattle.std.proofs.lemmas.Result.{IfOk-weaker}
+use Rattle.ol_cli.specs.Answers.{by_file, by_making}
 use Rattle.ol_cli.proofs.top.answer_job.Goals as goal
 
-pub returns-in_ok-answer-in-Ok-clause-caused : goal.returns-in_ok-answer-in-Ok-clause-caused
-returns-in_ok-answer-in-Ok-clause-caused g c =
-    let s : Seen = record { faults = g.S.Source.faults c.args.src.now; faults' = g.S.Source.faults c.read_all.new.src; contents = g.S.Source.contents c.args.src.now; given = g.S.Source.given c.read_all.new.src; ended = g.S.Source.ended c.read_all.new.src } in
-    let gave_all : GaveAll s (name_of (asked_by c.args.job.now)) c.in-Ok.bytes.items =
-    record { whole = rw c.file_name.ensures.name at c.in-Ok.ensures.whole; counted = c.in-Ok.ensures.counted; within = within_ok _ 1048576 _ c.in-Ok.ensures.too_long; to_end = c.in-Ok.ensures.ended } in
-    read_cause (asked_by c.args.job.now) s c.in_ok-answer-in-Ok.answer.status c.in_ok-answer-in-Ok.answer.text.items c.in-Ok.ensures.cause
-    (c.in-Ok.bytes.items, gave_all, rw c.deref.ensures.value at c.in_ok-answer-in-Ok.ensures.answer)
+pub returns-in-Run-clause-caused : goal.returns-in-Run-clause-caused
+returns-in-Run-clause-caused g c = IfOk-weaker c.answer_file.result _ _ (λ a h. by_file (rw c.in-Run.is tt) h) c.answer_file.ensures.caused
 
-pub returns-in_ok-answer-in-Ok-clause-read : goal.returns-in_ok-answer-in-Ok-clause-read
-returns-in_ok-answer-in-Ok-clause-read g c = λ told e.
-    told_read (asked_by c.args.job.now) (g.S.Source.contents c.args.src.now (name_of (asked_by c.args.job.now))) c.in-Ok.bytes.items told c.in_ok-answer-in-Ok.answer.status c.in_ok-answer-in-Ok.answer.text.items
-    (rw c.file_name.ensures.name at c.in-Ok.ensures.whole) (rw c.deref.ensures.value at c.in_ok-answer-in-Ok.ensures.read) e
+pub returns-in-Walk-clause-caused : goal.returns-in-Walk-clause-caused
+returns-in-Walk-clause-caused g c = IfOk-weaker c.answer_file-in-Walk.result _ _ (λ a h. by_file (rw c.in-Walk.is tt) h) c.answer_file-in-Walk.ensures.caused
 
-pub returns-in_ok-answer-in-Ok-clause-closed : goal.returns-in_ok-answer-in-Ok-clause-closed
-returns-in_ok-answer-in-Ok-clause-closed g c =
-    let s : Seen = record { faults = g.S.Source.faults c.args.src.now; faults' = g.S.Source.faults c.read_all.new.src; contents = g.S.Source.contents c.args.src.now; given = g.S.Source.given c.read_all.new.src; ended = g.S.Source.ended c.read_all.new.src } in
-    let gave_all : GaveAll s (name_of (asked_by c.args.job.now)) c.in-Ok.bytes.items =
-    record { whole = rw c.file_name.ensures.name at c.in-Ok.ensures.whole; counted = c.in-Ok.ensures.counted; within = within_ok _ 1048576 _ c.in-Ok.ensures.too_long; to_end = c.in-Ok.ensures.ended } in
-    let a = c.in_ok-answer-in-Ok.answer in
-    job_hands (asked_by c.args.job.now) s c.in-Ok.bytes.items a.status a.text.items a.closed gave_all (rw c.deref.ensures.value at c.in_ok-answer-in-Ok.ensures.closed)
+pub returns-in-View-clause-caused : goal.returns-in-View-clause-caused
+returns-in-View-clause-caused g c = IfOk-weaker c.answer_file-in-View.result _ _ (λ a h. by_file (rw c.in-View.is tt) h) c.answer_file-in-View.ensures.caused
+
+pub returns-in-Trace-clause-caused : goal.returns-in-Trace-clause-caused
+returns-in-Trace-clause-caused g c = IfOk-weaker c.answer_file-in-Trace.result _ _ (λ a h. by_file (rw c.in-Trace.is tt) h) c.answer_file-in-Trace.ensures.caused
+
+pub returns-in-Gen-clause-caused : goal.returns-in-Gen-clause-caused
+returns-in-Gen-clause-caused g c = rw c.in-Gen.is (IfOk-weaker c.answer_made.result _ _ (λ a h. by_making refl h) c.answer_made.ensures.made)

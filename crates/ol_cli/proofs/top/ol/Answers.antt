@@ -1,11 +1,21 @@
-use Rattle.ol_cli.proofs.Exact.{ends_exact, ends_risen, ends_usage}
-use Rattle.ol_cli.proofs.Sourced.{writes_tree, answer_runs}
+use Rattle.ol_cli.proofs.Exact.{ends_done, ends_exact, ends_fault, ends_risen, ends_usage}
+use Rattle.ol_cli.proofs.Sourced.{writes_tree, ends_run}
 use Rattle.ol_cli.proofs.top.ol.Goals as goal
 
 pub returns-clause-exact : goal.returns-clause-exact
-returns-clause-exact g c = λ bytes tells quiet calm has.
+returns-clause-exact g c = λ tells quiet calm has.
     ends_exact c.args.words.now.items (g.S.Source.faults c.args.src.now) (g.S.Source.faults c.answer.new.src) (g.S.Source.given c.answer.new.src) (g.S.Source.contents c.args.src.now) (g.S.Source.ended c.answer.new.src)
-    bytes tells quiet c.answer.result.status (g.W.Sink.faults c.args.out.now) (g.W.Sink.faults c.answer.new.out) (g.W.Sink.taken c.args.out.now) (g.W.Sink.taken c.answer.new.out) calm has c.answer.ensures.ends
+    quiet tells c.answer.result.status (g.W.Sink.faults c.args.out.now) (g.W.Sink.faults c.answer.new.out) (g.W.Sink.taken c.args.out.now) (g.W.Sink.taken c.answer.new.out) calm has c.answer.ensures.ends
+
+pub returns-clause-read : goal.returns-clause-read
+returns-clause-read g c = λ e. ends_fault c.args.words.now.items
+    (record { faults = g.S.Source.faults c.args.src.now; faults' = g.S.Source.faults c.answer.new.src; contents = g.S.Source.contents c.args.src.now; given = g.S.Source.given c.answer.new.src; ended = g.S.Source.ended c.answer.new.src })
+    c.answer.result.status (g.W.Sink.faults c.args.out.now) (g.W.Sink.faults c.answer.new.out) (g.W.Sink.taken c.args.out.now) (g.W.Sink.taken c.answer.new.out) c.answer.ensures.ends e
+
+pub returns-clause-done : goal.returns-clause-done
+returns-clause-done g c = λ some e. ends_done c.args.words.now.items
+    (record { faults = g.S.Source.faults c.args.src.now; faults' = g.S.Source.faults c.answer.new.src; contents = g.S.Source.contents c.args.src.now; given = g.S.Source.given c.answer.new.src; ended = g.S.Source.ended c.answer.new.src })
+    c.answer.result.status (g.W.Sink.faults c.args.out.now) (g.W.Sink.faults c.answer.new.out) (g.W.Sink.taken c.args.out.now) (g.W.Sink.taken c.answer.new.out) c.answer.ensures.ends some e
 
 pub returns-clause-read_told : goal.returns-clause-read_told
 returns-clause-read_told g c = λ risen calm. ends_risen c.args.words.now.items
@@ -19,9 +29,8 @@ returns-clause-usage_told g c = λ lacks. ends_usage c.args.words.now.items
 
 pub returns-clause-every_run : goal.returns-clause-every_run
 returns-clause-every_run g c = λ bytes tells quiet calm has.
-    let x = ends_exact c.args.words.now.items (g.S.Source.faults c.args.src.now) (g.S.Source.faults c.answer.new.src) (g.S.Source.given c.answer.new.src) (g.S.Source.contents c.args.src.now) (g.S.Source.ended c.answer.new.src)
-    bytes tells quiet c.answer.result.status (g.W.Sink.faults c.args.out.now) (g.W.Sink.faults c.answer.new.out) (g.W.Sink.taken c.args.out.now) (g.W.Sink.taken c.answer.new.out) calm has c.answer.ensures.ends in
-    answer_runs c.args.words.now.items bytes c.answer.result.status x.0 (g.W.Sink.taken c.args.out.now) (g.W.Sink.taken c.answer.new.out) x.1 x.2
+    ends_run c.args.words.now.items (g.S.Source.faults c.args.src.now) (g.S.Source.faults c.answer.new.src) (g.S.Source.given c.answer.new.src) (g.S.Source.contents c.args.src.now) (g.S.Source.ended c.answer.new.src)
+    quiet bytes tells c.answer.result.status (g.W.Sink.faults c.args.out.now) (g.W.Sink.faults c.answer.new.out) (g.W.Sink.taken c.args.out.now) (g.W.Sink.taken c.answer.new.out) calm has c.answer.ensures.ends
 
 pub returns-clause-tree : goal.returns-clause-tree
 returns-clause-tree g c = λ bytes tells quiet calm e.

@@ -1,0 +1,85 @@
+-- The answer to a term file, by what it was made ready for.
+use Rattle.std.proofs.Common.{◌≡◌, ℕ, ◌+◌, ◌<◌, ◌≤◌, List, length, Option, None, arith}
+use Rattle.ol_term.specs.Trees.{Tree, depth}
+use Rattle.ol_parse.specs.Parsed.{IsFileOf, AreNames}
+use Rattle.ol_net.specs.Build.{all_live}
+use Rattle.ol_net.specs.Graph.{Graph}
+use Rattle.ol_net.specs.Nets.{SameNet}
+use Rattle.ol_net.specs.Numbered.{net_of}
+use Rattle.ol_net.specs.Replace.{top_index_of}
+use Rattle.ol_translate.specs.Sizes.{size_of_translation}
+use Rattle.ol_translate.specs.Translation.{nodes_of, translation_of}
+use Rattle.ol_wire.specs.Closed.{ClosedTable}
+use Rattle.ol_words.specs.Jobs.{Asked}
+use Rattle.ol_cli.specs.declared.status.Status.{Status}
+use Rattle.ol_cli.specs.declared.status.Status.TheVariants.{Done, Usage, Syntax, Spent, ReadFault, WriteFault, NoMemory, Limit}
+use Rattle.ol_cli.specs.Answers.{IsTerm, TermAnswer, FileAnswer}
+use Rattle.ol_cli.specs.Trees.{FileIsReadAgain}
+use Rattle.ol_cli.specs.Handed.{WhereEnded}
+use Rattle.ol_cli.specs.Prepared.{Refuses, IsReady}
+use Rattle.ol_cli.proofs.Exact.{term_status}
+use Rattle.ol_cli.proofs.Handing.{whole_net}
+
+-- ---- a file that is refused
+
+module _ (asked : Asked) (bytes : List ℕ) where
+  pub refuses_answer : (st : Status) (text : List ℕ) → Refuses bytes st text → FileAnswer asked bytes st text
+  refuses_answer Done text r = absurd r
+  refuses_answer Spent text r = absurd r
+  refuses_answer Usage text r = absurd r
+  refuses_answer Syntax text r = r
+  refuses_answer ReadFault text r = absurd r
+  refuses_answer WriteFault text r = absurd r
+  refuses_answer NoMemory text r = absurd r
+  refuses_answer Limit text r = r
+
+  pub refuses_read : (st : Status) (text : List ℕ) → Refuses bytes st text → FileIsReadAgain asked bytes st text
+  refuses_read Done text r t names f e = absurd r
+  refuses_read Spent text r t names f e = absurd r
+  refuses_read Usage text r t names f e = absurd r
+  refuses_read Syntax text r t names f e = absurd (cc)
+  refuses_read ReadFault text r t names f e = absurd r
+  refuses_read WriteFault text r t names f e = absurd r
+  refuses_read NoMemory text r t names f e = absurd r
+  refuses_read Limit text r t names f e = absurd (cc)
+
+pub refuses_hands : (bytes : List ℕ) (st : Status) (text : List ℕ) (closed : Option ClosedTable) (P : Type 0) → Refuses bytes st text → closed ≡ None → WhereEnded st closed P
+refuses_hands bytes Done text closed P r e = absurd r
+refuses_hands bytes Spent text closed P r e = absurd r
+refuses_hands bytes Usage text closed P r e = absurd r
+refuses_hands bytes Syntax text closed P r e = e
+refuses_hands bytes ReadFault text closed P r e = absurd r
+refuses_hands bytes WriteFault text closed P r e = absurd r
+refuses_hands bytes NoMemory text closed P r e = absurd r
+refuses_hands bytes Limit text closed P r e = e
+
+-- ---- a file whose term is answered
+
+pub term_answer : (asked : Asked) (bytes : List ℕ) (t : Tree) (names : List (List ℕ)) → IsTerm bytes t names → (st : Status) (text : List ℕ) → TermAnswer asked t names st text → FileAnswer asked bytes st text
+term_answer asked bytes t names i Done text h = (t, names, i, h)
+term_answer asked bytes t names i Spent text h = (t, names, i, h)
+term_answer asked bytes t names i Usage text h = (t, names, i, h)
+term_answer asked bytes t names i Syntax text h = absurd (term_status asked t names Syntax text h)
+term_answer asked bytes t names i ReadFault text h = (t, names, i, h)
+term_answer asked bytes t names i WriteFault text h = (t, names, i, h)
+term_answer asked bytes t names i NoMemory text h = (t, names, i, h)
+term_answer asked bytes t names i Limit text h = absurd (term_status asked t names Limit text h)
+
+-- ---- the net of a term
+
+small_of : (m n : ℕ) → (n < m → ⊥) → m ≤ n
+small_of m n h = grind arith
+
+pub ready_net : (bytes : List ℕ) (t : Tree) (names : List (List ℕ)) (net : Graph) → length bytes ≤ 1048576 → IsFileOf bytes t names → depth t ≤ 1000 → AreNames names →
+    SameNet (net_of net) (translation_of t (length names)) → net.nodes ≡ all_live (nodes_of t) → length net.nodes ≡ size_of_translation t → net.free ≡ length names + 1 →
+    length names ≤ length net.nodes → top_index_of net.nodes ≤ 1000000 → (200000 < size_of_translation t → ⊥) → IsReady bytes t names net
+ready_net bytes t names net short file shallow named same numbers size free few indexes fits =
+    let small = small_of (size_of_translation t) 200000 fits in record {
+      term = record { short = short; file = file; shallow = shallow; small = small };
+      named = named;
+      ready = record {
+        same = same;
+        whole = whole_net net (nodes_of t) numbers;
+        small = record { nodes = omega arith; free = omega arith; indexes = indexes };
+      };
+    }

@@ -1,0 +1,38 @@
+-- A term file made ready: the net of its term, or the answer that refuses it, whatever the job.
+use Rattle.std.specs.Prelude.{◌≡◌, ℕ, ◌≤◌, List, length, None, count_by, is_some}
+use Rattle.ol_term.specs.Trees.{Tree, tree_of}
+use Rattle.ol_parse.specs.Texts.{IsRefusedAt}
+use Rattle.ol_parse.specs.Parsed.{AreNames}
+use Rattle.ol_net.specs.Graph.{Graph}
+use Rattle.ol_net.specs.Nets.{SameNet}
+use Rattle.ol_net.specs.Numbered.{net_of}
+use Rattle.ol_translate.specs.Translation.{translation_of}
+use Rattle.ol_wire.specs.Sizes.{IsSmallNet}
+use Rattle.ol_cli.specs.declared.status.Status.{Status}
+use Rattle.ol_cli.specs.declared.status.Status.TheVariants as status
+use Rattle.ol_cli.specs.declared.preparing.Prepared.{Prepared}
+use Rattle.ol_cli.specs.declared.preparing.Prepared.TheVariants as prepared
+use Rattle.ol_cli.specs.Texts.{syntax_text}
+use Rattle.ol_cli.specs.Answers.{IsTerm, IsPastLimit}
+
+-- the bytes are refused so
+abbrev pub Refuses : List ℕ → Status → List ℕ → Type 0
+Refuses bytes status.Limit text = IsPastLimit bytes text
+Refuses bytes status.Syntax text = (at : ℕ) × (length bytes ≤ 1048576) × IsRefusedAt bytes at × (text ≡ syntax_text at)
+Refuses bytes _ text = ⊥
+
+-- the net is that of the term, with the numbers of its translation, and none of its nodes is gone
+pub record IsNetOf (t : Tree) (names : List (List ℕ)) (net : Graph) : Type 0 where
+  pub same : SameNet (net_of net) (translation_of t (length names))
+  pub whole : count_by is_some net.nodes ≡ length net.nodes
+  pub small : IsSmallNet net
+
+-- the bytes are a text of this term, whose net this is
+pub record IsReady (bytes : List ℕ) (t : Tree) (names : List (List ℕ)) (net : Graph) : Type 0 where
+  pub term : IsTerm bytes t names
+  pub named : AreNames names
+  pub ready : IsNetOf t names net
+
+abbrev pub IsPrepared : List ℕ → Prepared → Type 0
+IsPrepared bytes (prepared.Net net file) = IsReady bytes (tree_of file.term) file.names net
+IsPrepared bytes (prepared.Refused answer) = Refuses bytes answer.status answer.text.items × (answer.closed ≡ None)
