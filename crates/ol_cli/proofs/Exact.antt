@@ -1,6 +1,5 @@
 -- What follows from the causes of the statuses.
-use Rattle.std.proofs.Common.{◌≡◌, ◌≢◌, ℕ, ◌<◌, ◌≤◌, ◌&&◌, Bool, true, false, List, length, Option, None, Some, is_some, refl, sym, ap, ◌∙◌, subst, inl, inr, ◌⊎◌, arith, String, Global, Vec, Ok, ◌↔◌}
-use Rattle.std.specs.List.{list_all}
+use Rattle.std.proofs.Common.{◌≡◌, ◌≢◌, ℕ, ◌<◌, ◌≤◌, Bool, true, false, List, length, Option, Some, refl, sym, ap, ◌∙◌, subst, inl, inr, ◌⊎◌, arith, String, Global, Vec, Ok, ◌↔◌}
 use Rattle.std.specs.Option.{option_map_or}
 use Rattle.std.specs.Result.{IsErrOf}
 use Rattle.ol_io.specs.declared.calls.ReadAll.{ReadAll}
@@ -12,7 +11,7 @@ use Rattle.ol_words.specs.Lines.{Text}
 use Rattle.ol_words.specs.Jobs.{Asked, run, walk, view, trace, check, gen}
 use Rattle.ol_cli.specs.declared.status.Status.{Status}
 use Rattle.ol_cli.specs.declared.status.Status.TheVariants.{Done, Usage, Syntax, Spent, ReadFault, WriteFault, NoMemory, Limit}
-use Rattle.ol_cli.specs.Jobs.{AskFor, AskForNothing, HasTermFile, TellsFiles, count_of_files, files_of, name_of, names_of}
+use Rattle.ol_cli.specs.Jobs.{AskFor, AskForNothing, EachName, HasTermFile, TellsFiles, count_of_files, files_of, name_of}
 use Rattle.ol_cli.specs.Texts.{bytes_text, fault_text}
 use Rattle.ol_cli.specs.Answers.{IsTerm, TermAnswer, FileAnswer, JournalAnswer, JobAnswer, of_file, of_journal, made, IsAnswer, long, Seen, seen, GaveTooMany, Read, FileCause, JournalCause, EndsJournal, JobCause, by_file, by_journal, by_making, Cause, Ends, plain_run}
 
@@ -99,30 +98,21 @@ job_cause words s asked Usage text j c = absurd (no_usage s text asked c)
 
 -- ---- where the source tells the bytes of the files
 
--- a value that is there
-some_of : {A : Type 0} (o : Option A) → is_some o ≡ true → (a : A) × (o ≡ Some a)
-some_of (Some a) e = (a, refl)
-some_of None e = absurd (cc)
-
-both : (a b : Bool) → (a && b) ≡ true → (a ≡ true) × (b ≡ true)
-both true b e = (refl, e)
-both false b e = absurd (cc)
-
 abbrev AreTold : (Text → Option (List ℕ)) → Asked → Type 0
-AreTold contents asked = list_all (λ name. is_some (contents name)) (names_of asked) ≡ true
+AreTold contents asked = EachName asked (λ name. (bytes : List ℕ) × (contents name ≡ Some bytes))
 
 -- the bytes of the term file are told
 told_first : (contents : Text → Option (List ℕ)) (asked : Asked) → HasTermFile asked → AreTold contents asked → (bytes : List ℕ) × (contents (name_of asked) ≡ Some bytes)
-told_first contents (run w f q name) has e = some_of (contents name) (both _ _ e).0
-told_first contents (walk g q name) has e = some_of (contents name) (both _ _ e).0
-told_first contents (view k name) has e = some_of (contents name) (both _ _ e).0
-told_first contents (trace w f name) has e = some_of (contents name) (both _ _ e).0
-told_first contents (check term journal) has e = some_of (contents term) (both _ _ e).0
+told_first contents (run w f q name) has e = e 0 name refl
+told_first contents (walk g q name) has e = e 0 name refl
+told_first contents (view k name) has e = e 0 name refl
+told_first contents (trace w f name) has e = e 0 name refl
+told_first contents (check term journal) has e = e 0 term refl
 told_first contents (gen runs k) has e = absurd has
 
 -- and those of the journal file
 told_second : (contents : Text → Option (List ℕ)) (term journal : Text) → AreTold contents (check term journal) → (bytes : List ℕ) × (contents journal ≡ Some bytes)
-told_second contents term journal e = some_of (contents journal) (both _ _ (both _ _ e).1).0
+told_second contents term journal e = e 1 journal refl
 
 -- what was read is what is told
 same_read : (contents : Option (List ℕ)) (read told : List ℕ) → contents ≡ Some told → IsWhole contents read → read ≡ told

@@ -1,6 +1,5 @@
 -- What an answer says of the source's own term.
-use Rattle.std.proofs.Common.{◌≡◌, ◌≢◌, ℕ, ◌*◌, ◌==◌, ◌&&◌, Bool, true, List, [], ◌∷◌, length, Option, Some, is_some, String, Global, sym, ap, ◌∙◌, subst, arith}
-use Rattle.std.specs.List.{list_all}
+use Rattle.std.proofs.Common.{◌≡◌, ◌≢◌, ℕ, ◌*◌, ◌==◌, Bool, true, zero, suc, List, length, Option, Some, String, Global, sym, ap, ◌∙◌, subst, arith}
 use Rattle.ol_io.specs.Outside.{Appended, Rose}
 use Rattle.ol_term.specs.Trees.{Tree}
 use Rattle.ol_parse.specs.Parsed.{IsFileOf}
@@ -21,7 +20,7 @@ use Rattle.ol_words.specs.Lines.{Text}
 use Rattle.ol_words.specs.Jobs.{Asked, run, walk, view, trace, check, gen}
 use Rattle.ol_cli.specs.declared.status.Status.{Status}
 use Rattle.ol_cli.specs.declared.status.Status.TheVariants as status
-use Rattle.ol_cli.specs.Jobs.{TellsFile, TellsFiles, names_of}
+use Rattle.ol_cli.specs.Jobs.{EachName, TellsFile, TellsFiles}
 use Rattle.ol_cli.specs.Evaluation.{start_net, Prints, RunsOut}
 use Rattle.ol_cli.specs.Answers.{Ends, IsTerm, TermAnswer, JobAnswer, of_file, IsAnswer}
 use Rattle.ol_cli.specs.Sources.{PrintsTree, TellsTree, WritesTree, EveryRunTells}
@@ -114,7 +113,11 @@ pub ends_run : (words : List (String Global)) (f f' given : ℕ) (contents : Tex
     (r : Status) (g g' : ℕ) (old new : Option (List ℕ)) → (Rose g g' → ⊥) → r ≢ status.NoMemory →
     Ends words (record { faults = f; faults' = f'; contents = contents; given = given; ended = ended }) r g g' old new → EveryRunTells words bytes r old new
 ends_run words f f' given contents ended quiet bytes tells r g g' old new calm has e workers fuel heads name t names j file journal net ran complete =
-    let told : list_all (λ name. is_some (contents name)) (name ∷ []) ≡ true = ap (λ (o : Option (List ℕ)). is_some o && true) (tells (run workers fuel heads name) j) in
-    let all : TellsFiles contents words = λ asked j'. subst (λ a. list_all (λ name. is_some (contents name)) (names_of a) ≡ true) (one_job words (run workers fuel heads name) asked j j') told in
+    let here = run workers fuel heads name in
+    let all : TellsFiles contents words = λ asked j'. subst (λ a. EachName a (λ n. (b : List ℕ) × (contents n ≡ Some b))) (one_job words here asked j j') (only_name (tells here j)) in
     let x = ends_exact words f f' given contents ended quiet all r g g' old new calm has e in
     answer_runs words contents bytes tells r x.0 old new x.1 x.2 workers fuel heads name t names j file journal net ran complete
+  where
+    only_name : contents name ≡ Some bytes → EachName (run workers fuel heads name) (λ n. (b : List ℕ) × (contents n ≡ Some b))
+    only_name told zero n is = let same : name ≡ n = cc in (bytes, ap contents (sym same) ∙ told)
+    only_name told (suc k) n is = absurd (cc)

@@ -1,7 +1,6 @@
 -- What the words ask for, and the files of it.
-use Rattle.std.specs.Prelude.{◌≡◌, ℕ, ◌≤◌, true, Bool, Option, None, Some, List, [], ◌∷◌, String, length, is_some}
+use Rattle.std.specs.Prelude.{◌≡◌, ℕ, ◌≤◌, true, Bool, Option, None, Some, List, [], ◌∷◌, String, length, slice_get}
 use Rattle.std.specs.declared.alloc.Global.{Global}
-use Rattle.std.specs.List.{list_all}
 use Rattle.std.specs.Option.{option_map_or}
 use Rattle.ol_words.specs.Lines.{Text}
 use Rattle.ol_words.specs.Jobs.{Asked, run, walk, view, trace, check, gen, job_of, texts_of}
@@ -59,14 +58,18 @@ count_of_files asked = length (names_of asked)
 abbrev pub files_of : List (String Global) → ℕ
 files_of words = option_map_or count_of_files (job_of (texts_of words)) 0
 
+-- this holds of the name of each file of the job
+abbrev pub EachName : Asked → (Text → Type 0) → Type 0
+EachName asked P = (place : ℕ) (name : Text) → slice_get (names_of asked) place ≡ Some name → P name
+
 -- each name of a file that the words ask for is known
 abbrev pub IsKnownTo : (Text → Bool) → List (String Global) → Type 0
-IsKnownTo knows words = (asked : Asked) → AskFor words asked → list_all knows (names_of asked) ≡ true
+IsKnownTo knows words = (asked : Asked) → AskFor words asked → EachName asked (λ name. knows name ≡ true)
 
 -- the bytes of each file that the words ask for are told
 abbrev pub TellsFiles : (Text → Option (List ℕ)) → List (String Global) → Type 0
 TellsFiles contents words =
-    (asked : Asked) → AskFor words asked → list_all (λ name. is_some (contents name)) (names_of asked) ≡ true
+    (asked : Asked) → AskFor words asked → EachName asked (λ name. (bytes : List ℕ) × (contents name ≡ Some bytes))
 
 -- these are the bytes of the file with the term that the words ask for, where they ask for one
 abbrev pub TellsFile : (Text → Option (List ℕ)) → List (String Global) → List ℕ → Type 0

@@ -1,12 +1,11 @@
 //! The top call.
 ghost use Rattle.std.specs.Prelude.{List, ℕ, ◌≢◌, ◌≤◌, ◌+◌, ◌≡◌, ◌<◌, ◌⊎◌, true, length, IfOk, None, Some};
-ghost use Rattle.std.specs.List.{list_all};
 ghost use Rattle.ol_io.specs.Outside.{Rose, Appended};
 ghost use Rattle.ol_term.specs.Trees.{Tree};
 ghost use Rattle.ol_wire.specs.Sizes.{IsSmallNet};
 ghost use Rattle.ol_words.specs.Jobs.{asked_by, check};
 ghost use Rattle.ol_cli.specs.Texts.{line};
-ghost use Rattle.ol_cli.specs.Jobs.{AskForNothing, IsKnownTo, IsOnTerm, IsWithinLimits, TellsFile, TellsFiles, count_of_files, files_of, name_of, names_of};
+ghost use Rattle.ol_cli.specs.Jobs.{AskForNothing, EachName, IsKnownTo, IsOnTerm, IsWithinLimits, TellsFile, TellsFiles, count_of_files, files_of, name_of};
 ghost use Rattle.ol_cli.specs.Answers.{seen, Cause, EndsJournal, Ends, FileCause, IsAnswer, JobCause, Makes};
 ghost use Rattle.ol_cli.specs.Prepared.{IsNetOf};
 ghost use Rattle.ol_cli.specs.Sources.{EveryRunTells, WritesTree};
@@ -234,7 +233,7 @@ fn answer_job<R: Threads + Wait + Sync, S: Source, G: Gate + Sync>(
     src: &mut S,
     gate: &G,
 ) -> Result<Answer, NoMemory>
-    requires known { list_all (S.knows src.old) (names_of (asked_by job.now)) ≡ true }
+    requires known { EachName (asked_by job.now) (λ name. S.knows src.old name ≡ true) }
     requires within { IsWithinLimits (asked_by job.now) }
     ensures caused { IfOk result (λ a. JobCause
         (seen (S.faults src.old) (S.faults src.new) (S.contents src.old) (S.given src.new) (S.ended src.new))

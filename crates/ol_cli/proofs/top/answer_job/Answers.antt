@@ -17,3 +17,21 @@ returns-in-Trace-clause-caused g c = IfOk-weaker c.answer_file-in-Trace.result _
 
 pub returns-in-Gen-clause-caused : goal.returns-in-Gen-clause-caused
 returns-in-Gen-clause-caused g c = rw c.in-Gen.is (IfOk-weaker c.answer_made.result _ _ (λ a h. by_making refl h) c.answer_made.ensures.made)
+
+pub answer_file-requires-clause-known : goal.answer_file-requires-clause-known
+answer_file-requires-clause-known g c = λ κs alive. rw c.as_str.ensures (c.requires.known 0 c.in-Run.name (rw c.in-Run.is refl))
+
+pub answer_file-requires-in-Walk-clause-known : goal.answer_file-requires-in-Walk-clause-known
+answer_file-requires-in-Walk-clause-known g c = λ κs alive. rw c.as_str-in-Walk.ensures (c.requires.known 0 c.in-Walk.name (rw c.in-Walk.is refl))
+
+pub answer_file-requires-in-View-clause-known : goal.answer_file-requires-in-View-clause-known
+answer_file-requires-in-View-clause-known g c = λ κs alive. rw c.as_str-in-View.ensures (c.requires.known 0 c.in-View.name (rw c.in-View.is refl))
+
+pub answer_file-requires-in-Trace-clause-known : goal.answer_file-requires-in-Trace-clause-known
+answer_file-requires-in-Trace-clause-known g c = λ κs alive. rw c.as_str-in-Trace.ensures (c.requires.known 0 c.in-Trace.name (rw c.in-Trace.is refl))
+
+pub answer_check-requires-clause-term : goal.answer_check-requires-clause-term
+answer_check-requires-clause-term g c = rw c.as_str-in-Check.ensures (c.requires.known 0 c.in-Check.term (rw c.in-Check.is refl))
+
+pub answer_check-requires-clause-journal : goal.answer_check-requires-clause-journal
+answer_check-requires-clause-journal g c = rw c.as_str-in-Check-2.ensures (c.requires.known 1 c.in-Check.journal (rw c.in-Check.is refl))
