@@ -1,7 +1,7 @@
 //! The trusted edge: files, standard input and standard output.
 //!
-//! The adapters tell no content, since no contract can say what a file holds. They only hand on what std
-//! answers, and count the errors.
+//! The adapters tell no content, since no contract can say what a file holds. They only hand on
+//! what std answers, and count the errors.
 ghost use Rattle.std.specs.Prelude.{◌≡◌, ◌≤◌, ℕ, List, true, false, None};
 ghost use Rattle.std.specs.Io.{ReadsAtMost};
 

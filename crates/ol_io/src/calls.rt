@@ -22,19 +22,20 @@ pub enum ReadAll {
 pub enum Written {
     /// The whole text was taken.
     All,
-    /// The sink failed after the first `taken` bytes of the text: its count of faults rose, or stands at
-    /// its last value.
+    /// The sink failed after the first `taken` bytes of the text: its count of faults rose, or
+    /// stands at its last value.
     Fault { taken: usize },
 }
 
 /// All bytes of a name that has at most `most` of them, `most` being at most 1,000,000,000.
 ///
 /// - `Fault`: the source failed, at the `begin` or at a `read`.
-/// - `TooLong`: it gave more than `most` bytes. Reading stops with the first read that passes `most`.
+/// - `TooLong`: it gave more than `most` bytes. Reading stops with the first byte that passes
+///   `most`.
 /// - `NoMemory`: no memory was found for the bytes.
 ///
-/// It asks for at most 4,096 bytes at a time. Each read but the last gives at least one byte, so it ends
-/// after at most `most` + 1 reads that give bytes, and one more.
+/// It asks for at most 65,536 bytes at a time. Each read but the last gives at least one byte, so
+/// it ends after at most `most` + 1 reads that give bytes, and one more.
 pub fn read_all<S: Source>(
     alloc: Global,
     src: &mut S,
@@ -48,7 +49,7 @@ pub fn read_all<S: Source>(
     ensures ended { OnOk result (S.ended src.new ≡ true) }
     ensures too_long { IsErrOf result ReadAll.TooLong ↔ (most < S.given src.new) }
     ensures longer { most < S.given src.new → IsLonger (S.contents src.old name.now) most }
-    ensures stops { S.given src.new ≤ most + 4096 }
+    ensures stops { S.given src.new ≤ most + 1 }
     ensures cause { Counts (read_all_failed result) (S.faults src.old) (S.faults src.new) }
     ensures begins { S.begins src.new ≡ next_count (S.begins src.old) }
     ensures knows { S.knows src.new ≡ S.knows src.old }
@@ -70,16 +71,17 @@ fn read_on<S: Source>(alloc: Global, src: &mut S, most: usize) -> Result<Vec<u8>
     ensures ended { OnOk result (S.ended src.new ≡ true) }
     ensures too_long { IsErrOf result ReadAll.TooLong ↔ (most < S.given src.new) }
     ensures longer { most < S.given src.new → IsLonger (S.left src.old) most }
-    ensures stops { S.given src.new ≤ most + 4096 }
+    ensures stops { S.given src.new ≤ most + 1 }
     ensures cause { Counts (read_all_failed result) (S.faults src.old) (S.faults src.new) }
     ensures begins { S.begins src.new ≡ S.begins src.old }
     ensures knows { S.knows src.new ≡ S.knows src.old }
     ensures contents { S.contents src.new ≡ S.contents src.old }
 {
     let mut bytes = Vec::new(alloc);
-    let mut buf = [0u8; 4096];
+    let mut buf = [0u8; 65536];
     'reading: loop {
-        match src.read(&mut buf) {
+        let asked = (most - bytes.len() + 1).min(buf.len());
+        match src.read(&mut buf[..asked]) {
             Got::Failed => return Err(ReadAll::Fault),
             Got::End => return Ok(bytes),
             Got::Bytes(count) => {
@@ -96,8 +98,8 @@ fn read_on<S: Source>(alloc: Global, src: &mut S, most: usize) -> Result<Vec<u8>
 
 /// Writes a whole text, or as much of it as the sink took before it failed. It takes no memory.
 ///
-/// In each write it offers all bytes that are left. Each write but a failed one takes at least one, so it
-/// ends after at most as many writes as the text has bytes.
+/// In each write it offers all bytes that are left. Each write but a failed one takes at least one,
+/// so it ends after at most as many writes as the text has bytes.
 pub fn write_all<W: Sink>(out: &mut W, text: &[u8]) -> Written
     ensures bytes { Appended (W.taken out.old) (written result text.now) (W.taken out.new) }
     ensures within { FaultsWithin result (length text.now) }

@@ -1,8 +1,9 @@
 //! The outside of the program: where bytes come from, where they go, and who may stop a worker.
 //!
-//! `Source`, `Sink` and `Gate` say what the program may ask of the outside. `StdSource` and `StdSink`
-//! stand for files, standard input and standard output. `MemSource` and `MemSink` are fakes in memory,
-//! which fail where they are told to. `read_all` and `write_all` are what the rest of the program calls.
+//! `Source`, `Sink` and `Gate` say what the program may ask of the outside. `StdSource` and
+//! `StdSink` stand for files, standard input and standard output. `MemSource` and `MemSink` are
+//! fakes in memory, which fail where they are told to. `read_all` and `write_all` are what the rest
+//! of the program calls.
 #![tactic(auto)]
 
 mod adapters;

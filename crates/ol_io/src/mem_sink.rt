@@ -10,9 +10,9 @@ use std::marker::Model;
 
 /// A sink in memory, of a room that is reserved when it is made. It tells all its bytes.
 ///
-/// Writes are numbered from 0, up to a last number, 2^64 - 1, which then serves all further writes. A write
-/// whose number is in `failing` answers `Failed`, and so does one where no room is left. A write takes at
-/// most `most` bytes and no more than the room that is left. It takes no memory.
+/// Writes are numbered from 0, up to a last number, 2^64 - 1, which then serves all further writes.
+/// A write whose number is in `failing` answers `Failed`, and so does one where no room is left. A
+/// write takes at most `most` bytes and no more than the room that is left. It takes no memory.
 ///
 /// Contracts see it as a `SinkState`.
 #[derive(Debug, Drop)]

@@ -10,9 +10,10 @@ use std::marker::Model;
 
 /// A source in memory. It tells all its bytes, and knows every name.
 ///
-/// Calls of `begin` and `read` are numbered together from 0, up to a last number, 2^64 - 1, which then
-/// serves all further calls. A call whose number is in `failing` answers `Failed`, and so does a `begin` of
-/// a name that no file has. Of two files with one name the first counts. A read gives at most `most` bytes.
+/// Calls of `begin` and `read` are numbered together from 0, up to a last number, 2^64 - 1, which
+/// then serves all further calls. A call whose number is in `failing` answers `Failed`, and so does
+/// a `begin` of a name that no file has. Of two files with one name the first counts. A read gives
+/// at most `most` bytes.
 ///
 /// Contracts see it as a `SourceState`.
 #[derive(Debug, Drop)]
@@ -175,7 +176,8 @@ fn bytes_from(bytes: &[u8], at: usize) -> &[u8]
     bytes.get(at..).unwrap_or(&[])
 }
 
-// Copies what fits of the bytes left, no more than `most`, into the front of the buffer, and says how many.
+// Copies what fits of the bytes left, no more than `most`, into the front of the buffer, and says
+// how many.
 fn copy_front(left: &[u8], most: usize, buf: &mut [u8]) -> usize
     ensures count { result ≡ min (length left.now) (min most (length buf.old)) }
     ensures buffer { buf.new ≡ take result left.now ++ drop result buf.old }

@@ -37,8 +37,8 @@ pub enum Put {
 
 /// Where bytes come from, by name. The name `-` is standard input.
 ///
-/// A source tells its bytes where it can, as one in memory does. One that stands for files tells none,
-/// and then its clauses speak of faults, counts and the end alone.
+/// A source tells its bytes where it can, as one in memory does. One that stands for files tells
+/// none, and then its clauses speak of faults, counts and the end alone.
 pub trait Source {
     /// How often a call has failed. It never falls, and stays at its last value, 2^64 - 1.
     ghost faults: { Self → ℕ };
@@ -80,8 +80,8 @@ pub trait Source {
 
     /// Reads bytes of the name that was begun last, 1 to the length of the buffer.
     ///
-    /// `Bytes(n)` puts the first n bytes left into the front of the buffer and takes them away. `End` comes
-    /// only where no byte is left. After `Failed` the bytes left are what they were.
+    /// `Bytes(n)` puts the first n bytes left into the front of the buffer and takes them away.
+    /// `End` comes only where no byte is left. After `Failed` the bytes left are what they were.
     fn read(&mut self, buf: &mut [u8]) -> Got
         requires room { 0 < length buf.old }
         requires ready { ready self.old ≡ true }
@@ -107,7 +107,8 @@ pub trait Sink {
 
     /// Writes the front of a piece, 1 byte to its length.
     ///
-    /// `Bytes(n)` appends the first n bytes of the piece to the bytes taken. `Failed` takes nothing.
+    /// `Bytes(n)` appends the first n bytes of the piece to the bytes taken. `Failed` takes
+    /// nothing.
     fn write(&mut self, piece: &[u8]) -> Put
         requires some { 0 < length piece.now }
         ensures cause { Counts (write_failed result) (faults self.old) (faults self.new) }

@@ -77,9 +77,9 @@ fn reads_whole_names(rt: HostRuntime) -> Result<(), Fail> {
 #[test]
 fn reads_round_the_buffer(rt: HostRuntime) -> Result<(), Fail> {
     let alloc = rt.alloc();
-    for size in [4095, 4096, 4097, 8192] {
+    for size in [65_535, 65_536, 65_537] {
         let bytes = vec![in alloc; 7u8; size]?;
-        let mut src = source(alloc, &[("-", bytes.as_slice())], 10_000, &[])?;
+        let mut src = source(alloc, &[("-", bytes.as_slice())], 100_000, &[])?;
         let short = read_all(alloc, &mut src, "-", size - 1);
         assert_eq!(rt; short.err(), Some(ReadAll::TooLong), "{size}");
         let whole = read_all(alloc, &mut src, "-", size);
