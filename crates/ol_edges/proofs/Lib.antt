@@ -1,3 +1,4 @@
+pub mod Lists
 pub mod Joining
 pub mod Contraction
 pub mod Composing
