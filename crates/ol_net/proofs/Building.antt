@@ -266,7 +266,7 @@ IsFirstLoose-from_places free nodes links xs p good none l h has = (
 
 -- The net
 
-nodes_from-live : (n : ℕ) (ks : List (Kind × ℕ)) → nodes_from n (all_live ks) ≡ numbered_from n ks
+pub nodes_from-live : (n : ℕ) (ks : List (Kind × ℕ)) → nodes_from n (all_live ks) ≡ numbered_from n ks
 nodes_from-live n [] = refl
 nodes_from-live n (k ∷ ks) = ap (λ w. (n, k.0, k.1) ∷ w) (nodes_from-live (suc n) ks)
 

@@ -128,7 +128,7 @@ Linked-at g a b t e ne = elim (cases_lt a b) [
   | inr le ↦ inr (Linked-places g b a t (ap (other g.partners) (sym e) ∙ t.paired a) (omega arith))
 ]
 
-port_at-there : (g : Graph) (a : ℕ) → IsTabled g.free g.nodes g.partners → other g.partners a ≢ a → has_port g.free g.nodes (port_at g.free a) ≡ true
+pub port_at-there : (g : Graph) (a : ℕ) → IsTabled g.free g.nodes g.partners → other g.partners a ≢ a → has_port g.free g.nodes (port_at g.free a) ≡ true
 port_at-there g a t ne = let e = t.ports a in grind (arith, nat_tests)
 
 partner_of-at : (g : Graph) (a : ℕ) → IsTabled g.free g.nodes g.partners → other g.partners a ≢ a →

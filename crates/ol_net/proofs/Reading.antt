@@ -3,7 +3,9 @@ use Rattle.std.proofs.Common.{◌≡◌, ℕ, ◌+◌, ◌<◌, ◌≤◌, nat_l
 use Rattle.std.specs.Prelude.{◌↔◌, IfSome, IfNone}
 use Rattle.std.proofs.lemmas.Bool.{cases_lt, cases_eq, false≢true}
 use Rattle.std.proofs.lemmas.Bool.Decides.{nat_tests}
-use Rattle.std.proofs.lemmas.List.{take_more, get_or_past}
+use Rattle.std.proofs.lemmas.List.{take_more}
+use Rattle.std.proofs.lemmas.Option.{none-some}
+use Rattle.ol_net.proofs.Places.{kind_at-inside}
 use Rattle.ol_net.specs.declared.parts.Kind.{Kind}
 use Rattle.ol_net.specs.declared.parts.NodeId.{NodeId}
 use Rattle.ol_net.specs.declared.parts.Port.{Port}
@@ -19,9 +21,6 @@ use Rattle.ol_net.specs.Replace.{top_index_of}
 use Rattle.ol_net.proofs.Numbered.{has_node, linked, linked_back, is_port, numbered_port-injective, faces_or_none, active_from, active_first, active_second, stuck_from, stuck_first, none_from, partner_of-there, stuck_apart, one_facing, IsStuck-back}
 use Rattle.ol_net.proofs.Indexes.{top_index_of-append}
 
-differ : {X : Type 0} (x : X) → None ≡ Some x → ⊥
-differ x e = absurd (let bad : None ≡ Some x = e in cc)
-
 pub kind_of-node : (g : Graph) (x : ℕ) → IfSome (kind_at g.nodes x) (λ k. HasNode (net_of g) x k.0 k.1)
 kind_of-node g x = go (kind_at g.nodes x) refl
   where
@@ -33,7 +32,7 @@ pub kind_of-none : (g : Graph) (x : ℕ) → IfNone (kind_at g.nodes x) ((k : Ki
 kind_of-none g x = go (kind_at g.nodes x) refl
   where
     go : (o : Option (Kind × ℕ)) → kind_at g.nodes x ≡ o → IfNone o ((k : Kind) (i : ℕ) → HasNode (net_of g) x k i → ⊥)
-    go None e = λ k i h. differ (k, i) (sym e ∙ (has_node g x k i).0 h)
+    go None e = λ k i h. none-some (k, i) (sym e ∙ (has_node g x k i).0 h)
     go (Some k) e = tt
 
 pub partner-linked : (g : Graph) (p : Port) → IsTabled g.free g.nodes g.partners → IfSome (partner_of g p) (λ q. Linked (net_of g) (numbered_port p) (numbered_port q))
@@ -49,7 +48,7 @@ partner-none g p = go (partner_of g p) refl
     go : (o : Option Port) → partner_of g p ≡ o → IfNone o (IsPort (net_of g) (numbered_port p) → ⊥)
     go None e = λ h.
         let q = partner_of-there g p ((is_port g p).0 h) in
-        differ q.0 (sym e ∙ q.1)
+        none-some q.0 (sym e ∙ q.1)
     go (Some q) e = tt
 
 pub facing-active : (g : Graph) (n : NodeId) → IsTabled g.free g.nodes g.partners → (r : Rule) → (facing_at g n ≡ Active r) ↔ IsInActive (net_of g) n.0 r
@@ -106,12 +105,6 @@ lesser-is g n m s t e h =
 -- it is not where it is in no stuck pair
 pub lesser-none : (g : Graph) (n : NodeId) → (facing_at g n ≡ Stuck → ⊥) → IsTabled g.free g.nodes g.partners → (false ≡ true) ↔ ((y : ℕ) × (n.0 < y) × IsStuck (net_of g) n.0 y)
 lesser-none g n ne t = (λ e. absurd (false≢true e), λ y. absurd (ne (stuck_first g n (record { 0 = y.0 }) t y.2)))
-
-kind_at-inside : (nodes : List (Option (Kind × ℕ))) (x : ℕ) (k : Kind × ℕ) → kind_at nodes x ≡ Some k → x < length nodes
-kind_at-inside nodes x k h = elim (cases_lt x (length nodes)) [
-  | inl lt ↦ lt
-  | inr le ↦ absurd (differ k (sym (get_or_past nodes x None le) ∙ h))
-]
 
 -- the stuck pairs that have a number below n, each once
 pub record StuckBelow (N : NamedNet ℕ) (n count : ℕ) : Type 0 where

@@ -4,7 +4,7 @@ use Rattle.ol_net.specs.declared.parts.Kind.{Kind}
 use Rattle.ol_net.specs.declared.parts.Port.{Port}
 use Rattle.ol_net.specs.declared.parts.Port.TheVariants.{Free, Of}
 use Rattle.ol_net.specs.Graph.{Graph, port_at}
-use Rattle.ol_net.specs.Nets.{NamedPort, free, slot, NamedNet}
+use Rattle.ol_net.specs.Nets.{NamedPort, free, slot, NamedNet, Linked}
 
 abbrev pub numbered_port : Port → NamedPort ℕ
 numbered_port (Free k) = free k
@@ -25,6 +25,10 @@ links_from ports k (p ∷ partners) =
 
 abbrev pub net_of : Graph → NamedNet ℕ
 net_of g = record { nodes = nodes_from 0 g.nodes; free_ports = g.free; links = links_from g.free 0 g.partners }
+
+-- two ports of a graph are linked
+abbrev pub PortsLinked : Graph → Port → Port → Type 0
+PortsLinked g p q = Linked (net_of g) (numbered_port p) (numbered_port q)
 
 -- nodes numbered from n on, all live
 abbrev pub numbered_from : ℕ → List (Kind × ℕ) → List (ℕ × Kind × ℕ)

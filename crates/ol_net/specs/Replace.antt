@@ -7,7 +7,8 @@ use Rattle.ol_net.specs.declared.parts.Port.TheVariants.{Of}
 use Rattle.ol_net.specs.declared.parts.JoinEnd.{JoinEnd}
 use Rattle.ol_net.specs.declared.parts.JoinEnd.TheVariants.{First, Second, Born}
 use Rattle.ol_net.specs.Parts.{is_eraser}
-use Rattle.ol_net.specs.Graph.{Graph, partner_of}
+use Rattle.ol_net.specs.Graph.{Graph, kind_at, partner_of}
+use Rattle.ol_net.specs.Joins.{uses_up, open_ends}
 use Rattle.ol_net.specs.Nets.{NamedPort, slot, HasNode, Linked, IsPrincipalOf, IsSlotOf}
 use Rattle.ol_net.specs.Numbered.{net_of}
 
@@ -24,6 +25,15 @@ top_index_of (Some k ∷ nodes) = max k.1 (top_index_of nodes)
 -- an index that a born node may have: at most one above the greatest, and 0 for an eraser
 abbrev pub MayBeBorn : ℕ → Kind × ℕ → Type 0
 MayBeBorn top k = (k.1 ≤ top + 1) × (is_eraser k.0 ≡ true → k.1 ≡ 0)
+
+-- each of these nodes may be born in a graph with such nodes
+abbrev pub MayAllBeBorn : List (Option (Kind × ℕ)) → List (Kind × ℕ) → Type 0
+MayAllBeBorn nodes born = (p : ℕ) (k : Kind × ℕ) → slice_get born p ≡ Some k → MayBeBorn (top_index_of nodes) k
+
+-- each slot of the two nodes but the principal one, and each slot of a node that comes, stands in one join, once, and nothing else does
+abbrev pub JoinsFit : Graph → NodeId → NodeId → List (Kind × ℕ) → List (JoinEnd × JoinEnd) → Type 0
+JoinsFit g first second born joins =
+    uses_up joins (open_ends (kind_at g.nodes first.0) (kind_at g.nodes second.0) born) ≡ true
 
 -- the port that an end of a join names, where born nodes have the numbers from next on
 abbrev pub port_of_end : (first second next : ℕ) → JoinEnd → NamedPort ℕ

@@ -30,10 +30,14 @@ abbrev pub join_places : ℕ → ℕ → ℕ → ℕ → List (JoinEnd × JoinEn
 join_places free first second next joins =
     map (λ j. (end_place free first second next j.0, end_place free first second next j.1)) joins
 
--- every edge lies within the table
+-- every edge lies within a table of this length
 abbrev pub Within : ℕ → List (ℕ × ℕ) → Type 0
 Within n [] = Unit {0}
 Within n (e ∷ es) = (e.0 < n) × (e.1 < n) × Within n es
+
+-- every edge lies within this table
+abbrev pub LieIn : List ℕ → List (ℕ × ℕ) → Type 0
+LieIn xs es = Within (length xs) es
 
 -- every edge is of two places
 abbrev pub AllTwo : List (ℕ × ℕ) → Type 0
@@ -44,6 +48,14 @@ AllTwo (e ∷ es) = (e.0 ≢ e.1) × AllTwo es
 abbrev pub grown : List ℕ → ℕ → List ℕ
 grown xs zero = xs
 grown xs (suc n) = grown xs n ++ (length xs + n) ∷ []
+
+-- the table with the places of the nodes that come
+abbrev pub grown_for : List ℕ → List (Kind × ℕ) → List ℕ
+grown_for xs born = grown xs (3 * length born)
+
+-- the table after each of these joins
+abbrev pub joined_by : ℕ → ℕ → ℕ → ℕ → List ℕ → List (JoinEnd × JoinEnd) → List ℕ
+joined_by free first second next xs joins = joined_all xs (join_places free first second next joins)
 
 -- the table of a net after a replacement: the link of the two principal ports goes as by a join of them
 abbrev pub rewired : ℕ → ℕ → List ℕ → ℕ → ℕ → List (Kind × ℕ) → List (JoinEnd × JoinEnd) → List ℕ

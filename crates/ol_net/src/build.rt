@@ -1,10 +1,10 @@
 //! The tests of the parts of a net, each of which finds the first fault of its sort.
 
-ghost use Rattle.std.specs.Prelude.{◌≡◌, ◌≢◌, ℕ, ◌+◌, ◌-◌, ◌*◌, ◌/◌, ◌%◌, ◌^◌, ◌<◌, ◌≤◌, length, true, false, List, slice_index, slice_set, vec_len, MatchOption, MatchResult, IfOk, IsTrue, ◌↔◌, ◌==◌, ◌&&◌, if◌then◌else◌, not};
+ghost use Rattle.std.specs.Prelude.{◌≡◌, ◌≢◌, ℕ, ◌+◌, ◌-◌, ◌*◌, ◌/◌, ◌%◌, ◌^◌, ◌<◌, ◌≤◌, length, true, false, List, slice_index, slice_set, vec_len, IfNone, IfOk, IsTrue, ◌↔◌, ◌==◌, ◌&&◌, if◌then◌else◌, not};
 ghost use Rattle.ol_net.specs.Graph.{has_port, place, IsTabled};
-ghost use Rattle.ol_net.specs.Pairing.{IsPaired, other, linked, can_link};
-ghost use Rattle.ol_net.specs.Build.{FirstOf, NoneOf, is_bad_index, BadIndexAt, BadPortAt, TwiceAt, all_live, FaultIs};
-ghost use Rattle.ol_net.specs.Tabling.{MeetsAt, AloneAt, places, LinkedUp, LinkFaultIs, IsTable, AreTables};
+ghost use Rattle.ol_net.specs.Pairing.{IsPaired, other, linked, linked_if, can_link};
+ghost use Rattle.ol_net.specs.Build.{FindsFirst, NoneOf, is_bad_index, BadIndexAt, BadPortAt, all_live};
+ghost use Rattle.ol_net.specs.Tabling.{MeetsAt, AreAllLinked, places, FindsAlone, GivesTable, GivesTables};
 
 use crate::graph::{is_port, place_of, port_of};
 use crate::parts::{BuildFault, Kind, Port};
@@ -23,7 +23,7 @@ fn is_bad_index(top: u32, node: (Kind, u32)) -> bool
 /// The first node with an index above `top`, or that is an eraser with an index other than 0.
 pub fn first_bad_index(top: u32, nodes: &[(Kind, u32)]) -> Option<u32>
     requires { length nodes.now < 2 ^ 32 }
-    ensures { MatchOption result (NoneOf (BadIndexAt top nodes.now)) (λ n. FirstOf (BadIndexAt top nodes.now) n) }
+    ensures { FindsFirst (BadIndexAt top nodes.now) result }
 {
     for (i, node) in nodes.iter().enumerate() {
         if is_bad_index(top, *node) {
@@ -40,7 +40,7 @@ pub fn first_bad_port(
     links: &[(Port, Port)],
 ) -> Option<u32>
     requires { length links.now < 2 ^ 32 }
-    ensures { MatchOption result (NoneOf (BadPortAt free nodes.now links.now)) (λ j. FirstOf (BadPortAt free nodes.now links.now) j) }
+    ensures { FindsFirst (BadPortAt free nodes.now links.now) result }
 {
     for (i, link) in links.iter().enumerate() {
         if !is_port(free, nodes, link.0) {
@@ -58,7 +58,7 @@ fn link_pair(partners: &mut Vec<usize>, a: usize, b: usize) -> bool
     requires a_in { a < length partners.old.items }
     requires b_in { b < length partners.old.items }
     ensures done { result ≡ can_link partners.old.items a b }
-    ensures after { partners.new.items ≡ (if result then linked partners.old.items a b else partners.old.items) }
+    ensures after { partners.new.items ≡ linked_if result partners.old.items a b }
 {
     if a == b || partners[a] != a || partners[b] != b {
         return false;
@@ -80,8 +80,8 @@ pub fn link_all(
     requires size { length partners.old.items ≡ free + 3 * length nodes.now }
     requires alone { (k : ℕ) → other partners.old.items k ≡ k }
     requires ports { NoneOf (BadPortAt free nodes.now links.now) }
-    ensures meets { MatchOption result (NoneOf (MeetsAt (places free links.now))) (λ j. FirstOf (MeetsAt (places free links.now)) j) }
-    ensures ok { MatchOption result (LinkedUp free nodes.now (places free links.now) partners.new.items) (λ _. Unit {0}) }
+    ensures meets { FindsFirst (MeetsAt (places free links.now)) result }
+    ensures ok { IfNone result (AreAllLinked free nodes.now links.now partners.new.items) }
 {
     for (i, link) in links.iter().enumerate() {
         let a = place_of(free, link.0);
@@ -97,7 +97,7 @@ pub fn link_all(
 pub fn first_loose(free: u32, nodes: &[Option<(Kind, u32)>], partners: &[usize]) -> Option<Port>
     requires few { length nodes.now < 2 ^ 31 }
     requires size { length partners.now ≡ free + 3 * length nodes.now }
-    ensures { MatchOption result (NoneOf (AloneAt free nodes.now partners.now)) (λ p. FirstOf (AloneAt free nodes.now partners.now) (place free p) × (has_port free nodes.now p ≡ true)) }
+    ensures { FindsAlone free nodes.now partners.now result }
 {
     for (k, partner) in partners.iter().enumerate() {
         let port = port_of(free, k);
@@ -140,7 +140,7 @@ pub fn table_of(
     requires few_nodes { length nodes.now < 2 ^ 31 }
     requires few_links { length links.now < 2 ^ 32 }
     requires ports { NoneOf (BadPortAt free nodes.now links.now) }
-    ensures { MatchResult result (λ v. IsTable free nodes.now links.now v.items) (LinkFaultIs free nodes.now links.now) }
+    ensures { GivesTable free nodes.now links.now result }
 {
     let Ok(mut partners) = alone(alloc, free as usize + 3 * nodes.len()) else {
         return Err(BuildFault::NoMemory);
@@ -164,7 +164,7 @@ pub fn tables(
 ) -> Result<(Vec<Option<(Kind, u32)>>, Vec<usize>), BuildFault>
     requires few_nodes { length nodes.now < 2 ^ 31 }
     requires few_links { length links.now < 2 ^ 32 }
-    ensures { MatchResult result (λ t. AreTables top free nodes.now links.now t.0.items t.1.items) (FaultIs top free nodes.now links.now) }
+    ensures { GivesTables top free nodes.now links.now result }
 {
     if let Some(node) = first_bad_index(top, nodes) {
         return Err(BuildFault::BadIndex { node });

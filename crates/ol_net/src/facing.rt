@@ -1,9 +1,9 @@
 //! What the nodes of a net are to those that they face.
 
 ghost use Rattle.std.specs.Prelude.{◌≡◌, ℕ, ◌+◌, ◌*◌, ◌^◌, ◌<◌, ◌≤◌, length, true, ◌↔◌};
-ghost use Rattle.ol_net.specs.Graph.{Graph, IsTabled, facing_at};
+ghost use Rattle.ol_net.specs.Graph.{Graph, IsTabled, graph_of, facing_at};
 ghost use Rattle.ol_net.specs.Numbered.{net_of};
-ghost use Rattle.ol_net.specs.Pairs.{IsStuck, HasStuck};
+ghost use Rattle.ol_net.specs.Pairs.{IsLesserOfStuck, HasStuck};
 
 use crate::graph::{kind_in, partner_in};
 use crate::parts::{Facing, Kind, NodeId, Port, facing_of};
@@ -12,7 +12,7 @@ use crate::parts::{Facing, Kind, NodeId, Port, facing_of};
 pub fn facing_in(free: u32, nodes: &[Option<(Kind, u32)>], partners: &[usize], at: NodeId) -> Facing
     requires few { length nodes.now < 2 ^ 31 }
     requires net { IsTabled free nodes.now partners.now }
-    ensures { result ≡ facing_at (record { free = free; nodes = nodes.now; partners = partners.now }) at }
+    ensures { result ≡ facing_at (graph_of free nodes.now partners.now) at }
 {
     let Some(here) = kind_in(nodes, at.0 as usize) else {
         return Facing::None;
@@ -31,7 +31,7 @@ pub fn facing_in(free: u32, nodes: &[Option<(Kind, u32)>], partners: &[usize], a
 pub fn stuck_in(free: u32, nodes: &[Option<(Kind, u32)>], partners: &[usize]) -> u32
     requires few { length nodes.now < 2 ^ 31 }
     requires net { IsTabled free nodes.now partners.now }
-    ensures { HasStuck (net_of (record { free = free; nodes = nodes.now; partners = partners.now })) result }
+    ensures { HasStuck (net_of (graph_of free nodes.now partners.now)) result }
 {
     let mut pairs = 0;
     for n in 0..nodes.len() as u32 {
@@ -51,7 +51,7 @@ fn is_lesser_of_stuck(
 ) -> bool
     requires few { length nodes.now < 2 ^ 31 }
     requires net { IsTabled free nodes.now partners.now }
-    ensures { (result ≡ true) ↔ ((m : ℕ) × (at.0 < m) × IsStuck (net_of (record { free = free; nodes = nodes.now; partners = partners.now })) at.0 m) }
+    ensures { (result ≡ true) ↔ IsLesserOfStuck (graph_of free nodes.now partners.now) at.0 }
 {
     let Facing::Stuck = facing_in(free, nodes, partners, at) else {
         return false;

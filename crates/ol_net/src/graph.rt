@@ -1,15 +1,14 @@
 //! The net.
 
 ghost use Rattle.std.specs.Prelude.{◌≡◌, ℕ, ◌+◌, ◌-◌, ◌*◌, ◌/◌, ◌%◌, ◌^◌, ◌<◌, ◌≤◌, length, is_some, count_by, IfOk, IfErr, vec_len, OnOk, OnErr, IfSome, Some, ◌≢◌, true, slice_get, ◌↔◌, IfNone, IsTrue};
-ghost use Rattle.ol_net.specs.Nets.{HasNode, Linked, IsPort, IsNet};
-ghost use Rattle.ol_net.specs.Numbered.{net_of, numbered_port};
+ghost use Rattle.ol_net.specs.Nets.{HasNode, IsPort, IsNet};
+ghost use Rattle.ol_net.specs.Numbered.{net_of, numbered_port, PortsLinked};
 ghost use Rattle.ol_net.specs.Pairs.{IsStuck, IsInActive, IsInStuck, FacesNone, HasStuck};
 ghost use Rattle.ol_net.specs.Indexes.{HasIndexes};
 ghost use Rattle.ol_net.specs.declared.parts.Rule.{Rule};
 ghost use Rattle.ol_net.specs.declared.parts.Facing.TheVariants.{Active, Stuck};
 ghost use Rattle.ol_net.specs.declared.parts.Facing.TheVariants as facing;
-ghost use Rattle.ol_net.specs.Joins.{uses_up, open_ends};
-ghost use Rattle.ol_net.specs.Replace.{AreFacing, MayBeBorn, Replaces, top_index_of};
+ghost use Rattle.ol_net.specs.Replace.{AreFacing, MayAllBeBorn, JoinsFit, Replaces, top_index_of};
 ghost use Rattle.ol_net.specs.declared.parts.Kind.{Kind};
 ghost use Rattle.ol_net.specs.Pairing.{other};
 ghost use Rattle.ol_net.specs.Build.{Builds, FaultIs, build_top};
@@ -47,9 +46,15 @@ impl Model for Net {
 
     ghost Value = { Graph };
 
-    ghost view = { λ n. record { free = n.free; nodes = n.nodes.items; partners = n.partners.items } };
+    ghost view = { λ n. record {
+      free = n.free;
+      nodes = n.nodes.items;
+      partners = n.partners.items;
+    } };
 
-    ghost invariant = { λ n. (n.live ≡ count_by is_some n.nodes.items) × (length n.nodes.items < 2 ^ 31) × IsTabled n.free n.nodes.items n.partners.items × HasIndexes n.nodes.items };
+    ghost invariant = { λ n. (n.live ≡ count_by is_some n.nodes.items)
+        × (length n.nodes.items < 2 ^ 31) × IsTabled n.free n.nodes.items n.partners.items
+        × HasIndexes n.nodes.items };
 }
 
 impl Net {
@@ -155,7 +160,7 @@ impl Net {
     /// The other port of a port's link. `None`: the net has no such port.
     pub fn partner(&self, of: Port) -> Option<Port>
         ensures table { result ≡ partner_of self.now of }
-        ensures linked { IfSome result (λ q. Linked (net_of self.now) (numbered_port of) (numbered_port q)) }
+        ensures linked { IfSome result (λ q. PortsLinked self.now of q) }
         ensures mutual { IfSome result (λ q. (partner_of self.now q ≡ Some of) × (q ≢ of)) }
         ensures none { IfNone result (IsPort (net_of self.now) (numbered_port of) → ⊥) }
     {
@@ -181,8 +186,8 @@ impl Net {
         stuck_in(self.free, &self.nodes, &self.partners)
     }
 
-    /// A net of its own that is equal to this one: the same free ports, the same nodes and links under
-    /// the same numbers, and as many numbers given out. `NoMemory`: no memory was found.
+    /// A net of its own that is equal to this one: the same free ports, the same nodes and links
+    /// under the same numbers, and as many numbers given out. `NoMemory`: no memory was found.
     pub fn copy(&self) -> Result<Net, NoMemory>
         ensures copy { IfOk result (λ net. net ≡ self.now) }
     {
@@ -220,16 +225,16 @@ impl Net {
     /// Takes out two nodes that face each other, puts others in under the next numbers, and joins
     /// the ends that are open. It is the one call that changes a net.
     ///
-    /// - `first`, `second`: the two nodes: live, different, and linked by their principal ports. That
-    ///   link goes with them.
-    /// - `born`: kind and index of each node that comes, at most four. An index is at most one above
-    ///   the greatest of the net, and 0 for an eraser.
+    /// - `first`, `second`: the two nodes: live, different, and linked by their principal ports.
+    ///   That link goes with them.
+    /// - `born`: kind and index of each node that comes, at most four. An index is at most one
+    ///   above the greatest of the net, and 0 for an eraser.
     /// - `joins`: pairs of ends. Each slot of the two nodes but the principal one, and each slot of
     ///   a node that comes, stands in one of them once, and nothing else does.
     ///
     /// The joins are edges beside the links that are left. Then each slot of the two nodes is taken
-    /// out: the two edges at it become one, and an edge from it to itself goes with it. So two ports
-    /// are linked in the end where edges joined them by way of the slots that went (Lafont,
+    /// out: the two edges at it become one, and an edge from it to itself goes with it. So two
+    /// ports are linked in the end where edges joined them by way of the slots that went (Lafont,
     /// Interaction Nets, 1990).
     ///
     /// The net has given out at most 2,000,000,000 numbers before. `NoMemory`: no memory was found,
@@ -243,8 +248,8 @@ impl Net {
     ) -> Result<(), NoMemory>
         requires facing { AreFacing self.old first second }
         requires few_born { length born.now ≤ 4 }
-        requires indexes { (p : ℕ) (k : Kind × ℕ) → slice_get born.now p ≡ Some k → MayBeBorn (top_index_of self.old.nodes) k }
-        requires fit { uses_up joins.now (open_ends (kind_at self.old.nodes first.0) (kind_at self.old.nodes second.0) born.now) ≡ true }
+        requires indexes { MayAllBeBorn self.old.nodes born.now }
+        requires fit { JoinsFit self.old first second born.now joins.now }
         requires few { length self.old.nodes ≤ 2000000000 }
         ensures ok { OnOk result (Replaces self.old self.new first second born.now joins.now) }
         ensures err { OnErr result (self.new ≡ self.old) }

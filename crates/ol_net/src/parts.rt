@@ -56,7 +56,8 @@ pub enum Rule {
     Erase,
 }
 
-/// What a node is to the node that it faces: the one whose principal port is the partner of its own.
+/// What a node is to the node that it faces: the one whose principal port is the partner of its
+/// own.
 #[derive(Clone, Copy, Debug, PartialEq, Eq)]
 pub enum Facing {
     /// The two have this rule.
@@ -70,9 +71,9 @@ pub enum Facing {
 /// Why parts make no net, in the order in which it is tested.
 #[derive(Clone, Copy, Debug, PartialEq, Eq)]
 pub enum BuildFault {
-    /// The first node whose index is above the greatest one allowed (`build`: 1,000,000; `build_to`:
-    /// its `top`), or that is an eraser with an index other than 0. Nodes are numbered from 0 in the
-    /// order given.
+    /// The first node whose index is above the greatest one allowed (`build`: 1,000,000;
+    /// `build_to`: its `top`), or that is an eraser with an index other than 0. Nodes are numbered
+    /// from 0 in the order given.
     BadIndex { node: u32 },
     /// The first link that names a port which does not exist, numbered from 0 in the order given.
     BadPort { link: u32 },
