@@ -1,5 +1,5 @@
 -- The nodes that a step makes may be born, and the lists of a crossing by their lengths.
-use Rattle.std.proofs.Common.{◌≡◌, ℕ, zero, suc, ◌+◌, ◌<◌, ◌≤◌, true, false, List, [], ◌∷◌, ◌++◌, Option, Some, None, ◌⊎◌, inl, inr, refl, sym, ap, ◌∙◌, subst, arith}
+use Rattle.std.proofs.Common.{◌≡◌, ℕ, zero, suc, ◌+◌, ◌<◌, ◌≤◌, true, false, List, [], ◌∷◌, ◌++◌, Option, Some, None, ◌⊎◌, inl, inr, refl, sym, ap, ◌∙◌, subst, arith, append-nil}
 use Rattle.std.specs.Prelude.{slice_get, Result, Ok, Err, OnOk}
 use Rattle.ol_net.specs.declared.parts.Kind.{Kind}
 use Rattle.ol_net.specs.declared.parts.Kind.TheVariants as kind
@@ -12,7 +12,7 @@ use Rattle.ol_net.specs.Indexes.{HasIndexes}
 use Rattle.ol_net.specs.Replace.{MayBeBorn, top_index_of, Replaces}
 use Rattle.ol_rules.specs.Rewriting.{crossing}
 use Rattle.ol_rules.specs.Listed.{copies, born_of, crossing_joins}
-use Rattle.ol_rules.proofs.Lists.{got, append_nil}
+use Rattle.ol_rules.proofs.Lists.{got}
 
 -- no live node has a greater index than the greatest
 pub top_is_top : (nodes : List (Option (Kind × ℕ))) (x : ℕ) (k : Kind × ℕ) → kind_at nodes x ≡ Some k → k.1 ≤ top_index_of nodes
@@ -50,7 +50,7 @@ may_all nodes x y f g r j has is_f is_g fits low p k h = first (got (arity g.0) 
 
     first : ((p < arity g.0) × (k ≡ f)) ⊎ ((q : ℕ) × (p ≡ arity g.0 + q) × (slice_get (copies {X = Kind × ℕ} (arity f.0) (g.0, j)) q ≡ Some k)) → MayBeBorn (top_index_of nodes) k
     first (inl (b, e)) = subst (λ k. MayBeBorn (top_index_of nodes) k) (sym e) (let t = top_is_top nodes x f is_f in omega arith, has.erasers x f is_f)
-    first (inr (q, e, h)) = last q (got (arity f.0) (g.0, j) [] q k (ap (λ ys. slice_get {X = Kind × ℕ} ys q) (append_nil (copies {X = Kind × ℕ} (arity f.0) (g.0, j))) ∙ h))
+    first (inr (q, e, h)) = last q (got (arity f.0) (g.0, j) [] q k (ap (λ ys. slice_get {X = Kind × ℕ} ys q) (append-nil (copies {X = Kind × ℕ} (arity f.0) (g.0, j))) ∙ h))
 
 -- a list of copies, by how many there are
 pub may_listed : (top : ℕ) (f g : Kind × ℕ) (j m n : ℕ) → arity f.0 ≡ m → arity g.0 ≡ n

@@ -6,9 +6,10 @@ use Rattle.ol_edges.specs.Edges.{IsIn, Near, ends, bit, IsTest, Joined, here, on
 use Rattle.ol_net.specs.Nets.{NamedPort, free, slot, NamedNet, HasNode, Linked, IsPort, IsNet, Faces, IsPrincipalOf}
 use Rattle.ol_net.specs.Parts.{arity}
 use Rattle.ol_net.specs.declared.parts.Kind.{Kind}
-use Rattle.ol_rules.proofs.EndCounts.{in_map, in_map_of, in_filter, in_filter_of, ends_append, ends_filter, ends_filter_le, ends_near, ends_map}
+use Rattle.ol_rules.proofs.EndCounts.{in_filter, in_filter_of, ends_append, ends_filter, ends_filter_le, ends_near, ends_map}
 use Rattle.ol_rules.proofs.Joins.{HasJoins}
-use Rattle.ol_rules.proofs.Lists.{in_left, in_right, in_cases, in_each, in_each_of}
+use Rattle.ol_edges.proofs.Lists.{in_left, in_right, in_cases, in_map, in_map_of}
+use Rattle.ol_rules.proofs.Lists.{in_each, in_each_of}
 use Rattle.ol_rules.proofs.Ports.{Lasts, LinkAfter, links_of, Real, name_one, lasts_real, first_edge}
 use Rattle.ol_rules.proofs.Tests.{port_test, vertex_test}
 use Rattle.ol_rules.proofs.Vertices.{Vertex, old, f_copy, g_copy, vertex_same, gone, name, is_principal, nodes_left, links_left, rewritten, port_same, IsCounted}

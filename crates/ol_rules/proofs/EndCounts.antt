@@ -3,16 +3,6 @@ use Rattle.std.proofs.Common.{◌≡◌, ◌≢◌, ℕ, zero, suc, ◌+◌, ◌
 use Rattle.ol_edges.specs.Edges.{IsIn, Near, ends, bit, IsTest}
 use Rattle.ol_rules.specs.Listed.{each}
 
-pub in_map : {X Y : Type 0} (m : X → Y) (x : X) (xs : List X) → IsIn x xs → IsIn (m x) (map m xs)
-in_map m x [] h = absurd h
-in_map m x (z ∷ xs) (inl e) = inl (ap m e)
-in_map m x (z ∷ xs) (inr h) = inr (in_map m x xs h)
-
-pub in_map_of : {X Y : Type 0} (m : X → Y) (y : Y) (xs : List X) → IsIn y (map m xs) → (x : X) × IsIn x xs × (y ≡ m x)
-in_map_of m y [] h = absurd h
-in_map_of m y (z ∷ xs) (inl e) = (z, inl refl, e)
-in_map_of m y (z ∷ xs) (inr h) = let t = in_map_of m y xs h in (t.0, inr t.1, t.2)
-
 pub in_filter : {X : Type 0} (keep : X → Bool) (x : X) (xs : List X) → IsIn x xs → keep x ≡ true → IsIn x (filter keep xs)
 in_filter keep x [] h k = absurd h
 in_filter keep x (z ∷ xs) (inl e) k = subst (λ b. IsIn x (cond b (z ∷ filter keep xs) (filter keep xs))) (sym (subst (λ z. keep z ≡ true) e k)) (inl e)

@@ -1,12 +1,15 @@
--- A run of leads goes on by one.
-use Rattle.std.proofs.Common.{◌≡◌, ℕ, suc, ◌+◌, List, [], ◌∷◌, ◌++◌, length, refl, sym, ap, ◌∙◌, subst, arith}
+-- A run of leads is a run, and goes on by one.
+use Rattle.std.proofs.Common.{◌≡◌, ℕ, suc, ◌+◌, List, [], ◌∷◌, ◌++◌, length, refl, sym, ap, ◌∙◌, subst, arith, append-nil}
 use Rattle.std.proofs.lemmas.List.{append_assoc}
 use Rattle.ol_net.specs.Nets.{NamedNet}
 use Rattle.ol_rules.specs.declared.journal.NodeName.{NodeName}
 use Rattle.ol_rules.specs.declared.journal.Entry.{Entry}
-use Rattle.ol_rules.specs.Runs.{IsEntryStep, IsLead, IsLeadRun, end, then, names_born, names_made}
+use Rattle.ol_rules.specs.Runs.{IsEntryStep, IsLead, IsRun, IsLeadRun, end, then, names_born, names_made}
 use Rattle.ol_rules.specs.Steps.{births}
-use Rattle.ol_rules.proofs.Lists.{append_nil}
+
+pub as_run : (N M : NamedNet NodeName) (t : ℕ) (es : List Entry) → IsLeadRun N t es M → IsRun N t es M
+as_run N M t [] IsLeadRun.end = IsRun.end
+as_run N M t (e ∷ es) (IsLeadRun.then {M = K} lead s r) = IsRun.then s (as_run K M (suc t) es r)
 
 -- a run of leads that made these nodes
 abbrev pub Led : NamedNet NodeName → ℕ → List Entry → NamedNet NodeName → List NodeName → Type 0
@@ -23,7 +26,7 @@ led_on N M P t u [] e made b end q lead h s =
     let h' : u ≡ t = omega arith in
     let S : ℕ → Type 0 = λ u. Stepped N u e P b in
     let s' : Stepped N t e P b = subst S h' s in
-    (then lead s'.0 end, append_nil _ ∙ ap (names_born t) s'.1 ∙ ap (λ u. names_born u b) (sym h') ∙ ap (λ ns. ns ++ names_born u b) q)
+    (then lead s'.0 end, append-nil _ ∙ ap (names_born t) s'.1 ∙ ap (λ u. names_born u b) (sym h') ∙ ap (λ ns. ns ++ names_born u b) q)
 led_on N M P t u (d ∷ es) e made b (then {M = K} lead' d' r) q lead h s =
     let i = led_on K M P (suc t) u es e (names_made r) b r refl lead (omega arith) s in
     let ns = names_born t (births d.rule d'.step.active.k d'.step.active.l) in

@@ -1,5 +1,5 @@
 -- The lists of a step are its joins and its nodes.
-use Rattle.std.proofs.Common.{◌≡◌, ℕ, suc, ◌+◌, ◌<◌, List, [], ◌∷◌, ◌++◌, Some, ◌⊎◌, inl, inr, refl, sym, ap, ◌∙◌, subst, ◌≢◌}
+use Rattle.std.proofs.Common.{◌≡◌, ℕ, suc, ◌+◌, ◌<◌, List, [], ◌∷◌, ◌++◌, Some, ◌⊎◌, inl, inr, refl, sym, ap, ◌∙◌, subst, ◌≢◌, append-nil}
 use Rattle.std.specs.Prelude.{slice_get}
 use Rattle.ol_edges.specs.Edges.{IsIn}
 use Rattle.ol_net.specs.declared.parts.Kind.{Kind}
@@ -10,7 +10,8 @@ use Rattle.ol_net.specs.Nets.{NamedPort, slot, NamedNet, HasNode}
 use Rattle.ol_net.specs.Replace.{JoinsOf, IsBorn, port_of_end}
 use Rattle.ol_rules.specs.Rewriting.{Action, meeting, crossing, JoinOf, meet, at_f, at_g, between, NodeOf, left, of_f, of_g}
 use Rattle.ol_rules.specs.Listed.{each, copies, born_of, meeting_joins, crossing_joins, joins_of}
-use Rattle.ol_rules.proofs.Lists.{in_left, in_right, in_cases, in_each, in_each_of, only, append_nil, get_copy, get_behind, got}
+use Rattle.ol_edges.proofs.Lists.{in_left, in_right, in_cases, only}
+use Rattle.ol_rules.proofs.Lists.{in_each, in_each_of, get_copy, get_behind, got}
 
 module _ (f g next : ℕ) (k l : Kind) where
   abbrev born : ℕ → ℕ
@@ -108,7 +109,7 @@ module _ (N : NamedNet ℕ) (f g next : ℕ) (k : Kind) (i : ℕ) (l : Kind) (j 
       at_node x y c d e u h = subst (λ x. Node j' x c) (sym e) (subst (λ c. Node j' y c) (sym u) h)
 
       behind : (q : ℕ) → p ≡ arity l + q → slice_get {X = Kind × ℕ} (copies {X = Kind × ℕ} (arity k) (l, j')) q ≡ Some (m, n) → NodeOf N (λ place. next + place) f g k i l (crossing j') x m n
-      behind q u h = last (got {X = Kind × ℕ} (arity k) (l, j') [] q (m, n) (ap (λ ys. slice_get {X = Kind × ℕ} ys q) (append_nil {X = Kind × ℕ} (copies {X = Kind × ℕ} (arity k) (l, j'))) ∙ h))
+      behind q u h = last (got {X = Kind × ℕ} (arity k) (l, j') [] q (m, n) (ap (λ ys. slice_get {X = Kind × ℕ} ys q) (append-nil {A = Kind × ℕ} (copies {X = Kind × ℕ} (arity k) (l, j'))) ∙ h))
         where
           last : ((q < arity k) × (◌≡◌ {A = Kind × ℕ} (m, n) (l, j'))) ⊎ ((t : ℕ) × (q ≡ arity k + t) × (slice_get {X = Kind × ℕ} [] t ≡ Some (m, n))) → NodeOf N (λ place. next + place) f g k i l (crossing j') x m n
           last (inl (b, v)) = at_node x (next + (arity l + q)) (m, n) (l, j') (e ∙ ap (λ p. next + p) u) v (of_g j' refl b)
@@ -127,5 +128,5 @@ module _ (N : NamedNet ℕ) (f g next : ℕ) (k : Kind) (i : ℕ) (l : Kind) (j 
     arity l + p,
     refl,
     subst (λ a. slice_get (born_of a (k, i) (l, j)) (arity l + p) ≡ Some (l, j')) (sym e)
-        (get_behind {X = Kind × ℕ} (arity l) (k, i) (copies {X = Kind × ℕ} (arity k) (l, j')) p ∙ (sym (ap (λ ys. slice_get {X = Kind × ℕ} ys p) (append_nil {X = Kind × ℕ} (copies {X = Kind × ℕ} (arity k) (l, j')))) ∙ get_copy {X = Kind × ℕ} (arity k) (l, j') [] p b)),
+        (get_behind {X = Kind × ℕ} (arity l) (k, i) (copies {X = Kind × ℕ} (arity k) (l, j')) p ∙ (sym (ap (λ ys. slice_get {X = Kind × ℕ} ys p) (append-nil {A = Kind × ℕ} (copies {X = Kind × ℕ} (arity k) (l, j')))) ∙ get_copy {X = Kind × ℕ} (arity k) (l, j') [] p b)),
   )

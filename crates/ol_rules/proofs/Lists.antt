@@ -1,26 +1,9 @@
--- What stands in lists.
+-- What stands in lists of copies, and in lists row by row.
 use Rattle.std.proofs.Common.{◌≡◌, ℕ, zero, suc, ◌+◌, ◌<◌, List, [], ◌∷◌, ◌++◌, Some, ◌⊎◌, inl, inr, refl, ap, ◌∙◌, subst, arith, length}
 use Rattle.std.specs.Prelude.{slice_get}
 use Rattle.ol_edges.specs.Edges.{IsIn}
+use Rattle.ol_edges.proofs.Lists.{in_left, in_right, in_cases}
 use Rattle.ol_rules.specs.Listed.{each, copies}
-
-pub in_left : {X : Type 0} (x : X) (xs ys : List X) → IsIn x xs → IsIn x (xs ++ ys)
-in_left x [] ys h = absurd h
-in_left x (z ∷ xs) ys (inl e) = inl e
-in_left x (z ∷ xs) ys (inr h) = inr (in_left x xs ys h)
-
-pub in_right : {X : Type 0} (x : X) (xs ys : List X) → IsIn x ys → IsIn x (xs ++ ys)
-in_right x [] ys h = h
-in_right x (z ∷ xs) ys h = inr (in_right x xs ys h)
-
-pub in_cases : {X : Type 0} (x : X) (xs ys : List X) → IsIn x (xs ++ ys) → IsIn x xs ⊎ IsIn x ys
-in_cases x [] ys h = inr h
-in_cases x (z ∷ xs) ys (inl e) = inl (inl e)
-in_cases x (z ∷ xs) ys (inr h) = go (in_cases x xs ys h)
-  where
-    go : IsIn x xs ⊎ IsIn x ys → IsIn x (z ∷ xs) ⊎ IsIn x ys
-    go (inl h) = inl (inr h)
-    go (inr h) = inr h
 
 pub in_each : {X : Type 0} (x : X) (n : ℕ) (rows : ℕ → List X) (s : ℕ) → s < n → IsIn x (rows s) → IsIn x (each n rows)
 in_each x zero rows s b h = absurd (omega arith)
@@ -40,11 +23,6 @@ in_each_of x (suc n) rows h = go (in_each_of x n rows) (in_cases x (each n rows)
     go : (IsIn x (each n rows) → (s : ℕ) × (s < n) × IsIn x (rows s)) → IsIn x (each n rows) ⊎ IsIn x (rows n) → (s : ℕ) × (s < suc n) × IsIn x (rows s)
     go ih (inl c) = let t = ih c in let b = t.1 in (t.0, omega arith, t.2)
     go ih (inr c) = (n, omega arith, c)
-
--- the one element of a list
-pub only : {X : Type 0} (x y : X) → IsIn x (y ∷ []) → x ≡ y
-only x y (inl e) = e
-only x y (inr h) = absurd h
 
 pub length_copies : {X : Type 0} (n : ℕ) (x : X) → length (copies n x) ≡ n
 length_copies zero x = refl
@@ -70,18 +48,3 @@ got {X} (suc n) x ys (suc p) y h = go (got n x ys p y h)
     go : ((p < n) × (y ≡ x)) ⊎ ((q : ℕ) × (p ≡ n + q) × (slice_get ys q ≡ Some y)) → ((suc p < suc n) × (y ≡ x)) ⊎ ((q : ℕ) × (suc p ≡ suc n + q) × (slice_get ys q ≡ Some y))
     go (inl (b, e)) = inl (omega arith, e)
     go (inr (q, e, k)) = inr (q, omega arith, k)
-
--- where an element of two lists stands
-pub got_append : {X : Type 0} (xs ys : List X) (p : ℕ) (y : X) → slice_get (xs ++ ys) p ≡ Some y
-    → (slice_get xs p ≡ Some y) ⊎ ((q : ℕ) × (p ≡ length xs + q) × (slice_get ys q ≡ Some y))
-got_append [] ys p y h = inr (p, omega arith, h)
-got_append (x ∷ xs) ys zero y h = inl h
-got_append {X} (x ∷ xs) ys (suc p) y h = go (got_append xs ys p y h)
-  where
-    go : (slice_get xs p ≡ Some y) ⊎ ((q : ℕ) × (p ≡ length xs + q) × (slice_get ys q ≡ Some y)) → (slice_get xs p ≡ Some y) ⊎ ((q : ℕ) × (suc p ≡ suc (length xs) + q) × (slice_get ys q ≡ Some y))
-    go (inl e) = inl e
-    go (inr (q, e, k)) = inr (q, omega arith, k)
-
-pub append_nil : {X : Type 0} (xs : List X) → xs ++ [] ≡ xs
-append_nil [] = refl
-append_nil (x ∷ xs) = ap (λ ys. x ∷ ys) (append_nil xs)

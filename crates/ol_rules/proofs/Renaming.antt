@@ -1,6 +1,7 @@
 -- A step of a net is a step of the same net under other names.
 use Rattle.std.proofs.Common.{◌≡◌, ℕ, suc, ◌+◌, List, [], ◌∷◌, map, inl, inr, refl, sym, ap, ◌∙◌, subst}
 use Rattle.ol_edges.specs.Edges.{IsIn, Edge, Contracted}
+use Rattle.ol_edges.proofs.Lists.{in_map, in_map_of}
 use Rattle.ol_edges.proofs.Composing.{IsImage, contracted_image}
 use Rattle.ol_net.specs.declared.parts.Kind.{Kind}
 use Rattle.ol_net.specs.declared.parts.Rule.{Rule}
@@ -8,16 +9,6 @@ use Rattle.ol_net.specs.Parts.{arity}
 use Rattle.ol_net.specs.Nets.{NamedPort, free, slot, NamedNet, HasNode, Linked, IsPort, IsNet, IsPrincipalOf, IsSlotOf, port_under, net_under}
 use Rattle.ol_net.specs.Pairs.{IsActive}
 use Rattle.ol_rules.specs.Rewriting.{Action, action_of, JoinOf, meet, at_f, at_g, between, NodeOf, left, of_f, of_g, Rewrites, IsStep}
-
-pub in_map : {X Y : Type 0} (m : X → Y) (x : X) (xs : List X) → IsIn x xs → IsIn (m x) (map m xs)
-in_map m x [] h = absurd h
-in_map m x (z ∷ xs) (inl e) = inl (ap m e)
-in_map m x (z ∷ xs) (inr h) = inr (in_map m x xs h)
-
-pub in_map_of : {X Y : Type 0} (m : X → Y) (y : Y) (xs : List X) → IsIn y (map m xs) → (x : X) × IsIn x xs × (y ≡ m x)
-in_map_of m y [] h = absurd h
-in_map_of m y (z ∷ xs) (inl e) = (z, inl refl, e)
-in_map_of m y (z ∷ xs) (inr h) = let t = in_map_of m y xs h in (t.0, inr t.1, t.2)
 
 map_alike : {X Y : Type 0} (m n : X → Y) (xs : List X) → ((x : X) → IsIn x xs → m x ≡ n x) → map m xs ≡ map n xs
 map_alike m n [] h = refl

@@ -8,7 +8,8 @@ use Rattle.ol_net.specs.declared.parts.Kind.{Kind}
 use Rattle.ol_net.specs.declared.parts.Rule.{Rule}
 use Rattle.ol_rules.proofs.Built.{net_of, HasBorn, built_rewrites, built_counted}
 use Rattle.ol_rules.proofs.Joins.{meets, crosses}
-use Rattle.ol_rules.proofs.Lists.{in_left, in_right, in_cases, in_each, in_each_of}
+use Rattle.ol_edges.proofs.Lists.{in_left, in_right, in_cases}
+use Rattle.ol_rules.proofs.Lists.{in_each, in_each_of}
 use Rattle.ol_rules.proofs.Vertices.{Vertex, old, f_copy, g_copy, meeting_joins, crossing_joins, gone, born_nodes, rewritten, rewrite, IsCounted}
 use Rattle.ol_rules.proofs.Wires.{Join}
 use Rattle.ol_rules.proofs.Alike.{meeting_alike}

@@ -6,7 +6,8 @@ use Rattle.ol_net.specs.Nets.{NamedPort, free, slot, NamedNet, HasNode, Linked, 
 use Rattle.ol_net.specs.Pairs.{IsStuck, HasPair, AreDifferent, HasStuck}
 use Rattle.ol_rules.specs.Runs.{IsComplete}
 use Rattle.ol_rules.proofs.Relation.{same_sym}
-use Rattle.ol_rules.proofs.Renaming.{in_map, in_map_of, node_to, node_from, link_to, link_from}
+use Rattle.ol_edges.proofs.Lists.{in_map, in_map_of}
+use Rattle.ol_rules.proofs.Renaming.{node_to, node_from, link_to, link_from}
 
 -- the same net, under the same names
 module _ {A B : Type 0} (m : A → B) where

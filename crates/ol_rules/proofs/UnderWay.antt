@@ -16,6 +16,7 @@ use Rattle.ol_rules.specs.declared.journal.NodeName.{NodeName}
 use Rattle.ol_rules.specs.declared.journal.NodeName.TheVariants.{Init, Born}
 use Rattle.ol_rules.specs.declared.journal.Entry.{Entry}
 use Rattle.ol_rules.specs.Rewriting.{IsStep, is_meeting}
+use Rattle.ol_rules.specs.Laws.{IsFresh}
 use Rattle.ol_rules.specs.Names.{comes_before, IsNamed}
 use Rattle.ol_rules.specs.Runs.{IsLead, end, names_born, LeadsTo}
 use Rattle.ol_rules.specs.Steps.{births, StepsAt}
@@ -23,7 +24,7 @@ use Rattle.ol_rules.specs.Running.{name_in, IsLeast}
 use Rattle.ol_rules.proofs.NameOrder.{Names, names_apart, names_after, names_after_old, names_on, names_first, not_before, not_before_itself}
 use Rattle.ol_rules.proofs.Renaming.{net_alike, active_to, active_from, step_under}
 use Rattle.ol_rules.proofs.FreshPairs.{linked_sym}
-use Rattle.ol_rules.proofs.Lists.{got_append}
+use Rattle.ol_edges.proofs.Lists.{got_append}
 use Rattle.ol_rules.proofs.LeadRuns.{Led, Stepped, led_on}
 
 -- a node's number was given out
@@ -33,6 +34,10 @@ node_below g x k i h = go (cases_lt x (length g.nodes))
     go : (x < length g.nodes) ⊎ (length g.nodes ≤ x) → x < length g.nodes
     go (inl b) = b
     go (inr b) = let e = (has_node g x k i).0 h in let e' = get_or_past g.nodes x None b in absurd (cc)
+
+-- so the next numbers are new
+pub fresh_numbers : (g : Graph) → IsFresh (net_of g) (λ place. length g.nodes + place)
+fresh_numbers g = record { apart = λ m n e. omega arith; unused = λ x k i p h e. (let b = node_below g x k i h in absurd (omega arith)) }
 
 pub births_few : (r : Rule) (k l : Kind) → births r k l ≤ 4
 births_few r k l = go (is_meeting r) (few k) (few l)

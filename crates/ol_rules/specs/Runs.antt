@@ -32,6 +32,10 @@ IsComplete {A} N = (f g : A) (r : Rule) → IsActive N f g r → ⊥
 abbrev pub HasActive : {A : Type 0} → NamedNet A → Type 0
 HasActive {A} N = (f : A) × (g : A) × (r : Rule) × IsActive N f g r
 
+-- all fuel was used up, and an active pair is left
+abbrev pub RanOut : ℕ → List Entry → Graph → Type 0
+RanOut fuel journal g = (length journal ≡ fuel) × HasActive (net_of g)
+
 -- The entry is the lead: the active pair whose smaller name is least.
 pub record IsLead (N : NamedNet NodeName) (e : Entry) : Type 0 where
   pub f : NodeName

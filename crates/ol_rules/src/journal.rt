@@ -9,7 +9,8 @@ use std::alloc::Global;
 use std::marker::Model;
 
 /// The name of a node in a run: the node that had number `k` in the net at the start, or the node
-/// that the rewrite with this ticket (its place in the journal, from 0) made at this place (0 to 3).
+/// that the rewrite with this ticket (its place in the journal, from 0) made at this place (0 to
+/// 3).
 #[derive(Clone, Copy, Debug, PartialEq, Eq)]
 pub enum NodeName {
     Init(u32),

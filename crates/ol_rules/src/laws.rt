@@ -15,8 +15,8 @@ pub fn a_step_is_a_net<A>()
     ensures some { StepExists A }
 {}
 
-/// A net has one one-thread run: one journal, which leads to one net. So for each fuel it ends, or it
-/// goes on, and not both.
+/// A net has one one-thread run: one journal, which leads to one net. So for each fuel it ends, or
+/// it goes on, and not both.
 pub fn one_thread_is_one()
     ensures one { OneThreadIsOne }
     ensures ends { EndsOrGoesOn }

@@ -1,14 +1,10 @@
 //! One-thread runs: the lead is rewritten, again and again.
 
-ghost use Rattle.std.specs.Prelude.{◌≡◌, ℕ, ◌+◌, ◌-◌, ◌*◌, ◌<◌, ◌≤◌, ◌^◌, ◌↔◌, ◌++◌, [], length, vec_len, true, OnOk, OnErr, IfOk, MatchOption};
-ghost use Rattle.std.specs.Ordering.{nat_cmp};
-ghost use Rattle.std.specs.BTreeSet.{contains};
-ghost use Rattle.ol_net.specs.declared.parts.Rule.{Rule};
-ghost use Rattle.ol_net.specs.Nets.{slot, Linked, IsNet};
-ghost use Rattle.ol_net.specs.Numbered.{net_of, numbered_port};
-ghost use Rattle.ol_net.specs.Pairs.{IsInActive};
-ghost use Rattle.ol_rules.specs.Runs.{IsComplete, HasActive, RunsTo, StopsWithin, names_born};
-ghost use Rattle.ol_rules.specs.Running.{name_in, AllWait, OthersWait, StillWait, IsLeast, HasPartner, AtMostOneStep, Advances};
+ghost use Rattle.std.specs.Prelude.{◌≡◌, ℕ, ◌+◌, ◌-◌, ◌*◌, ◌<◌, ◌≤◌, ◌^◌, ◌↔◌, ◌++◌, [], length, vec_len, OnOk, OnErr, IfOk};
+ghost use Rattle.ol_net.specs.Nets.{IsNet};
+ghost use Rattle.ol_net.specs.Numbered.{net_of};
+ghost use Rattle.ol_rules.specs.Runs.{IsComplete, RanOut, RunsTo, StopsWithin, names_born};
+ghost use Rattle.ol_rules.specs.Running.{name_in, AllWait, AllWaitBut, OthersWait, StillWait, RangeWaits, BesideWaits, IsLeast, FindsLead, FindsPartner, FindsNode, AtMostOneStep, Advances};
 ghost use Rattle.ol_rules.specs.Steps.{StepsAt};
 
 use crate::journal::{Entry, Journal, NodeName};
@@ -51,7 +47,7 @@ pub fn run(alloc: Global, net: &mut Net, fuel: u32) -> Result<Ran, NoMemory>
     requires { length net.old.nodes + 4 * fuel ≤ 2000000000 }
     ensures runs { IfOk result (λ ran. RunsTo net.old fuel ran.journal net.new) }
     ensures done { IfOk result (λ ran. (ran.ended ≡ Ended.Done) ↔ IsComplete (net_of net.new)) }
-    ensures spent { IfOk result (λ ran. (ran.ended ≡ Ended.Spent) ↔ ((length ran.journal ≡ fuel) × HasActive (net_of net.new))) }
+    ensures spent { IfOk result (λ r. (r.ended ≡ Ended.Spent) ↔ RanOut fuel r.journal net.new) }
     ensures no_memory { OnErr result (StopsWithin net.old fuel net.new) }
 {
     let mut running = begin(alloc, net)?;
@@ -87,8 +83,8 @@ fn begin(alloc: Global, net: &Net) -> Result<Running, NoMemory>
 /// lead's smaller number, and the other one.
 fn next_lead(waiting: &mut BTreeSet<u32>, net: &Net) -> Option<(NodeId, NodeId)>
     requires { AllWait net.now waiting.old }
-    ensures lead { MatchOption result (IsComplete (net_of net.now)) (λ pair. IsLeast net.now pair.0.0 pair.1.0) }
-    ensures others { MatchOption result (AllWait net.now waiting.new) (λ pair. OthersWait net.now pair.0.0 waiting.new) }
+    ensures lead { FindsLead net.now result }
+    ensures others { AllWaitBut net.now result waiting.new }
 {
     while let Some(n) = waiting.pop_first() {
         if let Some(partner) = active_partner(net, NodeId(n)) {
@@ -100,7 +96,7 @@ fn next_lead(waiting: &mut BTreeSet<u32>, net: &Net) -> Option<(NodeId, NodeId)>
 
 /// The other node of a node's active pair.
 fn active_partner(net: &Net, at: NodeId) -> Option<NodeId>
-    ensures { MatchOption result ((r : Rule) → IsInActive (net_of net.now) at.0 r → ⊥) (λ partner. HasPartner net.now at.0 partner.0) }
+    ensures { FindsPartner net.now at.0 result }
 {
     net.is_net();
     let Facing::Active(_) = net.facing(at) else {
@@ -112,7 +108,7 @@ fn active_partner(net: &Net, at: NodeId) -> Option<NodeId>
 /// Lets the nodes of active pairs wait whose numbers are in a range.
 fn await_active(waiting: &mut BTreeSet<u32>, net: &Net, from: u32, to: u32) -> Result<(), NoMemory>
     ensures kept { OnOk result (StillWait waiting.old waiting.new) }
-    ensures active { OnOk result ((x : ℕ) (r : Rule) → from ≤ x → x < to → IsInActive (net_of net.now) x r → contains nat_cmp waiting.new x ≡ true) }
+    ensures active { OnOk result (RangeWaits net.now from to waiting.new) }
 {
     for n in from..to {
         if let Facing::Active(_) = net.facing(NodeId(n)) {
@@ -127,7 +123,7 @@ fn await_active(waiting: &mut BTreeSet<u32>, net: &Net, from: u32, to: u32) -> R
 /// Lets the nodes wait whose principal ports are joined to auxiliary ports of a node.
 fn await_beside(waiting: &mut BTreeSet<u32>, net: &Net, at: NodeId) -> Result<(), NoMemory>
     ensures kept { OnOk result (StillWait waiting.old waiting.new) }
-    ensures beside { OnOk result ((x s : ℕ) → Linked (net_of net.now) (slot x 0) (slot at.0 (s + 1)) → contains nat_cmp waiting.new x ≡ true) }
+    ensures beside { OnOk result (BesideWaits net.now at.0 waiting.new) }
 {
     net.is_net();
     for slot in 1..3 {
@@ -142,7 +138,7 @@ fn await_beside(waiting: &mut BTreeSet<u32>, net: &Net, at: NodeId) -> Result<()
 
 /// The node whose principal port is joined to a port.
 fn node_at(net: &Net, port: Port) -> Option<NodeId>
-    ensures { MatchOption result ((x : ℕ) → Linked (net_of net.now) (slot x 0) (numbered_port port) → ⊥) (λ node. (x : ℕ) → Linked (net_of net.now) (slot x 0) (numbered_port port) → x ≡ node.0) }
+    ensures { FindsNode net.now port result }
 {
     net.is_net();
     match net.partner(port) {

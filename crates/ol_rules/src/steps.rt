@@ -1,18 +1,17 @@
-//! One step: the two nodes of an active pair go, and others come in their place (Lamping, An Algorithm
-//! for Optimal Lambda Calculus Reduction, POPL 1990).
+//! One step: the two nodes of an active pair go, and others come in their place (Lamping, An
+//! Algorithm for Optimal Lambda Calculus Reduction, POPL 1990).
 
-ghost use Rattle.std.specs.Prelude.{◌≡◌, ◌≢◌, ℕ, ◌≤◌, ◌-◌, ◌+◌, ◌↔◌, length, Some, OnOk, OnErr, IfOk, Err, MatchOption, slice_get, []};
-ghost use Rattle.ol_net.specs.declared.parts.Kind.{Kind};
+ghost use Rattle.std.specs.Prelude.{◌≡◌, ℕ, ◌≤◌, ◌-◌, ◌+◌, ◌↔◌, length, Some, OnOk, OnErr, IfOk, Err};
 ghost use Rattle.ol_net.specs.declared.parts.Rule.{Rule};
 ghost use Rattle.ol_net.specs.declared.parts.Facing.TheVariants.{Active};
 ghost use Rattle.ol_net.specs.Graph.{facing_at};
 ghost use Rattle.ol_net.specs.Parts.{arity};
 ghost use Rattle.ol_net.specs.Rules.{rule_of};
-ghost use Rattle.ol_net.specs.Replace.{Replaces, MayBeBorn, top_index_of};
-ghost use Rattle.ol_rules.specs.Rewriting.{action_of, crossing};
-ghost use Rattle.ol_rules.specs.Listed.{born_of, joins_of, meeting_joins, crossing_joins};
-ghost use Rattle.ol_rules.specs.Actors.{IsFacing, IsPair};
-ghost use Rattle.ol_rules.specs.Steps.{StepsAt};
+ghost use Rattle.ol_net.specs.Replace.{MayAllBeBorn};
+ghost use Rattle.ol_rules.specs.Rewriting.{meeting, crossing};
+ghost use Rattle.ol_rules.specs.Listed.{born_of};
+ghost use Rattle.ol_rules.specs.Actors.{IsFacing, FindsPair, action_in, IsRewritten};
+ghost use Rattle.ol_rules.specs.Steps.{IsUnpaired, StepsAt};
 ghost use Rattle.ol_rules.specs.declared.steps.StepFault.TheVariants.{NotActive};
 
 use ol_io::NoMemory;
@@ -53,7 +52,7 @@ fn born(place: u8, slot: u8) -> JoinEnd
 
 /// The active pair of a node, if it is in one.
 fn active_pair(net: &Net, at: NodeId) -> Option<Pair>
-    ensures { MatchOption result ((rule : Rule) → facing_at net.now at ≢ Active rule) (λ pair. IsPair net.now at pair) }
+    ensures { FindsPair net.now at result }
 {
     let here = net.kind_of(at)?;
     let Some(Port::Of { node, slot: 0 }) = net.partner(Port::Of { node: at, slot: 0 }) else {
@@ -85,7 +84,7 @@ fn meet(net: &mut Net, pair: Pair) -> Result<(), NoMemory>
     requires pair { IsFacing net.old pair }
     requires alike { arity pair.of_f.0 ≡ arity pair.of_g.0 }
     requires some { 1 ≤ arity pair.of_f.0 }
-    ensures replaced { OnOk result (Replaces net.old net.new pair.f pair.g [] (meeting_joins (arity pair.of_f.0))) }
+    ensures replaced { OnOk result (IsRewritten meeting pair net.old net.new) }
     ensures refused { OnErr result (net.new ≡ net.old) }
 {
     let (f, g) = (pair.f, pair.g);
@@ -107,9 +106,9 @@ fn meet(net: &mut Net, pair: Pair) -> Result<(), NoMemory>
 fn cross_with_none(net: &mut Net, pair: Pair, index: u32) -> Result<(), NoMemory>
     requires few { length net.old.nodes ≤ 2000000000 }
     requires pair { IsFacing net.old pair }
-    requires indexes { (p : ℕ) (k : Kind × ℕ) → slice_get (born_of (crossing index) pair.of_f pair.of_g) p ≡ Some k → MayBeBorn (top_index_of net.old.nodes) k }
+    requires indexes { MayAllBeBorn net.old.nodes (born_of (crossing index) pair.of_f pair.of_g) }
     requires none_of_f { arity pair.of_f.0 ≡ 0 }
-    ensures replaced { OnOk result (Replaces net.old net.new pair.f pair.g (born_of (crossing index) pair.of_f pair.of_g) (crossing_joins (arity pair.of_f.0) (arity pair.of_g.0))) }
+    ensures replaced { OnOk result (IsRewritten (crossing index) pair net.old net.new) }
     ensures refused { OnErr result (net.new ≡ net.old) }
 {
     let (f, g, of_f) = (pair.f, pair.g, pair.of_f);
@@ -126,10 +125,10 @@ fn cross_with_none(net: &mut Net, pair: Pair, index: u32) -> Result<(), NoMemory
 fn cross_with_one(net: &mut Net, pair: Pair, index: u32) -> Result<(), NoMemory>
     requires few { length net.old.nodes ≤ 2000000000 }
     requires pair { IsFacing net.old pair }
-    requires indexes { (p : ℕ) (k : Kind × ℕ) → slice_get (born_of (crossing index) pair.of_f pair.of_g) p ≡ Some k → MayBeBorn (top_index_of net.old.nodes) k }
+    requires indexes { MayAllBeBorn net.old.nodes (born_of (crossing index) pair.of_f pair.of_g) }
     requires one_of_f { arity pair.of_f.0 ≡ 1 }
     requires some_of_g { 1 ≤ arity pair.of_g.0 }
-    ensures replaced { OnOk result (Replaces net.old net.new pair.f pair.g (born_of (crossing index) pair.of_f pair.of_g) (crossing_joins (arity pair.of_f.0) (arity pair.of_g.0))) }
+    ensures replaced { OnOk result (IsRewritten (crossing index) pair net.old net.new) }
     ensures refused { OnErr result (net.new ≡ net.old) }
 {
     let (f, g, of_f) = (pair.f, pair.g, pair.of_f);
@@ -164,10 +163,10 @@ fn cross_with_one(net: &mut Net, pair: Pair, index: u32) -> Result<(), NoMemory>
 fn cross_with_two(net: &mut Net, pair: Pair, index: u32) -> Result<(), NoMemory>
     requires few { length net.old.nodes ≤ 2000000000 }
     requires pair { IsFacing net.old pair }
-    requires indexes { (p : ℕ) (k : Kind × ℕ) → slice_get (born_of (crossing index) pair.of_f pair.of_g) p ≡ Some k → MayBeBorn (top_index_of net.old.nodes) k }
+    requires indexes { MayAllBeBorn net.old.nodes (born_of (crossing index) pair.of_f pair.of_g) }
     requires two_of_f { arity pair.of_f.0 ≡ 2 }
     requires some_of_g { 1 ≤ arity pair.of_g.0 }
-    ensures replaced { OnOk result (Replaces net.old net.new pair.f pair.g (born_of (crossing index) pair.of_f pair.of_g) (crossing_joins (arity pair.of_f.0) (arity pair.of_g.0))) }
+    ensures replaced { OnOk result (IsRewritten (crossing index) pair net.old net.new) }
     ensures refused { OnErr result (net.new ≡ net.old) }
 {
     let (f, g, of_f) = (pair.f, pair.g, pair.of_f);
@@ -208,7 +207,7 @@ fn rewrite(net: &mut Net, pair: Pair) -> Result<(), NoMemory>
     requires few { length net.old.nodes ≤ 2000000000 }
     requires pair { IsFacing net.old pair }
     requires fits { rule_of pair.of_f.0 pair.of_f.1 pair.of_g.0 pair.of_g.1 ≡ Some pair.rule }
-    ensures replaced { OnOk result (Replaces net.old net.new pair.f pair.g (born_of (action_of pair.rule pair.of_g.1) pair.of_f pair.of_g) (joins_of (action_of pair.rule pair.of_g.1) (arity pair.of_f.0) (arity pair.of_g.0))) }
+    ensures replaced { OnOk result (IsRewritten (action_in pair) pair net.old net.new) }
     ensures refused { OnErr result (net.new ≡ net.old) }
 {
     net.is_tabled();
@@ -225,15 +224,15 @@ fn rewrite(net: &mut Net, pair: Pair) -> Result<(), NoMemory>
 }
 
 /// Rewrites the active pair of a node, which may be either of the two, and answers its rule. By
-/// `Beta`, `Fan`, `Croissant` and `Bracket` both nodes go, and their slots of one number are joined.
-/// By the other rules a copy of the node that acts comes at each auxiliary port of the other one, and
-/// a copy of the other one at each of its own; they have the next numbers in this order. After a
-/// refusal the net is as it was. `NotActive`: the node is in no active pair.
+/// `Beta`, `Fan`, `Croissant` and `Bracket` both nodes go, and their slots of one number are
+/// joined. By the other rules a copy of the node that acts comes at each auxiliary port of the
+/// other one, and a copy of the other one at each of its own; they have the next numbers in this
+/// order. After a refusal the net is as it was. `NotActive`: the node is in no active pair.
 pub fn step(net: &mut Net, at: NodeId) -> Result<Rule, StepFault>
     requires few { length net.old.nodes ≤ 2000000000 }
     ensures steps { IfOk result (λ rule. StepsAt net.old net.new at.0 rule) }
     ensures active { IfOk result (λ rule. facing_at net.old at ≡ Active rule) }
-    ensures not_active { result ≡ Err NotActive ↔ ((rule : Rule) → facing_at net.old at ≢ Active rule) }
+    ensures not_active { result ≡ Err NotActive ↔ IsUnpaired net.old at }
     ensures refused { OnErr result (net.new ≡ net.old) }
 {
     net.is_tabled();
