@@ -11,6 +11,7 @@ use Rattle.ol_rules.specs.Names.{comes_before}
 use Rattle.ol_rules.specs.Rewriting.{action_of}
 use Rattle.ol_rules.specs.Laws.{AreNamedBefore}
 use Rattle.ol_rules.specs.Runs.{IsRun, IsLeadRun, IsComplete, HasActive}
+use Rattle.ol_rules.proofs.LeadRuns.{as_run}
 use Rattle.ol_rules.proofs.OneRun.{name_same, name_test, fresh_names, named_after}
 use Rattle.ol_rules.proofs.Relation.{same_sym, same_trans, net_kept}
 use Rattle.ol_rules.proofs.Renaming.{net_alike, active_to}
@@ -33,11 +34,6 @@ run_net N M t (e ∷ es) n b (IsRun.then {M = K} s r) =
     let n' : IsNet K = net_kept name_same name_test (λ place. Born t place) N s.f s.g a.k a.i a.l a.j e.rule n a.faces (fresh_names N t b) a.fits K s.step.rewrites in
     let b' = named_after N K t s.f s.g a.k a.i a.l (action_of e.rule a.j) b s.step.rewrites in
     run_net K M (suc t) es n' b' r
-
--- leads are a run
-pub as_run : (N M : NamedNet NodeName) (t : ℕ) (es : List Entry) → IsLeadRun N t es M → IsRun N t es M
-as_run N M t [] IsLeadRun.end = IsRun.end
-as_run N M t (e ∷ es) (IsLeadRun.then {M = K} lead s r) = IsRun.then s (as_run K M (suc t) es r)
 
 -- a run goes on by one pair
 one_more : (N M P : NamedNet BirthName) (ps : List Pair) (p : Pair) → IsPairRun N ps M → IsPairStep M p P → IsPairRun N (ps ++ p ∷ []) P

@@ -15,12 +15,11 @@ use Rattle.ol_net.specs.Pairs.{IsActive, IsInActive}
 use Rattle.ol_net.proofs.Numbered.{active_from, active_first, active_second}
 use Rattle.ol_rules.specs.Rewriting.{is_meeting, action_of}
 use Rattle.ol_rules.specs.Steps.{births, StepsAt}
-use Rattle.ol_rules.specs.Laws.{IsFresh}
 use Rattle.ol_rules.proofs.BothWays.{both_ways}
 use Rattle.ol_rules.proofs.FreshPairs.{linked_sym}
 use Rattle.ol_rules.proofs.Relation.{net_kept}
 use Rattle.ol_rules.proofs.Tests.{nat_test}
-use Rattle.ol_rules.proofs.UnderWay.{node_below}
+use Rattle.ol_rules.proofs.UnderWay.{fresh_numbers}
 use Rattle.ol_diamond.specs.Squares.{AreTogether}
 use Rattle.ol_diamond.proofs.Commute.{Disjoint, faces_still}
 
@@ -197,9 +196,6 @@ module _ (net : Graph) (is_net : IsNet (net_of net)) (x y : ℕ) (differ : x ≢
       from (inr h) = absurd (n (is_net.of_ports (slot x 0) (slot y 0) h).0)
 
 -- ---- a step of a graph
-
-pub fresh_numbers : (g : Graph) → IsFresh (net_of g) (λ place. length g.nodes + place)
-fresh_numbers g = record { apart = λ m n e. omega arith; unused = λ x k i p h e. (let b = node_below g x k i h in absurd (omega arith)) }
 
 module _ (net middle : Graph) (x : ℕ) (r : Rule) (is_net : IsNet (net_of net)) (s : StepsAt net middle x r) where
   pub after_net : IsNet (net_of middle)

@@ -1,6 +1,7 @@
 -- Both orders of two pairs of a graph, by birth names and by numbers.
 use Rattle.std.proofs.Common.{◌≡◌, ◌≢◌, ℕ, ◌+◌, ◌-◌, ◌<◌, ◌≤◌, nat_lt, if◌then◌else◌, List, [], ◌∷◌, map, length, ◌⊎◌, inl, inr, refl, sym, ap, ◌∙◌, subst, arith}
-use Rattle.std.proofs.lemmas.Bool.{cases_lt, cond_below, cond_above}
+use Rattle.std.proofs.lemmas.Bool.{cases_lt}
+use Rattle.ol_edges.proofs.Lists.{if_below, if_above}
 use Rattle.ol_net.specs.declared.parts.Kind.{Kind}
 use Rattle.ol_net.specs.declared.parts.Rule.{Rule}
 use Rattle.ol_net.specs.Graph.{Graph}
@@ -12,7 +13,7 @@ use Rattle.ol_rules.specs.Steps.{births, StepsAt}
 use Rattle.ol_rules.proofs.FreshPairs.{linked_sym}
 use Rattle.ol_rules.proofs.Relation.{same_refl, same_sym, same_trans}
 use Rattle.ol_rules.proofs.Renaming.{node_to, link_to, node_back, link_back, net_alike}
-use Rattle.ol_rules.proofs.UnderWay.{node_below}
+use Rattle.ol_rules.proofs.UnderWay.{node_below, fresh_numbers}
 use Rattle.ol_diamond.specs.Births.{BirthName, init, born, IsBirthNet}
 use Rattle.ol_diamond.specs.Runs.{Pair, IsSamePair, IsPairStep}
 use Rattle.ol_diamond.specs.Squares.{IsInNoActive, AreTogether, AreInOnePair, InTurn, born_between, exchanged, names_after, birth_names, BothOrders}
@@ -20,15 +21,9 @@ use Rattle.ol_diamond.proofs.Births.{fresh_of, start_is_birth_net}
 use Rattle.ol_diamond.proofs.Commute.{Disjoint}
 use Rattle.ol_diamond.proofs.Confluence.{step_keeps, take, one_pair, pairs_commute}
 use Rattle.ol_diamond.proofs.Renaming.{IsRenamed, under_renamed, renamed_under, agree, renamed}
-use Rattle.ol_diamond.proofs.Pairs.{one_partner, one_rule, AreSameTwo, IsSeenTwice, seen_twice, fresh_numbers, after_net, apart, faces_after}
+use Rattle.ol_diamond.proofs.Pairs.{one_partner, one_rule, AreSameTwo, IsSeenTwice, seen_twice, after_net, apart, faces_after}
 
 -- ---- names by numbers
-
-if_below : {X : Type 0} (x n : ℕ) (a b : X) → x < n → (if nat_lt x n then a else b) ≡ a
-if_below x n a b h = sym (cond_below x n a b h)
-
-if_above : {X : Type 0} (x n : ℕ) (a b : X) → n ≤ x → (if nat_lt x n then a else b) ≡ b
-if_above x n a b h = sym (cond_above x n a b b h refl)
 
 -- start nodes below n, then nodes of a first pair, and from m on those of a second one
 abbrev two : (n m : ℕ) (F G F' G' : BirthName) → ℕ → BirthName

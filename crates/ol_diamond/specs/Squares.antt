@@ -7,10 +7,15 @@ use Rattle.ol_net.specs.Numbered.{net_of}
 use Rattle.ol_net.specs.Pairs.{IsInActive}
 use Rattle.ol_rules.specs.Steps.{StepsAt}
 use Rattle.ol_diamond.specs.Births.{BirthName, init, born}
+use Rattle.ol_diamond.specs.declared.square.Square.{Square}
 
 -- no active pair has the node
 abbrev pub IsInNoActive : Graph → ℕ → Type 0
 IsInNoActive net x = (r : Rule) → IsInActive (net_of net) x r → ⊥
+
+-- of one of the two nodes at least
+abbrev pub IsOneInNoActive : Graph → ℕ → ℕ → Type 0
+IsOneInNoActive net x y = IsInNoActive net x ⊎ IsInNoActive net y
 
 -- two nodes are one, or their principal ports are joined
 abbrev pub AreTogether : Graph → ℕ → ℕ → Type 0
@@ -56,3 +61,7 @@ pub record BothOrders (net : Graph) (a b : ℕ) (r s : Rule) (ab ba : Graph) : T
   pub ba_turn : InTurn net b a s r ba
   pub exchange : SameNet (net_under (exchanged (length net.nodes) (born_between net ab_turn.middle) (born_between net ba_turn.middle)) (net_of ab)) (net_of ba)
   pub births : SameNet (net_under (birth_names ab_turn) (net_of ab)) (net_under (birth_names ba_turn) (net_of ba))
+
+-- a square has both orders of the pairs of a and b
+abbrev pub IsSquare : Graph → (a b : ℕ) → Square → Type 0
+IsSquare net a b square = BothOrders net a b square.rule_a square.rule_b square.ab square.ba

@@ -1,14 +1,14 @@
-//! Strong confluence: where one run of a sharing graph is complete, all complete runs leave one net,
-//! in one number of steps, whatever the order in which pairs are taken.
+//! Strong confluence: where one run of a sharing graph is complete, all complete runs leave one
+//! net, in one number of steps, whatever the order in which pairs are taken.
 //!
 //! Two rewrites that share no node commute, as in any interaction net (Yves Lafont, *Interaction
-//! Nets*, 1990). The laws are said over birth names. A node that a rewrite makes is named by the two
-//! nodes that were rewritten and its place, and not by the moment at which it came, so a rewrite
-//! depends on its pair alone, and both orders give the very same names. A journal's names tell the
-//! moment (the ticket); the last law takes them to birth names.
+//! Nets*, 1990). The laws are said over birth names. A node that a rewrite makes is named by the
+//! two nodes that were rewritten and its place, and not by the moment at which it came, so a
+//! rewrite depends on its pair alone, and both orders give the very same names. A journal's names
+//! tell the moment (the ticket); the last law takes them to birth names.
 //!
-//! The laws have no code. `two_orders` shows one square of it on a net: two pairs, rewritten in both
-//! orders.
+//! The laws have no code. `two_orders` shows one square of it on a net: two pairs, rewritten in
+//! both orders.
 #![tactic(auto)]
 
 mod one_thread;

@@ -5,14 +5,15 @@ ghost use Rattle.ol_net.specs.declared.parts.Rule.{Rule};
 ghost use Rattle.ol_net.specs.Numbered.{net_of};
 ghost use Rattle.ol_net.specs.Pairs.{IsInActive};
 ghost use Rattle.ol_rules.specs.Steps.{StepsAt};
-ghost use Rattle.ol_diamond.specs.Squares.{IsInNoActive, AreTogether, AreInOnePair, InTurn, BothOrders};
+ghost use Rattle.ol_diamond.specs.Squares.{IsInNoActive, IsOneInNoActive, AreTogether, AreInOnePair, InTurn, IsSquare};
 ghost use Rattle.ol_diamond.specs.declared.square.SquareFault.TheVariants.{NotActive, SamePair};
 
 use ol_io::NoMemory;
 use ol_net::{Facing, Net, NodeId, Port, Rule};
 use ol_rules::{StepFault, step};
 
-/// What two active pairs of a net leave in either order, and their rules, which are the same in both.
+/// What two active pairs of a net leave in either order, and their rules, which are the same in
+/// both.
 #[derive(Drop)]
 pub struct Square {
     /// The net after the pair of the first node and then that of the second.
@@ -39,17 +40,17 @@ pub enum SquareFault {
 /// Rewrites the pairs of two nodes in both orders, on two copies of the net.
 ///
 /// Each of the two pairs is still active when the other is gone, so neither order ever gets stuck,
-/// and it has the same rule in both. The two nets differ in the numbers of new nodes alone: the nodes
-/// that the pair of `a` made have the next numbers in `ab`, and those that the pair of `b` made come
-/// after them; in `ba` it is the other way round. Where each new node is named by the two that made
-/// it and its place, they are one net (Lafont, Interaction Nets, 1990).
+/// and it has the same rule in both. The two nets differ in the numbers of new nodes alone: the
+/// nodes that the pair of `a` made have the next numbers in `ab`, and those that the pair of `b`
+/// made come after them; in `ba` it is the other way round. Where each new node is named by the two
+/// that made it and its place, they are one net (Lafont, Interaction Nets, 1990).
 ///
-/// The net has given out at most 1,999,999,000 numbers. `NotActive` and `SamePair` come exactly where
-/// they say so, and `NoMemory` where no memory was found.
+/// The net has given out at most 1,999,999,000 numbers. `NotActive` and `SamePair` come exactly
+/// where they say so, and `NoMemory` where no memory was found.
 pub fn two_orders(net: &Net, a: NodeId, b: NodeId) -> Result<Square, SquareFault>
     requires few { length net.now.nodes ≤ 1999999000 }
-    ensures orders { IfOk result (λ square. BothOrders net.now a.0 b.0 square.rule_a square.rule_b square.ab square.ba) }
-    ensures not_active { result ≡ Err NotActive ↔ (IsInNoActive net.now a.0 ⊎ IsInNoActive net.now b.0) }
+    ensures orders { IfOk result (IsSquare net.now a.0 b.0) }
+    ensures not_active { result ≡ Err NotActive ↔ IsOneInNoActive net.now a.0 b.0 }
     ensures same_pair { result ≡ Err SamePair ↔ AreInOnePair net.now a.0 b.0 }
 {
     net.is_net();
