@@ -2,7 +2,7 @@
 use Rattle.std.proofs.Common.{◌≡◌, ℕ, suc, ◌+◌, ◌<◌, ◌≤◌, true, List, [], ◌∷◌, length, ◌⊎◌, inl, inr, sym, subst, arith}
 use Rattle.std.proofs.lemmas.Bool.{cases_lt}
 use Rattle.ol_invariance.proofs.Renamed.{renamed}
-use Rattle.ol_invariance.proofs.Steps.{step_keeps, inside}
+use Rattle.ol_invariance.proofs.Steps.{step_keeps}
 use Rattle.ol_context.specs.Paths.{HaveSamePaths}
 use Rattle.ol_invariance.specs.Laws.{JournalKeepsPaths, GraphRunKeepsPaths}
 use Rattle.ol_net.specs.Nets.{NamedNet, HasNode, IsNet, net_under}
@@ -10,8 +10,10 @@ use Rattle.ol_net.specs.Numbered.{net_of}
 use Rattle.ol_net.specs.declared.parts.Kind.{Kind}
 use Rattle.ol_rules.proofs.NameOrder.{not_before_itself}
 use Rattle.ol_rules.proofs.OneRun.{name_same, name_test, fresh_names, named_after}
+use Rattle.ol_rules.proofs.LeadRuns.{as_run}
 use Rattle.ol_rules.proofs.Relation.{net_kept}
 use Rattle.ol_rules.proofs.StartNets.{start_net, start_named}
+use Rattle.ol_rules.proofs.UnderWay.{node_below}
 use Rattle.ol_rules.specs.Names.{comes_before}
 use Rattle.ol_rules.specs.Rewriting.{action_of}
 use Rattle.ol_rules.specs.Runs.{IsRun, IsLeadRun, IsNaming, names_made}
@@ -33,11 +35,6 @@ run_keeps N M t (e ∷ es) n b (IsRun.then {M = K} s run) =
     let n' : IsNet K = net_kept name_same name_test (λ place. Born t place) N s.f s.g a.k a.i a.l a.j e.rule n a.faces fresh a.fits K s.step.rewrites in
     let b' = named_after N K t s.f s.g a.k a.i a.l (action_of e.rule a.j) b s.step.rewrites in
     both N K M (step_keeps name_same name_test (λ place. Born t place) N K s.f s.g e.rule n fresh s.step) (run_keeps K M (suc t) es n' b' run)
-
--- a run by leads is a run
-as_run : (N M : NamedNet NodeName) (t : ℕ) (es : List Entry) → IsLeadRun N t es M → IsRun N t es M
-as_run N M t [] IsLeadRun.end = IsRun.end
-as_run N M t (e ∷ es) (IsLeadRun.then {M = K} lead s run) = IsRun.then s (as_run K M (suc t) es run)
 
 -- different numbers have different names
 names_apart : (start : ℕ) (made : List NodeName) (names : ℕ → NodeName) → IsNaming start made names → (x y : ℕ) → x < start + length made → y < start + length made → names x ≡ names y → x ≡ y
@@ -65,7 +62,7 @@ graph_run_keeps old new journal n n' leads =
     both (net_of old) start (net_of new) first (both start last (net_of new) run (turned (net_of new) last under))
   where
     within : (x : ℕ) (k : Kind) (i : ℕ) → HasNode (net_of new) x k i → x < length old.nodes + length (names_made leads.run)
-    within x k i h = subst (λ n. x < n) leads.numbers (inside new x k i h)
+    within x k i h = subst (λ n. x < n) leads.numbers (node_below new x k i h)
 
     one_name : (x y : ℕ) (k l : Kind) (i j : ℕ) → HasNode (net_of new) x k i → HasNode (net_of new) y l j → leads.names x ≡ leads.names y → x ≡ y
     one_name x y k l i j h h' e = names_apart (length old.nodes) (names_made leads.run) leads.names leads.naming x y (within x k i h) (within y l j h') e

@@ -12,6 +12,7 @@ use Rattle.ol_net.specs.Numbered.{net_of}
 use Rattle.ol_net.specs.declared.parts.Kind.{Kind}
 use Rattle.ol_rules.proofs.Relation.{net_kept}
 use Rattle.ol_rules.proofs.Tests.{nat_test}
+use Rattle.ol_rules.proofs.UnderWay.{fresh_numbers}
 use Rattle.ol_rules.specs.Laws.{IsFresh}
 use Rattle.ol_rules.specs.Rewriting.{action_of}
 
@@ -20,17 +21,6 @@ step_keeps same t born N M f g r n fresh s =
     let a = s.active in
     let n' = net_kept same t born N f g a.k a.i a.l a.j r n a.faces fresh a.fits M s.rewrites in
     keeps_paths N f g a.k a.i a.l a.j (action_of r a.j) born same t n a.faces fresh M s.rewrites n' (rule_suits a.k a.i a.l a.j r a.fits)
-
-has_first : (k : Kind) (i : ℕ) → has_slot (Some (k, i)) 0 ≡ true
-has_first k i = grind (arith, nat_tests)
-
--- a node's number is below the table's length
-pub inside : (g : Graph) (x : ℕ) (k : Kind) (i : ℕ) → HasNode (net_of g) x k i → x < length g.nodes
-inside g x k i h = kind_at-within g.nodes x 0 (ap (λ o. has_slot o 0) ((has_node g x k i).0 h) ∙ has_first k i)
-
--- and so the next ones are new
-fresh_numbers : (g : Graph) → IsFresh (net_of g) (λ place. length g.nodes + place)
-fresh_numbers g = record { apart = λ m n e. omega arith; unused = λ x k i p h e. (let b = inside g x k i h in absurd (omega arith)) }
 
 pub graph_step_keeps : GraphStepKeepsPaths
 graph_step_keeps old new at r n s = step_keeps nat_eq nat_test (λ place. length old.nodes + place) (net_of old) (net_of new) s.f s.g r n (fresh_numbers old) s.step

@@ -6,8 +6,8 @@ ghost use Rattle.ol_net.specs.Graph.{facing_at};
 ghost use Rattle.ol_net.specs.Numbered.{net_of};
 ghost use Rattle.ol_net.specs.declared.parts.Facing.TheVariants.{Active};
 ghost use Rattle.ol_net.specs.declared.parts.Rule.{Rule};
-ghost use Rattle.ol_rules.specs.Runs.{IsComplete, HasActive, RunsTo, StopsWithin};
-ghost use Rattle.ol_rules.specs.Steps.{StepsAt};
+ghost use Rattle.ol_rules.specs.Runs.{IsComplete, RanOut, RunsTo, StopsWithin};
+ghost use Rattle.ol_rules.specs.Steps.{IsUnpaired, StepsAt};
 ghost use Rattle.ol_rules.specs.declared.one_thread.Ended.TheVariants as ended;
 ghost use Rattle.ol_rules.specs.declared.steps.StepFault.TheVariants.{NotActive};
 
@@ -22,7 +22,7 @@ pub fn step_kept(net: &mut Net, at: NodeId) -> Result<Rule, StepFault>
     requires few { length net.old.nodes ≤ 2000000000 }
     ensures steps { IfOk result (λ rule. StepsAt net.old net.new at.0 rule) }
     ensures active { IfOk result (λ rule. facing_at net.old at ≡ Active rule) }
-    ensures not_active { result ≡ Err NotActive ↔ ((rule : Rule) → facing_at net.old at ≢ Active rule) }
+    ensures not_active { result ≡ Err NotActive ↔ IsUnpaired net.old at }
     ensures refused { OnErr result (net.new ≡ net.old) }
     ensures paths { HaveSamePaths (net_of net.old) (net_of net.new) }
 {
@@ -30,13 +30,13 @@ pub fn step_kept(net: &mut Net, at: NodeId) -> Result<Rule, StepFault>
     step(net, at)
 }
 
-/// Makes a run as `ol_rules::run` does. Each path between free ports is there before and after, also
-/// with `NoMemory`.
+/// Makes a run as `ol_rules::run` does. Each path between free ports is there before and after,
+/// also with `NoMemory`.
 pub fn run_kept(alloc: Global, net: &mut Net, fuel: u32) -> Result<Ran, NoMemory>
     requires few { length net.old.nodes + 4 * fuel ≤ 2000000000 }
     ensures runs { IfOk result (λ ran. RunsTo net.old fuel ran.journal net.new) }
     ensures done { IfOk result (λ ran. (ran.ended ≡ ended.Done) ↔ IsComplete (net_of net.new)) }
-    ensures spent { IfOk result (λ ran. (ran.ended ≡ ended.Spent) ↔ ((length ran.journal ≡ fuel) × HasActive (net_of net.new))) }
+    ensures spent { IfOk result (λ r. (r.ended ≡ ended.Spent) ↔ RanOut fuel r.journal net.new) }
     ensures no_memory { OnErr result (StopsWithin net.old fuel net.new) }
     ensures paths { HaveSamePaths (net_of net.old) (net_of net.new) }
 {

@@ -22,7 +22,8 @@ enum Outcome {
 /// crossing that is not defined.
 type Left = Option<(u32, [Sign; 3])>;
 
-/// A pair, the right line and a wrong one of its rule, and a walk from free port 0 that tells them apart.
+/// A pair, the right line and a wrong one of its rule, and a walk from free port 0 that tells them
+/// apart.
 #[derive(Clone, Copy)]
 struct Row {
     f: (Kind, u32),
@@ -36,7 +37,8 @@ struct Row {
     lost: Left,
 }
 
-/// f and g face each other. The free ports are at their auxiliary slots, those of f first; g has two.
+/// f and g face each other. The free ports are at their auxiliary slots, those of f first; g has
+/// two.
 fn before(alloc: Global, f: (Kind, u32), g: (Kind, u32)) -> Result<Net, Fail> {
     let nodes = vec![in alloc; f, g]?;
     if f.0.slots() == 2 {

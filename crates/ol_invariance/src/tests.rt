@@ -107,8 +107,9 @@ fn first_signs(values: &Values, context: &Context) -> [Sign; 3]
     ]
 }
 
-/// The port by which the walk from free port 0 leaves and the signs of the first levels there, where it
-/// begins with these levels, each of one sign alone. `None`: it comes to a crossing that is not defined.
+/// The port by which the walk from free port 0 leaves and the signs of the first levels there,
+/// where it begins with these levels, each of one sign alone. `None`: it comes to a crossing that
+/// is not defined.
 pub fn walked(
     rt: &impl Abort,
     alloc: Global,
