@@ -8,7 +8,7 @@ use Rattle.ol_net.specs.Parts.{arity}
 use Rattle.ol_net.specs.Nets.{NamedPort, slot, NamedNet, HasNode, Linked, IsNet, SameNet, Faces, IsPrincipalOf, IsSlotOf}
 use Rattle.ol_rules.specs.Rewriting.{Action, JoinOf, meet, at_f, at_g, between, NodeOf, left, of_f, of_g, Rewrites}
 use Rattle.ol_rules.specs.Laws.{IsFresh}
-use Rattle.ol_rules.proofs.Vertices.{port_same}
+use Rattle.ol_rules.specs.Contracting.{port_same}
 use Rattle.ol_rules.proofs.Tests.{port_test}
 use Rattle.ol_diamond.proofs.Rewirings.{Edge2, Clear, left_after}
 

@@ -9,7 +9,7 @@ use Rattle.ol_net.specs.Nets.{NamedPort, free, slot, NamedNet, HasNode, Linked, 
 use Rattle.ol_net.specs.Parts.{arity}
 use Rattle.ol_net.specs.declared.parts.Kind.{Kind}
 use Rattle.ol_rules.proofs.FreshPairs.{linked_sym}
-use Rattle.ol_rules.proofs.Vertices.{Vertex, old, f_copy, g_copy}
+use Rattle.ol_rules.specs.Contracting.{Vertex, old, f_copy, g_copy}
 use Rattle.ol_rules.proofs.Wires.{Off, Join, meet, at_f, at_g, between, Wire, stays, join}
 use Rattle.ol_rules.specs.Rewriting.{Action, meeting, crossing}
 

@@ -13,7 +13,7 @@ use Rattle.ol_net.specs.declared.parts.Kind.{Kind}
 use Rattle.ol_rules.proofs.Ports.{Lasts, LinkAfter, links_of, name_one, lasts_real}
 use Rattle.ol_rules.proofs.Ports as ports
 use Rattle.ol_rules.proofs.Tests.{vertex_test}
-use Rattle.ol_rules.proofs.Vertices.{Vertex, old, f_copy, g_copy, vertex_same}
+use Rattle.ol_rules.specs.Contracting.{Vertex, old, f_copy, g_copy, vertex_same}
 use Rattle.ol_rules.proofs.Wires.{Off, Wire}
 use Rattle.ol_rules.specs.Laws.{IsFresh}
 use Rattle.ol_rules.specs.Rewriting.{Action, NodeOf, left, of_f, of_g, Rewrites}

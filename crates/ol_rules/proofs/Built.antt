@@ -12,7 +12,7 @@ use Rattle.ol_edges.proofs.Lists.{in_left, in_right, in_cases, in_map, in_map_of
 use Rattle.ol_rules.proofs.Lists.{in_each, in_each_of}
 use Rattle.ol_rules.proofs.Ports.{Lasts, LinkAfter, links_of, Real, name_one, lasts_real, first_edge}
 use Rattle.ol_rules.proofs.Tests.{port_test, vertex_test}
-use Rattle.ol_rules.proofs.Vertices.{Vertex, old, f_copy, g_copy, vertex_same, gone, name, is_principal, nodes_left, links_left, rewritten, port_same, IsCounted}
+use Rattle.ol_rules.specs.Contracting.{Vertex, old, f_copy, g_copy, vertex_same, gone, name, is_principal, nodes_left, links_left, rewritten, port_same, IsCounted}
 use Rattle.ol_rules.proofs.Wires.{Off, Join, Wire, stays, join}
 use Rattle.ol_rules.specs.Laws.{IsFresh}
 use Rattle.ol_rules.specs.Listed.{each}
@@ -300,7 +300,7 @@ module _ {A : Type 0} (same : A → A → Bool) (t : IsTest same) where
           go (inl z) = let r = rest_le u in let e = ends_es u in omega arith
           go (inr h) = copy h (end_kind u h)
 
-      ready : Ready vs dead es
+      pub ready : Ready vs dead es
       ready = record { two = λ u h. inl (dead_twice u h); one = others_once }
 
       fs : List (V × V)

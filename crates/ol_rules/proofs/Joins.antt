@@ -9,7 +9,7 @@ use Rattle.ol_rules.proofs.EndCounts.{tally_none, tally_one, ends_append, ends_e
 use Rattle.ol_edges.proofs.Lists.{in_left, in_right, in_cases}
 use Rattle.ol_rules.proofs.Lists.{in_each, in_each_of}
 use Rattle.ol_rules.proofs.Tests.{vertex_test}
-use Rattle.ol_rules.proofs.Vertices.{Vertex, old, f_copy, g_copy, vertex_same, meeting_joins, crossing_joins}
+use Rattle.ol_rules.specs.Contracting.{Vertex, old, f_copy, g_copy, vertex_same, meeting_joins, crossing_joins}
 use Rattle.ol_rules.proofs.Wires.{Join, meet, at_f, at_g, between}
 use Rattle.ol_rules.specs.Listed.{each}
 use Rattle.ol_rules.specs.Rewriting.{Action, meeting, crossing}

@@ -2,7 +2,6 @@ pub mod Lists
 pub mod Listed
 pub mod Stepping
 pub mod Born
-pub mod Vertices
 pub mod Tests
 pub mod EndCounts
 pub mod Wires

@@ -1,5 +1,5 @@
 -- What stands in lists of copies, and in lists row by row.
-use Rattle.std.proofs.Common.{◌≡◌, ℕ, zero, suc, ◌+◌, ◌<◌, List, [], ◌∷◌, ◌++◌, Some, ◌⊎◌, inl, inr, refl, ap, ◌∙◌, subst, arith, length}
+use Rattle.std.proofs.Common.{◌≡◌, ℕ, zero, suc, ◌+◌, ◌<◌, List, ◌∷◌, ◌++◌, Some, ◌⊎◌, inl, inr, refl, ap, ◌∙◌, subst, arith, length}
 use Rattle.std.specs.Prelude.{slice_get}
 use Rattle.ol_edges.specs.Edges.{IsIn}
 use Rattle.ol_edges.proofs.Lists.{in_left, in_right, in_cases}

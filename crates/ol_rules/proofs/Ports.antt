@@ -5,7 +5,7 @@ use Rattle.ol_edges.specs.Edges.{Joined, here, on, back, Edge, Contracted}
 use Rattle.ol_net.specs.Nets.{NamedPort, free, slot, NamedNet, HasNode, Linked, IsPort, IsNet, Faces, IsPrincipalOf, IsSlotOf}
 use Rattle.ol_net.specs.Parts.{arity}
 use Rattle.ol_net.specs.declared.parts.Kind.{Kind}
-use Rattle.ol_rules.proofs.Vertices.{Vertex, old, f_copy, g_copy, name}
+use Rattle.ol_rules.specs.Contracting.{Vertex, old, f_copy, g_copy, name}
 use Rattle.ol_rules.proofs.Wires.{Off, Join, Wire, stays, join}
 use Rattle.ol_rules.specs.Laws.{IsFresh}
 use Rattle.ol_rules.specs.Rewriting.{Action, JoinOf, meet, at_f, at_g, between, NodeOf}

@@ -5,7 +5,7 @@ use Rattle.ol_edges.specs.Edges.{Near, ends, bit, IsTest}
 use Rattle.ol_net.specs.Nets.{NamedPort, free, slot, NamedNet, IsPort, IsNet, SameNet}
 use Rattle.ol_rules.proofs.EndCounts.{ends_near}
 use Rattle.ol_rules.proofs.Tests.{port_test}
-use Rattle.ol_rules.proofs.Vertices.{port_same, IsCounted}
+use Rattle.ol_rules.specs.Contracting.{port_same, IsCounted}
 
 module _ {V : Type 0} (same : V → V → Bool) (t : IsTest same) where
   near_flip : (es : List (V × V)) (u v : V) → Near es u v → Near es v u

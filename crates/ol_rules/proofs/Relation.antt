@@ -1,17 +1,19 @@
 -- Steps as a relation between nets, however their lists are ordered and whether or not a link stands in them twice.
-use Rattle.std.proofs.Common.{◌≡◌, ℕ, Bool, Some, inl, inr, refl, sym, ◌∙◌, subst}
+use Rattle.std.proofs.Common.{◌≡◌, ℕ, Bool, true, false, cond, if◌then◌else◌, Some, inl, inr, refl, sym, ◌∙◌, subst}
 use Rattle.ol_edges.proofs.Joining.{joined_map}
 use Rattle.ol_edges.specs.Edges.{IsTest, Joined, here, on, Edge, Contracted}
 use Rattle.ol_net.specs.Nets.{NamedPort, slot, NamedNet, Linked, IsNet, SameNet, Faces, IsPrincipalOf, IsSlotOf}
+use Rattle.ol_net.specs.Parts.{arity}
 use Rattle.ol_net.specs.Rules.{rule_of}
 use Rattle.ol_net.specs.declared.parts.Kind.{Kind}
 use Rattle.ol_net.specs.declared.parts.Rule.{Rule}
 use Rattle.ol_rules.proofs.Built.{net_of}
-use Rattle.ol_rules.proofs.Stepped.{stepped}
+use Rattle.ol_rules.proofs.Stepped.{stepped, met, crossed, met_ready, crossed_ready}
 use Rattle.ol_rules.proofs.Recount.{recount, net_same}
-use Rattle.ol_rules.proofs.Vertices.{rewrite}
+use Rattle.ol_rules.proofs.Alike.{meeting_alike}
+use Rattle.ol_rules.specs.Contracting.{rewrite, IsCounted, IsContracted, meeting_joins, crossing_joins, joins_by}
 use Rattle.ol_rules.specs.Laws.{IsFresh}
-use Rattle.ol_rules.specs.Rewriting.{Action, action_of, JoinOf, NodeOf, left, of_f, of_g, Rewrites, IsStep}
+use Rattle.ol_rules.specs.Rewriting.{Action, meeting, crossing, is_meeting, index_after, action_of, JoinOf, NodeOf, left, of_f, of_g, Rewrites, IsStep}
 
 pub same_refl : {A : Type 0} (N : NamedNet A) → SameNet N N
 same_refl N = record { nodes = λ x k i. ((λ h. h), (λ h. h)); free_ports = refl; links = λ p q. ((λ h. h), (λ h. h)) }
@@ -78,6 +80,19 @@ module _ {A : Type 0} (same : A → A → Bool) (t : IsTest same) (born : ℕ �
           net = net_of same t (rewrite f g same born c.0 r k i l j) s.is_counted;
         },
       )
+
+  -- and what a step gives is left by taking out the slots one by one
+  pub contraction : IsCounted same N → (M : NamedNet A) → Rewrites born N f g k i l (action_of r j) M → IsContracted same born N f g k l (joins_by f g r k l) M
+  contraction counted M h = go (is_meeting r) (meeting_alike k i l j r rule) h
+    where
+      go : (b : Bool) → (b ≡ true → arity k ≡ arity l) → Rewrites born N f g k i l (if b then meeting else crossing (index_after r j)) M
+          → IsContracted same born N f g k l (cond b (meeting_joins f g (arity k)) (crossing_joins f g (arity k) (arity l))) M
+      go true alike h =
+          let s = met same t born N f g k i l j counted faces fresh (alike refl) in
+          record { ready = met_ready same t born N f g k i l j counted faces fresh (alike refl); links = (one_result born f g k i l meeting N M _ h s.is_rewrite).links }
+      go false alike h =
+          let s = crossed same t born N f g k i l j counted faces fresh (index_after r j) in
+          record { ready = crossed_ready same t born N f g k i l j counted faces fresh (index_after r j); links = (one_result born f g k i l (crossing (index_after r j)) N M _ h s.is_rewrite).links }
 
   -- and what a step gives is a net
   pub net_kept : (M : NamedNet A) → Rewrites born N f g k i l (action_of r j) M → IsNet M

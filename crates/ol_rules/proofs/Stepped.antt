@@ -1,16 +1,16 @@
 -- One step by the table: its net is there, is counted, and is what the relation says.
-use Rattle.std.proofs.Common.{◌≡◌, ◌≢◌, ℕ, suc, ◌+◌, ◌<◌, List, [], ◌∷◌, Bool, true, false, cond, if◌then◌else◌, Some, ◌⊎◌, inl, inr, refl, sym, subst}
-use Rattle.ol_edges.specs.Edges.{IsIn, IsTest}
+use Rattle.std.proofs.Common.{◌≡◌, ◌≢◌, ℕ, suc, ◌+◌, ◌<◌, List, [], ◌∷◌, ◌++◌, Bool, true, false, cond, if◌then◌else◌, Some, ◌⊎◌, inl, inr, refl, sym, subst}
+use Rattle.ol_edges.specs.Edges.{IsIn, IsTest, Ready}
 use Rattle.ol_net.specs.Nets.{slot, NamedNet, Linked, Faces}
 use Rattle.ol_net.specs.Parts.{arity}
 use Rattle.ol_net.specs.Rules.{rule_of}
 use Rattle.ol_net.specs.declared.parts.Kind.{Kind}
 use Rattle.ol_net.specs.declared.parts.Rule.{Rule}
-use Rattle.ol_rules.proofs.Built.{net_of, HasBorn, built_rewrites, built_counted}
+use Rattle.ol_rules.proofs.Built.{net_of, HasBorn, ready, built_rewrites, built_counted}
 use Rattle.ol_rules.proofs.Joins.{meets, crosses}
 use Rattle.ol_edges.proofs.Lists.{in_left, in_right, in_cases}
 use Rattle.ol_rules.proofs.Lists.{in_each, in_each_of}
-use Rattle.ol_rules.proofs.Vertices.{Vertex, old, f_copy, g_copy, meeting_joins, crossing_joins, gone, born_nodes, rewritten, rewrite, IsCounted}
+use Rattle.ol_rules.specs.Contracting.{Vertex, old, f_copy, g_copy, vertex_same, links_left, meeting_joins, crossing_joins, gone, born_nodes, rewritten, rewrite, IsCounted}
 use Rattle.ol_rules.proofs.Wires.{Join}
 use Rattle.ol_rules.proofs.Alike.{meeting_alike}
 use Rattle.ol_rules.specs.Laws.{IsFresh}
@@ -99,17 +99,23 @@ module _ {A : Type 0} (same : A → A → Bool) (t : IsTest same) (born : ℕ �
     pub is_rewrite : Rewrites born N f g k i l a M
     pub is_counted : IsCounted same M
 
-  met : arity k ≡ arity l → Stepped meeting (rewritten f g same born N [] (meeting_joins f g (arity k)) (arity k) (arity l))
+  pub met : arity k ≡ arity l → Stepped meeting (rewritten f g same born N [] (meeting_joins f g (arity k)) (arity k) (arity l))
   met q = record {
     is_rewrite = built_rewrites same t born N f g k i l j meeting counted faces fresh (meeting_joins f g (arity k)) (meets same t N f g k i l j apart q) (λ e. q) (meeting_end q) [] no_births;
     is_counted = built_counted same t born N f g k i l j meeting counted faces fresh (meeting_joins f g (arity k)) (meets same t N f g k i l j apart q) (λ e. q) (meeting_end q) [] no_births;
   }
 
-  crossed : (j' : ℕ) → Stepped (crossing j') (rewritten f g same born N (born_nodes f g born k i l j') (crossing_joins f g (arity k) (arity l)) (arity k) (arity l))
+  pub crossed : (j' : ℕ) → Stepped (crossing j') (rewritten f g same born N (born_nodes f g born k i l j') (crossing_joins f g (arity k) (arity l)) (arity k) (arity l))
   crossed j' = record {
     is_rewrite = built_rewrites same t born N f g k i l j (crossing j') counted faces fresh (crossing_joins f g (arity k) (arity l)) (crosses same t N f g k i l j apart j') (λ e. absurd (cc)) (crossing_end j') (born_nodes f g born k i l j') (births j');
     is_counted = built_counted same t born N f g k i l j (crossing j') counted faces fresh (crossing_joins f g (arity k) (arity l)) (crosses same t N f g k i l j apart j') (λ e. absurd (cc)) (crossing_end j') (born_nodes f g born k i l j') (births j');
   }
+
+  pub met_ready : arity k ≡ arity l → Ready (vertex_same same) (gone f g (arity k) (arity l)) (meeting_joins f g (arity k) ++ links_left f g same born N)
+  met_ready q = ready same t born N f g k i l j meeting counted faces fresh (meeting_joins f g (arity k)) (meets same t N f g k i l j apart q) (λ e. q) (meeting_end q)
+
+  pub crossed_ready : ℕ → Ready (vertex_same same) (gone f g (arity k) (arity l)) (crossing_joins f g (arity k) (arity l) ++ links_left f g same born N)
+  crossed_ready j' = ready same t born N f g k i l j (crossing j') counted faces fresh (crossing_joins f g (arity k) (arity l)) (crosses same t N f g k i l j apart j') (λ e. absurd (cc)) (crossing_end j')
 
   pub stepped : (r : Rule) → rule_of k i l j ≡ Some r → Stepped (action_of r j) (rewrite f g same born N r k i l j)
   stepped r h = go (is_meeting r) (meeting_alike k i l j r h)

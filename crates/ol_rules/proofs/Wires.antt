@@ -3,7 +3,7 @@ use Rattle.std.proofs.Common.{◌≢◌, ℕ, suc, ◌<◌}
 use Rattle.ol_net.specs.Nets.{NamedPort, slot, NamedNet, Linked}
 use Rattle.ol_net.specs.Parts.{arity}
 use Rattle.ol_net.specs.declared.parts.Kind.{Kind}
-use Rattle.ol_rules.proofs.Vertices.{Vertex, old, f_copy, g_copy}
+use Rattle.ol_rules.specs.Contracting.{Vertex, old, f_copy, g_copy}
 use Rattle.ol_rules.specs.Rewriting.{Action, meeting, crossing}
 
 -- a port that isn't one of the two slots 0

@@ -9,6 +9,7 @@ use Rattle.ol_rules.specs.declared.journal.NodeName.{NodeName}
 use Rattle.ol_rules.specs.declared.journal.NodeName.TheVariants.{Born}
 use Rattle.ol_rules.specs.declared.journal.Entry.{Entry}
 use Rattle.ol_rules.specs.Names.{comes_before}
+use Rattle.ol_rules.specs.Contracting.{IsCounted, IsContracted, joins_by}
 use Rattle.ol_rules.specs.Rewriting.{Action, Rewrites, IsStep}
 use Rattle.ol_rules.specs.Runs.{IsComplete, HasActive, IsOneThread}
 
@@ -36,6 +37,15 @@ StepIsOne A = (born : ℕ → A) (M N P Q : NamedNet A) (f g : A) (r s : Rule) �
 abbrev pub StepKeepsNet : Type 0 → Type 0
 StepKeepsNet A = (same : A → A → Bool) → IsTest same → (born : ℕ → A) (N M : NamedNet A) (f g : A) (r : Rule) →
     IsNet N → IsFresh N born → IsStep born N f g r M → IsNet M
+
+-- What a step links is what is left where the slots of its two nodes are taken out, one by one, in a net whose list has each link once.
+abbrev pub StepIsContraction : Type 0 → Type 0
+StepIsContraction A = (same : A → A → Bool) → IsTest same → (born : ℕ → A) (N M : NamedNet A) (f g : A) (r : Rule) →
+    IsCounted same N → IsFresh N born → (s : IsStep born N f g r M) → IsContracted same born N f g s.active.k s.active.l (joins_by f g r s.active.k s.active.l) M
+
+-- Each net is the same as one whose list has each link once.
+abbrev pub EachIsListed : Type 0 → Type 0
+EachIsListed A = (same : A → A → Bool) → IsTest same → (N : NamedNet A) → IsNet N → (L : NamedNet A) × IsCounted same L × SameNet N L
 
 -- There is a net after a step of each active pair.
 abbrev pub StepExists : Type 0 → Type 0

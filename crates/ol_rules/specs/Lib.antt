@@ -7,3 +7,4 @@ pub mod Names
 pub mod Runs
 pub mod Laws
 pub mod Running
+pub mod Contracting

@@ -1,6 +1,6 @@
--- The net after a step as lists: edges between vertices, which get their names afterwards.
-use Rattle.std.proofs.Common.{◌≡◌, ℕ, zero, suc, ◌+◌, List, [], ◌∷◌, ◌++◌, map, filter, Bool, false, cond, not, ◌||◌, ◌&&◌, nat_eq}
-use Rattle.ol_edges.specs.Edges.{ends, contract_all}
+-- A step by contraction: the edges between vertices, which get their names afterwards, and what is left once slots are taken out.
+use Rattle.std.specs.Prelude.{◌≡◌, ℕ, zero, suc, ◌+◌, List, [], ◌∷◌, ◌++◌, map, filter, Bool, false, cond, not, ◌||◌, ◌&&◌, nat_eq, ◌↔◌}
+use Rattle.ol_edges.specs.Edges.{Near, Ready, ends, contract_all}
 use Rattle.ol_net.specs.Nets.{NamedPort, free, slot, NamedNet, HasNode, Linked, IsPort}
 use Rattle.ol_net.specs.Parts.{arity}
 use Rattle.ol_net.specs.declared.parts.Kind.{Kind}
@@ -45,6 +45,9 @@ module _ {A : Type 0} (f g : A) where
       ++ (each m (λ p. (g_copy p 0, old (slot f (suc p))) ∷ [])
       ++ each n (λ q. each m (λ p. (f_copy q (suc p), g_copy p (suc q)) ∷ [])))
 
+  abbrev pub joins_by : Rule → Kind → Kind → List (Vertex A × Vertex A)
+  joins_by r k l = cond (is_meeting r) (meeting_joins (arity k)) (crossing_joins (arity k) (arity l))
+
   -- the slots that go, beside slot 0
   abbrev pub gone : ℕ → ℕ → List (Vertex A)
   gone m n = each m (λ p. old (slot f (suc p)) ∷ []) ++ each n (λ q. old (slot g (suc q)) ∷ [])
@@ -85,3 +88,12 @@ module _ {A : Type 0} (f g : A) where
     rewrite r k i l j = cond (is_meeting r)
         (rewritten [] (meeting_joins (arity k)) (arity k) (arity l))
         (rewritten (born_nodes born k i l (index_after r j)) (crossing_joins (arity k) (arity l)) (arity k) (arity l))
+
+-- The links of M are what is left of the edges, which are the joins and the links of N that stay, once the slots of f and g
+-- were taken out one by one. Each slot that goes has two ends of edges, and each other vertex one at most: so the slots can be
+-- taken out in any order.
+pub record IsContracted {A : Type 0} (same : A → A → Bool) (born : ℕ → A) (N : NamedNet A) (f g : A) (k l : Kind) (joins : List (Vertex A × Vertex A)) (M : NamedNet A) : Type 0 where
+  pub ready : Ready (vertex_same same) (gone f g (arity k) (arity l)) (joins ++ links_left f g same born N)
+  pub links : (p q : NamedPort A) → Linked M p q
+      ↔ Near (map (λ e. (name f g (arity l) born e.0, name f g (arity l) born e.1))
+      (contract_all (vertex_same same) (gone f g (arity k) (arity l)) (joins ++ links_left f g same born N))) p q
