@@ -39,5 +39,7 @@ pair_under birth e = record { f = birth e.first; g = birth e.second; rule = e.ru
 -- named by its pair.
 abbrev pub AreBirths : (NodeName → BirthName) → ℕ → List Entry → List Pair → Type 0
 AreBirths birth ticket [] [] = Unit {0}
-AreBirths birth ticket (e ∷ es) (p ∷ ps) = IsSamePair p (pair_under birth e) × ((place : ℕ) → birth (Born ticket place) ≡ born p.f p.g place) × AreBirths birth (suc ticket) es ps
+AreBirths birth ticket (e ∷ es) (p ∷ ps) =
+    IsSamePair p (pair_under birth e) × ((place : ℕ) → birth (Born ticket place) ≡ born p.f p.g place)
+    × AreBirths birth (suc ticket) es ps
 AreBirths birth ticket _ _ = ⊥

@@ -22,8 +22,8 @@ use Rattle.ol_net.proofs.Linking.{length-all_live, count_by-all_live}
 use Rattle.ol_net.proofs.Fitting.{bit, vertices, count, count-append, count-uses_up, Within-from_count, AllTwo-from_count, alone-joined_all, IsPaired-joined_all, length-joined_all, IsSlot, count-side_at, count-side_low, count-born_low, count-born_at}
 
 -- all edges that are added, the one of the principal ports with them
-abbrev pub all_joins : ℕ → ℕ → ℕ → ℕ → List (JoinEnd × JoinEnd) → List (ℕ × ℕ)
-all_joins free next first second joins = (free + 3 * first, free + 3 * second) ∷ join_places free first second next joins
+abbrev pub all_joins : ℕ → ℕ → ℕ → List (ℕ × ℕ) → List (ℕ × ℕ)
+all_joins free first second joined = (free + 3 * first, free + 3 * second) ∷ joined
 
 -- how often a place is joined: by its parts
 pub count-open : (free : ℕ) (nodes : List (Option (Kind × ℕ))) (xs : List ℕ) (first second next k : ℕ) (born : List (Kind × ℕ)) (joins : List (JoinEnd × JoinEnd)) →
@@ -41,7 +41,7 @@ count-open free nodes xs first second next k born joins g =
     omega (arith, e, m, n)
 
 pub count-low : (free : ℕ) (nodes : List (Option (Kind × ℕ))) (xs : List ℕ) (first second next k : ℕ) (born : List (Kind × ℕ)) (joins : List (JoinEnd × JoinEnd)) →
-    Given free nodes xs first second born joins → k < free → count k (vertices (all_joins free next first second joins)) ≡ 0
+    Given free nodes xs first second born joins → k < free → count k (vertices (all_joins free first second (join_places free first second next joins))) ≡ 0
 count-low free nodes xs first second next k born joins g lt =
     let P = end_place free first second next in
     let c = count-open free nodes xs first second next k born joins g in
@@ -67,7 +67,7 @@ count-born free first second next n s k born at = elim (cases_lt n next) [
 
 pub count-at : (free : ℕ) (nodes : List (Option (Kind × ℕ))) (xs : List ℕ) (first second next n s k : ℕ) (born : List (Kind × ℕ)) (joins : List (JoinEnd × JoinEnd)) →
     Given free nodes xs first second born joins → IsSlot free n s k →
-    count k (vertices (all_joins free next first second joins)) ≡ bit ((n == first) && has_slot (kind_at nodes first) s) + bit ((n == second) && has_slot (kind_at nodes second) s)
+    count k (vertices (all_joins free first second (join_places free first second next joins))) ≡ bit ((n == first) && has_slot (kind_at nodes first) s) + bit ((n == second) && has_slot (kind_at nodes second) s)
     + bit (nat_le next n && has_slot (kind_at (all_live born) (n - next)) s)
 count-at free nodes xs first second next n s k born joins g at =
     let P = end_place free first second next in
@@ -148,14 +148,14 @@ live-within nodes n h = kind_at-within nodes n 0 h
 
 joined_once-slot : (free : ℕ) (nodes : List (Option (Kind × ℕ))) (xs : List ℕ) (first second n s k : ℕ) (born : List (Kind × ℕ)) (joins : List (JoinEnd × JoinEnd)) →
     Given free nodes xs first second born joins → IsSlot free n s k →
-    JoinedOnce (count k (vertices (all_joins free (length nodes) first second joins))) (has_slot (kind_at nodes n) s) (has_slot (kind_at (renewed nodes first second born) n) s) (k < free + 3 * (length nodes + length born))
+    JoinedOnce (count k (vertices (all_joins free first second (join_places free first second (length nodes) joins)))) (has_slot (kind_at nodes n) s) (has_slot (kind_at (renewed nodes first second born) n) s) (k < free + 3 * (length nodes + length born))
 joined_once-slot free nodes xs first second n s k born joins g at =
     let next = length nodes in
     let lf = live-within nodes first g.facing.first_live in
     let ls = live-within nodes second g.facing.second_live in
     let c = count-at free nodes xs first second next n s k born joins g at in
     let new = ap (λ o. has_slot o s) (kind_at-renewed nodes first second n born lf ls) in
-    let C = count k (vertices (all_joins free next first second joins)) in
+    let C = count k (vertices (all_joins free first second (join_places free first second next joins))) in
     let In = k < free + 3 * (next + length born) in
     let two = g.facing.two in
     elim (cases_eq n first) [
@@ -198,12 +198,12 @@ joined_once-slot free nodes xs first second n s k born joins g at =
 
 pub joined_once : (free : ℕ) (nodes : List (Option (Kind × ℕ))) (xs : List ℕ) (first second k : ℕ) (born : List (Kind × ℕ)) (joins : List (JoinEnd × JoinEnd)) →
     Given free nodes xs first second born joins →
-    JoinedOnce (count k (vertices (all_joins free (length nodes) first second joins))) (has_port free nodes (port_at free k)) (has_port free (renewed nodes first second born) (port_at free k)) (k < free + 3 * (length nodes + length born))
+    JoinedOnce (count k (vertices (all_joins free first second (join_places free first second (length nodes) joins)))) (has_port free nodes (port_at free k)) (has_port free (renewed nodes first second born) (port_at free k)) (k < free + 3 * (length nodes + length born))
 joined_once free nodes xs first second k born joins g = elim (cases_lt k free) [
   | inl lt ↦
       let c = count-low free nodes xs first second (length nodes) k born joins g lt in
       rw (has_port-low free nodes k lt, has_port-low free (renewed nodes first second born) k lt)
-      (stays true (count k (vertices (all_joins free (length nodes) first second joins))) (k < free + 3 * (length nodes + length born)) c)
+      (stays true (count k (vertices (all_joins free first second (join_places free first second (length nodes) joins)))) (k < free + 3 * (length nodes + length born)) c)
   | inr le ↦
       let n = (k - free) / 3 in
       let s = (k - free) % 3 in
@@ -215,12 +215,12 @@ joined_once free nodes xs first second k born joins g = elim (cases_lt k free) [
 -- the edges of a replacement lie within the table that has grown, and each is of two places
 pub joins-fit : (free : ℕ) (nodes : List (Option (Kind × ℕ))) (xs : List ℕ) (first second : ℕ) (born : List (Kind × ℕ)) (joins : List (JoinEnd × JoinEnd)) →
     Given free nodes xs first second born joins →
-    Within (length (grown xs (3 * length born))) (all_joins free (length nodes) first second joins) × AllTwo (all_joins free (length nodes) first second joins)
+    Within (length (grown xs (3 * length born))) (all_joins free first second (join_places free first second (length nodes) joins)) × AllTwo (all_joins free first second (join_places free first second (length nodes) joins))
 joins-fit free nodes xs first second born joins g =
     let len : length (grown xs (3 * length born)) ≡ free + 3 * (length nodes + length born) = omega (arith, length-grown xs (3 * length born), g.net.size) in
-    let In : ℕ → Type 0 = λ n. Within n (all_joins free (length nodes) first second joins) in (
-      subst In (sym len) (Within-from_count (free + 3 * (length nodes + length born)) (all_joins free (length nodes) first second joins) (λ k c. (joined_once free nodes xs first second k born joins g).within c)),
-      AllTwo-from_count (all_joins free (length nodes) first second joins) (λ k. (joined_once free nodes xs first second k born joins g).once),
+    let In : ℕ → Type 0 = λ n. Within n (all_joins free first second (join_places free first second (length nodes) joins)) in (
+      subst In (sym len) (Within-from_count (free + 3 * (length nodes + length born)) (all_joins free first second (join_places free first second (length nodes) joins)) (λ k c. (joined_once free nodes xs first second k born joins g).within c)),
+      AllTwo-from_count (all_joins free first second (join_places free first second (length nodes) joins)) (λ k. (joined_once free nodes xs first second k born joins g).once),
     )
 
 pub length-renewed : (nodes : List (Option (Kind × ℕ))) (first second : ℕ) (born : List (Kind × ℕ)) → length (renewed nodes first second born) ≡ length nodes + length born
@@ -231,7 +231,7 @@ pub IsTabled-rewired : (free : ℕ) (nodes : List (Option (Kind × ℕ))) (xs : 
     Given free nodes xs first second born joins → IsTabled free (renewed nodes first second born) (rewired free (length nodes) xs first second born joins)
 IsTabled-rewired free nodes xs first second born joins g =
     let ys = grown xs (3 * length born) in
-    let es = all_joins free (length nodes) first second joins in
+    let es = all_joins free first second (join_places free first second (length nodes) joins) in
     let fit = joins-fit free nodes xs first second born joins g in
     let paired = IsPaired-grown xs (3 * length born) g.net.paired in
     record {
@@ -260,7 +260,7 @@ ready free nodes xs first second born joins g ys is next en =
     let a = free + 3 * first in
     let b = free + 3 * second in
     let es = join_places free first second next joins in
-    let Fit : ℕ → Type 0 = λ n. Within (length (grown xs (3 * length born))) (all_joins free n first second joins) × AllTwo (all_joins free n first second joins) in
+    let Fit : ℕ → Type 0 = λ n. Within (length (grown xs (3 * length born))) (all_joins free first second (join_places free first second n joins)) × AllTwo (all_joins free first second (join_places free first second n joins)) in
     let fit = subst Fit (sym en) (joins-fit free nodes xs first second born joins g) in
     let In : List ℕ → Type 0 = λ zs. Within (length zs) ((a, b) ∷ es) in
     let w : Within (length ys) ((a, b) ∷ es) = subst In (sym is) fit.0 in

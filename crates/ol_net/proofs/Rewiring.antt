@@ -113,7 +113,7 @@ module _ (free : ℕ) (nodes : List (Option (Kind × ℕ))) (xs : List ℕ) (fir
           | inr ns ↦
               let u : (n == first) ≡ false = grind (arith, nat_tests) in
               let v : (n == second) ≡ false = grind (arith, nat_tests) in
-              let none : count w (vertices (all_joins free next first second joins)) ≡ 0 = rw (u, v, z) at all in
+              let none : count w (vertices (all_joins free first second (join_places free first second next joins))) ≡ 0 = rw (u, v, z) at all in
               absurd (omega (arith, none, c))
         ]
       ]
@@ -134,7 +134,7 @@ module _ (free : ℕ) (nodes : List (Option (Kind × ℕ))) (xs : List ℕ) (fir
   two_live m (inr e) = let l = live-within nodes second g.facing.second_live in omega arith
 
   -- a slot of the two nodes stands in a join or is principal
-  slot_joined : (w m s : ℕ) → (m ≡ first) ⊎ (m ≡ second) → IsSlot free m s w → count w (vertices (all_joins free (length nodes) first second joins)) ≡ bit (has_slot (kind_at nodes m) s)
+  slot_joined : (w m s : ℕ) → (m ≡ first) ⊎ (m ≡ second) → IsSlot free m s w → count w (vertices (all_joins free first second (join_places free first second (length nodes) joins))) ≡ bit (has_slot (kind_at nodes m) s)
   slot_joined w m s (inl e) at =
       let all = count-at free nodes xs first second next m s w born joins g at in
       let lt = two_live m (inl e) in

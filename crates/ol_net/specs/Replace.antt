@@ -58,4 +58,5 @@ pub record Replaces (old new : Graph) (first second : NodeId) (born : List (Kind
   pub nodes : (x : ℕ) (k : Kind) (i : ℕ) → HasNode (net_of new) x k i
       ↔ ((HasNode (net_of old) x k i × (x ≢ first.0) × (x ≢ second.0)) ⊎ IsBorn (length old.nodes) born x k i)
   pub links : (p q : NamedPort ℕ) → Linked (net_of new) p q
-      ↔ Contracted (Edge (Linked (net_of old)) (IsPrincipalOf first.0 second.0) (JoinsOf first.0 second.0 (length old.nodes) joins)) (IsSlotOf first.0 second.0) p q
+      ↔ Contracted (Edge (Linked (net_of old)) (IsPrincipalOf first.0 second.0) (JoinsOf first.0 second.0 (length old.nodes) joins))
+      (IsSlotOf first.0 second.0) p q

@@ -74,7 +74,8 @@ pub record FacingPlaces (free : ℕ) (nodes : List (Option (Kind × ℕ))) (part
   pub joined : other partners (free + 3 * first) ≡ free + 3 * second
 
 -- what a replacement is given: a net, two nodes of it that face each other, and joins that use up the open ends
-pub record Given (free : ℕ) (nodes : List (Option (Kind × ℕ))) (partners : List ℕ) (first second : ℕ) (born : List (Kind × ℕ)) (joins : List (JoinEnd × JoinEnd)) : Type 0 where
+pub record Given (free : ℕ) (nodes : List (Option (Kind × ℕ))) (partners : List ℕ) (first second : ℕ)
+    (born : List (Kind × ℕ)) (joins : List (JoinEnd × JoinEnd)) : Type 0 where
   pub net : IsTabled free nodes partners
   pub facing : FacingPlaces free nodes partners first second
   pub fit : uses_up joins (open_ends (kind_at nodes first) (kind_at nodes second) born) ≡ true

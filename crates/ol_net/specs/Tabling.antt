@@ -62,13 +62,15 @@ abbrev pub GivesTable : ℕ → List (Option (Kind × ℕ)) → List (Port × Po
 GivesTable free nodes links answer = MatchResult answer (λ v. IsTable free nodes links v.items) (LinkFaultIs free nodes links)
 
 -- good parts, and their tables
-pub record AreTables (top free : ℕ) (nodes : List (Kind × ℕ)) (links : List (Port × Port)) (live : List (Option (Kind × ℕ))) (partners : List ℕ) : Type 0 where
+pub record AreTables (top free : ℕ) (nodes : List (Kind × ℕ)) (links : List (Port × Port))
+    (live : List (Option (Kind × ℕ))) (partners : List ℕ) : Type 0 where
   pub good_indexes : NoneOf (BadIndexAt top nodes)
   pub good_ports : NoneOf (BadPortAt free (all_live nodes) links)
   pub same_nodes : live ≡ all_live nodes
   pub table : IsTable free (all_live nodes) links partners
 
 -- the answer to the parts of a net: its two tables, or what is wrong with the parts
-abbrev pub GivesTables : (top free : ℕ) → List (Kind × ℕ) → List (Port × Port) → Result (Vec (Option (Kind × ℕ)) Global × Vec ℕ Global) BuildFault → Type 0
+abbrev pub GivesTables : (top free : ℕ) → List (Kind × ℕ) → List (Port × Port) →
+    Result (Vec (Option (Kind × ℕ)) Global × Vec ℕ Global) BuildFault → Type 0
 GivesTables top free nodes links answer =
     MatchResult answer (λ t. AreTables top free nodes links t.0.items t.1.items) (FaultIs top free nodes links)

@@ -92,7 +92,8 @@ module _ {A : Type 0} (f g : A) where
 -- The links of M are what is left of the edges, which are the joins and the links of N that stay, once the slots of f and g
 -- were taken out one by one. Each slot that goes has two ends of edges, and each other vertex one at most: so the slots can be
 -- taken out in any order.
-pub record IsContracted {A : Type 0} (same : A → A → Bool) (born : ℕ → A) (N : NamedNet A) (f g : A) (k l : Kind) (joins : List (Vertex A × Vertex A)) (M : NamedNet A) : Type 0 where
+pub record IsContracted {A : Type 0} (same : A → A → Bool) (born : ℕ → A) (N : NamedNet A) (f g : A) (k l : Kind)
+    (joins : List (Vertex A × Vertex A)) (M : NamedNet A) : Type 0 where
   pub ready : Ready (vertex_same same) (gone f g (arity k) (arity l)) (joins ++ links_left f g same born N)
   pub links : (p q : NamedPort A) → Linked M p q
       ↔ Near (map (λ e. (name f g (arity l) born e.0, name f g (arity l) born e.1))

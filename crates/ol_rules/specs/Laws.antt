@@ -38,10 +38,12 @@ abbrev pub StepKeepsNet : Type 0 → Type 0
 StepKeepsNet A = (same : A → A → Bool) → IsTest same → (born : ℕ → A) (N M : NamedNet A) (f g : A) (r : Rule) →
     IsNet N → IsFresh N born → IsStep born N f g r M → IsNet M
 
--- What a step links is what is left where the slots of its two nodes are taken out, one by one, in a net whose list has each link once.
+-- What a step links is what is left where the slots of its two nodes are taken out, one by one, in a net whose list has each
+-- link once.
 abbrev pub StepIsContraction : Type 0 → Type 0
 StepIsContraction A = (same : A → A → Bool) → IsTest same → (born : ℕ → A) (N M : NamedNet A) (f g : A) (r : Rule) →
-    IsCounted same N → IsFresh N born → (s : IsStep born N f g r M) → IsContracted same born N f g s.active.k s.active.l (joins_by f g r s.active.k s.active.l) M
+    IsCounted same N → IsFresh N born → (s : IsStep born N f g r M) →
+    IsContracted same born N f g s.active.k s.active.l (joins_by f g r s.active.k s.active.l) M
 
 -- Each net is the same as one whose list has each link once.
 abbrev pub EachIsListed : Type 0 → Type 0

@@ -35,7 +35,8 @@ pub data JoinOf {A : Type 0} (born : ℕ → A) (f g : A) (k l : Kind) (a : Acti
   meet : {s : ℕ} → a ≡ meeting → s < arity k → JoinOf born f g k l a (slot f (suc s)) (slot g (suc s))
   at_f : {p : ℕ} (j : ℕ) → a ≡ crossing j → p < arity k → JoinOf born f g k l a (slot (born (arity l + p)) 0) (slot f (suc p))
   at_g : {q : ℕ} (j : ℕ) → a ≡ crossing j → q < arity l → JoinOf born f g k l a (slot (born q) 0) (slot g (suc q))
-  between : {p q : ℕ} (j : ℕ) → a ≡ crossing j → p < arity k → q < arity l → JoinOf born f g k l a (slot (born q) (suc p)) (slot (born (arity l + p)) (suc q))
+  between : {p q : ℕ} (j : ℕ) → a ≡ crossing j → p < arity k → q < arity l →
+      JoinOf born f g k l a (slot (born q) (suc p)) (slot (born (arity l + p)) (suc q))
 
 -- the nodes after a step: those that stay, a copy of f for each auxiliary port of g, and one of g for each of f
 pub data NodeOf {A : Type 0} (N : NamedNet A) (born : ℕ → A) (f g : A) (k : Kind) (i : ℕ) (l : Kind) (a : Action) : A → Kind → ℕ → Type 0 where

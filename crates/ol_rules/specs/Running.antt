@@ -11,6 +11,7 @@ use Rattle.ol_net.specs.Numbered.{net_of, numbered_port}
 use Rattle.ol_net.specs.Pairs.{IsInActive}
 use Rattle.ol_rules.specs.declared.journal.NodeName.{NodeName}
 use Rattle.ol_rules.specs.declared.journal.NodeName.TheVariants.{Init}
+use Rattle.ol_rules.specs.declared.journal.Entry.{Entry}
 use Rattle.ol_rules.specs.declared.one_thread.Running.{Running}
 use Rattle.ol_rules.specs.Runs.{IsComplete, names_born}
 use Rattle.ol_rules.specs.Steps.{StepsAt}
@@ -74,12 +75,17 @@ FindsNode g port found =
 abbrev pub AtMostOneStep : Graph → Graph → ℕ → Type 0
 AtMostOneStep old new at = (new ≡ old) ⊎ ((r : Rule) × StepsAt old new at r)
 
+-- what a run writes down of a step by this rule, by the names of its two nodes
+abbrev pub entry_for : Running → Rule → (at partner : ℕ) → Entry
+entry_for run rule at partner =
+    record { rule = rule; first = name_in run.start run.names.items at; second = name_in run.start run.names.items partner }
+
 -- Two runs, where the second is the first after the step of `at` and its partner.
 pub record Advances (old new : Running) (g g' : Graph) (at partner : ℕ) : Type 0 where
   pub rule : Rule
   pub step : StepsAt g g' at rule
   pub start : new.start ≡ old.start
-  pub journal : new.journal ≡ old.journal ++ record { rule = rule; first = name_in old.start old.names.items at; second = name_in old.start old.names.items partner } ∷ []
+  pub journal : new.journal ≡ old.journal ++ entry_for old rule at partner ∷ []
   pub names : new.names.items ≡ old.names.items ++ names_born (length old.journal) (length g'.nodes - length g.nodes)
   pub waits : AllWait g' new.waiting
   pub is_net : IsNet (net_of g')

@@ -47,7 +47,8 @@ pub record IsLead (N : NamedNet NodeName) (e : Entry) : Type 0 where
 -- a run, each entry of which is the lead of its turn
 pub data IsLeadRun : NamedNet NodeName → ℕ → List Entry → NamedNet NodeName → Type 0 where
   end : {N : NamedNet NodeName} {t : ℕ} → IsLeadRun N t [] N
-  then : {N M P : NamedNet NodeName} {t : ℕ} {e : Entry} {es : List Entry} → IsLead N e → IsEntryStep N t e M → IsLeadRun M (suc t) es P → IsLeadRun N t (e ∷ es) P
+  then : {N M P : NamedNet NodeName} {t : ℕ} {e : Entry} {es : List Entry} → IsLead N e → IsEntryStep N t e M →
+      IsLeadRun M (suc t) es P → IsLeadRun N t (e ∷ es) P
 
 -- the names of so many nodes that this ticket made
 abbrev pub names_born : ℕ → ℕ → List NodeName
@@ -65,13 +66,15 @@ pub record IsOneThread (N : NamedNet NodeName) (fuel : ℕ) (journal : List Entr
   pub within : length journal ≤ fuel
   pub ended : IsComplete M ⊎ (length journal ≡ fuel)
 
--- Names of numbers: a start node is named by its number, the next numbers are named by the nodes made, in order, and so a greater number has a later name.
+-- Names of numbers: a start node is named by its number, the next numbers are named by the nodes made, in order,
+-- and so a greater number has a later name.
 pub record IsNaming (start : ℕ) (made : List NodeName) (names : ℕ → NodeName) : Type 0 where
   pub initial : (k : ℕ) → k < start → names k ≡ Init k
   pub later : (p : ℕ) (x : NodeName) → slice_get made p ≡ Some x → names (start + p) ≡ x
   pub rising : (j k : ℕ) → j < k → k < start + length made → comes_before (names j) (names k) ≡ true
 
--- New is old after these leads. The nodes that they made took the next numbers, in the order in which they came, and no other number was given out.
+-- New is old after these leads. The nodes that they made took the next numbers, in the order in which they came, and no other
+-- number was given out.
 pub record LeadsTo (old : Graph) (journal : List Entry) (new : Graph) : Type 0 where
   pub names : ℕ → NodeName
   pub run : IsLeadRun (net_under Init (net_of old)) 0 journal (net_under names (net_of new))
