@@ -62,7 +62,7 @@ pair_is p q = go (rule_is p.rule q.rule) (name_is p.f q.f) (name_is p.g q.g) (na
     go (inl r) (inr n) b x y = second r (inl n) x y
     go (inl r) (inl a) (inr n) x y = second r (inr n) x y
 
-pair_sym : (p q : Pair) → IsSamePair p q → IsSamePair q p
+pub pair_sym : (p q : Pair) → IsSamePair p q → IsSamePair q p
 pair_sym p q (r, inl h) = (sym r, inl (sym h.0, sym h.1))
 pair_sym p q (r, inr h) = (sym r, inr (sym h.1, sym h.0))
 
@@ -97,7 +97,7 @@ take N b p k i l j faces fits =
     record { after = n.0; step = record { active = a; rewrites = n.1.rewrites }; rewrites = n.1.rewrites }
 
 -- an active pair, at the kinds that its nodes have
-fits_at : (N : NamedNet BirthName) → IsBirthNet N → (f g : BirthName) (r : Rule) → (a : IsActive N f g r) (k : Kind) (i : ℕ) (l : Kind) (j : ℕ) → HasNode N f k i → HasNode N g l j → rule_of k i l j ≡ Some r
+pub fits_at : (N : NamedNet BirthName) → IsBirthNet N → (f g : BirthName) (r : Rule) → (a : IsActive N f g r) (k : Kind) (i : ℕ) (l : Kind) (j : ℕ) → HasNode N f k i → HasNode N g l j → rule_of k i l j ≡ Some r
 fits_at N b f g r a k i l j h h' =
     let x = b.net.one_node f a.k k a.i i a.faces.first h in
     let y = b.net.one_node g a.l l a.j j a.faces.second h' in
@@ -258,7 +258,7 @@ tell_same (inl h) y f g = sym (tell_holds y (f h))
 tell_same (inr n) (inl h) f g = absurd (n (g h))
 tell_same (inr n) (inr m) f g = refl
 
-pair_trans : (p q s : Pair) → IsSamePair p q → IsSamePair q s → IsSamePair p s
+pub pair_trans : (p q s : Pair) → IsSamePair p q → IsSamePair q s → IsSamePair p s
 pair_trans p q s (e, inl h) (e', inl h') = (e ∙ e', inl (h.0 ∙ h'.0, h.1 ∙ h'.1))
 pair_trans p q s (e, inl h) (e', inr h') = (e ∙ e', inr (h.0 ∙ h'.0, h.1 ∙ h'.1))
 pair_trans p q s (e, inr h) (e', inl h') = (e ∙ e', inr (h.0 ∙ h'.1, h.1 ∙ h'.0))

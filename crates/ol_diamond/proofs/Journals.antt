@@ -1,27 +1,31 @@
 -- A run along a journal is a run by birth names.
-use Rattle.std.proofs.Common.{◌≡◌, ℕ, suc, true, false, nat_eq, cond, List, [], ◌∷◌, ◌⊎◌, inl, inr, refl, sym, ap, ◌∙◌, subst, arith, eq-eqb}
+use Rattle.std.proofs.Common.{◌≡◌, ℕ, suc, ◌+◌, true, false, nat_eq, cond, List, [], ◌∷◌, ◌⊎◌, inl, inr, refl, sym, ap, ◌∙◌, subst, arith, eq-eqb}
 use Rattle.std.proofs.lemmas.Bool.Decides.{nat_tests}
 use Rattle.ol_net.specs.declared.parts.Kind.{Kind}
-use Rattle.ol_net.specs.Nets.{slot, NamedNet, HasNode, IsNet, Faces, net_under}
+use Rattle.ol_net.specs.declared.parts.Rule.{Rule}
+use Rattle.ol_net.specs.Parts.{arity}
+use Rattle.ol_net.specs.Pairs.{IsActive}
+use Rattle.ol_net.specs.Nets.{slot, NamedNet, HasNode, IsNet, SameNet, Faces, net_under}
 use Rattle.ol_rules.specs.declared.journal.NodeName.{NodeName}
 use Rattle.ol_rules.specs.declared.journal.NodeName.TheVariants.{Init, Born}
 use Rattle.ol_rules.specs.declared.journal.Entry.{Entry}
 use Rattle.ol_rules.specs.Names.{comes_before}
-use Rattle.ol_rules.specs.Rewriting.{action_of, Rewrites}
-use Rattle.ol_rules.specs.Laws.{AreNamedBefore}
+use Rattle.ol_rules.specs.Rewriting.{meeting, crossing, is_meeting, action_of, NodeOf, left, of_f, of_g, Rewrites}
+use Rattle.ol_rules.specs.Laws.{AreNamedBefore, IsFresh}
 use Rattle.ol_rules.specs.Runs.{IsEntryStep, IsRun, IsComplete}
 use Rattle.ol_rules.specs.Runs as runs
 use Rattle.ol_rules.proofs.NameOrder.{before_before}
 use Rattle.ol_rules.proofs.OneRun.{name_same, name_test, fresh_names, named_after}
-use Rattle.ol_rules.proofs.Relation.{same_sym, net_kept}
+use Rattle.ol_rules.proofs.Relation.{same_refl, same_sym, net_kept}
 use Rattle.ol_rules.proofs.Renaming.{node_from, net_alike, active_to}
-use Rattle.ol_rules.proofs.Same.{complete_same}
+use Rattle.ol_rules.proofs.Same.{active_same, complete_same}
+use Rattle.ol_rules.proofs.BothWays.{both_ways}
 use Rattle.ol_rules.proofs.UnderNames.{complete_under}
 use Rattle.ol_diamond.specs.Births.{BirthName, init, born, IsPart, IsBirthNet}
 use Rattle.ol_diamond.specs.Runs.{Pair, IsSamePair, IsPairStep, IsPairRun, end, then, pair_under, AreBirths}
-use Rattle.ol_diamond.specs.Laws.{BirthFollows, CompleteFollows}
+use Rattle.ol_diamond.specs.Laws.{RunByBirths, BirthFollows, CompleteFollows, BirthNamesAreOne}
 use Rattle.ol_diamond.proofs.Births.{fresh_of}
-use Rattle.ol_diamond.proofs.Confluence.{step_keeps, take}
+use Rattle.ol_diamond.proofs.Confluence.{step_keeps, take, fits_at, one_pair, pair_sym, pair_trans}
 use Rattle.ol_diamond.proofs.Renaming.{IsRenamed, under_renamed, renamed_under, renamed_net, agree, renamed}
 
 -- ---- journal names
@@ -79,6 +83,24 @@ record OneOn (M : NamedNet NodeName) (t : ℕ) (e : Entry) (m : NodeName → Bir
   old : (x : NodeName) → IsBefore x t → names x ≡ m x
   new : (place : ℕ) → names (Born t place) ≡ born pair.f pair.g place
   on : Together M (suc t) names after
+  plain : (r : Rule) → IsActive B pair.g pair.f r → (place : ℕ) (k : Kind) (i : ℕ) → HasNode M (Born t place) k i → ⊥
+
+-- where either may act, nothing is born
+none_born : (N M : NamedNet NodeName) (t : ℕ) (f g : NodeName) (r : Rule) (k : Kind) (i : ℕ) (l : Kind) (j : ℕ) → IsFresh N (λ place. Born t place)
+    → Rewrites (λ place. Born t place) N f g k i l (action_of r j) M → ((is_meeting r ≡ true) × (arity k ≡ arity l)) ⊎ ((arity k ≡ 0) × (arity l ≡ 0))
+    → (x : NodeName) (place : ℕ) → x ≡ Born t place → (m : Kind) (n : ℕ) → HasNode M x m n → ⊥
+none_born N M t f g r k i l j fresh w plain x place is m n h = go plain x is m n ((w.nodes x m n).0 h)
+  where
+    crosses : (n : ℕ) → is_meeting r ≡ true → action_of r j ≡ crossing n → ⊥
+    crosses n e q = let a : action_of r j ≡ meeting = rw e refl in let bad : meeting ≡ crossing n = sym a ∙ q in cc
+
+    go : ((is_meeting r ≡ true) × (arity k ≡ arity l)) ⊎ ((arity k ≡ 0) × (arity l ≡ 0)) → (x : NodeName) → x ≡ Born t place → (m : Kind) (n : ℕ) →
+        NodeOf N (λ place. Born t place) f g k i l (action_of r j) x m n → ⊥
+    go p x is m n (left h y z) = fresh.unused x m n place h is
+    go (inl p) x is m n (of_f u e b) = crosses u p.0 e
+    go (inl p) x is m n (of_g u e b) = crosses u p.0 e
+    go (inr p) x is m n (of_f u e b) = let z = p.1 in absurd (omega arith)
+    go (inr p) x is m n (of_g u e b) = let z = p.0 in absurd (omega arith)
 
 abbrev Either : Entry → NodeName → NodeName → Type 0
 Either e f g = ((e.first ≡ f) × (e.second ≡ g)) ⊎ ((e.first ≡ g) × (e.second ≡ f))
@@ -116,6 +138,9 @@ one_on N M t e m B tg s =
         birth_net = step_keeps B a.after p tg.birth_net a.step;
         renames = renamed m' N B r tg.net s.f s.g x.k x.i x.l x.j (action_of e.rule x.j) x.faces (λ place. Born t place) (born f g) fresh fresh' (later_new m t f g) M a.after s.step.rewrites w;
       };
+      plain = λ r turned place k i h.
+          let fits = fits_at B tg.birth_net g f r turned x.l x.j x.k x.i faces.second faces.first in
+          none_born N M t s.f s.g e.rule x.k x.i x.l x.j fresh s.step.rewrites (both_ways x.k x.l x.i x.j e.rule r x.fits fits).plain (Born t place) place refl k i h;
     }
   where
     first_before : Either e s.f s.g → IsBefore s.f t → IsBefore s.g t → IsBefore e.first t
@@ -212,3 +237,89 @@ complete_follows N M journal net before run r = (
   (λ c. complete_same (net_under r.birth M) r.after (same_sym r.after (net_under r.birth M) r.same) (complete_under r.birth M (along N net before M journal run).net r.apart c)),
   (λ c f g rule a. complete_same r.after (net_under r.birth M) r.same c (r.birth f) (r.birth g) rule (active_to r.birth M f g rule a)),
 )
+
+-- ---- two namings of one journal
+
+-- a naming of the journal's nodes from this ticket on, and the run of which it tells, beside the names n so far
+record NamedOn (N : NamedNet NodeName) (t : ℕ) (es : List Entry) (n : NodeName → BirthName) (B : NamedNet BirthName) (m : NodeName → BirthName) : Type 0 where
+  alike : (x : NodeName) (k : Kind) (i : ℕ) → HasNode N x k i → m x ≡ n x
+  pairs : List Pair
+  births : AreBirths m t es pairs
+  from : NamedNet BirthName
+  after : NamedNet BirthName
+  same : SameNet B from
+  run : IsPairRun from pairs after
+
+module _ (N K : NamedNet NodeName) (t : ℕ) (e : Entry) (es : List Entry) (n : NodeName → BirthName) (B : NamedNet BirthName) (tg : Together N t n B) (s : IsEntryStep N t e K) (m : NodeName → BirthName)
+    (alike : (x : NodeName) (k : Kind) (i : ℕ) → HasNode N x k i → m x ≡ n x) (a : OneOn K t e n B) where
+  first_alike : Either e s.f s.g → m e.first ≡ n e.first
+  first_alike (inl h) = let x = s.step.active in subst (λ y. m y ≡ n y) (sym h.0) (alike s.f x.k x.i x.faces.first)
+  first_alike (inr h) = let x = s.step.active in subst (λ y. m y ≡ n y) (sym h.0) (alike s.g x.l x.j x.faces.second)
+
+  second_alike : Either e s.f s.g → m e.second ≡ n e.second
+  second_alike (inl h) = let x = s.step.active in subst (λ y. m y ≡ n y) (sym h.1) (alike s.g x.l x.j x.faces.second)
+  second_alike (inr h) = let x = s.step.active in subst (λ y. m y ≡ n y) (sym h.1) (alike s.f x.k x.i x.faces.first)
+
+  under : (p : Pair) → IsSamePair p (pair_under m e) → IsSamePair p (pair_under n e)
+  under p (r, inl h) = (r, inl (h.0 ∙ first_alike s.named.pair, h.1 ∙ second_alike s.named.pair))
+  under p (r, inr h) = (r, inr (h.0 ∙ second_alike s.named.pair, h.1 ∙ first_alike s.named.pair))
+
+  module _ (p : Pair) (same : IsSamePair p a.pair) (active : IsActive B p.f p.g p.rule) (born_by : (place : ℕ) → m (Born t place) ≡ born p.f p.g place) where
+    new_alike : (place : ℕ) (k : Kind) (i : ℕ) → HasNode K (Born t place) k i → m (Born t place) ≡ a.names (Born t place)
+    new_alike place k i h = go same.1
+      where
+        go : ((p.f ≡ a.pair.f) × (p.g ≡ a.pair.g)) ⊎ ((p.f ≡ a.pair.g) × (p.g ≡ a.pair.f)) → m (Born t place) ≡ a.names (Born t place)
+        go (inl q) = born_by place ∙ ap (λ f. born f p.g place) q.0 ∙ ap (λ g. born a.pair.f g place) q.1 ∙ sym (a.new place)
+        go (inr q) = absurd (a.plain p.rule (subst (λ g. IsActive B a.pair.g g p.rule) q.1 (subst (λ f. IsActive B f p.g p.rule) q.0 active)) place k i h)
+
+    all_alike : (x : NodeName) (k : Kind) (i : ℕ) → HasNode K x k i → m x ≡ a.names x
+    all_alike x k i h = go x k i h ((s.step.rewrites.nodes x k i).0 h)
+      where
+        go : (x : NodeName) (k : Kind) (i : ℕ) → HasNode K x k i → NodeOf N (λ place. Born t place) s.f s.g s.step.active.k s.step.active.i s.step.active.l (action_of e.rule s.step.active.j) x k i → m x ≡ a.names x
+        go x k i h (left h' y z) = alike x k i h' ∙ sym (a.old x (tg.before x k i h'))
+        go x k i h (of_f {q = q} u c b) = new_alike q k i h
+        go x k i h (of_g {p = q} u c b) = new_alike (arity s.step.active.l + q) k i h
+
+named_on : (N K : NamedNet NodeName) (t : ℕ) (e : Entry) (es : List Entry) (n : NodeName → BirthName) (B : NamedNet BirthName) → Together N t n B → (s : IsEntryStep N t e K) → (a : OneOn K t e n B) →
+    (m : NodeName → BirthName) → NamedOn N t (e ∷ es) n B m → NamedOn K (suc t) es a.names a.after m
+named_on N K t e es n B tg s a m u = go u.pairs u.births u.run
+  where
+    go : (ps : List Pair) → AreBirths m t (e ∷ es) ps → IsPairRun u.from ps u.after → NamedOn K (suc t) es a.names a.after m
+    go [] b r = absurd b
+    go (p ∷ ps) b (then {M = C} d r) =
+        let same = pair_trans p (pair_under n e) a.pair (under N K t e es n B tg s m u.alike a p b.0) (pair_sym a.pair (pair_under n e) a.same) in
+        let active = active_same u.from B (same_sym B u.from u.same) p.f p.g p.rule d.active in
+        record {
+          alike = all_alike N K t e es n B tg s m u.alike a p same active b.1;
+          pairs = ps;
+          births = b.2;
+          from = C;
+          after = u.after;
+          same = one_pair B u.from a.after C a.pair p (pair_sym p a.pair same) tg.birth_net u.same a.step d;
+          run = r;
+        }
+
+both_alike : (N M : NamedNet NodeName) (t : ℕ) (es : List Entry) (n : NodeName → BirthName) (B : NamedNet BirthName) → Together N t n B → IsRun N t es M →
+    (m m' : NodeName → BirthName) → NamedOn N t es n B m → NamedOn N t es n B m' → (x : NodeName) (k : Kind) (i : ℕ) → HasNode M x k i → m x ≡ m' x
+both_alike N M t [] n B tg runs.IsRun.end m m' u v x k i h = u.alike x k i h ∙ sym (v.alike x k i h)
+both_alike N M t (e ∷ es) n B tg (runs.IsRun.then {M = K} s r) m m' u v x k i h =
+    let a = one_on N K t e n B tg s in
+    both_alike K M (suc t) es a.names a.after a.on r m m' (named_on N K t e es n B tg s a m u) (named_on N K t e es n B tg s a m' v) x k i h
+
+pub birth_names_are_one : BirthNamesAreOne
+birth_names_are_one N M journal net before run r s x k i h =
+    both_alike N M 0 journal by_number (net_under by_number N) (record { net = net; before = before; birth_net = start_net N net before; renames = start_renamed N net before }) run r.birth s.birth (on r) (on s) x k i h
+  where
+    on : (r : RunByBirths N journal M) → NamedOn N 0 journal by_number (net_under by_number N) r.birth
+    on r = record {
+      alike = alike;
+      pairs = r.pairs;
+      births = r.births;
+      from = net_under r.birth N;
+      after = r.after;
+      same = subst (λ B. SameNet (net_under by_number N) B) (sym (net_alike r.birth by_number N net alike)) (same_refl (net_under by_number N));
+      run = r.run;
+    }
+      where
+        alike : (x : NodeName) (k : Kind) (i : ℕ) → HasNode N x k i → r.birth x ≡ by_number x
+        alike x k i h = let y = start_name x (before x k i h) in ap r.birth y.1 ∙ r.initial y.0 ∙ sym (ap by_number y.1)

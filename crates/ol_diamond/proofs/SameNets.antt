@@ -1,8 +1,5 @@
 -- A run from a net is a run from the same net.
-use Rattle.std.proofs.Common.{ℕ, suc, List, [], ◌∷◌}
-use Rattle.ol_net.specs.Nets.{NamedNet, SameNet}
-use Rattle.ol_rules.specs.declared.journal.NodeName.{NodeName}
-use Rattle.ol_rules.specs.declared.journal.Entry.{Entry}
+use Rattle.std.proofs.Common.{[], ◌∷◌}
 use Rattle.ol_rules.specs.Runs.{IsRun}
 use Rattle.ol_rules.proofs.Relation.{same_refl}
 use Rattle.ol_rules.proofs.Same.{step_same}

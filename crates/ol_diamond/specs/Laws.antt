@@ -100,3 +100,8 @@ BirthFollows = (N M : NamedNet NodeName) (journal : List Entry) → IsNet N → 
 abbrev pub CompleteFollows : Type 0
 CompleteFollows = (N M : NamedNet NodeName) (journal : List Entry) → IsNet N → AreNamedBefore N 0 → IsRun N 0 journal M →
     (r : RunByBirths N journal M) → IsComplete M ↔ IsComplete r.after
+
+-- Two namings of one journal's run name each node of its net alike.
+abbrev pub BirthNamesAreOne : Type 0
+BirthNamesAreOne = (N M : NamedNet NodeName) (journal : List Entry) → IsNet N → AreNamedBefore N 0 → IsRun N 0 journal M →
+    (r s : RunByBirths N journal M) → (x : NodeName) (k : Kind) (i : ℕ) → HasNode M x k i → r.birth x ≡ s.birth x

@@ -16,7 +16,7 @@ mod square;
 #[cfg(test)]
 mod tests;
 
-ghost use Rattle.ol_diamond.specs.Laws.{StartIsBirthNet, StepKeepsBirthNet, RunKeepsBirthNet, BornIsFresh, PairsCommute, DoneMeansDone, PairToFront, EachPairIsAmong, NoRunHasMore, NoRunIsLonger, CompleteRunsHaveOnePairs, CompleteRunsHaveOneCounts, CompleteRunsLeaveOneNet, BirthFollows, CompleteFollows};
+ghost use Rattle.ol_diamond.specs.Laws.{StartIsBirthNet, StepKeepsBirthNet, RunKeepsBirthNet, BornIsFresh, PairsCommute, DoneMeansDone, PairToFront, EachPairIsAmong, NoRunHasMore, NoRunIsLonger, CompleteRunsHaveOnePairs, CompleteRunsHaveOneCounts, CompleteRunsLeaveOneNet, BirthFollows, CompleteFollows, BirthNamesAreOne};
 
 pub use one_thread::{one_thread_agrees, same_nets_run_alike};
 pub use square::{Square, SquareFault, two_orders};
@@ -69,4 +69,10 @@ pub fn complete_runs_agree()
 pub fn birth_follows()
     ensures follows { BirthFollows }
     ensures complete { CompleteFollows }
+{}
+
+/// Two namings of the run along one journal name each node of its net alike. So there is one such
+/// run by birth names, but for which of two nodes is written first where either may act.
+pub fn birth_names_are_one()
+    ensures { BirthNamesAreOne }
 {}
