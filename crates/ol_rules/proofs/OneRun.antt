@@ -107,7 +107,7 @@ module _ {A : Type 0} (M : NamedNet A) (is_net : IsNet M) where
       (both_ways a.k a.l a.i a.j r s a.fits (turned_rule f g r s a b')).one_rule
 
 -- steps of one net by one pair leave one net, whichever of the two acts
-step_either : {A : Type 0} (born : ℕ → A) (M N P Q : NamedNet A) (f g f' g' : A) (r s : Rule) → IsNet M → SameNet M N → ArePaired f g f' g' → IsStep born M f g r P → IsStep born N f' g' s Q → SameNet P Q
+pub step_either : {A : Type 0} (born : ℕ → A) (M N P Q : NamedNet A) (f g f' g' : A) (r s : Rule) → IsNet M → SameNet M N → ArePaired f g f' g' → IsStep born M f g r P → IsStep born N f' g' s Q → SameNet P Q
 step_either born M N P Q f g f' g' r s n m (inl e) a b =
     (one_step born M N P Q f g r s n m a (subst (λ g. IsStep born N f g s Q) (sym e.1) (subst (λ f. IsStep born N f g' s Q) (sym e.0) b))).1
 step_either born M N P Q f g f' g' r s n m (inr e) a b =

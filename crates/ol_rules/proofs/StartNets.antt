@@ -41,7 +41,7 @@ module _ {A B : Type 0} (m : A → B) (one_name : (x y : A) → m x ≡ m y → 
         (port_under m l.0, subst (λ P. Linked (net_under m N) P (port_under m l.0)) (sym t.1) (link_to m N t.0 l.0 l.1));
   }
 
-one_start : (x y : ℕ) → Init x ≡ Init y → x ≡ y
+pub one_start : (x y : ℕ) → Init x ≡ Init y → x ≡ y
 one_start x y e = cc
 
 pub start_net : (N : NamedNet ℕ) → IsNet N → IsNet (net_under Init N)

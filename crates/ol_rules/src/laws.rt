@@ -15,9 +15,9 @@ pub fn a_step_is_a_net<A>()
     ensures some { StepExists A }
 {}
 
-/// A step is a contraction: its links are what is left of the joins and of the links that stay, once
-/// the slots of its two nodes are taken out one by one, in any order. A net may have a link in its
-/// list twice, and then it is the same as one whose list has each link once.
+/// A step is a contraction: its links are what is left of the joins and of the links that stay,
+/// once the slots of its two nodes are taken out one by one, in any order. A net may have a link in
+/// its list twice, and then it is the same as one whose list has each link once.
 pub fn a_step_is_a_contraction<A>()
     ensures links { StepIsContraction A }
     ensures listed { EachIsListed A }
