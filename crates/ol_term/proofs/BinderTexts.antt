@@ -1,44 +1,32 @@
 -- Names of binders.
-use Rattle.std.proofs.Common.{◌≡◌, ℕ, zero, suc, ◌==◌, ◌<◌, ◌≤◌, ◌⊎◌, inl, inr, Bool, true, false, ◌&&◌, ◌||◌, cond, List, [], ◌∷◌, ◌++◌, length, get_or, Decides, Some, None, refl, sym, ap, ◌∙◌, arith}
+use Rattle.std.proofs.Common.{◌≡◌, ℕ, zero, suc, ◌<◌, ◌≤◌, ◌⊎◌, inl, inr, true, false, ◌||◌, cond, List, [], ◌∷◌, ◌++◌, length, get_or, Some, None, refl, sym, ap, ◌∙◌, arith}
 use Rattle.std.specs.Prelude.{◌≢◌, slice_get}
-use Rattle.std.proofs.lemmas.Bool.Decides.{Decides-like, Decides-and, Decides-eqb}
+use Rattle.std.specs.Str.{bytes_eq}
+use Rattle.std.proofs.lemmas.Bool.{cases_Bool, or_right}
+use Rattle.std.proofs.lemmas.Slice.Eq.{bytes_eq-Decides}
 use Rattle.std.proofs.lemmas.List.{get_or_append_left, get_or_push, length_push}
-use Rattle.ol_term.specs.BinderNames.{candidate, same_text, is_among, fresh_from, number_of}
+use Rattle.ol_term.specs.BinderNames.{candidate, is_among, fresh_from, number_of}
 use Rattle.ol_term.specs.BinderNumbers.{AreNumbers, IsStart}
 
-same_text-Decides : (x y : List ℕ) → Decides (same_text x y) (x ≡ y)
-same_text-Decides [] [] = (λ a. refl, λ a. refl)
-same_text-Decides [] (y ∷ ys) = (λ a. absurd (cc), λ a. absurd (cc))
-same_text-Decides (x ∷ xs) [] = (λ a. absurd (cc), λ a. absurd (cc))
-same_text-Decides (x ∷ xs) (y ∷ ys) =
-    Decides-like ((x == y) && same_text xs ys) both apart (Decides-and (x == y) (same_text xs ys) (Decides-eqb x y) (same_text-Decides xs ys))
-  where
-    both : (x ≡ y) × (xs ≡ ys) → x ∷ xs ≡ y ∷ ys
-    both h = ap (λ z. z ∷ xs) h.0 ∙ ap (λ zs. y ∷ zs) h.1
-
-    apart : x ∷ xs ≡ y ∷ ys → (x ≡ y) × (xs ≡ ys)
-    apart e = (cc, cc)
-
-false_is : {X : Type 0} (b : Bool) → Decides b X → (X → ⊥) → b ≡ false
-false_is true h x = absurd (x (h.0 refl))
-false_is false h x = refl
+-- two texts that differ
+pub not_same : (x y : List ℕ) → (x ≡ y → ⊥) → bytes_eq x y ≡ false
+not_same x y apart = elim (cases_Bool (bytes_eq x y)) [
+  | inl same ↦ absurd (apart ((bytes_eq-Decides x y).0 same))
+  | inr differ ↦ differ
+]
 
 pub among_at : (names : List (List ℕ)) (k : ℕ) (t : List ℕ) → slice_get names k ≡ Some t → is_among names t ≡ true
 among_at [] k t e = let z : None ≡ Some t = e in absurd (cc)
 among_at (m ∷ names) zero t e =
     let z : Some m ≡ Some t = e in
     let y : m ≡ t = cc in
-    ap (λ b. b || is_among names t) ((same_text-Decides m t).1 y)
-among_at (m ∷ names) (suc k) t e = either (same_text m t) (is_among names t) (among_at names k t e)
-  where
-    either : (a b : Bool) → b ≡ true → (a || b) ≡ true
-    either true b h = refl
-    either false b h = h
+    ap (λ b. b || is_among names t) ((bytes_eq-Decides m t).1 y)
+among_at (m ∷ names) (suc k) t e = or_right (bytes_eq m t) (is_among names t) (among_at names k t e)
 
 pub among_nowhere : (names : List (List ℕ)) (t : List ℕ) → ((j : ℕ) → slice_get names j ≢ Some t) → is_among names t ≡ false
 among_nowhere [] t h = refl
 among_nowhere (m ∷ names) t h =
-    ap (λ b. b || is_among names t) (false_is (same_text m t) (same_text-Decides m t) (λ e. h 0 (ap Some e)))
+    ap (λ b. b || is_among names t) (not_same m t (λ e. h 0 (ap Some e)))
     ∙ among_nowhere names t (λ j. h (suc j))
 
 -- passing over a name

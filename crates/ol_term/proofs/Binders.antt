@@ -1,14 +1,17 @@
 -- The names of binders.
-use Rattle.std.proofs.Common.{◌≡◌, ℕ, zero, suc, ◌+◌, ◌*◌, ◌/◌, ◌%◌, ◌==◌, ◌<◌, ◌≤◌, ◌^◌, inl, inr, List, [], ◌∷◌, length, Bool, true, false, ◌&&◌, ◌||◌, cond, Some, refl, sym, ap, ◌∙◌, arith}
-use Rattle.std.specs.Prelude.{slice_get}
+use Rattle.std.proofs.Common.{◌≡◌, ℕ, zero, suc, ◌+◌, ◌*◌, ◌/◌, ◌%◌, ◌==◌, ◌<◌, ◌≤◌, ◌^◌, inl, inr, List, [], ◌∷◌, length, Bool, true, false, ◌||◌, cond, refl, sym, ap, ◌∙◌, arith}
 use Rattle.std.specs.Fmt.{decimal}
 use Rattle.std.specs.Str.Parse.{AllDigits, digits_value}
 use Rattle.std.proofs.Math.Nat.{div-add-mod, mul-le-mul}
-use Rattle.std.proofs.lemmas.Bool.{cases_lt, cases_order, eqb-true, eq-eqb}
+use Rattle.std.specs.Str.{bytes_eq}
+use Rattle.std.proofs.lemmas.Bool.{cases_Bool, cases_lt, cases_order, eqb-true}
+use Rattle.std.proofs.lemmas.Slice.Eq.{bytes_eq-Decides}
 use Rattle.std.proofs.lemmas.Fmt.{decimal_is_IsNumeral_wide}
 use Rattle.std.proofs.lemmas.Str.Parse.{digit_from_value}
-use Rattle.ol_term.specs.BinderNames.{candidate, same_text, is_among, fresh_from, number_of, binder_name}
+use Rattle.ol_term.specs.BinderNames.{candidate, is_among, fresh_from, number_of, binder_name}
+use Rattle.ol_term.specs.NameLists.{without}
 use Rattle.ol_term.specs.BinderLaws.{AreDigits, IsLetterWithDigits, BinderIsLetterWithDigits, BinderIsNotFree, BindersDiffer}
+use Rattle.ol_term.proofs.BinderTexts.{not_same, among_at}
 
 -- ---- one name of the sequence
 
@@ -55,38 +58,11 @@ letter_with_digits m h =
     let x = div-add-mod m 26 in
     (omega arith, omega arith, tail_digits (m / 26) (omega arith))
 
--- ---- texts
-
-same_itself : (x : List ℕ) → same_text x x ≡ true
-same_itself [] = refl
-same_itself (c ∷ x) = ap (λ b. b && same_text x x) (eq-eqb c c refl) ∙ same_itself x
-
-same_true : (x y : List ℕ) → same_text x y ≡ true → x ≡ y
-same_true [] [] h = refl
-same_true [] (d ∷ y) h = absurd (cc)
-same_true (c ∷ x) [] h = absurd (cc)
-same_true (c ∷ x) (d ∷ y) h = go (c == d) refl h (same_true x y)
-  where
-    go : (b : Bool) → (c == d) ≡ b → (b && same_text x y) ≡ true → (same_text x y ≡ true → x ≡ y) → c ∷ x ≡ d ∷ y
-    go true e h each = ap (λ c. c ∷ x) (eqb-true c d e) ∙ ap (λ x. d ∷ x) (each h)
-    go false e h each = absurd (cc)
-
-not_same : (x y : List ℕ) → (x ≡ y → ⊥) → same_text x y ≡ false
-not_same x y h = go (same_text x y) refl
-  where
-    go : (b : Bool) → same_text x y ≡ b → same_text x y ≡ false
-    go true e = absurd (h (same_true x y e))
-    go false e = e
-
 -- ---- all but one name
-
-abbrev without : List ℕ → List (List ℕ) → List (List ℕ)
-without x [] = []
-without x (n ∷ ns) = cond (same_text n x) (without x ns) (n ∷ without x ns)
 
 without_short : (x : List ℕ) (ns : List (List ℕ)) → length (without x ns) ≤ length ns
 without_short x [] = omega arith
-without_short x (n ∷ ns) = go (same_text n x) (without_short x ns)
+without_short x (n ∷ ns) = go (bytes_eq x n) (without_short x ns)
   where
     go : (b : Bool) → length (without x ns) ≤ length ns → length (cond b (without x ns) (n ∷ without x ns)) ≤ length (n ∷ ns)
     go true h = omega arith
@@ -94,28 +70,21 @@ without_short x (n ∷ ns) = go (same_text n x) (without_short x ns)
 
 without_less : (x : List ℕ) (ns : List (List ℕ)) → is_among ns x ≡ true → length (without x ns) < length ns
 without_less x [] h = absurd (cc)
-without_less x (n ∷ ns) h = go (same_text n x) h (without_short x ns) (without_less x ns)
-  where
-    go : (b : Bool) → (b || is_among ns x) ≡ true → length (without x ns) ≤ length ns → (is_among ns x ≡ true → length (without x ns) < length ns) → length (cond b (without x ns) (n ∷ without x ns)) < length (n ∷ ns)
-    go true h short each = omega arith
-    go false h short each = let l = each h in omega arith
+without_less x (n ∷ ns) h = elim (cases_Bool (bytes_eq x n)) [
+  | inl same ↦ let short = without_short x ns in rw same (omega arith)
+  | inr differ ↦
+      let miss : bytes_eq n x ≡ false = not_same n x (λ e. let hit = (bytes_eq-Decides x n).1 (sym e) in absurd (cc)) in
+      let less = without_less x ns (rw miss at h) in
+      rw differ (omega arith)
+]
 
 without_other : (x y : List ℕ) (ns : List (List ℕ)) → (x ≡ y → ⊥) → is_among ns y ≡ is_among (without x ns) y
 without_other x y [] h = refl
-without_other x y (n ∷ ns) h = go (same_text n x) refl (without_other x y ns h)
+without_other x y (n ∷ ns) h = go (bytes_eq x n) refl (without_other x y ns h)
   where
-    go : (b : Bool) → same_text n x ≡ b → is_among ns y ≡ is_among (without x ns) y → (same_text n y || is_among ns y) ≡ is_among (cond b (without x ns) (n ∷ without x ns)) y
-    go true e each = ap (λ b. b || is_among ns y) (not_same n y (λ s. h (sym (same_true n x e) ∙ s))) ∙ each
-    go false e each = ap (λ b. same_text n y || b) each
-
-among_at : (names : List (List ℕ)) (k : ℕ) (x : List ℕ) → slice_get names k ≡ Some x → is_among names x ≡ true
-among_at [] k x e = absurd (cc)
-among_at (n ∷ names) zero x e = let s : n ≡ x = cc in ap (λ b. b || is_among names x) (ap (λ n. same_text n x) s ∙ same_itself x)
-among_at (n ∷ names) (suc k) x e = go (same_text n x) (among_at names k x e)
-  where
-    go : (b : Bool) → is_among names x ≡ true → (b || is_among names x) ≡ true
-    go true h = refl
-    go false h = h
+    go : (b : Bool) → bytes_eq x n ≡ b → is_among ns y ≡ is_among (without x ns) y → (bytes_eq n y || is_among ns y) ≡ is_among (cond b (without x ns) (n ∷ without x ns)) y
+    go true e each = ap (λ b. b || is_among ns y) (not_same n y (λ s. h ((bytes_eq-Decides x n).0 e ∙ s))) ∙ each
+    go false e each = ap (λ b. bytes_eq n y || b) each
 
 -- ---- the first fresh name
 

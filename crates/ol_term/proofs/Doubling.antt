@@ -1,5 +1,5 @@
 -- How long the text of a doubled term is.
-use Rattle.std.proofs.Common.{◌≡◌, ℕ, zero, suc, ◌+◌, ◌*◌, ◌^◌, List, [], ◌∷◌, ◌++◌, length, length-append, refl, arith}
+use Rattle.std.proofs.Common.{◌≡◌, ℕ, zero, suc, ◌+◌, ◌*◌, ◌^◌, [], ◌∷◌, ◌++◌, length, length-append, refl, arith}
 use Rattle.std.proofs.Math.Nat.{pow-suc}
 use Rattle.ol_term.specs.Generated.{doubled, doubled_text}
 

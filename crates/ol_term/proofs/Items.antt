@@ -1,5 +1,6 @@
 -- What is still to be printed, step by step.
-use Rattle.std.proofs.Common.{◌≡◌, ℕ, ◌+◌, ◌<◌, ◌≤◌, Bool, true, false, ◌&&◌, List, [], ◌∷◌, ◌++◌, length, refl, sym, ap, ◌∙◌, subst, arith, append_assoc}
+use Rattle.std.proofs.Common.{◌≡◌, ℕ, ◌+◌, ◌<◌, ◌≤◌, Bool, true, false, List, [], ◌∷◌, ◌++◌, length, refl, sym, ap, ◌∙◌, subst, arith, append_assoc}
+use Rattle.std.proofs.lemmas.Bool.{and_parts}
 use Rattle.std.proofs.lemmas.List.{append-nil}
 use Rattle.std.specs.Prelude.{not, max, if◌then◌else◌}
 use Rattle.ol_term.specs.Trees.{Tree, var, free, lam, app, is_below, is_named_below, size, depth}
@@ -17,14 +18,6 @@ depth_small (app f a) = let b = depth_small f in let c = depth_small a in grind 
 
 -- ---- parts that can be printed
 
-left_of : (a b : Bool) → (a && b) ≡ true → a ≡ true
-left_of true b h = refl
-left_of false b h = absurd (cc)
-
-right_of : (a b : Bool) → (a && b) ≡ true → b ≡ true
-right_of true b h = h
-right_of false b h = absurd (cc)
-
 pub body_printable : (c n : ℕ) (t u : Tree) → t ≡ lam u → IsPrintable c n t → IsPrintable c (n + 1) u
 body_printable c n t u e p =
     let q : IsPrintable c n (lam u) = subst (λ (t : Tree). IsPrintable c n t) e p in
@@ -35,13 +28,13 @@ pub function_printable : (c n : ℕ) (t f a : Tree) → t ≡ app f a → IsPrin
 function_printable c n t f a e p =
     let q : IsPrintable c n (app f a) = subst (λ (t : Tree). IsPrintable c n t) e p in
     let s : n + (1 + max (depth f) (depth a)) ≤ 4294967295 = q.short in
-    record { bound = left_of (is_below n f) (is_below n a) q.bound; named = left_of (is_named_below c f) (is_named_below c a) q.named; short = grind arith }
+    record { bound = (and_parts (is_below n f) (is_below n a) q.bound).0; named = (and_parts (is_named_below c f) (is_named_below c a) q.named).0; short = grind arith }
 
 pub argument_printable : (c n : ℕ) (t f a : Tree) → t ≡ app f a → IsPrintable c n t → IsPrintable c n a
 argument_printable c n t f a e p =
     let q : IsPrintable c n (app f a) = subst (λ (t : Tree). IsPrintable c n t) e p in
     let s : n + (1 + max (depth f) (depth a)) ≤ 4294967295 = q.short in
-    record { bound = right_of (is_below n f) (is_below n a) q.bound; named = right_of (is_named_below c f) (is_named_below c a) q.named; short = grind arith }
+    record { bound = (and_parts (is_below n f) (is_below n a) q.bound).1; named = (and_parts (is_named_below c f) (is_named_below c a) q.named).1; short = grind arith }
 
 -- ---- one more item
 

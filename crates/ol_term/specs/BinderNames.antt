@@ -1,21 +1,16 @@
 -- Names of binders: a to z, then a1 to z1, a2 to z2 and so on, without the free names.
-use Rattle.std.specs.Prelude.{ℕ, zero, suc, ◌+◌, ◌/◌, ◌%◌, ◌==◌, Bool, true, false, ◌&&◌, ◌||◌, if◌then◌else◌, List, [], ◌∷◌, length}
+use Rattle.std.specs.Prelude.{ℕ, zero, suc, ◌+◌, ◌/◌, ◌%◌, ◌==◌, Bool, false, ◌||◌, if◌then◌else◌, List, [], ◌∷◌, length}
 use Rattle.std.specs.Fmt.{decimal}
+use Rattle.std.specs.Str.{bytes_eq}
 
 -- name number m of the whole sequence
 abbrev pub candidate : ℕ → List ℕ
 candidate m = (97 + m % 26) ∷ (if m / 26 == 0 then [] else decimal (m / 26))
 
-abbrev pub same_text : List ℕ → List ℕ → Bool
-same_text [] [] = true
-same_text (x ∷ xs) (y ∷ ys) = (x == y) && same_text xs ys
-same_text [] (y ∷ ys) = false
-same_text (x ∷ xs) [] = false
-
 -- whether it is one of these names
 abbrev pub is_among : List (List ℕ) → List ℕ → Bool
 is_among [] t = false
-is_among (n ∷ ns) t = same_text n t || is_among ns t
+is_among (n ∷ ns) t = bytes_eq n t || is_among ns t
 
 -- the first number from m on whose name is no free name, where no more than n are passed over
 abbrev pub fresh_from : List (List ℕ) → ℕ → ℕ → ℕ

@@ -1,4 +1,4 @@
-use Rattle.std.proofs.Common.{◌≡◌, ◌+◌, ◌++◌, ◌∷◌, [], length, ap, ◌∙◌}
+use Rattle.std.proofs.Common.{◌+◌, ◌++◌, ◌∷◌, [], length, ap, ◌∙◌}
 use Rattle.ol_term.proofs.Doubling.{length_text}
 use Rattle.ol_term.proofs.generating.make.Goals as goal
 
