@@ -1,12 +1,12 @@
 -- What holds of the tree and the names of a term.
 use Rattle.std.proofs.Common.{◌≡◌, ℕ, ◌+◌, ◌<◌, ◌≤◌, List, [], ◌∷◌, ◌++◌, length, length-append, Bool, true, false, ◌&&◌, ◌||◌, cond, eq-eqb, Option, Some, None, inl, inr, refl, sym, ap, ◌∙◌, append_assoc, append-nil, arith}
-use Rattle.std.proofs.lemmas.Bool.{cases_lt, lt-ltb, ltb-true}
+use Rattle.std.proofs.lemmas.Bool.{and_parts, cases_lt, lt-ltb, ltb-true, or_right}
 use Rattle.std.specs.Prelude.{max}
 use Rattle.std.specs.List.{position_from}
+use Rattle.std.specs.Str.{bytes_eq}
 use Rattle.ol_term.specs.Trees as tree
 use Rattle.ol_term.specs.Trees.{Tree, tree_of, is_below, is_named_below, has_name}
 use Rattle.ol_parse.specs.Grammar.{Named, var, lam, app}
-use Rattle.ol_parse.specs.Texts.{is_text}
 use Rattle.ol_parse.specs.Depth.{named_depth}
 use Rattle.ol_parse.specs.Numbered.{place_of, numbered, var_at, free_at, names_of, number}
 use Rattle.ol_parse.specs.Resolving.{names_from, free_unless, add_unless}
@@ -30,11 +30,11 @@ same_depth (app f a) names binders = ap (λ n. 1 + max n (tree.depth (numbered n
 
 -- ---- each variable is bound
 
-within : (x : List ℕ) (names : List (List ℕ)) (i k n : ℕ) → n ≡ i + length names → position_from (λ y. is_text x y) i names ≡ Some k → k < n
+within : (x : List ℕ) (names : List (List ℕ)) (i k n : ℕ) → n ≡ i + length names → position_from (λ y. bytes_eq x y) i names ≡ Some k → k < n
 within x [] i k n e h = absurd (cc)
-within x (y ∷ ys) i k n e h = go (within x ys (i + 1) k n (omega arith)) (is_text x y) h
+within x (y ∷ ys) i k n e h = go (within x ys (i + 1) k n (omega arith)) (bytes_eq x y) h
   where
-    go : (position_from (λ y. is_text x y) (i + 1) ys ≡ Some k → k < n) → (t : Bool) → cond t (Some i) (position_from (λ y. is_text x y) (i + 1) ys) ≡ Some k → k < n
+    go : (position_from (λ y. bytes_eq x y) (i + 1) ys ≡ Some k → k < n) → (t : Bool) → cond t (Some i) (position_from (λ y. bytes_eq x y) (i + 1) ys) ≡ Some k → k < n
     go each true h = let here : i ≡ k = cc in omega arith
     go each false h = each h
 
@@ -58,16 +58,12 @@ bound (app f a) names binders = ap (λ b. b && is_below (length binders) (number
 
 -- ---- each free name is in the list
 
-and_true : (a b : Bool) → (a && b) ≡ true → (a ≡ true) × (b ≡ true)
-and_true true b h = (refl, h)
-and_true false b h = absurd (cc)
-
 more_named : (m n : ℕ) (t : Tree) → m ≤ n → is_named_below m t ≡ true → is_named_below n t ≡ true
 more_named m n (tree.var k) h b = refl
 more_named m n (tree.free k) h b = let l = ltb-true k m b in lt-ltb k n (omega arith)
 more_named m n (tree.lam t) h b = more_named m n t h b
 more_named m n (tree.app f a) h b =
-    let (p, q) = and_true (is_named_below m f) (is_named_below m a) b in
+    let (p, q) = and_parts (is_named_below m f) (is_named_below m a) b in
     ap (λ b. b && is_named_below n a) (more_named m n f h p) ∙ more_named m n a h q
 
 -- the place of a name that is free here
@@ -108,10 +104,6 @@ all_named (app f a) binders names more =
 
 -- ---- each name of the list occurs
 
-or_true : (b : Bool) → (b || true) ≡ true
-or_true true = refl
-or_true false = refl
-
 var_occurs : (x : List ℕ) (names more : List (List ℕ)) (k : ℕ) (o : Option ℕ) → length names ≤ k → k < length (free_unless names x o) → has_name k (var_at o (place_of x (free_unless names x o ++ more))) ≡ true
 var_occurs x names more k (Some n) h l = absurd (omega arith)
 var_occurs x names more k None h l =
@@ -128,7 +120,7 @@ each_occurs (app f a) binders names more k h l =
     let w : last ++ more ≡ mid ++ (rest ++ more) = ap (λ x. x ++ more) g ∙ append_assoc mid rest more in
     elim (cases_lt k (length mid)) [
       | inl low ↦ ap (λ b. b || has_name k (numbered (last ++ more) binders a)) (ap (λ n. has_name k (numbered n binders f)) w ∙ each_occurs f binders names (rest ++ more) k h low)
-      | inr past ↦ ap (λ b. has_name k (numbered (last ++ more) binders f) || b) (each_occurs a binders mid more k (omega arith) l) ∙ or_true (has_name k (numbered (last ++ more) binders f))
+      | inr past ↦ or_right (has_name k (numbered (last ++ more) binders f)) (has_name k (numbered (last ++ more) binders a)) (each_occurs a binders mid more k (omega arith) l)
     ]
 
 -- ---- of a whole term

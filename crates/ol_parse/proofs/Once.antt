@@ -2,16 +2,16 @@
 use Rattle.std.proofs.Common.{◌≡◌, ℕ, ◌+◌, List, [], ◌∷◌, ◌++◌, reverse, Bool, true, false, ◌||◌, cond, Option, Some, None, refl, sym, ap, ◌∙◌, append_assoc, append-nil}
 use Rattle.std.specs.List.{position_from}
 use Rattle.std.specs.Borrow.{Bor}
+use Rattle.std.specs.Str.{bytes_eq}
 use Rattle.ol_term.specs.Trees.{Tree}
 use Rattle.ol_parse.specs.Grammar.{Named, var, lam, app}
-use Rattle.ol_parse.specs.Texts.{is_text}
 use Rattle.ol_parse.specs.Numbered.{place_of, unbound, free_in, without, once, names_of, number, numbered}
 use Rattle.ol_parse.specs.Resolving.{add_unless, free_unless, names_from, texts, IsNumbered}
 use Rattle.ol_parse.proofs.Places.{same_text, text_is}
 
 abbrev has : List ℕ → List (List ℕ) → Bool
 has x [] = false
-has x (y ∷ ys) = is_text x y || has x ys
+has x (y ∷ ys) = bytes_eq x y || has x ys
 
 -- those that aren't in the list
 abbrev rest : List (List ℕ) → List (List ℕ) → List (List ℕ)
@@ -38,19 +38,19 @@ all_added (app f t) binders names =
 
 -- ---- a name in a list
 
-at_some : (x : List ℕ) (names : List (List ℕ)) (i k : ℕ) → position_from (λ y. is_text x y) i names ≡ Some k → has x names ≡ true
+at_some : (x : List ℕ) (names : List (List ℕ)) (i k : ℕ) → position_from (λ y. bytes_eq x y) i names ≡ Some k → has x names ≡ true
 at_some x [] i k h = absurd (cc)
-at_some x (y ∷ ys) i k h = go (at_some x ys (i + 1) k) (is_text x y) h
+at_some x (y ∷ ys) i k h = go (at_some x ys (i + 1) k) (bytes_eq x y) h
   where
-    go : (position_from (λ y. is_text x y) (i + 1) ys ≡ Some k → has x ys ≡ true) → (b : Bool) → cond b (Some i) (position_from (λ y. is_text x y) (i + 1) ys) ≡ Some k → (b || has x ys) ≡ true
+    go : (position_from (λ y. bytes_eq x y) (i + 1) ys ≡ Some k → has x ys ≡ true) → (b : Bool) → cond b (Some i) (position_from (λ y. bytes_eq x y) (i + 1) ys) ≡ Some k → (b || has x ys) ≡ true
     go each true h = refl
     go each false h = each h
 
-at_none : (x : List ℕ) (names : List (List ℕ)) (i : ℕ) → position_from (λ y. is_text x y) i names ≡ None → has x names ≡ false
+at_none : (x : List ℕ) (names : List (List ℕ)) (i : ℕ) → position_from (λ y. bytes_eq x y) i names ≡ None → has x names ≡ false
 at_none x [] i h = refl
-at_none x (y ∷ ys) i h = go (at_none x ys (i + 1)) (is_text x y) h
+at_none x (y ∷ ys) i h = go (at_none x ys (i + 1)) (bytes_eq x y) h
   where
-    go : (position_from (λ y. is_text x y) (i + 1) ys ≡ None → has x ys ≡ false) → (b : Bool) → cond b (Some i) (position_from (λ y. is_text x y) (i + 1) ys) ≡ None → (b || has x ys) ≡ false
+    go : (position_from (λ y. bytes_eq x y) (i + 1) ys ≡ None → has x ys ≡ false) → (b : Bool) → cond b (Some i) (position_from (λ y. bytes_eq x y) (i + 1) ys) ≡ None → (b || has x ys) ≡ false
     go each true h = absurd (cc)
     go each false h = each h
 
@@ -62,9 +62,9 @@ or_false : (a : Bool) → (a || false) ≡ a
 or_false true = refl
 or_false false = refl
 
-has_more : (y x : List ℕ) (names : List (List ℕ)) → has y (names ++ (x ∷ [])) ≡ (has y names || is_text y x)
-has_more y x [] = or_false (is_text y x)
-has_more y x (n ∷ names) = ap (λ b. is_text y n || b) (has_more y x names) ∙ or_assoc (is_text y n) (has y names) (is_text y x)
+has_more : (y x : List ℕ) (names : List (List ℕ)) → has y (names ++ (x ∷ [])) ≡ (has y names || bytes_eq y x)
+has_more y x [] = or_false (bytes_eq y x)
+has_more y x (n ∷ names) = ap (λ b. bytes_eq y n || b) (has_more y x names) ∙ or_assoc (bytes_eq y n) (has y names) (bytes_eq y x)
 
 -- ---- one more name
 
@@ -74,30 +74,30 @@ kept b y ys = cond b ys (y ∷ ys)
 -- a name that is in the list is left out either way
 rest_known : (x : List ℕ) (names ys : List (List ℕ)) → has x names ≡ true → rest names (without x ys) ≡ rest names ys
 rest_known x names [] h = refl
-rest_known x names (y ∷ ys) h = go (is_text x y) refl (rest_known x names ys h)
+rest_known x names (y ∷ ys) h = go (bytes_eq x y) refl (rest_known x names ys h)
   where
-    go : (b : Bool) → is_text x y ≡ b → rest names (without x ys) ≡ rest names ys → rest names (cond b (without x ys) (y ∷ without x ys)) ≡ cond (has y names) (rest names ys) (y ∷ rest names ys)
+    go : (b : Bool) → bytes_eq x y ≡ b → rest names (without x ys) ≡ rest names ys → rest names (cond b (without x ys) (y ∷ without x ys)) ≡ cond (has y names) (rest names ys) (y ∷ rest names ys)
     go true e each = each ∙ sym (ap (λ b. kept b y (rest names ys)) (ap (λ w. has w names) (sym (text_is x y e)) ∙ h))
     go false e each = ap (kept (has y names) y) each
 
 rest_new : (x : List ℕ) (names ys : List (List ℕ)) → rest names (without x ys) ≡ rest (names ++ (x ∷ [])) ys
 rest_new x names [] = refl
-rest_new x names (y ∷ ys) = go (is_text x y) refl (rest_new x names ys) ∙ ap (λ b. kept b y (rest (names ++ (x ∷ [])) ys)) (sym (has_more y x names))
+rest_new x names (y ∷ ys) = go (bytes_eq x y) refl (rest_new x names ys) ∙ ap (λ b. kept b y (rest (names ++ (x ∷ [])) ys)) (sym (has_more y x names))
   where
     or_true : (a : Bool) → true ≡ (a || true)
     or_true true = refl
     or_true false = refl
 
-    back : (b : Bool) → is_text y x ≡ b → is_text x y ≡ false → is_text y x ≡ false
-    back true e h = let same = text_is y x e in let one : is_text x y ≡ true = ap (is_text x) same ∙ same_text x in absurd (cc)
+    back : (b : Bool) → bytes_eq y x ≡ b → bytes_eq x y ≡ false → bytes_eq y x ≡ false
+    back true e h = let same = text_is y x e in let one : bytes_eq x y ≡ true = ap (bytes_eq x) same ∙ same_text x in absurd (cc)
     back false e h = e
 
-    go : (b : Bool) → is_text x y ≡ b → rest names (without x ys) ≡ rest (names ++ (x ∷ [])) ys → rest names (cond b (without x ys) (y ∷ without x ys)) ≡ kept (has y names || is_text y x) y (rest (names ++ (x ∷ [])) ys)
+    go : (b : Bool) → bytes_eq x y ≡ b → rest names (without x ys) ≡ rest (names ++ (x ∷ [])) ys → rest names (cond b (without x ys) (y ∷ without x ys)) ≡ kept (has y names || bytes_eq y x) y (rest (names ++ (x ∷ [])) ys)
     go true e each =
-        let other : is_text y x ≡ true = ap (is_text y) (text_is x y e) ∙ same_text y in
+        let other : bytes_eq y x ≡ true = ap (bytes_eq y) (text_is x y e) ∙ same_text y in
         each ∙ ap (λ b. kept b y (rest (names ++ (x ∷ [])) ys)) (or_true (has y names) ∙ ap (λ b. has y names || b) (sym other))
     go false e each =
-        ap (kept (has y names) y) each ∙ ap (λ b. kept b y (rest (names ++ (x ∷ [])) ys)) (sym (or_false (has y names)) ∙ ap (λ b. has y names || b) (sym (back (is_text y x) refl e)))
+        ap (kept (has y names) y) each ∙ ap (λ b. kept b y (rest (names ++ (x ∷ [])) ys)) (sym (or_false (has y names)) ∙ ap (λ b. has y names || b) (sym (back (bytes_eq y x) refl e)))
 
 behind : (xs names : List (List ℕ)) → add_all names xs ≡ names ++ rest names (once xs)
 behind [] names = sym (append-nil names)

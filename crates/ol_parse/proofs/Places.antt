@@ -1,13 +1,15 @@
 -- Places of names.
-use Rattle.std.proofs.Common.{◌≡◌, ℕ, zero, suc, ◌+◌, ◌-◌, ◌<◌, ◌≤◌, inl, inr, eqb-true, nat_eq, List, [], ◌∷◌, ◌++◌, drop, get_or, length, reverse, Bool, true, false, ◌&&◌, cond, eq-eqb, Option, Some, None, refl, sym, ap, ◌∙◌, append_assoc, append-nil, add-one, drop-cons, arith}
+use Rattle.std.proofs.Common.{◌≡◌, ℕ, zero, suc, ◌+◌, ◌-◌, ◌<◌, ◌≤◌, inl, inr, List, [], ◌∷◌, ◌++◌, drop, get_or, length, reverse, Bool, true, false, cond, Option, Some, None, refl, sym, ap, ◌∙◌, append_assoc, append-nil, add-one, drop-cons, arith}
 use Rattle.std.proofs.lemmas.List.{get_or-reverse}
 use Rattle.std.proofs.lemmas.Bool.{cases_lt}
 use Rattle.std.specs.Prelude.{◌≢◌, slice_get}
 use Rattle.std.specs.List.{position_from}
+use Rattle.std.proofs.lemmas.Slice.Eq.{bytes_eq-Decides}
 use Rattle.std.specs.Borrow.{Bor}
+use Rattle.std.specs.Str.{bytes_eq}
+use Rattle.ol_term.proofs.BinderTexts.{not_same}
 use Rattle.ol_term.proofs.Indexing.{below_added}
 use Rattle.ol_parse.specs.Grammar.{Named, var, lam, app}
-use Rattle.ol_parse.specs.Texts.{is_text}
 use Rattle.ol_term.specs.Trees as tree
 use Rattle.ol_term.specs.Trees.{Tree}
 use Rattle.ol_term.specs.NameLists.{IsFirstPlace}
@@ -15,39 +17,38 @@ use Rattle.ol_parse.specs.Numbered.{place_of, numbered, var_at, free_at}
 use Rattle.ol_parse.specs.Resolving.{texts, names_from, free_unless, add_unless, IsNumbered}
 
 abbrev is : List ℕ → List ℕ → Bool
-is name = λ y. is_text name y
+is name = λ y. bytes_eq name y
 
 -- one turn of a search
-pub one_turn : (name : List ℕ) (xs : List (Bor (List ℕ))) (i : ℕ) (d : Bor (List ℕ)) (b : Bool) (r : Option ℕ) → i < length xs → position_from (λ y. is_text name y) i (texts (drop i xs)) ≡ r → b ≡ is_text name (get_or xs i d).now → cond b (Some i) (position_from (λ y. is_text name y) (i + 1) (texts (drop (i + 1) xs))) ≡ r
+pub one_turn : (name : List ℕ) (xs : List (Bor (List ℕ))) (i : ℕ) (d : Bor (List ℕ)) (b : Bool) (r : Option ℕ) → i < length xs → position_from (λ y. bytes_eq name y) i (texts (drop i xs)) ≡ r → b ≡ bytes_eq name (get_or xs i d).now → cond b (Some i) (position_from (λ y. bytes_eq name y) (i + 1) (texts (drop (i + 1) xs))) ≡ r
 one_turn name xs i d b r h e t =
     ap (λ k. cond b (Some i) (position_from (is name) (i + 1) (texts (drop k xs)))) (add-one i)
     ∙ ap (λ y. cond y (Some i) (position_from (is name) (i + 1) (texts (drop (suc i) xs)))) t
     ∙ ap (λ l. position_from (is name) i (texts l)) (sym (drop-cons xs i d h)) ∙ e
 
-pub turn_back : (name : List ℕ) (xs : List (Bor (List ℕ))) (i : ℕ) (d : Bor (List ℕ)) (b : Bool) (r : Option ℕ) → i < length (reverse xs) → i < length xs → position_from (λ y. is_text name y) i (texts (drop i (reverse xs))) ≡ r → b ≡ is_text name (get_or xs (length xs - 1 - i) d).now → cond b (Some i) (position_from (λ y. is_text name y) (i + 1) (texts (drop (i + 1) (reverse xs)))) ≡ r
-turn_back name xs i d b r h k e t = one_turn name (reverse xs) i d b r h e (t ∙ ap (λ (y : Bor (List ℕ)). is_text name y.now) (sym (get_or-reverse xs i d k)))
+pub turn_back : (name : List ℕ) (xs : List (Bor (List ℕ))) (i : ℕ) (d : Bor (List ℕ)) (b : Bool) (r : Option ℕ) → i < length (reverse xs) → i < length xs → position_from (λ y. bytes_eq name y) i (texts (drop i (reverse xs))) ≡ r → b ≡ bytes_eq name (get_or xs (length xs - 1 - i) d).now → cond b (Some i) (position_from (λ y. bytes_eq name y) (i + 1) (texts (drop (i + 1) (reverse xs)))) ≡ r
+turn_back name xs i d b r h k e t = one_turn name (reverse xs) i d b r h e (t ∙ ap (λ (y : Bor (List ℕ)). bytes_eq name y.now) (sym (get_or-reverse xs i d k)))
 
-pub same_text : (w : List ℕ) → is_text w w ≡ true
-same_text [] = refl
-same_text (b ∷ w) = ap (λ y. y && is_text w w) (eq-eqb b b refl) ∙ same_text w
+pub same_text : (w : List ℕ) → bytes_eq w w ≡ true
+same_text w = (bytes_eq-Decides w w).1 refl
 
 kept_at : (i k : ℕ) (p q : Option ℕ) (b : Bool) → (p ≡ Some k → q ≡ Some k) → cond b (Some i) p ≡ Some k → cond b (Some i) q ≡ Some k
 kept_at i k p q true each h = h
 kept_at i k p q false each h = each h
 
-pub kept_from : (x : List ℕ) (more : List (List ℕ)) (k : ℕ) (xs : List (List ℕ)) (i : ℕ) → position_from (λ y. is_text x y) i xs ≡ Some k → position_from (λ y. is_text x y) i (xs ++ more) ≡ Some k
+pub kept_from : (x : List ℕ) (more : List (List ℕ)) (k : ℕ) (xs : List (List ℕ)) (i : ℕ) → position_from (λ y. bytes_eq x y) i xs ≡ Some k → position_from (λ y. bytes_eq x y) i (xs ++ more) ≡ Some k
 kept_from x more k [] i h = absurd (cc)
-kept_from x more k (y ∷ xs) i h = kept_at i k (position_from (is x) (i + 1) xs) (position_from (is x) (i + 1) (xs ++ more)) (is_text x y) (kept_from x more k xs (i + 1)) h
+kept_from x more k (y ∷ xs) i h = kept_at i k (position_from (is x) (i + 1) xs) (position_from (is x) (i + 1) (xs ++ more)) (bytes_eq x y) (kept_from x more k xs (i + 1)) h
 
 new_at : (i k : ℕ) (p q : Option ℕ) (b : Bool) → (p ≡ None → q ≡ Some k) → cond b (Some i) p ≡ None → cond b (Some i) q ≡ Some k
 new_at i k p q true each h = absurd (cc)
 new_at i k p q false each h = each h
 
-pub new_from : (x : List ℕ) (more : List (List ℕ)) (k : ℕ) (xs : List (List ℕ)) (i : ℕ) → k ≡ i + length xs → position_from (λ y. is_text x y) i xs ≡ None → position_from (λ y. is_text x y) i (xs ++ (x ∷ more)) ≡ Some k
+pub new_from : (x : List ℕ) (more : List (List ℕ)) (k : ℕ) (xs : List (List ℕ)) (i : ℕ) → k ≡ i + length xs → position_from (λ y. bytes_eq x y) i xs ≡ None → position_from (λ y. bytes_eq x y) i (xs ++ (x ∷ more)) ≡ Some k
 new_from x more k [] i e h = let n : i ≡ k = omega arith in ap (λ b. cond b (Some i) (position_from (is x) (i + 1) more)) (same_text x) ∙ ap (λ (n : ℕ). Some n) n
 new_from x more k (y ∷ xs) i e h =
     let n : k ≡ (i + 1) + length xs = omega arith in
-    new_at i k (position_from (is x) (i + 1) xs) (position_from (is x) (i + 1) (xs ++ (x ∷ more))) (is_text x y) (new_from x more k xs (i + 1) n) h
+    new_at i k (position_from (is x) (i + 1) xs) (position_from (is x) (i + 1) (xs ++ (x ∷ more))) (bytes_eq x y) (new_from x more k xs (i + 1) n) h
 
 add_grows : (names : List (List ℕ)) (x : List ℕ) (o : Option ℕ) → (rest : List (List ℕ)) × (add_unless names x o ≡ names ++ rest)
 add_grows names x (Some k) = ([], sym (append-nil names))
@@ -67,40 +68,26 @@ grows (app f t) binders names =
 
 -- ---- the same text
 
-pub text_is : (w v : List ℕ) → is_text w v ≡ true → w ≡ v
-text_is [] [] h = refl
-text_is [] (c ∷ v) h = absurd (cc)
-text_is (b ∷ w) [] h = absurd (cc)
-text_is (b ∷ w) (c ∷ v) h = go (text_is w v) (nat_eq b c) refl h
-  where
-    go : (is_text w v ≡ true → w ≡ v) → (t : Bool) → nat_eq b c ≡ t → (t && is_text w v) ≡ true → b ∷ w ≡ c ∷ v
-    go each true e h = ap (λ n. n ∷ w) (eqb-true b c e) ∙ ap (λ l. c ∷ l) (each h)
-    go each false e h = absurd (cc)
-
-other_text : (w v : List ℕ) → (v ≡ w → ⊥) → is_text w v ≡ false
-other_text w v n = go (is_text w v) refl
-  where
-    go : (t : Bool) → is_text w v ≡ t → t ≡ false
-    go true e = absurd (n (sym (text_is w v e)))
-    go false e = refl
+pub text_is : (w v : List ℕ) → bytes_eq w v ≡ true → w ≡ v
+text_is w v = (bytes_eq-Decides w v).0
 
 -- ---- first places
 
-first_from : (x : List ℕ) (names : List (List ℕ)) (i k n : ℕ) → n ≡ i + k → slice_get names k ≡ Some x → ((j : ℕ) → j < k → slice_get names j ≢ Some x) → position_from (λ y. is_text x y) i names ≡ Some n
+first_from : (x : List ℕ) (names : List (List ℕ)) (i k n : ℕ) → n ≡ i + k → slice_get names k ≡ Some x → ((j : ℕ) → j < k → slice_get names j ≢ Some x) → position_from (λ y. bytes_eq x y) i names ≡ Some n
 first_from x [] i k n e h before = absurd (cc)
 first_from x (y ∷ ys) i zero n e h before =
     let same : x ≡ y = cc in
     let here : i ≡ n = omega arith in
-    ap (λ b. cond b (Some i) (position_from (is x) (i + 1) ys)) (ap (is_text x) (sym same) ∙ same_text x) ∙ ap (λ (n : ℕ). Some n) here
+    ap (λ b. cond b (Some i) (position_from (is x) (i + 1) ys)) (ap (bytes_eq x) (sym same) ∙ same_text x) ∙ ap (λ (n : ℕ). Some n) here
 first_from x (y ∷ ys) i (suc k) n e h before =
-    let other : is_text x y ≡ false = other_text x y (λ same. before 0 (omega arith) (ap (λ (l : List ℕ). Some l) same)) in
+    let other : bytes_eq x y ≡ false = not_same x y (λ same. before 0 (omega arith) (ap (λ (l : List ℕ). Some l) (sym same))) in
     let further : n ≡ (i + 1) + k = omega arith in
     ap (λ b. cond b (Some i) (position_from (is x) (i + 1) ys)) other ∙ first_from x ys (i + 1) k n further h (λ j l. before (suc j) (omega arith))
 
-none_from : (x : List ℕ) (names : List (List ℕ)) (i : ℕ) → ((j : ℕ) → j < length names → slice_get names j ≢ Some x) → position_from (λ y. is_text x y) i names ≡ None
+none_from : (x : List ℕ) (names : List (List ℕ)) (i : ℕ) → ((j : ℕ) → j < length names → slice_get names j ≢ Some x) → position_from (λ y. bytes_eq x y) i names ≡ None
 none_from x [] i each = refl
 none_from x (y ∷ ys) i each =
-    ap (λ b. cond b (Some i) (position_from (is x) (i + 1) ys)) (other_text x y (λ same. each 0 (omega arith) (ap (λ (l : List ℕ). Some l) same)))
+    ap (λ b. cond b (Some i) (position_from (is x) (i + 1) ys)) (not_same x y (λ same. each 0 (omega arith) (ap (λ (l : List ℕ). Some l) (sym same))))
     ∙ none_from x ys (i + 1) (λ j l. each (suc j) (omega arith))
 
 first_place : (x : List ℕ) (names : List (List ℕ)) (k : ℕ) → IsFirstPlace names x k → place_of x names ≡ Some k

@@ -1,7 +1,8 @@
 -- Bytes that spell tokens bring the machine to where the tokens bring it.
 use Rattle.std.proofs.Common.{◌≡◌, ℕ, List, [], ◌∷◌, ◌++◌, Bool, true, false, cond, Option, Some, None, option_and_then, option_map, refl, sym, ap, ◌∙◌, subst, append_assoc, append-nil}
+use Rattle.std.specs.Str.{bytes_eq}
 use Rattle.ol_parse.specs.Grammar.{Named, Token, name, let_key, in_key, lambda}
-use Rattle.ol_parse.specs.Texts.{class_of, in_word, is_text, token_of, is_word, IsLine, IsGap, gap_none, gap_blank, gap_comment, IsLastGap, last_gap, last_comment, AreInWord, IsToken, token_sign, token_letter, token_word, Spells, spells_none, spells_one}
+use Rattle.ol_parse.specs.Texts.{class_of, in_word, token_of, is_word, IsLine, IsGap, gap_none, gap_blank, gap_comment, IsLastGap, last_gap, last_comment, AreInWord, IsToken, token_sign, token_letter, token_word, Spells, spells_none, spells_one}
 use Rattle.ol_parse.specs.Machine.{State, let_equals, step, final, accepts}
 use Rattle.ol_parse.specs.Reading.{Reading, gap, comment, word, half, takes_name, gap_step, takes}
 use Rattle.ol_parse.proofs.Parts.{each_some}
@@ -53,7 +54,7 @@ IsWordToken k = is_word k ≡ true
 -- every word is a name or a keyword
 pub word_token : (w : List ℕ) → is_word (token_of w) ≡ true
 unfolding token_of
-word_token w = go (is_text w (108 ∷ 101 ∷ 116 ∷ [])) (is_text w (105 ∷ 110 ∷ []))
+word_token w = go (bytes_eq w (108 ∷ 101 ∷ 116 ∷ [])) (bytes_eq w (105 ∷ 110 ∷ []))
   where
     go : (x y : Bool) → is_word (cond x let_key (cond y in_key (name w))) ≡ true
     go true y = refl

@@ -1,7 +1,8 @@
 -- Every state goes on to a whole text.
 use Rattle.std.proofs.Common.{◌≡◌, ℕ, List, [], ◌∷◌, ◌++◌, Bool, true, false, ◌&&◌, cond, nat_eq, Option, Some, None, option_and_then, option_map, refl, ap, ◌∙◌, subst}
+use Rattle.std.specs.Str.{bytes_eq}
 use Rattle.ol_parse.specs.Grammar.{Named, var, lam, app, Token, name, let_key, in_key, lambda, dot, equals, close_bracket}
-use Rattle.ol_parse.specs.Texts.{Class, blank, hash, letter, sign, lead, class_of, in_word, is_text, token_of, is_word, gap_none, gap_blank, last_gap, IsToken, token_sign, token_word, Spells, spells_none, spells_one}
+use Rattle.ol_parse.specs.Texts.{Class, blank, hash, letter, sign, lead, class_of, in_word, token_of, is_word, gap_none, gap_blank, last_gap, IsToken, token_sign, token_word, Spells, spells_none, spells_one}
 use Rattle.ol_parse.specs.Machine.{Frame, applied, abstracted, bound, bracket, defining, State, at, first_name, more_names, let_name, let_equals, join, finish, at_close, at_in, at_end, step, accepts}
 use Rattle.ol_parse.specs.Reading.{Reading, gap, comment, word, half, takes_name, gap_step, byte_step, takes, read}
 use Rattle.ol_parse.proofs.Spelled.{then_take, apart, word_ends, spelled}
@@ -93,16 +94,16 @@ abbrev HasNoQuote : List ℕ → Type 0
 HasNoQuote [] = Unit {0}
 HasNoQuote (c ∷ v) = (nat_eq 39 c ≡ false) × HasNoQuote v
 
-quoted : (w v : List ℕ) → HasNoQuote v → is_text (w ++ (39 ∷ [])) v ≡ false
+quoted : (w v : List ℕ) → HasNoQuote v → bytes_eq (w ++ (39 ∷ [])) v ≡ false
 quoted [] [] h = refl
-quoted [] (c ∷ v) h = ap (λ y. y && is_text [] v) h.0
+quoted [] (c ∷ v) h = ap (λ y. y && bytes_eq [] v) h.0
 quoted (b ∷ w) [] h = refl
 quoted (b ∷ w) (c ∷ v) h = ap (λ y. nat_eq b c && y) (quoted w v h.1) ∙ and_false (nat_eq b c)
 
 quoted_name : (w : List ℕ) → token_of (w ++ (39 ∷ [])) ≡ name (w ++ (39 ∷ []))
 unfolding token_of
 quoted_name w =
-    ap (λ y. cond y let_key (cond (is_text (w ++ (39 ∷ [])) (105 ∷ 110 ∷ [])) in_key (name (w ++ (39 ∷ []))))) (quoted w (108 ∷ 101 ∷ 116 ∷ []) (refl, (refl, (refl, tt))))
+    ap (λ y. cond y let_key (cond (bytes_eq (w ++ (39 ∷ [])) (105 ∷ 110 ∷ [])) in_key (name (w ++ (39 ∷ []))))) (quoted w (108 ∷ 101 ∷ 116 ∷ []) (refl, (refl, (refl, tt))))
     ∙ ap (λ y. cond y in_key (name (w ++ (39 ∷ [])))) (quoted w (105 ∷ 110 ∷ []) (refl, (refl, tt)))
 
 quote : in_word (class_of 39) ≡ true

@@ -1,7 +1,8 @@
 -- The free names of a text are names of the grammar.
 use Rattle.std.proofs.Common.{◌≡◌, ℕ, List, [], ◌∷◌, ◌++◌, map, Bool, true, false, cond, Option, Some, None, refl, subst}
+use Rattle.std.specs.Str.{bytes_eq}
 use Rattle.ol_parse.specs.Grammar.{Named, var, lam, app, Token, name, let_key, in_key, lambda, dot, equals, open_bracket, close_bracket, lams, IsTerm, term_body, term_spine, term_both, IsSpine, spine_one, spine_more, IsAtom, atom_name, atom_brackets, IsBody, body_lambda, body_let}
-use Rattle.ol_parse.specs.Texts.{is_text, token_of, is_word, IsToken, token_sign, token_letter, token_word, IsName, Spells, spells_none, spells_one, IsText}
+use Rattle.ol_parse.specs.Texts.{token_of, is_word, IsToken, token_sign, token_letter, token_word, IsName, Spells, spells_none, spells_one, IsText}
 use Rattle.ol_parse.specs.Numbered.{place_of, unbound, free_in, without, once, names_of}
 use Rattle.ol_parse.specs.Parsed.{AreNames}
 use Rattle.ol_parse.proofs.Spelling.{sign_no_word}
@@ -28,7 +29,7 @@ no_word_good close_bracket h = tt
 
 spelled_by : (w x : List ℕ) → token_of w ≡ name x → w ≡ x
 unfolding token_of
-spelled_by w x h = go (is_text w (108 ∷ 101 ∷ 116 ∷ [])) (is_text w (105 ∷ 110 ∷ [])) h
+spelled_by w x h = go (bytes_eq w (108 ∷ 101 ∷ 116 ∷ [])) (bytes_eq w (105 ∷ 110 ∷ [])) h
   where
     go : (a b : Bool) → cond a let_key (cond b in_key (name w)) ≡ name x → w ≡ x
     go true b h = absurd (cc)
@@ -108,7 +109,7 @@ free_good (app f t) binders h = both (free_in binders f) (free_in binders t) (fr
 
 without_good : (x : List ℕ) (ys : List (List ℕ)) → AreNames ys → AreNames (without x ys)
 without_good x [] h = tt
-without_good x (y ∷ ys) h = go (is_text x y) (without_good x ys h.1)
+without_good x (y ∷ ys) h = go (bytes_eq x y) (without_good x ys h.1)
   where
     go : (b : Bool) → AreNames (without x ys) → AreNames (cond b (without x ys) (y ∷ without x ys))
     go true each = each

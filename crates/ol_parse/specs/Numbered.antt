@@ -1,14 +1,15 @@
 -- From a term with names to a tree: each name by its innermost binding, and free names in order of first occurrence, the function before the argument.
-use Rattle.std.specs.Prelude.{ℕ, List, [], ◌∷◌, ◌++◌, Option, Some, None, cond}
+use Rattle.std.specs.Prelude.{ℕ, List, [], ◌∷◌, ◌++◌, Option, Some, None}
 use Rattle.std.specs.List.{position_from}
+use Rattle.std.specs.Str.{bytes_eq}
 use Rattle.ol_term.specs.Trees as tree
 use Rattle.ol_term.specs.Trees.{Tree}
+pub use Rattle.ol_term.specs.NameLists.{without}
 use Rattle.ol_parse.specs.Grammar.{Named, var, lam, app}
-use Rattle.ol_parse.specs.Texts.{is_text}
 
 -- the first place of a name
 abbrev pub place_of : List ℕ → List (List ℕ) → Option ℕ
-place_of x names = position_from (λ y. is_text x y) 0 names
+place_of x names = position_from (λ y. bytes_eq x y) 0 names
 
 -- a name, unless it is bound
 abbrev pub unbound : List ℕ → Option ℕ → List (List ℕ)
@@ -20,11 +21,6 @@ abbrev pub free_in : List (List ℕ) → Named → List (List ℕ)
 free_in binders (var x) = unbound x (place_of x binders)
 free_in binders (lam x t) = free_in (x ∷ binders) t
 free_in binders (app f t) = free_in binders f ++ free_in binders t
-
--- all but this name
-abbrev pub without : List ℕ → List (List ℕ) → List (List ℕ)
-without x [] = []
-without x (y ∷ ys) = cond (is_text x y) (without x ys) (y ∷ without x ys)
 
 -- each name once, where it stands first
 abbrev pub once : List (List ℕ) → List (List ℕ)

@@ -1,5 +1,6 @@
 -- Bytes: gaps, words, what a token is written as, texts, and the dead place.
-use Rattle.std.specs.Prelude.{◌≡◌, ◌≢◌, ℕ, ◌≤◌, List, [], ◌∷◌, ◌++◌, take, length, Bool, true, false, ◌&&◌, ◌||◌, nat_eq, nat_le, cond, if◌then◌else◌}
+use Rattle.std.specs.Prelude.{◌≡◌, ◌≢◌, ℕ, ◌≤◌, List, [], ◌∷◌, ◌++◌, take, length, Bool, true, false, ◌&&◌, ◌||◌, nat_eq, nat_le, cond, if◌then◌else◌, codes}
+use Rattle.std.specs.Str.{bytes_eq}
 use Rattle.ol_parse.specs.Grammar.{Named, Token, name, let_key, in_key, lambda, dot, equals, open_bracket, close_bracket, IsTerm}
 
 -- what a byte is
@@ -64,14 +65,13 @@ abbrev pub AreInWord : List ℕ → Type 0
 AreInWord [] = Unit {0}
 AreInWord (b ∷ w) = (in_word (class_of b) ≡ true) × AreInWord w
 
--- `let` and `in` are keywords, every other word is a name
+-- the same bytes
 abbrev pub is_text : List ℕ → List ℕ → Bool
-is_text [] [] = true
-is_text (b ∷ w) (c ∷ v) = nat_eq b c && is_text w v
-is_text _ _ = false
+is_text w v = bytes_eq w v
 
+-- `let` and `in` are keywords, every other word is a name
 unfoldable pub token_of : List ℕ → Token
-token_of w = if is_text w (108 ∷ 101 ∷ 116 ∷ []) then let_key else (if is_text w (105 ∷ 110 ∷ []) then in_key else name w)
+token_of w = if bytes_eq w (codes "let") then let_key else (if bytes_eq w (codes "in") then in_key else name w)
 
 abbrev pub is_word : Token → Bool
 is_word (name w) = true

@@ -1,8 +1,9 @@
 //! The reader over bytes.
 
 ghost use Rattle.std.specs.Prelude.{◌≡◌, option_map, Option, false, ℕ, ◌+◌, ◌<◌, ◌≤◌, List, [], ◌∷◌, ◌++◌, Some, IfOk, IfErr, IfSome, OnOk, length, slice_index};
+ghost use Rattle.std.specs.Str.{bytes_eq};
 ghost use Rattle.ol_parse.specs.Grammar.{Named, Token, name, let_key, in_key, lambda, dot, equals, open_bracket, close_bracket};
-ghost use Rattle.ol_parse.specs.Texts.{class_of, in_word, token_of, is_text, IsText, IsDeadPlace};
+ghost use Rattle.ol_parse.specs.Texts.{class_of, in_word, token_of, IsText, IsDeadPlace};
 ghost use Rattle.ol_parse.specs.Machine.{Frame, State, step, final, finish};
 ghost use Rattle.ol_parse.specs.Reading.{Reading, gap_step, byte_step, byte_final};
 ghost use Rattle.ol_parse.specs.Flat.{Holds, Next, built};
@@ -80,7 +81,7 @@ fn class_of_byte(b: u8) -> Class
 
 /// Whether two words have the same bytes.
 pub fn is_same(word: &[u8], other: &[u8]) -> bool
-    ensures { result ≡ is_text word.now other.now }
+    ensures { result ≡ bytes_eq word.now other.now }
 {
     word == other
 }
