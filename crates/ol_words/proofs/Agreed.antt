@@ -19,7 +19,7 @@ use Rattle.ol_words.specs.Lines.{Text, Line, line_of}
 use Rattle.ol_words.specs.Numbers.{Limits, setting}
 use Rattle.ol_words.specs.Jobs.{Asked, Setting, Verb, options_of, known_of, verb_named, values_of, number_on, numbers, job_on, job_by, job_behind, job_of, is_given_once, is_told_once, is_agreed, agreed_verb}
 use Rattle.ol_words.specs.Command.{app}
-use Rattle.ol_words.proofs.Rows.{cases}
+use Rattle.std.proofs.lemmas.Bool.{cases_Bool}
 use Rattle.ol_words.proofs.Passing.{shape_with}
 use Rattle.ol_words.proofs.Subcommands.{IsVerb, named_is}
 
@@ -36,7 +36,7 @@ none_added (Some n) = refl
 
 numbers_twice : (line : Line) (ss : List Setting) → list_all (is_given_once line) (map (λ s. s.option) ss) ≡ false → numbers (number_on line) ss ≡ None
 numbers_twice line [] e = absurd (true≢false e)
-numbers_twice line (s ∷ rest) e = elim (cases (is_given_once line s.option)) [
+numbers_twice line (s ∷ rest) e = elim (cases_Bool (is_given_once line s.option)) [
   | inr twice ↦ ap (λ (number : Option ℕ). option_and_then (λ n. option_map (λ more. n ∷ more) (numbers (number_on line) rest)) number) (again s.limits (values_of s.option line.options) twice)
   | inl once ↦
       let later = numbers_twice line rest (sym (ap (λ b. b && list_all (is_given_once line) (map (λ (s : Setting). s.option) rest)) once) ∙ e) in
@@ -48,7 +48,7 @@ none_each asks none None = refl
 none_each asks none (Some ns) = none ns
 
 not_told : (v : Verb) → IsVerb v → (line : Line) → is_told_once (options_of v) (length v.names) line ≡ false → job_on v line ≡ None
-not_told v is line e = elim (cases (list_all (is_given_once line) (options_of v))) [
+not_told v is line e = elim (cases_Bool (list_all (is_given_once line) (options_of v))) [
   | inr twice ↦ ap (λ (ns : Option (List ℕ)). option_and_then (λ ns. v.asks ns line.names) ns) (numbers_twice line v.settings twice)
   | inl once ↦
       let others : nat_eq (length line.names) (length v.names) ≡ false = sym (ap (λ b. b && nat_eq (length line.names) (length v.names)) once) ∙ e in
@@ -65,7 +65,7 @@ some_verb v e = cc
 behind_not_agreed : (word : Text) (rest : List Text) (r : Option Verb) → verb_named word ≡ r
     → option_and_then (λ v. if is_agreed v rest then Some v else None) r ≡ None → option_and_then (job_behind rest) r ≡ None
 behind_not_agreed word rest None is e = refl
-behind_not_agreed word rest (Some v) is e = elim (cases (is_agreed v rest)) [
+behind_not_agreed word rest (Some v) is e = elim (cases_Bool (is_agreed v rest)) [
   | inl agreed ↦ absurd (some_verb v (sym (ap (λ b. if b then Some v else None) agreed) ∙ e))
   | inr other ↦ line_not_told v (named_is word v is).0 (line_of (known_of v) rest) other
 ]
@@ -93,7 +93,7 @@ the_verb a b e = cc
 read_behind : (program word : Text) (rest : List Text) (v : Verb) (r : Option Verb) → verb_named word ≡ r
     → option_and_then (λ v. if is_agreed v rest then Some v else None) r ≡ Some v → Read (program ∷ word ∷ rest) v
 read_behind program word rest v None named e = absurd (some_verb v (sym e))
-read_behind program word rest v (Some x) named e = elim (cases (is_agreed x rest)) [
+read_behind program word rest v (Some x) named e = elim (cases_Bool (is_agreed x rest)) [
   | inr other ↦ absurd (some_verb v (sym (sym (ap (λ b. if b then Some x else None) other) ∙ e)))
   | inl agreed ↦
       let is = named_is word x named in

@@ -1,9 +1,10 @@
 -- What clap makes of the words behind a verb that takes the name of one file.
-use Rattle.std.proofs.Common.{ℕ, ◌≡◌, ◌<◌, ◌∙◌, sym, ap, ap₂, refl, arith, true, false, true≢false, Bool, ◌&&◌, ◌||◌, List, [], ◌∷◌, Option, Some, option_map, codes, length, map, nat_lt, nat_eq}
+use Rattle.std.proofs.Common.{ℕ, ◌≡◌, ◌∙◌, sym, ap, ap₂, refl, arith, true, false, true≢false, List, [], ◌∷◌, Option, Some, option_map, codes, length, map, nat_lt, nat_eq}
 use Rattle.std.specs.Prelude.{option_and_then}
 use Rattle.std.specs.List.{list_all}
 use Rattle.std.specs.Str.{bytes_eq}
 use Rattle.std.proofs.lemmas.Bool.Decides.{nat_tests}
+use Rattle.std.proofs.lemmas.Bool.{and_parts, or_right}
 use Rattle.clap.specs.Walk.{Row, first_of, rows_after}
 use Rattle.ol_words.specs.Lines.{Text, Line, line_of, is_option}
 use Rattle.ol_words.specs.Numbers.{Limits, setting, setting_by}
@@ -12,24 +13,13 @@ use Rattle.ol_words.proofs.Rows.{itself}
 use Rattle.ol_words.proofs.Told.{Told}
 use Rattle.ol_words.proofs.Options.{rules_for}
 use Rattle.ol_words.proofs.Matched.{told, given_once, first_told}
-use Rattle.ol_words.proofs.Passing.{level}
+use Rattle.ol_words.proofs.Passing.{few, level}
 use Rattle.ol_words.proofs.FixedRules.{Reads}
 
 setting_given : (limits : Limits) (vs : List Text) → nat_lt (length vs) 2 ≡ true → setting limits vs ≡ setting_by limits (given_once vs)
 setting_given limits [] e = refl
 setting_given limits (v ∷ []) e = refl
 setting_given limits (v ∷ w ∷ vs) e = absurd (grind (arith, nat_tests))
-
-few : (vs : List Text) → nat_lt (length vs) 2 ≡ true → length vs < 2
-few vs e = grind (arith, nat_tests)
-
-pub both : (a b : Bool) → (a && b) ≡ true → (a ≡ true) × (b ≡ true)
-both true b e = (refl, e)
-both false b e = absurd (true≢false (sym e))
-
-or_second : (a b : Bool) → b ≡ true → (a || b) ≡ true
-or_second true b e = refl
-or_second false b e = e
 
 names_given : (os : List Text) (rows : List Row) (line : Line) → Told os [] rows line true → (names : List Text) → line.names ≡ names → nat_eq (length names) 1 ≡ true
     → names ≡ name_before (first_of (codes "name") rows) []
@@ -42,11 +32,11 @@ numbers_told : (os : List Text) (rows : List Row) (line : Line) → Told os [] r
     → numbers (number_on line) ss ≡ numbers (number_by [] (λ id. first_of id rows)) ss
 numbers_told os rows line t [] known e = refl
 numbers_told os rows line t (s ∷ rest) known e =
-    let parts = both _ _ e in
+    let parts = and_parts _ _ e in
     let first : is_option (map (λ (s : Setting). s.option) (s ∷ rest)) s.option ≡ true = rw (itself s.option) refl in
     let is_first = first_told os rows line s.option (values_of s.option line.options) t (known s.option first) refl (few (values_of s.option line.options) parts.0) in
     let here : number_on line s ≡ number_by [] (λ id. first_of id rows) s = setting_given s.limits (values_of s.option line.options) parts.0 ∙ ap (setting_by s.limits) (sym is_first) in
-    let more = numbers_told os rows line t rest (λ o later. known o (or_second (bytes_eq s.option o) (is_option (map (λ (s : Setting). s.option) rest) o) later)) parts.1 in
+    let more = numbers_told os rows line t rest (λ o later. known o (or_right (bytes_eq s.option o) (is_option (map (λ (s : Setting). s.option) rest) o) later)) parts.1 in
     ap₂ (λ (ns : Option (List ℕ)) (number : Option ℕ). option_and_then (λ n. option_map (λ more. n ∷ more) ns) number) more here
 
 -- the job of agreed words is that of the rows that clap finds
@@ -56,7 +46,7 @@ pub file_reads : (word : Text) (settings : List Setting) (asks : List ℕ → Li
 file_reads word settings asks apart rest line is e =
     let os = options_of (file_verb word settings asks) in
     let rows = rows_after (rules_for os) [] rest in
-    let parts = both _ _ e in
+    let parts = and_parts _ _ e in
     let t = told os apart rest line is in (
       ap₂ (λ (ns : Option (List ℕ)) (names : List Text). option_and_then (λ ns. asks ns names) ns)
           (numbers_told os rows line t settings (λ o known. known) parts.0) (names_given os rows line t line.names refl parts.1),

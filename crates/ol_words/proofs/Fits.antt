@@ -7,7 +7,8 @@ use Rattle.clap.specs.Simple.{filled}
 use Rattle.ol_words.specs.Lines.{Text, Line, is_option, with_option, with_name}
 use Rattle.ol_words.specs.Jobs.{values_of}
 use Rattle.ol_words.specs.Command.{option_rule}
-use Rattle.ol_words.proofs.Rows.{cases, found_in, set_other, itself}
+use Rattle.std.proofs.lemmas.Bool.{cases_Bool}
+use Rattle.ol_words.proofs.Rows.{found_in, set_other, itself}
 use Rattle.ol_words.proofs.Options.{name_filled, not_name, name_apart}
 
 -- `first` says that no name was given before
@@ -21,7 +22,7 @@ pub record Fits (os : List Text) (rows : List Row) (line : Line) (first : Bool) 
 -- what isn't found has no row
 pub lacks : (id : Text) (rows : List Row) → found_in id rows ≡ None → has_row id rows ≡ false
 lacks id [] e = refl
-lacks id (r ∷ rs) e = elim (cases (bytes_eq r.id id)) [
+lacks id (r ∷ rs) e = elim (cases_Bool (bytes_eq r.id id)) [
   | inl same ↦ absurd (true≢false (ap (λ o. is_some o) (sym (ap (λ b. if b then Some r else found_in id rs) same) ∙ e)))
   | inr differs ↦ rw differs (lacks id rs (sym (ap (λ b. if b then Some r else found_in id rs) differs) ∙ e))
 ]
@@ -39,11 +40,11 @@ module _ (os : List Text) (apart : is_option os (codes "name") ≡ false) (rows 
 
   pub fits_option : is_option os x ≡ true → Fits os rows (with_option x v line) first → Fits os (used (filled (option_rule x)) (v ∷ []) rows) line first
   fits_option known f = record {
-    once = λ o is_known. elim (cases (bytes_eq x o)) [
+    once = λ o is_known. elim (cases_Bool (bytes_eq x o)) [
       | inl same ↦ fewer (values_of o line.options) (values_of o ((x, v) ∷ line.options)) (met o same) (f.once o is_known)
       | inr differs ↦ same_length (values_of o line.options) (values_of o ((x, v) ∷ line.options)) (left o differs) (f.once o is_known)
     ];
-    fresh = λ o w vs is_known given. elim (cases (bytes_eq x o)) [
+    fresh = λ o w vs is_known given. elim (cases_Bool (bytes_eq x o)) [
       | inl same ↦ absurd (twice w vs (values_of o ((x, v) ∷ line.options)) (met o same ∙ ap (λ l. v ∷ l) given) (f.once o is_known))
       | inr differs ↦ set_other x o differs _ (v ∷ []) rows ∙ f.fresh o w vs is_known (left o differs ∙ given)
     ];

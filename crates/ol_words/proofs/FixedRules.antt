@@ -2,6 +2,7 @@
 use Rattle.std.proofs.Common.{ℕ, ◌≡◌, ◌∙◌, sym, ap, refl, true, false, Bool, ◌&&◌, List, [], ◌∷◌, Option, None, fold, if◌then◌else◌, codes}
 use Rattle.std.specs.List.{list_all}
 use Rattle.std.specs.Option.{option_map_or}
+use Rattle.std.proofs.lemmas.Bool.{and_from, or_right}
 use Rattle.clap.specs.Lexer.{long_of}
 use Rattle.clap.specs.Walk.{Held, Rule, Step, Walk, after_step, arg_by_index, finished, first_of, idle, long_or_other, nothing_held, rows_after, short_or_plain, to_positional, trailing, value, walk_from, walked, word_met}
 use Rattle.clap.specs.Simple.{Shape}
@@ -10,7 +11,7 @@ use Rattle.ol_words.specs.Lines.{Text, Line, is_dashed}
 use Rattle.ol_words.specs.Jobs.{Verb, job_by, job_on}
 use Rattle.ol_words.proofs.Shapes.{plain_long, plain_short}
 use Rattle.ol_words.proofs.Walking.{not_end}
-use Rattle.ol_words.proofs.Passing.{shape_with, and_true, or_true}
+use Rattle.ol_words.proofs.Passing.{shape_with}
 
 -- where the walk stands while no option waits
 abbrev pub idle_at : Held → ℕ → Bool → Walk
@@ -36,7 +37,7 @@ pub goes_on : (shape : Shape) (walk next end : Walk) (word : Text) (rest : List 
 unfolding walk_passes
 goes_on shape walk next end word rest step turn g = record {
   walks = ap (λ w. fold (walked shape.rules []) w rest) step ∙ g.walks;
-  passes = and_true _ _ turn (ap (λ w. walk_passes shape [] w rest) step ∙ g.passes);
+  passes = and_from _ _ turn (ap (λ w. walk_passes shape [] w rest) step ∙ g.passes);
 }
 
 module _ (rules : List Rule) (verb : Text) (h : Held) (position : ℕ) (word : Text) where
@@ -55,9 +56,9 @@ module _ (rules : List Rule) (verb : Text) (h : Held) (position : ℕ) (word : T
       → turn_passes (shape_with verb rules) [] (idle_at h position false) word ≡ true
   pass_plain plain ok =
       let free : other_passes (shape_with verb rules) None word h ≡ true =
-      or_true _ _ (ap (λ (l : Option (Text × Option Text)). flag_word_passes rules false l word h) (plain_long word plain)
+      or_right _ _ (ap (λ (l : Option (Text × Option Text)). flag_word_passes rules false l word h) (plain_long word plain)
       ∙ ap (λ (s : Option Text). option_map_or (λ flags. bundle_passes rules false flags h) s true) (plain_short word plain)) in
-      and_true _ _ free (ap (λ (m : Held × Step). step_passes (shape_with verb rules) position m.0 m.1) (met_plain plain) ∙ ok)
+      and_from _ _ free (ap (λ (m : Held × Step). step_passes (shape_with verb rules) position m.0 m.1) (met_plain plain) ∙ ok)
 
   -- and so does each word behind `--`
   pub step_trailing : walked rules [] (idle_at h position true) word ≡ to_positional rules (arg_by_index rules position) word (idle_at h position true) h
@@ -89,5 +90,5 @@ pub lands : (v : Verb) (rules : List Rule) (rest : List Text) (line : Line) (end
     → job_on v line ≡ job_by v (λ id. first_of id (finished rules end.held)) → settles_at v rules end.held ≡ true → Reads v rules rest line
 lands v rules rest line end g job ok = (
   job ∙ ap (λ (w : Walk). job_by v (λ id. first_of id (finished rules w.held))) (sym g.walks),
-  and_true _ _ g.passes (ap (λ (w : Walk). settles_at v rules w.held) g.walks ∙ ok),
+  and_from _ _ g.passes (ap (λ (w : Walk). settles_at v rules w.held) g.walks ∙ ok),
 )

@@ -12,10 +12,9 @@ use Rattle.clap.specs.Simple.{Shape, filled, with_index}
 use Rattle.ol_words.specs.Lines.{Text, Known, Line, flag_alone, is_dashed, is_equals, is_option, line_of, name_and_value, option_of, value_in, with_name, with_option}
 use Rattle.ol_words.specs.Jobs.{gen_verb, known_of, is_told_once, values_of}
 use Rattle.ol_words.specs.Command.{flag_rule, name_rule}
-use Rattle.ol_words.proofs.Rows.{cases}
+use Rattle.std.proofs.lemmas.Bool.{and_parts, cases_Bool}
 use Rattle.ol_words.proofs.Shapes.{hyphens}
 use Rattle.ol_words.proofs.Passing.{shape_with}
-use Rattle.ol_words.proofs.FileVerbs.{both}
 use Rattle.ol_words.proofs.Walking.{and_false}
 use Rattle.ol_words.proofs.FixedRules.{Goes, Reads, goes_on, idle_at, lands, pass_end, pass_plain, pass_trailing, stays, step_end, step_plain, step_trailing}
 use Rattle.ol_words.proofs.Views.{View, view}
@@ -63,7 +62,7 @@ alone text name o None given is whole e =
 alone text name o (Some v) given is whole e = absurd (cc)
 
 the_name : (name : Text) → is_option (codes "run" ∷ []) name ≡ true → name ≡ codes "run"
-the_name name flagged = elim (cases (bytes_eq (codes "run") name)) [
+the_name name flagged = elim (cases_Bool (bytes_eq (codes "run") name)) [
   | inl same ↦ sym ((bytes_eq-Decides (codes "run") name).0 same)
   | inr differs ↦ absurd (true≢false (sym flagged ∙ ap (λ b. b || false) differs))
 ]
@@ -72,7 +71,7 @@ written_so : (text o : Text) (given : Option Text) → name_and_value known text
 written_so text o given e =
     let name = before_first is_equals text in
     let found = λ (b : Bool). if b then flag_alone name (value_in text) else (if b then Some (name, value_in text) else None) in
-    elim (cases (is_option (codes "run" ∷ []) name)) [
+    elim (cases_Bool (is_option (codes "run" ∷ []) name)) [
       | inl flagged ↦ alone text name o (value_in text) given (the_name name flagged) (no_equals text) (sym (ap found flagged) ∙ e)
       | inr other ↦ absurd (nothing (sym (ap found other) ∙ e))
     ]
@@ -191,18 +190,18 @@ Once line = is_told_once (codes "run" ∷ []) 1 line ≡ true
 
 -- one name is said, and the flag once at most
 no_name : (options : List (Text × Text)) → Once (record { options = options; names = [] }) → ⊥
-no_name options e = let t = both _ _ e in absurd (true≢false (sym t.1))
+no_name options e = let t = and_parts _ _ e in absurd (true≢false (sym t.1))
 
 two_names : (options : List (Text × Text)) (a b : Text) (more : List Text) → Once (record { options = options; names = a ∷ b ∷ more }) → ⊥
 two_names options a b more e =
-    let t = both _ _ e in
+    let t = and_parts _ _ e in
     let n : nat_eq (length (a ∷ b ∷ more)) 1 ≡ true = t.1 in
     grind (arith, nat_tests)
 
 twice : (options : List (Text × Text)) (names : List Text) (v w : Text) → Once (record { options = (codes "run", v) ∷ (codes "run", w) ∷ options; names = names }) → ⊥
 twice options names v w e =
-    let t = both _ _ e in
-    let u = both _ _ t.0 in
+    let t = and_parts _ _ e in
+    let u = and_parts _ _ t.0 in
     let n : nat_lt (length (v ∷ w ∷ values_of (codes "run") options)) 2 ≡ true = u.0 in
     grind (arith, nat_tests)
 

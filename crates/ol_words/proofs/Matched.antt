@@ -6,14 +6,14 @@ use Rattle.clap.specs.Simple.{filled}
 use Rattle.ol_words.specs.Command.{option_rule}
 use Rattle.ol_words.specs.Lines.{Text, Line, line_of, is_option}
 use Rattle.ol_words.specs.Jobs.{values_of}
-use Rattle.ol_words.proofs.Rows.{cases}
+use Rattle.std.proofs.lemmas.Bool.{cases_Bool}
 use Rattle.ol_words.proofs.Told.{Told}
 use Rattle.ol_words.proofs.Options.{valued, rules_for, name_filled}
 use Rattle.ol_words.proofs.Walking.{rows_in}
-use Rattle.ol_words.proofs.Walks.{walks}
+use Rattle.ol_words.proofs.Walks.{walks, none_waits}
 
 no_default : (a : Rule) (rows : List Row) → a.defaults ≡ [] → with_default rows a ≡ rows
-no_default a rows none = elim (cases (has_row a.id rows)) [
+no_default a rows none = elim (cases_Bool (has_row a.id rows)) [
   | inl has ↦ rw has refl
   | inr lacks ↦ rw lacks (rw none refl)
 ]
@@ -21,9 +21,6 @@ no_default a rows none = elim (cases (has_row a.id rows)) [
 no_defaults : (os : List Text) (rows : List Row) → fold with_default rows (rules_for os) ≡ rows
 no_defaults [] rows = no_default name_filled rows refl
 no_defaults (o ∷ os) rows = ap (λ r. fold with_default r (rules_for os)) (no_default (filled (option_rule o)) rows refl) ∙ no_defaults os rows
-
-none_waits : (os : List Text) (o : Text) → ◌≡◌ {A = Option Text} None (Some o) → is_option os o ≡ true
-none_waits os o e = absurd (cc)
 
 pub told : (os : List Text) → is_option os (codes "name") ≡ false → (rest : List Text) (line : Line) → line_of (valued os) rest ≡ Some line
     → Told os [] (rows_after (rules_for os) [] rest) line true

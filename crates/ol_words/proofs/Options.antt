@@ -7,7 +7,7 @@ use Rattle.clap.specs.Simple.{filled, with_index}
 use Rattle.clap.specs.declared.builder.action.ArgAction.TheVariants.{Set}
 use Rattle.ol_words.specs.Lines.{Text, Known, is_option}
 use Rattle.ol_words.specs.Command.{option_rule, name_rule}
-use Rattle.ol_words.proofs.Rows.{cases}
+use Rattle.std.proofs.lemmas.Bool.{cases_Bool}
 
 -- the positional for the name
 abbrev pub name_filled : Rule
@@ -41,7 +41,7 @@ pub record IsOption (os : List Text) (name : Text) (rule : Rule) : Type 0 where
 
 found_by_long : (os : List Text) (name : Text) → is_option os name ≡ true → arg_by_long (rules_for os) name ≡ Some (filled (option_rule name))
 found_by_long [] name known = absurd (true≢false (sym known))
-found_by_long (o ∷ os) name known = elim (cases (bytes_eq o name)) [
+found_by_long (o ∷ os) name known = elim (cases_Bool (bytes_eq o name)) [
   | inl same ↦ rw same (ap (λ t. Some (filled (option_rule t))) ((bytes_eq-Decides o name).0 same))
   | inr other ↦
       let rest : is_option os name ≡ true = sym (rw other refl) ∙ known in
@@ -50,7 +50,7 @@ found_by_long (o ∷ os) name known = elim (cases (bytes_eq o name)) [
 
 found_by_id : (os : List Text) (name : Text) → is_option os name ≡ true → arg_by_id (rules_for os) name ≡ Some (filled (option_rule name))
 found_by_id [] name known = absurd (true≢false (sym known))
-found_by_id (o ∷ os) name known = elim (cases (bytes_eq o name)) [
+found_by_id (o ∷ os) name known = elim (cases_Bool (bytes_eq o name)) [
   | inl same ↦ rw same (ap (λ t. Some (filled (option_rule t))) ((bytes_eq-Decides o name).0 same))
   | inr other ↦
       let rest : is_option os name ≡ true = sym (rw other refl) ∙ known in
@@ -59,7 +59,7 @@ found_by_id (o ∷ os) name known = elim (cases (bytes_eq o name)) [
 
 pub name_by_id : (os : List Text) → is_option os (codes "name") ≡ false → arg_by_id (rules_for os) (codes "name") ≡ Some name_filled
 name_by_id [] apart = refl
-name_by_id (o ∷ os) apart = elim (cases (bytes_eq o (codes "name"))) [
+name_by_id (o ∷ os) apart = elim (cases_Bool (bytes_eq o (codes "name"))) [
   | inl same ↦
       let bad : is_option (o ∷ os) (codes "name") ≡ true = rw same refl in
       absurd (true≢false (sym bad ∙ apart))
@@ -83,13 +83,13 @@ option_known os o known = (filled (option_rule o), option_facts os o known)
 
 -- an option isn't the name
 pub not_name : (os : List Text) (o : Text) → is_option os (codes "name") ≡ false → is_option os o ≡ true → bytes_eq o (codes "name") ≡ false
-not_name os o apart known = elim (cases (bytes_eq o (codes "name"))) [
+not_name os o apart known = elim (cases_Bool (bytes_eq o (codes "name"))) [
   | inl same ↦ absurd (true≢false (sym known ∙ ap (is_option os) ((bytes_eq-Decides o (codes "name")).0 same) ∙ apart))
   | inr differs ↦ differs
 ]
 
 pub name_apart : (os : List Text) (o : Text) → is_option os (codes "name") ≡ false → is_option os o ≡ true → bytes_eq (codes "name") o ≡ false
-name_apart os o apart known = elim (cases (bytes_eq (codes "name") o)) [
+name_apart os o apart known = elim (cases_Bool (bytes_eq (codes "name") o)) [
   | inl same ↦ absurd (true≢false (sym known ∙ ap (is_option os) (sym ((bytes_eq-Decides (codes "name") o).0 same)) ∙ apart))
   | inr differs ↦ differs
 ]

@@ -1,17 +1,14 @@
 -- The rows of what was found, by their ids.
-use Rattle.std.proofs.Common.{◌≡◌, ◌⊎◌, ◌∙◌, sym, ap, refl, true, false, true≢false, Bool, List, [], ◌∷◌, Option, Some, None, if◌then◌else◌, inl, inr}
+use Rattle.std.proofs.Common.{◌≡◌, ◌∙◌, sym, ap, refl, true, false, true≢false, List, [], ◌∷◌, Option, Some, None, if◌then◌else◌, inl, inr}
 use Rattle.std.specs.Prelude.{find, is_some}
 use Rattle.std.specs.Str.{bytes_eq}
+use Rattle.std.proofs.lemmas.Bool.{cases_Bool}
 use Rattle.std.proofs.lemmas.Slice.Eq.{bytes_eq-Decides}
 use Rattle.clap.specs.Walk.{Row, used_as, without, with_values, first_of}
 use Rattle.clap.specs.declared.parser.matches.ValueSource.TheVariants.{CommandLine}
 use Rattle.clap.specs.declared.builder.value_parser.Reading.{Reading}
 use Rattle.clap.specs.declared.builder.action.ArgAction.TheVariants.{Set}
 use Rattle.ol_words.specs.Lines.{Text}
-
-pub cases : (b : Bool) → (b ≡ true) ⊎ (b ≡ false)
-cases true = inl refl
-cases false = inr refl
 
 pub itself : (id : Text) → bytes_eq id id ≡ true
 itself id = (bytes_eq-Decides id id).1 refl
@@ -24,7 +21,7 @@ module _ (id other : Text) (apart : bytes_eq id other ≡ false) where
   without_other [] = refl
   without_other (r ∷ rs) =
       let before = without_other rs in
-      elim (cases (bytes_eq r.id id)) [
+      elim (cases_Bool (bytes_eq r.id id)) [
         | inl same ↦
             let is : r.id ≡ id = (bytes_eq-Decides r.id id).0 same in
             let miss : bytes_eq r.id other ≡ false = ap (λ t. bytes_eq t other) is ∙ apart in
@@ -36,7 +33,7 @@ module _ (id other : Text) (apart : bytes_eq id other ≡ false) where
   with_values_other how values [] = rw apart refl
   with_values_other how values (r ∷ rs) =
       let before = with_values_other how values rs in
-      elim (cases (bytes_eq r.id id)) [
+      elim (cases_Bool (bytes_eq r.id id)) [
         | inl same ↦
             let is : r.id ≡ id = (bytes_eq-Decides r.id id).0 same in
             let miss : bytes_eq r.id other ≡ false = ap (λ t. bytes_eq t other) is ∙ apart in
@@ -56,7 +53,7 @@ some_is x e = true≢false (ap (λ o. is_some o) e)
 pub set_fresh : (id : Text) (how : Reading) (v : Text) (rows : List Row) → found_in id rows ≡ None
     → first_of id (used_as Set id how (v ∷ []) rows) ≡ Some v
 set_fresh id how v [] none = rw (itself id) refl
-set_fresh id how v (r ∷ rs) none = elim (cases (bytes_eq r.id id)) [
+set_fresh id how v (r ∷ rs) none = elim (cases_Bool (bytes_eq r.id id)) [
   | inl same ↦
       let hit : Some r ≡ None = sym (ap (λ b. if b then Some r else found_in id rs) same) ∙ none in
       absurd (some_is r hit)

@@ -6,7 +6,7 @@ use Rattle.std.proofs.lemmas.Bool.Decides.{nat_tests}
 use Rattle.std.specs.List.{position_or_len, before_first, after_first}
 use Rattle.clap.specs.Lexer.{long_of, short_of, has_byte}
 use Rattle.ol_words.specs.Lines.{Text, Known, is_dashed, is_end, is_option, is_equals, option_of, name_and_value, value_in}
-use Rattle.ol_words.proofs.Rows.{cases}
+use Rattle.std.proofs.lemmas.Bool.{cases_Bool}
 use Rattle.ol_words.proofs.Options.{valued}
 
 some_left : (rest : Text) → (suc (length rest) == 0) ≡ false
@@ -14,8 +14,8 @@ some_left rest = grind (arith, nat_tests)
 
 pub plain_long : (word : Text) → is_dashed word ≡ false → long_of word ≡ None
 plain_long [] plain = refl
-plain_long (x ∷ []) plain = elim (cases (x == 45)) [ inl same ↦ rw same refl | inr differs ↦ rw differs refl ]
-plain_long (x ∷ y ∷ rest) plain = elim (cases (x == 45)) [
+plain_long (x ∷ []) plain = elim (cases_Bool (x == 45)) [ inl same ↦ rw same refl | inr differs ↦ rw differs refl ]
+plain_long (x ∷ y ∷ rest) plain = elim (cases_Bool (x == 45)) [
   | inl same ↦
       let bad : true ≡ false = sym (ap not (some_left rest)) ∙ sym (ap (λ b. b && not (length (y ∷ rest) == 0)) same) ∙ plain in
       absurd (true≢false bad)
@@ -24,8 +24,8 @@ plain_long (x ∷ y ∷ rest) plain = elim (cases (x == 45)) [
 
 pub plain_short : (word : Text) → is_dashed word ≡ false → short_of word ≡ None
 plain_short [] plain = refl
-plain_short (x ∷ []) plain = elim (cases (x == 45)) [ inl same ↦ rw same refl | inr differs ↦ rw differs refl ]
-plain_short (x ∷ y ∷ rest) plain = elim (cases (x == 45)) [
+plain_short (x ∷ []) plain = elim (cases_Bool (x == 45)) [ inl same ↦ rw same refl | inr differs ↦ rw differs refl ]
+plain_short (x ∷ y ∷ rest) plain = elim (cases_Bool (x == 45)) [
   | inl same ↦
       let bad : true ≡ false = sym (ap not (some_left rest)) ∙ sym (ap (λ b. b && not (length (y ∷ rest) == 0)) same) ∙ plain in
       absurd (true≢false bad)
@@ -41,7 +41,7 @@ one_more a b = elim (cases_lt a b) [
 -- a byte is there just where its first place is within the text
 equals_inside : (text : Text) → has_byte 61 text ≡ nat_lt (position_or_len is_equals text) (length text)
 equals_inside [] = refl
-equals_inside (x ∷ rest) = let before = equals_inside rest in elim (cases (x == 61)) [
+equals_inside (x ∷ rest) = let before = equals_inside rest in elim (cases_Bool (x == 61)) [
   | inl same ↦ rw same (sym (lt-ltb 0 (suc (length rest)) (omega arith)))
   | inr differs ↦ rw differs (before ∙ one_more (position_or_len is_equals rest) (length rest))
 ]
@@ -51,8 +51,8 @@ value_same text = ap (λ b. if b then Some (after_first (λ x. x == 61) text) el
 
 pub hyphens : (known : Known) (x y : ℕ) (text o : Text) (value : Option Text) → option_of known (x ∷ y ∷ text) ≡ Some (o, value)
     → ((x == 45) ≡ true) × ((y == 45) ≡ true) × (name_and_value known text ≡ Some (o, value))
-hyphens known x y text o value e = elim (cases (x == 45)) [
-  | inl one ↦ elim (cases (y == 45)) [
+hyphens known x y text o value e = elim (cases_Bool (x == 45)) [
+  | inl one ↦ elim (cases_Bool (y == 45)) [
     | inl two ↦ (one, two, sym (ap₂ (λ p q. option_and_then (name_and_value known) (if p && q then Some text else None)) one two) ∙ e)
     | inr other ↦ absurd (nothing (sym (ap₂ (λ p q. option_and_then (name_and_value known) (if p && q then Some text else None)) one other) ∙ e))
   ]
@@ -64,7 +64,7 @@ hyphens known x y text o value e = elim (cases (x == 45)) [
 
 named : (os : List Text) (text o : Text) (value : Option Text) → name_and_value (valued os) text ≡ Some (o, value)
     → (◌≡◌ {A = Option (Text × Option Text)} (Some (before_first is_equals text, value_in text)) (Some (o, value))) × (is_option os o ≡ true)
-named os text o value e = elim (cases (is_option os (before_first is_equals text))) [
+named os text o value e = elim (cases_Bool (is_option os (before_first is_equals text))) [
   | inl known ↦
       let same : ◌≡◌ {A = Option (Text × Option Text)} (Some (before_first is_equals text, value_in text)) (Some (o, value)) =
       sym (ap (λ b. if b then Some (before_first is_equals text, value_in text) else None) known) ∙ e in

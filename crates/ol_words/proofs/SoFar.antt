@@ -1,5 +1,5 @@
 -- Words read one after another: what was read so far, joined to what the rest says.
-use Rattle.std.proofs.Common.{ℕ, ◌≡◌, ◌∙◌, sym, ap, refl, arith, true, false, List, [], ◌∷◌, ◌++◌, Option, Some, None, map, option_map, if◌then◌else◌, ◌<◌, ◌≤◌, ◌+◌, ◌-◌, length, drop, slice_index_or, String, string_bytes}
+use Rattle.std.proofs.Common.{ℕ, ◌≡◌, ◌∙◌, sym, ap, refl, arith, true, false, List, [], ◌∷◌, ◌++◌, Option, Some, None, map, option_map, if◌then◌else◌, ◌<◌, ◌≤◌, ◌+◌, ◌-◌, length, drop, slice_index_or, String, string_bytes, append-nil, append_assoc}
 use Rattle.std.specs.declared.alloc.Global.{Global}
 use Rattle.std.proofs.lemmas.List.{drop_more, drop_all, length-drop}
 use Rattle.ol_words.specs.Jobs.{texts_of}
@@ -15,28 +15,20 @@ joined options names line = record { options = options ++ line.options; names = 
 abbrev pub so_far : Known → List (Text × Text) → List Text → Option Text → List Text → Option Line
 so_far known options names waiting rest = option_map (joined options names) (line_from known waiting rest)
 
-app_nil : {X : Type 0} (xs : List X) → xs ++ [] ≡ xs
-app_nil [] = refl
-app_nil (x ∷ xs) = ap (λ l. x ∷ l) (app_nil xs)
-
-app_more : {X : Type 0} (xs : List X) (x : X) (ys : List X) → (xs ++ x ∷ []) ++ ys ≡ xs ++ (x ∷ ys)
-app_more [] x ys = refl
-app_more (y ∷ xs) x ys = ap (λ l. y ∷ l) (app_more xs x ys)
-
 option_joins : (os : List (Text × Text)) (ns : List Text) (option value : Text) (r : Option Line)
     → option_map (joined (os ++ (option, value) ∷ []) ns) r ≡ option_map (joined os ns) (option_map (with_option option value) r)
 option_joins os ns option value None = refl
-option_joins os ns option value (Some line) = ap (λ options. Some (record { options = options; names = ns ++ line.names })) (app_more os (option, value) line.options)
+option_joins os ns option value (Some line) = ap (λ options. Some (record { options = options; names = ns ++ line.names })) (append_assoc os ((option, value) ∷ []) line.options)
 
 name_joins : (os : List (Text × Text)) (ns : List Text) (name : Text) (r : Option Line)
     → option_map (joined os (ns ++ name ∷ [])) r ≡ option_map (joined os ns) (option_map (with_name name) r)
 name_joins os ns name None = refl
-name_joins os ns name (Some line) = ap (λ names. Some (record { options = os ++ line.options; names = names })) (app_more ns name line.names)
+name_joins os ns name (Some line) = ap (λ names. Some (record { options = os ++ line.options; names = names })) (append_assoc ns (name ∷ []) line.names)
 
 -- nothing is left
 pub all_read : (known : Known) (os : List (Text × Text)) (ns : List Text) (all : Option Line) → so_far known os ns None [] ≡ all → all ≡ Some (record { options = os; names = ns })
 unfolding line_from
-all_read known os ns all e = sym e ∙ ap (λ options. Some (record { options = options; names = ns ++ [] })) (app_nil os) ∙ ap (λ names. Some (record { options = os; names = names })) (app_nil ns)
+all_read known os ns all e = sym e ∙ ap (λ options. Some (record { options = options; names = ns ++ [] })) (append-nil os) ∙ ap (λ names. Some (record { options = os; names = names })) (append-nil ns)
 
 pub value_lacks : (known : Known) (os : List (Text × Text)) (ns : List Text) (option : Text) (all : Option Line) → so_far known os ns (Some option) [] ≡ all → all ≡ None
 unfolding line_from
@@ -67,7 +59,7 @@ module _ (known : Known) (os : List (Text × Text)) (ns : List Text) (word : Tex
   unfolding line_from
   ended ends e = sym e ∙ ap (λ b. option_map (joined os ns) (if b then Some (record { options = []; names = rest })
       else (if is_dashed word then after_option (option_of known word) (λ option. line_from known (Some option) rest) (line_from known None rest)
-      else option_map (with_name word) (line_from known None rest)))) ends ∙ ap (λ options. Some (record { options = options; names = ns ++ rest })) (app_nil os)
+      else option_map (with_name word) (line_from known None rest)))) ends ∙ ap (λ options. Some (record { options = options; names = ns ++ rest })) (append-nil os)
 
   pub name_taken : is_end word ≡ false → is_dashed word ≡ false → so_far known os ns None (word ∷ rest) ≡ all
       → so_far known os (ns ++ word ∷ []) None rest ≡ all

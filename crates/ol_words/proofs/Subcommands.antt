@@ -11,10 +11,10 @@ use Rattle.clap.specs.Words.{is_simple, built, subcommand_of, takes}
 use Rattle.ol_words.specs.Lines.{Text, Line, line_of}
 use Rattle.ol_words.specs.Jobs.{Verb, is_told_once, known_of, options_of, only, verb_named, check_asks, gen_asks, run_asks, trace_asks, view_asks, walk_asks, check_verb, gen_verb, run_verb, trace_verb, view_verb, walk_verb, run, walk, view, trace}
 use Rattle.ol_words.specs.Command.{app}
-use Rattle.ol_words.proofs.Rows.{cases}
+use Rattle.std.proofs.lemmas.Bool.{and_from, cases_Bool}
 use Rattle.ol_words.proofs.Options.{rules_for}
 use Rattle.ol_words.proofs.Matched.{left_to_it, held_before}
-use Rattle.ol_words.proofs.Passing.{shape_with, and_true}
+use Rattle.ol_words.proofs.Passing.{shape_with}
 use Rattle.ol_words.proofs.FixedRules.{Reads}
 use Rattle.ol_words.proofs.FileVerbs.{file_reads}
 use Rattle.ol_words.proofs.TwoFiles.{check_rules, check_reads}
@@ -109,14 +109,14 @@ module _ (word : Text) (rules : List Rule)
 
   walk_on_passes : (rest : List Text) → walk_passes top_shape (names_of (built app)) (walk_from nothing_held) (word ∷ rest) ≡ true
   unfolding walk_passes
-  walk_on_passes rest = and_true _ _ passes (ap (λ (w : Walk). walk_passes top_shape (names_of (built app)) w rest) starts
+  walk_on_passes rest = and_from _ _ passes (ap (λ (w : Walk). walk_passes top_shape (names_of (built app)) w rest) starts
       ∙ stopped_passes top_shape (names_of (built app)) (walk_from nothing_held) word [] rest)
 
   taken_behind : (program : Text) (rest : List Text) → level_passes (shape_with word rules) [] nothing_held rest false ≡ true → takes app (program ∷ word ∷ rest) ≡ true
   unfolding top_shape
   taken_behind program rest below =
-      let above = and_true _ _ (walk_on_passes rest) (and_true _ _ (top_settles _ (holds rest)) refl) in
-      and_true _ _ (ap (entered_passes (built app)) (stops rest) ∙ ap (λ (s : Option Shape). option_map_or (λ s. level_passes s [] nothing_held rest false) s true) finds ∙ below) above
+      let above = and_from _ _ (walk_on_passes rest) (and_from _ _ (top_settles _ (holds rest)) refl) in
+      and_from _ _ (ap (entered_passes (built app)) (stops rest) ∙ ap (λ (s : Option Shape). option_map_or (λ s. level_passes s [] nothing_held rest false) s true) finds ∙ below) above
 
 is_run : IsVerb run_verb
 unfolding walked top_shape
@@ -182,7 +182,7 @@ is_gen = record {
 module _ (word : Text) (v : Verb) where
   here_or_later : (x : Verb) (later : Option Verb) → IsVerb x → (later ≡ Some v → IsVerb v × (word ≡ v.word))
       → (if bytes_eq x.word word then Some x else later) ≡ Some v → IsVerb v × (word ≡ v.word)
-  here_or_later x later is_x more e = elim (cases (bytes_eq x.word word)) [
+  here_or_later x later is_x more e = elim (cases_Bool (bytes_eq x.word word)) [
     | inl same ↦
         let is : x ≡ v = the x (sym (ap (λ b. if b then Some x else later) same) ∙ e) in
         subst (λ y. IsVerb y × (word ≡ y.word)) is (is_x, sym ((bytes_eq-Decides x.word word).0 same))

@@ -7,7 +7,8 @@ use Rattle.clap.specs.Walk.{Row, Rule, used, used_as, reading_by, action_of, fir
 use Rattle.clap.specs.declared.builder.action.ArgAction.TheVariants.{Set}
 use Rattle.ol_words.specs.Lines.{Text, Line, is_option, with_option, with_name}
 use Rattle.ol_words.specs.Jobs.{values_of}
-use Rattle.ol_words.proofs.Rows.{cases, found_in, set_other, set_fresh}
+use Rattle.std.proofs.lemmas.Bool.{cases_Bool}
+use Rattle.ol_words.proofs.Rows.{found_in, set_other, set_fresh}
 use Rattle.ol_words.proofs.Options.{not_name, name_apart}
 
 -- `first` says that no name was told before
@@ -38,11 +39,11 @@ module _ (os : List Text) (apart : is_option os (codes "name") ≡ false) (rule 
       let use_is : used rule (v ∷ []) rows ≡ used_as Set x (reading_by rule) (v ∷ []) rows = ap (λ act. used_as act rule.id (reading_by rule) (v ∷ []) rows) sets ∙ ap (λ i. used_as Set i (reading_by rule) (v ∷ []) rows) id in
       let others = λ (o : Text) (differs : bytes_eq x o ≡ false). ap (found_in o) use_is ∙ set_other x o differs (reading_by rule) (v ∷ []) rows in
       record {
-        absent = λ o known none. elim (cases (bytes_eq x o)) [
+        absent = λ o known none. elim (cases_Bool (bytes_eq x o)) [
           | inl same ↦ absurd (taken o none same)
           | inr differs ↦ t.absent o known (left o [] none differs) ∙ others o differs
         ];
-        given = λ o value is_known fresh one. elim (cases (bytes_eq x o)) [
+        given = λ o value is_known fresh one. elim (cases_Bool (bytes_eq x o)) [
           | inl same ↦
               let is : x ≡ o = (bytes_eq-Decides x o).0 same in
               let both = here o value one same in

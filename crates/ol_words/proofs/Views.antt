@@ -2,7 +2,7 @@
 use Rattle.std.proofs.Common.{◌≡◌, ◌∙◌, sym, ap, refl, false, Bool, List, [], ◌∷◌, Option, Some, None, option_map, if◌then◌else◌, codes, inl, inr, subst}
 use Rattle.std.proofs.lemmas.Slice.Eq.{bytes_eq-Decides}
 use Rattle.ol_words.specs.Lines.{Text, Known, Line, line_from, is_dashed, is_end, option_of, after_option, with_option, with_name}
-use Rattle.ol_words.proofs.Rows.{cases}
+use Rattle.std.proofs.lemmas.Bool.{cases_Bool}
 use Rattle.ol_words.proofs.Walks.{mapped}
 
 pub data View (known : Known) : List Text → Line → Type 0 where
@@ -28,7 +28,7 @@ module _ (known : Known) (word : Text) (rest : List Text) (line : Line) where
       let dashed_or_name = λ (b : Bool). if b then after_option (option_of known word) (λ option. line_from known (Some option) rest) (line_from known None rest)
       else option_map (with_name word) (line_from known None rest) in
       let all : Option Line = Some (record { options = []; names = rest }) in
-      elim (cases (is_end word)) [
+      elim (cases_Bool (is_end word)) [
         | inl ends ↦
             let is : all ≡ Some line = sym (ap (λ b. if b then all else dashed_or_name (is_dashed word)) ends) ∙ e in
             let same : ◌≡◌ {A = Line} (record { options = []; names = rest }) line = cc in
@@ -36,7 +36,7 @@ module _ (known : Known) (word : Text) (rest : List Text) (line : Line) where
             subst (λ l. View known (word ∷ rest) l) same (subst (λ w. View known (w ∷ rest) (record { options = []; names = rest })) marks (ended rest))
         | inr goes ↦
             let read_on : dashed_or_name (is_dashed word) ≡ Some line = sym (ap (λ b. if b then all else dashed_or_name (is_dashed word)) goes) ∙ e in
-            elim (cases (is_dashed word)) [
+            elim (cases_Bool (is_dashed word)) [
               | inl dashed ↦ view_option (option_of known word) refl (sym (ap dashed_or_name dashed) ∙ read_on)
               | inr is_plain ↦
                   let read = mapped (with_name word) (line_from known None rest) line (sym (ap dashed_or_name is_plain) ∙ read_on) in

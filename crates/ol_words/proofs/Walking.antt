@@ -5,7 +5,8 @@ use Rattle.std.proofs.lemmas.Slice.Eq.{bytes_eq-Decides}
 use Rattle.clap.specs.Walk.{to_positional, Held, Row, Rule, Walk, Waiting, Step, idle, option, trailing, walked, after_step, plain_word, long_or_other, short_or_plain, long_met, option_met, flag_met, after_flag, option_word, pushed, is_pending, settled, reacted}
 use Rattle.clap.specs.Lexer.{long_of}
 use Rattle.ol_words.specs.Lines.{Text, is_dashed, is_end}
-use Rattle.ol_words.proofs.Rows.{cases, itself}
+use Rattle.std.proofs.lemmas.Bool.{cases_Bool}
+use Rattle.ol_words.proofs.Rows.{itself}
 use Rattle.ol_words.proofs.Shapes.{plain_long, plain_short}
 use Rattle.ol_words.proofs.Options.{rules_for, IsOption, name_filled, first_position, second_position}
 
@@ -25,7 +26,7 @@ and_false true = refl
 and_false false = refl
 
 pub not_end : (word : Text) → is_dashed word ≡ false → is_end word ≡ false
-not_end word plain = elim (cases (is_end word)) [
+not_end word plain = elim (cases_Bool (is_end word)) [
   | inl same ↦ let is : word ≡ codes "--" = (bytes_eq-Decides word (codes "--")).0 same in absurd (true≢false (sym (ap is_dashed is) ∙ plain))
   | inr differs ↦ differs
 ]

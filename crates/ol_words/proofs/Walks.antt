@@ -2,7 +2,7 @@
 use Rattle.std.proofs.Common.{◌≡◌, ◌∙◌, sym, ap, refl, true, false, Bool, List, [], ◌∷◌, Option, Some, None, fold, option_map, if◌then◌else◌, codes, inl, inr, subst}
 use Rattle.clap.specs.Walk.{Held, Rule, Walk, idle, option, walked, pushed, settled, reacted, used, used_by_id}
 use Rattle.ol_words.specs.Lines.{Text, Line, line_from, is_dashed, is_end, is_option, option_of, after_option, with_option, with_name}
-use Rattle.ol_words.proofs.Rows.{cases}
+use Rattle.std.proofs.lemmas.Bool.{cases_Bool}
 use Rattle.ol_words.proofs.Told.{Told, told_nothing, told_option, told_name, told_again}
 use Rattle.ol_words.proofs.Shapes.{option_long}
 use Rattle.ol_words.proofs.Options.{valued, rules_for, option_known, name_filled, name_by_id}
@@ -24,6 +24,10 @@ pub mapped : (f : Line → Line) (r : Option Line) (line : Line) → option_map 
 mapped f None line e = absurd (cc)
 mapped f (Some l) line e = (l, refl, cc)
 
+-- no option waits where none does
+pub none_waits : (os : List Text) (o : Text) → ◌≡◌ {A = Option Text} None (Some o) → is_option os o ≡ true
+none_waits os o e = absurd (cc)
+
 module _ (os : List Text) (apart : is_option os (codes "name") ≡ false) where
   pub named : (n : Text) (h : Held) → rows_in os (pushed (codes "name") n (settled (rules_for os) h)) ≡ used name_filled (n ∷ []) (rows_in os h)
   named n h = ap (λ (r : Option Rule). used_by_id r (n ∷ []) (rows_in os h)) (name_by_id os apart)
@@ -41,20 +45,17 @@ module _ (os : List Text) (apart : is_option os (codes "name") ≡ false) where
       subst (λ (w : Walk). Told os (rows_in os h) (rows_in os (walk_on os w rest).held) (record { options = []; names = n ∷ rest }) false) (sym (step_further os n h))
       (told_again os (rows_in os h) _ (record { options = []; names = rest }) n t)
 
-  none_waits : (o : Text) → ◌≡◌ {A = Option Text} None (Some o) → is_option os o ≡ true
-  none_waits o e = absurd (cc)
-
   module _ (word : Text) (rest : List Text) (more : Tells os rest) (h : Held) (first : Bool) (line : Line) where
     turn_value : (o : Text) → is_option os o ≡ true → line_from (valued os) (Some o) (word ∷ rest) ≡ Some line
         → Told os (rows_in os h) (rows_in os (walk_on os (start os (Some o) h first) (word ∷ rest)).held) line first
     unfolding line_from
-    turn_value o known e = elim (cases (is_dashed word)) [
+    turn_value o known e = elim (cases_Bool (is_dashed word)) [
       | inl dashed ↦ absurd (none (sym (ap (λ b. if b then None else option_map (with_option o word) (line_from (valued os) None rest)) dashed) ∙ e))
       | inr plain ↦
           let rule = option_known os o known in
           let read = mapped (with_option o word) (line_from (valued os) None rest) line (sym (ap (λ b. if b then None else option_map (with_option o word) (line_from (valued os) None rest)) plain) ∙ e) in
           let after : Held = record { rows = rows_in os h; pending = Some (o, word ∷ []); skip = h.skip } in
-          let t = more None after first read.0 none_waits read.1 in
+          let t = more None after first read.0 (none_waits os) read.1 in
           let use_is : rows_in os after ≡ used rule.0 (word ∷ []) (rows_in os h) = ap (λ (r : Option Rule). used_by_id r (word ∷ []) (rows_in os h)) rule.1.by_id in
           let u = subst (λ rows. Told os rows (rows_in os (walk_on os (at after idle first false) rest).held) read.0 first) use_is t in
           let v = told_option os apart rule.0 (rows_in os h) _ read.0 first o word rule.1.id rule.1.sets known u in
@@ -81,7 +82,7 @@ module _ (os : List Text) (apart : is_option os (codes "name") ≡ false) where
         let long = option_long os word o (Some v) goes is in
         let rule = option_known os o long.1 in
         let read = mapped (with_option o v) (line_from (valued os) None rest) line e in
-        let t = more None (reacted (rules_for os) rule.0 (v ∷ []) h) first read.0 none_waits read.1 in
+        let t = more None (reacted (rules_for os) rule.0 (v ∷ []) h) first read.0 (none_waits os) read.1 in
         let u = told_option os apart rule.0 (rows_in os h) _ read.0 first o v rule.1.id rule.1.sets long.1 t in
         subst (λ l. Told os (rows_in os h) (rows_in os (walk_on os (at h idle first false) (word ∷ rest)).held) l first) read.2
         (subst (λ (w : Walk). Told os (rows_in os h) (rows_in os (walk_on os w rest).held) (with_option o v read.0) first) (sym (step_attached os word h o v rule.0 first goes long.0 rule.1)) u)
@@ -89,12 +90,12 @@ module _ (os : List Text) (apart : is_option os (codes "name") ≡ false) where
   turn_name : (word : Text) (rest : List Text) (more : Tells os rest) (h : Held) (first : Bool) (line : Line) → is_dashed word ≡ false → line_from (valued os) None rest ≡ Some line
       → Told os (rows_in os h) (rows_in os (walk_on os (at h idle first false) (word ∷ rest)).held) (with_name word line) first
   turn_name word rest more h true line plain e =
-      let t = more None (pushed (codes "name") word (settled (rules_for os) h)) false line none_waits e in
+      let t = more None (pushed (codes "name") word (settled (rules_for os) h)) false line (none_waits os) e in
       subst (λ (w : Walk). Told os (rows_in os h) (rows_in os (walk_on os w rest).held) (with_name word line) true) (sym (step_name os word h plain))
       (told_name os apart name_filled (rows_in os h) _ line word refl refl
       (subst (λ rows. Told os rows (rows_in os (walk_on os (start os None (pushed (codes "name") word (settled (rules_for os) h)) false) rest).held) line false) (named word h) t))
   turn_name word rest more h false line plain e =
-      let t = more None h false line none_waits e in
+      let t = more None h false line (none_waits os) e in
       subst (λ (w : Walk). Told os (rows_in os h) (rows_in os (walk_on os w rest).held) (with_name word line) false) (sym (step_again os word h plain))
       (told_again os (rows_in os h) _ line word t)
 
@@ -105,7 +106,7 @@ module _ (os : List Text) (apart : is_option os (codes "name") ≡ false) where
       let dashed_or_name = λ (b : Bool). if b then after_option (option_of (valued os) word) (λ option. line_from (valued os) (Some option) rest) (line_from (valued os) None rest)
       else option_map (with_name word) (line_from (valued os) None rest) in
       let ended : Option Line = Some (record { options = []; names = rest }) in
-      elim (cases (is_end word)) [
+      elim (cases_Bool (is_end word)) [
         | inl ends ↦
             let is : ended ≡ Some line = sym (ap (λ b. if b then ended else dashed_or_name (is_dashed word)) ends) ∙ e in
             let same : ◌≡◌ {A = Line} (record { options = []; names = rest }) line = cc in
@@ -113,7 +114,7 @@ module _ (os : List Text) (apart : is_option os (codes "name") ≡ false) where
             (subst (λ (w : Walk). Told os (rows_in os h) (rows_in os (walk_on os w rest).held) (record { options = []; names = rest }) first) (sym (step_end os word h first ends)) (walks_names rest h first))
         | inr goes ↦
             let read_on : dashed_or_name (is_dashed word) ≡ Some line = sym (ap (λ b. if b then ended else dashed_or_name (is_dashed word)) goes) ∙ e in
-            elim (cases (is_dashed word)) [
+            elim (cases_Bool (is_dashed word)) [
               | inl dashed ↦ turn_option word rest more h first line goes (option_of (valued os) word) refl (sym (ap dashed_or_name dashed) ∙ read_on)
               | inr plain ↦
                   let read = mapped (with_name word) (line_from (valued os) None rest) line (sym (ap dashed_or_name plain) ∙ read_on) in
