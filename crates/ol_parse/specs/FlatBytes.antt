@@ -1,8 +1,9 @@
 -- The flat state of the reader over bytes.
-use Rattle.std.specs.Prelude.{◌≡◌, ℕ, List, [], ◌∷◌, Bool, true, false, Option, Some, None, slice_range}
+use Rattle.std.specs.Prelude.{◌≡◌, ℕ, ◌+◌, List, [], ◌∷◌, length, Bool, true, false, Option, Some, None, slice_index, slice_range}
 use Rattle.ol_parse.specs.Grammar.{Named, Token, name, let_key, in_key, lambda, dot, equals, open_bracket, close_bracket}
-use Rattle.ol_parse.specs.Texts.{IsRefusedAt, Class, blank, hash, letter, digit, sign, lead, other}
-use Rattle.ol_parse.specs.Reading.{Reading, gap, comment, word, half}
+use Rattle.ol_parse.specs.Texts.{IsText, IsRefusedAt, class_of, Class, blank, hash, letter, digit, sign, lead, other}
+use Rattle.ol_parse.specs.Reading.{Reading, gap, comment, word, half, gap_step, byte_step, byte_final}
+use Rattle.ol_parse.specs.Machine.{State, final}
 use Rattle.ol_parse.specs.Flat.{built, Holds}
 use Rattle.ol_parse.specs.declared.flat.Op.{Op}
 use Rattle.ol_parse.specs.declared.flat.Open.{Open}
@@ -52,10 +53,32 @@ NextPlace text at (Some s) (Some n) opens ops = Stands text at s n.0 n.1 opens o
 NextPlace text at None None opens ops = Unit {0}
 NextPlace text at _ _ opens ops = ⊥
 
+-- the byte at this place is taken, between two tokens
+abbrev pub TakesInGap : List ℕ → ℕ → Mode → List Open → List Op → Option (Place × Mode) → List Open → List Op → Type 0
+TakesInGap text at m opens ops next opens' ops' = (p : State) → Holds p m opens ops
+    → NextPlace text (at + 1) (gap_step p (slice_index text at) (class_of (slice_index text at))) next opens' ops'
+
+-- the byte at this place is taken
+abbrev pub TakesByte : List ℕ → ℕ → Place → Mode → List Open → List Op → Option (Place × Mode) → List Open → List Op → Type 0
+TakesByte text at place m opens ops next opens' ops' = (s : Reading) → Stands text at s place m opens ops
+    → NextPlace text (at + 1) (byte_step s (slice_index text at)) next opens' ops'
+
 abbrev pub EndsIn : Option Named → Bool → List Op → Type 0
 EndsIn (Some t) true ops = built ops ≡ Some (t ∷ [])
 EndsIn None false ops = Unit {0}
 EndsIn _ _ ops = ⊥
+
+-- the text ends here, behind a token
+abbrev pub Ends : Mode → List Open → List Op → Bool → List Op → Type 0
+Ends m opens ops done ops' = (p : State) → Holds p m opens ops → EndsIn (final p) done ops'
+
+-- the text ends here
+abbrev pub EndsText : List ℕ → Place → Mode → List Open → List Op → Bool → List Op → Type 0
+EndsText text place m opens ops done ops' = (s : Reading) → Stands text (length text) s place m opens ops → EndsIn (byte_final s) done ops'
+
+-- the steps build the term of the text
+abbrev pub BuildsText : List ℕ → List Op → Type 0
+BuildsText text ops = (t : Named) × IsText text t × (built ops ≡ Some (t ∷ []))
 
 -- a fault is that the bytes are no text, and names the dead place
 abbrev pub IsRefused : List ℕ → ParseFault → Type 0

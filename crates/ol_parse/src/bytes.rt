@@ -1,13 +1,10 @@
 //! The reader over bytes.
 
-ghost use Rattle.std.specs.Prelude.{◌≡◌, option_map, Option, false, ℕ, ◌+◌, ◌<◌, ◌≤◌, List, [], ◌∷◌, ◌++◌, Some, IfOk, IfErr, IfSome, OnOk, length, slice_index};
+ghost use Rattle.std.specs.Prelude.{◌≡◌, option_map, ◌<◌, ◌≤◌, IfOk, IfErr, IfSome, length};
 ghost use Rattle.std.specs.Str.{bytes_eq};
-ghost use Rattle.ol_parse.specs.Grammar.{Named, Token, name, let_key, in_key, lambda, dot, equals, open_bracket, close_bracket};
-ghost use Rattle.ol_parse.specs.Texts.{class_of, in_word, token_of, IsText, IsDeadPlace};
-ghost use Rattle.ol_parse.specs.Machine.{Frame, State, step, final, finish};
-ghost use Rattle.ol_parse.specs.Reading.{Reading, gap_step, byte_step, byte_final};
-ghost use Rattle.ol_parse.specs.Flat.{Holds, Next, built};
-ghost use Rattle.ol_parse.specs.FlatBytes.{seen, key_of, from_of, Stands, NextPlace, EndsIn, IsRefused};
+ghost use Rattle.ol_parse.specs.Texts.{class_of, in_word, token_of};
+ghost use Rattle.ol_parse.specs.Flat.{Takes};
+ghost use Rattle.ol_parse.specs.FlatBytes.{seen, key_of, from_of, TakesInGap, TakesByte, Ends, EndsText, BuildsText, IsRefused};
 
 use crate::faults::ParseFault;
 use crate::flat::{Mode, Op, Open};
@@ -32,8 +29,8 @@ pub enum Class {
     Other,
 }
 
-/// Where the reader is: between tokens, in a comment, in a word from a place on, or in the middle of
-/// the letter λ.
+/// Where the reader is: between tokens, in a comment, in a word from a place on, or in the middle
+/// of the letter λ.
 #[derive(Clone, Copy)]
 pub enum Place {
     Gap,
@@ -105,7 +102,8 @@ fn take_word<'a>(
     opens: &mut Vec<Open<'a>>,
     out: &mut Vec<Op<'a>>,
 ) -> Result<Option<Mode<'a>>, AllocError>
-    ensures { IfOk result (λ next. (p : State) → Holds p mode.entry opens.old.items out.old.items → Next (step p (token_of word.now)) next opens.new.items out.new.items) }
+    ensures { IfOk result (λ next. Takes (token_of word.now)
+        mode.entry opens.old.items out.old.items next opens.new.items out.new.items) }
 {
     match key_of_word(word) {
         Key::Let => take_let(mode, opens, out),
@@ -140,7 +138,8 @@ fn take_in_gap<'a>(
     out: &mut Vec<Op<'a>>,
 ) -> Result<Option<(Place, Mode<'a>)>, AllocError>
     requires { at < length text.now }
-    ensures stands { IfOk result (λ next. (p : State) → Holds p mode.entry opens.old.items out.old.items → NextPlace text.now (at + 1) (gap_step p (slice_index text.now at) (class_of (slice_index text.now at))) next opens.new.items out.new.items) }
+    ensures stands { IfOk result (λ next. TakesInGap text.now at
+        mode.entry opens.old.items out.old.items next opens.new.items out.new.items) }
     ensures begun { IfOk result (λ next. IfSome next (λ n. from_of n.0 ≤ at)) }
 {
     match class_of_byte(text[at]) {
@@ -170,7 +169,8 @@ fn take_byte<'a>(
 ) -> Result<Option<(Place, Mode<'a>)>, AllocError>
     requires within { at < length text.now }
     requires begun { from_of place ≤ at }
-    ensures stands { IfOk result (λ next. (s : Reading) → Stands text.now at s place mode.entry opens.old.items out.old.items → NextPlace text.now (at + 1) (byte_step s (slice_index text.now at)) next opens.new.items out.new.items) }
+    ensures stands { IfOk result (λ next. TakesByte text.now at
+        place mode.entry opens.old.items out.old.items next opens.new.items out.new.items) }
     ensures begun { IfOk result (λ next. IfSome next (λ n. from_of n.0 ≤ at)) }
 {
     match place {
@@ -207,7 +207,8 @@ fn take_end<'a>(
     opens: &mut Vec<Open<'a>>,
     out: &mut Vec<Op<'a>>,
 ) -> Result<bool, AllocError>
-    ensures { IfOk result (λ yes. (p : State) → Holds p mode.entry opens.old.items out.old.items → EndsIn (final p) yes out.new.items) }
+    ensures { IfOk result (λ yes.
+        Ends mode.entry opens.old.items out.old.items yes out.new.items) }
 {
     match mode {
         Mode::Term(true) => match finish(opens, out)? {
@@ -227,7 +228,8 @@ fn take_text_end<'a>(
     out: &mut Vec<Op<'a>>,
 ) -> Result<bool, AllocError>
     requires { from_of place ≤ length text.now }
-    ensures { IfOk result (λ yes. (s : Reading) → Stands text.now (length text.now) s place mode.entry opens.old.items out.old.items → EndsIn (byte_final s) yes out.new.items) }
+    ensures { IfOk result (λ yes. EndsText text.now
+        place mode.entry opens.old.items out.old.items yes out.new.items) }
 {
     match place {
         Place::Gap | Place::Comment => take_end(mode, opens, out),
@@ -241,7 +243,7 @@ fn take_text_end<'a>(
 
 /// Reads a term, as steps that build it.
 pub fn read<'a>(alloc: Global, text: &'a [u8]) -> Result<Vec<Op<'a>>, ParseFault>
-    ensures found { IfOk result (λ out. (t : Named) × IsText text.now t × (built out.items ≡ Some (t ∷ []))) }
+    ensures found { IfOk result (λ out. BuildsText text.now out.items) }
     ensures refused { IfErr result (λ e. IsRefused text.now e) }
 {
     let mut opens = Vec::new(alloc);

@@ -2,8 +2,8 @@
 
 ghost use Rattle.std.specs.Prelude.{◌≡◌, ◌+◌, ◌*◌, ◌<◌, ◌≤◌, ◌^◌, ℕ, List, [], ◌∷◌, Option, Some, IsSome, IfOk, OnOk, length, map, max, reverse, All};
 ghost use Rattle.ol_parse.specs.Grammar.{Named};
-ghost use Rattle.ol_parse.specs.Flat.{put, built};
-ghost use Rattle.ol_parse.specs.Depth.{named_depth};
+ghost use Rattle.ol_parse.specs.Flat.{built};
+ghost use Rattle.ol_parse.specs.Depth.{named_depth, CanPut, Deepens};
 
 use crate::flat::Op;
 use std::alloc::{AllocError, Global};
@@ -19,9 +19,9 @@ fn over(a: u64, b: u64) -> u64
 fn deepen(op: Op, done: u64, stack: &mut Vec<u64>) -> Result<(), AllocError>
     requires few { done < 2 ^ 62 }
     requires bounded { All (λ d. d ≤ done) stack.old.items }
-    requires can { (ts : List Named) × (map named_depth ts ≡ reverse stack.old.items) × IsSome (put op ts) }
+    requires can { CanPut op stack.old.items }
     ensures bounded { OnOk result (All (λ d. d ≤ done + 2) stack.new.items) }
-    ensures deep { OnOk result ((ts us : List Named) → map named_depth ts ≡ reverse stack.old.items → put op.entry ts ≡ Some us → map named_depth us ≡ reverse stack.new.items) }
+    ensures deep { OnOk result (Deepens op.entry stack.old.items stack.new.items) }
 {
     match op {
         Op::Push(_) => stack.push(1)?,

@@ -8,8 +8,8 @@ use std::alloc::{AllocError, AllocFailed};
 /// Why a text gives no term.
 #[derive(Clone, Copy, Debug, PartialEq, Eq)]
 pub enum ParseFault {
-    /// The text isn't in the grammar. `at` is the length of its longest prefix that begins some text of
-    /// the grammar.
+    /// The text isn't in the grammar. `at` is the length of its longest prefix that begins some
+    /// text of the grammar.
     Syntax { at: usize },
     /// The text is in the grammar, and its term is deeper than 1,000. `depth` is how deep it is.
     Depth { depth: u64 },

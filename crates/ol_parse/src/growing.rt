@@ -16,7 +16,8 @@ fn take_step<'a>(
     stack: &mut Vec<NamedTerm<'a>>,
 ) -> Result<(), AllocError>
     requires { IsSome (put op (stacked stack.old.items)) }
-    ensures { OnOk result (put op.entry (stacked stack.old.items) ≡ Some (stacked stack.new.items)) }
+    ensures { OnOk result (
+        put op.entry (stacked stack.old.items) ≡ Some (stacked stack.new.items)) }
 {
     match op {
         Op::Push(x) => stack.push(NamedTerm::Name(x))?,

@@ -1,7 +1,7 @@
 //! The parser.
 
 ghost use Rattle.std.specs.Prelude.{◌≡◌, ◌≢◌, ℕ, ◌≤◌, ◌<◌, ◌↔◌, true, length, List, Err, IsOk, IfOk, IfErr};
-ghost use Rattle.ol_term.specs.Trees.{Tree, tree_of, depth, has_name};
+ghost use Rattle.ol_term.specs.Trees.{Tree, tree_of, depth, EachOccurs};
 ghost use Rattle.ol_parse.specs.Texts.{IsRefusedAt};
 ghost use Rattle.ol_parse.specs.Parsed.{AreNames, IsFileOf, IsTooDeep, IsFault};
 
@@ -33,29 +33,32 @@ fn read_file(alloc: Global, text: &[u8]) -> Result<TermFile, ParseFault>
 
 /// Reads one term.
 ///
-/// The tokens are words, the letter λ (two bytes, CE BB) and the signs `\`, `.`, `=`, `(` and `)`. A word is a
-/// letter a to z, A to Z or `_`, and then letters, `_`, digits and `'`. A gap is any number of spaces, tabs,
-/// line feeds, carriage returns and comments. A comment is `#`, then bytes up to a line feed or the end of the
-/// text. A text is a gap, a term and a gap. Between two tokens stands a gap, and between two words it isn't
-/// empty. `let` and `in` are keywords, every other word is a name.
+/// The tokens are words, the letter λ (two bytes, CE BB) and the signs `\`, `.`, `=`, `(` and `)`.
+/// A word is a letter a to z, A to Z or `_`, and then letters, `_`, digits and `'`. A gap is any
+/// number of spaces, tabs, line feeds, carriage returns and comments. A comment is `#`, then bytes
+/// up to a line feed or the end of the text. A text is a gap, a term and a gap. Between two tokens
+/// stands a gap, and between two words it isn't empty. `let` and `in` are keywords, every other
+/// word is a name.
 ///
-/// A term is a body, or a spine, or a spine and a body to which it is applied. A spine is one or more atoms,
-/// applied from the left. An atom is a name, or `(` term `)`. A body is `\` names `.` term, with λ for `\` if
-/// one likes, or `let` name `=` term `in` term, where `let x = t in u` is `(\x. u) t`. Each name is bound by the
-/// innermost abstraction of that name, else it is free. The free names are numbered in order of first
-/// occurrence, the function of an application before its argument.
+/// A term is a body, or a spine, or a spine and a body to which it is applied. A spine is one or
+/// more atoms, applied from the left. An atom is a name, or `(` term `)`. A body is `\` names `.`
+/// term, with λ for `\` if one likes, or `let` name `=` term `in` term, where `let x = t in u` is
+/// `(\x. u) t`. Each name is bound by the innermost abstraction of that name, else it is free. The
+/// free names are numbered in order of first occurrence, the function of an application before its
+/// argument.
 ///
-/// The text has at most 1,073,741,824 bytes. `Syntax` comes exactly where the text isn't in the grammar, with the
-/// length of its longest prefix that begins some text of the grammar, and `Depth` exactly where it is and its term
-/// is deeper than 1,000, with that depth. `NoMemory`: no memory was found. Each name of the file is a name of the
-/// grammar and occurs in its term.
+/// The text has at most 1,073,741,824 bytes. `Syntax` comes exactly where the text isn't in the
+/// grammar, with the length of its longest prefix that begins some text of the grammar, and `Depth`
+/// exactly where it is and its term is deeper than 1,000, with that depth. `NoMemory`: no memory
+/// was found. Each name of the file is a name of the grammar and occurs in its term.
 pub fn parse(alloc: Global, text: &[u8]) -> Result<TermFile, ParseFault>
     requires { length text.now ≤ 1073741824 }
     ensures file { IfOk result (λ file. IsFileOf text.now (tree_of file.term) file.names) }
     ensures shallow { IfOk result (λ file. depth (tree_of file.term) ≤ MOST_DEPTH) }
-    ensures each_name { IfOk result (λ file. (k : ℕ) → k < length file.names → has_name k (tree_of file.term) ≡ true) }
+    ensures each_name { IfOk result (λ file. EachOccurs (length file.names) (tree_of file.term)) }
     ensures names { IfOk result (λ file. AreNames file.names) }
-    ensures taken { result ≢ Err ParseFault.NoMemory → (t : Tree) (names : List (List ℕ)) → IsFileOf text.now t names → depth t ≤ MOST_DEPTH → IsOk result }
+    ensures taken { result ≢ Err ParseFault.NoMemory → (t : Tree) (names : List (List ℕ)) →
+        IsFileOf text.now t names → depth t ≤ MOST_DEPTH → IsOk result }
     ensures syntax { result ≢ Err ParseFault.NoMemory → (at : ℕ) →
         (result ≡ Err (ParseFault.Syntax at)) ↔ IsRefusedAt text.now at }
     ensures too_deep { result ≢ Err ParseFault.NoMemory → (d : ℕ) →

@@ -7,8 +7,8 @@ use ol_term::Term;
 use std::alloc::{AllocError, Global};
 use std::test::Fail;
 
-// A term in preorder: `\` an abstraction, `@` an application, a digit a bound variable, a letter a free name
-// by its number.
+// A term in preorder: `\` an abstraction, `@` an application, a digit a bound variable, a letter a
+// free name by its number.
 fn write(term: &Term, out: &mut Vec<u8>) -> Result<(), AllocError> {
     match term {
         Term::Var(k) if *k < 10 => out.push(b'0' + *k as u8)?,

@@ -1,9 +1,8 @@
 //! The reader over tokens, with a flat row of what is open.
 
-ghost use Rattle.std.specs.Prelude.{◌≡◌, false, ℕ, List, [], ◌∷◌, ◌++◌, Some, IfOk, OnOk, length};
-ghost use Rattle.ol_parse.specs.Grammar.{Named, name, let_key, in_key, lambda, dot, equals, open_bracket, close_bracket};
-ghost use Rattle.ol_parse.specs.Machine.{Frame, State, step, finish};
-ghost use Rattle.ol_parse.specs.Flat.{bare, without, held, around, built, Unwound, Shows, waiting, Ended, Holds, Next, applied_if};
+ghost use Rattle.std.specs.Prelude.{◌≡◌, false, IfOk, OnOk};
+ghost use Rattle.ol_parse.specs.Grammar.{name, let_key, in_key, lambda, dot, equals, open_bracket, close_bracket};
+ghost use Rattle.ol_parse.specs.Flat.{Unwinds, Finishes, Takes, applied_if};
 
 use crate::flat::{Mode, Op, Open};
 use std::alloc::AllocError;
@@ -11,7 +10,7 @@ use std::alloc::AllocError;
 /// Ends what is open, unless it wants a bracket or an `in`.
 fn unwind<'a>(innermost: Open<'a>, out: &mut Vec<Op<'a>>) -> Result<bool, AllocError>
     ensures kept { IfOk result (λ yes. yes ≡ false → out.new.items ≡ out.old.items) }
-    ensures ended { IfOk result (λ yes. (f : Frame) → (u : Named) → (ts : List Named) → bare innermost.entry ≡ without f → built out.old.items ≡ Some (u ∷ held f ++ ts) → Unwound yes out.new.items ts (around f u)) }
+    ensures ended { IfOk result (λ yes. Unwinds innermost.entry out.old.items yes out.new.items) }
 {
     match innermost {
         Open::Applied(false) => Ok(true),
@@ -36,7 +35,8 @@ pub fn finish<'a>(
     opens: &mut Vec<Open<'a>>,
     out: &mut Vec<Op<'a>>,
 ) -> Result<Option<Open<'a>>, AllocError>
-    ensures { IfOk result (λ closer. (u : Named) → (fs : List Frame) → Shows fs opens.old.items → built out.old.items ≡ Some (u ∷ waiting fs) → Ended (finish u fs) closer opens.new.items out.new.items) }
+    ensures { IfOk result (λ closer.
+        Finishes opens.old.items out.old.items closer opens.new.items out.new.items) }
 {
     while let Some(innermost) = opens.pop() {
         if !unwind(innermost, out)? {
@@ -62,7 +62,8 @@ pub fn take_name<'a>(
     opens: &mut Vec<Open<'a>>,
     out: &mut Vec<Op<'a>>,
 ) -> Result<Option<Mode<'a>>, AllocError>
-    ensures { IfOk result (λ next. (p : State) → Holds p mode.entry opens.old.items out.old.items → Next (step p (name word.now)) next opens.new.items out.new.items) }
+    ensures { IfOk result (λ next. Takes (name word.now)
+        mode.entry opens.old.items out.old.items next opens.new.items out.new.items) }
 {
     match mode {
         Mode::Term(spine) => {
@@ -84,7 +85,8 @@ pub fn take_open<'a>(
     opens: &mut Vec<Open<'a>>,
     out: &Vec<Op<'a>>,
 ) -> Result<Option<Mode<'a>>, AllocError>
-    ensures { IfOk result (λ next. (p : State) → Holds p mode.entry opens.old.items out.now.items → Next (step p open_bracket) next opens.new.items out.now.items) }
+    ensures { IfOk result (λ next. Takes open_bracket
+        mode.entry opens.old.items out.now.items next opens.new.items out.now.items) }
 {
     match mode {
         Mode::Term(spine) => {
@@ -100,7 +102,8 @@ pub fn take_lambda<'a>(
     opens: &mut Vec<Open<'a>>,
     out: &Vec<Op<'a>>,
 ) -> Result<Option<Mode<'a>>, AllocError>
-    ensures { IfOk result (λ next. (p : State) → Holds p mode.entry opens.old.items out.now.items → Next (step p lambda) next opens.new.items out.now.items) }
+    ensures { IfOk result (λ next. Takes lambda
+        mode.entry opens.old.items out.now.items next opens.new.items out.now.items) }
 {
     match mode {
         Mode::Term(spine) => {
@@ -116,7 +119,8 @@ pub fn take_let<'a>(
     opens: &mut Vec<Open<'a>>,
     out: &Vec<Op<'a>>,
 ) -> Result<Option<Mode<'a>>, AllocError>
-    ensures { IfOk result (λ next. (p : State) → Holds p mode.entry opens.old.items out.now.items → Next (step p let_key) next opens.new.items out.now.items) }
+    ensures { IfOk result (λ next. Takes let_key
+        mode.entry opens.old.items out.now.items next opens.new.items out.now.items) }
 {
     match mode {
         Mode::Term(spine) => {
@@ -128,7 +132,8 @@ pub fn take_let<'a>(
 }
 
 pub fn take_dot<'a>(mode: Mode<'a>, opens: &Vec<Open<'a>>, out: &Vec<Op<'a>>) -> Option<Mode<'a>>
-    ensures { (p : State) → Holds p mode.entry opens.now.items out.now.items → Next (step p dot) result opens.now.items out.now.items }
+    ensures { Takes dot
+        mode.entry opens.now.items out.now.items result opens.now.items out.now.items }
 {
     match mode {
         Mode::MoreNames => Some(Mode::Term(false)),
@@ -141,7 +146,8 @@ pub fn take_equals<'a>(
     opens: &mut Vec<Open<'a>>,
     out: &Vec<Op<'a>>,
 ) -> Result<Option<Mode<'a>>, AllocError>
-    ensures { IfOk result (λ next. (p : State) → Holds p mode.entry opens.old.items out.now.items → Next (step p equals) next opens.new.items out.now.items) }
+    ensures { IfOk result (λ next. Takes equals
+        mode.entry opens.old.items out.now.items next opens.new.items out.now.items) }
 {
     match mode {
         Mode::LetEquals(word) => {
@@ -157,7 +163,8 @@ pub fn take_close<'a>(
     opens: &mut Vec<Open<'a>>,
     out: &mut Vec<Op<'a>>,
 ) -> Result<Option<Mode<'a>>, AllocError>
-    ensures { IfOk result (λ next. (p : State) → Holds p mode.entry opens.old.items out.old.items → Next (step p close_bracket) next opens.new.items out.new.items) }
+    ensures { IfOk result (λ next. Takes close_bracket
+        mode.entry opens.old.items out.old.items next opens.new.items out.new.items) }
 {
     match mode {
         Mode::Term(true) => match finish(opens, out)? {
@@ -176,7 +183,8 @@ pub fn take_in<'a>(
     opens: &mut Vec<Open<'a>>,
     out: &mut Vec<Op<'a>>,
 ) -> Result<Option<Mode<'a>>, AllocError>
-    ensures { IfOk result (λ next. (p : State) → Holds p mode.entry opens.old.items out.old.items → Next (step p in_key) next opens.new.items out.new.items) }
+    ensures { IfOk result (λ next. Takes in_key
+        mode.entry opens.old.items out.old.items next opens.new.items out.new.items) }
 {
     match mode {
         Mode::Term(true) => match finish(opens, out)? {

@@ -53,8 +53,18 @@ abbrev pub weights : List Todo → ℕ
 weights [] = 0
 weights (x ∷ xs) = weight x + weights xs
 
--- Some text was printed, or a part of it, and the rest is among the items. Less is left to do than before, where the text counts w.
-pub record IsStep (names : List (List ℕ)) (x : List ℕ) (items : List Todo) (text : List ℕ) (w : ℕ) (x' : List ℕ) (items' : List Todo) : Type 0 where
+-- Some text was printed, or a part of it, and the rest is among the items. Less is left to do than before, where the
+-- text counts w.
+pub record IsStep
+    (names : List (List ℕ)) (x : List ℕ) (items : List Todo) (text : List ℕ) (w : ℕ) (x' : List ℕ) (items' : List Todo) : Type 0 where
   pub text_is : x' ++ items_text names items' ≡ x ++ (text ++ items_text names items)
   pub whole : AreItems (length names) items'
   pub less : weights items' < w + weights items
+
+-- a tree was printed, or a part of it, with n binders round it
+abbrev pub PrintsTree : List (List ℕ) → Bool → ℕ → Tree → List ℕ → List Todo → List ℕ → List Todo → Type 0
+PrintsTree names body n t x items x' items' = IsStep names x items (text_of names body n t) (4 * size t) x' items'
+
+-- an item was printed, or a part of it
+abbrev pub Prints : List (List ℕ) → Todo → List ℕ → List Todo → List ℕ → List Todo → Type 0
+Prints names item x items x' items' = IsStep names x items (item_text names item) (weight item) x' items'

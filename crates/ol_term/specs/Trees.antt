@@ -1,5 +1,5 @@
 -- Terms as trees: what a term is, whatever boxes hold it.
-use Rattle.std.specs.Prelude.{ℕ, ◌+◌, Bool, true, false, ◌&&◌, ◌||◌, ◌==◌, nat_lt, max}
+use Rattle.std.specs.Prelude.{◌≡◌, ℕ, ◌+◌, ◌<◌, Bool, true, false, ◌&&◌, ◌||◌, ◌==◌, nat_lt, max}
 use Rattle.ol_term.specs.declared.terms.Term.{Term, Var, Free, Lam', App'}
 
 pub data Tree : Type 0 where
@@ -34,6 +34,10 @@ has_name k (var n) = false
 has_name k (free n) = n == k
 has_name k (lam t) = has_name k t
 has_name k (app f a) = has_name k f || has_name k a
+
+-- each of the first n free names occurs
+abbrev pub EachOccurs : ℕ → Tree → Type 0
+EachOccurs n t = (k : ℕ) → k < n → has_name k t ≡ true
 
 -- how many constructors a tree has
 abbrev pub size : Tree → ℕ

@@ -94,7 +94,8 @@ fn start_of(numbers: &Vec<u64>) -> Result<u64, NoMemory>
     Ok(last + 1)
 }
 
-// The number of the name of a binder with `t` binders round it. `numbers` keeps those of the first binders.
+// The number of the name of a binder with `t` binders round it. `numbers` keeps those of the first
+// binders.
 fn number_of(
     alloc: Global,
     names: &Names,
@@ -117,8 +118,9 @@ fn number_of(
 
 /// The names that binders are printed with, over a list of free names, which none of them is.
 ///
-/// The sequence is a to z, then a1 to z1, a2 to z2 and so on, without the free names. A binder with t
-/// binders round it, on its own branch, has name number t from 0. Contracts see the list of free names.
+/// The sequence is a to z, then a1 to z1, a2 to z2 and so on, without the free names. A binder with
+/// t binders round it, on its own branch, has name number t from 0. Contracts see the list of free
+/// names.
 #[derive(Drop)]
 pub struct BinderNames<'a> {
     alloc: Global,
@@ -146,8 +148,8 @@ impl<'a> BinderNames<'a> {
         }
     }
 
-    /// Adds the name of a binder with `t` binders round it to the text. `NoMemory`: no memory was found; the
-    /// text may then end in a part of the name.
+    /// Adds the name of a binder with `t` binders round it to the text. `NoMemory`: no memory was
+    /// found; the text may then end in a part of the name.
     pub fn put(&mut self, text: &mut Vec<u8>, t: usize) -> Result<(), NoMemory>
         ensures text { OnOk result (text.new.items ≡ text.old.items ++ binder_name self.old t) }
         ensures names { self.new ≡ self.old }

@@ -52,9 +52,9 @@ fn double(alloc: Global, k: u32) -> Result<Vec<u8>, Made>
     Ok(text)
 }
 
-/// A text of the grammar whose term is large and reduces to an identity: `((\x. x x) (\y. y))`, and k
-/// times over that the term so far applied to itself, as `(T T)`; and a line feed. It has
-/// 22 * 2^k - 2 bytes. `TooLarge`: k is above 10. `NoMemory`: no memory was found.
+/// A text of the grammar whose term is large and reduces to an identity: `((\x. x x) (\y. y))`, and
+/// k times over that the term so far applied to itself, as `(T T)`; and a line feed. It has 22 *
+/// 2^k - 2 bytes. `TooLarge`: k is above 10. `NoMemory`: no memory was found.
 pub fn make(alloc: Global, k: u32) -> Result<Vec<u8>, Made>
     ensures made { IfOk result (λ text. text.items ≡ doubled_text k) }
     ensures size { IfOk result (λ text. length text.items + 2 ≡ 22 * 2 ^ k) }

@@ -1,5 +1,5 @@
-//! Terms of the lambda calculus: trees with numbers for variables, the names of their free variables and of
-//! their binders, their sizes and their printed texts.
+//! Terms of the lambda calculus: trees with numbers for variables, the names of their free
+//! variables and of their binders, their sizes and their printed texts.
 #![tactic(auto)]
 
 mod binder_laws;

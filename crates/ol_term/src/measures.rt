@@ -20,9 +20,9 @@ pub fn size(term: &Term) -> u64
     }
 }
 
-/// How many constructors of a term stand one within another: 1 for a variable, one more than the body for
-/// an abstraction, one more than the deeper part for an application. The term has fewer than 2^64
-/// constructors.
+/// How many constructors of a term stand one within another: 1 for a variable, one more than the
+/// body for an abstraction, one more than the deeper part for an application. The term has fewer
+/// than 2^64 constructors.
 pub fn depth(term: &Term) -> u64
     requires few { size (tree_of term.now) < 2 ^ 64 }
     ensures { result ≡ depth (tree_of term.now) }
@@ -39,8 +39,8 @@ pub fn depth(term: &Term) -> u64
     }
 }
 
-/// Whether two terms are one tree: the same but for the names of their binders. Free names are equal where
-/// their numbers are.
+/// Whether two terms are one tree: the same but for the names of their binders. Free names are
+/// equal where their numbers are.
 pub fn alpha_eq(a: &Term, b: &Term) -> bool
     ensures { (result ≡ true) ↔ (tree_of a.now ≡ tree_of b.now) }
 {

@@ -71,8 +71,8 @@ impl Names {
         found_in(&self.index, name)
     }
 
-    /// The number of this name, which goes last where it isn't there yet. There are fewer than 4,294,967,295
-    /// names before. `NoMemory`: no memory was found, and the list is unchanged.
+    /// The number of this name, which goes last where it isn't there yet. There are fewer than
+    /// 4,294,967,295 names before. `NoMemory`: no memory was found, and the list is unchanged.
     pub fn add(&mut self, name: &[u8]) -> Result<u32, NoMemory>
         requires { length self.old < 4294967295 }
         ensures number { IfOk result (λ k. IsFirstPlace self.new name.now k) }
@@ -105,7 +105,8 @@ fn found_in(index: &BTreeMap<Vec<u8>, u32>, name: &[u8]) -> Option<u32>
 }
 
 fn put(index: &mut BTreeMap<Vec<u8>, u32>, key: Vec<u8>, number: u32) -> Result<(), NoMemory>
-    ensures put { OnOk result (index.new.entries ≡ insert_entry by_bytes index.old.entries key number) }
+    ensures put { OnOk result (index.new.entries
+        ≡ insert_entry by_bytes index.old.entries key number) }
     ensures refusal { OnErr result (index.new.entries ≡ index.old.entries) }
 {
     match index.insert(key, number) {

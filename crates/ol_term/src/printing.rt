@@ -4,7 +4,7 @@ ghost use Rattle.std.specs.Prelude.{◌≡◌, ◌+◌, ◌-◌, ◌*◌, ◌<�
 ghost use Rattle.ol_term.specs.Trees.{tree_of, is_below, is_named_below, size, depth};
 ghost use Rattle.ol_term.specs.BinderNames.{binder_name};
 ghost use Rattle.ol_term.specs.Texts.{before_binder, before_body, is_abstraction, is_variable, text_of, text_of_tree};
-ghost use Rattle.ol_term.specs.Printing.{left_bracket, closing, item_text, IsPrintable, IsItem, AreItems, weight, IsStep};
+ghost use Rattle.ol_term.specs.Printing.{left_bracket, closing, IsPrintable, IsItem, AreItems, PrintsTree, Prints};
 
 use crate::binder_names::BinderNames;
 use crate::name_list::Names;
@@ -12,9 +12,9 @@ use crate::terms::Term;
 use ol_io::NoMemory;
 use std::alloc::Global;
 
-/// What is still to be printed: a term with so many binders round it, which is the body of the innermost
-/// one where the flag is true; an argument with so many binders round it, and the space before it; or the
-/// right bracket of a term.
+/// What is still to be printed: a term with so many binders round it, which is the body of the
+/// innermost one where the flag is true; an argument with so many binders round it, and the space
+/// before it; or the right bracket of a term.
 #[derive(Clone, Copy, Drop)]
 pub enum Todo<'a> {
     Term(&'a Term, u32, bool),
@@ -99,7 +99,8 @@ fn print_part<'a>(
     requires binders { binders.old ≡ names.now }
     requires printable { IsPrintable (length names.now) round (tree_of term.now) }
     requires items { AreItems (length names.now) todo.old.items }
-    ensures step { OnOk result (IsStep names.now text.old.items todo.old.items (text_of names.now body round (tree_of term.now)) (4 * size (tree_of term.now)) text.new.items todo.new.items) }
+    ensures step { OnOk result (PrintsTree names.now body round (tree_of term.now)
+        text.old.items todo.old.items text.new.items todo.new.items) }
     ensures binders { binders.new ≡ binders.old }
 {
     match term {
@@ -143,7 +144,8 @@ fn print_next<'a>(
     requires binders { binders.old ≡ names.now }
     requires item { IsItem (length names.now) next }
     requires items { AreItems (length names.now) todo.old.items }
-    ensures step { OnOk result (IsStep names.now text.old.items todo.old.items (item_text names.now next.entry) (weight next.entry) text.new.items todo.new.items) }
+    ensures step { OnOk result (Prints names.now next.entry
+        text.old.items todo.old.items text.new.items todo.new.items) }
     ensures binders { binders.new ≡ binders.old }
 {
     match next {
@@ -160,13 +162,13 @@ fn print_next<'a>(
     }
 }
 
-/// The printed text of a term, as bytes. It is exact for every depth that the number of a binder can count:
-/// what is still to be printed is kept in a list.
+/// The printed text of a term, as bytes. It is exact for every depth that the number of a binder
+/// can count: what is still to be printed is kept in a list.
 ///
-/// Binders are named by `BinderNames`: a binder with t binders round it, on its own branch, has name
-/// number t. Directly nested abstractions are gathered after one `\`, with one space between two
-/// binders, then `.` and a space. An application prints its function, a space and its argument. A
-/// function that is an abstraction stands in brackets, and an argument that is no variable does.
+/// Binders are named by `BinderNames`: a binder with t binders round it, on its own branch, has
+/// name number t. Directly nested abstractions are gathered after one `\`, with one space between
+/// two binders, then `.` and a space. An application prints its function, a space and its argument.
+/// A function that is an abstraction stands in brackets, and an argument that is no variable does.
 ///
 /// Every `Var` of the term is bound, every `Free` is the number of a name, and the depth is at most
 /// 4294967295. `NoMemory`: no memory was found.

@@ -2,8 +2,9 @@
 
 /// A term, with each occurrence by a number (de Bruijn, 1972).
 ///
-/// `Var(k)` is bound by the k-th enclosing abstraction, counted from the innermost as 0. `Free(k)` is the
-/// k-th free name. `Lam(t)` is the abstraction of `t`, and `App(f, a)` is `f` applied to `a`.
+/// `Var(k)` is bound by the k-th enclosing abstraction, counted from the innermost as 0. `Free(k)`
+/// is the k-th free name. `Lam(t)` is the abstraction of `t`, and `App(f, a)` is `f` applied to
+/// `a`.
 #[derive(Drop)]
 pub enum Term {
     Var(u32),
