@@ -17,7 +17,9 @@ use Rattle.ol_words.specs.declared.jobs.UsageFault.{UsageFault}
 use Rattle.ol_words.specs.declared.jobs.UsageFault.TheVariants.{NoMemory, Refused}
 use Rattle.ol_words.specs.Lines.{Text, Line, line_of}
 use Rattle.ol_words.specs.Numbers.{Limits, setting}
-use Rattle.ol_words.specs.Jobs.{Asked, Setting, Verb, options_of, known_of, verb_named, values_of, number_on, numbers, job_on, job_by, job_behind, job_of, is_given_once, is_told_once, is_agreed, agreed_verb}
+use Rattle.ol_words.specs.Jobs.{Asked, Setting, Verb, options_of, known_of, verb_named, values_of, number_on, numbers, job_on, job_behind, job_of}
+use Rattle.ol_words.specs.Once.{is_given_once, is_told_once, is_agreed, agreed_verb}
+use Rattle.ol_words.specs.Found.{job_by}
 use Rattle.ol_words.specs.Command.{app}
 use Rattle.std.proofs.lemmas.Bool.{cases_Bool}
 use Rattle.ol_words.proofs.Passing.{shape_with}

@@ -4,7 +4,8 @@ use Rattle.std.specs.declared.alloc.Global.{Global}
 use Rattle.std.specs.Prelude.{option_and_then}
 use Rattle.std.specs.Option.{option_map_or}
 use Rattle.ol_words.specs.Lines.{Text, Line, line_of}
-use Rattle.ol_words.specs.Jobs.{Verb, agreed_verb, is_agreed, is_told_once, known_of, options_of, texts_of, verb_named}
+use Rattle.ol_words.specs.Jobs.{Verb, known_of, options_of, texts_of, verb_named}
+use Rattle.ol_words.specs.Once.{agreed_verb, is_agreed, is_told_once}
 
 -- the program's name, the verb's word and the rest
 pub parts : (words : List (String Global)) (word : String Global) → 2 ≤ length words → word ≡ get_or words 1 word

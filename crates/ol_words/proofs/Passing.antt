@@ -9,7 +9,8 @@ use Rattle.clap.specs.Lexer.{long_of}
 use Rattle.clap.specs.Walk.{finished, nothing_held, walk_from, long_or_other, Held, Row, Rule, Walk, Step, idle, option, walked, pushed, settled, reacted, used, used_by_id, value, trailing, is_pending, takes_several}
 use Rattle.clap.specs.Simple.{Shape, new_shape, filled}
 use Rattle.clap.specs.Takes.{default_passes, is_given, is_valid, level_passes, bundle_passes, walk_passes, turn_passes, settle_passes, use_passes, other_passes, flag_word_passes, step_passes, long_passes, positional_passes}
-use Rattle.ol_words.specs.Jobs.{values_of, is_given_once, is_told_once}
+use Rattle.ol_words.specs.Jobs.{values_of}
+use Rattle.ol_words.specs.Once.{is_given_once, is_told_once}
 use Rattle.ol_words.specs.Lines.{Text, Line, line_of, line_from, is_dashed, is_end, is_option, option_of, after_option, with_option, with_name}
 use Rattle.ol_words.specs.Command.{option_rule}
 use Rattle.std.proofs.lemmas.Bool.{and_from, and_parts, cases_Bool, or_right}

@@ -1,15 +1,11 @@
 -- The job of a list of words.
-use Rattle.std.specs.Prelude.{ℕ, ◌&&◌, ◌==◌, List, [], ◌∷◌, Option, None, Some, if◌then◌else◌, length, map, codes, nat_lt, nat_eq, Bool, false, filter, find, option_map, option_and_then, String, string_bytes}
+use Rattle.std.specs.Prelude.{ℕ, ◌&&◌, ◌==◌, List, [], ◌∷◌, Option, None, Some, if◌then◌else◌, map, codes, Bool, filter, find, option_map, option_and_then, String, string_bytes}
 use Rattle.std.specs.declared.alloc.Global.{Global}
-use Rattle.std.specs.Option.{option_map_or}
-use Rattle.std.specs.List.{list_all}
 use Rattle.std.specs.Str.{bytes_eq}
-use Rattle.ol_words.specs.Lines.{Text, Line, Known, is_option, line_of}
-use Rattle.ol_words.specs.Numbers.{Limits, number_within, setting, setting_by}
+use Rattle.ol_words.specs.Lines.{Text, Line, Known, line_of}
+use Rattle.ol_words.specs.Numbers.{Limits, number_within, setting}
 use Rattle.ol_words.specs.declared.jobs.Job.{Job}
 use Rattle.ol_words.specs.declared.jobs.Job.TheVariants as job
-use Rattle.ol_words.specs.declared.verbs.Verb.{Verb as RustVerb}
-use Rattle.ol_words.specs.declared.verbs.Verb.TheVariants as verb
 
 -- what is to be done, with the texts as lists of bytes
 pub data Asked : Type 0 where
@@ -58,8 +54,8 @@ runs_setting = record { option = codes "run"; limits = record { least = 0; most 
 abbrev pub doublings : Limits
 doublings = record { least = 0; most = 10; default = 0 }
 
--- A verb: how it is written, the settings that it has, those of their options that are flags, what
--- its names are called, and the job that the numbers of its settings and its names ask for.
+-- A verb: how it is written, the settings that it has, those of their options that are flags, what its names are called,
+-- and the job that the numbers of its settings and its names ask for.
 pub record Verb : Type 0 where
   pub word : Text
   pub settings : List Setting
@@ -150,14 +146,6 @@ verbs = run_verb ∷ walk_verb ∷ view_verb ∷ trace_verb ∷ check_verb ∷ g
 abbrev pub verb_named : Text → Option Verb
 verb_named word = find (λ v. bytes_eq v.word word) verbs
 
-abbrev pub verb_of : RustVerb → Verb
-verb_of verb.Run = run_verb
-verb_of verb.Walk = walk_verb
-verb_of verb.View = view_verb
-verb_of verb.Trace = trace_verb
-verb_of verb.Check = check_verb
-verb_of verb.Gen = gen_verb
-
 abbrev pub options_of : Verb → List Text
 options_of v = map (λ s. s.option) v.settings
 
@@ -168,7 +156,8 @@ known_of v = record { options = options_of v; flags = v.flags }
 
 -- the values that are given to an option
 abbrev pub values_of : Text → List (Text × Text) → List Text
-values_of option options = map (λ (given : Text × Text). given.1) (filter (λ (given : Text × Text). bytes_eq given.0 option) options)
+values_of option options =
+    map (λ (given : Text × Text). given.1) (filter (λ (given : Text × Text). bytes_eq given.0 option) options)
 
 -- the number of a setting on a line
 abbrev pub number_on : Line → Setting → Option ℕ
@@ -193,47 +182,3 @@ job_of _ = None
 
 abbrev pub texts_of : List (String Global) → List Text
 texts_of words = map string_bytes words
-
--- ---- by what is given once
-
-abbrev pub is_given_once : Line → Text → Bool
-is_given_once line option = nat_lt (length (values_of option line.options)) 2
-
--- each option is given once at most, and there are so many names
-abbrev pub is_told_once : List Text → ℕ → Line → Bool
-is_told_once options names line =
-    list_all (is_given_once line) options && nat_eq (length line.names) names
-
-abbrev pub is_agreed : Verb → List Text → Bool
-is_agreed v rest =
-    option_map_or (is_told_once (options_of v) (length v.names)) (line_of (known_of v) rest) false
-
--- the verb of words that are left to clap: all words that have a job, and of the others those with a
--- bad number and those that name standard input twice
-abbrev pub agreed_verb : List Text → Option Verb
-agreed_verb (program ∷ word ∷ rest) =
-    option_and_then (λ v. if is_agreed v rest then Some v else None) (verb_named word)
-agreed_verb _ = None
-
--- clap gives a flag the value `true` where it is written out
-abbrev pub flag_by : Option Text → ℕ
-flag_by None = 0
-flag_by (Some value) = if bytes_eq value (codes "true") then 1 else 0
-
-abbrev pub number_by : List Text → (Text → Option Text) → Setting → Option ℕ
-number_by flags given s = if is_option flags s.option then Some (flag_by (given s.option))
-    else setting_by s.limits (given s.option)
-
--- a name before others, if there is one
-abbrev pub name_before : Option Text → List Text → List Text
-name_before None names = names
-name_before (Some name) names = name ∷ names
-
-abbrev pub names_by : (Text → Option Text) → List Text → List Text
-names_by given [] = []
-names_by given (id ∷ ids) = name_before (given id) (names_by given ids)
-
--- the job of a verb by what is given to each id
-abbrev pub job_by : Verb → (Text → Option Text) → Option Asked
-job_by v given = option_and_then (λ ns. v.asks ns (names_by given v.names))
-    (numbers (number_by v.flags given) v.settings)

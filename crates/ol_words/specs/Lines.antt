@@ -1,15 +1,10 @@
 -- What the words after the command say: options with their values, and names.
-use Rattle.std.specs.Prelude.{ℕ, Bool, false, not, ◌==◌, ◌&&◌, List, [], ◌∷◌, Option, None, Some, if◌then◌else◌, length, nat_lt, codes, map, option_map, option_and_then}
-use Rattle.std.specs.Borrow.{Bor}
+use Rattle.std.specs.Prelude.{ℕ, Bool, false, not, ◌==◌, ◌&&◌, List, [], ◌∷◌, Option, None, Some, if◌then◌else◌, length, nat_lt, codes, option_map, option_and_then}
 use Rattle.std.specs.List.{before_first, after_first, list_any, position_or_len}
 use Rattle.std.specs.Str.{bytes_eq}
 
 abbrev pub Text : Type 0
 Text = List ℕ
-
--- the texts behind references
-abbrev pub texts : List (Bor Text) → List Text
-texts references = map (λ reference. reference.now) references
 
 -- the text begins with `-` and isn't `-` alone: it is no name and no value
 abbrev pub is_dashed : Text → Bool
@@ -39,9 +34,6 @@ value_in text = if nat_lt (position_or_len is_equals text) (length text) then So
 pub record Known : Type 0 where
   pub options : List Text
   pub flags : List Text
-
-abbrev pub known_by : List (Bor Text) → List (Bor Text) → Known
-known_by options flags = record { options = texts options; flags = texts flags }
 
 -- a flag stands alone, and has the value 1 where it is written out
 abbrev pub flag_alone : Text → Option Text → Option (Text × Option Text)

@@ -2,7 +2,6 @@
 use Rattle.std.specs.Prelude.{ℕ, ◌+◌, ◌*◌, ◌-◌, ◌&&◌, List, [], ◌∷◌, Option, None, Some, if◌then◌else◌, length, nat_le, Bool}
 use Rattle.std.specs.Str.{all_ascii_digits}
 use Rattle.ol_words.specs.Lines.{Text}
-use Rattle.ol_words.specs.declared.numbers.Limits.{Limits as RustLimits}
 
 -- 1 to 8 ASCII digits
 abbrev pub is_number : Text → Bool
@@ -23,9 +22,6 @@ pub record Limits : Type 0 where
   pub most : ℕ
   pub default : ℕ
 
-abbrev pub limits_of : RustLimits → Limits
-limits_of l = record { least = l.least; most = l.most; default = l.default }
-
 -- the number that a text gives within the limits
 abbrev pub number_within : Limits → Text → Option ℕ
 number_within limits text = if is_number text && (nat_le limits.least (number_of text) && nat_le (number_of text) limits.most)
@@ -36,8 +32,3 @@ abbrev pub setting : Limits → List Text → Option ℕ
 setting limits [] = Some limits.default
 setting limits (value ∷ []) = number_within limits value
 setting limits (value ∷ again ∷ more) = None
-
--- a setting by its value, if it has one
-abbrev pub setting_by : Limits → Option Text → Option ℕ
-setting_by limits None = Some limits.default
-setting_by limits (Some value) = number_within limits value

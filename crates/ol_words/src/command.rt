@@ -4,8 +4,10 @@ ghost use Rattle.std.specs.Prelude.{◌≡◌, false, true, if◌then◌else◌,
 ghost use Rattle.clap.specs.Words.{app_of, kind_of, rule_of, subcommand_of, subcommand_rows_of, takes};
 ghost use Rattle.clap.specs.declared.builder.command.Command.TheViews.{out-Command};
 ghost use Rattle.ol_words.specs.Command.{app, flag_rule, name_rule, option_rule, sub_app};
-ghost use Rattle.ol_words.specs.Jobs.{texts_of, verb_of};
-ghost use Rattle.ol_words.specs.Lines.{is_option, texts};
+ghost use Rattle.ol_words.specs.Jobs.{texts_of};
+ghost use Rattle.ol_words.specs.Views.{verb_of};
+ghost use Rattle.ol_words.specs.Lines.{is_option};
+ghost use Rattle.ol_words.specs.Views.{texts};
 
 use crate::lines::is_option;
 use crate::verbs::Verb;
@@ -13,10 +15,13 @@ use clap::error::ErrorKind;
 use clap::{Arg, ArgAction, ArgMatches, Command, Error};
 use std::alloc::{AllocError, Global};
 
-/// What clap finds in the words of a command line. Words that clap takes fail only for want of memory.
+/// What clap finds in the words of a command line. Words that clap takes fail only for want of
+/// memory.
 pub(crate) fn matches_of<'a>(alloc: Global, words: &'a Vec<String>) -> Result<ArgMatches<'a>, Error>
-    ensures rows { IfOk result (λ m. subcommand_rows_of m ≡ subcommand_of app (texts_of words.now.items)) }
-    ensures taken { IfErr result (λ e. takes app (texts_of words.now.items) ≡ true → kind_of e ≡ ErrorKind.OutOfMemory) }
+    ensures rows { IfOk result (λ m.
+        subcommand_rows_of m ≡ subcommand_of app (texts_of words.now.items)) }
+    ensures taken { IfErr result (λ e.
+        takes app (texts_of words.now.items) ≡ true → kind_of e ≡ ErrorKind.OutOfMemory) }
 {
     let command = command(alloc)?;
     command.try_get_matches_from(words.as_slice())

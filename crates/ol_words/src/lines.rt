@@ -2,9 +2,10 @@
 
 ghost use Rattle.std.specs.Prelude.{◌≡◌, ◌++◌, ◌∷◌, [], Some, None, IfOk, MatchOption, option_map, length, map, true, false, if◌then◌else◌};
 ghost use Rattle.ol_words.specs.Lines.{Line, line_of, is_dashed, is_end, option_of, after_hyphens, name_and_value, flag_alone, value_in, is_equals, is_option};
-ghost use Rattle.ol_words.specs.Lines.{known_by, texts};
+ghost use Rattle.ol_words.specs.Views.{known_by, texts};
 ghost use Rattle.std.specs.List.{position_or_len};
-ghost use Rattle.ol_words.specs.Jobs.{texts_of, values_of, is_given_once, is_told_once};
+ghost use Rattle.ol_words.specs.Jobs.{texts_of, values_of};
+ghost use Rattle.ol_words.specs.Once.{is_given_once, is_told_once};
 
 use std::alloc::{AllocError, Global};
 use std::marker::Model;
@@ -118,7 +119,8 @@ fn option_of<'a>(
 
 // The words as texts, each behind those that are there.
 fn push_all<'a>(names: &mut Vec<&'a str>, words: &'a [String]) -> Result<(), AllocError>
-    ensures { IfOk result (λ _. map (λ n. n.now) names.new.items ≡ map (λ n. n.now) names.old.items ++ texts_of words.now) }
+    ensures { IfOk result (λ _.
+        texts names.new.items ≡ texts names.old.items ++ texts_of words.now) }
 {
     for word in words {
         names.push(word.as_str())?;
@@ -126,8 +128,8 @@ fn push_all<'a>(names: &mut Vec<&'a str>, words: &'a [String]) -> Result<(), All
     Ok(())
 }
 
-/// What the words behind a verb with these options, some of which are flags, say, or None where they
-/// aren't read.
+/// What the words behind a verb with these options, some of which are flags, say, or None where
+/// they aren't read.
 pub(crate) fn line_of<'a>(
     alloc: Global,
     known: &[&str],

@@ -1,7 +1,9 @@
 //! The numbers of a command line.
 
 ghost use Rattle.std.specs.Prelude.{◌≡◌, option_map, Some, None, if◌then◌else◌};
-ghost use Rattle.ol_words.specs.Numbers.{limits_of, number_of, number_within, is_number, setting_by};
+ghost use Rattle.ol_words.specs.Numbers.{number_of, number_within, is_number};
+ghost use Rattle.ol_words.specs.Views.{limits_of};
+ghost use Rattle.ol_words.specs.Found.{setting_by};
 
 /// What a setting may be, and what it is where it isn't given.
 #[derive(Clone, Copy)]

@@ -1,8 +1,10 @@
 //! The job of a list of words.
 
 ghost use Rattle.std.specs.Prelude.{◌≡◌, ◌==◌, IfOk, Err, Some, None, option_map, option_and_then};
-ghost use Rattle.clap.specs.Words.{first_value, found_of};
-ghost use Rattle.ol_words.specs.Jobs.{agreed_verb, asked_by, flag_by, job_by, job_of, texts_of, verb_of};
+ghost use Rattle.ol_words.specs.Jobs.{asked_by, job_of, texts_of};
+ghost use Rattle.ol_words.specs.Views.{verb_of};
+ghost use Rattle.ol_words.specs.Once.{agreed_verb};
+ghost use Rattle.ol_words.specs.Found.{flag_by, job_found};
 ghost use Rattle.ol_words.specs.Jobs.{check_verb, gen_verb, run_verb, trace_verb, view_verb, walk_verb};
 
 use crate::command::matches_of;
@@ -18,18 +20,18 @@ use std::alloc::{AllocError, Global};
 /// order.
 ///
 /// `run` has the options `--workers`, `--fuel` and `--heads`, `walk` has `--edges` and `--heads`,
-/// `view` has `--after`, `trace` has `--workers` and `--fuel`, and `gen` has `--run`, which takes no
-/// value; `check` has none. `run`, `walk`, `view` and `trace` take the name of one file, `check` those
-/// of two, which aren't both `-`, and `gen` takes one number in a name's place.
+/// `view` has `--after`, `trace` has `--workers` and `--fuel`, and `gen` has `--run`, which takes
+/// no value; `check` has none. `run`, `walk`, `view` and `trace` take the name of one file, `check`
+/// those of two, which aren't both `-`, and `gen` takes one number in a name's place.
 ///
 /// An option is written out whole, as `--name value` or `--name=value`, and comes at most once. A
-/// number is 1 to 8 ASCII digits within the range that `Job` gives. By themselves there are 4 workers,
-/// a fuel of 200,000, 4,096 heads and 100,000 edges, and a net is viewed after no interaction. The
-/// word `--` ends the options; before it a word that begins with `-`, and isn't `-` alone, is no name
-/// and no value.
+/// number is 1 to 8 ASCII digits within the range that `Job` gives. By themselves there are 4
+/// workers, a fuel of 200,000, 4,096 heads and 100,000 edges, and a net is viewed after no
+/// interaction. The word `--` ends the options; before it a word that begins with `-`, and isn't
+/// `-` alone, is no name and no value.
 ///
-/// `Refused` comes exactly where the words have no job by these rules. `NoMemory` comes where memory
-/// runs out.
+/// `Refused` comes exactly where the words have no job by these rules. `NoMemory` comes where
+/// memory runs out.
 pub fn job(alloc: Global, words: &Vec<String>) -> Result<Job, UsageFault>
     // The job is that of the words.
     ensures job { IfOk result (λ job. job_of (texts_of words.now.items) ≡ Some (asked_by job)) }
@@ -51,7 +53,8 @@ pub fn job(alloc: Global, words: &Vec<String>) -> Result<Job, UsageFault>
 // The verb of words that give each of its options once at most and as many names as it has, or None
 // where they don't.
 fn agreed_verb(alloc: Global, words: &Vec<String>) -> Result<Option<Verb>, AllocError>
-    ensures { IfOk result (λ verb. option_map verb_of verb ≡ agreed_verb (texts_of words.now.items)) }
+    ensures { IfOk result (λ verb.
+        option_map verb_of verb ≡ agreed_verb (texts_of words.now.items)) }
 {
     let [_, word, rest @ ..] = words.as_slice() else {
         return Ok(None);
@@ -70,8 +73,8 @@ fn agreed_verb(alloc: Global, words: &Vec<String>) -> Result<Option<Verb>, Alloc
 
 // The job by what was given behind a verb.
 fn job_by(alloc: Global, verb: Verb, found: &ArgMatches) -> Result<Job, UsageFault>
-    ensures job { IfOk result (λ job. job_by (verb_of verb) (λ id. first_value (found_of found.now) id) ≡ Some (asked_by job)) }
-    ensures refused { result ≡ Err UsageFault.Refused → job_by (verb_of verb) (λ id. first_value (found_of found.now) id) ≡ None }
+    ensures job { IfOk result (λ job. job_found (verb_of verb) found.now ≡ Some (asked_by job)) }
+    ensures refused { result ≡ Err UsageFault.Refused → job_found (verb_of verb) found.now ≡ None }
 {
     match verb {
         Verb::Run => run_by(alloc, found),
@@ -85,8 +88,8 @@ fn job_by(alloc: Global, verb: Verb, found: &ArgMatches) -> Result<Job, UsageFau
 
 // The job by what was given behind `run`.
 fn run_by(alloc: Global, found: &ArgMatches) -> Result<Job, UsageFault>
-    ensures job { IfOk result (λ job. job_by run_verb (λ id. first_value (found_of found.now) id) ≡ Some (asked_by job)) }
-    ensures refused { result ≡ Err UsageFault.Refused → job_by run_verb (λ id. first_value (found_of found.now) id) ≡ None }
+    ensures job { IfOk result (λ job. job_found run_verb found.now ≡ Some (asked_by job)) }
+    ensures refused { result ≡ Err UsageFault.Refused → job_found run_verb found.now ≡ None }
 {
     let Some(workers) = setting_by(found.get_str("workers"), WORKERS) else {
         return Err(UsageFault::Refused);
@@ -111,8 +114,8 @@ fn run_by(alloc: Global, found: &ArgMatches) -> Result<Job, UsageFault>
 
 // The job by what was given behind `walk`.
 fn walk_by(alloc: Global, found: &ArgMatches) -> Result<Job, UsageFault>
-    ensures job { IfOk result (λ job. job_by walk_verb (λ id. first_value (found_of found.now) id) ≡ Some (asked_by job)) }
-    ensures refused { result ≡ Err UsageFault.Refused → job_by walk_verb (λ id. first_value (found_of found.now) id) ≡ None }
+    ensures job { IfOk result (λ job. job_found walk_verb found.now ≡ Some (asked_by job)) }
+    ensures refused { result ≡ Err UsageFault.Refused → job_found walk_verb found.now ≡ None }
 {
     let Some(edges) = setting_by(found.get_str("edges"), EDGES) else {
         return Err(UsageFault::Refused);
@@ -133,10 +136,8 @@ fn walk_by(alloc: Global, found: &ArgMatches) -> Result<Job, UsageFault>
 
 // The job by what was given behind `view`.
 fn view_by(alloc: Global, found: &ArgMatches) -> Result<Job, UsageFault>
-    ensures job { IfOk result (λ job.
-        job_by view_verb (λ id. first_value (found_of found.now) id) ≡ Some (asked_by job)) }
-    ensures refused { result ≡ Err UsageFault.Refused
-        → job_by view_verb (λ id. first_value (found_of found.now) id) ≡ None }
+    ensures job { IfOk result (λ job. job_found view_verb found.now ≡ Some (asked_by job)) }
+    ensures refused { result ≡ Err UsageFault.Refused → job_found view_verb found.now ≡ None }
 {
     let Some(after) = setting_by(found.get_str("after"), AFTER) else {
         return Err(UsageFault::Refused);
@@ -150,10 +151,8 @@ fn view_by(alloc: Global, found: &ArgMatches) -> Result<Job, UsageFault>
 
 // The job by what was given behind `trace`.
 fn trace_by(alloc: Global, found: &ArgMatches) -> Result<Job, UsageFault>
-    ensures job { IfOk result (λ job.
-        job_by trace_verb (λ id. first_value (found_of found.now) id) ≡ Some (asked_by job)) }
-    ensures refused { result ≡ Err UsageFault.Refused
-        → job_by trace_verb (λ id. first_value (found_of found.now) id) ≡ None }
+    ensures job { IfOk result (λ job. job_found trace_verb found.now ≡ Some (asked_by job)) }
+    ensures refused { result ≡ Err UsageFault.Refused → job_found trace_verb found.now ≡ None }
 {
     let Some(workers) = setting_by(found.get_str("workers"), WORKERS) else {
         return Err(UsageFault::Refused);
@@ -174,10 +173,8 @@ fn trace_by(alloc: Global, found: &ArgMatches) -> Result<Job, UsageFault>
 
 // The job by what was given behind `check`.
 fn check_by(alloc: Global, found: &ArgMatches) -> Result<Job, UsageFault>
-    ensures job { IfOk result (λ job.
-        job_by check_verb (λ id. first_value (found_of found.now) id) ≡ Some (asked_by job)) }
-    ensures refused { result ≡ Err UsageFault.Refused
-        → job_by check_verb (λ id. first_value (found_of found.now) id) ≡ None }
+    ensures job { IfOk result (λ job. job_found check_verb found.now ≡ Some (asked_by job)) }
+    ensures refused { result ≡ Err UsageFault.Refused → job_found check_verb found.now ≡ None }
 {
     let Some(term) = found.get_str("term") else {
         return Err(UsageFault::Refused);
@@ -195,10 +192,8 @@ fn check_by(alloc: Global, found: &ArgMatches) -> Result<Job, UsageFault>
 
 // The job by what was given behind `gen`.
 fn gen_by(found: &ArgMatches) -> Result<Job, UsageFault>
-    ensures job { IfOk result (λ job.
-        job_by gen_verb (λ id. first_value (found_of found.now) id) ≡ Some (asked_by job)) }
-    ensures refused { result ≡ Err UsageFault.Refused
-        → job_by gen_verb (λ id. first_value (found_of found.now) id) ≡ None }
+    ensures job { IfOk result (λ job. job_found gen_verb found.now ≡ Some (asked_by job)) }
+    ensures refused { result ≡ Err UsageFault.Refused → job_found gen_verb found.now ≡ None }
 {
     let Some(number) = found.get_str("number") else {
         return Err(UsageFault::Refused);

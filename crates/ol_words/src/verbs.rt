@@ -1,8 +1,9 @@
 //! The verbs of a command line, and what each has: options, flags and names.
 
 ghost use Rattle.std.specs.Prelude.{◌≡◌, option_map};
-ghost use Rattle.ol_words.specs.Jobs.{options_of, verb_named, verb_of};
-ghost use Rattle.ol_words.specs.Lines.{texts};
+ghost use Rattle.ol_words.specs.Jobs.{options_of, verb_named};
+ghost use Rattle.ol_words.specs.Views.{verb_of};
+ghost use Rattle.ol_words.specs.Views.{texts};
 
 static RUN_OPTIONS: [&str; 3] = ["workers", "fuel", "heads"];
 

@@ -3,8 +3,10 @@ use Rattle.std.specs.Borrow.{Bor}
 use Rattle.std.proofs.lemmas.List.{take_all}
 use Rattle.clap.specs.Words.{App, new_app, with_rule}
 use Rattle.ol_words.specs.Command.{flag_rule, option_rule, with_name_rule, with_option_rule}
-use Rattle.ol_words.specs.Jobs.{options_of, verb_of}
-use Rattle.ol_words.specs.Lines.{Text, is_option, texts}
+use Rattle.ol_words.specs.Jobs.{options_of}
+use Rattle.ol_words.specs.Views.{verb_of}
+use Rattle.ol_words.specs.Lines.{Text, is_option}
+use Rattle.ol_words.specs.Views.{texts}
 use Rattle.ol_words.proofs.Folds.{fold_more}
 use Rattle.ol_words.proofs.command.subcommand.Goals as goal
 

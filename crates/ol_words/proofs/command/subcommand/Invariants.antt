@@ -2,8 +2,9 @@ use Rattle.std.proofs.Common.{◌≡◌, take, fold, false}
 use Rattle.clap.specs.Words.{app_of, new_app}
 use Rattle.clap.specs.declared.builder.command.Command.TheViews.{out-Command}
 use Rattle.ol_words.specs.Command.{with_name_rule, with_option_rule}
-use Rattle.ol_words.specs.Jobs.{options_of, verb_of}
-use Rattle.ol_words.specs.Lines.{texts}
+use Rattle.ol_words.specs.Jobs.{options_of}
+use Rattle.ol_words.specs.Views.{verb_of}
+use Rattle.ol_words.specs.Views.{texts}
 use Rattle.ol_words.proofs.command.subcommand.Given as goal
 
 -- the options so far

@@ -1,7 +1,9 @@
 use Rattle.std.proofs.Common.{◌≡◌, ◌∙◌, ap, sym, option_map, rules, None, Some}
 use Rattle.std.proofs.lemmas.Result.{IfOk-weaker}
 use Rattle.clap.specs.Words.{found_of, rows_of, subcommand_rows_of}
-use Rattle.ol_words.specs.Jobs.{agreed_verb, texts_of, verb_of}
+use Rattle.ol_words.specs.Jobs.{texts_of}
+use Rattle.ol_words.specs.Views.{verb_of}
+use Rattle.ol_words.specs.Once.{agreed_verb}
 use Rattle.ol_words.proofs.Agreed.{by_values, job_found, none_found, not_agreed, not_refused}
 use Rattle.ol_words.proofs.reading.job.Goals as goal
 
