@@ -270,7 +270,7 @@ pub nodes_from-live : (n : ℕ) (ks : List (Kind × ℕ)) → nodes_from n (all_
 nodes_from-live n [] = refl
 nodes_from-live n (k ∷ ks) = ap (λ w. (n, k.0, k.1) ∷ w) (nodes_from-live (suc n) ks)
 
-abbrev numbered_link : Port × Port → NamedPort ℕ × NamedPort ℕ
+abbrev pub numbered_link : Port × Port → NamedPort ℕ × NamedPort ℕ
 numbered_link l = (numbered_port l.0, numbered_port l.1)
 
 link_in : (links : List (Port × Port)) (p q : NamedPort ℕ) → IsIn (p, q) (map numbered_link links) →

@@ -9,7 +9,8 @@ use Rattle.ol_net.specs.declared.parts.Kind.TheVariants as kind
 use Rattle.ol_translate.specs.Translation.{Part, part_of, abstraction, application, outside, erasers, bound_port, bracket_nodes, bracket_links, bracketed, fans, fan_nodes, fan_links, merged, wire_of, rewired, slot, name_links, nodes_of, links_of}
 use Rattle.ol_translate.proofs.Counts.{times}
 use Rattle.ol_translate.specs.Names.{HasNames}
-use Rattle.ol_translate.proofs.Joints.{none_past, name_has_wire, length-bracket_nodes}
+use Rattle.ol_translate.proofs.Joints.{none_past, name_has_wire}
+use Rattle.ol_translate.proofs.Walks.{length-bracket_nodes}
 
 -- the wires of the variables below d
 total : ℕ → List (ℕ × Port) → ℕ

@@ -147,7 +147,3 @@ same_translation t names free nodes links N f n l same =
     let M : List (Kind × ℕ) → Type 0 = λ m. SameNet N (net_of_parts (1 + names) m links) in
     let L : List (Port × Port) → Type 0 = λ m. SameNet N (net_of_parts (1 + names) (nodes_of t) m) in
     subst L l (subst M n (subst F f same))
-
-pub length-all_live : (nodes : List (Kind × ℕ)) → length (all_live nodes) ≡ length nodes
-length-all_live [] = refl
-length-all_live (node ∷ nodes) = ap suc (length-all_live nodes)

@@ -1,5 +1,6 @@
 -- Each port of a translated term stands in one link.
 use Rattle.std.proofs.Common.{◌≡◌, ℕ, zero, suc, ◌≤◌, ◌+◌, ◌-◌, List, [], ◌∷◌, ◌++◌, length, true, false, Bool, nat_eq, nat_lt, Option, None, Some, refl, ap, ◌∙◌, arith, subst, length-append, zero-add, ne_eqb, ◌&&◌, eq-eqb, if◌then◌else◌}
+use Rattle.std.proofs.lemmas.Bool.{and_parts}
 use Rattle.std.proofs.lemmas.Bool.Decides.{nat_tests}
 use Rattle.ol_term.specs.Trees.{Tree, var, free, lam, app, is_below, is_named_below}
 use Rattle.ol_net.specs.declared.parts.Kind.{Kind}
@@ -9,6 +10,7 @@ use Rattle.ol_net.specs.declared.parts.Port.TheVariants.{Free}
 use Rattle.ol_translate.specs.Translation.{Part, part_of, abstraction, application, outside, erasers, bound_port, bracket_nodes, bracket_links, bracketed, fans, fan_nodes, fan_links, merged, wire_of, rewired, slot, name_links, nodes_of, links_of}
 use Rattle.ol_term.specs.Trees.{has_name}
 use Rattle.ol_translate.proofs.Counts.{hit, uses, held, free_ends, slots, times}
+use Rattle.ol_translate.proofs.Walks.{length-bracket_nodes}
 
 uses-append : (p : Port) (xs ys : List (Port × Port)) → uses p (xs ++ ys) ≡ uses p xs + uses p ys
 uses-append p [] ys = omega arith
@@ -25,10 +27,6 @@ times-append v (x ∷ xs) ys = omega (arith, times-append v xs ys)
 slots-append : (p : Port) (k j : ℕ) (xs ys : List (Kind × ℕ)) → j ≡ k + length xs → slots p k (xs ++ ys) ≡ slots p k xs + slots p j ys
 slots-append p k j [] ys e = let same : j ≡ k = omega arith in rw same (omega arith)
 slots-append p k j (x ∷ xs) ys e = let rest = slots-append p (k + 1) j xs ys (omega arith) in omega (arith, rest)
-
-pub and_parts : (a b : Bool) → a && b ≡ true → (a ≡ true) × (b ≡ true)
-and_parts true b h = (refl, h)
-and_parts false b h = absurd (cc)
 
 suc_is_0 : (v : ℕ) → nat_eq (suc v) 0 ≡ false
 suc_is_0 v = ne_eqb (suc v) 0 (λ e. omega arith)
@@ -134,13 +132,6 @@ times-fans v n f wires [] few = few v
 times-fans v n f wires (w ∷ more) few =
     times-fans v n (f + length (fan_nodes n (wire_of w.0 wires))) (merged f (wire_of w.0 wires) w wires) more
     (λ u. times-merged u f w wires (wire_of w.0 wires) refl few)
-
-pub length-bracket_nodes : (n : ℕ) (wires : List (ℕ × Port)) → length (bracket_nodes n wires) ≡ length wires
-length-bracket_nodes n [] = refl
-length-bracket_nodes n (w ∷ wires) = ap suc (length-bracket_nodes n wires)
-
-held-bracketed-times : (v b : ℕ) (wires : List (ℕ × Port)) → times v (bracketed b wires) ≡ times v wires
-held-bracketed-times v b wires = times-bracketed v b wires
 
 -- ---- the balance of a part
 

@@ -8,7 +8,8 @@ use Rattle.ol_net.specs.declared.parts.Port.{Port}
 use Rattle.ol_translate.specs.Translation.{Part, Wires, part_of, application, outside, erasers, bracket_nodes, bracketed, fans, fan_nodes, merged, wire_of, rewired, slot, nodes_of}
 use Rattle.ol_translate.specs.Sizes.{is_among, variables, size_under, size_of_translation}
 use Rattle.ol_translate.proofs.Counts.{times}
-use Rattle.ol_translate.proofs.Joints.{few_wires, length-bracket_nodes, times-bracketed}
+use Rattle.ol_translate.proofs.Joints.{few_wires, times-bracketed}
+use Rattle.ol_translate.proofs.Walks.{length-bracket_nodes}
 
 -- the variables of wires
 abbrev pub keys : Wires → List ℕ

@@ -1,12 +1,13 @@
 -- What is laid down so far, and what is left.
 use Rattle.std.proofs.Common.{◌≡◌, ℕ, zero, suc, ◌<◌, ◌≤◌, ◌+◌, List, [], ◌∷◌, ◌++◌, length, drop, take, get_or, set, true, false, nat_eq, Some, refl, ap, arith, subst, length-append, length-drop, drop-cons}
+use Rattle.std.proofs.lemmas.List.{length-map}
 use Rattle.ol_net.specs.declared.parts.Kind.{Kind}
+use Rattle.ol_net.specs.declared.parts.Kind.TheVariants as kind
 use Rattle.ol_net.specs.declared.parts.Port.{Port}
 use Rattle.ol_translate.specs.Translation.{bracket_nodes, fans, fan_nodes, wire_of, rewired}
 
-length-bracket_nodes : (n : ℕ) (wires : List (ℕ × Port)) → length (bracket_nodes n wires) ≡ length wires
-length-bracket_nodes n [] = refl
-length-bracket_nodes n (w ∷ wires) = ap suc (length-bracket_nodes n wires)
+pub length-bracket_nodes : (n : ℕ) (wires : List (ℕ × Port)) → length (bracket_nodes n wires) ≡ length wires
+length-bracket_nodes n wires = length-map wires (λ (w : ℕ × Port). (kind.Bracket, n))
 
 -- a wire that is left lays a bracket
 pub brackets_left : (nodes nodes0 : List (Kind × ℕ)) (n i : ℕ) (wires : List (ℕ × Port)) → i < length wires

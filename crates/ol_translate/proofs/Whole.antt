@@ -11,6 +11,7 @@ use Rattle.ol_net.specs.Graph.{Graph, kind_at, has_slot, has_port}
 use Rattle.ol_net.specs.Build.{all_live}
 use Rattle.ol_net.specs.Nets.{NamedPort, free, slot, NamedNet, Linked, IsPort, IsNet}
 use Rattle.ol_net.specs.Numbered.{numbered_port, nodes_from, numbered_from, net_of_parts}
+use Rattle.ol_net.proofs.Building.{numbered_link, nodes_from-live}
 use Rattle.ol_net.proofs.Numbered.{has_node}
 use Rattle.ol_translate.specs.Translation.{nodes_of, links_of, translation_of}
 use Rattle.ol_translate.specs.Names.{HasNames}
@@ -118,10 +119,7 @@ port_there (slot x s) = refl
 port_apart : (p q : NamedPort ℕ) → port_of p ≡ port_of q → p ≡ q
 port_apart p q e = sym (port_there p) ∙ ap numbered_port e ∙ port_there q
 
-abbrev numbered_links : List (Port × Port) → List (NamedPort ℕ × NamedPort ℕ)
-numbered_links links = map (λ (l : Port × Port). (numbered_port l.0, numbered_port l.1)) links
-
-links_back : (links : List (Port × Port)) (p q : NamedPort ℕ) → IsIn (p, q) (numbered_links links) → IsIn (port_of p, port_of q) links
+links_back : (links : List (Port × Port)) (p q : NamedPort ℕ) → IsIn (p, q) (map numbered_link links) → IsIn (port_of p, port_of q) links
 links_back [] p q h = absurd h
 links_back (l ∷ links) p q (inl e) =
     let a = ap (λ (w : NamedPort ℕ × NamedPort ℕ). port_of w.0) e ∙ port_back l.0 in
@@ -129,34 +127,30 @@ links_back (l ∷ links) p q (inl e) =
     inl (ap (λ p. (p, port_of q)) a ∙ ap (λ q. (l.0, q)) b)
 links_back (l ∷ links) p q (inr h) = inr (links_back links p q h)
 
-links_there : (links : List (Port × Port)) (p q : Port) → IsIn (p, q) links → IsIn (numbered_port p, numbered_port q) (numbered_links links)
+links_there : (links : List (Port × Port)) (p q : Port) → IsIn (p, q) links → IsIn (numbered_port p, numbered_port q) (map numbered_link links)
 links_there [] p q h = absurd h
-links_there (l ∷ links) p q (inl e) = inl (ap (λ (w : Port × Port). (numbered_port w.0, numbered_port w.1)) e)
+links_there (l ∷ links) p q (inl e) = inl (ap numbered_link e)
 links_there (l ∷ links) p q (inr h) = inr (links_there links p q h)
 
-near_back : (links : List (Port × Port)) (p q : NamedPort ℕ) → Near (numbered_links links) p q → Near links (port_of p) (port_of q)
+near_back : (links : List (Port × Port)) (p q : NamedPort ℕ) → Near (map numbered_link links) p q → Near links (port_of p) (port_of q)
 near_back links p q (inl h) = inl (links_back links p q h)
 near_back links p q (inr h) = inr (links_back links q p h)
 
-near_there : (links : List (Port × Port)) (p q : Port) → Near links p q → Near (numbered_links links) (numbered_port p) (numbered_port q)
+near_there : (links : List (Port × Port)) (p q : Port) → Near links p q → Near (map numbered_link links) (numbered_port p) (numbered_port q)
 near_there links p q (inl h) = inl (links_there links p q h)
 near_there links p q (inr h) = inr (links_there links q p h)
 
 -- ---- nodes
-
-live_nodes : (n : ℕ) (nodes : List (Kind × ℕ)) → nodes_from n (all_live nodes) ≡ numbered_from n nodes
-live_nodes n [] = refl
-live_nodes n (k ∷ nodes) = ap (λ w. (n, k.0, k.1) ∷ w) (live_nodes (suc n) nodes)
 
 -- a table with these nodes
 abbrev table : List (Kind × ℕ) → Graph
 table nodes = record { free = 0; nodes = all_live nodes; partners = [] }
 
 node_at : (nodes : List (Kind × ℕ)) (x : ℕ) (k : Kind) (i : ℕ) → IsIn (x, k, i) (numbered_from 0 nodes) → kind_at (all_live nodes) x ≡ Some (k, i)
-node_at nodes x k i h = (has_node (table nodes) x k i).0 (subst (λ ns. IsIn (x, k, i) ns) (sym (live_nodes 0 nodes)) h)
+node_at nodes x k i h = (has_node (table nodes) x k i).0 (subst (λ ns. IsIn (x, k, i) ns) (sym (nodes_from-live 0 nodes)) h)
 
 at_node : (nodes : List (Kind × ℕ)) (x : ℕ) (k : Kind) (i : ℕ) → kind_at (all_live nodes) x ≡ Some (k, i) → IsIn (x, k, i) (numbered_from 0 nodes)
-at_node nodes x k i e = subst (λ ns. IsIn (x, k, i) ns) (live_nodes 0 nodes) ((has_node (table nodes) x k i).1 e)
+at_node nodes x k i e = subst (λ ns. IsIn (x, k, i) ns) (nodes_from-live 0 nodes) ((has_node (table nodes) x k i).1 e)
 
 one_bit : (b : Bool) → 1 ≤ bit b → b ≡ true
 one_bit true h = refl

@@ -1,7 +1,12 @@
 -- What a step of the walk adds to the nodes and links that are laid down.
-use Rattle.std.specs.Prelude.{◌≡◌, ◌<◌, ℕ, List, ◌++◌, length, slice_set, slice_get, slice_index_or, Some}
+use Rattle.std.specs.Prelude.{◌≡◌, ◌≢◌, ◌<◌, ℕ, List, ◌++◌, length, slice_set, slice_get, slice_index_or, Some}
 use Rattle.ol_net.specs.declared.parts.Kind.{Kind}
 use Rattle.ol_net.specs.declared.parts.Port.{Port}
+use Rattle.ol_translate.specs.declared.TheConstants.{MOST_NODES}
+use Rattle.ol_translate.specs.declared.faults.TransFault.{TransFault}
+use Rattle.ol_translate.specs.declared.faults.TransFault.TheVariants.{TooMany}
+use Rattle.ol_translate.specs.declared.parts.Parts.{Parts}
+use Rattle.ol_translate.specs.declared.wires.Ends.{Ends}
 use Rattle.ol_translate.specs.Translation.{Part, wire_of, rewired}
 
 -- the part's nodes and links come last, and its root and wires are these
@@ -15,6 +20,23 @@ pub record Lays (nodes : List (Kind × ℕ)) (links : List (Port × Port)) (P : 
 pub record Adds (nodes nodes' : List (Kind × ℕ)) (links links' : List (Port × Port)) (more : List (Kind × ℕ)) (joins : List (Port × Port)) : Type 0 where
   pub nodes_are : nodes' ≡ nodes ++ more
   pub links_are : links' ≡ links ++ joins
+
+-- the number of the next node
+abbrev pub next_number : Parts → ℕ
+next_number parts = length parts.nodes.items
+
+-- the part comes last, and these are its open ends
+abbrev pub LaysDown : Parts → Part → Parts → Ends → Type 0
+LaysDown old P new ends =
+    Lays old.nodes.items old.links.items P new.nodes.items new.links.items ends.root ends.wires.items
+
+-- these nodes and links come last
+abbrev pub Grows : Parts → Parts → List (Kind × ℕ) → List (Port × Port) → Type 0
+Grows old new more joins = Adds old.nodes.items new.nodes.items old.links.items new.links.items more joins
+
+-- `TooMany` comes only where these are more than 200,000 nodes
+abbrev pub OnlyAbove : ℕ → TransFault → Type 0
+OnlyAbove n e = e ≡ TooMany → MOST_NODES < n
 
 -- the wire of this variable stands at this place
 pub record IsPlaced (v : ℕ) (wires : List (ℕ × Port)) (place : ℕ) : Type 0 where
@@ -30,3 +52,7 @@ HaveOneEach wires = (i j : ℕ) (w : ℕ × Port) → i < length wires → j < l
 -- these are the places of the wires, by their variables
 abbrev pub IsIndex : List ℕ → List (ℕ × Port) → Type 0
 IsIndex places wires = (i : ℕ) (w : ℕ × Port) → i < length wires → slice_get places (slice_index_or wires i w).0 ≡ Some i
+
+-- the places of all other variables stay
+abbrev pub KeepsOthers : ℕ → List ℕ → List ℕ → Type 0
+KeepsOthers v places places' = (u k : ℕ) → u ≢ v → slice_get places u ≡ Some k → slice_get places' u ≡ Some k

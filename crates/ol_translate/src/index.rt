@@ -1,15 +1,16 @@
 //! Where the wires of variables stand.
 
-ghost use Rattle.std.specs.Prelude.{◌≡◌, ◌≢◌, ℕ, None, Some, slice_get, OnOk, IfErr, MatchOption};
+ghost use Rattle.std.specs.Prelude.{◌≡◌, None, Some, slice_get, OnOk, IfErr, MatchOption};
 ghost use Rattle.ol_translate.specs.Translation.{wire_of};
-ghost use Rattle.ol_translate.specs.Growth.{IsPlaced, HaveOneEach, IsIndex};
+ghost use Rattle.ol_translate.specs.Growth.{IsPlaced, HaveOneEach, IsIndex, KeepsOthers};
 ghost use Rattle.ol_translate.specs.declared.faults.TransFault.TheVariants.{TooMany};
 
 use crate::faults::TransFault;
 use crate::wires::Wire;
 use std::alloc::Global;
 
-/// The place of each variable's wire in a list of wires. What it holds of another variable says nothing.
+/// The place of each variable's wire in a list of wires. What it holds of another variable says
+/// nothing.
 #[derive(Drop)]
 pub struct Index {
     pub places: Vec<usize>,
@@ -26,7 +27,8 @@ impl Index {
     /// Notes the place of a variable's wire.
     pub fn note(&mut self, variable: usize, place: usize) -> Result<(), TransFault>
         ensures noted { OnOk result (slice_get self.new.places.items variable ≡ Some place) }
-        ensures kept { OnOk result ((u k : ℕ) → u ≢ variable → slice_get self.old.places.items u ≡ Some k → slice_get self.new.places.items u ≡ Some k) }
+        ensures kept { OnOk result (
+            KeepsOthers variable self.old.places.items self.new.places.items) }
         ensures refusal { IfErr result (λ e. e ≡ TooMany → ⊥) }
     {
         if variable == usize::MAX {
@@ -55,7 +57,8 @@ impl Index {
     /// The place of a variable's wire.
     pub fn place_of(&self, wires: &Vec<Wire>, variable: usize) -> Option<usize>
         requires { IsIndex self.now.places.items wires.now.items }
-        ensures { MatchOption result (wire_of variable wires.now.items ≡ None) (λ place. IsPlaced variable wires.now.items place) }
+        ensures { MatchOption result (wire_of variable wires.now.items ≡ None)
+            (λ place. IsPlaced variable wires.now.items place) }
     {
         if variable >= self.places.len() {
             return None;

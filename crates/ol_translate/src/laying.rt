@@ -3,7 +3,7 @@
 ghost use Rattle.std.specs.Prelude.{◌≡◌, ℕ, ◌^◌, All, ◌≤◌, ◌<◌, ◌+◌, ◌++◌, [], ◌∷◌, length, IfOk, OnOk, IfErr};
 ghost use Rattle.ol_term.specs.Trees.{tree_of};
 ghost use Rattle.ol_translate.specs.Translation.{nodes_of, links_of, name_links, occurrence, part_of, wire_of, outside, slot, erasers, bound_port, bracket_nodes, bracket_links, bracketed, fans, fan_nodes, fan_links, merged};
-ghost use Rattle.ol_translate.specs.Growth.{Lays, Adds, HaveOneEach, IsIndex};
+ghost use Rattle.ol_translate.specs.Growth.{next_number, LaysDown, Grows, OnlyAbove, HaveOneEach, IsIndex};
 ghost use Rattle.ol_translate.specs.Names.{HasNames};
 ghost use Rattle.ol_translate.specs.declared.TheConstants.{MOST_NODES};
 ghost use Rattle.ol_translate.specs.declared.faults.TransFault.TheVariants.{TooMany};
@@ -17,13 +17,13 @@ use ol_term::Term;
 use std::alloc::Global;
 
 impl Parts {
-    /// A whole term, at level 0. Its root is joined to free port 0, and the wire of each name to the
-    /// name's free port.
+    /// A whole term, at level 0. Its root is joined to free port 0, and the wire of each name to
+    /// the name's free port.
     pub fn whole(alloc: Global, term: &Term) -> Result<Parts, TransFault>
         requires { (names : ℕ) × HasNames (tree_of term.now) names }
         ensures nodes { IfOk result (λ parts. parts.nodes.items ≡ nodes_of (tree_of term.now)) }
         ensures links { IfOk result (λ parts. parts.links.items ≡ links_of (tree_of term.now)) }
-        ensures too_many { IfErr result (λ e. e ≡ TooMany → MOST_NODES < length (nodes_of (tree_of term.now))) }
+        ensures too_many { IfErr result (λ e. OnlyAbove (length (nodes_of (tree_of term.now))) e) }
     {
         let mut parts = Parts {
             alloc,
@@ -40,7 +40,8 @@ impl Parts {
     /// The wire of each name is joined to the name's free port.
     fn join_names(&mut self, wires: &Vec<Wire>) -> Result<(), TransFault>
         requires few { All (λ w. w.0 < 2 ^ 31) wires.now.items }
-        ensures links { OnOk result (self.new.links.items ≡ self.old.links.items ++ name_links wires.now.items) }
+        ensures links { OnOk result (self.new.links.items
+            ≡ self.old.links.items ++ name_links wires.now.items) }
         ensures nodes { self.new.nodes.items ≡ self.old.nodes.items }
         ensures refusal { IfErr result (λ e. e ≡ TooMany → ⊥) }
     {
@@ -54,11 +55,11 @@ impl Parts {
     pub fn part(&mut self, term: &Term, depth: usize, level: u32) -> Result<Ends, TransFault>
         requires few_abstractions { depth ≤ length self.old.nodes.items }
         requires few_levels { level ≤ length self.old.nodes.items }
-        ensures lays { IfOk result (λ ends. Lays self.old.nodes.items self.old.links.items
-            (part_of (tree_of term.now) depth level (length self.old.nodes.items))
-            self.new.nodes.items self.new.links.items ends.root ends.wires.items) }
-        ensures too_many { IfErr result (λ e. e ≡ TooMany → MOST_NODES
-            < length self.old.nodes.items + length (part_of (tree_of term.now) depth level (length self.old.nodes.items)).nodes) }
+        ensures lays { IfOk result (λ ends. LaysDown self.old
+            (part_of (tree_of term.now) depth level (next_number self.old)) self.new ends) }
+        ensures too_many { IfErr result (λ e.
+            let b = next_number self.old in
+            OnlyAbove (b + length (part_of (tree_of term.now) depth level b).nodes) e) }
     {
         match term {
             Term::Var(variable) => self.occurrence(*variable as usize, level),
@@ -78,10 +79,9 @@ impl Parts {
     }
 
     fn occurrence(&mut self, variable: usize, level: u32) -> Result<Ends, TransFault>
-        ensures lays { IfOk result (λ ends. Lays self.old.nodes.items self.old.links.items
-            (occurrence variable level (length self.old.nodes.items))
-            self.new.nodes.items self.new.links.items ends.root ends.wires.items) }
-        ensures too_many { IfErr result (λ e. e ≡ TooMany → MOST_NODES ≤ length self.old.nodes.items) }
+        ensures lays { IfOk result (λ ends. LaysDown self.old
+            (occurrence variable level (next_number self.old)) self.new ends) }
+        ensures too_many { IfErr result (λ e. e ≡ TooMany → MOST_NODES ≤ next_number self.old) }
     {
         let number = self.add(Kind::Croissant, level)?;
         let mut wires = Vec::new(self.alloc);
@@ -94,13 +94,15 @@ impl Parts {
 
     /// The joins of abstraction `number`, after the nodes of its body.
     fn abstraction(&mut self, number: u32, body: &Ends) -> Result<Ends, TransFault>
-        ensures adds { OnOk result (Adds self.old.nodes.items self.new.nodes.items self.old.links.items self.new.links.items
-            (erasers (wire_of 0 body.now.wires.items))
+        ensures adds { OnOk result (
+            let x = wire_of 0 body.now.wires.items in
+            Grows self.old self.new (erasers x)
             ((slot number 1, body.now.root)
-            ∷ (slot number 2, bound_port (wire_of 0 body.now.wires.items) (length self.old.nodes.items)) ∷ [])) }
-        ensures ends { IfOk result (λ ends. (ends.root ≡ slot number 0) × (ends.wires.items ≡ outside body.now.wires.items)) }
-        ensures too_many { IfErr result (λ e. e ≡ TooMany → MOST_NODES
-            < length self.old.nodes.items + length (erasers (wire_of 0 body.now.wires.items))) }
+            ∷ (slot number 2, bound_port x (next_number self.old)) ∷ [])) }
+        ensures ends { IfOk result (λ ends. (ends.root ≡ slot number 0)
+            × (ends.wires.items ≡ outside body.now.wires.items)) }
+        ensures too_many { IfErr result (λ e.
+            OnlyAbove (next_number self.old + length (erasers (wire_of 0 body.now.wires.items))) e) }
     {
         let bound = match find_wire(&body.wires, 0) {
             Some(port) => port,
@@ -130,18 +132,18 @@ impl Parts {
     ) -> Result<Ends, TransFault>
         requires one_each { HaveOneEach function.wires.items }
         ensures adds { IfOk result (λ ends.
-            let b = length self.old.nodes.items in
+            let b = next_number self.old in
             let more = argument.now.wires.items in
             let F = fans level (b + length more) function.wires.items (bracketed b more) in
-            Adds self.old.nodes.items self.new.nodes.items self.old.links.items self.new.links.items
-            (bracket_nodes level more ++ F.nodes)
-            (((slot number 0, function.root) ∷ (slot number 2, argument.now.root) ∷ []) ++ (bracket_links b more ++ F.links))
+            Grows self.old self.new (bracket_nodes level more ++ F.nodes)
+            (((slot number 0, function.root) ∷ (slot number 2, argument.now.root) ∷ [])
+            ++ (bracket_links b more ++ F.links))
             × (ends.root ≡ slot number 1) × (ends.wires.items ≡ F.wires)) }
-        ensures too_many { IfErr result (λ e. e ≡ TooMany →
-            let b = length self.old.nodes.items in
+        ensures too_many { IfErr result (λ e.
+            let b = next_number self.old in
             let more = argument.now.wires.items in
-            MOST_NODES < b + length (bracket_nodes level more)
-            + length (fans level (b + length more) function.wires.items (bracketed b more)).nodes) }
+            let F = fans level (b + length more) function.wires.items (bracketed b more) in
+            OnlyAbove (b + length (bracket_nodes level more) + length F.nodes) e) }
     {
         let mut wires = function.wires;
         self.join(slot_of(number, 0), function.root)?;
@@ -157,11 +159,12 @@ impl Parts {
     /// A bracket on each wire.
     fn brackets(&mut self, level: u32, wires: &Vec<Wire>) -> Result<Vec<Wire>, TransFault>
         ensures adds { IfOk result (λ out.
-            Adds self.old.nodes.items self.new.nodes.items self.old.links.items self.new.links.items
-            (bracket_nodes level wires.now.items) (bracket_links (length self.old.nodes.items) wires.now.items)
-            × (out.items ≡ bracketed (length self.old.nodes.items) wires.now.items)) }
-        ensures too_many { IfErr result (λ e. e ≡ TooMany → MOST_NODES
-            < length self.old.nodes.items + length (bracket_nodes level wires.now.items)) }
+            let b = next_number self.old in
+            Grows self.old self.new
+            (bracket_nodes level wires.now.items) (bracket_links b wires.now.items)
+            × (out.items ≡ bracketed b wires.now.items)) }
+        ensures too_many { IfErr result (λ e.
+            OnlyAbove (next_number self.old + length (bracket_nodes level wires.now.items)) e) }
     {
         let mut out = Vec::new(self.alloc);
         for wire in wires {
@@ -181,11 +184,11 @@ impl Parts {
     ) -> Result<(), TransFault>
         requires one_each { HaveOneEach wires.old.items }
         ensures adds { OnOk result (
-            let F = fans level (length self.old.nodes.items) wires.old.items more.now.items in
-            Adds self.old.nodes.items self.new.nodes.items self.old.links.items self.new.links.items F.nodes F.links
-            × (wires.new.items ≡ F.wires)) }
-        ensures too_many { IfErr result (λ e. e ≡ TooMany → MOST_NODES < length self.old.nodes.items
-            + length (fans level (length self.old.nodes.items) wires.old.items more.now.items).nodes) }
+            let F = fans level (next_number self.old) wires.old.items more.now.items in
+            Grows self.old self.new F.nodes F.links × (wires.new.items ≡ F.wires)) }
+        ensures too_many { IfErr result (λ e.
+            let b = next_number self.old in
+            OnlyAbove (b + length (fans level b wires.old.items more.now.items).nodes) e) }
     {
         self.index.fill(wires)?;
         for wire in more {
@@ -199,12 +202,13 @@ impl Parts {
         requires index { IsIndex self.old.index.places.items wires.old.items }
         ensures index { OnOk result (IsIndex self.new.index.places.items wires.new.items) }
         ensures adds { OnOk result (
+            let b = next_number self.old in
             let x = wire_of wire.0 wires.old.items in
-            Adds self.old.nodes.items self.new.nodes.items self.old.links.items self.new.links.items
-            (fan_nodes level x) (fan_links (length self.old.nodes.items) x wire.1)
-            × (wires.new.items ≡ merged (length self.old.nodes.items) x wire wires.old.items)) }
-        ensures too_many { IfErr result (λ e. e ≡ TooMany → MOST_NODES
-            < length self.old.nodes.items + length (fan_nodes level (wire_of wire.0 wires.old.items))) }
+            Grows self.old self.new (fan_nodes level x) (fan_links b x wire.1)
+            × (wires.new.items ≡ merged b x wire wires.old.items)) }
+        ensures too_many { IfErr result (λ e.
+            let x = wire_of wire.0 wires.old.items in
+            OnlyAbove (next_number self.old + length (fan_nodes level x)) e) }
     {
         match self.index.place_of(wires, wire.0) {
             None => {

@@ -25,11 +25,13 @@ impl Parts {
     /// Lays down a node, and gives its number.
     pub fn add(&mut self, kind: Kind, index: u32) -> Result<u32, TransFault>
         ensures number { IfOk result (λ number. number ≡ length self.old.nodes.items) }
-        ensures nodes { OnOk result (self.new.nodes.items ≡ self.old.nodes.items ++ (kind, index) ∷ []) }
+        ensures nodes { OnOk result (self.new.nodes.items
+            ≡ self.old.nodes.items ++ (kind, index) ∷ []) }
         ensures links { self.new.links.items ≡ self.old.links.items }
         ensures index { self.new.index ≡ self.old.index }
         ensures fits { OnOk result (length self.old.nodes.items < MOST_NODES) }
-        ensures too_many { IfErr result (λ e. e ≡ TooMany → MOST_NODES ≤ length self.old.nodes.items) }
+        ensures too_many { IfErr result (λ e.
+            e ≡ TooMany → MOST_NODES ≤ length self.old.nodes.items) }
     {
         let number = self.nodes.len();
         if number >= MOST_NODES {
@@ -41,7 +43,8 @@ impl Parts {
 
     /// Lays down a link.
     pub fn join(&mut self, one: Port, other: Port) -> Result<(), TransFault>
-        ensures links { OnOk result (self.new.links.items ≡ self.old.links.items ++ (one, other) ∷ []) }
+        ensures links { OnOk result (self.new.links.items
+            ≡ self.old.links.items ++ (one, other) ∷ []) }
         ensures nodes { self.new.nodes.items ≡ self.old.nodes.items }
         ensures index { self.new.index ≡ self.old.index }
         ensures refusal { IfErr result (λ e. e ≡ TooMany → ⊥) }

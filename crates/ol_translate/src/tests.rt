@@ -31,7 +31,8 @@ fn abstraction(alloc: Global, body: Box<Term>) -> Result<Box<Term>, Fail>
 }
 
 fn application(alloc: Global, function: Box<Term>, argument: Box<Term>) -> Result<Box<Term>, Fail>
-    ensures { IfOk result (λ term. tree_of term.value ≡ app (tree_of function.value) (tree_of argument.value)) }
+    ensures { IfOk result (λ term.
+        tree_of term.value ≡ app (tree_of function.value) (tree_of argument.value)) }
 {
     Ok(Box::new(alloc, Term::App(function, argument))?)
 }

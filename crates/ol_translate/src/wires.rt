@@ -9,8 +9,8 @@ use ol_net::{NodeId, Port};
 /// abstractions.
 pub type Wire = (usize, Port);
 
-/// What is left open of a term that is laid down: its root, and the wires of its variables in order of
-/// first occurrence.
+/// What is left open of a term that is laid down: its root, and the wires of its variables in order
+/// of first occurrence.
 #[derive(Drop)]
 pub struct Ends {
     pub root: Port,

@@ -5,7 +5,8 @@ use Rattle.ol_net.specs.Numbered.{net_of}
 use Rattle.ol_translate.specs.Sizes.{size_of_translation}
 use Rattle.ol_translate.proofs.Bound.{few_names, few_links}
 use Rattle.ol_translate.proofs.Sizing.{size_of_nodes}
-use Rattle.ol_translate.proofs.Fitting.{never_refused, same_translation, length-all_live}
+use Rattle.ol_net.proofs.Linking.{length-all_live}
+use Rattle.ol_translate.proofs.Fitting.{never_refused, same_translation}
 use Rattle.ol_translate.proofs.Indexes.{top_is_low}
 use Rattle.ol_net.specs.Replace.{top_index_of}
 use Rattle.ol_translate.proofs.Answering.{names_of, refused_where, given_where}
