@@ -20,7 +20,8 @@ bracketed bare text = if bare then text else in_brackets text
 -- the text of one item
 abbrev pub item_text : List (List ℕ) → Todo → List ℕ
 item_text names (todo.Term t n b) = text_of names b n (tree_of t.now)
-item_text names (todo.Argument t n) = 32 ∷ bracketed (is_variable (tree_of t.now)) (text_of names false n (tree_of t.now))
+item_text names (todo.Argument t n) =
+    32 ∷ bracketed (is_variable (tree_of t.now)) (text_of names false n (tree_of t.now))
 item_text names todo.Close = 41 ∷ []
 
 -- the text of all items, the last of which comes first
@@ -56,7 +57,8 @@ weights (x ∷ xs) = weight x + weights xs
 -- Some text was printed, or a part of it, and the rest is among the items. Less is left to do than before, where the
 -- text counts w.
 pub record IsStep
-    (names : List (List ℕ)) (x : List ℕ) (items : List Todo) (text : List ℕ) (w : ℕ) (x' : List ℕ) (items' : List Todo) : Type 0 where
+    (names : List (List ℕ)) (x : List ℕ) (items : List Todo) (text : List ℕ) (w : ℕ)
+    (x' : List ℕ) (items' : List Todo) : Type 0 where
   pub text_is : x' ++ items_text names items' ≡ x ++ (text ++ items_text names items)
   pub whole : AreItems (length names) items'
   pub less : weights items' < w + weights items

@@ -28,7 +28,8 @@ is_variable (app f a) = false
 abbrev pub in_brackets : List ℕ → List ℕ
 in_brackets text = 40 ∷ (text ++ 41 ∷ [])
 
--- A term with t binders round it, which is the body of the innermost one where `body` is true. A function that is an abstraction and an argument that is no variable stand in brackets.
+-- A term with t binders round it, which is the body of the innermost one where `body` is true. A function that is an
+-- abstraction and an argument that is no variable stand in brackets.
 abbrev pub text_of : List (List ℕ) → Bool → ℕ → Tree → List ℕ
 text_of names body t (var k) = before_body body ++ binder_name names (t - (k + 1))
 text_of names body t (free k) = before_body body ++ slice_index_or names k []

@@ -1,5 +1,5 @@
 -- Each port of a translated term stands in one link.
-use Rattle.std.proofs.Common.{◌≡◌, ℕ, zero, suc, ◌≤◌, ◌+◌, ◌-◌, List, [], ◌∷◌, ◌++◌, length, true, false, Bool, nat_eq, nat_lt, Option, None, Some, refl, ap, ◌∙◌, arith, subst, length-append, zero-add, ne_eqb, ◌&&◌, eq-eqb, if◌then◌else◌}
+use Rattle.std.proofs.Common.{◌≡◌, ℕ, zero, suc, ◌≤◌, ◌+◌, ◌-◌, List, [], ◌∷◌, ◌++◌, length, true, false, nat_eq, nat_lt, Option, None, Some, refl, ap, ◌∙◌, arith, subst, length-append, zero-add, ne_eqb, eq-eqb, if◌then◌else◌}
 use Rattle.std.proofs.lemmas.Bool.{and_parts}
 use Rattle.std.proofs.lemmas.Bool.Decides.{nat_tests}
 use Rattle.ol_term.specs.Trees.{Tree, var, free, lam, app, is_below, is_named_below}

@@ -10,14 +10,17 @@ use Rattle.ol_translate.specs.declared.wires.Ends.{Ends}
 use Rattle.ol_translate.specs.Translation.{Part, wire_of, rewired}
 
 -- the part's nodes and links come last, and its root and wires are these
-pub record Lays (nodes : List (Kind × ℕ)) (links : List (Port × Port)) (P : Part) (nodes' : List (Kind × ℕ)) (links' : List (Port × Port)) (root : Port) (wires : List (ℕ × Port)) : Type 0 where
+pub record Lays
+    (nodes : List (Kind × ℕ)) (links : List (Port × Port)) (P : Part)
+    (nodes' : List (Kind × ℕ)) (links' : List (Port × Port)) (root : Port) (wires : List (ℕ × Port)) : Type 0 where
   pub nodes_are : nodes' ≡ nodes ++ P.nodes
   pub links_are : links' ≡ links ++ P.links
   pub root_is : root ≡ P.root
   pub wires_are : wires ≡ P.wires
 
 -- these nodes and links come last
-pub record Adds (nodes nodes' : List (Kind × ℕ)) (links links' : List (Port × Port)) (more : List (Kind × ℕ)) (joins : List (Port × Port)) : Type 0 where
+pub record Adds
+    (nodes nodes' : List (Kind × ℕ)) (links links' : List (Port × Port)) (more : List (Kind × ℕ)) (joins : List (Port × Port)) : Type 0 where
   pub nodes_are : nodes' ≡ nodes ++ more
   pub links_are : links' ≡ links ++ joins
 
@@ -47,11 +50,13 @@ pub record IsPlaced (v : ℕ) (wires : List (ℕ × Port)) (place : ℕ) : Type 
 
 -- no variable has two wires
 abbrev pub HaveOneEach : List (ℕ × Port) → Type 0
-HaveOneEach wires = (i j : ℕ) (w : ℕ × Port) → i < length wires → j < length wires → (slice_index_or wires i w).0 ≡ (slice_index_or wires j w).0 → i ≡ j
+HaveOneEach wires = (i j : ℕ) (w : ℕ × Port) → i < length wires → j < length wires →
+    (slice_index_or wires i w).0 ≡ (slice_index_or wires j w).0 → i ≡ j
 
 -- these are the places of the wires, by their variables
 abbrev pub IsIndex : List ℕ → List (ℕ × Port) → Type 0
-IsIndex places wires = (i : ℕ) (w : ℕ × Port) → i < length wires → slice_get places (slice_index_or wires i w).0 ≡ Some i
+IsIndex places wires = (i : ℕ) (w : ℕ × Port) → i < length wires →
+    slice_get places (slice_index_or wires i w).0 ≡ Some i
 
 -- the places of all other variables stay
 abbrev pub KeepsOthers : ℕ → List ℕ → List ℕ → Type 0

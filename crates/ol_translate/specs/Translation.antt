@@ -80,7 +80,8 @@ abbrev pub bracketed : (b : ℕ) → Wires → Wires
 bracketed b [] = []
 bracketed b (w ∷ wires) = (w.0, slot b 0) ∷ bracketed (b + 1) wires
 
--- a fan n for a variable that is free in both: slot 1 with its wire from M, slot 2 with its bracket, slot 0 towards the binder
+-- a fan n for a variable that is free in both: slot 1 with its wire from M, slot 2 with its bracket, slot 0 towards the
+-- binder
 abbrev pub fan_nodes : (n : ℕ) → Option Port → List (Kind × ℕ)
 fan_nodes n None = []
 fan_nodes n (Some p) = (kind.Fan, n) ∷ []
@@ -114,7 +115,8 @@ application n k M N =
     let F = fans n (b + length N.wires) M.wires (bracketed b N.wires) in
     record {
       nodes = (((kind.App, n) ∷ M.nodes) ++ N.nodes) ++ (bracket_nodes n N.wires ++ F.nodes);
-      links = (M.links ++ N.links) ++ (((slot k 0, M.root) ∷ (slot k 2, N.root) ∷ []) ++ (bracket_links b N.wires ++ F.links));
+      links = (M.links ++ N.links)
+          ++ (((slot k 0, M.root) ∷ (slot k 2, N.root) ∷ []) ++ (bracket_links b N.wires ++ F.links));
       root = slot k 1;
       wires = F.wires;
     }

@@ -54,8 +54,8 @@ runs_setting = record { option = codes "run"; limits = record { least = 0; most 
 abbrev pub doublings : Limits
 doublings = record { least = 0; most = 10; default = 0 }
 
--- A verb: how it is written, the settings that it has, those of their options that are flags, what its names are called,
--- and the job that the numbers of its settings and its names ask for.
+-- A verb: how it is written, the settings that it has, those of their options that are flags, what its names are
+-- called, and the job that the numbers of its settings and its names ask for.
 pub record Verb : Type 0 where
   pub word : Text
   pub settings : List Setting

@@ -28,7 +28,8 @@ after_hyphens _ = None
 
 -- what stands behind the first `=`, if there is one
 abbrev pub value_in : Text → Option Text
-value_in text = if nat_lt (position_or_len is_equals text) (length text) then Some (after_first is_equals text) else None
+value_in text =
+    if nat_lt (position_or_len is_equals text) (length text) then Some (after_first is_equals text) else None
 
 -- the options that a command has, and those of them that take no value: the flags
 pub record Known : Type 0 where
@@ -75,7 +76,8 @@ unfoldable pub line_from : Known → Option Text → List Text → Option Line
 line_from known None [] = Some (record { options = []; names = [] })
 line_from known None (word ∷ rest) =
     if is_end word then Some (record { options = []; names = rest })
-    else (if is_dashed word then after_option (option_of known word) (λ option. line_from known (Some option) rest) (line_from known None rest)
+    else (if is_dashed word
+    then after_option (option_of known word) (λ option. line_from known (Some option) rest) (line_from known None rest)
     else option_map (with_name word) (line_from known None rest))
 line_from known (Some option) [] = None
 line_from known (Some option) (value ∷ rest) =

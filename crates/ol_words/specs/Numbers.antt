@@ -24,7 +24,8 @@ pub record Limits : Type 0 where
 
 -- the number that a text gives within the limits
 abbrev pub number_within : Limits → Text → Option ℕ
-number_within limits text = if is_number text && (nat_le limits.least (number_of text) && nat_le (number_of text) limits.most)
+number_within limits text =
+    if is_number text && (nat_le limits.least (number_of text) && nat_le (number_of text) limits.most)
     then Some (number_of text) else None
 
 -- a setting by the values that are given to it: it is given at most once

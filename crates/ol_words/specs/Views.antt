@@ -1,5 +1,5 @@
 -- What the code's own values stand for: texts, options, limits and verbs.
-use Rattle.std.specs.Prelude.{ℕ, List, map}
+use Rattle.std.specs.Prelude.{List, map}
 use Rattle.std.specs.Borrow.{Bor}
 use Rattle.ol_words.specs.Lines.{Text, Known}
 use Rattle.ol_words.specs.Numbers.{Limits}
