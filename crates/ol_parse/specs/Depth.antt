@@ -15,4 +15,5 @@ CanPut op depths = (ts : List Named) × (map named_depth ts ≡ reverse depths) 
 
 -- the step takes terms of these depths to terms of those
 abbrev pub Deepens : Op → List ℕ → List ℕ → Type 0
-Deepens op depths depths' = (ts us : List Named) → map named_depth ts ≡ reverse depths → put op ts ≡ Some us → map named_depth us ≡ reverse depths'
+Deepens op depths depths' = (ts us : List Named) → map named_depth ts ≡ reverse depths → put op ts ≡ Some us
+    → map named_depth us ≡ reverse depths'

@@ -87,18 +87,21 @@ Unwound _ ops ts _ = ⊥
 -- goes on, and build it.
 abbrev pub Unwinds : Open → List Op → Bool → List Op → Type 0
 Unwinds innermost ops done ops' =
-    (f : Frame) (u : Named) (ts : List Named) → bare innermost ≡ without f → built ops ≡ Some (u ∷ held f ++ ts) → Unwound done ops' ts (around f u)
+    (f : Frame) (u : Named) (ts : List Named) → bare innermost ≡ without f → built ops ≡ Some (u ∷ held f ++ ts)
+    → Unwound done ops' ts (around f u)
 
 -- where the terms and the row of what is open stand once a term is whole
 abbrev pub Ended : Named × List Frame → Option Open → List Open → List Op → Type 0
 Ended (u, []) None opens ops = (opens ≡ []) × (built ops ≡ Some (u ∷ []))
-Ended (u, f ∷ fs) (Some o) opens ops = (bare o ≡ without f) × Shows fs opens × (built ops ≡ Some (u ∷ held f ++ waiting fs))
+Ended (u, f ∷ fs) (Some o) opens ops =
+    (bare o ≡ without f) × Shows fs opens × (built ops ≡ Some (u ∷ held f ++ waiting fs))
 Ended _ _ opens ops = ⊥
 
 -- what ending the innermost term, and all that it ends, does to these frames
 abbrev pub Finishes : List Open → List Op → Option Open → List Open → List Op → Type 0
 Finishes opens ops closer opens' ops' =
-    (u : Named) (fs : List Frame) → Shows fs opens → built ops ≡ Some (u ∷ waiting fs) → Ended (finish u fs) closer opens' ops'
+    (u : Named) (fs : List Frame) → Shows fs opens → built ops ≡ Some (u ∷ waiting fs)
+    → Ended (finish u fs) closer opens' ops'
 
 abbrev pub frames_of : State → List Frame
 frames_of (at o fs) = fs

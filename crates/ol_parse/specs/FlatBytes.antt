@@ -59,7 +59,8 @@ TakesInGap text at m opens ops next opens' ops' = (p : State) → Holds p m open
     → NextPlace text (at + 1) (gap_step p (slice_index text at) (class_of (slice_index text at))) next opens' ops'
 
 -- the byte at this place is taken
-abbrev pub TakesByte : List ℕ → ℕ → Place → Mode → List Open → List Op → Option (Place × Mode) → List Open → List Op → Type 0
+abbrev pub TakesByte :
+    List ℕ → ℕ → Place → Mode → List Open → List Op → Option (Place × Mode) → List Open → List Op → Type 0
 TakesByte text at place m opens ops next opens' ops' = (s : Reading) → Stands text at s place m opens ops
     → NextPlace text (at + 1) (byte_step s (slice_index text at)) next opens' ops'
 
@@ -74,7 +75,8 @@ Ends m opens ops done ops' = (p : State) → Holds p m opens ops → EndsIn (fin
 
 -- the text ends here
 abbrev pub EndsText : List ℕ → Place → Mode → List Open → List Op → Bool → List Op → Type 0
-EndsText text place m opens ops done ops' = (s : Reading) → Stands text (length text) s place m opens ops → EndsIn (byte_final s) done ops'
+EndsText text place m opens ops done ops' = (s : Reading) → Stands text (length text) s place m opens ops
+    → EndsIn (byte_final s) done ops'
 
 -- the steps build the term of the text
 abbrev pub BuildsText : List ℕ → List Op → Type 0

@@ -2,7 +2,8 @@
 use Rattle.std.proofs.Common.{ℕ, List, [], ◌∷◌, Option, Some, None, option_and_then}
 use Rattle.ol_parse.specs.Grammar.{Named, var, lam, app, Token, name, let_key, in_key, lambda, dot, equals, open_bracket, close_bracket}
 
--- what is open round the place: a spine that the body is for, an abstraction, a let behind its `in`, a bracket, a let before it
+-- what is open round the place: a spine that the body is for, an abstraction, a let behind its `in`, a bracket, a let
+-- before it
 pub data Frame : Type 0 where
   applied : Option Named → Frame
   abstracted : List ℕ → Frame

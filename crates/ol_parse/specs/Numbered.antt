@@ -1,4 +1,5 @@
--- From a term with names to a tree: each name by its innermost binding, and free names in order of first occurrence, the function before the argument.
+-- From a term with names to a tree: each name by its innermost binding, and free names in order of first occurrence,
+-- the function before the argument.
 use Rattle.std.specs.Prelude.{ℕ, List, [], ◌∷◌, ◌++◌, Option, Some, None}
 use Rattle.std.specs.List.{position_from}
 use Rattle.std.specs.Str.{bytes_eq}
@@ -16,7 +17,8 @@ abbrev pub unbound : List ℕ → Option ℕ → List (List ℕ)
 unbound x (Some k) = []
 unbound x None = x ∷ []
 
--- the names that occur free in a term under these binders, the innermost binder first; the function stands before the argument
+-- the names that occur free in a term under these binders, the innermost binder first; the function stands before the
+-- argument
 abbrev pub free_in : List (List ℕ) → Named → List (List ℕ)
 free_in binders (var x) = unbound x (place_of x binders)
 free_in binders (lam x t) = free_in (x ∷ binders) t

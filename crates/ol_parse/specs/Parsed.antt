@@ -33,4 +33,5 @@ AreNames (x ∷ xs) = IsName x × AreNames xs
 
 -- a text has one tree and one list of names
 abbrev pub OneFile : Type 0
-OneFile = (bytes : List ℕ) (t u : Tree) (names others : List (List ℕ)) → IsFileOf bytes t names → IsFileOf bytes u others → (t ≡ u) × (names ≡ others)
+OneFile = (bytes : List ℕ) (t u : Tree) (names others : List (List ℕ)) →
+    IsFileOf bytes t names → IsFileOf bytes u others → (t ≡ u) × (names ≡ others)

@@ -27,7 +27,8 @@ gap_step p b other = None
 abbrev pub byte_step : Reading → ℕ → Option Reading
 byte_step (gap p) b = gap_step p b (class_of b)
 byte_step (comment p) b = Some (cond (nat_eq b 10) (gap p) (comment p))
-byte_step (word w p) b = cond (in_word (class_of b)) (Some (word (w ++ (b ∷ [])) p)) (option_and_then (λ q. gap_step q b (class_of b)) (step p (token_of w)))
+byte_step (word w p) b = cond (in_word (class_of b)) (Some (word (w ++ (b ∷ [])) p))
+    (option_and_then (λ q. gap_step q b (class_of b)) (step p (token_of w)))
 byte_step (half p) b = cond (nat_eq b 187) (Some (gap p)) None
 
 abbrev pub byte_final : Reading → Option Named

@@ -1,5 +1,5 @@
 -- Numbering from the left, under binders and behind names that are numbered already.
-use Rattle.std.specs.Prelude.{◌≡◌, ℕ, List, [], ◌∷◌, ◌++◌, map, reverse, Option, Some, None}
+use Rattle.std.specs.Prelude.{◌≡◌, ℕ, List, [], ◌∷◌, ◌++◌, map, Option, Some, None}
 use Rattle.std.specs.Borrow.{Bor}
 use Rattle.ol_term.specs.Trees.{Tree}
 use Rattle.ol_parse.specs.Grammar.{Named, var, lam, app}
@@ -21,10 +21,6 @@ names_from binders names (app f t) = names_from binders (names_from binders name
 
 abbrev pub texts : List (Bor (List ℕ)) → List (List ℕ)
 texts names = map (λ x. x.now) names
-
--- the names of binders of which the last is the innermost
-abbrev pub innermost_first : List (Bor (List ℕ)) → List (List ℕ)
-innermost_first binders = texts (reverse binders)
 
 -- the tree, for every list that the names may still grow to
 abbrev pub IsNumbered : List (List ℕ) → List (List ℕ) → Named → Tree → Type 0

@@ -58,7 +58,8 @@ pub data IsGap : List ℕ → Type 0 where
 -- a gap, or one whose last comment is ended by the text
 pub data IsLastGap : List ℕ → Type 0 where
   last_gap : {g : List ℕ} → IsGap g → IsLastGap g
-  last_comment : {g : List ℕ} → IsGap g → (b : ℕ) → class_of b ≡ hash → (c : List ℕ) → IsLine c → IsLastGap (g ++ (b ∷ c))
+  last_comment : {g : List ℕ} → IsGap g → (b : ℕ) → class_of b ≡ hash → (c : List ℕ) → IsLine c →
+      IsLastGap (g ++ (b ∷ c))
 
 -- letters and digits
 abbrev pub AreInWord : List ℕ → Type 0
@@ -89,10 +90,13 @@ pub data IsToken : Token → List ℕ → Type 0 where
 abbrev pub IsName : List ℕ → Type 0
 IsName x = IsToken (name x) x
 
--- Tokens with gaps before, between and after them. Between two words the gap isn't empty: the test says whether a word stands just before.
+-- Tokens with gaps before, between and after them. Between two words the gap isn't empty: the test says whether a word
+-- stands just before.
 pub data Spells : Bool → List Token → List ℕ → Type 0 where
   spells_none : {after : Bool} {g : List ℕ} → IsLastGap g → Spells after [] g
-  spells_one : {after : Bool} {k : Token} {ks : List Token} {g a bs : List ℕ} → IsGap g → (after ≡ true → is_word k ≡ true → g ≢ []) → IsToken k a → Spells (is_word k) ks bs → Spells after (k ∷ ks) (g ++ (a ++ bs))
+  spells_one : {after : Bool} {k : Token} {ks : List Token} {g a bs : List ℕ} → IsGap g →
+      (after ≡ true → is_word k ≡ true → g ≢ []) → IsToken k a → Spells (is_word k) ks bs →
+      Spells after (k ∷ ks) (g ++ (a ++ bs))
 
 -- the bytes are a text of the term
 pub record IsText (bytes : List ℕ) (t : Named) : Type 0 where

@@ -13,6 +13,11 @@ use crate::tokens::{
 };
 use std::alloc::{AllocError, Global};
 
+// The two bytes of the letter λ.
+const FIRST_OF_LAMBDA: u8 = 0xce;
+
+const SECOND_OF_LAMBDA: u8 = 0xbb;
+
 /// What a byte is.
 #[derive(Clone, Copy)]
 pub enum Class {
@@ -51,25 +56,25 @@ pub enum Key {
 fn class_of_byte(b: u8) -> Class
     ensures { seen result ≡ class_of b }
 {
-    if (b >= 97 && b <= 122) || (b >= 65 && b <= 90) || b == 95 {
+    if (b >= b'a' && b <= b'z') || (b >= b'A' && b <= b'Z') || b == b'_' {
         Class::Letter
-    } else if (b >= 48 && b <= 57) || b == 39 {
+    } else if (b >= b'0' && b <= b'9') || b == b'\'' {
         Class::Digit
-    } else if b == 32 || b == 9 || b == 10 || b == 13 {
+    } else if b == b' ' || b == b'\t' || b == b'\n' || b == b'\r' {
         Class::Blank
-    } else if b == 35 {
+    } else if b == b'#' {
         Class::Hash
-    } else if b == 92 {
+    } else if b == b'\\' {
         Class::Slash
-    } else if b == 46 {
+    } else if b == b'.' {
         Class::Dot
-    } else if b == 61 {
+    } else if b == b'=' {
         Class::Equals
-    } else if b == 40 {
+    } else if b == b'(' {
         Class::OpenBracket
-    } else if b == 41 {
+    } else if b == b')' {
         Class::CloseBracket
-    } else if b == 206 {
+    } else if b == FIRST_OF_LAMBDA {
         Class::Lead
     } else {
         Class::Other
@@ -176,14 +181,14 @@ fn take_byte<'a>(
     match place {
         Place::Gap => take_in_gap(text, at, mode, opens, out),
         Place::Comment => {
-            if text[at] == 10 {
+            if text[at] == b'\n' {
                 Ok(Some((Place::Gap, mode)))
             } else {
                 Ok(Some((Place::Comment, mode)))
             }
         }
         Place::Half => {
-            if text[at] == 187 {
+            if text[at] == SECOND_OF_LAMBDA {
                 Ok(Some((Place::Gap, mode)))
             } else {
                 Ok(None)

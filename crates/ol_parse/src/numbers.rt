@@ -6,7 +6,7 @@ ghost use Rattle.ol_parse.specs.Depth.{named_depth};
 ghost use Rattle.ol_parse.specs.Laws.{leaves};
 ghost use Rattle.ol_parse.specs.NamedTerms.{named};
 ghost use Rattle.ol_parse.specs.Numbered.{place_of, names_of, number, numbered};
-ghost use Rattle.ol_parse.specs.Resolving.{innermost_first, names_from, add_unless, IsNumbered};
+ghost use Rattle.ol_parse.specs.Resolving.{texts, names_from, add_unless, IsNumbered};
 
 use crate::bytes::is_same;
 use crate::named::NamedTerm;
@@ -17,7 +17,7 @@ use std::alloc::Global;
 /// The number of the innermost binder of a name, counted from the innermost as 0.
 fn binder(binders: &[&[u8]], name: &[u8]) -> Option<u32>
     requires { length binders.now < 2 ^ 32 }
-    ensures { result ≡ place_of name.now (innermost_first binders.now) }
+    ensures { result ≡ place_of name.now (texts (reverse binders.now)) }
 {
     for i in 0..binders.len() {
         if is_same(name, binders[binders.len() - 1 - i]) {
@@ -39,9 +39,9 @@ fn resolve<'a>(
     ensures kept { OnOk result (binders.new.items ≡ binders.old.items) }
     ensures few { OnOk result (length names.new ≤ length names.old + leaves (named term.now)) }
     ensures names { OnOk result (names.new
-        ≡ names_from (innermost_first binders.old.items) names.old (named term.now)) }
+        ≡ names_from (texts (reverse binders.old.items)) names.old (named term.now)) }
     ensures numbered { IfOk result (λ t. IsNumbered names.new
-        (innermost_first binders.old.items) (named term.now) (tree_of t)) }
+        (texts (reverse binders.old.items)) (named term.now) (tree_of t)) }
 {
     match term {
         NamedTerm::Name(x) => match binder(&*binders, *x) {
