@@ -9,33 +9,21 @@ use Rattle.ol_translate.specs.declared.parts.Parts.{Parts}
 use Rattle.ol_translate.specs.declared.wires.Ends.{Ends}
 use Rattle.ol_translate.specs.Translation.{Part, wire_of, rewired}
 
--- the part's nodes and links come last, and its root and wires are these
-pub record Lays
-    (nodes : List (Kind × ℕ)) (links : List (Port × Port)) (P : Part)
-    (nodes' : List (Kind × ℕ)) (links' : List (Port × Port)) (root : Port) (wires : List (ℕ × Port)) : Type 0 where
-  pub nodes_are : nodes' ≡ nodes ++ P.nodes
-  pub links_are : links' ≡ links ++ P.links
-  pub root_is : root ≡ P.root
-  pub wires_are : wires ≡ P.wires
+-- the part's nodes and links come last, and its root and wires are left open
+pub record Lays (old : Parts) (P : Part) (new : Parts) (ends : Ends) : Type 0 where
+  pub nodes_are : new.nodes.items ≡ old.nodes.items ++ P.nodes
+  pub links_are : new.links.items ≡ old.links.items ++ P.links
+  pub root_is : ends.root ≡ P.root
+  pub wires_are : ends.wires.items ≡ P.wires
 
 -- these nodes and links come last
-pub record Adds
-    (nodes nodes' : List (Kind × ℕ)) (links links' : List (Port × Port)) (more : List (Kind × ℕ)) (joins : List (Port × Port)) : Type 0 where
-  pub nodes_are : nodes' ≡ nodes ++ more
-  pub links_are : links' ≡ links ++ joins
+pub record Adds (old new : Parts) (more : List (Kind × ℕ)) (joins : List (Port × Port)) : Type 0 where
+  pub nodes_are : new.nodes.items ≡ old.nodes.items ++ more
+  pub links_are : new.links.items ≡ old.links.items ++ joins
 
 -- the number of the next node
 abbrev pub next_number : Parts → ℕ
 next_number parts = length parts.nodes.items
-
--- the part comes last, and these are its open ends
-abbrev pub LaysDown : Parts → Part → Parts → Ends → Type 0
-LaysDown old P new ends =
-    Lays old.nodes.items old.links.items P new.nodes.items new.links.items ends.root ends.wires.items
-
--- these nodes and links come last
-abbrev pub Grows : Parts → Parts → List (Kind × ℕ) → List (Port × Port) → Type 0
-Grows old new more joins = Adds old.nodes.items new.nodes.items old.links.items new.links.items more joins
 
 -- `TooMany` comes only where these are more than 200,000 nodes
 abbrev pub OnlyAbove : ℕ → TransFault → Type 0

@@ -3,7 +3,7 @@
 ghost use Rattle.std.specs.Prelude.{◌≡◌, ℕ, ◌^◌, All, ◌≤◌, ◌<◌, ◌+◌, ◌++◌, [], ◌∷◌, length, IfOk, OnOk, IfErr};
 ghost use Rattle.ol_term.specs.Trees.{tree_of};
 ghost use Rattle.ol_translate.specs.Translation.{nodes_of, links_of, name_links, occurrence, part_of, wire_of, outside, slot, erasers, bound_port, bracket_nodes, bracket_links, bracketed, fans, fan_nodes, fan_links, merged};
-ghost use Rattle.ol_translate.specs.Growth.{next_number, LaysDown, Grows, OnlyAbove, HaveOneEach, IsIndex};
+ghost use Rattle.ol_translate.specs.Growth.{next_number, Lays, Adds, OnlyAbove, HaveOneEach, IsIndex};
 ghost use Rattle.ol_translate.specs.Names.{HasNames};
 ghost use Rattle.ol_translate.specs.declared.TheConstants.{MOST_NODES};
 ghost use Rattle.ol_translate.specs.declared.faults.TransFault.TheVariants.{TooMany};
@@ -55,7 +55,7 @@ impl Parts {
     pub fn part(&mut self, term: &Term, depth: usize, level: u32) -> Result<Ends, TransFault>
         requires few_abstractions { depth ≤ length self.old.nodes.items }
         requires few_levels { level ≤ length self.old.nodes.items }
-        ensures lays { IfOk result (λ ends. LaysDown self.old
+        ensures lays { IfOk result (λ ends. Lays self.old
             (part_of (tree_of term.now) depth level (next_number self.old)) self.new ends) }
         ensures too_many { IfErr result (λ e.
             let b = next_number self.old in
@@ -79,7 +79,7 @@ impl Parts {
     }
 
     fn occurrence(&mut self, variable: usize, level: u32) -> Result<Ends, TransFault>
-        ensures lays { IfOk result (λ ends. LaysDown self.old
+        ensures lays { IfOk result (λ ends. Lays self.old
             (occurrence variable level (next_number self.old)) self.new ends) }
         ensures too_many { IfErr result (λ e. e ≡ TooMany → MOST_NODES ≤ next_number self.old) }
     {
@@ -96,7 +96,7 @@ impl Parts {
     fn abstraction(&mut self, number: u32, body: &Ends) -> Result<Ends, TransFault>
         ensures adds { OnOk result (
             let x = wire_of 0 body.now.wires.items in
-            Grows self.old self.new (erasers x)
+            Adds self.old self.new (erasers x)
             ((slot number 1, body.now.root)
             ∷ (slot number 2, bound_port x (next_number self.old)) ∷ [])) }
         ensures ends { IfOk result (λ ends. (ends.root ≡ slot number 0)
@@ -135,7 +135,7 @@ impl Parts {
             let b = next_number self.old in
             let more = argument.now.wires.items in
             let F = fans level (b + length more) function.wires.items (bracketed b more) in
-            Grows self.old self.new (bracket_nodes level more ++ F.nodes)
+            Adds self.old self.new (bracket_nodes level more ++ F.nodes)
             (((slot number 0, function.root) ∷ (slot number 2, argument.now.root) ∷ [])
             ++ (bracket_links b more ++ F.links))
             × (ends.root ≡ slot number 1) × (ends.wires.items ≡ F.wires)) }
@@ -160,7 +160,7 @@ impl Parts {
     fn brackets(&mut self, level: u32, wires: &Vec<Wire>) -> Result<Vec<Wire>, TransFault>
         ensures adds { IfOk result (λ out.
             let b = next_number self.old in
-            Grows self.old self.new
+            Adds self.old self.new
             (bracket_nodes level wires.now.items) (bracket_links b wires.now.items)
             × (out.items ≡ bracketed b wires.now.items)) }
         ensures too_many { IfErr result (λ e.
@@ -185,7 +185,7 @@ impl Parts {
         requires one_each { HaveOneEach wires.old.items }
         ensures adds { OnOk result (
             let F = fans level (next_number self.old) wires.old.items more.now.items in
-            Grows self.old self.new F.nodes F.links × (wires.new.items ≡ F.wires)) }
+            Adds self.old self.new F.nodes F.links × (wires.new.items ≡ F.wires)) }
         ensures too_many { IfErr result (λ e.
             let b = next_number self.old in
             OnlyAbove (b + length (fans level b wires.old.items more.now.items).nodes) e) }
@@ -204,7 +204,7 @@ impl Parts {
         ensures adds { OnOk result (
             let b = next_number self.old in
             let x = wire_of wire.0 wires.old.items in
-            Grows self.old self.new (fan_nodes level x) (fan_links b x wire.1)
+            Adds self.old self.new (fan_nodes level x) (fan_links b x wire.1)
             × (wires.new.items ≡ merged b x wire wires.old.items)) }
         ensures too_many { IfErr result (λ e.
             let x = wire_of wire.0 wires.old.items in
