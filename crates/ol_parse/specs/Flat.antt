@@ -1,7 +1,8 @@
 -- The flat form: what a row of steps builds, and what the flat state of the reader stands for.
 use Rattle.std.specs.Prelude.{◌≡◌, ℕ, List, [], ◌∷◌, ◌++◌, map, Bool, true, false, Option, Some, None, option_and_then, is_some}
 use Rattle.ol_parse.specs.Grammar.{Named, var, lam, app, Token}
-use Rattle.ol_parse.specs.Machine.{Frame, applied, abstracted, bound, bracket, defining, State, at, first_name, more_names, let_name, let_equals, join, finish, step}
+use Rattle.ol_parse.specs.Machine.{Frame, applied, abstracted, bound, bracket, defining, State}
+use Rattle.ol_parse.specs.Machine.{at, first_name, more_names, let_name, let_equals, join, finish, step}
 use Rattle.ol_parse.specs.declared.flat.Op.{Op}
 use Rattle.ol_parse.specs.declared.flat.Op.TheVariants.{Push, Apply, Abstract, Bind}
 use Rattle.ol_parse.specs.declared.flat.Open.{Open}
@@ -83,8 +84,8 @@ Unwound true ops ts (Some v) = built ops ≡ Some (v ∷ ts)
 Unwound false ops ts None = Unit {0}
 Unwound _ ops ts _ = ⊥
 
--- What ending one open frame does: for a frame that stands there with a term before it, the steps say whether the term
--- goes on, and build it.
+-- One open frame is ended, unless it wants a bracket or an `in`: the steps then build the term that it makes of the one
+-- before.
 abbrev pub Unwinds : Open → List Op → Bool → List Op → Type 0
 Unwinds innermost ops done ops' =
     (f : Frame) (u : Named) (ts : List Named) → bare innermost ≡ without f → built ops ≡ Some (u ∷ held f ++ ts)
@@ -97,7 +98,7 @@ Ended (u, f ∷ fs) (Some o) opens ops =
     (bare o ≡ without f) × Shows fs opens × (built ops ≡ Some (u ∷ held f ++ waiting fs))
 Ended _ _ opens ops = ⊥
 
--- what ending the innermost term, and all that it ends, does to these frames
+-- The innermost term is whole, and all frames that end with it are ended. What wants a bracket or an `in` is taken off.
 abbrev pub Finishes : List Open → List Op → Option Open → List Open → List Op → Type 0
 Finishes opens ops closer opens' ops' =
     (u : Named) (fs : List Frame) → Shows fs opens → built ops ≡ Some (u ∷ waiting fs)
@@ -136,7 +137,7 @@ Next (Some q) (Some m) opens ops = Holds q m opens ops
 Next None None opens ops = Unit {0}
 Next _ _ opens ops = ⊥
 
--- the flat state, which stood for any state, stands after this token for the next one, or there is none
+-- after this token the flat state stands for the machine's next state, or neither takes it
 abbrev pub Takes : Token → Mode → List Open → List Op → Option Mode → List Open → List Op → Type 0
 Takes k m opens ops next opens' ops' = (p : State) → Holds p m opens ops → Next (step p k) next opens' ops'
 

@@ -102,7 +102,8 @@ impl Parts {
         ensures ends { IfOk result (λ ends. (ends.root ≡ slot number 0)
             × (ends.wires.items ≡ outside body.now.wires.items)) }
         ensures too_many { IfErr result (λ e.
-            OnlyAbove (next_number self.old + length (erasers (wire_of 0 body.now.wires.items))) e) }
+            let x = wire_of 0 body.now.wires.items in
+            OnlyAbove (next_number self.old + length (erasers x)) e) }
     {
         let bound = match find_wire(&body.wires, 0) {
             Some(port) => port,

@@ -1,5 +1,6 @@
 -- The job of a list of words.
-use Rattle.std.specs.Prelude.{ℕ, ◌&&◌, ◌==◌, List, [], ◌∷◌, Option, None, Some, if◌then◌else◌, map, codes, Bool, filter, find, option_map, option_and_then, String, string_bytes}
+use Rattle.std.specs.Prelude.{ℕ, ◌&&◌, ◌==◌, List, [], ◌∷◌, Option, None, Some}
+use Rattle.std.specs.Prelude.{if◌then◌else◌, map, codes, Bool, filter, find, option_map, option_and_then, String, string_bytes}
 use Rattle.std.specs.declared.alloc.Global.{Global}
 use Rattle.std.specs.Str.{bytes_eq}
 use Rattle.ol_words.specs.Lines.{Text, Line, Known, line_of}

@@ -1,5 +1,6 @@
 -- What the words after the command say: options with their values, and names.
-use Rattle.std.specs.Prelude.{ℕ, Bool, false, not, ◌==◌, ◌&&◌, List, [], ◌∷◌, Option, None, Some, if◌then◌else◌, length, nat_lt, codes, option_map, option_and_then}
+use Rattle.std.specs.Prelude.{ℕ, Bool, false, not, ◌==◌, ◌&&◌, List, [], ◌∷◌}
+use Rattle.std.specs.Prelude.{Option, None, Some, if◌then◌else◌, length, nat_lt, codes, option_map, option_and_then}
 use Rattle.std.specs.List.{before_first, after_first, list_any, position_or_len}
 use Rattle.std.specs.Str.{bytes_eq}
 
