@@ -15,9 +15,11 @@ use Rattle.clap.specs.declared.error.kind.ErrorKind.TheVariants.{OutOfMemory}
 use Rattle.ol_words.specs.declared.jobs.Job.{Job}
 use Rattle.ol_words.specs.declared.jobs.UsageFault.{UsageFault}
 use Rattle.ol_words.specs.declared.jobs.UsageFault.TheVariants.{NoMemory, Refused}
-use Rattle.ol_words.specs.Lines.{Text, Line, line_of}
+use Rattle.ol_words.specs.Texts.{Text}
+use Rattle.ol_words.specs.Lines.{Line, line_of}
 use Rattle.ol_words.specs.Numbers.{Limits, setting}
-use Rattle.ol_words.specs.Jobs.{Asked, Setting, Verb, options_of, known_of, verb_named, values_of, number_on, numbers, job_on, job_behind, job_of}
+use Rattle.ol_words.specs.Asked.{Asked}
+use Rattle.ol_words.specs.Jobs.{Setting, Verb, options_of, known_of, verb_named, values_of, number_on, numbers, job_on, job_behind, job_of}
 use Rattle.ol_words.specs.Once.{is_given_once, is_told_once, is_agreed, agreed_verb}
 use Rattle.ol_words.specs.Found.{job_by}
 use Rattle.ol_words.specs.Command.{app}

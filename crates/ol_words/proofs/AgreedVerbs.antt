@@ -3,8 +3,10 @@ use Rattle.std.proofs.Common.{◌≡◌, ◌≤◌, ◌∙◌, sym, ap, arith, t
 use Rattle.std.specs.declared.alloc.Global.{Global}
 use Rattle.std.specs.Prelude.{option_and_then}
 use Rattle.std.specs.Option.{option_map_or}
-use Rattle.ol_words.specs.Lines.{Text, Line, line_of}
-use Rattle.ol_words.specs.Jobs.{Verb, known_of, options_of, texts_of, verb_named}
+use Rattle.ol_words.specs.Texts.{Text}
+use Rattle.ol_words.specs.Lines.{Line, line_of}
+use Rattle.ol_words.specs.Texts.{texts_of}
+use Rattle.ol_words.specs.Jobs.{Verb, known_of, options_of, verb_named}
 use Rattle.ol_words.specs.Once.{agreed_verb, is_agreed, is_told_once}
 
 -- the program's name, the verb's word and the rest

@@ -6,10 +6,12 @@ use Rattle.std.specs.Str.{bytes_eq}
 use Rattle.std.proofs.lemmas.Bool.Decides.{nat_tests}
 use Rattle.std.proofs.lemmas.Bool.{and_parts, or_right}
 use Rattle.clap.specs.Walk.{Row, first_of, rows_after}
-use Rattle.ol_words.specs.Lines.{Text, Line, line_of, is_option}
+use Rattle.ol_words.specs.Texts.{Text}
+use Rattle.ol_words.specs.Lines.{Line, line_of, is_option}
 use Rattle.ol_words.specs.Numbers.{Limits, setting}
 use Rattle.ol_words.specs.Found.{setting_by}
-use Rattle.ol_words.specs.Jobs.{Asked, Setting, file_verb, options_of, known_of, values_of, number_on, numbers}
+use Rattle.ol_words.specs.Asked.{Asked}
+use Rattle.ol_words.specs.Jobs.{Setting, file_verb, options_of, known_of, values_of, number_on, numbers}
 use Rattle.ol_words.specs.Once.{is_given_once, is_told_once}
 use Rattle.ol_words.specs.Found.{number_by, name_before}
 use Rattle.ol_words.proofs.Rows.{itself}

@@ -4,7 +4,8 @@ use Rattle.std.specs.Prelude.{filter, is_some}
 use Rattle.std.specs.Str.{bytes_eq}
 use Rattle.clap.specs.Walk.{Row, used, has_row}
 use Rattle.clap.specs.Simple.{filled}
-use Rattle.ol_words.specs.Lines.{Text, Line, is_option, with_option, with_name}
+use Rattle.ol_words.specs.Texts.{Text}
+use Rattle.ol_words.specs.Lines.{Line, is_option, with_option, with_name}
 use Rattle.ol_words.specs.Jobs.{values_of}
 use Rattle.ol_words.specs.Command.{option_rule}
 use Rattle.std.proofs.lemmas.Bool.{cases_Bool}

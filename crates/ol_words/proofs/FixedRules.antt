@@ -7,7 +7,8 @@ use Rattle.clap.specs.Lexer.{long_of}
 use Rattle.clap.specs.Walk.{Held, Rule, Step, Walk, after_step, arg_by_index, finished, first_of, idle, long_or_other, nothing_held, rows_after, short_or_plain, to_positional, trailing, value, walk_from, walked, word_met}
 use Rattle.clap.specs.Simple.{Shape}
 use Rattle.clap.specs.Takes.{bundle_passes, default_passes, flag_word_passes, is_valid, level_passes, other_passes, settle_passes, step_passes, turn_passes, walk_passes}
-use Rattle.ol_words.specs.Lines.{Text, Line, is_dashed}
+use Rattle.ol_words.specs.Texts.{Text}
+use Rattle.ol_words.specs.Lines.{Line, is_dashed}
 use Rattle.ol_words.specs.Jobs.{Verb, job_on}
 use Rattle.ol_words.specs.Found.{job_by}
 use Rattle.ol_words.proofs.Shapes.{plain_long, plain_short}

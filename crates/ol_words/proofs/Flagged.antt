@@ -9,7 +9,8 @@ use Rattle.std.proofs.lemmas.Slice.Eq.{bytes_eq-Decides}
 use Rattle.clap.specs.Walk.{Held, Rule, arg_by_index, is_pending, nothing_held, pushed, reacted, settled, to_positional, value, walked}
 use Rattle.clap.specs.Takes.{step_passes, turn_passes}
 use Rattle.clap.specs.Simple.{Shape, filled, with_index}
-use Rattle.ol_words.specs.Lines.{Text, Known, Line, flag_alone, is_dashed, is_equals, is_option, line_of, name_and_value, option_of, value_in, with_name, with_option}
+use Rattle.ol_words.specs.Texts.{Text}
+use Rattle.ol_words.specs.Lines.{Known, Line, flag_alone, is_dashed, is_equals, is_option, line_of, name_and_value, option_of, value_in, with_name, with_option}
 use Rattle.ol_words.specs.Jobs.{gen_verb, known_of, values_of}
 use Rattle.ol_words.specs.Once.{is_told_once}
 use Rattle.ol_words.specs.Command.{flag_rule, name_rule}

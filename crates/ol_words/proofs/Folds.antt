@@ -3,7 +3,7 @@ use Rattle.std.proofs.Common.{ℕ, ◌≡◌, ◌∙◌, ◌<◌, ◌+◌, ap, r
 use Rattle.std.specs.Borrow.{Bor}
 use Rattle.std.proofs.lemmas.List.{take_more}
 use Rattle.clap.specs.Words.{App}
-use Rattle.ol_words.specs.Lines.{Text}
+use Rattle.ol_words.specs.Texts.{Text}
 use Rattle.ol_words.specs.Views.{texts}
 
 fold_last : (f : App → Text → App) (z : App) (ys : List (Bor Text)) (y : Bor Text) → fold f z (texts (ys ++ y ∷ [])) ≡ f (fold f z (texts ys)) y.now

@@ -4,7 +4,8 @@ use Rattle.std.specs.Prelude.{⊤}
 use Rattle.clap.specs.Walk.{Names, Row, Rule, Walk, Held, walked, walk_from, with_default, has_row, rows_after, nothing_held, first_of}
 use Rattle.clap.specs.Simple.{filled}
 use Rattle.ol_words.specs.Command.{option_rule}
-use Rattle.ol_words.specs.Lines.{Text, Line, line_of, is_option}
+use Rattle.ol_words.specs.Texts.{Text}
+use Rattle.ol_words.specs.Lines.{Line, line_of, is_option}
 use Rattle.ol_words.specs.Jobs.{values_of}
 use Rattle.std.proofs.lemmas.Bool.{cases_Bool}
 use Rattle.ol_words.proofs.Told.{Told}

@@ -5,7 +5,8 @@ use Rattle.std.specs.Str.{bytes_eq}
 use Rattle.clap.specs.Walk.{Rule, arg_by_long, arg_by_id, arg_by_index, takes_values, most_values, action_of}
 use Rattle.clap.specs.Simple.{filled, with_index}
 use Rattle.clap.specs.declared.builder.action.ArgAction.TheVariants.{Set}
-use Rattle.ol_words.specs.Lines.{Text, Known, is_option}
+use Rattle.ol_words.specs.Texts.{Text}
+use Rattle.ol_words.specs.Lines.{Known, is_option}
 use Rattle.ol_words.specs.Command.{option_rule, name_rule}
 use Rattle.std.proofs.lemmas.Bool.{cases_Bool}
 

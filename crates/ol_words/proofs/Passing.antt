@@ -11,7 +11,8 @@ use Rattle.clap.specs.Simple.{Shape, new_shape, filled}
 use Rattle.clap.specs.Takes.{default_passes, is_given, is_valid, level_passes, bundle_passes, walk_passes, turn_passes, settle_passes, use_passes, other_passes, flag_word_passes, step_passes, long_passes, positional_passes}
 use Rattle.ol_words.specs.Jobs.{values_of}
 use Rattle.ol_words.specs.Once.{is_given_once, is_told_once}
-use Rattle.ol_words.specs.Lines.{Text, Line, line_of, line_from, is_dashed, is_end, is_option, option_of, after_option, with_option, with_name}
+use Rattle.ol_words.specs.Texts.{Text}
+use Rattle.ol_words.specs.Lines.{Line, line_of, line_from, is_dashed, is_end, is_option, option_of, after_option, with_option, with_name}
 use Rattle.ol_words.specs.Command.{option_rule}
 use Rattle.std.proofs.lemmas.Bool.{and_from, and_parts, cases_Bool, or_right}
 use Rattle.ol_words.proofs.Rows.{found_in}

@@ -8,7 +8,7 @@ use Rattle.clap.specs.Walk.{Row, used_as, without, with_values, first_of}
 use Rattle.clap.specs.declared.parser.matches.ValueSource.TheVariants.{CommandLine}
 use Rattle.clap.specs.declared.builder.value_parser.Reading.{Reading}
 use Rattle.clap.specs.declared.builder.action.ArgAction.TheVariants.{Set}
-use Rattle.ol_words.specs.Lines.{Text}
+use Rattle.ol_words.specs.Texts.{Text}
 
 pub itself : (id : Text) → bytes_eq id id ≡ true
 itself id = (bytes_eq-Decides id id).1 refl

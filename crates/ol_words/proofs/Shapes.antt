@@ -5,7 +5,8 @@ use Rattle.std.proofs.lemmas.Bool.{cases_lt}
 use Rattle.std.proofs.lemmas.Bool.Decides.{nat_tests}
 use Rattle.std.specs.List.{position_or_len, before_first, after_first}
 use Rattle.clap.specs.Lexer.{long_of, short_of, has_byte}
-use Rattle.ol_words.specs.Lines.{Text, Known, is_dashed, is_end, is_option, is_equals, option_of, name_and_value, value_in}
+use Rattle.ol_words.specs.Texts.{Text}
+use Rattle.ol_words.specs.Lines.{Known, is_dashed, is_end, is_option, is_equals, option_of, name_and_value, value_in}
 use Rattle.std.proofs.lemmas.Bool.{cases_Bool}
 use Rattle.ol_words.proofs.Options.{valued}
 

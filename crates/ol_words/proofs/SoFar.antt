@@ -2,9 +2,10 @@
 use Rattle.std.proofs.Common.{ℕ, ◌≡◌, ◌∙◌, sym, ap, refl, arith, true, false, List, [], ◌∷◌, ◌++◌, Option, Some, None, map, option_map, if◌then◌else◌, ◌<◌, ◌≤◌, ◌+◌, ◌-◌, length, drop, slice_index_or, String, string_bytes, append-nil, append_assoc}
 use Rattle.std.specs.declared.alloc.Global.{Global}
 use Rattle.std.proofs.lemmas.List.{drop_more, drop_all, length-drop}
-use Rattle.ol_words.specs.Jobs.{texts_of}
+use Rattle.ol_words.specs.Texts.{texts_of}
 use Rattle.std.specs.Borrow.{Bor}
-use Rattle.ol_words.specs.Lines.{Text, Line, Known, line_from, is_dashed, is_end, option_of, after_option, with_option, with_name}
+use Rattle.ol_words.specs.Texts.{Text}
+use Rattle.ol_words.specs.Lines.{Line, Known, line_from, is_dashed, is_end, option_of, after_option, with_option, with_name}
 
 abbrev pub seen : List (Bor Text × Bor Text) → List (Text × Text)
 seen options = map (λ p. (p.0.now, p.1.now)) options

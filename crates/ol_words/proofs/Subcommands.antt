@@ -8,8 +8,10 @@ use Rattle.clap.specs.Walk.{Held, Names, Rule, Walk, answers_to, rows_after, wal
 use Rattle.clap.specs.Takes.{entered_passes, level_passes, settle_passes, turn_passes, walk_passes}
 use Rattle.clap.specs.Simple.{Shape, names_of, entered, label_of, rows_at}
 use Rattle.clap.specs.Words.{is_simple, built, subcommand_of, takes}
-use Rattle.ol_words.specs.Lines.{Text, Line, line_of}
-use Rattle.ol_words.specs.Jobs.{Verb, known_of, options_of, only, verb_named, check_asks, gen_asks, run_asks, trace_asks, view_asks, walk_asks, check_verb, gen_verb, run_verb, trace_verb, view_verb, walk_verb, run, walk, view, trace}
+use Rattle.ol_words.specs.Texts.{Text}
+use Rattle.ol_words.specs.Lines.{Line, line_of}
+use Rattle.ol_words.specs.Asked.{run, walk, view, trace}
+use Rattle.ol_words.specs.Jobs.{Verb, known_of, options_of, only, verb_named, check_asks, gen_asks, run_asks, trace_asks, view_asks, walk_asks, check_verb, gen_verb, run_verb, trace_verb, view_verb, walk_verb}
 use Rattle.ol_words.specs.Once.{is_told_once}
 use Rattle.ol_words.specs.Command.{app}
 use Rattle.std.proofs.lemmas.Bool.{and_from, cases_Bool}

@@ -5,7 +5,8 @@ use Rattle.std.specs.Str.{bytes_eq}
 use Rattle.std.proofs.lemmas.Slice.Eq.{bytes_eq-Decides}
 use Rattle.clap.specs.Walk.{Row, Rule, used, used_as, reading_by, action_of, first_of}
 use Rattle.clap.specs.declared.builder.action.ArgAction.TheVariants.{Set}
-use Rattle.ol_words.specs.Lines.{Text, Line, is_option, with_option, with_name}
+use Rattle.ol_words.specs.Texts.{Text}
+use Rattle.ol_words.specs.Lines.{Line, is_option, with_option, with_name}
 use Rattle.ol_words.specs.Jobs.{values_of}
 use Rattle.std.proofs.lemmas.Bool.{cases_Bool}
 use Rattle.ol_words.proofs.Rows.{found_in, set_other, set_fresh}

@@ -4,7 +4,8 @@ use Rattle.std.specs.Prelude.{option_and_then}
 use Rattle.std.proofs.lemmas.Bool.Decides.{nat_tests}
 use Rattle.clap.specs.Walk.{Held, Rule, nothing_held, pushed, settled}
 use Rattle.clap.specs.Simple.{Shape, filled, with_index}
-use Rattle.ol_words.specs.Lines.{Text, Known, Line, is_dashed, line_of, name_and_value, after_hyphens, option_of}
+use Rattle.ol_words.specs.Texts.{Text}
+use Rattle.ol_words.specs.Lines.{Known, Line, is_dashed, line_of, name_and_value, after_hyphens, option_of}
 use Rattle.ol_words.specs.Jobs.{check_verb}
 use Rattle.ol_words.specs.Once.{is_told_once}
 use Rattle.ol_words.specs.Command.{name_rule}

@@ -1,7 +1,8 @@
 -- The words of a line, by what the first of them is.
 use Rattle.std.proofs.Common.{◌≡◌, ◌∙◌, sym, ap, refl, false, Bool, List, [], ◌∷◌, Option, Some, None, option_map, if◌then◌else◌, codes, inl, inr, subst}
 use Rattle.std.proofs.lemmas.Slice.Eq.{bytes_eq-Decides}
-use Rattle.ol_words.specs.Lines.{Text, Known, Line, line_from, is_dashed, is_end, option_of, after_option, with_option, with_name}
+use Rattle.ol_words.specs.Texts.{Text}
+use Rattle.ol_words.specs.Lines.{Known, Line, line_from, is_dashed, is_end, option_of, after_option, with_option, with_name}
 use Rattle.std.proofs.lemmas.Bool.{cases_Bool}
 use Rattle.ol_words.proofs.Walks.{mapped}
 

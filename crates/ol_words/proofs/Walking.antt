@@ -4,7 +4,8 @@ use Rattle.std.specs.Str.{bytes_eq}
 use Rattle.std.proofs.lemmas.Slice.Eq.{bytes_eq-Decides}
 use Rattle.clap.specs.Walk.{to_positional, Held, Row, Rule, Walk, Waiting, Step, idle, option, trailing, walked, after_step, plain_word, long_or_other, short_or_plain, long_met, option_met, flag_met, after_flag, option_word, pushed, is_pending, settled, reacted}
 use Rattle.clap.specs.Lexer.{long_of}
-use Rattle.ol_words.specs.Lines.{Text, is_dashed, is_end}
+use Rattle.ol_words.specs.Texts.{Text}
+use Rattle.ol_words.specs.Lines.{is_dashed, is_end}
 use Rattle.std.proofs.lemmas.Bool.{cases_Bool}
 use Rattle.ol_words.proofs.Rows.{itself}
 use Rattle.ol_words.proofs.Shapes.{plain_long, plain_short}

@@ -1,7 +1,8 @@
 -- The whole walk over the words behind a verb.
 use Rattle.std.proofs.Common.{◌≡◌, ◌∙◌, sym, ap, refl, true, false, Bool, List, [], ◌∷◌, Option, Some, None, fold, option_map, if◌then◌else◌, codes, inl, inr, subst}
 use Rattle.clap.specs.Walk.{Held, Rule, Walk, idle, option, walked, pushed, settled, reacted, used, used_by_id}
-use Rattle.ol_words.specs.Lines.{Text, Line, line_from, is_dashed, is_end, is_option, option_of, after_option, with_option, with_name}
+use Rattle.ol_words.specs.Texts.{Text}
+use Rattle.ol_words.specs.Lines.{Line, line_from, is_dashed, is_end, is_option, option_of, after_option, with_option, with_name}
 use Rattle.std.proofs.lemmas.Bool.{cases_Bool}
 use Rattle.ol_words.proofs.Told.{Told, told_nothing, told_option, told_name, told_again}
 use Rattle.ol_words.proofs.Shapes.{option_long}

@@ -3,7 +3,8 @@ use Rattle.std.specs.Prelude.{Some, true, codes, if◌then◌else◌, List, fold
 use Rattle.clap.specs.Walk.{Rule}
 use Rattle.clap.specs.Words.{App, new_app, new_rule, with_rule, with_subcommand}
 use Rattle.clap.specs.declared.builder.action.ArgAction.TheVariants.{Set, SetTrue}
-use Rattle.ol_words.specs.Lines.{Text, is_option}
+use Rattle.ol_words.specs.Texts.{Text}
+use Rattle.ol_words.specs.Lines.{is_option}
 use Rattle.ol_words.specs.Jobs.{Verb, options_of, verbs}
 
 -- an option with a value

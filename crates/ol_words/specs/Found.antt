@@ -3,9 +3,11 @@ use Rattle.std.specs.Prelude.{ℕ, List, [], ◌∷◌, Option, None, Some, if�
 use Rattle.std.specs.Str.{bytes_eq}
 use Rattle.clap.specs.Words.{first_value, found_of}
 use Rattle.clap.specs.declared.parser.matches.ArgMatches.{ArgMatches}
-use Rattle.ol_words.specs.Lines.{Text, is_option}
+use Rattle.ol_words.specs.Texts.{Text}
+use Rattle.ol_words.specs.Lines.{is_option}
 use Rattle.ol_words.specs.Numbers.{Limits, number_within}
-use Rattle.ol_words.specs.Jobs.{Asked, Setting, Verb, numbers}
+use Rattle.ol_words.specs.Asked.{Asked}
+use Rattle.ol_words.specs.Jobs.{Setting, Verb, numbers}
 
 -- a setting by its value, if it has one
 abbrev pub setting_by : Limits → Option Text → Option ℕ

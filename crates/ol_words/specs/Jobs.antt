@@ -1,29 +1,12 @@
 -- The job of a list of words.
 use Rattle.std.specs.Prelude.{ℕ, ◌&&◌, ◌==◌, List, [], ◌∷◌, Option, None, Some}
-use Rattle.std.specs.Prelude.{if◌then◌else◌, map, codes, Bool, filter, find, option_map, option_and_then, String, string_bytes}
-use Rattle.std.specs.declared.alloc.Global.{Global}
+use Rattle.std.specs.Prelude.{if◌then◌else◌, map, codes, Bool, filter, find, option_map, option_and_then}
 use Rattle.std.specs.Str.{bytes_eq}
-use Rattle.ol_words.specs.Lines.{Text, Line, Known, line_of}
+pub use Rattle.ol_words.specs.Texts.{texts_of}
+pub use Rattle.ol_words.specs.Asked.{Asked, run, walk, view, trace, check, gen, asked_by}
+use Rattle.ol_words.specs.Texts.{Text}
+use Rattle.ol_words.specs.Lines.{Line, Known, line_of}
 use Rattle.ol_words.specs.Numbers.{Limits, number_within, setting}
-use Rattle.ol_words.specs.declared.jobs.Job.{Job}
-use Rattle.ol_words.specs.declared.jobs.Job.TheVariants as job
-
--- what is to be done, with the texts as lists of bytes
-pub data Asked : Type 0 where
-  run : (workers : ℕ) → (fuel : ℕ) → (heads : ℕ) → (name : Text) → Asked
-  walk : (edges : ℕ) → (heads : ℕ) → (name : Text) → Asked
-  view : (after : ℕ) → (name : Text) → Asked
-  trace : (workers : ℕ) → (fuel : ℕ) → (name : Text) → Asked
-  check : (term : Text) → (journal : Text) → Asked
-  gen : (runs : Bool) → (k : ℕ) → Asked
-
-abbrev pub asked_by : Job → Asked
-asked_by (job.Run workers fuel heads name) = run workers fuel heads name
-asked_by (job.Walk edges heads name) = walk edges heads name
-asked_by (job.View after name) = view after name
-asked_by (job.Trace workers fuel name) = trace workers fuel name
-asked_by (job.Check term journal) = check term journal
-asked_by (job.Gen runs k) = gen runs k
 
 -- ---- the verbs
 
@@ -180,6 +163,3 @@ job_behind rest v = option_and_then (job_on v) (line_of (known_of v) rest)
 abbrev pub job_of : List Text → Option Asked
 job_of (program ∷ word ∷ rest) = option_and_then (job_behind rest) (verb_named word)
 job_of _ = None
-
-abbrev pub texts_of : List (String Global) → List Text
-texts_of words = map string_bytes words

@@ -1,3 +1,5 @@
+pub mod Texts
+pub mod Asked
 pub mod Lines
 pub mod Numbers
 pub mod Jobs

@@ -1,7 +1,7 @@
 -- Numbers of a command line, and the limits that they keep.
 use Rattle.std.specs.Prelude.{ℕ, ◌+◌, ◌*◌, ◌-◌, ◌&&◌, List, [], ◌∷◌, Option, None, Some, if◌then◌else◌, length, nat_le, Bool}
 use Rattle.std.specs.Str.{all_ascii_digits}
-use Rattle.ol_words.specs.Lines.{Text}
+use Rattle.ol_words.specs.Texts.{Text}
 
 -- 1 to 8 ASCII digits
 abbrev pub is_number : Text → Bool

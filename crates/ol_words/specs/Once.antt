@@ -2,7 +2,8 @@
 use Rattle.std.specs.Prelude.{ℕ, ◌&&◌, List, ◌∷◌, Option, None, Some, if◌then◌else◌, length, nat_lt, nat_eq, Bool, false, option_and_then}
 use Rattle.std.specs.Option.{option_map_or}
 use Rattle.std.specs.List.{list_all}
-use Rattle.ol_words.specs.Lines.{Text, Line, line_of}
+use Rattle.ol_words.specs.Texts.{Text}
+use Rattle.ol_words.specs.Lines.{Line, line_of}
 use Rattle.ol_words.specs.Jobs.{Verb, verb_named, options_of, known_of, values_of}
 
 abbrev pub is_given_once : Line → Text → Bool

@@ -1,7 +1,8 @@
 -- What the code's own values stand for: texts, options, limits and verbs.
 use Rattle.std.specs.Prelude.{List, map}
 use Rattle.std.specs.Borrow.{Bor}
-use Rattle.ol_words.specs.Lines.{Text, Known}
+use Rattle.ol_words.specs.Texts.{Text}
+use Rattle.ol_words.specs.Lines.{Known}
 use Rattle.ol_words.specs.Numbers.{Limits}
 use Rattle.ol_words.specs.Jobs.{Verb, run_verb, walk_verb, view_verb, trace_verb, check_verb, gen_verb}
 use Rattle.ol_words.specs.declared.numbers.Limits.{Limits as RustLimits}

@@ -4,7 +4,7 @@ ghost use Rattle.std.specs.Prelude.{◌≡◌, false, true, if◌then◌else◌,
 ghost use Rattle.clap.specs.Words.{app_of, kind_of, rule_of, subcommand_of, subcommand_rows_of, takes};
 ghost use Rattle.clap.specs.declared.builder.command.Command.TheViews.{out-Command};
 ghost use Rattle.ol_words.specs.Command.{app, flag_rule, name_rule, option_rule, sub_app};
-ghost use Rattle.ol_words.specs.Jobs.{texts_of};
+ghost use Rattle.ol_words.specs.Texts.{texts_of};
 ghost use Rattle.ol_words.specs.Views.{verb_of};
 ghost use Rattle.ol_words.specs.Lines.{is_option};
 ghost use Rattle.ol_words.specs.Views.{texts};

@@ -4,7 +4,8 @@ ghost use Rattle.std.specs.Prelude.{◌≡◌, ◌++◌, ◌∷◌, [], Some, No
 ghost use Rattle.ol_words.specs.Lines.{Line, line_of, is_dashed, is_end, option_of, after_hyphens, name_and_value, flag_alone, value_in, is_equals, is_option};
 ghost use Rattle.ol_words.specs.Views.{known_by, texts};
 ghost use Rattle.std.specs.List.{position_or_len};
-ghost use Rattle.ol_words.specs.Jobs.{texts_of, values_of};
+ghost use Rattle.ol_words.specs.Texts.{texts_of};
+ghost use Rattle.ol_words.specs.Jobs.{values_of};
 ghost use Rattle.ol_words.specs.Once.{is_given_once, is_told_once};
 
 use std::alloc::{AllocError, Global};

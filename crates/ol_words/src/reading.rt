@@ -1,7 +1,9 @@
 //! The job of a list of words.
 
 ghost use Rattle.std.specs.Prelude.{◌≡◌, ◌==◌, IfOk, Err, Some, None, option_map, option_and_then};
-ghost use Rattle.ol_words.specs.Jobs.{asked_by, job_of, texts_of};
+ghost use Rattle.ol_words.specs.Texts.{texts_of};
+ghost use Rattle.ol_words.specs.Asked.{asked_by};
+ghost use Rattle.ol_words.specs.Jobs.{job_of};
 ghost use Rattle.ol_words.specs.Views.{verb_of};
 ghost use Rattle.ol_words.specs.Once.{agreed_verb};
 ghost use Rattle.ol_words.specs.Found.{flag_by, job_found};

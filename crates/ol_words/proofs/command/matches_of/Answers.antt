@@ -2,7 +2,7 @@ use Rattle.std.proofs.Common.{◌≡◌, ◌∙◌, ap, ap₂, rules}
 use Rattle.std.proofs.lemmas.Result.{IfErr-weaker, IfOk-weaker}
 use Rattle.clap.specs.Words.{app_of, is_simple, subcommand_of, takes}
 use Rattle.ol_words.specs.Command.{app}
-use Rattle.ol_words.specs.Jobs.{texts_of}
+use Rattle.ol_words.specs.Texts.{texts_of}
 use Rattle.ol_words.proofs.Subcommands.{is_simple_app}
 use Rattle.ol_words.proofs.command.matches_of.Goals as goal
 

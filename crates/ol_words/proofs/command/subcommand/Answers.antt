@@ -5,7 +5,8 @@ use Rattle.clap.specs.Words.{App, new_app, with_rule}
 use Rattle.ol_words.specs.Command.{flag_rule, option_rule, with_name_rule, with_option_rule}
 use Rattle.ol_words.specs.Jobs.{options_of}
 use Rattle.ol_words.specs.Views.{verb_of}
-use Rattle.ol_words.specs.Lines.{Text, is_option}
+use Rattle.ol_words.specs.Texts.{Text}
+use Rattle.ol_words.specs.Lines.{is_option}
 use Rattle.ol_words.specs.Views.{texts}
 use Rattle.ol_words.proofs.Folds.{fold_more}
 use Rattle.ol_words.proofs.command.subcommand.Goals as goal

@@ -1,7 +1,8 @@
 use Rattle.std.proofs.Common.{◌≡◌, ◌++◌, ◌∷◌, [], ◌+◌, ◌-◌, length, Some, None, Option, option_map, map, drop, true, false, sym, ap, ◌∙◌, arith, rules, Bor, string_bytes}
-use Rattle.ol_words.specs.Lines.{Text, is_dashed, is_end, option_of}
+use Rattle.ol_words.specs.Texts.{Text}
+use Rattle.ol_words.specs.Lines.{is_dashed, is_end, option_of}
 use Rattle.ol_words.specs.Views.{known_by}
-use Rattle.ol_words.specs.Jobs.{texts_of}
+use Rattle.ol_words.specs.Texts.{texts_of}
 use Rattle.ol_words.proofs.SoFar.{so_far, seen, word_here, none_left, value_dashed, value_taken, value_lacks, all_read, ended, name_taken, written_out, attached_taken, option_pushed, name_pushed, went_on, rest_length}
 use Rattle.std.proofs.lemmas.List.{take_all}
 use Rattle.ol_words.proofs.lines.line_of.Goals as goal

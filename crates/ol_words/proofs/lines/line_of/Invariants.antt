@@ -1,7 +1,7 @@
 use Rattle.std.proofs.Common.{◌≡◌, drop, map, option_map}
 use Rattle.ol_words.specs.Lines.{line_of}
 use Rattle.ol_words.specs.Views.{known_by}
-use Rattle.ol_words.specs.Jobs.{texts_of}
+use Rattle.ol_words.specs.Texts.{texts_of}
 use Rattle.ol_words.proofs.SoFar.{so_far, seen}
 use Rattle.ol_words.proofs.lines.line_of.Given as goal
 

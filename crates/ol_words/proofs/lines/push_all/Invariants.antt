@@ -1,5 +1,5 @@
 use Rattle.std.proofs.Common.{◌≡◌, ◌++◌, map, take}
-use Rattle.ol_words.specs.Jobs.{texts_of}
+use Rattle.ol_words.specs.Texts.{texts_of}
 use Rattle.ol_words.proofs.lines.push_all.Given as goal
 
 abbrev pub invariant-loop-word : goal.invariant-loop-word

@@ -1,8 +1,10 @@
 use Rattle.std.proofs.Common.{◌-◌, ℕ, ◌≡◌, ◌∙◌, sym, ap, ap₂, true, false, List, Some, None, drop, length, string_bytes, String, Global}
 use Rattle.std.proofs.lemmas.List.{length-map, take_all}
-use Rattle.ol_words.specs.Lines.{Text, line_of}
+use Rattle.ol_words.specs.Texts.{Text}
+use Rattle.ol_words.specs.Lines.{line_of}
 use Rattle.ol_words.specs.Views.{known_by}
-use Rattle.ol_words.specs.Jobs.{known_of, options_of, texts_of, verb_named}
+use Rattle.ol_words.specs.Texts.{texts_of}
+use Rattle.ol_words.specs.Jobs.{known_of, options_of, verb_named}
 use Rattle.ol_words.specs.Views.{verb_of}
 use Rattle.ol_words.specs.Once.{agreed_verb, is_told_once}
 use Rattle.ol_words.proofs.SoFar.{rest_length}

@@ -1,7 +1,7 @@
 use Rattle.std.proofs.Common.{◌≡◌, ◌∙◌, ap, sym, option_map, rules, None, Some}
 use Rattle.std.proofs.lemmas.Result.{IfOk-weaker}
 use Rattle.clap.specs.Words.{found_of, rows_of, subcommand_rows_of}
-use Rattle.ol_words.specs.Jobs.{texts_of}
+use Rattle.ol_words.specs.Texts.{texts_of}
 use Rattle.ol_words.specs.Views.{verb_of}
 use Rattle.ol_words.specs.Once.{agreed_verb}
 use Rattle.ol_words.proofs.Agreed.{by_values, job_found, none_found, not_agreed, not_refused}
