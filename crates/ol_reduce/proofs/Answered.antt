@@ -1,6 +1,5 @@
 -- What the closed words of a table tell of the one-thread run of its net.
-use Rattle.std.proofs.Common.{Bool, slice_index, ◌≡◌, ℕ, ◌≤◌, ◌<◌, List, length, refl, sym, subst, nat_lt, true, false, if◌then◌else◌, arith}
-use Rattle.std.proofs.lemmas.Bool.Decides.{nat_tests}
+use Rattle.std.proofs.Common.{◌≡◌, ℕ, ◌≤◌, List, length, sym, subst, arith}
 use Rattle.ol_net.specs.Graph.{Graph}
 use Rattle.ol_net.specs.Nets.{NamedNet, IsNet, net_under}
 use Rattle.ol_net.specs.Numbered.{net_of}
@@ -11,22 +10,14 @@ use Rattle.ol_rules.specs.Runs.{IsRun, IsComplete, HasActive, IsOneThread}
 use Rattle.ol_rules.proofs.StartNets.{start_net, start_named}
 use Rattle.ol_diamond.specs.OneThread.{DoneTells, OneThreadExists, RunsAgree, SpentTells}
 use Rattle.ol_wire.specs.declared.layout.Parts.{Parts}
-use Rattle.ol_wire.specs.Closed.{ClosedTable, events_in, journal_in, event_at}
+use Rattle.ol_wire.specs.Closed.{ClosedTable, events_in, journal_in, event_at, IsAfter}
 use Rattle.ol_wire.specs.Events.{entry_of}
-use Rattle.ol_wire.specs.Standing.{IsAfter}
 use Rattle.ol_reduce.specs.Reduced.{EndsWithin, IsAsLong}
 use Rattle.ol_reduce.proofs.Births.{length_each}
 
 -- the journal has an entry for each ticket below the fuel
 pub steps_in : (z : Parts) (words : List ℕ) → length (journal_in z words) ≡ events_in z words
 steps_in z words = length_each (λ t. entry_of z (event_at z words t)) (events_in z words)
-
-few_of : (b : Bool) (n m : ℕ) → (b ≡ true → n ≤ m) → (if b then n else m) ≤ m
-few_of true n m h = h refl
-few_of false n m h = omega arith
-
-pub events_few : (z : Parts) (words : List ℕ) → events_in z words ≤ z.fuel
-events_few z words = few_of (nat_lt (slice_index words 0) z.fuel) (slice_index words 0) z.fuel (λ e. let lt : slice_index words 0 < z.fuel = grind (arith, nat_tests) in omega (arith, lt))
 
 -- a run of the words is one of the net that the table was made from
 pub from_net : (net : Graph) (w : ClosedTable) → w.plan.start.value ≡ net → (M : NamedNet NodeName) → IsAfter w M → IsRun (net_under Init (net_of net)) 0 (journal_in w.plan.parts w.words) M

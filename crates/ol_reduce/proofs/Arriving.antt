@@ -9,11 +9,10 @@ use Rattle.ol_net.proofs.Tables.{length-linked}
 use Rattle.ol_rules.specs.declared.journal.NodeName.{NodeName}
 use Rattle.ol_wire.specs.declared.layout.Parts.{Parts}
 use Rattle.ol_wire.specs.References.{kind_in, index_in, place_in}
-use Rattle.ol_wire.specs.Layout.{block, place_of, size, start_cell, born_cell, left_word, cells_of}
-use Rattle.ol_wire.specs.Rule.{IsPlaced}
+use Rattle.ol_wire.specs.Layout.{block, place_of, size, start_cell, born_cell, left_word, cells_of, IsPlaced}
 use Rattle.ol_wire.specs.Stands.{IsEnd}
-use Rattle.ol_wire.specs.Closed.{ClosedTable, events_in}
-use Rattle.ol_wire.specs.Standing.{is_reached_in, StandsFor, IsAfter}
+use Rattle.ol_wire.specs.Closed.{ClosedTable, events_in, IsAfter}
+use Rattle.ol_wire.specs.Standing.{is_reached_in, StandsFor}
 use Rattle.ol_wire.proofs.Places.{part_cell, place_before}
 use Rattle.ol_wire.proofs.Claimed.{wider}
 use Rattle.ol_reduce.specs.Left.{ranks_in, IsLeft, AreLeft}

@@ -1,7 +1,6 @@
 -- How many nodes a ticket made, as its entry and the two nodes of its block tell.
-use Rattle.std.proofs.Common.{◌≡◌, ℕ, zero, suc, ◌+◌, ◌<◌, Bool, true, false, if◌then◌else◌, List, [], ◌∷◌, ◌++◌, length, slice_index, Option, Some, None, inl, inr, refl, sym, ap, ◌∙◌, arith}
+use Rattle.std.proofs.Common.{◌≡◌, ℕ, zero, suc, ◌+◌, ◌<◌, Bool, true, false, if◌then◌else◌, List, [], ◌∷◌, ◌++◌, length, slice_index, Option, Some, None, refl, sym, ap, ◌∙◌, arith}
 use Rattle.std.specs.Prelude.{slice_get}
-use Rattle.std.proofs.lemmas.Bool.{cases_lt}
 use Rattle.ol_net.specs.Parts.{arity}
 use Rattle.ol_rules.specs.declared.journal.Entry.{Entry}
 use Rattle.ol_rules.specs.Listed.{each}
@@ -13,6 +12,7 @@ use Rattle.ol_net.specs.declared.parts.Rule.{Rule}
 use Rattle.ol_wire.specs.Events.{rule_between, acting, entry_of}
 use Rattle.ol_wire.specs.Blocks.{copies_of_f, copies_of_g}
 use Rattle.ol_wire.specs.Closed.{events_in, event_at, journal_in}
+use Rattle.ol_wire.proofs.ClosingTable.{entry_at}
 
 pub length_each : {X : Type 0} (f : ℕ → X) (n : ℕ) → length (each n (λ t. f t ∷ [])) ≡ n
 length_each f zero = refl
@@ -21,27 +21,6 @@ length_each f (suc n) = length_more (each n (λ t. f t ∷ [])) (f n) ∙ ap suc
     length_more : {X : Type 0} (xs : List X) (x : X) → length (xs ++ x ∷ []) ≡ suc (length xs)
     length_more [] x = refl
     length_more (y ∷ xs) x = ap suc (length_more xs x)
-
-got_more : {X : Type 0} (xs : List X) (x : X) (t : ℕ) → t < length xs → slice_get (xs ++ x ∷ []) t ≡ slice_get xs t
-got_more [] x t lt = absurd (omega arith)
-got_more (y ∷ xs) x zero lt = refl
-got_more (y ∷ xs) x (suc t) lt = got_more xs x t (omega arith)
-
-got_new : {X : Type 0} (xs : List X) (x : X) (t : ℕ) → t ≡ length xs → slice_get (xs ++ x ∷ []) t ≡ Some x
-got_new [] x zero e = refl
-got_new [] x (suc t) e = absurd (omega (arith, e))
-got_new (y ∷ xs) x zero e = absurd (omega (arith, e))
-got_new (y ∷ xs) x (suc t) e = got_new xs x t (omega (arith, e))
-
-pub one_each : {X : Type 0} (f : ℕ → X) (n t : ℕ) → t < n → slice_get (each n (λ t. f t ∷ [])) t ≡ Some (f t)
-one_each f zero t lt = absurd (omega arith)
-one_each f (suc n) t lt = elim (cases_lt t n) [
-  | inl a ↦ got_more (each n (λ t. f t ∷ [])) (f n) t (omega (arith, a, length_each f n)) ∙ one_each f n t a
-  | inr a ↦ let e : n ≡ t = omega (arith, lt, a) in got_new (each n (λ t. f t ∷ [])) (f n) t (omega (arith, e, length_each f n)) ∙ ap (λ m. Some (f m)) e
-]
-
-pub entry_at : (z : Parts) (words : List ℕ) (t : ℕ) → t < events_in z words → slice_get (journal_in z words) t ≡ Some (entry_of z (event_at z words t))
-entry_at z words t lt = one_each (λ t. entry_of z (event_at z words t)) (events_in z words) t lt
 
 -- how many nodes an event makes, whichever of its two nodes comes first
 acting_copies : (a b : Option Rule) (l r : ℕ) → copies_of_f (acting a b l r) + copies_of_g (acting a b l r) ≡ (if is_meeting (acting a b l r).rule then 0 else arity (kind_in l) + arity (kind_in r))

@@ -44,10 +44,6 @@ module _ (free : ℕ) (partners : List ℕ) where
   row_no : (k : ℕ) → other partners k ≤ k → link_row free partners k ≡ []
   row_no k ge = let e : nat_lt k (other partners k) ≡ false = grind (arith, nat_tests) in ap (λ b. if b then link_of k ∷ [] else []) e
 
-  append_nil : (xs : List (Port × Port)) → xs ≡ xs ++ []
-  append_nil [] = refl
-  append_nil (x ∷ xs) = ap (λ xs. x ∷ xs) (append_nil xs)
-
   -- the place that link j is of
   pub record LinkAt (n j : ℕ) : Type 0 where
     pub k : ℕ

@@ -8,17 +8,16 @@ use Rattle.ol_rules.specs.declared.journal.NodeName.{NodeName}
 use Rattle.ol_rules.specs.declared.journal.NodeName.TheVariants.{Init, Born}
 use Rattle.ol_rules.specs.declared.journal.Entry.{Entry}
 use Rattle.ol_wire.specs.declared.layout.Parts.{Parts}
-use Rattle.ol_wire.specs.Layout.{place_of}
+use Rattle.ol_wire.specs.Layout.{place_of, IsPlaced}
 use Rattle.ol_wire.specs.Closed.{ClosedTable, events_in, event_at, journal_in}
 use Rattle.ol_wire.specs.Events.{entry_of}
-use Rattle.ol_wire.specs.Rule.{IsPlaced}
 use Rattle.ol_wire.specs.Standing.{IsUntouched, IsMadeNode}
 use Rattle.ol_reduce.proofs.Births.{length_each}
 use Rattle.ol_wire.proofs.Claimed.{wider}
 use Rattle.ol_reduce.specs.Left.{rank_of, name_of_rank, ranks_in, IsLeft, IsNamedBefore, AreMarked, AreLeft}
 
-name_low : (z : Parts) (r : ℕ) → r < z.nodes → name_of_rank z r ≡ Init r
-name_low z r lt = ap (λ b. if b then Init r else Born ((r - z.nodes) / 4) ((r - z.nodes) % 4)) (lt-ltb r z.nodes lt)
+pub name_of_start : (z : Parts) (r : ℕ) → r < z.nodes → name_of_rank z r ≡ Init r
+name_of_start z r lt = ap (λ b. if b then Init r else Born ((r - z.nodes) / 4) ((r - z.nodes) % 4)) (lt-ltb r z.nodes lt)
 
 name_high : (z : Parts) (r : ℕ) → z.nodes ≤ r → name_of_rank z r ≡ Born ((r - z.nodes) / 4) ((r - z.nodes) % 4)
 name_high z r ge = let e : nat_lt r z.nodes ≡ false = grind (arith, nat_tests) in ap (λ b. if b then Init r else Born ((r - z.nodes) / 4) ((r - z.nodes) % 4)) e
@@ -26,15 +25,15 @@ name_high z r ge = let e : nat_lt r z.nodes ≡ false = grind (arith, nat_tests)
 -- places have the order of ranks
 pub place_rises : (z : Parts) (r q : ℕ) → r < q → place_of z (name_of_rank z r) < place_of z (name_of_rank z q)
 place_rises z r q lt = elim (cases_lt q z.nodes) [
-  | inl b ↦ omega (arith, ap (place_of z) (name_low z r (omega (arith, lt, b))), ap (place_of z) (name_low z q b), lt)
+  | inl b ↦ omega (arith, ap (place_of z) (name_of_start z r (omega (arith, lt, b))), ap (place_of z) (name_of_start z q b), lt)
   | inr b ↦ elim (cases_lt r z.nodes) [
-    | inl a ↦ omega (arith, ap (place_of z) (name_low z r a), ap (place_of z) (name_high z q b), a)
+    | inl a ↦ omega (arith, ap (place_of z) (name_of_start z r a), ap (place_of z) (name_high z q b), a)
     | inr a ↦ omega (arith, ap (place_of z) (name_high z r a), ap (place_of z) (name_high z q b), a, b, lt)
   ]
 ]
 
 pub name_back : (z : Parts) (x : NodeName) (n : ℕ) → IsPlaced z n x → name_of_rank z (rank_of z x) ≡ x
-name_back z (Init k) n lt = name_low z k lt
+name_back z (Init k) n lt = name_of_start z k lt
 name_back z (Born t i) n h =
     let q : (z.nodes + 4 * t + i - z.nodes) / 4 ≡ t = omega (arith, h.1) in
     let m : (z.nodes + 4 * t + i - z.nodes) % 4 ≡ i = omega (arith, h.1) in
@@ -46,13 +45,13 @@ rank_low z (Born t i) n h = omega (arith, h.0, h.1)
 
 pub name_placed : (z : Parts) (n r : ℕ) → r < z.nodes + 4 * n → IsPlaced z n (name_of_rank z r)
 name_placed z n r lt = elim (cases_lt r z.nodes) [
-  | inl a ↦ subst (IsPlaced z n) (sym (name_low z r a)) a
+  | inl a ↦ subst (IsPlaced z n) (sym (name_of_start z r a)) a
   | inr a ↦ subst (IsPlaced z n) (sym (name_high z r a)) (omega (arith, lt, a), omega arith)
 ]
 
 pub rank_back : (z : Parts) (r : ℕ) → rank_of z (name_of_rank z r) ≡ r
 rank_back z r = elim (cases_lt r z.nodes) [
-  | inl a ↦ ap (rank_of z) (name_low z r a)
+  | inl a ↦ ap (rank_of z) (name_of_start z r a)
   | inr a ↦ ap (rank_of z) (name_high z r a) ∙ (let e : z.nodes + 4 * ((r - z.nodes) / 4) + (r - z.nodes) % 4 ≡ r = omega (arith, a) in e)
 ]
 
@@ -249,9 +248,6 @@ module _ (w : ClosedTable) (marks : List Bool) (m : AreMarked w (events_in w.pla
 
 pub name_of_born : (z : Parts) (t p : ℕ) → p < 4 → name_of_rank z (z.nodes + 4 * t + p) ≡ Born t p
 name_of_born z t p lt = name_back z (Born t p) (suc t) (omega arith, lt)
-
-pub name_of_start : (z : Parts) (k : ℕ) → k < z.nodes → name_of_rank z k ≡ Init k
-name_of_start z k lt = name_low z k lt
 
 -- the number of a node that is left
 pub number_told : (w : ClosedTable) (places numbers : List ℕ) → AreLeft w (ranks_in w) places numbers → (x : NodeName) → IsPlaced w.plan.parts (events_in w.plan.parts w.words) x → IsLeft w x → (rank number : ℕ)

@@ -11,6 +11,7 @@ use Rattle.ol_reduce.specs.Found.{AreMetTo, AreCelledTo, IsWordOf, IsWordAt, Kee
 use Rattle.ol_reduce.proofs.Arriving.{Told, small_of}
 use Rattle.ol_reduce.proofs.WordOf.{word_of_port, word_of_slot, field_within}
 use Rattle.ol_reduce.proofs.Meeting.{wider_met, none_met, owner_no_slot}
+use Rattle.ol_wire.proofs.OpeningLists.{empty_at}
 
 module _ (w : ClosedTable) (places numbers : List ℕ) (left_are : AreLeft w (ranks_in w) places numbers) (told : Told w) where
   abbrev z : Parts
@@ -47,11 +48,6 @@ keeps_all xs ys zs f g a h = g a (f a h)
 pub celled_kept : (w : ClosedTable) (places partners partners' : List ℕ) (n : ℕ) → AreCelledTo w places partners n → KeepsPartners partners partners' → length partners' ≡ length partners → AreCelledTo w places partners' n
 celled_kept w places partners partners' n h k e N reached s c r a lt lta f q i = k a (h N reached s c r a lt (omega (arith, lta, e)) f q i)
 
-pub zeros : (n u : ℕ) → slice_index (replicate n 0) u ≡ 0
-zeros zero u = refl
-zeros (suc n) zero = refl
-zeros (suc n) (suc u) = zeros n u
-
 pub place_read : (places : List ℕ) (j v : ℕ) → j < length places → v ≡ get_or places j v → v ≡ slice_index places j
 place_read places j v lt e = e ∙ get_or_default places j v 0 lt
 
@@ -60,4 +56,4 @@ take_none zero = refl
 take_none (suc n) = refl
 
 pub filled_zeros : (items xs : List ℕ) (n m : ℕ) → xs ≡ [] → items ≡ take n xs ++ replicate m 0 → (u : ℕ) → slice_index items u ≡ 0
-filled_zeros items xs n m e h u = ap (λ ys. slice_index ys u) (h ∙ ap (λ xs. take n xs ++ replicate m 0) e ∙ ap (λ ys. ys ++ replicate m 0) (take_none n)) ∙ zeros m u
+filled_zeros items xs n m e h u = ap (λ ys. slice_index ys u) (h ∙ ap (λ xs. take n xs ++ replicate m 0) e ∙ ap (λ ys. ys ++ replicate m 0) (take_none n)) ∙ empty_at m u

@@ -13,9 +13,8 @@ use Rattle.ol_rules.specs.Names.{comes_before}
 use Rattle.ol_rules.proofs.Born.{at_most_two}
 use Rattle.ol_wire.specs.declared.layout.Parts.{Parts}
 use Rattle.ol_wire.specs.References.{node_ref, wire_ref, slot_ref}
-use Rattle.ol_wire.specs.Layout.{place_of, port_word}
+use Rattle.ol_wire.specs.Layout.{place_of, port_word, IsPlaced}
 use Rattle.ol_wire.specs.Events.{name_at}
-use Rattle.ol_wire.specs.Rule.{IsPlaced}
 use Rattle.ol_wire.specs.Stands.{IsEnd, of_port, principal, auxiliary}
 use Rattle.ol_wire.specs.Closed.{ClosedTable, events_in}
 use Rattle.ol_wire.specs.Standing.{StandsFor}

@@ -8,8 +8,8 @@ use Rattle.ol_net.specs.Build.{Builds}
 use Rattle.ol_net.specs.Pairing.{other}
 use Rattle.ol_rules.specs.declared.journal.NodeName.{NodeName}
 use Rattle.ol_wire.specs.Layout.{cells_of}
-use Rattle.ol_wire.specs.Closed.{ClosedTable}
-use Rattle.ol_wire.specs.Standing.{is_reached_in, IsAfter}
+use Rattle.ol_wire.specs.Closed.{ClosedTable, IsAfter}
+use Rattle.ol_wire.specs.Standing.{is_reached_in}
 use Rattle.ol_reduce.specs.Left.{ranks_in, AreLeft}
 use Rattle.ol_reduce.specs.Drafts.{frozen_top, links_below, IsComplete}
 use Rattle.ol_reduce.specs.Frozen.{IsFrozen}

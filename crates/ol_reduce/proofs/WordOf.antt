@@ -6,10 +6,9 @@ use Rattle.ol_rules.specs.declared.journal.NodeName.{NodeName}
 use Rattle.ol_rules.proofs.Born.{at_most_two}
 use Rattle.ol_wire.specs.declared.layout.Parts.{Parts}
 use Rattle.ol_wire.specs.References.{wire_ref, slot_ref}
-use Rattle.ol_wire.specs.Layout.{Part, field, part_of, place_of, port_word, size}
+use Rattle.ol_wire.specs.Layout.{Part, field, part_of, place_of, port_word, size, IsPlaced}
 use Rattle.ol_wire.specs.Layout as layout
 use Rattle.ol_wire.specs.Edges.{edge_to, edge_in, is_live}
-use Rattle.ol_wire.specs.Rule.{IsPlaced}
 use Rattle.ol_wire.specs.Stands.{IsEnd, of_port, IsWireEnd}
 use Rattle.ol_wire.specs.Closed.{ClosedTable, events_in}
 use Rattle.ol_wire.specs.Standing.{StandsFor, IsWirePart}

@@ -4,8 +4,7 @@ use Rattle.ol_rules.specs.declared.journal.NodeName.{NodeName}
 use Rattle.ol_rules.specs.declared.journal.NodeName.TheVariants.{Init, Born}
 use Rattle.ol_rules.specs.declared.journal.Entry.{Entry}
 use Rattle.ol_wire.specs.declared.layout.Parts.{Parts}
-use Rattle.ol_wire.specs.Layout.{place_of}
-use Rattle.ol_wire.specs.Rule.{IsPlaced}
+use Rattle.ol_wire.specs.Layout.{place_of, IsPlaced}
 use Rattle.ol_wire.specs.Closed.{ClosedTable, events_in, journal_in}
 use Rattle.ol_wire.specs.Standing.{IsMadeNode, IsUntouched}
 

@@ -8,8 +8,7 @@ use Rattle.ol_rules.specs.declared.journal.NodeName.TheVariants.{Init}
 use Rattle.ol_rules.specs.declared.journal.Entry.{Entry}
 use Rattle.ol_rules.specs.Runs.{IsComplete, HasActive, IsOneThread}
 use Rattle.ol_wire.specs.Starts.{AreParts}
-use Rattle.ol_wire.specs.Closed.{ClosedTable, journal_in}
-use Rattle.ol_wire.specs.Standing.{IsAfter}
+use Rattle.ol_wire.specs.Closed.{ClosedTable, journal_in, IsAfter}
 use Rattle.ol_reduce.specs.Frozen.{IsFrozen}
 use Rattle.ol_reduce.specs.declared.reduced.Reduced.{Reduced}
 use Rattle.ol_reduce.specs.declared.reduced.Reduced.TheVariants.{Done, Spent}

@@ -4,7 +4,7 @@ ghost use Rattle.ol_net.specs.Nets.{NamedNet};
 ghost use Rattle.ol_net.specs.Pairing.{linked};
 ghost use Rattle.ol_rules.specs.declared.journal.NodeName.{NodeName};
 ghost use Rattle.ol_wire.specs.Layout.{size, cells_of};
-ghost use Rattle.ol_wire.specs.Standing.{IsAfter};
+ghost use Rattle.ol_wire.specs.Closed.{IsAfter};
 ghost use Rattle.ol_reduce.specs.Left.{ranks_in, AreLeft};
 ghost use Rattle.ol_reduce.specs.Frozen.{IsFrozen};
 ghost use Rattle.ol_reduce.specs.Used.{words_used, cells_used};

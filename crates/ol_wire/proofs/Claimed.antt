@@ -1,11 +1,10 @@
 -- What a cell holds that isn't empty: two nodes that face each other, whose fields are written.
-use Rattle.std.proofs.Common.{◌≡◌, ◌≢◌, ℕ, suc, ◌+◌, ◌<◌, ◌≤◌, Bool, true, false, if◌then◌else◌, nat_eq, eq-eqb, ne_eqb, List, [], ◌∷◌, ◌++◌, length, get_or, ◌⊎◌, inl, inr, refl, sym, ap, ◌∙◌, subst, arith}
+use Rattle.std.proofs.Common.{◌≡◌, ◌≢◌, ℕ, suc, ◌+◌, ◌<◌, ◌≤◌, Bool, true, false, if◌then◌else◌, nat_eq, eq-eqb, ne_eqb, List, [], ◌∷◌, length, get_or, ◌⊎◌, inl, inr, refl, sym, ap, ◌∙◌, subst, arith}
 use Rattle.std.proofs.lemmas.Bool.{cases_eq}
 use Rattle.ol_edges.specs.Edges.{IsIn, here, on, ends, bit}
 use Rattle.ol_net.specs.declared.parts.Kind.{Kind}
 use Rattle.ol_net.specs.Nets.{NamedPort, slot, NamedNet, HasNode, Linked}
 use Rattle.ol_net.specs.Parts.{arity}
-use Rattle.ol_net.specs.declared.parts.Kind.TheVariants as kind
 use Rattle.ol_rules.specs.declared.journal.NodeName.{NodeName}
 use Rattle.ol_rules.specs.declared.journal.NodeName.TheVariants.{Init, Born}
 use Rattle.ol_wire.specs.declared.layout.Parts.{Parts}
@@ -13,36 +12,17 @@ use Rattle.ol_wire.specs.declared.plan.Plan.{Plan}
 use Rattle.ol_wire.specs.declared.view.Link.{Link}
 use Rattle.ol_wire.specs.declared.view.View.{View}
 use Rattle.ol_wire.specs.References.{node_ref, wire_ref, slot_ref, IsNodeRef, IsRef}
-use Rattle.ol_wire.specs.Layout.{Part, ticket, port, field, wire, between, left, right, entry, past, part_of, place_of, size}
+use Rattle.ol_wire.specs.Layout.{Part, ticket, port, field, wire, between, left, right, entry, past, part_of, place_of, size, IsPlaced}
 use Rattle.ol_wire.specs.Edges.{edge_to, edge_in, edges_in, edges_of, links_in, pending_in, is_reached, is_live}
 use Rattle.ol_wire.specs.Stands.{IsEnd, of_port, principal, auxiliary, IsWireEnd}
-use Rattle.ol_wire.specs.Rule.{Table, IsView, IsPlaced, IsOwn, Kept}
+use Rattle.ol_wire.specs.Rule.{Table, IsView, IsOwn, Kept}
 use Rattle.ol_wire.proofs.References.{node_sort, wire_sort, slot_sort, slot_same}
 use Rattle.ol_wire.proofs.Places.{part_field, is_left, place_before, place_same}
-use Rattle.ol_wire.proofs.Alike.{pairs_append, ends_weigh, end_weight}
 use Rattle.ol_wire.proofs.EdgeList.{edge_there, edge_found, pending_there, pending_found, live_there}
 use Rattle.ol_wire.proofs.Held.{Holds, owner}
-
-pub in_left : {A : Type 0} (x : A) (xs ys : List A) → IsIn x xs → IsIn x (xs ++ ys)
-in_left x [] ys h = elim h [ ]
-in_left x (y ∷ xs) ys (inl e) = inl e
-in_left x (y ∷ xs) ys (inr h) = inr (in_left x xs ys h)
-
-pub in_right : {A : Type 0} (x : A) (xs ys : List A) → IsIn x ys → IsIn x (xs ++ ys)
-in_right x [] ys h = h
-in_right x (y ∷ xs) ys h = inr (in_right x xs ys h)
-
-pub in_either : {A : Type 0} (x : A) (xs ys : List A) → IsIn x (xs ++ ys) → IsIn x xs ⊎ IsIn x ys
-in_either x [] ys h = inr h
-in_either x (y ∷ xs) ys (inl e) = inl (inl e)
-in_either x (y ∷ xs) ys (inr h) = behind (in_either x xs ys h)
-  where
-    behind : IsIn x xs ⊎ IsIn x ys → IsIn x (y ∷ xs) ⊎ IsIn x ys
-    behind (inl i) = inl (inr i)
-    behind (inr i) = inr i
-
-pub ends_append : (u : ℕ) (es fs : List (ℕ × ℕ)) → ends nat_eq u (es ++ fs) ≡ ends nat_eq u es + ends nat_eq u fs
-ends_append u es fs = omega (arith, ends_weigh u (es ++ fs), ends_weigh u es, ends_weigh u fs, pairs_append (end_weight u) es fs)
+use Rattle.ol_rules.proofs.Lists.{in_left, in_cases}
+use Rattle.ol_rules.proofs.EndCounts.{ends_append}
+use Rattle.ol_rules.proofs.Born.{at_most_two}
 
 pub same_bit : (u v : ℕ) → u ≡ v → bit (nat_eq u v) ≡ 1
 same_bit u v e = ap bit (eq-eqb u v e)
@@ -123,7 +103,7 @@ pub wider : (z : Parts) (x : NodeName) (m n : ℕ) → m ≤ n → IsPlaced z m 
 wider z (Init j) m n le h = h
 wider z (Born t i) m n le h = (omega (arith, le, h.0), h.1)
 
-own_edge : (net : NamedNet NodeName) (r : Bool) (at : Part) (x : NodeName) (c n word next : ℕ) → at ≡ field x c → is_live net x ≡ true → word ≢ 0 → IsIn (slot_ref n, word) (edge_in net r at n word next)
+pub own_edge : (net : NamedNet NodeName) (r : Bool) (at : Part) (x : NodeName) (c n word next : ℕ) → at ≡ field x c → is_live net x ≡ true → word ≢ 0 → IsIn (slot_ref n, word) (edge_in net r at n word next)
 own_edge net r at x c n word next e live m =
     subst (λ q. IsIn {X = ℕ × ℕ} (slot_ref n, word) (edge_in net r q n word next)) (sym e)
     (subst (λ b. IsIn {X = ℕ × ℕ} (slot_ref n, word) (if b then edge_to (slot_ref n) word else [])) (sym live)
@@ -238,18 +218,10 @@ module _ (p : Plan) (s : Table) (k : Kept p s) where
       of_either a b (inr i) e = let t = pending_found s.views (a, b) i in absurd (of_link a b t.1 (t.0, t.2) t.1.pending (λ l h. h) t.3 e)
 
       of : (a : ℕ) × (b : ℕ) × IsIn (a, b) all × ((a ≡ slot_ref place) ⊎ (b ≡ slot_ref place)) → get_or k.full place 0 ≢ 0
-      of t = of_either t.0 t.1 (in_either (t.0, t.1) in_words (pending_in s.views) t.2) t.3
+      of t = of_either t.0 t.1 (in_cases (t.0, t.1) in_words (pending_in s.views) t.2) t.3
 
   pub is_placed : (x : NodeName) (m : Kind) (i : ℕ) → HasNode k.net x m i → IsPlaced z z.fuel x
   is_placed x m i h = wider z x (length k.log) z.fuel k.tickets.few (k.journal.names x m i h)
-
-  arity_two : (m : Kind) → arity m ≤ 2
-  arity_two kind.Lam = omega arith
-  arity_two kind.App = omega arith
-  arity_two kind.Fan = omega arith
-  arity_two kind.Croissant = omega arith
-  arity_two kind.Bracket = omega arith
-  arity_two kind.Eraser = omega arith
 
   pub field_within : (x : NodeName) (m : Kind) (i c : ℕ) → HasNode k.net x m i → c < 2 → place_of z x + c < size z
   field_within x m i c h lt = omega (arith, (place_before z x z.fuel (is_placed x m i h)).1)
@@ -270,7 +242,7 @@ module _ (p : Plan) (s : Table) (k : Kept p s) where
       of_end q e (of_port {n = n} b) same = omega (arith, same, wire_sort (suc n), slot_sort (place_of z x + c))
       of_end q e (principal {x = y} m' i' h') same = omega (arith, same, node_sort m' i' (place_of z y), slot_sort (place_of z x + c))
       of_end q e (auxiliary {x = y} {s = d} m' i' h' b) same =
-          let t = place_same z y x d c z.fuel (is_placed y m' i' h') (is_placed x m i h) (omega (arith, b, arity_two m')) lt (slot_same _ _ same) in
+          let t = place_same z y x d c z.fuel (is_placed y m' i' h') (is_placed x m i h) (omega (arith, b, at_most_two m')) lt (slot_same _ _ same) in
           let u = k.journal.is_net.one_node x m' m i' i (subst (λ y. HasNode k.net y m' i') t.0 h') h in
           omega (arith, b, le, t.1, ap arity u.0)
 
@@ -281,7 +253,7 @@ module _ (p : Plan) (s : Table) (k : Kept p s) where
   -- a node of a cell's pair stands in no pending link
   pub not_pending : (w : ℕ) → part_of z w ≡ left → get_or k.full w 0 ≢ 0 → (x : NodeName) (m : Kind) (i : ℕ) → HasNode k.net x m i → (get_or k.full w 0 ≡ node_ref m i (place_of z x)) ⊎ (get_or k.full (suc w) 0 ≡ node_ref m i (place_of z x)) → (v : View) (d : ℕ) → IsView s v → IsIn (node_ref m i (place_of z x), d) (links_in v.pending) → ⊥
   not_pending w is_cell some_pair x m i h ref v d is there =
-      omega (arith, k.stands.ports (slot x 0) r (principal m i h), ends_append r in_words (pending_in s.views), in_cell ref, ends_first r d (pending_in s.views) (pending_there s.views is.0 v (r, d) is.1 there))
+      omega (arith, k.stands.ports (slot x 0) r (principal m i h), ends_append nat_eq r in_words (pending_in s.views), in_cell ref, ends_first r d (pending_in s.views) (pending_there s.views is.0 v (r, d) is.1 there))
     where
       r : ℕ
       r = node_ref m i (place_of z x)
@@ -292,13 +264,13 @@ module _ (p : Plan) (s : Table) (k : Kept p s) where
 
   -- the fields of a node of a cell's pair are written
   pub field_written : (w : ℕ) → part_of z w ≡ left → get_or k.full w 0 ≢ 0 → (x : NodeName) (m : Kind) (i c : ℕ) → HasNode k.net x m i → (get_or k.full w 0 ≡ node_ref m i (place_of z x)) ⊎ (get_or k.full (suc w) 0 ≡ node_ref m i (place_of z x)) → c < arity m → get_or s.words (place_of z x + c) 0 ≡ get_or k.full (place_of z x + c) 0
-  field_written w is_cell some_pair x m i c h ref lt = of (owner p s k place (field_within x m i c h (omega (arith, lt, arity_two m))) (field_full x m i c h lt))
+  field_written w is_cell some_pair x m i c h ref lt = of (owner p s k place (field_within x m i c h (omega (arith, lt, at_most_two m))) (field_full x m i c h lt))
     where
       place : ℕ
       place = place_of z x + c
 
       is_field : part_of z place ≡ field x c
-      is_field = part_field z x c (is_placed x m i h) (omega (arith, lt, arity_two m))
+      is_field = part_field z x c (is_placed x m i h) (omega (arith, lt, at_most_two m))
 
       of : (get_or s.words place 0 ≡ get_or k.full place 0) ⊎ ((v : View) × IsView s v × Holds v place (get_or k.full place 0)) → get_or s.words place 0 ≡ get_or k.full place 0
       of (inl e) = e

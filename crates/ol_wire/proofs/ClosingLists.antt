@@ -1,7 +1,7 @@
 -- Sums of which one member has all, lists with the same members, and the list of one thing for each number.
 use Rattle.std.proofs.Common.{◌≡◌, ℕ, zero, suc, ◌<◌, ◌≤◌, List, [], ◌∷◌, ◌++◌, length, map, get_or, Some, None, refl, sym, ap, ◌∙◌, arith}
 use Rattle.std.specs.Prelude.{slice_get}
-use Rattle.std.proofs.lemmas.List.{append_assoc}
+use Rattle.std.proofs.lemmas.List.{append_assoc, append-nil}
 use mathlib.Core.Option.{some, some-injective, some-ne-none}
 use lib.ListN.{get_elem?}
 use Rattle.ol_rules.specs.Listed.{each}
@@ -30,11 +30,7 @@ same_words (x ∷ xs) (y ∷ ys) e h = ap (λ x. x ∷ xs) (h 0 (omega arith)) �
 
 -- the first of them in front
 each_front : {X : Type 0} (n : ℕ) (rows : ℕ → List X) → each (suc n) rows ≡ rows 0 ++ each n (λ t. rows (suc t))
-each_front zero rows = sym (append_nil (rows 0))
-  where
-    append_nil : {X : Type 0} (xs : List X) → xs ++ [] ≡ xs
-    append_nil [] = refl
-    append_nil (x ∷ xs) = ap (λ xs. x ∷ xs) (append_nil xs)
+each_front zero rows = sym (append-nil (rows 0))
 each_front (suc n) rows = ap (λ xs. xs ++ rows (suc n)) (each_front n rows) ∙ append_assoc (rows 0) (each n (λ t. rows (suc t))) (rows (suc n))
 
 pub one_each : {X : Type 0} (f : ℕ → X) (n t : ℕ) → t < n → slice_get (each n (λ t. f t ∷ [])) t ≡ Some (f t)

@@ -3,9 +3,6 @@ use Rattle.std.proofs.Common.{◌≡◌, ◌≢◌, ℕ, zero, suc, ◌+◌, ◌
 use Rattle.std.specs.Prelude.{slice_get}
 use Rattle.std.proofs.lemmas.Bool.{cases_lt}
 use Rattle.ol_net.specs.declared.parts.Kind.{Kind}
-use Rattle.ol_net.specs.declared.parts.Kind.TheVariants as kind
-use Rattle.ol_net.specs.declared.parts.Rule.{Rule}
-use Rattle.ol_net.specs.declared.parts.Rule.TheVariants as rule
 use Rattle.ol_net.specs.Parts.{arity}
 use Rattle.ol_net.specs.Nets.{NamedNet, HasNode}
 use Rattle.ol_rules.specs.declared.journal.NodeName.{NodeName}
@@ -13,35 +10,18 @@ use Rattle.ol_rules.specs.declared.journal.NodeName.TheVariants.{Init, Born}
 use Rattle.ol_rules.specs.Rewriting.{meeting, crossing, is_meeting, index_after, action_of, NodeOf, left, of_f, of_g, IsStep}
 use Rattle.ol_wire.specs.declared.layout.Parts.{Parts}
 use Rattle.ol_wire.specs.References.{node_ref, kind_in, place_in}
-use Rattle.ol_wire.specs.Layout.{place_of}
+use Rattle.ol_wire.specs.Layout.{place_of, IsPlaced}
 use Rattle.ol_wire.specs.Events.{Event, IsPlayed, name_at, entry_of}
-use Rattle.ol_wire.specs.Rule.{IsPlaced}
 use Rattle.ol_wire.proofs.References.{kind_of_ref, place_of_ref}
 use Rattle.ol_wire.proofs.Places.{name_of_place}
 use Rattle.ol_wire.proofs.Claimed.{wider}
 use Rattle.ol_wire.proofs.ClosingEntry.{picked, turned, births_of}
-
-index_rises : (r : Rule) (j : ℕ) → index_after r j ≤ suc j
-index_rises rule.Beta j = omega arith
-index_rises rule.Fan j = omega arith
-index_rises rule.Croissant j = omega arith
-index_rises rule.Bracket j = omega arith
-index_rises rule.CrossFan j = omega arith
-index_rises rule.CrossCroissant j = omega arith
-index_rises rule.CrossBracket j = omega arith
-index_rises rule.Erase j = omega arith
+use Rattle.ol_wire.proofs.Lists.{index_after_small}
+use Rattle.ol_rules.proofs.Born.{at_most_two}
 
 crosses : (b : Bool) (a j : ℕ) → (if b then meeting else crossing a) ≡ crossing j → (b ≡ false) × (a ≡ j)
 crosses true a j e = absurd (cc)
 crosses false a j e = (refl, let q : a ≡ j = cc in q)
-
-two_slots : (k : Kind) → arity k ≤ 2
-two_slots kind.Lam = omega arith
-two_slots kind.App = omega arith
-two_slots kind.Fan = omega arith
-two_slots kind.Croissant = omega arith
-two_slots kind.Bracket = omega arith
-two_slots kind.Eraser = omega arith
 
 abbrev pub IsLive : NamedNet NodeName → NodeName → Type 0
 IsLive N x = (m : Kind) × (i : ℕ) × HasNode N x m i
@@ -72,13 +52,13 @@ module _ (z : Parts) (few : z.fuel ≤ 2000000) (N M : NamedNet NodeName) (t : �
     where
       name : (u : NodeName) (m : Kind) (n : ℕ) → Made u m n → IsPlaced z (suc t) u
       name u m n (left h a b) = wider z u t (suc t) (omega arith) (fits.names u m n h)
-      name u m n (of_f {q = q} j a b) = (omega arith, omega (arith, b, two_slots st.active.l))
-      name u m n (of_g {p = p} j a b) = (omega arith, omega (arith, b, two_slots st.active.k, two_slots st.active.l))
+      name u m n (of_f {q = q} j a b) = (omega arith, omega (arith, b, at_most_two st.active.l))
+      name u m n (of_g {p = p} j a b) = (omega arith, omega (arith, b, at_most_two st.active.k, at_most_two st.active.l))
 
       index : (u : NodeName) (m : Kind) (n : ℕ) → Made u m n → n ≤ 1000000 + suc t
       index u m n (left h a b) = omega (arith, fits.indexes u m n h)
       index u m n (of_f {q = q} j a b) = omega (arith, fits.indexes x st.active.k st.active.i st.active.faces.first)
-      index u m n (of_g {p = p} j a b) = omega (arith, fits.indexes y st.active.l st.active.j st.active.faces.second, index_rises e.rule st.active.j, (crosses (is_meeting e.rule) (index_after e.rule st.active.j) n a).1)
+      index u m n (of_g {p = p} j a b) = omega (arith, fits.indexes y st.active.l st.active.j st.active.faces.second, index_after_small e.rule st.active.j, (crosses (is_meeting e.rule) (index_after e.rule st.active.j) n a).1)
 
   -- the names of the entry
   name_f : name_at z (place_in e.f) ≡ x

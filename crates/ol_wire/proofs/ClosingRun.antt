@@ -20,7 +20,7 @@ use Rattle.ol_rules.proofs.Same.{active_same}
 use Rattle.ol_rules.proofs.FreshPairs.{linked_sym}
 use Rattle.ol_rules.proofs.BothWays.{step_turned}
 use Rattle.ol_rules.proofs.OneRun.{name_same, name_test, fresh_names, named_after, ArePaired}
-use Rattle.ol_wire.specs.Standing.{IsOfEntry, AreOnce}
+use Rattle.ol_wire.specs.Closed.{IsOfEntry, AreOnce}
 
 -- an entry is of one pair
 same_pair : (e : Entry) (f g f' g' : NodeName) → IsNamed e f g → IsNamed e f' g' → ArePaired f g f' g'

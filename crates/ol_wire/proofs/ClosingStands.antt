@@ -1,7 +1,7 @@
 -- What closed words stand for.
 use Rattle.std.specs.Prelude.{slice_get}
-use Rattle.std.proofs.Common.{◌≡◌, ◌≢◌, ℕ, zero, suc, ◌<◌, ◌≤◌, Bool, true, false, nat_eq, ◌&&◌, List, [], ◌∷◌, ◌++◌, length, map, Some, ◌⊎◌, inl, inr, ◌↔◌, slice_index, refl, sym, ap, ◌∙◌, subst, arith}
-use Rattle.std.proofs.lemmas.Bool.{false≢true}
+use Rattle.std.proofs.Common.{◌≡◌, ◌≢◌, ℕ, zero, suc, ◌<◌, ◌≤◌, Bool, true, nat_eq, ◌&&◌, List, [], ◌∷◌, ◌++◌, length, map, Some, ◌⊎◌, inl, inr, ◌↔◌, slice_index, refl, sym, ap, ◌∙◌, subst, arith}
+use Rattle.std.proofs.lemmas.Bool.{false≢true, and_parts}
 use Rattle.ol_net.specs.declared.parts.Kind.{Kind}
 use Rattle.ol_net.specs.Nets.{NamedNet, HasNode}
 use Rattle.ol_rules.specs.declared.journal.NodeName.{NodeName}
@@ -9,27 +9,20 @@ use Rattle.ol_rules.specs.Runs.{IsComplete}
 use Rattle.ol_rules.proofs.Same.{complete_same}
 use Rattle.ol_wire.specs.declared.view.View.{View}
 use Rattle.ol_wire.specs.References.{place_in, IsNodeRef, IsRef, IsWhole}
-use Rattle.ol_wire.specs.Layout.{Part, ticket, port, field, wire, between, left, right, entry, past, part_of, left_word, cells_of, block, size}
+use Rattle.ol_wire.specs.Layout.{Part, ticket, port, field, wire, between, left, right, entry, past, part_of, left_word, cells_of, block, size, IsPlaced}
 use Rattle.ol_wire.specs.Events.{Event, IsStuckPair}
 use Rattle.ol_wire.specs.Edges.{edges_in, edges_of, is_reached, is_made, is_wire_made, crosses_at, times, deaths}
 use Rattle.ol_wire.specs.Stands.{Stands}
-use Rattle.ol_wire.specs.Rule.{IsPlaced}
-use Rattle.ol_wire.specs.Closed.{ClosedTable, IsClosed, events_in, log_in}
-use Rattle.ol_wire.specs.Standing.{is_reached_in, IsWirePart, IsMadeNode, IsUntouched, StandsFor, IsAfter}
+use Rattle.ol_wire.specs.ClosedRule.{IsClosed}
+use Rattle.ol_wire.specs.Closed.{ClosedTable, events_in, log_in, IsAfter}
+use Rattle.ol_wire.specs.Standing.{is_reached_in, IsWirePart, IsMadeNode, IsUntouched, StandsFor}
 use Rattle.ol_wire.proofs.Overlooked.{complete}
 use Rattle.ol_wire.proofs.ClosingEntry.{crosses, crosses_read}
 use Rattle.ol_wire.proofs.ClosingTable.{z, s, k, all_in, read, log_told, is_full, tickets, pending_none, no_pending}
 use Rattle.ol_wire.proofs.ClosingCells.{cell_word}
 use Rattle.ol_wire.proofs.ClosingStart.{live_told}
 use Rattle.ol_wire.proofs.ClosingTold.{after, one_after}
-
-append_none : {A : Type 0} (xs : List A) → xs ≡ xs ++ []
-append_none [] = refl
-append_none (x ∷ xs) = ap (λ xs. x ∷ xs) (append_none xs)
-
-left_true : (a b : Bool) → (a && b) ≡ true → a ≡ true
-left_true true b h = refl
-left_true false b h = absurd (false≢true h)
+use Rattle.std.proofs.lemmas.List.{append-nil}
 
 -- a wire that was made is a wire
 wire_part : (log : List Event) (q : Part) → is_wire_made log q ≡ true → IsWirePart q
@@ -78,7 +71,7 @@ module _ (w : ClosedTable) (c : IsClosed w) where
           ∙ ap (λ d. is_made (z w c) (log_in (z w c) w.words) n && nat_eq d 0) (all_in w c (λ (v : View). times n v.dead) (λ v o e. ap (λ (v : View). times n v.dead) e))
 
   edges_same : edges_of (z w c) (k w c).net (k w c).log (k w c).full (s w c).views ≡ edges_in (z w c) (k w c).net reached w.words (size (z w c))
-  edges_same = ap (λ es. edges_in (z w c) (k w c).net reached (k w c).full (size (z w c)) ++ es) (pending_none w c) ∙ sym (append_none (edges_in (z w c) (k w c).net reached (k w c).full (size (z w c)))) ∙ ap (λ l. edges_in (z w c) (k w c).net reached l (size (z w c))) (sym (is_full w c))
+  edges_same = ap (λ es. edges_in (z w c) (k w c).net reached (k w c).full (size (z w c)) ++ es) (pending_none w c) ∙ append-nil (edges_in (z w c) (k w c).net reached (k w c).full (size (z w c))) ∙ ap (λ l. edges_in (z w c) (k w c).net reached l (size (z w c))) (sym (is_full w c))
 
   -- the words stand for the net, where the nodes are those
   pub stands_for : ((x : NodeName) → ((m : Kind) × (i : ℕ) × HasNode (k w c).net x m i) ↔ (IsMadeNode w.plan.parts w.words x × IsUntouched w.plan.parts w.words x)) → StandsFor w (k w c).net reached
@@ -93,7 +86,7 @@ module _ (w : ClosedTable) (c : IsClosed w) where
     erasers = (k w c).journal.erasers;
     refs = λ n lt d. ref n lt (λ e. d (ap (λ l. slice_index l n) (is_full w c) ∙ e));
     cells = λ n q d. cell n q (λ e. d (ap (λ l. slice_index l n) (is_full w c) ∙ e));
-    wires = λ n h. wire_part (k w c).log (part_of (z w c) n) (left_true (is_made (z w c) (k w c).log n) (nat_eq (deaths n (s w c).views) 0) h);
+    wires = λ n h. wire_part (k w c).log (part_of (z w c) n) (and_parts (is_made (z w c) (k w c).log n) (nat_eq (deaths n (s w c).views) 0) h).0;
     stands = subst (λ es. Stands (z w c) (k w c).net reached es) edges_same (k w c).stands;
   }
     where

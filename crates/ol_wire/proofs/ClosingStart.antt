@@ -1,5 +1,5 @@
 -- The nodes of the net at the start, and those of the net that closed words stand for.
-use Rattle.std.proofs.Common.{◌≡◌, ◌≢◌, ℕ, zero, suc, ◌+◌, ◌<◌, ◌≤◌, List, [], ◌∷◌, length, max, Option, Some, None, is_some, count_by, cond, ◌⊎◌, inl, inr, ◌↔◌, refl, sym, ap, ◌∙◌, subst, arith}
+use Rattle.std.proofs.Common.{◌≡◌, ◌≢◌, ℕ, suc, ◌+◌, ◌<◌, ◌≤◌, List, [], ◌∷◌, length, max, Option, Some, None, is_some, count_by, cond, ◌⊎◌, inl, inr, ◌↔◌, sym, ap, ◌∙◌, subst, arith}
 use Rattle.std.specs.Prelude.{slice_get}
 use Rattle.std.proofs.lemmas.Bool.{cases_eq, cases_lt}
 use Rattle.std.proofs.lemmas.List.Sums.{count_by-le-length, sum_by-cons}
@@ -15,13 +15,17 @@ use Rattle.ol_rules.specs.declared.journal.Entry.{Entry}
 use Rattle.ol_rules.proofs.Renaming.{node_to, node_from}
 use Rattle.ol_wire.specs.declared.plan.Plan.{Plan}
 use Rattle.ol_wire.specs.Events.{Event, entry_of}
-use Rattle.ol_wire.specs.Rule.{IsPlaced, start_net, PlanKeeps}
-use Rattle.ol_wire.specs.Closed.{ClosedTable, IsClosed, events_in, event_at, journal_in}
+use Rattle.ol_wire.specs.Rule.{PlanKeeps}
+use Rattle.ol_wire.specs.Closed.{ClosedTable, events_in, event_at, journal_in}
 use Rattle.ol_wire.specs.Standing.{IsMadeNode, IsUntouched}
 use Rattle.ol_wire.specs.Rule.{IsStarted}
+use Rattle.ol_wire.specs.Layout.{IsPlaced}
+use Rattle.ol_wire.specs.Starts.{start_net}
+use Rattle.ol_wire.specs.ClosedRule.{IsClosed}
 use Rattle.ol_wire.proofs.ClosingEntry.{births_of, births_read}
 use Rattle.ol_wire.proofs.ClosingTable.{k, tickets, event_told, entry_told, entry_at, no_entry}
 use Rattle.ol_wire.proofs.ClosingNodes.{IsLive, Fits, IsMadeFrom, IsLeft, live_after}
+use Rattle.ol_wire.proofs.Lists.{got_there}
 
 some_count : (a : Kind × ℕ) (nodes : List (Option (Kind × ℕ))) → count_by is_some (Some a ∷ nodes) ≡ 1 + count_by is_some nodes
 some_count a nodes = sum_by-cons (λ (x : Option (Kind × ℕ)). cond (is_some x) 1 0) (Some a) nodes
@@ -62,11 +66,6 @@ module _ (p : Plan) (plan : PlanKeeps p) (started : IsStarted p) where
   start_live : (n : ℕ) → n < p.parts.nodes → IsLive (start_net p) (Init n)
   start_live n lt = let t = all_nodes 0 p.start.value.nodes started.whole n (omega arith) (omega (arith, lt, plan.parts.nodes)) in (t.0, t.1, node_to Init (net_of p.start.value) n t.0 t.1 t.2)
 
-got_some : {X : Type 0} (xs : List X) (t : ℕ) → t < length xs → (x : X) × (slice_get xs t ≡ Some x)
-got_some [] t lt = absurd (omega arith)
-got_some (x ∷ xs) zero lt = (x, refl)
-got_some (x ∷ xs) (suc t) lt = got_some xs t (omega (arith, lt))
-
 -- what the words say of a node, and what the events do
 module _ (w : ClosedTable) (c : IsClosed w) (started : IsStarted w.plan) where
   births_told : (t : ℕ) (e : Event) → slice_get (k w c).log t ≡ Some e → births_of (event_at w.plan.parts w.words t) ≡ births_of e
@@ -83,7 +82,7 @@ module _ (w : ClosedTable) (c : IsClosed w) (started : IsStarted w.plan) where
   made_log : (x : NodeName) → IsMadeNode w.plan.parts w.words x → IsLive (start_net w.plan) x ⊎ IsMadeFrom 0 (k w c).log x
   made_log (Init n) lt = inl (start_live w.plan (k w c).plan started n lt)
   made_log (Born t i) (drawn, lt) =
-      let e = got_some (k w c).log t (omega (arith, drawn, tickets w c)) in
+      let e = got_there (k w c).log t (omega (arith, drawn, tickets w c)) in
       inr (t, e.0, e.1, omega arith, omega (arith, lt, births_told t e.0 e.1))
 
   entry_there : (t : ℕ) (e : Event) → slice_get (k w c).log t ≡ Some e → slice_get (journal_in w.plan.parts w.words) t ≡ Some (entry_of w.plan.parts e)
@@ -92,7 +91,7 @@ module _ (w : ClosedTable) (c : IsClosed w) (started : IsStarted w.plan) where
   left_words : (x : NodeName) → IsLeft w.plan.parts (k w c).log x → IsUntouched w.plan.parts w.words x
   left_words x h t d at = elim (cases_lt t (events_in w.plan.parts w.words)) [
     | inl lt ↦
-        let e = got_some (k w c).log t (omega (arith, lt, tickets w c)) in
+        let e = got_there (k w c).log t (omega (arith, lt, tickets w c)) in
         subst (λ (d : Entry). (d.first ≢ x) × (d.second ≢ x)) (one_some (entry_of w.plan.parts e.0) d (sym (entry_there t e.0 e.1) ∙ at)) (h t e.0 e.1)
     | inr ge ↦ absurd (none_some d (sym (no_entry w.plan.parts w.words t ge) ∙ at))
   ]

@@ -16,7 +16,8 @@ use Rattle.ol_wire.specs.Weights.{total, pairs, Empties}
 use Rattle.ol_wire.specs.Edges.{links_in, pending_in}
 use Rattle.ol_wire.specs.Rule.{Table, IsView, Kept, entries_of}
 use Rattle.ol_wire.specs.Views.{IsSpent}
-use Rattle.ol_wire.specs.Closed.{ClosedTable, IsClosed, events_in, event_at, log_in, journal_in}
+use Rattle.ol_wire.specs.Closed.{ClosedTable, events_in, event_at, log_in, journal_in}
+use Rattle.ol_wire.specs.ClosedRule.{IsClosed}
 use Rattle.ol_wire.proofs.Held.{spot, spot_else, weigh_spot, total_at}
 use Rattle.ol_wire.proofs.ClosingEntry.{entry_read}
 use Rattle.ol_wire.proofs.ClosingLists.{whole, same_words, one_each, none_each, each_map}

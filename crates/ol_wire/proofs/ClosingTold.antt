@@ -12,9 +12,9 @@ use Rattle.ol_rules.proofs.Same.{active_same}
 use Rattle.ol_rules.proofs.StartNets as starts
 use Rattle.ol_wire.specs.declared.view.View.{View}
 use Rattle.ol_wire.specs.Weights.{pairs, numbered}
-use Rattle.ol_wire.specs.Rule.{start_net}
-use Rattle.ol_wire.specs.Closed.{ClosedTable, IsClosed, events_in, journal_in}
-use Rattle.ol_wire.specs.Standing.{IsOfEntry, AreOnce, IsAfter}
+use Rattle.ol_wire.specs.Starts.{start_net}
+use Rattle.ol_wire.specs.Closed.{ClosedTable, events_in, journal_in, IsOfEntry, AreOnce, IsAfter}
+use Rattle.ol_wire.specs.ClosedRule.{IsClosed}
 use Rattle.ol_wire.proofs.ClosingTable.{all_in, tickets, journal_told}
 use Rattle.ol_wire.proofs.ClosingRun.{one_end, each_once, gone_at_end}
 

@@ -21,10 +21,12 @@ use Rattle.ol_wire.proofs.Event.{Rewritten, old_edges, new_edges}
 use Rattle.ol_wire.proofs.References.{node_same, slot_same, node_not_wire, node_not_slot, wire_not_slot}
 use Rattle.ol_wire.proofs.Places.{place_before, place_same}
 use Rattle.ol_wire.proofs.DegreesSums.{is_at, at_same, at_some, among, among_in, among_some}
-use Rattle.ol_wire.proofs.DegreesWeights.{arity_small, copies_small}
+use Rattle.ol_wire.proofs.DegreesWeights.{copies_small}
 use Rattle.ol_wire.proofs.DegreesCounts.{gone, held, born, event, old_ends, new_ends}
 use Rattle.ol_wire.proofs.DegreesBorn.{Few, Comes, a_copy_of_f, a_copy_of_g, slot_of_f, slot_of_g, a_wire, born_some, born_f, born_g, born_f_slot, born_g_slot, born_wires, node_unborn, slot_unborn, wire_unborn}
-use Rattle.ol_wire.proofs.DegreesNodes.{After, stays, f_comes, g_comes, node_after, stays_after, f_after, g_after, index_after_small}
+use Rattle.ol_wire.proofs.DegreesNodes.{After, stays, f_comes, g_comes, node_after, stays_after, f_after, g_after}
+use Rattle.ol_wire.proofs.Lists.{index_after_small}
+use Rattle.ol_rules.proofs.Born.{at_most_two}
 
 -- what an end is that goes
 data Goes (f g pf pg m n u : ℕ) : Type 0 where
@@ -103,7 +105,7 @@ module _ (z : Parts) (N M : NamedNet NodeName) (x y : NodeName) (k l : Kind) (i 
   port_unborn : (p : NamedPort NodeName) (u : ℕ) → IsEnd z N p u → comes u ≡ 0
   port_unborn p u (of_port {n = w} lt) = wire_unborn z t k l i (index_after r j) made_f made_g few (port_word w) (omega (arith, lt, c.ports))
   port_unborn p u (principal {x = v} o h has) = node_unborn z t k l i (index_after r j) made_f made_g few o h (place_of z v) (small v o h has) (omega (arith, (place_before z v t (c.names v o h has)).1))
-  port_unborn p u (auxiliary {x = v} {s = s} o h has lt) = slot_unborn z t k l i (index_after r j) made_f made_g few (place_of z v + s) (omega (arith, (place_before z v t (c.names v o h has)).1, lt, arity_small o))
+  port_unborn p u (auxiliary {x = v} {s = s} o h has lt) = slot_unborn z t k l i (index_after r j) made_f made_g few (place_of z v + s) (omega (arith, (place_before z v t (c.names v o h has)).1, lt, at_most_two o))
 
   wires_unborn : (w : ℕ) → reached w ≡ true → comes (wire_ref w) ≡ 0
   wires_unborn w h = wire_unborn z t k l i (index_after r j) made_f made_g few w (c.old_wires w h).1
@@ -174,8 +176,8 @@ module _ (z : Parts) (N M : NamedNet NodeName) (x y : NodeName) (k l : Kind) (i 
       go : Goes f g (place_of z x) (place_of z y) (arity k) (arity l) (slot_ref (place_of z v + s)) → ⊥
       go (first e) = node_not_slot k i (place_of z x) (place_of z v + s) (sym e)
       go (second e) = node_not_slot l j (place_of z y) (place_of z v + s) (sym e)
-      go (of_first s' b e) = dx (placed_once v x o k h i s s' has c.faces.first (omega (arith, lt, arity_small o)) (omega (arith, b, arity_small k)) (slot_same (place_of z v + s) (place_of z x + s') e))
-      go (of_second s' b e) = dy (placed_once v y o l h j s s' has c.faces.second (omega (arith, lt, arity_small o)) (omega (arith, b, arity_small l)) (slot_same (place_of z v + s) (place_of z y + s') e))
+      go (of_first s' b e) = dx (placed_once v x o k h i s s' has c.faces.first (omega (arith, lt, at_most_two o)) (omega (arith, b, at_most_two k)) (slot_same (place_of z v + s) (place_of z x + s') e))
+      go (of_second s' b e) = dy (placed_once v y o l h j s s' has c.faces.second (omega (arith, lt, at_most_two o)) (omega (arith, b, at_most_two l)) (slot_same (place_of z v + s) (place_of z y + s') e))
 
   wire_stays : (w : ℕ) → goes (wire_ref w) ≡ 0
   wire_stays w = stays_unless (wire_ref w) go

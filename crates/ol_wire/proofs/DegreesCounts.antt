@@ -1,6 +1,6 @@
 -- The ends of the edges that a ticket takes away and puts in. What the fields held stays; the ends of the pair and of its fields go, and those of
 -- the copies and of their wires come.
-use Rattle.std.proofs.Common.{◌≡◌, ℕ, ◌+◌, ◌*◌, ◌<◌, nat_eq, if◌then◌else◌, Bool, true, false, ◌⊎◌, inl, inr, refl, sym, ap, ◌∙◌, arith}
+use Rattle.std.proofs.Common.{◌≡◌, ℕ, ◌+◌, ◌*◌, ◌<◌, nat_eq, if◌then◌else◌, true, false, inl, inr, sym, ap, ◌∙◌, arith}
 use Rattle.ol_edges.specs.Edges.{ends}
 use Rattle.ol_net.specs.declared.parts.Kind.{Kind}
 use Rattle.ol_net.specs.declared.parts.Rule.{Rule}
@@ -18,10 +18,7 @@ use Rattle.ol_wire.proofs.Event.{old_edges, new_edges}
 use Rattle.ol_wire.proofs.References.{kind_of_ref, index_of_ref}
 use Rattle.ol_wire.proofs.DegreesSums.{sum_to, sum_add, is_at, among, within, ends_in_grid}
 use Rattle.ol_wire.proofs.DegreesWeights.{old_weigh, new_weigh_meeting, new_weigh_crossing}
-
-pub cases_bool : (c : Bool) → (c ≡ true) ⊎ (c ≡ false)
-cases_bool true = inl refl
-cases_bool false = inr refl
+use Rattle.std.proofs.lemmas.Bool.{cases_Bool}
 
 -- the ends of a pair, and of the fields of its nodes
 abbrev pub gone : ℕ → ℕ → ℕ → ℕ → ℕ → ℕ → ℕ → ℕ
@@ -98,7 +95,7 @@ module _ (z : Parts) (k l : Kind) (i j t : ℕ) (r : Rule) (pf pg : ℕ) (a b : 
       w ∙ (omega (arith, x, y, g))
 
   pub new_ends : (u : ℕ) → (is_meeting r ≡ true → arity k ≡ arity l) → i < 16777216 → j < 16777216 → ends nat_eq u (new_edges z its_event t a b) ≡ born z t k i l (index_after r j) (copies_of_f its_event) (copies_of_g its_event) u + held (arity k) (arity l) a b u
-  new_ends u same si sj = elim (cases_bool (is_meeting r)) [
+  new_ends u same si sj = elim (cases_Bool (is_meeting r)) [
     | inl meets ↦
         let c = copies_meeting meets in
         let none : held (arity k) (arity l) a b u ≡ born z t k i l (index_after r j) 0 0 u + held (arity k) (arity l) a b u = omega arith in

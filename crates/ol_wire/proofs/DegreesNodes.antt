@@ -1,8 +1,7 @@
 -- The nodes of the net after a ticket: those that stay, and the copies.
-use Rattle.std.proofs.Common.{◌≡◌, ◌≢◌, ℕ, ◌+◌, ◌<◌, ◌≤◌, if◌then◌else◌, Bool, false, List, ◌⊎◌, inl, inr, ◌↔◌, refl, sym, ap, ◌∙◌, subst, arith}
+use Rattle.std.proofs.Common.{◌≡◌, ◌≢◌, ℕ, ◌+◌, ◌<◌, if◌then◌else◌, Bool, false, List, ◌⊎◌, inl, inr, ◌↔◌, refl, sym, ap, ◌∙◌, subst, arith}
 use Rattle.ol_net.specs.declared.parts.Kind.{Kind}
 use Rattle.ol_net.specs.declared.parts.Rule.{Rule}
-use Rattle.ol_net.specs.declared.parts.Rule.TheVariants as rule
 use Rattle.ol_net.specs.Nets.{NamedNet, HasNode}
 use Rattle.ol_net.specs.Parts.{arity}
 use Rattle.ol_rules.specs.declared.journal.NodeName.{NodeName}
@@ -12,21 +11,12 @@ use Rattle.ol_wire.specs.declared.layout.Parts.{Parts}
 use Rattle.ol_wire.specs.Layout.{place_of}
 use Rattle.ol_wire.specs.Blocks.{copies_of_f, copies_of_g}
 use Rattle.ol_wire.proofs.Event.{Rewritten}
-use Rattle.ol_wire.proofs.DegreesCounts.{cases_bool, event, copies_meeting, copies_crossing}
-
-pub index_after_small : (r : Rule) (j : ℕ) → index_after r j ≤ j + 1
-index_after_small rule.CrossCroissant j = omega arith
-index_after_small rule.CrossBracket j = omega arith
-index_after_small rule.Beta j = omega arith
-index_after_small rule.Fan j = omega arith
-index_after_small rule.Croissant j = omega arith
-index_after_small rule.Bracket j = omega arith
-index_after_small rule.CrossFan j = omega arith
-index_after_small rule.Erase j = omega arith
+use Rattle.ol_wire.proofs.DegreesCounts.{event, copies_meeting, copies_crossing}
+use Rattle.std.proofs.lemmas.Bool.{cases_Bool}
 
 -- a rule that crosses, and the index of the copies of g
 pub crosses_to : (r : Rule) (j h : ℕ) → action_of r j ≡ crossing h → (is_meeting r ≡ false) × (h ≡ index_after r j)
-crosses_to r j h e = elim (cases_bool (is_meeting r)) [
+crosses_to r j h e = elim (cases_Bool (is_meeting r)) [
   | inl meets ↦ absurd (let bad : meeting ≡ crossing h = sym (ap (λ c. if c then meeting else crossing (index_after r j)) meets) ∙ e in cc)
   | inr crosses ↦ (crosses, (let same : crossing (index_after r j) ≡ crossing h = sym (ap (λ c. if c then meeting else crossing (index_after r j)) crosses) ∙ e in cc))
 ]
@@ -76,7 +66,7 @@ module _ (z : Parts) (N M : NamedNet NodeName) (x y : NodeName) (k l : Kind) (i 
           g_comes p (omega (arith, w.1, lt)) (sym w.0) (ap (λ n. Born t (n + p)) (sym w.0)) refl s.1
 
   pub crosses_where : (n : ℕ) → (n < copies_f) ⊎ (n < copies_g) → is_meeting r ≡ false
-  crosses_where n h = elim (cases_bool (is_meeting r)) [
+  crosses_where n h = elim (cases_Bool (is_meeting r)) [
     | inl meets ↦ let w = copies_meeting z k l i j t r (place_of z x) (place_of z y) a b meets in absurd (none w.0 w.1 h)
     | inr crosses ↦ crosses
   ]

@@ -2,7 +2,6 @@
 use Rattle.std.proofs.Common.{◌≡◌, ℕ, zero, suc, ◌+◌, ◌-◌, ◌<◌, ◌≤◌, nat_eq, nat_lt, lt-ltb, ne_eqb, if◌then◌else◌, Bool, true, false, List, [], ◌∷◌, ◌++◌, refl, ap, ◌∙◌, arith}
 use Rattle.std.proofs.lemmas.Bool.Decides.{nat_tests}
 use Rattle.ol_net.specs.declared.parts.Kind.{Kind}
-use Rattle.ol_net.specs.declared.parts.Kind.TheVariants as kind
 use Rattle.ol_net.specs.Parts.{arity}
 use Rattle.ol_rules.specs.declared.journal.NodeName.TheVariants.{Born}
 use Rattle.ol_rules.specs.Rewriting.{is_meeting, index_after}
@@ -18,14 +17,7 @@ use Rattle.ol_wire.specs.Weights.{pairs}
 use Rattle.ol_wire.proofs.Alike.{pairs_append}
 use Rattle.ol_wire.proofs.Event.{field_edges, old_edges, born_edges, new_edges}
 use Rattle.ol_wire.proofs.DegreesSums.{sum_to, sum_same, sum_split, pairs_each}
-
-pub arity_small : (k : Kind) → arity k ≤ 2
-arity_small kind.Lam = omega arith
-arity_small kind.App = omega arith
-arity_small kind.Fan = omega arith
-arity_small kind.Croissant = omega arith
-arity_small kind.Bracket = omega arith
-arity_small kind.Eraser = omega arith
+use Rattle.ol_rules.proofs.Born.{at_most_two}
 
 -- the fields of a node
 
@@ -97,7 +89,7 @@ block_weighs h z t (suc (suc zero)) (suc (suc (suc m))) a b = absurd (omega arit
 
 pub copies_small : (c : Bool) (k : Kind) → (if c then 0 else arity k) ≤ 2
 copies_small true k = omega arith
-copies_small false k = arity_small k
+copies_small false k = at_most_two k
 
 -- the fields of the block, by the copies that are made
 pub born_weigh : (h : ℕ → ℕ → ℕ) (z : Parts) (e : Event) (t : ℕ) → pairs h (born_edges z e t) ≡ sum_to (copies_of_f e) (λ q. sum_to (copies_of_g e) (λ p. wire_at h z t (copies_of_f e) q p))

@@ -1,6 +1,6 @@
 -- What stands among the edges of the words and among the pending links, and whether a net has a node.
 use Rattle.std.proofs.Common.{◌≡◌, ◌≢◌, ℕ, zero, suc, ◌+◌, ◌<◌, Bool, true, false, ◌&&◌, ◌||◌, nat_eq, eqb-true, eq-eqb, List, [], ◌∷◌, ◌++◌, slice_index, slice_set, ◌⊎◌, inl, inr, refl, sym, ap, ◌∙◌, subst, arith}
-use Rattle.std.proofs.lemmas.Bool.{cases_Bool, or_left, or_right, false≢true}
+use Rattle.std.proofs.lemmas.Bool.{cases_Bool, or_left, or_right, false≢true, and_parts}
 use mathlib.Core.Option.{some, some-injective, some-ne-none}
 use lib.ListN.{get_elem?}
 use Rattle.ol_edges.specs.Edges.{IsIn}
@@ -45,16 +45,11 @@ pub same_name_true : (x : NodeName) → same_name x x ≡ true
 same_name_true (Init m) = eq-eqb m m refl
 same_name_true (Born t p) = ap (λ b. b && nat_eq p p) (eq-eqb t t refl) ∙ eq-eqb p p refl
 
-both_true : (a b : Bool) → (a && b) ≡ true → (a ≡ true) × (b ≡ true)
-both_true true true h = (refl, refl)
-both_true true false h = absurd (false≢true h)
-both_true false b h = absurd (false≢true h)
-
 pub same_name_tells : (x y : NodeName) → same_name x y ≡ true → x ≡ y
 same_name_tells (Init m) (Init n) h = ap (λ m. Init m) (eqb-true m n h)
 same_name_tells (Init m) (Born t p) h = absurd (false≢true h)
 same_name_tells (Born t p) (Init m) h = absurd (false≢true h)
-same_name_tells (Born t p) (Born u q) h = let b = both_true (nat_eq t u) (nat_eq p q) h in ap (λ t. Born t p) (eqb-true t u b.0) ∙ ap (λ p. Born u p) (eqb-true p q b.1)
+same_name_tells (Born t p) (Born u q) h = let b = and_parts (nat_eq t u) (nat_eq p q) h in ap (λ t. Born t p) (eqb-true t u b.0) ∙ ap (λ p. Born u p) (eqb-true p q b.1)
 
 pub name_apart : (x y : NodeName) → x ≢ y → same_name x y ≡ false
 name_apart x y d = go (cases_Bool (same_name x y))

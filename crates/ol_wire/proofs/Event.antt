@@ -1,5 +1,5 @@
 -- The edges that a ticket takes away and puts in, and what has to hold of them.
-use Rattle.std.proofs.Common.{◌≡◌, ℕ, ◌+◌, ◌<◌, ◌≤◌, Bool, true, List, [], ◌∷◌, ◌++◌, Some, ◌⊎◌}
+use Rattle.std.proofs.Common.{◌≡◌, ℕ, ◌+◌, ◌<◌, ◌≤◌, Bool, true, List, [], ◌∷◌, ◌++◌, Option, Some, None, ◌⊎◌, inl, inr, refl}
 use Rattle.ol_net.specs.declared.parts.Kind.{Kind}
 use Rattle.ol_net.specs.declared.parts.Rule.{Rule}
 use Rattle.ol_net.specs.Nets.{NamedNet, HasNode, IsNet, Faces}
@@ -11,11 +11,10 @@ use Rattle.ol_rules.specs.Rewriting.{IsStep}
 use Rattle.ol_rules.specs.Listed.{each}
 use Rattle.ol_wire.specs.declared.layout.Parts.{Parts}
 use Rattle.ol_wire.specs.References.{node_ref, slot_ref, IsRef}
-use Rattle.ol_wire.specs.Layout.{start_wire, block, place_of, born_wire}
-use Rattle.ol_wire.specs.Events.{Event}
+use Rattle.ol_wire.specs.Layout.{start_wire, block, place_of, born_wire, IsPlaced}
+use Rattle.ol_wire.specs.Events.{Event, rule_between, event_of, acting}
 use Rattle.ol_wire.specs.Blocks.{copies_of_f, copies_of_g, born_field, links_of}
 use Rattle.ol_wire.specs.Edges.{edge_to, links_in}
-use Rattle.ol_wire.specs.Rule.{IsPlaced}
 use Rattle.ol_wire.specs.Stands.{Stands}
 use Rattle.ol_wire.proofs.Alike.{Alike}
 
@@ -56,3 +55,12 @@ pub record Rewritten (z : Parts) (N M : NamedNet NodeName) (x y : NodeName) (k l
   pub still : (w : ℕ) → reached w ≡ true → reached' w ≡ true
   pub come : (q p : ℕ) → q < copies_of_f (record { rule = r; f = node_ref k i (place_of z x); g = node_ref l j (place_of z y) }) → p < copies_of_g (record { rule = r; f = node_ref k i (place_of z x); g = node_ref l j (place_of z y) }) → reached' (born_wire z t q p) ≡ true
   pub only : (w : ℕ) → reached' w ≡ true → (reached w ≡ true) ⊎ ((q : ℕ) × (p : ℕ) × (q < copies_of_f (record { rule = r; f = node_ref k i (place_of z x); g = node_ref l j (place_of z y) })) × (p < copies_of_g (record { rule = r; f = node_ref k i (place_of z x); g = node_ref l j (place_of z y) })) × (w ≡ born_wire z t q p))
+
+-- the two nodes of an event, in one order or the other
+pub event_sides : (a b : ℕ) → (((event_of a b).f ≡ a) × ((event_of a b).g ≡ b)) ⊎ (((event_of a b).f ≡ b) × ((event_of a b).g ≡ a))
+event_sides a b = of (rule_between a b) (rule_between b a)
+  where
+    of : (q r : Option Rule) → (((acting q r a b).f ≡ a) × ((acting q r a b).g ≡ b)) ⊎ (((acting q r a b).f ≡ b) × ((acting q r a b).g ≡ a))
+    of (Some q) r = inl (refl, refl)
+    of None (Some r) = inr (refl, refl)
+    of None None = inl (refl, refl)

@@ -99,6 +99,14 @@ module _ {A : Type 0} (f : A → ℕ) where
     | inr n ↦ (0, y, refl, omega (arith, n))
   ]
 
+  -- two members of a list weigh at most what all do
+  pub two_at : (xs : List A) (i j : ℕ) (x y : A) → i ≢ j → get_elem? xs i ≡ some x → get_elem? xs j ≡ some y → f x + f y ≤ total f xs
+  two_at [] i j x y d h q = absurd (cc)
+  two_at (z ∷ xs) zero zero x y d h q = absurd (d refl)
+  two_at (z ∷ xs) zero (suc j) x y d h q = let e : z ≡ x = cc in omega (arith, ap f e, total_at xs j y q)
+  two_at (z ∷ xs) (suc i) zero x y d h q = let e : z ≡ y = cc in omega (arith, ap f e, total_at xs i x h)
+  two_at (z ∷ xs) (suc i) (suc j) x y d h q = omega (arith, two_at xs i j x y (λ e. d (ap suc e)) h q)
+
 -- the view holds y for the word w
 abbrev pub Holds : View → ℕ → ℕ → Type 0
 Holds v w y = IsIn (w, y) v.due ⊎ IsIn (w, y) v.taken

@@ -1,3 +1,4 @@
+pub mod Lists
 pub mod References
 pub mod Places
 pub mod Alike

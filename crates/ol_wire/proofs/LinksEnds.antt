@@ -6,9 +6,7 @@ use Rattle.ol_edges.proofs.Contraction.{ends_in}
 use Rattle.ol_edges.proofs.Composing.{first_edge}
 use Rattle.ol_edges.proofs.Joining.{joined_sym}
 use Rattle.ol_net.specs.declared.parts.Kind.{Kind}
-use Rattle.ol_net.specs.declared.parts.Kind.TheVariants as kind
 use Rattle.ol_net.specs.declared.parts.Rule.{Rule}
-use Rattle.ol_net.specs.declared.parts.Rule.TheVariants as rule
 use Rattle.ol_net.specs.Parts.{arity}
 use Rattle.ol_net.specs.Nets.{NamedNet, NamedPort, free, slot, HasNode, Linked, IsPort, IsSlotOf}
 use Rattle.ol_rules.specs.declared.journal.NodeName.{NodeName}
@@ -17,25 +15,13 @@ use Rattle.ol_rules.specs.Rewriting.{meeting, crossing, is_meeting, index_after,
 use Rattle.ol_rules.proofs.Tests.{nat_test}
 use Rattle.ol_wire.specs.declared.layout.Parts.{Parts}
 use Rattle.ol_wire.specs.References.{node_ref, wire_ref, slot_ref}
-use Rattle.ol_wire.specs.Layout.{port_word, place_of}
-use Rattle.ol_wire.specs.Rule.{IsPlaced}
+use Rattle.ol_wire.specs.Layout.{port_word, place_of, IsPlaced}
 use Rattle.ol_wire.specs.Stands.{IsEnd, of_port, principal, auxiliary, IsWireEnd}
 use Rattle.ol_wire.proofs.References.{node_same, slot_same}
 use Rattle.ol_wire.proofs.Places.{place_same}
 use Rattle.ol_wire.proofs.Event.{Rewritten}
-
-pub arity_small : (k : Kind) → arity k ≤ 2
-arity_small kind.Lam = omega arith
-arity_small kind.App = omega arith
-arity_small kind.Fan = omega arith
-arity_small kind.Croissant = omega arith
-arity_small kind.Bracket = omega arith
-arity_small kind.Eraser = omega arith
-
-index_small : (r : Rule) (j : ℕ) → index_after r j ≤ suc j
-index_small rule.CrossCroissant j = omega arith
-index_small rule.CrossBracket j = omega arith
-index_small _ j = omega arith
+use Rattle.ol_wire.proofs.Lists.{index_after_small}
+use Rattle.ol_rules.proofs.Born.{at_most_two}
 
 -- what an action tells of its rule
 pub crosses : (m : Bool) (n j : ℕ) → (if m then meeting else crossing n) ≡ crossing j → (m ≡ false) × (j ≡ n)
@@ -94,8 +80,8 @@ module _ {z : Parts} {N M : NamedNet NodeName} {x y : NodeName} {k l : Kind} {i 
       subst (IsPlaced z (suc t)) (sym w.1) p
     where
       few : (q : ℕ) → IsCopy q m n → q < 4
-      few q (inl v) = omega (arith, v.0, arity_small l)
-      few q (inr v) = omega (arith, v.1, arity_small l, arity_small k)
+      few q (inl v) = omega (arith, v.0, at_most_two l)
+      few q (inr v) = omega (arith, v.1, at_most_two l, at_most_two k)
 
   known_small : (u : NodeName) (m : Kind) (n : ℕ) → IsKnown u m n → n < 16777216
   known_small u m n (inl h) = omega (arith, c.indexes u m n h)
@@ -103,7 +89,7 @@ module _ {z : Parts} {N M : NamedNet NodeName} {x y : NodeName} {k l : Kind} {i 
     where
       go : IsCopy w.0 m n → n < 16777216
       go (inl v) = omega (arith, v.2, c.indexes x k i c.faces.first)
-      go (inr v) = omega (arith, v.3, c.indexes y l j c.faces.second, index_small r j)
+      go (inr v) = omega (arith, v.3, c.indexes y l j c.faces.second, index_after_small r j)
 
   pub one_end : (p : NamedPort NodeName) (d e : ℕ) → StandsAt p d → StandsAt p e → d ≡ e
   one_end (free n) d e h h' = h.1 ∙ sym h'.1
@@ -129,7 +115,7 @@ module _ {z : Parts} {N M : NamedNet NodeName} {x y : NodeName} {k l : Kind} {i 
       ap (λ u. slot u 0) d
   one_port (slot u (suc s)) (slot u' (suc s')) e (m, o, w, lt, q) (m', o', w', lt', q') =
       let p = slot_same (place_of z u + s) (place_of z u' + s') (sym q ∙ q') in
-      let d = same_place u u' m m' o o' s s' w w' (omega (arith, lt, arity_small m)) (omega (arith, lt', arity_small m')) p in
+      let d = same_place u u' m m' o o' s s' w w' (omega (arith, lt, at_most_two m)) (omega (arith, lt', at_most_two m')) p in
       ap (λ u. slot u (suc s)) d.0 ∙ ap (λ s. slot u' (suc s)) d.1
 
   -- no port has the end of a word behind the free ports

@@ -20,9 +20,10 @@ use Rattle.ol_wire.specs.Layout.{block, place_of, born_wire}
 use Rattle.ol_wire.specs.Stands.{IsEnd, auxiliary, principal, IsWireEnd}
 use Rattle.ol_wire.proofs.Alike.{alike_ends, alike_near, alike_sym}
 use Rattle.ol_wire.proofs.Event.{Rewritten, old_edges, new_edges, field_edges}
-use Rattle.ol_wire.proofs.LinksEnds.{StandsAt, arity_small, one_port, stands_before, no_wire, slot_apart, born_not_x, born_not_y, x_not_y}
+use Rattle.ol_wire.proofs.LinksEnds.{StandsAt, one_port, stands_before, no_wire, slot_apart, born_not_x, born_not_y, x_not_y}
 use Rattle.ol_wire.proofs.LinksJoins.{JoinEnds, side_by_side, to_x, to_y, across, slot_of_x, slot_of_y, copy_of_x_stands, copy_of_y_stands, field_of_x_copy, field_of_y_copy, alike, BeforeWithJoins}
 use Rattle.ol_wire.proofs.LinksNew.{Has, pair_of, NewEdge, link_met, link_f, link_g, copy_f, copy_g, new_has, has_met, has_f, has_g, has_field_f, has_field_g}
+use Rattle.ol_rules.proofs.Born.{at_most_two}
 
 -- the first n keys are replaced by their values; no two of them are the same
 abbrev pub replaced : ℕ → (ℕ → ℕ) → (ℕ → ℕ) → ℕ → ℕ → ℕ
@@ -322,12 +323,12 @@ module _ {z : Parts} {N M : NamedNet NodeName} {x y : NodeName} {k l : Kind} {i 
   returned_new u v (copy_f n s m lt lt') =
       let d = slot_ref (place_of z (Born t n) + s) in
       subst (λ v. Joined (BeforeWithJoins c) (returned d) v)
-      (port_kept (slot (Born t n) (suc s)) d (field_of_x_copy c n s m lt lt') ∙ sym (wire_returned n s (omega (arith, lt, arity_small l)) (omega (arith, lt', arity_small k)))) here
+      (port_kept (slot (Born t n) (suc s)) d (field_of_x_copy c n s m lt lt') ∙ sym (wire_returned n s (omega (arith, lt, at_most_two l)) (omega (arith, lt', at_most_two k)))) here
   returned_new u v (copy_g n s m lt lt') =
       let d = slot_ref (place_of z (Born t n) + s) in
       let e = slot_ref (place_of z (Born t (arity l + s)) + n) in
       subst (λ u. Joined (BeforeWithJoins c) u (returned (wire_ref (born_wire z t n s)))) (sym (port_kept (slot (Born t (arity l + s)) (suc n)) e (field_of_y_copy c n s m lt lt')))
-      (subst (λ v. Joined (BeforeWithJoins c) e v) (sym (wire_returned n s (omega (arith, lt, arity_small l)) (omega (arith, lt', arity_small k)))) (back here (inr (across m lt lt'))))
+      (subst (λ v. Joined (BeforeWithJoins c) e v) (sym (wire_returned n s (omega (arith, lt, at_most_two l)) (omega (arith, lt', at_most_two k)))) (back here (inr (across m lt lt'))))
 
   pub joined_before : (d e : ℕ) → Joined (EdgeOf fs) d e → Joined (BeforeWithJoins c) (returned d) (returned e)
   joined_before d e joins = joined_image returned edge joins

@@ -1,7 +1,6 @@
 -- What a ticket writes: its links and its fields, in a meeting and in a crossing.
-use Rattle.std.proofs.Common.{◌≡◌, ◌≢◌, ℕ, ◌+◌, ◌-◌, ◌<◌, ◌≤◌, Bool, true, false, if◌then◌else◌, nat_lt, lt-ltb, eq-eqb, ne_eqb, ◌⊎◌, inl, inr, List, [], ◌∷◌, refl, sym, ap, ◌∙◌, subst, arith}
+use Rattle.std.proofs.Common.{◌≡◌, ◌≢◌, ℕ, ◌+◌, ◌-◌, ◌<◌, ◌≤◌, Bool, true, false, if◌then◌else◌, nat_lt, eq-eqb, ne_eqb, ◌⊎◌, inl, inr, List, [], ◌∷◌, refl, sym, ap, ◌∙◌, subst, arith}
 use Rattle.std.proofs.lemmas.Bool.{cases_eq, cases_lt}
-use Rattle.std.proofs.lemmas.Bool.Decides.{nat_tests}
 use Rattle.ol_edges.specs.Edges.{IsIn}
 use Rattle.ol_net.specs.declared.parts.Kind.{Kind}
 use Rattle.ol_net.specs.declared.parts.Rule.{Rule}
@@ -20,7 +19,8 @@ use Rattle.ol_wire.specs.Blocks.{copies_of_f, copies_of_g, born_ref, born_field,
 use Rattle.ol_wire.specs.Edges.{edge_to, links_in}
 use Rattle.ol_wire.proofs.References.{kind_of_ref, index_of_ref}
 use Rattle.ol_wire.proofs.Event.{born_edges, new_edges}
-use Rattle.ol_wire.proofs.LinksEnds.{arity_small}
+use Rattle.ol_wire.proofs.Lists.{if_below, if_above}
+use Rattle.ol_rules.proofs.Born.{at_most_two}
 
 -- an edge of a list, by its ends
 abbrev pub Has : ℕ → ℕ → List (ℕ × ℕ) → Type 0
@@ -43,12 +43,6 @@ edge_to_has end word u v h = elim (cases_eq word 0) [
       (s.0, s.1, d)
 ]
 
-below : {A : Type 0} (m n : ℕ) (x y : A) → m < n → (if nat_lt m n then x else y) ≡ x
-below m n x y lt = ap (λ b. if b then x else y) (lt-ltb m n lt)
-
-not_below : {A : Type 0} (m n : ℕ) (x y : A) → n ≤ m → (if nat_lt m n then x else y) ≡ y
-not_below m n x y le = let e : nat_lt m n ≡ false = grind (arith, nat_tests) in ap (λ b. if b then x else y) e
-
 -- the field of slot s + 1 of place i, where m copies of f and n of g are born
 abbrev pub field_value : ℕ → ℕ → ℕ → ℕ → ℕ → ℕ → ℕ
 field_value m n i s at_f at_g = if nat_lt i m then (if nat_lt s n then at_f else 0) else if nat_lt i (m + n) then (if nat_lt s m then at_g else 0) else 0
@@ -57,21 +51,21 @@ pub field_told : (m n i s at_f at_g : ℕ) → field_value m n i s at_f at_g ≢
     ((i < m) × (s < n) × (field_value m n i s at_f at_g ≡ at_f)) ⊎ ((m ≤ i) × (i < m + n) × (s < m) × (field_value m n i s at_f at_g ≡ at_g))
 field_told m n i s at_f at_g some = elim (cases_lt i m) [
   | inl low ↦
-      let e : field_value m n i s at_f at_g ≡ (if nat_lt s n then at_f else 0) = below i m _ _ low in
+      let e : field_value m n i s at_f at_g ≡ (if nat_lt s n then at_f else 0) = if_below i m _ _ low in
       elim (cases_lt s n) [
-        | inl lt ↦ inl (low, lt, e ∙ below s n _ _ lt)
-        | inr ge ↦ absurd (some (e ∙ not_below s n _ _ ge))
+        | inl lt ↦ inl (low, lt, e ∙ if_below s n _ _ lt)
+        | inr ge ↦ absurd (some (e ∙ if_above s n _ _ ge))
       ]
   | inr high ↦
-      let e : field_value m n i s at_f at_g ≡ (if nat_lt i (m + n) then (if nat_lt s m then at_g else 0) else 0) = not_below i m _ _ high in
+      let e : field_value m n i s at_f at_g ≡ (if nat_lt i (m + n) then (if nat_lt s m then at_g else 0) else 0) = if_above i m _ _ high in
       elim (cases_lt i (m + n)) [
         | inl lt ↦
-            let f = e ∙ below i (m + n) _ _ lt in
+            let f = e ∙ if_below i (m + n) _ _ lt in
             elim (cases_lt s m) [
-              | inl small ↦ inr (high, lt, small, f ∙ below s m _ _ small)
-              | inr big ↦ absurd (some (f ∙ not_below s m _ _ big))
+              | inl small ↦ inr (high, lt, small, f ∙ if_below s m _ _ small)
+              | inr big ↦ absurd (some (f ∙ if_above s m _ _ big))
             ]
-        | inr ge ↦ absurd (some (e ∙ not_below i (m + n) _ _ ge))
+        | inr ge ↦ absurd (some (e ∙ if_above i (m + n) _ _ ge))
       ]
 ]
 
@@ -148,12 +142,12 @@ module _ (z : Parts) (r : Rule) (k l : Kind) (i j t p q : ℕ) (small : i < 1677
 
     ref_f : (n : ℕ) → n < arity l → born_ref z event t n ≡ node_ref k i (place_of z (Born t n))
     ref_f n lt =
-        below n (copies_of_f event) _ _ (omega (arith, lt, copies_f)) ∙ ap (λ k. node_ref k (index_in f) (place_of z (Born t n))) (kind_of_ref k i p)
+        if_below n (copies_of_f event) _ _ (omega (arith, lt, copies_f)) ∙ ap (λ k. node_ref k (index_in f) (place_of z (Born t n))) (kind_of_ref k i p)
         ∙ ap (λ i. node_ref k i (place_of z (Born t n))) (index_of_ref k i p small)
 
     ref_g : (n : ℕ) → born_ref z event t (arity l + n) ≡ node_ref l (index_after r j) (place_of z (Born t (arity l + n)))
     ref_g n =
-        not_below (arity l + n) (copies_of_f event) _ _ (omega (arith, copies_f)) ∙ ap (λ l'. node_ref l' (index_after r (index_in g)) (place_of z (Born t (arity l + n)))) (kind_of_ref l j q)
+        if_above (arity l + n) (copies_of_f event) _ _ (omega (arith, copies_f)) ∙ ap (λ l'. node_ref l' (index_after r (index_in g)) (place_of z (Born t (arity l + n)))) (kind_of_ref l j q)
         ∙ ap (λ j'. node_ref l (index_after r j') (place_of z (Born t (arity l + n)))) (index_of_ref l j q small')
 
     one_crossed : (n : ℕ) → (link_of z event t a b n).one ≡ born_ref z event t n
@@ -163,12 +157,12 @@ module _ (z : Parts) (r : Rule) (k l : Kind) (i j t p q : ℕ) (small : i < 1677
     two_crossed n = ap (λ m. if m then b n else if nat_lt n (copies_of_f event) then b n else a (n - copies_of_f event)) m
 
     two_f : (n : ℕ) → n < arity l → (link_of z event t a b n).two ≡ b n
-    two_f n lt = two_crossed n ∙ below n (copies_of_f event) _ _ (omega (arith, lt, copies_f))
+    two_f n lt = two_crossed n ∙ if_below n (copies_of_f event) _ _ (omega (arith, lt, copies_f))
 
     two_g : (n : ℕ) → (link_of z event t a b (arity l + n)).two ≡ a n
     two_g n =
         let d : arity l + n - copies_of_f event ≡ n = omega (arith, copies_f) in
-        two_crossed (arity l + n) ∙ not_below (arity l + n) (copies_of_f event) _ _ (omega (arith, copies_f)) ∙ ap a d
+        two_crossed (arity l + n) ∙ if_above (arity l + n) (copies_of_f event) _ _ (omega (arith, copies_f)) ∙ ap a d
 
     has_both : (n u v : ℕ) → n < arity l + arity k → (link_of z event t a b n).one ≡ u → (link_of z event t a b n).two ≡ v → Has u v (new_edges z event t a b)
     has_both n u v lt e e' =
@@ -182,13 +176,13 @@ module _ (z : Parts) (r : Rule) (k l : Kind) (i j t p q : ℕ) (small : i < 1677
     has_g n lt = has_both (arity l + n) (node_ref l (index_after r j) (place_of z (Born t (arity l + n)))) (a n) (omega (arith, lt)) (one_crossed (arity l + n) ∙ ref_g n) (two_g n)
 
     field_f : (n s : ℕ) → n < arity l → s < arity k → born_field z event t n s ≡ wire_ref (born_wire z t n s)
-    field_f n s lt lt' = below n (copies_of_f event) _ _ (omega (arith, lt, copies_f)) ∙ below s (copies_of_g event) _ _ (omega (arith, lt', copies_g))
+    field_f n s lt lt' = if_below n (copies_of_f event) _ _ (omega (arith, lt, copies_f)) ∙ if_below s (copies_of_g event) _ _ (omega (arith, lt', copies_g))
 
     field_g : (n s : ℕ) → n < arity l → s < arity k → born_field z event t (arity l + s) n ≡ wire_ref (born_wire z t n s)
     field_g n s lt lt' =
         let d : arity l + s - copies_of_f event ≡ s = omega (arith, copies_f) in
-        not_below (arity l + s) (copies_of_f event) _ _ (omega (arith, copies_f)) ∙ below (arity l + s) (copies_of_f event + copies_of_g event) _ _ (omega (arith, lt', copies_f, copies_g))
-        ∙ below n (copies_of_f event) _ _ (omega (arith, lt, copies_f)) ∙ ap (λ s. wire_ref (born_wire z t n s)) d
+        if_above (arity l + s) (copies_of_f event) _ _ (omega (arith, copies_f)) ∙ if_below (arity l + s) (copies_of_f event + copies_of_g event) _ _ (omega (arith, lt', copies_f, copies_g))
+        ∙ if_below n (copies_of_f event) _ _ (omega (arith, lt, copies_f)) ∙ ap (λ s. wire_ref (born_wire z t n s)) d
 
     has_field : (n s u v : ℕ) → n < 4 → s < 2 → slot_ref (place_of z (Born t n) + s) ≡ u → born_field z event t n s ≡ wire_ref v → Has u (wire_ref v) (new_edges z event t a b)
     has_field n s u v lt lt' e e' =
@@ -196,11 +190,11 @@ module _ (z : Parts) (r : Rule) (k l : Kind) (i j t p q : ℕ) (small : i < 1677
         (subst (λ u. Has u (wire_ref v) (born_edges z event t)) e (subst (λ v. Has (slot_ref (place_of z (Born t n) + s)) v (born_edges z event t)) e' (has_born n s lt lt' (λ none. omega (arith, none, e')))))
 
     pub has_field_f : (n s : ℕ) → n < arity l → s < arity k → Has (slot_ref (place_of z (Born t n) + s)) (wire_ref (born_wire z t n s)) (new_edges z event t a b)
-    has_field_f n s lt lt' = has_field n s (slot_ref (place_of z (Born t n) + s)) (born_wire z t n s) (omega (arith, lt, arity_small l)) (omega (arith, lt', arity_small k)) refl (field_f n s lt lt')
+    has_field_f n s lt lt' = has_field n s (slot_ref (place_of z (Born t n) + s)) (born_wire z t n s) (omega (arith, lt, at_most_two l)) (omega (arith, lt', at_most_two k)) refl (field_f n s lt lt')
 
     pub has_field_g : (n s : ℕ) → n < arity l → s < arity k → Has (slot_ref (place_of z (Born t (arity l + s)) + n)) (wire_ref (born_wire z t n s)) (new_edges z event t a b)
     has_field_g n s lt lt' =
-        has_field (arity l + s) n (slot_ref (place_of z (Born t (arity l + s)) + n)) (born_wire z t n s) (omega (arith, lt', arity_small l, arity_small k)) (omega (arith, lt, arity_small l)) refl (field_g n s lt lt')
+        has_field (arity l + s) n (slot_ref (place_of z (Born t (arity l + s)) + n)) (born_wire z t n s) (omega (arith, lt', at_most_two l, at_most_two k)) (omega (arith, lt, at_most_two l)) refl (field_g n s lt lt')
 
   -- and there are no others
   pub data NewEdge : ℕ → ℕ → Type 0 where

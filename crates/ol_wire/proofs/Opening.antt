@@ -21,22 +21,24 @@ use Rattle.ol_wire.specs.declared.layout.Parts.{Parts}
 use Rattle.ol_wire.specs.declared.plan.Plan.{Plan}
 use Rattle.ol_wire.specs.declared.view.Link.{Link}
 use Rattle.ol_wire.specs.declared.view.View.{View}
-use Rattle.ol_wire.specs.Layout.{Part, part_of, place_of, start_wire, size}
+use Rattle.ol_wire.specs.Layout.{Part, part_of, start_wire, size, IsPlaced}
 use Rattle.ol_wire.specs.Layout as part
 use Rattle.ol_wire.specs.Sizes.{IsSmall}
 use Rattle.ol_wire.specs.Starts.{AreParts}
 use Rattle.ol_wire.specs.Events as events
 use Rattle.ol_wire.specs.Edges.{is_wire_made, is_made, is_reached, deaths, edge_in, edges_in, edges_of}
 use Rattle.ol_wire.specs.Stands.{Stands}
-use Rattle.ol_wire.specs.Rule.{Table, Kept, PlanKeeps, JournalKeeps, WordsKeep, CellsKeep, SeatsKeep, IsPlaced, IsView, filled, opener}
+use Rattle.ol_wire.specs.Rule.{Table, Kept, PlanKeeps, JournalKeeps, WordsKeep, CellsKeep, SeatsKeep, IsView, filled, opener}
 use Rattle.ol_wire.specs.Laid.{IsLaid}
 use Rattle.ol_wire.proofs.Places.{part_wire, is_wire}
-use Rattle.ol_wire.proofs.OpeningPorts.{index_low, node_inside}
-use Rattle.ol_wire.proofs.OpeningEach.{no_member}
+use Rattle.ol_wire.proofs.OpeningPorts.{node_inside}
 use Rattle.ol_wire.proofs.OpeningEnds.{live_start}
 use Rattle.ol_wire.proofs.OpeningSites.{Given}
 use Rattle.ol_wire.proofs.OpeningStands.{start_stands}
 use Rattle.ol_wire.proofs.OpeningRefs.{start_refs, start_cells}
+use Rattle.std.proofs.lemmas.Bool.{and_parts}
+use Rattle.std.proofs.lemmas.Option.{none-some}
+use Rattle.ol_rules.proofs.Born.{top_is_top}
 
 only_view : {A : Type 0} (a b : A) (id : ℕ) → get_elem? (a ∷ []) id ≡ option.some b → b ≡ a
 only_view a b zero e = cc
@@ -57,10 +59,6 @@ wire_made z w part.left e h = absurd (let bad : false ≡ true = h in cc)
 wire_made z w part.right e h = absurd (let bad : false ≡ true = h in cc)
 wire_made z w part.entry e h = absurd (let bad : false ≡ true = h in cc)
 wire_made z w part.past e h = absurd (let bad : false ≡ true = h in cc)
-
-and_first : (a b : Bool) → (a && b) ≡ true → a ≡ true
-and_first true b h = refl
-and_first false b h = h
 
 -- The net is laid out in these words, with blocks for so many tickets, and is small enough.
 pub record IsStart (net : Graph) (fuel : ℕ) (z : Parts) (words : List ℕ) : Type 0 where
@@ -97,7 +95,7 @@ module _ (p : Plan) (fuel : ℕ) (words : List ℕ) (is : IsStart p.start.value 
     laid = is.laid;
     live = live_start g;
     reaches = λ j lt. ap (λ pt. is_wire_made [] pt && nat_eq (deaths (start_wire z j) (opener p ∷ [])) 0) (part_wire z j lt);
-    only = λ w h. wire_made z w (part_of z w) refl (and_first (is_made z [] w) (nat_eq (deaths w (opener p ∷ [])) 0) h);
+    only = λ w h. wire_made z w (part_of z w) refl (and_parts (is_made z [] w) (nat_eq (deaths w (opener p ∷ [])) 0) h).0;
   }
 
   stands : Stands z N reached (edges_of z N [] words (opener p ∷ []))
@@ -116,10 +114,10 @@ module _ (p : Plan) (fuel : ℕ) (words : List ℕ) (is : IsStart p.start.value 
         subst (λ y. IsPlaced z 0 y) (sym t.2) lt;
     indexes = λ x k i h.
         let t = node_from Init (net_of g) x k i h in
-        let b = index_low g.nodes t.0 (k, i) ((has_node g t.0 k i).0 t.1) in
+        let b = top_is_top g.nodes t.0 (k, i) ((has_node g t.0 k i).0 t.1) in
         omega (arith, b, is.low);
     erasers = λ x k i h e. let t = node_from Init (net_of g) x k i h in is.indexes.erasers t.0 (k, i) ((has_node g t.0 k i).0 t.1) e;
-    rules = λ t e h. absurd (no_member e h);
+    rules = λ t e h. absurd (none-some e h);
   }
 
   -- the one view is the opener, and it holds nothing
@@ -151,14 +149,14 @@ module _ (p : Plan) (fuel : ℕ) (words : List ℕ) (is : IsStart p.start.value 
     fields = is.laid.fields;
     starts = λ c n get. let both = is.laid.cells c n get in (inr both.0, both.1);
     fresh = is.laid.blocks;
-    entries = λ t j e h lt. absurd (no_member e h);
+    entries = λ t j e h lt. absurd (none-some e h);
     known = λ v w y h i. absurd (none_known v (w, y) h i);
   }
 
   cells_keep : CellsKeep p start [] [] words
   cells_keep = record {
     tickets = refl;
-    used = λ t w h. absurd (no_member w h);
+    used = λ t w h. absurd (none-some w h);
     unpublished = λ v l h i. absurd (none_pending v l h i);
     one_link = λ w. omega arith;
     link_refs = λ v l h i. absurd (none_pending v l h i);

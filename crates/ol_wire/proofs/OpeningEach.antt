@@ -1,5 +1,5 @@
 -- The wires and the cells of the start by their numbers.
-use Rattle.std.proofs.Common.{◌≡◌, ◌≢◌, ℕ, zero, suc, ◌+◌, ◌*◌, ◌<◌, nat_eq, nat_lt, if◌then◌else◌, true, false, List, [], ◌∷◌, ◌++◌, length, slice_get, Option, Some, None, refl, sym, ap, ◌∙◌, arith, inl, inr, ◌⊎◌, lt-ltb, ltb-true, ne_eqb}
+use Rattle.std.proofs.Common.{◌≡◌, ◌≢◌, ℕ, zero, suc, ◌+◌, ◌*◌, ◌<◌, nat_eq, nat_lt, if◌then◌else◌, true, false, List, [], ◌∷◌, ◌++◌, length, slice_get, Option, Some, None, refl, sym, ap, ◌∙◌, arith, inl, inr, lt-ltb, ltb-true, ne_eqb}
 use Rattle.std.proofs.lemmas.Bool.{cases_lt, cases_Bool}
 use Rattle.std.proofs.lemmas.Bool.Decides.{nat_tests}
 use Rattle.ol_net.specs.declared.parts.NodeId.{NodeId}
@@ -9,39 +9,21 @@ use Rattle.ol_net.specs.Graph.{Graph, partner_of}
 use Rattle.ol_rules.specs.Listed.{each}
 use Rattle.ol_wire.specs.Starts.{wire_with, pair_with, facing_pairs, aux_links, wire_at, pair_at}
 use Rattle.ol_wire.specs.Laid.{wires_before}
-
-pub no_member : {X : Type 0} (x : X) → None ≡ Some x → ⊥
-no_member x e = absurd (let bad : None ≡ Some x = e in cc)
+use Rattle.std.proofs.lemmas.Option.{none-some}
+use Rattle.ol_rules.proofs.Lists.{got_append}
+use Rattle.ol_wire.proofs.Lists.{got_there}
 
 some_same : {X : Type 0} (x y : X) → Some x ≡ Some y → x ≡ y
 some_same x y e = cc
 
 get_left : {X : Type 0} (xs ys : List X) (i : ℕ) (x : X) → slice_get xs i ≡ Some x → slice_get (xs ++ ys) i ≡ Some x
-get_left [] ys i x e = absurd (no_member x e)
+get_left [] ys i x e = absurd (none-some x e)
 get_left (y ∷ xs) ys zero x e = e
 get_left (y ∷ xs) ys (suc i) x e = get_left xs ys i x e
 
 get_right : {X : Type 0} (xs ys : List X) (i : ℕ) (x : X) → slice_get ys i ≡ Some x → slice_get (xs ++ ys) (length xs + i) ≡ Some x
 get_right [] ys i x e = let q : 0 + i ≡ i = omega arith in ap (slice_get ys) q ∙ e
 get_right (y ∷ xs) ys i x e = let q : length (y ∷ xs) + i ≡ suc (length xs + i) = omega arith in ap (slice_get (y ∷ (xs ++ ys))) q ∙ get_right xs ys i x e
-
-get_split : {X : Type 0} (xs ys : List X) (j : ℕ) (x : X) → slice_get (xs ++ ys) j ≡ Some x → (slice_get xs j ≡ Some x) ⊎ ((i : ℕ) × (j ≡ length xs + i) × (slice_get ys i ≡ Some x))
-get_split [] ys j x e = inr (j, omega arith, e)
-get_split (y ∷ xs) ys zero x e = inl e
-get_split (y ∷ xs) ys (suc j) x e = elim (get_split xs ys j x e) [
-  | inl h ↦ inl h
-  | inr h ↦ inr (h.0, (let q = h.1 in omega arith), h.2)
-]
-
-pub get_there : {X : Type 0} (xs : List X) (i : ℕ) → i < length xs → (x : X) × (slice_get xs i ≡ Some x)
-get_there [] i lt = absurd (omega (arith, lt))
-get_there (x ∷ xs) zero lt = (x, refl)
-get_there (x ∷ xs) (suc i) lt = get_there xs i (omega (arith, lt))
-
-pub get_within : {X : Type 0} (xs : List X) (i : ℕ) (x : X) → slice_get xs i ≡ Some x → i < length xs
-get_within [] i x e = absurd (no_member x e)
-get_within (y ∷ xs) zero x e = omega arith
-get_within (y ∷ xs) (suc i) x e = omega (arith, get_within xs i x e)
 
 each_at : {X : Type 0} (rows : ℕ → List X) (n m i : ℕ) (x : X) → m < n → slice_get (rows m) i ≡ Some x → slice_get (each n rows) (length (each m rows) + i) ≡ Some x
 each_at rows zero m i x lt e = absurd (omega (arith, lt))
@@ -60,8 +42,8 @@ pub record EachFrom {X : Type 0} (rows : ℕ → List X) (n j : ℕ) (x : X) : T
   pub place : j ≡ length (each row rows) + at
 
 each_from : {X : Type 0} (rows : ℕ → List X) (n j : ℕ) (x : X) → slice_get (each n rows) j ≡ Some x → EachFrom rows n j x
-each_from rows zero j x e = absurd (no_member x e)
-each_from rows (suc n) j x e = elim (get_split (each n rows) (rows n) j x e) [
+each_from rows zero j x e = absurd (none-some x e)
+each_from rows (suc n) j x e = elim (got_append (each n rows) (rows n) j x e) [
   | inl h ↦ let r = each_from rows n j x h in record { row = r.row; at = r.at; inside = omega (arith, r.inside); holds = r.holds; place = r.place }
   | inr h ↦ record { row = n; at = h.0; inside = omega arith; holds = h.2; place = h.1 }
 ]
@@ -82,20 +64,20 @@ pub record FirstWith (n s : ℕ) (o : Option Port) (i : ℕ) (x : ℕ × ℕ) : 
 
 only_one : {X : Type 0} (x y : X) (i : ℕ) → slice_get (x ∷ []) i ≡ Some y → (i ≡ 0) × (x ≡ y)
 only_one x y zero e = (refl, some_same x y e)
-only_one x y (suc i) e = absurd (no_member y e)
+only_one x y (suc i) e = absurd (none-some y e)
 
 first_with : (n s : ℕ) (o : Option Port) (i : ℕ) (x : ℕ × ℕ) → slice_get (wire_with n s o) i ≡ Some x → FirstWith n s o i x
-first_with n s None i x e = absurd (no_member x e)
-first_with n s (Some (Free m)) i x e = absurd (no_member x e)
+first_with n s None i x e = absurd (none-some x e)
+first_with n s (Some (Free m)) i x e = absurd (none-some x e)
 first_with n s (Some (Of m u)) i x e = elim (cases_Bool (nat_eq u 0)) [
-  | inl a ↦ absurd (no_member x (ap (λ b. slice_get (if b then [] else (if nat_lt (3 * n + s) (3 * m.0 + u) then (n, s) ∷ [] else [])) i) (sym a) ∙ e))
+  | inl a ↦ absurd (none-some x (ap (λ b. slice_get (if b then [] else (if nat_lt (3 * n + s) (3 * m.0 + u) then (n, s) ∷ [] else [])) i) (sym a) ∙ e))
   | inr a ↦
       let f : slice_get (if nat_lt (3 * n + s) (3 * m.0 + u) then (n, s) ∷ [] else []) i ≡ Some x = ap (λ b. slice_get (if b then [] else (if nat_lt (3 * n + s) (3 * m.0 + u) then (n, s) ∷ [] else [])) i) (sym a) ∙ e in
       elim (cases_Bool (nat_lt (3 * n + s) (3 * m.0 + u))) [
         | inl b ↦
             let g : slice_get ((n, s) ∷ []) i ≡ Some x = ap (λ b. slice_get (if b then (n, s) ∷ [] else []) i) (sym b) ∙ f in
             record { m = m; u = u; is = refl; auxiliary = λ z. (let t : nat_eq u 0 ≡ true = grind (arith, nat_tests) in let bad : true ≡ false = sym t ∙ a in absurd (cc)); sooner = ltb-true (3 * n + s) (3 * m.0 + u) b; only = (only_one {X = ℕ × ℕ} (n, s) x i g).0 }
-        | inr b ↦ absurd (no_member x (ap (λ b. slice_get (if b then (n, s) ∷ [] else []) i) (sym b) ∙ f))
+        | inr b ↦ absurd (none-some x (ap (λ b. slice_get (if b then (n, s) ∷ [] else []) i) (sym b) ∙ f))
       ]
 ]
 
@@ -120,7 +102,7 @@ pub record WireOf (net : Graph) (j : ℕ) : Type 0 where
 
 pub wire_of : (net : Graph) (j : ℕ) → j < length (aux_links net) → WireOf net j
 wire_of net j lt =
-    let x = get_there (aux_links net) j lt in
+    let x = got_there (aux_links net) j lt in
     let outer = each_from (λ k. each 2 (wire_at net k)) (length net.nodes) j x.0 x.1 in
     let inner = each_from (wire_at net outer.row) 2 outer.at x.0 outer.holds in
     let f = first_with outer.row (suc inner.row) (partner_of net (Of (record { 0 = outer.row }) (suc inner.row))) inner.at x.0 inner.holds in
@@ -167,14 +149,14 @@ pair_of_slot n m zero i p e = elim (cases_Bool (nat_lt n m.0)) [
       let g : slice_get ((n, m.0) ∷ []) i ≡ Some p = ap (λ b. slice_get (if b then (n, m.0) ∷ [] else []) i) (sym b) ∙ e in
       let o = only_one {X = ℕ × ℕ} (n, m.0) p i g in
       record { m = m; linked = refl; less = ltb-true n m.0 b; is = o.1; only = o.0 }
-  | inr b ↦ absurd (no_member p (ap (λ b. slice_get (if b then (n, m.0) ∷ [] else []) i) (sym b) ∙ e))
+  | inr b ↦ absurd (none-some p (ap (λ b. slice_get (if b then (n, m.0) ∷ [] else []) i) (sym b) ∙ e))
 ]
 pair_of_slot n m (suc s) i p e =
-    absurd (no_member p (ap (λ b. slice_get (if b then (if nat_lt n m.0 then (n, m.0) ∷ [] else []) else []) i) (sym (ne_eqb (suc s) 0 (λ q. omega (arith, q)))) ∙ e))
+    absurd (none-some p (ap (λ b. slice_get (if b then (if nat_lt n m.0 then (n, m.0) ∷ [] else []) else []) i) (sym (ne_eqb (suc s) 0 (λ q. omega (arith, q)))) ∙ e))
 
 pair_found : (n : ℕ) (o : Option Port) (i : ℕ) (p : ℕ × ℕ) → slice_get (pair_with n o) i ≡ Some p → PairWith n o i p
-pair_found n None i p e = absurd (no_member p e)
-pair_found n (Some (Free m)) i p e = absurd (no_member p e)
+pair_found n None i p e = absurd (none-some p e)
+pair_found n (Some (Free m)) i p e = absurd (none-some p e)
 pair_found n (Some (Of m s)) i p e = pair_of_slot n m s i p e
 
 pub pair_of : (net : Graph) (c : ℕ) (p : ℕ × ℕ) → slice_get (facing_pairs net) c ≡ Some p → PairOf net c p

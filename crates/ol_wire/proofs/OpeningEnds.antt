@@ -1,5 +1,5 @@
 -- The ends of a start net, by the ports of its graph.
-use Rattle.std.proofs.Common.{◌≡◌, ℕ, zero, suc, ◌+◌, ◌<◌, ◌≤◌, true, false, Bool, ◌||◌, List, [], ◌∷◌, Some, refl, sym, ap, ◌∙◌, subst, arith, inl, inr, eq-eqb}
+use Rattle.std.proofs.Common.{◌≡◌, ℕ, zero, suc, ◌+◌, ◌<◌, ◌≤◌, true, List, [], ◌∷◌, Some, refl, sym, ap, ◌∙◌, subst, arith, inl, inr, eq-eqb}
 use Rattle.std.specs.Prelude.{◌↔◌}
 use Rattle.ol_edges.specs.Edges.{IsIn}
 use Rattle.ol_net.specs.declared.parts.Kind.{Kind}
@@ -7,7 +7,7 @@ use Rattle.ol_net.specs.declared.parts.NodeId.{NodeId}
 use Rattle.ol_net.specs.declared.parts.Port.{Port}
 use Rattle.ol_net.specs.declared.parts.Port.TheVariants.{Free, Of}
 use Rattle.ol_net.specs.Graph.{Graph, IsTabled, kind_at, has_port, partner_of}
-use Rattle.ol_net.specs.Nets.{NamedPort, NamedNet, HasNode, Linked, port_under, net_under}
+use Rattle.ol_net.specs.Nets.{NamedPort, Linked, port_under, net_under}
 use Rattle.ol_net.specs.Nets as nets
 use Rattle.ol_net.specs.Numbered.{numbered_port, net_of}
 use Rattle.ol_net.specs.Replace.{top_index_of}
@@ -22,7 +22,9 @@ use Rattle.ol_wire.specs.Edges.{same_name, is_listed, is_live}
 use Rattle.ol_wire.specs.Stands.{IsEnd, of_port, principal, auxiliary}
 use Rattle.ol_wire.specs.Laid.{ref_of, node_word}
 use Rattle.ol_wire.proofs.References.{node_same, wire_same, slot_same, node_not_wire, node_not_slot, wire_not_slot}
-use Rattle.ol_wire.proofs.OpeningPorts.{index_low, of_inside}
+use Rattle.ol_wire.proofs.OpeningPorts.{of_inside}
+use Rattle.std.proofs.lemmas.Bool.{or_right}
+use Rattle.ol_rules.proofs.Born.{top_is_top}
 
 abbrev pub named : Port → NamedPort NodeName
 named p = port_under Init (numbered_port p)
@@ -45,16 +47,9 @@ same_start z n m e = omega (arith, e)
 same_of : (n m : NodeId) (s : ℕ) → n.0 ≡ m.0 → Of n s ≡ Of m s
 same_of n m s e = ap (λ (k : ℕ). Of (record { 0 = k }) s) e
 
-one_init : (x y : ℕ) → Init x ≡ Init y → x ≡ y
-one_init x y e = cc
-
 name_holds : (x : NodeName) → same_name x x ≡ true
 name_holds (Init n) = eq-eqb n n refl
 name_holds (Born t p) = rw (eq-eqb t t refl, eq-eqb p p refl) refl
-
-or_right : (a b : Bool) → b ≡ true → (a || b) ≡ true
-or_right true b e = refl
-or_right false b e = e
 
 pub listed_in : (x : NodeName) (k : Kind) (i : ℕ) (nodes : List (NodeName × Kind × ℕ)) → IsIn (x, k, i) nodes → is_listed x nodes ≡ true
 listed_in x k i [] h = absurd h
@@ -69,7 +64,7 @@ module _ (net : Graph) (z : Parts) (low : top_index_of net.nodes ≤ 1000000) wh
   live_of n s h =
       let t = (is_port net (Of n s)).1 h in
       let is = (has_node net n.0 t.0 t.1).0 t.2 in
-      record { kind = t.0; index = t.1; is = is; word = ap (ref_of z n.0) is; low = (let b = index_low net.nodes n.0 (t.0, t.1) is in omega (arith, b, low)) }
+      record { kind = t.0; index = t.1; is = is; word = ap (ref_of z n.0) is; low = (let b = top_is_top net.nodes n.0 (t.0, t.1) is in omega (arith, b, low)) }
 
   pub end_same : (p q : Port) → has_port net.free net.nodes p ≡ true → has_port net.free net.nodes q ≡ true → end_of net z p ≡ end_of net z q → p ≡ q
   end_same (Free n) (Free m) a b e = let w = wire_same (port_word n) (port_word m) e in let q : n ≡ m = omega (arith, w) in ap Free q
@@ -117,7 +112,7 @@ live_start net n k i e = listed_in (Init n) k i (net_under Init (net_of net)).no
 pub link_named : (net : Graph) (p q : Port) → IsTabled net.free net.nodes net.partners → Linked (net_under Init (net_of net)) (named p) (named q) ↔ (partner_of net p ≡ Some q)
 link_named net p q tabled = (
   λ h.
-      let l = linked_back net (numbered_port p) (numbered_port q) tabled (link_back Init one_init (net_of net) (numbered_port p) (numbered_port q) h) in
+      let l = linked_back net (numbered_port p) (numbered_port q) tabled (link_back Init (λ x y e. cc) (net_of net) (numbered_port p) (numbered_port q) h) in
       ap (partner_of net) (numbered_port-injective p l.from l.first) ∙ l.partner ∙ ap (λ w. Some w) (sym (numbered_port-injective q l.to l.second)),
   λ e. link_to Init (net_of net) (numbered_port p) (numbered_port q) (linked net p q tabled e),
 )

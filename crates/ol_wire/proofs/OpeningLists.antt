@@ -9,6 +9,7 @@ use Rattle.ol_wire.specs.Layout.{port_word, start_node, start_wire, start_cell, 
 use Rattle.ol_wire.specs.Starts.{facing_pairs, aux_links}
 use Rattle.ol_wire.specs.Laid.{node_word, word_of_port, field_of, port_row, field_row, cell_words, IsLaid}
 use Rattle.ol_wire.proofs.OpeningWords.{wires_few}
+use Rattle.std.proofs.lemmas.Option.{slice_get_within}
 
 length_ones : (f : ℕ → ℕ) (n : ℕ) → length (each n (λ k. f k ∷ [])) ≡ n
 length_ones f zero = refl
@@ -61,12 +62,7 @@ cells_at net z (q ∷ ps) (suc c) p e =
     let b : 2 * suc c + 1 ≡ suc (suc (2 * c + 1)) = omega arith in
     (ap (slice_index (cell_words net z (q ∷ ps))) a ∙ h.0, ap (slice_index (cell_words net z (q ∷ ps))) b ∙ h.1)
 
-cell_there : (ps : List (ℕ × ℕ)) (c : ℕ) (p : ℕ × ℕ) → slice_get ps c ≡ Some p → c < length ps
-cell_there [] c p e = absurd (let bad : None ≡ Some p = e in cc)
-cell_there (q ∷ ps) zero p e = omega arith
-cell_there (q ∷ ps) (suc c) p e = omega (arith, cell_there ps c p e)
-
-empty_at : (n k : ℕ) → slice_index (replicate n 0) k ≡ 0
+pub empty_at : (n k : ℕ) → slice_index (replicate n 0) k ≡ 0
 empty_at n k = elim (cases_lt k n) [
   | inl lt ↦ get_or-replicate n k 0 0 lt
   | inr le ↦ get_or_past (replicate n 0) k 0 (omega (arith, le, length-replicate {A = ℕ} n 0))
@@ -118,7 +114,7 @@ module _ (net : Graph) (z : Parts) (a b c d e f : List ℕ) (free : z.free ≡ n
   cell_at : (k : ℕ) (p : ℕ × ℕ) → slice_get (facing_pairs net) k ≡ Some p → (slice_index f (start_cell z k) ≡ node_word net z p.0) × (slice_index f (suc (start_cell z k)) ≡ node_word net z p.1)
   cell_at k p q =
       let h = cells_at net z (facing_pairs net) k p q in
-      let lt = cell_there (facing_pairs net) k p q in (
+      let lt = slice_get_within (facing_pairs net) k p q in (
         in_first e _ f (start_cell z k) ef (omega (arith, lt, few, length_e)) ∙ in_second d _ e (start_cell z k) (start_cell z 0) (2 * k) ee length_d (omega arith) ∙ h.0,
         in_first e _ f (suc (start_cell z k)) ef (omega (arith, lt, few, length_e)) ∙ in_second d _ e (suc (start_cell z k)) (start_cell z 0) (2 * k + 1) ee length_d (omega arith) ∙ h.1,
       )

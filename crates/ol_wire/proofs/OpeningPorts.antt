@@ -1,21 +1,13 @@
 -- The nodes and ports of a net are within its tables.
-use Rattle.std.proofs.Common.{◌≡◌, ℕ, zero, suc, ◌<◌, ◌≤◌, true, List, [], ◌∷◌, length, Option, Some, None, ap, arith}
+use Rattle.std.proofs.Common.{◌≡◌, ℕ, ◌<◌, true, List, length, Option, Some, arith}
 use Rattle.std.proofs.lemmas.Bool.Decides.{nat_tests}
 use Rattle.ol_net.specs.declared.parts.Kind.{Kind}
 use Rattle.ol_net.specs.declared.parts.NodeId.{NodeId}
 use Rattle.ol_net.specs.declared.parts.Port.{Port}
 use Rattle.ol_net.specs.declared.parts.Port.TheVariants.{Free, Of}
 use Rattle.ol_net.specs.Graph.{Graph, kind_at, has_port, partner_of}
-use Rattle.ol_net.specs.Replace.{top_index_of}
 use Rattle.ol_net.proofs.Places.{kind_at-within, has_slot-lt}
 use Rattle.ol_net.proofs.Numbered.{partner_of-parts}
-
-pub index_low : (nodes : List (Option (Kind × ℕ))) (n : ℕ) (k : Kind × ℕ) → kind_at nodes n ≡ Some k → k.1 ≤ top_index_of nodes
-index_low [] n k e = absurd (let bad : None ≡ Some k = e in cc)
-index_low (None ∷ nodes) zero k e = absurd (let bad : None ≡ Some k = e in cc)
-index_low (Some f ∷ nodes) zero k e = let q : f ≡ k = cc in let b = ap (λ (w : Kind × ℕ). w.1) q in omega (arith, b)
-index_low (None ∷ nodes) (suc n) k e = index_low nodes n k e
-index_low (Some f ∷ nodes) (suc n) k e = omega (arith, index_low nodes n k e)
 
 pub node_inside : (nodes : List (Option (Kind × ℕ))) (n : ℕ) (k : Kind × ℕ) → kind_at nodes n ≡ Some k → n < length nodes
 node_inside nodes n k e = kind_at-within nodes n 0 (rw e (grind (arith, nat_tests)))

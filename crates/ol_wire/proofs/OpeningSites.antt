@@ -13,7 +13,7 @@ use Rattle.ol_rules.specs.declared.journal.NodeName.{NodeName}
 use Rattle.ol_rules.specs.declared.journal.NodeName.TheVariants.{Init}
 use Rattle.ol_wire.specs.declared.layout.Parts.{Parts}
 use Rattle.ol_wire.specs.References.{wire_ref, slot_ref}
-use Rattle.ol_wire.specs.Layout.{Part, part_of, port_word, start_node, start_wire, start_cell, block, size}
+use Rattle.ol_wire.specs.Layout.{Part, part_of, port_word, start_node, start_wire, start_cell, block}
 use Rattle.ol_wire.specs.Layout as part
 use Rattle.ol_wire.specs.Edges.{is_live, edge_to, edge_in}
 use Rattle.ol_wire.specs.Starts.{facing_pairs, aux_links}
@@ -21,8 +21,11 @@ use Rattle.ol_wire.specs.Laid.{node_word, word_to, field_to, word_of_port, field
 use Rattle.ol_wire.proofs.Places.{part_port, part_field, part_start_cell}
 use Rattle.ol_wire.proofs.OpeningPorts.{free_inside, of_inside}
 use Rattle.ol_wire.proofs.OpeningWords.{sooner, not_sooner, not_zero}
-use Rattle.ol_wire.proofs.OpeningEach.{get_there, get_within, pair_get, pair_of, cell_number}
+use Rattle.ol_wire.proofs.OpeningEach.{pair_get, pair_of, cell_number}
 use Rattle.ol_wire.proofs.OpeningEnds.{end_of, live_of}
+use Rattle.ol_wire.proofs.Lists.{got_there}
+use Rattle.std.proofs.lemmas.Option.{slice_get_within}
+use Rattle.ol_wire.proofs.WordEdges.{edge_none}
 
 -- a net, its parts, and words that it is laid out in
 pub record Given (net : Graph) (z : Parts) (words : List ℕ) (N : NamedNet NodeName) (reached : ℕ → Bool) : Type 0 where
@@ -85,9 +88,6 @@ where_at z w = elim (cases_eq w 0) [
 
 edge_some : (end word : ℕ) → word ≢ 0 → edge_to end word ≡ (end, word) ∷ []
 edge_some end word some = ap (λ b. if b then [] else (end, word) ∷ []) (ne_eqb word 0 some)
-
-edge_none : (end word : ℕ) → word ≡ 0 → edge_to end word ≡ []
-edge_none end word e = ap (λ b. if b then [] else (end, word) ∷ []) (eq-eqb word 0 e)
 
 if_none : (b : Bool) (xs : List (ℕ × ℕ)) → xs ≡ [] → (if b then xs else []) ≡ []
 if_none true xs e = e
@@ -153,7 +153,7 @@ module _ (net : Graph) (z : Parts) (words : List ℕ) (N : NamedNet NodeName) (r
       let b = of_inside net n 0 (has (Of n 0) (Of m 0) e) in
       let c = cell_number net n.0 in
       let get = pair_get net n.0 m e less b.0 in
-      let lt : c < z.cells = let t = get_within (facing_pairs net) c (n.0, m.0) get in omega (arith, t, g.cells) in
+      let lt : c < z.cells = let t = slice_get_within (facing_pairs net) c (n.0, m.0) get in omega (arith, t, g.cells) in
       let w = start_cell z c in
       let both = g.laid.cells c (n.0, m.0) get in
       ap (λ pt. edge_in N (reached w) pt w (slice_index words w) (slice_index words (suc w))) (part_start_cell z c lt).0 ∙ ap (λ x. if x == 0 then [] else (x, slice_index words (suc w)) ∷ []) both.0
@@ -216,7 +216,7 @@ module _ (net : Graph) (z : Parts) (words : List ℕ) (N : NamedNet NodeName) (r
 
   found_cell : (w c : ℕ) → c < z.cells → w ≡ start_cell z c → Found w
   found_cell w c lt at =
-      let x = get_there (facing_pairs net) c (omega (arith, lt, g.cells)) in
+      let x = got_there (facing_pairs net) c (omega (arith, lt, g.cells)) in
       let p = pair_of net c x.0 x.1 in
       direct (Of (record { 0 = p.n }) 0) (Of p.m 0) p.linked tt (at ∙ ap (start_cell z) p.number ∙ ap (λ k. start_cell z (cell_number net k)) (sym (sooner p.n p.m.0 p.less p.n p.m.0)))
 

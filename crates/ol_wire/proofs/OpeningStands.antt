@@ -23,11 +23,12 @@ use Rattle.ol_wire.specs.Laid.{wire_number, wires_before}
 use Rattle.ol_wire.proofs.References.{wire_same, node_not_wire, wire_not_slot}
 use Rattle.ol_wire.proofs.OpeningPorts.{free_inside, of_inside}
 use Rattle.ol_wire.proofs.OpeningWords.{sooner, not_sooner}
-use Rattle.ol_wire.proofs.OpeningEach.{IsFirst, wire_get, wire_of, wire_one, get_within, cell_number}
+use Rattle.ol_wire.proofs.OpeningEach.{IsFirst, wire_get, wire_of, wire_one, cell_number}
 use Rattle.ol_wire.proofs.OpeningEnds.{end_of, named, live_of, end_same, end_port, port_end, link_named}
 use Rattle.ol_wire.proofs.OpeningCounts.{one_place, two_places, some_place, in_row, row_of}
 use Rattle.ol_wire.proofs.OpeningSites.{Given, Plain, seat, Found, none, direct, half, found, at_seat, at_half, empty_edge}
 use Rattle.ol_wire.proofs.OpeningSites as sites
+use Rattle.std.proofs.lemmas.Option.{slice_get_within}
 
 -- an edge has the ends that it names
 hit_first : (e x y : ℕ) → e ≡ x → e ≢ y → ends nat_eq e ((x, y) ∷ []) ≡ 1
@@ -226,12 +227,12 @@ module _ (net : Graph) (z : Parts) (words : List ℕ) (reached : ℕ → Bool) (
   num_small n m s u l = elim (ordered n m s u l) [
     | inl f ↦
         let a = first_small n m s (suc u) f.0 in
-        let t = get_within (aux_links net) (wires_before net n.0 s) (n.0, suc s) (wire_get net n.0 s m (suc u) f.0 a.0 a.1) in
+        let t = slice_get_within (aux_links net) (wires_before net n.0 s) (n.0, suc s) (wire_get net n.0 s m (suc u) f.0 a.0 a.1) in
         let e = f.1 in
         omega (arith, e, t, g.wires)
     | inr f ↦
         let a = first_small m n u (suc s) f.0 in
-        let t = get_within (aux_links net) (wires_before net m.0 u) (m.0, suc u) (wire_get net m.0 u n (suc s) f.0 a.0 a.1) in
+        let t = slice_get_within (aux_links net) (wires_before net m.0 u) (m.0, suc u) (wire_get net m.0 u n (suc s) f.0 a.0 a.1) in
         let e = f.1 in
         omega (arith, e, t, g.wires)
   ]

@@ -20,7 +20,8 @@ use Rattle.ol_wire.specs.Stands.{IsEnd, principal, IsWireEnd}
 use Rattle.ol_wire.specs.Rule.{Table, IsView, Kept}
 use Rattle.ol_wire.proofs.References.{node_sort, wire_sort, slot_sort, wire_same, kind_of_ref, index_of_ref}
 use Rattle.ol_wire.proofs.EdgeList.{edge_found, pending_found}
-use Rattle.ol_wire.proofs.Claimed.{node_of, in_either, ends_first, ends_second, ends_twice, same_bit, EdgeAt, at_wire, at_field, at_cell, edge_at}
+use Rattle.ol_wire.proofs.Claimed.{node_of, ends_first, ends_second, ends_twice, same_bit, EdgeAt, at_wire, at_field, at_cell, edge_at}
+use Rattle.ol_rules.proofs.Lists.{in_cases}
 
 -- an end that has edges to two others stands at two edges
 two_edges : (v u w : ℕ) (es : List (ℕ × ℕ)) → u ≢ w → IsIn (v, u) es → IsIn (v, w) es → 2 ≤ ends nat_eq v es
@@ -83,7 +84,7 @@ module _ (p : Plan) (s : Table) (k : Kept p s) (linked : (v : View) → IsView s
 
   -- each edge is that of a word
   word_of : (a b : ℕ) → IsIn (a, b) all → (w : ℕ) × EdgeAt (part_of z w) w (get_or k.full w 0) (get_or k.full (suc w) 0) a b
-  word_of a b i = of (in_either (a, b) (edges_in z k.net (is_reached z k.log s.views) k.full (size z)) (pending_in s.views) i)
+  word_of a b i = of (in_cases (a, b) (edges_in z k.net (is_reached z k.log s.views) k.full (size z)) (pending_in s.views) i)
     where
       of : IsIn (a, b) (edges_in z k.net (is_reached z k.log s.views) k.full (size z)) ⊎ IsIn (a, b) (pending_in s.views) → (w : ℕ) × EdgeAt (part_of z w) w (get_or k.full w 0) (get_or k.full (suc w) 0) a b
       of (inl h) = let t = edge_found z k.net (is_reached z k.log s.views) k.full (size z) (a, b) h in (t.0, edge_at k.net _ (part_of z t.0) t.0 _ _ a b t.2)

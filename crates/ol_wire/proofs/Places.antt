@@ -1,21 +1,15 @@
 -- Each word is one part, and each part has its words.
-use Rattle.std.proofs.Common.{◌≡◌, ◌≢◌, ℕ, suc, ◌+◌, ◌-◌, ◌*◌, ◌/◌, ◌%◌, ◌==◌, ◌<◌, ◌≤◌, true, false, if◌then◌else◌, nat_lt, nat_eq, lt-ltb, ltb-true, eq-eqb, ne_eqb, inl, inr, ◌↔◌, refl, sym, ap, ◌∙◌, subst, arith}
+use Rattle.std.proofs.Common.{◌≡◌, ◌≢◌, ℕ, suc, ◌+◌, ◌-◌, ◌*◌, ◌/◌, ◌%◌, ◌==◌, ◌<◌, ◌≤◌, true, false, if◌then◌else◌, nat_eq, lt-ltb, ltb-true, eq-eqb, ne_eqb, inl, inr, ◌↔◌, refl, sym, ap, ◌∙◌, subst, arith}
 use Rattle.std.proofs.lemmas.Bool.{cases_eq, cases_lt}
 use Rattle.std.proofs.lemmas.Bool.Decides.{nat_tests}
 use Rattle.ol_rules.specs.declared.journal.NodeName.{NodeName}
 use Rattle.ol_rules.specs.declared.journal.NodeName.TheVariants.{Init, Born}
 use Rattle.ol_rules.specs.Names.{comes_before}
 use Rattle.ol_wire.specs.declared.layout.Parts.{Parts}
-use Rattle.ol_wire.specs.Layout.{Part, ticket, port, field, wire, between, left, right, entry, past, part_in_block, part_of, port_word, start_node, start_wire, start_cell, block, size, place_of, born_wire, born_cell, left_word, cells_of}
+use Rattle.ol_wire.specs.Layout.{Part, ticket, port, field, wire, between, left, right, entry, past, part_in_block, part_of, port_word, start_node, start_wire, start_cell, block, size, place_of, born_wire, born_cell, left_word, cells_of, IsPlaced}
 use Rattle.ol_wire.specs.Events.{name_at, name_in_part}
 use Rattle.ol_wire.specs.Plays.{cell_at}
-use Rattle.ol_wire.specs.Rule.{IsPlaced}
-
-yes : {A : Type 0} (m n : ℕ) (x y : A) → m < n → (if nat_lt m n then x else y) ≡ x
-yes m n x y lt = ap (λ b. if b then x else y) (lt-ltb m n lt)
-
-no : {A : Type 0} (m n : ℕ) (x y : A) → n ≤ m → (if nat_lt m n then x else y) ≡ y
-no m n x y le = let e : nat_lt m n ≡ false = grind (arith, nat_tests) in ap (λ b. if b then x else y) e
+use Rattle.ol_wire.proofs.Lists.{if_below, if_above}
 
 same : {A : Type 0} (m n : ℕ) (x y : A) → m ≡ n → (if m == n then x else y) ≡ x
 same m n x y e = ap (λ b. if b then x else y) (eq-eqb m n e)
@@ -26,22 +20,22 @@ apart m n x y d = ap (λ b. if b then x else y) (ne_eqb m n d)
 module _ (z : Parts) where
   -- the parts behind the ticket word, by where the word stands
   of_ports : (w : ℕ) → 0 < w → w < start_node z 0 → part_of z w ≡ port (w - 1)
-  of_ports w some lt = apart w 0 _ _ (λ e. omega arith) ∙ yes w (start_node z 0) _ _ lt
+  of_ports w some lt = apart w 0 _ _ (λ e. omega arith) ∙ if_below w (start_node z 0) _ _ lt
 
   of_nodes : (w : ℕ) → start_node z 0 ≤ w → w < start_wire z 0 → part_of z w ≡ field (Init ((w - start_node z 0) / 2)) ((w - start_node z 0) % 2)
-  of_nodes w ge lt = apart w 0 _ _ (λ e. omega arith) ∙ no w (start_node z 0) _ _ ge ∙ yes w (start_wire z 0) _ _ lt
+  of_nodes w ge lt = apart w 0 _ _ (λ e. omega arith) ∙ if_above w (start_node z 0) _ _ ge ∙ if_below w (start_wire z 0) _ _ lt
 
   of_wires : (w : ℕ) → start_wire z 0 ≤ w → w < start_cell z 0 → part_of z w ≡ wire (w - start_wire z 0)
-  of_wires w ge lt = apart w 0 _ _ (λ e. omega arith) ∙ no w (start_node z 0) _ _ (omega arith) ∙ no w (start_wire z 0) _ _ ge ∙ yes w (start_cell z 0) _ _ lt
+  of_wires w ge lt = apart w 0 _ _ (λ e. omega arith) ∙ if_above w (start_node z 0) _ _ (omega arith) ∙ if_above w (start_wire z 0) _ _ ge ∙ if_below w (start_cell z 0) _ _ lt
 
   of_cells : (w : ℕ) → start_cell z 0 ≤ w → w < block z 0 → part_of z w ≡ (if (w - start_cell z 0) % 2 == 0 then left else right)
-  of_cells w ge lt = apart w 0 _ _ (λ e. omega arith) ∙ no w (start_node z 0) _ _ (omega arith) ∙ no w (start_wire z 0) _ _ (omega arith) ∙ no w (start_cell z 0) _ _ ge ∙ yes w (block z 0) _ _ lt
+  of_cells w ge lt = apart w 0 _ _ (λ e. omega arith) ∙ if_above w (start_node z 0) _ _ (omega arith) ∙ if_above w (start_wire z 0) _ _ (omega arith) ∙ if_above w (start_cell z 0) _ _ ge ∙ if_below w (block z 0) _ _ lt
 
   of_blocks : (w : ℕ) → block z 0 ≤ w → w < size z → part_of z w ≡ part_in_block ((w - block z 0) / 22) ((w - block z 0) % 22)
-  of_blocks w ge lt = apart w 0 _ _ (λ e. omega arith) ∙ no w (start_node z 0) _ _ (omega arith) ∙ no w (start_wire z 0) _ _ (omega arith) ∙ no w (start_cell z 0) _ _ (omega arith) ∙ no w (block z 0) _ _ ge ∙ yes w (size z) _ _ lt
+  of_blocks w ge lt = apart w 0 _ _ (λ e. omega arith) ∙ if_above w (start_node z 0) _ _ (omega arith) ∙ if_above w (start_wire z 0) _ _ (omega arith) ∙ if_above w (start_cell z 0) _ _ (omega arith) ∙ if_above w (block z 0) _ _ ge ∙ if_below w (size z) _ _ lt
 
   of_none : (w : ℕ) → size z ≤ w → part_of z w ≡ past
-  of_none w ge = apart w 0 _ _ (λ e. omega arith) ∙ no w (start_node z 0) _ _ (omega arith) ∙ no w (start_wire z 0) _ _ (omega arith) ∙ no w (start_cell z 0) _ _ (omega arith) ∙ no w (block z 0) _ _ (omega arith) ∙ no w (size z) _ _ ge
+  of_none w ge = apart w 0 _ _ (λ e. omega arith) ∙ if_above w (start_node z 0) _ _ (omega arith) ∙ if_above w (start_wire z 0) _ _ (omega arith) ∙ if_above w (start_cell z 0) _ _ (omega arith) ∙ if_above w (block z 0) _ _ (omega arith) ∙ if_above w (size z) _ _ ge
 
   -- word j of the block of a ticket
   in_block : (t j : ℕ) → t < z.fuel → j < 22 → part_of z (block z t + j) ≡ part_in_block t j
@@ -62,7 +56,7 @@ module _ (z : Parts) where
       let at : block z t + 2 + 2 * i + s ≡ block z t + (2 + 2 * i + s) = omega arith in
       let d : (2 + 2 * i + s - 2) / 2 ≡ i = omega arith in
       let m : (2 + 2 * i + s - 2) % 2 ≡ s = omega arith in
-      ap (part_of z) at ∙ in_block t (2 + 2 * i + s) h.0 (omega (arith, h.1)) ∙ no (2 + 2 * i + s) 2 _ _ (omega arith) ∙ yes (2 + 2 * i + s) 10 _ _ (omega (arith, h.1))
+      ap (part_of z) at ∙ in_block t (2 + 2 * i + s) h.0 (omega (arith, h.1)) ∙ if_above (2 + 2 * i + s) 2 _ _ (omega arith) ∙ if_below (2 + 2 * i + s) 10 _ _ (omega (arith, h.1))
       ∙ ap (λ u. field (Born t u) ((2 + 2 * i + s - 2) % 2)) d ∙ ap (field (Born t i)) m
 
   pub part_wire : (j : ℕ) → j < z.wires → part_of z (start_wire z j) ≡ wire j
@@ -73,11 +67,11 @@ module _ (z : Parts) where
       let at : born_wire z t q p ≡ block z t + (10 + 2 * q + p) = omega arith in
       let d : (10 + 2 * q + p - 10) / 2 ≡ q = omega arith in
       let m : (10 + 2 * q + p - 10) % 2 ≡ p = omega arith in
-      ap (part_of z) at ∙ in_block t (10 + 2 * q + p) lt (omega arith) ∙ no (10 + 2 * q + p) 2 _ _ (omega arith) ∙ no (10 + 2 * q + p) 10 _ _ (omega arith) ∙ yes (10 + 2 * q + p) 14 _ _ (omega arith)
+      ap (part_of z) at ∙ in_block t (10 + 2 * q + p) lt (omega arith) ∙ if_above (10 + 2 * q + p) 2 _ _ (omega arith) ∙ if_above (10 + 2 * q + p) 10 _ _ (omega arith) ∙ if_below (10 + 2 * q + p) 14 _ _ (omega arith)
       ∙ ap (λ u. between t u ((10 + 2 * q + p - 10) % 2)) d ∙ ap (between t q) m
 
   pub part_entry : (t j : ℕ) → t < z.fuel → j < 2 → part_of z (block z t + j) ≡ entry
-  part_entry t j lt small = in_block t j lt (omega arith) ∙ yes j 2 _ _ small
+  part_entry t j lt small = in_block t j lt (omega arith) ∙ if_below j 2 _ _ small
 
   pub part_start_cell : (c : ℕ) → c < z.cells → (part_of z (start_cell z c) ≡ left) × (part_of z (suc (start_cell z c)) ≡ right)
   part_start_cell c lt = (
@@ -89,18 +83,18 @@ module _ (z : Parts) where
   part_born_cell t j lt small =
       let at : born_cell z t j ≡ block z t + (14 + 2 * j) = omega arith in
       let next : suc (born_cell z t j) ≡ block z t + (15 + 2 * j) = omega arith in (
-        ap (part_of z) at ∙ in_block t (14 + 2 * j) lt (omega arith) ∙ no (14 + 2 * j) 2 _ _ (omega arith) ∙ no (14 + 2 * j) 10 _ _ (omega arith) ∙ no (14 + 2 * j) 14 _ _ (omega arith) ∙ same ((14 + 2 * j) % 2) 0 _ _ (omega arith),
-        ap (part_of z) next ∙ in_block t (15 + 2 * j) lt (omega arith) ∙ no (15 + 2 * j) 2 _ _ (omega arith) ∙ no (15 + 2 * j) 10 _ _ (omega arith) ∙ no (15 + 2 * j) 14 _ _ (omega arith) ∙ apart ((15 + 2 * j) % 2) 0 _ _ (λ e. omega arith),
+        ap (part_of z) at ∙ in_block t (14 + 2 * j) lt (omega arith) ∙ if_above (14 + 2 * j) 2 _ _ (omega arith) ∙ if_above (14 + 2 * j) 10 _ _ (omega arith) ∙ if_above (14 + 2 * j) 14 _ _ (omega arith) ∙ same ((14 + 2 * j) % 2) 0 _ _ (omega arith),
+        ap (part_of z) next ∙ in_block t (15 + 2 * j) lt (omega arith) ∙ if_above (15 + 2 * j) 2 _ _ (omega arith) ∙ if_above (15 + 2 * j) 10 _ _ (omega arith) ∙ if_above (15 + 2 * j) 14 _ _ (omega arith) ∙ apart ((15 + 2 * j) % 2) 0 _ _ (λ e. omega arith),
       )
 
   pub part_cell : (c : ℕ) → c < cells_of z → (part_of z (left_word z c) ≡ left) × (part_of z (suc (left_word z c)) ≡ right) × (suc (left_word z c) < size z)
   part_cell c lt = elim (cases_lt c z.cells) [
     | inl low ↦
-        let e : left_word z c ≡ start_cell z c = yes c z.cells _ _ low in
+        let e : left_word z c ≡ start_cell z c = if_below c z.cells _ _ low in
         let h = part_start_cell c low in
         (ap (part_of z) e ∙ h.0, ap (λ w. part_of z (suc w)) e ∙ h.1, omega (arith, e))
     | inr high ↦
-        let e : left_word z c ≡ born_cell z ((c - z.cells) / 4) ((c - z.cells) % 4) = no c z.cells _ _ high in
+        let e : left_word z c ≡ born_cell z ((c - z.cells) / 4) ((c - z.cells) % 4) = if_above c z.cells _ _ high in
         let h = part_born_cell ((c - z.cells) / 4) ((c - z.cells) % 4) (omega arith) (omega arith) in
         (ap (part_of z) e ∙ h.0, ap (λ w. part_of z (suc w)) e ∙ h.1, omega (arith, e))
   ]
@@ -108,16 +102,16 @@ module _ (z : Parts) where
   pub cell_of_left : (c : ℕ) → c < cells_of z → cell_at z (left_word z c) ≡ c
   cell_of_left c lt = elim (cases_lt c z.cells) [
     | inl low ↦
-        let e : left_word z c ≡ start_cell z c = yes c z.cells _ _ low in
+        let e : left_word z c ≡ start_cell z c = if_below c z.cells _ _ low in
         let d : (start_cell z c - start_cell z 0) / 2 ≡ c = omega arith in
-        ap (cell_at z) e ∙ yes (start_cell z c) (block z 0) _ _ (omega arith) ∙ d
+        ap (cell_at z) e ∙ if_below (start_cell z c) (block z 0) _ _ (omega arith) ∙ d
     | inr high ↦
         let t = (c - z.cells) / 4 in
         let j = (c - z.cells) % 4 in
-        let e : left_word z c ≡ born_cell z t j = no c z.cells _ _ high in
+        let e : left_word z c ≡ born_cell z t j = if_above c z.cells _ _ high in
         let d : (born_cell z t j - block z 0) / 22 ≡ t = omega arith in
         let m : (born_cell z t j - block z 0) % 22 ≡ 14 + 2 * j = omega arith in
-        ap (cell_at z) e ∙ no (born_cell z t j) (block z 0) _ _ (omega arith) ∙ (let q : z.cells + 4 * ((born_cell z t j - block z 0) / 22) + ((born_cell z t j - block z 0) % 22 - 14) / 2 ≡ c = omega (arith, d, m) in q)
+        ap (cell_at z) e ∙ if_above (born_cell z t j) (block z 0) _ _ (omega arith) ∙ (let q : z.cells + 4 * ((born_cell z t j - block z 0) / 22) + ((born_cell z t j - block z 0) % 22 - 14) / 2 ≡ c = omega (arith, d, m) in q)
   ]
 
   -- what a word is, and where

@@ -1,5 +1,5 @@
 -- Which wires are reached before and after a ticket.
-use Rattle.std.proofs.Common.{◌≡◌, ℕ, zero, suc, ◌<◌, ◌≤◌, Bool, true, false, not, ◌&&◌, nat_eq, nat_lt, eq-eqb, ltb-true, lt-ltb, if◌then◌else◌, List, [], ◌∷◌, ◌++◌, length, Option, Some, None, ◌⊎◌, inl, inr, refl, sym, ap, ◌∙◌, slice_get, arith}
+use Rattle.std.proofs.Common.{◌≡◌, ℕ, ◌<◌, ◌≤◌, Bool, true, false, not, ◌&&◌, nat_eq, nat_lt, eq-eqb, ltb-true, lt-ltb, if◌then◌else◌, List, [], ◌∷◌, ◌++◌, length, Option, Some, None, ◌⊎◌, inl, inr, refl, sym, ap, ◌∙◌, slice_get, arith}
 use Rattle.ol_edges.specs.Edges.{bit}
 use Rattle.ol_net.specs.Parts.{arity}
 use Rattle.ol_rules.specs.Rewriting.{is_meeting}
@@ -12,16 +12,8 @@ use Rattle.ol_wire.specs.Blocks.{copies_of_f, copies_of_g}
 use Rattle.ol_wire.specs.Edges.{crosses_at, is_wire_made, is_made, deaths, is_reached}
 use Rattle.ol_wire.proofs.Places.{part_between, is_wire, is_between}
 use Rattle.ol_wire.proofs.TicketJournal.{got_last, got_before, got_one_more}
-
-both : (a b : Bool) → (a && b) ≡ true → (a ≡ true) × (b ≡ true)
-both true true h = (refl, refl)
-both true false h = absurd (cc)
-both false b h = absurd (cc)
-
-two : (a b : Bool) → a ≡ true → b ≡ true → (a && b) ≡ true
-two true true e f = refl
-two true false e f = absurd (cc)
-two false b e f = absurd (cc)
+use Rattle.std.proofs.lemmas.Bool.{and_parts, and_from}
+use Rattle.std.proofs.lemmas.Option.{slice_get_within}
 
 -- a crossing that makes a wire, by the copies
 crossed : (e : Event) (q p : ℕ) → crosses_at (Some e) q p ≡ true → (q < copies_of_f e) × (p < copies_of_g e)
@@ -29,19 +21,14 @@ crossed e q p h = go (is_meeting e.rule) h
   where
     go : (m : Bool) → (not m && (nat_lt q (arity (kind_in e.g)) && nat_lt p (arity (kind_in e.f)))) ≡ true → (q < (if m then 0 else arity (kind_in e.g))) × (p < (if m then 0 else arity (kind_in e.f)))
     go true h = absurd (cc)
-    go false h = let t = both (nat_lt q (arity (kind_in e.g))) (nat_lt p (arity (kind_in e.f))) h in (ltb-true q (arity (kind_in e.g)) t.0, ltb-true p (arity (kind_in e.f)) t.1)
+    go false h = let t = and_parts (nat_lt q (arity (kind_in e.g))) (nat_lt p (arity (kind_in e.f))) h in (ltb-true q (arity (kind_in e.g)) t.0, ltb-true p (arity (kind_in e.f)) t.1)
 
 crosses : (e : Event) (q p : ℕ) → q < copies_of_f e → p < copies_of_g e → crosses_at (Some e) q p ≡ true
 crosses e q p hq hp = go (is_meeting e.rule) hq hp
   where
     go : (m : Bool) → q < (if m then 0 else arity (kind_in e.g)) → p < (if m then 0 else arity (kind_in e.f)) → (not m && (nat_lt q (arity (kind_in e.g)) && nat_lt p (arity (kind_in e.f)))) ≡ true
     go true hq hp = absurd (omega arith)
-    go false hq hp = two (nat_lt q (arity (kind_in e.g))) (nat_lt p (arity (kind_in e.f))) (lt-ltb q (arity (kind_in e.g)) hq) (lt-ltb p (arity (kind_in e.f)) hp)
-
-got_within : {A : Type 0} (xs : List A) (n : ℕ) (x : A) → slice_get xs n ≡ Some x → n < length xs
-got_within [] n x h = absurd (cc)
-got_within (y ∷ xs) zero x h = omega arith
-got_within (y ∷ xs) (suc n) x h = omega (arith, got_within xs n x h)
+    go false hq hp = and_from (nat_lt q (arity (kind_in e.g))) (nat_lt p (arity (kind_in e.f))) (lt-ltb q (arity (kind_in e.g)) hq) (lt-ltb p (arity (kind_in e.f)) hp)
 
 got_none : {A : Type 0} (xs : List A) → slice_get xs (length xs) ≡ None
 got_none [] = refl
@@ -66,7 +53,7 @@ module _ (z : Parts) (log : List Event) (e : Event) (drawn : length log < z.fuel
       go (wire j) h = refl
       go (between t q p) h =
           let m = made_by (slice_get log t) q p h in
-          ap (λ o. crosses_at o q p) (got_before log (e ∷ []) t (got_within log t m.0 m.1)) ∙ h
+          ap (λ o. crosses_at o q p) (got_before log (e ∷ []) t (slice_get_within log t m.0 m.1)) ∙ h
       go ticket h = absurd (cc)
       go (port n) h = absurd (cc)
       go (field x s) h = absurd (cc)
@@ -82,17 +69,17 @@ module _ (z : Parts) (log : List Event) (e : Event) (drawn : length log < z.fuel
   alive_before w h = ap (λ n. nat_eq n 0) (sym (same_deaths w)) ∙ h
 
   pub still : (w : ℕ) → reached w ≡ true → reached' w ≡ true
-  still w h = let t = both (is_made z log w) (nat_eq (deaths w views) 0) h in two (is_made z (log ++ e ∷ []) w) (nat_eq (deaths w views') 0) (made_still w t.0) (alive w t.1)
+  still w h = let t = and_parts (is_made z log w) (nat_eq (deaths w views) 0) h in and_from (is_made z (log ++ e ∷ []) w) (nat_eq (deaths w views') 0) (made_still w t.0) (alive w t.1)
 
   pub old_wires : (w : ℕ) → reached w ≡ true → (start_wire z 0 ≤ w) × (w < block z (length log))
-  old_wires w h = go (part_of z w) refl (both (is_made z log w) (nat_eq (deaths w views) 0) h).0
+  old_wires w h = go (part_of z w) refl (and_parts (is_made z log w) (nat_eq (deaths w views) 0) h).0
     where
       go : (q : Part) → part_of z w ≡ q → is_wire_made log q ≡ true → (start_wire z 0 ≤ w) × (w < block z (length log))
       go (wire j) at m = let t = is_wire z w j at in (omega (arith, t.1), omega (arith, t.0, t.1))
       go (between t q p) at m =
           let u = is_between z w t q p at in
           let b = made_by (slice_get log t) q p m in
-          let lt = got_within log t b.0 b.1 in
+          let lt = slice_get_within log t b.0 b.1 in
           (omega (arith, u.3), omega (arith, u.1, u.2, u.3, lt))
       go ticket at m = absurd (cc)
       go (port n) at m = absurd (cc)
@@ -103,13 +90,13 @@ module _ (z : Parts) (log : List Event) (e : Event) (drawn : length log < z.fuel
       go past at m = absurd (cc)
 
   pub only : (w : ℕ) → reached' w ≡ true → (reached w ≡ true) ⊎ ((q : ℕ) × (p : ℕ) × (q < copies_of_f e) × (p < copies_of_g e) × (w ≡ born_wire z (length log) q p))
-  only w h = go (part_of z w) refl (both (is_made z (log ++ e ∷ []) w) (nat_eq (deaths w views') 0) h)
+  only w h = go (part_of z w) refl (and_parts (is_made z (log ++ e ∷ []) w) (nat_eq (deaths w views') 0) h)
     where
       go : (r : Part) → part_of z w ≡ r → (is_wire_made (log ++ e ∷ []) (part_of z w) ≡ true) × (nat_eq (deaths w views') 0 ≡ true) → (reached w ≡ true) ⊎ ((q : ℕ) × (p : ℕ) × (q < copies_of_f e) × (p < copies_of_g e) × (w ≡ born_wire z (length log) q p))
       go r at m = of r at (ap (is_wire_made (log ++ e ∷ [])) (sym at) ∙ m.0) m.1
         where
           old : is_made z log w ≡ true → nat_eq (deaths w views') 0 ≡ true → reached w ≡ true
-          old a b = two (is_made z log w) (nat_eq (deaths w views) 0) a (alive_before w b)
+          old a b = and_from (is_made z log w) (nat_eq (deaths w views) 0) a (alive_before w b)
 
           of : (r : Part) → part_of z w ≡ r → is_wire_made (log ++ e ∷ []) r ≡ true → nat_eq (deaths w views') 0 ≡ true → (reached w ≡ true) ⊎ ((q : ℕ) × (p : ℕ) × (q < copies_of_f e) × (p < copies_of_g e) × (w ≡ born_wire z (length log) q p))
           of (wire j) at a b = inl (old (ap (is_wire_made log) at) b)
@@ -139,7 +126,7 @@ module _ (z : Parts) (log : List Event) (e : Event) (drawn : length log < z.fuel
       let none : is_made z log w ≡ false = ap (is_wire_made log) at ∙ unmade in
       let few : bit (is_made z log w) ≡ 0 = ap bit none in
       let zero : deaths w views ≡ 0 = omega (arith, dead w, few) in
-      two (is_made z (log ++ e ∷ []) w) (nat_eq (deaths w views') 0) made (eq-eqb (deaths w views') 0 (same_deaths w ∙ zero))
+      and_from (is_made z (log ++ e ∷ []) w) (nat_eq (deaths w views') 0) made (eq-eqb (deaths w views') 0 (same_deaths w ∙ zero))
     where
       unmade : crosses_at (slice_get log (length log)) q p ≡ false
       unmade = ap (λ o. crosses_at o q p) (got_none log)

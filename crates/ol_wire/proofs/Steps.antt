@@ -25,7 +25,8 @@ use Rattle.ol_wire.proofs.Ticket.{ticket_keeps}
 use Rattle.ol_wire.proofs.StepsKeep.{after}
 use Rattle.ol_wire.proofs.StepsPlain.{miss_keeps, claim_keeps, knowing_keeps, paired_keeps, write_keeps, late_keeps}
 use Rattle.ol_wire.proofs.StepsReturn.{return_keeps}
-use Rattle.ol_wire.proofs.StepsPair.{arity_two, node_of_ref, ref_of_field, ticket_stands, due_past, full_of_claimed, right_of_claimed, pair_active, small_index}
+use Rattle.ol_wire.proofs.StepsPair.{node_of_ref, ref_of_field, ticket_stands, due_past, full_of_claimed, right_of_claimed, pair_active, small_index}
+use Rattle.ol_rules.proofs.Born.{at_most_two}
 
 past_one : (v : View) → past_fuel v ≤ v.holds
 past_one v = elim v.over as (λ b. (if b then v.holds else 0) ≤ v.holds) [ true ↦ omega arith | false ↦ omega arith ]
@@ -108,7 +109,7 @@ module _ (p : Plan) (slots id : ℕ) (m : Seated) (held : 0 < m.0.holds) where
       -- the field is written, and what it refers to
       found : (n : IsNodeAt p.parts k.net r) → let u : ℕ = place_of p.parts n.x + c in IsLasting (part_of p.parts u) × (u < size p.parts) × (get_or s.words u 0 ≢ 0) × IsRefOf m.0.parts (get_or s.words u 0)
       found n =
-          let c2 : c < 2 = omega (arith, slot_is n, arity_two n.k) in
+          let c2 : c < 2 = omega (arith, slot_is n, at_most_two n.k) in
           let e = field_written p s k w claimed.0 claimed.2 n.x n.k n.i c n.has (sided n) (slot_is n) in (
             subst IsLasting (sym (part_field p.parts n.x c (is_placed p s k n.x n.k n.i n.has) c2)) tt,
             field_within p s k n.x n.k n.i c n.has c2,

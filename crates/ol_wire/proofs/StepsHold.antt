@@ -19,8 +19,9 @@ use Rattle.ol_wire.specs.Plays.{IsNodeOf, IsRefOf, IsLookedUp, known_at, event_i
 use Rattle.ol_wire.specs.Rewrites.{event_for}
 use Rattle.ol_wire.specs.Sizes.{IsSmall}
 use Rattle.ol_wire.specs.Hands.{in_hand, IsInHand, IsOfPair, IsSure, AreFields, AreRefs, fields_known, Rewrote}
-use Rattle.ol_wire.proofs.Claimed.{in_left, in_right}
-use Rattle.ol_wire.proofs.StepsPair.{arity_two, event_sides}
+use Rattle.ol_rules.proofs.Lists.{in_left, in_right}
+use Rattle.ol_rules.proofs.Born.{at_most_two}
+use Rattle.ol_wire.proofs.Event.{event_sides}
 
 same_pair : (w y a b : ℕ) → w ≡ a → y ≡ b → ◌≡◌ {A = ℕ × ℕ} (w, y) (a, b)
 same_pair w y a b e f = cc
@@ -95,12 +96,12 @@ looked_up v w r a b held hand due pending under is rule = record {
 
     f_there : (c : ℕ) → c < arity (kind_in r.f) → IsIn (place_in r.f + c, known_at (seen v r a b) (place_in r.f + c)) (seen v r a b)
     f_there c lt =
-        let h = field_there (arity (kind_in r.f)) (place_in r.f) c a lt (arity_two (kind_in r.f)) in
+        let h = field_there (arity (kind_in r.f)) (place_in r.f) c a lt (at_most_two (kind_in r.f)) in
         known_there (place_in r.f + c) h.0 (seen v r a b) (in_right _ of_g (of_f ++ v.known) (in_left _ of_f v.known h.1))
 
     g_there : (c : ℕ) → c < arity (kind_in r.g) → IsIn (place_in r.g + c, known_at (seen v r a b) (place_in r.g + c)) (seen v r a b)
     g_there c lt =
-        let h = field_there (arity (kind_in r.g)) (place_in r.g) c b lt (arity_two (kind_in r.g)) in
+        let h = field_there (arity (kind_in r.g)) (place_in r.g) c b lt (at_most_two (kind_in r.g)) in
         known_there (place_in r.g + c) h.0 (seen v r a b) (in_left _ of_g (of_f ++ v.known) h.1)
 
 -- two looks, one after the other
@@ -186,7 +187,7 @@ pub two_fields : (known more most : List (ℕ × ℕ)) (node a b : ℕ) → more
     → most ≡ (place_in node + 1, b) ∷ more → ((y : ℕ) → IsIn (place_in node + 1, y) more → y ≡ b) → AreFields most node (a ∷ b ∷ [])
 two_fields known more most node a b e same f twice zero lt = keeps_sure more most (place_in node + 1) b f twice (place_in node + 0) a (now_sure known more (place_in node + 0) a e same)
 two_fields known more most node a b e same f twice (suc zero) lt = now_sure more most (place_in node + 1) b f twice
-two_fields known more most node a b e same f twice (suc (suc s)) lt = absurd (omega (arith, arity_two (kind_in node), lt))
+two_fields known more most node a b e same f twice (suc (suc s)) lt = absurd (omega (arith, at_most_two (kind_in node), lt))
 
 -- the ticket is drawn, and its words are written
 pub rewritten : (v v2 v3 v4 : View) (w t : ℕ) (r : Rewrite) (ks : List (ℕ × ℕ)) (of_f of_g : List ℕ) → IsInHand v w → v.due ≡ [] → event_for r ≡ event_in v → rule_between r.f r.g ≡ Some r.rule → AreFields ks r.f of_f → AreFields ks r.g of_g
@@ -234,4 +235,4 @@ one_ref z node a few h (suc s) lt = absurd (omega (arith, few, lt))
 pub two_refs : (z : Parts) (node a b : ℕ) → IsRefOf z a → IsRefOf z b → AreRefs z node (a ∷ b ∷ [])
 two_refs z node a b h g zero lt = h
 two_refs z node a b h g (suc zero) lt = g
-two_refs z node a b h g (suc (suc s)) lt = absurd (omega (arith, arity_two (kind_in node), lt))
+two_refs z node a b h g (suc (suc s)) lt = absurd (omega (arith, at_most_two (kind_in node), lt))

@@ -1,6 +1,6 @@
 -- An exchange at the word of a wire or of a free port keeps the rule: where the word was empty the link is made, and else one wire is taken out.
 use Rattle.std.proofs.Common.{◌≡◌, ◌≢◌, ℕ, suc, ◌+◌, ◌-◌, ◌/◌, ◌%◌, ◌<◌, ◌≤◌, ◌⊎◌, Bool, true, false, ◌&&◌, if◌then◌else◌, nat_eq, nat_lt, eqb-true, ne_eqb, List, [], ◌∷◌, ◌++◌, get_or, set, sym, refl, ap, ◌∙◌, subst, inl, inr, arith, get_or-set_same, get_or-set_other}
-use Rattle.std.proofs.lemmas.Bool.{cases_eq, cases_lt}
+use Rattle.std.proofs.lemmas.Bool.{cases_eq, cases_lt, and_parts}
 use Rattle.std.proofs.lemmas.Bool.Decides.{nat_tests}
 use mathlib.Core.Bool.{false≢true}
 use mathlib.Core.Option.{some}
@@ -23,7 +23,7 @@ use Rattle.ol_wire.specs.Rule.{Table, Kept, IsView, IsMadeRef, IsRightOf, links_
 use Rattle.ol_wire.proofs.References.{wire_sort}
 use Rattle.ol_wire.proofs.Places.{is_left, part_cell}
 use Rattle.ol_wire.proofs.Alike.{Alike, pairs_append}
-use Rattle.ol_wire.proofs.Claimed.{ends_append, ends_first, ends_second}
+use Rattle.ol_wire.proofs.Claimed.{ends_first, ends_second}
 use Rattle.ol_wire.proofs.EdgeList.{word_edge, edge_there, pending_there, pending_weigh}
 use Rattle.ol_wire.proofs.WordEdges.{edge_some, edge_none}
 use Rattle.ol_wire.proofs.Exchange.{exchange_stands}
@@ -33,6 +33,7 @@ use Rattle.ol_wire.proofs.StepsLinkKeep.{LinkStep, linking, link_keeps}
 use Rattle.ol_wire.proofs.StepsLinkEdges.{stands_alike, edges_set}
 use Rattle.ol_wire.proofs.StepsLinkSpread.{one_if, one_same, one_other, times_more, spread_more, spread_few}
 use Rattle.ol_wire.proofs.StepsLinkSites.{IsLinked, linked_not_own, linked_not_lasting, IsSite, port_or_reached, site, dead_edge, word_written, link_ends}
+use Rattle.ol_rules.proofs.EndCounts.{ends_append}
 
 -- the cells from the last on aren't words of the table
 pub left_past_all : (z : Parts) (c : ℕ) → cells_of z ≤ c → size z ≤ left_word z c
@@ -271,7 +272,7 @@ module _ (p : Plan) (s : Table) (k : Kept p s) (id : ℕ) (v : View) (here : get
         (subst (λ q. IsIn {X = ℕ × ℕ} (wire_ref u, get_or k.full u 0) (if q then [] else (wire_ref u, get_or k.full u 0) ∷ [])) (sym (ne_eqb (get_or k.full u 0) 0 full_found)) (inl refl)))
 
     pub found_end : 1 ≤ ends nat_eq c old_edges
-    found_end = omega (arith, ends_append c (edges_in z k.net reached k.full (size z)) (pending_in s.views), subst (λ r. 1 ≤ ends nat_eq r (edges_in z k.net reached k.full (size z))) same_word (ends_second _ _ (edges_in z k.net reached k.full (size z)) word_in))
+    found_end = omega (arith, ends_append nat_eq c (edges_in z k.net reached k.full (size z)) (pending_in s.views), subst (λ r. 1 ≤ ends nat_eq r (edges_in z k.net reached k.full (size z))) same_word (ends_second _ _ (edges_in z k.net reached k.full (size z)) word_in))
 
     pending_ends : 1 ≤ ends nat_eq (wire_ref u) (pending_in s.views)
     pending_ends = of turn
@@ -288,7 +289,7 @@ module _ (p : Plan) (s : Table) (k : Kept p s) (id : ℕ) (v : View) (here : get
     is_wire = of (port_or_reached p s k u wire_end)
       where
         of : ((q : NamedPort NodeName) × IsEnd z k.net q (wire_ref u) × IsSite z k.net k.log reached u) ⊎ (reached u ≡ true) → reached u ≡ true
-        of (inl t) = absurd (omega (arith, k.stands.ports t.0 (wire_ref u) t.1, ends_append (wire_ref u) (edges_in z k.net reached k.full (size z)) (pending_in s.views), ends_first _ _ (edges_in z k.net reached k.full (size z)) word_in, pending_ends))
+        of (inl t) = absurd (omega (arith, k.stands.ports t.0 (wire_ref u) t.1, ends_append nat_eq (wire_ref u) (edges_in z k.net reached k.full (size z)) (pending_in s.views), ends_first _ _ (edges_in z k.net reached k.full (size z)) word_in, pending_ends))
         of (inr e) = e
 
     abbrev after_view : View
@@ -305,11 +306,6 @@ module _ (p : Plan) (s : Table) (k : Kept p s) (id : ℕ) (v : View) (here : get
 
     other_deaths : (a : ℕ) → a ≢ u → deaths a views ≡ deaths a s.views
     other_deaths a d = omega (arith, more_deaths a, one_other u a (λ q. d (sym q)))
-
-    and_parts : (a q : Bool) → (a && q) ≡ true → (a ≡ true) × (q ≡ true)
-    and_parts true true h = (refl, refl)
-    and_parts true false h = absurd (false≢true h)
-    and_parts false q h = absurd (false≢true h)
 
     and_false : (a : Bool) → (a && false) ≡ false
     and_false true = refl

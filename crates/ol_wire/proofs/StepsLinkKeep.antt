@@ -27,7 +27,9 @@ use Rattle.ol_wire.specs.Rule.{KnowsPlan, Table, Kept, Drawn, WordsKeep, CellsKe
 use Rattle.ol_wire.proofs.Places.{part_field, part_entry}
 use Rattle.ol_wire.proofs.StepsKeep.{after}
 use Rattle.ol_wire.proofs.StepsLists.{total_set, weigh_set}
-use Rattle.ol_wire.proofs.StepsLinkLists.{each_else, two_below, got_below}
+use Rattle.ol_wire.proofs.StepsLinkLists.{each_else}
+use Rattle.std.proofs.lemmas.Option.{slice_get_within}
+use Rattle.ol_wire.proofs.Held.{two_at}
 
 -- what such a step changes of a view
 abbrev pub linking : View → List ℕ → List Link → List (ℕ × ℕ) → List ℕ → View
@@ -155,7 +157,7 @@ module _ (p : Plan) (s : Table) (k : Kept p s) (id : ℕ) (v : View) (i x : ℕ)
 
   starts : (a : ℕ) (n : ℕ × ℕ) → slice_get (facing_pairs p.start.value) a ≡ Some n → ((get_or full (start_cell z a) 0 ≡ 0) ⊎ (get_or full (start_cell z a) 0 ≡ node_word p.start.value z n.0)) × (get_or full (suc (start_cell z a)) 0 ≡ node_word p.start.value z n.1)
   starts a n at =
-      let lt : a < z.cells = omega (arith, got_below (facing_pairs p.start.value) a n at, k.plan.parts.cells) in
+      let lt : a < z.cells = omega (arith, slice_get_within (facing_pairs p.start.value) a n at, k.plan.parts.cells) in
       let d = c.not_start a lt in
       two_stay (λ y y'. ((y ≡ 0) ⊎ (y ≡ node_word p.start.value z n.0)) × (y' ≡ node_word p.start.value z n.1)) (start_cell z a) d.0 d.1 (k.words.starts a n at)
 
@@ -169,7 +171,7 @@ module _ (p : Plan) (s : Table) (k : Kept p s) (id : ℕ) (v : View) (i x : ℕ)
     fields = λ n a lt two. stays (λ y. y ≡ field_of p.start.value z n a) (start_node z n + a) (start_field_other z i c.not_own n a lt two) (k.words.fields n a lt two);
     starts = starts;
     fresh = λ u le. stays (λ y. y ≡ 0) u (λ e. omega (arith, c.below, le, e)) (k.words.fresh u le);
-    entries = λ t j e at ten. let lt = got_below k.log t e at in
+    entries = λ t j e at ten. let lt = slice_get_within k.log t e at in
         stays (λ y. y ≡ get_or (block_words z e t) j 0) (block z t + j) (block_word_other z i c.not_own t j (omega (arith, lt, k.tickets.few)) ten) (k.words.entries t j e at ten);
     known = λ u a y is. viewed Known known_new (λ j u' d e. known_old u' (j, e)) u is a y;
   }
@@ -194,7 +196,7 @@ module _ (p : Plan) (s : Table) (k : Kept p s) (id : ℕ) (v : View) (i x : ℕ)
   Swept u = (a : ℕ) → a < u.swept → (u.holds ≡ p.seats) × ((get_or full (left_word z a) 0 ≡ 0) ⊎ IsStuckPair (get_or full (left_word z a) 0) (get_or full (suc (left_word z a)) 0)) × ((l : Link) → IsIn l u.pending → l.cell ≢ left_word z a)
 
   swept_old : (j : ℕ) (u : View) → j ≢ id → get_elem? s.views j ≡ some u → Swept u
-  swept_old j u d e a lt = absurd (omega (arith, (k.cells.swept u a (j, e) lt).0, held, two_below (λ (u' : View). u'.holds) s.views id j v u d here e, k.seats.all))
+  swept_old j u d e a lt = absurd (omega (arith, (k.cells.swept u a (j, e) lt).0, held, two_at (λ (u' : View). u'.holds) s.views id j v u (λ q. d (sym q)) here e, k.seats.all))
 
   swept_new : Swept w
   swept_new a lt =

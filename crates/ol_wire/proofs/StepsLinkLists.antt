@@ -1,15 +1,13 @@
 -- Sums over views and over pending links of which one changes, by place.
-use Rattle.std.proofs.Common.{◌≡◌, ◌≢◌, ℕ, zero, suc, ◌+◌, ◌<◌, ◌≤◌, ◌⊎◌, nat_eq, eq-eqb, ne_eqb, if◌then◌else◌, Some, List, [], ◌∷◌, length, set, sym, refl, ap, ◌∙◌, subst, inl, inr, arith}
+use Rattle.std.proofs.Common.{◌≡◌, ◌≢◌, ℕ, suc, ◌+◌, ◌<◌, ◌≤◌, ◌⊎◌, nat_eq, eq-eqb, ne_eqb, if◌then◌else◌, List, [], ◌∷◌, length, set, sym, refl, ap, ◌∙◌, subst, inl, inr, arith}
 use Rattle.std.proofs.lemmas.Bool.{cases_eq}
-use mathlib.Core.Option.{some, some-injective, some-ne-none}
+use mathlib.Core.Option.{some}
 use lib.ListN.{get_elem?}
-use Rattle.core.specs.Prelude.{slice_get}
 use Rattle.atomic_table.proofs.Lists.{at_set}
 use Rattle.ol_edges.specs.Edges.{IsIn}
 use Rattle.ol_wire.specs.declared.view.Link.{Link}
-use Rattle.ol_wire.specs.Weights.{total, numbered, pairs}
+use Rattle.ol_wire.specs.Weights.{numbered, pairs}
 use Rattle.ol_wire.specs.Rule.{links_at}
-use Rattle.ol_wire.proofs.StepsLists.{one_below}
 
 -- what holds of the new one, and of each other by its place, holds of each
 pub each_else : {A : Type 0} (P : A → Type 0) (l : List A) (id : ℕ) (w : A) → P w → ((j : ℕ) (u : A) → j ≢ id → get_elem? l j ≡ some u → P u) → (j : ℕ) (u : A) → get_elem? (set l id w) j ≡ some u → P u
@@ -18,14 +16,6 @@ each_else {A} P l id w new old j u e = of (at_set l id j w u e)
     of : ((j ≡ id) × (w ≡ u)) ⊎ ((j ≢ id) × (get_elem? l j ≡ some u)) → P u
     of (inl t) = subst P t.1 new
     of (inr t) = old j u t.0 t.1
-
--- two places of a list
-pub two_below : {A : Type 0} (g : A → ℕ) (l : List A) (i j : ℕ) (v u : A) → j ≢ i → get_elem? l i ≡ some v → get_elem? l j ≡ some u → g v + g u ≤ total g l
-two_below g [] i j v u d e f = absurd (some-ne-none v (sym e))
-two_below g (x ∷ xs) zero zero v u d e f = absurd (d refl)
-two_below g (x ∷ xs) zero (suc j) v u d e f = omega (arith, ap g (some-injective x v e), one_below g xs j u f)
-two_below g (x ∷ xs) (suc i) zero v u d e f = omega (arith, ap g (some-injective x u f), one_below g xs i v e)
-two_below g (x ∷ xs) (suc i) (suc j) v u d e f = omega (arith, two_below g xs i j v u (λ q. d (ap suc q)) e f)
 
 abbrev at_cell : ℕ → Link → ℕ
 at_cell w l = if nat_eq l.cell w then 1 else 0
@@ -42,12 +32,6 @@ link_counts w (m ∷ ls) l (inr h) e = omega (arith, link_counts w ls l h e)
 -- where each cell has one link, the links behind the first have other cells
 pub link_apart : (ls : List Link) (l m : Link) → ((w : ℕ) → links_at w (l ∷ ls) ≤ 1) → IsIn m ls → m.cell ≢ l.cell
 link_apart ls l m few h e = omega (arith, few l.cell, one_at l.cell l refl, link_counts l.cell ls m h e)
-
--- a member of a list is below its end
-pub got_below : {A : Type 0} (xs : List A) (n : ℕ) (x : A) → slice_get xs n ≡ Some x → n < length xs
-got_below [] n x h = absurd (cc)
-got_below (y ∷ xs) zero x h = omega arith
-got_below (y ∷ xs) (suc n) x h = omega (arith, got_below xs n x h)
 
 -- the weight of one number alone
 abbrev pub at_number : {A : Type 0} → ℕ → ℕ → A → ℕ

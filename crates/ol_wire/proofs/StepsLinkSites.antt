@@ -1,6 +1,6 @@
 -- Where a link to a wire or to a free port is made: the word is that of a reached wire, or of a free port.
-use Rattle.std.proofs.Common.{◌≡◌, ◌≢◌, ℕ, ◌+◌, ◌%◌, ◌<◌, ◌≤◌, ◌⊎◌, Bool, true, false, ◌&&◌, nat_eq, if◌then◌else◌, Option, Some, None, List, [], ◌∷◌, length, get_or, slice_index, sym, refl, ap, ◌∙◌, subst, inl, inr, arith}
-use Rattle.std.proofs.lemmas.Bool.{cases_eq}
+use Rattle.std.proofs.Common.{◌≡◌, ◌≢◌, ℕ, ◌+◌, ◌%◌, ◌<◌, ◌≤◌, ◌⊎◌, Bool, true, false, nat_eq, if◌then◌else◌, Option, Some, None, List, [], ◌∷◌, length, get_or, slice_index, sym, refl, ap, ◌∙◌, subst, inl, inr, arith}
+use Rattle.std.proofs.lemmas.Bool.{cases_eq, and_parts}
 use mathlib.Core.Bool.{false≢true}
 use Rattle.core.specs.Prelude.{slice_get}
 use Rattle.ol_edges.specs.Edges.{IsIn, ends}
@@ -20,10 +20,11 @@ use Rattle.ol_wire.specs.Rule.{Table, Kept, IsView, IsOwn, IsLasting, IsMadeRef}
 use Rattle.ol_wire.proofs.References.{node_sort, slot_sort, wire_sort, wire_same, kind_of_ref, index_of_ref, place_of_ref}
 use Rattle.ol_wire.proofs.Places.{part_port, is_wire, is_between, place_before}
 use Rattle.ol_wire.proofs.Held.{Holds, owner, word_full}
-use Rattle.ol_wire.proofs.Claimed.{IsNodeAt, node_of, is_placed, ends_first, ends_second, in_right}
+use Rattle.ol_wire.proofs.Claimed.{IsNodeAt, node_of, is_placed, ends_first, ends_second}
 use Rattle.ol_wire.proofs.EdgeList.{word_edge, pending_there}
 use Rattle.ol_wire.proofs.WordEdges.{edge_as}
-use Rattle.ol_wire.proofs.StepsLinkLists.{got_below}
+use Rattle.std.proofs.lemmas.Option.{slice_get_within}
+use Rattle.ol_rules.proofs.Lists.{in_right}
 
 -- the part of a wire or of a free port
 abbrev pub IsLinked : Part → Type 0
@@ -62,11 +63,6 @@ pub record IsSite (z : Parts) (net : NamedNet NodeName) (log : List Event) (reac
   pub before_cells : u < start_cell z 0 ⊎ (block z 0 ≤ u)
   pub edge : (words : List ℕ) → word_edge z net reached words u ≡ edge_to (wire_ref u) (slice_index words u)
 
-both : (a b : Bool) → (a && b) ≡ true → (a ≡ true) × (b ≡ true)
-both true true h = (refl, refl)
-both true false h = absurd (false≢true h)
-both false b h = absurd (false≢true h)
-
 crossed_some : (o : Option Event) (q r : ℕ) → crosses_at o q r ≡ true → (e : Event) × (o ≡ Some e)
 crossed_some None q r h = absurd (false≢true h)
 crossed_some (Some e) q r h = (e, refl)
@@ -95,7 +91,7 @@ module _ (p : Plan) (s : Table) (k : Kept p s) where
       }
 
   reached_site : (u : ℕ) → reached u ≡ true → Site u
-  reached_site u is = of (part_of z u) refl (both (is_made z k.log u) (nat_eq (deaths u s.views) 0) is).0
+  reached_site u is = of (part_of z u) refl (and_parts (is_made z k.log u) (nat_eq (deaths u s.views) 0) is).0
     where
       of : (q : Part) → part_of z u ≡ q → is_wire_made k.log q ≡ true → Site u
       of (wire j) e m =
@@ -109,7 +105,7 @@ module _ (p : Plan) (s : Table) (k : Kept p s) where
       of (between t a b) e m =
           let h = is_between z u t a b e in
           let o = crossed_some (slice_get k.log t) a b m in
-          let lt = got_below k.log t o.0 o.1 in record {
+          let lt = slice_get_within k.log t o.0 o.1 in record {
             part = subst IsLinked (sym e) tt;
             some_word = omega (arith, h.3);
             below = omega (arith, h.1, h.2, h.3, lt);
@@ -126,7 +122,7 @@ module _ (p : Plan) (s : Table) (k : Kept p s) where
 
   -- a wire that isn't reached has no edge
   pub dead_edge : (u : ℕ) → reached u ≡ true → (reached' : ℕ → Bool) → reached' u ≡ false → (words : List ℕ) → word_edge z k.net reached' words u ≡ []
-  dead_edge u is reached' gone words = of (part_of z u) refl (both (is_made z k.log u) (nat_eq (deaths u s.views) 0) is).0
+  dead_edge u is reached' gone words = of (part_of z u) refl (and_parts (is_made z k.log u) (nat_eq (deaths u s.views) 0) is).0
     where
       of : (q : Part) → part_of z u ≡ q → is_wire_made k.log q ≡ true → word_edge z k.net reached' words u ≡ []
       of (wire j) e m = edge_as z k.net reached' words u (wire j) e ∙ ap (λ r. if r then edge_to (wire_ref u) (slice_index words u) else []) gone

@@ -1,12 +1,11 @@
 -- What a look finds: references of nodes, of wires and of free ports, by words of the table; and that a pair in hand is active.
-use Rattle.std.proofs.Common.{◌≡◌, ◌≢◌, ℕ, zero, suc, ◌+◌, ◌%◌, ◌<◌, ◌≤◌, ◌⊎◌, Bool, true, false, ◌&&◌, ne_eqb, if◌then◌else◌, Some, None, Option, List, [], ◌∷◌, get_or, sym, refl, ap, ◌∙◌, subst, inl, inr, arith}
-use Rattle.std.proofs.lemmas.Bool.{cases_eq}
+use Rattle.std.proofs.Common.{◌≡◌, ◌≢◌, ℕ, zero, suc, ◌+◌, ◌%◌, ◌<◌, ◌⊎◌, true, Some, List, get_or, sym, refl, ap, ◌∙◌, subst, inl, inr, arith}
+use Rattle.std.proofs.lemmas.Bool.{cases_eq, and_parts}
 use mathlib.Core.Bool.{false≢true}
 use Rattle.ol_edges.specs.Edges.{IsIn}
 use Rattle.ol_net.specs.declared.parts.Kind.{Kind}
-use Rattle.ol_net.specs.declared.parts.Kind.TheVariants as kind
 use Rattle.ol_net.specs.declared.parts.Rule.{Rule}
-use Rattle.ol_net.specs.Nets.{NamedPort, slot, NamedNet, HasNode, Linked}
+use Rattle.ol_net.specs.Nets.{NamedPort, slot, HasNode, Linked}
 use Rattle.ol_net.specs.Parts.{arity}
 use Rattle.ol_net.specs.Rules.{rule_of}
 use Rattle.ol_rules.specs.declared.journal.NodeName.{NodeName}
@@ -16,28 +15,19 @@ use Rattle.ol_wire.specs.declared.plan.Plan.{Plan}
 use Rattle.ol_wire.specs.declared.view.View.{View}
 use Rattle.ol_wire.specs.References.{node_ref, slot_ref, kind_in, index_in, place_in, IsWireRef, IsRef}
 use Rattle.ol_wire.specs.Layout.{Part, ticket, port, field, wire, between, left, right, entry, past, part_of, place_of, port_word, size}
-use Rattle.ol_wire.specs.Events.{Event, rule_between, event_of, acting}
-use Rattle.ol_wire.specs.Edges.{is_reached, is_made, is_wire_made, is_live, edge_to, edge_in, edges_in, edges_of, pending_in}
+use Rattle.ol_wire.specs.Events.{Event, rule_between}
+use Rattle.ol_wire.specs.Edges.{is_reached, is_made, is_wire_made, edges_in, edges_of, pending_in}
 use Rattle.ol_wire.specs.Stands.{IsEnd, of_port, principal, auxiliary, IsWireEnd}
 use Rattle.ol_wire.specs.Plays.{IsNodeOf, IsRefOf, IsLookedUp, event_in}
 use Rattle.ol_wire.specs.Rule.{Table, IsView, Kept}
 use Rattle.ol_wire.proofs.References.{kind_of_ref, index_of_ref, place_of_ref, place_of_wire, node_sort, slot_sort}
 use Rattle.ol_wire.proofs.Places.{place_before, is_wire, is_between, part_field}
 use Rattle.ol_wire.proofs.Held.{Holds, owner, word_full, held_full}
-use Rattle.ol_wire.proofs.Claimed.{IsNodeAt, IsCellPair, cell_pair, node_of, is_placed, in_left, ends_second, field_full, field_within, right_written}
+use Rattle.ol_wire.proofs.Claimed.{IsNodeAt, IsCellPair, cell_pair, node_of, is_placed, ends_second, field_full, field_within, right_written, own_edge}
 use Rattle.ol_wire.proofs.EdgeList.{edge_there, live_there}
-
-pub arity_two : (m : Kind) → arity m ≤ 2
-arity_two kind.Lam = omega arith
-arity_two kind.App = omega arith
-arity_two kind.Fan = omega arith
-arity_two kind.Croissant = omega arith
-arity_two kind.Bracket = omega arith
-arity_two kind.Eraser = omega arith
-
-and_first : (a b : Bool) → (a && b) ≡ true → a ≡ true
-and_first true b e = refl
-and_first false b e = e
+use Rattle.ol_rules.proofs.Lists.{in_left}
+use Rattle.ol_rules.proofs.Born.{at_most_two}
+use Rattle.ol_wire.proofs.Event.{event_sides}
 
 -- a wire that has been made is a word of the table
 made_within : (z : Parts) (log : List Event) (w : ℕ) → is_made z log w ≡ true → (0 < w) × (w < size z)
@@ -53,22 +43,6 @@ made_within z log w made = of (part_of z w) refl made
     of right e m = absurd (false≢true m)
     of entry e m = absurd (false≢true m)
     of past e m = absurd (false≢true m)
-
--- the edge of a field
-field_edge : (net : NamedNet NodeName) (r : Bool) (at : Part) (x : NodeName) (c n word next : ℕ) → at ≡ field x c → is_live net x ≡ true → word ≢ 0 → IsIn (slot_ref n, word) (edge_in net r at n word next)
-field_edge net r at x c n word next e live some_word =
-    subst (λ q. IsIn {X = ℕ × ℕ} (slot_ref n, word) (edge_in net r q n word next)) (sym e)
-    (subst (λ b. IsIn {X = ℕ × ℕ} (slot_ref n, word) (if b then edge_to (slot_ref n) word else [])) (sym live)
-    (subst (λ b. IsIn {X = ℕ × ℕ} (slot_ref n, word) (if b then [] else (slot_ref n, word) ∷ [])) (sym (ne_eqb word 0 some_word)) (inl refl)))
-
--- the two nodes of an event, in one order or the other
-pub event_sides : (a b : ℕ) → (((event_of a b).f ≡ a) × ((event_of a b).g ≡ b)) ⊎ (((event_of a b).f ≡ b) × ((event_of a b).g ≡ a))
-event_sides a b = of (rule_between a b) (rule_between b a)
-  where
-    of : (q r : Option Rule) → (((acting q r a b).f ≡ a) × ((acting q r a b).g ≡ b)) ⊎ (((acting q r a b).f ≡ b) × ((acting q r a b).g ≡ a))
-    of (Some q) r = inl (refl, refl)
-    of None (Some r) = inr (refl, refl)
-    of None None = inl (refl, refl)
 
 module _ (p : Plan) (s : Table) (k : Kept p s) where
   abbrev z : Parts
@@ -125,7 +99,7 @@ module _ (p : Plan) (s : Table) (k : Kept p s) where
       y = get_or k.full place 0
 
       two : c < 2
-      two = omega (arith, lt, arity_two m)
+      two = omega (arith, lt, at_most_two m)
 
       some_word : y ≢ 0
       some_word = field_full p s k x m i c h lt
@@ -139,7 +113,7 @@ module _ (p : Plan) (s : Table) (k : Kept p s) where
       edge : IsIn (slot_ref place, y) all
       edge = in_left _ (edges_in z k.net (is_reached z k.log s.views) k.full (size z)) (pending_in s.views)
           (edge_there z k.net (is_reached z k.log s.views) k.full (size z) place _ (field_within p s k x m i c h two)
-          (field_edge k.net _ (part_of z place) x c place y (get_or k.full (suc place) 0) (part_field z x c (is_placed p s k x m i h) two) (live_there k.net x m i h) some_word))
+          (own_edge k.net _ (part_of z place) x c place y (get_or k.full (suc place) 0) (part_field z x c (is_placed p s k x m i h) two) (live_there k.net x m i h) some_word))
 
       of_end : (q : NamedPort NodeName) (e : ℕ) → IsEnd z k.net q e → e ≡ y → IsWireRef y → IsRefOf z y
       of_end q e (of_port {n = n} low) same sort =
@@ -153,7 +127,7 @@ module _ (p : Plan) (s : Table) (k : Kept p s) where
       of_wire sort (inl t) = of_end t.0 y t.1 refl sort
       of_wire sort (inr t) =
           let at : place_in y ≡ t.0 = ap place_in t.2 ∙ place_of_wire t.0 in
-          let h = made_within z k.log t.0 (and_first (is_made z k.log t.0) _ t.1) in
+          let h = made_within z k.log t.0 (and_parts (is_made z k.log t.0) _ t.1).0 in
           inr (sort, omega (arith, at, h), omega (arith, at, h))
 
       of_sort : IsRef y → IsRefOf z y

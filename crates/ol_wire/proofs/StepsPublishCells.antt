@@ -17,8 +17,9 @@ use Rattle.ol_wire.specs.Weights.{pairs}
 use Rattle.ol_wire.specs.Rule.{Table, Kept, IsView, IsMadeRef, IsRightOf, links_at, entries_of}
 use Rattle.ol_wire.proofs.Places.{is_left, part_cell, part_entry}
 use Rattle.ol_wire.proofs.StepsLists.{one_below}
-use Rattle.ol_wire.proofs.StepsLinkLists.{two_below, link_counts, link_apart, at_number, number_in, number_below}
+use Rattle.ol_wire.proofs.StepsLinkLists.{link_counts, link_apart, at_number, number_in, number_below}
 use Rattle.ol_wire.proofs.StepsLink.{left_past_all}
+use Rattle.ol_wire.proofs.Held.{two_at}
 
 module _ (p : Plan) (s : Table) (k : Kept p s) (id : ℕ) (v : View) (here : get_elem? s.views id ≡ some v) (l : Link) (ls : List Link) (pending : v.pending ≡ l ∷ ls) where
   abbrev z : Parts
@@ -81,7 +82,7 @@ module _ (p : Plan) (s : Table) (k : Kept p s) (id : ℕ) (v : View) (here : get
       omega (
         arith,
         k.cells.one_link l.cell,
-        two_below (λ (w : View). links_at l.cell w.pending) s.views id j v u d here e,
+        two_at (λ (w : View). links_at l.cell w.pending) s.views id j v u (λ q. d (sym q)) here e,
         link_counts l.cell v.pending l first_in refl,
         link_counts l.cell u.pending m i q,
       )

@@ -1,7 +1,7 @@
 -- What the one seat that is left knows of the cells that it sweeps.
-use Rattle.std.proofs.Common.{◌≡◌, ◌≢◌, ℕ, zero, suc, ◌+◌, ◌<◌, ◌≤◌, ◌⊎◌, ◌&&◌, nat_eq, eq-eqb, ne_eqb, if◌then◌else◌, None, Some, Option, List, [], ◌∷◌, get_or, sym, refl, ap, ◌∙◌, subst, inl, inr, arith}
+use Rattle.std.proofs.Common.{◌≡◌, ◌≢◌, ℕ, suc, ◌<◌, ◌⊎◌, ◌&&◌, nat_eq, eq-eqb, ne_eqb, if◌then◌else◌, None, Some, Option, List, [], get_or, sym, refl, ap, ◌∙◌, subst, inl, inr, arith}
 use Rattle.std.proofs.lemmas.Bool.{cases_eq}
-use mathlib.Core.Option.{some, some-injective, some-ne-none}
+use mathlib.Core.Option.{some, some-injective}
 use lib.ListN.{get_elem?}
 use Rattle.ol_edges.specs.Edges.{IsIn}
 use Rattle.ol_net.specs.declared.parts.Rule.{Rule}
@@ -9,22 +9,13 @@ use Rattle.ol_wire.specs.declared.layout.Parts.{Parts}
 use Rattle.ol_wire.specs.declared.plan.Plan.{Plan}
 use Rattle.ol_wire.specs.declared.view.Link.{Link}
 use Rattle.ol_wire.specs.declared.view.View.{View}
-use Rattle.ol_wire.specs.Weights.{total}
 use Rattle.ol_wire.specs.Layout.{Part, left, part_of, left_word, cells_of}
 use Rattle.ol_wire.specs.Events.{IsStuckPair}
 use Rattle.ol_wire.specs.Plays.{is_stuck, cell_at, swept_on}
 use Rattle.ol_wire.specs.Rule.{Table, Kept, IsView, IsOwn}
 use Rattle.ol_wire.proofs.Places.{is_left, cell_of_left}
-use Rattle.ol_wire.proofs.Held.{Holds, owner, total_at}
+use Rattle.ol_wire.proofs.Held.{Holds, owner, two_at}
 use Rattle.ol_wire.proofs.StepsKeep.{IsSwept}
-
--- two of the members of a list
-two_below : {A : Type 0} (g : A → ℕ) (l : List A) (i j : ℕ) (x y : A) → i ≢ j → get_elem? l i ≡ some x → get_elem? l j ≡ some y → g x + g y ≤ total g l
-two_below g [] i j x y d e f = absurd (some-ne-none x (sym e))
-two_below g (a ∷ l) zero zero x y d e f = absurd (d refl)
-two_below g (a ∷ l) zero (suc j) x y d e f = omega (arith, ap g (some-injective a x e), total_at g l j y f)
-two_below g (a ∷ l) (suc i) zero x y d e f = omega (arith, ap g (some-injective a y f), total_at g l i x e)
-two_below g (a ∷ l) (suc i) (suc j) x y d e f = omega (arith, two_below g l i j x y (λ q. d (ap suc q)) e f)
 
 -- one cell more is swept only where the seat holds all seats, and it is the next one
 pub swept_more : (v : View) (c n : ℕ) → n < swept_on v c → (n < v.swept) ⊎ ((v.holds ≡ v.seats) × (n ≡ c))
@@ -55,7 +46,7 @@ module _ (p : Plan) (s : Table) (k : Kept p s) (id : ℕ) (v : View) (here : get
   -- beside a seat that holds all seats no view holds a pair
   alone : v.holds ≡ p.seats → (j : ℕ) (u : View) → get_elem? s.views j ≡ some u → j ≢ id → u.taken ≡ []
   alone all j u there d =
-      let none_held : u.holds ≡ 0 = omega (arith, all, k.seats.all, two_below (λ (x : View). x.holds) s.views j id u v d there here) in
+      let none_held : u.holds ≡ 0 = omega (arith, all, k.seats.all, two_at (λ (x : View). x.holds) s.views j id u v d there here) in
       ap (λ (x : View). x.taken) (k.seats.spent u (j, there) none_held)
 
   -- so what it reads as empty is empty, if it holds none itself

@@ -1,10 +1,9 @@
 -- A ticket below the fuel keeps the rule: the seat's pair is rewritten, in the words as in the net.
-use Rattle.std.proofs.Common.{◌≡◌, ◌≢◌, ℕ, suc, ◌+◌, ◌<◌, ◌≤◌, Bool, true, false, if◌then◌else◌, List, [], ◌∷◌, ◌++◌, length, Option, Some, None, ◌⊎◌, ◌↔◌, inl, inr, refl, sym, ap, ◌∙◌, subst, arith}
+use Rattle.std.proofs.Common.{◌≡◌, ◌≢◌, ℕ, suc, ◌+◌, ◌<◌, ◌≤◌, Bool, true, false, if◌then◌else◌, List, [], ◌∷◌, ◌++◌, length, Some, ◌⊎◌, ◌↔◌, inl, inr, sym, ap, ◌∙◌, subst, arith}
 use mathlib.Core.Option.{some}
 use lib.ListN.{get_elem?}
 use Rattle.std.specs.Prelude.{slice_index, slice_set}
 use Rattle.ol_net.specs.declared.parts.Kind.{Kind}
-use Rattle.ol_net.specs.declared.parts.Rule.{Rule}
 use Rattle.ol_net.specs.Nets.{NamedNet, HasNode, Linked, slot, Faces}
 use Rattle.ol_net.specs.Parts.{arity}
 use Rattle.ol_net.specs.Rules.{rule_of}
@@ -18,7 +17,7 @@ use Rattle.ol_wire.specs.declared.view.View.{View}
 use Rattle.ol_wire.specs.References.{node_ref, kind_in, index_in, place_in, IsRef}
 use Rattle.ol_wire.specs.Layout.{block, place_of, size, born_wire}
 use Rattle.ol_wire.specs.Weights.{pairs}
-use Rattle.ol_wire.specs.Events.{Event, rule_between, acting, event_of}
+use Rattle.ol_wire.specs.Events.{Event}
 use Rattle.ol_wire.specs.Edges.{edges_in, edges_of, pending_in, links_in, deaths, times, is_reached}
 use Rattle.ol_wire.specs.Blocks.{copies_of_f, copies_of_g, links_of, block_words}
 use Rattle.ol_wire.specs.Plays.{event_in, IsLookedUp, ticketed}
@@ -26,7 +25,7 @@ use Rattle.ol_wire.specs.Rule.{Table, Kept}
 use Rattle.ol_wire.proofs.References.{kind_of_ref, index_of_ref, place_of_ref}
 use Rattle.ol_wire.proofs.Alike.{Alike, pairs_append}
 use Rattle.ol_wire.proofs.Claimed.{IsNodeAt, IsCellPair, cell_pair, field_none}
-use Rattle.ol_wire.proofs.Event.{old_edges, new_edges, born_edges, Rewritten}
+use Rattle.ol_wire.proofs.Event.{old_edges, new_edges, born_edges, Rewritten, event_sides}
 use Rattle.ol_wire.proofs.Degrees.{ports_after, wires_after, others_after}
 use Rattle.ol_wire.proofs.Links.{links_after}
 use Rattle.ol_wire.proofs.NetBut.{net_but}
@@ -37,20 +36,11 @@ use Rattle.ol_wire.proofs.WordsAfter.{BlockStands, pair_event, event_is, emptied
 use Rattle.ol_wire.proofs.WordsAfter as words_after
 use Rattle.ol_wire.proofs.TicketJournal as journals
 use Rattle.ol_wire.proofs.TicketLists.{total_set}
-use Rattle.ol_wire.proofs.TicketRefs.{arity_few}
 use Rattle.ol_wire.proofs.TicketWords as words
 use Rattle.ol_wire.proofs.TicketCells as cells
 use Rattle.ol_wire.proofs.TicketSeats as seats
 use Rattle.ol_wire.proofs.Reached as reaching
-
--- which of the two nodes of a cell acts
-pub sides_of : (l r : ℕ) → (((event_of l r).f ≡ l) × ((event_of l r).g ≡ r)) ⊎ (((event_of l r).f ≡ r) × ((event_of l r).g ≡ l))
-sides_of l r = go (rule_between l r) (rule_between r l)
-  where
-    go : (o q : Option Rule) → (((acting o q l r).f ≡ l) × ((acting o q l r).g ≡ r)) ⊎ (((acting o q l r).f ≡ r) × ((acting o q l r).g ≡ l))
-    go (Some x) q = inl (refl, refl)
-    go None (Some x) = inr (refl, refl)
-    go None None = inl (refl, refl)
+use Rattle.ol_rules.proofs.Born.{at_most_two}
 
 -- the two nodes of an event, as nodes of the net
 record Actors (z : Parts) (N : NamedNet NodeName) (e : Event) (left right : ℕ) : Type 0 where
@@ -97,7 +87,7 @@ module _ (p : Plan) (s : Table) (k : Kept p s) (id : ℕ) (v : View) (here : get
   right_full = words.right_full p s k id v here w ready low
 
   actors : Actors z k.net e (slice_index k.full w) (slice_index k.full (suc w))
-  actors = of (sides_of v.last.0 v.last.1)
+  actors = of (event_sides v.last.0 v.last.1)
     where
       cell : IsCellPair p s k w
       cell = cell_pair p s k w (words.is_left_word p s k id v here w ready low) (λ q. words.left_some p s k id v here w ready low (sym left_full ∙ q))
@@ -323,7 +313,7 @@ module _ (p : Plan) (s : Table) (k : Kept p s) (id : ℕ) (v : View) (here : get
           where
             few : (m : Bool) (k : Kind) → (if m then 0 else arity k) ≤ 2
             few true k = omega arith
-            few false k = arity_few k
+            few false k = at_most_two k
 
             copies_few : (q : ℕ) → q < copies_of_f e → q < 2
             copies_few q h = omega (arith, h, few (is_meeting e.rule) (kind_in e.g))

@@ -1,5 +1,5 @@
 -- The cells after a ticket below the fuel: that of its pair stays empty, and its links are those of the cells in its own block.
-use Rattle.std.proofs.Common.{◌≡◌, ◌≢◌, ℕ, zero, suc, ◌+◌, ◌*◌, ◌<◌, ◌≤◌, if◌then◌else◌, nat_eq, eq-eqb, ne_eqb, eqb-true, ◌⊎◌, inl, inr, Bool, true, false, ◌&&◌, Option, Some, None, List, [], ◌∷◌, ◌++◌, length, slice_get, slice_index, sym, refl, ap, ◌∙◌, subst, arith}
+use Rattle.std.proofs.Common.{◌≡◌, ◌≢◌, ℕ, zero, suc, ◌+◌, ◌*◌, ◌<◌, ◌≤◌, if◌then◌else◌, nat_eq, eq-eqb, ne_eqb, ◌⊎◌, inl, inr, Option, Some, None, List, [], ◌∷◌, ◌++◌, length, slice_get, slice_index, sym, refl, ap, ◌∙◌, subst, arith}
 use Rattle.std.proofs.lemmas.Bool.{cases_eq, cases_lt}
 use Rattle.std.proofs.lemmas.Option.{slice_get_within}
 use mathlib.Core.Option.{some}
@@ -23,7 +23,7 @@ use Rattle.ol_wire.specs.Rule.{Table, IsView, IsMadeRef, IsRightOf, Kept, CellsK
 use Rattle.ol_wire.proofs.References.{index_of_ref}
 use Rattle.ol_wire.proofs.Alike.{total_append}
 use Rattle.ol_wire.proofs.Claimed.{IsNodeAt, IsCellPair, cell_pair}
-use Rattle.ol_wire.proofs.Held.{total_at, total_from}
+use Rattle.ol_wire.proofs.Held.{total_from, two_at}
 use Rattle.ol_wire.proofs.Places.{part_born_cell, part_cell, is_left}
 use Rattle.ol_wire.proofs.TicketJournal.{got_before, got_one_more, length_one_more}
 use Rattle.ol_wire.proofs.TicketLists.{total_set, by_place}
@@ -31,6 +31,7 @@ use Rattle.ol_wire.proofs.TicketRefs.{event_of_pair, joins_few, link_ends}
 use Rattle.ol_wire.proofs.TicketWords as words
 use Rattle.ol_wire.proofs.TicketDrawn.{one_if, own_before}
 use Rattle.ol_wire.proofs.TicketNumbers.{cell_before, before_cell, left_of_cell}
+use Rattle.ol_wire.proofs.StepsSwept.{swept_more}
 
 -- links whose cells stand two words apart
 module _ (row : ℕ → Link) (c : ℕ) (at : (j : ℕ) → (row j).cell ≡ c + 2 * j) where
@@ -76,14 +77,6 @@ link_with u (l ∷ ls) h = elim (cases_eq l.cell u) [
       (r.0, inr r.1, r.2)
 ]
 
--- two members of a list weigh at most what all do
-two_at : {A : Type 0} (g : A → ℕ) (l : List A) (i j : ℕ) (a b : A) → i ≢ j → get_elem? l i ≡ some a → get_elem? l j ≡ some b → g a + g b ≤ total g l
-two_at g [] i j a b d h q = absurd (cc)
-two_at g (x ∷ l) zero zero a b d h q = absurd (d refl)
-two_at g (x ∷ l) zero (suc j) a b d h q = let e : x ≡ a = cc in omega (arith, ap g e, total_at g l j b q)
-two_at g (x ∷ l) (suc i) zero a b d h q = let e : x ≡ b = cc in omega (arith, ap g e, total_at g l i a h)
-two_at g (x ∷ l) (suc i) (suc j) a b d h q = omega (arith, two_at g l i j a b (λ e. d (ap suc e)) h q)
-
 -- the second of two nodes is one of those of their event
 right_side : (l r : ℕ) → (r ≡ (event_of l r).f) ⊎ (r ≡ (event_of l r).g)
 right_side l r = go (rule_between l r) (rule_between r l)
@@ -98,18 +91,6 @@ no_event : (l r : ℕ) → IsStuckPair l r → rule_between (event_of l r).f (ev
 no_event l r h =
     let q : event_of l r ≡ acting None None l r = ap (λ o. acting o (rule_between r l) l r) h.0 ∙ ap (λ o. acting None o l r) h.1 in
     ap (λ (x : Event). rule_between x.f x.g) q ∙ h.0
-
--- what a view has swept after a claim of cell m
-pub swept_cases : (v : View) (m c : ℕ) → c < swept_on v m → (c < v.swept) ⊎ ((v.holds ≡ v.seats) × (c ≡ m))
-swept_cases v m c small = go (nat_eq v.holds v.seats) (nat_eq m v.swept) refl refl small
-  where
-    go : (a b : Bool) → nat_eq v.holds v.seats ≡ a → nat_eq m v.swept ≡ b → c < (if a && b then suc v.swept else v.swept) → (c < v.swept) ⊎ ((v.holds ≡ v.seats) × (c ≡ m))
-    go true true q r lt = elim (cases_lt c v.swept) [
-      | inl low ↦ inl low
-      | inr high ↦ inr (eqb-true v.holds v.seats q, omega (arith, lt, high, eqb-true m v.swept r))
-    ]
-    go true false q r lt = inl lt
-    go false b q r lt = inl lt
 
 module _ (p : Plan) (s : Table) (k : Kept p s) (id : ℕ) (v : View) (here : get_elem? s.views id ≡ some v) (w : ℕ) (ready : IsLookedUp v w) (low : slice_index s.words 0 < p.parts.fuel) where
   abbrev z : Parts
@@ -338,7 +319,7 @@ module _ (p : Plan) (s : Table) (k : Kept p s) (id : ℕ) (v : View) (here : get
   swept_new : Swept (ticketed v t)
   swept_new c lt =
       let same : cell_at v.parts (cell_in_hand v.taken) ≡ number = ap (λ x. cell_at x (cell_in_hand v.taken)) (words.parts_are p s k id v here w ready low) ∙ ap (λ l. cell_at z (cell_in_hand l)) ready.taken in
-      go (swept_cases v number c (subst (λ m. c < swept_on v m) same lt))
+      go (swept_more v number c (subst (λ m. c < swept_on v m) same lt))
     where
       go : (c < v.swept) ⊎ ((v.holds ≡ v.seats) × (c ≡ number)) → (v.holds ≡ p.seats) × ((slice_index full' (left_word z c) ≡ 0) ⊎ IsStuckPair (slice_index full' (left_word z c)) (slice_index full' (suc (left_word z c)))) × ((l : Link) → IsIn l (ticketed v t).pending → l.cell ≢ left_word z c)
       go (inl old) =

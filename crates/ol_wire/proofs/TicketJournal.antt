@@ -26,9 +26,10 @@ use Rattle.ol_rules.proofs.Relation.{next, net_kept}
 use Rattle.ol_wire.specs.declared.layout.Parts.{Parts}
 use Rattle.ol_wire.specs.declared.plan.Plan.{Plan}
 use Rattle.ol_wire.specs.References.{node_ref, kind_in, index_in, place_in}
-use Rattle.ol_wire.specs.Layout.{place_of}
+use Rattle.ol_wire.specs.Layout.{place_of, IsPlaced}
 use Rattle.ol_wire.specs.Events.{IsPlayed, Event, rule_between, name_at, earlier, later, entry_of}
-use Rattle.ol_wire.specs.Rule.{IsPlaced, start_net, entries_of, JournalKeeps}
+use Rattle.ol_wire.specs.Rule.{entries_of, JournalKeeps}
+use Rattle.ol_wire.specs.Starts.{start_net}
 use Rattle.ol_wire.proofs.References.{kind_of_ref, index_of_ref, place_of_ref}
 use Rattle.ol_wire.proofs.Places.{name_of_place, place_same, place_order}
 

@@ -3,9 +3,7 @@ use Rattle.std.proofs.Common.{◌≡◌, ◌≢◌, ℕ, zero, suc, ◌+◌, ◌
 use Rattle.std.proofs.lemmas.Bool.{cases_lt}
 use Rattle.std.proofs.lemmas.Bool.Decides.{nat_tests}
 use Rattle.ol_net.specs.declared.parts.Kind.{Kind}
-use Rattle.ol_net.specs.declared.parts.Kind.TheVariants as kind
 use Rattle.ol_net.specs.declared.parts.Rule.{Rule}
-use Rattle.ol_net.specs.declared.parts.Rule.TheVariants as rules
 use Rattle.ol_net.specs.Parts.{arity}
 use Rattle.ol_rules.specs.declared.journal.NodeName.TheVariants.{Born}
 use Rattle.ol_rules.specs.Rewriting.{is_meeting, index_after}
@@ -18,6 +16,8 @@ use Rattle.ol_wire.specs.Blocks.{copies_of_f, copies_of_g, born_ref, born_field,
 use Rattle.ol_wire.specs.Rule.{IsMadeRef}
 use Rattle.ol_wire.proofs.References.{node_sort, wire_sort, kind_of_ref, index_of_ref, place_of_ref, place_of_wire}
 use Rattle.ol_wire.proofs.TicketJournal.{length_one_more}
+use Rattle.ol_wire.proofs.Lists.{index_after_small}
+use Rattle.ol_rules.proofs.Born.{at_most_two}
 
 -- a reference to something whose place is below n
 abbrev pub IsRefBelow : ℕ → ℕ → Type 0
@@ -100,30 +100,12 @@ module _ (z : Parts) (e : Event) (t n : ℕ) (in_n : block z (suc t) ≤ n) wher
     ),
   )
 
-pub arity_few : (k : Kind) → arity k ≤ 2
-arity_few kind.Lam = omega arith
-arity_few kind.App = omega arith
-arity_few kind.Fan = omega arith
-arity_few kind.Croissant = omega arith
-arity_few kind.Bracket = omega arith
-arity_few kind.Eraser = omega arith
-
 few_joins : (b : Bool) (m n : ℕ) → m ≤ 2 → n ≤ 2 → (if b then m else (if b then 0 else n) + (if b then 0 else m)) ≤ 4
 few_joins true m n lm ln = omega arith
 few_joins false m n lm ln = omega arith
 
 pub joins_few : (e : Event) → joins_in e ≤ 4
-joins_few e = few_joins (is_meeting e.rule) (arity (kind_in e.f)) (arity (kind_in e.g)) (arity_few (kind_in e.f)) (arity_few (kind_in e.g))
-
-after_near : (r : Rule) (j : ℕ) → index_after r j ≤ j + 1
-after_near rules.Beta j = omega arith
-after_near rules.Fan j = omega arith
-after_near rules.Croissant j = omega arith
-after_near rules.Bracket j = omega arith
-after_near rules.CrossFan j = omega arith
-after_near rules.CrossCroissant j = omega arith
-after_near rules.CrossBracket j = omega arith
-after_near rules.Erase j = omega arith
+joins_few e = few_joins (is_meeting e.rule) (arity (kind_in e.f)) (arity (kind_in e.g)) (at_most_two (kind_in e.f)) (at_most_two (kind_in e.g))
 
 -- the ends of a ticket's links are references, where the fields hold references
 module _ (z : Parts) (e : Event) (t n : ℕ) (in_n : block z (suc t) ≤ n) (a b : ℕ → ℕ) (fits : rule_between e.f e.g ≡ Some e.rule) (small : index_in e.g < 16000000)
@@ -131,7 +113,7 @@ module _ (z : Parts) (e : Event) (t n : ℕ) (in_n : block z (suc t) ≤ n) (a b
   born_below : (i : ℕ) → i < 4 → IsRefBelow n (born_ref z e t i)
   born_below i lt =
       chosen (IsRefBelow n) (nat_lt i (copies_of_f e)) _ _ (node_below (kind_in e.f) (index_in e.f) (place_of z (Born t i)) n (omega arith) (omega (arith, in_n, lt)))
-      (node_below (kind_in e.g) (index_after e.rule (index_in e.g)) (place_of z (Born t i)) n (omega (arith, after_near e.rule (index_in e.g), small)) (omega (arith, in_n, lt)))
+      (node_below (kind_in e.g) (index_after e.rule (index_in e.g)) (place_of z (Born t i)) n (omega (arith, index_after_small e.rule (index_in e.g), small)) (omega (arith, in_n, lt)))
 
   pub link_ends : (j : ℕ) → j < joins_in e → IsRefBelow n (link_of z e t a b j).one × IsRefBelow n (link_of z e t a b j).two
   link_ends j lt = go (is_meeting e.rule) refl lt

@@ -24,7 +24,6 @@ use Rattle.ol_wire.specs.Plays.{event_in, IsLookedUp, ticketed}
 use Rattle.ol_wire.specs.Views.{IsSpent}
 use Rattle.ol_wire.specs.Rule.{KnowsPlan, Table, IsView, IsOwn, IsInOwnBlock, Kept, SeatsKeep, entries_of, IsLinkedField, JournalKeeps}
 use Rattle.ol_wire.proofs.Alike.{pairs_append}
-use Rattle.ol_wire.proofs.Claimed.{in_right}
 use Rattle.ol_wire.proofs.Places.{part_entry, part_field}
 use Rattle.ol_wire.proofs.TicketJournal.{got_before}
 use Rattle.ol_wire.proofs.TicketLists.{total_set, numbered_more, get_past, to_write_from}
@@ -32,6 +31,7 @@ use Rattle.ol_wire.proofs.TicketDrawn.{entries_length}
 use Rattle.ol_wire.proofs.TicketWords as words
 use Rattle.ol_wire.proofs.TicketCells as cells
 use Rattle.ol_wire.proofs.TicketFields as fields
+use Rattle.ol_rules.proofs.Lists.{in_right}
 
 -- a wire that was made stays made
 crosses_still : (log : List Event) (e : Event) (t q p : ℕ) → bit (crosses_at (slice_get log t) q p) ≤ bit (crosses_at (slice_get (log ++ e ∷ []) t) q p)

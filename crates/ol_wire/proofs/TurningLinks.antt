@@ -20,14 +20,7 @@ use Rattle.ol_wire.specs.Rewrites.{event_for}
 use Rattle.ol_wire.specs.Links.{link_between, IsEndOf, IsNext, AreNext, IsLinked}
 use Rattle.ol_wire.specs.Turns.{masked, IsBegun, AreLinked}
 use Rattle.ol_wire.proofs.TicketRefs.{joins_few}
-
-append_nil : {A : Type 0} (xs : List A) → xs ++ [] ≡ xs
-append_nil [] = refl
-append_nil (x ∷ xs) = ap (λ ys. x ∷ ys) (append_nil xs)
-
-append_assoc : {A : Type 0} (xs ys zs : List A) → (xs ++ ys) ++ zs ≡ xs ++ (ys ++ zs)
-append_assoc [] ys zs = refl
-append_assoc (x ∷ xs) ys zs = ap (λ l. x ∷ l) (append_assoc xs ys zs)
+use Rattle.std.proofs.lemmas.List.{append-nil, append_assoc}
 
 -- One link, in the midst of its exchanges: it goes from a to b now.
 pub record IsLinking (z : Parts) (v : View) (w a b : ℕ) (n : View) : Type 0 where
@@ -41,7 +34,7 @@ end_of_ref z r (inl node) = inl node.0
 end_of_ref z r (inr wire) = inr (wire.0, wire.2)
 
 pub linking_begins : (z : Parts) (v : View) (w a b : ℕ) → IsNext v w a b → IsEndOf z a → IsEndOf z b → IsLinking z v w a b v
-linking_begins z v w a b next of_a of_b = record { due = next.0; ends = (of_a, of_b); dead = ([], sym (append_nil v.dead)); view = ap (λ (ls : List Link). record v { pending = ls }) next.1 }
+linking_begins z v w a b next of_a of_b = record { due = next.0; ends = (of_a, of_b); dead = ([], sym (append-nil v.dead)); view = ap (λ (ls : List Link). record v { pending = ls }) next.1 }
 
 module _ (z : Parts) (v : View) (w a b : ℕ) (n : View) (h : IsLinking z v w a b n) where
   pub next_now : IsNext n w a b
@@ -134,7 +127,7 @@ module _ (z : Parts) (v : View) (b : Begun) (begun : IsBegun z v b) where
   first_cell = z.cells + 4 * b.ticket
 
   pub all_begin : AreLinking z v b 0 0 v
-  all_begin = record { mask = omega arith; dead = ([], sym (append_nil v.dead)); view = ap (λ (ls : List Link). record v { pending = ls }) pending ∙ ap (λ (ps : List ℕ). record v { pending = links_from (joins - 0) 0 (link_in z b); published = ps }) (sym (append_nil v.published)) }
+  all_begin = record { mask = omega arith; dead = ([], sym (append-nil v.dead)); view = ap (λ (ls : List Link). record v { pending = ls }) pending ∙ ap (λ (ps : List ℕ). record v { pending = links_from (joins - 0) 0 (link_in z b); published = ps }) (sym (append-nil v.published)) }
     where
       all : joins ≡ joins - 0
       all = omega arith
@@ -214,7 +207,7 @@ module _ (z : Parts) (v : View) (b : Begun) (begun : IsBegun z v b) where
 
       -- it was made by a word that had been empty
       pub none_published : IsLinked n (born_cell z b.ticket j) false k → AreLinking z v b (suc j) m k
-      none_published made = record { mask = omega (arith, h.mask); dead = linked_dead false made; view = linked_view false made ∙ ap (shape (links_from (joins - suc j) (suc j) (link_in z b))) (append_nil (v.published ++ masked first_cell m)) }
+      none_published made = record { mask = omega (arith, h.mask); dead = linked_dead false made; view = linked_view false made ∙ ap (shape (links_from (joins - suc j) (suc j) (link_in z b))) (append-nil (v.published ++ masked first_cell m)) }
 
       -- either way
       pub one_more : (p : Bool) (w mask : ℕ) → w ≡ born_cell z b.ticket j → IsLinked n w p k → (p ≡ true → mask ≡ m + 2 ^ j) → (p ≡ false → mask ≡ m) → AreLinking z v b (j + 1) mask k

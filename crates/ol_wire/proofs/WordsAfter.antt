@@ -1,7 +1,6 @@
 -- The edges of the words after a ticket are those of its block and those of the net without the pair.
 use Rattle.std.proofs.Common.{◌≡◌, ◌≢◌, ℕ, zero, suc, ◌+◌, ◌-◌, ◌*◌, ◌/◌, ◌%◌, ◌==◌, ◌<◌, ◌≤◌, Bool, true, false, nat_lt, if◌then◌else◌, get_or-set_other, List, [], ◌∷◌, ◌++◌, slice_index, slice_set, ◌⊎◌, inl, inr, ◌↔◌, refl, sym, ap, ◌∙◌, arith}
 use Rattle.std.proofs.lemmas.Bool.{cases_eq, cases_lt, cases_Bool, false≢true}
-use Rattle.std.proofs.lemmas.Bool.Decides.{nat_tests}
 use Rattle.ol_net.specs.declared.parts.Kind.{Kind}
 use Rattle.ol_net.specs.declared.parts.Rule.{Rule}
 use Rattle.ol_net.specs.Parts.{arity}
@@ -12,12 +11,11 @@ use Rattle.ol_rules.specs.Rewriting.{meeting, crossing, is_meeting, index_after,
 use Rattle.ol_rules.specs.Listed.{each}
 use Rattle.ol_wire.specs.declared.layout.Parts.{Parts}
 use Rattle.ol_wire.specs.References.{kind_in, node_ref, wire_ref, slot_ref}
-use Rattle.ol_wire.specs.Layout.{ticket, port, field, wire, between, left, right, entry, part_of, block, size, place_of, born_wire}
+use Rattle.ol_wire.specs.Layout.{ticket, port, field, wire, between, left, right, entry, part_of, block, size, place_of, born_wire, IsPlaced}
 use Rattle.ol_wire.specs.Weights.{pairs}
 use Rattle.ol_wire.specs.Events.{Event}
 use Rattle.ol_wire.specs.Blocks.{copies_of_f, copies_of_g, born_field, block_words}
 use Rattle.ol_wire.specs.Edges.{is_live, edge_to, edges_in}
-use Rattle.ol_wire.specs.Rule.{IsPlaced}
 use Rattle.ol_wire.proofs.References.{kind_of_ref}
 use Rattle.ol_wire.proofs.Places.{part_field, part_entry, At, at_ticket, at_port, at_field, at_wire, at_between, at_left, at_right, at_entry, at_past, where_is}
 use Rattle.ol_wire.proofs.Alike.{Alike, pairs_append}
@@ -26,6 +24,7 @@ use Rattle.ol_wire.proofs.EdgeList.{word_edge, live_there, live_found, live_same
 use Rattle.ol_wire.proofs.PlaceSums.{sum_to, sum_agree, sum_within, pairs_each}
 use Rattle.ol_wire.proofs.NetBut.{net_but, first_gone, second_gone, others_stay}
 use Rattle.ol_wire.proofs.WordEdges.{edges_weigh, edge_as, emptied}
+use Rattle.ol_wire.proofs.Lists.{if_above}
 
 -- the event of a pair
 abbrev pub pair_event : Parts → Rule → NodeName → NodeName → Kind → Kind → ℕ → ℕ → Event
@@ -52,9 +51,6 @@ emptied_fresh ws w b h v le = elim (cases_eq v w) [
   | inr d ↦ get_or-set_other ws w v 0 0 d ∙ h v le
 ]
 
-above : {A : Type 0} (m n : ℕ) (x y : A) → n ≤ m → (if nat_lt m n then x else y) ≡ y
-above m n x y le = let e : nat_lt m n ≡ false = grind (arith, nat_tests) in ap (λ b. if b then x else y) e
-
 one_answer : {A : Type 0} (b : Bool) (x : A) → (if b then x else x) ≡ x
 one_answer true x = refl
 one_answer false x = refl
@@ -75,8 +71,8 @@ block_field z e t m (suc (suc s)) a b = absurd (omega arith)
 -- places where no node is born have no field
 pub no_field : (z : Parts) (e : Event) (t m s : ℕ) → copies_of_f e + copies_of_g e ≤ m → born_field z e t m s ≡ 0
 no_field z e t m s le =
-    above m (copies_of_f e) (if nat_lt s (copies_of_g e) then wire_ref (born_wire z t m s) else 0) (if nat_lt m (copies_of_f e + copies_of_g e) then (if nat_lt s (copies_of_f e) then wire_ref (born_wire z t s (m - copies_of_f e)) else 0) else 0) (omega arith)
-    ∙ above m (copies_of_f e + copies_of_g e) (if nat_lt s (copies_of_f e) then wire_ref (born_wire z t s (m - copies_of_f e)) else 0) 0 le
+    if_above m (copies_of_f e) (if nat_lt s (copies_of_g e) then wire_ref (born_wire z t m s) else 0) (if nat_lt m (copies_of_f e + copies_of_g e) then (if nat_lt s (copies_of_f e) then wire_ref (born_wire z t s (m - copies_of_f e)) else 0) else 0) (omega arith)
+    ∙ if_above m (copies_of_f e + copies_of_g e) (if nat_lt s (copies_of_f e) then wire_ref (born_wire z t s (m - copies_of_f e)) else 0) 0 le
 
 module _ (z : Parts) (N M : NamedNet NodeName) (less full : List ℕ) (reached reached' : ℕ → Bool) (x y : NodeName) (k l : Kind) (i j t : ℕ) (r : Rule) (c : BlockStands z N M less full reached reached' x y k l i j t r) where
   abbrev e : Event

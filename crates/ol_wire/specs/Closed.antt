@@ -1,17 +1,18 @@
--- A table that no thread shares any more: its words, and the view of the seat that all seats were joined into.
-use Rattle.std.specs.Prelude.{◌≡◌, ℕ, ◌+◌, nat_lt, if◌then◌else◌, List, [], ◌∷◌, slice_index}
-use mathlib.Core.Option.{some}
-use lib.ListN.{get_elem?}
+-- A table that no thread shares any more, the journal that its words tell, and the net after it.
+use Rattle.std.specs.Prelude.{◌≡◌, ℕ, ◌+◌, ◌⊎◌, nat_lt, if◌then◌else◌, List, [], ◌∷◌, Some, slice_index, slice_get}
+use Rattle.ol_net.specs.Nets.{NamedNet}
+use Rattle.ol_rules.specs.declared.journal.NodeName.{NodeName}
 use Rattle.ol_rules.specs.declared.journal.Entry.{Entry}
 use Rattle.ol_rules.specs.Listed.{each}
+use Rattle.ol_rules.specs.Runs.{IsRun}
 use Rattle.ol_wire.specs.declared.layout.Parts.{Parts}
 use Rattle.ol_wire.specs.declared.plan.Plan.{Plan}
 use Rattle.ol_wire.specs.declared.view.View.{View}
 use Rattle.ol_wire.specs.Layout.{block}
+use Rattle.ol_wire.specs.Starts.{start_net}
 use Rattle.ol_wire.specs.Events.{Event, event_of, entry_of}
-use Rattle.ol_wire.specs.Views.{IsIdle}
-use Rattle.ol_wire.specs.Rule.{Table, Kept}
 
+-- its words, and the view of the seat that all seats were joined into
 pub record ClosedTable : Type 0 where
   pub plan : Plan
   pub words : List ℕ
@@ -21,7 +22,7 @@ pub record ClosedTable : Type 0 where
 abbrev pub events_in : Parts → List ℕ → ℕ
 events_in z words = if nat_lt (slice_index words 0) z.fuel then slice_index words 0 else z.fuel
 
--- the entry of a ticket, by the first two words of its block
+-- the event of a ticket, by the first two words of its block
 abbrev pub event_at : Parts → List ℕ → ℕ → Event
 event_at z words t = event_of (slice_index words (block z t)) (slice_index words (block z t + 1))
 
@@ -29,15 +30,19 @@ event_at z words t = event_of (slice_index words (block z t)) (slice_index words
 abbrev pub log_in : Parts → List ℕ → List Event
 log_in z words = each (events_in z words) (λ t. event_at z words t ∷ [])
 
+-- their entries
 abbrev pub journal_in : Parts → List ℕ → List Entry
 journal_in z words = each (events_in z words) (λ t. entry_of z (event_at z words t) ∷ [])
 
--- The words are those of a table that met its rule, whose seats all stood in the one with this view, which held nothing.
-pub record IsClosed (w : ClosedTable) : Type 0 where
-  pub table : Table
-  pub kept : Kept w.plan table
-  pub words : table.words ≡ w.words
-  pub id : ℕ
-  pub seat : get_elem? table.views id ≡ some w.view
-  pub all : w.view.holds ≡ w.plan.seats
-  pub idle : IsIdle w.view
+-- the net after the journal that the words tell
+abbrev pub IsAfter : ClosedTable → NamedNet NodeName → Type 0
+IsAfter w net = IsRun (start_net w.plan) 0 (journal_in w.plan.parts w.words) net
+
+-- the node is one of the two that the entry names
+abbrev pub IsOfEntry : NodeName → Entry → Type 0
+IsOfEntry x e = (e.first ≡ x) ⊎ (e.second ≡ x)
+
+-- no two entries name one node
+abbrev pub AreOnce : List Entry → Type 0
+AreOnce journal = (t u : ℕ) (d e : Entry) (x : NodeName) → slice_get journal t ≡ Some d → slice_get journal u ≡ Some e
+    → IsOfEntry x d → IsOfEntry x e → t ≡ u

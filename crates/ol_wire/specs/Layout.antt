@@ -81,3 +81,8 @@ part_of z w =
 -- a word of the block of that ticket
 abbrev pub IsInBlock : Parts → ℕ → ℕ → Type 0
 IsInBlock z t w = (block z t ≤ w) × (w < block z t + 22)
+
+-- a name that a node may have after so many tickets
+abbrev pub IsPlaced : Parts → ℕ → NodeName → Type 0
+IsPlaced z tickets (Init k) = k < z.nodes
+IsPlaced z tickets (Born t i) = (t < tickets) × (i < 4)

@@ -17,6 +17,7 @@ pub mod LinkPlays
 pub mod Links
 pub mod Stand
 pub mod Closed
+pub mod ClosedRule
 pub mod Standing
 pub mod TurnPlays
 pub mod Hands

@@ -5,12 +5,11 @@ use lib.ListN.{get_elem?}
 use Rattle.atomic_table.specs.Table.{State}
 use Rattle.ol_edges.specs.Edges.{IsIn, bit}
 use Rattle.ol_net.specs.declared.parts.Kind.{Kind}
-use Rattle.ol_net.specs.Nets.{NamedNet, HasNode, IsNet, net_under}
+use Rattle.ol_net.specs.Nets.{NamedNet, HasNode, IsNet}
 use Rattle.ol_net.specs.Numbered.{net_of}
 use Rattle.ol_net.specs.Replace.{top_index_of}
 use Rattle.ol_net.specs.Parts.{arity, is_eraser}
 use Rattle.ol_rules.specs.declared.journal.NodeName.{NodeName}
-use Rattle.ol_rules.specs.declared.journal.NodeName.TheVariants.{Init, Born}
 use Rattle.ol_rules.specs.declared.journal.Entry.{Entry}
 use Rattle.ol_rules.specs.Runs.{IsRun, HasActive}
 use Rattle.ol_wire.specs.declared.layout.Parts.{Parts}
@@ -18,9 +17,9 @@ use Rattle.ol_wire.specs.declared.plan.Plan.{Plan}
 use Rattle.ol_wire.specs.declared.view.Link.{Link}
 use Rattle.ol_wire.specs.declared.view.View.{View}
 use Rattle.ol_wire.specs.References.{node_ref, place_in, IsNodeRef, IsRef, IsWhole}
-use Rattle.ol_wire.specs.Starts.{facing_pairs, AreParts}
+use Rattle.ol_wire.specs.Starts.{facing_pairs, start_net, AreParts}
 use Rattle.ol_wire.specs.Laid.{field_of, node_word}
-use Rattle.ol_wire.specs.Layout.{Part, field, left, right, entry, part_of, place_of, start_node, start_cell, left_word, block, size, IsInBlock}
+use Rattle.ol_wire.specs.Layout.{Part, field, left, right, entry, part_of, place_of, start_node, start_cell, left_word, block, size, IsInBlock, IsPlaced}
 use Rattle.ol_wire.specs.Weights.{total, pairs, numbered, weigh, Empties}
 use Rattle.ol_wire.specs.Events.{Event, rule_between, entry_of, IsStuckPair, IsPlayed}
 use Rattle.ol_wire.specs.Blocks.{block_words}
@@ -32,10 +31,6 @@ use Rattle.ol_wire.specs.Plays.{cell_at}
 
 abbrev pub Table : Type 0
 Table = State (Unit {0}) View
-
--- the net at the start
-abbrev pub start_net : Plan → NamedNet NodeName
-start_net p = net_under Init (net_of p.start.value)
 
 abbrev pub entries_of : Parts → List Event → List Entry
 entries_of z log = map (entry_of z) log
@@ -59,11 +54,6 @@ times_published z w views = total (λ (v : View). times (cell_at z w) v.publishe
 -- whether a word holds something, as a number
 abbrev pub filled : ℕ → ℕ
 filled word = if word == 0 then 0 else 1
-
--- a name that a node may have after so many tickets
-abbrev pub IsPlaced : Parts → ℕ → NodeName → Type 0
-IsPlaced z tickets (Init k) = k < z.nodes
-IsPlaced z tickets (Born t i) = (t < tickets) × (i < 4)
 
 -- a word that never changes once it isn't empty: a field, or the right word of a cell
 abbrev pub IsLasting : Part → Type 0

@@ -1,21 +1,20 @@
 -- What the words of a closed table stand for.
-use Rattle.std.specs.Prelude.{◌&&◌, nat_eq, ◌≡◌, ◌≢◌, ℕ, suc, ◌+◌, ◌<◌, ◌≤◌, Bool, true, List, Some, length, slice_index, slice_get, ◌↔◌, ◌⊎◌}
+use Rattle.std.specs.Prelude.{◌&&◌, nat_eq, ◌≡◌, ◌≢◌, ℕ, suc, ◌+◌, ◌<◌, ◌≤◌, Bool, true, List, Some, length, slice_index, slice_get, ◌↔◌}
 use Rattle.ol_net.specs.declared.parts.Kind.{Kind}
 use Rattle.ol_net.specs.Nets.{NamedNet, HasNode, IsNet}
 use Rattle.ol_net.specs.Parts.{is_eraser}
 use Rattle.ol_rules.specs.declared.journal.NodeName.{NodeName}
 use Rattle.ol_rules.specs.declared.journal.NodeName.TheVariants.{Init, Born}
 use Rattle.ol_rules.specs.declared.journal.Entry.{Entry}
-use Rattle.ol_rules.specs.Runs.{IsRun}
 use Rattle.ol_wire.specs.declared.layout.Parts.{Parts}
 use Rattle.ol_wire.specs.References.{place_in, IsNodeRef, IsRef, IsWhole}
-use Rattle.ol_wire.specs.Layout.{Part, wire, between, left, part_of, block, size}
+use Rattle.ol_wire.specs.Layout.{Part, wire, between, left, part_of, block, size, IsPlaced}
 use Rattle.ol_wire.specs.Sizes.{IsSmall}
 use Rattle.ol_wire.specs.Blocks.{copies_of_f, copies_of_g}
 use Rattle.ol_wire.specs.Edges.{edges_in, is_made, times}
 use Rattle.ol_wire.specs.Stands.{Stands}
-use Rattle.ol_wire.specs.Rule.{IsPlaced, start_net}
 use Rattle.ol_wire.specs.Closed.{ClosedTable, events_in, event_at, log_in, journal_in}
+pub use Rattle.ol_wire.specs.Closed.{IsAfter, AreOnce}
 
 -- a wire of the start, or one that a ticket made
 abbrev pub IsWirePart : Part → Type 0
@@ -51,15 +50,3 @@ pub record StandsFor (w : ClosedTable) (net : NamedNet NodeName) (reached : ℕ 
   pub cells : (n : ℕ) → part_of w.plan.parts n ≡ left → slice_index w.words n ≢ 0 → IsNodeRef (slice_index w.words n) × IsNodeRef (slice_index w.words (suc n))
   pub wires : (n : ℕ) → reached n ≡ true → IsWirePart (part_of w.plan.parts n)
   pub stands : Stands w.plan.parts net reached (edges_in w.plan.parts net reached w.words (size w.plan.parts))
-
--- the node is one of the two that the entry names
-abbrev pub IsOfEntry : NodeName → Entry → Type 0
-IsOfEntry x e = (e.first ≡ x) ⊎ (e.second ≡ x)
-
--- no two entries name one node
-abbrev pub AreOnce : List Entry → Type 0
-AreOnce journal = (t u : ℕ) (d e : Entry) (x : NodeName) → slice_get journal t ≡ Some d → slice_get journal u ≡ Some e → IsOfEntry x d → IsOfEntry x e → t ≡ u
-
--- the net after the journal that the words tell
-abbrev pub IsAfter : ClosedTable → NamedNet NodeName → Type 0
-IsAfter w net = IsRun (start_net w.plan) 0 (journal_in w.plan.parts w.words) net

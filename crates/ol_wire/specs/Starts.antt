@@ -1,10 +1,19 @@
--- The cells and the wires of a net at the start, in the order in which they are numbered.
+-- The net at the start, and its cells and wires in the order in which they are numbered.
 use Rattle.std.specs.Prelude.{Bool, ◌≡◌, ℕ, suc, ◌+◌, ◌*◌, ◌==◌, nat_lt, if◌then◌else◌, List, [], ◌∷◌, length, Option, Some}
 use Rattle.ol_net.specs.declared.parts.Port.{Port}
 use Rattle.ol_net.specs.declared.parts.Port.TheVariants.{Of}
 use Rattle.ol_net.specs.Graph.{Graph, partner_of}
+use Rattle.ol_net.specs.Nets.{NamedNet, net_under}
+use Rattle.ol_net.specs.Numbered.{net_of}
 use Rattle.ol_rules.specs.Listed.{each}
+use Rattle.ol_rules.specs.declared.journal.NodeName.{NodeName}
+use Rattle.ol_rules.specs.declared.journal.NodeName.TheVariants.{Init}
 use Rattle.ol_wire.specs.declared.layout.Parts.{Parts}
+use Rattle.ol_wire.specs.declared.plan.Plan.{Plan}
+
+-- the net that the table was made from, under the names of start nodes
+abbrev pub start_net : Plan → NamedNet NodeName
+start_net p = net_under Init (net_of p.start.value)
 
 -- the pair of node n, where it faces a node of a greater number
 abbrev pub pair_with : ℕ → Option Port → List (ℕ × ℕ)

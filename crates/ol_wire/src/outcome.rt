@@ -5,10 +5,10 @@ ghost use Rattle.ol_net.specs.Nets.{NamedNet, HasNode, SameNet};
 ghost use Rattle.ol_rules.specs.declared.journal.NodeName.{NodeName};
 ghost use Rattle.ol_rules.specs.declared.journal.Entry.{Entry};
 ghost use Rattle.ol_rules.specs.Runs.{IsComplete, HasActive};
-ghost use Rattle.ol_wire.specs.Closed.{events_in, journal_in};
+ghost use Rattle.ol_wire.specs.Closed.{events_in, journal_in, IsAfter, IsOfEntry, AreOnce};
 ghost use Rattle.ol_wire.specs.Layout.{block, cells_of};
 ghost use Rattle.ol_wire.specs.Weights.{pairs, numbered};
-ghost use Rattle.ol_wire.specs.Standing.{StandsFor, is_reached_in, IsAfter, IsOfEntry, AreOnce};
+ghost use Rattle.ol_wire.specs.Standing.{StandsFor, is_reached_in};
 
 use crate::closed::Words;
 

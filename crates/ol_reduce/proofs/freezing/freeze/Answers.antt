@@ -3,7 +3,7 @@ use Rattle.ol_wire.specs.declared.layout.Parts.{Parts}
 use Rattle.ol_net.specs.Nets.{NamedNet}
 use Rattle.ol_net.specs.Build.{Builds}
 use Rattle.ol_rules.specs.declared.journal.NodeName.{NodeName}
-use Rattle.ol_wire.specs.Standing.{IsAfter}
+use Rattle.ol_wire.specs.Closed.{IsAfter}
 use Rattle.ol_reduce.specs.Drafts.{frozen_top, links_below}
 use Rattle.ol_reduce.specs.Frozen.{IsFrozen}
 use Rattle.ol_reduce.proofs.Whole.{fresh_partly, few, completed, built, map_ok}

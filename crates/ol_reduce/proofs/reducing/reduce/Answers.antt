@@ -1,6 +1,7 @@
 use Rattle.std.proofs.Common.{length, ap, sym, ◌∙◌, subst, ◌≤◌}
-use Rattle.ol_reduce.proofs.Answered.{steps_in, events_few, few_steps, ends, as_long, goes_on}
+use Rattle.ol_reduce.proofs.Answered.{steps_in, few_steps, ends, as_long, goes_on}
 use Rattle.ol_reduce.proofs.reducing.reduce.Goals as goal
+use Rattle.ol_reduce.proofs.Bounded.{events_few}
 
 pub returns-in_ok-last-in-Clean-clause-reduced : goal.returns-in_ok-last-in-Clean-clause-reduced
 returns-in_ok-last-in-Clean-clause-reduced g c =

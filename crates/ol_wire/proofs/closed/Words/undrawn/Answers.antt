@@ -1,5 +1,5 @@
 use Rattle.std.proofs.Common.{subst}
-use Rattle.ol_wire.specs.Closed.{IsClosed}
+use Rattle.ol_wire.specs.ClosedRule.{IsClosed}
 use Rattle.ol_wire.proofs.ClosingStands as stands
 use Rattle.ol_wire.proofs.closed.Words.undrawn.Goals as goal
 
