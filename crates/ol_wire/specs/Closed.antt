@@ -1,6 +1,7 @@
 -- A table that no thread shares any more, the journal that its words tell, and the net after it.
-use Rattle.std.specs.Prelude.{◌≡◌, ℕ, ◌+◌, ◌⊎◌, nat_lt, if◌then◌else◌, List, [], ◌∷◌, Some, slice_index, slice_get}
-use Rattle.ol_net.specs.Nets.{NamedNet}
+use Rattle.std.specs.Prelude.{◌≡◌, ℕ, ◌+◌, ◌⊎◌, nat_lt, if◌then◌else◌, List, [], ◌∷◌, Some, slice_index, slice_get, ◌<◌, ◌≤◌, length}
+use Rattle.ol_net.specs.declared.parts.Kind.{Kind}
+use Rattle.ol_net.specs.Nets.{NamedNet, HasNode, SameNet}
 use Rattle.ol_rules.specs.declared.journal.NodeName.{NodeName}
 use Rattle.ol_rules.specs.declared.journal.Entry.{Entry}
 use Rattle.ol_rules.specs.Listed.{each}
@@ -8,7 +9,7 @@ use Rattle.ol_rules.specs.Runs.{IsRun}
 use Rattle.ol_wire.specs.declared.layout.Parts.{Parts}
 use Rattle.ol_wire.specs.declared.plan.Plan.{Plan}
 use Rattle.ol_wire.specs.declared.view.View.{View}
-use Rattle.ol_wire.specs.Layout.{block}
+use Rattle.ol_wire.specs.Layout.{block, cells_of}
 use Rattle.ol_wire.specs.Starts.{start_net}
 use Rattle.ol_wire.specs.Events.{Event, event_of, entry_of}
 
@@ -46,3 +47,39 @@ IsOfEntry x e = (e.first ≡ x) ⊎ (e.second ≡ x)
 abbrev pub AreOnce : List Entry → Type 0
 AreOnce journal = (t u : ℕ) (d e : Entry) (x : NodeName) → slice_get journal t ≡ Some d → slice_get journal u ≡ Some e
     → IsOfEntry x d → IsOfEntry x e → t ≡ u
+
+-- all events, and their journal
+abbrev pub events_drawn : ClosedTable → ℕ
+events_drawn w = events_in w.plan.parts w.words
+
+abbrev pub journal_drawn : ClosedTable → List Entry
+journal_drawn w = journal_in w.plan.parts w.words
+
+-- what holds of each net after the journal
+abbrev pub EachAfter : ClosedTable → (NamedNet NodeName → Type 0) → Type 0
+EachAfter w P = (net : NamedNet NodeName) → IsAfter w net → P net
+
+-- the nets after the journal are the same
+abbrev pub HasOneAfter : ClosedTable → Type 0
+HasOneAfter w = (M N : NamedNet NodeName) → IsAfter w M → IsAfter w N → SameNet M N
+
+-- the nodes that these entries name are not in the net
+abbrev pub AreGone : List Entry → NamedNet NodeName → Type 0
+AreGone journal net = (t : ℕ) (e : Entry) (x : NodeName) → slice_get journal t ≡ Some e → IsOfEntry x e
+    → (k : Kind) (i : ℕ) → HasNode net x k i → ⊥
+
+-- the blocks of tickets that weren't drawn are empty
+abbrev pub IsEmptyUndrawn : ClosedTable → Type 0
+IsEmptyUndrawn w = (n : ℕ) → block w.plan.parts (events_drawn w) ≤ n → slice_index w.words n ≡ 0
+
+-- as many tickets were drawn as there are
+abbrev pub IsFuelUsed : ClosedTable → Type 0
+IsFuelUsed w = events_drawn w ≡ w.plan.parts.fuel
+
+-- the seat has swept all cells
+abbrev pub HasSweptAll : ClosedTable → Type 0
+HasSweptAll w = w.view.swept ≡ cells_of w.plan.parts
+
+-- there is a word of that number, and this is it
+abbrev pub HasWord : List ℕ → ℕ → ℕ → Type 0
+HasWord words at x = (at < length words) × (x ≡ slice_index words at)

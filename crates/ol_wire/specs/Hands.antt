@@ -1,5 +1,5 @@
 -- What a seat has in hand in the midst of a call: a claimed pair, and what it has read of its nodes.
-use Rattle.std.specs.Prelude.{◌≡◌, ℕ, zero, suc, ◌+◌, ◌<◌, List, [], ◌∷◌, ◌++◌, Some, ◌⊎◌, slice_index}
+use Rattle.std.specs.Prelude.{◌≡◌, ℕ, zero, suc, ◌+◌, ◌<◌, List, [], ◌∷◌, ◌++◌, Some, ◌⊎◌, slice_index, MatchOption, Option, false, ◌≢◌}
 use Rattle.ol_edges.specs.Edges.{IsIn}
 use Rattle.ol_net.specs.Parts.{arity}
 use Rattle.ol_wire.specs.declared.layout.Parts.{Parts}
@@ -7,11 +7,29 @@ use Rattle.ol_wire.specs.declared.view.View.{View}
 use Rattle.ol_wire.specs.References.{kind_in, place_in}
 use Rattle.ol_wire.specs.Events.{rule_between, entry_of, IsStuckPair}
 use Rattle.ol_wire.specs.Blocks.{links_of}
-use Rattle.ol_wire.specs.Plays.{IsNodeOf, IsRefOf, event_in, cell_at, cell_in_hand, swept_on}
+use Rattle.ol_wire.specs.Plays.{IsNodeOf, IsRefOf, event_in, cell_at, cell_in_hand, swept_on, paired, ticketed, late}
+use Rattle.ol_wire.specs.Stand.{Board}
+use Rattle.ol_wire.specs.Layout.{left_word}
 
 -- a claim of cell c, which read `pair.0`, and nothing more
 abbrev pub claiming : View → ℕ → ℕ × ℕ → View
 claiming v c pair = record v { claimed = v.claimed ++ c ∷ []; last = pair }
+
+-- a claim of cell c has taken its left word, and the right one isn't read yet
+abbrev pub HasClaimed : Board → View → ℕ → ℕ → View → Type 0
+HasClaimed b v c left n = n ≡ record (claiming v c (left, 0)) { taken = (left_word b.plan.parts c, left) ∷ [] }
+
+-- the left word of the pair in hand is that of the cell with left word w
+abbrev pub HoldsLeft : View → ℕ → Type 0
+HoldsLeft v w = v.taken ≡ (w, v.last.0) ∷ []
+
+-- the right word of cell c is read
+abbrev pub HasPaired : Board → View → ℕ → ℕ → View → Type 0
+HasPaired b v c right n = n ≡ paired v (suc (left_word b.plan.parts c)) right
+
+-- a ticket below the fuel is drawn, or the fuel is used up
+abbrev pub HasDrawn : Board → View → Option ℕ → View → Type 0
+HasDrawn b v ticket n = MatchOption ticket (n ≡ late v) (λ t. (t < b.plan.parts.fuel) × (n ≡ ticketed v t))
 
 -- the cell was empty
 abbrev pub missed : View → ℕ → View
@@ -61,3 +79,26 @@ AreRefs z node found = (s : ℕ) → s < arity (kind_in node) → IsRefOf z (sli
 pub record Rewrote (v : View) (t : ℕ) (of_f of_g : List ℕ) (n : View) : Type 0 where
   pub view : n ≡ record v { taken = []; known = []; swept = swept_on v (cell_at v.parts (cell_in_hand v.taken)); made = v.made ++ (t, entry_of v.parts (event_in v)) ∷ []; pending = n.pending }
   pub links : n.pending ≡ links_of v.parts (event_in v) t (λ s. slice_index of_f s) (λ s. slice_index of_g s)
+
+-- a pair was taken from cell c, or the cell was empty
+abbrev pub HasTaken : Board → View → ℕ → Option (ℕ × ℕ) → View → Type 0
+HasTaken b v c found n = MatchOption found (n ≡ missed v c) (λ (pair : ℕ × ℕ). (pair.0 ≢ 0) × (n ≡ in_hand v (left_word b.plan.parts c) c pair))
+
+abbrev pub AreNodesOf : Parts → ℕ × ℕ → Type 0
+AreNodesOf z pair = IsNodeOf z pair.0 × IsNodeOf z pair.1
+
+-- the view has nothing to write and no link to make, and no ticket at or above the fuel
+abbrev pub MayDraw : View → Type 0
+MayDraw v = (v.due ≡ []) × (v.pending ≡ []) × (v.over ≡ false)
+
+-- each pair in hand stays there
+abbrev pub KeepsInHand : View → View → Type 0
+KeepsInHand v n = (w : ℕ) → IsInHand v w → IsInHand n w
+
+-- what is known of the fields of a node, once they are read
+abbrev pub looked_at : View → ℕ → List ℕ → View
+looked_at v node found = record v { known = fields_known (arity (kind_in node)) (place_in node) found ++ v.known }
+
+-- what was sure stays so
+abbrev pub KeepsSure : List (ℕ × ℕ) → List (ℕ × ℕ) → Type 0
+KeepsSure old new = (w y : ℕ) → IsSure old w y → IsSure new w y

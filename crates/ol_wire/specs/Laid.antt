@@ -1,5 +1,5 @@
 -- The words of a net at the start, by its ports.
-use Rattle.std.specs.Prelude.{◌≡◌, ℕ, suc, ◌+◌, ◌-◌, ◌*◌, ◌<◌, ◌≤◌, ◌==◌, nat_lt, if◌then◌else◌, List, [], ◌∷◌, length, Option, Some, None, slice_index, slice_get}
+use Rattle.std.specs.Prelude.{◌≡◌, ℕ, suc, ◌+◌, ◌-◌, ◌*◌, ◌<◌, ◌≤◌, ◌==◌, nat_lt, if◌then◌else◌, List, [], ◌∷◌, length, Option, Some, None, slice_index, slice_get, ◌++◌}
 use Rattle.ol_net.specs.declared.parts.Kind.{Kind}
 use Rattle.ol_net.specs.declared.parts.Port.{Port}
 use Rattle.ol_net.specs.declared.parts.Port.TheVariants.{Free, Of}
@@ -8,7 +8,9 @@ use Rattle.ol_rules.specs.Listed.{each}
 use Rattle.ol_wire.specs.declared.layout.Parts.{Parts}
 use Rattle.ol_wire.specs.References.{node_ref, wire_ref}
 use Rattle.ol_wire.specs.Layout.{port_word, start_node, start_wire, start_cell, block, size}
-use Rattle.ol_wire.specs.Starts.{facing_pairs, comes_first, wire_at}
+use Rattle.ol_wire.specs.Starts.{facing_pairs, pair_at, comes_first, wire_at}
+use Rattle.std.specs.declared.vec.Vec.{Vec}
+use Rattle.std.specs.declared.alloc.Global.{Global}
 
 -- the reference of a node, or 0 where no live node has the number
 abbrev pub ref_of : Parts → ℕ → Option (Kind × ℕ) → ℕ
@@ -71,3 +73,18 @@ cell_words net z (p ∷ ps) = node_word net z p.0 ∷ node_word net z p.1 ∷ ce
 pub record HasFields (net : Graph) (z : Parts) (words : List ℕ) (n s : ℕ) : Type 0 where
   pub long : length words ≡ start_node z n + s
   pub before : (m u : ℕ) → u < 2 → 2 * m + u < 2 * n + s → slice_index words (start_node z m + u) ≡ field_of net z m u
+
+-- what a list of words gained at its end
+abbrev pub Gains : Vec ℕ Global → Vec ℕ Global → List ℕ → Type 0
+Gains old new more = new.items ≡ old.items ++ more
+
+-- the fields of all nodes
+abbrev pub field_rows : Graph → Parts → List ℕ
+field_rows net z = each (length net.nodes) (field_row net z)
+
+-- the words of the cell that node n comes first in, and those of all cells
+abbrev pub cell_row : Graph → Parts → ℕ → List ℕ
+cell_row net z n = cell_words net z (pair_at net n)
+
+abbrev pub cell_rows : Graph → Parts → List ℕ
+cell_rows net z = cell_words net z (facing_pairs net)

@@ -1,12 +1,13 @@
 -- A link that a seat makes: its two ends, and what is left once it is made.
-use Rattle.std.specs.Prelude.{◌≡◌, ℕ, ◌<◌, ◌⊎◌, Bool, if◌then◌else◌, List, [], ◌∷◌, ◌++◌}
+use Rattle.std.specs.Prelude.{◌≡◌, ℕ, ◌<◌, ◌⊎◌, Bool, if◌then◌else◌, List, [], ◌∷◌, ◌++◌, MatchOption, Option, ◌+◌, ◌≤◌}
 use Rattle.ol_wire.specs.declared.layout.Parts.{Parts}
 use Rattle.ol_wire.specs.declared.view.Link.{Link}
 use Rattle.ol_wire.specs.declared.view.View.{View}
 use Rattle.ol_wire.specs.References.{place_in, IsNodeRef, IsWireRef}
 use Rattle.ol_wire.specs.Layout.{size}
-use Rattle.ol_wire.specs.LinkPlays.{IsBetween}
-use Rattle.ol_wire.specs.Plays.{cell_at, rest}
+use Rattle.ol_wire.specs.LinkPlays.{IsBetween, spread}
+use Rattle.ol_wire.specs.Plays.{cell_at, rest, IsRefOf, linked, moved}
+use Rattle.ol_wire.specs.Stand.{Board}
 
 abbrev pub link_between : ℕ → ℕ → ℕ → Link
 link_between w a b = record { cell = w; one = a; two = b }
@@ -30,3 +31,18 @@ pub record AreNext (v : View) (a b : ℕ) : Type 0 where
 pub record IsLinked (v : View) (w : ℕ) (published : Bool) (n : View) : Type 0 where
   pub dead : (ws : List ℕ) × (n.dead ≡ v.dead ++ ws)
   pub view : n ≡ record v { pending = rest v.pending; known = n.known; published = v.published ++ (if published then cell_at v.parts w ∷ [] else []); dead = n.dead }
+
+-- an end that is no node, and the other one
+abbrev pub AreOpenEnds : ℕ → ℕ → ℕ × ℕ → Type 0
+AreOpenEnds a b ends = (IsNodeRef ends.0 → ⊥) × (((ends.0 ≡ a) × (ends.1 ≡ b)) ⊎ ((ends.0 ≡ b) × (ends.1 ≡ a)))
+
+-- an exchange of an end into the word of a wire has made the first link, or the link goes on with what it found
+abbrev pub HasExchanged : View → ℕ → ℕ → Option ℕ → View → Type 0
+HasExchanged v wire end found n = MatchOption found (n ≡ linked v) (λ c. n ≡ moved v (place_in wire) end c)
+
+abbrev pub AreRefsOf : Parts → ℕ → ℕ → Type 0
+AreRefsOf z a b = IsRefOf z a × IsRefOf z b
+
+-- one wire more is dead: of these there are no more than words
+abbrev pub LosesWire : Board → View → View → Type 0
+LosesWire b v n = (spread (size b.plan.parts) n.dead ≡ spread (size b.plan.parts) v.dead + 1) × (spread (size b.plan.parts) n.dead ≤ size b.plan.parts)

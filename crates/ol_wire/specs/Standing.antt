@@ -13,7 +13,7 @@ use Rattle.ol_wire.specs.Sizes.{IsSmall}
 use Rattle.ol_wire.specs.Blocks.{copies_of_f, copies_of_g}
 use Rattle.ol_wire.specs.Edges.{edges_in, is_made, times}
 use Rattle.ol_wire.specs.Stands.{Stands}
-use Rattle.ol_wire.specs.Closed.{ClosedTable, events_in, event_at, log_in, journal_in}
+use Rattle.ol_wire.specs.Closed.{ClosedTable, events_in, event_at, log_in, journal_in, IsAfter}
 pub use Rattle.ol_wire.specs.Closed.{IsAfter, AreOnce}
 
 -- a wire of the start, or one that a ticket made
@@ -50,3 +50,7 @@ pub record StandsFor (w : ClosedTable) (net : NamedNet NodeName) (reached : ℕ 
   pub cells : (n : ℕ) → part_of w.plan.parts n ≡ left → slice_index w.words n ≢ 0 → IsNodeRef (slice_index w.words n) × IsNodeRef (slice_index w.words (suc n))
   pub wires : (n : ℕ) → reached n ≡ true → IsWirePart (part_of w.plan.parts n)
   pub stands : Stands w.plan.parts net reached (edges_in w.plan.parts net reached w.words (size w.plan.parts))
+
+-- they stand for a net after their journal
+abbrev pub StandForNet : ClosedTable → Type 0
+StandForNet w = (net : NamedNet NodeName) × IsAfter w net × StandsFor w net (is_reached_in w)

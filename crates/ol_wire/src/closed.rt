@@ -1,7 +1,7 @@
 //! The words of a table that no thread shares any more, and what they say.
 ghost use Rattle.std.specs.Prelude.{◌≡◌, ℕ, ◌+◌, ◌<◌, ◌≤◌, length, MatchOption, slice_get, slice_index};
 ghost use Rattle.core.specs.Mem.Slots.{slots_items, slots_len, IsFull};
-ghost use Rattle.ol_wire.specs.Closed.{ClosedTable, events_in, event_at, journal_in};
+ghost use Rattle.ol_wire.specs.Closed.{ClosedTable, events_in, event_at, journal_in, HasWord};
 ghost use Rattle.ol_wire.specs.Layout.{size as size_of};
 ghost use Rattle.ol_wire.specs.Sizes.{IsSmall};
 ghost use Rattle.ol_wire.specs.ClosedRule.{IsClosed};
@@ -43,7 +43,7 @@ impl Words {
 
     /// The word of that number. `None`: there are only as many words as that, or fewer.
     pub fn word(&self, at: u32) -> Option<u64>
-        ensures { MatchOption result (length self.now.words ≤ at) (λ x. (at < length self.now.words) × (x ≡ slice_index self.now.words at)) }
+        ensures { MatchOption result (length self.now.words ≤ at) (HasWord self.now.words at) }
     {
         if at < self.parts.size() {
             Some(self.closed.word(at as usize))

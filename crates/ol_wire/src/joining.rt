@@ -2,7 +2,7 @@
 ghost use Rattle.std.specs.Prelude.{◌≡◌, ℕ, ◌+◌, ◌<◌, ◌≤◌, []};
 ghost use Rattle.ol_wire.specs.LinkPlays.{times_drawn};
 ghost use Rattle.ol_wire.specs.Plays.{joined};
-ghost use Rattle.ol_wire.specs.Stand.{IsUnder, IsOf};
+ghost use Rattle.ol_wire.specs.Stand.{IsOf, IsTokenOf, IsSameSeat};
 ghost use Rattle.ol_wire.specs.Views.{IsIdle};
 
 use crate::law::{Counts, Joins};
@@ -25,10 +25,10 @@ impl Shared {
 
     // Joins two seats. The look that follows shows that they stand for no more than all seats, and that no ticket is there twice.
     fn merge(&self, into: &mut Token, from: Token)
-        requires into { (into.old.table_id ≡ self.now.table) × IsUnder self.now.plan into.old.me.0 }
+        requires into { IsTokenOf self.now into.old }
         requires from { (from.table_id ≡ self.now.table) × (from.me.1 ≡ []) }
         requires idle { IsIdle into.old.me.0 × IsIdle from.me.0 }
-        ensures token { (into.new.table_id ≡ into.old.table_id) × (into.new.me.1 ≡ into.old.me.1) }
+        ensures token { IsSameSeat into.old into.new }
         ensures view { into.new.me.0 ≡ joined into.old.me.0 from.me.0 }
         ensures few { into.old.me.0.holds + from.me.0.holds ≤ 64 }
         ensures once { (ticket : ℕ) → times_drawn ticket into.new.me.0.made ≤ 1 }

@@ -6,9 +6,9 @@ ghost use Rattle.ol_wire.specs.Layout.{port_word, start_node, size};
 ghost use Rattle.ol_wire.specs.Sizes.{IsSmall, IsSmallNet};
 ghost use Rattle.ol_wire.specs.Starts.{AreParts, aux_links, facing_pairs, pair_at};
 ghost use Rattle.atomic_table.specs.Table.{opening};
-ghost use Rattle.ol_wire.specs.Rule.{Kept, opener};
+ghost use Rattle.ol_wire.specs.Rule.{Kept, opener, Opens};
 ghost use Rattle.ol_wire.specs.declared.plan.Plan.{Plan};
-ghost use Rattle.ol_wire.specs.Laid.{node_word, word_of_port, wires_before, field_of, cell_words, port_row, field_row, HasFields, IsLaid};
+ghost use Rattle.ol_wire.specs.Laid.{node_word, word_of_port, wires_before, field_of, cell_words, port_row, field_row, HasFields, IsLaid, Gains, field_rows, cell_row, cell_rows};
 
 use crate::layout::{BLOCK, Parts};
 use crate::reference::{node_ref, wire_ref};
@@ -106,7 +106,7 @@ fn put_empty(words: &mut Vec<u64>, count: u32) -> Result<(), NoMemory>
 // Adds the words of the free ports.
 fn put_ports(net: &Net, parts: Parts, words: &mut Vec<u64>) -> Result<(), NoMemory>
     requires small { IsSmall parts × IsSmallNet net.now }
-    ensures { OnOk result (words.new.items ≡ words.old.items ++ each net.now.free (port_row net.now parts)) }
+    ensures { OnOk result (Gains words.old words.new (each net.now.free (port_row net.now parts))) }
 {
     for port in 0..net.free_ports() {
         put(words, word_of_port(net, parts, port))?;
@@ -126,7 +126,7 @@ fn put_node(
     requires inside { node < length net.now.nodes }
     requires wires { wires ≡ wires_before net.now node 0 }
     requires before { HasFields net.now parts words.old.items node 0 }
-    ensures added { OnOk result (words.new.items ≡ words.old.items ++ field_row net.now parts node) }
+    ensures added { OnOk result (Gains words.old words.new (field_row net.now parts node)) }
     ensures before { OnOk result (HasFields net.now parts words.new.items (suc node) 0) }
     ensures wires { IfOk result (λ n. n ≡ wires_before net.now (suc node) 0) }
 {
@@ -141,7 +141,7 @@ fn put_node(
 fn put_nodes(net: &Net, parts: Parts, words: &mut Vec<u64>) -> Result<u32, NoMemory>
     requires small { IsSmall parts × IsSmallNet net.now }
     requires behind { length words.old.items ≡ start_node parts 0 }
-    ensures added { OnOk result (words.new.items ≡ words.old.items ++ each (length net.now.nodes) (field_row net.now parts)) }
+    ensures added { OnOk result (Gains words.old words.new (field_rows net.now parts)) }
     ensures wires { IfOk result (λ n. n ≡ length (aux_links net.now)) }
 {
     let mut wires: u32 = 0;
@@ -154,7 +154,7 @@ fn put_nodes(net: &Net, parts: Parts, words: &mut Vec<u64>) -> Result<u32, NoMem
 // Adds the two words of the cell of a node that faces one of a greater number, and answers how many cells that is.
 fn put_cell(net: &Net, parts: Parts, words: &mut Vec<u64>, node: u32) -> Result<u32, NoMemory>
     requires small { IsSmall parts × IsSmallNet net.now }
-    ensures added { OnOk result (words.new.items ≡ words.old.items ++ cell_words net.now parts (pair_at net.now node)) }
+    ensures added { OnOk result (Gains words.old words.new (cell_row net.now parts node)) }
     ensures cells { IfOk result (λ n. n ≡ length (pair_at net.now node)) }
     ensures few { IfOk result (λ n. n ≤ 1) }
 {
@@ -181,7 +181,7 @@ fn put_cell(net: &Net, parts: Parts, words: &mut Vec<u64>, node: u32) -> Result<
 // Adds the cells, and answers their number.
 fn put_cells(net: &Net, parts: Parts, words: &mut Vec<u64>) -> Result<u32, NoMemory>
     requires small { IsSmall parts × IsSmallNet net.now }
-    ensures added { OnOk result (words.new.items ≡ words.old.items ++ cell_words net.now parts (facing_pairs net.now)) }
+    ensures added { OnOk result (Gains words.old words.new (cell_rows net.now parts)) }
     ensures cells { IfOk result (λ n. n ≡ length (facing_pairs net.now)) }
     ensures few { IfOk result (λ n. n ≤ length net.now.nodes) }
 {
@@ -234,7 +234,7 @@ pub(crate) fn lay(alloc: Global, net: &Net, fuel: u32) -> Result<(Parts, Vec<u64
     ensures parts { IfOk result (λ r. AreParts net.now fuel r.0) }
     ensures small { IfOk result (λ r. IsSmall r.0) }
     ensures words { IfOk result (λ r. vec_len r.1 ≡ size r.0) }
-    ensures kept { IfOk result (λ r. (p : Plan) → p.parts ≡ r.0 → p.start.value ≡ net.now → 0 < p.seats → p.seats ≤ 64 → Kept p (opening r.1.items [] (opener p))) }
+    ensures kept { IfOk result (λ r. Opens net.now r.0 r.1.items) }
 {
     net.is_net();
     net.is_tabled();

@@ -9,9 +9,9 @@ ghost use Rattle.ol_wire.specs.Plays.{IsRefOf, linked, moved, publishing};
 ghost use Rattle.ol_wire.specs.LinkPlays.{spread};
 ghost use Rattle.ol_wire.specs.Rewrites.{event_for};
 ghost use Rattle.ol_wire.specs.Sizes.{IsSmall};
-ghost use Rattle.ol_wire.specs.Stand.{IsUnder};
-ghost use Rattle.ol_wire.specs.Links.{link_between, IsEndOf, IsNext, AreNext, IsLinked};
-ghost use Rattle.ol_wire.specs.Turns.{IsBegun, AreLinked};
+ghost use Rattle.ol_wire.specs.Stand.{IsTokenOf, IsSameSeat};
+ghost use Rattle.ol_wire.specs.Links.{link_between, IsEndOf, IsNext, AreNext, IsLinked, AreOpenEnds, HasExchanged, AreRefsOf, LosesWire};
+ghost use Rattle.ol_wire.specs.Turns.{IsBegun, AreLinked, AreEndsOf};
 
 use crate::law::{Links, Places, Publishes};
 use crate::layout::Parts;
@@ -23,7 +23,7 @@ use crate::turning::Begun;
 
 // Of two ends of which one is no node, the first such one, and then the other.
 fn open_end(one: u64, two: u64) -> Option<(u64, u64)>
-    ensures { MatchOption result (IsNodeRef one × IsNodeRef two) (λ ends. (IsNodeRef ends.0 → ⊥) × (((ends.0 ≡ one) × (ends.1 ≡ two)) ⊎ ((ends.0 ≡ two) × (ends.1 ≡ one)))) }
+    ensures { MatchOption result (IsNodeRef one × IsNodeRef two) (AreOpenEnds one two) }
 {
     if !is_node(one) {
         return Some((one, two));
@@ -72,7 +72,7 @@ impl Begun {
         requires join { join < joins_in (event_for self.rewrite) }
         requires rule { rule_between self.rewrite.f self.rewrite.g ≡ Some self.rewrite.rule }
         requires index { index_in self.rewrite.g < 16777215 }
-        ensures { link_between (born_cell parts self.ticket join) result.0 result.1 ≡ link_of parts (event_for self.rewrite) self.ticket (λ s. slice_index self.of_f s) (λ s. slice_index self.of_g s) join }
+        ensures { AreEndsOf parts self join result }
     {
         if is_meeting(self.rewrite.rule) {
             return (self.of_f[join as usize], self.of_g[join as usize]);
@@ -89,9 +89,9 @@ impl Begun {
 impl Shared {
     // Makes the links of a rewrite. Bit j of the answer is set where the pair of join j was published.
     pub(crate) fn link_all(&self, token: &mut Token, begun: Begun) -> u8
-        requires token { (token.old.table_id ≡ self.now.table) × IsUnder self.now.plan token.old.me.0 }
+        requires token { IsTokenOf self.now token.old }
         requires begun { IsBegun self.now.plan.parts token.old.me.0 begun }
-        ensures token { (token.new.table_id ≡ token.old.table_id) × (token.new.me.1 ≡ token.old.me.1) }
+        ensures token { IsSameSeat token.old token.new }
         ensures view { AreLinked self.now.plan.parts token.old.me.0 begun result token.new.me.0 }
     {
         let mut mask: u8 = 0;
@@ -108,11 +108,11 @@ impl Shared {
     // Makes the first pending link, and tells whether its pair was published. `cell` is the left word of
     // its cell.
     fn link(&self, token: &mut Token, cell: u32, one: u64, two: u64) -> bool
-        requires token { (token.old.table_id ≡ self.now.table) × IsUnder self.now.plan token.old.me.0 }
+        requires token { IsTokenOf self.now token.old }
         requires next { IsNext token.old.me.0 cell one two }
         requires ends { IsEndOf self.now.plan.parts one × IsEndOf self.now.plan.parts two }
         requires cell { suc cell < size self.now.plan.parts }
-        ensures token { (token.new.table_id ≡ token.old.table_id) × (token.new.me.1 ≡ token.old.me.1) }
+        ensures token { IsSameSeat token.old token.new }
         ensures view { IsLinked token.old.me.0 cell result token.new.me.0 }
     {
         let mut a = one;
@@ -133,13 +133,13 @@ impl Shared {
     // Puts `other` into the word of `wire`, where these are the ends of the first pending link, and gives
     // what stood there.
     fn exchange(&self, token: &mut Token, wire: u64, other: u64) -> Option<u64>
-        requires token { (token.old.table_id ≡ self.now.table) × IsUnder self.now.plan token.old.me.0 }
+        requires token { IsTokenOf self.now token.old }
         requires next { AreNext token.old.me.0 wire other }
         requires wire { IsWireRef wire × (place_in wire < size self.now.plan.parts) }
-        ensures token { (token.new.table_id ≡ token.old.table_id) × (token.new.me.1 ≡ token.old.me.1) }
-        ensures view { MatchOption result (token.new.me.0 ≡ linked token.old.me.0) (λ found. token.new.me.0 ≡ moved token.old.me.0 (place_in wire) other found) }
-        ensures ends { IfSome result (λ found. IsRefOf self.now.plan.parts other × IsRefOf self.now.plan.parts found) }
-        ensures falls { IfSome result (λ found. (spread (size self.now.plan.parts) token.new.me.0.dead ≡ spread (size self.now.plan.parts) token.old.me.0.dead + 1) × (spread (size self.now.plan.parts) token.new.me.0.dead ≤ size self.now.plan.parts)) }
+        ensures token { IsSameSeat token.old token.new }
+        ensures view { HasExchanged token.old.me.0 wire other result token.new.me.0 }
+        ensures ends { IfSome result (AreRefsOf self.now.plan.parts other) }
+        ensures falls { IfSome result (λ found. LosesWire self.now token.old.me.0 token.new.me.0) }
     {
         let place = self.parts.word_of(wire);
         let found = self
@@ -151,11 +151,11 @@ impl Shared {
 
     // Writes the two nodes of the first pending link into its cell, the right word first.
     fn publish(&self, token: &mut Token, cell: u32, one: u64, two: u64)
-        requires token { (token.old.table_id ≡ self.now.table) × IsUnder self.now.plan token.old.me.0 }
+        requires token { IsTokenOf self.now token.old }
         requires next { IsNext token.old.me.0 cell one two }
         requires nodes { IsNodeRef one × IsNodeRef two }
         requires cell { suc cell < size self.now.plan.parts }
-        ensures token { (token.new.table_id ≡ token.old.table_id) × (token.new.me.1 ≡ token.old.me.1) }
+        ensures token { IsSameSeat token.old token.new }
         ensures view { token.new.me.0 ≡ publishing token.old.me.0 cell }
     {
         self.table

@@ -1,9 +1,7 @@
 //! What the rule of the table says at every moment, as laws.
-ghost use Rattle.atomic_table.specs.Table.{State};
-ghost use Rattle.ol_wire.specs.Rule.{Kept};
+ghost use Rattle.ol_wire.specs.Rule.{Kept, Table};
 ghost use Rattle.ol_wire.specs.Still.{NothingIsOverlooked};
 ghost use Rattle.ol_wire.specs.declared.plan.Plan.{Plan};
-ghost use Rattle.ol_wire.specs.declared.view.View.{View};
 
 use crate::law::Law;
 use crate::plan::Plan;
@@ -13,7 +11,7 @@ use atomic_table::TableRule;
 /// Law: whatever the words and the views are between two steps, the journal so far is a run of the
 /// net that the table was made from, and the words stand for the net after it. `Shared::events` gives such a moment.
 pub fn at_every_moment()
-    ensures { (p : Plan) (s : State (Unit {0}) View) → ⟦<Law as TableRule<(), View, Plan>>⟧.holds p s → Kept p s }
+    ensures { (p : Plan) (s : Table) → ⟦<Law as TableRule<(), View, Plan>>⟧.holds p s → Kept p s }
 {}
 
 /// Law: where no view has a claimed pair or a link to make, and no cell holds an active pair, the net of the journal has

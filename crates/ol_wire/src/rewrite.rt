@@ -3,10 +3,10 @@ ghost use Rattle.std.specs.Prelude.{◌≡◌, ◌+◌, ◌*◌, ◌<◌, ◌≤
 ghost use Rattle.ol_net.specs.Parts.{arity};
 ghost use Rattle.ol_rules.specs.Rewriting.{is_meeting, index_after};
 ghost use Rattle.ol_wire.specs.References.{kind_in, index_in, place_in};
-ghost use Rattle.ol_wire.specs.Events.{rule_between, event_of, earlier, later};
+ghost use Rattle.ol_wire.specs.Events.{rule_between, event_of, earlier, later, IsStuckPair};
 ghost use Rattle.ol_wire.specs.Layout.{block, born_wire};
 ghost use Rattle.ol_wire.specs.Blocks.{copies_of_f, copies_of_g, joins_in, born_ref, born_field, block_words};
-ghost use Rattle.ol_wire.specs.Rewrites.{event_for};
+ghost use Rattle.ol_wire.specs.Rewrites.{event_for, IsRewriteFor};
 ghost use Rattle.ol_wire.specs.Sizes.{IsSmall};
 
 use crate::layout::Parts;
@@ -50,7 +50,7 @@ fn rule_between(f: u64, g: u64) -> Option<Rule>
 
 /// The rewrite of two nodes that face each other, whichever of them acts, if they have a rule.
 pub(crate) fn rewrite_of(left: u64, right: u64) -> Option<Rewrite>
-    ensures { MatchOption result ((rule_between left right ≡ None) × (rule_between right left ≡ None)) (λ w. (event_for w ≡ event_of left right) × (rule_between w.f w.g ≡ Some w.rule)) }
+    ensures { MatchOption result (IsStuckPair left right) (IsRewriteFor left right) }
 {
     if let Some(rule) = rule_between(left, right) {
         return Some(Rewrite {

@@ -2,7 +2,7 @@
 ghost use Rattle.std.specs.Prelude.{◌≡◌, ◌<◌, ◌≤◌, [], false};
 ghost use Rattle.ol_wire.specs.Layout.{cells_of};
 ghost use Rattle.ol_wire.specs.Plays.{fewer, one_seat};
-ghost use Rattle.ol_wire.specs.Stand.{Stand};
+ghost use Rattle.ol_wire.specs.Stand.{Stand, IsAtRest};
 ghost use Rattle.ol_wire.specs.Views.{IsIdle};
 
 use crate::law::Cut;
@@ -28,7 +28,7 @@ impl Model for Seat {
 
     ghost view = { λ s. record { table = s.token.table_id; view = s.token.me.0 } };
 
-    ghost invariant = { λ s. (s.token.me.1 ≡ []) × IsIdle s.token.me.0 × (s.token.me.0.over ≡ s.over) × (s.token.me.0.holds ≡ s.holds) × (0 < s.holds) × (s.token.me.0.swept ≤ cells_of s.token.me.0.parts) };
+    ghost invariant = { λ s. IsAtRest s.token.me s.over s.holds };
 }
 
 impl Seat {

@@ -1,7 +1,7 @@
 //! A look at the whole table, by a seat.
 ghost use Rattle.std.specs.Prelude.{◌≡◌, ℕ, length};
 ghost use Rattle.ol_wire.specs.Moments.{Moment, MomentWith};
-ghost use Rattle.ol_wire.specs.Stand.{IsUnder, IsOf};
+ghost use Rattle.ol_wire.specs.Stand.{IsOf, IsTokenOf, IsSameSeat};
 
 use crate::law::Sees;
 use crate::seat::{Seat, Token};
@@ -27,8 +27,8 @@ impl Shared {
 
     // Reads the ticket word.
     fn see(&self, token: &mut Token) -> u64
-        requires token { (token.old.table_id ≡ self.now.table) × IsUnder self.now.plan token.old.me.0 }
-        ensures token { (token.new.table_id ≡ token.old.table_id) × (token.new.me.1 ≡ token.old.me.1) }
+        requires token { IsTokenOf self.now token.old }
+        ensures token { IsSameSeat token.old token.new }
         ensures view { token.new.me.0 ≡ token.old.me.0 }
         ensures moment { MomentWith self.now.plan token.old.me.0 result }
     {

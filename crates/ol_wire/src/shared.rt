@@ -3,7 +3,7 @@ ghost use Rattle.std.specs.Prelude.{◌≡◌, ◌+◌, ◌<◌, ◌≤◌, [], 
 ghost use Rattle.ol_wire.specs.Layout.{size as size_of, cells_of};
 ghost use Rattle.ol_wire.specs.Sizes.{IsSmall, IsSmallNet};
 ghost use Rattle.ol_wire.specs.Starts.{AreParts};
-ghost use Rattle.ol_wire.specs.Stand.{Board, IsFresh};
+ghost use Rattle.ol_wire.specs.Stand.{Board, IsFresh, IsFreshFor, IsTableOf};
 ghost use Rattle.ol_wire.specs.Views.{fresh};
 
 use crate::law::Law;
@@ -32,7 +32,7 @@ impl Model for Shared {
 
     ghost view = { λ s. record { table = s.table.shared.table_id; plan = s.table.shared.key } };
 
-    ghost invariant = { λ s. (s.table.shared.key.parts ≡ s.parts) × (s.table.shared.key.seats ≡ s.seats) × (s.table.shared.table_id.words ≡ size_of s.parts) × (s.table.shared.table_id.slots ≡ 0) × IsSmall s.parts × (s.seats ≤ 64) };
+    ghost invariant = { λ s. IsTableOf s.table.shared.key s.table.shared.table_id s.parts s.seats };
 }
 
 impl Shared {
@@ -84,7 +84,7 @@ impl Shared {
 
     // Cuts a seat that has done nothing into seats of one each.
     fn deal(&self, alloc: Global, mut seat: Seat, count: u32) -> Result<Vec<Seat>, NoMemory>
-        requires seat { (seat.table ≡ self.now.table) × (seat.view ≡ fresh self.now.plan.parts self.now.plan.start.value self.now.plan.seats count) × (0 < count) }
+        requires seat { IsFreshFor self.now seat count }
         ensures { IfOk result (λ v. (vec_len v ≡ count) × All (IsFresh self.now) v.items) }
     {
         let Ok(mut seats) = Vec::with_capacity(alloc, count as usize) else {

@@ -6,9 +6,9 @@ ghost use Rattle.ol_wire.specs.References.{kind_in, place_in};
 ghost use Rattle.ol_wire.specs.Layout.{size, left_word, cells_of};
 ghost use Rattle.ol_wire.specs.Plays.{IsNodeOf, IsRefOf, IsLookedUp, paired, knowing, ticketed, late, wrote, returned, rest};
 ghost use Rattle.ol_wire.specs.Sizes.{IsSmall};
-ghost use Rattle.ol_wire.specs.Stand.{IsUnder};
+ghost use Rattle.ol_wire.specs.Stand.{IsTokenOf, IsSameSeat};
 ghost use Rattle.ol_wire.specs.Views.{IsIdle};
-ghost use Rattle.ol_wire.specs.Hands.{claiming, missed, IsInHand, IsOfPair};
+ghost use Rattle.ol_wire.specs.Hands.{claiming, missed, IsInHand, IsOfPair, HasClaimed, HoldsLeft, HasPaired, HasDrawn};
 
 use crate::law::{Claims, Draws, Looks, PairsUp, Returns, Writes};
 use crate::layout::Parts;
@@ -29,12 +29,12 @@ impl Parts {
 impl Shared {
     // Exchanges 0 into the left word of a cell, and gives what it read.
     pub(crate) fn claim(&self, token: &mut Token, cell: u32) -> u64
-        requires token { (token.old.table_id ≡ self.now.table) × IsUnder self.now.plan token.old.me.0 }
+        requires token { IsTokenOf self.now token.old }
         requires cell { cell < cells_of self.now.plan.parts }
         requires idle { IsIdle token.old.me.0 }
-        ensures token { (token.new.table_id ≡ token.old.table_id) × (token.new.me.1 ≡ token.old.me.1) }
+        ensures token { IsSameSeat token.old token.new }
         ensures gone { result ≡ 0 → token.new.me.0 ≡ missed token.old.me.0 cell }
-        ensures taken { result ≢ 0 → token.new.me.0 ≡ record (claiming token.old.me.0 cell (result, 0)) { taken = (left_word self.now.plan.parts cell, result) ∷ [] } }
+        ensures taken { result ≢ 0 → HasClaimed self.now token.old.me.0 cell result token.new.me.0 }
         ensures node { result ≢ 0 → IsNodeOf self.now.plan.parts result }
     {
         let word = self.parts.left_word(cell);
@@ -43,11 +43,11 @@ impl Shared {
 
     // Reads the right word of the cell that was claimed last.
     pub(crate) fn pair(&self, token: &mut Token, cell: u32) -> u64
-        requires token { (token.old.table_id ≡ self.now.table) × IsUnder self.now.plan token.old.me.0 }
+        requires token { IsTokenOf self.now token.old }
         requires cell { cell < cells_of self.now.plan.parts }
-        requires taken { token.old.me.0.taken ≡ (left_word self.now.plan.parts cell, token.old.me.0.last.0) ∷ [] }
-        ensures token { (token.new.table_id ≡ token.old.table_id) × (token.new.me.1 ≡ token.old.me.1) }
-        ensures view { token.new.me.0 ≡ paired token.old.me.0 (suc (left_word self.now.plan.parts cell)) result }
+        requires taken { HoldsLeft token.old.me.0 (left_word self.now.plan.parts cell) }
+        ensures token { IsSameSeat token.old token.new }
+        ensures view { HasPaired self.now token.old.me.0 cell result token.new.me.0 }
         ensures node { IsNodeOf self.now.plan.parts result }
     {
         let word = self.parts.left_word(cell) + 1;
@@ -56,11 +56,11 @@ impl Shared {
 
     // Reads the field of an auxiliary slot of one of the two nodes in hand. The slots are counted from 0.
     pub(crate) fn look(&self, token: &mut Token, node: u64, slot: u32) -> u64
-        requires token { (token.old.table_id ≡ self.now.table) × IsUnder self.now.plan token.old.me.0 }
+        requires token { IsTokenOf self.now token.old }
         requires pair { (w : ℕ) × IsInHand token.old.me.0 w }
         requires node { IsOfPair token.old.me.0 node }
         requires slot { slot < arity (kind_in node) }
-        ensures token { (token.new.table_id ≡ token.old.table_id) × (token.new.me.1 ≡ token.old.me.1) }
+        ensures token { IsSameSeat token.old token.new }
         ensures view { token.new.me.0 ≡ knowing token.old.me.0 (place_in node + slot) result }
         ensures same { (y : ℕ) → IsIn (place_in node + slot, y) token.old.me.0.known → y ≡ result }
         ensures found { IsRefOf self.now.plan.parts result }
@@ -71,10 +71,10 @@ impl Shared {
 
     // Draws a ticket for the pair in hand, or finds that the fuel is used up.
     pub(crate) fn draw(&self, token: &mut Token) -> Option<u32>
-        requires token { (token.old.table_id ≡ self.now.table) × IsUnder self.now.plan token.old.me.0 }
+        requires token { IsTokenOf self.now token.old }
         requires pair { (w : ℕ) × IsLookedUp token.old.me.0 w }
-        ensures token { (token.new.table_id ≡ token.old.table_id) × (token.new.me.1 ≡ token.old.me.1) }
-        ensures view { MatchOption result (token.new.me.0 ≡ late token.old.me.0) (λ t. (t < self.now.plan.parts.fuel) × (token.new.me.0 ≡ ticketed token.old.me.0 t)) }
+        ensures token { IsSameSeat token.old token.new }
+        ensures view { HasDrawn self.now token.old.me.0 result token.new.me.0 }
     {
         let ticket = self.table.shared.fetch_add::<Draws>(token, 0, 1);
         if ticket < self.parts.fuel as u64 {
@@ -86,10 +86,10 @@ impl Shared {
 
     // Writes the word that is due first.
     pub(crate) fn write(&self, token: &mut Token, at: u32, word: u64)
-        requires token { (token.old.table_id ≡ self.now.table) × IsUnder self.now.plan token.old.me.0 }
+        requires token { IsTokenOf self.now token.old }
         requires due { token.old.me.0.due ≡ (at, word) ∷ rest token.old.me.0.due }
         requires within { at < size self.now.plan.parts }
-        ensures token { (token.new.table_id ≡ token.old.table_id) × (token.new.me.1 ≡ token.old.me.1) }
+        ensures token { IsSameSeat token.old token.new }
         ensures view { token.new.me.0 ≡ wrote token.old.me.0 }
     {
         self.table.shared.store::<Writes>(token, at as usize, word);
@@ -97,11 +97,11 @@ impl Shared {
 
     // Puts the pair in hand back into its cell.
     pub(crate) fn put_back(&self, token: &mut Token, cell: u32, left: u64)
-        requires token { (token.old.table_id ≡ self.now.table) × IsUnder self.now.plan token.old.me.0 }
+        requires token { IsTokenOf self.now token.old }
         requires cell { cell < cells_of self.now.plan.parts }
         requires pair { IsInHand token.old.me.0 (left_word self.now.plan.parts cell) }
         requires left { left ≡ token.old.me.0.last.0 }
-        ensures token { (token.new.table_id ≡ token.old.table_id) × (token.new.me.1 ≡ token.old.me.1) }
+        ensures token { IsSameSeat token.old token.new }
         ensures view { token.new.me.0 ≡ returned token.old.me.0 }
     {
         let word = self.parts.left_word(cell);

@@ -8,10 +8,10 @@ ghost use Rattle.ol_wire.specs.Layout.{block, left_word, cells_of};
 ghost use Rattle.ol_wire.specs.Blocks.{to_write};
 ghost use Rattle.ol_wire.specs.Plays.{IsNodeOf, event_in};
 ghost use Rattle.ol_wire.specs.Rewrites.{event_for};
-ghost use Rattle.ol_wire.specs.Stand.{IsUnder, IsOf};
+ghost use Rattle.ol_wire.specs.Stand.{IsOf, IsTokenOf, IsSameSeat};
 ghost use Rattle.ol_wire.specs.Views.{IsIdle};
-ghost use Rattle.ol_wire.specs.Hands.{IsStuckLast, missed, in_hand, IsInHand, IsOfPair, fields_known, IsSure, AreFields, AreRefs, Rewrote};
-ghost use Rattle.ol_wire.specs.Turns.{FoundActive, IsRewrote, HasCause, Leaves, Begins};
+ghost use Rattle.ol_wire.specs.Hands.{IsStuckLast, missed, in_hand, IsInHand, IsOfPair, fields_known, IsSure, AreFields, AreRefs, Rewrote, HasTaken, AreNodesOf, MayDraw, KeepsInHand, looked_at, KeepsSure};
+ghost use Rattle.ol_wire.specs.Turns.{FoundActive, IsRewrote, HasCause, Leaves, Begins, FoundStuck, FoundFuel, FoundNoFuel, HasBegun, HasEnded, IsRewriteInHand, HasBegunOrLate, HasFieldsOf};
 
 use crate::reference::kind_in;
 use crate::rewrite::{Rewrite, rewrite_of};
@@ -57,9 +57,9 @@ impl Shared {
         requires cell { cell < cells_of self.now.plan.parts }
         ensures seat { IsOf self.now seat.new }
         ensures gone { (result ≡ Turn.Gone) ↔ (seat.new.view.last.0 ≡ 0) }
-        ensures stuck { (result ≡ Turn.Stuck) ↔ ((seat.new.view.last.0 ≢ 0) × IsStuckLast seat.new.view) }
-        ensures spent { (result ≡ Turn.Spent) ↔ (FoundActive seat.new.view × (seat.new.view.over ≡ true)) }
-        ensures rewrote { IsRewrote result ↔ (FoundActive seat.new.view × (seat.new.view.over ≡ false)) }
+        ensures stuck { (result ≡ Turn.Stuck) ↔ FoundStuck seat.new.view }
+        ensures spent { (result ≡ Turn.Spent) ↔ FoundNoFuel seat.new.view }
+        ensures rewrote { IsRewrote result ↔ FoundFuel seat.new.view }
         ensures claimed { seat.new.view.claimed ≡ seat.old.view.claimed ++ cell ∷ [] }
         ensures others { seat.new.view.holds ≡ seat.old.view.holds }
         ensures view { Leaves self.now.plan.parts seat.old.view cell result seat.new.view }
@@ -84,13 +84,13 @@ impl Shared {
 
     // A turn up to its links: it is over already, or a pair has become a ticket. `over` is the seat's.
     fn begin(&self, token: &mut Token, over: bool, cell: u32) -> Result<Begun, Turn>
-        requires token { (token.old.table_id ≡ self.now.table) × IsUnder self.now.plan token.old.me.0 }
+        requires token { IsTokenOf self.now token.old }
         requires cell { cell < cells_of self.now.plan.parts }
         requires idle { IsIdle token.old.me.0 }
         requires over { token.old.me.0.over ≡ over }
-        ensures token { (token.new.table_id ≡ token.old.table_id) × (token.new.me.1 ≡ token.old.me.1) }
-        ensures begun { IfOk result (λ b. Begins self.now.plan.parts token.old.me.0 cell b token.new.me.0) }
-        ensures ended { IfErr result (λ t. HasCause t token.new.me.0 × Leaves self.now.plan.parts token.old.me.0 cell t token.new.me.0) }
+        ensures token { IsSameSeat token.old token.new }
+        ensures begun { IfOk result (HasBegun self.now token.old.me.0 cell token.new.me.0) }
+        ensures ended { IfErr result (HasEnded self.now token.old.me.0 cell token.new.me.0) }
     {
         let Some((left, right)) = self.take(token, cell) else {
             return Err(Turn::Gone);
@@ -112,12 +112,12 @@ impl Shared {
 
     // Claims a cell, and reads its right word if the left one wasn't empty.
     fn take(&self, token: &mut Token, cell: u32) -> Option<(u64, u64)>
-        requires token { (token.old.table_id ≡ self.now.table) × IsUnder self.now.plan token.old.me.0 }
+        requires token { IsTokenOf self.now token.old }
         requires cell { cell < cells_of self.now.plan.parts }
         requires idle { IsIdle token.old.me.0 }
-        ensures token { (token.new.table_id ≡ token.old.table_id) × (token.new.me.1 ≡ token.old.me.1) }
-        ensures view { MatchOption result (token.new.me.0 ≡ missed token.old.me.0 cell) (λ pair. (pair.0 ≢ 0) × (token.new.me.0 ≡ in_hand token.old.me.0 (left_word self.now.plan.parts cell) cell pair)) }
-        ensures nodes { IfSome result (λ pair. IsNodeOf self.now.plan.parts pair.0 × IsNodeOf self.now.plan.parts pair.1) }
+        ensures token { IsSameSeat token.old token.new }
+        ensures view { HasTaken self.now token.old.me.0 cell result token.new.me.0 }
+        ensures nodes { IfSome result (AreNodesOf self.now.plan.parts) }
     {
         let left = self.claim(token, cell);
         if left == 0 {
@@ -129,14 +129,14 @@ impl Shared {
 
     // Draws a ticket for the pair in hand and writes its words, or finds that the fuel is used up.
     fn rewrite(&self, token: &mut Token, rewrite: Rewrite) -> Option<Begun>
-        requires token { (token.old.table_id ≡ self.now.table) × IsUnder self.now.plan token.old.me.0 }
+        requires token { IsTokenOf self.now token.old }
         requires pair { (w : ℕ) × IsInHand token.old.me.0 w }
-        requires free { (token.old.me.0.due ≡ []) × (token.old.me.0.pending ≡ []) × (token.old.me.0.over ≡ false) }
-        requires rule { (event_for rewrite ≡ event_in token.old.me.0) × (rule_between rewrite.f rewrite.g ≡ Some rewrite.rule) }
-        ensures token { (token.new.table_id ≡ token.old.table_id) × (token.new.me.1 ≡ token.old.me.1) }
-        ensures view { MatchOption result (token.new.me.0 ≡ record token.old.me.0 { known = token.new.me.0.known; over = true }) (λ b. (b.ticket < self.now.plan.parts.fuel) × (b.rewrite ≡ rewrite) × Rewrote token.old.me.0 b.ticket b.of_f b.of_g token.new.me.0) }
-        ensures refs { IfSome result (λ b. AreRefs self.now.plan.parts rewrite.f b.of_f × AreRefs self.now.plan.parts rewrite.g b.of_g) }
-        ensures hand { result ≡ None → (w : ℕ) → IsInHand token.old.me.0 w → IsInHand token.new.me.0 w }
+        requires free { MayDraw token.old.me.0 }
+        requires rule { IsRewriteInHand token.old.me.0 rewrite }
+        ensures token { IsSameSeat token.old token.new }
+        ensures view { HasBegunOrLate self.now token.old.me.0 rewrite result token.new.me.0 }
+        ensures refs { IfSome result (HasFieldsOf self.now.plan.parts rewrite) }
+        ensures hand { result ≡ None → KeepsInHand token.old.me.0 token.new.me.0 }
     {
         let of_f = self.look_at(token, rewrite.f);
         let of_g = self.look_at(token, rewrite.g);
@@ -153,14 +153,14 @@ impl Shared {
 
     // Reads the fields of one of the two nodes in hand.
     fn look_at(&self, token: &mut Token, node: u64) -> [u64; 2]
-        requires token { (token.old.table_id ≡ self.now.table) × IsUnder self.now.plan token.old.me.0 }
+        requires token { IsTokenOf self.now token.old }
         requires pair { (w : ℕ) × IsInHand token.old.me.0 w }
         requires node { IsOfPair token.old.me.0 node }
-        ensures token { (token.new.table_id ≡ token.old.table_id) × (token.new.me.1 ≡ token.old.me.1) }
-        ensures view { token.new.me.0 ≡ record token.old.me.0 { known = fields_known (arity (kind_in node)) (place_in node) result ++ token.old.me.0.known } }
+        ensures token { IsSameSeat token.old token.new }
+        ensures view { token.new.me.0 ≡ looked_at token.old.me.0 node result }
         ensures found { AreFields token.new.me.0.known node result }
         ensures refs { AreRefs self.now.plan.parts node result }
-        ensures keeps { (w y : ℕ) → IsSure token.old.me.0.known w y → IsSure token.new.me.0.known w y }
+        ensures keeps { KeepsSure token.old.me.0.known token.new.me.0.known }
     {
         let slots = kind_in(node).slots();
         if slots == 1 {
@@ -176,10 +176,10 @@ impl Shared {
 
     // Writes those of the first words of a block that aren't empty.
     fn write_block(&self, token: &mut Token, ticket: u32, words: &[u64; 10])
-        requires token { (token.old.table_id ≡ self.now.table) × IsUnder self.now.plan token.old.me.0 }
+        requires token { IsTokenOf self.now token.old }
         requires ticket { ticket < self.now.plan.parts.fuel }
         requires due { token.old.me.0.due ≡ to_write (block self.now.plan.parts ticket) words.now }
-        ensures token { (token.new.table_id ≡ token.old.table_id) × (token.new.me.1 ≡ token.old.me.1) }
+        ensures token { IsSameSeat token.old token.new }
         ensures view { token.new.me.0 ≡ record token.old.me.0 { due = [] } }
     {
         let first = self.parts.block(ticket);
