@@ -1,5 +1,5 @@
 -- A net while its links are found, and what it becomes.
-use Rattle.std.specs.Prelude.{ℕ, nat_lt, if◌then◌else◌, List, [], ◌∷◌}
+use Rattle.std.specs.Prelude.{ℕ, nat_lt, if◌then◌else◌, List, [], ◌∷◌, ◌<◌, length}
 use Rattle.ol_net.specs.declared.parts.Kind.{Kind}
 use Rattle.ol_net.specs.declared.parts.Port.{Port}
 use Rattle.ol_net.specs.Pairing.{other}
@@ -22,3 +22,15 @@ links_below free partners n = each n (link_row free partners)
 pub record IsComplete (free : ℕ) (kinds : List (Kind × ℕ)) (partners : List ℕ) : Type 0 where
   pub tabled : IsTabled free (all_live kinds) partners
   pub indexes : NoneOf (BadIndexAt frozen_top kinds)
+
+-- all links
+abbrev pub all_links : ℕ → List ℕ → List (Port × Port)
+all_links free partners = links_below free partners (length partners)
+
+-- both are places of the table
+abbrev pub AreWithin : List ℕ → ℕ → ℕ → Type 0
+AreWithin partners one two = (one < length partners) × (two < length partners)
+
+-- no partner is outside of the table
+abbrev pub StayWithin : List ℕ → Type 0
+StayWithin partners = (k : ℕ) → k < length partners → other partners k < length partners

@@ -52,3 +52,8 @@ IsPassed w v = IsWireRef v × (w.plan.parts.free < place_in v) × (slice_index w
 -- at is the value after k words, all of wires
 abbrev pub IsValueAfter : ClosedTable → ℕ → ℕ → ℕ → Type 0
 IsValueAfter w first k at = (value_after w.words first k ≡ at) × ((j : ℕ) → j < k → IsPassed w (value_after w.words first j))
+
+-- where the chain of each port ends whose word holds this value
+abbrev pub EndsFrom : ClosedTable → ℕ → End → Type 0
+EndsFrom w first end = (net : NamedNet NodeName) (reached : ℕ → Bool) (e : ℕ) → StandsFor w net reached
+    → IsStart w net reached e first → EndsAt w net reached e end

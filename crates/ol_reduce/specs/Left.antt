@@ -1,12 +1,14 @@
 -- The nodes that are left, and their numbers. Ranks have the order of places: first the start nodes, and then four for each ticket.
-use Rattle.std.specs.Prelude.{◌≡◌, ℕ, ◌+◌, ◌-◌, ◌*◌, ◌/◌, ◌%◌, ◌<◌, ◌≤◌, nat_lt, if◌then◌else◌, Bool, true, List, length, slice_index, slice_get, Some, ◌⊎◌, ◌↔◌}
+use Rattle.std.specs.Prelude.{◌≡◌, ℕ, ◌+◌, ◌-◌, ◌*◌, ◌/◌, ◌%◌, ◌<◌, ◌≤◌, nat_lt, if◌then◌else◌, Bool, true, List, length, slice_index, slice_get, Some, ◌⊎◌, ◌↔◌, ◌++◌, [], ◌∷◌}
 use Rattle.ol_rules.specs.declared.journal.NodeName.{NodeName}
 use Rattle.ol_rules.specs.declared.journal.NodeName.TheVariants.{Init, Born}
 use Rattle.ol_rules.specs.declared.journal.Entry.{Entry}
 use Rattle.ol_wire.specs.declared.layout.Parts.{Parts}
-use Rattle.ol_wire.specs.Layout.{place_of, IsPlaced}
-use Rattle.ol_wire.specs.Closed.{ClosedTable, events_in, journal_in}
+use Rattle.ol_wire.specs.Layout.{place_of, IsPlaced, size}
+use Rattle.ol_wire.specs.Closed.{ClosedTable, events_in, journal_in, event_at, events_drawn}
 use Rattle.ol_wire.specs.Standing.{IsMadeNode, IsUntouched}
+use Rattle.ol_wire.specs.Blocks.{copies_of_f, copies_of_g}
+use Rattle.ol_wire.specs.Sizes.{IsSmall}
 
 abbrev pub rank_of : Parts → NodeName → ℕ
 rank_of z (Init k) = k
@@ -39,3 +41,45 @@ pub record AreLeft (w : ClosedTable) (n : ℕ) (places numbers : List ℕ) : Typ
   pub rising : (j k : ℕ) → j < k → k < length places → slice_index places j < slice_index places k
   pub found : (r : ℕ) → r < n → IsLeft w (name_of_rank w.plan.parts r) →
       (0 < slice_index numbers r) × (slice_index numbers r ≤ length places) × (slice_index places (slice_index numbers r - 1) ≡ place_of w.plan.parts (name_of_rank w.plan.parts r))
+
+-- how many nodes a ticket made
+abbrev pub births_at : ClosedTable → ℕ → ℕ
+births_at w t = copies_of_f (event_at w.plan.parts w.words t) + copies_of_g (event_at w.plan.parts w.words t)
+
+-- the parts are small, and there are as many words as they say
+abbrev pub IsSmallTable : ClosedTable → Type 0
+IsSmallTable w = IsSmall w.plan.parts × (length w.words ≡ size w.plan.parts)
+
+-- at most as many tickets were drawn as there are
+abbrev pub IsWithinFuel : ClosedTable → Type 0
+IsWithinFuel w = events_drawn w ≤ w.plan.parts.fuel
+
+-- beside those that were marked before, the node of that name is
+abbrev pub IsMarkedToo : Parts → ℕ → List Bool → NodeName → List Bool → Type 0
+IsMarkedToo z events old name new = (x : NodeName) → IsPlaced z events x
+    → (slice_get new (rank_of z x) ≡ Some true) ↔ ((slice_get old (rank_of z x) ≡ Some true) ⊎ (name ≡ x))
+
+-- the node has this name, by its place or by its rank
+abbrev pub IsPlaceOfSome : Parts → ℕ → Type 0
+IsPlaceOfSome z place = (x : NodeName) × IsPlaced z z.fuel x × (place ≡ place_of z x)
+
+abbrev pub IsRankAt : Parts → ℕ → ℕ → Type 0
+IsRankAt z place rank = (x : NodeName) → IsPlaced z z.fuel x → place ≡ place_of z x → rank ≡ rank_of z x
+
+abbrev pub IsRankOf : Parts → ℕ → NodeName → ℕ → Type 0
+IsRankOf z events name rank = IsPlaced z events name × (rank ≡ rank_of z name)
+
+-- the place of a node that is left
+abbrev pub IsPlaceLeft : ClosedTable → ℕ → Type 0
+IsPlaceLeft w place = (x : NodeName) × IsPlaced w.plan.parts (events_drawn w) x × IsLeft w x × (place ≡ place_of w.plan.parts x)
+
+-- the ranks of the start and of the first t tickets
+abbrev pub AreLeftTo : ClosedTable → ℕ → List ℕ → List ℕ → Type 0
+AreLeftTo w t places numbers = AreLeft w (w.plan.parts.nodes + 4 * t) places numbers
+
+-- the next rank, by whether its node is left
+abbrev pub places_with : List ℕ → Bool → ℕ → List ℕ
+places_with places is_left place = if is_left then places ++ place ∷ [] else places
+
+abbrev pub numbers_with : List ℕ → List ℕ → Bool → List ℕ
+numbers_with places numbers is_left = numbers ++ (if is_left then length places + 1 else 0) ∷ []

@@ -6,4 +6,5 @@ pub mod Turned
 pub mod Works
 pub mod Reduced
 pub mod Found
+pub mod Linked
 pub mod Used

@@ -7,6 +7,7 @@ use Rattle.ol_wire.specs.declared.turning.Turn.TheVariants.{Spent}
 use Rattle.ol_wire.specs.declared.view.View.{View}
 use Rattle.ol_wire.specs.Layout.{cells_of}
 use Rattle.ol_wire.specs.Turns.{HasCause, Leaves}
+use Rattle.ol_wire.specs.Stand.{Board}
 
 -- the cells below n, in order
 abbrev pub cells_below : ℕ → List ℕ
@@ -30,3 +31,24 @@ HasSpent z v cells c n = (m : View) × HasTurned z v cells m × IsTurn z m c Spe
 -- Turns claim their cells, in order.
 abbrev pub TurnsTell : Type 0
 TurnsTell = (z : Parts) (v n : View) (cells : List ℕ) → HasTurned z v cells n → n.claimed ≡ v.claimed ++ cells
+
+-- Turns on all cells in order led from v to n, and none of them answered Spent; or one of them did, the last one.
+abbrev pub HasSwept : Board → View → View → Type 0
+HasSwept b v n = HasTurned b.plan.parts v (cells_below (cells_of b.plan.parts)) n
+
+abbrev pub HasSweptToSpent : Board → View → View → Type 0
+HasSweptToSpent b v n = (c : ℕ) × HasSpent b.plan.parts v (cells_below c) c n
+
+-- one turn on cell c answered Spent, or another answer
+abbrev pub IsSpentTurn : Board → View → ℕ → View → Type 0
+IsSpentTurn b v c n = IsTurn b.plan.parts v c Spent n
+
+abbrev pub IsOtherTurn : Board → View → ℕ → View → Type 0
+IsOtherTurn b v c n = (t : Turn) × IsTurn b.plan.parts v c t n × (t ≢ Spent)
+
+-- turns on some cells, of which none answered Spent, or just the last one
+abbrev pub HasWorked : Board → View → View → Type 0
+HasWorked b v n = (cells : List ℕ) × HasTurned b.plan.parts v cells n
+
+abbrev pub HasWorkedToSpent : Board → View → View → Type 0
+HasWorkedToSpent b v n = (cells : List ℕ) × (c : ℕ) × HasSpent b.plan.parts v cells c n

@@ -3,7 +3,7 @@ ghost use Rattle.std.specs.Prelude.{◌≡◌, ℕ, Bool};
 ghost use Rattle.ol_net.specs.Nets.{NamedNet};
 ghost use Rattle.ol_rules.specs.declared.journal.NodeName.{NodeName};
 ghost use Rattle.ol_wire.specs.Standing.{StandsFor};
-ghost use Rattle.ol_reduce.specs.Following.{IsFirst, IsStart, EndsAt};
+ghost use Rattle.ol_reduce.specs.Following.{IsFirst, IsStart, EndsAt, EndsFrom};
 
 use crate::reading::word_at;
 use ol_wire::{Parts, Words, is_node, place_in};
@@ -23,7 +23,7 @@ pub(crate) enum End {
 pub(crate) fn follow(words: &Words, parts: Parts, first: u64) -> End
     requires parts { parts ≡ words.now.plan.parts }
     requires first { IsFirst words.now first }
-    ensures { (net : NamedNet NodeName) (reached : ℕ → Bool) (e : ℕ) → StandsFor words.now net reached → IsStart words.now net reached e first → EndsAt words.now net reached e result }
+    ensures { EndsFrom words.now first result }
 {
     let mut at = first;
     for step in 0..parts.size() {

@@ -3,7 +3,7 @@ ghost use Rattle.std.specs.Prelude.{◌≡◌, ℕ, ◌+◌, ◌*◌, ◌<◌, �
 ghost use Rattle.ol_net.specs.Build.{Builds};
 ghost use Rattle.ol_net.specs.Graph.{port_at};
 ghost use Rattle.ol_net.specs.Pairing.{other, linked};
-ghost use Rattle.ol_reduce.specs.Drafts.{frozen_top, links_below, IsComplete};
+ghost use Rattle.ol_reduce.specs.Drafts.{frozen_top, links_below, IsComplete, all_links, AreWithin, StayWithin};
 
 use ol_io::NoMemory;
 use ol_net::{BuildFault, Kind, Net, NodeId, Port};
@@ -82,7 +82,7 @@ impl Draft {
 
     /// Two places become partners.
     pub(crate) fn link(&mut self, one: usize, other: usize)
-        requires { (one < length self.old.partners.items) × (other < length self.old.partners.items) }
+        requires { AreWithin self.old.partners.items one other }
         ensures free { self.new.free ≡ self.old.free }
         ensures kinds { self.new.kinds.items ≡ self.old.kinds.items }
         ensures partners { self.new.partners.items ≡ linked self.old.partners.items one other }
@@ -104,8 +104,8 @@ impl Draft {
     // Each link once, from the lower place.
     fn links(&self, alloc: Global) -> Result<Vec<(Port, Port)>, NoMemory>
         requires few { length self.now.partners.items < 100000000 }
-        requires within { (k : ℕ) → k < length self.now.partners.items → other self.now.partners.items k < length self.now.partners.items }
-        ensures { IfOk result (λ v. v.items ≡ links_below self.now.free self.now.partners.items (length self.now.partners.items)) }
+        requires within { StayWithin self.now.partners.items }
+        ensures { IfOk result (λ v. v.items ≡ all_links self.now.free self.now.partners.items) }
     {
         let mut links = Vec::new(alloc);
         for place in 0..self.partners.len() {
@@ -124,7 +124,7 @@ impl Draft {
     pub(crate) fn build(self, alloc: Global) -> Result<Net, NoMemory>
         requires few { (length self.kinds.items ≤ 10000000) × (length self.partners.items < 100000000) }
         requires complete { IsComplete self.free self.kinds.items self.partners.items }
-        ensures { IfOk result (Builds frozen_top self.free self.kinds.items (links_below self.free self.partners.items (length self.partners.items))) }
+        ensures { IfOk result (Builds frozen_top self.free self.kinds.items (all_links self.free self.partners.items)) }
     {
         let links = self.links(alloc)?;
         let Draft {

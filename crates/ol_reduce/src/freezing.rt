@@ -4,11 +4,12 @@ ghost use Rattle.ol_net.specs.Nets.{NamedNet};
 ghost use Rattle.ol_net.specs.Pairing.{linked};
 ghost use Rattle.ol_rules.specs.declared.journal.NodeName.{NodeName};
 ghost use Rattle.ol_wire.specs.Layout.{size, cells_of};
-ghost use Rattle.ol_wire.specs.Closed.{IsAfter};
+ghost use Rattle.ol_wire.specs.Closed.{EachAfter};
 ghost use Rattle.ol_reduce.specs.Left.{ranks_in, AreLeft};
 ghost use Rattle.ol_reduce.specs.Frozen.{IsFrozen};
 ghost use Rattle.ol_reduce.specs.Used.{words_used, cells_used};
 ghost use Rattle.ol_reduce.specs.Found.{IsPartly, AreMetTo, AreCelledTo, IsNodeIn, IsSiteIn, IsWordAt, KeepsKnown, KeepsPartners};
+ghost use Rattle.ol_reduce.specs.Linked.{AreAllLeft, IsRight, AreCellsLinked, HasCells, HasPorts, HasFree, HasNodes, HasAll, AreAllMet, KeepsKinds, KeepsLinks, IsOwner, IsOtherIn, WaitsThere, MeetsThere};
 
 use crate::chains::{End, follow};
 use crate::draft::Draft;
@@ -23,7 +24,7 @@ use std::alloc::Global;
 /// those that a ticket made, by ticket, which is the order of their places in the words. `NoMemory`: no memory was
 /// found for it. It looks only at the words of the start and of tickets that were drawn, however great the fuel was.
 pub fn freeze(alloc: Global, words: &Words) -> Result<Net, NoMemory>
-    ensures frozen { IfOk result (λ g. (net : NamedNet NodeName) → IsAfter words.now net → IsFrozen net g) }
+    ensures frozen { IfOk result (λ g. EachAfter words.now (λ net. IsFrozen net g)) }
 {
     words.stands();
     words.runs();
@@ -36,16 +37,16 @@ pub fn freeze(alloc: Global, words: &Words) -> Result<Net, NoMemory>
 
 // The place of slot 0 of the node of a reference, whose kind and index are told by it.
 fn arrive(words: &Words, live: &Live, draft: &mut Draft, reference: u64) -> usize
-    requires live { AreLeft words.now (ranks_in words.now) live.now.places.items live.now.numbers.items }
+    requires live { AreAllLeft words.now live.now }
     requires free { draft.old.free ≡ words.now.plan.parts.free }
-    requires before { IsPartly words.now live.now.places.items draft.old.kinds.items draft.old.partners.items }
+    requires before { IsRight words.now live.now draft.old }
     requires node { IsNodeIn words.now reference }
     ensures free { draft.new.free ≡ draft.old.free }
     ensures partners { draft.new.partners.items ≡ draft.old.partners.items }
     ensures within { result < length draft.old.partners.items }
-    ensures after { IsPartly words.now live.now.places.items draft.new.kinds.items draft.new.partners.items }
+    ensures after { IsRight words.now live.now draft.new }
     ensures site { IsSiteIn words.now live.now.places.items draft.new.kinds.items reference result }
-    ensures keeps { KeepsKnown words.now live.now.places.items draft.old.kinds.items draft.new.kinds.items }
+    ensures keeps { KeepsKinds words.now live.now draft.old draft.new }
 {
     words.stands();
     let node = live.number_at(words, place_in(reference));
@@ -55,12 +56,12 @@ fn arrive(words: &Words, live: &Live, draft: &mut Draft, reference: u64) -> usiz
 
 // Links the two nodes of a cell, if it isn't empty.
 fn link_cell(words: &Words, live: &Live, draft: &mut Draft, cell: u32)
-    requires live { AreLeft words.now (ranks_in words.now) live.now.places.items live.now.numbers.items }
+    requires live { AreAllLeft words.now live.now }
     requires free { draft.old.free ≡ words.now.plan.parts.free }
     requires cell { cell < cells_of words.now.plan.parts }
-    requires before { IsPartly words.now live.now.places.items draft.old.kinds.items draft.old.partners.items × AreCelledTo words.now live.now.places.items draft.old.partners.items cell }
+    requires before { HasCells words.now live.now draft.old cell }
     ensures free { draft.new.free ≡ draft.old.free }
-    ensures after { IsPartly words.now live.now.places.items draft.new.kinds.items draft.new.partners.items × AreCelledTo words.now live.now.places.items draft.new.partners.items (cell + 1) }
+    ensures after { HasCells words.now live.now draft.new (cell + 1) }
 {
     words.stands();
     let at = words.parts().left_word(cell);
@@ -92,11 +93,11 @@ fn cells_used(words: &Words) -> u32
 
 // Links the two nodes of each cell that isn't empty. The cells of tickets that weren't drawn are empty.
 fn link_cells(words: &Words, live: &Live, draft: &mut Draft)
-    requires live { AreLeft words.now (ranks_in words.now) live.now.places.items live.now.numbers.items }
+    requires live { AreAllLeft words.now live.now }
     requires free { draft.old.free ≡ words.now.plan.parts.free }
-    requires before { IsPartly words.now live.now.places.items draft.old.kinds.items draft.old.partners.items }
+    requires before { IsRight words.now live.now draft.old }
     ensures free { draft.new.free ≡ draft.old.free }
-    ensures after { IsPartly words.now live.now.places.items draft.new.kinds.items draft.new.partners.items × AreCelledTo words.now live.now.places.items draft.new.partners.items (cells_of words.now.plan.parts) }
+    ensures after { HasCells words.now live.now draft.new (cells_of words.now.plan.parts) }
 {
     words.stands();
     words.undrawn();
@@ -110,11 +111,11 @@ fn link_cells(words: &Words, live: &Live, draft: &mut Draft)
 fn meet(draft: &mut Draft, met: &mut Vec<u32>, place: usize, wire: u32)
     requires wire { wire < length met.old.items }
     requires place { (place < length draft.old.partners.items) × (place < 100000000) }
-    requires other { slice_index met.old.items wire ≢ 0 → slice_index met.old.items wire - 1 < length draft.old.partners.items }
+    requires other { IsOtherIn draft.old met.old.items wire }
     ensures free { draft.new.free ≡ draft.old.free }
     ensures kinds { draft.new.kinds.items ≡ draft.old.kinds.items }
-    ensures waits { slice_index met.old.items wire ≡ 0 → (met.new.items ≡ slice_set met.old.items wire (place + 1)) × (draft.new.partners.items ≡ draft.old.partners.items) }
-    ensures links { slice_index met.old.items wire ≢ 0 → (met.new.items ≡ met.old.items) × (draft.new.partners.items ≡ linked draft.old.partners.items place (slice_index met.old.items wire - 1)) }
+    ensures waits { WaitsThere draft.old met.old.items place wire draft.new met.new.items }
+    ensures links { MeetsThere draft.old met.old.items place wire draft.new met.new.items }
 {
     let before = met[wire as usize];
     if before == 0 {
@@ -133,17 +134,17 @@ fn link_one(
     place: usize,
     at: u32,
 )
-    requires live { AreLeft words.now (ranks_in words.now) live.now.places.items live.now.numbers.items }
+    requires live { AreAllLeft words.now live.now }
     requires free { draft.old.free ≡ words.now.plan.parts.free }
     requires met { length met.old.items ≡ words_used words.now }
     requires at { at < size words.now.plan.parts }
-    requires place { (place < length draft.old.partners.items) × ((n : ℕ) → place ≢ words.now.plan.parts.free + 3 * n) }
+    requires place { IsOwner words.now draft.old place }
     requires word { IsWordAt words.now live.now.places.items place at }
-    requires before { IsPartly words.now live.now.places.items draft.old.kinds.items draft.old.partners.items × AreMetTo words.now live.now.places.items draft.old.partners.items met.old.items place }
+    requires before { HasPorts words.now live.now draft.old met.old.items place }
     ensures free { draft.new.free ≡ draft.old.free }
     ensures met { length met.new.items ≡ length met.old.items }
-    ensures keeps { KeepsPartners draft.old.partners.items draft.new.partners.items × (length draft.new.partners.items ≡ length draft.old.partners.items) }
-    ensures after { IsPartly words.now live.now.places.items draft.new.kinds.items draft.new.partners.items × AreMetTo words.now live.now.places.items draft.new.partners.items met.new.items (place + 1) }
+    ensures keeps { KeepsLinks draft.old draft.new }
+    ensures after { HasPorts words.now live.now draft.new met.new.items (place + 1) }
 {
     words.stands();
     let first = word_at(words, at);
@@ -162,14 +163,14 @@ fn link_one(
 
 // Walks the chain of each free port that has a word.
 fn link_ports(words: &Words, live: &Live, draft: &mut Draft, met: &mut Vec<u32>)
-    requires live { AreLeft words.now (ranks_in words.now) live.now.places.items live.now.numbers.items }
+    requires live { AreAllLeft words.now live.now }
     requires free { draft.old.free ≡ words.now.plan.parts.free }
     requires met { length met.old.items ≡ words_used words.now }
-    requires before { IsPartly words.now live.now.places.items draft.old.kinds.items draft.old.partners.items × AreMetTo words.now live.now.places.items draft.old.partners.items met.old.items 0 }
+    requires before { HasPorts words.now live.now draft.old met.old.items 0 }
     ensures free { draft.new.free ≡ draft.old.free }
     ensures met { length met.new.items ≡ length met.old.items }
-    ensures keeps { KeepsPartners draft.old.partners.items draft.new.partners.items × (length draft.new.partners.items ≡ length draft.old.partners.items) }
-    ensures after { IsPartly words.now live.now.places.items draft.new.kinds.items draft.new.partners.items × AreMetTo words.now live.now.places.items draft.new.partners.items met.new.items words.now.plan.parts.free }
+    ensures keeps { KeepsLinks draft.old draft.new }
+    ensures after { HasFree words.now live.now draft.new met.new.items }
 {
     words.stands();
     for port in 0..words.parts().free {
@@ -179,15 +180,15 @@ fn link_ports(words: &Words, live: &Live, draft: &mut Draft, met: &mut Vec<u32>)
 
 // Walks the chains of the fields of a node.
 fn link_node(words: &Words, live: &Live, draft: &mut Draft, met: &mut Vec<u32>, node: u32)
-    requires live { AreLeft words.now (ranks_in words.now) live.now.places.items live.now.numbers.items }
+    requires live { AreAllLeft words.now live.now }
     requires free { draft.old.free ≡ words.now.plan.parts.free }
     requires met { length met.old.items ≡ words_used words.now }
     requires node { node < length live.now.places.items }
-    requires before { IsPartly words.now live.now.places.items draft.old.kinds.items draft.old.partners.items × AreMetTo words.now live.now.places.items draft.old.partners.items met.old.items (words.now.plan.parts.free + 3 * node) }
+    requires before { HasNodes words.now live.now draft.old met.old.items node }
     ensures free { draft.new.free ≡ draft.old.free }
     ensures met { length met.new.items ≡ length met.old.items }
-    ensures keeps { KeepsPartners draft.old.partners.items draft.new.partners.items × (length draft.new.partners.items ≡ length draft.old.partners.items) }
-    ensures after { IsPartly words.now live.now.places.items draft.new.kinds.items draft.new.partners.items × AreMetTo words.now live.now.places.items draft.new.partners.items met.new.items (words.now.plan.parts.free + 3 * (node + 1)) }
+    ensures keeps { KeepsLinks draft.old draft.new }
+    ensures after { HasNodes words.now live.now draft.new met.new.items (node + 1) }
 {
     words.stands();
     let at = live.places[node as usize];
@@ -199,13 +200,13 @@ fn link_node(words: &Words, live: &Live, draft: &mut Draft, met: &mut Vec<u32>, 
 
 // Walks the chains of the fields of all nodes.
 fn link_nodes(words: &Words, live: &Live, draft: &mut Draft, met: &mut Vec<u32>)
-    requires live { AreLeft words.now (ranks_in words.now) live.now.places.items live.now.numbers.items }
+    requires live { AreAllLeft words.now live.now }
     requires free { draft.old.free ≡ words.now.plan.parts.free }
     requires met { length met.old.items ≡ words_used words.now }
-    requires before { IsPartly words.now live.now.places.items draft.old.kinds.items draft.old.partners.items × AreMetTo words.now live.now.places.items draft.old.partners.items met.old.items words.now.plan.parts.free }
+    requires before { HasFree words.now live.now draft.old met.old.items }
     ensures free { draft.new.free ≡ draft.old.free }
-    ensures keeps { KeepsPartners draft.old.partners.items draft.new.partners.items × (length draft.new.partners.items ≡ length draft.old.partners.items) }
-    ensures after { IsPartly words.now live.now.places.items draft.new.kinds.items draft.new.partners.items × AreMetTo words.now live.now.places.items draft.new.partners.items met.new.items (length draft.new.partners.items) }
+    ensures keeps { KeepsLinks draft.old draft.new }
+    ensures after { HasAll words.now live.now draft.new met.new.items }
 {
     words.stands();
     for node in 0..live.count() {
@@ -215,13 +216,13 @@ fn link_nodes(words: &Words, live: &Live, draft: &mut Draft, met: &mut Vec<u32>)
 
 // Walks all chains.
 fn link_chains(alloc: Global, words: &Words, live: &Live, draft: &mut Draft) -> Result<(), NoMemory>
-    requires live { AreLeft words.now (ranks_in words.now) live.now.places.items live.now.numbers.items }
+    requires live { AreAllLeft words.now live.now }
     requires free { draft.old.free ≡ words.now.plan.parts.free }
-    requires before { IsPartly words.now live.now.places.items draft.old.kinds.items draft.old.partners.items × AreCelledTo words.now live.now.places.items draft.old.partners.items (cells_of words.now.plan.parts) }
+    requires before { HasCells words.now live.now draft.old (cells_of words.now.plan.parts) }
     ensures free { OnOk result (draft.new.free ≡ draft.old.free) }
-    ensures after { OnOk result (IsPartly words.now live.now.places.items draft.new.kinds.items draft.new.partners.items) }
-    ensures celled { OnOk result (AreCelledTo words.now live.now.places.items draft.new.partners.items (cells_of words.now.plan.parts)) }
-    ensures walked { OnOk result ((met : List ℕ) × AreMetTo words.now live.now.places.items draft.new.partners.items met (length draft.new.partners.items)) }
+    ensures after { OnOk result (IsRight words.now live.now draft.new) }
+    ensures celled { OnOk result (AreCellsLinked words.now live.now draft.new) }
+    ensures walked { OnOk result (AreAllMet words.now live.now draft.new) }
 {
     words.stands();
     let mut met = Vec::new(alloc);

@@ -6,6 +6,7 @@ ghost use Rattle.ol_wire.specs.Sizes.{IsSmallNet};
 ghost use Rattle.ol_wire.specs.Stand.{IsFresh, IsOf};
 ghost use Rattle.ol_wire.specs.Starts.{AreParts};
 ghost use Rattle.ol_reduce.specs.Works.{IsSeated, IsWorker};
+ghost use Rattle.ol_wire.specs.Closed.{HasSweptAll};
 
 use crate::answers::Sweep;
 use crate::sweeping::sweep;
@@ -39,7 +40,7 @@ pub(crate) fn run_workers<R: Threads + Wait + Sync, G: Gate + Sync>(
     ensures parts { IfOk result (λ r. AreParts net.now fuel r.0.plan.parts) }
     ensures start { IfOk result (λ r. r.0.plan.start.value ≡ net.now) }
     ensures seats { IfOk result (λ r. r.0.plan.seats ≡ workers) }
-    ensures clean { IfOk result (λ r. r.1 ≡ Sweep.Clean → r.0.view.swept ≡ cells_of r.0.plan.parts) }
+    ensures clean { IfOk result (λ r. r.1 ≡ Sweep.Clean → HasSweptAll r.0) }
     ensures spent { IfOk result (λ r. r.1 ≡ Sweep.Spent → r.0.view.over ≡ true) }
 {
     let (shared, seats) = Shared::make(alloc, net, fuel, workers)?;

@@ -4,10 +4,10 @@ ghost use Rattle.ol_net.specs.Parts.{arity};
 ghost use Rattle.ol_rules.specs.declared.journal.NodeName.{NodeName};
 ghost use Rattle.ol_rules.specs.Rewriting.{is_meeting};
 ghost use Rattle.ol_wire.specs.Blocks.{copies_of_f, copies_of_g};
-ghost use Rattle.ol_wire.specs.Closed.{ClosedTable, events_in, event_at};
+ghost use Rattle.ol_wire.specs.Closed.{ClosedTable, events_in, event_at, events_drawn};
 ghost use Rattle.ol_wire.specs.Layout.{place_of, size, IsPlaced};
 ghost use Rattle.ol_wire.specs.Sizes.{IsSmall};
-ghost use Rattle.ol_reduce.specs.Left.{rank_of, name_of_rank, ranks_in, IsLeft, AreMarked, AreLeft};
+ghost use Rattle.ol_reduce.specs.Left.{rank_of, name_of_rank, ranks_in, IsLeft, AreMarked, AreLeft, births_at, IsSmallTable, IsWithinFuel, IsMarkedToo, IsPlaceOfSome, IsRankAt, IsRankOf, IsPlaceLeft, AreLeftTo, places_with, numbers_with};
 
 use crate::reading::word_at;
 use ol_io::NoMemory;
@@ -28,7 +28,7 @@ pub(crate) struct Live {
 // The rank of a name. `None`: no node can have the name after so many tickets.
 fn rank_of(parts: Parts, events: u32, name: NodeName) -> Option<u32>
     requires { IsSmall parts × (events ≤ 2000000) }
-    ensures { MatchOption result (IsPlaced parts events name → ⊥) (λ r. IsPlaced parts events name × (r ≡ rank_of parts name)) }
+    ensures { MatchOption result (IsPlaced parts events name → ⊥) (IsRankOf parts events name) }
 {
     match name {
         NodeName::Init(node) => {
@@ -66,9 +66,9 @@ fn arity(kind: Kind) -> u32
 
 // How many nodes a ticket made.
 fn births(words: &Words, ticket: u32) -> u32
-    requires small { IsSmall words.now.plan.parts × (length words.now.words ≡ size words.now.plan.parts) }
-    requires drawn { ticket < events_in words.now.plan.parts words.now.words }
-    ensures { result ≡ copies_of_f (event_at words.now.plan.parts words.now.words ticket) + copies_of_g (event_at words.now.plan.parts words.now.words ticket) }
+    requires small { IsSmallTable words.now }
+    requires drawn { ticket < events_drawn words.now }
+    ensures { result ≡ births_at words.now ticket }
 {
     let Some(entry) = words.journal(ticket) else {
         return 0;
@@ -85,7 +85,7 @@ fn mark(parts: Parts, events: u32, marks: &mut Vec<bool>, name: NodeName)
     requires small { IsSmall parts × (events ≤ 2000000) }
     requires long { length marks.old.items ≡ parts.nodes + 4 * events }
     ensures long { length marks.new.items ≡ length marks.old.items }
-    ensures marked { (x : NodeName) → IsPlaced parts events x → (slice_get marks.new.items (rank_of parts x) ≡ Some true) ↔ ((slice_get marks.old.items (rank_of parts x) ≡ Some true) ⊎ (name ≡ x)) }
+    ensures marked { IsMarkedToo parts events marks.old.items name marks.new.items }
 {
     if let Some(rank) = rank_of(parts, events, name) {
         marks[rank as usize] = true;
@@ -95,8 +95,8 @@ fn mark(parts: Parts, events: u32, marks: &mut Vec<bool>, name: NodeName)
 // By rank, whether a ticket rewrote the node.
 fn rewritten(alloc: Global, words: &Words) -> Result<Vec<bool>, NoMemory>
     requires small { IsSmall words.now.plan.parts }
-    requires drawn { events_in words.now.plan.parts words.now.words ≤ 2000000 }
-    ensures { IfOk result (λ v. AreMarked words.now (events_in words.now.plan.parts words.now.words) v.items) }
+    requires drawn { events_drawn words.now ≤ 2000000 }
+    ensures { IfOk result (λ v. AreMarked words.now (events_drawn words.now) v.items) }
 {
     let parts = words.parts();
     let events = words.events();
@@ -116,8 +116,8 @@ fn rewritten(alloc: Global, words: &Words) -> Result<Vec<bool>, NoMemory>
 // The rank of the node with that place.
 fn rank_at(parts: Parts, place: u32) -> u32
     requires small { IsSmall parts }
-    requires place { (x : NodeName) × IsPlaced parts parts.fuel x × (place ≡ place_of parts x) }
-    ensures { (x : NodeName) → IsPlaced parts parts.fuel x → place ≡ place_of parts x → result ≡ rank_of parts x }
+    requires place { IsPlaceOfSome parts place }
+    ensures { IsRankAt parts place result }
 {
     if place < parts.start_wire(0) {
         return (place - parts.start_node(0)) / 2;
@@ -138,8 +138,8 @@ fn put(numbers: &mut Vec<u32>, number: u32) -> Result<(), NoMemory>
 impl Live {
     /// The nodes that the words tell as left.
     pub(crate) fn find(alloc: Global, words: &Words) -> Result<Live, NoMemory>
-        requires small { IsSmall words.now.plan.parts × (length words.now.words ≡ size words.now.plan.parts) }
-        requires drawn { events_in words.now.plan.parts words.now.words ≤ words.now.plan.parts.fuel }
+        requires small { IsSmallTable words.now }
+        requires drawn { IsWithinFuel words.now }
         ensures { IfOk result (λ live. AreLeft words.now (ranks_in words.now) live.places.items live.numbers.items) }
     {
         let marks = rewritten(alloc, words)?;
@@ -159,11 +159,11 @@ impl Live {
 
     // The four ranks of a ticket.
     fn add_born(&mut self, words: &Words, marks: &Vec<bool>, ticket: u32) -> Result<(), NoMemory>
-        requires small { IsSmall words.now.plan.parts × (length words.now.words ≡ size words.now.plan.parts) }
-        requires drawn { (events_in words.now.plan.parts words.now.words ≤ words.now.plan.parts.fuel) × (ticket < events_in words.now.plan.parts words.now.words) }
-        requires marked { AreMarked words.now (events_in words.now.plan.parts words.now.words) marks.now.items }
-        requires before { AreLeft words.now (words.now.plan.parts.nodes + 4 * ticket) self.old.places.items self.old.numbers.items }
-        ensures { OnOk result (AreLeft words.now (words.now.plan.parts.nodes + 4 * (ticket + 1)) self.new.places.items self.new.numbers.items) }
+        requires small { IsSmallTable words.now }
+        requires drawn { IsWithinFuel words.now × (ticket < events_drawn words.now) }
+        requires marked { AreMarked words.now (events_drawn words.now) marks.now.items }
+        requires before { AreLeftTo words.now ticket self.old.places.items self.old.numbers.items }
+        ensures { OnOk result (AreLeftTo words.now (ticket + 1) self.new.places.items self.new.numbers.items) }
     {
         let parts = words.parts();
         let births = births(words, ticket);
@@ -178,8 +178,8 @@ impl Live {
     // The next rank.
     fn add(&mut self, is_left: bool, place: u32) -> Result<(), NoMemory>
         requires few { length self.old.places.items < 100000000 }
-        ensures places { OnOk result (self.new.places.items ≡ (if is_left then self.old.places.items ++ place ∷ [] else self.old.places.items)) }
-        ensures numbers { OnOk result (self.new.numbers.items ≡ self.old.numbers.items ++ (if is_left then length self.old.places.items + 1 else 0) ∷ []) }
+        ensures places { OnOk result (self.new.places.items ≡ places_with self.old.places.items is_left place) }
+        ensures numbers { OnOk result (self.new.numbers.items ≡ numbers_with self.old.places.items self.old.numbers.items is_left) }
     {
         if !is_left {
             return put(&mut self.numbers, 0);
@@ -199,9 +199,9 @@ impl Live {
 
     /// The number of the node with that place.
     pub(crate) fn number_at(&self, words: &Words, place: u32) -> u32
-        requires small { IsSmall words.now.plan.parts × (events_in words.now.plan.parts words.now.words ≤ words.now.plan.parts.fuel) }
+        requires small { IsSmall words.now.plan.parts × IsWithinFuel words.now }
         requires live { AreLeft words.now (ranks_in words.now) self.now.places.items self.now.numbers.items }
-        requires place { (x : NodeName) × IsPlaced words.now.plan.parts (events_in words.now.plan.parts words.now.words) x × IsLeft words.now x × (place ≡ place_of words.now.plan.parts x) }
+        requires place { IsPlaceLeft words.now place }
         ensures below { result < length self.now.places.items }
         ensures place { slice_index self.now.places.items result ≡ place }
     {

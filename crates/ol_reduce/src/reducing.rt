@@ -1,6 +1,6 @@
 //! A net rewritten by any number of workers.
 ghost use Rattle.std.specs.Prelude.{◌≡◌, ◌<◌, ◌≤◌, length, is_some, count_by, IfOk, ◌↔◌};
-ghost use Rattle.ol_wire.specs.Closed.{journal_in};
+ghost use Rattle.ol_wire.specs.Closed.{journal_drawn};
 ghost use Rattle.ol_wire.specs.Sizes.{IsSmallNet};
 ghost use Rattle.ol_reduce.specs.Reduced.{EndsWithin, IsDoneAnswer, Reduces};
 
@@ -64,7 +64,7 @@ pub fn reduce<R: Threads + Wait + Sync, G: Gate + Sync>(
 
 // The journal of closed words.
 fn journal_of(alloc: Global, words: &Words) -> Result<Journal, NoMemory>
-    ensures { IfOk result (λ journal. journal ≡ journal_in words.now.plan.parts words.now.words) }
+    ensures { IfOk result (λ journal. journal ≡ journal_drawn words.now) }
 {
     let mut journal = Journal::new(alloc);
     for k in 0..words.events() {

@@ -2,7 +2,7 @@
 ghost use Rattle.std.specs.Prelude.{◌≡◌, ◌≢◌, ℕ, ◌<◌, IsTrue, IsFalse};
 ghost use Rattle.ol_wire.specs.Layout.{cells_of};
 ghost use Rattle.ol_wire.specs.Stand.{IsOf};
-ghost use Rattle.ol_reduce.specs.Turned.{cells_below, IsTurn, HasTurned, HasSpent};
+ghost use Rattle.ol_reduce.specs.Turned.{cells_below, IsTurn, HasTurned, HasSpent, HasSwept, HasSweptToSpent, IsSpentTurn, IsOtherTurn};
 
 use crate::answers::Sweep;
 use ol_wire::{Seat, Shared, Turn};
@@ -17,9 +17,9 @@ pub fn sweep(shared: &Shared, seat: &mut Seat) -> Sweep
     requires all { seat.old.view.holds ≡ shared.now.plan.seats }
     ensures seat { IsOf shared.now seat.new }
     ensures holds { seat.new.view.holds ≡ seat.old.view.holds }
-    ensures clean { let z = shared.now.plan.parts in result ≡ Sweep.Clean → HasTurned z seat.old.view (cells_below (cells_of z)) seat.new.view }
+    ensures clean { result ≡ Sweep.Clean → HasSwept shared.now seat.old.view seat.new.view }
     ensures swept { result ≡ Sweep.Clean → seat.new.view.swept ≡ cells_of shared.now.plan.parts }
-    ensures spent { result ≡ Sweep.Spent → (c : ℕ) × HasSpent shared.now.plan.parts seat.old.view (cells_below c) c seat.new.view }
+    ensures spent { result ≡ Sweep.Spent → HasSweptToSpent shared.now seat.old.view seat.new.view }
 {
     seat.swept_within();
     for cell in 0..shared.cells() {
@@ -36,8 +36,8 @@ fn is_spent_at(shared: &Shared, seat: &mut Seat, cell: u32) -> bool
     requires cell { cell < cells_of shared.now.plan.parts }
     ensures seat { IsOf shared.now seat.new }
     ensures holds { seat.new.view.holds ≡ seat.old.view.holds }
-    ensures turned { IsFalse result → (t : Turn) × IsTurn shared.now.plan.parts seat.old.view cell t seat.new.view × (t ≢ Turn.Spent) }
-    ensures spent { IsTrue result → IsTurn shared.now.plan.parts seat.old.view cell Turn.Spent seat.new.view }
+    ensures turned { IsFalse result → IsOtherTurn shared.now seat.old.view cell seat.new.view }
+    ensures spent { IsTrue result → IsSpentTurn shared.now seat.old.view cell seat.new.view }
 {
     matches!(shared.turn(seat, cell), Turn::Spent)
 }

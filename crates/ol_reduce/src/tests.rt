@@ -43,7 +43,8 @@ fn identity_of_identity(alloc: Global) -> Result<Net, Fail> {
 
 // The net is small enough to be laid out.
 fn is_small(net: &Net) -> bool
-    ensures { IsTrue result → (count_by is_some net.now.nodes ≡ length net.now.nodes) × IsSmallNet net.now }
+    ensures whole { IsTrue result → count_by is_some net.now.nodes ≡ length net.now.nodes }
+    ensures small { IsTrue result → IsSmallNet net.now }
 {
     net.nodes() == net.born()
         && net.born() <= 1_000_000

@@ -3,7 +3,7 @@ ghost use Rattle.std.specs.Prelude.{◌≡◌, ℕ, List, ◌+◌, ◌≤◌, �
 ghost use Rattle.ol_pool.specs.Pools.{IsOf as IsOfPool};
 ghost use Rattle.ol_wire.specs.Layout.{cells_of};
 ghost use Rattle.ol_wire.specs.Stand.{IsOf};
-ghost use Rattle.ol_reduce.specs.Turned.{HasTurned, HasSpent};
+ghost use Rattle.ol_reduce.specs.Turned.{HasTurned, HasSpent, HasWorked, HasWorkedToSpent};
 
 use crate::answers::End;
 use crate::workers::Worker;
@@ -38,8 +38,8 @@ pub fn worker<R: Wait, G: Gate>(
     ensures number { own.new.number ≡ own.old.number }
     ensures holds { own.new.seat.view.holds ≡ own.old.seat.view.holds }
     ensures left { (result ≡ End.Left) ↔ (own.new.hand.missed ≡ true) }
-    ensures turned { result ≡ End.Left → (cells : List ℕ) × HasTurned shared.now.plan.parts own.old.seat.view cells own.new.seat.view }
-    ensures spent { result ≡ End.Spent → (cells : List ℕ) × (c : ℕ) × HasSpent shared.now.plan.parts own.old.seat.view cells c own.new.seat.view }
+    ensures turned { result ≡ End.Left → HasWorked shared.now own.old.seat.view own.new.seat.view }
+    ensures spent { result ≡ End.Spent → HasWorkedToSpent shared.now own.old.seat.view own.new.seat.view }
 {
     let number = own.number;
     let mut turns: u64 = 0;
