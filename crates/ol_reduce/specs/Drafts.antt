@@ -1,10 +1,10 @@
 -- A net while its links are found, and what it becomes.
-use Rattle.std.specs.Prelude.{ℕ, nat_lt, if◌then◌else◌, List, [], ◌∷◌, ◌<◌, length}
+use Rattle.std.specs.Prelude.{ℕ, nat_lt, if◌then◌else◌, List, [], ◌∷◌, ◌<◌, length, ◌≤◌}
 use Rattle.ol_net.specs.declared.parts.Kind.{Kind}
 use Rattle.ol_net.specs.declared.parts.Port.{Port}
 use Rattle.ol_net.specs.Pairing.{other}
-use Rattle.ol_net.specs.Graph.{port_at, IsTabled}
-use Rattle.ol_net.specs.Build.{NoneOf, BadIndexAt, all_live}
+use Rattle.ol_net.specs.Graph.{port_at, IsTabled, Graph}
+use Rattle.ol_net.specs.Build.{NoneOf, BadIndexAt, all_live, Builds}
 use Rattle.ol_rules.specs.Listed.{each}
 
 -- the greatest index that a frozen net may have
@@ -34,3 +34,11 @@ AreWithin partners one two = (one < length partners) × (two < length partners)
 -- no partner is outside of the table
 abbrev pub StayWithin : List ℕ → Type 0
 StayWithin partners = (k : ℕ) → k < length partners → other partners k < length partners
+
+-- as many nodes and places as `build` takes
+abbrev pub AreFew : List (Kind × ℕ) → List ℕ → Type 0
+AreFew kinds partners = (length kinds ≤ 10000000) × (length partners < 100000000)
+
+-- the net has these nodes and links
+abbrev pub IsBuilt : ℕ → List (Kind × ℕ) → List ℕ → Graph → Type 0
+IsBuilt free kinds partners net = Builds frozen_top free kinds (all_links free partners) net

@@ -1,5 +1,5 @@
 -- The nodes that are left, and their numbers. Ranks have the order of places: first the start nodes, and then four for each ticket.
-use Rattle.std.specs.Prelude.{◌≡◌, ℕ, ◌+◌, ◌-◌, ◌*◌, ◌/◌, ◌%◌, ◌<◌, ◌≤◌, nat_lt, if◌then◌else◌, Bool, true, List, length, slice_index, slice_get, Some, ◌⊎◌, ◌↔◌, ◌++◌, [], ◌∷◌}
+use Rattle.std.specs.Prelude.{◌≡◌, ℕ, ◌+◌, ◌-◌, ◌*◌, ◌/◌, ◌%◌, ◌<◌, ◌≤◌, nat_lt, if◌then◌else◌, Bool, true, List, length, slice_index, slice_get, Some, ◌⊎◌, ◌↔◌}
 use Rattle.ol_rules.specs.declared.journal.NodeName.{NodeName}
 use Rattle.ol_rules.specs.declared.journal.NodeName.TheVariants.{Init, Born}
 use Rattle.ol_rules.specs.declared.journal.Entry.{Entry}
@@ -72,14 +72,3 @@ IsRankOf z events name rank = IsPlaced z events name × (rank ≡ rank_of z name
 -- the place of a node that is left
 abbrev pub IsPlaceLeft : ClosedTable → ℕ → Type 0
 IsPlaceLeft w place = (x : NodeName) × IsPlaced w.plan.parts (events_drawn w) x × IsLeft w x × (place ≡ place_of w.plan.parts x)
-
--- the ranks of the start and of the first t tickets
-abbrev pub AreLeftTo : ClosedTable → ℕ → List ℕ → List ℕ → Type 0
-AreLeftTo w t places numbers = AreLeft w (w.plan.parts.nodes + 4 * t) places numbers
-
--- the next rank, by whether its node is left
-abbrev pub places_with : List ℕ → Bool → ℕ → List ℕ
-places_with places is_left place = if is_left then places ++ place ∷ [] else places
-
-abbrev pub numbers_with : List ℕ → List ℕ → Bool → List ℕ
-numbers_with places numbers is_left = numbers ++ (if is_left then length places + 1 else 0) ∷ []

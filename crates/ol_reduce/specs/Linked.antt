@@ -1,5 +1,5 @@
 -- What the steps that find a net's links ask and leave: of the words, the nodes that are left, and the net so far.
-use Rattle.std.specs.Prelude.{◌≡◌, ◌≢◌, ℕ, ◌+◌, ◌-◌, ◌*◌, ◌<◌, List, length, slice_index, slice_set}
+use Rattle.std.specs.Prelude.{◌≡◌, ◌≢◌, ℕ, ◌+◌, ◌-◌, ◌*◌, ◌<◌, List, length, slice_index, slice_set, Bool, if◌then◌else◌, ◌++◌, [], ◌∷◌}
 use Rattle.ol_net.specs.Pairing.{linked}
 use Rattle.ol_wire.specs.Layout.{cells_of}
 use Rattle.ol_wire.specs.Closed.{ClosedTable}
@@ -11,6 +11,17 @@ use Rattle.ol_reduce.specs.Found.{IsPartly, AreMetTo, AreCelledTo, KeepsKnown, K
 -- these are all nodes that are left
 abbrev pub AreAllLeft : ClosedTable → Live → Type 0
 AreAllLeft w live = AreLeft w (ranks_in w) live.places.items live.numbers.items
+
+-- these are the nodes that are left of the start and of the first t tickets
+abbrev pub AreLeftTo : ClosedTable → ℕ → Live → Type 0
+AreLeftTo w t live = AreLeft w (w.plan.parts.nodes + 4 * t) live.places.items live.numbers.items
+
+-- one rank more, whose node has this place if it is left
+abbrev pub AddsPlace : Live → Bool → ℕ → Live → Type 0
+AddsPlace old is_left place new = new.places.items ≡ (if is_left then old.places.items ++ place ∷ [] else old.places.items)
+
+abbrev pub AddsNumber : Live → Bool → Live → Type 0
+AddsNumber old is_left new = new.numbers.items ≡ old.numbers.items ++ (if is_left then length old.places.items + 1 else 0) ∷ []
 
 -- what is known of the net is right
 abbrev pub IsRight : ClosedTable → Live → Draft → Type 0

@@ -7,7 +7,7 @@ use Rattle.ol_wire.specs.declared.turning.Turn.TheVariants.{Spent}
 use Rattle.ol_wire.specs.declared.view.View.{View}
 use Rattle.ol_wire.specs.Layout.{cells_of}
 use Rattle.ol_wire.specs.Turns.{HasCause, Leaves}
-use Rattle.ol_wire.specs.Stand.{Board}
+use Rattle.ol_wire.specs.Stand.{Board, Stand}
 
 -- the cells below n, in order
 abbrev pub cells_below : ℕ → List ℕ
@@ -46,9 +46,9 @@ IsSpentTurn b v c n = IsTurn b.plan.parts v c Spent n
 abbrev pub IsOtherTurn : Board → View → ℕ → View → Type 0
 IsOtherTurn b v c n = (t : Turn) × IsTurn b.plan.parts v c t n × (t ≢ Spent)
 
--- turns on some cells, of which none answered Spent, or just the last one
-abbrev pub HasWorked : Board → View → View → Type 0
-HasWorked b v n = (cells : List ℕ) × HasTurned b.plan.parts v cells n
+-- turns of a seat on some cells, of which none answered Spent, or just the last one
+abbrev pub HasWorked : Board → Stand → Stand → Type 0
+HasWorked b v n = (cells : List ℕ) × HasTurned b.plan.parts v.view cells n.view
 
-abbrev pub HasWorkedToSpent : Board → View → View → Type 0
-HasWorkedToSpent b v n = (cells : List ℕ) × (c : ℕ) × HasSpent b.plan.parts v cells c n
+abbrev pub HasWorkedToSpent : Board → Stand → Stand → Type 0
+HasWorkedToSpent b v n = (cells : List ℕ) × (c : ℕ) × HasSpent b.plan.parts v.view cells c n.view

@@ -3,7 +3,7 @@ ghost use Rattle.std.specs.Prelude.{◌≡◌, ℕ, ◌+◌, ◌*◌, ◌<◌, �
 ghost use Rattle.ol_net.specs.Build.{Builds};
 ghost use Rattle.ol_net.specs.Graph.{port_at};
 ghost use Rattle.ol_net.specs.Pairing.{other, linked};
-ghost use Rattle.ol_reduce.specs.Drafts.{frozen_top, links_below, IsComplete, all_links, AreWithin, StayWithin};
+ghost use Rattle.ol_reduce.specs.Drafts.{frozen_top, links_below, IsComplete, all_links, AreWithin, StayWithin, AreFew, IsBuilt};
 
 use ol_io::NoMemory;
 use ol_net::{BuildFault, Kind, Net, NodeId, Port};
@@ -122,9 +122,9 @@ impl Draft {
 
     /// The net of these nodes and links.
     pub(crate) fn build(self, alloc: Global) -> Result<Net, NoMemory>
-        requires few { (length self.kinds.items ≤ 10000000) × (length self.partners.items < 100000000) }
+        requires few { AreFew self.kinds.items self.partners.items }
         requires complete { IsComplete self.free self.kinds.items self.partners.items }
-        ensures { IfOk result (Builds frozen_top self.free self.kinds.items (all_links self.free self.partners.items)) }
+        ensures { IfOk result (IsBuilt self.free self.kinds.items self.partners.items) }
     {
         let links = self.links(alloc)?;
         let Draft {

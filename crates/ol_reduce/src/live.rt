@@ -7,7 +7,8 @@ ghost use Rattle.ol_wire.specs.Blocks.{copies_of_f, copies_of_g};
 ghost use Rattle.ol_wire.specs.Closed.{ClosedTable, events_in, event_at, events_drawn};
 ghost use Rattle.ol_wire.specs.Layout.{place_of, size, IsPlaced};
 ghost use Rattle.ol_wire.specs.Sizes.{IsSmall};
-ghost use Rattle.ol_reduce.specs.Left.{rank_of, name_of_rank, ranks_in, IsLeft, AreMarked, AreLeft, births_at, IsSmallTable, IsWithinFuel, IsMarkedToo, IsPlaceOfSome, IsRankAt, IsRankOf, IsPlaceLeft, AreLeftTo, places_with, numbers_with};
+ghost use Rattle.ol_reduce.specs.Left.{rank_of, AreMarked, births_at, IsSmallTable, IsWithinFuel, IsMarkedToo, IsPlaceOfSome, IsRankAt, IsRankOf, IsPlaceLeft};
+ghost use Rattle.ol_reduce.specs.Linked.{AreAllLeft, AreLeftTo, AddsPlace, AddsNumber};
 
 use crate::reading::word_at;
 use ol_io::NoMemory;
@@ -140,7 +141,7 @@ impl Live {
     pub(crate) fn find(alloc: Global, words: &Words) -> Result<Live, NoMemory>
         requires small { IsSmallTable words.now }
         requires drawn { IsWithinFuel words.now }
-        ensures { IfOk result (λ live. AreLeft words.now (ranks_in words.now) live.places.items live.numbers.items) }
+        ensures { IfOk result (AreAllLeft words.now) }
     {
         let marks = rewritten(alloc, words)?;
         let parts = words.parts();
@@ -162,8 +163,8 @@ impl Live {
         requires small { IsSmallTable words.now }
         requires drawn { IsWithinFuel words.now × (ticket < events_drawn words.now) }
         requires marked { AreMarked words.now (events_drawn words.now) marks.now.items }
-        requires before { AreLeftTo words.now ticket self.old.places.items self.old.numbers.items }
-        ensures { OnOk result (AreLeftTo words.now (ticket + 1) self.new.places.items self.new.numbers.items) }
+        requires before { AreLeftTo words.now ticket self.old }
+        ensures { OnOk result (AreLeftTo words.now (ticket + 1) self.new) }
     {
         let parts = words.parts();
         let births = births(words, ticket);
@@ -178,8 +179,8 @@ impl Live {
     // The next rank.
     fn add(&mut self, is_left: bool, place: u32) -> Result<(), NoMemory>
         requires few { length self.old.places.items < 100000000 }
-        ensures places { OnOk result (self.new.places.items ≡ places_with self.old.places.items is_left place) }
-        ensures numbers { OnOk result (self.new.numbers.items ≡ numbers_with self.old.places.items self.old.numbers.items is_left) }
+        ensures places { OnOk result (AddsPlace self.old is_left place self.new) }
+        ensures numbers { OnOk result (AddsNumber self.old is_left self.new) }
     {
         if !is_left {
             return put(&mut self.numbers, 0);
@@ -200,7 +201,7 @@ impl Live {
     /// The number of the node with that place.
     pub(crate) fn number_at(&self, words: &Words, place: u32) -> u32
         requires small { IsSmall words.now.plan.parts × IsWithinFuel words.now }
-        requires live { AreLeft words.now (ranks_in words.now) self.now.places.items self.now.numbers.items }
+        requires live { AreAllLeft words.now self.now }
         requires place { IsPlaceLeft words.now place }
         ensures below { result < length self.now.places.items }
         ensures place { slice_index self.now.places.items result ≡ place }

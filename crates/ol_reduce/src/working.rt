@@ -38,8 +38,8 @@ pub fn worker<R: Wait, G: Gate>(
     ensures number { own.new.number ≡ own.old.number }
     ensures holds { own.new.seat.view.holds ≡ own.old.seat.view.holds }
     ensures left { (result ≡ End.Left) ↔ (own.new.hand.missed ≡ true) }
-    ensures turned { result ≡ End.Left → HasWorked shared.now own.old.seat.view own.new.seat.view }
-    ensures spent { result ≡ End.Spent → HasWorkedToSpent shared.now own.old.seat.view own.new.seat.view }
+    ensures turned { result ≡ End.Left → HasWorked shared.now own.old.seat own.new.seat }
+    ensures spent { result ≡ End.Spent → HasWorkedToSpent shared.now own.old.seat own.new.seat }
 {
     let number = own.number;
     let mut turns: u64 = 0;
@@ -71,8 +71,9 @@ fn put_published<R: Wait>(rt: &R, pool: &Pool, hand: &mut Hand, first_cell: u32,
     requires cells { first_cell + 4 ≤ pool.now.cells }
     ensures hand { hand.new ≡ hand.old }
 {
-    // The four are below this number, so none of them wraps.
-    let _end = pool.cells();
+    // The four are below the pool's bound, so none of them wraps.
+    let bound = pool.cells();
+    prove!(first_cell < bound);
     for j in 0..4u32 {
         if (mask >> j) & 1 == 1 {
             // One that no memory was found for is left for the sweep.
