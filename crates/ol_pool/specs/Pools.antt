@@ -1,5 +1,5 @@
 -- What contracts see of a pool and of its hands.
-use Rattle.std.specs.Prelude.{◌≡◌, ℕ, Bool, false}
+use Rattle.std.specs.Prelude.{◌≡◌, ℕ, Bool, false, ◌<◌, List, Some, slice_get}
 
 -- a pool by its number of hands and the bound of its cells; what waits in it is not seen
 pub record PoolState : Type 0 where
@@ -23,3 +23,11 @@ fresh_hand pool number = record {
 -- the hand is of a pool with these two numbers
 abbrev pub IsOf : HandState → PoolState → Type 0
 IsOf hand pool = hand.pool ≡ pool
+
+-- a pool with these two numbers
+abbrev pub pool_of : ℕ → ℕ → PoolState
+pool_of hands cells = record { hands = hands; cells = cells }
+
+-- each hand of a pool in the order of their numbers, none of which made a call yet
+abbrev pub AreDealt : PoolState → ℕ → List HandState → Type 0
+AreDealt pool n hands = (k : ℕ) → k < n → slice_get hands k ≡ Some (fresh_hand pool k)

@@ -1,6 +1,6 @@
 //! Hands: what a worker holds of a pool.
 ghost use Rattle.std.specs.Prelude.{◌≡◌, ℕ, ◌<◌, IfOk, Some, slice_get, vec_len};
-ghost use Rattle.ol_pool.specs.Pools.{fresh_hand};
+ghost use Rattle.ol_pool.specs.Pools.{fresh_hand, AreDealt, pool_of};
 
 use ol_io::NoMemory;
 use std::alloc::Global;
@@ -8,7 +8,8 @@ use std::marker::Model;
 
 /// One worker's place at a pool. Contracts see it as a `HandState`.
 ///
-/// It keeps the two numbers of its pool. Two pools with the same two numbers take each other's hands.
+/// It keeps the two numbers of its pool. Two pools with the same two numbers take each other's
+/// hands.
 #[derive(Debug, Drop)]
 pub struct Hand {
     number: u32,
@@ -59,7 +60,7 @@ impl Hand {
 // The hands of a pool with these two numbers, in the order of their numbers.
 pub(crate) fn fresh_hands(alloc: Global, hands: u32, cells: u32) -> Result<Vec<Hand>, NoMemory>
     ensures count { IfOk result (λ made. vec_len made ≡ hands) }
-    ensures each { IfOk result (λ made. (k : ℕ) → k < hands → slice_get made.items k ≡ Some (fresh_hand (record { hands = hands; cells = cells }) k)) }
+    ensures each { IfOk result (λ made. AreDealt (pool_of hands cells) hands made.items) }
 {
     let mut made = Vec::new(alloc);
     for number in 0..hands {

@@ -1,4 +1,5 @@
-//! The cells that wait for a worker: a first-in first-out line behind a lock, and a hand for each worker.
+//! The cells that wait for a worker: a first-in first-out line behind a lock, and a hand for each
+//! worker.
 #![tactic(auto)]
 
 mod hands;

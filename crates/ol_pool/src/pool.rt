@@ -1,7 +1,7 @@
 //! The pool of cells, shared by the workers.
 ghost use Rattle.std.specs.Prelude.{◌≡◌, ℕ, ◌<◌, ◌≤◌, ◌↔◌, IfOk, IfErr, IfSome, IsNone, IsTrue, slice_get, vec_len};
 ghost use Rattle.std.specs.List.{All};
-ghost use Rattle.ol_pool.specs.Pools.{fresh_hand, IsOf};
+ghost use Rattle.ol_pool.specs.Pools.{fresh_hand, IsOf, AreDealt};
 
 use crate::hands::{Hand, fresh_hands};
 use crate::line::Line;
@@ -12,8 +12,8 @@ use std::sync::{Mutex, Wait};
 
 /// Cells that wait for a worker: one line, which all workers share behind a lock.
 ///
-/// Contracts see a pool by its number of hands and the bound of its cells, a `PoolState`. What waits in it
-/// isn't seen: of a cell that `take` gives it is only said that it is below the bound.
+/// Contracts see a pool by its number of hands and the bound of its cells, a `PoolState`. What
+/// waits in it isn't seen: of a cell that `take` gives it is only said that it is below the bound.
 #[derive(Drop)]
 pub struct Pool {
     line: Mutex<Line>,
@@ -38,7 +38,7 @@ impl Pool {
         requires few { hands ≤ 64 }
         ensures pool { IfOk result (λ made. made.0 ≡ record { hands = hands; cells = cells }) }
         ensures count { IfOk result (λ made. vec_len made.1 ≡ hands) }
-        ensures each { IfOk result (λ made. (k : ℕ) → k < hands → slice_get made.1.items k ≡ Some (fresh_hand made.0 k)) }
+        ensures each { IfOk result (λ made. AreDealt made.0 hands made.1.items) }
         ensures same_pool { IfOk result (λ made. All (λ hand. IsOf hand made.0) made.1.items) }
     {
         let made = fresh_hands(alloc, hands, cells)?;
@@ -71,8 +71,8 @@ impl Pool {
 
     /// Takes one cell, the one that waits longest. It may wait for the lock. Takes no memory.
     ///
-    /// None: no cell waits, and the hand has `missed`. No clause gives this cause, since a lock tells nothing of
-    /// what it guards.
+    /// None: no cell waits, and the hand has `missed`. No clause gives this cause, since a lock
+    /// tells nothing of what it guards.
     pub fn take<R: Wait>(&self, rt: &R, hand: &mut Hand) -> Option<u32>
         requires hand { IsOf hand.old self.now }
         ensures below { IfSome result (λ cell. cell < self.now.cells) }

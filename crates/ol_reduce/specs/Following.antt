@@ -16,12 +16,14 @@ pub record OwnsWord (w : ClosedTable) (net : NamedNet NodeName) (reached : ℕ �
   pub within : n < size w.plan.parts
   pub filled : slice_index w.words n ≢ 0
   pub end : (e ≡ wire_ref n) ⊎ (e ≡ slot_ref n)
-  pub edge : IsIn {X = ℕ × ℕ} (e, slice_index w.words n) (edge_in net (reached n) (part_of w.plan.parts n) n (slice_index w.words n) (slice_index w.words (suc n)))
+  pub edge : IsIn {X = ℕ × ℕ} (e, slice_index w.words n)
+      (edge_in net (reached n) (part_of w.plan.parts n) n (slice_index w.words n) (slice_index w.words (suc n)))
 
 -- the chain of e leads to t, through words of wires
 pub data LeadsTo (w : ClosedTable) (net : NamedNet NodeName) (reached : ℕ → Bool) : ℕ → ℕ → Type 0 where
   last : {e t : ℕ} (n : ℕ) → OwnsWord w net reached n e → slice_index w.words n ≡ t → LeadsTo w net reached e t
-  more : {e t : ℕ} (n : ℕ) → OwnsWord w net reached n e → LeadsTo w net reached (slice_index w.words n) t → LeadsTo w net reached e t
+  more : {e t : ℕ} (n : ℕ) → OwnsWord w net reached n e → LeadsTo w net reached (slice_index w.words n) t
+      → LeadsTo w net reached e t
 
 -- the word n of a port's end e holds this value
 pub record IsStart (w : ClosedTable) (net : NamedNet NodeName) (reached : ℕ → Bool) (e value : ℕ) : Type 0 where
@@ -32,13 +34,15 @@ pub record IsStart (w : ClosedTable) (net : NamedNet NodeName) (reached : ℕ �
 
 -- a value that a port's word holds
 abbrev pub IsFirst : ClosedTable → ℕ → Type 0
-IsFirst w value = (net : NamedNet NodeName) × (reached : ℕ → Bool) × (e : ℕ) × StandsFor w net reached × IsStart w net reached e value
+IsFirst w value = (net : NamedNet NodeName) × (reached : ℕ → Bool) × (e : ℕ) × StandsFor w net reached
+    × IsStart w net reached e value
 
 -- where the chain of e ends
 abbrev pub EndsAt : ClosedTable → NamedNet NodeName → (ℕ → Bool) → ℕ → End → Type 0
 EndsAt w net reached e (Node r) = IsNodeRef r × LeadsTo w net reached e r
 EndsAt w net reached e (Port k) = (k < w.plan.parts.free) × LeadsTo w net reached e (wire_ref (port_word k))
-EndsAt w net reached e (Wire u) = (reached u ≡ true) × (slice_index w.words u ≡ 0) × LeadsTo w net reached e (wire_ref u)
+EndsAt w net reached e (Wire u) = (reached u ≡ true) × (slice_index w.words u ≡ 0)
+    × LeadsTo w net reached e (wire_ref u)
 
 -- the value after k words of wires
 abbrev pub value_after : List ℕ → ℕ → ℕ → ℕ
@@ -51,7 +55,8 @@ IsPassed w v = IsWireRef v × (w.plan.parts.free < place_in v) × (slice_index w
 
 -- at is the value after k words, all of wires
 abbrev pub IsValueAfter : ClosedTable → ℕ → ℕ → ℕ → Type 0
-IsValueAfter w first k at = (value_after w.words first k ≡ at) × ((j : ℕ) → j < k → IsPassed w (value_after w.words first j))
+IsValueAfter w first k at = (value_after w.words first k ≡ at)
+    × ((j : ℕ) → j < k → IsPassed w (value_after w.words first j))
 
 -- where the chain of each port ends whose word holds this value
 abbrev pub EndsFrom : ClosedTable → ℕ → End → Type 0

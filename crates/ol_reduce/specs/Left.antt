@@ -25,22 +25,27 @@ IsLeft w x = IsMadeNode w.plan.parts w.words x × IsUntouched w.plan.parts w.wor
 
 -- an entry before ticket t names x
 abbrev pub IsNamedBefore : ClosedTable → ℕ → NodeName → Type 0
-IsNamedBefore w t x = (u : ℕ) × (e : Entry) × (u < t) × (slice_get (journal_in w.plan.parts w.words) u ≡ Some e) × ((e.first ≡ x) ⊎ (e.second ≡ x))
+IsNamedBefore w t x = (u : ℕ) × (e : Entry) × (u < t) × (slice_get (journal_in w.plan.parts w.words) u ≡ Some e)
+    × ((e.first ≡ x) ⊎ (e.second ≡ x))
 
 -- `marks` tells by rank which nodes the entries before ticket t name
 pub record AreMarked (w : ClosedTable) (t : ℕ) (marks : List Bool) : Type 0 where
   pub long : length marks ≡ ranks_in w
-  pub marked : (x : NodeName) → IsPlaced w.plan.parts (events_in w.plan.parts w.words) x → (slice_get marks (rank_of w.plan.parts x) ≡ Some true) ↔ IsNamedBefore w t x
+  pub marked : (x : NodeName) → IsPlaced w.plan.parts (events_in w.plan.parts w.words) x
+      → (slice_get marks (rank_of w.plan.parts x) ≡ Some true) ↔ IsNamedBefore w t x
 
 -- The places of the nodes that are left, of those of the first n ranks, in order. `numbers` has for each rank 1 more than the number of the
 -- node, or 0 where it isn't left.
 pub record AreLeft (w : ClosedTable) (n : ℕ) (places numbers : List ℕ) : Type 0 where
   pub long : length numbers ≡ n
   pub few : length places ≤ n
-  pub each : (j : ℕ) → j < length places → (r : ℕ) × (r < n) × IsLeft w (name_of_rank w.plan.parts r) × (slice_index places j ≡ place_of w.plan.parts (name_of_rank w.plan.parts r))
+  pub each : (j : ℕ) → j < length places
+      → (r : ℕ) × (r < n) × IsLeft w (name_of_rank w.plan.parts r)
+      × (slice_index places j ≡ place_of w.plan.parts (name_of_rank w.plan.parts r))
   pub rising : (j k : ℕ) → j < k → k < length places → slice_index places j < slice_index places k
   pub found : (r : ℕ) → r < n → IsLeft w (name_of_rank w.plan.parts r) →
-      (0 < slice_index numbers r) × (slice_index numbers r ≤ length places) × (slice_index places (slice_index numbers r - 1) ≡ place_of w.plan.parts (name_of_rank w.plan.parts r))
+      (0 < slice_index numbers r) × (slice_index numbers r ≤ length places)
+      × (slice_index places (slice_index numbers r - 1) ≡ place_of w.plan.parts (name_of_rank w.plan.parts r))
 
 -- how many nodes a ticket made
 abbrev pub births_at : ClosedTable → ℕ → ℕ
@@ -71,4 +76,5 @@ IsRankOf z events name rank = IsPlaced z events name × (rank ≡ rank_of z name
 
 -- the place of a node that is left
 abbrev pub IsPlaceLeft : ClosedTable → ℕ → Type 0
-IsPlaceLeft w place = (x : NodeName) × IsPlaced w.plan.parts (events_drawn w) x × IsLeft w x × (place ≡ place_of w.plan.parts x)
+IsPlaceLeft w place = (x : NodeName) × IsPlaced w.plan.parts (events_drawn w) x × IsLeft w x
+    × (place ≡ place_of w.plan.parts x)

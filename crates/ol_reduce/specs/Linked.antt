@@ -59,7 +59,8 @@ KeepsKinds w live old new = KeepsKnown w live.places.items old.kinds.items new.k
 
 -- whoever had a partner has one, and there are as many places
 abbrev pub KeepsLinks : Draft → Draft → Type 0
-KeepsLinks old new = KeepsPartners old.partners.items new.partners.items × (length new.partners.items ≡ length old.partners.items)
+KeepsLinks old new = KeepsPartners old.partners.items new.partners.items
+    × (length new.partners.items ≡ length old.partners.items)
 
 -- the place is one of the table, and not that of a slot 0
 abbrev pub IsOwner : ClosedTable → Draft → ℕ → Type 0

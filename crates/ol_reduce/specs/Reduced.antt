@@ -19,11 +19,13 @@ IsTableOf net fuel seats w = AreParts net fuel w.plan.parts × (w.plan.start.val
 
 -- the one-thread run from the net has at most so many steps: it ends. There is one such run for each fuel.
 abbrev pub EndsWithin : Graph → ℕ → Type 0
-EndsWithin net fuel = (journal : List Entry) (P : NamedNet NodeName) → IsOneThread (net_under Init (net_of net)) fuel journal P → IsComplete P
+EndsWithin net fuel = (journal : List Entry) (P : NamedNet NodeName)
+    → IsOneThread (net_under Init (net_of net)) fuel journal P → IsComplete P
 
 -- The one-thread run from the net has as many steps as this journal. There is such a run for each fuel.
 abbrev pub IsAsLong : Graph → ℕ → List Entry → Type 0
-IsAsLong net fuel journal = (one_thread : List Entry) (P : NamedNet NodeName) → IsOneThread (net_under Init (net_of net)) fuel one_thread P
+IsAsLong net fuel journal = (one_thread : List Entry) (P : NamedNet NodeName)
+    → IsOneThread (net_under Init (net_of net)) fuel one_thread P
     → length one_thread ≡ length journal
 
 -- The journal of these words is within the fuel and leads to a net without an active pair, and `last` is this net.

@@ -21,7 +21,8 @@ pub enum End {
     Left,
 }
 
-/// Law: turns on some cells, one after the other, add just these cells to those that the seat has claimed.
+/// Law: turns on some cells, one after the other, add just these cells to those that the seat has
+/// claimed.
 pub fn turns_tell()
     ensures { TurnsTell }
 {}

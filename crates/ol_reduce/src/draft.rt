@@ -18,8 +18,8 @@ pub(crate) struct Draft {
     pub(crate) free: u32,
     // By number: kind and index.
     pub(crate) kinds: Vec<(Kind, u32)>,
-    // By place: free ports by number, and then three places for each node. At the place of a port stands the
-    // place of its partner, and that place itself as long as no partner is known.
+    // By place: free ports by number, and then three places for each node. At the place of a port
+    // stands the place of its partner, and that place itself as long as no partner is known.
     pub(crate) partners: Vec<usize>,
 }
 

@@ -20,9 +20,10 @@ use ol_net::Net;
 use ol_wire::{Words, index_in, kind_in, place_in};
 use std::alloc::Global;
 
-/// The net that the words stand for, its nodes numbered from 0 by ascending name: first those of the start, and then
-/// those that a ticket made, by ticket, which is the order of their places in the words. `NoMemory`: no memory was
-/// found for it. It looks only at the words of the start and of tickets that were drawn, however great the fuel was.
+/// The net that the words stand for, its nodes numbered from 0 by ascending name: first those of
+/// the start, and then those that a ticket made, by ticket, which is the order of their places in
+/// the words. `NoMemory`: no memory was found for it. It looks only at the words of the start and
+/// of tickets that were drawn, however great the fuel was.
 pub fn freeze(alloc: Global, words: &Words) -> Result<Net, NoMemory>
     ensures frozen { IfOk result (λ g. EachAfter words.now (λ net. IsFrozen net g)) }
 {
@@ -91,7 +92,8 @@ fn cells_used(words: &Words) -> u32
     words.parts().cells + 4 * words.events()
 }
 
-// Links the two nodes of each cell that isn't empty. The cells of tickets that weren't drawn are empty.
+// Links the two nodes of each cell that isn't empty. The cells of tickets that weren't drawn are
+// empty.
 fn link_cells(words: &Words, live: &Live, draft: &mut Draft)
     requires live { AreAllLeft words.now live.now }
     requires free { draft.old.free ≡ words.now.plan.parts.free }
@@ -106,8 +108,8 @@ fn link_cells(words: &Words, live: &Live, draft: &mut Draft)
     }
 }
 
-// Of two chains that lead to one wire, the one that comes second links both ports: `met` has for each wire 1 more
-// than the place of the port that came first, or 0.
+// Of two chains that lead to one wire, the one that comes second links both ports: `met` has for
+// each wire 1 more than the place of the port that came first, or 0.
 fn meet(draft: &mut Draft, met: &mut Vec<u32>, place: usize, wire: u32)
     requires wire { wire < length met.old.items }
     requires place { (place < length draft.old.partners.items) × (place < 100000000) }

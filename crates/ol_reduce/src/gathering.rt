@@ -21,8 +21,8 @@ use std::sync::Wait;
 use std::thread;
 use std::thread::Threads;
 
-/// The closed words of a net that so many workers have rewritten, with at most `fuel` tickets, and what the sweep
-/// after their work came to.
+/// The closed words of a net that so many workers have rewritten, with at most `fuel` tickets, and
+/// what the sweep after their work came to.
 ///
 /// `NoMemory`: there was no memory for the words, the pool or the workers.
 pub(crate) fn run_workers<R: Threads + Wait + Sync, G: Gate + Sync>(
@@ -60,8 +60,8 @@ pub(crate) fn run_workers<R: Threads + Wait + Sync, G: Gate + Sync>(
     Ok((shared.close(seat), end))
 }
 
-// Puts the cells below `count` into the pool, each by the hand whose number is the remainder by the number
-// of hands.
+// Puts the cells below `count` into the pool, each by the hand whose number is the remainder by the
+// number of hands.
 fn put_start<R: Wait>(rt: &R, pool: &Pool, hands: &mut Vec<Hand>, workers: u32, count: u32)
     requires hands { All (λ hand. IsOfPool hand pool.now) hands.old.items }
     requires workers { (vec_len hands.old ≡ workers) × (0 < workers) }

@@ -5,8 +5,8 @@ use ol_wire::Words;
 
 /// A net that workers have rewritten.
 ///
-/// - `Done`: no active pair is left. `net` is the last net, its nodes numbered by ascending name, and
-///   `journal` leads to it.
+/// - `Done`: no active pair is left. `net` is the last net, its nodes numbered by ascending name,
+///   and `journal` leads to it.
 /// - `Spent`: as many pairs were rewritten as the fuel allows, and an active one is left.
 ///
 /// `words` are the closed words of the table, and `journal` is theirs.

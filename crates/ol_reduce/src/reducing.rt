@@ -17,16 +17,20 @@ use std::alloc::Global;
 use std::sync::Wait;
 use std::thread::Threads;
 
-/// Rewrites a net by so many workers, in whatever order they take its pairs, with at most `fuel` rewrites.
+/// Rewrites a net by so many workers, in whatever order they take its pairs, with at most `fuel`
+/// rewrites.
 ///
-/// - `net`: no number of it is that of a node that went; at most 1,000,000 nodes, at most 1,000,000 free ports, no index above 1,000,000.
+/// - `net`: no number of it is that of a node that went; at most 1,000,000 nodes, at most 1,000,000
+///   free ports, no index above 1,000,000.
 /// - `workers`: 1 to 64. Where fewer threads can be had, the workers work in turn.
 /// - `fuel`: at most 2,000,000.
 ///
-/// `Done` comes exactly where the one-thread run has at most `fuel` steps, with a journal of as many entries and the net that it leads to.
-/// `Spent` comes exactly where that run has more: the journal has `fuel` entries then, and an active pair is left. In both, `words` are
-/// the closed words of a table that was made from this net, with this fuel and `workers` seats, and `journal` is theirs. `NoMemory`:
-/// there was no memory for the words, the pool, the workers, the journal or the last net.
+/// `Done` comes exactly where the one-thread run has at most `fuel` steps, with a journal of as
+/// many entries and the net that it leads to. `Spent` comes exactly where that run has more: the
+/// journal has `fuel` entries then, and an active pair is left. In both, `words` are the closed
+/// words of a table that was made from this net, with this fuel and `workers` seats, and `journal`
+/// is theirs. `NoMemory`: there was no memory for the words, the pool, the workers, the journal or
+/// the last net.
 pub fn reduce<R: Threads + Wait + Sync, G: Gate + Sync>(
     rt: &R,
     alloc: Global,

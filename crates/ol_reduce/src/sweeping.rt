@@ -7,11 +7,12 @@ ghost use Rattle.ol_reduce.specs.Turned.{cells_below, IsTurn, HasTurned, HasSpen
 use crate::answers::Sweep;
 use ol_wire::{Seat, Shared, Turn};
 
-/// Makes a turn on each cell in ascending order, up to the first that answers `Spent`. Takes no memory.
+/// Makes a turn on each cell in ascending order, up to the first that answers `Spent`. Takes no
+/// memory.
 ///
-/// A turn publishes only in cells of a greater number than its own, so one pass is enough. `Clean` leaves no active
-/// pair: no turn answered `Spent`, and the seat has swept all cells. `Spent` comes only where the last turn of this call
-/// answered it.
+/// A turn publishes only in cells of a greater number than its own, so one pass is enough. `Clean`
+/// leaves no active pair: no turn answered `Spent`, and the seat has swept all cells. `Spent` comes
+/// only where the last turn of this call answered it.
 pub fn sweep(shared: &Shared, seat: &mut Seat) -> Sweep
     requires seat { IsOf shared.now seat.old }
     requires all { seat.old.view.holds ≡ shared.now.plan.seats }

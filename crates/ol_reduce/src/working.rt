@@ -12,17 +12,18 @@ use ol_pool::{Hand, Pool};
 use ol_wire::{Shared, Turn};
 use std::sync::Wait;
 
-/// Takes cells from the pool and makes a turn on each, up to the first that answers `Spent`, or until no cell
-/// waits. A cell in which a turn published a pair is put into the pool.
+/// Takes cells from the pool and makes a turn on each, up to the first that answers `Spent`, or
+/// until no cell waits. A cell in which a turn published a pair is put into the pool.
 ///
-/// `Spent` comes only where its last turn answered `Spent`, and `Left` exactly where its last `take` answered None. Between
-/// the seat's view before the call and the one after it lie the call's turns, none of which but such a last one answered
-/// `Spent`. No clause says that it makes a turn on each cell that it takes, or puts each cell in which it published: a
-/// pool's lock tells nothing of what it guards.
+/// `Spent` comes only where its last turn answered `Spent`, and `Left` exactly where its last
+/// `take` answered None. Between the seat's view before the call and the one after it lie the
+/// call's turns, none of which but such a last one answered `Spent`. No clause says that it makes a
+/// turn on each cell that it takes, or puts each cell in which it published: a pool's lock tells
+/// nothing of what it guards.
 ///
-/// The gate is passed at the start with 0, and after each turn with the number of turns made, up to 2^64 - 1, at which
-/// it stays. The call may wait for the pool's lock. A cell for which the pool finds no memory isn't put: its pair stays
-/// where it is.
+/// The gate is passed at the start with 0, and after each turn with the number of turns made, up to
+/// 2^64 - 1, at which it stays. The call may wait for the pool's lock. A cell for which the pool
+/// finds no memory isn't put: its pair stays where it is.
 pub fn worker<R: Wait, G: Gate>(
     rt: &R,
     shared: &Shared,

@@ -72,7 +72,9 @@ edge_in net reached past w word next = []
 -- The edges of the first n words: of each free port, each field of a live node, each reached wire and each cell that isn't empty.
 abbrev pub edges_in : Parts → NamedNet NodeName → (ℕ → Bool) → List ℕ → ℕ → List (ℕ × ℕ)
 edges_in z net reached words zero = []
-edges_in z net reached words (suc n) = edges_in z net reached words n ++ edge_in net (reached n) (part_of z n) n (slice_index words n) (slice_index words (suc n))
+edges_in z net reached words (suc n) =
+    edges_in z net reached words n
+    ++ edge_in net (reached n) (part_of z n) n (slice_index words n) (slice_index words (suc n))
 
 abbrev pub links_in : List Link → List (ℕ × ℕ)
 links_in links = map (λ (l : Link). (l.one, l.two)) links

@@ -58,4 +58,6 @@ IsStuckPair left right = (rule_between left right ≡ None) × (rule_between rig
 pub data IsPlayed (z : Parts) : NamedNet NodeName → ℕ → List Event → NamedNet NodeName → Type 0 where
   end : {N : NamedNet NodeName} {t : ℕ} → IsPlayed z N t [] N
   then : {N M P : NamedNet NodeName} {t : ℕ} {e : Event} {es : List Event} (x y : NodeName) (step : IsStep (λ place. Born t place) N x y e.rule M)
-      → e.f ≡ node_ref step.active.k step.active.i (place_of z x) → e.g ≡ node_ref step.active.l step.active.j (place_of z y) → IsPlayed z M (suc t) es P → IsPlayed z N t (e ∷ es) P
+      → e.f ≡ node_ref step.active.k step.active.i (place_of z x)
+      → e.g ≡ node_ref step.active.l step.active.j (place_of z y) → IsPlayed z M (suc t) es P
+      → IsPlayed z N t (e ∷ es) P

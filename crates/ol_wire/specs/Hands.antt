@@ -77,7 +77,13 @@ AreRefs z node found = (s : ℕ) → s < arity (kind_in node) → IsRefOf z (sli
 
 -- The pair in hand has become ticket t: its words are written, and its links are pending, by what the fields of the two nodes held.
 pub record Rewrote (v : View) (t : ℕ) (of_f of_g : List ℕ) (n : View) : Type 0 where
-  pub view : n ≡ record v { taken = []; known = []; swept = swept_on v (cell_at v.parts (cell_in_hand v.taken)); made = v.made ++ (t, entry_of v.parts (event_in v)) ∷ []; pending = n.pending }
+  pub view : n ≡ record v {
+    taken = [];
+    known = [];
+    swept = swept_on v (cell_at v.parts (cell_in_hand v.taken));
+    made = v.made ++ (t, entry_of v.parts (event_in v)) ∷ [];
+    pending = n.pending;
+  }
   pub links : n.pending ≡ links_of v.parts (event_in v) t (λ s. slice_index of_f s) (λ s. slice_index of_g s)
 
 -- a pair was taken from cell c, or the cell was empty

@@ -54,7 +54,9 @@ pub record IsLaid (net : Graph) (z : Parts) (words : List ℕ) : Type 0 where
   pub ports : (n : ℕ) → n < z.free → slice_index words (port_word n) ≡ word_of_port net z n
   pub fields : (n s : ℕ) → n < z.nodes → s < 2 → slice_index words (start_node z n + s) ≡ field_of net z n s
   pub wires : (j : ℕ) → j < z.wires → slice_index words (start_wire z j) ≡ 0
-  pub cells : (c : ℕ) (p : ℕ × ℕ) → slice_get (facing_pairs net) c ≡ Some p → (slice_index words (start_cell z c) ≡ node_word net z p.0) × (slice_index words (suc (start_cell z c)) ≡ node_word net z p.1)
+  pub cells : (c : ℕ) (p : ℕ × ℕ) → slice_get (facing_pairs net) c ≡ Some p
+      → (slice_index words (start_cell z c) ≡ node_word net z p.0)
+      × (slice_index words (suc (start_cell z c)) ≡ node_word net z p.1)
   pub blocks : (w : ℕ) → block z 0 ≤ w → slice_index words w ≡ 0
 
 -- what is added for each free port, and for each node

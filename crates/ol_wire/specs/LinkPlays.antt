@@ -24,7 +24,9 @@ spread (suc n) xs = spread n xs + times n xs
 -- goes on between the two ends, and one wire more is dead: of these there are no more than words.
 abbrev pub links : Play
 links s m r n = (n.1 ≡ m.1) × (r ≡ 0 → n.0 ≡ linked m.0)
-    × (r ≢ 0 → (n.0 ≡ moved m.0 s.word s.first r) × IsRefOf m.0.parts s.first × IsRefOf m.0.parts r × (spread (size m.0.parts) n.0.dead ≡ spread (size m.0.parts) m.0.dead + 1) × (spread (size m.0.parts) n.0.dead ≤ size m.0.parts))
+    × (r ≢ 0 → (n.0 ≡ moved m.0 s.word s.first r) × IsRefOf m.0.parts s.first × IsRefOf m.0.parts r
+    × (spread (size m.0.parts) n.0.dead ≡ spread (size m.0.parts) m.0.dead + 1)
+    × (spread (size m.0.parts) n.0.dead ≤ size m.0.parts))
 
 -- the second node of the first pending link is written into the right word of its cell
 abbrev pub places : Play

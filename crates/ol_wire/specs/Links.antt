@@ -30,7 +30,12 @@ pub record AreNext (v : View) (a b : ℕ) : Type 0 where
 -- The first link, of the cell with left word w, is made. Wires may have died, and its pair may have been published.
 pub record IsLinked (v : View) (w : ℕ) (published : Bool) (n : View) : Type 0 where
   pub dead : (ws : List ℕ) × (n.dead ≡ v.dead ++ ws)
-  pub view : n ≡ record v { pending = rest v.pending; known = n.known; published = v.published ++ (if published then cell_at v.parts w ∷ [] else []); dead = n.dead }
+  pub view : n ≡ record v {
+    pending = rest v.pending;
+    known = n.known;
+    published = v.published ++ (if published then cell_at v.parts w ∷ [] else []);
+    dead = n.dead;
+  }
 
 -- an end that is no node, and the other one
 abbrev pub AreOpenEnds : ℕ → ℕ → ℕ × ℕ → Type 0
@@ -45,4 +50,5 @@ AreRefsOf z a b = IsRefOf z a × IsRefOf z b
 
 -- one wire more is dead: of these there are no more than words
 abbrev pub LosesWire : Board → View → View → Type 0
-LosesWire b v n = (spread (size b.plan.parts) n.dead ≡ spread (size b.plan.parts) v.dead + 1) × (spread (size b.plan.parts) n.dead ≤ size b.plan.parts)
+LosesWire b v n = (spread (size b.plan.parts) n.dead ≡ spread (size b.plan.parts) v.dead + 1)
+    × (spread (size b.plan.parts) n.dead ≤ size b.plan.parts)

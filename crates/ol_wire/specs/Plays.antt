@@ -75,8 +75,10 @@ pub record IsLookedUp (v : View) (w : ℕ) : Type 0 where
   pub nothing_pending : v.pending ≡ []
   pub right : IsIn (suc w, v.last.1) v.known
   pub rule : rule_between (event_in v).f (event_in v).g ≡ Some (event_in v).rule
-  pub f_fields : (s : ℕ) → s < arity (kind_in (event_in v).f) → IsIn (place_in (event_in v).f + s, known_at v.known (place_in (event_in v).f + s)) v.known
-  pub g_fields : (s : ℕ) → s < arity (kind_in (event_in v).g) → IsIn (place_in (event_in v).g + s, known_at v.known (place_in (event_in v).g + s)) v.known
+  pub f_fields : (s : ℕ) → s < arity (kind_in (event_in v).f)
+      → IsIn (place_in (event_in v).f + s, known_at v.known (place_in (event_in v).f + s)) v.known
+  pub g_fields : (s : ℕ) → s < arity (kind_in (event_in v).g)
+      → IsIn (place_in (event_in v).g + s, known_at v.known (place_in (event_in v).g + s)) v.known
 
 -- a ticket below the fuel
 abbrev pub ticketed : View → ℕ → View
@@ -140,18 +142,21 @@ fewer v = record v { holds = v.holds - 1 }
 
 -- a reference of a node whose fields are words of the table
 abbrev pub IsNodeOf : Parts → ℕ → Type 0
-IsNodeOf z r = IsNodeRef r × (r ≡ node_ref (kind_in r) (index_in r) (place_in r)) × (index_in r ≤ 1000000 + z.fuel) × (0 < place_in r) × (place_in r + 1 < size z)
+IsNodeOf z r = IsNodeRef r × (r ≡ node_ref (kind_in r) (index_in r) (place_in r)) × (index_in r ≤ 1000000 + z.fuel)
+    × (0 < place_in r) × (place_in r + 1 < size z)
 
 -- a reference of a node, or one of a wire or a free port by a word of the table
 abbrev pub IsRefOf : Parts → ℕ → Type 0
 IsRefOf z r = IsNodeOf z r ⊎ (IsWireRef r × (0 < place_in r) × (place_in r < size z))
 
 abbrev pub claims : Play
-claims s m r n = (n.1 ≡ m.1) × (r ≡ 0 → n.0 ≡ missing m.0 s.word) × (r ≢ 0 → (n.0 ≡ holding m.0 s.word r) × IsNodeOf m.0.parts r)
+claims s m r n = (n.1 ≡ m.1) × (r ≡ 0 → n.0 ≡ missing m.0 s.word)
+    × (r ≢ 0 → (n.0 ≡ holding m.0 s.word r) × IsNodeOf m.0.parts r)
 
 -- of the right word of the cell whose pair is in hand
 abbrev pub pairs_up : Play
-pairs_up s m r n = (n.1 ≡ m.1) × (s.word ≡ suc (cell_in_hand m.0.taken)) × (n.0 ≡ paired m.0 s.word r) × IsNodeOf m.0.parts r
+pairs_up s m r n = (n.1 ≡ m.1) × (s.word ≡ suc (cell_in_hand m.0.taken)) × (n.0 ≡ paired m.0 s.word r)
+    × IsNodeOf m.0.parts r
 
 -- of a field of one of the two nodes of the claimed pair
 abbrev pub looks : Play

@@ -107,37 +107,69 @@ IsMadeRef z log r = IsRef r × IsWhole r × (place_in r < block z (length log))
 abbrev pub IsRightOf : View → Link → ℕ → Type 0
 IsRightOf v l word = (word ≡ 0) ⊎ (IsNodeRef l.one × IsNodeRef l.two × (word ≡ l.two) × (v.due ≡ []))
 
+-- The cell of a pair of the start, by its left word: its nodes l and r, or r alone once the pair was claimed.
+abbrev pub HoldsStart : List ℕ → ℕ → ℕ → ℕ → Type 0
+HoldsStart full w l r = ((slice_index full w ≡ 0) ⊎ (slice_index full w ≡ l)) × (slice_index full (suc w) ≡ r)
+
 -- The words, once each view has written what it holds, are `full`. A word that a view holds is empty, and no other view holds it.
 pub record WordsKeep (p : Plan) (s : Table) (log : List Event) (full : List ℕ) : Type 0 where
   pub wide : length s.words ≡ size p.parts
   pub full_wide : length full ≡ size p.parts
-  pub written : (h : ℕ → ℕ → ℕ) → Empties h → weigh h s.words (size p.parts) + total (λ (v : View). pairs h v.due + pairs h v.taken) s.views ≡ weigh h full (size p.parts)
+  pub written : (h : ℕ → ℕ → ℕ) → Empties h
+      → weigh h s.words (size p.parts) + total (λ (v : View). pairs h v.due + pairs h v.taken) s.views ≡ weigh h full (size p.parts)
   -- each word but the ticket word holds a reference, and the words of a cell hold nodes
   pub refs : (w : ℕ) → 0 < w → slice_index full w ≢ 0 → IsMadeRef p.parts log (slice_index full w)
-  pub cells : (w : ℕ) → part_of p.parts w ≡ left → slice_index full w ≢ 0 → IsNodeRef (slice_index full w) × IsNodeRef (slice_index full (suc w))
+  pub cells : (w : ℕ) → part_of p.parts w ≡ left → slice_index full w ≢ 0
+      → IsNodeRef (slice_index full w) × IsNodeRef (slice_index full (suc w))
   -- a field of the start is as it was, and so is a cell, or its left word is empty
-  pub fields : (n c : ℕ) → n < p.parts.nodes → c < 2 → slice_index full (start_node p.parts n + c) ≡ field_of p.start.value p.parts n c
-  pub starts : (c : ℕ) (n : ℕ × ℕ) → slice_get (facing_pairs p.start.value) c ≡ Some n → ((slice_index full (start_cell p.parts c) ≡ 0) ⊎ (slice_index full (start_cell p.parts c) ≡ node_word p.start.value p.parts n.0)) × (slice_index full (suc (start_cell p.parts c)) ≡ node_word p.start.value p.parts n.1)
+  pub fields : (n c : ℕ) → n < p.parts.nodes → c < 2
+      → slice_index full (start_node p.parts n + c) ≡ field_of p.start.value p.parts n c
+  pub starts : (c : ℕ) (n : ℕ × ℕ) → slice_get (facing_pairs p.start.value) c ≡ Some n
+      → HoldsStart full (start_cell p.parts c) (node_word p.start.value p.parts n.0) (node_word p.start.value p.parts n.1)
   -- the blocks of tickets that weren't drawn are empty
   pub fresh : (w : ℕ) → block p.parts (length log) ≤ w → slice_index full w ≡ 0
   -- each other block begins with the nodes of its entry and the fields of the nodes that it made
-  pub entries : (t j : ℕ) (e : Event) → slice_get log t ≡ Some e → j < 10 → slice_index full (block p.parts t + j) ≡ slice_index (block_words p.parts e t) j
+  pub entries : (t j : ℕ) (e : Event) → slice_get log t ≡ Some e → j < 10
+      → slice_index full (block p.parts t + j) ≡ slice_index (block_words p.parts e t) j
   -- what a view knows stands there
-  pub known : (v : View) (w y : ℕ) → IsView s v → IsIn (w, y) v.known → (slice_index s.words w ≡ y) × (y ≢ 0) × IsLasting (part_of p.parts w)
+  pub known : (v : View) (w y : ℕ) → IsView s v → IsIn (w, y) v.known
+      → (slice_index s.words w ≡ y) × (y ≢ 0) × IsLasting (part_of p.parts w)
+
+-- one of the two nodes of an event
+abbrev pub IsNodeOfEvent : ℕ → Event → Type 0
+IsNodeOfEvent r e = (r ≡ e.f) ⊎ (r ≡ e.g)
+
+-- ticket t rewrote the pair of the cell with left word w
+abbrev pub IsUsedBy : Plan → List Event → List ℕ → ℕ → ℕ → Type 0
+IsUsedBy p log full t w = (part_of p.parts w ≡ left) × (w < block p.parts t) × (slice_index full w ≡ 0)
+    × ((e : Event) → slice_get log t ≡ Some e → IsNodeOfEvent (slice_index full (suc w)) e)
+
+-- the cell with left word w holds no active pair
+abbrev pub HoldsNoActive : List ℕ → ℕ → Type 0
+HoldsNoActive full w = (slice_index full w ≡ 0) ⊎ IsStuckPair (slice_index full w) (slice_index full (suc w))
+
+-- the cell of a pending link, in which nothing was published
+abbrev pub IsUnpublished : Plan → List ℕ → List ℕ → View → Link → Type 0
+IsUnpublished p from full v l = (part_of p.parts l.cell ≡ left) × (slice_index full l.cell ≡ 0)
+    × IsRightOf v l (slice_index full (suc l.cell)) × ((t w : ℕ) → slice_get from t ≡ Some w → w ≢ l.cell)
 
 -- The cells. `from` has, for each ticket, the left word of the cell whose pair it rewrote; that word stays empty, and the right word stays one of
 -- the two nodes.
 pub record CellsKeep (p : Plan) (s : Table) (log : List Event) (from full : List ℕ) : Type 0 where
   pub tickets : length from ≡ length log
-  pub used : (t w : ℕ) → slice_get from t ≡ Some w → (part_of p.parts w ≡ left) × (w < block p.parts t) × (slice_index full w ≡ 0) × ((e : Event) → slice_get log t ≡ Some e → (slice_index full (suc w) ≡ e.f) ⊎ (slice_index full (suc w) ≡ e.g))
+  pub used : (t w : ℕ) → slice_get from t ≡ Some w → IsUsedBy p log full t w
   -- a cell whose join is a pending link hasn't been published, and has no other pending link
-  pub unpublished : (v : View) (l : Link) → IsView s v → IsIn l v.pending → (part_of p.parts l.cell ≡ left) × (slice_index full l.cell ≡ 0) × IsRightOf v l (slice_index full (suc l.cell)) × ((t w : ℕ) → slice_get from t ≡ Some w → w ≢ l.cell)
+  pub unpublished : (v : View) (l : Link) → IsView s v → IsIn l v.pending → IsUnpublished p from full v l
   pub one_link : (w : ℕ) → total (λ (v : View). links_at w v.pending) s.views ≤ 1
-  pub link_refs : (v : View) (l : Link) → IsView s v → IsIn l v.pending → IsMadeRef p.parts log l.one × IsMadeRef p.parts log l.two
+  pub link_refs : (v : View) (l : Link) → IsView s v → IsIn l v.pending
+      → IsMadeRef p.parts log l.one × IsMadeRef p.parts log l.two
   -- no cell that was swept holds an active pair, and none will be published
-  pub swept : (v : View) (c : ℕ) → IsView s v → c < v.swept → (v.holds ≡ p.seats) × ((slice_index full (left_word p.parts c) ≡ 0) ⊎ IsStuckPair (slice_index full (left_word p.parts c)) (slice_index full (suc (left_word p.parts c)))) × ((l : Link) → IsIn l v.pending → l.cell ≢ left_word p.parts c)
+  pub swept : (v : View) (c : ℕ) → IsView s v → c < v.swept
+      → (v.holds ≡ p.seats) × HoldsNoActive full (left_word p.parts c)
+      × ((l : Link) → IsIn l v.pending → l.cell ≢ left_word p.parts c)
   -- a pair stands in the cell of a block, or was rewritten, as often as the cell is in a view's list of those that it published
-  pub published : (w : ℕ) → part_of p.parts w ≡ left → block p.parts 0 ≤ w → times_published p.parts w s.views ≡ filled (slice_index full w) + times w from
+  pub published : (w : ℕ) → part_of p.parts w ≡ left → block p.parts 0 ≤ w
+      → times_published p.parts w s.views ≡ filled (slice_index full w) + times w from
 
 -- a word of the block of a ticket that the view has drawn
 abbrev pub IsInOwnBlock : Parts → View → ℕ → Type 0
@@ -145,7 +177,8 @@ IsInOwnBlock z v w = (t : ℕ) × (x : Entry) × IsIn (t, x) v.made × IsInBlock
 
 -- slot c + 1 of a node of the net whose reference is the first end of one of these links
 abbrev pub IsLinkedField : Parts → NamedNet NodeName → List Link → NodeName → ℕ → Type 0
-IsLinkedField z net links x c = (k : Kind) × (i : ℕ) × HasNode net x k i × (c < arity k) × (d : ℕ) × IsIn (node_ref k i (place_of z x), d) (links_in links)
+IsLinkedField z net links x c = (k : Kind) × (i : ℕ) × HasNode net x k i × (c < arity k) × (d : ℕ)
+    × IsIn (node_ref k i (place_of z x), d) (links_in links)
 
 -- The seats, and what each view holds, which is known to it alone.
 pub record SeatsKeep (p : Plan) (s : Table) (log : List Event) (net : NamedNet NodeName) : Type 0 where
@@ -158,10 +191,12 @@ pub record SeatsKeep (p : Plan) (s : Table) (log : List Event) (net : NamedNet N
   -- a claimed pair is that of a cell
   pub taken : (v : View) (w y : ℕ) → IsView s v → IsIn (w, y) v.taken → (part_of p.parts w ≡ left) × (y ≢ 0)
   -- what a view has to write and to link is in the block of its own ticket
-  pub due : (v : View) (w y : ℕ) → IsView s v → IsIn (w, y) v.due → (y ≢ 0) × IsOwn (part_of p.parts w) × IsInOwnBlock p.parts v w
+  pub due : (v : View) (w y : ℕ) → IsView s v → IsIn (w, y) v.due
+      → (y ≢ 0) × IsOwn (part_of p.parts w) × IsInOwnBlock p.parts v w
   pub links : (v : View) (l : Link) → IsView s v → IsIn l v.pending → IsInOwnBlock p.parts v l.cell
   -- a field that a view has to write is that of a live node, and the one edge at this node's slot 0 is that of one of the view's own links
-  pub due_fields : (v : View) (w y : ℕ) (x : NodeName) (c : ℕ) → IsView s v → IsIn (w, y) v.due → part_of p.parts w ≡ field x c → IsLinkedField p.parts net v.pending x c
+  pub due_fields : (v : View) (w y : ℕ) (x : NodeName) (c : ℕ) → IsView s v → IsIn (w, y) v.due
+      → part_of p.parts w ≡ field x c → IsLinkedField p.parts net v.pending x c
   -- each ticket below the fuel is one view's
   pub made : (h : ℕ → Entry → ℕ) → total (λ (v : View). pairs h v.made) s.views ≡ numbered h 0 (entries_of p.parts log)
   -- a wire is dead in one view at most, and only where it was made
@@ -188,4 +223,5 @@ pub record Kept (p : Plan) (s : Table) : Type 0 where
 
 -- the words of a net with these parts meet the rule, whatever number of seats up to 64 is made over them
 abbrev pub Opens : Graph → Parts → List ℕ → Type 0
-Opens net z words = (p : Plan) → p.parts ≡ z → p.start.value ≡ net → 0 < p.seats → p.seats ≤ 64 → Kept p (opening words [] (opener p))
+Opens net z words = (p : Plan) → p.parts ≡ z → p.start.value ≡ net → 0 < p.seats → p.seats ≤ 64
+    → Kept p (opening words [] (opener p))

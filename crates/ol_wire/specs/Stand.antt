@@ -50,8 +50,10 @@ IsFreshFor b s n = (s.table ≡ b.table) × (s.view ≡ fresh b.plan.parts b.pla
 
 -- between two calls a seat holds nothing, and what it keeps in memory is what its view tells
 abbrev pub IsAtRest : Seated → Bool → ℕ → Type 0
-IsAtRest me over holds = (me.1 ≡ []) × IsIdle me.0 × (me.0.over ≡ over) × (me.0.holds ≡ holds) × (0 < holds) × (me.0.swept ≤ cells_of me.0.parts)
+IsAtRest me over holds = (me.1 ≡ []) × IsIdle me.0 × (me.0.over ≡ over) × (me.0.holds ≡ holds) × (0 < holds)
+    × (me.0.swept ≤ cells_of me.0.parts)
 
 -- the table is as it was told, and small
 abbrev pub IsTableOf : Plan → TableId → Parts → ℕ → Type 0
-IsTableOf p id z seats = (p.parts ≡ z) × (p.seats ≡ seats) × (id.words ≡ size z) × (id.slots ≡ 0) × IsSmall z × (seats ≤ 64)
+IsTableOf p id z seats = (p.parts ≡ z) × (p.seats ≡ seats) × (id.words ≡ size z) × (id.slots ≡ 0) × IsSmall z
+    × (seats ≤ 64)

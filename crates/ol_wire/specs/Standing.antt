@@ -29,7 +29,8 @@ is_reached_in w n = is_made w.plan.parts (log_in w.plan.parts w.words) n && nat_
 -- a node of the start, or one that a ticket made
 abbrev pub IsMadeNode : Parts → List ℕ → NodeName → Type 0
 IsMadeNode z words (Init n) = n < z.nodes
-IsMadeNode z words (Born t i) = (t < events_in z words) × (i < copies_of_f (event_at z words t) + copies_of_g (event_at z words t))
+IsMadeNode z words (Born t i) = (t < events_in z words)
+    × (i < copies_of_f (event_at z words t) + copies_of_g (event_at z words t))
 
 -- no ticket rewrote it
 abbrev pub IsUntouched : Parts → List ℕ → NodeName → Type 0
@@ -42,12 +43,16 @@ pub record StandsFor (w : ClosedTable) (net : NamedNet NodeName) (reached : ℕ 
   pub is_net : IsNet net
   pub ports : net.free_ports ≡ w.plan.parts.free
   pub live : (x : NodeName) → ((k : Kind) × (i : ℕ) × HasNode net x k i) ↔ (IsMadeNode w.plan.parts w.words x × IsUntouched w.plan.parts w.words x)
-  pub names : (x : NodeName) (k : Kind) (i : ℕ) → HasNode net x k i → IsPlaced w.plan.parts (events_in w.plan.parts w.words) x
+  pub names : (x : NodeName) (k : Kind) (i : ℕ) → HasNode net x k i
+      → IsPlaced w.plan.parts (events_in w.plan.parts w.words) x
   pub indexes : (x : NodeName) (k : Kind) (i : ℕ) → HasNode net x k i → i ≤ 1000000 + events_in w.plan.parts w.words
   pub erasers : (x : NodeName) (k : Kind) (i : ℕ) → HasNode net x k i → is_eraser k ≡ true → i ≡ 0
   -- each word but the ticket word holds a whole reference of something that was made, or nothing; the words of a cell hold nodes
-  pub refs : (n : ℕ) → 0 < n → slice_index w.words n ≢ 0 → IsRef (slice_index w.words n) × IsWhole (slice_index w.words n) × (place_in (slice_index w.words n) < block w.plan.parts (events_in w.plan.parts w.words))
-  pub cells : (n : ℕ) → part_of w.plan.parts n ≡ left → slice_index w.words n ≢ 0 → IsNodeRef (slice_index w.words n) × IsNodeRef (slice_index w.words (suc n))
+  pub refs : (n : ℕ) → 0 < n → slice_index w.words n ≢ 0
+      → IsRef (slice_index w.words n) × IsWhole (slice_index w.words n)
+      × (place_in (slice_index w.words n) < block w.plan.parts (events_in w.plan.parts w.words))
+  pub cells : (n : ℕ) → part_of w.plan.parts n ≡ left → slice_index w.words n ≢ 0
+      → IsNodeRef (slice_index w.words n) × IsNodeRef (slice_index w.words (suc n))
   pub wires : (n : ℕ) → reached n ≡ true → IsWirePart (part_of w.plan.parts n)
   pub stands : Stands w.plan.parts net reached (edges_in w.plan.parts net reached w.words (size w.plan.parts))
 

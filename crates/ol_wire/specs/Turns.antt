@@ -55,7 +55,13 @@ pub record Rewritten (z : Parts) (v : View) (c t : ℕ) (r : Rule) (b m : ℕ) (
   pub first : b ≡ z.cells + 4 * t
   pub mask : m < 16
   pub dead : (ws : List ℕ) × (n.dead ≡ v.dead ++ ws)
-  pub view : n ≡ record (claiming v c n.last) { swept = swept_on v c; known = n.known; dead = n.dead; made = v.made ++ (t, entry_of z (event_in n)) ∷ []; published = v.published ++ masked b m }
+  pub view : n ≡ record (claiming v c n.last) {
+    swept = swept_on v c;
+    known = n.known;
+    dead = n.dead;
+    made = v.made ++ (t, entry_of z (event_in n)) ∷ [];
+    published = v.published ++ masked b m;
+  }
 
 -- What the turn leaves. After Stuck and Spent the pair is in its cell again.
 abbrev pub Leaves : Parts → View → ℕ → Turn → View → Type 0

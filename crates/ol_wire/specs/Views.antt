@@ -5,7 +5,23 @@ use Rattle.ol_wire.specs.declared.layout.Parts.{Parts}
 use Rattle.ol_wire.specs.declared.view.View.{View}
 
 abbrev pub fresh : Parts → Graph → ℕ → ℕ → View
-fresh z net seats holds = record { claimed = []; published = []; made = []; last = (0, 0); over = false; holds = holds; taken = []; known = []; due = []; pending = []; dead = []; swept = 0; parts = z; seats = seats; start = net }
+fresh z net seats holds = record {
+  claimed = [];
+  published = [];
+  made = [];
+  last = (0, 0);
+  over = false;
+  holds = holds;
+  taken = [];
+  known = [];
+  due = [];
+  pending = [];
+  dead = [];
+  swept = 0;
+  parts = z;
+  seats = seats;
+  start = net;
+}
 
 -- it holds no pair, no word and no link
 abbrev pub IsIdle : View → Type 0

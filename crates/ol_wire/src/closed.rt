@@ -72,7 +72,8 @@ impl Words {
         }
     }
 
-    /// The entry of that number, counted from 0. `None`: there are only as many entries as that, or fewer.
+    /// The entry of that number, counted from 0. `None`: there are only as many entries as that, or
+    /// fewer.
     pub fn journal(&self, k: u32) -> Option<Entry>
         ensures { result ≡ slice_get (journal_in self.now.plan.parts self.now.words) k }
     {

@@ -10,7 +10,8 @@ use crate::seat::{Seat, Token};
 use crate::shared::Shared;
 
 impl Shared {
-    /// Moves what one seat has done, and the seats that it stands for, to another. No ticket then stands twice among those of the one.
+    /// Moves what one seat has done, and the seats that it stands for, to another. No ticket then
+    /// stands twice among those of the one.
     pub fn join(&self, into: &mut Seat, from: Seat)
         requires seats { IsOf self.now into.old × IsOf self.now from }
         ensures seat { IsOf self.now into.new }
@@ -23,7 +24,8 @@ impl Shared {
         into.holds += holds;
     }
 
-    // Joins two seats. The look that follows shows that they stand for no more than all seats, and that no ticket is there twice.
+    // Joins two seats. The look that follows shows that they stand for no more than all seats, and
+    // that no ticket is there twice.
     fn merge(&self, into: &mut Token, from: Token)
         requires into { IsTokenOf self.now into.old }
         requires from { (from.table_id ≡ self.now.table) × (from.me.1 ≡ []) }

@@ -49,8 +49,9 @@ fn word_of_port(net: &Net, parts: Parts, port: u32) -> u64
     }
 }
 
-// The field of slot `slot + 1` of a node, and the number of wires that have come so far. Of two auxiliary slots the one
-// that comes first has the next wire, and the field of the other one is the same word again.
+// The field of slot `slot + 1` of a node, and the number of wires that have come so far. Of two
+// auxiliary slots the one that comes first has the next wire, and the field of the other one is the
+// same word again.
 fn field_of(net: &Net, parts: Parts, words: &[u64], node: u32, slot: u8, wires: u32) -> (u64, u32)
     requires small { IsSmall parts × IsSmallNet net.now }
     requires inside { (node < length net.now.nodes) × (slot < 2) }
@@ -151,7 +152,8 @@ fn put_nodes(net: &Net, parts: Parts, words: &mut Vec<u64>) -> Result<u32, NoMem
     Ok(wires)
 }
 
-// Adds the two words of the cell of a node that faces one of a greater number, and answers how many cells that is.
+// Adds the two words of the cell of a node that faces one of a greater number, and answers how many
+// cells that is.
 fn put_cell(net: &Net, parts: Parts, words: &mut Vec<u64>, node: u32) -> Result<u32, NoMemory>
     requires small { IsSmall parts × IsSmallNet net.now }
     ensures added { OnOk result (Gains words.old words.new (cell_row net.now parts node)) }
@@ -223,10 +225,11 @@ fn lay_out(alloc: Global, net: &Net, fuel: u32) -> Result<(Parts, Vec<u64>), NoM
     Ok((parts, words))
 }
 
-/// A net laid out in words, with blocks for so many tickets. Whatever number of seats up to 64 is made over these words, they meet the
-/// rule of the table, with no ticket drawn.
+/// A net laid out in words, with blocks for so many tickets. Whatever number of seats up to 64 is
+/// made over these words, they meet the rule of the table, with no ticket drawn.
 ///
-/// It takes time in proportion to the number of words, and takes memory for them alone. `NoMemory`: no memory was found.
+/// It takes time in proportion to the number of words, and takes memory for them alone. `NoMemory`:
+/// no memory was found.
 pub(crate) fn lay(alloc: Global, net: &Net, fuel: u32) -> Result<(Parts, Vec<u64>), NoMemory>
     requires whole { count_by is_some net.now.nodes ≡ length net.now.nodes }
     requires small { IsSmallNet net.now }

@@ -46,7 +46,8 @@ fn lays_a_net_out(rt: HostRuntime) -> Result<(), Fail> {
     let start = vec![in rt.alloc();
         // The ticket word, and the free ports: port 1 is linked to node 3, and port 2 to port 3.
         0, 0, 5905580269, 2147483650, 0,
-        // The fields of the application: port 0, and node 2. The two of the abstraction: their wire.
+        // The fields of the application: port 0, and node 2. The two of the abstraction: their
+        // wire.
         536870914, 4831838229, 8053063682, 8053063682,
         // Of an eraser, of the croissant: node 4, and of the other eraser.
         0, 0, 6979321877, 0, 0, 0,

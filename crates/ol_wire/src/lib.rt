@@ -1,4 +1,5 @@
-//! The shared words: a net laid out in words that any number of threads rewrite by single atomic steps.
+//! The shared words: a net laid out in words that any number of threads rewrite by single atomic
+//! steps.
 #![tactic(auto)]
 
 mod closed;

@@ -87,7 +87,8 @@ impl Begun {
 }
 
 impl Shared {
-    // Makes the links of a rewrite. Bit j of the answer is set where the pair of join j was published.
+    // Makes the links of a rewrite. Bit j of the answer is set where the pair of join j was
+    // published.
     pub(crate) fn link_all(&self, token: &mut Token, begun: Begun) -> u8
         requires token { IsTokenOf self.now token.old }
         requires begun { IsBegun self.now.plan.parts token.old.me.0 begun }
@@ -105,8 +106,8 @@ impl Shared {
         mask
     }
 
-    // Makes the first pending link, and tells whether its pair was published. `cell` is the left word of
-    // its cell.
+    // Makes the first pending link, and tells whether its pair was published. `cell` is the left
+    // word of its cell.
     fn link(&self, token: &mut Token, cell: u32, one: u64, two: u64) -> bool
         requires token { IsTokenOf self.now token.old }
         requires next { IsNext token.old.me.0 cell one two }
@@ -130,8 +131,8 @@ impl Shared {
         }
     }
 
-    // Puts `other` into the word of `wire`, where these are the ends of the first pending link, and gives
-    // what stood there.
+    // Puts `other` into the word of `wire`, where these are the ends of the first pending link, and
+    // gives what stood there.
     fn exchange(&self, token: &mut Token, wire: u64, other: u64) -> Option<u64>
         requires token { IsTokenOf self.now token.old }
         requires next { AreNext token.old.me.0 wire other }

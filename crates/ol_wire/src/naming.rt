@@ -57,7 +57,8 @@ impl Parts {
         }
     }
 
-    /// The entry of two nodes that were rewritten, by their references; for a stuck pair it has no meaning.
+    /// The entry of two nodes that were rewritten, by their references; for a stuck pair it has no
+    /// meaning.
     pub(crate) fn entry(self, left: u64, right: u64) -> Entry
         requires small { IsSmall self }
         requires places { (place_in left < 4294967296) × (place_in right < 4294967296) }

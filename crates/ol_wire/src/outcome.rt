@@ -18,8 +18,9 @@ impl Words {
         let _ = &self.closed;
     }
 
-    /// Law: the words stand for the net after the journal. A wire is reached where it was made, by the net at the start or
-    /// by a crossing of the journal, and no exchange of any seat made it dead.
+    /// Law: the words stand for the net after the journal. A wire is reached where it was made, by
+    /// the net at the start or by a crossing of the journal, and no exchange of any seat made it
+    /// dead.
     pub fn stands(&self)
         ensures stands { StandForNet self.now }
     {
@@ -41,14 +42,16 @@ impl Words {
         let _ = &self.closed;
     }
 
-    /// Law: the seats have drawn each ticket of the journal once, and with the entry that it has there.
+    /// Law: the seats have drawn each ticket of the journal once, and with the entry that it has
+    /// there.
     pub fn made(&self)
         ensures made { AreNumbered self.now.view.made (journal_drawn self.now) }
     {
         let _ = &self.closed;
     }
 
-    /// Law: where the seat read a ticket at or above the fuel, the fuel is used up and an active pair is left.
+    /// Law: where the seat read a ticket at or above the fuel, the fuel is used up and an active
+    /// pair is left.
     pub fn over(&self)
         ensures fuel { self.now.view.over ≡ true → IsFuelUsed self.now }
         ensures active { self.now.view.over ≡ true → EachAfter self.now HasActive }

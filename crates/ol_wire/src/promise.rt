@@ -9,13 +9,14 @@ use crate::view::View;
 use atomic_table::TableRule;
 
 /// Law: whatever the words and the views are between two steps, the journal so far is a run of the
-/// net that the table was made from, and the words stand for the net after it. `Shared::events` gives such a moment.
+/// net that the table was made from, and the words stand for the net after it. `Shared::events`
+/// gives such a moment.
 pub fn at_every_moment()
     ensures { (p : Plan) (s : Table) → ⟦<Law as TableRule<(), View, Plan>>⟧.holds p s → Kept p s }
 {}
 
-/// Law: where no view has a claimed pair or a link to make, and no cell holds an active pair, the net of the journal has
-/// none. A seat holds neither between its calls.
+/// Law: where no view has a claimed pair or a link to make, and no cell holds an active pair, the
+/// net of the journal has none. A seat holds neither between its calls.
 pub fn nothing_is_overlooked()
     ensures { NothingIsOverlooked }
 {}

@@ -179,7 +179,8 @@ impl Parts {
         0
     }
 
-    /// The first ten words of the ticket's block: the two nodes, and the fields of the nodes that come.
+    /// The first ten words of the ticket's block: the two nodes, and the fields of the nodes that
+    /// come.
     pub(crate) fn block_words(self, rewrite: Rewrite, ticket: u32) -> [u64; 10]
         requires small { IsSmall self × (ticket ≤ 2000000) }
         requires places { (place_in rewrite.f < 4294967296) × (place_in rewrite.g < 4294967296) }

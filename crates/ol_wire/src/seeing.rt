@@ -8,8 +8,9 @@ use crate::seat::{Seat, Token};
 use crate::shared::Shared;
 
 impl Shared {
-    /// The number of entries that the journal has at a moment of this call. At that moment the words and the views of all
-    /// seats met the rule, for the net that the table was made from, and this seat's view was among them; it stays as it is.
+    /// The number of entries that the journal has at a moment of this call. At that moment the
+    /// words and the views of all seats met the rule, for the net that the table was made from, and
+    /// this seat's view was among them; it stays as it is.
     ///
     /// It is one load. It takes no memory and doesn't wait.
     pub fn events(&self, seat: &mut Seat) -> u32

@@ -38,12 +38,13 @@ impl Model for Shared {
 impl Shared {
     /// A table with the words of a net, which hands out at most `fuel` tickets, and its seats.
     ///
-    /// - `net`: a net no number of which is that of a node that went: at most 1,000,000 nodes, at most 1,000,000 free ports, no index above
-    ///   1,000,000.
+    /// - `net`: a net no number of which is that of a node that went: at most 1,000,000 nodes, at
+    ///   most 1,000,000 free ports, no index above 1,000,000.
     /// - `fuel`: at most 2,000,000 tickets, each of 22 words. `seats`: 1 to 64.
     ///
-    /// Each facing pair of the net stands in a cell of its own: cell c has the c-th of them by the smaller node number. All words that the run
-    /// can need are taken here. `NoMemory`: there was no memory for them.
+    /// Each facing pair of the net stands in a cell of its own: cell c has the c-th of them by the
+    /// smaller node number. All words that the run can need are taken here. `NoMemory`: there was
+    /// no memory for them.
     pub fn make(
         alloc: Global,
         net: &Net,

@@ -54,7 +54,8 @@ impl Shared {
         self.table.shared.load::<PairsUp>(token, word as usize)
     }
 
-    // Reads the field of an auxiliary slot of one of the two nodes in hand. The slots are counted from 0.
+    // Reads the field of an auxiliary slot of one of the two nodes in hand. The slots are counted
+    // from 0.
     pub(crate) fn look(&self, token: &mut Token, node: u64, slot: u32) -> u64
         requires token { IsTokenOf self.now token.old }
         requires pair { (w : ℕ) × IsInHand token.old.me.0 w }

@@ -21,9 +21,9 @@ use ol_net::Rule;
 
 /// What a turn came to.
 ///
-/// - `Rewrote`: the pair is rewritten, and its entry is in the journal. The four cells from `first_cell`
-///   on are the ticket's own; bit j of `mask` is set where the turn published a pair in the one of number
-///   `first_cell + j`.
+/// - `Rewrote`: the pair is rewritten, and its entry is in the journal. The four cells from
+///   `first_cell` on are the ticket's own; bit j of `mask` is set where the turn published a pair
+///   in the one of number `first_cell + j`.
 /// - `Gone`: the cell was empty.
 /// - `Stuck`: the pair has no rule. It is in its cell again.
 /// - `Spent`: the pair is active, and the fuel is used up. It is in its cell again.
@@ -40,8 +40,8 @@ pub enum Turn {
     Spent,
 }
 
-/// A rewrite whose ticket is drawn and whose block is written, and what the fields of its two nodes held.
-/// Its links are to be made.
+/// A rewrite whose ticket is drawn and whose block is written, and what the fields of its two nodes
+/// held. Its links are to be made.
 #[derive(Clone, Copy)]
 pub(crate) struct Begun {
     pub(crate) rewrite: Rewrite,
@@ -82,7 +82,8 @@ impl Shared {
         }
     }
 
-    // A turn up to its links: it is over already, or a pair has become a ticket. `over` is the seat's.
+    // A turn up to its links: it is over already, or a pair has become a ticket. `over` is the
+    // seat's.
     fn begin(&self, token: &mut Token, over: bool, cell: u32) -> Result<Begun, Turn>
         requires token { IsTokenOf self.now token.old }
         requires cell { cell < cells_of self.now.plan.parts }

@@ -1,5 +1,5 @@
-//! What a seat knows, and what a table is told when it is made. No thread keeps a view: it is seen by
-//! contracts alone, and takes no memory.
+//! What a seat knows, and what a table is told when it is made. No thread keeps a view: it is seen
+//! by contracts alone, and takes no memory.
 ghost use Rattle.std.specs.Prelude.{ℕ, List, Bool};
 ghost use Rattle.std.specs.Borrow.{ftrue};
 ghost use Rattle.ol_net.specs.Graph.{Graph};
@@ -9,8 +9,8 @@ ghost use Rattle.ol_wire.specs.declared.view.Link.{Link};
 
 use std::marker::Model;
 
-/// A link that a rewrite left to be made: its two ends, as references, and the left word of the cell
-/// where the two are published once both are nodes.
+/// A link that a rewrite left to be made: its two ends, as references, and the left word of the
+/// cell where the two are published once both are nodes.
 pub struct Link {
     pub cell: u64,
     pub one: u64,
@@ -41,11 +41,11 @@ pub struct View {
     pub ghost pending: { List Link },
     /// The wires that its exchanges made dead, by the numbers of their words.
     pub ghost dead: { List ℕ },
-    /// How many cells, from the first on, hold no active pair as far as it knows, once it is the one seat
-    /// that is left.
+    /// How many cells, from the first on, hold no active pair as far as it knows, once it is the
+    /// one seat that is left.
     pub ghost swept: { ℕ },
-    /// The parts and the seats of its table, and the net that the table was made from, which a step cannot
-    /// read elsewhere.
+    /// The parts and the seats of its table, and the net that the table was made from, which a step
+    /// cannot read elsewhere.
     pub ghost parts: { Parts },
     pub ghost seats: { ℕ },
     pub ghost start: { Graph },
