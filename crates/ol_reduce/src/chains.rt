@@ -40,5 +40,5 @@ pub(crate) fn follow(words: &Words, parts: Parts, first: u64) -> End
         }
         at = next;
     }
-    End::Node(at)
+    unreachable!()
 }

@@ -4,7 +4,7 @@ ghost use Rattle.core.specs.Mem.Slots.{slots_items, slots_len, IsFull};
 ghost use Rattle.ol_wire.specs.Closed.{ClosedTable, events_in, event_at, journal_in, HasWord};
 ghost use Rattle.ol_wire.specs.Layout.{size as size_of};
 ghost use Rattle.ol_wire.specs.Sizes.{IsSmall};
-ghost use Rattle.ol_wire.specs.ClosedRule.{IsClosed};
+ghost use Rattle.ol_wire.specs.ClosedRule.{IsClosed, closed_of, IsClosedOf};
 
 use crate::law::Law;
 use crate::layout::Parts;
@@ -28,9 +28,9 @@ pub struct Words {
 impl Model for Words {
     ghost Value = { ClosedTable };
 
-    ghost view = { λ w. record { plan = w.was.value.key; words = slots_items w.closed.words; view = w.last.value.me.0 } };
+    ghost view = { λ w. closed_of w.closed w.was.value.key w.last.value.me.0 };
 
-    ghost invariant = { λ w. IsFull w.closed.words × (w.was.value.key.parts ≡ w.parts) × (slots_len w.closed.words ≡ size_of w.parts) × (slots_len w.closed.slots ≡ 0) × IsSmall w.parts × IsClosed (record { plan = w.was.value.key; words = slots_items w.closed.words; view = w.last.value.me.0 }) };
+    ghost invariant = { λ w. IsClosedOf w.closed w.was.value.key w.parts w.last.value.me.0 };
 }
 
 impl Words {

@@ -32,7 +32,7 @@ loop-step-preserved c =
     next_answer c.args.words.now c.args.first c.loop-step.step c.loop-step.at c.loop-step.invariant c.requires.first c.is_node.result c.is_node.ensures c.if-is_node.false
     c.place_in-place.result c.place_in-place.ensures c.word_at-next.result (omega (arith, c.if-place-parts.false, ap (λ (z : Parts). z.free) c.requires.parts)) c.word_at-next.ensures c.if-next-eq0.false
 
-pub returns : goal.returns
-returns c =
-    absurd (never c.args.words.now c.args.first c.loop-step.step c.loop-step.at c.loop-step.invariant c.requires.first
-    (omega (arith, c.loop-step-test.false, c.size-step-end.ensures, ap (λ (z : Parts). size z) c.requires.parts)))
+pub unreachable-requires : goal.unreachable-requires
+unreachable-requires c =
+    never c.args.words.now c.args.first c.loop-step.step c.loop-step.at c.loop-step.invariant c.requires.first
+    (omega (arith, c.loop-step-test.false, c.size-step-end.ensures, ap (λ (z : Parts). size z) c.requires.parts))
