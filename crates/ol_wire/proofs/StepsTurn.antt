@@ -15,7 +15,8 @@ use Rattle.ol_wire.specs.Views.{IsIdle}
 use Rattle.ol_wire.specs.Blocks.{links_of}
 use Rattle.ol_wire.specs.Hands as hands
 use Rattle.ol_wire.specs.Hands.{claiming, in_hand, IsStuckLast, IsActiveLast, AreRefs}
-use Rattle.ol_wire.specs.Turns.{FoundActive, HasCause, masked, Leaves, Begins, IsBegun, AreLinked}
+use Rattle.ol_wire.specs.Turns.{FoundActive, HasCause, masked, Leaves}
+use Rattle.ol_wire.specs.TurnParts.{Begins, IsBegun, AreLinked}
 use Rattle.ol_wire.proofs.Places.{cell_of_left}
 use Rattle.ol_wire.proofs.TicketRefs.{event_of_pair}
 

@@ -18,7 +18,8 @@ use Rattle.ol_wire.specs.Blocks.{copies_of_f, born_ref, joins_in, link_of}
 use Rattle.ol_wire.specs.Plays.{IsRefOf, cell_at, moved, rest}
 use Rattle.ol_wire.specs.Rewrites.{event_for}
 use Rattle.ol_wire.specs.Links.{link_between, IsEndOf, IsNext, AreNext, IsLinked}
-use Rattle.ol_wire.specs.Turns.{masked, IsBegun, AreLinked}
+use Rattle.ol_wire.specs.Turns.{masked}
+use Rattle.ol_wire.specs.TurnParts.{IsBegun, AreLinked}
 use Rattle.ol_wire.proofs.TicketRefs.{joins_few}
 use Rattle.std.proofs.lemmas.List.{append-nil, append_assoc}
 

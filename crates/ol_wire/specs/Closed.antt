@@ -12,12 +12,19 @@ use Rattle.ol_wire.specs.declared.view.View.{View}
 use Rattle.ol_wire.specs.Layout.{block, cells_of}
 use Rattle.ol_wire.specs.Starts.{start_net}
 use Rattle.ol_wire.specs.Events.{Event, event_of, entry_of}
+use Rattle.core.specs.Mem.Slots.{slots_items}
+use Rattle.atomic_table.specs.declared.owned.Closed.{Closed}
+use Rattle.std.specs.declared.alloc.Global.{Global}
 
 -- its words, and the view of the seat that all seats were joined into
 pub record ClosedTable : Type 0 where
   pub plan : Plan
   pub words : List ℕ
   pub view : View
+
+-- what the kit's closed table tells, with the plan and the view of the last seat
+abbrev pub closed_of : Closed (Unit {0}) Global → Plan → View → ClosedTable
+closed_of c p v = record { plan = p; words = slots_items c.words; view = v }
 
 -- the number of tickets that were drawn below the fuel
 abbrev pub events_in : Parts → List ℕ → ℕ

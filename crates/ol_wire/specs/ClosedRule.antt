@@ -2,14 +2,14 @@
 use Rattle.std.specs.Prelude.{◌≡◌, ℕ}
 use mathlib.Core.Option.{some}
 use lib.ListN.{get_elem?}
-use Rattle.core.specs.Mem.Slots.{slots_items, slots_len, IsFull}
+use Rattle.core.specs.Mem.Slots.{slots_len, IsFull}
 use Rattle.atomic_table.specs.declared.owned.Closed.{Closed}
 use Rattle.ol_wire.specs.declared.layout.Parts.{Parts}
 use Rattle.ol_wire.specs.declared.plan.Plan.{Plan}
 use Rattle.ol_wire.specs.declared.view.View.{View}
 use Rattle.ol_wire.specs.Layout.{size}
 use Rattle.ol_wire.specs.Sizes.{IsSmall}
-use Rattle.ol_wire.specs.Closed.{ClosedTable}
+use Rattle.ol_wire.specs.Closed.{ClosedTable, closed_of}
 use Rattle.ol_wire.specs.Views.{IsIdle}
 use Rattle.ol_wire.specs.Rule.{Table, Kept}
 use Rattle.std.specs.declared.alloc.Global.{Global}
@@ -23,10 +23,6 @@ pub record IsClosed (w : ClosedTable) : Type 0 where
   pub seat : get_elem? table.views id ≡ some w.view
   pub all : w.view.holds ≡ w.plan.seats
   pub idle : IsIdle w.view
-
--- what the kit's closed table tells, with the plan and the view of the last seat
-abbrev pub closed_of : Closed (Unit {0}) Global → Plan → View → ClosedTable
-closed_of c p v = record { plan = p; words = slots_items c.words; view = v }
 
 -- each word is there, as many as the parts say
 abbrev pub IsClosedOf : Closed (Unit {0}) Global → Plan → Parts → View → Type 0

@@ -16,10 +16,12 @@ pub mod Plays
 pub mod LinkPlays
 pub mod Links
 pub mod Stand
+pub mod Tokens
 pub mod Closed
 pub mod ClosedRule
 pub mod Standing
 pub mod TurnPlays
 pub mod Hands
 pub mod Turns
+pub mod TurnParts
 pub mod Rewrites

@@ -1,10 +1,10 @@
 //! The words of a table that no thread shares any more, and what they say.
 ghost use Rattle.std.specs.Prelude.{◌≡◌, ℕ, ◌+◌, ◌<◌, ◌≤◌, length, MatchOption, slice_get, slice_index};
 ghost use Rattle.core.specs.Mem.Slots.{slots_items, slots_len, IsFull};
-ghost use Rattle.ol_wire.specs.Closed.{ClosedTable, events_in, event_at, journal_in, HasWord};
+ghost use Rattle.ol_wire.specs.Closed.{ClosedTable, events_in, event_at, journal_in, HasWord, closed_of};
 ghost use Rattle.ol_wire.specs.Layout.{size as size_of};
 ghost use Rattle.ol_wire.specs.Sizes.{IsSmall};
-ghost use Rattle.ol_wire.specs.ClosedRule.{IsClosed, closed_of, IsClosedOf};
+ghost use Rattle.ol_wire.specs.ClosedRule.{IsClosed, IsClosedOf};
 
 use crate::law::Law;
 use crate::layout::Parts;

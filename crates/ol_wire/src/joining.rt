@@ -2,7 +2,8 @@
 ghost use Rattle.std.specs.Prelude.{◌≡◌, ℕ, ◌+◌, ◌<◌, ◌≤◌, []};
 ghost use Rattle.ol_wire.specs.LinkPlays.{times_drawn};
 ghost use Rattle.ol_wire.specs.Plays.{joined};
-ghost use Rattle.ol_wire.specs.Stand.{IsOf, IsTokenOf, IsSameSeat};
+ghost use Rattle.ol_wire.specs.Stand.{IsOf};
+ghost use Rattle.ol_wire.specs.Tokens.{IsTokenOf, IsSameSeat};
 ghost use Rattle.ol_wire.specs.Views.{IsIdle};
 
 use crate::law::{Counts, Joins};

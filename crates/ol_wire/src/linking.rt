@@ -9,9 +9,9 @@ ghost use Rattle.ol_wire.specs.Plays.{IsRefOf, linked, moved, publishing};
 ghost use Rattle.ol_wire.specs.LinkPlays.{spread};
 ghost use Rattle.ol_wire.specs.Rewrites.{event_for};
 ghost use Rattle.ol_wire.specs.Sizes.{IsSmall};
-ghost use Rattle.ol_wire.specs.Stand.{IsTokenOf, IsSameSeat};
+ghost use Rattle.ol_wire.specs.Tokens.{IsTokenOf, IsSameSeat};
 ghost use Rattle.ol_wire.specs.Links.{link_between, IsEndOf, IsNext, AreNext, IsLinked, AreOpenEnds, HasExchanged, AreRefsOf, LosesWire};
-ghost use Rattle.ol_wire.specs.Turns.{IsBegun, AreLinked, AreEndsOf};
+ghost use Rattle.ol_wire.specs.TurnParts.{IsBegun, AreLinked, AreEndsOf};
 
 use crate::law::{Links, Places, Publishes};
 use crate::layout::Parts;

@@ -2,7 +2,8 @@
 ghost use Rattle.std.specs.Prelude.{◌≡◌, ◌<◌, ◌≤◌, [], false};
 ghost use Rattle.ol_wire.specs.Layout.{cells_of};
 ghost use Rattle.ol_wire.specs.Plays.{fewer, one_seat};
-ghost use Rattle.ol_wire.specs.Stand.{Stand, IsAtRest};
+ghost use Rattle.ol_wire.specs.Stand.{Stand};
+ghost use Rattle.ol_wire.specs.Tokens.{IsAtRest};
 ghost use Rattle.ol_wire.specs.Views.{IsIdle};
 
 use crate::law::Cut;

@@ -1,7 +1,8 @@
 //! A look at the whole table, by a seat.
 ghost use Rattle.std.specs.Prelude.{◌≡◌, ℕ, length};
 ghost use Rattle.ol_wire.specs.Moments.{Moment, MomentWith};
-ghost use Rattle.ol_wire.specs.Stand.{IsOf, IsTokenOf, IsSameSeat};
+ghost use Rattle.ol_wire.specs.Stand.{IsOf};
+ghost use Rattle.ol_wire.specs.Tokens.{IsTokenOf, IsSameSeat};
 
 use crate::law::Sees;
 use crate::seat::{Seat, Token};

@@ -6,7 +6,7 @@ ghost use Rattle.ol_wire.specs.References.{kind_in, place_in};
 ghost use Rattle.ol_wire.specs.Layout.{size, left_word, cells_of};
 ghost use Rattle.ol_wire.specs.Plays.{IsNodeOf, IsRefOf, IsLookedUp, paired, knowing, ticketed, late, wrote, returned, rest};
 ghost use Rattle.ol_wire.specs.Sizes.{IsSmall};
-ghost use Rattle.ol_wire.specs.Stand.{IsTokenOf, IsSameSeat};
+ghost use Rattle.ol_wire.specs.Tokens.{IsTokenOf, IsSameSeat};
 ghost use Rattle.ol_wire.specs.Views.{IsIdle};
 ghost use Rattle.ol_wire.specs.Hands.{claiming, missed, IsInHand, IsOfPair, HasClaimed, HoldsLeft, HasPaired, HasDrawn};
 

@@ -8,10 +8,12 @@ ghost use Rattle.ol_wire.specs.Layout.{block, left_word, cells_of};
 ghost use Rattle.ol_wire.specs.Blocks.{to_write};
 ghost use Rattle.ol_wire.specs.Plays.{IsNodeOf, event_in};
 ghost use Rattle.ol_wire.specs.Rewrites.{event_for};
-ghost use Rattle.ol_wire.specs.Stand.{IsOf, IsTokenOf, IsSameSeat};
+ghost use Rattle.ol_wire.specs.Stand.{IsOf};
+ghost use Rattle.ol_wire.specs.Tokens.{IsTokenOf, IsSameSeat};
 ghost use Rattle.ol_wire.specs.Views.{IsIdle};
 ghost use Rattle.ol_wire.specs.Hands.{IsStuckLast, missed, in_hand, IsInHand, IsOfPair, fields_known, IsSure, AreFields, AreRefs, Rewrote, HasTaken, AreNodesOf, MayDraw, KeepsInHand, looked_at, KeepsSure};
-ghost use Rattle.ol_wire.specs.Turns.{FoundActive, IsRewrote, HasCause, Leaves, Begins, FoundStuck, FoundFuel, FoundNoFuel, HasBegun, HasEnded, IsRewriteInHand, HasBegunOrLate, HasFieldsOf};
+ghost use Rattle.ol_wire.specs.Turns.{FoundActive, IsRewrote, HasCause, Leaves, FoundStuck, FoundFuel, FoundNoFuel};
+ghost use Rattle.ol_wire.specs.TurnParts.{Begins, HasBegun, HasEnded, IsRewriteInHand, HasBegunOrLate, HasFieldsOf};
 
 use crate::reference::kind_in;
 use crate::rewrite::{Rewrite, rewrite_of};
