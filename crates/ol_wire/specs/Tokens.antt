@@ -33,6 +33,6 @@ IsAtRest me over holds = (me.1 ≡ []) × IsIdle me.0 × (me.0.over ≡ over) ×
     × (me.0.swept ≤ cells_of me.0.parts)
 
 -- the table is as it was told, and small
-abbrev pub IsMadeTable : Plan → TableId → Parts → ℕ → Type 0
-IsMadeTable p id z seats = (p.parts ≡ z) × (p.seats ≡ seats) × (id.words ≡ size z) × (id.slots ≡ 0) × IsSmall z
+abbrev pub IsTable : Plan → TableId → Parts → ℕ → Type 0
+IsTable p id z seats = (p.parts ≡ z) × (p.seats ≡ seats) × (id.words ≡ size z) × (id.slots ≡ 0) × IsSmall z
     × (seats ≤ 64)

@@ -4,7 +4,7 @@ ghost use Rattle.ol_wire.specs.Layout.{size as size_of, cells_of};
 ghost use Rattle.ol_wire.specs.Sizes.{IsSmall, IsSmallNet};
 ghost use Rattle.ol_wire.specs.Starts.{AreParts};
 ghost use Rattle.ol_wire.specs.Stand.{Board, IsFresh};
-ghost use Rattle.ol_wire.specs.Tokens.{IsFreshFor, IsMadeTable};
+ghost use Rattle.ol_wire.specs.Tokens.{IsFreshFor, IsTable};
 ghost use Rattle.ol_wire.specs.Views.{fresh};
 
 use crate::law::Law;
@@ -33,7 +33,7 @@ impl Model for Shared {
 
     ghost view = { λ s. record { table = s.table.shared.table_id; plan = s.table.shared.key } };
 
-    ghost invariant = { λ s. IsMadeTable s.table.shared.key s.table.shared.table_id s.parts s.seats };
+    ghost invariant = { λ s. IsTable s.table.shared.key s.table.shared.table_id s.parts s.seats };
 }
 
 impl Shared {
