@@ -18,6 +18,8 @@ mod crossing;
 mod laws;
 mod leaf;
 mod leaf_changes;
+#[cfg(test)]
+mod level_texts;
 mod open;
 #[cfg(test)]
 mod open_tests;

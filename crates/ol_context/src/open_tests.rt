@@ -2,7 +2,7 @@
 
 ghost use Rattle.std.specs.Prelude.{◌≡◌, ◌<◌};
 
-use crate::tests::of;
+use crate::level_texts::of;
 use crate::walk_tests::{applied_name, applied_to_itself, shared_name, twice_twice};
 use crate::{OpenWalk, Steps, Values, walk_open};
 use ol_net::{Kind, Net, Port};

@@ -1,51 +1,17 @@
 //! Values, single crossings, and walks over the net of a small term.
 
-ghost use Rattle.std.specs.Prelude.{◌≡◌, IfOk};
-ghost use Rattle.ol_context.specs.Shapes.{IsHeld, AreHeld, Extends};
+ghost use Rattle.std.specs.Prelude.{IfOk};
+ghost use Rattle.ol_context.specs.Shapes.{IsHeld, Extends};
 
-use crate::{Context, Cross, Val, Values, Walk, cross, walk};
+use crate::level_texts::{assert_crossings, assert_walks, of};
+use crate::{Val, Values};
 use ol_io::NoMemory;
-use ol_net::{Kind, Net, NodeId, Port};
-use std::alloc::{AllocError, Global};
-use std::process::Abort;
+use ol_net::{Kind, Net, Port};
+use std::alloc::Global;
 use std::test::Fail;
 
-pub fn of(node: u32, slot: u8) -> Port
-    ensures { result ≡ Port.Of (record { 0 = node }) slot }
-{
-    Port::Of {
-        node: NodeId(node),
-        slot,
-    }
-}
-
-fn row(alloc: Global, values: &Values, a: Val, b: Val, c: Val) -> Result<Context, AllocError>
-    requires a { IsHeld values.now a }
-    requires b { IsHeld values.now b }
-    requires c { IsHeld values.now c }
-    ensures { IfOk result (λ r. AreHeld values.now r) }
-{
-    Ok(Context::of(vec![in alloc; a, b, c]?))
-}
-
-/// Asserts that a level of a context is equal to a value.
-pub fn assert_level(
-    rt: &impl Abort,
-    values: &Values,
-    context: &Context,
-    k: usize,
-    v: Val,
-) -> Result<(), NoMemory>
-    requires context { AreHeld values.now context.now }
-    requires v { IsHeld values.now v }
-{
-    let there = context.level(values, k);
-    assert!(rt; values.same(there, v)?, "level {k}");
-    Ok(())
-}
-
 /// So many times `o.` before a value.
-pub fn tower(values: &mut Values, count: u32, v: Val) -> Result<Val, NoMemory>
+fn tower(values: &mut Values, count: u32, v: Val) -> Result<Val, NoMemory>
     requires { IsHeld values.old v }
     ensures extends { Extends values.old values.new }
     ensures held { IfOk result (λ w. IsHeld values.new w) }
@@ -88,28 +54,6 @@ fn holds_deep_values(rt: HostRuntime) -> Result<(), Fail> {
     Ok(())
 }
 
-/// Enters a port of a node.
-fn enter(
-    rt: &impl Abort,
-    net: &Net,
-    values: &mut Values,
-    node: u32,
-    slot: u8,
-    context: &mut Context,
-) -> Result<Cross, NoMemory>
-    requires { AreHeld values.old context.old }
-    ensures extends { Extends values.old values.new }
-    ensures held { AreHeld values.new context.new }
-{
-    match net.kind_of(NodeId(node)) {
-        Some((kind, _)) => {
-            assert!(rt; slot < kind.slots());
-            cross(net, values, of(node, slot), context)
-        }
-        None => panic!(rt; "no node {node}"),
-    }
-}
-
 /// An abstraction and a bracket, each of whose ports is joined to a free port.
 fn two_nodes(alloc: Global) -> Result<Net, Fail> {
     let nodes = vec![in alloc; (Kind::Lam, 0), (Kind::Bracket, 0)]?;
@@ -125,25 +69,19 @@ fn two_nodes(alloc: Global) -> Result<Net, Fail> {
 
 #[test]
 fn crosses_single_nodes(rt: HostRuntime) -> Result<(), Fail> {
-    let net = two_nodes(rt.alloc())?;
-    let mut values = Values::new(rt.alloc());
-    let empty = values.empty();
-    let o = values.put_o(empty)?;
-    let star = values.put_star(empty)?;
-    let packed = values.put_pair(empty, o)?;
-    let mut context = row(rt.alloc(), &values, empty, empty, empty)?;
-    let out = enter(&rt, &net, &mut values, 0, 0, &mut context)?;
-    assert_eq!(rt; out, Cross::Undefined);
-    let mut context = row(rt.alloc(), &values, o, empty, empty)?;
-    let out = enter(&rt, &net, &mut values, 0, 0, &mut context)?;
-    assert_eq!(rt; out, Cross::Out(of(0, 1)));
-    assert_level(&rt, &values, &context, 0, empty)?;
-    let mut context = row(rt.alloc(), &values, o, empty, star)?;
-    let out = enter(&rt, &net, &mut values, 1, 1, &mut context)?;
-    assert_eq!(rt; out, Cross::Out(of(1, 0)));
-    assert_level(&rt, &values, &context, 0, packed)?;
-    assert_level(&rt, &values, &context, 1, star)?;
-    Ok(())
+    let alloc = rt.alloc();
+    let net = two_nodes(alloc)?;
+    let rows = [
+        (0, 0, ["", "", ""], "undefined"),
+        (0, 0, ["o", "", ""], "by 1 with"),
+        (
+            1,
+            1,
+            ["o", "", "*"],
+            "by 0 with 0:<empty,o.empty> 1:*.empty",
+        ),
+    ];
+    assert_crossings(&rt, alloc, &net, rows.as_slice())
 }
 
 /// The net of `\x. \y. x y`.
@@ -169,36 +107,16 @@ fn application(alloc: Global) -> Result<Net, Fail> {
     Net::build(alloc, 1, nodes, links).map_err(Fail::from)
 }
 
-/// The way to the head: both abstractions, the application, the croissant of x, and its abstraction.
+/// The way to the head: both abstractions, the application, the croissant of x, and its
+/// abstraction.
 #[test]
 fn walks_to_the_head(rt: HostRuntime) -> Result<(), Fail> {
-    let net = application(rt.alloc())?;
-    assert_eq!(rt; net.free_ports(), 1);
-    let mut values = Values::new(rt.alloc());
-    let empty = values.empty();
-    let o = values.put_o(empty)?;
-    let oo = values.put_o(o)?;
-    let star = values.put_star(empty)?;
-    let context = row(rt.alloc(), &values, oo, empty, empty)?;
-    match walk(&net, &mut values, 0, context, 5)? {
-        Walk::Exit {
-            port,
-            context,
-            crossings,
-        } => {
-            assert_eq!(rt; port, 0);
-            assert_eq!(rt; crossings, 5);
-            assert_level(&rt, &values, &context, 0, star)?;
-            assert_level(&rt, &values, &context, 1, o)?;
-            assert_level(&rt, &values, &context, 7, empty)?;
-        }
-        Walk::Undefined { crossings } => panic!(rt; "undefined at {crossings}"),
-        Walk::Budget => panic!(rt; "no exit"),
-    }
-    let context = row(rt.alloc(), &values, oo, empty, empty)?;
-    assert!(rt; matches!(walk(&net, &mut values, 0, context, 4)?, Walk::Budget));
-    let context = row(rt.alloc(), &values, o, empty, empty)?;
-    let walked = walk(&net, &mut values, 0, context, 4)?;
-    assert!(rt; matches!(walked, Walk::Undefined { crossings: 2 }));
-    Ok(())
+    let alloc = rt.alloc();
+    let net = application(alloc)?;
+    let rows = [
+        (0, ["oo", "", ""], 5, "5 to 0 with 0:*.empty 1:o.empty"),
+        (0, ["oo", "", ""], 4, "budget"),
+        (0, ["o", "", ""], 4, "undefined at 2"),
+    ];
+    assert_walks(&rt, alloc, &net, rows.as_slice())
 }

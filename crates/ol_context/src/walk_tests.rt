@@ -1,55 +1,11 @@
 //! Walks over the nets of small terms.
 
-ghost use Rattle.std.specs.Prelude.{◌<◌, ◌≤◌, length, IfOk};
-ghost use Rattle.ol_context.specs.Shapes.{IsHeld, AreHeld, Extends};
+ghost use Rattle.std.specs.Prelude.{◌≤◌, length, IfOk};
 
-use crate::tests::{assert_level, of, tower};
-use crate::{Context, Val, Values, Walk, walk};
-use ol_io::NoMemory;
+use crate::level_texts::{assert_walks, of};
 use ol_net::{Kind, Net, Port};
 use std::alloc::Global;
-use std::process::Abort;
 use std::test::Fail;
-
-/// The context that asks the root for so many abstractions.
-fn asked(alloc: Global, values: &mut Values, count: u32) -> Result<Context, Fail>
-    ensures extends { Extends values.old values.new }
-    ensures held { IfOk result (λ c. AreHeld values.new c) }
-{
-    let empty = values.empty();
-    let top = tower(values, count, empty)?;
-    Ok(Context::of(vec![in alloc; top]?))
-}
-
-/// The context of a walk that leaves by this port after so many crossings.
-fn leaves(
-    rt: &impl Abort,
-    net: &Net,
-    values: &mut Values,
-    from: u32,
-    context: Context,
-    port: u32,
-    crossings: u64,
-) -> Result<Context, NoMemory>
-    requires from { from < net.now.free }
-    requires held { AreHeld values.old context }
-    ensures extends { Extends values.old values.new }
-    ensures held { IfOk result (λ c. AreHeld values.new c) }
-{
-    match walk(net, values, from, context, 200)? {
-        Walk::Exit {
-            port: out,
-            context,
-            crossings: made,
-        } => {
-            assert_eq!(rt; out, port);
-            assert_eq!(rt; made, crossings);
-            Ok(context)
-        }
-        Walk::Undefined { crossings } => panic!(rt; "undefined at {crossings}"),
-        Walk::Budget => panic!(rt; "no exit"),
-    }
-}
 
 /// The net of `\x. f x`.
 pub fn applied_name(alloc: Global) -> Result<Net, Fail> {
@@ -75,20 +31,13 @@ pub fn applied_name(alloc: Global) -> Result<Net, Fail> {
 /// No exit for 0 abstractions; for 1 the head is f, with one argument.
 #[test]
 fn walks_to_a_name(rt: HostRuntime) -> Result<(), Fail> {
-    let net = applied_name(rt.alloc())?;
-    assert_eq!(rt; net.free_ports(), 2);
-    let mut values = Values::new(rt.alloc());
-    let context = asked(rt.alloc(), &mut values, 0)?;
-    let walked = walk(&net, &mut values, 0, context, 200)?;
-    assert!(rt; matches!(walked, Walk::Undefined { crossings: 1 }));
-    let empty = values.empty();
-    let o = values.put_o(empty)?;
-    let context = asked(rt.alloc(), &mut values, 1)?;
-    let left = leaves(&rt, &net, &mut values, 0, context, 1, 3)?;
-    assert_level(&rt, &values, &left, 0, empty)?;
-    assert_level(&rt, &values, &left, 1, o)?;
-    assert_level(&rt, &values, &left, 2, empty)?;
-    Ok(())
+    let alloc = rt.alloc();
+    let net = applied_name(alloc)?;
+    let rows = [
+        (0, ["", "", ""], 200, "undefined at 1"),
+        (0, ["o", "", ""], 200, "3 to 1 with 1:o.empty"),
+    ];
+    assert_walks(&rt, alloc, &net, rows.as_slice())
 }
 
 /// The net of `x x`.
@@ -115,23 +64,13 @@ pub fn shared_name(alloc: Global) -> Result<Net, Fail> {
 /// The head is x with one argument, and the argument's frame leads to x by another context.
 #[test]
 fn walks_to_a_shared_name(rt: HostRuntime) -> Result<(), Fail> {
-    let net = shared_name(rt.alloc())?;
-    assert_eq!(rt; net.free_ports(), 2);
-    let mut values = Values::new(rt.alloc());
-    let empty = values.empty();
-    let o = values.put_o(empty)?;
-    let context = asked(rt.alloc(), &mut values, 0)?;
-    let left = leaves(&rt, &net, &mut values, 0, context, 1, 3)?;
-    assert_level(&rt, &values, &left, 0, o)?;
-    assert_level(&rt, &values, &left, 1, o)?;
-    let star = values.put_star(empty)?;
-    let both = values.put_pair(empty, empty)?;
-    let marked = values.put_star(both)?;
-    let argument = Context::of(vec![in rt.alloc(); o, star, empty]?);
-    let left = leaves(&rt, &net, &mut values, 1, argument, 1, 6)?;
-    assert_level(&rt, &values, &left, 0, marked)?;
-    assert_level(&rt, &values, &left, 1, empty)?;
-    Ok(())
+    let alloc = rt.alloc();
+    let net = shared_name(alloc)?;
+    let rows = [
+        (0, ["", "", ""], 200, "3 to 1 with 0:o.empty 1:o.empty"),
+        (1, ["o", "*", ""], 200, "6 to 1 with 0:*.<empty,empty>"),
+    ];
+    assert_walks(&rt, alloc, &net, rows.as_slice())
 }
 
 /// The nodes of the net of `(\t. t t) (\f x. f (f x))`.
@@ -195,26 +134,19 @@ pub fn twice_twice(alloc: Global) -> Result<Net, Fail> {
 /// No exit for 0 and 1 abstractions; for 2 the level of the head is nested.
 #[test]
 fn walks_with_nested_levels(rt: HostRuntime) -> Result<(), Fail> {
-    let net = twice_twice(rt.alloc())?;
-    assert_eq!(rt; net.free_ports(), 1);
-    let mut values = Values::new(rt.alloc());
-    let context = asked(rt.alloc(), &mut values, 0)?;
-    let walked = walk(&net, &mut values, 0, context, 200)?;
-    assert!(rt; matches!(walked, Walk::Undefined { crossings: 9 }));
-    let context = asked(rt.alloc(), &mut values, 1)?;
-    let walked = walk(&net, &mut values, 0, context, 200)?;
-    assert!(rt; matches!(walked, Walk::Undefined { crossings: 25 }));
-    let empty = values.empty();
-    let o = values.put_o(empty)?;
-    let inner = values.put_pair(empty, o)?;
-    let outer = values.put_pair(inner, o)?;
-    let star = values.put_star(outer)?;
-    let context = asked(rt.alloc(), &mut values, 2)?;
-    let left = leaves(&rt, &net, &mut values, 0, context, 0, 91)?;
-    assert_level(&rt, &values, &left, 0, star)?;
-    assert_level(&rt, &values, &left, 1, o)?;
-    assert_level(&rt, &values, &left, 2, empty)?;
-    Ok(())
+    let alloc = rt.alloc();
+    let net = twice_twice(alloc)?;
+    let rows = [
+        (0, ["", "", ""], 200, "undefined at 9"),
+        (0, ["o", "", ""], 200, "undefined at 25"),
+        (
+            0,
+            ["oo", "", ""],
+            200,
+            "91 to 0 with 0:*.<<empty,o.empty>,o.empty> 1:o.empty",
+        ),
+    ];
+    assert_walks(&rt, alloc, &net, rows.as_slice())
 }
 
 /// The net of `(\x. x x) (\y. y)`.
@@ -250,20 +182,12 @@ pub fn applied_to_itself(alloc: Global) -> Result<Net, Fail> {
 /// The 21st crossing is undefined for 0 abstractions. For 1 the walk leaves after 43, and not before.
 #[test]
 fn walks_through_a_redex(rt: HostRuntime) -> Result<(), Fail> {
-    let net = applied_to_itself(rt.alloc())?;
-    assert_eq!(rt; net.free_ports(), 1);
-    let mut values = Values::new(rt.alloc());
-    let context = asked(rt.alloc(), &mut values, 0)?;
-    let walked = walk(&net, &mut values, 0, context, 200)?;
-    assert!(rt; matches!(walked, Walk::Undefined { crossings: 21 }));
-    let context = asked(rt.alloc(), &mut values, 1)?;
-    let walked = walk(&net, &mut values, 0, context, 42)?;
-    assert!(rt; matches!(walked, Walk::Budget));
-    let empty = values.empty();
-    let star = values.put_star(empty)?;
-    let context = asked(rt.alloc(), &mut values, 1)?;
-    let left = leaves(&rt, &net, &mut values, 0, context, 0, 43)?;
-    assert_level(&rt, &values, &left, 0, star)?;
-    assert_level(&rt, &values, &left, 1, empty)?;
-    Ok(())
+    let alloc = rt.alloc();
+    let net = applied_to_itself(alloc)?;
+    let rows = [
+        (0, ["", "", ""], 200, "undefined at 21"),
+        (0, ["o", "", ""], 42, "budget"),
+        (0, ["o", "", ""], 43, "43 to 0 with 0:*.empty"),
+    ];
+    assert_walks(&rt, alloc, &net, rows.as_slice())
 }
