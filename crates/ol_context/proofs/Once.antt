@@ -1,6 +1,7 @@
 -- The arena holds each value once.
 use Rattle.std.proofs.Common.{◌≡◌, ◌≢◌, ℕ, zero, suc, ◌+◌, ◌<◌, ◌≤◌, ◌⊎◌, inl, inr, Bool, true, false, ◌&&◌, eqb, eqb-true, eq-eqb, List, [], ◌∷◌, ◌++◌, if◌then◌else◌, length, take, get_or, slice_get, Some, refl, sym, ap, ◌∙◌, subst, arith}
 use Rattle.std.specs.List.{list_any}
+use Rattle.std.proofs.lemmas.Bool.{and_parts}
 use Rattle.std.proofs.lemmas.List.{get_or_append_left, get_or_push, length_push, take-append-le, take_all, get_or-take}
 use Rattle.std.proofs.lemmas.Option.{slice_get_within, get_or_from_slice_get}
 use Rattle.std.proofs.lemmas.List.Folds.{list_any_at}
@@ -14,11 +15,6 @@ use Rattle.ol_context.proofs.Shapes.{row_push, trees_push, trees_length, extends
 
 abbrev pub same : Shape → Shape → Bool
 same = eq-value.it
-
-both : (a b : Bool) → (a && b) ≡ true → (a ≡ true) × (b ≡ true)
-both true true e = (refl, refl)
-both true false e = absurd (cc)
-both false b e = absurd (cc)
 
 pub same_is : (s t : Shape) → same s t ≡ true → s ≡ t
 same_is Empty Empty e = refl
@@ -36,7 +32,7 @@ same_is (Star a) (Pair b d) e = absurd (cc)
 same_is (Pair a c) Empty e = absurd (cc)
 same_is (Pair a c) (O b) e = absurd (cc)
 same_is (Pair a c) (Star b) e = absurd (cc)
-same_is (Pair a c) (Pair b d) e = let t = both (eqb a b) (eqb c d) e in ap (λ x. Pair x c) (eqb-true a b t.0) ∙ ap (Pair b) (eqb-true c d t.1)
+same_is (Pair a c) (Pair b d) e = let t = and_parts (eqb a b) (eqb c d) e in ap (λ x. Pair x c) (eqb-true a b t.0) ∙ ap (Pair b) (eqb-true c d t.1)
 
 pub same_refl : (s : Shape) → same s s ≡ true
 same_refl Empty = refl

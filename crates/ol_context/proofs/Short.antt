@@ -1,5 +1,6 @@
 -- Without facing pairs a path is short.
 use Rattle.std.proofs.Common.{◌≡◌, ◌≢◌, ℕ, suc, ◌+◌, ◌*◌, ◌<◌, ◌≤◌, List, [], ◌∷◌, map, length, inl, inr, refl, sym, ap, ◌∙◌, subst, arith}
+use Rattle.std.proofs.lemmas.List.{length-map}
 use Rattle.ol_edges.specs.Edges.{IsIn}
 use Rattle.ol_net.specs.declared.parts.Kind.{Kind}
 use Rattle.ol_net.specs.Nets.{NamedNet, NamedPort, free, slot, HasNode, Linked, IsNet}
@@ -31,10 +32,6 @@ take_other x z (y ∷ ys) (inl e) n (inl e') = absurd (n (e' ∙ sym e))
 take_other x z (y ∷ ys) (inl e) n (inr k) = k
 take_other x z (y ∷ ys) (inr h) n (inl e') = inl e'
 take_other x z (y ∷ ys) (inr h) n (inr k) = inr (take_other x z ys h n k)
-
-pub map_length : {A B : Type 0} (m : A → B) (xs : List A) → length (map m xs) ≡ length xs
-map_length m [] = refl
-map_length m (x ∷ xs) = ap suc (map_length m xs)
 
 -- as many pigeons as holes at most
 pub few : {A : Type 0} (xs ys : List A) → IsOnce xs → ((x : A) → IsIn x xs → IsIn x ys) → length xs ≤ length ys
@@ -176,7 +173,7 @@ module _ {A : Type 0} (N : NamedNet A) (is_net : IsNet N) (no_facing : HasNoFaci
         let b = few t.ys (map (λ (n : A × Kind × ℕ). n.0) N.nodes) t.falls'.once (λ z k. inside z (t.falls'.live z k)) in
         let l = t.long in
         let l' = t.falls'.long in
-        let m = map_length (λ (n : A × Kind × ℕ). n.0) N.nodes in
+        let m = length-map N.nodes (λ (n : A × Kind × ℕ). n.0) in
         omega arith
 
 module _ {A : Type 0} where

@@ -1,6 +1,6 @@
 -- Without facing pairs a walk turns once, and then goes on.
 use Rattle.std.proofs.Common.{◌≡◌, ℕ, zero, suc, ◌+◌, ◌-◌, ◌*◌, ◌<◌, ◌≤◌, ◌⊎◌, List, [], ◌∷◌, ◌++◌, map, length, inl, inr, refl, sym, ap, ◌∙◌, subst, arith, append_assoc, append-nil}
-use Rattle.std.proofs.lemmas.List.{map-append, length-append}
+use Rattle.std.proofs.lemmas.List.{map-append, length-map, length-append}
 use Rattle.ol_edges.specs.Edges.{IsIn}
 use Rattle.ol_net.specs.declared.parts.Kind.{Kind}
 use Rattle.ol_net.specs.Nets.{NamedNet, NamedPort, free, slot, HasNode, Linked, IsNet, IsPort}
@@ -10,7 +10,7 @@ use Rattle.ol_context.specs.Ways.{Way, start, on, Stands}
 use Rattle.ol_context.specs.Short.{HasNoFacing, live, IsOnce, entries, principal, auxiliary, TurnsOnce, LeavesExactly}
 use Rattle.ol_context.specs.Answers.{IsExit, ExitsExactly}
 use Rattle.ol_context.specs.declared.answers.Walk.{Walk}
-use Rattle.ol_context.proofs.Short.{in_map, map_length, few, IsLive, Down, first, next, down_one, short}
+use Rattle.ol_context.proofs.Short.{in_map, few, IsLive, Down, first, next, down_one, short}
 use Rattle.ol_context.proofs.Ways.{way_exits, way_passes}
 
 in_last : {X : Type 0} (z x : X) (xs : List X) → IsIn z (xs ++ x ∷ []) → IsIn z xs ⊎ (z ≡ x)
@@ -125,7 +125,7 @@ module _ {A : Type 0} (N : NamedNet A) (is_net : IsNet N) (apart : HasNoFacing N
   few_down n u ps f =
       let inside : (z : A) → IsLive N is_net apart z → IsIn z (map (λ (n : A × Kind × ℕ). n.0) N.nodes) = λ z h. in_map (λ (n : A × Kind × ℕ). n.0) (z, h.0, h.1) N.nodes h.2 in
       let a = few f.down (map (λ (n : A × Kind × ℕ). n.0) N.nodes) f.once (λ z k. inside z (f.lives z k)) in
-      let m = map_length (λ (n : A × Kind × ℕ). n.0) N.nodes in
+      let m = length-map N.nodes (λ (n : A × Kind × ℕ). n.0) in
       let l = f.long in
       omega arith
 

@@ -5,9 +5,9 @@ use Rattle.ol_context.specs.declared.leaf.Around.{Around}
 use Rattle.ol_context.specs.declared.leaf.Leaf.{Leaf}
 use Rattle.ol_net.specs.declared.parts.Kind.{Kind}
 use Rattle.ol_net.specs.declared.parts.Kind.TheVariants as kind
-use Rattle.ol_context.specs.Contexts.{Level, empty, o, Context}
+use Rattle.ol_context.specs.Contexts.{Level, empty, o, Context, cons, at_level}
 use Rattle.ol_context.specs.Paths.{Crosses}
-use Rattle.ol_context.specs.Shapes.{AreHeld, context_of}
+use Rattle.ol_context.specs.Shapes.{value, IsHeld, AreHeld, context_of}
 use Rattle.ol_context.specs.Crossed.{NoCrossing}
 use Rattle.ol_context.specs.Asked.{os}
 use Rattle.ol_context.specs.declared.leaf.Fate.{Fate}
@@ -40,6 +40,14 @@ AreHeldWith vs ns l = AreHeld vs ns × AreHeldParts vs l.around.items
 -- the levels but for the one with the leaf, and the leaf, stay
 abbrev pub IsKept : List ℕ → List ℕ → Leaf → Leaf → Type 0
 IsKept ns ms l m = (ms ≡ ns) × (seen m ≡ seen l)
+
+-- in each holder of v, of none and of the numbers ns, the numbers ms are held too
+abbrev pub AreHeldWithIt : ℕ → ℕ → List ℕ → List ℕ → Type 0
+AreHeldWithIt v none ns ms = (vs : List Level) → IsHeld vs v → IsHeld vs none → AreHeld vs ns → AreHeld vs ms
+
+-- where none is the number of the empty value, ms stand for the levels of ns with the value of v put in as level i
+abbrev pub HasPutIn : ℕ → ℕ → ℕ → List ℕ → List ℕ → Type 0
+HasPutIn i v none ns ms = (vs : List Level) → value vs none ≡ empty → context_of vs ms ≡ at_level i (cons (value vs v)) (context_of vs ns)
 
 -- whatever the leaf is, the new levels stand for f of what the old ones stood for
 abbrev pub HasRisen : List Level → List Level → List ℕ → List ℕ → Leaf → Leaf → (Context → Context) → Type 0

@@ -56,3 +56,7 @@ WalkGoesOn A = (N : NamedNet A) → IsNet N → HasNoFacing N → (p : ℕ) (c :
 -- and with the number of crossings.
 abbrev pub LeavesExactly : NamedNet ℕ → ℕ → Context → List Level → Walk → Type 0
 LeavesExactly N p c vs w = (q : ℕ) (d : Context) (n : ℕ) → IsExit vs w q d n ↔ ((r : Path N (free p) c q d) × (crossings r ≡ n))
+
+-- That is so where no two principal ports are linked and edges is at least twice the number of nodes.
+abbrev pub LeavesIfEnough : NamedNet ℕ → ℕ → Context → ℕ → List Level → Walk → Type 0
+LeavesIfEnough N p c edges vs w = HasNoFacing N → 2 * live N ≤ edges → LeavesExactly N p c vs w

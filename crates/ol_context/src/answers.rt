@@ -15,7 +15,8 @@ pub enum Cross {
 /// What a walk answers.
 #[derive(Drop)]
 pub enum Walk {
-    /// The walk has reached the free port with number `port`, with this context, after so many crossings.
+    /// The walk has reached the free port with number `port`, with this context, after so many
+    /// crossings.
     Exit {
         port: u32,
         context: Context,
@@ -40,8 +41,9 @@ pub enum OpenWalk {
         context: Context,
         crossings: u64,
     },
-    /// Whatever it is asked for, the walk tries a crossing that is not defined: at the latest the one
-    /// tried as number `crossings`, counted from 1. `lams` is the least number for which it is that one.
+    /// Whatever it is asked for, the walk tries a crossing that is not defined: at the latest the
+    /// one tried as number `crossings`, counted from 1. `lams` is the least number for which it is
+    /// that one.
     Undefined {
         lams: u64,
         crossings: u64,

@@ -42,7 +42,8 @@ pub enum Shape {
     Pair(Val, Val),
 }
 
-/// Level values, each held once and named by a `Val`. Contracts see the list of the values, by number.
+/// Level values, each held once and named by a `Val`. Contracts see the list of the values, by
+/// number.
 ///
 /// Each `Val` keeps its value, until `cut` takes it away. There are at most 4294967295 values.
 #[derive(Drop)]
@@ -63,7 +64,8 @@ impl Model for Values {
 
     ghost view = { λ a. trees a.shapes.keys };
 
-    ghost invariant = { λ a. IsRow 1 a.shapes.keys × AreOnce a.shapes.keys × (length a.shapes.keys < 4294967295) };
+    ghost invariant = { λ a.
+        IsRow 1 a.shapes.keys × AreOnce a.shapes.keys × (length a.shapes.keys < 4294967295) };
 }
 
 impl Values {
@@ -177,14 +179,15 @@ impl Values {
         requires first { IsHeld self.old a }
         requires second { IsHeld self.old b }
         ensures extends { Extends self.old self.new }
-        ensures new { IfOk result (λ w. IsNumberOf self.new w (pair (value self.old a) (value self.old b))) }
+        ensures new { IfOk result (λ w.
+            IsNumberOf self.new w (pair (value self.old a) (value self.old b))) }
         ensures err { OnErr result (self.new ≡ self.old) }
     {
         self.put(Shape::Pair(a, b))
     }
 
-    /// Whether two values of this holder are equal as trees: exactly where they are one number. Takes no
-    /// memory.
+    /// Whether two values of this holder are equal as trees: exactly where they are one number.
+    /// Takes no memory.
     pub fn equal(&self, a: Val, b: Val) -> bool
         requires first { IsHeld self.now a }
         requires second { IsHeld self.now b }

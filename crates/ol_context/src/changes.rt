@@ -1,11 +1,11 @@
 //! What nodes do to the levels of a context, in place. An index `i` is that of the node.
 
 ghost use Rattle.std.specs.List.{insert as inserted};
-ghost use Rattle.std.specs.Prelude.{◌≡◌, ◌-◌, ◌<◌, ◌≤◌, ◌++◌, length, replicate, IfOk, OnOk, OnErr, MatchOption};
+ghost use Rattle.std.specs.Prelude.{◌≡◌, ◌-◌, ◌<◌, ◌≤◌, ◌++◌, length, replicate, IfOk, OnOk, OnErr};
 ghost use Rattle.ol_net.specs.Parts.{arity};
 ghost use Rattle.ol_context.specs.Contexts.{empty, marked, cons, at_level, mark, packed, up};
 ghost use Rattle.ol_context.specs.Shapes.{value, IsHeld, AreHeld, Extends, IsNumberOf};
-ghost use Rattle.ol_context.specs.Crossed.{Becomes, ComesFrom, NoneInto, HasFallen};
+ghost use Rattle.ol_context.specs.Crossed.{Becomes, HasLostMark, HasUndone, HasFallen};
 
 use crate::arena::{Shape, Val, Values};
 use crate::row::level_or;
@@ -14,7 +14,8 @@ use ol_net::Kind;
 
 // Makes the list at least `n` levels long.
 pub fn reach(levels: &mut Vec<Val>, n: usize, none: Val) -> Result<(), NoMemory>
-    ensures ok { OnOk result (levels.new.items ≡ levels.old.items ++ replicate (n - length levels.old.items) none) }
+    ensures ok { OnOk result
+        (levels.new.items ≡ levels.old.items ++ replicate (n - length levels.old.items) none) }
     ensures err { OnErr result (levels.new.items ≡ levels.old.items) }
 {
     if levels.len() >= n {
@@ -53,7 +54,8 @@ pub fn mark_up(values: &mut Values, levels: &mut Vec<Val>, i: usize, s: u8) -> R
     requires held { AreHeld values.old levels.old.items }
     requires small { i < 4294967296 }
     ensures extends { Extends values.old values.new }
-    ensures ok { OnOk result (Becomes values.old values.new levels.old.items levels.new.items (at_level i (mark s))) }
+    ensures ok { OnOk result
+        (Becomes values.old values.new levels.old.items levels.new.items (at_level i (mark s))) }
     ensures err { OnErr result (levels.new.items ≡ levels.old.items) }
 {
     let none = values.empty();
@@ -66,7 +68,7 @@ pub fn mark_up(values: &mut Values, levels: &mut Vec<Val>, i: usize, s: u8) -> R
 
 fn mark_down(values: &Values, levels: &mut Vec<Val>, i: usize) -> Option<u8>
     requires { AreHeld values.now levels.old.items }
-    ensures { MatchOption result ((levels.new.items ≡ levels.old.items) × NoneInto values.now levels.old.items i mark) (λ s. (s < 2) × ComesFrom values.now levels.old.items levels.new.items (at_level i (mark s))) }
+    ensures { HasLostMark values.now i levels.old.items levels.new.items result }
 {
     if i >= levels.len() {
         return None;
@@ -88,7 +90,9 @@ fn mark_down(values: &Values, levels: &mut Vec<Val>, i: usize) -> Option<u8>
 
 pub fn croissant_up(values: &Values, levels: &mut Vec<Val>, i: usize) -> Result<(), NoMemory>
     requires { AreHeld values.now levels.old.items }
-    ensures ok { OnOk result (Becomes values.now values.now levels.old.items levels.new.items (at_level i (cons empty))) }
+    ensures ok { OnOk result
+        (Becomes values.now values.now levels.old.items levels.new.items
+        (at_level i (cons empty))) }
     ensures err { OnErr result (levels.new.items ≡ levels.old.items) }
 {
     if i < levels.len() {
@@ -101,7 +105,7 @@ pub fn croissant_up(values: &Values, levels: &mut Vec<Val>, i: usize) -> Result<
 
 fn croissant_down(values: &Values, levels: &mut Vec<Val>, i: usize) -> Option<u8>
     requires { AreHeld values.now levels.old.items }
-    ensures { MatchOption result ((levels.new.items ≡ levels.old.items) × NoneInto values.now levels.old.items i (λ s. cons empty)) (λ s. (s ≡ 0) × ComesFrom values.now levels.old.items levels.new.items (at_level i (cons empty))) }
+    ensures { HasUndone (cons empty) values.now i levels.old.items levels.new.items result }
 {
     if i >= levels.len() {
         return Some(0);
@@ -122,7 +126,8 @@ pub fn bracket_up(values: &mut Values, levels: &mut Vec<Val>, i: usize) -> Resul
     requires held { AreHeld values.old levels.old.items }
     requires small { i < 4294967296 }
     ensures extends { Extends values.old values.new }
-    ensures ok { OnOk result (Becomes values.old values.new levels.old.items levels.new.items (at_level i packed)) }
+    ensures ok { OnOk result
+        (Becomes values.old values.new levels.old.items levels.new.items (at_level i packed)) }
     ensures err { OnErr result (levels.new.items ≡ levels.old.items) }
 {
     let none = values.empty();
@@ -138,7 +143,7 @@ pub fn bracket_up(values: &mut Values, levels: &mut Vec<Val>, i: usize) -> Resul
 fn bracket_down(values: &Values, levels: &mut Vec<Val>, i: usize) -> Result<Option<u8>, NoMemory>
     requires held { AreHeld values.now levels.old.items }
     requires small { i < 4294967296 }
-    ensures ok { IfOk result (λ r. MatchOption r ((levels.new.items ≡ levels.old.items) × NoneInto values.now levels.old.items i (λ s. packed)) (λ s. (s ≡ 0) × ComesFrom values.now levels.old.items levels.new.items (at_level i packed))) }
+    ensures ok { IfOk result (HasUndone packed values.now i levels.old.items levels.new.items) }
     ensures err { OnErr result (levels.new.items ≡ levels.old.items) }
 {
     if i >= levels.len() {
@@ -169,7 +174,8 @@ pub fn rise(
     requires small { i < 4294967296 }
     requires slot { s < arity kind }
     ensures extends { Extends values.old values.new }
-    ensures ok { OnOk result (Becomes values.old values.new levels.old.items levels.new.items (up kind i s)) }
+    ensures ok { OnOk result
+        (Becomes values.old values.new levels.old.items levels.new.items (up kind i s)) }
     ensures err { OnErr result (levels.new.items ≡ levels.old.items) }
 {
     match kind {
@@ -191,7 +197,8 @@ pub fn fall(
 ) -> Result<Option<u8>, NoMemory>
     requires held { AreHeld values.now levels.old.items }
     requires small { i < 4294967296 }
-    ensures ok { IfOk result (λ r. HasFallen kind i values.now levels.old.items levels.new.items r) }
+    ensures ok { IfOk result (λ r.
+        HasFallen kind i values.now levels.old.items levels.new.items r) }
     ensures err { OnErr result (levels.new.items ≡ levels.old.items) }
 {
     match kind {

@@ -1,11 +1,9 @@
 //! Crossings of nodes.
 
-ghost use Rattle.std.specs.Prelude.{◌≡◌, ◌≤◌, ◌↔◌, IfOk, OnErr};
+ghost use Rattle.std.specs.Prelude.{◌≡◌, ◌≤◌, IfOk, OnErr};
 ghost use Rattle.ol_net.specs.Parts.{arity};
-ghost use Rattle.ol_net.specs.Numbered.{net_of, numbered_port};
-ghost use Rattle.ol_context.specs.Paths.{Through, IsBarred};
-ghost use Rattle.ol_context.specs.Shapes.{AreHeld, Extends, context_of};
-ghost use Rattle.ol_context.specs.Crossed.{IsCrossed, IsNodePort, IfOut};
+ghost use Rattle.ol_context.specs.Shapes.{AreHeld, Extends};
+ghost use Rattle.ol_context.specs.Crossed.{IsCrossed, IsNodePort, LeavesNode, IsUndefinedExactly};
 
 use crate::answers::Cross;
 use crate::arena::{Val, Values};
@@ -27,7 +25,8 @@ pub fn cross_node(
     requires slot { slot ≤ arity kind }
     ensures extends { Extends values.old values.new }
     ensures held { AreHeld values.new levels.new.items }
-    ensures crossed { IfOk result (λ r. IsCrossed kind index slot values.old values.new levels.old.items levels.new.items r) }
+    ensures crossed { IfOk result (λ r.
+        IsCrossed kind index slot values.old values.new levels.old.items levels.new.items r) }
     ensures err { OnErr result (levels.new.items ≡ levels.old.items) }
 {
     let i = index as usize;
@@ -57,8 +56,9 @@ pub fn cross(
     requires held { AreHeld values.old context.old }
     ensures extends { Extends values.old values.new }
     ensures held { AreHeld values.new context.new }
-    ensures out { IfOk result (λ r. IfOut r (λ q. Through (net_of net.now) (numbered_port at) (context_of values.old context.old) (numbered_port q) (context_of values.new context.new))) }
-    ensures undefined { IfOk result (λ r. (r ≡ Cross.Undefined) ↔ IsBarred (net_of net.now) (numbered_port at) (context_of values.old context.old)) }
+    ensures out { IfOk result
+        (LeavesNode net.now at values.old values.new context.old context.new) }
+    ensures undefined { IfOk result (IsUndefinedExactly net.now at values.old context.old) }
     ensures unchanged { IfOk result (λ r. r ≡ Cross.Undefined → context.new ≡ context.old) }
     ensures err { OnErr result (context.new ≡ context.old) }
 {

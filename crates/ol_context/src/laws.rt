@@ -29,15 +29,16 @@ pub fn crossing_by_table()
     ensures { CrossingByTable }
 {}
 
-/// A walk leads to one free port, with one context, in one number of crossings, and from there back.
+/// A walk leads to one free port, with one context, in one number of crossings, and from there
+/// back.
 pub fn walk_is_one<A>()
     ensures one { WalkIsOne A }
     ensures back { WalkBack A }
 {}
 
 /// In a net where no two principal ports are linked, a walk from a free port first enters principal
-/// ports alone, each at most once, and from the first auxiliary port on auxiliary ports alone. So it
-/// leaves within twice as many crossings as there are nodes, or it goes on for ever.
+/// ports alone, each at most once, and from the first auxiliary port on auxiliary ports alone. So
+/// it leaves within twice as many crossings as there are nodes, or it goes on for ever.
 pub fn walk_is_short<A>()
     ensures turns_once { WalkTurnsOnce A }
     ensures short { WalkIsShort A }

@@ -3,9 +3,9 @@
 ghost use Rattle.std.specs.Prelude.{◌≡◌, ◌+◌, ◌<◌, ◌≤◌, ◌++◌, [], ◌∷◌, ℕ, List, IfOk, OnOk, OnErr};
 ghost use Rattle.ol_net.specs.Parts.{arity};
 ghost use Rattle.ol_context.specs.Contexts.{Level, empty, tail, cons, at_level, mark, packed, up};
-ghost use Rattle.ol_context.specs.Shapes.{value, IsHeld, AreHeld, Extends, IsNumberOf, context_of};
+ghost use Rattle.ol_context.specs.Shapes.{AreHeld, Extends, IsNumberOf, context_of};
 ghost use Rattle.ol_context.specs.Open.{AreHeldParts};
-ghost use Rattle.ol_context.specs.Leaves.{level_past, seen, AreHeldWith, IsKept, HasRisen, LeafHasMoved, IfNoMove};
+ghost use Rattle.ol_context.specs.Leaves.{level_past, seen, AreHeldWith, AreHeldWithIt, HasPutIn, IsKept, HasRisen, LeafHasMoved, IfNoMove};
 
 use crate::arena::{Val, Values};
 use crate::changes::{bracket_up, croissant_up, fall, insert, mark_up, reach, rise};
@@ -29,7 +29,8 @@ fn wrap(leaf: &mut Leaf, part: Around) -> Result<(), NoMemory>
 // Takes level `i` out.
 fn take_out(levels: &mut Vec<Val>, i: usize)
     ensures held { (vs : List Level) → AreHeld vs levels.old.items → AreHeld vs levels.new.items }
-    ensures is { (vs : List Level) → context_of vs levels.new.items ≡ at_level i tail (context_of vs levels.old.items) }
+    ensures is { (vs : List Level) →
+        context_of vs levels.new.items ≡ at_level i tail (context_of vs levels.old.items) }
 {
     if i < levels.len() {
         let _level = levels.remove(i);
@@ -39,8 +40,8 @@ fn take_out(levels: &mut Vec<Val>, i: usize)
 /// Puts a value in as level `i`.
 pub fn put_in(levels: &mut Vec<Val>, i: usize, v: Val, none: Val) -> Result<(), NoMemory>
     requires small { i < 18446744073709551615 }
-    ensures held { OnOk result ((vs : List Level) → IsHeld vs v → IsHeld vs none → AreHeld vs levels.old.items → AreHeld vs levels.new.items) }
-    ensures ok { OnOk result ((vs : List Level) → value vs none ≡ empty → context_of vs levels.new.items ≡ at_level i (cons (value vs v)) (context_of vs levels.old.items)) }
+    ensures held { OnOk result (AreHeldWithIt v none levels.old.items levels.new.items) }
+    ensures ok { OnOk result (HasPutIn i v none levels.old.items levels.new.items) }
     ensures err { OnErr result (levels.new.items ≡ levels.old.items) }
 {
     if i < levels.len() {
@@ -65,7 +66,9 @@ fn mark_round(
     requires before { i ≤ leaf.old.at }
     ensures extends { Extends values.old values.new }
     ensures held { OnOk result (AreHeldWith values.new levels.new.items leaf.new) }
-    ensures ok { OnOk result (HasRisen values.old values.new levels.old.items levels.new.items leaf.old leaf.new (at_level i (mark s))) }
+    ensures ok { OnOk result
+        (HasRisen values.old values.new levels.old.items levels.new.items leaf.old leaf.new
+        (at_level i (mark s))) }
     ensures err { OnErr result (IsKept levels.old.items levels.new.items leaf.old leaf.new) }
 {
     if i < leaf.at {
@@ -91,7 +94,9 @@ fn put_before(
     requires small { i < 4294967296 }
     requires before { i ≤ leaf.old.at }
     ensures held { OnOk result (AreHeldWith values.now levels.new.items leaf.new) }
-    ensures ok { OnOk result (HasRisen values.now values.now levels.old.items levels.new.items leaf.old leaf.new (at_level i (cons empty))) }
+    ensures ok { OnOk result
+        (HasRisen values.now values.now levels.old.items levels.new.items leaf.old leaf.new
+        (at_level i (cons empty))) }
     ensures err { OnErr result (IsKept levels.old.items levels.new.items leaf.old leaf.new) }
 {
     if leaf.at >= 18446744073709551615 {
@@ -114,7 +119,9 @@ fn pack_round(
     requires before { i ≤ leaf.old.at }
     ensures extends { Extends values.old values.new }
     ensures held { OnOk result (AreHeldWith values.new levels.new.items leaf.new) }
-    ensures ok { OnOk result (HasRisen values.old values.new levels.old.items levels.new.items leaf.old leaf.new (at_level i packed)) }
+    ensures ok { OnOk result
+        (HasRisen values.old values.new levels.old.items levels.new.items leaf.old leaf.new
+        (at_level i packed)) }
     ensures err { OnErr result (IsKept levels.old.items levels.new.items leaf.old leaf.new) }
 {
     if i + 1 < leaf.at {
@@ -148,7 +155,9 @@ pub fn rise_open(
     requires slot { s < arity kind }
     ensures extends { Extends values.old values.new }
     ensures held { OnOk result (AreHeldWith values.new levels.new.items leaf.new) }
-    ensures ok { OnOk result (HasRisen values.old values.new levels.old.items levels.new.items leaf.old leaf.new (up kind i s)) }
+    ensures ok { OnOk result
+        (HasRisen values.old values.new levels.old.items levels.new.items leaf.old leaf.new
+        (up kind i s)) }
     ensures err { OnErr result (IsKept levels.old.items levels.new.items leaf.old leaf.new) }
 {
     if i > leaf.at {
@@ -168,8 +177,10 @@ pub fn rise_open(
 // From the slot 0 of an abstraction, an application or a fan whose level has the leaf: its mark is
 // taken off, and a leaf without parts round it gives off one `o`.
 fn unmark(leaf: &mut Leaf) -> Option<(u8, Fate)>
-    ensures held { (vs : List Level) → AreHeldParts vs leaf.old.around.items → AreHeldParts vs leaf.new.around.items }
-    ensures moved { (vs : List Level) (ns : List ℕ) → LeafHasMoved Kind.Fan leaf.old.at 0 vs vs ns ns leaf.old leaf.new result }
+    ensures held { (vs : List Level) →
+        AreHeldParts vs leaf.old.around.items → AreHeldParts vs leaf.new.around.items }
+    ensures moved { (vs : List Level) (ns : List ℕ) →
+        LeafHasMoved Kind.Fan leaf.old.at 0 vs vs ns ns leaf.old leaf.new result }
     ensures kept { IfNoMove result (seen leaf.new ≡ seen leaf.old) }
 {
     let count = leaf.around.len();
@@ -192,7 +203,8 @@ fn unmark(leaf: &mut Leaf) -> Option<(u8, Fate)>
 
 // From a croissant's slot 0, where its level has the leaf: only a leaf that is empty goes out.
 fn unput(leaf: &Leaf) -> Option<(u8, Fate)>
-    ensures { (vs : List Level) (ns : List ℕ) → LeafHasMoved Kind.Croissant leaf.now.at 0 vs vs ns ns leaf.now leaf.now result }
+    ensures { (vs : List Level) (ns : List ℕ) →
+        LeafHasMoved Kind.Croissant leaf.now.at 0 vs vs ns ns leaf.now leaf.now result }
 {
     if leaf.around.len() == 0 {
         Some((1, Fate::Goes))
@@ -211,8 +223,11 @@ fn unpack(
     requires held { AreHeldWith values.now levels.old.items leaf.old }
     requires none { IsNumberOf values.now none empty }
     ensures held { OnOk result (AreHeldWith values.now levels.new.items leaf.new) }
-    ensures moved { IfOk result (λ r. LeafHasMoved Kind.Bracket leaf.old.at 0 values.now values.now levels.old.items levels.new.items leaf.old leaf.new r) }
-    ensures kept { IfOk result (λ r. IfNoMove r (IsKept levels.old.items levels.new.items leaf.old leaf.new)) }
+    ensures moved { IfOk result (λ r.
+        LeafHasMoved Kind.Bracket leaf.old.at 0 values.now values.now levels.old.items
+        levels.new.items leaf.old leaf.new r) }
+    ensures kept { IfOk result (λ r.
+        IfNoMove r (IsKept levels.old.items levels.new.items leaf.old leaf.new)) }
     ensures err { OnErr result (IsKept levels.old.items levels.new.items leaf.old leaf.new) }
 {
     let count = leaf.around.len();
@@ -248,8 +263,11 @@ fn fall_there(
 ) -> Result<Option<(u8, Fate)>, NoMemory>
     requires held { AreHeldWith values.now levels.old.items leaf.old }
     ensures held { OnOk result (AreHeldWith values.now levels.new.items leaf.new) }
-    ensures moved { IfOk result (λ r. LeafHasMoved kind leaf.old.at 0 values.now values.now levels.old.items levels.new.items leaf.old leaf.new r) }
-    ensures kept { IfOk result (λ r. IfNoMove r (IsKept levels.old.items levels.new.items leaf.old leaf.new)) }
+    ensures moved { IfOk result (λ r.
+        LeafHasMoved kind leaf.old.at 0 values.now values.now levels.old.items levels.new.items
+        leaf.old leaf.new r) }
+    ensures kept { IfOk result (λ r.
+        IfNoMove r (IsKept levels.old.items levels.new.items leaf.old leaf.new)) }
     ensures err { OnErr result (IsKept levels.old.items levels.new.items leaf.old leaf.new) }
 {
     match kind {
@@ -265,8 +283,8 @@ fn fall_there(
     }
 }
 
-// Which level has the leaf once a node of this kind at an earlier level has been left by an auxiliary
-// slot.
+// Which level has the leaf once a node of this kind at an earlier level has been left by an
+// auxiliary slot.
 fn level_after(at: usize, kind: Kind) -> usize
     requires { (0 < at) × (at < 18446744073709551615) }
     ensures { result ≡ level_past kind at }
@@ -293,8 +311,11 @@ fn fall_before(
     requires small { i < 4294967296 }
     requires before { i < leaf.old.at }
     ensures held { OnOk result (AreHeldWith values.now levels.new.items leaf.new) }
-    ensures moved { IfOk result (λ r. LeafHasMoved kind i 0 values.now values.now levels.old.items levels.new.items leaf.old leaf.new r) }
-    ensures kept { IfOk result (λ r. IfNoMove r (IsKept levels.old.items levels.new.items leaf.old leaf.new)) }
+    ensures moved { IfOk result (λ r.
+        LeafHasMoved kind i 0 values.now values.now levels.old.items levels.new.items leaf.old
+        leaf.new r) }
+    ensures kept { IfOk result (λ r.
+        IfNoMove r (IsKept levels.old.items levels.new.items leaf.old leaf.new)) }
     ensures err { OnErr result (IsKept levels.old.items levels.new.items leaf.old leaf.new) }
 {
     if leaf.at >= 18446744073709551615 {
@@ -319,8 +340,11 @@ pub fn fall_open(
     requires held { AreHeldWith values.now levels.old.items leaf.old }
     requires small { i < 4294967296 }
     ensures held { OnOk result (AreHeldWith values.now levels.new.items leaf.new) }
-    ensures moved { IfOk result (λ r. LeafHasMoved kind i 0 values.now values.now levels.old.items levels.new.items leaf.old leaf.new r) }
-    ensures kept { IfOk result (λ r. IfNoMove r (IsKept levels.old.items levels.new.items leaf.old leaf.new)) }
+    ensures moved { IfOk result (λ r.
+        LeafHasMoved kind i 0 values.now values.now levels.old.items levels.new.items leaf.old
+        leaf.new r) }
+    ensures kept { IfOk result (λ r.
+        IfNoMove r (IsKept levels.old.items levels.new.items leaf.old leaf.new)) }
     ensures err { OnErr result (IsKept levels.old.items levels.new.items leaf.old leaf.new) }
 {
     if i > leaf.at {

@@ -1,14 +1,14 @@
 //! Level values, contexts, crossings of nodes and walks (Gonthier, Abadi and Lévy, The Geometry of
 //! Optimal Lambda Reduction, 1992).
 //!
-//! A level value is `empty`, `o.v`, `*.v` or `<v,w>`, where v and w are level values. A context is an
-//! unending row of level values, of which all but finitely many are empty. A walk starts at a free
-//! port with a context, follows the link, and crosses node after node, each of which changes the
-//! context, until it comes to a free port.
+//! A level value is `empty`, `o.v`, `*.v` or `<v,w>`, where v and w are level values. A context is
+//! an unending row of level values, of which all but finitely many are empty. A walk starts at a
+//! free port with a context, follows the link, and crosses node after node, each of which changes
+//! the context, until it comes to a free port.
 //!
-//! An open context has a leaf in the place of one level's value and stands for many contexts at once,
-//! one for each number of abstractions that may be asked for. An open walk finds the least number for
-//! which the walk leaves, without a walk for each.
+//! An open context has a leaf in the place of one level's value and stands for many contexts at
+//! once, one for each number of abstractions that may be asked for. An open walk finds the least
+//! number for which the walk leaves, without a walk for each.
 #![tactic(auto)]
 
 mod answers;

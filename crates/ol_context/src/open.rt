@@ -36,7 +36,11 @@ impl Model for OpenContext {
 
     ghost Value = { Open };
 
-    ghost view = { λ a. record { levels = a.levels.items; leaf = option_map (λ l. (l.at, l.around.items)) a.leaf; lams = a.lams } };
+    ghost view = { λ a. record {
+      levels = a.levels.items;
+      leaf = option_map (λ l. (l.at, l.around.items)) a.leaf;
+      lams = a.lams;
+    } };
 }
 
 // Enters a node of this kind and index by a slot. The answer is the slot by which the walk leaves,
@@ -53,8 +57,11 @@ fn cross_leaf(
     requires slot { slot ≤ arity kind }
     ensures extends { Extends values.old values.new }
     ensures held { OnOk result (AreHeldWith values.new levels.new.items leaf.new) }
-    ensures moved { IfOk result (λ r. LeafHasMoved kind index slot values.old values.new levels.old.items levels.new.items leaf.old leaf.new r) }
-    ensures kept { IfOk result (λ r. IfNoMove r (IsKept levels.old.items levels.new.items leaf.old leaf.new)) }
+    ensures moved { IfOk result (λ r.
+        LeafHasMoved kind index slot values.old values.new levels.old.items levels.new.items
+        leaf.old leaf.new r) }
+    ensures kept { IfOk result (λ r.
+        IfNoMove r (IsKept levels.old.items levels.new.items leaf.old leaf.new)) }
     ensures err { OnErr result (IsKept levels.old.items levels.new.items leaf.old leaf.new) }
 {
     let i = index as usize;
@@ -71,7 +78,8 @@ fn put_part(values: &mut Values, part: Around, v: Val) -> Result<Val, NoMemory>
     requires part { IsHeldPart values.old part }
     requires value { IsHeld values.old v }
     ensures extends { Extends values.old values.new }
-    ensures new { IfOk result (λ w. IsNumberOf values.new w (wrapped values.old part (value values.old v))) }
+    ensures new { IfOk result (λ w.
+        IsNumberOf values.new w (wrapped values.old part (value values.old v))) }
 {
     match part {
         Around::O => values.put_o(v),
@@ -86,7 +94,8 @@ fn fill(values: &mut Values, around: &Vec<Around>, v: Val) -> Result<Val, NoMemo
     requires held { AreHeldParts values.old around.now.items }
     requires value { IsHeld values.old v }
     ensures extends { Extends values.old values.new }
-    ensures new { IfOk result (λ w. IsNumberOf values.new w (filled values.old around.now.items (value values.old v))) }
+    ensures new { IfOk result (λ w.
+        IsNumberOf values.new w (filled values.old around.now.items (value values.old v))) }
 {
     let mut whole = v;
     let mut k = 0;
@@ -118,13 +127,14 @@ impl OpenContext {
         self.lams
     }
 
-    /// The context that it stands for at `lams`: a leaf that is left is the empty value. Its values are
-    /// of this holder. `NoMemory`: no memory was found.
+    /// The context that it stands for at `lams`: a leaf that is left is the empty value. Its values
+    /// are of this holder. `NoMemory`: no memory was found.
     pub(crate) fn closed(self, values: &mut Values) -> Result<Context, NoMemory>
         requires { IsHeldOpen values.old self }
         ensures extends { Extends values.old values.new }
         ensures held { IfOk result (λ c. AreHeld values.new c) }
-        ensures is { IfOk result (λ c. context_of values.new c ≡ open_at values.old self self.lams) }
+        ensures is { IfOk result (λ c.
+            context_of values.new c ≡ open_at values.old self self.lams) }
     {
         let OpenContext { levels, leaf, .. } = self;
         let mut levels = levels;
@@ -140,8 +150,8 @@ impl OpenContext {
         Ok(Context::of(levels))
     }
 
-    /// Enters a node of this kind and index by a slot. The answer is the slot by which the walk leaves,
-    /// or `None` where no crossing is defined for any number that the context stands for.
+    /// Enters a node of this kind and index by a slot. The answer is the slot by which the walk
+    /// leaves, or `None` where no crossing is defined for any number that the context stands for.
     pub(crate) fn pass(
         &mut self,
         values: &mut Values,
@@ -154,7 +164,8 @@ impl OpenContext {
         requires few { self.old.lams < 2 ^ 64 - 1 }
         ensures extends { Extends values.old values.new }
         ensures held { IsHeldOpen values.new self.new }
-        ensures passed { IfOk result (λ r. HasPassed kind index slot values.old values.new self.old self.new r) }
+        ensures passed { IfOk result (λ r.
+            HasPassed kind index slot values.old values.new self.old self.new r) }
         ensures lams { self.new.lams ≤ self.old.lams + 1 }
         ensures err { OnErr result (self.new ≡ self.old) }
     {

@@ -65,7 +65,8 @@ fn walks_open_to_heads(rt: HostRuntime) -> Result<(), Fail> {
     Ok(())
 }
 
-/// An abstraction over an eraser: for none the first crossing is not defined, and for more the second.
+/// An abstraction over an eraser: for none the first crossing is not defined, and for more the
+/// second.
 #[test]
 fn breaks_off_for_all(rt: HostRuntime) -> Result<(), Fail> {
     let alloc = rt.alloc();

@@ -15,14 +15,14 @@ use ol_io::NoMemory;
 use ol_net::{Net, Port};
 use std::sync::ledger::Ledger;
 
-/// Enters a node by the port `at`, which is a port of a live node, with all contexts at once that an
-/// open context stands for, whose values are of this holder. `lams` is below 18446744073709551615.
-/// Ticks once.
+/// Enters a node by the port `at`, which is a port of a live node, with all contexts at once that
+/// an open context stands for, whose values are of this holder. `lams` is below
+/// 18446744073709551615. Ticks once.
 ///
-/// The walk leaves by the port that is answered, for just those n for which the crossing is defined,
-/// and the context stands for these n afterwards. `Undefined` comes exactly where no crossing is
-/// defined for any n that the context stands for, and then it is unchanged. `NoMemory`: no memory was
-/// found, and the context is unchanged.
+/// The walk leaves by the port that is answered, for just those n for which the crossing is
+/// defined, and the context stands for these n afterwards. `Undefined` comes exactly where no
+/// crossing is defined for any n that the context stands for, and then it is unchanged. `NoMemory`:
+/// no memory was found, and the context is unchanged.
 pub fn cross_open<L: Ledger>(
     net: &Net,
     values: &mut Values,
@@ -56,13 +56,13 @@ pub fn cross_open<L: Ledger>(
     Ok(Cross::Out(Port::Of { node, slot }))
 }
 
-/// Starts at the free port `from`, which the net has, and asks for all numbers of abstractions at once:
-/// the walk for n has these levels, which are of this holder, then n times `o` before the empty value,
-/// then empty levels. Tries, and counts, at most `edges` crossings.
+/// Starts at the free port `from`, which the net has, and asks for all numbers of abstractions at
+/// once: the walk for n has these levels, which are of this holder, then n times `o` before the
+/// empty value, then empty levels. Tries, and counts, at most `edges` crossings.
 ///
-/// `Exit` and `Budget` come exactly where `walk` for `lams` abstractions gives the same answer, and for
-/// each smaller number a crossing is not defined. `Undefined` comes exactly where that is so for every
-/// number. `NoMemory`: no memory was found.
+/// `Exit` and `Budget` come exactly where `walk` for `lams` abstractions gives the same answer, and
+/// for each smaller number a crossing is not defined. `Undefined` comes exactly where that is so
+/// for every number. `NoMemory`: no memory was found.
 pub fn walk_open<L: Ledger>(
     net: &Net,
     values: &mut Values,

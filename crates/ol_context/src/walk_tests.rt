@@ -179,7 +179,8 @@ pub fn applied_to_itself(alloc: Global) -> Result<Net, Fail> {
     Net::build(alloc, 1, nodes, links).map_err(Fail::from)
 }
 
-/// The 21st crossing is undefined for 0 abstractions. For 1 the walk leaves after 43, and not before.
+/// The 21st crossing is undefined for 0 abstractions. For 1 the walk leaves after 43, and not
+/// before.
 #[test]
 fn walks_through_a_redex(rt: HostRuntime) -> Result<(), Fail> {
     let alloc = rt.alloc();

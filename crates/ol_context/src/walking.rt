@@ -1,10 +1,10 @@
 //! Walks with a budget.
 
-ghost use Rattle.std.specs.Prelude.{◌<◌, ◌≤◌, ◌*◌, IfOk};
+ghost use Rattle.std.specs.Prelude.{◌<◌, IfOk};
 ghost use Rattle.ol_net.specs.Numbered.{net_of};
 ghost use Rattle.ol_context.specs.Shapes.{AreHeld, Extends, context_of};
 ghost use Rattle.ol_context.specs.Answers.{ExitsExactly, StopsExactly, StandsExactly, IsHeldExit};
-ghost use Rattle.ol_context.specs.Short.{HasNoFacing, live, LeavesExactly};
+ghost use Rattle.ol_context.specs.Short.{LeavesIfEnough};
 
 use crate::answers::{Cross, Walk};
 use crate::arena::Values;
@@ -13,16 +13,17 @@ use crate::row::Context;
 use ol_io::NoMemory;
 use ol_net::{Net, Port};
 
-/// Starts at the free port `from`, which the net has, with a context whose levels are of this holder,
-/// follows the link and crosses node after node, trying at most `edges` crossings.
+/// Starts at the free port `from`, which the net has, with a context whose levels are of this
+/// holder, follows the link and crosses node after node, trying at most `edges` crossings.
 ///
 /// `Exit` comes exactly where a path of at most `edges` crossings leads to a free port: with that
-/// port, the context there and the number of crossings. `Undefined` comes exactly where the crossing
-/// tried as number `crossings`, counted from 1, is not defined. `Budget` comes exactly where `edges`
-/// crossings were made and the walk stands at a node. `NoMemory`: no memory was found.
+/// port, the context there and the number of crossings. `Undefined` comes exactly where the
+/// crossing tried as number `crossings`, counted from 1, is not defined. `Budget` comes exactly
+/// where `edges` crossings were made and the walk stands at a node. `NoMemory`: no memory was
+/// found.
 ///
-/// Where no two principal ports are linked and `edges` is at least twice the number of nodes, `Exit`
-/// comes exactly where some path leads to a free port, of any number of crossings.
+/// Where no two principal ports are linked and `edges` is at least twice the number of nodes,
+/// `Exit` comes exactly where some path leads to a free port, of any number of crossings.
 pub fn walk(
     net: &Net,
     values: &mut Values,
@@ -34,10 +35,14 @@ pub fn walk(
     requires held { AreHeld values.old context }
     ensures extends { Extends values.old values.new }
     ensures held { IfOk result (λ w. IsHeldExit values.new w) }
-    ensures exit { IfOk result (λ w. ExitsExactly (net_of net.now) from (context_of values.old context) edges values.new w) }
-    ensures undefined { IfOk result (λ w. StopsExactly (net_of net.now) from (context_of values.old context) edges w) }
-    ensures budget { IfOk result (λ w. StandsExactly (net_of net.now) from (context_of values.old context) edges w) }
-    ensures leaves { IfOk result (λ w. HasNoFacing (net_of net.now) → 2 * live (net_of net.now) ≤ edges → LeavesExactly (net_of net.now) from (context_of values.old context) values.new w) }
+    ensures exit { IfOk result (λ w.
+        ExitsExactly (net_of net.now) from (context_of values.old context) edges values.new w) }
+    ensures undefined { IfOk result (λ w.
+        StopsExactly (net_of net.now) from (context_of values.old context) edges w) }
+    ensures budget { IfOk result (λ w.
+        StandsExactly (net_of net.now) from (context_of values.old context) edges w) }
+    ensures leaves { IfOk result (λ w.
+        LeavesIfEnough (net_of net.now) from (context_of values.old context) edges values.new w) }
 {
     net.is_net();
     let mut context = context;
