@@ -1,5 +1,6 @@
 -- In a net without facing pairs few abstractions are enough.
 use Rattle.std.proofs.Common.{◌≡◌, ℕ, zero, suc, ◌≤◌, ◌⊎◌, List, [], ◌∷◌, ◌++◌, map, length, inl, inr, refl, sym, ap, ◌∙◌, subst, arith}
+use Rattle.std.proofs.lemmas.List.{length-map}
 use Rattle.ol_edges.specs.Edges.{IsIn}
 use Rattle.ol_net.specs.declared.parts.Kind.{Kind}
 use Rattle.ol_net.specs.Nets.{NamedNet, NamedPort, free, slot, HasNode, IsNet}
@@ -7,7 +8,7 @@ use Rattle.ol_context.specs.Contexts.{Level, empty, Context, levels, cons, up}
 use Rattle.ol_context.specs.Paths.{inward, outward, Path, ends, goes}
 use Rattle.ol_context.specs.Short.{HasNoFacing, live, IsOnce}
 use Rattle.ol_context.proofs.LevelLists.{levels_cons}
-use Rattle.ol_context.proofs.Short.{in_map, map_length, few, IsLive, Down, first, next, down_one}
+use Rattle.ol_context.proofs.Short.{in_map, few, IsLive, Down, first, next, down_one}
 use Rattle.ol_readback.specs.Frames.{os, asked}
 use Rattle.ol_readback.specs.Sources.{FewAreEnough}
 use Rattle.ol_readback.proofs.Holes.{fill, Before, moved, stripped, before}
@@ -103,7 +104,7 @@ module _ {A : Type 0} (N : NamedNet A) (is_net : IsNet N) (no_facing : HasNoFaci
         let inside : (z : A) → IsLive N is_net no_facing z → IsIn z (map (λ (n : A × Kind × ℕ). n.0) N.nodes) = λ z h. in_map (λ (n : A × Kind × ℕ). n.0) (z, h.0, h.1) N.nodes h.2 in
         let a = few t.xs (map (λ (n : A × Kind × ℕ). n.0) N.nodes) t.once (λ z k. inside z (t.live z k)) in
         let l = t.long in
-        let m = map_length (λ (n : A × Kind × ℕ). n.0) N.nodes in
+        let m = length-map N.nodes (λ (n : A × Kind × ℕ). n.0) in
         omega arith
 
     record Some (ls : List Level) (n : ℕ) : Type 0 where

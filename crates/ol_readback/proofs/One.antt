@@ -20,12 +20,12 @@ use Rattle.ol_readback.specs.declared.answers.ReadNode.{ReadNode}
 use Rattle.ol_readback.specs.declared.answers.ReadNode.TheVariants as node
 use Rattle.ol_readback.proofs.Fits.{os_one, star_no_o, empty_no_o, level_first, level_second}
 
-two_one : (ls : List Level) (a b a' b' : Level) (X : Context) → X ≡ levels (ls ++ (a ∷ (b ∷ []))) → X ≡ levels (ls ++ (a' ∷ (b' ∷ []))) → (a ≡ a') × (b ≡ b')
+pub two_one : (ls : List Level) (a b a' b' : Level) (X : Context) → X ≡ levels (ls ++ (a ∷ (b ∷ []))) → X ≡ levels (ls ++ (a' ∷ (b' ∷ []))) → (a ≡ a') × (b ≡ b')
 two_one ls a b a' b' X e e' =
     let q = sym e ∙ e' in
     (sym (level_first ls a b) ∙ ap (λ (c : Context). c (length ls)) q ∙ level_first ls a' b', sym (level_second ls a b) ∙ ap (λ (c : Context). c (suc (length ls))) q ∙ level_second ls a' b')
 
-fits_one : (ls : List Level) (l : ℕ) (X : Context) (j k j' k' : ℕ) (d d' : Level) → Fits ls l X j k d → Fits ls l X j' k' d' → (j ≡ j') × (k ≡ k') × (d ≡ d')
+pub fits_one : (ls : List Level) (l : ℕ) (X : Context) (j k j' k' : ℕ) (d d' : Level) → Fits ls l X j k d → Fits ls l X j' k' d' → (j ≡ j') × (k ≡ k') × (d ≡ d')
 fits_one ls l X j k j' k' d d' f f' =
     let t = two_one ls (os j (star d)) (os k empty) (os j' (star d')) (os k' empty) X f.is f'.is in
     let s = os_one j j' (star d) (star d') (star_no_o d) (star_no_o d') t.0 in

@@ -11,12 +11,12 @@ use Rattle.ol_readback.specs.declared.answers.HeadVar.TheVariants as var
 use Rattle.ol_readback.specs.declared.answers.ReadNode.{ReadNode}
 use Rattle.ol_readback.specs.declared.answers.ReadNode.TheVariants as node
 
-count_one : (t : Part true) → count t ≡ 1
+pub count_one : (t : Part true) → count t ≡ 1
 count_one (term l v ts) = refl
 count_one lost = refl
 count_one cut = refl
 
-unique : {b : Bool} (p q : Part b) (xs ys : List ReadNode) → count p ≡ count q → preorder p ++ xs ≡ preorder q ++ ys → (p ≡ q) × (xs ≡ ys)
+pub unique : {b : Bool} (p q : Part b) (xs ys : List ReadNode) → count p ≡ count q → preorder p ++ xs ≡ preorder q ++ ys → (p ≡ q) × (xs ≡ ys)
 unique (term l v ts) (term m w us) xs ys c e =
     let heads : node.Head l v (count ts) ≡ node.Head m w (count us) = cc in
     let tails : preorder ts ++ xs ≡ preorder us ++ ys = cc in

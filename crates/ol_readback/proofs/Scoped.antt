@@ -56,7 +56,7 @@ named_right : (count : ℕ) (ns ms : List ReadNode) → AreNamed count (ns ++ ms
 named_right count [] ms h = h
 named_right count (n ∷ ns) ms h = named_right count ns ms h.1
 
-rounds_length : {b : Bool} (t : ℕ) (p : Part b) → length (rounds t p) ≡ length (preorder p)
+pub rounds_length : {b : Bool} (t : ℕ) (p : Part b) → length (rounds t p) ≡ length (preorder p)
 rounds_length t (term l v ts) = ap suc (rounds_length (t + l) ts)
 rounds_length t lost = refl
 rounds_length t cut = refl

@@ -1,5 +1,5 @@
 -- What an exit says against one frame.
-use Rattle.std.specs.Prelude.{◌≡◌, ℕ, ◌<◌, ◌≤◌, List, [], ◌∷◌, length, Option, Some, None, slice_index_or}
+use Rattle.std.specs.Prelude.{◌≡◌, ℕ, ◌<◌, ◌≤◌, List, [], ◌∷◌, length, Bool, Option, Some, None, slice_index_or, MatchBool}
 use Rattle.ol_context.specs.Contexts.{Level, empty, o, star, Context}
 use Rattle.ol_context.specs.Shapes.{value}
 use Rattle.ol_readback.specs.Frames.{os, Frame}
@@ -33,6 +33,10 @@ BeginsWith ls X = (i : ℕ) → i < length ls → X i ≡ slice_index_or ls i em
 
 abbrev pub BeginsNotWith : List Level → Context → Type 0
 BeginsNotWith ls X = BeginsWith ls X → ⊥
+
+-- whether they are
+abbrev pub TellsBegin : List Level → Context → Bool → Type 0
+TellsBegin ls X r = MatchBool r (BeginsWith ls X) (BeginsNotWith ls X)
 
 -- how many o stand before a star
 abbrev pub IsMark : Level → Option ℕ → Type 0

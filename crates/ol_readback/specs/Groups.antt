@@ -1,5 +1,5 @@
 -- Arguments that are still to be read, head by head.
-use Rattle.std.specs.Prelude.{◌≡◌, ℕ, ◌-◌, ◌<◌, List, [], ◌∷◌, ◌++◌, map, Option, Some, None}
+use Rattle.std.specs.Prelude.{◌≡◌, ℕ, ◌-◌, ◌<◌, List, [], ◌∷◌, ◌++◌, map, Option, Some, None, MatchOption}
 use Rattle.ol_context.specs.Contexts.{Level, empty, star}
 use Rattle.ol_context.specs.Shapes.{value, AreHeld, IsNumberOf}
 use Rattle.ol_readback.specs.Frames.{os}
@@ -68,6 +68,10 @@ pub record IsNext (old new : List Level) (gs hs : List Group) (f : Frame) : Type
   pub first : pending_of old gs ≡ subterm_of new f ∷ pending_of new hs
   pub held : AreHeldGroups new hs
   pub placed : (free count : ℕ) → ArePlacedGroups free count gs → ArePlacedGroups free count hs × IsNextFrame free count new f
+
+-- the frame of the next argument was taken off, or no argument is left
+abbrev pub HasTaken : List Level → List Level → List Group → List Group → Option Frame → Type 0
+HasTaken old new gs hs r = MatchOption r (NoneLeft old gs) (λ f. IsNext old new gs hs f)
 
 -- the group of all arguments of a head
 pub record IsGroupOf (old new : List Level) (parent port args : ℕ) (at : List ℕ) (r : Option Group) : Type 0 where

@@ -13,8 +13,8 @@ pub enum HeadVar {
 /// What a frame is asked for.
 #[derive(Drop)]
 pub enum Head {
-    /// The number of abstractions, the variable, the number of its arguments, and the levels that the
-    /// arguments' frames begin with.
+    /// The number of abstractions, the variable, the number of its arguments, and the levels that
+    /// the arguments' frames begin with.
     Is {
         lams: u32,
         var: HeadVar,

@@ -132,7 +132,8 @@ pub fn head_counted<L: Ledger>(
     requires parents { ParentsFirst (frames_of values.old frames.now.items) }
     requires frames { AreHeldFrames values.old frames.now.items }
     requires ports { AreAtPorts net.now.free frames.now.items }
-    ensures answer { IfOk result (IsAnswer net.now values.old frames.now.items at edges values.new) }
+    ensures answer { IfOk result
+        (IsAnswer net.now values.old frames.now.items at edges values.new) }
     ensures found { IfOk result (IsHeadIfFound net.now values.old frames.now.items at values.new) }
     ensures lost { IfOk result (IsLostIfNoHead net.now values.old frames.now.items at) }
     ensures ring { IfOk result (IsRingIfBudget net.now values.old frames.now.items at edges) }
@@ -175,9 +176,10 @@ pub fn head_by<L: Ledger>(
     ask_and_drop(alloc, net, values, frames, skips, at, edges, &mut steps)
 }
 
-/// The head of frame `at`: what the least number of abstractions says for which a walk from it leaves
-/// the net. The numbers 0, 1, 2 and so on, up to the number of live nodes, are tried up to the first
-/// whose walk leaves, or makes all its `edges` crossings; one walk is made for all of them.
+/// The head of frame `at`: what the least number of abstractions says for which a walk from it
+/// leaves the net. The numbers 0, 1, 2 and so on, up to the number of live nodes, are tried up to
+/// the first whose walk leaves, or makes all its `edges` crossings; one walk is made for all of
+/// them.
 ///
 /// `Is` is what the first exit says. `Budget` comes exactly where one of these walks made all its
 /// crossings without an exit. `NoHead` comes exactly where none did, and either none of them leaves
@@ -185,9 +187,9 @@ pub fn head_by<L: Ledger>(
 /// memory was found. `at` is below the list's length, each parent stands before its child, each
 /// frame's port is a free port of the net, and all values are of this holder. Earlier values stay.
 ///
-/// An answer `Is` is the head by paths of any length. Where no two principal ports are linked, so is
-/// `NoHead`, and with a budget of at least twice the number of nodes `Budget` comes only where a walk
-/// goes on for ever.
+/// An answer `Is` is the head by paths of any length. Where no two principal ports are linked, so
+/// is `NoHead`, and with a budget of at least twice the number of nodes `Budget` comes only where a
+/// walk goes on for ever.
 pub fn head(
     alloc: Global,
     net: &Net,
@@ -200,7 +202,8 @@ pub fn head(
     requires parents { ParentsFirst (frames_of values.old frames.now.items) }
     requires frames { AreHeldFrames values.old frames.now.items }
     requires ports { AreAtPorts net.now.free frames.now.items }
-    ensures answer { IfOk result (IsAnswer net.now values.old frames.now.items at edges values.new) }
+    ensures answer { IfOk result
+        (IsAnswer net.now values.old frames.now.items at edges values.new) }
     ensures found { IfOk result (IsHeadIfFound net.now values.old frames.now.items at values.new) }
     ensures lost { IfOk result (IsLostIfNoHead net.now values.old frames.now.items at) }
     ensures ring { IfOk result (IsRingIfBudget net.now values.old frames.now.items at edges) }

@@ -3,7 +3,7 @@
 ghost use Rattle.std.specs.Prelude.{◌≡◌, ℕ, ◌+◌, ◌^◌, ◌<◌, ◌≤◌, ◌↔◌, length, map, IfOk, IsTrue, MatchBool};
 ghost use Rattle.ol_context.specs.Contexts.{empty};
 ghost use Rattle.ol_context.specs.Shapes.{value, IsHeld, AreHeld, context_of};
-ghost use Rattle.ol_readback.specs.Fitting.{Stripped, IsFit, IsSomeStar, IsNoStar, BeginsWith, BeginsNotWith, IsMark, IsCount, IsLastCount, IsNameOf};
+ghost use Rattle.ol_readback.specs.Fitting.{Stripped, IsFit, IsSomeStar, IsNoStar, TellsBegin, IsMark, IsCount, IsLastCount, IsNameOf};
 
 use ol_context::{Context, Shape, Val, Values};
 use ol_io::NoMemory;
@@ -70,20 +70,21 @@ fn all_empty(values: &Values, context: &Context, from: usize) -> bool
 }
 
 // Whether a context begins with these levels.
-fn begins_with(values: &Values, levels: &Vec<Val>, context: &Context) -> Result<bool, NoMemory>
+fn begins_with(values: &Values, levels: &Vec<Val>, context: &Context) -> bool
     requires levels { AreHeld values.now levels.now.items }
     requires context { AreHeld values.now context.now }
-    ensures { IfOk result (λ r. MatchBool r (BeginsWith (map (value values.now) levels.now.items) (context_of values.now context.now)) (BeginsNotWith (map (value values.now) levels.now.items) (context_of values.now context.now))) }
+    ensures { TellsBegin (map (value values.now) levels.now.items)
+        (context_of values.now context.now) result }
 {
     for i in 0..levels.len() {
         let wanted = levels[i];
         let there = context.level(values, i);
-        let same = values.same(there, wanted)?;
+        let same = values.equal(there, wanted);
         if !same {
-            return Ok(false);
+            return false;
         }
     }
-    Ok(true)
+    true
 }
 
 // How many o stand before a star.
@@ -134,7 +135,9 @@ pub fn fits(
 ) -> Result<Option<(u32, u32)>, NoMemory>
     requires levels { AreHeld values.now levels.now.items }
     requires context { AreHeld values.now context.now }
-    ensures { IfOk result (λ r. IsFit (map (value values.now) levels.now.items) lams (context_of values.now context.now) r) }
+    ensures { IfOk result (λ r.
+        IsFit (map (value values.now) levels.now.items) lams
+        (context_of values.now context.now) r) }
 {
     // The levels are compared last, since most frames that are tried have another mark.
     let m = levels.len();
@@ -150,7 +153,7 @@ pub fn fits(
             match counted {
                 None => Ok(None),
                 Some(args) => {
-                    let begins = begins_with(values, levels, context)?;
+                    let begins = begins_with(values, levels, context);
                     if !begins {
                         return Ok(None);
                     }

@@ -2,9 +2,9 @@
 
 use crate::levels::Levels;
 
-/// A frame: the free port `port` and the levels that each question to it begins with. `parent` is the
-/// number of the frame round it, and `lams` the number of abstractions of the head that was found
-/// there. A frame's number is its place in a list of frames.
+/// A frame: the free port `port` and the levels that each question to it begins with. `parent` is
+/// the number of the frame round it, and `lams` the number of abstractions of the head that was
+/// found there. A frame's number is its place in a list of frames.
 #[derive(Drop)]
 pub struct Frame {
     pub port: u32,

@@ -1,8 +1,8 @@
 //! Arguments that are still to be read.
 
-ghost use Rattle.std.specs.Prelude.{◌≡◌, IfOk, MatchOption};
+ghost use Rattle.std.specs.Prelude.{◌≡◌, IfOk};
 ghost use Rattle.ol_context.specs.Shapes.{AreHeld, Extends};
-ghost use Rattle.ol_readback.specs.Groups.{AreHeldGroups, NoneLeft, IsNext, IsGroupOf};
+ghost use Rattle.ol_readback.specs.Groups.{AreHeldGroups, HasTaken, IsGroupOf};
 
 use crate::frames::Frame;
 use crate::leaving::push_level;
@@ -11,8 +11,8 @@ use ol_context::{Val, Values};
 use ol_io::NoMemory;
 use std::alloc::Global;
 
-/// The arguments of one head from argument `done + 1` on. Their frames stand at the free port `port`
-/// in the frame with number `parent`, and begin with `at`; the next one goes on with `mark`.
+/// The arguments of one head from argument `done + 1` on. Their frames stand at the free port
+/// `port` in the frame with number `parent`, and begin with `at`; the next one goes on with `mark`.
 #[derive(Drop)]
 pub struct Group {
     pub parent: u32,
@@ -58,7 +58,8 @@ pub fn next(
     pending: &mut Vec<Group>,
 ) -> Result<Option<Frame>, NoMemory>
     requires { AreHeldGroups values.old pending.old.items }
-    ensures next { IfOk result (λ r. MatchOption r (NoneLeft values.old pending.old.items) (λ f. IsNext values.old values.new pending.old.items pending.new.items f)) }
+    ensures next { IfOk result
+        (HasTaken values.old values.new pending.old.items pending.new.items) }
     ensures extends { Extends values.old values.new }
 {
     let last = pending.pop();

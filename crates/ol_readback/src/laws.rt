@@ -28,10 +28,10 @@ pub fn heads_kept<A, B>()
 {}
 
 /// In a net where no two principal ports are linked, a walk from a free port first enters principal
-/// ports alone, each at most once, and from the first auxiliary port on auxiliary ports alone. So it
-/// leaves within twice as many crossings as there are nodes, or it goes on for ever. Where asking a
-/// frame for some number of abstractions leaves the net, so does asking it for one that is at most
-/// the number of nodes.
+/// ports alone, each at most once, and from the first auxiliary port on auxiliary ports alone. So
+/// it leaves within twice as many crossings as there are nodes, or it goes on for ever. Where
+/// asking a frame for some number of abstractions leaves the net, so does asking it for one that is
+/// at most the number of nodes.
 pub fn walk_is_short<A>()
     ensures turns_once { WalkTurnsOnce A }
     ensures short { WalkIsShort A }
@@ -48,8 +48,8 @@ pub fn printed_heads<A, B>()
 
 /// A list of places is that of one tree at most, and the name of a binder is a name of the grammar.
 ///
-/// The text of a tree in which each place has a head is in the grammar, where each of the names is a
-/// name of the grammar and no two are the same. Read back, it is the tree's term, and that has no
+/// The text of a tree in which each place has a head is in the grammar, where each of the names is
+/// a name of the grammar and no two are the same. Read back, it is the tree's term, and that has no
 /// redex.
 pub fn printed_terms_are_read()
     ensures one_tree { ListIsOfOneTree }

@@ -82,8 +82,8 @@ fn leaves_by_a_nested_level(rt: HostRuntime) -> Result<(), Fail> {
     assert_left(&rt, alloc, &values, &frames, 2, 0, &context, Some(binder))
 }
 
-/// By port 0, which is no free name, with the context of one; by the port of f, and as a binder, where
-/// a level after the arguments' is not empty.
+/// By port 0, which is no free name, with the context of one; by the port of f, and as a binder,
+/// where a level after the arguments' is not empty.
 #[test]
 fn leaves_without_a_head(rt: HostRuntime) -> Result<(), Fail> {
     let alloc = rt.alloc();

@@ -28,7 +28,8 @@ fn fits_frame(
 ) -> Result<Option<(u32, u32)>, NoMemory>
     requires levels { AreHeld values.now frame.now.levels }
     requires context { AreHeld values.now context.now }
-    ensures { IfOk result (λ r. IsFitOf (frame_of values.now frame.now) lams port (context_of values.now context.now) r) }
+    ensures { IfOk result (λ r.
+        IsFitOf (frame_of values.now frame.now) lams port (context_of values.now context.now) r) }
 {
     if lams == 0 || frame.port != port {
         return Ok(None);
@@ -75,7 +76,8 @@ fn named(
     context: &Context,
 ) -> Result<Head, NoMemory>
     requires { AreHeld values.now context.now }
-    ensures answer { IfOk result (λ h. IsNamed lams port (context_of values.now context.now) (answer_of values.now h)) }
+    ensures answer { IfOk result (λ h.
+        IsNamed lams port (context_of values.now context.now) (answer_of values.now h)) }
     ensures held { IfOk result (λ h. IsHeldHead values.now h) }
 {
     let name = is_name(values, port, context)?;
@@ -111,7 +113,9 @@ pub fn leave_by(
     requires frames { AreHeldFrames values.now frames.now.items }
     requires context { AreHeld values.now context.now }
     requires skips { AreSkipsOf frames.now.items skips.now.items }
-    ensures answer { IfOk result (λ h. IsMatched (frames_of values.now frames.now.items) at lams port (context_of values.now context.now) (answer_of values.now h)) }
+    ensures answer { IfOk result (λ h.
+        IsMatched (frames_of values.now frames.now.items) at lams port
+        (context_of values.now context.now) (answer_of values.now h)) }
     ensures held { IfOk result (IsHeldHead values.now) }
 {
     let mut i = at;
@@ -150,11 +154,11 @@ pub fn leave_by(
 /// What the exit by `port` with `context` says of the walk by which frame `at` was asked for `lams`
 /// abstractions.
 ///
-/// The frames tried are frame `at` with `lams` abstractions, then its parent, and so on to the root;
-/// the nearest that fits decides. Where none fits, an exit by a port of at least 1 whose level 1
-/// counts arguments and whose later levels are empty is the free name of that port. `NoHead` comes
-/// exactly where nothing matches. `NoMemory`: no memory was found. `at` is below the list's length,
-/// each parent stands before its child, and all values are of this holder.
+/// The frames tried are frame `at` with `lams` abstractions, then its parent, and so on to the
+/// root; the nearest that fits decides. Where none fits, an exit by a port of at least 1 whose
+/// level 1 counts arguments and whose later levels are empty is the free name of that port.
+/// `NoHead` comes exactly where nothing matches. `NoMemory`: no memory was found. `at` is below the
+/// list's length, each parent stands before its child, and all values are of this holder.
 pub fn leave(
     alloc: Global,
     values: &Values,
@@ -168,8 +172,12 @@ pub fn leave(
     requires parents { ParentsFirst (frames_of values.now frames.now.items) }
     requires frames { AreHeldFrames values.now frames.now.items }
     requires context { AreHeld values.now context.now }
-    ensures answer { IfOk result (λ h. IsMatched (frames_of values.now frames.now.items) at lams port (context_of values.now context.now) (answer_of values.now h)) }
-    ensures no_head { IfOk result (λ h. (h ≡ NoHead) ↔ MatchesNothing (frames_of values.now frames.now.items) port (context_of values.now context.now) at lams) }
+    ensures answer { IfOk result (λ h.
+        IsMatched (frames_of values.now frames.now.items) at lams port
+        (context_of values.now context.now) (answer_of values.now h)) }
+    ensures no_head { IfOk result (λ h.
+        (h ≡ NoHead) ↔ MatchesNothing (frames_of values.now frames.now.items) port
+        (context_of values.now context.now) at lams) }
     ensures no_budget { IfOk result (λ h. h ≢ Budget) }
     ensures held { IfOk result (λ h. IsHeldHead values.now h) }
 {

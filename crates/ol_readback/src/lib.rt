@@ -1,10 +1,10 @@
 //! Reading a net back as a term by walks (Gonthier, Abadi and Lévy, The Geometry of Optimal Lambda
 //! Reduction, 1992).
 //!
-//! A subterm is asked for by a frame: a free port and a list of levels. A walk starts from that port,
-//! with these levels and then n times o, for all n at once. The least n for which it leaves the net is
-//! the subterm's number of abstractions. Its exit says which variable is the head, and how many
-//! arguments it has.
+//! A subterm is asked for by a frame: a free port and a list of levels. A walk starts from that
+//! port, with these levels and then n times o, for all n at once. The least n for which it leaves
+//! the net is the subterm's number of abstractions. Its exit says which variable is the head, and
+//! how many arguments it has.
 #![tactic(auto)]
 
 mod answers;

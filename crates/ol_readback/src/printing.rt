@@ -13,8 +13,8 @@ use ol_io::NoMemory;
 use ol_term::{BinderNames, Names};
 use std::alloc::Global;
 
-/// A head of which `left` arguments are still to be printed, each with `binders` binders round it. A
-/// bracket is closed after the last.
+/// A head of which `left` arguments are still to be printed, each with `binders` binders round it.
+/// A bracket is closed after the last.
 #[derive(Clone, Copy, Drop)]
 pub struct Open {
     pub left: u32,
@@ -98,7 +98,8 @@ fn put_variable(
     requires binders { binders.old ≡ names.now }
     requires named { IsNamedVar (length names.now) var }
     requires seen { IsSeenVar (length rounds.now.items) var }
-    ensures text { OnOk result (text.new.items ≡ text.old.items ++ variable names.now rounds.now.items var) }
+    ensures text { OnOk result
+        (text.new.items ≡ text.old.items ++ variable names.now rounds.now.items var) }
     ensures binders { binders.new ≡ binders.old }
 {
     match var {
@@ -161,7 +162,8 @@ fn put_place(
     requires binders { binders.old ≡ names.now }
     requires named { IsNamedNode (length names.now) node }
     requires seen { IsSeen (length rounds.now.items) node }
-    ensures text { OnOk result (text.new.items ≡ text.old.items ++ printed names.now rounds.now.items t bracket node) }
+    ensures text { OnOk result
+        (text.new.items ≡ text.old.items ++ printed names.now rounds.now.items t bracket node) }
     ensures pending { OnOk result (pending.new.items ≡ pending.old.items ++ opened t bracket node) }
     ensures binders { binders.new ≡ binders.old }
 {
@@ -198,7 +200,8 @@ fn put_place(
 // How many binders stand round the next argument. Heads whose arguments are all printed are closed.
 // None: no argument is left.
 fn take(text: &mut Vec<u8>, pending: &mut Vec<Open>) -> Result<Option<usize>, NoMemory>
-    ensures { IfOk result (λ r. Takes text.old.items pending.old.items r text.new.items pending.new.items) }
+    ensures { IfOk result (λ r.
+        Takes text.old.items pending.old.items r text.new.items pending.new.items) }
 {
     loop {
         match pending.pop() {
@@ -235,8 +238,9 @@ fn add_round(rounds: &mut Vec<usize>, t: usize) -> Result<(), NoMemory>
 /// Binders are named by the sequence a to z, a1 to z1, a2 to z2 and so on without the free names; a
 /// binder with t binders round it, on its own branch, has name number t. A head prints as `\`, its
 /// binders, `.` and a space, where it has some, and then its variable and its arguments, a space
-/// before each. An argument that is a head stands in brackets unless it is a variable alone. A place
-/// without a head prints as `?`, one that was cut as `...`, both without brackets. The free name of port q is name q - 1.
+/// before each. An argument that is a head stands in brackets unless it is a variable alone. A
+/// place without a head prints as `?`, one that was cut as `...`, both without brackets. The free
+/// name of port q is name q - 1.
 ///
 /// Where each place has a head and each of the names is a name of the grammar, the text is in the
 /// grammar. Read back, with the free names numbered by `names`, it is the tree's term, in which no
@@ -246,7 +250,8 @@ fn add_round(rounds: &mut Vec<usize>, t: usize) -> Result<(), NoMemory>
 pub fn tree_text(alloc: Global, tree: &ReadTree, names: &Names) -> Result<Vec<u8>, NoMemory>
     requires free { AreNamed (length names.now) tree.now }
     ensures text { IfOk result (λ text. IsTextOf names.now tree.now text.items) }
-    ensures read { IfOk result (λ text. AreNames names.now → HasAllHeads tree.now → IsReadBack names.now tree.now text.items) }
+    ensures read { IfOk result (λ text.
+        AreNames names.now → HasAllHeads tree.now → IsReadBack names.now tree.now text.items) }
 {
     tree.is_whole();
     names.are_different();

@@ -63,7 +63,8 @@ fn add_frame(
     Ok(())
 }
 
-// Adds the frame to the frames and asks it: what stands at its place, and the arguments of its head.
+// Adds the frame to the frames and asks it: what stands at its place, and the arguments of its
+// head.
 fn read_frame(
     alloc: Global,
     net: &Net,
@@ -78,7 +79,9 @@ fn read_frame(
     requires few { length frames.old.items + 1 < 2 ^ 32 }
     requires skips { AreSkipsOf frames.old.items skips.old.items }
     requires each { length skips.old.items ≡ length frames.old.items }
-    ensures read { IfOk result (λ r. IsRead (net_of net.now) edges values.old values.new frames.old.items frame frames.new.items r.0 r.1) }
+    ensures read { IfOk result (λ r.
+        IsRead (net_of net.now) edges values.old values.new frames.old.items frame frames.new.items
+        r.0 r.1) }
     ensures frames { OnOk result (IsFrameList net.now.free values.new frames.new.items) }
     ensures held { IfOk result (λ r. AreHeldIn values.new r.1) }
     ensures placed { IfOk result (λ r. ArePlacedIn net.now.free (length frames.new.items) r.1) }
@@ -154,7 +157,8 @@ fn cut(nodes: &mut Vec<ReadNode>, count: u32) -> Result<(), NoMemory>
 // Cuts all arguments that are left.
 fn cut_all(nodes: &mut Vec<ReadNode>, pending: &mut Vec<Group>) -> Result<(), NoMemory>
     requires { length nodes.old.items < 2 ^ 32 }
-    ensures cut { OnOk result ((vs : List Level) → nodes.new.items ≡ nodes.old.items ++ cuts_of vs pending.old.items) }
+    ensures cut { OnOk result
+        ((vs : List Level) → nodes.new.items ≡ nodes.old.items ++ cuts_of vs pending.old.items) }
     ensures few { OnOk result (length nodes.new.items < 2 ^ 32) }
 {
     while let Some(group) = pending.pop() {
@@ -170,15 +174,16 @@ fn cut_all(nodes: &mut Vec<ReadNode>, pending: &mut Vec<Group>) -> Result<(), No
 /// was found. `heads` is at least 1, and the net has a free port. The free names of the tree are
 /// those of the net's other free ports, from 1 on.
 ///
-/// Each head of the tree is the head of its place by paths of any length, and where no two principal
-/// ports are linked, a place without a head has none.
+/// Each head of the tree is the head of its place by paths of any length, and where no two
+/// principal ports are linked, a place without a head has none.
 pub fn read_back(alloc: Global, net: &Net, heads: u32, edges: u64) -> Result<ReadTree, NoMemory>
     requires heads { 1 ≤ heads }
     requires root { 0 < net.now.free }
     ensures tree { IfOk result (λ t. IsTree (net_of net.now) heads edges t) }
     ensures names { IfOk result (λ t. AreNamed (net.now.free - 1) t) }
     ensures heads { IfOk result (λ t. HasHeadsOf (net_of net.now) false t) }
-    ensures lost { IfOk result (λ t. HasNoFacing (net_of net.now) → HasHeadsOf (net_of net.now) true t) }
+    ensures lost { IfOk result (λ t.
+        HasNoFacing (net_of net.now) → HasHeadsOf (net_of net.now) true t) }
 {
     net.is_net();
     let mut values = Values::new(alloc);

@@ -1,15 +1,17 @@
-//! Frames that bind nothing are passed over, so that a chain of them is not climbed anew for each head.
+//! Frames that bind nothing are passed over, so that a chain of them is not climbed anew for each
+//! head.
 //!
 //! A list of skips has an entry for each frame, in the order of the frames, or for the first ones
-//! alone: the number of a frame round that frame, where no frame between the two has abstractions, or
-//! None, where no frame round it has any.
+//! alone: the number of a frame round that frame, where no frame between the two has abstractions,
+//! or None, where no frame round it has any.
 
 ghost use Rattle.std.specs.Prelude.{◌≡◌, ◌<◌, ℕ, length, Some};
 ghost use Rattle.ol_readback.specs.Skipping.{AreSkipsOf, SkipsFrom, SkipsPast};
 
 use crate::frames::Frame;
 
-/// The frame to try after frame `i`: that of the skips, or its parent where they have no entry for it.
+/// The frame to try after frame `i`: that of the skips, or its parent where they have no entry for
+/// it.
 pub fn next_round(frames: &Vec<Frame>, skips: &Vec<Option<u32>>, i: u32) -> Option<u32>
     requires at { i < length frames.now.items }
     requires skips { AreSkipsOf frames.now.items skips.now.items }

@@ -218,8 +218,8 @@ fn reads_free_names(rt: HostRuntime) -> Result<(), Fail> {
     Ok(())
 }
 
-/// An abstraction of 28 binders over the last one, with `b` as the free name of another port: binder
-/// names go on past z, and leave the free name out.
+/// An abstraction of 28 binders over the last one, with `b` as the free name of another port:
+/// binder names go on past z, and leave the free name out.
 #[test]
 fn names_past_z(rt: HostRuntime) -> Result<(), Fail> {
     let alloc = rt.alloc();

@@ -5,8 +5,8 @@ ghost use Rattle.std.specs.Prelude.{◌≡◌, ◌^◌, ◌<◌, ◌≤◌, ◌�
 use crate::answers::ReadNode;
 use std::marker::Model;
 
-/// A term that was read back, as the list of its places in preorder, arguments from the first to the
-/// last. Contracts see the list.
+/// A term that was read back, as the list of its places in preorder, arguments from the first to
+/// the last. Contracts see the list.
 ///
 /// The list is whole: each head has as many subterms as its number of arguments, and a bound head
 /// names its own place or one round it, by a binder that this place has.
@@ -30,8 +30,8 @@ impl Model for ReadTree {
 impl ReadTree {
     ghost use Rattle.ol_readback.specs.Whole.{IsWhole};
 
-    /// The tree with these places. The list is whole, and has fewer than 4294967296 places. Takes no
-    /// memory.
+    /// The tree with these places. The list is whole, and has fewer than 4294967296 places. Takes
+    /// no memory.
     pub fn of(nodes: Vec<ReadNode>) -> ReadTree
         requires whole { IsWhole nodes.items }
         requires few { vec_len nodes < 2 ^ 32 }

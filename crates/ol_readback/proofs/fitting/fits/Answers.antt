@@ -33,7 +33,7 @@ pub returns-then-not-begins : goal.returns-then-not-begins
 returns-then-not-begins c =
     let ls = map (value c.args.values.now) c.args.levels.now.items in
     let X = context_of c.args.values.now c.args.context.now in
-    begins_not ls c.args.lams X (subst (λ (r : Bool). MatchBool r (BeginsWith ls X) (BeginsNotWith ls X)) c.if-not-begins.true c.in_ok-begins-in-Some-counted.ensures)
+    begins_not ls c.args.lams X (subst (λ (r : Bool). MatchBool r (BeginsWith ls X) (BeginsNotWith ls X)) c.if-not-begins.true c.begins_with-begins.ensures)
 
 pub returns-else-not-begins : goal.returns-else-not-begins
 returns-else-not-begins c =
@@ -42,7 +42,7 @@ returns-else-not-begins c =
     let V = value c.args.values.now c.level-marked.result in
     let q = length-map c.args.levels.now.items (value c.args.values.now) in
     fit ls c.args.lams X c.len-m.result (c.len-m.result + 1) c.in-Some.binder c.in-Some-counted.args V
-    (subst (λ (r : Bool). MatchBool r (BeginsWith ls X) (BeginsNotWith ls X)) c.if-not-begins.false c.in_ok-begins-in-Some-counted.ensures)
+    (subst (λ (r : Bool). MatchBool r (BeginsWith ls X) (BeginsNotWith ls X)) c.if-not-begins.false c.begins_with-begins.ensures)
     (c.len-m.ensures ∙ c.args.levels.now.ok.0 ∙ sym q) c.level-marked.ensures.is
     (subst (λ (r : Option ℕ). IsMark V r) c.in-Some.is c.in_ok-mark.ensures) c.if-binder-lams.false
     (omega (arith, c.len-m.ensures, c.args.levels.now.ok.0))
