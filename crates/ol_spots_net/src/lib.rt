@@ -1,8 +1,10 @@
-//! The net of a term, said without nodes and numbers: where a walk over it can stand, by the term alone.
+//! The net of a term, said without nodes and numbers: where a walk over it can stand, by the term
+//! alone.
 //!
-//! A walk over the net of a term stands at a *spot*: at the root or a variable's wire of one of its
-//! subterms, with a context. An edge joins two spots that lie side by side; its weight is the number of
-//! application nodes between them, 0 or 1. A trail is edges one after another. Nothing here runs.
+//! A walk over the net of a term stands at a *spot*: at the root or a variable's wire of one of
+//! its subterms, with a context. An edge joins two spots that lie side by side; its weight is the
+//! number of application nodes between them, 0 or 1. A trail is edges one after another. Nothing
+//! here runs.
 #![tactic(auto)]
 
 ghost use Rattle.ol_spots_net.specs.Laws.{NetAndSpots, PathHasWeight};

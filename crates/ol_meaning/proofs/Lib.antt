@@ -1,0 +1,13 @@
+pub mod Lifts
+pub mod Addresses
+pub mod Copying
+pub mod There
+pub mod Back
+pub mod Redexes
+pub mod Ones
+pub mod Ways
+pub mod Betas
+pub mod Mains
+pub mod Channels
+pub mod Walking
+pub mod Seats

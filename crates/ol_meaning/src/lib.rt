@@ -1,0 +1,80 @@
+//! What head reduction of a term is for the walks over its net: a head that such a walk finds is
+//! the head of the term's head normal form.
+//!
+//! All is said over a term's spots and trails (`ol_spots_net`), which are the walks over its net.
+//! A trail's weight is the number of application nodes that it crosses. Terms may be open, so that
+//! the laws speak of subterms as well. Each function here is a law: it has no code.
+#![tactic(auto)]
+
+ghost use Rattle.ol_meaning.specs.Laws.{LiftKeeps, CutIsHeld, HeldIsCut, RedexOpens, CutCloses};
+ghost use Rattle.ol_meaning.specs.Laws.{HeadKeeps, HeadReflects, SameIsOne, RootIsSame, ShortIsStuck};
+ghost use Rattle.ol_meaning.specs.Heads.{HeadPath, FewLeadNowhere, NormalOrStep};
+ghost use Rattle.ol_meaning.specs.Heads.{HeadFound, ExitIsHead, HeadIsFound, LeastIsHead, BinderStays};
+ghost use Rattle.ol_meaning.specs.Heads.{BelowHead, HatIsOne, RootStandsAtHead, ArgsAreThere};
+
+/// A term that stands under more abstractions than before has the same edges, with their weights.
+pub fn lifting()
+    ensures { LiftKeeps }
+{}
+
+/// The cut of M with N is M, and one N beside it whose root is joined to the wire of a variable of
+/// M. An edge of the cut is a trail, of the same weight, of the term that has N in the variable's
+/// place; and an edge of that term is a trail, of the same weight, of the cut.
+pub fn cutting()
+    ensures there { CutIsHeld }
+    ensures back { HeldIsCut }
+{}
+
+/// A redex, the abstraction of M applied to N, has the trails of the cut of M with N: an edge of
+/// the redex is a trail of no more weight of the cut, and an edge of the cut is a trail of the
+/// redex.
+pub fn opening()
+    ensures opens { RedexOpens }
+    ensures closes { CutCloses }
+{}
+
+/// A head step keeps where each spot of a term's interface leads. Before and after the step trails
+/// lead between the same places, with the same levels but for level 0, and level 0 is the same in
+/// the sense of `Same`, which is one-to-one. Trails get no heavier. From the root they get
+/// lighter, if level 0 there passes all outer abstractions; if it is empty behind fewer marks `o`
+/// than there are outer abstractions, no trail leads on, before and after.
+pub fn stepping()
+    ensures keeps { HeadKeeps }
+    ensures reflects { HeadReflects }
+    ensures one { SameIsOne }
+    ensures root { RootIsSame }
+    ensures stuck { ShortIsStuck }
+{}
+
+/// In a head normal form the root leads to the head and nowhere else, past as many applications as
+/// the head has arguments, if level 0 has a mark `o` for each abstraction; over empty with fewer
+/// marks it leads nowhere. Each term is a head normal form or has a head step.
+pub fn heading()
+    ensures path { HeadPath }
+    ensures few { FewLeadNowhere }
+    ensures steps { NormalOrStep }
+{}
+
+/// Where a trail of weight w leads from a term's root, asked with n marks `o`, to another place,
+/// the term has a head normal form, which is reached by at most w head steps, and the place is
+/// that of its head. Where the term has a head normal form, such a trail is there. The least n is
+/// its number of abstractions, and level 1 tells the number of arguments. Head steps keep which
+/// abstraction binds.
+pub fn finding()
+    ensures found { HeadFound }
+    ensures exit { ExitIsHead }
+    ensures reached { HeadIsFound }
+    ensures least { LeastIsHead }
+    ensures binder { BinderStays }
+{}
+
+/// An argument of a head normal form is as a term of its own: each spot of its interface stands at
+/// one of the interface of the whole, no two at the same, and leads on there just as it does in
+/// the argument alone. Its root stands at the head's place, and level 1 tells which argument it
+/// is.
+pub fn seating()
+    ensures below { BelowHead }
+    ensures one { HatIsOne }
+    ensures root { RootStandsAtHead }
+    ensures args { ArgsAreThere }
+{}
