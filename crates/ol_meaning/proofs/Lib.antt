@@ -11,3 +11,4 @@ pub mod Mains
 pub mod Channels
 pub mod Walking
 pub mod Seats
+pub mod Rooted

@@ -11,6 +11,7 @@ ghost use Rattle.ol_meaning.specs.Laws.{HeadKeeps, HeadReflects, SameIsOne, Root
 ghost use Rattle.ol_meaning.specs.Heads.{HeadPath, FewLeadNowhere, NormalOrStep};
 ghost use Rattle.ol_meaning.specs.Heads.{HeadFound, ExitIsHead, HeadIsFound, LeastIsHead, BinderStays};
 ghost use Rattle.ol_meaning.specs.Heads.{BelowHead, HatIsOne, RootStandsAtHead, ArgsAreThere};
+ghost use Rattle.ol_meaning.specs.Nets.{PathFindsHead, HeadHasPath};
 
 /// A term that stands under more abstractions than before has the same edges, with their weights.
 pub fn lifting()
@@ -77,4 +78,13 @@ pub fn seating()
     ensures one { HatIsOne }
     ensures root { RootStandsAtHead }
     ensures args { ArgsAreThere }
+{}
+
+/// The same over the net of a whole term. Where a path leads from the root's free port, asked with n
+/// marks `o`, to a free port, the term has a head normal form, which is reached by at most as many
+/// head steps as the path crosses applications, and its head leaves at that port. And where head
+/// steps lead to a head normal form whose head leaves at a free port, such a path is there.
+pub fn net_heads()
+    ensures found { PathFindsHead }
+    ensures reached { HeadHasPath }
 {}
