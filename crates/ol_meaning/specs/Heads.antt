@@ -1,14 +1,11 @@
 -- Head normal forms and head reduction, what the root of a term leads to, and what stands below the head; with their laws.
-use Rattle.std.specs.Prelude.{◌≡◌, ℕ, zero, suc, ◌+◌, ◌≤◌, ◌<◌, ◌⊎◌, true}
+use Rattle.std.specs.Prelude.{◌≡◌, ℕ, suc, ◌+◌, ◌≤◌, ◌<◌, ◌⊎◌, true}
 use Rattle.ol_meaning.specs.Spots.{Tree, var, free, lam, app, Level, empty, o, star, Context, cons}
 use Rattle.ol_meaning.specs.Spots.{Wire, bound, name, under, occurs, left, right}
 use Rattle.ol_meaning.specs.Spots.{Place, root, wire, at, Head, Leads}
 use Rattle.ol_meaning.specs.Steps.{Same}
-
--- v below n times o: o^n.v in the comments here
-abbrev pub os : ℕ → Level → Level
-os zero v = v
-os (suc n) v = o (os n v)
+-- os n v is v below n times o: o^n.v in the comments here
+pub use Rattle.ol_context.specs.Asked.{os}
 
 -- how many abstractions a term begins with
 abbrev pub outer : Tree → ℕ
