@@ -12,3 +12,4 @@ pub mod Channels
 pub mod Walking
 pub mod Seats
 pub mod Rooted
+pub mod LeftmostSteps

@@ -1,17 +1,21 @@
 //! What head reduction of a term is for the walks over its net: a head that such a walk finds is
 //! the head of the term's head normal form.
 //!
-//! All is said over a term's spots and trails (`ol_spots_net`), which are the walks over its net.
+//! Most is said over a term's spots and trails (`ol_spots_net`), which are the walks over its net.
 //! A trail's weight is the number of application nodes that it crosses. Terms may be open, so that
-//! the laws speak of subterms as well. Each function here is a law: it has no code.
+//! the laws speak of subterms as well. `net_heads` says it over the net of a whole term. Each
+//! function here is a law: it has no code.
 #![tactic(auto)]
 
 ghost use Rattle.ol_meaning.specs.Laws.{LiftKeeps, CutIsHeld, HeldIsCut, RedexOpens, CutCloses};
-ghost use Rattle.ol_meaning.specs.Laws.{HeadKeeps, HeadReflects, SameIsOne, RootIsSame, ShortIsStuck};
+ghost use Rattle.ol_meaning.specs.Laws.{HeadKeeps, HeadReflects, SameIsOne, RootIsSame};
+ghost use Rattle.ol_meaning.specs.Laws.{ShortIsStuck};
 ghost use Rattle.ol_meaning.specs.Heads.{HeadPath, FewLeadNowhere, NormalOrStep};
-ghost use Rattle.ol_meaning.specs.Heads.{HeadFound, ExitIsHead, HeadIsFound, LeastIsHead, BinderStays};
+ghost use Rattle.ol_meaning.specs.Heads.{HeadFound, ExitIsHead, HeadIsFound, LeastIsHead};
+ghost use Rattle.ol_meaning.specs.Heads.{BinderStays};
 ghost use Rattle.ol_meaning.specs.Heads.{BelowHead, HatIsOne, RootStandsAtHead, ArgsAreThere};
 ghost use Rattle.ol_meaning.specs.Nets.{PathFindsHead, HeadHasPath};
+ghost use Rattle.ol_meaning.specs.Leftmost.{HeadIsLeftmost, OneSubstitution};
 
 /// A term that stands under more abstractions than before has the same edges, with their weights.
 pub fn lifting()
@@ -80,11 +84,19 @@ pub fn seating()
     ensures args { ArgsAreThere }
 {}
 
-/// The same over the net of a whole term. Where a path leads from the root's free port, asked with n
-/// marks `o`, to a free port, the term has a head normal form, which is reached by at most as many
-/// head steps as the path crosses applications, and its head leaves at that port. And where head
-/// steps lead to a head normal form whose head leaves at a free port, such a path is there.
+/// The same over the net of a whole term. Where a path leads from the root's free port, asked with
+/// n marks `o`, to a free port, the term has a head normal form, which is reached by at most as
+/// many head steps as the path crosses applications, and its head leaves at that port. And where
+/// head steps lead to a head normal form whose head leaves at a free port, such a path is there.
 pub fn net_heads()
     ensures found { PathFindsHead }
     ensures reached { HeadHasPath }
+{}
+
+/// A head step is the leftmost beta step of the term, as `ol_beta` says it: its redex is the first
+/// in preorder, and the term after the step is its contraction. The two ways to say what a term is
+/// with another in a variable's place are one.
+pub fn head_is_leftmost()
+    ensures step { HeadIsLeftmost }
+    ensures same { OneSubstitution }
 {}
