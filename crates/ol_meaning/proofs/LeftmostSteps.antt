@@ -3,9 +3,9 @@ use Rattle.std.proofs.Common.{◌≡◌, ◌≢◌, ℕ, zero, suc, ◌+◌, ◌
 use Rattle.std.proofs.lemmas.Bool.{eqb-true, eq-eqb, ltb-true, ltb-false}
 use Rattle.std.specs.Option.{option_map}
 use Rattle.ol_beta.specs.Beta.{shifted, substituted, contracted}
-use Rattle.ol_beta.specs.Leftmost.{leftmost, is_abstraction, first_of_two}
+use Rattle.ol_beta.specs.Leftmost.{leftmost, first_of_two}
 use Rattle.ol_beta.specs.Leftmost as beta_steps
-use Rattle.ol_meaning.specs.Spots.{Tree, var, free, lam, app, up_from, lift, suc_of, without, put, subst_for, is_lam, Head, beta, below, before}
+use Rattle.ol_meaning.specs.Spots.{Tree, var, free, lam, app, up_from, lift, suc_of, without, put, subst_for, Head, beta, below, before}
 use Rattle.ol_meaning.proofs.Addresses.{without_own}
 
 -- ---- under more abstractions
@@ -59,19 +59,13 @@ subst_is (app t u) N i = ap (λ t. app t (subst_for i N u)) (subst_is t N i) ∙
 
 -- ---- the leftmost redex
 
-no_lam : (R : Tree) → is_lam R ≡ false → is_abstraction R ≡ false
-no_lam (var y) e = refl
-no_lam (free f) e = refl
-no_lam (lam t) e = e
-no_lam (app t u) e = refl
-
 pub leftmost_step : {t t' : Tree} → Head t t' → (at : List ℕ) × (leftmost t ≡ Some at) × (contracted t at ≡ Some t')
 leftmost_step (beta {M = M} {N = N}) = ([], refl, ap Some (sym (subst_is M N 0)))
 leftmost_step (below h) = let r = leftmost_step h in (0 ∷ r.0, ap (beta_steps.under 0) r.1, ap (option_map lam) r.2)
 leftmost_step (before {R = R} {P = P} e h) =
     let r = leftmost_step h in (
       1 ∷ r.0,
-      ap (λ b. if b then Some [] else first_of_two (beta_steps.under 1 (leftmost R)) (beta_steps.under 2 (leftmost P))) (no_lam R e)
+      ap (λ b. if b then Some [] else first_of_two (beta_steps.under 1 (leftmost R)) (beta_steps.under 2 (leftmost P))) e
           ∙ ap (λ x. first_of_two (beta_steps.under 1 x) (beta_steps.under 2 (leftmost P))) r.1,
       ap (option_map (λ g. app g P)) r.2,
     )

@@ -1,7 +1,7 @@
 -- A head step keeps where each spot of the interface leads to.
 use Rattle.std.proofs.Common.{◌<◌, ◌≡◌, ℕ, suc, ◌+◌, ◌≤◌, true, false, refl, sym, ap, ◌∙◌, subst, arith, ◌⊎◌, inl, inr}
 use Rattle.std.proofs.lemmas.Bool.{or_left, or_right}
-use Rattle.ol_meaning.specs.Spots.{lam_own, empty, pair, body, lam_root, in_body, Tree, var, free, lam, app, Level, o, star, Context, Wire, bound, under, occurs, left, right, Place, root, wire, Spot, at, Edge, var_wire, free_wire, lam_wire, app_left, app_right, Tr, here, on, back, ofM, ofN, Adr, is_lam, Head, beta, below, before, Leads}
+use Rattle.ol_meaning.specs.Spots.{lam_own, empty, pair, body, lam_root, in_body, Tree, var, free, lam, app, Level, o, star, Context, Wire, bound, under, occurs, left, right, Place, root, wire, Spot, at, Edge, var_wire, free_wire, lam_wire, app_left, app_right, Tr, here, on, back, ofM, ofN, Adr, is_abstraction, Head, beta, below, before, Leads}
 use Rattle.ol_meaning.specs.Steps.{SameRedex, redex_root, redex_m, redex_n, SameBelow, below_o, below_star, below_wire, SameBefore, before_root, before_left, before_right, Same, opened, Short}
 use Rattle.ol_spots_net.proofs.Trails.{tr_trans, tr_sym}
 use Rattle.ol_meaning.proofs.Lifts.{same_is}
@@ -40,12 +40,12 @@ redex_is v v' redex_root = refl
 before_is : {R R' P : Tree} {S : Place → Level → Level → Type 0} (v v' : Level) → SameBefore R R' P S root v v' → v ≡ v'
 before_is v v' before_root = refl
 
-root_is : {R R' : Tree} (h : Head R R') → is_lam R ≡ false → (v v' : Level) → Same h root v v' → v ≡ v'
+root_is : {R R' : Tree} (h : Head R R') → is_abstraction R ≡ false → (v v' : Level) → Same h root v v' → v ≡ v'
 root_is beta e v v' r = redex_is v v' r
 root_is (below h) e v v' r = absurd (cc)
 root_is (before f h) e v v' r = before_is v v' r
 
-root_keeps : {R R' : Tree} (h : Head R R') → is_lam R ≡ false → (v : Level) → Same h root v v
+root_keeps : {R R' : Tree} (h : Head R R') → is_abstraction R ≡ false → (v : Level) → Same h root v v
 root_keeps beta e v = redex_root
 root_keeps (below h) e v = absurd (cc)
 root_keeps (before f h) e v = before_root
@@ -71,7 +71,7 @@ way_off (before {R = R} {R' = R'} {P = P} e h) = renamed flip_before before_flip
 pub same_occurs : {t t' : Tree} (h : Head t t') (y : Wire) (a a' : Level) → Same h (wire y) a a' → (occurs y t ≡ true) × (occurs y t' ≡ true)
 same_occurs h y a a' r = ((way_on h).old y a a' r, (way_on h).new y a a' r)
 
-opened_same : (R : Tree) (u : Level) → is_lam R ≡ false → opened R u ≡ u
+opened_same : (R : Tree) (u : Level) → is_abstraction R ≡ false → opened R u ≡ u
 opened_same (var y) u e = refl
 opened_same (free f) u e = refl
 opened_same (lam t) u e = absurd (cc)

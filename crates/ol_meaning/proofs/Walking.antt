@@ -1,7 +1,7 @@
 -- Head normal forms: the way to the head, and head reduction to one.
 use Rattle.std.proofs.Common.{◌<◌, ◌≡◌, ℕ, zero, suc, ◌+◌, ◌≤◌, true, false, refl, sym, ap, ◌∙◌, subst, arith, ◌⊎◌, inl, inr}
 use Rattle.std.proofs.lemmas.Bool.{or_left}
-use Rattle.ol_meaning.specs.Spots.{Tree, var, free, lam, app, Level, empty, o, star, Context, cons, Wire, bound, name, occurs, left, Place, root, wire, at, Edge, var_wire, free_wire, app_root, app_left, Tr, on, is_lam, Head, beta, below, before, Leads}
+use Rattle.ol_meaning.specs.Spots.{Tree, var, free, lam, app, Level, empty, o, star, Context, cons, Wire, bound, name, occurs, left, Place, root, wire, at, Edge, var_wire, free_wire, app_root, app_left, Tr, on, is_abstraction, Head, beta, below, before, Leads}
 use Rattle.ol_meaning.specs.Steps.{SameRedex, redex_root, below_o, below_star, SameBefore, before_root, Same, opened, Short}
 use Rattle.ol_meaning.specs.Heads.{os, outer, Spine, head_var, head_free, head_app, up_root, up_own, up_wire, Normal, flat, layer, Steps, done, step, SameAlong}
 use Rattle.ol_spots_net.proofs.Trails.{tr_trans, one, one_back, tr_body, tr_fun}
@@ -108,7 +108,7 @@ under_lam (wire (bound zero)) {v = v} {j = j} k = (root, star v, j, layer k (up_
 under_lam (wire (bound (suc y))) {v = v} {j = j} k = (wire (bound y), v, j, layer k (up_wire refl refl))
 under_lam (wire (name f)) {v = v} {j = j} k = (wire (name f), v, j, layer k (up_wire refl refl))
 
-with_arg : {R P : Tree} {q : Place} {a : Level} {j : ℕ} → is_lam R ≡ false → Normal R q a j → IsNormal (app R P)
+with_arg : {R P : Tree} {q : Place} {a : Level} {j : ℕ} → is_abstraction R ≡ false → Normal R q a j → IsNormal (app R P)
 with_arg {P = P} e (flat {y = y} {a = a} {j = j} s) = (wire y, left P y a, suc j, flat (head_app s refl))
 with_arg e (layer k h) = absurd (cc)
 

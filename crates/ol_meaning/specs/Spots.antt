@@ -1,9 +1,10 @@
 -- What becomes of a term's spots when a term is put in for a variable: a redex, its cut and the new term; and head steps.
-use Rattle.std.specs.Prelude.{◌≡◌, ℕ, zero, suc, ◌+◌, Bool, true, false, Option, Some, None}
+use Rattle.std.specs.Prelude.{◌≡◌, ℕ, zero, suc, ◌+◌, true, false, Option, Some, None}
 pub use Rattle.ol_term.specs.Trees.{Tree, var, free, lam, app}
 pub use Rattle.ol_context.specs.Contexts.{Level, empty, o, star, pair, Context, cons, tail}
 pub use Rattle.ol_spots_net.specs.Spots.{Wire, bound, name, under, occurs, left, right, Place, root, wire, Spot, at, body, fun, arg}
 pub use Rattle.ol_spots_net.specs.Spots.{Edge, var_wire, free_wire, lam_root, lam_own, lam_wire, app_root, app_arg, app_left, app_right}
+pub use Rattle.ol_beta.specs.Leftmost.{is_abstraction}
 pub use Rattle.ol_spots_net.specs.Spots.{in_body, in_fun, in_arg, Tr, here, on, back, Leads}
 
 -- ---- a term under more abstractions than before
@@ -156,15 +157,9 @@ pub data Opens (N M : Tree) : Spot → Cut → Type 0 where
   side_n : {y : Wire} {b v w : Level} {c : Context} →
       occurs (bound 0) M ≡ true → occurs y N ≡ true → w ≡ right (lam M) y b v → Opens N M (at (wire y) w c) (inN v (at (wire y) b c))
 
-abbrev pub is_lam : Tree → Bool
-is_lam (lam t) = true
-is_lam (var y) = false
-is_lam (free f) = false
-is_lam (app t u) = false
-
 -- A head step: beta at the redex under the outer abstractions and left of all arguments. It is never made within a function that
 -- is an abstraction.
 pub data Head : Tree → Tree → Type 0 where
   beta : {M N : Tree} → Head (app (lam M) N) (subst_for 0 N M)
   below : {M M' : Tree} → Head M M' → Head (lam M) (lam M')
-  before : {R R' P : Tree} → is_lam R ≡ false → Head R R' → Head (app R P) (app R' P)
+  before : {R R' P : Tree} → is_abstraction R ≡ false → Head R R' → Head (app R P) (app R' P)
