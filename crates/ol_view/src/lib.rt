@@ -6,6 +6,7 @@ mod answers;
 #[cfg(test)]
 mod check_tests;
 mod checking;
+mod laws;
 mod leading;
 mod line_reading;
 mod pieces;
@@ -17,6 +18,7 @@ mod tracing;
 
 pub use answers::{After, Check};
 pub use checking::check;
+pub use laws::equal_nets_are_shown_alike;
 pub use leading::after;
 pub use showing::show;
 pub use tracing::trace_text;
