@@ -1,5 +1,5 @@
 -- Any run tells the answer of the one-thread run.
-use Rattle.std.proofs.Common.{◌≡◌, ℕ, suc, ◌+◌, ◌*◌, List, [], ◌∷◌, length, inl, inr, sym, ◌∙◌, subst}
+use Rattle.std.proofs.Common.{◌≡◌, ℕ, suc, ◌+◌, ◌*◌, ◌≤◌, List, [], ◌∷◌, length, inl, inr, sym, ◌∙◌, subst}
 use Rattle.ol_term.specs.Trees.{Tree}
 use Rattle.ol_net.specs.declared.parts.Kind.{Kind}
 use Rattle.ol_net.specs.Nets.{NamedNet, HasNode, IsNet, SameNet, net_under}
@@ -17,7 +17,7 @@ use Rattle.ol_readback.specs.Heads.{live}
 use Rattle.ol_readback.specs.Trees.{IsTree}
 use Rattle.ol_readback.specs.declared.answers.ReadNode.{ReadNode}
 use Rattle.ol_cli.specs.Listing.{ListsOnce}
-use Rattle.ol_cli.specs.Evaluation.{start_net, Shows, Prints, PrintsOf}
+use Rattle.ol_cli.specs.Evaluation.{start_net, Shows, RunEnds, Prints, PrintsOf}
 use Rattle.ol_cli.specs.Journals.{OneThreadIsThere, AnyRunPrints, AnyRunRunsOut}
 use Rattle.ol_cli.proofs.EveryRun.{shows_under}
 use Rattle.ol_diamond.proofs.OneThread.{one_thread_exists, done_tells, spent_tells, longer_tells}
@@ -124,3 +124,14 @@ any_run_runs_out t names fuel is_net journal net run long =
       | inr e ↦ spent_tells N net o.1 fuel journal o.0 n b run e.1 e.0 o.2
     ] in
     record { journal = o.0; net = o.1; run = o.2; full = d.1; left = d.0 }
+
+-- where a complete run is within the fuel, the one-thread run ends within it
+pub any_run_ends : (t : Tree) (names : List (List ℕ)) (fuel : ℕ) → IsNet (translation_of t (length names)) →
+    (journal : List Entry) (net : NamedNet NodeName) → IsRun (start_net t names) 0 journal net → IsComplete net → length journal ≤ fuel → RunEnds t names fuel
+any_run_ends t names fuel is_net journal net run complete within =
+    let N = start_net t names in
+    let n = start_is_net t names is_net in
+    let b = start_is_named t names is_net in
+    let o = one_thread_exists N fuel n b in
+    let d = done_tells N net o.1 fuel journal o.0 n b run complete within o.2 in
+    record { journal = o.0; net = o.1; run = o.2; complete = d.0 }

@@ -10,7 +10,8 @@ use Rattle.ol_rules.proofs.Relation.{same_sym}
 use Rattle.ol_rules.proofs.UnderNames.{has_stuck_under}
 use Rattle.ol_readback.specs.Heads.{live}
 use Rattle.ol_readback.specs.Trees.{IsTree}
-use Rattle.ol_diamond.proofs.OneThreadRuns.{as_run, runs_agree, goes_on_shorter}
+use Rattle.ol_rules.proofs.LeadRuns.{as_run}
+use Rattle.ol_diamond.proofs.OneThreadRuns.{runs_agree, goes_on_shorter}
 use Rattle.ol_cli.specs.Texts.{answer_text}
 use Rattle.ol_cli.specs.Evaluation.{start_net, Shows, EveryRunPrints, EveryRunIsLonger}
 use Rattle.ol_cli.proofs.ListedOnce.{net_under_once}

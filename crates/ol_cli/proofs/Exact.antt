@@ -7,13 +7,14 @@ use Rattle.ol_io.specs.declared.calls.ReadAll.TheVariants.{TooLong}
 use Rattle.ol_io.specs.Outside.{Rose, Appended, IsWhole, IsLonger}
 use Rattle.ol_term.specs.Trees.{Tree}
 use Rattle.ol_term.specs.Generated.{doubled_text}
-use Rattle.ol_words.specs.Lines.{Text}
-use Rattle.ol_words.specs.Jobs.{Asked, run, walk, view, trace, check, gen}
+use Rattle.ol_words.specs.Texts.{Text}
+use Rattle.ol_words.specs.Asked.{Asked, run, walk, view, trace, check, gen}
 use Rattle.ol_cli.specs.declared.status.Status.{Status}
 use Rattle.ol_cli.specs.declared.status.Status.TheVariants.{Done, Usage, Syntax, Spent, ReadFault, WriteFault, NoMemory, Limit}
 use Rattle.ol_cli.specs.Jobs.{AskFor, AskForNothing, EachName, HasTermFile, TellsFiles, count_of_files, files_of, name_of}
 use Rattle.ol_cli.specs.Texts.{bytes_text, fault_text}
-use Rattle.ol_cli.specs.Answers.{IsTerm, TermAnswer, FileAnswer, JournalAnswer, JobAnswer, of_file, of_journal, made, IsAnswer, long, Seen, seen, GaveTooMany, Read, FileCause, JournalCause, EndsJournal, JobCause, by_file, by_journal, by_making, Cause, Ends, plain_run}
+use Rattle.ol_cli.specs.Answers.{IsTerm, TermAnswer, FileAnswer, JournalAnswer, JobAnswer, of_file, of_journal, made, IsAnswer, long, Seen, seen, GaveTooMany, Read, FileCause, JournalCause, JobCause, by_file, by_journal, by_making, Cause, Ends, plain_run}
+use Rattle.ol_cli.specs.Inside.{EndsJournal}
 
 -- where all bytes were given, they are within the limit
 pub within_ok : (bytes : Vec ℕ Global) (most given : ℕ) → IsErrOf {T = Vec ℕ Global} {E = ReadAll} (Ok bytes) TooLong ↔ (most < given) → given ≤ most

@@ -7,7 +7,7 @@ use Rattle.ol_net.specs.Build.{all_live}
 use Rattle.ol_net.specs.Graph.{Graph}
 use Rattle.ol_net.proofs.Linking.{length-all_live, count_by-all_live}
 use Rattle.ol_wire.specs.Closed.{ClosedTable}
-use Rattle.ol_words.specs.Jobs.{Asked, run, walk, view, trace, check, gen}
+use Rattle.ol_words.specs.Asked.{Asked, run, walk, view, trace, check, gen}
 use Rattle.ol_cli.specs.declared.status.Status.{Status}
 use Rattle.ol_cli.specs.declared.status.Status.TheVariants as status
 use Rattle.ol_cli.specs.Jobs.{AskFor, name_of}

@@ -5,9 +5,7 @@ mod NamedNets
 mod ListedOnce
 mod Following
 mod TreeTransport
-mod OneTree
 mod KeptPorts
-mod OneText
 mod OnePrint
 mod EveryRun
 mod NoFacing

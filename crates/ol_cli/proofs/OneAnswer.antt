@@ -1,4 +1,4 @@
--- The same words and files have one answer.
+-- The same words and files have one status, and one text where the job tells one.
 use Rattle.std.proofs.Common.{◌≡◌, ℕ, ◌<◌, ◌≤◌, Bool, true, false, List, length, Option, Some, refl, sym, ap, ◌∙◌, subst, arith, String, Global}
 use Rattle.ol_term.specs.Trees.{Tree, depth}
 use Rattle.ol_term.specs.Generated.{doubled_text}
@@ -15,16 +15,17 @@ use Rattle.ol_translate.specs.Translation.{translation_of}
 use Rattle.ol_translate.proofs.Whole.{translation_net}
 use Rattle.ol_view.specs.declared.answers.Check.{Check}
 use Rattle.ol_view.specs.Checks.{OnlyIsFound}
-use Rattle.ol_words.specs.Lines.{Text}
-use Rattle.ol_words.specs.Jobs.{Asked, run, walk, view, trace, check, gen}
+use Rattle.ol_words.specs.Texts.{Text}
+use Rattle.ol_words.specs.Asked.{Asked, run, walk, view, trace, check, gen}
 use Rattle.ol_cli.specs.declared.status.Status.{Status}
 use Rattle.ol_cli.specs.declared.status.Status.TheVariants.{Done, Usage, Syntax, Spent, ReadFault, WriteFault, NoMemory, Limit}
-use Rattle.ol_cli.specs.Jobs.{AskFor, AskForNothing, IsOnTerm, name_of}
+use Rattle.ol_cli.specs.Jobs.{AskFor, AskForNothing, name_of}
+use Rattle.ol_cli.specs.Inside.{IsOnTerm}
 use Rattle.ol_cli.specs.Laws.{TellsOne}
 use Rattle.ol_cli.specs.Texts.{usage_text, bytes_text, depth_text, nodes_text, journal_text, syntax_text, spent_text, found_text}
-use Rattle.ol_cli.specs.Evaluation.{start_net, RunsOut, Prints, Walks}
+use Rattle.ol_cli.specs.Evaluation.{start_net, RunsOut, RunEnds, Prints, Walks, Views}
 use Rattle.ol_cli.specs.Answers.{long, deep, large, IsTerm, TermAnswer, FileAnswer, JournalAnswer, JobAnswer, of_file, of_journal, made, Makes, plain_run, IsAnswer}
-use Rattle.ol_cli.proofs.OnePrint.{ends_or_not, one_print, one_walk}
+use Rattle.ol_cli.proofs.OnePrint.{ends_or_not, ends_or_runs_out, one_print, one_walk, one_view}
 
 abbrev pub Same : Status → Status → List ℕ → List ℕ → Type 0
 Same s s' x x' = (s ≡ s') × (x ≡ x')
@@ -32,6 +33,17 @@ Same s s' x x' = (s ≡ s') × (x ≡ x')
 -- two answers that are each this one
 same_as : (s s' u : Status) (x x' y : List ℕ) → Same s u x y → Same s' u x' y → Same s s' x x'
 same_as s s' u x x' y h h' = (h.0 ∙ sym h'.0, h.1 ∙ sym h'.1)
+
+-- one status, and one text where this job tells one
+abbrev pub Alike : Asked → Status → Status → List ℕ → List ℕ → Type 0
+Alike asked s s' x x' = (s ≡ s') × (TellsOne asked → x ≡ x')
+
+alike : (asked : Asked) (s s' : Status) (x x' : List ℕ) → Same s s' x x' → Alike asked s s' x x'
+alike asked s s' x x' h = (h.0, λ one. h.1)
+
+-- two answers of a job that are each this one
+alike_as : (asked : Asked) (s s' u : Status) (x x' y : List ℕ) → Same s u x y → Same s' u x' y → Alike asked s s' x x'
+alike_as asked s s' u x x' y h h' = alike asked s s' x x' (same_as s s' u x x' y h h')
 
 -- ---- a term
 
@@ -47,35 +59,57 @@ data OfTerm (t : Tree) (names : List (List ℕ)) : Asked → Status → List ℕ
   spent : {w fuel heads : ℕ} {name x : List ℕ} → RunsOut t names fuel → x ≡ spent_text fuel → OfTerm t names (run w fuel heads name) Spent x
   printed : {w fuel heads : ℕ} {name x : List ℕ} → Prints t names fuel heads x → OfTerm t names (run w fuel heads name) Done x
   walked : {edges heads : ℕ} {name x : List ℕ} → Walks t names edges heads x → OfTerm t names (walk edges heads name) Done x
+  viewed : {after : ℕ} {name x : List ℕ} → Views t names after x → OfTerm t names (view after name) Done x
+  traced : {w fuel : ℕ} {name x : List ℕ} → RunEnds t names fuel → OfTerm t names (trace w fuel name) Done x
+  stopped : {w fuel : ℕ} {name x : List ℕ} → RunsOut t names fuel → OfTerm t names (trace w fuel name) Spent x
 
-of_term : (t : Tree) (names : List (List ℕ)) (a : Asked) (s : Status) (x : List ℕ) → TellsOne a → TermAnswer a t names s x → OfTerm t names a s x
-of_term t names (run w fuel heads name) Spent x one h = spent h.0 h.1
-of_term t names (run w fuel heads name) Done x one h = printed h
-of_term t names (run w fuel heads name) Usage x one h = absurd h
-of_term t names (run w fuel heads name) Syntax x one h = absurd h
-of_term t names (run w fuel heads name) ReadFault x one h = absurd h
-of_term t names (run w fuel heads name) WriteFault x one h = absurd h
-of_term t names (run w fuel heads name) NoMemory x one h = absurd h
-of_term t names (run w fuel heads name) Limit x one h = absurd h
-of_term t names (walk edges heads name) Spent x one h = absurd h
-of_term t names (walk edges heads name) Done x one h = walked h
-of_term t names (walk edges heads name) Usage x one h = absurd h
-of_term t names (walk edges heads name) Syntax x one h = absurd h
-of_term t names (walk edges heads name) ReadFault x one h = absurd h
-of_term t names (walk edges heads name) WriteFault x one h = absurd h
-of_term t names (walk edges heads name) NoMemory x one h = absurd h
-of_term t names (walk edges heads name) Limit x one h = absurd h
-of_term t names (view k name) s x one h = absurd one
-of_term t names (trace w f name) s x one h = absurd one
-of_term t names (check term journal) s x one h = absurd h
-of_term t names (gen runs k) s x one h = absurd h
+of_term : (t : Tree) (names : List (List ℕ)) (a : Asked) (s : Status) (x : List ℕ) → TermAnswer a t names s x → OfTerm t names a s x
+of_term t names (run w fuel heads name) Spent x h = spent h.0 h.1
+of_term t names (run w fuel heads name) Done x h = printed h
+of_term t names (run w fuel heads name) Usage x h = absurd h
+of_term t names (run w fuel heads name) Syntax x h = absurd h
+of_term t names (run w fuel heads name) ReadFault x h = absurd h
+of_term t names (run w fuel heads name) WriteFault x h = absurd h
+of_term t names (run w fuel heads name) NoMemory x h = absurd h
+of_term t names (run w fuel heads name) Limit x h = absurd h
+of_term t names (walk edges heads name) Spent x h = absurd h
+of_term t names (walk edges heads name) Done x h = walked h
+of_term t names (walk edges heads name) Usage x h = absurd h
+of_term t names (walk edges heads name) Syntax x h = absurd h
+of_term t names (walk edges heads name) ReadFault x h = absurd h
+of_term t names (walk edges heads name) WriteFault x h = absurd h
+of_term t names (walk edges heads name) NoMemory x h = absurd h
+of_term t names (walk edges heads name) Limit x h = absurd h
+of_term t names (view k name) Done x h = viewed h
+of_term t names (view k name) Spent x h = absurd h
+of_term t names (view k name) Usage x h = absurd h
+of_term t names (view k name) Syntax x h = absurd h
+of_term t names (view k name) ReadFault x h = absurd h
+of_term t names (view k name) WriteFault x h = absurd h
+of_term t names (view k name) NoMemory x h = absurd h
+of_term t names (view k name) Limit x h = absurd h
+of_term t names (trace w f name) Done x h = traced h.0
+of_term t names (trace w f name) Spent x h = stopped h.0
+of_term t names (trace w f name) Usage x h = absurd h
+of_term t names (trace w f name) Syntax x h = absurd h
+of_term t names (trace w f name) ReadFault x h = absurd h
+of_term t names (trace w f name) WriteFault x h = absurd h
+of_term t names (trace w f name) NoMemory x h = absurd h
+of_term t names (trace w f name) Limit x h = absurd h
+of_term t names (check term journal) s x h = absurd h
+of_term t names (gen runs k) s x h = absurd h
 
-one_of_term : (t : Tree) (names : List (List ℕ)) → IsNet (translation_of t (length names)) → (a : Asked) (s s' : Status) (x x' : List ℕ) → OfTerm t names a s x → OfTerm t names a s' x' → Same s s' x x'
-one_of_term t names n a s s' x x' (spent r e) (spent r' e') = (refl, e ∙ sym e')
+one_of_term : (t : Tree) (names : List (List ℕ)) → IsNet (translation_of t (length names)) → (a : Asked) (s s' : Status) (x x' : List ℕ) → OfTerm t names a s x → OfTerm t names a s' x' → Alike a s s' x x'
+one_of_term t names n a s s' x x' (spent r e) (spent r' e') = (refl, λ one. e ∙ sym e')
 one_of_term t names n a s s' x x' (spent {fuel = fuel} {heads = heads} r e) (printed p) = absurd (ends_or_not t names n fuel heads x' r p)
 one_of_term t names n a s s' x x' (printed {fuel = fuel} {heads = heads} p) (spent r e) = absurd (ends_or_not t names n fuel heads x r p)
-one_of_term t names n a s s' x x' (printed {fuel = fuel} {heads = heads} p) (printed p') = (refl, one_print t names n fuel heads x x' p p')
-one_of_term t names n a s s' x x' (walked {edges = edges} {heads = heads} w) (walked w') = (refl, one_walk t names n edges heads x x' w w')
+one_of_term t names n a s s' x x' (printed {fuel = fuel} {heads = heads} p) (printed p') = (refl, λ one. one_print t names n fuel heads x x' p p')
+one_of_term t names n a s s' x x' (walked {edges = edges} {heads = heads} w) (walked w') = (refl, λ one. one_walk t names n edges heads x x' w w')
+one_of_term t names n a s s' x x' (traced e) (traced e') = (refl, λ one. absurd one)
+one_of_term t names n a s s' x x' (traced {fuel = fuel} e) (stopped r) = absurd (ends_or_runs_out t names n fuel r e)
+one_of_term t names n a s s' x x' (stopped {fuel = fuel} r) (traced e) = absurd (ends_or_runs_out t names n fuel r e)
+one_of_term t names n a s s' x x' (stopped r) (stopped r') = (refl, λ one. absurd one)
+one_of_term t names n a s s' x x' (viewed {after = after} v) (viewed v') = (refl, λ one. one_view t names n after x x' v v')
 
 -- what a job answers to a tree, by the order of refusals
 data OfTree (asked : Asked) (t : Tree) (names : List (List ℕ)) (s : Status) (x : List ℕ) : Type 0 where
@@ -83,16 +117,16 @@ data OfTree (asked : Asked) (t : Tree) (names : List (List ℕ)) (s : Status) (x
   too_large : depth t ≤ 1000 → 200000 < size_of_translation t → Same s Limit x nodes_text → OfTree asked t names s x
   done : depth t ≤ 1000 → size_of_translation t ≤ 200000 → TermAnswer asked t names s x → OfTree asked t names s x
 
-one_of_tree : (asked : Asked) (t : Tree) (names : List (List ℕ)) → TellsOne asked → IsNet (translation_of t (length names)) → (s s' : Status) (x x' : List ℕ) → OfTree asked t names s x → OfTree asked t names s' x' → Same s s' x x'
-one_of_tree asked t names one n s s' x x' (too_deep d h) (too_deep d' h') = same_as s s' Limit x x' depth_text h h'
-one_of_tree asked t names one n s s' x x' (too_deep d h) (too_large d' z' h') = absurd (omega arith)
-one_of_tree asked t names one n s s' x x' (too_deep d h) (done d' z' h') = absurd (omega arith)
-one_of_tree asked t names one n s s' x x' (too_large d z h) (too_deep d' h') = absurd (omega arith)
-one_of_tree asked t names one n s s' x x' (too_large d z h) (too_large d' z' h') = same_as s s' Limit x x' nodes_text h h'
-one_of_tree asked t names one n s s' x x' (too_large d z h) (done d' z' h') = absurd (omega arith)
-one_of_tree asked t names one n s s' x x' (done d z h) (too_deep d' h') = absurd (omega arith)
-one_of_tree asked t names one n s s' x x' (done d z h) (too_large d' z' h') = absurd (omega arith)
-one_of_tree asked t names one n s s' x x' (done d z h) (done d' z' h') = one_of_term t names n asked s s' x x' (of_term t names asked s x one h) (of_term t names asked s' x' one h')
+one_of_tree : (asked : Asked) (t : Tree) (names : List (List ℕ)) → IsNet (translation_of t (length names)) → (s s' : Status) (x x' : List ℕ) → OfTree asked t names s x → OfTree asked t names s' x' → Alike asked s s' x x'
+one_of_tree asked t names n s s' x x' (too_deep d h) (too_deep d' h') = alike_as asked s s' Limit x x' depth_text h h'
+one_of_tree asked t names n s s' x x' (too_deep d h) (too_large d' z' h') = absurd (omega arith)
+one_of_tree asked t names n s s' x x' (too_deep d h) (done d' z' h') = absurd (omega arith)
+one_of_tree asked t names n s s' x x' (too_large d z h) (too_deep d' h') = absurd (omega arith)
+one_of_tree asked t names n s s' x x' (too_large d z h) (too_large d' z' h') = alike_as asked s s' Limit x x' nodes_text h h'
+one_of_tree asked t names n s s' x x' (too_large d z h) (done d' z' h') = absurd (omega arith)
+one_of_tree asked t names n s s' x x' (done d z h) (too_deep d' h') = absurd (omega arith)
+one_of_tree asked t names n s s' x x' (done d z h) (too_large d' z' h') = absurd (omega arith)
+one_of_tree asked t names n s s' x x' (done d z h) (done d' z' h') = one_of_term t names n asked s s' x x' (of_term t names asked s x h) (of_term t names asked s' x' h')
 
 -- ---- a file
 
@@ -114,23 +148,23 @@ of_file_answer asked bytes ReadFault x (t, names, i, h) = has_term i.short t nam
 of_file_answer asked bytes WriteFault x (t, names, i, h) = has_term i.short t names i.file (done i.shallow i.small h)
 of_file_answer asked bytes NoMemory x (t, names, i, h) = has_term i.short t names i.file (done i.shallow i.small h)
 
-one_of_file : (asked : Asked) (bytes : List ℕ) → TellsOne asked → (s s' : Status) (x x' : List ℕ) → OfFile asked bytes s x → OfFile asked bytes s' x' → Same s s' x x'
-one_of_file asked bytes one s s' x x' (too_long l h) (too_long l' h') = same_as s s' Limit x x' bytes_text h h'
-one_of_file asked bytes one s s' x x' (too_long l h) (refused l' at' r' h') = absurd (omega arith)
-one_of_file asked bytes one s s' x x' (too_long l h) (has_term l' t' names' f' h') = absurd (omega arith)
-one_of_file asked bytes one s s' x x' (refused l at r h) (too_long l' h') = absurd (omega arith)
-one_of_file asked bytes one s s' x x' (refused l at r h) (refused l' at' r' h') =
+one_of_file : (asked : Asked) (bytes : List ℕ) → (s s' : Status) (x x' : List ℕ) → OfFile asked bytes s x → OfFile asked bytes s' x' → Alike asked s s' x x'
+one_of_file asked bytes s s' x x' (too_long l h) (too_long l' h') = alike_as asked s s' Limit x x' bytes_text h h'
+one_of_file asked bytes s s' x x' (too_long l h) (refused l' at' r' h') = absurd (omega arith)
+one_of_file asked bytes s s' x x' (too_long l h) (has_term l' t' names' f' h') = absurd (omega arith)
+one_of_file asked bytes s s' x x' (refused l at r h) (too_long l' h') = absurd (omega arith)
+one_of_file asked bytes s s' x x' (refused l at r h) (refused l' at' r' h') =
     let e : at ≡ at' = one_dead_place bytes at at' r.1 r'.1 in
-    (h.0 ∙ sym h'.0, h.1 ∙ ap (λ at. syntax_text at) e ∙ sym h'.1)
-one_of_file asked bytes one s s' x x' (refused l at r h) (has_term l' t' names' f' h') = absurd (r.0 f'.named f'.text)
-one_of_file asked bytes one s s' x x' (has_term l t names f h) (too_long l' h') = absurd (omega arith)
-one_of_file asked bytes one s s' x x' (has_term l t names f h) (refused l' at' r' h') = absurd (r'.0 f.named f.text)
-one_of_file asked bytes one s s' x x' (has_term l t names f h) (has_term l' t' names' f' h') =
+    (h.0 ∙ sym h'.0, λ one. h.1 ∙ ap (λ at. syntax_text at) e ∙ sym h'.1)
+one_of_file asked bytes s s' x x' (refused l at r h) (has_term l' t' names' f' h') = absurd (r.0 f'.named f'.text)
+one_of_file asked bytes s s' x x' (has_term l t names f h) (too_long l' h') = absurd (omega arith)
+one_of_file asked bytes s s' x x' (has_term l t names f h) (refused l' at' r' h') = absurd (r'.0 f.named f.text)
+one_of_file asked bytes s s' x x' (has_term l t names f h) (has_term l' t' names' f' h') =
     let e = one_file bytes t' t names' names f' f in
-    one_of_tree asked t names one (file_net bytes t names f) s s' x x' h (subst (λ t. OfTree asked t names s' x') e.0 (subst (λ names. OfTree asked t' names s' x') e.1 h'))
+    one_of_tree asked t names (file_net bytes t names f) s s' x x' h (subst (λ t. OfTree asked t names s' x') e.0 (subst (λ names. OfTree asked t' names s' x') e.1 h'))
 
-one_file_answer : (asked : Asked) (bytes : List ℕ) → TellsOne asked → (s s' : Status) (x x' : List ℕ) → FileAnswer asked bytes s x → FileAnswer asked bytes s' x' → Same s s' x x'
-one_file_answer asked bytes one s s' x x' h h' = one_of_file asked bytes one s s' x x' (of_file_answer asked bytes s x h) (of_file_answer asked bytes s' x' h')
+one_file_answer : (asked : Asked) (bytes : List ℕ) → (s s' : Status) (x x' : List ℕ) → FileAnswer asked bytes s x → FileAnswer asked bytes s' x' → Alike asked s s' x x'
+one_file_answer asked bytes s s' x x' h h' = one_of_file asked bytes s s' x x' (of_file_answer asked bytes s x h) (of_file_answer asked bytes s' x' h')
 
 -- ---- a job
 
@@ -173,7 +207,9 @@ one_journal t names journal s s' x x' (found l v f h) (found l' w g h') =
 
 one_making : (runs : Bool) (k : ℕ) (s s' : Status) (x x' : List ℕ) → Makes runs k s x → Makes runs k s' x' → Same s s' x x'
 one_making false k s s' x x' m m' = (m.0 ∙ sym m'.0, m.1 ∙ sym m'.1)
-one_making true k s s' x x' m m' = one_file_answer plain_run (doubled_text k) tt s s' x x' m m'
+one_making true k s s' x x' m m' =
+    let e = one_file_answer plain_run (doubled_text k) s s' x x' m m' in
+    (e.0, e.1 tt)
 
 module _ (files : Text → Option (List ℕ)) where
   one_bytes : (name : Text) (a b : List ℕ) → files name ≡ Some a → files name ≡ Some b → a ≡ b
@@ -181,7 +217,8 @@ module _ (files : Text → Option (List ℕ)) where
 
   one_checked : (term journal : Text) (s s' : Status) (x x' : List ℕ) → JobAnswer files s x (check term journal) → JobAnswer files s' x' (check term journal) → Same s s' x x'
   one_checked term journal s s' x x' (of_file {bytes = a} has e h) (of_file {bytes = b} has' e' h') =
-      one_file_answer (check term journal) b tt s s' x x' (subst (λ a. FileAnswer (check term journal) a s x) (one_bytes term a b e e') h) h'
+      let k = one_file_answer (check term journal) b s s' x x' (subst (λ a. FileAnswer (check term journal) a s x) (one_bytes term a b e e') h) h' in
+      (k.0, k.1 tt)
   one_checked term journal s s' x x' (of_file {bytes = a} has e h) (of_journal {bytes = b} {t = t} {names = names} e' i f' h') =
       absurd (not_refused term journal b t names s x (of_file_answer (check term journal) b s x (subst (λ a. FileAnswer (check term journal) a s x) (one_bytes term a b e e') h)) i)
   one_checked term journal s s' x x' (of_journal {bytes = b} {t = t} {names = names} e i f h) (of_file {bytes = a} has' e' h') =
@@ -193,26 +230,26 @@ module _ (files : Text → Option (List ℕ)) where
       let h'' = subst (λ t. JournalAnswer t names u s' x') term_is.0 (subst (λ names. JournalAnswer t' names u s' x') term_is.1 (subst (λ v. JournalAnswer t' names' v s' x') trace_is h')) in
       one_journal t names u s s' x x' (of_journal_answer t names u s x h) (of_journal_answer t names u s' x' h'')
 
-  one_on_file : (asked : Asked) → IsOnTerm asked → TellsOne asked → (s s' : Status) (x x' : List ℕ) → JobAnswer files s x asked → JobAnswer files s' x' asked → Same s s' x x'
-  one_on_file asked on one s s' x x' (of_file {bytes = a} has e h) (of_file {bytes = b} has' e' h') =
-      one_file_answer asked b one s s' x x' (subst (λ a. FileAnswer asked a s x) (one_bytes (name_of asked) a b e e') h) h'
-  one_on_file asked on one s s' x x' (of_file has e h) (of_journal e' i f' h') = absurd on
-  one_on_file asked on one s s' x x' (of_file has e h) (made m) = absurd on
-  one_on_file asked on one s s' x x' (of_journal e' i f' h') k = absurd on
-  one_on_file asked on one s s' x x' (made m) k = absurd on
+  one_on_file : (asked : Asked) → IsOnTerm asked → (s s' : Status) (x x' : List ℕ) → JobAnswer files s x asked → JobAnswer files s' x' asked → Alike asked s s' x x'
+  one_on_file asked on s s' x x' (of_file {bytes = a} has e h) (of_file {bytes = b} has' e' h') =
+      one_file_answer asked b s s' x x' (subst (λ a. FileAnswer asked a s x) (one_bytes (name_of asked) a b e e') h) h'
+  one_on_file asked on s s' x x' (of_file has e h) (of_journal e' i f' h') = absurd on
+  one_on_file asked on s s' x x' (of_file has e h) (made m) = absurd on
+  one_on_file asked on s s' x x' (of_journal e' i f' h') k = absurd on
+  one_on_file asked on s s' x x' (made m) k = absurd on
 
   one_made : (runs : Bool) (k : ℕ) (s s' : Status) (x x' : List ℕ) → JobAnswer files s x (gen runs k) → JobAnswer files s' x' (gen runs k) → Same s s' x x'
   one_made runs k s s' x x' (of_file has e h) a = absurd has
   one_made runs k s s' x x' (made m) (of_file has e h) = absurd has
   one_made runs k s s' x x' (made m) (made m') = one_making runs k s s' x x' m m'
 
-  one_of_job : (asked : Asked) → TellsOne asked → (s s' : Status) (x x' : List ℕ) → JobAnswer files s x asked → JobAnswer files s' x' asked → Same s s' x x'
-  one_of_job (run w f q name) one s s' x x' a a' = one_on_file (run w f q name) tt one s s' x x' a a'
-  one_of_job (walk g q name) one s s' x x' a a' = one_on_file (walk g q name) tt one s s' x x' a a'
-  one_of_job (view k name) one s s' x x' a a' = absurd one
-  one_of_job (trace w f name) one s s' x x' a a' = absurd one
-  one_of_job (check term journal) one s s' x x' a a' = one_checked term journal s s' x x' a a'
-  one_of_job (gen runs k) one s s' x x' a a' = one_made runs k s s' x x' a a'
+  one_of_job : (asked : Asked) → (s s' : Status) (x x' : List ℕ) → JobAnswer files s x asked → JobAnswer files s' x' asked → Alike asked s s' x x'
+  one_of_job (run w f q name) s s' x x' a a' = one_on_file (run w f q name) tt s s' x x' a a'
+  one_of_job (walk g q name) s s' x x' a a' = one_on_file (walk g q name) tt s s' x x' a a'
+  one_of_job (view k name) s s' x x' a a' = one_on_file (view k name) tt s s' x x' a a'
+  one_of_job (trace w f name) s s' x x' a a' = one_on_file (trace w f name) tt s s' x x' a a'
+  one_of_job (check term journal) s s' x x' a a' = alike (check term journal) s s' x x' (one_checked term journal s s' x x' a a')
+  one_of_job (gen runs k) s s' x x' a a' = alike (gen runs k) s s' x x' (one_made runs k s s' x x' a a')
 
 -- ---- words and files
 
@@ -234,13 +271,25 @@ of_words words files Limit x a = job a.0 a.1 a.2
 pub one_job : (words : List (String Global)) (a b : Asked) → AskFor words a → AskFor words b → a ≡ b
 one_job words a b h h' = let e : Some a ≡ Some b = sym h ∙ h' in cc
 
-one_of_words : (words : List (String Global)) (files : Text → Option (List ℕ)) (s s' : Status) (x x' : List ℕ) → ((asked : Asked) → AskFor words asked → TellsOne asked) → OfWords words files s x → OfWords words files s' x' → Same s s' x x'
-one_of_words words files s s' x x' one (no_job j h) (no_job j' h') = same_as s s' Usage x x' usage_text h h'
-one_of_words words files s s' x x' one (no_job j h) (job a' j' h') = let e = sym j ∙ j' in absurd (cc)
-one_of_words words files s s' x x' one (job a j h) (no_job j' h') = let e = sym j ∙ j' in absurd (cc)
-one_of_words words files s s' x x' one (job a j h) (job a' j' h') =
-    one_of_job files a (one a j) s s' x x' h (subst (λ a. JobAnswer files s' x' a) (one_job words a' a j' j) h')
+-- the answer to words that ask for a job is that to the job
+pub own_job : (words : List (String Global)) (files : Text → Option (List ℕ)) (asked : Asked) → AskFor words asked → (s : Status) (x : List ℕ) → IsAnswer words files s x → JobAnswer files s x asked
+own_job words files asked j s x a = go (of_words words files s x a)
+  where
+    go : OfWords words files s x → JobAnswer files s x asked
+    go (no_job j' h) = let e = sym j ∙ j' in absurd (cc)
+    go (job asked' j' h) = subst (λ a. JobAnswer files s x a) (one_job words asked' asked j' j) h
 
-pub answers_one : (words : List (String Global)) (files : Text → Option (List ℕ)) (s s' : Status) (x x' : List ℕ) → ((asked : Asked) → AskFor words asked → TellsOne asked) →
-    IsAnswer words files s x → IsAnswer words files s' x' → (s ≡ s') × (x ≡ x')
-answers_one words files s s' x x' one a a' = one_of_words words files s s' x x' one (of_words words files s x a) (of_words words files s' x' a')
+one_of_words : (words : List (String Global)) (files : Text → Option (List ℕ)) (s s' : Status) (x x' : List ℕ) → OfWords words files s x → OfWords words files s' x' →
+    (s ≡ s') × (((asked : Asked) → AskFor words asked → TellsOne asked) → x ≡ x')
+one_of_words words files s s' x x' (no_job j h) (no_job j' h') =
+    let e = same_as s s' Usage x x' usage_text h h' in
+    (e.0, λ one. e.1)
+one_of_words words files s s' x x' (no_job j h) (job a' j' h') = let e = sym j ∙ j' in absurd (cc)
+one_of_words words files s s' x x' (job a j h) (no_job j' h') = let e = sym j ∙ j' in absurd (cc)
+one_of_words words files s s' x x' (job a j h) (job a' j' h') =
+    let e = one_of_job files a s s' x x' h (subst (λ a. JobAnswer files s' x' a) (one_job words a' a j' j) h') in
+    (e.0, λ one. e.1 (one a j))
+
+pub answers_one : (words : List (String Global)) (files : Text → Option (List ℕ)) (s s' : Status) (x x' : List ℕ) → IsAnswer words files s x → IsAnswer words files s' x' →
+    (s ≡ s') × (((asked : Asked) → AskFor words asked → TellsOne asked) → x ≡ x')
+answers_one words files s s' x x' a a' = one_of_words words files s s' x x' (of_words words files s x a) (of_words words files s' x' a')

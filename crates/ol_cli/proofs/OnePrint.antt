@@ -1,27 +1,38 @@
--- A term has one answer: what is printed of it, that its run goes on, or what is read of its untouched net.
+-- A term has one answer: what is printed of it, that its run goes on, what is read of its untouched net, or what is shown of its net
+-- after some leads.
 use Rattle.std.proofs.Common.{◌≡◌, ℕ, ◌*◌, List, length, sym, ap, ◌∙◌, subst}
 use Rattle.ol_term.specs.Trees.{Tree}
 use Rattle.ol_net.specs.Nets.{NamedNet, IsNet, SameNet}
+use Rattle.ol_net.specs.Numbered.{net_of}
 use Rattle.ol_net.proofs.StuckCount.{one_stuck_count}
 use Rattle.ol_rules.specs.declared.journal.NodeName.{NodeName}
 use Rattle.ol_rules.specs.declared.journal.Entry.{Entry}
 use Rattle.ol_rules.specs.Counting.{counts_of}
 use Rattle.ol_rules.specs.Laws.{AreNamedBefore}
 use Rattle.ol_rules.proofs.OneRun.{one_thread_one, complete_or_active}
+use Rattle.ol_rules.proofs.Recount.{net_same}
 use Rattle.ol_rules.proofs.Relation.{same_refl, same_sym, same_trans}
 use Rattle.ol_rules.proofs.Same.{has_stuck_same}
 use Rattle.ol_rules.proofs.StartNets as start
 use Rattle.ol_translate.specs.Translation.{translation_of}
 use Rattle.ol_readback.specs.Heads.{live}
 use Rattle.ol_readback.specs.Trees.{IsTree}
-use Rattle.ol_readback.specs.Texts.{IsTextOf}
-use Rattle.ol_cli.specs.Texts.{line, answer_text}
+use Rattle.ol_readback.specs.Texts.{text_of_tree, IsTextOf}
+use Rattle.ol_readback.specs.declared.answers.ReadNode.{ReadNode}
+use Rattle.ol_readback.proofs.One.{tree_is_one}
+use Rattle.ol_readback.proofs.OneTree.{list_is_of_one_tree}
+use Rattle.ol_view.specs.ShowTexts.{show_text}
+use Rattle.ol_view.proofs.OneView.{leads_one}
+use Rattle.ol_view.proofs.ShownAlike.{live_alike, shown_alike}
+use Rattle.ol_cli.specs.Texts.{line, answer_text, view_text}
 use Rattle.ol_cli.specs.Laws.{OneTreeIsPrinted, OneTreeIsWalked}
-use Rattle.ol_cli.specs.Evaluation.{start_net, Shows, Prints, RunsOut, Walks, PrintsOf}
+use Rattle.ol_cli.specs.Evaluation.{start_net, Shows, Prints, RunsOut, RunEnds, Walks, Views, PrintsOf}
 use Rattle.ol_cli.proofs.ListedOnce.{same_length}
 use Rattle.ol_cli.proofs.TreeTransport.{tree_same}
-use Rattle.ol_cli.proofs.OneTree.{one_tree}
-use Rattle.ol_cli.proofs.OneText.{one_text}
+
+-- a list of places has one text
+one_text : (names : List (List ℕ)) (ns : List ReadNode) (a b : List ℕ) → IsTextOf names ns a → IsTextOf names ns b → a ≡ b
+one_text names ns a b x y = x.is ∙ ap (λ t. text_of_tree names t) (list_is_of_one_tree x.tree y.tree (x.listed ∙ sym y.listed)) ∙ sym y.is
 
 -- of one net, whose lists may be ordered in two ways, one tree, one term and one number of stuck pairs are shown
 shows_tree : (names : List (List ℕ)) (heads : ℕ) (journal journal' : List Entry) (M N : NamedNet NodeName) (text text' : List ℕ) → SameNet M N → (s : Shows names heads journal M text) (s' : Shows names heads journal' N text') →
@@ -30,7 +41,7 @@ shows_tree names heads journal journal' M N text text' same s s' =
     let stuck = one_stuck_count N s.stuck s'.stuck (has_stuck_same M N s.stuck same s.counted) s'.counted in
     let size : live M ≡ live N = same_length M N same s.once s'.once in
     let read = subst (λ n. IsTree N heads (2 * n) s.tree) size (tree_same M N same size heads (2 * live M) s.tree s.read) in
-    let tree : s.tree ≡ s'.tree = one_tree N s'.is_net heads (2 * live N) s.tree s'.tree read s'.read in
+    let tree : s.tree ≡ s'.tree = tree_is_one N s'.is_net heads (2 * live N) s.tree s'.tree read s'.read in
     let term : s.term ≡ s'.term = one_text names s'.tree s.term s'.term (subst (λ ns. IsTextOf names ns s.term) tree s.shown) s'.shown in
     (tree, term, stuck)
 
@@ -53,10 +64,13 @@ module _ (t : Tree) (names : List (List ℕ)) (is_net : IsNet (translation_of t 
   pub start_is_named : AreNamedBefore (start_net t names) 0
   start_is_named = start.start_named (translation_of t (length names))
 
-  -- the run doesn't both end and go on
+  -- the one-thread run doesn't both end and go on
+  pub ends_or_runs_out : (fuel : ℕ) → RunsOut t names fuel → RunEnds t names fuel → ⊥
+  ends_or_runs_out fuel r e =
+      complete_or_active (start_net t names) (start_net t names) e.net r.net fuel e.journal r.journal start_is_net start_is_named (same_refl (start_net t names)) e.run r.run e.complete r.left
+
   pub ends_or_not : (fuel heads : ℕ) (text : List ℕ) → RunsOut t names fuel → Prints t names fuel heads text → ⊥
-  ends_or_not fuel heads text r p =
-      complete_or_active (start_net t names) (start_net t names) p.net r.net fuel p.journal r.journal start_is_net start_is_named (same_refl (start_net t names)) p.run r.run p.complete r.left
+  ends_or_not fuel heads text r p = ends_or_runs_out fuel r (record { journal = p.journal; net = p.net; run = p.run; complete = p.complete })
 
   -- and one text is printed of it
   pub one_print : (fuel heads : ℕ) (text text' : List ℕ) → Prints t names fuel heads text → Prints t names fuel heads text' → text ≡ text'
@@ -67,13 +81,24 @@ module _ (t : Tree) (names : List (List ℕ)) (is_net : IsNet (translation_of t 
   -- the untouched net is read in one way
   walks_tree : (edges heads : ℕ) (text text' : List ℕ) (w : Walks t names edges heads text) (w' : Walks t names edges heads text') → (w.tree ≡ w'.tree) × (w.term ≡ w'.term)
   walks_tree edges heads text text' w w' =
-      let tree : w.tree ≡ w'.tree = one_tree (translation_of t (length names)) is_net heads edges w.tree w'.tree w.read w'.read in
+      let tree : w.tree ≡ w'.tree = tree_is_one (translation_of t (length names)) is_net heads edges w.tree w'.tree w.read w'.read in
       (tree, one_text names w'.tree w.term w'.term (subst (λ ns. IsTextOf names ns w.term) tree w.shown) w'.shown)
 
   pub one_walk : (edges heads : ℕ) (text text' : List ℕ) → Walks t names edges heads text → Walks t names edges heads text' → text ≡ text'
   one_walk edges heads text text' w w' =
       let x = walks_tree edges heads text text' w w' in
       w.written ∙ ap line x.1 ∙ sym w'.written
+
+  -- the net after some leads is shown in one way
+  pub one_view : (after : ℕ) (text text' : List ℕ) → Views t names after text → Views t names after text' → text ≡ text'
+  one_view after text text' v v' =
+      let N = translation_of t (length names) in
+      let from = same_sym (net_of v.start) N v.same in
+      let same = same_trans (net_of v.start) N (net_of v'.start) v.same (same_sym (net_of v'.start) N v'.same) in
+      let size : length v.start.nodes ≡ length v'.start.nodes = sym v.whole ∙ live_alike v.start v'.start same ∙ v'.whole in
+      let led = leads_one v.start v'.start v.last v'.last after v.steps v'.steps (net_same N (net_of v.start) from is_net) same size v.tabled v'.tabled v.leads v'.leads in
+      let shown = shown_alike v.last v'.last v.tabled v'.tabled led.1 in
+      v.written ∙ ap (λ n. view_text n (show_text v.last)) led.0 ∙ ap (λ x. view_text v'.steps x) shown ∙ sym v'.written
 
 -- ---- the laws
 

@@ -1,16 +1,18 @@
 -- What is written is read again.
-use Rattle.std.proofs.Common.{◌≡◌, ℕ, List, Option, Some, subst, String, Global}
+use Rattle.std.proofs.Common.{◌≡◌, ℕ, Bool, List, [], Option, Some, refl, subst, String, Global}
 use Rattle.ol_io.specs.Outside.{Appended, IsWhole}
 use Rattle.ol_term.specs.Trees.{Tree}
+use Rattle.ol_term.specs.Generated.{doubled_text}
 use Rattle.ol_parse.specs.Parsed.{IsFileOf, AreNames}
 use Rattle.ol_parse.proofs.Exact.{one_file}
 use Rattle.ol_readback.specs.Terms.{HasAllHeads, IsReadBack}
 use Rattle.ol_readback.specs.declared.answers.ReadNode.{ReadNode}
-use Rattle.ol_words.specs.Lines.{Text}
-use Rattle.ol_words.specs.Jobs.{Asked, run, walk}
+use Rattle.ol_words.specs.Texts.{Text}
+use Rattle.ol_words.specs.Asked.{Asked, run, walk, view, trace, check, gen}
 use Rattle.ol_cli.specs.declared.status.Status.{Status}
 use Rattle.ol_cli.specs.declared.status.Status.TheVariants as status
-use Rattle.ol_cli.specs.Jobs.{AskFor, TellsFile, name_of}
+use Rattle.ol_cli.specs.Inside.{IsOnTerm, IsReadWhereTold}
+use Rattle.ol_cli.specs.Jobs.{AskFor, TellsFile, name_of, term_bytes}
 use Rattle.ol_cli.specs.Evaluation.{Prints, Walks}
 use Rattle.ol_cli.specs.Trees.{TextIsReadAgain, AnswerIsReadAgain, FileIsReadAgain, WordsAreReadAgain, WritesReadable}
 use Rattle.ol_cli.proofs.OneAnswer.{one_job}
@@ -20,11 +22,11 @@ abbrev pub IsReadWhereNamed : List (List ℕ) → List ReadNode → List ℕ →
 IsReadWhereNamed names tree term = AreNames names → HasAllHeads tree → IsReadBack names tree term
 
 module _ (t : Tree) (names : List (List ℕ)) (text : List ℕ) where
-  pub run_read : (fuel heads : ℕ) (p : Prints t names fuel heads text) → IsReadWhereNamed names p.shows.tree p.shows.term → (workers : ℕ) (name : List ℕ) → AnswerIsReadAgain (run workers fuel heads name) t names status.Done text
-  run_read fuel heads p read workers name words e = (p, read words)
+  pub run_read : (fuel heads : ℕ) (p : Prints t names fuel heads text) → IsReadWhereNamed names p.shows.tree p.shows.term → (workers : ℕ) → AnswerIsReadAgain (run workers fuel heads []) t names status.Done text
+  run_read fuel heads p read workers words e = (p, read words)
 
-  pub walk_read : (edges heads : ℕ) (w : Walks t names edges heads text) → IsReadWhereNamed names w.tree w.term → (name : List ℕ) → AnswerIsReadAgain (walk edges heads name) t names status.Done text
-  walk_read edges heads w read name words e = (w, read words)
+  pub walk_read : (edges heads : ℕ) (w : Walks t names edges heads text) → IsReadWhereNamed names w.tree w.term → AnswerIsReadAgain (walk edges heads []) t names status.Done text
+  walk_read edges heads w read words e = (w, read words)
 
 -- by the names of the file's own term
 pub file_read : (asked : Asked) (bytes : List ℕ) (t : Tree) (names : List (List ℕ)) (st : Status) (text : List ℕ) → IsFileOf bytes t names → AreNames names → AnswerIsReadAgain asked t names st text → FileIsReadAgain asked bytes st text
@@ -38,10 +40,23 @@ told_read asked contents read told st text w h e =
     let whole : IsWhole (Some told) read = subst (λ k. IsWhole k read) e w in
     subst (λ b. FileIsReadAgain asked b st text) whole h
 
+-- a job on a file has the bytes of its file
+pub file_bytes : (contents : Text → Option (List ℕ)) (asked : Asked) → IsOnTerm asked → contents (name_of asked) ≡ term_bytes contents asked
+file_bytes contents (run w f q name) on = refl
+file_bytes contents (walk e q name) on = refl
+file_bytes contents (view k name) on = refl
+file_bytes contents (trace w f name) on = refl
+file_bytes contents (check term journal) on = absurd on
+file_bytes contents (gen runs k) on = absurd on
+
+-- by the bytes that are made
+pub made_read : (contents : Text → Option (List ℕ)) (runs : Bool) (k : ℕ) (st : Status) (text : List ℕ) → FileIsReadAgain (gen runs k) (doubled_text k) st text → IsReadWhereTold (gen runs k) contents st text
+made_read contents runs k st text h bytes e = let same : doubled_text k ≡ bytes = cc in subst (λ b. FileIsReadAgain (gen runs k) b st text) same h
+
 pub words_read : (words : List (String Global)) (contents : Text → Option (List ℕ)) (asked : Asked) (st : Status) (text : List ℕ) → AskFor words asked →
-    ((bytes : List ℕ) → contents (name_of asked) ≡ Some bytes → FileIsReadAgain asked bytes st text) → WordsAreReadAgain words contents st text
+    IsReadWhereTold asked contents st text → WordsAreReadAgain words contents st text
 words_read words contents asked st text j h other bytes j' e =
-    let all = subst (λ a. (bytes : List ℕ) → contents (name_of a) ≡ Some bytes → FileIsReadAgain a bytes st text) (one_job words asked other j j') h in
+    let all = subst (λ a. IsReadWhereTold a contents st text) (one_job words asked other j j') h in
     all bytes e
 
 pub written_read : (words : List (String Global)) (contents : Text → Option (List ℕ)) (st : Status) (text : List ℕ) (old new : Option (List ℕ)) → WordsAreReadAgain words contents st text → Appended old text new →

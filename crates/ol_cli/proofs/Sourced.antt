@@ -1,13 +1,16 @@
--- What an answer says of the source's own term.
-use Rattle.std.proofs.Common.{◌≡◌, ◌≢◌, ℕ, ◌*◌, ◌==◌, Bool, true, zero, suc, List, length, Option, Some, String, Global, sym, ap, ◌∙◌, subst, arith}
+-- What an answer says of the job's own term.
+use Rattle.std.proofs.Common.{◌≡◌, ◌≢◌, ℕ, ◌*◌, ◌==◌, Bool, true, false, zero, suc, List, [], ◌∷◌, codes, slice_get, length, Option, Some, String, Global, sym, ap, ◌∙◌, subst, arith}
 use Rattle.ol_io.specs.Outside.{Appended, Rose}
 use Rattle.ol_term.specs.Trees.{Tree}
+use Rattle.ol_term.specs.Generated.{doubled_text}
 use Rattle.ol_parse.specs.Parsed.{IsFileOf}
 use Rattle.ol_parse.proofs.Exact.{one_file}
 use Rattle.ol_net.specs.Nets.{NamedNet, IsNet}
 use Rattle.ol_net.specs.Pairs.{HasStuck}
 use Rattle.ol_rules.specs.declared.journal.NodeName.TheVariants.{Init}
-use Rattle.ol_rules.specs.Runs.{IsComplete}
+use Rattle.ol_rules.specs.declared.journal.NodeName.{NodeName}
+use Rattle.ol_rules.specs.declared.journal.Entry.{Entry}
+use Rattle.ol_rules.specs.Runs.{IsRun, IsComplete}
 use Rattle.ol_invariance.proofs.Renamed.{renamed}
 use Rattle.ol_invariance.proofs.Runs.{run_keeps}
 use Rattle.ol_context.specs.Paths.{HaveSamePaths}
@@ -16,20 +19,20 @@ use Rattle.ol_translate.specs.Translation.{translation_of}
 use Rattle.ol_readback.specs.Heads.{live}
 use Rattle.ol_readback.specs.Terms.{HasAllHeads, IsReadBack}
 use Rattle.ol_readback.proofs.Sources.{own_heads, read_heads}
-use Rattle.ol_words.specs.Lines.{Text}
-use Rattle.ol_words.specs.Jobs.{Asked, run, walk, view, trace, check, gen}
+use Rattle.ol_words.specs.Texts.{Text}
+use Rattle.ol_words.specs.Asked.{Asked, run, walk, view, trace, check, gen}
 use Rattle.ol_cli.specs.declared.status.Status.{Status}
 use Rattle.ol_cli.specs.declared.status.Status.TheVariants as status
-use Rattle.ol_cli.specs.Jobs.{EachName, TellsFile, TellsFiles}
-use Rattle.ol_cli.specs.Evaluation.{start_net, Prints, RunsOut}
-use Rattle.ol_cli.specs.Answers.{Ends, IsTerm, TermAnswer, JobAnswer, of_file, IsAnswer}
-use Rattle.ol_cli.specs.Sources.{PrintsTree, TellsTree, WritesTree, EveryRunTells}
+use Rattle.ol_cli.specs.Jobs.{AskFor, EachName, TellsFile, TellsFiles, term_bytes}
+use Rattle.ol_cli.specs.Evaluation.{start_net, Prints}
+use Rattle.ol_cli.specs.Answers.{Ends, IsTerm, TermAnswer, FileAnswer, JobAnswer, of_file, made, IsAnswer, plain_run}
+use Rattle.ol_cli.specs.Sources.{PrintsTree, TellsTree, WritesTree, RunTells, JobTells, EveryRunTells}
 use Rattle.ol_cli.specs.Trees.{TextIsReadAgain, WritesReadable}
-use Rattle.ol_diamond.proofs.OneThreadRuns.{as_run}
+use Rattle.ol_rules.proofs.LeadRuns.{as_run}
 use Rattle.ol_cli.proofs.NoFacing.{no_facing}
 use Rattle.ol_cli.proofs.OnePrint.{start_is_net, start_is_named}
 use Rattle.ol_cli.proofs.EveryRun.{every_run_prints, every_run_is_longer}
-use Rattle.ol_cli.proofs.OneAnswer.{file_net, one_job}
+use Rattle.ol_cli.proofs.OneAnswer.{file_net, one_job, own_job}
 use Rattle.ol_cli.proofs.Exact.{ends_exact}
 
 -- ---- the tree that is written
@@ -62,7 +65,8 @@ tells_tree (run workers fuel heads name) t names text is_net h = prints_tree t n
 tells_tree (view k name) t names text is_net h = tt
 tells_tree (trace w f name) t names text is_net h = tt
 tells_tree (check term journal) t names text is_net h = tt
-tells_tree (gen runs k) t names text is_net h = tt
+tells_tree (gen true k) t names text is_net h = prints_tree t names 200000 4096 text is_net h.0 h.1
+tells_tree (gen false k) t names text is_net h = tt
 tells_tree (walk edges heads name) t names text is_net h =
     record { walks = h.0; own_heads = (own_heads (translation_of t (length names)) is_net heads edges h.0.tree h.0.read).0; read_again = h.1 }
 
@@ -71,53 +75,80 @@ writes_tree words bytes old new h asked t names j f =
     let x = h asked t names j f in
     (x.0, tells_tree asked t names x.0 (file_net bytes t names f) x.1, x.2)
 
--- ---- answers to the source's own term
+-- ---- answers to the job's own term
 
--- the answer of `run` to a file is that to the term of its bytes
-module _ (files : Text → Option (List ℕ)) (bytes : List ℕ) (workers fuel heads : ℕ) (name : Text) (told : files name ≡ Some bytes) (t : Tree) (names : List (List ℕ)) (f : IsFileOf bytes t names) where
-  same_bytes : (other : List ℕ) → files name ≡ Some other → other ≡ bytes
-  same_bytes other e = let z : Some other ≡ Some bytes = sym e ∙ told in cc
-
-  own_term : (st : Status) (text : List ℕ) (other : List ℕ) → files name ≡ Some other → (u : Tree) (others : List (List ℕ)) → IsTerm other u others → TermAnswer (run workers fuel heads name) u others st text →
-      TermAnswer (run workers fuel heads name) t names st text
-  own_term st text other e u others i h =
-      let g = subst (λ b. IsFileOf b u others) (same_bytes other e) i.file in
-      let same = one_file bytes u t others names g f in
+-- the answer of `run` to some bytes is that to their own term, and each complete run tells it
+module _ (bytes : List ℕ) (workers fuel heads : ℕ) (name : Text) (t : Tree) (names : List (List ℕ)) (f : IsFileOf bytes t names) where
+  own_term : (st : Status) (text : List ℕ) (u : Tree) (others : List (List ℕ)) → IsTerm bytes u others → TermAnswer (run workers fuel heads name) u others st text → TermAnswer (run workers fuel heads name) t names st text
+  own_term st text u others i h =
+      let same = one_file bytes u t others names i.file f in
       subst (λ t. TermAnswer (run workers fuel heads name) t names st text) same.0 (subst (λ names. TermAnswer (run workers fuel heads name) u names st text) same.1 h)
 
-  own_done : (text : List ℕ) → JobAnswer files status.Done text (run workers fuel heads name) → Prints t names fuel heads text
-  own_done text (of_file {bytes = other} has e h) = own_term status.Done text other e h.0 h.1 h.2 h.3
+  runs_tell : (st : Status) (text : List ℕ) (old new : Option (List ℕ)) → FileAnswer (run workers fuel heads name) bytes st text → Appended old text new →
+      (journal : List Entry) (net : NamedNet NodeName) → IsRun (start_net t names) 0 journal net → IsComplete net → RunTells names fuel heads journal net st old new
+  runs_tell status.Done text old new h written journal net ran complete =
+      (text, every_run_prints t names fuel heads text (file_net bytes t names f) (own_term status.Done text h.0 h.1 h.2 h.3) journal net ran complete, written)
+  runs_tell status.Spent text old new h written journal net ran complete =
+      every_run_is_longer t names fuel (file_net bytes t names f) (own_term status.Spent text h.0 h.1 h.2 h.3).0 journal net ran complete
+  runs_tell status.Usage text old new h written journal net ran complete = tt
+  runs_tell status.Syntax text old new h written journal net ran complete = tt
+  runs_tell status.ReadFault text old new h written journal net ran complete = tt
+  runs_tell status.WriteFault text old new h written journal net ran complete = tt
+  runs_tell status.NoMemory text old new h written journal net ran complete = tt
+  runs_tell status.Limit text old new h written journal net ran complete = tt
 
-  own_spent : (text : List ℕ) → JobAnswer files status.Spent text (run workers fuel heads name) → RunsOut t names fuel
-  own_spent text (of_file {bytes = other} has e h) = (own_term status.Spent text other e h.0 h.1 h.2 h.3).0
+same_bytes : (a b : List ℕ) → Some a ≡ Some b → a ≡ b
+same_bytes a b e = cc
+
+module _ (files : Text → Option (List ℕ)) (bytes : List ℕ) (st : Status) (text : List ℕ) (old new : Option (List ℕ)) (written : Appended old text new) (t : Tree) (names : List (List ℕ)) (f : IsFileOf bytes t names)
+    (journal : List Entry) (net : NamedNet NodeName) (ran : IsRun (start_net t names) 0 journal net) (complete : IsComplete net) where
+  answer_tells : (asked : Asked) → term_bytes files asked ≡ Some bytes → JobAnswer files st text asked → JobTells asked names journal net st old new
+  answer_tells (run workers fuel heads name) told (of_file {bytes = other} has e h) =
+      let own = subst (λ b. FileAnswer (run workers fuel heads name) b st text) (same_bytes other bytes (sym e ∙ told)) h in
+      runs_tell bytes workers fuel heads name t names f st text old new own written journal net ran complete
+  answer_tells (gen true k) told (made m) =
+      let own = subst (λ b. FileAnswer plain_run b st text) (same_bytes (doubled_text k) bytes told) m in
+      runs_tell bytes 4 200000 4096 (codes "-") t names f st text old new own written journal net ran complete
+  answer_tells (gen true k) told (of_file has e h) = absurd has
+  answer_tells (gen false k) told a = tt
+  answer_tells (walk edges heads name) told a = tt
+  answer_tells (view after name) told a = tt
+  answer_tells (trace w f name) told a = tt
+  answer_tells (check term journal) told a = tt
 
 pub answer_runs : (words : List (String Global)) (files : Text → Option (List ℕ)) (bytes : List ℕ) → TellsFile files words bytes → (st : Status) (text : List ℕ) (old new : Option (List ℕ)) →
     IsAnswer words files st text → Appended old text new → EveryRunTells words bytes st old new
-answer_runs words files bytes tells status.Done text old new a written workers fuel heads name t names j f journal net ran complete =
-    let own = subst (λ a. JobAnswer files status.Done text a) (one_job words a.0 (run workers fuel heads name) a.1 j) a.2 in
-    let p = own_done files bytes workers fuel heads name (tells (run workers fuel heads name) j) t names f text own in
-    (text, every_run_prints t names fuel heads text (file_net bytes t names f) p journal net ran complete, written)
-answer_runs words files bytes tells status.Spent text old new a written workers fuel heads name t names j f journal net ran complete =
-    let own = subst (λ a. JobAnswer files status.Spent text a) (one_job words a.0 (run workers fuel heads name) a.1 j) a.2 in
-    let r = own_spent files bytes workers fuel heads name (tells (run workers fuel heads name) j) t names f text own in
-    every_run_is_longer t names fuel (file_net bytes t names f) r journal net ran complete
-answer_runs words files bytes tells status.Usage text old new a written workers fuel heads name t names j f journal net ran complete = tt
-answer_runs words files bytes tells status.Syntax text old new a written workers fuel heads name t names j f journal net ran complete = tt
-answer_runs words files bytes tells status.ReadFault text old new a written workers fuel heads name t names j f journal net ran complete = tt
-answer_runs words files bytes tells status.WriteFault text old new a written workers fuel heads name t names j f journal net ran complete = tt
-answer_runs words files bytes tells status.NoMemory text old new a written workers fuel heads name t names j f journal net ran complete = tt
-answer_runs words files bytes tells status.Limit text old new a written workers fuel heads name t names j f journal net ran complete = tt
+answer_runs words files bytes tells st text old new a written asked t names j f journal net ran complete =
+    answer_tells files bytes st text old new written t names f journal net ran complete asked (tells asked j) (own_job words files asked j st text a)
+
+-- ---- the call
+
+-- a job with one file, or none, whose bytes are told
+one_name : (contents : Text → Option (List ℕ)) (bytes : List ℕ) (name : Text) → contents name ≡ Some bytes → (place : ℕ) (n : Text) → slice_get (name ∷ []) place ≡ Some n → (b : List ℕ) × (contents n ≡ Some b)
+one_name contents bytes name told zero n is = let same : name ≡ n = cc in (bytes, ap contents (sym same) ∙ told)
+one_name contents bytes name told (suc k) n is = absurd (cc)
 
 -- what the call ended with is told by each complete run
 pub ends_run : (words : List (String Global)) (f f' given : ℕ) (contents : Text → Option (List ℕ)) (ended : Bool) → (Rose f f' → ⊥) → (bytes : List ℕ) → TellsFile contents words bytes →
     (r : Status) (g g' : ℕ) (old new : Option (List ℕ)) → (Rose g g' → ⊥) → r ≢ status.NoMemory →
     Ends words (record { faults = f; faults' = f'; contents = contents; given = given; ended = ended }) r g g' old new → EveryRunTells words bytes r old new
-ends_run words f f' given contents ended quiet bytes tells r g g' old new calm has e workers fuel heads name t names j file journal net ran complete =
-    let here = run workers fuel heads name in
-    let all : TellsFiles contents words = λ asked j'. subst (λ a. EachName a (λ n. (b : List ℕ) × (contents n ≡ Some b))) (one_job words here asked j j') (only_name (tells here j)) in
-    let x = ends_exact words f f' given contents ended quiet all r g g' old new calm has e in
-    answer_runs words contents bytes tells r x.0 old new x.1 x.2 workers fuel heads name t names j file journal net ran complete
+ends_run words f f' given contents ended quiet bytes tells r g g' old new calm has e asked t names j file journal net ran complete = go asked j
   where
-    only_name : contents name ≡ Some bytes → EachName (run workers fuel heads name) (λ n. (b : List ℕ) × (contents n ≡ Some b))
-    only_name told zero n is = let same : name ≡ n = cc in (bytes, ap contents (sym same) ∙ told)
-    only_name told (suc k) n is = absurd (cc)
+    call : (asked : Asked) → AskFor words asked → EachName asked (λ n. (b : List ℕ) × (contents n ≡ Some b)) → JobTells asked names journal net r old new
+    call here j told =
+        let all : TellsFiles contents words = λ asked j'. subst (λ a. EachName a (λ n. (b : List ℕ) × (contents n ≡ Some b))) (one_job words here asked j j') told in
+        let x = ends_exact words f f' given contents ended quiet all r g g' old new calm has e in
+        answer_runs words contents bytes tells r x.0 old new x.1 x.2 here t names j file journal net ran complete
+
+    no_name : (k : ℕ) → EachName (gen true k) (λ n. (b : List ℕ) × (contents n ≡ Some b))
+    no_name k zero n is = absurd (cc)
+    no_name k (suc place) n is = absurd (cc)
+
+    go : (asked : Asked) → AskFor words asked → JobTells asked names journal net r old new
+    go (run workers fuel heads name) j = call (run workers fuel heads name) j (one_name contents bytes name (tells (run workers fuel heads name) j))
+    go (gen true k) j = call (gen true k) j (no_name k)
+    go (gen false k) j = tt
+    go (walk edges heads name) j = tt
+    go (view after name) j = tt
+    go (trace w f name) j = tt
+    go (check term journal) j = tt

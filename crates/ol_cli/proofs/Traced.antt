@@ -2,9 +2,10 @@
 use Rattle.std.proofs.Common.{◌≡◌, ℕ, ◌≤◌, List, length, Some, refl, sym, ap, ◌∙◌, subst}
 use Rattle.ol_term.specs.Trees.{Tree}
 use Rattle.ol_net.specs.Graph.{Graph}
-use Rattle.ol_net.specs.Nets.{SameNet}
+use Rattle.ol_net.specs.Nets.{IsNet, SameNet}
 use Rattle.ol_net.specs.Numbered.{net_of}
 use Rattle.ol_rules.specs.declared.journal.Entry.{Entry}
+use Rattle.ol_rules.proofs.Recount.{net_same}
 use Rattle.ol_rules.proofs.Same.{complete_same, active_same}
 use Rattle.ol_translate.specs.Translation.{translation_of}
 use Rattle.ol_wire.specs.Closed.{ClosedTable}
@@ -12,8 +13,9 @@ use Rattle.ol_wire.specs.Standing.{AreOnce}
 use Rattle.ol_reduce.specs.Reduced.{IsDone, IsSpent}
 use Rattle.ol_view.specs.TraceTexts.{trace_text}
 use Rattle.ol_cli.specs.declared.status.Status.TheVariants as status
-use Rattle.ol_cli.specs.Evaluation.{TracesWhole, TracesFuel}
+use Rattle.ol_cli.specs.Evaluation.{RunEnds, TracesWhole, TracesFuel}
 use Rattle.ol_cli.specs.Handed.{journal_of, TraceHands}
+use Rattle.ol_cli.proofs.AnyRun.{any_run_ends}
 use Rattle.ol_cli.proofs.Evaluated.{own_run}
 
 module _ (t : Tree) (names : List (List ℕ)) (start : Graph) (same : SameNet (net_of start) (translation_of t (length names))) (fuel seats : ℕ) (journal : List Entry) (w : ClosedTable) (text : List ℕ) (written : text ≡ trace_text journal) where
@@ -49,6 +51,13 @@ module _ (t : Tree) (names : List (List ℕ)) (start : Graph) (same : SameNet (n
         within = subst (λ (j : List Entry). length j ≤ fuel) d.read d.within;
         written = written ∙ ap trace_text d.read;
       }
+
+  -- the one-thread run ends within the fuel
+  pub done_ends : (last : Graph) → IsDone start fuel seats last journal w → IsNet (net_of start) → RunEnds t names fuel
+  done_ends last d n =
+      let T = translation_of t (length names) in
+      let c = done_traces last d in
+      any_run_ends t names fuel (net_same (net_of start) T same n) c.journal c.net c.run c.complete c.within
 
   pub done_trace_hands : (last : Graph) → IsDone start fuel seats last journal w → AreOnce (journal_of w) → TraceHands t names seats fuel status.Done text (Some w)
   done_trace_hands last d once = (

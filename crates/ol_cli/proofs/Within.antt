@@ -2,10 +2,12 @@
 use Rattle.std.proofs.Common.{◌≡◌, ℕ, ◌≤◌, ◌==◌, Bool, true, false, ◌&&◌, if◌then◌else◌, List, [], ◌∷◌, Option, None, Some, option_map, option_and_then, nat_le, refl, ap, ◌∙◌, subst, arith}
 use Rattle.std.proofs.lemmas.Bool.Decides.{nat_tests}
 use Rattle.std.specs.Str.{bytes_eq}
-use Rattle.ol_words.specs.Lines.{Text, Line, line_of}
+use Rattle.ol_words.specs.Texts.{Text}
+use Rattle.ol_words.specs.Lines.{Line, line_of}
 use Rattle.ol_words.specs.Numbers.{Limits, number_of, number_within, is_number, setting}
-use Rattle.ol_words.specs.Jobs.{Asked, run, walk, view, trace, check, gen, Setting, Verb, workers_setting, fuel_setting, heads_setting, edges_setting, after_setting, runs_setting, doublings, run_verb, walk_verb, view_verb, trace_verb, check_verb, gen_verb, run_asks, walk_asks, view_asks, trace_asks, check_asks, gen_asks, is_input, only, known_of, values_of, number_on, numbers, job_on, job_behind, job_of}
-use Rattle.ol_cli.specs.Jobs.{IsWithinLimits}
+use Rattle.ol_words.specs.Asked.{Asked, run, walk, view, trace, check, gen}
+use Rattle.ol_words.specs.Jobs.{Setting, Verb, workers_setting, fuel_setting, heads_setting, edges_setting, after_setting, runs_setting, doublings, run_verb, walk_verb, view_verb, trace_verb, check_verb, gen_verb, run_asks, walk_asks, view_asks, trace_asks, check_asks, gen_asks, is_input, only, known_of, values_of, number_on, numbers, job_on, job_behind, job_of}
+use Rattle.ol_cli.specs.Inside.{IsWithinLimits}
 
 and_then_some : {A B : Type 0} (f : A → Option B) (o : Option A) (b : B) → option_and_then f o ≡ Some b → (a : A) × (o ≡ Some a) × (f a ≡ Some b)
 and_then_some f (Some a) b h = (a, refl, h)

@@ -1,4 +1,5 @@
--- The answer to a list of words and to the bytes of the files that they name: a text and a status, by the order of refusals.
+-- The answer to a list of words and to the bytes of the files that they name: a text and a status, by the order of refusals; and what
+-- a call does, by what its source and its sink did.
 use Rattle.std.specs.Prelude.{◌≡◌, ℕ, ◌≤◌, ◌<◌, ◌⊎◌, Bool, true, false, List, length, take, codes, Option, Some, String}
 use Rattle.std.specs.declared.alloc.Global.{Global}
 use Rattle.ol_io.specs.Outside.{Rose, Appended, IsWhole, IsLonger}
@@ -7,15 +8,15 @@ use Rattle.ol_term.specs.Generated.{doubled_text}
 use Rattle.ol_parse.specs.Texts.{IsRefusedAt}
 use Rattle.ol_parse.specs.Parsed.{IsFileOf}
 use Rattle.ol_translate.specs.Sizes.{size_of_translation}
-use Rattle.ol_words.specs.Lines.{Text}
-use Rattle.ol_words.specs.Jobs.{Asked, run, walk, view, trace, check, gen}
+use Rattle.ol_words.specs.Texts.{Text}
+use Rattle.ol_words.specs.Asked.{Asked, run, walk, view, trace, check, gen}
 use Rattle.ol_view.specs.declared.answers.Check.{Check}
 use Rattle.ol_view.specs.Checks.{OnlyIsFound}
 use Rattle.ol_cli.specs.declared.status.Status.{Status}
 use Rattle.ol_cli.specs.declared.status.Status.TheVariants as status
-use Rattle.ol_cli.specs.Jobs.{AskFor, AskForNothing, HasTermFile, name_of}
+use Rattle.ol_cli.specs.Jobs.{AskFor, AskForNothing, HasTermFile, name_of, plain_fuel, plain_heads}
 use Rattle.ol_cli.specs.Texts.{usage_text, fault_text, bytes_text, depth_text, nodes_text, journal_text, syntax_text, spent_text, found_text}
-use Rattle.ol_cli.specs.Evaluation.{start_net, RunsOut, Prints, Walks, Views, TracesWhole, TracesFuel}
+use Rattle.ol_cli.specs.Evaluation.{start_net, RunsOut, RunEnds, Prints, Walks, Views, TracesWhole, TracesFuel}
 
 -- the number that a process ends with
 abbrev pub number_of : Status → ℕ
@@ -40,8 +41,10 @@ pub record IsTerm (bytes : List ℕ) (t : Tree) (names : List (List ℕ)) : Type
 -- a limit that the file passes, and its text: of bytes, else of the depth of its term, else of the nodes of its translation
 pub data IsPastLimit (bytes text : List ℕ) : Type 0 where
   long : 1048576 < length bytes → text ≡ bytes_text → IsPastLimit bytes text
-  deep : length bytes ≤ 1048576 → {t : Tree} {names : List (List ℕ)} → IsFileOf bytes t names → 1000 < depth t → text ≡ depth_text → IsPastLimit bytes text
-  large : length bytes ≤ 1048576 → {t : Tree} {names : List (List ℕ)} → IsFileOf bytes t names → depth t ≤ 1000 → 200000 < size_of_translation t → text ≡ nodes_text → IsPastLimit bytes text
+  deep : length bytes ≤ 1048576 → {t : Tree} {names : List (List ℕ)} → IsFileOf bytes t names →
+      1000 < depth t → text ≡ depth_text → IsPastLimit bytes text
+  large : length bytes ≤ 1048576 → {t : Tree} {names : List (List ℕ)} → IsFileOf bytes t names → depth t ≤ 1000 →
+      200000 < size_of_translation t → text ≡ nodes_text → IsPastLimit bytes text
 
 -- What `run` answers to a term: its one-thread run is longer than the fuel, or ends and is printed.
 abbrev pub RunAnswer : Tree → List (List ℕ) → (fuel heads : ℕ) → Status → List ℕ → Type 0
@@ -59,10 +62,11 @@ abbrev pub ViewAnswer : Tree → List (List ℕ) → (after : ℕ) → Status �
 ViewAnswer t names after status.Done text = Views t names after text
 ViewAnswer t names after _ text = ⊥
 
--- What `trace` answers to a term: the trace of any run of it that is complete, or that has as many entries as the fuel and goes on.
+-- What `trace` answers to a term: where its one-thread run ends within the fuel, the trace of any run of it that is complete; where
+-- that run is longer, the trace of any run that has as many entries as the fuel and goes on.
 abbrev pub TraceAnswer : Tree → List (List ℕ) → (fuel : ℕ) → Status → List ℕ → Type 0
-TraceAnswer t names fuel status.Done text = TracesWhole t names fuel text
-TraceAnswer t names fuel status.Spent text = TracesFuel t names fuel text
+TraceAnswer t names fuel status.Done text = RunEnds t names fuel × TracesWhole t names fuel text
+TraceAnswer t names fuel status.Spent text = RunsOut t names fuel × TracesFuel t names fuel text
 TraceAnswer t names fuel _ text = ⊥
 
 -- What a job answers to a term with these free names. A term alone is no answer of `check`, and `gen` has none.
@@ -90,7 +94,7 @@ JournalAnswer t names journal _ text = ⊥
 
 -- `run` without options
 abbrev pub plain_run : Asked
-plain_run = run 4 200000 4096 (codes "-")
+plain_run = run 4 plain_fuel plain_heads (codes "-")
 
 -- What `gen` answers: the text that it makes, or the answer of `run` to that.
 abbrev pub Makes : (runs : Bool) → (k : ℕ) → Status → List ℕ → Type 0
@@ -126,6 +130,15 @@ pub record Seen : Type 0 where
 abbrev pub seen : (faults faults' : ℕ) → (Text → Option (List ℕ)) → (given : ℕ) → Bool → Seen
 seen faults faults' contents given ended = record { faults = faults; faults' = faults'; contents = contents; given = given; ended = ended }
 
+-- the same, by what a source tells of itself before the call and after
+abbrev pub seen_by : {S : Type 0} → (faults : S → ℕ) → (contents : S → Text → Option (List ℕ)) → (given : S → ℕ) → (ended : S → Bool) →
+    (old new : S) → Seen
+seen_by faults contents given ended old new = seen (faults old) (faults new) (contents old) (given new) (ended new)
+
+-- this holds where neither the source nor the sink failed, by their counts of faults
+abbrev pub IfNoneFailed : (source source' sink sink' : ℕ) → Type 0 → Type 0
+IfNoneFailed source source' sink sink' P = (Rose source source' → ⊥) → (Rose sink sink' → ⊥) → P
+
 -- the source gave these bytes last, to their end and at most so many, and they are all bytes of the name where it tells them
 pub record GaveWithin (s : Seen) (most : ℕ) (name : Text) (bytes : List ℕ) : Type 0 where
   pub whole : IsWhole (s.contents name) bytes
@@ -152,7 +165,8 @@ Read asked s st text = (bytes : List ℕ) × GaveAll s (name_of asked) bytes × 
 -- Each status of a job with a term file, where it comes of this file or of a fault, and its text.
 abbrev pub FileCause : Asked → Seen → Status → List ℕ → Type 0
 FileCause asked s status.ReadFault text = Rose s.faults s.faults' × (text ≡ fault_text)
-FileCause asked s status.Limit text = (s.faults' ≡ s.faults) × ((GaveTooMany s (name_of asked) × (text ≡ bytes_text)) ⊎ Read asked s status.Limit text)
+FileCause asked s status.Limit text =
+    (s.faults' ≡ s.faults) × ((GaveTooMany s (name_of asked) × (text ≡ bytes_text)) ⊎ Read asked s status.Limit text)
 FileCause asked s st text = (s.faults' ≡ s.faults) × Read asked s st text
 
 -- What comes of a journal file, against a term.
@@ -161,11 +175,6 @@ JournalCause s journal t names status.Limit text = GavePast s 67108864 journal �
 JournalCause s journal t names status.Done text =
     (trace : List ℕ) × GaveWithin s 67108864 journal trace × JournalAnswer t names trace status.Done text
 JournalCause s journal t names _ text = ⊥
-
--- The same where the read of the journal may fail.
-abbrev pub EndsJournal : Seen → Text → Tree → List (List ℕ) → Status → List ℕ → Type 0
-EndsJournal s journal t names status.ReadFault text = Rose s.faults s.faults' × (text ≡ fault_text)
-EndsJournal s journal t names st text = (s.faults' ≡ s.faults) × JournalCause s journal t names st text
 
 -- Each status of a job, where it comes, and its text: of its term file; of its journal file, once the term file was read and is no
 -- refusal; or of a text that is made.
@@ -183,7 +192,8 @@ Cause words s st text = (asked : Asked) × AskFor words asked × JobCause s st t
 
 -- The text of a status is appended whole and the status is told, or the sink failed and took a prefix of it.
 abbrev pub Told : Status → List ℕ → Status → (faults faults' : ℕ) → Option (List ℕ) → Option (List ℕ) → Type 0
-Told st text status.WriteFault faults faults' old new = Rose faults faults' × ((taken : ℕ) × (taken ≤ length text) × Appended old (take taken text) new)
+Told st text status.WriteFault faults faults' old new =
+    Rose faults faults' × ((taken : ℕ) × (taken ≤ length text) × Appended old (take taken text) new)
 Told st text result faults faults' old new = (result ≡ st) × (faults' ≡ faults) × Appended old text new
 
 -- The whole of what the call did: want of memory and nothing written, or a status with its cause whose text was told.

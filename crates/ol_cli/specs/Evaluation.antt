@@ -17,6 +17,7 @@ use Rattle.ol_readback.specs.Texts.{IsTextOf}
 use Rattle.ol_readback.specs.declared.answers.ReadNode.{ReadNode}
 use Rattle.ol_translate.specs.Translation.{translation_of}
 use Rattle.ol_cli.specs.Listing.{ListsOnce}
+use Rattle.ol_view.specs.Laws.{IsTable}
 use Rattle.ol_view.specs.Leads.{IsAfter}
 use Rattle.ol_view.specs.ShowTexts.{show_text}
 use Rattle.ol_view.specs.TraceTexts.{trace_text}
@@ -56,6 +57,13 @@ pub record RunsOut (t : Tree) (names : List (List ℕ)) (fuel : ℕ) : Type 0 wh
   pub full : length journal ≡ fuel
   pub left : HasActive net
 
+-- The one-thread run ends within `fuel` steps.
+pub record RunEnds (t : Tree) (names : List (List ℕ)) (fuel : ℕ) : Type 0 where
+  pub journal : List Entry
+  pub net : NamedNet NodeName
+  pub run : IsOneThread (start_net t names) fuel journal net
+  pub complete : IsComplete net
+
 -- The untouched translation is read back, each try by at most `edges` crossings, and this is its line.
 pub record Walks (t : Tree) (names : List (List ℕ)) (edges heads : ℕ) (text : List ℕ) : Type 0 where
   pub tree : List ReadNode
@@ -65,7 +73,7 @@ pub record Walks (t : Tree) (names : List (List ℕ)) (edges heads : ℕ) (text 
   pub written : text ≡ line term
 
 -- The net of the term is rewritten by at most so many leads, and what is left is shown, with the number of leads. The nodes have the
--- numbers of the translation, and the new ones the next numbers in the order in which they come.
+-- numbers of the translation, and the new ones the next numbers in the order in which they come. So it is one text.
 pub record Views (t : Tree) (names : List (List ℕ)) (after : ℕ) (text : List ℕ) : Type 0 where
   pub start : Graph
   pub last : Graph
@@ -73,6 +81,7 @@ pub record Views (t : Tree) (names : List (List ℕ)) (after : ℕ) (text : List
   pub same : SameNet (net_of start) (translation_of t (length names))
   pub whole : count_by is_some start.nodes ≡ length start.nodes
   pub leads : IsAfter start after last steps
+  pub tabled : IsTable last
   pub written : text ≡ view_text steps (show_text last)
 
 -- The text is the trace of a run of the term, after which no pair is active, with at most `fuel` entries.
@@ -95,7 +104,8 @@ pub record TracesFuel (t : Tree) (names : List (List ℕ)) (fuel : ℕ) (text : 
 
 -- ---- every complete run, not the one-thread run alone, gives these answers
 
--- This complete run has no more than `fuel` steps, and what is printed of its journal and its net (up to the order in which the net is listed) is this text.
+-- This complete run has no more than `fuel` steps, and what is printed of its journal and its net (up to the order in which the net is
+-- listed) is this text.
 pub record PrintsOf (names : List (List ℕ)) (fuel heads : ℕ) (journal : List Entry) (net : NamedNet NodeName) (text : List ℕ) : Type 0 where
   pub within : length journal ≤ fuel
   pub listed : NamedNet NodeName
@@ -104,9 +114,13 @@ pub record PrintsOf (names : List (List ℕ)) (fuel heads : ℕ) (journal : List
 
 -- Where the answer is printed, each complete run prints it; and where the run is spent, each complete run is longer than the fuel.
 abbrev pub EveryRunPrints : Type 0
-EveryRunPrints = (t : Tree) (names : List (List ℕ)) (fuel heads : ℕ) (text : List ℕ) → IsNet (translation_of t (length names)) → Prints t names fuel heads text →
-    (journal : List Entry) (net : NamedNet NodeName) → IsRun (start_net t names) 0 journal net → IsComplete net → PrintsOf names fuel heads journal net text
+EveryRunPrints = (t : Tree) (names : List (List ℕ)) (fuel heads : ℕ) (text : List ℕ) →
+    IsNet (translation_of t (length names)) → Prints t names fuel heads text →
+    (journal : List Entry) (net : NamedNet NodeName) → IsRun (start_net t names) 0 journal net → IsComplete net →
+    PrintsOf names fuel heads journal net text
 
 abbrev pub EveryRunIsLonger : Type 0
-EveryRunIsLonger = (t : Tree) (names : List (List ℕ)) (fuel : ℕ) → IsNet (translation_of t (length names)) → RunsOut t names fuel →
-    (journal : List Entry) (net : NamedNet NodeName) → IsRun (start_net t names) 0 journal net → IsComplete net → fuel < length journal
+EveryRunIsLonger = (t : Tree) (names : List (List ℕ)) (fuel : ℕ) →
+    IsNet (translation_of t (length names)) → RunsOut t names fuel →
+    (journal : List Entry) (net : NamedNet NodeName) → IsRun (start_net t names) 0 journal net → IsComplete net →
+    fuel < length journal

@@ -15,7 +15,7 @@ use Rattle.ol_wire.specs.Closed.{ClosedTable, journal_in}
 use Rattle.ol_wire.specs.Standing.{IsAfter, AreOnce}
 use Rattle.ol_reduce.specs.Frozen.{IsFrozen}
 use Rattle.ol_reduce.specs.Reduced.{IsTableOf}
-use Rattle.ol_words.specs.Jobs.{Asked, run, trace, check, gen}
+use Rattle.ol_words.specs.Asked.{Asked, run, trace, check, gen}
 use Rattle.ol_view.specs.TraceTexts.{trace_text}
 use Rattle.ol_cli.specs.declared.status.Status.{Status}
 use Rattle.ol_cli.specs.declared.status.Status.TheVariants as status
@@ -39,7 +39,8 @@ pub record IsWorkOn (t : Tree) (names : List (List ℕ)) (fuel seats : ℕ) (w :
 
 -- The run of this journal is complete and within the fuel, and the text is what is printed of it: the term that is read from its last
 -- net, whose nodes are numbered by ascending name; the counts of the journal; and the stuck pairs of that net.
-pub record PrintsWork (names : List (List ℕ)) (fuel heads : ℕ) (journal : List Entry) (net : NamedNet NodeName) (text : List ℕ) : Type 0 where
+pub record PrintsWork (names : List (List ℕ)) (fuel heads : ℕ) (journal : List Entry) (net : NamedNet NodeName) (text : List ℕ)
+    : Type 0 where
   pub complete : IsComplete net
   pub within : length journal ≤ fuel
   pub last : Graph
@@ -61,7 +62,8 @@ EndsWork names fuel heads journal net _ text = ⊥
 -- the closed words of a term's work that ended so
 abbrev pub RunHands : Tree → List (List ℕ) → (workers fuel heads : ℕ) → Status → List ℕ → Option ClosedTable → Type 0
 RunHands t names workers fuel heads st text closed =
-    (w : ClosedTable) × (closed ≡ Some w) × (net : NamedNet NodeName) × IsWorkOn t names fuel workers w net × EndsWork names fuel heads (journal_of w) net st text
+    (w : ClosedTable) × (closed ≡ Some w) × (net : NamedNet NodeName) × IsWorkOn t names fuel workers w net
+    × EndsWork names fuel heads (journal_of w) net st text
 
 -- how the work ended whose trace is written
 abbrev pub EndsTrace : (fuel : ℕ) → List Entry → NamedNet NodeName → Status → Type 0

@@ -1,9 +1,12 @@
 -- What the words ask for, and the files of it.
-use Rattle.std.specs.Prelude.{◌≡◌, ℕ, ◌≤◌, true, Bool, Option, None, Some, List, [], ◌∷◌, String, length, slice_get}
+use Rattle.std.specs.Prelude.{◌≡◌, ℕ, true, Bool, Option, None, Some, List, [], ◌∷◌, String, length, slice_get}
 use Rattle.std.specs.declared.alloc.Global.{Global}
 use Rattle.std.specs.Option.{option_map_or}
-use Rattle.ol_words.specs.Lines.{Text}
-use Rattle.ol_words.specs.Jobs.{Asked, run, walk, view, trace, check, gen, job_of, texts_of}
+use Rattle.ol_term.specs.Generated.{doubled_text}
+use Rattle.ol_words.specs.Texts.{Text}
+use Rattle.ol_words.specs.Texts.{texts_of}
+use Rattle.ol_words.specs.Asked.{Asked, run, walk, view, trace, check, gen}
+use Rattle.ol_words.specs.Jobs.{job_of}
 
 -- the words ask for this
 abbrev pub AskFor : List (String Global) → Asked → Type 0
@@ -36,21 +39,6 @@ abbrev pub HasTermFile : Asked → Type 0
 HasTermFile (gen runs k) = ⊥
 HasTermFile _ = Unit {0}
 
--- the job is done on one term, that of its one file
-abbrev pub IsOnTerm : Asked → Type 0
-IsOnTerm (check term journal) = ⊥
-IsOnTerm (gen runs k) = ⊥
-IsOnTerm _ = Unit {0}
-
--- the numbers of a job are within the limits of their options
-abbrev pub IsWithinLimits : Asked → Type 0
-IsWithinLimits (run workers fuel heads name) = (1 ≤ workers) × (workers ≤ 64) × (fuel ≤ 2000000) × (1 ≤ heads)
-IsWithinLimits (walk edges heads name) = 1 ≤ heads
-IsWithinLimits (view after name) = after ≤ 2000000
-IsWithinLimits (trace workers fuel name) = (1 ≤ workers) × (workers ≤ 64) × (fuel ≤ 2000000)
-IsWithinLimits (check term journal) = Unit {0}
-IsWithinLimits (gen runs k) = k ≤ 10
-
 -- how many files a job has, and how many the words name, which is none where they ask for nothing
 abbrev pub count_of_files : Asked → ℕ
 count_of_files asked = length (names_of asked)
@@ -71,6 +59,22 @@ abbrev pub TellsFiles : (Text → Option (List ℕ)) → List (String Global) �
 TellsFiles contents words =
     (asked : Asked) → AskFor words asked → EachName asked (λ name. (bytes : List ℕ) × (contents name ≡ Some bytes))
 
--- these are the bytes of the file with the term that the words ask for, where they ask for one
+-- the fuel of `run` without options, and how many subterms it asks
+abbrev pub plain_fuel : ℕ
+plain_fuel = 200000
+
+abbrev pub plain_heads : ℕ
+plain_heads = 4096
+
+-- the bytes of a job's term: those of its file, where they are told, or those that `gen` makes
+abbrev pub term_bytes : (Text → Option (List ℕ)) → Asked → Option (List ℕ)
+term_bytes contents (gen runs k) = Some (doubled_text k)
+term_bytes contents (run workers fuel heads name) = contents name
+term_bytes contents (walk edges heads name) = contents name
+term_bytes contents (view after name) = contents name
+term_bytes contents (trace workers fuel name) = contents name
+term_bytes contents (check term journal) = contents term
+
+-- these are the bytes of the term of the job that the words ask for, where they ask for one
 abbrev pub TellsFile : (Text → Option (List ℕ)) → List (String Global) → List ℕ → Type 0
-TellsFile contents words bytes = (asked : Asked) → AskFor words asked → contents (name_of asked) ≡ Some bytes
+TellsFile contents words bytes = (asked : Asked) → AskFor words asked → term_bytes contents asked ≡ Some bytes

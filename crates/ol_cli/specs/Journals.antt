@@ -16,9 +16,11 @@ OneThreadIsThere = (t : Tree) (names : List (List ℕ)) (fuel : ℕ) → IsNet (
 -- What is printed of a complete run within the fuel is printed of the one-thread run.
 abbrev pub AnyRunPrints : Type 0
 AnyRunPrints = (t : Tree) (names : List (List ℕ)) (fuel heads : ℕ) (text : List ℕ) → IsNet (translation_of t (length names)) →
-    (journal : List Entry) (net : NamedNet NodeName) → IsRun (start_net t names) 0 journal net → IsComplete net → PrintsOf names fuel heads journal net text → Prints t names fuel heads text
+    (journal : List Entry) (net : NamedNet NodeName) → IsRun (start_net t names) 0 journal net → IsComplete net →
+    PrintsOf names fuel heads journal net text → Prints t names fuel heads text
 
 -- Where a run is longer than the fuel, or is as long and can go on, the one-thread run has more steps than the fuel.
 abbrev pub AnyRunRunsOut : Type 0
 AnyRunRunsOut = (t : Tree) (names : List (List ℕ)) (fuel : ℕ) → IsNet (translation_of t (length names)) →
-    (journal : List Entry) (net : NamedNet NodeName) → IsRun (start_net t names) 0 journal net → (fuel < length journal) ⊎ ((length journal ≡ fuel) × HasActive net) → RunsOut t names fuel
+    (journal : List Entry) (net : NamedNet NodeName) → IsRun (start_net t names) 0 journal net →
+    (fuel < length journal) ⊎ ((length journal ≡ fuel) × HasActive net) → RunsOut t names fuel

@@ -5,30 +5,32 @@ use Rattle.ol_term.specs.Trees.{Tree}
 use Rattle.ol_net.specs.Nets.{IsNet}
 use Rattle.ol_translate.specs.Translation.{translation_of}
 use Rattle.ol_cli.specs.declared.status.Status.{Status}
-use Rattle.ol_words.specs.Lines.{Text}
-use Rattle.ol_words.specs.Jobs.{Asked, view, trace}
+use Rattle.ol_words.specs.Texts.{Text}
+use Rattle.ol_words.specs.Asked.{Asked, trace}
 use Rattle.ol_cli.specs.Jobs.{AskFor}
 use Rattle.ol_cli.specs.Answers.{IsAnswer}
 use Rattle.ol_cli.specs.Evaluation.{Prints, Walks}
 
--- a job whose answer is one text: what `trace` writes is any of many, and of `view` this isn't said here
+-- a job whose answer is one text: what `trace` writes is any of many
 abbrev pub TellsOne : Asked → Type 0
-TellsOne (view after name) = ⊥
 TellsOne (trace workers fuel name) = ⊥
 TellsOne _ = Unit {0}
 
--- The same words and files have one answer: each status and each text comes just where the answer is that.
+-- The same words and files have one answer: each status comes just where the answer is that, and so does each text, where the job
+-- tells one.
 abbrev pub OneAnswer : Type 0
 OneAnswer = (words : List (String Global)) (files : Text → Option (List ℕ)) (status status' : Status) (text text' : List ℕ) →
-    ((asked : Asked) → AskFor words asked → TellsOne asked) →
-    IsAnswer words files status text → IsAnswer words files status' text' → (status ≡ status') × (text ≡ text')
+    IsAnswer words files status text → IsAnswer words files status' text' →
+    (status ≡ status') × (((asked : Asked) → AskFor words asked → TellsOne asked) → text ≡ text')
 
 -- However the answer to a term is come by, one tree is printed, one term and one number of stuck pairs.
 abbrev pub OneTreeIsPrinted : Type 0
-OneTreeIsPrinted = (t : Tree) (names : List (List ℕ)) (fuel heads : ℕ) (text text' : List ℕ) → IsNet (translation_of t (length names)) → (p : Prints t names fuel heads text) (p' : Prints t names fuel heads text') →
+OneTreeIsPrinted = (t : Tree) (names : List (List ℕ)) (fuel heads : ℕ) (text text' : List ℕ) →
+    IsNet (translation_of t (length names)) → (p : Prints t names fuel heads text) (p' : Prints t names fuel heads text') →
     (p.shows.tree ≡ p'.shows.tree) × (p.shows.term ≡ p'.shows.term) × (p.shows.stuck ≡ p'.shows.stuck)
 
 -- and one tree and one term of the untouched translation
 abbrev pub OneTreeIsWalked : Type 0
-OneTreeIsWalked = (t : Tree) (names : List (List ℕ)) (edges heads : ℕ) (text text' : List ℕ) → IsNet (translation_of t (length names)) → (w : Walks t names edges heads text) (w' : Walks t names edges heads text') →
+OneTreeIsWalked = (t : Tree) (names : List (List ℕ)) (edges heads : ℕ) (text text' : List ℕ) →
+    IsNet (translation_of t (length names)) → (w : Walks t names edges heads text) (w' : Walks t names edges heads text') →
     (w.tree ≡ w'.tree) × (w.term ≡ w'.term)

@@ -9,3 +9,4 @@ pub mod Trees
 pub mod Laws
 pub mod Handed
 pub mod Prepared
+pub mod Inside

@@ -1,5 +1,5 @@
--- What is written for a source's own term, where the source tells the bytes of the job's file.
-use Rattle.std.specs.Prelude.{ℕ, ◌<◌, ◌==◌, false, List, length, Option, String}
+-- What is written for a job's own term, where its bytes are told: that of its file, or the one that `gen --run` makes.
+use Rattle.std.specs.Prelude.{ℕ, ◌<◌, ◌==◌, true, false, List, length, Option, String}
 use Rattle.std.specs.declared.alloc.Global.{Global}
 use Rattle.ol_io.specs.Outside.{Appended}
 use Rattle.ol_term.specs.Trees.{Tree}
@@ -11,11 +11,10 @@ use Rattle.ol_rules.specs.Runs.{IsRun, IsComplete}
 use Rattle.ol_translate.specs.Translation.{translation_of}
 use Rattle.ol_readback.specs.Sources.{HasHeadsOf}
 use Rattle.ol_readback.specs.Terms.{HasAllHeads, IsReadBack}
-use Rattle.ol_words.specs.Lines.{Text}
-use Rattle.ol_words.specs.Jobs.{Asked, run, walk}
+use Rattle.ol_words.specs.Asked.{Asked, run, walk, gen}
 use Rattle.ol_cli.specs.declared.status.Status.{Status}
 use Rattle.ol_cli.specs.declared.status.Status.TheVariants as status
-use Rattle.ol_cli.specs.Jobs.{AskFor}
+use Rattle.ol_cli.specs.Jobs.{AskFor, plain_fuel, plain_heads}
 use Rattle.ol_cli.specs.Evaluation.{start_net, Prints, Walks, PrintsOf}
 
 -- ---- the tree that is written
@@ -35,13 +34,15 @@ pub record WalksTree (t : Tree) (names : List (List ℕ)) (edges heads : ℕ) (t
   pub own_heads : HasHeadsOf (translation_of t (length names)) false walks.tree
   pub read_again : HasAllHeads walks.tree → IsReadBack names walks.tree walks.term
 
--- what a job prints of a term, with the facts of its tree, if it prints one
+-- What a job prints of a term, with the facts of its tree, if it prints one. `gen --run` does with the term that it makes what `run`
+-- does without options.
 abbrev pub TellsTree : Asked → Tree → List (List ℕ) → List ℕ → Type 0
 TellsTree (run workers fuel heads name) t names text = PrintsTree t names fuel heads text
 TellsTree (walk edges heads name) t names text = WalksTree t names edges heads text
+TellsTree (gen true k) t names text = PrintsTree t names plain_fuel plain_heads text
 TellsTree _ t names text = Unit {0}
 
--- The text was written for the term of the job's file, and these are the facts of its tree.
+-- The text was written for the job's own term, and these are the facts of its tree.
 abbrev pub WritesTree : List (String Global) → List ℕ → Option (List ℕ) → Option (List ℕ) → Type 0
 WritesTree words bytes old new = (asked : Asked) (t : Tree) (names : List (List ℕ)) → AskFor words asked → IsFileOf bytes t names →
     (text : List ℕ) × TellsTree asked t names text × Appended old text new
@@ -49,13 +50,21 @@ WritesTree words bytes old new = (asked : Asked) (t : Tree) (names : List (List 
 -- ---- every complete run
 
 -- what a complete run of `run` tells of the status: its journal and its net print what was written, or it is longer than the fuel
-abbrev pub RunTells : List (List ℕ) → (fuel heads : ℕ) → List Entry → NamedNet NodeName → Status → Option (List ℕ) → Option (List ℕ) → Type 0
-RunTells names fuel heads journal net status.Done old new = (text : List ℕ) × PrintsOf names fuel heads journal net text × Appended old text new
+abbrev pub RunTells : List (List ℕ) → (fuel heads : ℕ) → List Entry → NamedNet NodeName → Status →
+    Option (List ℕ) → Option (List ℕ) → Type 0
+RunTells names fuel heads journal net status.Done old new =
+    (text : List ℕ) × PrintsOf names fuel heads journal net text × Appended old text new
 RunTells names fuel heads journal net status.Spent old new = fuel < length journal
 RunTells names fuel heads journal net _ old new = Unit {0}
 
--- each complete run from the net of the file's term tells this, whatever pairs it takes first
+-- the same of a job: the others rewrite nothing, or write no term
+abbrev pub JobTells : Asked → List (List ℕ) → List Entry → NamedNet NodeName → Status → Option (List ℕ) → Option (List ℕ) → Type 0
+JobTells (run workers fuel heads name) names journal net st old new = RunTells names fuel heads journal net st old new
+JobTells (gen true k) names journal net st old new = RunTells names plain_fuel plain_heads journal net st old new
+JobTells _ names journal net st old new = Unit {0}
+
+-- each complete run from the net of the job's own term tells this, whatever pairs it takes first
 abbrev pub EveryRunTells : List (String Global) → List ℕ → Status → Option (List ℕ) → Option (List ℕ) → Type 0
-EveryRunTells words bytes st old new = (workers fuel heads : ℕ) (name : Text) (t : Tree) (names : List (List ℕ)) →
-    AskFor words (run workers fuel heads name) → IsFileOf bytes t names →
-    (journal : List Entry) (net : NamedNet NodeName) → IsRun (start_net t names) 0 journal net → IsComplete net → RunTells names fuel heads journal net st old new
+EveryRunTells words bytes st old new = (asked : Asked) (t : Tree) (names : List (List ℕ)) → AskFor words asked → IsFileOf bytes t names →
+    (journal : List Entry) (net : NamedNet NodeName) → IsRun (start_net t names) 0 journal net → IsComplete net →
+    JobTells asked names journal net st old new

@@ -1,22 +1,33 @@
--- What is read again of the answer to a term.
-use Rattle.std.specs.Prelude.{◌≡◌, ℕ, List, Option, Some, String}
+-- Words of private contracts alone: what is read again of the answer to a term.
+use Rattle.std.specs.Prelude.{◌≡◌, ℕ, true, List, Option, Some, String}
 use Rattle.std.specs.declared.alloc.Global.{Global}
 use Rattle.ol_io.specs.Outside.{Appended}
 use Rattle.ol_term.specs.Trees.{Tree}
 use Rattle.ol_parse.specs.Parsed.{IsFileOf, AreNames}
 use Rattle.ol_readback.specs.Terms.{HasAllHeads, IsReadBack}
-use Rattle.ol_words.specs.Lines.{Text}
-use Rattle.ol_words.specs.Jobs.{Asked, run, walk}
+use Rattle.ol_words.specs.Texts.{Text}
+use Rattle.ol_words.specs.Asked.{Asked, run, walk, gen}
 use Rattle.ol_cli.specs.declared.status.Status.{Status}
 use Rattle.ol_cli.specs.declared.status.Status.TheVariants as status
-use Rattle.ol_cli.specs.Jobs.{AskFor, name_of}
+use Rattle.ol_cli.specs.Jobs.{AskFor, plain_fuel, plain_heads, term_bytes}
 use Rattle.ol_cli.specs.Evaluation.{Prints, Walks}
+
+-- what `run` prints of a term, and that it is read again
+abbrev pub RunIsReadAgain : Tree → List (List ℕ) → (fuel heads : ℕ) → List ℕ → Type 0
+RunIsReadAgain t names fuel heads text =
+    (p : Prints t names fuel heads text) × (HasAllHeads p.shows.tree → IsReadBack names p.shows.tree p.shows.term)
+
+-- the same of `walk`
+abbrev pub WalkIsReadAgain : Tree → List (List ℕ) → (edges heads : ℕ) → List ℕ → Type 0
+WalkIsReadAgain t names edges heads text =
+    (w : Walks t names edges heads text) × (HasAllHeads w.tree → IsReadBack names w.tree w.term)
 
 -- What a job answers to a term, and that the tree whose text it prints is read again, where each of its places has a head. The other
 -- jobs print no tree.
 abbrev pub TextIsReadAgain : Asked → Tree → List (List ℕ) → List ℕ → Type 0
-TextIsReadAgain (run workers fuel heads name) t names text = (p : Prints t names fuel heads text) × (HasAllHeads p.shows.tree → IsReadBack names p.shows.tree p.shows.term)
-TextIsReadAgain (walk edges heads name) t names text = (w : Walks t names edges heads text) × (HasAllHeads w.tree → IsReadBack names w.tree w.term)
+TextIsReadAgain (run workers fuel heads name) t names text = RunIsReadAgain t names fuel heads text
+TextIsReadAgain (walk edges heads name) t names text = WalkIsReadAgain t names edges heads text
+TextIsReadAgain (gen true k) t names text = RunIsReadAgain t names plain_fuel plain_heads text
 TextIsReadAgain _ t names text = Unit {0}
 
 -- where the job is done, its text is read again by these names, if they are names of the grammar
@@ -25,13 +36,15 @@ AnswerIsReadAgain asked t names st text = AreNames names → st ≡ status.Done 
 
 -- the same by the names of the term of these bytes
 abbrev pub FileIsReadAgain : Asked → List ℕ → Status → List ℕ → Type 0
-FileIsReadAgain asked bytes st text = (t : Tree) (names : List (List ℕ)) → IsFileOf bytes t names → st ≡ status.Done → TextIsReadAgain asked t names text
+FileIsReadAgain asked bytes st text =
+    (t : Tree) (names : List (List ℕ)) → IsFileOf bytes t names → st ≡ status.Done → TextIsReadAgain asked t names text
 
--- the same by the names of the term of the file that the words ask for
+-- the same by the names of the term of the job that the words ask for
 abbrev pub WordsAreReadAgain : List (String Global) → (Text → Option (List ℕ)) → Status → List ℕ → Type 0
-WordsAreReadAgain words contents st text = (asked : Asked) (bytes : List ℕ) → AskFor words asked → contents (name_of asked) ≡ Some bytes → FileIsReadAgain asked bytes st text
+WordsAreReadAgain words contents st text =
+    (asked : Asked) (bytes : List ℕ) → AskFor words asked → term_bytes contents asked ≡ Some bytes → FileIsReadAgain asked bytes st text
 
--- such a text was written for the job's file
+-- such a text was written for the job's term
 abbrev pub WritesReadable : List (String Global) → List ℕ → Option (List ℕ) → Option (List ℕ) → Type 0
 WritesReadable words bytes old new = (asked : Asked) (t : Tree) (names : List (List ℕ)) → AskFor words asked → IsFileOf bytes t names →
     (text : List ℕ) × TextIsReadAgain asked t names text × Appended old text new

@@ -19,8 +19,8 @@ fn file(alloc: Global, name: &str, bytes: &[u8]) -> Result<MemFile, AllocError> 
     })
 }
 
-// What these words write, where the term stands in standard input and the journal in the file `j`; call
-// number `failing` of the source fails.
+// What these words write, where the term stands in standard input and the journal in the file `j`;
+// call number `failing` of the source fails.
 fn written(
     rt: &(impl Abort + Threads + Wait + Sync),
     alloc: Global,
@@ -189,8 +189,8 @@ fn journals_are_checked(rt: HostRuntime) -> Result<(), Fail> {
     )
 }
 
-/// All refusals of the term file come before those of the journal file. Calls 0 to 2 of the source read
-/// the term, and calls 3 to 5 the journal.
+/// All refusals of the term file come before those of the journal file. Calls 0 to 2 of the source
+/// read the term, and calls 3 to 5 the journal.
 #[test]
 fn the_term_is_refused_first(rt: HostRuntime) -> Result<(), Fail> {
     let a = rt.alloc();
@@ -220,11 +220,20 @@ fn terms_are_made(rt: HostRuntime) -> Result<(), Fail> {
     row(&rt, a, "gen --run 0", b"", b"", (Status::Done, true, ran))
 }
 
+/// The greatest term that is made is run: 21,500 interactions.
+#[test]
+fn the_greatest_term_is_run(rt: HostRuntime) -> Result<(), Fail> {
+    let a = rt.alloc();
+    let ran =
+        "\\a. a\nbeta 3071\nfan 1024\ncroissant 4095\nbracket 1024\ncross-fan 2048\ncross-croissant 8190\ncross-bracket 2048\nerase 0\nstuck 0\n";
+    row(&rt, a, "gen --run 10", b"", b"", (Status::Done, true, ran))
+}
+
 /// A trace of many workers is complete.
 #[test]
 fn a_trace_of_many_workers_is_checked(rt: HostRuntime) -> Result<(), Fail> {
     let a = rt.alloc();
-    let (_, _, term) = written(&rt, a, "gen 3", b"", b"", &[])?;
+    let (_, _, term) = written(&rt, a, "gen 6", b"", b"", &[])?;
     let (status, _, journal) = written(&rt, a, "trace --workers 64 -", &term, b"", &[])?;
     assert_eq!(rt; status, Status::Done);
     row(

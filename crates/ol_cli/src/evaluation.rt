@@ -1,16 +1,16 @@
 //! The job itself: from the bytes of a term file to a text and a status.
-ghost use Rattle.std.specs.Prelude.{◌≡◌, ◌≤◌, ◌<◌, ◌+◌, ◌*◌, ℕ, List, length, count_by, is_some, IfOk, true};
+ghost use Rattle.std.specs.Prelude.{◌≡◌, ◌≤◌, ◌<◌, ◌+◌, ◌*◌, ℕ, List, length, count_by, is_some, IfOk, None};
 ghost use Rattle.ol_term.specs.Trees.{Tree, tree_of};
 ghost use Rattle.ol_net.specs.Numbered.{net_of};
 ghost use Rattle.ol_net.specs.Nets.{SameNet};
 ghost use Rattle.ol_translate.specs.Translation.{translation_of};
 ghost use Rattle.ol_wire.specs.Sizes.{IsSmallNet};
-ghost use Rattle.ol_words.specs.Jobs.{Asked, asked_by, run, walk};
-ghost use Rattle.ol_cli.specs.Jobs.{IsOnTerm, IsWithinLimits};
-ghost use Rattle.ol_cli.specs.Trees.{AnswerIsReadAgain, FileIsReadAgain};
-ghost use Rattle.ol_cli.specs.Answers.{FileAnswer, RunAnswer, TermAnswer, TraceAnswer, plain_run};
-ghost use Rattle.ol_cli.specs.Evaluation.{Views, Walks};
-ghost use Rattle.ol_cli.specs.Handed.{WhereEnded, FileHands, TermHands, RunHands, TraceHands};
+ghost use Rattle.ol_words.specs.Asked.{asked_by};
+ghost use Rattle.ol_cli.specs.Inside.{AnswersTerm, HandsOfTerm, IsOnTerm, IsReadByNames, IsWithinLimits, run_by, walk_by};
+ghost use Rattle.ol_cli.specs.Trees.{FileIsReadAgain};
+ghost use Rattle.ol_cli.specs.Answers.{FileAnswer, TraceAnswer, plain_run};
+ghost use Rattle.ol_cli.specs.Evaluation.{Views};
+ghost use Rattle.ol_cli.specs.Handed.{WhereEnded, FileHands, TraceHands};
 ghost use Rattle.ol_cli.specs.Prepared.{IsNetOf};
 
 use crate::preparing::{Prepared, prepare};
@@ -31,13 +31,27 @@ use std::thread::Threads;
 
 /// A text that is to be written, and the status that goes with it.
 ///
-/// `closed` are the closed words of the workers' table, where the job has workers and their work came to
-/// an end, or used up its fuel.
+/// `closed` are the closed words of the workers' table, where the job has workers and their work
+/// came to an end, or used up its fuel.
 #[derive(Drop)]
 pub struct Answer {
     pub text: Vec<u8>,
     pub status: Status,
     pub closed: Option<Words>,
+}
+
+impl Answer {
+    /// An answer with which nothing is handed back: its job has no workers, or their work came to
+    /// no end.
+    pub fn without_words(text: Vec<u8>, status: Status) -> Answer
+        ensures { result ≡ record { text = text; status = status; closed = None } }
+    {
+        Answer {
+            text,
+            status,
+            closed: None,
+        }
+    }
 }
 
 /// The numbers of a job `run`.
@@ -66,8 +80,10 @@ pub fn evaluate<R: Threads + Wait + Sync, G: Gate + Sync>(
     requires short { length bytes.now ≤ 1048576 }
     requires on_term { IsOnTerm (asked_by job.now) }
     requires within { IsWithinLimits (asked_by job.now) }
-    ensures answer { IfOk result (λ a. FileAnswer (asked_by job.now) bytes.now a.status a.text.items) }
-    ensures read { IfOk result (λ a. FileIsReadAgain (asked_by job.now) bytes.now a.status a.text.items) }
+    ensures answer { IfOk result (λ a.
+        FileAnswer (asked_by job.now) bytes.now a.status a.text.items) }
+    ensures read { IfOk result (λ a.
+        FileIsReadAgain (asked_by job.now) bytes.now a.status a.text.items) }
     ensures closed { IfOk result (λ a. WhereEnded a.status a.closed
         (FileHands (asked_by job.now) bytes.now a.status a.text.items a.closed)) }
 {
@@ -89,6 +105,7 @@ pub fn run_made<R: Threads + Wait + Sync, G: Gate + Sync>(
 ) -> Result<Answer, NoMemory>
     requires short { length bytes.now ≤ 1048576 }
     ensures answer { IfOk result (λ a. FileAnswer plain_run bytes.now a.status a.text.items) }
+    ensures read { IfOk result (λ a. FileIsReadAgain plain_run bytes.now a.status a.text.items) }
     ensures closed { IfOk result (λ a. WhereEnded a.status a.closed
         (FileHands plain_run bytes.now a.status a.text.items a.closed)) }
 {
@@ -113,10 +130,12 @@ fn evaluate_net<R: Threads + Wait + Sync, G: Gate + Sync>(
     requires net { IsNetOf (tree_of file.now.term) file.now.names net.now }
     requires on_term { IsOnTerm (asked_by job.now) }
     requires within { IsWithinLimits (asked_by job.now) }
-    ensures answer { IfOk result (λ a. TermAnswer (asked_by job.now) (tree_of file.now.term) file.now.names a.status a.text.items) }
-    ensures read { IfOk result (λ a. AnswerIsReadAgain (asked_by job.now) (tree_of file.now.term) file.now.names a.status a.text.items) }
+    ensures answer { IfOk result (λ a.
+        AnswersTerm (asked_by job.now) file.now a.status a.text.items) }
+    ensures read { IfOk result (λ a.
+        IsReadByNames (asked_by job.now) file.now a.status a.text.items) }
     ensures closed { IfOk result (λ a.
-        TermHands (asked_by job.now) (tree_of file.now.term) file.now.names a.status a.text.items a.closed) }
+        HandsOfTerm (asked_by job.now) file.now a.status a.text.items a.closed) }
 {
     match job {
         Job::Run {
@@ -135,21 +154,11 @@ fn evaluate_net<R: Threads + Wait + Sync, G: Gate + Sync>(
         }
         Job::Walk { edges, heads, .. } => {
             let text = walk_net(alloc, net, file, *edges, *heads)?;
-            let status = Status::Done;
-            Ok(Answer {
-                text,
-                status,
-                closed: None,
-            })
+            Ok(Answer::without_words(text, Status::Done))
         }
         Job::View { after, .. } => {
             let text = view_net(alloc, net, *after)?;
-            let status = Status::Done;
-            Ok(Answer {
-                text,
-                status,
-                closed: None,
-            })
+            Ok(Answer::without_words(text, Status::Done))
         }
         Job::Trace { workers, fuel, .. } => {
             let answer = trace_net(rt, alloc, net, *workers, *fuel, gate)?;
@@ -160,8 +169,8 @@ fn evaluate_net<R: Threads + Wait + Sync, G: Gate + Sync>(
     }
 }
 
-// The net is rewritten by the workers, and the last net is read back, each walk within twice as many
-// crossings as that net has nodes.
+// The net is rewritten by the workers, and the last net is read back, each walk within twice as
+// many crossings as that net has nodes.
 fn run_net<R: Threads + Wait + Sync, G: Gate + Sync>(
     rt: &R,
     alloc: Global,
@@ -174,10 +183,12 @@ fn run_net<R: Threads + Wait + Sync, G: Gate + Sync>(
     requires workers { (1 ≤ numbers.workers) × (numbers.workers ≤ 64) }
     requires fuel { numbers.fuel ≤ 2000000 }
     requires heads { 1 ≤ numbers.heads }
-    ensures answer { IfOk result (λ a. RunAnswer (tree_of file.now.term) file.now.names numbers.fuel numbers.heads a.status a.text.items) }
-    ensures read { IfOk result (λ a. (workers : ℕ) (name : List ℕ) → AnswerIsReadAgain (run workers numbers.fuel numbers.heads name) (tree_of file.now.term) file.now.names a.status a.text.items) }
+    ensures answer { IfOk result (λ a.
+        AnswersTerm (run_by numbers) file.now a.status a.text.items) }
+    ensures read { IfOk result (λ a.
+        IsReadByNames (run_by numbers) file.now a.status a.text.items) }
     ensures closed { IfOk result (λ a.
-        RunHands (tree_of file.now.term) file.now.names numbers.workers numbers.fuel numbers.heads a.status a.text.items a.closed) }
+        HandsOfTerm (run_by numbers) file.now a.status a.text.items a.closed) }
 {
     net.is_net();
     let reduced = reduce(rt, alloc, net, numbers.workers, numbers.fuel, gate)?;
@@ -222,10 +233,13 @@ fn walk_net(
     edges: u64,
     heads: u32,
 ) -> Result<Vec<u8>, NoMemory>
-    requires net { SameNet (net_of net.now) (translation_of (tree_of file.now.term) (length file.now.names)) }
+    requires net { SameNet (net_of net.now)
+        (translation_of (tree_of file.now.term) (length file.now.names)) }
     requires heads { 1 ≤ heads }
-    ensures text { IfOk result (λ text. Walks (tree_of file.now.term) file.now.names edges heads text.items) }
-    ensures read { IfOk result (λ text. (name : List ℕ) → AnswerIsReadAgain (walk edges heads name) (tree_of file.now.term) file.now.names Status.Done text.items) }
+    ensures text { IfOk result (λ text.
+        AnswersTerm (walk_by edges heads) file.now Status.Done text.items) }
+    ensures read { IfOk result (λ text.
+        IsReadByNames (walk_by edges heads) file.now Status.Done text.items) }
 {
     net.is_net();
     let tree = read_back(alloc, net, heads, edges)?;
@@ -233,7 +247,8 @@ fn walk_net(
     term_line(alloc, &term)
 }
 
-// The net is rewritten by leads, one after another, and shown. This holds of each term whose net it is.
+// The net is rewritten by leads, one after another, and shown. This holds of each term whose net it
+// is.
 fn view_net(alloc: Global, net: &Net, leads: u32) -> Result<Vec<u8>, NoMemory>
     requires small { IsSmallNet net.now }
     requires leads { leads ≤ 2000000 }
@@ -241,12 +256,13 @@ fn view_net(alloc: Global, net: &Net, leads: u32) -> Result<Vec<u8>, NoMemory>
         → Views t names leads text.items) }
 {
     let last = after(alloc, net, leads)?;
+    last.net.is_tabled();
     let shown = show(alloc, &last.net)?;
     view_lines(alloc, last.steps, &shown)
 }
 
-// The net is rewritten by the workers, and their journal is traced. This holds of each term whose net it
-// is.
+// The net is rewritten by the workers, and their journal is traced. This holds of each term whose
+// net it is.
 fn trace_net<R: Threads + Wait + Sync, G: Gate + Sync>(
     rt: &R,
     alloc: Global,

@@ -4,24 +4,24 @@ ghost use Rattle.ol_cli.specs.Evaluation.{EveryRunIsLonger, EveryRunPrints};
 ghost use Rattle.ol_cli.specs.Journals.{AnyRunPrints, AnyRunRunsOut, OneThreadIsThere};
 ghost use Rattle.ol_cli.specs.Laws.{OneAnswer, OneTreeIsPrinted, OneTreeIsWalked};
 
-/// The same words and bytes have one answer. However the answer to a term is come by, it is that of one
-/// tree, one term and one number of stuck pairs.
+/// The same words and bytes have one status, and one text where the job tells one. However the
+/// answer to a term is come by, it is that of one tree, one term and one number of stuck pairs.
 pub fn one_answer()
     ensures answer { OneAnswer }
     ensures printed { OneTreeIsPrinted }
     ensures walked { OneTreeIsWalked }
 {}
 
-/// Where the answer is printed, each complete run prints it, whatever pairs it takes first. Where the
-/// one-thread run is spent, each complete run is longer than the fuel.
+/// Where the answer is printed, each complete run prints it, whatever pairs it takes first. Where
+/// the one-thread run is spent, each complete run is longer than the fuel.
 pub fn every_run_answers()
     ensures prints { EveryRunPrints }
     ensures longer { EveryRunIsLonger }
 {}
 
-/// There is a one-thread run for each fuel, and any run tells its answer: what is printed of a complete
-/// run within the fuel is printed of the one-thread run, and where a run is longer than the fuel, or is
-/// as long and has an active pair left, the one-thread run is spent.
+/// There is a one-thread run for each fuel, and any run tells its answer: what is printed of a
+/// complete run within the fuel is printed of the one-thread run, and where a run is longer than
+/// the fuel, or is as long and has an active pair left, the one-thread run is spent.
 pub fn any_run_tells()
     ensures there { OneThreadIsThere }
     ensures prints { AnyRunPrints }

@@ -38,7 +38,8 @@ fn place(rule: Rule) -> usize
     }
 }
 
-// How often each rule was applied, where all pairs are rewritten, each time one that the order picks.
+// How often each rule was applied, where all pairs are rewritten, each time one that the order
+// picks.
 fn rewritten(alloc: Global, net: &mut Net, order: usize) -> Result<[u32; 8], Fail> {
     let mut counts = [0u32; 8];
     for turn in 0..1_000usize {

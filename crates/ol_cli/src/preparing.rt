@@ -21,9 +21,9 @@ pub enum Prepared {
     Refused(Answer),
 }
 
-/// Reads the bytes of a term file, none of which are past the limit, and translates its term. A file is
-/// refused where its bytes aren't in the grammar, else where its term is too deep, else where the net has
-/// too many nodes.
+/// Reads the bytes of a term file, none of which are past the limit, and translates its term. A
+/// file is refused where its bytes aren't in the grammar, else where its term is too deep, else
+/// where the net has too many nodes.
 pub fn prepare(alloc: Global, bytes: &[u8]) -> Result<Prepared, NoMemory>
     requires short { length bytes.now ≤ 1048576 }
     ensures prepared { IfOk result (IsPrepared bytes.now) }
@@ -60,9 +60,5 @@ pub fn prepare(alloc: Global, bytes: &[u8]) -> Result<Prepared, NoMemory>
 fn refused(text: Vec<u8>, status: Status) -> Prepared
     ensures { (bytes : List ℕ) → Refuses bytes status text.items → IsPrepared bytes result }
 {
-    Prepared::Refused(Answer {
-        text,
-        status,
-        closed: None,
-    })
+    Prepared::Refused(Answer::without_words(text, status))
 }

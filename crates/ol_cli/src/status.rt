@@ -3,9 +3,9 @@ ghost use Rattle.std.specs.Prelude.{◌≡◌};
 ghost use Rattle.ol_cli.specs.Answers.{number_of};
 
 /// How a call of the program ended. The order in which refusals are tried is `Usage`, `ReadFault`,
-/// `Limit` by bytes, `Syntax`, `Limit` by depth, `Limit` by nodes, `Spent`, `WriteFault`; for `check` those
-/// of the journal file, `ReadFault` and `Limit`, come after all of the term file. `NoMemory` may stand at any
-/// place before the first byte is written.
+/// `Limit` by bytes, `Syntax`, `Limit` by depth, `Limit` by nodes, `Spent`, `WriteFault`; for
+/// `check` those of the journal file, `ReadFault` and `Limit`, come after all of the term file.
+/// `NoMemory` may stand at any place before the first byte is written.
 #[derive(Clone, Copy, Debug, PartialEq, Eq)]
 pub enum Status {
     /// The job was done, and its answer was written.
@@ -22,8 +22,8 @@ pub enum Status {
     WriteFault,
     /// Memory ran out, and nothing was written.
     NoMemory,
-    /// The term file has more than 1,048,576 bytes, its term is deeper than 1,000, the net of its term has
-    /// more than 200,000 nodes, or the journal file has more than 67,108,864 bytes.
+    /// The term file has more than 1,048,576 bytes, its term is deeper than 1,000, the net of its
+    /// term has more than 200,000 nodes, or the journal file has more than 67,108,864 bytes.
     Limit,
 }
 

@@ -32,8 +32,8 @@ fn words_of(alloc: Global, line: &str) -> Result<Vec<String>, AllocError> {
     Ok(words)
 }
 
-// What is written, where the status is this one. There are closed words exactly where `run` came to an
-// end, or used up its fuel.
+// What is written, where the status is this one. There are closed words exactly where `run` came to
+// an end, or used up its fuel.
 fn written(
     rt: &(impl Abort + Threads + Wait + Sync),
     alloc: Global,

@@ -1,12 +1,14 @@
 //! The top call.
-ghost use Rattle.std.specs.Prelude.{List, ℕ, ◌≢◌, ◌≤◌, ◌+◌, ◌≡◌, ◌<◌, ◌⊎◌, true, length, IfOk, None, Some};
+ghost use Rattle.std.specs.Prelude.{List, ℕ, ◌≢◌, ◌≤◌, ◌+◌, ◌≡◌, ◌<◌, ◌⊎◌, true, IfOk, None};
 ghost use Rattle.ol_io.specs.Outside.{Rose, Appended};
 ghost use Rattle.ol_term.specs.Trees.{Tree};
+ghost use Rattle.ol_term.specs.Generated.{doubled_text};
 ghost use Rattle.ol_wire.specs.Sizes.{IsSmallNet};
-ghost use Rattle.ol_words.specs.Jobs.{asked_by, check};
+ghost use Rattle.ol_words.specs.Asked.{asked_by, check, gen};
 ghost use Rattle.ol_cli.specs.Texts.{line};
-ghost use Rattle.ol_cli.specs.Jobs.{AskForNothing, EachName, IsKnownTo, IsOnTerm, IsWithinLimits, TellsFile, TellsFiles, count_of_files, files_of, name_of};
-ghost use Rattle.ol_cli.specs.Answers.{seen, Cause, EndsJournal, Ends, FileCause, IsAnswer, JobCause, Makes};
+ghost use Rattle.ol_cli.specs.Jobs.{AskForNothing, EachName, IsKnownTo, TellsFile, TellsFiles, count_of_files, files_of, name_of};
+ghost use Rattle.ol_cli.specs.Inside.{IsReadWhereTold, IsOnTerm, IsWithinLimits, EndsJournal};
+ghost use Rattle.ol_cli.specs.Answers.{IfNoneFailed, seen_by, Cause, Ends, FileCause, IsAnswer, JobCause, Makes};
 ghost use Rattle.ol_cli.specs.Prepared.{IsNetOf};
 ghost use Rattle.ol_cli.specs.Sources.{EveryRunTells, WritesTree};
 ghost use Rattle.ol_cli.specs.Trees.{FileIsReadAgain, WordsAreReadAgain, WritesReadable};
@@ -35,47 +37,58 @@ const MOST_JOURNAL_BYTES: usize = 67_108_864;
 /// How a call of `ol` ended.
 ///
 /// - `status`: what came of it.
-/// - `closed`: the closed words of the table on which the workers rewrote. They are there exactly where
-///   the job was `run` and `status` is `Done` or `Spent`.
+/// - `closed`: the closed words of the table on which the workers rewrote. They are there exactly
+///   where the job was `run`, `trace` or `gen --run` and `status` is `Done` or `Spent`.
 #[derive(Drop)]
 pub struct Outcome {
     pub status: Status,
     pub closed: Option<Words>,
 }
 
-/// Does what the words ask for, and tells it to the sink. The words are those of a command line, the
-/// program's name first.
+/// Does what the words ask for, and tells it to the sink. The words are those of a command line,
+/// the program's name first.
 ///
-/// - `run [--workers N] [--fuel F] [--heads Q] NAME` reads a term from the file of that name, `-` being
-///   standard input, translates it into a net, and has N workers rewrite the net by at most F
-///   interactions. It writes the term that is read back from the last net, of which the first Q subterms
-///   are asked for, and then how often each rule was applied and how many pairs are stuck.
-/// - `walk [--edges E] [--heads Q] NAME` writes the term that is read back from the untouched net, each
-///   walk trying at most E crossings.
+/// - `run [--workers N] [--fuel F] [--heads Q] NAME` reads a term from the file of that name, `-`
+///   being standard input, translates it into a net, and has N workers rewrite the net by at most F
+///   interactions. It writes the term that is read back from the last net, of which the first Q
+///   subterms are asked for, and then how often each rule was applied and how many pairs are stuck.
+/// - `walk [--edges E] [--heads Q] NAME` writes the term that is read back from the untouched net,
+///   each walk trying at most E crossings.
+/// - `view [--after K] NAME` rewrites the net by at most K interactions of the one-thread run, and
+///   writes how many they were and the net after them.
+/// - `trace [--workers N] [--fuel F] NAME` rewrites the net as `run` does, and writes the journal
+///   of what was rewritten.
+/// - `check TERM JOURNAL` writes what the text of the second file is found to be against the term
+///   of the first: a complete run, a run of so many interactions, no run, or no text of a journal.
+/// - `gen [--run] K` writes a term that is doubled K times, or does with it what `run` does with no
+///   options.
 ///
-/// A part of a term that isn't asked for, or whose walk used up its crossings, is written `...`, and one
-/// that has no head `?`.
+/// A part of a term that isn't asked for, or whose walk used up its crossings, is written `...`,
+/// and one that has no head `?`.
 ///
-/// The workers are threads that share the net, each under its number from 0, and pass `gate` before their
-/// first turn and after each. Where fewer threads can be had, they work in turn. So `ol` may wait, for
-/// these threads and for what the gate does; what is promised here holds if it returns.
+/// The workers are threads that share the net, each under its number from 0, and pass `gate` before
+/// their first turn and after each. Where fewer threads can be had, they work in turn. So `ol` may
+/// wait, for these threads and for what the gate does; what is promised here holds if it returns.
 ///
-/// Where nothing fails, the words and the bytes of the file alone decide on the text and the status: not
-/// the number of workers, nor the order in which they take pairs. The answer is that of the one-thread
-/// run, which always rewrites the active pair whose smaller name is least; each complete run prints the
-/// same, and each is longer than F where that one is. Each head that is written is the one that walks of
-/// any length give in the source's untouched net (Gonthier, Abadi and Lévy, The Geometry of Optimal Lambda
-/// Reduction, 1992). So is each `?` of `run` where it writes `stuck 0`; one of `walk` says only that none
-/// of the walks that were tried gave a head. A term without `...` and `?` is in the grammar, and read again
-/// it has no redex.
+/// Where nothing fails, the words and the bytes of the files alone decide on the text and the
+/// status: not the number of workers, nor the order in which they take pairs. Only the text of
+/// `trace` isn't one: it is the journal of any run. The answer of `run` is that of the one-thread
+/// run, which always rewrites the active pair whose smaller name is least; each complete run prints
+/// the same, and each is longer than F where that one is. Each head that is written is the one that
+/// walks of any length give in the source's untouched net (Gonthier, Abadi and Lévy, The Geometry
+/// of Optimal Lambda Reduction, 1992). So is each `?` of `run` where it writes `stuck 0`; one of
+/// `walk` says only that none of the walks that were tried gave a head. A term without `...` and
+/// `?` is in the grammar, and read again it has no redex.
 ///
-/// Refusals are tried in the order that `Status` tells. Each has a line of its own: the usage, `read
-/// fault`, `syntax at byte B` with the length of the longest prefix that begins a text of the grammar,
-/// `fuel F`, `limit bytes 1048576`, `limit depth 1000`, or `limit nodes 200000`. With `WriteFault` the sink
-/// took a prefix of the text, and with `NoMemory` nothing.
+/// Refusals are tried in the order that `Status` tells. Each has a line of its own: the usage,
+/// `read fault`, `syntax at byte B` with the length of the longest prefix that begins a text of the
+/// grammar, `fuel F`, `limit bytes 1048576`, `limit depth 1000`, `limit nodes 200000`, or
+/// `limit journal 67108864`. With `WriteFault` the sink took a prefix of the text, and with
+/// `NoMemory` nothing.
 ///
-/// With `Done` or `Spent` of `run`, the closed words are handed back: those of a table that was made from
-/// the term's own net, with F as its fuel and N seats. What is written is what their journal tells.
+/// With `Done` or `Spent` of `run`, `trace` or `gen --run`, the closed words are handed back: those
+/// of a table that was made from the term's own net, with F as its fuel and N seats. What is
+/// written is what their journal tells.
 pub fn ol<R: Threads + Wait + Sync, S: Source, W: Sink, G: Gate + Sync>(
     rt: &R,
     alloc: Global,
@@ -87,53 +100,64 @@ pub fn ol<R: Threads + Wait + Sync, S: Source, W: Sink, G: Gate + Sync>(
     // The source knows the names of the job's files.
     requires known { IsKnownTo (S.knows src.old) words.now.items }
 
-    // Each status has its cause, and its text is appended whole, or a prefix of it where the sink failed.
+    // Each status has its cause, and its text is appended whole, or a prefix of it where the sink
+    // failed.
     ensures ends { Ends words.now.items
-        (seen (S.faults src.old) (S.faults src.new) (S.contents src.old) (S.given src.new) (S.ended src.new))
+        (seen_by S.faults S.contents S.given S.ended src.old src.new)
         result.status (W.faults out.old) (W.faults out.new) (W.taken out.old) (W.taken out.new) }
 
-    // Where the source tells the bytes of the job's files and nothing fails, the status and the text are those of the answer.
+    // Where the source tells the bytes of the job's files and nothing fails, the status and the
+    // text are those of the answer.
     ensures exact { TellsFiles (S.contents src.old) words.now.items
-        → ¬ Rose (S.faults src.old) (S.faults src.new) → ¬ Rose (W.faults out.old) (W.faults out.new) → result.status ≢ Status.NoMemory
+        → IfNoneFailed (S.faults src.old) (S.faults src.new) (W.faults out.old) (W.faults out.new)
+        (result.status ≢ Status.NoMemory
         → (text : List ℕ) × IsAnswer words.now.items (S.contents src.old) result.status text
-        × Appended (W.taken out.old) text (W.taken out.new) }
+        × Appended (W.taken out.old) text (W.taken out.new)) }
 
-    // And where such a job is done, two facts hold of the tree whose text is written. Each of its heads is the one that paths of
-    // any length give in the untouched net of the file's own term; so is each `?`, for `run` where the printed `stuck` is 0, while
-    // of a `?` of `walk` nothing is said. And where each of its places has a head, its text is in the grammar, and read back it is
-    // the tree's term, which has no redex.
+    // And where `run`, `walk` or `gen --run` is done, two facts hold of the tree whose text is
+    // written. Each of its heads is the one that paths of any length give in the untouched net of
+    // the job's own term; so is each `?`, where the printed `stuck` is 0, while of a `?` of `walk`
+    // nothing is said. And where each of its places has a head, its text is in the grammar, and
+    // read back it is the tree's term, which has no redex.
     ensures tree { (bytes : List ℕ) → TellsFile (S.contents src.old) words.now.items bytes
-        → ¬ Rose (S.faults src.old) (S.faults src.new) → ¬ Rose (W.faults out.old) (W.faults out.new) → result.status ≡ Status.Done
-        → WritesTree words.now.items bytes (W.taken out.old) (W.taken out.new) }
+        → IfNoneFailed (S.faults src.old) (S.faults src.new) (W.faults out.old) (W.faults out.new)
+        (result.status ≡ Status.Done
+        → WritesTree words.now.items bytes (W.taken out.old) (W.taken out.new)) }
 
-    // And each complete run of the file's own term, whatever pairs it takes first, prints what is written, or is longer than the
-    // fuel where that is spent.
+    // And each complete run of the own term of `run` or `gen --run`, whatever pairs it takes first,
+    // prints what is written, or is longer than the fuel where that is spent.
     ensures every_run { (bytes : List ℕ) → TellsFile (S.contents src.old) words.now.items bytes
-        → ¬ Rose (S.faults src.old) (S.faults src.new) → ¬ Rose (W.faults out.old) (W.faults out.new) → result.status ≢ Status.NoMemory
-        → EveryRunTells words.now.items bytes result.status (W.taken out.old) (W.taken out.new) }
+        → IfNoneFailed (S.faults src.old) (S.faults src.new) (W.faults out.old) (W.faults out.new)
+        (result.status ≢ Status.NoMemory → EveryRunTells words.now.items bytes
+        result.status (W.taken out.old) (W.taken out.new)) }
 
     // A fault that is told has risen, and one that has risen is told.
     ensures read { result.status ≡ Status.ReadFault → Rose (S.faults src.old) (S.faults src.new) }
     ensures write { result.status ≡ Status.WriteFault → Rose (W.faults out.old) (W.faults out.new) }
     ensures write_told { W.faults out.old < W.faults out.new → result.status ≡ Status.WriteFault }
-    ensures read_told { S.faults src.old < S.faults src.new → ¬ Rose (W.faults out.old) (W.faults out.new)
+    ensures read_told { S.faults src.old < S.faults src.new
+        → ¬ Rose (W.faults out.old) (W.faults out.new)
         → (result.status ≡ Status.ReadFault) ⊎ (result.status ≡ Status.NoMemory) }
 
     // The words alone decide on `Usage`.
     ensures usage { result.status ≡ Status.Usage → AskForNothing words.now.items }
-    ensures usage_told { AskForNothing words.now.items → (result.status ≡ Status.Usage) ⊎ ((result.status ≡ Status.WriteFault) ⊎ (result.status ≡ Status.NoMemory)) }
+    ensures usage_told { AskForNothing words.now.items → (result.status ≡ Status.Usage)
+        ⊎ ((result.status ≡ Status.WriteFault) ⊎ (result.status ≡ Status.NoMemory)) }
 
     // `Done` of a job with a file comes after the end of the input was seen.
-    ensures done { 0 < files_of words.now.items → result.status ≡ Status.Done → S.ended src.new ≡ true }
+    ensures done { 0 < files_of words.now.items → result.status ≡ Status.Done
+        → S.ended src.new ≡ true }
 
-    // Where `run`, `trace` or `gen --run` was done or its fuel was spent, the closed words are those of a table that was made from the
-    // net of the job's term, with the job's fuel and as many seats as the job has workers, which for `gen --run` are those of `run`
-    // without options, and the text is what their journal tells. In every other case there are none.
+    // Where `run`, `trace` or `gen --run` was done or its fuel was spent, the closed words are
+    // those of a table that was made from the net of the job's term, with the job's fuel and as
+    // many seats as the job has workers, which for `gen --run` are those of `run` without options,
+    // and the text is what their journal tells. In every other case there are none.
     ensures closed { Hands words.now.items
-        (seen (S.faults src.old) (S.faults src.new) (S.contents src.old) (S.given src.new) (S.ended src.new))
+        (seen_by S.faults S.contents S.given S.ended src.old src.new)
         result.status result.closed (W.taken out.old) (W.taken out.new) }
 
-    // It begins as many names at most as the job has files. It knows of no name but those of its job's files.
+    // It begins as many names at most as the job has files. It knows of no name but those of its
+    // job's files.
     ensures begins { S.begins src.new ≤ S.begins src.old + files_of words.now.items }
 {
     answer(rt, alloc, words, src, out, gate)
@@ -150,23 +174,21 @@ fn answer<R: Threads + Wait + Sync, S: Source, W: Sink, G: Gate + Sync>(
 ) -> Outcome
     requires known { IsKnownTo (S.knows src.old) words.now.items }
     ensures ends { Ends words.now.items
-        (seen (S.faults src.old) (S.faults src.new) (S.contents src.old) (S.given src.new) (S.ended src.new))
+        (seen_by S.faults S.contents S.given S.ended src.old src.new)
         result.status (W.faults out.old) (W.faults out.new) (W.taken out.old) (W.taken out.new) }
-    ensures read_again { (bytes : List ℕ) → TellsFile (S.contents src.old) words.now.items bytes → result.status ≡ Status.Done
+    ensures read_again { (bytes : List ℕ) → TellsFile (S.contents src.old) words.now.items bytes
+        → result.status ≡ Status.Done
         → WritesReadable words.now.items bytes (W.taken out.old) (W.taken out.new) }
     ensures closed { Hands words.now.items
-        (seen (S.faults src.old) (S.faults src.new) (S.contents src.old) (S.given src.new) (S.ended src.new))
+        (seen_by S.faults S.contents S.given S.ended src.old src.new)
         result.status result.closed (W.taken out.old) (W.taken out.new) }
     ensures begins { S.begins src.new ≤ S.begins src.old + files_of words.now.items }
 {
     match plan(rt, alloc, words, src, gate) {
-        Err(NoMemory) => {
-            let status = Status::NoMemory;
-            Outcome {
-                status,
-                closed: None,
-            }
-        }
+        Err(NoMemory) => Outcome {
+            status: Status::NoMemory,
+            closed: None,
+        },
         Ok(
             Answer {
                 text,
@@ -196,11 +218,12 @@ fn plan<R: Threads + Wait + Sync, S: Source, G: Gate + Sync>(
 ) -> Result<Answer, NoMemory>
     requires known { IsKnownTo (S.knows src.old) words.now.items }
     ensures planned { IfOk result (λ a. Cause words.now.items
-        (seen (S.faults src.old) (S.faults src.new) (S.contents src.old) (S.given src.new) (S.ended src.new))
+        (seen_by S.faults S.contents S.given S.ended src.old src.new)
         a.status a.text.items) }
-    ensures read { IfOk result (λ a. WordsAreReadAgain words.now.items (S.contents src.old) a.status a.text.items) }
+    ensures read { IfOk result (λ a.
+        WordsAreReadAgain words.now.items (S.contents src.old) a.status a.text.items) }
     ensures closed { IfOk result (λ a. WhereEnded a.status a.closed (WordsHand words.now.items
-        (seen (S.faults src.old) (S.faults src.new) (S.contents src.old) (S.given src.new) (S.ended src.new))
+        (seen_by S.faults S.contents S.given S.ended src.old src.new)
         a.status a.text.items a.closed)) }
     ensures begins { S.begins src.new ≤ S.begins src.old + files_of words.now.items }
 {
@@ -211,12 +234,7 @@ fn plan<R: Threads + Wait + Sync, S: Source, G: Gate + Sync>(
                 alloc,
                 "usage: ol run|walk|view|trace|check|gen [options] NAME",
             )?;
-            let status = Status::Usage;
-            Ok(Answer {
-                text,
-                status,
-                closed: None,
-            })
+            Ok(Answer::without_words(text, Status::Usage))
         }
         Ok(job) => {
             let answer = answer_job(rt, alloc, &job, src, gate)?;
@@ -236,12 +254,12 @@ fn answer_job<R: Threads + Wait + Sync, S: Source, G: Gate + Sync>(
     requires known { EachName (asked_by job.now) (λ name. S.knows src.old name ≡ true) }
     requires within { IsWithinLimits (asked_by job.now) }
     ensures caused { IfOk result (λ a. JobCause
-        (seen (S.faults src.old) (S.faults src.new) (S.contents src.old) (S.given src.new) (S.ended src.new))
+        (seen_by S.faults S.contents S.given S.ended src.old src.new)
         a.status a.text.items (asked_by job.now)) }
-    ensures read { IfOk result (λ a. (bytes : List ℕ) → S.contents src.old (name_of (asked_by job.now)) ≡ Some bytes
-        → FileIsReadAgain (asked_by job.now) bytes a.status a.text.items) }
+    ensures read { IfOk result (λ a.
+        IsReadWhereTold (asked_by job.now) (S.contents src.old) a.status a.text.items) }
     ensures closed { IfOk result (λ a. WhereEnded a.status a.closed (JobHands (asked_by job.now)
-        (seen (S.faults src.old) (S.faults src.new) (S.contents src.old) (S.given src.new) (S.ended src.new))
+        (seen_by S.faults S.contents S.given S.ended src.old src.new)
         a.status a.text.items a.closed)) }
     ensures begins { S.begins src.new ≤ S.begins src.old + count_of_files (asked_by job.now) }
 {
@@ -271,12 +289,12 @@ fn answer_file<R: Threads + Wait + Sync, S: Source, G: Gate + Sync>(
     requires on_term { IsOnTerm (asked_by job.now) }
     requires within { IsWithinLimits (asked_by job.now) }
     ensures caused { IfOk result (λ a. FileCause (asked_by job.now)
-        (seen (S.faults src.old) (S.faults src.new) (S.contents src.old) (S.given src.new) (S.ended src.new))
+        (seen_by S.faults S.contents S.given S.ended src.old src.new)
         a.status a.text.items) }
-    ensures read { IfOk result (λ a. (bytes : List ℕ) → S.contents src.old (name_of (asked_by job.now)) ≡ Some bytes
-        → FileIsReadAgain (asked_by job.now) bytes a.status a.text.items) }
+    ensures read { IfOk result (λ a.
+        IsReadWhereTold (asked_by job.now) (S.contents src.old) a.status a.text.items) }
     ensures closed { IfOk result (λ a. WhereEnded a.status a.closed (ReadHands (asked_by job.now)
-        (seen (S.faults src.old) (S.faults src.new) (S.contents src.old) (S.given src.new) (S.ended src.new))
+        (seen_by S.faults S.contents S.given S.ended src.old src.new)
         a.status a.text.items a.closed)) }
     ensures begins { S.begins src.new ≤ S.begins src.old + 1 }
 {
@@ -304,11 +322,7 @@ fn refusal(alloc: Global, words: &str, status: Status) -> Result<Answer, NoMemor
     ensures closed { IfOk result (λ a. a.closed ≡ None) }
 {
     let text = line(alloc, words)?;
-    Ok(Answer {
-        text,
-        status,
-        closed: None,
-    })
+    Ok(Answer::without_words(text, status))
 }
 
 // The text of `check` on two files, which have these names, and its status.
@@ -321,7 +335,7 @@ fn answer_check<S: Source>(
     requires term { S.knows src.old term.now ≡ true }
     requires journal { S.knows src.old journal.now ≡ true }
     ensures caused { IfOk result (λ a. JobCause
-        (seen (S.faults src.old) (S.faults src.new) (S.contents src.old) (S.given src.new) (S.ended src.new))
+        (seen_by S.faults S.contents S.given S.ended src.old src.new)
         a.status a.text.items (check term.now journal.now)) }
     ensures closed { IfOk result (λ a. a.closed ≡ None) }
     ensures begins { S.begins src.new ≤ S.begins src.old + 2 }
@@ -346,8 +360,8 @@ fn answer_check<S: Source>(
     }
 }
 
-// The text of `check` on a journal file, against a net, and its status. It holds of each term whose net it
-// is.
+// The text of `check` on a journal file, against a net, and its status. It holds of each term whose
+// net it is.
 fn answer_journal<S: Source>(
     alloc: Global,
     net: &Net,
@@ -356,8 +370,8 @@ fn answer_journal<S: Source>(
 ) -> Result<Answer, NoMemory>
     requires known { S.knows src.old name.now ≡ true }
     requires small { IsSmallNet net.now }
-    ensures caused { IfOk result (λ a. (t : Tree) (names : List (List ℕ)) → IsNetOf t names net.now → EndsJournal
-        (seen (S.faults src.old) (S.faults src.new) (S.contents src.old) (S.given src.new) (S.ended src.new))
+    ensures caused { IfOk result (λ a. (t : Tree) (names : List (List ℕ)) → IsNetOf t names net.now
+        → EndsJournal (seen_by S.faults S.contents S.given S.ended src.old src.new)
         name.now t names a.status a.text.items) }
     ensures closed { IfOk result (λ a. a.closed ≡ None) }
     ensures begins { S.begins src.new ≤ S.begins src.old + 1 }
@@ -375,12 +389,7 @@ fn answer_journal<S: Source>(
         Ok(bytes) => {
             let found = check(alloc, net, &bytes)?;
             let text = found_line(alloc, found)?;
-            let status = Status::Done;
-            Ok(Answer {
-                text,
-                status,
-                closed: None,
-            })
+            Ok(Answer::without_words(text, Status::Done))
         }
     }
 }
@@ -395,7 +404,10 @@ fn answer_made<R: Threads + Wait + Sync, G: Gate + Sync>(
 ) -> Result<Answer, NoMemory>
     requires few { k ≤ 10 }
     ensures made { IfOk result (λ a. Makes run k a.status a.text.items) }
-    ensures closed { IfOk result (λ a. WhereEnded a.status a.closed (MakingHands run k a.status a.text.items a.closed)) }
+    ensures read { IfOk result (λ a.
+        FileIsReadAgain (gen run k) (doubled_text k) a.status a.text.items) }
+    ensures closed { IfOk result (λ a. WhereEnded a.status a.closed
+        (MakingHands run k a.status a.text.items a.closed)) }
 {
     match make(alloc, k) {
         Ok(text) => {
@@ -403,12 +415,7 @@ fn answer_made<R: Threads + Wait + Sync, G: Gate + Sync>(
                 let answer = run_made(rt, alloc, &text, gate)?;
                 return Ok(answer);
             }
-            let status = Status::Done;
-            Ok(Answer {
-                text,
-                status,
-                closed: None,
-            })
+            Ok(Answer::without_words(text, Status::Done))
         }
         Err(Made::TooLarge) => unreachable!(),
         Err(Made::NoMemory) => Err(NoMemory),

@@ -47,8 +47,9 @@ fn sign_at(values: &Values, context: &Context, k: usize) -> Sign
     }
 }
 
-/// How many crossings a walk from the root makes that asks for so many abstractions, the port by which
-/// it leaves, and the signs of the first two levels there; none where its last crossing is undefined.
+/// How many crossings a walk from the root makes that asks for so many abstractions, the port by
+/// which it leaves, and the signs of the first two levels there; none where its last crossing is
+/// undefined.
 fn walked(
     alloc: Global,
     input: &str,

@@ -15,8 +15,8 @@ use std::sync::atomic::{AtomicU64, Ordering};
 use std::test::Fail;
 use std::thread::Threads;
 
-// The generator's text: `((\x. x x) (\y. y))` for 0, and for each greater number the one before applied
-// to itself.
+// The generator's text: `((\x. x x) (\y. y))` for 0, and for each greater number the one before
+// applied to itself.
 fn generated(alloc: Global, rounds: u32) -> Result<Vec<u8>, AllocError> {
     let mut text = Vec::from_slice(alloc, b"((\\x. x x) (\\y. y))")?;
     for _round in 0..rounds {
@@ -140,8 +140,8 @@ impl Gate for Meeting {
     }
 }
 
-// Were the workers to work one after the other, the second would not come while the first looks for it;
-// and were one to make all turns, the other would not pass after a turn.
+// Were the workers to work one after the other, the second would not come while the first looks for
+// it; and were one to make all turns, the other would not pass after a turn.
 #[test]
 fn two_workers_meet(rt: HostRuntime) -> Result<(), Fail> {
     let alloc = rt.alloc();
@@ -159,7 +159,8 @@ fn two_workers_meet(rt: HostRuntime) -> Result<(), Fail> {
 
 // The net is small enough to be laid out.
 fn is_small(net: &Net) -> bool
-    ensures { IsTrue result → (count_by is_some net.now.nodes ≡ length net.now.nodes) × IsSmallNet net.now }
+    ensures { IsTrue result → (count_by is_some net.now.nodes ≡ length net.now.nodes)
+        × IsSmallNet net.now }
 {
     net.nodes() == net.born()
         && net.born() <= 1_000_000

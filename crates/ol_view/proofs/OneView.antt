@@ -25,7 +25,7 @@ use Rattle.ol_rules.proofs.StartNets.{start_net, start_named}
 use Rattle.ol_rules.proofs.UnderNames.{same_under}
 use Rattle.ol_rules.proofs.UnderWay.{node_below}
 use Rattle.ol_view.specs.Laws.{LeadsAreOne}
-use Rattle.ol_view.proofs.OneStep.{one_pair, one_entry_step, step_net, step_before}
+use Rattle.ol_view.proofs.OneStep.{one_entry_pair, one_entry_step, step_net, step_before}
 
 -- ---- the nodes that two runs of one journal make have the same names
 
@@ -50,8 +50,7 @@ made_one M N P Q t (e ∷ es) (e' ∷ es') n b m i (then {M = K} d st run) (then
     let rest : es ≡ es' = cc in
     let first = ap (λ (e : Entry). e.first) one in
     let second = ap (λ (e : Entry). e.second) one in
-    let named = subst (λ x. ((x ≡ st'.f) × (e.second ≡ st'.g)) ⊎ ((x ≡ st'.g) × (e.second ≡ st'.f))) (sym first) (subst (λ y. ((e'.first ≡ st'.f) × (y ≡ st'.g)) ⊎ ((e'.first ≡ st'.g) × (y ≡ st'.f))) (sym second) st'.named.pair) in
-    let pair = one_pair e.first e.second st.f st.g st'.f st'.g st.named.pair named in
+    let pair = one_entry_pair M N K L t e e' n b m st first second st' in
     let count = births_one M N n m st.f st.g st'.f st'.g e.rule e'.rule pair st.step.active st'.step.active ∙ ap (λ (e : Entry). births e.rule st'.step.active.k st'.step.active.l) one in
     let k : SameNet K L = one_entry_step M N K L t e e' n b m st first second st' in
     let later = made_one K L P Q (suc t) es es' (step_net M N K L t e e' n b m st) (step_before M N K L t e e' n b m st) k rest run run' in

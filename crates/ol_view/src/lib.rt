@@ -1,5 +1,5 @@
-//! What users see of nets and runs: the text of a net, a net after some leads, the text of a journal,
-//! and what such a text is found to be when it is replayed.
+//! What users see of nets and runs: the text of a net, a net after some leads, the text of a
+//! journal, and what such a text is found to be when it is replayed.
 #![tactic(auto)]
 
 mod answers;

@@ -14,9 +14,9 @@ use ol_net::{Facing, Net, NodeId, Port};
 use ol_rules::{NodeName, step};
 use std::alloc::Global;
 
-/// A net while a journal is replayed. `bases` has, for each ticket so far, how many node numbers were
-/// given out before it, and at its end how many are given out by now. So the node that ticket t made
-/// at place p has the number `bases[t] + p`, and that is below `bases[t + 1]`.
+/// A net while a journal is replayed. `bases` has, for each ticket so far, how many node numbers
+/// were given out before it, and at its end how many are given out by now. So the node that ticket
+/// t made at place p has the number `bases[t] + p`, and that is below `bases[t + 1]`.
 #[derive(Drop)]
 pub struct Replay {
     net: Net,

@@ -111,10 +111,10 @@ fn put_nodes(text: &mut String, net: &Net) -> Result<(), NoMemory>
 }
 
 /// The text of a net: the line `nodes L` with the number of live nodes, a line `fk P` for each free
-/// port k with its partner, and a line `N kind index P0 P1 P2` for each live node in ascending order,
-/// with as many partners as it has slots. A port is written `fk` where it is free port k, and `N.S`
-/// where it is slot S of node N. The index of an eraser is written `-`. Each line ends with a line
-/// feed. `NoMemory`: no memory was found.
+/// port k with its partner, and a line `N kind index P0 P1 P2` for each live node in ascending
+/// order, with as many partners as it has slots. A port is written `fk` where it is free port k,
+/// and `N.S` where it is slot S of node N. The index of an eraser is written `-`. Each line ends
+/// with a line feed. `NoMemory`: no memory was found.
 pub fn show(alloc: Global, net: &Net) -> Result<Vec<u8>, NoMemory>
     ensures { IfOk result (λ text. text.items ≡ show_text net.now) }
 {

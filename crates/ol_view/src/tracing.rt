@@ -36,7 +36,8 @@ fn put_line(text: &mut String, entry: Entry) -> Result<(), NoMemory>
 
 /// The text of a journal: the line `ol trace 1`, and then a line for each entry, in the order of
 /// tickets, of its two names with one space between. A start node is written by its number, and one
-/// that was born as `ticket.place`. Each line ends with a line feed. `NoMemory`: no memory was found.
+/// that was born as `ticket.place`. Each line ends with a line feed. `NoMemory`: no memory was
+/// found.
 pub fn trace_text(alloc: Global, journal: &Journal) -> Result<Vec<u8>, NoMemory>
     ensures { IfOk result (λ text. text.items ≡ trace_text journal.now) }
 {

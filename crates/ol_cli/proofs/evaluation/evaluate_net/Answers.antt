@@ -2,10 +2,10 @@ use Rattle.ol_term.specs.Trees.{tree_of}
 use Rattle.ol_cli.proofs.evaluation.evaluate_net.Goals as goal
 
 pub returns-in_ok-answer-in-Run-clause-read : goal.returns-in_ok-answer-in-Run-clause-read
-returns-in_ok-answer-in-Run-clause-read g c = rw c.in-Run.is (c.in_ok-answer-in-Run.ensures.read c.in-Run.workers c.in-Run.name)
+returns-in_ok-answer-in-Run-clause-read g c = rw c.in-Run.is c.in_ok-answer-in-Run.ensures.read
 
 pub returns-in_ok-text-in-Walk-clause-read : goal.returns-in_ok-text-in-Walk-clause-read
-returns-in_ok-text-in-Walk-clause-read g c = rw c.in-Walk.is (c.in_ok-text-in-Walk.ensures.read c.in-Walk.name)
+returns-in_ok-text-in-Walk-clause-read g c = rw (c.without_words.ensures, c.in-Walk.is) c.in_ok-text-in-Walk.ensures.read
 
 pub returns-in_ok-answer-in-Run-clause-closed : goal.returns-in_ok-answer-in-Run-clause-closed
 returns-in_ok-answer-in-Run-clause-closed g c = rw c.in-Run.is c.in_ok-answer-in-Run.ensures.closed

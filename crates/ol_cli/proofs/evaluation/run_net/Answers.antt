@@ -64,7 +64,7 @@ returns-clause-read g c =
     } in
     let x = done_answer (tree_of c.args.file.now.term) c.args.file.now.names c.args.net.now c.requires.net.same c.args.numbers.fuel c.args.numbers.workers c.args.numbers.heads c.in-Done.journal c.in-Done.words c.in-Done.last d c.stuck.result c.in_ok-tree-in-Done.tree c.in_ok-term-in-Done.term.items c.in_ok-text-in-Done.text.items told
     (IsReadWhereNamed c.args.file.now.names) c.is_net.ensures.net c.in_ok-term-in-Done.ensures.read in
-    run_read (tree_of c.args.file.now.term) c.args.file.now.names c.in_ok-text-in-Done.text.items c.args.numbers.fuel c.args.numbers.heads x.0 x.1
+    run_read (tree_of c.args.file.now.term) c.args.file.now.names c.in_ok-text-in-Done.text.items c.args.numbers.fuel c.args.numbers.heads x.0 x.1 c.args.numbers.workers
 
 pub returns-clause-closed : goal.returns-clause-closed
 returns-clause-closed g c =

@@ -1,9 +1,13 @@
-use Rattle.ol_cli.proofs.Traced.{spent_traces, spent_trace_hands, done_traces, done_trace_hands}
+use Rattle.ol_cli.proofs.Traced.{spent_traces, spent_trace_hands, done_traces, done_ends, done_trace_hands}
+use Rattle.ol_cli.proofs.Worked.{spent_answer}
 use Rattle.ol_cli.proofs.evaluation.trace_net.Goals as goal
 
 pub returns-in-Spent-clause-answer : goal.returns-in-Spent-clause-answer
 returns-in-Spent-clause-answer g c = λ t names n.
-    spent_traces t names c.args.net.now n.same c.args.fuel c.args.workers c.in-Spent.journal c.in-Spent.words c.in_ok-text-in-Spent.text.items c.in_ok-text-in-Spent.ensures (rw c.in-Spent.is at c.in_ok-reduced.ensures.reduced)
+    let d = rw c.in-Spent.is at c.in_ok-reduced.ensures.reduced in (
+      spent_answer t names c.args.net.now n.same c.args.fuel c.args.workers 0 c.in-Spent.journal c.in-Spent.words d c.is_net.ensures.net,
+      spent_traces t names c.args.net.now n.same c.args.fuel c.args.workers c.in-Spent.journal c.in-Spent.words c.in_ok-text-in-Spent.text.items c.in_ok-text-in-Spent.ensures d,
+    )
 
 pub returns-in-Spent-clause-closed : goal.returns-in-Spent-clause-closed
 returns-in-Spent-clause-closed g c = λ t names n.
@@ -11,7 +15,10 @@ returns-in-Spent-clause-closed g c = λ t names n.
 
 pub returns-clause-answer : goal.returns-clause-answer
 returns-clause-answer g c = λ t names n.
-    done_traces t names c.args.net.now n.same c.args.fuel c.args.workers c.in-Done.journal c.in-Done.words c.in_ok-text-in-Done.text.items c.in_ok-text-in-Done.ensures c.in-Done.net (rw c.in-Done.is at c.in_ok-reduced.ensures.reduced)
+    let d = rw c.in-Done.is at c.in_ok-reduced.ensures.reduced in (
+      done_ends t names c.args.net.now n.same c.args.fuel c.args.workers c.in-Done.journal c.in-Done.words c.in_ok-text-in-Done.text.items c.in_ok-text-in-Done.ensures c.in-Done.net d c.is_net.ensures.net,
+      done_traces t names c.args.net.now n.same c.args.fuel c.args.workers c.in-Done.journal c.in-Done.words c.in_ok-text-in-Done.text.items c.in_ok-text-in-Done.ensures c.in-Done.net d,
+    )
 
 pub returns-clause-closed : goal.returns-clause-closed
 returns-clause-closed g c = λ t names n.

@@ -1,6 +1,6 @@
 use Rattle.std.proofs.Common.{refl}
 use Rattle.ol_term.specs.Trees.{tree_of}
-use Rattle.ol_words.specs.Jobs.{check}
+use Rattle.ol_words.specs.Asked.{check}
 use Rattle.ol_cli.specs.Answers.{Seen, GaveAll, by_file}
 use Rattle.ol_cli.proofs.Exact.{after_term, checked_cause, fault_cause, past_cause, read_cause, within_ok}
 use Rattle.ol_cli.proofs.Readied.{refuses_answer}

@@ -1,8 +1,9 @@
-use Rattle.ol_words.specs.Jobs.{asked_by}
+use Rattle.std.proofs.Common.{◌∙◌}
+use Rattle.ol_words.specs.Asked.{asked_by}
 use Rattle.ol_cli.specs.Jobs.{name_of}
 use Rattle.ol_cli.specs.Answers.{Seen, GaveAll}
 use Rattle.ol_cli.proofs.Exact.{read_cause, within_ok}
-use Rattle.ol_cli.proofs.ReadAgain.{told_read}
+use Rattle.ol_cli.proofs.ReadAgain.{file_bytes, told_read}
 use Rattle.ol_cli.proofs.Handing.{read_hands}
 use Rattle.ol_cli.proofs.top.answer_file.Goals as goal
 
@@ -17,7 +18,7 @@ returns-in_ok-answer-in-Ok-clause-caused g c =
 pub returns-in_ok-answer-in-Ok-clause-read : goal.returns-in_ok-answer-in-Ok-clause-read
 returns-in_ok-answer-in-Ok-clause-read g c = λ told e.
     told_read (asked_by c.args.job.now) (g.S.Source.contents c.args.src.now (name_of (asked_by c.args.job.now))) c.in-Ok.bytes.items told c.in_ok-answer-in-Ok.answer.status c.in_ok-answer-in-Ok.answer.text.items
-    (rw c.requires.name at c.in-Ok.ensures.whole) (rw c.deref.ensures.value at c.in_ok-answer-in-Ok.ensures.read) e
+    (rw c.requires.name at c.in-Ok.ensures.whole) (rw c.deref.ensures.value at c.in_ok-answer-in-Ok.ensures.read) (file_bytes (g.S.Source.contents c.args.src.now) (asked_by c.args.job.now) c.requires.on_term ∙ e)
 
 pub returns-in_ok-answer-in-Ok-clause-closed : goal.returns-in_ok-answer-in-Ok-clause-closed
 returns-in_ok-answer-in-Ok-clause-closed g c =

@@ -13,4 +13,4 @@ returns-in_ok-text-in-Ok-clause-caused g c = λ t names n.
     record { whole = c.in-Ok.ensures.whole; counted = c.in-Ok.ensures.counted; within = within; to_end = c.in-Ok.ensures.ended } in
     let few : length bytes ≤ 67108864 = let e = c.in-Ok.ensures.counted in omega (arith, e, within) in
     let only = own_found t names c.args.net.now n.same bytes c.in_ok-found-in-Ok.found (rw c.deref.ensures.value at c.in_ok-found-in-Ok.ensures.exact) in
-    (c.in-Ok.ensures.cause, (bytes, gave, (few, (c.in_ok-found-in-Ok.found, only, c.in_ok-text-in-Ok.ensures))))
+    rw c.without_words.ensures (c.in-Ok.ensures.cause, (bytes, gave, (few, (c.in_ok-found-in-Ok.found, only, c.in_ok-text-in-Ok.ensures))))

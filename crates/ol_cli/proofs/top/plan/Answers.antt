@@ -1,5 +1,6 @@
 use Rattle.ol_cli.proofs.Exact.{job_cause}
-use Rattle.ol_words.specs.Jobs.{asked_by, texts_of}
+use Rattle.ol_words.specs.Texts.{texts_of}
+use Rattle.ol_words.specs.Asked.{asked_by}
 use Rattle.ol_cli.proofs.Within.{job_within}
 use Rattle.ol_cli.proofs.ReadAgain.{words_read}
 use Rattle.ol_cli.proofs.Handing.{words_hand}

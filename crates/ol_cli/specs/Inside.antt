@@ -1,0 +1,60 @@
+-- Words of private contracts alone, which no clause of a public call needs: what is asked of a job within the call, and what is kept of
+-- it there.
+use Rattle.std.specs.Prelude.{◌≡◌, ℕ, ◌≤◌, List, [], Option, Some}
+use Rattle.ol_io.specs.Outside.{Rose}
+use Rattle.ol_term.specs.Trees.{Tree, tree_of}
+use Rattle.ol_term.specs.declared.term_file.TermFile.{TermFile}
+use Rattle.ol_wire.specs.Closed.{ClosedTable}
+use Rattle.ol_words.specs.Texts.{Text}
+use Rattle.ol_words.specs.Asked.{Asked, run, walk, view, trace, check, gen}
+use Rattle.ol_cli.specs.declared.evaluation.RunNumbers.{RunNumbers}
+use Rattle.ol_cli.specs.declared.status.Status.{Status}
+use Rattle.ol_cli.specs.declared.status.Status.TheVariants as status
+use Rattle.ol_cli.specs.Jobs.{term_bytes}
+use Rattle.ol_cli.specs.Answers.{Seen, TermAnswer, JournalCause}
+use Rattle.ol_cli.specs.Handed.{TermHands}
+use Rattle.ol_cli.specs.Texts.{fault_text}
+use Rattle.ol_cli.specs.Trees.{AnswerIsReadAgain, FileIsReadAgain}
+
+-- the job is done on one term, that of its one file
+abbrev pub IsOnTerm : Asked → Type 0
+IsOnTerm (check term journal) = ⊥
+IsOnTerm (gen runs k) = ⊥
+IsOnTerm _ = Unit {0}
+
+-- the numbers of a job are within the limits of their options
+abbrev pub IsWithinLimits : Asked → Type 0
+IsWithinLimits (run workers fuel heads name) = (1 ≤ workers) × (workers ≤ 64) × (fuel ≤ 2000000) × (1 ≤ heads)
+IsWithinLimits (walk edges heads name) = 1 ≤ heads
+IsWithinLimits (view after name) = after ≤ 2000000
+IsWithinLimits (trace workers fuel name) = (1 ≤ workers) × (workers ≤ 64) × (fuel ≤ 2000000)
+IsWithinLimits (check term journal) = Unit {0}
+IsWithinLimits (gen runs k) = k ≤ 10
+
+-- the job `run` of these numbers, and the job `walk`, where the name doesn't matter
+abbrev pub run_by : RunNumbers → Asked
+run_by n = run n.workers n.fuel n.heads []
+
+abbrev pub walk_by : (edges heads : ℕ) → Asked
+walk_by edges heads = walk edges heads []
+
+-- what a job answers to the term of a file,
+abbrev pub AnswersTerm : Asked → TermFile → Status → List ℕ → Type 0
+AnswersTerm asked file st text = TermAnswer asked (tree_of file.term) file.names st text
+
+-- that it is read again,
+abbrev pub IsReadByNames : Asked → TermFile → Status → List ℕ → Type 0
+IsReadByNames asked file st text = AnswerIsReadAgain asked (tree_of file.term) file.names st text
+
+-- and what is handed back with it
+abbrev pub HandsOfTerm : Asked → TermFile → Status → List ℕ → Option ClosedTable → Type 0
+HandsOfTerm asked file st text closed = TermHands asked (tree_of file.term) file.names st text closed
+
+-- where the bytes of the job's term are told, the text is read again by the names of that term
+abbrev pub IsReadWhereTold : Asked → (Text → Option (List ℕ)) → Status → List ℕ → Type 0
+IsReadWhereTold asked contents st text = (bytes : List ℕ) → term_bytes contents asked ≡ Some bytes → FileIsReadAgain asked bytes st text
+
+-- What comes of a journal file, against a term, where the read of it may fail.
+abbrev pub EndsJournal : Seen → Text → Tree → List (List ℕ) → Status → List ℕ → Type 0
+EndsJournal s journal t names status.ReadFault text = Rose s.faults s.faults' × (text ≡ fault_text)
+EndsJournal s journal t names st text = (s.faults' ≡ s.faults) × JournalCause s journal t names st text
