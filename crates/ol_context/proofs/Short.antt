@@ -7,11 +7,7 @@ use Rattle.ol_net.specs.Nets.{NamedNet, NamedPort, free, slot, HasNode, Linked, 
 use Rattle.ol_context.specs.Contexts.{Context}
 use Rattle.ol_context.specs.Paths.{inward, outward, Path, ends, goes, crossings}
 use Rattle.ol_context.specs.Short.{HasNoFacing, live, IsOnce, WalkIsShort}
-
-pub in_map : {X Y : Type 0} (m : X → Y) (x : X) (xs : List X) → IsIn x xs → IsIn (m x) (map m xs)
-in_map m x [] h = absurd h
-in_map m x (z ∷ xs) (inl e) = inl (ap m e)
-in_map m x (z ∷ xs) (inr h) = inr (in_map m x xs h)
+use Rattle.ol_edges.proofs.Lists.{in_map}
 
 -- one element taken out
 take_out : {A : Type 0} (x : A) (ys : List A) → IsIn x ys → List A

@@ -10,8 +10,9 @@ use Rattle.ol_context.specs.Ways.{Way, start, on, Stands}
 use Rattle.ol_context.specs.Short.{HasNoFacing, live, IsOnce, entries, principal, auxiliary, TurnsOnce, LeavesExactly}
 use Rattle.ol_context.specs.Answers.{IsExit, ExitsExactly}
 use Rattle.ol_context.specs.declared.answers.Walk.{Walk}
-use Rattle.ol_context.proofs.Short.{in_map, few, IsLive, Down, first, next, down_one, short}
+use Rattle.ol_context.proofs.Short.{few, IsLive, Down, first, next, down_one, short}
 use Rattle.ol_context.proofs.Ways.{way_exits, way_passes}
+use Rattle.ol_edges.proofs.Lists.{in_map}
 
 in_last : {X : Type 0} (z x : X) (xs : List X) → IsIn z (xs ++ x ∷ []) → IsIn z xs ⊎ (z ≡ x)
 in_last z x [] (inl e) = inr e

@@ -1,5 +1,5 @@
 -- The indexes of a net's nodes, at its beginning and after a replacement
-use Rattle.std.proofs.Common.{◌≡◌, ℕ, ◌+◌, ◌≤◌, max, true, List, [], ◌∷◌, ◌++◌, length, set, Option, Some, None, refl, sym, ◌∙◌, inl, inr, ◌⊎◌, arith, zero, suc}
+use Rattle.std.proofs.Common.{◌≡◌, ℕ, ◌+◌, ◌≤◌, max, true, List, [], ◌∷◌, ◌++◌, length, set, Option, Some, None, refl, sym, ◌∙◌, inl, inr, ◌⊎◌, arith, zero, suc, ap}
 use Rattle.std.specs.Prelude.{slice_get}
 use Rattle.std.proofs.lemmas.Bool.{cases_Bool, false≢true}
 use Rattle.std.proofs.lemmas.Bool.Decides.{nat_tests}
@@ -12,6 +12,14 @@ use Rattle.ol_net.specs.Tabling.{AreTables}
 use Rattle.ol_net.specs.Rewired.{renewed}
 use Rattle.ol_net.specs.Replace.{top_index_of, MayBeBorn}
 use Rattle.ol_net.specs.Indexes.{HasIndexes}
+
+-- no live node has a greater index than the greatest
+pub top_is_top : (nodes : List (Option (Kind × ℕ))) (x : ℕ) (k : Kind × ℕ) → kind_at nodes x ≡ Some k → k.1 ≤ top_index_of nodes
+top_is_top [] x k h = absurd (let bad : None ≡ Some k = h in cc)
+top_is_top (None ∷ nodes) zero k h = absurd (let bad : None ≡ Some k = h in cc)
+top_is_top (Some m ∷ nodes) zero k h = let e : m ≡ k = (let all : Some m ≡ Some k = h in cc) in let u = ap (λ (k : Kind × ℕ). k.1) e in omega arith
+top_is_top (None ∷ nodes) (suc x) k h = top_is_top nodes x k h
+top_is_top (Some m ∷ nodes) (suc x) k h = omega (arith, top_is_top nodes x k h)
 
 pub top_index_of-append : (xs ys : List (Option (Kind × ℕ))) → top_index_of (xs ++ ys) ≡ max (top_index_of xs) (top_index_of ys)
 top_index_of-append [] ys = omega arith

@@ -3,11 +3,12 @@ use Rattle.std.proofs.Common.{◌≡◌, ℕ, ◌+◌, List, [], ◌∷◌, ◌+
 use Rattle.std.specs.List.{position_from}
 use Rattle.std.specs.Borrow.{Bor}
 use Rattle.std.specs.Str.{bytes_eq}
+use Rattle.std.proofs.lemmas.Slice.Eq.{bytes_eq-Decides}
 use Rattle.ol_term.specs.Trees.{Tree}
+use Rattle.ol_term.specs.NameLists.{without}
 use Rattle.ol_parse.specs.Grammar.{Named, var, lam, app}
-use Rattle.ol_parse.specs.Numbered.{place_of, unbound, free_in, without, once, names_of, number, numbered}
+use Rattle.ol_parse.specs.Numbered.{place_of, unbound, free_in, once, names_of, number, numbered}
 use Rattle.ol_parse.specs.Resolving.{add_unless, free_unless, names_from, texts, IsNumbered}
-use Rattle.ol_parse.proofs.Places.{same_text, text_is}
 
 abbrev has : List ℕ → List (List ℕ) → Bool
 has x [] = false
@@ -77,7 +78,7 @@ rest_known x names [] h = refl
 rest_known x names (y ∷ ys) h = go (bytes_eq x y) refl (rest_known x names ys h)
   where
     go : (b : Bool) → bytes_eq x y ≡ b → rest names (without x ys) ≡ rest names ys → rest names (cond b (without x ys) (y ∷ without x ys)) ≡ cond (has y names) (rest names ys) (y ∷ rest names ys)
-    go true e each = each ∙ sym (ap (λ b. kept b y (rest names ys)) (ap (λ w. has w names) (sym (text_is x y e)) ∙ h))
+    go true e each = each ∙ sym (ap (λ b. kept b y (rest names ys)) (ap (λ w. has w names) (sym ((bytes_eq-Decides x y).0 e)) ∙ h))
     go false e each = ap (kept (has y names) y) each
 
 rest_new : (x : List ℕ) (names ys : List (List ℕ)) → rest names (without x ys) ≡ rest (names ++ (x ∷ [])) ys
@@ -89,12 +90,12 @@ rest_new x names (y ∷ ys) = go (bytes_eq x y) refl (rest_new x names ys) ∙ a
     or_true false = refl
 
     back : (b : Bool) → bytes_eq y x ≡ b → bytes_eq x y ≡ false → bytes_eq y x ≡ false
-    back true e h = let same = text_is y x e in let one : bytes_eq x y ≡ true = ap (bytes_eq x) same ∙ same_text x in absurd (cc)
+    back true e h = let same = (bytes_eq-Decides y x).0 e in let one : bytes_eq x y ≡ true = ap (bytes_eq x) same ∙ (bytes_eq-Decides x x).1 refl in absurd (cc)
     back false e h = e
 
     go : (b : Bool) → bytes_eq x y ≡ b → rest names (without x ys) ≡ rest (names ++ (x ∷ [])) ys → rest names (cond b (without x ys) (y ∷ without x ys)) ≡ kept (has y names || bytes_eq y x) y (rest (names ++ (x ∷ [])) ys)
     go true e each =
-        let other : bytes_eq y x ≡ true = ap (bytes_eq y) (text_is x y e) ∙ same_text y in
+        let other : bytes_eq y x ≡ true = ap (bytes_eq y) ((bytes_eq-Decides x y).0 e) ∙ (bytes_eq-Decides y y).1 refl in
         each ∙ ap (λ b. kept b y (rest (names ++ (x ∷ [])) ys)) (or_true (has y names) ∙ ap (λ b. has y names || b) (sym other))
     go false e each =
         ap (kept (has y names) y) each ∙ ap (λ b. kept b y (rest (names ++ (x ∷ [])) ys)) (sym (or_false (has y names)) ∙ ap (λ b. has y names || b) (sym (back (bytes_eq y x) refl e)))

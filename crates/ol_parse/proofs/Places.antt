@@ -29,9 +29,6 @@ one_turn name xs i d b r h e t =
 pub turn_back : (name : List ℕ) (xs : List (Bor (List ℕ))) (i : ℕ) (d : Bor (List ℕ)) (b : Bool) (r : Option ℕ) → i < length (reverse xs) → i < length xs → position_from (λ y. bytes_eq name y) i (texts (drop i (reverse xs))) ≡ r → b ≡ bytes_eq name (get_or xs (length xs - 1 - i) d).now → cond b (Some i) (position_from (λ y. bytes_eq name y) (i + 1) (texts (drop (i + 1) (reverse xs)))) ≡ r
 turn_back name xs i d b r h k e t = one_turn name (reverse xs) i d b r h e (t ∙ ap (λ (y : Bor (List ℕ)). bytes_eq name y.now) (sym (get_or-reverse xs i d k)))
 
-pub same_text : (w : List ℕ) → bytes_eq w w ≡ true
-same_text w = (bytes_eq-Decides w w).1 refl
-
 kept_at : (i k : ℕ) (p q : Option ℕ) (b : Bool) → (p ≡ Some k → q ≡ Some k) → cond b (Some i) p ≡ Some k → cond b (Some i) q ≡ Some k
 kept_at i k p q true each h = h
 kept_at i k p q false each h = each h
@@ -45,7 +42,7 @@ new_at i k p q true each h = absurd (cc)
 new_at i k p q false each h = each h
 
 pub new_from : (x : List ℕ) (more : List (List ℕ)) (k : ℕ) (xs : List (List ℕ)) (i : ℕ) → k ≡ i + length xs → position_from (λ y. bytes_eq x y) i xs ≡ None → position_from (λ y. bytes_eq x y) i (xs ++ (x ∷ more)) ≡ Some k
-new_from x more k [] i e h = let n : i ≡ k = omega arith in ap (λ b. cond b (Some i) (position_from (is x) (i + 1) more)) (same_text x) ∙ ap (λ (n : ℕ). Some n) n
+new_from x more k [] i e h = let n : i ≡ k = omega arith in ap (λ b. cond b (Some i) (position_from (is x) (i + 1) more)) ((bytes_eq-Decides x x).1 refl) ∙ ap (λ (n : ℕ). Some n) n
 new_from x more k (y ∷ xs) i e h =
     let n : k ≡ (i + 1) + length xs = omega arith in
     new_at i k (position_from (is x) (i + 1) xs) (position_from (is x) (i + 1) (xs ++ (x ∷ more))) (bytes_eq x y) (new_from x more k xs (i + 1) n) h
@@ -66,11 +63,6 @@ grows (app f t) binders names =
     let (b, h) = grows t binders (names_from binders names f) in
     (a ++ b, h ∙ ap (λ l. l ++ b) e ∙ append_assoc names a b)
 
--- ---- the same text
-
-pub text_is : (w v : List ℕ) → bytes_eq w v ≡ true → w ≡ v
-text_is w v = (bytes_eq-Decides w v).0
-
 -- ---- first places
 
 first_from : (x : List ℕ) (names : List (List ℕ)) (i k n : ℕ) → n ≡ i + k → slice_get names k ≡ Some x → ((j : ℕ) → j < k → slice_get names j ≢ Some x) → position_from (λ y. bytes_eq x y) i names ≡ Some n
@@ -78,7 +70,7 @@ first_from x [] i k n e h before = absurd (cc)
 first_from x (y ∷ ys) i zero n e h before =
     let same : x ≡ y = cc in
     let here : i ≡ n = omega arith in
-    ap (λ b. cond b (Some i) (position_from (is x) (i + 1) ys)) (ap (bytes_eq x) (sym same) ∙ same_text x) ∙ ap (λ (n : ℕ). Some n) here
+    ap (λ b. cond b (Some i) (position_from (is x) (i + 1) ys)) (ap (bytes_eq x) (sym same) ∙ (bytes_eq-Decides x x).1 refl) ∙ ap (λ (n : ℕ). Some n) here
 first_from x (y ∷ ys) i (suc k) n e h before =
     let other : bytes_eq x y ≡ false = not_same x y (λ same. before 0 (omega arith) (ap (λ (l : List ℕ). Some l) (sym same))) in
     let further : n ≡ (i + 1) + k = omega arith in

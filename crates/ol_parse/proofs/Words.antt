@@ -3,9 +3,10 @@ use Rattle.std.proofs.Common.{◌≡◌, ℕ, List, [], ◌∷◌, ◌++◌, map
 use Rattle.std.specs.Str.{bytes_eq}
 use Rattle.ol_parse.specs.Grammar.{Named, var, lam, app, Token, name, let_key, in_key, lambda, dot, equals, open_bracket, close_bracket, lams, IsTerm, term_body, term_spine, term_both, IsSpine, spine_one, spine_more, IsAtom, atom_name, atom_brackets, IsBody, body_lambda, body_let}
 use Rattle.ol_parse.specs.Texts.{token_of, is_word, IsToken, token_sign, token_letter, token_word, IsName, Spells, spells_none, spells_one, IsText}
-use Rattle.ol_parse.specs.Numbered.{place_of, unbound, free_in, without, once, names_of}
+use Rattle.ol_parse.specs.Numbered.{place_of, unbound, free_in, once, names_of}
 use Rattle.ol_parse.specs.Parsed.{AreNames}
 use Rattle.ol_parse.proofs.Spelling.{sign_no_word}
+use Rattle.ol_term.specs.NameLists.{without}
 
 -- ---- tokens
 

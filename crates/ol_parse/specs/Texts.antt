@@ -66,10 +66,6 @@ abbrev pub AreInWord : List ℕ → Type 0
 AreInWord [] = Unit {0}
 AreInWord (b ∷ w) = (in_word (class_of b) ≡ true) × AreInWord w
 
--- the same bytes
-abbrev pub is_text : List ℕ → List ℕ → Bool
-is_text w v = bytes_eq w v
-
 -- `let` and `in` are keywords, every other word is a name
 unfoldable pub token_of : List ℕ → Token
 token_of w = if bytes_eq w (codes "let") then let_key else (if bytes_eq w (codes "in") then in_key else name w)

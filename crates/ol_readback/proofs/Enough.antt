@@ -8,10 +8,11 @@ use Rattle.ol_context.specs.Contexts.{Level, empty, Context, levels, cons, up}
 use Rattle.ol_context.specs.Paths.{inward, outward, Path, ends, goes}
 use Rattle.ol_context.specs.Short.{HasNoFacing, live, IsOnce}
 use Rattle.ol_context.proofs.LevelLists.{levels_cons}
-use Rattle.ol_context.proofs.Short.{in_map, few, IsLive, Down, first, next, down_one}
+use Rattle.ol_context.proofs.Short.{few, IsLive, Down, first, next, down_one}
 use Rattle.ol_readback.specs.Frames.{os, asked}
 use Rattle.ol_readback.specs.Sources.{FewAreEnough}
 use Rattle.ol_readback.proofs.Holes.{fill, Before, moved, stripped, before}
+use Rattle.ol_edges.proofs.Lists.{in_map}
 
 -- what is asked, as a level that is filled
 asked_filled : (ls : List Level) → (b : Context) × ((n : ℕ) → asked ls n ≡ fill (length ls) (os n empty) b)

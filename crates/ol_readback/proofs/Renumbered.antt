@@ -2,16 +2,18 @@
 use Rattle.std.proofs.Common.{◌≡◌, ℕ, zero, suc, ◌+◌, ◌-◌, ◌<◌, ◌≤◌, ◌^◌, List, [], ◌∷◌, ◌++◌, length, get_or, Option, Some, None, Bool, true, false, cond, refl, sym, ap, ◌∙◌, subst, arith}
 use Rattle.std.specs.Prelude.{slice_get, IsSome}
 use Rattle.std.specs.List.{position_from}
+use Rattle.std.specs.Str.{bytes_eq}
+use Rattle.std.proofs.lemmas.Slice.Eq.{bytes_eq-Decides}
 use Rattle.ol_term.specs.Trees as tree
 use Rattle.ol_term.specs.Trees.{Tree}
 use Rattle.ol_term.specs.NameLists.{AreDifferent}
 use Rattle.ol_term.specs.BinderNames.{binder_name}
 use Rattle.ol_term.proofs.Binders.{binder_is_not_free, binders_differ}
+use Rattle.ol_term.specs.NameLists.{without}
+use Rattle.ol_term.proofs.BinderTexts.{not_same}
 use Rattle.ol_parse.specs.Grammar as grammar
 use Rattle.ol_parse.specs.Grammar.{Named, lams}
-use Rattle.ol_parse.specs.Texts.{is_text}
-use Rattle.ol_parse.specs.Numbered.{place_of, unbound, free_in, without, once, names_of, numbered, free_at, var_at}
-use Rattle.ol_parse.proofs.Places.{same_text, text_is}
+use Rattle.ol_parse.specs.Numbered.{place_of, unbound, free_in, once, names_of, numbered, free_at, var_at}
 use Rattle.ol_readback.specs.Whole.{Part, term, lost, cut, none, more, preorder}
 use Rattle.ol_readback.specs.Texts.{variable}
 use Rattle.ol_readback.specs.Terms.{abstracted, index_of, variable_of, meaning, AreAmong, term_of}
@@ -26,14 +28,7 @@ scope names zero = []
 scope names (suc t) = binder_name names t ∷ scope names t
 
 abbrev is : List ℕ → List ℕ → Bool
-is x = λ y. is_text x y
-
-not_text : (x y : List ℕ) → (x ≡ y → ⊥) → is_text x y ≡ false
-not_text x y h = go (is_text x y) refl
-  where
-    go : (b : Bool) → is_text x y ≡ b → is_text x y ≡ false
-    go true e = absurd (h (text_is x y e))
-    go false e = e
+is x = λ y. bytes_eq x y
 
 -- binder x of t
 bound_at : (names : List (List ℕ)) (t x k i : ℕ) → length names < 2 ^ 32 → t < 2 ^ 64 → k + suc x ≡ t → position_from (is (binder_name names x)) i (scope names t) ≡ Some (i + k)
@@ -41,12 +36,12 @@ bound_at names zero x k i h l e = absurd (omega arith)
 bound_at names (suc t) x zero i h l e =
     let same : t ≡ x = omega arith in
     let n : i ≡ i + 0 = omega arith in
-    ap (λ (b : Bool). cond {A = Option ℕ} b (Some i) (position_from (is (binder_name names x)) (i + 1) (scope names t))) (ap (λ (t : ℕ). is_text (binder_name names x) (binder_name names t)) same ∙ same_text (binder_name names x))
+    ap (λ (b : Bool). cond {A = Option ℕ} b (Some i) (position_from (is (binder_name names x)) (i + 1) (scope names t))) (ap (λ (t : ℕ). bytes_eq (binder_name names x) (binder_name names t)) same ∙ (bytes_eq-Decides (binder_name names x) (binder_name names x)).1 refl)
     ∙ ap (λ (n : ℕ). Some n) n
 bound_at names (suc t) x (suc k) i h l e =
     let n : i + 1 + k ≡ i + suc k = omega arith in
     ap (λ (b : Bool). cond {A = Option ℕ} b (Some i) (position_from (is (binder_name names x)) (i + 1) (scope names t)))
-    (not_text (binder_name names x) (binder_name names t) (binders_differ names x t h (omega arith) (omega arith) (λ s. absurd (omega arith))))
+    (not_same (binder_name names x) (binder_name names t) (binders_differ names x t h (omega arith) (omega arith) (λ s. absurd (omega arith))))
     ∙ bound_at names t x k (i + 1) h (omega arith) (omega arith) ∙ ap (λ (n : ℕ). Some n) n
 
 -- a free name is no binder
@@ -54,7 +49,7 @@ free_none : (names : List (List ℕ)) (x : List ℕ) (k : ℕ) → slice_get nam
 free_none names x k e h zero i l = refl
 free_none names x k e h (suc t) i l =
     ap (λ (b : Bool). cond {A = Option ℕ} b (Some i) (position_from (is x) (i + 1) (scope names t)))
-    (not_text x (binder_name names t) (λ s. binder_is_not_free names t h (omega arith) k (e ∙ ap (λ (x : List ℕ). Some x) s)))
+    (not_same x (binder_name names t) (λ s. binder_is_not_free names t h (omega arith) k (e ∙ ap (λ (x : List ℕ). Some x) s)))
     ∙ free_none names x k e h t (i + 1) (omega arith)
 
 first_place : (ns : List (List ℕ)) (x : List ℕ) (k i : ℕ) → slice_get ns k ≡ Some x → ((j : ℕ) → j < k → slice_get ns j ≡ Some x → ⊥) → position_from (is x) i ns ≡ Some (i + k)
@@ -62,10 +57,10 @@ first_place [] x k i e h = absurd (cc)
 first_place (y ∷ ns) x zero i e h =
     let same : y ≡ x = cc in
     let n : i ≡ i + 0 = omega arith in
-    ap (λ (b : Bool). cond {A = Option ℕ} b (Some i) (position_from (is x) (i + 1) ns)) (ap (is_text x) same ∙ same_text x) ∙ ap (λ (n : ℕ). Some n) n
+    ap (λ (b : Bool). cond {A = Option ℕ} b (Some i) (position_from (is x) (i + 1) ns)) (ap (bytes_eq x) same ∙ (bytes_eq-Decides x x).1 refl) ∙ ap (λ (n : ℕ). Some n) n
 first_place (y ∷ ns) x (suc k) i e h =
     let n : i + 1 + k ≡ i + suc k = omega arith in
-    ap (λ (b : Bool). cond {A = Option ℕ} b (Some i) (position_from (is x) (i + 1) ns)) (not_text x y (λ s. h 0 (omega arith) (ap (λ (y : List ℕ). Some y) (sym s))))
+    ap (λ (b : Bool). cond {A = Option ℕ} b (Some i) (position_from (is x) (i + 1) ns)) (not_same x y (λ s. h 0 (omega arith) (ap (λ (y : List ℕ). Some y) (sym s))))
     ∙ first_place ns x k (i + 1) e (λ j l. h (suc j) (omega arith)) ∙ ap (λ (n : ℕ). Some n) n
 
 get_some : (names : List (List ℕ)) (k : ℕ) → k < length names → slice_get names k ≡ Some (get_or names k [])
@@ -89,7 +84,7 @@ among_both names (x ∷ xs) ys h k = (h.0, among_both names xs ys h.1 k)
 
 among_without : (names : List (List ℕ)) (x : List ℕ) (ys : List (List ℕ)) → AreAmong names ys → AreAmong names (without x ys)
 among_without names x [] h = tt
-among_without names x (y ∷ ys) h = go (is_text x y) (among_without names x ys h.1)
+among_without names x (y ∷ ys) h = go (bytes_eq x y) (among_without names x ys h.1)
   where
     go : (b : Bool) → AreAmong names (without x ys) → AreAmong names (cond b (without x ys) (y ∷ without x ys))
     go true each = each

@@ -12,7 +12,8 @@ use Rattle.ol_net.specs.Pairing.{other}
 use Rattle.ol_net.proofs.Numbered.{has_node}
 use Rattle.ol_net.proofs.Linking.{length-all_live, count_by-all_live}
 use Rattle.ol_rules.specs.declared.journal.NodeName.{NodeName}
-use Rattle.ol_rules.proofs.Renaming.{node_to, node_from, link_to, link_from, in_map, in_map_of}
+use Rattle.ol_edges.proofs.Lists.{in_map, in_map_of}
+use Rattle.ol_rules.proofs.Renaming.{node_to, node_from, link_to, link_from}
 use Rattle.ol_rules.proofs.Lists.{in_each_of}
 use Rattle.ol_wire.specs.declared.layout.Parts.{Parts}
 use Rattle.ol_wire.specs.Layout.{cells_of}

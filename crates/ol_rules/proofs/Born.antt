@@ -10,17 +10,10 @@ use Rattle.ol_net.specs.Rules.{rule_of}
 use Rattle.ol_net.specs.Graph.{Graph, kind_at}
 use Rattle.ol_net.specs.Indexes.{HasIndexes}
 use Rattle.ol_net.specs.Replace.{MayBeBorn, top_index_of, Replaces}
+use Rattle.ol_net.proofs.Indexes.{top_is_top}
 use Rattle.ol_rules.specs.Rewriting.{crossing}
 use Rattle.ol_rules.specs.Listed.{copies, born_of, crossing_joins}
 use Rattle.ol_rules.proofs.Lists.{got}
-
--- no live node has a greater index than the greatest
-pub top_is_top : (nodes : List (Option (Kind × ℕ))) (x : ℕ) (k : Kind × ℕ) → kind_at nodes x ≡ Some k → k.1 ≤ top_index_of nodes
-top_is_top [] x k h = absurd (let bad : None ≡ Some k = h in cc)
-top_is_top (None ∷ nodes) zero k h = absurd (let bad : None ≡ Some k = h in cc)
-top_is_top (Some m ∷ nodes) zero k h = let e : m ≡ k = (let all : Some m ≡ Some k = h in cc) in let u = ap (λ (k : Kind × ℕ). k.1) e in omega arith
-top_is_top (None ∷ nodes) (suc x) k h = top_is_top nodes x k h
-top_is_top (Some m ∷ nodes) (suc x) k h = omega (arith, top_is_top nodes x k h)
 
 -- only an eraser, which has no auxiliary port, acts on an eraser
 none_acts : (k : Kind) (i : ℕ) (l : Kind) (j : ℕ) (r : Rule) → rule_of k i l j ≡ Some r → is_eraser l ≡ true → arity k ≡ 0

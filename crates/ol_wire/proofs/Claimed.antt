@@ -20,7 +20,7 @@ use Rattle.ol_wire.proofs.References.{node_sort, wire_sort, slot_sort, slot_same
 use Rattle.ol_wire.proofs.Places.{part_field, is_left, place_before, place_same}
 use Rattle.ol_wire.proofs.EdgeList.{edge_there, edge_found, pending_there, pending_found, live_there}
 use Rattle.ol_wire.proofs.Held.{Holds, owner}
-use Rattle.ol_rules.proofs.Lists.{in_left, in_cases}
+use Rattle.ol_edges.proofs.Lists.{in_left, in_cases}
 use Rattle.ol_rules.proofs.EndCounts.{ends_append}
 use Rattle.ol_rules.proofs.Born.{at_most_two}
 

@@ -25,7 +25,7 @@ use Rattle.ol_wire.specs.ClosedRule.{IsClosed}
 use Rattle.ol_wire.proofs.ClosingEntry.{births_of, births_read}
 use Rattle.ol_wire.proofs.ClosingTable.{k, tickets, event_told, entry_told, entry_at, no_entry}
 use Rattle.ol_wire.proofs.ClosingNodes.{IsLive, Fits, IsMadeFrom, IsLeft, live_after}
-use Rattle.ol_wire.proofs.Lists.{got_there}
+use Rattle.ol_edges.proofs.Lists.{get_there}
 
 some_count : (a : Kind × ℕ) (nodes : List (Option (Kind × ℕ))) → count_by is_some (Some a ∷ nodes) ≡ 1 + count_by is_some nodes
 some_count a nodes = sum_by-cons (λ (x : Option (Kind × ℕ)). cond (is_some x) 1 0) (Some a) nodes
@@ -82,7 +82,7 @@ module _ (w : ClosedTable) (c : IsClosed w) (started : IsStarted w.plan) where
   made_log : (x : NodeName) → IsMadeNode w.plan.parts w.words x → IsLive (start_net w.plan) x ⊎ IsMadeFrom 0 (k w c).log x
   made_log (Init n) lt = inl (start_live w.plan (k w c).plan started n lt)
   made_log (Born t i) (drawn, lt) =
-      let e = got_there (k w c).log t (omega (arith, drawn, tickets w c)) in
+      let e = get_there (k w c).log t (omega (arith, drawn, tickets w c)) in
       inr (t, e.0, e.1, omega arith, omega (arith, lt, births_told t e.0 e.1))
 
   entry_there : (t : ℕ) (e : Event) → slice_get (k w c).log t ≡ Some e → slice_get (journal_in w.plan.parts w.words) t ≡ Some (entry_of w.plan.parts e)
@@ -91,7 +91,7 @@ module _ (w : ClosedTable) (c : IsClosed w) (started : IsStarted w.plan) where
   left_words : (x : NodeName) → IsLeft w.plan.parts (k w c).log x → IsUntouched w.plan.parts w.words x
   left_words x h t d at = elim (cases_lt t (events_in w.plan.parts w.words)) [
     | inl lt ↦
-        let e = got_there (k w c).log t (omega (arith, lt, tickets w c)) in
+        let e = get_there (k w c).log t (omega (arith, lt, tickets w c)) in
         subst (λ (d : Entry). (d.first ≢ x) × (d.second ≢ x)) (one_some (entry_of w.plan.parts e.0) d (sym (entry_there t e.0 e.1) ∙ at)) (h t e.0 e.1)
     | inr ge ↦ absurd (none_some d (sym (no_entry w.plan.parts w.words t ge) ∙ at))
   ]

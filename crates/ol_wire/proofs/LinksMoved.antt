@@ -11,7 +11,8 @@ use Rattle.ol_net.specs.Nets.{NamedNet, NamedPort, slot, IsSlotOf}
 use Rattle.ol_rules.specs.declared.journal.NodeName.{NodeName}
 use Rattle.ol_rules.specs.declared.journal.NodeName.TheVariants.{Born}
 use Rattle.ol_rules.specs.Rewriting.{index_after}
-use Rattle.ol_rules.proofs.Lists.{in_left, in_right, in_cases, in_each, in_each_of, only}
+use Rattle.ol_edges.proofs.Lists.{in_left, in_right, in_cases, only}
+use Rattle.ol_rules.proofs.Lists.{in_each, in_each_of}
 use Rattle.ol_rules.proofs.EndCounts.{ends_append}
 use Rattle.ol_rules.proofs.Tests.{nat_test}
 use Rattle.ol_wire.specs.declared.layout.Parts.{Parts}

@@ -8,8 +8,9 @@ use Rattle.ol_net.specs.Parts.{arity}
 use Rattle.ol_rules.specs.declared.journal.NodeName.TheVariants.{Born}
 use Rattle.ol_rules.specs.Rewriting.{is_meeting, index_after}
 use Rattle.ol_rules.specs.Listed.{each}
-use Rattle.ol_rules.proofs.Lists.{in_left, in_right, in_cases, in_each, in_each_of, only}
-use Rattle.ol_rules.proofs.EndCounts.{in_map, in_map_of}
+use Rattle.ol_edges.proofs.Lists.{in_left, in_right, in_cases, only}
+use Rattle.ol_rules.proofs.Lists.{in_each, in_each_of}
+use Rattle.ol_edges.proofs.Lists.{in_map, in_map_of}
 use Rattle.ol_wire.specs.declared.layout.Parts.{Parts}
 use Rattle.ol_wire.specs.declared.view.Link.{Link}
 use Rattle.ol_wire.specs.References.{node_ref, wire_ref, slot_ref, kind_in, index_in}
@@ -19,8 +20,8 @@ use Rattle.ol_wire.specs.Blocks.{copies_of_f, copies_of_g, born_ref, born_field,
 use Rattle.ol_wire.specs.Edges.{edge_to, links_in}
 use Rattle.ol_wire.proofs.References.{kind_of_ref, index_of_ref}
 use Rattle.ol_wire.proofs.Event.{born_edges, new_edges}
-use Rattle.ol_wire.proofs.Lists.{if_below, if_above}
 use Rattle.ol_rules.proofs.Born.{at_most_two}
+use Rattle.ol_edges.proofs.Lists.{if_below, if_above}
 
 -- an edge of a list, by its ends
 abbrev pub Has : ℕ → ℕ → List (ℕ × ℕ) → Type 0

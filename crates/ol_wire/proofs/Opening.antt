@@ -31,14 +31,14 @@ use Rattle.ol_wire.specs.Stands.{Stands}
 use Rattle.ol_wire.specs.Rule.{Table, Kept, PlanKeeps, JournalKeeps, WordsKeep, CellsKeep, SeatsKeep, IsView, filled, opener}
 use Rattle.ol_wire.specs.Laid.{IsLaid}
 use Rattle.ol_wire.proofs.Places.{part_wire, is_wire}
-use Rattle.ol_wire.proofs.OpeningPorts.{node_inside}
 use Rattle.ol_wire.proofs.OpeningEnds.{live_start}
 use Rattle.ol_wire.proofs.OpeningSites.{Given}
 use Rattle.ol_wire.proofs.OpeningStands.{start_stands}
 use Rattle.ol_wire.proofs.OpeningRefs.{start_refs, start_cells}
 use Rattle.std.proofs.lemmas.Bool.{and_parts}
 use Rattle.std.proofs.lemmas.Option.{none-some}
-use Rattle.ol_rules.proofs.Born.{top_is_top}
+use Rattle.ol_net.proofs.Indexes.{top_is_top}
+use Rattle.ol_net.proofs.Places.{kind_at-inside}
 
 only_view : {A : Type 0} (a b : A) (id : ℕ) → get_elem? (a ∷ []) id ≡ option.some b → b ≡ a
 only_view a b zero e = cc
@@ -109,7 +109,7 @@ module _ (p : Plan) (fuel : ℕ) (words : List ℕ) (is : IsStart p.start.value 
     ports = sym is.parts.free;
     names = λ x k i h.
         let t = node_from Init (net_of g) x k i h in
-        let b = node_inside g.nodes t.0 (k, i) ((has_node g t.0 k i).0 t.1) in
+        let b = kind_at-inside g.nodes t.0 (k, i) ((has_node g t.0 k i).0 t.1) in
         let lt : t.0 < z.nodes = omega (arith, b, is.parts.nodes) in
         subst (λ y. IsPlaced z 0 y) (sym t.2) lt;
     indexes = λ x k i h.

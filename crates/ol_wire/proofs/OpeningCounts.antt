@@ -3,7 +3,7 @@ use Rattle.std.proofs.Common.{◌≡◌, ◌≢◌, ℕ, zero, suc, ◌+◌, ◌
 use Rattle.std.proofs.lemmas.Bool.{cases_eq}
 use Rattle.ol_edges.specs.Edges.{IsIn, ends}
 use Rattle.ol_rules.specs.Listed.{each}
-use Rattle.ol_rules.proofs.Lists.{in_left, in_right, in_cases}
+use Rattle.ol_edges.proofs.Lists.{in_left, in_right, in_cases}
 use Rattle.ol_rules.proofs.EndCounts.{ends_append}
 
 module _ (row : ℕ → List (ℕ × ℕ)) where

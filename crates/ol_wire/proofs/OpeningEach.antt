@@ -10,8 +10,8 @@ use Rattle.ol_rules.specs.Listed.{each}
 use Rattle.ol_wire.specs.Starts.{wire_with, pair_with, facing_pairs, aux_links, wire_at, pair_at}
 use Rattle.ol_wire.specs.Laid.{wires_before}
 use Rattle.std.proofs.lemmas.Option.{none-some}
-use Rattle.ol_rules.proofs.Lists.{got_append}
-use Rattle.ol_wire.proofs.Lists.{got_there}
+use Rattle.ol_edges.proofs.Lists.{got_append}
+use Rattle.ol_edges.proofs.Lists.{get_there}
 
 some_same : {X : Type 0} (x y : X) → Some x ≡ Some y → x ≡ y
 some_same x y e = cc
@@ -102,7 +102,7 @@ pub record WireOf (net : Graph) (j : ℕ) : Type 0 where
 
 pub wire_of : (net : Graph) (j : ℕ) → j < length (aux_links net) → WireOf net j
 wire_of net j lt =
-    let x = got_there (aux_links net) j lt in
+    let x = get_there (aux_links net) j lt in
     let outer = each_from (λ k. each 2 (wire_at net k)) (length net.nodes) j x.0 x.1 in
     let inner = each_from (wire_at net outer.row) 2 outer.at x.0 outer.holds in
     let f = first_with outer.row (suc inner.row) (partner_of net (Of (record { 0 = outer.row }) (suc inner.row))) inner.at x.0 inner.holds in

@@ -24,7 +24,7 @@ use Rattle.ol_wire.specs.Laid.{ref_of, node_word}
 use Rattle.ol_wire.proofs.References.{node_same, wire_same, slot_same, node_not_wire, node_not_slot, wire_not_slot}
 use Rattle.ol_wire.proofs.OpeningPorts.{of_inside}
 use Rattle.std.proofs.lemmas.Bool.{or_right}
-use Rattle.ol_rules.proofs.Born.{top_is_top}
+use Rattle.ol_net.proofs.Indexes.{top_is_top}
 
 abbrev pub named : Port → NamedPort NodeName
 named p = port_under Init (numbered_port p)

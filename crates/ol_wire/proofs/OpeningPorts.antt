@@ -9,9 +9,6 @@ use Rattle.ol_net.specs.Graph.{Graph, kind_at, has_port, partner_of}
 use Rattle.ol_net.proofs.Places.{kind_at-within, has_slot-lt}
 use Rattle.ol_net.proofs.Numbered.{partner_of-parts}
 
-pub node_inside : (nodes : List (Option (Kind × ℕ))) (n : ℕ) (k : Kind × ℕ) → kind_at nodes n ≡ Some k → n < length nodes
-node_inside nodes n k e = kind_at-within nodes n 0 (rw e (grind (arith, nat_tests)))
-
 pub free_inside : (net : Graph) (m : ℕ) → has_port net.free net.nodes (Free m) ≡ true → m < net.free
 free_inside net m h = grind (arith, nat_tests)
 

@@ -26,7 +26,7 @@ use Rattle.ol_wire.proofs.OpeningEnds.{Live, live_of}
 use Rattle.ol_wire.proofs.OpeningSites.{Given, Where, where_at, first, port, field, wire, left, right, later}
 use Rattle.ol_wire.proofs.OpeningSites as sites
 use Rattle.ol_wire.proofs.OpeningStands.{num_small}
-use Rattle.ol_wire.proofs.Lists.{got_there}
+use Rattle.ol_edges.proofs.Lists.{get_there}
 
 -- a reference is whole as it is made
 pub node_whole : (k : Kind) (i place : ℕ) → i < 16777216 → IsWhole (node_ref k i place)
@@ -95,7 +95,7 @@ module _ (net : Graph) (z : Parts) (words : List ℕ) (reached : ℕ → Bool) (
 
   cell_holds : (c : ℕ) → c < z.cells → CellHolds c
   cell_holds c lt =
-      let x = got_there (facing_pairs net) c (omega (arith, lt, g.cells)) in
+      let x = get_there (facing_pairs net) c (omega (arith, lt, g.cells)) in
       let p = pair_of net c x.0 x.1 in
       let both = g.laid.cells c x.0 x.1 in
       let at_left : slice_index words (start_cell z c) ≡ node_word net z p.n = both.0 ∙ ap (λ (w : ℕ × ℕ). node_word net z w.0) (sym p.is) in

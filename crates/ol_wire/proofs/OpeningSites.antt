@@ -23,9 +23,9 @@ use Rattle.ol_wire.proofs.OpeningPorts.{free_inside, of_inside}
 use Rattle.ol_wire.proofs.OpeningWords.{sooner, not_sooner, not_zero}
 use Rattle.ol_wire.proofs.OpeningEach.{pair_get, pair_of, cell_number}
 use Rattle.ol_wire.proofs.OpeningEnds.{end_of, live_of}
-use Rattle.ol_wire.proofs.Lists.{got_there}
 use Rattle.std.proofs.lemmas.Option.{slice_get_within}
 use Rattle.ol_wire.proofs.WordEdges.{edge_none}
+use Rattle.ol_edges.proofs.Lists.{get_there}
 
 -- a net, its parts, and words that it is laid out in
 pub record Given (net : Graph) (z : Parts) (words : List ℕ) (N : NamedNet NodeName) (reached : ℕ → Bool) : Type 0 where
@@ -216,7 +216,7 @@ module _ (net : Graph) (z : Parts) (words : List ℕ) (N : NamedNet NodeName) (r
 
   found_cell : (w c : ℕ) → c < z.cells → w ≡ start_cell z c → Found w
   found_cell w c lt at =
-      let x = got_there (facing_pairs net) c (omega (arith, lt, g.cells)) in
+      let x = get_there (facing_pairs net) c (omega (arith, lt, g.cells)) in
       let p = pair_of net c x.0 x.1 in
       direct (Of (record { 0 = p.n }) 0) (Of p.m 0) p.linked tt (at ∙ ap (start_cell z) p.number ∙ ap (λ k. start_cell z (cell_number net k)) (sym (sooner p.n p.m.0 p.less p.n p.m.0)))
 

@@ -21,7 +21,7 @@ use Rattle.ol_wire.specs.Rule.{Table, IsView, Kept}
 use Rattle.ol_wire.proofs.References.{node_sort, wire_sort, slot_sort, wire_same, kind_of_ref, index_of_ref}
 use Rattle.ol_wire.proofs.EdgeList.{edge_found, pending_found}
 use Rattle.ol_wire.proofs.Claimed.{node_of, ends_first, ends_second, ends_twice, same_bit, EdgeAt, at_wire, at_field, at_cell, edge_at}
-use Rattle.ol_rules.proofs.Lists.{in_cases}
+use Rattle.ol_edges.proofs.Lists.{in_cases}
 
 -- an end that has edges to two others stands at two edges
 two_edges : (v u w : ℕ) (es : List (ℕ × ℕ)) → u ≢ w → IsIn (v, u) es → IsIn (v, w) es → 2 ≤ ends nat_eq v es

@@ -19,7 +19,7 @@ use Rattle.ol_wire.specs.Plays.{IsNodeOf, IsRefOf, IsLookedUp, known_at, event_i
 use Rattle.ol_wire.specs.Rewrites.{event_for}
 use Rattle.ol_wire.specs.Sizes.{IsSmall}
 use Rattle.ol_wire.specs.Hands.{in_hand, IsInHand, IsOfPair, IsSure, AreFields, AreRefs, fields_known, Rewrote}
-use Rattle.ol_rules.proofs.Lists.{in_left, in_right}
+use Rattle.ol_edges.proofs.Lists.{in_left, in_right}
 use Rattle.ol_rules.proofs.Born.{at_most_two}
 use Rattle.ol_wire.proofs.Event.{event_sides}
 

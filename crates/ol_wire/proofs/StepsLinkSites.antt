@@ -24,7 +24,7 @@ use Rattle.ol_wire.proofs.Claimed.{IsNodeAt, node_of, is_placed, ends_first, end
 use Rattle.ol_wire.proofs.EdgeList.{word_edge, pending_there}
 use Rattle.ol_wire.proofs.WordEdges.{edge_as}
 use Rattle.std.proofs.lemmas.Option.{slice_get_within}
-use Rattle.ol_rules.proofs.Lists.{in_right}
+use Rattle.ol_edges.proofs.Lists.{in_right}
 
 -- the part of a wire or of a free port
 abbrev pub IsLinked : Part → Type 0

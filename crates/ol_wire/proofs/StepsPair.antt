@@ -25,7 +25,7 @@ use Rattle.ol_wire.proofs.Places.{place_before, is_wire, is_between, part_field}
 use Rattle.ol_wire.proofs.Held.{Holds, owner, word_full, held_full}
 use Rattle.ol_wire.proofs.Claimed.{IsNodeAt, IsCellPair, cell_pair, node_of, is_placed, ends_second, field_full, field_within, right_written, own_edge}
 use Rattle.ol_wire.proofs.EdgeList.{edge_there, live_there}
-use Rattle.ol_rules.proofs.Lists.{in_left}
+use Rattle.ol_edges.proofs.Lists.{in_left}
 use Rattle.ol_rules.proofs.Born.{at_most_two}
 use Rattle.ol_wire.proofs.Event.{event_sides}
 

@@ -31,7 +31,7 @@ use Rattle.ol_wire.proofs.TicketDrawn.{entries_length}
 use Rattle.ol_wire.proofs.TicketWords as words
 use Rattle.ol_wire.proofs.TicketCells as cells
 use Rattle.ol_wire.proofs.TicketFields as fields
-use Rattle.ol_rules.proofs.Lists.{in_right}
+use Rattle.ol_edges.proofs.Lists.{in_right}
 
 -- a wire that was made stays made
 crosses_still : (log : List Event) (e : Event) (t q p : ℕ) → bit (crosses_at (slice_get log t) q p) ≤ bit (crosses_at (slice_get (log ++ e ∷ []) t) q p)

@@ -24,7 +24,7 @@ use Rattle.ol_wire.proofs.EdgeList.{word_edge, live_there, live_found, live_same
 use Rattle.ol_wire.proofs.PlaceSums.{sum_to, sum_agree, sum_within, pairs_each}
 use Rattle.ol_wire.proofs.NetBut.{net_but, first_gone, second_gone, others_stay}
 use Rattle.ol_wire.proofs.WordEdges.{edges_weigh, edge_as, emptied}
-use Rattle.ol_wire.proofs.Lists.{if_above}
+use Rattle.ol_edges.proofs.Lists.{if_above}
 
 -- the event of a pair
 abbrev pub pair_event : Parts → Rule → NodeName → NodeName → Kind → Kind → ℕ → ℕ → Event

@@ -2,9 +2,8 @@
 use Rattle.std.specs.Prelude.{ℕ, ◌&&◌, ◌==◌, List, [], ◌∷◌, Option, None, Some}
 use Rattle.std.specs.Prelude.{if◌then◌else◌, map, codes, Bool, filter, find, option_map, option_and_then}
 use Rattle.std.specs.Str.{bytes_eq}
-pub use Rattle.ol_words.specs.Texts.{texts_of}
-pub use Rattle.ol_words.specs.Asked.{Asked, run, walk, view, trace, check, gen, asked_by}
 use Rattle.ol_words.specs.Texts.{Text}
+use Rattle.ol_words.specs.Asked.{Asked, run, walk, view, trace, check, gen}
 use Rattle.ol_words.specs.Lines.{Line, Known, line_of}
 use Rattle.ol_words.specs.Numbers.{Limits, number_within, setting}
 

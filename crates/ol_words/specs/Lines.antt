@@ -3,7 +3,7 @@ use Rattle.std.specs.Prelude.{ℕ, Bool, false, not, ◌==◌, ◌&&◌, List, [
 use Rattle.std.specs.Prelude.{Option, None, Some, if◌then◌else◌, length, nat_lt, codes, option_map, option_and_then}
 use Rattle.std.specs.List.{before_first, after_first, list_any, position_or_len}
 use Rattle.std.specs.Str.{bytes_eq}
-pub use Rattle.ol_words.specs.Texts.{Text}
+use Rattle.ol_words.specs.Texts.{Text}
 
 -- the text begins with `-` and isn't `-` alone: it is no name and no value
 abbrev pub is_dashed : Text → Bool

@@ -1,5 +1,6 @@
 use Rattle.std.proofs.Common.{arith}
-use Rattle.ol_rules.proofs.Born.{may_all, top_is_top}
+use Rattle.ol_net.proofs.Indexes.{top_is_top}
+use Rattle.ol_rules.proofs.Born.{may_all}
 use Rattle.ol_rules.proofs.steps.rewrite.Goals as goal
 
 pub cross_with_none-requires-clause-indexes : goal.cross_with_none-requires-clause-indexes

@@ -1,6 +1,6 @@
 use Rattle.std.proofs.Common.{arith, sym, ◌∙◌}
 use Rattle.ol_wire.proofs.laying.node_word.Goals as goal
-use Rattle.ol_rules.proofs.Born.{top_is_top}
+use Rattle.ol_net.proofs.Indexes.{top_is_top}
 
 pub node_ref-requires : goal.node_ref-requires
 node_ref-requires c =
