@@ -13,7 +13,8 @@ use Rattle.ol_net.proofs.Numbered.{has_node}
 use Rattle.ol_context.specs.Contexts.{Level, empty, Context, cons, at_level, mark, packed, up}
 use Rattle.ol_context.specs.Paths.{Crosses, inward, outward, Through, through, IsBarred}
 use Rattle.ol_context.specs.Shapes.{context_of}
-use Rattle.ol_context.specs.Crossed.{IsNodePort, Becomes, ComesFrom, NoneInto, NoCrossing, IsCrossed, HasFallen}
+use Rattle.ol_context.specs.Crossed.{IsNodePort}
+use Rattle.ol_context.specs.Crossings.{Becomes, ComesFrom, NoneInto, NoCrossing, IsCrossed, HasFallen}
 use Rattle.ol_context.specs.declared.answers.Cross.{Cross}
 use Rattle.ol_context.specs.declared.answers.Cross.TheVariants.{Undefined}
 

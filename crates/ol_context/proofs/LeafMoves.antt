@@ -7,7 +7,7 @@ use Rattle.ol_net.specs.Parts.{arity}
 use Rattle.ol_context.specs.Contexts.{Level, empty, o, star, pair, Context, levels, cons, tail, at_level, marked, mark, packed, up}
 use Rattle.ol_context.specs.Paths.{Crosses, inward, outward}
 use Rattle.ol_context.specs.Shapes.{value, context_of}
-use Rattle.ol_context.specs.Crossed.{HasFallen}
+use Rattle.ol_context.specs.Crossings.{HasFallen}
 use Rattle.ol_context.specs.Asked.{os}
 use Rattle.ol_context.specs.Open.{wrapped, filled, reading}
 use Rattle.ol_context.specs.Leaves.{NoMove, Moves, HasMoved, level_past}

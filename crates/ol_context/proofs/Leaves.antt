@@ -4,7 +4,7 @@ use Rattle.ol_net.specs.declared.parts.Kind.{Kind}
 use Rattle.ol_net.specs.declared.parts.Kind.TheVariants as kind
 use Rattle.ol_context.specs.Contexts.{Level, empty, pair, Context, cons, tail, at_level, marked, mark, packed, change, up, shift, IsCrosser}
 use Rattle.ol_context.specs.Shapes.{Extends, context_of}
-use Rattle.ol_context.specs.Crossed.{NoCrossing}
+use Rattle.ol_context.specs.Crossings.{NoCrossing}
 use Rattle.ol_context.specs.Open.{wrapped, filled, reading, IsHeldPart, AreHeldParts}
 use Rattle.ol_context.specs.declared.leaf.Around.{Around}
 use Rattle.ol_context.specs.declared.leaf.Around.TheVariants.{O, Star, First, Second}

@@ -4,7 +4,7 @@ use Rattle.std.specs.List.{insert, remove}
 use Rattle.std.proofs.lemmas.List.{length-replicate}
 use Rattle.ol_context.specs.Contexts.{Level, empty, pair, Context, cons, at_level, marked, mark, packed}
 use Rattle.ol_context.specs.Shapes.{value, AreHeld, context_of, Extends, IsNumberOf}
-use Rattle.ol_context.specs.Crossed.{Becomes, ComesFrom, NoneInto}
+use Rattle.ol_context.specs.Crossings.{Becomes, ComesFrom, NoneInto}
 use Rattle.ol_context.proofs.Shapes.{context_more, held_more}
 use Rattle.ol_context.proofs.LevelLists.{after, at_level_at}
 use Rattle.ol_context.proofs.ValueLists.{held_set, held_append, held_replicate, held_insert, held_remove, level_is, pad_is, past_level, past_put, insert_is, marked_up, marked_down, put_down, packed_up, packed_down}

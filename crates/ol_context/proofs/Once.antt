@@ -10,7 +10,8 @@ use Rattle.ol_context.specs.Contexts.{Level, empty}
 use Rattle.ol_context.specs.declared.arena.Shape.{Shape}
 use Rattle.ol_context.specs.declared.arena.Shape.TheVariants.{Empty, O, Star, Pair}
 use Rattle.ol_context.specs.Shapes.{value, tree_of, IsBelow, Extends, IsNumberOf}
-use Rattle.ol_context.specs.Trees.{grow, trees, IsRow, AreOnce}
+use Rattle.ol_context.specs.Trees.{grow, trees}
+use Rattle.ol_context.specs.Rows.{IsRow, AreOnce}
 use Rattle.ol_context.proofs.Shapes.{row_push, trees_push, trees_length, extends_push, extends_refl, shape_at, below_at, first_is_empty, tree_keeps}
 
 abbrev pub same : Shape → Shape → Bool

@@ -8,11 +8,12 @@ use Rattle.ol_context.specs.declared.answers.Cross.TheVariants.{Undefined}
 use Rattle.ol_context.specs.Contexts.{Level, empty, Context, cons, at_level, up}
 use Rattle.ol_context.specs.Paths.{Crosses, inward}
 use Rattle.ol_context.specs.Shapes.{value, AreHeld, Extends, IsNumberOf, context_of}
-use Rattle.ol_context.specs.Crossed.{NoCrossing, IsCrossed}
+use Rattle.ol_context.specs.Crossings.{NoCrossing, IsCrossed}
 use Rattle.ol_context.specs.Asked.{os}
 use Rattle.ol_context.specs.Open.{wrapped, filled, reading, Open, Covers, open_at, IsHeldPart, AreHeldParts}
 use Rattle.ol_context.specs.Leaves.{seen, IsKept, LeafHasMoved}
-use Rattle.ol_context.specs.Passed.{HasPassed, OpenThrough, IsOpenBarred}
+use Rattle.ol_context.specs.Passed.{OpenThrough, IsOpenBarred}
+use Rattle.ol_context.specs.Passing.{HasPassed}
 use Rattle.ol_context.specs.declared.leaf.Leaf.{Leaf}
 use Rattle.ol_context.specs.declared.leaf.Fate.TheVariants.{Stays, Grows, Goes}
 use Rattle.ol_context.specs.declared.leaf.Around.{Around}

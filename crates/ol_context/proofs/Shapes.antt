@@ -5,7 +5,8 @@ use Rattle.ol_context.specs.Contexts.{Level, empty, o, star, pair, levels}
 use Rattle.ol_context.specs.declared.arena.Shape.{Shape}
 use Rattle.ol_context.specs.declared.arena.Shape.TheVariants.{Empty, O, Star, Pair}
 use Rattle.ol_context.specs.Shapes.{value, tree_of, IsBelow, Extends, AreHeld, context_of}
-use Rattle.ol_context.specs.Trees.{grow, trees, IsRow}
+use Rattle.ol_context.specs.Trees.{grow, trees}
+use Rattle.ol_context.specs.Rows.{IsRow}
 
 pub grow_push : (vs : List Level) (ss : List Shape) (s : Shape) → grow vs (ss ++ s ∷ []) ≡ grow vs ss ++ tree_of (grow vs ss) s ∷ []
 grow_push vs [] s = refl

@@ -8,7 +8,7 @@ use Rattle.ol_net.specs.declared.parts.Kind.TheVariants as kind
 use Rattle.ol_context.specs.Contexts.{Level, empty, o, Context, cons, at_level}
 use Rattle.ol_context.specs.Paths.{Crosses}
 use Rattle.ol_context.specs.Shapes.{value, IsHeld, AreHeld, context_of}
-use Rattle.ol_context.specs.Crossed.{NoCrossing}
+use Rattle.ol_context.specs.Crossings.{NoCrossing}
 use Rattle.ol_context.specs.Asked.{os}
 use Rattle.ol_context.specs.declared.leaf.Fate.{Fate}
 use Rattle.ol_context.specs.declared.leaf.Fate.TheVariants as fate

@@ -15,3 +15,6 @@ pub mod Leaves
 pub mod Passed
 pub mod OpenAnswers
 pub mod Laws
+pub mod Crossings
+pub mod Passing
+pub mod Rows

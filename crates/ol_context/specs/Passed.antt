@@ -1,13 +1,12 @@
 -- What a crossing of an open context is: the crossings of all contexts that it stands for.
-use Rattle.std.specs.Prelude.{◌≡◌, ◌↔◌, ℕ, List, Option, Some, None}
-use Rattle.ol_net.specs.declared.parts.Kind.{Kind}
+use Rattle.std.specs.Prelude.{◌≡◌, ◌↔◌, ℕ, List}
 use Rattle.ol_net.specs.declared.parts.Port.{Port}
 use Rattle.ol_net.specs.Graph.{Graph}
 use Rattle.ol_net.specs.Numbered.{numbered_port, net_of}
 use Rattle.ol_net.specs.Nets.{NamedNet, NamedPort}
 use Rattle.ol_context.specs.Contexts.{Level}
-use Rattle.ol_context.specs.Paths.{Crosses, Through, IsBarred}
-use Rattle.ol_context.specs.Crossed.{NoCrossing, IfOut}
+use Rattle.ol_context.specs.Paths.{Through, IsBarred}
+use Rattle.ol_context.specs.Crossed.{IfOut}
 use Rattle.ol_context.specs.declared.answers.Cross.{Cross}
 use Rattle.ol_context.specs.declared.answers.Cross.TheVariants as cross
 use Rattle.ol_context.specs.Open.{Open, StandsFor, open_at}
@@ -18,11 +17,6 @@ pub record Narrows (X Y : Open) (P Q : ℕ → Type 0) : Type 0 where
   pub within : (n : ℕ) → StandsFor Y n → StandsFor X n
   pub made : (n : ℕ) → StandsFor Y n → P n
   pub barred : (n : ℕ) → StandsFor X n → (StandsFor Y n → ⊥) → Q n
-
--- a node of kind k and index i is entered by slot s, and left by slot t or not at all
-abbrev pub HasPassed : Kind → ℕ → ℕ → List Level → List Level → Open → Open → Option ℕ → Type 0
-HasPassed k i s old new X Y None = ((n : ℕ) → StandsFor X n → NoCrossing k i s (open_at old X n)) × (Y ≡ X)
-HasPassed k i s old new X Y (Some t) = Narrows X Y (λ n. Crosses k i s (open_at old X n) t (open_at new Y n)) (λ n. NoCrossing k i s (open_at old X n))
 
 -- A node of the net is entered by port p and left by port q: the new open context stands for those n of the old one for which a
 -- crossing is defined, with the context there.

@@ -56,7 +56,8 @@ impl Model for Values {
     ghost use Rattle.std.specs.Prelude.{◌^◌, ◌<◌, List, length};
     ghost use Rattle.ol_context.specs.Contexts.{Level};
     ghost use Rattle.ol_context.specs.Codes.{levels_code};
-    ghost use Rattle.ol_context.specs.Trees.{trees, IsRow, AreOnce};
+    ghost use Rattle.ol_context.specs.Trees.{trees};
+    ghost use Rattle.ol_context.specs.Rows.{IsRow, AreOnce};
 
     ghost Value = { List Level };
 

@@ -5,7 +5,7 @@ ghost use Rattle.std.specs.Prelude.{◌≡◌, ◌-◌, ◌<◌, ◌≤◌, ◌+
 ghost use Rattle.ol_net.specs.Parts.{arity};
 ghost use Rattle.ol_context.specs.Contexts.{empty, marked, cons, at_level, mark, packed, up};
 ghost use Rattle.ol_context.specs.Shapes.{value, IsHeld, AreHeld, Extends, IsNumberOf};
-ghost use Rattle.ol_context.specs.Crossed.{Becomes, HasLostMark, HasUndone, HasFallen};
+ghost use Rattle.ol_context.specs.Crossings.{Becomes, HasLostMark, HasUndone, HasFallen};
 
 use crate::arena::{Shape, Val, Values};
 use crate::row::level_or;

@@ -3,7 +3,8 @@
 ghost use Rattle.std.specs.Prelude.{◌≡◌, ◌≤◌, IfOk, OnErr};
 ghost use Rattle.ol_net.specs.Parts.{arity};
 ghost use Rattle.ol_context.specs.Shapes.{AreHeld, Extends};
-ghost use Rattle.ol_context.specs.Crossed.{IsCrossed, IsNodePort, LeavesNode, IsUndefinedExactly};
+ghost use Rattle.ol_context.specs.Crossed.{IsNodePort, LeavesNode, IsUndefinedExactly};
+ghost use Rattle.ol_context.specs.Crossings.{IsCrossed};
 
 use crate::answers::Cross;
 use crate::arena::{Val, Values};

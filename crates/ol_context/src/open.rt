@@ -6,7 +6,7 @@ ghost use Rattle.ol_context.specs.Contexts.{empty};
 ghost use Rattle.ol_context.specs.Shapes.{value, IsHeld, AreHeld, Extends, IsNumberOf, context_of};
 ghost use Rattle.ol_context.specs.Open.{opened, wrapped, filled, open_at, IsHeldOpen, IsHeldPart, AreHeldParts};
 ghost use Rattle.ol_context.specs.Leaves.{AreHeldWith, IsKept, LeafHasMoved, IfNoMove};
-ghost use Rattle.ol_context.specs.Passed.{HasPassed};
+ghost use Rattle.ol_context.specs.Passing.{HasPassed};
 
 use crate::arena::{Val, Values};
 use crate::crossing::cross_node;

@@ -3,7 +3,8 @@ use Rattle.std.proofs.Common.{◌≡◌, ℕ, zero, suc, ◌<◌, ◌+◌, List,
 use Rattle.std.specs.Str.{bytes_eq}
 use Rattle.std.proofs.lemmas.List.{drop-drop}
 use Rattle.std.proofs.lemmas.Grind.{common_steps}
-use Rattle.ol_io.specs.Files.{File, contents_of, left_of}
+use Rattle.ol_io.specs.Files.{File, contents_of}
+use Rattle.ol_io.specs.Unread.{left_of}
 
 pub contents_of-found : (files : List File) (name : List ℕ) (i : ℕ) (d : File) → i < length files
     → bytes_eq (get_or files i d).name name ≡ true

@@ -2,3 +2,4 @@ pub mod Outside
 pub mod Files
 pub mod Fakes
 pub mod Calls
+pub mod Unread

@@ -1,7 +1,8 @@
 //! Files in memory.
 ghost use Rattle.std.specs.Prelude.{◌≡◌, MatchOption, None, Some};
 ghost use Rattle.std.specs.Str.{bytes_eq};
-ghost use Rattle.ol_io.specs.Files.{contents_of, left_of};
+ghost use Rattle.ol_io.specs.Files.{contents_of};
+ghost use Rattle.ol_io.specs.Unread.{left_of};
 
 use std::marker::Model;
 

@@ -1,7 +1,7 @@
 //! A source in memory, which fails where it is told to.
 ghost use Rattle.std.specs.Prelude.{◌≡◌, ◌≤◌, ◌<◌, ◌^◌, ◌+◌, ◌++◌, ℕ, List, true, Some, length, take, drop, min};
 ghost use Rattle.ol_io.specs.Outside.{Counts, Reads, ReadsWithin, begin_failed, read_failed};
-ghost use Rattle.ol_io.specs.Files.{left_of};
+ghost use Rattle.ol_io.specs.Unread.{left_of};
 ghost use Rattle.ol_io.specs.Fakes.{fails_at, fresh_source, begin_answer, after_begin, read_answer, after_read, buffer_after};
 
 use crate::files::{MemFile, find_file};
@@ -33,7 +33,7 @@ pub struct MemSource {
 
 impl Model for MemSource {
     ghost use Rattle.std.specs.Prelude.{◌<◌, ◌≤◌, ◌^◌};
-    ghost use Rattle.ol_io.specs.Files.{left_of};
+    ghost use Rattle.ol_io.specs.Unread.{left_of};
     ghost use Rattle.ol_io.specs.Fakes.{SourceState};
 
     ghost Value = { SourceState };

@@ -7,7 +7,8 @@ use Rattle.ol_edges.specs.Edges.{IsIn, Near}
 use Rattle.ol_net.specs.declared.parts.Kind.{Kind}
 use Rattle.ol_net.specs.declared.parts.Port.{Port}
 use Rattle.ol_net.specs.declared.parts.Port.TheVariants.{Free, Of}
-use Rattle.ol_net.specs.Pairing.{other, across, partner_among}
+use Rattle.ol_net.specs.Pairing.{other}
+use Rattle.ol_net.specs.Linking.{across, partner_among}
 use Rattle.ol_net.specs.Graph.{Graph, IsTabled, kind_at, has_port, place, port_at, partner_of}
 use Rattle.ol_net.specs.Nets.{NamedPort, Linked, SameNet}
 use Rattle.ol_net.specs.Numbered.{numbered_port, nodes_from, numbered_from, net_of, net_of_parts}

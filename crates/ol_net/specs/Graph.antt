@@ -18,9 +18,6 @@ pub record Graph : Type 0 where
   pub nodes : List (Option (Kind × ℕ))
   pub partners : List ℕ
 
-abbrev pub graph_of : ℕ → List (Option (Kind × ℕ)) → List ℕ → Graph
-graph_of free nodes partners = record { free = free; nodes = nodes; partners = partners }
-
 -- kind and index, if a live node has the number
 abbrev pub kind_at : List (Option (Kind × ℕ)) → ℕ → Option (Kind × ℕ)
 kind_at nodes n = slice_index_or nodes n None

@@ -11,3 +11,5 @@ pub mod Joins
 pub mod Rewired
 pub mod Replace
 pub mod Indexes
+pub mod Scans
+pub mod Linking

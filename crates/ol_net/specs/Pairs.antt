@@ -1,12 +1,10 @@
 -- Facing pairs, active where they have a rule and stuck where they have none.
-use Rattle.std.specs.Prelude.{◌≡◌, ℕ, ◌<◌, List, [], ◌∷◌, length, None, Some, ◌⊎◌, ◌↔◌}
+use Rattle.std.specs.Prelude.{◌≡◌, ℕ, List, [], ◌∷◌, length, None, Some, ◌⊎◌, ◌↔◌}
 use Rattle.ol_edges.specs.Edges.{IsIn}
 use Rattle.ol_net.specs.declared.parts.Kind.{Kind}
 use Rattle.ol_net.specs.declared.parts.Rule.{Rule}
 use Rattle.ol_net.specs.Rules.{rule_of}
-use Rattle.ol_net.specs.Graph.{Graph}
 use Rattle.ol_net.specs.Nets.{NamedNet, Faces}
-use Rattle.ol_net.specs.Numbered.{net_of}
 
 -- f, which acts, faces g, and r is the rule of the two
 pub record IsActive {A : Type 0} (N : NamedNet A) (f g : A) (r : Rule) : Type 0 where
@@ -26,10 +24,6 @@ pub record IsStuck {A : Type 0} (N : NamedNet A) (f g : A) : Type 0 where
   pub faces : Faces N f g k i l j
   pub first : rule_of k i l j ≡ None
   pub second : rule_of l j k i ≡ None
-
--- the node is in a stuck pair with one of a greater number
-abbrev pub IsLesserOfStuck : Graph → ℕ → Type 0
-IsLesserOfStuck g x = (y : ℕ) × (x < y) × IsStuck (net_of g) x y
 
 -- x is one of the two nodes of an active pair with rule r
 abbrev pub IsInActive : {A : Type 0} → NamedNet A → A → Rule → Type 0

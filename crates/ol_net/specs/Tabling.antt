@@ -7,7 +7,8 @@ use Rattle.ol_net.specs.declared.parts.Port.{Port}
 use Rattle.ol_net.specs.declared.parts.BuildFault.{BuildFault}
 use Rattle.ol_net.specs.declared.parts.BuildFault.TheVariants.{BadIndex, BadPort, Twice, Loose, NoMemory}
 use Rattle.ol_net.specs.Graph.{has_port, place, port_at}
-use Rattle.ol_net.specs.Pairing.{IsPaired, other, partner_among}
+use Rattle.ol_net.specs.Pairing.{IsPaired, other}
+use Rattle.ol_net.specs.Linking.{partner_among}
 use Rattle.ol_net.specs.Build.{FirstOf, NoneOf, BadIndexAt, BadPortAt, TwiceAt, FaultIs, IsFirstLoose, all_live}
 
 -- the links by the places of their ports

@@ -2,8 +2,10 @@
 
 ghost use Rattle.std.specs.Prelude.{◌≡◌, ◌≢◌, ℕ, ◌+◌, ◌-◌, ◌*◌, ◌/◌, ◌%◌, ◌^◌, ◌<◌, ◌≤◌, length, true, false, List, slice_index, slice_set, vec_len, IfNone, IfOk, IsTrue, ◌↔◌, ◌==◌, ◌&&◌, if◌then◌else◌, not};
 ghost use Rattle.ol_net.specs.Graph.{has_port, place, IsTabled};
-ghost use Rattle.ol_net.specs.Pairing.{IsPaired, other, linked, linked_if, can_link};
-ghost use Rattle.ol_net.specs.Build.{FindsFirst, NoneOf, is_bad_index, BadIndexAt, BadPortAt, all_live};
+ghost use Rattle.ol_net.specs.Pairing.{IsPaired, other};
+ghost use Rattle.ol_net.specs.Linking.{linked, linked_if, can_link};
+ghost use Rattle.ol_net.specs.Build.{NoneOf, is_bad_index, BadIndexAt, BadPortAt, all_live};
+ghost use Rattle.ol_net.specs.Scans.{FindsFirst};
 ghost use Rattle.ol_net.specs.Tabling.{MeetsAt, AreAllLinked, places, FindsAlone, GivesTable, GivesTables};
 
 use crate::graph::{is_port, place_of, port_of};

@@ -1,9 +1,11 @@
 //! What the nodes of a net are to those that they face.
 
 ghost use Rattle.std.specs.Prelude.{◌≡◌, ℕ, ◌+◌, ◌*◌, ◌^◌, ◌<◌, ◌≤◌, length, true, ◌↔◌};
-ghost use Rattle.ol_net.specs.Graph.{Graph, IsTabled, graph_of, facing_at};
+ghost use Rattle.ol_net.specs.Graph.{Graph, IsTabled, facing_at};
+ghost use Rattle.ol_net.specs.Scans.{graph_of};
 ghost use Rattle.ol_net.specs.Numbered.{net_of};
-ghost use Rattle.ol_net.specs.Pairs.{IsLesserOfStuck, HasStuck};
+ghost use Rattle.ol_net.specs.Pairs.{HasStuck};
+ghost use Rattle.ol_net.specs.Scans.{IsLesserOfStuck};
 
 use crate::graph::{kind_in, partner_in};
 use crate::parts::{Facing, Kind, NodeId, Port, facing_of};

@@ -8,7 +8,8 @@ use Rattle.ol_parse.specs.Grammar.{Named}
 use Rattle.ol_parse.specs.Texts.{IsText, IsRefusedAt}
 use Rattle.ol_parse.specs.Numbered.{number, names_of}
 use Rattle.ol_parse.specs.Depth.{named_depth}
-use Rattle.ol_parse.specs.Parsed.{AreNames, IsFileOf, IsTooDeep, IsFault}
+use Rattle.ol_parse.specs.Parsed.{AreNames, IsFileOf, IsTooDeep}
+use Rattle.ol_parse.specs.Refusals.{IsFault}
 use Rattle.ol_parse.specs.declared.faults.ParseFault.{ParseFault}
 use Rattle.ol_parse.specs.declared.faults.ParseFault.TheVariants.{NoMemory, Syntax, Depth}
 use Rattle.ol_parse.proofs.Words.{names_good}

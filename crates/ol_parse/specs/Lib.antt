@@ -10,3 +10,4 @@ pub mod Depth
 pub mod Numbered
 pub mod Resolving
 pub mod Parsed
+pub mod Refusals

@@ -2,10 +2,8 @@
 use Rattle.std.specs.Prelude.{◌≡◌, ℕ, ◌<◌, List, [], ◌∷◌}
 use Rattle.ol_term.specs.Trees.{Tree, depth}
 use Rattle.ol_parse.specs.Grammar.{Named}
-use Rattle.ol_parse.specs.Texts.{IsName, IsText, IsRefusedAt}
+use Rattle.ol_parse.specs.Texts.{IsName, IsText}
 use Rattle.ol_parse.specs.Numbered.{names_of, number}
-use Rattle.ol_parse.specs.declared.faults.ParseFault.{ParseFault}
-use Rattle.ol_parse.specs.declared.faults.ParseFault.TheVariants.{NoMemory, Syntax, Depth}
 
 -- the bytes are a text of a term with names, and this is its tree with its free names
 pub record IsFileOf (bytes : List ℕ) (t : Tree) (names : List (List ℕ)) : Type 0 where
@@ -21,11 +19,6 @@ pub record IsTooDeep (bytes : List ℕ) (d : ℕ) : Type 0 where
   pub file : IsFileOf bytes tree names
   pub is : d ≡ depth tree
   pub above : 1000 < d
-
-abbrev pub IsFault : List ℕ → ParseFault → Type 0
-IsFault text NoMemory = Unit {0}
-IsFault text (Syntax at) = IsRefusedAt text at
-IsFault text (Depth d) = IsTooDeep text d
 
 abbrev pub AreNames : List (List ℕ) → Type 0
 AreNames [] = Unit {0}

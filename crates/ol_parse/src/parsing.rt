@@ -3,7 +3,8 @@
 ghost use Rattle.std.specs.Prelude.{◌≡◌, ◌≢◌, ℕ, ◌≤◌, ◌<◌, ◌↔◌, true, length, List, Err, IsOk, IfOk, IfErr};
 ghost use Rattle.ol_term.specs.Trees.{Tree, tree_of, depth, EachOccurs};
 ghost use Rattle.ol_parse.specs.Texts.{IsRefusedAt};
-ghost use Rattle.ol_parse.specs.Parsed.{AreNames, IsFileOf, IsTooDeep, IsFault};
+ghost use Rattle.ol_parse.specs.Parsed.{AreNames, IsFileOf, IsTooDeep};
+ghost use Rattle.ol_parse.specs.Refusals.{IsFault};
 
 use crate::bytes::read;
 use crate::depths::depth_of;

@@ -24,10 +24,6 @@ fresh_hand pool number = record {
 abbrev pub IsOf : HandState → PoolState → Type 0
 IsOf hand pool = hand.pool ≡ pool
 
--- a pool with these two numbers
-abbrev pub pool_of : ℕ → ℕ → PoolState
-pool_of hands cells = record { hands = hands; cells = cells }
-
 -- each hand of a pool in the order of their numbers, none of which made a call yet
 abbrev pub AreDealt : PoolState → ℕ → List HandState → Type 0
 AreDealt pool n hands = (k : ℕ) → k < n → slice_get hands k ≡ Some (fresh_hand pool k)

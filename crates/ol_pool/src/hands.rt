@@ -1,6 +1,7 @@
 //! Hands: what a worker holds of a pool.
 ghost use Rattle.std.specs.Prelude.{◌≡◌, ℕ, ◌<◌, IfOk, Some, slice_get, vec_len};
-ghost use Rattle.ol_pool.specs.Pools.{fresh_hand, AreDealt, pool_of};
+ghost use Rattle.ol_pool.specs.Pools.{fresh_hand, AreDealt};
+ghost use Rattle.ol_pool.specs.Bounds.{pool_of};
 
 use ol_io::NoMemory;
 use std::alloc::Global;

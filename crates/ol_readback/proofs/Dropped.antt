@@ -4,7 +4,8 @@ use Rattle.ol_context.specs.Contexts.{Level}
 use Rattle.ol_context.specs.Shapes.{value, Extends}
 use Rattle.ol_context.proofs.Shapes.{extends_refl}
 use Rattle.ol_readback.specs.Heads.{answer_of, IsHeldHead}
-use Rattle.ol_readback.specs.Asking.{KeepsFirst, IsUnchangedUnlessFound}
+use Rattle.ol_readback.specs.Asking.{IsUnchangedUnlessFound}
+use Rattle.ol_readback.specs.Searches.{KeepsFirst}
 use Rattle.ol_readback.specs.declared.answers.Head.{Head}
 use Rattle.ol_readback.specs.declared.answers.Head.TheVariants.{Is, NoHead, Budget}
 

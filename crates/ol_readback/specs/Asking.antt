@@ -1,6 +1,6 @@
 -- What asking a frame answers. The net is that of graph g, and old are the values of the frames fs before the call, new those
 -- after it.
-use Rattle.std.specs.Prelude.{◌≡◌, ◌≢◌, ◌↔◌, ℕ, ◌*◌, ◌≤◌, List, take}
+use Rattle.std.specs.Prelude.{◌≡◌, ◌≢◌, ◌↔◌, ℕ, ◌*◌, ◌≤◌, List}
 use Rattle.ol_net.specs.Graph.{Graph}
 use Rattle.ol_net.specs.Numbered.{net_of}
 use Rattle.ol_context.specs.Contexts.{Level}
@@ -11,10 +11,6 @@ use Rattle.ol_readback.specs.Sources.{MeetsRing}
 use Rattle.ol_readback.specs.declared.answers.Head.{Head}
 use Rattle.ol_readback.specs.declared.answers.Head.TheVariants as head
 use Rattle.ol_readback.specs.declared.frames.Frame.{Frame}
-
--- it is what frame i has within so many crossings
-abbrev pub IsAsked : Graph → List Level → List Frame → ℕ → ℕ → List Level → Head → Type 0
-IsAsked g old fs i edges new h = IsHeadWithin (net_of g) (frames_of old fs) i edges (answer_of new h)
 
 -- each answer comes exactly where frame i has it within so many crossings
 abbrev pub IsAnswer : Graph → List Level → List Frame → ℕ → ℕ → List Level → Head → Type 0
@@ -32,12 +28,6 @@ IsLostIfNoHead g old fs i h = h ≡ head.NoHead → HasNoFacing (net_of g) → I
 abbrev pub IsRingIfBudget : Graph → List Level → List Frame → ℕ → ℕ → Head → Type 0
 IsRingIfBudget g old fs i edges h =
     h ≡ head.Budget → HasNoFacing (net_of g) → 2 * live (net_of g) ≤ edges → MeetsRing (net_of g) (frame_at (frames_of old fs) i) edges
-
--- the values after a call that answers h: all of them where a head was found, else the first ones alone, as many
-abbrev pub KeepsFirst : ℕ → List Level → List Level → Head → Type 0
-KeepsFirst count old new (head.Is lams v args at) = new ≡ old
-KeepsFirst count old new head.NoHead = new ≡ take count old
-KeepsFirst count old new head.Budget = new ≡ take count old
 
 -- where no head was found there are no new values
 abbrev pub IsUnchangedUnlessFound : List Level → List Level → Head → Type 0

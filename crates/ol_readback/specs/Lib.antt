@@ -14,3 +14,4 @@ pub mod Skipping
 pub mod Laws
 pub mod Terms
 pub mod PrintedLaws
+pub mod Searches

@@ -5,7 +5,8 @@ ghost use Rattle.ol_context.specs.Shapes.{Extends};
 ghost use Rattle.ol_readback.specs.Frames.{frames_of, ParentsFirst, AreHeldFrames, AreAtPorts};
 ghost use Rattle.ol_readback.specs.Heads.{IsHeldHead};
 ghost use Rattle.ol_readback.specs.Skipping.{AreSkipsOf};
-ghost use Rattle.ol_readback.specs.Asking.{IsAsked, IsAnswer, IsHeadIfFound, IsLostIfNoHead, IsRingIfBudget, KeepsFirst, IsUnchangedUnlessFound};
+ghost use Rattle.ol_readback.specs.Asking.{IsAnswer, IsHeadIfFound, IsLostIfNoHead, IsRingIfBudget, IsUnchangedUnlessFound};
+ghost use Rattle.ol_readback.specs.Searches.{IsAsked, KeepsFirst};
 
 use crate::answers::Head;
 use crate::frames::Frame;

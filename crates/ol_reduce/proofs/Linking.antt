@@ -5,7 +5,8 @@ use Rattle.ol_net.specs.declared.parts.Kind.{Kind}
 use Rattle.ol_net.specs.declared.parts.Kind.TheVariants.{Eraser}
 use Rattle.ol_net.specs.Parts.{arity}
 use Rattle.ol_net.specs.Nets.{NamedPort, free, slot, NamedNet, HasNode, Linked}
-use Rattle.ol_net.specs.Pairing.{other, linked}
+use Rattle.ol_net.specs.Pairing.{other}
+use Rattle.ol_net.specs.Linking.{linked}
 use Rattle.ol_net.proofs.Tables.{other-past, other-linked, length-linked}
 use Rattle.ol_rules.specs.declared.journal.NodeName.{NodeName}
 use Rattle.ol_wire.specs.declared.layout.Parts.{Parts}

@@ -4,7 +4,8 @@ use Rattle.std.proofs.lemmas.Bool.{cases_eq, cases_lt}
 use Rattle.ol_edges.specs.Edges.{IsIn, here, on}
 use Rattle.ol_net.specs.declared.parts.Kind.{Kind}
 use Rattle.ol_net.specs.Nets.{NamedPort, free, slot, NamedNet, Linked}
-use Rattle.ol_net.specs.Pairing.{other, linked}
+use Rattle.ol_net.specs.Pairing.{other}
+use Rattle.ol_net.specs.Linking.{linked}
 use Rattle.ol_rules.specs.declared.journal.NodeName.{NodeName}
 use Rattle.ol_wire.specs.declared.layout.Parts.{Parts}
 use Rattle.ol_wire.specs.References.{node_ref, wire_ref, IsNodeRef}

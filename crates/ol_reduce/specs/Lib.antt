@@ -8,3 +8,4 @@ pub mod Reduced
 pub mod Found
 pub mod Linked
 pub mod Used
+pub mod TurnEnds

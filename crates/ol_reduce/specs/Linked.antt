@@ -1,6 +1,6 @@
 -- What the steps that find a net's links ask and leave: of the words, the nodes that are left, and the net so far.
 use Rattle.std.specs.Prelude.{◌≡◌, ◌≢◌, ℕ, ◌+◌, ◌-◌, ◌*◌, ◌<◌, List, length, slice_index, slice_set, Bool, if◌then◌else◌, ◌++◌, [], ◌∷◌}
-use Rattle.ol_net.specs.Pairing.{linked}
+use Rattle.ol_net.specs.Linking.{linked}
 use Rattle.ol_wire.specs.Layout.{cells_of}
 use Rattle.ol_wire.specs.Closed.{ClosedTable}
 use Rattle.ol_reduce.specs.declared.live.Live.{Live}

@@ -39,13 +39,6 @@ HasSwept b v n = HasTurned b.plan.parts v (cells_below (cells_of b.plan.parts)) 
 abbrev pub HasSweptToSpent : Board → View → View → Type 0
 HasSweptToSpent b v n = (c : ℕ) × HasSpent b.plan.parts v (cells_below c) c n
 
--- one turn on cell c answered Spent, or another answer
-abbrev pub IsSpentTurn : Board → View → ℕ → View → Type 0
-IsSpentTurn b v c n = IsTurn b.plan.parts v c Spent n
-
-abbrev pub IsOtherTurn : Board → View → ℕ → View → Type 0
-IsOtherTurn b v c n = (t : Turn) × IsTurn b.plan.parts v c t n × (t ≢ Spent)
-
 -- turns of a seat on some cells, of which none answered Spent, or just the last one
 abbrev pub HasWorked : Board → Stand → Stand → Type 0
 HasWorked b v n = (cells : List ℕ) × HasTurned b.plan.parts v.view cells n.view

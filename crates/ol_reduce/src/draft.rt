@@ -2,7 +2,8 @@
 ghost use Rattle.std.specs.Prelude.{◌≡◌, ℕ, ◌+◌, ◌*◌, ◌<◌, ◌≤◌, length, slice_set, vec_len, IfOk};
 ghost use Rattle.ol_net.specs.Build.{Builds};
 ghost use Rattle.ol_net.specs.Graph.{port_at};
-ghost use Rattle.ol_net.specs.Pairing.{other, linked};
+ghost use Rattle.ol_net.specs.Pairing.{other};
+ghost use Rattle.ol_net.specs.Linking.{linked};
 ghost use Rattle.ol_reduce.specs.Drafts.{frozen_top, links_below, IsComplete, all_links, AreWithin, StayWithin, AreFew, IsBuilt};
 
 use ol_io::NoMemory;

@@ -1,7 +1,7 @@
 //! The net that the words of a closed table stand for.
 ghost use Rattle.std.specs.Prelude.{◌≡◌, ◌≢◌, ℕ, Bool, List, ◌+◌, ◌-◌, ◌*◌, ◌<◌, ◌≤◌, length, slice_index, slice_set, IfOk, OnOk};
 ghost use Rattle.ol_net.specs.Nets.{NamedNet};
-ghost use Rattle.ol_net.specs.Pairing.{linked};
+ghost use Rattle.ol_net.specs.Linking.{linked};
 ghost use Rattle.ol_rules.specs.declared.journal.NodeName.{NodeName};
 ghost use Rattle.ol_wire.specs.Layout.{size, cells_of};
 ghost use Rattle.ol_wire.specs.Closed.{EachAfter};

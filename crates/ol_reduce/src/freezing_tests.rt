@@ -1,7 +1,7 @@
 //! Small nets, laid out, rewritten or not, and frozen.
 ghost use Rattle.std.specs.Prelude.{◌≡◌, ◌<◌, ◌≤◌, IfOk};
 ghost use Rattle.ol_wire.specs.Stand.{IsFresh, IsOf};
-ghost use Rattle.ol_wire.specs.Views.{IsIdle};
+ghost use Rattle.ol_wire.specs.Idle.{IsIdle};
 
 use crate::freeze;
 use ol_net::{Kind, Net, NodeId, Port};

@@ -2,7 +2,8 @@
 ghost use Rattle.std.specs.Prelude.{◌≡◌, ◌≢◌, ℕ, ◌<◌, IsTrue, IsFalse};
 ghost use Rattle.ol_wire.specs.Layout.{cells_of};
 ghost use Rattle.ol_wire.specs.Stand.{IsOf};
-ghost use Rattle.ol_reduce.specs.Turned.{cells_below, IsTurn, HasTurned, HasSpent, HasSwept, HasSweptToSpent, IsSpentTurn, IsOtherTurn};
+ghost use Rattle.ol_reduce.specs.Turned.{cells_below, IsTurn, HasTurned, HasSpent, HasSwept, HasSweptToSpent};
+ghost use Rattle.ol_reduce.specs.TurnEnds.{IsSpentTurn, IsOtherTurn};
 
 use crate::answers::Sweep;
 use ol_wire::{Seat, Shared, Turn};

@@ -12,7 +12,7 @@ use Rattle.ol_net.specs.Indexes.{HasIndexes}
 use Rattle.ol_net.specs.Replace.{MayBeBorn, top_index_of, Replaces}
 use Rattle.ol_net.proofs.Indexes.{top_is_top}
 use Rattle.ol_rules.specs.Rewriting.{crossing}
-use Rattle.ol_rules.specs.Listed.{copies, born_of, crossing_joins}
+use Rattle.ol_rules.specs.BornLists.{copies, born_of, crossing_joins}
 use Rattle.ol_rules.proofs.Lists.{got}
 
 -- only an eraser, which has no auxiliary port, acts on an eraser

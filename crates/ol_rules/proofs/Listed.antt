@@ -9,7 +9,8 @@ use Rattle.ol_net.specs.Parts.{arity}
 use Rattle.ol_net.specs.Nets.{NamedPort, slot, NamedNet, HasNode}
 use Rattle.ol_net.specs.Replace.{JoinsOf, IsBorn, port_of_end}
 use Rattle.ol_rules.specs.Rewriting.{Action, meeting, crossing, JoinOf, meet, at_f, at_g, between, NodeOf, left, of_f, of_g}
-use Rattle.ol_rules.specs.Listed.{each, copies, born_of, meeting_joins, crossing_joins, joins_of}
+use Rattle.ol_rules.specs.Listed.{each}
+use Rattle.ol_rules.specs.BornLists.{copies, born_of, meeting_joins, crossing_joins, joins_of}
 use Rattle.ol_edges.proofs.Lists.{in_left, in_right, in_cases, only}
 use Rattle.ol_rules.proofs.Lists.{in_each, in_each_of, get_copy, get_behind, got}
 

@@ -3,7 +3,8 @@ use Rattle.std.proofs.Common.{◌≡◌, ℕ, zero, suc, ◌+◌, ◌<◌, List,
 use Rattle.std.specs.Prelude.{slice_get}
 use Rattle.ol_edges.specs.Edges.{IsIn}
 use Rattle.ol_edges.proofs.Lists.{in_left, in_right, in_cases}
-use Rattle.ol_rules.specs.Listed.{each, copies}
+use Rattle.ol_rules.specs.Listed.{each}
+use Rattle.ol_rules.specs.BornLists.{copies}
 
 pub in_each : {X : Type 0} (x : X) (n : ℕ) (rows : ℕ → List X) (s : ℕ) → s < n → IsIn x (rows s) → IsIn x (each n rows)
 in_each x zero rows s b h = absurd (omega arith)

@@ -18,7 +18,7 @@ use Rattle.ol_net.specs.Numbered.{net_of}
 use Rattle.ol_net.specs.Replace.{Replaces, JoinsOf, IsBorn}
 use Rattle.ol_rules.specs.Rewriting.{Action, meeting, crossing, action_of, index_after, is_meeting, JoinOf, NodeOf, left, Rewrites}
 use Rattle.ol_rules.specs.Steps.{births, StepsAt}
-use Rattle.ol_rules.specs.Listed.{copies, born_of, joins_of}
+use Rattle.ol_rules.specs.BornLists.{copies, born_of, joins_of}
 use Rattle.ol_rules.proofs.Lists.{length_copies}
 use Rattle.ol_rules.proofs.Listed.{listed, of_list, of_births, in_births}
 

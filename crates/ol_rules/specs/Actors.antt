@@ -7,7 +7,7 @@ use Rattle.ol_net.specs.Graph.{Graph, facing_at, kind_at}
 use Rattle.ol_net.specs.Parts.{arity}
 use Rattle.ol_net.specs.Replace.{AreFacing, Replaces}
 use Rattle.ol_rules.specs.Rewriting.{Action, action_of}
-use Rattle.ol_rules.specs.Listed.{born_of, joins_of}
+use Rattle.ol_rules.specs.BornLists.{born_of, joins_of}
 use Rattle.ol_rules.specs.Steps.{IsUnpaired}
 use Rattle.ol_rules.specs.declared.steps.Pair.{Pair}
 

@@ -8,3 +8,4 @@ pub mod Runs
 pub mod Laws
 pub mod Running
 pub mod Contracting
+pub mod BornLists

@@ -9,7 +9,7 @@ ghost use Rattle.ol_net.specs.Parts.{arity};
 ghost use Rattle.ol_net.specs.Rules.{rule_of};
 ghost use Rattle.ol_net.specs.Replace.{MayAllBeBorn};
 ghost use Rattle.ol_rules.specs.Rewriting.{meeting, crossing};
-ghost use Rattle.ol_rules.specs.Listed.{born_of};
+ghost use Rattle.ol_rules.specs.BornLists.{born_of};
 ghost use Rattle.ol_rules.specs.Actors.{IsFacing, FindsPair, action_in, IsRewritten};
 ghost use Rattle.ol_rules.specs.Steps.{IsUnpaired, StepsAt};
 ghost use Rattle.ol_rules.specs.declared.steps.StepFault.TheVariants.{NotActive};

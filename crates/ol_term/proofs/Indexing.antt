@@ -9,7 +9,8 @@ use Rattle.std.specs.Ordering.{match_ordering, nat_cmp, is_eq}
 use Rattle.std.specs.declared.cmp.Ordering.{Ordering}
 use Rattle.std.specs.Cmp.Lexicographic.{slice_cmp}
 use Rattle.ol_term.specs.NameLists.{IsFirstPlace, AreDifferent}
-use Rattle.ol_term.specs.NameIndexes.{by_bytes, found, IsIndexed}
+use Rattle.ol_term.specs.NameIndexes.{by_bytes}
+use Rattle.ol_term.specs.NameFinds.{found, IsIndexed}
 
 pub below_added : (names more : List (List ℕ)) (j : ℕ) → j < length names → slice_get (names ++ more) j ≡ slice_get names j
 below_added [] more j h = absurd (omega arith)

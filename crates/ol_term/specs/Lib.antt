@@ -7,3 +7,4 @@ pub mod BinderNumbers
 pub mod Texts
 pub mod Printing
 pub mod Generated
+pub mod NameFinds

@@ -4,7 +4,8 @@ ghost use Rattle.std.specs.Prelude.{◌≡◌, ◌≢◌, ℕ, ◌+◌, ◌^◌,
 ghost use Rattle.std.specs.BTreeMap.{insert_entry};
 ghost use Rattle.std.specs.Option.{option_map};
 ghost use Rattle.ol_term.specs.NameLists.{IsFirstPlace, AreDifferent};
-ghost use Rattle.ol_term.specs.NameIndexes.{IsIndexed, found, by_bytes};
+ghost use Rattle.ol_term.specs.NameIndexes.{by_bytes};
+ghost use Rattle.ol_term.specs.NameFinds.{IsIndexed, found};
 
 use ol_io::NoMemory;
 use std::alloc::Global;

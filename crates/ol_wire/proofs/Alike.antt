@@ -2,7 +2,8 @@
 use Rattle.std.proofs.Common.{◌≡◌, ℕ, ◌+◌, ◌<◌, Bool, true, false, ◌&&◌, nat_eq, eq-eqb, eqb-true, List, [], ◌∷◌, ◌++◌, ◌⊎◌, inl, inr, refl, sym, ap, ◌∙◌, arith}
 use Rattle.std.proofs.lemmas.Bool.{cases_eq}
 use Rattle.ol_edges.specs.Edges.{IsIn, Near, Joined, here, on, back, EdgeOf, ends, bit}
-use Rattle.ol_wire.specs.Weights.{total, pairs, Even}
+use Rattle.ol_wire.specs.Weights.{total, pairs}
+use Rattle.ol_wire.specs.EvenWeights.{Even}
 
 abbrev pub Alike : List (ℕ × ℕ) → List (ℕ × ℕ) → Type 0
 Alike es fs = (h : ℕ → ℕ → ℕ) → Even h → pairs h es ≡ pairs h fs

@@ -11,7 +11,8 @@ use Rattle.ol_wire.specs.declared.view.Link.{Link}
 use Rattle.ol_wire.specs.References.{kind_in, index_in, node_ref, wire_ref, slot_ref}
 use Rattle.ol_wire.specs.Layout.{place_of, born_wire}
 use Rattle.ol_wire.specs.Events.{Event}
-use Rattle.ol_wire.specs.Blocks.{copies_of_f, copies_of_g, born_field, joins_in, link_of, links_of}
+use Rattle.ol_wire.specs.Blocks.{copies_of_f, copies_of_g, born_field}
+use Rattle.ol_wire.specs.LinkLists.{joins_in, link_of, links_of}
 use Rattle.ol_wire.specs.Edges.{edge_to, links_in}
 use Rattle.ol_wire.specs.Weights.{pairs}
 use Rattle.ol_wire.proofs.Alike.{pairs_append}

@@ -13,7 +13,8 @@ use Rattle.ol_wire.specs.declared.layout.Parts.{Parts}
 use Rattle.ol_wire.specs.References.{node_ref, slot_ref, IsRef}
 use Rattle.ol_wire.specs.Layout.{start_wire, block, place_of, born_wire, IsPlaced}
 use Rattle.ol_wire.specs.Events.{Event, rule_between, event_of, acting}
-use Rattle.ol_wire.specs.Blocks.{copies_of_f, copies_of_g, born_field, links_of}
+use Rattle.ol_wire.specs.Blocks.{copies_of_f, copies_of_g, born_field}
+use Rattle.ol_wire.specs.LinkLists.{links_of}
 use Rattle.ol_wire.specs.Edges.{edge_to, links_in}
 use Rattle.ol_wire.specs.Stands.{Stands}
 use Rattle.ol_wire.proofs.Alike.{Alike}

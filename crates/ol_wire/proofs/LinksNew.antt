@@ -16,7 +16,8 @@ use Rattle.ol_wire.specs.declared.view.Link.{Link}
 use Rattle.ol_wire.specs.References.{node_ref, wire_ref, slot_ref, kind_in, index_in}
 use Rattle.ol_wire.specs.Layout.{place_of, born_wire}
 use Rattle.ol_wire.specs.Events.{Event}
-use Rattle.ol_wire.specs.Blocks.{copies_of_f, copies_of_g, born_ref, born_field, joins_in, link_of, links_of}
+use Rattle.ol_wire.specs.Blocks.{copies_of_f, copies_of_g, born_field}
+use Rattle.ol_wire.specs.LinkLists.{born_ref, joins_in, link_of, links_of}
 use Rattle.ol_wire.specs.Edges.{edge_to, links_in}
 use Rattle.ol_wire.proofs.References.{kind_of_ref, index_of_ref}
 use Rattle.ol_wire.proofs.Event.{born_edges, new_edges}

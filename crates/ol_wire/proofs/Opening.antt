@@ -28,8 +28,9 @@ use Rattle.ol_wire.specs.Starts.{AreParts}
 use Rattle.ol_wire.specs.Events as events
 use Rattle.ol_wire.specs.Edges.{is_wire_made, is_made, is_reached, deaths, edge_in, edges_in, edges_of}
 use Rattle.ol_wire.specs.Stands.{Stands}
-use Rattle.ol_wire.specs.Rule.{Table, Kept, PlanKeeps, JournalKeeps, WordsKeep, CellsKeep, SeatsKeep, IsView, filled, opener}
-use Rattle.ol_wire.specs.Laid.{IsLaid}
+use Rattle.ol_wire.specs.Rule.{Table, Kept, PlanKeeps, JournalKeeps, WordsKeep, CellsKeep, SeatsKeep, IsView, filled}
+use Rattle.ol_wire.specs.Openings.{opener}
+use Rattle.ol_wire.specs.LaidWords.{IsLaid}
 use Rattle.ol_wire.proofs.Places.{part_wire, is_wire}
 use Rattle.ol_wire.proofs.OpeningEnds.{live_start}
 use Rattle.ol_wire.proofs.OpeningSites.{Given}

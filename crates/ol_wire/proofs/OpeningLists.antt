@@ -7,7 +7,8 @@ use Rattle.ol_rules.specs.Listed.{each}
 use Rattle.ol_wire.specs.declared.layout.Parts.{Parts}
 use Rattle.ol_wire.specs.Layout.{port_word, start_node, start_wire, start_cell, block, size}
 use Rattle.ol_wire.specs.Starts.{facing_pairs, aux_links}
-use Rattle.ol_wire.specs.Laid.{node_word, word_of_port, field_of, port_row, field_row, cell_words, IsLaid}
+use Rattle.ol_wire.specs.Laid.{node_word, field_of}
+use Rattle.ol_wire.specs.LaidWords.{word_of_port, port_row, field_row, cell_words, IsLaid}
 use Rattle.ol_wire.proofs.OpeningWords.{wires_few}
 use Rattle.std.proofs.lemmas.Option.{slice_get_within}
 

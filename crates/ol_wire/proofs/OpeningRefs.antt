@@ -15,7 +15,8 @@ use Rattle.ol_wire.specs.References.{node_ref, wire_ref, index_in, place_in, IsN
 use Rattle.ol_wire.specs.Layout.{part_of, port_word, start_node, start_wire, start_cell}
 use Rattle.ol_wire.specs.Layout as part
 use Rattle.ol_wire.specs.Starts.{facing_pairs}
-use Rattle.ol_wire.specs.Laid.{node_word, word_to, field_to, wire_number}
+use Rattle.ol_wire.specs.Laid.{node_word, field_to, wire_number}
+use Rattle.ol_wire.specs.LaidWords.{word_to}
 use Rattle.ol_wire.specs.Rule.{IsMadeRef}
 use Rattle.ol_wire.proofs.References.{kind_of_ref, index_of_ref, place_of_ref, place_of_wire, node_sort, wire_sort}
 use Rattle.ol_wire.proofs.Places.{part_port, part_field, part_start_cell}

@@ -17,7 +17,8 @@ use Rattle.ol_wire.specs.Layout.{Part, part_of, port_word, start_node, start_wir
 use Rattle.ol_wire.specs.Layout as part
 use Rattle.ol_wire.specs.Edges.{is_live, edge_to, edge_in}
 use Rattle.ol_wire.specs.Starts.{facing_pairs, aux_links}
-use Rattle.ol_wire.specs.Laid.{node_word, word_to, field_to, word_of_port, field_of, wire_number, IsLaid}
+use Rattle.ol_wire.specs.Laid.{node_word, field_to, field_of, wire_number}
+use Rattle.ol_wire.specs.LaidWords.{word_to, word_of_port, IsLaid}
 use Rattle.ol_wire.proofs.Places.{part_port, part_field, part_start_cell}
 use Rattle.ol_wire.proofs.OpeningPorts.{free_inside, of_inside}
 use Rattle.ol_wire.proofs.OpeningWords.{sooner, not_sooner, not_zero}

@@ -12,7 +12,8 @@ use Rattle.ol_wire.specs.declared.layout.Parts.{Parts}
 use Rattle.ol_wire.specs.References.{wire_ref}
 use Rattle.ol_wire.specs.Layout.{start_node, start_wire}
 use Rattle.ol_wire.specs.Starts.{wire_with, wire_at}
-use Rattle.ol_wire.specs.Laid.{wires_before, field_to, field_of, cell_words, HasFields}
+use Rattle.ol_wire.specs.Laid.{wires_before, field_to, field_of}
+use Rattle.ol_wire.specs.LaidWords.{cell_words, HasFields}
 use Rattle.ol_wire.proofs.OpeningPorts.{partner_node}
 
 pub each_more : {X : Type 0} (rows : ℕ → List X) (n m : ℕ) → m ≡ suc n → each m rows ≡ each n rows ++ rows n

@@ -6,9 +6,10 @@ use Rattle.atomic_table.specs.Table.{step, keeps, Allows}
 use Rattle.atomic_table.proofs.Lists.{set_again}
 use Rattle.ol_wire.specs.declared.plan.Plan.{Plan}
 use Rattle.ol_wire.specs.declared.view.View.{View}
-use Rattle.ol_wire.specs.Plays.{Seated}
+use Rattle.ol_wire.specs.StepPlays.{Seated}
 use Rattle.ol_wire.specs.Rule.{Kept, KnowsPlan}
-use Rattle.ol_wire.specs.Moments.{Moment, MomentWith, sees}
+use Rattle.ol_wire.specs.Moments.{Moment}
+use Rattle.ol_wire.specs.Looking.{MomentWith, sees}
 
 -- a view knows one plan
 one_plan : (p q : Plan) (v : View) → KnowsPlan p v → KnowsPlan q v → p ≡ q

@@ -13,8 +13,9 @@ use Rattle.ol_wire.specs.declared.view.View.{View}
 use Rattle.ol_wire.specs.References.{node_ref, kind_in, place_in}
 use Rattle.ol_wire.specs.Weights.{total}
 use Rattle.ol_wire.specs.Layout.{left, part_of, place_of, size, left_word, cells_of}
-use Rattle.ol_wire.specs.Views.{past_fuel, IsIdle}
-use Rattle.ol_wire.specs.Plays.{Seated, cell_in_hand, returned, missing, holding, paired, knowing, ticketed, late, wrote, IsNodeOf, IsRefOf, IsLookedUp, claims, pairs_up, draws, writes}
+use Rattle.ol_wire.specs.Views.{past_fuel}
+use Rattle.ol_wire.specs.Idle.{IsIdle}
+use Rattle.ol_wire.specs.StepPlays.{Seated, cell_in_hand, returned, missing, holding, paired, knowing, ticketed, late, wrote, IsNodeOf, IsRefOf, IsLookedUp, claims, pairs_up, draws, writes}
 use Rattle.ol_wire.specs.TurnPlays.{reads, returns}
 use Rattle.ol_wire.specs.Rule.{Table, Kept, IsLasting}
 use Rattle.ol_wire.proofs.References.{kind_of_ref, place_of_ref}

@@ -14,7 +14,8 @@ use Rattle.ol_wire.specs.Layout.{field, left, part_of, size}
 use Rattle.ol_wire.specs.Edges.{is_reached, is_made, times, edges_of, edges_in, pending_in}
 use Rattle.ol_wire.specs.Stands.{Stands}
 use Rattle.ol_wire.specs.Views.{past_fuel, IsSpent}
-use Rattle.ol_wire.specs.Plays.{fewer, one_seat, cell_at}
+use Rattle.ol_wire.specs.Plays.{cell_at}
+use Rattle.ol_wire.specs.StepPlays.{fewer, one_seat}
 use Rattle.ol_wire.specs.Rule.{KnowsPlan, Table, Kept, WordsKeep, CellsKeep, SeatsKeep, IsView, IsLasting, IsOwn, IsRightOf, IsMadeRef, IsInOwnBlock, links_at, IsLinkedField}
 use Rattle.ol_wire.proofs.StepsKeep.{IsSwept}
 use Rattle.core.specs.Prelude.{slice_get}

@@ -14,11 +14,13 @@ use Rattle.ol_wire.specs.declared.view.View.{View}
 use Rattle.ol_wire.specs.References.{kind_in, index_in, place_in}
 use Rattle.ol_wire.specs.Layout.{block, born_cell}
 use Rattle.ol_wire.specs.Events.{Event, rule_between, entry_of}
-use Rattle.ol_wire.specs.Blocks.{born_ref, block_words, to_write, joins_in, link_of, links_of}
-use Rattle.ol_wire.specs.Plays.{IsNodeOf, IsRefOf, IsLookedUp, known_at, event_in, ticketed, late, rest, cell_at, cell_in_hand, swept_on}
+use Rattle.ol_wire.specs.Blocks.{block_words}
+use Rattle.ol_wire.specs.LinkLists.{born_ref, to_write, joins_in, link_of, links_of}
+use Rattle.ol_wire.specs.Plays.{event_in, cell_at, swept_on}
+use Rattle.ol_wire.specs.StepPlays.{IsNodeOf, IsRefOf, IsLookedUp, known_at, ticketed, late, rest, cell_in_hand}
 use Rattle.ol_wire.specs.Rewrites.{event_for}
 use Rattle.ol_wire.specs.Sizes.{IsSmall}
-use Rattle.ol_wire.specs.Hands.{in_hand, IsInHand, IsOfPair, IsSure, AreFields, AreRefs, fields_known, Rewrote}
+use Rattle.ol_wire.specs.InHand.{in_hand, IsInHand, IsOfPair, IsSure, AreFields, AreRefs, fields_known, Rewrote}
 use Rattle.ol_edges.proofs.Lists.{in_left, in_right}
 use Rattle.ol_rules.proofs.Born.{at_most_two}
 use Rattle.ol_wire.proofs.Event.{event_sides}

@@ -17,9 +17,11 @@ use Rattle.ol_wire.specs.Layout.{field, left, part_of, size, left_word}
 use Rattle.ol_wire.specs.Edges.{is_reached, is_made, deaths, times, edges_of, edges_in, pending_in}
 use Rattle.ol_wire.specs.Events.{IsStuckPair}
 use Rattle.ol_wire.specs.Stands.{Stands}
-use Rattle.ol_wire.specs.Views.{past_fuel, IsSpent, IsIdle}
+use Rattle.ol_wire.specs.Views.{past_fuel, IsSpent}
+use Rattle.ol_wire.specs.Idle.{IsIdle}
 use Rattle.ol_wire.specs.Plays.{joined, cell_at}
-use Rattle.ol_wire.specs.LinkPlays.{spent_view, times_drawn}
+use Rattle.ol_wire.specs.LinkPlays.{times_drawn}
+use Rattle.ol_wire.specs.LinkSteps.{spent_view}
 use Rattle.ol_wire.specs.Rule.{KnowsPlan, Table, Kept, WordsKeep, CellsKeep, SeatsKeep, IsView, IsLasting, IsOwn, IsMadeRef, IsRightOf, IsInOwnBlock, links_at, IsLinkedField, entries_of}
 use Rattle.ol_wire.proofs.Alike.{total_append}
 use Rattle.ol_wire.proofs.StepsLists.{total_set, each_set, pending_set, one_below}

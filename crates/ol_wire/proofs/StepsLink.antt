@@ -14,11 +14,12 @@ use Rattle.ol_wire.specs.declared.view.Link.{Link}
 use Rattle.ol_wire.specs.declared.view.View.{View}
 use Rattle.ol_wire.specs.References.{wire_ref, IsNodeRef, IsRef}
 use Rattle.ol_wire.specs.Layout.{left, right, part_of, start_cell, born_cell, block, size, left_word, cells_of}
-use Rattle.ol_wire.specs.Weights.{pairs, Even}
+use Rattle.ol_wire.specs.Weights.{pairs}
+use Rattle.ol_wire.specs.EvenWeights.{Even}
 use Rattle.ol_wire.specs.Edges.{is_reached, is_made, deaths, times, edge_to, edges_of, edges_in, pending_in, links_in}
 use Rattle.ol_wire.specs.Stands.{Stands, IsEnd}
-use Rattle.ol_wire.specs.Plays.{rest, relinked, linked, moved}
-use Rattle.ol_wire.specs.LinkPlays.{IsBetween, spread}
+use Rattle.ol_wire.specs.StepPlays.{rest, relinked, linked, moved}
+use Rattle.ol_wire.specs.LinkSteps.{IsBetween, spread}
 use Rattle.ol_wire.specs.Rule.{Table, Kept, IsView, IsMadeRef, IsRightOf, links_at, filled}
 use Rattle.ol_wire.proofs.References.{wire_sort}
 use Rattle.ol_wire.proofs.Places.{is_left, part_cell}

@@ -12,8 +12,8 @@ use Rattle.ol_wire.specs.declared.view.Link.{Link}
 use Rattle.ol_wire.specs.declared.view.View.{View}
 use Rattle.ol_wire.specs.References.{wire_ref, place_in, IsNodeRef, IsWireRef}
 use Rattle.ol_wire.specs.Layout.{size}
-use Rattle.ol_wire.specs.Plays.{Seated, linked, moved, knowing, publishing, IsRefOf}
-use Rattle.ol_wire.specs.LinkPlays.{IsBetween, spread, links, places, publishes, counts}
+use Rattle.ol_wire.specs.StepPlays.{Seated, linked, moved, knowing, publishing, IsRefOf}
+use Rattle.ol_wire.specs.LinkSteps.{IsBetween, spread, links, places, publishes, counts}
 use Rattle.ol_wire.specs.Rule.{Kept, IsMadeRef}
 use Rattle.ol_wire.proofs.StepsLinkSites.{wire_whole, ref_of_end}
 use Rattle.ol_wire.proofs.StepsLink.{other_made, other_end, empty_keeps, found_keeps, found_made, found_end, found_spread}

@@ -15,7 +15,7 @@ use Rattle.ol_wire.specs.Layout.{Part, ticket, port, field, wire, between, left,
 use Rattle.ol_wire.specs.Events.{Event}
 use Rattle.ol_wire.specs.Edges.{crosses_at, is_reached, is_made, is_wire_made, deaths, edge_to, edges_of, edges_in, pending_in, links_in}
 use Rattle.ol_wire.specs.Stands.{IsEnd, of_port, principal, auxiliary, IsWireEnd}
-use Rattle.ol_wire.specs.Plays.{IsNodeOf, IsRefOf}
+use Rattle.ol_wire.specs.StepPlays.{IsNodeOf, IsRefOf}
 use Rattle.ol_wire.specs.Rule.{Table, Kept, IsView, IsOwn, IsLasting, IsMadeRef}
 use Rattle.ol_wire.proofs.References.{node_sort, slot_sort, wire_sort, wire_same, kind_of_ref, index_of_ref, place_of_ref}
 use Rattle.ol_wire.proofs.Places.{part_port, is_wire, is_between, place_before}

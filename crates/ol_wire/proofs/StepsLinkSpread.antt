@@ -2,7 +2,7 @@
 use Rattle.std.proofs.Common.{◌≡◌, ◌≢◌, ℕ, zero, suc, ◌+◌, ◌<◌, ◌≤◌, nat_eq, eq-eqb, ne_eqb, if◌then◌else◌, List, [], ◌∷◌, ◌++◌, refl, ap, inl, inr, arith}
 use Rattle.std.proofs.lemmas.Bool.{cases_eq}
 use Rattle.ol_wire.specs.Edges.{times}
-use Rattle.ol_wire.specs.LinkPlays.{spread}
+use Rattle.ol_wire.specs.LinkSteps.{spread}
 use Rattle.ol_wire.proofs.Alike.{total_append}
 
 abbrev pub one_if : ℕ → ℕ → ℕ

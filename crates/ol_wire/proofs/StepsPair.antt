@@ -18,7 +18,8 @@ use Rattle.ol_wire.specs.Layout.{Part, ticket, port, field, wire, between, left,
 use Rattle.ol_wire.specs.Events.{Event, rule_between}
 use Rattle.ol_wire.specs.Edges.{is_reached, is_made, is_wire_made, edges_in, edges_of, pending_in}
 use Rattle.ol_wire.specs.Stands.{IsEnd, of_port, principal, auxiliary, IsWireEnd}
-use Rattle.ol_wire.specs.Plays.{IsNodeOf, IsRefOf, IsLookedUp, event_in}
+use Rattle.ol_wire.specs.Plays.{event_in}
+use Rattle.ol_wire.specs.StepPlays.{IsNodeOf, IsRefOf, IsLookedUp}
 use Rattle.ol_wire.specs.Rule.{Table, IsView, Kept}
 use Rattle.ol_wire.proofs.References.{kind_of_ref, index_of_ref, place_of_ref, place_of_wire, node_sort, slot_sort}
 use Rattle.ol_wire.proofs.Places.{place_before, is_wire, is_between, part_field}

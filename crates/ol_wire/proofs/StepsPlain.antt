@@ -10,8 +10,8 @@ use Rattle.ol_wire.specs.declared.plan.Plan.{Plan}
 use Rattle.ol_wire.specs.declared.view.View.{View}
 use Rattle.ol_wire.specs.Weights.{pairs, weigh}
 use Rattle.ol_wire.specs.Layout.{Part, left, part_of, size, left_word, cells_of}
-use Rattle.ol_wire.specs.Views.{IsIdle}
-use Rattle.ol_wire.specs.Plays.{missing, holding, paired, knowing, late, wrote, rest}
+use Rattle.ol_wire.specs.Idle.{IsIdle}
+use Rattle.ol_wire.specs.StepPlays.{missing, holding, paired, knowing, late, wrote, rest}
 use Rattle.ol_wire.specs.Rule.{Table, Kept, Drawn, IsLasting}
 use Rattle.ol_wire.proofs.Places.{is_left}
 use Rattle.ol_wire.proofs.Held.{held_within, held_empty}

@@ -13,7 +13,8 @@ use Rattle.ol_wire.specs.Layout.{left, right, part_of, block, size, left_word}
 use Rattle.ol_wire.specs.Weights.{pairs}
 use Rattle.ol_wire.specs.Edges.{is_reached, is_made, deaths, times, edges_of, edges_in, pending_in, links_in}
 use Rattle.ol_wire.specs.Stands.{Stands}
-use Rattle.ol_wire.specs.Plays.{rest, knowing, publishing, cell_at}
+use Rattle.ol_wire.specs.Plays.{cell_at}
+use Rattle.ol_wire.specs.StepPlays.{rest, knowing, publishing}
 use Rattle.ol_wire.specs.Rule.{Table, Kept, IsView, IsLasting, IsOwn, IsRightOf, filled}
 use Rattle.ol_wire.proofs.Places.{is_left}
 use Rattle.ol_wire.proofs.Alike.{Alike, total_append, pairs_append}

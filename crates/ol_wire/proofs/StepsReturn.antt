@@ -8,7 +8,8 @@ use Rattle.ol_wire.specs.declared.view.View.{View}
 use Rattle.ol_wire.specs.Weights.{pairs}
 use Rattle.ol_wire.specs.Layout.{left, part_of, size, left_word, cells_of}
 use Rattle.ol_wire.specs.Events.{rule_between}
-use Rattle.ol_wire.specs.Plays.{returned, rest, cell_at, cell_in_hand, swept_on}
+use Rattle.ol_wire.specs.Plays.{cell_at, swept_on}
+use Rattle.ol_wire.specs.StepPlays.{returned, rest, cell_in_hand}
 use Rattle.ol_wire.specs.Rule.{Table, Kept, Drawn}
 use Rattle.ol_wire.proofs.Held.{held_within, held_empty}
 use Rattle.ol_wire.proofs.StepsLists.{weigh_set}

@@ -11,7 +11,8 @@ use Rattle.ol_wire.specs.declared.view.Link.{Link}
 use Rattle.ol_wire.specs.declared.view.View.{View}
 use Rattle.ol_wire.specs.Layout.{Part, left, part_of, left_word, cells_of}
 use Rattle.ol_wire.specs.Events.{IsStuckPair}
-use Rattle.ol_wire.specs.Plays.{is_stuck, cell_at, swept_on}
+use Rattle.ol_wire.specs.Plays.{cell_at, swept_on}
+use Rattle.ol_wire.specs.StepPlays.{is_stuck}
 use Rattle.ol_wire.specs.Rule.{Table, Kept, IsView, IsOwn}
 use Rattle.ol_wire.proofs.Places.{is_left, cell_of_left}
 use Rattle.ol_wire.proofs.Held.{Holds, owner, two_at}

@@ -8,13 +8,15 @@ use Rattle.ol_wire.specs.declared.view.Link.{Link}
 use Rattle.ol_wire.specs.declared.view.View.{View}
 use Rattle.ol_wire.specs.Layout.{left_word, cells_of}
 use Rattle.ol_wire.specs.Events.{Event, rule_between, event_of, entry_of, acting}
-use Rattle.ol_wire.specs.Plays.{IsNodeOf, is_stuck, cell_at, swept_on, event_in, returned}
+use Rattle.ol_wire.specs.Plays.{cell_at, swept_on, event_in}
+use Rattle.ol_wire.specs.StepPlays.{IsNodeOf, is_stuck, returned}
 use Rattle.ol_wire.specs.declared.rewrite.Rewrite.{Rewrite}
 use Rattle.ol_wire.specs.Rewrites.{event_for}
-use Rattle.ol_wire.specs.Views.{IsIdle}
-use Rattle.ol_wire.specs.Blocks.{links_of}
-use Rattle.ol_wire.specs.Hands as hands
-use Rattle.ol_wire.specs.Hands.{claiming, in_hand, IsStuckLast, IsActiveLast, AreRefs}
+use Rattle.ol_wire.specs.Idle.{IsIdle}
+use Rattle.ol_wire.specs.LinkLists.{links_of}
+use Rattle.ol_wire.specs.InHand as hands
+use Rattle.ol_wire.specs.Hands.{claiming, IsStuckLast, IsActiveLast}
+use Rattle.ol_wire.specs.InHand.{in_hand, AreRefs}
 use Rattle.ol_wire.specs.Turns.{FoundActive, HasCause, masked, Leaves}
 use Rattle.ol_wire.specs.TurnParts.{Begins, IsBegun, AreLinked}
 use Rattle.ol_wire.proofs.Places.{cell_of_left}

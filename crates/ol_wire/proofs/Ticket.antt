@@ -19,8 +19,10 @@ use Rattle.ol_wire.specs.Layout.{block, place_of, size, born_wire}
 use Rattle.ol_wire.specs.Weights.{pairs}
 use Rattle.ol_wire.specs.Events.{Event}
 use Rattle.ol_wire.specs.Edges.{edges_in, edges_of, pending_in, links_in, deaths, times, is_reached}
-use Rattle.ol_wire.specs.Blocks.{copies_of_f, copies_of_g, links_of, block_words}
-use Rattle.ol_wire.specs.Plays.{event_in, IsLookedUp, ticketed}
+use Rattle.ol_wire.specs.Blocks.{copies_of_f, copies_of_g, block_words}
+use Rattle.ol_wire.specs.LinkLists.{links_of}
+use Rattle.ol_wire.specs.Plays.{event_in}
+use Rattle.ol_wire.specs.StepPlays.{IsLookedUp, ticketed}
 use Rattle.ol_wire.specs.Rule.{Table, Kept}
 use Rattle.ol_wire.proofs.References.{kind_of_ref, index_of_ref, place_of_ref}
 use Rattle.ol_wire.proofs.Alike.{Alike, pairs_append}

@@ -17,8 +17,9 @@ use Rattle.ol_wire.specs.Layout.{left, part_of, block, place_of, born_cell, left
 use Rattle.ol_wire.specs.Weights.{total}
 use Rattle.ol_wire.specs.Edges.{times}
 use Rattle.ol_wire.specs.Events.{Event, rule_between, acting, event_of, IsStuckPair}
-use Rattle.ol_wire.specs.Blocks.{joins_in, link_of, links_of}
-use Rattle.ol_wire.specs.Plays.{cell_at, cell_in_hand, swept_on, event_in, IsLookedUp, ticketed}
+use Rattle.ol_wire.specs.LinkLists.{joins_in, link_of, links_of}
+use Rattle.ol_wire.specs.Plays.{cell_at, swept_on, event_in}
+use Rattle.ol_wire.specs.StepPlays.{cell_in_hand, IsLookedUp, ticketed}
 use Rattle.ol_wire.specs.Rule.{Table, IsView, IsMadeRef, IsRightOf, Kept, CellsKeep, links_at, times_published, filled}
 use Rattle.ol_wire.proofs.References.{index_of_ref}
 use Rattle.ol_wire.proofs.Alike.{total_append}

@@ -22,8 +22,10 @@ use Rattle.ol_wire.specs.References.{kind_in, index_in, node_ref, wire_ref}
 use Rattle.ol_wire.specs.Layout.{field, entry, part_of, block, place_of, born_wire}
 use Rattle.ol_wire.specs.Events.{Event}
 use Rattle.ol_wire.specs.Edges.{links_in}
-use Rattle.ol_wire.specs.Blocks.{copies_of_f, copies_of_g, born_ref, born_field, block_words, joins_in, link_of, links_of}
-use Rattle.ol_wire.specs.Plays.{event_in, IsLookedUp, ticketed}
+use Rattle.ol_wire.specs.Blocks.{copies_of_f, copies_of_g, born_field, block_words}
+use Rattle.ol_wire.specs.LinkLists.{born_ref, joins_in, link_of, links_of}
+use Rattle.ol_wire.specs.Plays.{event_in}
+use Rattle.ol_wire.specs.StepPlays.{IsLookedUp, ticketed}
 use Rattle.ol_wire.specs.Rule.{Table, IsView, Kept, IsLinkedField}
 use Rattle.ol_wire.proofs.Claimed.{not_pending}
 use Rattle.ol_wire.proofs.Places.{part_entry, part_field}

@@ -6,7 +6,7 @@ use lib.ListN.{get_elem?}
 use Rattle.atomic_table.proofs.Lists.{at_set}
 use Rattle.ol_edges.specs.Edges.{IsIn}
 use Rattle.ol_wire.specs.Weights.{total, pairs, numbered, weigh, Empties}
-use Rattle.ol_wire.specs.Blocks.{to_write}
+use Rattle.ol_wire.specs.LinkLists.{to_write}
 
 module _ {A : Type 0} (g : A → ℕ) where
   pub total_set : (l : List A) (j : ℕ) (v w : A) → get_elem? l j ≡ some v → total g (set l j w) + g v ≡ total g l + g w

@@ -12,7 +12,8 @@ use Rattle.ol_wire.specs.declared.layout.Parts.{Parts}
 use Rattle.ol_wire.specs.References.{kind_in, index_in, place_in, node_ref, wire_ref, IsRef, IsWhole}
 use Rattle.ol_wire.specs.Layout.{block, place_of, born_wire}
 use Rattle.ol_wire.specs.Events.{Event, rule_between, acting, event_of}
-use Rattle.ol_wire.specs.Blocks.{copies_of_f, copies_of_g, born_ref, born_field, block_words, joins_in, link_of}
+use Rattle.ol_wire.specs.Blocks.{copies_of_f, copies_of_g, born_field, block_words}
+use Rattle.ol_wire.specs.LinkLists.{born_ref, joins_in, link_of}
 use Rattle.ol_wire.specs.Rule.{IsMadeRef}
 use Rattle.ol_wire.proofs.References.{node_sort, wire_sort, kind_of_ref, index_of_ref, place_of_ref, place_of_wire}
 use Rattle.ol_wire.proofs.TicketJournal.{length_one_more}

@@ -20,7 +20,8 @@ use Rattle.ol_wire.specs.Weights.{total, pairs, numbered}
 use Rattle.ol_wire.specs.Events.{Event, entry_of}
 use Rattle.ol_wire.specs.Edges.{crosses_at, is_wire_made, is_made, times, deaths}
 use Rattle.ol_wire.specs.Blocks.{block_words}
-use Rattle.ol_wire.specs.Plays.{event_in, IsLookedUp, ticketed}
+use Rattle.ol_wire.specs.Plays.{event_in}
+use Rattle.ol_wire.specs.StepPlays.{IsLookedUp, ticketed}
 use Rattle.ol_wire.specs.Views.{IsSpent}
 use Rattle.ol_wire.specs.Rule.{KnowsPlan, Table, IsView, IsOwn, IsInOwnBlock, Kept, SeatsKeep, entries_of, IsLinkedField, JournalKeeps}
 use Rattle.ol_wire.proofs.Alike.{pairs_append}

@@ -15,8 +15,10 @@ use Rattle.ol_wire.specs.References.{kind_in, place_in, IsNodeRef}
 use Rattle.ol_wire.specs.Layout.{ticket, field, left, right, entry, part_of, block, size, place_of, start_cell, start_node}
 use Rattle.ol_wire.specs.Weights.{total, pairs, weigh, Empties}
 use Rattle.ol_wire.specs.Events.{Event}
-use Rattle.ol_wire.specs.Blocks.{block_words, to_write, links_of}
-use Rattle.ol_wire.specs.Plays.{rest, known_at, event_in, IsLookedUp, ticketed}
+use Rattle.ol_wire.specs.Blocks.{block_words}
+use Rattle.ol_wire.specs.LinkLists.{to_write, links_of}
+use Rattle.ol_wire.specs.Plays.{event_in}
+use Rattle.ol_wire.specs.StepPlays.{rest, known_at, IsLookedUp, ticketed}
 use Rattle.ol_wire.specs.Starts.{facing_pairs}
 use Rattle.ol_wire.specs.Laid.{field_of, node_word}
 use Rattle.ol_wire.specs.Rule.{Table, IsView, IsLasting, IsMadeRef, Kept, WordsKeep, Drawn}

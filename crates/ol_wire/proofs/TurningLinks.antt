@@ -14,8 +14,10 @@ use Rattle.ol_wire.specs.References.{kind_in, index_in, node_ref, IsNodeRef}
 use Rattle.ol_net.specs.declared.parts.Kind.{Kind}
 use Rattle.ol_rules.specs.declared.journal.NodeName.TheVariants.{Born}
 use Rattle.ol_wire.specs.Layout.{block, born_cell, place_of, start_cell}
-use Rattle.ol_wire.specs.Blocks.{copies_of_f, born_ref, joins_in, link_of}
-use Rattle.ol_wire.specs.Plays.{IsRefOf, cell_at, moved, rest}
+use Rattle.ol_wire.specs.Blocks.{copies_of_f}
+use Rattle.ol_wire.specs.LinkLists.{born_ref, joins_in, link_of}
+use Rattle.ol_wire.specs.Plays.{cell_at}
+use Rattle.ol_wire.specs.StepPlays.{IsRefOf, moved, rest}
 use Rattle.ol_wire.specs.Rewrites.{event_for}
 use Rattle.ol_wire.specs.Links.{link_between, IsEndOf, IsNext, AreNext, IsLinked}
 use Rattle.ol_wire.specs.Turns.{masked}

@@ -10,7 +10,8 @@ use Rattle.ol_rules.proofs.Born.{at_most_two}
 use Rattle.ol_wire.specs.declared.layout.Parts.{Parts}
 use Rattle.ol_wire.specs.References.{node_ref, wire_ref, slot_ref}
 use Rattle.ol_wire.specs.Layout.{Part, ticket, port, field, wire, between, left, right, entry, part_of, size, place_of, IsPlaced}
-use Rattle.ol_wire.specs.Weights.{total, pairs, Even}
+use Rattle.ol_wire.specs.Weights.{total, pairs}
+use Rattle.ol_wire.specs.EvenWeights.{Even}
 use Rattle.ol_wire.specs.Edges.{is_live, edge_to, edge_in, edges_in}
 use Rattle.ol_wire.proofs.Places.{part_field, is_left, place_before, place_same, At, at_ticket, at_port, at_field, at_wire, at_between, at_left, at_right, at_entry, at_past, where_is}
 use Rattle.ol_wire.proofs.Alike.{Alike, pairs_append}

@@ -10,7 +10,7 @@ use Rattle.ol_wire.specs.declared.view.View.{View}
 use Rattle.ol_wire.specs.Layout.{size}
 use Rattle.ol_wire.specs.Sizes.{IsSmall}
 use Rattle.ol_wire.specs.Closed.{ClosedTable, closed_of}
-use Rattle.ol_wire.specs.Views.{IsIdle}
+use Rattle.ol_wire.specs.Idle.{IsIdle}
 use Rattle.ol_wire.specs.Rule.{Table, Kept}
 use Rattle.std.specs.declared.alloc.Global.{Global}
 

@@ -25,3 +25,12 @@ pub mod Hands
 pub mod Turns
 pub mod TurnParts
 pub mod Rewrites
+pub mod LinkLists
+pub mod InHand
+pub mod LaidWords
+pub mod LinkSteps
+pub mod Looking
+pub mod StepPlays
+pub mod Openings
+pub mod Idle
+pub mod EvenWeights

@@ -5,8 +5,9 @@ use Rattle.ol_wire.specs.declared.view.Link.{Link}
 use Rattle.ol_wire.specs.declared.view.View.{View}
 use Rattle.ol_wire.specs.References.{place_in, IsNodeRef, IsWireRef}
 use Rattle.ol_wire.specs.Layout.{size}
-use Rattle.ol_wire.specs.LinkPlays.{IsBetween, spread}
-use Rattle.ol_wire.specs.Plays.{cell_at, rest, IsRefOf, linked, moved}
+use Rattle.ol_wire.specs.LinkSteps.{IsBetween, spread}
+use Rattle.ol_wire.specs.Plays.{cell_at}
+use Rattle.ol_wire.specs.StepPlays.{rest, IsRefOf, linked, moved}
 use Rattle.ol_wire.specs.Stand.{Board}
 
 abbrev pub link_between : ℕ → ℕ → ℕ → Link

@@ -2,7 +2,7 @@
 use Rattle.std.specs.Prelude.{◌≡◌, ◌≢◌, ℕ, suc, ◌+◌, ◌<◌, ◌≤◌, ◌==◌, ◌⊎◌, true, nat_eq, if◌then◌else◌, List, [], length, map, is_some, count_by, Some, slice_index, slice_get}
 use mathlib.Core.Option.{some}
 use lib.ListN.{get_elem?}
-use Rattle.atomic_table.specs.Table.{State, opening}
+use Rattle.atomic_table.specs.Table.{State}
 use Rattle.ol_edges.specs.Edges.{IsIn, bit}
 use Rattle.ol_net.specs.declared.parts.Kind.{Kind}
 use Rattle.ol_net.specs.Nets.{NamedNet, HasNode, IsNet}
@@ -28,7 +28,6 @@ use Rattle.ol_wire.specs.Edges.{is_made, is_reached, times, deaths, edges_of, li
 use Rattle.ol_wire.specs.Stands.{Stands}
 use Rattle.ol_wire.specs.Views.{fresh, IsSpent, past_fuel}
 use Rattle.ol_wire.specs.Plays.{cell_at}
-use Rattle.ol_net.specs.Graph.{Graph}
 
 abbrev pub Table : Type 0
 Table = State (Unit {0}) View
@@ -202,10 +201,6 @@ pub record SeatsKeep (p : Plan) (s : Table) (log : List Event) (net : NamedNet N
   -- a wire is dead in one view at most, and only where it was made
   pub dead : (w : ℕ) → deaths w s.views ≤ bit (is_made p.parts log w)
 
--- a view that has done nothing, of a seat that holds all
-abbrev pub opener : Plan → View
-opener p = fresh p.parts p.start.value p.seats p.seats
-
 -- The rule.
 pub record Kept (p : Plan) (s : Table) : Type 0 where
   pub log : List Event
@@ -220,8 +215,3 @@ pub record Kept (p : Plan) (s : Table) : Type 0 where
   pub seats : SeatsKeep p s log net
   -- the edges of the words and of the pending links stand for the net
   pub stands : Stands p.parts net (is_reached p.parts log s.views) (edges_of p.parts net log full s.views)
-
--- the words of a net with these parts meet the rule, whatever number of seats up to 64 is made over them
-abbrev pub Opens : Graph → Parts → List ℕ → Type 0
-Opens net z words = (p : Plan) → p.parts ≡ z → p.start.value ≡ net → 0 < p.seats → p.seats ≤ 64
-    → Kept p (opening words [] (opener p))

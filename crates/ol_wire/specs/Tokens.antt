@@ -3,9 +3,10 @@ use Rattle.std.specs.Prelude.{◌≡◌, ◌<◌, ℕ, Bool, [], ◌≤◌}
 use Rattle.atomic_table.specs.Seated.{TableId}
 use Rattle.ol_wire.specs.declared.plan.Plan.{Plan}
 use Rattle.ol_wire.specs.declared.view.View.{View}
-use Rattle.ol_wire.specs.Views.{fresh, IsIdle}
+use Rattle.ol_wire.specs.Views.{fresh}
+use Rattle.ol_wire.specs.Idle.{IsIdle}
 use Rattle.atomic_table.specs.declared.shared.Seat.{Seat}
-use Rattle.ol_wire.specs.Plays.{Seated}
+use Rattle.ol_wire.specs.StepPlays.{Seated}
 use Rattle.ol_wire.specs.Layout.{size, cells_of}
 use Rattle.ol_wire.specs.Sizes.{IsSmall}
 use Rattle.ol_wire.specs.declared.layout.Parts.{Parts}

@@ -6,11 +6,12 @@ use Rattle.ol_wire.specs.declared.turning.Begun.{Begun}
 use Rattle.ol_wire.specs.declared.turning.Turn.{Turn}
 use Rattle.ol_wire.specs.Layout.{left_word, born_cell}
 use Rattle.ol_wire.specs.Events.{rule_between}
-use Rattle.ol_wire.specs.Blocks.{links_of, link_of}
-use Rattle.ol_wire.specs.Plays.{IsNodeOf, event_in}
+use Rattle.ol_wire.specs.LinkLists.{links_of, link_of}
+use Rattle.ol_wire.specs.Plays.{event_in}
+use Rattle.ol_wire.specs.StepPlays.{IsNodeOf}
 use Rattle.ol_wire.specs.Rewrites.{event_for}
-use Rattle.ol_wire.specs.Hands as hands
-use Rattle.ol_wire.specs.Hands.{in_hand, AreRefs}
+use Rattle.ol_wire.specs.InHand as hands
+use Rattle.ol_wire.specs.InHand.{in_hand, AreRefs}
 use Rattle.ol_wire.specs.declared.rewrite.Rewrite.{Rewrite}
 use Rattle.ol_wire.specs.Stand.{Board}
 use Rattle.ol_wire.specs.Links.{link_between}

@@ -1,7 +1,7 @@
 -- What two more steps of a turn tell: the look at a field, and the step that puts a claimed pair back.
 use Rattle.std.specs.Prelude.{◌≡◌, ℕ}
 use Rattle.ol_edges.specs.Edges.{IsIn}
-use Rattle.ol_wire.specs.Plays.{Play, looks, returned}
+use Rattle.ol_wire.specs.StepPlays.{Play, looks, returned}
 
 -- a look that agrees with what the seat knows of that word already
 abbrev pub reads : Play

@@ -23,10 +23,6 @@ fresh z net seats holds = record {
   start = net;
 }
 
--- it holds no pair, no word and no link
-abbrev pub IsIdle : View → Type 0
-IsIdle v = (v.taken ≡ []) × (v.due ≡ []) × (v.pending ≡ [])
-
 -- there is nothing in it: its seat was joined to another
 abbrev pub IsSpent : View → Type 0
 IsSpent v = v ≡ fresh v.parts v.start v.seats 0

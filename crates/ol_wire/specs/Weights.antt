@@ -22,10 +22,6 @@ weigh h words (suc n) = weigh h words n + h n (slice_index words n)
 abbrev pub Empties : (ℕ → ℕ → ℕ) → Type 0
 Empties h = (k : ℕ) → h k 0 ≡ 0
 
--- an edge weighs the same from either end
-abbrev pub Even : (ℕ → ℕ → ℕ) → Type 0
-Even h = (x y : ℕ) → h x y ≡ h y x
-
 -- the pairs are the members of the list, each under its number
 abbrev pub AreNumbered : {A : Type 0} → List (ℕ × A) → List A → Type 0
 AreNumbered {A} xs ys = (h : ℕ → A → ℕ) → pairs h xs ≡ numbered h 0 ys

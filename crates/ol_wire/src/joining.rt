@@ -4,7 +4,7 @@ ghost use Rattle.ol_wire.specs.LinkPlays.{times_drawn};
 ghost use Rattle.ol_wire.specs.Plays.{joined};
 ghost use Rattle.ol_wire.specs.Stand.{IsOf};
 ghost use Rattle.ol_wire.specs.Tokens.{IsTokenOf, IsSameSeat};
-ghost use Rattle.ol_wire.specs.Views.{IsIdle};
+ghost use Rattle.ol_wire.specs.Idle.{IsIdle};
 
 use crate::law::{Counts, Joins};
 use crate::seat::{Seat, Token};

@@ -1,9 +1,11 @@
 //! The rule of the table, and what each kind of step tells.
-ghost use Rattle.ol_wire.specs.Rule.{Kept, opener};
-ghost use Rattle.ol_wire.specs.Plays.{claims, pairs_up, draws, writes, fewer, one_seat, joined};
+ghost use Rattle.ol_wire.specs.Rule.{Kept};
+ghost use Rattle.ol_wire.specs.Openings.{opener};
+ghost use Rattle.ol_wire.specs.Plays.{joined};
+ghost use Rattle.ol_wire.specs.StepPlays.{claims, pairs_up, draws, writes, fewer, one_seat};
 ghost use Rattle.ol_wire.specs.TurnPlays.{reads, returns};
-ghost use Rattle.ol_wire.specs.LinkPlays.{links, places, publishes, counts, spent_view};
-ghost use Rattle.ol_wire.specs.Moments.{sees};
+ghost use Rattle.ol_wire.specs.LinkSteps.{links, places, publishes, counts, spent_view};
+ghost use Rattle.ol_wire.specs.Looking.{sees};
 
 use crate::plan::Plan;
 use crate::view::View;

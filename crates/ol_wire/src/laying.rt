@@ -6,9 +6,11 @@ ghost use Rattle.ol_wire.specs.Layout.{port_word, start_node, size};
 ghost use Rattle.ol_wire.specs.Sizes.{IsSmall, IsSmallNet};
 ghost use Rattle.ol_wire.specs.Starts.{AreParts, aux_links, facing_pairs, pair_at};
 ghost use Rattle.atomic_table.specs.Table.{opening};
-ghost use Rattle.ol_wire.specs.Rule.{Kept, opener, Opens};
+ghost use Rattle.ol_wire.specs.Rule.{Kept};
+ghost use Rattle.ol_wire.specs.Openings.{opener, Opens};
 ghost use Rattle.ol_wire.specs.declared.plan.Plan.{Plan};
-ghost use Rattle.ol_wire.specs.Laid.{node_word, word_of_port, wires_before, field_of, cell_words, port_row, field_row, HasFields, IsLaid, Gains, field_rows, cell_row, cell_rows};
+ghost use Rattle.ol_wire.specs.Laid.{node_word, wires_before, field_of};
+ghost use Rattle.ol_wire.specs.LaidWords.{word_of_port, cell_words, port_row, field_row, HasFields, IsLaid, Gains, field_rows, cell_row, cell_rows};
 
 use crate::layout::{BLOCK, Parts};
 use crate::reference::{node_ref, wire_ref};

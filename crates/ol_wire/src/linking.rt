@@ -4,9 +4,9 @@ ghost use Rattle.std.specs.Prelude.{◌≡◌, ◌≢◌, ℕ, suc, ◌+◌, ◌
 ghost use Rattle.ol_wire.specs.References.{index_in, place_in, IsNodeRef, IsWireRef};
 ghost use Rattle.ol_wire.specs.Events.{rule_between};
 ghost use Rattle.ol_wire.specs.Layout.{size, born_cell};
-ghost use Rattle.ol_wire.specs.Blocks.{joins_in, link_of};
-ghost use Rattle.ol_wire.specs.Plays.{IsRefOf, linked, moved, publishing};
-ghost use Rattle.ol_wire.specs.LinkPlays.{spread};
+ghost use Rattle.ol_wire.specs.LinkLists.{joins_in, link_of};
+ghost use Rattle.ol_wire.specs.StepPlays.{IsRefOf, linked, moved, publishing};
+ghost use Rattle.ol_wire.specs.LinkSteps.{spread};
 ghost use Rattle.ol_wire.specs.Rewrites.{event_for};
 ghost use Rattle.ol_wire.specs.Sizes.{IsSmall};
 ghost use Rattle.ol_wire.specs.Tokens.{IsTokenOf, IsSameSeat};

@@ -5,7 +5,8 @@ ghost use Rattle.ol_rules.specs.Rewriting.{is_meeting, index_after};
 ghost use Rattle.ol_wire.specs.References.{kind_in, index_in, place_in};
 ghost use Rattle.ol_wire.specs.Events.{rule_between, event_of, earlier, later, IsStuckPair};
 ghost use Rattle.ol_wire.specs.Layout.{block, born_wire};
-ghost use Rattle.ol_wire.specs.Blocks.{copies_of_f, copies_of_g, joins_in, born_ref, born_field, block_words};
+ghost use Rattle.ol_wire.specs.Blocks.{copies_of_f, copies_of_g, born_field, block_words};
+ghost use Rattle.ol_wire.specs.LinkLists.{joins_in, born_ref};
 ghost use Rattle.ol_wire.specs.Rewrites.{event_for, IsRewriteFor};
 ghost use Rattle.ol_wire.specs.Sizes.{IsSmall};
 

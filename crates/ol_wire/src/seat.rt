@@ -1,10 +1,10 @@
 //! The seat with which a thread steps on a table.
 ghost use Rattle.std.specs.Prelude.{◌≡◌, ◌<◌, ◌≤◌, [], false};
 ghost use Rattle.ol_wire.specs.Layout.{cells_of};
-ghost use Rattle.ol_wire.specs.Plays.{fewer, one_seat};
+ghost use Rattle.ol_wire.specs.StepPlays.{fewer, one_seat};
 ghost use Rattle.ol_wire.specs.Stand.{Stand};
 ghost use Rattle.ol_wire.specs.Tokens.{IsAtRest};
-ghost use Rattle.ol_wire.specs.Views.{IsIdle};
+ghost use Rattle.ol_wire.specs.Idle.{IsIdle};
 
 use crate::law::Cut;
 use crate::shared::Shared;

@@ -1,6 +1,7 @@
 //! A look at the whole table, by a seat.
 ghost use Rattle.std.specs.Prelude.{◌≡◌, ℕ, length};
-ghost use Rattle.ol_wire.specs.Moments.{Moment, MomentWith};
+ghost use Rattle.ol_wire.specs.Moments.{Moment};
+ghost use Rattle.ol_wire.specs.Looking.{MomentWith};
 ghost use Rattle.ol_wire.specs.Stand.{IsOf};
 ghost use Rattle.ol_wire.specs.Tokens.{IsTokenOf, IsSameSeat};
 

@@ -4,11 +4,12 @@ ghost use Rattle.ol_edges.specs.Edges.{IsIn};
 ghost use Rattle.ol_net.specs.Parts.{arity};
 ghost use Rattle.ol_wire.specs.References.{kind_in, place_in};
 ghost use Rattle.ol_wire.specs.Layout.{size, left_word, cells_of};
-ghost use Rattle.ol_wire.specs.Plays.{IsNodeOf, IsRefOf, IsLookedUp, paired, knowing, ticketed, late, wrote, returned, rest};
+ghost use Rattle.ol_wire.specs.StepPlays.{IsNodeOf, IsRefOf, IsLookedUp, paired, knowing, ticketed, late, wrote, returned, rest};
 ghost use Rattle.ol_wire.specs.Sizes.{IsSmall};
 ghost use Rattle.ol_wire.specs.Tokens.{IsTokenOf, IsSameSeat};
-ghost use Rattle.ol_wire.specs.Views.{IsIdle};
-ghost use Rattle.ol_wire.specs.Hands.{claiming, missed, IsInHand, IsOfPair, HasClaimed, HoldsLeft, HasPaired, HasDrawn};
+ghost use Rattle.ol_wire.specs.Idle.{IsIdle};
+ghost use Rattle.ol_wire.specs.Hands.{claiming, missed};
+ghost use Rattle.ol_wire.specs.InHand.{IsInHand, IsOfPair, HasClaimed, HoldsLeft, HasPaired, HasDrawn};
 
 use crate::law::{Claims, Draws, Looks, PairsUp, Returns, Writes};
 use crate::layout::Parts;

@@ -2,7 +2,7 @@ use Rattle.std.proofs.Common.{ℕ, Option, refl, sym, ◌∙◌, subst}
 use Rattle.ol_net.specs.Numbered.{numbered_port, net_of}
 use Rattle.ol_net.specs.Nets.{slot}
 use Rattle.ol_context.specs.Shapes.{context_of}
-use Rattle.ol_context.specs.Crossed.{IsCrossed}
+use Rattle.ol_context.specs.Crossings.{IsCrossed}
 use Rattle.ol_context.proofs.Crossings.{node_port, has_kind, slot_within, goes_through, is_barred, not_barred}
 use Rattle.ol_context.proofs.crossing.cross.Goals as goal
 

@@ -1,5 +1,5 @@
 use Rattle.std.proofs.Common.{ℕ, Option, subst}
-use Rattle.ol_context.specs.Crossed.{HasFallen}
+use Rattle.ol_context.specs.Crossings.{HasFallen}
 use Rattle.ol_context.proofs.Shapes.{held_more}
 use Rattle.ol_context.proofs.Crossings.{crossed_some, crossed_up}
 use Rattle.ol_context.proofs.crossing.cross_node.Goals as goal

@@ -1,5 +1,5 @@
 use Rattle.std.proofs.Common.{ℕ, Option, subst}
-use Rattle.ol_context.specs.Crossed.{HasFallen}
+use Rattle.ol_context.specs.Crossings.{HasFallen}
 use Rattle.ol_context.proofs.LeafMoves.{no_move_before, moves_before_by}
 use Rattle.ol_context.proofs.leaf_changes.fall_before.Goals as goal
 

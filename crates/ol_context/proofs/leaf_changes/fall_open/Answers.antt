@@ -1,5 +1,5 @@
 use Rattle.std.proofs.Common.{◌≡◌, ◌-◌, ℕ, Option, subst, arith}
-use Rattle.ol_context.specs.Crossed.{HasFallen}
+use Rattle.ol_context.specs.Crossings.{HasFallen}
 use Rattle.ol_context.specs.Leaves.{LeafHasMoved}
 use Rattle.ol_context.proofs.LeafMoves.{no_move_beyond, moves_beyond_by}
 use Rattle.ol_context.proofs.leaf_changes.fall_open.Goals as goal

@@ -2,7 +2,7 @@ use Rattle.std.proofs.Common.{ℕ, Option, refl, sym, ◌∙◌, subst}
 use Rattle.ol_net.specs.Numbered.{numbered_port, net_of}
 use Rattle.ol_net.specs.Nets.{slot}
 use Rattle.ol_context.specs.Open.{open_at}
-use Rattle.ol_context.specs.Passed.{HasPassed}
+use Rattle.ol_context.specs.Passing.{HasPassed}
 use Rattle.ol_context.proofs.Crossings.{node_port, has_kind, slot_within, goes_through, is_barred}
 use Rattle.ol_context.proofs.Passing.{open_not_barred}
 use Rattle.ol_context.proofs.open_walking.cross_open.Goals as goal

@@ -1,6 +1,6 @@
 use Rattle.std.proofs.Common.{◌≡◌, ◌≤◌, ◌++◌, length}
 use Rattle.ol_rules.specs.Listed.{each}
-use Rattle.ol_wire.specs.Laid.{cell_words}
+use Rattle.ol_wire.specs.LaidWords.{cell_words}
 use Rattle.ol_wire.specs.Starts.{pair_at}
 use Rattle.ol_wire.proofs.laying.put_cells.Given as goal
 

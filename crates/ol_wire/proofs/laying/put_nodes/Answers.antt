@@ -1,5 +1,5 @@
 use Rattle.std.proofs.Common.{arith, ◌+◌, suc, ◌≡◌}
-use Rattle.ol_wire.specs.Laid.{field_row}
+use Rattle.ol_wire.specs.LaidWords.{field_row}
 use Rattle.ol_wire.proofs.OpeningWords.{added_more, fields_step, wires_step}
 use Rattle.ol_wire.proofs.laying.put_nodes.Goals as goal
 

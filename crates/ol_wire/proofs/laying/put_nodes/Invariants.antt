@@ -1,6 +1,7 @@
 use Rattle.std.proofs.Common.{◌≡◌, ◌++◌}
 use Rattle.ol_rules.specs.Listed.{each}
-use Rattle.ol_wire.specs.Laid.{field_row, wires_before, HasFields}
+use Rattle.ol_wire.specs.Laid.{wires_before}
+use Rattle.ol_wire.specs.LaidWords.{field_row, HasFields}
 use Rattle.ol_wire.proofs.laying.put_nodes.Given as goal
 
 abbrev pub invariant-loop-node : goal.invariant-loop-node

@@ -2,7 +2,7 @@ use Rattle.std.proofs.Common.{ℕ, Option, List, sym, ap, ◌∙◌, subst, opti
 use Rattle.ol_context.specs.Shapes.{AreHeld}
 use Rattle.ol_context.specs.Open.{Open, IsHeldOpen, AreHeldParts}
 use Rattle.ol_context.specs.Leaves.{seen, IsKept, LeafHasMoved, IfNoMove}
-use Rattle.ol_context.specs.Passed.{HasPassed}
+use Rattle.ol_context.specs.Passing.{HasPassed}
 use Rattle.ol_context.specs.declared.leaf.Leaf.{Leaf}
 use Rattle.ol_context.specs.declared.leaf.Around.{Around}
 use Rattle.ol_context.specs.declared.leaf.Fate.{Fate}

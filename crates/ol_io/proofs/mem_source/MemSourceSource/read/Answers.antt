@@ -1,6 +1,6 @@
 use Rattle.std.proofs.Common.{◌≡◌, ◌≤◌, length, arith, ap, sym, ◌∙◌}
 use Rattle.ol_io.specs.Fakes.{SourceState}
-use Rattle.ol_io.specs.Files.{left_of}
+use Rattle.ol_io.specs.Unread.{left_of}
 use Rattle.ol_io.proofs.Named.{left_of-further}
 use Rattle.ol_io.proofs.Pieces.{Consumed-by_copy}
 use Rattle.ol_io.proofs.mem_source.MemSourceSource.read.Goals as goal

@@ -1,7 +1,7 @@
 use Rattle.std.proofs.Common.{◌≡◌, suc, ◌∷◌, ℕ, true, refl, ap, ◌∙◌}
 use Rattle.ol_wire.specs.declared.view.View.{View}
 use Rattle.ol_wire.specs.Layout.{left_word}
-use Rattle.ol_wire.specs.Hands.{in_hand}
+use Rattle.ol_wire.specs.InHand.{in_hand}
 use Rattle.ol_wire.proofs.StepsHold.{hand_of}
 use Rattle.ol_wire.proofs.StepsTurn.{spent_after, begun_after}
 use Rattle.ol_wire.proofs.shared.Shared.begin.Goals as goal

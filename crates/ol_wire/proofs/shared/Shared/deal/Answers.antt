@@ -1,6 +1,6 @@
 use Rattle.std.proofs.Common.{◌≡◌, ◌+◌, ◌-◌, [], ◌∷◌, ◌++◌, All, List, ap, sym, ◌∙◌, subst, arith}
 use Rattle.std.proofs.lemmas.List.Elements.{All-append, All-cons}
-use Rattle.ol_wire.specs.Plays.{fewer, one_seat}
+use Rattle.ol_wire.specs.StepPlays.{fewer, one_seat}
 use Rattle.ol_wire.specs.Views.{fresh}
 use Rattle.ol_wire.specs.Stand.{Stand, Board, IsFresh}
 use Rattle.ol_wire.proofs.shared.Shared.deal.Goals as goal

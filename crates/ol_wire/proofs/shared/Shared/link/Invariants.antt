@@ -1,6 +1,6 @@
 use Rattle.std.proofs.Common.{◌≡◌, ◌+◌, ◌-◌}
 use Rattle.ol_wire.specs.Layout.{size}
-use Rattle.ol_wire.specs.LinkPlays.{spread}
+use Rattle.ol_wire.specs.LinkSteps.{spread}
 use Rattle.ol_wire.proofs.TurningLinks.{IsLinking}
 use Rattle.ol_wire.proofs.shared.Shared.link.Given as goal
 

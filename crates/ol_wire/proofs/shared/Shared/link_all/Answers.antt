@@ -3,7 +3,7 @@ use mathlib.Core.Bool.{false≢true}
 use Rattle.ol_wire.specs.declared.layout.Parts.{Parts}
 use Rattle.ol_wire.specs.declared.view.View.{View}
 use Rattle.ol_wire.specs.Layout.{born_cell}
-use Rattle.ol_wire.specs.Blocks.{joins_in}
+use Rattle.ol_wire.specs.LinkLists.{joins_in}
 use Rattle.ol_wire.specs.Rewrites.{event_for}
 use Rattle.ol_wire.specs.Links.{link_between}
 use Rattle.ol_wire.specs.Stand.{Board}

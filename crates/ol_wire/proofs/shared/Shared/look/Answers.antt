@@ -4,9 +4,9 @@ use Rattle.ol_wire.specs.declared.layout.Parts.{Parts}
 use Rattle.ol_wire.specs.declared.view.View.{View}
 use Rattle.ol_wire.specs.References.{kind_in}
 use Rattle.ol_wire.specs.Layout.{size}
-use Rattle.ol_wire.specs.Plays.{IsNodeOf}
+use Rattle.ol_wire.specs.StepPlays.{IsNodeOf}
 use Rattle.ol_wire.specs.Stand.{Board}
-use Rattle.ol_wire.specs.Hands.{IsInHand, IsOfPair}
+use Rattle.ol_wire.specs.InHand.{IsInHand, IsOfPair}
 use Rattle.ol_wire.proofs.Steps.{looks_allowed}
 use Rattle.ol_wire.proofs.shared.Shared.look.Goals as goal
 use Rattle.ol_rules.proofs.Born.{at_most_two}

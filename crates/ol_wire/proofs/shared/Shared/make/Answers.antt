@@ -1,7 +1,8 @@
 use Rattle.std.proofs.Common.{ℕ, [], List, sym, refl, subst}
 use Rattle.atomic_table.specs.Table.{opening}
 use Rattle.ol_wire.specs.declared.plan.Plan.{Plan}
-use Rattle.ol_wire.specs.Rule.{Kept, opener}
+use Rattle.ol_wire.specs.Rule.{Kept}
+use Rattle.ol_wire.specs.Openings.{opener}
 use Rattle.ol_wire.proofs.shared.Shared.make.Goals as goal
 
 pub of_words-requires : goal.of_words-requires

@@ -5,7 +5,7 @@ use Rattle.ol_wire.specs.declared.view.Link.{Link}
 use Rattle.ol_wire.specs.declared.view.View.{View}
 use Rattle.ol_wire.specs.Layout.{size}
 use Rattle.ol_wire.specs.Links.{link_between}
-use Rattle.ol_wire.specs.Plays.{rest}
+use Rattle.ol_wire.specs.StepPlays.{rest}
 use Rattle.ol_wire.specs.Stand.{Board}
 use Rattle.ol_wire.proofs.StepsLinkAllowed.{places_allowed, publishes_allowed}
 use Rattle.ol_wire.proofs.shared.Shared.publish.Goals as goal

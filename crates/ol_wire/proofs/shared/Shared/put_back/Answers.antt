@@ -1,7 +1,7 @@
 use Rattle.std.proofs.Common.{◌≡◌, ◌<◌, ℕ, sym, refl, ap, ◌∙◌, subst, arith}
 use Rattle.ol_wire.specs.declared.layout.Parts.{Parts}
 use Rattle.ol_wire.specs.Layout.{left_word, cells_of, size}
-use Rattle.ol_wire.specs.Hands.{IsInHand}
+use Rattle.ol_wire.specs.InHand.{IsInHand}
 use Rattle.ol_wire.specs.Stand.{Board}
 use Rattle.ol_wire.proofs.Places.{part_cell}
 use Rattle.ol_wire.proofs.Steps.{returns_allowed}

@@ -2,9 +2,9 @@ use Rattle.std.proofs.Common.{◌≡◌, ◌+◌, ℕ, List, get_or, refl, sym, 
 use Rattle.ol_wire.specs.declared.layout.Parts.{Parts}
 use Rattle.ol_wire.specs.declared.view.View.{View}
 use Rattle.ol_wire.specs.References.{place_in}
-use Rattle.ol_wire.specs.Plays.{IsNodeOf, IsLookedUp, late}
+use Rattle.ol_wire.specs.StepPlays.{IsNodeOf, IsLookedUp, late}
 use Rattle.ol_wire.specs.Stand.{Board}
-use Rattle.ol_wire.specs.Hands.{IsInHand, IsOfPair, AreFields}
+use Rattle.ol_wire.specs.InHand.{IsInHand, IsOfPair, AreFields}
 use Rattle.ol_wire.proofs.StepsHold.{of_pair, node_in_hand, place_small, seen, still_in_hand, looked_up, looked_twice, rewritten}
 use Rattle.ol_wire.proofs.shared.Shared.rewrite.Goals as goal
 

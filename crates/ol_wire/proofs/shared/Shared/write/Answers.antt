@@ -1,7 +1,7 @@
 use Rattle.std.proofs.Common.{◌≡◌, sym, ap, ◌∙◌, arith}
 use Rattle.ol_wire.specs.declared.layout.Parts.{Parts}
 use Rattle.ol_wire.specs.Layout.{size}
-use Rattle.ol_wire.specs.Plays.{rest}
+use Rattle.ol_wire.specs.StepPlays.{rest}
 use Rattle.ol_wire.specs.Stand.{Board}
 use Rattle.ol_wire.proofs.Steps.{writes_allowed}
 use Rattle.ol_wire.proofs.shared.Shared.write.Goals as goal

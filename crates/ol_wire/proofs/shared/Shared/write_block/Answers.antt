@@ -2,7 +2,7 @@ use Rattle.std.proofs.Common.{◌≡◌, ◌+◌, ℕ, List, refl, sym, ap, ◌�
 use Rattle.ol_wire.specs.declared.layout.Parts.{Parts}
 use Rattle.ol_wire.specs.declared.view.View.{View}
 use Rattle.ol_wire.specs.Layout.{block}
-use Rattle.ol_wire.specs.Blocks.{to_write}
+use Rattle.ol_wire.specs.LinkLists.{to_write}
 use Rattle.ol_wire.specs.Stand.{Board}
 use Rattle.ol_wire.proofs.shared.Shared.write_block.Goals as goal
 

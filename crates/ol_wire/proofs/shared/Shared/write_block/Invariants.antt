@@ -1,5 +1,5 @@
 use Rattle.std.proofs.Common.{◌≡◌, ◌+◌, drop}
-use Rattle.ol_wire.specs.Blocks.{to_write}
+use Rattle.ol_wire.specs.LinkLists.{to_write}
 use Rattle.ol_wire.proofs.shared.Shared.write_block.Given as goal
 
 abbrev pub invariant-loop-i : goal.invariant-loop-i
