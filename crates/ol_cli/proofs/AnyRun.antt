@@ -14,10 +14,10 @@ use Rattle.ol_rules.proofs.Same.{complete_same, has_stuck_same}
 use Rattle.ol_rules.proofs.UnderNames.{same_under}
 use Rattle.ol_translate.specs.Translation.{nodes_of, links_of, translation_of}
 use Rattle.ol_readback.specs.Heads.{live}
-use Rattle.ol_readback.specs.Trees.{IsTree}
+use Rattle.ol_readback.specs.ReadTrees.{IsTree}
 use Rattle.ol_readback.specs.declared.answers.ReadNode.{ReadNode}
 use Rattle.ol_cli.specs.Listing.{ListsOnce}
-use Rattle.ol_cli.specs.Evaluation.{start_net, Shows, RunEnds, Prints, PrintsOf}
+use Rattle.ol_cli.specs.Evaluation.{start_net_of_term, Shows, RunEnds, Prints, PrintsOf}
 use Rattle.ol_cli.specs.Journals.{OneThreadIsThere, AnyRunPrints, AnyRunRunsOut}
 use Rattle.ol_cli.proofs.EveryRun.{shows_under}
 use Rattle.ol_diamond.proofs.OneThread.{one_thread_exists, done_tells, spent_tells, longer_tells}
@@ -74,21 +74,21 @@ shows_same names heads es M N text same once s =
       written = s.written;
     }
 
-start_once : (t : Tree) (names : List (List ℕ)) → ListsOnce (start_net t names)
+start_once : (t : Tree) (names : List (List ℕ)) → ListsOnce (start_net_of_term t names)
 start_once t names = net_under_once Init (translation_of t (length names)) (λ x y k l i j h h' e. cc) (net_of_parts_once (1 + length names) (nodes_of t) (links_of t))
 
 -- ---- the laws
 
 pub one_thread_is_there : OneThreadIsThere
-one_thread_is_there t names fuel is_net = one_thread_exists (start_net t names) fuel (start_is_net t names is_net) (start_is_named t names is_net)
+one_thread_is_there t names fuel is_net = one_thread_exists (start_net_of_term t names) fuel (start_is_net t names is_net) (start_is_named t names is_net)
 
 -- and what holds of the tree and the term that are printed of the run holds of those that are printed of the one-thread run
 pub any_run_with : (P : List ReadNode → List ℕ → Type 0) (t : Tree) (names : List (List ℕ)) (fuel heads : ℕ) (text : List ℕ) → IsNet (translation_of t (length names)) →
-    (journal : List Entry) (net : NamedNet NodeName) → IsRun (start_net t names) 0 journal net → IsComplete net → (p : PrintsOf names fuel heads journal net text) →
+    (journal : List Entry) (net : NamedNet NodeName) → IsRun (start_net_of_term t names) 0 journal net → IsComplete net → (p : PrintsOf names fuel heads journal net text) →
     P p.shows.tree p.shows.term → (q : Prints t names fuel heads text) × P q.shows.tree q.shows.term
 unfolding shows_under shows_same
 any_run_with P t names fuel heads text is_net journal net run complete p h =
-    let N = start_net t names in
+    let N = start_net_of_term t names in
     let n = start_is_net t names is_net in
     let b = start_is_named t names is_net in
     let o = one_thread_exists N fuel n b in
@@ -115,7 +115,7 @@ any_run_prints t names fuel heads text is_net journal net run complete p = (any_
 
 pub any_run_runs_out : AnyRunRunsOut
 any_run_runs_out t names fuel is_net journal net run long =
-    let N = start_net t names in
+    let N = start_net_of_term t names in
     let n = start_is_net t names is_net in
     let b = start_is_named t names is_net in
     let o = one_thread_exists N fuel n b in
@@ -127,9 +127,9 @@ any_run_runs_out t names fuel is_net journal net run long =
 
 -- where a complete run is within the fuel, the one-thread run ends within it
 pub any_run_ends : (t : Tree) (names : List (List ℕ)) (fuel : ℕ) → IsNet (translation_of t (length names)) →
-    (journal : List Entry) (net : NamedNet NodeName) → IsRun (start_net t names) 0 journal net → IsComplete net → length journal ≤ fuel → RunEnds t names fuel
+    (journal : List Entry) (net : NamedNet NodeName) → IsRun (start_net_of_term t names) 0 journal net → IsComplete net → length journal ≤ fuel → RunEnds t names fuel
 any_run_ends t names fuel is_net journal net run complete within =
-    let N = start_net t names in
+    let N = start_net_of_term t names in
     let n = start_is_net t names is_net in
     let b = start_is_named t names is_net in
     let o = one_thread_exists N fuel n b in

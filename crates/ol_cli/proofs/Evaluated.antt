@@ -27,11 +27,11 @@ use Rattle.ol_wire.specs.Standing.{IsAfter}
 use Rattle.ol_reduce.specs.Frozen.{IsFrozen}
 use Rattle.ol_reduce.specs.Reduced.{IsTableOf}
 use Rattle.ol_readback.specs.Heads.{live}
-use Rattle.ol_readback.specs.Trees.{IsTree}
+use Rattle.ol_readback.specs.ReadTrees.{IsTree}
 use Rattle.ol_readback.specs.Texts.{IsTextOf}
 use Rattle.ol_readback.specs.declared.answers.ReadNode.{ReadNode}
 use Rattle.ol_cli.specs.Texts.{line, answer_text}
-use Rattle.ol_cli.specs.Evaluation.{start_net, Shows, RunsOut, Prints, Walks}
+use Rattle.ol_cli.specs.Evaluation.{start_net_of_term, Shows, RunsOut, Prints, Walks}
 use Rattle.ol_cli.specs.Handed.{journal_of, PrintsWork}
 use Rattle.ol_cli.proofs.NamedNets.{named_net}
 use Rattle.ol_cli.proofs.ListedOnce.{net_of_once, net_of_parts_once, net_under_once, same_length}
@@ -73,8 +73,8 @@ module _ (t : Tree) (names : List (List ℕ)) (start : Graph) (same : SameNet (n
     words_run = subst (λ (g : Graph). IsRun (net_under Init (net_of g)) 0 (journal_of w) net) table.1 after
 
     -- the run of the words is one from the term's own net
-    pub own_run : (M : NamedNet NodeName) × IsRun (start_net t names) 0 (journal_of w) M × SameNet net M
-    own_run = run_from_same _ (start_net t names) net 0 (journal_of w) (same_under Init (net_of start) (translation_of t (length names)) same) words_run
+    pub own_run : (M : NamedNet NodeName) × IsRun (start_net_of_term t names) 0 (journal_of w) M × SameNet net M
+    own_run = run_from_same _ (start_net_of_term t names) net 0 (journal_of w) (same_under Init (net_of start) (translation_of t (length names)) same) words_run
 
     own_net : IsNet (net_of start) → IsNet (translation_of t (length names))
     own_net n = net_same (net_of start) (translation_of t (length names)) same n

@@ -9,11 +9,11 @@ use Rattle.ol_rules.specs.Counting.{counts_of}
 use Rattle.ol_rules.proofs.Relation.{same_sym}
 use Rattle.ol_rules.proofs.UnderNames.{has_stuck_under}
 use Rattle.ol_readback.specs.Heads.{live}
-use Rattle.ol_readback.specs.Trees.{IsTree}
+use Rattle.ol_readback.specs.ReadTrees.{IsTree}
 use Rattle.ol_rules.proofs.LeadRuns.{as_run}
 use Rattle.ol_diamond.proofs.OneThreadRuns.{runs_agree, goes_on_shorter}
 use Rattle.ol_cli.specs.Texts.{answer_text}
-use Rattle.ol_cli.specs.Evaluation.{start_net, Shows, EveryRunPrints, EveryRunIsLonger}
+use Rattle.ol_cli.specs.Evaluation.{start_net_of_term, Shows, EveryRunPrints, EveryRunIsLonger}
 use Rattle.ol_cli.proofs.ListedOnce.{net_under_once}
 use Rattle.ol_cli.proofs.NamedNets.{named_net}
 use Rattle.ol_cli.proofs.TreeTransport.{tree_under}
@@ -41,7 +41,7 @@ within m n fuel e b = omega arith
 
 pub every_run_prints : EveryRunPrints
 every_run_prints t names fuel heads text is_net p journal net run complete =
-    let N = start_net t names in
+    let N = start_net_of_term t names in
     let a = runs_agree N (start_is_net t names is_net) (start_is_named t names is_net) p.net net p.journal journal (as_run N p.net 0 p.journal p.run.leads) run p.complete complete in
     record {
       within = within (length p.journal) (length journal) fuel a.steps p.run.within;
@@ -52,6 +52,6 @@ every_run_prints t names fuel heads text is_net p journal net run complete =
 
 pub every_run_is_longer : EveryRunIsLonger
 every_run_is_longer t names fuel is_net o journal net run complete =
-    let N = start_net t names in
+    let N = start_net_of_term t names in
     let shorter = goes_on_shorter N (start_is_net t names is_net) (start_is_named t names is_net) o.net net o.journal journal (as_run N o.net 0 o.journal o.run.leads) run o.left complete in
     omega (arith, o.full, shorter)

@@ -4,16 +4,16 @@ use Rattle.std.specs.Option.{option_map_or}
 use Rattle.std.specs.Result.{IsErrOf}
 use Rattle.ol_io.specs.declared.calls.ReadAll.{ReadAll}
 use Rattle.ol_io.specs.declared.calls.ReadAll.TheVariants.{TooLong}
-use Rattle.ol_io.specs.Outside.{Rose, Appended, IsWhole, IsLonger}
+use Rattle.ol_io.specs.Outside.{Rose, Appended, IsAllOf, IsLonger}
 use Rattle.ol_term.specs.Trees.{Tree}
 use Rattle.ol_term.specs.Generated.{doubled_text}
 use Rattle.ol_words.specs.Texts.{Text}
 use Rattle.ol_words.specs.Asked.{Asked, run, walk, view, trace, check, gen}
 use Rattle.ol_cli.specs.declared.status.Status.{Status}
 use Rattle.ol_cli.specs.declared.status.Status.TheVariants.{Done, Usage, Syntax, Spent, ReadFault, WriteFault, NoMemory, Limit}
-use Rattle.ol_cli.specs.Jobs.{AskFor, AskForNothing, EachName, HasTermFile, TellsFiles, count_of_files, files_of, name_of}
+use Rattle.ol_cli.specs.Jobs.{AskFor, AskForNothing, EachName, HasTermFile, TellsFiles, count_of_files, files_of, file_name}
 use Rattle.ol_cli.specs.Texts.{bytes_text, fault_text}
-use Rattle.ol_cli.specs.Answers.{IsTerm, TermAnswer, FileAnswer, JournalAnswer, JobAnswer, of_file, of_journal, made, IsAnswer, long, Seen, seen, GaveTooMany, Read, FileCause, JournalCause, JobCause, by_file, by_journal, by_making, Cause, Ends, plain_run}
+use Rattle.ol_cli.specs.Answers.{IsTermFile, TermAnswer, FileAnswer, JournalAnswer, JobAnswer, of_file, of_journal, made, IsAnswer, long, Seen, seen, GaveTooMany, Read, FileCause, JournalCause, JobCause, by_file, by_journal, by_making, Cause, Ends, plain_run}
 use Rattle.ol_cli.specs.Inside.{EndsJournal}
 
 -- where all bytes were given, they are within the limit
@@ -103,7 +103,7 @@ abbrev AreTold : (Text → Option (List ℕ)) → Asked → Type 0
 AreTold contents asked = EachName asked (λ name. (bytes : List ℕ) × (contents name ≡ Some bytes))
 
 -- the bytes of the term file are told
-told_first : (contents : Text → Option (List ℕ)) (asked : Asked) → HasTermFile asked → AreTold contents asked → (bytes : List ℕ) × (contents (name_of asked) ≡ Some bytes)
+told_first : (contents : Text → Option (List ℕ)) (asked : Asked) → HasTermFile asked → AreTold contents asked → (bytes : List ℕ) × (contents (file_name asked) ≡ Some bytes)
 told_first contents (run w f q name) has e = e 0 name refl
 told_first contents (walk g q name) has e = e 0 name refl
 told_first contents (view k name) has e = e 0 name refl
@@ -116,8 +116,8 @@ told_second : (contents : Text → Option (List ℕ)) (term journal : Text) → 
 told_second contents term journal e = e 1 journal refl
 
 -- what was read is what is told
-same_read : (contents : Option (List ℕ)) (read told : List ℕ) → contents ≡ Some told → IsWhole contents read → read ≡ told
-same_read contents read told e w = subst (λ k. IsWhole k read) e w
+same_read : (contents : Option (List ℕ)) (read told : List ℕ) → contents ≡ Some told → IsAllOf contents read → read ≡ told
+same_read contents read told e w = subst (λ k. IsAllOf k read) e w
 
 past_told : (contents : Option (List ℕ)) (told : List ℕ) (most : ℕ) → contents ≡ Some told → IsLonger contents most → most < length told
 past_told contents told most e l = subst (λ k. IsLonger k most) e l
@@ -126,16 +126,16 @@ module _ (words : List (String Global)) (f f' given : ℕ) (contents : Text → 
   abbrev pub at_hand : Seen
   at_hand = record { faults = f; faults' = f'; contents = contents; given = given; ended = ended }
 
-  file_answer : (asked : Asked) (bytes : List ℕ) → contents (name_of asked) ≡ Some bytes → (st : Status) (text : List ℕ) → FileCause asked at_hand st text → FileAnswer asked bytes st text
+  file_answer : (asked : Asked) (bytes : List ℕ) → contents (file_name asked) ≡ Some bytes → (st : Status) (text : List ℕ) → FileCause asked at_hand st text → FileAnswer asked bytes st text
   file_answer asked bytes told st text c = go st text c
     where
       same : (st : Status) (text : List ℕ) → Read asked at_hand st text → FileAnswer asked bytes st text
-      same st text (read, gave, h) = subst (λ b. FileAnswer asked b st text) (same_read (contents (name_of asked)) read bytes told gave.whole) h
+      same st text (read, gave, h) = subst (λ b. FileAnswer asked b st text) (same_read (contents (file_name asked)) read bytes told gave.whole) h
 
       go : (st : Status) (text : List ℕ) → FileCause asked at_hand st text → FileAnswer asked bytes st text
       go ReadFault text c = absurd (quiet c.0)
       go Limit text c = elim c.1 [
-        | inl g ↦ long (past_told (contents (name_of asked)) bytes 1048576 told g.0.longer) g.1
+        | inl g ↦ long (past_told (contents (file_name asked)) bytes 1048576 told g.0.longer) g.1
         | inr r ↦ same Limit text r
       ]
       go Usage text c = same Usage text c.1
@@ -160,7 +160,7 @@ module _ (words : List (String Global)) (f f' given : ℕ) (contents : Text → 
   job_answer _ e st text (by_journal {term = term} {journal = journal} {bytes = bytes} {t = t} {names = names} same whole i c) =
       let b = told_first contents (check term journal) tt e in
       let d = told_second contents term journal e in
-      of_journal b.1 (subst (λ b. IsTerm b t names) (same_read (contents term) bytes b.0 b.1 whole) i) d.1 (journal_answer journal d.0 d.1 t names st text c)
+      of_journal b.1 (subst (λ b. IsTermFile b t names) (same_read (contents term) bytes b.0 b.1 whole) i) d.1 (journal_answer journal d.0 d.1 t names st text c)
   job_answer _ e st text (by_making same m) = made m
 
   module _ (tells : TellsFiles contents words) where

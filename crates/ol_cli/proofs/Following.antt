@@ -3,17 +3,17 @@ use Rattle.std.proofs.Common.{◌≡◌, ℕ, suc, ◌<◌, ◌≤◌, List, ari
 use Rattle.ol_net.specs.Nets.{NamedNet, NamedPort, free, Linked}
 use Rattle.ol_context.specs.Contexts.{Context}
 use Rattle.ol_context.specs.Paths.{crossings}
-use Rattle.ol_context.specs.Ways.{Way, Stands}
+use Rattle.ol_context.specs.Ways.{Way, WalkStands}
 use Rattle.ol_context.proofs.Ways.{path_way, way_exits}
 use Rattle.ol_readback.specs.Frames.{Frame}
 use Rattle.ol_readback.specs.Heads.{Answer, IsHeadWithin, leaves, spends, never, live, Fails, LeavesWithin}
-use Rattle.ol_readback.specs.Trees.{Subterm, Reads, end, past, spent, lost, found, IsTree}
+use Rattle.ol_readback.specs.ReadTrees.{Subterm, ReadsBack, end, past, spent, lost, found, IsTree}
 use Rattle.ol_readback.specs.declared.answers.ReadNode.{ReadNode}
 
 -- Where a walk from a free port of M leaves, one of N leaves after as many crossings. Where one stands, so does the other.
 pub record Follows {A B : Type 0} (M : NamedNet A) (N : NamedNet B) : Type 0 where
   pub exits : (p : ℕ) (c : Context) (n q : ℕ) (X : Context) (u : NamedPort A) → Way M (free p) c n u X → Linked M u (free q) → (v : NamedPort B) × Way N (free p) c n v X × Linked N v (free q)
-  pub stands : (p : ℕ) (c : Context) (n : ℕ) → Stands M (free p) c n → Stands N (free p) c n
+  pub stands : (p : ℕ) (c : Context) (n : ℕ) → WalkStands M (free p) c n → WalkStands N (free p) c n
 
 within : (m n edges : ℕ) → m ≡ n → n ≤ edges → m ≤ edges
 within m n edges e b = omega arith
@@ -43,7 +43,7 @@ module _ {A B : Type 0} (M : NamedNet A) (N : NamedNet B) (to : Follows M N) (ba
   head_to frames i edges a (spends {n = n} b h s) = spends (few_to n b) (λ j l. fails_to _ _ edges (h j l)) (to.stands _ _ edges s)
   head_to frames i edges a (never h) = never (λ j l. fails_to _ _ edges (h j (few_back j l)))
 
-  reads_to : {heads edges : ℕ} {frames : List Frame} {ss : List Subterm} {ns : List ReadNode} → Reads M heads edges frames ss ns → Reads N heads edges frames ss ns
+  reads_to : {heads edges : ℕ} {frames : List Frame} {ss : List Subterm} {ns : List ReadNode} → ReadsBack M heads edges frames ss ns → ReadsBack N heads edges frames ss ns
   reads_to end = end
   reads_to (past b) = past b
   reads_to (spent b x r) = spent b (head_to _ _ _ _ x) (reads_to r)

@@ -10,8 +10,8 @@ use Rattle.ol_wire.specs.Closed.{ClosedTable}
 use Rattle.ol_words.specs.Asked.{Asked, run, walk, view, trace, check, gen}
 use Rattle.ol_cli.specs.declared.status.Status.{Status}
 use Rattle.ol_cli.specs.declared.status.Status.TheVariants as status
-use Rattle.ol_cli.specs.Jobs.{AskFor, name_of}
-use Rattle.ol_cli.specs.Answers.{IsTerm, Seen, GaveAll}
+use Rattle.ol_cli.specs.Jobs.{AskFor, file_name}
+use Rattle.ol_cli.specs.Answers.{IsTermFile, Seen, GaveAll}
 use Rattle.ol_cli.specs.Handed.{TermHands, FileHands, ReadHands, JobHands, WordsHand, WhereEnded}
 
 -- ---- the net that is handed to the workers
@@ -82,7 +82,7 @@ module _ (t : Tree) (names : List (List ℕ)) (text : List ℕ) (closed : Option
   none_at_limit (gen runs k) h = h
 
 -- what is handed back of a term is handed back of its file
-pub file_hands : (asked : Asked) (bytes : List ℕ) (t : Tree) (names : List (List ℕ)) → IsTerm bytes t names → (st : Status) (text : List ℕ) (closed : Option ClosedTable) →
+pub file_hands : (asked : Asked) (bytes : List ℕ) (t : Tree) (names : List (List ℕ)) → IsTermFile bytes t names → (st : Status) (text : List ℕ) (closed : Option ClosedTable) →
     TermHands asked t names st text closed → WhereEnded st closed (FileHands asked bytes st text closed)
 file_hands asked bytes t names i status.Done text closed h = (t, names, i, h)
 file_hands asked bytes t names i status.Spent text closed h = (t, names, i, h)
@@ -104,7 +104,7 @@ none_ended status.WriteFault closed h = h
 none_ended status.NoMemory closed h = h
 none_ended status.Limit closed h = h
 
-pub read_hands : (asked : Asked) (s : Seen) (bytes : List ℕ) (st : Status) (text : List ℕ) (closed : Option ClosedTable) → GaveAll s (name_of asked) bytes →
+pub read_hands : (asked : Asked) (s : Seen) (bytes : List ℕ) (st : Status) (text : List ℕ) (closed : Option ClosedTable) → GaveAll s (file_name asked) bytes →
     WhereEnded st closed (FileHands asked bytes st text closed) → WhereEnded st closed (ReadHands asked s st text closed)
 read_hands asked s bytes st text closed gave h = where_ended st closed (FileHands asked bytes st text closed) (ReadHands asked s st text closed) (λ h. (bytes, gave, h)) h
 

@@ -15,7 +15,7 @@ use Rattle.ol_translate.specs.Translation.{translation_of}
 use Rattle.ol_view.specs.declared.answers.Check.{Check}
 use Rattle.ol_view.specs.Checks.{BeginsWithRun, AreIdle, IsFound, complete, run, no_header, bad_text, not_a_run, OnlyIsFound}
 use Rattle.ol_view.specs.Checks as view
-use Rattle.ol_cli.specs.Evaluation.{start_net}
+use Rattle.ol_cli.specs.Evaluation.{start_net_of_term}
 
 begins_to : (N N' : NamedNet NodeName) → SameNet N N' → (text : List ℕ) (journal : List Entry) (last : NamedNet NodeName) (rest : List ℕ) → BeginsWithRun N text journal last rest →
     (last' : NamedNet NodeName) × BeginsWithRun N' text journal last' rest × SameNet last last'
@@ -39,8 +39,8 @@ found_to N N' same text _ (not_a_run {journal = journal} {last = last} {rest = r
     let t = begins_to N N' same text journal last rest b in not_a_run t.1 l h (idle_to last t.0 t.2 first second i)
 
 pub own_found : (t : Tree) (names : List (List ℕ)) (net : Graph) → SameNet (net_of net) (translation_of t (length names)) → (text : List ℕ) (v : Check) →
-    OnlyIsFound (view.start_net net) text v → OnlyIsFound (start_net t names) text v
+    OnlyIsFound (view.start_net_of_graph net) text v → OnlyIsFound (start_net_of_term t names) text v
 own_found t names net same text v only w =
     let here = same_under Init (net_of net) (translation_of t (length names)) same in
-    let back = same_sym (view.start_net net) (start_net t names) here in
-    ((λ e. found_to (view.start_net net) (start_net t names) here text w ((only w).0 e)), (λ k. (only w).1 (found_to (start_net t names) (view.start_net net) back text w k)))
+    let back = same_sym (view.start_net_of_graph net) (start_net_of_term t names) here in
+    ((λ e. found_to (view.start_net_of_graph net) (start_net_of_term t names) here text w ((only w).0 e)), (λ k. (only w).1 (found_to (start_net_of_term t names) (view.start_net_of_graph net) back text w k)))

@@ -19,12 +19,12 @@ use Rattle.ol_words.specs.Texts.{Text}
 use Rattle.ol_words.specs.Asked.{Asked, run, walk, view, trace, check, gen}
 use Rattle.ol_cli.specs.declared.status.Status.{Status}
 use Rattle.ol_cli.specs.declared.status.Status.TheVariants.{Done, Usage, Syntax, Spent, ReadFault, WriteFault, NoMemory, Limit}
-use Rattle.ol_cli.specs.Jobs.{AskFor, AskForNothing, name_of}
+use Rattle.ol_cli.specs.Jobs.{AskFor, AskForNothing, file_name}
 use Rattle.ol_cli.specs.Inside.{IsOnTerm}
 use Rattle.ol_cli.specs.Laws.{TellsOne}
 use Rattle.ol_cli.specs.Texts.{usage_text, bytes_text, depth_text, nodes_text, journal_text, syntax_text, spent_text, found_text}
-use Rattle.ol_cli.specs.Evaluation.{start_net, RunsOut, RunEnds, Prints, Walks, Views}
-use Rattle.ol_cli.specs.Answers.{long, deep, large, IsTerm, TermAnswer, FileAnswer, JournalAnswer, JobAnswer, of_file, of_journal, made, Makes, plain_run, IsAnswer}
+use Rattle.ol_cli.specs.Evaluation.{start_net_of_term, RunsOut, RunEnds, Prints, Walks, Views}
+use Rattle.ol_cli.specs.Answers.{long, deep, large, IsTermFile, TermAnswer, FileAnswer, JournalAnswer, JobAnswer, of_file, of_journal, made, Makes, plain_run, IsAnswer}
 use Rattle.ol_cli.proofs.OnePrint.{ends_or_not, ends_or_runs_out, one_print, one_walk, one_view}
 
 abbrev pub Same : Status → Status → List ℕ → List ℕ → Type 0
@@ -169,7 +169,7 @@ one_file_answer asked bytes s s' x x' h h' = one_of_file asked bytes s s' x x' (
 -- ---- a job
 
 -- a file that is refused has no term within the limits
-not_refused : (term journal : Text) (bytes : List ℕ) (t : Tree) (names : List (List ℕ)) (s : Status) (x : List ℕ) → OfFile (check term journal) bytes s x → IsTerm bytes t names → ⊥
+not_refused : (term journal : Text) (bytes : List ℕ) (t : Tree) (names : List (List ℕ)) (s : Status) (x : List ℕ) → OfFile (check term journal) bytes s x → IsTermFile bytes t names → ⊥
 not_refused term journal bytes t names s x (too_long l h) i = let b = i.short in omega arith
 not_refused term journal bytes t names s x (refused l at r h) i = r.0 i.file.named i.file.text
 not_refused term journal bytes t names s x (has_term l u others f h) i = go h
@@ -185,7 +185,7 @@ not_refused term journal bytes t names s x (has_term l u others f h) i = go h
 -- what is found of a journal, by cases
 data OfJournal (t : Tree) (names : List (List ℕ)) (journal : List ℕ) (s : Status) (x : List ℕ) : Type 0 where
   past : 67108864 < length journal → Same s Limit x journal_text → OfJournal t names journal s x
-  found : length journal ≤ 67108864 → (v : Check) → OnlyIsFound (start_net t names) journal v → Same s Done x (found_text v) → OfJournal t names journal s x
+  found : length journal ≤ 67108864 → (v : Check) → OnlyIsFound (start_net_of_term t names) journal v → Same s Done x (found_text v) → OfJournal t names journal s x
 
 of_journal_answer : (t : Tree) (names : List (List ℕ)) (journal : List ℕ) (s : Status) (x : List ℕ) → JournalAnswer t names journal s x → OfJournal t names journal s x
 of_journal_answer t names journal Limit x h = past h.0 (refl, h.1)
@@ -224,7 +224,7 @@ module _ (files : Text → Option (List ℕ)) where
   one_checked term journal s s' x x' (of_journal {bytes = b} {t = t} {names = names} e i f h) (of_file {bytes = a} has' e' h') =
       absurd (not_refused term journal b t names s' x' (of_file_answer (check term journal) b s' x' (subst (λ a. FileAnswer (check term journal) a s' x') (one_bytes term a b e' e) h')) i)
   one_checked term journal s s' x x' (of_journal {bytes = a} {trace = u} {t = t} {names = names} e i f h) (of_journal {bytes = b} {trace = v} {t = t'} {names = names'} e' i' f' h') =
-      let same_file = subst (λ b. IsTerm b t' names') (one_bytes term b a e' e) i' in
+      let same_file = subst (λ b. IsTermFile b t' names') (one_bytes term b a e' e) i' in
       let term_is = one_file a t' t names' names same_file.file i.file in
       let trace_is = one_bytes journal v u f' f in
       let h'' = subst (λ t. JournalAnswer t names u s' x') term_is.0 (subst (λ names. JournalAnswer t' names u s' x') term_is.1 (subst (λ v. JournalAnswer t' names' v s' x') trace_is h')) in
@@ -232,7 +232,7 @@ module _ (files : Text → Option (List ℕ)) where
 
   one_on_file : (asked : Asked) → IsOnTerm asked → (s s' : Status) (x x' : List ℕ) → JobAnswer files s x asked → JobAnswer files s' x' asked → Alike asked s s' x x'
   one_on_file asked on s s' x x' (of_file {bytes = a} has e h) (of_file {bytes = b} has' e' h') =
-      one_file_answer asked b s s' x x' (subst (λ a. FileAnswer asked a s x) (one_bytes (name_of asked) a b e e') h) h'
+      one_file_answer asked b s s' x x' (subst (λ a. FileAnswer asked a s x) (one_bytes (file_name asked) a b e e') h) h'
   one_on_file asked on s s' x x' (of_file has e h) (of_journal e' i f' h') = absurd on
   one_on_file asked on s s' x x' (of_file has e h) (made m) = absurd on
   one_on_file asked on s s' x x' (of_journal e' i f' h') k = absurd on

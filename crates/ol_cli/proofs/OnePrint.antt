@@ -16,7 +16,7 @@ use Rattle.ol_rules.proofs.Same.{has_stuck_same}
 use Rattle.ol_rules.proofs.StartNets as start
 use Rattle.ol_translate.specs.Translation.{translation_of}
 use Rattle.ol_readback.specs.Heads.{live}
-use Rattle.ol_readback.specs.Trees.{IsTree}
+use Rattle.ol_readback.specs.ReadTrees.{IsTree}
 use Rattle.ol_readback.specs.Texts.{text_of_tree, IsTextOf}
 use Rattle.ol_readback.specs.declared.answers.ReadNode.{ReadNode}
 use Rattle.ol_readback.proofs.One.{tree_is_one}
@@ -26,7 +26,7 @@ use Rattle.ol_view.proofs.OneView.{leads_one}
 use Rattle.ol_view.proofs.ShownAlike.{live_alike, shown_alike}
 use Rattle.ol_cli.specs.Texts.{line, answer_text, view_text}
 use Rattle.ol_cli.specs.Laws.{OneTreeIsPrinted, OneTreeIsWalked}
-use Rattle.ol_cli.specs.Evaluation.{start_net, Shows, Prints, RunsOut, RunEnds, Walks, Views, PrintsOf}
+use Rattle.ol_cli.specs.Evaluation.{start_net_of_term, Shows, Prints, RunsOut, RunEnds, Walks, Views, PrintsOf}
 use Rattle.ol_cli.proofs.ListedOnce.{same_length}
 use Rattle.ol_cli.proofs.TreeTransport.{tree_same}
 
@@ -58,16 +58,16 @@ one_shown names fuel heads journal net text text' p p' =
 
 module _ (t : Tree) (names : List (List ℕ)) (is_net : IsNet (translation_of t (length names))) where
   -- the net that the run begins with is a net of start nodes
-  pub start_is_net : IsNet (start_net t names)
+  pub start_is_net : IsNet (start_net_of_term t names)
   start_is_net = start.start_net (translation_of t (length names)) is_net
 
-  pub start_is_named : AreNamedBefore (start_net t names) 0
+  pub start_is_named : AreNamedBefore (start_net_of_term t names) 0
   start_is_named = start.start_named (translation_of t (length names))
 
   -- the one-thread run doesn't both end and go on
   pub ends_or_runs_out : (fuel : ℕ) → RunsOut t names fuel → RunEnds t names fuel → ⊥
   ends_or_runs_out fuel r e =
-      complete_or_active (start_net t names) (start_net t names) e.net r.net fuel e.journal r.journal start_is_net start_is_named (same_refl (start_net t names)) e.run r.run e.complete r.left
+      complete_or_active (start_net_of_term t names) (start_net_of_term t names) e.net r.net fuel e.journal r.journal start_is_net start_is_named (same_refl (start_net_of_term t names)) e.run r.run e.complete r.left
 
   pub ends_or_not : (fuel heads : ℕ) (text : List ℕ) → RunsOut t names fuel → Prints t names fuel heads text → ⊥
   ends_or_not fuel heads text r p = ends_or_runs_out fuel r (record { journal = p.journal; net = p.net; run = p.run; complete = p.complete })
@@ -75,7 +75,7 @@ module _ (t : Tree) (names : List (List ℕ)) (is_net : IsNet (translation_of t 
   -- and one text is printed of it
   pub one_print : (fuel heads : ℕ) (text text' : List ℕ) → Prints t names fuel heads text → Prints t names fuel heads text' → text ≡ text'
   one_print fuel heads text text' p p' =
-      let o = one_thread_one (start_net t names) (start_net t names) p.net p'.net fuel p.journal p'.journal start_is_net start_is_named (same_refl (start_net t names)) p.run p'.run in
+      let o = one_thread_one (start_net_of_term t names) (start_net_of_term t names) p.net p'.net fuel p.journal p'.journal start_is_net start_is_named (same_refl (start_net_of_term t names)) p.run p'.run in
       one_show names heads p'.journal p.net p'.net text text' o.1 (subst (λ es. Shows names heads es p.net text) o.0 p.shows) p'.shows
 
   -- the untouched net is read in one way
@@ -104,7 +104,7 @@ module _ (t : Tree) (names : List (List ℕ)) (is_net : IsNet (translation_of t 
 
 pub one_printed_tree : OneTreeIsPrinted
 one_printed_tree t names fuel heads text text' is_net p p' =
-    let o = one_thread_one (start_net t names) (start_net t names) p.net p'.net fuel p.journal p'.journal (start_is_net t names is_net) (start_is_named t names is_net) (same_refl (start_net t names)) p.run p'.run in
+    let o = one_thread_one (start_net_of_term t names) (start_net_of_term t names) p.net p'.net fuel p.journal p'.journal (start_is_net t names is_net) (start_is_named t names is_net) (same_refl (start_net_of_term t names)) p.run p'.run in
     shows_tree names heads p.journal p'.journal p.net p'.net text text' o.1 p.shows p'.shows
 
 pub one_walked_tree : OneTreeIsWalked

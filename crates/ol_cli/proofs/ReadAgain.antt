@@ -1,6 +1,6 @@
 -- What is written is read again.
 use Rattle.std.proofs.Common.{◌≡◌, ℕ, Bool, List, [], Option, Some, refl, subst, String, Global}
-use Rattle.ol_io.specs.Outside.{Appended, IsWhole}
+use Rattle.ol_io.specs.Outside.{Appended, IsAllOf}
 use Rattle.ol_term.specs.Trees.{Tree}
 use Rattle.ol_term.specs.Generated.{doubled_text}
 use Rattle.ol_parse.specs.Parsed.{IsFileOf, AreNames}
@@ -12,9 +12,9 @@ use Rattle.ol_words.specs.Asked.{Asked, run, walk, view, trace, check, gen}
 use Rattle.ol_cli.specs.declared.status.Status.{Status}
 use Rattle.ol_cli.specs.declared.status.Status.TheVariants as status
 use Rattle.ol_cli.specs.Inside.{IsOnTerm, IsReadWhereTold}
-use Rattle.ol_cli.specs.Jobs.{AskFor, TellsFile, name_of, term_bytes}
+use Rattle.ol_cli.specs.Jobs.{AskFor, TellsTerm, file_name, term_bytes}
 use Rattle.ol_cli.specs.Evaluation.{Prints, Walks}
-use Rattle.ol_cli.specs.Trees.{TextIsReadAgain, AnswerIsReadAgain, FileIsReadAgain, WordsAreReadAgain, WritesReadable}
+use Rattle.ol_cli.specs.ReadAgain.{TextIsReadAgain, AnswerIsReadAgain, FileIsReadAgain, WordsAreReadAgain, WritesReadable}
 use Rattle.ol_cli.proofs.OneAnswer.{one_job}
 
 -- where the names are names of the grammar, the text of a tree whose places have heads is read again
@@ -35,13 +35,13 @@ file_read asked bytes t names st text f words h u others g e =
     subst (λ n. TextIsReadAgain asked u n text) same.1 (subst (λ u. TextIsReadAgain asked u names text) same.0 (h words e))
 
 -- by the bytes that the source tells
-pub told_read : (asked : Asked) (contents : Option (List ℕ)) (read told : List ℕ) (st : Status) (text : List ℕ) → IsWhole contents read → FileIsReadAgain asked read st text → contents ≡ Some told → FileIsReadAgain asked told st text
+pub told_read : (asked : Asked) (contents : Option (List ℕ)) (read told : List ℕ) (st : Status) (text : List ℕ) → IsAllOf contents read → FileIsReadAgain asked read st text → contents ≡ Some told → FileIsReadAgain asked told st text
 told_read asked contents read told st text w h e =
-    let whole : IsWhole (Some told) read = subst (λ k. IsWhole k read) e w in
+    let whole : IsAllOf (Some told) read = subst (λ k. IsAllOf k read) e w in
     subst (λ b. FileIsReadAgain asked b st text) whole h
 
 -- a job on a file has the bytes of its file
-pub file_bytes : (contents : Text → Option (List ℕ)) (asked : Asked) → IsOnTerm asked → contents (name_of asked) ≡ term_bytes contents asked
+pub file_bytes : (contents : Text → Option (List ℕ)) (asked : Asked) → IsOnTerm asked → contents (file_name asked) ≡ term_bytes contents asked
 file_bytes contents (run w f q name) on = refl
 file_bytes contents (walk e q name) on = refl
 file_bytes contents (view k name) on = refl
@@ -60,5 +60,5 @@ words_read words contents asked st text j h other bytes j' e =
     all bytes e
 
 pub written_read : (words : List (String Global)) (contents : Text → Option (List ℕ)) (st : Status) (text : List ℕ) (old new : Option (List ℕ)) → WordsAreReadAgain words contents st text → Appended old text new →
-    (bytes : List ℕ) → TellsFile contents words bytes → st ≡ status.Done → WritesReadable words bytes old new
+    (bytes : List ℕ) → TellsTerm contents words bytes → st ≡ status.Done → WritesReadable words bytes old new
 written_read words contents st text old new h written bytes tells e asked t names j f = (text, h asked bytes j (tells asked j) t names f e, written)

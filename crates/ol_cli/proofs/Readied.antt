@@ -13,8 +13,8 @@ use Rattle.ol_wire.specs.Closed.{ClosedTable}
 use Rattle.ol_words.specs.Asked.{Asked}
 use Rattle.ol_cli.specs.declared.status.Status.{Status}
 use Rattle.ol_cli.specs.declared.status.Status.TheVariants.{Done, Usage, Syntax, Spent, ReadFault, WriteFault, NoMemory, Limit}
-use Rattle.ol_cli.specs.Answers.{IsTerm, TermAnswer, FileAnswer}
-use Rattle.ol_cli.specs.Trees.{FileIsReadAgain}
+use Rattle.ol_cli.specs.Answers.{IsTermFile, TermAnswer, FileAnswer}
+use Rattle.ol_cli.specs.ReadAgain.{FileIsReadAgain}
 use Rattle.ol_cli.specs.Handed.{WhereEnded}
 use Rattle.ol_cli.specs.Prepared.{Refuses, IsReady}
 use Rattle.ol_cli.proofs.Exact.{term_status}
@@ -55,7 +55,7 @@ refuses_hands bytes Limit text closed P r e = e
 
 -- ---- a file whose term is answered
 
-pub term_answer : (asked : Asked) (bytes : List ℕ) (t : Tree) (names : List (List ℕ)) → IsTerm bytes t names → (st : Status) (text : List ℕ) → TermAnswer asked t names st text → FileAnswer asked bytes st text
+pub term_answer : (asked : Asked) (bytes : List ℕ) (t : Tree) (names : List (List ℕ)) → IsTermFile bytes t names → (st : Status) (text : List ℕ) → TermAnswer asked t names st text → FileAnswer asked bytes st text
 term_answer asked bytes t names i Done text h = (t, names, i, h)
 term_answer asked bytes t names i Spent text h = (t, names, i, h)
 term_answer asked bytes t names i Usage text h = (t, names, i, h)

@@ -23,11 +23,11 @@ use Rattle.ol_words.specs.Texts.{Text}
 use Rattle.ol_words.specs.Asked.{Asked, run, walk, view, trace, check, gen}
 use Rattle.ol_cli.specs.declared.status.Status.{Status}
 use Rattle.ol_cli.specs.declared.status.Status.TheVariants as status
-use Rattle.ol_cli.specs.Jobs.{AskFor, EachName, TellsFile, TellsFiles, term_bytes}
-use Rattle.ol_cli.specs.Evaluation.{start_net, Prints}
-use Rattle.ol_cli.specs.Answers.{Ends, IsTerm, TermAnswer, FileAnswer, JobAnswer, of_file, made, IsAnswer, plain_run}
+use Rattle.ol_cli.specs.Jobs.{AskFor, EachName, TellsTerm, TellsFiles, term_bytes}
+use Rattle.ol_cli.specs.Evaluation.{start_net_of_term, Prints}
+use Rattle.ol_cli.specs.Answers.{Ends, IsTermFile, TermAnswer, FileAnswer, JobAnswer, of_file, made, IsAnswer, plain_run}
 use Rattle.ol_cli.specs.Sources.{PrintsTree, TellsTree, WritesTree, RunTells, JobTells, EveryRunTells}
-use Rattle.ol_cli.specs.Trees.{TextIsReadAgain, WritesReadable}
+use Rattle.ol_cli.specs.ReadAgain.{TextIsReadAgain, WritesReadable}
 use Rattle.ol_rules.proofs.LeadRuns.{as_run}
 use Rattle.ol_cli.proofs.NoFacing.{no_facing}
 use Rattle.ol_cli.proofs.OnePrint.{start_is_net, start_is_named}
@@ -41,7 +41,7 @@ use Rattle.ol_cli.proofs.Exact.{ends_exact}
 kept_paths : (t : Tree) (names : List (List ℕ)) (fuel heads : ℕ) (text : List ℕ) → IsNet (translation_of t (length names)) → (p : Prints t names fuel heads text) → HaveSamePaths (translation_of t (length names)) p.net
 kept_paths t names fuel heads text is_net p u c q d =
     let first = renamed Init (translation_of t (length names)) is_net (λ x y k l i j h h' e. cc) u c q d in
-    let then = run_keeps (start_net t names) p.net 0 p.journal (start_is_net t names is_net) (start_is_named t names is_net) (as_run (start_net t names) p.net 0 p.journal p.run.leads) u c q d in
+    let then = run_keeps (start_net_of_term t names) p.net 0 p.journal (start_is_net t names is_net) (start_is_named t names is_net) (as_run (start_net_of_term t names) p.net 0 p.journal p.run.leads) u c q d in
     (λ r. then.0 (first.0 r), λ r. first.1 (then.1 r))
 
 none_stuck : {A : Type 0} (N : NamedNet A) (stuck : ℕ) → IsNet N → IsComplete N → HasStuck N stuck → (stuck == 0) ≡ true → HasNoFacing N
@@ -79,13 +79,13 @@ writes_tree words bytes old new h asked t names j f =
 
 -- the answer of `run` to some bytes is that to their own term, and each complete run tells it
 module _ (bytes : List ℕ) (workers fuel heads : ℕ) (name : Text) (t : Tree) (names : List (List ℕ)) (f : IsFileOf bytes t names) where
-  own_term : (st : Status) (text : List ℕ) (u : Tree) (others : List (List ℕ)) → IsTerm bytes u others → TermAnswer (run workers fuel heads name) u others st text → TermAnswer (run workers fuel heads name) t names st text
+  own_term : (st : Status) (text : List ℕ) (u : Tree) (others : List (List ℕ)) → IsTermFile bytes u others → TermAnswer (run workers fuel heads name) u others st text → TermAnswer (run workers fuel heads name) t names st text
   own_term st text u others i h =
       let same = one_file bytes u t others names i.file f in
       subst (λ t. TermAnswer (run workers fuel heads name) t names st text) same.0 (subst (λ names. TermAnswer (run workers fuel heads name) u names st text) same.1 h)
 
   runs_tell : (st : Status) (text : List ℕ) (old new : Option (List ℕ)) → FileAnswer (run workers fuel heads name) bytes st text → Appended old text new →
-      (journal : List Entry) (net : NamedNet NodeName) → IsRun (start_net t names) 0 journal net → IsComplete net → RunTells names fuel heads journal net st old new
+      (journal : List Entry) (net : NamedNet NodeName) → IsRun (start_net_of_term t names) 0 journal net → IsComplete net → RunTells names fuel heads journal net st old new
   runs_tell status.Done text old new h written journal net ran complete =
       (text, every_run_prints t names fuel heads text (file_net bytes t names f) (own_term status.Done text h.0 h.1 h.2 h.3) journal net ran complete, written)
   runs_tell status.Spent text old new h written journal net ran complete =
@@ -101,7 +101,7 @@ same_bytes : (a b : List ℕ) → Some a ≡ Some b → a ≡ b
 same_bytes a b e = cc
 
 module _ (files : Text → Option (List ℕ)) (bytes : List ℕ) (st : Status) (text : List ℕ) (old new : Option (List ℕ)) (written : Appended old text new) (t : Tree) (names : List (List ℕ)) (f : IsFileOf bytes t names)
-    (journal : List Entry) (net : NamedNet NodeName) (ran : IsRun (start_net t names) 0 journal net) (complete : IsComplete net) where
+    (journal : List Entry) (net : NamedNet NodeName) (ran : IsRun (start_net_of_term t names) 0 journal net) (complete : IsComplete net) where
   answer_tells : (asked : Asked) → term_bytes files asked ≡ Some bytes → JobAnswer files st text asked → JobTells asked names journal net st old new
   answer_tells (run workers fuel heads name) told (of_file {bytes = other} has e h) =
       let own = subst (λ b. FileAnswer (run workers fuel heads name) b st text) (same_bytes other bytes (sym e ∙ told)) h in
@@ -116,7 +116,7 @@ module _ (files : Text → Option (List ℕ)) (bytes : List ℕ) (st : Status) (
   answer_tells (trace w f name) told a = tt
   answer_tells (check term journal) told a = tt
 
-pub answer_runs : (words : List (String Global)) (files : Text → Option (List ℕ)) (bytes : List ℕ) → TellsFile files words bytes → (st : Status) (text : List ℕ) (old new : Option (List ℕ)) →
+pub answer_runs : (words : List (String Global)) (files : Text → Option (List ℕ)) (bytes : List ℕ) → TellsTerm files words bytes → (st : Status) (text : List ℕ) (old new : Option (List ℕ)) →
     IsAnswer words files st text → Appended old text new → EveryRunTells words bytes st old new
 answer_runs words files bytes tells st text old new a written asked t names j f journal net ran complete =
     answer_tells files bytes st text old new written t names f journal net ran complete asked (tells asked j) (own_job words files asked j st text a)
@@ -129,7 +129,7 @@ one_name contents bytes name told zero n is = let same : name ≡ n = cc in (byt
 one_name contents bytes name told (suc k) n is = absurd (cc)
 
 -- what the call ended with is told by each complete run
-pub ends_run : (words : List (String Global)) (f f' given : ℕ) (contents : Text → Option (List ℕ)) (ended : Bool) → (Rose f f' → ⊥) → (bytes : List ℕ) → TellsFile contents words bytes →
+pub ends_run : (words : List (String Global)) (f f' given : ℕ) (contents : Text → Option (List ℕ)) (ended : Bool) → (Rose f f' → ⊥) → (bytes : List ℕ) → TellsTerm contents words bytes →
     (r : Status) (g g' : ℕ) (old new : Option (List ℕ)) → (Rose g g' → ⊥) → r ≢ status.NoMemory →
     Ends words (record { faults = f; faults' = f'; contents = contents; given = given; ended = ended }) r g g' old new → EveryRunTells words bytes r old new
 ends_run words f f' given contents ended quiet bytes tells r g g' old new calm has e asked t names j file journal net ran complete = go asked j

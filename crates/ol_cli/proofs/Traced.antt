@@ -9,7 +9,7 @@ use Rattle.ol_rules.proofs.Recount.{net_same}
 use Rattle.ol_rules.proofs.Same.{complete_same, active_same}
 use Rattle.ol_translate.specs.Translation.{translation_of}
 use Rattle.ol_wire.specs.Closed.{ClosedTable}
-use Rattle.ol_wire.specs.Standing.{AreOnce}
+use Rattle.ol_wire.specs.Standing.{NoNodeTwice}
 use Rattle.ol_reduce.specs.Reduced.{IsDone, IsSpent}
 use Rattle.ol_view.specs.TraceTexts.{trace_text}
 use Rattle.ol_cli.specs.declared.status.Status.TheVariants as status
@@ -31,7 +31,7 @@ module _ (t : Tree) (names : List (List ℕ)) (start : Graph) (same : SameNet (n
         written = written ∙ ap trace_text d.read;
       }
 
-  pub spent_trace_hands : IsSpent start fuel seats journal w → AreOnce (journal_of w) → TraceHands t names seats fuel status.Spent text (Some w)
+  pub spent_trace_hands : IsSpent start fuel seats journal w → NoNodeTwice (journal_of w) → TraceHands t names seats fuel status.Spent text (Some w)
   spent_trace_hands d once = (
     w,
     refl,
@@ -59,7 +59,7 @@ module _ (t : Tree) (names : List (List ℕ)) (start : Graph) (same : SameNet (n
       let c = done_traces last d in
       any_run_ends t names fuel (net_same (net_of start) T same n) c.journal c.net c.run c.complete c.within
 
-  pub done_trace_hands : (last : Graph) → IsDone start fuel seats last journal w → AreOnce (journal_of w) → TraceHands t names seats fuel status.Done text (Some w)
+  pub done_trace_hands : (last : Graph) → IsDone start fuel seats last journal w → NoNodeTwice (journal_of w) → TraceHands t names seats fuel status.Done text (Some w)
   done_trace_hands last d once = (
     w,
     refl,

@@ -4,9 +4,9 @@ use Rattle.std.proofs.lemmas.List.{length-map}
 use Rattle.ol_net.specs.declared.parts.Kind.{Kind}
 use Rattle.ol_net.specs.Nets.{NamedNet, NamedPort, free, slot, HasNode, Linked, IsPort, IsNet, SameNet, port_under, net_under}
 use Rattle.ol_context.specs.Contexts.{Context}
-use Rattle.ol_context.specs.Ways.{Way, start, on, Stands}
+use Rattle.ol_context.specs.Ways.{Way, start, on, WalkStands}
 use Rattle.ol_readback.specs.Heads.{live}
-use Rattle.ol_readback.specs.Trees.{IsTree}
+use Rattle.ol_readback.specs.ReadTrees.{IsTree}
 use Rattle.ol_readback.specs.declared.answers.ReadNode.{ReadNode}
 use Rattle.ol_rules.proofs.Relation.{same_sym}
 use Rattle.ol_rules.proofs.Renaming.{node_to, node_from, link_to, link_from}
@@ -96,10 +96,10 @@ module _ {A B : Type 0} (m : A → B) (N : NamedNet A) (is_net : IsNet N) (one_n
       let l' = slot_behind b.port x.0 y s k i x.1 x.2 (link_behind b.port U (slot y s) b.has_node b.named l) in
       record { port = slot x.0 t; way = on b.way l' x.1 z; named = ap (λ y. slot y t) x.2; has_node = (k, i, x.1) }
 
-  stands_at : (p : ℕ) (c : Context) (n : ℕ) (u : NamedPort A) (d : Context) (y : B) (s : ℕ) → Way N (free p) c n u d → LinkBehind u (slot y s) → Stands N (free p) c n
+  stands_at : (p : ℕ) (c : Context) (n : ℕ) (u : NamedPort A) (d : Context) (y : B) (s : ℕ) → Way N (free p) c n u d → LinkBehind u (slot y s) → WalkStands N (free p) c n
   stands_at p c n u d y s w b = go b.port b.named b.linked
     where
-      go : (v : NamedPort A) → slot y s ≡ port_under m v → Linked N u v → Stands N (free p) c n
+      go : (v : NamedPort A) → slot y s ≡ port_under m v → Linked N u v → WalkStands N (free p) c n
       go (free q) e l = absurd (cc)
       go (slot x t) e l = record { port = u; context = d; way = w; node = x; at = t; linked = l }
 

@@ -4,7 +4,7 @@ use Rattle.std.proofs.lemmas.Bool.Decides.{nat_tests}
 use Rattle.std.specs.Str.{bytes_eq}
 use Rattle.ol_words.specs.Texts.{Text}
 use Rattle.ol_words.specs.Lines.{Line, line_of}
-use Rattle.ol_words.specs.Numbers.{Limits, number_of, number_within, is_number, setting}
+use Rattle.ol_words.specs.Numbers.{Limits, number_in, number_within, is_number, setting}
 use Rattle.ol_words.specs.Asked.{Asked, run, walk, view, trace, check, gen}
 use Rattle.ol_words.specs.Jobs.{Setting, Verb, workers_setting, fuel_setting, heads_setting, edges_setting, after_setting, runs_setting, doublings, run_verb, walk_verb, view_verb, trace_verb, check_verb, gen_verb, run_asks, walk_asks, view_asks, trace_asks, check_asks, gen_asks, is_input, only, known_of, values_of, number_on, numbers, job_on, job_behind, job_of}
 use Rattle.ol_cli.specs.Inside.{IsWithinLimits}
@@ -34,8 +34,8 @@ le_of m n h = grind (arith, nat_tests, h)
 setting_within : (l : Limits) (values : List Text) (n : ℕ) → IsWithin l l.default → setting l values ≡ Some n → IsWithin l n
 setting_within l [] n d h = let e : l.default ≡ n = cc in subst (IsWithin l) e d
 setting_within l (value ∷ []) n d h =
-    let t = three (is_number value) (nat_le l.least (number_of value)) (nat_le (number_of value) l.most) (number_of value) n h in
-    subst (IsWithin l) t.2 (le_of l.least (number_of value) t.0, le_of (number_of value) l.most t.1)
+    let t = three (is_number value) (nat_le l.least (number_in value)) (nat_le (number_in value) l.most) (number_in value) n h in
+    subst (IsWithin l) t.2 (le_of l.least (number_in value) t.0, le_of (number_in value) l.most t.1)
 setting_within l (value ∷ again ∷ more) n d h = absurd (cc)
 
 -- ---- a line
@@ -128,8 +128,8 @@ gen_names : (runs : ℕ) (names : List Text) (asked : Asked) → gen_asks (runs 
 gen_names runs [] asked h = absurd (cc)
 gen_names runs (n ∷ []) asked h =
     let is = map_some (gen (runs == 1)) (number_within doublings n) asked h in
-    let t = three (is_number n) (nat_le doublings.least (number_of n)) (nat_le (number_of n) doublings.most) (number_of n) is.0 is.1 in
-    subst IsWithinLimits {x = gen (runs == 1) is.0} is.2 (subst (λ k. k ≤ 10) t.2 (le_of (number_of n) doublings.most t.1))
+    let t = three (is_number n) (nat_le doublings.least (number_in n)) (nat_le (number_in n) doublings.most) (number_in n) is.0 is.1 in
+    subst IsWithinLimits {x = gen (runs == 1) is.0} is.2 (subst (λ k. k ≤ 10) t.2 (le_of (number_in n) doublings.most t.1))
 gen_names runs (n ∷ m ∷ names) asked h = absurd (cc)
 
 gen_within : (line : Line) (asked : Asked) → job_on gen_verb line ≡ Some asked → IsWithinLimits asked

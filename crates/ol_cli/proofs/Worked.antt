@@ -7,7 +7,7 @@ use Rattle.ol_net.specs.Numbered.{net_of}
 use Rattle.ol_rules.specs.declared.journal.Entry.{Entry}
 use Rattle.ol_translate.specs.Translation.{translation_of}
 use Rattle.ol_wire.specs.Closed.{ClosedTable}
-use Rattle.ol_wire.specs.Standing.{AreOnce}
+use Rattle.ol_wire.specs.Standing.{NoNodeTwice}
 use Rattle.ol_reduce.specs.Reduced.{IsDone, IsSpent}
 use Rattle.ol_readback.specs.declared.answers.ReadNode.{ReadNode}
 use Rattle.ol_cli.specs.declared.status.Status.TheVariants as status
@@ -24,7 +24,7 @@ module _ (t : Tree) (names : List (List ℕ)) (start : Graph) (same : SameNet (n
     pub spent_answer : IsNet (net_of start) → RunsOut t names fuel
     spent_answer n = runs_out t names start same fuel seats w d.table d.last_net d.after n d.active full
 
-    pub spent_hands : (text : List ℕ) → AreOnce (journal_of w) → text ≡ spent_text fuel → RunHands t names seats fuel heads status.Spent text (Some w)
+    pub spent_hands : (text : List ℕ) → NoNodeTwice (journal_of w) → text ≡ spent_text fuel → RunHands t names seats fuel heads status.Spent text (Some w)
     spent_hands text once e = (
       w,
       refl,
@@ -47,7 +47,7 @@ module _ (t : Tree) (names : List (List ℕ)) (start : Graph) (same : SameNet (n
       pub done_answer : (P : List ReadNode → List ℕ → Type 0) → IsNet (net_of start) → P tree term → (p : Prints t names fuel heads text) × P p.shows.tree p.shows.term
       done_answer P n h = prints_with t names start same fuel seats w d.table d.last_net d.after last d.frozen heads stuck tree term text own_told within d.complete P n h
 
-      pub done_hands : AreOnce (journal_of w) → RunHands t names seats fuel heads status.Done text (Some w)
+      pub done_hands : NoNodeTwice (journal_of w) → RunHands t names seats fuel heads status.Done text (Some w)
       done_hands once = (
         w,
         refl,

@@ -2,7 +2,7 @@
 -- a call does, by what its source and its sink did.
 use Rattle.std.specs.Prelude.{◌≡◌, ℕ, ◌≤◌, ◌<◌, ◌⊎◌, Bool, true, false, List, length, take, codes, Option, Some, String}
 use Rattle.std.specs.declared.alloc.Global.{Global}
-use Rattle.ol_io.specs.Outside.{Rose, Appended, IsWhole, IsLonger}
+use Rattle.ol_io.specs.Outside.{Rose, Appended, IsAllOf, IsLonger}
 use Rattle.ol_term.specs.Trees.{Tree, depth}
 use Rattle.ol_term.specs.Generated.{doubled_text}
 use Rattle.ol_parse.specs.Texts.{IsRefusedAt}
@@ -14,25 +14,25 @@ use Rattle.ol_view.specs.declared.answers.Check.{Check}
 use Rattle.ol_view.specs.Checks.{OnlyIsFound}
 use Rattle.ol_cli.specs.declared.status.Status.{Status}
 use Rattle.ol_cli.specs.declared.status.Status.TheVariants as status
-use Rattle.ol_cli.specs.Jobs.{AskFor, AskForNothing, HasTermFile, name_of, plain_fuel, plain_heads}
+use Rattle.ol_cli.specs.Jobs.{AskFor, AskForNothing, HasTermFile, file_name, plain_fuel, plain_heads}
 use Rattle.ol_cli.specs.Texts.{usage_text, fault_text, bytes_text, depth_text, nodes_text, journal_text, syntax_text, spent_text, found_text}
-use Rattle.ol_cli.specs.Evaluation.{start_net, RunsOut, RunEnds, Prints, Walks, Views, TracesWhole, TracesFuel}
+use Rattle.ol_cli.specs.Evaluation.{start_net_of_term, RunsOut, RunEnds, Prints, Walks, Views, TracesWhole, TracesFuel}
 
 -- the number that a process ends with
-abbrev pub number_of : Status → ℕ
-number_of status.Done = 0
-number_of status.Usage = 1
-number_of status.Syntax = 2
-number_of status.Spent = 3
-number_of status.ReadFault = 4
-number_of status.WriteFault = 5
-number_of status.NoMemory = 6
-number_of status.Limit = 7
+abbrev pub status_number : Status → ℕ
+status_number status.Done = 0
+status_number status.Usage = 1
+status_number status.Syntax = 2
+status_number status.Spent = 3
+status_number status.ReadFault = 4
+status_number status.WriteFault = 5
+status_number status.NoMemory = 6
+status_number status.Limit = 7
 
 -- ---- a term file
 
 -- the bytes are a text of this term with these free names, and no limit is passed
-pub record IsTerm (bytes : List ℕ) (t : Tree) (names : List (List ℕ)) : Type 0 where
+pub record IsTermFile (bytes : List ℕ) (t : Tree) (names : List (List ℕ)) : Type 0 where
   pub short : length bytes ≤ 1048576
   pub file : IsFileOf bytes t names
   pub shallow : depth t ≤ 1000
@@ -82,14 +82,14 @@ TermAnswer (gen runs k) t names st text = ⊥
 abbrev pub FileAnswer : Asked → List ℕ → Status → List ℕ → Type 0
 FileAnswer asked bytes status.Limit text = IsPastLimit bytes text
 FileAnswer asked bytes status.Syntax text = (at : ℕ) × (length bytes ≤ 1048576) × IsRefusedAt bytes at × (text ≡ syntax_text at)
-FileAnswer asked bytes st text = (t : Tree) × (names : List (List ℕ)) × IsTerm bytes t names × TermAnswer asked t names st text
+FileAnswer asked bytes st text = (t : Tree) × (names : List (List ℕ)) × IsTermFile bytes t names × TermAnswer asked t names st text
 
 -- What `check` answers to the bytes of a journal file, against a term: a limit that they pass, or the one thing that they are found
 -- to be.
 abbrev pub JournalAnswer : Tree → List (List ℕ) → List ℕ → Status → List ℕ → Type 0
 JournalAnswer t names journal status.Limit text = (67108864 < length journal) × (text ≡ journal_text)
 JournalAnswer t names journal status.Done text =
-    (length journal ≤ 67108864) × ((found : Check) × OnlyIsFound (start_net t names) journal found × (text ≡ found_text found))
+    (length journal ≤ 67108864) × ((found : Check) × OnlyIsFound (start_net_of_term t names) journal found × (text ≡ found_text found))
 JournalAnswer t names journal _ text = ⊥
 
 -- `run` without options
@@ -104,10 +104,10 @@ Makes true k st text = FileAnswer plain_run (doubled_text k) st text
 -- The answer to a job, where its files have these bytes: that to the file of its term; for `check`, where that file is no refusal, the
 -- answer to its journal; and for `gen` the text that is made, or the answer of `run` to it.
 pub data JobAnswer (files : Text → Option (List ℕ)) (st : Status) (text : List ℕ) : Asked → Type 0 where
-  of_file : {asked : Asked} {bytes : List ℕ} → HasTermFile asked → files (name_of asked) ≡ Some bytes →
+  of_file : {asked : Asked} {bytes : List ℕ} → HasTermFile asked → files (file_name asked) ≡ Some bytes →
       FileAnswer asked bytes st text → JobAnswer files st text asked
   of_journal : {term journal : Text} {bytes trace : List ℕ} {t : Tree} {names : List (List ℕ)} →
-      files term ≡ Some bytes → IsTerm bytes t names → files journal ≡ Some trace →
+      files term ≡ Some bytes → IsTermFile bytes t names → files journal ≡ Some trace →
       JournalAnswer t names trace st text → JobAnswer files st text (check term journal)
   made : {runs : Bool} {k : ℕ} → Makes runs k st text → JobAnswer files st text (gen runs k)
 
@@ -141,7 +141,7 @@ IfNoneFailed source source' sink sink' P = (Rose source source' → ⊥) → (Ro
 
 -- the source gave these bytes last, to their end and at most so many, and they are all bytes of the name where it tells them
 pub record GaveWithin (s : Seen) (most : ℕ) (name : Text) (bytes : List ℕ) : Type 0 where
-  pub whole : IsWhole (s.contents name) bytes
+  pub whole : IsAllOf (s.contents name) bytes
   pub counted : length bytes ≡ s.given
   pub within : s.given ≤ most
   pub to_end : s.ended ≡ true
@@ -160,13 +160,13 @@ GaveTooMany s name = GavePast s 1048576 name
 
 -- all bytes that the source gave, and what they are answered
 abbrev pub Read : Asked → Seen → Status → List ℕ → Type 0
-Read asked s st text = (bytes : List ℕ) × GaveAll s (name_of asked) bytes × FileAnswer asked bytes st text
+Read asked s st text = (bytes : List ℕ) × GaveAll s (file_name asked) bytes × FileAnswer asked bytes st text
 
 -- Each status of a job with a term file, where it comes of this file or of a fault, and its text.
 abbrev pub FileCause : Asked → Seen → Status → List ℕ → Type 0
 FileCause asked s status.ReadFault text = Rose s.faults s.faults' × (text ≡ fault_text)
 FileCause asked s status.Limit text =
-    (s.faults' ≡ s.faults) × ((GaveTooMany s (name_of asked) × (text ≡ bytes_text)) ⊎ Read asked s status.Limit text)
+    (s.faults' ≡ s.faults) × ((GaveTooMany s (file_name asked) × (text ≡ bytes_text)) ⊎ Read asked s status.Limit text)
 FileCause asked s st text = (s.faults' ≡ s.faults) × Read asked s st text
 
 -- What comes of a journal file, against a term.
@@ -181,7 +181,7 @@ JournalCause s journal t names _ text = ⊥
 pub data JobCause (s : Seen) (st : Status) (text : List ℕ) : Asked → Type 0 where
   by_file : {asked : Asked} → HasTermFile asked → FileCause asked s st text → JobCause s st text asked
   by_journal : {term journal : Text} {bytes : List ℕ} {t : Tree} {names : List (List ℕ)} → s.faults' ≡ s.faults →
-      IsWhole (s.contents term) bytes → IsTerm bytes t names → JournalCause s journal t names st text →
+      IsAllOf (s.contents term) bytes → IsTermFile bytes t names → JournalCause s journal t names st text →
       JobCause s st text (check term journal)
   by_making : {runs : Bool} {k : ℕ} → s.faults' ≡ s.faults → Makes runs k st text → JobCause s st text (gen runs k)
 

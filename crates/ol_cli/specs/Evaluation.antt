@@ -12,20 +12,20 @@ use Rattle.ol_rules.specs.declared.journal.Entry.{Entry}
 use Rattle.ol_rules.specs.Counting.{counts_of}
 use Rattle.ol_rules.specs.Runs.{IsRun, IsOneThread, IsComplete, HasActive}
 use Rattle.ol_readback.specs.Heads.{live}
-use Rattle.ol_readback.specs.Trees.{IsTree}
+use Rattle.ol_readback.specs.ReadTrees.{IsTree}
 use Rattle.ol_readback.specs.Texts.{IsTextOf}
 use Rattle.ol_readback.specs.declared.answers.ReadNode.{ReadNode}
 use Rattle.ol_translate.specs.Translation.{translation_of}
 use Rattle.ol_cli.specs.Listing.{ListsOnce}
 use Rattle.ol_view.specs.Laws.{IsTable}
-use Rattle.ol_view.specs.Leads.{IsAfter}
+use Rattle.ol_view.specs.Leads.{IsAfterLeads}
 use Rattle.ol_view.specs.ShowTexts.{show_text}
 use Rattle.ol_view.specs.TraceTexts.{trace_text}
 use Rattle.ol_cli.specs.Texts.{line, answer_text, view_text}
 
 -- the net of a term with these free names, its nodes named by their numbers
-abbrev pub start_net : Tree → List (List ℕ) → NamedNet NodeName
-start_net t names = net_under Init (translation_of t (length names))
+abbrev pub start_net_of_term : Tree → List (List ℕ) → NamedNet NodeName
+start_net_of_term t names = net_under Init (translation_of t (length names))
 
 -- What is printed of a journal and its net, each node of which is listed once: the term that is read from the net, of which the first
 -- `heads` subterms are asked, each by walks of at most twice as many crossings as there are nodes; the counts of the journal; and the
@@ -45,7 +45,7 @@ pub record Shows (names : List (List ℕ)) (heads : ℕ) (journal : List Entry) 
 pub record Prints (t : Tree) (names : List (List ℕ)) (fuel heads : ℕ) (text : List ℕ) : Type 0 where
   pub journal : List Entry
   pub net : NamedNet NodeName
-  pub run : IsOneThread (start_net t names) fuel journal net
+  pub run : IsOneThread (start_net_of_term t names) fuel journal net
   pub complete : IsComplete net
   pub shows : Shows names heads journal net text
 
@@ -53,7 +53,7 @@ pub record Prints (t : Tree) (names : List (List ℕ)) (fuel heads : ℕ) (text 
 pub record RunsOut (t : Tree) (names : List (List ℕ)) (fuel : ℕ) : Type 0 where
   pub journal : List Entry
   pub net : NamedNet NodeName
-  pub run : IsOneThread (start_net t names) fuel journal net
+  pub run : IsOneThread (start_net_of_term t names) fuel journal net
   pub full : length journal ≡ fuel
   pub left : HasActive net
 
@@ -61,7 +61,7 @@ pub record RunsOut (t : Tree) (names : List (List ℕ)) (fuel : ℕ) : Type 0 wh
 pub record RunEnds (t : Tree) (names : List (List ℕ)) (fuel : ℕ) : Type 0 where
   pub journal : List Entry
   pub net : NamedNet NodeName
-  pub run : IsOneThread (start_net t names) fuel journal net
+  pub run : IsOneThread (start_net_of_term t names) fuel journal net
   pub complete : IsComplete net
 
 -- The untouched translation is read back, each try by at most `edges` crossings, and this is its line.
@@ -80,7 +80,7 @@ pub record Views (t : Tree) (names : List (List ℕ)) (after : ℕ) (text : List
   pub steps : ℕ
   pub same : SameNet (net_of start) (translation_of t (length names))
   pub whole : count_by is_some start.nodes ≡ length start.nodes
-  pub leads : IsAfter start after last steps
+  pub leads : IsAfterLeads start after last steps
   pub tabled : IsTable last
   pub written : text ≡ view_text steps (show_text last)
 
@@ -88,7 +88,7 @@ pub record Views (t : Tree) (names : List (List ℕ)) (after : ℕ) (text : List
 pub record TracesWhole (t : Tree) (names : List (List ℕ)) (fuel : ℕ) (text : List ℕ) : Type 0 where
   pub journal : List Entry
   pub net : NamedNet NodeName
-  pub run : IsRun (start_net t names) 0 journal net
+  pub run : IsRun (start_net_of_term t names) 0 journal net
   pub complete : IsComplete net
   pub within : length journal ≤ fuel
   pub written : text ≡ trace_text journal
@@ -97,7 +97,7 @@ pub record TracesWhole (t : Tree) (names : List (List ℕ)) (fuel : ℕ) (text :
 pub record TracesFuel (t : Tree) (names : List (List ℕ)) (fuel : ℕ) (text : List ℕ) : Type 0 where
   pub journal : List Entry
   pub net : NamedNet NodeName
-  pub run : IsRun (start_net t names) 0 journal net
+  pub run : IsRun (start_net_of_term t names) 0 journal net
   pub left : HasActive net
   pub full : length journal ≡ fuel
   pub written : text ≡ trace_text journal
@@ -116,11 +116,11 @@ pub record PrintsOf (names : List (List ℕ)) (fuel heads : ℕ) (journal : List
 abbrev pub EveryRunPrints : Type 0
 EveryRunPrints = (t : Tree) (names : List (List ℕ)) (fuel heads : ℕ) (text : List ℕ) →
     IsNet (translation_of t (length names)) → Prints t names fuel heads text →
-    (journal : List Entry) (net : NamedNet NodeName) → IsRun (start_net t names) 0 journal net → IsComplete net →
+    (journal : List Entry) (net : NamedNet NodeName) → IsRun (start_net_of_term t names) 0 journal net → IsComplete net →
     PrintsOf names fuel heads journal net text
 
 abbrev pub EveryRunIsLonger : Type 0
 EveryRunIsLonger = (t : Tree) (names : List (List ℕ)) (fuel : ℕ) →
     IsNet (translation_of t (length names)) → RunsOut t names fuel →
-    (journal : List Entry) (net : NamedNet NodeName) → IsRun (start_net t names) 0 journal net → IsComplete net →
+    (journal : List Entry) (net : NamedNet NodeName) → IsRun (start_net_of_term t names) 0 journal net → IsComplete net →
     fuel < length journal

@@ -12,17 +12,17 @@ use Rattle.ol_rules.specs.declared.journal.Entry.{Entry}
 use Rattle.ol_rules.specs.Runs.{IsComplete, HasActive}
 use Rattle.ol_translate.specs.Translation.{translation_of}
 use Rattle.ol_wire.specs.Closed.{ClosedTable, journal_in}
-use Rattle.ol_wire.specs.Standing.{IsAfter, AreOnce}
+use Rattle.ol_wire.specs.Standing.{IsAfter, NoNodeTwice}
 use Rattle.ol_reduce.specs.Frozen.{IsFrozen}
 use Rattle.ol_reduce.specs.Reduced.{IsTableOf}
 use Rattle.ol_words.specs.Asked.{Asked, run, trace, check, gen}
 use Rattle.ol_view.specs.TraceTexts.{trace_text}
 use Rattle.ol_cli.specs.declared.status.Status.{Status}
 use Rattle.ol_cli.specs.declared.status.Status.TheVariants as status
-use Rattle.ol_cli.specs.Jobs.{AskFor, name_of}
+use Rattle.ol_cli.specs.Jobs.{AskFor, file_name}
 use Rattle.ol_cli.specs.Texts.{spent_text}
 use Rattle.ol_cli.specs.Evaluation.{Shows}
-use Rattle.ol_cli.specs.Answers.{IsTerm, Seen, GaveAll, plain_run}
+use Rattle.ol_cli.specs.Answers.{IsTermFile, Seen, GaveAll, plain_run}
 
 -- the journal of closed words
 abbrev pub journal_of : ClosedTable → List Entry
@@ -35,7 +35,7 @@ pub record IsWorkOn (t : Tree) (names : List (List ℕ)) (fuel seats : ℕ) (w :
   pub same : SameNet (net_of start) (translation_of t (length names))
   pub table : IsTableOf start fuel seats w
   pub after : IsAfter w net
-  pub once : AreOnce (journal_of w)
+  pub once : NoNodeTwice (journal_of w)
 
 -- The run of this journal is complete and within the fuel, and the text is what is printed of it: the term that is read from its last
 -- net, whose nodes are numbered by ascending name; the counts of the journal; and the stuck pairs of that net.
@@ -85,11 +85,11 @@ TermHands _ t names st text closed = closed ≡ None
 
 -- what it hands back of a file: that of the file's term
 abbrev pub FileHands : Asked → List ℕ → Status → List ℕ → Option ClosedTable → Type 0
-FileHands asked bytes st text closed = (t : Tree) × (names : List (List ℕ)) × IsTerm bytes t names × TermHands asked t names st text closed
+FileHands asked bytes st text closed = (t : Tree) × (names : List (List ℕ)) × IsTermFile bytes t names × TermHands asked t names st text closed
 
 -- the file's bytes are all that the source gave, to their end
 abbrev pub ReadHands : Asked → Seen → Status → List ℕ → Option ClosedTable → Type 0
-ReadHands asked s st text closed = (bytes : List ℕ) × GaveAll s (name_of asked) bytes × FileHands asked bytes st text closed
+ReadHands asked s st text closed = (bytes : List ℕ) × GaveAll s (file_name asked) bytes × FileHands asked bytes st text closed
 
 -- what `gen` hands back: what `run` does of the text that is made
 abbrev pub MakingHands : (runs : Bool) → (k : ℕ) → Status → List ℕ → Option ClosedTable → Type 0

@@ -14,7 +14,7 @@ use Rattle.ol_cli.specs.Jobs.{term_bytes}
 use Rattle.ol_cli.specs.Answers.{Seen, TermAnswer, JournalCause}
 use Rattle.ol_cli.specs.Handed.{TermHands}
 use Rattle.ol_cli.specs.Texts.{fault_text}
-use Rattle.ol_cli.specs.Trees.{AnswerIsReadAgain, FileIsReadAgain}
+use Rattle.ol_cli.specs.ReadAgain.{AnswerIsReadAgain, FileIsReadAgain}
 
 -- the job is done on one term, that of its one file
 abbrev pub IsOnTerm : Asked → Type 0

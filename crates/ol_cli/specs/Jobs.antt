@@ -17,22 +17,22 @@ abbrev pub AskForNothing : List (String Global) → Type 0
 AskForNothing words = job_of (texts_of words) ≡ None
 
 -- the names of a job's files, in the order in which they are read
-abbrev pub names_of : Asked → List Text
-names_of (run workers fuel heads name) = name ∷ []
-names_of (walk edges heads name) = name ∷ []
-names_of (view after name) = name ∷ []
-names_of (trace workers fuel name) = name ∷ []
-names_of (check term journal) = term ∷ journal ∷ []
-names_of (gen runs k) = []
+abbrev pub file_names : Asked → List Text
+file_names (run workers fuel heads name) = name ∷ []
+file_names (walk edges heads name) = name ∷ []
+file_names (view after name) = name ∷ []
+file_names (trace workers fuel name) = name ∷ []
+file_names (check term journal) = term ∷ journal ∷ []
+file_names (gen runs k) = []
 
 -- the name of the file with the term, which is read first; `gen` makes its term itself
-abbrev pub name_of : Asked → Text
-name_of (run workers fuel heads name) = name
-name_of (walk edges heads name) = name
-name_of (view after name) = name
-name_of (trace workers fuel name) = name
-name_of (check term journal) = term
-name_of (gen runs k) = []
+abbrev pub file_name : Asked → Text
+file_name (run workers fuel heads name) = name
+file_name (walk edges heads name) = name
+file_name (view after name) = name
+file_name (trace workers fuel name) = name
+file_name (check term journal) = term
+file_name (gen runs k) = []
 
 -- the job has a file with a term
 abbrev pub HasTermFile : Asked → Type 0
@@ -41,14 +41,14 @@ HasTermFile _ = Unit {0}
 
 -- how many files a job has, and how many the words name, which is none where they ask for nothing
 abbrev pub count_of_files : Asked → ℕ
-count_of_files asked = length (names_of asked)
+count_of_files asked = length (file_names asked)
 
 abbrev pub files_of : List (String Global) → ℕ
 files_of words = option_map_or count_of_files (job_of (texts_of words)) 0
 
 -- this holds of the name of each file of the job
 abbrev pub EachName : Asked → (Text → Type 0) → Type 0
-EachName asked P = (place : ℕ) (name : Text) → slice_get (names_of asked) place ≡ Some name → P name
+EachName asked P = (place : ℕ) (name : Text) → slice_get (file_names asked) place ≡ Some name → P name
 
 -- each name of a file that the words ask for is known
 abbrev pub IsKnownTo : (Text → Bool) → List (String Global) → Type 0
@@ -76,5 +76,5 @@ term_bytes contents (trace workers fuel name) = contents name
 term_bytes contents (check term journal) = contents term
 
 -- these are the bytes of the term of the job that the words ask for, where they ask for one
-abbrev pub TellsFile : (Text → Option (List ℕ)) → List (String Global) → List ℕ → Type 0
-TellsFile contents words bytes = (asked : Asked) → AskFor words asked → term_bytes contents asked ≡ Some bytes
+abbrev pub TellsTerm : (Text → Option (List ℕ)) → List (String Global) → List ℕ → Type 0
+TellsTerm contents words bytes = (asked : Asked) → AskFor words asked → term_bytes contents asked ≡ Some bytes

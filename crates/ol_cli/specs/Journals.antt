@@ -6,21 +6,21 @@ use Rattle.ol_rules.specs.declared.journal.NodeName.{NodeName}
 use Rattle.ol_rules.specs.declared.journal.Entry.{Entry}
 use Rattle.ol_rules.specs.Runs.{IsRun, IsOneThread, IsComplete, HasActive}
 use Rattle.ol_translate.specs.Translation.{translation_of}
-use Rattle.ol_cli.specs.Evaluation.{start_net, Prints, RunsOut, PrintsOf}
+use Rattle.ol_cli.specs.Evaluation.{start_net_of_term, Prints, RunsOut, PrintsOf}
 
 -- There is a one-thread run for each fuel.
 abbrev pub OneThreadIsThere : Type 0
 OneThreadIsThere = (t : Tree) (names : List (List ℕ)) (fuel : ℕ) → IsNet (translation_of t (length names)) →
-    (journal : List Entry) × (net : NamedNet NodeName) × IsOneThread (start_net t names) fuel journal net
+    (journal : List Entry) × (net : NamedNet NodeName) × IsOneThread (start_net_of_term t names) fuel journal net
 
 -- What is printed of a complete run within the fuel is printed of the one-thread run.
 abbrev pub AnyRunPrints : Type 0
 AnyRunPrints = (t : Tree) (names : List (List ℕ)) (fuel heads : ℕ) (text : List ℕ) → IsNet (translation_of t (length names)) →
-    (journal : List Entry) (net : NamedNet NodeName) → IsRun (start_net t names) 0 journal net → IsComplete net →
+    (journal : List Entry) (net : NamedNet NodeName) → IsRun (start_net_of_term t names) 0 journal net → IsComplete net →
     PrintsOf names fuel heads journal net text → Prints t names fuel heads text
 
 -- Where a run is longer than the fuel, or is as long and can go on, the one-thread run has more steps than the fuel.
 abbrev pub AnyRunRunsOut : Type 0
 AnyRunRunsOut = (t : Tree) (names : List (List ℕ)) (fuel : ℕ) → IsNet (translation_of t (length names)) →
-    (journal : List Entry) (net : NamedNet NodeName) → IsRun (start_net t names) 0 journal net →
+    (journal : List Entry) (net : NamedNet NodeName) → IsRun (start_net_of_term t names) 0 journal net →
     (fuel < length journal) ⊎ ((length journal ≡ fuel) × HasActive net) → RunsOut t names fuel

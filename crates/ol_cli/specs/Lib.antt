@@ -5,7 +5,7 @@ pub mod Evaluation
 pub mod Journals
 pub mod Answers
 pub mod Sources
-pub mod Trees
+pub mod ReadAgain
 pub mod Laws
 pub mod Handed
 pub mod Prepared

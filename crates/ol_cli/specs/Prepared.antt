@@ -13,7 +13,7 @@ use Rattle.ol_cli.specs.declared.status.Status.TheVariants as status
 use Rattle.ol_cli.specs.declared.preparing.Prepared.{Prepared}
 use Rattle.ol_cli.specs.declared.preparing.Prepared.TheVariants as prepared
 use Rattle.ol_cli.specs.Texts.{syntax_text}
-use Rattle.ol_cli.specs.Answers.{IsTerm, IsPastLimit}
+use Rattle.ol_cli.specs.Answers.{IsTermFile, IsPastLimit}
 
 -- the bytes are refused so
 abbrev pub Refuses : List ℕ → Status → List ℕ → Type 0
@@ -29,7 +29,7 @@ pub record IsNetOf (t : Tree) (names : List (List ℕ)) (net : Graph) : Type 0 w
 
 -- the bytes are a text of this term, whose net this is
 pub record IsReady (bytes : List ℕ) (t : Tree) (names : List (List ℕ)) (net : Graph) : Type 0 where
-  pub term : IsTerm bytes t names
+  pub term : IsTermFile bytes t names
   pub named : AreNames names
   pub ready : IsNetOf t names net
 

@@ -15,7 +15,7 @@ use Rattle.ol_words.specs.Asked.{Asked, run, walk, gen}
 use Rattle.ol_cli.specs.declared.status.Status.{Status}
 use Rattle.ol_cli.specs.declared.status.Status.TheVariants as status
 use Rattle.ol_cli.specs.Jobs.{AskFor, plain_fuel, plain_heads}
-use Rattle.ol_cli.specs.Evaluation.{start_net, Prints, Walks, PrintsOf}
+use Rattle.ol_cli.specs.Evaluation.{start_net_of_term, Prints, Walks, PrintsOf}
 
 -- ---- the tree that is written
 
@@ -66,5 +66,5 @@ JobTells _ names journal net st old new = Unit {0}
 -- each complete run from the net of the job's own term tells this, whatever pairs it takes first
 abbrev pub EveryRunTells : List (String Global) → List ℕ → Status → Option (List ℕ) → Option (List ℕ) → Type 0
 EveryRunTells words bytes st old new = (asked : Asked) (t : Tree) (names : List (List ℕ)) → AskFor words asked → IsFileOf bytes t names →
-    (journal : List Entry) (net : NamedNet NodeName) → IsRun (start_net t names) 0 journal net → IsComplete net →
+    (journal : List Entry) (net : NamedNet NodeName) → IsRun (start_net_of_term t names) 0 journal net → IsComplete net →
     JobTells asked names journal net st old new

@@ -7,7 +7,7 @@ ghost use Rattle.ol_translate.specs.Translation.{translation_of};
 ghost use Rattle.ol_wire.specs.Sizes.{IsSmallNet};
 ghost use Rattle.ol_words.specs.Asked.{asked_by};
 ghost use Rattle.ol_cli.specs.Inside.{AnswersTerm, HandsOfTerm, IsOnTerm, IsReadByNames, IsWithinLimits, run_by, walk_by};
-ghost use Rattle.ol_cli.specs.Trees.{FileIsReadAgain};
+ghost use Rattle.ol_cli.specs.ReadAgain.{FileIsReadAgain};
 ghost use Rattle.ol_cli.specs.Answers.{FileAnswer, TraceAnswer, plain_run};
 ghost use Rattle.ol_cli.specs.Evaluation.{Views};
 ghost use Rattle.ol_cli.specs.Handed.{WhereEnded, FileHands, TraceHands};

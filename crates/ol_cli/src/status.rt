@@ -1,6 +1,6 @@
 //! How a call of the program ended.
 ghost use Rattle.std.specs.Prelude.{◌≡◌};
-ghost use Rattle.ol_cli.specs.Answers.{number_of};
+ghost use Rattle.ol_cli.specs.Answers.{status_number};
 
 /// How a call of the program ended. The order in which refusals are tried is `Usage`, `ReadFault`,
 /// `Limit` by bytes, `Syntax`, `Limit` by depth, `Limit` by nodes, `Spent`, `WriteFault`; for
@@ -30,7 +30,7 @@ pub enum Status {
 impl Status {
     /// The number that a process ends with.
     pub fn number(self) -> u8
-        ensures number { result ≡ number_of self }
+        ensures number { result ≡ status_number self }
     {
         match self {
             Status::Done => 0,

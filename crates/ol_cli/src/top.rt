@@ -6,12 +6,12 @@ ghost use Rattle.ol_term.specs.Generated.{doubled_text};
 ghost use Rattle.ol_wire.specs.Sizes.{IsSmallNet};
 ghost use Rattle.ol_words.specs.Asked.{asked_by, check, gen};
 ghost use Rattle.ol_cli.specs.Texts.{line};
-ghost use Rattle.ol_cli.specs.Jobs.{AskForNothing, EachName, IsKnownTo, TellsFile, TellsFiles, count_of_files, files_of, name_of};
+ghost use Rattle.ol_cli.specs.Jobs.{AskForNothing, EachName, IsKnownTo, TellsTerm, TellsFiles, count_of_files, files_of, file_name};
 ghost use Rattle.ol_cli.specs.Inside.{IsReadWhereTold, IsOnTerm, IsWithinLimits, EndsJournal};
 ghost use Rattle.ol_cli.specs.Answers.{IfNoneFailed, seen_by, Cause, Ends, FileCause, IsAnswer, JobCause, Makes};
 ghost use Rattle.ol_cli.specs.Prepared.{IsNetOf};
 ghost use Rattle.ol_cli.specs.Sources.{EveryRunTells, WritesTree};
-ghost use Rattle.ol_cli.specs.Trees.{FileIsReadAgain, WordsAreReadAgain, WritesReadable};
+ghost use Rattle.ol_cli.specs.ReadAgain.{FileIsReadAgain, WordsAreReadAgain, WritesReadable};
 ghost use Rattle.ol_cli.specs.Handed.{Hands, JobHands, MakingHands, ReadHands, WhereEnded, WordsHand};
 
 use crate::evaluation::{Answer, evaluate, run_made};
@@ -119,14 +119,14 @@ pub fn ol<R: Threads + Wait + Sync, S: Source, W: Sink, G: Gate + Sync>(
     // the job's own term; so is each `?`, where the printed `stuck` is 0, while of a `?` of `walk`
     // nothing is said. And where each of its places has a head, its text is in the grammar, and
     // read back it is the tree's term, which has no redex.
-    ensures tree { (bytes : List ℕ) → TellsFile (S.contents src.old) words.now.items bytes
+    ensures tree { (bytes : List ℕ) → TellsTerm (S.contents src.old) words.now.items bytes
         → IfNoneFailed (S.faults src.old) (S.faults src.new) (W.faults out.old) (W.faults out.new)
         (result.status ≡ Status.Done
         → WritesTree words.now.items bytes (W.taken out.old) (W.taken out.new)) }
 
     // And each complete run of the own term of `run` or `gen --run`, whatever pairs it takes first,
     // prints what is written, or is longer than the fuel where that is spent.
-    ensures every_run { (bytes : List ℕ) → TellsFile (S.contents src.old) words.now.items bytes
+    ensures every_run { (bytes : List ℕ) → TellsTerm (S.contents src.old) words.now.items bytes
         → IfNoneFailed (S.faults src.old) (S.faults src.new) (W.faults out.old) (W.faults out.new)
         (result.status ≢ Status.NoMemory → EveryRunTells words.now.items bytes
         result.status (W.taken out.old) (W.taken out.new)) }
@@ -176,7 +176,7 @@ fn answer<R: Threads + Wait + Sync, S: Source, W: Sink, G: Gate + Sync>(
     ensures ends { Ends words.now.items
         (seen_by S.faults S.contents S.given S.ended src.old src.new)
         result.status (W.faults out.old) (W.faults out.new) (W.taken out.old) (W.taken out.new) }
-    ensures read_again { (bytes : List ℕ) → TellsFile (S.contents src.old) words.now.items bytes
+    ensures read_again { (bytes : List ℕ) → TellsTerm (S.contents src.old) words.now.items bytes
         → result.status ≡ Status.Done
         → WritesReadable words.now.items bytes (W.taken out.old) (W.taken out.new) }
     ensures closed { Hands words.now.items
@@ -284,7 +284,7 @@ fn answer_file<R: Threads + Wait + Sync, S: Source, G: Gate + Sync>(
     src: &mut S,
     gate: &G,
 ) -> Result<Answer, NoMemory>
-    requires name { name.now ≡ name_of (asked_by job.now) }
+    requires name { name.now ≡ file_name (asked_by job.now) }
     requires known { S.knows src.old name.now ≡ true }
     requires on_term { IsOnTerm (asked_by job.now) }
     requires within { IsWithinLimits (asked_by job.now) }

@@ -4,8 +4,8 @@ use Rattle.ol_net.specs.Nets.{NamedNet, NamedPort, free, Linked, IsNet}
 use Rattle.ol_context.specs.Contexts.{Level, Context}
 use Rattle.ol_context.specs.Paths.{Path, crossings}
 use Rattle.ol_context.specs.Shapes.{context_of}
-use Rattle.ol_context.specs.Ways.{Way, Exits, Stands, Stops}
-use Rattle.ol_context.specs.Answers.{ExitsExactly, StopsExactly, StandsExactly}
+use Rattle.ol_context.specs.Ways.{Way, Exits, WalkStands, Stops}
+use Rattle.ol_context.specs.WalkAnswers.{ExitsExactly, StopsExactly, StandsExactly}
 use Rattle.ol_context.specs.declared.answers.Walk.TheVariants.{Exit, Undefined, Budget}
 use Rattle.ol_context.specs.Laws.{WalkIsOne}
 use Rattle.ol_context.proofs.Ways.{path_way, way_passes, way_one, ended, stopped}
@@ -32,12 +32,12 @@ module _ {A : Type 0} (N : NamedNet A) (is_net : IsNet N) (p : NamedPort A) (c :
           (cc, z.1, e)
 
   -- a walk that leaves within n crossings doesn't stand after n
-  pub no_stand : (q : ℕ) (d : Context) (r : Path N p c q d) (n : ℕ) → crossings r ≤ n → Stands N p c n → ⊥
+  pub no_stand : (q : ℕ) (d : Context) (r : Path N p c q d) (n : ℕ) → crossings r ≤ n → WalkStands N p c n → ⊥
   no_stand q d r n b s = go (three (crossings r) n)
     where
       go : Three (crossings r) n → ⊥
       go (inl (inl a)) = let v = path_way N r in ended N is_net q v.1 v.2 ((way_passes N (crossings r) s.way a).stands)
-      go (inl (inr e)) = let v = path_way N r in ended N is_net q v.1 v.2 (subst (Stands N p c) (sym e) s)
+      go (inl (inr e)) = let v = path_way N r in ended N is_net q v.1 v.2 (subst (WalkStands N p c) (sym e) s)
       go (inr a) = absurd (omega arith)
 
   -- a walk that leaves doesn't stop
@@ -62,7 +62,7 @@ module _ {A : Type 0} (N : NamedNet A) (is_net : IsNet N) (p : NamedPort A) (c :
       go (inl (inr e)) = s.tried ∙ ap suc e ∙ sym t.tried
 
   -- a walk that stops doesn't stand after all crossings
-  pub no_stand_past : (edges n : ℕ) → Stops N p c edges n → Stands N p c edges → ⊥
+  pub no_stand_past : (edges n : ℕ) → Stops N p c edges n → WalkStands N p c edges → ⊥
   no_stand_past edges n s t = let e = s.tried in let w = s.within in stopped N is_net s (way_passes N s.made t.way (omega arith))
 
 module _ {A : Type 0} where
@@ -106,7 +106,7 @@ module _ (N : NamedNet ℕ) (is_net : IsNet N) (p : ℕ) (c : Context) (edges : 
     pub undefined_stands : StandsExactly N p c edges (Undefined n)
     undefined_stands = (λ e. absurd (cc), λ s. absurd (no_stand_past N is_net (free p) c edges n x s))
 
-  module _ (x : Stands N (free p) c edges) where
+  module _ (x : WalkStands N (free p) c edges) where
     pub budget_exits : ExitsExactly N p c edges vs Budget
     budget_exits q' d n' = (λ h. absurd h, λ y. absurd (no_stand N is_net (free p) c q' d y.path edges (within y.path y.long y.within) x))
       where

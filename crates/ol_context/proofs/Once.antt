@@ -9,8 +9,8 @@ use Rattle.ol_context.specs.contracts.arena.ShapePartialEq.TheImpl.{eq-value}
 use Rattle.ol_context.specs.Contexts.{Level, empty}
 use Rattle.ol_context.specs.declared.arena.Shape.{Shape}
 use Rattle.ol_context.specs.declared.arena.Shape.TheVariants.{Empty, O, Star, Pair}
-use Rattle.ol_context.specs.Shapes.{value, tree_of, IsBelow, Extends, IsNumberOf}
-use Rattle.ol_context.specs.Trees.{grow, trees}
+use Rattle.ol_context.specs.Shapes.{value, level_of_shape, IsBelow, Extends, IsNumberOf}
+use Rattle.ol_context.specs.HeldLevels.{grow, trees}
 use Rattle.ol_context.specs.Rows.{IsRow, AreOnce}
 use Rattle.ol_context.proofs.Shapes.{row_push, trees_push, trees_length, extends_push, extends_refl, shape_at, below_at, first_is_empty, tree_keeps}
 
@@ -64,7 +64,7 @@ extends_put ks js s p = by (put_cases ks js s p)
   where
     by : (js ≡ ks) ⊎ ((js ≡ ks ++ s ∷ []) × (list_any (same s) ks ≡ false)) → Extends (trees ks) (trees js)
     by (inl e) = subst (λ (js : List Shape). Extends (trees ks) (trees js)) (sym e) (extends_refl (trees ks))
-    by (inr e) = subst (λ (js : List Shape). Extends (trees ks) (trees js)) (sym e.0) (subst (Extends (trees ks)) (sym (trees_push ks s)) (extends_push (trees ks) (tree_of (trees ks) s)))
+    by (inr e) = subst (λ (js : List Shape). Extends (trees ks) (trees js)) (sym e.0) (subst (Extends (trees ks)) (sym (trees_push ks s)) (extends_push (trees ks) (level_of_shape (trees ks) s)))
 
 pub few_put : (ks js : List Shape) (s : Shape) → PutIn ks s js → length js ≤ suc (length ks)
 few_put ks js s p = by (put_cases ks js s p)
@@ -115,7 +115,7 @@ once_put ks js s u n p = by (put_cases ks js s p)
     by (inl e) = subst AreOnce (sym e) u
     by (inr e) = subst AreOnce (sym e.0) (once_push ks s u n e.1)
 
-pub new_put : (ks js : List Shape) (s k : Shape) (at : ℕ) → IsRow 1 ks → IsBelow (suc (length ks)) s → PutIn ks s js → slice_get js at ≡ Some k → same s k ≡ true → IsNumberOf (trees js) (at + 1) (tree_of (trees ks) s)
+pub new_put : (ks js : List Shape) (s k : Shape) (at : ℕ) → IsRow 1 ks → IsBelow (suc (length ks)) s → PutIn ks s js → slice_get js at ≡ Some k → same s k ≡ true → IsNumberOf (trees js) (at + 1) (level_of_shape (trees ks) s)
 new_put ks js s k at r b p g e =
     let x = extends_put ks js s p in
     let w = slice_get_within js at k g in
@@ -124,7 +124,7 @@ new_put ks js s k at r b p g e =
     record {
       held = omega arith;
       is = shape_at (empty ∷ []) js at (at + 1) s (row_put ks js s r b p) (omega arith) w
-          ∙ ap (tree_of (trees js)) (get_or_from_slice_get js at k s g ∙ sym (same_is s k e))
+          ∙ ap (level_of_shape (trees js)) (get_or_from_slice_get js at k s g ∙ sym (same_is s k e))
           ∙ tree_keeps (suc (length ks)) (trees ks) (trees js) s b (λ j c. x.same j (omega arith));
     }
 
@@ -133,7 +133,7 @@ abbrev pub shape_of : List Shape → ℕ → Shape
 shape_of ss zero = Empty
 shape_of ss (suc k) = get_or ss k Empty
 
-value_is : (ss : List Shape) → IsRow 1 ss → (n : ℕ) → n < length (trees ss) → value (trees ss) n ≡ tree_of (trees ss) (shape_of ss n)
+value_is : (ss : List Shape) → IsRow 1 ss → (n : ℕ) → n < length (trees ss) → value (trees ss) n ≡ level_of_shape (trees ss) (shape_of ss n)
 value_is ss r zero b = first_is_empty ss
 value_is ss r (suc k) b = let l = trees_length ss in shape_at (empty ∷ []) ss k (suc k) Empty r (omega arith) (omega arith)
 
@@ -147,7 +147,7 @@ shape_one ss u zero (suc b) p q e = let l = trees_length ss in absurd (u.1 b Emp
 shape_one ss u (suc a) zero p q e = let l = trees_length ss in absurd (u.1 a Empty (omega arith) e)
 shape_one ss u (suc a) (suc b) p q e = let l = trees_length ss in ap suc (u.0 a b Empty (omega arith) (omega arith) e)
 
-tree_one : (vs : List Level) (a b : ℕ) → ((x y : ℕ) → x < a → y < b → value vs x ≡ value vs y → x ≡ y) → (s t : Shape) → IsBelow a s → IsBelow b t → tree_of vs s ≡ tree_of vs t → s ≡ t
+tree_one : (vs : List Level) (a b : ℕ) → ((x y : ℕ) → x < a → y < b → value vs x ≡ value vs y → x ≡ y) → (s t : Shape) → IsBelow a s → IsBelow b t → level_of_shape vs s ≡ level_of_shape vs t → s ≡ t
 tree_one vs a b h Empty Empty p q e = refl
 tree_one vs a b h Empty (O y) p q e = absurd (cc)
 tree_one vs a b h Empty (Star y) p q e = absurd (cc)
@@ -175,13 +175,13 @@ one_number ss r u (suc m) a b f p q e =
 -- the first shapes, and their values
 grow_cut : (vs : List Level) (ss : List Shape) (m : ℕ) → m ≤ length vs → take m (grow vs ss) ≡ take m vs
 grow_cut vs [] m b = refl
-grow_cut vs (t ∷ ss) m b = let l = length_push vs (tree_of vs t) in grow_cut (vs ++ tree_of vs t ∷ []) ss m (omega arith) ∙ take-append-le m vs (tree_of vs t ∷ []) b
+grow_cut vs (t ∷ ss) m b = let l = length_push vs (level_of_shape vs t) in grow_cut (vs ++ level_of_shape vs t ∷ []) ss m (omega arith) ∙ take-append-le m vs (level_of_shape vs t ∷ []) b
 
 grow_take : (vs : List Level) (ss : List Shape) (n m : ℕ) → m ≡ length vs + n → take m (grow vs ss) ≡ grow vs (take n ss)
 grow_take vs [] zero m e = take_all m vs (omega arith)
 grow_take vs [] (suc n) m e = take_all m vs (omega arith)
 grow_take vs (t ∷ ss) zero m e = grow_cut vs (t ∷ ss) m (omega arith) ∙ take_all m vs (omega arith)
-grow_take vs (t ∷ ss) (suc n) m e = let l = length_push vs (tree_of vs t) in grow_take (vs ++ tree_of vs t ∷ []) ss n m (omega arith)
+grow_take vs (t ∷ ss) (suc n) m e = let l = length_push vs (level_of_shape vs t) in grow_take (vs ++ level_of_shape vs t ∷ []) ss n m (omega arith)
 
 pub trees_take : (ss : List Shape) (n m : ℕ) → m ≡ suc n → trees (take n ss) ≡ take m (trees ss)
 trees_take ss n m e = sym (grow_take (empty ∷ []) ss n m (omega arith))

@@ -10,10 +10,10 @@ use Rattle.ol_context.specs.Contexts.{Level, empty, Context, levels, cons, at_le
 use Rattle.ol_context.specs.Paths.{IsBarred}
 use Rattle.ol_context.specs.Shapes.{value, AreHeld, Extends, context_of}
 use Rattle.ol_context.specs.Asked.{os, asked}
-use Rattle.ol_context.specs.Open.{Open, StandsFor, open_at, opened, IsHeldOpen}
+use Rattle.ol_context.specs.Open.{Open, IsOpenFor, open_at, opened, IsHeldOpen}
 use Rattle.ol_context.specs.Passed.{OpenThrough, IsOpenBarred}
-use Rattle.ol_context.specs.Ways.{Way, start, Exits, Stands}
-use Rattle.ol_context.specs.OpenAnswers.{BreaksOff, AllBelowBreakOff, AllBreakOff, OpenExitsExactly, OpenStopsExactly, OpenStandsExactly}
+use Rattle.ol_context.specs.Ways.{Way, start, Exits, WalkStands}
+use Rattle.ol_context.specs.OpenWalkAnswers.{BreaksOff, AllBelowBreakOff, AllBreakOff, OpenExitsExactly, OpenStopsExactly, OpenStandsExactly}
 use Rattle.ol_context.specs.declared.answers.OpenWalk.TheVariants.{Exit, Undefined, Budget}
 use Rattle.ol_context.proofs.Shapes.{extends_refl, extends_trans}
 use Rattle.ol_context.proofs.LevelLists.{levels_cons}
@@ -41,8 +41,8 @@ pub record OpenWalking (g : Graph) (from : ℕ) (ls : List Level) (old vs : List
   pub held : IsHeldOpen vs X
   pub within : made ≤ edges
   pub few : X.lams ≤ made
-  pub ways : (n : ℕ) → StandsFor X n → Way (net_of g) (free from) (asked ls n) made (numbered_port at) (open_at vs X n)
-  pub others : (n : ℕ) → (StandsFor X n → ⊥) → (k : ℕ) × (k ≤ made) × BreaksOff (net_of g) from ls edges n k
+  pub ways : (n : ℕ) → IsOpenFor X n → Way (net_of g) (free from) (asked ls n) made (numbered_port at) (open_at vs X n)
+  pub others : (n : ℕ) → (IsOpenFor X n → ⊥) → (k : ℕ) × (k ≤ made) × BreaksOff (net_of g) from ls edges n k
   pub port : IsPort (net_of g) (numbered_port at)
   pub counted : ticks ≡ first + made
 
@@ -68,14 +68,14 @@ module _ (g : Graph) (from : ℕ) (ls old : List Level) (vs : List Level) (X : O
     exits_open k e =
         way_exits (net_of g) edges made k (w.ways X.lams (covers_least X.leaf X.lams)) (subst (λ q. Linked (net_of g) (numbered_port p) (numbered_port q)) e l) w.within
 
-  stands_for : (q : Port) → Linked (net_of g) (numbered_port p) (numbered_port q) → IsNotFree q → (n : ℕ) → StandsFor X n → Stands (net_of g) (free from) (asked ls n) made
+  stands_for : (q : Port) → Linked (net_of g) (numbered_port p) (numbered_port q) → IsNotFree q → (n : ℕ) → IsOpenFor X n → WalkStands (net_of g) (free from) (asked ls n) made
   stands_for (Free k) l f n c = absurd (f k refl)
   stands_for (Of x s) l f n c = record { port = numbered_port p; context = open_at vs X n; way = w.ways n c; node = x.0; at = s; linked = l }
 
-  pub stands_open : (q : Port) → Linked (net_of g) (numbered_port p) (numbered_port q) → IsNotFree q → edges ≤ made → Stands (net_of g) (free from) (asked ls X.lams) edges
-  stands_open q l f b = let i = w.within in let e : made ≡ edges = omega arith in subst (Stands (net_of g) (free from) (asked ls X.lams)) e (stands_for q l f X.lams (covers_least X.leaf X.lams))
+  pub stands_open : (q : Port) → Linked (net_of g) (numbered_port p) (numbered_port q) → IsNotFree q → edges ≤ made → WalkStands (net_of g) (free from) (asked ls X.lams) edges
+  stands_open q l f b = let i = w.within in let e : made ≡ edges = omega arith in subst (WalkStands (net_of g) (free from) (asked ls X.lams)) e (stands_for q l f X.lams (covers_least X.leaf X.lams))
 
-  stops_for : (q : Port) → Linked (net_of g) (numbered_port p) (numbered_port q) → IsNotFree q → made < edges → (n : ℕ) → StandsFor X n → IsBarred (net_of g) (numbered_port q) (open_at vs X n) → BreaksOff (net_of g) from ls edges n (made + 1)
+  stops_for : (q : Port) → Linked (net_of g) (numbered_port p) (numbered_port q) → IsNotFree q → made < edges → (n : ℕ) → IsOpenFor X n → IsBarred (net_of g) (numbered_port q) (open_at vs X n) → BreaksOff (net_of g) from ls edges n (made + 1)
   stops_for (Free k) l f b n c d = absurd (f k refl)
   stops_for (Of x s) l f b n c d = record {
     made = made;
@@ -103,10 +103,10 @@ module _ (g : Graph) (from : ℕ) (ls old : List Level) (vs : List Level) (X : O
           counted = omega arith;
         }
       where
-        others : (n : ℕ) → (StandsFor Y n → ⊥) → (k : ℕ) × (k ≤ made + 1) × BreaksOff (net_of g) from ls edges n k
+        others : (n : ℕ) → (IsOpenFor Y n → ⊥) → (k : ℕ) × (k ≤ made + 1) × BreaksOff (net_of g) from ls edges n k
         others n c = go (covers_or X.leaf X.lams n)
           where
-            go : StandsFor X n ⊎ (StandsFor X n → ⊥) → (k : ℕ) × (k ≤ made + 1) × BreaksOff (net_of g) from ls edges n k
+            go : IsOpenFor X n ⊎ (IsOpenFor X n → ⊥) → (k : ℕ) × (k ≤ made + 1) × BreaksOff (net_of g) from ls edges n k
             go (inl d) = (made + 1, omega arith, stops_for q l f b n d (o.barred n d c))
             go (inr d) = let t = w.others n d in let a = t.1 in (t.0, omega arith, t.2)
 
@@ -116,7 +116,7 @@ module _ (g : Graph) (from : ℕ) (ls old : List Level) (vs : List Level) (X : O
         all : (m : ℕ) → (j : ℕ) × (j ≤ made + 1) × BreaksOff (net_of g) from ls edges m j
         all m = go (covers_or X.leaf X.lams m)
           where
-            go : StandsFor X m ⊎ (StandsFor X m → ⊥) → (j : ℕ) × (j ≤ made + 1) × BreaksOff (net_of g) from ls edges m j
+            go : IsOpenFor X m ⊎ (IsOpenFor X m → ⊥) → (j : ℕ) × (j ≤ made + 1) × BreaksOff (net_of g) from ls edges m j
             go (inl d) = (made + 1, omega arith, stops_for q l f b m d (o m d))
             go (inr d) = let t = w.others m d in let a = t.1 in (t.0, omega arith, t.2)
 
@@ -132,10 +132,10 @@ module _ (N : NamedNet ℕ) (is_net : IsNet N) (p : ℕ) (ls : List Level) (edge
   exit_breaks : (n q : ℕ) (d : Context) (k j : ℕ) → Exits N (free p) (asked ls n) edges q d k → BreaksOff N p ls edges n j → ⊥
   exit_breaks n q d k j x s = no_stop N is_net (free p) (asked ls n) q d x.path edges j s
 
-  stand_breaks : (n j : ℕ) → Stands N (free p) (asked ls n) edges → BreaksOff N p ls edges n j → ⊥
+  stand_breaks : (n j : ℕ) → WalkStands N (free p) (asked ls n) edges → BreaksOff N p ls edges n j → ⊥
   stand_breaks n j t s = no_stand_past N is_net (free p) (asked ls n) edges j s t
 
-  exit_stands : (n q : ℕ) (d : Context) (k : ℕ) → Exits N (free p) (asked ls n) edges q d k → Stands N (free p) (asked ls n) edges → ⊥
+  exit_stands : (n q : ℕ) (d : Context) (k : ℕ) → Exits N (free p) (asked ls n) edges q d k → WalkStands N (free p) (asked ls n) edges → ⊥
   exit_stands n q d k x t = let l = x.long in let b = x.within in no_stand N is_net (free p) (asked ls n) q d x.path edges (omega arith) t
 
   -- the first that doesn't break off is one
@@ -165,16 +165,16 @@ module _ (N : NamedNet ℕ) (is_net : IsNet N) (p : ℕ) (ls : List Level) (edge
       λ e. absurd (cc),
       λ y.
           let e = first_one n n' (λ j. exit_breaks n q (context_of vs ms) k j x) (λ j. stand_breaks n' j y.0) b y.1 in
-          absurd (exit_stands n q (context_of vs ms) k x (subst (λ n. Stands N (free p) (asked ls n) edges) (sym e) y.0)),
+          absurd (exit_stands n q (context_of vs ms) k x (subst (λ n. WalkStands N (free p) (asked ls n) edges) (sym e) y.0)),
     )
 
-  module _ (vs : List Level) (n : ℕ) (x : Stands N (free p) (asked ls n) edges) (b : AllBelowBreakOff N p ls edges n) where
+  module _ (vs : List Level) (n : ℕ) (x : WalkStands N (free p) (asked ls n) edges) (b : AllBelowBreakOff N p ls edges n) where
     pub open_budget_exits : OpenExitsExactly N p ls edges vs (Budget n)
     open_budget_exits n' q' d k' = (
       λ h. absurd h,
       λ y.
           let e = first_one n n' (λ j. stand_breaks n j x) (λ j. exit_breaks n' q' d k' j y.0) b y.1 in
-          absurd (exit_stands n' q' d k' y.0 (subst (λ n. Stands N (free p) (asked ls n) edges) e x)),
+          absurd (exit_stands n' q' d k' y.0 (subst (λ n. WalkStands N (free p) (asked ls n) edges) e x)),
     )
 
     pub open_budget_stops : OpenStopsExactly N p ls edges (Budget n)
@@ -182,7 +182,7 @@ module _ (N : NamedNet ℕ) (is_net : IsNet N) (p : ℕ) (ls : List Level) (edge
 
     pub open_budget_stands : OpenStandsExactly N p ls edges (Budget n)
     open_budget_stands n' = (
-      λ e. let i : n ≡ n' = number n' e in (subst (λ n. Stands N (free p) (asked ls n) edges) i x, subst (AllBelowBreakOff N p ls edges) i b),
+      λ e. let i : n ≡ n' = number n' e in (subst (λ n. WalkStands N (free p) (asked ls n) edges) i x, subst (AllBelowBreakOff N p ls edges) i b),
       λ y. ap Budget (first_one n n' (λ j. stand_breaks n j x) (λ j. stand_breaks n' j y.0) b y.1),
     )
       where

@@ -6,9 +6,9 @@ use Rattle.ol_net.specs.declared.parts.Kind.{Kind}
 use Rattle.ol_net.specs.Nets.{NamedNet, NamedPort, free, slot, HasNode, Linked, IsNet, IsPort}
 use Rattle.ol_context.specs.Contexts.{Level, Context}
 use Rattle.ol_context.specs.Paths.{inward, outward, Path, crossings}
-use Rattle.ol_context.specs.Ways.{Way, start, on, Stands}
+use Rattle.ol_context.specs.Ways.{Way, start, on, WalkStands}
 use Rattle.ol_context.specs.Short.{HasNoFacing, live, IsOnce, entries, principal, auxiliary, TurnsOnce, LeavesExactly}
-use Rattle.ol_context.specs.Answers.{IsExit, ExitsExactly}
+use Rattle.ol_context.specs.WalkAnswers.{IsExit, ExitsExactly}
 use Rattle.ol_context.specs.declared.answers.Walk.{Walk}
 use Rattle.ol_context.proofs.Short.{few, IsLive, Down, first, next, down_one, short}
 use Rattle.ol_context.proofs.Ways.{way_exits, way_passes}
@@ -166,7 +166,7 @@ module _ {A : Type 0} (N : NamedNet A) (is_net : IsNet N) (apart : HasNoFacing N
       let l = up_link c (m + n) (omega arith) z in
       subst (Up c) (omega arith) (up_on c (m + n) z l.0 l.1 l.2)
 
-  up_at : (c : Context) (edges : ℕ) → 2 * live N ≤ edges → (s : Stands N (free p) c edges) → Up c (suc edges)
+  up_at : (c : Context) (edges : ℕ) → 2 * live N ≤ edges → (s : WalkStands N (free p) c edges) → Up c (suc edges)
   up_at c edges b s = go (stage s.way)
     where
       go : Stage edges s.port (entries s.way) → Up c (suc edges)
@@ -180,12 +180,12 @@ module _ {A : Type 0} (N : NamedNet A) (is_net : IsNet N) (apart : HasNoFacing N
   three : (m n : ℕ) → ((m < n) ⊎ (m ≡ n)) ⊎ (n < m)
   three m n = grind arith
 
-  pub goes_on : (c : Context) (edges : ℕ) → 2 * live N ≤ edges → Stands N (free p) c edges → (n : ℕ) → Stands N (free p) c n
+  pub goes_on : (c : Context) (edges : ℕ) → 2 * live N ≤ edges → WalkStands N (free p) c edges → (n : ℕ) → WalkStands N (free p) c n
   goes_on c edges b s n = go (three n edges)
     where
-      go : ((n < edges) ⊎ (n ≡ edges)) ⊎ (edges < n) → Stands N (free p) c n
+      go : ((n < edges) ⊎ (n ≡ edges)) ⊎ (edges < n) → WalkStands N (free p) c n
       go (inl (inl h)) = (way_passes N n s.way h).stands
-      go (inl (inr e)) = subst (Stands N (free p) c) (sym e) s
+      go (inl (inr e)) = subst (WalkStands N (free p) c) (sym e) s
       go (inr h) =
           let e : (n - suc edges) + suc edges ≡ n = omega arith in
           let r = subst (Up c) e (up_later c (suc edges) (omega arith) (up_at c edges b s) (n - suc edges)) in

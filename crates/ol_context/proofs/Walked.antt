@@ -9,7 +9,7 @@ use Rattle.ol_context.specs.Contexts.{Level, Context}
 use Rattle.ol_context.specs.Paths.{inward, outward, Through, through, IsBarred}
 use Rattle.ol_context.specs.Shapes.{Extends, AreHeld, context_of}
 use Rattle.ol_context.specs.Crossed.{IsNodePort}
-use Rattle.ol_context.specs.Ways.{Way, start, Exits, Stands, Stops}
+use Rattle.ol_context.specs.Ways.{Way, start, Exits, WalkStands, Stops}
 use Rattle.ol_context.proofs.Shapes.{extends_refl, extends_trans}
 use Rattle.ol_context.proofs.Ways.{way_exits, way_on}
 
@@ -53,12 +53,12 @@ module _ (g : Graph) (from : ℕ) (c : Context) (old : List Level) where
 
   -- where the walk stands
   module _ (vs : List Level) (ns : List ℕ) (p : Port) (made edges : ℕ) (w : Walking g from c old vs ns p made edges) where
-    pub stands : (q : Port) → Linked (net_of g) (numbered_port p) (numbered_port q) → IsNotFree q → Stands (net_of g) (free from) c made
+    pub stands : (q : Port) → Linked (net_of g) (numbered_port p) (numbered_port q) → IsNotFree q → WalkStands (net_of g) (free from) c made
     stands (Free k) l f = absurd (f k refl)
     stands (Of x s) l f = record { port = numbered_port p; context = context_of vs ns; way = w.way; node = x.0; at = s; linked = l }
 
-    pub stands_last : (q : Port) → Linked (net_of g) (numbered_port p) (numbered_port q) → IsNotFree q → edges ≤ made → Stands (net_of g) (free from) c edges
-    stands_last q l f b = let i = w.within in let e : made ≡ edges = omega arith in subst (Stands (net_of g) (free from) c) e (stands q l f)
+    pub stands_last : (q : Port) → Linked (net_of g) (numbered_port p) (numbered_port q) → IsNotFree q → edges ≤ made → WalkStands (net_of g) (free from) c edges
+    stands_last q l f b = let i = w.within in let e : made ≡ edges = omega arith in subst (WalkStands (net_of g) (free from) c) e (stands q l f)
 
     pub stops : (q : Port) → Linked (net_of g) (numbered_port p) (numbered_port q) → IsNotFree q → made < edges → IsBarred (net_of g) (numbered_port q) (context_of vs ns) → Stops (net_of g) (free from) c edges (made + 1)
     stops (Free k) l f b n = absurd (f k refl)

@@ -4,7 +4,7 @@ use Rattle.ol_net.specs.declared.parts.Kind.{Kind}
 use Rattle.ol_net.specs.Nets.{NamedNet, NamedPort, free, slot, HasNode, Linked, IsNet}
 use Rattle.ol_context.specs.Contexts.{Context}
 use Rattle.ol_context.specs.Paths.{Crosses, inward, outward, Through, through, Path, ends, goes, crossings}
-use Rattle.ol_context.specs.Ways.{Way, start, on, Exits, Stands, Stops}
+use Rattle.ol_context.specs.Ways.{Way, start, on, Exits, WalkStands, Stops}
 use Rattle.ol_context.specs.Laws.{CrossingBack, ThroughBack, CrossingIsOne, WalkBack}
 use Rattle.ol_context.proofs.Contexts.{injective}
 
@@ -64,7 +64,7 @@ module _ {A : Type 0} (N : NamedNet A) where
 
   -- the walk stands at a node and goes through it
   pub record Passes (p : NamedPort A) (c : Context) (n : ℕ) : Type 0 where
-    pub stands : Stands N p c n
+    pub stands : WalkStands N p c n
     pub out : NamedPort A
     pub after : Context
     pub goes_through : Through N (slot stands.node stands.at) stands.context out after
@@ -103,7 +103,7 @@ module _ {A : Type 0} (N : NamedNet A) where
         through_one (through h y) (through_same e (sym z.1) (through h' y'))
 
     -- where a walk leaves it doesn't stand
-    pub ended : {p : NamedPort A} {c : Context} {n : ℕ} {u : NamedPort A} {d : Context} (q : ℕ) → Way N p c n u d → Linked N u (free q) → Stands N p c n → ⊥
+    pub ended : {p : NamedPort A} {c : Context} {n : ℕ} {u : NamedPort A} {d : Context} (q : ℕ) → Way N p c n u d → Linked N u (free q) → WalkStands N p c n → ⊥
     ended {u = u} q w l s =
         let z = way_one w s.way in
         let e : slot s.node s.at ≡ free q = link_one z.0 l s.linked in

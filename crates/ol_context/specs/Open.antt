@@ -35,8 +35,8 @@ abbrev pub Covers : Option (ℕ × List Around) → ℕ → ℕ → Type 0
 Covers None lams n = n ≡ lams
 Covers (Some l) lams n = lams ≤ n
 
-abbrev pub StandsFor : Open → ℕ → Type 0
-StandsFor X n = Covers X.leaf X.lams n
+abbrev pub IsOpenFor : Open → ℕ → Type 0
+IsOpenFor X n = Covers X.leaf X.lams n
 
 -- the context that it stands for at n: the leaf is n - lams times o before empty
 abbrev pub open_at : List Level → Open → ℕ → Context

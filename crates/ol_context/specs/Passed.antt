@@ -9,14 +9,14 @@ use Rattle.ol_context.specs.Paths.{Through, IsBarred}
 use Rattle.ol_context.specs.Crossed.{IfOut}
 use Rattle.ol_context.specs.declared.answers.Cross.{Cross}
 use Rattle.ol_context.specs.declared.answers.Cross.TheVariants as cross
-use Rattle.ol_context.specs.Open.{Open, StandsFor, open_at}
+use Rattle.ol_context.specs.Open.{Open, IsOpenFor, open_at}
 
 -- The new open context stands for those n of the old one for which P says that the crossing is made, and for the others Q says
 -- that none is defined.
 pub record Narrows (X Y : Open) (P Q : ℕ → Type 0) : Type 0 where
-  pub within : (n : ℕ) → StandsFor Y n → StandsFor X n
-  pub made : (n : ℕ) → StandsFor Y n → P n
-  pub barred : (n : ℕ) → StandsFor X n → (StandsFor Y n → ⊥) → Q n
+  pub within : (n : ℕ) → IsOpenFor Y n → IsOpenFor X n
+  pub made : (n : ℕ) → IsOpenFor Y n → P n
+  pub barred : (n : ℕ) → IsOpenFor X n → (IsOpenFor Y n → ⊥) → Q n
 
 -- A node of the net is entered by port p and left by port q: the new open context stands for those n of the old one for which a
 -- crossing is defined, with the context there.
@@ -25,7 +25,7 @@ OpenThrough N p q old new X Y = Narrows X Y (λ n. Through N p (open_at old X n)
 
 -- no crossing is defined for any n
 abbrev pub IsOpenBarred : NamedNet ℕ → NamedPort ℕ → List Level → Open → Type 0
-IsOpenBarred N p vs X = (n : ℕ) → StandsFor X n → IsBarred N p (open_at vs X n)
+IsOpenBarred N p vs X = (n : ℕ) → IsOpenFor X n → IsBarred N p (open_at vs X n)
 
 -- An answer Out is the port by which the node of port p is left so.
 abbrev pub GoesOut : Graph → Port → List Level → List Level → Open → Open → Cross → Type 0

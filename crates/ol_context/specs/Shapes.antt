@@ -32,11 +32,11 @@ abbrev pub context_of : List Level → List ℕ → Context
 context_of vs ns = levels (map (value vs) ns)
 
 -- the value of a shape
-abbrev pub tree_of : List Level → Shape → Level
-tree_of vs shape.Empty = empty
-tree_of vs (shape.O a) = o (value vs a)
-tree_of vs (shape.Star a) = star (value vs a)
-tree_of vs (shape.Pair a b) = pair (value vs a) (value vs b)
+abbrev pub level_of_shape : List Level → Shape → Level
+level_of_shape vs shape.Empty = empty
+level_of_shape vs (shape.O a) = o (value vs a)
+level_of_shape vs (shape.Star a) = star (value vs a)
+level_of_shape vs (shape.Pair a b) = pair (value vs a) (value vs b)
 
 -- the parts of a shape have smaller numbers than n
 abbrev pub IsBelow : ℕ → Shape → Type 0

@@ -4,8 +4,8 @@ use Rattle.ol_edges.specs.Edges.{IsIn}
 use Rattle.ol_net.specs.Nets.{NamedNet, NamedPort, free, slot, Linked, IsNet}
 use Rattle.ol_context.specs.Contexts.{Level, Context}
 use Rattle.ol_context.specs.Paths.{Path, crossings}
-use Rattle.ol_context.specs.Ways.{Way, start, on, Stands}
-use Rattle.ol_context.specs.Answers.{IsExit}
+use Rattle.ol_context.specs.Ways.{Way, start, on, WalkStands}
+use Rattle.ol_context.specs.WalkAnswers.{IsExit}
 use Rattle.ol_context.specs.declared.answers.Walk.{Walk}
 
 -- No two principal ports are linked.
@@ -50,7 +50,7 @@ WalkIsShort A = (N : NamedNet A) → IsNet N → HasNoFacing N → (p : ℕ) (c 
 
 -- A walk that made as many crossings and stands at a node goes on for ever.
 abbrev pub WalkGoesOn : Type 0 → Type 0
-WalkGoesOn A = (N : NamedNet A) → IsNet N → HasNoFacing N → (p : ℕ) (c : Context) (edges : ℕ) → 2 * live N ≤ edges → Stands N (free p) c edges → (n : ℕ) → Stands N (free p) c n
+WalkGoesOn A = (N : NamedNet A) → IsNet N → HasNoFacing N → (p : ℕ) (c : Context) (edges : ℕ) → 2 * live N ≤ edges → WalkStands N (free p) c edges → (n : ℕ) → WalkStands N (free p) c n
 
 -- An exit comes exactly where a path leads to a free port, of any number of crossings: by that port, with the context there,
 -- and with the number of crossings.

@@ -18,7 +18,7 @@ pub record Exits {A : Type 0} (N : NamedNet A) (p : NamedPort A) (c : Context) (
   pub within : n ≤ edges
 
 -- After n crossings the walk from port p stands at a node, which it would enter by the port at.
-pub record Stands {A : Type 0} (N : NamedNet A) (p : NamedPort A) (c : Context) (n : ℕ) : Type 0 where
+pub record WalkStands {A : Type 0} (N : NamedNet A) (p : NamedPort A) (c : Context) (n : ℕ) : Type 0 where
   pub port : NamedPort A
   pub context : Context
   pub way : Way N p c n port context
@@ -31,5 +31,5 @@ pub record Stops {A : Type 0} (N : NamedNet A) (p : NamedPort A) (c : Context) (
   pub made : ℕ
   pub tried : n ≡ suc made
   pub within : n ≤ edges
-  pub stands : Stands N p c made
+  pub stands : WalkStands N p c made
   pub barred : IsBarred N (slot stands.node stands.at) stands.context

@@ -2,7 +2,7 @@
 
 ghost use Rattle.std.specs.Prelude.{◌≡◌, ◌≢◌, ◌^◌, ◌<◌, ◌≤◌, ◌↔◌, [], ◌∷◌, length, take, IfOk, OnErr, IsTrue};
 ghost use Rattle.ol_context.specs.Contexts.{empty, o, star, pair};
-ghost use Rattle.ol_context.specs.Shapes.{value, IsHeld, IsNumberOf, Extends, IsBelow, tree_of};
+ghost use Rattle.ol_context.specs.Shapes.{value, IsHeld, IsNumberOf, Extends, IsBelow, level_of_shape};
 
 use indexmap::IndexSet;
 use ol_io::NoMemory;
@@ -56,7 +56,7 @@ impl Model for Values {
     ghost use Rattle.std.specs.Prelude.{◌^◌, ◌<◌, List, length};
     ghost use Rattle.ol_context.specs.Contexts.{Level};
     ghost use Rattle.ol_context.specs.Codes.{levels_code};
-    ghost use Rattle.ol_context.specs.Trees.{trees};
+    ghost use Rattle.ol_context.specs.HeldLevels.{trees};
     ghost use Rattle.ol_context.specs.Rows.{IsRow, AreOnce};
 
     ghost Value = { List Level };
@@ -115,7 +115,7 @@ impl Values {
     /// The parts of a value of this holder. Takes no memory.
     pub fn shape(&self, v: Val) -> Shape
         requires { IsHeld self.now v }
-        ensures is { value self.now v ≡ tree_of self.now result }
+        ensures is { value self.now v ≡ level_of_shape self.now result }
         ensures held { IsBelow (length self.now) result }
         ensures earlier { IsBelow v result }
     {
@@ -134,7 +134,7 @@ impl Values {
         requires below { IsBelow (length self.old) shape }
         requires full { shape ≢ Shape.Empty }
         ensures extends { Extends self.old self.new }
-        ensures new { IfOk result (λ w. IsNumberOf self.new w (tree_of self.old shape)) }
+        ensures new { IfOk result (λ w. IsNumberOf self.new w (level_of_shape self.old shape)) }
         ensures err { OnErr result (self.new ≡ self.old) }
     {
         let count = self.shapes.len();

@@ -5,7 +5,7 @@ ghost use Rattle.ol_context.specs.Shapes.{AreHeld, Extends};
 ghost use Rattle.ol_context.specs.Crossed.{IsNodePort};
 ghost use Rattle.ol_context.specs.Open.{IsHeldOpen};
 ghost use Rattle.ol_context.specs.Passed.{GoesOut, IsBarredExactly};
-ghost use Rattle.ol_context.specs.OpenAnswers.{OpenExits, OpenStops, OpenStands, IsHeldOpenExit};
+ghost use Rattle.ol_context.specs.OpenWalkAnswers.{OpenExits, OpenStops, OpenStands, IsHeldOpenExit};
 
 use crate::answers::{Cross, OpenWalk};
 use crate::arena::{Val, Values};

@@ -3,7 +3,7 @@
 ghost use Rattle.std.specs.Prelude.{◌<◌, IfOk};
 ghost use Rattle.ol_net.specs.Numbered.{net_of};
 ghost use Rattle.ol_context.specs.Shapes.{AreHeld, Extends, context_of};
-ghost use Rattle.ol_context.specs.Answers.{ExitsExactly, StopsExactly, StandsExactly, IsHeldExit};
+ghost use Rattle.ol_context.specs.WalkAnswers.{ExitsExactly, StopsExactly, StandsExactly, IsHeldExit};
 ghost use Rattle.ol_context.specs.Short.{LeavesIfEnough};
 
 use crate::answers::{Cross, Walk};

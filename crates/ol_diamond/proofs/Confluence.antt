@@ -17,7 +17,7 @@ use Rattle.ol_rules.proofs.Same.{active_same, step_same, complete_same}
 use Rattle.ol_rules.proofs.FreshPairs.{linked_sym}
 use Rattle.ol_rules.proofs.BothWays.{both_ways}
 use Rattle.ol_diamond.specs.Births.{BirthName, born, IsBirthNet}
-use Rattle.ol_diamond.specs.Runs.{Pair, IsSamePair, IsOfPairs, IsPairStep, IsPairRun, end, then}
+use Rattle.ol_diamond.specs.Runs.{BirthPair, IsSamePair, IsOfPairs, IsPairStep, IsPairRun, end, then}
 use Rattle.ol_diamond.specs.Laws.{StepKeepsBirthNet, RunKeepsBirthNet, PairsCommute, DoneMeansDone, PairToFront, EachPairIsAmong, NoRunHasMore, NoRunIsLonger, CompleteRunsHaveOnePairs, CompleteRunsLeaveOneNet}
 use Rattle.ol_diamond.proofs.Births.{same_name, name_test, fresh_of, birth_net_kept}
 use Rattle.ol_diamond.proofs.Commute.{Disjoint, disjoint_sym, faces_still, square}
@@ -42,7 +42,7 @@ rule_is rule.CrossBracket rule.CrossBracket = inl refl
 rule_is rule.Erase rule.Erase = inl refl
 rule_is _ _ = inr (λ e. cc)
 
-pair_is : (p q : Pair) → IsSamePair p q ⊎ (IsSamePair p q → ⊥)
+pair_is : (p q : BirthPair) → IsSamePair p q ⊎ (IsSamePair p q → ⊥)
 pair_is p q = go (rule_is p.rule q.rule) (name_is p.f q.f) (name_is p.g q.g) (name_is p.f q.g) (name_is p.g q.f)
   where
     neither : (p.f ≢ q.f) ⊎ (p.g ≢ q.g) → (p.f ≢ q.g) ⊎ (p.g ≢ q.f) → IsSamePair p q → ⊥
@@ -62,11 +62,11 @@ pair_is p q = go (rule_is p.rule q.rule) (name_is p.f q.f) (name_is p.g q.g) (na
     go (inl r) (inr n) b x y = second r (inl n) x y
     go (inl r) (inl a) (inr n) x y = second r (inr n) x y
 
-pub pair_sym : (p q : Pair) → IsSamePair p q → IsSamePair q p
+pub pair_sym : (p q : BirthPair) → IsSamePair p q → IsSamePair q p
 pair_sym p q (r, inl h) = (sym r, inl (sym h.0, sym h.1))
 pair_sym p q (r, inr h) = (sym r, inr (sym h.1, sym h.0))
 
-pair_refl : (p : Pair) → IsSamePair p p
+pair_refl : (p : BirthPair) → IsSamePair p p
 pair_refl p = (refl, inl (refl, refl))
 
 -- the names of a step's births are new
@@ -85,12 +85,12 @@ run_keeps N M [] b end = b
 run_keeps N M (p ∷ ps) b (then {M = K} s r) = run_keeps K M ps (step_keeps N K p b s) r
 
 -- where a pair is active, its step is there
-pub record Taken (N : NamedNet BirthName) (p : Pair) (k : Kind) (i : ℕ) (l : Kind) (j : ℕ) : Type 0 where
+pub record Taken (N : NamedNet BirthName) (p : BirthPair) (k : Kind) (i : ℕ) (l : Kind) (j : ℕ) : Type 0 where
   pub after : NamedNet BirthName
   pub step : IsPairStep N p after
   pub rewrites : Rewrites (born p.f p.g) N p.f p.g k i l (action_of p.rule j) after
 
-pub take : (N : NamedNet BirthName) → IsBirthNet N → (p : Pair) (k : Kind) (i : ℕ) (l : Kind) (j : ℕ) → Faces N p.f p.g k i l j → rule_of k i l j ≡ Some p.rule → Taken N p k i l j
+pub take : (N : NamedNet BirthName) → IsBirthNet N → (p : BirthPair) (k : Kind) (i : ℕ) (l : Kind) (j : ℕ) → Faces N p.f p.g k i l j → rule_of k i l j ≡ Some p.rule → Taken N p k i l j
 take N b p k i l j faces fits =
     let a : IsActive N p.f p.g p.rule = record { k = k; i = i; l = l; j = j; faces = faces; fits = fits } in
     let n = next same_name name_test (born p.f p.g) N p.f p.g k i l j p.rule b.net faces (fresh_in N b p.f p.g p.rule a) fits in
@@ -104,7 +104,7 @@ fits_at N b f g r a k i l j h h' =
     sym (ap (λ k. rule_of k a.i a.l a.j) x.0 ∙ ap (λ i. rule_of k i a.l a.j) x.1 ∙ ap (λ l. rule_of k i l a.j) y.0 ∙ ap (λ j. rule_of k i l j) y.1) ∙ a.fits
 
 -- where the other may act too, its step leaves the same net
-around : (N M : NamedNet BirthName) (p q : Pair) → IsBirthNet N → IsPairStep N p M → IsActive N q.f q.g q.rule → p.f ≡ q.g → p.g ≡ q.f → IsPairStep N q M
+around : (N M : NamedNet BirthName) (p q : BirthPair) → IsBirthNet N → IsPairStep N p M → IsActive N q.f q.g q.rule → p.f ≡ q.g → p.g ≡ q.f → IsPairStep N q M
 around N M p q b s a e e' =
     let x = s.active in
     let hf = subst (λ g. HasNode N g x.l x.j) e' x.faces.second in
@@ -118,18 +118,18 @@ around N M p q b s a e e' =
     }
 
 -- a pair under its other name
-rename : (p q : Pair) → p.f ≡ q.f → p.g ≡ q.g → p.rule ≡ q.rule → p ≡ q
+rename : (p q : BirthPair) → p.f ≡ q.f → p.g ≡ q.g → p.rule ≡ q.rule → p ≡ q
 rename p q a b c = λ i. record { f = a i; g = b i; rule = c i }
 
 -- steps of one net by one pair leave one net
-pub one_pair : (N N' M M' : NamedNet BirthName) (p q : Pair) → IsSamePair p q → IsBirthNet N → SameNet N N' → IsPairStep N p M → IsPairStep N' q M' → SameNet M M'
+pub one_pair : (N N' M M' : NamedNet BirthName) (p q : BirthPair) → IsSamePair p q → IsBirthNet N → SameNet N N' → IsPairStep N p M → IsPairStep N' q M' → SameNet M M'
 one_pair N N' M M' p q (r, inl h) b same s s' =
     (one_step (born q.f q.g) N N' M M' q.f q.g q.rule q.rule b.net same (subst (λ p. IsPairStep N p M) (rename p q h.0 h.1 r) s) s').1
 one_pair N N' M M' p q (r, inr h) b same s s' =
     let a = active_same N' N (same_sym N N' same) q.f q.g q.rule s'.active in
     (one_step (born q.f q.g) N N' M M' q.f q.g q.rule q.rule b.net same (around N M p q b s a h.0 h.1) s').1
 
-module _ (N M P : NamedNet BirthName) (p q : Pair) (b : IsBirthNet N) (s : IsPairStep N p M) (t : IsPairStep N q P) where
+module _ (N M P : NamedNet BirthName) (p q : BirthPair) (b : IsBirthNet N) (s : IsPairStep N p M) (t : IsPairStep N q P) where
   -- what faces one node is one node
   facing : (x y z : BirthName) → Linked N (slot x 0) (slot y 0) → Linked N (slot x 0) (slot z 0) → y ≡ z
   facing x y z h h' = let e : slot y 0 ≡ slot z 0 = b.net.one_link (slot x 0) (slot y 0) (slot z 0) h h' in cc
@@ -185,7 +185,7 @@ pairs_commute N M P p q b s t n =
     let d = disjoint N M P p q b s t n in
     ((d.ff, d.fg, d.gf, d.gg), both_orders N M P p q b s t n)
 
-abbrev Step : NamedNet BirthName → Pair → NamedNet BirthName → Type 0
+abbrev Step : NamedNet BirthName → BirthPair → NamedNet BirthName → Type 0
 Step N p M = IsPairStep N p M
 
 commuting : Commuting IsBirthNet SameNet IsSamePair Step
@@ -211,11 +211,11 @@ done_means_done N b = (
 ended : (N : NamedNet BirthName) → IsComplete N → orders.Ended Step N
 ended N d p M s = d p.f p.g p.rule s.active
 
-as_run : (N M : NamedNet BirthName) (ps : List Pair) → IsPairRun N ps M → orders.Run Step N ps M
+as_run : (N M : NamedNet BirthName) (ps : List BirthPair) → IsPairRun N ps M → orders.Run Step N ps M
 as_run N M [] end = orders.Run.end
 as_run N M (p ∷ ps) (then {M = K} s r) = orders.Run.then s (as_run K M ps r)
 
-from_run : (N M : NamedNet BirthName) (ps : List Pair) → orders.Run Step N ps M → IsPairRun N ps M
+from_run : (N M : NamedNet BirthName) (ps : List BirthPair) → orders.Run Step N ps M → IsPairRun N ps M
 from_run N M [] orders.Run.end = end
 from_run N M (p ∷ ps) (orders.Run.then {t = K} s r) = then s (from_run K M ps r)
 
@@ -224,7 +224,7 @@ pair_to_front N K M p ps b s r d =
     let f = orders.to_front commuting N K M p ps b s (as_run N M ps r) (ended M d) in
     (f.before, f.label, f.after, f.end_state, f.alike, f.is, then s (from_run K f.end_state (f.before ++ f.after) f.run), complete_same M f.end_state f.same d, f.same)
 
-tally_is : (test : Pair → Bool) (ps : List Pair) → orders.tally test ps ≡ count_by test ps
+tally_is : (test : BirthPair → Bool) (ps : List BirthPair) → orders.tally test ps ≡ count_by test ps
 tally_is test [] = refl
 tally_is test (p ∷ ps) = ap (λ n. bit (test p) + n) (tally_is test ps) ∙ ap (λ n. n + count_by test ps) (one (test p)) ∙ sym (sum_by-cons (λ p. cond (test p) 1 0) p ps)
   where
@@ -258,29 +258,29 @@ tell_same (inl h) y f g = sym (tell_holds y (f h))
 tell_same (inr n) (inl h) f g = absurd (n (g h))
 tell_same (inr n) (inr m) f g = refl
 
-pub pair_trans : (p q s : Pair) → IsSamePair p q → IsSamePair q s → IsSamePair p s
+pub pair_trans : (p q s : BirthPair) → IsSamePair p q → IsSamePair q s → IsSamePair p s
 pair_trans p q s (e, inl h) (e', inl h') = (e ∙ e', inl (h.0 ∙ h'.0, h.1 ∙ h'.1))
 pair_trans p q s (e, inl h) (e', inr h') = (e ∙ e', inr (h.0 ∙ h'.0, h.1 ∙ h'.1))
 pair_trans p q s (e, inr h) (e', inl h') = (e ∙ e', inr (h.0 ∙ h'.1, h.1 ∙ h'.0))
 pair_trans p q s (e, inr h) (e', inr h') = (e ∙ e', inl (h.0 ∙ h'.1, h.1 ∙ h'.0))
 
 -- the test that tells this pair
-abbrev is_pair : Pair → Pair → Bool
+abbrev is_pair : BirthPair → BirthPair → Bool
 is_pair p q = tell (pair_is p q)
 
-is_pair_of_pairs : (p : Pair) → IsOfPairs (is_pair p)
+is_pair_of_pairs : (p : BirthPair) → IsOfPairs (is_pair p)
 is_pair_of_pairs p q s h = tell_same (pair_is p q) (pair_is p s) (λ k. pair_trans p q s k h) (λ k. pair_trans p s q k (pair_sym q s h))
 
-counted : (test : Pair → Bool) (p : Pair) (ps : List Pair) → IsIn p ps → test p ≡ true → 0 < orders.tally test ps
+counted : (test : BirthPair → Bool) (p : BirthPair) (ps : List BirthPair) → IsIn p ps → test p ≡ true → 0 < orders.tally test ps
 counted test p [] h e = absurd h
 counted test p (q ∷ ps) (inl a) e = let b = ap bit (ap test (sym a) ∙ e) in omega arith
 counted test p (q ∷ ps) (inr h) e = let b = counted test p ps h e in omega arith
 
-found : (test : Pair → Bool) (ps : List Pair) → 0 < orders.tally test ps → (p : Pair) × IsIn p ps × (test p ≡ true)
+found : (test : BirthPair → Bool) (ps : List BirthPair) → 0 < orders.tally test ps → (p : BirthPair) × IsIn p ps × (test p ≡ true)
 found test [] h = absurd (omega arith)
 found test (p ∷ ps) h = go (test p) refl (found test ps)
   where
-    go : (b : Bool) → test p ≡ b → (0 < orders.tally test ps → (q : Pair) × IsIn q ps × (test q ≡ true)) → (q : Pair) × IsIn q (p ∷ ps) × (test q ≡ true)
+    go : (b : Bool) → test p ≡ b → (0 < orders.tally test ps → (q : BirthPair) × IsIn q ps × (test q ≡ true)) → (q : BirthPair) × IsIn q (p ∷ ps) × (test q ≡ true)
     go true e rest = (p, inl refl, e)
     go false e rest = let b = ap bit e in let t = rest (omega arith) in (t.0, inr t.1, t.2)
 
@@ -291,7 +291,7 @@ each_pair_is_among N M P ps qs b r d r' q h =
     let t = found (is_pair q) ps (omega arith) in
     (t.0, t.1, pair_sym q t.0 (told (pair_is q t.0) t.2))
 
-all_tally : (ps : List Pair) → orders.tally (λ p. true) ps ≡ length ps
+all_tally : (ps : List BirthPair) → orders.tally (λ p. true) ps ≡ length ps
 all_tally [] = refl
 all_tally (p ∷ ps) = let h = all_tally ps in omega arith
 

@@ -22,7 +22,7 @@ use Rattle.ol_rules.proofs.Same.{active_same, complete_same}
 use Rattle.ol_rules.proofs.BothWays.{both_ways}
 use Rattle.ol_rules.proofs.UnderNames.{complete_under}
 use Rattle.ol_diamond.specs.Births.{BirthName, init, born, IsPart, IsBirthNet}
-use Rattle.ol_diamond.specs.Runs.{Pair, IsSamePair, IsPairStep, IsPairRun, end, then, pair_under, AreBirths}
+use Rattle.ol_diamond.specs.Runs.{BirthPair, IsSamePair, IsPairStep, IsPairRun, end, then, pair_under, AreBirths}
 use Rattle.ol_diamond.specs.Laws.{RunByBirths, BirthFollows, CompleteFollows, BirthNamesAreOne}
 use Rattle.ol_diamond.proofs.Births.{fresh_of}
 use Rattle.ol_diamond.proofs.Confluence.{step_keeps, take, fits_at, one_pair, pair_sym, pair_trans}
@@ -73,7 +73,7 @@ record Together (N : NamedNet NodeName) (t : ℕ) (m : NodeName → BirthName) (
   renames : IsRenamed m N B
 
 record OneOn (M : NamedNet NodeName) (t : ℕ) (e : Entry) (m : NodeName → BirthName) (B : NamedNet BirthName) : Type 0 where
-  pair : Pair
+  pair : BirthPair
   first : IsBefore e.first t
   second : IsBefore e.second t
   same : IsSamePair pair (pair_under m e)
@@ -113,7 +113,7 @@ one_on N M t e m B tg s =
     let f_before = tg.before s.f x.k x.i x.faces.first in
     let g_before = tg.before s.g x.l x.j x.faces.second in
     let faces : Faces B f g x.k x.i x.l x.j = record { first = tg.renames.nodes_to s.f x.k x.i x.faces.first; second = tg.renames.nodes_to s.g x.l x.j x.faces.second; linked = tg.renames.links_to (slot s.f 0) (slot s.g 0) x.faces.linked } in
-    let p : Pair = record { f = f; g = g; rule = e.rule } in
+    let p : BirthPair = record { f = f; g = g; rule = e.rule } in
     let a = take B tg.birth_net p x.k x.i x.l x.j faces x.fits in
     let m' = later m t f g in
     let ef = later_old m t f g s.f f_before in
@@ -158,7 +158,7 @@ one_on N M t e m B tg s =
 -- ---- runs
 
 record AllOn (M : NamedNet NodeName) (t : ℕ) (es : List Entry) (m : NodeName → BirthName) (B : NamedNet BirthName) : Type 0 where
-  pairs : List Pair
+  pairs : List BirthPair
   after : NamedNet BirthName
   run : IsPairRun B pairs after
   names : NodeName → BirthName
@@ -184,7 +184,7 @@ all_on N M t (e ∷ es) m B tg (runs.IsRun.then {M = K} s r) =
       renames = b.renames;
     }
   where
-    alike : (p : Pair) (n : NodeName → BirthName) → n e.first ≡ m e.first → n e.second ≡ m e.second → IsSamePair p (pair_under m e) → IsSamePair p (pair_under n e)
+    alike : (p : BirthPair) (n : NodeName → BirthName) → n e.first ≡ m e.first → n e.second ≡ m e.second → IsSamePair p (pair_under m e) → IsSamePair p (pair_under n e)
     alike p n x y (r, inl h) = (r, inl (h.0 ∙ sym x, h.1 ∙ sym y))
     alike p n x y (r, inr h) = (r, inr (h.0 ∙ sym y, h.1 ∙ sym x))
 
@@ -243,7 +243,7 @@ complete_follows N M journal net before run r = (
 -- a naming of the journal's nodes from this ticket on, and the run of which it tells, beside the names n so far
 record NamedOn (N : NamedNet NodeName) (t : ℕ) (es : List Entry) (n : NodeName → BirthName) (B : NamedNet BirthName) (m : NodeName → BirthName) : Type 0 where
   alike : (x : NodeName) (k : Kind) (i : ℕ) → HasNode N x k i → m x ≡ n x
-  pairs : List Pair
+  pairs : List BirthPair
   births : AreBirths m t es pairs
   from : NamedNet BirthName
   after : NamedNet BirthName
@@ -260,11 +260,11 @@ module _ (N K : NamedNet NodeName) (t : ℕ) (e : Entry) (es : List Entry) (n : 
   second_alike (inl h) = let x = s.step.active in subst (λ y. m y ≡ n y) (sym h.1) (alike s.g x.l x.j x.faces.second)
   second_alike (inr h) = let x = s.step.active in subst (λ y. m y ≡ n y) (sym h.1) (alike s.f x.k x.i x.faces.first)
 
-  under : (p : Pair) → IsSamePair p (pair_under m e) → IsSamePair p (pair_under n e)
+  under : (p : BirthPair) → IsSamePair p (pair_under m e) → IsSamePair p (pair_under n e)
   under p (r, inl h) = (r, inl (h.0 ∙ first_alike s.named.pair, h.1 ∙ second_alike s.named.pair))
   under p (r, inr h) = (r, inr (h.0 ∙ second_alike s.named.pair, h.1 ∙ first_alike s.named.pair))
 
-  module _ (p : Pair) (same : IsSamePair p a.pair) (active : IsActive B p.f p.g p.rule) (born_by : (place : ℕ) → m (Born t place) ≡ born p.f p.g place) where
+  module _ (p : BirthPair) (same : IsSamePair p a.pair) (active : IsActive B p.f p.g p.rule) (born_by : (place : ℕ) → m (Born t place) ≡ born p.f p.g place) where
     new_alike : (place : ℕ) (k : Kind) (i : ℕ) → HasNode K (Born t place) k i → m (Born t place) ≡ a.names (Born t place)
     new_alike place k i h = go same.1
       where
@@ -284,7 +284,7 @@ named_on : (N K : NamedNet NodeName) (t : ℕ) (e : Entry) (es : List Entry) (n 
     (m : NodeName → BirthName) → NamedOn N t (e ∷ es) n B m → NamedOn K (suc t) es a.names a.after m
 named_on N K t e es n B tg s a m u = go u.pairs u.births u.run
   where
-    go : (ps : List Pair) → AreBirths m t (e ∷ es) ps → IsPairRun u.from ps u.after → NamedOn K (suc t) es a.names a.after m
+    go : (ps : List BirthPair) → AreBirths m t (e ∷ es) ps → IsPairRun u.from ps u.after → NamedOn K (suc t) es a.names a.after m
     go [] b r = absurd b
     go (p ∷ ps) b (then {M = C} d r) =
         let same = pair_trans p (pair_under n e) a.pair (under N K t e es n B tg s m u.alike a p b.0) (pair_sym a.pair (pair_under n e) a.same) in

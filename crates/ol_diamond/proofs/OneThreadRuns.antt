@@ -6,7 +6,7 @@ use Rattle.ol_net.specs.Nets.{NamedNet, IsNet, SameNet, net_under}
 use Rattle.ol_rules.specs.declared.journal.NodeName.{NodeName}
 use Rattle.ol_rules.specs.declared.journal.NodeName.TheVariants.{Init, Born}
 use Rattle.ol_rules.specs.declared.journal.Entry.{Entry}
-use Rattle.ol_rules.specs.Counting.{is_rule, entries_of}
+use Rattle.ol_rules.specs.Counting.{is_rule, times_applied}
 use Rattle.ol_rules.specs.Names.{comes_before}
 use Rattle.ol_rules.specs.Rewriting.{action_of}
 use Rattle.ol_rules.specs.Laws.{AreNamedBefore}
@@ -16,7 +16,7 @@ use Rattle.ol_rules.proofs.Relation.{same_sym, same_trans, net_kept}
 use Rattle.ol_rules.proofs.Renaming.{net_alike, active_to}
 use Rattle.ol_rules.proofs.Same.{active_same}
 use Rattle.ol_diamond.specs.Births.{BirthName, init}
-use Rattle.ol_diamond.specs.Runs.{Pair, IsPairStep, IsPairRun, end, then}
+use Rattle.ol_diamond.specs.Runs.{BirthPair, IsPairStep, IsPairRun, end, then}
 use Rattle.ol_diamond.specs.Laws.{RunByBirths}
 use Rattle.ol_diamond.specs.OneThread.{RunsAgree}
 use Rattle.ol_diamond.proofs.Journals.{birth_follows, complete_follows}
@@ -35,7 +35,7 @@ run_net N M t (e ∷ es) n b (IsRun.then {M = K} s r) =
     run_net K M (suc t) es n' b' r
 
 -- a run goes on by one pair
-one_more : (N M P : NamedNet BirthName) (ps : List Pair) (p : Pair) → IsPairRun N ps M → IsPairStep M p P → IsPairRun N (ps ++ p ∷ []) P
+one_more : (N M P : NamedNet BirthName) (ps : List BirthPair) (p : BirthPair) → IsPairRun N ps M → IsPairStep M p P → IsPairRun N (ps ++ p ∷ []) P
 one_more N M P [] p end s = then s end
 one_more N M P (q ∷ ps) p (then {M = K} t r) s = then t (one_more K M P ps p r s)
 
@@ -71,10 +71,10 @@ module _ (N : NamedNet NodeName) (net : IsNet N) (before : AreNamedBefore N 0) w
         let v = as_many s.birth 0 fs s.pairs s.births in
         omega arith
 
-    same_rules : IsComplete r.after → IsComplete s.after → (rule : Rule) → entries_of rule fs ≡ entries_of rule es
+    same_rules : IsComplete r.after → IsComplete s.after → (rule : Rule) → times_applied rule fs ≡ times_applied rule es
     same_rules c d rule =
         as_often s.birth 0 fs s.pairs rule s.births
-        ∙ sym (complete_runs_have_one_pairs (net_under r.birth N) r.after s.after r.pairs s.pairs r.start r.run c second d (λ (p : Pair). is_rule p.rule rule) (λ p q same. ap (λ x. is_rule x rule) same.0))
+        ∙ sym (complete_runs_have_one_pairs (net_under r.birth N) r.after s.after r.pairs s.pairs r.start r.run c second d (λ (p : BirthPair). is_rule p.rule rule) (λ p q same. ap (λ x. is_rule x rule) same.0))
         ∙ sym (as_often r.birth 0 es r.pairs rule r.births)
 
     same_nets : IsComplete r.after → IsComplete s.after → SameNet (net_under r.birth L) (net_under s.birth M)
@@ -87,7 +87,7 @@ module _ (N : NamedNet NodeName) (net : IsNet N) (before : AreNamedBefore N 0) w
     goes_on_shorter (f, g, rule, a) d =
         let d' = (complete_follows N M fs net before run' s).0 d in
         let a' = active_same (net_under r.birth L) r.after (same_sym r.after (net_under r.birth L) r.same) (r.birth f) (r.birth g) rule (active_to r.birth L f g rule a) in
-        let p : Pair = record { f = r.birth f; g = r.birth g; rule = rule } in
+        let p : BirthPair = record { f = r.birth f; g = r.birth g; rule = rule } in
         let k = take r.after (run_keeps (net_under r.birth N) r.after r.pairs r.start r.run) p a'.k a'.i a'.l a'.j a'.faces a'.fits in
         let more = one_more (net_under r.birth N) r.after k.after r.pairs p r.run k.step in
         let x = no_run_is_longer (net_under r.birth N) s.after k.after s.pairs (r.pairs ++ p ∷ []) r.start second d' more in

@@ -15,7 +15,7 @@ use Rattle.ol_rules.proofs.Relation.{same_refl, same_sym, same_trans}
 use Rattle.ol_rules.proofs.Renaming.{node_to, link_to, node_back, link_back, net_alike}
 use Rattle.ol_rules.proofs.UnderWay.{node_below, fresh_numbers}
 use Rattle.ol_diamond.specs.Births.{BirthName, init, born, IsBirthNet}
-use Rattle.ol_diamond.specs.Runs.{Pair, IsSamePair, IsPairStep}
+use Rattle.ol_diamond.specs.Runs.{BirthPair, IsSamePair, IsPairStep}
 use Rattle.ol_diamond.specs.Squares.{IsInNoActive, AreTogether, AreInOnePair, InTurn, born_between, exchanged, names_after, birth_names, BothOrders}
 use Rattle.ol_diamond.proofs.Births.{fresh_of, start_is_birth_net}
 use Rattle.ol_diamond.proofs.Commute.{Disjoint}
@@ -142,7 +142,7 @@ record On (g : Graph) (m : ℕ → BirthName) (B : NamedNet BirthName) : Type 0 
   birth_net : IsBirthNet B
   renames : IsRenamed m (net_of g) B
 
-abbrev pair_of : {old new : Graph} {at : ℕ} {r : Rule} → (ℕ → BirthName) → StepsAt old new at r → Pair
+abbrev pair_of : {old new : Graph} {at : ℕ} {r : Rule} → (ℕ → BirthName) → StepsAt old new at r → BirthPair
 pair_of {r = r} m s = record { f = m s.f; g = m s.g; rule = r }
 
 module _ (old new : Graph) (at : ℕ) (r : Rule) (m : ℕ → BirthName) (s : StepsAt old new at r) where
@@ -218,16 +218,16 @@ module _ (net ab ba : Graph) (a b : ℕ) (r s : Rule) (is_net : IsNet (net_of ne
   b_active = u.first.step.active
 
   -- the two pairs by birth names, in each order
-  abbrev a_first : Pair
+  abbrev a_first : BirthPair
   a_first = pair_of init t.first
 
-  abbrev b_second : Pair
+  abbrev b_second : BirthPair
   b_second = pair_of (names_after init t.first) t.second
 
-  abbrev b_first : Pair
+  abbrev b_first : BirthPair
   b_first = pair_of init u.first
 
-  abbrev a_second : Pair
+  abbrev a_second : BirthPair
   a_second = pair_of (names_after init u.first) u.second
 
   -- a start node has its name after a step too

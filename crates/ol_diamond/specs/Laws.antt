@@ -12,17 +12,17 @@ use Rattle.ol_rules.specs.Counting.{is_rule}
 use Rattle.ol_rules.specs.Laws.{AreNamedBefore, IsFresh}
 use Rattle.ol_rules.specs.Runs.{IsRun, IsComplete}
 use Rattle.ol_diamond.specs.Births.{BirthName, init, born, IsBirthNet}
-use Rattle.ol_diamond.specs.Runs.{Pair, IsSamePair, IsOfPairs, IsPairStep, IsPairRun, AreBirths}
+use Rattle.ol_diamond.specs.Runs.{BirthPair, IsSamePair, IsOfPairs, IsPairStep, IsPairRun, AreBirths}
 
 -- Each name of a net of start nodes is no part of another, each step keeps this, and so does each run.
 abbrev pub StartIsBirthNet : Type 0
 StartIsBirthNet = (N : NamedNet ℕ) → IsNet N → IsBirthNet (net_under init N)
 
 abbrev pub StepKeepsBirthNet : Type 0
-StepKeepsBirthNet = (N M : NamedNet BirthName) (p : Pair) → IsBirthNet N → IsPairStep N p M → IsBirthNet M
+StepKeepsBirthNet = (N M : NamedNet BirthName) (p : BirthPair) → IsBirthNet N → IsPairStep N p M → IsBirthNet M
 
 abbrev pub RunKeepsBirthNet : Type 0
-RunKeepsBirthNet = (N M : NamedNet BirthName) (ps : List Pair) → IsBirthNet N → IsPairRun N ps M → IsBirthNet M
+RunKeepsBirthNet = (N M : NamedNet BirthName) (ps : List BirthPair) → IsBirthNet N → IsPairRun N ps M → IsBirthNet M
 
 -- No node of such a net has a name that a rewrite of two of its nodes would give.
 abbrev pub BornIsFresh : Type 0
@@ -30,60 +30,60 @@ BornIsFresh = (N : NamedNet BirthName) (f g : BirthName) (k l : Kind) (i j : ℕ
 
 -- Two different active pairs share no node, each is active after the other, and both orders leave one net.
 abbrev pub PairsCommute : Type 0
-PairsCommute = (N M P : NamedNet BirthName) (p q : Pair) → IsBirthNet N → IsPairStep N p M → IsPairStep N q P → (IsSamePair p q → ⊥) →
+PairsCommute = (N M P : NamedNet BirthName) (p q : BirthPair) → IsBirthNet N → IsPairStep N p M → IsPairStep N q P → (IsSamePair p q → ⊥) →
     ((p.f ≢ q.f) × (p.f ≢ q.g) × (p.g ≢ q.f) × (p.g ≢ q.g))
     × ((M' : NamedNet BirthName) × (P' : NamedNet BirthName) × IsPairStep M q M' × IsPairStep P p P' × SameNet M' P')
 
 -- A net is complete exactly where it has no step.
 abbrev pub DoneMeansDone : Type 0
-DoneMeansDone = (N : NamedNet BirthName) → IsBirthNet N → IsComplete N ↔ ((p : Pair) (M : NamedNet BirthName) → IsPairStep N p M → ⊥)
+DoneMeansDone = (N : NamedNet BirthName) → IsBirthNet N → IsComplete N ↔ ((p : BirthPair) (M : NamedNet BirthName) → IsPairStep N p M → ⊥)
 
 -- A pair that is active now stands in each complete run, and the run with this pair moved to its front is complete and leaves the
 -- same net.
 abbrev pub PairToFront : Type 0
-PairToFront = (N K M : NamedNet BirthName) (p : Pair) (ps : List Pair) → IsBirthNet N → IsPairStep N p K → IsPairRun N ps M → IsComplete M →
-    (before : List Pair) × (q : Pair) × (after : List Pair) × (P : NamedNet BirthName) × IsSamePair p q
+PairToFront = (N K M : NamedNet BirthName) (p : BirthPair) (ps : List BirthPair) → IsBirthNet N → IsPairStep N p K → IsPairRun N ps M → IsComplete M →
+    (before : List BirthPair) × (q : BirthPair) × (after : List BirthPair) × (P : NamedNet BirthName) × IsSamePair p q
     × (ps ≡ before ++ (q ∷ after)) × IsPairRun N (p ∷ (before ++ after)) P × IsComplete P × SameNet M P
 
 -- Each pair of a run is among the pairs of a complete run,
 abbrev pub EachPairIsAmong : Type 0
-EachPairIsAmong = (N M P : NamedNet BirthName) (ps qs : List Pair) → IsBirthNet N → IsPairRun N ps M → IsComplete M →
+EachPairIsAmong = (N M P : NamedNet BirthName) (ps qs : List BirthPair) → IsBirthNet N → IsPairRun N ps M → IsComplete M →
     IsPairRun N qs P →
-    (q : Pair) → IsIn q qs → (p : Pair) × IsIn p ps × IsSamePair p q
+    (q : BirthPair) → IsIn q qs → (p : BirthPair) × IsIn p ps × IsSamePair p q
 
 -- and stands there at least as often,
 abbrev pub NoRunHasMore : Type 0
-NoRunHasMore = (N M P : NamedNet BirthName) (ps qs : List Pair) → IsBirthNet N → IsPairRun N ps M → IsComplete M →
+NoRunHasMore = (N M P : NamedNet BirthName) (ps qs : List BirthPair) → IsBirthNet N → IsPairRun N ps M → IsComplete M →
     IsPairRun N qs P →
-    (test : Pair → Bool) → IsOfPairs test → count_by test qs ≤ count_by test ps
+    (test : BirthPair → Bool) → IsOfPairs test → count_by test qs ≤ count_by test ps
 
 -- and so none is longer.
 abbrev pub NoRunIsLonger : Type 0
-NoRunIsLonger = (N M P : NamedNet BirthName) (ps qs : List Pair) → IsBirthNet N → IsPairRun N ps M → IsComplete M →
+NoRunIsLonger = (N M P : NamedNet BirthName) (ps qs : List BirthPair) → IsBirthNet N → IsPairRun N ps M → IsComplete M →
     IsPairRun N qs P → length qs ≤ length ps
 
 -- Complete runs have the same pairs, each as often,
 abbrev pub CompleteRunsHaveOnePairs : Type 0
-CompleteRunsHaveOnePairs = (N M P : NamedNet BirthName) (ps qs : List Pair) → IsBirthNet N → IsPairRun N ps M → IsComplete M →
+CompleteRunsHaveOnePairs = (N M P : NamedNet BirthName) (ps qs : List BirthPair) → IsBirthNet N → IsPairRun N ps M → IsComplete M →
     IsPairRun N qs P → IsComplete P →
-    (test : Pair → Bool) → IsOfPairs test → count_by test ps ≡ count_by test qs
+    (test : BirthPair → Bool) → IsOfPairs test → count_by test ps ≡ count_by test qs
 
 -- so each rule as often,
 abbrev pub CompleteRunsHaveOneCounts : Type 0
-CompleteRunsHaveOneCounts = (N M P : NamedNet BirthName) (ps qs : List Pair) → IsBirthNet N → IsPairRun N ps M → IsComplete M →
+CompleteRunsHaveOneCounts = (N M P : NamedNet BirthName) (ps qs : List BirthPair) → IsBirthNet N → IsPairRun N ps M → IsComplete M →
     IsPairRun N qs P → IsComplete P →
-    (r : Rule) → count_by (λ (p : Pair). is_rule p.rule r) ps ≡ count_by (λ (p : Pair). is_rule p.rule r) qs
+    (r : Rule) → count_by (λ (p : BirthPair). is_rule p.rule r) ps ≡ count_by (λ (p : BirthPair). is_rule p.rule r) qs
 
 -- and leave one net.
 abbrev pub CompleteRunsLeaveOneNet : Type 0
-CompleteRunsLeaveOneNet = (N M P : NamedNet BirthName) (ps qs : List Pair) → IsBirthNet N → IsPairRun N ps M → IsComplete M →
+CompleteRunsLeaveOneNet = (N M P : NamedNet BirthName) (ps qs : List BirthPair) → IsBirthNet N → IsPairRun N ps M → IsComplete M →
     IsPairRun N qs P → IsComplete P → SameNet M P
 
 -- The run along a journal from N to M as a run by birth names.
 pub record RunByBirths (N : NamedNet NodeName) (journal : List Entry) (M : NamedNet NodeName) : Type 0 where
   pub birth : NodeName → BirthName
   pub initial : (k : ℕ) → birth (Init k) ≡ init k
-  pub pairs : List Pair
+  pub pairs : List BirthPair
   pub births : AreBirths birth 0 journal pairs
   pub start : IsBirthNet (net_under birth N)
   pub after : NamedNet BirthName

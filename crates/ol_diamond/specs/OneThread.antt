@@ -6,7 +6,7 @@ use Rattle.ol_net.specs.declared.parts.Rule.{Rule}
 use Rattle.ol_net.specs.Nets.{NamedNet, HasNode, IsNet, SameNet, net_under}
 use Rattle.ol_rules.specs.declared.journal.NodeName.{NodeName}
 use Rattle.ol_rules.specs.declared.journal.Entry.{Entry}
-use Rattle.ol_rules.specs.Counting.{entries_of, counts_of}
+use Rattle.ol_rules.specs.Counting.{times_applied, counts_of}
 use Rattle.ol_rules.specs.Laws.{AreNamedBefore}
 use Rattle.ol_rules.specs.Runs.{IsRun, IsComplete, HasActive, IsOneThread}
 use Rattle.ol_diamond.specs.Laws.{RunByBirths}
@@ -27,7 +27,7 @@ pub record IsWritten (names : NodeName → NodeName) (M M' : NamedNet NodeName) 
 -- and they take each node to that of the same birth.
 pub record RunsAgree (N : NamedNet NodeName) (journal : List Entry) (M : NamedNet NodeName) (journal' : List Entry) (M' : NamedNet NodeName) : Type 0 where
   pub steps : length journal' ≡ length journal
-  pub rules : (r : Rule) → entries_of r journal' ≡ entries_of r journal
+  pub rules : (r : Rule) → times_applied r journal' ≡ times_applied r journal
   pub counts : counts_of journal' ≡ counts_of journal
   pub one : AreOneByBirths N journal M journal' M'
   pub names : NodeName → NodeName

@@ -1,9 +1,9 @@
 -- Contraction keeps what is joined.
 use Rattle.std.proofs.Common.{◌≡◌, ◌≢◌, ℕ, ◌+◌, ◌≤◌, List, [], ◌∷◌, Bool, true, false, cond, Option, Some, None, ◌⊎◌, ◌↔◌, inl, inr, refl, sym, ap, ◌∙◌, subst, arith}
-use Rattle.ol_edges.specs.Edges.{IsIn, Joined, here, on, back, EdgeOf, IsTest, behind, taken, spliced, without, contract, contract_all, bit, ends, Near, Ready}
+use Rattle.ol_edges.specs.Edges.{IsIn, Joined, here, on, back, EdgeOf, IsTest, behind, taken, spliced, once_taken, contract, contract_all, bit, ends, Near, Ready}
 use Rattle.ol_edges.proofs.Joining.{joined_trans, joined_sym, joined_map, Follows, follow}
 
--- the list without one edge between p and x
+-- the list once_taken one edge between p and x
 pub data Take {V : Type 0} (p x : V) : List (V × V) → List (V × V) → Type 0 where
   left : {es : List (V × V)} → Take p x ((p, x) ∷ es) es
   right : {es : List (V × V)} → Take p x ((x, p) ∷ es) es
@@ -192,7 +192,7 @@ module _ {V : Type 0} (same : V → V → Bool) (t : IsTest same) where
       one r k true h = loop (subst (λ x. Take p x es r.1) (sym (t.tells p r.0 h)) k)
       one r k false h = two r k (not_same p r.0 h) (taken same p r.1) refl
 
-      go : (o : Option (V × List (V × V))) → taken same p es ≡ o → Contracts same p es (without same p es o)
+      go : (o : Option (V × List (V × V))) → taken same p es ≡ o → Contracts same p es (once_taken same p es o)
       go None h = let z = taken_none p es h in stays (omega arith)
       go (Some r) h = one r (taken_take p es r h) (same p r.0) refl
 

@@ -95,9 +95,9 @@ Writes (PutBytes n) piece old new = Appended old (take n piece) new
 Writes PutFailed piece old new = new ≡ old
 
 -- what a name has, where that is told
-abbrev pub IsWhole : Option (List ℕ) → List ℕ → Type 0
-IsWhole None bytes = ⊤
-IsWhole (Some all) bytes = bytes ≡ all
+abbrev pub IsAllOf : Option (List ℕ) → List ℕ → Type 0
+IsAllOf None bytes = ⊤
+IsAllOf (Some all) bytes = bytes ≡ all
 
 abbrev pub IsLonger : Option (List ℕ) → ℕ → Type 0
 IsLonger None n = ⊤

@@ -1,6 +1,6 @@
 //! Reading a name to its end, and writing a whole text.
 ghost use Rattle.std.specs.Prelude.{◌≡◌, ◌≤◌, ◌<◌, ◌+◌, ◌↔◌, true, length, IfOk, OnOk, IsErrOf};
-ghost use Rattle.ol_io.specs.Outside.{next_count, Appended, Counts, IsWhole, IsLonger};
+ghost use Rattle.ol_io.specs.Outside.{next_count, Appended, Counts, IsAllOf, IsLonger};
 ghost use Rattle.ol_io.specs.Calls.{read_all_failed, write_all_failed, written, FaultsWithin};
 
 use crate::outside::{Begun, Got, Put, Sink, Source};
@@ -44,7 +44,7 @@ pub fn read_all<S: Source>(
 ) -> Result<Vec<u8>, ReadAll>
     requires known { S.knows src.old name.now ≡ true }
     requires most { most ≤ 1000000000 }
-    ensures whole { IfOk result (λ bytes. IsWhole (S.contents src.old name.now) bytes.items) }
+    ensures whole { IfOk result (λ bytes. IsAllOf (S.contents src.old name.now) bytes.items) }
     ensures counted { IfOk result (λ bytes. length bytes.items ≡ S.given src.new) }
     ensures ended { OnOk result (S.ended src.new ≡ true) }
     ensures too_long { IsErrOf result ReadAll.TooLong ↔ (most < S.given src.new) }
@@ -66,7 +66,7 @@ fn read_on<S: Source>(alloc: Global, src: &mut S, most: usize) -> Result<Vec<u8>
     requires ready { S.ready src.old ≡ true }
     requires given { S.given src.old ≡ 0 }
     requires most { most ≤ 1000000000 }
-    ensures whole { IfOk result (λ bytes. IsWhole (S.left src.old) bytes.items) }
+    ensures whole { IfOk result (λ bytes. IsAllOf (S.left src.old) bytes.items) }
     ensures counted { IfOk result (λ bytes. length bytes.items ≡ S.given src.new) }
     ensures ended { OnOk result (S.ended src.new ≡ true) }
     ensures too_long { IsErrOf result ReadAll.TooLong ↔ (most < S.given src.new) }

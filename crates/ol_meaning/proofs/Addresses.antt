@@ -3,7 +3,7 @@ use Rattle.std.proofs.Common.{◌≡◌, ℕ, zero, suc, ◌+◌, Bool, true, fa
 use Rattle.std.proofs.lemmas.Bool.Decides.{nat_tests}
 use Rattle.std.proofs.Math.Dec.{eqb-suc-suc, eqb-zero-suc, eqb-suc-zero}
 use Rattle.std.proofs.lemmas.Bool.{or_left, or_right, eqb-true}
-use Rattle.ol_meaning.specs.Spots.{Tree, var, free, lam, app, Level, o, star, pair, Wire, bound, name, under, occurs, left, right, lift, lifted_wire, up_from, without, wire_without, wire_of, suc_of, put, subst_for, Tag, ofM, ofN, Adr, same, other, named, own, lam_m, lam_n, fun_m, arg_m, fun_n, arg_n}
+use Rattle.ol_meaning.specs.Spots.{Tree, var, free, lam, app, Level, o, star, pair, Wire, bound, name, under, occurs, left, right, lift, lifted_wire, up_from, without, wire_without, wire_of, suc_of, put, subst_for, Tag, ofM, ofN, WireOf, same, other, named, own, lam_m, lam_n, fun_m, arg_m, fun_n, arg_n}
 use Rattle.ol_meaning.proofs.Lifts.{same_is, occurs_lifted}
 
 -- ---- marks
@@ -54,7 +54,7 @@ under_without i (bound y) z e = suc_some (without i y) z e
 under_without i (name f) (bound z) e = absurd (cc)
 under_without i (name f) (name z) e = e
 
-pub gone : {N M : Tree} {i : ℕ} {y z : Wire} {a a' : Level} → Adr N M i (ofM y a) z a' → wire_without i y ≡ Some z
+pub gone : {N M : Tree} {i : ℕ} {y z : Wire} {a a' : Level} → WireOf N M i (ofM y a) z a' → wire_without i y ≡ Some z
 gone (same e f h) = e
 gone (other e) = ap wire_of e
 gone named = refl
@@ -63,7 +63,7 @@ gone (fun_m r e e') = gone r
 gone (arg_m v r e e') = gone r
 
 -- the wire of the cut occurs
-pub own_occurs : {N M : Tree} {i : ℕ} {x z : Wire} {w b a' : Level} → Adr N M i (ofN w x b) z a' → occurs (bound i) M ≡ true
+pub own_occurs : {N M : Tree} {i : ℕ} {x z : Wire} {w b a' : Level} → WireOf N M i (ofN w x b) z a' → occurs (bound i) M ≡ true
 own_occurs {i = i} (own {y = y} e h q) = subst (λ j. nat_eq y j ≡ true) (without_is i y e) (same_is y)
 own_occurs (lam_n r) = own_occurs r
 own_occurs (fun_n {M1 = M1} {M2 = M2} {i = i} r e e') = or_left (occurs (bound i) M1) (occurs (bound i) M2) (own_occurs r)
@@ -147,7 +147,7 @@ occurs_same (lam t) N i y z e f = occurs_same t N (suc i) (under y) (under z) (w
 occurs_same (app t u) N i y z e f = rw (occurs_same t N i y z e f, occurs_same u N i y z e f) refl
 
 -- the wire that an address has in M[N] occurs there
-pub occurs_new : {N M : Tree} {i : ℕ} {t : Tag} {z : Wire} {a' : Level} → Adr N M i t z a' → occurs z (subst_for i N M) ≡ true
+pub occurs_new : {N M : Tree} {i : ℕ} {t : Tag} {z : Wire} {a' : Level} → WireOf N M i t z a' → occurs z (subst_for i N M) ≡ true
 occurs_new {N} {M} {i} {z = z} (same {y = y} e f h) = occurs_same M N i y z e f ∙ h
 occurs_new {N} (other {i = i} {y = y} {z = z} e) = subst (λ r. occurs (bound z) (put i N r) ≡ true) (sym e) (same_is z)
 occurs_new (named {f = f}) = same_is f
@@ -163,7 +163,7 @@ occurs_new {N} {i = i} {z = z} (arg_n {M1 = M1} {M2 = M2} v r e e') = or_right (
 other_is : (i y z : ℕ) → nat_eq y y ≡ true
 other_is i y z = same_is y
 
-pub occurs_old : {N M : Tree} {i : ℕ} {y z : Wire} {a a' : Level} → Adr N M i (ofM y a) z a' → occurs y M ≡ true
+pub occurs_old : {N M : Tree} {i : ℕ} {y z : Wire} {a a' : Level} → WireOf N M i (ofM y a) z a' → occurs y M ≡ true
 occurs_old (same e f h) = h
 occurs_old (other {y = y} e) = same_is y
 occurs_old (named {f = f}) = same_is f
@@ -178,7 +178,7 @@ left_same M N i y z a e f = rw (occurs_same M N i y z e f) refl
 pub right_same : (M N : Tree) (i : ℕ) (y z : Wire) (b v : Level) → wire_without i y ≡ Some z → occurs z (lift 0 i N) ≡ false → right (subst_for i N M) z b v ≡ right M y b v
 right_same M N i y z b v e f = rw (occurs_same M N i y z e f) refl
 
-pub address_same : {N M : Tree} {i : ℕ} {y z : Wire} {a a' : Level} → Adr N M i (ofM y a) z a' → occurs z (lift 0 i N) ≡ false → a' ≡ a
+pub address_same : {N M : Tree} {i : ℕ} {y z : Wire} {a a' : Level} → WireOf N M i (ofM y a) z a' → occurs z (lift 0 i N) ≡ false → a' ≡ a
 address_same (same e g h) f = refl
 address_same (other e) f = refl
 address_same named f = refl
@@ -200,10 +200,10 @@ zero_lifted N i = ap (λ t. occurs (bound 0) t) (lift_more N 0 i) ∙ zero_free 
     zero_free (lam t) d = zero_free t (suc d)
     zero_free (app t u) d = rw (zero_free t d, zero_free u d) refl
 
-pub own_same : {N M : Tree} {i : ℕ} {a : Level} → occurs (bound 0) M ≡ true → Adr N M (suc i) (ofM (bound 0) a) (bound 0) a
+pub own_same : {N M : Tree} {i : ℕ} {a : Level} → occurs (bound 0) M ≡ true → WireOf N M (suc i) (ofM (bound 0) a) (bound 0) a
 own_same {N} {i = i} h = same refl (zero_lifted N i) h
 
-pub zero_keeps : {N M : Tree} {i : ℕ} {z : Wire} {a a' : Level} → Adr N M (suc i) (ofM (bound 0) a) z a' → (z ≡ bound 0) × (a' ≡ a)
+pub zero_keeps : {N M : Tree} {i : ℕ} {z : Wire} {a a' : Level} → WireOf N M (suc i) (ofM (bound 0) a) z a' → (z ≡ bound 0) × (a' ≡ a)
 zero_keeps {N} {i = i} {z = z} {a = a} {a' = a'} r =
     let k : Some (bound 0) ≡ Some z = gone r in
     let q : bound 0 ≡ z = cc in
@@ -219,19 +219,19 @@ which i (bound y) = go (without i y) refl
 which i (name f) = inr (name f, refl)
 
 -- an address in an abstraction is one in its body
-pub in_body_of : {N M : Tree} {i : ℕ} {y z : Wire} {a a' : Level} → Adr N (lam M) i (ofM y a) z a' → Adr N M (suc i) (ofM (under y) a) (under z) a'
+pub in_body_of : {N M : Tree} {i : ℕ} {y z : Wire} {a a' : Level} → WireOf N (lam M) i (ofM y a) z a' → WireOf N M (suc i) (ofM (under y) a) (under z) a'
 in_body_of {N} {i = i} {y = y} {z = z} (same e f h) = same (without_under i y z e) (occurs_more z N i ∙ f) h
 in_body_of (lam_m r) = r
 
 -- an address on the left is one there
-pub in_left_of : {N M1 M2 : Tree} {i : ℕ} {y z : Wire} {a w w' : Level} → Adr N (app M1 M2) i (ofM y w) z w' → occurs y M1 ≡ true → w ≡ left M2 y a → (a' : Level) × Adr N M1 i (ofM y a) z a' × (w' ≡ left (subst_for i N M2) z a')
+pub in_left_of : {N M1 M2 : Tree} {i : ℕ} {y z : Wire} {a w w' : Level} → WireOf N (app M1 M2) i (ofM y w) z w' → occurs y M1 ≡ true → w ≡ left M2 y a → (a' : Level) × WireOf N M1 i (ofM y a) z a' × (w' ≡ left (subst_for i N M2) z a')
 in_left_of {N} {M1} {M2} {i} {y} {z} {a} (same e f h) m q = (a, same e f m, q ∙ sym (left_same M2 N i y z a e f))
-in_left_of {N} {M1} {M2} {i} {y} {z} {a} (fun_m {a = b} {a' = a'} r e e') m q = (a', subst (λ a. Adr N M1 i (ofM y a) z a') (left_one M2 y b a (sym e ∙ q)) r, e')
+in_left_of {N} {M1} {M2} {i} {y} {z} {a} (fun_m {a = b} {a' = a'} r e e') m q = (a', subst (λ a. WireOf N M1 i (ofM y a) z a') (left_one M2 y b a (sym e ∙ q)) r, e')
 in_left_of {N} {M1} {M2} {i} {y} {z} {a} (arg_m {a = b} v r e e') m q = absurd (sides_apart M1 M2 y a b v m (occurs_old r) (sym q ∙ e))
 
-pub in_right_of : {N M1 M2 : Tree} {i : ℕ} {y z : Wire} {b w w' : Level} (v : Level) → Adr N (app M1 M2) i (ofM y w) z w' → occurs y M2 ≡ true → w ≡ right M1 y b v → (b' : Level) × Adr N M2 i (ofM y b) z b' × (w' ≡ right (subst_for i N M1) z b' v)
+pub in_right_of : {N M1 M2 : Tree} {i : ℕ} {y z : Wire} {b w w' : Level} (v : Level) → WireOf N (app M1 M2) i (ofM y w) z w' → occurs y M2 ≡ true → w ≡ right M1 y b v → (b' : Level) × WireOf N M2 i (ofM y b) z b' × (w' ≡ right (subst_for i N M1) z b' v)
 in_right_of {N} {M1} {M2} {i} {y} {z} {b} v (same e f h) m q = (b, same e f m, q ∙ sym (right_same M1 N i y z b v e f))
 in_right_of {N} {M1} {M2} {i} {y} {z} {b} v (fun_m {a = a} r e e') m q = absurd (sides_apart M1 M2 y a b v (occurs_old r) m (sym e ∙ q))
 in_right_of {N} {M1} {M2} {i} {y} {z} {b} {w' = w'} v (arg_m {a = a} {a' = a'} u r e e') m q =
     let k = right_one M1 y a b u v (sym e ∙ q) in
-    (a', subst (λ a. Adr N M2 i (ofM y a) z a') k.0 r, subst (λ v. w' ≡ right (subst_for i N M1) z a' v) k.1 e')
+    (a', subst (λ a. WireOf N M2 i (ofM y a) z a') k.0 r, subst (λ v. w' ≡ right (subst_for i N M1) z a' v) k.1 e')

@@ -1,7 +1,7 @@
 -- A step at a redex, both ways.
 use Rattle.std.proofs.Common.{inr, ◌≡◌, ℕ, zero, suc, ◌+◌, true, false, Some, refl, sym, ap, ◌∙◌, subst, arith}
 use Rattle.std.proofs.lemmas.Bool.{or_left, or_right}
-use Rattle.ol_meaning.specs.Spots.{fun, o, app_arg, in_arg, lam_top, Tree, lam, app, Level, Context, Wire, bound, name, under, occurs, left, right, lifted_wire, wire_without, subst_for, Place, root, wire, Spot, at, arg, Edge, lam_root, lam_wire, app_root, app_left, app_right, in_fun, Tr, here, on, back, Cut, inM, inN, CutEdge, ofM, ofN, Adr, own, lam_n, fun_n, arg_n, Held, at_root, wire_m, wire_n, Opens, top, side_m, side_n}
+use Rattle.ol_meaning.specs.Spots.{fun, o, app_arg, in_arg, lam_top, Tree, lam, app, Level, Context, Wire, bound, name, under, occurs, left, right, lifted_wire, wire_without, subst_for, Place, root, wire, Spot, at, arg, Edge, lam_root, lam_wire, app_root, app_left, app_right, in_fun, Trail, here, on, back, Cut, inM, inN, CutEdge, ofM, ofN, WireOf, own, lam_n, fun_n, arg_n, Held, at_root, wire_m, wire_n, Opens, top, side_m, side_n}
 use Rattle.ol_meaning.specs.Steps.{SameRedex, redex_root, redex_m, redex_n}
 use Rattle.ol_spots_net.proofs.Trails.{tr_trans, tr_sym, one_back}
 use Rattle.ol_meaning.proofs.Addresses.{gone, occurs_new, occurs_old, own_occurs}
@@ -13,7 +13,7 @@ use Rattle.ol_meaning.proofs.Ones.{n_there}
 use Rattle.ol_meaning.proofs.Ways.{Gain, Strict, Has, Next, Out, Way}
 
 -- a wire of N has an address at each copy
-copy_address : {N M : Tree} {i : ℕ} {w : Level} {s z0 : Spot} → Copies N M i w s z0 → (x z : Wire) (b : Level) → occurs x N ≡ true → z ≡ lifted_wire 0 i x → (a' : Level) × Adr N M i (ofN w x b) z a'
+copy_address : {N M : Tree} {i : ℕ} {w : Level} {s z0 : Spot} → Copies N M i w s z0 → (x z : Wire) (b : Level) → occurs x N ≡ true → z ≡ lifted_wire 0 i x → (a' : Level) × WireOf N M i (ofN w x b) z a'
 copy_address (copy e q) x z b h p = (b, own e h p)
 copy_address {i = i} (copy_body r) x z b h p = let t = copy_address r x (under z) b h (raise i x z p) in (t.0, lam_n t.1)
   where
@@ -39,12 +39,12 @@ zero_from (bound (suc x)) y e = let k : bound x ≡ y = cc in ap under k
 zero_from (name f) y e = let k : name f ≡ y = cc in ap under k
 
 -- along trails
-held_trail : {N M : Tree} {i : ℕ} {c c' : Cut} {z : Spot} {n : ℕ} → Tr (CutEdge N M i) c c' n → Held N M i c z → Onto N M i c' z n
+held_trail : {N M : Tree} {i : ℕ} {c c' : Cut} {z : Spot} {n : ℕ} → Trail (CutEdge N M i) c c' n → Held N M i c z → Onto N M i c' z n
 held_trail {z = z} here h = record { spot = z; held = h; trail = here }
 held_trail (on e t q) h = let a = there e h in let k = held_trail t a.held in record { spot = k.spot; held = k.held; trail = tr_trans a.trail k.trail q }
 held_trail (back e t q) h = let a = there_back e h in let k = held_trail t a.held in record { spot = k.spot; held = k.held; trail = tr_trans a.trail k.trail q }
 
-closes_trail : {N M : Tree} {c c' : Cut} {n : ℕ} → Tr (CutEdge N M 0) c c' n → {s : Spot} → Opens N M s c → To N M c' s
+closes_trail : {N M : Tree} {c c' : Cut} {n : ℕ} → Trail (CutEdge N M 0) c c' n → {s : Spot} → Opens N M s c → To N M c' s
 closes_trail here {s} r = record { spot = s; rel = r; weight = 0; trail = here }
 closes_trail {N} {M} (on e t q) {s} r = let a = closes N M e r in let k = closes_trail t a.rel in record { spot = k.spot; rel = k.rel; weight = a.weight + k.weight; trail = tr_trans a.trail k.trail refl }
 closes_trail {N} {M} (back e t q) {s} r = let a = closes_back N M e r in let k = closes_trail t a.rel in record { spot = k.spot; rel = k.rel; weight = a.weight + k.weight; trail = tr_trans a.trail k.trail refl }
@@ -90,10 +90,10 @@ module _ (M N : Tree) where
       record { spot = k.spot; rel = record { cut = a.spot; opens = a.rel; held = k.held }; weight = a.weight; few = λ e. a.few; trail = k.trail }
 
   beta_leaves : (p : Place) (v : Level) (c : Context) (z : Spot) (k : Cut) → Opens N M (at p v c) k → Held N M 0 k z → Out new_term (SameRedex M N) true p v c z
-  beta_leaves p v c z k top h = record { level = v; same = redex_root; weight = 0; few = λ e. omega arith; trail = subst (λ s. Tr (Edge new_term) z s 0) (root_is h) here }
+  beta_leaves p v c z k top h = record { level = v; same = redex_root; weight = 0; few = λ e. omega arith; trail = subst (λ s. Trail (Edge new_term) z s 0) (root_is h) here }
   beta_leaves p v c z k (side_m {y = y} {z = x} {a = a} q m e) h =
       let b = by_wire h y (ap (wire_without 0) q ∙ zero_gone y) in
-      record { level = b.level; same = redex_m e (subst (λ x. Adr N M 0 (ofM x a) y b.level) q b.address); weight = 0; few = λ e. omega arith; trail = subst (λ s. Tr (Edge new_term) z s 0) b.is here }
+      record { level = b.level; same = redex_m e (subst (λ x. WireOf N M 0 (ofM x a) y b.level) q b.address); weight = 0; few = λ e. omega arith; trail = subst (λ s. Trail (Edge new_term) z s 0) b.is here }
   beta_leaves p v c z k (side_n {y = y} {b = b} m n e) h =
       let t = held_copy h in
       let a = copy_address t.1 y y b n (lifted_zero y) in
@@ -143,10 +143,10 @@ module _ (M N : Tree) where
       }
   undo_leaves (wire y) v c s r m = let t = held_wire r.held m in by_tag t.cut t.tagged t.trail
     where
-      by_tag : (b : Cut) → Tagged N M 0 y v c b → Tr (CutEdge N M 0) r.cut b 0 → Out old_term Before false (wire y) v c s
+      by_tag : (b : Cut) → Tagged N M 0 y v c b → Trail (CutEdge N M 0) r.cut b 0 → Out old_term Before false (wire y) v c s
       by_tag b (tag_m {y = x} {a = a} i) t =
           let q = zero_from x y (gone i) in
-          let i2 = subst (λ x. Adr N M 0 (ofM x a) y v) q i in
+          let i2 = subst (λ x. WireOf N M 0 (ofM x a) y v) q i in
           let k = closes_trail t r.opens in
           let d = deep_m N M k.rel in
           let h = occurs_old i in
@@ -159,10 +159,10 @@ module _ (M N : Tree) where
           }
       by_tag b (tag_n {w = w} {b = l} {x = x} i) t =
           let q : y ≡ x = (n_there i).1 ∙ sym (lifted_zero x) in
-          let i2 = subst (λ x. Adr N M 0 (ofN w x l) y v) (sym q) i in
+          let i2 = subst (λ x. WireOf N M 0 (ofN w x l) y v) (sym q) i in
           let k = closes_trail t r.opens in
           let d = (deep_n N M k.rel).0 in
-          let u : Tr (Edge old_term) k.spot (arg w (at (wire y) l c)) d.weight = subst (λ x. Tr (Edge old_term) k.spot (arg w (at (wire x) l c)) d.weight) (sym q) d.trail in
+          let u : Trail (Edge old_term) k.spot (arg w (at (wire y) l c)) d.weight = subst (λ x. Trail (Edge old_term) k.spot (arg w (at (wire x) l c)) d.weight) (sym q) d.trail in
           record {
             level = right (lam M) y l w;
             same = redex_n refl i2;

@@ -1,8 +1,8 @@
 -- The one way from the root of a head normal form to its head.
 use Rattle.std.proofs.Common.{◌≡◌, ℕ, suc, true, refl, sym, ap, ◌∙◌, subst, arith, ◌⊎◌, inl, inr}
 use Rattle.ol_context.proofs.Contexts.{head_eq, tail_eq}
-use Rattle.ol_meaning.specs.Spots.{Tree, var, free, lam, app, Level, empty, o, star, Context, cons, Wire, bound, name, under, occurs, left, right, Place, root, wire, Spot, at, body, fun, Edge, var_wire, free_wire, lam_root, lam_own, lam_wire, app_root, app_arg, app_left, app_right, in_body, in_fun, in_arg, Tr, here, on, back}
-use Rattle.ol_meaning.specs.Heads.{Up, up_root, up_own, up_wire}
+use Rattle.ol_meaning.specs.Spots.{Tree, var, free, lam, app, Level, empty, o, star, Context, cons, Wire, bound, name, under, occurs, left, right, Place, root, wire, Spot, at, body, fun, Edge, var_wire, free_wire, lam_root, lam_own, lam_wire, app_root, app_arg, app_left, app_right, in_body, in_fun, in_arg, Trail, here, on, back}
+use Rattle.ol_meaning.specs.Heads.{OutOf, up_root, up_own, up_wire}
 use Rattle.ol_meaning.proofs.Addresses.{left_one, sides_apart}
 use Rattle.ol_meaning.proofs.Ways.{Has}
 
@@ -16,7 +16,7 @@ pub record Channel (t : Tree) (e x : Spot) : Type 1 where
   pub last : In x
   pub only : (p : Place) (v : Level) (d : Context) → In (at p v d) → (at p v d ≡ e) ⊎ (at p v d ≡ x)
 
-pub along : {t : Tree} {e x s s' : Spot} {n : ℕ} (k : Channel t e x) → Tr (Edge t) s s' n → k.In s → k.In s'
+pub along : {t : Tree} {e x s s' : Spot} {n : ℕ} (k : Channel t e x) → Trail (Edge t) s s' n → k.In s → k.In s'
 along k here r = r
 along k (on {s = s} {s' = s1} {w = w} e a h) r = along k a (k.go s s1 w e r)
 along k (back {s = s} {s' = s1} {w = w} e a h) r = along k a (k.come s s1 w e r)
@@ -177,16 +177,16 @@ under_zero (name y) e = cc
 pub record Inside (M : Tree) (q : Place) (w : Level) (c : Context) (s : Spot) : Type 0 where
   pub port : Place
   pub level : Level
-  pub up : Up port level q w
+  pub up : OutOf port level q w
   pub is : s ≡ body (at port level c)
 
 pub inside : {M : Tree} {q : Place} {w : Level} {c : Context} {s s' : Spot} {n : ℕ} → Edge (lam M) s s' n → s ≡ at q w c → Inside M q w c s'
-inside {q = q} {w = w} {c = c} (lam_root {v = v} {c = l}) e = (let i : root ≡ q = cc in let j : w ≡ o v = cc in let g : l ≡ c = cc in record { port = root; level = v; up = subst (λ q. Up root v q w) i (up_root j); is = ap (λ c. body (at root v c)) g })
-inside {q = q} {w = w} {c = c} (lam_own {a = a} {c = l} m) e = (let i : root ≡ q = cc in let j : w ≡ star a = cc in let g : l ≡ c = cc in record { port = wire (bound 0); level = a; up = subst (λ q. Up (wire (bound 0)) a q w) i (up_own refl j); is = ap (λ c. body (at (wire (bound 0)) a c)) g })
-inside {q = q} {w = w} {c = c} (lam_wire {y = y} {z = z} {a = a} {c = l} h m) e = (let i : wire y ≡ q = cc in let j : w ≡ a = cc in let g : l ≡ c = cc in record { port = wire z; level = a; up = subst (λ q. Up (wire z) a q w) i (up_wire h j); is = ap (λ c. body (at (wire z) a c)) g })
+inside {q = q} {w = w} {c = c} (lam_root {v = v} {c = l}) e = (let i : root ≡ q = cc in let j : w ≡ o v = cc in let g : l ≡ c = cc in record { port = root; level = v; up = subst (λ q. OutOf root v q w) i (up_root j); is = ap (λ c. body (at root v c)) g })
+inside {q = q} {w = w} {c = c} (lam_own {a = a} {c = l} m) e = (let i : root ≡ q = cc in let j : w ≡ star a = cc in let g : l ≡ c = cc in record { port = wire (bound 0); level = a; up = subst (λ q. OutOf (wire (bound 0)) a q w) i (up_own refl j); is = ap (λ c. body (at (wire (bound 0)) a c)) g })
+inside {q = q} {w = w} {c = c} (lam_wire {y = y} {z = z} {a = a} {c = l} h m) e = (let i : wire y ≡ q = cc in let j : w ≡ a = cc in let g : l ≡ c = cc in record { port = wire z; level = a; up = subst (λ q. OutOf (wire z) a q w) i (up_wire h j); is = ap (λ c. body (at (wire z) a c)) g })
 inside (in_body x) e = absurd (cc)
 
-pub up_from_one : {p p' q q' : Place} {v v' w w' : Level} → Up p v q w → Up p' v' q' w' → q ≡ q' → w ≡ w' → (p ≡ p') × (v ≡ v')
+pub up_from_one : {p p' q q' : Place} {v v' w w' : Level} → OutOf p v q w → OutOf p' v' q' w' → q ≡ q' → w ≡ w' → (p ≡ p') × (v ≡ v')
 up_from_one (up_root e) (up_root f) i j = (refl, (let k = sym e ∙ j ∙ f in cc))
 up_from_one (up_root e) (up_own g f) i j = absurd (let k = sym e ∙ j ∙ f in cc)
 up_from_one (up_own g e) (up_root f) i j = absurd (let k = sym e ∙ j ∙ f in cc)
@@ -197,7 +197,7 @@ up_from_one (up_wire e f) (up_own g e') i j = absurd (cc)
 up_from_one (up_root e) (up_wire e' f') i j = absurd (cc)
 up_from_one (up_own g e) (up_wire e' f') i j = absurd (cc)
 
-pub up_to_one : {p p' q q' : Place} {v v' w w' : Level} → Up p v q w → Up p' v' q' w' → p ≡ p' → v ≡ v' → (q ≡ q') × (w ≡ w')
+pub up_to_one : {p p' q q' : Place} {v v' w w' : Level} → OutOf p v q w → OutOf p' v' q' w' → p ≡ p' → v ≡ v' → (q ≡ q') × (w ≡ w')
 up_to_one (up_root e) (up_root f) i j = (refl, e ∙ ap o j ∙ sym f)
 up_to_one (up_own g e) (up_own h f) i j = (refl, e ∙ ap star j ∙ sym f)
 up_to_one (up_wire {y = y} {z = z} e f) (up_wire {y = y'} {z = z'} e' f') i j = (ap wire (under_one y y' (sym e ∙ (let k : z ≡ z' = cc in k) ∙ e')), f ∙ j ∙ sym f')
@@ -208,7 +208,7 @@ up_to_one (up_wire h e) (up_root f) i j = absurd (cc)
 up_to_one (up_own {x = x} g e) (up_wire {y = y} {z = z} h f) i j = absurd (under_zero y (sym g ∙ (let k : x ≡ z = cc in k) ∙ h))
 up_to_one (up_wire {y = y} {z = z} h f) (up_own {x = x} g e) i j = absurd (under_zero y (sym g ∙ (let k : x ≡ z = cc in k) ∙ h))
 
-pub up_edge : {M : Tree} {p q : Place} {v w : Level} → Up p v q w → Has p M → (c : Context) → Edge (lam M) (at q w c) (body (at p v c)) 0
+pub up_edge : {M : Tree} {p q : Place} {v w : Level} → OutOf p v q w → Has p M → (c : Context) → Edge (lam M) (at q w c) (body (at p v c)) 0
 up_edge {M} (up_root {v = v} e) m c = subst (λ w. Edge (lam M) (at root w c) (body (at root v c)) 0) (sym e) lam_root
 up_edge {M} (up_own {x = x} {a = a} {w = w} g e) m c = subst (λ x. Edge (lam M) (at root w c) (body (at (wire x) a c)) 0) (sym g) (subst (λ w. Edge (lam M) (at root w c) (body (at (wire (bound 0)) a c)) 0) (sym e) (lam_own (subst (λ x. occurs x M ≡ true) g m)))
 up_edge {M} (up_wire {y = y} {z = z} {a = a} e f) m c = subst (λ b. Edge (lam M) (at (wire y) b c) (body (at (wire z) a c)) 0) (sym f) (lam_wire e m)
@@ -218,7 +218,7 @@ data In (I : Spot → Type 0) (e x : Spot) : Spot → Type 0 where
   in_x : {s : Spot} → s ≡ x → In I e x s
   in_in : {s : Spot} → I s → In I e x (body s)
 
-module _ {M : Tree} {p p' q q' : Place} {v v' w w' : Level} {c d : Context} (u : Up p v q w) (u' : Up p' v' q' w') (k : Channel M (at p v c) (at p' v' d)) where
+module _ {M : Tree} {p p' q q' : Place} {v v' w w' : Level} {c d : Context} (u : OutOf p v q w) (u' : OutOf p' v' q' w') (k : Channel M (at p v c) (at p' v' d)) where
   abbrev G : Spot → Type 0
   G = In k.In (at q w c) (at q' w' d)
 
@@ -234,7 +234,7 @@ module _ {M : Tree} {p p' q q' : Place} {v v' w w' : Level} {c d : Context} (u :
       subst G (ap (λ p. body (at p v' d)) (sym i.0) ∙ ap (λ v. body (at t.port v d)) (sym i.1) ∙ sym t.is) (in_in k.last)
 
   -- an interface spot of the body comes out as an end
-  leave : {r f : Place} {a b : Level} {l : Context} → Up r a f b → k.In (at r a l) → G (at f b l)
+  leave : {r f : Place} {a b : Level} {l : Context} → OutOf r a f b → k.In (at r a l) → G (at f b l)
   leave {r} {f} {a} {b} {l} h z = by (k.only r a l z)
     where
       by : (at r a l ≡ at p v c) ⊎ (at r a l ≡ at p' v' d) → G (at f b l)

@@ -1,7 +1,7 @@
 -- The copies of N in M[N].
 use Rattle.std.proofs.Common.{◌≡◌, ℕ, suc, true, nat_eq, None, refl, sym, ◌∙◌, subst}
 use Rattle.std.proofs.lemmas.Bool.{or_left, or_right}
-use Rattle.ol_meaning.specs.Spots.{Tree, var, lam, app, left, without, empty, Level, Context, Wire, bound, wire, Spot, at, body, fun, arg, Edge, app_left, app_right, lam_wire, in_body, in_fun, in_arg, Tr, here, occurs, right, lift, lifted, lifted_wire, put, subst_for, inN, ofN, Adr, own, lam_n, fun_n, arg_n, Held, x_spot, wire_n, n_body, n_fun, n_arg}
+use Rattle.ol_meaning.specs.Spots.{Tree, var, lam, app, left, without, empty, Level, Context, Wire, bound, wire, Spot, at, body, fun, arg, Edge, app_left, app_right, lam_wire, in_body, in_fun, in_arg, Trail, here, occurs, right, lift, lifted, lifted_wire, put, subst_for, inN, ofN, WireOf, own, lam_n, fun_n, arg_n, Held, x_spot, wire_n, n_body, n_fun, n_arg}
 use Rattle.ol_meaning.proofs.Lifts.{lift_keeps, same_is}
 use Rattle.ol_meaning.proofs.Addresses.{left_one, right_one, sides_apart, occurs_new, own_occurs, without_is}
 use Rattle.ol_spots_net.proofs.Trails.{tr_trans, one_back, tr_body, tr_fun, tr_arg}
@@ -13,7 +13,7 @@ pub data Copies (N : Tree) : Tree → ℕ → Level → Spot → Spot → Type 0
   copy_fun : {M1 M2 : Tree} {i : ℕ} {u w : Level} {s z : Spot} → Copies N M1 i u s z → w ≡ left M2 (bound i) u → Copies N (app M1 M2) i w s (fun z)
   copy_arg : {M1 M2 : Tree} {i : ℕ} {u v w : Level} {s z : Spot} → Copies N M2 i u s z → w ≡ right M1 (bound i) u v → Copies N (app M1 M2) i w s (arg v z)
 
-pub copy_exists : {N M : Tree} {i : ℕ} {x z : Wire} {w b a' : Level} → Adr N M i (ofN w x b) z a' → (s : Spot) → (z0 : Spot) × Copies N M i w s z0
+pub copy_exists : {N M : Tree} {i : ℕ} {x z : Wire} {w b a' : Level} → WireOf N M i (ofN w x b) z a' → (s : Spot) → (z0 : Spot) × Copies N M i w s z0
 copy_exists {i = i} (own e h q) s = (lifted 0 i s, copy e refl)
 copy_exists (lam_n r) s = let t = copy_exists r s in (body t.0, copy_body t.1)
 copy_exists (fun_n r e e') s = let t = copy_exists r s in (fun t.0, copy_fun t.1 e)
@@ -47,9 +47,9 @@ copies_occur (copy_fun {M1 = M1} {M2 = M2} {i = i} r e) = or_left (occurs (bound
 copies_occur (copy_arg {M1 = M1} {M2 = M2} {i = i} r e) = or_right (occurs (bound i) M1) (occurs (bound i) M2) (copies_occur r)
 
 -- out of the copy, by the wire of an address
-pub copy_out : {N M : Tree} {i : ℕ} {x z : Wire} {w b a' : Level} {c : Context} {z0 : Spot} → Adr N M i (ofN w x b) z a' → Copies N M i w (at (wire x) b c) z0 → Tr (Edge (subst_for i N M)) z0 (at (wire z) a' c) 0
+pub copy_out : {N M : Tree} {i : ℕ} {x z : Wire} {w b a' : Level} {c : Context} {z0 : Spot} → WireOf N M i (ofN w x b) z a' → Copies N M i w (at (wire x) b c) z0 → Trail (Edge (subst_for i N M)) z0 (at (wire z) a' c) 0
 copy_out {N} {i = i} {c = c} {z0 = z0} (own {y = y} {x = x} {z = z} {b = b} e h q) (copy e2 q2) =
-    subst (λ r. Tr (Edge (subst_for i N (var y))) r (at (wire z) b c) 0) (sym q2) (subst (λ r. Tr (Edge (subst_for i N (var y))) (at (wire (lifted_wire 0 i x)) b c) (at (wire r) b c) 0) (sym q) here)
+    subst (λ r. Trail (Edge (subst_for i N (var y))) r (at (wire z) b c) 0) (sym q2) (subst (λ r. Trail (Edge (subst_for i N (var y))) (at (wire (lifted_wire 0 i x)) b c) (at (wire r) b c) 0) (sym q) here)
 copy_out {N} {i = i} (lam_n {M = M} r) (copy_body k) = tr_trans (tr_body (copy_out r k)) (one_back (lam_wire refl (occurs_new r))) refl
 copy_out {N} {i = i} {x = x} {b = b} {c = c} (fun_n {M1 = M1} {M2 = M2} {u = u} r e e') (copy_fun {u = u2} {z = z1} k e2) =
     let q : u2 ≡ u = left_one M2 (bound i) u2 u (sym e2 ∙ e) in
@@ -63,7 +63,7 @@ copy_out {N} {i = i} {x = x} {z = z} {b = b} {a' = w'} {c = c} (arg_n {M1 = M1} 
     tr_trans (tr_arg (copy_out r (subst (λ u. Copies N M2 i u (at (wire x) b c) z1) q.0 k))) (one_back (app_right (occurs_new r) (subst (λ v. w' ≡ right (subst_for i N M1) z a' v) (sym q.1) e'))) refl
 
 -- whatever holds a spot of N is joined to its copy
-pub held_copy : {N M : Tree} {i : ℕ} {w : Level} {s z : Spot} → Held N M i (inN w s) z → (z0 : Spot) × Copies N M i w s z0 × Tr (Edge (subst_for i N M)) z0 z 0
+pub held_copy : {N M : Tree} {i : ℕ} {w : Level} {s z : Spot} → Held N M i (inN w s) z → (z0 : Spot) × Copies N M i w s z0 × Trail (Edge (subst_for i N M)) z0 z 0
 held_copy (wire_n {x = x} {b = b} {c = c} r) = let t = copy_exists r (at (wire x) b c) in (t.0, t.1, copy_out r t.1)
 held_copy {z = z} (x_spot e q) = (z, copy e q, here)
 held_copy (n_body r) = let t = held_copy r in (body t.0, copy_body t.1, tr_body t.2)

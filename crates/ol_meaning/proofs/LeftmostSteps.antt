@@ -5,7 +5,7 @@ use Rattle.std.specs.Option.{option_map}
 use Rattle.ol_beta.specs.Beta.{shifted, substituted, contracted}
 use Rattle.ol_beta.specs.Leftmost.{leftmost, first_of_two}
 use Rattle.ol_beta.specs.Leftmost as beta_steps
-use Rattle.ol_meaning.specs.Spots.{Tree, var, free, lam, app, up_from, lift, suc_of, without, put, subst_for, Head, beta, below, before}
+use Rattle.ol_meaning.specs.Spots.{Tree, var, free, lam, app, up_from, lift, suc_of, without, put, subst_for, HeadStep, beta, below, before}
 use Rattle.ol_meaning.proofs.Addresses.{without_own}
 
 -- ---- under more abstractions
@@ -59,7 +59,7 @@ subst_is (app t u) N i = ap (λ t. app t (subst_for i N u)) (subst_is t N i) ∙
 
 -- ---- the leftmost redex
 
-pub leftmost_step : {t t' : Tree} → Head t t' → (at : List ℕ) × (leftmost t ≡ Some at) × (contracted t at ≡ Some t')
+pub leftmost_step : {t t' : Tree} → HeadStep t t' → (at : List ℕ) × (leftmost t ≡ Some at) × (contracted t at ≡ Some t')
 leftmost_step (beta {M = M} {N = N}) = ([], refl, ap Some (sym (subst_is M N 0)))
 leftmost_step (below h) = let r = leftmost_step h in (0 ∷ r.0, ap (beta_steps.under 0) r.1, ap (option_map lam) r.2)
 leftmost_step (before {R = R} {P = P} e h) =

@@ -1,7 +1,7 @@
 -- A head step keeps where each spot of the interface leads to.
 use Rattle.std.proofs.Common.{◌<◌, ◌≡◌, ℕ, suc, ◌+◌, ◌≤◌, true, false, refl, sym, ap, ◌∙◌, subst, arith, ◌⊎◌, inl, inr}
 use Rattle.std.proofs.lemmas.Bool.{or_left, or_right}
-use Rattle.ol_meaning.specs.Spots.{lam_own, empty, pair, body, lam_root, in_body, Tree, var, free, lam, app, Level, o, star, Context, Wire, bound, under, occurs, left, right, Place, root, wire, Spot, at, Edge, var_wire, free_wire, lam_wire, app_left, app_right, Tr, here, on, back, ofM, ofN, Adr, is_abstraction, Head, beta, below, before, Leads}
+use Rattle.ol_meaning.specs.Spots.{lam_own, empty, pair, body, lam_root, in_body, Tree, var, free, lam, app, Level, o, star, Context, Wire, bound, under, occurs, left, right, Place, root, wire, Spot, at, Edge, var_wire, free_wire, lam_wire, app_left, app_right, Trail, here, on, back, ofM, ofN, WireOf, is_abstraction, HeadStep, beta, below, before, Leads}
 use Rattle.ol_meaning.specs.Steps.{SameRedex, redex_root, redex_m, redex_n, SameBelow, below_o, below_star, below_wire, SameBefore, before_root, before_left, before_right, Same, opened, Short}
 use Rattle.ol_spots_net.proofs.Trails.{tr_trans, tr_sym}
 use Rattle.ol_meaning.proofs.Lifts.{same_is}
@@ -40,35 +40,35 @@ redex_is v v' redex_root = refl
 before_is : {R R' P : Tree} {S : Place → Level → Level → Type 0} (v v' : Level) → SameBefore R R' P S root v v' → v ≡ v'
 before_is v v' before_root = refl
 
-root_is : {R R' : Tree} (h : Head R R') → is_abstraction R ≡ false → (v v' : Level) → Same h root v v' → v ≡ v'
+root_is : {R R' : Tree} (h : HeadStep R R') → is_abstraction R ≡ false → (v v' : Level) → Same h root v v' → v ≡ v'
 root_is beta e v v' r = redex_is v v' r
 root_is (below h) e v v' r = absurd (cc)
 root_is (before f h) e v v' r = before_is v v' r
 
-root_keeps : {R R' : Tree} (h : Head R R') → is_abstraction R ≡ false → (v : Level) → Same h root v v
+root_keeps : {R R' : Tree} (h : HeadStep R R') → is_abstraction R ≡ false → (v : Level) → Same h root v v
 root_keeps beta e v = redex_root
 root_keeps (below h) e v = absurd (cc)
 root_keeps (before f h) e v = before_root
 
-pub root_same : {t t' : Tree} (h : Head t t') (u : Level) → Same h root (opened t u) (opened t u)
+pub root_same : {t t' : Tree} (h : HeadStep t t') (u : Level) → Same h root (opened t u) (opened t u)
 root_same beta u = redex_root
 root_same (below h) u = below_o (root_same h u)
 root_same (before e h) u = before_root
 
 -- ---- the ways of a head step
 
-way_on : {t t' : Tree} (h : Head t t') → Way t t' (Same h) true
+way_on : {t t' : Tree} (h : HeadStep t t') → Way t t' (Same h) true
 way_on (beta {M = M} {N = N}) = way_there M N
 way_on (below {M = M} {M' = M'} h) = way_below M M' (Same h) true (way_on h)
 way_on (before {R = R} {R' = R'} {P = P} e h) = way_before R R' P (Same h) true (way_on h) (root_is h e) (root_keeps h e)
 
-way_off : {t t' : Tree} (h : Head t t') → Way t' t (Flip (Same h)) false
+way_off : {t t' : Tree} (h : HeadStep t t') → Way t' t (Flip (Same h)) false
 way_off (beta {M = M} {N = N}) = way_back M N
 way_off (below {M = M} {M' = M'} h) = renamed flip_below below_flip (way_below M' M (Flip (Same h)) false (way_off h))
 way_off (before {R = R} {R' = R'} {P = P} e h) = renamed flip_before before_flip (way_before R' R P (Flip (Same h)) false (way_off h) (λ v' v r. sym (root_is h e v v' r)) (root_keeps h e))
 
 -- a wire's values are the same only where it occurs, before and after
-pub same_occurs : {t t' : Tree} (h : Head t t') (y : Wire) (a a' : Level) → Same h (wire y) a a' → (occurs y t ≡ true) × (occurs y t' ≡ true)
+pub same_occurs : {t t' : Tree} (h : HeadStep t t') (y : Wire) (a a' : Level) → Same h (wire y) a a' → (occurs y t ≡ true) × (occurs y t' ≡ true)
 same_occurs h y a a' r = ((way_on h).old y a a' r, (way_on h).new y a a' r)
 
 opened_same : (R : Tree) (u : Level) → is_abstraction R ≡ false → opened R u ≡ u
@@ -77,7 +77,7 @@ opened_same (free f) u e = refl
 opened_same (lam t) u e = absurd (cc)
 opened_same (app t s) u e = refl
 
-strict : {t t' : Tree} (h : Head t t') (u : Level) (c : Context) → Strict t t' (Same h) (way_on h) (opened t u) c
+strict : {t t' : Tree} (h : HeadStep t t') (u : Level) (c : Context) → Strict t t' (Same h) (way_on h) (opened t u) c
 unfolding way_on
 strict (beta {M = M} {N = N}) u c = strict_beta M N u c
 strict (below {M = M} {M' = M'} h) u c = strict_below M M' (Same h) (way_on h) (opened M u) c (strict h u c)
@@ -89,14 +89,14 @@ strict (before {R = R} {R' = R'} {P = P} e h) u c =
 redex_one : {M N : Tree} {p : Place} {v v' w w' : Level} → SameRedex M N p v v' → SameRedex M N p w w' → (v ≡ w → v' ≡ w') × (v' ≡ w' → v ≡ w)
 redex_one redex_root redex_root = (λ e. e, λ e. e)
 redex_one {M} {N} {v' = v'} (redex_m {y = y} {a = a} e r) (redex_m {a = b} e2 r2) =
-    (λ q. m_gives (subst (λ a. Adr N M 0 (ofM (under y) a) y v') (left_one N y a b (sym e ∙ q ∙ e2)) r) r2, λ q. e ∙ ap (left N y) (m_from r r2 q) ∙ sym e2)
+    (λ q. m_gives (subst (λ a. WireOf N M 0 (ofM (under y) a) y v') (left_one N y a b (sym e ∙ q ∙ e2)) r) r2, λ q. e ∙ ap (left N y) (m_from r r2 q) ∙ sym e2)
 redex_one {M} {N} (redex_m {y = y} {a = a} e r) (redex_n {b = b} {v = v} e2 r2) =
     (λ q. absurd (sides_apart (lam M) N y a b v (occurs_old r) (n_there r2).0 (sym e ∙ q ∙ e2)), λ q. absurd (apart r r2 q))
 redex_one {M} {N} (redex_n {y = y} {b = b} {v = v} e r) (redex_m {a = a} e2 r2) =
     (λ q. absurd (sides_apart (lam M) N y a b v (occurs_old r2) (n_there r).0 (sym e2 ∙ sym q ∙ e)), λ q. absurd (apart r2 r (sym q)))
 redex_one {M} {N} {v' = v'} (redex_n {y = y} {b = b} {v = v} e r) (redex_n {b = b2} {v = v2} e2 r2) = (
   λ q. (let k = right_one (lam M) y b b2 v v2 (sym e ∙ q ∙ e2) in
-      n_gives (subst (λ v. Adr N M 0 (ofN v y b2) y v') k.1 (subst (λ b. Adr N M 0 (ofN v y b) y v') k.0 r)) r2),
+      n_gives (subst (λ v. WireOf N M 0 (ofN v y b2) y v') k.1 (subst (λ b. WireOf N M 0 (ofN v y b) y v') k.0 r)) r2),
   λ q. (let k = n_from r r2 q in e ∙ ap (λ v. right (lam M) y b v) k.0 ∙ ap (λ b. right (lam M) y b v2) k.1 ∙ sym e2),
 )
 
@@ -126,7 +126,7 @@ before_one {R} {R'} {P} m f (before_right {y = y} b u k e1 e2) (before_right b2 
   λ q. (let t = right_one R' y b b2 u u2 (sym e2 ∙ q ∙ q2) in e1 ∙ ap (λ b. right R y b u) t.0 ∙ ap (λ u. right R y b2 u) t.1 ∙ sym q1),
 )
 
-pub same_one : {t t' : Tree} (h : Head t t') (p : Place) (v v' w w' : Level) → Same h p v v' → Same h p w w' → (v ≡ w → v' ≡ w') × (v' ≡ w' → v ≡ w)
+pub same_one : {t t' : Tree} (h : HeadStep t t') (p : Place) (v v' w w' : Level) → Same h p v v' → Same h p w w' → (v ≡ w → v' ≡ w') × (v' ≡ w' → v ≡ w)
 unfolding One
 same_one beta p v v' w w' r r2 = redex_one r r2
 same_one (below h) p v v' w w' r r2 = below_one (same_one h) r r2
@@ -143,24 +143,24 @@ edge_to : {t : Tree} {y : Wire} {v : Level} {c : Context} {s : Spot} {n : ℕ} �
 edge_to (var_wire {y = y} e) = same_is y
 edge_to (free_wire {f = f} e) = same_is f
 
-begins : {t : Tree} {y : Wire} {v : Level} {c : Context} {s : Spot} {n : ℕ} → Tr (Edge t) (at (wire y) v c) s n → (at (wire y) v c ≡ s → ⊥) → occurs y t ≡ true
+begins : {t : Tree} {y : Wire} {v : Level} {c : Context} {s : Spot} {n : ℕ} → Trail (Edge t) (at (wire y) v c) s n → (at (wire y) v c ≡ s → ⊥) → occurs y t ≡ true
 begins here f = absurd (f refl)
 begins (on e t h) f = edge_from e
 begins (back e t h) f = edge_to e
 
-pub ends : {t : Tree} (q : Place) {v : Level} {c : Context} {s : Spot} {n : ℕ} → Tr (Edge t) s (at q v c) n → (s ≡ at q v c → ⊥) → Has q t
+pub ends : {t : Tree} (q : Place) {v : Level} {c : Context} {s : Spot} {n : ℕ} → Trail (Edge t) s (at q v c) n → (s ≡ at q v c → ⊥) → Has q t
 ends root t f = tt
 ends (wire y) t f = begins (tr_sym t) (λ e. f (sym e))
 
 -- ---- what leads on before the step, and after it
 
-at_one : {t t' : Tree} (h : Head t t') (p q : Place) (v v' w w' : Level) (c d : Context) → Same h p v v' → Same h q w w' → (at p v c ≡ at q w d → at p v' c ≡ at q w' d) × (at p v' c ≡ at q w' d → at p v c ≡ at q w d)
+at_one : {t t' : Tree} (h : HeadStep t t') (p q : Place) (v v' w w' : Level) (c d : Context) → Same h p v v' → Same h q w w' → (at p v c ≡ at q w d → at p v' c ≡ at q w' d) × (at p v' c ≡ at q w' d → at p v c ≡ at q w d)
 at_one h p q v v' w w' c d r r2 = (
   λ e. (let i : p ≡ q = cc in let j : v ≡ w = cc in let k : c ≡ d = cc in let l = (same_one h p v v' w w' r (subst (λ p. Same h p w w') (sym i) r2)).0 j in cc),
   λ e. (let i : p ≡ q = cc in let j : v' ≡ w' = cc in let k : c ≡ d = cc in let l = (same_one h p v v' w w' r (subst (λ p. Same h p w w') (sym i) r2)).1 j in cc),
 )
 
-stays : {t t' : Tree} (h : Head t t') (p q : Place) (v v' w : Level) (c d : Context) (n : ℕ) → Same h p v v' → Leads t (at p v c) (at q w d) n →
+stays : {t t' : Tree} (h : HeadStep t t') (p q : Place) (v v' w : Level) (c d : Context) (n : ℕ) → Same h p v v' → Leads t (at p v c) (at q w d) n →
     (w' : Level) × Same h q w w' × (n' : ℕ) × (n' ≤ n) × Leads t' (at p v' c) (at q w' d) n'
 stays h p q v v' w c d n r l =
     let way = way_on h in
@@ -170,7 +170,7 @@ stays h p q v v' w c d n r l =
     let b = x.few refl in
     (x.level, x.same, k.weight + x.weight, (omega arith), (tr_trans k.trail x.trail refl, λ e. l.1 ((at_one h p q v v' w x.level c d r x.same).1 e)))
 
-gains : {t t' : Tree} (h : Head t t') (q : Place) (u v' w : Level) (c d : Context) (n : ℕ) → Same h root (opened t u) v' → Leads t (at root (opened t u) c) (at q w d) n →
+gains : {t t' : Tree} (h : HeadStep t t') (q : Place) (u v' w : Level) (c d : Context) (n : ℕ) → Same h root (opened t u) v' → Leads t (at root (opened t u) c) (at q w d) n →
     (w' : Level) × Same h q w w' × (n' : ℕ) × (suc n' ≤ n) × Leads t' (at root v' c) (at q w' d) n'
 gains {t} {t'} h q u v' w c d n r l =
     let way = way_on h in
@@ -186,7 +186,7 @@ gains {t} {t'} h q u v' w c d n r l =
     light (inl p) = absurd (l.1 (sym ((strict h u c).only q w d p)))
     light (inr k) = k
 
-pub reflects : {t t' : Tree} (h : Head t t') (p q : Place) (v v' w' : Level) (c d : Context) (n' : ℕ) → Same h p v v' → Leads t' (at p v' c) (at q w' d) n' →
+pub reflects : {t t' : Tree} (h : HeadStep t t') (p q : Place) (v v' w' : Level) (c d : Context) (n' : ℕ) → Same h p v v' → Leads t' (at p v' c) (at q w' d) n' →
     (w : Level) × Same h q w w' × (n : ℕ) × Leads t (at p v c) (at q w d) n
 reflects h p q v v' w' c d n' r l =
     let way = way_off h in
@@ -208,7 +208,7 @@ passes (var y) v = inl (v, refl)
 passes (free f) v = inl (v, refl)
 passes (app t s) v = inl (v, refl)
 
-pub keeps : {t t' : Tree} (h : Head t t') (p q : Place) (v v' w : Level) (c d : Context) (n : ℕ) → Same h p v v' → Leads t (at p v c) (at q w d) n →
+pub keeps : {t t' : Tree} (h : HeadStep t t') (p q : Place) (v v' w : Level) (c d : Context) (n : ℕ) → Same h p v v' → Leads t (at p v c) (at q w d) n →
     (w' : Level) × Same h q w w' × (n' : ℕ) × (n' ≤ n) × ((u : Level) → p ≡ root → v ≡ opened t u → n' < n) × Leads t' (at p v' c) (at q w' d) n'
 keeps {t} {t'} h (wire y) q v v' w c d n r l = let k = stays h (wire y) q v v' w c d n r l in (k.0, k.1, k.2, k.3, (λ u e f. absurd (cc)), k.4)
 keeps {t} {t'} h root q v v' w c d n r l = by (passes t v)
@@ -250,7 +250,7 @@ chain_off c (lam t) (o v) h top e = elim e [ ]
 chain_off c (lam t) (o v) h (down k) (lam_own m) = elim k [ ]
 chain_off c (lam t) (o v) h (down k) (lam_wire e m) = elim k [ ]
 
-chain_trail : (c : Context) (t : Tree) (v : Level) {s s' : Spot} {n : ℕ} → Short t v → Tr (Edge t) s s' n → Chain c t v s → Chain c t v s'
+chain_trail : (c : Context) (t : Tree) (v : Level) {s s' : Spot} {n : ℕ} → Short t v → Trail (Edge t) s s' n → Chain c t v s → Chain c t v s'
 chain_trail c t v h here k = k
 chain_trail c t v h (on e a q) k = chain_trail c t v h a (chain_on c t v h k e)
 chain_trail c t v h (back e a q) k = chain_trail c t v h a (chain_off c t v h k e)
@@ -261,7 +261,7 @@ chain_top top = refl
 pub stuck : (t : Tree) (q : Place) (v w : Level) (c d : Context) (n : ℕ) → Short t v → Leads t (at root v c) (at q w d) n → ⊥
 stuck t q v w c d n h l = l.1 (chain_top (chain_trail c t v h l.0 top))
 
-pub stays_short : {t t' : Tree} (h : Head t t') (v : Level) → Short t v → Short t' v
+pub stays_short : {t t' : Tree} (h : HeadStep t t') (v : Level) → Short t v → Short t' v
 stays_short (below h) (o v) k = stays_short h v k
 stays_short (below h) empty k = tt
 stays_short (below h) (star v) k = elim k [ ]

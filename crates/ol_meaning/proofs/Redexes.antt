@@ -1,6 +1,6 @@
 -- A redex against its cut.
 use Rattle.std.proofs.Common.{◌≡◌, ℕ, ◌+◌, ◌≤◌, true, refl, sym, ◌∙◌, subst, arith}
-use Rattle.ol_meaning.specs.Spots.{Tree, lam, app, Level, bound, root, wire, Spot, at, body, fun, arg, Edge, lam_root, lam_own, lam_wire, app_root, app_arg, app_left, app_right, in_body, in_fun, in_arg, Tr, here, on, occurs, Cut, inM, inN, CutEdge, of_m, of_n, joint, Opens, in_m, in_n, lam_top, lam_var, lam_side, top, side_m, side_n}
+use Rattle.ol_meaning.specs.Spots.{Tree, lam, app, Level, bound, root, wire, Spot, at, body, fun, arg, Edge, lam_root, lam_own, lam_wire, app_root, app_arg, app_left, app_right, in_body, in_fun, in_arg, Trail, here, on, occurs, Cut, inM, inN, CutEdge, of_m, of_n, joint, Opens, in_m, in_n, lam_top, lam_var, lam_side, top, side_m, side_n}
 use Rattle.ol_spots_net.proofs.Trails.{tr_trans, one, one_back}
 use Rattle.ol_meaning.proofs.Addresses.{left_one, right_one, sides_apart}
 
@@ -10,7 +10,7 @@ pub record Light {V W : Type 0} (F : W → W → ℕ → Type 0) (R : V → W �
   pub rel : R s spot
   pub weight : ℕ
   pub few : weight ≤ n
-  pub trail : Tr F z spot weight
+  pub trail : Trail F z spot weight
 
 module _ (N M : Tree) where
   stays : {s : Spot} {z : Cut} {n : ℕ} → Opens N M s z → Light (CutEdge N M 0) (Opens N M) s z n
@@ -63,11 +63,11 @@ module _ (N M : Tree) where
     pub spot : Spot
     pub rel : Opens N M spot z
     pub weight : ℕ
-    pub trail : Tr (Edge (app (lam M) N)) s spot weight
+    pub trail : Trail (Edge (app (lam M) N)) s spot weight
 
   pub record Deep (s z : Spot) : Type 0 where
     pub weight : ℕ
-    pub trail : Tr (Edge (app (lam M) N)) s z weight
+    pub trail : Trail (Edge (app (lam M) N)) s z weight
 
   pub deep_m : {s s0 : Spot} → Opens N M s (inM s0) → Deep s (fun (body s0))
   deep_m in_m = record { weight = 0; trail = here }
@@ -87,7 +87,7 @@ module _ (N M : Tree) where
   closes {s} (joint {x = x} {a = a} {u = u} {c = c} {d = k} p m e) r =
       let d = deep_m r in
       let m' : occurs (bound 0) M ≡ true = subst (λ x. occurs x M ≡ true) p m in
-      let t : Tr (Edge (app (lam M) N)) s (fun (body (at (wire (bound 0)) a c))) d.weight = subst (λ x. Tr (Edge (app (lam M) N)) s (fun (body (at (wire x) a c))) d.weight) p d.trail in
+      let t : Trail (Edge (app (lam M) N)) s (fun (body (at (wire (bound 0)) a c))) d.weight = subst (λ x. Trail (Edge (app (lam M) N)) s (fun (body (at (wire x) a c))) d.weight) p d.trail in
       record { spot = arg a (at root u k); rel = in_n m'; weight = _; trail = tr_trans (tr_trans t (one_back (in_fun (lam_own m'))) refl) (one (app_arg e)) refl }
 
   pub closes_back : {s : Spot} {z z' : Cut} {n : ℕ} → CutEdge N M 0 z' z n → Opens N M s z → To z' s
@@ -95,4 +95,4 @@ module _ (N M : Tree) where
   closes_back (of_n {a = a} {s = s'} e) r = let d = deep_n r in record { spot = arg a s'; rel = in_n d.1; weight = _; trail = tr_trans d.0.trail (one_back (in_arg e)) refl }
   closes_back {s} (joint {x = x} {a = a} {u = u} {c = c} {d = k} p m e) r =
       let d = deep_n r in
-      record { spot = fun (body (at (wire x) a c)); rel = in_m; weight = d.0.weight + 1 + 0; trail = subst (λ x. Tr (Edge (app (lam M) N)) s (fun (body (at (wire x) a c))) (d.0.weight + 1 + 0)) (sym p) (tr_trans (tr_trans d.0.trail (one_back (app_arg e)) refl) (one (in_fun (lam_own d.1))) refl) }
+      record { spot = fun (body (at (wire x) a c)); rel = in_m; weight = d.0.weight + 1 + 0; trail = subst (λ x. Trail (Edge (app (lam M) N)) s (fun (body (at (wire x) a c))) (d.0.weight + 1 + 0)) (sym p) (tr_trans (tr_trans d.0.trail (one_back (app_arg e)) refl) (one (in_fun (lam_own d.1))) refl) }

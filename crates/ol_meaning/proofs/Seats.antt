@@ -2,8 +2,8 @@
 use Rattle.std.proofs.Common.{◌≡◌, ℕ, zero, suc, ◌+◌, ◌≤◌, ◌<◌, true, refl, sym, ap, ◌∙◌, subst, arith, ◌⊎◌, inl, inr}
 use Rattle.ol_context.proofs.Contexts.{head_eq, tail_eq}
 use Rattle.std.proofs.lemmas.Bool.{or_left, or_right}
-use Rattle.ol_meaning.specs.Spots.{Tree, lam, app, Level, o, star, Context, cons, Wire, bound, name, occurs, left, right, Place, root, wire, Spot, at, body, fun, arg, Edge, lam_root, lam_own, lam_wire, app_root, app_arg, app_left, app_right, in_body, in_fun, in_arg, Tr, here, on, back, Leads}
-use Rattle.ol_meaning.specs.Heads.{os, Spine, head_var, head_free, head_app, Normal, flat, layer, Up, up_root, up_own, up_wire, Arg, last, earlier, inner, HatLast, hat_root, hat_wire, HatEarlier, hat_left, HatInner, hat_up, Hat}
+use Rattle.ol_meaning.specs.Spots.{Tree, lam, app, Level, o, star, Context, cons, Wire, bound, name, occurs, left, right, Place, root, wire, Spot, at, body, fun, arg, Edge, lam_root, lam_own, lam_wire, app_root, app_arg, app_left, app_right, in_body, in_fun, in_arg, Trail, here, on, back, Leads}
+use Rattle.ol_meaning.specs.Heads.{os, Spine, head_var, head_free, head_app, Normal, flat, layer, OutOf, up_root, up_own, up_wire, Arg, last, earlier, inner, HatLast, hat_root, hat_wire, HatEarlier, hat_left, HatInner, hat_up, StandsAt}
 use Rattle.ol_spots_net.proofs.Trails.{tr_trans, tr_sym, tr_map, one, one_back, tr_body, tr_fun}
 use Rattle.ol_meaning.proofs.Addresses.{left_one, right_one, sides_apart}
 use Rattle.ol_meaning.proofs.Ways.{Has}
@@ -20,11 +20,11 @@ pub record Down (P : Tree) (Sit : Spot → Spot → Type 0) (s z : Spot) (n : �
   pub sit : Sit spot z
   pub weight : ℕ
   pub few : weight ≤ n
-  pub trail : Tr (Edge P) s spot weight
+  pub trail : Trail (Edge P) s spot weight
 
 pub record Deep (u : Tree) (z z' : Spot) : Type 0 where
   pub weight : ℕ
-  pub trail : Tr (Edge u) z z' weight
+  pub trail : Trail (Edge u) z z' weight
 
 -- the spot of P's interface whose place an interface spot of u is
 pub record Comes (H : Hats) (s : Spot) (q : Place) (b : Level) (d : Context) : Type 0 where
@@ -60,7 +60,7 @@ stay r = record { spot = _; sit = r; weight = 0; few = omega arith; trail = here
 
 data Last (R P : Tree) (H : Hats) (w : Level) : Spot → Spot → Type 0 where
   deeper : {s : Spot} → Last R P H w s (arg w s)
-  reach : {v : Level} {c : Context} {z : Spot} {m : ℕ} → Tr (Edge R) (at root (star w) (cons v c)) z m → Last R P H w (at root v c) (fun z)
+  reach : {v : Level} {c : Context} {z : Spot} {m : ℕ} → Trail (Edge R) (at root (star w) (cons v c)) z m → Last R P H w (at root v c) (fun z)
   front : {p q : Place} {v b : Level} {c d : Context} → H p v c q b d → Last R P H w (at p v c) (at q b d)
 
 module _ {R : Tree} {y : Wire} {a : Level} {i : ℕ} (s0 : Spine R y a i) (P : Tree) (w : Level) where
@@ -70,15 +70,15 @@ module _ {R : Tree} {y : Wire} {a : Level} {i : ℕ} (s0 : Spine R y a i) (P : T
   last_deep (front (hat_root {z = z} {v = v} {b = b} {c = c} {d = d} e f g)) = record {
     weight = _;
     trail = on (app_left (subst (λ z. occurs z R ≡ true) (sym e) (spine_occurs s0)) (f ∙ ap (λ z. left P z a) (sym e)))
-        (tr_trans (subst (λ d. Tr (Edge (app R P)) (fun (at (wire z) a d)) (fun (at root (star w) (cons v c))) i) (sym g) (subst (λ z. Tr (Edge (app R P)) (fun (at (wire z) a (cons (os i (star w)) (cons v c)))) (fun (at root (star w) (cons v c))) i) (sym e) (tr_fun (tr_sym (spine_path s0 (star w) (cons v c)))))) (one (app_arg refl)) refl) refl;
+        (tr_trans (subst (λ d. Trail (Edge (app R P)) (fun (at (wire z) a d)) (fun (at root (star w) (cons v c))) i) (sym g) (subst (λ z. Trail (Edge (app R P)) (fun (at (wire z) a (cons (os i (star w)) (cons v c)))) (fun (at root (star w) (cons v c))) i) (sym e) (tr_fun (tr_sym (spine_path s0 (star w) (cons v c)))))) (one (app_arg refl)) refl) refl;
   }
   last_deep (front (hat_wire {x = x} {z = z} {b = b} {b' = b'} {c = c} {d = d} e m f g)) = record {
     weight = 0;
-    trail = subst (λ z. Tr (Edge (app R P)) (at (wire z) b' d) (arg w (at (wire x) b c)) 0) (sym e) (subst (λ d. Tr (Edge (app R P)) (at (wire x) b' d) (arg w (at (wire x) b c)) 0) (sym g) (one (app_right m f)));
+    trail = subst (λ z. Trail (Edge (app R P)) (at (wire z) b' d) (arg w (at (wire x) b c)) 0) (sym e) (subst (λ d. Trail (Edge (app R P)) (at (wire x) b' d) (arg w (at (wire x) b c)) 0) (sym g) (one (app_right m f)));
   }
 
   -- where it leaves the spine
-  exits : {v u : Level} {c d : Context} {p : Place} {m : ℕ} → Tr (Edge R) (at root (star w) (cons v c)) (at p u d) m → (at p u d ≡ at root (star w) (cons v c)) ⊎ (at p u d ≡ at (wire y) a (cons (os i (star w)) (cons v c)))
+  exits : {v u : Level} {c d : Context} {p : Place} {m : ℕ} → Trail (Edge R) (at root (star w) (cons v c)) (at p u d) m → (at p u d ≡ at root (star w) (cons v c)) ⊎ (at p u d ≡ at (wire y) a (cons (os i (star w)) (cons v c)))
   exits {v} {u} {c} {d} {p} t = let k = spine_channel s0 (star w) (cons v c) in k.only p u d (along k t k.first)
 
   abbrev L : Spot → Spot → Type 0
@@ -254,7 +254,7 @@ data Inner (Sit : Spot → Spot → Type 0) (H : Hats) : Spot → Spot → Type 
   bodies : {s z : Spot} → Sit s z → Inner Sit H s (body z)
   rims : {p q : Place} {v b : Level} {c d : Context} → H p v c q b d → Inner Sit H (at p v c) (at q b d)
 
-up_has : (M : Tree) {p q : Place} {v w : Level} → Up p v q w → Has p M → Has q (lam M)
+up_has : (M : Tree) {p q : Place} {v w : Level} → OutOf p v q w → Has p M → Has q (lam M)
 up_has M (up_root e) m = tt
 up_has M (up_own g e) m = tt
 up_has M (up_wire e f) m = subst (λ z. occurs z M ≡ true) e m
@@ -263,7 +263,7 @@ up_has M (up_wire e f) m = subst (λ z. occurs z M ≡ true) e m
 record Above (p : Place) (v : Level) : Type 0 where
   port : Place
   level : Level
-  up : Up p v port level
+  up : OutOf p v port level
 
 above : (p : Place) (v : Level) → Above p v
 above root v = record { port = root; level = o v; up = up_root refl }
@@ -286,7 +286,7 @@ module _ {P M : Tree} {H : Hats} (k : Seated P M H) where
   inner_go (in_body {s = z} {s' = z'} {w = n} e) (bodies {s = s} r) = let d = k.go s z z' n e r in record { spot = d.spot; sit = bodies d.sit; weight = d.weight; few = d.few; trail = d.trail }
   inner_go e (rims {q = q} {b = b} {d = d} h) = inner_enter q b d refl e h
 
-  inner_leave : {s : Spot} {r q : Place} {a b : Level} {l : Context} {n : ℕ} → Up r a q b → k.Sit s (at r a l) → Down P I s (at q b l) n
+  inner_leave : {s : Spot} {r q : Place} {a b : Level} {l : Context} {n : ℕ} → OutOf r a q b → k.Sit s (at r a l) → Down P I s (at q b l) n
   inner_leave {s} {r} {q} {a} {b} {l} {n} up z = let x = k.out s r a l z in subst (λ s. Down P I s (at q b l) n) (sym x.is) (stay (rims (hat_up x.hat up)))
 
   inner_come : {s z z' : Spot} {n : ℕ} → Edge (lam M) z' z n → I s z → Down P I s z' n
@@ -338,12 +338,12 @@ module _ {P M : Tree} {H : Hats} (k : Seated P M H) where
 
 -- ---- all of it
 
-flat_of : {R P : Tree} {i : ℕ} (k : Arg R i P) {y : Wire} {a : Level} {j : ℕ} → Spine R y a j → (w : Level) (p : Place) (v b : Level) (c d : Context) → Hat k w p v c root b d → ⊥
+flat_of : {R P : Tree} {i : ℕ} (k : Arg R i P) {y : Wire} {a : Level} {j : ℕ} → Spine R y a j → (w : Level) (p : Place) (v b : Level) (c d : Context) → StandsAt k w p v c root b d → ⊥
 flat_of (last s) t w p v b c d h = elim h [ ]
 flat_of (earlier s k) t w p v b c d h = elim h [ ]
 flat_of (inner k) t w p v b c d h = elim t [ ]
 
-pub seated : {u P : Tree} {i : ℕ} (k : Arg u i P) (w : Level) → Seated P u (Hat k w)
+pub seated : {u P : Tree} {i : ℕ} (k : Arg u i P) (w : Level) → Seated P u (StandsAt k w)
 seated (last {P = P} s) w = seated_last s P w
 seated (earlier {Q = Q} s k) w = seated_earlier Q (flat_of k s w) (seated k w)
 seated (inner k) w = seated_inner (seated k w)
@@ -394,14 +394,14 @@ inner_one f p q p' q' v b v' b' c d c' d' (hat_up {q = r} {b = a} h e) (hat_up {
   λ j. (let k : q ≡ q' = cc in let l : b ≡ b' = cc in let n : d ≡ d' = cc in let t = up_from_one e e' k l in (f p r p' r' v a v' a' c d c' d' h h').1 (spot_is r r' a a' d d' t.0 t.1 n)),
 )
 
-pub hat_one : {u P : Tree} {i : ℕ} (k : Arg u i P) (w : Level) → Ones (Hat k w)
+pub hat_one : {u P : Tree} {i : ℕ} (k : Arg u i P) (w : Level) → Ones (StandsAt k w)
 hat_one (last {P = P} s) w = last_one s P w
 hat_one (earlier {Q = Q} s k) w = earlier_one Q (hat_one k w)
 hat_one (inner k) w = inner_one (hat_one k w)
 
 -- ---- what an argument leads to in the head normal form
 
-follow : {P u : Tree} {H : Hats} (k : Seated P u H) {s z z' : Spot} {n : ℕ} → Tr (Edge u) z z' n → k.Sit s z → Down P k.Sit s z' n
+follow : {P u : Tree} {H : Hats} (k : Seated P u H) {s z z' : Spot} {n : ℕ} → Trail (Edge u) z z' n → k.Sit s z → Down P k.Sit s z' n
 follow k here r = stay r
 follow k {s = s} (on {s = z} {s' = z1} {w = m} e t h) r =
     let a = k.go s z z1 m e r in
@@ -416,9 +416,9 @@ follow k {s = s} (back {s = z} {s' = z1} {w = m} e t h) r =
     let g = b.few in
     record { spot = b.spot; sit = b.sit; weight = a.weight + b.weight; few = omega arith; trail = tr_trans a.trail b.trail refl }
 
-pub up_to : {u P : Tree} {i : ℕ} (k : Arg u i P) (w : Level) (p q : Place) (v b : Level) (c d : Context) → Hat k w p v c q b d →
+pub up_to : {u P : Tree} {i : ℕ} (k : Arg u i P) (w : Level) (p q : Place) (v b : Level) (c d : Context) → StandsAt k w p v c q b d →
     (p' : Place) (v' : Level) (c' : Context) (n : ℕ) → Leads P (at p v c) (at p' v' c') n →
-    (q' : Place) × (b' : Level) × (d' : Context) × Hat k w p' v' c' q' b' d' × (n' : ℕ) × (n ≤ n') × Leads u (at q b d) (at q' b' d') n'
+    (q' : Place) × (b' : Level) × (d' : Context) × StandsAt k w p' v' c' q' b' d' × (n' : ℕ) × (n ≤ n') × Leads u (at q b d) (at q' b' d') n'
 up_to k w p q v b c d h p' v' c' n l =
     let m = seated k w in
     let g = m.hat p' v' c' (ends p' l.0 l.1) in
@@ -427,12 +427,12 @@ up_to k w p q v b c d h p' v' c' n l =
     let t = tr_map m.emb (λ s s' n e. one (m.edge s s' n e)) l.0 in
     (g.port, g.level, g.rest, g.hat, x.weight + n + y.weight, (omega arith), (tr_trans (tr_trans x.trail t refl) (tr_sym y.trail) refl, λ e. l.1 ((hat_one k w p q p' g.port v b v' g.level c d c' g.rest h g.hat).1 e)))
 
-moved : {P : Tree} {s z z' : Spot} {n : ℕ} → z ≡ z' → Tr (Edge P) s z n → Tr (Edge P) s z' n
-moved {P = P} {s = s} {n = n} e t = subst (λ z. Tr (Edge P) s z n) e t
+moved : {P : Tree} {s z z' : Spot} {n : ℕ} → z ≡ z' → Trail (Edge P) s z n → Trail (Edge P) s z' n
+moved {P = P} {s = s} {n = n} e t = subst (λ z. Trail (Edge P) s z n) e t
 
-pub down_to : {u P : Tree} {i : ℕ} (k : Arg u i P) (w : Level) (p q : Place) (v b : Level) (c d : Context) → Hat k w p v c q b d →
+pub down_to : {u P : Tree} {i : ℕ} (k : Arg u i P) (w : Level) (p q : Place) (v b : Level) (c d : Context) → StandsAt k w p v c q b d →
     (q' : Place) (b' : Level) (d' : Context) (n' : ℕ) → Leads u (at q b d) (at q' b' d') n' →
-    (p' : Place) × (v' : Level) × (c' : Context) × Hat k w p' v' c' q' b' d' × (n : ℕ) × (n ≤ n') × Leads P (at p v c) (at p' v' c') n
+    (p' : Place) × (v' : Level) × (c' : Context) × StandsAt k w p' v' c' q' b' d' × (n : ℕ) × (n ≤ n') × Leads P (at p v c) (at p' v' c') n
 down_to k w p q v b c d h q' b' d' n' l =
     let m = seated k w in
     let x = follow m l.0 (m.start p q v b c d h) in
@@ -448,12 +448,12 @@ spine_level (head_app {P = P} {y = y} {a = a} s e) (head_app {y = y'} {a = a'} s
     let k = spine_level s s' in
     (k.0, e ∙ ap (λ y. left P y a) k.0 ∙ ap (left P y') k.1 ∙ sym e', ap suc k.2)
 
-root_of_spine : {u P : Tree} {i : ℕ} (k : Arg u i P) (w : Level) {y : Wire} {a : Level} {j : ℕ} → Spine u y a j → (i < j) × ((v : Level) (c : Context) → Hat k w root v c (wire y) a (cons (os i (star w)) (cons v c)))
+root_of_spine : {u P : Tree} {i : ℕ} (k : Arg u i P) (w : Level) {y : Wire} {a : Level} {j : ℕ} → Spine u y a j → (i < j) × ((v : Level) (c : Context) → StandsAt k w root v c (wire y) a (cons (os i (star w)) (cons v c)))
 root_of_spine (last {P = P} {a = a0} s) w (head_app {y = y} s' e) = let q = spine_level s s' in let f = q.2 in ((omega arith), λ v c. hat_root (sym q.0) (e ∙ ap (left P y) (sym q.1) ∙ ap (λ y. left P y a0) (sym q.0)) refl)
 root_of_spine (earlier s k) w (head_app s' e) = let r = root_of_spine k w s' in let f = r.0 in ((omega arith), λ v c. hat_left (r.1 v c) e)
 root_of_spine (inner k) w s = elim s [ ]
 
-pub root_stands : {u P : Tree} {i : ℕ} (k : Arg u i P) (w : Level) {q : Place} {a : Level} {j : ℕ} → Normal u q a j → (i < j) × ((v : Level) (c : Context) → Hat k w root v c q a (cons (os i (star w)) (cons v c)))
+pub root_stands : {u P : Tree} {i : ℕ} (k : Arg u i P) (w : Level) {q : Place} {a : Level} {j : ℕ} → Normal u q a j → (i < j) × ((v : Level) (c : Context) → StandsAt k w root v c q a (cons (os i (star w)) (cons v c)))
 root_stands k w (flat s) = root_of_spine k w s
 root_stands (inner k) w (layer n e) = let r = root_stands k w n in (r.0, λ v c. hat_up (r.1 v c) e)
 

@@ -2,7 +2,7 @@
 use Rattle.std.proofs.Common.{◌≡◌, ℕ, suc, true, nat_eq, Option, Some, None, refl, sym, ap, ◌∙◌, subst, arith, ◌⊎◌, inl, inr}
 use Rattle.ol_context.proofs.Contexts.{head_eq, tail_eq}
 use Rattle.std.proofs.lemmas.Bool.{or_left, or_right}
-use Rattle.ol_meaning.specs.Spots.{Tree, var, free, lam, app, Level, empty, o, star, Context, cons, Wire, bound, name, under, root, wire, Spot, at, body, fun, arg, Edge, var_wire, free_wire, lam_root, lam_own, lam_wire, app_root, app_arg, app_left, app_right, in_body, in_fun, in_arg, Tr, here, occurs, left, right, without, wire_without, put, subst_for, Cut, inM, inN, CutEdge, of_m, of_n, joint, ofM, Adr, same, other, named, lam_m, fun_m, arg_m, Held, at_root, wire_m, x_spot, x_wire, p_body, p_fun, p_arg, n_body, n_fun, n_arg, i_body, i_fun, i_arg}
+use Rattle.ol_meaning.specs.Spots.{Tree, var, free, lam, app, Level, empty, o, star, Context, cons, Wire, bound, name, under, root, wire, Spot, at, body, fun, arg, Edge, var_wire, free_wire, lam_root, lam_own, lam_wire, app_root, app_arg, app_left, app_right, in_body, in_fun, in_arg, Trail, here, occurs, left, right, without, wire_without, put, subst_for, Cut, inM, inN, CutEdge, of_m, of_n, joint, ofM, WireOf, same, other, named, lam_m, fun_m, arg_m, Held, at_root, wire_m, x_spot, x_wire, p_body, p_fun, p_arg, n_body, n_fun, n_arg, i_body, i_fun, i_arg}
 use Rattle.ol_meaning.proofs.Lifts.{same_is}
 use Rattle.ol_spots_net.proofs.Trails.{tr_trans, tr_sym, one, one_back, tr_body, tr_fun, tr_arg}
 use Rattle.ol_meaning.proofs.Addresses.{gone, own_gone, which, without_is, left_one, right_one, sides_apart, occurs_new, in_body_of, in_left_of, in_right_of, own_same, zero_keeps, without_under, wire_some}
@@ -35,14 +35,14 @@ own_wire_occurs {x = x} (i_arg {M1 = M1} {M2 = M2} p2 h e) p = or_right (occurs 
 -- another wire of M is held by a wire
 pub record ByWire (N M : Tree) (i : ℕ) (y : Wire) (a : Level) (c : Context) (z0 : Wire) (z : Spot) : Type 0 where
   pub level : Level
-  pub address : Adr N M i (ofM y a) z0 level
+  pub address : WireOf N M i (ofM y a) z0 level
   pub is : z ≡ at (wire z0) level c
 
 pub by_wire : {N M : Tree} {i : ℕ} {y : Wire} {a : Level} {c : Context} {z : Spot} → Held N M i (inM (at (wire y) a c)) z → (z0 : Wire) → wire_without i y ≡ Some z0 → ByWire N M i y a c z0 z
 by_wire {N} {M} {i} {y} {a} {c} (wire_m {z = z1} {a' = a'} r) z0 q =
     let k : Some z1 ≡ Some z0 = sym (gone r) ∙ q in
     let p : z1 ≡ z0 = cc in
-    record { level = a'; address = subst (λ z. Adr N M i (ofM y a) z a') p r; is = ap (λ z. at (wire z) a' c) p }
+    record { level = a'; address = subst (λ z. WireOf N M i (ofM y a) z a') p r; is = ap (λ z. at (wire z) a' c) p }
 by_wire {i = i} (x_wire p e h) z0 q = absurd (own_gone i z0 (subst (λ x. wire_without i x ≡ Some z0) p q))
 by_wire {i = i} (i_body p h) z0 q = absurd (own_gone i z0 (subst (λ x. wire_without i x ≡ Some z0) p q))
 by_wire {i = i} (i_fun p h e) z0 q = absurd (own_gone i z0 (subst (λ x. wire_without i x ≡ Some z0) p q))
@@ -52,7 +52,7 @@ by_wire {i = i} (i_arg p h e) z0 q = absurd (own_gone i z0 (subst (λ x. wire_wi
 pub record Onto (N M : Tree) (i : ℕ) (c : Cut) (z : Spot) (n : ℕ) : Type 0 where
   pub spot : Spot
   pub held : Held N M i c spot
-  pub trail : Tr (Edge (subst_for i N M)) z spot n
+  pub trail : Trail (Edge (subst_for i N M)) z spot n
 
 pub root_is : {N M : Tree} {i : ℕ} {v : Level} {c : Context} {z : Spot} → Held N M i (inM (at root v c)) z → z ≡ at root v c
 root_is at_root = refl
@@ -96,11 +96,11 @@ var_there N i y v c d z e h = onto_from (root_is h) (go (without i y) refl)
     go None q = record { spot = at root v c; held = x_wire (ap bound (without_is i y q)) q e; trail = here }
     go (Some x) q = record { spot = at (wire (bound x)) empty d; held = wire_m (other q); trail = one (subst (λ r. Edge (put i N r) (at root v c) (at (wire (bound x)) empty d) 0) (sym q) (var_wire e)) }
 
-pub var_level : {N : Tree} {i y : ℕ} {w z : Wire} {a l : Level} → Adr N (var y) i (ofM w a) z l → l ≡ a
+pub var_level : {N : Tree} {i y : ℕ} {w z : Wire} {a l : Level} → WireOf N (var y) i (ofM w a) z l → l ≡ a
 var_level (same e f h) = refl
 var_level (other e) = refl
 
-pub free_level : {N : Tree} {i f : ℕ} {w z : Wire} {a l : Level} → Adr N (free f) i (ofM w a) z l → l ≡ a
+pub free_level : {N : Tree} {i f : ℕ} {w z : Wire} {a l : Level} → WireOf N (free f) i (ofM w a) z l → l ≡ a
 free_level (same e g h) = refl
 free_level named = refl
 
@@ -143,7 +143,7 @@ wire_there N M i y u a c z e h = go (which i y)
     go (inr (x, q)) =
         let b = by_wire h x q in
         let r = in_body_of b.address in
-        onto_from b.is (record { spot = body (at (wire (under x)) b.level c); held = p_body (wire_m (subst (λ u. Adr N M (suc i) (ofM u a) (under x) b.level) (sym e) r)); trail = one (lam_wire refl (occurs_new r)) })
+        onto_from b.is (record { spot = body (at (wire (under x)) b.level c); held = p_body (wire_m (subst (λ u. WireOf N M (suc i) (ofM u a) (under x) b.level) (sym e) r)); trail = one (lam_wire refl (occurs_new r)) })
 
 wire_back : (N M : Tree) (i : ℕ) (y u : Wire) (a : Level) (c : Context) (z : Spot) → u ≡ under y → Held N (lam M) i (inM (body (at (wire u) a c))) z → Onto N (lam M) i (inM (at (wire y) a c)) z 0
 wire_back N M i y u a c z e h = go (which i y)
@@ -155,7 +155,7 @@ wire_back N M i y u a c z e h = go (which i y)
     go (inr (x, q)) =
         let t = in_body_held h in
         let b = by_wire t.2 (under x) (subst (λ u. wire_without (suc i) u ≡ Some (under x)) (sym e) (without_under i y x q)) in
-        let r = subst (λ u. Adr N M (suc i) (ofM u a) (under x) b.level) e b.address in
+        let r = subst (λ u. WireOf N M (suc i) (ofM u a) (under x) b.level) e b.address in
         onto_from (t.1 ∙ ap body b.is) (record { spot = at (wire x) b.level c; held = wire_m (lam_m r); trail = one_back (lam_wire refl (occurs_new r)) })
 
 -- ---- an application

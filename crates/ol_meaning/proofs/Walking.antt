@@ -1,7 +1,7 @@
--- Head normal forms: the way to the head, and head reduction to one.
+-- HeadStep normal forms: the way to the head, and head reduction to one.
 use Rattle.std.proofs.Common.{◌<◌, ◌≡◌, ℕ, zero, suc, ◌+◌, ◌≤◌, true, false, refl, sym, ap, ◌∙◌, subst, arith, ◌⊎◌, inl, inr}
 use Rattle.std.proofs.lemmas.Bool.{or_left}
-use Rattle.ol_meaning.specs.Spots.{Tree, var, free, lam, app, Level, empty, o, star, Context, cons, Wire, bound, name, occurs, left, Place, root, wire, at, Edge, var_wire, free_wire, app_root, app_left, Tr, on, is_abstraction, Head, beta, below, before, Leads}
+use Rattle.ol_meaning.specs.Spots.{Tree, var, free, lam, app, Level, empty, o, star, Context, cons, Wire, bound, name, occurs, left, Place, root, wire, at, Edge, var_wire, free_wire, app_root, app_left, Trail, on, is_abstraction, HeadStep, beta, below, before, Leads}
 use Rattle.ol_meaning.specs.Steps.{SameRedex, redex_root, below_o, below_star, SameBefore, before_root, Same, opened, Short}
 use Rattle.ol_meaning.specs.Heads.{os, outer, Spine, head_var, head_free, head_app, up_root, up_own, up_wire, Normal, flat, layer, Steps, done, step, SameAlong}
 use Rattle.ol_spots_net.proofs.Trails.{tr_trans, one, one_back, tr_body, tr_fun}
@@ -43,11 +43,11 @@ spine_occurs (head_var {y = y}) = same_is y
 spine_occurs (head_free {f = f}) = same_is f
 spine_occurs (head_app {R = R} {P = P} {y = y} s e) = or_left (occurs y R) (occurs y P) (spine_occurs s)
 
-pub spine_path : {t : Tree} {y : Wire} {a : Level} {j : ℕ} → Spine t y a j → (v : Level) (c : Context) → Tr (Edge t) (at root v c) (at (wire y) a (cons (os j v) c)) j
+pub spine_path : {t : Tree} {y : Wire} {a : Level} {j : ℕ} → Spine t y a j → (v : Level) (c : Context) → Trail (Edge t) (at root v c) (at (wire y) a (cons (os j v) c)) j
 spine_path head_var v c = one (var_wire refl)
 spine_path head_free v c = one (free_wire refl)
 spine_path (head_app {R = R} {P = P} {y = y} {a = a} {w = w} {j = j} s e) v c =
-    subst (λ l. Tr (Edge (app R P)) (at root v c) (at (wire y) w (cons l c)) (suc j)) (os_o j v)
+    subst (λ l. Trail (Edge (app R P)) (at root v c) (at (wire y) w (cons l c)) (suc j)) (os_o j v)
     (on app_root (tr_trans (tr_fun (spine_path s (o v) c)) (one_back (app_left (spine_occurs s) e)) refl) (omega arith))
 
 pub spine_channel : {t : Tree} {y : Wire} {a : Level} {j : ℕ} → Spine t y a j → (v : Level) (c : Context) → Channel t (at root v c) (at (wire y) a (cons (os j v) c))
@@ -67,8 +67,8 @@ normal_has (layer k (up_root e)) = tt
 normal_has (layer k (up_own g e)) = tt
 normal_has (layer {t = t} k (up_wire e f)) = subst (λ z. occurs z t ≡ true) e (normal_has k)
 
-normal_path : {t : Tree} {q : Place} {a : Level} {j : ℕ} → Normal t q a j → (u : Level) (c : Context) → Tr (Edge t) (at root (os (outer t) u) c) (at q a (cons (os j u) c)) j
-normal_path (flat {t = t} {y = y} {a = a} {j = j} s) u c = subst (λ n. Tr (Edge t) (at root (os n u) c) (at (wire y) a (cons (os j u) c)) j) (sym (spine_outer s)) (spine_path s u c)
+normal_path : {t : Tree} {q : Place} {a : Level} {j : ℕ} → Normal t q a j → (u : Level) (c : Context) → Trail (Edge t) (at root (os (outer t) u) c) (at q a (cons (os j u) c)) j
+normal_path (flat {t = t} {y = y} {a = a} {j = j} s) u c = subst (λ n. Trail (Edge t) (at root (os n u) c) (at (wire y) a (cons (os j u) c)) j) (sym (spine_outer s)) (spine_path s u c)
 normal_path (layer {t = t} {j = j} k h) u c =
     tr_trans (tr_trans (one (up_edge (up_root refl) tt c)) (tr_body (normal_path k u c)) refl) (one_back (up_edge h (normal_has k) (cons (os j u) c))) (omega arith)
 
@@ -112,12 +112,12 @@ with_arg : {R P : Tree} {q : Place} {a : Level} {j : ℕ} → is_abstraction R �
 with_arg {P = P} e (flat {y = y} {a = a} {j = j} s) = (wire y, left P y a, suc j, flat (head_app s refl))
 with_arg e (layer k h) = absurd (cc)
 
-pub normal_or_step : (t : Tree) → ((q : Place) × (a : Level) × (j : ℕ) × Normal t q a j) ⊎ ((t' : Tree) × Head t t')
+pub normal_or_step : (t : Tree) → ((q : Place) × (a : Level) × (j : ℕ) × Normal t q a j) ⊎ ((t' : Tree) × HeadStep t t')
 normal_or_step (var y) = inl (wire (bound y), empty, 0, flat head_var)
 normal_or_step (free f) = inl (wire (name f), empty, 0, flat head_free)
 normal_or_step (lam t) = by (normal_or_step t)
   where
-    by : ((q : Place) × (a : Level) × (j : ℕ) × Normal t q a j) ⊎ ((t' : Tree) × Head t t') → ((q : Place) × (a : Level) × (j : ℕ) × Normal (lam t) q a j) ⊎ ((t' : Tree) × Head (lam t) t')
+    by : ((q : Place) × (a : Level) × (j : ℕ) × Normal t q a j) ⊎ ((t' : Tree) × HeadStep t t') → ((q : Place) × (a : Level) × (j : ℕ) × Normal (lam t) q a j) ⊎ ((t' : Tree) × HeadStep (lam t) t')
     by (inl k) = inl (under_lam k.0 k.3)
     by (inr k) = inr (lam k.0, below k.1)
 normal_or_step (app (lam M) P) = inr (_, beta)
@@ -125,13 +125,13 @@ normal_or_step (app (var y) P) = inl (with_arg refl (flat head_var))
 normal_or_step (app (free f) P) = inl (with_arg refl (flat head_free))
 normal_or_step (app (app t s) P) = by (normal_or_step (app t s))
   where
-    by : ((q : Place) × (a : Level) × (j : ℕ) × Normal (app t s) q a j) ⊎ ((t' : Tree) × Head (app t s) t') → ((q : Place) × (a : Level) × (j : ℕ) × Normal (app (app t s) P) q a j) ⊎ ((t' : Tree) × Head (app (app t s) P) t')
+    by : ((q : Place) × (a : Level) × (j : ℕ) × Normal (app t s) q a j) ⊎ ((t' : Tree) × HeadStep (app t s) t') → ((q : Place) × (a : Level) × (j : ℕ) × Normal (app (app t s) P) q a j) ⊎ ((t' : Tree) × HeadStep (app (app t s) P) t')
     by (inl k) = inl (with_arg refl k.3)
     by (inr k) = inr (app k.0 P, before refl k.1)
 
 -- ---- head reduction
 
-pub outer_grows : {t t' : Tree} → Head t t' → outer t ≤ outer t'
+pub outer_grows : {t t' : Tree} → HeadStep t t' → outer t ≤ outer t'
 outer_grows beta = omega arith
 outer_grows (below h) = let k = outer_grows h in omega arith
 outer_grows (before e h) = omega arith
@@ -173,7 +173,7 @@ leads_passing t q w c d n m l = by (least_or (outer t) n)
     by (inl h) = absurd (few t q w c d n m h l)
     by (inr h) = passing t n h
 
-root_stays : {t t' : Tree} (h : Head t t') (n : ℕ) → Passing t n → Same h root (os n empty) (os n empty)
+root_stays : {t t' : Tree} (h : HeadStep t t') (n : ℕ) → Passing t n → Same h root (os n empty) (os n empty)
 root_stays h n p = subst (λ v. Same h root v v) (sym p.is) (root_same h (os p.rest empty))
 
 pub exit_is : {t u : Tree} {m : ℕ} (s : Steps t u m) (p q : Place) (v a : Level) (j : ℕ) (c d : Context) (n w : ℕ) → Normal u q a j → Leads t (at root (os n empty) c) (at p v d) w →
@@ -201,7 +201,7 @@ record Reached (t : Tree) : Type 0 where
   pub args : ℕ
   pub normal : Normal last port level args
 
-reached : (t : Tree) (b : ℕ) (p : Place) (v : Level) (c d : Context) (n w : ℕ) → w ≤ b → Leads t (at root (os n empty) c) (at p v d) w → ((q : Place) × (a : Level) × (j : ℕ) × Normal t q a j) ⊎ ((t' : Tree) × Head t t') → Reached t
+reached : (t : Tree) (b : ℕ) (p : Place) (v : Level) (c d : Context) (n w : ℕ) → w ≤ b → Leads t (at root (os n empty) c) (at p v d) w → ((q : Place) × (a : Level) × (j : ℕ) × Normal t q a j) ⊎ ((t' : Tree) × HeadStep t t') → Reached t
 reached t b p v c d n w f l (inl k) = record { last = t; count = 0; steps = done; port = k.0; level = k.1; args = k.2; normal = k.3 }
 reached t zero p v c d n w f l (inr k) = let r = leads_passing t p v c d n w l in let x = keeps k.1 root p (os n empty) (os n empty) v c d w (root_stays k.1 n r) l in let g = x.4 (os r.rest empty) refl r.is in absurd (omega arith)
 reached t (suc b) p v c d n w f l (inr k) =
@@ -264,7 +264,7 @@ binder_redex redex_root = refl
 binder_before : {R R' P : Tree} {S : Place → Level → Level → Type 0} {v v' : Level} → SameBefore R R' P S root v v' → v ≡ v'
 binder_before before_root = refl
 
-binder_on : {t t' : Tree} (h : Head t t') (i : ℕ) (x v v' : Level) → Same h root v v' → v ≡ os i (star x) → (y : Level) × (v' ≡ os i (star y))
+binder_on : {t t' : Tree} (h : HeadStep t t') (i : ℕ) (x v v' : Level) → Same h root v v' → v ≡ os i (star x) → (y : Level) × (v' ≡ os i (star y))
 binder_on beta i x v v' r e = (x, sym (binder_redex r) ∙ e)
 binder_on (before f h) i x v v' r e = (x, sym (binder_before r) ∙ e)
 binder_on (below h) zero x v v' (below_o r) e = absurd (cc)
@@ -272,7 +272,7 @@ binder_on (below h) (suc i) x v v' (below_o {v = w} {v' = w'} r) e = let k = bin
 binder_on (below h) zero x v v' (below_star {a' = a'} r) e = (a', refl)
 binder_on (below h) (suc i) x v v' (below_star r) e = absurd (cc)
 
-binder_off : {t t' : Tree} (h : Head t t') (i : ℕ) (x v v' : Level) → Same h root v v' → v' ≡ os i (star x) → (y : Level) × (v ≡ os i (star y))
+binder_off : {t t' : Tree} (h : HeadStep t t') (i : ℕ) (x v v' : Level) → Same h root v v' → v' ≡ os i (star x) → (y : Level) × (v ≡ os i (star y))
 binder_off beta i x v v' r e = (x, binder_redex r ∙ e)
 binder_off (before f h) i x v v' r e = (x, binder_before r ∙ e)
 binder_off (below h) zero x v v' (below_o r) e = absurd (cc)

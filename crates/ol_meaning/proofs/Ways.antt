@@ -1,7 +1,7 @@
 -- From a term's spots to those of another one, edge by edge: what a step has to give.
 use Rattle.std.proofs.Common.{◌≡◌, ℕ, ◌+◌, ◌≤◌, Bool, true, refl, sym, ap, ◌∙◌, subst, arith, suc, ◌⊎◌, inl, inr}
 use Rattle.std.proofs.lemmas.Bool.{or_left, or_right}
-use Rattle.ol_meaning.specs.Spots.{Tree, lam, app, Level, o, star, Context, Wire, bound, under, occurs, left, right, Place, root, wire, Spot, at, body, fun, arg, Edge, lam_root, lam_own, lam_wire, app_root, app_arg, app_left, app_right, in_body, in_fun, in_arg, Tr, here, on, back}
+use Rattle.ol_meaning.specs.Spots.{Tree, lam, app, Level, o, star, Context, Wire, bound, under, occurs, left, right, Place, root, wire, Spot, at, body, fun, arg, Edge, lam_root, lam_own, lam_wire, app_root, app_arg, app_left, app_right, in_body, in_fun, in_arg, Trail, here, on, back}
 use Rattle.ol_meaning.specs.Steps.{SameBelow, below_o, below_star, below_wire, SameBefore, before_root, before_left, before_right}
 use Rattle.ol_spots_net.proofs.Trails.{tr_trans, one, one_back, tr_body, tr_fun}
 use Rattle.ol_meaning.proofs.Addresses.{left_one, right_one, sides_apart}
@@ -17,7 +17,7 @@ pub record Next (t' : Tree) (R : Spot → Spot → Type 0) (b : Bool) (s z : Spo
   pub rel : R s spot
   pub weight : ℕ
   pub few : b ≡ true → weight ≤ n
-  pub trail : Tr (Edge t') z spot weight
+  pub trail : Trail (Edge t') z spot weight
 
 -- the way out
 pub record Out (t' : Tree) (S : Place → Level → Level → Type 0) (b : Bool) (p : Place) (v : Level) (c : Context) (z : Spot) : Type 0 where
@@ -25,7 +25,7 @@ pub record Out (t' : Tree) (S : Place → Level → Level → Type 0) (b : Bool)
   pub same : S p v level
   pub weight : ℕ
   pub few : b ≡ true → weight ≤ 0
-  pub trail : Tr (Edge t') z (at p level c) weight
+  pub trail : Trail (Edge t') z (at p level c) weight
 
 pub record Way (t t' : Tree) (S : Place → Level → Level → Type 0) (b : Bool) : Type 1 where
   pub R : Spot → Spot → Type 0
@@ -37,7 +37,7 @@ pub record Way (t t' : Tree) (S : Place → Level → Level → Type 0) (b : Boo
   pub new : (y : Wire) (a a' : Level) → S (wire y) a a' → occurs y t' ≡ true
 
 -- a trail is followed
-pub follow : {t t' : Tree} {S : Place → Level → Level → Type 0} {b : Bool} (w : Way t t' S b) {s s' z : Spot} {n : ℕ} → Tr (Edge t) s s' n → w.R s z → Next t' w.R b s' z n
+pub follow : {t t' : Tree} {S : Place → Level → Level → Type 0} {b : Bool} (w : Way t t' S b) {s s' z : Spot} {n : ℕ} → Trail (Edge t) s s' n → w.R s z → Next t' w.R b s' z n
 follow w {z = z} here r = record { spot = z; rel = r; weight = 0; few = λ e. omega arith; trail = here }
 follow w {z = z} (on {s = s} {s' = s1} {w = m} e t h) r =
     let a = w.go s s1 z m e r in
@@ -143,7 +143,7 @@ module _ (R R' P : Tree) (S : Place → Level → Level → Type 0) (b : Bool) (
   before_go (app_arg {v = v} {u = u} {c = c} {d = d} e) (funs {z = z} r) =
       let k = w.out root (star v) c z r tt in
       let q : star v ≡ k.level = is (star v) k.level k.same in
-      let t : Tr (Edge (app R' P)) (fun z) (fun (at root (star v) c)) k.weight = subst (λ l. Tr (Edge (app R' P)) (fun z) (fun (at root l c)) k.weight) (sym q) (tr_fun k.trail) in
+      let t : Trail (Edge (app R' P)) (fun z) (fun (at root (star v) c)) k.weight = subst (λ l. Trail (Edge (app R' P)) (fun z) (fun (at root l c)) k.weight) (sym q) (tr_fun k.trail) in
       record { spot = arg v (at root u d); rel = args; weight = k.weight + 1; few = λ e. (let x = k.few e in omega arith); trail = tr_trans t (one (app_arg e)) refl }
   before_go (app_left {y = y} {a = a} {c = c} m e) (edges (before_left {a = a1} {a' = a'} e1 e2 r)) =
       let q : a1 ≡ a = left_one P y a1 a (sym e1 ∙ e) in
@@ -162,7 +162,7 @@ module _ (R R' P : Tree) (S : Place → Level → Level → Type 0) (b : Bool) (
   before_come (app_root {v = v} {c = c}) (funs {z = z} r) =
       let k = w.out root (o v) c z r tt in
       let q : o v ≡ k.level = is (o v) k.level k.same in
-      let t : Tr (Edge (app R' P)) (fun z) (fun (at root (o v) c)) k.weight = subst (λ l. Tr (Edge (app R' P)) (fun z) (fun (at root l c)) k.weight) (sym q) (tr_fun k.trail) in
+      let t : Trail (Edge (app R' P)) (fun z) (fun (at root (o v) c)) k.weight = subst (λ l. Trail (Edge (app R' P)) (fun z) (fun (at root l c)) k.weight) (sym q) (tr_fun k.trail) in
       record { spot = at root v c; rel = edges before_root; weight = k.weight + 1; few = λ e. (let x = k.few e in omega arith); trail = tr_trans t (one_back app_root) refl }
   before_come (app_arg {v = v} {u = u} {c = c} {d = d} e) args = record { spot = fun (at root (star v) c); rel = funs (w.start root (star v) (star v) c (keeps (star v))); weight = 1; few = λ e. omega arith; trail = one_back (app_arg e) }
   before_come (app_left {y = y} {a = a} {c = c} m e) (funs {z = z} r) =
@@ -215,7 +215,7 @@ pub record Strict (t t' : Tree) (S : Place → Level → Level → Type 0) (w : 
   pub pre_come : (s s' z : Spot) (n : ℕ) → Edge t s' s n → w.R s z → Pre s → Gain t' w.R Pre s' z n
 
 module _ (t t' : Tree) (S : Place → Level → Level → Type 0) (w : Way t t' S true) (v : Level) (c : Context) (k : Strict t t' S w v c) where
-  then_rest : {s s' z : Spot} {n m : ℕ} → Gain t' w.R k.Pre s z m → Tr (Edge t) s s' n → ((z1 : Spot) → w.R s z1 → k.Pre s → Gain t' w.R k.Pre s' z1 n) → Gain t' w.R k.Pre s' z (m + n)
+  then_rest : {s s' z : Spot} {n m : ℕ} → Gain t' w.R k.Pre s z m → Trail (Edge t) s s' n → ((z1 : Spot) → w.R s z1 → k.Pre s → Gain t' w.R k.Pre s' z1 n) → Gain t' w.R k.Pre s' z (m + n)
   then_rest {s = s} {s' = s'} {z = z} {n = n} {m = m} a t f = by (a.gain)
     where
       by : k.Pre s ⊎ (suc a.next.weight ≤ m) → Gain t' w.R k.Pre s' z (m + n)
@@ -233,7 +233,7 @@ module _ (t t' : Tree) (S : Place → Level → Level → Type 0) (w : Way t t' 
           let y = b.few refl in
           record { next = record { spot = b.spot; rel = b.rel; weight = a.next.weight + b.weight; few = λ e. omega arith; trail = tr_trans a.next.trail b.trail refl }; gain = inr (omega arith) }
 
-  pub follow_strict : {s s' z : Spot} {n : ℕ} → Tr (Edge t) s s' n → w.R s z → k.Pre s → Gain t' w.R k.Pre s' z n
+  pub follow_strict : {s s' z : Spot} {n : ℕ} → Trail (Edge t) s s' n → w.R s z → k.Pre s → Gain t' w.R k.Pre s' z n
   follow_strict {z = z} here r p = record { next = record { spot = z; rel = r; weight = 0; few = λ e. omega arith; trail = here }; gain = inl p }
   follow_strict {s' = s'} {z = z} (on {s = s} {s' = s1} {w = m} e t h) r p = subst (λ n. Gain t' w.R k.Pre s' z n) (sym h) (then_rest (k.pre_go s s1 z m e r p) t (λ z1 r1 p1. follow_strict t r1 p1))
   follow_strict {s' = s'} {z = z} (back {s = s} {s' = s1} {w = m} e t h) r p = subst (λ n. Gain t' w.R k.Pre s' z n) (sym h) (then_rest (k.pre_come s s1 z m e r p) t (λ z1 r1 p1. follow_strict t r1 p1))

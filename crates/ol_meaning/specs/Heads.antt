@@ -1,8 +1,8 @@
--- Head normal forms and head reduction, what the root of a term leads to, and what stands below the head; with their laws.
+-- HeadStep normal forms and head reduction, what the root of a term leads to, and what stands below the head; with their laws.
 use Rattle.std.specs.Prelude.{◌≡◌, ℕ, suc, ◌+◌, ◌≤◌, ◌<◌, ◌⊎◌, true}
 use Rattle.ol_meaning.specs.Spots.{Tree, var, free, lam, app, Level, empty, o, star, Context, cons}
 use Rattle.ol_meaning.specs.Spots.{Wire, bound, name, under, occurs, left, right}
-use Rattle.ol_meaning.specs.Spots.{Place, root, wire, at, Head, Leads}
+use Rattle.ol_meaning.specs.Spots.{Place, root, wire, at, HeadStep, Leads}
 use Rattle.ol_meaning.specs.Steps.{Same}
 -- os n v is v below n times o: o^n.v in the comments here
 pub use Rattle.ol_context.specs.Asked.{os}
@@ -25,22 +25,22 @@ pub data Spine : Tree → Wire → Level → ℕ → Type 0 where
 
 -- From the interface of an abstraction's body to the abstraction's own: the place and level 0 inside, and those outside. The body's
 -- root is the root below an o, the wire of the abstraction's variable the root below a star.
-pub data Up : Place → Level → Place → Level → Type 0 where
-  up_root : {v w : Level} → w ≡ o v → Up root v root w
-  up_own : {x : Wire} {a w : Level} → x ≡ bound 0 → w ≡ star a → Up (wire x) a root w
-  up_wire : {y z : Wire} {a b : Level} → z ≡ under y → b ≡ a → Up (wire z) a (wire y) b
+pub data OutOf : Place → Level → Place → Level → Type 0 where
+  up_root : {v w : Level} → w ≡ o v → OutOf root v root w
+  up_own : {x : Wire} {a w : Level} → x ≡ bound 0 → w ≡ star a → OutOf (wire x) a root w
+  up_wire : {y z : Wire} {a b : Level} → z ≡ under y → b ≡ a → OutOf (wire z) a (wire y) b
 
 -- a head normal form: abstractions round a head with j arguments. The place at which its head leaves, level 0 there, and j.
 pub data Normal : Tree → Place → Level → ℕ → Type 0 where
   flat : {t : Tree} {y : Wire} {a : Level} {j : ℕ} → Spine t y a j → Normal t (wire y) a j
-  layer : {t : Tree} {p q : Place} {v w : Level} {j : ℕ} → Normal t p v j → Up p v q w → Normal (lam t) q w j
+  layer : {t : Tree} {p q : Place} {v w : Level} {j : ℕ} → Normal t p v j → OutOf p v q w → Normal (lam t) q w j
 
 -- ---- head reduction
 
 -- so many head steps
 pub data Steps : Tree → Tree → ℕ → Type 0 where
   done : {t : Tree} → Steps t t 0
-  step : {t t' u : Tree} {m : ℕ} → Head t t' → Steps t' u m → Steps t u (suc m)
+  step : {t t' u : Tree} {m : ℕ} → HeadStep t t' → Steps t' u m → Steps t u (suc m)
 
 -- values of level 0, at a place, that are the same before and after all of these steps
 abbrev pub SameAlong : {t u : Tree} {m : ℕ} → Steps t u m → Place → Level → Level → Type 0
@@ -64,7 +64,7 @@ FewLeadNowhere = (t : Tree) (q : Place) (w : Level) (c d : Context) (n m : ℕ) 
 
 -- a term is a head normal form or has a head step
 abbrev pub NormalOrStep : Type 0
-NormalOrStep = (t : Tree) → ((q : Place) × (a : Level) × (j : ℕ) × Normal t q a j) ⊎ ((t' : Tree) × Head t t')
+NormalOrStep = (t : Tree) → ((q : Place) × (a : Level) × (j : ℕ) × Normal t q a j) ⊎ ((t' : Tree) × HeadStep t t')
 
 -- ---- where the root of any term leads
 
@@ -136,40 +136,40 @@ pub data HatEarlier (Q : Tree) (H : Stands) : Place → Level → Context → Pl
 
 -- under one more abstraction
 pub data HatInner (H : Stands) : Place → Level → Context → Place → Level → Context → Type 0 where
-  hat_up : {p q r : Place} {v b b' : Level} {c d : Context} → H p v c q b d → Up q b r b' → HatInner H p v c r b' d
+  hat_up : {p q r : Place} {v b b' : Level} {c d : Context} → H p v c q b d → OutOf q b r b' → HatInner H p v c r b' d
 
 -- where a spot of the interface of an argument stands at that of the head normal form
-abbrev pub Hat : {u P : Tree} {i : ℕ} → Arg u i P → Level → Stands
-Hat (last {R = R} {P = P} {y = y} {a = a} {i = i} s) w = HatLast R P y a i w
-Hat (earlier {Q = Q} s k) w = HatEarlier Q (Hat k w)
-Hat (inner k) w = HatInner (Hat k w)
+abbrev pub StandsAt : {u P : Tree} {i : ℕ} → Arg u i P → Level → Stands
+StandsAt (last {R = R} {P = P} {y = y} {a = a} {i = i} s) w = HatLast R P y a i w
+StandsAt (earlier {Q = Q} s k) w = HatEarlier Q (StandsAt k w)
+StandsAt (inner k) w = HatInner (StandsAt k w)
 
 -- An argument is as a term of its own. What a spot of its interface leads to in the argument, that it leads to in the head normal
 -- form, past as many applications or more; and all that it leads to there is that.
 abbrev pub BelowHead : Type 0
 BelowHead = (u P : Tree) (i : ℕ) (k : Arg u i P) (w : Level) (p q : Place) (v b : Level) (c d : Context) →
-    Hat k w p v c q b d →
+    StandsAt k w p v c q b d →
     ((p' : Place) (v' : Level) (c' : Context) (n : ℕ) → Leads P (at p v c) (at p' v' c') n →
-    (q' : Place) × (b' : Level) × (d' : Context) × Hat k w p' v' c' q' b' d'
+    (q' : Place) × (b' : Level) × (d' : Context) × StandsAt k w p' v' c' q' b' d'
     × (n' : ℕ) × (n ≤ n') × Leads u (at q b d) (at q' b' d') n')
     × ((q' : Place) (b' : Level) (d' : Context) (n' : ℕ) → Leads u (at q b d) (at q' b' d') n' →
-    (p' : Place) × (v' : Level) × (c' : Context) × Hat k w p' v' c' q' b' d'
+    (p' : Place) × (v' : Level) × (c' : Context) × StandsAt k w p' v' c' q' b' d'
     × (n : ℕ) × (n ≤ n') × Leads P (at p v c) (at p' v' c') n)
 
 -- each spot of the argument's interface stands at one of the head normal form, and no two stand at the same
 abbrev pub HatIsOne : Type 0
 HatIsOne = (u P : Tree) (i : ℕ) (k : Arg u i P) (w : Level) →
-    ((v : Level) (c : Context) → (q : Place) × (b : Level) × (d : Context) × Hat k w root v c q b d)
+    ((v : Level) (c : Context) → (q : Place) × (b : Level) × (d : Context) × StandsAt k w root v c q b d)
     × ((x : Wire) (v : Level) (c : Context) → occurs x P ≡ true →
-    (q : Place) × (b : Level) × (d : Context) × Hat k w (wire x) v c q b d)
+    (q : Place) × (b : Level) × (d : Context) × StandsAt k w (wire x) v c q b d)
     × ((p q p' q' : Place) (v b v' b' : Level) (c d c' d' : Context) →
-    Hat k w p v c q b d → Hat k w p' v' c' q' b' d' →
+    StandsAt k w p v c q b d → StandsAt k w p' v' c' q' b' d' →
     (at p v c ≡ at p' v' c' → at q b d ≡ at q' b' d') × (at q b d ≡ at q' b' d' → at p v c ≡ at p' v' c'))
 
 -- the argument's root stands at the place of the head, with the head's level 0; level 1 tells which argument it is
 abbrev pub RootStandsAtHead : Type 0
 RootStandsAtHead = (u P : Tree) (i : ℕ) (k : Arg u i P) (w : Level) (q : Place) (a : Level) (j : ℕ) → Normal u q a j →
-    (i < j) × ((v : Level) (c : Context) → Hat k w root v c q a (cons (os i (star w)) (cons v c)))
+    (i < j) × ((v : Level) (c : Context) → StandsAt k w root v c q a (cons (os i (star w)) (cons v c)))
 
 -- a head normal form with j arguments has argument i for each i below j
 abbrev pub ArgsAreThere : Type 0

@@ -2,11 +2,11 @@
 use Rattle.std.specs.Prelude.{◌≡◌, ℕ, List, Some}
 use Rattle.ol_beta.specs.Beta.{contracted, substituted}
 use Rattle.ol_beta.specs.Leftmost.{leftmost}
-use Rattle.ol_meaning.specs.Spots.{Tree, Head, subst_for}
+use Rattle.ol_meaning.specs.Spots.{Tree, HeadStep, subst_for}
 
 -- a head step is the leftmost beta step
 abbrev pub HeadIsLeftmost : Type 0
-HeadIsLeftmost = (t t' : Tree) → Head t t' → (at : List ℕ) × (leftmost t ≡ Some at) × (contracted t at ≡ Some t')
+HeadIsLeftmost = (t t' : Tree) → HeadStep t t' → (at : List ℕ) × (leftmost t ≡ Some at) × (contracted t at ≡ Some t')
 
 -- the two ways to put a term in for a variable are one
 abbrev pub OneSubstitution : Type 0

@@ -5,7 +5,7 @@ pub use Rattle.ol_context.specs.Contexts.{Level, empty, o, star, pair, Context, 
 pub use Rattle.ol_spots_net.specs.Spots.{Wire, bound, name, under, occurs, left, right, Place, root, wire, Spot, at, body, fun, arg}
 pub use Rattle.ol_spots_net.specs.Spots.{Edge, var_wire, free_wire, lam_root, lam_own, lam_wire, app_root, app_arg, app_left, app_right}
 pub use Rattle.ol_beta.specs.Leftmost.{is_abstraction}
-pub use Rattle.ol_spots_net.specs.Spots.{in_body, in_fun, in_arg, Tr, here, on, back, Leads}
+pub use Rattle.ol_spots_net.specs.Spots.{in_body, in_fun, in_arg, Trail, here, on, back, Leads}
 
 -- ---- a term under more abstractions than before
 
@@ -90,35 +90,35 @@ pub data Tag : Type 0 where
 
 -- Which wire of M[N], with which level 0, a wire of the cut is. An occurrence keeps the values of the boxes round it; marks of
 -- fans, and what is packed, follow the new term.
-pub data Adr (N : Tree) : Tree → ℕ → Tag → Wire → Level → Type 0 where
+pub data WireOf (N : Tree) : Tree → ℕ → Tag → Wire → Level → Type 0 where
   same : {M : Tree} {i : ℕ} {y z : Wire} {a : Level} →
-      wire_without i y ≡ Some z → occurs z (lift 0 i N) ≡ false → occurs y M ≡ true → Adr N M i (ofM y a) z a
-  other : {i y z : ℕ} → without i y ≡ Some z → Adr N (var y) i (ofM (bound y) empty) (bound z) empty
-  named : {i f : ℕ} → Adr N (free f) i (ofM (name f) empty) (name f) empty
+      wire_without i y ≡ Some z → occurs z (lift 0 i N) ≡ false → occurs y M ≡ true → WireOf N M i (ofM y a) z a
+  other : {i y z : ℕ} → without i y ≡ Some z → WireOf N (var y) i (ofM (bound y) empty) (bound z) empty
+  named : {i f : ℕ} → WireOf N (free f) i (ofM (name f) empty) (name f) empty
   own : {i y : ℕ} {x z : Wire} {b : Level} →
-      without i y ≡ None → occurs x N ≡ true → z ≡ lifted_wire 0 i x → Adr N (var y) i (ofN empty x b) z b
+      without i y ≡ None → occurs x N ≡ true → z ≡ lifted_wire 0 i x → WireOf N (var y) i (ofN empty x b) z b
   lam_m : {M : Tree} {i : ℕ} {y z : Wire} {a a' : Level} →
-      Adr N M (suc i) (ofM (under y) a) (under z) a' → Adr N (lam M) i (ofM y a) z a'
+      WireOf N M (suc i) (ofM (under y) a) (under z) a' → WireOf N (lam M) i (ofM y a) z a'
   lam_n : {M : Tree} {i : ℕ} {x z : Wire} {w b a' : Level} →
-      Adr N M (suc i) (ofN w x b) (under z) a' → Adr N (lam M) i (ofN w x b) z a'
+      WireOf N M (suc i) (ofN w x b) (under z) a' → WireOf N (lam M) i (ofN w x b) z a'
   fun_m : {M1 M2 : Tree} {i : ℕ} {y z : Wire} {a a' w w' : Level} →
-      Adr N M1 i (ofM y a) z a' → w ≡ left M2 y a → w' ≡ left (subst_for i N M2) z a' → Adr N (app M1 M2) i (ofM y w) z w'
+      WireOf N M1 i (ofM y a) z a' → w ≡ left M2 y a → w' ≡ left (subst_for i N M2) z a' → WireOf N (app M1 M2) i (ofM y w) z w'
   arg_m : {M1 M2 : Tree} {i : ℕ} {y z : Wire} {a a' w w' : Level} (v : Level) →
-      Adr N M2 i (ofM y a) z a' → w ≡ right M1 y a v → w' ≡ right (subst_for i N M1) z a' v → Adr N (app M1 M2) i (ofM y w) z w'
+      WireOf N M2 i (ofM y a) z a' → w ≡ right M1 y a v → w' ≡ right (subst_for i N M1) z a' v → WireOf N (app M1 M2) i (ofM y w) z w'
   fun_n : {M1 M2 : Tree} {i : ℕ} {x z : Wire} {u b a' w w' : Level} →
-      Adr N M1 i (ofN u x b) z a' → w ≡ left M2 (bound i) u → w' ≡ left (subst_for i N M2) z a' → Adr N (app M1 M2) i (ofN w x b) z w'
+      WireOf N M1 i (ofN u x b) z a' → w ≡ left M2 (bound i) u → w' ≡ left (subst_for i N M2) z a' → WireOf N (app M1 M2) i (ofN w x b) z w'
   arg_n : {M1 M2 : Tree} {i : ℕ} {x z : Wire} {u b a' w w' : Level} (v : Level) →
-      Adr N M2 i (ofN u x b) z a' → w ≡ right M1 (bound i) u v → w' ≡ right (subst_for i N M1) z a' v →
-      Adr N (app M1 M2) i (ofN w x b) z w'
+      WireOf N M2 i (ofN u x b) z a' → w ≡ right M1 (bound i) u v → w' ≡ right (subst_for i N M1) z a' v →
+      WireOf N (app M1 M2) i (ofN w x b) z w'
 
 -- Which spot of M[N] a spot of the cut is. Spots of M's parts and N's are those of the same parts in M[N], and of N's copies. The
 -- root of a copy holds the whole wire of variable i in M; and a wire of M[N] holds N's wire, at whatever occurrence.
 pub data Held (N : Tree) : Tree → ℕ → Cut → Spot → Type 0 where
   at_root : {M : Tree} {i : ℕ} {v : Level} {c : Context} → Held N M i (inM (at root v c)) (at root v c)
   wire_m : {M : Tree} {i : ℕ} {y z : Wire} {a a' : Level} {c : Context} →
-      Adr N M i (ofM y a) z a' → Held N M i (inM (at (wire y) a c)) (at (wire z) a' c)
+      WireOf N M i (ofM y a) z a' → Held N M i (inM (at (wire y) a c)) (at (wire z) a' c)
   wire_n : {M : Tree} {i : ℕ} {x z : Wire} {w b a' : Level} {c : Context} →
-      Adr N M i (ofN w x b) z a' → Held N M i (inN w (at (wire x) b c)) (at (wire z) a' c)
+      WireOf N M i (ofN w x b) z a' → Held N M i (inN w (at (wire x) b c)) (at (wire z) a' c)
   x_spot : {i y : ℕ} {s z : Spot} → without i y ≡ None → z ≡ lifted 0 i s → Held N (var y) i (inN empty s) z
   x_wire : {i y : ℕ} {x : Wire} {u : Level} {c d : Context} →
       x ≡ bound i → without i y ≡ None → c ≡ cons u d → Held N (var y) i (inM (at (wire x) empty c)) (at root u d)
@@ -159,7 +159,7 @@ pub data Opens (N M : Tree) : Spot → Cut → Type 0 where
 
 -- A head step: beta at the redex under the outer abstractions and left of all arguments. It is never made within a function that
 -- is an abstraction.
-pub data Head : Tree → Tree → Type 0 where
-  beta : {M N : Tree} → Head (app (lam M) N) (subst_for 0 N M)
-  below : {M M' : Tree} → Head M M' → Head (lam M) (lam M')
-  before : {R R' P : Tree} → is_abstraction R ≡ false → Head R R' → Head (app R P) (app R' P)
+pub data HeadStep : Tree → Tree → Type 0 where
+  beta : {M N : Tree} → HeadStep (app (lam M) N) (subst_for 0 N M)
+  below : {M M' : Tree} → HeadStep M M' → HeadStep (lam M) (lam M')
+  before : {R R' P : Tree} → is_abstraction R ≡ false → HeadStep R R' → HeadStep (app R P) (app R' P)

@@ -2,13 +2,13 @@
 use Rattle.std.specs.Prelude.{◌≡◌, true}
 use Rattle.ol_meaning.specs.Spots.{Tree, var, free, lam, app, Level, empty, o, star, pair, Wire}
 use Rattle.ol_meaning.specs.Spots.{bound, under, occurs, left, right, Place, root, wire}
-use Rattle.ol_meaning.specs.Spots.{ofM, ofN, Adr, Head, beta, below, before}
+use Rattle.ol_meaning.specs.Spots.{ofM, ofN, WireOf, HeadStep, beta, below, before}
 
 -- of the redex (lam M) N: at the root each value; at a wire of M, and at a wire of N, what the wire is in M[N]
 pub data SameRedex (M N : Tree) : Place → Level → Level → Type 0 where
   redex_root : {v : Level} → SameRedex M N root v v
-  redex_m : {y : Wire} {a w a' : Level} → w ≡ left N y a → Adr N M 0 (ofM (under y) a) y a' → SameRedex M N (wire y) w a'
-  redex_n : {y : Wire} {b v w a' : Level} → w ≡ right (lam M) y b v → Adr N M 0 (ofN v y b) y a' → SameRedex M N (wire y) w a'
+  redex_m : {y : Wire} {a w a' : Level} → w ≡ left N y a → WireOf N M 0 (ofM (under y) a) y a' → SameRedex M N (wire y) w a'
+  redex_n : {y : Wire} {b v w a' : Level} → w ≡ right (lam M) y b v → WireOf N M 0 (ofN v y b) y a' → SameRedex M N (wire y) w a'
 
 -- under an abstraction, where S says it of the body: at the root, the body's root stands below an o, and the wire of the
 -- abstraction's own variable below a star
@@ -26,7 +26,7 @@ pub data SameBefore (R R' P : Tree) (S : Place → Level → Level → Type 0) :
       occurs y P ≡ true → w ≡ right R y b v → w' ≡ right R' y b v → SameBefore R R' P S (wire y) w w'
 
 -- of any head step
-abbrev pub Same : {t t' : Tree} → Head t t' → Place → Level → Level → Type 0
+abbrev pub Same : {t t' : Tree} → HeadStep t t' → Place → Level → Level → Type 0
 Same (beta {M = M} {N = N}) = SameRedex M N
 Same (below h) = SameBelow (Same h)
 Same (before {R = R} {R' = R'} {P = P} e h) = SameBefore R R' P (Same h)

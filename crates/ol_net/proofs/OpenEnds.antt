@@ -8,7 +8,7 @@ use Rattle.ol_net.specs.declared.parts.JoinEnd.{JoinEnd}
 use Rattle.ol_net.specs.declared.parts.JoinEnd.TheVariants.{First, Second, Born}
 use Rattle.ol_net.specs.Parts.{arity, slots_of}
 use Rattle.ol_net.specs.Graph.{has_slot}
-use Rattle.ol_net.specs.Joins.{same_end, ends_from, all_ends, side_ends, born_ends, open_ends, remove_end, and_then_end, uses_up, is_open, times, FitIsOnce}
+use Rattle.ol_net.specs.Joins.{same_end, ends_from, all_ends, side_ends, born_ends, open_ends, remove_end, and_then_end, uses_up, is_open, times_joined, FitIsOnce}
 use Rattle.ol_net.proofs.Fitting.{bit, same_end-is, prepended, removed}
 
 -- how often e stands in a list of ends
@@ -39,7 +39,7 @@ among-remove e d (x ∷ xs) ys h = elim (cases_Bool (same_end d x)) [
       rw z.2 (omega (arith, ih))
 ]
 
-times-used : (e : JoinEnd) (joins : List (JoinEnd × JoinEnd)) (ends : List JoinEnd) → uses_up joins ends ≡ true → times e joins ≡ among e ends
+times-used : (e : JoinEnd) (joins : List (JoinEnd × JoinEnd)) (ends : List JoinEnd) → uses_up joins ends ≡ true → times_joined e joins ≡ among e ends
 times-used e [] [] h = refl
 times-used e [] (x ∷ ends) h = absurd (false≢true h)
 times-used e (j ∷ js) ends h =
@@ -59,7 +59,7 @@ find e (x ∷ xs) h = elim (cases_Bool (same_end e x)) [
       found e x xs t (find e xs (omega arith))
 ]
 
-used-times : (joins : List (JoinEnd × JoinEnd)) (ends : List JoinEnd) → ((e : JoinEnd) → times e joins ≡ among e ends) → uses_up joins ends ≡ true
+used-times : (joins : List (JoinEnd × JoinEnd)) (ends : List JoinEnd) → ((e : JoinEnd) → times_joined e joins ≡ among e ends) → uses_up joins ends ≡ true
 used-times [] [] h = refl
 used-times [] (x ∷ ends) h = absurd (let c = h x in let t = ap bit (same_end-itself x) in omega arith)
 used-times (j ∷ js) ends h =
@@ -68,7 +68,7 @@ used-times (j ∷ js) ends h =
     let left : (e : JoinEnd) → among e ends ≡ bit (same_end e j.0) + among e one.0 = λ e. among-remove e j.0 ends one.0 one.1 in
     let t1 = ap bit (same_end-itself j.1) in
     let two = find j.1 one.0 (omega (arith, h j.1, left j.1, t1)) in
-    let rest : (e : JoinEnd) → times e js ≡ among e two.0 = λ e. omega (arith, h e, left e, among-remove e j.1 one.0 two.0 two.1) in
+    let rest : (e : JoinEnd) → times_joined e js ≡ among e two.0 = λ e. omega (arith, h e, left e, among-remove e j.1 one.0 two.0 two.1) in
     rw (one.1, two.1) (used-times js two.0 rest)
 
 -- The open ends, each once

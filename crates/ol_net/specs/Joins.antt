@@ -57,14 +57,14 @@ is_open first second born (Second s) = has_slot second s && not (s == 0)
 is_open first second born (Born p s) = has_slot (slice_get born p) s
 
 -- how often e stands in joins
-abbrev pub times : JoinEnd → List (JoinEnd × JoinEnd) → ℕ
-times e [] = 0
-times e (j ∷ js) = (if same_end e j.0 then 1 else 0) + (if same_end e j.1 then 1 else 0) + times e js
+abbrev pub times_joined : JoinEnd → List (JoinEnd × JoinEnd) → ℕ
+times_joined e [] = 0
+times_joined e (j ∷ js) = (if same_end e j.0 then 1 else 0) + (if same_end e j.1 then 1 else 0) + times_joined e js
 
 -- Each slot of at least 1 of the two nodes stands in exactly one join, so does each slot of each born node, and nothing
 -- else stands in a join.
 abbrev pub EachOpenEndOnce : Option (Kind × ℕ) → Option (Kind × ℕ) → List (Kind × ℕ) → List (JoinEnd × JoinEnd) → Type 0
-EachOpenEndOnce first second born joins = (e : JoinEnd) → times e joins ≡ (if is_open first second born e then 1 else 0)
+EachOpenEndOnce first second born joins = (e : JoinEnd) → times_joined e joins ≡ (if is_open first second born e then 1 else 0)
 
 -- this is what it says that joins use up the open ends
 abbrev pub FitIsOnce : Type 0

@@ -8,7 +8,7 @@ use Rattle.ol_term.specs.Trees as tree
 use Rattle.ol_term.specs.Trees.{Tree, tree_of, is_below, is_named_below, has_name}
 use Rattle.ol_parse.specs.Grammar.{Named, var, lam, app}
 use Rattle.ol_parse.specs.Depth.{named_depth}
-use Rattle.ol_parse.specs.Numbered.{place_of, numbered, var_at, free_at, names_of, number}
+use Rattle.ol_parse.specs.Numbered.{position_of, numbered, var_at, free_at, names_of, number}
 use Rattle.ol_parse.specs.Resolving.{names_from, free_unless, add_unless}
 use Rattle.ol_parse.proofs.Once.{names_once}
 use Rattle.ol_parse.proofs.Places.{kept_from, new_from, grows}
@@ -24,7 +24,7 @@ var_depth (Some k) p = refl
 var_depth None p = free_depth p
 
 pub same_depth : (t : Named) (names binders : List (List ℕ)) → tree.depth (numbered names binders t) ≡ named_depth t
-same_depth (var x) names binders = var_depth (place_of x binders) (place_of x names)
+same_depth (var x) names binders = var_depth (position_of x binders) (position_of x names)
 same_depth (lam x t) names binders = ap (λ n. 1 + n) (same_depth t names (x ∷ binders))
 same_depth (app f a) names binders = ap (λ n. 1 + max n (tree.depth (numbered names binders a))) (same_depth f names binders) ∙ ap (λ n. 1 + max (named_depth f) n) (same_depth a names binders)
 
@@ -38,19 +38,19 @@ within x (y ∷ ys) i k n e h = go (within x ys (i + 1) k n (omega arith)) (byte
     go each true h = let here : i ≡ k = cc in omega arith
     go each false h = each h
 
-in_list : (x : List ℕ) (names : List (List ℕ)) (k : ℕ) → place_of x names ≡ Some k → k < length names
+in_list : (x : List ℕ) (names : List (List ℕ)) (k : ℕ) → position_of x names ≡ Some k → k < length names
 in_list x names k h = within x names 0 k (length names) (omega arith) h
 
 free_below : (d : ℕ) (o : Option ℕ) → is_below d (free_at o) ≡ true
 free_below d (Some k) = refl
 free_below d None = refl
 
-var_below : (x : List ℕ) (binders : List (List ℕ)) (o p : Option ℕ) → place_of x binders ≡ o → is_below (length binders) (var_at o p) ≡ true
+var_below : (x : List ℕ) (binders : List (List ℕ)) (o p : Option ℕ) → position_of x binders ≡ o → is_below (length binders) (var_at o p) ≡ true
 var_below x binders (Some k) p h = lt-ltb k (length binders) (in_list x binders k h)
 var_below x binders None p h = free_below (length binders) p
 
 pub bound : (t : Named) (names binders : List (List ℕ)) → is_below (length binders) (numbered names binders t) ≡ true
-bound (var x) names binders = var_below x binders (place_of x binders) (place_of x names) refl
+bound (var x) names binders = var_below x binders (position_of x binders) (position_of x names) refl
 bound (lam x t) names binders =
     let e : length binders + 1 ≡ length (x ∷ binders) = omega arith in
     ap (λ d. is_below d (numbered names (x ∷ binders) t)) e ∙ bound t names (x ∷ binders)
@@ -70,28 +70,28 @@ more_named m n (tree.app f a) h b =
 record Placed (x : List ℕ) (names names' : List (List ℕ)) : Type 0 where
   pub place : ℕ
   pub low : place < length names'
-  pub is : (more : List (List ℕ)) → place_of x (names' ++ more) ≡ Some place
+  pub is : (more : List (List ℕ)) → position_of x (names' ++ more) ≡ Some place
   pub last : (k : ℕ) → length names ≤ k → k < length names' → place ≡ k
 
-add_placed : (x : List ℕ) (names : List (List ℕ)) (o : Option ℕ) → place_of x names ≡ o → Placed x names (add_unless names x o)
+add_placed : (x : List ℕ) (names : List (List ℕ)) (o : Option ℕ) → position_of x names ≡ o → Placed x names (add_unless names x o)
 add_placed x names (Some k) h =
     let l = in_list x names k h in
     record { place = k; low = l; is = λ more. kept_from x more k names 0 h; last = λ n h p. absurd (omega arith) }
 add_placed x names None h = record {
   place = length names;
   low = omega (arith, length-append names (x ∷ []));
-  is = λ more. ap (place_of x) (append_assoc names (x ∷ []) more) ∙ new_from x more (length names) names 0 (omega arith) h;
+  is = λ more. ap (position_of x) (append_assoc names (x ∷ []) more) ∙ new_from x more (length names) names 0 (omega arith) h;
   last = λ n h p. omega (arith, length-append names (x ∷ []));
 }
 
-var_named : (x : List ℕ) (names more : List (List ℕ)) (o : Option ℕ) → is_named_below (length (free_unless names x o)) (var_at o (place_of x (free_unless names x o ++ more))) ≡ true
+var_named : (x : List ℕ) (names more : List (List ℕ)) (o : Option ℕ) → is_named_below (length (free_unless names x o)) (var_at o (position_of x (free_unless names x o ++ more))) ≡ true
 var_named x names more (Some k) = refl
 var_named x names more None =
-    let p = add_placed x names (place_of x names) refl in
-    ap (λ o. is_named_below (length (add_unless names x (place_of x names))) (free_at o)) (p.is more) ∙ lt-ltb p.place (length (add_unless names x (place_of x names))) p.low
+    let p = add_placed x names (position_of x names) refl in
+    ap (λ o. is_named_below (length (add_unless names x (position_of x names))) (free_at o)) (p.is more) ∙ lt-ltb p.place (length (add_unless names x (position_of x names))) p.low
 
 pub all_named : (t : Named) (binders names more : List (List ℕ)) → is_named_below (length (names_from binders names t)) (numbered (names_from binders names t ++ more) binders t) ≡ true
-all_named (var x) binders names more = var_named x names more (place_of x binders)
+all_named (var x) binders names more = var_named x names more (position_of x binders)
 all_named (lam x t) binders names more = all_named t (x ∷ binders) names more
 all_named (app f a) binders names more =
     let mid = names_from binders names f in
@@ -104,14 +104,14 @@ all_named (app f a) binders names more =
 
 -- ---- each name of the list occurs
 
-var_occurs : (x : List ℕ) (names more : List (List ℕ)) (k : ℕ) (o : Option ℕ) → length names ≤ k → k < length (free_unless names x o) → has_name k (var_at o (place_of x (free_unless names x o ++ more))) ≡ true
+var_occurs : (x : List ℕ) (names more : List (List ℕ)) (k : ℕ) (o : Option ℕ) → length names ≤ k → k < length (free_unless names x o) → has_name k (var_at o (position_of x (free_unless names x o ++ more))) ≡ true
 var_occurs x names more k (Some n) h l = absurd (omega arith)
 var_occurs x names more k None h l =
-    let p = add_placed x names (place_of x names) refl in
+    let p = add_placed x names (position_of x names) refl in
     ap (λ o. has_name k (free_at o)) (p.is more) ∙ eq-eqb p.place k (p.last k h l)
 
 pub each_occurs : (t : Named) (binders names more : List (List ℕ)) (k : ℕ) → length names ≤ k → k < length (names_from binders names t) → has_name k (numbered (names_from binders names t ++ more) binders t) ≡ true
-each_occurs (var x) binders names more k h l = var_occurs x names more k (place_of x binders) h l
+each_occurs (var x) binders names more k h l = var_occurs x names more k (position_of x binders) h l
 each_occurs (lam x t) binders names more k h l = each_occurs t (x ∷ binders) names more k h l
 each_occurs (app f a) binders names more k h l =
     let mid = names_from binders names f in

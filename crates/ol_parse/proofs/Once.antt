@@ -7,7 +7,7 @@ use Rattle.std.proofs.lemmas.Slice.Eq.{bytes_eq-Decides}
 use Rattle.ol_term.specs.Trees.{Tree}
 use Rattle.ol_term.specs.NameLists.{without}
 use Rattle.ol_parse.specs.Grammar.{Named, var, lam, app}
-use Rattle.ol_parse.specs.Numbered.{place_of, unbound, free_in, once, names_of, number, numbered}
+use Rattle.ol_parse.specs.Numbered.{position_of, unbound, free_in, once, names_of, number, numbered}
 use Rattle.ol_parse.specs.Resolving.{add_unless, free_unless, names_from, texts, IsNumbered}
 
 abbrev has : List ℕ → List (List ℕ) → Bool
@@ -21,18 +21,18 @@ rest names (y ∷ ys) = cond (has y names) (rest names ys) (y ∷ rest names ys)
 
 abbrev add_all : List (List ℕ) → List (List ℕ) → List (List ℕ)
 add_all names [] = names
-add_all names (x ∷ xs) = add_all (add_unless names x (place_of x names)) xs
+add_all names (x ∷ xs) = add_all (add_unless names x (position_of x names)) xs
 
 add_both : (xs ys names : List (List ℕ)) → add_all names (xs ++ ys) ≡ add_all (add_all names xs) ys
 add_both [] ys names = refl
-add_both (x ∷ xs) ys names = add_both xs ys (add_unless names x (place_of x names))
+add_both (x ∷ xs) ys names = add_both xs ys (add_unless names x (position_of x names))
 
 one_added : (names : List (List ℕ)) (x : List ℕ) (o : Option ℕ) → free_unless names x o ≡ add_all names (unbound x o)
 one_added names x (Some k) = refl
 one_added names x None = refl
 
 all_added : (t : Named) (binders names : List (List ℕ)) → names_from binders names t ≡ add_all names (free_in binders t)
-all_added (var x) binders names = one_added names x (place_of x binders)
+all_added (var x) binders names = one_added names x (position_of x binders)
 all_added (lam x t) binders names = all_added t (x ∷ binders) names
 all_added (app f t) binders names =
     all_added t binders (names_from binders names f) ∙ ap (λ n. add_all n (free_in binders t)) (all_added f binders names) ∙ sym (add_both (free_in binders f) (free_in binders t) names)
@@ -102,9 +102,9 @@ rest_new x names (y ∷ ys) = go (bytes_eq x y) refl (rest_new x names ys) ∙ a
 
 behind : (xs names : List (List ℕ)) → add_all names xs ≡ names ++ rest names (once xs)
 behind [] names = sym (append-nil names)
-behind (x ∷ xs) names = go (place_of x names) refl (behind xs names) (behind xs (names ++ (x ∷ [])))
+behind (x ∷ xs) names = go (position_of x names) refl (behind xs names) (behind xs (names ++ (x ∷ [])))
   where
-    go : (o : Option ℕ) → place_of x names ≡ o → add_all names xs ≡ names ++ rest names (once xs) → add_all (names ++ (x ∷ [])) xs ≡ (names ++ (x ∷ [])) ++ rest (names ++ (x ∷ [])) (once xs)
+    go : (o : Option ℕ) → position_of x names ≡ o → add_all names xs ≡ names ++ rest names (once xs) → add_all (names ++ (x ∷ [])) xs ≡ (names ++ (x ∷ [])) ++ rest (names ++ (x ∷ [])) (once xs)
         → add_all (add_unless names x o) xs ≡ names ++ cond (has x names) (rest names (without x (once xs))) (x ∷ rest names (without x (once xs)))
     go (Some k) e old new =
         let here = at_some x names 0 k e in

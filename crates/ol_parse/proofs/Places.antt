@@ -13,7 +13,7 @@ use Rattle.ol_parse.specs.Grammar.{Named, var, lam, app}
 use Rattle.ol_term.specs.Trees as tree
 use Rattle.ol_term.specs.Trees.{Tree}
 use Rattle.ol_term.specs.NameLists.{IsFirstPlace}
-use Rattle.ol_parse.specs.Numbered.{place_of, numbered, var_at, free_at}
+use Rattle.ol_parse.specs.Numbered.{position_of, numbered, var_at, free_at}
 use Rattle.ol_parse.specs.Resolving.{texts, names_from, free_unless, add_unless, IsNumbered}
 
 abbrev is : List ℕ → List ℕ → Bool
@@ -53,10 +53,10 @@ add_grows names x None = (x ∷ [], refl)
 
 free_grows : (names : List (List ℕ)) (x : List ℕ) (o : Option ℕ) → (rest : List (List ℕ)) × (free_unless names x o ≡ names ++ rest)
 free_grows names x (Some k) = ([], sym (append-nil names))
-free_grows names x None = add_grows names x (place_of x names)
+free_grows names x None = add_grows names x (position_of x names)
 
 pub grows : (t : Named) (binders names : List (List ℕ)) → (rest : List (List ℕ)) × (names_from binders names t ≡ names ++ rest)
-grows (var x) binders names = free_grows names x (place_of x binders)
+grows (var x) binders names = free_grows names x (position_of x binders)
 grows (lam x t) binders names = grows t (x ∷ binders) names
 grows (app f t) binders names =
     let (a, e) = grows f binders names in
@@ -82,31 +82,31 @@ none_from x (y ∷ ys) i each =
     ap (λ b. cond b (Some i) (position_from (is x) (i + 1) ys)) (not_same x y (λ same. each 0 (omega arith) (ap (λ (l : List ℕ). Some l) (sym same))))
     ∙ none_from x ys (i + 1) (λ j l. each (suc j) (omega arith))
 
-first_place : (x : List ℕ) (names : List (List ℕ)) (k : ℕ) → IsFirstPlace names x k → place_of x names ≡ Some k
+first_place : (x : List ℕ) (names : List (List ℕ)) (k : ℕ) → IsFirstPlace names x k → position_of x names ≡ Some k
 first_place x names k f = let e : k ≡ 0 + k = omega arith in first_from x names 0 k k e f.here f.before
 
 -- ---- a free name
 
 -- the names behind it
-pub free_named : (t : Named) (x : List ℕ) (binders old new : List (List ℕ)) (k : ℕ) → t ≡ var x → place_of x binders ≡ None → IsFirstPlace new x k → (k < length old → new ≡ old) → (length old ≤ k → new ≡ old ++ (x ∷ [])) → new ≡ names_from binders old t
+pub free_named : (t : Named) (x : List ℕ) (binders old new : List (List ℕ)) (k : ℕ) → t ≡ var x → position_of x binders ≡ None → IsFirstPlace new x k → (k < length old → new ≡ old) → (length old ≤ k → new ≡ old ++ (x ∷ [])) → new ≡ names_from binders old t
 free_named t x binders old new k e b f known last =
     sym (ap (names_from binders old) e ∙ ap (free_unless old x) b ∙ elim (cases_lt k (length old)) [
       | inl low ↦ (
           let same : new ≡ old = known low in
-          let here : place_of x old ≡ Some k = ap (place_of x) (sym same) ∙ first_place x new k f in
+          let here : position_of x old ≡ Some k = ap (position_of x) (sym same) ∙ first_place x new k f in
           ap (add_unless old x) here ∙ sym same
           )
       | inr past ↦ (
           let more : new ≡ old ++ (x ∷ []) = last (omega arith) in
-          let gone : place_of x old ≡ None = none_from x old 0 (λ j l same. f.before j (omega arith) (ap (λ l. slice_get l j) more ∙ below_added old (x ∷ []) j l ∙ same)) in
+          let gone : position_of x old ≡ None = none_from x old 0 (λ j l same. f.before j (omega arith) (ap (λ l. slice_get l j) more ∙ below_added old (x ∷ []) j l ∙ same)) in
           ap (add_unless old x) gone ∙ sym more
           )
     ])
 
 -- its number
-pub free_numbered : (t : Named) (x : List ℕ) (binders names : List (List ℕ)) (k : ℕ) → t ≡ var x → place_of x binders ≡ None → IsFirstPlace names x k → (more : List (List ℕ)) → numbered (names ++ more) binders t ≡ tree.free k
+pub free_numbered : (t : Named) (x : List ℕ) (binders names : List (List ℕ)) (k : ℕ) → t ≡ var x → position_of x binders ≡ None → IsFirstPlace names x k → (more : List (List ℕ)) → numbered (names ++ more) binders t ≡ tree.free k
 free_numbered t x binders names k e b f more =
-    ap (numbered (names ++ more) binders) e ∙ ap (λ o. var_at o (place_of x (names ++ more))) b ∙ ap free_at (kept_from x more k names 0 (first_place x names k f))
+    ap (numbered (names ++ more) binders) e ∙ ap (λ o. var_at o (position_of x (names ++ more))) b ∙ ap free_at (kept_from x more k names 0 (first_place x names k f))
 
 -- ---- an application, and a whole term
 

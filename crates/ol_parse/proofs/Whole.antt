@@ -4,7 +4,7 @@ use Rattle.std.proofs.lemmas.List.{take_more}
 use Rattle.std.proofs.lemmas.Bool.{cases_lt}
 use Rattle.std.proofs.Math.Seq.{take-length}
 use Rattle.ol_parse.specs.Grammar.{Named}
-use Rattle.ol_parse.specs.Texts.{IsText, Begins, IsDeadPlace}
+use Rattle.ol_parse.specs.Texts.{IsText, BeginsText, IsDeadPlace}
 use Rattle.ol_parse.specs.Machine.{at}
 use Rattle.ol_parse.proofs.Complete.{complete}
 use Rattle.ol_parse.proofs.Sound.{sound}
@@ -26,13 +26,13 @@ pub one_term : (bytes : List ℕ) (t u : Named) → IsText bytes t → IsText by
 one_term bytes t u i j = let e = text_taken bytes t i in let f = text_taken bytes u j in cc
 
 -- what is read begins a text
-pub read_begins : (bytes : List ℕ) (s : Reading) → read start bytes ≡ Some s → Begins bytes
+pub read_begins : (bytes : List ℕ) (s : Reading) → read start bytes ≡ Some s → BeginsText bytes
 read_begins bytes s h =
     let c = completed s (live_read bytes s start tt h) in
     record { rest = c.rest; whole = c.whole; text = taken_text (bytes ++ c.rest) c.whole (takes_both start bytes c.rest ∙ ap (option_and_then (λ s. takes s c.rest)) h ∙ c.taken) }
 
 -- what is dead begins none
-pub dead_begins : (bytes : List ℕ) → read start bytes ≡ None → Begins bytes → ⊥
+pub dead_begins : (bytes : List ℕ) → read start bytes ≡ None → BeginsText bytes → ⊥
 dead_begins bytes h b =
     let e = text_taken (bytes ++ b.rest) b.whole b.text in
     let f = takes_both start bytes b.rest ∙ ap (option_and_then (λ s. takes s b.rest)) h in
@@ -77,7 +77,7 @@ dead_end text s e d =
       λ t i. no_text text t all i,
       record {
         within = omega arith;
-        alive = subst Begins (sym (take-length text)) (read_begins text s e);
+        alive = subst BeginsText (sym (take-length text)) (read_begins text s e);
         longest = λ m b i. b;
       },
     )

@@ -3,7 +3,7 @@ use Rattle.std.proofs.Common.{◌≡◌, ℕ, List, [], ◌∷◌, ◌++◌, map
 use Rattle.std.specs.Str.{bytes_eq}
 use Rattle.ol_parse.specs.Grammar.{Named, var, lam, app, Token, name, let_key, in_key, lambda, dot, equals, open_bracket, close_bracket, lams, IsTerm, term_body, term_spine, term_both, IsSpine, spine_one, spine_more, IsAtom, atom_name, atom_brackets, IsBody, body_lambda, body_let}
 use Rattle.ol_parse.specs.Texts.{token_of, is_word, IsToken, token_sign, token_letter, token_word, IsName, Spells, spells_none, spells_one, IsText}
-use Rattle.ol_parse.specs.Numbered.{place_of, unbound, free_in, once, names_of}
+use Rattle.ol_parse.specs.Numbered.{position_of, unbound, free_in, once, names_of}
 use Rattle.ol_parse.specs.Parsed.{AreNames}
 use Rattle.ol_parse.proofs.Spelling.{sign_no_word}
 use Rattle.ol_term.specs.NameLists.{without}
@@ -104,7 +104,7 @@ maybe_free x (Some k) h = tt
 maybe_free x None h = (h, tt)
 
 free_good : (t : Named) (binders : List (List ℕ)) → HasNames t → AreNames (free_in binders t)
-free_good (var x) binders h = maybe_free x (place_of x binders) h
+free_good (var x) binders h = maybe_free x (position_of x binders) h
 free_good (lam x t) binders h = free_good t (x ∷ binders) h
 free_good (app f t) binders h = both (free_in binders f) (free_in binders t) (free_good f binders h.0) (free_good t binders h.1)
 

@@ -9,8 +9,8 @@ use Rattle.ol_term.specs.NameLists.{without}
 use Rattle.ol_parse.specs.Grammar.{Named, var, lam, app}
 
 -- the first place of a name
-abbrev pub place_of : List ℕ → List (List ℕ) → Option ℕ
-place_of x names = position_from (λ y. bytes_eq x y) 0 names
+abbrev pub position_of : List ℕ → List (List ℕ) → Option ℕ
+position_of x names = position_from (λ y. bytes_eq x y) 0 names
 
 -- a name, unless it is bound
 abbrev pub unbound : List ℕ → Option ℕ → List (List ℕ)
@@ -20,7 +20,7 @@ unbound x None = x ∷ []
 -- the names that occur free in a term under these binders, the innermost binder first; the function stands before the
 -- argument
 abbrev pub free_in : List (List ℕ) → Named → List (List ℕ)
-free_in binders (var x) = unbound x (place_of x binders)
+free_in binders (var x) = unbound x (position_of x binders)
 free_in binders (lam x t) = free_in (x ∷ binders) t
 free_in binders (app f t) = free_in binders f ++ free_in binders t
 
@@ -45,7 +45,7 @@ var_at None free = free_at free
 
 -- the tree of a term under these binders, with the free names at their places in a list
 abbrev pub numbered : List (List ℕ) → List (List ℕ) → Named → Tree
-numbered names binders (var x) = var_at (place_of x binders) (place_of x names)
+numbered names binders (var x) = var_at (position_of x binders) (position_of x names)
 numbered names binders (lam x t) = tree.lam (numbered names (x ∷ binders) t)
 numbered names binders (app f t) = tree.app (numbered names binders f) (numbered names binders t)
 

@@ -3,7 +3,7 @@ use Rattle.std.specs.Prelude.{◌≡◌, ℕ, List, [], ◌∷◌, ◌++◌, map
 use Rattle.std.specs.Borrow.{Bor}
 use Rattle.ol_term.specs.Trees.{Tree}
 use Rattle.ol_parse.specs.Grammar.{Named, var, lam, app}
-use Rattle.ol_parse.specs.Numbered.{place_of, numbered}
+use Rattle.ol_parse.specs.Numbered.{position_of, numbered}
 
 abbrev pub add_unless : List (List ℕ) → List ℕ → Option ℕ → List (List ℕ)
 add_unless names x (Some k) = names
@@ -11,11 +11,11 @@ add_unless names x None = names ++ (x ∷ [])
 
 abbrev pub free_unless : List (List ℕ) → List ℕ → Option ℕ → List (List ℕ)
 free_unless names x (Some k) = names
-free_unless names x None = add_unless names x (place_of x names)
+free_unless names x None = add_unless names x (position_of x names)
 
 -- the names before, and behind them those that are new in a term under these binders
 abbrev pub names_from : List (List ℕ) → List (List ℕ) → Named → List (List ℕ)
-names_from binders names (var x) = free_unless names x (place_of x binders)
+names_from binders names (var x) = free_unless names x (position_of x binders)
 names_from binders names (lam x t) = names_from (x ∷ binders) names t
 names_from binders names (app f t) = names_from binders (names_from binders names f) t
 

@@ -101,7 +101,7 @@ pub record IsText (bytes : List ℕ) (t : Named) : Type 0 where
   pub term : IsTerm tokens t
 
 -- the bytes begin a text
-pub record Begins (bytes : List ℕ) : Type 0 where
+pub record BeginsText (bytes : List ℕ) : Type 0 where
   pub rest : List ℕ
   pub whole : Named
   pub text : IsText (bytes ++ rest) whole
@@ -109,8 +109,8 @@ pub record Begins (bytes : List ℕ) : Type 0 where
 -- the length of the longest prefix that begins a text
 pub record IsDeadPlace (bytes : List ℕ) (at : ℕ) : Type 0 where
   pub within : at ≤ length bytes
-  pub alive : Begins (take at bytes)
-  pub longest : (n : ℕ) → n ≤ length bytes → Begins (take n bytes) → n ≤ at
+  pub alive : BeginsText (take at bytes)
+  pub longest : (n : ℕ) → n ≤ length bytes → BeginsText (take n bytes) → n ≤ at
 
 -- the bytes are no text, and this is their dead place
 abbrev pub IsRefusedAt : List ℕ → ℕ → Type 0

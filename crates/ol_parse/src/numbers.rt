@@ -5,7 +5,7 @@ ghost use Rattle.ol_term.specs.Trees.{tree_of, is_below, is_named_below, depth};
 ghost use Rattle.ol_parse.specs.Depth.{named_depth};
 ghost use Rattle.ol_parse.specs.Laws.{leaves};
 ghost use Rattle.ol_parse.specs.NamedTerms.{named};
-ghost use Rattle.ol_parse.specs.Numbered.{place_of, names_of, number, numbered};
+ghost use Rattle.ol_parse.specs.Numbered.{position_of, names_of, number, numbered};
 ghost use Rattle.ol_parse.specs.Resolving.{texts, names_from, add_unless, IsNumbered};
 
 use crate::bytes::is_same;
@@ -17,7 +17,7 @@ use std::alloc::Global;
 /// The number of the innermost binder of a name, counted from the innermost as 0.
 fn binder(binders: &[&[u8]], name: &[u8]) -> Option<u32>
     requires { length binders.now < 2 ^ 32 }
-    ensures { result ≡ place_of name.now (texts (reverse binders.now)) }
+    ensures { result ≡ position_of name.now (texts (reverse binders.now)) }
 {
     for i in 0..binders.len() {
         if is_same(name, binders[binders.len() - 1 - i]) {

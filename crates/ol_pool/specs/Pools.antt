@@ -21,8 +21,8 @@ fresh_hand pool number = record {
 }
 
 -- the hand is of a pool with these two numbers
-abbrev pub IsOf : HandState → PoolState → Type 0
-IsOf hand pool = hand.pool ≡ pool
+abbrev pub IsHandOf : HandState → PoolState → Type 0
+IsHandOf hand pool = hand.pool ≡ pool
 
 -- each hand of a pool in the order of their numbers, none of which made a call yet
 abbrev pub AreDealt : PoolState → ℕ → List HandState → Type 0

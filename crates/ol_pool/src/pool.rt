@@ -1,7 +1,7 @@
 //! The pool of cells, shared by the workers.
 ghost use Rattle.std.specs.Prelude.{◌≡◌, ℕ, ◌<◌, ◌≤◌, ◌↔◌, IfOk, IfErr, IfSome, IsNone, IsTrue, slice_get, vec_len};
 ghost use Rattle.std.specs.List.{All};
-ghost use Rattle.ol_pool.specs.Pools.{fresh_hand, IsOf, AreDealt};
+ghost use Rattle.ol_pool.specs.Pools.{fresh_hand, IsHandOf, AreDealt};
 
 use crate::hands::{Hand, fresh_hands};
 use crate::line::Line;
@@ -39,7 +39,7 @@ impl Pool {
         ensures pool { IfOk result (λ made. made.0 ≡ record { hands = hands; cells = cells }) }
         ensures count { IfOk result (λ made. vec_len made.1 ≡ hands) }
         ensures each { IfOk result (λ made. AreDealt made.0 hands made.1.items) }
-        ensures same_pool { IfOk result (λ made. All (λ hand. IsOf hand made.0) made.1.items) }
+        ensures same_pool { IfOk result (λ made. All (λ hand. IsHandOf hand made.0) made.1.items) }
     {
         let made = fresh_hands(alloc, hands, cells)?;
         let pool = Pool {
@@ -62,7 +62,7 @@ impl Pool {
     /// `Err`: no memory was found. It gives the cell back. The hand stays as it was.
     pub fn put<R: Wait>(&self, rt: &R, hand: &mut Hand, cell: u32) -> Result<(), u32>
         requires below { cell < self.now.cells }
-        requires hand { IsOf hand.old self.now }
+        requires hand { IsHandOf hand.old self.now }
         ensures hand { hand.new ≡ hand.old }
         ensures back { IfErr result (λ returned. returned ≡ cell) }
     {
@@ -74,7 +74,7 @@ impl Pool {
     /// None: no cell waits, and the hand has `missed`. No clause gives this cause, since a lock
     /// tells nothing of what it guards.
     pub fn take<R: Wait>(&self, rt: &R, hand: &mut Hand) -> Option<u32>
-        requires hand { IsOf hand.old self.now }
+        requires hand { IsHandOf hand.old self.now }
         ensures below { IfSome result (λ cell. cell < self.now.cells) }
         ensures missed { IsTrue hand.new.missed ↔ IsNone result }
         ensures hand { hand.new ≡ record hand.old { missed = hand.new.missed } }

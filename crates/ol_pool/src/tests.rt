@@ -1,6 +1,6 @@
 //! Cells in a line, in a pool, and in a pool that two threads share.
 ghost use Rattle.std.specs.Prelude.{◌≡◌, ◌≤◌, ◌<◌, IfOk};
-ghost use Rattle.ol_pool.specs.Pools.{IsOf};
+ghost use Rattle.ol_pool.specs.Pools.{IsHandOf};
 
 use crate::{Hand, Line, Pool};
 use std::alloc::Global;
@@ -27,8 +27,8 @@ fn a_line_is_first_in_first_out(rt: HostRuntime) {
 // A pool of two hands.
 fn pool_of_two(alloc: Global, cells: u32) -> Result<(Pool, Hand, Hand), Fail>
     ensures cells { IfOk result (λ made. made.0.cells ≡ cells) }
-    ensures zero { IfOk result (λ made. IsOf made.1 made.0) }
-    ensures one { IfOk result (λ made. IsOf made.2 made.0) }
+    ensures zero { IfOk result (λ made. IsHandOf made.1 made.0) }
+    ensures one { IfOk result (λ made. IsHandOf made.2 made.0) }
 {
     let (pool, mut hands) = Pool::new(alloc, 2, cells)?;
     let one = hands.pop().unwrap();
@@ -54,7 +54,7 @@ fn a_cell_goes_from_hand_to_hand(rt: HostRuntime) -> Result<(), Fail> {
 
 // The sum of `cell + 1` over the cells that one hand takes until it misses.
 fn take_all<R: Wait>(rt: &R, pool: &Pool, hand: Hand) -> u32
-    requires { IsOf hand pool.now }
+    requires { IsHandOf hand pool.now }
 {
     let mut hand = hand;
     let mut sum = 0u32;
@@ -68,16 +68,16 @@ fn take_all<R: Wait>(rt: &R, pool: &Pool, hand: Hand) -> u32
 }
 
 fn take_beside<R: Threads + Wait + Sync>(rt: &R, pool: &Pool, zero: Hand, one: Hand) -> u32
-    requires zero { IsOf zero pool.now }
-    requires one { IsOf one pool.now }
+    requires zero { IsHandOf zero pool.now }
+    requires one { IsHandOf one pool.now }
 {
     let (some, other) = thread::join(
         rt,
         move ||
-            requires { IsOf zero pool.now }
+            requires { IsHandOf zero pool.now }
         { take_all(rt, pool, zero) },
         move ||
-            requires { IsOf one pool.now }
+            requires { IsHandOf one pool.now }
         { take_all(rt, pool, one) },
     );
     some.saturating_add(other)

@@ -6,8 +6,8 @@ use Rattle.ol_context.specs.Contexts.{Level, Context}
 use Rattle.ol_readback.specs.Frames.{Frame, frame_at, root}
 use Rattle.ol_readback.specs.Matching.{Matches, here, above, name}
 use Rattle.ol_readback.specs.Heads.{head, matched, IsHeadWithin, leaves}
-use Rattle.ol_readback.specs.Trees.{Subterm, framed, port_of, arguments, Reads, end, past, spent, lost, found, IsTree}
-use Rattle.ol_readback.specs.Whole.{Part, term, cut, none, more, count, preorder, IsInScope, IsBound, IsWhole}
+use Rattle.ol_readback.specs.ReadTrees.{Subterm, framed, port_of, arguments, ReadsBack, end, past, spent, lost, found, IsTree}
+use Rattle.ol_readback.specs.Whole.{Part, term, cut, none, more, count, preorder, IsInScope, IsBound, IsWholeTree}
 use Rattle.ol_readback.specs.Whole as whole
 use Rattle.ol_readback.specs.declared.answers.HeadVar.{HeadVar}
 use Rattle.ol_readback.specs.declared.answers.HeadVar.TheVariants as var
@@ -108,7 +108,7 @@ cuts i [] F (c ∷ cs) h = absurd h
 cuts i (s ∷ ss) F [] h = absurd h
 
 module _ {A : Type 0} {N : NamedNet A} {heads e : ℕ} where
-  forest_of : {F : List Frame} {ss : List Subterm} {ns : List ReadNode} → Reads N heads e F ss ns → (cs : List (List (ℕ × ℕ))) → AllScoped F ss cs → Forest (length F) cs ns
+  forest_of : {F : List Frame} {ss : List Subterm} {ns : List ReadNode} → ReadsBack N heads e F ss ns → (cs : List (List (ℕ × ℕ))) → AllScoped F ss cs → Forest (length F) cs ns
   forest_of end [] h = bare
   forest_of end (c ∷ cs) h = absurd h
   forest_of (past {frames = F} {ss = ss} b) cs h = cuts (length F) ss F cs h
@@ -145,8 +145,8 @@ module _ {A : Type 0} {N : NamedNet A} {heads e : ℕ} where
           subst (λ (ms : List ReadNode). Forest (length F) (c ∷ cs) (node.Head n v k ∷ ms)) t.listed
           (subst (λ (k : ℕ). Forest (length F) (c ∷ cs) (node.Head n v k ∷ (preorder t.first ++ t.rest))) t.many (tree (term n v t.first) (bound, b) g))
 
-only : {ns : List ReadNode} → Forest 0 ([] ∷ []) ns → IsWhole ns
+only : {ns : List ReadNode} → Forest 0 ([] ∷ []) ns → IsWholeTree ns
 only (tree t b bare) = record { tree = t; is_list = sym (append-nil (preorder t)); bound = b }
 
-pub tree_is_whole : {A : Type 0} (N : NamedNet A) (heads e : ℕ) (ns : List ReadNode) → IsTree N heads e ns → IsWhole ns
+pub tree_is_whole : {A : Type 0} (N : NamedNet A) (heads e : ℕ) (ns : List ReadNode) → IsTree N heads e ns → IsWholeTree ns
 tree_is_whole N heads e ns r = only (forest_of r ([] ∷ []) (outer, tt))

@@ -6,7 +6,7 @@ use Rattle.ol_context.specs.Shapes.{value, AreHeld, IsNumberOf, Extends}
 use Rattle.ol_context.proofs.Shapes.{held_more, map_more, extends_refl}
 use Rattle.ol_context.proofs.ValueLists.{held_append}
 use Rattle.ol_readback.specs.Frames.{os}
-use Rattle.ol_readback.specs.Trees.{Subterm, arguments}
+use Rattle.ol_readback.specs.ReadTrees.{Subterm, arguments}
 use Rattle.ol_readback.specs.Groups.{subterms_of, pending_of, IsHeldGroup, AreHeldGroups, IsPlacedGroup, ArePlacedGroups, subterm_of, IsNextFrame, IsNext, IsGroupOf}
 use Rattle.ol_readback.specs.declared.frames.Frame.{Frame}
 use Rattle.ol_readback.specs.declared.groups.Group.{Group}

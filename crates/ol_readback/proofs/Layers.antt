@@ -3,7 +3,7 @@ use Rattle.std.proofs.Common.{◌≡◌, ℕ, zero, suc, ◌+◌, ◌-◌, ◌<�
 use Rattle.std.proofs.lemmas.List.{append-nil, length_push}
 use Rattle.ol_readback.specs.Whole.{Part, term, lost, cut, none, more, count, preorder, IsInScope, IsBound}
 use Rattle.ol_term.specs.BinderNames.{binder_name}
-use Rattle.ol_readback.specs.Texts.{rounds, spaced, is_bare, bracketed, text_of}
+use Rattle.ol_readback.specs.Texts.{rounds, spaced, is_bare, bracketed, part_text}
 use Rattle.ol_readback.specs.Printing.{IsSeenVar, wants_bracket, left_bracket, right_bracket, Takes, done, takes, closes}
 use Rattle.ol_readback.specs.declared.answers.HeadVar.{HeadVar}
 use Rattle.ol_readback.specs.declared.answers.HeadVar.TheVariants as var
@@ -63,7 +63,7 @@ rounds_of (L ∷ Ls) = rounds L.binders L.parts ++ rounds_of Ls
 
 abbrev pub texts_of : List (List ℕ) → List ℕ → List Layer → List ℕ
 texts_of names R [] = []
-texts_of names R (L ∷ Ls) = text_of names R L.binders L.parts ++ (right_bracket L.bracket ++ texts_of names R Ls)
+texts_of names R (L ∷ Ls) = part_text names R L.binders L.parts ++ (right_bracket L.bracket ++ texts_of names R Ls)
 
 -- all places of a scope are below i
 abbrev pub IsBelow : ℕ → List (ℕ × ℕ) → Type 0
@@ -103,7 +103,7 @@ pub record Ahead (names : List (List ℕ)) (R whole : List ℕ) (rest : List Rea
   pub layers : List Layer
   pub stack : open_heads ≡ opens_of layers
   pub listed : preorder part ++ list_of layers ≡ rest
-  pub text_is : (b : Bool) → ((n : ReadNode) (ns : List ReadNode) → preorder part ≡ n ∷ ns → b ≡ wants_bracket argument n) → text ++ (left_bracket b ++ (text_of names R t part ++ (right_bracket b ++ texts_of names R layers))) ≡ whole
+  pub text_is : (b : Bool) → ((n : ReadNode) (ns : List ReadNode) → preorder part ≡ n ∷ ns → b ≡ wants_bracket argument n) → text ++ (left_bracket b ++ (part_text names R t part ++ (right_bracket b ++ texts_of names R layers))) ≡ whole
   pub rounds_are : rs ++ (rounds t part ++ rounds_of layers) ≡ R
   pub below : IsBelow (length rs) scope
   pub bound_part : IsBound scope (length rs) part
@@ -152,7 +152,7 @@ first_of_part cut = record { node = node.Cut; rest = []; is = refl }
 
 -- the next argument of a layer
 ahead_of : (names : List (List ℕ)) (R whole : List ℕ) (rest : List ReadNode) (x rs : List ℕ) (hs : List Open) (n : ℕ) (p : Part false) (t : ℕ) (b : Bool) (ss : List (ℕ × ℕ)) (Ls : List Layer) → count p ≡ suc n → hs ≡ opens_of Ls →
-    preorder p ++ list_of Ls ≡ rest → x ++ (text_of names R t p ++ (right_bracket b ++ texts_of names R Ls)) ≡ whole → rs ++ (rounds t p ++ rounds_of Ls) ≡ R → IsBelow (length rs) ss → IsBound ss (length rs) p →
+    preorder p ++ list_of Ls ≡ rest → x ++ (part_text names R t p ++ (right_bracket b ++ texts_of names R Ls)) ≡ whole → rs ++ (rounds t p ++ rounds_of Ls) ≡ R → IsBelow (length rs) ss → IsBound ss (length rs) p →
     AreBound (length rs + length (preorder p)) Ls → Ahead names R whole rest (x ++ 32 ∷ []) rs (hs ++ record { left = n; binders = t; bracket = b } ∷ []) t true
 ahead_of names R whole rest x rs hs n none t b ss Ls e s l w r k p a = absurd (omega arith)
 ahead_of names R whole rest x rs hs n (more u us) t b ss Ls e s l w r k p a = record {
@@ -164,8 +164,8 @@ ahead_of names R whole rest x rs hs n (more u us) t b ss Ls e s l w r k p a = re
   text_is = λ c k.
       let f = first_of_part u in
       let q = k f.node f.rest f.is in
-      let T = text_of names R t u in
-      let U = text_of names R t us in
+      let T = part_text names R t u in
+      let U = part_text names R t us in
       let V = right_bracket b ++ texts_of names R Ls in
       append_assoc x (32 ∷ []) (left_bracket c ++ (T ++ (right_bracket c ++ (U ++ V))))
       ∙ ap (λ (z : List ℕ). x ++ 32 ∷ z) (three (left_bracket c) T (right_bracket c) U V ∙ ap (λ (z : List ℕ). (z ++ U) ++ V) (ap (λ (c : Bool). left_bracket c ++ (T ++ right_bracket c)) q ∙ sym (bracket_is u f.node f.rest T f.is)))
@@ -183,7 +183,7 @@ ahead_of names R whole rest x rs hs n (more u us) t b ss Ls e s l w r k p a = re
 
 -- a layer with no argument left
 closed : (names : List (List ℕ)) (R whole : List ℕ) (rest : List ReadNode) (x rs : List ℕ) (hs : List Open) (p : Part false) (t : ℕ) (b : Bool) (Ls : List Layer) → count p ≡ 0 → hs ≡ opens_of Ls →
-    preorder p ++ list_of Ls ≡ rest → x ++ (text_of names R t p ++ (right_bracket b ++ texts_of names R Ls)) ≡ whole → rs ++ (rounds t p ++ rounds_of Ls) ≡ R → AreBound (length rs + length (preorder p)) Ls →
+    preorder p ++ list_of Ls ≡ rest → x ++ (part_text names R t p ++ (right_bracket b ++ texts_of names R Ls)) ≡ whole → rs ++ (rounds t p ++ rounds_of Ls) ≡ R → AreBound (length rs + length (preorder p)) Ls →
     Prints names R whole rest (x ++ right_bracket b) rs hs
 closed names R whole rest x rs hs (more u us) t b Ls e s l w r a = absurd (omega arith)
 closed names R whole rest x rs hs none t b Ls e s l w r a = record {

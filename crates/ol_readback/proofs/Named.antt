@@ -5,7 +5,7 @@ use Rattle.ol_context.specs.Contexts.{Level, Context}
 use Rattle.ol_readback.specs.Frames.{Frame}
 use Rattle.ol_readback.specs.Matching.{Matches, here, above, name}
 use Rattle.ol_readback.specs.Heads.{head, matched, IsHeadWithin, leaves}
-use Rattle.ol_readback.specs.Trees.{Subterm, Reads, end, past, spent, lost, found, IsTree}
+use Rattle.ol_readback.specs.ReadTrees.{Subterm, ReadsBack, end, past, spent, lost, found, IsTree}
 use Rattle.ol_readback.specs.Texts.{IsNamedVar, AreNamed}
 use Rattle.ol_readback.specs.declared.answers.HeadVar.{HeadVar}
 use Rattle.ol_readback.specs.declared.answers.ReadNode.{ReadNode}
@@ -24,7 +24,7 @@ named_cuts : (count : ℕ) (ss : List Subterm) → AreNamed count (map (λ s. no
 named_cuts count [] = tt
 named_cuts count (s ∷ ss) = (tt, named_cuts count ss)
 
-named_all : {N : NamedNet ℕ} {heads e : ℕ} {F : List Frame} {ss : List Subterm} {ns : List ReadNode} → IsNet N → Reads N heads e F ss ns → AreNamed (N.free_ports - 1) ns
+named_all : {N : NamedNet ℕ} {heads e : ℕ} {F : List Frame} {ss : List Subterm} {ns : List ReadNode} → IsNet N → ReadsBack N heads e F ss ns → AreNamed (N.free_ports - 1) ns
 named_all z end = tt
 named_all {N = N} z (past {ss = ss} b) = named_cuts (N.free_ports - 1) ss
 named_all z (spent b x r) = (tt, named_all z r)

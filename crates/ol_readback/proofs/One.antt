@@ -4,13 +4,13 @@ use Rattle.ol_net.specs.Nets.{NamedNet, free, IsNet}
 use Rattle.ol_context.specs.Contexts.{Level, empty, star, Context, levels}
 use Rattle.ol_context.specs.Paths.{Path}
 use Rattle.ol_context.specs.Shapes.{value}
-use Rattle.ol_context.specs.Ways.{Stands}
+use Rattle.ol_context.specs.Ways.{WalkStands}
 use Rattle.ol_context.proofs.Exits.{path_one, no_stand}
 use Rattle.ol_readback.specs.Frames.{Frame, frame_at, os, asked}
 use Rattle.ol_readback.specs.Matching.{Fits, Matches, here, above, name, MatchesNothing}
 use Rattle.ol_readback.specs.Heads.{Answer, head, no_head, budget, IsMatched, matched, unmatched, IsHead, IsHeadWithin, spends, live, Fails, FailsBelow, LeavesWithin, answer_of}
 use Rattle.ol_readback.specs.Heads as heads
-use Rattle.ol_readback.specs.Trees.{Subterm, framed, port_of, arguments, Reads, end, past, spent, lost, found}
+use Rattle.ol_readback.specs.ReadTrees.{Subterm, framed, port_of, arguments, ReadsBack, end, past, spent, lost, found}
 use Rattle.ol_readback.specs.Laws.{ExitIsOne, HeadIsOne, HeadWithinIsOne, TreeIsOne}
 use Rattle.ol_readback.specs.declared.answers.HeadVar.{HeadVar}
 use Rattle.ol_readback.specs.declared.answers.HeadVar.TheVariants as var
@@ -89,7 +89,7 @@ module _ {A : Type 0} (N : NamedNet A) (is_net : IsNet N) where
 
   module _ (edges : ℕ) where
     -- a walk that leaves within its crossings doesn't stand after them
-    not_both : (p : ℕ) (c : Context) (q : ℕ) (X : Context) → LeavesWithin N p c edges q X → Stands N (free p) c edges → ⊥
+    not_both : (p : ℕ) (c : Context) (q : ℕ) (X : Context) → LeavesWithin N p c edges q X → WalkStands N (free p) c edges → ⊥
     not_both p c q X w s = no_stand N is_net (free p) c q X w.1.path edges (let a = w.1.long in let b = w.1.within in omega arith) s
 
     pub within_one : (F : List Frame) (i : ℕ) (a b : Answer) → IsHeadWithin N F i edges a → IsHeadWithin N F i edges b → a ≡ b
@@ -122,7 +122,7 @@ module _ {A : Type 0} (N : NamedNet A) (is_net : IsNet N) where
 
     -- trees
     module _ (Q : ℕ) where
-      pub reads_one : {F : List Frame} {ss : List Subterm} {ns ms : List ReadNode} → Reads N Q edges F ss ns → Reads N Q edges F ss ms → ns ≡ ms
+      pub reads_one : {F : List Frame} {ss : List Subterm} {ns ms : List ReadNode} → ReadsBack N Q edges F ss ns → ReadsBack N Q edges F ss ms → ns ≡ ms
       reads_one end end = refl
       reads_one end (past b) = refl
       reads_one (past b) end = refl
@@ -147,10 +147,10 @@ module _ {A : Type 0} (N : NamedNet A) (is_net : IsNet N) where
           let ev : v' ≡ v = cc in
           let ek : k' ≡ k = cc in
           let el : ls' ≡ ls = cc in
-          let t1 = subst (λ n. Reads N Q edges (F ++ framed s n ∷ []) (arguments (length F) (port_of (F ++ framed s n ∷ []) v') ls' 0 k' ++ ss) ms) en t in
-          let t2 = subst (λ v. Reads N Q edges (F ++ framed s n ∷ []) (arguments (length F) (port_of (F ++ framed s n ∷ []) v) ls' 0 k' ++ ss) ms) ev t1 in
-          let t3 = subst (λ k. Reads N Q edges (F ++ framed s n ∷ []) (arguments (length F) (port_of (F ++ framed s n ∷ []) v) ls' 0 k ++ ss) ms) ek t2 in
-          let t4 = subst (λ ls. Reads N Q edges (F ++ framed s n ∷ []) (arguments (length F) (port_of (F ++ framed s n ∷ []) v) ls 0 k ++ ss) ms) el t3 in
+          let t1 = subst (λ n. ReadsBack N Q edges (F ++ framed s n ∷ []) (arguments (length F) (port_of (F ++ framed s n ∷ []) v') ls' 0 k' ++ ss) ms) en t in
+          let t2 = subst (λ v. ReadsBack N Q edges (F ++ framed s n ∷ []) (arguments (length F) (port_of (F ++ framed s n ∷ []) v) ls' 0 k' ++ ss) ms) ev t1 in
+          let t3 = subst (λ k. ReadsBack N Q edges (F ++ framed s n ∷ []) (arguments (length F) (port_of (F ++ framed s n ∷ []) v) ls' 0 k ++ ss) ms) ek t2 in
+          let t4 = subst (λ ls. ReadsBack N Q edges (F ++ framed s n ∷ []) (arguments (length F) (port_of (F ++ framed s n ∷ []) v) ls 0 k ++ ss) ms) el t3 in
           ap (λ ns. node.Head n v k ∷ ns) (reads_one r t4) ∙ ap (λ n. node.Head n v k ∷ ms) (sym en) ∙ ap (λ v. node.Head n' v k ∷ ms) (sym ev) ∙ ap (λ k. node.Head n' v' k ∷ ms) (sym ek)
 
 module _ {A : Type 0} where
@@ -195,7 +195,7 @@ answer_exactly N is_net F i edges a h b = (λ e. subst (IsHeadWithin N F i edges
 
 -- where the budget is met, a try makes all its crossings
 pub meets : {A : Type 0} {N : NamedNet A} {F : List Frame} {i edges : ℕ} {a : Answer} → IsHeadWithin N F i edges a → a ≡ budget →
-    (n : ℕ) × (n ≤ live N) × FailsBelow N (frame_at F i) edges n × Stands N (free (frame_at F i).port) (asked (frame_at F i).levels n) edges
+    (n : ℕ) × (n ≤ live N) × FailsBelow N (frame_at F i) edges n × WalkStands N (free (frame_at F i).port) (asked (frame_at F i).levels n) edges
 meets (heads.leaves {n = n} {q = q} {X = X} b h w m) e = absurd (never_budget (subst (IsMatched _ _ n q X) e m))
 meets (spends {n = n} b h s) e = (n, b, h, s)
 meets (heads.never z) e = absurd (cc)

@@ -5,7 +5,7 @@ use Rattle.ol_net.specs.Nets.{NamedNet}
 use Rattle.ol_context.specs.Contexts.{Level}
 use Rattle.ol_context.specs.Shapes.{value, Extends}
 use Rattle.ol_readback.specs.Frames.{Frame, frames_of}
-use Rattle.ol_readback.specs.Trees.{Subterm, arguments, Reads, end, past, IsTree}
+use Rattle.ol_readback.specs.ReadTrees.{Subterm, arguments, ReadsBack, end, past, IsTree}
 use Rattle.ol_readback.specs.Groups.{subterms_of, subterms_in, pending_of, AreHeldGroups, AreHeldIn, ArePlacedGroups, ArePlacedIn, subterm_of, IsNextFrame, IsNext}
 use Rattle.ol_readback.specs.Reading.{IsFrameList, IsRead, cuts_of}
 use Rattle.ol_readback.specs.declared.answers.ReadNode.{ReadNode}
@@ -18,7 +18,7 @@ use Rattle.ol_readback.proofs.Places.{list_more}
 
 -- the rest of the tree is that of these frames and these subterms
 pub record Rest (N : NamedNet ℕ) (heads edges : ℕ) (F : List Frame) (ss : List Subterm) (nodes : List ReadNode) : Type 0 where
-  pub tree : (ns : List ReadNode) → Reads N heads edges F ss ns → IsTree N heads edges (nodes ++ ns)
+  pub tree : (ns : List ReadNode) → ReadsBack N heads edges F ss ns → IsTree N heads edges (nodes ++ ns)
 
 -- before frame f is read
 pub record Before (N : NamedNet ℕ) (heads edges free : ℕ) (vs : List Level) (fs : List code.Frame) (f : code.Frame) (nodes : List ReadNode) (gs : List Group) : Type 0 where
@@ -58,7 +58,7 @@ module _ (N : NamedNet ℕ) (heads edges free : ℕ) where
       tree = λ ns y.
           subst (λ (ms : List ReadNode). IsTree N heads edges ms) (sym (ap (λ (ms : List ReadNode). ms ++ ns) e ∙ append_assoc nodes (n ∷ []) ns))
           (b.rest.tree (n ∷ ns) (r.reads heads (pending_of vs gs) ns (let c = count_frames vs fs in let d = b.below in omega arith)
-          (subst (λ (ss : List Subterm). Reads N heads edges (frames_of ws fs') ss ns) (ap (pending_of ws) q ∙ pending_add ws gs g ∙ ap (λ (ss : List Subterm). subterms_in ws g ++ ss) (pending_more vs ws gs x b.held)) y)));
+          (subst (λ (ss : List Subterm). ReadsBack N heads edges (frames_of ws fs') ss ns) (ap (pending_of ws) q ∙ pending_add ws gs g ∙ ap (λ (ss : List Subterm). subterms_in ws g ++ ss) (pending_more vs ws gs x b.held)) y)));
     };
     frames = l;
     held = subst (λ (gs : List Group). AreHeldGroups ws gs) (sym q) (held_add ws gs g (groups_more vs ws gs x b.held) h);
@@ -69,8 +69,8 @@ module _ (N : NamedNet ℕ) (heads edges free : ℕ) where
       Before N heads edges free ws fs f nodes hs
   before_next vs ws fs f nodes gs hs a x n b w = record {
     rest = record {
-      tree = λ ns y. a.rest.tree ns (subst (λ (ss : List Subterm). Reads N heads edges (frames_of vs fs) ss ns) (sym n.first)
-          (subst (λ (F : List Frame). Reads N heads edges F (subterm_of ws f ∷ pending_of ws hs) ns) (frames_more vs ws fs x a.frames.held) y));
+      tree = λ ns y. a.rest.tree ns (subst (λ (ss : List Subterm). ReadsBack N heads edges (frames_of vs fs) ss ns) (sym n.first)
+          (subst (λ (F : List Frame). ReadsBack N heads edges F (subterm_of ws f ∷ pending_of ws hs) ns) (frames_more vs ws fs x a.frames.held) y));
     };
     frames = list_more free vs ws fs x a.frames;
     frame = (n.placed free (length fs) a.placed).1;
@@ -82,7 +82,7 @@ module _ (N : NamedNet ℕ) (heads edges free : ℕ) where
 
   pub ended : (vs : List Level) (fs : List code.Frame) (nodes : List ReadNode) (gs : List Group) → After N heads edges free vs fs nodes gs → pending_of vs gs ≡ [] → IsTree N heads edges nodes
   ended vs fs nodes gs a e =
-      subst (λ (ns : List ReadNode). IsTree N heads edges ns) (append-nil nodes) (a.rest.tree [] (subst (λ (ss : List Subterm). Reads N heads edges (frames_of vs fs) ss []) (sym e) end))
+      subst (λ (ns : List ReadNode). IsTree N heads edges ns) (append-nil nodes) (a.rest.tree [] (subst (λ (ss : List Subterm). ReadsBack N heads edges (frames_of vs fs) ss []) (sym e) end))
 
   pub cut_off : (vs : List Level) (fs : List code.Frame) (nodes nodes' : List ReadNode) (gs : List Group) → After N heads edges free vs fs nodes gs → heads ≤ length fs → nodes' ≡ nodes ++ cuts_of vs gs → IsTree N heads edges nodes'
   cut_off vs fs nodes nodes' gs a b e =

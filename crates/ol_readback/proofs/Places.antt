@@ -9,7 +9,7 @@ use Rattle.ol_context.specs.Shapes.{value, AreHeld, Extends}
 use Rattle.ol_readback.specs.Frames.{Frame, root, frame_at, frame_of, frames_of, ParentsFirst, AreHeldFrames, AreAtPorts}
 use Rattle.ol_readback.specs.Matching.{Matches, here, above, name}
 use Rattle.ol_readback.specs.Heads.{Answer, head, no_head, budget, matched, IsHeadWithin, leaves, answer_of}
-use Rattle.ol_readback.specs.Trees.{Subterm, framed, port_of, arguments, Reads, spent, lost, found}
+use Rattle.ol_readback.specs.ReadTrees.{Subterm, framed, port_of, arguments, ReadsBack, spent, lost, found}
 use Rattle.ol_readback.specs.Groups.{subterm_of, subterms_in, IsNextFrame, IsGroupOf}
 use Rattle.ol_readback.specs.Reading.{IsFrameList, IsKnown, IsRead}
 use Rattle.ol_readback.specs.declared.answers.HeadVar.{HeadVar}
@@ -140,13 +140,13 @@ module _ (N : NamedNet ℕ) (edges : ℕ) (free : ℕ) (vs ws : List Level) (fs 
   pub read_spent : (gs : List code.Frame) → gs ≡ fs ++ f ∷ [] → IsHeadWithin N (frames_of vs gs) (length fs) edges budget → IsRead N edges vs ws fs f gs node.Cut None
   read_spent gs e y = record {
     reads = λ heads ss ns b r.
-        spent b (at_last budget (subst (λ (gs : List code.Frame). IsHeadWithin N (frames_of vs gs) (length fs) edges budget) e y)) (subst (λ (F : List Frame). Reads N heads edges F ss ns) (ap (frames_of ws) e ∙ after_none) r);
+        spent b (at_last budget (subst (λ (gs : List code.Frame). IsHeadWithin N (frames_of vs gs) (length fs) edges budget) e y)) (subst (λ (F : List Frame). ReadsBack N heads edges F ss ns) (ap (frames_of ws) e ∙ after_none) r);
   }
 
   pub read_lost : (gs : List code.Frame) → gs ≡ fs ++ f ∷ [] → IsHeadWithin N (frames_of vs gs) (length fs) edges no_head → IsRead N edges vs ws fs f gs node.NoHead None
   read_lost gs e y = record {
     reads = λ heads ss ns b r.
-        lost b (at_last no_head (subst (λ (gs : List code.Frame). IsHeadWithin N (frames_of vs gs) (length fs) edges no_head) e y)) (subst (λ (F : List Frame). Reads N heads edges F ss ns) (ap (frames_of ws) e ∙ after_none) r);
+        lost b (at_last no_head (subst (λ (gs : List code.Frame). IsHeadWithin N (frames_of vs gs) (length fs) edges no_head) e y)) (subst (λ (F : List Frame). ReadsBack N heads edges F ss ns) (ap (frames_of ws) e ∙ after_none) r);
   }
 
   pub read_found : (mid : List Level) (gs hs : List code.Frame) (n q args : ℕ) (v : HeadVar) (at : List ℕ) (group : Option Group) → gs ≡ fs ++ f ∷ [] → hs ≡ fs ++ with_lams f n ∷ [] →
@@ -155,8 +155,8 @@ module _ (N : NamedNet ℕ) (edges : ℕ) (free : ℕ) (vs ws : List Level) (fs 
   read_found mid gs hs n q args v at group e z y p g = record {
     reads = λ heads ss ns b r.
         found b (at_last (head n v args (map (value mid) at)) (subst (λ (gs : List code.Frame). IsHeadWithin N (frames_of vs gs) (length fs) edges (head n v args (map (value mid) at))) e y))
-        (subst (λ (ts : List Subterm). Reads N heads edges (frames_of vs fs ++ framed (subterm_of vs f) n ∷ []) (ts ++ ss) ns) arguments_are
-        (subst (λ (F : List Frame). Reads N heads edges F (subterms_in ws group ++ ss) ns) (ap (frames_of ws) z ∙ frames_after n) r));
+        (subst (λ (ts : List Subterm). ReadsBack N heads edges (frames_of vs fs ++ framed (subterm_of vs f) n ∷ []) (ts ++ ss) ns) arguments_are
+        (subst (λ (F : List Frame). ReadsBack N heads edges F (subterms_in ws group ++ ss) ns) (ap (frames_of ws) z ∙ frames_after n) r));
   }
     where
       port_now : q ≡ port_of (frames_of vs fs ++ framed (subterm_of vs f) n ∷ []) v

@@ -2,9 +2,9 @@
 use Rattle.std.proofs.Common.{◌≡◌, ℕ, zero, suc, ◌+◌, ◌-◌, ◌≤◌, Bool, true, false, List, [], ◌∷◌, ◌++◌, length, drop, get_or, Option, Some, None, refl, sym, ap, ◌∙◌, subst, arith, append_assoc}
 use Rattle.std.specs.Prelude.{slice_get}
 use Rattle.std.proofs.lemmas.List.{append-nil, length_push, get_or_append_left, drop_all}
-use Rattle.ol_readback.specs.Whole.{Part, term, lost, cut, none, more, count, preorder, IsBound, IsWhole}
+use Rattle.ol_readback.specs.Whole.{Part, term, lost, cut, none, more, count, preorder, IsBound, IsWholeTree}
 use Rattle.ol_term.specs.BinderNames.{binder_name}
-use Rattle.ol_readback.specs.Texts.{rounds, abstractions, variable, text_of, text_of_tree, IsNamedNode, AreNamed}
+use Rattle.ol_readback.specs.Texts.{rounds, abstractions, variable, part_text, text_of_tree, IsNamedNode, AreNamed}
 use Rattle.ol_readback.specs.Printing.{IsSeenVar, IsSeen, wants_bracket, left_bracket, right_bracket, printed, opened, Takes}
 use Rattle.ol_readback.specs.declared.answers.HeadVar.{HeadVar}
 use Rattle.ol_readback.specs.declared.answers.HeadVar.TheVariants as var
@@ -41,14 +41,14 @@ module _ (names : List (List ℕ)) (R whole : List ℕ) (rest : List ReadNode) (
 
   -- nothing is opened
   flat : (p : Part true) (Ls : List Layer) (n : ReadNode) (ns : List ReadNode) (rs' text' : List ℕ) (os' : List Open) (b : Bool) (x : List ℕ) → os ≡ opens_of Ls → os' ≡ os ++ [] → list_of Ls ≡ ns → rs' ≡ rs ++ t ∷ [] → rs ++ (t ∷ rounds_of Ls) ≡ R → AreBound (length rs + 1) Ls →
-      text' ≡ text ++ x → text ++ (left_bracket b ++ (text_of names R t p ++ (right_bracket b ++ texts_of names R Ls))) ≡ whole → x ≡ left_bracket b ++ (text_of names R t p ++ right_bracket b) → Prints names R whole ns text' rs' os'
+      text' ≡ text ++ x → text ++ (left_bracket b ++ (part_text names R t p ++ (right_bracket b ++ texts_of names R Ls))) ≡ whole → x ≡ left_bracket b ++ (part_text names R t p ++ right_bracket b) → Prints names R whole ns text' rs' os'
   flat p Ls n ns rs' text' os' b x s o l z r k w y q = record {
     layers = Ls;
     stack = o ∙ append-nil os ∙ s;
     listed = l;
     text_is =
         ap (λ (u : List ℕ). u ++ texts_of names R Ls) (w ∙ ap (λ (x : List ℕ). text ++ x) q)
-        ∙ sym (five text (left_bracket b) (text_of names R t p) (right_bracket b) (texts_of names R Ls)) ∙ y;
+        ∙ sym (five text (left_bracket b) (part_text names R t p) (right_bracket b) (texts_of names R Ls)) ∙ y;
     rounds_are = ap (λ (rs : List ℕ). rs ++ rounds_of Ls) z ∙ append_assoc rs (t ∷ []) (rounds_of Ls) ∙ r;
     bound = let m = length_push rs t in let j = ap length z in bound_more (length rs + 1) (length rs') Ls (omega arith) k;
   }
@@ -57,12 +57,12 @@ module _ (names : List (List ℕ)) (R whole : List ℕ) (rest : List ReadNode) (
   deep : (l : ℕ) (v : HeadVar) (ts : Part false) (c : ℕ) (ss : List (ℕ × ℕ)) (Ls : List Layer) (ns : List ReadNode) (rs' text' : List ℕ) (os' : List Open) (b : Bool) → count ts ≡ suc c → os ≡ opens_of Ls → os' ≡ os ++ record { left = suc c; binders = t + l; bracket = b } ∷ [] →
       preorder ts ++ list_of Ls ≡ ns → rs' ≡ rs ++ t ∷ [] → rs ++ (t ∷ (rounds (t + l) ts ++ rounds_of Ls)) ≡ R → IsBelow (length rs) ss → IsBound ((length rs, l) ∷ ss) (suc (length rs)) ts → AreBound (length rs + suc (length (preorder ts))) Ls →
       text' ≡ text ++ (left_bracket b ++ (abstractions names t l ++ variable names R v)) →
-      text ++ (left_bracket b ++ ((abstractions names t l ++ (variable names R v ++ text_of names R (t + l) ts)) ++ (right_bracket b ++ texts_of names R Ls))) ≡ whole → Prints names R whole ns text' rs' os'
+      text ++ (left_bracket b ++ ((abstractions names t l ++ (variable names R v ++ part_text names R (t + l) ts)) ++ (right_bracket b ++ texts_of names R Ls))) ≡ whole → Prints names R whole ns text' rs' os'
   deep l v ts c ss Ls ns rs' text' os' b d s o i z r k p h w y = record {
     layers = record { parts = ts; binders = t + l; bracket = b; scope = (length rs, l) ∷ ss } ∷ Ls;
     stack = o ∙ ap (λ (os : List Open). os ++ record { left = suc c; binders = t + l; bracket = b } ∷ []) s ∙ ap (λ (n : ℕ). opens_of Ls ++ record { left = n; binders = t + l; bracket = b } ∷ []) (sym d);
     listed = i;
-    text_is = ap (λ (u : List ℕ). u ++ (text_of names R (t + l) ts ++ (right_bracket b ++ texts_of names R Ls))) w ∙ shift text (left_bracket b) (abstractions names t l) (variable names R v) (text_of names R (t + l) ts) (right_bracket b ++ texts_of names R Ls) ∙ y;
+    text_is = ap (λ (u : List ℕ). u ++ (part_text names R (t + l) ts ++ (right_bracket b ++ texts_of names R Ls))) w ∙ shift text (left_bracket b) (abstractions names t l) (variable names R v) (part_text names R (t + l) ts) (right_bracket b ++ texts_of names R Ls) ∙ y;
     rounds_are = ap (λ (rs : List ℕ). rs ++ (rounds (t + l) ts ++ rounds_of Ls)) z ∙ append_assoc rs (t ∷ []) (rounds (t + l) ts ++ rounds_of Ls) ∙ r;
     bound =
         let m = length_push rs t in
@@ -82,7 +82,7 @@ module _ (names : List (List ℕ)) (R whole : List ℕ) (rest : List ReadNode) (
   place_prints a n ns rs' text' os' e z w o g = go a.part a.listed a.text_is a.rounds_are a.bound_part a.bound
     where
       go : (p : Part true) → preorder p ++ list_of a.layers ≡ rest →
-          ((b : Bool) → ((n : ReadNode) (ns : List ReadNode) → preorder p ≡ n ∷ ns → b ≡ wants_bracket argument n) → text ++ (left_bracket b ++ (text_of names R t p ++ (right_bracket b ++ texts_of names R a.layers))) ≡ whole) →
+          ((b : Bool) → ((n : ReadNode) (ns : List ReadNode) → preorder p ≡ n ∷ ns → b ≡ wants_bracket argument n) → text ++ (left_bracket b ++ (part_text names R t p ++ (right_bracket b ++ texts_of names R a.layers))) ≡ whole) →
           rs ++ (rounds t p ++ rounds_of a.layers) ≡ R → IsBound a.scope (length rs) p → AreBound (length rs + length (preorder p)) a.layers → Prints names R whole ns text' rs' os'
       go lost l y r k h =
           let q : node.NoHead ∷ list_of a.layers ≡ n ∷ ns = l ∙ e in
@@ -124,7 +124,7 @@ pub record Printing (names : List (List ℕ)) (nodes : List ReadNode) (place : �
   pub listed : preorder tree ≡ nodes
   pub ahead : Ahead names (rounds 0 tree) (text_of_tree names tree) (drop place nodes) text rs os t argument
 
-pub begin : (names : List (List ℕ)) (nodes : List ReadNode) → IsWhole nodes → Printing names nodes 0 [] [] [] 0 false
+pub begin : (names : List (List ℕ)) (nodes : List ReadNode) → IsWholeTree nodes → Printing names nodes 0 [] [] [] 0 false
 begin names nodes w = record {
   tree = w.tree;
   listed = w.is_list;
@@ -185,7 +185,7 @@ not_past names nodes place text rs os t argument p b = go p.ahead.part p.ahead.l
     go lost e = let z : node.NoHead ∷ list_of p.ahead.layers ≡ [] = e ∙ drop_all place nodes b in absurd (cc)
     go cut e = let z : node.Cut ∷ list_of p.ahead.layers ≡ [] = e ∙ drop_all place nodes b in absurd (cc)
 
-pub begin_at : (names : List (List ℕ)) (nodes : List ReadNode) (x rs : List ℕ) (os : List Open) → IsWhole nodes → x ≡ [] → rs ≡ [] → os ≡ [] → Printing names nodes 0 x rs os 0 false
+pub begin_at : (names : List (List ℕ)) (nodes : List ReadNode) (x rs : List ℕ) (os : List Open) → IsWholeTree nodes → x ≡ [] → rs ≡ [] → os ≡ [] → Printing names nodes 0 x rs os 0 false
 begin_at names nodes x rs os w a b c =
     subst (λ (x : List ℕ). Printing names nodes 0 x rs os 0 false) (sym a) (subst (λ (rs : List ℕ). Printing names nodes 0 [] rs os 0 false) (sym b)
     (subst (λ (os : List Open). Printing names nodes 0 [] [] os 0 false) (sym c) (begin names nodes w)))

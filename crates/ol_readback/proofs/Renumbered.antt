@@ -6,14 +6,14 @@ use Rattle.std.specs.Str.{bytes_eq}
 use Rattle.std.proofs.lemmas.Slice.Eq.{bytes_eq-Decides}
 use Rattle.ol_term.specs.Trees as tree
 use Rattle.ol_term.specs.Trees.{Tree}
-use Rattle.ol_term.specs.NameLists.{AreDifferent}
+use Rattle.ol_term.specs.NameLists.{NoNameTwice}
 use Rattle.ol_term.specs.BinderNames.{binder_name}
 use Rattle.ol_term.proofs.Binders.{binder_is_not_free, binders_differ}
 use Rattle.ol_term.specs.NameLists.{without}
 use Rattle.ol_term.proofs.BinderTexts.{not_same}
 use Rattle.ol_parse.specs.Grammar as grammar
 use Rattle.ol_parse.specs.Grammar.{Named, lams}
-use Rattle.ol_parse.specs.Numbered.{place_of, unbound, free_in, once, names_of, numbered, free_at, var_at}
+use Rattle.ol_parse.specs.Numbered.{position_of, unbound, free_in, once, names_of, numbered, free_at, var_at}
 use Rattle.ol_readback.specs.Whole.{Part, term, lost, cut, none, more, preorder}
 use Rattle.ol_readback.specs.Texts.{variable}
 use Rattle.ol_readback.specs.Terms.{abstracted, index_of, variable_of, meaning, AreAmong, term_of}
@@ -94,24 +94,24 @@ among_once : (names xs : List (List ℕ)) → AreAmong names xs → AreAmong nam
 among_once names [] h = tt
 among_once names (x ∷ xs) h = (h.0, among_without names x (once xs) (among_once names xs h.1))
 
-module _ (names : List (List ℕ)) (rs : List ℕ) (different : AreDifferent names) (few : length names < 2 ^ 32) where
-  name_found : (q : ℕ) → 1 ≤ q → q ≤ length names → place_of (get_or names (q - 1) []) names ≡ Some (q - 1)
+module _ (names : List (List ℕ)) (rs : List ℕ) (different : NoNameTwice names) (few : length names < 2 ^ 32) where
+  name_found : (q : ℕ) → 1 ≤ q → q ≤ length names → position_of (get_or names (q - 1) []) names ≡ Some (q - 1)
   name_found q low high =
       let here = get_some names (q - 1) (omega arith) in
       let n : 0 + (q - 1) ≡ q - 1 = omega arith in
       first_place names (get_or names (q - 1) []) (q - 1) 0 here (λ j l e. let s = different j (q - 1) (get_or names (q - 1) []) e here in absurd (omega arith)) ∙ ap (λ (n : ℕ). Some n) n
 
-  bound_found : (ss : List (ℕ × ℕ)) (t i j : ℕ) → t < 2 ^ 64 → 1 ≤ j → index_of ss i j + (get_or rs i 0 + j) ≡ t → place_of (binder_name names (get_or rs i 0 + (j - 1))) (scope names t) ≡ Some (index_of ss i j)
+  bound_found : (ss : List (ℕ × ℕ)) (t i j : ℕ) → t < 2 ^ 64 → 1 ≤ j → index_of ss i j + (get_or rs i 0 + j) ≡ t → position_of (binder_name names (get_or rs i 0 + (j - 1))) (scope names t) ≡ Some (index_of ss i j)
   bound_found ss t i j l first sum =
       let n : 0 + index_of ss i j ≡ index_of ss i j = omega arith in
       bound_at names t (get_or rs i 0 + (j - 1)) (index_of ss i j) 0 few l (omega arith) ∙ ap (λ (n : ℕ). Some n) n
 
   variable_numbered : (ss : List (ℕ × ℕ)) (t : ℕ) (v : HeadVar) → t < 2 ^ 64 → IsPlaced (length names) rs ss t v → numbered names (scope names t) (grammar.var (variable names rs v)) ≡ variable_of ss v
-  variable_numbered ss t (var.Bound i j) l p = ap (λ (o : Option ℕ). var_at o (place_of (binder_name names (get_or rs i 0 + (j - 1))) names)) (bound_found ss t i j l p.0 p.1)
+  variable_numbered ss t (var.Bound i j) l p = ap (λ (o : Option ℕ). var_at o (position_of (binder_name names (get_or rs i 0 + (j - 1))) names)) (bound_found ss t i j l p.0 p.1)
   variable_numbered ss t (var.Free q) l p =
       let low = p.0 in
       let high = p.1 in
-      ap (λ (o : Option ℕ). var_at o (place_of (get_or names (q - 1) []) names)) (free_none names (get_or names (q - 1) []) (q - 1) (get_some names (q - 1) (omega arith)) few t 0 l)
+      ap (λ (o : Option ℕ). var_at o (position_of (get_or names (q - 1) []) names)) (free_none names (get_or names (q - 1) []) (q - 1) (get_some names (q - 1) (omega arith)) few t 0 l)
       ∙ ap (λ (o : Option ℕ). free_at o) (name_found q low high)
 
   variable_free : (ss : List (ℕ × ℕ)) (t : ℕ) (v : HeadVar) → t < 2 ^ 64 → IsPlaced (length names) rs ss t v → AreAmong names (free_in (scope names t) (grammar.var (variable names rs v)))

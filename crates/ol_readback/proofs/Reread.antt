@@ -1,6 +1,6 @@
 -- What is printed is read back.
 use Rattle.std.proofs.Common.{◌≡◌, ℕ, ◌<◌, ◌^◌, List, [], length, true, refl, sym, ap, ◌∙◌, subst, arith, append-nil}
-use Rattle.ol_term.specs.NameLists.{AreDifferent}
+use Rattle.ol_term.specs.NameLists.{NoNameTwice}
 use Rattle.ol_parse.specs.Parsed.{AreNames}
 use Rattle.ol_readback.specs.Whole.{Part, preorder, IsBound}
 use Rattle.ol_readback.specs.Texts.{AreNamed, rounds, text_of_tree}
@@ -12,7 +12,7 @@ use Rattle.ol_readback.proofs.Scoped.{IsGood, good}
 use Rattle.ol_readback.proofs.Respelled.{tree_spelled}
 use Rattle.ol_readback.proofs.Renumbered.{tree_numbered, tree_free}
 
-tree_is_read : (names : List (List ℕ)) (t : Part true) → AreNames names → AreDifferent names → length names < 2 ^ 32 → length (text_of_tree names t) < 2 ^ 64 →
+tree_is_read : (names : List (List ℕ)) (t : Part true) → AreNames names → NoNameTwice names → length names < 2 ^ 32 → length (text_of_tree names t) < 2 ^ 64 →
     AreNamed (length names) (preorder t) → IsBound [] 0 t → HasAllHeads (preorder t) → IsReadAs names (text_of_tree names t) (term_of t)
 tree_is_read names t words different few short named bound all =
     let rs = rounds 0 t in

@@ -6,7 +6,7 @@ use Rattle.ol_parse.specs.Grammar.{Token, name, lambda, dot, open_bracket, close
 use Rattle.ol_parse.specs.Texts.{class_of, is_word, IsGap, gap_none, gap_blank, last_gap, IsToken, token_sign, IsName, Spells, spells_none, spells_one}
 use Rattle.ol_parse.specs.Parsed.{AreNames}
 use Rattle.ol_readback.specs.Whole.{Part, term, lost, cut, none, more, preorder}
-use Rattle.ol_readback.specs.Texts.{spaced, abstractions, variable, is_bare, bracketed, text_of}
+use Rattle.ol_readback.specs.Texts.{spaced, abstractions, variable, is_bare, bracketed, part_text}
 use Rattle.ol_readback.specs.declared.answers.HeadVar.{HeadVar}
 use Rattle.ol_readback.specs.declared.answers.HeadVar.TheVariants as var
 use Rattle.ol_readback.proofs.Grammatical.{binders, under, in_brackets, tokens}
@@ -85,36 +85,36 @@ variable_is_name names rs ss t (var.Free q) n h k p = let low = p.0 in let high 
 
 module _ (names : List (List ℕ)) (rs : List ℕ) (good : AreNames names) (few : length names < 2 ^ 32) where
   abbrev IsSpelled : {b : Bool} → ℕ → Part b → Type 0
-  IsSpelled {b = true} t p = (after : Bool) (g : List ℕ) → IsApart after g → (ks : List Token) (bs : List ℕ) → Spelled ks bs → Spells after (tokens names rs t p ++ ks) (g ++ (text_of names rs t p ++ bs))
-  IsSpelled {b = false} t p = (ks : List Token) (bs : List ℕ) → Spelled ks bs → Spelled (tokens names rs t p ++ ks) (text_of names rs t p ++ bs)
+  IsSpelled {b = true} t p = (after : Bool) (g : List ℕ) → IsApart after g → (ks : List Token) (bs : List ℕ) → Spelled ks bs → Spells after (tokens names rs t p ++ ks) (g ++ (part_text names rs t p ++ bs))
+  IsSpelled {b = false} t p = (ks : List Token) (bs : List ℕ) → Spelled ks bs → Spelled (tokens names rs t p ++ ks) (part_text names rs t p ++ bs)
 
-  argument : (bare : Bool) (t : ℕ) (u : Part true) → IsSpelled t u → (ks : List Token) (bs : List ℕ) → Spelled ks bs → Spelled (in_brackets bare (tokens names rs t u) ++ ks) (32 ∷ (bracketed bare (text_of names rs t u) ++ bs))
+  argument : (bare : Bool) (t : ℕ) (u : Part true) → IsSpelled t u → (ks : List Token) (bs : List ℕ) → Spelled ks bs → Spelled (in_brackets bare (tokens names rs t u) ++ ks) (32 ∷ (bracketed bare (part_text names rs t u) ++ bs))
   argument true t u each ks bs s = λ after. each after (32 ∷ []) (space, λ x. λ e. absurd (cc)) ks bs s
   argument false t u each ks bs s =
-      let inside : Spells false (tokens names rs t u ++ (close_bracket ∷ ks)) (text_of names rs t u ++ (41 ∷ bs)) = each false [] (gap_none, λ e. absurd (cc)) (close_bracket ∷ ks) (41 ∷ bs) (sign_token refl right s) in
-      let shift : text_of names rs t u ++ (41 ∷ bs) ≡ (text_of names rs t u ++ (41 ∷ [])) ++ bs = sym (append_assoc (text_of names rs t u) (41 ∷ []) bs) in
+      let inside : Spells false (tokens names rs t u ++ (close_bracket ∷ ks)) (part_text names rs t u ++ (41 ∷ bs)) = each false [] (gap_none, λ e. absurd (cc)) (close_bracket ∷ ks) (41 ∷ bs) (sign_token refl right s) in
+      let shift : part_text names rs t u ++ (41 ∷ bs) ≡ (part_text names rs t u ++ (41 ∷ [])) ++ bs = sym (append_assoc (part_text names rs t u) (41 ∷ []) bs) in
       let shift' : tokens names rs t u ++ (close_bracket ∷ ks) ≡ (tokens names rs t u ++ (close_bracket ∷ [])) ++ ks = sym (append_assoc (tokens names rs t u) (close_bracket ∷ []) ks) in
       λ after. subst (λ (x : List ℕ). Spells after (open_bracket ∷ ((tokens names rs t u ++ (close_bracket ∷ [])) ++ ks)) (32 ∷ (40 ∷ x))) shift
-      (subst (λ (x : List Token). Spells after (open_bracket ∷ x) (32 ∷ (40 ∷ (text_of names rs t u ++ (41 ∷ bs))))) shift' (spells_one {g = 32 ∷ []} space (λ x y. λ e. absurd (cc)) left inside))
+      (subst (λ (x : List Token). Spells after (open_bracket ∷ x) (32 ∷ (40 ∷ (part_text names rs t u ++ (41 ∷ bs))))) shift' (spells_one {g = 32 ∷ []} space (λ x y. λ e. absurd (cc)) left inside))
 
   spelled : {b : Bool} (p : Part b) (ss : List (ℕ × ℕ)) (i t : ℕ) → IsGood (length names) rs ss i t p → IsSpelled t p
   spelled (term l v ts) ss i t h = λ after g a ks bs s.
-      let rest : Spelled (tokens names rs (t + l) ts ++ ks) (text_of names rs (t + l) ts ++ bs) = spelled ts ((i, l) ∷ ss) (suc i) (t + l) h.2 ks bs s in
+      let rest : Spelled (tokens names rs (t + l) ts ++ ks) (part_text names rs (t + l) ts ++ bs) = spelled ts ((i, l) ∷ ss) (suc i) (t + l) h.2 ks bs s in
       let head = head_spelled names t l (variable names rs v) few h.0 (variable_is_name names rs ((i, l) ∷ ss) (t + l) v good few h.0 h.1) rest after g a in
-      let shift : abstractions names t l ++ (variable names rs v ++ (text_of names rs (t + l) ts ++ bs)) ≡ (abstractions names t l ++ (variable names rs v ++ text_of names rs (t + l) ts)) ++ bs =
-      ap (λ (y : List ℕ). abstractions names t l ++ y) (sym (append_assoc (variable names rs v) (text_of names rs (t + l) ts) bs)) ∙ sym (append_assoc (abstractions names t l) (variable names rs v ++ text_of names rs (t + l) ts) bs) in
+      let shift : abstractions names t l ++ (variable names rs v ++ (part_text names rs (t + l) ts ++ bs)) ≡ (abstractions names t l ++ (variable names rs v ++ part_text names rs (t + l) ts)) ++ bs =
+      ap (λ (y : List ℕ). abstractions names t l ++ y) (sym (append_assoc (variable names rs v) (part_text names rs (t + l) ts) bs)) ∙ sym (append_assoc (abstractions names t l) (variable names rs v ++ part_text names rs (t + l) ts) bs) in
       subst (λ (y : List ℕ). Spells after (tokens names rs t (term l v ts) ++ ks) (g ++ y)) shift
-      (subst (λ (y : List Token). Spells after y (g ++ (abstractions names t l ++ (variable names rs v ++ (text_of names rs (t + l) ts ++ bs))))) (sym (under_more names t l (name (variable names rs v) ∷ tokens names rs (t + l) ts) ks)) head)
+      (subst (λ (y : List Token). Spells after y (g ++ (abstractions names t l ++ (variable names rs v ++ (part_text names rs (t + l) ts ++ bs))))) (sym (under_more names t l (name (variable names rs v) ∷ tokens names rs (t + l) ts) ks)) head)
   spelled lost ss i t h = absurd h
   spelled cut ss i t h = absurd h
   spelled none ss i t h = λ ks bs s. s
   spelled (more u us) ss i t h = λ ks bs s.
-      let rest : Spelled (tokens names rs t us ++ ks) (text_of names rs t us ++ bs) = spelled us ss (i + length (preorder u)) t h.1 ks bs s in
-      let whole = argument (is_bare u) t u (spelled u ss i t h.0) (tokens names rs t us ++ ks) (text_of names rs t us ++ bs) rest in
-      λ after. subst (λ (y : List ℕ). Spells after (tokens names rs t (more u us) ++ ks) (32 ∷ y)) (sym (append_assoc (bracketed (is_bare u) (text_of names rs t u)) (text_of names rs t us) bs))
-      (subst (λ (y : List Token). Spells after y (32 ∷ (bracketed (is_bare u) (text_of names rs t u) ++ (text_of names rs t us ++ bs)))) (sym (append_assoc (in_brackets (is_bare u) (tokens names rs t u)) (tokens names rs t us) ks)) (whole after))
+      let rest : Spelled (tokens names rs t us ++ ks) (part_text names rs t us ++ bs) = spelled us ss (i + length (preorder u)) t h.1 ks bs s in
+      let whole = argument (is_bare u) t u (spelled u ss i t h.0) (tokens names rs t us ++ ks) (part_text names rs t us ++ bs) rest in
+      λ after. subst (λ (y : List ℕ). Spells after (tokens names rs t (more u us) ++ ks) (32 ∷ y)) (sym (append_assoc (bracketed (is_bare u) (part_text names rs t u)) (part_text names rs t us) bs))
+      (subst (λ (y : List Token). Spells after y (32 ∷ (bracketed (is_bare u) (part_text names rs t u) ++ (part_text names rs t us ++ bs)))) (sym (append_assoc (in_brackets (is_bare u) (tokens names rs t u)) (tokens names rs t us) ks)) (whole after))
 
-  pub tree_spelled : (t : Part true) → IsGood (length names) rs [] 0 0 t → Spells false (tokens names rs 0 t) (text_of names rs 0 t)
+  pub tree_spelled : (t : Part true) → IsGood (length names) rs [] 0 0 t → Spells false (tokens names rs 0 t) (part_text names rs 0 t)
   tree_spelled t h =
-      subst (λ (x : List ℕ). Spells false (tokens names rs 0 t) x) (append-nil (text_of names rs 0 t))
-      (subst (λ (x : List Token). Spells false x (text_of names rs 0 t ++ [])) (append-nil (tokens names rs 0 t)) (spelled t [] 0 0 h false [] (gap_none, λ e. absurd (cc)) [] [] (λ after. spells_none (last_gap gap_none))))
+      subst (λ (x : List ℕ). Spells false (tokens names rs 0 t) x) (append-nil (part_text names rs 0 t))
+      (subst (λ (x : List Token). Spells false x (part_text names rs 0 t ++ [])) (append-nil (tokens names rs 0 t)) (spelled t [] 0 0 h false [] (gap_none, λ e. absurd (cc)) [] [] (λ after. spells_none (last_gap gap_none))))

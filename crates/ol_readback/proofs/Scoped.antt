@@ -3,7 +3,7 @@ use Rattle.std.proofs.Common.{◌≡◌, ℕ, zero, suc, ◌+◌, ◌-◌, ◌<�
 use Rattle.std.proofs.lemmas.List.{length_push}
 use Rattle.ol_term.specs.BinderNames.{binder_name}
 use Rattle.ol_readback.specs.Whole.{Part, term, lost, cut, none, more, preorder, IsInScope, IsBound}
-use Rattle.ol_readback.specs.Texts.{AreNamed, IsNamedVar, rounds, spaced, abstractions, variable, is_bare, bracketed, text_of}
+use Rattle.ol_readback.specs.Texts.{AreNamed, IsNamedVar, rounds, spaced, abstractions, variable, is_bare, bracketed, part_text}
 use Rattle.ol_readback.specs.Terms.{HasAllHeads, index_of}
 use Rattle.ol_readback.specs.declared.answers.HeadVar.{HeadVar}
 use Rattle.ol_readback.specs.declared.answers.HeadVar.TheVariants as var
@@ -94,12 +94,12 @@ here_is (y ∷ before) after x (suc i) e = here_is before after x i (omega arith
 
 module _ (names : List (List ℕ)) (rs : List ℕ) where
   pub good : {b : Bool} (p : Part b) (ss : List (ℕ × ℕ)) (i t : ℕ) (before after : List ℕ) → IsBound ss i p → AreNamed (length names) (preorder p) → HasAllHeads (preorder p) → AreRound rs ss t → before ++ (rounds t p ++ after) ≡ rs → length before ≡ i →
-      t + length (text_of names rs t p) < 2 ^ 64 → IsGood (length names) rs ss i t p
+      t + length (part_text names rs t p) < 2 ^ 64 → IsGood (length names) rs ss i t p
   good (term l v ts) ss i t before after h n a r w e few =
       let here : get_or rs i 0 ≡ t = ap (λ (rs : List ℕ). get_or rs i 0) (sym w) ∙ here_is before (rounds (t + l) ts ++ after) t i e in
       let long = abstractions_long names t l in
-      let c = length-append (abstractions names t l) (variable names rs v ++ text_of names rs (t + l) ts) in
-      let d = length-append (variable names rs v) (text_of names rs (t + l) ts) in
+      let c = length-append (abstractions names t l) (variable names rs v ++ part_text names rs (t + l) ts) in
+      let d = length-append (variable names rs v) (part_text names rs (t + l) ts) in
       let round : AreRound rs ((i, l) ∷ ss) (t + l) = (ap (λ (n : ℕ). n + l) here, subst (AreRound rs ss) (sym here) r) in (
         omega arith,
         placed (length names) rs ((i, l) ∷ ss) (t + l) v round h.0 n.0,
@@ -109,8 +109,8 @@ module _ (names : List (List ℕ)) (rs : List ℕ) where
   good cut ss i t before after h n a r w e few = absurd a
   good none ss i t before after h n a r w e few = tt
   good (more u us) ss i t before after h n a r w e few =
-      let long = bracketed_long (is_bare u) (text_of names rs t u) in
-      let c = length-append (bracketed (is_bare u) (text_of names rs t u)) (text_of names rs t us) in
+      let long = bracketed_long (is_bare u) (part_text names rs t u) in
+      let c = length-append (bracketed (is_bare u) (part_text names rs t u)) (part_text names rs t us) in
       let d = length-append before (rounds t u) in
       let f = rounds_length t u in (
         good u ss i t before (rounds t us ++ after) h.0 (named_left (length names) (preorder u) (preorder us) n) (all_left (preorder u) (preorder us) a) r (ap (λ (x : List ℕ). before ++ x) (sym (append_assoc (rounds t u) (rounds t us) after)) ∙ w) e (omega arith),

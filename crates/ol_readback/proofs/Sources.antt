@@ -10,8 +10,8 @@ use Rattle.ol_readback.specs.Heads.{Answer, head, no_head, NoPath, IsHead, IsHea
 use Rattle.ol_readback.specs.Heads as heads
 use Rattle.ol_readback.specs.Sources.{HaveHeadsOf, NoHeadIsNoHead, PrintedHeads, MeetsRing}
 use Rattle.ol_readback.specs.Sources as sources
-use Rattle.ol_readback.specs.Trees.{Subterm, framed, Reads, IsTree, whole_term}
-use Rattle.ol_readback.specs.Trees as trees
+use Rattle.ol_readback.specs.ReadTrees.{Subterm, framed, ReadsBack, IsTree, whole_term}
+use Rattle.ol_readback.specs.ReadTrees as trees
 use Rattle.ol_readback.specs.declared.answers.Head.{Head}
 use Rattle.ol_readback.specs.declared.answers.Head.TheVariants as code
 use Rattle.ol_readback.specs.declared.answers.ReadNode.{ReadNode}
@@ -44,7 +44,7 @@ module _ {A B : Type 0} (N : NamedNet A) (M : NamedNet B) (same : HaveSamePaths 
   cuts F [] = sources.end
   cuts F (s ∷ ss) = sources.cut (cuts (F ++ framed s 0 ∷ []) ss)
 
-  pub read_heads : {F : List Frame} {ss : List Subterm} {ns : List ReadNode} → Reads M most edges F ss ns → HaveHeadsOf N lost_too F ss ns
+  pub read_heads : {F : List Frame} {ss : List Subterm} {ns : List ReadNode} → ReadsBack M most edges F ss ns → HaveHeadsOf N lost_too F ss ns
   read_heads trees.end = sources.end
   read_heads {F = F} {ss = ss} (trees.past b) = cuts F ss
   read_heads (trees.spent b h r) = sources.cut (read_heads r)

@@ -3,7 +3,7 @@ use Rattle.std.proofs.Common.{◌≡◌, ℕ, suc, ◌<◌, ◌≤◌, List, ref
 use Rattle.ol_net.specs.Nets.{NamedNet, free, IsNet}
 use Rattle.ol_context.specs.Contexts.{Level}
 use Rattle.ol_context.specs.Shapes.{context_of}
-use Rattle.ol_context.specs.OpenAnswers.{BreaksOff, AllBelowBreakOff, OpenExitsExactly, OpenStopsExactly, OpenStandsExactly}
+use Rattle.ol_context.specs.OpenWalkAnswers.{BreaksOff, AllBelowBreakOff, OpenExitsExactly, OpenStopsExactly, OpenStandsExactly}
 use Rattle.ol_context.specs.declared.answers.OpenWalk.{OpenWalk}
 use Rattle.ol_context.specs.declared.answers.OpenWalk.TheVariants as walk
 use Rattle.ol_context.proofs.Exits.{no_stop, no_stand_past}

@@ -13,8 +13,8 @@ use Rattle.ol_readback.specs.declared.answers.Head.TheVariants as head
 use Rattle.ol_readback.specs.declared.frames.Frame.{Frame}
 
 -- each answer comes exactly where frame i has it within so many crossings
-abbrev pub IsAnswer : Graph → List Level → List Frame → ℕ → ℕ → List Level → Head → Type 0
-IsAnswer g old fs i edges new h = (a : Answer) → (answer_of new h ≡ a) ↔ IsHeadWithin (net_of g) (frames_of old fs) i edges a
+abbrev pub IsAnswerOfAsking : Graph → List Level → List Frame → ℕ → ℕ → List Level → Head → Type 0
+IsAnswerOfAsking g old fs i edges new h = (a : Answer) → (answer_of new h ≡ a) ↔ IsHeadWithin (net_of g) (frames_of old fs) i edges a
 
 -- a head that was found is the head by paths of any length
 abbrev pub IsHeadIfFound : Graph → List Level → List Frame → ℕ → List Level → Head → Type 0

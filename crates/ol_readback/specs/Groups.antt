@@ -3,7 +3,7 @@ use Rattle.std.specs.Prelude.{◌≡◌, ℕ, ◌-◌, ◌<◌, List, [], ◌∷
 use Rattle.ol_context.specs.Contexts.{Level, empty, star}
 use Rattle.ol_context.specs.Shapes.{value, AreHeld, IsNumberOf}
 use Rattle.ol_readback.specs.Frames.{os}
-use Rattle.ol_readback.specs.Trees.{Subterm, arguments}
+use Rattle.ol_readback.specs.ReadTrees.{Subterm, arguments}
 use Rattle.ol_readback.specs.declared.frames.Frame.{Frame}
 use Rattle.ol_readback.specs.declared.groups.Group.{Group}
 

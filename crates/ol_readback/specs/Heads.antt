@@ -4,7 +4,7 @@ use Rattle.ol_net.specs.Nets.{NamedNet, free}
 use Rattle.ol_context.specs.Contexts.{Level, Context}
 use Rattle.ol_context.specs.Paths.{Path}
 use Rattle.ol_context.specs.Shapes.{value, AreHeld}
-use Rattle.ol_context.specs.Ways.{Exits, Stands}
+use Rattle.ol_context.specs.Ways.{Exits, WalkStands}
 pub use Rattle.ol_context.specs.Short.{live}
 use Rattle.ol_readback.specs.Frames.{Frame, frame_at, asked}
 use Rattle.ol_readback.specs.Matching.{Matches, MatchesNothing}
@@ -42,7 +42,7 @@ LeavesWithin N p c edges q X = (n : ℕ) × Exits N (free p) c edges q X n
 -- The walk neither leaves within edges crossings nor makes them all: one of them is not defined.
 pub record Fails {A : Type 0} (N : NamedNet A) (p : ℕ) (c : Context) (edges : ℕ) : Type 0 where
   pub stays : (q : ℕ) (X : Context) → LeavesWithin N p c edges q X → ⊥
-  pub breaks_off : Stands N (free p) c edges → ⊥
+  pub breaks_off : WalkStands N (free p) c edges → ⊥
 
 -- each try below n fails
 abbrev pub FailsBelow : {A : Type 0} → NamedNet A → Frame → ℕ → ℕ → Type 0
@@ -55,7 +55,7 @@ pub data IsHeadWithin {A : Type 0} (N : NamedNet A) (frames : List Frame) (i edg
       LeavesWithin N (frame_at frames i).port (asked (frame_at frames i).levels n) edges q X →
       IsMatched frames i n q X a → IsHeadWithin N frames i edges a
   spends : {n : ℕ} → n ≤ live N → FailsBelow N (frame_at frames i) edges n →
-      Stands N (free (frame_at frames i).port) (asked (frame_at frames i).levels n) edges → IsHeadWithin N frames i edges budget
+      WalkStands N (free (frame_at frames i).port) (asked (frame_at frames i).levels n) edges → IsHeadWithin N frames i edges budget
   never : FailsBelow N (frame_at frames i) edges (suc (live N)) → IsHeadWithin N frames i edges no_head
 
 -- what the code answers, its level values read from their holder

@@ -4,8 +4,8 @@ use Rattle.ol_net.specs.Nets.{NamedNet, IsNet}
 use Rattle.ol_context.specs.Paths.{HaveSamePaths}
 use Rattle.ol_readback.specs.Frames.{Frame}
 use Rattle.ol_readback.specs.Heads.{Answer, head, IsMatched, IsHead, IsHeadWithin}
-use Rattle.ol_readback.specs.Trees.{IsTree}
-use Rattle.ol_readback.specs.Whole.{IsWhole}
+use Rattle.ol_readback.specs.ReadTrees.{IsTree}
+use Rattle.ol_readback.specs.Whole.{IsWholeTree}
 use Rattle.ol_readback.specs.declared.answers.HeadVar.{HeadVar}
 use Rattle.ol_readback.specs.declared.answers.ReadNode.{ReadNode}
 use Rattle.ol_context.specs.Contexts.{Level, Context}
@@ -28,7 +28,7 @@ TreeIsOne A = (N : NamedNet A) → IsNet N → (heads edges : ℕ) (ns ms : List
 
 -- a tree is whole
 abbrev pub TreeIsWhole : Type 0 → Type 0
-TreeIsWhole A = (N : NamedNet A) (heads edges : ℕ) (ns : List ReadNode) → IsTree N heads edges ns → IsWhole ns
+TreeIsWhole A = (N : NamedNet A) (heads edges : ℕ) (ns : List ReadNode) → IsTree N heads edges ns → IsWholeTree ns
 
 -- equal paths give equal heads
 abbrev pub HeadsKept : Type 0 → Type 0 → Type 0

@@ -2,7 +2,7 @@ pub mod Frames
 pub mod Matching
 pub mod Heads
 pub mod Fitting
-pub mod Trees
+pub mod ReadTrees
 pub mod Whole
 pub mod Groups
 pub mod Reading

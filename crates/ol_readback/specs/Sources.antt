@@ -4,10 +4,10 @@ use Rattle.ol_net.specs.Nets.{NamedNet, free, IsNet}
 use Rattle.ol_context.specs.Contexts.{Level, Context}
 use Rattle.ol_context.specs.Paths.{Path, HaveSamePaths}
 use Rattle.ol_context.specs.Short.{HasNoFacing, live}
-use Rattle.ol_context.specs.Ways.{Stands}
+use Rattle.ol_context.specs.Ways.{WalkStands}
 use Rattle.ol_readback.specs.Frames.{Frame, asked}
 use Rattle.ol_readback.specs.Heads.{head, no_head, IsHead, IsHeadWithin, FailsBelow}
-use Rattle.ol_readback.specs.Trees.{Subterm, whole_term, framed, port_of, arguments, IsTree}
+use Rattle.ol_readback.specs.ReadTrees.{Subterm, whole_term, framed, port_of, arguments, IsTree}
 use Rattle.ol_readback.specs.declared.answers.HeadVar.{HeadVar}
 use Rattle.ol_readback.specs.declared.answers.ReadNode.{ReadNode}
 use Rattle.ol_readback.specs.declared.answers.ReadNode.TheVariants as node
@@ -49,4 +49,4 @@ PrintedHeads A B = (N : NamedNet A) (M : NamedNet B) → HaveSamePaths N M → I
 
 -- Some try goes on for ever, and each one before it fails.
 abbrev pub MeetsRing : {A : Type 0} → NamedNet A → Frame → ℕ → Type 0
-MeetsRing N f edges = (n : ℕ) × (n ≤ live N) × FailsBelow N f edges n × ((made : ℕ) → Stands N (free f.port) (asked f.levels n) made)
+MeetsRing N f edges = (n : ℕ) × (n ≤ live N) × FailsBelow N f edges n × ((made : ℕ) → WalkStands N (free f.port) (asked f.levels n) made)

@@ -4,7 +4,7 @@ use Rattle.ol_term.specs.Trees as tree
 use Rattle.ol_term.specs.Trees.{Tree}
 use Rattle.ol_parse.specs.Grammar.{Named}
 use Rattle.ol_parse.specs.Texts.{IsText}
-use Rattle.ol_parse.specs.Numbered.{place_of, names_of, numbered}
+use Rattle.ol_parse.specs.Numbered.{position_of, names_of, numbered}
 use Rattle.ol_readback.specs.Whole.{Part, term, lost, cut, none, more, preorder}
 use Rattle.ol_readback.specs.declared.answers.HeadVar.{HeadVar}
 use Rattle.ol_readback.specs.declared.answers.HeadVar.TheVariants as var
@@ -67,7 +67,7 @@ NoRedex (tree.app f a) = IsNoLam f × NoRedex f × NoRedex a
 -- each of these is one of the names
 abbrev pub AreAmong : List (List ℕ) → List (List ℕ) → Type 0
 AreAmong names [] = Unit {0}
-AreAmong names (x ∷ xs) = IsSome (place_of x names) × AreAmong names xs
+AreAmong names (x ∷ xs) = IsSome (position_of x names) × AreAmong names xs
 
 -- the bytes are a text of the grammar, its free names are among these, and by their places in this list its term is this one
 pub record IsReadAs (names : List (List ℕ)) (bytes : List ℕ) (t : Tree) : Type 0 where

@@ -56,15 +56,15 @@ abbrev pub bracketed : Bool → List ℕ → List ℕ
 bracketed bare text = if bare then text else 40 ∷ (text ++ 41 ∷ [])
 
 -- A part with t binders round it. A space stands before each argument. `?` is no head, and `...` is cut.
-abbrev pub text_of : {b : Bool} → List (List ℕ) → List ℕ → ℕ → Part b → List ℕ
-text_of names rs t (term l v ts) = abstractions names t l ++ (variable names rs v ++ text_of names rs (t + l) ts)
-text_of names rs t lost = 63 ∷ []
-text_of names rs t cut = 46 ∷ (46 ∷ (46 ∷ []))
-text_of names rs t none = []
-text_of names rs t (more u us) = 32 ∷ (bracketed (is_bare u) (text_of names rs t u) ++ text_of names rs t us)
+abbrev pub part_text : {b : Bool} → List (List ℕ) → List ℕ → ℕ → Part b → List ℕ
+part_text names rs t (term l v ts) = abstractions names t l ++ (variable names rs v ++ part_text names rs (t + l) ts)
+part_text names rs t lost = 63 ∷ []
+part_text names rs t cut = 46 ∷ (46 ∷ (46 ∷ []))
+part_text names rs t none = []
+part_text names rs t (more u us) = 32 ∷ (bracketed (is_bare u) (part_text names rs t u) ++ part_text names rs t us)
 
 abbrev pub text_of_tree : List (List ℕ) → Part true → List ℕ
-text_of_tree names t = text_of names (rounds 0 t) 0 t
+text_of_tree names t = part_text names (rounds 0 t) 0 t
 
 -- the text of a whole list of places
 pub record IsTextOf (names : List (List ℕ)) (ns : List ReadNode) (text : List ℕ) : Type 0 where

@@ -45,7 +45,7 @@ IsBound ss i none = Unit {0}
 IsBound ss i (more t ts) = IsBound ss i t × IsBound ss (i + length (preorder t)) ts
 
 -- the list is that of a whole tree
-pub record IsWhole (ns : List ReadNode) : Type 0 where
+pub record IsWholeTree (ns : List ReadNode) : Type 0 where
   pub tree : Part true
   pub is_list : preorder tree ≡ ns
   pub bound : IsBound [] 0 tree

@@ -5,7 +5,7 @@ ghost use Rattle.ol_context.specs.Shapes.{Extends};
 ghost use Rattle.ol_readback.specs.Frames.{frames_of, ParentsFirst, AreHeldFrames, AreAtPorts};
 ghost use Rattle.ol_readback.specs.Heads.{IsHeldHead};
 ghost use Rattle.ol_readback.specs.Skipping.{AreSkipsOf};
-ghost use Rattle.ol_readback.specs.Asking.{IsAnswer, IsHeadIfFound, IsLostIfNoHead, IsRingIfBudget, IsUnchangedUnlessFound};
+ghost use Rattle.ol_readback.specs.Asking.{IsAnswerOfAsking, IsHeadIfFound, IsLostIfNoHead, IsRingIfBudget, IsUnchangedUnlessFound};
 ghost use Rattle.ol_readback.specs.Searches.{IsAsked, KeepsFirst};
 
 use crate::answers::Head;
@@ -134,7 +134,7 @@ pub fn head_counted<L: Ledger>(
     requires frames { AreHeldFrames values.old frames.now.items }
     requires ports { AreAtPorts net.now.free frames.now.items }
     ensures answer { IfOk result
-        (IsAnswer net.now values.old frames.now.items at edges values.new) }
+        (IsAnswerOfAsking net.now values.old frames.now.items at edges values.new) }
     ensures found { IfOk result (IsHeadIfFound net.now values.old frames.now.items at values.new) }
     ensures lost { IfOk result (IsLostIfNoHead net.now values.old frames.now.items at) }
     ensures ring { IfOk result (IsRingIfBudget net.now values.old frames.now.items at edges) }
@@ -204,7 +204,7 @@ pub fn head(
     requires frames { AreHeldFrames values.old frames.now.items }
     requires ports { AreAtPorts net.now.free frames.now.items }
     ensures answer { IfOk result
-        (IsAnswer net.now values.old frames.now.items at edges values.new) }
+        (IsAnswerOfAsking net.now values.old frames.now.items at edges values.new) }
     ensures found { IfOk result (IsHeadIfFound net.now values.old frames.now.items at values.new) }
     ensures lost { IfOk result (IsLostIfNoHead net.now values.old frames.now.items at) }
     ensures ring { IfOk result (IsRingIfBudget net.now values.old frames.now.items at edges) }

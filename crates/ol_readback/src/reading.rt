@@ -8,7 +8,7 @@ ghost use Rattle.ol_context.specs.Short.{HasNoFacing};
 ghost use Rattle.ol_readback.specs.Frames.{frames_of};
 ghost use Rattle.ol_readback.specs.Skipping.{AreSkipsOf, HaveSkip, AreParentsFirst};
 ghost use Rattle.ol_readback.specs.Texts.{AreNamed};
-ghost use Rattle.ol_readback.specs.Trees.{IsTree, port_of};
+ghost use Rattle.ol_readback.specs.ReadTrees.{IsTree, port_of};
 ghost use Rattle.ol_readback.specs.Groups.{AreHeldIn, ArePlacedIn, IsNextFrame};
 ghost use Rattle.ol_readback.specs.Sources.{HasHeadsOf};
 ghost use Rattle.ol_readback.specs.Reading.{IsFrameList, IsKnown, IsRead, cuts_of};

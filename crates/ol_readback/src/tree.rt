@@ -17,23 +17,23 @@ pub struct ReadTree {
 
 impl Model for ReadTree {
     ghost use Rattle.std.specs.Prelude.{List, ◌^◌, ◌<◌, length};
-    ghost use Rattle.ol_readback.specs.Whole.{IsWhole};
+    ghost use Rattle.ol_readback.specs.Whole.{IsWholeTree};
     ghost use Rattle.ol_readback.specs.declared.answers.ReadNode.{ReadNode};
 
     ghost Value = { List ReadNode };
 
     ghost view = { λ a. a.nodes.items };
 
-    ghost invariant = { λ a. IsWhole a.nodes.items × (length a.nodes.items < 2 ^ 32) };
+    ghost invariant = { λ a. IsWholeTree a.nodes.items × (length a.nodes.items < 2 ^ 32) };
 }
 
 impl ReadTree {
-    ghost use Rattle.ol_readback.specs.Whole.{IsWhole};
+    ghost use Rattle.ol_readback.specs.Whole.{IsWholeTree};
 
     /// The tree with these places. The list is whole, and has fewer than 4294967296 places. Takes
     /// no memory.
     pub fn of(nodes: Vec<ReadNode>) -> ReadTree
-        requires whole { IsWhole nodes.items }
+        requires whole { IsWholeTree nodes.items }
         requires few { vec_len nodes < 2 ^ 32 }
         ensures { result ≡ nodes.items }
     {
@@ -62,7 +62,7 @@ impl ReadTree {
 
     /// Law: the list is whole.
     pub fn is_whole(&self)
-        ensures whole { IsWhole self.now }
+        ensures whole { IsWholeTree self.now }
         ensures few { length self.now < 2 ^ 32 }
     {
         let _ = &self.nodes;

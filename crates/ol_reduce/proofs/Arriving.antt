@@ -10,10 +10,10 @@ use Rattle.ol_net.proofs.Tables.{length-linked}
 use Rattle.ol_rules.specs.declared.journal.NodeName.{NodeName}
 use Rattle.ol_wire.specs.declared.layout.Parts.{Parts}
 use Rattle.ol_wire.specs.References.{kind_in, index_in, place_in}
-use Rattle.ol_wire.specs.Layout.{block, place_of, size, start_cell, born_cell, left_word, cells_of, IsPlaced}
+use Rattle.ol_wire.specs.Layout.{block, place_of, table_size, start_cell, born_cell, left_word, cells_of, IsPlaced}
 use Rattle.ol_wire.specs.Stands.{IsEnd}
 use Rattle.ol_wire.specs.Closed.{ClosedTable, events_in, IsAfter}
-use Rattle.ol_wire.specs.Standing.{is_reached_in, StandsFor}
+use Rattle.ol_wire.specs.Standing.{is_reached_in, WordsStandFor}
 use Rattle.ol_wire.proofs.Places.{part_cell, place_before}
 use Rattle.ol_wire.proofs.Claimed.{wider}
 use Rattle.ol_reduce.specs.Left.{ranks_in, IsLeft, AreLeft}
@@ -25,9 +25,9 @@ use Rattle.ol_reduce.proofs.Meeting.{left_node, right_node, cell_linked}
 use Rattle.ol_reduce.proofs.Bounded.{events_few}
 
 abbrev pub Told : ClosedTable → Type 0
-Told w = (net : NamedNet NodeName) × IsAfter w net × StandsFor w net (is_reached_in w)
+Told w = (net : NamedNet NodeName) × IsAfter w net × WordsStandFor w net (is_reached_in w)
 
-pub small_of : (w : ClosedTable) → Told w → size w.plan.parts ≤ 100000000
+pub small_of : (w : ClosedTable) → Told w → table_size w.plan.parts ≤ 100000000
 small_of w t = omega (arith, t.2.small.free, t.2.small.nodes, t.2.small.wires, t.2.small.cells, t.2.small.fuel)
 
 -- a cell that isn't in use is behind the words in use
@@ -124,7 +124,7 @@ module _ (w : ClosedTable) (places numbers : List ℕ) (left_are : AreLeft w (ra
       q1 : slice_index w.words (suc (left_word z cell)) ≡ right
       q1 = ap (slice_index w.words) (let h : suc (left_word z cell) ≡ at + 1 = omega (arith, is) in h) ∙ sym g
 
-      link : (N : NamedNet NodeName) (reached : ℕ → Bool) (s : StandsFor w N reached) → Linked N (port_of z places one) (port_of z places two)
+      link : (N : NamedNet NodeName) (reached : ℕ → Bool) (s : WordsStandFor w N reached) → Linked N (port_of z places one) (port_of z places two)
       link N reached s =
           cell_linked w places numbers left_are N reached s (left_word z cell) (part_cell z cell low).0 (λ h. f (sym q0 ∙ h)) (port_of z places one) (port_of z places two)
           (subst (λ v. IsEnd z N (port_of z places one) v) (sym q0) (s1 N reached s).0) (subst (λ v. IsEnd z N (port_of z places two) v) (sym q1) (s2 N reached s).0)

@@ -6,12 +6,12 @@ use Rattle.ol_edges.specs.Edges.{IsIn, ends}
 use Rattle.ol_net.specs.Nets.{NamedPort, NamedNet}
 use Rattle.ol_rules.specs.declared.journal.NodeName.{NodeName}
 use Rattle.ol_wire.specs.declared.layout.Parts.{Parts}
-use Rattle.ol_wire.specs.References.{wire_ref, place_in, IsWireRef, IsRef, IsWhole}
-use Rattle.ol_wire.specs.Layout.{Part, ticket, port, field, wire, between, left, right, entry, past, part_of, place_of, size, block, port_word}
+use Rattle.ol_wire.specs.References.{wire_ref, place_in, IsWireRef, IsRef, IsWholeRef}
+use Rattle.ol_wire.specs.Layout.{WordPart, ticket, port, field, wire, between, left, right, entry, past, part_of_word, place_of, table_size, block, port_word}
 use Rattle.ol_wire.specs.Edges.{edge_in, edges_in}
 use Rattle.ol_wire.specs.Stands.{IsEnd, of_port, principal, auxiliary, IsWireEnd}
 use Rattle.ol_wire.specs.Closed.{ClosedTable, events_in}
-use Rattle.ol_wire.specs.Standing.{StandsFor, IsWirePart}
+use Rattle.ol_wire.specs.Standing.{WordsStandFor, IsWirePart}
 use Rattle.ol_wire.proofs.References.{node_sort, slot_sort}
 use Rattle.ol_wire.proofs.Places.{part_port}
 use Rattle.ol_wire.proofs.Claimed.{EdgeAt, at_wire, at_field, at_cell, edge_at}
@@ -54,7 +54,7 @@ pigeon (suc m) (suc n) f low apart = let ih = pigeon m n g g_low g_apart in omeg
 
 -- ---- a wire's own edge
 
-wire_row : (net : NamedNet NodeName) (at : Part) (n word next : ℕ) → IsWirePart at → word ≢ 0 → IsIn {X = ℕ × ℕ} (wire_ref n, word) (edge_in net true at n word next)
+wire_row : (net : NamedNet NodeName) (at : WordPart) (n word next : ℕ) → IsWirePart at → word ≢ 0 → IsIn {X = ℕ × ℕ} (wire_ref n, word) (edge_in net true at n word next)
 wire_row net (wire j) n word next h f = subst (λ b. IsIn {X = ℕ × ℕ} (wire_ref n, word) (if b then [] else (wire_ref n, word) ∷ [])) (sym (ne_eqb word 0 f)) (inl refl)
 wire_row net (between t q p) n word next h f = subst (λ b. IsIn {X = ℕ × ℕ} (wire_ref n, word) (if b then [] else (wire_ref n, word) ∷ [])) (sym (ne_eqb word 0 f)) (inl refl)
 wire_row net ticket n word next h f = elim h [ ]
@@ -71,7 +71,7 @@ events_few z words = elim (cases_lt (slice_index words 0) z.fuel) [
   | inr ge ↦ let e : nat_lt (slice_index words 0) z.fuel ≡ false = grind (arith, nat_tests) in let q : events_in z words ≡ z.fuel = ap (λ b. if b then slice_index words 0 else z.fuel) e in omega (arith, q)
 ]
 
-module _ (w : ClosedTable) (N : NamedNet NodeName) (reached : ℕ → Bool) (s : StandsFor w N reached) where
+module _ (w : ClosedTable) (N : NamedNet NodeName) (reached : ℕ → Bool) (s : WordsStandFor w N reached) where
   abbrev z : Parts
   z = w.plan.parts
 
@@ -105,19 +105,19 @@ module _ (w : ClosedTable) (N : NamedNet NodeName) (reached : ℕ → Bool) (s :
   -- two different words hold v
   held_twice : (n m e f v : ℕ) → Owns n e → Owns m f → word n ≡ v → word m ≡ v → n ≢ m → 2 ≤ seconds v (es w N reached s)
   held_twice n m e f v o p a b d = elim (cases_lt n m) [
-    | inl lt ↦ omega (arith, two_rows v n m (size z) lt p.within, row_second n e v o a, row_second m f v p b)
-    | inr ge ↦ omega (arith, two_rows v m n (size z) (omega (arith, ge, d)) o.within, row_second n e v o a, row_second m f v p b)
+    | inl lt ↦ omega (arith, two_rows v n m (table_size z) lt p.within, row_second n e v o a, row_second m f v p b)
+    | inr ge ↦ omega (arith, two_rows v m n (table_size z) (omega (arith, ge, d)) o.within, row_second n e v o a, row_second m f v p b)
   ]
 
   -- ---- what a chain leads to
 
   pub owner_behind : (n e : ℕ) → Owns n e → 0 < n
   owner_behind n e o = elim (cases_eq n 0) [
-    | inl q ↦ absurd (go (edge_at N (reached n) (part_of z n) n (word n) (word (suc n)) e (word n) o.edge) (ap (part_of z) q))
+    | inl q ↦ absurd (go (edge_at N (reached n) (part_of_word z n) n (word n) (word (suc n)) e (word n) o.edge) (ap (part_of_word z) q))
     | inr d ↦ omega (arith, d)
   ]
     where
-      go : EdgeAt (part_of z n) n (word n) (word (suc n)) e (word n) → part_of z n ≡ ticket → ⊥
+      go : EdgeAt (part_of_word z n) n (word n) (word (suc n)) e (word n) → part_of_word z n ≡ ticket → ⊥
       go (at_wire p a b f) t = p t
       go (at_field x c p a b f) t = let bad : field x c ≡ ticket = sym p ∙ t in cc
       go (at_cell p a b f) t = let bad : left ≡ ticket = sym p ∙ t in cc
@@ -127,11 +127,11 @@ module _ (w : ClosedTable) (N : NamedNet NodeName) (reached : ℕ → Bool) (s :
   last_word e t (more n o g) = last_word (word n) t g
 
   -- it is a whole reference to something that was made
-  pub led_ref : (e t : ℕ) → Goes e t → IsRef t × IsWhole t × (place_in t < size z)
+  pub led_ref : (e t : ℕ) → Goes e t → IsRef t × IsWholeRef t × (place_in t < table_size z)
   led_ref e t g =
       let l = last_word e t g in
       let r = s.refs l.0 (owner_behind l.0 l.1 l.2) l.2.filled in
-      let q = subst (λ t. IsRef t × IsWhole t × (place_in t < block z (events_in z w.words))) l.3 r in
+      let q = subst (λ t. IsRef t × IsWholeRef t × (place_in t < block z (events_in z w.words))) l.3 r in
       (q.0, q.1, omega (arith, q.2, events_few z w.words))
 
   -- which has its place among the words in use
@@ -139,7 +139,7 @@ module _ (w : ClosedTable) (N : NamedNet NodeName) (reached : ℕ → Bool) (s :
   led_used e t g =
       let l = last_word e t g in
       let r = s.refs l.0 (owner_behind l.0 l.1 l.2) l.2.filled in
-      (subst (λ t. IsRef t × IsWhole t × (place_in t < block z (events_in z w.words))) l.3 r).2
+      (subst (λ t. IsRef t × IsWholeRef t × (place_in t < block z (events_in z w.words))) l.3 r).2
 
   pub led_ends : (e t : ℕ) → Goes e t → 0 < ends nat_eq t (es w N reached s)
   led_ends e t g =
@@ -167,10 +167,10 @@ module _ (w : ClosedTable) (N : NamedNet NodeName) (reached : ℕ → Bool) (s :
           a_wire (t.2 ∙ ap wire_ref q) (subst (λ u. reached u ≡ true) q t.1)
 
   -- the words up to the last free port are no wires
-  pub no_wire_below : (u : ℕ) → u ≤ z.free → IsWirePart (part_of z u) → ⊥
+  pub no_wire_below : (u : ℕ) → u ≤ z.free → IsWirePart (part_of_word z u) → ⊥
   no_wire_below u le h = elim (cases_eq u 0) [
-    | inl q ↦ subst (λ u. IsWirePart (part_of z u)) q h
-    | inr d ↦ let e : u ≡ port_word (u - 1) = omega (arith, d) in subst IsWirePart (part_port z (u - 1) (omega (arith, le, d))) (subst (λ u. IsWirePart (part_of z u)) e h)
+    | inl q ↦ subst (λ u. IsWirePart (part_of_word z u)) q h
+    | inr d ↦ let e : u ≡ port_word (u - 1) = omega (arith, d) in subst IsWirePart (part_port z (u - 1) (omega (arith, le, d))) (subst (λ u. IsWirePart (part_of_word z u)) e h)
   ]
 
   pub passed_wire : (e v : ℕ) → Goes e v → IsPassed w v → (v ≡ wire_ref (place_in v)) × (reached (place_in v) ≡ true)
@@ -183,12 +183,12 @@ module _ (w : ClosedTable) (N : NamedNet NodeName) (reached : ℕ → Bool) (s :
   pub passed_owns : (e v : ℕ) → Goes e v → IsPassed w v → Owns (place_in v) v
   passed_owns e v g h =
       let t = passed_wire e v g h in
-      let i = wire_row N (part_of z (place_in v)) (place_in v) (word (place_in v)) (word (suc (place_in v))) (s.wires (place_in v) t.1) h.2 in
+      let i = wire_row N (part_of_word z (place_in v)) (place_in v) (word (place_in v)) (word (suc (place_in v))) (s.wires (place_in v) t.1) h.2 in
       record {
         within = (led_ref e v g).2;
         filled = h.2;
         end = inl t.0;
-        edge = subst (λ b. IsIn {X = ℕ × ℕ} (v, word (place_in v)) (edge_in N b (part_of z (place_in v)) (place_in v) (word (place_in v)) (word (suc (place_in v))))) (sym t.1) (subst (λ u. IsIn {X = ℕ × ℕ} (u, word (place_in v)) (edge_in N true (part_of z (place_in v)) (place_in v) (word (place_in v)) (word (suc (place_in v))))) (sym t.0) i);
+        edge = subst (λ b. IsIn {X = ℕ × ℕ} (v, word (place_in v)) (edge_in N b (part_of_word z (place_in v)) (place_in v) (word (place_in v)) (word (suc (place_in v))))) (sym t.1) (subst (λ u. IsIn {X = ℕ × ℕ} (u, word (place_in v)) (edge_in N true (part_of_word z (place_in v)) (place_in v) (word (place_in v)) (word (suc (place_in v))))) (sym t.0) i);
       }
 
   module _ (e first : ℕ) (start : IsStart w N reached e first) where
@@ -236,14 +236,14 @@ module _ (w : ClosedTable) (N : NamedNet NodeName) (reached : ℕ → Bool) (s :
       apart i zero lt ltk q = absurd (omega arith)
       apart zero (suc j) lt ltk q =
           let t = passed_wire e (value j) (goes j (omega arith)) (passed j (omega arith)) in
-          start.no_wire (subst (λ n. IsWirePart (part_of z n)) (sym (one_source 0 (suc j) (omega arith) ltk q)) (s.wires (place_in (value j)) t.1))
+          start.no_wire (subst (λ n. IsWirePart (part_of_word z n)) (sym (one_source 0 (suc j) (omega arith) ltk q)) (s.wires (place_in (value j)) t.1))
       apart (suc i) (suc j) lt ltk q = apart i j (omega arith) (omega arith) (one_source (suc i) (suc j) (omega arith) ltk q)
 
-      pub few : k < size z
+      pub few : k < table_size z
       few =
-          let h = pigeon (size z - 1) k (λ j. place_in (value j) - 1) low differ in omega (arith, h)
+          let h = pigeon (table_size z - 1) k (λ j. place_in (value j) - 1) low differ in omega (arith, h)
         where
-          low : (j : ℕ) → j < k → place_in (value j) - 1 < size z - 1
+          low : (j : ℕ) → j < k → place_in (value j) - 1 < table_size z - 1
           low j lt = omega (arith, (passed j lt).1, (led_ref e (value j) (goes j lt)).2)
 
           differ : (i j : ℕ) → i < j → j < k → place_in (value i) - 1 ≢ place_in (value j) - 1

@@ -12,7 +12,7 @@ use Rattle.ol_net.specs.Pairing.{other}
 use Rattle.ol_net.specs.Graph.{has_port, place, port_at, IsTabled}
 use Rattle.ol_net.specs.Build.{BadPortAt, TwiceAt, HasEnd, link_at, IsLoose, FaultIs, all_live}
 use Rattle.ol_net.proofs.Places.{place-port_at, port_at-place, place-within}
-use Rattle.ol_reduce.specs.Drafts.{frozen_top, link_row, links_below, IsComplete}
+use Rattle.ol_reduce.specs.Drafts.{frozen_top, link_row, links_below, IsFullDraft}
 
 -- ---- where an element of a list stands
 
@@ -112,7 +112,7 @@ module _ (free : ℕ) (partners : List ℕ) where
   same_place : (a b : ℕ) → port_at free a ≡ port_at free b → a ≡ b
   same_place a b e = sym (place-port_at free a) ∙ ap (place free) e ∙ place-port_at free b
 
-  module _ (kinds : List (Kind × ℕ)) (whole : IsComplete free kinds partners) where
+  module _ (kinds : List (Kind × ℕ)) (whole : IsFullDraft free kinds partners) where
     abbrev size : ℕ
     size = length partners
 

@@ -17,11 +17,11 @@ use Rattle.ol_wire.proofs.ClosingCells.{cell_word}
 use Rattle.ol_wire.proofs.Claimed.{ends_found}
 use Rattle.ol_wire.specs.Stands.{IsEnd}
 use Rattle.ol_wire.specs.Closed.{ClosedTable}
-use Rattle.ol_wire.specs.Standing.{StandsFor}
+use Rattle.ol_wire.specs.Standing.{WordsStandFor}
 use Rattle.ol_wire.proofs.References.{node_sort, wire_sort, slot_sort}
 use Rattle.ol_reduce.specs.Left.{ranks_in, AreLeft}
 use Rattle.ol_reduce.specs.Following.{OwnsWord, LeadsTo}
-use Rattle.ol_reduce.specs.Drafts.{frozen_top, IsComplete}
+use Rattle.ol_reduce.specs.Drafts.{frozen_top, IsFullDraft}
 use Rattle.ol_reduce.specs.Found.{name_of, port_of, kind_of, IsPartial, WaitsAt, AreMet, AreCelled}
 use Rattle.ol_reduce.proofs.Forward.{IsSink, linked_goes, linked_meets, one_sink, owner_of, port_no_wire, owner_no_node, EdgeIs, owned, celled, edge_is, es}
 use Rattle.ol_reduce.proofs.Bounded.{owner_behind, events_few}
@@ -39,7 +39,7 @@ kind_past [] n k h = absurd (let bad : None ≡ Some k = h in cc)
 kind_past (o ∷ kinds) zero k h = omega arith
 kind_past (o ∷ kinds) (suc n) k h = omega (arith, kind_past kinds n k h)
 
-module _ (w : ClosedTable) (places numbers : List ℕ) (left_are : AreLeft w (ranks_in w) places numbers) (N : NamedNet NodeName) (reached : ℕ → Bool) (s : StandsFor w N reached)
+module _ (w : ClosedTable) (places numbers : List ℕ) (left_are : AreLeft w (ranks_in w) places numbers) (N : NamedNet NodeName) (reached : ℕ → Bool) (s : WordsStandFor w N reached)
     (kinds : List (Kind × ℕ)) (partners met : List ℕ) (whole : IsPartial w N places kinds partners) (are : AreMet w N reached places partners met (length partners)) (cells_are : AreCelled w N places partners (cells_of w.plan.parts)) where
   abbrev z : Parts
   z = w.plan.parts
@@ -245,5 +245,5 @@ module _ (w : ClosedTable) (places numbers : List ℕ) (left_are : AreLeft w (ra
       past_index (k ∷ kinds) zero le t = omega (arith, le)
       past_index (k ∷ kinds) (suc n) le t = past_index kinds n (omega arith) t
 
-  pub is_complete : IsComplete z.free kinds partners
+  pub is_complete : IsFullDraft z.free kinds partners
   is_complete = record { tabled = tabled; indexes = indexes }

@@ -6,11 +6,11 @@ use Rattle.ol_net.specs.Nets.{NamedPort, NamedNet, Linked}
 use Rattle.ol_rules.specs.declared.journal.NodeName.{NodeName}
 use Rattle.ol_wire.specs.declared.layout.Parts.{Parts}
 use Rattle.ol_wire.specs.References.{wire_ref, slot_ref, IsNodeRef}
-use Rattle.ol_wire.specs.Layout.{left, part_of, size}
+use Rattle.ol_wire.specs.Layout.{left, part_of_word, table_size}
 use Rattle.ol_wire.specs.Edges.{edges_in}
 use Rattle.ol_wire.specs.Stands.{IsEnd, IsWireEnd}
 use Rattle.ol_wire.specs.Closed.{ClosedTable}
-use Rattle.ol_wire.specs.Standing.{StandsFor}
+use Rattle.ol_wire.specs.Standing.{WordsStandFor}
 use Rattle.ol_reduce.specs.Following.{OwnsWord, LeadsTo, last, more}
 use Rattle.ol_wire.proofs.EdgeList.{word_edge, edge_there, edge_found}
 use Rattle.ol_wire.proofs.Claimed.{EdgeAt, at_wire, at_field, at_cell, edge_at, same_bit}
@@ -42,7 +42,7 @@ pub seconds_append : (e : ℕ) (es fs : List (ℕ × ℕ)) → seconds e (es ++ 
 seconds_append e [] fs = omega arith
 seconds_append e (d ∷ es) fs = omega (arith, seconds_append e es fs)
 
-module _ (w : ClosedTable) (N : NamedNet NodeName) (reached : ℕ → Bool) (s : StandsFor w N reached) where
+module _ (w : ClosedTable) (N : NamedNet NodeName) (reached : ℕ → Bool) (s : WordsStandFor w N reached) where
   abbrev pub z : Parts
   z = w.plan.parts
 
@@ -53,7 +53,7 @@ module _ (w : ClosedTable) (N : NamedNet NodeName) (reached : ℕ → Bool) (s :
   row n = word_edge z N reached w.words n
 
   abbrev pub es : List (ℕ × ℕ)
-  es = edges_in z N reached w.words (size z)
+  es = edges_in z N reached w.words (table_size z)
 
   abbrev pub Owns : ℕ → ℕ → Type 0
   Owns n e = OwnsWord w N reached n e
@@ -62,7 +62,7 @@ module _ (w : ClosedTable) (N : NamedNet NodeName) (reached : ℕ → Bool) (s :
   Goes e t = LeadsTo w N reached e t
 
   pub own_edge : (n e : ℕ) → Owns n e → IsIn {X = ℕ × ℕ} (e, word n) es
-  own_edge n e o = edge_there z N reached w.words (size z) n (e, word n) o.within o.edge
+  own_edge n e o = edge_there z N reached w.words (table_size z) n (e, word n) o.within o.edge
 
   pub one_owned : (n m e : ℕ) → Owns n e → Owns m e → n ≡ m
   one_owned n m e o p = go o.end p.end
@@ -83,14 +83,14 @@ module _ (w : ClosedTable) (N : NamedNet NodeName) (reached : ℕ → Bool) (s :
   -- an edge is that of an owner, or that of a cell
   pub data EdgeIs (a b : ℕ) : Type 0 where
     owned : (n : ℕ) → Owns n a → b ≡ word n → EdgeIs a b
-    celled : (n : ℕ) → part_of z n ≡ left → word n ≢ 0 → a ≡ word n → b ≡ word (suc n) → EdgeIs a b
+    celled : (n : ℕ) → part_of_word z n ≡ left → word n ≢ 0 → a ≡ word n → b ≡ word (suc n) → EdgeIs a b
 
   pub edge_is : (a b : ℕ) → IsIn {X = ℕ × ℕ} (a, b) es → EdgeIs a b
   edge_is a b h =
-      let t = edge_found z N reached w.words (size z) (a, b) h in
-      go t.0 t.1 t.2 (edge_at N (reached t.0) (part_of z t.0) t.0 (word t.0) (word (suc t.0)) a b t.2)
+      let t = edge_found z N reached w.words (table_size z) (a, b) h in
+      go t.0 t.1 t.2 (edge_at N (reached t.0) (part_of_word z t.0) t.0 (word t.0) (word (suc t.0)) a b t.2)
     where
-      go : (n : ℕ) → n < size z → IsIn {X = ℕ × ℕ} (a, b) (row n) → EdgeAt (part_of z n) n (word n) (word (suc n)) a b → EdgeIs a b
+      go : (n : ℕ) → n < table_size z → IsIn {X = ℕ × ℕ} (a, b) (row n) → EdgeAt (part_of_word z n) n (word n) (word (suc n)) a b → EdgeIs a b
       go n lt i (at_wire p e q f) = owned n (record { within = lt; filled = f; end = inl e; edge = subst (λ y. IsIn {X = ℕ × ℕ} (a, y) (row n)) q i }) q
       go n lt i (at_field x c p e q f) = owned n (record { within = lt; filled = f; end = inr e; edge = subst (λ y. IsIn {X = ℕ × ℕ} (a, y) (row n)) q i }) q
       go n lt i (at_cell p e q f) = celled n p f e q
@@ -106,7 +106,7 @@ module _ (w : ClosedTable) (N : NamedNet NodeName) (reached : ℕ → Bool) (s :
   -- where chains end: t owns no word and stands in no cell
   pub record IsSink (t : ℕ) : Type 0 where
     pub owns_none : (n : ℕ) → Owns n t → ⊥
-    pub no_cell : (n : ℕ) → part_of z n ≡ left → word n ≢ 0 → (word n ≢ t) × (word (suc n) ≢ t)
+    pub no_cell : (n : ℕ) → part_of_word z n ≡ left → word n ≢ 0 → (word n ≢ t) × (word (suc n) ≢ t)
 
   -- what is joined to such an end goes there
   pub basin : (t v : ℕ) → IsSink t → Joined (EdgeOf es) t v → (v ≡ t) ⊎ Goes v t

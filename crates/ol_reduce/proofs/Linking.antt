@@ -14,7 +14,7 @@ use Rattle.ol_wire.specs.References.{node_ref, wire_ref, slot_ref, kind_in, inde
 use Rattle.ol_wire.specs.Layout.{place_of, port_word}
 use Rattle.ol_wire.specs.Stands.{IsEnd, of_port, principal, auxiliary, IsWireEnd}
 use Rattle.ol_wire.specs.Closed.{ClosedTable, events_in}
-use Rattle.ol_wire.specs.Standing.{StandsFor}
+use Rattle.ol_wire.specs.Standing.{WordsStandFor}
 use Rattle.ol_wire.proofs.References.{kind_of_ref, index_of_ref, place_of_ref, node_same, node_sort, wire_sort, slot_sort}
 use Rattle.ol_wire.proofs.Places.{place_same}
 use Rattle.ol_reduce.specs.Left.{ranks_in, AreLeft}
@@ -64,7 +64,7 @@ within_table xs k n = elim (cases_lt k (length xs)) [
   | inr a ↦ absurd (n (other-past xs k a))
 ]
 
-module _ (w : ClosedTable) (places numbers : List ℕ) (left : AreLeft w (ranks_in w) places numbers) (N : NamedNet NodeName) (reached : ℕ → Bool) (s : StandsFor w N reached) where
+module _ (w : ClosedTable) (places numbers : List ℕ) (left : AreLeft w (ranks_in w) places numbers) (N : NamedNet NodeName) (reached : ℕ → Bool) (s : WordsStandFor w N reached) where
   abbrev z : Parts
   z = w.plan.parts
 

@@ -9,11 +9,11 @@ use Rattle.ol_net.specs.Linking.{linked}
 use Rattle.ol_rules.specs.declared.journal.NodeName.{NodeName}
 use Rattle.ol_wire.specs.declared.layout.Parts.{Parts}
 use Rattle.ol_wire.specs.References.{node_ref, wire_ref, IsNodeRef}
-use Rattle.ol_wire.specs.Layout.{Part, left, part_of, place_of, size}
+use Rattle.ol_wire.specs.Layout.{WordPart, left, part_of_word, place_of, table_size}
 use Rattle.ol_wire.specs.Edges.{edge_in}
 use Rattle.ol_wire.specs.Stands.{IsEnd}
 use Rattle.ol_wire.specs.Closed.{ClosedTable}
-use Rattle.ol_wire.specs.Standing.{StandsFor}
+use Rattle.ol_wire.specs.Standing.{WordsStandFor}
 use Rattle.ol_wire.proofs.References.{node_sort}
 use Rattle.ol_wire.proofs.Claimed.{ends_first, ends_second, ends_twice}
 use Rattle.ol_wire.proofs.Places.{is_left}
@@ -25,7 +25,7 @@ use Rattle.ol_reduce.proofs.Forward.{meet_linked, owner_no_node, owner_of, port_
 use Rattle.ol_reduce.proofs.Sites.{one_site, port_slot}
 use Rattle.ol_reduce.proofs.Linking.{still_linked, now_linked, view, EndView, at_port, at_node, at_slot, one_end, one_port, node_at, ends_apart}
 
-module _ (w : ClosedTable) (places numbers : List ℕ) (left_are : AreLeft w (ranks_in w) places numbers) (N : NamedNet NodeName) (reached : ℕ → Bool) (s : StandsFor w N reached) where
+module _ (w : ClosedTable) (places numbers : List ℕ) (left_are : AreLeft w (ranks_in w) places numbers) (N : NamedNet NodeName) (reached : ℕ → Bool) (s : WordsStandFor w N reached) where
   abbrev z : Parts
   z = w.plan.parts
 
@@ -37,13 +37,13 @@ module _ (w : ClosedTable) (places numbers : List ℕ) (left_are : AreLeft w (ra
 
   -- ---- cells
 
-  cell_row : (at : Part) (n next value : ℕ) (r : Bool) → at ≡ left → value ≢ 0 → IsIn {X = ℕ × ℕ} (value, next) (edge_in N r at n value next)
+  cell_row : (at : WordPart) (n next value : ℕ) (r : Bool) → at ≡ left → value ≢ 0 → IsIn {X = ℕ × ℕ} (value, next) (edge_in N r at n value next)
   cell_row at n next value r e f =
       subst (λ p. IsIn {X = ℕ × ℕ} (value, next) (edge_in N r p n value next)) (sym e) (subst (λ b. IsIn {X = ℕ × ℕ} (value, next) (if b then [] else (value, next) ∷ [])) (sym (ne_eqb value 0 f)) (inl refl))
 
-  module _ (n : ℕ) (is_cell : part_of z n ≡ left) (filled : word n ≢ 0) where
+  module _ (n : ℕ) (is_cell : part_of_word z n ≡ left) (filled : word n ≢ 0) where
     cell_edge : IsIn {X = ℕ × ℕ} (word n, word (suc n)) (es w N reached s)
-    cell_edge = edge_there z N reached w.words (size z) n (word n, word (suc n)) (omega (arith, (is_left z n is_cell).1)) (cell_row (part_of z n) n (word (suc n)) (word n) (reached n) is_cell filled)
+    cell_edge = edge_there z N reached w.words (table_size z) n (word n, word (suc n)) (omega (arith, (is_left z n is_cell).1)) (cell_row (part_of_word z n) n (word (suc n)) (word n) (reached n) is_cell filled)
 
     pub left_node : (x : NodeName) × IsEnd z N (slot x 0) (word n)
     left_node = node_at w places numbers left_are N reached s (word n) (omega (arith, ends_first (word n) (word (suc n)) (es w N reached s) cell_edge)) (s.cells n is_cell filled).0

@@ -3,7 +3,7 @@ use Rattle.std.proofs.Common.{◌≡◌, ℕ, zero, suc, ◌+◌, ◌*◌, ◌<�
 use Rattle.std.specs.Prelude.{replicate, take}
 use Rattle.std.proofs.lemmas.List.{get_or_default}
 use Rattle.ol_wire.specs.declared.layout.Parts.{Parts}
-use Rattle.ol_wire.specs.Layout.{size}
+use Rattle.ol_wire.specs.Layout.{table_size}
 use Rattle.ol_wire.specs.Standing.{is_reached_in}
 use Rattle.ol_wire.specs.Closed.{ClosedTable}
 use Rattle.ol_reduce.specs.Left.{ranks_in, AreLeft}
@@ -25,7 +25,7 @@ module _ (w : ClosedTable) (places numbers : List ℕ) (left_are : AreLeft w (ra
   slot_word_at j c place at lt small p q N reached s =
       subst (λ a. IsWordOf w N reached places a at) (sym p) (subst (λ n. IsWordOf w N reached places (z.free + 3 * j + (c + 1)) n) (sym q) (word_of_slot w places numbers left_are N reached s j c lt small))
 
-  pub slot_within : (j c at : ℕ) → j < length places → c < 2 → at ≡ slice_index places j + c → at < size z
+  pub slot_within : (j c at : ℕ) → j < length places → c < 2 → at ≡ slice_index places j + c → at < table_size z
   slot_within j c at lt small q = omega (arith, q, field_within w places numbers left_are told.0 (is_reached_in w) told.2 j c lt small)
 
   pub slot_below : (j c at : ℕ) → j < length places → c < 2 → at ≡ slice_index places j + c → at < 100000000

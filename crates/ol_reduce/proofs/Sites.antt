@@ -17,7 +17,7 @@ use Rattle.ol_wire.specs.Layout.{place_of, port_word, IsPlaced}
 use Rattle.ol_wire.specs.Events.{name_at}
 use Rattle.ol_wire.specs.Stands.{IsEnd, of_port, principal, auxiliary}
 use Rattle.ol_wire.specs.Closed.{ClosedTable, events_in}
-use Rattle.ol_wire.specs.Standing.{StandsFor}
+use Rattle.ol_wire.specs.Standing.{WordsStandFor}
 use Rattle.ol_wire.proofs.Places.{name_of_place, place_order}
 use Rattle.ol_wire.proofs.Claimed.{wider}
 use Rattle.ol_reduce.specs.Left.{ranks_in, rank_of, name_of_rank, IsLeft, AreLeft}
@@ -114,7 +114,7 @@ module _ (w : ClosedTable) (places numbers : List ℕ) (left : AreLeft w (ranks_
 
   -- ---- ports of the net
 
-  module _ (N : NamedNet NodeName) (reached : ℕ → Bool) (s : StandsFor w N reached) where
+  module _ (N : NamedNet NodeName) (reached : ℕ → Bool) (s : WordsStandFor w N reached) where
     pub site_of_node : (x : NodeName) (k : Kind) (i c : ℕ) → HasNode N x k i → c ≤ arity k → (n : ℕ) × (n < length places) × (name n ≡ x) × (port (z.free + 3 * n + c) ≡ slot x c)
     site_of_node x k i c h le =
         let t = number_of x (s.names x k i h) ((s.live x).0 (k, i, h)) in

@@ -18,7 +18,7 @@ use Rattle.ol_rules.proofs.Lists.{in_each_of}
 use Rattle.ol_wire.specs.declared.layout.Parts.{Parts}
 use Rattle.ol_wire.specs.Layout.{cells_of}
 use Rattle.ol_wire.specs.Closed.{ClosedTable}
-use Rattle.ol_wire.specs.Standing.{StandsFor}
+use Rattle.ol_wire.specs.Standing.{WordsStandFor}
 use Rattle.ol_reduce.specs.Left.{ranks_in, AreLeft}
 use Rattle.ol_reduce.specs.Drafts.{frozen_top, links_below, link_row}
 use Rattle.ol_reduce.specs.Frozen.{IsFrozen}
@@ -77,7 +77,7 @@ module _ (ports : ℕ) (kinds : List (Kind × ℕ)) (partners : List ℕ) (paire
       let t = pair_of q p h in
       record { a = other partners t.0; has = λ e. omega (arith, t.1, e, paired t.0); first = t.3; second = t.2 ∙ ap at (sym (paired t.0)) }
 
-module _ (w : ClosedTable) (places numbers : List ℕ) (left_are : AreLeft w (ranks_in w) places numbers) (N : NamedNet NodeName) (reached : ℕ → Bool) (s : StandsFor w N reached)
+module _ (w : ClosedTable) (places numbers : List ℕ) (left_are : AreLeft w (ranks_in w) places numbers) (N : NamedNet NodeName) (reached : ℕ → Bool) (s : WordsStandFor w N reached)
     (kinds : List (Kind × ℕ)) (partners met : List ℕ) (whole : IsPartial w N places kinds partners) (are : AreMet w N reached places partners met (length partners)) (cells_are : AreCelled w N places partners (cells_of w.plan.parts))
     (g : Graph) (b : Builds frozen_top w.plan.parts.free kinds (links_below w.plan.parts.free partners (length partners)) g) where
   abbrev z : Parts

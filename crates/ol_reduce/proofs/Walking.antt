@@ -12,7 +12,7 @@ use Rattle.ol_wire.specs.References.{place_in, wire_ref}
 use Rattle.ol_wire.specs.Layout.{port_word}
 use Rattle.ol_wire.specs.Stands.{IsEnd, of_port}
 use Rattle.ol_wire.specs.Closed.{ClosedTable}
-use Rattle.ol_wire.specs.Standing.{is_reached_in, StandsFor}
+use Rattle.ol_wire.specs.Standing.{is_reached_in, WordsStandFor}
 use Rattle.ol_reduce.specs.declared.chains.End.{End}
 use Rattle.ol_reduce.specs.declared.chains.End.TheVariants.{Node, Port, Wire}
 use Rattle.ol_reduce.specs.Left.{ranks_in, AreLeft}
@@ -41,10 +41,10 @@ module _ (w : ClosedTable) (places numbers : List ℕ) (left_are : AreLeft w (ra
   -- ---- a link
 
   abbrev AllLinked : ℕ → Type 0
-  AllLinked b = (N : NamedNet NodeName) (reached : ℕ → Bool) → StandsFor w N reached → Linked N (port_of z places a) (port_of z places b)
+  AllLinked b = (N : NamedNet NodeName) (reached : ℕ → Bool) → WordsStandFor w N reached → Linked N (port_of z places a) (port_of z places b)
 
   module _ (kinds1 kinds3 : List (Kind × ℕ)) (partners1 partners3 : List ℕ) (b : ℕ) (p1 : partners1 ≡ partners) (after1 : IsPartly w places kinds1 partners1) (ltb : b < length partners) (link : AllLinked b)
-      (known : (N : NamedNet NodeName) (reached : ℕ → Bool) → StandsFor w N reached → IsKnown w N places kinds1 b) (k3 : kinds3 ≡ kinds1) (p3 : partners3 ≡ linked partners1 a b) where
+      (known : (N : NamedNet NodeName) (reached : ℕ → Bool) → WordsStandFor w N reached → IsKnown w N places kinds1 b) (k3 : kinds3 ≡ kinds1) (p3 : partners3 ≡ linked partners1 a b) where
     low1 : a < length partners1
     low1 = omega (arith, low, ap (λ (l : List ℕ). length l) p1)
 
@@ -72,14 +72,14 @@ module _ (w : ClosedTable) (places numbers : List ℕ) (left_are : AreLeft w (ra
     abbrev Own : NamedNet NodeName → (ℕ → Bool) → Type 0
     Own N reached = (e : ℕ) × IsEnd z N (port_of z places a) e × IsStart w N reached e first
 
-    own : (N : NamedNet NodeName) (reached : ℕ → Bool) → StandsFor w N reached → Own N reached
+    own : (N : NamedNet NodeName) (reached : ℕ → Bool) → WordsStandFor w N reached → Own N reached
     own N reached s = let t = (is_word N reached s).owned (λ q. filled (read ∙ q)) in (t.0, t.1, subst (λ v. IsStart w N reached t.0 v) (sym read) t.2)
 
     pub is_first : IsFirst w first
     is_first = let t = own told.0 (is_reached_in w) told.2 in (told.0, (is_reached_in w), t.0, told.2, t.2)
 
     abbrev Ends : End → Type 0
-    Ends r = (N : NamedNet NodeName) (reached : ℕ → Bool) (e : ℕ) → StandsFor w N reached → IsStart w N reached e first → EndsAt w N reached e r
+    Ends r = (N : NamedNet NodeName) (reached : ℕ → Bool) (e : ℕ) → WordsStandFor w N reached → IsStart w N reached e first → EndsAt w N reached e r
 
     pub node_in : (found : End) (r : ℕ) → found ≡ Node r → Ends found → IsNodeIn w r
     node_in found r q h N reached s =
@@ -108,11 +108,11 @@ module _ (w : ClosedTable) (places numbers : List ℕ) (left_are : AreLeft w (ra
         let at : IsEnd z N (port_of z places k) (wire_ref (port_word k)) = subst (λ p. IsEnd z N p (wire_ref (port_word k))) (sym (port_free w places numbers left_are k d.0)) (of_port (omega (arith, d.0, s.ports))) in
         goes_linked w N reached s (port_of z places a) (port_of z places k) t.0 (wire_ref (port_word k)) t.1 at d.1
 
-    pub port_known : (found : End) (k : ℕ) → found ≡ Port k → Ends found → (N : NamedNet NodeName) (reached : ℕ → Bool) → StandsFor w N reached → IsKnown w N places kinds k
+    pub port_known : (found : End) (k : ℕ) → found ≡ Port k → Ends found → (N : NamedNet NodeName) (reached : ℕ → Bool) → WordsStandFor w N reached → IsKnown w N places kinds k
     port_known found k q h N reached s m ltm e = absurd (omega (arith, e, port_low found k q h))
 
     module _ (long : length met ≡ words_used w) (found : End) (u : ℕ) (q : found ≡ Wire u) (h : Ends found) where
-      ends_at : (N : NamedNet NodeName) (reached : ℕ → Bool) → (s : StandsFor w N reached) → EndsAt w N reached (own N reached s).0 (Wire u)
+      ends_at : (N : NamedNet NodeName) (reached : ℕ → Bool) → (s : WordsStandFor w N reached) → EndsAt w N reached (own N reached s).0 (Wire u)
       ends_at N reached s = let t = own N reached s in subst (λ f. EndsAt w N reached t.0 f) q (h N reached t.0 s t.2)
 
       pub wire_within : u < length met
@@ -122,7 +122,7 @@ module _ (w : ClosedTable) (places numbers : List ℕ) (left_are : AreLeft w (ra
           omega (arith, r, p, long)
 
       -- the one that waits there
-      waits : (N : NamedNet NodeName) (reached : ℕ → Bool) → StandsFor w N reached → slice_index met u ≢ 0 → (slice_index met u - 1 < length partners) × Linked N (port_of z places a) (port_of z places (slice_index met u - 1)) × IsKnown w N places kinds (slice_index met u - 1)
+      waits : (N : NamedNet NodeName) (reached : ℕ → Bool) → WordsStandFor w N reached → slice_index met u ≢ 0 → (slice_index met u - 1 < length partners) × Linked N (port_of z places a) (port_of z places (slice_index met u - 1)) × IsKnown w N places kinds (slice_index met u - 1)
       waits N reached s f =
           let t = own N reached s in
           waiting w places numbers left_are N reached s kinds partners met a n low (before N reached s) (are N reached s) (is_word N reached s) u (slice_index met u) refl f t.0 t.1 (ends_at N reached s).2

@@ -11,7 +11,7 @@ use Rattle.ol_wire.specs.Layout.{cells_of}
 use Rattle.ol_wire.specs.Closed.{ClosedTable, IsAfter}
 use Rattle.ol_wire.specs.Standing.{is_reached_in}
 use Rattle.ol_reduce.specs.Left.{ranks_in, AreLeft}
-use Rattle.ol_reduce.specs.Drafts.{frozen_top, links_below, IsComplete}
+use Rattle.ol_reduce.specs.Drafts.{frozen_top, links_below, IsFullDraft}
 use Rattle.ol_reduce.specs.Frozen.{IsFrozen}
 use Rattle.ol_reduce.specs.Found.{IsPartly, AreMetTo, AreCelledTo}
 use Rattle.ol_reduce.proofs.Arriving.{Told, table_long}
@@ -36,9 +36,9 @@ module _ (w : ClosedTable) (places numbers : List ℕ) (left_are : AreLeft w (ra
       let t = table_long w places numbers left_are told kinds partners whole in
       (omega (arith, t.0, left_are.few, told.2.small.nodes, told.2.small.fuel, events_few w.plan.parts w.words), t.2)
 
-  pub completed : IsComplete free kinds partners
+  pub completed : IsFullDraft free kinds partners
   completed =
-      subst (λ f. IsComplete f kinds partners) (sym same)
+      subst (λ f. IsFullDraft f kinds partners) (sym same)
       (is_complete w places numbers left_are told.0 (is_reached_in w) told.2 kinds partners walked.0 (whole told.0 (is_reached_in w) told.2) (walked.1 told.0 (is_reached_in w) told.2) (cells told.0 (is_reached_in w) told.2))
 
   pub built : (one : (M N : NamedNet NodeName) → IsAfter w M → IsAfter w N → SameNet M N) → (g : Graph) → Builds frozen_top free kinds (links_below free partners (length partners)) g → (net : NamedNet NodeName) → IsAfter w net → IsFrozen net g

@@ -6,12 +6,12 @@ use Rattle.ol_rules.specs.declared.journal.NodeName.{NodeName}
 use Rattle.ol_rules.proofs.Born.{at_most_two}
 use Rattle.ol_wire.specs.declared.layout.Parts.{Parts}
 use Rattle.ol_wire.specs.References.{wire_ref, slot_ref}
-use Rattle.ol_wire.specs.Layout.{Part, field, part_of, place_of, port_word, size, IsPlaced}
+use Rattle.ol_wire.specs.Layout.{WordPart, field, part_of_word, place_of, port_word, table_size, IsPlaced}
 use Rattle.ol_wire.specs.Layout as layout
 use Rattle.ol_wire.specs.Edges.{edge_to, edge_in, is_live}
 use Rattle.ol_wire.specs.Stands.{IsEnd, of_port, IsWireEnd}
 use Rattle.ol_wire.specs.Closed.{ClosedTable, events_in}
-use Rattle.ol_wire.specs.Standing.{StandsFor, IsWirePart}
+use Rattle.ol_wire.specs.Standing.{WordsStandFor, IsWirePart}
 use Rattle.ol_wire.proofs.References.{node_sort, slot_sort}
 use Rattle.ol_wire.proofs.Places.{part_port, part_field, place_before, place_same}
 use Rattle.ol_wire.proofs.Claimed.{wider}
@@ -24,17 +24,17 @@ use Rattle.ol_reduce.proofs.Sites.{port_free, port_slot, numbered, IsNumbered}
 use Rattle.ol_reduce.proofs.Linking.{view, EndView, at_port, at_node, at_slot}
 use Rattle.ol_reduce.proofs.Bounded.{events_few}
 
-port_row : (net : NamedNet NodeName) (r : Bool) (at : Part) (k n word next : ℕ) → at ≡ layout.port k → word ≢ 0 → IsIn {X = ℕ × ℕ} (wire_ref n, word) (edge_in net r at n word next)
+port_row : (net : NamedNet NodeName) (r : Bool) (at : WordPart) (k n word next : ℕ) → at ≡ layout.port k → word ≢ 0 → IsIn {X = ℕ × ℕ} (wire_ref n, word) (edge_in net r at n word next)
 port_row net r at k n word next e f =
     subst (λ p. IsIn {X = ℕ × ℕ} (wire_ref n, word) (edge_in net r p n word next)) (sym e) (subst (λ b. IsIn {X = ℕ × ℕ} (wire_ref n, word) (if b then [] else (wire_ref n, word) ∷ [])) (sym (ne_eqb word 0 f)) (inl refl))
 
-field_row : (net : NamedNet NodeName) (r : Bool) (at : Part) (x : NodeName) (c n word next : ℕ) → at ≡ field x c → is_live net x ≡ true → word ≢ 0 → IsIn {X = ℕ × ℕ} (slot_ref n, word) (edge_in net r at n word next)
+field_row : (net : NamedNet NodeName) (r : Bool) (at : WordPart) (x : NodeName) (c n word next : ℕ) → at ≡ field x c → is_live net x ≡ true → word ≢ 0 → IsIn {X = ℕ × ℕ} (slot_ref n, word) (edge_in net r at n word next)
 field_row net r at x c n word next e live f =
     subst (λ p. IsIn {X = ℕ × ℕ} (slot_ref n, word) (edge_in net r p n word next)) (sym e)
     (subst (λ b. IsIn {X = ℕ × ℕ} (slot_ref n, word) (if b then edge_to (slot_ref n) word else [])) (sym live)
     (subst (λ b. IsIn {X = ℕ × ℕ} (slot_ref n, word) (if b then [] else (slot_ref n, word) ∷ [])) (sym (ne_eqb word 0 f)) (inl refl)))
 
-module _ (w : ClosedTable) (places numbers : List ℕ) (left_are : AreLeft w (ranks_in w) places numbers) (N : NamedNet NodeName) (reached : ℕ → Bool) (s : StandsFor w N reached) where
+module _ (w : ClosedTable) (places numbers : List ℕ) (left_are : AreLeft w (ranks_in w) places numbers) (N : NamedNet NodeName) (reached : ℕ → Bool) (s : WordsStandFor w N reached) where
   abbrev z : Parts
   z = w.plan.parts
 
@@ -52,7 +52,7 @@ module _ (w : ClosedTable) (places numbers : List ℕ) (left_are : AreLeft w (ra
       subst (λ p. IsEnd z N p (wire_ref (port_word k))) (sym is) (of_port (omega (arith, lt, s.ports))),
       record {
         n = port_word k;
-        owns = record { within = omega arith; filled = f; end = inl refl; edge = port_row N (reached (port_word k)) (part_of z (port_word k)) k (port_word k) (word (port_word k)) (word (suc (port_word k))) (part_port z k lt) f };
+        owns = record { within = omega arith; filled = f; end = inl refl; edge = port_row N (reached (port_word k)) (part_of_word z (port_word k)) k (port_word k) (word (port_word k)) (word (suc (port_word k))) (part_port z k lt) f };
         no_wire = λ h. subst IsWirePart (part_port z k lt) h;
         holds = refl;
       },
@@ -108,16 +108,16 @@ module _ (w : ClosedTable) (places numbers : List ℕ) (left_are : AreLeft w (ra
     placed_fuel : IsPlaced z z.fuel (name_of z places j)
     placed_fuel = wider z x (events_in z w.words) z.fuel (events_few z w.words) at.placed
 
-    part_is : part_of z (slice_index places j + c) ≡ field (name_of z places j) c
-    part_is = ap (part_of z) n_is ∙ part_field z x c placed_fuel small
+    part_is : part_of_word z (slice_index places j + c) ≡ field (name_of z places j) c
+    part_is = ap (part_of_word z) n_is ∙ part_field z x c placed_fuel small
 
-    pub field_within : slice_index places j + c < size z
+    pub field_within : slice_index places j + c < table_size z
     field_within = omega (arith, n_is, small, (place_before z x z.fuel placed_fuel).1)
 
     owns_field : word (slice_index places j + c) ≢ 0 → OwnsWord w N reached (slice_index places j + c) (slot_ref (slice_index places j + c))
     owns_field f =
         let h = (s.live x).1 at.is_left in
-        record { within = field_within; filled = f; end = inr refl; edge = field_row N (reached n) (part_of z n) x c n (word n) (word (suc n)) part_is (live_there N x h.0 h.1 h.2) f }
+        record { within = field_within; filled = f; end = inr refl; edge = field_row N (reached n) (part_of_word z n) x c n (word n) (word (suc n)) part_is (live_there N x h.0 h.1 h.2) f }
 
     is_end : word (slice_index places j + c) ≢ 0 → IsEnd z N (slot (name_of z places j) (suc c)) (slot_ref (slice_index places j + c))
     is_end f = go (s.stands.others (slot_ref n) (omega (arith, ends_split (slot_ref n) (es w N reached s), first_counts (slot_ref n) (word n) (es w N reached s) (own_edge w N reached s n (slot_ref n) (owns_field f)))))

@@ -19,7 +19,7 @@ abbrev pub links_below : ℕ → List ℕ → ℕ → List (Port × Port)
 links_below free partners n = each n (link_row free partners)
 
 -- Each port has a partner, and no index is too great.
-pub record IsComplete (free : ℕ) (kinds : List (Kind × ℕ)) (partners : List ℕ) : Type 0 where
+pub record IsFullDraft (free : ℕ) (kinds : List (Kind × ℕ)) (partners : List ℕ) : Type 0 where
   pub tabled : IsTabled free (all_live kinds) partners
   pub indexes : NoneOf (BadIndexAt frozen_top kinds)
 

@@ -6,18 +6,18 @@ use Rattle.ol_rules.specs.declared.journal.NodeName.{NodeName}
 use Rattle.ol_reduce.specs.declared.chains.End.{End}
 use Rattle.ol_reduce.specs.declared.chains.End.TheVariants.{Node, Port, Wire}
 use Rattle.ol_wire.specs.References.{wire_ref, slot_ref, place_in, IsNodeRef, IsWireRef}
-use Rattle.ol_wire.specs.Layout.{part_of, port_word, size}
+use Rattle.ol_wire.specs.Layout.{part_of_word, port_word, table_size}
 use Rattle.ol_wire.specs.Edges.{edge_in}
 use Rattle.ol_wire.specs.Closed.{ClosedTable}
-use Rattle.ol_wire.specs.Standing.{StandsFor, IsWirePart}
+use Rattle.ol_wire.specs.Standing.{WordsStandFor, IsWirePart}
 
 -- word n isn't empty, and is that of the end e
 pub record OwnsWord (w : ClosedTable) (net : NamedNet NodeName) (reached : ℕ → Bool) (n e : ℕ) : Type 0 where
-  pub within : n < size w.plan.parts
+  pub within : n < table_size w.plan.parts
   pub filled : slice_index w.words n ≢ 0
   pub end : (e ≡ wire_ref n) ⊎ (e ≡ slot_ref n)
   pub edge : IsIn {X = ℕ × ℕ} (e, slice_index w.words n)
-      (edge_in net (reached n) (part_of w.plan.parts n) n (slice_index w.words n) (slice_index w.words (suc n)))
+      (edge_in net (reached n) (part_of_word w.plan.parts n) n (slice_index w.words n) (slice_index w.words (suc n)))
 
 -- the chain of e leads to t, through words of wires
 pub data LeadsTo (w : ClosedTable) (net : NamedNet NodeName) (reached : ℕ → Bool) : ℕ → ℕ → Type 0 where
@@ -29,12 +29,12 @@ pub data LeadsTo (w : ClosedTable) (net : NamedNet NodeName) (reached : ℕ → 
 pub record IsStart (w : ClosedTable) (net : NamedNet NodeName) (reached : ℕ → Bool) (e value : ℕ) : Type 0 where
   pub n : ℕ
   pub owns : OwnsWord w net reached n e
-  pub no_wire : IsWirePart (part_of w.plan.parts n) → ⊥
+  pub no_wire : IsWirePart (part_of_word w.plan.parts n) → ⊥
   pub holds : slice_index w.words n ≡ value
 
 -- a value that a port's word holds
 abbrev pub IsFirst : ClosedTable → ℕ → Type 0
-IsFirst w value = (net : NamedNet NodeName) × (reached : ℕ → Bool) × (e : ℕ) × StandsFor w net reached
+IsFirst w value = (net : NamedNet NodeName) × (reached : ℕ → Bool) × (e : ℕ) × WordsStandFor w net reached
     × IsStart w net reached e value
 
 -- where the chain of e ends
@@ -60,5 +60,5 @@ IsValueAfter w first k at = (value_after w.words first k ≡ at)
 
 -- where the chain of each port ends whose word holds this value
 abbrev pub EndsFrom : ClosedTable → ℕ → End → Type 0
-EndsFrom w first end = (net : NamedNet NodeName) (reached : ℕ → Bool) (e : ℕ) → StandsFor w net reached
+EndsFrom w first end = (net : NamedNet NodeName) (reached : ℕ → Bool) (e : ℕ) → WordsStandFor w net reached
     → IsStart w net reached e first → EndsAt w net reached e end

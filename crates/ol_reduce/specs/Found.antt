@@ -13,7 +13,7 @@ use Rattle.ol_wire.specs.Layout.{left_word}
 use Rattle.ol_wire.specs.Events.{name_at}
 use Rattle.ol_wire.specs.Stands.{IsEnd}
 use Rattle.ol_wire.specs.Closed.{ClosedTable}
-use Rattle.ol_wire.specs.Standing.{StandsFor}
+use Rattle.ol_wire.specs.Standing.{WordsStandFor}
 use Rattle.ol_reduce.specs.Following.{OwnsWord, LeadsTo, IsStart}
 
 -- the name of node n, by its place
@@ -79,31 +79,31 @@ AreCelled w net places partners n = (c r a : ℕ) → c < n → a < length partn
 
 -- Each of these holds of the net and the wires that the words stand for, whichever they are.
 abbrev pub IsPartly : ClosedTable → List ℕ → List (Kind × ℕ) → List ℕ → Type 0
-IsPartly w places kinds partners = (net : NamedNet NodeName) (reached : ℕ → Bool) → StandsFor w net reached
+IsPartly w places kinds partners = (net : NamedNet NodeName) (reached : ℕ → Bool) → WordsStandFor w net reached
     → IsPartial w net places kinds partners
 
 abbrev pub AreMetTo : ClosedTable → List ℕ → List ℕ → List ℕ → ℕ → Type 0
-AreMetTo w places partners met n = (net : NamedNet NodeName) (reached : ℕ → Bool) → StandsFor w net reached
+AreMetTo w places partners met n = (net : NamedNet NodeName) (reached : ℕ → Bool) → WordsStandFor w net reached
     → AreMet w net reached places partners met n
 
 abbrev pub AreCelledTo : ClosedTable → List ℕ → List ℕ → ℕ → Type 0
-AreCelledTo w places partners n = (net : NamedNet NodeName) (reached : ℕ → Bool) → StandsFor w net reached
+AreCelledTo w places partners n = (net : NamedNet NodeName) (reached : ℕ → Bool) → WordsStandFor w net reached
     → AreCelled w net places partners n
 
 abbrev pub IsNodeIn : ClosedTable → ℕ → Type 0
-IsNodeIn w r = (net : NamedNet NodeName) (reached : ℕ → Bool) → StandsFor w net reached → IsOfNode w net r
+IsNodeIn w r = (net : NamedNet NodeName) (reached : ℕ → Bool) → WordsStandFor w net reached → IsOfNode w net r
 
 abbrev pub IsSiteIn : ClosedTable → List ℕ → List (Kind × ℕ) → ℕ → ℕ → Type 0
-IsSiteIn w places kinds r a = (net : NamedNet NodeName) (reached : ℕ → Bool) → StandsFor w net reached
+IsSiteIn w places kinds r a = (net : NamedNet NodeName) (reached : ℕ → Bool) → WordsStandFor w net reached
     → IsSiteOf w net places kinds r a
 
 abbrev pub IsWordAt : ClosedTable → List ℕ → ℕ → ℕ → Type 0
-IsWordAt w places a n = (net : NamedNet NodeName) (reached : ℕ → Bool) → StandsFor w net reached
+IsWordAt w places a n = (net : NamedNet NodeName) (reached : ℕ → Bool) → WordsStandFor w net reached
     → IsWordOf w net reached places a n
 
 -- what was known stays known
 abbrev pub KeepsKnown : ClosedTable → List ℕ → List (Kind × ℕ) → List (Kind × ℕ) → Type 0
-KeepsKnown w places old new = (net : NamedNet NodeName) (reached : ℕ → Bool) → StandsFor w net reached → (a : ℕ)
+KeepsKnown w places old new = (net : NamedNet NodeName) (reached : ℕ → Bool) → WordsStandFor w net reached → (a : ℕ)
     → IsKnown w net places old a → IsKnown w net places new a
 
 abbrev pub KeepsPartners : List ℕ → List ℕ → Type 0

@@ -4,7 +4,7 @@ use Rattle.ol_rules.specs.declared.journal.NodeName.{NodeName}
 use Rattle.ol_rules.specs.declared.journal.NodeName.TheVariants.{Init, Born}
 use Rattle.ol_rules.specs.declared.journal.Entry.{Entry}
 use Rattle.ol_wire.specs.declared.layout.Parts.{Parts}
-use Rattle.ol_wire.specs.Layout.{place_of, IsPlaced, size}
+use Rattle.ol_wire.specs.Layout.{place_of, IsPlaced, table_size}
 use Rattle.ol_wire.specs.Closed.{ClosedTable, events_in, journal_in, event_at, events_drawn}
 use Rattle.ol_wire.specs.Standing.{IsMadeNode, IsUntouched}
 use Rattle.ol_wire.specs.Blocks.{copies_of_f, copies_of_g}
@@ -53,7 +53,7 @@ births_at w t = copies_of_f (event_at w.plan.parts w.words t) + copies_of_g (eve
 
 -- the parts are small, and there are as many words as they say
 abbrev pub IsSmallTable : ClosedTable → Type 0
-IsSmallTable w = IsSmall w.plan.parts × (length w.words ≡ size w.plan.parts)
+IsSmallTable w = IsSmall w.plan.parts × (length w.words ≡ table_size w.plan.parts)
 
 -- at most as many tickets were drawn as there are
 abbrev pub IsWithinFuel : ClosedTable → Type 0

@@ -7,7 +7,7 @@ use Rattle.ol_wire.specs.declared.turning.Turn.TheVariants.{Spent}
 use Rattle.ol_wire.specs.declared.view.View.{View}
 use Rattle.ol_wire.specs.Layout.{cells_of}
 use Rattle.ol_wire.specs.Turns.{HasCause, Leaves}
-use Rattle.ol_wire.specs.Stand.{Board, Stand}
+use Rattle.ol_wire.specs.Stand.{TableState, SeatState}
 
 -- the cells below n, in order
 abbrev pub cells_below : ℕ → List ℕ
@@ -33,15 +33,15 @@ abbrev pub TurnsTell : Type 0
 TurnsTell = (z : Parts) (v n : View) (cells : List ℕ) → HasTurned z v cells n → n.claimed ≡ v.claimed ++ cells
 
 -- Turns on all cells in order led from v to n, and none of them answered Spent; or one of them did, the last one.
-abbrev pub HasSwept : Board → View → View → Type 0
+abbrev pub HasSwept : TableState → View → View → Type 0
 HasSwept b v n = HasTurned b.plan.parts v (cells_below (cells_of b.plan.parts)) n
 
-abbrev pub HasSweptToSpent : Board → View → View → Type 0
+abbrev pub HasSweptToSpent : TableState → View → View → Type 0
 HasSweptToSpent b v n = (c : ℕ) × HasSpent b.plan.parts v (cells_below c) c n
 
 -- turns of a seat on some cells, of which none answered Spent, or just the last one
-abbrev pub HasWorked : Board → Stand → Stand → Type 0
+abbrev pub HasWorked : TableState → SeatState → SeatState → Type 0
 HasWorked b v n = (cells : List ℕ) × HasTurned b.plan.parts v.view cells n.view
 
-abbrev pub HasWorkedToSpent : Board → Stand → Stand → Type 0
+abbrev pub HasWorkedToSpent : TableState → SeatState → SeatState → Type 0
 HasWorkedToSpent b v n = (cells : List ℕ) × (c : ℕ) × HasSpent b.plan.parts v.view cells c n.view

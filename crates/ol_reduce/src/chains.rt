@@ -2,7 +2,7 @@
 ghost use Rattle.std.specs.Prelude.{◌≡◌, ℕ, Bool};
 ghost use Rattle.ol_net.specs.Nets.{NamedNet};
 ghost use Rattle.ol_rules.specs.declared.journal.NodeName.{NodeName};
-ghost use Rattle.ol_wire.specs.Standing.{StandsFor};
+ghost use Rattle.ol_wire.specs.Standing.{WordsStandFor};
 ghost use Rattle.ol_reduce.specs.Following.{IsFirst, IsStart, EndsAt, EndsFrom};
 
 use crate::reading::word_at;

@@ -4,7 +4,7 @@ ghost use Rattle.ol_net.specs.Build.{Builds};
 ghost use Rattle.ol_net.specs.Graph.{port_at};
 ghost use Rattle.ol_net.specs.Pairing.{other};
 ghost use Rattle.ol_net.specs.Linking.{linked};
-ghost use Rattle.ol_reduce.specs.Drafts.{frozen_top, links_below, IsComplete, all_links, AreWithin, StayWithin, AreFew, IsBuilt};
+ghost use Rattle.ol_reduce.specs.Drafts.{frozen_top, links_below, IsFullDraft, all_links, AreWithin, StayWithin, AreFew, IsBuilt};
 
 use ol_io::NoMemory;
 use ol_net::{BuildFault, Kind, Net, NodeId, Port};
@@ -124,7 +124,7 @@ impl Draft {
     /// The net of these nodes and links.
     pub(crate) fn build(self, alloc: Global) -> Result<Net, NoMemory>
         requires few { AreFew self.kinds.items self.partners.items }
-        requires complete { IsComplete self.free self.kinds.items self.partners.items }
+        requires complete { IsFullDraft self.free self.kinds.items self.partners.items }
         ensures { IfOk result (IsBuilt self.free self.kinds.items self.partners.items) }
     {
         let links = self.links(alloc)?;

@@ -3,7 +3,7 @@ ghost use Rattle.std.specs.Prelude.{◌≡◌, ◌≢◌, ℕ, Bool, List, ◌+�
 ghost use Rattle.ol_net.specs.Nets.{NamedNet};
 ghost use Rattle.ol_net.specs.Linking.{linked};
 ghost use Rattle.ol_rules.specs.declared.journal.NodeName.{NodeName};
-ghost use Rattle.ol_wire.specs.Layout.{size, cells_of};
+ghost use Rattle.ol_wire.specs.Layout.{table_size, cells_of};
 ghost use Rattle.ol_wire.specs.Closed.{EachAfter};
 ghost use Rattle.ol_reduce.specs.Left.{ranks_in, AreLeft};
 ghost use Rattle.ol_reduce.specs.Frozen.{IsFrozen};
@@ -139,7 +139,7 @@ fn link_one(
     requires live { AreAllLeft words.now live.now }
     requires free { draft.old.free ≡ words.now.plan.parts.free }
     requires met { length met.old.items ≡ words_used words.now }
-    requires at { at < size words.now.plan.parts }
+    requires at { at < table_size words.now.plan.parts }
     requires place { IsOwner words.now draft.old place }
     requires word { IsWordAt words.now live.now.places.items place at }
     requires before { HasPorts words.now live.now draft.old met.old.items place }

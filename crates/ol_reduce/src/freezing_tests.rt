@@ -1,6 +1,6 @@
 //! Small nets, laid out, rewritten or not, and frozen.
 ghost use Rattle.std.specs.Prelude.{◌≡◌, ◌<◌, ◌≤◌, IfOk};
-ghost use Rattle.ol_wire.specs.Stand.{IsFresh, IsOf};
+ghost use Rattle.ol_wire.specs.Stand.{IsNewSeat, IsSeatOf};
 ghost use Rattle.ol_wire.specs.Idle.{IsIdle};
 
 use crate::freeze;
@@ -61,7 +61,7 @@ fn identity_of_identity(alloc: Global) -> Result<Net, Fail> {
 
 /// A table with one seat.
 fn table_of(rt: &impl Abort, alloc: Global, net: &Net) -> Result<(Shared, Seat), Fail>
-    ensures { IfOk result (λ r. IsFresh r.0 r.1 × (r.0.plan.seats ≡ 1)) }
+    ensures { IfOk result (λ r. IsNewSeat r.0 r.1 × (r.0.plan.seats ≡ 1)) }
 {
     assert!(rt; net.nodes() == net.born());
     assert!(rt; net.born() <= 1_000_000);
@@ -100,8 +100,8 @@ fn untouched_words_give_the_net(rt: HostRuntime) -> Result<(), Fail> {
 }
 
 fn turn(rt: &impl Abort, table: &Shared, seat: &mut Seat, cell: u32)
-    requires { IsOf table.now seat.old }
-    ensures table { IsOf table.now seat.new }
+    requires { IsSeatOf table.now seat.old }
+    ensures table { IsSeatOf table.now seat.new }
     ensures holds { seat.new.view.holds ≡ seat.old.view.holds }
 {
     assert!(rt; cell < table.cells());

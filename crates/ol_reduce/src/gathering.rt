@@ -1,9 +1,9 @@
 //! From seats to workers and back, and the work of all of them.
 ghost use Rattle.std.specs.Prelude.{◌≡◌, ◌<◌, ◌≤◌, All, IfOk, vec_len, length, is_some, count_by, true};
-ghost use Rattle.ol_pool.specs.Pools.{IsOf as IsOfPool};
+ghost use Rattle.ol_pool.specs.Pools.{IsHandOf as IsOfPool};
 ghost use Rattle.ol_wire.specs.Layout.{cells_of};
 ghost use Rattle.ol_wire.specs.Sizes.{IsSmallNet};
-ghost use Rattle.ol_wire.specs.Stand.{IsFresh, IsOf};
+ghost use Rattle.ol_wire.specs.Stand.{IsNewSeat, IsSeatOf};
 ghost use Rattle.ol_wire.specs.Starts.{AreParts};
 ghost use Rattle.ol_reduce.specs.Works.{IsSeated, IsWorker};
 ghost use Rattle.ol_wire.specs.Closed.{HasSweptAll};
@@ -83,7 +83,7 @@ pub(crate) fn hire(
     mut seats: Vec<Seat>,
     mut hands: Vec<Hand>,
 ) -> Result<Vec<Worker>, NoMemory>
-    requires seats { All (IsFresh shared.now) seats.items }
+    requires seats { All (IsNewSeat shared.now) seats.items }
     requires hands { All (λ hand. IsOfPool hand pool.now) hands.items }
     requires count { vec_len hands ≡ vec_len seats }
     ensures each { IfOk result (λ made. All (IsWorker shared.now pool.now) made.items) }
@@ -138,7 +138,7 @@ fn run<R: Threads + Wait + Sync, G: Gate + Sync>(
 fn gather(shared: &Shared, mut workers: Vec<Worker>) -> Seat
     requires workers { All (IsSeated shared.now) workers.items }
     requires some { 0 < vec_len workers }
-    ensures seat { IsOf shared.now result }
+    ensures seat { IsSeatOf shared.now result }
     ensures holds { result.view.holds ≡ vec_len workers }
 {
     let mut seat = workers.pop().unwrap().into_seat();

@@ -5,7 +5,7 @@ ghost use Rattle.ol_rules.specs.declared.journal.NodeName.{NodeName};
 ghost use Rattle.ol_rules.specs.Rewriting.{is_meeting};
 ghost use Rattle.ol_wire.specs.Blocks.{copies_of_f, copies_of_g};
 ghost use Rattle.ol_wire.specs.Closed.{ClosedTable, events_in, event_at, events_drawn};
-ghost use Rattle.ol_wire.specs.Layout.{place_of, size, IsPlaced};
+ghost use Rattle.ol_wire.specs.Layout.{place_of, table_size, IsPlaced};
 ghost use Rattle.ol_wire.specs.Sizes.{IsSmall};
 ghost use Rattle.ol_reduce.specs.Left.{rank_of, AreMarked, births_at, IsSmallTable, IsWithinFuel, IsMarkedToo, IsPlaceOfSome, IsRankAt, IsRankOf, IsPlaceLeft};
 ghost use Rattle.ol_reduce.specs.Linked.{AreAllLeft, AreLeftTo, AddsPlace, AddsNumber};

@@ -1,7 +1,7 @@
 //! A pass over all cells, once every seat stands in one.
 ghost use Rattle.std.specs.Prelude.{◌≡◌, ◌≢◌, ℕ, ◌<◌, IsTrue, IsFalse};
 ghost use Rattle.ol_wire.specs.Layout.{cells_of};
-ghost use Rattle.ol_wire.specs.Stand.{IsOf};
+ghost use Rattle.ol_wire.specs.Stand.{IsSeatOf};
 ghost use Rattle.ol_reduce.specs.Turned.{cells_below, IsTurn, HasTurned, HasSpent, HasSwept, HasSweptToSpent};
 ghost use Rattle.ol_reduce.specs.TurnEnds.{IsSpentTurn, IsOtherTurn};
 
@@ -15,9 +15,9 @@ use ol_wire::{Seat, Shared, Turn};
 /// leaves no active pair: no turn answered `Spent`, and the seat has swept all cells. `Spent` comes
 /// only where the last turn of this call answered it.
 pub fn sweep(shared: &Shared, seat: &mut Seat) -> Sweep
-    requires seat { IsOf shared.now seat.old }
+    requires seat { IsSeatOf shared.now seat.old }
     requires all { seat.old.view.holds ≡ shared.now.plan.seats }
-    ensures seat { IsOf shared.now seat.new }
+    ensures seat { IsSeatOf shared.now seat.new }
     ensures holds { seat.new.view.holds ≡ seat.old.view.holds }
     ensures clean { result ≡ Sweep.Clean → HasSwept shared.now seat.old.view seat.new.view }
     ensures swept { result ≡ Sweep.Clean → seat.new.view.swept ≡ cells_of shared.now.plan.parts }
@@ -34,9 +34,9 @@ pub fn sweep(shared: &Shared, seat: &mut Seat) -> Sweep
 
 // Makes a turn on a cell, and tells whether it answered Spent.
 fn is_spent_at(shared: &Shared, seat: &mut Seat, cell: u32) -> bool
-    requires seat { IsOf shared.now seat.old }
+    requires seat { IsSeatOf shared.now seat.old }
     requires cell { cell < cells_of shared.now.plan.parts }
-    ensures seat { IsOf shared.now seat.new }
+    ensures seat { IsSeatOf shared.now seat.new }
     ensures holds { seat.new.view.holds ≡ seat.old.view.holds }
     ensures turned { IsFalse result → IsOtherTurn shared.now seat.old.view cell seat.new.view }
     ensures spent { IsTrue result → IsSpentTurn shared.now seat.old.view cell seat.new.view }

@@ -1,8 +1,8 @@
 //! What a worker does: it takes cells from the pool and makes turns on them.
 ghost use Rattle.std.specs.Prelude.{◌≡◌, ℕ, List, ◌+◌, ◌≤◌, ◌↔◌, true};
-ghost use Rattle.ol_pool.specs.Pools.{IsOf as IsOfPool};
+ghost use Rattle.ol_pool.specs.Pools.{IsHandOf as IsOfPool};
 ghost use Rattle.ol_wire.specs.Layout.{cells_of};
-ghost use Rattle.ol_wire.specs.Stand.{IsOf};
+ghost use Rattle.ol_wire.specs.Stand.{IsSeatOf};
 ghost use Rattle.ol_reduce.specs.Turned.{HasTurned, HasSpent, HasWorked, HasWorkedToSpent};
 
 use crate::answers::End;
@@ -31,10 +31,10 @@ pub fn worker<R: Wait, G: Gate>(
     own: &mut Worker,
     gate: &G,
 ) -> End
-    requires seat { IsOf shared.now own.old.seat }
+    requires seat { IsSeatOf shared.now own.old.seat }
     requires hand { IsOfPool own.old.hand pool.now }
     requires cells { pool.now.cells ≡ cells_of shared.now.plan.parts }
-    ensures seat { IsOf shared.now own.new.seat }
+    ensures seat { IsSeatOf shared.now own.new.seat }
     ensures hand { IsOfPool own.new.hand pool.now }
     ensures number { own.new.number ≡ own.old.number }
     ensures holds { own.new.seat.view.holds ≡ own.old.seat.view.holds }

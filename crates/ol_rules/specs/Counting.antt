@@ -17,17 +17,17 @@ is_rule rule.Erase rule.Erase = true
 is_rule _ _ = false
 
 -- the number of entries with this rule
-abbrev pub entries_of : Rule → List Entry → ℕ
-entries_of r es = count_by (λ (e : Entry). is_rule e.rule r) es
+abbrev pub times_applied : Rule → List Entry → ℕ
+times_applied r es = count_by (λ (e : Entry). is_rule e.rule r) es
 
 abbrev pub counts_of : List Entry → Counts
 counts_of es = record {
-  beta = entries_of rule.Beta es;
-  fan = entries_of rule.Fan es;
-  croissant = entries_of rule.Croissant es;
-  bracket = entries_of rule.Bracket es;
-  cross_fan = entries_of rule.CrossFan es;
-  cross_croissant = entries_of rule.CrossCroissant es;
-  cross_bracket = entries_of rule.CrossBracket es;
-  erase = entries_of rule.Erase es;
+  beta = times_applied rule.Beta es;
+  fan = times_applied rule.Fan es;
+  croissant = times_applied rule.Croissant es;
+  bracket = times_applied rule.Bracket es;
+  cross_fan = times_applied rule.CrossFan es;
+  cross_croissant = times_applied rule.CrossCroissant es;
+  cross_bracket = times_applied rule.CrossBracket es;
+  erase = times_applied rule.Erase es;
 }

@@ -1,7 +1,7 @@
 //! Journals: what was rewritten, in order, under names that don't depend on the order.
 
 ghost use Rattle.std.specs.Prelude.{◌≡◌, ℕ, ◌+◌, ◌-◌, ◌<◌, ◌^◌, ◌++◌, [], ◌∷◌, length, OnOk, OnErr, slice_get, vec_len, count_by};
-ghost use Rattle.ol_rules.specs.Counting.{entries_of};
+ghost use Rattle.ol_rules.specs.Counting.{times_applied};
 
 use ol_io::NoMemory;
 use ol_net::Rule;
@@ -80,7 +80,7 @@ impl Journal {
 
     /// The number of entries with this rule.
     pub(crate) fn entries_of(&self, rule: Rule) -> u32
-        ensures { result ≡ entries_of rule self.now }
+        ensures { result ≡ times_applied rule self.now }
     {
         self.entries.iter().filter(|e| e.rule == rule).count() as u32
     }

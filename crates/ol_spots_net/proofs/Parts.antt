@@ -6,48 +6,48 @@ use Rattle.ol_term.specs.Trees.{Tree, var, free, lam, app, is_below}
 use Rattle.ol_net.specs.declared.parts.Kind.{Kind}
 use Rattle.ol_net.specs.declared.parts.Kind.TheVariants as kind
 use Rattle.ol_net.specs.declared.parts.Port.{Port}
-use Rattle.ol_translate.specs.Translation.{Part, part_of, abstraction, application, erasers, bound_port, bracket_nodes, bracket_links, bracketed, fans, wire_of, slot}
+use Rattle.ol_translate.specs.Translation.{Subnet, subnet_of, abstraction, application, erasers, bound_port, bracket_nodes, bracket_links, past_brackets, fans, wire_of, slot_port}
 use Rattle.ol_translate.proofs.Counts.{times}
 use Rattle.ol_translate.proofs.Joints.{few_wires, times-bracketed, length-bracket_nodes}
 use Rattle.ol_spots_net.specs.Spots.{Wire, bound, name, under, occurs}
 use Rattle.ol_spots_net.proofs.Fans.{Holds, Links, holds_append, links_append, Merges, fans_merge, Brackets, brackets_wire, outside_wire}
 
 -- a part's nodes, from number k on, and its links
-pub record Has (H : ℕ → Kind → ℕ → Type 0) (L : Port → Port → Type 0) (k : ℕ) (P : Part) : Type 0 where
+pub record Has (H : ℕ → Kind → ℕ → Type 0) (L : Port → Port → Type 0) (k : ℕ) (P : Subnet) : Type 0 where
   pub nodes : Holds H k P.nodes
   pub links : Links L P.links
 
 -- the part of an application's argument
-abbrev pub argument : Tree → Tree → (d n k : ℕ) → Part
-argument M N d n k = part_of N d (n + 1) (k + 1 + length (part_of M d n (k + 1)).nodes)
+abbrev pub argument : Tree → Tree → (d n k : ℕ) → Subnet
+argument M N d n k = subnet_of N d (n + 1) (k + 1 + length (subnet_of M d n (k + 1)).nodes)
 
 module _ (H : ℕ → Kind → ℕ → Type 0) (L : Port → Port → Type 0) where
-  pub record HasLam (n k : ℕ) (M : Part) : Type 0 where
+  pub record HasLam (n k : ℕ) (M : Subnet) : Type 0 where
     pub node : H k kind.Lam n
     pub part : Has H L (k + 1) M
-    pub link : L (slot k 1) M.root
-    pub var_link : L (slot k 2) (bound_port (wire_of 0 M.wires) (k + 1 + length M.nodes))
+    pub link : L (slot_port k 1) M.root
+    pub var_link : L (slot_port k 2) (bound_port (wire_of 0 M.wires) (k + 1 + length M.nodes))
     pub eraser : Holds H (k + 1 + length M.nodes) (erasers (wire_of 0 M.wires))
 
-  pub has_lam : (n k : ℕ) (M : Part) → Has H L k (abstraction n k M) → HasLam n k M
+  pub has_lam : (n k : ℕ) (M : Subnet) → Has H L k (abstraction n k M) → HasLam n k M
   has_lam n k M h =
       let nodes = holds_append H k (k + 1 + length M.nodes) ((kind.Lam, n) ∷ M.nodes) (erasers (wire_of 0 M.wires)) (omega arith) h.nodes in
-      let links = links_append L M.links ((slot k 1, M.root) ∷ (slot k 2, bound_port (wire_of 0 M.wires) (k + 1 + length M.nodes)) ∷ []) h.links in
+      let links = links_append L M.links ((slot_port k 1, M.root) ∷ (slot_port k 2, bound_port (wire_of 0 M.wires) (k + 1 + length M.nodes)) ∷ []) h.links in
       record { node = nodes.0.0; part = record { nodes = nodes.0.1; links = links.0 }; link = links.1.0; var_link = links.1.1.0; eraser = nodes.1 }
 
   -- a wire of an application, by those of its parts
   abbrev pub Wires : ℕ → Option Port → Option Port → Option Port → Type 0
   Wires n None None r = r ≡ None
-  Wires n None (Some q) r = (x : ℕ) × (r ≡ Some (slot x 0)) × H x kind.Bracket n × L (slot x 1) q
+  Wires n None (Some q) r = (x : ℕ) × (r ≡ Some (slot_port x 0)) × H x kind.Bracket n × L (slot_port x 1) q
   Wires n (Some p) None r = r ≡ Some p
-  Wires n (Some p) (Some q) r = (x y : ℕ) × (r ≡ Some (slot y 0)) × H x kind.Bracket n × L (slot x 1) q × H y kind.Fan n × L (slot y 1) p × L (slot y 2) (slot x 0)
+  Wires n (Some p) (Some q) r = (x y : ℕ) × (r ≡ Some (slot_port y 0)) × H x kind.Bracket n × L (slot_port x 1) q × H y kind.Fan n × L (slot_port y 1) p × L (slot_port y 2) (slot_port x 0)
 
-  pub record HasApp (n k : ℕ) (M N : Part) : Type 0 where
+  pub record HasApp (n k : ℕ) (M N : Subnet) : Type 0 where
     pub node : H k kind.App n
     pub function : Has H L (k + 1) M
     pub argument : Has H L (k + 1 + length M.nodes) N
-    pub link : L (slot k 0) M.root
-    pub arg_link : L (slot k 2) N.root
+    pub link : L (slot_port k 0) M.root
+    pub arg_link : L (slot_port k 2) N.root
     pub wires : (v : ℕ) → times v N.wires ≤ 1 → Wires n (wire_of v M.wires) (wire_of v N.wires) (wire_of v (application n k M N).wires)
 
   both_wires : (n : ℕ) (p q m r : Option Port) → Brackets H L n q m → Merges H L n p m r → Wires n p q r
@@ -58,18 +58,18 @@ module _ (H : ℕ → Kind → ℕ → Type 0) (L : Port → Port → Type 0) wh
       no_bracket (Some p) h = h
   both_wires n p (Some q) m r b h = bracket p (subst (λ m. Merges H L n p m r) b.1 h)
     where
-      bracket : (p : Option Port) → Merges H L n p (Some (slot b.0 0)) r → Wires n p (Some q) r
+      bracket : (p : Option Port) → Merges H L n p (Some (slot_port b.0 0)) r → Wires n p (Some q) r
       bracket None h = (b.0, h, b.2, b.3)
       bracket (Some p) h = (b.0, h.0, h.1, b.2, b.3, h.2, h.3, h.4)
 
-  pub has_app : (n k : ℕ) (M N : Part) → Has H L k (application n k M N) → HasApp n k M N
+  pub has_app : (n k : ℕ) (M N : Subnet) → Has H L k (application n k M N) → HasApp n k M N
   has_app n k M N h =
       let b : ℕ = k + 1 + length M.nodes + length N.nodes in
-      let F = fans n (k + 1 + length M.nodes + length N.nodes + length N.wires) M.wires (bracketed (k + 1 + length M.nodes + length N.nodes) N.wires) in
+      let F = fans n (k + 1 + length M.nodes + length N.nodes + length N.wires) M.wires (past_brackets (k + 1 + length M.nodes + length N.nodes) N.wires) in
       let nodes1 = holds_append H k (k + 1 + length M.nodes + length N.nodes) (((kind.App, n) ∷ M.nodes) ++ N.nodes) (bracket_nodes n N.wires ++ F.nodes) (omega (arith, length-append M.nodes N.nodes)) h.nodes in
       let nodes2 = holds_append H k (k + 1 + length M.nodes) ((kind.App, n) ∷ M.nodes) N.nodes (omega arith) nodes1.0 in
       let nodes3 = holds_append H (k + 1 + length M.nodes + length N.nodes) (k + 1 + length M.nodes + length N.nodes + length N.wires) (bracket_nodes n N.wires) F.nodes (omega (arith, length-bracket_nodes n N.wires)) nodes1.1 in
-      let links1 = links_append L (M.links ++ N.links) (((slot k 0, M.root) ∷ (slot k 2, N.root) ∷ []) ++ (bracket_links (k + 1 + length M.nodes + length N.nodes) N.wires ++ F.links)) h.links in
+      let links1 = links_append L (M.links ++ N.links) (((slot_port k 0, M.root) ∷ (slot_port k 2, N.root) ∷ []) ++ (bracket_links (k + 1 + length M.nodes + length N.nodes) N.wires ++ F.links)) h.links in
       let links2 = links_append L M.links N.links links1.0 in
       let links3 = links_append L (bracket_links (k + 1 + length M.nodes + length N.nodes) N.wires) F.links links1.1.1.1 in
       record {
@@ -78,9 +78,9 @@ module _ (H : ℕ → Kind → ℕ → Type 0) (L : Port → Port → Type 0) wh
         argument = record { nodes = nodes2.1; links = links2.1 };
         link = links1.1.0;
         arg_link = links1.1.1.0;
-        wires = λ v few. both_wires n (wire_of v M.wires) (wire_of v N.wires) (wire_of v (bracketed (k + 1 + length M.nodes + length N.nodes) N.wires)) (wire_of v F.wires)
+        wires = λ v few. both_wires n (wire_of v M.wires) (wire_of v N.wires) (wire_of v (past_brackets (k + 1 + length M.nodes + length N.nodes) N.wires)) (wire_of v F.wires)
             (brackets_wire H L v n (k + 1 + length M.nodes + length N.nodes) N.wires nodes3.0 links3.0)
-            (fans_merge H L v n (k + 1 + length M.nodes + length N.nodes + length N.wires) M.wires (bracketed (k + 1 + length M.nodes + length N.nodes) N.wires)
+            (fans_merge H L v n (k + 1 + length M.nodes + length N.nodes + length N.wires) M.wires (past_brackets (k + 1 + length M.nodes + length N.nodes) N.wires)
             (rw (times-bracketed v (k + 1 + length M.nodes + length N.nodes) N.wires) few) nodes3.1 links3.1);
       }
 
@@ -138,18 +138,18 @@ occurs_app (name f) t u = refl
 one_wire : (v u : ℕ) (p : Port) → some (wire_of v ((u, p) ∷ [])) ≡ nat_eq u v
 one_wire v u p = elim (nat_eq u v) as (λ b. nat_eq u v ≡ b → some (wire_of v ((u, p) ∷ [])) ≡ b) [ true ↦ (λ t. rw t refl) | false ↦ (λ t. rw t refl) ] refl
 
-pub has_wire : (t : Tree) (y : Wire) (d n k : ℕ) → is_below d t ≡ true → IsInside d y → some (wire_of (key d y) (part_of t d n k).wires) ≡ occurs y t
-has_wire (var v) (bound y) d n k h i = one_wire y v (slot k 0)
-has_wire (var v) (name f) d n k h i = let off : nat_eq v (d + f) ≡ false = grind (arith, nat_tests, h) in one_wire (d + f) v (slot k 0) ∙ off
-has_wire (free g) (bound y) d n k h i = let off : nat_eq (d + g) y ≡ false = grind (arith, nat_tests, i) in one_wire y (d + g) (slot k 0) ∙ off
-has_wire (free g) (name f) d n k h i = let same : nat_eq (d + g) (d + f) ≡ nat_eq g f = grind (arith, nat_tests) in one_wire (d + f) (d + g) (slot k 0) ∙ same
+pub has_wire : (t : Tree) (y : Wire) (d n k : ℕ) → is_below d t ≡ true → IsInside d y → some (wire_of (key d y) (subnet_of t d n k).wires) ≡ occurs y t
+has_wire (var v) (bound y) d n k h i = one_wire y v (slot_port k 0)
+has_wire (var v) (name f) d n k h i = let off : nat_eq v (d + f) ≡ false = grind (arith, nat_tests, h) in one_wire (d + f) v (slot_port k 0) ∙ off
+has_wire (free g) (bound y) d n k h i = let off : nat_eq (d + g) y ≡ false = grind (arith, nat_tests, i) in one_wire y (d + g) (slot_port k 0) ∙ off
+has_wire (free g) (name f) d n k h i = let same : nat_eq (d + g) (d + f) ≡ nat_eq g f = grind (arith, nat_tests) in one_wire (d + f) (d + g) (slot_port k 0) ∙ same
 has_wire (lam M) y d n k h i =
-    ap some (outside_wire (key d y) (part_of M (d + 1) n (k + 1)).wires)
-    ∙ subst (λ v. some (wire_of v (part_of M (d + 1) n (k + 1)).wires) ≡ occurs (under y) M) (key_under d y) (has_wire M (under y) (d + 1) n (k + 1) h (inside_under d y i))
+    ap some (outside_wire (key d y) (subnet_of M (d + 1) n (k + 1)).wires)
+    ∙ subst (λ v. some (wire_of v (subnet_of M (d + 1) n (k + 1)).wires) ≡ occurs (under y) M) (key_under d y) (has_wire M (under y) (d + 1) n (k + 1) h (inside_under d y i))
     ∙ sym (occurs_lam y M)
 has_wire (app M N) y d n k h i =
     let b = and_parts (is_below d M) (is_below d N) h in
-    let P = part_of M d n (k + 1) in
+    let P = subnet_of M d n (k + 1) in
     let Q = argument M N d n k in
     let A = has_app Any AnyLink n k P Q (record { nodes = any_nodes k (application n k P Q).nodes; links = any_links (application n k P Q).links }) in
     some_wires n (wire_of (key d y) P.wires) (wire_of (key d y) Q.wires) (wire_of (key d y) (application n k P Q).wires) (A.wires (key d y) (few_wires (key d y) N d (n + 1) (k + 1 + length P.nodes)))
@@ -179,8 +179,8 @@ none_is : (x : Option Port) → some x ≡ false → x ≡ None
 none_is None e = refl
 none_is (Some p) e = absurd (cc)
 
-pub wire_there : (t : Tree) (y : Wire) (d n k : ℕ) → is_below d t ≡ true → occurs y t ≡ true → (p : Port) × (wire_of (key d y) (part_of t d n k).wires ≡ Some p)
-wire_there t y d n k h o = some_is (wire_of (key d y) (part_of t d n k).wires) (has_wire t y d n k h (occurs_inside t y d h o) ∙ o)
+pub wire_there : (t : Tree) (y : Wire) (d n k : ℕ) → is_below d t ≡ true → occurs y t ≡ true → (p : Port) × (wire_of (key d y) (subnet_of t d n k).wires ≡ Some p)
+wire_there t y d n k h o = some_is (wire_of (key d y) (subnet_of t d n k).wires) (has_wire t y d n k h (occurs_inside t y d h o) ∙ o)
 
-pub wire_not : (t : Tree) (y : Wire) (d n k : ℕ) → is_below d t ≡ true → IsInside d y → occurs y t ≡ false → wire_of (key d y) (part_of t d n k).wires ≡ None
-wire_not t y d n k h i o = none_is (wire_of (key d y) (part_of t d n k).wires) (has_wire t y d n k h i ∙ o)
+pub wire_not : (t : Tree) (y : Wire) (d n k : ℕ) → is_below d t ≡ true → IsInside d y → occurs y t ≡ false → wire_of (key d y) (subnet_of t d n k).wires ≡ None
+wire_not t y d n k h i o = none_is (wire_of (key d y) (subnet_of t d n k).wires) (has_wire t y d n k h i ∙ o)

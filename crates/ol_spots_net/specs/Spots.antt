@@ -75,14 +75,14 @@ pub data Edge : Tree → Spot → Spot → ℕ → Type 0 where
   in_arg : {M N : Tree} {v : Level} {s s' : Spot} {w : ℕ} → Edge N s s' w → Edge (app M N) (arg v s) (arg v s') w
 
 -- A trail: edges one after another, each taken either way round, of this weight in all.
-pub data Tr {V : Type 0} (E : V → V → ℕ → Type 0) : V → V → ℕ → Type 0 where
-  here : {s : V} → Tr E s s 0
-  on : {s s' z : V} {w n m : ℕ} → E s s' w → Tr E s' z n → m ≡ w + n → Tr E s z m
-  back : {s s' z : V} {w n m : ℕ} → E s' s w → Tr E s' z n → m ≡ w + n → Tr E s z m
+pub data Trail {V : Type 0} (E : V → V → ℕ → Type 0) : V → V → ℕ → Type 0 where
+  here : {s : V} → Trail E s s 0
+  on : {s s' z : V} {w n m : ℕ} → E s s' w → Trail E s' z n → m ≡ w + n → Trail E s z m
+  back : {s s' z : V} {w n m : ℕ} → E s' s w → Trail E s' z n → m ≡ w + n → Trail E s z m
 
 -- a trail of weight n from one spot of a term to another one
 abbrev pub Leads : Tree → Spot → Spot → ℕ → Type 0
-Leads t e x n = Tr (Edge t) e x n × (e ≢ x)
+Leads t e x n = Trail (Edge t) e x n × (e ≢ x)
 
 -- ---- a whole term and its net
 

@@ -5,7 +5,7 @@ use Rattle.std.specs.Str.{bytes_eq}
 use Rattle.std.proofs.lemmas.Bool.{cases_Bool, or_right}
 use Rattle.std.proofs.lemmas.Slice.Eq.{bytes_eq-Decides}
 use Rattle.std.proofs.lemmas.List.{get_or_append_left, get_or_push, length_push}
-use Rattle.ol_term.specs.BinderNames.{candidate, is_among, fresh_from, number_of}
+use Rattle.ol_term.specs.BinderNames.{candidate, is_among, fresh_from, binder_number}
 use Rattle.ol_term.specs.BinderNumbers.{AreNumbers, IsStart}
 
 -- two texts that differ
@@ -40,11 +40,11 @@ pub fresh_last : (names : List (List ℕ)) (n m : ℕ) → n ≡ 0 → fresh_fro
 fresh_last names n m e = ap (λ n. fresh_from names n m) e
 
 -- one number more
-start_is : (names : List (List ℕ)) (ns : List ℕ) (m : ℕ) → AreNumbers names ns → IsStart ns m → number_of names (length ns) ≡ fresh_from names (length names) m
-start_is names ns m h (inl s) = ap (number_of names) s.0 ∙ ap (fresh_from names (length names)) (sym s.1)
+start_is : (names : List (List ℕ)) (ns : List ℕ) (m : ℕ) → AreNumbers names ns → IsStart ns m → binder_number names (length ns) ≡ fresh_from names (length names) m
+start_is names ns m h (inl s) = ap (binder_number names) s.0 ∙ ap (fresh_from names (length names)) (sym s.1)
 start_is names ns m h (inr s) =
     let l = s.1 in
-    ap (number_of names) s.1 ∙ ap (λ n. fresh_from names (length names) (suc n)) (sym (h s.0 0 (omega arith))) ∙ ap (fresh_from names (length names)) (sym s.2)
+    ap (binder_number names) s.1 ∙ ap (λ n. fresh_from names (length names) (suc n)) (sym (h s.0 0 (omega arith))) ∙ ap (fresh_from names (length names)) (sym s.2)
 
 pub numbers_push : (names : List (List ℕ)) (ns : List ℕ) (m n : ℕ) → AreNumbers names ns → IsStart ns m → n ≡ fresh_from names (length names) m → AreNumbers names (ns ++ n ∷ [])
 numbers_push names ns m n h s e t d b = go (cases t (length ns))
@@ -52,9 +52,9 @@ numbers_push names ns m n h s e t d b = go (cases t (length ns))
     cases : (t k : ℕ) → (t < k) ⊎ (k ≤ t)
     cases t k = grind arith
 
-    go : (t < length ns) ⊎ (length ns ≤ t) → get_or (ns ++ n ∷ []) t d ≡ number_of names t
+    go : (t < length ns) ⊎ (length ns ≤ t) → get_or (ns ++ n ∷ []) t d ≡ binder_number names t
     go (inl c) = get_or_append_left ns (n ∷ []) d t c ∙ h t d c
     go (inr c) =
         let l = length_push ns n in
         let q : length ns ≡ t = omega arith in
-        get_or_push ns n d t q ∙ e ∙ sym (start_is names ns m h s) ∙ ap (number_of names) q
+        get_or_push ns n d t q ∙ e ∙ sym (start_is names ns m h s) ∙ ap (binder_number names) q

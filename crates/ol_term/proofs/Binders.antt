@@ -8,7 +8,7 @@ use Rattle.std.proofs.lemmas.Bool.{cases_Bool, cases_lt, cases_order, eqb-true}
 use Rattle.std.proofs.lemmas.Slice.Eq.{bytes_eq-Decides}
 use Rattle.std.proofs.lemmas.Fmt.{decimal_is_IsNumeral_wide}
 use Rattle.std.proofs.lemmas.Str.Parse.{digit_from_value}
-use Rattle.ol_term.specs.BinderNames.{candidate, is_among, fresh_from, number_of, binder_name}
+use Rattle.ol_term.specs.BinderNames.{candidate, is_among, fresh_from, binder_number, binder_name}
 use Rattle.ol_term.specs.NameLists.{without}
 use Rattle.ol_term.specs.BinderLaws.{AreDigits, IsLetterWithDigits, BinderIsLetterWithDigits, BinderIsNotFree, BindersDiffer}
 use Rattle.ol_term.proofs.BinderTexts.{not_same, among_at}
@@ -132,33 +132,33 @@ fresh_is_new (suc n) names m h l = go (is_among names (candidate m)) refl (λ b.
 
 -- ---- the numbers of binders' names
 
-number_high : (names : List (List ℕ)) (t : ℕ) → number_of names t ≤ t + (t + 1) * length names
+number_high : (names : List (List ℕ)) (t : ℕ) → binder_number names t ≤ t + (t + 1) * length names
 number_high names zero = let h = fresh_high names (length names) 0 in omega arith
-number_high names (suc t) = let h = fresh_high names (length names) (suc (number_of names t)) in let k = number_high names t in omega arith
+number_high names (suc t) = let h = fresh_high names (length names) (suc (binder_number names t)) in let k = number_high names t in omega arith
 
-number_written : (names : List (List ℕ)) (t : ℕ) → length names < 2 ^ 32 → t < 2 ^ 64 → number_of names t + length names + 1 < 10 ^ 64
+number_written : (names : List (List ℕ)) (t : ℕ) → length names < 2 ^ 32 → t < 2 ^ 64 → binder_number names t + length names + 1 < 10 ^ 64
 number_written names t h k =
     let l = number_high names t in
     let m : (t + 1) * length names ≤ 2 ^ 64 * 2 ^ 32 = mul-le-mul {n₁ = t + 1} {m₁ = length names} {n₂ = 2 ^ 64} {m₂ = 2 ^ 32} (omega arith) (omega arith) in
     omega arith
 
-number_is_new : (names : List (List ℕ)) (t : ℕ) → length names < 2 ^ 32 → t < 2 ^ 64 → is_among names (candidate (number_of names t)) ≡ false
+number_is_new : (names : List (List ℕ)) (t : ℕ) → length names < 2 ^ 32 → t < 2 ^ 64 → is_among names (candidate (binder_number names t)) ≡ false
 number_is_new names zero h k = fresh_is_new (length names) names 0 (omega arith) (omega arith)
-number_is_new names (suc t) h k = let l = number_written names t h (omega arith) in fresh_is_new (length names) names (suc (number_of names t)) (omega arith) (omega arith)
+number_is_new names (suc t) h k = let l = number_written names t h (omega arith) in fresh_is_new (length names) names (suc (binder_number names t)) (omega arith) (omega arith)
 
-rising : (names : List (List ℕ)) (s t : ℕ) → s < t → number_of names s < number_of names t
+rising : (names : List (List ℕ)) (s t : ℕ) → s < t → binder_number names s < binder_number names t
 rising names s zero h = absurd (omega arith)
 rising names s (suc t) h =
-    let low = fresh_low names (length names) (suc (number_of names t)) in
+    let low = fresh_low names (length names) (suc (binder_number names t)) in
     elim (cases_lt s t) [
       | inl less ↦ (let r = rising names s t less in omega arith)
-      | inr more ↦ (let e : s ≡ t = omega arith in let r = ap (number_of names) e in omega arith)
+      | inr more ↦ (let e : s ≡ t = omega arith in let r = ap (binder_number names) e in omega arith)
     ]
 
 -- ---- the laws
 
 pub binder_is_letter_with_digits : BinderIsLetterWithDigits
-binder_is_letter_with_digits names t h k = let l = number_written names t h k in letter_with_digits (number_of names t) (omega arith)
+binder_is_letter_with_digits names t h k = let l = number_written names t h k in letter_with_digits (binder_number names t) (omega arith)
 
 pub binder_is_not_free : BinderIsNotFree
 binder_is_not_free names t h k j e =
@@ -170,7 +170,7 @@ pub binders_differ : BindersDiffer
 binders_differ names s t h k l apart e =
     let x = number_written names s h k in
     let y = number_written names t h l in
-    let same = same_candidate (number_of names s) (number_of names t) (omega arith) (omega arith) e in
+    let same = same_candidate (binder_number names s) (binder_number names t) (omega arith) (omega arith) e in
     elim (cases_order s t) [
       | inl is ↦ absurd (apart is)
       | inr other ↦ elim other [

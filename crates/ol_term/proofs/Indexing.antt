@@ -8,7 +8,7 @@ use Rattle.std.specs.BTreeMap.{insert_entry}
 use Rattle.std.specs.Ordering.{match_ordering, nat_cmp, is_eq}
 use Rattle.std.specs.declared.cmp.Ordering.{Ordering}
 use Rattle.std.specs.Cmp.Lexicographic.{slice_cmp}
-use Rattle.ol_term.specs.NameLists.{IsFirstPlace, AreDifferent}
+use Rattle.ol_term.specs.NameLists.{IsFirstPlace, NoNameTwice}
 use Rattle.ol_term.specs.NameIndexes.{by_bytes}
 use Rattle.ol_term.specs.NameFinds.{found, IsIndexed}
 
@@ -120,7 +120,7 @@ last_is names key j x high g =
     let both : Some x ≡ Some key.items = sym g ∙ ap (slice_get (names ++ key.items ∷ [])) here ∙ get_last names key.items in
     (here, cc)
 
-different_more : (names : List (List ℕ)) (es : List (Key × ℕ)) (key : Key) → IsIndexed names es → found key.items es ≡ None → AreDifferent (names ++ key.items ∷ [])
+different_more : (names : List (List ℕ)) (es : List (Key × ℕ)) (key : Key) → IsIndexed names es → found key.items es ≡ None → NoNameTwice (names ++ key.items ∷ [])
 different_more names es key i h j k x g g' = elim (cases_lt j (length names)) [
   | inl low ↦ elim (cases_lt k (length names)) [
     | inl low' ↦ i.different j k x (sym (below_added names (key.items ∷ []) j low) ∙ g) (sym (below_added names (key.items ∷ []) k low') ∙ g')

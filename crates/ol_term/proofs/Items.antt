@@ -3,14 +3,14 @@ use Rattle.std.proofs.Common.{◌≡◌, ℕ, ◌+◌, ◌<◌, ◌≤◌, Bool,
 use Rattle.std.proofs.lemmas.Bool.{and_parts}
 use Rattle.std.proofs.lemmas.List.{append-nil}
 use Rattle.std.specs.Prelude.{not, max, if◌then◌else◌}
-use Rattle.ol_term.specs.Trees.{Tree, var, free, lam, app, is_below, is_named_below, size, depth}
+use Rattle.ol_term.specs.Trees.{Tree, var, free, lam, app, is_below, is_named_below, term_size, depth}
 use Rattle.ol_term.specs.Texts.{in_brackets}
 use Rattle.ol_term.specs.Printing.{left_bracket, closing, bracketed, item_text, items_text, IsPrintable, IsItem, AreItems, weight, weights, IsStep}
 use Rattle.ol_term.specs.declared.printing.Todo.{Todo}
 use Rattle.ol_term.specs.declared.printing.Todo.TheVariants as todo
 
 -- no more stand one within another than there are
-pub depth_small : (t : Tree) → depth t ≤ size t
+pub depth_small : (t : Tree) → depth t ≤ term_size t
 depth_small (var k) = omega arith
 depth_small (free k) = omega arith
 depth_small (lam t) = let a = depth_small t in omega arith

@@ -18,9 +18,9 @@ fresh_from names zero m = m
 fresh_from names (suc n) m = if is_among names (candidate m) then fresh_from names n (suc m) else m
 
 -- The number of the name of a binder with t binders round it. No more names are passed over than there are free names.
-abbrev pub number_of : List (List ℕ) → ℕ → ℕ
-number_of names zero = fresh_from names (length names) 0
-number_of names (suc t) = fresh_from names (length names) (suc (number_of names t))
+abbrev pub binder_number : List (List ℕ) → ℕ → ℕ
+binder_number names zero = fresh_from names (length names) 0
+binder_number names (suc t) = fresh_from names (length names) (suc (binder_number names t))
 
 abbrev pub binder_name : List (List ℕ) → ℕ → List ℕ
-binder_name names t = candidate (number_of names t)
+binder_name names t = candidate (binder_number names t)

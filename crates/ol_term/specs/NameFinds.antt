@@ -5,7 +5,7 @@ use Rattle.std.specs.Ordering.{nat_cmp, is_eq}
 use Rattle.std.specs.Cmp.Lexicographic.{slice_cmp}
 use Rattle.std.specs.declared.vec.Vec.{Vec}
 use Rattle.std.specs.declared.alloc.Global.{Global}
-use Rattle.ol_term.specs.NameLists.{IsFirstPlace, AreDifferent}
+use Rattle.ol_term.specs.NameLists.{IsFirstPlace, NoNameTwice}
 
 -- what the index has at a name
 abbrev pub found : List ℕ → List (Vec ℕ Global × ℕ) → Option ℕ
@@ -16,4 +16,4 @@ pub record IsIndexed (names : List (List ℕ)) (entries : List (Vec ℕ Global �
   pub short : length names < 2 ^ 32
   pub first : (name : List ℕ) (k : ℕ) → found name entries ≡ Some k → IsFirstPlace names name k
   pub all : (name : List ℕ) → found name entries ≡ None → (j : ℕ) → slice_get names j ≢ Some name
-  pub different : AreDifferent names
+  pub different : NoNameTwice names

@@ -8,8 +8,8 @@ pub record IsFirstPlace (names : List (List ℕ)) (name : List ℕ) (k : ℕ) : 
   pub before : (j : ℕ) → j < k → slice_get names j ≢ Some name
 
 -- no name stands twice
-abbrev pub AreDifferent : List (List ℕ) → Type 0
-AreDifferent names = (j k : ℕ) (name : List ℕ) → slice_get names j ≡ Some name → slice_get names k ≡ Some name → j ≡ k
+abbrev pub NoNameTwice : List (List ℕ) → Type 0
+NoNameTwice names = (j k : ℕ) (name : List ℕ) → slice_get names j ≡ Some name → slice_get names k ≡ Some name → j ≡ k
 
 -- all but this name
 abbrev pub without : List ℕ → List (List ℕ) → List (List ℕ)

@@ -1,7 +1,7 @@
 -- What is still to be printed of a term.
 use Rattle.std.specs.Prelude.{◌≡◌, ℕ, ◌+◌, ◌*◌, ◌<◌, ◌≤◌, Bool, true, false, if◌then◌else◌, List, [], ◌∷◌, ◌++◌, length}
-use Rattle.ol_term.specs.Trees.{Tree, tree_of, is_below, is_named_below, depth, size}
-use Rattle.ol_term.specs.Texts.{is_variable, in_brackets, text_of}
+use Rattle.ol_term.specs.Trees.{Tree, tree_of, is_below, is_named_below, depth, term_size}
+use Rattle.ol_term.specs.Texts.{is_variable, in_brackets, term_text_under}
 use Rattle.ol_term.specs.declared.printing.Todo.{Todo}
 use Rattle.ol_term.specs.declared.printing.Todo.TheVariants as todo
 
@@ -19,9 +19,9 @@ bracketed bare text = if bare then text else in_brackets text
 
 -- the text of one item
 abbrev pub item_text : List (List ℕ) → Todo → List ℕ
-item_text names (todo.Term t n b) = text_of names b n (tree_of t.now)
+item_text names (todo.Term t n b) = term_text_under names b n (tree_of t.now)
 item_text names (todo.Argument t n) =
-    32 ∷ bracketed (is_variable (tree_of t.now)) (text_of names false n (tree_of t.now))
+    32 ∷ bracketed (is_variable (tree_of t.now)) (term_text_under names false n (tree_of t.now))
 item_text names todo.Close = 41 ∷ []
 
 -- the text of all items, the last of which comes first
@@ -46,8 +46,8 @@ AreItems count (x ∷ xs) = IsItem count x × AreItems count xs
 
 -- how much is left to do
 abbrev pub weight : Todo → ℕ
-weight (todo.Term t n b) = 4 * size (tree_of t.now)
-weight (todo.Argument t n) = 2 + 4 * size (tree_of t.now)
+weight (todo.Term t n b) = 4 * term_size (tree_of t.now)
+weight (todo.Argument t n) = 2 + 4 * term_size (tree_of t.now)
 weight todo.Close = 1
 
 abbrev pub weights : List Todo → ℕ
@@ -65,7 +65,7 @@ pub record IsStep
 
 -- a tree was printed, or a part of it, with n binders round it
 abbrev pub PrintsTree : List (List ℕ) → Bool → ℕ → Tree → List ℕ → List Todo → List ℕ → List Todo → Type 0
-PrintsTree names body n t x items x' items' = IsStep names x items (text_of names body n t) (4 * size t) x' items'
+PrintsTree names body n t x items x' items' = IsStep names x items (term_text_under names body n t) (4 * term_size t) x' items'
 
 -- an item was printed, or a part of it
 abbrev pub Prints : List (List ℕ) → Todo → List ℕ → List Todo → List ℕ → List Todo → Type 0

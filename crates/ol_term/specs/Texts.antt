@@ -30,15 +30,15 @@ in_brackets text = 40 ∷ (text ++ 41 ∷ [])
 
 -- A term with t binders round it, which is the body of the innermost one where `body` is true. A function that is an
 -- abstraction and an argument that is no variable stand in brackets.
-abbrev pub text_of : List (List ℕ) → Bool → ℕ → Tree → List ℕ
-text_of names body t (var k) = before_body body ++ binder_name names (t - (k + 1))
-text_of names body t (free k) = before_body body ++ slice_index_or names k []
-text_of names body t (lam u) = before_binder body ++ (binder_name names t ++ text_of names true (t + 1) u)
-text_of names body t (app f a) =
+abbrev pub term_text_under : List (List ℕ) → Bool → ℕ → Tree → List ℕ
+term_text_under names body t (var k) = before_body body ++ binder_name names (t - (k + 1))
+term_text_under names body t (free k) = before_body body ++ slice_index_or names k []
+term_text_under names body t (lam u) = before_binder body ++ (binder_name names t ++ term_text_under names true (t + 1) u)
+term_text_under names body t (app f a) =
     before_body body
-    ++ ((if is_abstraction f then in_brackets (text_of names false t f) else text_of names false t f)
-    ++ 32 ∷ (if is_variable a then text_of names false t a else in_brackets (text_of names false t a)))
+    ++ ((if is_abstraction f then in_brackets (term_text_under names false t f) else term_text_under names false t f)
+    ++ 32 ∷ (if is_variable a then term_text_under names false t a else in_brackets (term_text_under names false t a)))
 
 -- a whole term, with no binder round it
-abbrev pub text_of_tree : List (List ℕ) → Tree → List ℕ
-text_of_tree names t = text_of names false 0 t
+abbrev pub text_of_term : List (List ℕ) → Tree → List ℕ
+text_of_term names t = term_text_under names false 0 t

@@ -40,11 +40,11 @@ abbrev pub EachOccurs : ℕ → Tree → Type 0
 EachOccurs n t = (k : ℕ) → k < n → has_name k t ≡ true
 
 -- how many constructors a tree has
-abbrev pub size : Tree → ℕ
-size (var k) = 1
-size (free k) = 1
-size (lam t) = 1 + size t
-size (app f a) = 1 + size f + size a
+abbrev pub term_size : Tree → ℕ
+term_size (var k) = 1
+term_size (free k) = 1
+term_size (lam t) = 1 + term_size t
+term_size (app f a) = 1 + term_size f + term_size a
 
 -- how many constructors stand one within another
 abbrev pub depth : Tree → ℕ

@@ -2,7 +2,7 @@
 
 ghost use Rattle.std.specs.Prelude.{◌≡◌, ℕ, ◌+◌, ◌<◌, ◌++◌, List, length, slice_index_or, IfOk, OnOk};
 ghost use Rattle.std.specs.Fmt.{decimal};
-ghost use Rattle.ol_term.specs.BinderNames.{candidate, is_among, fresh_from, number_of, binder_name};
+ghost use Rattle.ol_term.specs.BinderNames.{candidate, is_among, fresh_from, binder_number, binder_name};
 ghost use Rattle.ol_term.specs.BinderNumbers.{AreNumbers, IsStart};
 
 use crate::name_list::Names;
@@ -103,7 +103,7 @@ fn number_of(
     t: usize,
 ) -> Result<u64, NoMemory>
     requires { AreNumbers names.now numbers.old.items }
-    ensures number { IfOk result (λ m. m ≡ number_of names.now t) }
+    ensures number { IfOk result (λ m. m ≡ binder_number names.now t) }
     ensures numbers { AreNumbers names.now numbers.new.items }
 {
     'fill: while numbers.len() <= t {

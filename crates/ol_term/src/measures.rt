@@ -3,14 +3,14 @@
 //! These calls take no memory, so they recurse on the term: a call as deep as the term is.
 
 ghost use Rattle.std.specs.Prelude.{◌≡◌, ◌<◌, ◌^◌, ◌↔◌, true};
-ghost use Rattle.ol_term.specs.Trees.{tree_of, size, depth};
+ghost use Rattle.ol_term.specs.Trees.{tree_of, term_size, depth};
 
 use crate::terms::Term;
 
 /// How many constructors a term has: itself and those inside it. The term has fewer than 2^64.
 pub fn size(term: &Term) -> u64
-    requires few { size (tree_of term.now) < 2 ^ 64 }
-    ensures { result ≡ size (tree_of term.now) }
+    requires few { term_size (tree_of term.now) < 2 ^ 64 }
+    ensures { result ≡ term_size (tree_of term.now) }
 {
     match term {
         Term::Var(_) => 1,
@@ -24,7 +24,7 @@ pub fn size(term: &Term) -> u64
 /// body for an abstraction, one more than the deeper part for an application. The term has fewer
 /// than 2^64 constructors.
 pub fn depth(term: &Term) -> u64
-    requires few { size (tree_of term.now) < 2 ^ 64 }
+    requires few { term_size (tree_of term.now) < 2 ^ 64 }
     ensures { result ≡ depth (tree_of term.now) }
 {
     match term {

@@ -3,7 +3,7 @@
 ghost use Rattle.std.specs.Prelude.{◌≡◌, ◌≢◌, ℕ, ◌+◌, ◌^◌, ◌<◌, ◌≤◌, ◌↔◌, List, [], ◌∷◌, ◌++◌, Some, IfOk, OnOk, OnErr, IfSome, IsNone, length, map, slice_get};
 ghost use Rattle.std.specs.BTreeMap.{insert_entry};
 ghost use Rattle.std.specs.Option.{option_map};
-ghost use Rattle.ol_term.specs.NameLists.{IsFirstPlace, AreDifferent};
+ghost use Rattle.ol_term.specs.NameLists.{IsFirstPlace, NoNameTwice};
 ghost use Rattle.ol_term.specs.NameIndexes.{by_bytes};
 ghost use Rattle.ol_term.specs.NameFinds.{IsIndexed, found};
 
@@ -49,7 +49,7 @@ impl Names {
 
     /// Law: no name stands twice, and there are fewer than 2 ^ 32.
     pub fn are_different(&self)
-        ensures different { AreDifferent self.now }
+        ensures different { NoNameTwice self.now }
         ensures few { length self.now < 2 ^ 32 }
     {
         let _ = &self.rows;

@@ -1,9 +1,9 @@
 //! The printed text of a term.
 
 ghost use Rattle.std.specs.Prelude.{◌≡◌, ◌+◌, ◌-◌, ◌*◌, ◌<◌, ◌≤◌, ◌++◌, [], ◌∷◌, length, slice_index_or, true, false, if◌then◌else◌, IfOk, OnOk};
-ghost use Rattle.ol_term.specs.Trees.{tree_of, is_below, is_named_below, size, depth};
+ghost use Rattle.ol_term.specs.Trees.{tree_of, is_below, is_named_below, term_size, depth};
 ghost use Rattle.ol_term.specs.BinderNames.{binder_name};
-ghost use Rattle.ol_term.specs.Texts.{before_binder, before_body, is_abstraction, is_variable, text_of, text_of_tree};
+ghost use Rattle.ol_term.specs.Texts.{before_binder, before_body, is_abstraction, is_variable, term_text_under, text_of_term};
 ghost use Rattle.ol_term.specs.Printing.{left_bracket, closing, IsPrintable, IsItem, AreItems, PrintsTree, Prints};
 
 use crate::binder_names::BinderNames;
@@ -176,7 +176,7 @@ pub fn print_term(alloc: Global, term: &Term, names: &Names) -> Result<Vec<u8>, 
     requires bound { is_below 0 (tree_of term.now) ≡ true }
     requires named { is_named_below (length names.now) (tree_of term.now) ≡ true }
     requires short { depth (tree_of term.now) ≤ 4294967295 }
-    ensures { IfOk result (λ text. text.items ≡ text_of_tree names.now (tree_of term.now)) }
+    ensures { IfOk result (λ text. text.items ≡ text_of_term names.now (tree_of term.now)) }
 {
     let mut binders = BinderNames::new(alloc, names);
     let mut text: Vec<u8> = Vec::new(alloc);

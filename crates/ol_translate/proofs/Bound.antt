@@ -6,7 +6,7 @@ use Rattle.ol_net.specs.declared.parts.Port.{Port}
 use Rattle.ol_net.specs.declared.parts.Port.TheVariants.{Free}
 use Rattle.ol_net.specs.declared.parts.Kind.{Kind}
 use Rattle.ol_net.specs.declared.parts.Kind.TheVariants as kind
-use Rattle.ol_translate.specs.Translation.{Part, part_of, abstraction, application, outside, erasers, bound_port, bracket_nodes, bracket_links, bracketed, fans, fan_nodes, fan_links, merged, wire_of, rewired, slot, name_links, nodes_of, links_of}
+use Rattle.ol_translate.specs.Translation.{Subnet, subnet_of, abstraction, application, outside, erasers, bound_port, bracket_nodes, bracket_links, past_brackets, fans, fan_nodes, fan_links, merged, wire_of, reconnected, slot_port, name_links, nodes_of, links_of}
 use Rattle.ol_translate.proofs.Counts.{times}
 use Rattle.ol_translate.specs.Names.{HasNames}
 use Rattle.ol_translate.proofs.Joints.{none_past, name_has_wire}
@@ -41,16 +41,16 @@ low_key d w wires none =
       | false ↦ (λ t. let past : d ≤ w.0 = grind (arith, nat_tests, t) in let none = rw (eq-eqb w.0 w.0 refl) at (none w.0 past) in absurd (omega arith))
     ] refl
 
-length-bracketed : (b : ℕ) (wires : List (ℕ × Port)) → length (bracketed b wires) ≡ length wires
+length-bracketed : (b : ℕ) (wires : List (ℕ × Port)) → length (past_brackets b wires) ≡ length wires
 length-bracketed b [] = refl
 length-bracketed b (w ∷ wires) = ap suc (length-bracketed (b + 1) wires)
 
 -- ---- wires, links and names are few beside the nodes
 
-length-rewired : (v : ℕ) (p : Port) (wires : List (ℕ × Port)) → length (rewired v p wires) ≡ length wires
+length-rewired : (v : ℕ) (p : Port) (wires : List (ℕ × Port)) → length (reconnected v p wires) ≡ length wires
 length-rewired v p [] = refl
 length-rewired v p (w ∷ wires) =
-    elim (nat_eq w.0 v) as (λ b. nat_eq w.0 v ≡ b → length (rewired v p (w ∷ wires)) ≡ length (w ∷ wires)) [
+    elim (nat_eq w.0 v) as (λ b. nat_eq w.0 v ≡ b → length (reconnected v p (w ∷ wires)) ≡ length (w ∷ wires)) [
       | true ↦ (λ t. rw t refl)
       | false ↦ (λ t. rw t (ap suc (length-rewired v p wires)))
     ] refl
@@ -62,7 +62,7 @@ fans_wires n f wires (w ∷ more) =
   where
     one : (w : ℕ × Port) (f : ℕ) (wires : List (ℕ × Port)) (x : Option Port) → length (merged f x w wires) ≤ 1 + length wires
     one w f wires None = omega (arith, length-append wires (w ∷ []))
-    one w f wires (Some q) = omega (arith, length-rewired w.0 (slot f 0) wires)
+    one w f wires (Some q) = omega (arith, length-rewired w.0 (slot_port f 0) wires)
 
 fans_links : (n f : ℕ) (wires more : List (ℕ × Port)) → length (fans n f wires more).links ≤ 2 * length (fans n f wires more).nodes
 fans_links n f wires [] = omega arith
@@ -94,21 +94,21 @@ length-outside-le (w ∷ wires) =
     ] refl
 
 -- at most as many wires as nodes, and twice as many links
-pub record IsSmall (P : Part) : Type 0 where
+pub record IsSmall (P : Subnet) : Type 0 where
   pub wires : length P.wires ≤ length P.nodes
   pub links : length P.links ≤ 2 * length P.nodes
 
-abstraction_small : (n k : ℕ) (M : Part) → IsSmall M → IsSmall (abstraction n k M)
+abstraction_small : (n k : ℕ) (M : Subnet) → IsSmall M → IsSmall (abstraction n k M)
 abstraction_small n k M h = record {
   wires = omega (arith, h.wires, length-outside-le M.wires, length-append M.nodes (erasers (wire_of 0 M.wires)));
-  links = omega (arith, h.links, length-append M.nodes (erasers (wire_of 0 M.wires)), length-append M.links ((slot k 1, M.root) ∷ (slot k 2, bound_port (wire_of 0 M.wires) (k + 1 + length M.nodes)) ∷ []));
+  links = omega (arith, h.links, length-append M.nodes (erasers (wire_of 0 M.wires)), length-append M.links ((slot_port k 1, M.root) ∷ (slot_port k 2, bound_port (wire_of 0 M.wires) (k + 1 + length M.nodes)) ∷ []));
 }
 
-application_small : (n k : ℕ) (M N : Part) → IsSmall M → IsSmall N → IsSmall (application n k M N)
+application_small : (n k : ℕ) (M N : Subnet) → IsSmall M → IsSmall N → IsSmall (application n k M N)
 application_small n k M N hm hn =
     let b : ℕ = k + 1 + length M.nodes + length N.nodes in
-    let F = fans n (k + 1 + length M.nodes + length N.nodes + length N.wires) M.wires (bracketed (k + 1 + length M.nodes + length N.nodes) N.wires) in
-    let two : List (Port × Port) = (slot k 0, M.root) ∷ (slot k 2, N.root) ∷ [] in
+    let F = fans n (k + 1 + length M.nodes + length N.nodes + length N.wires) M.wires (past_brackets (k + 1 + length M.nodes + length N.nodes) N.wires) in
+    let two : List (Port × Port) = (slot_port k 0, M.root) ∷ (slot_port k 2, N.root) ∷ [] in
     let bl = bracket_links (k + 1 + length M.nodes + length N.nodes) N.wires in
     let nodes1 = length-append (((kind.App, n) ∷ M.nodes) ++ N.nodes) (bracket_nodes n N.wires ++ F.nodes) in
     let nodes2 = length-append M.nodes N.nodes in
@@ -118,21 +118,21 @@ application_small n k M N hm hn =
     let links2 = length-append M.links N.links in
     let links3 = length-append bl F.links in
     let links4 = length-bracket_links (k + 1 + length M.nodes + length N.nodes) N.wires in
-    let links5 = fans_links n (k + 1 + length M.nodes + length N.nodes + length N.wires) M.wires (bracketed (k + 1 + length M.nodes + length N.nodes) N.wires) in
-    let wires1 = fans_wires n (k + 1 + length M.nodes + length N.nodes + length N.wires) M.wires (bracketed (k + 1 + length M.nodes + length N.nodes) N.wires) in
+    let links5 = fans_links n (k + 1 + length M.nodes + length N.nodes + length N.wires) M.wires (past_brackets (k + 1 + length M.nodes + length N.nodes) N.wires) in
+    let wires1 = fans_wires n (k + 1 + length M.nodes + length N.nodes + length N.wires) M.wires (past_brackets (k + 1 + length M.nodes + length N.nodes) N.wires) in
     let wires2 = length-bracketed (k + 1 + length M.nodes + length N.nodes) N.wires in
     record {
       wires = omega (arith, nodes1, nodes2, nodes3, nodes4, wires1, wires2, hm.wires, hn.wires);
       links = omega (arith, nodes1, nodes2, nodes3, nodes4, links1, links2, links3, links4, links5, hm.links, hn.links);
     }
 
-pub part_small : (t : Tree) (d n k : ℕ) → IsSmall (part_of t d n k)
+pub part_small : (t : Tree) (d n k : ℕ) → IsSmall (subnet_of t d n k)
 part_small (var v) d n k = record { wires = omega arith; links = omega arith }
 part_small (free f) d n k = record { wires = omega arith; links = omega arith }
-part_small (lam M) d n k = abstraction_small n k (part_of M (d + 1) n (k + 1)) (part_small M (d + 1) n (k + 1))
+part_small (lam M) d n k = abstraction_small n k (subnet_of M (d + 1) n (k + 1)) (part_small M (d + 1) n (k + 1))
 part_small (app M N) d n k =
-    application_small n k (part_of M d n (k + 1)) (part_of N d (n + 1) (k + 1 + length (part_of M d n (k + 1)).nodes))
-    (part_small M d n (k + 1)) (part_small N d (n + 1) (k + 1 + length (part_of M d n (k + 1)).nodes))
+    application_small n k (subnet_of M d n (k + 1)) (subnet_of N d (n + 1) (k + 1 + length (subnet_of M d n (k + 1)).nodes))
+    (part_small M d n (k + 1)) (part_small N d (n + 1) (k + 1 + length (subnet_of M d n (k + 1)).nodes))
 
 length-name_links : (wires : List (ℕ × Port)) → length (name_links wires) ≡ length wires
 length-name_links [] = refl
@@ -140,13 +140,13 @@ length-name_links (w ∷ wires) = ap suc (length-name_links wires)
 
 pub few_links : (t : Tree) → length (links_of t) ≤ 1 + 3 * length (nodes_of t)
 few_links t =
-    let P = part_of t 0 0 0 in
+    let P = subnet_of t 0 0 0 in
     omega (
       arith,
       (part_small t 0 0 0).wires,
       (part_small t 0 0 0).links,
-      length-name_links (part_of t 0 0 0).wires,
-      length-append (part_of t 0 0 0).links ((Free 0, (part_of t 0 0 0).root) ∷ name_links (part_of t 0 0 0).wires),
+      length-name_links (subnet_of t 0 0 0).wires,
+      length-append (subnet_of t 0 0 0).links ((Free 0, (subnet_of t 0 0 0).root) ∷ name_links (subnet_of t 0 0 0).wires),
     )
 
 total-ge : (d : ℕ) (wires : List (ℕ × Port)) → ((v : ℕ) → v < d → 1 ≤ times v wires) → d ≤ total d wires
@@ -172,8 +172,8 @@ pub few_names : (t : Tree) (names : ℕ) → HasNames t names → names ≤ leng
 few_names t names h =
     omega (
       arith,
-      total-ge names (part_of t 0 0 0).wires (λ v low. rw zero-add at (name_has_wire v t 0 0 0 (h.each v low))),
-      total-le-length names (part_of t 0 0 0).wires,
+      total-ge names (subnet_of t 0 0 0).wires (λ v low. rw zero-add at (name_has_wire v t 0 0 0 (h.each v low))),
+      total-le-length names (subnet_of t 0 0 0).wires,
       (part_small t 0 0 0).wires,
     )
 
@@ -184,13 +184,13 @@ low_keys d [] none k e h = absurd (omega arith)
 low_keys d (w ∷ wires) none zero e h = low_key d w wires none
 low_keys d (w ∷ wires) none (suc k) e h = low_keys d wires (λ v past. let here = none v past in omega arith) k e (omega arith)
 
-pub names_fit : (t : Tree) (names : ℕ) → HasNames t names → length (nodes_of t) ≤ 200000 → All (λ (w : ℕ × Port). w.0 < 2 ^ 31) (part_of t 0 0 0).wires
+pub names_fit : (t : Tree) (names : ℕ) → HasNames t names → length (nodes_of t) ≤ 200000 → All (λ (w : ℕ × Port). w.0 < 2 ^ 31) (subnet_of t 0 0 0).wires
 names_fit t names h few k e low =
-    omega (arith, few_names t names h, low_keys names (part_of t 0 0 0).wires (λ v past. none_past v names t 0 0 0 h.bound h.named (omega arith)) k e low)
+    omega (arith, few_names t names h, low_keys names (subnet_of t 0 0 0).wires (λ v past. none_past v names t 0 0 0 h.bound h.named (omega arith)) k e low)
 
 -- the same of wires and nodes that were laid down from nothing
 pub laid_names_fit : (t : Tree) (names : ℕ) (start nodes : List (Kind × ℕ)) (wires : List (ℕ × Port)) → HasNames t names → start ≡ []
-    → wires ≡ (part_of t 0 0 (length start)).wires → nodes ≡ start ++ (part_of t 0 0 (length start)).nodes → length nodes ≤ 200000
+    → wires ≡ (subnet_of t 0 0 (length start)).wires → nodes ≡ start ++ (subnet_of t 0 0 (length start)).nodes → length nodes ≤ 200000
     → All (λ (w : ℕ × Port). w.0 < 2 ^ 31) wires
 laid_names_fit t names [] nodes wires h none w n few =
     let P : List (ℕ × Port) → Type 0 = λ l. All (λ (w : ℕ × Port). w.0 < 2 ^ 31) l in

@@ -4,7 +4,7 @@ use Rattle.ol_net.specs.declared.parts.Kind.{Kind}
 use Rattle.ol_net.specs.declared.parts.Kind.TheVariants as kind
 use Rattle.ol_net.specs.declared.parts.Port.{Port}
 use Rattle.ol_net.specs.declared.parts.Port.TheVariants.{Free, Of}
-use Rattle.ol_translate.specs.Translation.{Wires, slot}
+use Rattle.ol_translate.specs.Translation.{Wires, slot_port}
 
 abbrev pub port_eq : Port → Port → Bool
 port_eq (Free m) (Free n) = nat_eq m n
@@ -26,16 +26,16 @@ abbrev pub held : Port → Wires → ℕ
 held p [] = 0
 held p (w ∷ wires) = hit p w.1 + held p wires
 
--- how often p is a slot of a node of this kind and number
+-- how often p is a slot_port of a node of this kind and number
 abbrev pub node_slots : Port → ℕ → Kind → ℕ
-node_slots p k kind.Lam = hit p (slot k 0) + hit p (slot k 1) + hit p (slot k 2)
-node_slots p k kind.App = hit p (slot k 0) + hit p (slot k 1) + hit p (slot k 2)
-node_slots p k kind.Fan = hit p (slot k 0) + hit p (slot k 1) + hit p (slot k 2)
-node_slots p k kind.Croissant = hit p (slot k 0) + hit p (slot k 1)
-node_slots p k kind.Bracket = hit p (slot k 0) + hit p (slot k 1)
-node_slots p k kind.Eraser = hit p (slot k 0)
+node_slots p k kind.Lam = hit p (slot_port k 0) + hit p (slot_port k 1) + hit p (slot_port k 2)
+node_slots p k kind.App = hit p (slot_port k 0) + hit p (slot_port k 1) + hit p (slot_port k 2)
+node_slots p k kind.Fan = hit p (slot_port k 0) + hit p (slot_port k 1) + hit p (slot_port k 2)
+node_slots p k kind.Croissant = hit p (slot_port k 0) + hit p (slot_port k 1)
+node_slots p k kind.Bracket = hit p (slot_port k 0) + hit p (slot_port k 1)
+node_slots p k kind.Eraser = hit p (slot_port k 0)
 
--- how often p is a slot of these nodes, numbered from k on
+-- how often p is a slot_port of these nodes, numbered from k on
 abbrev pub slots : Port → ℕ → List (Kind × ℕ) → ℕ
 slots p k [] = 0
 slots p k (node ∷ nodes) = node_slots p k node.0 + slots p (k + 1) nodes

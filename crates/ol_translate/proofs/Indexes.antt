@@ -7,7 +7,7 @@ use Rattle.ol_net.specs.declared.parts.Kind.TheVariants as kind
 use Rattle.ol_net.specs.declared.parts.Port.{Port}
 use Rattle.ol_net.specs.Build.{build_top, all_live, is_bad_index, BadIndexAt, NoneOf}
 use Rattle.ol_net.specs.Replace.{top_index_of}
-use Rattle.ol_translate.specs.Translation.{Part, part_of, application, erasers, bracket_nodes, bracketed, fans, fan_nodes, merged, wire_of, nodes_of}
+use Rattle.ol_translate.specs.Translation.{Subnet, subnet_of, application, erasers, bracket_nodes, past_brackets, fans, fan_nodes, merged, wire_of, nodes_of}
 
 -- the index of a node that is no eraser is at most m, and an eraser's is 0
 abbrev pub IsLow : ℕ → Kind × ℕ → Type 0
@@ -58,38 +58,38 @@ fans_low m n f wires (w ∷ more) h =
     (fan_low m n (wire_of w.0 wires) h)
     (fans_low m n (f + length (fan_nodes n (wire_of w.0 wires))) (merged f (wire_of w.0 wires) w wires) more h)
 
-application_low : (m n k : ℕ) (M N : Part) → n ≤ m → AreLow m M.nodes → AreLow m N.nodes → AreLow m (application n k M N).nodes
+application_low : (m n k : ℕ) (M N : Subnet) → n ≤ m → AreLow m M.nodes → AreLow m N.nodes → AreLow m (application n k M N).nodes
 application_low m n k M N h left right =
     let b = k + 1 + length M.nodes + length N.nodes in
-    let F = fans n (k + 1 + length M.nodes + length N.nodes + length N.wires) M.wires (bracketed (k + 1 + length M.nodes + length N.nodes) N.wires) in
+    let F = fans n (k + 1 + length M.nodes + length N.nodes + length N.wires) M.wires (past_brackets (k + 1 + length M.nodes + length N.nodes) N.wires) in
     AreLow-append m (((kind.App, n) ∷ M.nodes) ++ N.nodes) (bracket_nodes n N.wires ++ F.nodes)
     (AreLow-append m ((kind.App, n) ∷ M.nodes) N.nodes (h, left) right)
     (AreLow-append m (bracket_nodes n N.wires) F.nodes (brackets_low m n N.wires h)
-    (fans_low m n (k + 1 + length M.nodes + length N.nodes + length N.wires) M.wires (bracketed (k + 1 + length M.nodes + length N.nodes) N.wires) h))
+    (fans_low m n (k + 1 + length M.nodes + length N.nodes + length N.wires) M.wires (past_brackets (k + 1 + length M.nodes + length N.nodes) N.wires) h))
 
-application_longer : (n k : ℕ) (M N : Part) → 1 + length M.nodes + length N.nodes ≤ length (application n k M N).nodes
+application_longer : (n k : ℕ) (M N : Subnet) → 1 + length M.nodes + length N.nodes ≤ length (application n k M N).nodes
 application_longer n k M N =
-    let F = fans n (k + 1 + length M.nodes + length N.nodes + length N.wires) M.wires (bracketed (k + 1 + length M.nodes + length N.nodes) N.wires) in
+    let F = fans n (k + 1 + length M.nodes + length N.nodes + length N.wires) M.wires (past_brackets (k + 1 + length M.nodes + length N.nodes) N.wires) in
     omega (arith, length-append (((kind.App, n) ∷ M.nodes) ++ N.nodes) (bracket_nodes n N.wires ++ F.nodes), length-append M.nodes N.nodes)
 
-pub part_low : (t : Tree) (d n k : ℕ) → AreLow (n + length (part_of t d n k).nodes) (part_of t d n k).nodes
+pub part_low : (t : Tree) (d n k : ℕ) → AreLow (n + length (subnet_of t d n k).nodes) (subnet_of t d n k).nodes
 part_low (var v) d n k = (omega arith, tt)
 part_low (free f) d n k = (omega arith, tt)
 part_low (lam M) d n k =
-    let body = part_of M (d + 1) n (k + 1) in
-    let x = wire_of 0 (part_of M (d + 1) n (k + 1)).wires in
-    let longer = length-append (part_of M (d + 1) n (k + 1)).nodes (erasers (wire_of 0 (part_of M (d + 1) n (k + 1)).wires)) in
-    let m = n + length (part_of (lam M) d n k).nodes in
-    AreLow-append (n + length (part_of (lam M) d n k).nodes) ((kind.Lam, n) ∷ (part_of M (d + 1) n (k + 1)).nodes) (erasers (wire_of 0 (part_of M (d + 1) n (k + 1)).wires))
-    (omega arith, AreLow-weaker (n + length (part_of M (d + 1) n (k + 1)).nodes) (n + length (part_of (lam M) d n k).nodes) (part_of M (d + 1) n (k + 1)).nodes (omega (arith, longer)) (part_low M (d + 1) n (k + 1)))
-    (erasers_low (n + length (part_of (lam M) d n k).nodes) (wire_of 0 (part_of M (d + 1) n (k + 1)).wires))
+    let body = subnet_of M (d + 1) n (k + 1) in
+    let x = wire_of 0 (subnet_of M (d + 1) n (k + 1)).wires in
+    let longer = length-append (subnet_of M (d + 1) n (k + 1)).nodes (erasers (wire_of 0 (subnet_of M (d + 1) n (k + 1)).wires)) in
+    let m = n + length (subnet_of (lam M) d n k).nodes in
+    AreLow-append (n + length (subnet_of (lam M) d n k).nodes) ((kind.Lam, n) ∷ (subnet_of M (d + 1) n (k + 1)).nodes) (erasers (wire_of 0 (subnet_of M (d + 1) n (k + 1)).wires))
+    (omega arith, AreLow-weaker (n + length (subnet_of M (d + 1) n (k + 1)).nodes) (n + length (subnet_of (lam M) d n k).nodes) (subnet_of M (d + 1) n (k + 1)).nodes (omega (arith, longer)) (part_low M (d + 1) n (k + 1)))
+    (erasers_low (n + length (subnet_of (lam M) d n k).nodes) (wire_of 0 (subnet_of M (d + 1) n (k + 1)).wires))
 part_low (app M N) d n k =
-    let M' = part_of M d n (k + 1) in
-    let N' = part_of N d (n + 1) (k + 1 + length (part_of M d n (k + 1)).nodes) in
+    let M' = subnet_of M d n (k + 1) in
+    let N' = subnet_of N d (n + 1) (k + 1 + length (subnet_of M d n (k + 1)).nodes) in
     let longer = application_longer n k M' N' in
-    application_low (n + length (part_of (app M N) d n k).nodes) n k M' N' (omega arith)
-    (AreLow-weaker (n + length M'.nodes) (n + length (part_of (app M N) d n k).nodes) M'.nodes (omega (arith, longer)) (part_low M d n (k + 1)))
-    (AreLow-weaker (n + 1 + length N'.nodes) (n + length (part_of (app M N) d n k).nodes) N'.nodes (omega (arith, longer)) (part_low N d (n + 1) (k + 1 + length M'.nodes)))
+    application_low (n + length (subnet_of (app M N) d n k).nodes) n k M' N' (omega arith)
+    (AreLow-weaker (n + length M'.nodes) (n + length (subnet_of (app M N) d n k).nodes) M'.nodes (omega (arith, longer)) (part_low M d n (k + 1)))
+    (AreLow-weaker (n + 1 + length N'.nodes) (n + length (subnet_of (app M N) d n k).nodes) N'.nodes (omega (arith, longer)) (part_low N d (n + 1) (k + 1 + length M'.nodes)))
 
 -- ---- no index is refused
 

@@ -7,7 +7,7 @@ use Rattle.ol_net.specs.declared.parts.Kind.{Kind}
 use Rattle.ol_net.specs.declared.parts.Kind.TheVariants as kind
 use Rattle.ol_net.specs.declared.parts.Port.{Port}
 use Rattle.ol_net.specs.declared.parts.Port.TheVariants.{Free}
-use Rattle.ol_translate.specs.Translation.{Part, part_of, abstraction, application, outside, erasers, bound_port, bracket_nodes, bracket_links, bracketed, fans, fan_nodes, fan_links, merged, wire_of, rewired, slot, name_links, nodes_of, links_of}
+use Rattle.ol_translate.specs.Translation.{Subnet, subnet_of, abstraction, application, outside, erasers, bound_port, bracket_nodes, bracket_links, past_brackets, fans, fan_nodes, fan_links, merged, wire_of, reconnected, slot_port, name_links, nodes_of, links_of}
 use Rattle.ol_term.specs.Trees.{has_name}
 use Rattle.ol_translate.proofs.Counts.{hit, uses, held, free_ends, slots, times}
 use Rattle.ol_translate.proofs.Walks.{length-bracket_nodes}
@@ -67,27 +67,27 @@ times-outside v ((suc u, q) ∷ wires) = rw (positive u, suc_is_suc u v, less_on
 -- ---- an application
 
 brackets_balance : (p : Port) (n b : ℕ) (wires : List (ℕ × Port))
-    → uses p (bracket_links b wires) + held p (bracketed b wires) ≡ held p wires + slots p b (bracket_nodes n wires)
+    → uses p (bracket_links b wires) + held p (past_brackets b wires) ≡ held p wires + slots p b (bracket_nodes n wires)
 brackets_balance p n b [] = omega arith
 brackets_balance p n b (w ∷ wires) = let rest = brackets_balance p n (b + 1) wires in omega arith
 
-pub times-bracketed : (v b : ℕ) (wires : List (ℕ × Port)) → times v (bracketed b wires) ≡ times v wires
+pub times-bracketed : (v b : ℕ) (wires : List (ℕ × Port)) → times v (past_brackets b wires) ≡ times v wires
 times-bracketed v b [] = refl
 times-bracketed v b (w ∷ wires) = ap (λ n. (if nat_eq w.0 v then 1 else 0) + n) (times-bracketed v (b + 1) wires)
 
 rewired_balance : (p : Port) (v : ℕ) (r q : Port) (wires : List (ℕ × Port)) → wire_of v wires ≡ Some q
-    → held p (rewired v r wires) + hit p q ≡ held p wires + hit p r
+    → held p (reconnected v r wires) + hit p q ≡ held p wires + hit p r
 rewired_balance p v r q [] e = absurd (cc)
 rewired_balance p v r q (w ∷ wires) e =
-    elim (nat_eq w.0 v) as (λ b. nat_eq w.0 v ≡ b → held p (rewired v r (w ∷ wires)) + hit p q ≡ held p (w ∷ wires) + hit p r) [
+    elim (nat_eq w.0 v) as (λ b. nat_eq w.0 v ≡ b → held p (reconnected v r (w ∷ wires)) + hit p q ≡ held p (w ∷ wires) + hit p r) [
       | true ↦ (λ t. let first = rw t at e in let same : hit p w.1 ≡ hit p q = cc in rw t (omega arith))
       | false ↦ (λ t. let later = rw t at e in let rest = rewired_balance p v r q wires later in rw t (omega arith))
     ] refl
 
-times-rewired : (u v : ℕ) (r : Port) (wires : List (ℕ × Port)) → times u (rewired v r wires) ≡ times u wires
+times-rewired : (u v : ℕ) (r : Port) (wires : List (ℕ × Port)) → times u (reconnected v r wires) ≡ times u wires
 times-rewired u v r [] = refl
 times-rewired u v r (w ∷ wires) =
-    elim (nat_eq w.0 v) as (λ b. nat_eq w.0 v ≡ b → times u (rewired v r (w ∷ wires)) ≡ times u (w ∷ wires)) [
+    elim (nat_eq w.0 v) as (λ b. nat_eq w.0 v ≡ b → times u (reconnected v r (w ∷ wires)) ≡ times u (w ∷ wires)) [
       | true ↦ (λ t. rw t refl)
       | false ↦ (λ t. rw t (ap (λ n. (if nat_eq w.0 u then 1 else 0) + n) (times-rewired u v r wires)))
     ] refl
@@ -103,7 +103,7 @@ times-absent v (w ∷ wires) e =
 merged_balance : (p : Port) (n f : ℕ) (w : ℕ × Port) (wires : List (ℕ × Port)) (x : Option Port) → wire_of w.0 wires ≡ x
     → held p (merged f x w wires) + uses p (fan_links f x w.1) ≡ held p wires + hit p w.1 + slots p f (fan_nodes n x)
 merged_balance p n f w wires None e = omega (arith, held-append p wires (w ∷ []))
-merged_balance p n f w wires (Some q) e = let moved = rewired_balance p w.0 (slot f 0) q wires e in omega arith
+merged_balance p n f w wires (Some q) e = let moved = rewired_balance p w.0 (slot_port f 0) q wires e in omega arith
 
 fans_balance : (p : Port) (n f : ℕ) (wires more : List (ℕ × Port))
     → uses p (fans n f wires more).links + held p (fans n f wires more).wires ≡ held p wires + held p more + slots p f (fans n f wires more).nodes
@@ -125,7 +125,7 @@ times-merged v f w wires None e few =
       | true ↦ (λ t. let same : w.0 ≡ v = grind (arith, nat_tests, t) in let none : times v wires ≡ 0 = subst (λ u. times u wires ≡ 0) same (times-absent w.0 wires e) in rw (one, t) (omega arith))
       | false ↦ (λ t. rw (one, t) (omega arith))
     ] refl
-times-merged v f w wires (Some q) e few = let rest = few v in omega (arith, times-rewired v w.0 (slot f 0) wires)
+times-merged v f w wires (Some q) e few = let rest = few v in omega (arith, times-rewired v w.0 (slot_port f 0) wires)
 
 times-fans : (v n f : ℕ) (wires more : List (ℕ × Port)) → ((u : ℕ) → times u wires ≤ 1) → times v (fans n f wires more).wires ≤ 1
 times-fans v n f wires [] few = few v
@@ -135,24 +135,24 @@ times-fans v n f wires (w ∷ more) few =
 
 -- ---- the balance of a part
 
-abbrev pub Balanced : Port → ℕ → Part → Type 0
+abbrev pub Balanced : Port → ℕ → Subnet → Type 0
 Balanced p k P = uses p P.links + (hit p P.root + held p P.wires) ≡ slots p k P.nodes
 
-abstraction_balance : (p : Port) (n k : ℕ) (M : Part) → times 0 M.wires ≤ 1 → Balanced p (k + 1) M → Balanced p k (abstraction n k M)
+abstraction_balance : (p : Port) (n k : ℕ) (M : Subnet) → times 0 M.wires ≤ 1 → Balanced p (k + 1) M → Balanced p k (abstraction n k M)
 abstraction_balance p n k M few h =
     let e = k + 1 + length M.nodes in
     let x = wire_of 0 M.wires in
     let bound = bound_balance p (k + 1 + length M.nodes) M.wires few in
-    let links = uses-append p M.links ((slot k 1, M.root) ∷ (slot k 2, bound_port (wire_of 0 M.wires) (k + 1 + length M.nodes)) ∷ []) in
+    let links = uses-append p M.links ((slot_port k 1, M.root) ∷ (slot_port k 2, bound_port (wire_of 0 M.wires) (k + 1 + length M.nodes)) ∷ []) in
     let nodes = slots-append p (k + 1) (k + 1 + length M.nodes) M.nodes (erasers (wire_of 0 M.wires)) refl in
     omega (arith, bound, links, nodes, h)
 
-application_balance : (p : Port) (n k : ℕ) (M N : Part) → Balanced p (k + 1) M → Balanced p (k + 1 + length M.nodes) N → Balanced p k (application n k M N)
+application_balance : (p : Port) (n k : ℕ) (M N : Subnet) → Balanced p (k + 1) M → Balanced p (k + 1 + length M.nodes) N → Balanced p k (application n k M N)
 application_balance p n k M N hm hn =
     let b : ℕ = k + 1 + length M.nodes + length N.nodes in
-    let B = bracketed (k + 1 + length M.nodes + length N.nodes) N.wires in
-    let F = fans n (k + 1 + length M.nodes + length N.nodes + length N.wires) M.wires (bracketed (k + 1 + length M.nodes + length N.nodes) N.wires) in
-    let two : List (Port × Port) = (slot k 0, M.root) ∷ (slot k 2, N.root) ∷ [] in
+    let B = past_brackets (k + 1 + length M.nodes + length N.nodes) N.wires in
+    let F = fans n (k + 1 + length M.nodes + length N.nodes + length N.wires) M.wires (past_brackets (k + 1 + length M.nodes + length N.nodes) N.wires) in
+    let two : List (Port × Port) = (slot_port k 0, M.root) ∷ (slot_port k 2, N.root) ∷ [] in
     let bl = bracket_links (k + 1 + length M.nodes + length N.nodes) N.wires in
     let links1 = uses-append p (M.links ++ N.links) (two ++ (bl ++ F.links)) in
     let links2 = uses-append p M.links N.links in
@@ -161,35 +161,35 @@ application_balance p n k M N hm hn =
     let nodes2 = slots-append p (k + 1) (k + 1 + length M.nodes) M.nodes N.nodes refl in
     let nodes3 = slots-append p (k + 1 + length M.nodes + length N.nodes) (k + 1 + length M.nodes + length N.nodes + length N.wires) (bracket_nodes n N.wires) F.nodes (omega (arith, length-bracket_nodes n N.wires)) in
     let bs = brackets_balance p n (k + 1 + length M.nodes + length N.nodes) N.wires in
-    let fs = fans_balance p n (k + 1 + length M.nodes + length N.nodes + length N.wires) M.wires (bracketed (k + 1 + length M.nodes + length N.nodes) N.wires) in
+    let fs = fans_balance p n (k + 1 + length M.nodes + length N.nodes + length N.wires) M.wires (past_brackets (k + 1 + length M.nodes + length N.nodes) N.wires) in
     omega (arith, links1, links2, links3, nodes1, nodes2, nodes3, bs, fs, hm, hn)
 
-application_few : (v n k : ℕ) (M N : Part) → ((u : ℕ) → times u M.wires ≤ 1) → times v (application n k M N).wires ≤ 1
+application_few : (v n k : ℕ) (M N : Subnet) → ((u : ℕ) → times u M.wires ≤ 1) → times v (application n k M N).wires ≤ 1
 application_few v n k M N few =
-    times-fans v n (k + 1 + length M.nodes + length N.nodes + length N.wires) M.wires (bracketed (k + 1 + length M.nodes + length N.nodes) N.wires) few
+    times-fans v n (k + 1 + length M.nodes + length N.nodes + length N.wires) M.wires (past_brackets (k + 1 + length M.nodes + length N.nodes) N.wires) few
 
 -- ---- terms
 
-pub few_wires : (v : ℕ) (t : Tree) (d n k : ℕ) → times v (part_of t d n k).wires ≤ 1
+pub few_wires : (v : ℕ) (t : Tree) (d n k : ℕ) → times v (subnet_of t d n k).wires ≤ 1
 few_wires v (var u) d n k = elim (nat_eq u v) as (λ b. (if b then 1 else 0) + 0 ≤ 1) [ true ↦ omega arith | false ↦ omega arith ]
 few_wires v (free f) d n k = elim (nat_eq (d + f) v) as (λ b. (if b then 1 else 0) + 0 ≤ 1) [ true ↦ omega arith | false ↦ omega arith ]
-few_wires v (lam M) d n k = omega (arith, times-outside v (part_of M (d + 1) n (k + 1)).wires, few_wires (suc v) M (d + 1) n (k + 1))
+few_wires v (lam M) d n k = omega (arith, times-outside v (subnet_of M (d + 1) n (k + 1)).wires, few_wires (suc v) M (d + 1) n (k + 1))
 few_wires v (app M N) d n k =
-    application_few v n k (part_of M d n (k + 1)) (part_of N d (n + 1) (k + 1 + length (part_of M d n (k + 1)).nodes)) (λ u. few_wires u M d n (k + 1))
+    application_few v n k (subnet_of M d n (k + 1)) (subnet_of N d (n + 1) (k + 1 + length (subnet_of M d n (k + 1)).nodes)) (λ u. few_wires u M d n (k + 1))
 
-pub part_balance : (p : Port) (t : Tree) (d n k : ℕ) → Balanced p k (part_of t d n k)
+pub part_balance : (p : Port) (t : Tree) (d n k : ℕ) → Balanced p k (subnet_of t d n k)
 part_balance p (var v) d n k = omega arith
 part_balance p (free f) d n k = omega arith
-part_balance p (lam M) d n k = abstraction_balance p n k (part_of M (d + 1) n (k + 1)) (few_wires 0 M (d + 1) n (k + 1)) (part_balance p M (d + 1) n (k + 1))
+part_balance p (lam M) d n k = abstraction_balance p n k (subnet_of M (d + 1) n (k + 1)) (few_wires 0 M (d + 1) n (k + 1)) (part_balance p M (d + 1) n (k + 1))
 part_balance p (app M N) d n k =
-    application_balance p n k (part_of M d n (k + 1)) (part_of N d (n + 1) (k + 1 + length (part_of M d n (k + 1)).nodes))
-    (part_balance p M d n (k + 1)) (part_balance p N d (n + 1) (k + 1 + length (part_of M d n (k + 1)).nodes))
+    application_balance p n k (subnet_of M d n (k + 1)) (subnet_of N d (n + 1) (k + 1 + length (subnet_of M d n (k + 1)).nodes))
+    (part_balance p M d n (k + 1)) (part_balance p N d (n + 1) (k + 1 + length (subnet_of M d n (k + 1)).nodes))
 
 -- ---- a variable that is no abstraction's and no name has no wire
 
 none-merged : (v f : ℕ) (w : ℕ × Port) (wires more : List (ℕ × Port)) (x : Option Port) → times v wires ≡ 0 → times v (w ∷ more) ≡ 0 → times v (merged f x w wires) ≡ 0
 none-merged v f w wires more None h e = omega (arith, times-append v wires (w ∷ []))
-none-merged v f w wires more (Some q) h e = times-rewired v w.0 (slot f 0) wires ∙ h
+none-merged v f w wires more (Some q) h e = times-rewired v w.0 (slot_port f 0) wires ∙ h
 
 none-fans : (v n f : ℕ) (wires more : List (ℕ × Port)) → times v wires ≡ 0 → times v more ≡ 0 → times v (fans n f wires more).wires ≡ 0
 none-fans v n f wires [] h e = h
@@ -197,26 +197,26 @@ none-fans v n f wires (w ∷ more) h e =
     none-fans v n (f + length (fan_nodes n (wire_of w.0 wires))) (merged f (wire_of w.0 wires) w wires) more
     (none-merged v f w wires more (wire_of w.0 wires) h e) (omega arith)
 
-application_none : (v n k : ℕ) (M N : Part) → times v M.wires ≡ 0 → times v N.wires ≡ 0 → times v (application n k M N).wires ≡ 0
+application_none : (v n k : ℕ) (M N : Subnet) → times v M.wires ≡ 0 → times v N.wires ≡ 0 → times v (application n k M N).wires ≡ 0
 application_none v n k M N h e =
-    none-fans v n (k + 1 + length M.nodes + length N.nodes + length N.wires) M.wires (bracketed (k + 1 + length M.nodes + length N.nodes) N.wires) h
+    none-fans v n (k + 1 + length M.nodes + length N.nodes + length N.wires) M.wires (past_brackets (k + 1 + length M.nodes + length N.nodes) N.wires) h
     (times-bracketed v (k + 1 + length M.nodes + length N.nodes) N.wires ∙ e)
 
-pub none_past : (v m : ℕ) (t : Tree) (d n k : ℕ) → is_below d t ≡ true → is_named_below m t ≡ true → d + m ≤ v → times v (part_of t d n k).wires ≡ 0
+pub none_past : (v m : ℕ) (t : Tree) (d n k : ℕ) → is_below d t ≡ true → is_named_below m t ≡ true → d + m ≤ v → times v (subnet_of t d n k).wires ≡ 0
 none_past v m (var u) d n k h j e = let other : nat_eq u v ≡ false = grind (arith, nat_tests, h) in rw other refl
 none_past v m (free f) d n k h j e = let other : nat_eq (d + f) v ≡ false = grind (arith, nat_tests, j) in rw other refl
-none_past v m (lam M) d n k h j e = times-outside v (part_of M (d + 1) n (k + 1)).wires ∙ none_past (suc v) m M (d + 1) n (k + 1) h j (omega arith)
+none_past v m (lam M) d n k h j e = times-outside v (subnet_of M (d + 1) n (k + 1)).wires ∙ none_past (suc v) m M (d + 1) n (k + 1) h j (omega arith)
 none_past v m (app M N) d n k h j e =
     let bound = and_parts (is_below d M) (is_below d N) h in
     let named = and_parts (is_named_below m M) (is_named_below m N) j in
-    application_none v n k (part_of M d n (k + 1)) (part_of N d (n + 1) (k + 1 + length (part_of M d n (k + 1)).nodes))
-    (none_past v m M d n (k + 1) bound.0 named.0 e) (none_past v m N d (n + 1) (k + 1 + length (part_of M d n (k + 1)).nodes) bound.1 named.1 e)
+    application_none v n k (subnet_of M d n (k + 1)) (subnet_of N d (n + 1) (k + 1 + length (subnet_of M d n (k + 1)).nodes))
+    (none_past v m M d n (k + 1) bound.0 named.0 e) (none_past v m N d (n + 1) (k + 1 + length (subnet_of M d n (k + 1)).nodes) bound.1 named.1 e)
 
 -- ---- a name that occurs has a wire
 
 kept-merged : (v f : ℕ) (w : ℕ × Port) (wires : List (ℕ × Port)) (x : Option Port) → times v wires ≤ times v (merged f x w wires)
 kept-merged v f w wires None = omega (arith, times-append v wires (w ∷ []))
-kept-merged v f w wires (Some q) = omega (arith, times-rewired v w.0 (slot f 0) wires)
+kept-merged v f w wires (Some q) = omega (arith, times-rewired v w.0 (slot_port f 0) wires)
 
 kept-fans : (v n f : ℕ) (wires more : List (ℕ × Port)) → times v wires ≤ times v (fans n f wires more).wires
 kept-fans v n f wires [] = omega arith
@@ -239,7 +239,7 @@ own-merged : (f : ℕ) (w : ℕ × Port) (wires : List (ℕ × Port)) (x : Optio
 own-merged f w wires None e =
     let one : times w.0 (w ∷ []) ≡ 1 = rw (eq-eqb w.0 w.0 refl) (omega arith) in
     omega (arith, times-append w.0 wires (w ∷ []))
-own-merged f w wires (Some q) e = omega (arith, times-rewired w.0 w.0 (slot f 0) wires, times-present w.0 wires q e)
+own-merged f w wires (Some q) e = omega (arith, times-rewired w.0 w.0 (slot_port f 0) wires, times-present w.0 wires q e)
 
 more-fans : (v n f : ℕ) (wires more : List (ℕ × Port)) → 1 ≤ times v more → 1 ≤ times v (fans n f wires more).wires
 more-fans v n f wires [] h = absurd (omega arith)
@@ -254,26 +254,26 @@ more-fans v n f wires (w ∷ more) h =
           more-fans v n f' (merged f (wire_of w.0 wires) w wires) more later)
     ] refl
 
-pub name_has_wire : (f : ℕ) (t : Tree) (d n k : ℕ) → has_name f t ≡ true → 1 ≤ times (d + f) (part_of t d n k).wires
+pub name_has_wire : (f : ℕ) (t : Tree) (d n k : ℕ) → has_name f t ≡ true → 1 ≤ times (d + f) (subnet_of t d n k).wires
 name_has_wire f (var u) d n k h = absurd (cc)
 name_has_wire f (free g) d n k h = let same : nat_eq (d + g) (d + f) ≡ true = grind (arith, nat_tests, h) in rw same (omega arith)
 name_has_wire f (lam M) d n k h =
     let rest = name_has_wire f M (d + 1) n (k + 1) h in
     let place : d + 1 + f ≡ suc (d + f) = omega arith in
-    let here : 1 ≤ times (suc (d + f)) (part_of M (d + 1) n (k + 1)).wires = rw place at rest in
-    omega (arith, here, times-outside (d + f) (part_of M (d + 1) n (k + 1)).wires)
+    let here : 1 ≤ times (suc (d + f)) (subnet_of M (d + 1) n (k + 1)).wires = rw place at rest in
+    omega (arith, here, times-outside (d + f) (subnet_of M (d + 1) n (k + 1)).wires)
 name_has_wire f (app M N) d n k h =
-    let k' = k + 1 + length (part_of M d n (k + 1)).nodes in
-    let M' = part_of M d n (k + 1) in
-    let N' = part_of N d (n + 1) (k + 1 + length (part_of M d n (k + 1)).nodes) in
+    let k' = k + 1 + length (subnet_of M d n (k + 1)).nodes in
+    let M' = subnet_of M d n (k + 1) in
+    let N' = subnet_of N d (n + 1) (k + 1 + length (subnet_of M d n (k + 1)).nodes) in
     elim (has_name f M) as (λ b. has_name f M ≡ b → 1 ≤ times (d + f) (application n k M' N').wires) [
       | true ↦ (λ t. omega (
         arith,
         name_has_wire f M d n (k + 1) t,
-        kept-fans (d + f) n (k + 1 + length M'.nodes + length N'.nodes + length N'.wires) M'.wires (bracketed (k + 1 + length M'.nodes + length N'.nodes) N'.wires),
+        kept-fans (d + f) n (k + 1 + length M'.nodes + length N'.nodes + length N'.wires) M'.wires (past_brackets (k + 1 + length M'.nodes + length N'.nodes) N'.wires),
       ))
       | false ↦ (λ t. let other : has_name f N ≡ true = rw t at h in
-          more-fans (d + f) n (k + 1 + length M'.nodes + length N'.nodes + length N'.wires) M'.wires (bracketed (k + 1 + length M'.nodes + length N'.nodes) N'.wires)
+          more-fans (d + f) n (k + 1 + length M'.nodes + length N'.nodes + length N'.wires) M'.wires (past_brackets (k + 1 + length M'.nodes + length N'.nodes) N'.wires)
           (let there = name_has_wire f N d (n + 1) k' other in
           omega (arith, there, times-bracketed (d + f) (k + 1 + length M'.nodes + length N'.nodes) N'.wires)))
     ] refl
@@ -285,9 +285,9 @@ uses_name_links : (p : Port) (wires : List (ℕ × Port)) → uses p (name_links
 uses_name_links p [] = omega arith
 uses_name_links p (w ∷ wires) = omega (arith, uses_name_links p wires)
 
--- each slot stands in one link, and so do the free ports of the root and of the wires
-pub whole_balance : (p : Port) (t : Tree) → uses p (links_of t) ≡ slots p 0 (nodes_of t) + hit p (Free 0) + free_ends p (part_of t 0 0 0).wires
+-- each slot_port stands in one link, and so do the free ports of the root and of the wires
+pub whole_balance : (p : Port) (t : Tree) → uses p (links_of t) ≡ slots p 0 (nodes_of t) + hit p (Free 0) + free_ends p (subnet_of t 0 0 0).wires
 whole_balance p t =
-    let P = part_of t 0 0 0 in
+    let P = subnet_of t 0 0 0 in
     let part = part_balance p t 0 0 0 in
-    omega (arith, part, uses-append p (part_of t 0 0 0).links ((Free 0, (part_of t 0 0 0).root) ∷ name_links (part_of t 0 0 0).wires), uses_name_links p (part_of t 0 0 0).wires)
+    omega (arith, part, uses-append p (subnet_of t 0 0 0).links ((Free 0, (subnet_of t 0 0 0).root) ∷ name_links (subnet_of t 0 0 0).wires), uses_name_links p (subnet_of t 0 0 0).wires)

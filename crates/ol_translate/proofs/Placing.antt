@@ -6,7 +6,7 @@ use Rattle.std.proofs.Math.ListN.{get_or-append}
 use Rattle.std.proofs.Math.Seq.{get_or-append_seam}
 use Rattle.ol_net.specs.declared.parts.Port.{Port}
 use Rattle.ol_term.specs.Trees.{Tree}
-use Rattle.ol_translate.specs.Translation.{Wires, wire_of, rewired, part_of}
+use Rattle.ol_translate.specs.Translation.{Wires, wire_of, reconnected, subnet_of}
 use Rattle.ol_translate.specs.Growth.{IsPlaced, HaveOneEach, IsIndex}
 use Rattle.ol_translate.proofs.Counts.{times}
 use Rattle.ol_translate.proofs.Joints.{few_wires}
@@ -39,8 +39,8 @@ one_each wires few i j w hi hj e = apart i j
     (λ o. let two = times-two wires i j w o hj e in let one = few (get_or wires j w).0 in absurd (omega arith))
     (λ o. let two = times-two wires j i w o hi (sym e) in let one = few (get_or wires i w).0 in absurd (omega arith))
 
-pub part_has_one_each : (t : Tree) (d n k : ℕ) (wires : Wires) → wires ≡ (part_of t d n k).wires → HaveOneEach wires
-part_has_one_each t d n k wires e = subst HaveOneEach (sym e) (one_each (part_of t d n k).wires (λ v. few_wires v t d n k))
+pub part_has_one_each : (t : Tree) (d n k : ℕ) (wires : Wires) → wires ≡ (subnet_of t d n k).wires → HaveOneEach wires
+part_has_one_each t d n k wires e = subst HaveOneEach (sym e) (one_each (subnet_of t d n k).wires (λ v. few_wires v t d n k))
 
 -- ---- wires without one variable
 
@@ -50,7 +50,7 @@ passes v wires w zero h others = refl
 passes v wires w (suc i) h others = passes v wires w i (omega arith) (λ j l. others j (omega arith)) ∙ wire_of-passed v wires i w (omega arith) (others i (omega arith))
 
 moves : (v : ℕ) (p : Port) (wires : Wires) (w : ℕ × Port) (i : ℕ) → i ≤ length wires → ((j : ℕ) → j < i → nat_eq (get_or wires j w).0 v ≡ false)
-    → rewired v p wires ≡ take i wires ++ rewired v p (drop i wires)
+    → reconnected v p wires ≡ take i wires ++ reconnected v p (drop i wires)
 moves v p wires w zero h others = refl
 moves v p wires w (suc i) h others = moves v p wires w i (omega arith) (λ j l. others j (omega arith)) ∙ rewired-passed v p wires i w (omega arith) (others i (omega arith))
 

@@ -3,7 +3,7 @@ use Rattle.std.proofs.Common.{◌≡◌, [], ◌∷◌, refl}
 use Rattle.ol_term.specs.Trees.{Tree, var, free, lam, app}
 use Rattle.ol_net.specs.declared.parts.Kind.TheVariants.{Lam, App, Fan, Croissant, Bracket, Eraser}
 use Rattle.ol_net.specs.declared.parts.Port.TheVariants.{Free}
-use Rattle.ol_translate.specs.Translation.{nodes_of, links_of, slot}
+use Rattle.ol_translate.specs.Translation.{nodes_of, links_of, slot_port}
 use Rattle.ol_translate.specs.Sizes.{size_of_translation}
 
 -- (\x. x x) (\y. y)
@@ -15,10 +15,10 @@ nodes_of_self_application : nodes_of self_application
 nodes_of_self_application = refl
 
 links_of_self_application : links_of self_application
-    ≡ (slot 2 0, slot 3 1) ∷ (slot 2 2, slot 4 1) ∷ (slot 5 1, slot 4 0) ∷ (slot 6 1, slot 3 0) ∷ (slot 6 2, slot 5 0)
-    ∷ (slot 1 1, slot 2 1) ∷ (slot 1 2, slot 6 0)
-    ∷ (slot 7 1, slot 8 1) ∷ (slot 7 2, slot 8 0)
-    ∷ (slot 0 0, slot 1 0) ∷ (slot 0 2, slot 7 0) ∷ (Free 0, slot 0 1) ∷ []
+    ≡ (slot_port 2 0, slot_port 3 1) ∷ (slot_port 2 2, slot_port 4 1) ∷ (slot_port 5 1, slot_port 4 0) ∷ (slot_port 6 1, slot_port 3 0) ∷ (slot_port 6 2, slot_port 5 0)
+    ∷ (slot_port 1 1, slot_port 2 1) ∷ (slot_port 1 2, slot_port 6 0)
+    ∷ (slot_port 7 1, slot_port 8 1) ∷ (slot_port 7 2, slot_port 8 0)
+    ∷ (slot_port 0 0, slot_port 1 0) ∷ (slot_port 0 2, slot_port 7 0) ∷ (Free 0, slot_port 0 1) ∷ []
 links_of_self_application = refl
 
 size_of_self_application : size_of_translation self_application ≡ 9
@@ -32,7 +32,7 @@ nodes_of_first : nodes_of first ≡ (Lam, 0) ∷ (Lam, 0) ∷ (Croissant, 0) ∷
 nodes_of_first = refl
 
 links_of_first : links_of first
-    ≡ (slot 1 1, slot 2 1) ∷ (slot 1 2, slot 3 0) ∷ (slot 0 1, slot 1 0) ∷ (slot 0 2, slot 2 0) ∷ (Free 0, slot 0 0) ∷ []
+    ≡ (slot_port 1 1, slot_port 2 1) ∷ (slot_port 1 2, slot_port 3 0) ∷ (slot_port 0 1, slot_port 1 0) ∷ (slot_port 0 2, slot_port 2 0) ∷ (Free 0, slot_port 0 0) ∷ []
 links_of_first = refl
 
 -- \x. f (g f), of names f and g: both are counted, f before g, and f, which is free in both, has a fan
@@ -44,10 +44,10 @@ nodes_of_with_names : nodes_of with_names
 nodes_of_with_names = refl
 
 links_of_with_names : links_of with_names
-    ≡ (slot 3 0, slot 4 1) ∷ (slot 3 2, slot 5 1) ∷ (slot 6 1, slot 5 0)
-    ∷ (slot 1 0, slot 2 1) ∷ (slot 1 2, slot 3 1) ∷ (slot 7 1, slot 4 0) ∷ (slot 8 1, slot 6 0) ∷ (slot 9 1, slot 2 0) ∷ (slot 9 2, slot 8 0)
-    ∷ (slot 0 1, slot 1 1) ∷ (slot 0 2, slot 10 0)
-    ∷ (Free 0, slot 0 0) ∷ (Free 1, slot 9 0) ∷ (Free 2, slot 7 0) ∷ []
+    ≡ (slot_port 3 0, slot_port 4 1) ∷ (slot_port 3 2, slot_port 5 1) ∷ (slot_port 6 1, slot_port 5 0)
+    ∷ (slot_port 1 0, slot_port 2 1) ∷ (slot_port 1 2, slot_port 3 1) ∷ (slot_port 7 1, slot_port 4 0) ∷ (slot_port 8 1, slot_port 6 0) ∷ (slot_port 9 1, slot_port 2 0) ∷ (slot_port 9 2, slot_port 8 0)
+    ∷ (slot_port 0 1, slot_port 1 1) ∷ (slot_port 0 2, slot_port 10 0)
+    ∷ (Free 0, slot_port 0 0) ∷ (Free 1, slot_port 9 0) ∷ (Free 2, slot_port 7 0) ∷ []
 links_of_with_names = refl
 
 size_of_with_names : size_of_translation with_names ≡ 11

@@ -5,8 +5,8 @@ use Rattle.std.proofs.lemmas.List.Folds.{list_any-append}
 use Rattle.ol_term.specs.Trees.{Tree, var, free, lam, app}
 use Rattle.ol_net.specs.declared.parts.Kind.TheVariants as kind
 use Rattle.ol_net.specs.declared.parts.Port.{Port}
-use Rattle.ol_translate.specs.Translation.{Part, Wires, part_of, application, outside, erasers, bracket_nodes, bracketed, fans, fan_nodes, merged, wire_of, rewired, slot, nodes_of}
-use Rattle.ol_translate.specs.Sizes.{is_among, variables, size_under, size_of_translation}
+use Rattle.ol_translate.specs.Translation.{Subnet, Wires, subnet_of, application, outside, erasers, bracket_nodes, past_brackets, fans, fan_nodes, merged, wire_of, reconnected, slot_port, nodes_of}
+use Rattle.ol_translate.specs.Sizes.{is_listed, variables, size_under, size_of_translation}
 use Rattle.ol_translate.proofs.Counts.{times}
 use Rattle.ol_translate.proofs.Joints.{few_wires, times-bracketed}
 use Rattle.ol_translate.proofs.Walks.{length-bracket_nodes}
@@ -23,14 +23,14 @@ keys-append : (xs ys : Wires) → keys (xs ++ ys) ≡ keys xs ++ keys ys
 keys-append [] ys = refl
 keys-append (x ∷ xs) ys = ap (λ l. x.0 ∷ l) (keys-append xs ys)
 
-keys-bracketed : (b : ℕ) (wires : Wires) → keys (bracketed b wires) ≡ keys wires
+keys-bracketed : (b : ℕ) (wires : Wires) → keys (past_brackets b wires) ≡ keys wires
 keys-bracketed b [] = refl
 keys-bracketed b (w ∷ wires) = ap (λ l. w.0 ∷ l) (keys-bracketed (b + 1) wires)
 
-keys-rewired : (v : ℕ) (p : Port) (wires : Wires) → keys (rewired v p wires) ≡ keys wires
+keys-rewired : (v : ℕ) (p : Port) (wires : Wires) → keys (reconnected v p wires) ≡ keys wires
 keys-rewired v p [] = refl
 keys-rewired v p (w ∷ wires) =
-    elim (nat_eq w.0 v) as (λ b. nat_eq w.0 v ≡ b → keys (rewired v p (w ∷ wires)) ≡ keys (w ∷ wires)) [
+    elim (nat_eq w.0 v) as (λ b. nat_eq w.0 v ≡ b → keys (reconnected v p (w ∷ wires)) ≡ keys (w ∷ wires)) [
       | true ↦ (λ t. rw t refl)
       | false ↦ (λ t. rw t (ap (λ l. w.0 ∷ l) (keys-rewired v p wires)))
     ] refl
@@ -43,10 +43,10 @@ keys-outside (w ∷ wires) =
       | false ↦ (λ t. rw t (keys-outside wires))
     ] refl
 
-among_keys : (v : ℕ) (wires : Wires) → is_among v (keys wires) ≡ is_some (wire_of v wires)
+among_keys : (v : ℕ) (wires : Wires) → is_listed v (keys wires) ≡ is_some (wire_of v wires)
 among_keys v [] = refl
 among_keys v (w ∷ wires) =
-    elim (nat_eq w.0 v) as (λ b. nat_eq w.0 v ≡ b → is_among v (keys (w ∷ wires)) ≡ is_some (wire_of v (w ∷ wires))) [
+    elim (nat_eq w.0 v) as (λ b. nat_eq w.0 v ≡ b → is_listed v (keys (w ∷ wires)) ≡ is_some (wire_of v (w ∷ wires))) [
       | true ↦ (λ t. rw t refl)
       | false ↦ (λ t. rw t (among_keys v wires))
     ] refl
@@ -67,22 +67,22 @@ or-false : (a : Bool) → a || false ≡ a
 or-false true = refl
 or-false false = refl
 
-among_past : (v u : ℕ) (vs : List ℕ) → nat_eq u v ≡ false → is_among v (vs ++ u ∷ []) ≡ is_among v vs
-among_past v u vs h = list_any-append (λ w. nat_eq w v) vs (u ∷ []) ∙ rw h (or-false (is_among v vs))
+among_past : (v u : ℕ) (vs : List ℕ) → nat_eq u v ≡ false → is_listed v (vs ++ u ∷ []) ≡ is_listed v vs
+among_past v u vs h = list_any-append (λ w. nat_eq w v) vs (u ∷ []) ∙ rw h (or-false (is_listed v vs))
 
 -- f is a test of what stands among the others
 filter_past : (f : Bool → Bool) (u : ℕ) (vs : List ℕ) (more : Wires) → times u more ≡ 0
-    → filter (λ v. f (is_among v (vs ++ u ∷ []))) (keys more) ≡ filter (λ v. f (is_among v vs)) (keys more)
+    → filter (λ v. f (is_listed v (vs ++ u ∷ []))) (keys more) ≡ filter (λ v. f (is_listed v vs)) (keys more)
 filter_past f u vs [] h = refl
 filter_past f u vs (w ∷ more) h =
-    elim (nat_eq w.0 u) as (λ b. nat_eq w.0 u ≡ b → filter (λ v. f (is_among v (vs ++ u ∷ []))) (keys (w ∷ more)) ≡ filter (λ v. f (is_among v vs)) (keys (w ∷ more))) [
+    elim (nat_eq w.0 u) as (λ b. nat_eq w.0 u ≡ b → filter (λ v. f (is_listed v (vs ++ u ∷ []))) (keys (w ∷ more)) ≡ filter (λ v. f (is_listed v vs)) (keys (w ∷ more))) [
       | true ↦ (λ t. let some = rw t at h in absurd (omega arith))
       | false ↦ (λ t.
           let apart : nat_eq u w.0 ≡ false = grind (arith, nat_tests, t) in
           let rest = filter_past f u vs more (rw (t, zero-add) at h) in
-          let same : is_among w.0 (vs ++ u ∷ []) ≡ is_among w.0 vs = among_past w.0 u vs apart in
-          ap (λ b. cond (f b) (w.0 ∷ filter (λ v. f (is_among v (vs ++ u ∷ []))) (keys more)) (filter (λ v. f (is_among v (vs ++ u ∷ []))) (keys more))) same
-          ∙ ap (λ l. cond (f (is_among w.0 vs)) (w.0 ∷ l) l) rest)
+          let same : is_listed w.0 (vs ++ u ∷ []) ≡ is_listed w.0 vs = among_past w.0 u vs apart in
+          ap (λ b. cond (f b) (w.0 ∷ filter (λ v. f (is_listed v (vs ++ u ∷ []))) (keys more)) (filter (λ v. f (is_listed v (vs ++ u ∷ []))) (keys more))) same
+          ∙ ap (λ l. cond (f (is_listed w.0 vs)) (w.0 ∷ l) l) rest)
     ] refl
 
 -- each variable has one wire at most
@@ -98,77 +98,77 @@ differ-tail w more h = λ v. let here = h v in
 
 merged_keys : (f : ℕ) (w : ℕ × Port) (wires : Wires) (x : Option Port) → keys (merged f x w wires) ≡ (if is_some x then keys wires else keys wires ++ w.0 ∷ [])
 merged_keys f w wires None = keys-append wires (w ∷ [])
-merged_keys f w wires (Some q) = keys-rewired w.0 (slot f 0) wires
+merged_keys f w wires (Some q) = keys-rewired w.0 (slot_port f 0) wires
 
 fan_count : (n : ℕ) (x : Option Port) → length (fan_nodes n x) ≡ (if is_some x then 1 else 0)
 fan_count n None = refl
 fan_count n (Some p) = refl
 
 keys-fans : (n f : ℕ) (wires more : Wires) → Differ more
-    → keys (fans n f wires more).wires ≡ keys wires ++ filter (λ v. not (is_among v (keys wires))) (keys more)
+    → keys (fans n f wires more).wires ≡ keys wires ++ filter (λ v. not (is_listed v (keys wires))) (keys more)
 keys-fans n f wires [] h = sym (append-nil (keys wires))
 keys-fans n f wires (w ∷ more) h =
     let f' = f + length (fan_nodes n (wire_of w.0 wires)) in
     let W = merged f (wire_of w.0 wires) w wires in
-    let rest : keys (fans n f' W more).wires ≡ keys W ++ filter (λ v. not (is_among v (keys W))) (keys more) = keys-fans n f' W more (differ-tail w more h) in
-    let keys_are : keys W ≡ (if is_among w.0 (keys wires) then keys wires else keys wires ++ w.0 ∷ []) =
+    let rest : keys (fans n f' W more).wires ≡ keys W ++ filter (λ v. not (is_listed v (keys W))) (keys more) = keys-fans n f' W more (differ-tail w more h) in
+    let keys_are : keys W ≡ (if is_listed w.0 (keys wires) then keys wires else keys wires ++ w.0 ∷ []) =
     merged_keys f w wires (wire_of w.0 wires) ∙ ap (λ b. if b then keys wires else keys wires ++ w.0 ∷ []) (sym (among_keys w.0 wires)) in
-    elim (is_among w.0 (keys wires)) as (λ b. is_among w.0 (keys wires) ≡ b → keys (fans n f' W more).wires
-    ≡ keys wires ++ cond (not b) (w.0 ∷ filter (λ v. not (is_among v (keys wires))) (keys more)) (filter (λ v. not (is_among v (keys wires))) (keys more))) [
+    elim (is_listed w.0 (keys wires)) as (λ b. is_listed w.0 (keys wires) ≡ b → keys (fans n f' W more).wires
+    ≡ keys wires ++ cond (not b) (w.0 ∷ filter (λ v. not (is_listed v (keys wires))) (keys more)) (filter (λ v. not (is_listed v (keys wires))) (keys more))) [
       | true ↦ (λ t. let same : keys W ≡ keys wires = rw t at keys_are in
-          rest ∙ ap (λ l. l ++ filter (λ v. not (is_among v l)) (keys more)) same)
+          rest ∙ ap (λ l. l ++ filter (λ v. not (is_listed v l)) (keys more)) same)
       | false ↦ (λ t. let same : keys W ≡ keys wires ++ w.0 ∷ [] = rw t at keys_are in
-          rest ∙ ap (λ l. l ++ filter (λ v. not (is_among v l)) (keys more)) same
+          rest ∙ ap (λ l. l ++ filter (λ v. not (is_listed v l)) (keys more)) same
           ∙ ap (λ l. (keys wires ++ w.0 ∷ []) ++ l) (filter_past not w.0 (keys wires) more (differ-head w more h))
-          ∙ append_assoc (keys wires) (w.0 ∷ []) (filter (λ v. not (is_among v (keys wires))) (keys more)))
+          ∙ append_assoc (keys wires) (w.0 ∷ []) (filter (λ v. not (is_listed v (keys wires))) (keys more)))
     ] refl
 
 length-fans : (n f : ℕ) (wires more : Wires) → Differ more
-    → length (fans n f wires more).nodes ≡ length (filter (λ v. is_among v (keys wires)) (keys more))
+    → length (fans n f wires more).nodes ≡ length (filter (λ v. is_listed v (keys wires)) (keys more))
 length-fans n f wires [] h = refl
 length-fans n f wires (w ∷ more) h =
     let f' = f + length (fan_nodes n (wire_of w.0 wires)) in
     let W = merged f (wire_of w.0 wires) w wires in
-    let rest : length (fans n f' W more).nodes ≡ length (filter (λ v. is_among v (keys W)) (keys more)) = length-fans n f' W more (differ-tail w more h) in
-    let keys_are : keys W ≡ (if is_among w.0 (keys wires) then keys wires else keys wires ++ w.0 ∷ []) =
+    let rest : length (fans n f' W more).nodes ≡ length (filter (λ v. is_listed v (keys W)) (keys more)) = length-fans n f' W more (differ-tail w more h) in
+    let keys_are : keys W ≡ (if is_listed w.0 (keys wires) then keys wires else keys wires ++ w.0 ∷ []) =
     merged_keys f w wires (wire_of w.0 wires) ∙ ap (λ b. if b then keys wires else keys wires ++ w.0 ∷ []) (sym (among_keys w.0 wires)) in
-    let one : length (fan_nodes n (wire_of w.0 wires)) ≡ (if is_among w.0 (keys wires) then 1 else 0) =
+    let one : length (fan_nodes n (wire_of w.0 wires)) ≡ (if is_listed w.0 (keys wires) then 1 else 0) =
     fan_count n (wire_of w.0 wires) ∙ ap (λ b. if b then 1 else 0) (sym (among_keys w.0 wires)) in
     let both = length-append (fan_nodes n (wire_of w.0 wires)) (fans n f' W more).nodes in
-    elim (is_among w.0 (keys wires)) as (λ b. is_among w.0 (keys wires) ≡ b → length (fan_nodes n (wire_of w.0 wires) ++ (fans n f' W more).nodes)
-    ≡ length (cond b (w.0 ∷ filter (λ v. is_among v (keys wires)) (keys more)) (filter (λ v. is_among v (keys wires)) (keys more)))) [
+    elim (is_listed w.0 (keys wires)) as (λ b. is_listed w.0 (keys wires) ≡ b → length (fan_nodes n (wire_of w.0 wires) ++ (fans n f' W more).nodes)
+    ≡ length (cond b (w.0 ∷ filter (λ v. is_listed v (keys wires)) (keys more)) (filter (λ v. is_listed v (keys wires)) (keys more)))) [
       | true ↦ (λ t. let same : keys W ≡ keys wires = rw t at keys_are in
           let single : length (fan_nodes n (wire_of w.0 wires)) ≡ 1 = rw t at one in
-          let others : length (fans n f' W more).nodes ≡ length (filter (λ v. is_among v (keys wires)) (keys more)) =
-          rest ∙ ap (λ l. length (filter (λ v. is_among v l) (keys more))) same in
+          let others : length (fans n f' W more).nodes ≡ length (filter (λ v. is_listed v (keys wires)) (keys more)) =
+          rest ∙ ap (λ l. length (filter (λ v. is_listed v l) (keys more))) same in
           omega (arith, both, single, others))
       | false ↦ (λ t. let same : keys W ≡ keys wires ++ w.0 ∷ [] = rw t at keys_are in
           let no_fan : length (fan_nodes n (wire_of w.0 wires)) ≡ 0 = rw t at one in
-          let others : length (fans n f' W more).nodes ≡ length (filter (λ v. is_among v (keys wires)) (keys more)) =
-          rest ∙ ap (λ l. length (filter (λ v. is_among v l) (keys more))) same
+          let others : length (fans n f' W more).nodes ≡ length (filter (λ v. is_listed v (keys wires)) (keys more)) =
+          rest ∙ ap (λ l. length (filter (λ v. is_listed v l) (keys more))) same
           ∙ ap length (filter_past (λ b. b) w.0 (keys wires) more (differ-head w more h)) in
           omega (arith, both, no_fan, others))
     ] refl
 
-differ-bracketed : (b : ℕ) (wires : Wires) → Differ wires → Differ (bracketed b wires)
+differ-bracketed : (b : ℕ) (wires : Wires) → Differ wires → Differ (past_brackets b wires)
 differ-bracketed b wires h = λ v. let few = h v in omega (arith, times-bracketed v b wires)
 
-keys-application : (n k : ℕ) (M N : Part) → Differ N.wires
-    → keys (application n k M N).wires ≡ keys M.wires ++ filter (λ v. not (is_among v (keys M.wires))) (keys N.wires)
+keys-application : (n k : ℕ) (M N : Subnet) → Differ N.wires
+    → keys (application n k M N).wires ≡ keys M.wires ++ filter (λ v. not (is_listed v (keys M.wires))) (keys N.wires)
 keys-application n k M N h =
     let b = k + 1 + length M.nodes + length N.nodes in
-    keys-fans n (k + 1 + length M.nodes + length N.nodes + length N.wires) M.wires (bracketed (k + 1 + length M.nodes + length N.nodes) N.wires)
+    keys-fans n (k + 1 + length M.nodes + length N.nodes + length N.wires) M.wires (past_brackets (k + 1 + length M.nodes + length N.nodes) N.wires)
     (differ-bracketed (k + 1 + length M.nodes + length N.nodes) N.wires h)
-    ∙ ap (λ l. keys M.wires ++ filter (λ v. not (is_among v (keys M.wires))) l) (keys-bracketed (k + 1 + length M.nodes + length N.nodes) N.wires)
+    ∙ ap (λ l. keys M.wires ++ filter (λ v. not (is_listed v (keys M.wires))) l) (keys-bracketed (k + 1 + length M.nodes + length N.nodes) N.wires)
 
-length-application : (n k : ℕ) (M N : Part) → Differ N.wires
-    → length (application n k M N).nodes ≡ 1 + length M.nodes + length N.nodes + length (keys N.wires) + length (filter (λ v. is_among v (keys M.wires)) (keys N.wires))
+length-application : (n k : ℕ) (M N : Subnet) → Differ N.wires
+    → length (application n k M N).nodes ≡ 1 + length M.nodes + length N.nodes + length (keys N.wires) + length (filter (λ v. is_listed v (keys M.wires)) (keys N.wires))
 length-application n k M N h =
-    let F = fans n (k + 1 + length M.nodes + length N.nodes + length N.wires) M.wires (bracketed (k + 1 + length M.nodes + length N.nodes) N.wires) in
-    let fan_nodes : length F.nodes ≡ length (filter (λ v. is_among v (keys M.wires)) (keys N.wires)) =
-    length-fans n (k + 1 + length M.nodes + length N.nodes + length N.wires) M.wires (bracketed (k + 1 + length M.nodes + length N.nodes) N.wires)
+    let F = fans n (k + 1 + length M.nodes + length N.nodes + length N.wires) M.wires (past_brackets (k + 1 + length M.nodes + length N.nodes) N.wires) in
+    let fan_nodes : length F.nodes ≡ length (filter (λ v. is_listed v (keys M.wires)) (keys N.wires)) =
+    length-fans n (k + 1 + length M.nodes + length N.nodes + length N.wires) M.wires (past_brackets (k + 1 + length M.nodes + length N.nodes) N.wires)
     (differ-bracketed (k + 1 + length M.nodes + length N.nodes) N.wires h)
-    ∙ ap (λ l. length (filter (λ v. is_among v (keys M.wires)) l)) (keys-bracketed (k + 1 + length M.nodes + length N.nodes) N.wires) in
+    ∙ ap (λ l. length (filter (λ v. is_listed v (keys M.wires)) l)) (keys-bracketed (k + 1 + length M.nodes + length N.nodes) N.wires) in
     omega (
       arith,
       fan_nodes,
@@ -181,40 +181,40 @@ length-application n k M N h =
 
 -- ---- terms
 
-pub wires_of_variables : (t : Tree) (d n k : ℕ) → keys (part_of t d n k).wires ≡ variables d t
+pub wires_of_variables : (t : Tree) (d n k : ℕ) → keys (subnet_of t d n k).wires ≡ variables d t
 wires_of_variables (var v) d n k = refl
 wires_of_variables (free f) d n k = refl
 wires_of_variables (lam M) d n k =
-    keys-outside (part_of M (d + 1) n (k + 1)).wires
+    keys-outside (subnet_of M (d + 1) n (k + 1)).wires
     ∙ ap (λ l. map (λ v. v - 1) (filter (λ v. nat_lt 0 v) l)) (wires_of_variables M (d + 1) n (k + 1))
 wires_of_variables (app M N) d n k =
-    let k' = k + 1 + length (part_of M d n (k + 1)).nodes in
-    keys-application n k (part_of M d n (k + 1)) (part_of N d (n + 1) (k + 1 + length (part_of M d n (k + 1)).nodes))
-    (λ v. few_wires v N d (n + 1) (k + 1 + length (part_of M d n (k + 1)).nodes))
-    ∙ ap (λ l. l ++ filter (λ v. not (is_among v l)) (keys (part_of N d (n + 1) k').wires)) (wires_of_variables M d n (k + 1))
-    ∙ ap (λ l. variables d M ++ filter (λ v. not (is_among v (variables d M))) l) (wires_of_variables N d (n + 1) k')
+    let k' = k + 1 + length (subnet_of M d n (k + 1)).nodes in
+    keys-application n k (subnet_of M d n (k + 1)) (subnet_of N d (n + 1) (k + 1 + length (subnet_of M d n (k + 1)).nodes))
+    (λ v. few_wires v N d (n + 1) (k + 1 + length (subnet_of M d n (k + 1)).nodes))
+    ∙ ap (λ l. l ++ filter (λ v. not (is_listed v l)) (keys (subnet_of N d (n + 1) k').wires)) (wires_of_variables M d n (k + 1))
+    ∙ ap (λ l. variables d M ++ filter (λ v. not (is_listed v (variables d M))) l) (wires_of_variables N d (n + 1) k')
 
-pub size_of_part : (t : Tree) (d n k : ℕ) → length (part_of t d n k).nodes ≡ size_under d t
+pub size_of_part : (t : Tree) (d n k : ℕ) → length (subnet_of t d n k).nodes ≡ size_under d t
 size_of_part (var v) d n k = refl
 size_of_part (free f) d n k = refl
 size_of_part (lam M) d n k =
-    let body = part_of M (d + 1) n (k + 1) in
+    let body = subnet_of M (d + 1) n (k + 1) in
     let size = size_of_part M (d + 1) n (k + 1) in
-    let bound : length (erasers (wire_of 0 (part_of M (d + 1) n (k + 1)).wires)) ≡ (if is_among 0 (variables (d + 1) M) then 0 else 1) =
-    length-erasers (wire_of 0 (part_of M (d + 1) n (k + 1)).wires)
-    ∙ ap (λ b. if b then 0 else 1) (sym (among_keys 0 (part_of M (d + 1) n (k + 1)).wires))
-    ∙ ap (λ l. if is_among 0 l then 0 else 1) (wires_of_variables M (d + 1) n (k + 1)) in
-    omega (arith, size, bound, length-append (part_of M (d + 1) n (k + 1)).nodes (erasers (wire_of 0 (part_of M (d + 1) n (k + 1)).wires)))
+    let bound : length (erasers (wire_of 0 (subnet_of M (d + 1) n (k + 1)).wires)) ≡ (if is_listed 0 (variables (d + 1) M) then 0 else 1) =
+    length-erasers (wire_of 0 (subnet_of M (d + 1) n (k + 1)).wires)
+    ∙ ap (λ b. if b then 0 else 1) (sym (among_keys 0 (subnet_of M (d + 1) n (k + 1)).wires))
+    ∙ ap (λ l. if is_listed 0 l then 0 else 1) (wires_of_variables M (d + 1) n (k + 1)) in
+    omega (arith, size, bound, length-append (subnet_of M (d + 1) n (k + 1)).nodes (erasers (wire_of 0 (subnet_of M (d + 1) n (k + 1)).wires)))
 size_of_part (app M N) d n k =
-    let M' = part_of M d n (k + 1) in
-    let N' = part_of N d (n + 1) (k + 1 + length (part_of M d n (k + 1)).nodes) in
-    let sizes = length-application n k M' N' (λ v. few_wires v N d (n + 1) (k + 1 + length (part_of M d n (k + 1)).nodes)) in
+    let M' = subnet_of M d n (k + 1) in
+    let N' = subnet_of N d (n + 1) (k + 1 + length (subnet_of M d n (k + 1)).nodes) in
+    let sizes = length-application n k M' N' (λ v. few_wires v N d (n + 1) (k + 1 + length (subnet_of M d n (k + 1)).nodes)) in
     let left = size_of_part M d n (k + 1) in
-    let right = size_of_part N d (n + 1) (k + 1 + length (part_of M d n (k + 1)).nodes) in
-    let brackets : length (keys N'.wires) ≡ length (variables d N) = ap length (wires_of_variables N d (n + 1) (k + 1 + length (part_of M d n (k + 1)).nodes)) in
-    let shared : length (filter (λ v. is_among v (keys M'.wires)) (keys N'.wires)) ≡ length (filter (λ v. is_among v (variables d M)) (variables d N)) =
-    ap (λ l. length (filter (λ v. is_among v l) (keys N'.wires))) (wires_of_variables M d n (k + 1))
-    ∙ ap (λ l. length (filter (λ v. is_among v (variables d M)) l)) (wires_of_variables N d (n + 1) (k + 1 + length (part_of M d n (k + 1)).nodes)) in
+    let right = size_of_part N d (n + 1) (k + 1 + length (subnet_of M d n (k + 1)).nodes) in
+    let brackets : length (keys N'.wires) ≡ length (variables d N) = ap length (wires_of_variables N d (n + 1) (k + 1 + length (subnet_of M d n (k + 1)).nodes)) in
+    let shared : length (filter (λ v. is_listed v (keys M'.wires)) (keys N'.wires)) ≡ length (filter (λ v. is_listed v (variables d M)) (variables d N)) =
+    ap (λ l. length (filter (λ v. is_listed v l) (keys N'.wires))) (wires_of_variables M d n (k + 1))
+    ∙ ap (λ l. length (filter (λ v. is_listed v (variables d M)) l)) (wires_of_variables N d (n + 1) (k + 1 + length (subnet_of M d n (k + 1)).nodes)) in
     omega (arith, sizes, left, right, brackets, shared)
 
 pub size_of_nodes : (t : Tree) → length (nodes_of t) ≡ size_of_translation t

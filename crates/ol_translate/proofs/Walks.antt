@@ -4,7 +4,7 @@ use Rattle.std.proofs.lemmas.List.{length-map}
 use Rattle.ol_net.specs.declared.parts.Kind.{Kind}
 use Rattle.ol_net.specs.declared.parts.Kind.TheVariants as kind
 use Rattle.ol_net.specs.declared.parts.Port.{Port}
-use Rattle.ol_translate.specs.Translation.{bracket_nodes, fans, fan_nodes, wire_of, rewired}
+use Rattle.ol_translate.specs.Translation.{bracket_nodes, fans, fan_nodes, wire_of, reconnected}
 
 pub length-bracket_nodes : (n : ℕ) (wires : List (ℕ × Port)) → length (bracket_nodes n wires) ≡ length wires
 length-bracket_nodes n wires = length-map wires (λ (w : ℕ × Port). (kind.Bracket, n))
@@ -25,7 +25,7 @@ wire_of-passed v (w ∷ wires) zero d h e = rw e refl
 wire_of-passed v (w ∷ wires) (suc i) d h e = wire_of-passed v wires i d (omega arith) e
 
 pub rewired-passed : (v : ℕ) (p : Port) (wires : List (ℕ × Port)) (i : ℕ) (d : ℕ × Port) → i < length wires → nat_eq (get_or wires i d).0 v ≡ false
-    → take i wires ++ rewired v p (drop i wires) ≡ take (suc i) wires ++ rewired v p (drop (suc i) wires)
+    → take i wires ++ reconnected v p (drop i wires) ≡ take (suc i) wires ++ reconnected v p (drop (suc i) wires)
 rewired-passed v p [] i d h e = absurd (omega arith)
 rewired-passed v p (w ∷ wires) zero d h e = rw e refl
 rewired-passed v p (w ∷ wires) (suc i) d h e = ap (λ l. w ∷ l) (rewired-passed v p wires i d (omega arith) e)
@@ -37,7 +37,7 @@ wire_of-found v (w ∷ wires) zero d w' h e = rw e refl
 wire_of-found v (w ∷ wires) (suc i) d w' h e = wire_of-found v wires i d w' (omega arith) e
 
 pub rewired-found : (v : ℕ) (p : Port) (wires : List (ℕ × Port)) (i : ℕ) (d : ℕ × Port) → i < length wires → nat_eq (get_or wires i d).0 v ≡ true
-    → take i wires ++ rewired v p (drop i wires) ≡ set wires i ((get_or wires i d).0, p)
+    → take i wires ++ reconnected v p (drop i wires) ≡ set wires i ((get_or wires i d).0, p)
 rewired-found v p [] i d h e = absurd (omega arith)
 rewired-found v p (w ∷ wires) zero d h e = rw e refl
 rewired-found v p (w ∷ wires) (suc i) d h e = ap (λ l. w ∷ l) (rewired-found v p wires i d (omega arith) e)

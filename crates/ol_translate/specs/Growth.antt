@@ -7,10 +7,10 @@ use Rattle.ol_translate.specs.declared.faults.TransFault.{TransFault}
 use Rattle.ol_translate.specs.declared.faults.TransFault.TheVariants.{TooMany}
 use Rattle.ol_translate.specs.declared.parts.Parts.{Parts}
 use Rattle.ol_translate.specs.declared.wires.Ends.{Ends}
-use Rattle.ol_translate.specs.Translation.{Part, wire_of, rewired}
+use Rattle.ol_translate.specs.Translation.{Subnet, wire_of, reconnected}
 
 -- the part's nodes and links come last, and its root and wires are left open
-pub record Lays (old : Parts) (P : Part) (new : Parts) (ends : Ends) : Type 0 where
+pub record Lays (old : Parts) (P : Subnet) (new : Parts) (ends : Ends) : Type 0 where
   pub nodes_are : new.nodes.items ≡ old.nodes.items ++ P.nodes
   pub links_are : new.links.items ≡ old.links.items ++ P.links
   pub root_is : ends.root ≡ P.root
@@ -34,7 +34,7 @@ pub record IsPlaced (v : ℕ) (wires : List (ℕ × Port)) (place : ℕ) : Type 
   pub within : place < length wires
   pub own : (w : ℕ × Port) → (slice_index_or wires place w).0 ≡ v
   pub port : (w : ℕ × Port) → wire_of v wires ≡ Some (slice_index_or wires place w).1
-  pub changes : (p : Port) → rewired v p wires ≡ slice_set wires place (v, p)
+  pub changes : (p : Port) → reconnected v p wires ≡ slice_set wires place (v, p)
 
 -- no variable has two wires
 abbrev pub HaveOneEach : List (ℕ × Port) → Type 0

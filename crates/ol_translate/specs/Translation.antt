@@ -10,9 +10,9 @@ use Rattle.ol_net.specs.declared.parts.Port.TheVariants.{Free, Of}
 use Rattle.ol_net.specs.Nets.{NamedNet}
 use Rattle.ol_net.specs.Numbered.{net_of_parts}
 
--- slot s of node k
-abbrev pub slot : ℕ → ℕ → Port
-slot k s = Of (record { 0 = k }) s
+-- slot_port s of node k
+abbrev pub slot_port : ℕ → ℕ → Port
+slot_port k s = Of (record { 0 = k }) s
 
 -- The wires of the variables that are free in a term, in order of first occurrence. Variables are counted outwards, as
 -- if the free names were bound round the whole term: under d abstractions, variable d + f is free name f.
@@ -20,7 +20,7 @@ abbrev pub Wires : Type 0
 Wires = List (ℕ × Port)
 
 -- A term as a part of a net: its root and its wires are still to be joined.
-pub record Part : Type 0 where
+pub record Subnet : Type 0 where
   pub nodes : List (Kind × ℕ)
   pub links : List (Port × Port)
   pub root : Port
@@ -31,15 +31,15 @@ abbrev pub wire_of : ℕ → Wires → Option Port
 wire_of v wires = option_map (λ (w : ℕ × Port). w.1) (find (λ w. w.0 == v) wires)
 
 -- the same wires, with another port for this variable
-abbrev pub rewired : ℕ → Port → Wires → Wires
-rewired v p [] = []
-rewired v p (w ∷ wires) = if w.0 == v then (w.0, p) ∷ wires else w ∷ rewired v p wires
+abbrev pub reconnected : ℕ → Port → Wires → Wires
+reconnected v p [] = []
+reconnected v p (w ∷ wires) = if w.0 == v then (w.0, p) ∷ wires else w ∷ reconnected v p wires
 
 -- ---- an occurrence of a variable
 
--- croissant n: slot 1 is the root, slot 0 towards the binder
-abbrev pub occurrence : (v n k : ℕ) → Part
-occurrence v n k = record { nodes = (kind.Croissant, n) ∷ []; links = []; root = slot k 1; wires = (v, slot k 0) ∷ [] }
+-- croissant n: slot_port 1 is the root, slot_port 0 towards the binder
+abbrev pub occurrence : (v n k : ℕ) → Subnet
+occurrence v n k = record { nodes = (kind.Croissant, n) ∷ []; links = []; root = slot_port k 1; wires = (v, slot_port k 0) ∷ [] }
 
 -- ---- an abstraction
 
@@ -52,35 +52,35 @@ abbrev pub erasers : Option Port → List (Kind × ℕ)
 erasers None = (kind.Eraser, 0) ∷ []
 erasers (Some w) = []
 
--- the variable's wire, or slot 0 of the eraser
+-- the variable's wire, or slot_port 0 of the eraser
 abbrev pub bound_port : Option Port → ℕ → Port
-bound_port None eraser = slot eraser 0
+bound_port None eraser = slot_port eraser 0
 bound_port (Some w) eraser = w
 
 -- abstraction n; the nodes of M at level n; an eraser where x doesn't occur in M
-abbrev pub abstraction : (n k : ℕ) → Part → Part
+abbrev pub abstraction : (n k : ℕ) → Subnet → Subnet
 abstraction n k M = let x = wire_of 0 M.wires in record {
   nodes = ((kind.Lam, n) ∷ M.nodes) ++ erasers x;
-  links = M.links ++ (slot k 1, M.root) ∷ (slot k 2, bound_port x (k + 1 + length M.nodes)) ∷ [];
-  root = slot k 0;
+  links = M.links ++ (slot_port k 1, M.root) ∷ (slot_port k 2, bound_port x (k + 1 + length M.nodes)) ∷ [];
+  root = slot_port k 0;
   wires = outside M.wires;
 }
 
 -- ---- an application
 
--- a bracket n for each variable free in N, from number b on: slot 1 towards N, slot 0 towards the binder
+-- a bracket n for each variable free in N, from number b on: slot_port 1 towards N, slot_port 0 towards the binder
 abbrev pub bracket_nodes : (n : ℕ) → Wires → List (Kind × ℕ)
 bracket_nodes n wires = map (λ (w : ℕ × Port). (kind.Bracket, n)) wires
 
 abbrev pub bracket_links : (b : ℕ) → Wires → List (Port × Port)
 bracket_links b [] = []
-bracket_links b (w ∷ wires) = (slot b 1, w.1) ∷ bracket_links (b + 1) wires
+bracket_links b (w ∷ wires) = (slot_port b 1, w.1) ∷ bracket_links (b + 1) wires
 
-abbrev pub bracketed : (b : ℕ) → Wires → Wires
-bracketed b [] = []
-bracketed b (w ∷ wires) = (w.0, slot b 0) ∷ bracketed (b + 1) wires
+abbrev pub past_brackets : (b : ℕ) → Wires → Wires
+past_brackets b [] = []
+past_brackets b (w ∷ wires) = (w.0, slot_port b 0) ∷ past_brackets (b + 1) wires
 
--- a fan n for a variable that is free in both: slot 1 with its wire from M, slot 2 with its bracket, slot 0 towards the
+-- a fan n for a variable that is free in both: slot_port 1 with its wire from M, slot_port 2 with its bracket, slot_port 0 towards the
 -- binder
 abbrev pub fan_nodes : (n : ℕ) → Option Port → List (Kind × ℕ)
 fan_nodes n None = []
@@ -88,12 +88,12 @@ fan_nodes n (Some p) = (kind.Fan, n) ∷ []
 
 abbrev pub fan_links : (f : ℕ) → Option Port → Port → List (Port × Port)
 fan_links f None q = []
-fan_links f (Some p) q = (slot f 1, p) ∷ (slot f 2, q) ∷ []
+fan_links f (Some p) q = (slot_port f 1, p) ∷ (slot_port f 2, q) ∷ []
 
--- the variable's one wire is the fan's slot 0, or that of its bracket, last
+-- the variable's one wire is the fan's slot_port 0, or that of its bracket, last
 abbrev pub merged : (f : ℕ) → Option Port → ℕ × Port → Wires → Wires
 merged f None w wires = wires ++ w ∷ []
-merged f (Some p) w wires = rewired w.0 (slot f 0) wires
+merged f (Some p) w wires = reconnected w.0 (slot_port f 0) wires
 
 pub record Fans : Type 0 where
   pub nodes : List (Kind × ℕ)
@@ -109,28 +109,28 @@ fans n f wires (w ∷ more) =
     record { nodes = fan_nodes n x ++ rest.nodes; links = fan_links f x w.1 ++ rest.links; wires = rest.wires }
 
 -- application n; the nodes of M at level n; the nodes of N at level n + 1; brackets; fans
-abbrev pub application : (n k : ℕ) → Part → Part → Part
+abbrev pub application : (n k : ℕ) → Subnet → Subnet → Subnet
 application n k M N =
     let b = k + 1 + length M.nodes + length N.nodes in
-    let F = fans n (b + length N.wires) M.wires (bracketed b N.wires) in
+    let F = fans n (b + length N.wires) M.wires (past_brackets b N.wires) in
     record {
       nodes = (((kind.App, n) ∷ M.nodes) ++ N.nodes) ++ (bracket_nodes n N.wires ++ F.nodes);
       links = (M.links ++ N.links)
-          ++ (((slot k 0, M.root) ∷ (slot k 2, N.root) ∷ []) ++ (bracket_links b N.wires ++ F.links));
-      root = slot k 1;
+          ++ (((slot_port k 0, M.root) ∷ (slot_port k 2, N.root) ∷ []) ++ (bracket_links b N.wires ++ F.links));
+      root = slot_port k 1;
       wires = F.wires;
     }
 
 -- ---- terms
 
 -- a term under d abstractions and at level n, whose first node has number k
-abbrev pub part_of : Tree → (d n k : ℕ) → Part
-part_of (var v) d n k = occurrence v n k
-part_of (free f) d n k = occurrence (d + f) n k
-part_of (lam M) d n k = abstraction n k (part_of M (d + 1) n (k + 1))
-part_of (app M N) d n k =
-    let left = part_of M d n (k + 1) in
-    application n k left (part_of N d (n + 1) (k + 1 + length left.nodes))
+abbrev pub subnet_of : Tree → (d n k : ℕ) → Subnet
+subnet_of (var v) d n k = occurrence v n k
+subnet_of (free f) d n k = occurrence (d + f) n k
+subnet_of (lam M) d n k = abstraction n k (subnet_of M (d + 1) n (k + 1))
+subnet_of (app M N) d n k =
+    let left = subnet_of M d n (k + 1) in
+    application n k left (subnet_of N d (n + 1) (k + 1 + length left.nodes))
 
 -- the wire of free name f is joined to free port f + 1
 abbrev pub name_links : Wires → List (Port × Port)
@@ -138,10 +138,10 @@ name_links wires = map (λ (w : ℕ × Port). (Free (w.0 + 1), w.1)) wires
 
 -- the whole term stands at level 0, its root joined to free port 0
 abbrev pub nodes_of : Tree → List (Kind × ℕ)
-nodes_of t = (part_of t 0 0 0).nodes
+nodes_of t = (subnet_of t 0 0 0).nodes
 
 abbrev pub links_of : Tree → List (Port × Port)
-links_of t = let P = part_of t 0 0 0 in P.links ++ (Free 0, P.root) ∷ name_links P.wires
+links_of t = let P = subnet_of t 0 0 0 in P.links ++ (Free 0, P.root) ∷ name_links P.wires
 
 -- the net of a term with so many free names
 abbrev pub translation_of : Tree → ℕ → NamedNet ℕ

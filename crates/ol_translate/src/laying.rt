@@ -2,7 +2,7 @@
 
 ghost use Rattle.std.specs.Prelude.{◌≡◌, ℕ, ◌^◌, All, ◌≤◌, ◌<◌, ◌+◌, ◌++◌, [], ◌∷◌, length, IfOk, OnOk, IfErr};
 ghost use Rattle.ol_term.specs.Trees.{tree_of};
-ghost use Rattle.ol_translate.specs.Translation.{nodes_of, links_of, name_links, occurrence, part_of, wire_of, outside, slot, erasers, bound_port, bracket_nodes, bracket_links, bracketed, fans, fan_nodes, fan_links, merged};
+ghost use Rattle.ol_translate.specs.Translation.{nodes_of, links_of, name_links, occurrence, subnet_of, wire_of, outside, slot_port, erasers, bound_port, bracket_nodes, bracket_links, past_brackets, fans, fan_nodes, fan_links, merged};
 ghost use Rattle.ol_translate.specs.Growth.{next_number, Lays, Adds, OnlyAbove, HaveOneEach, IsIndex};
 ghost use Rattle.ol_translate.specs.Names.{HasNames};
 ghost use Rattle.ol_translate.specs.declared.TheConstants.{MOST_NODES};
@@ -56,10 +56,10 @@ impl Parts {
         requires few_abstractions { depth ≤ length self.old.nodes.items }
         requires few_levels { level ≤ length self.old.nodes.items }
         ensures lays { IfOk result (λ ends. Lays self.old
-            (part_of (tree_of term.now) depth level (next_number self.old)) self.new ends) }
+            (subnet_of (tree_of term.now) depth level (next_number self.old)) self.new ends) }
         ensures too_many { IfErr result (λ e.
             let b = next_number self.old in
-            OnlyAbove (b + length (part_of (tree_of term.now) depth level b).nodes) e) }
+            OnlyAbove (b + length (subnet_of (tree_of term.now) depth level b).nodes) e) }
     {
         match term {
             Term::Var(variable) => self.occurrence(*variable as usize, level),
@@ -97,9 +97,9 @@ impl Parts {
         ensures adds { OnOk result (
             let x = wire_of 0 body.now.wires.items in
             Adds self.old self.new (erasers x)
-            ((slot number 1, body.now.root)
-            ∷ (slot number 2, bound_port x (next_number self.old)) ∷ [])) }
-        ensures ends { IfOk result (λ ends. (ends.root ≡ slot number 0)
+            ((slot_port number 1, body.now.root)
+            ∷ (slot_port number 2, bound_port x (next_number self.old)) ∷ [])) }
+        ensures ends { IfOk result (λ ends. (ends.root ≡ slot_port number 0)
             × (ends.wires.items ≡ outside body.now.wires.items)) }
         ensures too_many { IfErr result (λ e.
             let x = wire_of 0 body.now.wires.items in
@@ -135,15 +135,15 @@ impl Parts {
         ensures adds { IfOk result (λ ends.
             let b = next_number self.old in
             let more = argument.now.wires.items in
-            let F = fans level (b + length more) function.wires.items (bracketed b more) in
+            let F = fans level (b + length more) function.wires.items (past_brackets b more) in
             Adds self.old self.new (bracket_nodes level more ++ F.nodes)
-            (((slot number 0, function.root) ∷ (slot number 2, argument.now.root) ∷ [])
+            (((slot_port number 0, function.root) ∷ (slot_port number 2, argument.now.root) ∷ [])
             ++ (bracket_links b more ++ F.links))
-            × (ends.root ≡ slot number 1) × (ends.wires.items ≡ F.wires)) }
+            × (ends.root ≡ slot_port number 1) × (ends.wires.items ≡ F.wires)) }
         ensures too_many { IfErr result (λ e.
             let b = next_number self.old in
             let more = argument.now.wires.items in
-            let F = fans level (b + length more) function.wires.items (bracketed b more) in
+            let F = fans level (b + length more) function.wires.items (past_brackets b more) in
             OnlyAbove (b + length (bracket_nodes level more) + length F.nodes) e) }
     {
         let mut wires = function.wires;
@@ -163,7 +163,7 @@ impl Parts {
             let b = next_number self.old in
             Adds self.old self.new
             (bracket_nodes level wires.now.items) (bracket_links b wires.now.items)
-            × (out.items ≡ bracketed b wires.now.items)) }
+            × (out.items ≡ past_brackets b wires.now.items)) }
         ensures too_many { IfErr result (λ e.
             OnlyAbove (next_number self.old + length (bracket_nodes level wires.now.items)) e) }
     {

@@ -1,7 +1,7 @@
 //! Wires: the ports at which the variables of a term leave it.
 
 ghost use Rattle.std.specs.Prelude.{◌≡◌};
-ghost use Rattle.ol_translate.specs.Translation.{wire_of, slot};
+ghost use Rattle.ol_translate.specs.Translation.{wire_of, slot_port};
 
 use ol_net::{NodeId, Port};
 
@@ -24,7 +24,7 @@ pub fn find_wire(wires: &Vec<Wire>, variable: usize) -> Option<Port>
 }
 
 pub fn slot_of(number: u32, at: u8) -> Port
-    ensures { result ≡ slot number at }
+    ensures { result ≡ slot_port number at }
 {
     Port::Of {
         node: NodeId(number),

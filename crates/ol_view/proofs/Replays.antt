@@ -18,7 +18,7 @@ use Rattle.ol_rules.proofs.FreshPairs.{linked_sym}
 use Rattle.ol_rules.proofs.NameOrder.{Names, names_apart, names_after, names_after_old, names_on}
 use Rattle.ol_rules.proofs.Renaming.{net_alike, active_from, step_under}
 use Rattle.ol_rules.proofs.UnderWay.{node_below, births_few}
-use Rattle.ol_view.specs.Replaying.{number_within, number_of, AreIdleNumbers, RewritesNamed}
+use Rattle.ol_view.specs.Replaying.{number_within, node_number, AreIdleNumbers, RewritesNamed}
 use Rattle.ol_view.specs.Checks.{AreIdle}
 
 -- ---- numbers of names
@@ -27,8 +27,8 @@ use Rattle.ol_view.specs.Checks.{AreIdle}
 pub record Index (bases : List ℕ) (next ticket : ℕ) (m : ℕ → NodeName) : Type 0 where
   pub tickets : length bases ≡ suc ticket
   pub last : slice_get bases ticket ≡ Some next
-  pub finds : (k : ℕ) → k < next → number_of bases (m k) ≡ Some k
-  pub found : (x : NodeName) (k : ℕ) → number_of bases x ≡ Some k → (k < next) × (m k ≡ x)
+  pub finds : (k : ℕ) → k < next → node_number bases (m k) ≡ Some k
+  pub found : (x : NodeName) (k : ℕ) → node_number bases x ≡ Some k → (k < next) × (m k ≡ x)
 
 got_first : (bases : List ℕ) (x t : ℕ) (b : ℕ) → slice_get bases t ≡ Some b → slice_get (bases ++ x ∷ []) t ≡ Some b
 got_first [] x t b h = absurd (cc)
@@ -80,7 +80,7 @@ first_kept : (bases : List ℕ) (x : ℕ) → 1 ≤ length bases → slice_index
 first_kept [] x h = absurd (omega arith)
 first_kept (b ∷ bases) x h = refl
 
-number_kept : (bases : List ℕ) (x : ℕ) (name : NodeName) (k : ℕ) → 1 ≤ length bases → number_of bases name ≡ Some k → number_of (bases ++ x ∷ []) name ≡ Some k
+number_kept : (bases : List ℕ) (x : ℕ) (name : NodeName) (k : ℕ) → 1 ≤ length bases → node_number bases name ≡ Some k → node_number (bases ++ x ∷ []) name ≡ Some k
 number_kept bases x (Init n) k l h = ap (λ b. if nat_lt n b then Some n else None) (first_kept bases x l) ∙ h
 number_kept bases x (Born t p) k l h =
     let w = within (slice_get bases t) (slice_get bases (suc t)) p k h in
@@ -88,14 +88,14 @@ number_kept bases x (Born t p) k l h =
     (record { base = w.base; next = w.next; first = got_first bases x t w.base w.first; second = got_first bases x (suc t) w.next w.second; is = w.is; below = w.below })
 
 -- a number of the longer list was one before, or is of the last ticket
-number_cases : (bases : List ℕ) (ticket next x : ℕ) (name : NodeName) (k : ℕ) → length bases ≡ suc ticket → slice_get bases ticket ≡ Some next → number_of (bases ++ x ∷ []) name ≡ Some k →
-    (number_of bases name ≡ Some k) ⊎ ((next ≤ k) × (k < x) × (name ≡ Born ticket (k - next)))
+number_cases : (bases : List ℕ) (ticket next x : ℕ) (name : NodeName) (k : ℕ) → length bases ≡ suc ticket → slice_get bases ticket ≡ Some next → node_number (bases ++ x ∷ []) name ≡ Some k →
+    (node_number bases name ≡ Some k) ⊎ ((next ≤ k) × (k < x) × (name ≡ Born ticket (k - next)))
 number_cases bases ticket next x (Init n) k l h e = inl (ap (λ b. if nat_lt n b then Some n else None) (sym (first_kept bases x (omega arith))) ∙ e)
 number_cases bases ticket next x (Born t p) k l h e = go (within (slice_get (bases ++ x ∷ []) t) (slice_get (bases ++ x ∷ []) (suc t)) p k e)
   where
     cases : (w : Within (slice_get (bases ++ x ∷ []) t) (slice_get (bases ++ x ∷ []) (suc t)) p k) →
         (slice_get bases t ≡ Some w.base) ⊎ ((t ≡ length bases) × (w.base ≡ x)) → (slice_get bases (suc t) ≡ Some w.next) ⊎ ((suc t ≡ length bases) × (w.next ≡ x)) →
-        (number_of bases (Born t p) ≡ Some k) ⊎ ((next ≤ k) × (k < x) × (Born t p ≡ Born ticket (k - next)))
+        (node_number bases (Born t p) ≡ Some k) ⊎ ((next ≤ k) × (k < x) × (Born t p ≡ Born ticket (k - next)))
     cases w (inl a) (inl b) = inl (within_back (slice_get bases t) (slice_get bases (suc t)) p k (record { base = w.base; next = w.next; first = a; second = b; is = w.is; below = w.below }))
     cases w (inl a) (inr b) =
         let q : t ≡ ticket = omega arith in
@@ -114,7 +114,7 @@ number_cases bases ticket next x (Born t p) k l h e = go (within (slice_get (bas
         past (b ∷ bases) (suc t) n l h = past bases t n (omega arith) h
     cases w (inr a) (inr b) = absurd (let q = a.0 in let r = b.0 in omega arith)
 
-    go : Within (slice_get (bases ++ x ∷ []) t) (slice_get (bases ++ x ∷ []) (suc t)) p k → (number_of bases (Born t p) ≡ Some k) ⊎ ((next ≤ k) × (k < x) × (Born t p ≡ Born ticket (k - next)))
+    go : Within (slice_get (bases ++ x ∷ []) t) (slice_get (bases ++ x ∷ []) (suc t)) p k → (node_number bases (Born t p) ≡ Some k) ⊎ ((next ≤ k) × (k < x) × (Born t p ≡ Born ticket (k - next)))
     go w = cases w (got_cases bases x t w.base w.first) (got_cases bases x (suc t) w.next w.second)
 
 -- at the start
@@ -122,11 +122,11 @@ pub index_first : (start : ℕ) → Index (start ∷ []) start 0 (names_after In
 index_first start = record {
   tickets = refl;
   last = refl;
-  finds = λ k l. let e : nat_lt k start ≡ true = grind (arith, nat_tests) in ap (number_of (start ∷ [])) (names_after_old Init start 0 k l) ∙ ap (λ v. if v then Some k else None) e;
+  finds = λ k l. let e : nat_lt k start ≡ true = grind (arith, nat_tests) in ap (node_number (start ∷ [])) (names_after_old Init start 0 k l) ∙ ap (λ v. if v then Some k else None) e;
   found = found;
 }
   where
-    found : (x : NodeName) (k : ℕ) → number_of (start ∷ []) x ≡ Some k → (k < start) × (names_after Init start 0 k ≡ x)
+    found : (x : NodeName) (k : ℕ) → node_number (start ∷ []) x ≡ Some k → (k < start) × (names_after Init start 0 k ≡ x)
     found (Init n) k h = go (nat_lt n start) refl h
       where
         go : (v : Bool) → nat_lt n start ≡ v → (if v then Some n else None) ≡ Some k → (k < start) × (names_after Init start 0 k ≡ Init n)
@@ -143,23 +143,23 @@ pub index_on : (start bases_next ticket next : ℕ) (bases : List ℕ) (m : ℕ 
 index_on start old ticket next bases m l names i = record {
   tickets = let t = i.tickets in omega (arith, length-append bases (next ∷ []));
   last = got_last bases next (suc ticket) i.tickets;
-  finds = λ k b. ap (number_of (bases ++ next ∷ [])) (names_after_old m next (suc ticket) k b) ∙ finds k b (cases_lt k old);
+  finds = λ k b. ap (node_number (bases ++ next ∷ [])) (names_after_old m next (suc ticket) k b) ∙ finds k b (cases_lt k old);
   found = λ x k h. found x k (number_cases bases ticket old next x k i.tickets i.last h);
 }
   where
     some : 1 ≤ length bases
     some = let t = i.tickets in omega arith
 
-    finds : (k : ℕ) → k < next → (k < old) ⊎ (old ≤ k) → number_of (bases ++ next ∷ []) (m k) ≡ Some k
+    finds : (k : ℕ) → k < next → (k < old) ⊎ (old ≤ k) → node_number (bases ++ next ∷ []) (m k) ≡ Some k
     finds k b (inl c) = number_kept bases next (m k) k some (i.finds k c)
     finds k b (inr c) =
         let q : old + (k - old) ≡ k = omega arith in
         let n : m k ≡ Born ticket (k - old) = ap m (sym q) ∙ names.born (k - old) in
-        ap (number_of (bases ++ next ∷ [])) n
+        ap (node_number (bases ++ next ∷ [])) n
         ∙ within_back (slice_get (bases ++ next ∷ []) ticket) (slice_get (bases ++ next ∷ []) (suc ticket)) (k - old) k
         (record { base = old; next = next; first = got_first bases next ticket old i.last; second = got_last bases next (suc ticket) i.tickets; is = q; below = omega arith })
 
-    found : (x : NodeName) (k : ℕ) → (number_of bases x ≡ Some k) ⊎ ((old ≤ k) × (k < next) × (x ≡ Born ticket (k - old))) → (k < next) × (names_after m next (suc ticket) k ≡ x)
+    found : (x : NodeName) (k : ℕ) → (node_number bases x ≡ Some k) ⊎ ((old ≤ k) × (k < next) × (x ≡ Born ticket (k - old))) → (k < next) × (names_after m next (suc ticket) k ≡ x)
     found x k (inl h) = let f = i.found x k h in (omega arith, names_after_old m next (suc ticket) k (omega arith) ∙ f.1)
     found x k (inr h) =
         let q : old + (k - old) ≡ k = omega arith in
@@ -172,8 +172,8 @@ pub idle_names : (g : Graph) (bases : List ℕ) (start ticket : ℕ) (m : ℕ �
     AreIdleNumbers g bases a b → AreIdle (net_under m (net_of g)) a b
 idle_names g bases start ticket m a b n i idle r = ((λ x. one a b x idle), (λ x. other a b x idle))
   where
-    number : (x : NodeName) (f : ℕ) → x ≡ m f → f < length g.nodes → number_of bases x ≡ Some f
-    number x f e l = ap (number_of bases) e ∙ i.finds f l
+    number : (x : NodeName) (f : ℕ) → x ≡ m f → f < length g.nodes → node_number bases x ≡ Some f
+    number x f e l = ap (node_number bases) e ∙ i.finds f l
 
     one : (a b : NodeName) → IsActive (net_under m (net_of g)) a b r → AreIdleNumbers g bases a b → ⊥
     one a b x idle =

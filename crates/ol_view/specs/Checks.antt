@@ -15,8 +15,8 @@ use Rattle.ol_view.specs.declared.answers.Check.TheVariants.{Complete, Run, BadT
 use Rattle.ol_view.specs.TraceTexts.{header, trace_text, BeginsWithLine}
 
 -- the net whose nodes are named by their numbers
-abbrev pub start_net : Graph → NamedNet NodeName
-start_net g = net_under Init (net_of g)
+abbrev pub start_net_of_graph : Graph → NamedNet NodeName
+start_net_of_graph g = net_under Init (net_of g)
 
 -- The first lines of the text are the trace of a run of at most 2,000,000 entries, which leads from
 -- one net to the other; this follows them.

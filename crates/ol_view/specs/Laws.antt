@@ -3,7 +3,7 @@ use Rattle.std.specs.Prelude.{◌≡◌, ℕ, length}
 use Rattle.ol_net.specs.Graph.{Graph, IsTabled}
 use Rattle.ol_net.specs.Nets.{IsNet, SameNet}
 use Rattle.ol_net.specs.Numbered.{net_of}
-use Rattle.ol_view.specs.Leads.{IsAfter}
+use Rattle.ol_view.specs.Leads.{IsAfterLeads}
 use Rattle.ol_view.specs.ShowTexts.{show_text}
 
 -- the graph's tables are those of a net
@@ -20,5 +20,5 @@ EqualNetsAreShownAlike = (g h : Graph) → IsTable g → IsTable h →
 abbrev pub LeadsAreOne : Type 0
 LeadsAreOne = (old old' new new' : Graph) (k steps steps' : ℕ) → IsNet (net_of old) →
     SameNet (net_of old) (net_of old') → length old.nodes ≡ length old'.nodes →
-    IsTable new → IsTable new' → IsAfter old k new steps → IsAfter old' k new' steps' →
+    IsTable new → IsTable new' → IsAfterLeads old k new steps → IsAfterLeads old' k new' steps' →
     (steps ≡ steps') × SameNet (net_of new) (net_of new')

@@ -16,23 +16,23 @@ number_within _ _ place = None
 
 -- The number of the node of a name. `bases` has at t how many numbers were given out before ticket
 -- t, and at its end how many are given out by now.
-abbrev pub number_of : List ℕ → NodeName → Option ℕ
-number_of bases (Init k) = if nat_lt k (slice_index_or bases 0 0) then Some k else None
-number_of bases (Born ticket place) =
+abbrev pub node_number : List ℕ → NodeName → Option ℕ
+node_number bases (Init k) = if nat_lt k (slice_index_or bases 0 0) then Some k else None
+node_number bases (Born ticket place) =
     number_within (slice_get bases ticket) (slice_get bases (suc ticket)) place
 
 -- no two nodes of these names are an active pair
 abbrev pub AreIdleNumbers : Graph → List ℕ → NodeName → NodeName → Type 0
 AreIdleNumbers g bases a b =
-    (f h : ℕ) → number_of bases a ≡ Some f → number_of bases b ≡ Some h → AreIdle (net_of g) f h
+    (f h : ℕ) → node_number bases a ≡ Some f → node_number bases b ≡ Some h → AreIdle (net_of g) f h
 
 -- the pair of these names was rewritten
 pub record RewritesNamed (old new : Graph) (bases bases' : List ℕ) (a b : NodeName) : Type 0 where
   pub f : ℕ
   pub h : ℕ
   pub rule : Rule
-  pub first : number_of bases a ≡ Some f
-  pub second : number_of bases b ≡ Some h
+  pub first : node_number bases a ≡ Some f
+  pub second : node_number bases b ≡ Some h
   pub linked : Linked (net_of old) (slot f 0) (slot h 0)
   pub steps : StepsAt old new f rule
   pub old_net : IsNet (net_of old)

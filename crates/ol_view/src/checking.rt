@@ -3,7 +3,7 @@
 ghost use Rattle.std.specs.Prelude.{◌≤◌, length, IfOk};
 ghost use Rattle.ol_net.specs.Nets.{IsNet};
 ghost use Rattle.ol_net.specs.Numbered.{net_of};
-ghost use Rattle.ol_view.specs.Checks.{start_net, IsFound, OnlyIsFound, IsReadAgain};
+ghost use Rattle.ol_view.specs.Checks.{start_net_of_graph, IsFound, OnlyIsFound, IsReadAgain};
 
 use crate::answers::Check;
 use crate::line_reading::line_at;
@@ -31,8 +31,8 @@ const MOST_ENTRIES: u32 = 2_000_000;
 /// was found.
 pub fn check(alloc: Global, net: &Net, text: &[u8]) -> Result<Check, NoMemory>
     requires { length net.now.nodes ≤ 1000000 }
-    ensures exact { IfOk result (OnlyIsFound (start_net net.now) text.now) }
-    ensures read_again { IfOk result (IsReadAgain (start_net net.now) text.now) }
+    ensures exact { IfOk result (OnlyIsFound (start_net_of_graph net.now) text.now) }
+    ensures read_again { IfOk result (IsReadAgain (start_net_of_graph net.now) text.now) }
 {
     let found = find(alloc, net, text)?;
     Ok(found)
@@ -41,7 +41,7 @@ pub fn check(alloc: Global, net: &Net, text: &[u8]) -> Result<Check, NoMemory>
 // What is found of the text.
 fn find(alloc: Global, net: &Net, text: &[u8]) -> Result<Check, NoMemory>
     requires { length net.now.nodes ≤ 1000000 }
-    ensures found { IfOk result (IsFound (start_net net.now) text.now) }
+    ensures found { IfOk result (IsFound (start_net_of_graph net.now) text.now) }
     ensures is_net { IsNet (net_of net.now) }
 {
     net.is_net();

@@ -7,7 +7,7 @@ ghost use Rattle.ol_net.specs.Pairs.{IsInActive};
 ghost use Rattle.ol_net.specs.Numbered.{net_of};
 ghost use Rattle.ol_rules.specs.Runs.{IsComplete, HasActive};
 ghost use Rattle.ol_view.specs.Checks.{AreIdle};
-ghost use Rattle.ol_view.specs.Replaying.{number_of, AreIdleNumbers, RewritesNamed};
+ghost use Rattle.ol_view.specs.Replaying.{node_number, AreIdleNumbers, RewritesNamed};
 
 use ol_io::NoMemory;
 use ol_net::{Facing, Net, NodeId, Port};
@@ -39,7 +39,7 @@ impl Replay {
 
     // The node of a name, by its number, if the name was given out.
     fn node_of(&self, name: NodeName) -> Option<NodeId>
-        ensures { option_map (λ node. node.0) result ≡ number_of self.now.bases.items name }
+        ensures { option_map (λ node. node.0) result ≡ node_number self.now.bases.items name }
     {
         match name {
             NodeName::Init(k) => {

@@ -12,7 +12,7 @@ use Rattle.ol_wire.specs.declared.plan.Plan.{Plan}
 use Rattle.ol_wire.specs.declared.view.Link.{Link}
 use Rattle.ol_wire.specs.declared.view.View.{View}
 use Rattle.ol_wire.specs.References.{node_ref, wire_ref, slot_ref, IsNodeRef, IsRef}
-use Rattle.ol_wire.specs.Layout.{Part, ticket, port, field, wire, between, left, right, entry, past, part_of, place_of, size, IsPlaced}
+use Rattle.ol_wire.specs.Layout.{WordPart, ticket, port, field, wire, between, left, right, entry, past, part_of_word, place_of, table_size, IsPlaced}
 use Rattle.ol_wire.specs.Edges.{edge_to, edge_in, edges_in, edges_of, links_in, pending_in, is_reached, is_live}
 use Rattle.ol_wire.specs.Stands.{IsEnd, of_port, principal, auxiliary, IsWireEnd}
 use Rattle.ol_wire.specs.Rule.{Table, IsView, IsOwn, Kept}
@@ -57,7 +57,7 @@ ends_found u (e ∷ es) h = elim (cases_eq u e.0) [
 ]
 
 -- where an edge of the words stands
-pub data EdgeAt (at : Part) (n word next a b : ℕ) : Type 0 where
+pub data EdgeAt (at : WordPart) (n word next a b : ℕ) : Type 0 where
   at_wire : at ≢ ticket → a ≡ wire_ref n → b ≡ word → word ≢ 0 → EdgeAt at n word next a b
   at_field : (x : NodeName) (s : ℕ) → at ≡ field x s → a ≡ slot_ref n → b ≡ word → word ≢ 0 → EdgeAt at n word next a b
   at_cell : at ≡ left → a ≡ word → b ≡ next → word ≢ 0 → EdgeAt at n word next a b
@@ -72,7 +72,7 @@ one_edge end word a b h = elim (cases_eq word 0) [
     only (inl q) n = (ap (λ (x : ℕ × ℕ). x.0) q, ap (λ (x : ℕ × ℕ). x.1) q, n)
     only (inr t) n = elim t [ ]
 
-pub edge_at : (net : NamedNet NodeName) (reached : Bool) (at : Part) (n word next a b : ℕ) → IsIn (a, b) (edge_in net reached at n word next) → EdgeAt at n word next a b
+pub edge_at : (net : NamedNet NodeName) (reached : Bool) (at : WordPart) (n word next a b : ℕ) → IsIn (a, b) (edge_in net reached at n word next) → EdgeAt at n word next a b
 edge_at net r (port m) n word next a b h = let t = one_edge (wire_ref n) word a b h in at_wire (λ e. absurd (cc)) t.0 t.1 t.2
 edge_at net r (field x s) n word next a b h = go (is_live net x) h
   where
@@ -96,14 +96,14 @@ edge_at net r entry n word next a b h = elim h [ ]
 edge_at net r ticket n word next a b h = elim h [ ]
 edge_at net r past n word next a b h = elim h [ ]
 
-cell_edge : (net : NamedNet NodeName) (r : Bool) (at : Part) (n word next : ℕ) → at ≡ left → word ≢ 0 → IsIn (word, next) (edge_in net r at n word next)
+cell_edge : (net : NamedNet NodeName) (r : Bool) (at : WordPart) (n word next : ℕ) → at ≡ left → word ≢ 0 → IsIn (word, next) (edge_in net r at n word next)
 cell_edge net r at n word next e m = subst (λ q. IsIn {X = ℕ × ℕ} (word, next) (edge_in net r q n word next)) (sym e) (subst (λ c. IsIn {X = ℕ × ℕ} (word, next) (if c then [] else (word, next) ∷ [])) (sym (ne_eqb word 0 m)) (inl refl))
 
 pub wider : (z : Parts) (x : NodeName) (m n : ℕ) → m ≤ n → IsPlaced z m x → IsPlaced z n x
 wider z (Init j) m n le h = h
 wider z (Born t i) m n le h = (omega (arith, le, h.0), h.1)
 
-pub own_edge : (net : NamedNet NodeName) (r : Bool) (at : Part) (x : NodeName) (c n word next : ℕ) → at ≡ field x c → is_live net x ≡ true → word ≢ 0 → IsIn (slot_ref n, word) (edge_in net r at n word next)
+pub own_edge : (net : NamedNet NodeName) (r : Bool) (at : WordPart) (x : NodeName) (c n word next : ℕ) → at ≡ field x c → is_live net x ≡ true → word ≢ 0 → IsIn (slot_ref n, word) (edge_in net r at n word next)
 own_edge net r at x c n word next e live m =
     subst (λ q. IsIn {X = ℕ × ℕ} (slot_ref n, word) (edge_in net r q n word next)) (sym e)
     (subst (λ b. IsIn {X = ℕ × ℕ} (slot_ref n, word) (if b then edge_to (slot_ref n) word else [])) (sym live)
@@ -122,7 +122,7 @@ module _ (p : Plan) (s : Table) (k : Kept p s) where
   z = p.parts
 
   abbrev in_words : List (ℕ × ℕ)
-  in_words = edges_in z k.net (is_reached z k.log s.views) k.full (size z)
+  in_words = edges_in z k.net (is_reached z k.log s.views) k.full (table_size z)
 
   abbrev all : List (ℕ × ℕ)
   all = edges_of z k.net k.log k.full s.views
@@ -146,11 +146,11 @@ module _ (p : Plan) (s : Table) (k : Kept p s) where
     pub g : IsNodeAt z k.net (get_or k.full (suc w) 0)
     pub linked : Linked k.net (slot f.x 0) (slot g.x 0)
 
-  pub cell_in : (w : ℕ) → part_of z w ≡ left → get_or k.full w 0 ≢ 0 → IsIn (get_or k.full w 0, get_or k.full (suc w) 0) in_words
+  pub cell_in : (w : ℕ) → part_of_word z w ≡ left → get_or k.full w 0 ≢ 0 → IsIn (get_or k.full w 0, get_or k.full (suc w) 0) in_words
   cell_in w is_cell some_pair =
-      edge_there z k.net (is_reached z k.log s.views) k.full (size z) w _ (omega (arith, (is_left z w is_cell).1)) (cell_edge k.net _ (part_of z w) w (get_or k.full w 0) (get_or k.full (suc w) 0) is_cell some_pair)
+      edge_there z k.net (is_reached z k.log s.views) k.full (table_size z) w _ (omega (arith, (is_left z w is_cell).1)) (cell_edge k.net _ (part_of_word z w) w (get_or k.full w 0) (get_or k.full (suc w) 0) is_cell some_pair)
 
-  pub cell_pair : (w : ℕ) → part_of z w ≡ left → get_or k.full w 0 ≢ 0 → IsCellPair w
+  pub cell_pair : (w : ℕ) → part_of_word z w ≡ left → get_or k.full w 0 ≢ 0 → IsCellPair w
   cell_pair w is_cell some_pair = record { f = f; g = g; linked = linked }
     where
       edge : IsIn (get_or k.full w 0, get_or k.full (suc w) 0) all
@@ -193,13 +193,13 @@ module _ (p : Plan) (s : Table) (k : Kept p s) where
       value : (n : ℕ) → 0 < n → get_or k.full n 0 ≢ 0 → get_or k.full n 0 ≡ slot_ref place → ⊥
       value n lt' some_word e = no_slot (get_or k.full n 0) place (k.words.refs n lt' some_word).0 e
 
-      behind : (n : ℕ) → part_of z n ≢ ticket → 0 < n
+      behind : (n : ℕ) → part_of_word z n ≢ ticket → 0 < n
       behind n d = elim (cases_eq n 0) [
-        | inl q ↦ absurd (d (ap (part_of z) q))
+        | inl q ↦ absurd (d (ap (part_of_word z) q))
         | inr q ↦ omega (arith, q)
       ]
 
-      at : (n a b : ℕ) → EdgeAt (part_of z n) n (get_or k.full n 0) (get_or k.full (suc n) 0) a b → (a ≡ slot_ref place) ⊎ (b ≡ slot_ref place) → get_or k.full place 0 ≢ 0
+      at : (n a b : ℕ) → EdgeAt (part_of_word z n) n (get_or k.full n 0) (get_or k.full (suc n) 0) a b → (a ≡ slot_ref place) ⊎ (b ≡ slot_ref place) → get_or k.full place 0 ≢ 0
       at n a b (at_wire d ea eb some_word) (inl e) = absurd (omega (arith, ea, e, wire_sort n, slot_sort place))
       at n a b (at_wire d ea eb some_word) (inr e) = absurd (value n (behind n d) some_word (sym eb ∙ e))
       at n a b (at_field y u q ea eb some_word) (inl e) = let d : n ≡ place = slot_same n place (sym ea ∙ e) in subst (λ w. get_or k.full w 0 ≢ 0) d some_word
@@ -214,7 +214,7 @@ module _ (p : Plan) (s : Table) (k : Kept p s) where
       of_link a b v is (l ∷ ls) among (inr i) e = of_link a b v is ls (λ l' i'. among l' (inr i')) i e
 
       of_either : (a b : ℕ) → IsIn (a, b) in_words ⊎ IsIn (a, b) (pending_in s.views) → (a ≡ slot_ref place) ⊎ (b ≡ slot_ref place) → get_or k.full place 0 ≢ 0
-      of_either a b (inl i) e = let t = edge_found z k.net (is_reached z k.log s.views) k.full (size z) (a, b) i in at t.0 a b (edge_at k.net _ (part_of z t.0) t.0 _ _ a b t.2) e
+      of_either a b (inl i) e = let t = edge_found z k.net (is_reached z k.log s.views) k.full (table_size z) (a, b) i in at t.0 a b (edge_at k.net _ (part_of_word z t.0) t.0 _ _ a b t.2) e
       of_either a b (inr i) e = let t = pending_found s.views (a, b) i in absurd (of_link a b t.1 (t.0, t.2) t.1.pending (λ l h. h) t.3 e)
 
       of : (a : ℕ) × (b : ℕ) × IsIn (a, b) all × ((a ≡ slot_ref place) ⊎ (b ≡ slot_ref place)) → get_or k.full place 0 ≢ 0
@@ -223,13 +223,13 @@ module _ (p : Plan) (s : Table) (k : Kept p s) where
   pub is_placed : (x : NodeName) (m : Kind) (i : ℕ) → HasNode k.net x m i → IsPlaced z z.fuel x
   is_placed x m i h = wider z x (length k.log) z.fuel k.tickets.few (k.journal.names x m i h)
 
-  pub field_within : (x : NodeName) (m : Kind) (i c : ℕ) → HasNode k.net x m i → c < 2 → place_of z x + c < size z
+  pub field_within : (x : NodeName) (m : Kind) (i c : ℕ) → HasNode k.net x m i → c < 2 → place_of z x + c < table_size z
   field_within x m i c h lt = omega (arith, (place_before z x z.fuel (is_placed x m i h)).1)
 
   field_in : (x : NodeName) (m : Kind) (i c : ℕ) → HasNode k.net x m i → c < 2 → get_or k.full (place_of z x + c) 0 ≢ 0 → IsIn (slot_ref (place_of z x + c), get_or k.full (place_of z x + c) 0) in_words
   field_in x m i c h lt n =
-      edge_there z k.net (is_reached z k.log s.views) k.full (size z) (place_of z x + c) _ (field_within x m i c h lt)
-      (own_edge k.net _ (part_of z (place_of z x + c)) x c (place_of z x + c) _ _ (part_field z x c (is_placed x m i h) lt) (live_there k.net x m i h) n)
+      edge_there z k.net (is_reached z k.log s.views) k.full (table_size z) (place_of z x + c) _ (field_within x m i c h lt)
+      (own_edge k.net _ (part_of_word z (place_of z x + c)) x c (place_of z x + c) _ _ (part_field z x c (is_placed x m i h) lt) (live_there k.net x m i h) n)
 
   -- and the field of a slot that it hasn't is
   pub field_none : (x : NodeName) (m : Kind) (i c : ℕ) → HasNode k.net x m i → arity m ≤ c → c < 2 → get_or k.full (place_of z x + c) 0 ≡ 0
@@ -251,7 +251,7 @@ module _ (p : Plan) (s : Table) (k : Kept p s) where
       of (inr t) = omega (arith, t.2, wire_sort t.0, slot_sort (place_of z x + c))
 
   -- a node of a cell's pair stands in no pending link
-  pub not_pending : (w : ℕ) → part_of z w ≡ left → get_or k.full w 0 ≢ 0 → (x : NodeName) (m : Kind) (i : ℕ) → HasNode k.net x m i → (get_or k.full w 0 ≡ node_ref m i (place_of z x)) ⊎ (get_or k.full (suc w) 0 ≡ node_ref m i (place_of z x)) → (v : View) (d : ℕ) → IsView s v → IsIn (node_ref m i (place_of z x), d) (links_in v.pending) → ⊥
+  pub not_pending : (w : ℕ) → part_of_word z w ≡ left → get_or k.full w 0 ≢ 0 → (x : NodeName) (m : Kind) (i : ℕ) → HasNode k.net x m i → (get_or k.full w 0 ≡ node_ref m i (place_of z x)) ⊎ (get_or k.full (suc w) 0 ≡ node_ref m i (place_of z x)) → (v : View) (d : ℕ) → IsView s v → IsIn (node_ref m i (place_of z x), d) (links_in v.pending) → ⊥
   not_pending w is_cell some_pair x m i h ref v d is there =
       omega (arith, k.stands.ports (slot x 0) r (principal m i h), ends_append nat_eq r in_words (pending_in s.views), in_cell ref, ends_first r d (pending_in s.views) (pending_there s.views is.0 v (r, d) is.1 there))
     where
@@ -263,13 +263,13 @@ module _ (p : Plan) (s : Table) (k : Kept p s) where
       in_cell (inr e) = subst (λ u. 1 ≤ ends nat_eq u in_words) e (ends_second _ _ in_words (cell_in w is_cell some_pair))
 
   -- the fields of a node of a cell's pair are written
-  pub field_written : (w : ℕ) → part_of z w ≡ left → get_or k.full w 0 ≢ 0 → (x : NodeName) (m : Kind) (i c : ℕ) → HasNode k.net x m i → (get_or k.full w 0 ≡ node_ref m i (place_of z x)) ⊎ (get_or k.full (suc w) 0 ≡ node_ref m i (place_of z x)) → c < arity m → get_or s.words (place_of z x + c) 0 ≡ get_or k.full (place_of z x + c) 0
+  pub field_written : (w : ℕ) → part_of_word z w ≡ left → get_or k.full w 0 ≢ 0 → (x : NodeName) (m : Kind) (i c : ℕ) → HasNode k.net x m i → (get_or k.full w 0 ≡ node_ref m i (place_of z x)) ⊎ (get_or k.full (suc w) 0 ≡ node_ref m i (place_of z x)) → c < arity m → get_or s.words (place_of z x + c) 0 ≡ get_or k.full (place_of z x + c) 0
   field_written w is_cell some_pair x m i c h ref lt = of (owner p s k place (field_within x m i c h (omega (arith, lt, at_most_two m))) (field_full x m i c h lt))
     where
       place : ℕ
       place = place_of z x + c
 
-      is_field : part_of z place ≡ field x c
+      is_field : part_of_word z place ≡ field x c
       is_field = part_field z x c (is_placed x m i h) (omega (arith, lt, at_most_two m))
 
       of : (get_or s.words place 0 ≡ get_or k.full place 0) ⊎ ((v : View) × IsView s v × Holds v place (get_or k.full place 0)) → get_or s.words place 0 ≡ get_or k.full place 0
@@ -282,16 +282,16 @@ module _ (p : Plan) (s : Table) (k : Kept p s) where
       of (inr (v, is, inr taken)) = let e : field x c ≡ left = sym is_field ∙ (k.seats.taken v place _ is taken).0 in absurd (cc)
 
   -- and so is the right word of a cell
-  pub right_written : (w : ℕ) → part_of z w ≡ left → get_or k.full w 0 ≢ 0 → get_or s.words (suc w) 0 ≡ get_or k.full (suc w) 0
+  pub right_written : (w : ℕ) → part_of_word z w ≡ left → get_or k.full w 0 ≢ 0 → get_or s.words (suc w) 0 ≡ get_or k.full (suc w) 0
   right_written w is_cell some_pair = of (owner p s k (suc w) (is_left z w is_cell).1 some_right)
     where
       some_right : get_or k.full (suc w) 0 ≢ 0
       some_right e = omega (arith, e, (k.words.cells w is_cell some_pair).1)
 
-      own : (q : Part) → q ≡ right → IsOwn q → ⊥
+      own : (q : WordPart) → q ≡ right → IsOwn q → ⊥
       own q e o = subst (λ q. IsOwn q) e o
 
       of : (get_or s.words (suc w) 0 ≡ get_or k.full (suc w) 0) ⊎ ((v : View) × IsView s v × Holds v (suc w) (get_or k.full (suc w) 0)) → get_or s.words (suc w) 0 ≡ get_or k.full (suc w) 0
       of (inl e) = e
-      of (inr (v, is, inl due)) = absurd (own (part_of z (suc w)) (is_left z w is_cell).0 ((k.seats.due v (suc w) _ is due).1))
+      of (inr (v, is, inl due)) = absurd (own (part_of_word z (suc w)) (is_left z w is_cell).0 ((k.seats.due v (suc w) _ is due).1))
       of (inr (v, is, inr taken)) = let e : right ≡ left = sym (is_left z w is_cell).0 ∙ (k.seats.taken v (suc w) _ is taken).0 in absurd (cc)

@@ -20,7 +20,7 @@ use Rattle.ol_rules.proofs.Same.{active_same}
 use Rattle.ol_rules.proofs.FreshPairs.{linked_sym}
 use Rattle.ol_rules.proofs.BothWays.{step_turned}
 use Rattle.ol_rules.proofs.OneRun.{name_same, name_test, fresh_names, named_after, ArePaired}
-use Rattle.ol_wire.specs.Closed.{IsOfEntry, AreOnce}
+use Rattle.ol_wire.specs.Closed.{IsOfEntry, NoNodeTwice}
 
 -- an entry is of one pair
 same_pair : (e : Entry) (f g f' g' : NodeName) → IsNamed e f g → IsNamed e f' g' → ArePaired f g f' g'
@@ -136,7 +136,7 @@ gone_for_good N M t [] x h IsRun.end = h.none
 gone_for_good N M t (e ∷ es) x h (IsRun.then {M = K} st rest) = gone_for_good K M (suc t) es x (stays_gone N K t e st x h) rest
 
 -- no node is rewritten twice
-pub each_once : (N M : NamedNet NodeName) (t : ℕ) (es : List Entry) → AreNamedBefore N t → IsRun N t es M → AreOnce es
+pub each_once : (N M : NamedNet NodeName) (t : ℕ) (es : List Entry) → AreNamedBefore N t → IsRun N t es M → NoNodeTwice es
 each_once N M t [] b r u v d e x at at' o o' = absurd (cc)
 each_once N M t (a ∷ es) b (IsRun.then {M = K} st rest) zero zero d e x at at' o o' = refl
 each_once N M t (a ∷ es) b (IsRun.then {M = K} st rest) zero (suc v) d e x at at' o o' =

@@ -20,7 +20,7 @@ use Rattle.ol_wire.specs.Closed.{ClosedTable, events_in, event_at, journal_in}
 use Rattle.ol_wire.specs.Standing.{IsMadeNode, IsUntouched}
 use Rattle.ol_wire.specs.Rule.{IsStarted}
 use Rattle.ol_wire.specs.Layout.{IsPlaced}
-use Rattle.ol_wire.specs.Starts.{start_net}
+use Rattle.ol_wire.specs.Starts.{start_net_of_plan}
 use Rattle.ol_wire.specs.ClosedRule.{IsClosed}
 use Rattle.ol_wire.proofs.ClosingEntry.{births_of, births_read}
 use Rattle.ol_wire.proofs.ClosingTable.{k, tickets, event_told, entry_told, entry_at, no_entry}
@@ -57,13 +57,13 @@ all_nodes m (Some a ∷ nodes) all n le lt = elim (cases_eq n m) [
 ]
 
 module _ (p : Plan) (plan : PlanKeeps p) (started : IsStarted p) where
-  start_fits : Fits p.parts (start_net p) 0
+  start_fits : Fits p.parts (start_net_of_plan p) 0
   start_fits = record {
     names = λ x m i h. let t = node_from Init (net_of p.start.value) x m i h in subst (λ x. IsPlaced p.parts 0 x) (sym t.2) (omega (arith, (node_bounds 0 p.start.value.nodes t.0 m i t.1).1, plan.parts.nodes));
     indexes = λ x m i h. let t = node_from Init (net_of p.start.value) x m i h in omega (arith, (node_bounds 0 p.start.value.nodes t.0 m i t.1).2, started.low);
   }
 
-  start_live : (n : ℕ) → n < p.parts.nodes → IsLive (start_net p) (Init n)
+  start_live : (n : ℕ) → n < p.parts.nodes → IsLive (start_net_of_plan p) (Init n)
   start_live n lt = let t = all_nodes 0 p.start.value.nodes started.whole n (omega arith) (omega (arith, lt, plan.parts.nodes)) in (t.0, t.1, node_to Init (net_of p.start.value) n t.0 t.1 t.2)
 
 -- what the words say of a node, and what the events do
@@ -71,7 +71,7 @@ module _ (w : ClosedTable) (c : IsClosed w) (started : IsStarted w.plan) where
   births_told : (t : ℕ) (e : Event) → slice_get (k w c).log t ≡ Some e → births_of (event_at w.plan.parts w.words t) ≡ births_of e
   births_told t e at = ap births_of (event_told w c t e at) ∙ births_read e ((k w c).journal.rules t e at)
 
-  made_words : (x : NodeName) → IsLive (start_net w.plan) x ⊎ IsMadeFrom 0 (k w c).log x → IsMadeNode w.plan.parts w.words x
+  made_words : (x : NodeName) → IsLive (start_net_of_plan w.plan) x ⊎ IsMadeFrom 0 (k w c).log x → IsMadeNode w.plan.parts w.words x
   made_words (Init n) (inl h) = (start_fits w.plan (k w c).plan started).names (Init n) h.0 h.1 h.2
   made_words (Init n) (inr h) = absurd h
   made_words (Born t i) (inl h) = absurd (omega (arith, ((start_fits w.plan (k w c).plan started).names (Born t i) h.0 h.1 h.2).0))
@@ -79,7 +79,7 @@ module _ (w : ClosedTable) (c : IsClosed w) (started : IsStarted w.plan) where
       let same : t ≡ d = omega (arith, q) in
       (omega (arith, same, tickets w c, slice_get_within (k w c).log d e at), omega (arith, lt, births_told t e (subst (λ d. slice_get (k w c).log d ≡ Some e) (sym same) at)))
 
-  made_log : (x : NodeName) → IsMadeNode w.plan.parts w.words x → IsLive (start_net w.plan) x ⊎ IsMadeFrom 0 (k w c).log x
+  made_log : (x : NodeName) → IsMadeNode w.plan.parts w.words x → IsLive (start_net_of_plan w.plan) x ⊎ IsMadeFrom 0 (k w c).log x
   made_log (Init n) lt = inl (start_live w.plan (k w c).plan started n lt)
   made_log (Born t i) (drawn, lt) =
       let e = get_there (k w c).log t (omega (arith, drawn, tickets w c)) in
@@ -107,5 +107,5 @@ module _ (w : ClosedTable) (c : IsClosed w) (started : IsStarted w.plan) where
 
   pub live_told : (x : NodeName) → ((m : Kind) × (i : ℕ) × HasNode (k w c).net x m i) ↔ (IsMadeNode w.plan.parts w.words x × IsUntouched w.plan.parts w.words x)
   live_told x =
-      let t = live_after w.plan.parts (k w c).plan.small.fuel (start_net w.plan) (k w c).net 0 (k w c).log (start_fits w.plan (k w c).plan started) (omega (arith, (k w c).tickets.few)) (k w c).journal.played x in
+      let t = live_after w.plan.parts (k w c).plan.small.fuel (start_net_of_plan w.plan) (k w c).net 0 (k w c).log (start_fits w.plan (k w c).plan started) (omega (arith, (k w c).tickets.few)) (k w c).journal.played x in
       ((λ h. let a = t.0 h in (made_words x a.0, left_words x a.1)), (λ h. t.1 (made_log x h.0, left_log x h.1)))

@@ -10,12 +10,12 @@ use Rattle.ol_wire.specs.declared.layout.Parts.{Parts}
 use Rattle.ol_wire.specs.declared.view.Link.{Link}
 use Rattle.ol_wire.specs.declared.view.View.{View}
 use Rattle.ol_wire.specs.References.{place_in}
-use Rattle.ol_wire.specs.Layout.{block, size}
+use Rattle.ol_wire.specs.Layout.{block, table_size}
 use Rattle.ol_wire.specs.Events.{Event, event_of, entry_of, earlier, later}
 use Rattle.ol_wire.specs.Weights.{total, pairs, Empties}
 use Rattle.ol_wire.specs.Edges.{links_in, pending_in}
 use Rattle.ol_wire.specs.Rule.{Table, IsView, Kept, entries_of}
-use Rattle.ol_wire.specs.Views.{IsSpent}
+use Rattle.ol_wire.specs.Views.{IsSpentView}
 use Rattle.ol_wire.specs.Closed.{ClosedTable, events_in, event_at, log_in, journal_in}
 use Rattle.ol_wire.specs.ClosedRule.{IsClosed}
 use Rattle.ol_wire.proofs.Held.{spot, spot_else, weigh_spot, total_at}
@@ -59,7 +59,7 @@ module _ (w : ClosedTable) (c : IsClosed w) where
   k = c.kept
 
   -- what a view that did nothing has none of is all in the one view
-  pub all_in : (f : View → ℕ) → ((v : View) → v.holds ≡ 0 → IsSpent v → f v ≡ 0) → total f s.views ≡ f w.view
+  pub all_in : (f : View → ℕ) → ((v : View) → v.holds ≡ 0 → IsSpentView v → f v ≡ 0) → total f s.views ≡ f w.view
   all_in f h = whole f (λ (v : View). v.holds) s.views c.id w.view c.seat (λ i u e o. h u o (k.seats.spent u (i, e) o)) (k.seats.all ∙ sym c.all)
 
   none_held : (h : ℕ → ℕ → ℕ) → total (λ (v : View). pairs h v.due + pairs h v.taken) s.views ≡ 0
@@ -77,7 +77,7 @@ module _ (w : ClosedTable) (c : IsClosed w) where
       all_pending = all_in (λ (v : View). length v.pending) (λ v o e. ap (λ (v : View). length v.pending) e) ∙ ap length c.idle.2
 
   pub is_full : w.words ≡ k.full
-  is_full = sym c.words ∙ same_words s.words k.full (k.words.wide ∙ sym k.words.full_wide) (λ n lt. let b : n < size z = omega (arith, lt, k.words.wide) in omega (arith, k.words.written (at_spot n) (spot_none n), weigh_spot n (size z) (λ y. y) s.words b, weigh_spot n (size z) (λ y. y) k.full b, none_held (at_spot n)))
+  is_full = sym c.words ∙ same_words s.words k.full (k.words.wide ∙ sym k.words.full_wide) (λ n lt. let b : n < table_size z = omega (arith, lt, k.words.wide) in omega (arith, k.words.written (at_spot n) (spot_none n), weigh_spot n (table_size z) (λ y. y) s.words b, weigh_spot n (table_size z) (λ y. y) k.full b, none_held (at_spot n)))
 
   pub tickets : events_in z w.words ≡ length k.log
   tickets = elim (cases_lt (slice_index w.words 0) z.fuel) [

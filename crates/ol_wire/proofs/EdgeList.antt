@@ -11,14 +11,14 @@ use Rattle.ol_rules.specs.declared.journal.NodeName.TheVariants.{Init, Born}
 use Rattle.ol_edges.proofs.Lists.{in_left, in_right, in_cases}
 use Rattle.ol_wire.specs.declared.layout.Parts.{Parts}
 use Rattle.ol_wire.specs.declared.view.View.{View}
-use Rattle.ol_wire.specs.Layout.{part_of}
+use Rattle.ol_wire.specs.Layout.{part_of_word}
 use Rattle.ol_wire.specs.Weights.{pairs}
 use Rattle.ol_wire.specs.Edges.{same_name, is_listed, is_live, edge_in, edges_in, links_in, pending_in}
 use Rattle.ol_wire.proofs.Alike.{Alike, pairs_append}
 
 -- the edge of word w
 abbrev pub word_edge : Parts → NamedNet NodeName → (ℕ → Bool) → List ℕ → ℕ → List (ℕ × ℕ)
-word_edge z net reached words w = edge_in net (reached w) (part_of z w) w (slice_index words w) (slice_index words (suc w))
+word_edge z net reached words w = edge_in net (reached w) (part_of_word z w) w (slice_index words w) (slice_index words (suc w))
 
 module _ (z : Parts) (net : NamedNet NodeName) (reached : ℕ → Bool) (words : List ℕ) where
   pub edge_there : (n w : ℕ) (d : ℕ × ℕ) → w < n → IsIn d (word_edge z net reached words w) → IsIn d (edges_in z net reached words n)

@@ -16,7 +16,7 @@ use Rattle.ol_wire.specs.Events.{Event, rule_between, event_of, acting}
 use Rattle.ol_wire.specs.Blocks.{copies_of_f, copies_of_g, born_field}
 use Rattle.ol_wire.specs.LinkLists.{links_of}
 use Rattle.ol_wire.specs.Edges.{edge_to, links_in}
-use Rattle.ol_wire.specs.Stands.{Stands}
+use Rattle.ol_wire.specs.Stands.{StandsForNet}
 use Rattle.ol_wire.proofs.Alike.{Alike}
 
 -- the edges of the fields of a node: slot s + 1 to `held s`
@@ -46,7 +46,7 @@ pub record Rewritten (z : Parts) (N M : NamedNet NodeName) (x y : NodeName) (k l
   pub names : (u : NodeName) (m : Kind) (n : ℕ) → HasNode N u m n → IsPlaced z t u
   pub indexes : (u : NodeName) (m : Kind) (n : ℕ) → HasNode N u m n → n < 16000000
   pub drawn : t < z.fuel
-  pub before : Stands z N reached es
+  pub before : StandsForNet z N reached es
   pub from : Alike es (old_edges (node_ref k i (place_of z x)) (node_ref l j (place_of z y)) (place_of z x) (place_of z y) (arity k) (arity l) a b ++ rest)
   pub to : Alike fs (new_edges z (record { rule = r; f = node_ref k i (place_of z x); g = node_ref l j (place_of z y) }) t a b ++ rest)
   pub a_refs : (s : ℕ) → s < arity k → IsRef (a s)

@@ -7,13 +7,13 @@ use Rattle.ol_net.specs.Nets.{NamedPort, NamedNet}
 use Rattle.ol_rules.specs.declared.journal.NodeName.{NodeName}
 use Rattle.ol_wire.specs.declared.layout.Parts.{Parts}
 use Rattle.ol_wire.specs.References.{wire_ref}
-use Rattle.ol_wire.specs.Stands.{Stands, IsEnd, IsWireEnd}
+use Rattle.ol_wire.specs.Stands.{StandsForNet, IsEnd, IsWireEnd}
 use Rattle.ol_wire.proofs.References.{wire_same}
 use Rattle.ol_wire.proofs.Alike.{Alike, alike_ends, alike_joined, alike_sym}
 use Rattle.ol_wire.proofs.Claimed.{ends_first, ends_second, same_bit, other_bit}
 
 module _ (z : Parts) (N : NamedNet NodeName) (reached reached' : ℕ → Bool) (es fs rest : List (ℕ × ℕ)) (w b c : ℕ)
-    (before : Stands z N reached es) (is_wire : reached w ≡ true)
+    (before : StandsForNet z N reached es) (is_wire : reached w ≡ true)
     (from : Alike es ((wire_ref w, b) ∷ (wire_ref w, c) ∷ rest)) (to : Alike fs ((b, c) ∷ rest))
     (still : (v : ℕ) → reached v ≡ true → v ≢ w → reached' v ≡ true) (only : (v : ℕ) → reached' v ≡ true → (reached v ≡ true) × (v ≢ w)) where
   abbrev e0 : ℕ
@@ -88,7 +88,7 @@ module _ (z : Parts) (N : NamedNet NodeName) (reached reached' : ℕ → Bool) (
     (λ j. alike_joined split es (alike_sym es split from) d e (joined_map return (alike_joined fs one to d e j))),
   )
 
-  pub exchange_stands : Stands z N reached' fs
+  pub exchange_stands : StandsForNet z N reached' fs
   exchange_stands = record {
     ports = λ p e h. same_ends e (port_other p e h) ∙ before.ports p e h;
     wires = λ e h. same_ends e (wire_other e h) ∙ before.wires e (kept e h);

@@ -6,7 +6,7 @@ use lib.ListN.{get_elem?}
 use Rattle.ol_edges.specs.Edges.{IsIn}
 use Rattle.ol_wire.specs.declared.plan.Plan.{Plan}
 use Rattle.ol_wire.specs.declared.view.View.{View}
-use Rattle.ol_wire.specs.Layout.{size}
+use Rattle.ol_wire.specs.Layout.{table_size}
 use Rattle.ol_wire.specs.Weights.{total, pairs, weigh, Empties}
 use Rattle.ol_wire.specs.Rule.{Table, IsView, Kept}
 
@@ -123,16 +123,16 @@ module _ (p : Plan) (s : Table) (k : Kept p s) where
   held_some v w y is (inl i) = (k.seats.due v w y is i).0
   held_some v w y is (inr i) = (k.seats.taken v w y is i).1
 
-  pub held_within : (v : View) (w y : ℕ) → IsView s v → Holds v w y → w < size p.parts
-  held_within v w y is h = elim (cases_lt w (size p.parts)) [
+  pub held_within : (v : View) (w y : ℕ) → IsView s v → Holds v w y → w < table_size p.parts
+  held_within v w y is h = elim (cases_lt w (table_size p.parts)) [
     | inl lt ↦ lt
     | inr ge ↦
         let some_y = held_some v w y is h in
         absurd (omega (
           arith,
           k.words.written (spot w filled) (spot_empties w filled refl),
-          weigh_past w (size p.parts) filled s.words ge,
-          weigh_past w (size p.parts) filled k.full ge,
+          weigh_past w (table_size p.parts) filled s.words ge,
+          weigh_past w (table_size p.parts) filled k.full ge,
           total_at (held (spot w filled)) s.views is.0 v is.1,
           held_one v w y filled h,
           filled_some y some_y,
@@ -146,7 +146,7 @@ module _ (p : Plan) (s : Table) (k : Kept p s) where
       value_of y (get_or k.full w 0) (omega (
         arith,
         k.words.written (spot w (is_value y)) (spot_empties w (is_value y) (let q : is_value y 0 ≡ 0 = ap (λ b. if b then 1 else 0) (ne_eqb 0 y (λ e. some_y (sym e))) in q)),
-        weigh_spot w (size p.parts) (is_value y) k.full (held_within v w y is h),
+        weigh_spot w (table_size p.parts) (is_value y) k.full (held_within v w y is h),
         total_at (held (spot w (is_value y))) s.views is.0 v is.1,
         held_one v w y (is_value y) h,
         value_same y,
@@ -159,8 +159,8 @@ module _ (p : Plan) (s : Table) (k : Kept p s) where
     | inr n ↦ absurd (omega (
       arith,
       k.words.written (spot w filled) (spot_empties w filled refl),
-      weigh_spot w (size p.parts) filled s.words (held_within v w y is h),
-      weigh_spot w (size p.parts) filled k.full (held_within v w y is h),
+      weigh_spot w (table_size p.parts) filled s.words (held_within v w y is h),
+      weigh_spot w (table_size p.parts) filled k.full (held_within v w y is h),
       filled_le (get_or k.full w 0),
       filled_some (get_or s.words w 0) n,
       total_at (held (spot w filled)) s.views is.0 v is.1,
@@ -170,28 +170,28 @@ module _ (p : Plan) (s : Table) (k : Kept p s) where
   ]
 
   -- a word that isn't empty stays
-  pub word_full : (w : ℕ) → w < size p.parts → get_or s.words w 0 ≢ 0 → get_or k.full w 0 ≡ get_or s.words w 0
+  pub word_full : (w : ℕ) → w < table_size p.parts → get_or s.words w 0 ≢ 0 → get_or k.full w 0 ≡ get_or s.words w 0
   word_full w lt n =
       let y : ℕ = get_or s.words w 0 in
       value_of y (get_or k.full w 0) (omega (
         arith,
         k.words.written (spot w (is_value y)) (spot_empties w (is_value y) (let q : is_value y 0 ≡ 0 = ap (λ b. if b then 1 else 0) (ne_eqb 0 y (λ e. n (sym e))) in q)),
-        weigh_spot w (size p.parts) (is_value y) s.words lt,
-        weigh_spot w (size p.parts) (is_value y) k.full lt,
+        weigh_spot w (table_size p.parts) (is_value y) s.words lt,
+        weigh_spot w (table_size p.parts) (is_value y) k.full lt,
         value_same y,
       ))
 
   -- a word that will not be empty is written already, or some view holds it
-  pub owner : (w : ℕ) → w < size p.parts → get_or k.full w 0 ≢ 0 → (get_or s.words w 0 ≡ get_or k.full w 0) ⊎ ((v : View) × IsView s v × Holds v w (get_or k.full w 0))
+  pub owner : (w : ℕ) → w < table_size p.parts → get_or k.full w 0 ≢ 0 → (get_or s.words w 0 ≡ get_or k.full w 0) ⊎ ((v : View) × IsView s v × Holds v w (get_or k.full w 0))
   owner w lt n = elim (cases_eq (get_or s.words w 0) y) [
     | inl e ↦ inl e
-    | inr d ↦ inr (of_view (total_from (held (spot w (is_value y))) s.views (omega (arith, eq, weigh_spot w (size p.parts) (is_value y) s.words lt, weigh_spot w (size p.parts) (is_value y) k.full lt, value_same y, no_value d))))
+    | inr d ↦ inr (of_view (total_from (held (spot w (is_value y))) s.views (omega (arith, eq, weigh_spot w (table_size p.parts) (is_value y) s.words lt, weigh_spot w (table_size p.parts) (is_value y) k.full lt, value_same y, no_value d))))
   ]
     where
       y : ℕ
       y = get_or k.full w 0
 
-      eq : weigh (spot w (is_value y)) s.words (size p.parts) + total (held (spot w (is_value y))) s.views ≡ weigh (spot w (is_value y)) k.full (size p.parts)
+      eq : weigh (spot w (is_value y)) s.words (table_size p.parts) + total (held (spot w (is_value y))) s.views ≡ weigh (spot w (is_value y)) k.full (table_size p.parts)
       eq = k.words.written (spot w (is_value y)) (spot_empties w (is_value y) (let q : is_value y 0 ≡ 0 = ap (λ b. if b then 1 else 0) (ne_eqb 0 y (λ e. n (sym e))) in q))
 
       no_value : get_or s.words w 0 ≢ y → is_value y (get_or s.words w 0) ≡ 0

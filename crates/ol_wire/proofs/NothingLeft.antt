@@ -4,7 +4,7 @@ use Rattle.ol_edges.specs.Edges.{IsIn}
 use Rattle.ol_wire.specs.declared.plan.Plan.{Plan}
 use Rattle.ol_wire.specs.declared.view.View.{View}
 use Rattle.ol_wire.specs.References.{IsNodeRef}
-use Rattle.ol_wire.specs.Layout.{left, part_of, left_word, cells_of, size}
+use Rattle.ol_wire.specs.Layout.{left, part_of_word, left_word, cells_of, table_size}
 use Rattle.ol_wire.specs.Events.{IsStuckPair}
 use Rattle.ol_wire.specs.Rule.{Table, IsView, Kept, IsOwn}
 use Rattle.ol_wire.specs.Still.{IsSettled, IsStill, NothingIsOverlooked}
@@ -15,7 +15,7 @@ use Rattle.ol_wire.proofs.Overlooked.{complete}
 
 module _ (p : Plan) (s : Table) (k : Kept p s) (settled : IsSettled s) (still : IsStill p s) where
   -- a word that no ticket's seat writes, and that will not be empty, is written already
-  written : (w : ℕ) → (IsOwn (part_of p.parts w) → ⊥) → w < size p.parts → get_or k.full w 0 ≢ 0 → get_or s.words w 0 ≡ get_or k.full w 0
+  written : (w : ℕ) → (IsOwn (part_of_word p.parts w) → ⊥) → w < table_size p.parts → get_or k.full w 0 ≢ 0 → get_or s.words w 0 ≡ get_or k.full w 0
   written w not_own lt some = elim (owner p s k w lt some) [
     | inl e ↦ e
     | inr h ↦ absurd (held h.0 h.1 h.2)
@@ -34,7 +34,7 @@ module _ (p : Plan) (s : Table) (k : Kept p s) (settled : IsSettled s) (still : 
       let r : get_or s.words (suc w) 0 ≡ get_or k.full (suc w) 0 = written (suc w) (λ o. subst IsOwn place.1 o) place.2 (λ e. omega (arith, e, node)) in
       subst (λ x. IsStuckPair x (get_or k.full (suc w) 0)) l (subst (λ y. IsStuckPair (get_or s.words w 0) y) r (still c lt (λ e. some (sym l ∙ e))))
 
-  pub none_active : (w : ℕ) → part_of p.parts w ≡ left → get_or k.full w 0 ≢ 0 → IsStuckPair (get_or k.full w 0) (get_or k.full (suc w) 0)
+  pub none_active : (w : ℕ) → part_of_word p.parts w ≡ left → get_or k.full w 0 ≢ 0 → IsStuckPair (get_or k.full w 0) (get_or k.full (suc w) 0)
   none_active w q some =
       let t = cell_word p.parts w q in
       let node : IsNodeRef (get_or k.full (suc w) 0) = (k.words.cells w q some).1 in

@@ -21,13 +21,13 @@ use Rattle.ol_wire.specs.declared.layout.Parts.{Parts}
 use Rattle.ol_wire.specs.declared.plan.Plan.{Plan}
 use Rattle.ol_wire.specs.declared.view.Link.{Link}
 use Rattle.ol_wire.specs.declared.view.View.{View}
-use Rattle.ol_wire.specs.Layout.{Part, part_of, start_wire, size, IsPlaced}
+use Rattle.ol_wire.specs.Layout.{WordPart, part_of_word, start_wire, table_size, IsPlaced}
 use Rattle.ol_wire.specs.Layout as part
 use Rattle.ol_wire.specs.Sizes.{IsSmall}
 use Rattle.ol_wire.specs.Starts.{AreParts}
 use Rattle.ol_wire.specs.Events as events
 use Rattle.ol_wire.specs.Edges.{is_wire_made, is_made, is_reached, deaths, edge_in, edges_in, edges_of}
-use Rattle.ol_wire.specs.Stands.{Stands}
+use Rattle.ol_wire.specs.Stands.{StandsForNet}
 use Rattle.ol_wire.specs.Rule.{Table, Kept, PlanKeeps, JournalKeeps, WordsKeep, CellsKeep, SeatsKeep, IsView, filled}
 use Rattle.ol_wire.specs.Openings.{opener}
 use Rattle.ol_wire.specs.LaidWords.{IsLaid}
@@ -45,12 +45,12 @@ only_view : {A : Type 0} (a b : A) (id : ℕ) → get_elem? (a ∷ []) id ≡ op
 only_view a b zero e = cc
 only_view a b (suc id) e = absurd (let bad : option.none ≡ option.some b = e in cc)
 
-edges_each : (z : Parts) (N : NamedNet NodeName) (reached : ℕ → Bool) (words : List ℕ) (n : ℕ) → edges_in z N reached words n ≡ each n (λ w. edge_in N (reached w) (part_of z w) w (slice_index words w) (slice_index words (suc w)))
+edges_each : (z : Parts) (N : NamedNet NodeName) (reached : ℕ → Bool) (words : List ℕ) (n : ℕ) → edges_in z N reached words n ≡ each n (λ w. edge_in N (reached w) (part_of_word z w) w (slice_index words w) (slice_index words (suc w)))
 edges_each z N reached words zero = refl
-edges_each z N reached words (suc n) = ap (λ es. es ++ edge_in N (reached n) (part_of z n) n (slice_index words n) (slice_index words (suc n))) (edges_each z N reached words n)
+edges_each z N reached words (suc n) = ap (λ es. es ++ edge_in N (reached n) (part_of_word z n) n (slice_index words n) (slice_index words (suc n))) (edges_each z N reached words n)
 
 -- a wire is made where it is one of the start
-wire_made : (z : Parts) (w : ℕ) (p : Part) → part_of z w ≡ p → is_wire_made [] p ≡ true → (j : ℕ) × (j < z.wires) × (w ≡ start_wire z j)
+wire_made : (z : Parts) (w : ℕ) (p : WordPart) → part_of_word z w ≡ p → is_wire_made [] p ≡ true → (j : ℕ) × (j < z.wires) × (w ≡ start_wire z j)
 wire_made z w (part.wire j) e h = let t = is_wire z w j e in (j, t.0, t.1)
 wire_made z w (part.between t q p) e h = absurd (let bad : false ≡ true = h in cc)
 wire_made z w part.ticket e h = absurd (let bad : false ≡ true = h in cc)
@@ -96,11 +96,11 @@ module _ (p : Plan) (fuel : ℕ) (words : List ℕ) (is : IsStart p.start.value 
     laid = is.laid;
     live = live_start g;
     reaches = λ j lt. ap (λ pt. is_wire_made [] pt && nat_eq (deaths (start_wire z j) (opener p ∷ [])) 0) (part_wire z j lt);
-    only = λ w h. wire_made z w (part_of z w) refl (and_parts (is_made z [] w) (nat_eq (deaths w (opener p ∷ [])) 0) h).0;
+    only = λ w h. wire_made z w (part_of_word z w) refl (and_parts (is_made z [] w) (nat_eq (deaths w (opener p ∷ [])) 0) h).0;
   }
 
-  stands : Stands z N reached (edges_of z N [] words (opener p ∷ []))
-  stands = subst (λ es. Stands z N reached es) (sym (append-nil (edges_in z N reached words (size z)) ∙ edges_each z N reached words (size z))) (start_stands g z words reached given)
+  stands : StandsForNet z N reached (edges_of z N [] words (opener p ∷ []))
+  stands = subst (λ es. StandsForNet z N reached es) (sym (append-nil (edges_in z N reached words (table_size z)) ∙ edges_each z N reached words (table_size z))) (start_stands g z words reached given)
 
   journal : JournalKeeps p [] N
   journal = record {

@@ -5,7 +5,7 @@ use Rattle.std.proofs.lemmas.List.{length-append, length-replicate, get_or_appen
 use Rattle.ol_net.specs.Graph.{Graph}
 use Rattle.ol_rules.specs.Listed.{each}
 use Rattle.ol_wire.specs.declared.layout.Parts.{Parts}
-use Rattle.ol_wire.specs.Layout.{port_word, start_node, start_wire, start_cell, block, size}
+use Rattle.ol_wire.specs.Layout.{port_word, start_node, start_wire, start_cell, block, table_size}
 use Rattle.ol_wire.specs.Starts.{facing_pairs, aux_links}
 use Rattle.ol_wire.specs.Laid.{node_word, field_of}
 use Rattle.ol_wire.specs.LaidWords.{word_of_port, port_row, field_row, cell_words, IsLaid}
@@ -95,7 +95,7 @@ module _ (net : Graph) (z : Parts) (a b c d e f : List ℕ) (free : z.free ≡ n
   length_e : length e ≡ block z 0
   length_e = omega (arith, ap length ee, length_d, length-append d (cell_words net z (facing_pairs net)), length_cells net z (facing_pairs net), few)
 
-  length_f : length f ≡ size z
+  length_f : length f ≡ table_size z
   length_f = omega (arith, ap length ef, length_e, length-append e (replicate (22 * z.fuel) 0), length-replicate {A = ℕ} (22 * z.fuel) 0)
 
   in_c : (w : ℕ) → w < length c → slice_index f w ≡ slice_index c w

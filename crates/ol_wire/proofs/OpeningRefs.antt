@@ -11,8 +11,8 @@ use Rattle.ol_net.specs.Numbered.{net_of}
 use Rattle.ol_rules.specs.declared.journal.NodeName.{NodeName}
 use Rattle.ol_rules.specs.declared.journal.NodeName.TheVariants.{Init}
 use Rattle.ol_wire.specs.declared.layout.Parts.{Parts}
-use Rattle.ol_wire.specs.References.{node_ref, wire_ref, index_in, place_in, IsNodeRef, IsWhole}
-use Rattle.ol_wire.specs.Layout.{part_of, port_word, start_node, start_wire, start_cell}
+use Rattle.ol_wire.specs.References.{node_ref, wire_ref, index_in, place_in, IsNodeRef, IsWholeRef}
+use Rattle.ol_wire.specs.Layout.{part_of_word, port_word, start_node, start_wire, start_cell}
 use Rattle.ol_wire.specs.Layout as part
 use Rattle.ol_wire.specs.Starts.{facing_pairs}
 use Rattle.ol_wire.specs.Laid.{node_word, field_to, wire_number}
@@ -30,12 +30,12 @@ use Rattle.ol_wire.proofs.OpeningStands.{num_small}
 use Rattle.ol_edges.proofs.Lists.{get_there}
 
 -- a reference is whole as it is made
-pub node_whole : (k : Kind) (i place : ℕ) → i < 16777216 → IsWhole (node_ref k i place)
+pub node_whole : (k : Kind) (i place : ℕ) → i < 16777216 → IsWholeRef (node_ref k i place)
 node_whole k i place small =
     let r = node_ref k i place in
     inl (sym (ap (λ l. node_ref l (index_in r) (place_in r)) (kind_of_ref k i place) ∙ ap (λ j. node_ref k j (place_in r)) (index_of_ref k i place small) ∙ ap (node_ref k i) (place_of_ref k i place small)))
 
-pub wire_whole : (place : ℕ) → IsWhole (wire_ref place)
+pub wire_whole : (place : ℕ) → IsWholeRef (wire_ref place)
 wire_whole place = inr (sym (ap wire_ref (place_of_wire place)))
 
 -- the references of the start
@@ -128,14 +128,14 @@ module _ (net : Graph) (z : Parts) (words : List ℕ) (reached : ℕ → Bool) (
       go (later ge) = absurd (some (g.laid.blocks w ge))
 
   -- the words of a cell hold nodes
-  pub start_cells : (w : ℕ) → part_of z w ≡ part.left → slice_index words w ≢ 0 → IsNodeRef (slice_index words w) × IsNodeRef (slice_index words (suc w))
+  pub start_cells : (w : ℕ) → part_of_word z w ≡ part.left → slice_index words w ≢ 0 → IsNodeRef (slice_index words w) × IsNodeRef (slice_index words (suc w))
   start_cells w is some = go (where_at z w)
     where
       go : Where z w → IsNodeRef (slice_index words w) × IsNodeRef (slice_index words (suc w))
       go (first e) = absurd (some (ap (slice_index words) e ∙ g.laid.ticket))
-      go (port n lt e) = absurd (let bad : part.port n ≡ part.left = sym (part_port z n lt) ∙ ap (part_of z) (sym e) ∙ is in cc)
-      go (field n s lt less e) = absurd (let bad : part.field (Init n) s ≡ part.left = sym (part_field z (Init n) s lt less) ∙ ap (part_of z) (sym e) ∙ is in cc)
+      go (port n lt e) = absurd (let bad : part.port n ≡ part.left = sym (part_port z n lt) ∙ ap (part_of_word z) (sym e) ∙ is in cc)
+      go (field n s lt less e) = absurd (let bad : part.field (Init n) s ≡ part.left = sym (part_field z (Init n) s lt less) ∙ ap (part_of_word z) (sym e) ∙ is in cc)
       go (wire j lt e) = absurd (some (ap (slice_index words) e ∙ g.laid.wires j lt))
       go (left c lt e) = let h = cell_holds c lt in subst (λ v. IsNodeRef (slice_index words v) × IsNodeRef (slice_index words (suc v))) (sym e) (h.left_node, h.right_node)
-      go (right c lt e) = absurd (let bad : part.right ≡ part.left = sym (part_start_cell z c lt).1 ∙ ap (part_of z) (sym e) ∙ is in cc)
+      go (right c lt e) = absurd (let bad : part.right ≡ part.left = sym (part_start_cell z c lt).1 ∙ ap (part_of_word z) (sym e) ∙ is in cc)
       go (later ge) = absurd (some (g.laid.blocks w ge))

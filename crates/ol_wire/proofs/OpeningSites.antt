@@ -13,7 +13,7 @@ use Rattle.ol_rules.specs.declared.journal.NodeName.{NodeName}
 use Rattle.ol_rules.specs.declared.journal.NodeName.TheVariants.{Init}
 use Rattle.ol_wire.specs.declared.layout.Parts.{Parts}
 use Rattle.ol_wire.specs.References.{wire_ref, slot_ref}
-use Rattle.ol_wire.specs.Layout.{Part, part_of, port_word, start_node, start_wire, start_cell, block}
+use Rattle.ol_wire.specs.Layout.{WordPart, part_of_word, port_word, start_node, start_wire, start_cell, block}
 use Rattle.ol_wire.specs.Layout as part
 use Rattle.ol_wire.specs.Edges.{is_live, edge_to, edge_in}
 use Rattle.ol_wire.specs.Starts.{facing_pairs, aux_links}
@@ -94,7 +94,7 @@ if_none : (b : Bool) (xs : List (ℕ × ℕ)) → xs ≡ [] → (if b then xs el
 if_none true xs e = e
 if_none false xs e = refl
 
-pub empty_edge : (N : NamedNet NodeName) (r : Bool) (p : Part) (w word next : ℕ) → word ≡ 0 → edge_in N r p w word next ≡ []
+pub empty_edge : (N : NamedNet NodeName) (r : Bool) (p : WordPart) (w word next : ℕ) → word ≡ 0 → edge_in N r p w word next ≡ []
 empty_edge N r part.ticket w word next e = refl
 empty_edge N r (part.port k) w word next e = edge_none (wire_ref w) word e
 empty_edge N r (part.field x s) w word next e = if_none (is_live N x) (edge_to (slot_ref w) word) (edge_none (slot_ref w) word e)
@@ -107,7 +107,7 @@ empty_edge N r part.past w word next e = refl
 
 module _ (net : Graph) (z : Parts) (words : List ℕ) (N : NamedNet NodeName) (reached : ℕ → Bool) (g : Given net z words N reached) where
   abbrev pub edge : ℕ → List (ℕ × ℕ)
-  edge w = edge_in N (reached w) (part_of z w) w (slice_index words w) (slice_index words (suc w))
+  edge w = edge_in N (reached w) (part_of_word z w) w (slice_index words w) (slice_index words (suc w))
 
   abbrev pub Link : Port → Port → Type 0
   Link p q = partner_of net p ≡ Some q
@@ -198,7 +198,7 @@ module _ (net : Graph) (z : Parts) (words : List ℕ) (N : NamedNet NodeName) (r
     half : (n m : NodeId) (s u : ℕ) → Link (Of n (suc s)) (Of m (suc u)) → w ≡ start_node z n.0 + s → Found w
 
   empty : (w : ℕ) → slice_index words w ≡ 0 → Found w
-  empty w e = none (empty_edge N (reached w) (part_of z w) w (slice_index words w) (slice_index words (suc w)) e)
+  empty w e = none (empty_edge N (reached w) (part_of_word z w) w (slice_index words w) (slice_index words (suc w)) e)
 
   found_port : (w n : ℕ) → w ≡ port_word n → slice_index words w ≡ word_of_port net z n → (o : Option Port) → partner_of net (Free n) ≡ o → Found w
   found_port w n at is None e = empty w (is ∙ ap (word_to net z n) e)

@@ -15,9 +15,9 @@ use Rattle.ol_rules.specs.declared.journal.NodeName.TheVariants.{Init}
 use Rattle.ol_rules.specs.Listed.{each}
 use Rattle.ol_wire.specs.declared.layout.Parts.{Parts}
 use Rattle.ol_wire.specs.References.{wire_ref, slot_ref}
-use Rattle.ol_wire.specs.Layout.{part_of, port_word, start_node, start_wire, start_cell, size}
+use Rattle.ol_wire.specs.Layout.{part_of_word, port_word, start_node, start_wire, start_cell, table_size}
 use Rattle.ol_wire.specs.Edges.{edge_in}
-use Rattle.ol_wire.specs.Stands.{IsEnd, IsWireEnd, Stands}
+use Rattle.ol_wire.specs.Stands.{IsEnd, IsWireEnd, StandsForNet}
 use Rattle.ol_wire.specs.Starts.{aux_links}
 use Rattle.ol_wire.specs.Laid.{wire_number, wires_before}
 use Rattle.ol_wire.proofs.References.{wire_same, node_not_wire, wire_not_slot}
@@ -120,7 +120,7 @@ module _ (net : Graph) (z : Parts) (words : List ℕ) (reached : ℕ → Bool) (
   N = net_under Init (net_of net)
 
   abbrev edge : ℕ → List (ℕ × ℕ)
-  edge w = edge_in N (reached w) (part_of z w) w (slice_index words w) (slice_index words (suc w))
+  edge w = edge_in N (reached w) (part_of_word z w) w (slice_index words w) (slice_index words (suc w))
 
   abbrev Link : Port → Port → Type 0
   Link p q = partner_of net p ≡ Some q
@@ -237,14 +237,14 @@ module _ (net : Graph) (z : Parts) (words : List ℕ) (reached : ℕ → Bool) (
         omega (arith, e, t, g.wires)
   ]
 
-  within : (w x y : ℕ) → edge w ≡ (x, y) ∷ [] → w < size z
-  within w x y e = elim (cases_lt w (size z)) [
+  within : (w x y : ℕ) → edge w ≡ (x, y) ∷ [] → w < table_size z
+  within w x y e = elim (cases_lt w (table_size z)) [
     | inl lt ↦ lt
     | inr le ↦
-        absurd (not_empty (edge w) x y e (empty_edge N (reached w) (part_of z w) w (slice_index words w) (slice_index words (suc w)) (g.laid.blocks w (omega (arith, le)))))
+        absurd (not_empty (edge w) x y e (empty_edge N (reached w) (part_of_word z w) w (slice_index words w) (slice_index words (suc w)) (g.laid.blocks w (omega (arith, le)))))
   ]
 
-  edge_within : (w x y : ℕ) → EdgeIs w x y → w < size z
+  edge_within : (w x y : ℕ) → EdgeIs w x y → w < table_size z
   edge_within w x y (inl e) = within w x y e
   edge_within w x y (inr e) = within w y x e
 
@@ -295,18 +295,18 @@ module _ (net : Graph) (z : Parts) (words : List ℕ) (reached : ℕ → Bool) (
   found_at : (v : ℕ) → Found net z words N reached g v
   found_at v = found net z words N reached g v
 
-  port_once : (p q : Port) → Link p q → ends nat_eq (end p) (each (size z) edge) ≡ 1
+  port_once : (p q : Port) → Link p q → ends nat_eq (end p) (each (table_size z) edge) ≡ 1
   port_once p q l = elim (plain_or p q) [
     | inl plain ↦
         let h = at p q l plain in
-        one_place edge (end p) (size z) (seat net z p q) 1 (edge_within (seat net z p q) (end p) (end q) h) (hit_edge (seat net z p q) (end p) (end p) (end q) refl (ends_apart p q l) h) (λ v lt away. port_missed p q l v away (found_at v))
+        one_place edge (end p) (table_size z) (seat net z p q) 1 (edge_within (seat net z p q) (end p) (end q) h) (hit_edge (seat net z p q) (end p) (end p) (end q) refl (ends_apart p q l) h) (λ v lt away. port_missed p q l v away (found_at v))
     | inr b ↦
         let l' : Link (Of b.n (suc b.s)) (Of b.m (suc b.u)) = ap (partner_of net) (sym b.first) ∙ l ∙ ap (λ r. Some r) b.second in
         let w = start_node z b.n.0 + b.s in
         let at_w = seat_of p q b.n b.s b.first in
         let h = at_slot b.n b.m b.s b.u l' in
         let e : end p ≡ slot_ref w = ap end b.first in
-        one_place edge (end p) (size z) w 1 (within w (slot_ref w) (wire_end b.n b.s b.m b.u) h) (hit_edge w (end p) (slot_ref w) (wire_end b.n b.s b.m b.u) e (not_wire p (num b.n b.s b.m b.u) (has p q l)) (inl h))
+        one_place edge (end p) (table_size z) w 1 (within w (slot_ref w) (wire_end b.n b.s b.m b.u) h) (hit_edge w (end p) (slot_ref w) (wire_end b.n b.s b.m b.u) e (not_wire p (num b.n b.s b.m b.u) (has p q l)) (inl h))
         (λ v lt away. port_missed p q l v (λ t. away (t ∙ at_w)) (found_at v))
   ]
 
@@ -352,13 +352,13 @@ module _ (net : Graph) (z : Parts) (words : List ℕ) (reached : ℕ → Bool) (
       ap (ends nat_eq (wire_ref (start_wire z j))) (at_slot n m s u l)
       ∙ hit_second (wire_ref (start_wire z j)) (slot_ref (start_node z n.0 + s)) (wire_end n s m u) (wire_not_slot (start_wire z j) (start_node z n.0 + s)) (ap (λ k. wire_ref (start_wire z k)) (sym e))
 
-  wire_twice : (j : ℕ) → j < z.wires → ends nat_eq (wire_ref (start_wire z j)) (each (size z) edge) ≡ 2
+  wire_twice : (j : ℕ) → j < z.wires → ends nat_eq (wire_ref (start_wire z j)) (each (table_size z) edge) ≡ 2
   wire_twice j lt =
       let f = wire_found j lt in
       let r = turn (Of f.n (suc f.s)) (Of f.m (suc f.u)) f.linked in
       let w = start_node z f.n.0 + f.s in
       let v = start_node z f.m.0 + f.u in
-      two_places edge (wire_ref (start_wire z j)) (size z) w v 1 1 f.sooner (within v (slot_ref v) (wire_end f.m f.u f.n f.s) (at_slot f.m f.n f.u f.s r)) (hit_wire j f.n f.m f.s f.u f.linked f.number)
+      two_places edge (wire_ref (start_wire z j)) (table_size z) w v 1 1 f.sooner (within v (slot_ref v) (wire_end f.m f.u f.n f.s) (at_slot f.m f.n f.u f.s r)) (hit_wire j f.n f.m f.s f.u f.linked f.number)
       (hit_wire j f.m f.n f.u f.s r (sym (num_swapped f.n f.m f.s f.u f.linked) ∙ f.number)) (λ u less a b. wire_missed j f u a b (found_at u))
 
   -- What stands at an edge is the end of a port or of a wire.
@@ -384,18 +384,18 @@ module _ (net : Graph) (z : Parts) (words : List ℕ) (reached : ℕ → Bool) (
         | inr a ↦ inr (start_wire z (num n s m u), g.reaches (num n s m u) (num_small n m s u l), a)
       ]
 
-  known_all : (e : ℕ) → 0 < ends nat_eq e (each (size z) edge) → Known e
-  known_all e h = let r = some_place edge e (size z) h in known_at e r.0 r.2 (found_at r.0)
+  known_all : (e : ℕ) → 0 < ends nat_eq e (each (table_size z) edge) → Known e
+  known_all e h = let r = some_place edge e (table_size z) h in known_at e r.0 r.2 (found_at r.0)
 
   -- What is joined by edges is of one link.
   abbrev all_edges : List (ℕ × ℕ)
-  all_edges = each (size z) edge
+  all_edges = each (table_size z) edge
 
   not_wire_end : (p : Port) → IsPortOf p → IsWireEnd reached (end p) → ⊥
   not_wire_end p h (w, r, e) = let j = g.only w r in not_wire p j.0 h (e ∙ ap wire_ref j.2)
 
   in_edge : (w x y : ℕ) → edge w ≡ (x, y) ∷ [] → IsIn {X = ℕ × ℕ} (x, y) all_edges
-  in_edge w x y e = in_row edge (x, y) (size z) w (within w x y e) (there e)
+  in_edge w x y e = in_row edge (x, y) (table_size z) w (within w x y e) (there e)
     where
       there : edge w ≡ (x, y) ∷ [] → IsIn {X = ℕ × ℕ} (x, y) (edge w)
       there e = subst (λ (l : List (ℕ × ℕ)). IsIn {X = ℕ × ℕ} (x, y) l) (sym e) (inl refl)
@@ -485,7 +485,7 @@ module _ (net : Graph) (z : Parts) (words : List ℕ) (reached : ℕ → Bool) (
         edge_ways w x y (slot_ref (start_node z n.0 + s)) (wire_end n s m u) (edge_at w (start_node z n.0 + s) (slot_ref (start_node z n.0 + s)) (wire_end n s m u) e (inl (at_slot n m s u l))) (onto_wire n m s u l, off_wire n m s u l) h
 
     ways : (x y : ℕ) → IsIn {X = ℕ × ℕ} (x, y) all_edges → BothWays x y
-    ways x y h = let r = row_of edge (x, y) (size z) h in found_ways r.0 x y r.2 (found_at r.0)
+    ways x y h = let r = row_of edge (x, y) (table_size z) h in found_ways r.0 x y r.2 (found_at r.0)
 
     of_joined : (v : ℕ) → Joined (EdgeOf all_edges) (end p) v → OfLink p v
     of_joined v here = own refl
@@ -514,7 +514,7 @@ module _ (net : Graph) (z : Parts) (words : List ℕ) (reached : ℕ → Bool) (
             subst (λ X. Linked N X Q) (sym p.1) (subst (λ Y. Linked N (named p.0) Y) (sym q.1) l),
       )
 
-  pub start_stands : Stands z N reached (each (size z) edge)
+  pub start_stands : StandsForNet z N reached (each (table_size z) edge)
   start_stands = record {
     ports = λ P e a.
         let p = end_port net z g.low P e a in

@@ -13,7 +13,7 @@ use Rattle.ol_wire.specs.declared.layout.Parts.{Parts}
 use Rattle.ol_wire.specs.declared.plan.Plan.{Plan}
 use Rattle.ol_wire.specs.declared.view.View.{View}
 use Rattle.ol_wire.specs.References.{node_ref, wire_ref, kind_in, index_in, IsNodeRef}
-use Rattle.ol_wire.specs.Layout.{left, part_of, place_of, size}
+use Rattle.ol_wire.specs.Layout.{left, part_of_word, place_of, table_size}
 use Rattle.ol_wire.specs.Events.{rule_between}
 use Rattle.ol_wire.specs.Edges.{edges_in, edges_of, pending_in, links_in, is_reached}
 use Rattle.ol_wire.specs.Stands.{IsEnd, principal, IsWireEnd}
@@ -75,7 +75,7 @@ pair_alone es a b v i la lb (back {v = w} j e) = go (pair_alone es a b w i la lb
 abbrev pub IsStuckPair : ℕ → ℕ → Type 0
 IsStuckPair f g = (rule_between f g ≡ None) × (rule_between g f ≡ None)
 
-module _ (p : Plan) (s : Table) (k : Kept p s) (linked : (v : View) → IsView s v → v.pending ≡ []) (still : (w : ℕ) → part_of p.parts w ≡ left → get_or k.full w 0 ≢ 0 → IsStuckPair (get_or k.full w 0) (get_or k.full (suc w) 0)) where
+module _ (p : Plan) (s : Table) (k : Kept p s) (linked : (v : View) → IsView s v → v.pending ≡ []) (still : (w : ℕ) → part_of_word p.parts w ≡ left → get_or k.full w 0 ≢ 0 → IsStuckPair (get_or k.full w 0) (get_or k.full (suc w) 0)) where
   abbrev z : Parts
   z = p.parts
 
@@ -83,18 +83,18 @@ module _ (p : Plan) (s : Table) (k : Kept p s) (linked : (v : View) → IsView s
   all = edges_of z k.net k.log k.full s.views
 
   -- each edge is that of a word
-  word_of : (a b : ℕ) → IsIn (a, b) all → (w : ℕ) × EdgeAt (part_of z w) w (get_or k.full w 0) (get_or k.full (suc w) 0) a b
-  word_of a b i = of (in_cases (a, b) (edges_in z k.net (is_reached z k.log s.views) k.full (size z)) (pending_in s.views) i)
+  word_of : (a b : ℕ) → IsIn (a, b) all → (w : ℕ) × EdgeAt (part_of_word z w) w (get_or k.full w 0) (get_or k.full (suc w) 0) a b
+  word_of a b i = of (in_cases (a, b) (edges_in z k.net (is_reached z k.log s.views) k.full (table_size z)) (pending_in s.views) i)
     where
-      of : IsIn (a, b) (edges_in z k.net (is_reached z k.log s.views) k.full (size z)) ⊎ IsIn (a, b) (pending_in s.views) → (w : ℕ) × EdgeAt (part_of z w) w (get_or k.full w 0) (get_or k.full (suc w) 0) a b
-      of (inl h) = let t = edge_found z k.net (is_reached z k.log s.views) k.full (size z) (a, b) h in (t.0, edge_at k.net _ (part_of z t.0) t.0 _ _ a b t.2)
+      of : IsIn (a, b) (edges_in z k.net (is_reached z k.log s.views) k.full (table_size z)) ⊎ IsIn (a, b) (pending_in s.views) → (w : ℕ) × EdgeAt (part_of_word z w) w (get_or k.full w 0) (get_or k.full (suc w) 0) a b
+      of (inl h) = let t = edge_found z k.net (is_reached z k.log s.views) k.full (table_size z) (a, b) h in (t.0, edge_at k.net _ (part_of_word z t.0) t.0 _ _ a b t.2)
       of (inr h) = let t = pending_found s.views (a, b) h in let q : IsIn {X = ℕ × ℕ} (a, b) [] = subst (λ ls. IsIn {X = ℕ × ℕ} (a, b) (links_in ls)) (linked t.1 (t.0, t.2)) t.3 in elim q [ ]
 
   -- an edge from a node is that of a cell
-  of_cell : (a b : ℕ) → IsNodeRef a → IsIn (a, b) all → (w : ℕ) × (part_of z w ≡ left) × (a ≡ get_or k.full w 0) × (b ≡ get_or k.full (suc w) 0) × (get_or k.full w 0 ≢ 0)
+  of_cell : (a b : ℕ) → IsNodeRef a → IsIn (a, b) all → (w : ℕ) × (part_of_word z w ≡ left) × (a ≡ get_or k.full w 0) × (b ≡ get_or k.full (suc w) 0) × (get_or k.full w 0 ≢ 0)
   of_cell a b sort i = go (word_of a b i)
     where
-      go : (w : ℕ) × EdgeAt (part_of z w) w (get_or k.full w 0) (get_or k.full (suc w) 0) a b → (w : ℕ) × (part_of z w ≡ left) × (a ≡ get_or k.full w 0) × (b ≡ get_or k.full (suc w) 0) × (get_or k.full w 0 ≢ 0)
+      go : (w : ℕ) × EdgeAt (part_of_word z w) w (get_or k.full w 0) (get_or k.full (suc w) 0) a b → (w : ℕ) × (part_of_word z w ≡ left) × (a ≡ get_or k.full w 0) × (b ≡ get_or k.full (suc w) 0) × (get_or k.full w 0 ≢ 0)
       go (w, at_wire d ea eb m) = absurd (omega (arith, ea, sort, wire_sort w))
       go (w, at_field x c q ea eb m) = absurd (omega (arith, ea, sort, slot_sort w))
       go (w, at_cell q ea eb m) = (w, q, ea, eb, m)
@@ -118,7 +118,7 @@ module _ (p : Plan) (s : Table) (k : Kept p s) (linked : (v : View) → IsView s
       value : (n d : ℕ) → IsIn (v, d) all → v ≡ wire_ref n → d ≡ get_or k.full n 0
       value n d i e = go (word_of v d i)
         where
-          go : (w : ℕ) × EdgeAt (part_of z w) w (get_or k.full w 0) (get_or k.full (suc w) 0) v d → d ≡ get_or k.full n 0
+          go : (w : ℕ) × EdgeAt (part_of_word z w) w (get_or k.full w 0) (get_or k.full (suc w) 0) v d → d ≡ get_or k.full n 0
           go (w, at_wire q ea eb m) = let f : w ≡ n = wire_same w n (sym ea ∙ e) in eb ∙ ap (λ w. get_or k.full w 0) f
           go (w, at_field x c q ea eb m) = absurd (omega (arith, e, ea, wire_sort n, slot_sort w))
           go (w, at_cell q ea eb m) = absurd (omega (arith, e, sym ea, wire_sort n, (k.words.cells w q m).0))

@@ -6,7 +6,7 @@ use Rattle.ol_rules.specs.Rewriting.{is_meeting}
 use Rattle.ol_wire.specs.declared.layout.Parts.{Parts}
 use Rattle.ol_wire.specs.declared.view.View.{View}
 use Rattle.ol_wire.specs.References.{kind_in}
-use Rattle.ol_wire.specs.Layout.{Part, ticket, port, field, wire, between, left, right, entry, past, part_of, start_wire, block, born_wire}
+use Rattle.ol_wire.specs.Layout.{WordPart, ticket, port, field, wire, between, left, right, entry, past, part_of_word, start_wire, block, born_wire}
 use Rattle.ol_wire.specs.Events.{Event}
 use Rattle.ol_wire.specs.Blocks.{copies_of_f, copies_of_g}
 use Rattle.ol_wire.specs.Edges.{crosses_at, is_wire_made, is_made, deaths, is_reached}
@@ -47,9 +47,9 @@ module _ (z : Parts) (log : List Event) (e : Event) (drawn : length log < z.fuel
   reached' = is_reached z (log ++ e ∷ []) views'
 
   made_still : (w : ℕ) → is_made z log w ≡ true → is_made z (log ++ e ∷ []) w ≡ true
-  made_still w h = go (part_of z w) h
+  made_still w h = go (part_of_word z w) h
     where
-      go : (q : Part) → is_wire_made log q ≡ true → is_wire_made (log ++ e ∷ []) q ≡ true
+      go : (q : WordPart) → is_wire_made log q ≡ true → is_wire_made (log ++ e ∷ []) q ≡ true
       go (wire j) h = refl
       go (between t q p) h =
           let m = made_by (slice_get log t) q p h in
@@ -72,9 +72,9 @@ module _ (z : Parts) (log : List Event) (e : Event) (drawn : length log < z.fuel
   still w h = let t = and_parts (is_made z log w) (nat_eq (deaths w views) 0) h in and_from (is_made z (log ++ e ∷ []) w) (nat_eq (deaths w views') 0) (made_still w t.0) (alive w t.1)
 
   pub old_wires : (w : ℕ) → reached w ≡ true → (start_wire z 0 ≤ w) × (w < block z (length log))
-  old_wires w h = go (part_of z w) refl (and_parts (is_made z log w) (nat_eq (deaths w views) 0) h).0
+  old_wires w h = go (part_of_word z w) refl (and_parts (is_made z log w) (nat_eq (deaths w views) 0) h).0
     where
-      go : (q : Part) → part_of z w ≡ q → is_wire_made log q ≡ true → (start_wire z 0 ≤ w) × (w < block z (length log))
+      go : (q : WordPart) → part_of_word z w ≡ q → is_wire_made log q ≡ true → (start_wire z 0 ≤ w) × (w < block z (length log))
       go (wire j) at m = let t = is_wire z w j at in (omega (arith, t.1), omega (arith, t.0, t.1))
       go (between t q p) at m =
           let u = is_between z w t q p at in
@@ -90,15 +90,15 @@ module _ (z : Parts) (log : List Event) (e : Event) (drawn : length log < z.fuel
       go past at m = absurd (cc)
 
   pub only : (w : ℕ) → reached' w ≡ true → (reached w ≡ true) ⊎ ((q : ℕ) × (p : ℕ) × (q < copies_of_f e) × (p < copies_of_g e) × (w ≡ born_wire z (length log) q p))
-  only w h = go (part_of z w) refl (and_parts (is_made z (log ++ e ∷ []) w) (nat_eq (deaths w views') 0) h)
+  only w h = go (part_of_word z w) refl (and_parts (is_made z (log ++ e ∷ []) w) (nat_eq (deaths w views') 0) h)
     where
-      go : (r : Part) → part_of z w ≡ r → (is_wire_made (log ++ e ∷ []) (part_of z w) ≡ true) × (nat_eq (deaths w views') 0 ≡ true) → (reached w ≡ true) ⊎ ((q : ℕ) × (p : ℕ) × (q < copies_of_f e) × (p < copies_of_g e) × (w ≡ born_wire z (length log) q p))
+      go : (r : WordPart) → part_of_word z w ≡ r → (is_wire_made (log ++ e ∷ []) (part_of_word z w) ≡ true) × (nat_eq (deaths w views') 0 ≡ true) → (reached w ≡ true) ⊎ ((q : ℕ) × (p : ℕ) × (q < copies_of_f e) × (p < copies_of_g e) × (w ≡ born_wire z (length log) q p))
       go r at m = of r at (ap (is_wire_made (log ++ e ∷ [])) (sym at) ∙ m.0) m.1
         where
           old : is_made z log w ≡ true → nat_eq (deaths w views') 0 ≡ true → reached w ≡ true
           old a b = and_from (is_made z log w) (nat_eq (deaths w views) 0) a (alive_before w b)
 
-          of : (r : Part) → part_of z w ≡ r → is_wire_made (log ++ e ∷ []) r ≡ true → nat_eq (deaths w views') 0 ≡ true → (reached w ≡ true) ⊎ ((q : ℕ) × (p : ℕ) × (q < copies_of_f e) × (p < copies_of_g e) × (w ≡ born_wire z (length log) q p))
+          of : (r : WordPart) → part_of_word z w ≡ r → is_wire_made (log ++ e ∷ []) r ≡ true → nat_eq (deaths w views') 0 ≡ true → (reached w ≡ true) ⊎ ((q : ℕ) × (p : ℕ) × (q < copies_of_f e) × (p < copies_of_g e) × (w ≡ born_wire z (length log) q p))
           of (wire j) at a b = inl (old (ap (is_wire_made log) at) b)
           of (between t q p) at a b = by (got_one_more log e d.0 t d.1)
             where
@@ -121,7 +121,7 @@ module _ (z : Parts) (log : List Event) (e : Event) (drawn : length log < z.fuel
   pub come : ((w : ℕ) → deaths w views ≤ bit (is_made z log w)) → (q p : ℕ) → q < copies_of_f e → p < copies_of_g e → q < 2 → p < 2 → reached' (born_wire z (length log) q p) ≡ true
   come dead q p hq hp lq lp =
       let w : ℕ = born_wire z (length log) q p in
-      let at : part_of z w ≡ between (length log) q p = part_between z (length log) q p drawn lq lp in
+      let at : part_of_word z w ≡ between (length log) q p = part_between z (length log) q p drawn lq lp in
       let made : is_made z (log ++ e ∷ []) w ≡ true = ap (is_wire_made (log ++ e ∷ [])) at ∙ ap (λ o. crosses_at o q p) (got_last log e) ∙ crosses e q p hq hp in
       let none : is_made z log w ≡ false = ap (is_wire_made log) at ∙ unmade in
       let few : bit (is_made z log w) ≡ 0 = ap bit none in

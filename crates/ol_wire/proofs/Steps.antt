@@ -12,7 +12,7 @@ use Rattle.ol_wire.specs.declared.plan.Plan.{Plan}
 use Rattle.ol_wire.specs.declared.view.View.{View}
 use Rattle.ol_wire.specs.References.{node_ref, kind_in, place_in}
 use Rattle.ol_wire.specs.Weights.{total}
-use Rattle.ol_wire.specs.Layout.{left, part_of, place_of, size, left_word, cells_of}
+use Rattle.ol_wire.specs.Layout.{left, part_of_word, place_of, table_size, left_word, cells_of}
 use Rattle.ol_wire.specs.Views.{past_fuel}
 use Rattle.ol_wire.specs.Idle.{IsIdle}
 use Rattle.ol_wire.specs.StepPlays.{Seated, cell_in_hand, returned, missing, holding, paired, knowing, ticketed, late, wrote, IsNodeOf, IsRefOf, IsLookedUp, claims, pairs_up, draws, writes}
@@ -46,8 +46,8 @@ module _ (p : Plan) (slots id : ℕ) (m : Seated) (held : 0 < m.0.holds) where
     | inr ne ↦ (holding m.0 w (get_or s.words w 0), keeps, tt, next ne, (refl, (λ e. absurd (ne e)), (λ _. (refl, is_node ne))))
   ]
     where
-      is : part_of p.parts w ≡ left
-      is = ap (part_of p.parts) at ∙ (part_cell p.parts c low).0
+      is : part_of_word p.parts w ≡ left
+      is = ap (part_of_word p.parts) at ∙ (part_cell p.parts c low).0
 
       next : get_or s.words w 0 ≢ 0 → Kept p (after s w 0 id (holding m.0 w (get_or s.words w 0)))
       next = claim_keeps p s k id m.0 here held w is
@@ -75,7 +75,7 @@ module _ (p : Plan) (slots id : ℕ) (m : Seated) (held : 0 < m.0.holds) where
   -- a field of one of the two nodes of the pair
   module _ (w r c : ℕ) (taken : IsIn (w, m.0.last.0) m.0.taken) (known : IsIn (suc w, m.0.last.1) m.0.known) (side : (r ≡ m.0.last.0) ⊎ (r ≡ m.0.last.1)) (lt : c < arity (kind_in r)) where
     module _ (s : Table) (k : Kept p s) (here : get_elem? s.views id ≡ some m.0) where
-      claimed : (part_of p.parts w ≡ left) × (get_or k.full w 0 ≡ m.0.last.0) × (get_or k.full w 0 ≢ 0)
+      claimed : (part_of_word p.parts w ≡ left) × (get_or k.full w 0 ≡ m.0.last.0) × (get_or k.full w 0 ≢ 0)
       claimed = full_of_claimed p s k m.0 w m.0.last.0 (id, here) taken
 
       pair : IsCellPair p s k w
@@ -108,7 +108,7 @@ module _ (p : Plan) (slots id : ℕ) (m : Seated) (held : 0 < m.0.holds) where
       slot_is n = subst (λ q. c < arity q) (kind_is n) lt
 
       -- the field is written, and what it refers to
-      found : (n : IsNodeAt p.parts k.net r) → let u : ℕ = place_of p.parts n.x + c in IsLasting (part_of p.parts u) × (u < size p.parts) × (get_or s.words u 0 ≢ 0) × IsRefOf m.0.parts (get_or s.words u 0)
+      found : (n : IsNodeAt p.parts k.net r) → let u : ℕ = place_of p.parts n.x + c in IsLasting (part_of_word p.parts u) × (u < table_size p.parts) × (get_or s.words u 0 ≢ 0) × IsRefOf m.0.parts (get_or s.words u 0)
       found n =
           let c2 : c < 2 = omega (arith, slot_is n, at_most_two n.k) in
           let e = field_written p s k w claimed.0 claimed.2 n.x n.k n.i c n.has (sided n) (slot_is n) in (
@@ -118,8 +118,8 @@ module _ (p : Plan) (slots id : ℕ) (m : Seated) (held : 0 < m.0.holds) where
             subst (λ z. IsRefOf z (get_or s.words (place_of p.parts n.x + c) 0)) (sym (of_plan s k here)) (subst (IsRefOf p.parts) (sym e) (ref_of_field p s k n.x n.k n.i c n.has (slot_is n))),
           )
 
-      found_there : IsLasting (part_of p.parts (place_in r + c)) × (place_in r + c < size p.parts) × (get_or s.words (place_in r + c) 0 ≢ 0) × IsRefOf m.0.parts (get_or s.words (place_in r + c) 0)
-      found_there = subst (λ (a : ℕ). IsLasting (part_of p.parts (a + c)) × (a + c < size p.parts) × (get_or s.words (a + c) 0 ≢ 0) × IsRefOf m.0.parts (get_or s.words (a + c) 0)) (sym (place_is node)) (found node)
+      found_there : IsLasting (part_of_word p.parts (place_in r + c)) × (place_in r + c < table_size p.parts) × (get_or s.words (place_in r + c) 0 ≢ 0) × IsRefOf m.0.parts (get_or s.words (place_in r + c) 0)
+      found_there = subst (λ (a : ℕ). IsLasting (part_of_word p.parts (a + c)) × (a + c < table_size p.parts) × (get_or s.words (a + c) 0 ≢ 0) × IsRefOf m.0.parts (get_or s.words (a + c) 0)) (sym (place_is node)) (found node)
 
     looks_there : Allows (Kept p) slots id m (place_in r + c) (λ n. n) (reads (step slots (place_in r + c) 0 0 none) m)
     looks_there s k homes here small =

@@ -13,11 +13,11 @@ use Rattle.ol_wire.specs.declared.plan.Plan.{Plan}
 use Rattle.ol_wire.specs.declared.view.Link.{Link}
 use Rattle.ol_wire.specs.declared.view.View.{View}
 use Rattle.ol_wire.specs.Weights.{total, pairs}
-use Rattle.ol_wire.specs.Layout.{field, left, part_of, size, left_word}
-use Rattle.ol_wire.specs.Edges.{is_reached, is_made, deaths, times, edges_of, edges_in, pending_in}
+use Rattle.ol_wire.specs.Layout.{field, left, part_of_word, table_size, left_word}
+use Rattle.ol_wire.specs.Edges.{is_reached, is_made, deaths, times_in, edges_of, edges_in, pending_in}
 use Rattle.ol_wire.specs.Events.{IsStuckPair}
-use Rattle.ol_wire.specs.Stands.{Stands}
-use Rattle.ol_wire.specs.Views.{past_fuel, IsSpent}
+use Rattle.ol_wire.specs.Stands.{StandsForNet}
+use Rattle.ol_wire.specs.Views.{past_fuel, IsSpentView}
 use Rattle.ol_wire.specs.Idle.{IsIdle}
 use Rattle.ol_wire.specs.Plays.{joined, cell_at}
 use Rattle.ol_wire.specs.LinkPlays.{times_drawn}
@@ -74,11 +74,11 @@ module _ (p : Plan) (id : ℕ) (v : View) (other : ℕ) (w : View) (idle : IsIdl
     starts = k.words.starts;
     fresh = k.words.fresh;
     entries = k.words.entries;
-    known = λ u a y is m. viewed (λ u'. IsIn (a, y) u'.known → (get_or s.words a 0 ≡ y) × (y ≢ 0) × IsLasting (part_of p.parts a)) (k.words.known v a y (id, here)) (λ m'. elim m' [ ]) (λ u' is'. k.words.known u' a y is') u is m;
+    known = λ u a y is m. viewed (λ u'. IsIn (a, y) u'.known → (get_or s.words a 0 ≡ y) × (y ≢ 0) × IsLasting (part_of_word p.parts a)) (k.words.known v a y (id, here)) (λ m'. elim m' [ ]) (λ u' is'. k.words.known u' a y is') u is m;
   }
 
   abbrev Open : View → Link → Type 0
-  Open u l = (part_of p.parts l.cell ≡ left) × (get_or k.full l.cell 0 ≡ 0) × IsRightOf u l (get_or k.full (suc l.cell) 0) × ((t a : ℕ) → slice_get k.from t ≡ Some a → a ≢ l.cell)
+  Open u l = (part_of_word p.parts l.cell ≡ left) × (get_or k.full l.cell 0 ≡ 0) × IsRightOf u l (get_or k.full (suc l.cell) 0) × ((t a : ℕ) → slice_get k.from t ≡ Some a → a ≢ l.cell)
 
   abbrev Swept : View → ℕ → Type 0
   Swept u c = (u.holds ≡ p.seats) × ((get_or k.full (left_word p.parts c) 0 ≡ 0) ⊎ IsStuckPair (get_or k.full (left_word p.parts c) 0) (get_or k.full (suc (left_word p.parts c)) 0)) × ((l : Link) → IsIn l u.pending → l.cell ≢ left_word p.parts c)
@@ -92,7 +92,7 @@ module _ (p : Plan) (id : ℕ) (v : View) (other : ℕ) (w : View) (idle : IsIdl
     link_refs = λ u l is. viewed (λ u'. IsIn l u'.pending → IsMadeRef p.parts k.log l.one × IsMadeRef p.parts k.log l.two) (λ m. absurd (no_more l v.pending idle.2 m)) (λ m. elim m [ ]) (λ u' is'. k.cells.link_refs u' l is') u is;
     swept = λ u c is. viewed (λ u'. c < u'.swept → Swept u' c) (λ lt. absurd (omega (arith, lt))) (λ lt. absurd (omega (arith, lt))) (λ u' is'. k.cells.swept u' c is') u is;
     published = λ a is le.
-        let e = total_same (λ (u : View). times (cell_at p.parts a) u.published) (omega (arith, total_append (λ y. if nat_eq y (cell_at p.parts a) then 1 else 0) v.published w.published)) in
+        let e = total_same (λ (u : View). times_in (cell_at p.parts a) u.published) (omega (arith, total_append (λ y. if nat_eq y (cell_at p.parts a) then 1 else 0) v.published w.published)) in
         omega (arith, e, k.cells.published a is le);
   }
 
@@ -102,30 +102,30 @@ module _ (p : Plan) (id : ℕ) (v : View) (other : ℕ) (w : View) (idle : IsIdl
     calm = omega (arith, k.seats.calm, or_past v.over w.over v.holds w.holds, total_glued past_fuel);
     over = viewed (λ u. u.over ≡ true → (p.parts.fuel ≤ get_or s.words 0 0) × HasActive k.net) (or_true v.over w.over _ (k.seats.over v (id, here)) (k.seats.over w (other, was))) (λ o. absurd (false≢true o)) k.seats.over;
     plans = viewed (λ u. 0 < u.holds → KnowsPlan p u) (λ _. k.seats.plans v (id, here) held) (λ lt. absurd (omega (arith, lt))) k.seats.plans;
-    spent = viewed (λ u. u.holds ≡ 0 → IsSpent u) (λ q. absurd (omega (arith, held, q))) (λ q. refl) k.seats.spent;
-    taken = λ u a y is. viewed (λ u'. IsIn (a, y) u'.taken → (part_of p.parts a ≡ left) × (y ≢ 0)) (λ m. absurd (no_more {A = ℕ × ℕ} (a, y) v.taken idle.0 m)) (λ m. elim m [ ]) (λ u' is'. k.seats.taken u' a y is') u is;
-    due = λ u a y is. viewed (λ u'. IsIn (a, y) u'.due → (y ≢ 0) × IsOwn (part_of p.parts a) × IsInOwnBlock p.parts u' a) (λ m. absurd (no_more {A = ℕ × ℕ} (a, y) v.due idle.1 m)) (λ m. elim m [ ]) (λ u' is'. k.seats.due u' a y is') u is;
+    spent = viewed (λ u. u.holds ≡ 0 → IsSpentView u) (λ q. absurd (omega (arith, held, q))) (λ q. refl) k.seats.spent;
+    taken = λ u a y is. viewed (λ u'. IsIn (a, y) u'.taken → (part_of_word p.parts a ≡ left) × (y ≢ 0)) (λ m. absurd (no_more {A = ℕ × ℕ} (a, y) v.taken idle.0 m)) (λ m. elim m [ ]) (λ u' is'. k.seats.taken u' a y is') u is;
+    due = λ u a y is. viewed (λ u'. IsIn (a, y) u'.due → (y ≢ 0) × IsOwn (part_of_word p.parts a) × IsInOwnBlock p.parts u' a) (λ m. absurd (no_more {A = ℕ × ℕ} (a, y) v.due idle.1 m)) (λ m. elim m [ ]) (λ u' is'. k.seats.due u' a y is') u is;
     links = λ u l is. viewed (λ u'. IsIn l u'.pending → IsInOwnBlock p.parts u' l.cell) (λ m. absurd (no_more l v.pending idle.2 m)) (λ m. elim m [ ]) (λ u' is'. k.seats.links u' l is') u is;
-    due_fields = λ u a y n b is. viewed (λ u'. IsIn (a, y) u'.due → part_of p.parts a ≡ field n b → IsLinkedField p.parts k.net u'.pending n b) (λ m e. absurd (no_more {A = ℕ × ℕ} (a, y) v.due idle.1 m)) (λ m e. elim m [ ]) (λ u' is'. k.seats.due_fields u' a y n b is') u is;
+    due_fields = λ u a y n b is. viewed (λ u'. IsIn (a, y) u'.due → part_of_word p.parts a ≡ field n b → IsLinkedField p.parts k.net u'.pending n b) (λ m e. absurd (no_more {A = ℕ × ℕ} (a, y) v.due idle.1 m)) (λ m e. elim m [ ]) (λ u' is'. k.seats.due_fields u' a y n b is') u is;
     made = λ h. total_same (λ (u : View). pairs h u.made) (omega (arith, total_append (λ (e : ℕ × Entry). h e.0 e.1) v.made w.made)) ∙ k.seats.made h;
     dead = λ a. omega (arith, same_deaths a, k.seats.dead a);
   }
     where
       same_deaths : (a : ℕ) → deaths a views ≡ deaths a s.views
-      same_deaths a = total_same (λ (u : View). times a u.dead) (omega (arith, total_append (λ y. if nat_eq y a then 1 else 0) v.dead w.dead))
+      same_deaths a = total_same (λ (u : View). times_in a u.dead) (omega (arith, total_append (λ y. if nat_eq y a then 1 else 0) v.dead w.dead))
 
   same_reached : is_reached p.parts k.log views ≡ is_reached p.parts k.log s.views
   same_reached =
-      let e : (a : ℕ) → deaths a views ≡ deaths a s.views = λ a. total_same (λ (u : View). times a u.dead) (omega (arith, total_append (λ y. if nat_eq y a then 1 else 0) v.dead w.dead)) in
+      let e : (a : ℕ) → deaths a views ≡ deaths a s.views = λ a. total_same (λ (u : View). times_in a u.dead) (omega (arith, total_append (λ y. if nat_eq y a then 1 else 0) v.dead w.dead)) in
       λ n a. (ap (λ d. is_made p.parts k.log a && nat_eq d 0) (e a)) n
 
   same_pending : pending_in views ≡ pending_in s.views
   same_pending = pending_set (set s.views id both) other w spent_view there (sym idle'.2) ∙ pending_set s.views id v both here refl
 
-  stands : Stands p.parts k.net (is_reached p.parts k.log views) (edges_of p.parts k.net k.log k.full views)
+  stands : StandsForNet p.parts k.net (is_reached p.parts k.log views) (edges_of p.parts k.net k.log k.full views)
   stands =
-      subst (λ (r : ℕ → Bool). Stands p.parts k.net r (edges_in p.parts k.net r k.full (size p.parts) ++ pending_in views)) (sym same_reached)
-      (subst (λ es. Stands p.parts k.net (is_reached p.parts k.log s.views) (edges_in p.parts k.net (is_reached p.parts k.log s.views) k.full (size p.parts) ++ es)) (sym same_pending) k.stands)
+      subst (λ (r : ℕ → Bool). StandsForNet p.parts k.net r (edges_in p.parts k.net r k.full (table_size p.parts) ++ pending_in views)) (sym same_reached)
+      (subst (λ es. StandsForNet p.parts k.net (is_reached p.parts k.log s.views) (edges_in p.parts k.net (is_reached p.parts k.log s.views) k.full (table_size p.parts) ++ es)) (sym same_pending) k.stands)
 
   join_keeps : Kept p glued
   join_keeps = record { log = k.log; net = k.net; full = k.full; from = k.from; plan = k.plan; tickets = k.tickets; journal = k.journal; words = words_keep; cells = cells_keep; seats = seats_keep; stands = stands }

@@ -15,10 +15,10 @@ use Rattle.ol_wire.specs.Events.{IsStuckPair}
 use Rattle.ol_wire.specs.declared.plan.Plan.{Plan}
 use Rattle.ol_wire.specs.declared.view.View.{View}
 use Rattle.ol_wire.specs.Weights.{total, pairs, weigh, Empties}
-use Rattle.ol_wire.specs.Layout.{field, left, part_of, start_node, block, size, start_cell, left_word, born_cell}
-use Rattle.ol_wire.specs.Edges.{is_reached, is_made, times, edges_of, edges_in, pending_in}
-use Rattle.ol_wire.specs.Stands.{Stands}
-use Rattle.ol_wire.specs.Views.{past_fuel, IsSpent}
+use Rattle.ol_wire.specs.Layout.{field, left, part_of_word, start_node, block, table_size, start_cell, left_word, born_cell}
+use Rattle.ol_wire.specs.Edges.{is_reached, is_made, times_in, edges_of, edges_in, pending_in}
+use Rattle.ol_wire.specs.Stands.{StandsForNet}
+use Rattle.ol_wire.specs.Views.{past_fuel, IsSpentView}
 use Rattle.ol_wire.specs.Plays.{cell_at}
 use Rattle.ol_wire.specs.Rule.{KnowsPlan, Table, Kept, WordsKeep, CellsKeep, SeatsKeep, Drawn, IsView, IsLasting, IsOwn, IsRightOf, IsMadeRef, IsInOwnBlock, links_at, filled, IsLinkedField}
 use Rattle.ol_wire.proofs.StepsLists.{total_set, each_set, edges_same, pending_set}
@@ -50,16 +50,16 @@ pub record Change (p : Plan) (s : Table) (k : Kept p s) (v w : View) (i x : ℕ)
   -- the words as they would be, but for the ticket word
   pub wide : length full ≡ length k.full
   pub same : (u : ℕ) → 0 < u → get_or full u 0 ≡ get_or k.full u 0
-  pub written : (h : ℕ → ℕ → ℕ) → Empties h → weigh h (set s.words i x) (size p.parts) + (pairs h w.due + pairs h w.taken) + weigh h k.full (size p.parts) ≡ weigh h s.words (size p.parts) + (pairs h v.due + pairs h v.taken) + weigh h full (size p.parts)
+  pub written : (h : ℕ → ℕ → ℕ) → Empties h → weigh h (set s.words i x) (table_size p.parts) + (pairs h w.due + pairs h w.taken) + weigh h k.full (table_size p.parts) ≡ weigh h s.words (table_size p.parts) + (pairs h v.due + pairs h v.taken) + weigh h full (table_size p.parts)
   -- the ticket word
   pub tickets : Drawn p.parts.fuel (get_or (set s.words i x) 0 0) (length k.log)
   pub up : get_or s.words 0 0 ≤ get_or (set s.words i x) 0 0
   pub calm : get_or (set s.words i x) 0 0 + past_fuel v ≤ get_or s.words 0 0 + past_fuel w
   pub over : w.over ≡ true → (v.over ≡ true) ⊎ ((p.parts.fuel ≤ get_or (set s.words i x) 0 0) × HasActive k.net)
   -- words that last, and what the view knows
-  pub lasts : (u : ℕ) → IsLasting (part_of p.parts u) → get_or s.words u 0 ≢ 0 → get_or (set s.words i x) u 0 ≡ get_or s.words u 0
-  pub known : (u y : ℕ) → IsIn (u, y) w.known → IsIn (u, y) v.known ⊎ ((get_or (set s.words i x) u 0 ≡ y) × (y ≢ 0) × IsLasting (part_of p.parts u))
-  pub taken : (u y : ℕ) → IsIn (u, y) w.taken → IsIn (u, y) v.taken ⊎ ((part_of p.parts u ≡ left) × (y ≢ 0))
+  pub lasts : (u : ℕ) → IsLasting (part_of_word p.parts u) → get_or s.words u 0 ≢ 0 → get_or (set s.words i x) u 0 ≡ get_or s.words u 0
+  pub known : (u y : ℕ) → IsIn (u, y) w.known → IsIn (u, y) v.known ⊎ ((get_or (set s.words i x) u 0 ≡ y) × (y ≢ 0) × IsLasting (part_of_word p.parts u))
+  pub taken : (u y : ℕ) → IsIn (u, y) w.taken → IsIn (u, y) v.taken ⊎ ((part_of_word p.parts u ≡ left) × (y ≢ 0))
   pub due : (u y : ℕ) → IsIn (u, y) w.due → IsIn (u, y) v.due
   pub swept : (c : ℕ) → c < w.swept → (c < v.swept) ⊎ IsSwept p k.full v c
 
@@ -74,7 +74,7 @@ module _ (p : Plan) (s : Table) (k : Kept p s) (id : ℕ) (v w : View) (i x : �
   viewed : (P : View → Type 0) → P w → ((u : View) → IsView s u → P u) → (u : View) → IsView there u → P u
   viewed P new old u is = each_set P s.views id w new (λ j y e. old y (j, e)) is.0 u is.1
 
-  not_ticket : (u : ℕ) → part_of p.parts u ≡ left → 0 < u
+  not_ticket : (u : ℕ) → part_of_word p.parts u ≡ left → 0 < u
   not_ticket zero e = absurd (cc)
   not_ticket (suc u) e = omega arith
 
@@ -98,7 +98,7 @@ module _ (p : Plan) (s : Table) (k : Kept p s) (id : ℕ) (v w : View) (i x : �
   right_new l word (inr h) = inr (h.0, h.1, h.2, none_due h.3)
 
   abbrev Unpublished : View → Type 0
-  Unpublished u = (l : Link) → IsIn l u.pending → (part_of p.parts l.cell ≡ left) × (get_or full l.cell 0 ≡ 0) × IsRightOf u l (get_or full (suc l.cell) 0) × ((t a : ℕ) → slice_get k.from t ≡ Some a → a ≢ l.cell)
+  Unpublished u = (l : Link) → IsIn l u.pending → (part_of_word p.parts l.cell ≡ left) × (get_or full l.cell 0 ≡ 0) × IsRightOf u l (get_or full (suc l.cell) 0) × ((t a : ℕ) → slice_get k.from t ≡ Some a → a ≢ l.cell)
 
   unpublished_old : (u : View) → IsView s u → Unpublished u
   unpublished_old u is l m = let h = k.cells.unpublished u l is m in (h.0, c.same l.cell (not_ticket l.cell h.0) ∙ h.1, subst (IsRightOf u l) (sym (c.same (suc l.cell) (omega arith))) h.2, h.3)
@@ -123,7 +123,7 @@ module _ (p : Plan) (s : Table) (k : Kept p s) (id : ℕ) (v w : View) (i x : �
   with_pending P = subst P (sym c.pending)
 
   abbrev Known : View → Type 0
-  Known u = (a y : ℕ) → IsIn (a, y) u.known → (get_or (set s.words i x) a 0 ≡ y) × (y ≢ 0) × IsLasting (part_of p.parts a)
+  Known u = (a y : ℕ) → IsIn (a, y) u.known → (get_or (set s.words i x) a 0 ≡ y) × (y ≢ 0) × IsLasting (part_of_word p.parts a)
 
   known_old : (u : View) → IsView s u → Known u
   known_old u is a y m = let h = k.words.known u a y is m in (c.lasts a h.2 (λ e. h.1 (sym h.0 ∙ e)) ∙ h.0, h.1, h.2)
@@ -131,7 +131,7 @@ module _ (p : Plan) (s : Table) (k : Kept p s) (id : ℕ) (v w : View) (i x : �
   known_new : Known w
   known_new a y m = pick (c.known a y m)
     where
-      pick : IsIn {X = ℕ × ℕ} (a, y) v.known ⊎ ((get_or (set s.words i x) a 0 ≡ y) × (y ≢ 0) × IsLasting (part_of p.parts a)) → (get_or (set s.words i x) a 0 ≡ y) × (y ≢ 0) × IsLasting (part_of p.parts a)
+      pick : IsIn {X = ℕ × ℕ} (a, y) v.known ⊎ ((get_or (set s.words i x) a 0 ≡ y) × (y ≢ 0) × IsLasting (part_of_word p.parts a)) → (get_or (set s.words i x) a 0 ≡ y) × (y ≢ 0) × IsLasting (part_of_word p.parts a)
       pick (inl m) = known_old v seen a y m
       pick (inr h) = h
 
@@ -158,18 +158,18 @@ module _ (p : Plan) (s : Table) (k : Kept p s) (id : ℕ) (v w : View) (i x : �
     link_refs = λ u l is. viewed (λ u'. (l' : Link) → IsIn l' u'.pending → IsMadeRef p.parts k.log l'.one × IsMadeRef p.parts k.log l'.two) (with_pending (λ (ls : List Link). (l' : Link) → IsIn l' ls → IsMadeRef p.parts k.log l'.one × IsMadeRef p.parts k.log l'.two) (λ l' m. k.cells.link_refs v l' seen m)) (λ u' is' l' m. k.cells.link_refs u' l' is' m) u is l;
     swept = λ u n is. viewed (λ u'. (n' : ℕ) → n' < u'.swept → IsSwept p full u' n') swept_new swept_old u is n;
     published = λ a is le.
-        let e = total_same (λ (u : View). times (cell_at p.parts a) u.published) (ap (times (cell_at p.parts a)) c.published) in
+        let e = total_same (λ (u : View). times_in (cell_at p.parts a) u.published) (ap (times_in (cell_at p.parts a)) c.published) in
         omega (arith, e, k.cells.published a is le, ap filled (c.same a (not_ticket a is)));
   }
 
   abbrev Due : View → Type 0
-  Due u = (a y : ℕ) → IsIn (a, y) u.due → (y ≢ 0) × IsOwn (part_of p.parts a) × IsInOwnBlock p.parts u a
+  Due u = (a y : ℕ) → IsIn (a, y) u.due → (y ≢ 0) × IsOwn (part_of_word p.parts a) × IsInOwnBlock p.parts u a
 
   abbrev Links : View → Type 0
   Links u = (l : Link) → IsIn l u.pending → IsInOwnBlock p.parts u l.cell
 
   abbrev Fields : View → Type 0
-  Fields u = (a y : ℕ) (n : NodeName) (b : ℕ) → IsIn (a, y) u.due → part_of p.parts a ≡ field n b → IsLinkedField p.parts k.net u.pending n b
+  Fields u = (a y : ℕ) (n : NodeName) (b : ℕ) → IsIn (a, y) u.due → part_of_word p.parts a ≡ field n b → IsLinkedField p.parts k.net u.pending n b
 
   fields_new : Fields w
   fields_new a y n b m is = with_pending (λ (ls : List Link). IsLinkedField p.parts k.net ls n b) (k.seats.due_fields v a y n b seen (c.due a y m) is)
@@ -180,19 +180,19 @@ module _ (p : Plan) (s : Table) (k : Kept p s) (id : ℕ) (v w : View) (i x : �
     calm = omega (arith, k.seats.calm, c.calm, total_set past_fuel s.views id v w here);
     over = viewed (λ u. u.over ≡ true → (p.parts.fuel ≤ get_or (set s.words i x) 0 0) × HasActive k.net) over_new over_old;
     plans = viewed (λ u. 0 < u.holds → KnowsPlan p u) (λ _. let h = k.seats.plans v seen held in (c.parts.0 ∙ h.0, c.parts.1 ∙ h.1, c.parts.2 ∙ h.2)) k.seats.plans;
-    spent = viewed (λ u. u.holds ≡ 0 → IsSpent u) (λ q. absurd (omega (arith, held, c.holds, q))) k.seats.spent;
-    taken = λ u a y is. viewed (λ u'. (a' y' : ℕ) → IsIn (a', y') u'.taken → (part_of p.parts a' ≡ left) × (y' ≢ 0)) taken_new (λ u' is' a' y'. k.seats.taken u' a' y' is') u is a y;
+    spent = viewed (λ u. u.holds ≡ 0 → IsSpentView u) (λ q. absurd (omega (arith, held, c.holds, q))) k.seats.spent;
+    taken = λ u a y is. viewed (λ u'. (a' y' : ℕ) → IsIn (a', y') u'.taken → (part_of_word p.parts a' ≡ left) × (y' ≢ 0)) taken_new (λ u' is' a' y'. k.seats.taken u' a' y' is') u is a y;
     due = λ u a y is. viewed Due (λ a' y' m. due_new a' y' (k.seats.due v a' y' seen (c.due a' y' m))) (λ u' is' a' y'. k.seats.due u' a' y' is') u is a y;
     links = λ u l is. viewed Links (λ l' m. own_new l'.cell (k.seats.links v l' seen (subst (λ (ls : List Link). IsIn l' ls) c.pending m))) (λ u' is' l'. k.seats.links u' l' is') u is l;
     due_fields = λ u a y n b is. viewed Fields fields_new (λ u' is' a' y' n' b'. k.seats.due_fields u' a' y' n' b' is') u is a y n b;
     made = λ h. total_same (λ (u : View). pairs h u.made) (ap (pairs h) c.made) ∙ k.seats.made h;
-    dead = λ a. let e = total_same (λ (u : View). times a u.dead) (ap (times a) c.dead) in omega (arith, e, k.seats.dead a);
+    dead = λ a. let e = total_same (λ (u : View). times_in a u.dead) (ap (times_in a) c.dead) in omega (arith, e, k.seats.dead a);
   }
     where
       own_new : (a : ℕ) → IsInOwnBlock p.parts v a → IsInOwnBlock p.parts w a
       own_new a h = (h.0, h.1, subst (λ (ms : List (ℕ × Entry)). IsIn {X = ℕ × Entry} (h.0, h.1) ms) (sym c.made) h.2, h.3)
 
-      due_new : (a y : ℕ) → (y ≢ 0) × IsOwn (part_of p.parts a) × IsInOwnBlock p.parts v a → (y ≢ 0) × IsOwn (part_of p.parts a) × IsInOwnBlock p.parts w a
+      due_new : (a y : ℕ) → (y ≢ 0) × IsOwn (part_of_word p.parts a) × IsInOwnBlock p.parts v a → (y ≢ 0) × IsOwn (part_of_word p.parts a) × IsInOwnBlock p.parts w a
       due_new a y h = (h.0, h.1, own_new a h.2)
 
       over_old : (u : View) → IsView s u → u.over ≡ true → (p.parts.fuel ≤ get_or (set s.words i x) 0 0) × HasActive k.net
@@ -205,25 +205,25 @@ module _ (p : Plan) (s : Table) (k : Kept p s) (id : ℕ) (v w : View) (i x : �
           pick (inl e) = over_old v seen e
           pick (inr h) = h
 
-      taken_new : (a y : ℕ) → IsIn (a, y) w.taken → (part_of p.parts a ≡ left) × (y ≢ 0)
+      taken_new : (a y : ℕ) → IsIn (a, y) w.taken → (part_of_word p.parts a ≡ left) × (y ≢ 0)
       taken_new a y m = pick (c.taken a y m)
         where
-          pick : IsIn {X = ℕ × ℕ} (a, y) v.taken ⊎ ((part_of p.parts a ≡ left) × (y ≢ 0)) → (part_of p.parts a ≡ left) × (y ≢ 0)
+          pick : IsIn {X = ℕ × ℕ} (a, y) v.taken ⊎ ((part_of_word p.parts a ≡ left) × (y ≢ 0)) → (part_of_word p.parts a ≡ left) × (y ≢ 0)
           pick (inl m) = k.seats.taken v a y seen m
           pick (inr h) = h
 
   reached_same : (u : ℕ) → is_reached p.parts k.log (set s.views id w) u ≡ is_reached p.parts k.log s.views u
-  reached_same u = ap (λ (n : ℕ). is_made p.parts k.log u && nat_eq n 0) (total_same (λ (u' : View). times u u'.dead) (ap (times u) c.dead))
+  reached_same u = ap (λ (n : ℕ). is_made p.parts k.log u && nat_eq n 0) (total_same (λ (u' : View). times_in u u'.dead) (ap (times_in u) c.dead))
 
   edges_kept : edges_of p.parts k.net k.log full (set s.views id w) ≡ edges_of p.parts k.net k.log k.full s.views
-  edges_kept = ap (λ es. es ++ pending_in (set s.views id w)) (edges_same p.parts k.net (is_reached p.parts k.log (set s.views id w)) (is_reached p.parts k.log s.views) full k.full reached_same c.same (size p.parts))
-      ∙ ap (λ es. edges_in p.parts k.net (is_reached p.parts k.log s.views) k.full (size p.parts) ++ es) (pending_set s.views id v w here c.pending)
+  edges_kept = ap (λ es. es ++ pending_in (set s.views id w)) (edges_same p.parts k.net (is_reached p.parts k.log (set s.views id w)) (is_reached p.parts k.log s.views) full k.full reached_same c.same (table_size p.parts))
+      ∙ ap (λ es. edges_in p.parts k.net (is_reached p.parts k.log s.views) k.full (table_size p.parts) ++ es) (pending_set s.views id v w here c.pending)
 
-  stands_kept : Stands p.parts k.net (is_reached p.parts k.log (set s.views id w)) (edges_of p.parts k.net k.log full (set s.views id w))
+  stands_kept : StandsForNet p.parts k.net (is_reached p.parts k.log (set s.views id w)) (edges_of p.parts k.net k.log full (set s.views id w))
   stands_kept =
       let reached : is_reached p.parts k.log (set s.views id w) ≡ is_reached p.parts k.log s.views = λ n u. reached_same u n in
-      subst (λ (r : ℕ → Bool). Stands p.parts k.net r (edges_of p.parts k.net k.log full (set s.views id w))) (sym reached)
-      (subst (Stands p.parts k.net (is_reached p.parts k.log s.views)) (sym edges_kept) k.stands)
+      subst (λ (r : ℕ → Bool). StandsForNet p.parts k.net r (edges_of p.parts k.net k.log full (set s.views id w))) (sym reached)
+      (subst (StandsForNet p.parts k.net (is_reached p.parts k.log s.views)) (sym edges_kept) k.stands)
 
   pub step_keeps : Kept p there
   step_keeps = record { log = k.log; net = k.net; full = full; from = k.from; plan = k.plan; tickets = c.tickets; journal = k.journal; words = words_keep; cells = cells_keep; seats = seats_keep; stands = stands_kept }

@@ -13,11 +13,11 @@ use Rattle.ol_wire.specs.declared.plan.Plan.{Plan}
 use Rattle.ol_wire.specs.declared.view.Link.{Link}
 use Rattle.ol_wire.specs.declared.view.View.{View}
 use Rattle.ol_wire.specs.References.{wire_ref, IsNodeRef, IsRef}
-use Rattle.ol_wire.specs.Layout.{left, right, part_of, start_cell, born_cell, block, size, left_word, cells_of}
+use Rattle.ol_wire.specs.Layout.{left, right, part_of_word, start_cell, born_cell, block, table_size, left_word, cells_of}
 use Rattle.ol_wire.specs.Weights.{pairs}
 use Rattle.ol_wire.specs.EvenWeights.{Even}
-use Rattle.ol_wire.specs.Edges.{is_reached, is_made, deaths, times, edge_to, edges_of, edges_in, pending_in, links_in}
-use Rattle.ol_wire.specs.Stands.{Stands, IsEnd}
+use Rattle.ol_wire.specs.Edges.{is_reached, is_made, deaths, times_in, edge_to, edges_of, edges_in, pending_in, links_in}
+use Rattle.ol_wire.specs.Stands.{StandsForNet, IsEnd}
 use Rattle.ol_wire.specs.StepPlays.{rest, relinked, linked, moved}
 use Rattle.ol_wire.specs.LinkSteps.{IsBetween, spread}
 use Rattle.ol_wire.specs.Rule.{Table, Kept, IsView, IsMadeRef, IsRightOf, links_at, filled}
@@ -37,7 +37,7 @@ use Rattle.ol_wire.proofs.StepsLinkSites.{IsLinked, linked_not_own, linked_not_l
 use Rattle.ol_rules.proofs.EndCounts.{ends_append}
 
 -- the cells from the last on aren't words of the table
-pub left_past_all : (z : Parts) (c : ℕ) → cells_of z ≤ c → size z ≤ left_word z c
+pub left_past_all : (z : Parts) (c : ℕ) → cells_of z ≤ c → table_size z ≤ left_word z c
 left_past_all z c le =
     let e : nat_lt c z.cells ≡ false = grind (arith, nat_tests) in
     let q : left_word z c ≡ born_cell z ((c - z.cells) / 4) ((c - z.cells) % 4) = ap (λ b. if b then start_cell z c else born_cell z ((c - z.cells) / 4) ((c - z.cells) % 4)) e in
@@ -108,23 +108,23 @@ module _ (p : Plan) (s : Table) (k : Kept p s) (id : ℕ) (v : View) (here : get
   at : IsSite z k.net k.log reached u
   at = site p s k u wire_end
 
-  pub within : u < size z
+  pub within : u < table_size z
   within = omega (arith, at.below, k.tickets.few)
 
   some_b : b ≢ 0
   some_b = made_some b other_made.0
 
-  not_left : (w : ℕ) → part_of z w ≡ left → w ≢ u
-  not_left w e q = subst IsLinked (ap (part_of z) (sym q) ∙ e) at.part
+  not_left : (w : ℕ) → part_of_word z w ≡ left → w ≢ u
+  not_left w e q = subst IsLinked (ap (part_of_word z) (sym q) ∙ e) at.part
 
-  not_right : (w : ℕ) → part_of z w ≡ right → w ≢ u
-  not_right w e q = subst IsLinked (ap (part_of z) (sym q) ∙ e) at.part
+  not_right : (w : ℕ) → part_of_word z w ≡ right → w ≢ u
+  not_right w e q = subst IsLinked (ap (part_of_word z) (sym q) ∙ e) at.part
 
-  not_cell : (w : ℕ) → part_of z w ≡ left → (w ≢ u) × (suc w ≢ u)
+  not_cell : (w : ℕ) → part_of_word z w ≡ left → (w ≢ u) × (suc w ≢ u)
   not_cell w e = (not_left w e, not_right (suc w) (is_left z w e).0)
 
   pub same_word : get_or k.full u 0 ≡ get_or s.words u 0
-  same_word = word_written p s k u within (linked_not_own (part_of z u) at.part) (λ e. not_left u e refl)
+  same_word = word_written p s k u within (linked_not_own (part_of_word z u) at.part) (λ e. not_left u e refl)
 
   -- the right word of the cell of the link is empty
   right_empty : get_or k.full (suc l.cell) 0 ≡ 0
@@ -141,16 +141,16 @@ module _ (p : Plan) (s : Table) (k : Kept p s) (id : ℕ) (v : View) (here : get
     next = linking v v.published more v.known dead
 
     site_step : ((a : ℕ) → links_at a more ≤ links_at a v.pending) → ((a : ℕ) → deaths a (set s.views id next) ≤ bit (is_made z k.log a))
-        → Stands z k.net (is_reached z k.log (set s.views id next)) (edges_of z k.net k.log full (set s.views id next)) → LinkStep p s k id v u b v.published more v.known dead
+        → StandsForNet z k.net (is_reached z k.log (set s.views id next)) (edges_of z k.net k.log full (set s.views id next)) → LinkStep p s k id v u b v.published more v.known dead
     site_step fewer once net = record {
       some_word = at.some_word;
       below = at.below;
-      not_own = linked_not_own (part_of z u) at.part;
+      not_own = linked_not_own (part_of_word z u) at.part;
       not_start = λ c lt. not_start c lt at.before_cells;
       same_word = same_word;
       made_ref = other_made;
       unused = λ t w e. not_cell w (k.cells.used t w e).0;
-      lasts = λ o ne. absurd (linked_not_lasting (part_of z u) at.part o);
+      lasts = λ o ne. absurd (linked_not_lasting (part_of_word z u) at.part o);
       cells = λ w is ne. let d = not_cell w is in
           let e = get_or-set_other k.full u w b 0 d.0 in
           let f = get_or-set_other k.full u (suc w) b 0 d.1 in
@@ -211,7 +211,7 @@ module _ (p : Plan) (s : Table) (k : Kept p s) (id : ℕ) (v : View) (here : get
       of (inl t) = omega (arith, whole, ap (λ a. h a l.two) t.0, ap (h (wire_ref u)) t.1)
       of (inr t) = omega (arith, whole, ap (λ a. h a l.two) t.0, ap (h b) t.1, even b (wire_ref u))
 
-  no_right : (w : ℕ) → part_of z w ≡ left → suc w ≡ u → get_or k.full w 0 ≡ 0
+  no_right : (w : ℕ) → part_of_word z w ≡ left → suc w ≡ u → get_or k.full w 0 ≡ 0
   no_right w is e = absurd ((not_cell w is).1 e)
 
   at_u : get_or full u 0 ≡ b
@@ -226,12 +226,12 @@ module _ (p : Plan) (s : Table) (k : Kept p s) (id : ℕ) (v : View) (here : get
     linked_views = set s.views id (linked v)
 
     linked_deaths : (a : ℕ) → deaths a linked_views ≡ deaths a s.views
-    linked_deaths a = omega (arith, total_set (λ (w : View). times a w.dead) s.views id v (linked v) here)
+    linked_deaths a = omega (arith, total_set (λ (w : View). times_in a w.dead) s.views id v (linked v) here)
 
     linked_reached : is_reached z k.log linked_views ≡ reached
     linked_reached = λ n a. (ap (λ d. is_made z k.log a && nat_eq d 0) (linked_deaths a)) n
 
-    linked_edges : Alike old_edges (edges_in z k.net reached full (size z) ++ pending_in linked_views)
+    linked_edges : Alike old_edges (edges_in z k.net reached full (table_size z) ++ pending_in linked_views)
     linked_edges h even =
         let none : pairs h (word_edge z k.net reached k.full u) ≡ 0 = ap (pairs h) (at.edge k.full ∙ edge_none (wire_ref u) (get_or k.full u 0) (same_word ∙ empty)) in
         omega (
@@ -241,12 +241,12 @@ module _ (p : Plan) (s : Table) (k : Kept p s) (id : ℕ) (v : View) (here : get
           some_edge h full b at_u some_b,
           pending_weigh h s.views id v (linked v) here,
           head_weigh h even,
-          pairs_append h (edges_in z k.net reached k.full (size z)) (pending_in s.views),
-          pairs_append h (edges_in z k.net reached full (size z)) (pending_in linked_views),
+          pairs_append h (edges_in z k.net reached k.full (table_size z)) (pending_in s.views),
+          pairs_append h (edges_in z k.net reached full (table_size z)) (pending_in linked_views),
         )
 
-    linked_stands : Stands z k.net (is_reached z k.log linked_views) (edges_of z k.net k.log full linked_views)
-    linked_stands = subst (λ (r : ℕ → Bool). Stands z k.net r (edges_in z k.net r full (size z) ++ pending_in linked_views)) (sym linked_reached) (stands_alike z k.net reached old_edges (edges_in z k.net reached full (size z) ++ pending_in linked_views) linked_edges k.stands)
+    linked_stands : StandsForNet z k.net (is_reached z k.log linked_views) (edges_of z k.net k.log full linked_views)
+    linked_stands = subst (λ (r : ℕ → Bool). StandsForNet z k.net r (edges_in z k.net r full (table_size z) ++ pending_in linked_views)) (sym linked_reached) (stands_alike z k.net reached old_edges (edges_in z k.net reached full (table_size z) ++ pending_in linked_views) linked_edges k.stands)
 
     in_rest : (m : Link) → IsIn m (rest v.pending) → IsIn m ls
     in_rest m = subst (λ (ms : List Link). IsIn m (rest ms)) pending
@@ -267,13 +267,13 @@ module _ (p : Plan) (s : Table) (k : Kept p s) (id : ℕ) (v : View) (here : get
     pub found_made : IsMadeRef z k.log c
     found_made = subst (IsMadeRef z k.log) same_word (k.words.refs u at.some_word full_found)
 
-    word_in : IsIn (wire_ref u, get_or k.full u 0) (edges_in z k.net reached k.full (size z))
+    word_in : IsIn (wire_ref u, get_or k.full u 0) (edges_in z k.net reached k.full (table_size z))
     word_in =
-        edge_there z k.net reached k.full (size z) u _ within (subst (λ (es : List (ℕ × ℕ)). IsIn {X = ℕ × ℕ} (wire_ref u, get_or k.full u 0) es) (sym (at.edge k.full))
+        edge_there z k.net reached k.full (table_size z) u _ within (subst (λ (es : List (ℕ × ℕ)). IsIn {X = ℕ × ℕ} (wire_ref u, get_or k.full u 0) es) (sym (at.edge k.full))
         (subst (λ q. IsIn {X = ℕ × ℕ} (wire_ref u, get_or k.full u 0) (if q then [] else (wire_ref u, get_or k.full u 0) ∷ [])) (sym (ne_eqb (get_or k.full u 0) 0 full_found)) (inl refl)))
 
     pub found_end : 1 ≤ ends nat_eq c old_edges
-    found_end = omega (arith, ends_append nat_eq c (edges_in z k.net reached k.full (size z)) (pending_in s.views), subst (λ r. 1 ≤ ends nat_eq r (edges_in z k.net reached k.full (size z))) same_word (ends_second _ _ (edges_in z k.net reached k.full (size z)) word_in))
+    found_end = omega (arith, ends_append nat_eq c (edges_in z k.net reached k.full (table_size z)) (pending_in s.views), subst (λ r. 1 ≤ ends nat_eq r (edges_in z k.net reached k.full (table_size z))) same_word (ends_second _ _ (edges_in z k.net reached k.full (table_size z)) word_in))
 
     pending_ends : 1 ≤ ends nat_eq (wire_ref u) (pending_in s.views)
     pending_ends = of turn
@@ -290,7 +290,7 @@ module _ (p : Plan) (s : Table) (k : Kept p s) (id : ℕ) (v : View) (here : get
     is_wire = of (port_or_reached p s k u wire_end)
       where
         of : ((q : NamedPort NodeName) × IsEnd z k.net q (wire_ref u) × IsSite z k.net k.log reached u) ⊎ (reached u ≡ true) → reached u ≡ true
-        of (inl t) = absurd (omega (arith, k.stands.ports t.0 (wire_ref u) t.1, ends_append nat_eq (wire_ref u) (edges_in z k.net reached k.full (size z)) (pending_in s.views), ends_first _ _ (edges_in z k.net reached k.full (size z)) word_in, pending_ends))
+        of (inl t) = absurd (omega (arith, k.stands.ports t.0 (wire_ref u) t.1, ends_append nat_eq (wire_ref u) (edges_in z k.net reached k.full (table_size z)) (pending_in s.views), ends_first _ _ (edges_in z k.net reached k.full (table_size z)) word_in, pending_ends))
         of (inr e) = e
 
     abbrev after_view : View
@@ -303,7 +303,7 @@ module _ (p : Plan) (s : Table) (k : Kept p s) (id : ℕ) (v : View) (here : get
     reached' = is_reached z k.log views
 
     more_deaths : (a : ℕ) → deaths a views ≡ deaths a s.views + one_if u a
-    more_deaths a = omega (arith, total_set (λ (w : View). times a w.dead) s.views id v after_view here, times_more a v.dead u)
+    more_deaths a = omega (arith, total_set (λ (w : View). times_in a w.dead) s.views id v after_view here, times_more a v.dead u)
 
     other_deaths : (a : ℕ) → a ≢ u → deaths a views ≡ deaths a s.views
     other_deaths a d = omega (arith, more_deaths a, one_other u a (λ q. d (sym q)))
@@ -328,7 +328,7 @@ module _ (p : Plan) (s : Table) (k : Kept p s) (id : ℕ) (v : View) (here : get
 
     -- all other edges
     abbrev left_over : List (ℕ × ℕ)
-    left_over = edges_in z k.net reached' full (size z) ++ pending_in (set s.views id (linked v))
+    left_over = edges_in z k.net reached' full (table_size z) ++ pending_in (set s.views id (linked v))
 
     from_edges : Alike old_edges ((wire_ref u, b) ∷ (wire_ref u, c) ∷ left_over)
     from_edges h even =
@@ -339,8 +339,8 @@ module _ (p : Plan) (s : Table) (k : Kept p s) (id : ℕ) (v : View) (here : get
           ap (pairs h) (dead_edge p s k u is_wire reached' gone full),
           pending_weigh h s.views id v (linked v) here,
           head_weigh h even,
-          pairs_append h (edges_in z k.net reached k.full (size z)) (pending_in s.views),
-          pairs_append h (edges_in z k.net reached' full (size z)) (pending_in (set s.views id (linked v))),
+          pairs_append h (edges_in z k.net reached k.full (table_size z)) (pending_in s.views),
+          pairs_append h (edges_in z k.net reached' full (table_size z)) (pending_in (set s.views id (linked v))),
         )
 
     relinked_weigh : (h : ℕ → ℕ → ℕ) → pairs h (links_in (relinked v.pending b c)) ≡ h b c + pairs h (links_in (rest v.pending))
@@ -353,11 +353,11 @@ module _ (p : Plan) (s : Table) (k : Kept p s) (id : ℕ) (v : View) (here : get
           pending_weigh h s.views id v (linked v) here,
           pending_weigh h s.views id v after_view here,
           relinked_weigh h,
-          pairs_append h (edges_in z k.net reached' full (size z)) (pending_in views),
-          pairs_append h (edges_in z k.net reached' full (size z)) (pending_in (set s.views id (linked v))),
+          pairs_append h (edges_in z k.net reached' full (table_size z)) (pending_in views),
+          pairs_append h (edges_in z k.net reached' full (table_size z)) (pending_in (set s.views id (linked v))),
         )
 
-    net_stands : Stands z k.net reached' (edges_of z k.net k.log full views)
+    net_stands : StandsForNet z k.net reached' (edges_of z k.net k.log full views)
     net_stands =
         exchange_stands z k.net reached reached' old_edges (edges_of z k.net k.log full views) left_over u b c k.stands is_wire from_edges to_edges (λ a e d. same_reached a d ∙ e) (λ a e.
         let d : a ≢ u = λ q. false≢true (sym gone ∙ ap reached' (sym q) ∙ e) in
@@ -382,12 +382,12 @@ module _ (p : Plan) (s : Table) (k : Kept p s) (id : ℕ) (v : View) (here : get
         (site_step (relinked v.pending b c) (v.dead ++ u ∷ []) each (λ a. let e = relinked_same a b c v.pending in omega (arith, e)) once net_stands)
 
     -- the dead wires of the view are words, each once
-    pub found_spread : (spread (size z) (moved v u b c).dead ≡ spread (size z) v.dead + 1) × (spread (size z) (moved v u b c).dead ≤ size z)
-    found_spread = (spread_more (size z) v.dead u within, spread_few (size z) (v.dead ++ u ∷ []) few)
+    pub found_spread : (spread (table_size z) (moved v u b c).dead ≡ spread (table_size z) v.dead + 1) × (spread (table_size z) (moved v u b c).dead ≤ table_size z)
+    found_spread = (spread_more (table_size z) v.dead u within, spread_few (table_size z) (v.dead ++ u ∷ []) few)
       where
         bit_few : (q : Bool) → bit q ≤ 1
         bit_few true = omega arith
         bit_few false = omega arith
 
-        few : (a : ℕ) → times a (v.dead ++ u ∷ []) ≤ 1
-        few a = omega (arith, once a, bit_few (is_made z k.log a), total_set (λ (w : View). times a w.dead) s.views id v after_view here, one_below (λ (w : View). times a w.dead) s.views id v here)
+        few : (a : ℕ) → times_in a (v.dead ++ u ∷ []) ≤ 1
+        few a = omega (arith, once a, bit_few (is_made z k.log a), total_set (λ (w : View). times_in a w.dead) s.views id v after_view here, one_below (λ (w : View). times_in a w.dead) s.views id v here)

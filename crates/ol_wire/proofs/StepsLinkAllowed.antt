@@ -11,7 +11,7 @@ use Rattle.ol_wire.specs.declared.plan.Plan.{Plan}
 use Rattle.ol_wire.specs.declared.view.Link.{Link}
 use Rattle.ol_wire.specs.declared.view.View.{View}
 use Rattle.ol_wire.specs.References.{wire_ref, place_in, IsNodeRef, IsWireRef}
-use Rattle.ol_wire.specs.Layout.{size}
+use Rattle.ol_wire.specs.Layout.{table_size}
 use Rattle.ol_wire.specs.StepPlays.{Seated, linked, moved, knowing, publishing, IsRefOf}
 use Rattle.ol_wire.specs.LinkSteps.{IsBetween, spread, links, places, publishes, counts}
 use Rattle.ol_wire.specs.Rule.{Kept, IsMadeRef}
@@ -23,7 +23,7 @@ use Rattle.ol_wire.proofs.StepsJoin.{holds_within, drawn_once}
 
 -- what an exchange that found c tells
 abbrev IsFound : Parts → ℕ → ℕ → List ℕ → List ℕ → Type 0
-IsFound z b c old new = IsRefOf z b × IsRefOf z c × (spread (size z) new ≡ spread (size z) old + 1) × (spread (size z) new ≤ size z)
+IsFound z b c old new = IsRefOf z b × IsRefOf z c × (spread (table_size z) new ≡ spread (table_size z) old + 1) × (spread (table_size z) new ≤ table_size z)
 
 module _ (p : Plan) (slots id : ℕ) (m : Seated) (held : 0 < m.0.holds) where
   pub counts_allowed : Allows (Kept p) slots id m 0 (λ n. n) (counts (step slots 0 0 0 none) m)

@@ -5,16 +5,16 @@ use Rattle.ol_edges.specs.Edges.{ends}
 use Rattle.ol_net.specs.Nets.{NamedNet}
 use Rattle.ol_rules.specs.declared.journal.NodeName.{NodeName}
 use Rattle.ol_wire.specs.declared.layout.Parts.{Parts}
-use Rattle.ol_wire.specs.Layout.{Part, ticket, port, field, wire, between, left, right, entry, past, part_of, size}
+use Rattle.ol_wire.specs.Layout.{WordPart, ticket, port, field, wire, between, left, right, entry, past, part_of_word, table_size}
 use Rattle.ol_wire.specs.Weights.{pairs}
 use Rattle.ol_wire.specs.Edges.{edge_in, edges_in}
-use Rattle.ol_wire.specs.Stands.{Stands}
+use Rattle.ol_wire.specs.Stands.{StandsForNet}
 use Rattle.ol_wire.proofs.Alike.{Alike, alike_ends, alike_joined, alike_sym}
 use Rattle.ol_wire.proofs.EdgeList.{word_edge}
 use Rattle.ol_wire.proofs.PlaceSums.{sum_to, sum_one}
 use Rattle.ol_wire.proofs.WordEdges.{edges_weigh}
 
-pub stands_alike : (z : Parts) (N : NamedNet NodeName) (reached : ℕ → Bool) (es fs : List (ℕ × ℕ)) → Alike es fs → Stands z N reached es → Stands z N reached fs
+pub stands_alike : (z : Parts) (N : NamedNet NodeName) (reached : ℕ → Bool) (es fs : List (ℕ × ℕ)) → Alike es fs → StandsForNet z N reached es → StandsForNet z N reached fs
 stands_alike z N reached es fs a s =
     let back : (e : ℕ) → ends nat_eq e fs ≡ ends nat_eq e es = λ e. sym (alike_ends es fs a e) in record {
       ports = λ q e h. back e ∙ s.ports q e h;
@@ -27,7 +27,7 @@ stands_alike z N reached es fs a s =
     }
 
 -- only the edge of a cell that isn't empty looks at the next word
-next_free : (net : NamedNet NodeName) (r : Bool) (q : Part) (w word m n : ℕ) → (q ≡ left → word ≡ 0) → edge_in net r q w word m ≡ edge_in net r q w word n
+next_free : (net : NamedNet NodeName) (r : Bool) (q : WordPart) (w word m n : ℕ) → (q ≡ left → word ≡ 0) → edge_in net r q w word m ≡ edge_in net r q w word n
 next_free net r ticket w word m n e = refl
 next_free net r (port a) w word m n e = refl
 next_free net r (field x c) w word m n e = refl
@@ -39,24 +39,24 @@ next_free net r entry w word m n e = refl
 next_free net r past w word m n e = refl
 
 -- the word i is set, where it isn't the right word of a cell that isn't empty; whether it is reached may change
-module _ (z : Parts) (net : NamedNet NodeName) (reached reached' : ℕ → Bool) (words : List ℕ) (i x : ℕ) (within : i < size z) (same : (w : ℕ) → w ≢ i → reached' w ≡ reached w) (none : (w : ℕ) → part_of z w ≡ left → suc w ≡ i → slice_index words w ≡ 0) where
+module _ (z : Parts) (net : NamedNet NodeName) (reached reached' : ℕ → Bool) (words : List ℕ) (i x : ℕ) (within : i < table_size z) (same : (w : ℕ) → w ≢ i → reached' w ≡ reached w) (none : (w : ℕ) → part_of_word z w ≡ left → suc w ≡ i → slice_index words w ≡ 0) where
   abbrev after : List ℕ
   after = slice_set words i x
 
-  next_same : (w : ℕ) → edge_in net (reached w) (part_of z w) w (slice_index words w) (slice_index after (suc w)) ≡ word_edge z net reached words w
+  next_same : (w : ℕ) → edge_in net (reached w) (part_of_word z w) w (slice_index words w) (slice_index after (suc w)) ≡ word_edge z net reached words w
   next_same w = elim (cases_eq (suc w) i) [
-    | inl e ↦ next_free net (reached w) (part_of z w) w (slice_index words w) (slice_index after (suc w)) (slice_index words (suc w)) (λ q. none w q e)
-    | inr d ↦ ap (edge_in net (reached w) (part_of z w) w (slice_index words w)) (get_or-set_other words i (suc w) x 0 d)
+    | inl e ↦ next_free net (reached w) (part_of_word z w) w (slice_index words w) (slice_index after (suc w)) (slice_index words (suc w)) (λ q. none w q e)
+    | inr d ↦ ap (edge_in net (reached w) (part_of_word z w) w (slice_index words w)) (get_or-set_other words i (suc w) x 0 d)
   ]
 
   others_same : (w : ℕ) → w ≢ i → word_edge z net reached' after w ≡ word_edge z net reached words w
   others_same w d =
-      ap (λ r. edge_in net r (part_of z w) w (slice_index after w) (slice_index after (suc w))) (same w d)
-      ∙ ap (λ y. edge_in net (reached w) (part_of z w) w y (slice_index after (suc w))) (get_or-set_other words i w x 0 d) ∙ next_same w
+      ap (λ r. edge_in net r (part_of_word z w) w (slice_index after w) (slice_index after (suc w))) (same w d)
+      ∙ ap (λ y. edge_in net (reached w) (part_of_word z w) w y (slice_index after (suc w))) (get_or-set_other words i w x 0 d) ∙ next_same w
 
-  pub edges_set : (h : ℕ → ℕ → ℕ) → pairs h (edges_in z net reached' after (size z)) + pairs h (word_edge z net reached words i) ≡ pairs h (edges_in z net reached words (size z)) + pairs h (word_edge z net reached' after i)
+  pub edges_set : (h : ℕ → ℕ → ℕ) → pairs h (edges_in z net reached' after (table_size z)) + pairs h (word_edge z net reached words i) ≡ pairs h (edges_in z net reached words (table_size z)) + pairs h (word_edge z net reached' after i)
   edges_set h =
       let f : ℕ → ℕ = λ w. pairs h (word_edge z net reached' after w) in
       let g : ℕ → ℕ = λ w. pairs h (word_edge z net reached words w) in
-      let e : sum_to f (size z) + g i ≡ sum_to g (size z) + f i = sum_one f g (size z) i within (λ w lt d. ap (pairs h) (others_same w d)) in
-      omega (arith, e, edges_weigh h z net reached' after (size z), edges_weigh h z net reached words (size z))
+      let e : sum_to f (table_size z) + g i ≡ sum_to g (table_size z) + f i = sum_one f g (table_size z) i within (λ w lt d. ap (pairs h) (others_same w d)) in
+      omega (arith, e, edges_weigh h z net reached' after (table_size z), edges_weigh h z net reached words (table_size z))

@@ -15,13 +15,13 @@ use Rattle.ol_wire.specs.declared.view.View.{View}
 use Rattle.ol_wire.specs.References.{IsNodeRef}
 use Rattle.ol_wire.specs.Starts.{facing_pairs}
 use Rattle.ol_wire.specs.Laid.{node_word, field_of}
-use Rattle.ol_wire.specs.Layout.{field, left, part_of, place_of, start_node, start_cell, left_word, block, size}
+use Rattle.ol_wire.specs.Layout.{field, left, part_of_word, place_of, start_node, start_cell, left_word, block, table_size}
 use Rattle.ol_wire.specs.Weights.{total, pairs, weigh, Empties}
 use Rattle.ol_wire.specs.Events.{IsStuckPair}
 use Rattle.ol_wire.specs.Blocks.{block_words}
-use Rattle.ol_wire.specs.Edges.{is_reached, is_made, deaths, times, edges_of}
-use Rattle.ol_wire.specs.Stands.{Stands}
-use Rattle.ol_wire.specs.Views.{past_fuel, IsSpent}
+use Rattle.ol_wire.specs.Edges.{is_reached, is_made, deaths, times_in, edges_of}
+use Rattle.ol_wire.specs.Stands.{StandsForNet}
+use Rattle.ol_wire.specs.Views.{past_fuel, IsSpentView}
 use Rattle.ol_wire.specs.Plays.{cell_at}
 use Rattle.ol_wire.specs.Rule.{KnowsPlan, Table, Kept, Drawn, WordsKeep, CellsKeep, SeatsKeep, IsView, IsLasting, IsOwn, IsMadeRef, IsRightOf, IsInOwnBlock, links_at, filled, IsLinkedField}
 use Rattle.ol_wire.proofs.Places.{part_field, part_entry}
@@ -40,31 +40,31 @@ pub record LinkStep (p : Plan) (s : Table) (k : Kept p s) (id : ℕ) (v : View) 
   -- the word is no view's and no word of the start or of an entry, and what is written is a reference
   pub some_word : 0 < i
   pub below : i < block p.parts (length k.log)
-  pub not_own : IsOwn (part_of p.parts i) → ⊥
+  pub not_own : IsOwn (part_of_word p.parts i) → ⊥
   pub not_start : (c : ℕ) → c < p.parts.cells → (start_cell p.parts c ≢ i) × (suc (start_cell p.parts c) ≢ i)
   pub same_word : get_or k.full i 0 ≡ get_or s.words i 0
   pub made_ref : IsMadeRef p.parts k.log x
   pub unused : (t w : ℕ) → slice_get k.from t ≡ Some w → (w ≢ i) × (suc w ≢ i)
-  pub lasts : IsLasting (part_of p.parts i) → get_or s.words i 0 ≢ 0 → x ≡ get_or s.words i 0
-  pub cells : (w : ℕ) → part_of p.parts w ≡ left → get_or (set k.full i x) w 0 ≢ 0 → IsNodeRef (get_or (set k.full i x) w 0) × IsNodeRef (get_or (set k.full i x) (suc w) 0)
+  pub lasts : IsLasting (part_of_word p.parts i) → get_or s.words i 0 ≢ 0 → x ≡ get_or s.words i 0
+  pub cells : (w : ℕ) → part_of_word p.parts w ≡ left → get_or (set k.full i x) w 0 ≢ 0 → IsNodeRef (get_or (set k.full i x) w 0) × IsNodeRef (get_or (set k.full i x) (suc w) 0)
   -- the view
   pub nothing_due : v.due ≡ []
-  pub knows : (u y : ℕ) → IsIn (u, y) known → IsIn (u, y) v.known ⊎ ((get_or (set s.words i x) u 0 ≡ y) × (y ≢ 0) × IsLasting (part_of p.parts u))
+  pub knows : (u y : ℕ) → IsIn (u, y) known → IsIn (u, y) v.known ⊎ ((get_or (set s.words i x) u 0 ≡ y) × (y ≢ 0) × IsLasting (part_of_word p.parts u))
   pub same_cells : (l : Link) → IsIn l pending → (m : Link) × IsIn m v.pending × (m.cell ≡ l.cell)
   pub unpublished : (l : Link) → IsIn l pending → (get_or (set k.full i x) l.cell 0 ≡ 0) × IsRightOf v l (get_or (set k.full i x) (suc l.cell) 0)
   pub link_refs : (l : Link) → IsIn l pending → IsMadeRef p.parts k.log l.one × IsMadeRef p.parts k.log l.two
   pub fewer : (w : ℕ) → links_at w pending ≤ links_at w v.pending
-  pub published_once : (w : ℕ) → part_of p.parts w ≡ left → times (cell_at p.parts w) published + filled (get_or k.full w 0) ≡ times (cell_at p.parts w) v.published + filled (get_or (set k.full i x) w 0)
+  pub published_once : (w : ℕ) → part_of_word p.parts w ≡ left → times_in (cell_at p.parts w) published + filled (get_or k.full w 0) ≡ times_in (cell_at p.parts w) v.published + filled (get_or (set k.full i x) w 0)
   -- no other link and no cell that was swept has the word
   pub others : (j : ℕ) (u : View) (l : Link) → j ≢ id → get_elem? s.views j ≡ some u → IsIn l u.pending → (l.cell ≢ i) × (suc l.cell ≢ i)
   pub swept : (c : ℕ) → c < v.swept → (left_word p.parts c ≢ i) × (suc (left_word p.parts c) ≢ i)
   pub dead_once : (w : ℕ) → deaths w (set s.views id (linking v published pending known dead)) ≤ bit (is_made p.parts k.log w)
-  pub net : Stands p.parts k.net (is_reached p.parts k.log (set s.views id (linking v published pending known dead))) (edges_of p.parts k.net k.log (set k.full i x) (set s.views id (linking v published pending known dead)))
+  pub net : StandsForNet p.parts k.net (is_reached p.parts k.log (set s.views id (linking v published pending known dead))) (edges_of p.parts k.net k.log (set k.full i x) (set s.views id (linking v published pending known dead)))
 
 -- words that a step on no own word passes by
-module _ (z : Parts) (i : ℕ) (not_own : IsOwn (part_of z i) → ⊥) where
-  own_other : (w : ℕ) → IsOwn (part_of z w) → w ≢ i
-  own_other w o e = not_own (subst (λ u. IsOwn (part_of z u)) e o)
+module _ (z : Parts) (i : ℕ) (not_own : IsOwn (part_of_word z i) → ⊥) where
+  own_other : (w : ℕ) → IsOwn (part_of_word z w) → w ≢ i
+  own_other w o e = not_own (subst (λ u. IsOwn (part_of_word z u)) e o)
 
   start_field_other : (n c : ℕ) → n < z.nodes → c < 2 → start_node z n + c ≢ i
   start_field_other n c lt two = own_other (start_node z n + c) (subst IsOwn (sym (part_field z (Init n) c lt two)) tt)
@@ -74,7 +74,7 @@ module _ (z : Parts) (i : ℕ) (not_own : IsOwn (part_of z i) → ⊥) where
     | inl a ↦ own_other (block z t + j) (subst IsOwn (sym (part_entry z t j lt a)) tt)
     | inr a ↦
         let at : block z t + j ≡ place_of z (Born t ((j - 2) / 2)) + (j - 2) % 2 = omega arith in
-        own_other (block z t + j) (subst IsOwn (sym (ap (part_of z) at ∙ part_field z (Born t ((j - 2) / 2)) ((j - 2) % 2) (lt, omega arith) (omega arith))) tt)
+        own_other (block z t + j) (subst IsOwn (sym (ap (part_of_word z) at ∙ part_field z (Born t ((j - 2) / 2)) ((j - 2) % 2) (lt, omega arith) (omega arith))) tt)
   ]
 
 module _ (p : Plan) (s : Table) (k : Kept p s) (id : ℕ) (v : View) (i x : ℕ) (published : List ℕ) (pending : List Link) (known : List (ℕ × ℕ)) (dead : List ℕ)
@@ -94,7 +94,7 @@ module _ (p : Plan) (s : Table) (k : Kept p s) (id : ℕ) (v : View) (i x : ℕ)
   seen : IsView s v
   seen = (id, here)
 
-  within : i < size z
+  within : i < table_size z
   within = omega (arith, c.below, k.tickets.few)
 
   viewed : (P : View → Type 0) → P w → ((j : ℕ) (u : View) → j ≢ id → get_elem? s.views j ≡ some u → P u) → (u : View) → IsView there u → P u
@@ -123,12 +123,12 @@ module _ (p : Plan) (s : Table) (k : Kept p s) (id : ℕ) (v : View) (i x : ℕ)
   ]
 
   abbrev Known : View → Type 0
-  Known u = (a y : ℕ) → IsIn (a, y) u.known → (get_or (set s.words i x) a 0 ≡ y) × (y ≢ 0) × IsLasting (part_of z a)
+  Known u = (a y : ℕ) → IsIn (a, y) u.known → (get_or (set s.words i x) a 0 ≡ y) × (y ≢ 0) × IsLasting (part_of_word z a)
 
-  lasting : (a : ℕ) → IsLasting (part_of z a) → get_or s.words a 0 ≢ 0 → get_or (set s.words i x) a 0 ≡ get_or s.words a 0
+  lasting : (a : ℕ) → IsLasting (part_of_word z a) → get_or s.words a 0 ≢ 0 → get_or (set s.words i x) a 0 ≡ get_or s.words a 0
   lasting a l ne = elim (cases_eq a i) [
     | inl e ↦
-        let l' : IsLasting (part_of z i) = subst (λ b. IsLasting (part_of z b)) e l in
+        let l' : IsLasting (part_of_word z i) = subst (λ b. IsLasting (part_of_word z b)) e l in
         let ne' : get_or s.words i 0 ≢ 0 = subst (λ b. get_or s.words b 0 ≢ 0) e ne in
         ap (λ b. get_or (set s.words i x) b 0) e ∙ get_or-set_same s.words i x 0 (omega (arith, within, k.words.wide)) ∙ c.lasts l' ne' ∙ ap (λ b. get_or s.words b 0) (sym e)
     | inr d ↦ get_or-set_other s.words i a x 0 d
@@ -140,16 +140,16 @@ module _ (p : Plan) (s : Table) (k : Kept p s) (id : ℕ) (v : View) (i x : ℕ)
   known_new : Known w
   known_new a y m = of (c.knows a y m)
     where
-      of : IsIn {X = ℕ × ℕ} (a, y) v.known ⊎ ((get_or (set s.words i x) a 0 ≡ y) × (y ≢ 0) × IsLasting (part_of z a)) → (get_or (set s.words i x) a 0 ≡ y) × (y ≢ 0) × IsLasting (part_of z a)
+      of : IsIn {X = ℕ × ℕ} (a, y) v.known ⊎ ((get_or (set s.words i x) a 0 ≡ y) × (y ≢ 0) × IsLasting (part_of_word z a)) → (get_or (set s.words i x) a 0 ≡ y) × (y ≢ 0) × IsLasting (part_of_word z a)
       of (inl h) = known_old v seen a y h
       of (inr h) = h
 
-  written : (h : ℕ → ℕ → ℕ) → Empties h → weigh h (set s.words i x) (size z) + total (λ (u : View). pairs h u.due + pairs h u.taken) (set s.views id w) ≡ weigh h full (size z)
+  written : (h : ℕ → ℕ → ℕ) → Empties h → weigh h (set s.words i x) (table_size z) + total (λ (u : View). pairs h u.due + pairs h u.taken) (set s.views id w) ≡ weigh h full (table_size z)
   written h e =
       omega (
         arith,
-        weigh_set h s.words (size z) i x within (omega (arith, k.words.wide)),
-        weigh_set h k.full (size z) i x within (omega (arith, k.words.full_wide)),
+        weigh_set h s.words (table_size z) i x within (omega (arith, k.words.wide)),
+        weigh_set h k.full (table_size z) i x within (omega (arith, k.words.full_wide)),
         ap (h i) c.same_word,
         k.words.written h e,
         total_same (λ (u : View). pairs h u.due + pairs h u.taken) refl,
@@ -177,7 +177,7 @@ module _ (p : Plan) (s : Table) (k : Kept p s) (id : ℕ) (v : View) (i x : ℕ)
   }
 
   abbrev Open : View → Type 0
-  Open u = (l : Link) → IsIn l u.pending → (part_of z l.cell ≡ left) × (get_or full l.cell 0 ≡ 0) × IsRightOf u l (get_or full (suc l.cell) 0) × ((t a : ℕ) → slice_get k.from t ≡ Some a → a ≢ l.cell)
+  Open u = (l : Link) → IsIn l u.pending → (part_of_word z l.cell ≡ left) × (get_or full l.cell 0 ≡ 0) × IsRightOf u l (get_or full (suc l.cell) 0) × ((t a : ℕ) → slice_get k.from t ≡ Some a → a ≢ l.cell)
 
   open_old : (j : ℕ) (u : View) → j ≢ id → get_elem? s.views j ≡ some u → Open u
   open_old j u d e l m =
@@ -190,7 +190,7 @@ module _ (p : Plan) (s : Table) (k : Kept p s) (id : ℕ) (v : View) (i x : ℕ)
       let t = c.same_cells l m in
       let h = k.cells.unpublished v t.0 seen t.1 in
       let n = c.unpublished l m in
-      (ap (part_of z) (sym t.2) ∙ h.0, n.0, n.1, (λ u a at e. h.3 u a at (e ∙ sym t.2)))
+      (ap (part_of_word z) (sym t.2) ∙ h.0, n.0, n.1, (λ u a at e. h.3 u a at (e ∙ sym t.2)))
 
   abbrev Swept : View → Type 0
   Swept u = (a : ℕ) → a < u.swept → (u.holds ≡ p.seats) × ((get_or full (left_word z a) 0 ≡ 0) ⊎ IsStuckPair (get_or full (left_word z a) 0) (get_or full (suc (left_word z a)) 0)) × ((l : Link) → IsIn l u.pending → l.cell ≢ left_word z a)
@@ -214,7 +214,7 @@ module _ (p : Plan) (s : Table) (k : Kept p s) (id : ℕ) (v : View) (i x : ℕ)
     one_link = λ a. omega (arith, k.cells.one_link a, c.fewer a, total_set (λ (u : View). links_at a u.pending) s.views id v w here);
     link_refs = λ u l is. viewed (λ u'. (l' : Link) → IsIn l' u'.pending → IsMadeRef z k.log l'.one × IsMadeRef z k.log l'.two) c.link_refs (λ j u' d e l' m. k.cells.link_refs u' l' (j, e) m) u is l;
     swept = λ u a is. viewed Swept swept_new swept_old u is a;
-    published = λ a is le. omega (arith, k.cells.published a is le, c.published_once a is, total_set (λ (u : View). times (cell_at z a) u.published) s.views id v w here);
+    published = λ a is le. omega (arith, k.cells.published a is le, c.published_once a is, total_set (λ (u : View). times_in (cell_at z a) u.published) s.views id v w here);
   }
 
   none_due : (a y : ℕ) → IsIn {X = ℕ × ℕ} (a, y) v.due → ⊥
@@ -232,11 +232,11 @@ module _ (p : Plan) (s : Table) (k : Kept p s) (id : ℕ) (v : View) (i x : ℕ)
     calm = omega (arith, k.seats.calm, ticket_same, total_same past_fuel refl);
     over = viewed (λ u. u.over ≡ true → (z.fuel ≤ get_or (set s.words i x) 0 0) × HasActive k.net) (over v seen) (λ j u d e. over u (j, e));
     plans = viewed (λ u. 0 < u.holds → KnowsPlan p u) (k.seats.plans v seen) (λ j u d e. k.seats.plans u (j, e));
-    spent = viewed (λ u. u.holds ≡ 0 → IsSpent u) (λ q. absurd (omega (arith, held, q))) (λ j u d e. k.seats.spent u (j, e));
-    taken = λ u a y is. viewed (λ u'. IsIn (a, y) u'.taken → (part_of z a ≡ left) × (y ≢ 0)) (k.seats.taken v a y seen) (λ j u' d e. k.seats.taken u' a y (j, e)) u is;
-    due = λ u a y is. viewed (λ u'. IsIn (a, y) u'.due → (y ≢ 0) × IsOwn (part_of z a) × IsInOwnBlock z u' a) (λ m. absurd (none_due a y m)) (λ j u' d e. k.seats.due u' a y (j, e)) u is;
+    spent = viewed (λ u. u.holds ≡ 0 → IsSpentView u) (λ q. absurd (omega (arith, held, q))) (λ j u d e. k.seats.spent u (j, e));
+    taken = λ u a y is. viewed (λ u'. IsIn (a, y) u'.taken → (part_of_word z a ≡ left) × (y ≢ 0)) (k.seats.taken v a y seen) (λ j u' d e. k.seats.taken u' a y (j, e)) u is;
+    due = λ u a y is. viewed (λ u'. IsIn (a, y) u'.due → (y ≢ 0) × IsOwn (part_of_word z a) × IsInOwnBlock z u' a) (λ m. absurd (none_due a y m)) (λ j u' d e. k.seats.due u' a y (j, e)) u is;
     links = λ u l is. viewed InOwn in_own (λ j u' d e l' m. k.seats.links u' l' (j, e) m) u is l;
-    due_fields = λ u a y n b is. viewed (λ u'. IsIn (a, y) u'.due → part_of z a ≡ field n b → IsLinkedField z k.net u'.pending n b) (λ m e. absurd (none_due a y m)) (λ j u' d e. k.seats.due_fields u' a y n b (j, e)) u is;
+    due_fields = λ u a y n b is. viewed (λ u'. IsIn (a, y) u'.due → part_of_word z a ≡ field n b → IsLinkedField z k.net u'.pending n b) (λ m e. absurd (none_due a y m)) (λ j u' d e. k.seats.due_fields u' a y n b (j, e)) u is;
     made = λ h. total_same (λ (u : View). pairs h u.made) refl ∙ k.seats.made h;
     dead = c.dead_once;
   }

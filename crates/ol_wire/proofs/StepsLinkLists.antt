@@ -6,7 +6,7 @@ use lib.ListN.{get_elem?}
 use Rattle.atomic_table.proofs.Lists.{at_set}
 use Rattle.ol_edges.specs.Edges.{IsIn}
 use Rattle.ol_wire.specs.declared.view.Link.{Link}
-use Rattle.ol_wire.specs.Weights.{numbered, pairs}
+use Rattle.ol_wire.specs.Weights.{weighed_by_place, pairs}
 use Rattle.ol_wire.specs.Rule.{links_at}
 
 -- what holds of the new one, and of each other by its place, holds of each
@@ -42,7 +42,7 @@ number_in n x [] h = elim h [ ]
 number_in {A} n x (y ∷ xs) (inl q) = let e : at_number n y.0 y.1 ≡ 1 = ap (λ b. if b then 1 else 0) (eq-eqb y.0 n (sym (ap (λ (m : ℕ × A). m.0) q))) in omega (arith, e)
 number_in n x (y ∷ xs) (inr h) = omega (arith, number_in n x xs h)
 
-pub number_below : {A : Type 0} (n k : ℕ) (xs : List A) → 1 ≤ numbered (at_number n) k xs → n < k + length xs
+pub number_below : {A : Type 0} (n k : ℕ) (xs : List A) → 1 ≤ weighed_by_place (at_number n) k xs → n < k + length xs
 number_below n k [] h = absurd (omega (arith, h))
 number_below n k (x ∷ xs) h = elim (cases_eq k n) [
   | inl e ↦ omega (arith, e)
@@ -51,14 +51,14 @@ number_below n k (x ∷ xs) h = elim (cases_eq k n) [
       omega (arith, number_below n (suc k) xs (omega (arith, h, e)))
 ]
 
-number_past : {A : Type 0} (n k : ℕ) (xs : List A) → n < k → numbered (at_number n) k xs ≡ 0
+number_past : {A : Type 0} (n k : ℕ) (xs : List A) → n < k → weighed_by_place (at_number n) k xs ≡ 0
 number_past n k [] lt = refl
 number_past n k (x ∷ xs) lt =
     let e : at_number n k x ≡ 0 = ap (λ b. if b then 1 else 0) (ne_eqb k n (λ q. omega (arith, lt, q))) in
     omega (arith, number_past n (suc k) xs (omega (arith, lt)), e)
 
--- a numbered list has each number once at most
-pub number_once : {A : Type 0} (n k : ℕ) (xs : List A) → numbered (at_number n) k xs ≤ 1
+-- a weighed_by_place list has each number once at most
+pub number_once : {A : Type 0} (n k : ℕ) (xs : List A) → weighed_by_place (at_number n) k xs ≤ 1
 number_once n k [] = omega arith
 number_once n k (x ∷ xs) = elim (cases_eq k n) [
   | inl e ↦

@@ -11,7 +11,7 @@ use Rattle.ol_wire.specs.declared.plan.Plan.{Plan}
 use Rattle.ol_wire.specs.declared.view.Link.{Link}
 use Rattle.ol_wire.specs.declared.view.View.{View}
 use Rattle.ol_wire.specs.References.{node_ref, wire_ref, kind_in, index_in, place_in, IsWireRef, IsRef}
-use Rattle.ol_wire.specs.Layout.{Part, ticket, port, field, wire, between, left, right, entry, past, part_of, place_of, port_word, start_cell, block, size}
+use Rattle.ol_wire.specs.Layout.{WordPart, ticket, port, field, wire, between, left, right, entry, past, part_of_word, place_of, port_word, start_cell, block, table_size}
 use Rattle.ol_wire.specs.Events.{Event}
 use Rattle.ol_wire.specs.Edges.{crosses_at, is_reached, is_made, is_wire_made, deaths, edge_to, edges_of, edges_in, pending_in, links_in}
 use Rattle.ol_wire.specs.Stands.{IsEnd, of_port, principal, auxiliary, IsWireEnd}
@@ -27,13 +27,13 @@ use Rattle.std.proofs.lemmas.Option.{slice_get_within}
 use Rattle.ol_edges.proofs.Lists.{in_right}
 
 -- the part of a wire or of a free port
-abbrev pub IsLinked : Part → Type 0
+abbrev pub IsLinked : WordPart → Type 0
 IsLinked (port n) = Unit {0}
 IsLinked (wire j) = Unit {0}
 IsLinked (between t q r) = Unit {0}
 IsLinked other = ⊥
 
-pub linked_not_own : (q : Part) → IsLinked q → IsOwn q → ⊥
+pub linked_not_own : (q : WordPart) → IsLinked q → IsOwn q → ⊥
 linked_not_own (port n) l o = o
 linked_not_own (wire j) l o = o
 linked_not_own (between t a b) l o = o
@@ -44,7 +44,7 @@ linked_not_own right l o = l
 linked_not_own entry l o = l
 linked_not_own past l o = l
 
-pub linked_not_lasting : (q : Part) → IsLinked q → IsLasting q → ⊥
+pub linked_not_lasting : (q : WordPart) → IsLinked q → IsLasting q → ⊥
 linked_not_lasting (port n) l o = o
 linked_not_lasting (wire j) l o = o
 linked_not_lasting (between t a b) l o = o
@@ -57,7 +57,7 @@ linked_not_lasting past l o = l
 
 -- such a word, its place, and its edge
 pub record IsSite (z : Parts) (net : NamedNet NodeName) (log : List Event) (reached : ℕ → Bool) (u : ℕ) : Type 0 where
-  pub part : IsLinked (part_of z u)
+  pub part : IsLinked (part_of_word z u)
   pub some_word : 0 < u
   pub below : u < block z (length log)
   pub before_cells : u < start_cell z 0 ⊎ (block z 0 ≤ u)
@@ -82,7 +82,7 @@ module _ (p : Plan) (s : Table) (k : Kept p s) where
 
   port_site : (n : ℕ) → n < z.free → Site (port_word n)
   port_site n lt =
-      let e : part_of z (port_word n) ≡ port n = part_port z n lt in record {
+      let e : part_of_word z (port_word n) ≡ port n = part_port z n lt in record {
         part = subst IsLinked (sym e) tt;
         some_word = omega arith;
         below = omega arith;
@@ -91,9 +91,9 @@ module _ (p : Plan) (s : Table) (k : Kept p s) where
       }
 
   reached_site : (u : ℕ) → reached u ≡ true → Site u
-  reached_site u is = of (part_of z u) refl (and_parts (is_made z k.log u) (nat_eq (deaths u s.views) 0) is).0
+  reached_site u is = of (part_of_word z u) refl (and_parts (is_made z k.log u) (nat_eq (deaths u s.views) 0) is).0
     where
-      of : (q : Part) → part_of z u ≡ q → is_wire_made k.log q ≡ true → Site u
+      of : (q : WordPart) → part_of_word z u ≡ q → is_wire_made k.log q ≡ true → Site u
       of (wire j) e m =
           let h = is_wire z u j e in record {
             part = subst IsLinked (sym e) tt;
@@ -122,9 +122,9 @@ module _ (p : Plan) (s : Table) (k : Kept p s) where
 
   -- a wire that isn't reached has no edge
   pub dead_edge : (u : ℕ) → reached u ≡ true → (reached' : ℕ → Bool) → reached' u ≡ false → (words : List ℕ) → word_edge z k.net reached' words u ≡ []
-  dead_edge u is reached' gone words = of (part_of z u) refl (and_parts (is_made z k.log u) (nat_eq (deaths u s.views) 0) is).0
+  dead_edge u is reached' gone words = of (part_of_word z u) refl (and_parts (is_made z k.log u) (nat_eq (deaths u s.views) 0) is).0
     where
-      of : (q : Part) → part_of z u ≡ q → is_wire_made k.log q ≡ true → word_edge z k.net reached' words u ≡ []
+      of : (q : WordPart) → part_of_word z u ≡ q → is_wire_made k.log q ≡ true → word_edge z k.net reached' words u ≡ []
       of (wire j) e m = edge_as z k.net reached' words u (wire j) e ∙ ap (λ r. if r then edge_to (wire_ref u) (slice_index words u) else []) gone
       of (between t a b) e m = edge_as z k.net reached' words u (between t a b) e ∙ ap (λ r. if r then edge_to (wire_ref u) (slice_index words u) else []) gone
       of ticket e m = absurd (false≢true m)
@@ -156,7 +156,7 @@ module _ (p : Plan) (s : Table) (k : Kept p s) where
       of (inr e) = reached_site u e
 
   -- a word that no view can hold is written
-  pub word_written : (u : ℕ) → u < size z → (IsOwn (part_of z u) → ⊥) → part_of z u ≢ left → get_or k.full u 0 ≡ get_or s.words u 0
+  pub word_written : (u : ℕ) → u < table_size z → (IsOwn (part_of_word z u) → ⊥) → part_of_word z u ≢ left → get_or k.full u 0 ≡ get_or s.words u 0
   word_written u lt not_own not_left = elim (cases_eq (get_or k.full u 0) 0) [
     | inl e ↦ elim (cases_eq (get_or s.words u 0) 0) [
       | inl f ↦ e ∙ sym f
@@ -204,5 +204,5 @@ module _ (p : Plan) (s : Table) (k : Kept p s) where
   pub link_ends : (v : View) (l : Link) (ls : List Link) → IsView s v → v.pending ≡ l ∷ ls → (1 ≤ ends nat_eq l.one all) × (1 ≤ ends nat_eq l.two all)
   link_ends v l ls is e =
       let first : IsIn (l.one, l.two) (links_in v.pending) = subst (λ (ms : List Link). IsIn {X = ℕ × ℕ} (l.one, l.two) (links_in ms)) (sym e) (inl refl) in
-      let edge : IsIn (l.one, l.two) all = in_right (l.one, l.two) (edges_in z k.net reached k.full (size z)) (pending_in s.views) (pending_there s.views is.0 v (l.one, l.two) is.1 first) in
+      let edge : IsIn (l.one, l.two) all = in_right (l.one, l.two) (edges_in z k.net reached k.full (table_size z)) (pending_in s.views) (pending_there s.views is.0 v (l.one, l.two) is.1 first) in
       (ends_first l.one l.two all edge, ends_second l.two l.one all edge)

@@ -1,7 +1,7 @@
 -- How often the words of dead wires stand in a list.
 use Rattle.std.proofs.Common.{◌≡◌, ◌≢◌, ℕ, zero, suc, ◌+◌, ◌<◌, ◌≤◌, nat_eq, eq-eqb, ne_eqb, if◌then◌else◌, List, [], ◌∷◌, ◌++◌, refl, ap, inl, inr, arith}
 use Rattle.std.proofs.lemmas.Bool.{cases_eq}
-use Rattle.ol_wire.specs.Edges.{times}
+use Rattle.ol_wire.specs.Edges.{times_in}
 use Rattle.ol_wire.specs.LinkSteps.{spread}
 use Rattle.ol_wire.proofs.Alike.{total_append}
 
@@ -15,7 +15,7 @@ pub one_other : (u a : ℕ) → u ≢ a → one_if u a ≡ 0
 one_other u a d = ap (λ b. if b then 1 else 0) (ne_eqb u a d)
 
 -- one number more at the end
-pub times_more : (a : ℕ) (xs : List ℕ) (u : ℕ) → times a (xs ++ u ∷ []) ≡ times a xs + one_if u a
+pub times_more : (a : ℕ) (xs : List ℕ) (u : ℕ) → times_in a (xs ++ u ∷ []) ≡ times_in a xs + one_if u a
 times_more a xs u = omega (arith, total_append (λ y. if nat_eq y a then 1 else 0) xs (u ∷ []))
 
 spread_past : (n : ℕ) (xs : List ℕ) (u : ℕ) → n ≤ u → spread n (xs ++ u ∷ []) ≡ spread n xs
@@ -30,6 +30,6 @@ spread_more (suc n) xs u lt = elim (cases_eq u n) [
 ]
 
 -- where none stands there twice
-pub spread_few : (n : ℕ) (xs : List ℕ) → ((a : ℕ) → times a xs ≤ 1) → spread n xs ≤ n
+pub spread_few : (n : ℕ) (xs : List ℕ) → ((a : ℕ) → times_in a xs ≤ 1) → spread n xs ≤ n
 spread_few zero xs few = omega arith
 spread_few (suc n) xs few = omega (arith, spread_few n xs few, few n)

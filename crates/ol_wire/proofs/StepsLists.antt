@@ -9,7 +9,7 @@ use Rattle.ol_rules.specs.declared.journal.NodeName.{NodeName}
 use Rattle.ol_wire.specs.declared.layout.Parts.{Parts}
 use Rattle.ol_wire.specs.declared.view.View.{View}
 use Rattle.ol_wire.specs.Weights.{total, weigh}
-use Rattle.ol_wire.specs.Layout.{part_of}
+use Rattle.ol_wire.specs.Layout.{part_of_word}
 use Rattle.ol_wire.specs.Edges.{edge_in, edges_in, links_in, pending_in}
 use Rattle.ol_wire.proofs.Alike.{total_append}
 
@@ -61,14 +61,14 @@ module _ (h : ℕ → ℕ → ℕ) where
   ]
 
 module _ (z : Parts) (net : NamedNet NodeName) (r s : ℕ → Bool) (ws vs : List ℕ) (reached : (u : ℕ) → r u ≡ s u) (words : (u : ℕ) → 0 < u → get_or ws u 0 ≡ get_or vs u 0) where
-  one_same : (n : ℕ) → 0 < n → edge_in net (r n) (part_of z n) n (get_or ws n 0) (get_or ws (suc n) 0) ≡ edge_in net (s n) (part_of z n) n (get_or vs n 0) (get_or vs (suc n) 0)
-  one_same n lt = ap (λ b. edge_in net b (part_of z n) n (get_or ws n 0) (get_or ws (suc n) 0)) (reached n) ∙ ap (λ y. edge_in net (s n) (part_of z n) n y (get_or ws (suc n) 0)) (words n lt) ∙ ap (edge_in net (s n) (part_of z n) n (get_or vs n 0)) (words (suc n) (omega arith))
+  one_same : (n : ℕ) → 0 < n → edge_in net (r n) (part_of_word z n) n (get_or ws n 0) (get_or ws (suc n) 0) ≡ edge_in net (s n) (part_of_word z n) n (get_or vs n 0) (get_or vs (suc n) 0)
+  one_same n lt = ap (λ b. edge_in net b (part_of_word z n) n (get_or ws n 0) (get_or ws (suc n) 0)) (reached n) ∙ ap (λ y. edge_in net (s n) (part_of_word z n) n y (get_or ws (suc n) 0)) (words n lt) ∙ ap (edge_in net (s n) (part_of_word z n) n (get_or vs n 0)) (words (suc n) (omega arith))
 
   -- the ticket word has no edge
   pub edges_same : (n : ℕ) → edges_in z net r ws n ≡ edges_in z net s vs n
   edges_same zero = refl
   edges_same (suc zero) = refl
-  edges_same (suc (suc n)) = ap (λ es. es ++ edge_in net (r (suc n)) (part_of z (suc n)) (suc n) (get_or ws (suc n) 0) (get_or ws (suc (suc n)) 0)) (edges_same (suc n)) ∙ ap (λ es. edges_in z net s vs (suc n) ++ es) (one_same (suc n) (omega arith))
+  edges_same (suc (suc n)) = ap (λ es. es ++ edge_in net (r (suc n)) (part_of_word z (suc n)) (suc n) (get_or ws (suc n) 0) (get_or ws (suc (suc n)) 0)) (edges_same (suc n)) ∙ ap (λ es. edges_in z net s vs (suc n) ++ es) (one_same (suc n) (omega arith))
 
 pub pending_set : (l : List View) (j : ℕ) (v w : View) → get_elem? l j ≡ some v → w.pending ≡ v.pending → pending_in (set l j w) ≡ pending_in l
 pending_set [] j v w e q = absurd (some-ne-none v (sym e))

@@ -14,7 +14,7 @@ use Rattle.ol_wire.specs.declared.layout.Parts.{Parts}
 use Rattle.ol_wire.specs.declared.plan.Plan.{Plan}
 use Rattle.ol_wire.specs.declared.view.View.{View}
 use Rattle.ol_wire.specs.References.{node_ref, slot_ref, kind_in, index_in, place_in, IsWireRef, IsRef}
-use Rattle.ol_wire.specs.Layout.{Part, ticket, port, field, wire, between, left, right, entry, past, part_of, place_of, port_word, size}
+use Rattle.ol_wire.specs.Layout.{WordPart, ticket, port, field, wire, between, left, right, entry, past, part_of_word, place_of, port_word, table_size}
 use Rattle.ol_wire.specs.Events.{Event, rule_between}
 use Rattle.ol_wire.specs.Edges.{is_reached, is_made, is_wire_made, edges_in, edges_of, pending_in}
 use Rattle.ol_wire.specs.Stands.{IsEnd, of_port, principal, auxiliary, IsWireEnd}
@@ -31,10 +31,10 @@ use Rattle.ol_rules.proofs.Born.{at_most_two}
 use Rattle.ol_wire.proofs.Event.{event_sides}
 
 -- a wire that has been made is a word of the table
-made_within : (z : Parts) (log : List Event) (w : ℕ) → is_made z log w ≡ true → (0 < w) × (w < size z)
-made_within z log w made = of (part_of z w) refl made
+made_within : (z : Parts) (log : List Event) (w : ℕ) → is_made z log w ≡ true → (0 < w) × (w < table_size z)
+made_within z log w made = of (part_of_word z w) refl made
   where
-    of : (a : Part) → part_of z w ≡ a → is_wire_made log a ≡ true → (0 < w) × (w < size z)
+    of : (a : WordPart) → part_of_word z w ≡ a → is_wire_made log a ≡ true → (0 < w) × (w < table_size z)
     of (wire j) e m = let h = is_wire z w j e in (omega (arith, h), omega (arith, h))
     of (between t q r) e m = let h = is_between z w t q r e in (omega (arith, h), omega (arith, h))
     of ticket e m = absurd (false≢true m)
@@ -83,7 +83,7 @@ module _ (p : Plan) (s : Table) (k : Kept p s) where
   due_past v zero x is m = absurd (k.seats.due v zero x is m).1
   due_past v (suc i) x is m = omega arith
 
-  pub full_of_claimed : (v : View) (w x : ℕ) → IsView s v → IsIn (w, x) v.taken → (part_of z w ≡ left) × (get_or k.full w 0 ≡ x) × (get_or k.full w 0 ≢ 0)
+  pub full_of_claimed : (v : View) (w x : ℕ) → IsView s v → IsIn (w, x) v.taken → (part_of_word z w ≡ left) × (get_or k.full w 0 ≡ x) × (get_or k.full w 0 ≢ 0)
   full_of_claimed v w x is m =
       let h = k.seats.taken v w x is m in
       let e = held_full p s k v w x is (inr m) in
@@ -112,9 +112,9 @@ module _ (p : Plan) (s : Table) (k : Kept p s) where
       all = edges_of z k.net k.log k.full s.views
 
       edge : IsIn (slot_ref place, y) all
-      edge = in_left _ (edges_in z k.net (is_reached z k.log s.views) k.full (size z)) (pending_in s.views)
-          (edge_there z k.net (is_reached z k.log s.views) k.full (size z) place _ (field_within p s k x m i c h two)
-          (own_edge k.net _ (part_of z place) x c place y (get_or k.full (suc place) 0) (part_field z x c (is_placed p s k x m i h) two) (live_there k.net x m i h) some_word))
+      edge = in_left _ (edges_in z k.net (is_reached z k.log s.views) k.full (table_size z)) (pending_in s.views)
+          (edge_there z k.net (is_reached z k.log s.views) k.full (table_size z) place _ (field_within p s k x m i c h two)
+          (own_edge k.net _ (part_of_word z place) x c place y (get_or k.full (suc place) 0) (part_field z x c (is_placed p s k x m i h) two) (live_there k.net x m i h) some_word))
 
       of_end : (q : NamedPort NodeName) (e : ℕ) → IsEnd z k.net q e → e ≡ y → IsWireRef y → IsRefOf z y
       of_end q e (of_port {n = n} low) same sort =
@@ -161,7 +161,7 @@ module _ (p : Plan) (s : Table) (k : Kept p s) where
       here : IsIn {X = ℕ × ℕ} (w, v.last.0) v.taken
       here = subst (λ (l : List (ℕ × ℕ)). IsIn {X = ℕ × ℕ} (w, v.last.0) l) (sym up.taken) (inl refl)
 
-      cell : (part_of z w ≡ left) × (get_or k.full w 0 ≡ v.last.0) × (get_or k.full w 0 ≢ 0)
+      cell : (part_of_word z w ≡ left) × (get_or k.full w 0 ≡ v.last.0) × (get_or k.full w 0 ≢ 0)
       cell = full_of_claimed v w v.last.0 is here
 
       other : get_or k.full (suc w) 0 ≡ v.last.1

@@ -9,7 +9,7 @@ use Rattle.ol_wire.specs.declared.layout.Parts.{Parts}
 use Rattle.ol_wire.specs.declared.plan.Plan.{Plan}
 use Rattle.ol_wire.specs.declared.view.View.{View}
 use Rattle.ol_wire.specs.Weights.{pairs, weigh}
-use Rattle.ol_wire.specs.Layout.{Part, left, part_of, size, left_word, cells_of}
+use Rattle.ol_wire.specs.Layout.{WordPart, left, part_of_word, table_size, left_word, cells_of}
 use Rattle.ol_wire.specs.Idle.{IsIdle}
 use Rattle.ol_wire.specs.StepPlays.{missing, holding, paired, knowing, late, wrote, rest}
 use Rattle.ol_wire.specs.Rule.{Table, Kept, Drawn, IsLasting}
@@ -19,20 +19,20 @@ use Rattle.ol_wire.proofs.StepsLists.{weigh_set}
 use Rattle.ol_wire.proofs.StepsKeep.{Change, after, step_keeps}
 use Rattle.ol_wire.proofs.StepsSwept.{swept_empty}
 
-ticket_first : (z : Parts) (u : ℕ) (a : Part) → part_of z u ≡ a → part_of z 0 ≢ a → 0 < u
+ticket_first : (z : Parts) (u : ℕ) (a : WordPart) → part_of_word z u ≡ a → part_of_word z 0 ≢ a → 0 < u
 ticket_first z zero a e d = absurd (d e)
 ticket_first z (suc u) a e d = omega arith
 
-pub left_past : (z : Parts) (u : ℕ) → part_of z u ≡ left → 0 < u
+pub left_past : (z : Parts) (u : ℕ) → part_of_word z u ≡ left → 0 < u
 left_past z u e = ticket_first z u left e (λ q. cc)
 
-pub lasting_past : (z : Parts) (u : ℕ) → IsLasting (part_of z u) → 0 < u
+pub lasting_past : (z : Parts) (u : ℕ) → IsLasting (part_of_word z u) → 0 < u
 lasting_past z zero l = absurd l
 lasting_past z (suc u) l = omega arith
 
 -- a left word isn't one that lasts
-pub left_passes : (z : Parts) (u w : ℕ) → IsLasting (part_of z u) → part_of z w ≡ left → u ≢ w
-left_passes z u w l e q = subst IsLasting (ap (part_of z) q ∙ e) l
+pub left_passes : (z : Parts) (u w : ℕ) → IsLasting (part_of_word z u) → part_of_word z w ≡ left → u ≢ w
+left_passes z u w l e q = subst IsLasting (ap (part_of_word z) q ∙ e) l
 
 module _ (p : Plan) (s : Table) (k : Kept p s) (id : ℕ) (v : View) (here : get_elem? s.views id ≡ some v) (held : 0 < v.holds) where
   -- the word 0 stays
@@ -42,14 +42,14 @@ module _ (p : Plan) (s : Table) (k : Kept p s) (id : ℕ) (v : View) (here : get
   same_tickets : (i x : ℕ) → 0 < i → Drawn p.parts.fuel (get_or (set s.words i x) 0 0) (length k.log)
   same_tickets i x lt = subst (λ n. Drawn p.parts.fuel n (length k.log)) (sym (still i x lt)) k.tickets
 
-  word_set : (h : ℕ → ℕ → ℕ) (i x : ℕ) → i < size p.parts → weigh h (set s.words i x) (size p.parts) + h i (get_or s.words i 0) ≡ weigh h s.words (size p.parts) + h i x
-  word_set h i x lt = weigh_set h s.words (size p.parts) i x lt (omega (arith, k.words.wide))
+  word_set : (h : ℕ → ℕ → ℕ) (i x : ℕ) → i < table_size p.parts → weigh h (set s.words i x) (table_size p.parts) + h i (get_or s.words i 0) ≡ weigh h s.words (table_size p.parts) + h i x
+  word_set h i x lt = weigh_set h s.words (table_size p.parts) i x lt (omega (arith, k.words.wide))
 
-  module _ (w : ℕ) (is : part_of p.parts w ≡ left) where
-    left_lasts : (x u : ℕ) → IsLasting (part_of p.parts u) → get_or s.words u 0 ≢ 0 → get_or (set s.words w x) u 0 ≡ get_or s.words u 0
+  module _ (w : ℕ) (is : part_of_word p.parts w ≡ left) where
+    left_lasts : (x u : ℕ) → IsLasting (part_of_word p.parts u) → get_or s.words u 0 ≢ 0 → get_or (set s.words w x) u 0 ≡ get_or s.words u 0
     left_lasts x u l ne = get_or-set_other s.words w u x 0 (left_passes p.parts u w l is)
 
-    within : w < size p.parts
+    within : w < table_size p.parts
     within = omega (arith, (is_left p.parts w is).1)
 
     miss : (c : ℕ) → c < cells_of p.parts → w ≡ left_word p.parts c → IsIdle v → get_or s.words w 0 ≡ 0 → Change p s k v (missing v w) w 0 k.full
@@ -99,18 +99,18 @@ module _ (p : Plan) (s : Table) (k : Kept p s) (id : ℕ) (v : View) (here : get
       swept = λ n lt. inl lt;
     }
       where
-        claimed : (u y : ℕ) → IsIn {X = ℕ × ℕ} (u, y) ((w, get_or s.words w 0) ∷ v.taken) → IsIn {X = ℕ × ℕ} (u, y) v.taken ⊎ ((part_of p.parts u ≡ left) × (y ≢ 0))
+        claimed : (u y : ℕ) → IsIn {X = ℕ × ℕ} (u, y) ((w, get_or s.words w 0) ∷ v.taken) → IsIn {X = ℕ × ℕ} (u, y) v.taken ⊎ ((part_of_word p.parts u ≡ left) × (y ≢ 0))
         claimed u y (inl e) =
             let a : u ≡ w = ap (λ (q : ℕ × ℕ). q.0) e in
             let b : y ≡ get_or s.words w 0 = ap (λ (q : ℕ × ℕ). q.1) e in
-            inr (ap (part_of p.parts) a ∙ is, (λ q. some_pair (sym b ∙ q)))
+            inr (ap (part_of_word p.parts) a ∙ is, (λ q. some_pair (sym b ∙ q)))
         claimed u y (inr m) = inl m
 
     pub claim_keeps : get_or s.words w 0 ≢ 0 → Kept p (after s w 0 id (holding v w (get_or s.words w 0)))
     claim_keeps some_pair = step_keeps p s k id v (holding v w (get_or s.words w 0)) w 0 k.full here held (claim some_pair)
 
   -- a look at a word that lasts and isn't empty: `last` may change
-  module _ (u : ℕ) (lasting : IsLasting (part_of p.parts u)) (lt : u < size p.parts) (some_word : get_or s.words u 0 ≢ 0) where
+  module _ (u : ℕ) (lasting : IsLasting (part_of_word p.parts u)) (lt : u < table_size p.parts) (some_word : get_or s.words u 0 ≢ 0) where
     unchanged : set s.words u (get_or s.words u 0) ≡ s.words
     unchanged = set-get_or s.words u 0
 
@@ -136,11 +136,11 @@ module _ (p : Plan) (s : Table) (k : Kept p s) (id : ℕ) (v : View) (here : get
       swept = λ n lt. inl lt;
     }
       where
-        seen : (a y : ℕ) → IsIn {X = ℕ × ℕ} (a, y) ((u, get_or s.words u 0) ∷ v.known) → IsIn {X = ℕ × ℕ} (a, y) v.known ⊎ ((get_or (set s.words u (get_or s.words u 0)) a 0 ≡ y) × (y ≢ 0) × IsLasting (part_of p.parts a))
+        seen : (a y : ℕ) → IsIn {X = ℕ × ℕ} (a, y) ((u, get_or s.words u 0) ∷ v.known) → IsIn {X = ℕ × ℕ} (a, y) v.known ⊎ ((get_or (set s.words u (get_or s.words u 0)) a 0 ≡ y) × (y ≢ 0) × IsLasting (part_of_word p.parts a))
         seen a y (inl e) =
             let b : a ≡ u = ap (λ (q : ℕ × ℕ). q.0) e in
             let c : y ≡ get_or s.words u 0 = ap (λ (q : ℕ × ℕ). q.1) e in
-            inr (ap (λ ws. get_or ws a 0) unchanged ∙ ap (λ (j : ℕ). get_or s.words j 0) b ∙ sym c, (λ q. some_word (sym c ∙ q)), subst (λ (j : ℕ). IsLasting (part_of p.parts j)) (sym b) lasting)
+            inr (ap (λ ws. get_or ws a 0) unchanged ∙ ap (λ (j : ℕ). get_or s.words j 0) b ∙ sym c, (λ q. some_word (sym c ∙ q)), subst (λ (j : ℕ). IsLasting (part_of_word p.parts j)) (sym b) lasting)
         seen a y (inr m) = inl m
 
     look_keeps : (last : ℕ × ℕ) → Kept p (after s u (get_or s.words u 0) id (record (knowing v u (get_or s.words u 0)) { last = last }))
@@ -208,7 +208,7 @@ module _ (p : Plan) (s : Table) (k : Kept p s) (id : ℕ) (v : View) (here : get
       dead = refl;
       wide = length-set k.full 0 more;
       same = λ u lt. get_or-set_other k.full 0 u more 0 (λ e. omega arith);
-      written = λ h z. omega (arith, word_set h 0 more (omega arith), weigh_set h k.full (size p.parts) 0 more (omega arith) (omega (arith, k.words.full_wide)), ap (h 0) stands);
+      written = λ h z. omega (arith, word_set h 0 more (omega arith), weigh_set h k.full (table_size p.parts) 0 more (omega arith) (omega (arith, k.words.full_wide)), ap (h 0) stands);
       tickets = record { few = k.tickets.few; below = λ low. absurd (omega (arith, one_more, high, low)); above = λ _. k.tickets.above high };
       up = omega (arith, one_more);
       calm = omega (arith, one_more, held, ap (λ b. if b then v.holds else 0) under);

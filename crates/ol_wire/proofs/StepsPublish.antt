@@ -9,10 +9,10 @@ use Rattle.ol_wire.specs.declared.plan.Plan.{Plan}
 use Rattle.ol_wire.specs.declared.view.Link.{Link}
 use Rattle.ol_wire.specs.declared.view.View.{View}
 use Rattle.ol_wire.specs.References.{IsNodeRef}
-use Rattle.ol_wire.specs.Layout.{left, right, part_of, block, size, left_word}
+use Rattle.ol_wire.specs.Layout.{left, right, part_of_word, block, table_size, left_word}
 use Rattle.ol_wire.specs.Weights.{pairs}
-use Rattle.ol_wire.specs.Edges.{is_reached, is_made, deaths, times, edges_of, edges_in, pending_in, links_in}
-use Rattle.ol_wire.specs.Stands.{Stands}
+use Rattle.ol_wire.specs.Edges.{is_reached, is_made, deaths, times_in, edges_of, edges_in, pending_in, links_in}
+use Rattle.ol_wire.specs.Stands.{StandsForNet}
 use Rattle.ol_wire.specs.Plays.{cell_at}
 use Rattle.ol_wire.specs.StepPlays.{rest, knowing, publishing}
 use Rattle.ol_wire.specs.Rule.{Table, Kept, IsView, IsLasting, IsOwn, IsRightOf, filled}
@@ -47,16 +47,16 @@ module _ (p : Plan) (s : Table) (k : Kept p s) (id : ℕ) (v : View) (here : get
   seen : IsView s v
   seen = (id, here)
 
-  is_cell : part_of z l.cell ≡ left
+  is_cell : part_of_word z l.cell ≡ left
   is_cell = (cell_open p s k id v here l ls pending).0
 
   empty : get_or k.full l.cell 0 ≡ 0
   empty = (cell_open p s k id v here l ls pending).1
 
-  is_right : part_of z (suc l.cell) ≡ right
+  is_right : part_of_word z (suc l.cell) ≡ right
   is_right = right_part p s k id v here l ls pending
 
-  within : suc l.cell < size z
+  within : suc l.cell < table_size z
   within = (is_left z l.cell is_cell).1
 
   blocks : (block z 0 ≤ l.cell) × (suc l.cell < block z (length k.log))
@@ -68,7 +68,7 @@ module _ (p : Plan) (s : Table) (k : Kept p s) (id : ℕ) (v : View) (here : get
   -- the same wires are reached where no wire died
   module _ (next : View) (same_dead : next.dead ≡ v.dead) where
     same_deaths : (a : ℕ) → deaths a (set s.views id next) ≡ deaths a s.views
-    same_deaths a = omega (arith, ap (times a) same_dead, total_set (λ (w : View). times a w.dead) s.views id v next here)
+    same_deaths a = omega (arith, ap (times_in a) same_dead, total_set (λ (w : View). times_in a w.dead) s.views id v next here)
 
     same_reached : is_reached z k.log (set s.views id next) ≡ reached
     same_reached = λ n a. (ap (λ d. is_made z k.log a && nat_eq d 0) (same_deaths a)) n
@@ -76,10 +76,10 @@ module _ (p : Plan) (s : Table) (k : Kept p s) (id : ℕ) (v : View) (here : get
     once : (a : ℕ) → deaths a (set s.views id next) ≤ bit (is_made z k.log a)
     once a = omega (arith, same_deaths a, k.seats.dead a)
 
-    net_stands : (full : List ℕ) → Alike old_edges (edges_in z k.net reached full (size z) ++ pending_in (set s.views id next)) → Stands z k.net (is_reached z k.log (set s.views id next)) (edges_of z k.net k.log full (set s.views id next))
+    net_stands : (full : List ℕ) → Alike old_edges (edges_in z k.net reached full (table_size z) ++ pending_in (set s.views id next)) → StandsForNet z k.net (is_reached z k.log (set s.views id next)) (edges_of z k.net k.log full (set s.views id next))
     net_stands full alike =
-        subst (λ (r : ℕ → Bool). Stands z k.net r (edges_in z k.net r full (size z) ++ pending_in (set s.views id next))) (sym same_reached)
-        (stands_alike z k.net reached old_edges (edges_in z k.net reached full (size z) ++ pending_in (set s.views id next)) alike k.stands)
+        subst (λ (r : ℕ → Bool). StandsForNet z k.net r (edges_in z k.net r full (table_size z) ++ pending_in (set s.views id next))) (sym same_reached)
+        (stands_alike z k.net reached old_edges (edges_in z k.net reached full (table_size z) ++ pending_in (set s.views id next)) alike k.stands)
 
   -- the right word
   abbrev right_full : List ℕ
@@ -91,20 +91,20 @@ module _ (p : Plan) (s : Table) (k : Kept p s) (id : ℕ) (v : View) (here : get
   right_else : (w : ℕ) → w ≢ suc l.cell → get_or right_full w 0 ≡ get_or k.full w 0
   right_else w d = get_or-set_other k.full (suc l.cell) w l.two 0 d
 
-  right_not_own : IsOwn (part_of z (suc l.cell)) → ⊥
+  right_not_own : IsOwn (part_of_word z (suc l.cell)) → ⊥
   right_not_own o = subst IsOwn is_right o
 
-  right_lasting : IsLasting (part_of z (suc l.cell))
+  right_lasting : IsLasting (part_of_word z (suc l.cell))
   right_lasting = subst IsLasting (sym is_right) tt
 
   right_written : get_or k.full (suc l.cell) 0 ≡ get_or s.words (suc l.cell) 0
   right_written = word_written p s k (suc l.cell) within right_not_own (λ e. let clash : right ≡ left = sym is_right ∙ e in absurd (cc))
 
-  left_of : (w : ℕ) → part_of z w ≡ left → w ≢ suc l.cell
+  left_of : (w : ℕ) → part_of_word z w ≡ left → w ≢ suc l.cell
   left_of w e = left_right p s k id v here l ls pending w (suc l.cell) e is_right
 
   -- the edges are the same
-  right_edges : Alike old_edges (edges_in z k.net reached right_full (size z) ++ pending_in (set s.views id (knowing v (suc l.cell) l.two)))
+  right_edges : Alike old_edges (edges_in z k.net reached right_full (table_size z) ++ pending_in (set s.views id (knowing v (suc l.cell) l.two)))
   right_edges h even =
       let none : (ws : List ℕ) → pairs h (word_edge z k.net reached ws (suc l.cell)) ≡ 0 = λ ws. ap (pairs h) (edge_as z k.net reached ws (suc l.cell) right is_right) in
       omega (
@@ -113,8 +113,8 @@ module _ (p : Plan) (s : Table) (k : Kept p s) (id : ℕ) (v : View) (here : get
         none k.full,
         none right_full,
         pending_weigh h s.views id v (knowing v (suc l.cell) l.two) here,
-        pairs_append h (edges_in z k.net reached k.full (size z)) (pending_in s.views),
-        pairs_append h (edges_in z k.net reached right_full (size z)) (pending_in (set s.views id (knowing v (suc l.cell) l.two))),
+        pairs_append h (edges_in z k.net reached k.full (table_size z)) (pending_in s.views),
+        pairs_append h (edges_in z k.net reached right_full (table_size z)) (pending_in (set s.views id (knowing v (suc l.cell) l.two))),
       )
 
   right_step : LinkStep p s k id v (suc l.cell) l.two v.published v.pending ((suc l.cell, l.two) ∷ v.known) v.dead
@@ -145,7 +145,7 @@ module _ (p : Plan) (s : Table) (k : Kept p s) (id : ℕ) (v : View) (here : get
       was (inl e) ne = absurd (ne (sym right_written ∙ e))
       was (inr h) ne = sym h.2 ∙ right_written
 
-      cells_after : (w : ℕ) → part_of z w ≡ left → get_or right_full w 0 ≢ 0 → IsNodeRef (get_or right_full w 0) × IsNodeRef (get_or right_full (suc w) 0)
+      cells_after : (w : ℕ) → part_of_word z w ≡ left → get_or right_full w 0 ≢ 0 → IsNodeRef (get_or right_full w 0) × IsNodeRef (get_or right_full (suc w) 0)
       cells_after w is ne = elim (cases_eq w l.cell) [
         | inl e ↦ absurd (ne (right_else w (left_of w is) ∙ ap (λ a. get_or k.full a 0) e ∙ empty))
         | inr d ↦
@@ -155,13 +155,13 @@ module _ (p : Plan) (s : Table) (k : Kept p s) (id : ℕ) (v : View) (here : get
             (subst IsNodeRef (sym e) h.0, subst IsNodeRef (sym f) h.1)
       ]
 
-      known_after : (a y : ℕ) → IsIn {X = ℕ × ℕ} (a, y) ((suc l.cell, l.two) ∷ v.known) → IsIn {X = ℕ × ℕ} (a, y) v.known ⊎ ((get_or (set s.words (suc l.cell) l.two) a 0 ≡ y) × (y ≢ 0) × IsLasting (part_of z a))
+      known_after : (a y : ℕ) → IsIn {X = ℕ × ℕ} (a, y) ((suc l.cell, l.two) ∷ v.known) → IsIn {X = ℕ × ℕ} (a, y) v.known ⊎ ((get_or (set s.words (suc l.cell) l.two) a 0 ≡ y) × (y ≢ 0) × IsLasting (part_of_word z a))
       known_after a y (inr i) = inl i
       known_after a y (inl e) =
           let f : a ≡ suc l.cell = ap (λ (q : ℕ × ℕ). q.0) e in
           let g : y ≡ l.two = ap (λ (q : ℕ × ℕ). q.1) e in
           let h : get_or (set s.words (suc l.cell) l.two) (suc l.cell) 0 ≡ l.two = get_or-set_same s.words (suc l.cell) l.two 0 (omega (arith, within, k.words.wide)) in
-          inr (ap (λ b. get_or (set s.words (suc l.cell) l.two) b 0) f ∙ h ∙ sym g, (λ q. node_some l.two two_node (sym g ∙ q)), subst (λ b. IsLasting (part_of z b)) (sym f) right_lasting)
+          inr (ap (λ b. get_or (set s.words (suc l.cell) l.two) b 0) f ∙ h ∙ sym g, (λ q. node_some l.two two_node (sym g ∙ q)), subst (λ b. IsLasting (part_of_word z b)) (sym f) right_lasting)
 
       open_after : (m : Link) → IsIn m v.pending → (get_or right_full m.cell 0 ≡ 0) × IsRightOf v m (get_or right_full (suc m.cell) 0)
       open_after m i =
@@ -189,7 +189,7 @@ module _ (p : Plan) (s : Table) (k : Kept p s) (id : ℕ) (v : View) (here : get
     left_else : (w : ℕ) → w ≢ l.cell → get_or left_full w 0 ≡ get_or k.full w 0
     left_else w d = get_or-set_other k.full l.cell w l.one 0 d
 
-    right_of : (w : ℕ) → part_of z w ≡ left → suc w ≢ l.cell
+    right_of : (w : ℕ) → part_of_word z w ≡ left → suc w ≢ l.cell
     right_of w e q = left_right p s k id v here l ls pending l.cell (suc w) is_cell (is_left z w e).0 (sym q)
 
     two_there : get_or left_full (suc l.cell) 0 ≡ l.two
@@ -208,7 +208,7 @@ module _ (p : Plan) (s : Table) (k : Kept p s) (id : ℕ) (v : View) (here : get
     behind_in m i = subst (λ (ms : List Link). IsIn m ms) (sym pending) (inr i)
 
     -- the pending edge is the cell's now
-    left_edges : Alike old_edges (edges_in z k.net reached left_full (size z) ++ pending_in (set s.views id (publishing v l.cell)))
+    left_edges : Alike old_edges (edges_in z k.net reached left_full (table_size z) ++ pending_in (set s.views id (publishing v l.cell)))
     left_edges h even =
         let none : pairs h (word_edge z k.net reached k.full l.cell) ≡ 0 = ap (pairs h) (edge_as z k.net reached k.full l.cell left is_cell ∙ ap (λ y. if y == 0 then [] else (y, get_or k.full (suc l.cell) 0) ∷ []) empty) in
         let one : pairs h (word_edge z k.net reached left_full l.cell) ≡ h l.one l.two + 0 =
@@ -222,8 +222,8 @@ module _ (p : Plan) (s : Table) (k : Kept p s) (id : ℕ) (v : View) (here : get
           one,
           head,
           pending_weigh h s.views id v (publishing v l.cell) here,
-          pairs_append h (edges_in z k.net reached k.full (size z)) (pending_in s.views),
-          pairs_append h (edges_in z k.net reached left_full (size z)) (pending_in (set s.views id (publishing v l.cell))),
+          pairs_append h (edges_in z k.net reached k.full (table_size z)) (pending_in s.views),
+          pairs_append h (edges_in z k.net reached left_full (table_size z)) (pending_in (set s.views id (publishing v l.cell))),
         )
 
     left_step : LinkStep p s k id v l.cell l.one published (rest v.pending) [] v.dead
@@ -252,7 +252,7 @@ module _ (p : Plan) (s : Table) (k : Kept p s) (id : ℕ) (v : View) (here : get
       net = net_stands (publishing v l.cell) refl left_full left_edges;
     }
       where
-        cells_after : (w : ℕ) → part_of z w ≡ left → get_or left_full w 0 ≢ 0 → IsNodeRef (get_or left_full w 0) × IsNodeRef (get_or left_full (suc w) 0)
+        cells_after : (w : ℕ) → part_of_word z w ≡ left → get_or left_full w 0 ≢ 0 → IsNodeRef (get_or left_full w 0) × IsNodeRef (get_or left_full (suc w) 0)
         cells_after w is ne = elim (cases_eq w l.cell) [
           | inl e ↦ (subst (λ a. IsNodeRef (get_or left_full a 0)) (sym e) (subst IsNodeRef (sym left_at) one_node), subst (λ a. IsNodeRef (get_or left_full (suc a) 0)) (sym e) (subst IsNodeRef (sym two_there) two_node))
           | inr d ↦
@@ -266,13 +266,13 @@ module _ (p : Plan) (s : Table) (k : Kept p s) (id : ℕ) (v : View) (here : get
         one : ℕ → ℕ
         one c = if nat_eq (cell_at v.parts l.cell) c then 1 else 0
 
-        more : (c : ℕ) → times c published ≡ times c v.published + one c
+        more : (c : ℕ) → times_in c published ≡ times_in c v.published + one c
         more c = omega (arith, total_append (λ y. if nat_eq y c then 1 else 0) v.published (cell_at v.parts l.cell ∷ []))
 
         number_is : cell_at v.parts l.cell ≡ cell_at z l.cell
         number_is = ap (λ (y : Parts). cell_at y l.cell) (k.seats.plans v seen held).0
 
-        published_once : (w : ℕ) → part_of z w ≡ left → times (cell_at z w) published + filled (get_or k.full w 0) ≡ times (cell_at z w) v.published + filled (get_or left_full w 0)
+        published_once : (w : ℕ) → part_of_word z w ≡ left → times_in (cell_at z w) published + filled (get_or k.full w 0) ≡ times_in (cell_at z w) v.published + filled (get_or left_full w 0)
         published_once w is = elim (cases_eq w l.cell) [
           | inl e ↦
               let same : one (cell_at z w) ≡ 1 = ap (λ b. if b then 1 else 0) (eq-eqb (cell_at v.parts l.cell) (cell_at z w) (number_is ∙ ap (cell_at z) (sym e))) in

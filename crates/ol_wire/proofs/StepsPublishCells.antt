@@ -12,7 +12,7 @@ use Rattle.ol_wire.specs.declared.plan.Plan.{Plan}
 use Rattle.ol_wire.specs.declared.view.Link.{Link}
 use Rattle.ol_wire.specs.declared.view.View.{View}
 use Rattle.ol_wire.specs.Events.{entry_of}
-use Rattle.ol_wire.specs.Layout.{left, right, entry, part_of, start_cell, block, left_word, cells_of}
+use Rattle.ol_wire.specs.Layout.{left, right, entry, part_of_word, start_cell, block, left_word, cells_of}
 use Rattle.ol_wire.specs.Weights.{pairs}
 use Rattle.ol_wire.specs.Rule.{Table, Kept, IsView, IsMadeRef, IsRightOf, links_at, entries_of}
 use Rattle.ol_wire.proofs.Places.{is_left, part_cell, part_entry}
@@ -31,13 +31,13 @@ module _ (p : Plan) (s : Table) (k : Kept p s) (id : ℕ) (v : View) (here : get
   pub first_in : IsIn l v.pending
   first_in = subst (λ (ms : List Link). IsIn l ms) (sym pending) (inl refl)
 
-  pub cell_open : (part_of z l.cell ≡ left) × (get_or k.full l.cell 0 ≡ 0) × IsRightOf v l (get_or k.full (suc l.cell) 0) × ((t w : ℕ) → slice_get k.from t ≡ Some w → w ≢ l.cell)
+  pub cell_open : (part_of_word z l.cell ≡ left) × (get_or k.full l.cell 0 ≡ 0) × IsRightOf v l (get_or k.full (suc l.cell) 0) × ((t w : ℕ) → slice_get k.from t ≡ Some w → w ≢ l.cell)
   cell_open = k.cells.unpublished v l seen first_in
 
   pub ends_made : IsMadeRef z k.log l.one × IsMadeRef z k.log l.two
   ends_made = k.cells.link_refs v l seen first_in
 
-  pub right_part : part_of z (suc l.cell) ≡ right
+  pub right_part : part_of_word z (suc l.cell) ≡ right
   right_part = (is_left z l.cell cell_open.0).0
 
   drawn : (t : ℕ) (x : Entry) → IsIn (t, x) v.made → t < length k.log
@@ -54,7 +54,7 @@ module _ (p : Plan) (s : Table) (k : Kept p s) (id : ℕ) (v : View) (here : get
     | inl e ↦ elim (cases_lt (suc t) z.fuel) [
       | inl b ↦
           let at : suc l.cell ≡ block z (suc t) + 0 = omega (arith, e) in
-          let clash : right ≡ entry = sym right_part ∙ ap (part_of z) at ∙ part_entry z (suc t) 0 b (omega arith) in
+          let clash : right ≡ entry = sym right_part ∙ ap (part_of_word z) at ∙ part_entry z (suc t) 0 b (omega arith) in
           absurd (cc)
       | inr b ↦ absurd (omega (arith, (is_left z l.cell cell_open.0).1, e, b))
     ]
@@ -88,8 +88,8 @@ module _ (p : Plan) (s : Table) (k : Kept p s) (id : ℕ) (v : View) (here : get
       )
 
   -- a left word is no right word
-  pub left_right : (a b : ℕ) → part_of z a ≡ left → part_of z b ≡ right → a ≢ b
-  left_right a b e f q = let clash : left ≡ right = sym e ∙ ap (part_of z) q ∙ f in absurd (cc)
+  pub left_right : (a b : ℕ) → part_of_word z a ≡ left → part_of_word z b ≡ right → a ≢ b
+  left_right a b e f q = let clash : left ≡ right = sym e ∙ ap (part_of_word z) q ∙ f in absurd (cc)
 
   pub swept_apart : (c : ℕ) → c < v.swept → (left_word z c ≢ l.cell) × (suc (left_word z c) ≢ l.cell) × (left_word z c ≢ suc l.cell)
   swept_apart c lt =

@@ -6,7 +6,7 @@ use Rattle.ol_edges.specs.Edges.{IsIn}
 use Rattle.ol_wire.specs.declared.plan.Plan.{Plan}
 use Rattle.ol_wire.specs.declared.view.View.{View}
 use Rattle.ol_wire.specs.Weights.{pairs}
-use Rattle.ol_wire.specs.Layout.{left, part_of, size, left_word, cells_of}
+use Rattle.ol_wire.specs.Layout.{left, part_of_word, table_size, left_word, cells_of}
 use Rattle.ol_wire.specs.Events.{rule_between}
 use Rattle.ol_wire.specs.Plays.{cell_at, swept_on}
 use Rattle.ol_wire.specs.StepPlays.{returned, rest, cell_in_hand}
@@ -26,7 +26,7 @@ module _ (p : Plan) (s : Table) (k : Kept p s) (id : ℕ) (v : View) (here : get
     taken : IsIn (w, x) v.taken
     taken = subst (λ (l : List (ℕ × ℕ)). IsIn {X = ℕ × ℕ} (w, x) l) (sym in_hand) (inl refl)
 
-    claimed : (part_of p.parts w ≡ left) × (get_or k.full w 0 ≡ x) × (get_or k.full w 0 ≢ 0)
+    claimed : (part_of_word p.parts w ≡ left) × (get_or k.full w 0 ≡ x) × (get_or k.full w 0 ≢ 0)
     claimed = full_of_claimed p s k v w x (id, here) taken
 
     off : 0 < w
@@ -60,7 +60,7 @@ module _ (p : Plan) (s : Table) (k : Kept p s) (id : ℕ) (v : View) (here : get
       same = λ u lt. refl;
       written = λ h z. omega (
         arith,
-        weigh_set h s.words (size p.parts) w x (held_within p s k v w x (id, here) (inr taken)) (omega (arith, k.words.wide)),
+        weigh_set h s.words (table_size p.parts) w x (held_within p s k v w x (id, here) (inr taken)) (omega (arith, k.words.wide)),
         ap (h w) (held_empty p s k v w x (id, here) (inr taken)),
         z w,
         ap (pairs h) in_hand,

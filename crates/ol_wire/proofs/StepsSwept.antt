@@ -9,7 +9,7 @@ use Rattle.ol_wire.specs.declared.layout.Parts.{Parts}
 use Rattle.ol_wire.specs.declared.plan.Plan.{Plan}
 use Rattle.ol_wire.specs.declared.view.Link.{Link}
 use Rattle.ol_wire.specs.declared.view.View.{View}
-use Rattle.ol_wire.specs.Layout.{Part, left, part_of, left_word, cells_of}
+use Rattle.ol_wire.specs.Layout.{WordPart, left, part_of_word, left_word, cells_of}
 use Rattle.ol_wire.specs.Events.{IsStuckPair}
 use Rattle.ol_wire.specs.Plays.{cell_at, swept_on}
 use Rattle.ol_wire.specs.StepPlays.{is_stuck}
@@ -51,7 +51,7 @@ module _ (p : Plan) (s : Table) (k : Kept p s) (id : ℕ) (v : View) (here : get
       ap (λ (x : View). x.taken) (k.seats.spent u (j, there) none_held)
 
   -- so what it reads as empty is empty, if it holds none itself
-  empty_for_good : (w : ℕ) → v.holds ≡ p.seats → v.taken ≡ [] → part_of p.parts w ≡ left → get_or s.words w 0 ≡ 0 → get_or k.full w 0 ≡ 0
+  empty_for_good : (w : ℕ) → v.holds ≡ p.seats → v.taken ≡ [] → part_of_word p.parts w ≡ left → get_or s.words w 0 ≡ 0 → get_or k.full w 0 ≡ 0
   empty_for_good w all free is empty = elim (cases_eq (get_or k.full w 0) 0) [
     | inl e ↦ e
     | inr n ↦ absurd (of n (owner p s k w (omega (arith, (is_left p.parts w is).1)) n))
@@ -60,12 +60,12 @@ module _ (p : Plan) (s : Table) (k : Kept p s) (id : ℕ) (v : View) (here : get
       no_pair : (u : View) (y : ℕ) → u.taken ≡ [] → IsIn (w, y) u.taken → ⊥
       no_pair u y e m = elim (subst (λ (l : List (ℕ × ℕ)). IsIn {X = ℕ × ℕ} (w, y) l) e m) [ ]
 
-      own : (q : Part) → q ≡ left → IsOwn q → ⊥
+      own : (q : WordPart) → q ≡ left → IsOwn q → ⊥
       own q e o = subst IsOwn e o
 
       of : get_or k.full w 0 ≢ 0 → (get_or s.words w 0 ≡ get_or k.full w 0) ⊎ ((u : View) × IsView s u × Holds u w (get_or k.full w 0)) → ⊥
       of n (inl e) = n (sym e ∙ empty)
-      of n (inr (u, seen, inl due)) = own (part_of p.parts w) is (k.seats.due u w _ seen due).1
+      of n (inr (u, seen, inl due)) = own (part_of_word p.parts w) is (k.seats.due u w _ seen due).1
       of n (inr (u, seen, inr taken)) = elim (cases_eq seen.0 id) [
         | inl e ↦ no_pair v (get_or k.full w 0) free (subst (λ (x : View). IsIn {X = ℕ × ℕ} (w, get_or k.full w 0) x.taken) (some-injective u v (sym seen.1 ∙ ap (λ (j : ℕ). get_elem? s.views j) e ∙ here)) taken)
         | inr d ↦ no_pair u (get_or k.full w 0) (alone all seen.0 u seen.1 d) taken
@@ -83,7 +83,7 @@ module _ (p : Plan) (s : Table) (k : Kept p s) (id : ℕ) (v : View) (here : get
     numbered_at n e = at ∙ ap (left_word p.parts) (sym (e ∙ number))
 
     -- a cell that was read as empty is swept
-    pub swept_empty : part_of p.parts w ≡ left → get_or s.words w 0 ≡ 0 → v.taken ≡ [] → v.pending ≡ [] → (n : ℕ) → n < swept_on v (cell_at v.parts w) → (n < v.swept) ⊎ IsSwept p k.full v n
+    pub swept_empty : part_of_word p.parts w ≡ left → get_or s.words w 0 ≡ 0 → v.taken ≡ [] → v.pending ≡ [] → (n : ℕ) → n < swept_on v (cell_at v.parts w) → (n < v.swept) ⊎ IsSwept p k.full v n
     swept_empty is empty free done n lt = of (swept_more v (cell_at v.parts w) n lt)
       where
         of : (n < v.swept) ⊎ ((v.holds ≡ v.seats) × (n ≡ cell_at v.parts w)) → (n < v.swept) ⊎ IsSwept p k.full v n

@@ -18,7 +18,7 @@ use Rattle.ol_wire.specs.InHand as hands
 use Rattle.ol_wire.specs.Hands.{claiming, IsStuckLast, IsActiveLast}
 use Rattle.ol_wire.specs.InHand.{in_hand, AreRefs}
 use Rattle.ol_wire.specs.Turns.{FoundActive, HasCause, masked, Leaves}
-use Rattle.ol_wire.specs.TurnParts.{Begins, IsBegun, AreLinked}
+use Rattle.ol_wire.specs.TurnParts.{TurnBegins, IsBegun, AreLinked}
 use Rattle.ol_wire.proofs.Places.{cell_of_left}
 use Rattle.ol_wire.proofs.TicketRefs.{event_of_pair}
 
@@ -90,7 +90,7 @@ module _ (z : Parts) (v t n : View) (c : ℕ) (pair : ℕ × ℕ) (r : Rewrite) 
   last_pair : n.last ≡ pair
   last_pair = ap (λ (u : View). u.last) done.view ∙ ap (λ (u : View). u.last) hand
 
-  pub begun_after : pair.0 ≢ 0 → v.over ≡ false → b.ticket < z.fuel → IsNodeOf z pair.0 → IsNodeOf z pair.1 → AreRefs z r.f b.of_f → AreRefs z r.g b.of_g → Begins z v c b n
+  pub begun_after : pair.0 ≢ 0 → v.over ≡ false → b.ticket < z.fuel → IsNodeOf z pair.0 → IsNodeOf z pair.1 → AreRefs z r.f b.of_f → AreRefs z r.g b.of_g → TurnBegins z v c b n
   begun_after some_pair under ticket left right of_f of_g = record {
     cause = (((λ e. some_pair (sym (ap (λ (q : ℕ × ℕ). q.0) last_pair) ∙ e)), active), ap (λ (u : View). u.over) done.view ∙ ap (λ (u : View). u.over) hand ∙ under);
     ticket = ticket;
@@ -104,7 +104,7 @@ module _ (z : Parts) (v t n : View) (c : ℕ) (pair : ℕ × ℕ) (r : Rewrite) 
       active = subst (λ (q : ℕ × ℕ). rule_between (event_of q.0 q.1).f (event_of q.0 q.1).g ≡ Some (event_of q.0 q.1).rule) (sym last_pair) (subst (λ (e : Event). rule_between e.f e.g ≡ Some e.rule) is rule)
 
 -- and its links are pending
-pub links_pending : (z : Parts) (v m : View) (c : ℕ) (b : Begun) → v.parts ≡ z → IsIdle v → Begins z v c b m → IsBegun z m b
+pub links_pending : (z : Parts) (v m : View) (c : ℕ) (b : Begun) → v.parts ≡ z → IsIdle v → TurnBegins z v c b m → IsBegun z m b
 links_pending z v m c b parts idle begun = record {
   due = ap (λ (u : View). u.due) begun.rewrote.view ∙ idle.1;
   pending = begun.rewrote.links ∙ ap (λ (y : Parts). links_of y (event_in m) b.ticket (λ s. get_or b.of_f s 0) (λ s. get_or b.of_g s 0)) parts
@@ -116,7 +116,7 @@ links_pending z v m c b parts idle begun = record {
 }
 
 -- the links are made: the whole turn, by its first part and by what the making of the links leaves of it
-module _ (z : Parts) (v m n : View) (c mask : ℕ) (b : Begun) (ws : List ℕ) (parts : v.parts ≡ z) (low : c < cells_of z) (idle : IsIdle v) (begun : Begins z v c b m) (small : mask < 16)
+module _ (z : Parts) (v m n : View) (c mask : ℕ) (b : Begun) (ws : List ℕ) (parts : v.parts ≡ z) (low : c < cells_of z) (idle : IsIdle v) (begun : TurnBegins z v c b m) (small : mask < 16)
     (linked : n ≡ record m { pending = []; known = n.known; published = m.published ++ masked (z.cells + 4 * b.ticket) mask; dead = m.dead ++ ws }) where
   abbrev first_cell : ℕ
   first_cell = z.cells + 4 * b.ticket
@@ -165,7 +165,7 @@ module _ (z : Parts) (v m n : View) (c mask : ℕ) (b : Begun) (ws : List ℕ) (
       rule = ap (λ (e : Event). e.rule) (begun.event ∙ ap (λ (l : ℕ × ℕ). event_of l.0 l.1) (sym same_last))
 
 -- the whole turn, in one
-pub turn_rewrites : (z : Parts) (v m n : View) (c mask : ℕ) (b : Begun) → v.parts ≡ z → c < cells_of z → IsIdle v → Begins z v c b m → AreLinked z m b mask n
+pub turn_rewrites : (z : Parts) (v m n : View) (c mask : ℕ) (b : Begun) → v.parts ≡ z → c < cells_of z → IsIdle v → TurnBegins z v c b m → AreLinked z m b mask n
     → HasCause (Rewrote b.ticket b.rewrite.rule (z.cells + 4 * b.ticket) mask) n × Leaves z v c (Rewrote b.ticket b.rewrite.rule (z.cells + 4 * b.ticket) mask) n
 turn_rewrites z v m n c mask b parts low idle begun linked =
     rewritten_leaves z v m n c mask b linked.dead.0 parts low idle begun linked.mask

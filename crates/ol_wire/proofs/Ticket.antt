@@ -15,10 +15,10 @@ use Rattle.ol_wire.specs.declared.layout.Parts.{Parts}
 use Rattle.ol_wire.specs.declared.plan.Plan.{Plan}
 use Rattle.ol_wire.specs.declared.view.View.{View}
 use Rattle.ol_wire.specs.References.{node_ref, kind_in, index_in, place_in, IsRef}
-use Rattle.ol_wire.specs.Layout.{block, place_of, size, born_wire}
+use Rattle.ol_wire.specs.Layout.{block, place_of, table_size, born_wire}
 use Rattle.ol_wire.specs.Weights.{pairs}
 use Rattle.ol_wire.specs.Events.{Event}
-use Rattle.ol_wire.specs.Edges.{edges_in, edges_of, pending_in, links_in, deaths, times, is_reached}
+use Rattle.ol_wire.specs.Edges.{edges_in, edges_of, pending_in, links_in, deaths, times_in, is_reached}
 use Rattle.ol_wire.specs.Blocks.{copies_of_f, copies_of_g, block_words}
 use Rattle.ol_wire.specs.LinkLists.{links_of}
 use Rattle.ol_wire.specs.Plays.{event_in}
@@ -182,7 +182,7 @@ module _ (p : Plan) (s : Table) (k : Kept p s) (id : ℕ) (v : View) (here : get
     reached' = is_reached z log' s'.views
 
     same_deaths : (u : ℕ) → deaths u s'.views ≡ deaths u s.views
-    same_deaths u = omega (arith, total_set (λ (v : View). times u v.dead) s.views id v (ticketed v t) here)
+    same_deaths u = omega (arith, total_set (λ (v : View). times_in u v.dead) s.views id v (ticketed v t) here)
 
     f_slot : (q : ℕ) → q < arity kf → q < arity (kind_in e.f)
     f_slot q lt = omega (arith, lt, ap arity kind_f)
@@ -250,15 +250,15 @@ module _ (p : Plan) (s : Table) (k : Kept p s) (id : ℕ) (v : View) (here : get
         elsewhere u o = subst (λ n. (u < block z n) ⊎ (block z n + 10 ≤ u)) drawn_is o
 
     abbrev rest : List (ℕ × ℕ)
-    rest = edges_in z (net_but x y k.net) reached less (size z) ++ pending_in s.views
+    rest = edges_in z (net_but x y k.net) reached less (table_size z) ++ pending_in s.views
 
     from : Alike (edges_of z k.net k.log k.full s.views) (old_edges (node_ref kf i (place_of z x)) (node_ref kg j (place_of z y)) (place_of z x) (place_of z y) (arity kf) (arity kg) a b ++ rest)
     from h ev =
         let olds = old_edges (node_ref kf i (place_of z x)) (node_ref kg j (place_of z y)) (place_of z x) (place_of z y) (arity kf) (arity kg) a b in
-        let left_words = edges_in z (net_but x y k.net) reached less (size z) in
+        let left_words = edges_in z (net_but x y k.net) reached less (table_size z) in
         omega (
           arith,
-          pairs_append h (edges_in z k.net reached k.full (size z)) (pending_in s.views),
+          pairs_append h (edges_in z k.net reached k.full (table_size z)) (pending_in s.views),
           words_before.before z k.net k.full reached x y kf kg i j n w a b pair_stands h ev,
           pairs_append h olds left_words,
           pairs_append h olds rest,
@@ -270,12 +270,12 @@ module _ (p : Plan) (s : Table) (k : Kept p s) (id : ℕ) (v : View) (here : get
 
     to : Alike (edges_of z M log' full' s'.views) (new_edges z event n a b ++ rest)
     to h ev =
-        let left_words = edges_in z (net_but x y k.net) reached less (size z) in
+        let left_words = edges_in z (net_but x y k.net) reached less (table_size z) in
         let links = links_in (links_of z event n a b) in
         let born = born_edges z event n in
         omega (
           arith,
-          pairs_append h (edges_in z M reached' full' (size z)) (pending_in s'.views),
+          pairs_append h (edges_in z M reached' full' (table_size z)) (pending_in s'.views),
           words_after.after z k.net M less full' reached reached' x y kf kg i j n e.rule block_stands h ev,
           pairs_append h born left_words,
           pending_set s.views id v (ticketed v t) here ready.nothing_pending h ev,

@@ -13,9 +13,9 @@ use Rattle.ol_wire.specs.declared.plan.Plan.{Plan}
 use Rattle.ol_wire.specs.declared.view.Link.{Link}
 use Rattle.ol_wire.specs.declared.view.View.{View}
 use Rattle.ol_wire.specs.References.{index_in}
-use Rattle.ol_wire.specs.Layout.{left, part_of, block, place_of, born_cell, left_word, cells_of}
+use Rattle.ol_wire.specs.Layout.{left, part_of_word, block, place_of, born_cell, left_word, cells_of}
 use Rattle.ol_wire.specs.Weights.{total}
-use Rattle.ol_wire.specs.Edges.{times}
+use Rattle.ol_wire.specs.Edges.{times_in}
 use Rattle.ol_wire.specs.Events.{Event, rule_between, acting, event_of, IsStuckPair}
 use Rattle.ol_wire.specs.LinkLists.{joins_in, link_of, links_of}
 use Rattle.ol_wire.specs.Plays.{cell_at, swept_on, event_in}
@@ -127,7 +127,7 @@ module _ (p : Plan) (s : Table) (k : Kept p s) (id : ℕ) (v : View) (here : get
   drawn_is : length k.log ≡ t
   drawn_is = words.drawn_is p s k id v here w ready low
 
-  is_left_word : part_of z w ≡ left
+  is_left_word : part_of_word z w ≡ left
   is_left_word = words.is_left_word p s k id v here w ready low
 
   cell_below : w < block z t
@@ -145,10 +145,10 @@ module _ (p : Plan) (s : Table) (k : Kept p s) (id : ℕ) (v : View) (here : get
   cell_gone : slice_index full' w ≡ 0
   cell_gone = words.cell_gone p s k id v here w ready low
 
-  left_word_still : (u : ℕ) → part_of z u ≡ left → u ≢ w → slice_index full' u ≡ slice_index k.full u
+  left_word_still : (u : ℕ) → part_of_word z u ≡ left → u ≢ w → slice_index full' u ≡ slice_index k.full u
   left_word_still = words.left_word_still p s k id v here w ready low
 
-  right_word_still : (u : ℕ) → part_of z u ≡ left → slice_index full' (suc u) ≡ slice_index k.full (suc u)
+  right_word_still : (u : ℕ) → part_of_word z u ≡ left → slice_index full' (suc u) ≡ slice_index k.full (suc u)
   right_word_still u is = words.right_word_still p s k id v here w ready low (suc u) (is_left z u is).0
 
   viewed : (P : View → Type 0) → P (ticketed v t) → ((u : View) → IsView s u → P u) → (u : View) → IsView s' u → P u
@@ -162,7 +162,7 @@ module _ (p : Plan) (s : Table) (k : Kept p s) (id : ℕ) (v : View) (here : get
   from_length = omega (arith, length_one_more k.from w, length_one_more k.log e, k.cells.tickets)
 
   -- an empty cell stays empty
-  still_empty : (u : ℕ) → part_of z u ≡ left → slice_index k.full u ≡ 0 → slice_index full' u ≡ 0
+  still_empty : (u : ℕ) → part_of_word z u ≡ left → slice_index k.full u ≡ 0 → slice_index full' u ≡ 0
   still_empty u is h = left_word_still u is (λ q. left_some (ap (slice_index k.full) (sym q) ∙ h)) ∙ h
 
   -- the right word of the pair is one of the two nodes, and stays
@@ -170,7 +170,7 @@ module _ (p : Plan) (s : Table) (k : Kept p s) (id : ℕ) (v : View) (here : get
   right_node = subst (λ y. (y ≡ e.f) ⊎ (y ≡ e.g)) (sym (right_word_still w is_left_word ∙ right_full)) (right_side v.last.0 v.last.1)
 
   abbrev IsUsed : ℕ → ℕ → Type 0
-  IsUsed n u = (part_of z u ≡ left) × (u < block z n) × (slice_index full' u ≡ 0) × ((d : Event) → slice_get log' n ≡ Some d → (slice_index full' (suc u) ≡ d.f) ⊎ (slice_index full' (suc u) ≡ d.g))
+  IsUsed n u = (part_of_word z u ≡ left) × (u < block z n) × (slice_index full' u ≡ 0) × ((d : Event) → slice_get log' n ≡ Some d → (slice_index full' (suc u) ≡ d.f) ⊎ (slice_index full' (suc u) ≡ d.g))
 
   used : (n u : ℕ) → slice_get from' n ≡ Some u → IsUsed n u
   used n u q = go (got_one_more k.from w u n q)
@@ -183,7 +183,7 @@ module _ (p : Plan) (s : Table) (k : Kept p s) (id : ℕ) (v : View) (here : get
       go (inr new) =
           let is_last : n ≡ length k.from = new.0 in
           let is_w : u ≡ w = new.1 in
-          (ap (part_of z) is_w ∙ is_left_word, omega (arith, is_w, is_last, k.cells.tickets, drawn_is, cell_below), ap (slice_index full') is_w ∙ cell_gone, (λ d is. of d (got_one_more k.log e d n is) is_last is_w))
+          (ap (part_of_word z) is_w ∙ is_left_word, omega (arith, is_w, is_last, k.cells.tickets, drawn_is, cell_below), ap (slice_index full') is_w ∙ cell_gone, (λ d is. of d (got_one_more k.log e d n is) is_last is_w))
         where
           of : (d : Event) → (slice_get k.log n ≡ Some d) ⊎ ((n ≡ length k.log) × (d ≡ e)) → n ≡ length k.from → u ≡ w → (slice_index full' (suc u) ≡ d.f) ⊎ (slice_index full' (suc u) ≡ d.g)
           of d (inl old) is_last is_w = absurd (omega (arith, slice_get_within k.log n d old, k.cells.tickets, is_last))
@@ -210,14 +210,14 @@ module _ (p : Plan) (s : Table) (k : Kept p s) (id : ℕ) (v : View) (here : get
   new_cell l i = let h = link_found l i in let lt = h.1 in (h.0, omega (arith, joins_few e), ap (λ (l : Link). l.cell) h.2)
 
   abbrev Unpublished : View → Type 0
-  Unpublished u = (l : Link) → IsIn l u.pending → (part_of z l.cell ≡ left) × (slice_index full' l.cell ≡ 0) × IsRightOf u l (slice_index full' (suc l.cell)) × ((n y : ℕ) → slice_get from' n ≡ Some y → y ≢ l.cell)
+  Unpublished u = (l : Link) → IsIn l u.pending → (part_of_word z l.cell ≡ left) × (slice_index full' l.cell ≡ 0) × IsRightOf u l (slice_index full' (suc l.cell)) × ((n y : ℕ) → slice_get from' n ≡ Some y → y ≢ l.cell)
 
   unpublished_new : Unpublished (ticketed v t)
   unpublished_new l i =
       let h = new_cell l i in
       let c : l.cell ≡ born_cell z t h.0 = h.2 in
       let r = part_born_cell z t h.0 low h.1 in
-      let is : part_of z l.cell ≡ left = ap (part_of z) c ∙ r.0 in
+      let is : part_of_word z l.cell ≡ left = ap (part_of_word z) c ∙ r.0 in
       let empty : (u : ℕ) → block z t ≤ u → slice_index k.full u ≡ 0 = λ u le. k.words.fresh u (omega (arith, le, drawn_is)) in
       (is, still_empty l.cell is (empty l.cell (omega (arith, c))), inl (right_word_still l.cell is ∙ empty (suc l.cell) (omega (arith, c))), λ n y q same. omega (arith, used_below n y q, same, c))
 
@@ -305,7 +305,7 @@ module _ (p : Plan) (s : Table) (k : Kept p s) (id : ℕ) (v : View) (here : get
   abbrev Swept : View → Type 0
   Swept u = (c : ℕ) → c < u.swept → (u.holds ≡ p.seats) × ((slice_index full' (left_word z c) ≡ 0) ⊎ IsStuckPair (slice_index full' (left_word z c)) (slice_index full' (suc (left_word z c)))) × ((l : Link) → IsIn l u.pending → l.cell ≢ left_word z c)
 
-  idle_still : (u : ℕ) → part_of z u ≡ left → (slice_index k.full u ≡ 0) ⊎ IsStuckPair (slice_index k.full u) (slice_index k.full (suc u)) → (u ≡ w) ⊎ (u ≢ w) → (slice_index full' u ≡ 0) ⊎ IsStuckPair (slice_index full' u) (slice_index full' (suc u))
+  idle_still : (u : ℕ) → part_of_word z u ≡ left → (slice_index k.full u ≡ 0) ⊎ IsStuckPair (slice_index k.full u) (slice_index k.full (suc u)) → (u ≡ w) ⊎ (u ≢ w) → (slice_index full' u ≡ 0) ⊎ IsStuckPair (slice_index full' u) (slice_index full' (suc u))
   idle_still u is h (inl q) = inl (ap (slice_index full') q ∙ cell_gone)
   idle_still u is (inl h) (inr d) = inl (still_empty u is h)
   idle_still u is (inr h) (inr d) = inr (subst (λ l. IsStuckPair l (slice_index full' (suc u))) (sym (left_word_still u is d)) (subst (IsStuckPair (slice_index k.full u)) (sym (right_word_still u is)) h))
@@ -338,7 +338,7 @@ module _ (p : Plan) (s : Table) (k : Kept p s) (id : ℕ) (v : View) (here : get
       absurd (omega (arith, all_held, two_at (λ (x : View). x.holds) s.views j id u v d at here, k.seats.all, ready.held))
 
   -- the cell is empty where its pair was, and is among those that were used once more
-  published : (u : ℕ) → part_of z u ≡ left → block z 0 ≤ u → times_published z u s'.views ≡ filled (slice_index full' u) + times u from'
+  published : (u : ℕ) → part_of_word z u ≡ left → block z 0 ≤ u → times_published z u s'.views ≡ filled (slice_index full' u) + times_in u from'
   published u is le = elim (cases_eq u w) [
     | inl q ↦
         let one : one_if (nat_eq w u) ≡ 1 = ap one_if (eq-eqb w u (sym q)) in
@@ -351,9 +351,9 @@ module _ (p : Plan) (s : Table) (k : Kept p s) (id : ℕ) (v : View) (here : get
   ]
     where
       same_views : times_published z u s'.views ≡ times_published z u s.views
-      same_views = omega (arith, total_set (λ (v : View). times (cell_at z u) v.published) s.views id v (ticketed v t) here)
+      same_views = omega (arith, total_set (λ (v : View). times_in (cell_at z u) v.published) s.views id v (ticketed v t) here)
 
-      more : times u from' ≡ times u k.from + one_if (nat_eq w u)
+      more : times_in u from' ≡ times_in u k.from + one_if (nat_eq w u)
       more = omega (arith, total_append (λ x. if nat_eq x u then 1 else 0) k.from (w ∷ []))
 
   pub cells_after : CellsKeep p s' log' from' full'

@@ -7,7 +7,7 @@ use Rattle.ol_wire.specs.declared.layout.Parts.{Parts}
 use Rattle.ol_wire.specs.declared.plan.Plan.{Plan}
 use Rattle.ol_wire.specs.declared.view.View.{View}
 use Rattle.ol_wire.specs.Layout.{block}
-use Rattle.ol_wire.specs.Weights.{pairs, numbered}
+use Rattle.ol_wire.specs.Weights.{pairs, weighed_by_place}
 use Rattle.ol_wire.specs.Events.{Event}
 use Rattle.ol_wire.specs.Rule.{Table, IsView, Kept, entries_of, IsInOwnBlock}
 use Rattle.ol_wire.proofs.Held.{total_at}
@@ -24,7 +24,7 @@ ticket_there n x [] h = absurd h
 ticket_there n x (y ∷ l) (inl q) = let one : of_ticket n y.0 y.1 ≡ 1 = ap one_if (eq-eqb y.0 n (sym (ap (λ (a : ℕ × Entry). a.0) q))) in omega (arith, one)
 ticket_there n x (y ∷ l) (inr h) = omega (arith, ticket_there n x l h)
 
-ticket_within : (n m : ℕ) (l : List Entry) → 1 ≤ numbered (of_ticket n) m l → n < m + length l
+ticket_within : (n m : ℕ) (l : List Entry) → 1 ≤ weighed_by_place (of_ticket n) m l → n < m + length l
 ticket_within n m [] h = absurd (omega (arith, h))
 ticket_within n m (x ∷ l) h = elim (cases_eq m n) [
   | inl q ↦ omega (arith, q)

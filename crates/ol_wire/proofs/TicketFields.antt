@@ -19,7 +19,7 @@ use Rattle.ol_wire.specs.declared.plan.Plan.{Plan}
 use Rattle.ol_wire.specs.declared.view.Link.{Link}
 use Rattle.ol_wire.specs.declared.view.View.{View}
 use Rattle.ol_wire.specs.References.{kind_in, index_in, node_ref, wire_ref}
-use Rattle.ol_wire.specs.Layout.{field, entry, part_of, block, place_of, born_wire}
+use Rattle.ol_wire.specs.Layout.{field, entry, part_of_word, block, place_of, born_wire}
 use Rattle.ol_wire.specs.Events.{Event}
 use Rattle.ol_wire.specs.Edges.{links_in}
 use Rattle.ol_wire.specs.Blocks.{copies_of_f, copies_of_g, born_field, block_words}
@@ -151,7 +151,7 @@ module _ (p : Plan) (s : Table) (k : Kept p s) (id : ℕ) (v : View) (here : get
           (kg, index_after e.rule j, has, omega (arith, h.2, copies), edge.0, edge.1)
 
   abbrev Fields : View → Type 0
-  Fields u = (n y' : ℕ) (q : NodeName) (c : ℕ) → IsIn (n, y') u.due → part_of z n ≡ field q c → IsLinkedField z M u.pending q c
+  Fields u = (n y' : ℕ) (q : NodeName) (c : ℕ) → IsIn (n, y') u.due → part_of_word z n ≡ field q c → IsLinkedField z M u.pending q c
 
   fields_new : Fields (ticketed v t)
   fields_new n y' q c at is =
@@ -160,13 +160,13 @@ module _ (p : Plan) (s : Table) (k : Kept p s) (id : ℕ) (v : View) (here : get
     where
       of : (l : ℕ) → l < 10 → n ≡ block z t + l → slice_index (block_words z e t) l ≢ 0 → IsLinkedField z M ticket_links q c
       of l lt there some_word = elim (cases_lt l 2) [
-        | inl small ↦ let bad : entry ≡ field q c = sym (ap (part_of z) there ∙ part_entry z t l low small) ∙ is in absurd (cc)
+        | inl small ↦ let bad : entry ≡ field q c = sym (ap (part_of_word z) there ∙ part_entry z t l low small) ∙ is in absurd (cc)
         | inr big ↦
             let m = (l - 2) / 2 in
             let r = (l - 2) % 2 in
             let place : n ≡ place_of z (Born t m) + r = omega (arith, there) in
             let word : 2 + 2 * m + r ≡ l = omega arith in
-            let name = field_same (Born t m) q r c (sym (ap (part_of z) place ∙ part_field z (Born t m) r (low, omega arith) (omega arith)) ∙ is) in
+            let name = field_same (Born t m) q r c (sym (ap (part_of_word z) place ∙ part_field z (Born t m) r (low, omega arith) (omega arith)) ∙ is) in
             let born = field_born m r (λ o. some_word (ap (slice_index (block_words z e t)) (sym word) ∙ block_field z e t m r (omega arith) (omega arith) ∙ o)) in
             subst (λ d. IsLinkedField z M ticket_links q d) name.1 (subst (λ u. IsLinkedField z M ticket_links u r) name.0 born)
       ]
@@ -191,5 +191,5 @@ module _ (p : Plan) (s : Table) (k : Kept p s) (id : ℕ) (v : View) (here : get
       let not_g = apart u is q y h.0 kg h.1 j e.g h.2 faces.second g_is in_cell.1 h.4 h.5 in
       (h.0, h.1, (nodes q h.0 h.1).1 (rewriting.left h.2 not_f not_g), h.3, h.4, h.5)
 
-  pub due_fields_after : (u : View) (n y' : ℕ) (q : NodeName) (c : ℕ) → IsView s' u → IsIn (n, y') u.due → part_of z n ≡ field q c → IsLinkedField z M u.pending q c
+  pub due_fields_after : (u : View) (n y' : ℕ) (q : NodeName) (c : ℕ) → IsView s' u → IsIn (n, y') u.due → part_of_word z n ≡ field q c → IsLinkedField z M u.pending q c
   due_fields_after u n y' q c is = words.viewed p s k id v here w ready low Fields fields_new fields_old u is n y' q c

@@ -29,7 +29,7 @@ use Rattle.ol_wire.specs.References.{node_ref, kind_in, index_in, place_in}
 use Rattle.ol_wire.specs.Layout.{place_of, IsPlaced}
 use Rattle.ol_wire.specs.Events.{IsPlayed, Event, rule_between, name_at, earlier, later, entry_of}
 use Rattle.ol_wire.specs.Rule.{entries_of, JournalKeeps}
-use Rattle.ol_wire.specs.Starts.{start_net}
+use Rattle.ol_wire.specs.Starts.{start_net_of_plan}
 use Rattle.ol_wire.proofs.References.{kind_of_ref, index_of_ref, place_of_ref}
 use Rattle.ol_wire.proofs.Places.{name_of_place, place_same, place_order}
 
@@ -244,14 +244,14 @@ module _ (p : Plan) (log : List Event) (N : NamedNet NodeName) (j : JournalKeeps
         go (inl h) = j.rules t d h
         go (inr h) = subst (λ d. rule_between d.f d.g ≡ Some d.rule) (sym h.1) rule_is
 
-    run_after : IsRun (start_net p) 0 (entries_of p.parts (log ++ e ∷ [])) M
+    run_after : IsRun (start_net_of_plan p) 0 (entries_of p.parts (log ++ e ∷ [])) M
     run_after =
         let s : IsEntryStep N (length log) (entry_of p.parts e) M = record { f = x; g = y; named = named; step = record { active = active; rewrites = r } } in
         let h : length log ≡ 0 + length (entries_of p.parts log) = omega (arith, length-map log (entry_of p.parts)) in
-        subst (λ es. IsRun (start_net p) 0 es M) (sym (map-append (entry_of p.parts) log (e ∷ []))) (run_on (start_net p) N M 0 (length log) (entries_of p.parts log) (entry_of p.parts e) j.run h s)
+        subst (λ es. IsRun (start_net_of_plan p) 0 es M) (sym (map-append (entry_of p.parts) log (e ∷ []))) (run_on (start_net_of_plan p) N M 0 (length log) (entries_of p.parts log) (entry_of p.parts e) j.run h s)
 
-    played_after : IsPlayed p.parts (start_net p) 0 (log ++ e ∷ []) M
-    played_after = played_on p.parts (start_net p) N M 0 (length log) log e x y j.played (omega arith) (record { active = active; rewrites = r }) f_is g_is
+    played_after : IsPlayed p.parts (start_net_of_plan p) 0 (log ++ e ∷ []) M
+    played_after = played_on p.parts (start_net_of_plan p) N M 0 (length log) log e x y j.played (omega arith) (record { active = active; rewrites = r }) f_is g_is
 
     -- what comes by the step is the net after the journal with its entry
     pub journal_after : JournalKeeps p (log ++ e ∷ []) M

@@ -5,7 +5,7 @@ use mathlib.Core.Option.{some, some-injective, some-ne-none}
 use lib.ListN.{get_elem?}
 use Rattle.atomic_table.proofs.Lists.{at_set}
 use Rattle.ol_edges.specs.Edges.{IsIn}
-use Rattle.ol_wire.specs.Weights.{total, pairs, numbered, weigh, Empties}
+use Rattle.ol_wire.specs.Weights.{total, pairs, weighed_by_place, weigh, Empties}
 use Rattle.ol_wire.specs.LinkLists.{to_write}
 
 module _ {A : Type 0} (g : A → ℕ) where
@@ -23,8 +23,8 @@ module _ {A : Type 0} (P : A → Type 0) (l : List A) (id : ℕ) (w : A) (new : 
   pub by_place : (j : ℕ) (u : A) → get_elem? (set l id w) j ≡ some u → P u
   by_place j u e = placed j u (at_set l id j w u e)
 
--- a numbered list with one member more
-pub numbered_more : {A : Type 0} (h : ℕ → A → ℕ) (k : ℕ) (l : List A) (x : A) → numbered h k (l ++ x ∷ []) ≡ numbered h k l + h (k + length l) x
+-- a weighed_by_place list with one member more
+pub numbered_more : {A : Type 0} (h : ℕ → A → ℕ) (k : ℕ) (l : List A) (x : A) → weighed_by_place h k (l ++ x ∷ []) ≡ weighed_by_place h k l + h (k + length l) x
 numbered_more h k [] x = let e : k + 0 ≡ k = omega arith in omega (arith, ap (λ n. h n x) e)
 numbered_more h k (y ∷ ys) x = let e : suc k + length ys ≡ k + suc (length ys) = omega arith in omega (arith, numbered_more h (suc k) ys x, ap (λ n. h n x) e)
 

@@ -9,7 +9,7 @@ use Rattle.ol_rules.specs.declared.journal.NodeName.TheVariants.{Born}
 use Rattle.ol_rules.specs.Rewriting.{is_meeting, index_after}
 use Rattle.ol_rules.proofs.Alike.{meeting_alike}
 use Rattle.ol_wire.specs.declared.layout.Parts.{Parts}
-use Rattle.ol_wire.specs.References.{kind_in, index_in, place_in, node_ref, wire_ref, IsRef, IsWhole}
+use Rattle.ol_wire.specs.References.{kind_in, index_in, place_in, node_ref, wire_ref, IsRef, IsWholeRef}
 use Rattle.ol_wire.specs.Layout.{block, place_of, born_wire}
 use Rattle.ol_wire.specs.Events.{Event, rule_between, acting, event_of}
 use Rattle.ol_wire.specs.Blocks.{copies_of_f, copies_of_g, born_field, block_words}
@@ -22,7 +22,7 @@ use Rattle.ol_rules.proofs.Born.{at_most_two}
 
 -- a reference to something whose place is below n
 abbrev pub IsRefBelow : ℕ → ℕ → Type 0
-IsRefBelow n r = IsRef r × IsWhole r × (place_in r < n)
+IsRefBelow n r = IsRef r × IsWholeRef r × (place_in r < n)
 
 pub made_on : (z : Parts) (log : List Event) (e : Event) (r : ℕ) → IsMadeRef z log r → IsMadeRef z (log ++ e ∷ []) r
 made_on z log e r h = let lt = h.2 in (h.0, h.1, omega (arith, length_one_more log e))

@@ -15,14 +15,14 @@ use Rattle.ol_wire.specs.declared.plan.Plan.{Plan}
 use Rattle.ol_wire.specs.declared.view.Link.{Link}
 use Rattle.ol_wire.specs.declared.view.View.{View}
 use Rattle.ol_wire.specs.References.{node_ref}
-use Rattle.ol_wire.specs.Layout.{Part, ticket, port, field, wire, between, left, right, entry, past, part_of, block, place_of}
-use Rattle.ol_wire.specs.Weights.{total, pairs, numbered}
+use Rattle.ol_wire.specs.Layout.{WordPart, ticket, port, field, wire, between, left, right, entry, past, part_of_word, block, place_of}
+use Rattle.ol_wire.specs.Weights.{total, pairs, weighed_by_place}
 use Rattle.ol_wire.specs.Events.{Event, entry_of}
-use Rattle.ol_wire.specs.Edges.{crosses_at, is_wire_made, is_made, times, deaths}
+use Rattle.ol_wire.specs.Edges.{crosses_at, is_wire_made, is_made, times_in, deaths}
 use Rattle.ol_wire.specs.Blocks.{block_words}
 use Rattle.ol_wire.specs.Plays.{event_in}
 use Rattle.ol_wire.specs.StepPlays.{IsLookedUp, ticketed}
-use Rattle.ol_wire.specs.Views.{IsSpent}
+use Rattle.ol_wire.specs.Views.{IsSpentView}
 use Rattle.ol_wire.specs.Rule.{KnowsPlan, Table, IsView, IsOwn, IsInOwnBlock, Kept, SeatsKeep, entries_of, IsLinkedField, JournalKeeps}
 use Rattle.ol_wire.proofs.Alike.{pairs_append}
 use Rattle.ol_wire.proofs.Places.{part_entry, part_field}
@@ -41,7 +41,7 @@ crosses_still log e t q p = elim (cases_lt t (length log)) [
   | inr ge ↦ omega (arith, ap (λ x. bit (crosses_at x q p)) (get_past log t ge))
 ]
 
-pub made_still : (log : List Event) (e : Event) (x : Part) → bit (is_wire_made log x) ≤ bit (is_wire_made (log ++ e ∷ []) x)
+pub made_still : (log : List Event) (e : Event) (x : WordPart) → bit (is_wire_made log x) ≤ bit (is_wire_made (log ++ e ∷ []) x)
 made_still log e ticket = omega arith
 made_still log e (port n) = omega arith
 made_still log e (field x s) = omega arith
@@ -90,13 +90,13 @@ module _ (p : Plan) (s : Table) (k : Kept p s) (id : ℕ) (v : View) (here : get
   viewed = words.viewed p s k id v here w ready low
 
   -- the words of the block that are to be written are fields and the two nodes
-  own_word : (n j : ℕ) → j < 10 → n ≡ block z t + j → IsOwn (part_of z n)
+  own_word : (n j : ℕ) → j < 10 → n ≡ block z t + j → IsOwn (part_of_word z n)
   own_word n j lt q = elim (cases_lt j 2) [
-    | inl small ↦ subst IsOwn (sym (ap (part_of z) q ∙ part_entry z t j low small)) tt
+    | inl small ↦ subst IsOwn (sym (ap (part_of_word z) q ∙ part_entry z t j low small)) tt
     | inr big ↦
         let c = (j - 2) / 2 in
         let at : n ≡ place_of z (Born t c) + (j - 2) % 2 = omega (arith, q) in
-        subst IsOwn (sym (ap (part_of z) at ∙ part_field z (Born t c) ((j - 2) % 2) (low, omega arith) (omega arith))) tt
+        subst IsOwn (sym (ap (part_of_word z) at ∙ part_field z (Born t c) ((j - 2) % 2) (low, omega arith) (omega arith))) tt
   ]
 
   -- a word of the ticket's block is in the block of the seat's own ticket
@@ -104,7 +104,7 @@ module _ (p : Plan) (s : Table) (k : Kept p s) (id : ℕ) (v : View) (here : get
   in_own n le lt = (t, entry_of v.parts e, in_right (t, entry_of v.parts e) v.made ((t, entry_of v.parts e) ∷ []) (inl refl), (le, lt))
 
   abbrev Owns : View → Type 0
-  Owns u = (n y' : ℕ) → IsIn (n, y') u.due → (y' ≢ 0) × IsOwn (part_of z n) × IsInOwnBlock z u n
+  Owns u = (n y' : ℕ) → IsIn (n, y') u.due → (y' ≢ 0) × IsOwn (part_of_word z n) × IsInOwnBlock z u n
 
   owns_new : Owns (ticketed v t)
   owns_new n y' h =
@@ -126,7 +126,7 @@ module _ (p : Plan) (s : Table) (k : Kept p s) (id : ℕ) (v : View) (here : get
   total_same : (g : View → ℕ) → g (ticketed v t) ≡ g v → total g s'.views ≡ total g s.views
   total_same g q = omega (arith, q, total_set g s.views id v (ticketed v t) here)
 
-  made : (h : ℕ → Entry → ℕ) → total (λ (u : View). pairs h u.made) s'.views ≡ numbered h 0 (entries_of z (k.log ++ e ∷ []))
+  made : (h : ℕ → Entry → ℕ) → total (λ (u : View). pairs h u.made) s'.views ≡ weighed_by_place h 0 (entries_of z (k.log ++ e ∷ []))
   made h =
       let x : Entry = entry_of v.parts e in
       let same : h t x ≡ h t (entry_of z e) = ap (λ parts. h t (entry_of parts e)) (words.parts_are p s k id v here w ready low) in
@@ -137,15 +137,15 @@ module _ (p : Plan) (s : Table) (k : Kept p s) (id : ℕ) (v : View) (here : get
         total_set (λ (u : View). pairs h u.made) s.views id v (ticketed v t) here,
         pairs_append h v.made ((t, x) ∷ []),
         same,
-        ap (numbered h 0) (entries_more z k.log e),
+        ap (weighed_by_place h 0) (entries_more z k.log e),
         numbered_more h 0 (entries_of z k.log) (entry_of z e),
         ap (λ n. h n (entry_of z e)) long,
       )
 
   dead : (u : ℕ) → deaths u s'.views ≤ bit (is_made z (k.log ++ e ∷ []) u)
-  dead u = omega (arith, k.seats.dead u, total_same (λ (v : View). times u v.dead) refl, made_still k.log e (part_of z u))
+  dead u = omega (arith, k.seats.dead u, total_same (λ (v : View). times_in u v.dead) refl, made_still k.log e (part_of_word z u))
 
-  due_fields : (u : View) (n y' : ℕ) (q : NodeName) (c : ℕ) → IsView s' u → IsIn (n, y') u.due → part_of z n ≡ field q c → IsLinkedField z M u.pending q c
+  due_fields : (u : View) (n y' : ℕ) (q : NodeName) (c : ℕ) → IsView s' u → IsIn (n, y') u.due → part_of_word z n ≡ field q c → IsLinkedField z M u.pending q c
   due_fields = fields.due_fields_after p s k id v here w ready low M x y kf kg i j faces f_is g_is nodes
 
   pub seats_after : SeatsKeep p s' (k.log ++ e ∷ []) M
@@ -154,8 +154,8 @@ module _ (p : Plan) (s : Table) (k : Kept p s) (id : ℕ) (v : View) (here : get
     calm = omega (arith, words.ticket_word p s k id v here w ready low, low);
     over = λ u is o. absurd (viewed (λ u. u.over ≡ true → ⊥) (λ o. let bad : false ≡ true = sym ready.under ∙ o in cc) (λ u is o. omega (arith, low, (k.seats.over u is o).0)) u is o);
     plans = viewed (λ u. 0 < u.holds → KnowsPlan p u) (k.seats.plans v seen) k.seats.plans;
-    spent = viewed (λ u. u.holds ≡ 0 → IsSpent u) (λ q. absurd (omega (arith, ready.held, q))) k.seats.spent;
-    taken = λ u n y' is. viewed (λ u. (n y' : ℕ) → IsIn (n, y') u.taken → (part_of z n ≡ left) × (y' ≢ 0)) (λ n y' h. absurd (subst (λ l. IsIn (n, y') l) (words.taken_is p s k id v here w ready low) h)) (λ u o n y'. k.seats.taken u n y' o) u is n y';
+    spent = viewed (λ u. u.holds ≡ 0 → IsSpentView u) (λ q. absurd (omega (arith, ready.held, q))) k.seats.spent;
+    taken = λ u n y' is. viewed (λ u. (n y' : ℕ) → IsIn (n, y') u.taken → (part_of_word z n ≡ left) × (y' ≢ 0)) (λ n y' h. absurd (subst (λ l. IsIn (n, y') l) (words.taken_is p s k id v here w ready low) h)) (λ u o n y'. k.seats.taken u n y' o) u is n y';
     due = λ u n y' is. viewed Owns owns_new (λ u o n y'. k.seats.due u n y' o) u is n y';
     links = λ u l is. viewed Links links_new (λ u o l. k.seats.links u l o) u is l;
     due_fields = due_fields;

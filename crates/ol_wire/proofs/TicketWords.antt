@@ -12,7 +12,7 @@ use Rattle.ol_wire.specs.declared.layout.Parts.{Parts}
 use Rattle.ol_wire.specs.declared.plan.Plan.{Plan}
 use Rattle.ol_wire.specs.declared.view.View.{View}
 use Rattle.ol_wire.specs.References.{kind_in, place_in, IsNodeRef}
-use Rattle.ol_wire.specs.Layout.{ticket, field, left, right, entry, part_of, block, size, place_of, start_cell, start_node}
+use Rattle.ol_wire.specs.Layout.{ticket, field, left, right, entry, part_of_word, block, table_size, place_of, start_cell, start_node}
 use Rattle.ol_wire.specs.Weights.{total, pairs, weigh, Empties}
 use Rattle.ol_wire.specs.Events.{Event}
 use Rattle.ol_wire.specs.Blocks.{block_words}
@@ -44,7 +44,7 @@ module _ (z : Parts) (e : Event) (t w : ℕ) (full : List ℕ) where
   pub after_wide : length (full_after z e t w full) ≡ length full
   after_wide = put_length (block z t) (block_words z e t) (set (set full 0 (t + 1)) w 0) ∙ set_wide
 
-  pub full_there : (j : ℕ) → j < 10 → t < z.fuel → length full ≡ size z → slice_index (full_after z e t w full) (block z t + j) ≡ slice_index (block_words z e t) j
+  pub full_there : (j : ℕ) → j < 10 → t < z.fuel → length full ≡ table_size z → slice_index (full_after z e t w full) (block z t + j) ≡ slice_index (block_words z e t) j
   full_there j lt low wide = put_there (block z t) (block_words z e t) (set (set full 0 (t + 1)) w 0) j lt (omega (arith, set_wide, wide))
 
   -- outside of the first ten words of the block
@@ -141,7 +141,7 @@ module _ (p : Plan) (s : Table) (k : Kept p s) (id : ℕ) (v : View) (here : get
   claimed : IsIn (w, v.last.0) v.taken
   claimed = subst (λ l. IsIn (w, v.last.0) l) (sym ready.taken) (inl refl)
 
-  pub is_left_word : part_of z w ≡ left
+  pub is_left_word : part_of_word z w ≡ left
   is_left_word = (k.seats.taken v w v.last.0 seen claimed).0
 
   pub left_some : v.last.0 ≢ 0
@@ -151,7 +151,7 @@ module _ (p : Plan) (s : Table) (k : Kept p s) (id : ℕ) (v : View) (here : get
   left_full = held_full p s k v w v.last.0 seen (inr claimed)
 
   pub not_ticket : w ≢ 0
-  not_ticket q = let bad : ticket ≡ left = ap (part_of z) (sym q) ∙ is_left_word in cc
+  not_ticket q = let bad : ticket ≡ left = ap (part_of_word z) (sym q) ∙ is_left_word in cc
 
   -- the pair's cell came before the ticket
   pub cell_below : w < block z t
@@ -165,12 +165,12 @@ module _ (p : Plan) (s : Table) (k : Kept p s) (id : ℕ) (v : View) (here : get
   known_full u n y is i =
       let f = k.words.known u n y is i in
       let some_y : slice_index s.words n ≢ 0 = λ q. f.1 (sym f.0 ∙ q) in (
-        (elim (cases_lt n (size p.parts)) [
+        (elim (cases_lt n (table_size p.parts)) [
           | inl lt ↦ word_full p s k n lt some_y ∙ f.0
           | inr ge ↦ absurd (some_y (past_end s.words n (omega (arith, ge, k.words.wide))))
         ]),
         f.1,
-        (λ q. subst (λ n. IsLasting (part_of z n)) q f.2),
+        (λ q. subst (λ n. IsLasting (part_of_word z n)) q f.2),
       )
 
   pub right_full : slice_index k.full (suc w) ≡ v.last.1
@@ -217,7 +217,7 @@ module _ (p : Plan) (s : Table) (k : Kept p s) (id : ℕ) (v : View) (here : get
   viewed P new old u is = by_place P s.views id (ticketed v t) new (λ j y d q. old y (j, q)) is.0 u is.1
 
   -- a word of a cell isn't among the first ten of a block
-  outside : (u : ℕ) → (part_of z u ≡ left) ⊎ (part_of z u ≡ right) → (u < block z t) ⊎ (block z t + 10 ≤ u)
+  outside : (u : ℕ) → (part_of_word z u ≡ left) ⊎ (part_of_word z u ≡ right) → (u < block z t) ⊎ (block z t + 10 ≤ u)
   outside u h = elim (cases_lt u (block z t)) [
     | inl lt ↦ inl lt
     | inr ge ↦ elim (cases_lt u (block z t + 10)) [
@@ -225,40 +225,40 @@ module _ (p : Plan) (s : Table) (k : Kept p s) (id : ℕ) (v : View) (here : get
       | inl near ↦ elim (cases_lt (u - block z t) 2) [
         | inl small ↦
             let q : u ≡ block z t + (u - block z t) = omega arith in
-            absurd (no_entry (ap (part_of z) q ∙ part_entry z t (u - block z t) low small) h)
+            absurd (no_entry (ap (part_of_word z) q ∙ part_entry z t (u - block z t) low small) h)
         | inr big ↦
             let m = u - block z t - 2 in
             let q : u ≡ place_of z (Born t (m / 2)) + m % 2 = omega arith in
-            absurd (no_field (Born t (m / 2)) (m % 2) (ap (part_of z) q ∙ part_field z (Born t (m / 2)) (m % 2) (low, omega arith) (omega arith)) h)
+            absurd (no_field (Born t (m / 2)) (m % 2) (ap (part_of_word z) q ∙ part_field z (Born t (m / 2)) (m % 2) (low, omega arith) (omega arith)) h)
       ]
     ]
   ]
     where
-      no_entry : part_of z u ≡ entry → (part_of z u ≡ left) ⊎ (part_of z u ≡ right) → ⊥
+      no_entry : part_of_word z u ≡ entry → (part_of_word z u ≡ left) ⊎ (part_of_word z u ≡ right) → ⊥
       no_entry q (inl r) = let bad : entry ≡ left = sym q ∙ r in cc
       no_entry q (inr r) = let bad : entry ≡ right = sym q ∙ r in cc
 
-      no_field : (x : NodeName) (n : ℕ) → part_of z u ≡ field x n → (part_of z u ≡ left) ⊎ (part_of z u ≡ right) → ⊥
+      no_field : (x : NodeName) (n : ℕ) → part_of_word z u ≡ field x n → (part_of_word z u ≡ left) ⊎ (part_of_word z u ≡ right) → ⊥
       no_field x n q (inl r) = let bad : field x n ≡ left = sym q ∙ r in cc
       no_field x n q (inr r) = let bad : field x n ≡ right = sym q ∙ r in cc
 
-  cell_some : (u : ℕ) → (part_of z u ≡ left) ⊎ (part_of z u ≡ right) → u ≢ 0
-  cell_some u (inl r) q = let bad : ticket ≡ left = ap (part_of z) (sym q) ∙ r in cc
-  cell_some u (inr r) q = let bad : ticket ≡ right = ap (part_of z) (sym q) ∙ r in cc
+  cell_some : (u : ℕ) → (part_of_word z u ≡ left) ⊎ (part_of_word z u ≡ right) → u ≢ 0
+  cell_some u (inl r) q = let bad : ticket ≡ left = ap (part_of_word z) (sym q) ∙ r in cc
+  cell_some u (inr r) q = let bad : ticket ≡ right = ap (part_of_word z) (sym q) ∙ r in cc
 
   pub cell_gone : slice_index full' w ≡ 0
   cell_gone = full_taken z e t w k.full cell_below not_ticket (omega (arith, held_within p s k v w v.last.0 seen (inr claimed), k.words.full_wide))
 
-  pub left_word_still : (u : ℕ) → part_of z u ≡ left → u ≢ w → slice_index full' u ≡ slice_index k.full u
+  pub left_word_still : (u : ℕ) → part_of_word z u ≡ left → u ≢ w → slice_index full' u ≡ slice_index k.full u
   left_word_still u r d = full_else z e t w k.full u (outside u (inl r)) (cell_some u (inl r)) d
 
-  pub right_word_still : (u : ℕ) → part_of z u ≡ right → slice_index full' u ≡ slice_index k.full u
-  right_word_still u r = full_else z e t w k.full u (outside u (inr r)) (cell_some u (inr r)) (λ q. let bad : left ≡ right = sym is_left_word ∙ ap (part_of z) (sym q) ∙ r in cc)
+  pub right_word_still : (u : ℕ) → part_of_word z u ≡ right → slice_index full' u ≡ slice_index k.full u
+  right_word_still u r = full_else z e t w k.full u (outside u (inr r)) (cell_some u (inr r)) (λ q. let bad : left ≡ right = sym is_left_word ∙ ap (part_of_word z) (sym q) ∙ r in cc)
 
-  wide' : length full' ≡ size z
+  wide' : length full' ≡ table_size z
   wide' = after_wide z e t w k.full ∙ k.words.full_wide
 
-  in_all : block z t + 10 ≤ size z
+  in_all : block z t + 10 ≤ table_size z
   in_all = omega (arith, low)
 
   log_longer : length (k.log ++ e ∷ []) ≡ t + 1
@@ -289,8 +289,8 @@ module _ (p : Plan) (s : Table) (k : Kept p s) (id : ℕ) (v : View) (here : get
       of_owner (inr (u, is, inl i)) = absurd ((k.seats.due u 0 (slice_index k.full 0) is i).1)
       of_owner (inr (u, is, inr i)) = let bad : ticket ≡ left = (k.seats.taken u 0 (slice_index k.full 0) is i).0 in absurd (cc)
 
-  written : (h : ℕ → ℕ → ℕ) → Empties h → weigh h s'.words (size z) + total (λ (u : View). pairs h u.due + pairs h u.taken) s'.views ≡ weigh h full' (size z)
-  written h q = written_after h q s.words k.full s.views id v (ticketed v t) (size z) (block z t) t w v.last.0 (block_words z e t) here k.words.wide k.words.full_wide in_all refl ticket_full left_full (omega (arith, not_ticket)) cell_below
+  written : (h : ℕ → ℕ → ℕ) → Empties h → weigh h s'.words (table_size z) + total (λ (u : View). pairs h u.due + pairs h u.taken) s'.views ≡ weigh h full' (table_size z)
+  written h q = written_after h q s.words k.full s.views id v (ticketed v t) (table_size z) (block z t) t w v.last.0 (block_words z e t) here k.words.wide k.words.full_wide in_all refl ticket_full left_full (omega (arith, not_ticket)) cell_below
       (λ j le. k.words.fresh j (omega (arith, le, drawn_is))) ready.nothing_due ready.taken due_is taken_is (k.words.written h q)
 
   -- each word, by where it is
@@ -325,7 +325,7 @@ module _ (p : Plan) (s : Table) (k : Kept p s) (id : ℕ) (v : View) (here : get
       let new = block_refs z e t n (omega (arith, log_longer)) (made_longer e.f nodes_made.0) (made_longer e.g nodes_made.1) in
       by_word (λ u y. y ≢ 0 → IsMadeRef z (k.log ++ e ∷ []) y) (λ j lt. maybe_at n (block_words z e t) new j) (λ d. absurd (d refl)) (λ u d d' y. made_longer (slice_index k.full u) (k.words.refs u (omega (arith, d)) y)) u (λ q. omega (arith, q, some_u))
 
-  cells : (u : ℕ) → part_of z u ≡ left → slice_index full' u ≢ 0 → IsNodeRef (slice_index full' u) × IsNodeRef (slice_index full' (suc u))
+  cells : (u : ℕ) → part_of_word z u ≡ left → slice_index full' u ≢ 0 → IsNodeRef (slice_index full' u) × IsNodeRef (slice_index full' (suc u))
   cells u r n =
       let d : u ≢ w = λ q. n (ap (slice_index full') q ∙ cell_gone) in
       let x = left_word_still u r d in
@@ -335,7 +335,7 @@ module _ (p : Plan) (s : Table) (k : Kept p s) (id : ℕ) (v : View) (here : get
 
   fields : (n c : ℕ) → n < z.nodes → c < 2 → slice_index full' (start_node z n + c) ≡ field_of p.start.value z n c
   fields n c lt small = full_else z e t w k.full (start_node z n + c) (inl (omega (arith, lt, small))) (λ q. omega (arith, q))
-      (λ q. let bad : field (Init n) c ≡ left = sym (part_field z (Init n) c lt small) ∙ ap (part_of z) q ∙ is_left_word in cc) ∙ k.words.fields n c lt small
+      (λ q. let bad : field (Init n) c ≡ left = sym (part_field z (Init n) c lt small) ∙ ap (part_of_word z) q ∙ is_left_word in cc) ∙ k.words.fields n c lt small
 
   starts : (c : ℕ) (n : ℕ × ℕ) → slice_get (facing_pairs p.start.value) c ≡ Some n
       → ((slice_index full' (start_cell z c) ≡ 0) ⊎ (slice_index full' (start_cell z c) ≡ node_word p.start.value z n.0)) × (slice_index full' (suc (start_cell z c)) ≡ node_word p.start.value z n.1)
@@ -347,7 +347,7 @@ module _ (p : Plan) (s : Table) (k : Kept p s) (id : ℕ) (v : View) (here : get
       node : ℕ
       node = node_word p.start.value z n.0
 
-      first : part_of z (start_cell z c) ≡ left → (slice_index k.full (start_cell z c) ≡ 0) ⊎ (slice_index k.full (start_cell z c) ≡ node) → (start_cell z c ≡ w) ⊎ (start_cell z c ≢ w)
+      first : part_of_word z (start_cell z c) ≡ left → (slice_index k.full (start_cell z c) ≡ 0) ⊎ (slice_index k.full (start_cell z c) ≡ node) → (start_cell z c ≡ w) ⊎ (start_cell z c ≢ w)
           → (slice_index full' (start_cell z c) ≡ 0) ⊎ (slice_index full' (start_cell z c) ≡ node)
       first r h (inl q) = inl (ap (slice_index full') q ∙ cell_gone)
       first r (inl h) (inr d) = inl (left_word_still (start_cell z c) r d ∙ h)
@@ -357,19 +357,19 @@ module _ (p : Plan) (s : Table) (k : Kept p s) (id : ℕ) (v : View) (here : get
   fresh u le = full_else z e t w k.full u (inr (omega (arith, le, log_longer))) (λ q. omega (arith, le, q)) (λ q. omega (arith, le, q, cell_below, log_longer)) ∙ k.words.fresh u (omega (arith, le, log_longer, drawn_is))
 
   -- the first ten words of a block aren't those of a cell
-  no_cell : (n j : ℕ) → n < z.fuel → j < 10 → part_of z (block z n + j) ≢ left
+  no_cell : (n j : ℕ) → n < z.fuel → j < 10 → part_of_word z (block z n + j) ≢ left
   no_cell n j lt small r = elim (cases_lt j 2) [
     | inl first ↦ let bad : entry ≡ left = sym (part_entry z n j lt first) ∙ r in cc
     | inr later ↦
         let i = (j - 2) / 2 in
         let c = (j - 2) % 2 in
         let q : block z n + j ≡ place_of z (Born n i) + c = omega arith in
-        let bad : field (Born n i) c ≡ left = sym (ap (part_of z) q ∙ part_field z (Born n i) c (lt, omega arith) (omega arith)) ∙ r in
+        let bad : field (Born n i) c ≡ left = sym (ap (part_of_word z) q ∙ part_field z (Born n i) c (lt, omega arith) (omega arith)) ∙ r in
         cc
   ]
 
   block_still : (n j : ℕ) → n < t → j < 10 → slice_index full' (block z n + j) ≡ slice_index k.full (block z n + j)
-  block_still n j lt small = full_else z e t w k.full (block z n + j) (inl (omega (arith, lt, small))) (λ q. omega (arith, q)) (λ q. no_cell n j (omega (arith, lt, low)) small (ap (part_of z) q ∙ is_left_word))
+  block_still n j lt small = full_else z e t w k.full (block z n + j) (inl (omega (arith, lt, small))) (λ q. omega (arith, q)) (λ q. no_cell n j (omega (arith, lt, low)) small (ap (part_of_word z) q ∙ is_left_word))
 
   entries : (n j : ℕ) (x : Event) → slice_get (k.log ++ e ∷ []) n ≡ Some x → j < 10 → slice_index full' (block z n + j) ≡ slice_index (block_words z x n) j
   entries n j x q small = go (got_one_more k.log e x n q)
@@ -381,7 +381,7 @@ module _ (p : Plan) (s : Table) (k : Kept p s) (id : ℕ) (v : View) (here : get
           ap (λ n. slice_index full' (block z n + j)) is_t ∙ full_there z e t w k.full j small low k.words.full_wide ∙ ap (λ t. slice_index (block_words z e t) j) (sym is_t) ∙ ap (λ (x : Event). slice_index (block_words z x n) j) (sym new.1)
 
   abbrev Knows : View → Type 0
-  Knows u = (n y : ℕ) → IsIn (n, y) u.known → (slice_index s'.words n ≡ y) × (y ≢ 0) × IsLasting (part_of z n)
+  Knows u = (n y : ℕ) → IsIn (n, y) u.known → (slice_index s'.words n ≡ y) × (y ≢ 0) × IsLasting (part_of_word z n)
 
   known_old : (u : View) → IsView s u → Knows u
   known_old u is n y i =

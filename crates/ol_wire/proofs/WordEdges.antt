@@ -9,7 +9,7 @@ use Rattle.ol_rules.specs.declared.journal.NodeName.TheVariants.{Init, Born}
 use Rattle.ol_rules.proofs.Born.{at_most_two}
 use Rattle.ol_wire.specs.declared.layout.Parts.{Parts}
 use Rattle.ol_wire.specs.References.{node_ref, wire_ref, slot_ref}
-use Rattle.ol_wire.specs.Layout.{Part, ticket, port, field, wire, between, left, right, entry, part_of, size, place_of, IsPlaced}
+use Rattle.ol_wire.specs.Layout.{WordPart, ticket, port, field, wire, between, left, right, entry, part_of_word, table_size, place_of, IsPlaced}
 use Rattle.ol_wire.specs.Weights.{total, pairs}
 use Rattle.ol_wire.specs.EvenWeights.{Even}
 use Rattle.ol_wire.specs.Edges.{is_live, edge_to, edge_in, edges_in}
@@ -37,7 +37,7 @@ placed_later z t u (Init k) le h = h
 placed_later z t u (Born v i) le h = (omega (arith, h.0), h.1)
 
 -- the edge of a word whose part is known
-pub edge_as : (z : Parts) (net : NamedNet NodeName) (reached : ℕ → Bool) (words : List ℕ) (w : ℕ) (p : Part) → part_of z w ≡ p → word_edge z net reached words w ≡ edge_in net (reached w) p w (slice_index words w) (slice_index words (suc w))
+pub edge_as : (z : Parts) (net : NamedNet NodeName) (reached : ℕ → Bool) (words : List ℕ) (w : ℕ) (p : WordPart) → part_of_word z w ≡ p → word_edge z net reached words w ≡ edge_in net (reached w) p w (slice_index words w) (slice_index words (suc w))
 edge_as z net reached words w p e = ap (λ p. edge_in net (reached w) p w (slice_index words w) (slice_index words (suc w))) e
 
 -- The pair of x and y stands in the cell whose left word is w, either way round; the fields of x hold a, and those of y hold b.
@@ -48,7 +48,7 @@ pub record PairStands (z : Parts) (N : NamedNet NodeName) (full : List ℕ) (x y
   pub apart : x ≢ y
   pub first_placed : IsPlaced z t x
   pub second_placed : IsPlaced z t y
-  pub cell : part_of z w ≡ left
+  pub cell : part_of_word z w ≡ left
   pub pair : ((slice_index full w ≡ node_ref k i (place_of z x)) × (slice_index full (suc w) ≡ node_ref l j (place_of z y))) ⊎ ((slice_index full w ≡ node_ref l j (place_of z y)) × (slice_index full (suc w) ≡ node_ref k i (place_of z x)))
   pub a_there : (s : ℕ) → s < arity k → slice_index full (place_of z x + s) ≡ a s
   pub a_some : (s : ℕ) → s < arity k → a s ≢ 0
@@ -83,7 +83,7 @@ module _ (z : Parts) (N : NamedNet NodeName) (full : List ℕ) (reached : ℕ �
 
   cell_apart : (u : NodeName) (s : ℕ) → IsPlaced z z.fuel u → s < 2 → w ≢ place_of z u + s
   cell_apart u s p lt e =
-      let f : part_of z w ≡ field u s = ap (part_of z) e ∙ part_field z u s p lt in
+      let f : part_of_word z w ≡ field u s = ap (part_of_word z) e ∙ part_field z u s p lt in
       let g : left ≡ field u s = sym c.cell ∙ f in
       absurd (cc)
 
@@ -97,7 +97,7 @@ module _ (z : Parts) (N : NamedNet NodeName) (full : List ℕ) (reached : ℕ �
       five_apart w (px + 0) (px + 1) (py + 0) (py + 1) (cell_apart x 0 x_there (omega arith)) (cell_apart x 1 x_there (omega arith)) (cell_apart y 0 y_there (omega arith)) (cell_apart y 1 y_there (omega arith))
       (λ e. omega arith) (nodes_apart 0 0 (omega arith) (omega arith)) (nodes_apart 0 1 (omega arith) (omega arith)) (nodes_apart 1 0 (omega arith) (omega arith)) (nodes_apart 1 1 (omega arith) (omega arith)) (λ e. omega arith)
 
-  places_below : (p : ℕ) → IsIn p places → p < size z
+  places_below : (p : ℕ) → IsIn p places → p < table_size z
   places_below p (inl e) = omega (arith, e, (is_left z w c.cell).1)
   places_below p (inr (inl e)) = omega (arith, e, place_before z x t c.first_placed, c.drawn)
   places_below p (inr (inr (inl e))) = omega (arith, e, place_before z x t c.first_placed, c.drawn)
@@ -120,8 +120,8 @@ module _ (z : Parts) (N : NamedNet NodeName) (full : List ℕ) (reached : ℕ �
   in_y v (suc (suc s)) lt e = absurd (omega arith)
 
   -- all other words have the same edges
-  others_same : (v : ℕ) → v < size z → (IsIn v places → ⊥) → At z v → word_edge z N reached full v ≡ word_edge z rest reached less v
-  others_same v lt n (at_ticket e) = let q : part_of z v ≡ ticket = ap (part_of z) e in edge_as z N reached full v ticket q ∙ sym (edge_as z rest reached less v ticket q)
+  others_same : (v : ℕ) → v < table_size z → (IsIn v places → ⊥) → At z v → word_edge z N reached full v ≡ word_edge z rest reached less v
+  others_same v lt n (at_ticket e) = let q : part_of_word z v ≡ ticket = ap (part_of_word z) e in edge_as z N reached full v ticket q ∙ sym (edge_as z rest reached less v ticket q)
   others_same v lt n (at_port m b e q) = edge_as z N reached full v (port m) q ∙ ap (edge_to (wire_ref v)) (word_stays v (λ d. n (inl d))) ∙ sym (edge_as z rest reached less v (port m) q)
   others_same v lt n (at_field u s p b e q) =
       let live : is_live N u ≡ is_live rest u = sym (others_stay x y N u (λ d. n (in_x v s b (e ∙ ap (λ u. place_of z u + s) d))) (λ d. n (in_y v s b (e ∙ ap (λ u. place_of z u + s) d)))) in
@@ -131,7 +131,7 @@ module _ (z : Parts) (N : NamedNet NodeName) (full : List ℕ) (reached : ℕ �
   others_same v lt n (at_between u m p a b d e q) =
       edge_as z N reached full v (between u m p) q ∙ ap (λ word. if reached v then edge_to (wire_ref v) word else []) (word_stays v (λ d. n (inl d))) ∙ sym (edge_as z rest reached less v (between u m p) q)
   others_same v lt n (at_left q q' b) =
-      let behind : suc v ≢ w = λ e. let f : right ≡ left = sym q' ∙ ap (part_of z) e ∙ c.cell in absurd (cc) in
+      let behind : suc v ≢ w = λ e. let f : right ≡ left = sym q' ∙ ap (part_of_word z) e ∙ c.cell in absurd (cc) in
       edge_as z N reached full v left q ∙ ap (λ word. if word == 0 then [] else (word, slice_index full (suc v)) ∷ []) (word_stays v (λ d. n (inl d)))
       ∙ ap (λ next. if slice_index less v == 0 then [] else (slice_index less v, next) ∷ []) (word_stays (suc v) behind) ∙ sym (edge_as z rest reached less v left q)
   others_same v lt n (at_right q) = edge_as z N reached full v right q ∙ sym (edge_as z rest reached less v right q)
@@ -183,15 +183,15 @@ module _ (z : Parts) (N : NamedNet NodeName) (full : List ℕ) (reached : ℕ �
       let r : (s : ℕ) → s < 2 → pairs h (word_edge z rest reached less (place_of z y + s)) ≡ 0 = λ s lt. ap (pairs h) (field_after y s y_there lt (second_gone x y N)) in
       omega (arith, p, q 0 (omega arith), q 1 (omega arith), r 0 (omega arith), r 1 (omega arith))
 
-  pub before : Alike (edges_in z N reached full (size z)) (old_edges (node_ref k i (place_of z x)) (node_ref l j (place_of z y)) (place_of z x) (place_of z y) (arity k) (arity l) a b ++ edges_in z (net_but x y N) reached (slice_set full w 0) (size z))
+  pub before : Alike (edges_in z N reached full (table_size z)) (old_edges (node_ref k i (place_of z x)) (node_ref l j (place_of z y)) (place_of z x) (place_of z y) (arity k) (arity l) a b ++ edges_in z (net_but x y N) reached (slice_set full w 0) (table_size z))
   before h even =
       let F : ℕ → ℕ = λ v. pairs h (word_edge z N reached full v) in
       let G : ℕ → ℕ = λ v. pairs h (word_edge z rest reached less v) in
       let old : List (ℕ × ℕ) = old_edges (node_ref k i (place_of z x)) (node_ref l j (place_of z y)) (place_of z x) (place_of z y) (arity k) (arity l) a b in
-      let s : sum_to F (size z) + total G places ≡ sum_to G (size z) + total F places = sum_but F G (size z) places places_apart places_below (λ v lt n. ap (pairs h) (others_same v lt n (where_is z v))) in
-      let whole : pairs h (edges_in z N reached full (size z)) ≡ sum_to F (size z) = edges_weigh h z N reached full (size z) in
-      let part : pairs h (edges_in z rest reached less (size z)) ≡ sum_to G (size z) = edges_weigh h z rest reached less (size z) in
-      let both : pairs h (old ++ edges_in z rest reached less (size z)) ≡ pairs h old + pairs h (edges_in z rest reached less (size z)) = pairs_append h old (edges_in z rest reached less (size z)) in
+      let s : sum_to F (table_size z) + total G places ≡ sum_to G (table_size z) + total F places = sum_but F G (table_size z) places places_apart places_below (λ v lt n. ap (pairs h) (others_same v lt n (where_is z v))) in
+      let whole : pairs h (edges_in z N reached full (table_size z)) ≡ sum_to F (table_size z) = edges_weigh h z N reached full (table_size z) in
+      let part : pairs h (edges_in z rest reached less (table_size z)) ≡ sum_to G (table_size z) = edges_weigh h z rest reached less (table_size z) in
+      let both : pairs h (old ++ edges_in z rest reached less (table_size z)) ≡ pairs h old + pairs h (edges_in z rest reached less (table_size z)) = pairs_append h old (edges_in z rest reached less (table_size z)) in
       let first : sum_to (λ s. F (place_of z x + s)) 2 ≡ pairs h (field_edges (place_of z x) (arity k) a) = fields_weigh h x k a x_there (live_there N x k i c.first) c.a_there c.a_some c.a_none in
       let second : sum_to (λ s. F (place_of z y + s)) 2 ≡ pairs h (field_edges (place_of z y) (arity l) b) = fields_weigh h y l b y_there (live_there N y l j c.second) c.b_there c.b_some c.b_none in
       let fields : pairs h (field_edges (place_of z x) (arity k) a ++ field_edges (place_of z y) (arity l) b) ≡ pairs h (field_edges (place_of z x) (arity k) a) + pairs h (field_edges (place_of z y) (arity l) b)

@@ -11,7 +11,7 @@ use Rattle.ol_rules.specs.Rewriting.{meeting, crossing, is_meeting, index_after,
 use Rattle.ol_rules.specs.Listed.{each}
 use Rattle.ol_wire.specs.declared.layout.Parts.{Parts}
 use Rattle.ol_wire.specs.References.{kind_in, node_ref, wire_ref, slot_ref}
-use Rattle.ol_wire.specs.Layout.{ticket, port, field, wire, between, left, right, entry, part_of, block, size, place_of, born_wire, IsPlaced}
+use Rattle.ol_wire.specs.Layout.{ticket, port, field, wire, between, left, right, entry, part_of_word, block, table_size, place_of, born_wire, IsPlaced}
 use Rattle.ol_wire.specs.Weights.{pairs}
 use Rattle.ol_wire.specs.Events.{Event}
 use Rattle.ol_wire.specs.Blocks.{copies_of_f, copies_of_g, born_field, block_words}
@@ -122,7 +122,7 @@ module _ (z : Parts) (N M : NamedNet NodeName) (less full : List ℕ) (reached r
   abbrev Outside : ℕ → Type 0
   Outside v = (v < block z t) ⊎ (block z t + 10 ≤ v)
 
-  outside : (v : ℕ) → (part_of z v ≡ entry → ⊥) → ((u : NodeName) (s : ℕ) → part_of z v ≡ field u s → ⊥) → Outside v
+  outside : (v : ℕ) → (part_of_word z v ≡ entry → ⊥) → ((u : NodeName) (s : ℕ) → part_of_word z v ≡ field u s → ⊥) → Outside v
   outside v not_entry not_field = elim (cases_lt v (block z t)) [
     | inl a ↦ inl a
     | inr a ↦ elim (cases_lt v (block z t + 10)) [
@@ -130,11 +130,11 @@ module _ (z : Parts) (N M : NamedNet NodeName) (less full : List ℕ) (reached r
       | inl b ↦ elim (cases_lt v (block z t + 2)) [
         | inl d ↦
             let q : v ≡ block z t + (v - block z t) = omega arith in
-            absurd (not_entry (ap (part_of z) q ∙ part_entry z t (v - block z t) c.drawn (omega arith)))
+            absurd (not_entry (ap (part_of_word z) q ∙ part_entry z t (v - block z t) c.drawn (omega arith)))
         | inr d ↦
             let n = v - (block z t + 2) in
             let q : v ≡ place_of z (Born t (n / 2)) + n % 2 = omega arith in
-            absurd (not_field (Born t (n / 2)) (n % 2) (ap (part_of z) q ∙ part_field z (Born t (n / 2)) (n % 2) (c.drawn, omega arith) (omega arith)))
+            absurd (not_field (Born t (n / 2)) (n % 2) (ap (part_of_word z) q ∙ part_field z (Born t (n / 2)) (n % 2) (c.drawn, omega arith) (omega arith)))
       ]
     ]
   ]
@@ -162,8 +162,8 @@ module _ (z : Parts) (N M : NamedNet NodeName) (less full : List ℕ) (reached r
       ap (λ word. if reached' v then edge_to (wire_ref v) word else []) q.0 ∙ one_answer (reached' v) [] ∙ sym (one_answer (reached v) []) ∙ ap (λ word. if reached v then edge_to (wire_ref v) word else []) (sym q.1)
 
   -- the words but the fields of the block have the same edges
-  same_edge : (v : ℕ) → v < size z → (v < block z t + 2) ⊎ (block z t + 10 ≤ v) → At z v → word_edge z M reached' full v ≡ word_edge z others_net reached less v
-  same_edge v lt out (at_ticket g) = let q : part_of z v ≡ ticket = ap (part_of z) g in edge_as z M reached' full v ticket q ∙ sym (edge_as z others_net reached less v ticket q)
+  same_edge : (v : ℕ) → v < table_size z → (v < block z t + 2) ⊎ (block z t + 10 ≤ v) → At z v → word_edge z M reached' full v ≡ word_edge z others_net reached less v
+  same_edge v lt out (at_ticket g) = let q : part_of_word z v ≡ ticket = ap (part_of_word z) g in edge_as z M reached' full v ticket q ∙ sym (edge_as z others_net reached less v ticket q)
   same_edge v lt out (at_port m b g q) = edge_as z M reached' full v (port m) q ∙ ap (edge_to (wire_ref v)) (c.others v (omega arith) (inl (omega arith))) ∙ sym (edge_as z others_net reached less v (port m) q)
   same_edge v lt out (at_field u s p b g q) = edge_as z M reached' full v (field u s) q ∙ go (cases_lt v (block z t)) ∙ sym (edge_as z others_net reached less v (field u s) q)
     where
@@ -203,7 +203,7 @@ module _ (z : Parts) (N M : NamedNet NodeName) (less full : List ℕ) (reached r
       there : Outside (suc v)
       there = outside (suc v) (λ h. let f : right ≡ entry = sym q' ∙ h in absurd (cc)) (λ n s h. let f : right ≡ field n s = sym q' ∙ h in absurd (cc))
 
-      positive : (v : ℕ) → part_of z v ≡ left → 0 < v
+      positive : (v : ℕ) → part_of_word z v ≡ left → 0 < v
       positive zero q = let f : ticket ≡ left = q in absurd (cc)
       positive (suc v) q = omega arith
   same_edge v lt out (at_right q) = edge_as z M reached' full v right q ∙ sym (edge_as z others_net reached less v right q)
@@ -243,17 +243,17 @@ module _ (z : Parts) (N M : NamedNet NodeName) (less full : List ℕ) (reached r
       pairs_each h 4 (λ m. each 2 (λ s. edge_to (slot_ref (place_of z (Born t m) + s)) (born_field z e t m s)))
       ∙ sum_agree (λ m. pairs h (each 2 (λ s. edge_to (slot_ref (place_of z (Born t m) + s)) (born_field z e t m s)))) (λ m. sum_to (field_weight h m) 2) 4 (λ m lt. pairs_each h 2 (λ s. edge_to (slot_ref (place_of z (Born t m) + s)) (born_field z e t m s)))
 
-  pub after : Alike (edges_in z M reached' full (size z)) (born_edges z (pair_event z r x y k l i j) t ++ edges_in z (net_but x y N) reached less (size z))
+  pub after : Alike (edges_in z M reached' full (table_size z)) (born_edges z (pair_event z r x y k l i j) t ++ edges_in z (net_but x y N) reached less (table_size z))
   after h even =
       let F : ℕ → ℕ = λ v. pairs h (word_edge z M reached' full v) in
       let G : ℕ → ℕ = λ v. pairs h (word_edge z others_net reached less v) in
       let at : ℕ = block z t + 2 in
-      let s : sum_to F (size z) + sum_to (λ n. G (at + n)) 8 ≡ sum_to G (size z) + sum_to (λ n. F (at + n)) 8
-      = sum_within F G at 8 (size z) (omega (arith, c.drawn)) (λ v lt. ap (pairs h) (same_edge v (omega (arith, c.drawn)) (inl lt) (where_is z v))) (λ v ge lt. ap (pairs h) (same_edge v lt (inr (omega arith)) (where_is z v))) in
+      let s : sum_to F (table_size z) + sum_to (λ n. G (at + n)) 8 ≡ sum_to G (table_size z) + sum_to (λ n. F (at + n)) 8
+      = sum_within F G at 8 (table_size z) (omega (arith, c.drawn)) (λ v lt. ap (pairs h) (same_edge v (omega (arith, c.drawn)) (inl lt) (where_is z v))) (λ v ge lt. ap (pairs h) (same_edge v lt (inr (omega arith)) (where_is z v))) in
       let place : (n : ℕ) → n < 8 → at + n ≡ place_of z (Born t (n / 2)) + n % 2 = λ n lt. omega arith in
-      let whole : pairs h (edges_in z M reached' full (size z)) ≡ sum_to F (size z) = edges_weigh h z M reached' full (size z) in
-      let part : pairs h (edges_in z others_net reached less (size z)) ≡ sum_to G (size z) = edges_weigh h z others_net reached less (size z) in
-      let both : pairs h (born_edges z e t ++ edges_in z others_net reached less (size z)) ≡ pairs h (born_edges z e t) + pairs h (edges_in z others_net reached less (size z)) = pairs_append h (born_edges z e t) (edges_in z others_net reached less (size z)) in
+      let whole : pairs h (edges_in z M reached' full (table_size z)) ≡ sum_to F (table_size z) = edges_weigh h z M reached' full (table_size z) in
+      let part : pairs h (edges_in z others_net reached less (table_size z)) ≡ sum_to G (table_size z) = edges_weigh h z others_net reached less (table_size z) in
+      let both : pairs h (born_edges z e t ++ edges_in z others_net reached less (table_size z)) ≡ pairs h (born_edges z e t) + pairs h (edges_in z others_net reached less (table_size z)) = pairs_append h (born_edges z e t) (edges_in z others_net reached less (table_size z)) in
       let none : sum_to (λ n. G (at + n)) 8 ≡ 0
       = sum_agree (λ n. G (at + n)) (λ n. 0) 8 (λ n lt. ap G (place n lt) ∙ ap (pairs h) (field_empty (n / 2) (n % 2) (omega arith) (omega arith))) in
       let some : sum_to (λ n. F (at + n)) 8 ≡ sum_to (λ n. field_weight h (n / 2) (n % 2)) 8

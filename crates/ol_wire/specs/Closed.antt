@@ -10,7 +10,7 @@ use Rattle.ol_wire.specs.declared.layout.Parts.{Parts}
 use Rattle.ol_wire.specs.declared.plan.Plan.{Plan}
 use Rattle.ol_wire.specs.declared.view.View.{View}
 use Rattle.ol_wire.specs.Layout.{block, cells_of}
-use Rattle.ol_wire.specs.Starts.{start_net}
+use Rattle.ol_wire.specs.Starts.{start_net_of_plan}
 use Rattle.ol_wire.specs.Events.{Event, event_of, entry_of}
 use Rattle.core.specs.Mem.Slots.{slots_items}
 use Rattle.atomic_table.specs.declared.owned.Closed.{Closed}
@@ -44,15 +44,15 @@ journal_in z words = each (events_in z words) (λ t. entry_of z (event_at z word
 
 -- the net after the journal that the words tell
 abbrev pub IsAfter : ClosedTable → NamedNet NodeName → Type 0
-IsAfter w net = IsRun (start_net w.plan) 0 (journal_in w.plan.parts w.words) net
+IsAfter w net = IsRun (start_net_of_plan w.plan) 0 (journal_in w.plan.parts w.words) net
 
 -- the node is one of the two that the entry names
 abbrev pub IsOfEntry : NodeName → Entry → Type 0
 IsOfEntry x e = (e.first ≡ x) ⊎ (e.second ≡ x)
 
 -- no two entries name one node
-abbrev pub AreOnce : List Entry → Type 0
-AreOnce journal = (t u : ℕ) (d e : Entry) (x : NodeName) → slice_get journal t ≡ Some d → slice_get journal u ≡ Some e
+abbrev pub NoNodeTwice : List Entry → Type 0
+NoNodeTwice journal = (t u : ℕ) (d e : Entry) (x : NodeName) → slice_get journal t ≡ Some d → slice_get journal u ≡ Some e
     → IsOfEntry x d → IsOfEntry x e → t ≡ u
 
 -- all events, and their journal

@@ -7,7 +7,7 @@ use Rattle.atomic_table.specs.declared.owned.Closed.{Closed}
 use Rattle.ol_wire.specs.declared.layout.Parts.{Parts}
 use Rattle.ol_wire.specs.declared.plan.Plan.{Plan}
 use Rattle.ol_wire.specs.declared.view.View.{View}
-use Rattle.ol_wire.specs.Layout.{size}
+use Rattle.ol_wire.specs.Layout.{table_size}
 use Rattle.ol_wire.specs.Sizes.{IsSmall}
 use Rattle.ol_wire.specs.Closed.{ClosedTable, closed_of}
 use Rattle.ol_wire.specs.Idle.{IsIdle}
@@ -26,5 +26,5 @@ pub record IsClosed (w : ClosedTable) : Type 0 where
 
 -- each word is there, as many as the parts say
 abbrev pub IsClosedOf : Closed (Unit {0}) Global → Plan → Parts → View → Type 0
-IsClosedOf c p z v = IsFull c.words × (p.parts ≡ z) × (slots_len c.words ≡ size z) × (slots_len c.slots ≡ 0) × IsSmall z
+IsClosedOf c p z v = IsFull c.words × (p.parts ≡ z) × (slots_len c.words ≡ table_size z) × (slots_len c.slots ≡ 0) × IsSmall z
     × IsClosed (closed_of c p v)

@@ -10,7 +10,7 @@ use Rattle.ol_wire.specs.declared.layout.Parts.{Parts}
 use Rattle.ol_wire.specs.declared.view.Link.{Link}
 use Rattle.ol_wire.specs.declared.view.View.{View}
 use Rattle.ol_wire.specs.References.{kind_in, wire_ref, slot_ref}
-use Rattle.ol_wire.specs.Layout.{Part, ticket, port, field, wire, between, left, right, entry, past, part_of, size}
+use Rattle.ol_wire.specs.Layout.{WordPart, ticket, port, field, wire, between, left, right, entry, past, part_of_word, table_size}
 use Rattle.ol_wire.specs.Events.{Event}
 use Rattle.ol_wire.specs.Weights.{total}
 
@@ -33,21 +33,21 @@ crosses_at None q p = false
 crosses_at (Some e) q p = not (is_meeting e.rule) && (nat_lt q (arity (kind_in e.g)) && nat_lt p (arity (kind_in e.f)))
 
 -- whether the word is that of a wire that has been made
-abbrev pub is_wire_made : List Event → Part → Bool
+abbrev pub is_wire_made : List Event → WordPart → Bool
 is_wire_made log (wire j) = true
 is_wire_made log (between t q p) = crosses_at (slice_get log t) q p
 is_wire_made log other = false
 
 abbrev pub is_made : Parts → List Event → ℕ → Bool
-is_made z log w = is_wire_made log (part_of z w)
+is_made z log w = is_wire_made log (part_of_word z w)
 
 -- how often the list has the number
-abbrev pub times : ℕ → List ℕ → ℕ
-times w ws = total (λ x. if nat_eq x w then 1 else 0) ws
+abbrev pub times_in : ℕ → List ℕ → ℕ
+times_in w ws = total (λ x. if nat_eq x w then 1 else 0) ws
 
 -- how often a view has the wire of that word as dead
 abbrev pub deaths : ℕ → List View → ℕ
-deaths w views = total (λ (v : View). times w v.dead) views
+deaths w views = total (λ (v : View). times_in w v.dead) views
 
 -- a wire is reached from its making until an exchange makes it dead
 abbrev pub is_reached : Parts → List Event → List View → ℕ → Bool
@@ -58,7 +58,7 @@ abbrev pub edge_to : ℕ → ℕ → List (ℕ × ℕ)
 edge_to end word = if word == 0 then [] else (end, word) ∷ []
 
 -- the edge of one word: `next` is the word after it
-abbrev pub edge_in : NamedNet NodeName → Bool → Part → ℕ → ℕ → ℕ → List (ℕ × ℕ)
+abbrev pub edge_in : NamedNet NodeName → Bool → WordPart → ℕ → ℕ → ℕ → List (ℕ × ℕ)
 edge_in net reached (port k) w word next = edge_to (wire_ref w) word
 edge_in net reached (field x s) w word next = if is_live net x then edge_to (slot_ref w) word else []
 edge_in net reached (wire j) w word next = if reached then edge_to (wire_ref w) word else []
@@ -74,7 +74,7 @@ abbrev pub edges_in : Parts → NamedNet NodeName → (ℕ → Bool) → List �
 edges_in z net reached words zero = []
 edges_in z net reached words (suc n) =
     edges_in z net reached words n
-    ++ edge_in net (reached n) (part_of z n) n (slice_index words n) (slice_index words (suc n))
+    ++ edge_in net (reached n) (part_of_word z n) n (slice_index words n) (slice_index words (suc n))
 
 abbrev pub links_in : List Link → List (ℕ × ℕ)
 links_in links = map (λ (l : Link). (l.one, l.two)) links
@@ -86,4 +86,4 @@ pending_in (v ∷ views) = links_in v.pending ++ pending_in views
 
 -- All edges. In `words` each view's words are written already, and the pairs that the views have claimed stand in their cells again.
 abbrev pub edges_of : Parts → NamedNet NodeName → List Event → List ℕ → List View → List (ℕ × ℕ)
-edges_of z net log words views = edges_in z net (is_reached z log views) words (size z) ++ pending_in views
+edges_of z net log words views = edges_in z net (is_reached z log views) words (table_size z) ++ pending_in views

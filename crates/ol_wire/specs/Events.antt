@@ -10,7 +10,7 @@ use Rattle.ol_rules.specs.declared.journal.Entry.{Entry}
 use Rattle.ol_rules.specs.Rewriting.{IsStep}
 use Rattle.ol_wire.specs.declared.layout.Parts.{Parts}
 use Rattle.ol_wire.specs.References.{node_ref, kind_in, index_in, place_in}
-use Rattle.ol_wire.specs.Layout.{Part, field, part_of, place_of}
+use Rattle.ol_wire.specs.Layout.{WordPart, field, part_of_word, place_of}
 
 -- the reference of the node that acts comes first
 pub record Event : Type 0 where
@@ -23,12 +23,12 @@ abbrev pub rule_between : ℕ → ℕ → Option Rule
 rule_between f g = rule_of (kind_in f) (index_in f) (kind_in g) (index_in g)
 
 -- the node whose first field has that place
-abbrev pub name_in_part : Part → NodeName
+abbrev pub name_in_part : WordPart → NodeName
 name_in_part (field x s) = x
 name_in_part other = Init 0
 
 abbrev pub name_at : Parts → ℕ → NodeName
-name_at z place = name_in_part (part_of z place)
+name_at z place = name_in_part (part_of_word z place)
 
 -- of two references, that of the smaller place and that of the greater one
 abbrev pub earlier : ℕ → ℕ → ℕ

@@ -9,12 +9,12 @@ use Rattle.ol_wire.specs.Events.{entry_of}
 use Rattle.ol_wire.specs.LinkLists.{links_of}
 use Rattle.ol_wire.specs.Plays.{event_in, cell_at, swept_on}
 use Rattle.ol_wire.specs.StepPlays.{IsNodeOf, IsRefOf, cell_in_hand, paired, ticketed, late}
-use Rattle.ol_wire.specs.Stand.{Board}
+use Rattle.ol_wire.specs.Stand.{TableState}
 use Rattle.ol_wire.specs.Layout.{left_word}
 use Rattle.ol_wire.specs.Hands.{claiming, missed}
 
 -- a claim of cell c has taken its left word, and the right one isn't read yet
-abbrev pub HasClaimed : Board → View → ℕ → ℕ → View → Type 0
+abbrev pub HasClaimed : TableState → View → ℕ → ℕ → View → Type 0
 HasClaimed b v c left n = n ≡ record (claiming v c (left, 0)) { taken = (left_word b.plan.parts c, left) ∷ [] }
 
 -- the left word of the pair in hand is that of the cell with left word w
@@ -22,11 +22,11 @@ abbrev pub HoldsLeft : View → ℕ → Type 0
 HoldsLeft v w = v.taken ≡ (w, v.last.0) ∷ []
 
 -- the right word of cell c is read
-abbrev pub HasPaired : Board → View → ℕ → ℕ → View → Type 0
+abbrev pub HasPaired : TableState → View → ℕ → ℕ → View → Type 0
 HasPaired b v c right n = n ≡ paired v (suc (left_word b.plan.parts c)) right
 
 -- a ticket below the fuel is drawn, or the fuel is used up
-abbrev pub HasDrawn : Board → View → Option ℕ → View → Type 0
+abbrev pub HasDrawn : TableState → View → Option ℕ → View → Type 0
 HasDrawn b v ticket n = MatchOption ticket (n ≡ late v) (λ t. (t < b.plan.parts.fuel) × (n ≡ ticketed v t))
 
 -- the pair is in the seat: w is the cell's left word
@@ -73,7 +73,7 @@ pub record Rewrote (v : View) (t : ℕ) (of_f of_g : List ℕ) (n : View) : Type
   pub links : n.pending ≡ links_of v.parts (event_in v) t (λ s. slice_index of_f s) (λ s. slice_index of_g s)
 
 -- a pair was taken from cell c, or the cell was empty
-abbrev pub HasTaken : Board → View → ℕ → Option (ℕ × ℕ) → View → Type 0
+abbrev pub HasTaken : TableState → View → ℕ → Option (ℕ × ℕ) → View → Type 0
 HasTaken b v c found n = MatchOption found (n ≡ missed v c) (λ (pair : ℕ × ℕ). (pair.0 ≢ 0) × (n ≡ in_hand v (left_word b.plan.parts c) c pair))
 
 abbrev pub AreNodesOf : Parts → ℕ × ℕ → Type 0

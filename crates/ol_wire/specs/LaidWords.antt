@@ -6,7 +6,7 @@ use Rattle.ol_net.specs.Graph.{Graph, partner_of}
 use Rattle.ol_rules.specs.Listed.{each}
 use Rattle.ol_wire.specs.declared.layout.Parts.{Parts}
 use Rattle.ol_wire.specs.References.{wire_ref}
-use Rattle.ol_wire.specs.Layout.{port_word, start_node, start_wire, start_cell, block, size}
+use Rattle.ol_wire.specs.Layout.{port_word, start_node, start_wire, start_cell, block, table_size}
 use Rattle.ol_wire.specs.Starts.{facing_pairs, pair_at}
 use Rattle.std.specs.declared.vec.Vec.{Vec}
 use Rattle.std.specs.declared.alloc.Global.{Global}
@@ -24,7 +24,7 @@ word_of_port net z n = word_to net z n (partner_of net (Free n))
 
 -- The net is laid out in these words.
 pub record IsLaid (net : Graph) (z : Parts) (words : List ℕ) : Type 0 where
-  pub wide : length words ≡ size z
+  pub wide : length words ≡ table_size z
   pub ticket : slice_index words 0 ≡ 0
   pub ports : (n : ℕ) → n < z.free → slice_index words (port_word n) ≡ word_of_port net z n
   pub fields : (n s : ℕ) → n < z.nodes → s < 2 → slice_index words (start_node z n + s) ≡ field_of net z n s

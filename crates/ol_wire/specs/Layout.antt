@@ -23,8 +23,8 @@ start_cell z c = 1 + z.free + 2 * z.nodes + z.wires + 2 * c
 abbrev pub block : Parts → ℕ → ℕ
 block z t = 1 + z.free + 2 * z.nodes + z.wires + 2 * z.cells + 22 * t
 
-abbrev pub size : Parts → ℕ
-size z = block z z.fuel
+abbrev pub table_size : Parts → ℕ
+table_size z = block z z.fuel
 
 abbrev pub place_of : Parts → NodeName → ℕ
 place_of z (Init k) = start_node z k
@@ -45,22 +45,22 @@ left_word z c = if nat_lt c z.cells then start_cell z c else born_cell z ((c - z
 abbrev pub cells_of : Parts → ℕ
 cells_of z = z.cells + 4 * z.fuel
 
-pub data Part : Type 0 where
-  ticket : Part
+pub data WordPart : Type 0 where
+  ticket : WordPart
   -- the word of a free port, by number
-  port : ℕ → Part
+  port : ℕ → WordPart
   -- the field of slot s + 1 of a node
-  field : NodeName → ℕ → Part
+  field : NodeName → ℕ → WordPart
   -- a wire of the start, by number
-  wire : ℕ → Part
+  wire : ℕ → WordPart
   -- the wire between two copies that a ticket made, by q and p
-  between : ℕ → ℕ → ℕ → Part
-  left : Part
-  right : Part
-  entry : Part
-  past : Part
+  between : ℕ → ℕ → ℕ → WordPart
+  left : WordPart
+  right : WordPart
+  entry : WordPart
+  past : WordPart
 
-abbrev pub part_in_block : ℕ → ℕ → Part
+abbrev pub part_in_block : ℕ → ℕ → WordPart
 part_in_block t j =
     if nat_lt j 2 then entry
     else if nat_lt j 10 then field (Born t ((j - 2) / 2)) ((j - 2) % 2)
@@ -68,14 +68,14 @@ part_in_block t j =
     else if j % 2 == 0 then left
     else right
 
-abbrev pub part_of : Parts → ℕ → Part
-part_of z w =
+abbrev pub part_of_word : Parts → ℕ → WordPart
+part_of_word z w =
     if w == 0 then ticket
     else if nat_lt w (start_node z 0) then port (w - 1)
     else if nat_lt w (start_wire z 0) then field (Init ((w - start_node z 0) / 2)) ((w - start_node z 0) % 2)
     else if nat_lt w (start_cell z 0) then wire (w - start_wire z 0)
     else if nat_lt w (block z 0) then (if (w - start_cell z 0) % 2 == 0 then left else right)
-    else if nat_lt w (size z) then part_in_block ((w - block z 0) / 22) ((w - block z 0) % 22)
+    else if nat_lt w (table_size z) then part_in_block ((w - block z 0) / 22) ((w - block z 0) % 22)
     else past
 
 -- a word of the block of that ticket

@@ -4,8 +4,8 @@ use Rattle.ol_net.specs.Graph.{Graph}
 use Rattle.ol_wire.specs.declared.layout.Parts.{Parts}
 use Rattle.ol_wire.specs.declared.view.Link.{Link}
 use Rattle.ol_wire.specs.declared.view.View.{View}
-use Rattle.ol_wire.specs.Layout.{size}
-use Rattle.ol_wire.specs.Edges.{times}
+use Rattle.ol_wire.specs.Layout.{table_size}
+use Rattle.ol_wire.specs.Edges.{times_in}
 use Rattle.ol_wire.specs.Views.{fresh}
 use Rattle.ol_wire.specs.StepPlays.{Play, linked, moved, knowing, publishing, IsRefOf}
 use Rattle.ol_wire.specs.LinkPlays.{times_drawn}
@@ -17,15 +17,15 @@ IsBetween l a b = ((l.one ≡ a) × (l.two ≡ b)) ⊎ ((l.one ≡ b) × (l.two 
 -- how often the numbers below n stand in the list
 abbrev pub spread : ℕ → List ℕ → ℕ
 spread zero xs = 0
-spread (suc n) xs = spread n xs + times n xs
+spread (suc n) xs = spread n xs + times_in n xs
 
 -- An exchange of one end of the first pending link into the word of the wire or free port at its other end. The word was empty, or the link
 -- goes on between the two ends, and one wire more is dead: of these there are no more than words.
 abbrev pub links : Play
 links s m r n = (n.1 ≡ m.1) × (r ≡ 0 → n.0 ≡ linked m.0)
     × (r ≢ 0 → (n.0 ≡ moved m.0 s.word s.first r) × IsRefOf m.0.parts s.first × IsRefOf m.0.parts r
-    × (spread (size m.0.parts) n.0.dead ≡ spread (size m.0.parts) m.0.dead + 1)
-    × (spread (size m.0.parts) n.0.dead ≤ size m.0.parts))
+    × (spread (table_size m.0.parts) n.0.dead ≡ spread (table_size m.0.parts) m.0.dead + 1)
+    × (spread (table_size m.0.parts) n.0.dead ≤ table_size m.0.parts))
 
 -- the second node of the first pending link is written into the right word of its cell
 abbrev pub places : Play

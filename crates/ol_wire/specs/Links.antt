@@ -4,18 +4,18 @@ use Rattle.ol_wire.specs.declared.layout.Parts.{Parts}
 use Rattle.ol_wire.specs.declared.view.Link.{Link}
 use Rattle.ol_wire.specs.declared.view.View.{View}
 use Rattle.ol_wire.specs.References.{place_in, IsNodeRef, IsWireRef}
-use Rattle.ol_wire.specs.Layout.{size}
+use Rattle.ol_wire.specs.Layout.{table_size}
 use Rattle.ol_wire.specs.LinkSteps.{IsBetween, spread}
 use Rattle.ol_wire.specs.Plays.{cell_at}
 use Rattle.ol_wire.specs.StepPlays.{rest, IsRefOf, linked, moved}
-use Rattle.ol_wire.specs.Stand.{Board}
+use Rattle.ol_wire.specs.Stand.{TableState}
 
 abbrev pub link_between : ℕ → ℕ → ℕ → Link
 link_between w a b = record { cell = w; one = a; two = b }
 
 -- what an end of a link has to be: a node, or a wire or a free port by a word of the table
 abbrev pub IsEndOf : Parts → ℕ → Type 0
-IsEndOf z r = IsNodeRef r ⊎ (IsWireRef r × (place_in r < size z))
+IsEndOf z r = IsNodeRef r ⊎ (IsWireRef r × (place_in r < table_size z))
 
 -- nothing is to be written before the links, and the first of them is that from a to b, of the cell with left word w
 abbrev pub IsNext : View → ℕ → ℕ → ℕ → Type 0
@@ -50,6 +50,6 @@ abbrev pub AreRefsOf : Parts → ℕ → ℕ → Type 0
 AreRefsOf z a b = IsRefOf z a × IsRefOf z b
 
 -- one wire more is dead: of these there are no more than words
-abbrev pub LosesWire : Board → View → View → Type 0
-LosesWire b v n = (spread (size b.plan.parts) n.dead ≡ spread (size b.plan.parts) v.dead + 1)
-    × (spread (size b.plan.parts) n.dead ≤ size b.plan.parts)
+abbrev pub LosesWire : TableState → View → View → Type 0
+LosesWire b v n = (spread (table_size b.plan.parts) n.dead ≡ spread (table_size b.plan.parts) v.dead + 1)
+    × (spread (table_size b.plan.parts) n.dead ≤ table_size b.plan.parts)

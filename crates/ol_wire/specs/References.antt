@@ -51,5 +51,5 @@ abbrev pub IsRef : ℕ → Type 0
 IsRef r = IsNodeRef r ⊎ IsWireRef r
 
 -- a reference as it is written: no bit of it is without a meaning
-abbrev pub IsWhole : ℕ → Type 0
-IsWhole r = (r ≡ node_ref (kind_in r) (index_in r) (place_in r)) ⊎ (r ≡ wire_ref (place_in r))
+abbrev pub IsWholeRef : ℕ → Type 0
+IsWholeRef r = (r ≡ node_ref (kind_in r) (index_in r) (place_in r)) ⊎ (r ≡ wire_ref (place_in r))

@@ -16,17 +16,17 @@ use Rattle.ol_wire.specs.declared.layout.Parts.{Parts}
 use Rattle.ol_wire.specs.declared.plan.Plan.{Plan}
 use Rattle.ol_wire.specs.declared.view.Link.{Link}
 use Rattle.ol_wire.specs.declared.view.View.{View}
-use Rattle.ol_wire.specs.References.{node_ref, place_in, IsNodeRef, IsRef, IsWhole}
-use Rattle.ol_wire.specs.Starts.{facing_pairs, start_net, AreParts}
+use Rattle.ol_wire.specs.References.{node_ref, place_in, IsNodeRef, IsRef, IsWholeRef}
+use Rattle.ol_wire.specs.Starts.{facing_pairs, start_net_of_plan, AreParts}
 use Rattle.ol_wire.specs.Laid.{field_of, node_word}
-use Rattle.ol_wire.specs.Layout.{Part, field, left, right, entry, part_of, place_of, start_node, start_cell, left_word, block, size, IsInBlock, IsPlaced}
-use Rattle.ol_wire.specs.Weights.{total, pairs, numbered, weigh, Empties}
+use Rattle.ol_wire.specs.Layout.{WordPart, field, left, right, entry, part_of_word, place_of, start_node, start_cell, left_word, block, table_size, IsInBlock, IsPlaced}
+use Rattle.ol_wire.specs.Weights.{total, pairs, weighed_by_place, weigh, Empties}
 use Rattle.ol_wire.specs.Events.{Event, rule_between, entry_of, IsStuckPair, IsPlayed}
 use Rattle.ol_wire.specs.Blocks.{block_words}
 use Rattle.ol_wire.specs.Sizes.{IsSmall}
-use Rattle.ol_wire.specs.Edges.{is_made, is_reached, times, deaths, edges_of, links_in}
-use Rattle.ol_wire.specs.Stands.{Stands}
-use Rattle.ol_wire.specs.Views.{fresh, IsSpent, past_fuel}
+use Rattle.ol_wire.specs.Edges.{is_made, is_reached, times_in, deaths, edges_of, links_in}
+use Rattle.ol_wire.specs.Stands.{StandsForNet}
+use Rattle.ol_wire.specs.Views.{fresh, IsSpentView, past_fuel}
 use Rattle.ol_wire.specs.Plays.{cell_at}
 
 abbrev pub Table : Type 0
@@ -49,20 +49,20 @@ links_at w links = total (λ (l : Link). if nat_eq l.cell w then 1 else 0) links
 
 -- how often the cell with left word w was published
 abbrev pub times_published : Parts → ℕ → List View → ℕ
-times_published z w views = total (λ (v : View). times (cell_at z w) v.published) views
+times_published z w views = total (λ (v : View). times_in (cell_at z w) v.published) views
 
 -- whether a word holds something, as a number
 abbrev pub filled : ℕ → ℕ
 filled word = if word == 0 then 0 else 1
 
 -- a word that never changes once it isn't empty: a field, or the right word of a cell
-abbrev pub IsLasting : Part → Type 0
+abbrev pub IsLasting : WordPart → Type 0
 IsLasting (field x s) = Unit {0}
 IsLasting right = Unit {0}
 IsLasting other = ⊥
 
 -- a word that the seat with the ticket writes before it makes links: a field, or a node of the entry
-abbrev pub IsOwn : Part → Type 0
+abbrev pub IsOwn : WordPart → Type 0
 IsOwn (field x s) = Unit {0}
 IsOwn entry = Unit {0}
 IsOwn other = ⊥
@@ -88,9 +88,9 @@ pub record PlanKeeps (p : Plan) : Type 0 where
 
 -- The journal so far is a run of the start net, and this is the net after it.
 pub record JournalKeeps (p : Plan) (log : List Event) (net : NamedNet NodeName) : Type 0 where
-  pub run : IsRun (start_net p) 0 (entries_of p.parts log) net
+  pub run : IsRun (start_net_of_plan p) 0 (entries_of p.parts log) net
   -- each event has the references of the two nodes that it rewrote
-  pub played : IsPlayed p.parts (start_net p) 0 log net
+  pub played : IsPlayed p.parts (start_net_of_plan p) 0 log net
   pub rules : (t : ℕ) (e : Event) → slice_get log t ≡ Some e → rule_between e.f e.g ≡ Some e.rule
   pub is_net : IsNet net
   pub ports : net.free_ports ≡ p.parts.free
@@ -100,7 +100,7 @@ pub record JournalKeeps (p : Plan) (log : List Event) (net : NamedNet NodeName) 
 
 -- a reference as it is written, to something that has been made
 abbrev pub IsMadeRef : Parts → List Event → ℕ → Type 0
-IsMadeRef z log r = IsRef r × IsWhole r × (place_in r < block z (length log))
+IsMadeRef z log r = IsRef r × IsWholeRef r × (place_in r < block z (length log))
 
 -- the right word of a cell whose join is a pending link: it is empty, or the link is about to be published
 abbrev pub IsRightOf : View → Link → ℕ → Type 0
@@ -112,13 +112,13 @@ HoldsStart full w l r = ((slice_index full w ≡ 0) ⊎ (slice_index full w ≡ 
 
 -- The words, once each view has written what it holds, are `full`. A word that a view holds is empty, and no other view holds it.
 pub record WordsKeep (p : Plan) (s : Table) (log : List Event) (full : List ℕ) : Type 0 where
-  pub wide : length s.words ≡ size p.parts
-  pub full_wide : length full ≡ size p.parts
+  pub wide : length s.words ≡ table_size p.parts
+  pub full_wide : length full ≡ table_size p.parts
   pub written : (h : ℕ → ℕ → ℕ) → Empties h
-      → weigh h s.words (size p.parts) + total (λ (v : View). pairs h v.due + pairs h v.taken) s.views ≡ weigh h full (size p.parts)
+      → weigh h s.words (table_size p.parts) + total (λ (v : View). pairs h v.due + pairs h v.taken) s.views ≡ weigh h full (table_size p.parts)
   -- each word but the ticket word holds a reference, and the words of a cell hold nodes
   pub refs : (w : ℕ) → 0 < w → slice_index full w ≢ 0 → IsMadeRef p.parts log (slice_index full w)
-  pub cells : (w : ℕ) → part_of p.parts w ≡ left → slice_index full w ≢ 0
+  pub cells : (w : ℕ) → part_of_word p.parts w ≡ left → slice_index full w ≢ 0
       → IsNodeRef (slice_index full w) × IsNodeRef (slice_index full (suc w))
   -- a field of the start is as it was, and so is a cell, or its left word is empty
   pub fields : (n c : ℕ) → n < p.parts.nodes → c < 2
@@ -132,7 +132,7 @@ pub record WordsKeep (p : Plan) (s : Table) (log : List Event) (full : List ℕ)
       → slice_index full (block p.parts t + j) ≡ slice_index (block_words p.parts e t) j
   -- what a view knows stands there
   pub known : (v : View) (w y : ℕ) → IsView s v → IsIn (w, y) v.known
-      → (slice_index s.words w ≡ y) × (y ≢ 0) × IsLasting (part_of p.parts w)
+      → (slice_index s.words w ≡ y) × (y ≢ 0) × IsLasting (part_of_word p.parts w)
 
 -- one of the two nodes of an event
 abbrev pub IsNodeOfEvent : ℕ → Event → Type 0
@@ -140,7 +140,7 @@ IsNodeOfEvent r e = (r ≡ e.f) ⊎ (r ≡ e.g)
 
 -- ticket t rewrote the pair of the cell with left word w
 abbrev pub IsUsedBy : Plan → List Event → List ℕ → ℕ → ℕ → Type 0
-IsUsedBy p log full t w = (part_of p.parts w ≡ left) × (w < block p.parts t) × (slice_index full w ≡ 0)
+IsUsedBy p log full t w = (part_of_word p.parts w ≡ left) × (w < block p.parts t) × (slice_index full w ≡ 0)
     × ((e : Event) → slice_get log t ≡ Some e → IsNodeOfEvent (slice_index full (suc w)) e)
 
 -- the cell with left word w holds no active pair
@@ -149,7 +149,7 @@ HoldsNoActive full w = (slice_index full w ≡ 0) ⊎ IsStuckPair (slice_index f
 
 -- the cell of a pending link, in which nothing was published
 abbrev pub IsUnpublished : Plan → List ℕ → List ℕ → View → Link → Type 0
-IsUnpublished p from full v l = (part_of p.parts l.cell ≡ left) × (slice_index full l.cell ≡ 0)
+IsUnpublished p from full v l = (part_of_word p.parts l.cell ≡ left) × (slice_index full l.cell ≡ 0)
     × IsRightOf v l (slice_index full (suc l.cell)) × ((t w : ℕ) → slice_get from t ≡ Some w → w ≢ l.cell)
 
 -- The cells. `from` has, for each ticket, the left word of the cell whose pair it rewrote; that word stays empty, and the right word stays one of
@@ -167,8 +167,8 @@ pub record CellsKeep (p : Plan) (s : Table) (log : List Event) (from full : List
       → (v.holds ≡ p.seats) × HoldsNoActive full (left_word p.parts c)
       × ((l : Link) → IsIn l v.pending → l.cell ≢ left_word p.parts c)
   -- a pair stands in the cell of a block, or was rewritten, as often as the cell is in a view's list of those that it published
-  pub published : (w : ℕ) → part_of p.parts w ≡ left → block p.parts 0 ≤ w
-      → times_published p.parts w s.views ≡ filled (slice_index full w) + times w from
+  pub published : (w : ℕ) → part_of_word p.parts w ≡ left → block p.parts 0 ≤ w
+      → times_published p.parts w s.views ≡ filled (slice_index full w) + times_in w from
 
 -- a word of the block of a ticket that the view has drawn
 abbrev pub IsInOwnBlock : Parts → View → ℕ → Type 0
@@ -186,18 +186,18 @@ pub record SeatsKeep (p : Plan) (s : Table) (log : List Event) (net : NamedNet N
   pub calm : slice_index s.words 0 ≤ p.parts.fuel + total past_fuel s.views
   pub over : (v : View) → IsView s v → v.over ≡ true → (p.parts.fuel ≤ slice_index s.words 0) × HasActive net
   pub plans : (v : View) → IsView s v → 0 < v.holds → KnowsPlan p v
-  pub spent : (v : View) → IsView s v → v.holds ≡ 0 → IsSpent v
+  pub spent : (v : View) → IsView s v → v.holds ≡ 0 → IsSpentView v
   -- a claimed pair is that of a cell
-  pub taken : (v : View) (w y : ℕ) → IsView s v → IsIn (w, y) v.taken → (part_of p.parts w ≡ left) × (y ≢ 0)
+  pub taken : (v : View) (w y : ℕ) → IsView s v → IsIn (w, y) v.taken → (part_of_word p.parts w ≡ left) × (y ≢ 0)
   -- what a view has to write and to link is in the block of its own ticket
   pub due : (v : View) (w y : ℕ) → IsView s v → IsIn (w, y) v.due
-      → (y ≢ 0) × IsOwn (part_of p.parts w) × IsInOwnBlock p.parts v w
+      → (y ≢ 0) × IsOwn (part_of_word p.parts w) × IsInOwnBlock p.parts v w
   pub links : (v : View) (l : Link) → IsView s v → IsIn l v.pending → IsInOwnBlock p.parts v l.cell
   -- a field that a view has to write is that of a live node, and the one edge at this node's slot 0 is that of one of the view's own links
   pub due_fields : (v : View) (w y : ℕ) (x : NodeName) (c : ℕ) → IsView s v → IsIn (w, y) v.due
-      → part_of p.parts w ≡ field x c → IsLinkedField p.parts net v.pending x c
+      → part_of_word p.parts w ≡ field x c → IsLinkedField p.parts net v.pending x c
   -- each ticket below the fuel is one view's
-  pub made : (h : ℕ → Entry → ℕ) → total (λ (v : View). pairs h v.made) s.views ≡ numbered h 0 (entries_of p.parts log)
+  pub made : (h : ℕ → Entry → ℕ) → total (λ (v : View). pairs h v.made) s.views ≡ weighed_by_place h 0 (entries_of p.parts log)
   -- a wire is dead in one view at most, and only where it was made
   pub dead : (w : ℕ) → deaths w s.views ≤ bit (is_made p.parts log w)
 
@@ -214,4 +214,4 @@ pub record Kept (p : Plan) (s : Table) : Type 0 where
   pub cells : CellsKeep p s log from full
   pub seats : SeatsKeep p s log net
   -- the edges of the words and of the pending links stand for the net
-  pub stands : Stands p.parts net (is_reached p.parts log s.views) (edges_of p.parts net log full s.views)
+  pub stands : StandsForNet p.parts net (is_reached p.parts log s.views) (edges_of p.parts net log full s.views)

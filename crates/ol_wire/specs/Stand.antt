@@ -6,12 +6,12 @@ use Rattle.ol_wire.specs.declared.view.View.{View}
 use Rattle.ol_wire.specs.Views.{fresh}
 
 -- which table it is, and what it was told when it was made
-pub record Board : Type 0 where
+pub record TableState : Type 0 where
   pub table : TableId
   pub plan : Plan
 
 -- which table the seat is of, and what it has done and holds
-pub record Stand : Type 0 where
+pub record SeatState : Type 0 where
   pub table : TableId
   pub view : View
 
@@ -20,9 +20,9 @@ abbrev pub IsUnder : Plan → View → Type 0
 IsUnder p v = (v.parts ≡ p.parts) × (v.seats ≡ p.seats) × (0 < v.holds) × (v.start ≡ p.start.value)
 
 -- the seat is of this table
-abbrev pub IsOf : Board → Stand → Type 0
-IsOf b s = (s.table ≡ b.table) × IsUnder b.plan s.view
+abbrev pub IsSeatOf : TableState → SeatState → Type 0
+IsSeatOf b s = (s.table ≡ b.table) × IsUnder b.plan s.view
 
 -- and it is one seat that has done nothing
-abbrev pub IsFresh : Board → Stand → Type 0
-IsFresh b s = (s.table ≡ b.table) × (s.view ≡ fresh b.plan.parts b.plan.start.value b.plan.seats 1)
+abbrev pub IsNewSeat : TableState → SeatState → Type 0
+IsNewSeat b s = (s.table ≡ b.table) × (s.view ≡ fresh b.plan.parts b.plan.start.value b.plan.seats 1)

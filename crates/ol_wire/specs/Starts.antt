@@ -12,8 +12,8 @@ use Rattle.ol_wire.specs.declared.layout.Parts.{Parts}
 use Rattle.ol_wire.specs.declared.plan.Plan.{Plan}
 
 -- the net that the table was made from, under the names of start nodes
-abbrev pub start_net : Plan → NamedNet NodeName
-start_net p = net_under Init (net_of p.start.value)
+abbrev pub start_net_of_plan : Plan → NamedNet NodeName
+start_net_of_plan p = net_under Init (net_of p.start.value)
 
 -- the pair of node n, where it faces a node of a greater number
 abbrev pub pair_with : ℕ → Option Port → List (ℕ × ℕ)

@@ -8,7 +8,7 @@ use Rattle.ol_wire.specs.declared.layout.Parts.{Parts}
 use Rattle.ol_wire.specs.declared.view.Link.{Link}
 use Rattle.ol_wire.specs.declared.view.View.{View}
 use Rattle.ol_wire.specs.References.{IsNodeRef, IsWireRef, kind_in, index_in, place_in, node_ref}
-use Rattle.ol_wire.specs.Layout.{block, size}
+use Rattle.ol_wire.specs.Layout.{block, table_size}
 use Rattle.ol_wire.specs.Events.{rule_between, entry_of}
 use Rattle.ol_wire.specs.Blocks.{block_words}
 use Rattle.ol_wire.specs.LinkLists.{to_write, links_of}
@@ -119,11 +119,11 @@ fewer v = record v { holds = v.holds - 1 }
 -- a reference of a node whose fields are words of the table
 abbrev pub IsNodeOf : Parts → ℕ → Type 0
 IsNodeOf z r = IsNodeRef r × (r ≡ node_ref (kind_in r) (index_in r) (place_in r)) × (index_in r ≤ 1000000 + z.fuel)
-    × (0 < place_in r) × (place_in r + 1 < size z)
+    × (0 < place_in r) × (place_in r + 1 < table_size z)
 
 -- a reference of a node, or one of a wire or a free port by a word of the table
 abbrev pub IsRefOf : Parts → ℕ → Type 0
-IsRefOf z r = IsNodeOf z r ⊎ (IsWireRef r × (0 < place_in r) × (place_in r < size z))
+IsRefOf z r = IsNodeOf z r ⊎ (IsWireRef r × (0 < place_in r) × (place_in r < table_size z))
 
 abbrev pub claims : Play
 claims s m r n = (n.1 ≡ m.1) × (r ≡ 0 → n.0 ≡ missing m.0 s.word)

@@ -13,12 +13,12 @@ use Rattle.ol_wire.specs.Rewrites.{event_for}
 use Rattle.ol_wire.specs.InHand as hands
 use Rattle.ol_wire.specs.InHand.{in_hand, AreRefs}
 use Rattle.ol_wire.specs.declared.rewrite.Rewrite.{Rewrite}
-use Rattle.ol_wire.specs.Stand.{Board}
+use Rattle.ol_wire.specs.Stand.{TableState}
 use Rattle.ol_wire.specs.Links.{link_between}
 use Rattle.ol_wire.specs.Turns.{FoundActive, HasCause, Leaves, masked}
 
 -- The first part of a turn that rewrites: the pair has become a ticket, and its links are pending.
-pub record Begins (z : Parts) (v : View) (c : ℕ) (b : Begun) (n : View) : Type 0 where
+pub record TurnBegins (z : Parts) (v : View) (c : ℕ) (b : Begun) (n : View) : Type 0 where
   pub cause : FoundActive n × (n.over ≡ false)
   pub ticket : b.ticket < z.fuel
   pub event : event_for b.rewrite ≡ event_in n
@@ -42,10 +42,10 @@ pub record AreLinked (z : Parts) (v : View) (b : Begun) (m : ℕ) (n : View) : T
   pub view : n ≡ record v { pending = []; known = n.known; published = v.published ++ masked (z.cells + 4 * b.ticket) m; dead = n.dead }
 
 -- the first part of a turn on cell c has begun a rewrite, or the turn has ended
-abbrev pub HasBegun : Board → View → ℕ → View → Begun → Type 0
-HasBegun b v c n begun = Begins b.plan.parts v c begun n
+abbrev pub HasBegun : TableState → View → ℕ → View → Begun → Type 0
+HasBegun b v c n begun = TurnBegins b.plan.parts v c begun n
 
-abbrev pub HasEnded : Board → View → ℕ → View → Turn → Type 0
+abbrev pub HasEnded : TableState → View → ℕ → View → Turn → Type 0
 HasEnded b v c n t = HasCause t n × Leaves b.plan.parts v c t n
 
 -- the rewrite is that of the pair in hand, which has a rule
@@ -53,7 +53,7 @@ abbrev pub IsRewriteInHand : View → Rewrite → Type 0
 IsRewriteInHand v w = (event_for w ≡ event_in v) × (rule_between w.f w.g ≡ Some w.rule)
 
 -- the fuel was used up, or the rewrite has a ticket and its words are written
-abbrev pub HasBegunOrLate : Board → View → Rewrite → Option Begun → View → Type 0
+abbrev pub HasBegunOrLate : TableState → View → Rewrite → Option Begun → View → Type 0
 HasBegunOrLate b v w found n = MatchOption found (n ≡ record v { known = n.known; over = true })
     (λ (x : Begun). (x.ticket < b.plan.parts.fuel) × (x.rewrite ≡ w) × hands.Rewrote v x.ticket x.of_f x.of_g n)
 

@@ -41,7 +41,7 @@ abbrev pub masked : ℕ → ℕ → List ℕ
 masked first mask = each 4 (λ j. if mask / 2 ^ j % 2 == 1 then (first + j) ∷ [] else [])
 
 -- The pair has become ticket t, and each link that it left is made: those of two nodes stand in the cells of the mask.
-pub record Rewritten (z : Parts) (v : View) (c t : ℕ) (r : Rule) (b m : ℕ) (n : View) : Type 0 where
+pub record TurnRewrites (z : Parts) (v : View) (c t : ℕ) (r : Rule) (b m : ℕ) (n : View) : Type 0 where
   pub ticket : t < z.fuel
   pub rule : r ≡ (event_in n).rule
   pub first : b ≡ z.cells + 4 * t
@@ -60,4 +60,4 @@ abbrev pub Leaves : Parts → View → ℕ → Turn → View → Type 0
 Leaves z v c Gone n = n ≡ missed v c
 Leaves z v c Stuck n = n ≡ record (claiming v c n.last) { known = []; swept = swept_on v c }
 Leaves z v c Spent n = n ≡ record (claiming v c n.last) { known = []; over = true }
-Leaves z v c (Rewrote t r b m) n = Rewritten z v c t r b m n
+Leaves z v c (Rewrote t r b m) n = TurnRewrites z v c t r b m n

@@ -24,8 +24,8 @@ fresh z net seats holds = record {
 }
 
 -- there is nothing in it: its seat was joined to another
-abbrev pub IsSpent : View → Type 0
-IsSpent v = v ≡ fresh v.parts v.start v.seats 0
+abbrev pub IsSpentView : View → Type 0
+IsSpentView v = v ≡ fresh v.parts v.start v.seats 0
 
 -- the seats of a view that has read a ticket at or above the fuel
 abbrev pub past_fuel : View → ℕ

@@ -9,9 +9,9 @@ abbrev pub pairs : {A B : Type 0} → (A → B → ℕ) → List (A × B) → �
 pairs {A} {B} h xs = total (λ (x : A × B). h x.0 x.1) xs
 
 -- the members of a list, each under its number, from k on
-abbrev pub numbered : {A : Type 0} → (ℕ → A → ℕ) → ℕ → List A → ℕ
-numbered h k [] = 0
-numbered h k (x ∷ xs) = h k x + numbered h (suc k) xs
+abbrev pub weighed_by_place : {A : Type 0} → (ℕ → A → ℕ) → ℕ → List A → ℕ
+weighed_by_place h k [] = 0
+weighed_by_place h k (x ∷ xs) = h k x + weighed_by_place h (suc k) xs
 
 -- the first n words, each under its number
 abbrev pub weigh : (ℕ → ℕ → ℕ) → List ℕ → ℕ → ℕ
@@ -24,4 +24,4 @@ Empties h = (k : ℕ) → h k 0 ≡ 0
 
 -- the pairs are the members of the list, each under its number
 abbrev pub AreNumbered : {A : Type 0} → List (ℕ × A) → List A → Type 0
-AreNumbered {A} xs ys = (h : ℕ → A → ℕ) → pairs h xs ≡ numbered h 0 ys
+AreNumbered {A} xs ys = (h : ℕ → A → ℕ) → pairs h xs ≡ weighed_by_place h 0 ys

@@ -2,7 +2,7 @@
 ghost use Rattle.std.specs.Prelude.{◌≡◌, ℕ, ◌+◌, ◌<◌, ◌≤◌, length, MatchOption, slice_get, slice_index};
 ghost use Rattle.core.specs.Mem.Slots.{slots_items, slots_len, IsFull};
 ghost use Rattle.ol_wire.specs.Closed.{ClosedTable, events_in, event_at, journal_in, HasWord, closed_of};
-ghost use Rattle.ol_wire.specs.Layout.{size as size_of};
+ghost use Rattle.ol_wire.specs.Layout.{table_size as size_of};
 ghost use Rattle.ol_wire.specs.Sizes.{IsSmall};
 ghost use Rattle.ol_wire.specs.ClosedRule.{IsClosed, IsClosedOf};
 

@@ -1,7 +1,7 @@
 //! Tables that are closed: what their words tell.
 ghost use Rattle.std.specs.Prelude.{◌≡◌, ◌≤◌, IfSome, length, is_some, count_by};
 ghost use Rattle.ol_wire.specs.Sizes.{IsSmallNet};
-ghost use Rattle.ol_wire.specs.Stand.{IsFresh};
+ghost use Rattle.ol_wire.specs.Stand.{IsNewSeat};
 
 use crate::Turn;
 use crate::seat::Seat;
@@ -24,7 +24,7 @@ fn alone(alloc: Global, net: &Net, fuel: u32) -> Option<(Shared, Seat)>
     requires whole { count_by is_some net.now.nodes ≡ length net.now.nodes }
     requires small { IsSmallNet net.now }
     requires fuel { fuel ≤ 2000000 }
-    ensures { IfSome result (λ r. IsFresh r.0 r.1 × (r.0.plan.seats ≡ 1)) }
+    ensures { IfSome result (λ r. IsNewSeat r.0 r.1 × (r.0.plan.seats ≡ 1)) }
 {
     let Ok((shared, mut seats)) = Shared::make(alloc, net, fuel, 1) else {
         return None;

@@ -2,7 +2,7 @@
 ghost use Rattle.std.specs.Prelude.{◌≡◌, ℕ, ◌+◌, ◌<◌, ◌≤◌, []};
 ghost use Rattle.ol_wire.specs.LinkPlays.{times_drawn};
 ghost use Rattle.ol_wire.specs.Plays.{joined};
-ghost use Rattle.ol_wire.specs.Stand.{IsOf};
+ghost use Rattle.ol_wire.specs.Stand.{IsSeatOf};
 ghost use Rattle.ol_wire.specs.Tokens.{IsTokenOf, IsSameSeat};
 ghost use Rattle.ol_wire.specs.Idle.{IsIdle};
 
@@ -14,8 +14,8 @@ impl Shared {
     /// Moves what one seat has done, and the seats that it stands for, to another. No ticket then
     /// stands twice among those of the one.
     pub fn join(&self, into: &mut Seat, from: Seat)
-        requires seats { IsOf self.now into.old × IsOf self.now from }
-        ensures seat { IsOf self.now into.new }
+        requires seats { IsSeatOf self.now into.old × IsSeatOf self.now from }
+        ensures seat { IsSeatOf self.now into.new }
         ensures view { into.new.view ≡ joined into.old.view from.view }
         ensures once { (ticket : ℕ) → times_drawn ticket into.new.view.made ≤ 1 }
     {

@@ -2,7 +2,7 @@
 ghost use Rattle.std.specs.Prelude.{◌≡◌, suc, ◌<◌, ◌≤◌, [], ◌∷◌, ◌++◌, length, IfOk, OnOk, replicate, vec_len, is_some, count_by};
 ghost use Rattle.ol_rules.specs.Listed.{each};
 ghost use Rattle.ol_wire.specs.References.{wire_ref};
-ghost use Rattle.ol_wire.specs.Layout.{port_word, start_node, size};
+ghost use Rattle.ol_wire.specs.Layout.{port_word, start_node, table_size};
 ghost use Rattle.ol_wire.specs.Sizes.{IsSmall, IsSmallNet};
 ghost use Rattle.ol_wire.specs.Starts.{AreParts, aux_links, facing_pairs, pair_at};
 ghost use Rattle.atomic_table.specs.Table.{opening};
@@ -238,7 +238,7 @@ pub(crate) fn lay(alloc: Global, net: &Net, fuel: u32) -> Result<(Parts, Vec<u64
     requires fuel { fuel ≤ 2000000 }
     ensures parts { IfOk result (λ r. AreParts net.now fuel r.0) }
     ensures small { IfOk result (λ r. IsSmall r.0) }
-    ensures words { IfOk result (λ r. vec_len r.1 ≡ size r.0) }
+    ensures words { IfOk result (λ r. vec_len r.1 ≡ table_size r.0) }
     ensures kept { IfOk result (λ r. Opens net.now r.0 r.1.items) }
 {
     net.is_net();

@@ -1,6 +1,6 @@
 //! How the words of a table are laid out.
 ghost use Rattle.std.specs.Prelude.{◌≡◌, ℕ, ◌+◌, ◌*◌, ◌<◌, ◌≤◌};
-ghost use Rattle.ol_wire.specs.Layout.{start_node, start_wire, start_cell, block, size, left_word, cells_of};
+ghost use Rattle.ol_wire.specs.Layout.{start_node, start_wire, start_cell, block, table_size, left_word, cells_of};
 ghost use Rattle.ol_wire.specs.Sizes.{IsSmall};
 
 /// The numbers of the parts of a table.
@@ -58,7 +58,7 @@ impl Parts {
     /// The number of all words.
     pub fn size(self) -> u32
         requires { IsSmall self }
-        ensures { result ≡ size self }
+        ensures { result ≡ table_size self }
     {
         self.block(self.fuel)
     }

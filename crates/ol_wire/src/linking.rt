@@ -3,7 +3,7 @@
 ghost use Rattle.std.specs.Prelude.{◌≡◌, ◌≢◌, ℕ, suc, ◌+◌, ◌*◌, ◌^◌, ◌<◌, ◌≤◌, ◌⊎◌, [], Some, MatchOption, IfSome, slice_index};
 ghost use Rattle.ol_wire.specs.References.{index_in, place_in, IsNodeRef, IsWireRef};
 ghost use Rattle.ol_wire.specs.Events.{rule_between};
-ghost use Rattle.ol_wire.specs.Layout.{size, born_cell};
+ghost use Rattle.ol_wire.specs.Layout.{table_size, born_cell};
 ghost use Rattle.ol_wire.specs.LinkLists.{joins_in, link_of};
 ghost use Rattle.ol_wire.specs.StepPlays.{IsRefOf, linked, moved, publishing};
 ghost use Rattle.ol_wire.specs.LinkSteps.{spread};
@@ -58,7 +58,7 @@ impl Parts {
 
     // The word of a wire or of a free port.
     fn word_of(self, wire: u64) -> u32
-        requires { IsSmall self × (place_in wire < size self) }
+        requires { IsSmall self × (place_in wire < table_size self) }
         ensures { result ≡ place_in wire }
     {
         place_in(wire)
@@ -112,7 +112,7 @@ impl Shared {
         requires token { IsTokenOf self.now token.old }
         requires next { IsNext token.old.me.0 cell one two }
         requires ends { IsEndOf self.now.plan.parts one × IsEndOf self.now.plan.parts two }
-        requires cell { suc cell < size self.now.plan.parts }
+        requires cell { suc cell < table_size self.now.plan.parts }
         ensures token { IsSameSeat token.old token.new }
         ensures view { IsLinked token.old.me.0 cell result token.new.me.0 }
     {
@@ -136,7 +136,7 @@ impl Shared {
     fn exchange(&self, token: &mut Token, wire: u64, other: u64) -> Option<u64>
         requires token { IsTokenOf self.now token.old }
         requires next { AreNext token.old.me.0 wire other }
-        requires wire { IsWireRef wire × (place_in wire < size self.now.plan.parts) }
+        requires wire { IsWireRef wire × (place_in wire < table_size self.now.plan.parts) }
         ensures token { IsSameSeat token.old token.new }
         ensures view { HasExchanged token.old.me.0 wire other result token.new.me.0 }
         ensures ends { IfSome result (AreRefsOf self.now.plan.parts other) }
@@ -155,7 +155,7 @@ impl Shared {
         requires token { IsTokenOf self.now token.old }
         requires next { IsNext token.old.me.0 cell one two }
         requires nodes { IsNodeRef one × IsNodeRef two }
-        requires cell { suc cell < size self.now.plan.parts }
+        requires cell { suc cell < table_size self.now.plan.parts }
         ensures token { IsSameSeat token.old token.new }
         ensures view { token.new.me.0 ≡ publishing token.old.me.0 cell }
     {

@@ -3,7 +3,7 @@ ghost use Rattle.std.specs.Prelude.{◌≡◌, true};
 ghost use Rattle.ol_net.specs.Nets.{NamedNet};
 ghost use Rattle.ol_rules.specs.declared.journal.NodeName.{NodeName};
 ghost use Rattle.ol_rules.specs.Runs.{IsComplete, HasActive};
-ghost use Rattle.ol_wire.specs.Closed.{journal_drawn, IsAfter, EachAfter, HasOneAfter, AreOnce, AreGone, IsEmptyUndrawn, IsFuelUsed, HasSweptAll};
+ghost use Rattle.ol_wire.specs.Closed.{journal_drawn, IsAfter, EachAfter, HasOneAfter, NoNodeTwice, AreGone, IsEmptyUndrawn, IsFuelUsed, HasSweptAll};
 ghost use Rattle.ol_wire.specs.Weights.{AreNumbered};
 ghost use Rattle.ol_wire.specs.Standing.{StandForNet};
 
@@ -36,7 +36,7 @@ impl Words {
 
     /// Law: no node is rewritten twice, and one that was rewritten isn't there any more.
     pub fn once(&self)
-        ensures once { AreOnce (journal_drawn self.now) }
+        ensures once { NoNodeTwice (journal_drawn self.now) }
         ensures gone { EachAfter self.now (AreGone (journal_drawn self.now)) }
     {
         let _ = &self.closed;

@@ -2,7 +2,7 @@
 ghost use Rattle.std.specs.Prelude.{◌≡◌, ◌<◌, ◌≤◌, [], false};
 ghost use Rattle.ol_wire.specs.Layout.{cells_of};
 ghost use Rattle.ol_wire.specs.StepPlays.{fewer, one_seat};
-ghost use Rattle.ol_wire.specs.Stand.{Stand};
+ghost use Rattle.ol_wire.specs.Stand.{SeatState};
 ghost use Rattle.ol_wire.specs.Tokens.{IsAtRest};
 ghost use Rattle.ol_wire.specs.Idle.{IsIdle};
 
@@ -25,7 +25,7 @@ pub struct Seat {
 }
 
 impl Model for Seat {
-    ghost Value = { Stand };
+    ghost Value = { SeatState };
 
     ghost view = { λ s. record { table = s.token.table_id; view = s.token.me.0 } };
 

@@ -2,7 +2,7 @@
 ghost use Rattle.std.specs.Prelude.{◌≡◌, ℕ, length};
 ghost use Rattle.ol_wire.specs.Moments.{Moment};
 ghost use Rattle.ol_wire.specs.Looking.{MomentWith};
-ghost use Rattle.ol_wire.specs.Stand.{IsOf};
+ghost use Rattle.ol_wire.specs.Stand.{IsSeatOf};
 ghost use Rattle.ol_wire.specs.Tokens.{IsTokenOf, IsSameSeat};
 
 use crate::law::Sees;
@@ -16,7 +16,7 @@ impl Shared {
     ///
     /// It is one load. It takes no memory and doesn't wait.
     pub fn events(&self, seat: &mut Seat) -> u32
-        requires seat { IsOf self.now seat.old }
+        requires seat { IsSeatOf self.now seat.old }
         ensures seat { seat.new ≡ seat.old }
         ensures moment { (m : Moment self.now.plan seat.old.view) × (length m.kept.log ≡ result) }
     {

@@ -1,9 +1,9 @@
 //! The table that threads share.
 ghost use Rattle.std.specs.Prelude.{◌≡◌, ◌+◌, ◌<◌, ◌≤◌, [], All, IfOk, vec_len, length, is_some, count_by};
-ghost use Rattle.ol_wire.specs.Layout.{size as size_of, cells_of};
+ghost use Rattle.ol_wire.specs.Layout.{table_size as size_of, cells_of};
 ghost use Rattle.ol_wire.specs.Sizes.{IsSmall, IsSmallNet};
 ghost use Rattle.ol_wire.specs.Starts.{AreParts};
-ghost use Rattle.ol_wire.specs.Stand.{Board, IsFresh};
+ghost use Rattle.ol_wire.specs.Stand.{TableState, IsNewSeat};
 ghost use Rattle.ol_wire.specs.Tokens.{IsFreshFor, IsTable};
 ghost use Rattle.ol_wire.specs.Views.{fresh};
 
@@ -29,7 +29,7 @@ pub struct Shared {
 }
 
 impl Model for Shared {
-    ghost Value = { Board };
+    ghost Value = { TableState };
 
     ghost view = { λ s. record { table = s.table.shared.table_id; plan = s.table.shared.key } };
 
@@ -59,7 +59,7 @@ impl Shared {
         ensures parts { IfOk result (λ r. AreParts net.now fuel r.0.plan.parts) }
         ensures start { IfOk result (λ r. r.0.plan.start.value ≡ net.now) }
         ensures seats { IfOk result (λ r. (r.0.plan.seats ≡ seats) × (vec_len r.1 ≡ seats)) }
-        ensures dealt { IfOk result (λ r. All (IsFresh r.0) r.1.items) }
+        ensures dealt { IfOk result (λ r. All (IsNewSeat r.0) r.1.items) }
     {
         let (parts, words) = lay(alloc, net, fuel)?;
         let plan = Plan {
@@ -87,7 +87,7 @@ impl Shared {
     // Cuts a seat that has done nothing into seats of one each.
     fn deal(&self, alloc: Global, mut seat: Seat, count: u32) -> Result<Vec<Seat>, NoMemory>
         requires seat { IsFreshFor self.now seat count }
-        ensures { IfOk result (λ v. (vec_len v ≡ count) × All (IsFresh self.now) v.items) }
+        ensures { IfOk result (λ v. (vec_len v ≡ count) × All (IsNewSeat self.now) v.items) }
     {
         let Ok(mut seats) = Vec::with_capacity(alloc, count as usize) else {
             return Err(NoMemory);

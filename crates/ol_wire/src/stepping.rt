@@ -3,7 +3,7 @@ ghost use Rattle.std.specs.Prelude.{◌≡◌, ◌≢◌, ℕ, suc, ◌+◌, ◌
 ghost use Rattle.ol_edges.specs.Edges.{IsIn};
 ghost use Rattle.ol_net.specs.Parts.{arity};
 ghost use Rattle.ol_wire.specs.References.{kind_in, place_in};
-ghost use Rattle.ol_wire.specs.Layout.{size, left_word, cells_of};
+ghost use Rattle.ol_wire.specs.Layout.{table_size, left_word, cells_of};
 ghost use Rattle.ol_wire.specs.StepPlays.{IsNodeOf, IsRefOf, IsLookedUp, paired, knowing, ticketed, late, wrote, returned, rest};
 ghost use Rattle.ol_wire.specs.Sizes.{IsSmall};
 ghost use Rattle.ol_wire.specs.Tokens.{IsTokenOf, IsSameSeat};
@@ -90,7 +90,7 @@ impl Shared {
     pub(crate) fn write(&self, token: &mut Token, at: u32, word: u64)
         requires token { IsTokenOf self.now token.old }
         requires due { token.old.me.0.due ≡ (at, word) ∷ rest token.old.me.0.due }
-        requires within { at < size self.now.plan.parts }
+        requires within { at < table_size self.now.plan.parts }
         ensures token { IsSameSeat token.old token.new }
         ensures view { token.new.me.0 ≡ wrote token.old.me.0 }
     {

@@ -1,6 +1,6 @@
 //! Turns on small nets, row by row.
 ghost use Rattle.std.specs.Prelude.{◌≡◌, ◌<◌, ◌≤◌, All, IfOk};
-ghost use Rattle.ol_wire.specs.Stand.{IsFresh, IsOf};
+ghost use Rattle.ol_wire.specs.Stand.{IsNewSeat, IsSeatOf};
 
 use crate::{Seat, Shared, Turn};
 use ol_net::{Kind, Net, NodeId, Port, Rule};
@@ -57,7 +57,7 @@ fn table_of(
     seats: u32,
 ) -> Result<(Shared, Vec<Seat>), Fail>
     requires { (fuel ≤ 4) × (0 < seats) × (seats ≤ 2) }
-    ensures { IfOk result (λ r. All (IsFresh r.0) r.1.items) }
+    ensures { IfOk result (λ r. All (IsNewSeat r.0) r.1.items) }
 {
     assert!(rt; net.nodes() == net.born());
     assert!(rt; net.born() <= 1_000_000);
@@ -68,8 +68,8 @@ fn table_of(
 }
 
 fn turn(rt: &impl Abort, table: &Shared, seat: &mut Seat, cell: u32) -> Turn
-    requires { IsOf table.now seat.old }
-    ensures { IsOf table.now seat.new }
+    requires { IsSeatOf table.now seat.old }
+    ensures { IsSeatOf table.now seat.new }
 {
     assert!(rt; cell < table.cells());
     table.turn(seat, cell)

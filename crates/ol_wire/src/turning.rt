@@ -9,13 +9,13 @@ ghost use Rattle.ol_wire.specs.LinkLists.{to_write};
 ghost use Rattle.ol_wire.specs.Plays.{event_in};
 ghost use Rattle.ol_wire.specs.StepPlays.{IsNodeOf};
 ghost use Rattle.ol_wire.specs.Rewrites.{event_for};
-ghost use Rattle.ol_wire.specs.Stand.{IsOf};
+ghost use Rattle.ol_wire.specs.Stand.{IsSeatOf};
 ghost use Rattle.ol_wire.specs.Tokens.{IsTokenOf, IsSameSeat};
 ghost use Rattle.ol_wire.specs.Idle.{IsIdle};
 ghost use Rattle.ol_wire.specs.Hands.{IsStuckLast, missed};
 ghost use Rattle.ol_wire.specs.InHand.{in_hand, IsInHand, IsOfPair, fields_known, IsSure, AreFields, AreRefs, Rewrote, HasTaken, AreNodesOf, MayDraw, KeepsInHand, looked_at, KeepsSure};
 ghost use Rattle.ol_wire.specs.Turns.{FoundActive, IsRewrote, HasCause, Leaves, FoundStuck, FoundFuel, FoundNoFuel};
-ghost use Rattle.ol_wire.specs.TurnParts.{Begins, HasBegun, HasEnded, IsRewriteInHand, HasBegunOrLate, HasFieldsOf};
+ghost use Rattle.ol_wire.specs.TurnParts.{TurnBegins, HasBegun, HasEnded, IsRewriteInHand, HasBegunOrLate, HasFieldsOf};
 
 use crate::reference::kind_in;
 use crate::rewrite::{Rewrite, rewrite_of};
@@ -57,9 +57,9 @@ pub(crate) struct Begun {
 impl Shared {
     /// Claims a cell and rewrites the pair that stands there, if it has a rule and there is fuel.
     pub fn turn(&self, seat: &mut Seat, cell: u32) -> Turn
-        requires seat { IsOf self.now seat.old }
+        requires seat { IsSeatOf self.now seat.old }
         requires cell { cell < cells_of self.now.plan.parts }
-        ensures seat { IsOf self.now seat.new }
+        ensures seat { IsSeatOf self.now seat.new }
         ensures gone { (result ≡ Turn.Gone) ↔ (seat.new.view.last.0 ≡ 0) }
         ensures stuck { (result ≡ Turn.Stuck) ↔ FoundStuck seat.new.view }
         ensures spent { (result ≡ Turn.Spent) ↔ FoundNoFuel seat.new.view }

@@ -13,8 +13,8 @@ number_from n [] = n
 number_from n (digit ∷ digits) = number_from (n * 10 + (digit - 48)) digits
 
 -- the number that digits write
-abbrev pub number_of : Text → ℕ
-number_of text = number_from 0 text
+abbrev pub number_in : Text → ℕ
+number_in text = number_from 0 text
 
 -- what a setting may be, and what it is where it isn't given
 pub record Limits : Type 0 where
@@ -25,8 +25,8 @@ pub record Limits : Type 0 where
 -- the number that a text gives within the limits
 abbrev pub number_within : Limits → Text → Option ℕ
 number_within limits text =
-    if is_number text && (nat_le limits.least (number_of text) && nat_le (number_of text) limits.most)
-    then Some (number_of text) else None
+    if is_number text && (nat_le limits.least (number_in text) && nat_le (number_in text) limits.most)
+    then Some (number_in text) else None
 
 -- a setting by the values that are given to it: it is given at most once
 abbrev pub setting : Limits → List Text → Option ℕ

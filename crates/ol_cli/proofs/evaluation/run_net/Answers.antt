@@ -3,7 +3,7 @@ use Rattle.ol_rules.specs.declared.journal.Counts.{Counts}
 use Rattle.ol_rules.specs.Counting.{counts_of}
 use Rattle.ol_term.specs.Trees.{tree_of}
 use Rattle.ol_net.specs.Numbered.{net_of}
-use Rattle.ol_readback.specs.Trees.{IsTree}
+use Rattle.ol_readback.specs.ReadTrees.{IsTree}
 use Rattle.ol_readback.specs.Texts.{AreNamed}
 use Rattle.ol_cli.specs.Texts.{answer_text}
 use Rattle.ol_cli.proofs.Evaluated.{Told}

@@ -1,7 +1,7 @@
 use Rattle.std.proofs.Common.{ℕ, List, ◌∙◌, subst}
 use Rattle.ol_cli.specs.Answers.{FileAnswer, plain_run}
 use Rattle.ol_cli.specs.Handed.{FileHands, WhereEnded}
-use Rattle.ol_cli.specs.Trees.{FileIsReadAgain}
+use Rattle.ol_cli.specs.ReadAgain.{FileIsReadAgain}
 use Rattle.ol_cli.proofs.top.answer_made.Goals as goal
 
 pub returns-then-run-clause-made : goal.returns-then-run-clause-made

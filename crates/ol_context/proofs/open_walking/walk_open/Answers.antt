@@ -8,7 +8,7 @@ use Rattle.ol_context.specs.Ways.{Exits}
 use Rattle.ol_context.specs.Crossed.{IfOut}
 use Rattle.ol_context.specs.Open.{Open}
 use Rattle.ol_context.specs.Passed.{OpenThrough}
-use Rattle.ol_context.specs.OpenAnswers.{OpenExitsExactly, OpenStopsExactly, OpenStandsExactly}
+use Rattle.ol_context.specs.OpenWalkAnswers.{OpenExitsExactly, OpenStopsExactly, OpenStandsExactly}
 use Rattle.ol_context.specs.declared.answers.Cross.{Cross}
 use Rattle.ol_context.specs.declared.answers.OpenWalk.TheVariants.{Exit, Undefined, Budget}
 use Rattle.ol_context.proofs.Walked.{node_port}

@@ -3,7 +3,7 @@ use Rattle.ol_term.specs.Trees as tree
 use Rattle.ol_term.specs.Trees.{tree_of}
 use Rattle.ol_parse.specs.Grammar.{app}
 use Rattle.ol_parse.specs.NamedTerms.{named}
-use Rattle.ol_parse.specs.Numbered.{place_of}
+use Rattle.ol_parse.specs.Numbered.{position_of}
 use Rattle.ol_parse.specs.Resolving.{texts, names_from, IsNumbered}
 use Rattle.ol_parse.proofs.Places.{free_named, free_numbered, both_numbered}
 use Rattle.ol_parse.proofs.numbers.+resolve.Goals as goal
@@ -11,13 +11,13 @@ use Rattle.ol_parse.proofs.numbers.+resolve.Goals as goal
 pub returns-in_ok-add-in-None-clause-names : goal.returns-in_ok-add-in-None-clause-names
 returns-in_ok-add-in-None-clause-names t c =
     free_named (named c.args.term.now) c.in-Name.x.now (texts (reverse c.args.binders.now.items)) c.args.names.now c.add.new.self c.in_ok-add-in-None.field-0 (ap named c.in-Name.is)
-    (ap (λ l. place_of c.in-Name.x.now (texts (reverse l))) (sym c.deref.ensures.value) ∙ sym c.binder.ensures ∙ c.in-None.is)
+    (ap (λ l. position_of c.in-Name.x.now (texts (reverse l))) (sym c.deref.ensures.value) ∙ sym c.binder.ensures ∙ c.in-None.is)
     c.in_ok-add-in-None.ensures.number c.in_ok-add-in-None.ensures.known c.in_ok-add-in-None.ensures.last
 
 pub returns-in_ok-add-in-None-clause-numbered : goal.returns-in_ok-add-in-None-clause-numbered
 returns-in_ok-add-in-None-clause-numbered t c =
     free_numbered (named c.args.term.now) c.in-Name.x.now (texts (reverse c.args.binders.now.items)) c.add.new.self c.in_ok-add-in-None.field-0 (ap named c.in-Name.is)
-    (ap (λ l. place_of c.in-Name.x.now (texts (reverse l))) (sym c.deref.ensures.value) ∙ sym c.binder.ensures ∙ c.in-None.is)
+    (ap (λ l. position_of c.in-Name.x.now (texts (reverse l))) (sym c.deref.ensures.value) ∙ sym c.binder.ensures ∙ c.in-None.is)
     c.in_ok-add-in-None.ensures.number
 
 pub returns-in_ok-boxed-in-App-2-clause-numbered : goal.returns-in_ok-boxed-in-App-2-clause-numbered

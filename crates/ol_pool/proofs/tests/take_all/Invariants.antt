@@ -1,5 +1,5 @@
-use Rattle.ol_pool.specs.Pools.{IsOf}
+use Rattle.ol_pool.specs.Pools.{IsHandOf}
 use Rattle.ol_pool.proofs.tests.take_all.Given as goal
 
 abbrev pub invariant-loop : goal.invariant-loop
-invariant-loop g l = IsOf l.hand l.pool
+invariant-loop g l = IsHandOf l.hand l.pool

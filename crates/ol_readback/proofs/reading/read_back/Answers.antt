@@ -1,6 +1,6 @@
 use Rattle.std.proofs.Common.{List, Option, MatchOption, sym, subst, arith}
 use Rattle.ol_net.specs.Numbered.{net_of}
-use Rattle.ol_readback.specs.Trees.{IsTree}
+use Rattle.ol_readback.specs.ReadTrees.{IsTree}
 use Rattle.ol_readback.specs.Groups.{NoneLeft, IsNext}
 use Rattle.ol_readback.specs.declared.answers.ReadNode.{ReadNode}
 use Rattle.ol_readback.specs.declared.frames.Frame.{Frame}

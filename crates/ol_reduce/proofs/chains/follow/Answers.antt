@@ -1,6 +1,6 @@
 use Rattle.std.proofs.Common.{ap, arith}
 use Rattle.ol_wire.specs.declared.layout.Parts.{Parts}
-use Rattle.ol_wire.specs.Layout.{size}
+use Rattle.ol_wire.specs.Layout.{table_size}
 use Rattle.ol_reduce.proofs.Followed.{at_node, place_small, place_within, place_some, port_answer, wire_answer, next_answer, never}
 use Rattle.ol_reduce.proofs.chains.follow.Goals as goal
 
@@ -35,4 +35,4 @@ loop-step-preserved c =
 pub unreachable-requires : goal.unreachable-requires
 unreachable-requires c =
     never c.args.words.now c.args.first c.loop-step.step c.loop-step.at c.loop-step.invariant c.requires.first
-    (omega (arith, c.loop-step-test.false, c.size-step-end.ensures, ap (λ (z : Parts). size z) c.requires.parts))
+    (omega (arith, c.loop-step-test.false, c.size-step-end.ensures, ap (λ (z : Parts). table_size z) c.requires.parts))

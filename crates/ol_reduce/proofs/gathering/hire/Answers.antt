@@ -1,8 +1,8 @@
 use Rattle.std.proofs.Common.{◌≡◌, refl, sym, subst, arith, IfSome, Option, ◌++◌, ◌∷◌, [], length}
 use Rattle.core.specs.Option.{option_to_list}
 use Rattle.std.proofs.lemmas.List.Elements.{All-pop, All-push, All-same}
-use Rattle.ol_pool.specs.Pools.{HandState, IsOf as IsOfPool}
-use Rattle.ol_wire.specs.Stand.{Stand, IsFresh}
+use Rattle.ol_pool.specs.Pools.{HandState, IsHandOf as IsOfPool}
+use Rattle.ol_wire.specs.Stand.{SeatState, IsNewSeat}
 use Rattle.ol_reduce.specs.Works.{IsWorker}
 use Rattle.ol_reduce.proofs.Hired.{worker_of_fresh}
 use Rattle.ol_reduce.proofs.gathering.hire.Goals as goal
@@ -12,12 +12,12 @@ loop-seat-preserved c =
     let b = c.args.shared.now in
     let p = c.args.pool.now in
     let h = c.loop-seat.invariant in
-    let s = All-pop (IsFresh b) c.loop-seat.seats.items c.pop.new.self.items c.pop.result c.pop.ensures.items h.0 in
+    let s = All-pop (IsNewSeat b) c.loop-seat.seats.items c.pop.new.self.items c.pop.result c.pop.ensures.items h.0 in
     let t = All-pop (λ (x : HandState). IsOfPool x p) c.loop-seat.hands.items c.pop-in-Some.new.self.items c.pop-in-Some.result c.pop-in-Some.ensures.items h.1 in
-    let seat : IsFresh b c.in-Some.seat = subst (λ (r : Option Stand). IfSome r (IsFresh b)) c.in-Some.is s.1 in
+    let seat : IsNewSeat b c.in-Some.seat = subst (λ (r : Option SeatState). IfSome r (IsNewSeat b)) c.in-Some.is s.1 in
     let hand : IsOfPool c.unwrap-hand.result p = subst (λ (r : Option HandState). IfSome r (λ x. IsOfPool x p)) c.unwrap-hand.ensures t.1 in
     let taken : length (option_to_list c.pop-in-Some.result) ≡ 1 = subst (λ (r : Option HandState). length (option_to_list r) ≡ 1) (sym c.unwrap-hand.ensures) refl in
-    let one : IsWorker b p c.new.result = worker_of_fresh b p c.new.result (subst (λ (x : Stand). IsFresh b x) (sym c.new.ensures.seat) seat) (subst (λ (x : HandState). IsOfPool x p) (sym c.new.ensures.hand) hand) in (
+    let one : IsWorker b p c.new.result = worker_of_fresh b p c.new.result (subst (λ (x : SeatState). IsNewSeat b x) (sym c.new.ensures.seat) seat) (subst (λ (x : HandState). IsOfPool x p) (sym c.new.ensures.hand) hand) in (
       s.0,
       t.0,
       All-same (IsWorker b p) c.push.new.self.items (c.loop-seat.workers.items ++ c.new.result ∷ []) c.in-Ok-push.ensures.items (All-push (IsWorker b p) c.loop-seat.workers.items c.new.result h.2 one),

@@ -1,5 +1,5 @@
 use Rattle.std.proofs.Common.{◌≡◌, All, vec_len}
-use Rattle.ol_pool.specs.Pools.{IsOf as IsOfPool}
+use Rattle.ol_pool.specs.Pools.{IsHandOf as IsOfPool}
 use Rattle.ol_reduce.proofs.gathering.put_start.Given as goal
 
 abbrev pub invariant-loop-cell : goal.invariant-loop-cell

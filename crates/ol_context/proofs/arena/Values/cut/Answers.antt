@@ -1,5 +1,5 @@
 use Rattle.std.proofs.Common.{◌-◌, length, sym, ap, ◌∙◌, subst, arith}
-use Rattle.ol_context.specs.Trees.{trees}
+use Rattle.ol_context.specs.HeldLevels.{trees}
 use Rattle.ol_context.specs.Rows.{IsRow, AreOnce}
 use Rattle.ol_context.proofs.Once.{trees_take, row_take, once_take, fewer_take}
 use Rattle.ol_context.proofs.arena.Values.cut.Goals as goal

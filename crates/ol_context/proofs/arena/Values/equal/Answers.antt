@@ -1,6 +1,6 @@
 use Rattle.std.proofs.Common.{◌+◌, ◌<◌, length, ap, arith, eqb-true, eq-eqb}
 use Rattle.ol_context.specs.Shapes.{value}
-use Rattle.ol_context.specs.Trees.{trees}
+use Rattle.ol_context.specs.HeldLevels.{trees}
 use Rattle.ol_context.proofs.Once.{one_number}
 use Rattle.ol_context.proofs.arena.Values.equal.Goals as goal
 

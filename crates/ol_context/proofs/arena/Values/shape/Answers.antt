@@ -1,7 +1,7 @@
 use Rattle.std.proofs.Common.{◌≡◌, ◌+◌, ◌-◌, ◌<◌, [], ◌∷◌, length, slice_get, Some, option_copied, arith, IsSome, true, false, sym, ap, ◌∙◌, subst}
 use Rattle.std.proofs.lemmas.Option.{get_or_from_slice_get}
 use Rattle.ol_context.specs.Contexts.{empty}
-use Rattle.ol_context.specs.Trees.{trees}
+use Rattle.ol_context.specs.HeldLevels.{trees}
 use Rattle.ol_context.proofs.Shapes.{trees_length, first_is_empty, shape_at, below_at, below_more}
 use Rattle.ol_context.proofs.arena.Values.shape.Goals as goal
 

@@ -2,11 +2,11 @@ use Rattle.std.proofs.Common.{◌≡◌, ℕ, List, Some, ◌∙◌, subst}
 use Rattle.ol_net.specs.Graph.{Graph}
 use Rattle.ol_net.specs.Numbered.{net_of}
 use Rattle.ol_rules.specs.declared.journal.NodeName.{NodeName}
-use Rattle.ol_view.specs.Replaying.{number_of, AreIdleNumbers}
+use Rattle.ol_view.specs.Replaying.{node_number, AreIdleNumbers}
 use Rattle.ol_view.specs.Checks.{AreIdle}
 use Rattle.ol_view.proofs.replay.Replay.rewrite.Goals as goal
 
-idle_numbers : (g : Graph) (bases : List ℕ) (a b : NodeName) (f h : ℕ) → Some f ≡ number_of bases a → Some h ≡ number_of bases b → AreIdle (net_of g) f h → AreIdleNumbers g bases a b
+idle_numbers : (g : Graph) (bases : List ℕ) (a b : NodeName) (f h : ℕ) → Some f ≡ node_number bases a → Some h ≡ node_number bases b → AreIdle (net_of g) f h → AreIdleNumbers g bases a b
 idle_numbers g bases a b f h e e' idle x y p q =
     let i : f ≡ x = (let z : Some f ≡ Some x = e ∙ p in cc) in
     let j : h ≡ y = (let z : Some h ≡ Some y = e' ∙ q in cc) in

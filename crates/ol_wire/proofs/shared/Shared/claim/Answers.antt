@@ -1,7 +1,7 @@
 use Rattle.std.proofs.Common.{◌≡◌, ◌<◌, sym, ap, ◌∙◌, subst, arith}
 use Rattle.ol_wire.specs.declared.layout.Parts.{Parts}
-use Rattle.ol_wire.specs.Layout.{left_word, cells_of, size}
-use Rattle.ol_wire.specs.Stand.{Board}
+use Rattle.ol_wire.specs.Layout.{left_word, cells_of, table_size}
+use Rattle.ol_wire.specs.Stand.{TableState}
 use Rattle.ol_wire.proofs.Places.{part_cell}
 use Rattle.ol_wire.proofs.Steps.{claims_allowed}
 use Rattle.ol_wire.proofs.shared.Shared.claim.Goals as goal
@@ -10,9 +10,9 @@ pub swap-requires : goal.swap-requires
 swap-requires c =
     let t = c.self.inside.table.shared in
     let me = c.args.token.now in
-    let of : me.table_id ≡ t.table_id = c.requires.token.0 ∙ sym (ap (λ (b : Board). b.table) c.self.view_is) in
-    let parts : t.key.parts ≡ c.args.self.now.plan.parts = ap (λ (b : Board). b.plan.parts) c.self.view_is in
+    let of : me.table_id ≡ t.table_id = c.requires.token.0 ∙ sym (ap (λ (b : TableState). b.table) c.self.view_is) in
+    let parts : t.key.parts ≡ c.args.self.now.plan.parts = ap (λ (b : TableState). b.plan.parts) c.self.view_is in
     let cell : c.args.cell < cells_of t.key.parts = subst (λ (z : Parts). c.args.cell < cells_of z) (sym parts) c.requires.cell in
     let word : c.left_word-word.result ≡ left_word t.key.parts c.args.cell = c.left_word-word.ensures ∙ ap (λ (z : Parts). left_word z c.args.cell) (sym c.self.invariant.0) in
     let place = part_cell t.key.parts c.args.cell cell in
-    (of, omega (arith, word, place.2, c.self.invariant.2, ap (λ (z : Parts). size z) c.self.invariant.0), claims_allowed t.key t.table_id.slots me.id me.me c.requires.token.1.2 c.args.cell c.left_word-word.result cell word c.requires.idle)
+    (of, omega (arith, word, place.2, c.self.invariant.2, ap (λ (z : Parts). table_size z) c.self.invariant.0), claims_allowed t.key t.table_id.slots me.id me.me c.requires.token.1.2 c.args.cell c.left_word-word.result cell word c.requires.idle)

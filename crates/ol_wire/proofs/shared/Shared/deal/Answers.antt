@@ -2,15 +2,15 @@ use Rattle.std.proofs.Common.{◌≡◌, ◌+◌, ◌-◌, [], ◌∷◌, ◌++�
 use Rattle.std.proofs.lemmas.List.Elements.{All-append, All-cons}
 use Rattle.ol_wire.specs.StepPlays.{fewer, one_seat}
 use Rattle.ol_wire.specs.Views.{fresh}
-use Rattle.ol_wire.specs.Stand.{Stand, Board, IsFresh}
+use Rattle.ol_wire.specs.Stand.{SeatState, TableState, IsNewSeat}
 use Rattle.ol_wire.proofs.shared.Shared.deal.Goals as goal
 
 -- a member more
-snoc_fresh : (b : Board) (l m : List Stand) (x : Stand) → m ≡ l ++ x ∷ [] → All (IsFresh b) l → IsFresh b x → All (IsFresh b) m
-snoc_fresh b l m x e all one = subst (λ (k : List Stand). All (IsFresh b) k) (sym e) (All-append (IsFresh b) l (x ∷ []) all (All-cons (IsFresh b) x [] one (λ k d lt. absurd (omega arith))))
+snoc_fresh : (b : TableState) (l m : List SeatState) (x : SeatState) → m ≡ l ++ x ∷ [] → All (IsNewSeat b) l → IsNewSeat b x → All (IsNewSeat b) m
+snoc_fresh b l m x e all one = subst (λ (k : List SeatState). All (IsNewSeat b) k) (sym e) (All-append (IsNewSeat b) l (x ∷ []) all (All-cons (IsNewSeat b) x [] one (λ k d lt. absurd (omega arith))))
 
-none_fresh : (b : Board) (l : List Stand) → l ≡ [] → All (IsFresh b) l
-none_fresh b l e = subst (λ (k : List Stand). All (IsFresh b) k) (sym e) (λ k d lt. absurd (omega arith))
+none_fresh : (b : TableState) (l : List SeatState) → l ≡ [] → All (IsNewSeat b) l
+none_fresh b l e = subst (λ (k : List SeatState). All (IsNewSeat b) k) (sym e) (λ k d lt. absurd (omega arith))
 
 pub cut-one-requires-clause-table : goal.cut-one-requires-clause-table
 cut-one-requires-clause-table c = c.loop.invariant.0

@@ -6,7 +6,7 @@ use Rattle.ol_wire.specs.Layout.{born_cell}
 use Rattle.ol_wire.specs.LinkLists.{joins_in}
 use Rattle.ol_wire.specs.Rewrites.{event_for}
 use Rattle.ol_wire.specs.Links.{link_between}
-use Rattle.ol_wire.specs.Stand.{Board}
+use Rattle.ol_wire.specs.Stand.{TableState}
 use Rattle.ol_wire.proofs.TurningLinks.{link_in, AreLinking, all_begin, link_is_next, both_ends, one_more, all_linked}
 use Rattle.ol_wire.proofs.shared.Shared.link_all.Goals as goal
 use Rattle.ol_wire.proofs.shared.Shared.link_all.Goals.{then-link, else-link}
@@ -20,7 +20,7 @@ link-requires-clause-next c =
     let b = c.args.begun in
     let one = c.ends-one.result.0 in
     let two = c.ends-one.result.1 in
-    let parts : c.self.inside.parts ≡ z = sym c.self.invariant.0 ∙ ap (λ (x : Board). x.plan.parts) c.self.view_is in
+    let parts : c.self.inside.parts ≡ z = sym c.self.invariant.0 ∙ ap (λ (x : TableState). x.plan.parts) c.self.view_is in
     let lt : c.loop-j.j < joins_in (event_for b.rewrite) = omega (arith, c.loop-j-test.true, c.joins-j-end.ensures) in
     let is : link_between c.born_cell-cell.result one two ≡ link_in z b c.loop-j.j =
     ap (λ (w : ℕ). link_between w one two) c.born_cell-cell.ensures ∙ c.ends-one.ensures ∙ ap (λ (y : Parts). link_in y b c.loop-j.j) parts in
@@ -32,7 +32,7 @@ link-requires-clause-ends c =
     let b = c.args.begun in
     let one = c.ends-one.result.0 in
     let two = c.ends-one.result.1 in
-    let parts : c.self.inside.parts ≡ z = sym c.self.invariant.0 ∙ ap (λ (x : Board). x.plan.parts) c.self.view_is in
+    let parts : c.self.inside.parts ≡ z = sym c.self.invariant.0 ∙ ap (λ (x : TableState). x.plan.parts) c.self.view_is in
     let lt : c.loop-j.j < joins_in (event_for b.rewrite) = omega (arith, c.loop-j-test.true, c.joins-j-end.ensures) in
     let is : link_between c.born_cell-cell.result one two ≡ link_in z b c.loop-j.j =
     ap (λ (w : ℕ). link_between w one two) c.born_cell-cell.ensures ∙ c.ends-one.ensures ∙ ap (λ (y : Parts). link_in y b c.loop-j.j) parts in
@@ -43,7 +43,7 @@ loop-j-preserved c =
     let z : Parts = c.args.self.now.plan.parts in
     let b = c.args.begun in
     let j : ℕ = c.loop-j.j in
-    let parts : c.self.inside.parts ≡ z = sym c.self.invariant.0 ∙ ap (λ (x : Board). x.plan.parts) c.self.view_is in
+    let parts : c.self.inside.parts ≡ z = sym c.self.invariant.0 ∙ ap (λ (x : TableState). x.plan.parts) c.self.view_is in
     let lt : j < joins_in (event_for b.rewrite) = omega (arith, c.loop-j-test.true, c.joins-j-end.ensures) in
     let cell : c.born_cell-cell.result ≡ born_cell z b.ticket j = c.born_cell-cell.ensures ∙ ap (λ (y : Parts). born_cell y b.ticket j) parts in
     let next = one_more z c.args.token.now.me.0 b c.requires.begun j c.loop-j.mask c.loop-j.token.me.0 c.loop-j.invariant.2 lt c.requires.token.1.0 c.link.new.token.me.0 c.link.result c.born_cell-cell.result c.if-link.mask cell c.link.ensures.view in (

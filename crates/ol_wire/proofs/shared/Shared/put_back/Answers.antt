@@ -1,8 +1,8 @@
 use Rattle.std.proofs.Common.{◌≡◌, ◌<◌, ℕ, sym, refl, ap, ◌∙◌, subst, arith}
 use Rattle.ol_wire.specs.declared.layout.Parts.{Parts}
-use Rattle.ol_wire.specs.Layout.{left_word, cells_of, size}
+use Rattle.ol_wire.specs.Layout.{left_word, cells_of, table_size}
 use Rattle.ol_wire.specs.InHand.{IsInHand}
-use Rattle.ol_wire.specs.Stand.{Board}
+use Rattle.ol_wire.specs.Stand.{TableState}
 use Rattle.ol_wire.proofs.Places.{part_cell}
 use Rattle.ol_wire.proofs.Steps.{returns_allowed}
 use Rattle.ol_wire.proofs.shared.Shared.put_back.Goals as goal
@@ -11,10 +11,10 @@ pub store-requires : goal.store-requires
 store-requires c =
     let t = c.self.inside.table.shared in
     let me = c.args.token.now in
-    let of : me.table_id ≡ t.table_id = c.requires.token.0 ∙ sym (ap (λ (b : Board). b.table) c.self.view_is) in
-    let parts : t.key.parts ≡ c.args.self.now.plan.parts = ap (λ (b : Board). b.plan.parts) c.self.view_is in
+    let of : me.table_id ≡ t.table_id = c.requires.token.0 ∙ sym (ap (λ (b : TableState). b.table) c.self.view_is) in
+    let parts : t.key.parts ≡ c.args.self.now.plan.parts = ap (λ (b : TableState). b.plan.parts) c.self.view_is in
     let cell : c.args.cell < cells_of t.key.parts = subst (λ (z : Parts). c.args.cell < cells_of z) (sym parts) c.requires.cell in
     let w : ℕ = left_word t.key.parts c.args.cell in
     let word : c.left_word-word.result ≡ w = c.left_word-word.ensures ∙ ap (λ (z : Parts). left_word z c.args.cell) (sym c.self.invariant.0) in
     let hand : IsInHand me.me.0 w = subst (λ (z : Parts). IsInHand me.me.0 (left_word z c.args.cell)) (sym parts) c.requires.pair in
-    (of, omega (arith, word, (part_cell t.key.parts c.args.cell cell).2, c.self.invariant.2, ap (λ (z : Parts). size z) c.self.invariant.0), returns_allowed t.key t.table_id.slots me.id me.me c.requires.token.1.2 c.args.cell w c.args.left c.left_word-word.result cell refl word c.requires.left hand.taken hand.right)
+    (of, omega (arith, word, (part_cell t.key.parts c.args.cell cell).2, c.self.invariant.2, ap (λ (z : Parts). table_size z) c.self.invariant.0), returns_allowed t.key t.table_id.slots me.id me.me c.requires.token.1.2 c.args.cell w c.args.left c.left_word-word.result cell refl word c.requires.left hand.taken hand.right)

@@ -3,7 +3,7 @@ use Rattle.ol_wire.specs.declared.layout.Parts.{Parts}
 use Rattle.ol_wire.specs.declared.view.View.{View}
 use Rattle.ol_wire.specs.References.{place_in}
 use Rattle.ol_wire.specs.StepPlays.{IsNodeOf, IsLookedUp, late}
-use Rattle.ol_wire.specs.Stand.{Board}
+use Rattle.ol_wire.specs.Stand.{TableState}
 use Rattle.ol_wire.specs.InHand.{IsInHand, IsOfPair, AreFields}
 use Rattle.ol_wire.proofs.StepsHold.{of_pair, node_in_hand, place_small, seen, still_in_hand, looked_up, looked_twice, rewritten}
 use Rattle.ol_wire.proofs.shared.Shared.rewrite.Goals as goal
@@ -27,7 +27,7 @@ draw-requires-clause-pair c =
 pub block_words-words-requires-clause-places : goal.block_words-words-requires-clause-places
 block_words-words-requires-clause-places c =
     let v : View = c.args.token.now.me.0 in
-    let parts : v.parts ≡ c.self.inside.parts = c.requires.token.1.0 ∙ sym (ap (λ (b : Board). b.plan.parts) c.self.view_is) ∙ c.self.invariant.0 in
+    let parts : v.parts ≡ c.self.inside.parts = c.requires.token.1.0 ∙ sym (ap (λ (b : TableState). b.plan.parts) c.self.view_is) ∙ c.self.invariant.0 in
     let sides = of_pair v c.args.rewrite c.requires.rule.0 in
     let node = λ (n : ℕ) (o : IsOfPair v n). subst (λ (z : Parts). IsNodeOf z n) parts (node_in_hand v c.requires.pair.0 n c.requires.pair.1 o) in
     (place_small c.self.inside.parts c.args.rewrite.f c.self.invariant.4 (node c.args.rewrite.f sides.0), place_small c.self.inside.parts c.args.rewrite.g c.self.invariant.4 (node c.args.rewrite.g sides.1))

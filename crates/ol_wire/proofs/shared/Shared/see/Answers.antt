@@ -1,5 +1,5 @@
 use Rattle.std.proofs.Common.{sym, ap, ◌∙◌, arith}
-use Rattle.ol_wire.specs.Stand.{Board}
+use Rattle.ol_wire.specs.Stand.{TableState}
 use Rattle.ol_wire.proofs.Sight.{sees_allowed}
 use Rattle.ol_wire.proofs.shared.Shared.see.Goals as goal
 
@@ -7,4 +7,4 @@ pub load-requires : goal.load-requires
 load-requires c =
     let t = c.self.inside.table.shared in
     let me = c.args.token.now in
-    (c.requires.token.0 ∙ sym (ap (λ (b : Board). b.table) c.self.view_is), omega (arith, c.self.invariant.2), sees_allowed t.key t.table_id.slots me.id me.me c.requires.token.1.2)
+    (c.requires.token.0 ∙ sym (ap (λ (b : TableState). b.table) c.self.view_is), omega (arith, c.self.invariant.2), sees_allowed t.key t.table_id.slots me.id me.me c.requires.token.1.2)

@@ -1,8 +1,8 @@
 use Rattle.std.proofs.Common.{◌≡◌, ◌+◌, ◌*◌, sym, ap, ◌∙◌, subst}
 use Rattle.ol_wire.specs.declared.layout.Parts.{Parts}
 use Rattle.ol_wire.specs.declared.view.View.{View}
-use Rattle.ol_wire.specs.Stand.{Stand, Board}
-use Rattle.ol_wire.specs.Turns.{Rewritten}
+use Rattle.ol_wire.specs.Stand.{SeatState, TableState}
+use Rattle.ol_wire.specs.Turns.{TurnRewrites}
 use Rattle.ol_wire.proofs.StepsTurn.{links_pending, turn_rewrites}
 use Rattle.ol_wire.proofs.shared.Shared.turn.Goals as goal
 
@@ -10,7 +10,7 @@ pub link_all-mask-requires-clause-begun : goal.link_all-mask-requires-clause-beg
 link_all-mask-requires-clause-begun c =
     let z : Parts = c.args.self.now.plan.parts in
     let v : View = c.seat.inside.token.me.0 in
-    let parts : v.parts ≡ z = ap (λ (s : Stand). s.view.parts) c.seat.view_is ∙ c.requires.seat.1.0 in
+    let parts : v.parts ≡ z = ap (λ (s : SeatState). s.view.parts) c.seat.view_is ∙ c.requires.seat.1.0 in
     links_pending z v c.begin.new.token.me.0 c.args.cell c.in-Ok.begun parts c.seat.invariant.1 c.in-Ok.ensures.begun
 
 pub returns-clause-view : goal.returns-clause-view
@@ -19,9 +19,9 @@ returns-clause-view c =
     let v : View = c.seat.inside.token.me.0 in
     let n : View = c.link_all-mask.new.token.me.0 in
     let b = c.in-Ok.begun in
-    let parts : v.parts ≡ z = ap (λ (s : Stand). s.view.parts) c.seat.view_is ∙ c.requires.seat.1.0 in
-    let inside : z ≡ c.self.inside.parts = sym (ap (λ (x : Board). x.plan.parts) c.self.view_is) ∙ c.self.invariant.0 in
-    let done : Rewritten z v c.args.cell b.ticket b.rewrite.rule (z.cells + 4 * b.ticket) c.link_all-mask.result n =
+    let parts : v.parts ≡ z = ap (λ (s : SeatState). s.view.parts) c.seat.view_is ∙ c.requires.seat.1.0 in
+    let inside : z ≡ c.self.inside.parts = sym (ap (λ (x : TableState). x.plan.parts) c.self.view_is) ∙ c.self.invariant.0 in
+    let done : TurnRewrites z v c.args.cell b.ticket b.rewrite.rule (z.cells + 4 * b.ticket) c.link_all-mask.result n =
     (turn_rewrites z v c.begin.new.token.me.0 n c.args.cell c.link_all-mask.result b parts c.requires.cell c.seat.invariant.1 c.in-Ok.ensures.begun c.link_all-mask.ensures.view).1 in
-    subst (λ (u : View). Rewritten z u c.args.cell b.ticket b.rewrite.rule (c.self.inside.parts.cells + 4 * b.ticket) c.link_all-mask.result n) (ap (λ (s : Stand). s.view) c.seat.view_is)
-    (subst (λ (y : Parts). Rewritten z v c.args.cell b.ticket b.rewrite.rule (y.cells + 4 * b.ticket) c.link_all-mask.result n) inside done)
+    subst (λ (u : View). TurnRewrites z u c.args.cell b.ticket b.rewrite.rule (c.self.inside.parts.cells + 4 * b.ticket) c.link_all-mask.result n) (ap (λ (s : SeatState). s.view) c.seat.view_is)
+    (subst (λ (y : Parts). TurnRewrites z v c.args.cell b.ticket b.rewrite.rule (y.cells + 4 * b.ticket) c.link_all-mask.result n) inside done)

@@ -3,7 +3,7 @@ use Rattle.std.specs.Prelude.{◌≡◌, ℕ, ◌↔◌, List}
 use Rattle.ol_net.specs.Nets.{NamedNet, free}
 use Rattle.ol_context.specs.Contexts.{Level, Context}
 use Rattle.ol_context.specs.Shapes.{AreHeld, context_of}
-use Rattle.ol_context.specs.Ways.{Exits, Stops, Stands}
+use Rattle.ol_context.specs.Ways.{Exits, Stops, WalkStands}
 use Rattle.ol_context.specs.declared.answers.Walk.{Walk}
 use Rattle.ol_context.specs.declared.answers.Walk.TheVariants as walk
 
@@ -24,7 +24,7 @@ StopsExactly N p c edges w = (n : ℕ) → (w ≡ walk.Undefined n) ↔ Stops N 
 
 -- Budget comes exactly where the walk stands at a node after all crossings.
 abbrev pub StandsExactly : NamedNet ℕ → ℕ → Context → ℕ → Walk → Type 0
-StandsExactly N p c edges w = (w ≡ walk.Budget) ↔ Stands N (free p) c edges
+StandsExactly N p c edges w = (w ≡ walk.Budget) ↔ WalkStands N (free p) c edges
 
 -- the context of an exit is of this holder
 abbrev pub IsHeldExit : List Level → Walk → Type 0

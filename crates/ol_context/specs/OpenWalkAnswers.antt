@@ -6,7 +6,7 @@ use Rattle.ol_net.specs.Nets.{NamedNet, free}
 use Rattle.ol_context.specs.Contexts.{Level, Context}
 use Rattle.ol_context.specs.Shapes.{value, AreHeld, context_of}
 use Rattle.ol_context.specs.Asked.{asked}
-use Rattle.ol_context.specs.Ways.{Exits, Stops, Stands}
+use Rattle.ol_context.specs.Ways.{Exits, Stops, WalkStands}
 use Rattle.ol_context.specs.declared.answers.OpenWalk.{OpenWalk}
 use Rattle.ol_context.specs.declared.answers.OpenWalk.TheVariants as walk
 
@@ -33,7 +33,7 @@ OpenExitsExactly N p ls edges vs w =
 -- Budget with n abstractions comes exactly where the walk that asks for n stands at a node after all crossings, and each that
 -- asks for fewer breaks off.
 abbrev pub OpenStandsExactly : NamedNet ℕ → ℕ → List Level → ℕ → OpenWalk → Type 0
-OpenStandsExactly N p ls edges w = (n : ℕ) → (w ≡ walk.Budget n) ↔ (Stands N (free p) (asked ls n) edges × AllBelowBreakOff N p ls edges n)
+OpenStandsExactly N p ls edges w = (n : ℕ) → (w ≡ walk.Budget n) ↔ (WalkStands N (free p) (asked ls n) edges × AllBelowBreakOff N p ls edges n)
 
 -- every walk breaks off, none later than at crossing k, and n is the least number of abstractions for which it does so there
 pub record AllBreakOff (N : NamedNet ℕ) (p : ℕ) (ls : List Level) (edges n k : ℕ) : Type 0 where
