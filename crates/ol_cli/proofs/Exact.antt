@@ -343,7 +343,7 @@ written_ends words s Done text g g' old new c same w = (Done, text, c, (refl, sa
 
 -- ---- a journal that was read last
 
-pub checked_cause : (s : Seen) (term journal : Text) (bytes : List ℕ) (t : Tree) (names : List (List ℕ)) → IsWhole (s.contents term) bytes → IsTerm bytes t names → (st : Status) (text : List ℕ) →
+pub checked_cause : (s : Seen) (term journal : Text) (bytes : List ℕ) (t : Tree) (names : List (List ℕ)) → IsAllOf (s.contents term) bytes → IsTermFile bytes t names → (st : Status) (text : List ℕ) →
     EndsJournal s journal t names st text → JobCause s st text (check term journal)
 checked_cause s term journal bytes t names whole i ReadFault text h = by_file tt h
 checked_cause s term journal bytes t names whole i Limit text h = by_journal h.0 whole i h.1
@@ -359,7 +359,7 @@ checked_cause s term journal bytes t names whole i NoMemory text h = absurd h.1
 pub fault_cause : (s : Seen) (asked : Asked) → HasTermFile asked → (st : Status) (text : List ℕ) → Rose s.faults s.faults' → st ≡ ReadFault → text ≡ fault_text → JobCause s st text asked
 fault_cause s asked has st text rose is e = subst (λ st. JobCause s st text asked) (sym is) (by_file has (rose, e))
 
-pub past_cause : (s : Seen) (asked : Asked) → HasTermFile asked → (st : Status) (text : List ℕ) → s.faults' ≡ s.faults → GaveTooMany s (name_of asked) → st ≡ Limit → text ≡ bytes_text → JobCause s st text asked
+pub past_cause : (s : Seen) (asked : Asked) → HasTermFile asked → (st : Status) (text : List ℕ) → s.faults' ≡ s.faults → GaveTooMany s (file_name asked) → st ≡ Limit → text ≡ bytes_text → JobCause s st text asked
 past_cause s asked has st text same gave is e = subst (λ st. JobCause s st text asked) (sym is) (by_file has (same, inl (gave, e)))
 
 -- what the read of the journal ended with, after that of the term

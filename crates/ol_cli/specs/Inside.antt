@@ -1,4 +1,4 @@
--- Words of private contracts alone, which no clause of a public call needs: what is asked of a job within the call, and what is kept of
+-- Private: words of private contracts alone, which no clause of a public call needs: what is asked of a job within the call, and what is kept of
 -- it there.
 use Rattle.std.specs.Prelude.{◌≡◌, ℕ, ◌≤◌, List, [], Option, Some}
 use Rattle.ol_io.specs.Outside.{Rose}

@@ -1,3 +1,4 @@
+-- What clauses of public functions rest on.
 pub mod Texts
 pub mod Jobs
 pub mod Listing
@@ -5,8 +6,9 @@ pub mod Evaluation
 pub mod Journals
 pub mod Answers
 pub mod Sources
-pub mod ReadAgain
 pub mod Laws
 pub mod Handed
+-- What only contracts of private functions and proofs cite.
+pub mod ReadAgain
 pub mod Prepared
 pub mod Inside

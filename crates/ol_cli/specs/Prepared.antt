@@ -1,4 +1,4 @@
--- Words of private contracts alone: a term file made ready, which is the net of its term, or the answer that refuses it, whatever the job.
+-- Private: words of private contracts alone: a term file made ready, which is the net of its term, or the answer that refuses it, whatever the job.
 use Rattle.std.specs.Prelude.{◌≡◌, ℕ, ◌≤◌, List, length, None, count_by, is_some}
 use Rattle.ol_term.specs.Trees.{Tree, tree_of}
 use Rattle.ol_parse.specs.Texts.{IsRefusedAt}

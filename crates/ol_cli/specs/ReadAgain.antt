@@ -1,4 +1,4 @@
--- Words of private contracts alone: what is read again of the answer to a term.
+-- Private: words of private contracts alone: what is read again of the answer to a term.
 use Rattle.std.specs.Prelude.{◌≡◌, ℕ, true, List, Option, Some, String}
 use Rattle.std.specs.declared.alloc.Global.{Global}
 use Rattle.ol_io.specs.Outside.{Appended}

@@ -1,4 +1,4 @@
--- Level values as data that a struct may have as its value.
+-- Private: level values as data that a struct may have as its value.
 use Rattle.std.specs.Prelude.{◌≡◌, ℕ, zero, suc, List, [], ◌∷◌, refl}
 use Rattle.std.proofs.Common.{ap, ◌∙◌}
 use Rattle.std.specs.Coded.{Coded, code_by, coded_list, coded_ℕ}

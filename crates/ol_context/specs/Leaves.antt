@@ -1,4 +1,4 @@
--- What a crossing makes of an open context's leaf.
+-- Private: what a crossing makes of an open context's leaf.
 use Rattle.std.specs.Prelude.{◌≡◌, ℕ, ◌+◌, ◌-◌, List, Option, Some, None}
 use Rattle.ol_context.specs.Open.{reading, AreHeldParts}
 use Rattle.ol_context.specs.declared.leaf.Around.{Around}

@@ -1,8 +1,8 @@
+-- What clauses of public functions rest on.
 pub mod Contexts
 pub mod Table
 pub mod Paths
 pub mod Ways
-pub mod Codes
 pub mod Shapes
 pub mod HeldLevels
 pub mod Crossed
@@ -11,10 +11,12 @@ pub mod Short
 pub mod Facing
 pub mod Asked
 pub mod Open
-pub mod Leaves
 pub mod Passed
 pub mod OpenWalkAnswers
 pub mod Laws
+-- What only contracts of private functions and proofs cite.
+pub mod Codes
+pub mod Leaves
 pub mod Crossings
 pub mod Passing
 pub mod Rows

@@ -1,3 +1,4 @@
+-- What clauses of public functions rest on.
 pub mod Births
 pub mod Runs
 pub mod Laws

@@ -1,3 +1,4 @@
+-- What clauses of public functions rest on.
 pub mod Parts
 pub mod Rules
 pub mod Pairing
@@ -6,10 +7,11 @@ pub mod Nets
 pub mod Pairs
 pub mod Numbered
 pub mod Build
-pub mod Tabling
 pub mod Joins
-pub mod Rewired
 pub mod Replace
 pub mod Indexes
+-- What only contracts of private functions and proofs cite.
+pub mod Tabling
+pub mod Rewired
 pub mod Scans
 pub mod Linking

@@ -1,4 +1,4 @@
--- The tables of a net after a replacement, one join after another.
+-- Private: the tables of a net after a replacement, one join after another.
 use Rattle.std.specs.Prelude.{◌≡◌, ◌≢◌, ℕ, ◌+◌, ◌*◌, ◌<◌, ◌==◌, true, None, Option, if◌then◌else◌, List, [], ◌∷◌, ◌++◌, length, map, slice_set, zero, suc}
 use Rattle.ol_net.specs.declared.parts.JoinEnd.{JoinEnd}
 use Rattle.ol_net.specs.declared.parts.JoinEnd.TheVariants.{First, Second, Born}

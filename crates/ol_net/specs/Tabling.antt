@@ -1,4 +1,4 @@
--- Links by the places of their ports, and the table that they make
+-- Private: links by the places of their ports, and the table that they make
 use Rattle.std.specs.Prelude.{◌≡◌, ℕ, ◌+◌, ◌*◌, ◌<◌, Bool, true, false, ◌==◌, not, ◌&&◌, List, length, map, take, Option, Result, MatchOption, MatchResult, slice_index_or}
 use Rattle.std.specs.declared.vec.Vec.{Vec}
 use Rattle.std.specs.declared.alloc.Global.{Global}

@@ -1,4 +1,4 @@
--- How deep a term is.
+-- Private: how deep a term is.
 use Rattle.std.specs.Prelude.{◌≡◌, ℕ, ◌+◌, max, List, map, reverse, Some, IsSome}
 use Rattle.ol_parse.specs.Grammar.{Named, var, lam, app}
 use Rattle.ol_parse.specs.Flat.{put}

@@ -1,4 +1,4 @@
--- The flat form: what a row of steps builds, and what the flat state of the reader stands for.
+-- Private: the flat form: what a row of steps builds, and what the flat state of the reader stands for.
 use Rattle.std.specs.Prelude.{◌≡◌, ℕ, List, [], ◌∷◌, ◌++◌, map, Bool, true, false, Option, Some, None, option_and_then, is_some}
 use Rattle.ol_parse.specs.Grammar.{Named, var, lam, app, Token}
 use Rattle.ol_parse.specs.Machine.{Frame, applied, abstracted, bound, bracket, defining, State}

@@ -1,4 +1,4 @@
--- The flat state of the reader over bytes.
+-- Private: the flat state of the reader over bytes.
 use Rattle.std.specs.Prelude.{◌≡◌, ℕ, ◌+◌, List, [], ◌∷◌, length, Bool, true, false, Option, Some, None, slice_index, slice_range}
 use Rattle.ol_parse.specs.Grammar.{Named, Token, name, let_key, in_key, lambda, dot, equals, open_bracket, close_bracket}
 use Rattle.ol_parse.specs.Texts.{IsText, IsRefusedAt, class_of, Class, blank, hash, letter, digit, sign, lead, other}

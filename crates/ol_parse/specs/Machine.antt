@@ -1,4 +1,4 @@
--- A machine that reads tokens, with a row of what is open.
+-- Private: a machine that reads tokens, with a row of what is open.
 use Rattle.std.proofs.Common.{ℕ, List, [], ◌∷◌, Option, Some, None, option_and_then}
 use Rattle.ol_parse.specs.Grammar.{Named, var, lam, app, Token, name, let_key, in_key, lambda, dot, equals, open_bracket, close_bracket}
 

@@ -1,4 +1,4 @@
--- The terms that the code's trees stand for.
+-- Private: the terms that the code's trees stand for.
 use Rattle.std.specs.Prelude.{List, map, reverse}
 use Rattle.ol_parse.specs.Grammar.{Named, var, lam, app}
 use Rattle.ol_parse.specs.declared.named.NamedTerm.{NamedTerm}

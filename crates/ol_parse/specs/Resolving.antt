@@ -1,4 +1,4 @@
--- Numbering from the left, under binders and behind names that are numbered already.
+-- Private: numbering from the left, under binders and behind names that are numbered already.
 use Rattle.std.specs.Prelude.{◌≡◌, ℕ, List, [], ◌∷◌, ◌++◌, map, Option, Some, None}
 use Rattle.std.specs.Borrow.{Bor}
 use Rattle.ol_term.specs.Trees.{Tree}

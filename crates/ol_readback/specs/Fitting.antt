@@ -1,4 +1,4 @@
--- What an exit says against one frame.
+-- Private: what an exit says against one frame.
 use Rattle.std.specs.Prelude.{◌≡◌, ℕ, ◌<◌, ◌≤◌, List, [], ◌∷◌, length, Bool, Option, Some, None, slice_index_or, MatchBool}
 use Rattle.ol_context.specs.Contexts.{Level, empty, o, star, Context}
 use Rattle.ol_context.specs.Shapes.{value}

@@ -1,17 +1,19 @@
+-- What clauses of public functions rest on.
 pub mod Frames
 pub mod Matching
 pub mod Heads
-pub mod Fitting
 pub mod ReadTrees
 pub mod Whole
-pub mod Groups
-pub mod Reading
 pub mod Texts
-pub mod Printing
 pub mod Sources
 pub mod Asking
-pub mod Skipping
 pub mod Laws
 pub mod Terms
 pub mod PrintedLaws
+-- What only contracts of private functions and proofs cite.
+pub mod Fitting
+pub mod Groups
+pub mod Reading
+pub mod Printing
+pub mod Skipping
 pub mod Searches

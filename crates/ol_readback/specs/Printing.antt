@@ -1,4 +1,4 @@
--- What one step of the printing does.
+-- Private: what one step of the printing does.
 use Rattle.std.specs.Prelude.{◌≡◌, ℕ, zero, suc, ◌+◌, ◌<◌, Bool, true, false, List, [], ◌∷◌, ◌++◌, Option, Some, None}
 use Rattle.ol_readback.specs.Texts.{abstractions, variable}
 use Rattle.ol_readback.specs.declared.answers.HeadVar.{HeadVar}

@@ -1,4 +1,4 @@
--- A net while its links are found, and what it becomes.
+-- Private: a net while its links are found, and what it becomes.
 use Rattle.std.specs.Prelude.{ℕ, nat_lt, if◌then◌else◌, List, [], ◌∷◌, ◌<◌, length, ◌≤◌}
 use Rattle.ol_net.specs.declared.parts.Kind.{Kind}
 use Rattle.ol_net.specs.declared.parts.Port.{Port}

@@ -1,4 +1,4 @@
--- Chains of wires in the words of a closed table, as they are followed from an end that owns a word.
+-- Private: chains of wires in the words of a closed table, as they are followed from an end that owns a word.
 use Rattle.std.specs.Prelude.{◌≡◌, ◌≢◌, ℕ, zero, suc, ◌<◌, Bool, true, List, slice_index, ◌⊎◌}
 use Rattle.ol_edges.specs.Edges.{IsIn}
 use Rattle.ol_net.specs.Nets.{NamedNet}

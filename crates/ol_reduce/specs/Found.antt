@@ -1,4 +1,4 @@
--- What is known of a net while its links are found in the words of a closed table.
+-- Private: what is known of a net while its links are found in the words of a closed table.
 use Rattle.std.specs.Prelude.{◌≡◌, ◌≢◌, ℕ, suc, ◌+◌, ◌*◌, ◌<◌, Bool, true, List, length, slice_index, slice_index_or, ◌⊎◌}
 use Rattle.ol_net.specs.declared.parts.Kind.{Kind}
 use Rattle.ol_net.specs.declared.parts.Kind.TheVariants.{Eraser}

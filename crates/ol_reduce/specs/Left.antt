@@ -1,4 +1,4 @@
--- The nodes that are left, and their numbers. Ranks have the order of places: first the start nodes, and then four for each ticket.
+-- Private: the nodes that are left, and their numbers. Ranks have the order of places: first the start nodes, and then four for each ticket.
 use Rattle.std.specs.Prelude.{◌≡◌, ℕ, ◌+◌, ◌-◌, ◌*◌, ◌/◌, ◌%◌, ◌<◌, ◌≤◌, nat_lt, if◌then◌else◌, Bool, true, List, length, slice_index, slice_get, Some, ◌⊎◌, ◌↔◌}
 use Rattle.ol_rules.specs.declared.journal.NodeName.{NodeName}
 use Rattle.ol_rules.specs.declared.journal.NodeName.TheVariants.{Init, Born}

@@ -1,10 +1,12 @@
+-- What clauses of public functions rest on.
+pub mod Frozen
+pub mod Turned
+pub mod Reduced
+-- What only contracts of private functions and proofs cite.
 pub mod Following
 pub mod Drafts
 pub mod Left
-pub mod Frozen
-pub mod Turned
 pub mod Works
-pub mod Reduced
 pub mod Found
 pub mod Linked
 pub mod Used

@@ -1,4 +1,4 @@
--- What the steps that find a net's links ask and leave: of the words, the nodes that are left, and the net so far.
+-- Private: what the steps that find a net's links ask and leave: of the words, the nodes that are left, and the net so far.
 use Rattle.std.specs.Prelude.{◌≡◌, ◌≢◌, ℕ, ◌+◌, ◌-◌, ◌*◌, ◌<◌, List, length, slice_index, slice_set, Bool, if◌then◌else◌, ◌++◌, [], ◌∷◌}
 use Rattle.ol_net.specs.Linking.{linked}
 use Rattle.ol_wire.specs.Layout.{cells_of}

@@ -1,4 +1,4 @@
--- How much of a closed table is in use: what comes before the block of the first ticket that wasn't drawn.
+-- Private: how much of a closed table is in use: what comes before the block of the first ticket that wasn't drawn.
 use Rattle.std.specs.Prelude.{ℕ, ◌+◌, ◌*◌}
 use Rattle.ol_wire.specs.Layout.{block}
 use Rattle.ol_wire.specs.Closed.{ClosedTable, events_in}

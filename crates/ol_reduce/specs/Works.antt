@@ -1,4 +1,4 @@
--- What holds of a worker between its calls.
+-- Private: what holds of a worker between its calls.
 use Rattle.std.specs.Prelude.{◌≡◌}
 use Rattle.ol_pool.specs.Pools.{PoolState, IsHandOf as IsOfPool}
 use Rattle.ol_wire.specs.Stand.{TableState, IsSeatOf}

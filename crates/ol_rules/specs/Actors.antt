@@ -1,4 +1,4 @@
--- An active pair as the code holds it.
+-- Private: an active pair as the code holds it.
 use Rattle.std.specs.Prelude.{◌≡◌, Option, Some, MatchOption, ◌⊎◌}
 use Rattle.ol_net.specs.declared.parts.NodeId.{NodeId}
 use Rattle.ol_net.specs.declared.parts.Facing.TheVariants.{Active}

@@ -1,11 +1,13 @@
+-- What clauses of public functions rest on.
 pub mod Rewriting
 pub mod Counting
 pub mod Steps
 pub mod Listed
-pub mod Actors
 pub mod Names
 pub mod Runs
 pub mod Laws
-pub mod Running
 pub mod Contracting
+-- What only contracts of private functions and proofs cite.
+pub mod Actors
+pub mod Running
 pub mod BornLists

@@ -8,7 +8,8 @@ use Rattle.ol_net.specs.declared.parts.Kind.TheVariants as kind
 use Rattle.ol_net.specs.declared.parts.Port.{Port}
 use Rattle.ol_translate.specs.Translation.{Subnet, subnet_of, abstraction, application, erasers, bound_port, bracket_nodes, bracket_links, past_brackets, fans, wire_of, slot_port}
 use Rattle.ol_translate.proofs.Counts.{times}
-use Rattle.ol_translate.proofs.Joints.{few_wires, times-bracketed, length-bracket_nodes}
+use Rattle.ol_translate.proofs.Joints.{few_wires, times-bracketed}
+use Rattle.ol_translate.proofs.Walks.{length-bracket_nodes}
 use Rattle.ol_spots_net.specs.Spots.{Wire, bound, name, under, occurs}
 use Rattle.ol_spots_net.proofs.Fans.{Holds, Links, holds_append, links_append, Merges, fans_merge, Brackets, brackets_wire, outside_wire}
 

@@ -1,4 +1,4 @@
--- The numbers of the first binders' names.
+-- Private: the numbers of the first binders' names.
 use Rattle.std.specs.Prelude.{◌≡◌, ℕ, suc, ◌<◌, ◌⊎◌, slice_index_or, List, length}
 use Rattle.ol_term.specs.BinderNames.{binder_number}
 

@@ -1,4 +1,4 @@
--- What is still to be printed of a term.
+-- Private: what is still to be printed of a term.
 use Rattle.std.specs.Prelude.{◌≡◌, ℕ, ◌+◌, ◌*◌, ◌<◌, ◌≤◌, Bool, true, false, if◌then◌else◌, List, [], ◌∷◌, ◌++◌, length}
 use Rattle.ol_term.specs.Trees.{Tree, tree_of, is_below, is_named_below, depth, term_size}
 use Rattle.ol_term.specs.Texts.{is_variable, in_brackets, term_text_under}

@@ -1,4 +1,4 @@
--- What a step of the walk adds to the nodes and links that are laid down.
+-- Private: what a step of the walk adds to the nodes and links that are laid down.
 use Rattle.std.specs.Prelude.{◌≡◌, ◌≢◌, ◌<◌, ℕ, List, ◌++◌, length, slice_set, slice_get, slice_index_or, Some}
 use Rattle.ol_net.specs.declared.parts.Kind.{Kind}
 use Rattle.ol_net.specs.declared.parts.Port.{Port}

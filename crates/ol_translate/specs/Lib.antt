@@ -1,5 +1,7 @@
+-- What clauses of public functions rest on.
 pub mod Translation
 pub mod Sizes
 pub mod Names
-pub mod Growth
 pub mod Laws
+-- What only contracts of private functions and proofs cite.
+pub mod Growth

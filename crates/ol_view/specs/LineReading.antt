@@ -1,4 +1,4 @@
--- Words of private contracts alone: reading one line of a trace text from the front of some bytes.
+-- Private: words of private contracts alone: reading one line of a trace text from the front of some bytes.
 use Rattle.std.specs.Prelude.{ℕ, ◌+◌, ◌-◌, ◌*◌, Bool, ◌&&◌, ◌==◌, nat_le, if◌then◌else◌, List, [], ◌∷◌, Option, None, Some, option_and_then}
 use Rattle.ol_rules.specs.declared.journal.NodeName.{NodeName}
 use Rattle.ol_rules.specs.declared.journal.NodeName.TheVariants.{Init, Born}

@@ -1,4 +1,4 @@
--- Words of private contracts alone: the numbers of names while a journal is replayed.
+-- Private: words of private contracts alone: the numbers of names while a journal is replayed.
 use Rattle.std.specs.Prelude.{◌≡◌, ℕ, suc, ◌+◌, nat_lt, if◌then◌else◌, List, [], ◌∷◌, ◌++◌, length, Option, None, Some, slice_get, slice_index_or}
 use Rattle.ol_net.specs.declared.parts.Rule.{Rule}
 use Rattle.ol_net.specs.Graph.{Graph}

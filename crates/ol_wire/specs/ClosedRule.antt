@@ -1,4 +1,4 @@
--- That closed words are those of a table that met its rule.
+-- Private: that closed words are those of a table that met its rule.
 use Rattle.std.specs.Prelude.{◌≡◌, ℕ}
 use mathlib.Core.Option.{some}
 use lib.ListN.{get_elem?}

@@ -1,3 +1,4 @@
+-- What clauses of public functions rest on.
 pub mod References
 pub mod Layout
 pub mod Sizes
@@ -14,15 +15,16 @@ pub mod Still
 pub mod Moments
 pub mod Plays
 pub mod LinkPlays
-pub mod Links
 pub mod Stand
-pub mod Tokens
 pub mod Closed
-pub mod ClosedRule
 pub mod Standing
-pub mod TurnPlays
 pub mod Hands
 pub mod Turns
+-- What only contracts of private functions and proofs cite.
+pub mod Links
+pub mod Tokens
+pub mod ClosedRule
+pub mod TurnPlays
 pub mod TurnParts
 pub mod Rewrites
 pub mod LinkLists

@@ -1,4 +1,4 @@
--- A link that a seat makes: its two ends, and what is left once it is made.
+-- Private: a link that a seat makes: its two ends, and what is left once it is made.
 use Rattle.std.specs.Prelude.{◌≡◌, ℕ, ◌<◌, ◌⊎◌, Bool, if◌then◌else◌, List, [], ◌∷◌, ◌++◌, MatchOption, Option, ◌+◌, ◌≤◌}
 use Rattle.ol_wire.specs.declared.layout.Parts.{Parts}
 use Rattle.ol_wire.specs.declared.view.Link.{Link}

@@ -1,4 +1,4 @@
--- A rewrite as the code has it: the rule, and the two nodes by their references, the one that acts first.
+-- Private: a rewrite as the code has it: the rule, and the two nodes by their references, the one that acts first.
 use Rattle.ol_wire.specs.declared.rewrite.Rewrite.{Rewrite}
 use Rattle.ol_wire.specs.Events.{Event, rule_between, event_of}
 use Rattle.std.specs.Prelude.{◌≡◌, ℕ, Some}

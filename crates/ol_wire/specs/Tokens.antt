@@ -1,4 +1,4 @@
--- What contracts inside of this crate say of a seat of the kit's table, and of the table.
+-- Private: what contracts inside of this crate say of a seat of the kit's table, and of the table.
 use Rattle.std.specs.Prelude.{◌≡◌, ◌<◌, ℕ, Bool, [], ◌≤◌}
 use Rattle.atomic_table.specs.Seated.{TableId}
 use Rattle.ol_wire.specs.declared.plan.Plan.{Plan}

@@ -1,4 +1,4 @@
--- What the parts of a turn ask and leave: the claim with the ticket, and the links.
+-- Private: what the parts of a turn ask and leave: the claim with the ticket, and the links.
 use Rattle.std.specs.Prelude.{◌≡◌, ℕ, ◌+◌, ◌*◌, ◌<◌, List, [], ◌++◌, true, false, Some, slice_index, MatchOption, Option}
 use Rattle.ol_wire.specs.declared.layout.Parts.{Parts}
 use Rattle.ol_wire.specs.declared.view.View.{View}

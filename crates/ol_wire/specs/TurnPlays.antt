@@ -1,4 +1,4 @@
--- What two more steps of a turn tell: the look at a field, and the step that puts a claimed pair back.
+-- Private: what two more steps of a turn tell: the look at a field, and the step that puts a claimed pair back.
 use Rattle.std.specs.Prelude.{◌≡◌, ℕ}
 use Rattle.ol_edges.specs.Edges.{IsIn}
 use Rattle.ol_wire.specs.StepPlays.{Play, looks, returned}

@@ -1,4 +1,4 @@
--- The command line as clap is told of it.
+-- Private: the command line as clap is told of it.
 use Rattle.std.specs.Prelude.{Some, true, codes, if◌then◌else◌, List, fold}
 use Rattle.clap.specs.Walk.{Rule}
 use Rattle.clap.specs.Words.{App, new_app, new_rule, with_rule, with_subcommand}

@@ -1,4 +1,4 @@
--- The job of a verb by what clap finds behind it.
+-- Private: the job of a verb by what clap finds behind it.
 use Rattle.std.specs.Prelude.{ℕ, List, [], ◌∷◌, Option, None, Some, if◌then◌else◌, codes, option_and_then}
 use Rattle.std.specs.Str.{bytes_eq}
 use Rattle.clap.specs.Words.{first_value, found_of}

@@ -1,4 +1,4 @@
--- What the code's own values stand for: texts, options, limits and verbs.
+-- Private: what the code's own values stand for: texts, options, limits and verbs.
 use Rattle.std.specs.Prelude.{List, map}
 use Rattle.std.specs.Borrow.{Bor}
 use Rattle.ol_words.specs.Texts.{Text}
