@@ -7,7 +7,8 @@ use Rattle.ol_rules.specs.declared.journal.NodeName.{NodeName}
 use Rattle.ol_rules.specs.declared.journal.NodeName.TheVariants.{Init, Born}
 use Rattle.ol_rules.specs.declared.journal.Entry.{Entry}
 use Rattle.ol_rules.specs.Rewriting.{Action, action_of, Rewrites}
-use Rattle.ol_rules.specs.Runs.{IsEntryStep, IsRun, IsLeadRun, IsComplete, HasActive}
+use Rattle.ol_rules.specs.Runs.{IsEntryStep, IsRun, IsLeadRun}
+use Rattle.ol_net.specs.Pairs.{IsComplete, HasActive}
 use Rattle.ol_rules.proofs.Recount.{net_same}
 use Rattle.ol_rules.proofs.Relation.{same_refl, same_sym, same_trans}
 use Rattle.ol_rules.proofs.Same.{complete_same, has_stuck_same}

@@ -3,7 +3,7 @@ use Rattle.std.proofs.Common.{◌≡◌, ℕ, List, length, Option, None, String
 use Rattle.ol_io.specs.Outside.{Appended}
 use Rattle.ol_term.specs.Trees.{Tree}
 use Rattle.ol_net.specs.declared.parts.Kind.{Kind}
-use Rattle.ol_net.specs.Build.{all_live}
+use Rattle.ol_net.specs.Numbered.{all_live}
 use Rattle.ol_net.specs.Graph.{Graph}
 use Rattle.ol_net.proofs.Linking.{length-all_live, count_by-all_live}
 use Rattle.ol_wire.specs.Closed.{ClosedTable}

@@ -4,9 +4,8 @@ use Rattle.ol_net.specs.declared.parts.Kind.{Kind}
 use Rattle.ol_net.specs.declared.parts.Rule.{Rule}
 use Rattle.ol_net.specs.Rules.{rule_of}
 use Rattle.ol_net.specs.Nets.{slot, NamedNet, IsNet, Faces}
-use Rattle.ol_net.specs.Pairs.{IsStuck, HasPair, HasStuck}
+use Rattle.ol_net.specs.Pairs.{IsStuck, HasPair, HasStuck, IsComplete}
 use Rattle.ol_context.specs.Short.{HasNoFacing}
-use Rattle.ol_rules.specs.Runs.{IsComplete}
 use Rattle.ol_rules.proofs.FreshPairs.{linked_sym}
 
 no_pair : {A : Type 0} (pairs : List (A × A)) (f g : A) → length pairs ≡ 0 → HasPair pairs f g → ⊥

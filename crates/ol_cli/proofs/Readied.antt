@@ -2,11 +2,10 @@
 use Rattle.std.proofs.Common.{◌≡◌, ℕ, ◌+◌, ◌<◌, ◌≤◌, List, length, Option, None, arith}
 use Rattle.ol_term.specs.Trees.{Tree, depth}
 use Rattle.ol_parse.specs.Parsed.{IsFileOf, AreNames}
-use Rattle.ol_net.specs.Build.{all_live}
 use Rattle.ol_net.specs.Graph.{Graph}
 use Rattle.ol_net.specs.Nets.{SameNet}
-use Rattle.ol_net.specs.Numbered.{net_of}
-use Rattle.ol_net.specs.Replace.{top_index_of}
+use Rattle.ol_net.specs.Numbered.{net_of, all_live}
+use Rattle.ol_net.specs.Indexes.{top_index_of}
 use Rattle.ol_translate.specs.Sizes.{size_of_translation}
 use Rattle.ol_translate.specs.Translation.{nodes_of, translation_of}
 use Rattle.ol_wire.specs.Closed.{ClosedTable}

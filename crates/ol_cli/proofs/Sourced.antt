@@ -6,11 +6,11 @@ use Rattle.ol_term.specs.Generated.{doubled_text}
 use Rattle.ol_parse.specs.Parsed.{IsFileOf}
 use Rattle.ol_parse.proofs.Exact.{one_file}
 use Rattle.ol_net.specs.Nets.{NamedNet, IsNet}
-use Rattle.ol_net.specs.Pairs.{HasStuck}
+use Rattle.ol_net.specs.Pairs.{HasStuck, IsComplete}
 use Rattle.ol_rules.specs.declared.journal.NodeName.TheVariants.{Init}
 use Rattle.ol_rules.specs.declared.journal.NodeName.{NodeName}
 use Rattle.ol_rules.specs.declared.journal.Entry.{Entry}
-use Rattle.ol_rules.specs.Runs.{IsRun, IsComplete}
+use Rattle.ol_rules.specs.Runs.{IsRun}
 use Rattle.ol_invariance.proofs.Renamed.{renamed}
 use Rattle.ol_invariance.proofs.Runs.{run_keeps}
 use Rattle.ol_context.specs.Paths.{HaveSamePaths}

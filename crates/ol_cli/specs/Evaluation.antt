@@ -5,12 +5,12 @@ use Rattle.ol_term.specs.Trees.{Tree}
 use Rattle.ol_net.specs.Graph.{Graph}
 use Rattle.ol_net.specs.Numbered.{net_of}
 use Rattle.ol_net.specs.Nets.{NamedNet, IsNet, SameNet, net_under}
-use Rattle.ol_net.specs.Pairs.{HasStuck}
+use Rattle.ol_net.specs.Pairs.{HasStuck, IsComplete, HasActive}
 use Rattle.ol_rules.specs.declared.journal.NodeName.{NodeName}
 use Rattle.ol_rules.specs.declared.journal.NodeName.TheVariants.{Init}
 use Rattle.ol_rules.specs.declared.journal.Entry.{Entry}
 use Rattle.ol_rules.specs.Counting.{counts_of}
-use Rattle.ol_rules.specs.Runs.{IsRun, IsOneThread, IsComplete, HasActive}
+use Rattle.ol_rules.specs.Runs.{IsRun, IsOneThread}
 use Rattle.ol_readback.specs.Heads.{live}
 use Rattle.ol_readback.specs.ReadTrees.{IsTree}
 use Rattle.ol_readback.specs.Texts.{IsTextOf}

@@ -9,7 +9,7 @@ use Rattle.ol_net.specs.Nets.{NamedNet, SameNet, net_under}
 use Rattle.ol_net.specs.Numbered.{net_of}
 use Rattle.ol_rules.specs.declared.journal.NodeName.{NodeName}
 use Rattle.ol_rules.specs.declared.journal.Entry.{Entry}
-use Rattle.ol_rules.specs.Runs.{IsComplete, HasActive}
+use Rattle.ol_net.specs.Pairs.{IsComplete, HasActive}
 use Rattle.ol_translate.specs.Translation.{translation_of}
 use Rattle.ol_wire.specs.Closed.{ClosedTable, journal_in}
 use Rattle.ol_wire.specs.Standing.{IsAfter, NoNodeTwice}

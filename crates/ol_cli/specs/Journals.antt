@@ -4,7 +4,8 @@ use Rattle.ol_term.specs.Trees.{Tree}
 use Rattle.ol_net.specs.Nets.{NamedNet, IsNet}
 use Rattle.ol_rules.specs.declared.journal.NodeName.{NodeName}
 use Rattle.ol_rules.specs.declared.journal.Entry.{Entry}
-use Rattle.ol_rules.specs.Runs.{IsRun, IsOneThread, IsComplete, HasActive}
+use Rattle.ol_rules.specs.Runs.{IsRun, IsOneThread}
+use Rattle.ol_net.specs.Pairs.{IsComplete, HasActive}
 use Rattle.ol_translate.specs.Translation.{translation_of}
 use Rattle.ol_cli.specs.Evaluation.{start_net_of_term, Prints, RunsOut, PrintsOf}
 

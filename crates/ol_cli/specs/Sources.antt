@@ -7,7 +7,8 @@ use Rattle.ol_parse.specs.Parsed.{IsFileOf}
 use Rattle.ol_net.specs.Nets.{NamedNet}
 use Rattle.ol_rules.specs.declared.journal.NodeName.{NodeName}
 use Rattle.ol_rules.specs.declared.journal.Entry.{Entry}
-use Rattle.ol_rules.specs.Runs.{IsRun, IsComplete}
+use Rattle.ol_rules.specs.Runs.{IsRun}
+use Rattle.ol_net.specs.Pairs.{IsComplete}
 use Rattle.ol_translate.specs.Translation.{translation_of}
 use Rattle.ol_readback.specs.Sources.{HasHeadsOf}
 use Rattle.ol_readback.specs.Terms.{HasAllHeads, IsReadBack}

@@ -8,10 +8,9 @@ use Rattle.ol_net.specs.declared.parts.Rule.{Rule}
 use Rattle.ol_net.specs.declared.parts.Rule.TheVariants as rule
 use Rattle.ol_net.specs.Rules.{rule_of}
 use Rattle.ol_net.specs.Nets.{slot, NamedNet, HasNode, Linked, SameNet, Faces}
-use Rattle.ol_net.specs.Pairs.{IsActive}
+use Rattle.ol_net.specs.Pairs.{IsActive, IsComplete}
 use Rattle.ol_rules.specs.Rewriting.{action_of, Rewrites}
 use Rattle.ol_rules.specs.Laws.{IsFresh}
-use Rattle.ol_rules.specs.Runs.{IsComplete}
 use Rattle.ol_rules.proofs.Relation.{same_refl, same_sym, same_trans, next, net_kept, one_step}
 use Rattle.ol_rules.proofs.Same.{active_same, step_same, complete_same}
 use Rattle.ol_rules.proofs.FreshPairs.{linked_sym}

@@ -12,7 +12,7 @@ use Rattle.ol_rules.specs.declared.journal.Entry.{Entry}
 use Rattle.ol_rules.specs.Names.{comes_before}
 use Rattle.ol_rules.specs.Rewriting.{meeting, crossing, is_meeting, action_of, NodeOf, left, of_f, of_g, Rewrites}
 use Rattle.ol_rules.specs.Laws.{AreNamedBefore, IsFresh}
-use Rattle.ol_rules.specs.Runs.{IsEntryStep, IsRun, IsComplete}
+use Rattle.ol_rules.specs.Runs.{IsEntryStep, IsRun}
 use Rattle.ol_rules.specs.Runs as runs
 use Rattle.ol_rules.proofs.NameOrder.{before_before}
 use Rattle.ol_rules.proofs.OneRun.{name_same, name_test, fresh_names, named_after}

@@ -5,7 +5,8 @@ use Rattle.ol_rules.specs.declared.journal.NodeName.{NodeName}
 use Rattle.ol_rules.specs.declared.journal.Entry.{Entry}
 use Rattle.ol_rules.proofs.LeadRuns.{as_run}
 use Rattle.ol_rules.specs.Laws.{AreNamedBefore}
-use Rattle.ol_rules.specs.Runs.{IsRun, IsOneThread, IsComplete, HasActive}
+use Rattle.ol_rules.specs.Runs.{IsRun, IsOneThread}
+use Rattle.ol_net.specs.Pairs.{IsComplete, HasActive}
 use Rattle.ol_diamond.specs.OneThread.{OneThreadExists, DoneTells, SpentTells, LongerTells, SomeEndsWithin, EndsWhereSomeEnds}
 use Rattle.ol_diamond.proofs.OneThreadLeads.{active_or_complete, one_thread_run}
 use Rattle.ol_diamond.proofs.OneThreadRuns.{run_net, not_longer, goes_on_shorter, runs_agree}

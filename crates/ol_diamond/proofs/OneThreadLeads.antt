@@ -6,14 +6,14 @@ use Rattle.ol_net.specs.declared.parts.Kind.{Kind}
 use Rattle.ol_net.specs.declared.parts.Rule.{Rule}
 use Rattle.ol_net.specs.Rules.{rule_of}
 use Rattle.ol_net.specs.Nets.{NamedPort, free, slot, NamedNet, HasNode, Linked, IsNet, Faces}
-use Rattle.ol_net.specs.Pairs.{IsActive}
+use Rattle.ol_net.specs.Pairs.{IsActive, IsComplete, HasActive}
 use Rattle.ol_rules.specs.declared.journal.NodeName.{NodeName}
 use Rattle.ol_rules.specs.declared.journal.NodeName.TheVariants.{Init, Born}
 use Rattle.ol_rules.specs.declared.journal.Entry.{Entry}
 use Rattle.ol_rules.specs.Names.{comes_before}
 use Rattle.ol_rules.specs.Rewriting.{action_of}
 use Rattle.ol_rules.specs.Laws.{AreNamedBefore}
-use Rattle.ol_rules.specs.Runs.{IsEntryStep, IsLead, IsLeadRun, IsComplete, HasActive, IsOneThread}
+use Rattle.ol_rules.specs.Runs.{IsEntryStep, IsLead, IsLeadRun, IsOneThread}
 use Rattle.ol_rules.proofs.FreshPairs.{linked_sym}
 use Rattle.ol_rules.proofs.NameOrder.{before_before, not_before_itself}
 use Rattle.ol_rules.proofs.OneRun.{name_same, name_test, fresh_names, named_after}

@@ -10,7 +10,8 @@ use Rattle.ol_rules.specs.Counting.{is_rule, times_applied}
 use Rattle.ol_rules.specs.Names.{comes_before}
 use Rattle.ol_rules.specs.Rewriting.{action_of}
 use Rattle.ol_rules.specs.Laws.{AreNamedBefore}
-use Rattle.ol_rules.specs.Runs.{IsRun, IsComplete, HasActive}
+use Rattle.ol_rules.specs.Runs.{IsRun}
+use Rattle.ol_net.specs.Pairs.{IsComplete, HasActive}
 use Rattle.ol_rules.proofs.OneRun.{name_same, name_test, fresh_names, named_after}
 use Rattle.ol_rules.proofs.Relation.{same_sym, same_trans, net_kept}
 use Rattle.ol_rules.proofs.Renaming.{net_alike, active_to}

@@ -10,7 +10,8 @@ use Rattle.ol_rules.specs.declared.journal.NodeName.TheVariants.{Init}
 use Rattle.ol_rules.specs.declared.journal.Entry.{Entry}
 use Rattle.ol_rules.specs.Counting.{is_rule}
 use Rattle.ol_rules.specs.Laws.{AreNamedBefore, IsFresh}
-use Rattle.ol_rules.specs.Runs.{IsRun, IsComplete}
+use Rattle.ol_rules.specs.Runs.{IsRun}
+use Rattle.ol_net.specs.Pairs.{IsComplete}
 use Rattle.ol_diamond.specs.Births.{BirthName, init, born, IsBirthNet}
 use Rattle.ol_diamond.specs.Runs.{BirthPair, IsSamePair, IsOfPairs, IsPairStep, IsPairRun, AreBirths}
 

@@ -8,7 +8,8 @@ use Rattle.ol_rules.specs.declared.journal.NodeName.{NodeName}
 use Rattle.ol_rules.specs.declared.journal.Entry.{Entry}
 use Rattle.ol_rules.specs.Counting.{times_applied, counts_of}
 use Rattle.ol_rules.specs.Laws.{AreNamedBefore}
-use Rattle.ol_rules.specs.Runs.{IsRun, IsComplete, HasActive, IsOneThread}
+use Rattle.ol_rules.specs.Runs.{IsRun, IsOneThread}
+use Rattle.ol_net.specs.Pairs.{IsComplete, HasActive}
 use Rattle.ol_diamond.specs.Laws.{RunByBirths}
 
 -- The last nets of two runs from N are one net under birth names, which tell what made a node and not when. No two nodes of a net have

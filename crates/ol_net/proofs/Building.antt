@@ -11,8 +11,8 @@ use Rattle.ol_net.specs.Pairing.{other}
 use Rattle.ol_net.specs.Linking.{across, partner_among}
 use Rattle.ol_net.specs.Graph.{Graph, IsTabled, kind_at, has_port, place, port_at, partner_of}
 use Rattle.ol_net.specs.Nets.{NamedPort, Linked, SameNet}
-use Rattle.ol_net.specs.Numbered.{numbered_port, nodes_from, numbered_from, net_of, net_of_parts}
-use Rattle.ol_net.specs.Build.{FirstOf, NoneOf, BadPortAt, HasEnd, TwiceAt, IsLoose, ComesBefore, IsFirstLoose, Builds, link_at, all_live}
+use Rattle.ol_net.specs.Numbered.{numbered_port, nodes_from, numbered_from, net_of, net_of_parts, all_live}
+use Rattle.ol_net.specs.Build.{FirstOf, NoneOf, BadPortAt, HasEnd, TwiceAt, IsLoose, ComesBefore, IsFirstLoose, Builds, link_at}
 use Rattle.ol_net.specs.Tabling.{places, is_apart, MeetsAt, AloneAt, LinkedUp, IsTable, AreTables}
 use Rattle.ol_net.proofs.Places.{has_slot-lt, place-within, port_at-place, partner_in-some}
 use Rattle.ol_net.proofs.Linking.{places-at, length-places, good_port, IsTabled-from_links}

@@ -7,11 +7,12 @@ use Rattle.ol_net.specs.declared.parts.Kind.{Kind}
 use Rattle.ol_net.specs.declared.parts.Port.{Port}
 use Rattle.ol_net.specs.Parts.{is_eraser}
 use Rattle.ol_net.specs.Graph.{kind_at}
-use Rattle.ol_net.specs.Build.{all_live, is_bad_index, BadIndexAt, NoneOf}
+use Rattle.ol_net.specs.Build.{is_bad_index, BadIndexAt, NoneOf}
+use Rattle.ol_net.specs.Numbered.{all_live}
 use Rattle.ol_net.specs.Tabling.{AreTables}
 use Rattle.ol_net.specs.Rewired.{renewed}
-use Rattle.ol_net.specs.Replace.{top_index_of, MayBeBorn}
-use Rattle.ol_net.specs.Indexes.{HasIndexes}
+use Rattle.ol_net.specs.Replace.{MayBeBorn}
+use Rattle.ol_net.specs.Indexes.{HasIndexes, top_index_of}
 
 -- no live node has a greater index than the greatest
 pub top_is_top : (nodes : List (Option (Kind × ℕ))) (x : ℕ) (k : Kind × ℕ) → kind_at nodes x ≡ Some k → k.1 ≤ top_index_of nodes

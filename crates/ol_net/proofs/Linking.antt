@@ -7,8 +7,8 @@ use Rattle.ol_net.specs.declared.parts.Port.{Port}
 use Rattle.ol_net.specs.Graph.{IsTabled, has_port, place, port_at}
 use Rattle.ol_net.specs.Pairing.{other}
 use Rattle.ol_net.specs.Linking.{partner_among, linked, can_link}
-use Rattle.ol_net.specs.Numbered.{nodes_from}
-use Rattle.ol_net.specs.Build.{link_at, NoneOf, BadPortAt, all_live}
+use Rattle.ol_net.specs.Numbered.{nodes_from, all_live}
+use Rattle.ol_net.specs.Build.{link_at, NoneOf, BadPortAt}
 use Rattle.ol_net.specs.Tabling.{places, is_apart, LinkedUp, MeetsAt, AloneAt, AreTables}
 use Rattle.std.proofs.lemmas.List.Sums.{sum_by-cons}
 use Rattle.ol_net.proofs.Places.{place-within, port_at-place, port_at-within}

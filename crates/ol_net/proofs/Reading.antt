@@ -17,7 +17,7 @@ use Rattle.ol_net.specs.Graph.{Graph, IsTabled, kind_at, partner_of, facing_at}
 use Rattle.ol_net.specs.Nets.{HasNode, Linked, IsPort, Faces, slot, NamedNet}
 use Rattle.ol_net.specs.Numbered.{numbered_port, net_of}
 use Rattle.ol_net.specs.Pairs.{IsStuck, IsInActive, IsInStuck, FacesNone, HasPair, AreDifferent, HasStuck}
-use Rattle.ol_net.specs.Replace.{top_index_of}
+use Rattle.ol_net.specs.Indexes.{top_index_of}
 use Rattle.ol_net.proofs.Numbered.{has_node, linked, linked_back, is_port, numbered_port-injective, faces_or_none, active_from, active_first, active_second, stuck_from, stuck_first, none_from, partner_of-there, stuck_apart, one_facing, IsStuck-back}
 use Rattle.ol_net.proofs.Indexes.{top_index_of-append}
 

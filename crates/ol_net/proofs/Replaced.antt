@@ -12,10 +12,9 @@ use Rattle.ol_net.specs.declared.parts.Port.TheVariants.{Of}
 use Rattle.ol_net.specs.declared.parts.JoinEnd.{JoinEnd}
 use Rattle.ol_net.specs.declared.parts.JoinEnd.TheVariants.{First, Second, Born}
 use Rattle.ol_net.specs.Pairing.{other}
-use Rattle.ol_net.specs.Build.{all_live}
 use Rattle.ol_net.specs.Graph.{Graph, kind_at, has_port, place, port_at, partner_of, IsTabled}
 use Rattle.ol_net.specs.Nets.{NamedPort, free, slot, Linked, IsPrincipalOf, IsSlotOf}
-use Rattle.ol_net.specs.Numbered.{numbered_port, net_of}
+use Rattle.ol_net.specs.Numbered.{numbered_port, net_of, all_live}
 use Rattle.ol_net.specs.Joins.{uses_up, remove_end, and_then_end, same_end, all_ends, side_ends, born_ends, open_ends}
 use Rattle.ol_net.specs.Rewired.{end_place, join_places, rewired, renewed, Given}
 use Rattle.ol_net.specs.Replace.{Replaces, JoinsOf, IsBorn, port_of_end}

@@ -8,7 +8,7 @@ use Rattle.ol_net.specs.declared.parts.JoinEnd.{JoinEnd}
 use Rattle.ol_net.specs.declared.parts.JoinEnd.TheVariants.{First, Second}
 use Rattle.ol_net.specs.Pairing.{IsPaired, other}
 use Rattle.ol_net.specs.Graph.{Graph, kind_at, has_slot, has_port, port_at, place, IsTabled}
-use Rattle.ol_net.specs.Build.{all_live}
+use Rattle.ol_net.specs.Numbered.{all_live}
 use Rattle.ol_net.specs.Joins.{uses_up, side_ends, born_ends, open_ends}
 use Rattle.ol_net.specs.Rewired.{joined, end_place, join_places, Within, AllTwo, grown, rewired, renewed, Given}
 use Rattle.ol_net.specs.declared.parts.NodeId.{NodeId}

@@ -10,6 +10,7 @@ pub mod Build
 pub mod Joins
 pub mod Replace
 pub mod Indexes
+pub mod PartTexts
 -- What only contracts of private functions and proofs cite.
 pub mod Tabling
 pub mod Rewired

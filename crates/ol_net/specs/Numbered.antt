@@ -30,6 +30,10 @@ net_of g = record { nodes = nodes_from 0 g.nodes; free_ports = g.free; links = l
 abbrev pub PortsLinked : Graph → Port → Port → Type 0
 PortsLinked g p q = Linked (net_of g) (numbered_port p) (numbered_port q)
 
+-- the node list that a net begins with
+abbrev pub all_live : List (Kind × ℕ) → List (Option (Kind × ℕ))
+all_live nodes = map (λ k. Some k) nodes
+
 -- nodes numbered from n on, all live
 abbrev pub numbered_from : ℕ → List (Kind × ℕ) → List (ℕ × Kind × ℕ)
 numbered_from n [] = []

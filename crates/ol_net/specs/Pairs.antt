@@ -15,6 +15,14 @@ pub record IsActive {A : Type 0} (N : NamedNet A) (f g : A) (r : Rule) : Type 0 
   pub faces : Faces N f g k i l j
   pub fits : rule_of k i l j ≡ Some r
 
+-- no pair is active
+abbrev pub IsComplete : {A : Type 0} → NamedNet A → Type 0
+IsComplete {A} N = (f g : A) (r : Rule) → IsActive N f g r → ⊥
+
+-- some pair is active
+abbrev pub HasActive : {A : Type 0} → NamedNet A → Type 0
+HasActive {A} N = (f : A) × (g : A) × (r : Rule) × IsActive N f g r
+
 -- f faces g, and no rule fits, whichever of the two acts
 pub record IsStuck {A : Type 0} (N : NamedNet A) (f g : A) : Type 0 where
   pub k : Kind

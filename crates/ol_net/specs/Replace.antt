@@ -1,5 +1,5 @@
 -- One replacement in a net: two nodes go, others come, and the joins decide what is linked.
-use Rattle.std.specs.Prelude.{◌≡◌, ◌≢◌, ℕ, ◌+◌, ◌≤◌, max, List, [], ◌∷◌, length, Option, None, Some, ◌⊎◌, ◌↔◌, slice_get, true}
+use Rattle.std.specs.Prelude.{◌≡◌, ◌≢◌, ℕ, ◌+◌, ◌≤◌, List, length, Option, Some, ◌⊎◌, ◌↔◌, slice_get, true}
 use Rattle.ol_edges.specs.Edges.{IsIn, Edge, Contracted}
 use Rattle.ol_net.specs.declared.parts.Kind.{Kind}
 use Rattle.ol_net.specs.declared.parts.NodeId.{NodeId}
@@ -8,6 +8,7 @@ use Rattle.ol_net.specs.declared.parts.JoinEnd.{JoinEnd}
 use Rattle.ol_net.specs.declared.parts.JoinEnd.TheVariants.{First, Second, Born}
 use Rattle.ol_net.specs.Parts.{is_eraser}
 use Rattle.ol_net.specs.Graph.{Graph, kind_at, partner_of}
+use Rattle.ol_net.specs.Indexes.{top_index_of}
 use Rattle.ol_net.specs.Joins.{uses_up, open_ends}
 use Rattle.ol_net.specs.Nets.{NamedPort, slot, HasNode, Linked, IsPrincipalOf, IsSlotOf}
 use Rattle.ol_net.specs.Numbered.{net_of}
@@ -15,12 +16,6 @@ use Rattle.ol_net.specs.Numbered.{net_of}
 -- two nodes whose principal ports are partners
 abbrev pub AreFacing : Graph → NodeId → NodeId → Type 0
 AreFacing g first second = (first.0 ≢ second.0) × (partner_of g (Of first 0) ≡ Some (Of second 0))
-
--- the greatest index of a live node, or 0 where there is none
-abbrev pub top_index_of : List (Option (Kind × ℕ)) → ℕ
-top_index_of [] = 0
-top_index_of (None ∷ nodes) = top_index_of nodes
-top_index_of (Some k ∷ nodes) = max k.1 (top_index_of nodes)
 
 -- an index that a born node may have: at most one above the greatest, and 0 for an eraser
 abbrev pub MayBeBorn : ℕ → Kind × ℕ → Type 0

@@ -5,7 +5,7 @@ use Rattle.ol_net.specs.declared.parts.JoinEnd.TheVariants.{First, Second, Born}
 use Rattle.ol_net.specs.declared.parts.Kind.{Kind}
 use Rattle.ol_net.specs.Pairing.{other}
 use Rattle.ol_net.specs.Graph.{kind_at, has_slot, IsTabled}
-use Rattle.ol_net.specs.Build.{all_live}
+use Rattle.ol_net.specs.Numbered.{all_live}
 use Rattle.ol_net.specs.Joins.{uses_up, open_ends}
 
 -- the table after the edge of a and b was added, and each of them that had a partner was taken out

@@ -9,7 +9,8 @@ use Rattle.ol_net.specs.declared.parts.BuildFault.TheVariants.{BadIndex, BadPort
 use Rattle.ol_net.specs.Graph.{has_port, place, port_at}
 use Rattle.ol_net.specs.Pairing.{IsPaired, other}
 use Rattle.ol_net.specs.Linking.{partner_among}
-use Rattle.ol_net.specs.Build.{FirstOf, NoneOf, BadIndexAt, BadPortAt, TwiceAt, FaultIs, IsFirstLoose, all_live}
+use Rattle.ol_net.specs.Build.{FirstOf, NoneOf, BadIndexAt, BadPortAt, TwiceAt, FaultIs, IsFirstLoose}
+use Rattle.ol_net.specs.Numbered.{all_live}
 
 -- the links by the places of their ports
 abbrev pub places : ℕ → List (Port × Port) → List (ℕ × ℕ)

@@ -4,7 +4,8 @@ ghost use Rattle.std.specs.Prelude.{◌≡◌, ◌≢◌, ℕ, ◌+◌, ◌-◌,
 ghost use Rattle.ol_net.specs.Graph.{has_port, place, IsTabled};
 ghost use Rattle.ol_net.specs.Pairing.{IsPaired, other};
 ghost use Rattle.ol_net.specs.Linking.{linked, linked_if, can_link};
-ghost use Rattle.ol_net.specs.Build.{NoneOf, is_bad_index, BadIndexAt, BadPortAt, all_live};
+ghost use Rattle.ol_net.specs.Build.{NoneOf, is_bad_index, BadIndexAt, BadPortAt};
+ghost use Rattle.ol_net.specs.Numbered.{all_live};
 ghost use Rattle.ol_net.specs.Scans.{FindsFirst};
 ghost use Rattle.ol_net.specs.Tabling.{MeetsAt, AreAllLinked, places, FindsAlone, GivesTable, GivesTables};
 

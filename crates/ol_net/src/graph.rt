@@ -4,11 +4,11 @@ ghost use Rattle.std.specs.Prelude.{◌≡◌, ℕ, ◌+◌, ◌-◌, ◌*◌, �
 ghost use Rattle.ol_net.specs.Nets.{HasNode, IsPort, IsNet};
 ghost use Rattle.ol_net.specs.Numbered.{net_of, numbered_port, PortsLinked};
 ghost use Rattle.ol_net.specs.Pairs.{IsStuck, IsInActive, IsInStuck, FacesNone, HasStuck};
-ghost use Rattle.ol_net.specs.Indexes.{HasIndexes};
+ghost use Rattle.ol_net.specs.Indexes.{HasIndexes, top_index_of};
 ghost use Rattle.ol_net.specs.declared.parts.Rule.{Rule};
 ghost use Rattle.ol_net.specs.declared.parts.Facing.TheVariants.{Active, Stuck};
 ghost use Rattle.ol_net.specs.declared.parts.Facing.TheVariants as facing;
-ghost use Rattle.ol_net.specs.Replace.{AreFacing, MayAllBeBorn, JoinsFit, Replaces, top_index_of};
+ghost use Rattle.ol_net.specs.Replace.{AreFacing, MayAllBeBorn, JoinsFit, Replaces};
 ghost use Rattle.ol_net.specs.declared.parts.Kind.{Kind};
 ghost use Rattle.ol_net.specs.Pairing.{other};
 ghost use Rattle.ol_net.specs.Build.{Builds, FaultIs, build_top};

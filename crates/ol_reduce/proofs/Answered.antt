@@ -6,7 +6,8 @@ use Rattle.ol_net.specs.Numbered.{net_of}
 use Rattle.ol_rules.specs.declared.journal.NodeName.{NodeName}
 use Rattle.ol_rules.specs.declared.journal.NodeName.TheVariants.{Init}
 use Rattle.ol_rules.specs.declared.journal.Entry.{Entry}
-use Rattle.ol_rules.specs.Runs.{IsRun, IsComplete, HasActive, IsOneThread}
+use Rattle.ol_rules.specs.Runs.{IsRun, IsOneThread}
+use Rattle.ol_net.specs.Pairs.{IsComplete, HasActive}
 use Rattle.ol_rules.proofs.StartNets.{start_net, start_named}
 use Rattle.ol_diamond.specs.OneThread.{DoneTells, OneThreadExists, RunsAgree, SpentTells}
 use Rattle.ol_wire.specs.declared.layout.Parts.{Parts}

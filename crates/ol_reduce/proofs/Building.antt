@@ -10,7 +10,8 @@ use Rattle.ol_net.specs.declared.parts.BuildFault.{BuildFault}
 use Rattle.ol_net.specs.declared.parts.BuildFault.TheVariants.{BadIndex, BadPort, Twice, Loose, NoMemory}
 use Rattle.ol_net.specs.Pairing.{other}
 use Rattle.ol_net.specs.Graph.{has_port, place, port_at, IsTabled}
-use Rattle.ol_net.specs.Build.{BadPortAt, TwiceAt, HasEnd, link_at, IsLoose, FaultIs, all_live}
+use Rattle.ol_net.specs.Build.{BadPortAt, TwiceAt, HasEnd, link_at, IsLoose, FaultIs}
+use Rattle.ol_net.specs.Numbered.{all_live}
 use Rattle.ol_net.proofs.Places.{place-port_at, port_at-place, place-within}
 use Rattle.ol_reduce.specs.Drafts.{frozen_top, link_row, links_below, IsFullDraft}
 

@@ -5,7 +5,8 @@ use Rattle.ol_net.specs.declared.parts.Kind.{Kind}
 use Rattle.ol_net.specs.Parts.{arity, slots_of, is_eraser}
 use Rattle.ol_net.specs.Nets.{NamedPort, free, slot, NamedNet, HasNode, Linked, IsPort}
 use Rattle.ol_net.specs.Graph.{IsTabled, kind_at, has_slot, has_port, port_at}
-use Rattle.ol_net.specs.Build.{NoneOf, BadIndexAt, is_bad_index, all_live}
+use Rattle.ol_net.specs.Build.{NoneOf, BadIndexAt, is_bad_index}
+use Rattle.ol_net.specs.Numbered.{all_live}
 use Rattle.ol_net.specs.Pairing.{other}
 use Rattle.ol_net.proofs.Places.{port_at-within}
 use Rattle.ol_net.proofs.Linking.{length-all_live}

@@ -5,9 +5,9 @@ use Rattle.ol_edges.specs.Edges.{IsIn}
 use Rattle.ol_net.specs.declared.parts.Kind.{Kind}
 use Rattle.ol_net.specs.declared.parts.Port.{Port}
 use Rattle.ol_net.specs.Nets.{NamedPort, NamedNet, HasNode, Linked, IsPort, SameNet, net_under, port_under}
-use Rattle.ol_net.specs.Numbered.{numbered_port, net_of, net_of_parts}
+use Rattle.ol_net.specs.Numbered.{numbered_port, net_of, net_of_parts, all_live}
 use Rattle.ol_net.specs.Graph.{Graph, kind_at, port_at}
-use Rattle.ol_net.specs.Build.{Builds, all_live}
+use Rattle.ol_net.specs.Build.{Builds}
 use Rattle.ol_net.specs.Pairing.{other}
 use Rattle.ol_net.proofs.Numbered.{has_node}
 use Rattle.ol_net.proofs.Linking.{length-all_live, count_by-all_live}

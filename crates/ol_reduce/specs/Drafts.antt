@@ -4,7 +4,8 @@ use Rattle.ol_net.specs.declared.parts.Kind.{Kind}
 use Rattle.ol_net.specs.declared.parts.Port.{Port}
 use Rattle.ol_net.specs.Pairing.{other}
 use Rattle.ol_net.specs.Graph.{port_at, IsTabled, Graph}
-use Rattle.ol_net.specs.Build.{NoneOf, BadIndexAt, all_live, Builds}
+use Rattle.ol_net.specs.Build.{NoneOf, BadIndexAt, Builds}
+use Rattle.ol_net.specs.Numbered.{all_live}
 use Rattle.ol_rules.specs.Listed.{each}
 
 -- the greatest index that a frozen net may have

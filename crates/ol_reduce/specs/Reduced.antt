@@ -6,7 +6,8 @@ use Rattle.ol_net.specs.Numbered.{net_of}
 use Rattle.ol_rules.specs.declared.journal.NodeName.{NodeName}
 use Rattle.ol_rules.specs.declared.journal.NodeName.TheVariants.{Init}
 use Rattle.ol_rules.specs.declared.journal.Entry.{Entry}
-use Rattle.ol_rules.specs.Runs.{IsComplete, HasActive, IsOneThread}
+use Rattle.ol_rules.specs.Runs.{IsOneThread}
+use Rattle.ol_net.specs.Pairs.{IsComplete, HasActive}
 use Rattle.ol_wire.specs.Starts.{AreParts}
 use Rattle.ol_wire.specs.Closed.{ClosedTable, journal_in, IsAfter}
 use Rattle.ol_reduce.specs.Frozen.{IsFrozen}

@@ -8,8 +8,8 @@ use Rattle.ol_net.specs.declared.parts.Rule.{Rule}
 use Rattle.ol_net.specs.Parts.{arity, is_eraser}
 use Rattle.ol_net.specs.Rules.{rule_of}
 use Rattle.ol_net.specs.Graph.{Graph, kind_at}
-use Rattle.ol_net.specs.Indexes.{HasIndexes}
-use Rattle.ol_net.specs.Replace.{MayBeBorn, top_index_of, Replaces}
+use Rattle.ol_net.specs.Indexes.{HasIndexes, top_index_of}
+use Rattle.ol_net.specs.Replace.{MayBeBorn, Replaces}
 use Rattle.ol_net.proofs.Indexes.{top_is_top}
 use Rattle.ol_rules.specs.Rewriting.{crossing}
 use Rattle.ol_rules.specs.BornLists.{copies, born_of, crossing_joins}

@@ -6,13 +6,13 @@ use Rattle.ol_net.specs.declared.parts.Kind.{Kind}
 use Rattle.ol_net.specs.declared.parts.Rule.{Rule}
 use Rattle.ol_net.specs.Rules.{rule_of}
 use Rattle.ol_net.specs.Nets.{slot, NamedNet, Linked, IsNet, SameNet}
-use Rattle.ol_net.specs.Pairs.{IsActive}
+use Rattle.ol_net.specs.Pairs.{IsActive, IsComplete, HasActive}
 use Rattle.ol_rules.specs.declared.journal.NodeName.{NodeName}
 use Rattle.ol_rules.specs.declared.journal.NodeName.TheVariants.{Init, Born}
 use Rattle.ol_rules.specs.declared.journal.Entry.{Entry}
 use Rattle.ol_rules.specs.Names.{comes_before, IsNamed}
 use Rattle.ol_rules.specs.Rewriting.{Action, action_of, NodeOf, left, of_f, of_g, Rewrites, IsStep}
-use Rattle.ol_rules.specs.Runs.{IsLead, IsLeadRun, end, then, IsComplete, HasActive, IsOneThread}
+use Rattle.ol_rules.specs.Runs.{IsLead, IsLeadRun, end, then, IsOneThread}
 use Rattle.ol_rules.specs.Laws.{IsFresh, AreNamedBefore}
 use Rattle.ol_rules.proofs.NameOrder.{before_before}
 use Rattle.ol_rules.proofs.Relation.{same_sym, net_kept, one_step}

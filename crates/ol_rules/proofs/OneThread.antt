@@ -5,11 +5,11 @@ use Rattle.ol_net.specs.declared.parts.NodeId.{NodeId}
 use Rattle.ol_net.specs.Graph.{Graph}
 use Rattle.ol_net.specs.Nets.{slot, Linked, IsNet, net_under}
 use Rattle.ol_net.specs.Numbered.{net_of}
-use Rattle.ol_net.specs.Pairs.{IsInActive}
+use Rattle.ol_net.specs.Pairs.{IsInActive, IsComplete, HasActive}
 use Rattle.ol_rules.specs.declared.journal.NodeName.{NodeName}
 use Rattle.ol_rules.specs.declared.journal.Entry.{Entry}
 use Rattle.ol_rules.specs.Steps.{StepsAt}
-use Rattle.ol_rules.specs.Runs.{IsComplete, HasActive, LeadsTo, RunsTo, StopsWithin, names_born}
+use Rattle.ol_rules.specs.Runs.{LeadsTo, RunsTo, StopsWithin, names_born}
 use Rattle.ol_rules.specs.Running.{name_in, IsLeast, HasPartner, AtMostOneStep, Advances}
 use Rattle.ol_rules.specs.declared.one_thread.Running.{Running}
 use Rattle.ol_rules.proofs.NameOrder.{names_apart}

@@ -2,11 +2,11 @@
 use Rattle.std.proofs.Common.{ℕ, List, [], ◌∷◌, inl, inr}
 use Rattle.ol_net.specs.declared.parts.Rule.{Rule}
 use Rattle.ol_net.specs.Nets.{NamedNet, SameNet}
-use Rattle.ol_net.specs.Pairs.{IsActive, IsStuck, HasStuck}
+use Rattle.ol_net.specs.Pairs.{IsActive, IsStuck, HasStuck, IsComplete}
 use Rattle.ol_rules.specs.declared.journal.NodeName.{NodeName}
 use Rattle.ol_rules.specs.declared.journal.Entry.{Entry}
 use Rattle.ol_rules.specs.Rewriting.{action_of, IsStep}
-use Rattle.ol_rules.specs.Runs.{IsComplete, IsLead, IsLeadRun, end, then, IsOneThread}
+use Rattle.ol_rules.specs.Runs.{IsLead, IsLeadRun, end, then, IsOneThread}
 use Rattle.ol_rules.proofs.Relation.{same_refl, same_sym, faces_same, rewrites_same}
 
 module _ {A : Type 0} (M N : NamedNet A) (s : SameNet M N) where

@@ -3,8 +3,7 @@ use Rattle.std.proofs.Common.{◌≡◌, ℕ, suc, length, List, [], ◌∷◌, 
 use Rattle.ol_edges.specs.Edges.{IsIn}
 use Rattle.ol_net.specs.declared.parts.Kind.{Kind}
 use Rattle.ol_net.specs.Nets.{NamedPort, free, slot, NamedNet, HasNode, Linked, IsPort, IsNet, SameNet, Faces, port_under, net_under}
-use Rattle.ol_net.specs.Pairs.{IsStuck, HasPair, AreDifferent, HasStuck}
-use Rattle.ol_rules.specs.Runs.{IsComplete}
+use Rattle.ol_net.specs.Pairs.{IsStuck, HasPair, AreDifferent, HasStuck, IsComplete}
 use Rattle.ol_rules.proofs.Relation.{same_sym}
 use Rattle.ol_edges.proofs.Lists.{in_map, in_map_of}
 use Rattle.ol_rules.proofs.Renaming.{node_to, node_from, link_to, link_from}

@@ -4,14 +4,14 @@ use Rattle.ol_edges.specs.Edges.{IsTest}
 use Rattle.ol_net.specs.declared.parts.Kind.{Kind}
 use Rattle.ol_net.specs.declared.parts.Rule.{Rule}
 use Rattle.ol_net.specs.Nets.{NamedNet, HasNode, IsNet, SameNet}
-use Rattle.ol_net.specs.Pairs.{IsActive}
+use Rattle.ol_net.specs.Pairs.{IsActive, IsComplete, HasActive}
 use Rattle.ol_rules.specs.declared.journal.NodeName.{NodeName}
 use Rattle.ol_rules.specs.declared.journal.NodeName.TheVariants.{Born}
 use Rattle.ol_rules.specs.declared.journal.Entry.{Entry}
 use Rattle.ol_rules.specs.Names.{comes_before}
 use Rattle.ol_rules.specs.Contracting.{IsCounted, IsContracted, joins_by}
 use Rattle.ol_rules.specs.Rewriting.{Action, Rewrites, IsStep}
-use Rattle.ol_rules.specs.Runs.{IsComplete, HasActive, IsOneThread}
+use Rattle.ol_rules.specs.Runs.{IsOneThread}
 
 -- names for the nodes born: each once, and none that is there already
 pub record IsFresh {A : Type 0} (N : NamedNet A) (born : ℕ → A) : Type 0 where

@@ -8,12 +8,12 @@ use Rattle.ol_net.specs.Nets.{slot, Linked, IsNet}
 use Rattle.ol_net.specs.declared.parts.NodeId.{NodeId}
 use Rattle.ol_net.specs.declared.parts.Port.{Port}
 use Rattle.ol_net.specs.Numbered.{net_of, numbered_port}
-use Rattle.ol_net.specs.Pairs.{IsInActive}
+use Rattle.ol_net.specs.Pairs.{IsInActive, IsComplete}
 use Rattle.ol_rules.specs.declared.journal.NodeName.{NodeName}
 use Rattle.ol_rules.specs.declared.journal.NodeName.TheVariants.{Init}
 use Rattle.ol_rules.specs.declared.journal.Entry.{Entry}
 use Rattle.ol_rules.specs.declared.one_thread.Running.{Running}
-use Rattle.ol_rules.specs.Runs.{IsComplete, names_born}
+use Rattle.ol_rules.specs.Runs.{names_born}
 use Rattle.ol_rules.specs.Steps.{StepsAt}
 
 -- the name of a number, where start nodes were there at the start and these are the names of those born since

@@ -3,7 +3,7 @@ use Rattle.std.specs.Prelude.{◌≡◌, ℕ, zero, suc, ◌+◌, ◌≤◌, ◌
 use Rattle.ol_net.specs.Graph.{Graph}
 use Rattle.ol_net.specs.Nets.{NamedNet, net_under}
 use Rattle.ol_net.specs.Numbered.{net_of}
-use Rattle.ol_net.specs.Pairs.{IsActive}
+use Rattle.ol_net.specs.Pairs.{IsActive, IsComplete, HasActive}
 use Rattle.ol_net.specs.declared.parts.Rule.{Rule}
 use Rattle.ol_rules.specs.declared.journal.NodeName.{NodeName}
 use Rattle.ol_rules.specs.declared.journal.NodeName.TheVariants.{Init, Born}
@@ -23,14 +23,6 @@ pub record IsEntryStep (N : NamedNet NodeName) (ticket : ℕ) (e : Entry) (M : N
 pub data IsRun : NamedNet NodeName → ℕ → List Entry → NamedNet NodeName → Type 0 where
   end : {N : NamedNet NodeName} {t : ℕ} → IsRun N t [] N
   then : {N M P : NamedNet NodeName} {t : ℕ} {e : Entry} {es : List Entry} → IsEntryStep N t e M → IsRun M (suc t) es P → IsRun N t (e ∷ es) P
-
--- no pair is active
-abbrev pub IsComplete : {A : Type 0} → NamedNet A → Type 0
-IsComplete {A} N = (f g : A) (r : Rule) → IsActive N f g r → ⊥
-
--- some pair is active
-abbrev pub HasActive : {A : Type 0} → NamedNet A → Type 0
-HasActive {A} N = (f : A) × (g : A) × (r : Rule) × IsActive N f g r
 
 -- all fuel was used up, and an active pair is left
 abbrev pub RanOut : ℕ → List Entry → Graph → Type 0

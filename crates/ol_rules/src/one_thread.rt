@@ -3,7 +3,8 @@
 ghost use Rattle.std.specs.Prelude.{◌≡◌, ℕ, ◌+◌, ◌-◌, ◌*◌, ◌<◌, ◌≤◌, ◌^◌, ◌↔◌, ◌++◌, [], length, vec_len, OnOk, OnErr, IfOk};
 ghost use Rattle.ol_net.specs.Nets.{IsNet};
 ghost use Rattle.ol_net.specs.Numbered.{net_of};
-ghost use Rattle.ol_rules.specs.Runs.{IsComplete, RanOut, RunsTo, StopsWithin, names_born};
+ghost use Rattle.ol_rules.specs.Runs.{RanOut, RunsTo, StopsWithin, names_born};
+ghost use Rattle.ol_net.specs.Pairs.{IsComplete};
 ghost use Rattle.ol_rules.specs.Running.{name_in, AllWait, AllWaitBut, OthersWait, StillWait, RangeWaits, BesideWaits, IsLeast, FindsLead, FindsPartner, FindsNode, AtMostOneStep, Advances};
 ghost use Rattle.ol_rules.specs.Steps.{StepsAt};
 

@@ -5,8 +5,9 @@ use Rattle.ol_term.specs.Trees.{Tree, var, free, lam, app}
 use Rattle.ol_net.specs.declared.parts.Kind.{Kind}
 use Rattle.ol_net.specs.declared.parts.Kind.TheVariants as kind
 use Rattle.ol_net.specs.declared.parts.Port.{Port}
-use Rattle.ol_net.specs.Build.{build_top, all_live, is_bad_index, BadIndexAt, NoneOf}
-use Rattle.ol_net.specs.Replace.{top_index_of}
+use Rattle.ol_net.specs.Build.{build_top, is_bad_index, BadIndexAt, NoneOf}
+use Rattle.ol_net.specs.Numbered.{all_live}
+use Rattle.ol_net.specs.Indexes.{top_index_of}
 use Rattle.ol_translate.specs.Translation.{Subnet, subnet_of, application, erasers, bracket_nodes, past_brackets, fans, fan_nodes, merged, wire_of, nodes_of}
 
 -- the index of a node that is no eraser is at most m, and an eraser's is 0

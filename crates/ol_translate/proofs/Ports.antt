@@ -8,7 +8,7 @@ use Rattle.ol_net.specs.declared.parts.Port.{Port}
 use Rattle.ol_net.specs.declared.parts.Port.TheVariants.{Free, Of}
 use Rattle.ol_net.specs.Parts.{slots_of}
 use Rattle.ol_net.specs.Graph.{kind_at, has_slot, has_port}
-use Rattle.ol_net.specs.Build.{all_live}
+use Rattle.ol_net.specs.Numbered.{all_live}
 use Rattle.ol_translate.specs.Translation.{slot_port, subnet_of, nodes_of, links_of}
 use Rattle.ol_translate.specs.Names.{HasNames}
 use Rattle.ol_translate.proofs.Counts.{hit, uses, free_ends, node_slots, slots, times}

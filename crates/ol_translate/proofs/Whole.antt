@@ -8,9 +8,8 @@ use Rattle.ol_net.specs.declared.parts.Port.{Port}
 use Rattle.ol_net.specs.declared.parts.Port.TheVariants.{Free, Of}
 use Rattle.ol_net.specs.Parts.{arity}
 use Rattle.ol_net.specs.Graph.{Graph, kind_at, has_slot, has_port}
-use Rattle.ol_net.specs.Build.{all_live}
 use Rattle.ol_net.specs.Nets.{NamedPort, free, slot, NamedNet, Linked, IsPort, IsNet}
-use Rattle.ol_net.specs.Numbered.{numbered_port, numbered_from, net_of_parts}
+use Rattle.ol_net.specs.Numbered.{numbered_port, numbered_from, net_of_parts, all_live}
 use Rattle.ol_net.proofs.Building.{numbered_link, nodes_from-live}
 use Rattle.ol_net.proofs.Numbered.{has_node}
 use Rattle.ol_translate.specs.Translation.{nodes_of, links_of, translation_of}

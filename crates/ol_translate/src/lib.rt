@@ -4,9 +4,8 @@
 ghost use Rattle.std.specs.Prelude.{◌≡◌, ◌≢◌, ◌≤◌, ◌<◌, ◌+◌, ◌↔◌, length, Err, IfOk};
 ghost use Rattle.ol_term.specs.Trees.{tree_of, depth, EachOccurs};
 ghost use Rattle.ol_net.specs.Nets.{SameNet};
-ghost use Rattle.ol_net.specs.Numbered.{net_of};
-ghost use Rattle.ol_net.specs.Build.{all_live};
-ghost use Rattle.ol_net.specs.Replace.{top_index_of};
+ghost use Rattle.ol_net.specs.Numbered.{net_of, all_live};
+ghost use Rattle.ol_net.specs.Indexes.{top_index_of};
 ghost use Rattle.ol_translate.specs.Translation.{nodes_of, translation_of};
 ghost use Rattle.ol_translate.specs.Sizes.{size_of_translation};
 

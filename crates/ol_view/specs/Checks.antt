@@ -5,11 +5,11 @@ use Rattle.ol_net.specs.declared.parts.Rule.{Rule}
 use Rattle.ol_net.specs.Graph.{Graph}
 use Rattle.ol_net.specs.Nets.{NamedNet, net_under}
 use Rattle.ol_net.specs.Numbered.{net_of}
-use Rattle.ol_net.specs.Pairs.{IsActive}
+use Rattle.ol_net.specs.Pairs.{IsActive, IsComplete, HasActive}
 use Rattle.ol_rules.specs.declared.journal.NodeName.{NodeName}
 use Rattle.ol_rules.specs.declared.journal.NodeName.TheVariants.{Init}
 use Rattle.ol_rules.specs.declared.journal.Entry.{Entry}
-use Rattle.ol_rules.specs.Runs.{IsRun, IsComplete, HasActive}
+use Rattle.ol_rules.specs.Runs.{IsRun}
 use Rattle.ol_view.specs.declared.answers.Check.{Check}
 use Rattle.ol_view.specs.declared.answers.Check.TheVariants.{Complete, Run, BadText, NotARun}
 use Rattle.ol_view.specs.TraceTexts.{header, trace_text, BeginsWithLine}

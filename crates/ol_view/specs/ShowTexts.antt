@@ -2,29 +2,11 @@
 use Rattle.std.specs.Prelude.{ℕ, zero, suc, List, [], ◌∷◌, ◌++◌, Option, None, Some, codes, length, count_by, is_some}
 use Rattle.std.specs.Fmt.{decimal}
 use Rattle.ol_net.specs.declared.parts.Kind.{Kind}
-use Rattle.ol_net.specs.declared.parts.Kind.TheVariants as kind
 use Rattle.ol_net.specs.declared.parts.Port.{Port}
 use Rattle.ol_net.specs.declared.parts.Port.TheVariants.{Free, Of}
 use Rattle.ol_net.specs.Parts.{slots_of}
+use Rattle.ol_net.specs.PartTexts.{kind_text, index_text, port_text}
 use Rattle.ol_net.specs.Graph.{Graph, kind_at, partner_of}
-
-abbrev pub kind_text : Kind → List ℕ
-kind_text kind.Lam = codes "lam"
-kind_text kind.App = codes "app"
-kind_text kind.Fan = codes "fan"
-kind_text kind.Croissant = codes "croissant"
-kind_text kind.Bracket = codes "bracket"
-kind_text kind.Eraser = codes "eraser"
-
--- an eraser has no index of its own
-abbrev pub index_text : Kind → ℕ → List ℕ
-index_text kind.Eraser i = codes "-"
-index_text _ i = decimal i
-
--- `fk` for a free port, `N.S` for a slot of a node
-abbrev pub port_text : Port → List ℕ
-port_text (Free k) = codes "f" ++ decimal k
-port_text (Of n s) = decimal n.0 ++ (46 ∷ decimal s)
 
 -- a space and the port's partner
 abbrev pub partner_text : Option Port → List ℕ

@@ -3,9 +3,8 @@
 ghost use Rattle.std.specs.Prelude.{◌≡◌, ◌≤◌, [], ◌∷◌, length, true, false, IfOk, option_map};
 ghost use Rattle.ol_net.specs.declared.parts.Rule.{Rule};
 ghost use Rattle.ol_net.specs.Nets.{slot, Linked};
-ghost use Rattle.ol_net.specs.Pairs.{IsInActive};
+ghost use Rattle.ol_net.specs.Pairs.{IsInActive, IsComplete, HasActive};
 ghost use Rattle.ol_net.specs.Numbered.{net_of};
-ghost use Rattle.ol_rules.specs.Runs.{IsComplete, HasActive};
 ghost use Rattle.ol_view.specs.Checks.{AreIdle};
 ghost use Rattle.ol_view.specs.Replaying.{node_number, AreIdleNumbers, RewritesNamed};
 

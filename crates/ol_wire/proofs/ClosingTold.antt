@@ -6,7 +6,8 @@ use Rattle.ol_net.specs.Nets.{NamedNet, HasNode, SameNet}
 use Rattle.ol_net.specs.Numbered.{net_of}
 use Rattle.ol_rules.specs.declared.journal.NodeName.{NodeName}
 use Rattle.ol_rules.specs.declared.journal.Entry.{Entry}
-use Rattle.ol_rules.specs.Runs.{IsRun, HasActive}
+use Rattle.ol_rules.specs.Runs.{IsRun}
+use Rattle.ol_net.specs.Pairs.{HasActive}
 use Rattle.ol_rules.proofs.Relation.{same_refl}
 use Rattle.ol_rules.proofs.Same.{active_same}
 use Rattle.ol_rules.proofs.StartNets as starts

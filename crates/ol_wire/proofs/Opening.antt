@@ -6,10 +6,9 @@ use lib.ListN.{get_elem?}
 use Rattle.atomic_table.specs.Table.{opening}
 use Rattle.ol_edges.specs.Edges.{IsIn}
 use Rattle.ol_net.specs.Graph.{Graph, IsTabled}
-use Rattle.ol_net.specs.Indexes.{HasIndexes}
+use Rattle.ol_net.specs.Indexes.{HasIndexes, top_index_of}
 use Rattle.ol_net.specs.Nets.{NamedNet, net_under, IsNet}
 use Rattle.ol_net.specs.Numbered.{net_of}
-use Rattle.ol_net.specs.Replace.{top_index_of}
 use Rattle.ol_net.proofs.Numbered.{has_node, net_is_net}
 use Rattle.ol_rules.specs.declared.journal.NodeName.{NodeName}
 use Rattle.ol_rules.specs.declared.journal.NodeName.TheVariants.{Init}

@@ -10,7 +10,7 @@ use Rattle.ol_net.specs.Graph.{Graph, IsTabled, kind_at, has_port, partner_of}
 use Rattle.ol_net.specs.Nets.{NamedPort, Linked, port_under, net_under}
 use Rattle.ol_net.specs.Nets as nets
 use Rattle.ol_net.specs.Numbered.{numbered_port, net_of}
-use Rattle.ol_net.specs.Replace.{top_index_of}
+use Rattle.ol_net.specs.Indexes.{top_index_of}
 use Rattle.ol_net.proofs.Numbered.{has_node, is_port, linked, linked_back, numbered_port-injective}
 use Rattle.ol_rules.specs.declared.journal.NodeName.{NodeName}
 use Rattle.ol_rules.specs.declared.journal.NodeName.TheVariants.{Init, Born}

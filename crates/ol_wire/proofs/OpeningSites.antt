@@ -7,7 +7,7 @@ use Rattle.ol_net.specs.declared.parts.Port.{Port}
 use Rattle.ol_net.specs.declared.parts.Port.TheVariants.{Free, Of}
 use Rattle.ol_net.specs.Graph.{Graph, IsTabled, kind_at, has_port, partner_of}
 use Rattle.ol_net.specs.Nets.{NamedNet}
-use Rattle.ol_net.specs.Replace.{top_index_of}
+use Rattle.ol_net.specs.Indexes.{top_index_of}
 use Rattle.ol_net.proofs.Numbered.{partner_of-parts, partner_of-back}
 use Rattle.ol_rules.specs.declared.journal.NodeName.{NodeName}
 use Rattle.ol_rules.specs.declared.journal.NodeName.TheVariants.{Init}

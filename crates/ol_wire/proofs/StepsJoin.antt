@@ -8,7 +8,7 @@ use Rattle.atomic_table.specs.Table.{Joins}
 use Rattle.atomic_table.proofs.Lists.{set_else}
 use Rattle.ol_edges.specs.Edges.{IsIn}
 use Rattle.ol_rules.specs.declared.journal.Entry.{Entry}
-use Rattle.ol_rules.specs.Runs.{HasActive}
+use Rattle.ol_net.specs.Pairs.{HasActive}
 use Rattle.ol_wire.specs.declared.plan.Plan.{Plan}
 use Rattle.ol_wire.specs.declared.view.Link.{Link}
 use Rattle.ol_wire.specs.declared.view.View.{View}

@@ -7,7 +7,7 @@ use lib.ListN.{get_elem?}
 use Rattle.core.specs.Prelude.{slice_get}
 use Rattle.ol_edges.specs.Edges.{IsIn, bit}
 use Rattle.ol_rules.specs.declared.journal.NodeName.TheVariants.{Init, Born}
-use Rattle.ol_rules.specs.Runs.{HasActive}
+use Rattle.ol_net.specs.Pairs.{HasActive}
 use Rattle.ol_wire.specs.declared.layout.Parts.{Parts}
 use Rattle.ol_wire.specs.declared.plan.Plan.{Plan}
 use Rattle.ol_wire.specs.declared.view.Link.{Link}

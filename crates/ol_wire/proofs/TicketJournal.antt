@@ -11,14 +11,14 @@ use Rattle.ol_net.specs.declared.parts.Rule.TheVariants as rules
 use Rattle.ol_net.specs.Parts.{arity, is_eraser}
 use Rattle.ol_net.specs.Rules.{rule_of}
 use Rattle.ol_net.specs.Nets.{slot, NamedNet, HasNode, Linked, Faces}
-use Rattle.ol_net.specs.Pairs.{IsActive}
+use Rattle.ol_net.specs.Pairs.{IsActive, HasActive}
 use Rattle.ol_rules.specs.declared.journal.NodeName.{NodeName}
 use Rattle.ol_rules.specs.declared.journal.NodeName.TheVariants.{Init, Born}
 use Rattle.ol_rules.specs.declared.journal.Entry.{Entry}
 use Rattle.ol_rules.specs.Names.{comes_before, IsNamed}
 use Rattle.ol_rules.specs.Laws.{IsFresh}
 use Rattle.ol_rules.specs.Rewriting.{crossing, action_of, NodeOf, left, of_f, of_g, Rewrites, IsStep}
-use Rattle.ol_rules.specs.Runs.{IsEntryStep, IsRun, HasActive}
+use Rattle.ol_rules.specs.Runs.{IsEntryStep, IsRun}
 use Rattle.ol_rules.proofs.Born.{at_most_two}
 use Rattle.ol_edges.proofs.Lists.{got_append}
 use Rattle.ol_rules.proofs.OneRun.{name_same, name_test}

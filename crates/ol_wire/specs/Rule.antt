@@ -7,11 +7,12 @@ use Rattle.ol_edges.specs.Edges.{IsIn, bit}
 use Rattle.ol_net.specs.declared.parts.Kind.{Kind}
 use Rattle.ol_net.specs.Nets.{NamedNet, HasNode, IsNet}
 use Rattle.ol_net.specs.Numbered.{net_of}
-use Rattle.ol_net.specs.Replace.{top_index_of}
+use Rattle.ol_net.specs.Indexes.{top_index_of}
 use Rattle.ol_net.specs.Parts.{arity, is_eraser}
 use Rattle.ol_rules.specs.declared.journal.NodeName.{NodeName}
 use Rattle.ol_rules.specs.declared.journal.Entry.{Entry}
-use Rattle.ol_rules.specs.Runs.{IsRun, HasActive}
+use Rattle.ol_rules.specs.Runs.{IsRun}
+use Rattle.ol_net.specs.Pairs.{HasActive}
 use Rattle.ol_wire.specs.declared.layout.Parts.{Parts}
 use Rattle.ol_wire.specs.declared.plan.Plan.{Plan}
 use Rattle.ol_wire.specs.declared.view.Link.{Link}

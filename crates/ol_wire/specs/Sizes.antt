@@ -1,7 +1,7 @@
 -- Bounds of the parts of a table, under which each word's number is below 2^32.
 use Rattle.std.specs.Prelude.{◌≤◌, length}
 use Rattle.ol_net.specs.Graph.{Graph}
-use Rattle.ol_net.specs.Replace.{top_index_of}
+use Rattle.ol_net.specs.Indexes.{top_index_of}
 use Rattle.ol_wire.specs.declared.layout.Parts.{Parts}
 
 pub record IsSmall (z : Parts) : Type 0 where

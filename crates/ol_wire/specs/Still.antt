@@ -1,6 +1,6 @@
 -- A table in which nothing is under way, and no cell holds an active pair.
 use Rattle.std.specs.Prelude.{◌≡◌, ◌≢◌, ℕ, suc, ◌<◌, [], slice_index}
-use Rattle.ol_rules.specs.Runs.{IsComplete}
+use Rattle.ol_net.specs.Pairs.{IsComplete}
 use Rattle.ol_wire.specs.declared.plan.Plan.{Plan}
 use Rattle.ol_wire.specs.declared.view.View.{View}
 use Rattle.ol_wire.specs.Layout.{left_word, cells_of}

@@ -2,7 +2,7 @@
 ghost use Rattle.std.specs.Prelude.{◌≡◌, true};
 ghost use Rattle.ol_net.specs.Nets.{NamedNet};
 ghost use Rattle.ol_rules.specs.declared.journal.NodeName.{NodeName};
-ghost use Rattle.ol_rules.specs.Runs.{IsComplete, HasActive};
+ghost use Rattle.ol_net.specs.Pairs.{IsComplete, HasActive};
 ghost use Rattle.ol_wire.specs.Closed.{journal_drawn, IsAfter, EachAfter, HasOneAfter, NoNodeTwice, AreGone, IsEmptyUndrawn, IsFuelUsed, HasSweptAll};
 ghost use Rattle.ol_wire.specs.Weights.{AreNumbered};
 ghost use Rattle.ol_wire.specs.Standing.{StandForNet};

@@ -8,7 +8,7 @@ use Rattle.ol_translate.proofs.Sizing.{size_of_nodes}
 use Rattle.ol_net.proofs.Linking.{length-all_live}
 use Rattle.ol_translate.proofs.Fitting.{never_refused, same_translation}
 use Rattle.ol_translate.proofs.Indexes.{top_is_low}
-use Rattle.ol_net.specs.Replace.{top_index_of}
+use Rattle.ol_net.specs.Indexes.{top_index_of}
 use Rattle.ol_translate.proofs.Answering.{names_of, refused_where, given_where}
 use Rattle.ol_translate.proofs.translate.Goals as goal
 

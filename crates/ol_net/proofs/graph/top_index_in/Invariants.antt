@@ -1,5 +1,5 @@
 use Rattle.std.proofs.Common.{◌≡◌, take}
-use Rattle.ol_net.specs.Replace.{top_index_of}
+use Rattle.ol_net.specs.Indexes.{top_index_of}
 use Rattle.ol_net.proofs.graph.top_index_in.Given as goal
 
 abbrev pub invariant-loop-node : goal.invariant-loop-node
