@@ -7,3 +7,4 @@ pub mod Steps
 pub mod Renamed
 pub mod Runs
 pub mod Afterwards
+pub mod WrongTables
