@@ -5,7 +5,7 @@ use Rattle.ol_context.specs.declared.leaf.Around.{Around}
 use Rattle.ol_context.specs.declared.leaf.Leaf.{Leaf}
 use Rattle.ol_net.specs.declared.parts.Kind.{Kind}
 use Rattle.ol_net.specs.declared.parts.Kind.TheVariants as kind
-use Rattle.ol_context.specs.Contexts.{Level, empty, o, Context, cons, at_level}
+use Rattle.ol_context.specs.Contexts.{Level, empty, o, Context, cons, tail, at_level}
 use Rattle.ol_context.specs.Paths.{Crosses}
 use Rattle.ol_context.specs.Shapes.{value, IsHeld, AreHeld, context_of}
 use Rattle.ol_context.specs.Crossings.{NoCrossing}
@@ -48,6 +48,10 @@ AreHeldWithIt v none ns ms = (vs : List Level) → IsHeld vs v → IsHeld vs non
 -- where none is the number of the empty value, ms stand for the levels of ns with the value of v put in as level i
 abbrev pub HasPutIn : ℕ → ℕ → ℕ → List ℕ → List ℕ → Type 0
 HasPutIn i v none ns ms = (vs : List Level) → value vs none ≡ empty → context_of vs ms ≡ at_level i (cons (value vs v)) (context_of vs ns)
+
+-- ms stand for the levels of ns without level i
+abbrev pub HasTakenOut : ℕ → List ℕ → List ℕ → Type 0
+HasTakenOut i ns ms = (vs : List Level) → context_of vs ms ≡ at_level i tail (context_of vs ns)
 
 -- whatever the leaf is, the new levels stand for f of what the old ones stood for
 abbrev pub HasRisen : List Level → List Level → List ℕ → List ℕ → Leaf → Leaf → (Context → Context) → Type 0

@@ -22,7 +22,8 @@ IsOnce [] = Unit {0}
 IsOnce (x ∷ xs) = (IsIn x xs → ⊥) × IsOnce xs
 
 -- the ports by which a walk entered nodes, one after another
-abbrev pub entries : {A : Type 0} {N : NamedNet A} {p : NamedPort A} {c : Context} {n : ℕ} {u : NamedPort A} {d : Context} → Way N p c n u d → List (NamedPort A)
+abbrev pub entries : {A : Type 0} {N : NamedNet A} {p : NamedPort A} {c : Context} {n : ℕ} {u : NamedPort A} {d : Context} →
+    Way N p c n u d → List (NamedPort A)
 entries start = []
 entries (on {x = x} {s = s} w l h y) = entries w ++ slot x s ∷ []
 
@@ -42,15 +43,18 @@ pub record TurnsOnce {A : Type 0} (ps : List (NamedPort A)) : Type 0 where
 
 -- In a net without facing pairs a walk from a free port turns once.
 abbrev pub WalkTurnsOnce : Type 0 → Type 0
-WalkTurnsOnce A = (N : NamedNet A) → IsNet N → HasNoFacing N → (p : ℕ) (c : Context) (n : ℕ) (u : NamedPort A) (d : Context) (w : Way N (free p) c n u d) → TurnsOnce (entries w)
+WalkTurnsOnce A = (N : NamedNet A) → IsNet N → HasNoFacing N →
+    (p : ℕ) (c : Context) (n : ℕ) (u : NamedPort A) (d : Context) (w : Way N (free p) c n u d) → TurnsOnce (entries w)
 
 -- And it leaves within twice as many crossings as there are nodes, or never.
 abbrev pub WalkIsShort : Type 0 → Type 0
-WalkIsShort A = (N : NamedNet A) → IsNet N → HasNoFacing N → (p : ℕ) (c : Context) (q : ℕ) (d : Context) (r : Path N (free p) c q d) → crossings r ≤ 2 * live N
+WalkIsShort A = (N : NamedNet A) → IsNet N → HasNoFacing N →
+    (p : ℕ) (c : Context) (q : ℕ) (d : Context) (r : Path N (free p) c q d) → crossings r ≤ 2 * live N
 
 -- A walk that made as many crossings and stands at a node goes on for ever.
 abbrev pub WalkGoesOn : Type 0 → Type 0
-WalkGoesOn A = (N : NamedNet A) → IsNet N → HasNoFacing N → (p : ℕ) (c : Context) (edges : ℕ) → 2 * live N ≤ edges → WalkStands N (free p) c edges → (n : ℕ) → WalkStands N (free p) c n
+WalkGoesOn A = (N : NamedNet A) → IsNet N → HasNoFacing N → (p : ℕ) (c : Context) (edges : ℕ) →
+    2 * live N ≤ edges → WalkStands N (free p) c edges → (n : ℕ) → WalkStands N (free p) c n
 
 -- An exit comes exactly where a path leads to a free port, of any number of crossings: by that port, with the context there,
 -- and with the number of crossings.

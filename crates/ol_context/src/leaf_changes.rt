@@ -2,10 +2,10 @@
 
 ghost use Rattle.std.specs.Prelude.{◌≡◌, ◌+◌, ◌<◌, ◌≤◌, ◌++◌, [], ◌∷◌, ℕ, List, IfOk, OnOk, OnErr};
 ghost use Rattle.ol_net.specs.Parts.{arity};
-ghost use Rattle.ol_context.specs.Contexts.{Level, empty, tail, cons, at_level, mark, packed, up};
+ghost use Rattle.ol_context.specs.Contexts.{Level, empty, cons, at_level, mark, packed, up};
 ghost use Rattle.ol_context.specs.Shapes.{AreHeld, Extends, IsNumberOf, context_of};
 ghost use Rattle.ol_context.specs.Open.{AreHeldParts};
-ghost use Rattle.ol_context.specs.Leaves.{level_past, seen, AreHeldWith, AreHeldWithIt, HasPutIn, IsKept, HasRisen, LeafHasMoved, IfNoMove};
+ghost use Rattle.ol_context.specs.Leaves.{level_past, seen, AreHeldWith, AreHeldWithIt, HasPutIn, HasTakenOut, IsKept, HasRisen, LeafHasMoved, IfNoMove};
 
 use crate::arena::{Val, Values};
 use crate::changes::{bracket_up, croissant_up, fall, insert, mark_up, reach, rise};
@@ -29,8 +29,7 @@ fn wrap(leaf: &mut Leaf, part: Around) -> Result<(), NoMemory>
 // Takes level `i` out.
 fn take_out(levels: &mut Vec<Val>, i: usize)
     ensures held { (vs : List Level) → AreHeld vs levels.old.items → AreHeld vs levels.new.items }
-    ensures is { (vs : List Level) →
-        context_of vs levels.new.items ≡ at_level i tail (context_of vs levels.old.items) }
+    ensures is { HasTakenOut i levels.old.items levels.new.items }
 {
     if i < levels.len() {
         let _level = levels.remove(i);
