@@ -1,13 +1,11 @@
 -- Lines of the table of rules that would lose a path, and the indexes of copies.
-use Rattle.std.proofs.Common.{◌≡◌, ℕ, zero, suc, ◌+◌, ◌<◌, Some, [], ◌∷◌, refl, sym, ap, ◌∙◌, subst, arith}
+use Rattle.std.proofs.Common.{◌≡◌, ℕ, zero, suc, ◌+◌, ◌<◌, [], inl, inr, refl, sym, ap, ◌∙◌, subst, arith}
 use Rattle.ol_context.specs.Contexts.{Level, empty, pair, Context, levels, cons, tail, at_level, marked, mark, up}
 use Rattle.ol_context.specs.Paths.{Crosses, inward, outward, Path, ends, goes}
-use Rattle.ol_net.specs.Nets.{NamedNet, NamedPort, free, slot, HasNode, Linked}
+use Rattle.ol_net.specs.Nets.{NamedPort, free, slot, HasNode, Linked}
 use Rattle.ol_net.specs.Parts.{arity}
-use Rattle.ol_net.specs.Rules.{crossed}
 use Rattle.ol_net.specs.declared.parts.Kind.{Kind}
 use Rattle.ol_net.specs.declared.parts.Kind.TheVariants as kind
-use Rattle.ol_net.specs.declared.parts.Rule.{Rule}
 use Rattle.ol_net.specs.declared.parts.Rule.TheVariants as rule
 use Rattle.ol_rules.specs.Rewriting.{index_after}
 use Rattle.ol_invariance.specs.Tables.{IndexesAgree, two_facing, turned_joins, TurnedJoinsLoseAPath, facing_fan, past_fan, IsOnlyIndexPast}
@@ -33,8 +31,8 @@ not_slot e = absurd (cc)
 -- from free port 0 to free port 2, by the slots 1 of the two
 straight : (k l : Kind) → 0 < arity k → 0 < arity l → (c : Context) → up l 0 0 c ≡ up k 0 0 c → Path (two_facing k l) (free 0) c 2 c
 straight k l a b c same =
-    goes {x = 0} {k = k} {i = 0} {s = 1} {t = 0} {d = up k 0 0 c} (inl (inr (inl refl))) (inl refl) (inward a refl)
-    (goes {x = 1} {k = l} {i = 0} {s = 0} {t = 1} {d = c} (inl (inl refl)) (inr (inl refl)) (outward b same)
+    goes {d = up k 0 0 c} {x = 0} {k = k} {i = 0} {s = 1} {t = 0} (inl (inr (inl refl))) (inl refl) (inward a refl)
+    (goes {d = c} {x = 1} {k = l} {i = 0} {s = 0} {t = 1} (inl (inl refl)) (inr (inl refl)) (outward b same)
     (ends (inr (inr (inr (inr (inl refl)))))))
 
 turned_from_0 : (u : NamedPort ℕ) → Linked turned_joins (free 0) u → u ≡ free 3
@@ -58,8 +56,8 @@ turned_beta same = none_turned ((same 0 (levels []) 2 (levels [])).0 (straight k
 -- from free port 0 to the fan's free port 1
 by_the_fan : (k : Kind) → 0 < arity k → (c d : Context) → up kind.Fan 1 0 d ≡ up k 0 0 c → Path (facing_fan k) (free 0) c 1 d
 by_the_fan k a c d same =
-    goes {x = 0} {k = k} {i = 0} {s = 1} {t = 0} {d = up k 0 0 c} (inl (inr (inl refl))) (inl refl) (inward a refl)
-    (goes {x = 1} {k = kind.Fan} {i = 1} {s = 0} {t = 1} {d = d} (inl (inl refl)) (inr (inl refl)) (outward (omega arith) same)
+    goes {d = up k 0 0 c} {x = 0} {k = k} {i = 0} {s = 1} {t = 0} (inl (inr (inl refl))) (inl refl) (inward a refl)
+    (goes {d = d} {x = 1} {k = kind.Fan} {i = 1} {s = 0} {t = 1} (inl (inl refl)) (inr (inl refl)) (outward (omega arith) same)
     (ends (inr (inr (inr (inl refl))))))
 
 past_from_0 : (k : Kind) (n : ℕ) (u : NamedPort ℕ) → Linked (past_fan k n) (free 0) u → u ≡ slot 2 0
@@ -78,8 +76,8 @@ past_from_0 k n u (inr (inr (inr (inr (inr (inr b)))))) = absurd b
 
 -- node 2 is the fan
 is_fan : (k l : Kind) (n i : ℕ) → HasNode (past_fan k n) 2 l i → (l ≡ kind.Fan) × (i ≡ n)
-is_fan k l n i (inl e) = let f : 2 ≡ 0 = ap (λ (x : ℕ × Kind × ℕ). x.0) e in absurd (omega arith)
-is_fan k l n i (inr (inl e)) = let f : 2 ≡ 1 = ap (λ (x : ℕ × Kind × ℕ). x.0) e in absurd (omega arith)
+is_fan k l n i (inl e) = let f : ◌≡◌ {A = ℕ} 2 0 = ap (λ (x : ℕ × Kind × ℕ). x.0) e in absurd (omega arith)
+is_fan k l n i (inr (inl e)) = let f : ◌≡◌ {A = ℕ} 2 1 = ap (λ (x : ℕ × Kind × ℕ). x.0) e in absurd (omega arith)
 is_fan k l n i (inr (inr (inl e))) = (ap (λ (x : ℕ × Kind × ℕ). x.1) e, ap (λ (x : ℕ × Kind × ℕ). x.2) e)
 is_fan k l n i (inr (inr (inr b))) = absurd b
 
@@ -94,7 +92,7 @@ at_its_level zero s d = refl
 at_its_level (suc n) s d = at_its_level n s (tail d)
 
 -- the level of the fan's index has a mark
-Marked : Context → ℕ → Type 0
+abbrev Marked : Context → ℕ → Type 0
 Marked c n = (s : ℕ) × (v : Level) × (marked s v ≡ c n)
 
 marked_past : (k : Kind) (n : ℕ) {c d : Context} {q : ℕ} → Path (past_fan k n) (free 0) c (suc q) d → Marked c n
