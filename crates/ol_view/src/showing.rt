@@ -3,8 +3,8 @@
 ghost use Rattle.std.specs.Prelude.{◌≡◌, ◌++◌, length, OnOk, IfOk, string_bytes};
 ghost use Rattle.ol_net.specs.Parts.{slots_of};
 ghost use Rattle.ol_net.specs.Graph.{kind_at, partner_of};
-ghost use Rattle.ol_view.specs.ShowTexts.{partner_text, free_lines, partners_text, node_line, node_lines, show_text};
-ghost use Rattle.ol_net.specs.PartTexts.{kind_text, index_text, port_text};
+ghost use Rattle.ol_view.specs.ShowTexts.{index_text, partner_text, free_lines, partners_text, node_line, node_lines, show_text};
+ghost use Rattle.ol_net.specs.PartTexts.{kind_text, port_text};
 
 use crate::pieces::{put, put_number};
 use ol_io::NoMemory;
