@@ -20,8 +20,7 @@ HeadIsOne A = (N : NamedNet A) → IsNet N → (frames : List Frame) (i : ℕ) (
 
 -- and within a budget too
 abbrev pub HeadWithinIsOne : Type 0 → Type 0
-HeadWithinIsOne A = (N : NamedNet A) → IsNet N → (frames : List Frame) (i edges : ℕ) (a b : Answer) →
-    IsHeadWithin N frames i edges a → IsHeadWithin N frames i edges b → a ≡ b
+HeadWithinIsOne A = (N : NamedNet A) → IsNet N → (frames : List Frame) (i edges : ℕ) (a b : Answer) → IsHeadWithin N frames i edges a → IsHeadWithin N frames i edges b → a ≡ b
 
 -- a net has one tree
 abbrev pub TreeIsOne : Type 0 → Type 0
@@ -37,5 +36,4 @@ HeadsKept A B = (N : NamedNet A) (M : NamedNet B) → HaveSamePaths N M → (fra
 
 -- a head that was found within a budget is the head
 abbrev pub HeadIsHead : Type 0 → Type 0
-HeadIsHead A = (N : NamedNet A) (frames : List Frame) (i edges n k : ℕ) (v : HeadVar) (ls : List Level) →
-    IsHeadWithin N frames i edges (head n v k ls) → IsHead N frames i (head n v k ls)
+HeadIsHead A = (N : NamedNet A) (frames : List Frame) (i edges n k : ℕ) (v : HeadVar) (ls : List Level) → IsHeadWithin N frames i edges (head n v k ls) → IsHead N frames i (head n v k ls)

@@ -57,7 +57,5 @@ opened t b node.Cut = []
 -- The next argument has so many binders round it, and heads whose arguments are all printed are closed. Or no argument is left.
 pub data Takes : List ℕ → List Open → Option ℕ → List ℕ → List Open → Type 0 where
   done : (x : List ℕ) → Takes x [] None x []
-  takes : (x : List ℕ) (os : List Open) (h : Open) (n : ℕ) → h.left ≡ suc n →
-      Takes x (os ++ h ∷ []) (Some h.binders) x (os ++ record { left = n; binders = h.binders; bracket = h.bracket } ∷ [])
-  closes : (x : List ℕ) (os : List Open) (h : Open) {y : List ℕ} {qs : List Open} {r : Option ℕ} → h.left ≡ 0 →
-      Takes (x ++ right_bracket h.bracket) os r y qs → Takes x (os ++ h ∷ []) r y qs
+  takes : (x : List ℕ) (os : List Open) (h : Open) (n : ℕ) → h.left ≡ suc n → Takes x (os ++ h ∷ []) (Some h.binders) x (os ++ record { left = n; binders = h.binders; bracket = h.bracket } ∷ [])
+  closes : (x : List ℕ) (os : List Open) (h : Open) {y : List ℕ} {qs : List Open} {r : Option ℕ} → h.left ≡ 0 → Takes (x ++ right_bracket h.bracket) os r y qs → Takes x (os ++ h ∷ []) r y qs

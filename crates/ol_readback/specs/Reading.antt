@@ -25,10 +25,8 @@ IsKnown count (var.Bound i j) = i < count
 IsKnown count (var.Free q) = Unit {0}
 
 -- Frame f was read as the next place, after the frames fs, which became gs. It has this node, and this group of arguments.
-pub record IsRead (N : NamedNet ℕ) (edges : ℕ) (old new : List Level)
-    (fs : List Frame) (f : Frame) (gs : List Frame) (n : ReadNode) (group : Option Group) : Type 0 where
-  pub reads : (heads : ℕ) (ss : List Subterm) (ns : List ReadNode) → length (frames_of old fs) < heads →
-      ReadsBack N heads edges (frames_of new gs) (subterms_in new group ++ ss) ns →
+pub record IsRead (N : NamedNet ℕ) (edges : ℕ) (old new : List Level) (fs : List Frame) (f : Frame) (gs : List Frame) (n : ReadNode) (group : Option Group) : Type 0 where
+  pub reads : (heads : ℕ) (ss : List Subterm) (ns : List ReadNode) → length (frames_of old fs) < heads → ReadsBack N heads edges (frames_of new gs) (subterms_in new group ++ ss) ns →
       ReadsBack N heads edges (frames_of old fs) (subterm_of old f ∷ ss) (n ∷ ns)
 
 -- all arguments that are left are cut

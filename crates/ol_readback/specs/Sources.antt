@@ -39,8 +39,7 @@ FewAreEnough A = (N : NamedNet A) → IsNet N → HasNoFacing N → (p : ℕ) (l
 
 -- In such a net a frame that was found within a budget to have no head has none.
 abbrev pub NoHeadIsNoHead : Type 0 → Type 0
-NoHeadIsNoHead A = (N : NamedNet A) → IsNet N → HasNoFacing N → (frames : List Frame) (i edges : ℕ) →
-    IsHeadWithin N frames i edges no_head → IsHead N frames i no_head
+NoHeadIsNoHead A = (N : NamedNet A) → IsNet N → HasNoFacing N → (frames : List Frame) (i edges : ℕ) → IsHeadWithin N frames i edges no_head → IsHead N frames i no_head
 
 -- The heads of a tree are those of each net with the same paths; and where the net that was read has no facing pairs, so are
 -- the places without a head.

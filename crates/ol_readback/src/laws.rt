@@ -1,5 +1,6 @@
 //! Laws of heads and trees: no code, only what follows from the definitions.
 
+ghost use Rattle.ol_context.specs.Short.{WalkTurnsOnce, WalkIsShort, WalkGoesOn};
 ghost use Rattle.ol_readback.specs.Sources.{FewAreEnough, NoHeadIsNoHead, PrintedHeads};
 ghost use Rattle.ol_readback.specs.Laws.{ExitIsOne, HeadIsOne, HeadWithinIsOne, TreeIsOne, TreeIsWhole, HeadsKept, HeadIsHead};
 ghost use Rattle.ol_readback.specs.PrintedLaws.{BinderIsName, ListIsOfOneTree, PrintedIsRead};
@@ -26,11 +27,16 @@ pub fn heads_kept<A, B>()
     ensures no_head { NoHeadIsNoHead A }
 {}
 
-/// In a net where no two principal ports are linked, and where asking a frame for some number of
-/// abstractions leaves the net, so does asking it for one that is at most the number of nodes. That
-/// walks are short there is said by `ol_context::walk_is_short`.
-pub fn few_are_enough<A>()
-    ensures { FewAreEnough A }
+/// In a net where no two principal ports are linked, a walk from a free port first enters principal
+/// ports alone, each at most once, and from the first auxiliary port on auxiliary ports alone. So
+/// it leaves within twice as many crossings as there are nodes, or it goes on for ever. Where
+/// asking a frame for some number of abstractions leaves the net, so does asking it for one that is
+/// at most the number of nodes.
+pub fn walk_is_short<A>()
+    ensures turns_once { WalkTurnsOnce A }
+    ensures short { WalkIsShort A }
+    ensures goes_on { WalkGoesOn A }
+    ensures enough { FewAreEnough A }
 {}
 
 /// The heads of a tree that was read from a net are those of each net with the same paths between

@@ -28,8 +28,8 @@ pub use answers::{Head, HeadVar, ReadNode};
 pub use asking::{head, head_counted};
 pub use frames::Frame;
 pub use laws::{
-    answers_are_one, few_are_enough, heads_kept, printed_heads, printed_terms_are_read,
-    trees_are_whole,
+    answers_are_one, heads_kept, printed_heads, printed_terms_are_read, trees_are_whole,
+    walk_is_short,
 };
 pub use leaving::leave;
 pub use levels::Levels;
