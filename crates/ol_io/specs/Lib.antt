@@ -2,6 +2,7 @@
 pub mod Outside
 pub mod Files
 pub mod Fakes
+pub mod Sure
 pub mod Calls
 -- What only contracts of private functions and proofs cite.
 pub mod Unread

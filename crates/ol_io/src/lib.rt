@@ -2,8 +2,8 @@
 //!
 //! `Source`, `Sink` and `Gate` say what the program may ask of the outside. `StdSource` and
 //! `StdSink` stand for files, standard input and standard output. `MemSource` and `MemSink` are
-//! fakes in memory, which fail where they are told to. `read_all` and `write_all` are what the rest
-//! of the program calls.
+//! fakes in memory, which fail where they are told to; `SureSource` and `SureSink` stand in memory
+//! too and never fail. `read_all` and `write_all` are what the rest of the program calls.
 #![tactic(auto)]
 
 mod adapters;
@@ -13,6 +13,7 @@ mod gate;
 mod mem_sink;
 mod mem_source;
 mod outside;
+mod sure;
 #[cfg(test)]
 mod tests;
 
@@ -23,3 +24,4 @@ pub use gate::{Gate, OpenGate};
 pub use mem_sink::MemSink;
 pub use mem_source::MemSource;
 pub use outside::{Begun, Got, NoMemory, Put, Sink, Source};
+pub use sure::{SureSink, SureSource};

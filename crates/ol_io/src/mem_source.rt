@@ -159,7 +159,7 @@ pub(crate) fn is_failing(failing: &Vec<u64>, call: u64) -> bool
 }
 
 // What is left of the file at this place from an offset on.
-fn rest(files: &[MemFile], place: usize, at: usize) -> &[u8]
+pub(crate) fn rest(files: &[MemFile], place: usize, at: usize) -> &[u8]
     ensures value { result.now ≡ left_of files.now place at }
     ensures fits { 0 < length result.now → at + length result.now < 2 ^ 63 }
 {
@@ -178,7 +178,7 @@ fn bytes_from(bytes: &[u8], at: usize) -> &[u8]
 
 // Copies what fits of the bytes left, no more than `most`, into the front of the buffer, and says
 // how many.
-fn copy_front(left: &[u8], most: usize, buf: &mut [u8]) -> usize
+pub(crate) fn copy_front(left: &[u8], most: usize, buf: &mut [u8]) -> usize
     ensures count { result ≡ min (length left.now) (min most (length buf.old)) }
     ensures buffer { buf.new ≡ take result left.now ++ drop result buf.old }
 {

@@ -3,7 +3,7 @@ ghost use Rattle.std.specs.Prelude.{◌<◌, ◌≤◌};
 
 use crate::{
     Begun, Gate, Got, MemFile, MemSink, MemSource, OpenGate, Put, ReadAll, Sink, Source, StdSink,
-    StdSource, Written, read_all, write_all,
+    StdSource, SureSink, SureSource, Written, read_all, write_all,
 };
 use std::alloc::Global;
 use std::fs;
@@ -154,6 +154,42 @@ fn adapters_read_a_file_and_write(rt: HostRuntime) -> Result<(), Fail> {
     assert_eq!(rt; gone.err(), Some(ReadAll::Fault));
     let mut out = StdSink::new(&rt);
     assert_eq!(rt; write_all(&mut out, b"written\n"), Written::All);
+    Ok(())
+}
+
+// A source that never fails, with one file.
+fn sure_source(alloc: Global, name: &str, bytes: &[u8]) -> Result<SureSource, Fail> {
+    let mut held = Vec::new(alloc);
+    held.push(MemFile {
+        name: String::from_str(alloc, name)?,
+        bytes: Vec::from_slice(alloc, bytes)?,
+    })?;
+    Ok(SureSource::new(held))
+}
+
+#[test]
+fn a_sure_source_begins_every_name(rt: HostRuntime) -> Result<(), Fail> {
+    let alloc = rt.alloc();
+    let mut src = sure_source(alloc, "a", b"hello")?;
+    assert_eq!(rt;
+        read_all(alloc, &mut src, "a", 5)?.as_slice(),
+        b"hello".as_slice()
+    );
+    assert!(rt; read_all(alloc, &mut src, "b", 0)?.is_empty());
+    assert_eq!(rt;
+        read_all(alloc, &mut src, "a", 4).err(),
+        Some(ReadAll::TooLong)
+    );
+    Ok(())
+}
+
+#[test]
+fn a_sure_sink_keeps_its_room(rt: HostRuntime) -> Result<(), Fail> {
+    let mut out = SureSink::new(rt.alloc(), 6)?;
+    for (text, kept) in [("four", "four"), (" s", "four s"), ("core", "four s")] {
+        assert_eq!(rt; write_all(&mut out, text.as_bytes()), Written::All);
+        assert_eq!(rt; out.bytes(), kept.as_bytes());
+    }
     Ok(())
 }
 
