@@ -12,7 +12,7 @@ use Rattle.ol_wire.specs.declared.plan.Plan.{Plan}
 use Rattle.ol_wire.specs.declared.view.Link.{Link}
 use Rattle.ol_wire.specs.declared.view.View.{View}
 use Rattle.ol_wire.specs.References.{node_ref, wire_ref, slot_ref, IsNodeRef, IsRef}
-use Rattle.ol_wire.specs.Layout.{WordPart, ticket, port, field, wire, between, left, right, entry, past, part_of_word, place_of, table_size, IsPlaced}
+use Rattle.ol_wire.specs.Layout.{WordPart, ticket, live_word, port, field, wire, between, left, right, entry, past, part_of_word, place_of, table_size, IsPlaced}
 use Rattle.ol_wire.specs.Edges.{edge_to, edge_in, edges_in, edges_of, links_in, pending_in, is_reached, is_live}
 use Rattle.ol_wire.specs.Stands.{IsEnd, of_port, principal, auxiliary, IsWireEnd}
 use Rattle.ol_wire.specs.Rule.{Table, IsView, IsOwn, Kept}
@@ -58,7 +58,7 @@ ends_found u (e ∷ es) h = elim (cases_eq u e.0) [
 
 -- where an edge of the words stands
 pub data EdgeAt (at : WordPart) (n word next a b : ℕ) : Type 0 where
-  at_wire : at ≢ ticket → a ≡ wire_ref n → b ≡ word → word ≢ 0 → EdgeAt at n word next a b
+  at_wire : at ≢ ticket → at ≢ live_word → a ≡ wire_ref n → b ≡ word → word ≢ 0 → EdgeAt at n word next a b
   at_field : (x : NodeName) (s : ℕ) → at ≡ field x s → a ≡ slot_ref n → b ≡ word → word ≢ 0 → EdgeAt at n word next a b
   at_cell : at ≡ left → a ≡ word → b ≡ next → word ≢ 0 → EdgeAt at n word next a b
 
@@ -73,15 +73,15 @@ one_edge end word a b h = elim (cases_eq word 0) [
     only (inr t) n = elim t [ ]
 
 pub edge_at : (net : NamedNet NodeName) (reached : Bool) (at : WordPart) (n word next a b : ℕ) → IsIn (a, b) (edge_in net reached at n word next) → EdgeAt at n word next a b
-edge_at net r (port m) n word next a b h = let t = one_edge (wire_ref n) word a b h in at_wire (λ e. absurd (cc)) t.0 t.1 t.2
+edge_at net r (port m) n word next a b h = let t = one_edge (wire_ref n) word a b h in at_wire (λ e. absurd (cc)) (λ e. absurd (cc)) t.0 t.1 t.2
 edge_at net r (field x s) n word next a b h = go (is_live net x) h
   where
     go : (c : Bool) → IsIn {X = ℕ × ℕ} (a, b) (if c then edge_to (slot_ref n) word else []) → EdgeAt (field x s) n word next a b
     go true i = let t = one_edge (slot_ref n) word a b i in at_field x s refl t.0 t.1 t.2
     go false i = elim i [ ]
-edge_at net true (wire j) n word next a b h = let t = one_edge (wire_ref n) word a b h in at_wire (λ e. absurd (cc)) t.0 t.1 t.2
+edge_at net true (wire j) n word next a b h = let t = one_edge (wire_ref n) word a b h in at_wire (λ e. absurd (cc)) (λ e. absurd (cc)) t.0 t.1 t.2
 edge_at net false (wire j) n word next a b h = elim h [ ]
-edge_at net true (between t q p) n word next a b h = let t = one_edge (wire_ref n) word a b h in at_wire (λ e. absurd (cc)) t.0 t.1 t.2
+edge_at net true (between t q p) n word next a b h = let t = one_edge (wire_ref n) word a b h in at_wire (λ e. absurd (cc)) (λ e. absurd (cc)) t.0 t.1 t.2
 edge_at net false (between t q p) n word next a b h = elim h [ ]
 edge_at net r left n word next a b h = elim (cases_eq word 0) [
   | inl e ↦ let q : IsIn {X = ℕ × ℕ} (a, b) [] = subst (λ c. IsIn {X = ℕ × ℕ} (a, b) (if c then [] else (word, next) ∷ [])) (eq-eqb word 0 e) h in elim q [ ]
@@ -94,6 +94,7 @@ edge_at net r left n word next a b h = elim (cases_eq word 0) [
 edge_at net r right n word next a b h = elim h [ ]
 edge_at net r entry n word next a b h = elim h [ ]
 edge_at net r ticket n word next a b h = elim h [ ]
+edge_at net r live_word n word next a b h = elim h [ ]
 edge_at net r past n word next a b h = elim h [ ]
 
 cell_edge : (net : NamedNet NodeName) (r : Bool) (at : WordPart) (n word next : ℕ) → at ≡ left → word ≢ 0 → IsIn (word, next) (edge_in net r at n word next)
@@ -190,20 +191,23 @@ module _ (p : Plan) (s : Table) (k : Kept p s) where
       place : ℕ
       place = place_of z x + c
 
-      value : (n : ℕ) → 0 < n → get_or k.full n 0 ≢ 0 → get_or k.full n 0 ≡ slot_ref place → ⊥
+      value : (n : ℕ) → 1 < n → get_or k.full n 0 ≢ 0 → get_or k.full n 0 ≡ slot_ref place → ⊥
       value n lt' some_word e = no_slot (get_or k.full n 0) place (k.words.refs n lt' some_word).0 e
 
-      behind : (n : ℕ) → part_of_word z n ≢ ticket → 0 < n
-      behind n d = elim (cases_eq n 0) [
+      behind : (n : ℕ) → part_of_word z n ≢ ticket → part_of_word z n ≢ live_word → 1 < n
+      behind n d f = elim (cases_eq n 0) [
         | inl q ↦ absurd (d (ap (part_of_word z) q))
-        | inr q ↦ omega (arith, q)
+        | inr q ↦ elim (cases_eq n 1) [
+          | inl r ↦ absurd (f (ap (part_of_word z) r))
+          | inr r ↦ omega (arith, q, r)
+        ]
       ]
 
       at : (n a b : ℕ) → EdgeAt (part_of_word z n) n (get_or k.full n 0) (get_or k.full (suc n) 0) a b → (a ≡ slot_ref place) ⊎ (b ≡ slot_ref place) → get_or k.full place 0 ≢ 0
-      at n a b (at_wire d ea eb some_word) (inl e) = absurd (omega (arith, ea, e, wire_sort n, slot_sort place))
-      at n a b (at_wire d ea eb some_word) (inr e) = absurd (value n (behind n d) some_word (sym eb ∙ e))
+      at n a b (at_wire d f ea eb some_word) (inl e) = absurd (omega (arith, ea, e, wire_sort n, slot_sort place))
+      at n a b (at_wire d f ea eb some_word) (inr e) = absurd (value n (behind n d f) some_word (sym eb ∙ e))
       at n a b (at_field y u q ea eb some_word) (inl e) = let d : n ≡ place = slot_same n place (sym ea ∙ e) in subst (λ w. get_or k.full w 0 ≢ 0) d some_word
-      at n a b (at_field y u q ea eb some_word) (inr e) = absurd (value n (behind n (λ t. let u : field y u ≡ ticket = sym q ∙ t in absurd (cc))) some_word (sym eb ∙ e))
+      at n a b (at_field y u q ea eb some_word) (inr e) = absurd (value n (behind n (λ t. let u : field y u ≡ ticket = sym q ∙ t in absurd (cc)) (λ t. let u : field y u ≡ live_word = sym q ∙ t in absurd (cc))) some_word (sym eb ∙ e))
       at n a b (at_cell q ea eb some_word) (inl e) = absurd (omega (arith, sym ea ∙ e, (k.words.cells n q some_word).0, slot_sort place))
       at n a b (at_cell q ea eb some_word) (inr e) = absurd (omega (arith, sym eb ∙ e, (k.words.cells n q some_word).1, slot_sort place))
 

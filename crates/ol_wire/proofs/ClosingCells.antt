@@ -4,7 +4,7 @@ use Rattle.std.proofs.lemmas.Bool.{cases_eq, cases_lt}
 use Rattle.std.proofs.lemmas.Bool.Decides.{nat_tests}
 use Rattle.ol_rules.specs.declared.journal.NodeName.TheVariants.{Init, Born}
 use Rattle.ol_wire.specs.declared.layout.Parts.{Parts}
-use Rattle.ol_wire.specs.Layout.{WordPart, ticket, port, field, wire, between, left, right, entry, part_of_word, port_word, start_node, start_wire, start_cell, block, table_size, place_of, born_wire, born_cell, left_word, cells_of}
+use Rattle.ol_wire.specs.Layout.{WordPart, ticket, live_word, port, field, wire, between, left, right, entry, part_of_word, port_word, start_node, start_wire, start_cell, block, table_size, place_of, born_wire, born_cell, left_word, cells_of}
 use Rattle.ol_wire.proofs.Places.{part_port, part_field, part_wire, part_between, part_entry, part_start_cell, part_born_cell, is_left}
 
 module _ (z : Parts) where
@@ -57,30 +57,33 @@ module _ (z : Parts) where
   pub cell_word : (n : ℕ) → part_of_word z n ≡ left → IsCellWord n
   cell_word n h = elim (cases_eq n 0) [
     | inl e ↦ other n ticket (ap (part_of_word z) e) (λ q. absurd (cc)) h
-    | inr some ↦ elim (cases_lt n (start_node z 0)) [
-      | inl a ↦ let q : n ≡ port_word (n - 1) = omega (arith, some) in other n (port (n - 1)) (ap (part_of_word z) q ∙ part_port z (n - 1) (omega (arith, some))) (λ q. absurd (cc)) h
-      | inr a ↦ elim (cases_lt n (start_wire z 0)) [
-        | inl b ↦
-            let i : ℕ = (n - start_node z 0) / 2 in
-            let s : ℕ = (n - start_node z 0) % 2 in
-            let q : n ≡ place_of z (Init i) + s = omega arith in
-            other n (field (Init i) s) (ap (part_of_word z) q ∙ part_field z (Init i) s (omega arith) (omega arith)) (λ q. absurd (cc)) h
-        | inr b ↦ elim (cases_lt n (start_cell z 0)) [
-          | inl d ↦ let q : n ≡ start_wire z (n - start_wire z 0) = omega arith in other n (wire (n - start_wire z 0)) (ap (part_of_word z) q ∙ part_wire z (n - start_wire z 0) (omega arith)) (λ q. absurd (cc)) h
-          | inr d ↦ elim (cases_lt n (block z 0)) [
-            | inl f ↦ elim (cases_eq ((n - start_cell z 0) % 2) 0) [
-              | inl even ↦
-                  let c : ℕ = (n - start_cell z 0) / 2 in
-                  let q : start_cell z c ≡ n = omega (arith, even) in
-                  (c, omega arith, start_word c (omega arith) ∙ q)
-              | inr odd ↦
-                  let c : ℕ = (n - start_cell z 0) / 2 in
-                  let q : n ≡ suc (start_cell z c) = omega (arith, odd) in
-                  other n right (ap (part_of_word z) q ∙ (part_start_cell z c (omega arith)).1) (λ q. absurd (cc)) h
+    | inr some ↦ elim (cases_eq n 1) [
+      | inl e ↦ other n live_word (ap (part_of_word z) e) (λ q. absurd (cc)) h
+      | inr more ↦ elim (cases_lt n (start_node z 0)) [
+        | inl a ↦ let q : n ≡ port_word (n - 2) = omega (arith, some, more) in other n (port (n - 2)) (ap (part_of_word z) q ∙ part_port z (n - 2) (omega (arith, some, more))) (λ q. absurd (cc)) h
+        | inr a ↦ elim (cases_lt n (start_wire z 0)) [
+          | inl b ↦
+              let i : ℕ = (n - start_node z 0) / 2 in
+              let s : ℕ = (n - start_node z 0) % 2 in
+              let q : n ≡ place_of z (Init i) + s = omega arith in
+              other n (field (Init i) s) (ap (part_of_word z) q ∙ part_field z (Init i) s (omega arith) (omega arith)) (λ q. absurd (cc)) h
+          | inr b ↦ elim (cases_lt n (start_cell z 0)) [
+            | inl d ↦ let q : n ≡ start_wire z (n - start_wire z 0) = omega arith in other n (wire (n - start_wire z 0)) (ap (part_of_word z) q ∙ part_wire z (n - start_wire z 0) (omega arith)) (λ q. absurd (cc)) h
+            | inr d ↦ elim (cases_lt n (block z 0)) [
+              | inl f ↦ elim (cases_eq ((n - start_cell z 0) % 2) 0) [
+                | inl even ↦
+                    let c : ℕ = (n - start_cell z 0) / 2 in
+                    let q : start_cell z c ≡ n = omega (arith, even) in
+                    (c, omega arith, start_word c (omega arith) ∙ q)
+                | inr odd ↦
+                    let c : ℕ = (n - start_cell z 0) / 2 in
+                    let q : n ≡ suc (start_cell z c) = omega (arith, odd) in
+                    other n right (ap (part_of_word z) q ∙ (part_start_cell z c (omega arith)).1) (λ q. absurd (cc)) h
+              ]
+              | inr f ↦
+                  let b : suc n < table_size z = (is_left z n h).1 in
+                  in_block n ((n - block z 0) / 22) ((n - block z 0) % 22) (omega (arith, b)) (omega arith) (omega arith) h
             ]
-            | inr f ↦
-                let b : suc n < table_size z = (is_left z n h).1 in
-                in_block n ((n - block z 0) / 22) ((n - block z 0) % 22) (omega (arith, b)) (omega arith) (omega arith) h
           ]
         ]
       ]

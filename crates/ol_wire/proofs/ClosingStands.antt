@@ -9,7 +9,7 @@ use Rattle.ol_net.specs.Pairs.{IsComplete}
 use Rattle.ol_rules.proofs.Same.{complete_same}
 use Rattle.ol_wire.specs.declared.view.View.{View}
 use Rattle.ol_wire.specs.References.{place_in, IsNodeRef, IsRef, IsWholeRef}
-use Rattle.ol_wire.specs.Layout.{WordPart, ticket, port, field, wire, between, left, right, entry, past, part_of_word, left_word, cells_of, block, table_size, IsPlaced}
+use Rattle.ol_wire.specs.Layout.{WordPart, ticket, live_word, port, field, wire, between, left, right, entry, past, part_of_word, left_word, cells_of, block, table_size, IsPlaced}
 use Rattle.ol_wire.specs.Events.{Event, IsStuckPair}
 use Rattle.ol_wire.specs.Edges.{edges_in, edges_of, is_reached, is_made, is_wire_made, crosses_at, times_in, deaths}
 use Rattle.ol_wire.specs.Stands.{StandsForNet}
@@ -23,12 +23,14 @@ use Rattle.ol_wire.proofs.ClosingCells.{cell_word}
 use Rattle.ol_wire.proofs.ClosingStart.{live_told}
 use Rattle.ol_wire.proofs.ClosingTold.{after, one_after}
 use Rattle.std.proofs.lemmas.List.{append-nil}
+use Rattle.ol_wire.proofs.CreditQuiet.{quiet_complete}
 
 -- a wire that was made is a wire
 wire_part : (log : List Event) (q : WordPart) → is_wire_made log q ≡ true → IsWirePart q
 wire_part log (wire j) h = tt
 wire_part log (between t u v) h = tt
 wire_part log ticket h = absurd (false≢true h)
+wire_part log live_word h = absurd (false≢true h)
 wire_part log (port n) h = absurd (false≢true h)
 wire_part log (field x c) h = absurd (false≢true h)
 wire_part log left h = absurd (false≢true h)
@@ -45,6 +47,7 @@ made_same : (a b : List Event) → ((t q p : ℕ) → crosses_at (slice_get a t)
 made_same a b h (wire j) = refl
 made_same a b h (between t q p) = h t q p
 made_same a b h ticket = refl
+made_same a b h live_word = refl
 made_same a b h (port n) = refl
 made_same a b h (field x c) = refl
 made_same a b h left = refl
@@ -90,7 +93,7 @@ module _ (w : ClosedTable) (c : IsClosed w) where
     stands = subst (λ es. StandsForNet (z w c) (k w c).net reached es) edges_same (k w c).stands;
   }
     where
-      ref : (n : ℕ) → 0 < n → slice_index (k w c).full n ≢ 0 → IsRef (slice_index w.words n) × IsWholeRef (slice_index w.words n) × (place_in (slice_index w.words n) < block w.plan.parts (events_in w.plan.parts w.words))
+      ref : (n : ℕ) → 1 < n → slice_index (k w c).full n ≢ 0 → IsRef (slice_index w.words n) × IsWholeRef (slice_index w.words n) × (place_in (slice_index w.words n) < block w.plan.parts (events_in w.plan.parts w.words))
       ref n lt d =
           let h = (k w c).words.refs n lt d in
           let e : slice_index (k w c).full n ≡ slice_index w.words n = ap (λ l. slice_index l n) (sym (is_full w c)) in
@@ -116,6 +119,9 @@ module _ (w : ClosedTable) (c : IsClosed w) where
 
   pub complete_after : w.view.swept ≡ cells_of w.plan.parts → (net : NamedNet NodeName) → IsAfter w net → IsComplete net
   complete_after all net a = complete_same (k w c).net net (one_after w c (k w c).net net (after w c) a) (all_swept all)
+
+  pub settled_after : w.view.settled ≡ true → (net : NamedNet NodeName) → IsAfter w net → IsComplete net
+  settled_after heard net a = complete_same (k w c).net net (one_after w c (k w c).net net (after w c) a) (quiet_complete w.plan (s w c) (k w c) c.credit (c.credit.settled w.view (c.id, c.seat) heard))
 
   pub stands_told : (net : NamedNet NodeName) × IsAfter w net × WordsStandFor w net (is_reached_in w)
   stands_told = ((k w c).net, after w c, subst (λ (r : ℕ → Bool). WordsStandFor w (k w c).net r) reached_told (stands_for (live_told w c (k w c).plan.started)))

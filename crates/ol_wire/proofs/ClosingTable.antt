@@ -105,7 +105,7 @@ module _ (w : ClosedTable) (c : IsClosed w) where
   pub journal_told : journal_in z w.words ≡ entries_of z k.log
   journal_told = ap (λ n. each n (λ t. entry_of z (event_at z w.words t) ∷ [])) tickets ∙ each_map (entry_of z) k.log (λ t. entry_of z (event_at z w.words t)) entry_told
 
-  pub place_small : (n : ℕ) → 0 < n → place_in (slice_index w.words n) < 4294967296
+  pub place_small : (n : ℕ) → 1 < n → place_in (slice_index w.words n) < 4294967296
   place_small n lt = elim (cases_eq (slice_index k.full n) 0) [
     | inl e ↦ omega (arith, ap (λ l. slice_index l n) is_full, e)
     | inr d ↦ omega (arith, ap (λ l. slice_index l n) is_full, (k.words.refs n lt d).2, k.plan.small.free, k.plan.small.nodes, k.plan.small.wires, k.plan.small.cells, k.plan.small.fuel, k.tickets.few)

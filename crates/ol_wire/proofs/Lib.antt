@@ -77,3 +77,12 @@ pub mod OpeningCounts
 pub mod OpeningSites
 pub mod OpeningStands
 pub mod OpeningRefs
+mod CreditSums
+mod CreditWords
+mod CreditKeep
+mod CreditSteps
+mod CreditSeats
+mod CreditQuiet
+mod CreditOpening
+mod StepsLive
+mod StepsCredit

@@ -119,7 +119,7 @@ module _ {z : Parts} {N M : NamedNet NodeName} {x y : NodeName} {k l : Kind} {i 
       ap (λ u. slot u (suc s)) d.0 ∙ ap (λ s. slot u' (suc s)) d.1
 
   -- no port has the end of a word behind the free ports
-  pub no_wire : (p : NamedPort NodeName) (d w : ℕ) → StandsAt p d → d ≡ wire_ref w → z.free < w → ⊥
+  pub no_wire : (p : NamedPort NodeName) (d w : ℕ) → StandsAt p d → d ≡ wire_ref w → suc z.free < w → ⊥
   no_wire (free n) d w h e lt = omega (arith, h.0, h.1, e)
   no_wire (slot u zero) d w (m, n, h, q) e lt = omega (arith, q, e)
   no_wire (slot u (suc s)) d w (m, n, h, s_lt, q) e lt = omega (arith, q, e)

@@ -1,6 +1,5 @@
 -- Tests on numbers, members of lists, and indexes after a rule, as the proofs of this crate use them.
-use Rattle.std.proofs.Common.{◌≡◌, ℕ, zero, suc, ◌+◌, ◌<◌, ◌≤◌, false, nat_lt, lt-ltb, if◌then◌else◌, List, [], ◌∷◌, length, slice_get, Some, refl, ap, arith}
-use Rattle.std.proofs.lemmas.Bool.Decides.{nat_tests}
+use Rattle.std.proofs.Common.{ℕ, ◌+◌, ◌≤◌, arith}
 use Rattle.ol_net.specs.declared.parts.Rule.{Rule}
 use Rattle.ol_net.specs.declared.parts.Rule.TheVariants as rule
 use Rattle.ol_rules.specs.Rewriting.{index_after}

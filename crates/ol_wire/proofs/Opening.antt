@@ -1,5 +1,5 @@
 -- The words of a start net meet the rule.
-use Rattle.std.proofs.Common.{is_some, count_by, length, ◌≡◌, ℕ, zero, suc, ◌<◌, ◌≤◌, ◌&&◌, nat_eq, true, false, Bool, List, [], ◌∷◌, ◌++◌, slice_index, refl, sym, ap, ◌∙◌, subst, arith, inr}
+use Rattle.std.proofs.Common.{is_some, count_by, length, ◌≡◌, ℕ, zero, suc, ◌+◌, ◌<◌, ◌≤◌, ◌&&◌, nat_eq, true, false, Bool, List, [], ◌∷◌, ◌++◌, slice_index, refl, sym, ap, ◌∙◌, subst, arith, inr}
 use Rattle.std.proofs.lemmas.List.{append-nil}
 use mathlib.Core.Option as option
 use lib.ListN.{get_elem?}
@@ -29,6 +29,7 @@ use Rattle.ol_wire.specs.Edges.{is_wire_made, is_made, is_reached, deaths, edge_
 use Rattle.ol_wire.specs.Stands.{StandsForNet}
 use Rattle.ol_wire.specs.Rule.{Table, Kept, PlanKeeps, JournalKeeps, WordsKeep, CellsKeep, SeatsKeep, IsView, filled}
 use Rattle.ol_wire.specs.Openings.{opener}
+use Rattle.ol_wire.specs.Credit.{active_cells, Credited, IsRuled}
 use Rattle.ol_wire.specs.LaidWords.{IsLaid}
 use Rattle.ol_wire.proofs.Places.{part_wire, is_wire}
 use Rattle.ol_wire.proofs.OpeningEnds.{live_start}
@@ -53,6 +54,7 @@ wire_made : (z : Parts) (w : ℕ) (p : WordPart) → part_of_word z w ≡ p → 
 wire_made z w (part.wire j) e h = let t = is_wire z w j e in (j, t.0, t.1)
 wire_made z w (part.between t q p) e h = absurd (let bad : false ≡ true = h in cc)
 wire_made z w part.ticket e h = absurd (let bad : false ≡ true = h in cc)
+wire_made z w part.live_word e h = absurd (let bad : false ≡ true = h in cc)
 wire_made z w (part.port k) e h = absurd (let bad : false ≡ true = h in cc)
 wire_made z w (part.field x s) e h = absurd (let bad : false ≡ true = h in cc)
 wire_made z w part.left e h = absurd (let bad : false ≡ true = h in cc)
@@ -67,6 +69,7 @@ pub record IsStart (net : Graph) (fuel : ℕ) (z : Parts) (words : List ℕ) : T
   pub parts : AreParts net fuel z
   pub small : IsSmall z
   pub laid : IsLaid net z words
+  pub live : slice_index words 1 ≡ active_cells z words
   pub low : top_index_of net.nodes ≤ 1000000
   pub tabled : IsTabled net.free net.nodes net.partners
   pub indexes : HasIndexes net.nodes
@@ -144,7 +147,7 @@ module _ (p : Plan) (fuel : ℕ) (words : List ℕ) (is : IsStart p.start.value 
     wide = is.laid.wide;
     full_wide = is.laid.wide;
     written = λ h empties. omega arith;
-    refs = λ w lt some. start_refs g z words reached given w some;
+    refs = λ w lt some. start_refs g z words reached given w lt some;
     cells = start_cells g z words reached given;
     fields = is.laid.fields;
     starts = λ c n get. let both = is.laid.cells c n get in (inr both.0, both.1);
@@ -187,7 +190,7 @@ module _ (p : Plan) (fuel : ℕ) (words : List ℕ) (is : IsStart p.start.value 
     seats = (some_seat, few_seats);
   }
 
-  pub opens : Kept p start
+  opens : Kept p start
   opens = record {
     log = [];
     net = N;
@@ -202,5 +205,16 @@ module _ (p : Plan) (fuel : ℕ) (words : List ℕ) (is : IsStart p.start.value 
     stands = stands;
   }
 
-pub opens_as : (p : Plan) (net : Graph) (fuel : ℕ) (z : Parts) (words : List ℕ) → IsStart net fuel z words → p.parts ≡ z → p.start.value ≡ net → 0 < p.seats → p.seats ≤ 64 → Kept p (opening words [] (opener p))
-opens_as p net fuel z words is is_z is_net = opens p fuel words (subst (λ (n : Graph). IsStart n fuel p.parts words) (sym is_net) (subst (λ (y : Parts). IsStart net fuel y words) (sym is_z) is))
+  credited : Credited p start
+  credited = record {
+    live = omega (arith, is.live);
+    links = λ v h. let e = ap (λ (u : View). length u.pending) (view_is v h) in omega (arith, e);
+    few = λ v h. let e = ap (λ (u : View). u.owed + length u.taken) (view_is v h) in omega (arith, e);
+    settled = λ v h e. absurd (let bad : false ≡ true = sym (ap (λ (u : View). u.settled) (view_is v h)) ∙ e in cc);
+  }
+
+  opens_ruled : IsRuled p start
+  opens_ruled = (opens, credited)
+
+pub opens_as : (p : Plan) (net : Graph) (fuel : ℕ) (z : Parts) (words : List ℕ) → IsStart net fuel z words → p.parts ≡ z → p.start.value ≡ net → 0 < p.seats → p.seats ≤ 64 → IsRuled p (opening words [] (opener p))
+opens_as p net fuel z words is is_z is_net = opens_ruled p fuel words (subst (λ (n : Graph). IsStart n fuel p.parts words) (sym is_net) (subst (λ (y : Parts). IsStart net fuel y words) (sym is_z) is))

@@ -69,13 +69,13 @@ empty_at n k = elim (cases_lt k n) [
   | inr le ↦ get_or_past (replicate n 0) k 0 (omega (arith, le, length-replicate {A = ℕ} n 0))
 ]
 
-pub start_length : (net : Graph) (z : Parts) (a b : List ℕ) → z.free ≡ net.free → a ≡ 0 ∷ [] → b ≡ a ++ each net.free (port_row net z) → length b ≡ start_node z 0
+pub start_length : (net : Graph) (z : Parts) (a b : List ℕ) → z.free ≡ net.free → a ≡ 0 ∷ 0 ∷ [] → b ≡ a ++ each net.free (port_row net z) → length b ≡ start_node z 0
 start_length net z a b free ea eb = omega (arith, free, ap length eb, ap length ea, length-append a (each net.free (port_row net z)), length_ones (word_of_port net z) net.free)
 
 pub wires_bound : (net : Graph) (w : ℕ) → w ≡ length (aux_links net) → w ≤ 2 * length net.nodes
 wires_bound net w e = omega (arith, e, wires_few net (length net.nodes) 0)
 
-module _ (net : Graph) (z : Parts) (a b c d e f : List ℕ) (free : z.free ≡ net.free) (nodes : z.nodes ≡ length net.nodes) (ea : a ≡ 0 ∷ []) (fb : b ≡ a ++ each net.free (port_row net z)) (fc : c ≡ b ++ each (length net.nodes) (field_row net z)) (ed : d ≡ c ++ replicate z.wires 0)
+module _ (net : Graph) (z : Parts) (a b c d e f : List ℕ) (free : z.free ≡ net.free) (nodes : z.nodes ≡ length net.nodes) (ea : a ≡ 0 ∷ 0 ∷ []) (fb : b ≡ a ++ each net.free (port_row net z)) (fc : c ≡ b ++ each (length net.nodes) (field_row net z)) (ed : d ≡ c ++ replicate z.wires 0)
     (ee : e ≡ d ++ cell_words net z (facing_pairs net)) (ef : f ≡ e ++ replicate (22 * z.fuel) 0) (few : z.cells ≡ length (facing_pairs net)) where
   eb : b ≡ a ++ each z.free (port_row net z)
   eb = fb ∙ ap (λ n. a ++ each n (port_row net z)) (sym free)
@@ -124,7 +124,7 @@ module _ (net : Graph) (z : Parts) (a b c d e f : List ℕ) (free : z.free ≡ n
   laid = record {
     wide = length_f;
     ticket = in_b 0 (omega (arith, length_b)) ∙ in_first a _ b 0 eb (omega (arith, ap length ea)) ∙ ap (λ l. slice_index l 0) ea;
-    ports = λ n lt. in_b (port_word n) (omega (arith, lt, length_b)) ∙ in_second a _ b (port_word n) 1 n eb (ap length ea) refl ∙ ones_at (word_of_port net z) z.free n lt;
+    ports = λ n lt. in_b (port_word n) (omega (arith, lt, length_b)) ∙ in_second a _ b (port_word n) 2 n eb (ap length ea) refl ∙ ones_at (word_of_port net z) z.free n lt;
     fields = field_at;
     wires = λ j lt. in_first e _ f (start_wire z j) ef (omega (arith, lt, length_e)) ∙ in_first d _ e (start_wire z j) ee (omega (arith, lt, length_d)) ∙ in_second c _ d (start_wire z j) (start_wire z 0) j ed length_c (omega arith) ∙ empty_at z.wires j;
     cells = cell_at;

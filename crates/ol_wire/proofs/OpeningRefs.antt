@@ -24,7 +24,7 @@ use Rattle.ol_wire.proofs.OpeningPorts.{free_inside, of_inside}
 use Rattle.ol_wire.proofs.OpeningWords.{sooner, not_sooner, not_zero}
 use Rattle.ol_wire.proofs.OpeningEach.{pair_of}
 use Rattle.ol_wire.proofs.OpeningEnds.{Live, live_of}
-use Rattle.ol_wire.proofs.OpeningSites.{Given, Where, where_at, first, port, field, wire, left, right, later}
+use Rattle.ol_wire.proofs.OpeningSites.{Given, Where, where_at, first, second, port, field, wire, left, right, later}
 use Rattle.ol_wire.proofs.OpeningSites as sites
 use Rattle.ol_wire.proofs.OpeningStands.{num_small}
 use Rattle.ol_edges.proofs.Lists.{get_there}
@@ -113,11 +113,12 @@ module _ (net : Graph) (z : Parts) (words : List ℕ) (reached : ℕ → Bool) (
   held_at : (w x : ℕ) → slice_index words w ≡ x → (x ≢ 0 → IsMadeRef z [] x) → slice_index words w ≢ 0 → IsMadeRef z [] (slice_index words w)
   held_at w x e h some = subst (λ r. IsMadeRef z [] r) (sym e) (h (λ q. some (e ∙ q)))
 
-  pub start_refs : (w : ℕ) → slice_index words w ≢ 0 → IsMadeRef z [] (slice_index words w)
-  start_refs w some = go (where_at z w)
+  pub start_refs : (w : ℕ) → 1 < w → slice_index words w ≢ 0 → IsMadeRef z [] (slice_index words w)
+  start_refs w past some = go (where_at z w)
     where
       go : Where z w → IsMadeRef z [] (slice_index words w)
       go (first e) = absurd (some (ap (slice_index words) e ∙ g.laid.ticket))
+      go (second e) = absurd (omega (arith, past, e))
       go (port n lt e) = held_at w (word_to net z n (partner_of net (Free n))) (ap (slice_index words) e ∙ g.laid.ports n lt) (port_held n (partner_of net (Free n)) refl) some
       go (field n s lt less e) =
           let q = partner_of net (Of (record { 0 = n }) (suc s)) in
@@ -133,6 +134,7 @@ module _ (net : Graph) (z : Parts) (words : List ℕ) (reached : ℕ → Bool) (
     where
       go : Where z w → IsNodeRef (slice_index words w) × IsNodeRef (slice_index words (suc w))
       go (first e) = absurd (some (ap (slice_index words) e ∙ g.laid.ticket))
+      go (second e) = absurd (let bad : part.live_word ≡ part.left = sym (ap (part_of_word z) e) ∙ is in cc)
       go (port n lt e) = absurd (let bad : part.port n ≡ part.left = sym (part_port z n lt) ∙ ap (part_of_word z) (sym e) ∙ is in cc)
       go (field n s lt less e) = absurd (let bad : part.field (Init n) s ≡ part.left = sym (part_field z (Init n) s lt less) ∙ ap (part_of_word z) (sym e) ∙ is in cc)
       go (wire j lt e) = absurd (some (ap (slice_index words) e ∙ g.laid.wires j lt))

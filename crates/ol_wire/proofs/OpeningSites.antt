@@ -59,6 +59,7 @@ seat net z (Of n zero) (Of m (suc s)) = start_node z m.0 + s
 -- where a word stands
 pub data Where (z : Parts) (w : ℕ) : Type 0 where
   first : w ≡ 0 → Where z w
+  second : w ≡ 1 → Where z w
   port : (n : ℕ) → n < z.free → w ≡ port_word n → Where z w
   field : (n s : ℕ) → n < z.nodes → s < 2 → w ≡ start_node z n + s → Where z w
   wire : (j : ℕ) → j < z.wires → w ≡ start_wire z j → Where z w
@@ -69,18 +70,21 @@ pub data Where (z : Parts) (w : ℕ) : Type 0 where
 pub where_at : (z : Parts) (w : ℕ) → Where z w
 where_at z w = elim (cases_eq w 0) [
   | inl e ↦ first e
-  | inr some ↦ elim (cases_lt w (start_node z 0)) [
-    | inl a ↦ port (w - 1) (omega (arith, some, a)) (omega (arith, some))
-    | inr a ↦ elim (cases_lt w (start_wire z 0)) [
-      | inl b ↦ field ((w - start_node z 0) / 2) ((w - start_node z 0) % 2) (omega (arith, a, b)) (omega arith) (omega (arith, a, b))
-      | inr b ↦ elim (cases_lt w (start_cell z 0)) [
-        | inl d ↦ wire (w - start_wire z 0) (omega (arith, b, d)) (omega (arith, b, d))
-        | inr d ↦ elim (cases_lt w (block z 0)) [
-          | inl f ↦ elim (cases_eq ((w - start_cell z 0) % 2) 0) [
-            | inl even ↦ left ((w - start_cell z 0) / 2) (omega (arith, d, f, even)) (omega (arith, d, even))
-            | inr odd ↦ right ((w - start_cell z 0) / 2) (omega (arith, d, f, odd)) (omega (arith, d, odd))
+  | inr some ↦ elim (cases_eq w 1) [
+    | inl e ↦ second e
+    | inr more ↦ elim (cases_lt w (start_node z 0)) [
+      | inl a ↦ port (w - 2) (omega (arith, some, more, a)) (omega (arith, some, more))
+      | inr a ↦ elim (cases_lt w (start_wire z 0)) [
+        | inl b ↦ field ((w - start_node z 0) / 2) ((w - start_node z 0) % 2) (omega (arith, a, b)) (omega arith) (omega (arith, a, b))
+        | inr b ↦ elim (cases_lt w (start_cell z 0)) [
+          | inl d ↦ wire (w - start_wire z 0) (omega (arith, b, d)) (omega (arith, b, d))
+          | inr d ↦ elim (cases_lt w (block z 0)) [
+            | inl f ↦ elim (cases_eq ((w - start_cell z 0) % 2) 0) [
+              | inl even ↦ left ((w - start_cell z 0) / 2) (omega (arith, d, f, even)) (omega (arith, d, even))
+              | inr odd ↦ right ((w - start_cell z 0) / 2) (omega (arith, d, f, odd)) (omega (arith, d, odd))
+            ]
+            | inr f ↦ later f
           ]
-          | inr f ↦ later f
         ]
       ]
     ]
@@ -96,6 +100,7 @@ if_none false xs e = refl
 
 pub empty_edge : (N : NamedNet NodeName) (r : Bool) (p : WordPart) (w word next : ℕ) → word ≡ 0 → edge_in N r p w word next ≡ []
 empty_edge N r part.ticket w word next e = refl
+empty_edge N r part.live_word w word next e = refl
 empty_edge N r (part.port k) w word next e = edge_none (wire_ref w) word e
 empty_edge N r (part.field x s) w word next e = if_none (is_live N x) (edge_to (slot_ref w) word) (edge_none (slot_ref w) word e)
 empty_edge N r (part.wire j) w word next e = if_none r (edge_to (wire_ref w) word) (edge_none (wire_ref w) word e)
@@ -229,6 +234,7 @@ module _ (net : Graph) (z : Parts) (words : List ℕ) (N : NamedNet NodeName) (r
     where
       go : Where z w → Found w
       go (first e) = empty w (ap (slice_index words) e ∙ g.laid.ticket)
+      go (second e) = none (ap edge e)
       go (port n lt e) = found_port w n e (ap (slice_index words) e ∙ g.laid.ports n lt) (partner_of net (Free n)) refl
       go (field n s lt small e) = found_field w n s e (ap (slice_index words) e ∙ g.laid.fields n s lt small) (partner_of net (Of (record { 0 = n }) (suc s))) refl
       go (wire j lt e) = empty w (ap (slice_index words) e ∙ g.laid.wires j lt)

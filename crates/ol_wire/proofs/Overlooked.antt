@@ -94,7 +94,7 @@ module _ (p : Plan) (s : Table) (k : Kept p s) (linked : (v : View) → IsView s
   of_cell a b sort i = go (word_of a b i)
     where
       go : (w : ℕ) × EdgeAt (part_of_word z w) w (get_or k.full w 0) (get_or k.full (suc w) 0) a b → (w : ℕ) × (part_of_word z w ≡ left) × (a ≡ get_or k.full w 0) × (b ≡ get_or k.full (suc w) 0) × (get_or k.full w 0 ≢ 0)
-      go (w, at_wire d ea eb m) = absurd (omega (arith, ea, sort, wire_sort w))
+      go (w, at_wire d f ea eb m) = absurd (omega (arith, ea, sort, wire_sort w))
       go (w, at_field x c q ea eb m) = absurd (omega (arith, ea, sort, slot_sort w))
       go (w, at_cell q ea eb m) = (w, q, ea, eb, m)
 
@@ -118,7 +118,7 @@ module _ (p : Plan) (s : Table) (k : Kept p s) (linked : (v : View) → IsView s
       value n d i e = go (word_of v d i)
         where
           go : (w : ℕ) × EdgeAt (part_of_word z w) w (get_or k.full w 0) (get_or k.full (suc w) 0) v d → d ≡ get_or k.full n 0
-          go (w, at_wire q ea eb m) = let f : w ≡ n = wire_same w n (sym ea ∙ e) in eb ∙ ap (λ w. get_or k.full w 0) f
+          go (w, at_wire q q2 ea eb m) = let f : w ≡ n = wire_same w n (sym ea ∙ e) in eb ∙ ap (λ w. get_or k.full w 0) f
           go (w, at_field x c q ea eb m) = absurd (omega (arith, e, ea, wire_sort n, slot_sort w))
           go (w, at_cell q ea eb m) = absurd (omega (arith, e, sym ea, wire_sort n, (k.words.cells w q m).0))
 

@@ -6,7 +6,7 @@ use Rattle.ol_rules.specs.declared.journal.NodeName.{NodeName}
 use Rattle.ol_rules.specs.declared.journal.NodeName.TheVariants.{Init, Born}
 use Rattle.ol_rules.specs.Names.{comes_before}
 use Rattle.ol_wire.specs.declared.layout.Parts.{Parts}
-use Rattle.ol_wire.specs.Layout.{WordPart, ticket, port, field, wire, between, left, right, entry, past, part_in_block, part_of_word, port_word, start_node, start_wire, start_cell, block, table_size, place_of, born_wire, born_cell, left_word, cells_of, IsPlaced}
+use Rattle.ol_wire.specs.Layout.{WordPart, ticket, live_word, port, field, wire, between, left, right, entry, past, part_in_block, part_of_word, port_word, start_node, start_wire, start_cell, block, table_size, place_of, born_wire, born_cell, left_word, cells_of, IsPlaced}
 use Rattle.ol_wire.specs.Events.{name_at, name_in_part}
 use Rattle.ol_wire.specs.Plays.{cell_at}
 use Rattle.ol_edges.proofs.Lists.{if_below, if_above}
@@ -18,24 +18,24 @@ apart : {A : Type 0} (m n : ℕ) (x y : A) → m ≢ n → (if m == n then x els
 apart m n x y d = ap (λ b. if b then x else y) (ne_eqb m n d)
 
 module _ (z : Parts) where
-  -- the parts behind the ticket word, by where the word stands
-  of_ports : (w : ℕ) → 0 < w → w < start_node z 0 → part_of_word z w ≡ port (w - 1)
-  of_ports w some lt = apart w 0 _ _ (λ e. omega arith) ∙ if_below w (start_node z 0) _ _ lt
+  -- the parts behind the ticket word and the live word, by where the word stands
+  of_ports : (w : ℕ) → 1 < w → w < start_node z 0 → part_of_word z w ≡ port (w - 2)
+  of_ports w some lt = apart w 0 _ _ (λ e. omega arith) ∙ apart w 1 _ _ (λ e. omega arith) ∙ if_below w (start_node z 0) _ _ lt
 
   of_nodes : (w : ℕ) → start_node z 0 ≤ w → w < start_wire z 0 → part_of_word z w ≡ field (Init ((w - start_node z 0) / 2)) ((w - start_node z 0) % 2)
-  of_nodes w ge lt = apart w 0 _ _ (λ e. omega arith) ∙ if_above w (start_node z 0) _ _ ge ∙ if_below w (start_wire z 0) _ _ lt
+  of_nodes w ge lt = apart w 0 _ _ (λ e. omega arith) ∙ apart w 1 _ _ (λ e. omega arith) ∙ if_above w (start_node z 0) _ _ ge ∙ if_below w (start_wire z 0) _ _ lt
 
   of_wires : (w : ℕ) → start_wire z 0 ≤ w → w < start_cell z 0 → part_of_word z w ≡ wire (w - start_wire z 0)
-  of_wires w ge lt = apart w 0 _ _ (λ e. omega arith) ∙ if_above w (start_node z 0) _ _ (omega arith) ∙ if_above w (start_wire z 0) _ _ ge ∙ if_below w (start_cell z 0) _ _ lt
+  of_wires w ge lt = apart w 0 _ _ (λ e. omega arith) ∙ apart w 1 _ _ (λ e. omega arith) ∙ if_above w (start_node z 0) _ _ (omega arith) ∙ if_above w (start_wire z 0) _ _ ge ∙ if_below w (start_cell z 0) _ _ lt
 
   of_cells : (w : ℕ) → start_cell z 0 ≤ w → w < block z 0 → part_of_word z w ≡ (if (w - start_cell z 0) % 2 == 0 then left else right)
-  of_cells w ge lt = apart w 0 _ _ (λ e. omega arith) ∙ if_above w (start_node z 0) _ _ (omega arith) ∙ if_above w (start_wire z 0) _ _ (omega arith) ∙ if_above w (start_cell z 0) _ _ ge ∙ if_below w (block z 0) _ _ lt
+  of_cells w ge lt = apart w 0 _ _ (λ e. omega arith) ∙ apart w 1 _ _ (λ e. omega arith) ∙ if_above w (start_node z 0) _ _ (omega arith) ∙ if_above w (start_wire z 0) _ _ (omega arith) ∙ if_above w (start_cell z 0) _ _ ge ∙ if_below w (block z 0) _ _ lt
 
   of_blocks : (w : ℕ) → block z 0 ≤ w → w < table_size z → part_of_word z w ≡ part_in_block ((w - block z 0) / 22) ((w - block z 0) % 22)
-  of_blocks w ge lt = apart w 0 _ _ (λ e. omega arith) ∙ if_above w (start_node z 0) _ _ (omega arith) ∙ if_above w (start_wire z 0) _ _ (omega arith) ∙ if_above w (start_cell z 0) _ _ (omega arith) ∙ if_above w (block z 0) _ _ ge ∙ if_below w (table_size z) _ _ lt
+  of_blocks w ge lt = apart w 0 _ _ (λ e. omega arith) ∙ apart w 1 _ _ (λ e. omega arith) ∙ if_above w (start_node z 0) _ _ (omega arith) ∙ if_above w (start_wire z 0) _ _ (omega arith) ∙ if_above w (start_cell z 0) _ _ (omega arith) ∙ if_above w (block z 0) _ _ ge ∙ if_below w (table_size z) _ _ lt
 
   of_none : (w : ℕ) → table_size z ≤ w → part_of_word z w ≡ past
-  of_none w ge = apart w 0 _ _ (λ e. omega arith) ∙ if_above w (start_node z 0) _ _ (omega arith) ∙ if_above w (start_wire z 0) _ _ (omega arith) ∙ if_above w (start_cell z 0) _ _ (omega arith) ∙ if_above w (block z 0) _ _ (omega arith) ∙ if_above w (table_size z) _ _ ge
+  of_none w ge = apart w 0 _ _ (λ e. omega arith) ∙ apart w 1 _ _ (λ e. omega arith) ∙ if_above w (start_node z 0) _ _ (omega arith) ∙ if_above w (start_wire z 0) _ _ (omega arith) ∙ if_above w (start_cell z 0) _ _ (omega arith) ∙ if_above w (block z 0) _ _ (omega arith) ∙ if_above w (table_size z) _ _ ge
 
   -- word j of the block of a ticket
   in_block : (t j : ℕ) → t < z.fuel → j < 22 → part_of_word z (block z t + j) ≡ part_in_block t j
@@ -45,7 +45,7 @@ module _ (z : Parts) where
       of_blocks (block z t + j) (omega arith) (omega arith) ∙ ap (λ u. part_in_block u ((block z t + j - block z 0) % 22)) d ∙ ap (part_in_block t) m
 
   pub part_port : (n : ℕ) → n < z.free → part_of_word z (port_word n) ≡ port n
-  part_port n lt = of_ports (port_word n) (omega arith) (omega arith) ∙ ap port (let e : 1 + n - 1 ≡ n = omega arith in e)
+  part_port n lt = of_ports (port_word n) (omega arith) (omega arith) ∙ ap port (let e : 2 + n - 2 ≡ n = omega arith in e)
 
   pub part_field : (x : NodeName) (s : ℕ) → IsPlaced z z.fuel x → s < 2 → part_of_word z (place_of z x + s) ≡ field x s
   part_field (Init k) s lt small =
@@ -117,6 +117,7 @@ module _ (z : Parts) where
   -- what a word is, and where
   pub data At (w : ℕ) : Type 0 where
     at_ticket : w ≡ 0 → At w
+    at_live : w ≡ 1 → At w
     at_port : (n : ℕ) → n < z.free → w ≡ port_word n → part_of_word z w ≡ port n → At w
     at_field : (x : NodeName) (s : ℕ) → IsPlaced z z.fuel x → s < 2 → w ≡ place_of z x + s → part_of_word z w ≡ field x s → At w
     at_wire : (j : ℕ) → j < z.wires → w ≡ start_wire z j → part_of_word z w ≡ wire j → At w
@@ -160,32 +161,35 @@ module _ (z : Parts) where
   pub where_is : (w : ℕ) → At w
   where_is w = elim (cases_eq w 0) [
     | inl e ↦ at_ticket e
-    | inr some ↦ elim (cases_lt w (start_node z 0)) [
-      | inl a ↦ let q : w ≡ port_word (w - 1) = omega (arith, some) in at_port (w - 1) (omega (arith, some)) q (ap (part_of_word z) q ∙ part_port (w - 1) (omega (arith, some)))
-      | inr a ↦ elim (cases_lt w (start_wire z 0)) [
-        | inl b ↦
-            let n = (w - start_node z 0) / 2 in
-            let s = (w - start_node z 0) % 2 in
-            let q : w ≡ place_of z (Init n) + s = omega arith in
-            at_field (Init n) s (omega arith) (omega arith) q (ap (part_of_word z) q ∙ part_field (Init n) s (omega arith) (omega arith))
-        | inr b ↦ elim (cases_lt w (start_cell z 0)) [
-          | inl d ↦ let q : w ≡ start_wire z (w - start_wire z 0) = omega arith in at_wire (w - start_wire z 0) (omega arith) q (ap (part_of_word z) q ∙ part_wire (w - start_wire z 0) (omega arith))
-          | inr d ↦ elim (cases_lt w (block z 0)) [
-            | inl f ↦ elim (cases_eq ((w - start_cell z 0) % 2) 0) [
-              | inl even ↦
-                  let c = (w - start_cell z 0) / 2 in
-                  let q : w ≡ start_cell z c = omega (arith, even) in
-                  let h = part_start_cell c (omega arith) in
-                  at_left (ap (part_of_word z) q ∙ h.0) (ap (λ w. part_of_word z (suc w)) q ∙ h.1) (omega (arith, q))
-              | inr odd ↦
-                  let c = (w - start_cell z 0) / 2 in
-                  let q : w ≡ suc (start_cell z c) = omega (arith, odd) in
-                  let h = part_start_cell c (omega arith) in
-                  at_right (ap (part_of_word z) q ∙ h.1)
-            ]
-            | inr f ↦ elim (cases_lt w (table_size z)) [
-              | inl g ↦ in_a_block w ((w - block z 0) / 22) ((w - block z 0) % 22) (omega arith) (omega arith) (omega arith)
-              | inr g ↦ at_past g
+    | inr some ↦ elim (cases_eq w 1) [
+      | inl e ↦ at_live e
+      | inr more ↦ elim (cases_lt w (start_node z 0)) [
+        | inl a ↦ let q : w ≡ port_word (w - 2) = omega (arith, some, more) in at_port (w - 2) (omega (arith, some, more)) q (ap (part_of_word z) q ∙ part_port (w - 2) (omega (arith, some, more)))
+        | inr a ↦ elim (cases_lt w (start_wire z 0)) [
+          | inl b ↦
+              let n = (w - start_node z 0) / 2 in
+              let s = (w - start_node z 0) % 2 in
+              let q : w ≡ place_of z (Init n) + s = omega arith in
+              at_field (Init n) s (omega arith) (omega arith) q (ap (part_of_word z) q ∙ part_field (Init n) s (omega arith) (omega arith))
+          | inr b ↦ elim (cases_lt w (start_cell z 0)) [
+            | inl d ↦ let q : w ≡ start_wire z (w - start_wire z 0) = omega arith in at_wire (w - start_wire z 0) (omega arith) q (ap (part_of_word z) q ∙ part_wire (w - start_wire z 0) (omega arith))
+            | inr d ↦ elim (cases_lt w (block z 0)) [
+              | inl f ↦ elim (cases_eq ((w - start_cell z 0) % 2) 0) [
+                | inl even ↦
+                    let c = (w - start_cell z 0) / 2 in
+                    let q : w ≡ start_cell z c = omega (arith, even) in
+                    let h = part_start_cell c (omega arith) in
+                    at_left (ap (part_of_word z) q ∙ h.0) (ap (λ w. part_of_word z (suc w)) q ∙ h.1) (omega (arith, q))
+                | inr odd ↦
+                    let c = (w - start_cell z 0) / 2 in
+                    let q : w ≡ suc (start_cell z c) = omega (arith, odd) in
+                    let h = part_start_cell c (omega arith) in
+                    at_right (ap (part_of_word z) q ∙ h.1)
+              ]
+              | inr f ↦ elim (cases_lt w (table_size z)) [
+                | inl g ↦ in_a_block w ((w - block z 0) / 22) ((w - block z 0) % 22) (omega arith) (omega arith) (omega arith)
+                | inr g ↦ at_past g
+              ]
             ]
           ]
         ]
@@ -196,6 +200,7 @@ module _ (z : Parts) where
   -- the part of a word, told by where it is
   abbrev part_told : (w : ℕ) → At w → WordPart
   part_told w (at_ticket e) = ticket
+  part_told w (at_live e) = live_word
   part_told w (at_port n a e p) = port n
   part_told w (at_field x s a b e p) = field x s
   part_told w (at_wire j a e p) = wire j
@@ -207,6 +212,7 @@ module _ (z : Parts) where
 
   told : (w : ℕ) (h : At w) → part_of_word z w ≡ part_told w h
   told w (at_ticket e) = same w 0 _ _ e
+  told w (at_live e) = apart w 0 _ _ (λ d. omega (arith, e, d)) ∙ same w 1 _ _ e
   told w (at_port n a e p) = p
   told w (at_field x s a b e p) = p
   told w (at_wire j a e p) = p
@@ -223,6 +229,7 @@ module _ (z : Parts) where
       go : (a : At w) → part_told w a ≡ port n → (n < z.free) × (w ≡ port_word n)
       go (at_port m lt e p) q = let d : m ≡ n = cc in (omega (arith, d, lt), omega (arith, d, e))
       go (at_ticket e) q = absurd (cc)
+      go (at_live e) q = absurd (cc)
       go (at_field x s a b e p) q = absurd (cc)
       go (at_wire j a e p) q = absurd (cc)
       go (at_between t u v a b d e p) q = absurd (cc)
@@ -241,6 +248,7 @@ module _ (z : Parts) where
           (subst (λ y. IsPlaced z z.fuel y) d a, omega (arith, f, b), e ∙ ap (λ y. place_of z y + u) d ∙ ap (λ u. place_of z x + u) f)
       go (at_port m lt e p) q = absurd (cc)
       go (at_ticket e) q = absurd (cc)
+      go (at_live e) q = absurd (cc)
       go (at_wire j a e p) q = absurd (cc)
       go (at_between t u v a b d e p) q = absurd (cc)
       go (at_left p p' b) q = absurd (cc)
@@ -255,6 +263,7 @@ module _ (z : Parts) where
       go (at_wire m a e p) q = let d : m ≡ j = cc in (omega (arith, d, a), omega (arith, d, e))
       go (at_port m lt e p) q = absurd (cc)
       go (at_ticket e) q = absurd (cc)
+      go (at_live e) q = absurd (cc)
       go (at_field x s a b e p) q = absurd (cc)
       go (at_between t u v a b d e p) q = absurd (cc)
       go (at_left p p' b) q = absurd (cc)
@@ -274,6 +283,7 @@ module _ (z : Parts) where
       go (at_wire m a e p) q = absurd (cc)
       go (at_port m lt e p) q = absurd (cc)
       go (at_ticket e) q = absurd (cc)
+      go (at_live e) q = absurd (cc)
       go (at_field x s a b e p) q = absurd (cc)
       go (at_left p p' b) q = absurd (cc)
       go (at_right p) q = absurd (cc)
@@ -289,6 +299,7 @@ module _ (z : Parts) where
       go (at_wire m a e p) q = absurd (cc)
       go (at_port m lt e p) q = absurd (cc)
       go (at_ticket e) q = absurd (cc)
+      go (at_live e) q = absurd (cc)
       go (at_field x s a b e p) q = absurd (cc)
       go (at_right p) q = absurd (cc)
       go (at_entry t' m a b e p) q = absurd (cc)
@@ -298,7 +309,7 @@ module _ (z : Parts) where
   blocks_apart t u lt = omega arith
 
   -- a node that came before a ticket has its fields before the ticket's block, behind the free ports
-  pub place_before : (x : NodeName) (t : ℕ) → IsPlaced z t x → (z.free < place_of z x) × (place_of z x + 2 ≤ block z t)
+  pub place_before : (x : NodeName) (t : ℕ) → IsPlaced z t x → (suc z.free < place_of z x) × (place_of z x + 2 ≤ block z t)
   place_before (Init k) t lt = (omega arith, omega arith)
   place_before (Born u i) t h = (omega (arith, h.0, h.1), omega (arith, h.0, h.1))
 

@@ -6,7 +6,7 @@ use Rattle.ol_rules.specs.Rewriting.{is_meeting}
 use Rattle.ol_wire.specs.declared.layout.Parts.{Parts}
 use Rattle.ol_wire.specs.declared.view.View.{View}
 use Rattle.ol_wire.specs.References.{kind_in}
-use Rattle.ol_wire.specs.Layout.{WordPart, ticket, port, field, wire, between, left, right, entry, past, part_of_word, start_wire, block, born_wire}
+use Rattle.ol_wire.specs.Layout.{WordPart, ticket, live_word, port, field, wire, between, left, right, entry, past, part_of_word, start_wire, block, born_wire}
 use Rattle.ol_wire.specs.Events.{Event}
 use Rattle.ol_wire.specs.Blocks.{copies_of_f, copies_of_g}
 use Rattle.ol_wire.specs.Edges.{crosses_at, is_wire_made, is_made, deaths, is_reached}
@@ -55,6 +55,7 @@ module _ (z : Parts) (log : List Event) (e : Event) (drawn : length log < z.fuel
           let m = made_by (slice_get log t) q p h in
           ap (λ o. crosses_at o q p) (got_before log (e ∷ []) t (slice_get_within log t m.0 m.1)) ∙ h
       go ticket h = absurd (cc)
+      go live_word h = absurd (cc)
       go (port n) h = absurd (cc)
       go (field x s) h = absurd (cc)
       go left h = absurd (cc)
@@ -82,6 +83,7 @@ module _ (z : Parts) (log : List Event) (e : Event) (drawn : length log < z.fuel
           let lt = slice_get_within log t b.0 b.1 in
           (omega (arith, u.3), omega (arith, u.1, u.2, u.3, lt))
       go ticket at m = absurd (cc)
+      go live_word at m = absurd (cc)
       go (port n) at m = absurd (cc)
       go (field x s) at m = absurd (cc)
       go left at m = absurd (cc)
@@ -111,6 +113,7 @@ module _ (z : Parts) (log : List Event) (e : Event) (drawn : length log < z.fuel
                   let c = crossed e q p (ap (λ e. crosses_at (Some e) q p) (sym g.1) ∙ d.2) in
                   inr (q, p, c.0, c.1, (is_between z w t q p at).3 ∙ ap (λ t. born_wire z t q p) g.0)
           of ticket at a b = absurd (cc)
+          of live_word at a b = absurd (cc)
           of (port n) at a b = absurd (cc)
           of (field x s) at a b = absurd (cc)
           of left at a b = absurd (cc)

@@ -9,22 +9,23 @@ use Rattle.ol_wire.specs.declared.view.View.{View}
 use Rattle.ol_wire.specs.StepPlays.{Seated}
 use Rattle.ol_wire.specs.Rule.{Kept, KnowsPlan}
 use Rattle.ol_wire.specs.Moments.{Moment}
+use Rattle.ol_wire.specs.Credit.{Credited, IsRuled}
 use Rattle.ol_wire.specs.Looking.{MomentWith, sees}
 
 -- a view knows one plan
-one_plan : (p q : Plan) (v : View) → KnowsPlan p v → KnowsPlan q v → p ≡ q
+pub one_plan : (p q : Plan) (v : View) → KnowsPlan p v → KnowsPlan q v → p ≡ q
 one_plan p q v a b =
     let parts : p.parts ≡ q.parts = sym a.0 ∙ b.0 in
     let seats : p.seats ≡ q.seats = sym a.1 ∙ b.1 in
     let start : p.start.value ≡ q.start.value = sym a.2 ∙ b.2 in
     λ i. record { parts = parts i; seats = seats i; start = record { marker = p.start.marker; value = start i } }
 
-pub sees_allowed : (p : Plan) (slots id : ℕ) (m : Seated) → 0 < m.0.holds → Allows (Kept p) slots id m 0 (λ n. n) (sees (step slots 0 0 0 none) m)
-sees_allowed p slots id m held s k homes here small =
-    let P : List ℕ → List View → Type 0 = λ ws vs. Kept p record { words = ws; homes = s.homes; views = vs } in
+pub sees_allowed : (p : Plan) (slots id : ℕ) (m : Seated) → 0 < m.0.holds → Allows (IsRuled p) slots id m 0 (λ n. n) (sees (step slots 0 0 0 none) m)
+sees_allowed p slots id m held s (k, c) homes here small =
+    let P : List ℕ → List View → Type 0 = λ ws vs. IsRuled p record { words = ws; homes = s.homes; views = vs } in
     let told : (q : Plan) → KnowsPlan q m.0 → MomentWith q m.0 (get_or s.words 0 0) =
-    λ q knows. (record { table = s; kept = subst (λ (t : Plan). Kept t s) (one_plan p q m.0 (k.seats.plans m.0 (id, here) held) knows) k; seen = (id, here) }, refl) in
-    (m.0, keeps, tt, subst (λ ws. P ws (set s.views id m.0)) (sym (set-get_or s.words 0 0)) (subst (P s.words) (sym (set_again s.views id m.0 here)) k), (refl, refl, told))
+    λ q knows. (let same : p ≡ q = one_plan p q m.0 (k.seats.plans m.0 (id, here) held) knows in record { table = s; kept = subst (λ (t : Plan). Kept t s) same k; credit = subst (λ (t : Plan). Credited t s) same c; seen = (id, here) }, refl) in
+    (m.0, keeps, tt, subst (λ ws. P ws (set s.views id m.0)) (sym (set-get_or s.words 0 0)) (subst (P s.words) (sym (set_again s.views id m.0 here)) (k, c)), (refl, refl, told))
 
 -- the journal has as many entries as tickets below the fuel were drawn
 pub entries_below : (p : Plan) (v : View) (word : ℕ) (m : Moment p v) → get_or m.table.words 0 0 ≡ word → word < p.parts.fuel → length m.kept.log ≡ word

@@ -26,6 +26,9 @@ use Rattle.ol_wire.proofs.Ticket.{ticket_keeps}
 use Rattle.ol_wire.proofs.StepsKeep.{after}
 use Rattle.ol_wire.proofs.StepsPlain.{miss_keeps, claim_keeps, knowing_keeps, paired_keeps, write_keeps, late_keeps}
 use Rattle.ol_wire.proofs.StepsReturn.{return_keeps}
+use Rattle.ol_wire.specs.Credit.{IsRuled}
+use Rattle.ol_wire.proofs.CreditKeep.{read_keeps}
+use Rattle.ol_wire.proofs.CreditSteps.{miss_pays, claim_pays, return_pays, write_pays, ticket_pays, late_pays}
 use Rattle.ol_wire.proofs.StepsPair.{node_of_ref, ref_of_field, ticket_stands, due_past, full_of_claimed, right_of_claimed, pair_active, small_index}
 use Rattle.ol_rules.proofs.Born.{at_most_two}
 
@@ -40,10 +43,10 @@ module _ (p : Plan) (slots id : ℕ) (m : Seated) (held : 0 < m.0.holds) where
   of_plan : (s : Table) (k : Kept p s) → get_elem? s.views id ≡ some m.0 → m.0.parts ≡ p.parts
   of_plan s k here = (k.seats.plans m.0 (id, here) held).0
 
-  pub claims_allowed : (c w : ℕ) → c < cells_of p.parts → w ≡ left_word p.parts c → IsIdle m.0 → Allows (Kept p) slots id m w (λ _. 0) (claims (step slots w 0 0 none) m)
-  claims_allowed c w low at idle s k homes here small = elim (cases_eq (get_or s.words w 0) 0) [
-    | inl e ↦ (missing m.0 w, keeps, tt, miss_keeps p s k id m.0 here held w is c low at idle e, (refl, (λ _. refl), (λ ne. absurd (ne e))))
-    | inr ne ↦ (holding m.0 w (get_or s.words w 0), keeps, tt, next ne, (refl, (λ e. absurd (ne e)), (λ _. (refl, is_node ne))))
+  pub claims_allowed : (c w : ℕ) → c < cells_of p.parts → w ≡ left_word p.parts c → IsIdle m.0 → Allows (IsRuled p) slots id m w (λ _. 0) (claims (step slots w 0 0 none) m)
+  claims_allowed c w low at idle s (k, paid) homes here small = elim (cases_eq (get_or s.words w 0) 0) [
+    | inl e ↦ (missing m.0 w, keeps, tt, (miss_keeps p s k id m.0 here held w is c low at idle e, miss_pays p s k paid id m.0 here w is e), (refl, (λ _. refl), (λ ne. absurd (ne e))))
+    | inr ne ↦ (holding m.0 w (get_or s.words w 0), keeps, tt, (next ne, claim_pays p s k paid id m.0 here w is idle held), (refl, (λ e. absurd (ne e)), (λ _. (refl, is_node ne))))
   ]
     where
       is : part_of_word p.parts w ≡ left
@@ -59,18 +62,18 @@ module _ (p : Plan) (slots id : ℕ) (m : Seated) (held : 0 < m.0.holds) where
           let pair = cell_pair p s k w is (λ q. ne (sym e ∙ q)) in
           subst (λ z. IsNodeOf z (get_or s.words w 0)) (sym (of_plan s k here)) (subst (IsNodeOf p.parts) e (node_of_ref p s k (get_or k.full w 0) pair.f))
 
-  pub pairs_allowed : (w x : ℕ) → m.0.taken ≡ (w, x) ∷ [] → Allows (Kept p) slots id m (suc w) (λ n. n) (pairs_up (step slots (suc w) 0 0 none) m)
-  pairs_allowed w x only s k homes here small =
+  pub pairs_allowed : (w x : ℕ) → m.0.taken ≡ (w, x) ∷ [] → Allows (IsRuled p) slots id m (suc w) (λ n. n) (pairs_up (step slots (suc w) 0 0 none) m)
+  pairs_allowed w x only s (k, paid) homes here small =
       let taken : IsIn (w, x) m.0.taken = subst (λ (l : List (ℕ × ℕ)). IsIn {X = ℕ × ℕ} (w, x) l) (sym only) (inl refl) in
       let h = full_of_claimed p s k m.0 w x (id, here) taken in
       let pair = cell_pair p s k w h.0 h.2 in
       let e : get_or s.words (suc w) 0 ≡ get_or k.full (suc w) 0 = right_written p s k w h.0 h.2 in
       let node = subst (λ z. IsNodeOf z (get_or s.words (suc w) 0)) (sym (of_plan s k here)) (subst (IsNodeOf p.parts) (sym e) (node_of_ref p s k (get_or k.full (suc w) 0) pair.g)) in
       let lasting = subst IsLasting (sym (is_left p.parts w h.0).0) tt in
-      (paired m.0 (suc w) (get_or s.words (suc w) 0), keeps, tt, paired_keeps p s k id m.0 here held (suc w) lasting (is_left p.parts w h.0).1 (λ q. omega (arith, node.0, q)), (refl, sym (ap (λ (l : List (ℕ × ℕ)). suc (cell_in_hand l)) only), refl, node))
+      (paired m.0 (suc w) (get_or s.words (suc w) 0), keeps, tt, (paired_keeps p s k id m.0 here held (suc w) lasting (is_left p.parts w h.0).1 (λ q. omega (arith, node.0, q)), read_keeps p s paid (suc w) (get_or s.words (suc w) 0) id m.0 (paired m.0 (suc w) (get_or s.words (suc w) 0)) refl here refl refl refl refl refl), (refl, sym (ap (λ (l : List (ℕ × ℕ)). suc (cell_in_hand l)) only), refl, node))
 
-  pub pairs_allowed_at : (w x : ℕ) → m.0.taken ≡ (w, x) ∷ [] → (u : ℕ) → u ≡ suc w → Allows (Kept p) slots id m u (λ n. n) (pairs_up (step slots u 0 0 none) m)
-  pairs_allowed_at w x taken u is = subst (λ (a : ℕ). Allows (Kept p) slots id m a (λ n. n) (pairs_up (step slots a 0 0 none) m)) (sym is) (pairs_allowed w x taken)
+  pub pairs_allowed_at : (w x : ℕ) → m.0.taken ≡ (w, x) ∷ [] → (u : ℕ) → u ≡ suc w → Allows (IsRuled p) slots id m u (λ n. n) (pairs_up (step slots u 0 0 none) m)
+  pairs_allowed_at w x taken u is = subst (λ (a : ℕ). Allows (IsRuled p) slots id m a (λ n. n) (pairs_up (step slots a 0 0 none) m)) (sym is) (pairs_allowed w x taken)
 
   -- a field of one of the two nodes of the pair
   module _ (w r c : ℕ) (taken : IsIn (w, m.0.last.0) m.0.taken) (known : IsIn (suc w, m.0.last.1) m.0.known) (side : (r ≡ m.0.last.0) ⊎ (r ≡ m.0.last.1)) (lt : c < arity (kind_in r)) where
@@ -121,43 +124,44 @@ module _ (p : Plan) (slots id : ℕ) (m : Seated) (held : 0 < m.0.holds) where
       found_there : IsLasting (part_of_word p.parts (place_in r + c)) × (place_in r + c < table_size p.parts) × (get_or s.words (place_in r + c) 0 ≢ 0) × IsRefOf m.0.parts (get_or s.words (place_in r + c) 0)
       found_there = subst (λ (a : ℕ). IsLasting (part_of_word p.parts (a + c)) × (a + c < table_size p.parts) × (get_or s.words (a + c) 0 ≢ 0) × IsRefOf m.0.parts (get_or s.words (a + c) 0)) (sym (place_is node)) (found node)
 
-    looks_there : Allows (Kept p) slots id m (place_in r + c) (λ n. n) (reads (step slots (place_in r + c) 0 0 none) m)
-    looks_there s k homes here small =
+    looks_there : Allows (IsRuled p) slots id m (place_in r + c) (λ n. n) (reads (step slots (place_in r + c) 0 0 none) m)
+    looks_there s (k, paid) homes here small =
         let u : ℕ = place_in r + c in
         let h = found_there s k here in
-        (knowing m.0 u (get_or s.words u 0), keeps, tt, knowing_keeps p s k id m.0 here held u h.0 h.1 h.2, ((refl, refl, h.3), (λ y known_there. sym (k.words.known m.0 u y (id, here) known_there).0)))
+        (knowing m.0 u (get_or s.words u 0), keeps, tt, (knowing_keeps p s k id m.0 here held u h.0 h.1 h.2, read_keeps p s paid u (get_or s.words u 0) id m.0 (knowing m.0 u (get_or s.words u 0)) refl here refl refl refl refl refl), ((refl, refl, h.3), (λ y known_there. sym (k.words.known m.0 u y (id, here) known_there).0)))
 
-    pub looks_allowed : (u : ℕ) → u ≡ place_in r + c → Allows (Kept p) slots id m u (λ n. n) (reads (step slots u 0 0 none) m)
-    looks_allowed u is = subst (λ (a : ℕ). Allows (Kept p) slots id m a (λ n. n) (reads (step slots a 0 0 none) m)) (sym is) looks_there
+    pub looks_allowed : (u : ℕ) → u ≡ place_in r + c → Allows (IsRuled p) slots id m u (λ n. n) (reads (step slots u 0 0 none) m)
+    looks_allowed u is = subst (λ (a : ℕ). Allows (IsRuled p) slots id m a (λ n. n) (reads (step slots a 0 0 none) m)) (sym is) looks_there
 
-  pub writes_allowed : (i x : ℕ) (ds : List (ℕ × ℕ)) → m.0.due ≡ (i, x) ∷ ds → Allows (Kept p) slots id m i (λ _. x) (λ _. writes (step slots i x 0 none) m x)
-  writes_allowed i x ds due s k homes here small =
+  pub writes_allowed : (i x : ℕ) (ds : List (ℕ × ℕ)) → m.0.due ≡ (i, x) ∷ ds → Allows (IsRuled p) slots id m i (λ _. x) (λ _. writes (step slots i x 0 none) m x)
+  writes_allowed i x ds due s (k, paid) homes here small =
       let first : IsIn {X = ℕ × ℕ} (i, x) m.0.due = subst (λ (l : List (ℕ × ℕ)). IsIn {X = ℕ × ℕ} (i, x) l) (sym due) (inl refl) in
-      (wrote m.0, keeps, tt, write_keeps p s k id m.0 here held i x ds due (due_past p s k m.0 i x (id, here) first), (refl, refl))
+      (wrote m.0, keeps, tt, (write_keeps p s k id m.0 here held i x ds due (due_past p s k m.0 i x (id, here) first), write_pays p s k paid id m.0 here i x ds due), (refl, refl))
 
-  pub returns_allowed : (c w x u : ℕ) → c < cells_of p.parts → w ≡ left_word p.parts c → u ≡ w → x ≡ m.0.last.0 → m.0.taken ≡ (w, m.0.last.0) ∷ [] → IsIn (suc w, m.0.last.1) m.0.known → Allows (Kept p) slots id m u (λ _. x) (λ _. returns (step slots u x 0 none) m x)
+  pub returns_allowed : (c w x u : ℕ) → c < cells_of p.parts → w ≡ left_word p.parts c → u ≡ w → x ≡ m.0.last.0 → m.0.taken ≡ (w, m.0.last.0) ∷ [] → IsIn (suc w, m.0.last.1) m.0.known → Allows (IsRuled p) slots id m u (λ _. x) (λ _. returns (step slots u x 0 none) m x)
   returns_allowed c w x u low at same first taken known =
-      subst (λ (a : ℕ). Allows (Kept p) slots id m a (λ _. x) (λ _. returns (step slots a x 0 none) m x)) (sym same)
-      (subst (λ (b : ℕ). Allows (Kept p) slots id m w (λ _. b) (λ _. returns (step slots w b 0 none) m b)) (sym first) there)
+      subst (λ (a : ℕ). Allows (IsRuled p) slots id m a (λ _. x) (λ _. returns (step slots a x 0 none) m x)) (sym same)
+      (subst (λ (b : ℕ). Allows (IsRuled p) slots id m w (λ _. b) (λ _. returns (step slots w b 0 none) m b)) (sym first) there)
     where
-      there : Allows (Kept p) slots id m w (λ _. m.0.last.0) (λ _. returns (step slots w m.0.last.0 0 none) m m.0.last.0)
-      there s k homes here small = (returned m.0, keeps, tt, return_keeps p s k id m.0 here held c w low at taken known, (refl, refl))
+      there : Allows (IsRuled p) slots id m w (λ _. m.0.last.0) (λ _. returns (step slots w m.0.last.0 0 none) m m.0.last.0)
+      there s (k, paid) homes here small = (returned m.0, keeps, tt, (return_keeps p s k id m.0 here held c w low at taken known, return_pays p s k paid id m.0 here w (ap (part_of_word p.parts) at ∙ (part_cell p.parts c low).0) taken), (refl, refl))
 
 module _ (p : Plan) (slots id : ℕ) (m : Seated) where
-  pub draws_allowed : (w : ℕ) → IsLookedUp m.0 w → Allows (Kept p) slots id m 0 (λ n. (n + 1) % 2 ^ 64) (draws (step slots 0 1 0 none) m)
-  draws_allowed w up s k homes here small =
+  pub draws_allowed : (w : ℕ) → IsLookedUp m.0 w → Allows (IsRuled p) slots id m 0 (λ n. (n + 1) % 2 ^ 64) (draws (step slots 0 1 0 none) m)
+  draws_allowed w up s (k, paid) homes here small =
       let n : ℕ = get_or s.words 0 0 in
       let fuel : m.0.parts.fuel ≡ p.parts.fuel = ap (λ (z : Parts). z.fuel) (of_plan p slots id m up.held s k here) in
       let fits : n + 1 < 18446744073709551616 = omega (arith, k.seats.calm, k.plan.small.fuel, k.plan.seats.1, k.seats.all, past_le s.views) in
       let next : (n + 1) % 2 ^ 64 ≡ n + 1 = mod-eq_of_lt fits in
-      let P : ℕ → Type 0 = λ y. (w : View) × (a : Act (Unit {0})) × Valid s.homes m.1 a × Kept p (stepped s 0 y id m.1 w a) × draws (step slots 0 1 0 none) m n (w, carried_after m.1 a) in
+      let is = (k.seats.taken m.0 w m.0.last.0 (id, here) (subst (λ (l : List (ℕ × ℕ)). IsIn {X = ℕ × ℕ} (w, m.0.last.0) l) (sym up.taken) (inl refl))).0 in
+      let P : ℕ → Type 0 = λ y. (w : View) × (a : Act (Unit {0})) × Valid s.homes m.1 a × IsRuled p (stepped s 0 y id m.1 w a) × draws (step slots 0 1 0 none) m n (w, carried_after m.1 a) in
       subst P (sym next) (elim (cases_lt n p.parts.fuel) [
-        | inl low ↦ (ticketed m.0 n, keeps, tt, ticket_keeps p s k id m.0 here w up low, (refl, (λ _. refl), (λ high. absurd (omega (arith, fuel, low, high)))))
+        | inl low ↦ (ticketed m.0 n, keeps, tt, (ticket_keeps p s k id m.0 here w up low, ticket_pays p s k paid id m.0 here w is up.taken up.right up.rule n up.owed), (refl, (λ _. refl), (λ high. absurd (omega (arith, fuel, low, high)))))
         | inr high ↦ (
           late m.0,
           keeps,
           tt,
-          late_keeps p s k id m.0 here up.held up.under high (pair_active p s k m.0 w (id, here) up) (ticket_stands p s k),
+          (late_keeps p s k id m.0 here up.held up.under high (pair_active p s k m.0 w (id, here) up) (ticket_stands p s k), late_pays p s k paid id m.0 here (n + 1)),
           (refl, (λ low. absurd (omega (arith, fuel, low, high))), (λ _. refl)),
         )
       ])

@@ -18,6 +18,9 @@ use Rattle.ol_wire.specs.Plays.{cell_at}
 use Rattle.ol_wire.specs.StepPlays.{fewer, one_seat}
 use Rattle.ol_wire.specs.Rule.{KnowsPlan, Table, Kept, WordsKeep, CellsKeep, SeatsKeep, IsView, IsLasting, IsOwn, IsRightOf, IsMadeRef, IsInOwnBlock, links_at, IsLinkedField}
 use Rattle.ol_wire.proofs.StepsKeep.{IsSwept}
+use Rattle.ol_wire.specs.Idle.{IsIdle}
+use Rattle.ol_wire.specs.Credit.{IsRuled}
+use Rattle.ol_wire.proofs.CreditSeats.{cut_pays}
 use Rattle.core.specs.Prelude.{slice_get}
 use Rattle.ol_wire.proofs.StepsLists.{total_cut, each_cut, edges_same, pending_set, pending_more}
 
@@ -102,5 +105,5 @@ module _ (p : Plan) (id : ℕ) (v : View) (two : 1 < v.holds) (under : v.over �
   cut_keeps : Kept p cut
   cut_keeps = record { log = k.log; net = k.net; full = k.full; from = k.from; plan = k.plan; tickets = k.tickets; journal = k.journal; words = words_keep; cells = cells_keep; seats = seats_keep; stands = stands_kept }
 
-pub cut_allowed : (p : Plan) (id : ℕ) (v : View) → 1 < v.holds → v.over ≡ false → v.swept ≡ 0 → Splits {S = Unit {0}} (Kept p) id v (fewer v) (one_seat v)
-cut_allowed p id v two under unswept s k here = cut_keeps p id v two under unswept s k here
+pub cut_allowed : (p : Plan) (id : ℕ) (v : View) → 1 < v.holds → v.over ≡ false → v.swept ≡ 0 → IsIdle v → Splits {S = Unit {0}} (IsRuled p) id v (fewer v) (one_seat v)
+cut_allowed p id v two under unswept idle s (k, c) here = (cut_keeps p id v two under unswept s k here, cut_pays p id v two idle s c here)

@@ -17,7 +17,7 @@ use Rattle.ol_wire.specs.Events.{Event, rule_between, entry_of}
 use Rattle.ol_wire.specs.Blocks.{block_words}
 use Rattle.ol_wire.specs.LinkLists.{born_ref, to_write, joins_in, link_of, links_of}
 use Rattle.ol_wire.specs.Plays.{event_in, cell_at, swept_on}
-use Rattle.ol_wire.specs.StepPlays.{IsNodeOf, IsRefOf, IsLookedUp, known_at, ticketed, late, rest, cell_in_hand}
+use Rattle.ol_wire.specs.StepPlays.{IsNodeOf, IsRefOf, IsLookedUp, known_at, ticketed, late, rest, cell_in_hand, owing}
 use Rattle.ol_wire.specs.Rewrites.{event_for}
 use Rattle.ol_wire.specs.Sizes.{IsSmall}
 use Rattle.ol_wire.specs.InHand.{in_hand, IsInHand, IsOfPair, IsSure, AreFields, AreRefs, fields_known, Rewrote}
@@ -76,9 +76,9 @@ place_small z r small node = omega (arith, small, node.4)
 abbrev pub seen : View → Rewrite → List ℕ → List ℕ → List (ℕ × ℕ)
 seen v r a b = fields_known (arity (kind_in r.g)) (place_in r.g) b ++ (fields_known (arity (kind_in r.f)) (place_in r.f) a ++ v.known)
 
-pub looked_up : (v : View) (w : ℕ) (r : Rewrite) (a b : List ℕ) → 0 < v.holds → IsInHand v w → v.due ≡ [] → v.pending ≡ [] → v.over ≡ false → event_for r ≡ event_in v → rule_between r.f r.g ≡ Some r.rule
-    → IsLookedUp (record v { known = seen v r a b }) w
-looked_up v w r a b held hand due pending under is rule = record {
+pub looked_up : (v : View) (w : ℕ) (r : Rewrite) (a b : List ℕ) (n : ℕ) → 0 < v.holds → n ≡ joins_in (event_for r) → IsInHand v w → v.due ≡ [] → v.pending ≡ [] → v.over ≡ false → event_for r ≡ event_in v → rule_between r.f r.g ≡ Some r.rule
+    → IsLookedUp (record v { known = seen v r a b; owed = n }) w
+looked_up v w r a b n held count hand due pending under is rule = record {
   held = held;
   under = under;
   taken = hand.taken;
@@ -86,6 +86,7 @@ looked_up v w r a b held hand due pending under is rule = record {
   nothing_pending = pending;
   right = in_right _ of_g (of_f ++ v.known) (in_right _ of_f v.known hand.right);
   rule = subst (λ (e : Event). rule_between e.f e.g ≡ Some e.rule) is rule;
+  owed = count ∙ ap joins_in is;
   f_fields = subst (λ (e : Event). (c : ℕ) → c < arity (kind_in e.f) → IsIn (place_in e.f + c, known_at (seen v r a b) (place_in e.f + c)) (seen v r a b)) is f_there;
   g_fields = subst (λ (e : Event). (c : ℕ) → c < arity (kind_in e.g) → IsIn (place_in e.g + c, known_at (seen v r a b) (place_in e.g + c)) (seen v r a b)) is g_there;
 }
@@ -113,9 +114,29 @@ pub looked_twice : (v v1 v2 : View) (r : Rewrite) (a b : List ℕ)
     → v2 ≡ record v { known = seen v r a b }
 looked_twice v v1 v2 r a b e f = f ∙ ap (λ (u : View). record u { known = fields_known (arity (kind_in r.g)) (place_in r.g) b ++ u.known }) e
 
+-- then its links are owed
+pub owed_after : (v v2 v3 : View) (ks : List (ℕ × ℕ)) (n : ℕ) → v.owed ≡ 0 → v2 ≡ record v { known = ks } → v3 ≡ owing v2 n → v3 ≡ record v { known = ks; owed = n }
+owed_after v v2 v3 ks n none e f =
+    let all : v.owed + n ≡ n = omega (arith, none) in
+    f ∙ ap (λ (u : View). owing u n) e ∙ ap (λ (m : ℕ). record v { known = ks; owed = m }) all
+
+-- and the fuel is used up
+pub late_told : (v v3 n : View) (ks : List (ℕ × ℕ)) (j : ℕ) → v3 ≡ record v { known = ks; owed = j } → n ≡ late v3 → n ≡ record v { known = n.known; over = true; owed = j }
+late_told v v3 n ks j e f =
+    let whole : n ≡ record v { known = ks; over = true; owed = j } = f ∙ ap late e in
+    whole ∙ ap (λ (l : List (ℕ × ℕ)). record v { known = l; over = true; owed = j }) (sym (ap (λ (u : View). u.known) whole))
+
+-- the pair is still in hand
+pub owing_in_hand : (v : View) (w : ℕ) (r : Rewrite) (a b : List ℕ) → IsInHand v w → IsInHand (record v { known = seen v r a b }) w
+owing_in_hand v w r a b hand = record {
+  taken = hand.taken;
+  right = in_right _ (fields_known (arity (kind_in r.g)) (place_in r.g) b) (fields_known (arity (kind_in r.f)) (place_in r.f) a ++ v.known) (in_right _ (fields_known (arity (kind_in r.f)) (place_in r.f) a) v.known hand.right);
+  nodes = hand.nodes;
+}
+
 -- after the looks the pair is in hand as before, also where the fuel is used up
-pub still_in_hand : (v : View) (w : ℕ) (r : Rewrite) (a b : List ℕ) → IsInHand v w → IsInHand (late (record v { known = seen v r a b })) w
-still_in_hand v w r a b hand = record {
+pub still_in_hand : (v : View) (w : ℕ) (r : Rewrite) (a b : List ℕ) (n : ℕ) → IsInHand v w → IsInHand (late (record v { known = seen v r a b; owed = n })) w
+still_in_hand v w r a b n hand = record {
   taken = hand.taken;
   right = in_right _ (fields_known (arity (kind_in r.g)) (place_in r.g) b) (fields_known (arity (kind_in r.f)) (place_in r.f) a ++ v.known) (in_right _ (fields_known (arity (kind_in r.f)) (place_in r.f) a) v.known hand.right);
   nodes = hand.nodes;
@@ -193,14 +214,14 @@ two_fields known more most node a b e same f twice (suc (suc s)) lt = absurd (om
 
 -- the ticket is drawn, and its words are written
 pub rewritten : (v v2 v3 v4 : View) (w t : ℕ) (r : Rewrite) (ks : List (ℕ × ℕ)) (of_f of_g : List ℕ) → IsInHand v w → v.due ≡ [] → event_for r ≡ event_in v → rule_between r.f r.g ≡ Some r.rule → AreFields ks r.f of_f → AreFields ks r.g of_g
-    → v2 ≡ record v { known = ks } → v3 ≡ ticketed v2 t → v4 ≡ record v3 { due = [] } → Rewrote v t of_f of_g v4
+    → v2 ≡ record v { known = ks; owed = joins_in (event_in v) } → v3 ≡ ticketed v2 t → v4 ≡ record v3 { due = [] } → Rewrote v t of_f of_g v4
 rewritten v v2 v3 v4 w t r ks of_f of_g hand due is fits f_known g_known e2 e3 e4 = record {
   view = whole ∙ ap (λ (l : List (ℕ × ℕ)). left l [] links) (ap (λ (l : List (ℕ × ℕ)). rest l) hand.taken) ∙ ap (λ (l : List (ℕ × ℕ)). left [] l links) (sym due) ∙ ap (left [] v.due) (sym pending);
   links = pending ∙ same;
 }
   where
     left : List (ℕ × ℕ) → List (ℕ × ℕ) → List Link → View
-    left taken d ls = record v { taken = taken; known = []; swept = swept_on v (cell_at v.parts (cell_in_hand v.taken)); made = v.made ++ (t, entry_of v.parts (event_in v)) ∷ []; due = d; pending = ls }
+    left taken d ls = record v { taken = taken; known = []; swept = swept_on v (cell_at v.parts (cell_in_hand v.taken)); made = v.made ++ (t, entry_of v.parts (event_in v)) ∷ []; due = d; pending = ls; owed = suc (joins_in (event_in v)) }
 
     links : List Link
     links = links_of v.parts (event_in v) t (λ s. known_at ks (place_in (event_in v).f + s)) (λ s. known_at ks (place_in (event_in v).g + s))

@@ -31,8 +31,8 @@ after s i x id w = record { words = set s.words i x; homes = s.homes; views = se
 abbrev pub IsSwept : Plan → List ℕ → View → ℕ → Type 0
 IsSwept p full v c = (v.holds ≡ p.seats) × ((get_or full (left_word p.parts c) 0 ≡ 0) ⊎ IsStuckPair (get_or full (left_word p.parts c) 0) (get_or full (suc (left_word p.parts c)) 0)) × ((l : Link) → IsIn l v.pending → l.cell ≢ left_word p.parts c)
 
-pub left_word_past : (z : Parts) (c : ℕ) → 0 < left_word z c
-left_word_past z c = elim (nat_lt c z.cells) as (λ b. 0 < (if b then start_cell z c else born_cell z ((c - z.cells) / 4) ((c - z.cells) % 4))) [ true ↦ omega arith | false ↦ omega arith ]
+pub left_word_past : (z : Parts) (c : ℕ) → 1 < left_word z c
+left_word_past z c = elim (nat_lt c z.cells) as (λ b. 1 < (if b then start_cell z c else born_cell z ((c - z.cells) / 4) ((c - z.cells) % 4))) [ true ↦ omega arith | false ↦ omega arith ]
 
 -- a list without members is empty
 empty_list : {A : Type 0} (xs : List A) → ((x : A) → IsIn x xs → ⊥) → xs ≡ []
@@ -47,9 +47,9 @@ pub record Change (p : Plan) (s : Table) (k : Kept p s) (v w : View) (i x : ℕ)
   pub published : w.published ≡ v.published
   pub pending : w.pending ≡ v.pending
   pub dead : w.dead ≡ v.dead
-  -- the words as they would be, but for the ticket word
+  -- the words as they would be, but for the ticket word and the live word
   pub wide : length full ≡ length k.full
-  pub same : (u : ℕ) → 0 < u → get_or full u 0 ≡ get_or k.full u 0
+  pub same : (u : ℕ) → 1 < u → get_or full u 0 ≡ get_or k.full u 0
   pub written : (h : ℕ → ℕ → ℕ) → Empties h → weigh h (set s.words i x) (table_size p.parts) + (pairs h w.due + pairs h w.taken) + weigh h k.full (table_size p.parts) ≡ weigh h s.words (table_size p.parts) + (pairs h v.due + pairs h v.taken) + weigh h full (table_size p.parts)
   -- the ticket word
   pub tickets : Drawn p.parts.fuel (get_or (set s.words i x) 0 0) (length k.log)
@@ -74,21 +74,22 @@ module _ (p : Plan) (s : Table) (k : Kept p s) (id : ℕ) (v w : View) (i x : �
   viewed : (P : View → Type 0) → P w → ((u : View) → IsView s u → P u) → (u : View) → IsView there u → P u
   viewed P new old u is = each_set P s.views id w new (λ j y e. old y (j, e)) is.0 u is.1
 
-  not_ticket : (u : ℕ) → part_of_word p.parts u ≡ left → 0 < u
+  not_ticket : (u : ℕ) → part_of_word p.parts u ≡ left → 1 < u
   not_ticket zero e = absurd (cc)
-  not_ticket (suc u) e = omega arith
+  not_ticket (suc zero) e = absurd (cc)
+  not_ticket (suc (suc u)) e = omega arith
 
   total_same : (g : View → ℕ) → g w ≡ g v → total g (set s.views id w) ≡ total g s.views
   total_same g e = omega (arith, e, total_set g s.views id v w here)
 
-  moved : (P : ℕ → Type 0) (u : ℕ) → 0 < u → P (get_or k.full u 0) → P (get_or full u 0)
+  moved : (P : ℕ → Type 0) (u : ℕ) → 1 < u → P (get_or k.full u 0) → P (get_or full u 0)
   moved P u lt = subst P (sym (c.same u lt))
 
-  some_before : (u : ℕ) → 0 < u → get_or full u 0 ≢ 0 → get_or k.full u 0 ≢ 0
+  some_before : (u : ℕ) → 1 < u → get_or full u 0 ≢ 0 → get_or k.full u 0 ≢ 0
   some_before u lt ne e = ne (c.same u lt ∙ e)
 
-  two_moved : (P : ℕ → ℕ → Type 0) (u : ℕ) → 0 < u → P (get_or k.full u 0) (get_or k.full (suc u) 0) → P (get_or full u 0) (get_or full (suc u) 0)
-  two_moved P u lt h = subst (λ (y : ℕ). P y (get_or full (suc u) 0)) (sym (c.same u lt)) (subst (P (get_or k.full u 0)) (sym (c.same (suc u) (omega arith))) h)
+  two_moved : (P : ℕ → ℕ → Type 0) (u : ℕ) → 1 < u → P (get_or k.full u 0) (get_or k.full (suc u) 0) → P (get_or full u 0) (get_or full (suc u) 0)
+  two_moved P u lt h = subst (λ (y : ℕ). P y (get_or full (suc u) 0)) (sym (c.same u lt)) (subst (P (get_or k.full u 0)) (sym (c.same (suc u) (omega (arith, lt)))) h)
 
   none_due : v.due ≡ [] → w.due ≡ []
   none_due e = empty_list w.due (λ d m. elim (subst (λ (ds : List (ℕ × ℕ)). IsIn d ds) e (c.due d.0 d.1 m)) [ ])
@@ -101,7 +102,7 @@ module _ (p : Plan) (s : Table) (k : Kept p s) (id : ℕ) (v w : View) (i x : �
   Unpublished u = (l : Link) → IsIn l u.pending → (part_of_word p.parts l.cell ≡ left) × (get_or full l.cell 0 ≡ 0) × IsRightOf u l (get_or full (suc l.cell) 0) × ((t a : ℕ) → slice_get k.from t ≡ Some a → a ≢ l.cell)
 
   unpublished_old : (u : View) → IsView s u → Unpublished u
-  unpublished_old u is l m = let h = k.cells.unpublished u l is m in (h.0, c.same l.cell (not_ticket l.cell h.0) ∙ h.1, subst (IsRightOf u l) (sym (c.same (suc l.cell) (omega arith))) h.2, h.3)
+  unpublished_old u is l m = let h = k.cells.unpublished u l is m in (h.0, c.same l.cell (not_ticket l.cell h.0) ∙ h.1, subst (IsRightOf u l) (sym (c.same (suc l.cell) (omega (arith, not_ticket l.cell h.0)))) h.2, h.3)
 
   unpublished_new : Unpublished w
   unpublished_new l m = let h = unpublished_old v seen l (subst (λ (ls : List Link). IsIn l ls) c.pending m) in (h.0, h.1, right_new l (get_or full (suc l.cell) 0) h.2, h.3)
@@ -152,7 +153,7 @@ module _ (p : Plan) (s : Table) (k : Kept p s) (id : ℕ) (v w : View) (i x : �
   cells_keep : CellsKeep p there k.log k.from full
   cells_keep = record {
     tickets = k.cells.tickets;
-    used = λ t a at. let h = k.cells.used t a at in (h.0, h.1, c.same a (not_ticket a h.0) ∙ h.2, (λ e is. moved (λ y. (y ≡ e.f) ⊎ (y ≡ e.g)) (suc a) (omega arith) (h.3 e is)));
+    used = λ t a at. let h = k.cells.used t a at in (h.0, h.1, c.same a (not_ticket a h.0) ∙ h.2, (λ e is. moved (λ y. (y ≡ e.f) ⊎ (y ≡ e.g)) (suc a) (omega (arith, not_ticket a h.0)) (h.3 e is)));
     unpublished = λ u l is. viewed Unpublished unpublished_new unpublished_old u is l;
     one_link = λ a. let e = total_same (λ (u : View). links_at a u.pending) (ap (links_at a) c.pending) in omega (arith, e, k.cells.one_link a);
     link_refs = λ u l is. viewed (λ u'. (l' : Link) → IsIn l' u'.pending → IsMadeRef p.parts k.log l'.one × IsMadeRef p.parts k.log l'.two) (with_pending (λ (ls : List Link). (l' : Link) → IsIn l' ls → IsMadeRef p.parts k.log l'.one × IsMadeRef p.parts k.log l'.two) (λ l' m. k.cells.link_refs v l' seen m)) (λ u' is' l' m. k.cells.link_refs u' l' is' m) u is l;

@@ -108,6 +108,9 @@ module _ (p : Plan) (s : Table) (k : Kept p s) (id : ℕ) (v : View) (here : get
   at : IsSite z k.net k.log reached u
   at = site p s k u wire_end
 
+  pub is_linked : IsLinked (part_of_word z u)
+  is_linked = at.part
+
   pub within : u < table_size z
   within = omega (arith, at.below, k.tickets.few)
 

@@ -14,29 +14,33 @@ use Rattle.ol_wire.specs.References.{wire_ref, place_in, IsNodeRef, IsWireRef}
 use Rattle.ol_wire.specs.Layout.{table_size}
 use Rattle.ol_wire.specs.StepPlays.{Seated, linked, moved, knowing, publishing, IsRefOf}
 use Rattle.ol_wire.specs.LinkSteps.{IsBetween, spread, links, places, publishes, counts}
-use Rattle.ol_wire.specs.Rule.{Kept, IsMadeRef}
+use Rattle.ol_wire.specs.Rule.{IsMadeRef}
 use Rattle.ol_wire.proofs.StepsLinkSites.{wire_whole, ref_of_end}
-use Rattle.ol_wire.proofs.StepsLink.{other_made, other_end, empty_keeps, found_keeps, found_made, found_end, found_spread}
+use Rattle.ol_wire.proofs.StepsLink.{other_made, other_end, is_linked, empty_keeps, found_keeps, found_made, found_end, found_spread}
 use Rattle.ol_wire.proofs.StepsPublishCells.{ends_made}
 use Rattle.ol_wire.proofs.StepsPublish.{place_keeps, publish_keeps}
 use Rattle.ol_wire.proofs.StepsJoin.{holds_within, drawn_once}
+use Rattle.ol_wire.specs.Credit.{IsRuled}
+use Rattle.ol_wire.specs.Layout.{part_of_word}
+use Rattle.ol_wire.proofs.StepsLinkSites.{IsLinked}
+use Rattle.ol_wire.proofs.CreditSteps.{linked_pays, moved_pays, place_pays, publish_pays}
 
 -- what an exchange that found c tells
 abbrev IsFound : Parts → ℕ → ℕ → List ℕ → List ℕ → Type 0
 IsFound z b c old new = IsRefOf z b × IsRefOf z c × (spread (table_size z) new ≡ spread (table_size z) old + 1) × (spread (table_size z) new ≤ table_size z)
 
 module _ (p : Plan) (slots id : ℕ) (m : Seated) (held : 0 < m.0.holds) where
-  pub counts_allowed : Allows (Kept p) slots id m 0 (λ n. n) (counts (step slots 0 0 0 none) m)
-  counts_allowed s k homes here small =
-      let P : List ℕ → List View → Type 0 = λ ws vs. Kept p record { words = ws; homes = s.homes; views = vs } in
-      (m.0, keeps, tt, subst (λ ws. P ws (set s.views id m.0)) (sym (set-get_or s.words 0 0)) (subst (P s.words) (sym (set_again s.views id m.0 here)) k), (refl, refl, omega (arith, holds_within p s k id m.0 here, (k.seats.plans m.0 (id, here) held).1), drawn_once p s k id m.0 here))
+  pub counts_allowed : Allows (IsRuled p) slots id m 0 (λ n. n) (counts (step slots 0 0 0 none) m)
+  counts_allowed s (k, q) homes here small =
+      let P : List ℕ → List View → Type 0 = λ ws vs. IsRuled p record { words = ws; homes = s.homes; views = vs } in
+      (m.0, keeps, tt, subst (λ ws. P ws (set s.views id m.0)) (sym (set-get_or s.words 0 0)) (subst (P s.words) (sym (set_again s.views id m.0 here)) (k, q)), (refl, refl, omega (arith, holds_within p s k id m.0 here, (k.seats.plans m.0 (id, here) held).1), drawn_once p s k id m.0 here))
 
   module _ (l : Link) (ls : List Link) (due : m.0.due ≡ []) (pending : m.0.pending ≡ l ∷ ls) where
     -- the reference r of a wire or of a free port stands at one end of the first link, and b at the other
-    pub links_allowed : (u r b : ℕ) → IsBetween l r b → IsWireRef r → u ≡ place_in r → Allows (Kept p) slots id m u (λ _. b) (links (step slots u b 0 none) m)
-    links_allowed u r b turn sort place s k homes here small = elim (cases_eq c 0) [
-      | inl e ↦ (linked m.0, keeps, tt, empty_keeps p s k id m.0 here held l ls u b due pending at e, (refl, (λ _. refl), (λ ne. absurd (ne e))))
-      | inr ne ↦ (moved m.0 u b c, keeps, tt, found_keeps p s k id m.0 here held l ls u b due pending at ne, (refl, (λ e. absurd (ne e)), (λ _. let t = told ne in (refl, t.0, t.1, t.2, t.3))))
+    pub links_allowed : (u r b : ℕ) → IsBetween l r b → IsWireRef r → u ≡ place_in r → Allows (IsRuled p) slots id m u (λ _. b) (links (step slots u b 0 none) m)
+    links_allowed u r b turn sort place s (k, paid) homes here small = elim (cases_eq c 0) [
+      | inl e ↦ (linked m.0, keeps, tt, (empty_keeps p s k id m.0 here held l ls u b due pending at e, linked_pays p s k paid id m.0 here u b linked_part), (refl, (λ _. refl), (λ ne. absurd (ne e))))
+      | inr ne ↦ (moved m.0 u b c, keeps, tt, (found_keeps p s k id m.0 here held l ls u b due pending at ne, moved_pays p s k paid id m.0 here u b linked_part b c), (refl, (λ e. absurd (ne e)), (λ _. let t = told ne in (refl, t.0, t.1, t.2, t.3))))
     ]
       where
         c : ℕ
@@ -48,6 +52,9 @@ module _ (p : Plan) (slots id : ℕ) (m : Seated) (held : 0 < m.0.holds) where
 
         at : IsBetween l (wire_ref u) b
         at = subst (λ q. IsBetween l q b) (wire_whole p s k r (made turn) sort ∙ ap wire_ref (sym place)) turn
+
+        linked_part : IsLinked (part_of_word p.parts u)
+        linked_part = is_linked p s k id m.0 here held l ls u b due pending at
 
         told : c ≢ 0 → IsFound m.0.parts b c m.0.dead (m.0.dead ++ u ∷ [])
         told ne =
@@ -63,18 +70,18 @@ module _ (p : Plan) (slots id : ℕ) (m : Seated) (held : 0 < m.0.holds) where
 
     -- both ends are nodes
     module _ (one_node : IsNodeRef l.one) (two_node : IsNodeRef l.two) where
-      places_there : Allows (Kept p) slots id m (suc l.cell) (λ _. l.two) (λ _. places (step slots (suc l.cell) l.two 0 none) m l.two)
-      places_there s k homes here small = (knowing m.0 (suc l.cell) l.two, keeps, tt, place_keeps p s k id m.0 here held l ls due pending one_node two_node, (refl, refl))
+      places_there : Allows (IsRuled p) slots id m (suc l.cell) (λ _. l.two) (λ _. places (step slots (suc l.cell) l.two 0 none) m l.two)
+      places_there s (k, q) homes here small = (knowing m.0 (suc l.cell) l.two, keeps, tt, (place_keeps p s k id m.0 here held l ls due pending one_node two_node, place_pays p s k q id m.0 here l ls pending), (refl, refl))
 
-      pub places_allowed : (i x : ℕ) → i ≡ suc l.cell → x ≡ l.two → Allows (Kept p) slots id m i (λ _. x) (λ _. places (step slots i x 0 none) m x)
+      pub places_allowed : (i x : ℕ) → i ≡ suc l.cell → x ≡ l.two → Allows (IsRuled p) slots id m i (λ _. x) (λ _. places (step slots i x 0 none) m x)
       places_allowed i x at is =
-          subst (λ (a : ℕ). Allows (Kept p) slots id m a (λ _. x) (λ _. places (step slots a x 0 none) m x)) (sym at)
-          (subst (λ (y : ℕ). Allows (Kept p) slots id m (suc l.cell) (λ _. y) (λ _. places (step slots (suc l.cell) y 0 none) m y)) (sym is) places_there)
+          subst (λ (a : ℕ). Allows (IsRuled p) slots id m a (λ _. x) (λ _. places (step slots a x 0 none) m x)) (sym at)
+          (subst (λ (y : ℕ). Allows (IsRuled p) slots id m (suc l.cell) (λ _. y) (λ _. places (step slots (suc l.cell) y 0 none) m y)) (sym is) places_there)
 
-      publishes_there : IsIn (suc l.cell, l.two) m.0.known → Allows (Kept p) slots id m l.cell (λ _. l.one) (λ _. publishes (step slots l.cell l.one 0 none) m l.one)
-      publishes_there known s k homes here small = (publishing m.0 l.cell, keeps, tt, publish_keeps p s k id m.0 here held l ls due pending one_node two_node known, (refl, refl))
+      publishes_there : IsIn (suc l.cell, l.two) m.0.known → Allows (IsRuled p) slots id m l.cell (λ _. l.one) (λ _. publishes (step slots l.cell l.one 0 none) m l.one)
+      publishes_there known s (k, q) homes here small = (publishing m.0 l.cell, keeps, tt, (publish_keeps p s k id m.0 here held l ls due pending one_node two_node known, publish_pays p s k q id m.0 here l ls pending known), (refl, refl))
 
-      pub publishes_allowed : (i x : ℕ) → i ≡ l.cell → x ≡ l.one → IsIn (suc l.cell, l.two) m.0.known → Allows (Kept p) slots id m i (λ _. x) (λ _. publishes (step slots i x 0 none) m x)
+      pub publishes_allowed : (i x : ℕ) → i ≡ l.cell → x ≡ l.one → IsIn (suc l.cell, l.two) m.0.known → Allows (IsRuled p) slots id m i (λ _. x) (λ _. publishes (step slots i x 0 none) m x)
       publishes_allowed i x at is known =
-          subst (λ (a : ℕ). Allows (Kept p) slots id m a (λ _. x) (λ _. publishes (step slots a x 0 none) m x)) (sym at)
-          (subst (λ (y : ℕ). Allows (Kept p) slots id m l.cell (λ _. y) (λ _. publishes (step slots l.cell y 0 none) m y)) (sym is) (publishes_there known))
+          subst (λ (a : ℕ). Allows (IsRuled p) slots id m a (λ _. x) (λ _. publishes (step slots a x 0 none) m x)) (sym at)
+          (subst (λ (y : ℕ). Allows (IsRuled p) slots id m l.cell (λ _. y) (λ _. publishes (step slots l.cell y 0 none) m y)) (sym is) (publishes_there known))

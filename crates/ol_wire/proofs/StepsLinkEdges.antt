@@ -5,7 +5,7 @@ use Rattle.ol_edges.specs.Edges.{ends}
 use Rattle.ol_net.specs.Nets.{NamedNet}
 use Rattle.ol_rules.specs.declared.journal.NodeName.{NodeName}
 use Rattle.ol_wire.specs.declared.layout.Parts.{Parts}
-use Rattle.ol_wire.specs.Layout.{WordPart, ticket, port, field, wire, between, left, right, entry, past, part_of_word, table_size}
+use Rattle.ol_wire.specs.Layout.{WordPart, ticket, live_word, port, field, wire, between, left, right, entry, past, part_of_word, table_size}
 use Rattle.ol_wire.specs.Weights.{pairs}
 use Rattle.ol_wire.specs.Edges.{edge_in, edges_in}
 use Rattle.ol_wire.specs.Stands.{StandsForNet}
@@ -29,6 +29,7 @@ stands_alike z N reached es fs a s =
 -- only the edge of a cell that isn't empty looks at the next word
 next_free : (net : NamedNet NodeName) (r : Bool) (q : WordPart) (w word m n : ℕ) → (q ≡ left → word ≡ 0) → edge_in net r q w word m ≡ edge_in net r q w word n
 next_free net r ticket w word m n e = refl
+next_free net r live_word w word m n e = refl
 next_free net r (port a) w word m n e = refl
 next_free net r (field x c) w word m n e = refl
 next_free net r (wire j) w word m n e = refl

@@ -38,7 +38,7 @@ linking v published pending known dead = record v { published = published; pendi
 -- The word i is written, with x; then what the view has published, has to link, knows and has made dead is this.
 pub record LinkStep (p : Plan) (s : Table) (k : Kept p s) (id : ℕ) (v : View) (i x : ℕ) (published : List ℕ) (pending : List Link) (known : List (ℕ × ℕ)) (dead : List ℕ) : Type 0 where
   -- the word is no view's and no word of the start or of an entry, and what is written is a reference
-  pub some_word : 0 < i
+  pub some_word : 1 < i
   pub below : i < block p.parts (length k.log)
   pub not_own : IsOwn (part_of_word p.parts i) → ⊥
   pub not_start : (c : ℕ) → c < p.parts.cells → (start_cell p.parts c ≢ i) × (suc (start_cell p.parts c) ≢ i)
@@ -116,7 +116,7 @@ module _ (p : Plan) (s : Table) (k : Kept p s) (id : ℕ) (v : View) (i x : ℕ)
   ticket_same : get_or (set s.words i x) 0 0 ≡ get_or s.words 0 0
   ticket_same = get_or-set_other s.words i 0 x 0 (λ e. omega (arith, c.some_word))
 
-  refs : (u : ℕ) → 0 < u → get_or full u 0 ≢ 0 → IsMadeRef z k.log (get_or full u 0)
+  refs : (u : ℕ) → 1 < u → get_or full u 0 ≢ 0 → IsMadeRef z k.log (get_or full u 0)
   refs u lt some_y = elim (cases_eq u i) [
     | inl e ↦ subst (λ a. IsMadeRef z k.log (get_or full a 0)) (sym e) (subst (IsMadeRef z k.log) (sym at_i) c.made_ref)
     | inr d ↦ stays (IsMadeRef z k.log) u d (k.words.refs u lt (λ q. some_y (get_or-set_other k.full i u x 0 d ∙ q)))

@@ -11,7 +11,7 @@ use Rattle.ol_wire.specs.declared.plan.Plan.{Plan}
 use Rattle.ol_wire.specs.declared.view.Link.{Link}
 use Rattle.ol_wire.specs.declared.view.View.{View}
 use Rattle.ol_wire.specs.References.{node_ref, wire_ref, kind_in, index_in, place_in, IsWireRef, IsRef}
-use Rattle.ol_wire.specs.Layout.{WordPart, ticket, port, field, wire, between, left, right, entry, past, part_of_word, place_of, port_word, start_cell, block, table_size}
+use Rattle.ol_wire.specs.Layout.{WordPart, ticket, live_word, port, field, wire, between, left, right, entry, past, part_of_word, place_of, port_word, start_cell, block, table_size}
 use Rattle.ol_wire.specs.Events.{Event}
 use Rattle.ol_wire.specs.Edges.{crosses_at, is_reached, is_made, is_wire_made, deaths, edge_to, edges_of, edges_in, pending_in, links_in}
 use Rattle.ol_wire.specs.Stands.{IsEnd, of_port, principal, auxiliary, IsWireEnd}
@@ -38,6 +38,7 @@ linked_not_own (port n) l o = o
 linked_not_own (wire j) l o = o
 linked_not_own (between t a b) l o = o
 linked_not_own ticket l o = l
+linked_not_own live_word l o = l
 linked_not_own (field x c) l o = l
 linked_not_own left l o = l
 linked_not_own right l o = l
@@ -49,6 +50,7 @@ linked_not_lasting (port n) l o = o
 linked_not_lasting (wire j) l o = o
 linked_not_lasting (between t a b) l o = o
 linked_not_lasting ticket l o = l
+linked_not_lasting live_word l o = l
 linked_not_lasting (field x c) l o = l
 linked_not_lasting left l o = l
 linked_not_lasting right l o = l
@@ -58,7 +60,7 @@ linked_not_lasting past l o = l
 -- such a word, its place, and its edge
 pub record IsSite (z : Parts) (net : NamedNet NodeName) (log : List Event) (reached : ℕ → Bool) (u : ℕ) : Type 0 where
   pub part : IsLinked (part_of_word z u)
-  pub some_word : 0 < u
+  pub some_word : 1 < u
   pub below : u < block z (length log)
   pub before_cells : u < start_cell z 0 ⊎ (block z 0 ≤ u)
   pub edge : (words : List ℕ) → word_edge z net reached words u ≡ edge_to (wire_ref u) (slice_index words u)
@@ -113,6 +115,7 @@ module _ (p : Plan) (s : Table) (k : Kept p s) where
             edge = λ words. edge_as z k.net reached words u (between t a b) e ∙ ap (λ r. if r then edge_to (wire_ref u) (slice_index words u) else []) is;
           }
       of ticket e m = absurd (false≢true m)
+      of live_word e m = absurd (false≢true m)
       of (port n) e m = absurd (false≢true m)
       of (field x c) e m = absurd (false≢true m)
       of left e m = absurd (false≢true m)
@@ -128,6 +131,7 @@ module _ (p : Plan) (s : Table) (k : Kept p s) where
       of (wire j) e m = edge_as z k.net reached' words u (wire j) e ∙ ap (λ r. if r then edge_to (wire_ref u) (slice_index words u) else []) gone
       of (between t a b) e m = edge_as z k.net reached' words u (between t a b) e ∙ ap (λ r. if r then edge_to (wire_ref u) (slice_index words u) else []) gone
       of ticket e m = absurd (false≢true m)
+      of live_word e m = absurd (false≢true m)
       of (port n) e m = absurd (false≢true m)
       of (field x c) e m = absurd (false≢true m)
       of left e m = absurd (false≢true m)
@@ -198,7 +202,7 @@ module _ (p : Plan) (s : Table) (k : Kept p s) where
       of (inr sort) =
           let e = wire_whole r made sort in
           let st : Site (place_in r) = site (place_in r) (subst (λ q. 1 ≤ ends nat_eq q all) e some_end) in
-          inr (sort, st.some_word, omega (arith, made.2, k.tickets.few))
+          inr (sort, omega (arith, st.some_word), omega (arith, made.2, k.tickets.few))
 
   -- a pending link stands among the edges
   pub link_ends : (v : View) (l : Link) (ls : List Link) → IsView s v → v.pending ≡ l ∷ ls → (1 ≤ ends nat_eq l.one all) × (1 ≤ ends nat_eq l.two all)

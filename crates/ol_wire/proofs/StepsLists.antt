@@ -60,15 +60,16 @@ module _ (h : ℕ → ℕ → ℕ) where
     | inr ne ↦ omega (arith, weigh_set ws n i x (omega arith) (omega arith), ap (h n) (get_or-set_other ws i n x 0 (λ e. ne (sym e))))
   ]
 
-module _ (z : Parts) (net : NamedNet NodeName) (r s : ℕ → Bool) (ws vs : List ℕ) (reached : (u : ℕ) → r u ≡ s u) (words : (u : ℕ) → 0 < u → get_or ws u 0 ≡ get_or vs u 0) where
-  one_same : (n : ℕ) → 0 < n → edge_in net (r n) (part_of_word z n) n (get_or ws n 0) (get_or ws (suc n) 0) ≡ edge_in net (s n) (part_of_word z n) n (get_or vs n 0) (get_or vs (suc n) 0)
-  one_same n lt = ap (λ b. edge_in net b (part_of_word z n) n (get_or ws n 0) (get_or ws (suc n) 0)) (reached n) ∙ ap (λ y. edge_in net (s n) (part_of_word z n) n y (get_or ws (suc n) 0)) (words n lt) ∙ ap (edge_in net (s n) (part_of_word z n) n (get_or vs n 0)) (words (suc n) (omega arith))
+module _ (z : Parts) (net : NamedNet NodeName) (r s : ℕ → Bool) (ws vs : List ℕ) (reached : (u : ℕ) → r u ≡ s u) (words : (u : ℕ) → 1 < u → get_or ws u 0 ≡ get_or vs u 0) where
+  one_same : (n : ℕ) → 1 < n → edge_in net (r n) (part_of_word z n) n (get_or ws n 0) (get_or ws (suc n) 0) ≡ edge_in net (s n) (part_of_word z n) n (get_or vs n 0) (get_or vs (suc n) 0)
+  one_same n lt = ap (λ b. edge_in net b (part_of_word z n) n (get_or ws n 0) (get_or ws (suc n) 0)) (reached n) ∙ ap (λ y. edge_in net (s n) (part_of_word z n) n y (get_or ws (suc n) 0)) (words n lt) ∙ ap (edge_in net (s n) (part_of_word z n) n (get_or vs n 0)) (words (suc n) (omega (arith, lt)))
 
-  -- the ticket word has no edge
+  -- the ticket word and the live word have no edge
   pub edges_same : (n : ℕ) → edges_in z net r ws n ≡ edges_in z net s vs n
   edges_same zero = refl
   edges_same (suc zero) = refl
-  edges_same (suc (suc n)) = ap (λ es. es ++ edge_in net (r (suc n)) (part_of_word z (suc n)) (suc n) (get_or ws (suc n) 0) (get_or ws (suc (suc n)) 0)) (edges_same (suc n)) ∙ ap (λ es. edges_in z net s vs (suc n) ++ es) (one_same (suc n) (omega arith))
+  edges_same (suc (suc zero)) = refl
+  edges_same (suc (suc (suc n))) = ap (λ es. es ++ edge_in net (r (suc (suc n))) (part_of_word z (suc (suc n))) (suc (suc n)) (get_or ws (suc (suc n)) 0) (get_or ws (suc (suc (suc n))) 0)) (edges_same (suc (suc n))) ∙ ap (λ es. edges_in z net s vs (suc (suc n)) ++ es) (one_same (suc (suc n)) (omega arith))
 
 pub pending_set : (l : List View) (j : ℕ) (v w : View) → get_elem? l j ≡ some v → w.pending ≡ v.pending → pending_in (set l j w) ≡ pending_in l
 pending_set [] j v w e q = absurd (some-ne-none v (sym e))

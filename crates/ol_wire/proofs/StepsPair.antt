@@ -14,7 +14,7 @@ use Rattle.ol_wire.specs.declared.layout.Parts.{Parts}
 use Rattle.ol_wire.specs.declared.plan.Plan.{Plan}
 use Rattle.ol_wire.specs.declared.view.View.{View}
 use Rattle.ol_wire.specs.References.{node_ref, slot_ref, kind_in, index_in, place_in, IsWireRef, IsRef}
-use Rattle.ol_wire.specs.Layout.{WordPart, ticket, port, field, wire, between, left, right, entry, past, part_of_word, place_of, port_word, table_size}
+use Rattle.ol_wire.specs.Layout.{WordPart, ticket, live_word, port, field, wire, between, left, right, entry, past, part_of_word, place_of, port_word, table_size}
 use Rattle.ol_wire.specs.Events.{Event, rule_between}
 use Rattle.ol_wire.specs.Edges.{is_reached, is_made, is_wire_made, edges_in, edges_of, pending_in}
 use Rattle.ol_wire.specs.Stands.{IsEnd, of_port, principal, auxiliary, IsWireEnd}
@@ -38,6 +38,7 @@ made_within z log w made = of (part_of_word z w) refl made
     of (wire j) e m = let h = is_wire z w j e in (omega (arith, h), omega (arith, h))
     of (between t q r) e m = let h = is_between z w t q r e in (omega (arith, h), omega (arith, h))
     of ticket e m = absurd (false≢true m)
+    of live_word e m = absurd (false≢true m)
     of (port n) e m = absurd (false≢true m)
     of (field x n) e m = absurd (false≢true m)
     of left e m = absurd (false≢true m)
@@ -78,10 +79,11 @@ module _ (p : Plan) (s : Table) (k : Kept p s) where
       owned (inr (v, is, inl due)) = absurd (k.seats.due v 0 (get_or k.full 0 0) is due).1
       owned (inr (v, is, inr taken)) = let e : ticket ≡ left = (k.seats.taken v 0 (get_or k.full 0 0) is taken).0 in absurd (cc)
 
-  -- a word that is due isn't the ticket word
-  pub due_past : (v : View) (i x : ℕ) → IsView s v → IsIn (i, x) v.due → 0 < i
+  -- a word that is due isn't the ticket word, nor the live word
+  pub due_past : (v : View) (i x : ℕ) → IsView s v → IsIn (i, x) v.due → 1 < i
   due_past v zero x is m = absurd (k.seats.due v zero x is m).1
-  due_past v (suc i) x is m = omega arith
+  due_past v (suc zero) x is m = absurd (k.seats.due v (suc zero) x is m).1
+  due_past v (suc (suc i)) x is m = omega arith
 
   pub full_of_claimed : (v : View) (w x : ℕ) → IsView s v → IsIn (w, x) v.taken → (part_of_word z w ≡ left) × (get_or k.full w 0 ≡ x) × (get_or k.full w 0 ≢ 0)
   full_of_claimed v w x is m =
@@ -105,7 +107,7 @@ module _ (p : Plan) (s : Table) (k : Kept p s) where
       some_word : y ≢ 0
       some_word = field_full p s k x m i c h lt
 
-      before : z.free < place_of z x
+      before : suc z.free < place_of z x
       before = (place_before z x z.fuel (is_placed p s k x m i h)).0
 
       all : List (ℕ × ℕ)

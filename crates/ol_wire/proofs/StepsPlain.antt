@@ -19,16 +19,18 @@ use Rattle.ol_wire.proofs.StepsLists.{weigh_set}
 use Rattle.ol_wire.proofs.StepsKeep.{Change, after, step_keeps}
 use Rattle.ol_wire.proofs.StepsSwept.{swept_empty}
 
-ticket_first : (z : Parts) (u : ℕ) (a : WordPart) → part_of_word z u ≡ a → part_of_word z 0 ≢ a → 0 < u
-ticket_first z zero a e d = absurd (d e)
-ticket_first z (suc u) a e d = omega arith
+ticket_first : (z : Parts) (u : ℕ) (a : WordPart) → part_of_word z u ≡ a → part_of_word z 0 ≢ a → part_of_word z 1 ≢ a → 1 < u
+ticket_first z zero a e d f = absurd (d e)
+ticket_first z (suc zero) a e d f = absurd (f e)
+ticket_first z (suc (suc u)) a e d f = omega arith
 
-pub left_past : (z : Parts) (u : ℕ) → part_of_word z u ≡ left → 0 < u
-left_past z u e = ticket_first z u left e (λ q. cc)
+pub left_past : (z : Parts) (u : ℕ) → part_of_word z u ≡ left → 1 < u
+left_past z u e = ticket_first z u left e (λ q. cc) (λ q. cc)
 
-pub lasting_past : (z : Parts) (u : ℕ) → IsLasting (part_of_word z u) → 0 < u
+pub lasting_past : (z : Parts) (u : ℕ) → IsLasting (part_of_word z u) → 1 < u
 lasting_past z zero l = absurd l
-lasting_past z (suc u) l = omega arith
+lasting_past z (suc zero) l = absurd l
+lasting_past z (suc (suc u)) l = omega arith
 
 -- a left word isn't one that lasts
 pub left_passes : (z : Parts) (u w : ℕ) → IsLasting (part_of_word z u) → part_of_word z w ≡ left → u ≢ w
@@ -36,10 +38,10 @@ left_passes z u w l e q = subst IsLasting (ap (part_of_word z) q ∙ e) l
 
 module _ (p : Plan) (s : Table) (k : Kept p s) (id : ℕ) (v : View) (here : get_elem? s.views id ≡ some v) (held : 0 < v.holds) where
   -- the word 0 stays
-  still : (i x : ℕ) → 0 < i → get_or (set s.words i x) 0 0 ≡ get_or s.words 0 0
+  still : (i x : ℕ) → 1 < i → get_or (set s.words i x) 0 0 ≡ get_or s.words 0 0
   still i x lt = get_or-set_other s.words i 0 x 0 (λ e. omega arith)
 
-  same_tickets : (i x : ℕ) → 0 < i → Drawn p.parts.fuel (get_or (set s.words i x) 0 0) (length k.log)
+  same_tickets : (i x : ℕ) → 1 < i → Drawn p.parts.fuel (get_or (set s.words i x) 0 0) (length k.log)
   same_tickets i x lt = subst (λ n. Drawn p.parts.fuel n (length k.log)) (sym (still i x lt)) k.tickets
 
   word_set : (h : ℕ → ℕ → ℕ) (i x : ℕ) → i < table_size p.parts → weigh h (set s.words i x) (table_size p.parts) + h i (get_or s.words i 0) ≡ weigh h s.words (table_size p.parts) + h i x
@@ -153,7 +155,7 @@ module _ (p : Plan) (s : Table) (k : Kept p s) (id : ℕ) (v : View) (here : get
     paired_keeps = look_keeps (v.last.0, get_or s.words u 0)
 
   -- a word that is due is written
-  module _ (i x : ℕ) (ds : List (ℕ × ℕ)) (due : v.due ≡ (i, x) ∷ ds) (off : 0 < i) where
+  module _ (i x : ℕ) (ds : List (ℕ × ℕ)) (due : v.due ≡ (i, x) ∷ ds) (off : 1 < i) where
     first_due : IsIn {X = ℕ × ℕ} (i, x) v.due
     first_due = subst (λ (l : List (ℕ × ℕ)). IsIn {X = ℕ × ℕ} (i, x) l) (sym due) (inl refl)
 

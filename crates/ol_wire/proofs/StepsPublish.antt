@@ -1,5 +1,5 @@
 -- A link between two nodes keeps the rule as it is made: the right word of its cell is written, and then the left one.
-use Rattle.std.proofs.Common.{◌≡◌, ◌≢◌, ℕ, suc, ◌+◌, ◌==◌, ◌<◌, ◌≤◌, ◌⊎◌, Bool, ◌&&◌, if◌then◌else◌, nat_eq, eq-eqb, ne_eqb, List, [], ◌∷◌, ◌++◌, length, get_or, set, sym, refl, ap, ◌∙◌, subst, inl, inr, arith, get_or-set_same, get_or-set_other}
+use Rattle.std.proofs.Common.{◌≡◌, ◌≢◌, ℕ, suc, ◌+◌, ◌-◌, ◌==◌, ◌<◌, ◌≤◌, ◌⊎◌, Bool, ◌&&◌, if◌then◌else◌, nat_eq, eq-eqb, ne_eqb, List, [], ◌∷◌, ◌++◌, length, get_or, set, sym, refl, ap, ◌∙◌, subst, inl, inr, arith, get_or-set_same, get_or-set_other}
 use Rattle.std.proofs.lemmas.Bool.{cases_eq}
 use mathlib.Core.Option.{some}
 use lib.ListN.{get_elem?}
@@ -14,7 +14,7 @@ use Rattle.ol_wire.specs.Weights.{pairs}
 use Rattle.ol_wire.specs.Edges.{is_reached, is_made, deaths, times_in, edges_of, edges_in, pending_in, links_in}
 use Rattle.ol_wire.specs.Stands.{StandsForNet}
 use Rattle.ol_wire.specs.Plays.{cell_at}
-use Rattle.ol_wire.specs.StepPlays.{rest, knowing, publishing}
+use Rattle.ol_wire.specs.StepPlays.{rest, knowing, publishing, first_active}
 use Rattle.ol_wire.specs.Rule.{Table, Kept, IsView, IsLasting, IsOwn, IsRightOf, filled}
 use Rattle.ol_wire.proofs.Places.{is_left}
 use Rattle.ol_wire.proofs.Alike.{Alike, total_append, pairs_append}
@@ -24,7 +24,9 @@ use Rattle.ol_wire.proofs.WordEdges.{edge_as}
 use Rattle.ol_wire.proofs.TicketNumbers.{left_of_cell}
 use Rattle.ol_wire.proofs.StepsKeep.{after}
 use Rattle.ol_wire.proofs.StepsLists.{total_set}
-use Rattle.ol_wire.proofs.StepsLinkKeep.{LinkStep, link_keeps}
+use Rattle.ol_wire.proofs.StepsLinkKeep.{LinkStep, linking, link_keeps}
+use Rattle.ol_wire.proofs.StepsLive.{owed_keeps, index_in}
+use Rattle.ol_wire.proofs.StepsPlain.{left_past}
 use Rattle.ol_wire.proofs.StepsLinkEdges.{stands_alike, edges_set}
 use Rattle.ol_wire.proofs.StepsLinkSites.{word_written}
 use Rattle.ol_wire.proofs.StepsLink.{rest_fewer}
@@ -119,7 +121,7 @@ module _ (p : Plan) (s : Table) (k : Kept p s) (id : ℕ) (v : View) (here : get
 
   right_step : LinkStep p s k id v (suc l.cell) l.two v.published v.pending ((suc l.cell, l.two) ∷ v.known) v.dead
   right_step = record {
-    some_word = omega arith;
+    some_word = omega (arith, left_past z l.cell is_cell);
     below = blocks.1;
     not_own = right_not_own;
     not_start = λ c lt. let h = not_start p s k id v here l ls pending c lt in (h.2, (λ e. h.0 (omega (arith, e))));
@@ -208,7 +210,7 @@ module _ (p : Plan) (s : Table) (k : Kept p s) (id : ℕ) (v : View) (here : get
     behind_in m i = subst (λ (ms : List Link). IsIn m ms) (sym pending) (inr i)
 
     -- the pending edge is the cell's now
-    left_edges : Alike old_edges (edges_in z k.net reached left_full (table_size z) ++ pending_in (set s.views id (publishing v l.cell)))
+    left_edges : Alike old_edges (edges_in z k.net reached left_full (table_size z) ++ pending_in (set s.views id (linking v published (rest v.pending) [] v.dead)))
     left_edges h even =
         let none : pairs h (word_edge z k.net reached k.full l.cell) ≡ 0 = ap (pairs h) (edge_as z k.net reached k.full l.cell left is_cell ∙ ap (λ y. if y == 0 then [] else (y, get_or k.full (suc l.cell) 0) ∷ []) empty) in
         let one : pairs h (word_edge z k.net reached left_full l.cell) ≡ h l.one l.two + 0 =
@@ -221,9 +223,9 @@ module _ (p : Plan) (s : Table) (k : Kept p s) (id : ℕ) (v : View) (here : get
           none,
           one,
           head,
-          pending_weigh h s.views id v (publishing v l.cell) here,
+          pending_weigh h s.views id v (linking v published (rest v.pending) [] v.dead) here,
           pairs_append h (edges_in z k.net reached k.full (table_size z)) (pending_in s.views),
-          pairs_append h (edges_in z k.net reached left_full (table_size z)) (pending_in (set s.views id (publishing v l.cell))),
+          pairs_append h (edges_in z k.net reached left_full (table_size z)) (pending_in (set s.views id (linking v published (rest v.pending) [] v.dead))),
         )
 
     left_step : LinkStep p s k id v l.cell l.one published (rest v.pending) [] v.dead
@@ -248,8 +250,8 @@ module _ (p : Plan) (s : Table) (k : Kept p s) (id : ℕ) (v : View) (here : get
       published_once = published_once;
       others = λ j w m d e i. (others_apart p s k id v here l ls pending j w m d e i, right_of m.cell (k.cells.unpublished w m (j, e) i).0);
       swept = λ c lt. let h = swept_apart p s k id v here l ls pending c lt in (h.0, h.1);
-      dead_once = once (publishing v l.cell) refl;
-      net = net_stands (publishing v l.cell) refl left_full left_edges;
+      dead_once = once (linking v published (rest v.pending) [] v.dead) refl;
+      net = net_stands (linking v published (rest v.pending) [] v.dead) refl left_full left_edges;
     }
       where
         cells_after : (w : ℕ) → part_of_word z w ≡ left → get_or left_full w 0 ≢ 0 → IsNodeRef (get_or left_full w 0) × IsNodeRef (get_or left_full (suc w) 0)
@@ -286,4 +288,4 @@ module _ (p : Plan) (s : Table) (k : Kept p s) (id : ℕ) (v : View) (here : get
         ]
 
     pub publish_keeps : Kept p (after s l.cell l.one id (publishing v l.cell))
-    publish_keeps = link_keeps p s k id v l.cell l.one published (rest v.pending) [] v.dead here held left_step
+    publish_keeps = owed_keeps p s l.cell l.one id (linking v published (rest v.pending) [] v.dead) (link_keeps p s k id v l.cell l.one published (rest v.pending) [] v.dead here held left_step) (index_in s.views id v here) held (v.owed - first_active v.pending)

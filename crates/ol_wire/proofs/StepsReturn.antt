@@ -29,7 +29,7 @@ module _ (p : Plan) (s : Table) (k : Kept p s) (id : ℕ) (v : View) (here : get
     claimed : (part_of_word p.parts w ≡ left) × (get_or k.full w 0 ≡ x) × (get_or k.full w 0 ≢ 0)
     claimed = full_of_claimed p s k v w x (id, here) taken
 
-    off : 0 < w
+    off : 1 < w
     off = left_past p.parts w claimed.0
 
     still : get_or (set s.words w x) 0 0 ≡ get_or s.words 0 0

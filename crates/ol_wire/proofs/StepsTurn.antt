@@ -1,5 +1,5 @@
 -- What a turn leaves, and that each answer comes by its own cause alone.
-use Rattle.std.proofs.Common.{◌≡◌, ◌≢◌, ℕ, ◌+◌, ◌<◌, true, false, get_or, if◌then◌else◌, Bool, None, Some, Option, List, [], ◌∷◌, ◌++◌, sym, refl, ap, ◌∙◌, subst, ◌*◌}
+use Rattle.std.proofs.Common.{◌≡◌, ◌≢◌, ℕ, suc, ◌+◌, ◌-◌, ◌<◌, ◌≤◌, ◌&&◌, nat_eq, eqb-true, true, arith, false, get_or, if◌then◌else◌, Bool, None, Some, Option, List, [], ◌∷◌, ◌++◌, sym, refl, ap, ◌∙◌, subst, ◌*◌}
 use Rattle.ol_net.specs.declared.parts.Rule.{Rule}
 use Rattle.ol_wire.specs.declared.layout.Parts.{Parts}
 use Rattle.ol_wire.specs.declared.turning.Begun.{Begun}
@@ -9,11 +9,11 @@ use Rattle.ol_wire.specs.declared.view.View.{View}
 use Rattle.ol_wire.specs.Layout.{left_word, cells_of}
 use Rattle.ol_wire.specs.Events.{Event, rule_between, event_of, entry_of, acting}
 use Rattle.ol_wire.specs.Plays.{cell_at, swept_on, event_in}
-use Rattle.ol_wire.specs.StepPlays.{IsNodeOf, is_stuck, returned}
+use Rattle.ol_wire.specs.StepPlays.{IsNodeOf, is_stuck, returned, repaid}
 use Rattle.ol_wire.specs.declared.rewrite.Rewrite.{Rewrite}
 use Rattle.ol_wire.specs.Rewrites.{event_for}
 use Rattle.ol_wire.specs.Idle.{IsIdle}
-use Rattle.ol_wire.specs.LinkLists.{links_of}
+use Rattle.ol_wire.specs.LinkLists.{links_of, joins_in}
 use Rattle.ol_wire.specs.InHand as hands
 use Rattle.ol_wire.specs.Hands.{claiming, IsStuckLast, IsActiveLast}
 use Rattle.ol_wire.specs.InHand.{in_hand, AreRefs}
@@ -32,6 +32,15 @@ active_pair a b fits = of (rule_between a b) (rule_between b a) refl fits
     of (Some q) r e f = refl
     of None (Some r) e f = refl
     of None None e f = absurd (none_some (sym e ∙ f))
+
+-- a seat has swept at most the cells of its table
+pub swept_stays : (v : View) (c n : ℕ) → v.swept ≤ n → c < n → swept_on v c ≤ n
+swept_stays v c n le lt = of (nat_eq v.holds v.seats) (nat_eq c v.swept) refl
+  where
+    of : (a b : Bool) → nat_eq c v.swept ≡ b → (if a && b then suc v.swept else v.swept) ≤ n
+    of true true e = omega (arith, eqb-true c v.swept e, lt)
+    of true false e = le
+    of false b e = le
 
 -- a pair of cell c was in hand, and is put back; `ks` and `o` are what was known then, and whether the fuel was found used up
 module _ (z : Parts) (v t n : View) (c : ℕ) (pair : ℕ × ℕ) (ks : List (ℕ × ℕ)) (o : Bool) (parts : v.parts ≡ z) (low : c < cells_of z) (idle : IsIdle v)
@@ -84,6 +93,17 @@ module _ (z : Parts) (v t n : View) (c : ℕ) (pair : ℕ × ℕ) (ks : List (�
           whole ∙ ap (λ b. shape [] (if b then swept_on v (cell_at v.parts (left_word z c)) else v.swept) o pair) (active_pair pair.0 pair.1 fits) ∙ ap (λ l. shape l v.swept o pair) (sym idle.0)
           ∙ ap (λ b. shape v.taken v.swept b pair) over ∙ ap (shape v.taken v.swept true) (sym last)
 
+-- the links were owed, and are owed no more
+module _ (z : Parts) (v t back n : View) (c joins : ℕ) (pair : ℕ × ℕ) (ks : List (ℕ × ℕ)) (idle : IsIdle v)
+    (hand : t ≡ record (in_hand v (left_word z c) c pair) { known = ks; over = true; owed = joins }) (returns : back ≡ returned t) (repays : n ≡ repaid back joins) where
+  pub hand_repaid : record t { owed = v.owed } ≡ record (in_hand v (left_word z c) c pair) { known = ks; over = true }
+  hand_repaid = ap (λ (u : View). record u { owed = v.owed }) hand
+
+  pub back_repaid : n ≡ returned (record t { owed = v.owed })
+  back_repaid =
+      let none : t.owed - joins ≡ v.owed = omega (arith, ap (λ (u : View). u.owed) hand, idle.3) in
+      repays ∙ ap (λ (u : View). repaid u joins) returns ∙ ap (λ (o : ℕ). record (returned t) { owed = o }) none
+
 -- the pair in hand has become a ticket
 module _ (z : Parts) (v t n : View) (c : ℕ) (pair : ℕ × ℕ) (r : Rewrite) (b : Begun) (hand : t ≡ in_hand v (left_word z c) c pair) (same : b.rewrite ≡ r) (done : hands.Rewrote t b.ticket b.of_f b.of_g n)
     (is : event_for r ≡ event_of pair.0 pair.1) (rule : rule_between r.f r.g ≡ Some r.rule) where
@@ -113,16 +133,18 @@ links_pending z v m c b parts idle begun = record {
   rule = subst (λ (e : Event). rule_between e.f e.g ≡ Some e.rule) (sym begun.event) begun.cause.0.1;
   nodes = begun.nodes;
   fields = begun.fields;
+  owed = ap (λ (u : View). u.owed) begun.rewrote.view ∙ ap (λ (e : Event). suc (joins_in e)) (sym begun.event);
 }
 
 -- the links are made: the whole turn, by its first part and by what the making of the links leaves of it
 module _ (z : Parts) (v m n : View) (c mask : ℕ) (b : Begun) (ws : List ℕ) (parts : v.parts ≡ z) (low : c < cells_of z) (idle : IsIdle v) (begun : TurnBegins z v c b m) (small : mask < 16)
-    (linked : n ≡ record m { pending = []; known = n.known; published = m.published ++ masked (z.cells + 4 * b.ticket) mask; dead = m.dead ++ ws }) where
+    (linked : n ≡ record m { pending = []; known = n.known; published = m.published ++ masked (z.cells + 4 * b.ticket) mask; dead = m.dead ++ ws; owed = 0 }) where
   abbrev first_cell : ℕ
   first_cell = z.cells + 4 * b.ticket
 
-  abbrev done : List (ℕ × ℕ) → List Link → ℕ → Parts → ℕ × ℕ → List ℕ → View
-  done taken pending swept y last dead = record v {
+  abbrev done : ℕ → List (ℕ × ℕ) → List Link → ℕ → Parts → ℕ × ℕ → List ℕ → View
+  done owed taken pending swept y last dead = record v {
+    owed = owed;
     claimed = v.claimed ++ c ∷ [];
     published = v.published ++ masked first_cell mask;
     made = v.made ++ (b.ticket, entry_of y (event_of last.0 last.1)) ∷ [];
@@ -134,8 +156,8 @@ module _ (z : Parts) (v m n : View) (c mask : ℕ) (b : Begun) (ws : List ℕ) (
     swept = swept;
   }
 
-  all_of : n ≡ done [] [] (swept_on v (cell_at v.parts (left_word z c))) v.parts m.last (v.dead ++ ws)
-  all_of = linked ∙ ap (λ (u : View). record u { pending = []; known = n.known; published = u.published ++ masked first_cell mask; dead = u.dead ++ ws }) begun.rewrote.view
+  all_of : n ≡ done 0 [] [] (swept_on v (cell_at v.parts (left_word z c))) v.parts m.last (v.dead ++ ws)
+  all_of = linked ∙ ap (λ (u : View). record u { pending = []; known = n.known; published = u.published ++ masked first_cell mask; dead = u.dead ++ ws; owed = 0 }) begun.rewrote.view
 
   same_last : n.last ≡ m.last
   same_last = ap (λ (u : View). u.last) all_of
@@ -146,14 +168,15 @@ module _ (z : Parts) (v m n : View) (c mask : ℕ) (b : Begun) (ws : List ℕ) (
   cell : cell_at v.parts (left_word z c) ≡ c
   cell = ap (λ (y : Parts). cell_at y (left_word z c)) parts ∙ cell_of_left z c low
 
-  view : n ≡ done v.taken v.pending (swept_on v c) z n.last n.dead
+  view : n ≡ done v.owed v.taken v.pending (swept_on v c) z n.last n.dead
   view =
-      all_of ∙ ap (λ l. done l [] (swept_on v (cell_at v.parts (left_word z c))) v.parts m.last (v.dead ++ ws)) (sym idle.0)
-      ∙ ap (λ l. done v.taken l (swept_on v (cell_at v.parts (left_word z c))) v.parts m.last (v.dead ++ ws)) (sym idle.2)
-      ∙ ap (λ a. done v.taken v.pending (swept_on v a) v.parts m.last (v.dead ++ ws)) cell
-      ∙ ap (λ y. done v.taken v.pending (swept_on v c) y m.last (v.dead ++ ws)) parts
-      ∙ ap (λ l. done v.taken v.pending (swept_on v c) z l (v.dead ++ ws)) (sym same_last)
-      ∙ ap (done v.taken v.pending (swept_on v c) z n.last) (sym dead_grows)
+      all_of ∙ ap (λ l. done 0 l [] (swept_on v (cell_at v.parts (left_word z c))) v.parts m.last (v.dead ++ ws)) (sym idle.0)
+      ∙ ap (λ l. done 0 v.taken l (swept_on v (cell_at v.parts (left_word z c))) v.parts m.last (v.dead ++ ws)) (sym idle.2)
+      ∙ ap (λ a. done 0 v.taken v.pending (swept_on v a) v.parts m.last (v.dead ++ ws)) cell
+      ∙ ap (λ y. done 0 v.taken v.pending (swept_on v c) y m.last (v.dead ++ ws)) parts
+      ∙ ap (λ l. done 0 v.taken v.pending (swept_on v c) z l (v.dead ++ ws)) (sym same_last)
+      ∙ ap (done 0 v.taken v.pending (swept_on v c) z n.last) (sym dead_grows)
+      ∙ ap (λ o. done o v.taken v.pending (swept_on v c) z n.last n.dead) (sym idle.3)
 
   pub rewritten_leaves : HasCause (Rewrote b.ticket b.rewrite.rule first_cell mask) n × Leaves z v c (Rewrote b.ticket b.rewrite.rule first_cell mask) n
   rewritten_leaves = (cause, record { ticket = begun.ticket; rule = rule; first = refl; mask = small; dead = (ws, dead_grows); view = view })
@@ -169,4 +192,4 @@ pub turn_rewrites : (z : Parts) (v m n : View) (c mask : ℕ) (b : Begun) → v.
     → HasCause (Rewrote b.ticket b.rewrite.rule (z.cells + 4 * b.ticket) mask) n × Leaves z v c (Rewrote b.ticket b.rewrite.rule (z.cells + 4 * b.ticket) mask) n
 turn_rewrites z v m n c mask b parts low idle begun linked =
     rewritten_leaves z v m n c mask b linked.dead.0 parts low idle begun linked.mask
-    (linked.view ∙ ap (λ (ds : List ℕ). record m { pending = []; known = n.known; published = m.published ++ masked (z.cells + 4 * b.ticket) mask; dead = ds }) linked.dead.1)
+    (linked.view ∙ ap (λ (ds : List ℕ). record m { pending = []; known = n.known; published = m.published ++ masked (z.cells + 4 * b.ticket) mask; dead = ds; owed = 0 }) linked.dead.1)

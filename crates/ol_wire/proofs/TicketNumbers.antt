@@ -4,7 +4,7 @@ use Rattle.std.proofs.lemmas.Bool.{cases_eq, cases_lt}
 use Rattle.std.proofs.lemmas.Bool.Decides.{nat_tests}
 use Rattle.ol_rules.specs.declared.journal.NodeName.TheVariants.{Init, Born}
 use Rattle.ol_wire.specs.declared.layout.Parts.{Parts}
-use Rattle.ol_wire.specs.Layout.{ticket, port, field, wire, between, left, right, entry, part_of_word, block, place_of, port_word, start_node, start_wire, start_cell, born_wire, born_cell, left_word, cells_of}
+use Rattle.ol_wire.specs.Layout.{ticket, live_word, port, field, wire, between, left, right, entry, part_of_word, block, place_of, port_word, start_node, start_wire, start_cell, born_wire, born_cell, left_word, cells_of}
 use Rattle.ol_wire.specs.Plays.{cell_at}
 use Rattle.ol_wire.proofs.Places.{part_port, part_field, part_wire, part_between, part_entry, part_start_cell, part_born_cell, cell_of_left, is_left}
 
@@ -67,34 +67,37 @@ module _ (z : Parts) where
   pub cell_number : (w : ℕ) → part_of_word z w ≡ left → (c : ℕ) × (c < cells_of z) × (w ≡ left_word z c)
   cell_number w is = elim (cases_eq w 0) [
     | inl e ↦ let bad : ticket ≡ left = ap (part_of_word z) (sym e) ∙ is in absurd (cc)
-    | inr d0 ↦ elim (cases_lt w (start_node z 0)) [
-      | inl a ↦
-          let q : w ≡ port_word (w - 1) = omega (arith, d0) in
-          let bad : port (w - 1) ≡ left = sym (ap (part_of_word z) q ∙ part_port z (w - 1) (omega (arith, d0))) ∙ is in
-          absurd (cc)
-      | inr a ↦ elim (cases_lt w (start_wire z 0)) [
-        | inl b ↦
-            let n = (w - start_node z 0) / 2 in
-            let s = (w - start_node z 0) % 2 in
-            let q : w ≡ place_of z (Init n) + s = omega arith in
-            let bad : field (Init n) s ≡ left = sym (ap (part_of_word z) q ∙ part_field z (Init n) s (omega arith) (omega arith)) ∙ is in
+    | inr d0 ↦ elim (cases_eq w 1) [
+      | inl e ↦ let bad : live_word ≡ left = ap (part_of_word z) (sym e) ∙ is in absurd (cc)
+      | inr d1 ↦ elim (cases_lt w (start_node z 0)) [
+        | inl a ↦
+            let q : w ≡ port_word (w - 2) = omega (arith, d0, d1) in
+            let bad : port (w - 2) ≡ left = sym (ap (part_of_word z) q ∙ part_port z (w - 2) (omega (arith, d0, d1))) ∙ is in
             absurd (cc)
-        | inr b ↦ elim (cases_lt w (start_cell z 0)) [
-          | inl d ↦
-              let n = w - start_wire z 0 in
-              let q : w ≡ start_wire z n = omega arith in
-              let bad : wire n ≡ left = sym (ap (part_of_word z) q ∙ part_wire z n (omega arith)) ∙ is in
+        | inr a ↦ elim (cases_lt w (start_wire z 0)) [
+          | inl b ↦
+              let n = (w - start_node z 0) / 2 in
+              let s = (w - start_node z 0) % 2 in
+              let q : w ≡ place_of z (Init n) + s = omega arith in
+              let bad : field (Init n) s ≡ left = sym (ap (part_of_word z) q ∙ part_field z (Init n) s (omega arith) (omega arith)) ∙ is in
               absurd (cc)
-          | inr d ↦ elim (cases_lt w (block z 0)) [
-            | inl f ↦ elim (cases_eq ((w - start_cell z 0) % 2) 0) [
-              | inl even ↦ numbered_start w ((w - start_cell z 0) / 2) (omega arith) (omega (arith, even))
-              | inr odd ↦
-                  let c = (w - start_cell z 0) / 2 in
-                  let q : w ≡ suc (start_cell z c) = omega (arith, odd) in
-                  let bad : right ≡ left = sym (ap (part_of_word z) q ∙ (part_start_cell z c (omega arith)).1) ∙ is in
-                  absurd (cc)
+          | inr b ↦ elim (cases_lt w (start_cell z 0)) [
+            | inl d ↦
+                let n = w - start_wire z 0 in
+                let q : w ≡ start_wire z n = omega arith in
+                let bad : wire n ≡ left = sym (ap (part_of_word z) q ∙ part_wire z n (omega arith)) ∙ is in
+                absurd (cc)
+            | inr d ↦ elim (cases_lt w (block z 0)) [
+              | inl f ↦ elim (cases_eq ((w - start_cell z 0) % 2) 0) [
+                | inl even ↦ numbered_start w ((w - start_cell z 0) / 2) (omega arith) (omega (arith, even))
+                | inr odd ↦
+                    let c = (w - start_cell z 0) / 2 in
+                    let q : w ≡ suc (start_cell z c) = omega (arith, odd) in
+                    let bad : right ≡ left = sym (ap (part_of_word z) q ∙ (part_start_cell z c (omega arith)).1) ∙ is in
+                    absurd (cc)
+              ]
+              | inr f ↦ in_a_block w ((w - block z 0) / 22) ((w - block z 0) % 22) is (omega (arith, (is_left z w is).1)) (omega arith) (omega arith)
             ]
-            | inr f ↦ in_a_block w ((w - block z 0) / 22) ((w - block z 0) % 22) is (omega (arith, (is_left z w is).1)) (omega arith) (omega arith)
           ]
         ]
       ]

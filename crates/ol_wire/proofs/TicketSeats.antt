@@ -15,7 +15,7 @@ use Rattle.ol_wire.specs.declared.plan.Plan.{Plan}
 use Rattle.ol_wire.specs.declared.view.Link.{Link}
 use Rattle.ol_wire.specs.declared.view.View.{View}
 use Rattle.ol_wire.specs.References.{node_ref}
-use Rattle.ol_wire.specs.Layout.{WordPart, ticket, port, field, wire, between, left, right, entry, past, part_of_word, block, place_of}
+use Rattle.ol_wire.specs.Layout.{WordPart, ticket, live_word, port, field, wire, between, left, right, entry, past, part_of_word, block, place_of}
 use Rattle.ol_wire.specs.Weights.{total, pairs, weighed_by_place}
 use Rattle.ol_wire.specs.Events.{Event, entry_of}
 use Rattle.ol_wire.specs.Edges.{crosses_at, is_wire_made, is_made, times_in, deaths}
@@ -43,6 +43,7 @@ crosses_still log e t q p = elim (cases_lt t (length log)) [
 
 pub made_still : (log : List Event) (e : Event) (x : WordPart) → bit (is_wire_made log x) ≤ bit (is_wire_made (log ++ e ∷ []) x)
 made_still log e ticket = omega arith
+made_still log e live_word = omega arith
 made_still log e (port n) = omega arith
 made_still log e (field x s) = omega arith
 made_still log e (wire j) = omega arith

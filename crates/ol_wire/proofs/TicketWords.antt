@@ -12,7 +12,7 @@ use Rattle.ol_wire.specs.declared.layout.Parts.{Parts}
 use Rattle.ol_wire.specs.declared.plan.Plan.{Plan}
 use Rattle.ol_wire.specs.declared.view.View.{View}
 use Rattle.ol_wire.specs.References.{kind_in, place_in, IsNodeRef}
-use Rattle.ol_wire.specs.Layout.{ticket, field, left, right, entry, part_of_word, block, table_size, place_of, start_cell, start_node}
+use Rattle.ol_wire.specs.Layout.{ticket, live_word, field, left, right, entry, part_of_word, block, table_size, place_of, start_cell, start_node}
 use Rattle.ol_wire.specs.Weights.{total, pairs, weigh, Empties}
 use Rattle.ol_wire.specs.Events.{Event}
 use Rattle.ol_wire.specs.Blocks.{block_words}
@@ -153,6 +153,9 @@ module _ (p : Plan) (s : Table) (k : Kept p s) (id : ℕ) (v : View) (here : get
   pub not_ticket : w ≢ 0
   not_ticket q = let bad : ticket ≡ left = ap (part_of_word z) (sym q) ∙ is_left_word in cc
 
+  pub not_live : w ≢ 1
+  not_live q = let bad : live_word ≡ left = ap (part_of_word z) (sym q) ∙ is_left_word in cc
+
   -- the pair's cell came before the ticket
   pub cell_below : w < block z t
   cell_below = elim (cases_lt w (block z t)) [
@@ -187,11 +190,16 @@ module _ (p : Plan) (s : Table) (k : Kept p s) (id : ℕ) (v : View) (here : get
   pub nodes_are : IsNodeRef e.f × IsNodeRef e.g
   nodes_are = event_of_pair IsNodeRef v.last.0 v.last.1 sides.0 sides.1
 
+  lasting_past : (n : ℕ) → IsLasting (part_of_word z n) → 1 < n
+  lasting_past zero l = absurd l
+  lasting_past (suc zero) l = absurd l
+  lasting_past (suc (suc n)) l = omega arith
+
   field_known : (n y : ℕ) → IsIn (n, y) v.known → (slice_index k.full n ≡ y) × (y ≢ 0) × IsMadeRef z k.log y
   field_known n y i =
       let f = known_full v n y seen i in
-      let g : n ≢ 0 = f.2 in
-      (f.0, f.1, subst (IsMadeRef z k.log) f.0 (k.words.refs n (omega (arith, g)) (λ q. f.1 (sym f.0 ∙ q))))
+      let g = lasting_past n (k.words.known v n y seen i).2 in
+      (f.0, f.1, subst (IsMadeRef z k.log) f.0 (k.words.refs n g (λ q. f.1 (sym f.0 ∙ q))))
 
   -- the fields of f and of g
   pub f_field : (n : ℕ) → n < arity (kind_in e.f) → (slice_index k.full (place_in e.f + n) ≡ a n) × (a n ≢ 0) × IsMadeRef z k.log (a n)
@@ -313,17 +321,17 @@ module _ (p : Plan) (s : Table) (k : Kept p s) (id : ℕ) (v : View) (here : get
 
   -- the two nodes of the pair have been made
   nodes_made : IsMadeRef z k.log e.f × IsMadeRef z k.log e.g
-  nodes_made = event_of_pair (IsMadeRef z k.log) v.last.0 v.last.1 (subst (IsMadeRef z k.log) left_full (k.words.refs w (omega (arith, not_ticket)) (λ q. left_some (sym left_full ∙ q))))
-      (subst (IsMadeRef z k.log) right_full (k.words.refs (suc w) (omega arith) (λ q. right_some (sym right_full ∙ q))))
+  nodes_made = event_of_pair (IsMadeRef z k.log) v.last.0 v.last.1 (subst (IsMadeRef z k.log) left_full (k.words.refs w (omega (arith, not_ticket, not_live)) (λ q. left_some (sym left_full ∙ q))))
+      (subst (IsMadeRef z k.log) right_full (k.words.refs (suc w) (omega (arith, not_ticket)) (λ q. right_some (sym right_full ∙ q))))
 
   pub made_longer : (r : ℕ) → IsMadeRef z k.log r → IsMadeRef z (k.log ++ e ∷ []) r
   made_longer r h = made_on z k.log e r h
 
-  refs : (u : ℕ) → 0 < u → slice_index full' u ≢ 0 → IsMadeRef z (k.log ++ e ∷ []) (slice_index full' u)
+  refs : (u : ℕ) → 1 < u → slice_index full' u ≢ 0 → IsMadeRef z (k.log ++ e ∷ []) (slice_index full' u)
   refs u some_u =
       let n = block z (length (k.log ++ e ∷ [])) in
       let new = block_refs z e t n (omega (arith, log_longer)) (made_longer e.f nodes_made.0) (made_longer e.g nodes_made.1) in
-      by_word (λ u y. y ≢ 0 → IsMadeRef z (k.log ++ e ∷ []) y) (λ j lt. maybe_at n (block_words z e t) new j) (λ d. absurd (d refl)) (λ u d d' y. made_longer (slice_index k.full u) (k.words.refs u (omega (arith, d)) y)) u (λ q. omega (arith, q, some_u))
+      by_word (λ u y. 1 < u → y ≢ 0 → IsMadeRef z (k.log ++ e ∷ []) y) (λ j lt past. maybe_at n (block_words z e t) new j) (λ past d. absurd (d refl)) (λ u d d' past y. made_longer (slice_index k.full u) (k.words.refs u past y)) u (λ q. omega (arith, q, some_u)) some_u
 
   cells : (u : ℕ) → part_of_word z u ≡ left → slice_index full' u ≢ 0 → IsNodeRef (slice_index full' u) × IsNodeRef (slice_index full' (suc u))
   cells u r n =

@@ -1,5 +1,5 @@
 -- How a seat makes the links of its rewrite: one link by exchanges, and then one after the other.
-use Rattle.std.proofs.Common.{◌≡◌, ℕ, zero, suc, ◌+◌, ◌-◌, ◌*◌, ◌/◌, ◌%◌, ◌^◌, ◌<◌, ◌≤◌, ◌⊎◌, Bool, true, false, nat_lt, lt-ltb, if◌then◌else◌, List, [], ◌∷◌, ◌++◌, get_or, sym, refl, ap, ◌∙◌, subst, inl, inr, arith}
+use Rattle.std.proofs.Common.{◌≡◌, ℕ, zero, suc, ◌+◌, ◌-◌, ◌*◌, ◌/◌, ◌%◌, ◌^◌, ◌<◌, ◌≤◌, ◌⊎◌, Bool, true, false, nat_lt, lt-ltb, if◌then◌else◌, Option, Some, None, List, [], ◌∷◌, ◌++◌, get_or, sym, refl, ap, ◌∙◌, subst, inl, inr, arith}
 use Rattle.std.proofs.lemmas.Bool.{cases_lt}
 use Rattle.std.proofs.lemmas.Bool.Decides.{nat_tests}
 use Rattle.ol_net.specs.Parts.{arity}
@@ -17,9 +17,10 @@ use Rattle.ol_wire.specs.Layout.{block, born_cell, place_of, start_cell}
 use Rattle.ol_wire.specs.Blocks.{copies_of_f}
 use Rattle.ol_wire.specs.LinkLists.{born_ref, joins_in, link_of}
 use Rattle.ol_wire.specs.Plays.{cell_at}
-use Rattle.ol_wire.specs.StepPlays.{IsRefOf, moved, rest}
+use Rattle.ol_wire.specs.StepPlays.{IsRefOf, linked, moved, publishing, repaid, rest}
 use Rattle.ol_wire.specs.Rewrites.{event_for}
-use Rattle.ol_wire.specs.Links.{link_between, IsEndOf, IsNext, AreNext, IsLinked}
+use Rattle.ol_wire.specs.Links.{link_between, IsEndOf, IsNext, AreNext, IsLinked, cell_published, active_published}
+use Rattle.ol_wire.specs.Credit.{active_in}
 use Rattle.ol_wire.specs.Turns.{masked}
 use Rattle.ol_wire.specs.TurnParts.{IsBegun, AreLinked}
 use Rattle.ol_wire.proofs.TicketRefs.{joins_few}
@@ -62,6 +63,34 @@ module _ (z : Parts) (v : View) (w a b : ℕ) (n : View) (h : IsLinking z v w a 
     where
       whole : m ≡ record v { pending = link_between w other c ∷ rest v.pending; dead = n.dead ++ u ∷ [] }
       whole = e ∙ ap (λ (x : View). moved x u other c) h.view
+
+-- its pair is published, or a word that was empty has taken an end
+pub link_published : (z : Parts) (v : View) (w a b : ℕ) (t n : View) (x : ℕ) → IsLinking z v w a b t → n ≡ publishing t w → x ≡ active_in a b → IsLinked v w (Some x) n
+link_published z v w a b t n x h e is = record {
+  dead = (h.dead.0, ap (λ (u : View). u.dead) e ∙ h.dead.1);
+  view = whole ∙ ap (λ (q : List (ℕ × ℕ)). shape q t.dead (v.owed - active_in a b)) (sym (ap (λ (u : View). u.known) e)) ∙ ap (λ (q : List ℕ). shape n.known q (v.owed - active_in a b)) (sym (ap (λ (u : View). u.dead) e)) ∙ ap (λ (q : ℕ). shape n.known n.dead (v.owed - q)) (sym is);
+}
+  where
+    shape : List (ℕ × ℕ) → List ℕ → ℕ → View
+    shape known dead owed = record v { pending = rest v.pending; known = known; published = v.published ++ cell_at v.parts w ∷ []; dead = dead; owed = owed }
+
+    whole : n ≡ shape [] t.dead (v.owed - active_in a b)
+    whole = e ∙ ap (λ (u : View). publishing u w) h.view
+
+pub link_taken : (z : Parts) (v : View) (w a b : ℕ) (t n : View) → IsLinking z v w a b t → n ≡ linked t → IsLinked v w None n
+link_taken z v w a b t n h e = record {
+  dead = (h.dead.0, ap (λ (u : View). u.dead) e ∙ h.dead.1);
+  view = whole ∙ ap (λ (q : List (ℕ × ℕ)). shape q t.dead) (sym (ap (λ (u : View). u.known) whole)) ∙ ap (λ (q : List ℕ). shape n.known q) (sym (ap (λ (u : View). u.dead) e)) ∙ ap (λ (q : ℕ). record v { pending = rest v.pending; known = n.known; published = v.published ++ []; dead = n.dead; owed = q }) nothing;
+}
+  where
+    shape : List (ℕ × ℕ) → List ℕ → View
+    shape known dead = record v { pending = rest v.pending; known = known; published = v.published ++ []; dead = dead }
+
+    nothing : v.owed ≡ v.owed - 0
+    nothing = omega arith
+
+    whole : n ≡ shape v.known t.dead
+    whole = e ∙ ap (λ (u : View). linked u) h.view ∙ ap (λ (ps : List ℕ). record v { pending = rest v.pending; published = ps; dead = t.dead }) (sym (append-nil v.published))
 
 -- the first cells of a mask, and one more
 pub masked_more : (first j m : ℕ) → j < 4 → m < 2 ^ j → masked first (m + 2 ^ j) ≡ masked first m ++ (first + j) ∷ []
@@ -109,11 +138,14 @@ one_link_off n j f lt = let e : n - j ≡ suc (n - suc j) = omega (arith, lt) in
 abbrev pub link_in : Parts → Begun → ℕ → Link
 link_in z b j = link_of z (event_for b.rewrite) b.ticket (λ s. get_or b.of_f s 0) (λ s. get_or b.of_g s 0) j
 
--- The links of a rewrite in the midst of their making: those from join j on are pending.
-pub record AreLinking (z : Parts) (v : View) (b : Begun) (j m : ℕ) (n : View) : Type 0 where
+-- The links of a rewrite in the midst of their making: those from join j on are pending, and o is what is owed.
+pub record AreLinking (z : Parts) (v : View) (b : Begun) (j m o : ℕ) (n : View) : Type 0 where
   pub mask : m < 2 ^ j
+  pub owed : n.owed ≡ o
+  -- each link has paid one at most
+  pub most : suc (joins_in (event_for b.rewrite)) ≤ o + j
   pub dead : (ws : List ℕ) × (n.dead ≡ v.dead ++ ws)
-  pub view : n ≡ record v { pending = links_from (joins_in (event_for b.rewrite) - j) j (link_in z b); known = n.known; published = v.published ++ masked (z.cells + 4 * b.ticket) m; dead = n.dead }
+  pub view : n ≡ record v { pending = links_from (joins_in (event_for b.rewrite) - j) j (link_in z b); known = n.known; published = v.published ++ masked (z.cells + 4 * b.ticket) m; dead = n.dead; owed = n.owed }
 
 pub cell_of_born : (z : Parts) (t j : ℕ) → j < 4 → cell_at z (born_cell z t j) ≡ z.cells + 4 * t + j
 cell_of_born z t j few =
@@ -129,8 +161,8 @@ module _ (z : Parts) (v : View) (b : Begun) (begun : IsBegun z v b) where
   abbrev first_cell : ℕ
   first_cell = z.cells + 4 * b.ticket
 
-  pub all_begin : AreLinking z v b 0 0 v
-  all_begin = record { mask = omega arith; dead = ([], sym (append-nil v.dead)); view = ap (λ (ls : List Link). record v { pending = ls }) pending ∙ ap (λ (ps : List ℕ). record v { pending = links_from (joins - 0) 0 (link_in z b); published = ps }) (sym (append-nil v.published)) }
+  pub all_begin : (o : ℕ) → o ≡ joins + 1 → AreLinking z v b 0 0 o v
+  all_begin o is = record { mask = omega arith; owed = omega (arith, begun.owed, is); most = omega (arith, is); dead = ([], sym (append-nil v.dead)); view = ap (λ (ls : List Link). record v { pending = ls }) pending ∙ ap (λ (ps : List ℕ). record v { pending = links_from (joins - 0) 0 (link_in z b); published = ps }) (sym (append-nil v.published)) }
     where
       all : joins ≡ joins - 0
       all = omega arith
@@ -168,7 +200,7 @@ module _ (z : Parts) (v : View) (b : Begun) (begun : IsBegun z v b) where
       go true q few = (of_f j few, of_g j (omega (arith, few, meeting_alike (kind_in b.rewrite.f) (index_in b.rewrite.f) (kind_in b.rewrite.g) (index_in b.rewrite.g) b.rewrite.rule begun.rule q)))
       go false q few = (born_is_end j, two_of (arity (kind_in b.rewrite.g)) (arity (kind_in b.rewrite.f)) few refl refl)
 
-  module _ (j m : ℕ) (n : View) (h : AreLinking z v b j m n) (lt : j < joins) where
+  module _ (j m o : ℕ) (n : View) (h : AreLinking z v b j m o n) (lt : j < joins) where
     pending_now : n.pending ≡ link_in z b j ∷ links_from (joins - suc j) (suc j) (link_in z b)
     pending_now = ap (λ (u : View). u.pending) h.view ∙ one_link_off joins j (link_in z b) lt
 
@@ -182,19 +214,23 @@ module _ (z : Parts) (v : View) (b : Begun) (begun : IsBegun z v b) where
 
     module _ (parts : v.parts ≡ z) (k : View) where
       abbrev shape : List Link → List ℕ → View
-      shape ls ps = record v { pending = ls; known = k.known; published = ps; dead = k.dead }
+      shape ls ps = record v { pending = ls; known = k.known; published = ps; dead = k.dead; owed = k.owed }
 
-      linked_dead : (p : Bool) → IsLinked n (born_cell z b.ticket j) p k → (ws : List ℕ) × (k.dead ≡ v.dead ++ ws)
+      linked_owed : (p : Option ℕ) → IsLinked n (born_cell z b.ticket j) p k → k.owed ≡ n.owed - active_published p
+      linked_owed p made = ap (λ (u : View). u.owed) made.view
+
+      linked_dead : (p : Option ℕ) → IsLinked n (born_cell z b.ticket j) p k → (ws : List ℕ) × (k.dead ≡ v.dead ++ ws)
       linked_dead p made = (h.dead.0 ++ made.dead.0, made.dead.1 ∙ ap (λ ws. ws ++ made.dead.0) h.dead.1 ∙ append_assoc v.dead h.dead.0 made.dead.0)
 
-      linked_view : (p : Bool) → IsLinked n (born_cell z b.ticket j) p k → k ≡ shape (links_from (joins - suc j) (suc j) (link_in z b)) ((v.published ++ masked first_cell m) ++ (if p then cell_at v.parts (born_cell z b.ticket j) ∷ [] else []))
+      linked_view : (p : Option ℕ) → IsLinked n (born_cell z b.ticket j) p k → k ≡ shape (links_from (joins - suc j) (suc j) (link_in z b)) ((v.published ++ masked first_cell m) ++ cell_published v.parts (born_cell z b.ticket j) p)
       linked_view p made =
-          made.view ∙ ap (λ (u : View). record u { pending = rest u.pending; known = k.known; published = u.published ++ (if p then cell_at u.parts (born_cell z b.ticket j) ∷ [] else []); dead = k.dead }) h.view
-          ∙ ap (λ (ls : List Link). shape (rest ls) ((v.published ++ masked first_cell m) ++ (if p then cell_at v.parts (born_cell z b.ticket j) ∷ [] else []))) (one_link_off joins j (link_in z b) lt)
+          made.view ∙ ap (λ (q : ℕ). record n { pending = rest n.pending; known = k.known; published = n.published ++ cell_published n.parts (born_cell z b.ticket j) p; dead = k.dead; owed = q }) (sym (linked_owed p made))
+          ∙ ap (λ (u : View). record u { pending = rest u.pending; known = k.known; published = u.published ++ cell_published u.parts (born_cell z b.ticket j) p; dead = k.dead; owed = k.owed }) h.view
+          ∙ ap (λ (ls : List Link). shape (rest ls) ((v.published ++ masked first_cell m) ++ cell_published v.parts (born_cell z b.ticket j) p)) (one_link_off joins j (link_in z b) lt)
 
       -- the next link was made, and its pair was published
-      pub one_published : IsLinked n (born_cell z b.ticket j) true k → AreLinking z v b (suc j) (m + 2 ^ j) k
-      one_published made = record { mask = low; dead = linked_dead true made; view = linked_view true made ∙ ap (shape (links_from (joins - suc j) (suc j) (link_in z b))) published }
+      pub one_published : (a : ℕ) → a ≤ 1 → IsLinked n (born_cell z b.ticket j) (Some a) k → AreLinking z v b (suc j) (m + 2 ^ j) (o - a) k
+      one_published a small made = record { mask = low; owed = linked_owed (Some a) made ∙ ap (λ q. q - a) h.owed; most = omega (arith, h.most, small, lt); dead = linked_dead (Some a) made; view = linked_view (Some a) made ∙ ap (shape (links_from (joins - suc j) (suc j) (link_in z b))) published }
         where
           few : j < 4
           few = omega (arith, lt, joins_few (event_for b.rewrite))
@@ -209,26 +245,45 @@ module _ (z : Parts) (v : View) (b : Begun) (begun : IsBegun z v b) where
           published = ap (λ (i : ℕ). (v.published ++ masked first_cell m) ++ i ∷ []) cell ∙ append_assoc v.published (masked first_cell m) ((first_cell + j) ∷ []) ∙ ap (λ ps. v.published ++ ps) (sym (masked_more first_cell j m few h.mask))
 
       -- it was made by a word that had been empty
-      pub none_published : IsLinked n (born_cell z b.ticket j) false k → AreLinking z v b (suc j) m k
-      none_published made = record { mask = omega (arith, h.mask); dead = linked_dead false made; view = linked_view false made ∙ ap (shape (links_from (joins - suc j) (suc j) (link_in z b))) (append-nil (v.published ++ masked first_cell m)) }
+      pub none_published : IsLinked n (born_cell z b.ticket j) None k → AreLinking z v b (suc j) m o k
+      none_published made = record { mask = omega (arith, h.mask); owed = omega (arith, linked_owed None made, h.owed); most = omega (arith, h.most); dead = linked_dead None made; view = linked_view None made ∙ ap (shape (links_from (joins - suc j) (suc j) (link_in z b))) (append-nil (v.published ++ masked first_cell m)) }
 
       -- either way
-      pub one_more : (p : Bool) (w mask : ℕ) → w ≡ born_cell z b.ticket j → IsLinked n w p k → (p ≡ true → mask ≡ m + 2 ^ j) → (p ≡ false → mask ≡ m) → AreLinking z v b (j + 1) mask k
-      one_more p w mask cell made with_bit without = subst (λ (i : ℕ). AreLinking z v b i mask k) next (of p made with_bit without)
-        where
-          next : suc j ≡ j + 1
-          next = omega arith
+      next : suc j ≡ j + 1
+      next = omega arith
 
-          of : (q : Bool) → IsLinked n w q k → (q ≡ true → mask ≡ m + 2 ^ j) → (q ≡ false → mask ≡ m) → AreLinking z v b (suc j) mask k
-          of true made f g = subst (λ (i : ℕ). AreLinking z v b (suc j) i k) (sym (f refl)) (one_published (subst (λ (u : ℕ). IsLinked n u true k) cell made))
-          of false made f g = subst (λ (i : ℕ). AreLinking z v b (suc j) i k) (sym (g refl)) (none_published (subst (λ (u : ℕ). IsLinked n u false k) cell made))
+      pub more_published : (a w mask left : ℕ) → w ≡ born_cell z b.ticket j → a ≤ 1 → IsLinked n w (Some a) k → mask ≡ m + 2 ^ j → left ≡ o - a → AreLinking z v b (j + 1) mask left k
+      more_published a w mask left cell small made with_bit paid =
+          subst (λ (i : ℕ). AreLinking z v b i mask left k) next (subst (λ (i : ℕ). AreLinking z v b (suc j) i left k) (sym with_bit) (subst (λ (i : ℕ). AreLinking z v b (suc j) (m + 2 ^ j) i k) (sym paid) (one_published a small (subst (λ (u : ℕ). IsLinked n u (Some a) k) cell made))))
+
+      pub more_made : (w mask left : ℕ) → w ≡ born_cell z b.ticket j → IsLinked n w None k → mask ≡ m → left ≡ o → AreLinking z v b (j + 1) mask left k
+      more_made w mask left cell made same paid =
+          subst (λ (i : ℕ). AreLinking z v b i mask left k) next (subst (λ (i : ℕ). AreLinking z v b (suc j) i left k) (sym same) (subst (λ (i : ℕ). AreLinking z v b (suc j) m i k) (sym paid) (none_published (subst (λ (u : ℕ). IsLinked n u None k) cell made))))
+
+  pub none_left : (m o : ℕ) (n : View) → AreLinking z v b joins m o n → n.pending ≡ []
+  none_left m o n h =
+      let none : joins - joins ≡ 0 = omega arith in
+      ap (λ (u : View). u.pending) h.view ∙ ap (λ (k : ℕ). links_from k joins (link_in z b)) none
 
   -- none is pending any more
-  pub all_linked : (m : ℕ) (n : View) → AreLinking z v b joins m n → AreLinked z v b m n
-  all_linked m n h = record { mask = low joins (joins_few (event_for b.rewrite)) h.mask; dead = h.dead; view = h.view ∙ ap (λ (k : ℕ). record v { pending = links_from k joins (link_in z b); known = n.known; published = v.published ++ masked first_cell m; dead = n.dead }) none_left }
+  pub all_linked : (m o : ℕ) (n k : View) → AreLinking z v b joins m o n → k ≡ repaid n o → AreLinked z v b m k
+  all_linked m o n k h repays = record {
+    mask = low joins (joins_few (event_for b.rewrite)) h.mask;
+    dead = (h.dead.0, ap (λ (u : View). u.dead) repays ∙ h.dead.1);
+    view = whole ∙ ap (λ (q : List (ℕ × ℕ)). record v { pending = []; known = q; published = v.published ++ masked first_cell m; dead = n.dead; owed = 0 }) (sym (ap (λ (u : View). u.known) repays))
+        ∙ ap (λ (q : List ℕ). record v { pending = []; known = k.known; published = v.published ++ masked first_cell m; dead = q; owed = 0 }) (sym (ap (λ (u : View). u.dead) repays));
+  }
     where
-      none_left : joins - joins ≡ 0
-      none_left = omega arith
+      no_more : joins - joins ≡ 0
+      no_more = omega arith
+
+      nothing : n.owed - o ≡ 0
+      nothing = omega (arith, h.owed)
+
+      whole : k ≡ record v { pending = []; known = n.known; published = v.published ++ masked first_cell m; dead = n.dead; owed = 0 }
+      whole =
+          repays ∙ ap (λ (q : ℕ). record n { owed = q }) nothing ∙ ap (λ (u : View). record u { owed = 0 }) h.view
+          ∙ ap (λ (i : ℕ). record v { pending = links_from i joins (link_in z b); known = n.known; published = v.published ++ masked first_cell m; dead = n.dead; owed = 0 }) no_more
 
       low : (k : ℕ) → k ≤ 4 → m < 2 ^ k → m < 16
       low zero le lt = omega (arith, lt)

@@ -9,11 +9,11 @@ use Rattle.ol_rules.specs.declared.journal.NodeName.TheVariants.{Init, Born}
 use Rattle.ol_rules.proofs.Born.{at_most_two}
 use Rattle.ol_wire.specs.declared.layout.Parts.{Parts}
 use Rattle.ol_wire.specs.References.{node_ref, wire_ref, slot_ref}
-use Rattle.ol_wire.specs.Layout.{WordPart, ticket, port, field, wire, between, left, right, entry, part_of_word, table_size, place_of, IsPlaced}
+use Rattle.ol_wire.specs.Layout.{WordPart, ticket, live_word, port, field, wire, between, left, right, entry, part_of_word, table_size, place_of, IsPlaced}
 use Rattle.ol_wire.specs.Weights.{total, pairs}
 use Rattle.ol_wire.specs.EvenWeights.{Even}
 use Rattle.ol_wire.specs.Edges.{is_live, edge_to, edge_in, edges_in}
-use Rattle.ol_wire.proofs.Places.{part_field, is_left, place_before, place_same, At, at_ticket, at_port, at_field, at_wire, at_between, at_left, at_right, at_entry, at_past, where_is}
+use Rattle.ol_wire.proofs.Places.{part_field, is_left, place_before, place_same, At, at_ticket, at_live, at_port, at_field, at_wire, at_between, at_left, at_right, at_entry, at_past, where_is}
 use Rattle.ol_wire.proofs.Alike.{Alike, pairs_append}
 use Rattle.ol_wire.proofs.Event.{field_edges, old_edges}
 use Rattle.ol_wire.proofs.EdgeList.{word_edge, live_there}
@@ -122,6 +122,7 @@ module _ (z : Parts) (N : NamedNet NodeName) (full : List ℕ) (reached : ℕ �
   -- all other words have the same edges
   others_same : (v : ℕ) → v < table_size z → (IsIn v places → ⊥) → At z v → word_edge z N reached full v ≡ word_edge z rest reached less v
   others_same v lt n (at_ticket e) = let q : part_of_word z v ≡ ticket = ap (part_of_word z) e in edge_as z N reached full v ticket q ∙ sym (edge_as z rest reached less v ticket q)
+  others_same v lt n (at_live e) = let q : part_of_word z v ≡ live_word = ap (part_of_word z) e in edge_as z N reached full v live_word q ∙ sym (edge_as z rest reached less v live_word q)
   others_same v lt n (at_port m b e q) = edge_as z N reached full v (port m) q ∙ ap (edge_to (wire_ref v)) (word_stays v (λ d. n (inl d))) ∙ sym (edge_as z rest reached less v (port m) q)
   others_same v lt n (at_field u s p b e q) =
       let live : is_live N u ≡ is_live rest u = sym (others_stay x y N u (λ d. n (in_x v s b (e ∙ ap (λ u. place_of z u + s) d))) (λ d. n (in_y v s b (e ∙ ap (λ u. place_of z u + s) d)))) in

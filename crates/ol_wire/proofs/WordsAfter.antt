@@ -11,13 +11,13 @@ use Rattle.ol_rules.specs.Rewriting.{meeting, crossing, is_meeting, index_after,
 use Rattle.ol_rules.specs.Listed.{each}
 use Rattle.ol_wire.specs.declared.layout.Parts.{Parts}
 use Rattle.ol_wire.specs.References.{kind_in, node_ref, wire_ref, slot_ref}
-use Rattle.ol_wire.specs.Layout.{ticket, port, field, wire, between, left, right, entry, part_of_word, block, table_size, place_of, born_wire, IsPlaced}
+use Rattle.ol_wire.specs.Layout.{ticket, live_word, port, field, wire, between, left, right, entry, part_of_word, block, table_size, place_of, born_wire, IsPlaced}
 use Rattle.ol_wire.specs.Weights.{pairs}
 use Rattle.ol_wire.specs.Events.{Event}
 use Rattle.ol_wire.specs.Blocks.{copies_of_f, copies_of_g, born_field, block_words}
 use Rattle.ol_wire.specs.Edges.{is_live, edge_to, edges_in}
 use Rattle.ol_wire.proofs.References.{kind_of_ref}
-use Rattle.ol_wire.proofs.Places.{part_field, part_entry, At, at_ticket, at_port, at_field, at_wire, at_between, at_left, at_right, at_entry, at_past, where_is}
+use Rattle.ol_wire.proofs.Places.{part_field, part_entry, At, at_ticket, at_live, at_port, at_field, at_wire, at_between, at_left, at_right, at_entry, at_past, where_is}
 use Rattle.ol_wire.proofs.Alike.{Alike, pairs_append}
 use Rattle.ol_wire.proofs.Event.{born_edges}
 use Rattle.ol_wire.proofs.EdgeList.{word_edge, live_there, live_found, live_same}
@@ -164,6 +164,7 @@ module _ (z : Parts) (N M : NamedNet NodeName) (less full : List ℕ) (reached r
   -- the words but the fields of the block have the same edges
   same_edge : (v : ℕ) → v < table_size z → (v < block z t + 2) ⊎ (block z t + 10 ≤ v) → At z v → word_edge z M reached' full v ≡ word_edge z others_net reached less v
   same_edge v lt out (at_ticket g) = let q : part_of_word z v ≡ ticket = ap (part_of_word z) g in edge_as z M reached' full v ticket q ∙ sym (edge_as z others_net reached less v ticket q)
+  same_edge v lt out (at_live g) = let q : part_of_word z v ≡ live_word = ap (part_of_word z) g in edge_as z M reached' full v live_word q ∙ sym (edge_as z others_net reached less v live_word q)
   same_edge v lt out (at_port m b g q) = edge_as z M reached' full v (port m) q ∙ ap (edge_to (wire_ref v)) (c.others v (omega arith) (inl (omega arith))) ∙ sym (edge_as z others_net reached less v (port m) q)
   same_edge v lt out (at_field u s p b g q) = edge_as z M reached' full v (field u s) q ∙ go (cases_lt v (block z t)) ∙ sym (edge_as z others_net reached less v (field u s) q)
     where

@@ -1,5 +1,5 @@
 -- A table that no thread shares any more, the journal that its words tell, and the net after it.
-use Rattle.std.specs.Prelude.{◌≡◌, ℕ, ◌+◌, ◌⊎◌, nat_lt, if◌then◌else◌, List, [], ◌∷◌, Some, slice_index, slice_get, ◌<◌, ◌≤◌, length}
+use Rattle.std.specs.Prelude.{◌≡◌, ℕ, ◌+◌, ◌⊎◌, nat_lt, if◌then◌else◌, true, List, [], ◌∷◌, Some, slice_index, slice_get, ◌<◌, ◌≤◌, length}
 use Rattle.ol_net.specs.declared.parts.Kind.{Kind}
 use Rattle.ol_net.specs.Nets.{NamedNet, HasNode, SameNet}
 use Rattle.ol_rules.specs.declared.journal.NodeName.{NodeName}
@@ -86,6 +86,10 @@ IsFuelUsed w = events_drawn w ≡ w.plan.parts.fuel
 -- the seat has swept all cells
 abbrev pub HasSweptAll : ClosedTable → Type 0
 HasSweptAll w = w.view.swept ≡ cells_of w.plan.parts
+
+-- the seat, or one that was joined to it, has read 0 in the live word
+abbrev pub HasSettled : ClosedTable → Type 0
+HasSettled w = w.view.settled ≡ true
 
 -- there is a word of that number, and this is it
 abbrev pub HasWord : List ℕ → ℕ → ℕ → Type 0

@@ -12,12 +12,14 @@ use Rattle.ol_wire.specs.Sizes.{IsSmall}
 use Rattle.ol_wire.specs.Closed.{ClosedTable, closed_of}
 use Rattle.ol_wire.specs.Idle.{IsIdle}
 use Rattle.ol_wire.specs.Rule.{Table, Kept}
+use Rattle.ol_wire.specs.Credit.{Credited}
 use Rattle.std.specs.declared.alloc.Global.{Global}
 
 -- All seats of the table stood in the one with this view, which held nothing.
 pub record IsClosed (w : ClosedTable) : Type 0 where
   pub table : Table
   pub kept : Kept w.plan table
+  pub credit : Credited w.plan table
   pub words : table.words ≡ w.words
   pub id : ℕ
   pub seat : get_elem? table.views id ≡ some w.view

@@ -10,7 +10,7 @@ use Rattle.ol_wire.specs.declared.layout.Parts.{Parts}
 use Rattle.ol_wire.specs.declared.view.Link.{Link}
 use Rattle.ol_wire.specs.declared.view.View.{View}
 use Rattle.ol_wire.specs.References.{kind_in, wire_ref, slot_ref}
-use Rattle.ol_wire.specs.Layout.{WordPart, ticket, port, field, wire, between, left, right, entry, past, part_of_word, table_size}
+use Rattle.ol_wire.specs.Layout.{WordPart, ticket, live_word, port, field, wire, between, left, right, entry, past, part_of_word, table_size}
 use Rattle.ol_wire.specs.Events.{Event}
 use Rattle.ol_wire.specs.Weights.{total}
 
@@ -67,6 +67,7 @@ edge_in net reached left w word next = if word == 0 then [] else (word, next) âˆ
 edge_in net reached right w word next = []
 edge_in net reached entry w word next = []
 edge_in net reached ticket w word next = []
+edge_in net reached live_word w word next = []
 edge_in net reached past w word next = []
 
 -- The edges of the first n words: of each free port, each field of a live node, each reached wire and each cell that isn't empty.

@@ -1,5 +1,5 @@
 -- What a seat has in hand in the midst of a call: a claimed pair, and what it has read of its nodes.
-use Rattle.std.specs.Prelude.{◌≡◌, ℕ, ◌+◌, [], ◌∷◌, ◌++◌, Some}
+use Rattle.std.specs.Prelude.{◌≡◌, ℕ, [], ◌∷◌, ◌++◌, Some}
 use Rattle.ol_wire.specs.declared.view.View.{View}
 use Rattle.ol_wire.specs.Events.{rule_between, IsStuckPair}
 use Rattle.ol_wire.specs.Plays.{event_in, swept_on}

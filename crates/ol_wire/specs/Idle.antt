@@ -2,6 +2,6 @@
 use Rattle.std.specs.Prelude.{◌≡◌, []}
 use Rattle.ol_wire.specs.declared.view.View.{View}
 
--- it holds no pair, no word and no link
+-- it holds no pair, no word and no link, and owes nothing
 abbrev pub IsIdle : View → Type 0
-IsIdle v = (v.taken ≡ []) × (v.due ≡ []) × (v.pending ≡ [])
+IsIdle v = (v.taken ≡ []) × (v.due ≡ []) × (v.pending ≡ []) × (v.owed ≡ 0)

@@ -6,7 +6,7 @@ use Rattle.ol_wire.specs.declared.layout.Parts.{Parts}
 use Rattle.ol_wire.specs.declared.view.View.{View}
 use Rattle.ol_wire.specs.References.{kind_in, place_in}
 use Rattle.ol_wire.specs.Events.{entry_of}
-use Rattle.ol_wire.specs.LinkLists.{links_of}
+use Rattle.ol_wire.specs.LinkLists.{links_of, joins_in}
 use Rattle.ol_wire.specs.Plays.{event_in, cell_at, swept_on}
 use Rattle.ol_wire.specs.StepPlays.{IsNodeOf, IsRefOf, cell_in_hand, paired, ticketed, late}
 use Rattle.ol_wire.specs.Stand.{TableState}
@@ -69,6 +69,7 @@ pub record Rewrote (v : View) (t : ℕ) (of_f of_g : List ℕ) (n : View) : Type
     swept = swept_on v (cell_at v.parts (cell_in_hand v.taken));
     made = v.made ++ (t, entry_of v.parts (event_in v)) ∷ [];
     pending = n.pending;
+    owed = suc (joins_in (event_in v));
   }
   pub links : n.pending ≡ links_of v.parts (event_in v) t (λ s. slice_index of_f s) (λ s. slice_index of_g s)
 
@@ -79,9 +80,9 @@ HasTaken b v c found n = MatchOption found (n ≡ missed v c) (λ (pair : ℕ ×
 abbrev pub AreNodesOf : Parts → ℕ × ℕ → Type 0
 AreNodesOf z pair = IsNodeOf z pair.0 × IsNodeOf z pair.1
 
--- the view has nothing to write and no link to make, and no ticket at or above the fuel
+-- the view has nothing to write and no link to make, no ticket at or above the fuel, and owes nothing
 abbrev pub MayDraw : View → Type 0
-MayDraw v = (v.due ≡ []) × (v.pending ≡ []) × (v.over ≡ false)
+MayDraw v = (v.due ≡ []) × (v.pending ≡ []) × (v.over ≡ false) × (v.owed ≡ 0)
 
 -- each pair in hand stays there
 abbrev pub KeepsInHand : View → View → Type 0

@@ -5,23 +5,23 @@ use Rattle.ol_rules.specs.declared.journal.NodeName.{NodeName}
 use Rattle.ol_rules.specs.declared.journal.NodeName.TheVariants.{Init, Born}
 use Rattle.ol_wire.specs.declared.layout.Parts.{Parts}
 
--- word 0 is the ticket word
+-- word 0 is the ticket word, and word 1 the live word
 abbrev pub port_word : ℕ → ℕ
-port_word k = 1 + k
+port_word k = 2 + k
 
 abbrev pub start_node : Parts → ℕ → ℕ
-start_node z k = 1 + z.free + 2 * k
+start_node z k = 2 + z.free + 2 * k
 
 abbrev pub start_wire : Parts → ℕ → ℕ
-start_wire z j = 1 + z.free + 2 * z.nodes + j
+start_wire z j = 2 + z.free + 2 * z.nodes + j
 
 -- the left word of a cell of the start; its right word is the next one
 abbrev pub start_cell : Parts → ℕ → ℕ
-start_cell z c = 1 + z.free + 2 * z.nodes + z.wires + 2 * c
+start_cell z c = 2 + z.free + 2 * z.nodes + z.wires + 2 * c
 
 -- The 22 words of a ticket: the two nodes of its entry, two fields for each of four nodes, four wires, and the left and right words of four cells.
 abbrev pub block : Parts → ℕ → ℕ
-block z t = 1 + z.free + 2 * z.nodes + z.wires + 2 * z.cells + 22 * t
+block z t = 2 + z.free + 2 * z.nodes + z.wires + 2 * z.cells + 22 * t
 
 abbrev pub table_size : Parts → ℕ
 table_size z = block z z.fuel
@@ -47,6 +47,7 @@ cells_of z = z.cells + 4 * z.fuel
 
 pub data WordPart : Type 0 where
   ticket : WordPart
+  live_word : WordPart
   -- the word of a free port, by number
   port : ℕ → WordPart
   -- the field of slot s + 1 of a node
@@ -71,7 +72,8 @@ part_in_block t j =
 abbrev pub part_of_word : Parts → ℕ → WordPart
 part_of_word z w =
     if w == 0 then ticket
-    else if nat_lt w (start_node z 0) then port (w - 1)
+    else if w == 1 then live_word
+    else if nat_lt w (start_node z 0) then port (w - 2)
     else if nat_lt w (start_wire z 0) then field (Init ((w - start_node z 0) / 2)) ((w - start_node z 0) % 2)
     else if nat_lt w (start_cell z 0) then wire (w - start_wire z 0)
     else if nat_lt w (block z 0) then (if (w - start_cell z 0) % 2 == 0 then left else right)

@@ -12,6 +12,7 @@ pub mod Weights
 pub mod Views
 pub mod Rule
 pub mod Still
+pub mod Credit
 pub mod Moments
 pub mod Plays
 pub mod LinkPlays

@@ -1,5 +1,5 @@
 -- Private: a link that a seat makes: its two ends, and what is left once it is made.
-use Rattle.std.specs.Prelude.{◌≡◌, ℕ, ◌<◌, ◌⊎◌, Bool, if◌then◌else◌, List, [], ◌∷◌, ◌++◌, MatchOption, Option, ◌+◌, ◌≤◌}
+use Rattle.std.specs.Prelude.{◌≡◌, ℕ, ◌<◌, ◌⊎◌, ◌-◌, List, [], ◌∷◌, ◌++◌, MatchOption, Option, None, Some, ◌+◌, ◌≤◌}
 use Rattle.ol_wire.specs.declared.layout.Parts.{Parts}
 use Rattle.ol_wire.specs.declared.view.Link.{Link}
 use Rattle.ol_wire.specs.declared.view.View.{View}
@@ -28,14 +28,24 @@ pub record AreNext (v : View) (a b : ℕ) : Type 0 where
   pub pending : v.pending ≡ link ∷ rest v.pending
   pub between : IsBetween link a b
 
+-- the cell with left word w, where its pair was published, and whether the pair is active, as a number
+abbrev pub cell_published : Parts → ℕ → Option ℕ → List ℕ
+cell_published z w None = []
+cell_published z w (Some active) = cell_at z w ∷ []
+
+abbrev pub active_published : Option ℕ → ℕ
+active_published None = 0
+active_published (Some active) = active
+
 -- The first link, of the cell with left word w, is made. Wires may have died, and its pair may have been published.
-pub record IsLinked (v : View) (w : ℕ) (published : Bool) (n : View) : Type 0 where
+pub record IsLinked (v : View) (w : ℕ) (published : Option ℕ) (n : View) : Type 0 where
   pub dead : (ws : List ℕ) × (n.dead ≡ v.dead ++ ws)
   pub view : n ≡ record v {
     pending = rest v.pending;
     known = n.known;
-    published = v.published ++ (if published then cell_at v.parts w ∷ [] else []);
+    published = v.published ++ cell_published v.parts w published;
     dead = n.dead;
+    owed = v.owed - active_published published;
   }
 
 -- an end that is no node, and the other one

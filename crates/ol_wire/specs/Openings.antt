@@ -6,7 +6,7 @@ use Rattle.ol_wire.specs.declared.plan.Plan.{Plan}
 use Rattle.ol_wire.specs.declared.view.View.{View}
 use Rattle.ol_wire.specs.Views.{fresh}
 use Rattle.ol_net.specs.Graph.{Graph}
-use Rattle.ol_wire.specs.Rule.{Kept}
+use Rattle.ol_wire.specs.Credit.{IsRuled}
 
 -- a view that has done nothing, of a seat that holds all
 abbrev pub opener : Plan → View
@@ -15,4 +15,4 @@ opener p = fresh p.parts p.start.value p.seats p.seats
 -- the words of a net with these parts meet the rule, whatever number of seats up to 64 is made over them
 abbrev pub Opens : Graph → Parts → List ℕ → Type 0
 Opens net z words = (p : Plan) → p.parts ≡ z → p.start.value ≡ net → 0 < p.seats → p.seats ≤ 64
-    → Kept p (opening words [] (opener p))
+    → IsRuled p (opening words [] (opener p))

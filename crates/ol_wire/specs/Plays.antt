@@ -1,5 +1,5 @@
 -- What each kind of step tells: of the step, the seat before, the word found and the seat after.
-use Rattle.std.specs.Prelude.{ℕ, suc, ◌+◌, ◌-◌, ◌*◌, ◌/◌, ◌%◌, nat_eq, nat_lt, if◌then◌else◌, ◌++◌, ◌&&◌, ◌||◌}
+use Rattle.std.specs.Prelude.{ℕ, suc, ◌+◌, ◌-◌, ◌*◌, ◌/◌, ◌%◌, nat_eq, nat_lt, if◌then◌else◌, [], ◌∷◌, ◌++◌, ◌&&◌, ◌||◌}
 use Rattle.ol_wire.specs.declared.layout.Parts.{Parts}
 use Rattle.ol_wire.specs.declared.view.View.{View}
 use Rattle.ol_wire.specs.Layout.{block, start_cell}
@@ -29,4 +29,11 @@ joined v w = record v {
   holds = v.holds + w.holds;
   dead = v.dead ++ w.dead;
   swept = 0;
+  owed = v.owed + w.owed;
+  settled = v.settled || w.settled;
+  looked = v.looked ++ w.looked;
 }
+
+-- a look at the live word, which read n
+abbrev pub live_read : View → ℕ → View
+live_read v n = record v { looked = v.looked ++ n ∷ []; settled = v.settled || nat_eq n 0 }

@@ -27,7 +27,7 @@ use Rattle.ol_wire.specs.Blocks.{block_words}
 use Rattle.ol_wire.specs.Sizes.{IsSmall}
 use Rattle.ol_wire.specs.Edges.{is_made, is_reached, times_in, deaths, edges_of, links_in}
 use Rattle.ol_wire.specs.Stands.{StandsForNet}
-use Rattle.ol_wire.specs.Views.{fresh, IsSpentView, past_fuel}
+use Rattle.ol_wire.specs.Views.{IsSpentView, past_fuel}
 use Rattle.ol_wire.specs.Plays.{cell_at}
 
 abbrev pub Table : Type 0
@@ -117,8 +117,8 @@ pub record WordsKeep (p : Plan) (s : Table) (log : List Event) (full : List ℕ)
   pub full_wide : length full ≡ table_size p.parts
   pub written : (h : ℕ → ℕ → ℕ) → Empties h
       → weigh h s.words (table_size p.parts) + total (λ (v : View). pairs h v.due + pairs h v.taken) s.views ≡ weigh h full (table_size p.parts)
-  -- each word but the ticket word holds a reference, and the words of a cell hold nodes
-  pub refs : (w : ℕ) → 0 < w → slice_index full w ≢ 0 → IsMadeRef p.parts log (slice_index full w)
+  -- each word behind the ticket word and the live word holds a reference, and the words of a cell hold nodes
+  pub refs : (w : ℕ) → 1 < w → slice_index full w ≢ 0 → IsMadeRef p.parts log (slice_index full w)
   pub cells : (w : ℕ) → part_of_word p.parts w ≡ left → slice_index full w ≢ 0
       → IsNodeRef (slice_index full w) × IsNodeRef (slice_index full (suc w))
   -- a field of the start is as it was, and so is a cell, or its left word is empty

@@ -11,7 +11,8 @@ use Rattle.ol_wire.specs.References.{IsNodeRef, IsWireRef, kind_in, index_in, pl
 use Rattle.ol_wire.specs.Layout.{block, table_size}
 use Rattle.ol_wire.specs.Events.{rule_between, entry_of}
 use Rattle.ol_wire.specs.Blocks.{block_words}
-use Rattle.ol_wire.specs.LinkLists.{to_write, links_of}
+use Rattle.ol_wire.specs.LinkLists.{to_write, links_of, joins_in}
+use Rattle.ol_wire.specs.Credit.{active_in}
 use Rattle.ol_wire.specs.Views.{fresh}
 use Rattle.ol_wire.specs.Plays.{cell_at, event_in, swept_on}
 
@@ -63,10 +64,19 @@ pub record IsLookedUp (v : View) (w : ℕ) : Type 0 where
   pub nothing_pending : v.pending ≡ []
   pub right : IsIn (suc w, v.last.1) v.known
   pub rule : rule_between (event_in v).f (event_in v).g ≡ Some (event_in v).rule
+  -- the links that the ticket will leave are owed
+  pub owed : v.owed ≡ joins_in (event_in v)
   pub f_fields : (s : ℕ) → s < arity (kind_in (event_in v).f)
       → IsIn (place_in (event_in v).f + s, known_at v.known (place_in (event_in v).f + s)) v.known
   pub g_fields : (s : ℕ) → s < arity (kind_in (event_in v).g)
       → IsIn (place_in (event_in v).g + s, known_at v.known (place_in (event_in v).g + s)) v.known
+
+-- n pairs more are owed, or n fewer
+abbrev pub owing : View → ℕ → View
+owing v n = record v { owed = v.owed + n }
+
+abbrev pub repaid : View → ℕ → View
+repaid v n = record v { owed = v.owed - n }
 
 -- a ticket below the fuel
 abbrev pub ticketed : View → ℕ → View
@@ -74,6 +84,7 @@ ticketed v t = record v {
   taken = rest v.taken;
   known = [];
   swept = swept_on v (cell_at v.parts (cell_in_hand v.taken));
+  owed = suc v.owed;
   made = v.made ++ (t, entry_of v.parts (event_in v)) ∷ [];
   due = to_write (block v.parts t) (block_words v.parts (event_in v) t);
   pending = links_of v.parts (event_in v) t (λ s. known_at v.known (place_in (event_in v).f + s)) (λ s. known_at v.known (place_in (event_in v).g + s));
@@ -105,9 +116,14 @@ relinked (l ∷ ls) b c = record l { one = b; two = c } ∷ ls
 abbrev pub moved : View → ℕ → ℕ → ℕ → View
 moved v w b c = record v { pending = relinked v.pending b c; dead = v.dead ++ w ∷ [] }
 
--- the left word of the cell of the first pending link is written, after its right word
+-- whether the pair of the first link is active, as a number
+abbrev pub first_active : List Link → ℕ
+first_active [] = 0
+first_active (l ∷ ls) = active_in l.one l.two
+
+-- the left word of the cell of the first pending link is written, after its right word; where its pair is active it isn't owed any more
 abbrev pub publishing : View → ℕ → View
-publishing v w = record v { pending = rest v.pending; known = []; published = v.published ++ cell_at v.parts w ∷ [] }
+publishing v w = record v { pending = rest v.pending; known = []; published = v.published ++ cell_at v.parts w ∷ []; owed = v.owed - first_active v.pending }
 
 -- one seat is cut off
 abbrev pub one_seat : View → View
@@ -140,6 +156,13 @@ looks s m r n = (n.1 ≡ m.1) × (n.0 ≡ knowing m.0 s.word r) × IsRefOf m.0.p
 
 abbrev pub draws : Play
 draws s m r n = (n.1 ≡ m.1) × (r < m.0.parts.fuel → n.0 ≡ ticketed m.0 r) × (m.0.parts.fuel ≤ r → n.0 ≡ late m.0)
+
+-- the operand is added to the live word, or taken from it
+abbrev pub owes : Play
+owes s m r n = (n.1 ≡ m.1) × (n.0 ≡ owing m.0 s.first)
+
+abbrev pub repays : Play
+repays s m r n = (n.1 ≡ m.1) × (n.0 ≡ repaid m.0 s.first)
 
 abbrev pub writes : Play
 writes s m r n = (n.1 ≡ m.1) × (n.0 ≡ wrote m.0)

@@ -1,12 +1,12 @@
 -- Private: what the parts of a turn ask and leave: the claim with the ticket, and the links.
-use Rattle.std.specs.Prelude.{◌≡◌, ℕ, ◌+◌, ◌*◌, ◌<◌, List, [], ◌++◌, true, false, Some, slice_index, MatchOption, Option}
+use Rattle.std.specs.Prelude.{◌≡◌, ℕ, suc, ◌+◌, ◌*◌, ◌<◌, List, [], ◌++◌, true, false, Some, slice_index, MatchOption, Option}
 use Rattle.ol_wire.specs.declared.layout.Parts.{Parts}
 use Rattle.ol_wire.specs.declared.view.View.{View}
 use Rattle.ol_wire.specs.declared.turning.Begun.{Begun}
 use Rattle.ol_wire.specs.declared.turning.Turn.{Turn}
 use Rattle.ol_wire.specs.Layout.{left_word, born_cell}
 use Rattle.ol_wire.specs.Events.{rule_between}
-use Rattle.ol_wire.specs.LinkLists.{links_of, link_of}
+use Rattle.ol_wire.specs.LinkLists.{links_of, link_of, joins_in}
 use Rattle.ol_wire.specs.Plays.{event_in}
 use Rattle.ol_wire.specs.StepPlays.{IsNodeOf}
 use Rattle.ol_wire.specs.Rewrites.{event_for}
@@ -30,16 +30,17 @@ pub record TurnBegins (z : Parts) (v : View) (c : ℕ) (b : Begun) (n : View) : 
 pub record IsBegun (z : Parts) (v : View) (b : Begun) : Type 0 where
   pub due : v.due ≡ []
   pub pending : v.pending ≡ links_of z (event_for b.rewrite) b.ticket (λ s. slice_index b.of_f s) (λ s. slice_index b.of_g s)
+  pub owed : v.owed ≡ suc (joins_in (event_for b.rewrite))
   pub ticket : b.ticket < z.fuel
   pub rule : rule_between b.rewrite.f b.rewrite.g ≡ Some b.rewrite.rule
   pub nodes : IsNodeOf z b.rewrite.f × IsNodeOf z b.rewrite.g
   pub fields : AreRefs z b.rewrite.f b.of_f × AreRefs z b.rewrite.g b.of_g
 
--- They are made.
+-- They are made, and nothing is owed.
 pub record AreLinked (z : Parts) (v : View) (b : Begun) (m : ℕ) (n : View) : Type 0 where
   pub mask : m < 16
   pub dead : (ws : List ℕ) × (n.dead ≡ v.dead ++ ws)
-  pub view : n ≡ record v { pending = []; known = n.known; published = v.published ++ masked (z.cells + 4 * b.ticket) m; dead = n.dead }
+  pub view : n ≡ record v { pending = []; known = n.known; published = v.published ++ masked (z.cells + 4 * b.ticket) m; dead = n.dead; owed = 0 }
 
 -- the first part of a turn on cell c has begun a rewrite, or the turn has ended
 abbrev pub HasBegun : TableState → View → ℕ → View → Begun → Type 0
@@ -52,9 +53,9 @@ HasEnded b v c n t = HasCause t n × Leaves b.plan.parts v c t n
 abbrev pub IsRewriteInHand : View → Rewrite → Type 0
 IsRewriteInHand v w = (event_for w ≡ event_in v) × (rule_between w.f w.g ≡ Some w.rule)
 
--- the fuel was used up, or the rewrite has a ticket and its words are written
+-- the fuel was used up, and the links are owed, or the rewrite has a ticket and its words are written
 abbrev pub HasBegunOrLate : TableState → View → Rewrite → Option Begun → View → Type 0
-HasBegunOrLate b v w found n = MatchOption found (n ≡ record v { known = n.known; over = true })
+HasBegunOrLate b v w found n = MatchOption found (n ≡ record v { known = n.known; over = true; owed = joins_in (event_for w) })
     (λ (x : Begun). (x.ticket < b.plan.parts.fuel) × (x.rewrite ≡ w) × hands.Rewrote v x.ticket x.of_f x.of_g n)
 
 -- what was read of the fields of the two nodes

@@ -1,5 +1,5 @@
 -- What a turn answers, by its cause, and what it leaves in the seat's view.
-use Rattle.std.specs.Prelude.{◌≡◌, ◌≢◌, ℕ, ◌+◌, ◌*◌, ◌/◌, ◌%◌, ◌^◌, ◌==◌, ◌<◌, if◌then◌else◌, List, [], ◌∷◌, ◌++◌, true, false}
+use Rattle.std.specs.Prelude.{◌≡◌, ◌≢◌, ℕ, ◌+◌, ◌*◌, ◌/◌, ◌%◌, ◌^◌, ◌==◌, ◌<◌, if◌then◌else◌, Bool, ◌↔◌, List, [], ◌∷◌, ◌++◌, true, false}
 use Rattle.ol_net.specs.declared.parts.Rule.{Rule}
 use Rattle.ol_rules.specs.Listed.{each}
 use Rattle.ol_wire.specs.declared.layout.Parts.{Parts}
@@ -7,8 +7,12 @@ use Rattle.ol_wire.specs.declared.view.View.{View}
 use Rattle.ol_wire.specs.declared.turning.Turn.{Turn}
 use Rattle.ol_wire.specs.declared.turning.Turn.TheVariants.{Rewrote, Gone, Stuck, Spent}
 use Rattle.ol_wire.specs.Events.{entry_of}
-use Rattle.ol_wire.specs.Plays.{event_in, swept_on}
+use Rattle.ol_wire.specs.Plays.{event_in, swept_on, live_read}
 use Rattle.ol_wire.specs.Hands.{claiming, missed, IsStuckLast, IsActiveLast}
+
+-- a look at the live word read n, and was asked whether that is 0
+abbrev pub HasListened : View → ℕ → Bool → View → Type 0
+HasListened v n quiet after = (after ≡ live_read v n) × ((quiet ≡ true) ↔ (n ≡ 0))
 
 -- the turn read a pair, and the pair has a rule
 abbrev pub FoundActive : View → Type 0

@@ -18,6 +18,11 @@ abbrev pub weigh : (ℕ → ℕ → ℕ) → List ℕ → ℕ → ℕ
 weigh h words zero = 0
 weigh h words (suc n) = weigh h words n + h n (slice_index words n)
 
+-- the numbers that f gives below n, added up
+abbrev pub sum_below : ℕ → (ℕ → ℕ) → ℕ
+sum_below zero f = 0
+sum_below (suc n) f = sum_below n f + f n
+
 -- an empty word weighs nothing
 abbrev pub Empties : (ℕ → ℕ → ℕ) → Type 0
 Empties h = (k : ℕ) → h k 0 ≡ 0

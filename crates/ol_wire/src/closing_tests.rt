@@ -63,8 +63,9 @@ fn tells_the_journal(rt: HostRuntime) -> Result<(), Fail> {
     let words = shared.close(seat);
     assert_eq!(rt; words.parts().cells, 1);
     assert_eq!(rt; words.events(), 1);
-    assert!(rt; words.word(51).is_none());
+    assert!(rt; words.word(52).is_none());
     assert_eq!(rt; words.word(0).unwrap_or(9), 1);
+    assert_eq!(rt; words.word(1).unwrap_or(9), 0);
     assert!(rt; words.journal(1).is_none());
     let Some(entry) = words.journal(0) else {
         panic!(rt; "no entry")

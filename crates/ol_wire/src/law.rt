@@ -1,11 +1,11 @@
 //! The rule of the table, and what each kind of step tells.
-ghost use Rattle.ol_wire.specs.Rule.{Kept};
+ghost use Rattle.ol_wire.specs.Credit.{IsRuled};
 ghost use Rattle.ol_wire.specs.Openings.{opener};
 ghost use Rattle.ol_wire.specs.Plays.{joined};
-ghost use Rattle.ol_wire.specs.StepPlays.{claims, pairs_up, draws, writes, fewer, one_seat};
+ghost use Rattle.ol_wire.specs.StepPlays.{claims, pairs_up, draws, owes, repays, writes, fewer, one_seat};
 ghost use Rattle.ol_wire.specs.TurnPlays.{reads, returns};
 ghost use Rattle.ol_wire.specs.LinkSteps.{links, places, publishes, counts, spent_view};
-ghost use Rattle.ol_wire.specs.Looking.{sees};
+ghost use Rattle.ol_wire.specs.Looking.{sees, listens};
 
 use crate::plan::Plan;
 use crate::view::View;
@@ -15,7 +15,7 @@ use atomic_table::{Join, Play, Split, TableRule};
 pub struct Law;
 
 impl TableRule<(), View, Plan> for Law {
-    ghost holds = { Kept };
+    ghost holds = { IsRuled };
 
     ghost first = { opener };
 }
@@ -46,6 +46,20 @@ pub struct Draws;
 
 impl Play<(), View> for Draws {
     ghost then = { draws };
+}
+
+/// An addition to the live word, for the links that a rewrite will make.
+pub struct Owes;
+
+impl Play<(), View> for Owes {
+    ghost then = { owes };
+}
+
+/// A subtraction from the live word, at the end of a turn.
+pub struct Repays;
+
+impl Play<(), View> for Repays {
+    ghost then = { repays };
 }
 
 /// A word that is written into the seat's own block.
@@ -95,6 +109,13 @@ pub struct Sees;
 
 impl Play<(), View> for Sees {
     ghost then = { sees };
+}
+
+/// A look at the live word.
+pub struct Listens;
+
+impl Play<(), View> for Listens {
+    ghost then = { listens };
 }
 
 /// What one seat has done goes to another.

@@ -1,12 +1,13 @@
 //! A net laid out in words.
-ghost use Rattle.std.specs.Prelude.{◌≡◌, suc, ◌<◌, ◌≤◌, [], ◌∷◌, ◌++◌, length, IfOk, OnOk, replicate, vec_len, is_some, count_by};
+ghost use Rattle.std.specs.Prelude.{◌≡◌, suc, ◌<◌, ◌≤◌, [], ◌∷◌, ◌++◌, length, IfOk, OnOk, replicate, vec_len, is_some, count_by, slice_index};
 ghost use Rattle.ol_rules.specs.Listed.{each};
 ghost use Rattle.ol_wire.specs.References.{wire_ref};
-ghost use Rattle.ol_wire.specs.Layout.{port_word, start_node, table_size};
+ghost use Rattle.ol_wire.specs.Layout.{port_word, start_node, start_cell, table_size};
 ghost use Rattle.ol_wire.specs.Sizes.{IsSmall, IsSmallNet};
 ghost use Rattle.ol_wire.specs.Starts.{AreParts, aux_links, facing_pairs, pair_at};
 ghost use Rattle.atomic_table.specs.Table.{opening};
-ghost use Rattle.ol_wire.specs.Rule.{Kept};
+ghost use Rattle.ol_wire.specs.Credit.{IsRuled, active_at, active_cells};
+ghost use Rattle.ol_wire.specs.Weights.{sum_below};
 ghost use Rattle.ol_wire.specs.Openings.{opener, Opens};
 ghost use Rattle.ol_wire.specs.declared.plan.Plan.{Plan};
 ghost use Rattle.ol_wire.specs.Laid.{node_word, wires_before, field_of};
@@ -14,6 +15,7 @@ ghost use Rattle.ol_wire.specs.LaidWords.{word_of_port, cell_words, port_row, fi
 
 use crate::layout::{BLOCK, Parts};
 use crate::reference::{node_ref, wire_ref};
+use crate::rewrite::active_in;
 use ol_io::NoMemory;
 use ol_net::{Net, NodeId, Port};
 use std::alloc::Global;
@@ -31,10 +33,10 @@ fn node_word(net: &Net, parts: Parts, node: u32) -> u64
 
 // The reference of a free port.
 fn port_ref(port: u32) -> u64
-    requires { port < 4294967295 }
+    requires { port < 4294967294 }
     ensures { result ≡ wire_ref (port_word port) }
 {
-    wire_ref(1 + port)
+    wire_ref(2 + port)
 }
 
 // The word of a free port.
@@ -196,6 +198,20 @@ fn put_cells(net: &Net, parts: Parts, words: &mut Vec<u64>) -> Result<u32, NoMem
     Ok(cells)
 }
 
+// The number of cells of the start whose pair is active.
+fn count_active(parts: Parts, words: &[u64]) -> u64
+    requires small { IsSmall parts }
+    requires wide { length words.now ≡ table_size parts }
+    ensures { result ≡ sum_below parts.cells (λ c. active_at words.now (start_cell parts c)) }
+{
+    let mut live: u64 = 0;
+    for cell in 0..parts.cells {
+        let left = parts.start_cell(cell) as usize;
+        live += active_in(words[left], words[left + 1]) as u64;
+    }
+    live
+}
+
 // The parts, and the words.
 fn lay_out(alloc: Global, net: &Net, fuel: u32) -> Result<(Parts, Vec<u64>), NoMemory>
     requires small { IsSmallNet net.now }
@@ -203,6 +219,7 @@ fn lay_out(alloc: Global, net: &Net, fuel: u32) -> Result<(Parts, Vec<u64>), NoM
     ensures parts { IfOk result (λ r. AreParts net.now fuel r.0) }
     ensures small { IfOk result (λ r. IsSmall r.0) }
     ensures laid { IfOk result (λ r. IsLaid net.now r.0 r.1.items) }
+    ensures live { IfOk result (λ r. slice_index r.1.items 1 ≡ active_cells r.0 r.1.items) }
 {
     // Until its wires and cells are counted.
     let early = Parts {
@@ -214,6 +231,7 @@ fn lay_out(alloc: Global, net: &Net, fuel: u32) -> Result<(Parts, Vec<u64>), NoM
     };
     let mut words: Vec<u64> = Vec::new(alloc);
     put(&mut words, 0)?;
+    put(&mut words, 0)?;
     put_ports(net, early, &mut words)?;
     let wires = put_nodes(net, early, &mut words)?;
     put_empty(&mut words, wires)?;
@@ -224,6 +242,7 @@ fn lay_out(alloc: Global, net: &Net, fuel: u32) -> Result<(Parts, Vec<u64>), NoM
         cells,
         ..early
     };
+    words[1] = count_active(parts, words.as_slice());
     Ok((parts, words))
 }
 

@@ -44,18 +44,19 @@ fn lays_a_net_out(rt: HostRuntime) -> Result<(), Fail> {
     assert_eq!(rt; parts.wires, 1);
     assert_eq!(rt; parts.cells, 1);
     let start = vec![in rt.alloc();
-        // The ticket word, and the free ports: port 1 is linked to node 3, and port 2 to port 3.
-        0, 0, 5905580269, 2147483650, 0,
+        // The ticket word, the live word for one active pair, and the free ports: port 1 is linked
+        // to node 3, and port 2 to port 3.
+        0, 1, 0, 6442451181, 2684354562, 0,
         // The fields of the application: port 0, and node 2. The two of the abstraction: their
         // wire.
-        536870914, 4831838229, 8053063682, 8053063682,
+        1073741826, 5368709141, 8589934594, 8589934594,
         // Of an eraser, of the croissant: node 4, and of the other eraser.
-        0, 0, 6979321877, 0, 0, 0,
+        0, 0, 7516192789, 0, 0, 0,
         // The wire, and the cell of the application and the abstraction.
-        0, 2684354565, 3758096385,
+        0, 3221225477, 4294967297,
     ]?;
-    assert_eq!(rt; words.len(), 40);
-    assert_eq!(rt; &words[..18], start.as_slice());
-    assert!(rt; words[18..].iter().all(|&word| word == 0));
+    assert_eq!(rt; words.len(), 41);
+    assert_eq!(rt; &words[..19], start.as_slice());
+    assert!(rt; words[19..].iter().all(|&word| word == 0));
     Ok(())
 }

@@ -28,7 +28,7 @@ impl Parts {
         requires { IsSmall self × (node ≤ 1000000) }
         ensures { result ≡ start_node self node }
     {
-        1 + self.free + 2 * node
+        2 + self.free + 2 * node
     }
 
     /// The word of the start wire of that number.
@@ -36,7 +36,7 @@ impl Parts {
         requires { IsSmall self × (wire ≤ 2000000) }
         ensures { result ≡ start_wire self wire }
     {
-        1 + self.free + 2 * self.nodes + wire
+        2 + self.free + 2 * self.nodes + wire
     }
 
     /// The left word of the start cell of that number.
@@ -44,7 +44,7 @@ impl Parts {
         requires { IsSmall self × (cell ≤ 2000000) }
         ensures { result ≡ start_cell self cell }
     {
-        1 + self.free + 2 * self.nodes + self.wires + 2 * cell
+        2 + self.free + 2 * self.nodes + self.wires + 2 * cell
     }
 
     /// The first word of the block of a ticket.
@@ -52,7 +52,7 @@ impl Parts {
         requires { IsSmall self × (ticket ≤ 2000000) }
         ensures { result ≡ block self ticket }
     {
-        1 + self.free + 2 * self.nodes + self.wires + 2 * self.cells + BLOCK * ticket
+        2 + self.free + 2 * self.nodes + self.wires + 2 * self.cells + BLOCK * ticket
     }
 
     /// The number of all words.

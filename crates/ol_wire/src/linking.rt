@@ -6,6 +6,7 @@ ghost use Rattle.ol_wire.specs.Events.{rule_between};
 ghost use Rattle.ol_wire.specs.Layout.{table_size, born_cell};
 ghost use Rattle.ol_wire.specs.LinkLists.{joins_in, link_of};
 ghost use Rattle.ol_wire.specs.StepPlays.{IsRefOf, linked, moved, publishing};
+ghost use Rattle.ol_wire.specs.Credit.{active_in};
 ghost use Rattle.ol_wire.specs.LinkSteps.{spread};
 ghost use Rattle.ol_wire.specs.Rewrites.{event_for};
 ghost use Rattle.ol_wire.specs.Sizes.{IsSmall};
@@ -16,7 +17,7 @@ ghost use Rattle.ol_wire.specs.TurnParts.{IsBegun, AreLinked, AreEndsOf};
 use crate::law::{Links, Places, Publishes};
 use crate::layout::Parts;
 use crate::reference::{is_node, place_in};
-use crate::rewrite::is_meeting;
+use crate::rewrite::{active_in, is_meeting};
 use crate::seat::Token;
 use crate::shared::Shared;
 use crate::turning::Begun;
@@ -87,44 +88,48 @@ impl Begun {
 }
 
 impl Shared {
-    // Makes the links of a rewrite. Bit j of the answer is set where the pair of join j was
-    // published.
+    // Makes the links of a rewrite, and takes from the live word what they didn't come to. Bit j of
+    // the answer is set where the pair of join j was published.
     pub(crate) fn link_all(&self, token: &mut Token, begun: Begun) -> u8
         requires token { IsTokenOf self.now token.old }
         requires begun { IsBegun self.now.plan.parts token.old.me.0 begun }
         ensures token { IsSameSeat token.old token.new }
         ensures view { AreLinked self.now.plan.parts token.old.me.0 begun result token.new.me.0 }
     {
+        let joins = begun.rewrite.joins();
         let mut mask: u8 = 0;
-        for j in 0..begun.rewrite.joins() {
+        let mut owed = joins + 1;
+        for j in 0..joins {
             let (one, two) = begun.ends(self.parts, j);
             let cell = self.parts.born_cell(begun.ticket, j);
-            if self.link(token, cell, one, two) {
+            if let Some(active) = self.link(token, cell, one, two) {
                 mask += bit(j);
+                owed -= active;
             }
         }
+        self.repay(token, owed);
         mask
     }
 
-    // Makes the first pending link, and tells whether its pair was published. `cell` is the left
-    // word of its cell.
-    fn link(&self, token: &mut Token, cell: u32, one: u64, two: u64) -> bool
+    // Makes the first pending link, and tells whether its pair was published, and then whether it
+    // is active, as a number. `cell` is the left word of its cell.
+    fn link(&self, token: &mut Token, cell: u32, one: u64, two: u64) -> Option<u32>
         requires token { IsTokenOf self.now token.old }
         requires next { IsNext token.old.me.0 cell one two }
         requires ends { IsEndOf self.now.plan.parts one × IsEndOf self.now.plan.parts two }
         requires cell { suc cell < table_size self.now.plan.parts }
         ensures token { IsSameSeat token.old token.new }
         ensures view { IsLinked token.old.me.0 cell result token.new.me.0 }
+        ensures small { IfSome result (λ n. n ≤ 1) }
     {
         let mut a = one;
         let mut b = two;
         loop {
             let Some((wire, other)) = open_end(a, b) else {
-                self.publish(token, cell, a, b);
-                return true;
+                return Some(self.publish(token, cell, a, b));
             };
             let Some(found) = self.exchange(token, wire, other) else {
-                return false;
+                return None;
             };
             a = other;
             b = found;
@@ -150,14 +155,17 @@ impl Shared {
         if found == 0 { None } else { Some(found) }
     }
 
-    // Writes the two nodes of the first pending link into its cell, the right word first.
-    fn publish(&self, token: &mut Token, cell: u32, one: u64, two: u64)
+    // Writes the two nodes of the first pending link into its cell, the right word first. Tells
+    // whether they are an active pair, as a number.
+    fn publish(&self, token: &mut Token, cell: u32, one: u64, two: u64) -> u32
         requires token { IsTokenOf self.now token.old }
         requires next { IsNext token.old.me.0 cell one two }
         requires nodes { IsNodeRef one × IsNodeRef two }
         requires cell { suc cell < table_size self.now.plan.parts }
         ensures token { IsSameSeat token.old token.new }
         ensures view { token.new.me.0 ≡ publishing token.old.me.0 cell }
+        ensures active { result ≡ active_in one two }
+        ensures small { result ≤ 1 }
     {
         self.table
             .shared
@@ -165,5 +173,6 @@ impl Shared {
         self.table
             .shared
             .store::<Publishes>(token, cell as usize, one);
+        active_in(one, two)
     }
 }

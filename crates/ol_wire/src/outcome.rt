@@ -3,7 +3,7 @@ ghost use Rattle.std.specs.Prelude.{◌≡◌, true};
 ghost use Rattle.ol_net.specs.Nets.{NamedNet};
 ghost use Rattle.ol_rules.specs.declared.journal.NodeName.{NodeName};
 ghost use Rattle.ol_net.specs.Pairs.{IsComplete, HasActive};
-ghost use Rattle.ol_wire.specs.Closed.{journal_drawn, IsAfter, EachAfter, HasOneAfter, NoNodeTwice, AreGone, IsEmptyUndrawn, IsFuelUsed, HasSweptAll};
+ghost use Rattle.ol_wire.specs.Closed.{journal_drawn, IsAfter, EachAfter, HasOneAfter, NoNodeTwice, AreGone, IsEmptyUndrawn, IsFuelUsed, HasSweptAll, HasSettled};
 ghost use Rattle.ol_wire.specs.Weights.{AreNumbered};
 ghost use Rattle.ol_wire.specs.Standing.{StandForNet};
 
@@ -55,6 +55,14 @@ impl Words {
     pub fn over(&self)
         ensures fuel { self.now.view.over ≡ true → IsFuelUsed self.now }
         ensures active { self.now.view.over ≡ true → EachAfter self.now HasActive }
+    {
+        let _ = &self.closed;
+    }
+
+    /// Law: where the seat, or one that was joined to it, has read 0 in the live word, no active
+    /// pair is left.
+    pub fn settled(&self)
+        ensures complete { HasSettled self.now → EachAfter self.now IsComplete }
     {
         let _ = &self.closed;
     }

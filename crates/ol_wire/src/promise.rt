@@ -1,4 +1,5 @@
 //! What the rule of the table says at every moment, as laws.
+ghost use Rattle.ol_wire.specs.Credit.{Credited, IsImplied};
 ghost use Rattle.ol_wire.specs.Rule.{Kept, Table};
 ghost use Rattle.ol_wire.specs.Still.{NothingIsOverlooked};
 ghost use Rattle.ol_wire.specs.declared.plan.Plan.{Plan};
@@ -13,6 +14,12 @@ use atomic_table::TableRule;
 /// gives such a moment.
 pub fn at_every_moment()
     ensures { (p : Plan) (s : Table) → ⟦<Law as TableRule<(), View, Plan>>⟧.holds p s → Kept p s }
+{}
+
+/// Law: at the same moments the live word is the number of active pairs that are published or
+/// claimed and of those that seats owe, and where a seat is settled it is 0.
+pub fn live_at_every_moment()
+    ensures { IsImplied ⟦<Law as TableRule<(), View, Plan>>⟧.holds Credited }
 {}
 
 /// Law: where no view has a claimed pair or a link to make, and no cell holds an active pair, the

@@ -7,6 +7,7 @@ ghost use Rattle.ol_wire.specs.Events.{rule_between, event_of, earlier, later, I
 ghost use Rattle.ol_wire.specs.Layout.{block, born_wire};
 ghost use Rattle.ol_wire.specs.Blocks.{copies_of_f, copies_of_g, born_field, block_words};
 ghost use Rattle.ol_wire.specs.LinkLists.{joins_in, born_ref};
+ghost use Rattle.ol_wire.specs.Credit.{active_in};
 ghost use Rattle.ol_wire.specs.Rewrites.{event_for, IsRewriteFor};
 ghost use Rattle.ol_wire.specs.Sizes.{IsSmall};
 
@@ -67,6 +68,24 @@ pub(crate) fn rewrite_of(left: u64, right: u64) -> Option<Rewrite>
             g: left,
         }),
         None => None,
+    }
+}
+
+/// Whether a pair is active, as a number: 1 where one of its nodes has a rule with the other. Where
+/// the left reference is empty there is no pair.
+pub(crate) fn active_in(left: u64, right: u64) -> u32
+    ensures active { result ≡ active_in left right }
+    ensures small { result ≤ 1 }
+{
+    if left == 0 {
+        return 0;
+    }
+    match rule_between(left, right) {
+        Some(_) => 1,
+        None => match rule_between(right, left) {
+            Some(_) => 1,
+            None => 0,
+        },
     }
 }
 

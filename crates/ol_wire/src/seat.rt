@@ -46,6 +46,13 @@ impl Seat {
     {
         let _ = &self.holds;
     }
+
+    /// Law: between two calls it owes nothing.
+    pub fn owes_nothing(&self)
+        ensures nothing { self.now.view.owed ≡ 0 }
+    {
+        let _ = &self.holds;
+    }
 }
 
 impl Shared {

@@ -1,11 +1,13 @@
 //! A look at the whole table, by a seat.
 ghost use Rattle.std.specs.Prelude.{◌≡◌, ℕ, length};
-ghost use Rattle.ol_wire.specs.Moments.{Moment};
-ghost use Rattle.ol_wire.specs.Looking.{MomentWith};
+ghost use Rattle.ol_wire.specs.Moments.{Moment, IsMomentAsked};
+ghost use Rattle.ol_wire.specs.Looking.{MomentLive, MomentWith};
+ghost use Rattle.ol_wire.specs.Plays.{live_read};
+ghost use Rattle.ol_wire.specs.Turns.{HasListened};
 ghost use Rattle.ol_wire.specs.Stand.{IsSeatOf};
 ghost use Rattle.ol_wire.specs.Tokens.{IsTokenOf, IsSameSeat};
 
-use crate::law::Sees;
+use crate::law::{Listens, Sees};
 use crate::seat::{Seat, Token};
 use crate::shared::Shared;
 
@@ -26,6 +28,32 @@ impl Shared {
         } else {
             self.parts.fuel
         }
+    }
+
+    /// Whether no active pair is left, so that the journal is complete. It is one load of the live
+    /// word, which the seat's view keeps in `looked`.
+    ///
+    /// True: the word was 0 then. At that moment the net of the journal had no active pair, and so
+    /// it stays. False: another number stood there, so that a pair was active or a turn was under
+    /// way.
+    /// It takes no memory and doesn't wait.
+    pub fn quiet(&self, seat: &mut Seat) -> bool
+        requires seat { IsSeatOf self.now seat.old }
+        ensures seat { IsSeatOf self.now seat.new }
+        ensures view { (n : ℕ) × HasListened seat.old.view n result seat.new.view }
+        ensures moment { IsMomentAsked self.now.plan seat.new.view result }
+    {
+        self.listen(&mut seat.token) == 0
+    }
+
+    // Reads the live word.
+    fn listen(&self, token: &mut Token) -> u64
+        requires token { IsTokenOf self.now token.old }
+        ensures token { IsSameSeat token.old token.new }
+        ensures view { token.new.me.0 ≡ live_read token.old.me.0 result }
+        ensures moment { MomentLive self.now.plan token.new.me.0 result }
+    {
+        self.table.shared.load::<Listens>(token, 1)
     }
 
     // Reads the ticket word.

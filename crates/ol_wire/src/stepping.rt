@@ -1,17 +1,17 @@
 //! The single steps of a seat: each changes one word at most, and tells what it found.
-ghost use Rattle.std.specs.Prelude.{◌≡◌, ◌≢◌, ℕ, suc, ◌+◌, ◌<◌, [], ◌∷◌, MatchOption};
+ghost use Rattle.std.specs.Prelude.{◌≡◌, ◌≢◌, ℕ, suc, ◌+◌, ◌<◌, ◌≤◌, [], ◌∷◌, MatchOption};
 ghost use Rattle.ol_edges.specs.Edges.{IsIn};
 ghost use Rattle.ol_net.specs.Parts.{arity};
 ghost use Rattle.ol_wire.specs.References.{kind_in, place_in};
 ghost use Rattle.ol_wire.specs.Layout.{table_size, left_word, cells_of};
-ghost use Rattle.ol_wire.specs.StepPlays.{IsNodeOf, IsRefOf, IsLookedUp, paired, knowing, ticketed, late, wrote, returned, rest};
+ghost use Rattle.ol_wire.specs.StepPlays.{IsNodeOf, IsRefOf, IsLookedUp, paired, knowing, owing, repaid, ticketed, late, wrote, returned, rest};
 ghost use Rattle.ol_wire.specs.Sizes.{IsSmall};
 ghost use Rattle.ol_wire.specs.Tokens.{IsTokenOf, IsSameSeat};
 ghost use Rattle.ol_wire.specs.Idle.{IsIdle};
-ghost use Rattle.ol_wire.specs.Hands.{claiming, missed};
+ghost use Rattle.ol_wire.specs.Hands.{IsActiveLast, claiming, missed};
 ghost use Rattle.ol_wire.specs.InHand.{IsInHand, IsOfPair, HasClaimed, HoldsLeft, HasPaired, HasDrawn};
 
-use crate::law::{Claims, Draws, Looks, PairsUp, Returns, Writes};
+use crate::law::{Claims, Draws, Looks, Owes, PairsUp, Repays, Returns, Writes};
 use crate::layout::Parts;
 use crate::reference::place_in;
 use crate::seat::Token;
@@ -69,6 +69,30 @@ impl Shared {
     {
         let word = self.parts.field(node, slot);
         self.table.shared.load::<Looks>(token, word as usize)
+    }
+
+    // Adds to the live word what the links of the pair in hand may come to.
+    pub(crate) fn owe(&self, token: &mut Token, links: u32)
+        requires token { IsTokenOf self.now token.old }
+        requires pair { (w : ℕ) × IsInHand token.old.me.0 w }
+        requires active { IsActiveLast token.old.me.0 }
+        requires links { links ≤ 4 }
+        requires nothing { (token.old.me.0.owed ≡ 0) × (token.old.me.0.pending ≡ []) }
+        ensures token { IsSameSeat token.old token.new }
+        ensures view { token.new.me.0 ≡ owing token.old.me.0 links }
+    {
+        self.table.shared.fetch_add::<Owes>(token, 1, links as u64);
+    }
+
+    // Takes from the live word what the seat owes, once it has no link to make.
+    pub(crate) fn repay(&self, token: &mut Token, owed: u32)
+        requires token { IsTokenOf self.now token.old }
+        requires linked { token.old.me.0.pending ≡ [] }
+        requires owed { token.old.me.0.owed ≡ owed }
+        ensures token { IsSameSeat token.old token.new }
+        ensures view { token.new.me.0 ≡ repaid token.old.me.0 owed }
+    {
+        self.table.shared.fetch_sub::<Repays>(token, 1, owed as u64);
     }
 
     // Draws a ticket for the pair in hand, or finds that the fuel is used up.

@@ -90,23 +90,28 @@ fn four_turns_leave_an_identity(rt: HostRuntime) -> Result<(), Fail> {
     let (table, mut seats) = table_of(&rt, rt.alloc(), &net, 4, 1)?;
     let mut seat = seats.pop().expect(&rt, "a seat");
     assert_eq!(rt; table.cells(), 17);
+    assert!(rt; !table.quiet(&mut seat));
     assert_eq!(rt;
         turn(&rt, &table, &mut seat, 0),
         rewrote(0, Rule::Beta, 1, 2)
     );
+    assert!(rt; !table.quiet(&mut seat));
     assert_eq!(rt; turn(&rt, &table, &mut seat, 0), Turn::Gone);
     assert_eq!(rt;
         turn(&rt, &table, &mut seat, 2),
         rewrote(1, Rule::CrossCroissant, 5, 2)
     );
+    assert!(rt; !table.quiet(&mut seat));
     assert_eq!(rt;
         turn(&rt, &table, &mut seat, 6),
         rewrote(2, Rule::CrossCroissant, 9, 1)
     );
+    assert!(rt; !table.quiet(&mut seat));
     assert_eq!(rt;
         turn(&rt, &table, &mut seat, 9),
         rewrote(3, Rule::Croissant, 13, 0)
     );
+    assert!(rt; table.quiet(&mut seat));
     assert_eq!(rt; table.events(&mut seat), 4);
     Ok(())
 }
@@ -120,6 +125,7 @@ fn the_fuel_is_spent(rt: HostRuntime) -> Result<(), Fail> {
     turn(&rt, &table, &mut seat, 2);
     turn(&rt, &table, &mut seat, 6);
     assert_eq!(rt; turn(&rt, &table, &mut seat, 9), Turn::Spent);
+    assert!(rt; !table.quiet(&mut seat));
     assert_eq!(rt; turn(&rt, &table, &mut seat, 9), Turn::Spent);
     assert_eq!(rt; table.events(&mut seat), 3);
     Ok(())
@@ -130,6 +136,7 @@ fn a_stuck_pair_stays(rt: HostRuntime) -> Result<(), Fail> {
     let net = stuck_pair(rt.alloc())?;
     let (table, mut seats) = table_of(&rt, rt.alloc(), &net, 4, 1)?;
     let mut seat = seats.pop().expect(&rt, "a seat");
+    assert!(rt; table.quiet(&mut seat));
     assert_eq!(rt; turn(&rt, &table, &mut seat, 0), Turn::Stuck);
     assert_eq!(rt; turn(&rt, &table, &mut seat, 0), Turn::Stuck);
     Ok(())

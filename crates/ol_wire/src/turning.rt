@@ -110,6 +110,7 @@ impl Shared {
         }
         let Some(begun) = self.rewrite(token, rewrite) else {
             self.put_back(token, cell, left);
+            self.repay(token, rewrite.joins());
             return Err(Turn::Spent);
         };
         Ok(begun)
@@ -133,6 +134,7 @@ impl Shared {
     }
 
     // Draws a ticket for the pair in hand and writes its words, or finds that the fuel is used up.
+    // Its links are added to the live word before.
     fn rewrite(&self, token: &mut Token, rewrite: Rewrite) -> Option<Begun>
         requires token { IsTokenOf self.now token.old }
         requires pair { (w : ℕ) × IsInHand token.old.me.0 w }
@@ -145,6 +147,7 @@ impl Shared {
     {
         let of_f = self.look_at(token, rewrite.f);
         let of_g = self.look_at(token, rewrite.g);
+        self.owe(token, rewrite.joins());
         let ticket = self.draw(token)?;
         let words = self.parts.block_words(rewrite, ticket);
         self.write_block(token, ticket, &words);

@@ -44,6 +44,13 @@ pub struct View {
     /// How many cells, from the first on, hold no active pair as far as it knows, once it is the
     /// one seat that is left.
     pub ghost swept: { ℕ },
+    /// What it has in the live word for active pairs that may still come: one for each link that it
+    /// has to make, and one for the pair that it is rewriting.
+    pub ghost owed: { ℕ },
+    /// A load of the live word by it, or by a seat that was joined to it, read 0.
+    pub ghost settled: { Bool },
+    /// What its loads of the live word read, in order.
+    pub ghost looked: { List ℕ },
     /// The parts and the seats of its table, and the net that the table was made from, which a step
     /// cannot read elsewhere.
     pub ghost parts: { Parts },

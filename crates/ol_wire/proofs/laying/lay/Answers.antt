@@ -13,6 +13,7 @@ returns-clause-kept c =
       parts = c.in_ok-parts.ensures.parts;
       small = c.in_ok-parts.ensures.small;
       laid = c.in_ok-parts.ensures.laid;
+      live = c.in_ok-parts.ensures.live;
       low = c.requires.small.indexes;
       tabled = c.is_tabled.ensures.tables;
       indexes = c.is_tabled.ensures.indexes;

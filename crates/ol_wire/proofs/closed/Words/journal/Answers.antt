@@ -16,7 +16,7 @@ pub entry-requires-clause-places : goal.entry-requires-clause-places
 entry-requires-clause-places c =
     let w : ClosedTable = c.args.self.now in
     let closed : IsClosed w = subst IsClosed c.self.view_is c.self.invariant.5 in
-    let small : (n x : ℕ) → 0 < n → x ≡ slice_index w.words n → place_in x < 4294967296 = λ n x lt e. subst (λ x. place_in x < 4294967296) (sym e) (place_small w closed n lt) in
+    let small : (n x : ℕ) → 1 < n → x ≡ slice_index w.words n → place_in x < 4294967296 = λ n x lt e. subst (λ x. place_in x < 4294967296) (sym e) (place_small w closed n lt) in
     (small c.block-start.result c.at-first.result (omega (arith, c.block-start.ensures)) c.at-first.ensures, small (c.block-start.result + 1) c.at-second.result (omega arith) c.at-second.ensures)
 
 pub returns : goal.returns
