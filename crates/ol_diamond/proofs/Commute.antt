@@ -23,22 +23,22 @@ pub disjoint_sym : {A : Type 0} {f g f' g' : A} → Disjoint f g f' g' → Disjo
 disjoint_sym d = record { ff = λ e. d.ff (sym e); fg = λ e. d.gf (sym e); gf = λ e. d.fg (sym e); gg = λ e. d.gg (sym e) }
 
 module _ {A : Type 0} (same : A → A → Bool) (test : IsTest same) (N : NamedNet A) (is_net : IsNet N) where
-  principal_slot : (f g : A) (p : NamedPort A) → IsPrincipalOf f g p → IsSlotOf f g p
+  pub principal_slot : (f g : A) (p : NamedPort A) → IsPrincipalOf f g p → IsSlotOf f g p
   principal_slot f g p (inl e) = (0, inl e)
   principal_slot f g p (inr e) = (0, inr e)
 
-  decide : (p q : NamedPort A) → (p ≡ q) ⊎ (p ≢ q)
+  pub decide : (p q : NamedPort A) → (p ≡ q) ⊎ (p ≢ q)
   decide p q = is_or_is_not (port_same same) (port_test same test) q p
 
-  flip : (p q : NamedPort A) → Linked N p q → Linked N q p
+  pub flip : (p q : NamedPort A) → Linked N p q → Linked N q p
   flip p q (inl h) = inr h
   flip p q (inr h) = inl h
 
-  faced : (f g : A) (k : Kind) (i : ℕ) (l : Kind) (j : ℕ) → Faces N f g k i l j → (p q : NamedPort A) → Linked N p q → IsPrincipalOf f g p → IsPrincipalOf f g q
+  pub faced : (f g : A) (k : Kind) (i : ℕ) (l : Kind) (j : ℕ) → Faces N f g k i l j → (p q : NamedPort A) → Linked N p q → IsPrincipalOf f g p → IsPrincipalOf f g q
   faced f g k i l j faces p q h (inl e) = inr (is_net.one_link (slot f 0) q (slot g 0) (subst (λ p. Linked N p q) e h) faces.linked)
   faced f g k i l j faces p q h (inr e) = inl (is_net.one_link (slot g 0) q (slot f 0) (subst (λ p. Linked N p q) e h) (flip (slot f 0) (slot g 0) faces.linked))
 
-  far_slots : (f g f' g' : A) → Disjoint f g f' g' → (p : NamedPort A) → IsSlotOf f g p → IsSlotOf f' g' p → ⊥
+  pub far_slots : (f g f' g' : A) → Disjoint f g f' g' → (p : NamedPort A) → IsSlotOf f g p → IsSlotOf f' g' p → ⊥
   far_slots f g f' g' d p (s, inl e) (s', inl e') = d.ff (cc)
   far_slots f g f' g' d p (s, inl e) (s', inr e') = d.fg (cc)
   far_slots f g f' g' d p (s, inr e) (s', inl e') = d.gf (cc)
@@ -53,10 +53,10 @@ module _ {A : Type 0} (same : A → A → Bool) (test : IsTest same) (N : NamedN
   aux_principal f g x s (inl e) = let z : suc s ≡ 0 = cc in absurd (omega arith)
   aux_principal f g x s (inr e) = let z : suc s ≡ 0 = cc in absurd (omega arith)
 
-  own_slot_f : (f g : A) (s : ℕ) → IsSlotOf f g (slot f s)
+  pub own_slot_f : (f g : A) (s : ℕ) → IsSlotOf f g (slot f s)
   own_slot_f f g s = (s, inl refl)
 
-  own_slot_g : (f g : A) (s : ℕ) → IsSlotOf f g (slot g s)
+  pub own_slot_g : (f g : A) (s : ℕ) → IsSlotOf f g (slot g s)
   own_slot_g f g s = (s, inr refl)
 
   module _ (f g : A) (k : Kind) (i : ℕ) (l : Kind) (j : ℕ) (a : Action) (born : ℕ → A) (faces : Faces N f g k i l j) (fresh : IsFresh N born)

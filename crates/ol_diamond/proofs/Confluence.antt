@@ -41,7 +41,7 @@ rule_is rule.CrossBracket rule.CrossBracket = inl refl
 rule_is rule.Erase rule.Erase = inl refl
 rule_is _ _ = inr (λ e. cc)
 
-pair_is : (p q : BirthPair) → IsSamePair p q ⊎ (IsSamePair p q → ⊥)
+pub pair_is : (p q : BirthPair) → IsSamePair p q ⊎ (IsSamePair p q → ⊥)
 pair_is p q = go (rule_is p.rule q.rule) (name_is p.f q.f) (name_is p.g q.g) (name_is p.f q.g) (name_is p.g q.f)
   where
     neither : (p.f ≢ q.f) ⊎ (p.g ≢ q.g) → (p.f ≢ q.g) ⊎ (p.g ≢ q.f) → IsSamePair p q → ⊥
@@ -65,11 +65,11 @@ pub pair_sym : (p q : BirthPair) → IsSamePair p q → IsSamePair q p
 pair_sym p q (r, inl h) = (sym r, inl (sym h.0, sym h.1))
 pair_sym p q (r, inr h) = (sym r, inr (sym h.1, sym h.0))
 
-pair_refl : (p : BirthPair) → IsSamePair p p
+pub pair_refl : (p : BirthPair) → IsSamePair p p
 pair_refl p = (refl, inl (refl, refl))
 
 -- the names of a step's births are new
-fresh_in : (N : NamedNet BirthName) → IsBirthNet N → (f g : BirthName) (r : Rule) → IsActive N f g r → IsFresh N (born f g)
+pub fresh_in : (N : NamedNet BirthName) → IsBirthNet N → (f g : BirthName) (r : Rule) → IsActive N f g r → IsFresh N (born f g)
 fresh_in N b f g r a = fresh_of N b f g a.k a.l a.i a.j a.faces.first a.faces.second
 
 pub step_keeps : StepKeepsBirthNet
@@ -117,7 +117,7 @@ around N M p q b s a e e' =
     }
 
 -- a pair under its other name
-rename : (p q : BirthPair) → p.f ≡ q.f → p.g ≡ q.g → p.rule ≡ q.rule → p ≡ q
+pub rename : (p q : BirthPair) → p.f ≡ q.f → p.g ≡ q.g → p.rule ≡ q.rule → p ≡ q
 rename p q a b c = λ i. record { f = a i; g = b i; rule = c i }
 
 -- steps of one net by one pair leave one net
@@ -149,7 +149,7 @@ module _ (N M P : NamedNet BirthName) (p q : BirthPair) (b : IsBirthNet N) (s : 
       let fits = fits_at N b q.f q.g q.rule t.active a.l a.j a.k a.i (subst (λ g. HasNode N g a.l a.j) e' a.faces.second) (subst (λ f. HasNode N f a.k a.i) e a.faces.first) in
       ((both_ways a.k a.l a.i a.j p.rule q.rule a.fits fits).one_rule, inr (e, e'))
 
-  disjoint : (IsSamePair p q → ⊥) → Disjoint p.f p.g q.f q.g
+  pub disjoint : (IsSamePair p q → ⊥) → Disjoint p.f p.g q.f q.g
   disjoint n =
       let h = s.active.faces.linked in
       let h' = t.active.faces.linked in
@@ -240,19 +240,19 @@ no_run_has_more N M P ps qs b r d r' test k =
 
 -- ---- a pair of a run stands in a complete one
 
-abbrev tell : {P : Type 0} → P ⊎ (P → ⊥) → Bool
+abbrev pub tell : {P : Type 0} → P ⊎ (P → ⊥) → Bool
 tell (inl h) = true
 tell (inr n) = false
 
-tell_holds : {P : Type 0} (x : P ⊎ (P → ⊥)) → P → tell x ≡ true
+pub tell_holds : {P : Type 0} (x : P ⊎ (P → ⊥)) → P → tell x ≡ true
 tell_holds (inl h) p = refl
 tell_holds (inr n) p = absurd (n p)
 
-told : {P : Type 0} (x : P ⊎ (P → ⊥)) → tell x ≡ true → P
+pub told : {P : Type 0} (x : P ⊎ (P → ⊥)) → tell x ≡ true → P
 told (inl h) e = h
 told (inr n) e = absurd (cc)
 
-tell_same : {P Q : Type 0} (x : P ⊎ (P → ⊥)) (y : Q ⊎ (Q → ⊥)) → (P → Q) → (Q → P) → tell x ≡ tell y
+pub tell_same : {P Q : Type 0} (x : P ⊎ (P → ⊥)) (y : Q ⊎ (Q → ⊥)) → (P → Q) → (Q → P) → tell x ≡ tell y
 tell_same (inl h) y f g = sym (tell_holds y (f h))
 tell_same (inr n) (inl h) f g = absurd (n (g h))
 tell_same (inr n) (inr m) f g = refl
@@ -270,16 +270,16 @@ is_pair p q = tell (pair_is p q)
 is_pair_of_pairs : (p : BirthPair) → IsOfPairs (is_pair p)
 is_pair_of_pairs p q s h = tell_same (pair_is p q) (pair_is p s) (λ k. pair_trans p q s k h) (λ k. pair_trans p s q k (pair_sym q s h))
 
-counted : (test : BirthPair → Bool) (p : BirthPair) (ps : List BirthPair) → IsIn p ps → test p ≡ true → 0 < orders.tally test ps
+pub counted : {L : Type 0} (test : L → Bool) (p : L) (ps : List L) → IsIn p ps → test p ≡ true → 0 < orders.tally test ps
 counted test p [] h e = absurd h
 counted test p (q ∷ ps) (inl a) e = let b = ap bit (ap test (sym a) ∙ e) in omega arith
 counted test p (q ∷ ps) (inr h) e = let b = counted test p ps h e in omega arith
 
-found : (test : BirthPair → Bool) (ps : List BirthPair) → 0 < orders.tally test ps → (p : BirthPair) × IsIn p ps × (test p ≡ true)
+pub found : {L : Type 0} (test : L → Bool) (ps : List L) → 0 < orders.tally test ps → (p : L) × IsIn p ps × (test p ≡ true)
 found test [] h = absurd (omega arith)
-found test (p ∷ ps) h = go (test p) refl (found test ps)
+found {L} test (p ∷ ps) h = go (test p) refl (found test ps)
   where
-    go : (b : Bool) → test p ≡ b → (0 < orders.tally test ps → (q : BirthPair) × IsIn q ps × (test q ≡ true)) → (q : BirthPair) × IsIn q (p ∷ ps) × (test q ≡ true)
+    go : (b : Bool) → test p ≡ b → (0 < orders.tally test ps → (q : L) × IsIn q ps × (test q ≡ true)) → (q : L) × IsIn q (p ∷ ps) × (test q ≡ true)
     go true e rest = (p, inl refl, e)
     go false e rest = let b = ap bit e in let t = rest (omega arith) in (t.0, inr t.1, t.2)
 

@@ -264,6 +264,9 @@ module _ (N K : NamedNet NodeName) (t : ℕ) (e : Entry) (es : List Entry) (n : 
   under p (r, inl h) = (r, inl (h.0 ∙ first_alike s.named.pair, h.1 ∙ second_alike s.named.pair))
   under p (r, inr h) = (r, inr (h.0 ∙ second_alike s.named.pair, h.1 ∙ first_alike s.named.pair))
 
+  to_pair : (p : BirthPair) → IsSamePair p (pair_under m e) → IsSamePair p a.pair
+  to_pair p h = pair_trans p (pair_under n e) a.pair (under p h) (pair_sym a.pair (pair_under n e) a.same)
+
   module _ (p : BirthPair) (same : IsSamePair p a.pair) (active : IsActive B p.f p.g p.rule) (born_by : (place : ℕ) → m (Born t place) ≡ born p.f p.g place) where
     new_alike : (place : ℕ) (k : Kind) (i : ℕ) → HasNode K (Born t place) k i → m (Born t place) ≡ a.names (Born t place)
     new_alike place k i h = go same.1
@@ -280,24 +283,30 @@ module _ (N K : NamedNet NodeName) (t : ℕ) (e : Entry) (es : List Entry) (n : 
         go x k i h (of_f {q = q} u c b) = new_alike q k i h
         go x k i h (of_g {p = q} u c b) = new_alike (arity s.step.active.l + q) k i h
 
+-- the rest of the naming, once the entry's pair p was rewritten
+named_tail : (N K : NamedNet NodeName) (t : ℕ) (e : Entry) (es : List Entry) (n : NodeName → BirthName) (B : NamedNet BirthName) → Together N t n B → (s : IsEntryStep N t e K) → (a : OneOn K t e n B) →
+    (m : NodeName → BirthName) → ((x : NodeName) (k : Kind) (i : ℕ) → HasNode N x k i → m x ≡ n x) → (p : BirthPair) (ps : List BirthPair) → AreBirths m t (e ∷ es) (p ∷ ps) →
+    (from C after : NamedNet BirthName) → SameNet B from → IsPairStep from p C → IsPairRun C ps after → NamedOn K (suc t) es a.names a.after m
+named_tail N K t e es n B tg s a m alike p ps b from C after same d r =
+    let one = to_pair N K t e es n B tg s m alike a p b.0 in
+    let active = active_same from B (same_sym B from same) p.f p.g p.rule d.active in
+    record {
+      alike = all_alike N K t e es n B tg s m alike a p one active b.1;
+      pairs = ps;
+      births = b.2;
+      from = C;
+      after = after;
+      same = one_pair B from a.after C a.pair p (pair_sym p a.pair one) tg.birth_net same a.step d;
+      run = r;
+    }
+
 named_on : (N K : NamedNet NodeName) (t : ℕ) (e : Entry) (es : List Entry) (n : NodeName → BirthName) (B : NamedNet BirthName) → Together N t n B → (s : IsEntryStep N t e K) → (a : OneOn K t e n B) →
     (m : NodeName → BirthName) → NamedOn N t (e ∷ es) n B m → NamedOn K (suc t) es a.names a.after m
 named_on N K t e es n B tg s a m u = go u.pairs u.births u.run
   where
     go : (ps : List BirthPair) → AreBirths m t (e ∷ es) ps → IsPairRun u.from ps u.after → NamedOn K (suc t) es a.names a.after m
     go [] b r = absurd b
-    go (p ∷ ps) b (then {M = C} d r) =
-        let same = pair_trans p (pair_under n e) a.pair (under N K t e es n B tg s m u.alike a p b.0) (pair_sym a.pair (pair_under n e) a.same) in
-        let active = active_same u.from B (same_sym B u.from u.same) p.f p.g p.rule d.active in
-        record {
-          alike = all_alike N K t e es n B tg s m u.alike a p same active b.1;
-          pairs = ps;
-          births = b.2;
-          from = C;
-          after = u.after;
-          same = one_pair B u.from a.after C a.pair p (pair_sym p a.pair same) tg.birth_net u.same a.step d;
-          run = r;
-        }
+    go (p ∷ ps) b (then {M = C} d r) = named_tail N K t e es n B tg s a m u.alike p ps b u.from C u.after u.same d r
 
 both_alike : (N M : NamedNet NodeName) (t : ℕ) (es : List Entry) (n : NodeName → BirthName) (B : NamedNet BirthName) → Together N t n B → IsRun N t es M →
     (m m' : NodeName → BirthName) → NamedOn N t es n B m → NamedOn N t es n B m' → (x : NodeName) (k : Kind) (i : ℕ) → HasNode M x k i → m x ≡ m' x
@@ -306,20 +315,61 @@ both_alike N M t (e ∷ es) n B tg (runs.IsRun.then {M = K} s r) m m' u v x k i 
     let a = one_on N K t e n B tg s in
     both_alike K M (suc t) es a.names a.after a.on r m m' (named_on N K t e es n B tg s a m u) (named_on N K t e es n B tg s a m' v) x k i h
 
+module _ (N M : NamedNet NodeName) (journal : List Entry) (net : IsNet N) (before : AreNamedBefore N 0) where
+  start_names : (r : RunByBirths N journal M) (x : NodeName) (k : Kind) (i : ℕ) → HasNode N x k i → r.birth x ≡ by_number x
+  start_names r x k i h = let y = start_name x (before x k i h) in ap r.birth y.1 ∙ r.initial y.0 ∙ sym (ap by_number y.1)
+
+  start_same : (r : RunByBirths N journal M) → SameNet (net_under by_number N) (net_under r.birth N)
+  start_same r = subst (λ B. SameNet (net_under by_number N) B) (sym (net_alike r.birth by_number N net (start_names r))) (same_refl (net_under by_number N))
+
+  named_start : (r : RunByBirths N journal M) → NamedOn N 0 journal by_number (net_under by_number N) r.birth
+  named_start r = record {
+    alike = start_names r;
+    pairs = r.pairs;
+    births = r.births;
+    from = net_under r.birth N;
+    after = r.after;
+    same = start_same r;
+    run = r.run;
+  }
+
+  together_start : Together N 0 by_number (net_under by_number N)
+  together_start = record { net = net; before = before; birth_net = start_net N net before; renames = start_renamed N net before }
+
 pub birth_names_are_one : BirthNamesAreOne
 birth_names_are_one N M journal net before run r s x k i h =
-    both_alike N M 0 journal by_number (net_under by_number N) (record { net = net; before = before; birth_net = start_net N net before; renames = start_renamed N net before }) run r.birth s.birth (on r) (on s) x k i h
-  where
-    on : (r : RunByBirths N journal M) → NamedOn N 0 journal by_number (net_under by_number N) r.birth
-    on r = record {
-      alike = alike;
-      pairs = r.pairs;
-      births = r.births;
-      from = net_under r.birth N;
-      after = r.after;
-      same = subst (λ B. SameNet (net_under by_number N) B) (sym (net_alike r.birth by_number N net alike)) (same_refl (net_under by_number N));
-      run = r.run;
-    }
-      where
-        alike : (x : NodeName) (k : Kind) (i : ℕ) → HasNode N x k i → r.birth x ≡ by_number x
-        alike x k i h = let y = start_name x (before x k i h) in ap r.birth y.1 ∙ r.initial y.0 ∙ sym (ap by_number y.1)
+    both_alike N M 0 journal by_number (net_under by_number N) (together_start N M journal net before) run r.birth s.birth
+    (named_start N M journal net before r) (named_start N M journal net before s) x k i h
+
+-- ---- and they have the same pairs
+
+-- one by one the same pairs
+abbrev pub AreSamePairs : List BirthPair → List BirthPair → Type 0
+AreSamePairs [] [] = Unit {0}
+AreSamePairs (p ∷ ps) (q ∷ qs) = IsSamePair p q × AreSamePairs ps qs
+AreSamePairs _ _ = ⊥
+
+both_pairs : (N M : NamedNet NodeName) (t : ℕ) (es : List Entry) (n : NodeName → BirthName) (B : NamedNet BirthName) → Together N t n B → IsRun N t es M → (m m' : NodeName → BirthName) →
+    ((x : NodeName) (k : Kind) (i : ℕ) → HasNode N x k i → m x ≡ n x) → ((x : NodeName) (k : Kind) (i : ℕ) → HasNode N x k i → m' x ≡ n x) → (ps qs : List BirthPair) → AreBirths m t es ps → AreBirths m' t es qs →
+    (from from' after after' : NamedNet BirthName) → SameNet B from → SameNet B from' → IsPairRun from ps after → IsPairRun from' qs after' → AreSamePairs ps qs
+unfolding named_tail
+both_pairs N M t [] n B tg runs.IsRun.end m m' u v [] [] b b' from from' after after' same same' r r' = tt
+both_pairs N M t [] n B tg runs.IsRun.end m m' u v [] (q ∷ qs) b b' from from' after after' same same' r r' = absurd b'
+both_pairs N M t [] n B tg runs.IsRun.end m m' u v (p ∷ ps) qs b b' from from' after after' same same' r r' = absurd b
+both_pairs N M t (e ∷ es) n B tg (runs.IsRun.then s x) m m' u v [] qs b b' from from' after after' same same' r r' = absurd b
+both_pairs N M t (e ∷ es) n B tg (runs.IsRun.then s x) m m' u v (p ∷ ps) [] b b' from from' after after' same same' r r' = absurd b'
+both_pairs N M t (e ∷ es) n B tg (runs.IsRun.then {M = K} s x) m m' u v (p ∷ ps) (q ∷ qs) b b' from from' after after' same same' (then {M = C} d r) (then {M = C'} d' r') =
+    let a = one_on N K t e n B tg s in
+    let y = to_pair N K t e es n B tg s m u a p b.0 in
+    let z = to_pair N K t e es n B tg s m' v a q b'.0 in
+    let f = named_tail N K t e es n B tg s a m u p ps b from C after same d r in
+    let f' = named_tail N K t e es n B tg s a m' v q qs b' from' C' after' same' d' r' in (
+      pair_trans p a.pair q y (pair_sym q a.pair z),
+      both_pairs K M (suc t) es a.names a.after a.on x m m' f.alike f'.alike ps qs b.2 b'.2 C C' after after' f.same f'.same r r',
+    )
+
+pub same_pairs : (N M : NamedNet NodeName) (journal : List Entry) → IsNet N → AreNamedBefore N 0 → IsRun N 0 journal M → (r s : RunByBirths N journal M) → AreSamePairs r.pairs s.pairs
+same_pairs N M journal net before run r s =
+    both_pairs N M 0 journal by_number (net_under by_number N) (together_start N M journal net before) run r.birth s.birth
+    (start_names N M journal net before r) (start_names N M journal net before s) r.pairs s.pairs r.births s.births
+    (net_under r.birth N) (net_under s.birth N) r.after s.after (start_same N M journal net before r) (start_same N M journal net before s) r.run s.run

@@ -14,3 +14,9 @@ pub mod OneThreadNames
 pub mod OneThreadRuns
 pub mod OneThread
 pub mod SameNets
+pub mod Weighing
+pub mod TurnedJoins
+pub mod Weighted
+pub mod Bottlenecks
+pub mod WaveSteps
+pub mod WeightedJournals

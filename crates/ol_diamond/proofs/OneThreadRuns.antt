@@ -42,7 +42,7 @@ one_more N M P (q ∷ ps) p (then {M = K} t r) s = then t (one_more K M P ps p r
 
 module _ (N : NamedNet NodeName) (net : IsNet N) (before : AreNamedBefore N 0) where
   -- the start nodes have one birth name in all runs
-  start_alike : (m n : NodeName → BirthName) → ((k : ℕ) → m (Init k) ≡ init k) → ((k : ℕ) → n (Init k) ≡ init k) → net_under m N ≡ net_under n N
+  pub start_alike : (m n : NodeName → BirthName) → ((k : ℕ) → m (Init k) ≡ init k) → ((k : ℕ) → n (Init k) ≡ init k) → net_under m N ≡ net_under n N
   start_alike m n a b = net_alike m n N net (λ x k i h. go x (before x k i h))
     where
       clash : (t p : ℕ) → comes_before (Born t p) (Born 0 0) ≡ true → ⊥

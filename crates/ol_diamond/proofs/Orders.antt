@@ -2,7 +2,7 @@
 use Rattle.std.proofs.Common.{◌≡◌, ℕ, ◌+◌, ◌≤◌, List, [], ◌∷◌, ◌++◌, Bool, ◌⊎◌, inl, inr, refl, sym, ap, ◌∙◌, arith}
 use Rattle.ol_edges.specs.Edges.{bit}
 
-pub record Commuting {S L : Type 0} (Good : S → Type 0) (Same : S → S → Type 0) (Alike : L → L → Type 0) (Step : S → L → S → Type 0) : Type 0 where
+pub record Commuting {ℓ} {S : Type ℓ} {L : Type 0} (Good : S → Type 0) (Same : S → S → Type 0) (Alike : L → L → Type 0) (Step : S → L → S → Type 0) : Type ℓ where
   pub same_refl : (s : S) → Same s s
   pub same_sym : (s t : S) → Same s t → Same t s
   pub same_trans : (s t u : S) → Same s t → Same t u → Same s u
@@ -14,12 +14,12 @@ pub record Commuting {S L : Type 0} (Good : S → Type 0) (Same : S → S → Ty
   pub is : (l m : L) → Alike l m ⊎ (Alike l m → ⊥)
   pub alike_sym : (l m : L) → Alike l m → Alike m l
 
-module _ {S L : Type 0} (Step : S → L → S → Type 0) where
-  pub data Run : S → List L → S → Type 0 where
+module _ {ℓ} {S : Type ℓ} {L : Type 0} (Step : S → L → S → Type 0) where
+  pub data Run : S → List L → S → Type ℓ where
     end : {s : S} → Run s [] s
     then : {s t u : S} {l : L} {ls : List L} → Step s l t → Run t ls u → Run s (l ∷ ls) u
 
-  abbrev pub Ended : S → Type 0
+  abbrev pub Ended : S → Type ℓ
   Ended s = (l : L) (t : S) → Step s l t → ⊥
 
 -- how many pass a test
@@ -31,7 +31,7 @@ tally_append : {L : Type 0} (p : L → Bool) (xs ys : List L) → tally p (xs ++
 tally_append p [] ys = omega arith
 tally_append p (l ∷ xs) ys = let h = tally_append p xs ys in omega arith
 
-module _ {S L : Type 0} {Good : S → Type 0} {Same : S → S → Type 0} {Alike : L → L → Type 0} {Step : S → L → S → Type 0} (c : Commuting Good Same Alike Step) where
+module _ {ℓ} {S : Type ℓ} {L : Type 0} {Good : S → Type 0} {Same : S → S → Type 0} {Alike : L → L → Type 0} {Step : S → L → S → Type 0} (c : Commuting Good Same Alike Step) where
   -- the same run from the same start
   run_also : (s s' t : S) (ls : List L) → Good s → Good s' → Same s s' → Run Step s ls t → (t' : S) × Run Step s' ls t' × Same t t'
   run_also s s' t [] g g' q end = (s', end, q)
@@ -48,7 +48,7 @@ module _ {S L : Type 0} {Good : S → Type 0} {Same : S → S → Type 0} {Alike
   good_end s t (l ∷ ls) g (then {t = u} h r) = good_end u t ls (c.good s u l g h) r
 
   -- a label that can be taken now stands in a complete run, and can be moved to its front
-  pub record Front (l : L) (ls : List L) (u t : S) : Type 0 where
+  pub record Front (l : L) (ls : List L) (u t : S) : Type ℓ where
     pub before : List L
     pub after : List L
     pub label : L

@@ -4,3 +4,6 @@ pub mod Runs
 pub mod Laws
 pub mod Squares
 pub mod OneThread
+pub mod Weights
+pub mod Waves
+pub mod WaveLaws

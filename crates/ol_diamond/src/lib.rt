@@ -15,11 +15,13 @@ mod one_thread;
 mod square;
 #[cfg(test)]
 mod tests;
+mod waves;
 
 ghost use Rattle.ol_diamond.specs.Laws.{StartIsBirthNet, StepKeepsBirthNet, RunKeepsBirthNet, BornIsFresh, PairsCommute, DoneMeansDone, PairToFront, EachPairIsAmong, NoRunHasMore, NoRunIsLonger, CompleteRunsHaveOnePairs, CompleteRunsHaveOneCounts, CompleteRunsLeaveOneNet, BirthFollows, CompleteFollows, BirthNamesAreOne};
 
 pub use one_thread::{one_thread_agrees, same_nets_run_alike};
 pub use square::{Square, SquareFault, two_orders};
+pub use waves::{heaviest_stays, runs_have_waves, waves_agree};
 
 /// Where no node's name is a proper part of another's, no node is there already that a rewrite will
 /// make. A net of start nodes is such a net, and each step and each run keeps it.
