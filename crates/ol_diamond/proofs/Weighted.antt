@@ -10,7 +10,7 @@ use Rattle.ol_net.specs.Nets.{NamedPort, slot, NamedNet, HasNode, Linked, SameNe
 use Rattle.ol_net.specs.Pairs.{IsActive}
 use Rattle.ol_rules.specs.Rewriting.{action_of, JoinOf, Rewrites}
 use Rattle.ol_rules.specs.Laws.{IsFresh}
-use Rattle.ol_rules.specs.Runs.{IsComplete}
+use Rattle.ol_net.specs.Pairs.{IsComplete}
 use Rattle.ol_rules.proofs.Relation.{same_refl, same_sym, same_trans, rewrites_same}
 use Rattle.ol_diamond.specs.Births.{BirthName, born, IsBirthNet}
 use Rattle.ol_diamond.specs.Runs.{BirthPair, IsSamePair, IsPairStep}

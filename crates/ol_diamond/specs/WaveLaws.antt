@@ -7,7 +7,8 @@ use Rattle.ol_rules.specs.declared.journal.NodeName.{NodeName}
 use Rattle.ol_rules.specs.declared.journal.Entry.{Entry}
 use Rattle.ol_rules.specs.Rewriting.{IsStep}
 use Rattle.ol_rules.specs.Laws.{AreNamedBefore}
-use Rattle.ol_rules.specs.Runs.{IsRun, IsComplete}
+use Rattle.ol_net.specs.Pairs.{IsComplete}
+use Rattle.ol_rules.specs.Runs.{IsRun}
 use Rattle.ol_diamond.specs.Births.{BirthName, IsBirthNet}
 use Rattle.ol_diamond.specs.Runs.{BirthPair, IsPairRun}
 use Rattle.ol_diamond.specs.Waves.{WeightedNet, weightless, IsWaveStep, AreWaves, IsWaveRun, IsSameWave, IsOfWaves}
