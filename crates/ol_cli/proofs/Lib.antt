@@ -1,6 +1,7 @@
 mod Exact
 mod Evaluated
 mod OneAnswer
+mod Complete
 mod NamedNets
 mod ListedOnce
 mod Following

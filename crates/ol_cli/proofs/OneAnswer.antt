@@ -55,7 +55,7 @@ file_net bytes t names f =
     translation_net t (length names) (subst (λ t. HasNames t (length names)) (sym f.tree) (subst (λ names. HasNames (number f.named) (length names)) (sym f.free_names) has_names))
 
 -- what a job answers to a term, by cases
-data OfTerm (t : Tree) (names : List (List ℕ)) : Asked → Status → List ℕ → Type 0 where
+pub data OfTerm (t : Tree) (names : List (List ℕ)) : Asked → Status → List ℕ → Type 0 where
   spent : {w fuel heads : ℕ} {name x : List ℕ} → RunsOut t names fuel → x ≡ spent_text fuel → OfTerm t names (run w fuel heads name) Spent x
   printed : {w fuel heads : ℕ} {name x : List ℕ} → Prints t names fuel heads x → OfTerm t names (run w fuel heads name) Done x
   walked : {edges heads : ℕ} {name x : List ℕ} → Walks t names edges heads x → OfTerm t names (walk edges heads name) Done x
@@ -63,7 +63,7 @@ data OfTerm (t : Tree) (names : List (List ℕ)) : Asked → Status → List ℕ
   traced : {w fuel : ℕ} {name x : List ℕ} → RunEnds t names fuel → OfTerm t names (trace w fuel name) Done x
   stopped : {w fuel : ℕ} {name x : List ℕ} → RunsOut t names fuel → OfTerm t names (trace w fuel name) Spent x
 
-of_term : (t : Tree) (names : List (List ℕ)) (a : Asked) (s : Status) (x : List ℕ) → TermAnswer a t names s x → OfTerm t names a s x
+pub of_term : (t : Tree) (names : List (List ℕ)) (a : Asked) (s : Status) (x : List ℕ) → TermAnswer a t names s x → OfTerm t names a s x
 of_term t names (run w fuel heads name) Spent x h = spent h.0 h.1
 of_term t names (run w fuel heads name) Done x h = printed h
 of_term t names (run w fuel heads name) Usage x h = absurd h
@@ -112,7 +112,7 @@ one_of_term t names n a s s' x x' (stopped r) (stopped r') = (refl, λ one. absu
 one_of_term t names n a s s' x x' (viewed {after = after} v) (viewed v') = (refl, λ one. one_view t names n after x x' v v')
 
 -- what a job answers to a tree, by the order of refusals
-data OfTree (asked : Asked) (t : Tree) (names : List (List ℕ)) (s : Status) (x : List ℕ) : Type 0 where
+pub data OfTree (asked : Asked) (t : Tree) (names : List (List ℕ)) (s : Status) (x : List ℕ) : Type 0 where
   too_deep : 1000 < depth t → Same s Limit x depth_text → OfTree asked t names s x
   too_large : depth t ≤ 1000 → 200000 < size_of_translation t → Same s Limit x nodes_text → OfTree asked t names s x
   done : depth t ≤ 1000 → size_of_translation t ≤ 200000 → TermAnswer asked t names s x → OfTree asked t names s x
@@ -131,12 +131,12 @@ one_of_tree asked t names n s s' x x' (done d z h) (done d' z' h') = one_of_term
 -- ---- a file
 
 -- what a job answers to a file, by the order of refusals
-data OfFile (asked : Asked) (bytes : List ℕ) (s : Status) (x : List ℕ) : Type 0 where
+pub data OfFile (asked : Asked) (bytes : List ℕ) (s : Status) (x : List ℕ) : Type 0 where
   too_long : 1048576 < length bytes → Same s Limit x bytes_text → OfFile asked bytes s x
   refused : length bytes ≤ 1048576 → (at : ℕ) → IsRefusedAt bytes at → Same s Syntax x (syntax_text at) → OfFile asked bytes s x
   has_term : length bytes ≤ 1048576 → (t : Tree) (names : List (List ℕ)) → IsFileOf bytes t names → OfTree asked t names s x → OfFile asked bytes s x
 
-of_file_answer : (asked : Asked) (bytes : List ℕ) (s : Status) (x : List ℕ) → FileAnswer asked bytes s x → OfFile asked bytes s x
+pub of_file_answer : (asked : Asked) (bytes : List ℕ) (s : Status) (x : List ℕ) → FileAnswer asked bytes s x → OfFile asked bytes s x
 of_file_answer asked bytes Limit x (long l e) = too_long l (refl, e)
 of_file_answer asked bytes Limit x (deep l {t = t} {names = names} f d e) = has_term l t names f (too_deep d (refl, e))
 of_file_answer asked bytes Limit x (large l {t = t} {names = names} f d z e) = has_term l t names f (too_large d z (refl, e))
@@ -183,11 +183,11 @@ not_refused term journal bytes t names s x (has_term l u others f h) i = go h
     go (done d z h) = h
 
 -- what is found of a journal, by cases
-data OfJournal (t : Tree) (names : List (List ℕ)) (journal : List ℕ) (s : Status) (x : List ℕ) : Type 0 where
+pub data OfJournal (t : Tree) (names : List (List ℕ)) (journal : List ℕ) (s : Status) (x : List ℕ) : Type 0 where
   past : 67108864 < length journal → Same s Limit x journal_text → OfJournal t names journal s x
   found : length journal ≤ 67108864 → (v : Check) → OnlyIsFound (start_net_of_term t names) journal v → Same s Done x (found_text v) → OfJournal t names journal s x
 
-of_journal_answer : (t : Tree) (names : List (List ℕ)) (journal : List ℕ) (s : Status) (x : List ℕ) → JournalAnswer t names journal s x → OfJournal t names journal s x
+pub of_journal_answer : (t : Tree) (names : List (List ℕ)) (journal : List ℕ) (s : Status) (x : List ℕ) → JournalAnswer t names journal s x → OfJournal t names journal s x
 of_journal_answer t names journal Limit x h = past h.0 (refl, h.1)
 of_journal_answer t names journal Done x h = found h.0 h.1.0 h.1.1 (refl, h.1.2)
 of_journal_answer t names journal Spent x h = absurd h
@@ -212,7 +212,7 @@ one_making true k s s' x x' m m' =
     (e.0, e.1 tt)
 
 module _ (files : Text → Option (List ℕ)) where
-  one_bytes : (name : Text) (a b : List ℕ) → files name ≡ Some a → files name ≡ Some b → a ≡ b
+  pub one_bytes : (name : Text) (a b : List ℕ) → files name ≡ Some a → files name ≡ Some b → a ≡ b
   one_bytes name a b e f = let z : Some a ≡ Some b = sym e ∙ f in cc
 
   one_checked : (term journal : Text) (s s' : Status) (x x' : List ℕ) → JobAnswer files s x (check term journal) → JobAnswer files s' x' (check term journal) → Same s s' x x'

@@ -8,6 +8,7 @@ pub mod Answers
 pub mod Sources
 pub mod Laws
 pub mod Handed
+pub mod Completeness
 -- What only contracts of private functions and proofs cite.
 pub mod ReadAgain
 pub mod Prepared

@@ -27,6 +27,10 @@ pub record IsNetOf (t : Tree) (names : List (List ℕ)) (net : Graph) : Type 0 w
   pub whole : count_by is_some net.nodes ≡ length net.nodes
   pub small : IsSmallNet net
 
+-- this holds of each term whose net it is, with its free names
+abbrev pub HoldsOfTerms : Graph → (Tree → List (List ℕ) → Type 0) → Type 0
+HoldsOfTerms net P = (t : Tree) (names : List (List ℕ)) → IsNetOf t names net → P t names
+
 -- the bytes are a text of this term, whose net this is
 pub record IsReady (bytes : List ℕ) (t : Tree) (names : List (List ℕ)) (net : Graph) : Type 0 where
   pub term : IsTermFile bytes t names

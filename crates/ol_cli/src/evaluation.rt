@@ -1,6 +1,6 @@
 //! The job itself: from the bytes of a term file to a text and a status.
 ghost use Rattle.std.specs.Prelude.{◌≡◌, ◌≤◌, ◌<◌, ◌+◌, ◌*◌, ℕ, List, length, count_by, is_some, IfOk, None};
-ghost use Rattle.ol_term.specs.Trees.{Tree, tree_of};
+ghost use Rattle.ol_term.specs.Trees.{tree_of};
 ghost use Rattle.ol_net.specs.Numbered.{net_of};
 ghost use Rattle.ol_net.specs.Nets.{SameNet};
 ghost use Rattle.ol_translate.specs.Translation.{translation_of};
@@ -11,7 +11,7 @@ ghost use Rattle.ol_cli.specs.ReadAgain.{FileIsReadAgain};
 ghost use Rattle.ol_cli.specs.Answers.{FileAnswer, TraceAnswer, plain_run};
 ghost use Rattle.ol_cli.specs.Evaluation.{Views};
 ghost use Rattle.ol_cli.specs.Handed.{WhereEnded, FileHands, TraceHands};
-ghost use Rattle.ol_cli.specs.Prepared.{IsNetOf};
+ghost use Rattle.ol_cli.specs.Prepared.{HoldsOfTerms, IsNetOf};
 
 use crate::preparing::{Prepared, prepare};
 use crate::status::Status;
@@ -252,8 +252,8 @@ fn walk_net(
 fn view_net(alloc: Global, net: &Net, leads: u32) -> Result<Vec<u8>, NoMemory>
     requires small { IsSmallNet net.now }
     requires leads { leads ≤ 2000000 }
-    ensures { IfOk result (λ text. (t : Tree) (names : List (List ℕ)) → IsNetOf t names net.now
-        → Views t names leads text.items) }
+    ensures { IfOk result (λ text.
+        HoldsOfTerms net.now (λ t names. Views t names leads text.items)) }
 {
     let last = after(alloc, net, leads)?;
     last.net.is_tabled();
@@ -275,10 +275,10 @@ fn trace_net<R: Threads + Wait + Sync, G: Gate + Sync>(
     requires small { IsSmallNet net.now }
     requires workers { (1 ≤ workers) × (workers ≤ 64) }
     requires fuel { fuel ≤ 2000000 }
-    ensures answer { IfOk result (λ a. (t : Tree) (names : List (List ℕ)) → IsNetOf t names net.now
-        → TraceAnswer t names fuel a.status a.text.items) }
-    ensures closed { IfOk result (λ a. (t : Tree) (names : List (List ℕ)) → IsNetOf t names net.now
-        → TraceHands t names workers fuel a.status a.text.items a.closed) }
+    ensures answer { IfOk result (λ a.
+        HoldsOfTerms net.now (λ t names. TraceAnswer t names fuel a.status a.text.items)) }
+    ensures closed { IfOk result (λ a. HoldsOfTerms net.now (λ t names.
+        TraceHands t names workers fuel a.status a.text.items a.closed)) }
 {
     net.is_net();
     let reduced = reduce(rt, alloc, net, workers, fuel, gate)?;

@@ -4,6 +4,8 @@
 #[cfg(test)]
 mod command_tests;
 mod evaluation;
+#[cfg(test)]
+mod fault_tests;
 mod laws;
 #[cfg(test)]
 mod order_tests;

@@ -1,7 +1,6 @@
 //! The top call.
 ghost use Rattle.std.specs.Prelude.{List, ℕ, ◌≢◌, ◌≤◌, ◌+◌, ◌≡◌, ◌<◌, ◌⊎◌, true, IfOk, None};
 ghost use Rattle.ol_io.specs.Outside.{Rose, Appended};
-ghost use Rattle.ol_term.specs.Trees.{Tree};
 ghost use Rattle.ol_term.specs.Generated.{doubled_text};
 ghost use Rattle.ol_wire.specs.Sizes.{IsSmallNet};
 ghost use Rattle.ol_words.specs.Asked.{asked_by, check, gen};
@@ -9,7 +8,8 @@ ghost use Rattle.ol_cli.specs.Texts.{line};
 ghost use Rattle.ol_cli.specs.Jobs.{AskForNothing, EachName, IsKnownTo, TellsTerm, TellsFiles, count_of_files, files_of, file_name};
 ghost use Rattle.ol_cli.specs.Inside.{IsReadWhereTold, IsOnTerm, IsWithinLimits, EndsJournal};
 ghost use Rattle.ol_cli.specs.Answers.{IfNoneFailed, seen_by, Cause, Ends, FileCause, IsAnswer, JobCause, Makes};
-ghost use Rattle.ol_cli.specs.Prepared.{IsNetOf};
+ghost use Rattle.ol_cli.specs.Completeness.{AskForWhatCanBeDone, IsDoneOrNothing};
+ghost use Rattle.ol_cli.specs.Prepared.{HoldsOfTerms};
 ghost use Rattle.ol_cli.specs.Sources.{EveryRunTells, WritesTree};
 ghost use Rattle.ol_cli.specs.ReadAgain.{FileIsReadAgain, WordsAreReadAgain, WritesReadable};
 ghost use Rattle.ol_cli.specs.Handed.{Hands, JobHands, MakingHands, ReadHands, WhereEnded, WordsHand};
@@ -114,6 +114,14 @@ pub fn ol<R: Threads + Wait + Sync, S: Source, W: Sink, G: Gate + Sync>(
         → (text : List ℕ) × IsAnswer words.now.items (S.contents src.old) result.status text
         × Appended (W.taken out.old) text (W.taken out.new)) }
 
+    // Where the words ask for a job that can be done, its files being within the limits and in the
+    // grammar and its run ending within the fuel, and where nothing fails, the job is done and its
+    // answer's text written, or no memory was found and nothing was written.
+    ensures completeness { AskForWhatCanBeDone words.now.items (S.contents src.old)
+        → IfNoneFailed (S.faults src.old) (S.faults src.new) (W.faults out.old) (W.faults out.new)
+        (IsDoneOrNothing words.now.items (S.contents src.old)
+        result.status (W.taken out.old) (W.taken out.new)) }
+
     // And where `run`, `walk` or `gen --run` is done, two facts hold of the tree whose text is
     // written. Each of its heads is the one that paths of any length give in the untouched net of
     // the job's own term; so is each `?`, where the printed `stuck` is 0, while of a `?` of `walk`
@@ -159,6 +167,11 @@ pub fn ol<R: Threads + Wait + Sync, S: Source, W: Sink, G: Gate + Sync>(
     // It begins as many names at most as the job has files. It knows of no name but those of its
     // job's files.
     ensures begins { S.begins src.new ≤ S.begins src.old + files_of words.now.items }
+
+    // The source knows the names that it knew and has the bytes that it had, so `ol` can be called
+    // again.
+    ensures knows { S.knows src.new ≡ S.knows src.old }
+    ensures contents { S.contents src.new ≡ S.contents src.old }
 {
     answer(rt, alloc, words, src, out, gate)
 }
@@ -183,6 +196,8 @@ fn answer<R: Threads + Wait + Sync, S: Source, W: Sink, G: Gate + Sync>(
         (seen_by S.faults S.contents S.given S.ended src.old src.new)
         result.status result.closed (W.taken out.old) (W.taken out.new) }
     ensures begins { S.begins src.new ≤ S.begins src.old + files_of words.now.items }
+    ensures knows { S.knows src.new ≡ S.knows src.old }
+    ensures contents { S.contents src.new ≡ S.contents src.old }
 {
     match plan(rt, alloc, words, src, gate) {
         Err(NoMemory) => Outcome {
@@ -226,6 +241,8 @@ fn plan<R: Threads + Wait + Sync, S: Source, G: Gate + Sync>(
         (seen_by S.faults S.contents S.given S.ended src.old src.new)
         a.status a.text.items a.closed)) }
     ensures begins { S.begins src.new ≤ S.begins src.old + files_of words.now.items }
+    ensures knows { S.knows src.new ≡ S.knows src.old }
+    ensures contents { S.contents src.new ≡ S.contents src.old }
 {
     match job(alloc, words) {
         Err(UsageFault::NoMemory) => Err(NoMemory),
@@ -262,6 +279,8 @@ fn answer_job<R: Threads + Wait + Sync, S: Source, G: Gate + Sync>(
         (seen_by S.faults S.contents S.given S.ended src.old src.new)
         a.status a.text.items a.closed)) }
     ensures begins { S.begins src.new ≤ S.begins src.old + count_of_files (asked_by job.now) }
+    ensures knows { S.knows src.new ≡ S.knows src.old }
+    ensures contents { S.contents src.new ≡ S.contents src.old }
 {
     match job {
         Job::Run { name, .. } => answer_file(rt, alloc, job, name.as_str(), src, gate),
@@ -297,6 +316,8 @@ fn answer_file<R: Threads + Wait + Sync, S: Source, G: Gate + Sync>(
         (seen_by S.faults S.contents S.given S.ended src.old src.new)
         a.status a.text.items a.closed)) }
     ensures begins { S.begins src.new ≤ S.begins src.old + 1 }
+    ensures knows { S.knows src.new ≡ S.knows src.old }
+    ensures contents { S.contents src.new ≡ S.contents src.old }
 {
     match read_all(alloc, src, name, MOST_BYTES) {
         Err(ReadAll::NoMemory) => Err(NoMemory),
@@ -339,6 +360,8 @@ fn answer_check<S: Source>(
         a.status a.text.items (check term.now journal.now)) }
     ensures closed { IfOk result (λ a. a.closed ≡ None) }
     ensures begins { S.begins src.new ≤ S.begins src.old + 2 }
+    ensures knows { S.knows src.new ≡ S.knows src.old }
+    ensures contents { S.contents src.new ≡ S.contents src.old }
 {
     match read_all(alloc, src, term, MOST_BYTES) {
         Err(ReadAll::NoMemory) => Err(NoMemory),
@@ -370,11 +393,13 @@ fn answer_journal<S: Source>(
 ) -> Result<Answer, NoMemory>
     requires known { S.knows src.old name.now ≡ true }
     requires small { IsSmallNet net.now }
-    ensures caused { IfOk result (λ a. (t : Tree) (names : List (List ℕ)) → IsNetOf t names net.now
-        → EndsJournal (seen_by S.faults S.contents S.given S.ended src.old src.new)
-        name.now t names a.status a.text.items) }
+    ensures caused { IfOk result (λ a. HoldsOfTerms net.now (λ t names.
+        EndsJournal (seen_by S.faults S.contents S.given S.ended src.old src.new)
+        name.now t names a.status a.text.items)) }
     ensures closed { IfOk result (λ a. a.closed ≡ None) }
     ensures begins { S.begins src.new ≤ S.begins src.old + 1 }
+    ensures knows { S.knows src.new ≡ S.knows src.old }
+    ensures contents { S.contents src.new ≡ S.contents src.old }
 {
     match read_all(alloc, src, name, MOST_JOURNAL_BYTES) {
         Err(ReadAll::NoMemory) => Err(NoMemory),

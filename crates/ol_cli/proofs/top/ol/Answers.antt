@@ -1,3 +1,4 @@
+use Rattle.ol_cli.proofs.Complete.{done_or_nothing}
 use Rattle.ol_cli.proofs.Exact.{ends_done, ends_exact, ends_fault, ends_risen, ends_usage}
 use Rattle.ol_cli.proofs.Sourced.{writes_tree, ends_run}
 use Rattle.ol_cli.proofs.top.ol.Goals as goal
@@ -6,6 +7,11 @@ pub returns-clause-exact : goal.returns-clause-exact
 returns-clause-exact g c = λ tells quiet calm has.
     ends_exact c.args.words.now.items (g.S.Source.faults c.args.src.now) (g.S.Source.faults c.answer.new.src) (g.S.Source.given c.answer.new.src) (g.S.Source.contents c.args.src.now) (g.S.Source.ended c.answer.new.src)
     quiet tells c.answer.result.status (g.W.Sink.faults c.args.out.now) (g.W.Sink.faults c.answer.new.out) (g.W.Sink.taken c.args.out.now) (g.W.Sink.taken c.answer.new.out) calm has c.answer.ensures.ends
+
+pub returns-clause-completeness : goal.returns-clause-completeness
+returns-clause-completeness g c = λ can quiet calm.
+    done_or_nothing c.args.words.now.items (g.S.Source.faults c.args.src.now) (g.S.Source.faults c.answer.new.src) (g.S.Source.given c.answer.new.src) (g.S.Source.contents c.args.src.now) (g.S.Source.ended c.answer.new.src)
+    quiet can c.answer.result.status (g.W.Sink.faults c.args.out.now) (g.W.Sink.faults c.answer.new.out) (g.W.Sink.taken c.args.out.now) (g.W.Sink.taken c.answer.new.out) calm c.answer.ensures.ends
 
 pub returns-clause-read : goal.returns-clause-read
 returns-clause-read g c = λ e. ends_fault c.args.words.now.items

@@ -1,0 +1,49 @@
+-- When a job can be done: where its files are within the limits and in the grammar, and its run ends within the fuel.
+use Rattle.std.specs.Prelude.{◌≡◌, ◌⊎◌, ℕ, ◌≤◌, true, false, List, length, Option, Some, String}
+use Rattle.std.specs.declared.alloc.Global.{Global}
+use Rattle.ol_io.specs.Outside.{Appended}
+use Rattle.ol_term.specs.Trees.{Tree}
+use Rattle.ol_term.specs.Generated.{doubled_text}
+use Rattle.ol_words.specs.Texts.{Text}
+use Rattle.ol_words.specs.Asked.{Asked, run, walk, view, trace, check, gen}
+use Rattle.ol_cli.specs.declared.status.Status.{Status}
+use Rattle.ol_cli.specs.declared.status.Status.TheVariants as status
+use Rattle.ol_cli.specs.Jobs.{AskFor, plain_fuel, term_bytes}
+use Rattle.ol_cli.specs.Evaluation.{RunEnds}
+use Rattle.ol_cli.specs.Answers.{IsAnswer, IsTermFile}
+
+-- where the job rewrites a term until no pair is active, the one-thread run of this term ends within the job's fuel
+abbrev pub EndsWithinFuel : Asked → Tree → List (List ℕ) → Type 0
+EndsWithinFuel (run workers fuel heads name) t names = RunEnds t names fuel
+EndsWithinFuel (trace workers fuel name) t names = RunEnds t names fuel
+EndsWithinFuel (gen runs k) t names = RunEnds t names plain_fuel
+EndsWithinFuel _ t names = Unit {0}
+
+-- the bytes of the job's term are told, in the grammar and within the limits, and its run ends within the fuel
+pub record HasTermWithin (files : Text → Option (List ℕ)) (asked : Asked) : Type 0 where
+  pub bytes : List ℕ
+  pub term : Tree
+  pub names : List (List ℕ)
+  pub told : term_bytes files asked ≡ Some bytes
+  pub file : IsTermFile bytes term names
+  pub ends : EndsWithinFuel asked term names
+
+-- the bytes of a journal file are told, and no more than are read
+abbrev pub HasJournalWithin : (Text → Option (List ℕ)) → Text → Type 0
+HasJournalWithin files name = (journal : List ℕ) × (files name ≡ Some journal) × (length journal ≤ 67108864)
+
+-- The job can be done, its files having these bytes. A term that is only made can always be.
+abbrev pub CanDo : (Text → Option (List ℕ)) → Asked → Type 0
+CanDo files (gen false k) = Unit {0}
+CanDo files (check term journal) = HasTermWithin files (check term journal) × HasJournalWithin files journal
+CanDo files asked = HasTermWithin files asked
+
+-- the words ask for a job that can be done
+abbrev pub AskForWhatCanBeDone : List (String Global) → (Text → Option (List ℕ)) → Type 0
+AskForWhatCanBeDone words files = (asked : Asked) × AskFor words asked × CanDo files asked
+
+-- The job was done and its answer's text was written whole, or no memory was found and nothing was written.
+abbrev pub IsDoneOrNothing : List (String Global) → (Text → Option (List ℕ)) → Status → Option (List ℕ) → Option (List ℕ) → Type 0
+IsDoneOrNothing words files st old new =
+    ((st ≡ status.Done) × ((text : List ℕ) × IsAnswer words files status.Done text × Appended old text new))
+    ⊎ ((st ≡ status.NoMemory) × (new ≡ old))
