@@ -5,10 +5,11 @@ ghost use Rattle.ol_wire.specs.Sizes.{IsSmallNet};
 
 use crate::{Outcome, Status, ol};
 use ol_io::{Gate, MemFile, MemSink, MemSource, OpenGate};
-use ol_net::{Kind, Net, NodeId};
+use ol_net::{BuildFault, Kind, Net, NodeId, Port};
 use ol_parse::parse;
 use ol_reduce::{Reduced, freeze, reduce};
 use ol_translate::translate;
+use ol_view::show;
 use std::alloc::{AllocError, Global};
 use std::sync::Wait;
 use std::sync::atomic::{AtomicU64, Ordering};
@@ -185,6 +186,42 @@ fn two_workers_of_a_reduction_meet(rt: HostRuntime) -> Result<(), Fail> {
     let reduced = reduce(&rt, alloc, &net, 2, 64, &meeting)?;
     assert!(rt; matches!(reduced, Reduced::Done { .. }));
     assert_eq!(rt; meeting.met.load(Ordering::SeqCst), 4);
+    Ok(())
+}
+
+// A bracket of index 0 that faces an abstraction of this index, and three free ports.
+fn bracket_and_abstraction(
+    alloc: Global,
+    index: u32,
+) -> Result<Result<Net, BuildFault>, AllocError> {
+    let of = |node, slot| Port::Of {
+        node: NodeId(node),
+        slot,
+    };
+    let nodes = vec![in alloc; (Kind::Bracket, 0), (Kind::Lam, index)]?;
+    let links = vec![in alloc;
+        (of(0, 0), of(1, 0)),
+        (Port::Free(0), of(0, 1)),
+        (Port::Free(1), of(1, 1)),
+        (Port::Free(2), of(1, 2)),
+    ]?;
+    Ok(Net::build(alloc, 3, nodes, links))
+}
+
+// A crossing past a bracket raises the greatest index that a net is built with by one.
+#[test]
+fn the_greatest_index_is_raised(rt: HostRuntime) -> Result<(), Fail> {
+    let alloc = rt.alloc();
+    let past = bracket_and_abstraction(alloc, 1_000_001)?;
+    assert_eq!(rt; past.err(), Some(BuildFault::BadIndex { node: 1 }));
+    let net = bracket_and_abstraction(alloc, 1_000_000)?.map_err(Fail::from)?;
+    assert!(rt; is_small(&net));
+    let Reduced::Done { net: last, .. } = reduce(&rt, alloc, &net, 1, 1, &OpenGate)? else {
+        return Err(Fail::from("the fuel was used up"));
+    };
+    let wanted = "nodes 3\nf0 2.0\nf1 0.0\nf2 1.0\n0 bracket 0 f1 2.1\n1 bracket 0 f2 2.2\n\
+                  2 lam 1000001 f0 0.1 1.1\n";
+    assert!(rt; show(alloc, &last)?.as_slice() == wanted.as_bytes());
     Ok(())
 }
 
