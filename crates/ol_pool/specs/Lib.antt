@@ -1,4 +1,10 @@
 -- What clauses of public functions rest on.
+pub mod Looks
 pub mod Pools
+pub mod Weights
+pub mod Deques
+pub mod Owned
+pub mod Handed
+pub mod Hands
 -- What only contracts of private functions and proofs cite.
-pub mod Bounds
+pub mod Fixed

@@ -1,29 +1,46 @@
 -- What contracts see of a pool and of its hands.
-use Rattle.std.specs.Prelude.{◌≡◌, ℕ, Bool, false, ◌<◌, List, Some, slice_get}
+use Rattle.std.specs.Prelude.{◌≡◌, ℕ, Bool, false, List, [], slice_get}
+use Rattle.std.specs.Option.{ForSome}
+use Rattle.std.specs.declared.alloc.Global.{Global}
+use Rattle.ol_pool.specs.Looks.{Part, part_at, new_part}
 
--- a pool by its number of hands and the bound of its cells; what waits in it is not seen
+-- which deque it is
+abbrev pub DequeId : Type 0
+DequeId = (ℕ × ℕ) × Global
+
+-- a pool by its number of hands, the bound of its cells, and which deques its parts are
 pub record PoolState : Type 0 where
   pub hands : ℕ
   pub cells : ℕ
+  pub deques : List DequeId
 
--- a hand by its number, the pool that it was made for, and whether its last `take` answered None
+-- a hand by its number, its pool, the cells that it put, what it knows of each part of the pool, the number of its puts
+-- that were refused, and whether its last `take` answered None
 pub record HandState : Type 0 where
   pub number : ℕ
   pub pool : PoolState
+  pub sent : List ℕ
+  pub parts : List Part
+  pub refused : ℕ
   pub missed : Bool
 
--- a hand that made no call yet
-abbrev pub fresh_hand : PoolState → ℕ → HandState
-fresh_hand pool number = record {
-  number = number;
-  pool = pool;
-  missed = false;
-}
-
--- the hand is of a pool with these two numbers
+-- the hand is of this very pool: they have the same deques
 abbrev pub IsHandOf : HandState → PoolState → Type 0
 IsHandOf hand pool = hand.pool ≡ pool
 
--- each hand of a pool in the order of their numbers, none of which made a call yet
-abbrev pub AreDealt : PoolState → ℕ → List HandState → Type 0
-AreDealt pool n hands = (k : ℕ) → k < n → slice_get hands k ≡ Some (fresh_hand pool k)
+-- what the hand knows of the part of a number
+abbrev pub part_of : HandState → ℕ → Part
+part_of hand p = part_at hand.parts p
+
+-- a hand of a pool that made no call yet
+pub record IsNewHand (of : PoolState) (k : ℕ) (hand : HandState) : Type 0 where
+  pub number : hand.number ≡ k
+  pub pool : IsHandOf hand of
+  pub sent : hand.sent ≡ []
+  pub parts : (p : ℕ) → part_of hand p ≡ new_part
+  pub refused : hand.refused ≡ 0
+  pub missed : hand.missed ≡ false
+
+-- the hands of a pool in the order of their numbers, none of which made a call yet
+abbrev pub AreDealt : PoolState → List HandState → Type 0
+AreDealt pool hands = (k : ℕ) → ForSome (slice_get hands k) (IsNewHand pool k)

@@ -1,41 +1,63 @@
 //! Hands: what a worker holds of a pool.
-ghost use Rattle.std.specs.Prelude.{◌≡◌, ℕ, ◌<◌, IfOk, Some, slice_get, vec_len};
-ghost use Rattle.ol_pool.specs.Pools.{fresh_hand, AreDealt};
-ghost use Rattle.ol_pool.specs.Bounds.{pool_of};
+ghost use Rattle.std.specs.Prelude.{◌≡◌, ◌≢◌, ◌<◌, ◌≤◌, ◌+◌, [], ◌∷◌, ◌++◌, ℕ, length, Some, slice_get, OnOk, OnErr, IfErr, All};
+ghost use Rattle.crossbeam_deque.specs.Handles.{stealer_deque};
+ghost use Rattle.ol_pool.specs.Looks.{CountsOne, Tells, HasCounts, part_at};
+ghost use Rattle.ol_pool.specs.Pools.{IsHandOf, part_of};
+ghost use Rattle.ol_pool.specs.Handed.{IsHand, new_hand};
+ghost use Rattle.ol_pool.specs.Deques.{AllBelow};
 
-use ol_io::NoMemory;
-use std::alloc::Global;
+use crate::looks::Seen;
+use crate::own::Own;
+use crate::pool::Pool;
+use crate::reach::Reach;
 use std::marker::Model;
 
-/// One worker's place at a pool. Contracts see it as a `HandState`.
+/// One worker's place at a pool: a deque of its own, from which the others steal, and access to
+/// each of theirs. Contracts see it as a `HandState`.
 ///
-/// It keeps the two numbers of its pool. Two pools with the same two numbers take each other's
-/// hands.
-#[derive(Debug, Drop)]
+/// The cells that it put and was given are seen by contracts alone; no memory holds them.
+#[derive(Drop)]
 pub struct Hand {
     number: u32,
-    hands: u32,
-    cells: u32,
+    own: Own,
+    // by number, the hand's own too, which isn't used
+    others: Vec<Reach>,
+    empties: u64,
+    refused: u64,
     missed: bool,
 }
 
 impl Model for Hand {
-    ghost use Rattle.std.specs.Prelude.{◌<◌};
     ghost use Rattle.ol_pool.specs.Pools.{HandState};
 
     ghost Value = { HandState };
 
-    ghost view = { λ hand. record {
-      number = hand.number;
-      pool = record { hands = hand.hands; cells = hand.cells };
-      missed = hand.missed;
-    } };
+    ghost use Rattle.ol_pool.specs.Hands.{hand_of};
+    ghost use Rattle.ol_pool.specs.Handed.{IsHand};
+    ghost use Rattle.std.specs.Prelude.{◌<◌, ◌^◌};
 
-    ghost invariant = { λ hand. hand.number < hand.hands };
+    ghost view = { hand_of };
+
+    ghost invariant = { λ h. IsHand h.number h.own h.others.items × (h.empties < 2 ^ 64) };
 }
 
 impl Hand {
-    /// Its number, below the number of hands of its pool.
+    // A hand that made no call yet.
+    pub(crate) fn new(number: u32, own: Own, others: Vec<Reach>) -> Hand
+        requires { IsHand number own others.items }
+        ensures { result ≡ new_hand number own others.items }
+    {
+        Hand {
+            number,
+            own,
+            others,
+            empties: 0,
+            refused: 0,
+            missed: false,
+        }
+    }
+
+    /// Its number, below the number of hands of its pool. It numbers its part of the pool.
     pub fn number(&self) -> u32
         ensures is { result ≡ self.now.number }
         ensures below { result < self.now.pool.hands }
@@ -50,30 +72,92 @@ impl Hand {
         self.missed
     }
 
+    /// The number of its puts that were refused, which stays at 2^64 - 1.
+    pub fn refused(&self) -> u64
+        ensures { result ≡ self.now.refused }
+    {
+        self.refused
+    }
+
     // Remembers whether a `take` answered None.
     pub(crate) fn remember(&mut self, missed: bool)
         ensures { self.new ≡ record self.old { missed = missed } }
     {
         self.missed = missed;
     }
-}
 
-// The hands of a pool with these two numbers, in the order of their numbers.
-pub(crate) fn fresh_hands(alloc: Global, hands: u32, cells: u32) -> Result<Vec<Hand>, NoMemory>
-    ensures count { IfOk result (λ made. vec_len made ≡ hands) }
-    ensures each { IfOk result (λ made. AreDealt (pool_of hands cells) hands made.items) }
-{
-    let mut made = Vec::new(alloc);
-    for number in 0..hands {
-        let hand = Hand {
-            number,
-            hands,
-            cells,
-            missed: false,
-        };
-        let Ok(()) = made.push(hand) else {
-            return Err(NoMemory);
-        };
+    /// Law: the counts of its parts are of 64 bits.
+    pub fn counts(&self)
+        ensures { (p : ℕ) → HasCounts (part_of self.now p) }
+    {
+        let _ = &self.empties;
     }
-    Ok(made)
+
+    /// Law: each cell that it was given is below the bound of its pool.
+    pub fn given_below(&self)
+        ensures { (p : ℕ) → All (λ cell. cell < self.now.pool.cells) (part_of self.now p).given }
+    {
+        self.own.gave_below();
+    }
+
+    // Puts a cell into its own part.
+    pub(crate) fn put(&mut self, cell: u32) -> Result<(), u32>
+        requires below { cell < self.old.pool.cells }
+        ensures sent { OnOk result (self.new ≡ record self.old { sent = self.old.sent ++ cell ∷ [] }) }
+        ensures unchanged { OnErr result (self.new ≡ record self.old { refused = self.new.refused }) }
+        ensures refused { OnErr result (CountsOne self.old.refused self.new.refused) }
+        ensures many { OnErr result (64 ≤ length self.old.sent) }
+        ensures back { IfErr result (λ returned. returned ≡ cell) }
+    {
+        match self.own.put(cell) {
+            Ok(()) => Ok(()),
+            Err(returned) => {
+                self.refused = self.refused.saturating_add(1);
+                Err(returned)
+            }
+        }
+    }
+
+    // Looks at its own part.
+    fn look_home(&mut self) -> Seen
+        ensures tells { Tells result (part_of self.old self.old.number) (part_of self.new self.old.number) }
+        ensures others { (q : ℕ) → q ≢ self.old.number → part_of self.new q ≡ part_of self.old q }
+        ensures rest { self.new ≡ record self.old { parts = self.new.parts } }
+    {
+        match self.own.next() {
+            Some(cell) => Seen::Cell(cell),
+            None => {
+                self.empties = self.empties.saturating_add(1);
+                Seen::Empty
+            }
+        }
+    }
+
+    // Looks at another's part.
+    fn look_away(&mut self, pool: &Pool, at: u32) -> Seen
+        requires hand { IsHandOf self.old pool.now }
+        requires part { at < pool.now.hands }
+        requires other { at ≢ self.old.number }
+        ensures tells { Tells result (part_of self.old at) (part_of self.new at) }
+        ensures others { (q : ℕ) → q ≢ at → part_of self.new q ≡ part_of self.old q }
+        ensures rest { self.new ≡ record self.old { parts = self.new.parts } }
+    {
+        let thief = pool.thief(at);
+        let reach = &mut self.others[at as usize];
+        reach.look(thief)
+    }
+
+    // Looks at one part of the pool.
+    pub(crate) fn look(&mut self, pool: &Pool, at: u32) -> Seen
+        requires hand { IsHandOf self.old pool.now }
+        requires part { at < pool.now.hands }
+        ensures tells { Tells result (part_of self.old at) (part_of self.new at) }
+        ensures others { (q : ℕ) → q ≢ at → part_of self.new q ≡ part_of self.old q }
+        ensures rest { self.new ≡ record self.old { parts = self.new.parts } }
+    {
+        if at == self.number {
+            return self.look_home();
+        }
+        self.look_away(pool, at)
+    }
 }

@@ -1,13 +1,19 @@
-//! The cells that wait for a worker: a first-in first-out line behind a lock, and a hand for each
-//! worker.
+//! The cells that wait for a worker: a first-in first-out deque for each hand, from which the other
+//! hands steal.
 #![tactic(auto)]
 
+mod deques;
 mod hands;
-mod line;
+mod looks;
+mod opening;
+mod own;
 mod pool;
+mod pool_look;
+mod reach;
 #[cfg(test)]
 mod tests;
 
 pub use hands::Hand;
-pub use line::Line;
+pub use looks::{Look, Seen, take_from};
 pub use pool::Pool;
+pub use pool_look::PoolLook;

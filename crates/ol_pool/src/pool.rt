@@ -1,52 +1,69 @@
 //! The pool of cells, shared by the workers.
-ghost use Rattle.std.specs.Prelude.{◌≡◌, ℕ, ◌<◌, ◌≤◌, ◌↔◌, IfOk, IfErr, IfSome, IsNone, IsTrue, slice_get, vec_len};
-ghost use Rattle.std.specs.List.{All};
-ghost use Rattle.ol_pool.specs.Pools.{fresh_hand, IsHandOf, AreDealt};
+ghost use Rattle.std.specs.Prelude.{◌≡◌, ◌↔◌, ℕ, ◌<◌, ◌≤◌, ◌∷◌, [], ◌++◌, length, IfOk, IfErr, IfSome, IfNone, IsNone, IsTrue, OnOk, OnErr, vec_len, All};
+ghost use Rattle.crossbeam_deque.specs.Handles.{stealer_deque};
+ghost use Rattle.ol_pool.specs.Looks.{CountsOne, Missed, GaveNone, OneGave};
+ghost use Rattle.ol_pool.specs.Pools.{IsHandOf, AreDealt, part_of};
+ghost use Rattle.ol_pool.specs.Owned.{IsDequeAt};
 
-use crate::hands::{Hand, fresh_hands};
-use crate::line::Line;
+use crate::deques::Thief;
+use crate::hands::Hand;
+use crate::looks::take_from;
+use crate::opening::{deal, lend_rows, open_all};
+use crate::pool_look::PoolLook;
 use ol_io::NoMemory;
 use std::alloc::Global;
 use std::marker::Model;
-use std::sync::{Mutex, Wait};
 
-/// Cells that wait for a worker: one line, which all workers share behind a lock.
+/// Cells that wait for a worker: a first-in first-out deque for each hand, from which the other
+/// hands steal. No call of it waits.
 ///
-/// Contracts see a pool by its number of hands and the bound of its cells, a `PoolState`. What
-/// waits in it isn't seen: of a cell that `take` gives it is only said that it is below the bound.
+/// Contracts see a pool by its number of hands, the bound of its cells, and which deques it has, a
+/// `PoolState`. The cells that went through it are seen at the hands.
 #[derive(Drop)]
 pub struct Pool {
-    line: Mutex<Line>,
+    thieves: Vec<Thief>,
     hands: u32,
     cells: u32,
 }
 
 impl Model for Pool {
+    ghost use Rattle.std.specs.Prelude.{◌≡◌, length, map};
+    ghost use Rattle.crossbeam_deque.specs.Handles.{stealer_deque};
     ghost use Rattle.ol_pool.specs.Pools.{PoolState};
 
     ghost Value = { PoolState };
 
-    ghost view = { λ pool. record { hands = pool.hands; cells = pool.cells } };
+    ghost view = { λ pool. record {
+      hands = pool.hands;
+      cells = pool.cells;
+      deques = map (λ t. stealer_deque t) pool.thieves.items;
+    } };
+
+    ghost invariant = { λ pool. length pool.thieves.items ≡ pool.hands };
 }
 
 impl Pool {
     /// A pool without a cell, for cells below `cells`, and its hands in the order of their numbers.
+    /// Each deque begins with room for 64 cells.
     ///
     /// `NoMemory`: no memory was found.
     pub fn new(alloc: Global, hands: u32, cells: u32) -> Result<(Pool, Vec<Hand>), NoMemory>
         requires some { 1 ≤ hands }
         requires few { hands ≤ 64 }
-        ensures pool { IfOk result (λ made. made.0 ≡ record { hands = hands; cells = cells }) }
+        ensures hands { IfOk result (λ made. made.0.hands ≡ hands) }
+        ensures cells { IfOk result (λ made. made.0.cells ≡ cells) }
         ensures count { IfOk result (λ made. vec_len made.1 ≡ hands) }
-        ensures each { IfOk result (λ made. AreDealt made.0 hands made.1.items) }
+        ensures each { IfOk result (λ made. AreDealt made.0 made.1.items) }
         ensures same_pool { IfOk result (λ made. All (λ hand. IsHandOf hand made.0) made.1.items) }
     {
-        let made = fresh_hands(alloc, hands, cells)?;
+        let (mut owns, thieves) = open_all(alloc, hands, cells)?;
         let pool = Pool {
-            line: Mutex::new(Line::new(alloc)),
+            thieves,
             hands,
             cells,
         };
+        let rows = lend_rows(alloc, &pool, &mut owns)?;
+        let made = deal(alloc, &pool, owns, rows)?;
         Ok((pool, made))
     }
 
@@ -57,30 +74,71 @@ impl Pool {
         self.cells
     }
 
-    /// Adds a cell. It may wait for the lock.
-    ///
-    /// `Err`: no memory was found. It gives the cell back. The hand stays as it was.
-    pub fn put<R: Wait>(&self, rt: &R, hand: &mut Hand, cell: u32) -> Result<(), u32>
-        requires below { cell < self.now.cells }
-        requires hand { IsHandOf hand.old self.now }
-        ensures hand { hand.new ≡ hand.old }
-        ensures back { IfErr result (λ returned. returned ≡ cell) }
+    /// The number of its hands. Takes no memory.
+    pub fn hands(&self) -> u32
+        ensures { result ≡ self.now.hands }
     {
-        self.line.lock(rt).add(cell)
+        self.hands
     }
 
-    /// Takes one cell, the one that waits longest. It may wait for the lock. Takes no memory.
+    // The side of a deque from which other hands steal.
+    pub(crate) fn thief(&self, at: u32) -> &Thief
+        requires { at < self.now.hands }
+        ensures { IsDequeAt self.now.deques at (stealer_deque result.now) }
+    {
+        &self.thieves[at as usize]
+    }
+
+    /// Adds a cell to the hand's own part, behind those that wait there. It waits for nobody.
     ///
-    /// None: no cell waits, and the hand has `missed`. No clause gives this cause, since a lock
-    /// tells nothing of what it guards.
-    pub fn take<R: Wait>(&self, rt: &R, hand: &mut Hand) -> Option<u32>
+    /// `Err`: the part had to grow, and no memory was found; it comes only where this hand has put at
+    /// least 64 cells. It gives the cell back. The pool stays as it was, and the hand counts it.
+    pub fn put(&self, hand: &mut Hand, cell: u32) -> Result<(), u32>
+        requires below { cell < self.now.cells }
+        requires hand { IsHandOf hand.old self.now }
+        ensures sent { OnOk result (hand.new ≡ record hand.old { sent = hand.old.sent ++ cell ∷ [] }) }
+        ensures unchanged { OnErr result (hand.new ≡ record hand.old { refused = hand.new.refused }) }
+        ensures refused { OnErr result (CountsOne hand.old.refused hand.new.refused) }
+        ensures many { OnErr result (64 ≤ length hand.old.sent) }
+        ensures back { IfErr result (λ returned. returned ≡ cell) }
+    {
+        hand.put(cell)
+    }
+
+    // Takes a cell from the hand's own part, or else from another's.
+    fn search(&self, hand: &mut Hand) -> Option<u32>
+        requires hand { IsHandOf hand.old self.now }
+        ensures hand { IsHandOf hand.new self.now }
+        ensures number { hand.new.number ≡ hand.old.number }
+        ensures sent { hand.new.sent ≡ hand.old.sent }
+        ensures refused { hand.new.refused ≡ hand.old.refused }
+        ensures one { IfSome result (λ cell. OneGave self.now.hands cell (part_of hand.old) (part_of hand.new)) }
+        ensures all { IfNone result ((p : ℕ) → p < self.now.hands → Missed (part_of hand.old p) (part_of hand.new p)) }
+        ensures stay { IfNone result ((p : ℕ) → GaveNone (part_of hand.old p) (part_of hand.new p)) }
+    {
+        let own = hand.number();
+        let mut looks = PoolLook::of(self, hand);
+        take_from(&mut looks, own)
+    }
+
+    /// Takes a cell: first from the hand's own part, then from each other part in the order of their
+    /// numbers after it. It waits for nobody, and takes no memory.
+    ///
+    /// None: each part was looked at and gave no cell, and the hand has `missed`.
+    pub fn take(&self, hand: &mut Hand) -> Option<u32>
         requires hand { IsHandOf hand.old self.now }
         ensures below { IfSome result (λ cell. cell < self.now.cells) }
         ensures missed { IsTrue hand.new.missed ↔ IsNone result }
-        ensures hand { hand.new ≡ record hand.old { missed = hand.new.missed } }
+        ensures hand { IsHandOf hand.new self.now }
+        ensures number { hand.new.number ≡ hand.old.number }
+        ensures sent { hand.new.sent ≡ hand.old.sent }
+        ensures refused { hand.new.refused ≡ hand.old.refused }
+        ensures one { IfSome result (λ cell. OneGave self.now.hands cell (part_of hand.old) (part_of hand.new)) }
+        ensures all { IfNone result ((p : ℕ) → p < self.now.hands → Missed (part_of hand.old p) (part_of hand.new p)) }
+        ensures stay { IfNone result ((p : ℕ) → GaveNone (part_of hand.old p) (part_of hand.new p)) }
     {
-        // `put` adds only cells below the bound, but the lock doesn't tell that either.
-        let taken = self.line.lock(rt).next().filter(|cell| *cell < self.cells);
+        let taken = self.search(hand);
+        hand.given_below();
         hand.remember(taken.is_none());
         taken
     }

@@ -17,3 +17,4 @@ pub mod Whole
 pub mod Hired
 pub mod Turns
 mod Answered
+pub mod Offering

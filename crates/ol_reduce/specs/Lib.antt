@@ -1,12 +1,14 @@
 -- What clauses of public functions rest on.
 pub mod Frozen
 pub mod Turned
+pub mod Working
 pub mod Reduced
 -- What only contracts of private functions and proofs cite.
 pub mod Following
 pub mod Drafts
 pub mod Left
 pub mod Works
+pub mod Offered
 pub mod Found
 pub mod Linked
 pub mod Used

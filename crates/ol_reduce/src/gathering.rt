@@ -11,7 +11,7 @@ ghost use Rattle.ol_wire.specs.Closed.{HasSweptAll};
 use crate::answers::Sweep;
 use crate::sweeping::sweep;
 use crate::workers::Worker;
-use crate::working::worker;
+use crate::working::{offer, worker};
 use ol_io::{Gate, NoMemory};
 use ol_net::Net;
 use ol_pool::{Hand, Pool};
@@ -45,7 +45,7 @@ pub(crate) fn run_workers<R: Threads + Wait + Sync, G: Gate + Sync>(
 {
     let (shared, seats) = Shared::make(alloc, net, fuel, workers)?;
     let (pool, mut hands) = Pool::new(alloc, workers, shared.cells())?;
-    put_start(rt, &pool, &mut hands, workers, shared.cells() - 4 * fuel);
+    put_start(&pool, &mut hands, workers, shared.cells() - 4 * fuel);
     let mut hired = hire(alloc, &shared, &pool, seats, hands)?;
     run(
         rt,
@@ -62,7 +62,7 @@ pub(crate) fn run_workers<R: Threads + Wait + Sync, G: Gate + Sync>(
 
 // Puts the cells below `count` into the pool, each by the hand whose number is the remainder by the
 // number of hands.
-fn put_start<R: Wait>(rt: &R, pool: &Pool, hands: &mut Vec<Hand>, workers: u32, count: u32)
+fn put_start(pool: &Pool, hands: &mut Vec<Hand>, workers: u32, count: u32)
     requires hands { All (λ hand. IsOfPool hand pool.now) hands.old.items }
     requires workers { (vec_len hands.old ≡ workers) × (0 < workers) }
     requires count { count ≤ pool.now.cells }
@@ -70,8 +70,7 @@ fn put_start<R: Wait>(rt: &R, pool: &Pool, hands: &mut Vec<Hand>, workers: u32, 
     ensures workers { vec_len hands.new ≡ vec_len hands.old }
 {
     for cell in 0..count {
-        // One that no memory was found for is left for the sweep.
-        let _ = pool.put(rt, &mut hands[(cell % workers) as usize], cell);
+        offer(pool, &mut hands[(cell % workers) as usize], cell);
     }
 }
 

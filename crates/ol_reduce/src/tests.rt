@@ -88,7 +88,7 @@ fn a_worker_leaves_when_no_cell_waits(rt: HostRuntime) -> Result<(), Fail> {
     for (fuel, end) in [(4, End::Left), (3, End::Spent)] {
         let (table, pool, mut own) = alone(rt.alloc(), &net, fuel)?;
         assert!(rt; 0 < pool.cells());
-        assert_eq!(rt; pool.put(&rt, &mut own.hand, 0), Ok(()));
+        assert_eq!(rt; pool.put(&mut own.hand, 0), Ok(()));
         assert_eq!(rt; worker(&rt, &table, &pool, &mut own, &OpenGate), end);
         assert_eq!(rt; table.close(own.into_seat()).events(), fuel);
     }

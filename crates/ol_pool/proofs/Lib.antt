@@ -1,0 +1,5 @@
+pub mod Balances
+pub mod Searches
+pub mod Places
+pub mod Dealing
+pub mod Weighing
