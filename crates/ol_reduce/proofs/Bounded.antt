@@ -7,7 +7,7 @@ use Rattle.ol_net.specs.Nets.{NamedPort, NamedNet}
 use Rattle.ol_rules.specs.declared.journal.NodeName.{NodeName}
 use Rattle.ol_wire.specs.declared.layout.Parts.{Parts}
 use Rattle.ol_wire.specs.References.{wire_ref, place_in, IsWireRef, IsRef, IsWholeRef}
-use Rattle.ol_wire.specs.Layout.{WordPart, ticket, port, field, wire, between, left, right, entry, past, part_of_word, place_of, table_size, block, port_word}
+use Rattle.ol_wire.specs.Layout.{WordPart, ticket, live_word, port, field, wire, between, left, right, entry, past, part_of_word, place_of, table_size, block, port_word}
 use Rattle.ol_wire.specs.Edges.{edge_in, edges_in}
 use Rattle.ol_wire.specs.Stands.{IsEnd, of_port, principal, auxiliary, IsWireEnd}
 use Rattle.ol_wire.specs.Closed.{ClosedTable, events_in}
@@ -58,6 +58,7 @@ wire_row : (net : NamedNet NodeName) (at : WordPart) (n word next : ℕ) → IsW
 wire_row net (wire j) n word next h f = subst (λ b. IsIn {X = ℕ × ℕ} (wire_ref n, word) (if b then [] else (wire_ref n, word) ∷ [])) (sym (ne_eqb word 0 f)) (inl refl)
 wire_row net (between t q p) n word next h f = subst (λ b. IsIn {X = ℕ × ℕ} (wire_ref n, word) (if b then [] else (wire_ref n, word) ∷ [])) (sym (ne_eqb word 0 f)) (inl refl)
 wire_row net ticket n word next h f = elim h [ ]
+wire_row net live_word n word next h f = elim h [ ]
 wire_row net (port k) n word next h f = elim h [ ]
 wire_row net (field x s) n word next h f = elim h [ ]
 wire_row net left n word next h f = elim h [ ]
@@ -111,16 +112,28 @@ module _ (w : ClosedTable) (N : NamedNet NodeName) (reached : ℕ → Bool) (s :
 
   -- ---- what a chain leads to
 
-  pub owner_behind : (n e : ℕ) → Owns n e → 0 < n
+  -- it stands behind the ticket word and the live word
+  pub owner_behind : (n e : ℕ) → Owns n e → 1 < n
   owner_behind n e o = elim (cases_eq n 0) [
-    | inl q ↦ absurd (go (edge_at N (reached n) (part_of_word z n) n (word n) (word (suc n)) e (word n) o.edge) (ap (part_of_word z) q))
-    | inr d ↦ omega (arith, d)
+    | inl q ↦ absurd (no_ticket at (ap (part_of_word z) q))
+    | inr d ↦ elim (cases_eq n 1) [
+      | inl q ↦ absurd (no_live at (ap (part_of_word z) q))
+      | inr f ↦ omega (arith, d, f)
+    ]
   ]
     where
-      go : EdgeAt (part_of_word z n) n (word n) (word (suc n)) e (word n) → part_of_word z n ≡ ticket → ⊥
-      go (at_wire p a b f) t = p t
-      go (at_field x c p a b f) t = let bad : field x c ≡ ticket = sym p ∙ t in cc
-      go (at_cell p a b f) t = let bad : left ≡ ticket = sym p ∙ t in cc
+      at : EdgeAt (part_of_word z n) n (word n) (word (suc n)) e (word n)
+      at = edge_at N (reached n) (part_of_word z n) n (word n) (word (suc n)) e (word n) o.edge
+
+      no_ticket : EdgeAt (part_of_word z n) n (word n) (word (suc n)) e (word n) → part_of_word z n ≡ ticket → ⊥
+      no_ticket (at_wire p l a b f) t = p t
+      no_ticket (at_field x c p a b f) t = let bad : field x c ≡ ticket = sym p ∙ t in cc
+      no_ticket (at_cell p a b f) t = let bad : left ≡ ticket = sym p ∙ t in cc
+
+      no_live : EdgeAt (part_of_word z n) n (word n) (word (suc n)) e (word n) → part_of_word z n ≡ live_word → ⊥
+      no_live (at_wire p l a b f) t = l t
+      no_live (at_field x c p a b f) t = let bad : field x c ≡ live_word = sym p ∙ t in cc
+      no_live (at_cell p a b f) t = let bad : left ≡ live_word = sym p ∙ t in cc
 
   pub last_word : (e t : ℕ) → Goes e t → (n : ℕ) × (f : ℕ) × Owns n f × (word n ≡ t)
   last_word e t (last n o q) = (n, e, o, q)
@@ -167,10 +180,13 @@ module _ (w : ClosedTable) (N : NamedNet NodeName) (reached : ℕ → Bool) (s :
           a_wire (t.2 ∙ ap wire_ref q) (subst (λ u. reached u ≡ true) q t.1)
 
   -- the words up to the last free port are no wires
-  pub no_wire_below : (u : ℕ) → u ≤ z.free → IsWirePart (part_of_word z u) → ⊥
+  pub no_wire_below : (u : ℕ) → u ≤ z.free + 1 → IsWirePart (part_of_word z u) → ⊥
   no_wire_below u le h = elim (cases_eq u 0) [
     | inl q ↦ subst (λ u. IsWirePart (part_of_word z u)) q h
-    | inr d ↦ let e : u ≡ port_word (u - 1) = omega (arith, d) in subst IsWirePart (part_port z (u - 1) (omega (arith, le, d))) (subst (λ u. IsWirePart (part_of_word z u)) e h)
+    | inr d ↦ elim (cases_eq u 1) [
+      | inl q ↦ subst (λ u. IsWirePart (part_of_word z u)) q h
+      | inr f ↦ let e : u ≡ port_word (u - 2) = omega (arith, d, f) in subst IsWirePart (part_port z (u - 2) (omega (arith, le, d, f))) (subst (λ u. IsWirePart (part_of_word z u)) e h)
+    ]
   ]
 
   pub passed_wire : (e v : ℕ) → Goes e v → IsPassed w v → (v ≡ wire_ref (place_in v)) × (reached (place_in v) ≡ true)

@@ -52,33 +52,33 @@ module _ (w : ClosedTable) (first k at : ℕ) (h : IsValueAfter w first k at) wh
       named : (N : NamedNet NodeName) (reached : ℕ → Bool) (e : ℕ) (s : WordsStandFor w N reached) → IsStart w N reached e first → Names w N reached s at
       named N reached e s start = led_wire w N reached s e at (leads N reached e s start) sort
 
-      pub place_some : 0 < place_in at
+      pub place_some : 1 < place_in at
       place_some = go (named first_of.0 first_of.1 first_of.2 first_of.3 first_of.4)
         where
-          go : Names w first_of.0 first_of.1 first_of.3 at → 0 < place_in at
+          go : Names w first_of.0 first_of.1 first_of.3 at → 1 < place_in at
           go (a_port m lt q r) = omega (arith, r)
-          go (a_wire q r) = elim (cases_eq (place_in at) 0) [
-            | inl e ↦ absurd (no_wire_below w first_of.0 first_of.1 first_of.3 (place_in at) (omega (arith, e)) (first_of.3.wires (place_in at) r))
-            | inr d ↦ omega (arith, d)
+          go (a_wire q r) = elim (cases_lt 1 (place_in at)) [
+            | inl lt ↦ lt
+            | inr ge ↦ absurd (no_wire_below w first_of.0 first_of.1 first_of.3 (place_in at) (omega (arith, ge)) (first_of.3.wires (place_in at) r))
           ]
 
-      pub at_port : place_in at ≤ w.plan.parts.free → (N : NamedNet NodeName) (reached : ℕ → Bool) (e : ℕ) → WordsStandFor w N reached → IsStart w N reached e first → EndsAt w N reached e (Port (place_in at - 1))
+      pub at_port : place_in at ≤ w.plan.parts.free + 1 → (N : NamedNet NodeName) (reached : ℕ → Bool) (e : ℕ) → WordsStandFor w N reached → IsStart w N reached e first → EndsAt w N reached e (Port (place_in at - 2))
       at_port le N reached e s start = go (named N reached e s start)
         where
-          go : Names w N reached s at → EndsAt w N reached e (Port (place_in at - 1))
+          go : Names w N reached s at → EndsAt w N reached e (Port (place_in at - 2))
           go (a_port m lt q r) =
-              let f : place_in at - 1 ≡ m = omega (arith, r) in
+              let f : place_in at - 2 ≡ m = omega (arith, r) in
               subst (λ j. EndsAt w N reached e (Port j)) (sym f) (lt, subst (λ v. LeadsTo w N reached e v) q (leads N reached e s start))
           go (a_wire q r) = absurd (no_wire_below w N reached s (place_in at) le (s.wires (place_in at) r))
 
-      pub at_wire : w.plan.parts.free < place_in at → slice_index w.words (place_in at) ≡ 0 → (N : NamedNet NodeName) (reached : ℕ → Bool) (e : ℕ) → WordsStandFor w N reached → IsStart w N reached e first → EndsAt w N reached e (Wire (place_in at))
+      pub at_wire : w.plan.parts.free + 1 < place_in at → slice_index w.words (place_in at) ≡ 0 → (N : NamedNet NodeName) (reached : ℕ → Bool) (e : ℕ) → WordsStandFor w N reached → IsStart w N reached e first → EndsAt w N reached e (Wire (place_in at))
       at_wire lt empty N reached e s start = go (named N reached e s start)
         where
           go : Names w N reached s at → EndsAt w N reached e (Wire (place_in at))
           go (a_port m low q r) = absurd (omega (arith, low, r, lt))
           go (a_wire q r) = (r, empty, subst (λ v. LeadsTo w N reached e v) q (leads N reached e s start))
 
-      pub goes_on : w.plan.parts.free < place_in at → slice_index w.words (place_in at) ≢ 0 → IsValueAfter w first (k + 1) (slice_index w.words (place_in at))
+      pub goes_on : w.plan.parts.free + 1 < place_in at → slice_index w.words (place_in at) ≢ 0 → IsValueAfter w first (k + 1) (slice_index w.words (place_in at))
       goes_on lt filled =
           let e : k + 1 ≡ suc k = omega arith in
           subst (λ j. IsValueAfter w first j (slice_index w.words (place_in at))) (sym e) (ap (λ v. slice_index w.words (place_in v)) h.0, passed)
@@ -91,14 +91,14 @@ module _ (w : ClosedTable) (first k at : ℕ) (h : IsValueAfter w first k at) wh
 
       -- by the place as the code has it
       module _ (place : ℕ) (is : place ≡ place_in at) where
-        pub port_answer : place ≤ w.plan.parts.free → (N : NamedNet NodeName) (reached : ℕ → Bool) (e : ℕ) → WordsStandFor w N reached → IsStart w N reached e first → EndsAt w N reached e (Port (place - 1))
-        port_answer le N reached e s start = subst (λ p. EndsAt w N reached e (Port (p - 1))) (sym is) (at_port (omega (arith, le, is)) N reached e s start)
+        pub port_answer : (port : ℕ) → port ≡ place - 2 → port < w.plan.parts.free → (N : NamedNet NodeName) (reached : ℕ → Bool) (e : ℕ) → WordsStandFor w N reached → IsStart w N reached e first → EndsAt w N reached e (Port port)
+        port_answer port from lt N reached e s start = subst (λ p. EndsAt w N reached e (Port p)) (ap (λ p. p - 2) (sym is) ∙ sym from) (at_port (omega (arith, lt, is, from)) N reached e s start)
 
-        pub wire_answer : (next : ℕ) → w.plan.parts.free < place → next ≡ slice_index w.words place → next ≡ 0 → (N : NamedNet NodeName) (reached : ℕ → Bool) (e : ℕ) → WordsStandFor w N reached → IsStart w N reached e first → EndsAt w N reached e (Wire place)
+        pub wire_answer : (next : ℕ) → w.plan.parts.free + 1 < place → next ≡ slice_index w.words place → next ≡ 0 → (N : NamedNet NodeName) (reached : ℕ → Bool) (e : ℕ) → WordsStandFor w N reached → IsStart w N reached e first → EndsAt w N reached e (Wire place)
         wire_answer next lt read empty N reached e s start =
             subst (λ p. EndsAt w N reached e (Wire p)) (sym is) (at_wire (omega (arith, lt, is)) (ap (slice_index w.words) (sym is) ∙ sym read ∙ empty) N reached e s start)
 
-        pub next_answer : (next : ℕ) → w.plan.parts.free < place → next ≡ slice_index w.words place → next ≢ 0 → IsValueAfter w first (k + 1) next
+        pub next_answer : (next : ℕ) → w.plan.parts.free + 1 < place → next ≡ slice_index w.words place → next ≢ 0 → IsValueAfter w first (k + 1) next
         next_answer next lt read filled =
             let q : slice_index w.words (place_in at) ≡ next = ap (slice_index w.words) (sym is) ∙ sym read in
             subst (λ v. IsValueAfter w first (k + 1) v) q (goes_on (omega (arith, lt, is)) (λ e. filled (sym q ∙ e)))

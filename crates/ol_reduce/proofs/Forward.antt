@@ -91,7 +91,7 @@ module _ (w : ClosedTable) (N : NamedNet NodeName) (reached : ℕ → Bool) (s :
       go t.0 t.1 t.2 (edge_at N (reached t.0) (part_of_word z t.0) t.0 (word t.0) (word (suc t.0)) a b t.2)
     where
       go : (n : ℕ) → n < table_size z → IsIn {X = ℕ × ℕ} (a, b) (row n) → EdgeAt (part_of_word z n) n (word n) (word (suc n)) a b → EdgeIs a b
-      go n lt i (at_wire p e q f) = owned n (record { within = lt; filled = f; end = inl e; edge = subst (λ y. IsIn {X = ℕ × ℕ} (a, y) (row n)) q i }) q
+      go n lt i (at_wire p l e q f) = owned n (record { within = lt; filled = f; end = inl e; edge = subst (λ y. IsIn {X = ℕ × ℕ} (a, y) (row n)) q i }) q
       go n lt i (at_field x c p e q f) = owned n (record { within = lt; filled = f; end = inr e; edge = subst (λ y. IsIn {X = ℕ × ℕ} (a, y) (row n)) q i }) q
       go n lt i (at_cell p e q f) = celled n p f e q
 

@@ -17,7 +17,7 @@ module _ (w : ClosedTable) (places numbers : List ℕ) (left_are : AreLeft w (ra
   abbrev z : Parts
   z = w.plan.parts
 
-  pub port_word_at : (k : ℕ) → k < z.free → IsWordAt w places k (1 + k)
+  pub port_word_at : (k : ℕ) → k < z.free → IsWordAt w places k (2 + k)
   port_word_at k lt N reached s = word_of_port w places numbers left_are N reached s k lt
 
   -- the word of slot c + 1 of node j

@@ -44,7 +44,7 @@ module _ (w : ClosedTable) (places numbers : List ℕ) (left_are : AreLeft w (ra
   abbrev word : ℕ → ℕ
   word n = slice_index w.words n
 
-  pub word_of_port : (k : ℕ) → k < z.free → IsWordOf w N reached places k (1 + k)
+  pub word_of_port : (k : ℕ) → k < z.free → IsWordOf w N reached places k (2 + k)
   word_of_port k lt = record {
     only = λ e m h o. only e m (view w places numbers left_are N reached s (port k) e h) o;
     owned = λ f. (

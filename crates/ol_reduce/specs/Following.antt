@@ -1,5 +1,5 @@
 -- Private: chains of wires in the words of a closed table, as they are followed from an end that owns a word.
-use Rattle.std.specs.Prelude.{◌≡◌, ◌≢◌, ℕ, zero, suc, ◌<◌, Bool, true, List, slice_index, ◌⊎◌}
+use Rattle.std.specs.Prelude.{◌≡◌, ◌≢◌, ℕ, zero, suc, ◌+◌, ◌<◌, Bool, true, List, slice_index, ◌⊎◌}
 use Rattle.ol_edges.specs.Edges.{IsIn}
 use Rattle.ol_net.specs.Nets.{NamedNet}
 use Rattle.ol_rules.specs.declared.journal.NodeName.{NodeName}
@@ -51,7 +51,7 @@ value_after words first (suc k) = slice_index words (place_in (value_after words
 
 -- it names a wire whose word isn't empty
 abbrev pub IsPassed : ClosedTable → ℕ → Type 0
-IsPassed w v = IsWireRef v × (w.plan.parts.free < place_in v) × (slice_index w.words (place_in v) ≢ 0)
+IsPassed w v = IsWireRef v × (w.plan.parts.free + 1 < place_in v) × (slice_index w.words (place_in v) ≢ 0)
 
 -- at is the value after k words, all of wires
 abbrev pub IsValueAfter : ClosedTable → ℕ → ℕ → ℕ → Type 0

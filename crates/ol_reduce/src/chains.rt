@@ -31,8 +31,10 @@ pub(crate) fn follow(words: &Words, parts: Parts, first: u64) -> End
             return End::Node(at);
         }
         let place = place_in(at);
-        if place <= parts.free {
-            return End::Port(place - 1);
+        // The words of the free ports are those from word 2 on.
+        let port = place - 2;
+        if port < parts.free {
+            return End::Port(port);
         }
         let next = word_at(words, place);
         if next == 0 {

@@ -176,7 +176,7 @@ fn link_ports(words: &Words, live: &Live, draft: &mut Draft, met: &mut Vec<u32>)
 {
     words.stands();
     for port in 0..words.parts().free {
-        link_one(words, live, draft, met, port as usize, 1 + port);
+        link_one(words, live, draft, met, port as usize, 2 + port);
     }
 }
 
