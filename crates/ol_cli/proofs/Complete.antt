@@ -61,10 +61,10 @@ module _ (files : Text → Option (List ℕ)) where
   done_journal t names journal b s x (by.past l h) = absurd (omega arith)
   done_journal t names journal b s x (by.found l v f h) = h.0
 
-  done_on_journal : (name : Text) → HasJournalWithin files name → (t : Tree) (names : List (List ℕ)) (trace : List ℕ) → files name ≡ Some trace → (s : Status) (x : List ℕ) → JournalAnswer t names trace s x → s ≡ Done
-  done_on_journal name (read, e, b) t names trace e' s x h =
-      let short = subst (λ l. length l ≤ 67108864) (one_bytes files name read trace e e') b in
-      done_journal t names trace short s x (of_journal_answer t names trace s x h)
+  done_on_journal : (name : Text) → HasJournalWithin files name → (t : Tree) (names : List (List ℕ)) (given : List ℕ) → files name ≡ Some given → (s : Status) (x : List ℕ) → JournalAnswer t names given s x → s ≡ Done
+  done_on_journal name (read, e, b) t names given e' s x h =
+      let short = subst (λ l. length l ≤ 67108864) (one_bytes files name read given e e') b in
+      done_journal t names given short s x (of_journal_answer t names given s x h)
 
   done_made : (runs : Bool) (k : ℕ) → CanDo files (gen runs k) → (s : Status) (x : List ℕ) → Makes runs k s x → s ≡ Done
   done_made false k can s x m = m.0
