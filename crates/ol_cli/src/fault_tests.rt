@@ -1,5 +1,5 @@
 //! Faults at each call, over the fakes, and a source and a sink that never fail.
-ghost use Rattle.std.specs.Prelude.{◌≡◌, ◌≤◌, ◌<◌, Some};
+ghost use Rattle.std.specs.Prelude.{◌≡◌, ◌≤◌, ◌<◌, ℕ, List, Option, Some};
 ghost use Rattle.ol_io.specs.Sure.{bytes_of, told_by};
 ghost use Rattle.ol_cli.specs.Completeness.{AskForWhatCanBeDone, IsDoneOrNothing};
 
@@ -134,8 +134,8 @@ fn surely<R: Threads + Wait + Sync, G: Gate + Sync>(
     ensures done { AskForWhatCanBeDone words.now.items (λ name. Some (bytes_of src.old.files name))
         → IsDoneOrNothing words.now.items (λ name. Some (bytes_of src.old.files name))
         result.status (told_by out.old) (told_by out.new) }
-    ensures contents { (λ name. Some (bytes_of src.new.files name))
-        ≡ (λ name. Some (bytes_of src.old.files name)) }
+    ensures contents { ◌≡◌ {A = List ℕ → Option (List ℕ)}
+        (λ name. Some (bytes_of src.new.files name)) (λ name. Some (bytes_of src.old.files name)) }
 {
     ol(rt, alloc, words, src, out, gate)
 }
