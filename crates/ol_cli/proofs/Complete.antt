@@ -1,5 +1,5 @@
 -- A job that can be done is done, where nothing fails and memory is found.
-use Rattle.std.proofs.Common.{◌≡◌, ℕ, zero, suc, ◌≤◌, Bool, true, false, List, [], ◌∷◌, length, slice_get, Option, Some, refl, sym, ap, ◌∙◌, subst, inl, inr, ◌⊎◌, arith, String, Global}
+use Rattle.std.proofs.Common.{◌≡◌, ℕ, zero, suc, ◌≤◌, Bool, true, false, List, [], ◌∷◌, length, slice_get, Option, Some, refl, sym, ap, ◌∙◌, subst, inl, inr, arith, String, Global}
 use Rattle.ol_io.specs.Outside.{Rose, Appended}
 use Rattle.ol_term.specs.Trees.{Tree, depth}
 use Rattle.ol_term.specs.Generated.{doubled_text}
@@ -12,7 +12,7 @@ use Rattle.ol_words.specs.Texts.{Text}
 use Rattle.ol_words.specs.Asked.{Asked, run, walk, view, trace, check, gen}
 use Rattle.ol_cli.specs.declared.status.Status.{Status}
 use Rattle.ol_cli.specs.declared.status.Status.TheVariants.{Done, Usage, Syntax, Spent, ReadFault, WriteFault, NoMemory, Limit}
-use Rattle.ol_cli.specs.Jobs.{AskFor, EachName, TellsFiles, term_bytes}
+use Rattle.ol_cli.specs.Jobs.{EachName, TellsFiles, term_bytes}
 use Rattle.ol_cli.specs.Answers.{IsTermFile, FileAnswer, JournalAnswer, JobAnswer, Makes, plain_run, IsAnswer, Ends, seen}
 use Rattle.ol_cli.specs.Answers as answers
 use Rattle.ol_cli.specs.Completeness.{EndsWithinFuel, HasTermWithin, HasJournalWithin, CanDo, AskForWhatCanBeDone, IsDoneOrNothing}
