@@ -1,6 +1,6 @@
 -- What each turn of the walk along a chain knows.
 use Rattle.std.proofs.Common.{◌≡◌, ◌≢◌, ℕ, suc, ◌+◌, ◌-◌, ◌<◌, ◌≤◌, Bool, true, false, length, slice_index, inl, inr, ◌↔◌, sym, ap, ◌∙◌, subst, arith}
-use Rattle.std.proofs.lemmas.Bool.{cases_eq, cases_lt, false≢true}
+use Rattle.std.proofs.lemmas.Bool.{cases_lt, false≢true}
 use Rattle.ol_net.specs.Nets.{NamedNet}
 use Rattle.ol_rules.specs.declared.journal.NodeName.{NodeName}
 use Rattle.ol_reduce.specs.declared.chains.End.TheVariants.{Node, Port, Wire}

@@ -18,3 +18,4 @@ pub mod Hired
 pub mod Turns
 mod Answered
 pub mod Offering
+pub mod Worked

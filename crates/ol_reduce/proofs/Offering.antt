@@ -111,3 +111,20 @@ puts_more s t u v m b n cells before sent refused published offered few =
       published ∙ ap (λ l. l ++ cells) p.1 ∙ append_assoc s.view.published p.0 cells,
       put_more v m n p.0 cells p.2 here,
     )
+
+-- one part of a worker's work after another
+pub claims_on : (s t u : SeatState) (v m n : HandState) → ClaimsGiven s v t m → ClaimsGiven t m u n → ClaimsGiven s v u n
+claims_on s t u v m n (xs, e, less) (ys, d, more) = (
+  xs ++ ys,
+  d ∙ ap (λ l. l ++ ys) e ∙ append_assoc s.view.claimed xs ys,
+  λ h. omega (arith, less h, more h, weigh_append h xs ys),
+)
+
+pub puts_on : (s t u : SeatState) (v m n : HandState) → m.refused ≤ n.refused → PutsPublished s v t m → PutsPublished t m u n → PutsPublished s v u n
+puts_on s t u v m n le before after few =
+    let p = before (omega (arith, few, le)) in
+    let q = after few in (
+      p.0 ++ q.0,
+      q.1 ∙ ap (λ l. l ++ q.0) p.1 ∙ append_assoc s.view.published p.0 q.0,
+      put_more v m n p.0 q.0 p.2 q.2,
+    )

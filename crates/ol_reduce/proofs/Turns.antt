@@ -11,7 +11,7 @@ use Rattle.ol_wire.specs.Hands.{IsStuckLast}
 use Rattle.ol_wire.specs.Layout.{cells_of}
 use Rattle.ol_wire.specs.Plays.{swept_on}
 use Rattle.ol_wire.specs.Turns.{FoundActive, IsRewrote, HasCause, Leaves}
-use Rattle.ol_reduce.specs.Turned.{cells_below, IsTurn, HasTurned, HasSpent, TurnsTell}
+use Rattle.ol_reduce.specs.Turned.{cells_below, IsTurn, HasTurned, TurnsTell}
 
 -- the view after a turn shows the cause of the answer
 pub cause_of : (t : Turn) (n : View) → (t ≡ Gone → n.last.0 ≡ 0) → (t ≡ Stuck → (n.last.0 ≢ 0) × IsStuckLast n) → (t ≡ Spent → FoundActive n × (n.over ≡ true))
@@ -76,26 +76,6 @@ at_next z v c d m n t e all at turn not_spent =
     let up : suc c ≡ d = omega (arith, e) in
     let here : IsAt z v (suc c) n = record { turned = turned_more z v (cells_below c) m n c t at.turned turn not_spent; swept = more } in
     subst (λ k. IsAt z v k n) up here
-
--- a worker that began at v and made turns, none of which answered Spent
-pub record HasWorked (z : Parts) (v n : View) : Type 0 where
-  pub holds : n.holds ≡ v.holds
-  pub cells : List ℕ
-  pub turned : HasTurned z v cells n
-
-pub worked_first : (z : Parts) (v : View) → HasWorked z v v
-worked_first z v = record { holds = refl; cells = []; turned = refl }
-
-pub worked_next : (z : Parts) (v m n : View) (c : ℕ) (t : Turn) → HasWorked z v m → IsTurn z m c t n → t ≢ Spent → n.holds ≡ m.holds → HasWorked z v n
-worked_next z v m n c t w turn not_spent holds = record {
-  holds = holds ∙ w.holds;
-  cells = w.cells ++ c ∷ [];
-  turned = turned_more z v w.cells m n c t w.turned turn not_spent;
-}
-
--- its last turn answered Spent
-pub ended_next : (z : Parts) (v m n : View) (c : ℕ) (t : Turn) → HasWorked z v m → IsTurn z m c t n → t ≡ Spent → (cells : List ℕ) × (c : ℕ) × HasSpent z v cells c n
-ended_next z v m n c t w turn e = (w.cells, c, (m, w.turned, subst (λ (s : Turn). IsTurn z m c s n) e turn))
 
 -- the four cells of a ticket are cells
 pub born_within : (z : Parts) (v : View) (c t : ℕ) (r : Rule) (b m : ℕ) (n : View) → Leaves z v c (Rewrote t r b m) n → b + 4 ≤ cells_of z

@@ -1,6 +1,7 @@
 -- What clauses of public functions rest on.
 pub mod Frozen
 pub mod Turned
+pub mod Worked
 pub mod Working
 pub mod Reduced
 -- What only contracts of private functions and proofs cite.

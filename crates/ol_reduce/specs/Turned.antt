@@ -7,7 +7,7 @@ use Rattle.ol_wire.specs.declared.turning.Turn.TheVariants.{Spent}
 use Rattle.ol_wire.specs.declared.view.View.{View}
 use Rattle.ol_wire.specs.Layout.{cells_of}
 use Rattle.ol_wire.specs.Turns.{HasCause, Leaves}
-use Rattle.ol_wire.specs.Stand.{TableState, SeatState}
+use Rattle.ol_wire.specs.Stand.{TableState}
 
 -- the cells below n, in order
 abbrev pub cells_below : ℕ → List ℕ
@@ -38,10 +38,3 @@ HasSwept b v n = HasTurned b.plan.parts v (cells_below (cells_of b.plan.parts)) 
 
 abbrev pub HasSweptToSpent : TableState → View → View → Type 0
 HasSweptToSpent b v n = (c : ℕ) × HasSpent b.plan.parts v (cells_below c) c n
-
--- turns of a seat on some cells, of which none answered Spent, or just the last one
-abbrev pub HasWorked : TableState → SeatState → SeatState → Type 0
-HasWorked b v n = (cells : List ℕ) × HasTurned b.plan.parts v.view cells n.view
-
-abbrev pub HasWorkedToSpent : TableState → SeatState → SeatState → Type 0
-HasWorkedToSpent b v n = (cells : List ℕ) × (c : ℕ) × HasSpent b.plan.parts v.view cells c n.view

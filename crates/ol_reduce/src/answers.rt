@@ -14,11 +14,11 @@ pub enum Sweep {
 /// Why a worker ended.
 ///
 /// - `Spent`: its last turn answered `Spent`. An active pair is left, and the fuel is used up.
-/// - `Left`: no cell waited for it in the pool.
+/// - `Quiet`: no active pair is left, and none can come. No cell waited for it in the pool.
 #[derive(Clone, Copy, Debug, PartialEq, Eq)]
 pub enum End {
     Spent,
-    Left,
+    Quiet,
 }
 
 /// Law: turns on some cells, one after the other, add just these cells to those that the seat has

@@ -1,15 +1,14 @@
 //! From seats to workers and back, and the work of all of them.
-ghost use Rattle.std.specs.Prelude.{◌≡◌, ◌<◌, ◌≤◌, All, IfOk, vec_len, length, is_some, count_by, true};
+ghost use Rattle.std.specs.Prelude.{◌≡◌, ◌||◌, ◌<◌, ◌≤◌, All, IfOk, vec_len, length, is_some, count_by, true, false};
 ghost use Rattle.ol_pool.specs.Pools.{IsHandOf as IsOfPool};
 ghost use Rattle.ol_wire.specs.Layout.{cells_of};
 ghost use Rattle.ol_wire.specs.Sizes.{IsSmallNet};
 ghost use Rattle.ol_wire.specs.Stand.{IsNewSeat, IsSeatOf};
 ghost use Rattle.ol_wire.specs.Starts.{AreParts};
-ghost use Rattle.ol_reduce.specs.Works.{IsSeated, IsWorker};
-ghost use Rattle.ol_wire.specs.Closed.{HasSweptAll};
+ghost use Rattle.ol_reduce.specs.Works.{IsEnded, IsWorker};
+ghost use Rattle.ol_wire.specs.Closed.{HasSettled};
 
-use crate::answers::Sweep;
-use crate::sweeping::sweep;
+use crate::answers::End;
 use crate::workers::Worker;
 use crate::working::{offer, worker};
 use ol_io::{Gate, NoMemory};
@@ -22,7 +21,7 @@ use std::thread;
 use std::thread::Threads;
 
 /// The closed words of a net that so many workers have rewritten, with at most `fuel` tickets, and
-/// what the sweep after their work came to.
+/// how their work ended: with `Quiet` where one of them ended so.
 ///
 /// `NoMemory`: there was no memory for the words, the pool or the workers.
 pub(crate) fn run_workers<R: Threads + Wait + Sync, G: Gate + Sync>(
@@ -32,7 +31,7 @@ pub(crate) fn run_workers<R: Threads + Wait + Sync, G: Gate + Sync>(
     workers: u32,
     fuel: u32,
     gate: &G,
-) -> Result<(Words, Sweep), NoMemory>
+) -> Result<(Words, End), NoMemory>
     requires whole { count_by is_some net.now.nodes ≡ length net.now.nodes }
     requires small { IsSmallNet net.now }
     requires fuel { fuel ≤ 2000000 }
@@ -40,8 +39,8 @@ pub(crate) fn run_workers<R: Threads + Wait + Sync, G: Gate + Sync>(
     ensures parts { IfOk result (λ r. AreParts net.now fuel r.0.plan.parts) }
     ensures start { IfOk result (λ r. r.0.plan.start.value ≡ net.now) }
     ensures seats { IfOk result (λ r. r.0.plan.seats ≡ workers) }
-    ensures clean { IfOk result (λ r. r.1 ≡ Sweep.Clean → HasSweptAll r.0) }
-    ensures spent { IfOk result (λ r. r.1 ≡ Sweep.Spent → r.0.view.over ≡ true) }
+    ensures quiet { IfOk result (λ r. r.1 ≡ End.Quiet → HasSettled r.0) }
+    ensures spent { IfOk result (λ r. r.1 ≡ End.Spent → r.0.view.over ≡ true) }
 {
     let (shared, seats) = Shared::make(alloc, net, fuel, workers)?;
     let (pool, mut hands) = Pool::new(alloc, workers, shared.cells())?;
@@ -55,8 +54,7 @@ pub(crate) fn run_workers<R: Threads + Wait + Sync, G: Gate + Sync>(
         workers as usize,
         gate,
     );
-    let mut seat = gather(&shared, hired);
-    let end = sweep(&shared, &mut seat);
+    let (seat, end) = gather(&shared, hired);
     Ok((shared.close(seat), end))
 }
 
@@ -105,9 +103,9 @@ pub(crate) fn hire(
 fn work<R: Wait, G: Gate>(rt: &R, shared: &Shared, pool: &Pool, own: &mut Worker, gate: &G)
     requires worker { IsWorker shared.now pool.now own.old }
     requires cells { pool.now.cells ≡ cells_of shared.now.plan.parts }
-    ensures seated { IsSeated shared.now own.new }
+    ensures ended { IsEnded shared.now own.new }
 {
-    worker(rt, shared, pool, own, gate);
+    own.is_quiet = matches!(worker(rt, shared, pool, own, gate), End::Quiet);
 }
 
 // All workers work, in at most `count` threads.
@@ -122,7 +120,7 @@ fn run<R: Threads + Wait + Sync, G: Gate + Sync>(
     requires workers { All (IsWorker shared.now pool.now) workers.old }
     requires cells { pool.now.cells ≡ cells_of shared.now.plan.parts }
     requires count { 0 < count }
-    ensures seated { All (IsSeated shared.now) workers.new }
+    ensures ended { All (IsEnded shared.now) workers.new }
     ensures length { length workers.new ≡ length workers.old }
 {
     thread::for_each_mut(
@@ -133,16 +131,37 @@ fn run<R: Threads + Wait + Sync, G: Gate + Sync>(
     );
 }
 
-// One seat of the seats of all workers.
-fn gather(shared: &Shared, mut workers: Vec<Worker>) -> Seat
-    requires workers { All (IsSeated shared.now) workers.items }
+// One seat of the seats of all workers, and how their work ended.
+fn gather(shared: &Shared, mut workers: Vec<Worker>) -> (Seat, End)
+    requires workers { All (IsEnded shared.now) workers.items }
     requires some { 0 < vec_len workers }
-    ensures seat { IsSeatOf shared.now result }
-    ensures holds { result.view.holds ≡ vec_len workers }
+    ensures seat { IsSeatOf shared.now result.0 }
+    ensures holds { result.0.view.holds ≡ vec_len workers }
+    ensures quiet { result.1 ≡ End.Quiet → result.0.view.settled ≡ true }
+    ensures spent { result.1 ≡ End.Spent → result.0.view.over ≡ true }
 {
-    let mut seat = workers.pop().unwrap().into_seat();
+    let first = workers.pop().unwrap();
+    let mut is_quiet = first.is_quiet;
+    let mut seat = first.into_seat();
     while let Some(other) = workers.pop() {
+        let is_either = either(is_quiet, other.is_quiet);
         shared.join(&mut seat, other.into_seat());
+        is_quiet = is_either;
     }
-    seat
+    (seat, end_of(is_quiet))
+}
+
+// Whether one of the two is true.
+fn either(one: bool, other: bool) -> bool
+    ensures { result ≡ (one || other) }
+{
+    one || other
+}
+
+// How the work of all ends where one of them ended with `Quiet`, or none.
+fn end_of(is_quiet: bool) -> End
+    ensures quiet { result ≡ End.Quiet → is_quiet ≡ true }
+    ensures spent { result ≡ End.Spent → is_quiet ≡ false }
+{
+    if is_quiet { End::Quiet } else { End::Spent }
 }

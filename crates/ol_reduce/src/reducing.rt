@@ -4,7 +4,7 @@ ghost use Rattle.ol_wire.specs.Closed.{journal_drawn};
 ghost use Rattle.ol_wire.specs.Sizes.{IsSmallNet};
 ghost use Rattle.ol_reduce.specs.Reduced.{EndsWithin, IsDoneAnswer, Reduces};
 
-use crate::answers::Sweep;
+use crate::answers::End;
 use crate::freezing::freeze;
 use crate::gathering::run_workers;
 use crate::reduced::Reduced;
@@ -51,10 +51,10 @@ pub fn reduce<R: Threads + Wait + Sync, G: Gate + Sync>(
     let (words, end) = run_workers(rt, alloc, net, workers, fuel, gate)?;
     words.runs();
     words.over();
-    words.swept();
+    words.settled();
     let journal = journal_of(alloc, &words)?;
     match end {
-        Sweep::Clean => {
+        End::Quiet => {
             let last = freeze(alloc, &words)?;
             Ok(Reduced::Done {
                 net: last,
@@ -62,7 +62,7 @@ pub fn reduce<R: Threads + Wait + Sync, G: Gate + Sync>(
                 words,
             })
         }
-        Sweep::Spent => Ok(Reduced::Spent { journal, words }),
+        End::Spent => Ok(Reduced::Spent { journal, words }),
     }
 }
 

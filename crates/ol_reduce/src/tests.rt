@@ -82,10 +82,10 @@ fn a_sweep_ends_the_work(rt: HostRuntime) -> Result<(), Fail> {
 }
 
 #[test]
-fn a_worker_leaves_when_no_cell_waits(rt: HostRuntime) -> Result<(), Fail> {
+fn a_worker_works_until_all_is_done(rt: HostRuntime) -> Result<(), Fail> {
     let net = identity_of_identity(rt.alloc())?;
     assert!(rt; is_small(&net));
-    for (fuel, end) in [(4, End::Left), (3, End::Spent)] {
+    for (fuel, end) in [(4, End::Quiet), (3, End::Spent)] {
         let (table, pool, mut own) = alone(rt.alloc(), &net, fuel)?;
         assert!(rt; 0 < pool.cells());
         assert_eq!(rt; pool.put(&mut own.hand, 0), Ok(()));
@@ -99,7 +99,14 @@ fn a_worker_leaves_when_no_cell_waits(rt: HostRuntime) -> Result<(), Fail> {
 fn workers_share_a_net(rt: HostRuntime) -> Result<(), Fail> {
     let net = identity_of_identity(rt.alloc())?;
     assert!(rt; is_small(&net));
-    for (workers, fuel, is_done) in [(1, 4, true), (2, 4, true), (1, 3, false), (2, 3, false)] {
+    for (workers, fuel, is_done) in [
+        (1, 4, true),
+        (2, 4, true),
+        (64, 4, true),
+        (1, 3, false),
+        (2, 3, false),
+        (64, 3, false),
+    ] {
         match reduce(&rt, rt.alloc(), &net, workers, fuel, &OpenGate)? {
             Reduced::Done {
                 net: last,

@@ -10,6 +10,8 @@ pub struct Worker {
     pub(crate) number: u32,
     pub(crate) seat: Seat,
     pub(crate) hand: Hand,
+    // whether its work ended with `Quiet`
+    pub(crate) is_quiet: bool,
 }
 
 impl Worker {
@@ -19,7 +21,12 @@ impl Worker {
         ensures seat { result.seat ≡ seat }
         ensures hand { result.hand ≡ hand }
     {
-        Worker { number, seat, hand }
+        Worker {
+            number,
+            seat,
+            hand,
+            is_quiet: false,
+        }
     }
 
     /// Gives its seat back. Takes no memory.
@@ -30,6 +37,7 @@ impl Worker {
             number: _,
             seat,
             hand: _,
+            is_quiet: _,
         } = self;
         seat
     }

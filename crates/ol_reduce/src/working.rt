@@ -1,29 +1,39 @@
-//! What a worker does: it takes cells from the pool and makes turns on them.
-ghost use Rattle.std.specs.Prelude.{◌≡◌, ◌==◌, ℕ, List, [], ◌∷◌, ◌+◌, ◌/◌, ◌%◌, ◌^◌, ◌<◌, ◌≤◌, ◌↔◌, true, false};
+//! What a worker does: it takes cells from the pool and makes turns on them, and where no cell waits,
+//! it goes round over all cells and asks whether all is done.
+ghost use Rattle.std.specs.Prelude.{◌≡◌, ◌==◌, ℕ, List, [], ◌∷◌, ◌+◌, ◌/◌, ◌%◌, ◌^◌, ◌<◌, ◌≤◌, true, false, None, Some, IsTrue, IsFalse};
 ghost use Rattle.ol_pool.specs.Pools.{IsHandOf as IsOfPool};
 ghost use Rattle.ol_wire.specs.Layout.{cells_of};
 ghost use Rattle.ol_wire.specs.Stand.{IsSeatOf};
 ghost use Rattle.ol_wire.specs.Turns.{masked};
-ghost use Rattle.ol_reduce.specs.Turned.{HasTurned, HasSpent, HasWorked, HasWorkedToSpent};
+ghost use Rattle.ol_reduce.specs.TurnEnds.{IsSpentTurn, IsOtherTurn};
+ghost use Rattle.ol_reduce.specs.Worked.{HasWorkedToQuiet, HasWorkedToSpent};
 ghost use Rattle.ol_reduce.specs.Working.{ClaimsGiven, PutsPublished};
 ghost use Rattle.ol_reduce.specs.Offered.{HasOffered};
+ghost use Rattle.ol_reduce.specs.Works.{IsAtWork, HasTurnedOn, HasKept, HasAsked, Goes, GoesOn};
 
 use crate::answers::End;
 use crate::workers::Worker;
+use crossbeam_utils::Backoff;
 use ol_io::Gate;
 use ol_pool::{Hand, Pool};
 use ol_wire::{Shared, Turn};
 use std::sync::Wait;
 
-/// Takes cells from the pool and makes a turn on each, up to the first that answers `Spent`, or
-/// until no cell waits. A cell in which a turn published a pair is put into the pool.
+/// Takes cells from the pool and makes a turn on each, up to the first that answers `Spent`. Where
+/// no cell waits, it makes turns on the next 64 cells of its own round over all cells, so that a
+/// pair whose cell the pool refused is found too. Then it asks `quiet`, ends where that is true, and
+/// else pauses and tries again. A cell in which a turn published a pair is put into the pool.
 ///
-/// `Spent` comes only where its last turn answered `Spent`, and `Left` exactly where its last
-/// `take` answered None. Between the seat's view before the call and the one after it lie the
-/// call's turns, none of which but such a last one answered `Spent`. Each cell that its hand was
-/// given in the call was claimed by its seat in the call, as often as it was given. Each cell that
-/// its seat published in the call was put by its hand in the call, but for as many as the hand's
-/// `refused` rose by; this is said where that count doesn't end at its last value.
+/// - `Spent` comes only where its last turn answered `Spent`.
+/// - `Quiet` comes only where `quiet` answered true for its seat at the end of the call, which
+///   `settled` shows, and its last `take` answered None, which the hand's `missed` shows.
+///
+/// Between the seat's view before the call and the one after it lie the call's turns and looks at
+/// the live word: no turn but such a last one answered `Spent`, and no look but such a last one read
+/// 0. Each cell that its hand was given in the call was claimed by its seat in the call, as often as
+/// it was given. Each cell that its seat published in the call was put by its hand in the call, but
+/// for as many as the hand's `refused` rose by; this is said where that count doesn't end at its
+/// last value.
 ///
 /// The gate is passed at the start with 0, and after each turn with the number of turns made, up to
 /// 2^64 - 1, at which it stays. A cell for which the pool finds no memory isn't put: its pair stays
@@ -42,34 +52,170 @@ pub fn worker<R: Wait, G: Gate>(
     ensures hand { IsOfPool own.new.hand pool.now }
     ensures number { own.new.number ≡ own.old.number }
     ensures holds { own.new.seat.view.holds ≡ own.old.seat.view.holds }
-    ensures left { (result ≡ End.Left) ↔ (own.new.hand.missed ≡ true) }
-    ensures turned { result ≡ End.Left → HasWorked shared.now own.old.seat own.new.seat }
+    ensures missed { result ≡ End.Quiet → own.new.hand.missed ≡ true }
+    ensures settled { result ≡ End.Quiet → own.new.seat.view.settled ≡ true }
+    ensures over { result ≡ End.Spent → own.new.seat.view.over ≡ true }
+    ensures quiet { result ≡ End.Quiet → HasWorkedToQuiet shared.now own.old.seat own.new.seat }
     ensures spent { result ≡ End.Spent → HasWorkedToSpent shared.now own.old.seat own.new.seat }
     ensures claimed { ClaimsGiven own.old.seat own.old.hand own.new.seat own.new.hand }
     ensures put { PutsPublished own.old.seat own.old.hand own.new.seat own.new.hand }
 {
-    let number = own.number;
-    let mut turns: u64 = 0;
-    gate.pass(number, turns);
+    gate.pass(own.number, 0);
+    let mut pace = Pace::new(own.number);
     for _ in rt.forever() {
-        let Some(cell) = pool.take(&mut own.hand) else {
-            return End::Left;
-        };
-        let turn = shared.turn(&mut own.seat, cell);
-        turns = turns.saturating_add(1);
-        gate.pass(number, turns);
-        match turn {
-            Turn::Spent => return End::Spent,
-            Turn::Rewrote {
-                ticket: _,
-                rule: _,
-                first_cell,
-                mask,
-            } => offer_published(pool, &mut own.hand, first_cell, mask),
-            _ => {}
+        if let Some(end) = go_on(shared, pool, own, gate, &mut pace) {
+            return end;
         }
     }
     unreachable!()
+}
+
+// How far a worker is in its call: how many turns it made, where its round goes on, and how long it
+// pauses.
+#[derive(Drop)]
+pub(crate) struct Pace {
+    turns: u64,
+    next: u32,
+    pause: Backoff,
+}
+
+impl Pace {
+    // Workers of different numbers begin their rounds far from each other: the numbers are spread
+    // by a factor whose multiples are spread over all of u32.
+    fn new(number: u32) -> Pace {
+        Pace {
+            turns: 0,
+            next: number.wrapping_mul(0x9E37_79B9),
+            pause: Backoff::new(),
+        }
+    }
+
+    // The next cell of the round.
+    fn next_cell(&mut self, cells: u32) -> u32
+        requires { 0 < cells }
+        ensures { result < cells }
+    {
+        let cell = self.next % cells;
+        self.next = cell + 1;
+        cell
+    }
+}
+
+// A turn on a cell that waits, or else, where no cell waits, a part of the round and a look whether
+// all is done.
+fn go_on<G: Gate>(
+    shared: &Shared,
+    pool: &Pool,
+    own: &mut Worker,
+    gate: &G,
+    pace: &mut Pace,
+) -> Option<End>
+    requires work { IsAtWork shared.now pool.now own.old }
+    ensures kept { HasKept shared.now pool.now own.old own.new }
+    ensures goes { GoesOn shared.now own.old.seat result own.new }
+{
+    let Some(cell) = pool.take(&mut own.hand) else {
+        return wait_on(shared, pool, own, gate, pace);
+    };
+    pace.pause.reset();
+    if turn_on(shared, pool, own, gate, pace, cell) {
+        return Some(End::Spent);
+    }
+    None
+}
+
+// What a worker does after a `take` that answered None.
+fn wait_on<G: Gate>(
+    shared: &Shared,
+    pool: &Pool,
+    own: &mut Worker,
+    gate: &G,
+    pace: &mut Pace,
+) -> Option<End>
+    requires work { IsAtWork shared.now pool.now own.old }
+    requires missed { own.old.hand.missed ≡ true }
+    ensures kept { HasKept shared.now pool.now own.old own.new }
+    ensures goes { GoesOn shared.now own.old.seat result own.new }
+{
+    if go_round(shared, pool, own, gate, pace) {
+        return Some(End::Spent);
+    }
+    let end = ask(shared, own);
+    pace.pause.snooze();
+    end
+}
+
+// Asks whether no active pair is left.
+fn ask(shared: &Shared, own: &mut Worker) -> Option<End>
+    requires seat { IsSeatOf shared.now own.old.seat }
+    ensures seat { IsSeatOf shared.now own.new.seat }
+    ensures number { own.new.number ≡ own.old.number }
+    ensures hand { own.new.hand ≡ own.old.hand }
+    ensures asked { HasAsked own.old.seat result own.new.seat }
+{
+    if shared.quiet(&mut own.seat) {
+        Some(End::Quiet)
+    } else {
+        None
+    }
+}
+
+// Makes turns on the next 64 cells of the worker's round over all cells, or on each of them where
+// there are fewer. Tells whether the last one answered Spent.
+fn go_round<G: Gate>(
+    shared: &Shared,
+    pool: &Pool,
+    own: &mut Worker,
+    gate: &G,
+    pace: &mut Pace,
+) -> bool
+    requires work { IsAtWork shared.now pool.now own.old }
+    ensures kept { HasKept shared.now pool.now own.old own.new }
+    ensures missed { own.new.hand.missed ≡ own.old.hand.missed }
+    ensures goes { Goes shared.now own.old.seat result own.new.seat }
+{
+    let cells = shared.cells();
+    for _ in 0..cells.min(64) {
+        let cell = pace.next_cell(cells);
+        if turn_on(shared, pool, own, gate, pace, cell) {
+            return true;
+        }
+    }
+    false
+}
+
+// Makes a turn on a cell, and offers the cells in which it published a pair to the pool. Tells
+// whether it answered Spent.
+fn turn_on<G: Gate>(
+    shared: &Shared,
+    pool: &Pool,
+    own: &mut Worker,
+    gate: &G,
+    pace: &mut Pace,
+    cell: u32,
+) -> bool
+    requires work { IsAtWork shared.now pool.now own.old }
+    requires cell { cell < cells_of shared.now.plan.parts }
+    ensures turned { HasTurnedOn shared.now own.old cell own.new }
+    ensures other { IsFalse result → IsOtherTurn shared.now own.old.seat.view cell own.new.seat.view }
+    ensures spent { IsTrue result → IsSpentTurn shared.now own.old.seat.view cell own.new.seat.view }
+{
+    let turn = shared.turn(&mut own.seat, cell);
+    pace.turns = pace.turns.saturating_add(1);
+    gate.pass(own.number, pace.turns);
+    match turn {
+        Turn::Spent => true,
+        Turn::Rewrote {
+            ticket: _,
+            rule: _,
+            first_cell,
+            mask,
+        } => {
+            offer_published(pool, &mut own.hand, first_cell, mask);
+            false
+        }
+        _ => false,
+    }
 }
 
 // Whether a bit is set in the mask.
@@ -86,7 +232,7 @@ pub(crate) fn offer(pool: &Pool, hand: &mut Hand, cell: u32)
     requires cell { cell < pool.now.cells }
     ensures { HasOffered hand.old (cell ∷ []) hand.new }
 {
-    // One that no memory was found for is left for the sweep.
+    // One that no memory was found for is found by a round over all cells.
     let _ = pool.put(hand, cell);
 }
 

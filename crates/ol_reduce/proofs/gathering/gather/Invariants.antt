@@ -1,10 +1,15 @@
-use Rattle.std.proofs.Common.{◌≡◌, ◌+◌, All, vec_len}
+use Rattle.std.proofs.Common.{◌≡◌, ◌+◌, All, vec_len, true, false}
 use Rattle.ol_wire.specs.Stand.{IsSeatOf}
-use Rattle.ol_reduce.specs.Works.{IsSeated}
+use Rattle.ol_reduce.specs.Works.{IsEnded}
 use Rattle.ol_reduce.proofs.gathering.gather.Given as goal
 
 abbrev pub invariant-loop-other : goal.invariant-loop-other
-invariant-loop-other l = IsSeatOf l.fn.shared l.seat × All (IsSeated l.fn.shared) l.workers.items × (l.seat.view.holds + vec_len l.workers ≡ vec_len l.fn.workers)
+invariant-loop-other l =
+    IsSeatOf l.fn.shared l.seat
+    × All (IsEnded l.fn.shared) l.workers.items
+    × (l.seat.view.holds + vec_len l.workers ≡ vec_len l.fn.workers)
+    × (l.is_quiet ≡ true → l.seat.view.settled ≡ true)
+    × (l.is_quiet ≡ false → l.seat.view.over ≡ true)
 
 abbrev pub decreases-loop-other : goal.decreases-loop-other
 decreases-loop-other l = goal.left-loop-other l

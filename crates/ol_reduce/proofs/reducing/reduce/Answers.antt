@@ -3,12 +3,12 @@ use Rattle.ol_reduce.proofs.Answered.{steps_in, few_steps, ends, as_long, goes_o
 use Rattle.ol_reduce.proofs.reducing.reduce.Goals as goal
 use Rattle.ol_reduce.proofs.Bounded.{events_few}
 
-pub returns-in_ok-last-in-Clean-clause-reduced : goal.returns-in_ok-last-in-Clean-clause-reduced
-returns-in_ok-last-in-Clean-clause-reduced g c =
+pub returns-in_ok-last-in-Quiet-clause-reduced : goal.returns-in_ok-last-in-Quiet-clause-reduced
+returns-in_ok-last-in-Quiet-clause-reduced g c =
     let w = c.in_ok-words.words in
     let M = c.runs.ensures.some.0 in
     let after = c.runs.ensures.some.1 in
-    let complete = c.swept.ensures.complete (c.in_ok-words.ensures.clean c.in-Clean.is) M after in
+    let complete = c.settled.ensures.complete (c.in_ok-words.ensures.quiet c.in-Quiet.is) M after in
     let few = few_steps w c.args.fuel c.in_ok-words.ensures.parts.fuel (events_few w.plan.parts w.words) in
     let told = ends c.one_thread_agrees.ensures.done c.args.net.now w c.args.fuel c.is_net.ensures.net c.in_ok-words.ensures.start few M after complete in
     record {
@@ -17,17 +17,17 @@ returns-in_ok-last-in-Clean-clause-reduced g c =
       last_net = M;
       after = after;
       complete = complete;
-      frozen = c.in_ok-last-in-Clean.ensures.frozen M after;
+      frozen = c.in_ok-last-in-Quiet.ensures.frozen M after;
       within = subst (λ j. length j ≤ c.args.fuel) (sym c.in_ok-journal.ensures) few;
       steps = as_long c.args.net.now c.args.fuel _ _ c.in_ok-journal.ensures told.1;
     }
 
-pub returns-in_ok-last-in-Clean-clause-done : goal.returns-in_ok-last-in-Clean-clause-done
-returns-in_ok-last-in-Clean-clause-done g c =
+pub returns-in_ok-last-in-Quiet-clause-done : goal.returns-in_ok-last-in-Quiet-clause-done
+returns-in_ok-last-in-Quiet-clause-done g c =
     let w = c.in_ok-words.words in
     let few = few_steps w c.args.fuel c.in_ok-words.ensures.parts.fuel (events_few w.plan.parts w.words) in (
       (λ _. (ends c.one_thread_agrees.ensures.done c.args.net.now w c.args.fuel c.is_net.ensures.net c.in_ok-words.ensures.start few c.runs.ensures.some.0 c.runs.ensures.some.1
-          (c.swept.ensures.complete (c.in_ok-words.ensures.clean c.in-Clean.is) c.runs.ensures.some.0 c.runs.ensures.some.1)).0),
+          (c.settled.ensures.complete (c.in_ok-words.ensures.quiet c.in-Quiet.is) c.runs.ensures.some.0 c.runs.ensures.some.1)).0),
       (λ _. tt),
     )
 

@@ -1,0 +1,10 @@
+use Rattle.std.proofs.Common.{◌≡◌}
+use Rattle.ol_reduce.specs.Worked.{HasWorked}
+use Rattle.ol_reduce.specs.Works.{HasKept}
+use Rattle.ol_reduce.proofs.working.go_round.Given as goal
+
+abbrev pub invariant-loop : goal.invariant-loop
+invariant-loop g l =
+    HasKept l.shared l.pool l.fn.own l.own
+    × (l.own.hand.missed ≡ l.fn.own.hand.missed)
+    × HasWorked l.shared.plan.parts l.fn.own.seat.view l.own.seat.view
