@@ -18,18 +18,10 @@ mod crossing;
 mod laws;
 mod leaf;
 mod leaf_changes;
-#[cfg(test)]
-mod level_texts;
 mod open;
-#[cfg(test)]
-mod open_tests;
 mod open_walking;
 mod row;
 mod steps;
-#[cfg(test)]
-mod tests;
-#[cfg(test)]
-mod walk_tests;
 mod walking;
 
 pub use answers::{Cross, OpenWalk, Walk};

@@ -13,8 +13,6 @@
 
 mod one_thread;
 mod square;
-#[cfg(test)]
-mod tests;
 mod waves;
 
 ghost use Rattle.ol_diamond.specs.Laws.{StartIsBirthNet, StepKeepsBirthNet, RunKeepsBirthNet, BornIsFresh, PairsCommute, DoneMeansDone, PairToFront, EachPairIsAmong, NoRunHasMore, NoRunIsLonger, CompleteRunsHaveOnePairs, CompleteRunsHaveOneCounts, CompleteRunsLeaveOneNet, BirthFollows, CompleteFollows, BirthNamesAreOne};

@@ -6,10 +6,6 @@
 #![tactic(auto)]
 
 mod kept;
-#[cfg(test)]
-mod table_tests;
-#[cfg(test)]
-mod tests;
 
 ghost use Rattle.ol_invariance.specs.Laws.{StepKeepsPaths, GraphStepKeepsPaths, JournalKeepsPaths, GraphRunKeepsPaths};
 ghost use Rattle.ol_invariance.specs.Tables.{IndexesAgree, TurnedJoinsLoseAPath, IsOnlyIndexPast};

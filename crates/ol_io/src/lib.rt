@@ -14,8 +14,6 @@ mod mem_sink;
 mod mem_source;
 mod outside;
 mod sure;
-#[cfg(test)]
-mod tests;
 
 pub use adapters::{StdSink, StdSource};
 pub use calls::{ReadAll, Written, read_all, write_all};

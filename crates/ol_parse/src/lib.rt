@@ -17,8 +17,6 @@ mod tokens;
 pub use faults::ParseFault;
 pub use parsing::{MOST_DEPTH, parse};
 
-#[cfg(test)]
-mod tests;
 
 /// A text has one term.
 pub fn one_term()

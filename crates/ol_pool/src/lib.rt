@@ -10,8 +10,6 @@ mod own;
 mod pool;
 mod pool_look;
 mod reach;
-#[cfg(test)]
-mod tests;
 
 pub use hands::Hand;
 pub use looks::{Look, Seen, take_from};

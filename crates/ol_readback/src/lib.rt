@@ -13,15 +13,11 @@ mod fitting;
 mod frames;
 mod groups;
 mod laws;
-#[cfg(test)]
-mod leave_tests;
 mod leaving;
 mod levels;
 mod printing;
 mod reading;
 mod skipping;
-#[cfg(test)]
-mod tests;
 mod tree;
 
 pub use answers::{Head, HeadVar, ReadNode};

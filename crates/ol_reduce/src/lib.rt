@@ -6,16 +6,12 @@ mod answers;
 mod chains;
 mod draft;
 mod freezing;
-#[cfg(test)]
-mod freezing_tests;
 mod gathering;
 mod live;
 mod reading;
 mod reduced;
 mod reducing;
 mod sweeping;
-#[cfg(test)]
-mod tests;
 mod workers;
 mod working;
 

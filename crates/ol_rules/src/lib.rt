@@ -5,10 +5,6 @@ mod counting;
 mod journal;
 mod laws;
 mod one_thread;
-#[cfg(test)]
-mod run_tests;
-#[cfg(test)]
-mod step_tests;
 mod steps;
 
 pub use counting::counts;

@@ -10,8 +10,6 @@ mod name_list;
 mod printing;
 mod term_file;
 mod terms;
-#[cfg(test)]
-mod tests;
 
 pub use binder_laws::binder_names_are_new;
 pub use binder_names::BinderNames;

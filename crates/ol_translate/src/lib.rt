@@ -14,8 +14,6 @@ mod index;
 mod laws;
 mod laying;
 mod parts;
-#[cfg(test)]
-mod tests;
 mod wires;
 
 pub use faults::TransFault;

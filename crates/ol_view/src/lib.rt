@@ -3,16 +3,12 @@
 #![tactic(auto)]
 
 mod answers;
-#[cfg(test)]
-mod check_tests;
 mod checking;
 mod laws;
 mod leading;
 mod line_reading;
 mod pieces;
 mod replay;
-#[cfg(test)]
-mod show_tests;
 mod showing;
 mod tracing;
 

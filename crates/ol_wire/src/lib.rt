@@ -4,13 +4,9 @@
 
 mod closed;
 mod closing;
-#[cfg(test)]
-mod closing_tests;
 mod joining;
 mod law;
 mod laying;
-#[cfg(test)]
-mod laying_tests;
 mod layout;
 mod linking;
 mod naming;
@@ -23,8 +19,6 @@ mod seat;
 mod seeing;
 mod shared;
 mod stepping;
-#[cfg(test)]
-mod turn_tests;
 mod turning;
 mod view;
 

@@ -6,8 +6,6 @@ mod jobs;
 mod lines;
 mod numbers;
 mod reading;
-#[cfg(test)]
-mod tests;
 mod verbs;
 
 pub use jobs::{Job, UsageFault, Word};

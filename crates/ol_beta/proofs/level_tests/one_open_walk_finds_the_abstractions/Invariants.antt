@@ -1,4 +1,0 @@
-use Rattle.ol_beta.proofs.level_tests.one_open_walk_finds_the_abstractions.Given as goal
-
-abbrev pub ghosts-opened : goal.ghosts-opened
-ghosts-opened g a = record { name = a.blank.name; parts = a.blank.parts }

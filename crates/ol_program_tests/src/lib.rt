@@ -1,0 +1,19 @@
+//! Tests of the command line and of whole jobs.
+//!
+//! They stand apart from what they test, so that their proof does not prove that again.
+#![tactic(auto)]
+
+#[cfg(test)]
+mod commands;
+#[cfg(test)]
+mod faults;
+#[cfg(test)]
+mod jobs;
+#[cfg(test)]
+mod orders;
+#[cfg(test)]
+mod runs;
+#[cfg(test)]
+mod walks;
+#[cfg(test)]
+mod workers;

@@ -1,0 +1,11 @@
+//! Tests of terms, of the reader and of the translation.
+//!
+//! They stand apart from what they test, so that their proof does not prove that again.
+#![tactic(auto)]
+
+#[cfg(test)]
+mod parsing;
+#[cfg(test)]
+mod terms;
+#[cfg(test)]
+mod translations;

@@ -1,0 +1,179 @@
+//! Levels, single crossings and walks as plain texts, for the tests.
+
+ghost use Rattle.std.specs.Prelude.{◌≡◌, IfOk};
+ghost use Rattle.ol_context.specs.Shapes.{IsHeld, AreHeld, Extends};
+
+use ol_context::{Context, Cross, Shape, Val, Values, Walk, cross, walk};
+use ol_io::NoMemory;
+use ol_net::{Kind, Net, NodeId, Port};
+use std::alloc::{AllocError, Global};
+use std::process::Abort;
+use std::test::Fail;
+
+/// The port of a node by its slot.
+pub fn of(node: u32, slot: u8) -> Port
+    ensures { result ≡ Port.Of (record { 0 = node }) slot }
+{
+    Port::Of {
+        node: NodeId(node),
+        slot,
+    }
+}
+
+/// Appends a level value, as in `*.<empty,o.empty>`.
+fn spell(values: &Values, v: Val, text: &mut String) -> Result<(), AllocError>
+    requires { IsHeld values.now v }
+{
+    match values.shape(v) {
+        Shape::Empty => text.push_str("empty"),
+        Shape::O(a) => {
+            text.push_str("o.")?;
+            spell(values, a, text)
+        }
+        Shape::Star(a) => {
+            text.push_str("*.")?;
+            spell(values, a, text)
+        }
+        Shape::Pair(a, b) => {
+            text.push_str("<")?;
+            spell(values, a, text)?;
+            text.push_str(",")?;
+            spell(values, b, text)?;
+            text.push_str(">")
+        }
+    }
+}
+
+/// The levels below 8 that are not empty, each after its number.
+fn spelled(alloc: Global, values: &Values, context: &Context) -> Result<String, AllocError>
+    requires { AreHeld values.now context.now }
+{
+    let mut text = String::new(alloc);
+    for k in 0..8 {
+        let level = context.level(values, k);
+        if !matches!(values.shape(level), Shape::Empty) {
+            text.push_str(format!(in alloc; " {k}:")?.as_str())?;
+            spell(values, level, &mut text)?;
+        }
+    }
+    Ok(text)
+}
+
+/// A sign before a value: `*`, and else `o`.
+fn put(values: &mut Values, sign: u8, v: Val) -> Result<Val, NoMemory>
+    requires { IsHeld values.old v }
+    ensures extends { Extends values.old values.new }
+    ensures held { IfOk result (λ w. IsHeld values.new w) }
+{
+    if sign == b'*' {
+        return values.put_star(v);
+    }
+    values.put_o(v)
+}
+
+/// These signs before the empty value.
+fn signed(values: &mut Values, signs: &str) -> Result<Val, NoMemory>
+    ensures extends { Extends values.old values.new }
+    ensures held { IfOk result (λ v. IsHeld values.new v) }
+{
+    let mut v = values.empty();
+    for sign in signs.as_bytes().iter().rev() {
+        v = put(values, *sign, v)?;
+    }
+    Ok(v)
+}
+
+/// The context that begins with three levels of such signs.
+fn begun(alloc: Global, values: &mut Values, signs: [&str; 3]) -> Result<Context, Fail>
+    ensures { IfOk result (λ c. AreHeld values.new c) }
+{
+    let [first, second, third] = signs;
+    let a = signed(values, first)?;
+    let b = signed(values, second)?;
+    let c = signed(values, third)?;
+    Ok(Context::of(vec![in alloc; a, b, c]?))
+}
+
+/// What a walk from a free port answers that begins with these levels.
+fn walked(
+    alloc: Global,
+    net: &Net,
+    from: u32,
+    signs: [&str; 3],
+    edges: u64,
+) -> Result<String, Fail> {
+    if from >= net.free_ports() {
+        return Err(Fail::from("no such port"));
+    }
+    let mut values = Values::new(alloc);
+    let context = begun(alloc, &mut values, signs)?;
+    match walk(net, &mut values, from, context, edges)? {
+        Walk::Exit {
+            port,
+            context,
+            crossings,
+        } => {
+            let levels = spelled(alloc, &values, &context)?;
+            Ok(format!(in alloc; "{crossings} to {port} with{levels}")?)
+        }
+        Walk::Undefined { crossings } => Ok(format!(in alloc; "undefined at {crossings}")?),
+        Walk::Budget => Ok(format!(in alloc; "budget")?),
+    }
+}
+
+/// Asserts for each row what a walk answers: the free port from which it starts, its first three
+/// levels, the crossings allowed, and the answer.
+pub fn assert_walks(
+    rt: &impl Abort,
+    alloc: Global,
+    net: &Net,
+    rows: &[(u32, [&str; 3], u64, &str)],
+) -> Result<(), Fail> {
+    for (from, signs, edges, wanted) in rows {
+        let answer = walked(alloc, net, *from, *signs, *edges)?;
+        assert_eq!(rt; answer.as_str(), *wanted);
+    }
+    Ok(())
+}
+
+/// What a crossing answers that enters a node by a slot with these levels.
+fn crossed(
+    alloc: Global,
+    net: &Net,
+    node: u32,
+    slot: u8,
+    signs: [&str; 3],
+) -> Result<String, Fail> {
+    let Some((kind, _)) = net.kind_of(NodeId(node)) else {
+        return Err(Fail::from("no such node"));
+    };
+    if slot >= kind.slots() {
+        return Err(Fail::from("no such slot"));
+    }
+    let mut values = Values::new(alloc);
+    let mut context = begun(alloc, &mut values, signs)?;
+    let port = of(node, slot);
+    match cross(net, &mut values, port, &mut context)? {
+        Cross::Out(Port::Of { slot, .. }) => {
+            let levels = spelled(alloc, &values, &context)?;
+            Ok(format!(in alloc; "by {slot} with{levels}")?)
+        }
+        Cross::Out(Port::Free(_)) => Err(Fail::from("free port")),
+        Cross::Undefined => Ok(format!(in alloc; "undefined")?),
+    }
+}
+
+/// Asserts for each row what a crossing answers: the node and the slot that it enters, the first
+/// three levels, and the answer.
+pub fn assert_crossings(
+    rt: &impl Abort,
+    alloc: Global,
+    net: &Net,
+    rows: &[(u32, u8, [&str; 3], &str)],
+) -> Result<(), Fail> {
+    for (node, slot, signs, wanted) in rows {
+        let answer = crossed(alloc, net, *node, *slot, *signs)?;
+        assert_eq!(rt; answer.as_str(), *wanted);
+    }
+    Ok(())
+}
