@@ -1,5 +1,6 @@
 //! Terms of the lambda calculus: trees with numbers for variables, the names of their free
-//! variables and of their binders, their sizes and their printed texts.
+//! variables and of their binders, their sizes and their printed texts; and the names of the two
+//! translations.
 #![tactic(auto)]
 
 mod binder_laws;
@@ -10,6 +11,7 @@ mod name_list;
 mod printing;
 mod term_file;
 mod terms;
+mod translations;
 
 pub use binder_laws::binder_names_are_new;
 pub use binder_names::BinderNames;
@@ -19,3 +21,4 @@ pub use name_list::Names;
 pub use printing::print_term;
 pub use term_file::TermFile;
 pub use terms::Term;
+pub use translations::Translation;
