@@ -1,5 +1,6 @@
 -- The laws of heads over a term's net itself: what a path from the free port of the net's root tells.
 use Rattle.std.specs.Prelude.{◌≡◌, ℕ, ◌+◌, ◌≤◌}
+use Rattle.ol_term.specs.declared.translations.Translation.TheVariants.{One}
 use Rattle.ol_net.specs.Nets.{free}
 use Rattle.ol_context.specs.Paths.{Path}
 use Rattle.ol_translate.specs.Translation.{translation_of}
@@ -12,7 +13,7 @@ use Rattle.ol_meaning.specs.Heads.{os, outer, Normal, Steps, SameAlong}
 -- applications lead from the term to a head normal form. It has at most n abstractions, and its head leaves at q's place.
 abbrev pub PathFindsHead : Type 0
 PathFindsHead = (t : Tree) (names : ℕ) → HasNames t names → (q n : ℕ) (c d : Context) → c 0 ≡ os n empty →
-    (r : Path (translation_of t names) (free 0) c q d) →
+    (r : Path (translation_of One t names) (free 0) c q d) →
     (u : Tree) × (m : ℕ) × (s : Steps t u m) × (m ≤ applications r) × (a : Level) × (j : ℕ) × Normal u (place q) a j
     × SameAlong s (place q) (d 0) a × (e : ℕ) × (n ≡ outer u + e) × (tail d ≡ cons (os (j + e) empty) (tail c))
 
@@ -22,4 +23,4 @@ abbrev pub HeadHasPath : Type 0
 HeadHasPath = (t : Tree) (names : ℕ) → HasNames t names → (u : Tree) (m : ℕ) (s : Steps t u m) (q : ℕ) (a : Level) (j : ℕ) →
     Normal u (place q) a j → (c : Context) → c 0 ≡ os (outer u) empty →
     (v : Level) × SameAlong s (place q) v a
-    × Path (translation_of t names) (free 0) c q (cons v (cons (os j empty) (tail c)))
+    × Path (translation_of One t names) (free 0) c q (cons v (cons (os j empty) (tail c)))

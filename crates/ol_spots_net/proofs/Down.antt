@@ -2,6 +2,7 @@
 use Rattle.std.proofs.Common.{◌≡◌, ℕ, zero, suc, ◌<◌, ◌+◌, [], ◌∷◌, length, true, false, nat_eq, Option, None, Some, ◌⊎◌, inl, inr, refl, sym, ap, ◌∙◌, arith, subst, eq-eqb}
 use Rattle.std.proofs.lemmas.Bool.Decides.{nat_tests}
 use Rattle.std.proofs.lemmas.Bool.{and_parts}
+use Rattle.ol_term.specs.declared.translations.Translation.TheVariants.{One}
 use Rattle.ol_term.specs.Trees.{Tree, var, free, lam, app, is_below}
 use Rattle.ol_net.specs.declared.parts.Kind.TheVariants as kind
 use Rattle.ol_net.specs.declared.parts.Port.{Port}
@@ -25,14 +26,14 @@ pub eta2 : (c : Context) → cons (c 0) (cons (c 1) (tail (tail c))) ≡ c
 eta2 c = ap (cons (c 0)) (eta (tail c)) ∙ eta c
 
 -- the same wire is there as far as it occurs
-pub occurs_there : (t : Tree) (y : Wire) (d n k : ℕ) (p : Port) → is_below d t ≡ true → IsInside d y → wire_of (key d y) (subnet_of t d n k).wires ≡ Some p → occurs y t ≡ true
+pub occurs_there : (t : Tree) (y : Wire) (d n k : ℕ) (p : Port) → is_below d t ≡ true → IsInside d y → wire_of (key d y) (subnet_of One t d n k).wires ≡ Some p → occurs y t ≡ true
 occurs_there t y d n k p h i e = sym (has_wire t y d n k h i) ∙ ap some e
 
-pub occurs_not : (t : Tree) (y : Wire) (d n k : ℕ) → is_below d t ≡ true → IsInside d y → wire_of (key d y) (subnet_of t d n k).wires ≡ None → occurs y t ≡ false
+pub occurs_not : (t : Tree) (y : Wire) (d n k : ℕ) → is_below d t ≡ true → IsInside d y → wire_of (key d y) (subnet_of One t d n k).wires ≡ None → occurs y t ≡ false
 occurs_not t y d n k h i e = sym (has_wire t y d n k h i) ∙ ap some e
 
-pub wire_under : (t : Tree) (y : Wire) (d n k : ℕ) → wire_of (key d y) (subnet_of (lam t) d n k).wires ≡ wire_of (key (d + 1) (under y)) (subnet_of t (d + 1) n (k + 1)).wires
-wire_under t y d n k = outside_wire (key d y) (subnet_of t (d + 1) n (k + 1)).wires ∙ ap (λ v. wire_of v (subnet_of t (d + 1) n (k + 1)).wires) (sym (key_under d y))
+pub wire_under : (t : Tree) (y : Wire) (d n k : ℕ) → wire_of (key d y) (subnet_of One (lam t) d n k).wires ≡ wire_of (key (d + 1) (under y)) (subnet_of One t (d + 1) n (k + 1)).wires
+wire_under t y d n k = outside_wire (key d y) (subnet_of One t (d + 1) n (k + 1)).wires ∙ ap (λ v. wire_of v (subnet_of One t (d + 1) n (k + 1)).wires) (sym (key_under d y))
 
 same_occurs : (v y : ℕ) → nat_eq v y ≡ true → y ≡ v
 same_occurs v y e = grind (arith, nat_tests, e)
@@ -49,23 +50,23 @@ module _ (N : NamedNet ℕ) where
   lift_fun M Q d n k F z y c x = turn_lift N (Trail (Edge M)) (Trail (Edge (app M Q))) (Stands M d n (k + 1) F) (Stands (app M Q) d n k F) fun (λ s z n t. tr_fun t) (λ s u r. record { is = r.is; fits = r.fits }) z y c x
 
   pub lift_arg : (M Q : Tree) (d n k : ℕ) (F : Context → Context) (v : Level) (z : Spot) (y : NamedPort ℕ) (c : Context) →
-      Turn N (After Q d (n + 1) (k + 1 + length (subnet_of M d n (k + 1)).nodes) (λ c. F (cons v c)) z) y c → Turn N (After (app M Q) d n k F (arg v z)) y c
-  lift_arg M Q d n k F v z y c x = turn_lift N (Trail (Edge Q)) (Trail (Edge (app M Q))) (Stands Q d (n + 1) (k + 1 + length (subnet_of M d n (k + 1)).nodes) (λ c. F (cons v c))) (Stands (app M Q) d n k F) (arg v)
+      Turn N (After Q d (n + 1) (k + 1 + length (subnet_of One M d n (k + 1)).nodes) (λ c. F (cons v c)) z) y c → Turn N (After (app M Q) d n k F (arg v z)) y c
+  lift_arg M Q d n k F v z y c x = turn_lift N (Trail (Edge Q)) (Trail (Edge (app M Q))) (Stands Q d (n + 1) (k + 1 + length (subnet_of One M d n (k + 1)).nodes) (λ c. F (cons v c))) (Stands (app M Q) d n k F) (arg v)
       (λ s z n t. tr_arg t) (λ s u r. record { is = r.is; fits = r.fits }) z y c x
 
   -- at the root and at a wire of a part
-  pub at_root : (t : Tree) (d n k : ℕ) (F : Context → Context) (c : Context) → Stands t d n k F (at root (c 0) (tail c)) (numbered_port (subnet_of t d n k).root, F c)
-  at_root t d n k F c = record { is = ap (λ c. Some (numbered_port (subnet_of t d n k).root, F c)) (eta c); fits = tt }
+  pub at_root : (t : Tree) (d n k : ℕ) (F : Context → Context) (c : Context) → Stands t d n k F (at root (c 0) (tail c)) (numbered_port (subnet_of One t d n k).root, F c)
+  at_root t d n k F c = record { is = ap (λ c. Some (numbered_port (subnet_of One t d n k).root, F c)) (eta c); fits = tt }
 
-  pub at_wire : (t : Tree) (y : Wire) (d n k : ℕ) (F : Context → Context) (c : Context) (p : Port) → wire_of (key d y) (subnet_of t d n k).wires ≡ Some p → occurs y t ≡ true → Stands t d n k F (at (wire y) (c 0) (tail c)) (numbered_port p, F c)
+  pub at_wire : (t : Tree) (y : Wire) (d n k : ℕ) (F : Context → Context) (c : Context) (p : Port) → wire_of (key d y) (subnet_of One t d n k).wires ≡ Some p → occurs y t ≡ true → Stands t d n k F (at (wire y) (c 0) (tail c)) (numbered_port p, F c)
   at_wire t y d n k F c p e f = record { is = ap (λ x. at_port x (F (cons (c 0) (tail c)))) e ∙ ap (λ c. Some (numbered_port p, F c)) (eta c); fits = f }
 
   -- the spot where the net stands once it has gone along a link
   pub linked_to : (t : Tree) (d n k : ℕ) (F : Context → Context) (z : Spot) (p q : Port) (c : Context) → L N p q → Stands t d n k F z (numbered_port q, c) → Resting N (Trail (Edge t)) (Stands t d n k F) z (numbered_port p, c)
   linked_to t d n k F z p q c l s = inl (inr (numbered_port q, l, s))
 
-  down_root : (t : Tree) (d n k : ℕ) (F : Context → Context) → Before n F → is_below d t ≡ true → Has (H N) (L N) k (subnet_of t d n k) → (v : Level) (c : Context) →
-      Turn N (After t d n k F (at root v c)) (numbered_port (subnet_of t d n k).root) (F (cons v c))
+  down_root : (t : Tree) (d n k : ℕ) (F : Context → Context) → Before n F → is_below d t ≡ true → Has (H N) (L N) k (subnet_of One t d n k) → (v : Level) (c : Context) →
+      Turn N (After t d n k F (at root v c)) (numbered_port (subnet_of One t d n k).root) (F (cons v c))
   down_root (var y) d n k F b i h v c =
       let own : wire_of y ((y, slot_port k 0) ∷ []) ≡ Some (slot_port k 0) = rw (eq-eqb y y refl) refl in
       turn_in N (After (var y) d n k F (at root v c)) k kind.Croissant n 0 F (cons v c) b h.nodes.0
@@ -77,22 +78,22 @@ module _ (N : NamedNet ℕ) where
   down_root (lam M) d n k F b i h v c = turn_out N (After (lam M) d n k F (at root v c)) k kind.Lam n F (cons v c) b A.node go
     where
       P : Subnet
-      P = subnet_of M (d + 1) n (k + 1)
+      P = subnet_of One M (d + 1) n (k + 1)
 
-      A : HasLam (H N) (L N) n k (subnet_of M (d + 1) n (k + 1))
-      A = has_lam (H N) (L N) n k (subnet_of M (d + 1) n (k + 1)) h
+      A : HasLam (H N) (L N) n k (subnet_of One M (d + 1) n (k + 1))
+      A = has_lam (H N) (L N) n k (subnet_of One M (d + 1) n (k + 1)) h
 
       own : (e : Context) → (occurs (bound 0) M ≡ true) ⊎ (occurs (bound 0) M ≡ false) → After (lam M) d n k F (at root (star (e 0)) (tail e)) 0 (nets.slot k 2, F e)
       own e (inl o') =
           let W = wire_there M (bound 0) (d + 1) n (k + 1) i o' in
-          let l : L N (slot_port k 2) W.0 = subst (λ x. L N (slot_port k 2) (bound_port x (k + 1 + length (subnet_of M (d + 1) n (k + 1)).nodes))) W.1 A.var_link in
+          let l : L N (slot_port k 2) W.0 = subst (λ x. L N (slot_port k 2) (bound_port x (k + 1 + length (subnet_of One M (d + 1) n (k + 1)).nodes))) W.1 A.var_link in
           let r = at_wire M (bound 0) (d + 1) n (k + 1) F e W.0 W.1 o' in
           (body (at (wire (bound 0)) (e 0) (tail e)), one (lam_own o'), linked_to (lam M) d n k F (body (at (wire (bound 0)) (e 0) (tail e))) (slot_port k 2) W.0 (F e) l (record { is = r.is; fits = r.fits }))
       own e (inr o') =
-          let x = k + 1 + length (subnet_of M (d + 1) n (k + 1)).nodes in
+          let x = k + 1 + length (subnet_of One M (d + 1) n (k + 1)).nodes in
           let none = wire_not M (bound 0) (d + 1) n (k + 1) i (omega arith) o' in
-          let l : L N (slot_port k 2) (slot_port x 0) = subst (λ w. L N (slot_port k 2) (bound_port w (k + 1 + length (subnet_of M (d + 1) n (k + 1)).nodes))) none A.var_link in
-          let e' : Holds (H N) (k + 1 + length (subnet_of M (d + 1) n (k + 1)).nodes) ((kind.Eraser, 0) ∷ []) = subst (λ w. Holds (H N) (k + 1 + length (subnet_of M (d + 1) n (k + 1)).nodes) (erasers w)) none A.eraser in
+          let l : L N (slot_port k 2) (slot_port x 0) = subst (λ w. L N (slot_port k 2) (bound_port w (k + 1 + length (subnet_of One M (d + 1) n (k + 1)).nodes))) none A.var_link in
+          let e' : Holds (H N) (k + 1 + length (subnet_of One M (d + 1) n (k + 1)).nodes) ((kind.Eraser, 0) ∷ []) = subst (λ w. Holds (H N) (k + 1 + length (subnet_of One M (d + 1) n (k + 1)).nodes) (erasers w)) none A.eraser in
           (at root (star (e 0)) (tail e), here, inr (nets.slot x 0, l, turn_eraser N (Reaches (Trail (Edge (lam M))) (Rest N (Stands (lam M) d n k F)) (at root (star (e 0)) (tail e))) x 0 (F e) e'.0))
 
       go : (s : ℕ) (e : Context) → s < arity kind.Lam → change kind.Lam s e ≡ cons v c → After (lam M) d n k F (at root v c) 0 (nets.slot k (suc s), F e)
@@ -103,13 +104,13 @@ module _ (N : NamedNet ℕ) where
       go (suc zero) e low q = of_cons (λ v c. After (lam M) d n k F (at root v c) 0 (nets.slot k 2, F e)) (star (e 0)) v (tail e) c q (own e (bool_or N (occurs (bound 0) M)))
       go (suc (suc s)) e low q = absurd (omega arith)
   down_root (app M Q) d n k F b i h v c =
-      let P = subnet_of M d n (k + 1) in
+      let P = subnet_of One M d n (k + 1) in
       let A = has_app (H N) (L N) n k P (argument M Q d n k) h in
       let r = at_root M d n (k + 1) F (cons (o v) c) in
       turn_in N (After (app M Q) d n k F (at root v c)) k kind.App n 0 F (cons v c) b A.node
       (fun (at root (o v) c), one app_root, linked_to (app M Q) d n k F (fun (at root (o v) c)) (slot_port k 0) P.root (F (cons (o v) c)) A.link (record { is = r.is; fits = r.fits }))
 
-  down_var : (y d n k : ℕ) (F : Context → Context) → Before n F → Has (H N) (L N) k (subnet_of (var y) d n k) → (w : Level) (c : Context) →
+  down_var : (y d n k : ℕ) (F : Context → Context) → Before n F → Has (H N) (L N) k (subnet_of One (var y) d n k) → (w : Level) (c : Context) →
       Turn N (After (var y) d n k F (at (wire (bound y)) w c)) (nets.slot k 0) (F (cons w c))
   down_var y d n k F b h w c = turn_out N (After (var y) d n k F (at (wire (bound y)) w c)) k kind.Croissant n F (cons w c) b h.nodes.0 go
     where
@@ -118,7 +119,7 @@ module _ (N : NamedNet ℕ) where
           (at root (e 0) (tail e), one_back (var_wire (sym (eta e))), inl (inl (at_root (var y) d n k F e)))
       go (suc s) e low q = absurd (omega arith)
 
-  down_free : (f d n k : ℕ) (F : Context → Context) → Before n F → Has (H N) (L N) k (subnet_of (free f) d n k) → (w : Level) (c : Context) →
+  down_free : (f d n k : ℕ) (F : Context → Context) → Before n F → Has (H N) (L N) k (subnet_of One (free f) d n k) → (w : Level) (c : Context) →
       Turn N (After (free f) d n k F (at (wire (name f)) w c)) (nets.slot k 0) (F (cons w c))
   down_free f d n k F b h w c = turn_out N (After (free f) d n k F (at (wire (name f)) w c)) k kind.Croissant n F (cons w c) b h.nodes.0 go
     where
@@ -132,12 +133,12 @@ module _ (N : NamedNet ℕ) where
   own_wire v u q p t e = let r : ◌≡◌ {A = Option Port} (Some q) (Some p) = sym (wire_here v (u, q) [] t) ∙ e in cc
 
   -- a wire of an application
-  module _ (M Q : Tree) (d n k : ℕ) (F : Context → Context) (b : Before n F) (i : is_below d (app M Q) ≡ true) (h : Has (H N) (L N) k (subnet_of (app M Q) d n k)) (y : Wire) (w : Level) (c : Context) (inside : IsInside d y) where
+  module _ (M Q : Tree) (d n k : ℕ) (F : Context → Context) (b : Before n F) (i : is_below d (app M Q) ≡ true) (h : Has (H N) (L N) k (subnet_of One (app M Q) d n k)) (y : Wire) (w : Level) (c : Context) (inside : IsInside d y) where
     I : (is_below d M ≡ true) × (is_below d Q ≡ true)
     I = and_parts (is_below d M) (is_below d Q) i
 
     abbrev P : Subnet
-    P = subnet_of M d n (k + 1)
+    P = subnet_of One M d n (k + 1)
 
     abbrev R : Subnet
     R = argument M Q d n k
@@ -162,13 +163,13 @@ module _ (N : NamedNet ℕ) where
     down_app (Some a) None p ea eq r ih =
         let same : p ≡ a = cc in
         let o' = occurs_there M y d n (k + 1) a I.0 inside ea in
-        let n' = occurs_not Q y d (n + 1) (k + 1 + length (subnet_of M d n (k + 1)).nodes) I.1 inside eq in
+        let n' = occurs_not Q y d (n + 1) (k + 1 + length (subnet_of One M d n (k + 1)).nodes) I.1 inside eq in
         let g : w ≡ left Q y w = sym (if_false N (occurs y Q) (o w) w n') in
         turn_front N (app M Q) (Resting N (Trail (Edge (app M Q))) (Stands (app M Q) d n k F)) (at (wire y) w c) (fun (at (wire y) w c)) (numbered_port p) (F (cons w c)) (one (app_left o' g))
         (subst (λ p. Turn N (After (app M Q) d n k F (fun (at (wire y) w c))) (numbered_port p) (F (cons w c))) (sym same) (lift_fun M Q d n k F (at (wire y) w c) (numbered_port a) (F (cons w c)) (ih a ea o')))
     down_app None (Some q) p ea eq (x, ex, hb, lb) ih =
         let same : slot_port x 0 ≡ p = cc in
-        let o' = occurs_there Q y d (n + 1) (k + 1 + length (subnet_of M d n (k + 1)).nodes) q I.1 inside eq in
+        let o' = occurs_there Q y d (n + 1) (k + 1 + length (subnet_of One M d n (k + 1)).nodes) q I.1 inside eq in
         let n' = occurs_not M y d n (k + 1) I.0 inside ea in
         subst (λ p. Turn N (Goal w c) (numbered_port p) (F (cons w c))) same (turn_out N (Goal w c) x kind.Bracket n F (cons w c) b hb (go o' n'))
       where
@@ -181,7 +182,7 @@ module _ (N : NamedNet ℕ) where
         go o' n' (suc s) e low g = absurd (omega arith)
     down_app (Some a) (Some q) p ea eq (x, z, ez, hb, lb, hf, lf, lg) ih =
         let same : slot_port z 0 ≡ p = cc in
-        let o' = occurs_there Q y d (n + 1) (k + 1 + length (subnet_of M d n (k + 1)).nodes) q I.1 inside eq in
+        let o' = occurs_there Q y d (n + 1) (k + 1 + length (subnet_of One M d n (k + 1)).nodes) q I.1 inside eq in
         let m' = occurs_there M y d n (k + 1) a I.0 inside ea in
         subst (λ p. Turn N (Goal w c) (numbered_port p) (F (cons w c))) same (turn_out N (Goal w c) z kind.Fan n F (cons w c) b hf (go o' m'))
       where
@@ -203,8 +204,8 @@ module _ (N : NamedNet ℕ) where
         )
         go o' m' (suc (suc s)) e low g = absurd (omega arith)
 
-  down_wire : (t : Tree) (d n k : ℕ) (F : Context → Context) → Before n F → is_below d t ≡ true → Has (H N) (L N) k (subnet_of t d n k) → (y : Wire) (w : Level) (c : Context) (p : Port) →
-      wire_of (key d y) (subnet_of t d n k).wires ≡ Some p → occurs y t ≡ true → Turn N (After t d n k F (at (wire y) w c)) (numbered_port p) (F (cons w c))
+  down_wire : (t : Tree) (d n k : ℕ) (F : Context → Context) → Before n F → is_below d t ≡ true → Has (H N) (L N) k (subnet_of One t d n k) → (y : Wire) (w : Level) (c : Context) (p : Port) →
+      wire_of (key d y) (subnet_of One t d n k).wires ≡ Some p → occurs y t ≡ true → Turn N (After t d n k F (at (wire y) w c)) (numbered_port p) (F (cons w c))
   down_wire (var v) d n k F b i h (bound y) w c p e f =
       let same = same_occurs v y f in
       subst (λ p. Turn N (After (var v) d n k F (at (wire (bound y)) w c)) (numbered_port p) (F (cons w c))) (own_wire y v (slot_port k 0) p f e)
@@ -217,33 +218,33 @@ module _ (N : NamedNet ℕ) where
       subst (λ p. Turn N (After (free g) d n k F (at (wire (name f')) w c)) (numbered_port p) (F (cons w c))) (own_wire (d + f') (d + g) (slot_port k 0) p t e)
       (subst (λ y. Turn N (After (free g) d n k F (at (wire (name y)) w c)) (nets.slot k 0) (F (cons w c))) (sym same) (down_free g d n k F b h w c))
   down_wire (lam M) d n k F b i h y w c p e f =
-      let P = subnet_of M (d + 1) n (k + 1) in
+      let P = subnet_of One M (d + 1) n (k + 1) in
       let A = has_lam (H N) (L N) n k P h in
       let f' : occurs (under y) M ≡ true = sym (occurs_lam y M) ∙ f in
       turn_front N (lam M) (Resting N (Trail (Edge (lam M))) (Stands (lam M) d n k F)) (at (wire y) w c) (body (at (wire (under y)) w c)) (numbered_port p) (F (cons w c)) (one (lam_wire refl f'))
       (lift_body M d n k F (at (wire (under y)) w c) (numbered_port p) (F (cons w c)) (down_wire M (d + 1) n (k + 1) F b i A.part (under y) w c p (sym (wire_under M y d n k) ∙ e) f'))
   down_wire (app M Q) d n k F b i h y w c p e f =
-      let P = subnet_of M d n (k + 1) in
+      let P = subnet_of One M d n (k + 1) in
       let R = argument M Q d n k in
       let A = has_app (H N) (L N) n k P R h in
       let I = and_parts (is_below d M) (is_below d Q) i in
-      let j = A.wires (key d y) (few_wires (key d y) Q d (n + 1) (k + 1 + length P.nodes)) in
+      let j = A.wires (key d y) (few_wires One (key d y) Q d (n + 1) (k + 1 + length P.nodes)) in
       down_app M Q d n k F b i h y w c (occurs_inside (app M Q) y d i f) (wire_of (key d y) P.wires) (wire_of (key d y) R.wires) p refl refl
       (subst (λ r. Wires (H N) (L N) n (wire_of (key d y) P.wires) (wire_of (key d y) R.wires) r) e j)
       (λ p e' f'. down_wire M d n (k + 1) F b I.0 A.function y w c p e' f')
 
-  pub down : (t : Tree) (d n k : ℕ) (F : Context → Context) → Before n F → is_below d t ≡ true → Has (H N) (L N) k (subnet_of t d n k) → (z : Spot) (u : S) → Stands t d n k F z u → Turn N (After t d n k F z) u.0 u.1
+  pub down : (t : Tree) (d n k : ℕ) (F : Context → Context) → Before n F → is_below d t ≡ true → Has (H N) (L N) k (subnet_of One t d n k) → (z : Spot) (u : S) → Stands t d n k F z u → Turn N (After t d n k F z) u.0 u.1
   down t d n k F b i h (at root v c) u s =
-      subst (λ u. Turn N (After t d n k F (at root v c)) u.0 u.1) (stands_port (Some (subnet_of t d n k).root) (subnet_of t d n k).root (F (cons v c)) u s.is refl) (down_root t d n k F b i h v c)
+      subst (λ u. Turn N (After t d n k F (at root v c)) u.0 u.1) (stands_port (Some (subnet_of One t d n k).root) (subnet_of One t d n k).root (F (cons v c)) u s.is refl) (down_root t d n k F b i h v c)
   down t d n k F b i h (at (wire y) v c) u s =
       let W = wire_there t y d n k i s.fits in
-      subst (λ u. Turn N (After t d n k F (at (wire y) v c)) u.0 u.1) (stands_port (wire_of (key d y) (subnet_of t d n k).wires) W.0 (F (cons v c)) u s.is W.1) (down_wire t d n k F b i h y v c W.0 W.1 s.fits)
-  down (lam M) d n k F b i h (body z) u s = lift_body M d n k F z u.0 u.1 (down M (d + 1) n (k + 1) F b i (has_lam (H N) (L N) n k (subnet_of M (d + 1) n (k + 1)) h).part z u (record { is = s.is; fits = s.fits }))
+      subst (λ u. Turn N (After t d n k F (at (wire y) v c)) u.0 u.1) (stands_port (wire_of (key d y) (subnet_of One t d n k).wires) W.0 (F (cons v c)) u s.is W.1) (down_wire t d n k F b i h y v c W.0 W.1 s.fits)
+  down (lam M) d n k F b i h (body z) u s = lift_body M d n k F z u.0 u.1 (down M (d + 1) n (k + 1) F b i (has_lam (H N) (L N) n k (subnet_of One M (d + 1) n (k + 1)) h).part z u (record { is = s.is; fits = s.fits }))
   down (app M Q) d n k F b i h (fun z) u s =
-      lift_fun M Q d n k F z u.0 u.1 (down M d n (k + 1) F b (and_parts (is_below d M) (is_below d Q) i).0 (has_app (H N) (L N) n k (subnet_of M d n (k + 1)) (argument M Q d n k) h).function z u (record { is = s.is; fits = s.fits }))
+      lift_fun M Q d n k F z u.0 u.1 (down M d n (k + 1) F b (and_parts (is_below d M) (is_below d Q) i).0 (has_app (H N) (L N) n k (subnet_of One M d n (k + 1)) (argument M Q d n k) h).function z u (record { is = s.is; fits = s.fits }))
   down (app M Q) d n k F b i h (arg v z) u s =
-      lift_arg M Q d n k F v z u.0 u.1 (down Q d (n + 1) (k + 1 + length (subnet_of M d n (k + 1)).nodes) (λ c. F (cons v c)) (before_arg n F v b) (and_parts (is_below d M) (is_below d Q) i).1
-      (has_app (H N) (L N) n k (subnet_of M d n (k + 1)) (argument M Q d n k) h).argument z u (record { is = s.is; fits = s.fits }))
+      lift_arg M Q d n k F v z u.0 u.1 (down Q d (n + 1) (k + 1 + length (subnet_of One M d n (k + 1)).nodes) (λ c. F (cons v c)) (before_arg n F v b) (and_parts (is_below d M) (is_below d Q) i).1
+      (has_app (H N) (L N) n k (subnet_of One M d n (k + 1)) (argument M Q d n k) h).argument z u (record { is = s.is; fits = s.fits }))
   down (var w) d n k F b i h (body z) u s = absurd s.fits
   down (free f) d n k F b i h (body z) u s = absurd s.fits
   down (app M Q) d n k F b i h (body z) u s = absurd s.fits

@@ -2,6 +2,7 @@
 use Rattle.std.proofs.Common.{◌≡◌, ℕ, suc, ◌≤◌, ◌<◌, ◌+◌, List, [], ◌∷◌, ◌++◌, length, true, false, Bool, nat_eq, Option, None, Some, refl, sym, ap, ◌∙◌, arith, subst, length-append, ◌||◌}
 use Rattle.std.proofs.lemmas.Bool.Decides.{nat_tests}
 use Rattle.std.proofs.lemmas.Bool.{and_parts}
+use Rattle.ol_term.specs.declared.translations.Translation.TheVariants.{One}
 use Rattle.ol_term.specs.Trees.{Tree, var, free, lam, app, is_below}
 use Rattle.ol_net.specs.declared.parts.Kind.{Kind}
 use Rattle.ol_net.specs.declared.parts.Kind.TheVariants as kind
@@ -20,7 +21,7 @@ pub record Has (H : ℕ → Kind → ℕ → Type 0) (L : Port → Port → Type
 
 -- the part of an application's argument
 abbrev pub argument : Tree → Tree → (d n k : ℕ) → Subnet
-argument M N d n k = subnet_of N d (n + 1) (k + 1 + length (subnet_of M d n (k + 1)).nodes)
+argument M N d n k = subnet_of One N d (n + 1) (k + 1 + length (subnet_of One M d n (k + 1)).nodes)
 
 module _ (H : ℕ → Kind → ℕ → Type 0) (L : Port → Port → Type 0) where
   pub record HasLam (n k : ℕ) (M : Subnet) : Type 0 where
@@ -139,21 +140,21 @@ occurs_app (name f) t u = refl
 one_wire : (v u : ℕ) (p : Port) → some (wire_of v ((u, p) ∷ [])) ≡ nat_eq u v
 one_wire v u p = elim (nat_eq u v) as (λ b. nat_eq u v ≡ b → some (wire_of v ((u, p) ∷ [])) ≡ b) [ true ↦ (λ t. rw t refl) | false ↦ (λ t. rw t refl) ] refl
 
-pub has_wire : (t : Tree) (y : Wire) (d n k : ℕ) → is_below d t ≡ true → IsInside d y → some (wire_of (key d y) (subnet_of t d n k).wires) ≡ occurs y t
+pub has_wire : (t : Tree) (y : Wire) (d n k : ℕ) → is_below d t ≡ true → IsInside d y → some (wire_of (key d y) (subnet_of One t d n k).wires) ≡ occurs y t
 has_wire (var v) (bound y) d n k h i = one_wire y v (slot_port k 0)
 has_wire (var v) (name f) d n k h i = let off : nat_eq v (d + f) ≡ false = grind (arith, nat_tests, h) in one_wire (d + f) v (slot_port k 0) ∙ off
 has_wire (free g) (bound y) d n k h i = let off : nat_eq (d + g) y ≡ false = grind (arith, nat_tests, i) in one_wire y (d + g) (slot_port k 0) ∙ off
 has_wire (free g) (name f) d n k h i = let same : nat_eq (d + g) (d + f) ≡ nat_eq g f = grind (arith, nat_tests) in one_wire (d + f) (d + g) (slot_port k 0) ∙ same
 has_wire (lam M) y d n k h i =
-    ap some (outside_wire (key d y) (subnet_of M (d + 1) n (k + 1)).wires)
-    ∙ subst (λ v. some (wire_of v (subnet_of M (d + 1) n (k + 1)).wires) ≡ occurs (under y) M) (key_under d y) (has_wire M (under y) (d + 1) n (k + 1) h (inside_under d y i))
+    ap some (outside_wire (key d y) (subnet_of One M (d + 1) n (k + 1)).wires)
+    ∙ subst (λ v. some (wire_of v (subnet_of One M (d + 1) n (k + 1)).wires) ≡ occurs (under y) M) (key_under d y) (has_wire M (under y) (d + 1) n (k + 1) h (inside_under d y i))
     ∙ sym (occurs_lam y M)
 has_wire (app M N) y d n k h i =
     let b = and_parts (is_below d M) (is_below d N) h in
-    let P = subnet_of M d n (k + 1) in
+    let P = subnet_of One M d n (k + 1) in
     let Q = argument M N d n k in
     let A = has_app Any AnyLink n k P Q (record { nodes = any_nodes k (application n k P Q).nodes; links = any_links (application n k P Q).links }) in
-    some_wires n (wire_of (key d y) P.wires) (wire_of (key d y) Q.wires) (wire_of (key d y) (application n k P Q).wires) (A.wires (key d y) (few_wires (key d y) N d (n + 1) (k + 1 + length P.nodes)))
+    some_wires n (wire_of (key d y) P.wires) (wire_of (key d y) Q.wires) (wire_of (key d y) (application n k P Q).wires) (A.wires (key d y) (few_wires One (key d y) N d (n + 1) (k + 1 + length P.nodes)))
     ∙ ap (λ b. b || some (wire_of (key d y) Q.wires)) (has_wire M y d n (k + 1) b.0 i)
     ∙ ap (λ b. occurs y M || b) (has_wire N y d (n + 1) (k + 1 + length P.nodes) b.1 i)
     ∙ sym (occurs_app y M N)
@@ -180,8 +181,8 @@ none_is : (x : Option Port) → some x ≡ false → x ≡ None
 none_is None e = refl
 none_is (Some p) e = absurd (cc)
 
-pub wire_there : (t : Tree) (y : Wire) (d n k : ℕ) → is_below d t ≡ true → occurs y t ≡ true → (p : Port) × (wire_of (key d y) (subnet_of t d n k).wires ≡ Some p)
-wire_there t y d n k h o = some_is (wire_of (key d y) (subnet_of t d n k).wires) (has_wire t y d n k h (occurs_inside t y d h o) ∙ o)
+pub wire_there : (t : Tree) (y : Wire) (d n k : ℕ) → is_below d t ≡ true → occurs y t ≡ true → (p : Port) × (wire_of (key d y) (subnet_of One t d n k).wires ≡ Some p)
+wire_there t y d n k h o = some_is (wire_of (key d y) (subnet_of One t d n k).wires) (has_wire t y d n k h (occurs_inside t y d h o) ∙ o)
 
-pub wire_not : (t : Tree) (y : Wire) (d n k : ℕ) → is_below d t ≡ true → IsInside d y → occurs y t ≡ false → wire_of (key d y) (subnet_of t d n k).wires ≡ None
-wire_not t y d n k h i o = none_is (wire_of (key d y) (subnet_of t d n k).wires) (has_wire t y d n k h i ∙ o)
+pub wire_not : (t : Tree) (y : Wire) (d n k : ℕ) → is_below d t ≡ true → IsInside d y → occurs y t ≡ false → wire_of (key d y) (subnet_of One t d n k).wires ≡ None
+wire_not t y d n k h i o = none_is (wire_of (key d y) (subnet_of One t d n k).wires) (has_wire t y d n k h i ∙ o)

@@ -1,6 +1,7 @@
 -- Where the net stands at a spot, and that what an edge joins is joined by moves.
 use Rattle.std.proofs.Common.{◌≡◌, ℕ, suc, ◌<◌, ◌+◌, [], ◌∷◌, length, true, false, Bool, Option, None, Some, ◌⊎◌, inl, inr, refl, sym, ap, ◌∙◌, arith, subst, eq-eqb, if◌then◌else◌}
 use Rattle.std.proofs.lemmas.Bool.{and_parts}
+use Rattle.ol_term.specs.declared.translations.Translation.TheVariants.{One}
 use Rattle.ol_term.specs.Trees.{Tree, var, free, lam, app, is_below}
 use Rattle.ol_edges.specs.Edges.{Joined, here}
 use Rattle.ol_edges.specs.Edges as edges
@@ -53,7 +54,7 @@ port_in P d (wire y) = wire_of (key d y) P.wires
 
 -- where the net stands at a spot of a term under d abstractions, at level n, whose first node has number k
 abbrev pub state : Spot → Tree → (d n k : ℕ) → (Context → Context) → Option S
-state (at p v c) t d n k F = at_port (port_in (subnet_of t d n k) d p) (F (cons v c))
+state (at p v c) t d n k F = at_port (port_in (subnet_of One t d n k) d p) (F (cons v c))
 state (body s) (lam M) d n k F = state s M (d + 1) n (k + 1) F
 state (body s) (var v) d n k F = None
 state (body s) (free f) d n k F = None
@@ -62,7 +63,7 @@ state (fun s) (app M N) d n k F = state s M d n (k + 1) F
 state (fun s) (var v) d n k F = None
 state (fun s) (free f) d n k F = None
 state (fun s) (lam M) d n k F = None
-state (arg v s) (app M N) d n k F = state s N d (n + 1) (k + 1 + length (subnet_of M d n (k + 1)).nodes) (λ c. F (cons v c))
+state (arg v s) (app M N) d n k F = state s N d (n + 1) (k + 1 + length (subnet_of One M d n (k + 1)).nodes) (λ c. F (cons v c))
 state (arg v s) (var w) d n k F = None
 state (arg v s) (free f) d n k F = None
 state (arg v s) (lam M) d n k F = None
@@ -147,13 +148,13 @@ module _ (N : NamedNet ℕ) where
 
   -- what wire_of gives, by whether the wire occurs
   by_occurs : (t : Tree) (y : Wire) (d n k : ℕ) → is_below d t ≡ true → IsInside d y → (x w a : Level) → w ≡ (if occurs y t then x else a) →
-      (wire_of (key d y) (subnet_of t d n k).wires ≡ None → w ≡ a) × ((p : Port) → wire_of (key d y) (subnet_of t d n k).wires ≡ Some p → w ≡ x)
+      (wire_of (key d y) (subnet_of One t d n k).wires ≡ None → w ≡ a) × ((p : Port) → wire_of (key d y) (subnet_of One t d n k).wires ≡ Some p → w ≡ x)
   by_occurs t y d n k h i x w a e = elim (bool_or (occurs y t)) [
     | inl o' ↦ (λ none. (let there = wire_there t y d n k h o' in let clash = sym none ∙ there.1 in absurd (cc)), λ p some. e ∙ if_true (occurs y t) x a o')
     | inr o' ↦ (λ none. e ∙ if_false (occurs y t) x a o', λ p some. (let none = wire_not t y d n k h i o' in let clash = sym none ∙ some in absurd (cc)))
   ]
 
-  pub edge_joined : {t : Tree} {s z : Spot} {m : ℕ} → Edge t s z m → (d n k : ℕ) (F : Context → Context) → Before n F → is_below d t ≡ true → Has H L k (subnet_of t d n k) → Both N (state s t d n k F) (state z t d n k F)
+  pub edge_joined : {t : Tree} {s z : Spot} {m : ℕ} → Edge t s z m → (d n k : ℕ) (F : Context → Context) → Before n F → is_below d t ≡ true → Has H L k (subnet_of One t d n k) → Both N (state s t d n k F) (state z t d n k F)
   edge_joined (var_wire {y = y} {v = v} {c = c} {d = c'} e) d n k F b i h =
       let own : wire_of y ((y, slot_port k 0) ∷ []) ≡ Some (slot_port k 0) = rw (eq-eqb y y refl) refl in
       both N (Some (slot_port k 1)) (wire_of y ((y, slot_port k 0) ∷ [])) (slot_port k 1) (slot_port k 0) (F (cons v c)) (F (cons empty c')) refl own
@@ -163,30 +164,30 @@ module _ (N : NamedNet ℕ) where
       both N (Some (slot_port k 1)) (wire_of (d + f) ((d + f, slot_port k 0) ∷ [])) (slot_port k 1) (slot_port k 0) (F (cons v c)) (F (cons empty c')) refl own
       (joined_sym (through_node k kind.Croissant n 0 F (cons v c) (cons empty c') b h.nodes.0 (omega arith) (ap (cons empty) (sym e))))
   edge_joined (lam_root {M = M} {v = v} {c = c}) d n k F b i h =
-      let P = subnet_of M (d + 1) n (k + 1) in
+      let P = subnet_of One M (d + 1) n (k + 1) in
       let A = has_lam H L n k P h in
       both N (Some (slot_port k 0)) (Some P.root) (slot_port k 0) P.root (F (cons (o v) c)) (F (cons v c)) refl refl
       (joined_trans (through_node k kind.Lam n 0 F (cons v c) (cons (o v) c) b A.node (omega arith) refl) (along (slot_port k 1) P.root (F (cons v c)) A.link))
   edge_joined (lam_own {M = M} {a = a} {c = c} o') d n k F b i h =
-      let P = subnet_of M (d + 1) n (k + 1) in
+      let P = subnet_of One M (d + 1) n (k + 1) in
       let A = has_lam H L n k P h in
       let W = wire_there M (bound 0) (d + 1) n (k + 1) i o' in
       both N (Some (slot_port k 0)) (wire_of 0 P.wires) (slot_port k 0) W.0 (F (cons (star a) c)) (F (cons a c)) refl W.1
       (joined_trans (through_node k kind.Lam n 1 F (cons a c) (cons (star a) c) b A.node (omega arith) refl)
       (along (slot_port k 2) W.0 (F (cons a c)) (subst (λ x. L (slot_port k 2) (bound_port x (k + 1 + length P.nodes))) W.1 A.var_link)))
   edge_joined (lam_wire {M = M} {y = y} {z = z} {a = a} {c = c} e o') d n k F b i h =
-      let P = subnet_of M (d + 1) n (k + 1) in
+      let P = subnet_of One M (d + 1) n (k + 1) in
       let W = wire_there M z (d + 1) n (k + 1) i o' in
       let same : suc (key d y) ≡ key (d + 1) z = sym (key_under d y) ∙ ap (key (d + 1)) (sym e) in
-      both N (wire_of (key d y) (subnet_of (lam M) d n k).wires) (wire_of (key (d + 1) z) P.wires) W.0 W.0 (F (cons a c)) (F (cons a c))
+      both N (wire_of (key d y) (subnet_of One (lam M) d n k).wires) (wire_of (key (d + 1) z) P.wires) W.0 W.0 (F (cons a c)) (F (cons a c))
       (outside_wire (key d y) P.wires ∙ ap (λ v. wire_of v P.wires) same ∙ W.1) W.1 here
   edge_joined (app_root {M = M} {N = Q} {v = v} {c = c}) d n k F b i h =
-      let P = subnet_of M d n (k + 1) in
+      let P = subnet_of One M d n (k + 1) in
       let A = has_app H L n k P (argument M Q d n k) h in
       both N (Some (slot_port k 1)) (Some P.root) (slot_port k 1) P.root (F (cons v c)) (F (cons (o v) c)) refl refl
       (joined_trans (joined_sym (through_node k kind.App n 0 F (cons v c) (cons (o v) c) b A.node (omega arith) refl)) (along (slot_port k 0) P.root (F (cons (o v) c)) A.link))
   edge_joined (app_arg {M = M} {N = Q} {v = v} {u = u} {c = c} {d = c'} e) d n k F b i h =
-      let P = subnet_of M d n (k + 1) in
+      let P = subnet_of One M d n (k + 1) in
       let R = argument M Q d n k in
       let A = has_app H L n k P R h in
       both N (Some P.root) (Some R.root) P.root R.root (F (cons (star v) c)) (F (cons v (cons u c'))) refl refl
@@ -194,29 +195,29 @@ module _ (N : NamedNet ℕ) where
       (joined_trans (joined_sym (along (slot_port k 0) P.root (F (cons (star v) c)) A.link))
       (joined_trans (through_node k kind.App n 1 F (cons v c) (cons (star v) c) b A.node (omega arith) refl) (along (slot_port k 2) R.root (F (cons v c)) A.arg_link))))
   edge_joined (app_left {M = M} {N = Q} {y = y} {a = a} {w = w} {c = c} o' e) d n k F b i h =
-      let P = subnet_of M d n (k + 1) in
+      let P = subnet_of One M d n (k + 1) in
       let R = argument M Q d n k in
       let A = has_app H L n k P R h in
       let I = and_parts (is_below d M) (is_below d Q) i in
       let W = wire_there M y d n (k + 1) I.0 o' in
       let m = by_occurs Q y d (n + 1) (k + 1 + length P.nodes) I.1 (occurs_inside M y d I.0 o') (o a) w a e in
-      let j = A.wires (key d y) (few_wires (key d y) Q d (n + 1) (k + 1 + length P.nodes)) in
-      let r = left_wire n W.0 (wire_of (key d y) R.wires) (wire_of (key d y) (subnet_of (app M Q) d n k).wires) F a c b
-      (subst (λ x. Wires H L n x (wire_of (key d y) R.wires) (wire_of (key d y) (subnet_of (app M Q) d n k).wires)) W.1 j) w m.0 m.1 in
-      both N (wire_of (key d y) (subnet_of (app M Q) d n k).wires) (wire_of (key d y) P.wires) r.0 W.0 (F (cons w c)) (F (cons a c)) r.1 W.1 r.2
+      let j = A.wires (key d y) (few_wires One (key d y) Q d (n + 1) (k + 1 + length P.nodes)) in
+      let r = left_wire n W.0 (wire_of (key d y) R.wires) (wire_of (key d y) (subnet_of One (app M Q) d n k).wires) F a c b
+      (subst (λ x. Wires H L n x (wire_of (key d y) R.wires) (wire_of (key d y) (subnet_of One (app M Q) d n k).wires)) W.1 j) w m.0 m.1 in
+      both N (wire_of (key d y) (subnet_of One (app M Q) d n k).wires) (wire_of (key d y) P.wires) r.0 W.0 (F (cons w c)) (F (cons a c)) r.1 W.1 r.2
   edge_joined (app_right {M = M} {N = Q} {y = y} {b = u} {v = v} {w = w} {c = c} o' e) d n k F b i h =
-      let P = subnet_of M d n (k + 1) in
+      let P = subnet_of One M d n (k + 1) in
       let R = argument M Q d n k in
       let A = has_app H L n k P R h in
       let I = and_parts (is_below d M) (is_below d Q) i in
       let W = wire_there Q y d (n + 1) (k + 1 + length P.nodes) I.1 o' in
       let m = by_occurs M y d n (k + 1) I.0 (occurs_inside Q y d I.1 o') (star (pair u v)) w (pair u v) e in
-      let j = A.wires (key d y) (few_wires (key d y) Q d (n + 1) (k + 1 + length P.nodes)) in
-      let r = right_wire n (wire_of (key d y) P.wires) W.0 (wire_of (key d y) (subnet_of (app M Q) d n k).wires) F u v c b
-      (subst (λ x. Wires H L n (wire_of (key d y) P.wires) x (wire_of (key d y) (subnet_of (app M Q) d n k).wires)) W.1 j) w m.0 m.1 in
-      both N (wire_of (key d y) (subnet_of (app M Q) d n k).wires) (wire_of (key d y) R.wires) r.0 W.0 (F (cons w c)) (F (cons v (cons u c))) r.1 W.1 r.2
-  edge_joined (in_body {M = M} {s = s} {s' = z} e) d n k F b i h = edge_joined e (d + 1) n (k + 1) F b i (has_lam H L n k (subnet_of M (d + 1) n (k + 1)) h).part
-  edge_joined (in_fun {M = M} {N = Q} e) d n k F b i h = edge_joined e d n (k + 1) F b (and_parts (is_below d M) (is_below d Q) i).0 (has_app H L n k (subnet_of M d n (k + 1)) (argument M Q d n k) h).function
+      let j = A.wires (key d y) (few_wires One (key d y) Q d (n + 1) (k + 1 + length P.nodes)) in
+      let r = right_wire n (wire_of (key d y) P.wires) W.0 (wire_of (key d y) (subnet_of One (app M Q) d n k).wires) F u v c b
+      (subst (λ x. Wires H L n (wire_of (key d y) P.wires) x (wire_of (key d y) (subnet_of One (app M Q) d n k).wires)) W.1 j) w m.0 m.1 in
+      both N (wire_of (key d y) (subnet_of One (app M Q) d n k).wires) (wire_of (key d y) R.wires) r.0 W.0 (F (cons w c)) (F (cons v (cons u c))) r.1 W.1 r.2
+  edge_joined (in_body {M = M} {s = s} {s' = z} e) d n k F b i h = edge_joined e (d + 1) n (k + 1) F b i (has_lam H L n k (subnet_of One M (d + 1) n (k + 1)) h).part
+  edge_joined (in_fun {M = M} {N = Q} e) d n k F b i h = edge_joined e d n (k + 1) F b (and_parts (is_below d M) (is_below d Q) i).0 (has_app H L n k (subnet_of One M d n (k + 1)) (argument M Q d n k) h).function
   edge_joined (in_arg {M = M} {N = Q} {v = v} e) d n k F b i h =
-      edge_joined e d (n + 1) (k + 1 + length (subnet_of M d n (k + 1)).nodes) (λ c. F (cons v c)) (before_arg n F v b) (and_parts (is_below d M) (is_below d Q) i).1
-      (has_app H L n k (subnet_of M d n (k + 1)) (argument M Q d n k) h).argument
+      edge_joined e d (n + 1) (k + 1 + length (subnet_of One M d n (k + 1)).nodes) (λ c. F (cons v c)) (before_arg n F v b) (and_parts (is_below d M) (is_below d Q) i).1
+      (has_app H L n k (subnet_of One M d n (k + 1)) (argument M Q d n k) h).argument

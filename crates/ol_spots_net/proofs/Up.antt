@@ -1,5 +1,6 @@
 -- A walk that leaves a part by its root or a wire, at a spot.
 use Rattle.std.proofs.Common.{◌≡◌, ℕ, zero, suc, ◌<◌, ◌+◌, length, true, Option, None, Some, ◌⊎◌, inl, inr, refl, sym, ap, ◌∙◌, arith, subst}
+use Rattle.ol_term.specs.declared.translations.Translation.TheVariants.{One}
 use Rattle.ol_term.specs.Trees.{Tree, var, free, lam, app, is_below}
 use Rattle.ol_net.specs.declared.parts.Kind.TheVariants as kind
 use Rattle.ol_net.specs.declared.parts.Port.{Port}
@@ -40,9 +41,9 @@ module _ (N : NamedNet ℕ) where
   back_link : (p q : Port) → L N p q → Linked N (numbered_port q) (numbered_port p)
   back_link p q l = linked_sym N (numbered_port p) (numbered_port q) l
 
-  module _ (M : Tree) (d n k : ℕ) (F : Context → Context) (b : Before n F) (i : is_below d (lam M) ≡ true) (h : Has (H N) (L N) k (subnet_of (lam M) d n k)) (z : Spot) where
-    A : HasLam (H N) (L N) n k (subnet_of M (d + 1) n (k + 1))
-    A = has_lam (H N) (L N) n k (subnet_of M (d + 1) n (k + 1)) h
+  module _ (M : Tree) (d n k : ℕ) (F : Context → Context) (b : Before n F) (i : is_below d (lam M) ≡ true) (h : Has (H N) (L N) k (subnet_of One (lam M) d n k)) (z : Spot) where
+    A : HasLam (H N) (L N) n k (subnet_of One M (d + 1) n (k + 1))
+    A = has_lam (H N) (L N) n k (subnet_of One M (d + 1) n (k + 1)) h
 
     body_wire : (y : Wire) (v : Level) (c : Context) (u : S) → Trail (Edge M) z (at (wire (under y)) v c) 0 → Stands M (d + 1) n (k + 1) F (at (wire (under y)) v c) u → Escape (lam M) d n k F (body z) u
     body_wire y v c u t s = record {
@@ -55,17 +56,17 @@ module _ (N : NamedNet ℕ) where
 
     leave_body : (p : Place) (v : Level) (c : Context) (u : S) → Trail (Edge M) z (at p v c) 0 → Stands M (d + 1) n (k + 1) F (at p v c) u → Leaves (lam M) d n k F (body z) u
     leave_body root v c u t s =
-        subst (λ u. Leaves (lam M) d n k F (body z) u) (stands_port (Some (subnet_of M (d + 1) n (k + 1)).root) (subnet_of M (d + 1) n (k + 1)).root (F (cons v c)) u s.is refl)
+        subst (λ u. Leaves (lam M) d n k F (body z) u) (stands_port (Some (subnet_of One M (d + 1) n (k + 1)).root) (subnet_of One M (d + 1) n (k + 1)).root (F (cons v c)) u s.is refl)
         (inr (record {
           next = nets.slot k 1;
-          linked = back_link (slot_port k 1) (subnet_of M (d + 1) n (k + 1)).root A.link;
+          linked = back_link (slot_port k 1) (subnet_of One M (d + 1) n (k + 1)).root A.link;
           turn = turn_in N (After N (lam M) d n k F (body z)) k kind.Lam n 0 F (cons v c) b A.node
               (at root (o v) c, tr_trans (tr_body t) (one_back lam_root) refl, inl (inl (record { is = refl; fits = tt })));
         }))
     leave_body (wire (bound zero)) v c u t s =
         let W = wire_there M (bound 0) (d + 1) n (k + 1) i s.fits in
-        let l : L N (slot_port k 2) W.0 = subst (λ x. L N (slot_port k 2) (bound_port x (k + 1 + length (subnet_of M (d + 1) n (k + 1)).nodes))) W.1 A.var_link in
-        subst (λ u. Leaves (lam M) d n k F (body z) u) (stands_port (wire_of 0 (subnet_of M (d + 1) n (k + 1)).wires) W.0 (F (cons v c)) u s.is W.1)
+        let l : L N (slot_port k 2) W.0 = subst (λ x. L N (slot_port k 2) (bound_port x (k + 1 + length (subnet_of One M (d + 1) n (k + 1)).nodes))) W.1 A.var_link in
+        subst (λ u. Leaves (lam M) d n k F (body z) u) (stands_port (wire_of 0 (subnet_of One M (d + 1) n (k + 1)).wires) W.0 (F (cons v c)) u s.is W.1)
         (inr (record {
           next = nets.slot k 2;
           linked = back_link (slot_port k 2) W.0 l;
@@ -75,24 +76,24 @@ module _ (N : NamedNet ℕ) where
     leave_body (wire (bound (suc y))) v c u t s = inl (body_wire (bound y) v c u t s)
     leave_body (wire (name f)) v c u t s = inl (body_wire (name f) v c u t s)
 
-  module _ (M Q : Tree) (d n k : ℕ) (F : Context → Context) (b : Before n F) (i : is_below d (app M Q) ≡ true) (h : Has (H N) (L N) k (subnet_of (app M Q) d n k)) (z : Spot) where
+  module _ (M Q : Tree) (d n k : ℕ) (F : Context → Context) (b : Before n F) (i : is_below d (app M Q) ≡ true) (h : Has (H N) (L N) k (subnet_of One (app M Q) d n k)) (z : Spot) where
     abbrev P : Subnet
-    P = subnet_of M d n (k + 1)
+    P = subnet_of One M d n (k + 1)
 
     abbrev R : Subnet
     R = argument M Q d n k
 
     abbrev W : Subnet
-    W = subnet_of (app M Q) d n k
+    W = subnet_of One (app M Q) d n k
 
-    B : HasApp (H N) (L N) n k (subnet_of M d n (k + 1)) (argument M Q d n k)
-    B = has_app (H N) (L N) n k (subnet_of M d n (k + 1)) (argument M Q d n k) h
+    B : HasApp (H N) (L N) n k (subnet_of One M d n (k + 1)) (argument M Q d n k)
+    B = has_app (H N) (L N) n k (subnet_of One M d n (k + 1)) (argument M Q d n k) h
 
     I : (is_below d M ≡ true) × (is_below d Q ≡ true)
     I = and_parts (is_below d M) (is_below d Q) i
 
     wires_of : (y : Wire) → Wires (H N) (L N) n (wire_of (key d y) P.wires) (wire_of (key d y) R.wires) (wire_of (key d y) W.wires)
-    wires_of y = B.wires (key d y) (few_wires (key d y) Q d (n + 1) (k + 1 + length (subnet_of M d n (k + 1)).nodes))
+    wires_of y = B.wires (key d y) (few_wires One (key d y) Q d (n + 1) (k + 1 + length (subnet_of One M d n (k + 1)).nodes))
 
     -- at a wire of the whole application
     own_wire : (y : Wire) (w : Level) (c : Context) (p : Port) → wire_of (key d y) W.wires ≡ Some p → occurs y (app M Q) ≡ true → Stands (app M Q) d n k F (at (wire y) w c) (numbered_port p, F (cons w c))
@@ -114,7 +115,7 @@ module _ (N : NamedNet ℕ) where
     fun_wire : (y : Wire) (w : Level) (c : Context) (a : Port) (q r : Option Port) → Trail (Edge M) z (at (wire y) w c) 0 → occurs y M ≡ true → wire_of (key d y) R.wires ≡ q → wire_of (key d y) W.wires ≡ r
         → Wires (H N) (L N) n (Some a) q r → Leaves (app M Q) d n k F (fun z) (numbered_port a, F (cons w c))
     fun_wire y w c a None r t f eq er j =
-        let n' = occurs_not Q y d (n + 1) (k + 1 + length (subnet_of M d n (k + 1)).nodes) I.1 (occurs_inside M y d I.0 f) eq in
+        let n' = occurs_not Q y d (n + 1) (k + 1 + length (subnet_of One M d n (k + 1)).nodes) I.1 (occurs_inside M y d I.0 f) eq in
         inl (record {
           place_is = wire y;
           level = w;
@@ -123,7 +124,7 @@ module _ (N : NamedNet ℕ) where
           stands = own_wire y w c a (er ∙ j) (occurs_app y M Q ∙ or_left (occurs y M) (occurs y Q) f);
         })
     fun_wire y w c a (Some q) r t f eq er (x, x', ez, hb, lb, hf, lf, lg) =
-        let o' = occurs_there Q y d (n + 1) (k + 1 + length (subnet_of M d n (k + 1)).nodes) q I.1 (occurs_inside M y d I.0 f) eq in
+        let o' = occurs_there Q y d (n + 1) (k + 1 + length (subnet_of One M d n (k + 1)).nodes) q I.1 (occurs_inside M y d I.0 f) eq in
         inr (record {
           next = nets.slot x' 1;
           linked = back_link (slot_port x' 1) a lf;
@@ -153,7 +154,7 @@ module _ (N : NamedNet ℕ) where
       F' c = F (cons v' c)
 
       abbrev K : ℕ
-      K = k + 1 + length (subnet_of M d n (k + 1)).nodes
+      K = k + 1 + length (subnet_of One M d n (k + 1)).nodes
 
       arg_wire : (y : Wire) (w : Level) (c : Context) (a : Option Port) (q : Port) (r : Option Port) → Trail (Edge Q) z (at (wire y) w c) 0 → occurs y Q ≡ true → wire_of (key d y) P.wires ≡ a → wire_of (key d y) W.wires ≡ r
           → Wires (H N) (L N) n a (Some q) r → Leaves (app M Q) d n k F (arg v' z) (numbered_port q, F (cons v' (cons w c)))
@@ -201,23 +202,23 @@ module _ (N : NamedNet ℕ) where
             );
           }))
       leave_arg (wire y) v c u t s =
-          let q = wire_there Q y d (n + 1) (k + 1 + length (subnet_of M d n (k + 1)).nodes) I.1 s.fits in
+          let q = wire_there Q y d (n + 1) (k + 1 + length (subnet_of One M d n (k + 1)).nodes) I.1 s.fits in
           subst (λ u. Leaves (app M Q) d n k F (arg v' z) u) (stands_port (wire_of (key d y) R.wires) q.0 (F (cons v' (cons v c))) u s.is q.1)
           (arg_wire y v c (wire_of (key d y) P.wires) q.0 (wire_of (key d y) W.wires) t s.fits refl refl
           (subst (λ x. Wires (H N) (L N) n (wire_of (key d y) P.wires) x (wire_of (key d y) W.wires)) q.1 (wires_of y)))
 
-  pub up : (t : Tree) (d n k : ℕ) (F : Context → Context) → Before n F → is_below d t ≡ true → Has (H N) (L N) k (subnet_of t d n k) → (z : Spot) (u : S) → Stands t d n k F z u → Leaves t d n k F z u
+  pub up : (t : Tree) (d n k : ℕ) (F : Context → Context) → Before n F → is_below d t ≡ true → Has (H N) (L N) k (subnet_of One t d n k) → (z : Spot) (u : S) → Stands t d n k F z u → Leaves t d n k F z u
   up t d n k F b i h (at p v c) u s = inl (record { place_is = p; level = v; later = c; trail = here; stands = s })
-  up (lam M) d n k F b i h (body z) u s = elim (up M (d + 1) n (k + 1) F b i (has_lam (H N) (L N) n k (subnet_of M (d + 1) n (k + 1)) h).part z u (record { is = s.is; fits = s.fits })) [
+  up (lam M) d n k F b i h (body z) u s = elim (up M (d + 1) n (k + 1) F b i (has_lam (H N) (L N) n k (subnet_of One M (d + 1) n (k + 1)) h).part z u (record { is = s.is; fits = s.fits })) [
     | inl e ↦ leave_body M d n k F b i h z e.place_is e.level e.later u e.trail e.stands
     | inr r ↦ inr (record { next = r.next; linked = r.linked; turn = lift_body N M d n k F z r.next u.1 r.turn })
   ]
-  up (app M Q) d n k F b i h (fun z) u s = elim (up M d n (k + 1) F b (and_parts (is_below d M) (is_below d Q) i).0 (has_app (H N) (L N) n k (subnet_of M d n (k + 1)) (argument M Q d n k) h).function z u (record { is = s.is; fits = s.fits })) [
+  up (app M Q) d n k F b i h (fun z) u s = elim (up M d n (k + 1) F b (and_parts (is_below d M) (is_below d Q) i).0 (has_app (H N) (L N) n k (subnet_of One M d n (k + 1)) (argument M Q d n k) h).function z u (record { is = s.is; fits = s.fits })) [
     | inl e ↦ leave_fun M Q d n k F b i h z e.place_is e.level e.later u e.trail e.stands
     | inr r ↦ inr (record { next = r.next; linked = r.linked; turn = lift_fun N M Q d n k F z r.next u.1 r.turn })
   ]
-  up (app M Q) d n k F b i h (arg v z) u s = elim (up Q d (n + 1) (k + 1 + length (subnet_of M d n (k + 1)).nodes) (λ c. F (cons v c)) (before_arg n F v b) (and_parts (is_below d M) (is_below d Q) i).1
-      (has_app (H N) (L N) n k (subnet_of M d n (k + 1)) (argument M Q d n k) h).argument z u (record { is = s.is; fits = s.fits })) [
+  up (app M Q) d n k F b i h (arg v z) u s = elim (up Q d (n + 1) (k + 1 + length (subnet_of One M d n (k + 1)).nodes) (λ c. F (cons v c)) (before_arg n F v b) (and_parts (is_below d M) (is_below d Q) i).1
+      (has_app (H N) (L N) n k (subnet_of One M d n (k + 1)) (argument M Q d n k) h).argument z u (record { is = s.is; fits = s.fits })) [
         | inl e ↦ leave_arg M Q d n k F b i h z v e.place_is e.level e.later u e.trail e.stands
         | inr r ↦ inr (record { next = r.next; linked = r.linked; turn = lift_arg N M Q d n k F v z r.next u.1 r.turn })
       ]

@@ -4,9 +4,9 @@ ghost use Rattle.std.specs.Prelude.{◌≡◌, ◌≤◌, ◌+◌, true, length,
 ghost use Rattle.ol_term.specs.Trees.{tree_of, var, lam, app, is_below, is_named_below, depth};
 ghost use Rattle.ol_translate.specs.Names.{HasNames};
 
-use ol_translate::{TransFault, translate};
 use ol_net::{Kind, Net, NodeId, Port};
-use ol_term::{Names, Term, TermFile};
+use ol_term::{Names, Term, TermFile, Translation};
+use ol_translate::{TransFault, translate};
 use std::alloc::Global;
 use std::process::Abort;
 use std::test::Fail;
@@ -37,7 +37,12 @@ fn application(alloc: Global, function: Box<Term>, argument: Box<Term>) -> Resul
     Ok(Box::new(alloc, Term::App(function, argument))?)
 }
 
-fn net_of(alloc: Global, term: Box<Term>, names: Names) -> Result<Net, Fail>
+fn net_of(
+    alloc: Global,
+    term: Box<Term>,
+    names: Names,
+    translation: Translation,
+) -> Result<Net, Fail>
     requires names { HasNames (tree_of term.value) (length names) }
     requires shallow { depth (tree_of term.value) ≤ 1000 }
 {
@@ -45,7 +50,7 @@ fn net_of(alloc: Global, term: Box<Term>, names: Names) -> Result<Net, Fail>
         term: Box::into_inner(term),
         names,
     };
-    translate(alloc, &file).map_err(Fail::from)
+    translate(alloc, &file, translation).map_err(Fail::from)
 }
 
 /// Asserts what the nodes are, in order of their numbers.
@@ -64,7 +69,7 @@ fn numbers_are_in_preorder(rt: HostRuntime) -> Result<(), Fail> {
     let left = abstraction(alloc, twice)?;
     let right = abstraction(alloc, variable(alloc, 0)?)?;
     let term = application(alloc, left, right)?;
-    let net = net_of(alloc, term, Names::new(alloc))?;
+    let net = net_of(alloc, term, Names::new(alloc), Translation::One)?;
     let nodes = [
         (Kind::App, 0),
         (Kind::Lam, 0),
@@ -84,13 +89,33 @@ fn numbers_are_in_preorder(rt: HostRuntime) -> Result<(), Fail> {
     Ok(())
 }
 
+// `\x. x x`, whose second `x` is slot 2 of the application
+#[test]
+fn an_argument_that_is_a_variable_is_its_wire(rt: HostRuntime) -> Result<(), Fail> {
+    let alloc = rt.alloc();
+    let twice = application(alloc, variable(alloc, 0)?, variable(alloc, 0)?)?;
+    let term = abstraction(alloc, twice)?;
+    let net = net_of(alloc, term, Names::new(alloc), Translation::Two)?;
+    let nodes = [
+        (Kind::Lam, 0),
+        (Kind::App, 0),
+        (Kind::Croissant, 0),
+        (Kind::Fan, 0),
+    ];
+    assert_nodes(&rt, &net, &nodes);
+    assert_eq!(rt; net.partner(of(3, 1)), Some(of(2, 0)));
+    assert_eq!(rt; net.partner(of(3, 2)), Some(of(1, 2)));
+    assert_eq!(rt; net.partner(of(0, 2)), Some(of(3, 0)));
+    Ok(())
+}
+
 // `\x. \y. x`
 #[test]
 fn a_variable_without_occurrence_is_erased(rt: HostRuntime) -> Result<(), Fail> {
     let alloc = rt.alloc();
     let inner = abstraction(alloc, variable(alloc, 1)?)?;
     let term = abstraction(alloc, inner)?;
-    let net = net_of(alloc, term, Names::new(alloc))?;
+    let net = net_of(alloc, term, Names::new(alloc), Translation::One)?;
     let nodes = [
         (Kind::Lam, 0),
         (Kind::Lam, 0),
@@ -111,7 +136,7 @@ fn a_free_name_has_a_free_port(rt: HostRuntime) -> Result<(), Fail> {
     names.add(b"x")?;
     assert!(rt; names.len() == 1);
     let term = Box::new(alloc, Term::Free(0))?;
-    let net = net_of(alloc, term, names)?;
+    let net = net_of(alloc, term, names, Translation::One)?;
     assert_nodes(&rt, &net, &[(Kind::Croissant, 0)]);
     assert_eq!(rt; net.partner(Port::Free(0)), Some(of(0, 1)));
     assert_eq!(rt; net.partner(Port::Free(1)), Some(of(0, 0)));
@@ -137,12 +162,22 @@ fn doubled(alloc: Global, times: u8) -> Result<Box<Term>, Fail>
 #[test]
 fn a_net_has_a_most_number_of_nodes(rt: HostRuntime) -> Result<(), Fail> {
     let alloc = rt.alloc();
-    let net = net_of(alloc, doubled(alloc, 16)?, Names::new(alloc))?;
+    let net = net_of(
+        alloc,
+        doubled(alloc, 16)?,
+        Names::new(alloc),
+        Translation::Two,
+    )?;
     assert_eq!(rt; net.nodes(), 196_607);
     let file = TermFile {
         term: Box::into_inner(doubled(alloc, 17)?),
         names: Names::new(alloc),
     };
-    assert!(rt; matches!(translate(alloc, &file), Err(TransFault::TooMany)));
+    assert!(rt;
+        matches!(
+            translate(alloc, &file, Translation::One),
+            Err(TransFault::TooMany)
+        )
+    );
     Ok(())
 }

@@ -1,12 +1,13 @@
 -- How many wires, links and names a term's net has.
 use Rattle.std.proofs.Common.{zero-add, subst, get_or, All, ◌^◌, ◌≡◌, ℕ, zero, suc, ◌<◌, ◌≤◌, ◌+◌, ◌*◌, List, [], ◌∷◌, ◌++◌, length, true, false, nat_eq, nat_lt, Option, None, Some, refl, ap, sym, arith, length-append, eq-eqb, ne_eqb}
 use Rattle.std.proofs.lemmas.Bool.Decides.{nat_tests}
+use Rattle.ol_term.specs.declared.translations.Translation.{Translation}
 use Rattle.ol_term.specs.Trees.{Tree, var, free, lam, app}
 use Rattle.ol_net.specs.declared.parts.Port.{Port}
 use Rattle.ol_net.specs.declared.parts.Port.TheVariants.{Free}
 use Rattle.ol_net.specs.declared.parts.Kind.{Kind}
 use Rattle.ol_net.specs.declared.parts.Kind.TheVariants as kind
-use Rattle.ol_translate.specs.Translation.{Subnet, subnet_of, abstraction, application, outside, erasers, bound_port, bracket_nodes, bracket_links, past_brackets, fans, fan_nodes, fan_links, merged, wire_of, reconnected, slot_port, name_links, nodes_of, links_of}
+use Rattle.ol_translate.specs.Translation.{Subnet, subnet_of, abstraction, application, application_to, applied, bare_variable, outside, erasers, bound_port, bracket_nodes, bracket_links, past_brackets, fans, fan_nodes, fan_links, merged, wire_of, reconnected, slot_port, name_links, nodes_of, links_of}
 use Rattle.ol_translate.proofs.Counts.{times}
 use Rattle.ol_translate.specs.Names.{HasNames}
 use Rattle.ol_translate.proofs.Joints.{none_past, name_has_wire}
@@ -126,27 +127,40 @@ application_small n k M N hm hn =
       links = omega (arith, nodes1, nodes2, nodes3, nodes4, links1, links2, links3, links4, links5, hm.links, hn.links);
     }
 
-pub part_small : (t : Tree) (d n k : ℕ) → IsSmall (subnet_of t d n k)
-part_small (var v) d n k = record { wires = omega arith; links = omega arith }
-part_small (free f) d n k = record { wires = omega arith; links = omega arith }
-part_small (lam M) d n k = abstraction_small n k (subnet_of M (d + 1) n (k + 1)) (part_small M (d + 1) n (k + 1))
-part_small (app M N) d n k =
-    application_small n k (subnet_of M d n (k + 1)) (subnet_of N d (n + 1) (k + 1 + length (subnet_of M d n (k + 1)).nodes))
-    (part_small M d n (k + 1)) (part_small N d (n + 1) (k + 1 + length (subnet_of M d n (k + 1)).nodes))
+application_to_small : (n k y : ℕ) (M : Subnet) → IsSmall M → IsSmall (application_to n k y M)
+application_to_small n k y M h =
+    let F = fans n (k + 1 + length M.nodes) M.wires ((y, slot_port k 2) ∷ []) in
+    let nodes = length-append M.nodes F.nodes in
+    let links = length-append M.links ((slot_port k 0, M.root) ∷ F.links) in
+    let wires = fans_wires n (k + 1 + length M.nodes) M.wires ((y, slot_port k 2) ∷ []) in
+    let fan_links = fans_links n (k + 1 + length M.nodes) M.wires ((y, slot_port k 2) ∷ []) in
+    record { wires = omega (arith, nodes, wires, h.wires); links = omega (arith, nodes, links, fan_links, h.links) }
+
+applied_small : (n k : ℕ) (o : Option ℕ) (M N : Subnet) → IsSmall M → IsSmall N → IsSmall (applied n k o M N)
+applied_small n k None M N hm hn = application_small n k M N hm hn
+applied_small n k (Some y) M N hm hn = application_to_small n k y M hm
+
+pub part_small : (w : Translation) (t : Tree) (d n k : ℕ) → IsSmall (subnet_of w t d n k)
+part_small w (var v) d n k = record { wires = omega arith; links = omega arith }
+part_small w (free f) d n k = record { wires = omega arith; links = omega arith }
+part_small w (lam M) d n k = abstraction_small n k (subnet_of w M (d + 1) n (k + 1)) (part_small w M (d + 1) n (k + 1))
+part_small w (app M N) d n k =
+    applied_small n k (bare_variable w d N) (subnet_of w M d n (k + 1)) (subnet_of w N d (n + 1) (k + 1 + length (subnet_of w M d n (k + 1)).nodes))
+    (part_small w M d n (k + 1)) (part_small w N d (n + 1) (k + 1 + length (subnet_of w M d n (k + 1)).nodes))
 
 length-name_links : (wires : List (ℕ × Port)) → length (name_links wires) ≡ length wires
 length-name_links [] = refl
 length-name_links (w ∷ wires) = ap suc (length-name_links wires)
 
-pub few_links : (t : Tree) → length (links_of t) ≤ 1 + 3 * length (nodes_of t)
-few_links t =
-    let P = subnet_of t 0 0 0 in
+pub few_links : (w : Translation) (t : Tree) → length (links_of w t) ≤ 1 + 3 * length (nodes_of w t)
+few_links w t =
+    let P = subnet_of w t 0 0 0 in
     omega (
       arith,
-      (part_small t 0 0 0).wires,
-      (part_small t 0 0 0).links,
-      length-name_links (subnet_of t 0 0 0).wires,
-      length-append (subnet_of t 0 0 0).links ((Free 0, (subnet_of t 0 0 0).root) ∷ name_links (subnet_of t 0 0 0).wires),
+      (part_small w t 0 0 0).wires,
+      (part_small w t 0 0 0).links,
+      length-name_links (subnet_of w t 0 0 0).wires,
+      length-append (subnet_of w t 0 0 0).links ((Free 0, (subnet_of w t 0 0 0).root) ∷ name_links (subnet_of w t 0 0 0).wires),
     )
 
 total-ge : (d : ℕ) (wires : List (ℕ × Port)) → ((v : ℕ) → v < d → 1 ≤ times v wires) → d ≤ total d wires
@@ -168,13 +182,13 @@ total-le-length d (w ∷ wires) =
       | false ↦ (λ t. let past : d ≤ w.0 = grind (arith, nat_tests, t) in omega (arith, total-past d w wires past))
     ] refl
 
-pub few_names : (t : Tree) (names : ℕ) → HasNames t names → names ≤ length (nodes_of t)
-few_names t names h =
+pub few_names : (w : Translation) (t : Tree) (names : ℕ) → HasNames t names → names ≤ length (nodes_of w t)
+few_names w t names h =
     omega (
       arith,
-      total-ge names (subnet_of t 0 0 0).wires (λ v low. rw zero-add at (name_has_wire v t 0 0 0 (h.each v low))),
-      total-le-length names (subnet_of t 0 0 0).wires,
-      (part_small t 0 0 0).wires,
+      total-ge names (subnet_of w t 0 0 0).wires (λ v low. rw zero-add at (name_has_wire w v t 0 0 0 (h.each v low))),
+      total-le-length names (subnet_of w t 0 0 0).wires,
+      (part_small w t 0 0 0).wires,
     )
 
 -- ---- the wires of a whole term are those of its names
@@ -184,15 +198,15 @@ low_keys d [] none k e h = absurd (omega arith)
 low_keys d (w ∷ wires) none zero e h = low_key d w wires none
 low_keys d (w ∷ wires) none (suc k) e h = low_keys d wires (λ v past. let here = none v past in omega arith) k e (omega arith)
 
-pub names_fit : (t : Tree) (names : ℕ) → HasNames t names → length (nodes_of t) ≤ 200000 → All (λ (w : ℕ × Port). w.0 < 2 ^ 31) (subnet_of t 0 0 0).wires
-names_fit t names h few k e low =
-    omega (arith, few_names t names h, low_keys names (subnet_of t 0 0 0).wires (λ v past. none_past v names t 0 0 0 h.bound h.named (omega arith)) k e low)
+pub names_fit : (w : Translation) (t : Tree) (names : ℕ) → HasNames t names → length (nodes_of w t) ≤ 200000 → All (λ (w : ℕ × Port). w.0 < 2 ^ 31) (subnet_of w t 0 0 0).wires
+names_fit w t names h few k e low =
+    omega (arith, few_names w t names h, low_keys names (subnet_of w t 0 0 0).wires (λ v past. none_past w v names t 0 0 0 h.bound h.named (omega arith)) k e low)
 
 -- the same of wires and nodes that were laid down from nothing
-pub laid_names_fit : (t : Tree) (names : ℕ) (start nodes : List (Kind × ℕ)) (wires : List (ℕ × Port)) → HasNames t names → start ≡ []
-    → wires ≡ (subnet_of t 0 0 (length start)).wires → nodes ≡ start ++ (subnet_of t 0 0 (length start)).nodes → length nodes ≤ 200000
+pub laid_names_fit : (w : Translation) (t : Tree) (names : ℕ) (start nodes : List (Kind × ℕ)) (wires : List (ℕ × Port)) → HasNames t names → start ≡ []
+    → wires ≡ (subnet_of w t 0 0 (length start)).wires → nodes ≡ start ++ (subnet_of w t 0 0 (length start)).nodes → length nodes ≤ 200000
     → All (λ (w : ℕ × Port). w.0 < 2 ^ 31) wires
-laid_names_fit t names [] nodes wires h none w n few =
+laid_names_fit w t names [] nodes wires h none e n few =
     let P : List (ℕ × Port) → Type 0 = λ l. All (λ (w : ℕ × Port). w.0 < 2 ^ 31) l in
-    subst P (sym w) (names_fit t names h (omega (arith, ap length n)))
-laid_names_fit t names (x ∷ xs) nodes wires h none w n few = absurd (cc)
+    subst P (sym e) (names_fit w t names h (omega (arith, ap length n)))
+laid_names_fit w t names (x ∷ xs) nodes wires h none e n few = absurd (cc)

@@ -1,6 +1,7 @@
 -- The parts of a term are those of a net: nothing is refused but for want of memory.
 use Rattle.std.proofs.Common.{◌≡◌, ◌≢◌, ℕ, zero, suc, ◌<◌, ◌≤◌, ◌+◌, List, [], ◌∷◌, length, true, false, Bool, inl, inr, refl, ap, arith, subst, eq-eqb}
 use Rattle.std.proofs.lemmas.Bool.Decides.{nat_tests}
+use Rattle.ol_term.specs.declared.translations.Translation.{Translation}
 use Rattle.ol_term.specs.Trees.{Tree}
 use Rattle.ol_net.specs.declared.parts.Kind.{Kind}
 use Rattle.ol_net.specs.declared.parts.Port.{Port}
@@ -115,35 +116,35 @@ used_somewhere free nodes links p once there loose =
     let count = rw there at (once p) in
     absurd (omega (arith, count, uses-none p links loose))
 
-only_memory : (t : Tree) (names : ℕ) (fault : BuildFault) → HasNames t names → length (nodes_of t) ≤ 200000
-    → FaultIs build_top (1 + names) (nodes_of t) (links_of t) fault → fault ≢ NoMemory → ⊥
-only_memory t names (BadIndex n) h few is ne = good_indexes t few n is.0
-only_memory t names (BadPort j) h few is ne = elim (is.1.0.1) [
-  | inl gone ↦ used_exists (1 + names) (nodes_of t) (links_of t) (link_at (links_of t) j).0 j (each_port_once t names h) is.1.0.0 (inl refl) gone
-  | inr gone ↦ used_exists (1 + names) (nodes_of t) (links_of t) (link_at (links_of t) j).1 j (each_port_once t names h) is.1.0.0 (inr refl) gone
+only_memory : (w : Translation) (t : Tree) (names : ℕ) (fault : BuildFault) → HasNames t names → length (nodes_of w t) ≤ 200000
+    → FaultIs build_top (1 + names) (nodes_of w t) (links_of w t) fault → fault ≢ NoMemory → ⊥
+only_memory w t names (BadIndex n) h few is ne = good_indexes w t few n is.0
+only_memory w t names (BadPort j) h few is ne = elim (is.1.0.1) [
+  | inl gone ↦ used_exists (1 + names) (nodes_of w t) (links_of w t) (link_at (links_of w t) j).0 j (each_port_once w t names h) is.1.0.0 (inl refl) gone
+  | inr gone ↦ used_exists (1 + names) (nodes_of w t) (links_of w t) (link_at (links_of w t) j).1 j (each_port_once w t names h) is.1.0.0 (inr refl) gone
 ]
-only_memory t names (Twice j) h few is ne = elim (is.2.0.1) [
-  | inl same ↦ used_apart (1 + names) (nodes_of t) (links_of t) j (each_port_once t names h) is.2.0.0 same
-  | inr again ↦ used_once (1 + names) (nodes_of t) (links_of t) again.1 again.0 j (each_port_once t names h) again.2 is.2.0.0 again.3 again.4
+only_memory w t names (Twice j) h few is ne = elim (is.2.0.1) [
+  | inl same ↦ used_apart (1 + names) (nodes_of w t) (links_of w t) j (each_port_once w t names h) is.2.0.0 same
+  | inr again ↦ used_once (1 + names) (nodes_of w t) (links_of w t) again.1 again.0 j (each_port_once w t names h) again.2 is.2.0.0 again.3 again.4
 ]
-only_memory t names (Loose p) h few is ne = used_somewhere (1 + names) (nodes_of t) (links_of t) p (each_port_once t names h) is.3.0.0 is.3.0.1
-only_memory t names NoMemory h few is ne = ne refl
+only_memory w t names (Loose p) h few is ne = used_somewhere (1 + names) (nodes_of w t) (links_of w t) p (each_port_once w t names h) is.3.0.0 is.3.0.1
+only_memory w t names NoMemory h few is ne = ne refl
 
 -- the same of parts that were laid down
-pub never_refused : (t : Tree) (names free : ℕ) (nodes : List (Kind × ℕ)) (links : List (Port × Port)) (fault : BuildFault) → HasNames t names
-    → free ≡ 1 + names → nodes ≡ nodes_of t → links ≡ links_of t → length nodes ≤ 200000 → FaultIs build_top free nodes links fault → fault ≢ NoMemory → ⊥
-never_refused t names free nodes links fault h f n l few is ne =
-    let few' : length (nodes_of t) ≤ 200000 = omega (arith, ap length n) in
+pub never_refused : (w : Translation) (t : Tree) (names free : ℕ) (nodes : List (Kind × ℕ)) (links : List (Port × Port)) (fault : BuildFault) → HasNames t names
+    → free ≡ 1 + names → nodes ≡ nodes_of w t → links ≡ links_of w t → length nodes ≤ 200000 → FaultIs build_top free nodes links fault → fault ≢ NoMemory → ⊥
+never_refused w t names free nodes links fault h f n l few is ne =
+    let few' : length (nodes_of w t) ≤ 200000 = omega (arith, ap length n) in
     let F : ℕ → Type 0 = λ m. FaultIs build_top m nodes links fault in
     let N : List (Kind × ℕ) → Type 0 = λ m. FaultIs build_top (1 + names) m links fault in
-    let L : List (Port × Port) → Type 0 = λ m. FaultIs build_top (1 + names) (nodes_of t) m fault in
-    only_memory t names fault h few' (subst L l (subst N n (subst F f is))) ne
+    let L : List (Port × Port) → Type 0 = λ m. FaultIs build_top (1 + names) (nodes_of w t) m fault in
+    only_memory w t names fault h few' (subst L l (subst N n (subst F f is))) ne
 
 -- a net of the parts that were laid down is the translation
-pub same_translation : (t : Tree) (names free : ℕ) (nodes : List (Kind × ℕ)) (links : List (Port × Port)) (N : NamedNet ℕ)
-    → free ≡ 1 + names → nodes ≡ nodes_of t → links ≡ links_of t → SameNet N (net_of_parts free nodes links) → SameNet N (translation_of t names)
-same_translation t names free nodes links N f n l same =
+pub same_translation : (w : Translation) (t : Tree) (names free : ℕ) (nodes : List (Kind × ℕ)) (links : List (Port × Port)) (N : NamedNet ℕ)
+    → free ≡ 1 + names → nodes ≡ nodes_of w t → links ≡ links_of w t → SameNet N (net_of_parts free nodes links) → SameNet N (translation_of w t names)
+same_translation w t names free nodes links N f n l same =
     let F : ℕ → Type 0 = λ m. SameNet N (net_of_parts m nodes links) in
     let M : List (Kind × ℕ) → Type 0 = λ m. SameNet N (net_of_parts (1 + names) m links) in
-    let L : List (Port × Port) → Type 0 = λ m. SameNet N (net_of_parts (1 + names) (nodes_of t) m) in
+    let L : List (Port × Port) → Type 0 = λ m. SameNet N (net_of_parts (1 + names) (nodes_of w t) m) in
     subst L l (subst M n (subst F f same))

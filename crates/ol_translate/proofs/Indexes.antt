@@ -1,6 +1,7 @@
 -- The indexes of a term's nodes: none is greater than the level by more than the number of nodes.
 use Rattle.std.proofs.Common.{◌≡◌, ℕ, zero, suc, ◌≤◌, ◌+◌, List, [], ◌∷◌, ◌++◌, length, true, false, nat_eq, nat_lt, Option, None, Some, refl, arith, length-append, get_or}
 use Rattle.std.proofs.lemmas.Bool.Decides.{nat_tests}
+use Rattle.ol_term.specs.declared.translations.Translation.{Translation}
 use Rattle.ol_term.specs.Trees.{Tree, var, free, lam, app}
 use Rattle.ol_net.specs.declared.parts.Kind.{Kind}
 use Rattle.ol_net.specs.declared.parts.Kind.TheVariants as kind
@@ -8,7 +9,7 @@ use Rattle.ol_net.specs.declared.parts.Port.{Port}
 use Rattle.ol_net.specs.Build.{build_top, is_bad_index, BadIndexAt, NoneOf}
 use Rattle.ol_net.specs.Numbered.{all_live}
 use Rattle.ol_net.specs.Indexes.{top_index_of}
-use Rattle.ol_translate.specs.Translation.{Subnet, subnet_of, application, erasers, bracket_nodes, past_brackets, fans, fan_nodes, merged, wire_of, nodes_of}
+use Rattle.ol_translate.specs.Translation.{Subnet, subnet_of, application, application_to, applied, bare_variable, erasers, bracket_nodes, past_brackets, fans, fan_nodes, merged, wire_of, slot_port, nodes_of}
 
 -- the index of a node that is no eraser is at most m, and an eraser's is 0
 abbrev pub IsLow : ℕ → Kind × ℕ → Type 0
@@ -73,24 +74,31 @@ application_longer n k M N =
     let F = fans n (k + 1 + length M.nodes + length N.nodes + length N.wires) M.wires (past_brackets (k + 1 + length M.nodes + length N.nodes) N.wires) in
     omega (arith, length-append (((kind.App, n) ∷ M.nodes) ++ N.nodes) (bracket_nodes n N.wires ++ F.nodes), length-append M.nodes N.nodes)
 
-pub part_low : (t : Tree) (d n k : ℕ) → AreLow (n + length (subnet_of t d n k).nodes) (subnet_of t d n k).nodes
-part_low (var v) d n k = (omega arith, tt)
-part_low (free f) d n k = (omega arith, tt)
-part_low (lam M) d n k =
-    let body = subnet_of M (d + 1) n (k + 1) in
-    let x = wire_of 0 (subnet_of M (d + 1) n (k + 1)).wires in
-    let longer = length-append (subnet_of M (d + 1) n (k + 1)).nodes (erasers (wire_of 0 (subnet_of M (d + 1) n (k + 1)).wires)) in
-    let m = n + length (subnet_of (lam M) d n k).nodes in
-    AreLow-append (n + length (subnet_of (lam M) d n k).nodes) ((kind.Lam, n) ∷ (subnet_of M (d + 1) n (k + 1)).nodes) (erasers (wire_of 0 (subnet_of M (d + 1) n (k + 1)).wires))
-    (omega arith, AreLow-weaker (n + length (subnet_of M (d + 1) n (k + 1)).nodes) (n + length (subnet_of (lam M) d n k).nodes) (subnet_of M (d + 1) n (k + 1)).nodes (omega (arith, longer)) (part_low M (d + 1) n (k + 1)))
-    (erasers_low (n + length (subnet_of (lam M) d n k).nodes) (wire_of 0 (subnet_of M (d + 1) n (k + 1)).wires))
-part_low (app M N) d n k =
-    let M' = subnet_of M d n (k + 1) in
-    let N' = subnet_of N d (n + 1) (k + 1 + length (subnet_of M d n (k + 1)).nodes) in
-    let longer = application_longer n k M' N' in
-    application_low (n + length (subnet_of (app M N) d n k).nodes) n k M' N' (omega arith)
-    (AreLow-weaker (n + length M'.nodes) (n + length (subnet_of (app M N) d n k).nodes) M'.nodes (omega (arith, longer)) (part_low M d n (k + 1)))
-    (AreLow-weaker (n + 1 + length N'.nodes) (n + length (subnet_of (app M N) d n k).nodes) N'.nodes (omega (arith, longer)) (part_low N d (n + 1) (k + 1 + length M'.nodes)))
+applied_low : (n k : ℕ) (o : Option ℕ) (M N : Subnet) → AreLow (n + length M.nodes) M.nodes → AreLow (n + 1 + length N.nodes) N.nodes
+    → AreLow (n + length (applied n k o M N).nodes) (applied n k o M N).nodes
+applied_low n k None M N left right =
+    let longer = application_longer n k M N in
+    application_low (n + length (application n k M N).nodes) n k M N (omega arith)
+    (AreLow-weaker (n + length M.nodes) (n + length (application n k M N).nodes) M.nodes (omega (arith, longer)) left)
+    (AreLow-weaker (n + 1 + length N.nodes) (n + length (application n k M N).nodes) N.nodes (omega (arith, longer)) right)
+applied_low n k (Some y) M N left right =
+    let F = fans n (k + 1 + length M.nodes) M.wires ((y, slot_port k 2) ∷ []) in
+    let longer = length-append M.nodes F.nodes in
+    AreLow-append (n + length (application_to n k y M).nodes) ((kind.App, n) ∷ M.nodes) F.nodes
+    (omega arith, AreLow-weaker (n + length M.nodes) (n + length (application_to n k y M).nodes) M.nodes (omega (arith, longer)) left)
+    (fans_low (n + length (application_to n k y M).nodes) n (k + 1 + length M.nodes) M.wires ((y, slot_port k 2) ∷ []) (omega arith))
+
+pub part_low : (w : Translation) (t : Tree) (d n k : ℕ) → AreLow (n + length (subnet_of w t d n k).nodes) (subnet_of w t d n k).nodes
+part_low w (var v) d n k = (omega arith, tt)
+part_low w (free f) d n k = (omega arith, tt)
+part_low w (lam M) d n k =
+    let longer = length-append (subnet_of w M (d + 1) n (k + 1)).nodes (erasers (wire_of 0 (subnet_of w M (d + 1) n (k + 1)).wires)) in
+    AreLow-append (n + length (subnet_of w (lam M) d n k).nodes) ((kind.Lam, n) ∷ (subnet_of w M (d + 1) n (k + 1)).nodes) (erasers (wire_of 0 (subnet_of w M (d + 1) n (k + 1)).wires))
+    (omega arith, AreLow-weaker (n + length (subnet_of w M (d + 1) n (k + 1)).nodes) (n + length (subnet_of w (lam M) d n k).nodes) (subnet_of w M (d + 1) n (k + 1)).nodes (omega (arith, longer)) (part_low w M (d + 1) n (k + 1)))
+    (erasers_low (n + length (subnet_of w (lam M) d n k).nodes) (wire_of 0 (subnet_of w M (d + 1) n (k + 1)).wires))
+part_low w (app M N) d n k =
+    applied_low n k (bare_variable w d N) (subnet_of w M d n (k + 1)) (subnet_of w N d (n + 1) (k + 1 + length (subnet_of w M d n (k + 1)).nodes))
+    (part_low w M d n (k + 1)) (part_low w N d (n + 1) (k + 1 + length (subnet_of w M d n (k + 1)).nodes))
 
 -- ---- no index is refused
 
@@ -107,9 +115,9 @@ none_bad m j [] h low = refl
 none_bad m zero (node ∷ nodes) h low = low_is_good m node h low.0
 none_bad m (suc j) (node ∷ nodes) h low = none_bad m j nodes h low.1
 
-pub good_indexes : (t : Tree) → length (nodes_of t) ≤ 200000 → NoneOf (BadIndexAt build_top (nodes_of t))
-good_indexes t h j bad =
-    let good = none_bad (0 + length (nodes_of t)) j (nodes_of t) (omega arith) (part_low t 0 0 0) in
+pub good_indexes : (w : Translation) (t : Tree) → length (nodes_of w t) ≤ 200000 → NoneOf (BadIndexAt build_top (nodes_of w t))
+good_indexes w t h j bad =
+    let good = none_bad (0 + length (nodes_of w t)) j (nodes_of w t) (omega arith) (part_low w t 0 0 0) in
     absurd (cc)
 
 not_above : (m i : ℕ) → (nat_lt m i ≡ true → ⊥) → i ≤ m

@@ -2,12 +2,14 @@
 use Rattle.std.proofs.Common.{◌≡◌, ℕ, zero, suc, ◌≤◌, ◌+◌, ◌-◌, List, [], ◌∷◌, ◌++◌, length, true, false, nat_eq, nat_lt, Option, None, Some, refl, ap, ◌∙◌, arith, subst, length-append, zero-add, ne_eqb, eq-eqb, if◌then◌else◌}
 use Rattle.std.proofs.lemmas.Bool.{and_parts}
 use Rattle.std.proofs.lemmas.Bool.Decides.{nat_tests}
+use Rattle.ol_term.specs.declared.translations.Translation.{Translation}
+use Rattle.ol_term.specs.declared.translations.Translation.TheVariants.{One, Two}
 use Rattle.ol_term.specs.Trees.{Tree, var, free, lam, app, is_below, is_named_below}
 use Rattle.ol_net.specs.declared.parts.Kind.{Kind}
 use Rattle.ol_net.specs.declared.parts.Kind.TheVariants as kind
 use Rattle.ol_net.specs.declared.parts.Port.{Port}
 use Rattle.ol_net.specs.declared.parts.Port.TheVariants.{Free}
-use Rattle.ol_translate.specs.Translation.{Subnet, subnet_of, abstraction, application, outside, erasers, bound_port, bracket_nodes, bracket_links, past_brackets, fans, fan_nodes, fan_links, merged, wire_of, reconnected, slot_port, name_links, nodes_of, links_of}
+use Rattle.ol_translate.specs.Translation.{Subnet, Wires, subnet_of, abstraction, application, application_to, applied, bare_variable, outside, erasers, bound_port, bracket_nodes, bracket_links, past_brackets, fans, fan_nodes, fan_links, merged, wire_of, reconnected, slot_port, name_links, nodes_of, links_of}
 use Rattle.ol_term.specs.Trees.{has_name}
 use Rattle.ol_translate.proofs.Counts.{hit, uses, held, free_ends, slots, times}
 use Rattle.ol_translate.proofs.Walks.{length-bracket_nodes}
@@ -164,26 +166,54 @@ application_balance p n k M N hm hn =
     let fs = fans_balance p n (k + 1 + length M.nodes + length N.nodes + length N.wires) M.wires (past_brackets (k + 1 + length M.nodes + length N.nodes) N.wires) in
     omega (arith, links1, links2, links3, nodes1, nodes2, nodes3, bs, fs, hm, hn)
 
+application_to_balance : (p : Port) (n k y : ℕ) (M : Subnet) → Balanced p (k + 1) M → Balanced p k (application_to n k y M)
+application_to_balance p n k y M hm =
+    let F = fans n (k + 1 + length M.nodes) M.wires ((y, slot_port k 2) ∷ []) in
+    let links = uses-append p M.links ((slot_port k 0, M.root) ∷ F.links) in
+    let nodes = slots-append p (k + 1) (k + 1 + length M.nodes) M.nodes F.nodes refl in
+    let fs = fans_balance p n (k + 1 + length M.nodes) M.wires ((y, slot_port k 2) ∷ []) in
+    omega (arith, links, nodes, fs, hm)
+
+applied_balance : (p : Port) (n k : ℕ) (o : Option ℕ) (M N : Subnet) → Balanced p (k + 1) M → Balanced p (k + 1 + length M.nodes) N → Balanced p k (applied n k o M N)
+applied_balance p n k None M N hm hn = application_balance p n k M N hm hn
+applied_balance p n k (Some y) M N hm hn = application_to_balance p n k y M hm
+
 application_few : (v n k : ℕ) (M N : Subnet) → ((u : ℕ) → times u M.wires ≤ 1) → times v (application n k M N).wires ≤ 1
 application_few v n k M N few =
     times-fans v n (k + 1 + length M.nodes + length N.nodes + length N.wires) M.wires (past_brackets (k + 1 + length M.nodes + length N.nodes) N.wires) few
 
+applied_few : (v n k : ℕ) (o : Option ℕ) (M N : Subnet) → ((u : ℕ) → times u M.wires ≤ 1) → times v (applied n k o M N).wires ≤ 1
+applied_few v n k None M N few = application_few v n k M N few
+applied_few v n k (Some y) M N few = times-fans v n (k + 1 + length M.nodes) M.wires ((y, slot_port k 2) ∷ []) few
+
+-- where an argument is a variable, its own part would have this variable's wire alone
+abbrev pub HasOnly : Option ℕ → Wires → Type 0
+HasOnly None wires = Unit {0}
+HasOnly (Some y) wires = (q : Port) × (wires ≡ (y, q) ∷ [])
+
+pub bare_part : (w : Translation) (N : Tree) (d n k : ℕ) → HasOnly (bare_variable w d N) (subnet_of w N d n k).wires
+bare_part One N d n k = tt
+bare_part Two (var v) d n k = (slot_port k 0, refl)
+bare_part Two (free f) d n k = (slot_port k 0, refl)
+bare_part Two (lam M) d n k = tt
+bare_part Two (app M N) d n k = tt
+
 -- ---- terms
 
-pub few_wires : (v : ℕ) (t : Tree) (d n k : ℕ) → times v (subnet_of t d n k).wires ≤ 1
-few_wires v (var u) d n k = elim (nat_eq u v) as (λ b. (if b then 1 else 0) + 0 ≤ 1) [ true ↦ omega arith | false ↦ omega arith ]
-few_wires v (free f) d n k = elim (nat_eq (d + f) v) as (λ b. (if b then 1 else 0) + 0 ≤ 1) [ true ↦ omega arith | false ↦ omega arith ]
-few_wires v (lam M) d n k = omega (arith, times-outside v (subnet_of M (d + 1) n (k + 1)).wires, few_wires (suc v) M (d + 1) n (k + 1))
-few_wires v (app M N) d n k =
-    application_few v n k (subnet_of M d n (k + 1)) (subnet_of N d (n + 1) (k + 1 + length (subnet_of M d n (k + 1)).nodes)) (λ u. few_wires u M d n (k + 1))
+pub few_wires : (w : Translation) (v : ℕ) (t : Tree) (d n k : ℕ) → times v (subnet_of w t d n k).wires ≤ 1
+few_wires w v (var u) d n k = elim (nat_eq u v) as (λ b. (if b then 1 else 0) + 0 ≤ 1) [ true ↦ omega arith | false ↦ omega arith ]
+few_wires w v (free f) d n k = elim (nat_eq (d + f) v) as (λ b. (if b then 1 else 0) + 0 ≤ 1) [ true ↦ omega arith | false ↦ omega arith ]
+few_wires w v (lam M) d n k = omega (arith, times-outside v (subnet_of w M (d + 1) n (k + 1)).wires, few_wires w (suc v) M (d + 1) n (k + 1))
+few_wires w v (app M N) d n k =
+    applied_few v n k (bare_variable w d N) (subnet_of w M d n (k + 1)) (subnet_of w N d (n + 1) (k + 1 + length (subnet_of w M d n (k + 1)).nodes)) (λ u. few_wires w u M d n (k + 1))
 
-pub part_balance : (p : Port) (t : Tree) (d n k : ℕ) → Balanced p k (subnet_of t d n k)
-part_balance p (var v) d n k = omega arith
-part_balance p (free f) d n k = omega arith
-part_balance p (lam M) d n k = abstraction_balance p n k (subnet_of M (d + 1) n (k + 1)) (few_wires 0 M (d + 1) n (k + 1)) (part_balance p M (d + 1) n (k + 1))
-part_balance p (app M N) d n k =
-    application_balance p n k (subnet_of M d n (k + 1)) (subnet_of N d (n + 1) (k + 1 + length (subnet_of M d n (k + 1)).nodes))
-    (part_balance p M d n (k + 1)) (part_balance p N d (n + 1) (k + 1 + length (subnet_of M d n (k + 1)).nodes))
+pub part_balance : (w : Translation) (p : Port) (t : Tree) (d n k : ℕ) → Balanced p k (subnet_of w t d n k)
+part_balance w p (var v) d n k = omega arith
+part_balance w p (free f) d n k = omega arith
+part_balance w p (lam M) d n k = abstraction_balance p n k (subnet_of w M (d + 1) n (k + 1)) (few_wires w 0 M (d + 1) n (k + 1)) (part_balance w p M (d + 1) n (k + 1))
+part_balance w p (app M N) d n k =
+    applied_balance p n k (bare_variable w d N) (subnet_of w M d n (k + 1)) (subnet_of w N d (n + 1) (k + 1 + length (subnet_of w M d n (k + 1)).nodes))
+    (part_balance w p M d n (k + 1)) (part_balance w p N d (n + 1) (k + 1 + length (subnet_of w M d n (k + 1)).nodes))
 
 -- ---- a variable that is no abstraction's and no name has no wire
 
@@ -202,15 +232,22 @@ application_none v n k M N h e =
     none-fans v n (k + 1 + length M.nodes + length N.nodes + length N.wires) M.wires (past_brackets (k + 1 + length M.nodes + length N.nodes) N.wires) h
     (times-bracketed v (k + 1 + length M.nodes + length N.nodes) N.wires ∙ e)
 
-pub none_past : (v m : ℕ) (t : Tree) (d n k : ℕ) → is_below d t ≡ true → is_named_below m t ≡ true → d + m ≤ v → times v (subnet_of t d n k).wires ≡ 0
-none_past v m (var u) d n k h j e = let other : nat_eq u v ≡ false = grind (arith, nat_tests, h) in rw other refl
-none_past v m (free f) d n k h j e = let other : nat_eq (d + f) v ≡ false = grind (arith, nat_tests, j) in rw other refl
-none_past v m (lam M) d n k h j e = times-outside v (subnet_of M (d + 1) n (k + 1)).wires ∙ none_past (suc v) m M (d + 1) n (k + 1) h j (omega arith)
-none_past v m (app M N) d n k h j e =
+applied_none : (v n k : ℕ) (o : Option ℕ) (M N : Subnet) → HasOnly o N.wires → times v M.wires ≡ 0 → times v N.wires ≡ 0 → times v (applied n k o M N).wires ≡ 0
+applied_none v n k None M N only h e = application_none v n k M N h e
+applied_none v n k (Some y) M N (q, only) h e =
+    let own : times v ((y, q) ∷ []) ≡ 0 = subst (λ l. times v l ≡ 0) only e in
+    none-fans v n (k + 1 + length M.nodes) M.wires ((y, slot_port k 2) ∷ []) h own
+
+pub none_past : (w : Translation) (v m : ℕ) (t : Tree) (d n k : ℕ) → is_below d t ≡ true → is_named_below m t ≡ true → d + m ≤ v → times v (subnet_of w t d n k).wires ≡ 0
+none_past w v m (var u) d n k h j e = let other : nat_eq u v ≡ false = grind (arith, nat_tests, h) in rw other refl
+none_past w v m (free f) d n k h j e = let other : nat_eq (d + f) v ≡ false = grind (arith, nat_tests, j) in rw other refl
+none_past w v m (lam M) d n k h j e = times-outside v (subnet_of w M (d + 1) n (k + 1)).wires ∙ none_past w (suc v) m M (d + 1) n (k + 1) h j (omega arith)
+none_past w v m (app M N) d n k h j e =
     let bound = and_parts (is_below d M) (is_below d N) h in
     let named = and_parts (is_named_below m M) (is_named_below m N) j in
-    application_none v n k (subnet_of M d n (k + 1)) (subnet_of N d (n + 1) (k + 1 + length (subnet_of M d n (k + 1)).nodes))
-    (none_past v m M d n (k + 1) bound.0 named.0 e) (none_past v m N d (n + 1) (k + 1 + length (subnet_of M d n (k + 1)).nodes) bound.1 named.1 e)
+    applied_none v n k (bare_variable w d N) (subnet_of w M d n (k + 1)) (subnet_of w N d (n + 1) (k + 1 + length (subnet_of w M d n (k + 1)).nodes))
+    (bare_part w N d (n + 1) (k + 1 + length (subnet_of w M d n (k + 1)).nodes))
+    (none_past w v m M d n (k + 1) bound.0 named.0 e) (none_past w v m N d (n + 1) (k + 1 + length (subnet_of w M d n (k + 1)).nodes) bound.1 named.1 e)
 
 -- ---- a name that occurs has a wire
 
@@ -254,28 +291,35 @@ more-fans v n f wires (w ∷ more) h =
           more-fans v n f' (merged f (wire_of w.0 wires) w wires) more later)
     ] refl
 
-pub name_has_wire : (f : ℕ) (t : Tree) (d n k : ℕ) → has_name f t ≡ true → 1 ≤ times (d + f) (subnet_of t d n k).wires
-name_has_wire f (var u) d n k h = absurd (cc)
-name_has_wire f (free g) d n k h = let same : nat_eq (d + g) (d + f) ≡ true = grind (arith, nat_tests, h) in rw same (omega arith)
-name_has_wire f (lam M) d n k h =
-    let rest = name_has_wire f M (d + 1) n (k + 1) h in
+applied_kept : (v n k : ℕ) (o : Option ℕ) (M N : Subnet) → 1 ≤ times v M.wires → 1 ≤ times v (applied n k o M N).wires
+applied_kept v n k None M N h =
+    omega (arith, h, kept-fans v n (k + 1 + length M.nodes + length N.nodes + length N.wires) M.wires (past_brackets (k + 1 + length M.nodes + length N.nodes) N.wires))
+applied_kept v n k (Some y) M N h = omega (arith, h, kept-fans v n (k + 1 + length M.nodes) M.wires ((y, slot_port k 2) ∷ []))
+
+applied_more : (v n k : ℕ) (o : Option ℕ) (M N : Subnet) → HasOnly o N.wires → 1 ≤ times v N.wires → 1 ≤ times v (applied n k o M N).wires
+applied_more v n k None M N only h =
+    more-fans v n (k + 1 + length M.nodes + length N.nodes + length N.wires) M.wires (past_brackets (k + 1 + length M.nodes + length N.nodes) N.wires)
+    (omega (arith, h, times-bracketed v (k + 1 + length M.nodes + length N.nodes) N.wires))
+applied_more v n k (Some y) M N (q, only) h =
+    let own : 1 ≤ times v ((y, q) ∷ []) = subst (λ l. 1 ≤ times v l) only h in
+    more-fans v n (k + 1 + length M.nodes) M.wires ((y, slot_port k 2) ∷ []) own
+
+pub name_has_wire : (w : Translation) (f : ℕ) (t : Tree) (d n k : ℕ) → has_name f t ≡ true → 1 ≤ times (d + f) (subnet_of w t d n k).wires
+name_has_wire w f (var u) d n k h = absurd (cc)
+name_has_wire w f (free g) d n k h = let same : nat_eq (d + g) (d + f) ≡ true = grind (arith, nat_tests, h) in rw same (omega arith)
+name_has_wire w f (lam M) d n k h =
+    let rest = name_has_wire w f M (d + 1) n (k + 1) h in
     let place : d + 1 + f ≡ suc (d + f) = omega arith in
-    let here : 1 ≤ times (suc (d + f)) (subnet_of M (d + 1) n (k + 1)).wires = rw place at rest in
-    omega (arith, here, times-outside (d + f) (subnet_of M (d + 1) n (k + 1)).wires)
-name_has_wire f (app M N) d n k h =
-    let k' = k + 1 + length (subnet_of M d n (k + 1)).nodes in
-    let M' = subnet_of M d n (k + 1) in
-    let N' = subnet_of N d (n + 1) (k + 1 + length (subnet_of M d n (k + 1)).nodes) in
-    elim (has_name f M) as (λ b. has_name f M ≡ b → 1 ≤ times (d + f) (application n k M' N').wires) [
-      | true ↦ (λ t. omega (
-        arith,
-        name_has_wire f M d n (k + 1) t,
-        kept-fans (d + f) n (k + 1 + length M'.nodes + length N'.nodes + length N'.wires) M'.wires (past_brackets (k + 1 + length M'.nodes + length N'.nodes) N'.wires),
-      ))
+    let here : 1 ≤ times (suc (d + f)) (subnet_of w M (d + 1) n (k + 1)).wires = rw place at rest in
+    omega (arith, here, times-outside (d + f) (subnet_of w M (d + 1) n (k + 1)).wires)
+name_has_wire w f (app M N) d n k h =
+    let k' = k + 1 + length (subnet_of w M d n (k + 1)).nodes in
+    let M' = subnet_of w M d n (k + 1) in
+    let N' = subnet_of w N d (n + 1) (k + 1 + length (subnet_of w M d n (k + 1)).nodes) in
+    elim (has_name f M) as (λ b. has_name f M ≡ b → 1 ≤ times (d + f) (applied n k (bare_variable w d N) M' N').wires) [
+      | true ↦ (λ t. applied_kept (d + f) n k (bare_variable w d N) M' N' (name_has_wire w f M d n (k + 1) t))
       | false ↦ (λ t. let other : has_name f N ≡ true = rw t at h in
-          more-fans (d + f) n (k + 1 + length M'.nodes + length N'.nodes + length N'.wires) M'.wires (past_brackets (k + 1 + length M'.nodes + length N'.nodes) N'.wires)
-          (let there = name_has_wire f N d (n + 1) k' other in
-          omega (arith, there, times-bracketed (d + f) (k + 1 + length M'.nodes + length N'.nodes) N'.wires)))
+          applied_more (d + f) n k (bare_variable w d N) M' N' (bare_part w N d (n + 1) k') (name_has_wire w f N d (n + 1) k' other))
     ] refl
 
 -- ---- the whole term
@@ -286,8 +330,8 @@ uses_name_links p [] = omega arith
 uses_name_links p (w ∷ wires) = omega (arith, uses_name_links p wires)
 
 -- each slot_port stands in one link, and so do the free ports of the root and of the wires
-pub whole_balance : (p : Port) (t : Tree) → uses p (links_of t) ≡ slots p 0 (nodes_of t) + hit p (Free 0) + free_ends p (subnet_of t 0 0 0).wires
-whole_balance p t =
-    let P = subnet_of t 0 0 0 in
-    let part = part_balance p t 0 0 0 in
-    omega (arith, part, uses-append p (subnet_of t 0 0 0).links ((Free 0, (subnet_of t 0 0 0).root) ∷ name_links (subnet_of t 0 0 0).wires), uses_name_links p (subnet_of t 0 0 0).wires)
+pub whole_balance : (w : Translation) (p : Port) (t : Tree) → uses p (links_of w t) ≡ slots p 0 (nodes_of w t) + hit p (Free 0) + free_ends p (subnet_of w t 0 0 0).wires
+whole_balance w p t =
+    let P = subnet_of w t 0 0 0 in
+    let part = part_balance w p t 0 0 0 in
+    omega (arith, part, uses-append p (subnet_of w t 0 0 0).links ((Free 0, (subnet_of w t 0 0 0).root) ∷ name_links (subnet_of w t 0 0 0).wires), uses_name_links p (subnet_of w t 0 0 0).wires)

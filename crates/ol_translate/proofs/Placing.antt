@@ -5,6 +5,7 @@ use Rattle.std.proofs.lemmas.List.{get_or-set_same, get_or-set_other, length-set
 use Rattle.std.proofs.Math.ListN.{get_or-append}
 use Rattle.std.proofs.Math.Seq.{get_or-append_seam}
 use Rattle.ol_net.specs.declared.parts.Port.{Port}
+use Rattle.ol_term.specs.declared.translations.Translation.{Translation}
 use Rattle.ol_term.specs.Trees.{Tree}
 use Rattle.ol_translate.specs.Translation.{Wires, wire_of, reconnected, subnet_of}
 use Rattle.ol_translate.specs.Growth.{IsPlaced, HaveOneEach, IsIndex}
@@ -39,8 +40,8 @@ one_each wires few i j w hi hj e = apart i j
     (λ o. let two = times-two wires i j w o hj e in let one = few (get_or wires j w).0 in absurd (omega arith))
     (λ o. let two = times-two wires j i w o hi (sym e) in let one = few (get_or wires i w).0 in absurd (omega arith))
 
-pub part_has_one_each : (t : Tree) (d n k : ℕ) (wires : Wires) → wires ≡ (subnet_of t d n k).wires → HaveOneEach wires
-part_has_one_each t d n k wires e = subst HaveOneEach (sym e) (one_each (subnet_of t d n k).wires (λ v. few_wires v t d n k))
+pub part_has_one_each : (w : Translation) (t : Tree) (d n k : ℕ) (wires : Wires) → wires ≡ (subnet_of w t d n k).wires → HaveOneEach wires
+part_has_one_each w t d n k wires e = subst HaveOneEach (sym e) (one_each (subnet_of w t d n k).wires (λ v. few_wires w v t d n k))
 
 -- ---- wires without one variable
 

@@ -2,13 +2,14 @@
 use Rattle.std.proofs.Common.{◌≡◌, ℕ, suc, ◌≤◌, ◌+◌, ◌-◌, List, [], ◌∷◌, ◌++◌, length, map, filter, true, false, Bool, not, ◌||◌, cond, nat_eq, nat_lt, Option, None, Some, is_some, refl, ap, sym, ◌∙◌, arith, length-append, zero-add, eq-eqb, append_assoc, append-nil, if◌then◌else◌}
 use Rattle.std.proofs.lemmas.Bool.Decides.{nat_tests}
 use Rattle.std.proofs.lemmas.List.Folds.{list_any-append}
+use Rattle.ol_term.specs.declared.translations.Translation.{Translation}
 use Rattle.ol_term.specs.Trees.{Tree, var, free, lam, app}
 use Rattle.ol_net.specs.declared.parts.Kind.TheVariants as kind
 use Rattle.ol_net.specs.declared.parts.Port.{Port}
-use Rattle.ol_translate.specs.Translation.{Subnet, Wires, subnet_of, application, outside, erasers, bracket_nodes, past_brackets, fans, fan_nodes, merged, wire_of, reconnected, slot_port, nodes_of}
-use Rattle.ol_translate.specs.Sizes.{is_listed, variables, size_under, size_of_translation}
+use Rattle.ol_translate.specs.Translation.{Subnet, Wires, subnet_of, application, applied, bare_variable, outside, erasers, bracket_nodes, past_brackets, fans, fan_nodes, merged, wire_of, reconnected, slot_port, nodes_of}
+use Rattle.ol_translate.specs.Sizes.{is_listed, variables, size_of_argument, size_under, size_of_translation}
 use Rattle.ol_translate.proofs.Counts.{times}
-use Rattle.ol_translate.proofs.Joints.{few_wires, times-bracketed}
+use Rattle.ol_translate.proofs.Joints.{few_wires, times-bracketed, HasOnly, bare_part}
 use Rattle.ol_translate.proofs.Walks.{length-bracket_nodes}
 
 -- the variables of wires
@@ -179,43 +180,71 @@ length-application n k M N h =
       length-keys N.wires,
     )
 
+-- ---- an application to a variable
+
+differ-single : (v : ℕ) (p : Port) → Differ ((v, p) ∷ [])
+differ-single v p u = elim (nat_eq v u) as (λ b. (if b then 1 else 0) + 0 ≤ 1) [ true ↦ omega arith | false ↦ omega arith ]
+
+keys-applied : (n k : ℕ) (o : Option ℕ) (M N : Subnet) → HasOnly o N.wires → Differ N.wires
+    → keys (applied n k o M N).wires ≡ keys M.wires ++ filter (λ v. not (is_listed v (keys M.wires))) (keys N.wires)
+keys-applied n k None M N only h = keys-application n k M N h
+keys-applied n k (Some y) M N (q, only) h =
+    keys-fans n (k + 1 + length M.nodes) M.wires ((y, slot_port k 2) ∷ []) (differ-single y (slot_port k 2))
+    ∙ sym (ap (λ (l : Wires). keys M.wires ++ filter (λ v. not (is_listed v (keys M.wires))) (keys l)) only)
+
+length-single : (y : ℕ) (vs : List ℕ) → length (filter (λ v. is_listed v vs) (y ∷ [])) ≡ (if is_listed y vs then 1 else 0)
+length-single y vs = elim (is_listed y vs) as (λ b. length (cond b (y ∷ []) []) ≡ (if b then 1 else 0)) [ true ↦ refl | false ↦ refl ]
+
+length-applied : (n k : ℕ) (o : Option ℕ) (M N : Subnet) → Differ N.wires
+    → length (applied n k o M N).nodes ≡ 1 + length M.nodes + size_of_argument o (length N.nodes) (keys M.wires) (keys N.wires)
+length-applied n k None M N h = omega (arith, length-application n k M N h)
+length-applied n k (Some y) M N h =
+    let F = fans n (k + 1 + length M.nodes) M.wires ((y, slot_port k 2) ∷ []) in
+    omega (
+      arith,
+      length-append M.nodes F.nodes,
+      length-fans n (k + 1 + length M.nodes) M.wires ((y, slot_port k 2) ∷ []) (differ-single y (slot_port k 2)),
+      length-single y (keys M.wires),
+    )
+
 -- ---- terms
 
-pub wires_of_variables : (t : Tree) (d n k : ℕ) → keys (subnet_of t d n k).wires ≡ variables d t
-wires_of_variables (var v) d n k = refl
-wires_of_variables (free f) d n k = refl
-wires_of_variables (lam M) d n k =
-    keys-outside (subnet_of M (d + 1) n (k + 1)).wires
-    ∙ ap (λ l. map (λ v. v - 1) (filter (λ v. nat_lt 0 v) l)) (wires_of_variables M (d + 1) n (k + 1))
-wires_of_variables (app M N) d n k =
-    let k' = k + 1 + length (subnet_of M d n (k + 1)).nodes in
-    keys-application n k (subnet_of M d n (k + 1)) (subnet_of N d (n + 1) (k + 1 + length (subnet_of M d n (k + 1)).nodes))
-    (λ v. few_wires v N d (n + 1) (k + 1 + length (subnet_of M d n (k + 1)).nodes))
-    ∙ ap (λ l. l ++ filter (λ v. not (is_listed v l)) (keys (subnet_of N d (n + 1) k').wires)) (wires_of_variables M d n (k + 1))
-    ∙ ap (λ l. variables d M ++ filter (λ v. not (is_listed v (variables d M))) l) (wires_of_variables N d (n + 1) k')
+pub wires_of_variables : (w : Translation) (t : Tree) (d n k : ℕ) → keys (subnet_of w t d n k).wires ≡ variables d t
+wires_of_variables w (var v) d n k = refl
+wires_of_variables w (free f) d n k = refl
+wires_of_variables w (lam M) d n k =
+    keys-outside (subnet_of w M (d + 1) n (k + 1)).wires
+    ∙ ap (λ l. map (λ v. v - 1) (filter (λ v. nat_lt 0 v) l)) (wires_of_variables w M (d + 1) n (k + 1))
+wires_of_variables w (app M N) d n k =
+    let k' = k + 1 + length (subnet_of w M d n (k + 1)).nodes in
+    keys-applied n k (bare_variable w d N) (subnet_of w M d n (k + 1)) (subnet_of w N d (n + 1) (k + 1 + length (subnet_of w M d n (k + 1)).nodes))
+    (bare_part w N d (n + 1) (k + 1 + length (subnet_of w M d n (k + 1)).nodes))
+    (λ v. few_wires w v N d (n + 1) (k + 1 + length (subnet_of w M d n (k + 1)).nodes))
+    ∙ ap (λ l. l ++ filter (λ v. not (is_listed v l)) (keys (subnet_of w N d (n + 1) k').wires)) (wires_of_variables w M d n (k + 1))
+    ∙ ap (λ l. variables d M ++ filter (λ v. not (is_listed v (variables d M))) l) (wires_of_variables w N d (n + 1) k')
 
-pub size_of_part : (t : Tree) (d n k : ℕ) → length (subnet_of t d n k).nodes ≡ size_under d t
-size_of_part (var v) d n k = refl
-size_of_part (free f) d n k = refl
-size_of_part (lam M) d n k =
-    let body = subnet_of M (d + 1) n (k + 1) in
-    let size = size_of_part M (d + 1) n (k + 1) in
-    let bound : length (erasers (wire_of 0 (subnet_of M (d + 1) n (k + 1)).wires)) ≡ (if is_listed 0 (variables (d + 1) M) then 0 else 1) =
-    length-erasers (wire_of 0 (subnet_of M (d + 1) n (k + 1)).wires)
-    ∙ ap (λ b. if b then 0 else 1) (sym (among_keys 0 (subnet_of M (d + 1) n (k + 1)).wires))
-    ∙ ap (λ l. if is_listed 0 l then 0 else 1) (wires_of_variables M (d + 1) n (k + 1)) in
-    omega (arith, size, bound, length-append (subnet_of M (d + 1) n (k + 1)).nodes (erasers (wire_of 0 (subnet_of M (d + 1) n (k + 1)).wires)))
-size_of_part (app M N) d n k =
-    let M' = subnet_of M d n (k + 1) in
-    let N' = subnet_of N d (n + 1) (k + 1 + length (subnet_of M d n (k + 1)).nodes) in
-    let sizes = length-application n k M' N' (λ v. few_wires v N d (n + 1) (k + 1 + length (subnet_of M d n (k + 1)).nodes)) in
-    let left = size_of_part M d n (k + 1) in
-    let right = size_of_part N d (n + 1) (k + 1 + length (subnet_of M d n (k + 1)).nodes) in
-    let brackets : length (keys N'.wires) ≡ length (variables d N) = ap length (wires_of_variables N d (n + 1) (k + 1 + length (subnet_of M d n (k + 1)).nodes)) in
-    let shared : length (filter (λ v. is_listed v (keys M'.wires)) (keys N'.wires)) ≡ length (filter (λ v. is_listed v (variables d M)) (variables d N)) =
-    ap (λ l. length (filter (λ v. is_listed v l) (keys N'.wires))) (wires_of_variables M d n (k + 1))
-    ∙ ap (λ l. length (filter (λ v. is_listed v (variables d M)) l)) (wires_of_variables N d (n + 1) (k + 1 + length (subnet_of M d n (k + 1)).nodes)) in
-    omega (arith, sizes, left, right, brackets, shared)
+pub size_of_part : (w : Translation) (t : Tree) (d n k : ℕ) → length (subnet_of w t d n k).nodes ≡ size_under w d t
+size_of_part w (var v) d n k = refl
+size_of_part w (free f) d n k = refl
+size_of_part w (lam M) d n k =
+    let size = size_of_part w M (d + 1) n (k + 1) in
+    let bound : length (erasers (wire_of 0 (subnet_of w M (d + 1) n (k + 1)).wires)) ≡ (if is_listed 0 (variables (d + 1) M) then 0 else 1) =
+    length-erasers (wire_of 0 (subnet_of w M (d + 1) n (k + 1)).wires)
+    ∙ ap (λ b. if b then 0 else 1) (sym (among_keys 0 (subnet_of w M (d + 1) n (k + 1)).wires))
+    ∙ ap (λ l. if is_listed 0 l then 0 else 1) (wires_of_variables w M (d + 1) n (k + 1)) in
+    omega (arith, size, bound, length-append (subnet_of w M (d + 1) n (k + 1)).nodes (erasers (wire_of 0 (subnet_of w M (d + 1) n (k + 1)).wires)))
+size_of_part w (app M N) d n k =
+    let o = bare_variable w d N in
+    let k' = k + 1 + length (subnet_of w M d n (k + 1)).nodes in
+    let M' = subnet_of w M d n (k + 1) in
+    let N' = subnet_of w N d (n + 1) k' in
+    let sizes = length-applied n k o M' N' (λ v. few_wires w v N d (n + 1) k') in
+    let left = size_of_part w M d n (k + 1) in
+    let argument : size_of_argument o (length N'.nodes) (keys M'.wires) (keys N'.wires) ≡ size_of_argument o (size_under w d N) (variables d M) (variables d N) =
+    ap (λ m. size_of_argument o m (keys M'.wires) (keys N'.wires)) (size_of_part w N d (n + 1) k')
+    ∙ ap (λ l. size_of_argument o (size_under w d N) l (keys N'.wires)) (wires_of_variables w M d n (k + 1))
+    ∙ ap (λ l. size_of_argument o (size_under w d N) (variables d M) l) (wires_of_variables w N d (n + 1) k') in
+    omega (arith, sizes, left, argument)
 
-pub size_of_nodes : (t : Tree) → length (nodes_of t) ≡ size_of_translation t
-size_of_nodes t = size_of_part t 0 0 0
+pub size_of_nodes : (w : Translation) (t : Tree) → length (nodes_of w t) ≡ size_of_translation w t
+size_of_nodes w t = size_of_part w t 0 0 0

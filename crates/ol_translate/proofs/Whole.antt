@@ -2,6 +2,7 @@
 use Rattle.std.proofs.Common.{◌≡◌, ℕ, suc, ◌≤◌, ◌+◌, List, [], ◌∷◌, map, true, false, Bool, Option, Some, None, nat_lt, ◌⊎◌, inl, inr, refl, sym, ap, ◌∙◌, subst, arith}
 use Rattle.std.proofs.lemmas.Bool.Decides.{nat_tests}
 use Rattle.ol_edges.specs.Edges.{IsIn, Near}
+use Rattle.ol_term.specs.declared.translations.Translation.{Translation}
 use Rattle.ol_term.specs.Trees.{Tree}
 use Rattle.ol_net.specs.declared.parts.Kind.{Kind}
 use Rattle.ol_net.specs.declared.parts.Port.{Port}
@@ -204,5 +205,5 @@ module _ (ports : ℕ) (nodes : List (Kind × ℕ)) (links : List (Port × Port)
         linked p (some_partner links (port_of p) (omega (arith, once (port_of p), b)));
   }
 
-pub translation_net : (t : Tree) (names : ℕ) → HasNames t names → IsNet (translation_of t names)
-translation_net t names h = parts_net (1 + names) (nodes_of t) (links_of t) (each_port_once t names h)
+pub translation_net : (w : Translation) (t : Tree) (names : ℕ) → HasNames t names → IsNet (translation_of w t names)
+translation_net w t names h = parts_net (1 + names) (nodes_of w t) (links_of w t) (each_port_once w t names h)

@@ -1,7 +1,10 @@
--- The translation of a term, case by case: nodes in order of their numbers, and links of ports
--- (Gonthier, Abadi and Lévy, The geometry of optimal lambda reduction, 1992).
+-- The two translations of a term, case by case: nodes in order of their numbers, and links of ports
+-- (Gonthier, Abadi and Lévy, The geometry of optimal lambda reduction, 1992). Translation 2 has one case more, for an
+-- application to a variable.
 use Rattle.std.specs.Prelude.{ℕ, ◌+◌, ◌-◌, List, [], ◌∷◌, ◌++◌, length, map, filter, find, nat_lt, ◌==◌, Option, None, Some, if◌then◌else◌}
 use Rattle.std.specs.Option.{option_map}
+use Rattle.ol_term.specs.declared.translations.Translation.{Translation}
+use Rattle.ol_term.specs.declared.translations.Translation.TheVariants.{One, Two}
 use Rattle.ol_term.specs.Trees.{Tree, var, free, lam, app}
 use Rattle.ol_net.specs.declared.parts.Kind.{Kind}
 use Rattle.ol_net.specs.declared.parts.Kind.TheVariants as kind
@@ -121,28 +124,55 @@ application n k M N =
       wires = F.wires;
     }
 
+-- ---- an application to a variable, in translation 2
+
+-- the variable that an argument is, where translation 2 takes its wire in place of a part of its own
+abbrev pub bare_variable : Translation → (d : ℕ) → Tree → Option ℕ
+bare_variable One d N = None
+bare_variable Two d (var v) = Some v
+bare_variable Two d (free f) = Some (d + f)
+bare_variable Two d (lam M) = None
+bare_variable Two d (app M N) = None
+
+-- application n; the nodes of M at level n; a fan n where y is free in M. The wire of y is slot_port 2 of the application:
+-- it is slot_port 2 of the fan, or stands towards the binder itself.
+abbrev pub application_to : (n k y : ℕ) → Subnet → Subnet
+application_to n k y M =
+    let F = fans n (k + 1 + length M.nodes) M.wires ((y, slot_port k 2) ∷ []) in
+    record {
+      nodes = ((kind.App, n) ∷ M.nodes) ++ F.nodes;
+      links = M.links ++ (slot_port k 0, M.root) ∷ F.links;
+      root = slot_port k 1;
+      wires = F.wires;
+    }
+
+-- an application to a variable that is its wire, or to the part of another argument
+abbrev pub applied : (n k : ℕ) → Option ℕ → Subnet → Subnet → Subnet
+applied n k None M N = application n k M N
+applied n k (Some y) M N = application_to n k y M
+
 -- ---- terms
 
 -- a term under d abstractions and at level n, whose first node has number k
-abbrev pub subnet_of : Tree → (d n k : ℕ) → Subnet
-subnet_of (var v) d n k = occurrence v n k
-subnet_of (free f) d n k = occurrence (d + f) n k
-subnet_of (lam M) d n k = abstraction n k (subnet_of M (d + 1) n (k + 1))
-subnet_of (app M N) d n k =
-    let left = subnet_of M d n (k + 1) in
-    application n k left (subnet_of N d (n + 1) (k + 1 + length left.nodes))
+abbrev pub subnet_of : Translation → Tree → (d n k : ℕ) → Subnet
+subnet_of w (var v) d n k = occurrence v n k
+subnet_of w (free f) d n k = occurrence (d + f) n k
+subnet_of w (lam M) d n k = abstraction n k (subnet_of w M (d + 1) n (k + 1))
+subnet_of w (app M N) d n k =
+    let left = subnet_of w M d n (k + 1) in
+    applied n k (bare_variable w d N) left (subnet_of w N d (n + 1) (k + 1 + length left.nodes))
 
 -- the wire of free name f is joined to free port f + 1
 abbrev pub name_links : Wires → List (Port × Port)
 name_links wires = map (λ (w : ℕ × Port). (Free (w.0 + 1), w.1)) wires
 
 -- the whole term stands at level 0, its root joined to free port 0
-abbrev pub nodes_of : Tree → List (Kind × ℕ)
-nodes_of t = (subnet_of t 0 0 0).nodes
+abbrev pub nodes_of : Translation → Tree → List (Kind × ℕ)
+nodes_of w t = (subnet_of w t 0 0 0).nodes
 
-abbrev pub links_of : Tree → List (Port × Port)
-links_of t = let P = subnet_of t 0 0 0 in P.links ++ (Free 0, P.root) ∷ name_links P.wires
+abbrev pub links_of : Translation → Tree → List (Port × Port)
+links_of w t = let P = subnet_of w t 0 0 0 in P.links ++ (Free 0, P.root) ∷ name_links P.wires
 
 -- the net of a term with so many free names
-abbrev pub translation_of : Tree → ℕ → NamedNet ℕ
-translation_of t names = net_of_parts (1 + names) (nodes_of t) (links_of t)
+abbrev pub translation_of : Translation → Tree → ℕ → NamedNet ℕ
+translation_of w t names = net_of_parts (1 + names) (nodes_of w t) (links_of w t)

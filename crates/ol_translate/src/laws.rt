@@ -1,8 +1,8 @@
-//! The law of the translation.
+//! The law of the translations.
 
 ghost use Rattle.ol_translate.specs.Laws.{TranslationIsNet};
 
-/// The translation of a term is a net.
+/// Each translation of a term is a net.
 pub fn translation_is_a_net()
     ensures { TranslationIsNet }
 {}

@@ -11,19 +11,22 @@ ghost use Rattle.ol_translate.specs.declared.faults.TransFault.TheVariants.{TooM
 use crate::faults::TransFault;
 use crate::index::Index;
 use crate::parts::Parts;
-use crate::wires::{Ends, Wire, find_wire, slot_of};
+use crate::wires::{Ends, Wire, bare_variable, find_wire, slot_of};
 use ol_net::{Kind, Port};
-use ol_term::Term;
+use ol_term::{Term, Translation};
 use std::alloc::Global;
 
 impl Parts {
     /// A whole term, at level 0. Its root is joined to free port 0, and the wire of each name to
     /// the name's free port.
-    pub fn whole(alloc: Global, term: &Term) -> Result<Parts, TransFault>
+    pub fn whole(alloc: Global, term: &Term, translation: Translation) -> Result<Parts, TransFault>
         requires { (names : ℕ) × HasNames (tree_of term.now) names }
-        ensures nodes { IfOk result (λ parts. parts.nodes.items ≡ nodes_of (tree_of term.now)) }
-        ensures links { IfOk result (λ parts. parts.links.items ≡ links_of (tree_of term.now)) }
-        ensures too_many { IfErr result (λ e. OnlyAbove (length (nodes_of (tree_of term.now))) e) }
+        ensures nodes { IfOk result (λ parts.
+            parts.nodes.items ≡ nodes_of translation (tree_of term.now)) }
+        ensures links { IfOk result (λ parts.
+            parts.links.items ≡ links_of translation (tree_of term.now)) }
+        ensures too_many { IfErr result (λ e.
+            OnlyAbove (length (nodes_of translation (tree_of term.now))) e) }
     {
         let mut parts = Parts {
             alloc,
@@ -31,7 +34,7 @@ impl Parts {
             links: Vec::new(alloc),
             index: Index::new(alloc),
         };
-        let ends = parts.part(term, 0, 0)?;
+        let ends = parts.part(translation, term, 0, 0)?;
         parts.join(Port::Free(0), ends.root)?;
         parts.join_names(&ends.wires)?;
         Ok(parts)
@@ -52,28 +55,42 @@ impl Parts {
     }
 
     /// A term under so many abstractions and at a level.
-    pub fn part(&mut self, term: &Term, depth: usize, level: u32) -> Result<Ends, TransFault>
+    pub fn part(
+        &mut self,
+        translation: Translation,
+        term: &Term,
+        depth: usize,
+        level: u32,
+    ) -> Result<Ends, TransFault>
         requires few_abstractions { depth ≤ length self.old.nodes.items }
         requires few_levels { level ≤ length self.old.nodes.items }
         ensures lays { IfOk result (λ ends. Lays self.old
-            (subnet_of (tree_of term.now) depth level (next_number self.old)) self.new ends) }
+            (subnet_of translation (tree_of term.now) depth level (next_number self.old))
+            self.new ends) }
         ensures too_many { IfErr result (λ e.
             let b = next_number self.old in
-            OnlyAbove (b + length (subnet_of (tree_of term.now) depth level b).nodes) e) }
+            OnlyAbove (b + length (subnet_of translation (tree_of term.now) depth level b).nodes)
+            e) }
     {
         match term {
             Term::Var(variable) => self.occurrence(*variable as usize, level),
             Term::Free(name) => self.occurrence(depth + *name as usize, level),
             Term::Lam(body) => {
                 let number = self.add(Kind::Lam, level)?;
-                let body = self.part(body, depth + 1, level)?;
+                let body = self.part(translation, body, depth + 1, level)?;
                 self.abstraction(number, &body)
             }
             Term::App(function, argument) => {
+                let variable = bare_variable(translation, depth, argument);
                 let number = self.add(Kind::App, level)?;
-                let function = self.part(function, depth, level)?;
-                let argument = self.part(argument, depth, level + 1)?;
-                self.application(number, level, function, &argument)
+                let function = self.part(translation, function, depth, level)?;
+                match variable {
+                    Some(variable) => self.application_to(number, level, variable, function),
+                    None => {
+                        let argument = self.part(translation, argument, depth, level + 1)?;
+                        self.application(number, level, function, &argument)
+                    }
+                }
             }
         }
     }
@@ -151,6 +168,37 @@ impl Parts {
         self.join(slot_of(number, 2), argument.root)?;
         let bracketed = self.brackets(level, &argument.wires)?;
         self.fans(level, &mut wires, &bracketed)?;
+        Ok(Ends {
+            root: slot_of(number, 1),
+            wires,
+        })
+    }
+
+    /// The joins of application `number` to a variable, after the nodes of its function. Slot 2 of
+    /// the application is the variable's wire.
+    fn application_to(
+        &mut self,
+        number: u32,
+        level: u32,
+        variable: usize,
+        function: Ends,
+    ) -> Result<Ends, TransFault>
+        requires one_each { HaveOneEach function.wires.items }
+        ensures adds { IfOk result (λ ends.
+            let more = (variable, slot_port number 2) ∷ [] in
+            let F = fans level (next_number self.old) function.wires.items more in
+            Adds self.old self.new F.nodes ((slot_port number 0, function.root) ∷ F.links)
+            × (ends.root ≡ slot_port number 1) × (ends.wires.items ≡ F.wires)) }
+        ensures too_many { IfErr result (λ e.
+            let b = next_number self.old in
+            let more = (variable, slot_port number 2) ∷ [] in
+            OnlyAbove (b + length (fans level b function.wires.items more).nodes) e) }
+    {
+        let mut wires = function.wires;
+        self.join(slot_of(number, 0), function.root)?;
+        let mut more = Vec::new(self.alloc);
+        more.push((variable, slot_of(number, 2)))?;
+        self.fans(level, &mut wires, &more)?;
         Ok(Ends {
             root: slot_of(number, 1),
             wires,

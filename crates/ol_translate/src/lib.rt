@@ -19,16 +19,16 @@ mod wires;
 pub use faults::TransFault;
 pub use laws::translation_is_a_net;
 use ol_net::{BuildFault, Net};
-use ol_term::TermFile;
+use ol_term::{TermFile, Translation};
 use parts::Parts;
 use std::alloc::Global;
 
 /// The most nodes that a translated term has.
 const MOST_NODES: usize = 200_000;
 
-/// The net of a term: Lamping's graph of it, with croissants and brackets for levels (Gonthier,
-/// Abadi and Lévy, The geometry of optimal lambda reduction, 1992; which of their variants it is,
-/// this says).
+/// The net of a term by one of the two translations: Lamping's graph of it, with croissants and
+/// brackets for levels (Gonthier, Abadi and Lévy, The geometry of optimal lambda reduction, 1992;
+/// which of their variants it is, this says).
 ///
 /// The root, at level 0, is joined to free port 0, and free name k, from 0, has free port k + 1. An
 /// occurrence at level n is a croissant n; an abstraction is an abstraction node n, whose body
@@ -38,6 +38,11 @@ const MOST_NODES: usize = 200_000;
 /// in order of first occurrence in the argument. Slot 0 of an occurrence, of a bracket and of a fan
 /// is on the side of the binder.
 ///
+/// Translation 2 has one case more, tried before that of an application: where the argument is a
+/// variable, it has no node of its own, and slot 2 of the application is the variable's wire. Where
+/// the variable is free in the function too, a fan n joins the function's wire, at slot 1, with it,
+/// at slot 2.
+///
 /// Nodes are numbered from 0 in preorder: a node before those of its subterms, the function before
 /// the argument, an eraser after its abstraction's body, and brackets and then fans after both
 /// terms of their application.
@@ -45,21 +50,26 @@ const MOST_NODES: usize = 200_000;
 /// Each name of the file occurs in its term, whose depth is at most 1,000, as in every file that is
 /// parsed: so there are no more names than nodes. `TooMany` comes exactly where the net would have
 /// more than 200,000 nodes; nothing is built past that. `NoMemory`: no memory was found.
-pub fn translate(alloc: Global, file: &TermFile) -> Result<Net, TransFault>
+pub fn translate(
+    alloc: Global,
+    file: &TermFile,
+    translation: Translation,
+) -> Result<Net, TransFault>
     requires each_name { EachOccurs (length file.now.names) (tree_of file.now.term) }
     requires shallow { depth (tree_of file.now.term) ≤ 1000 }
     ensures net { IfOk result (λ net. SameNet (net_of net)
-        (translation_of (tree_of file.now.term) (length file.now.names))) }
-    ensures numbers { IfOk result (λ net. net.nodes ≡ all_live (nodes_of (tree_of file.now.term))) }
+        (translation_of translation (tree_of file.now.term) (length file.now.names))) }
+    ensures numbers { IfOk result (λ net.
+        net.nodes ≡ all_live (nodes_of translation (tree_of file.now.term))) }
     ensures size { IfOk result (λ net.
-        length net.nodes ≡ size_of_translation (tree_of file.now.term)) }
+        length net.nodes ≡ size_of_translation translation (tree_of file.now.term)) }
     ensures free { IfOk result (λ net. net.free ≡ length file.now.names + 1) }
     ensures few_names { IfOk result (λ net. length file.now.names ≤ length net.nodes) }
     ensures indexes { IfOk result (λ net. top_index_of net.nodes ≤ 1000000) }
     ensures too_many { result ≢ Err TransFault.NoMemory → ((result ≡ Err TransFault.TooMany)
-        ↔ (200000 < size_of_translation (tree_of file.now.term))) }
+        ↔ (200000 < size_of_translation translation (tree_of file.now.term))) }
 {
-    let parts = Parts::whole(alloc, &file.term)?;
+    let parts = Parts::whole(alloc, &file.term, translation)?;
     match Net::build(alloc, file.names.len() + 1, parts.nodes, parts.links) {
         Ok(net) => Ok(net),
         Err(fault) => match fault {

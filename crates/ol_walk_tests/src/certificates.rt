@@ -8,7 +8,7 @@ use ol_invariance::run_kept;
 use ol_parse::parse;
 use ol_readback::{HeadVar, ReadNode, ReadTree, read_back};
 use ol_rules::Ended;
-use ol_term::{Term, TermFile, depth, print_term, size};
+use ol_term::{Term, TermFile, Translation, depth, print_term, size};
 use ol_translate::translate;
 use std::alloc::Global;
 use std::test::Fail;
@@ -19,7 +19,9 @@ fn read(alloc: Global, input: &str, heads: u32) -> Result<ReadTree, Fail> {
         return Err(Fail::from("too long"));
     }
     let file = parse(alloc, input.as_bytes()).ok().ok_or("no term")?;
-    let mut net = translate(alloc, &file).ok().ok_or("no net")?;
+    let mut net = translate(alloc, &file, Translation::One)
+        .ok()
+        .ok_or("no net")?;
     if net.nodes() > 200_000 || net.free_ports() < 1 {
         return Err(Fail::from("too large"));
     }
@@ -41,7 +43,7 @@ fn source(alloc: Global, input: &str) -> Result<TermFile, Fail>
         return Err(Fail::from("too long"));
     }
     let file = parse(alloc, input.as_bytes()).ok().ok_or("no term")?;
-    let Ok(net) = translate(alloc, &file) else {
+    let Ok(net) = translate(alloc, &file, Translation::One) else {
         return Err(Fail::from("no net"));
     };
     if net.born() > 200_000 {

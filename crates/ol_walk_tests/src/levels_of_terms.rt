@@ -7,6 +7,7 @@ use ol_context::{Context, OpenWalk, Shape, Steps, Val, Values, Walk, walk, walk_
 use ol_io::NoMemory;
 use ol_net::Net;
 use ol_parse::parse;
+use ol_term::Translation;
 use ol_translate::translate;
 use std::alloc::{AllocError, Global};
 use std::marker::Brand;
@@ -92,7 +93,9 @@ fn net_of(alloc: Global, input: &str) -> Result<Net, Fail> {
         return Err(Fail::from("too long"));
     }
     let file = parse(alloc, input.as_bytes()).ok().ok_or("no term")?;
-    let net = translate(alloc, &file).ok().ok_or("no net")?;
+    let net = translate(alloc, &file, Translation::One)
+        .ok()
+        .ok_or("no net")?;
     Ok(net)
 }
 
