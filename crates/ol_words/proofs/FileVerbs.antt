@@ -21,7 +21,7 @@ use Rattle.ol_words.proofs.Matched.{told, given_once, first_told}
 use Rattle.ol_words.proofs.Passing.{few, level}
 use Rattle.ol_words.proofs.FixedRules.{Reads}
 
-setting_given : (limits : Limits) (vs : List Text) → nat_lt (length vs) 2 ≡ true → setting limits vs ≡ setting_by limits (given_once vs)
+pub setting_given : (limits : Limits) (vs : List Text) → nat_lt (length vs) 2 ≡ true → setting limits vs ≡ setting_by limits (given_once vs)
 setting_given limits [] e = refl
 setting_given limits (v ∷ []) e = refl
 setting_given limits (v ∷ w ∷ vs) e = absurd (grind (arith, nat_tests))

@@ -4,7 +4,7 @@ use Rattle.std.specs.List.{list_all}
 use Rattle.std.specs.Option.{option_map_or}
 use Rattle.std.proofs.lemmas.Bool.{and_from, or_right}
 use Rattle.clap.specs.Lexer.{long_of}
-use Rattle.clap.specs.Walk.{Held, Rule, Step, Walk, after_step, arg_by_index, finished, first_of, idle, long_or_other, nothing_held, rows_after, short_or_plain, to_positional, trailing, value, walk_from, walked, word_met}
+use Rattle.clap.specs.Walk.{Held, Rule, Step, Walk, after_step, arg_by_index, finished, first_of, idle, long_or_other, nothing_held, option, plain_word, rows_after, short_or_plain, to_positional, trailing, value, walk_from, walked, word_met}
 use Rattle.clap.specs.Simple.{Shape}
 use Rattle.clap.specs.Takes.{bundle_passes, default_passes, flag_word_passes, is_valid, level_passes, other_passes, settle_passes, step_passes, turn_passes, walk_passes}
 use Rattle.ol_words.specs.Texts.{Text}
@@ -54,13 +54,15 @@ module _ (rules : List Rule) (verb : Text) (h : Held) (position : ℕ) (word : T
   unfolding walked
   step_plain plain = ap (λ (m : Held × Step). after_step rules word (idle_at h position false) m.0 m.1) (met_plain plain)
 
+  pub other_plain : is_dashed word ≡ false → other_passes (shape_with verb rules) None word h ≡ true
+  other_plain plain =
+      or_right _ _ (ap (λ (l : Option (Text × Option Text)). flag_word_passes rules false l word h) (plain_long word plain)
+      ∙ ap (λ (s : Option Text). option_map_or (λ flags. bundle_passes rules false flags h) s true) (plain_short word plain))
+
   pub pass_plain : is_dashed word ≡ false → step_passes (shape_with verb rules) position h value ≡ true
       → turn_passes (shape_with verb rules) [] (idle_at h position false) word ≡ true
   pass_plain plain ok =
-      let free : other_passes (shape_with verb rules) None word h ≡ true =
-      or_right _ _ (ap (λ (l : Option (Text × Option Text)). flag_word_passes rules false l word h) (plain_long word plain)
-      ∙ ap (λ (s : Option Text). option_map_or (λ flags. bundle_passes rules false flags h) s true) (plain_short word plain)) in
-      and_from _ _ free (ap (λ (m : Held × Step). step_passes (shape_with verb rules) position m.0 m.1) (met_plain plain) ∙ ok)
+      and_from _ _ (other_plain plain) (ap (λ (m : Held × Step). step_passes (shape_with verb rules) position m.0 m.1) (met_plain plain) ∙ ok)
 
   -- and so does each word behind `--`
   pub step_trailing : walked rules [] (idle_at h position true) word ≡ to_positional rules (arg_by_index rules position) word (idle_at h position true) h
@@ -69,6 +71,13 @@ module _ (rules : List Rule) (verb : Text) (h : Held) (position : ℕ) (word : T
 
   pub pass_trailing : step_passes (shape_with verb rules) position h value ≡ true → turn_passes (shape_with verb rules) [] (idle_at h position true) word ≡ true
   pass_trailing ok = ok
+
+-- a word that is no option is the value of the one that waits
+pub met_waiting : (rules : List Rule) (h : Held) (position : ℕ) (word o : Text) → is_dashed word ≡ false
+    → word_met rules [] false (option o) position word h ≡ plain_word rules (option o) word h
+met_waiting rules h position word o plain = ap (λ b. if b then (h, trailing position) else long_or_other rules (option o) word (long_of word) h) (not_end word plain)
+    ∙ ap (λ l. long_or_other rules (option o) word l h) (plain_long word plain)
+    ∙ ap (λ s. short_or_plain rules (option o) word s h) (plain_short word plain)
 
 module _ (rules : List Rule) (verb : Text) (h : Held) (position : ℕ) where
   pub step_end : walked rules [] (idle_at h position false) (codes "--") ≡ idle_at h position true

@@ -14,6 +14,7 @@ mod Subcommands
 mod Agreed
 mod FixedRules
 mod Views
+mod AnyOrder
 mod TwoFiles
 mod Flagged
 mod FileVerbs

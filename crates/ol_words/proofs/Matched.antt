@@ -13,7 +13,7 @@ use Rattle.ol_words.proofs.Options.{valued, rules_for, name_filled}
 use Rattle.ol_words.proofs.Walking.{rows_in}
 use Rattle.ol_words.proofs.Walks.{walks, none_waits}
 
-no_default : (a : Rule) (rows : List Row) → a.defaults ≡ [] → with_default rows a ≡ rows
+pub no_default : (a : Rule) (rows : List Row) → a.defaults ≡ [] → with_default rows a ≡ rows
 no_default a rows none = elim (cases_Bool (has_row a.id rows)) [
   | inl has ↦ rw has refl
   | inr lacks ↦ rw lacks (rw none refl)

@@ -5,6 +5,7 @@ use Rattle.std.specs.Str.{bytes_eq}
 use Rattle.std.proofs.lemmas.Bool.{cases_Bool}
 use Rattle.std.proofs.lemmas.Slice.Eq.{bytes_eq-Decides}
 use Rattle.clap.specs.Walk.{Row, used_as, without, with_values, first_of}
+use Rattle.clap.specs.declared.parser.matches.ValueSource.{ValueSource}
 use Rattle.clap.specs.declared.parser.matches.ValueSource.TheVariants.{CommandLine}
 use Rattle.clap.specs.declared.builder.value_parser.Reading.{Reading}
 use Rattle.clap.specs.declared.builder.action.ArgAction.TheVariants.{Set}
@@ -29,10 +30,10 @@ module _ (id other : Text) (apart : bytes_eq id other ≡ false) where
         | inr differs ↦ rw differs (ap (λ (x : Option Row). if bytes_eq r.id other then Some r else x) before)
       ]
 
-  with_values_other : (how : Reading) (values : List Text) (rows : List Row) → found_in other (with_values id how CommandLine values rows) ≡ found_in other rows
-  with_values_other how values [] = rw apart refl
-  with_values_other how values (r ∷ rs) =
-      let before = with_values_other how values rs in
+  pub with_values_other : (how : Reading) (source : ValueSource) (values : List Text) (rows : List Row) → found_in other (with_values id how source values rows) ≡ found_in other rows
+  with_values_other how source values [] = rw apart refl
+  with_values_other how source values (r ∷ rs) =
+      let before = with_values_other how source values rs in
       elim (cases_Bool (bytes_eq r.id id)) [
         | inl same ↦
             let is : r.id ≡ id = (bytes_eq-Decides r.id id).0 same in
@@ -44,7 +45,7 @@ module _ (id other : Text) (apart : bytes_eq id other ≡ false) where
   -- a use of one id leaves what was found of another
   pub set_other : (how : Reading) (values : List Text) (rows : List Row)
       → found_in other (used_as Set id how values rows) ≡ found_in other rows
-  set_other how values rows = with_values_other how values (without id rows) ∙ without_other rows
+  set_other how values rows = with_values_other how CommandLine values (without id rows) ∙ without_other rows
 
 some_is : {X : Type 0} (x : X) → Some x ≡ None → ⊥
 some_is x e = true≢false (ap (λ o. is_some o) e)

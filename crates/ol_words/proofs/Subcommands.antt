@@ -11,7 +11,7 @@ use Rattle.clap.specs.Words.{is_simple, built, subcommand_of, takes}
 use Rattle.ol_words.specs.Texts.{Text}
 use Rattle.ol_words.specs.Lines.{Line, line_of}
 use Rattle.ol_words.specs.Asked.{run, walk, view, trace}
-use Rattle.ol_words.specs.Jobs.{Verb, known_of, options_of, only, verb_named, check_asks, gen_asks, run_asks, trace_asks, view_asks, walk_asks, check_verb, gen_verb, run_verb, trace_verb, view_verb, walk_verb}
+use Rattle.ol_words.specs.Jobs.{Verb, known_of, options_of, only, verb_named, translation_numbered, check_asks, gen_asks, run_asks, trace_asks, view_asks, walk_asks, check_verb, gen_verb, run_verb, trace_verb, view_verb, walk_verb}
 use Rattle.ol_words.specs.Once.{is_told_once}
 use Rattle.ol_words.specs.Command.{app}
 use Rattle.std.proofs.lemmas.Bool.{and_from, cases_Bool}
@@ -46,41 +46,47 @@ not_only (n ∷ m ∷ names) e = refl
 
 run_one : (ns : List ℕ) (names : List Text) → nat_eq (length names) 1 ≡ false → run_asks ns names ≡ None
 run_one [] names e = refl
-run_one (w ∷ []) names e = refl
-run_one (w ∷ f ∷ []) names e = refl
-run_one (w ∷ f ∷ h ∷ []) names e = ap (option_map (run w f h)) (not_only names e)
-run_one (w ∷ f ∷ h ∷ x ∷ xs) names e = refl
+run_one (t ∷ []) names e = refl
+run_one (t ∷ w ∷ []) names e = refl
+run_one (t ∷ w ∷ f ∷ []) names e = refl
+run_one (t ∷ w ∷ f ∷ h ∷ []) names e = ap (option_map (run (translation_numbered t) w f h)) (not_only names e)
+run_one (t ∷ w ∷ f ∷ h ∷ x ∷ xs) names e = refl
 
 walk_one : (ns : List ℕ) (names : List Text) → nat_eq (length names) 1 ≡ false → walk_asks ns names ≡ None
 walk_one [] names e = refl
-walk_one (g ∷ []) names e = refl
-walk_one (g ∷ h ∷ []) names e = ap (option_map (walk g h)) (not_only names e)
-walk_one (g ∷ h ∷ x ∷ xs) names e = refl
+walk_one (t ∷ []) names e = refl
+walk_one (t ∷ g ∷ []) names e = refl
+walk_one (t ∷ g ∷ h ∷ []) names e = ap (option_map (walk (translation_numbered t) g h)) (not_only names e)
+walk_one (t ∷ g ∷ h ∷ x ∷ xs) names e = refl
 
 view_one : (ns : List ℕ) (names : List Text) → nat_eq (length names) 1 ≡ false → view_asks ns names ≡ None
 view_one [] names e = refl
-view_one (k ∷ []) names e = ap (option_map (view k)) (not_only names e)
-view_one (k ∷ x ∷ xs) names e = refl
+view_one (t ∷ []) names e = refl
+view_one (t ∷ k ∷ []) names e = ap (option_map (view (translation_numbered t) k)) (not_only names e)
+view_one (t ∷ k ∷ x ∷ xs) names e = refl
 
 trace_one : (ns : List ℕ) (names : List Text) → nat_eq (length names) 1 ≡ false → trace_asks ns names ≡ None
 trace_one [] names e = refl
-trace_one (w ∷ []) names e = refl
-trace_one (w ∷ f ∷ []) names e = ap (option_map (trace w f)) (not_only names e)
-trace_one (w ∷ f ∷ x ∷ xs) names e = refl
+trace_one (t ∷ []) names e = refl
+trace_one (t ∷ w ∷ []) names e = refl
+trace_one (t ∷ w ∷ f ∷ []) names e = ap (option_map (trace (translation_numbered t) w f)) (not_only names e)
+trace_one (t ∷ w ∷ f ∷ x ∷ xs) names e = refl
 
 check_two : (ns : List ℕ) (names : List Text) → nat_eq (length names) 2 ≡ false → check_asks ns names ≡ None
-check_two (x ∷ xs) names e = refl
-check_two [] [] e = refl
-check_two [] (a ∷ []) e = refl
-check_two [] (a ∷ b ∷ []) e = absurd (true≢false e)
-check_two [] (a ∷ b ∷ c ∷ names) e = refl
+check_two [] names e = refl
+check_two (t ∷ x ∷ xs) names e = refl
+check_two (t ∷ []) [] e = refl
+check_two (t ∷ []) (a ∷ []) e = refl
+check_two (t ∷ []) (a ∷ b ∷ []) e = absurd (true≢false e)
+check_two (t ∷ []) (a ∷ b ∷ c ∷ names) e = refl
 
 gen_one : (ns : List ℕ) (names : List Text) → nat_eq (length names) 1 ≡ false → gen_asks ns names ≡ None
 gen_one [] names e = refl
-gen_one (r ∷ x ∷ xs) names e = refl
-gen_one (r ∷ []) [] e = refl
-gen_one (r ∷ []) (n ∷ []) e = absurd (true≢false e)
-gen_one (r ∷ []) (n ∷ m ∷ names) e = refl
+gen_one (t ∷ []) names e = refl
+gen_one (t ∷ r ∷ x ∷ xs) names e = refl
+gen_one (t ∷ r ∷ []) [] e = refl
+gen_one (t ∷ r ∷ []) (n ∷ []) e = absurd (true≢false e)
+gen_one (t ∷ r ∷ []) (n ∷ m ∷ names) e = refl
 
 top_shape : Shape
 top_shape = (built app).top

@@ -1,106 +1,72 @@
 -- What clap makes of the words behind `check`.
-use Rattle.std.proofs.Common.{◌≡◌, refl, arith, true, false, List, [], ◌∷◌, Option, Some, None, codes, length, nat_eq}
+use Rattle.std.proofs.Common.{ℕ, ◌≡◌, ◌∙◌, sym, ap, ap₂, refl, true, true≢false, List, [], ◌∷◌, Option, Some, codes, inl, inr, option_map, fold, subst}
 use Rattle.std.specs.Prelude.{option_and_then}
-use Rattle.std.proofs.lemmas.Bool.Decides.{nat_tests}
-use Rattle.clap.specs.Walk.{Held, Rule, nothing_held, pushed, settled}
-use Rattle.clap.specs.Simple.{Shape, filled, with_index}
+use Rattle.std.proofs.lemmas.Bool.{and_from, and_parts}
+use Rattle.clap.specs.Walk.{Held, Rule, arg_by_id, arg_by_long, finished, first_of, settled, with_default}
+use Rattle.clap.specs.Simple.{filled, with_index}
 use Rattle.ol_words.specs.Texts.{Text}
-use Rattle.ol_words.specs.Lines.{Known, Line, is_dashed, line_of, name_and_value, after_hyphens, option_of}
-use Rattle.ol_words.specs.Jobs.{check_verb}
+use Rattle.ol_words.specs.Lines.{Known, Line, is_option, line_of}
+use Rattle.ol_words.specs.Found.{name_before, names_by, number_by, setting_by}
+use Rattle.ol_words.specs.Jobs.{check_asks, check_verb, known_of, number_on, translation_setting, values_of}
 use Rattle.ol_words.specs.Once.{is_told_once}
-use Rattle.ol_words.specs.Command.{name_rule}
-use Rattle.ol_words.proofs.Options.{valued}
-use Rattle.ol_words.proofs.Passing.{shape_with}
-use Rattle.ol_words.proofs.FixedRules.{Reads, goes_on, idle_at, lands, pass_end, pass_plain, pass_trailing, stays, step_end, step_plain, step_trailing}
-use Rattle.ol_words.proofs.Views.{View, view}
-use Rattle.ol_words.proofs.Views as views
+use Rattle.ol_words.specs.Command.{name_rule, option_rule}
+use Rattle.ol_words.proofs.Matched.{no_default}
+use Rattle.ol_words.proofs.FileVerbs.{setting_given}
+use Rattle.ol_words.proofs.FixedRules.{Reads, idle_at, lands}
+use Rattle.ol_words.proofs.AnyOrder.{Awaits, Finds, come_all, names_count, names_told, one_of, rule_as, value_told}
+
+abbrev term_rule : Rule
+term_rule = with_index 1 (filled (name_rule (codes "term")))
+
+abbrev journal_rule : Rule
+journal_rule = with_index 2 (filled (name_rule (codes "journal")))
+
+abbrev translation_rule : Rule
+translation_rule = filled (option_rule (codes "translation"))
 
 abbrev pub check_rules : List Rule
-check_rules = with_index 1 (filled (name_rule (codes "term"))) ∷ with_index 2 (filled (name_rule (codes "journal"))) ∷ []
-
-abbrev shape : Shape
-shape = shape_with (codes "check") check_rules
+check_rules = translation_rule ∷ term_rule ∷ journal_rule ∷ []
 
 abbrev known : Known
-known = valued []
+known = known_of check_verb
 
--- what is held behind the first name, and behind both
-abbrev after_one : Text → Held
-after_one a = pushed (codes "term") a (settled check_rules nothing_held)
+abbrev ids : List Text
+ids = codes "term" ∷ codes "journal" ∷ []
 
-abbrev after_two : Text → Text → Held
-after_two a b = pushed (codes "journal") b (settled check_rules (after_one a))
+the_option : (o : Text) → is_option known.options o ≡ true → codes "translation" ≡ o
+the_option o e = elim (one_of (codes "translation") [] o e) [ inl is ↦ is | inr none ↦ absurd (true≢false (sym none)) ]
 
-abbrev line_with : List Text → Line
-line_with names = record { options = []; names = names }
+finds : Finds known check_rules
+finds = record {
+  by_long = λ o e. subst (λ o. arg_by_long check_rules o ≡ Some (rule_as (is_option known.flags o) o)) (the_option o e) refl;
+  by_id = λ o e. subst (λ o. arg_by_id check_rules o ≡ Some (rule_as (is_option known.flags o) o)) (the_option o e) refl;
+}
 
-no_option : (found : Option Text) → option_and_then (name_and_value known) found ≡ None
-no_option None = refl
-no_option (Some text) = refl
+no_flags : (o : Text) → is_option known.flags o ≡ true → is_option known.options o ≡ true
+no_flags o e = absurd (true≢false (sym e))
 
-no_word : (word : Text) (p : Text × Option Text) → option_of known word ≡ Some p → ⊥
-no_word word p e = let none = no_option (after_hyphens word) in cc
+awaits : Awaits known check_rules 1 ids
+awaits = (refl, refl, refl, (refl, tt), refl, (refl, refl, refl, tt, refl, tt))
 
-module _ (a b : Text) where
-  two : is_dashed a ≡ false → is_dashed b ≡ false → Reads check_verb check_rules (a ∷ b ∷ []) (line_with (a ∷ b ∷ []))
-  two p q = lands check_verb check_rules _ (line_with (a ∷ b ∷ [])) (idle_at (after_two a b) 3 false)
-      (goes_on shape _ (idle_at (after_one a) 2 false) _ a _ (step_plain check_rules (codes "check") nothing_held 1 a p) (pass_plain check_rules (codes "check") nothing_held 1 a p refl)
-      (goes_on shape _ (idle_at (after_two a b) 3 false) _ b _ (step_plain check_rules (codes "check") (after_one a) 2 b q) (pass_plain check_rules (codes "check") (after_one a) 2 b q refl)
-      (stays shape _))) refl refl
+no_defaults : (h : Held) → finished check_rules h ≡ (settled check_rules h).rows
+no_defaults h =
+    ap (λ r. fold with_default r (term_rule ∷ journal_rule ∷ [])) (no_default translation_rule (settled check_rules h).rows refl)
+    ∙ ap (λ r. fold with_default r (journal_rule ∷ [])) (no_default term_rule (settled check_rules h).rows refl)
+    ∙ no_default journal_rule (settled check_rules h).rows refl
 
-  two_end : is_dashed a ≡ false → is_dashed b ≡ false → Reads check_verb check_rules (a ∷ b ∷ codes "--" ∷ []) (line_with (a ∷ b ∷ []))
-  two_end p q = lands check_verb check_rules _ (line_with (a ∷ b ∷ [])) (idle_at (after_two a b) 3 true)
-      (goes_on shape _ (idle_at (after_one a) 2 false) _ a _ (step_plain check_rules (codes "check") nothing_held 1 a p) (pass_plain check_rules (codes "check") nothing_held 1 a p refl)
-      (goes_on shape _ (idle_at (after_two a b) 3 false) _ b _ (step_plain check_rules (codes "check") (after_one a) 2 b q) (pass_plain check_rules (codes "check") (after_one a) 2 b q refl)
-      (goes_on shape _ (idle_at (after_two a b) 3 true) _ (codes "--") _ (step_end check_rules (codes "check") (after_two a b) 3) (pass_end check_rules (codes "check") (after_two a b) 3)
-      (stays shape _)))) refl refl
-
-  one_end : is_dashed a ≡ false → Reads check_verb check_rules (a ∷ codes "--" ∷ b ∷ []) (line_with (a ∷ b ∷ []))
-  one_end p = lands check_verb check_rules _ (line_with (a ∷ b ∷ [])) (idle_at (after_two a b) 3 true)
-      (goes_on shape _ (idle_at (after_one a) 2 false) _ a _ (step_plain check_rules (codes "check") nothing_held 1 a p) (pass_plain check_rules (codes "check") nothing_held 1 a p refl)
-      (goes_on shape _ (idle_at (after_one a) 2 true) _ (codes "--") _ (step_end check_rules (codes "check") (after_one a) 2) (pass_end check_rules (codes "check") (after_one a) 2)
-      (goes_on shape _ (idle_at (after_two a b) 3 true) _ b _ (step_trailing check_rules (codes "check") (after_one a) 2 b) (pass_trailing check_rules (codes "check") (after_one a) 2 b refl)
-      (stays shape _)))) refl refl
-
-  none_end : Reads check_verb check_rules (codes "--" ∷ a ∷ b ∷ []) (line_with (a ∷ b ∷ []))
-  none_end = lands check_verb check_rules _ (line_with (a ∷ b ∷ [])) (idle_at (after_two a b) 3 true)
-      (goes_on shape _ (idle_at nothing_held 1 true) _ (codes "--") _ (step_end check_rules (codes "check") nothing_held 1) (pass_end check_rules (codes "check") nothing_held 1)
-      (goes_on shape _ (idle_at (after_one a) 2 true) _ a _ (step_trailing check_rules (codes "check") nothing_held 1 a) (pass_trailing check_rules (codes "check") nothing_held 1 a refl)
-      (goes_on shape _ (idle_at (after_two a b) 3 true) _ b _ (step_trailing check_rules (codes "check") (after_one a) 2 b) (pass_trailing check_rules (codes "check") (after_one a) 2 b refl)
-      (stays shape _)))) refl refl
-
--- ---- all agreed words: there are two names in all
-
-module _ (a b : Text) (p : is_dashed a ≡ false) (q : is_dashed b ≡ false) where
-  behind_two : (rest : List Text) (line : Line) → View known rest line → nat_eq (length (a ∷ b ∷ line.names)) 2 ≡ true
-      → Reads check_verb check_rules (a ∷ b ∷ rest) (record line { names = a ∷ b ∷ line.names })
-  behind_two _ _ views.nothing e = two a b p q
-  behind_two _ _ (views.ended []) e = two_end a b p q
-  behind_two _ _ (views.ended (x ∷ xs)) e = absurd (grind (arith, nat_tests))
-  behind_two _ _ (views.plain w rest line r is) e = absurd (grind (arith, nat_tests))
-  behind_two _ _ (views.written w rest line o v is e') e = absurd (no_word w _ is)
-  behind_two _ _ (views.waits w rest line o is) e = absurd (no_word w _ is)
-
-module _ (a : Text) (p : is_dashed a ≡ false) where
-  behind_one : (rest : List Text) (line : Line) → View known rest line → nat_eq (length (a ∷ line.names)) 2 ≡ true
-      → Reads check_verb check_rules (a ∷ rest) (record line { names = a ∷ line.names })
-  behind_one _ _ views.nothing e = absurd (grind (arith, nat_tests))
-  behind_one _ _ (views.ended []) e = absurd (grind (arith, nat_tests))
-  behind_one _ _ (views.ended (x ∷ [])) e = one_end a x p
-  behind_one _ _ (views.ended (x ∷ y ∷ xs)) e = absurd (grind (arith, nat_tests))
-  behind_one _ _ (views.plain w rest line q is) e = behind_two a w p q rest line (view known rest line is) e
-  behind_one _ _ (views.written w rest line o v is e') e = absurd (no_word w _ is)
-  behind_one _ _ (views.waits w rest line o is) e = absurd (no_word w _ is)
-
-behind : (rest : List Text) (line : Line) → View known rest line → nat_eq (length line.names) 2 ≡ true → Reads check_verb check_rules rest line
-behind _ _ views.nothing e = absurd (grind (arith, nat_tests))
-behind _ _ (views.ended []) e = absurd (grind (arith, nat_tests))
-behind _ _ (views.ended (x ∷ [])) e = absurd (grind (arith, nat_tests))
-behind _ _ (views.ended (x ∷ y ∷ [])) e = none_end x y
-behind _ _ (views.ended (x ∷ y ∷ z ∷ xs)) e = absurd (grind (arith, nat_tests))
-behind _ _ (views.plain w rest line q is) e = behind_one w q rest line (view known rest line is) e
-behind _ _ (views.written w rest line o v is e') e = absurd (no_word w _ is)
-behind _ _ (views.waits w rest line o is) e = absurd (no_word w _ is)
-
-pub check_reads : (rest : List Text) (line : Line) → line_of known rest ≡ Some line → is_told_once [] 2 line ≡ true → Reads check_verb check_rules rest line
-check_reads rest line is e = behind rest line (view known rest line is) e
+pub check_reads : (rest : List Text) (line : Line) → line_of known rest ≡ Some line → is_told_once (codes "translation" ∷ []) 2 line ≡ true → Reads check_verb check_rules rest line
+check_reads rest line is e =
+    let c = come_all known check_rules (codes "check") finds no_flags ids awaits rest line is e in
+    let given : Text → Option Text = λ id. first_of id (finished check_rules c.1.held) in
+    let given_is = λ (id : Text). ap (first_of id) (no_defaults c.1.held) ∙ c.1.stands.value id in
+    let once = (and_parts _ _ (and_parts _ _ e).0).0 in
+    let o = codes "translation" in
+    let told = value_told known ids c.1.end line c.1.tells (codes "translation") refl refl once in
+    let number : number_on line translation_setting ≡ number_by [] given translation_setting =
+    setting_given translation_setting.limits (values_of o line.options) once ∙ ap (setting_by translation_setting.limits) (told ∙ sym (given_is o)) in
+    let names : line.names ≡ names_by given ids =
+    names_told c.1.end ids line.names c.1.tells.names (names_count known.options ids line e)
+    ∙ ap₂ (λ (a b : Option Text). name_before a (name_before b [])) (sym (given_is (codes "term"))) (sym (given_is (codes "journal"))) in
+    let job = ap₂ (λ (n : Option ℕ) (names : List Text). option_and_then (λ ns. check_asks ns names)
+    (option_and_then (λ n. option_map (λ more. n ∷ more) (Some [])) n)) number names in
+    lands check_verb check_rules rest line (idle_at c.1.held c.1.position c.0) c.1.goes job (and_from _ _ c.1.stands.settles refl)

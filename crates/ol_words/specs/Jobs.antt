@@ -2,6 +2,8 @@
 use Rattle.std.specs.Prelude.{ℕ, ◌&&◌, ◌==◌, List, [], ◌∷◌, Option, None, Some}
 use Rattle.std.specs.Prelude.{if◌then◌else◌, map, codes, Bool, filter, find, option_map, option_and_then}
 use Rattle.std.specs.Str.{bytes_eq}
+use Rattle.ol_term.specs.declared.translations.Translation.{Translation}
+use Rattle.ol_term.specs.declared.translations.Translation.TheVariants.{One, Two}
 use Rattle.ol_words.specs.Texts.{Text}
 use Rattle.ol_words.specs.Asked.{Asked, run, walk, view, trace, check, gen}
 use Rattle.ol_words.specs.Lines.{Line, Known, line_of}
@@ -13,6 +15,13 @@ use Rattle.ol_words.specs.Numbers.{Limits, number_within, setting}
 pub record Setting : Type 0 where
   pub option : Text
   pub limits : Limits
+
+abbrev pub translation_setting : Setting
+translation_setting = record { option = codes "translation"; limits = record { least = 1; most = 2; default = 2 } }
+
+-- the translation of a number: 1 or 2
+abbrev pub translation_numbered : ℕ → Translation
+translation_numbered n = if n == 1 then One else Two
 
 abbrev pub workers_setting : Setting
 workers_setting = record { option = codes "workers"; limits = record { least = 1; most = 64; default = 4 } }
@@ -61,19 +70,20 @@ only (name ∷ []) = Some name
 only _ = None
 
 abbrev pub run_asks : List ℕ → List Text → Option Asked
-run_asks (workers ∷ fuel ∷ heads ∷ []) names = option_map (run workers fuel heads) (only names)
+run_asks (w ∷ workers ∷ fuel ∷ heads ∷ []) names =
+    option_map (run (translation_numbered w) workers fuel heads) (only names)
 run_asks _ names = None
 
 abbrev pub walk_asks : List ℕ → List Text → Option Asked
-walk_asks (edges ∷ heads ∷ []) names = option_map (walk edges heads) (only names)
+walk_asks (w ∷ edges ∷ heads ∷ []) names = option_map (walk (translation_numbered w) edges heads) (only names)
 walk_asks _ names = None
 
 abbrev pub view_asks : List ℕ → List Text → Option Asked
-view_asks (after ∷ []) names = option_map (view after) (only names)
+view_asks (w ∷ after ∷ []) names = option_map (view (translation_numbered w) after) (only names)
 view_asks _ names = None
 
 abbrev pub trace_asks : List ℕ → List Text → Option Asked
-trace_asks (workers ∷ fuel ∷ []) names = option_map (trace workers fuel) (only names)
+trace_asks (w ∷ workers ∷ fuel ∷ []) names = option_map (trace (translation_numbered w) workers fuel) (only names)
 trace_asks _ names = None
 
 -- the name of standard input
@@ -82,33 +92,34 @@ is_input name = bytes_eq name (codes "-")
 
 -- standard input can't be both files
 abbrev pub check_asks : List ℕ → List Text → Option Asked
-check_asks [] (term ∷ journal ∷ []) =
-    if is_input term && is_input journal then None else Some (check term journal)
+check_asks (w ∷ []) (term ∷ journal ∷ []) =
+    if is_input term && is_input journal then None else Some (check (translation_numbered w) term journal)
 check_asks _ names = None
 
-abbrev pub gen_of : Bool → Option ℕ → Option Asked
-gen_of runs number = option_map (gen runs) number
+abbrev pub gen_of : Translation → Bool → Option ℕ → Option Asked
+gen_of w runs number = option_map (gen w runs) number
 
 abbrev pub gen_asks : List ℕ → List Text → Option Asked
-gen_asks (runs ∷ []) (number ∷ []) = gen_of (runs == 1) (number_within doublings number)
+gen_asks (w ∷ runs ∷ []) (number ∷ []) =
+    gen_of (translation_numbered w) (runs == 1) (number_within doublings number)
 gen_asks _ names = None
 
 abbrev pub run_verb : Verb
-run_verb = file_verb (codes "run") (workers_setting ∷ fuel_setting ∷ heads_setting ∷ []) run_asks
+run_verb = file_verb (codes "run") (translation_setting ∷ workers_setting ∷ fuel_setting ∷ heads_setting ∷ []) run_asks
 
 abbrev pub walk_verb : Verb
-walk_verb = file_verb (codes "walk") (edges_setting ∷ heads_setting ∷ []) walk_asks
+walk_verb = file_verb (codes "walk") (translation_setting ∷ edges_setting ∷ heads_setting ∷ []) walk_asks
 
 abbrev pub view_verb : Verb
-view_verb = file_verb (codes "view") (after_setting ∷ []) view_asks
+view_verb = file_verb (codes "view") (translation_setting ∷ after_setting ∷ []) view_asks
 
 abbrev pub trace_verb : Verb
-trace_verb = file_verb (codes "trace") (workers_setting ∷ fuel_setting ∷ []) trace_asks
+trace_verb = file_verb (codes "trace") (translation_setting ∷ workers_setting ∷ fuel_setting ∷ []) trace_asks
 
 abbrev pub check_verb : Verb
 check_verb = record {
   word = codes "check";
-  settings = [];
+  settings = translation_setting ∷ [];
   flags = [];
   names = codes "term" ∷ codes "journal" ∷ [];
   asks = check_asks;
@@ -117,7 +128,7 @@ check_verb = record {
 abbrev pub gen_verb : Verb
 gen_verb = record {
   word = codes "gen";
-  settings = runs_setting ∷ [];
+  settings = translation_setting ∷ runs_setting ∷ [];
   flags = codes "run" ∷ [];
   names = codes "number" ∷ [];
   asks = gen_asks;

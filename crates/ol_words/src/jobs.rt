@@ -7,6 +7,7 @@ ghost use Rattle.ol_words.specs.declared.jobs.UsageFault.TheVariants.{NoMemory};
 
 use clap::Error;
 use clap::error::ErrorKind;
+use ol_term::Translation;
 use std::alloc::{AllocError, AllocFailed, Global};
 use std::marker::Model;
 
@@ -46,6 +47,8 @@ impl Word {
 pub enum Job {
     /// Rewrite the net of a term, and print what is left with the counts of the rules.
     Run {
+        /// By which translation the term becomes a net.
+        translation: Translation,
         /// How many workers rewrite, 1 to 64.
         workers: u32,
         /// How many interactions may be made, 0 to 2,000,000.
@@ -57,6 +60,8 @@ pub enum Job {
     },
     /// Read the term back from its net as it stands, and print it.
     Walk {
+        /// By which translation the term becomes a net.
+        translation: Translation,
         /// How many edges one walk may cross, 1 to 10,000,000.
         edges: u64,
         /// How many subterms of the answer are asked for their heads, 1 to 100,000.
@@ -66,6 +71,8 @@ pub enum Job {
     },
     /// Rewrite the net of a term in one thread, so far, and show it.
     View {
+        /// By which translation the term becomes a net.
+        translation: Translation,
         /// After how many interactions, 0 to 2,000,000.
         after: u32,
         /// The file with the term, or `-` for standard input.
@@ -73,6 +80,8 @@ pub enum Job {
     },
     /// Rewrite the net of a term, and tell which pairs were rewritten.
     Trace {
+        /// By which translation the term becomes a net.
+        translation: Translation,
         /// How many workers rewrite, 1 to 64.
         workers: u32,
         /// How many interactions may be made, 0 to 2,000,000.
@@ -82,6 +91,8 @@ pub enum Job {
     },
     /// Tell whether a trace is one of a term.
     Check {
+        /// By which translation the term becomes a net.
+        translation: Translation,
         /// The file with the term, or `-` for standard input.
         term: Word,
         /// The file with the trace, or `-` for standard input where the term is in another file.
@@ -89,6 +100,8 @@ pub enum Job {
     },
     /// Make a large term that reduces to an identity.
     Gen {
+        /// By which translation the term becomes a net.
+        translation: Translation,
         /// Whether to do with it what `Run` does, in place of printing it.
         run: bool,
         /// How often it is applied to itself, 0 to 10.

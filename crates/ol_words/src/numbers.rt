@@ -43,6 +43,13 @@ pub(crate) const AFTER: Limits = Limits {
     default: 0,
 };
 
+/// The number of a translation.
+pub(crate) const TRANSLATION: Limits = Limits {
+    least: 1,
+    most: 2,
+    default: 2,
+};
+
 /// How often a term may be doubled.
 pub(crate) const DOUBLINGS: Limits = Limits {
     least: 0,

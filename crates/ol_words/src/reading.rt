@@ -6,15 +6,18 @@ ghost use Rattle.ol_words.specs.Asked.{asked_by};
 ghost use Rattle.ol_words.specs.Jobs.{job_of};
 ghost use Rattle.ol_words.specs.Views.{verb_of};
 ghost use Rattle.ol_words.specs.Once.{agreed_verb};
-ghost use Rattle.ol_words.specs.Found.{flag_by, job_found};
-ghost use Rattle.ol_words.specs.Jobs.{check_verb, gen_verb, run_verb, trace_verb, view_verb, walk_verb};
+ghost use Rattle.ol_words.specs.Found.{flag_by, job_found, setting_by};
+ghost use Rattle.ol_words.specs.Jobs.{check_verb, gen_verb, run_verb, trace_verb, translation_numbered, translation_setting, view_verb, walk_verb};
 
 use crate::command::matches_of;
 use crate::jobs::{Job, UsageFault, Word};
 use crate::lines::line_of;
-use crate::numbers::{AFTER, DOUBLINGS, EDGES, FUEL, HEADS, WORKERS, number_within, setting_by};
+use crate::numbers::{
+    AFTER, DOUBLINGS, EDGES, FUEL, HEADS, TRANSLATION, WORKERS, number_within, setting_by,
+};
 use crate::verbs::Verb;
 use clap::ArgMatches;
+use ol_term::Translation;
 use std::alloc::{AllocError, Global};
 
 /// The job of the words of a command line: the program's name, which isn't looked at, then the
@@ -23,14 +26,15 @@ use std::alloc::{AllocError, Global};
 ///
 /// `run` has the options `--workers`, `--fuel` and `--heads`, `walk` has `--edges` and `--heads`,
 /// `view` has `--after`, `trace` has `--workers` and `--fuel`, and `gen` has `--run`, which takes
-/// no value; `check` has none. `run`, `walk`, `view` and `trace` take the name of one file, `check`
-/// those of two, which aren't both `-`, and `gen` takes one number in a name's place.
+/// no value; all six have `--translation`, 1 or 2. `run`, `walk`, `view` and `trace` take the name
+/// of one file, `check` those of two, which aren't both `-`, and `gen` takes one number in a name's
+/// place.
 ///
 /// An option is written out whole, as `--name value` or `--name=value`, and comes at most once. A
-/// number is 1 to 8 ASCII digits within the range that `Job` gives. By themselves there are 4
-/// workers, a fuel of 200,000, 4,096 heads and 100,000 edges, and a net is viewed after no
-/// interaction. The word `--` ends the options; before it a word that begins with `-`, and isn't
-/// `-` alone, is no name and no value.
+/// number is 1 to 8 ASCII digits within the range that `Job` gives. By themselves the translation
+/// is 2, there are 4 workers, a fuel of 200,000, 4,096 heads and 100,000 edges, and a net is viewed
+/// after no interaction. The word `--` ends the options; before it a word that begins with `-`, and
+/// isn't `-` alone, is no name and no value.
 ///
 /// `Refused` comes exactly where the words have no job by these rules. `NoMemory` comes where
 /// memory runs out.
@@ -93,6 +97,9 @@ fn run_by(alloc: Global, found: &ArgMatches) -> Result<Job, UsageFault>
     ensures job { IfOk result (λ job. job_found run_verb found.now ≡ Some (asked_by job)) }
     ensures refused { result ≡ Err UsageFault.Refused → job_found run_verb found.now ≡ None }
 {
+    let Some(translation) = translation_by(found.get_str("translation")) else {
+        return Err(UsageFault::Refused);
+    };
     let Some(workers) = setting_by(found.get_str("workers"), WORKERS) else {
         return Err(UsageFault::Refused);
     };
@@ -107,6 +114,7 @@ fn run_by(alloc: Global, found: &ArgMatches) -> Result<Job, UsageFault>
     };
     let name = Word::of(alloc, name)?;
     Ok(Job::Run {
+        translation,
         workers,
         fuel,
         heads,
@@ -119,6 +127,9 @@ fn walk_by(alloc: Global, found: &ArgMatches) -> Result<Job, UsageFault>
     ensures job { IfOk result (λ job. job_found walk_verb found.now ≡ Some (asked_by job)) }
     ensures refused { result ≡ Err UsageFault.Refused → job_found walk_verb found.now ≡ None }
 {
+    let Some(translation) = translation_by(found.get_str("translation")) else {
+        return Err(UsageFault::Refused);
+    };
     let Some(edges) = setting_by(found.get_str("edges"), EDGES) else {
         return Err(UsageFault::Refused);
     };
@@ -130,6 +141,7 @@ fn walk_by(alloc: Global, found: &ArgMatches) -> Result<Job, UsageFault>
     };
     let name = Word::of(alloc, name)?;
     Ok(Job::Walk {
+        translation,
         edges: u64::from(edges),
         heads,
         name,
@@ -141,6 +153,9 @@ fn view_by(alloc: Global, found: &ArgMatches) -> Result<Job, UsageFault>
     ensures job { IfOk result (λ job. job_found view_verb found.now ≡ Some (asked_by job)) }
     ensures refused { result ≡ Err UsageFault.Refused → job_found view_verb found.now ≡ None }
 {
+    let Some(translation) = translation_by(found.get_str("translation")) else {
+        return Err(UsageFault::Refused);
+    };
     let Some(after) = setting_by(found.get_str("after"), AFTER) else {
         return Err(UsageFault::Refused);
     };
@@ -148,7 +163,11 @@ fn view_by(alloc: Global, found: &ArgMatches) -> Result<Job, UsageFault>
         return Err(UsageFault::Refused);
     };
     let name = Word::of(alloc, name)?;
-    Ok(Job::View { after, name })
+    Ok(Job::View {
+        translation,
+        after,
+        name,
+    })
 }
 
 // The job by what was given behind `trace`.
@@ -156,6 +175,9 @@ fn trace_by(alloc: Global, found: &ArgMatches) -> Result<Job, UsageFault>
     ensures job { IfOk result (λ job. job_found trace_verb found.now ≡ Some (asked_by job)) }
     ensures refused { result ≡ Err UsageFault.Refused → job_found trace_verb found.now ≡ None }
 {
+    let Some(translation) = translation_by(found.get_str("translation")) else {
+        return Err(UsageFault::Refused);
+    };
     let Some(workers) = setting_by(found.get_str("workers"), WORKERS) else {
         return Err(UsageFault::Refused);
     };
@@ -167,6 +189,7 @@ fn trace_by(alloc: Global, found: &ArgMatches) -> Result<Job, UsageFault>
     };
     let name = Word::of(alloc, name)?;
     Ok(Job::Trace {
+        translation,
         workers,
         fuel,
         name,
@@ -178,6 +201,9 @@ fn check_by(alloc: Global, found: &ArgMatches) -> Result<Job, UsageFault>
     ensures job { IfOk result (λ job. job_found check_verb found.now ≡ Some (asked_by job)) }
     ensures refused { result ≡ Err UsageFault.Refused → job_found check_verb found.now ≡ None }
 {
+    let Some(translation) = translation_by(found.get_str("translation")) else {
+        return Err(UsageFault::Refused);
+    };
     let Some(term) = found.get_str("term") else {
         return Err(UsageFault::Refused);
     };
@@ -189,7 +215,11 @@ fn check_by(alloc: Global, found: &ArgMatches) -> Result<Job, UsageFault>
     }
     let term = Word::of(alloc, term)?;
     let journal = Word::of(alloc, journal)?;
-    Ok(Job::Check { term, journal })
+    Ok(Job::Check {
+        translation,
+        term,
+        journal,
+    })
 }
 
 // The job by what was given behind `gen`.
@@ -197,6 +227,9 @@ fn gen_by(found: &ArgMatches) -> Result<Job, UsageFault>
     ensures job { IfOk result (λ job. job_found gen_verb found.now ≡ Some (asked_by job)) }
     ensures refused { result ≡ Err UsageFault.Refused → job_found gen_verb found.now ≡ None }
 {
+    let Some(translation) = translation_by(found.get_str("translation")) else {
+        return Err(UsageFault::Refused);
+    };
     let Some(number) = found.get_str("number") else {
         return Err(UsageFault::Refused);
     };
@@ -204,7 +237,24 @@ fn gen_by(found: &ArgMatches) -> Result<Job, UsageFault>
         return Err(UsageFault::Refused);
     };
     let run = is_true(found.get_str("run"));
-    Ok(Job::Gen { run, k })
+    Ok(Job::Gen {
+        translation,
+        run,
+        k,
+    })
+}
+
+// The translation by the number that was given, which is 2 by itself.
+fn translation_by(value: Option<&str>) -> Option<Translation>
+    ensures { result ≡ option_map translation_numbered
+        (setting_by translation_setting.limits (option_map (λ v. v.now) value.entry)) }
+{
+    let number = setting_by(value, TRANSLATION)?;
+    if number == 1 {
+        Some(Translation::One)
+    } else {
+        Some(Translation::Two)
+    }
 }
 
 // Whether clap has given a flag the value `true`.

@@ -5,15 +5,19 @@ ghost use Rattle.ol_words.specs.Jobs.{options_of, verb_named};
 ghost use Rattle.ol_words.specs.Views.{verb_of};
 ghost use Rattle.ol_words.specs.Views.{texts};
 
-static RUN_OPTIONS: [&str; 3] = ["workers", "fuel", "heads"];
+static RUN_OPTIONS: [&str; 4] = ["translation", "workers", "fuel", "heads"];
 
-static WALK_OPTIONS: [&str; 2] = ["edges", "heads"];
+static WALK_OPTIONS: [&str; 3] = ["translation", "edges", "heads"];
 
-static VIEW_OPTIONS: [&str; 1] = ["after"];
+static VIEW_OPTIONS: [&str; 2] = ["translation", "after"];
 
-static TRACE_OPTIONS: [&str; 2] = ["workers", "fuel"];
+static TRACE_OPTIONS: [&str; 3] = ["translation", "workers", "fuel"];
 
-static GEN_OPTIONS: [&str; 1] = ["run"];
+static CHECK_OPTIONS: [&str; 1] = ["translation"];
+
+static GEN_OPTIONS: [&str; 2] = ["translation", "run"];
+
+static GEN_FLAGS: [&str; 1] = ["run"];
 
 static FILE_NAMES: [&str; 1] = ["name"];
 
@@ -73,7 +77,7 @@ impl Verb {
             Verb::Walk => WALK_OPTIONS.as_slice(),
             Verb::View => VIEW_OPTIONS.as_slice(),
             Verb::Trace => TRACE_OPTIONS.as_slice(),
-            Verb::Check => NOTHING.as_slice(),
+            Verb::Check => CHECK_OPTIONS.as_slice(),
             Verb::Gen => GEN_OPTIONS.as_slice(),
         }
     }
@@ -84,7 +88,7 @@ impl Verb {
     {
         match self {
             Verb::Run | Verb::Walk | Verb::View | Verb::Trace | Verb::Check => NOTHING.as_slice(),
-            Verb::Gen => GEN_OPTIONS.as_slice(),
+            Verb::Gen => GEN_FLAGS.as_slice(),
         }
     }
 
