@@ -1,5 +1,6 @@
 -- Any run tells the answer of the one-thread run.
 use Rattle.std.proofs.Common.{◌≡◌, ℕ, suc, ◌+◌, ◌*◌, ◌≤◌, List, [], ◌∷◌, length, inl, inr, sym, ◌∙◌, subst}
+use Rattle.ol_term.specs.declared.translations.Translation.{Translation}
 use Rattle.ol_term.specs.Trees.{Tree}
 use Rattle.ol_net.specs.declared.parts.Kind.{Kind}
 use Rattle.ol_net.specs.Nets.{NamedNet, HasNode, IsNet, SameNet, net_under}
@@ -75,23 +76,23 @@ shows_same names heads es M N text same once s =
       written = s.written;
     }
 
-start_once : (t : Tree) (names : List (List ℕ)) → ListsOnce (start_net_of_term t names)
-start_once t names = net_under_once Init (translation_of t (length names)) (λ x y k l i j h h' e. cc) (net_of_parts_once (1 + length names) (nodes_of t) (links_of t))
+start_once : (tr : Translation) (t : Tree) (names : List (List ℕ)) → ListsOnce (start_net_of_term tr t names)
+start_once tr t names = net_under_once Init (translation_of tr t (length names)) (λ x y k l i j h h' e. cc) (net_of_parts_once (1 + length names) (nodes_of tr t) (links_of tr t))
 
 -- ---- the laws
 
 pub one_thread_is_there : OneThreadIsThere
-one_thread_is_there t names fuel is_net = one_thread_exists (start_net_of_term t names) fuel (start_is_net t names is_net) (start_is_named t names is_net)
+one_thread_is_there tr t names fuel is_net = one_thread_exists (start_net_of_term tr t names) fuel (start_is_net tr t names is_net) (start_is_named tr t names is_net)
 
 -- and what holds of the tree and the term that are printed of the run holds of those that are printed of the one-thread run
-pub any_run_with : (P : List ReadNode → List ℕ → Type 0) (t : Tree) (names : List (List ℕ)) (fuel heads : ℕ) (text : List ℕ) → IsNet (translation_of t (length names)) →
-    (journal : List Entry) (net : NamedNet NodeName) → IsRun (start_net_of_term t names) 0 journal net → IsComplete net → (p : PrintsOf names fuel heads journal net text) →
-    P p.shows.tree p.shows.term → (q : Prints t names fuel heads text) × P q.shows.tree q.shows.term
+pub any_run_with : (P : List ReadNode → List ℕ → Type 0) (tr : Translation) (t : Tree) (names : List (List ℕ)) (fuel heads : ℕ) (text : List ℕ) → IsNet (translation_of tr t (length names)) →
+    (journal : List Entry) (net : NamedNet NodeName) → IsRun (start_net_of_term tr t names) 0 journal net → IsComplete net → (p : PrintsOf names fuel heads journal net text) →
+    P p.shows.tree p.shows.term → (q : Prints tr t names fuel heads text) × P q.shows.tree q.shows.term
 unfolding shows_under shows_same
-any_run_with P t names fuel heads text is_net journal net run complete p h =
-    let N = start_net_of_term t names in
-    let n = start_is_net t names is_net in
-    let b = start_is_named t names is_net in
+any_run_with P tr t names fuel heads text is_net journal net run complete p h =
+    let N = start_net_of_term tr t names in
+    let n = start_is_net tr t names is_net in
+    let b = start_is_named tr t names is_net in
     let o = one_thread_exists N fuel n b in
     let d = done_tells N net o.1 fuel journal o.0 n b run complete p.within o.2 in
     let a = d.1 in
@@ -99,7 +100,7 @@ any_run_with P t names fuel heads text is_net journal net run complete p h =
     let apart : (x y : NodeName) (k l : Kind) (i j : ℕ) → HasNode p.listed x k i → HasNode p.listed y l j → a.names x ≡ a.names y → x ≡ y = λ x y k l i j h h' e. a.written.apart x y k l i j ((p.same.nodes x k i).1 h) ((p.same.nodes y l j).1 h') e in
     let shows = shows_under names heads journal o.0 a.names p.listed text apart (sym a.counts) p.shows in
     let same : SameNet o.1 listed = same_trans o.1 (net_under a.names net) listed (same_sym (net_under a.names net) o.1 a.written.same) (same_under a.names net p.listed p.same) in
-    let e = ends_once N o.1 listed 0 o.0 same (start_once t names) shows.once o.2.leads in
+    let e = ends_once N o.1 listed 0 o.0 same (start_once tr t names) shows.once o.2.leads in
     let c = complete_same o.1 e.net (same_trans o.1 listed e.net same e.same) d.0 in (
       record {
         journal = o.0;
@@ -112,13 +113,13 @@ any_run_with P t names fuel heads text is_net journal net run complete p h =
     )
 
 pub any_run_prints : AnyRunPrints
-any_run_prints t names fuel heads text is_net journal net run complete p = (any_run_with (λ ns x. Unit {0}) t names fuel heads text is_net journal net run complete p tt).0
+any_run_prints tr t names fuel heads text is_net journal net run complete p = (any_run_with (λ ns x. Unit {0}) tr t names fuel heads text is_net journal net run complete p tt).0
 
 pub any_run_runs_out : AnyRunRunsOut
-any_run_runs_out t names fuel is_net journal net run long =
-    let N = start_net_of_term t names in
-    let n = start_is_net t names is_net in
-    let b = start_is_named t names is_net in
+any_run_runs_out tr t names fuel is_net journal net run long =
+    let N = start_net_of_term tr t names in
+    let n = start_is_net tr t names is_net in
+    let b = start_is_named tr t names is_net in
     let o = one_thread_exists N fuel n b in
     let d : HasActive o.1 × (length o.0 ≡ fuel) = elim long [
       | inl l ↦ longer_tells N net o.1 fuel journal o.0 n b run l o.2
@@ -127,12 +128,12 @@ any_run_runs_out t names fuel is_net journal net run long =
     record { journal = o.0; net = o.1; run = o.2; full = d.1; left = d.0 }
 
 -- where a complete run is within the fuel, the one-thread run ends within it
-pub any_run_ends : (t : Tree) (names : List (List ℕ)) (fuel : ℕ) → IsNet (translation_of t (length names)) →
-    (journal : List Entry) (net : NamedNet NodeName) → IsRun (start_net_of_term t names) 0 journal net → IsComplete net → length journal ≤ fuel → RunEnds t names fuel
-any_run_ends t names fuel is_net journal net run complete within =
-    let N = start_net_of_term t names in
-    let n = start_is_net t names is_net in
-    let b = start_is_named t names is_net in
+pub any_run_ends : (tr : Translation) (t : Tree) (names : List (List ℕ)) (fuel : ℕ) → IsNet (translation_of tr t (length names)) →
+    (journal : List Entry) (net : NamedNet NodeName) → IsRun (start_net_of_term tr t names) 0 journal net → IsComplete net → length journal ≤ fuel → RunEnds tr t names fuel
+any_run_ends tr t names fuel is_net journal net run complete within =
+    let N = start_net_of_term tr t names in
+    let n = start_is_net tr t names is_net in
+    let b = start_is_named tr t names is_net in
     let o = one_thread_exists N fuel n b in
     let d = done_tells N net o.1 fuel journal o.0 n b run complete within o.2 in
     record { journal = o.0; net = o.1; run = o.2; complete = d.0 }

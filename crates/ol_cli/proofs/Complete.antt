@@ -1,6 +1,7 @@
 -- A job that can be done is done, where nothing fails and memory is found.
 use Rattle.std.proofs.Common.{◌≡◌, ℕ, zero, suc, ◌≤◌, Bool, true, false, List, [], ◌∷◌, length, slice_get, Option, Some, refl, sym, ap, ◌∙◌, subst, inl, inr, arith, String, Global}
 use Rattle.ol_io.specs.Outside.{Rose, Appended}
+use Rattle.ol_term.specs.declared.translations.Translation.{Translation}
 use Rattle.ol_term.specs.Trees.{Tree, depth}
 use Rattle.ol_term.specs.Generated.{doubled_text}
 use Rattle.ol_parse.specs.Parsed.{IsFileOf}
@@ -12,7 +13,7 @@ use Rattle.ol_words.specs.Texts.{Text}
 use Rattle.ol_words.specs.Asked.{Asked, run, walk, view, trace, check, gen}
 use Rattle.ol_cli.specs.declared.status.Status.{Status}
 use Rattle.ol_cli.specs.declared.status.Status.TheVariants.{Done, Usage, Syntax, Spent, ReadFault, WriteFault, NoMemory, Limit}
-use Rattle.ol_cli.specs.Jobs.{EachName, TellsFiles, term_bytes}
+use Rattle.ol_cli.specs.Jobs.{EachName, TellsFiles, term_bytes, translation_in}
 use Rattle.ol_cli.specs.Answers.{IsTermFile, FileAnswer, JournalAnswer, JobAnswer, Makes, plain_run, IsAnswer, Ends, seen}
 use Rattle.ol_cli.specs.Answers as answers
 use Rattle.ol_cli.specs.Completeness.{EndsWithinFuel, HasTermWithin, HasJournalWithin, CanDo, AskForWhatCanBeDone, IsDoneOrNothing}
@@ -23,24 +24,24 @@ use Rattle.ol_cli.proofs.OneAnswer as by
 
 -- ---- a term whose run ends within the fuel
 
-done_term : (t : Tree) (names : List (List ℕ)) → IsNet (translation_of t (length names)) → (asked : Asked) → EndsWithinFuel asked t names → (s : Status) (x : List ℕ) → OfTerm t names asked s x → s ≡ Done
-done_term t names n _ ends s x (by.spent {fuel = fuel} r e) = absurd (ends_or_runs_out t names n fuel r ends)
-done_term t names n _ ends s x (by.printed p) = refl
-done_term t names n _ ends s x (by.walked w) = refl
-done_term t names n _ ends s x (by.viewed v) = refl
-done_term t names n _ ends s x (by.traced e) = refl
-done_term t names n _ ends s x (by.stopped {fuel = fuel} r) = absurd (ends_or_runs_out t names n fuel r ends)
+done_term : (t : Tree) (names : List (List ℕ)) (asked : Asked) → IsNet (translation_of (translation_in asked) t (length names)) → EndsWithinFuel asked t names → (s : Status) (x : List ℕ) → OfTerm t names asked s x → s ≡ Done
+done_term t names _ n ends s x (by.spent {tr = tr} {fuel = fuel} r e) = absurd (ends_or_runs_out tr t names n fuel r ends)
+done_term t names _ n ends s x (by.printed p) = refl
+done_term t names _ n ends s x (by.walked w) = refl
+done_term t names _ n ends s x (by.viewed v) = refl
+done_term t names _ n ends s x (by.traced e) = refl
+done_term t names _ n ends s x (by.stopped {tr = tr} {fuel = fuel} r) = absurd (ends_or_runs_out tr t names n fuel r ends)
 
 -- ---- a file within the limits
 
-module _ (asked : Asked) (bytes : List ℕ) (t : Tree) (names : List (List ℕ)) (i : IsTermFile bytes t names) (ends : EndsWithinFuel asked t names) where
+module _ (asked : Asked) (bytes : List ℕ) (t : Tree) (names : List (List ℕ)) (i : IsTermFile (translation_in asked) bytes t names) (ends : EndsWithinFuel asked t names) where
   done_tree : (u : Tree) (others : List (List ℕ)) → IsFileOf bytes u others → (s : Status) (x : List ℕ) → OfTree asked u others s x → s ≡ Done
   done_tree u others f s x (by.too_deep d h) = let b = i.shallow in let e = ap depth (one_file bytes t u names others i.file f).0 in absurd (omega arith)
-  done_tree u others f s x (by.too_large d z h) = let b = i.small in let e = ap size_of_translation (one_file bytes t u names others i.file f).0 in absurd (omega arith)
+  done_tree u others f s x (by.too_large d z h) = let b = i.small in let e = ap (size_of_translation (translation_in asked)) (one_file bytes t u names others i.file f).0 in absurd (omega arith)
   done_tree u others f s x (by.done d z h) =
       let same = one_file bytes t u names others i.file f in
       let ends' = subst (λ t. EndsWithinFuel asked t others) same.0 (subst (λ names. EndsWithinFuel asked t names) same.1 ends) in
-      done_term u others (file_net bytes u others f) asked ends' s x (of_term u others asked s x h)
+      done_term u others asked (file_net (translation_in asked) bytes u others f) ends' s x (of_term u others asked s x h)
 
   done_file : (s : Status) (x : List ℕ) → OfFile asked bytes s x → s ≡ Done
   done_file s x (by.too_long l h) = let b = i.short in absurd (omega arith)
@@ -51,34 +52,35 @@ module _ (asked : Asked) (bytes : List ℕ) (t : Tree) (names : List (List ℕ))
 
 module _ (files : Text → Option (List ℕ)) where
   -- the bytes of the job's term are those that are told
-  done_told : (asked : Asked) (name : Text) (told : Option (List ℕ)) (w : HasTermWithin files asked) → told ≡ term_bytes files asked → (bytes : List ℕ) → told ≡ Some bytes → (goal : Asked) → EndsWithinFuel goal w.term w.names → (s : Status) (x : List ℕ) → FileAnswer goal bytes s x → s ≡ Done
-  done_told asked name told w same bytes e goal ends s x h =
+  done_told : (asked : Asked) (name : Text) (told : Option (List ℕ)) (w : HasTermWithin files asked) → told ≡ term_bytes files asked → (bytes : List ℕ) → told ≡ Some bytes → (goal : Asked) → translation_in asked ≡ translation_in goal → EndsWithinFuel goal w.term w.names → (s : Status) (x : List ℕ) → FileAnswer goal bytes s x → s ≡ Done
+  done_told asked name told w same bytes e goal alike ends s x h =
       let is : Some w.bytes ≡ Some bytes = sym w.told ∙ sym same ∙ e in
       let at : w.bytes ≡ bytes = cc in
-      done_file goal bytes w.term w.names (subst (λ b. IsTermFile b w.term w.names) at w.file) ends s x (of_file_answer goal bytes s x h)
+      let file = subst (λ tr. IsTermFile tr bytes w.term w.names) alike (subst (λ b. IsTermFile (translation_in asked) b w.term w.names) at w.file) in
+      done_file goal bytes w.term w.names file ends s x (of_file_answer goal bytes s x h)
 
-  done_journal : (t : Tree) (names : List (List ℕ)) (journal : List ℕ) → length journal ≤ 67108864 → (s : Status) (x : List ℕ) → OfJournal t names journal s x → s ≡ Done
-  done_journal t names journal b s x (by.past l h) = absurd (omega arith)
-  done_journal t names journal b s x (by.found l v f h) = h.0
+  done_journal : (tr : Translation) (t : Tree) (names : List (List ℕ)) (journal : List ℕ) → length journal ≤ 67108864 → (s : Status) (x : List ℕ) → OfJournal tr t names journal s x → s ≡ Done
+  done_journal tr t names journal b s x (by.past l h) = absurd (omega arith)
+  done_journal tr t names journal b s x (by.found l v f h) = h.0
 
-  done_on_journal : (name : Text) → HasJournalWithin files name → (t : Tree) (names : List (List ℕ)) (given : List ℕ) → files name ≡ Some given → (s : Status) (x : List ℕ) → JournalAnswer t names given s x → s ≡ Done
-  done_on_journal name (read, e, b) t names given e' s x h =
+  done_on_journal : (name : Text) → HasJournalWithin files name → (tr : Translation) (t : Tree) (names : List (List ℕ)) (given : List ℕ) → files name ≡ Some given → (s : Status) (x : List ℕ) → JournalAnswer tr t names given s x → s ≡ Done
+  done_on_journal name (read, e, b) tr t names given e' s x h =
       let short = subst (λ l. length l ≤ 67108864) (one_bytes files name read given e e') b in
-      done_journal t names given short s x (of_journal_answer t names given s x h)
+      done_journal tr t names given short s x (of_journal_answer tr t names given s x h)
 
-  done_made : (runs : Bool) (k : ℕ) → CanDo files (gen runs k) → (s : Status) (x : List ℕ) → Makes runs k s x → s ≡ Done
-  done_made false k can s x m = m.0
-  done_made true k can s x m = done_told (gen true k) [] (Some (doubled_text k)) can refl (doubled_text k) refl plain_run can.ends s x m
+  done_made : (tr : Translation) (runs : Bool) (k : ℕ) → CanDo files (gen tr runs k) → (s : Status) (x : List ℕ) → Makes tr runs k s x → s ≡ Done
+  done_made tr false k can s x m = m.0
+  done_made tr true k can s x m = done_told (gen tr true k) [] (Some (doubled_text k)) can refl (doubled_text k) refl (plain_run tr) refl can.ends s x m
 
   done_job : (asked : Asked) → CanDo files asked → (s : Status) (x : List ℕ) → JobAnswer files s x asked → s ≡ Done
-  done_job (run w f q name) can s x (answers.of_file has e h) = done_told (run w f q name) name (files name) can refl _ e (run w f q name) can.ends s x h
-  done_job (walk g q name) can s x (answers.of_file has e h) = done_told (walk g q name) name (files name) can refl _ e (walk g q name) can.ends s x h
-  done_job (view k name) can s x (answers.of_file has e h) = done_told (view k name) name (files name) can refl _ e (view k name) can.ends s x h
-  done_job (trace w f name) can s x (answers.of_file has e h) = done_told (trace w f name) name (files name) can refl _ e (trace w f name) can.ends s x h
-  done_job (check term other) can s x (answers.of_file has e h) = done_told (check term other) term (files term) can.0 refl _ e (check term other) can.0.ends s x h
-  done_job (check term other) can s x (answers.of_journal {trace = read} {t = t} {names = names} e i e' h) = done_on_journal other can.1 t names read e' s x h
-  done_job (gen runs k) can s x (answers.of_file has e h) = absurd has
-  done_job (gen runs k) can s x (answers.made m) = done_made runs k can s x m
+  done_job (run tr w f q name) can s x (answers.of_file has e h) = done_told (run tr w f q name) name (files name) can refl _ e (run tr w f q name) refl can.ends s x h
+  done_job (walk tr g q name) can s x (answers.of_file has e h) = done_told (walk tr g q name) name (files name) can refl _ e (walk tr g q name) refl can.ends s x h
+  done_job (view tr k name) can s x (answers.of_file has e h) = done_told (view tr k name) name (files name) can refl _ e (view tr k name) refl can.ends s x h
+  done_job (trace tr w f name) can s x (answers.of_file has e h) = done_told (trace tr w f name) name (files name) can refl _ e (trace tr w f name) refl can.ends s x h
+  done_job (check tr term other) can s x (answers.of_file has e h) = done_told (check tr term other) term (files term) can.0 refl _ e (check tr term other) refl can.0.ends s x h
+  done_job (check tr term other) can s x (answers.of_journal {trace = read} {t = t} {names = names} e i e' h) = done_on_journal other can.1 tr t names read e' s x h
+  done_job (gen tr runs k) can s x (answers.of_file has e h) = absurd has
+  done_job (gen tr runs k) can s x (answers.made m) = done_made tr runs k can s x m
 
   -- the bytes of the job's files are told
   one_told : (P : Text → Type 0) (a : Text) → P a → (place : ℕ) (name : Text) → slice_get (a ∷ []) place ≡ Some name → P name
@@ -93,12 +95,12 @@ module _ (files : Text → Option (List ℕ)) where
   IsTold name = (bytes : List ℕ) × (files name ≡ Some bytes)
 
   can_told : (asked : Asked) → CanDo files asked → EachName asked IsTold
-  can_told (run w f q name) can = one_told IsTold name (can.bytes, can.told)
-  can_told (walk g q name) can = one_told IsTold name (can.bytes, can.told)
-  can_told (view k name) can = one_told IsTold name (can.bytes, can.told)
-  can_told (trace w f name) can = one_told IsTold name (can.bytes, can.told)
-  can_told (check term other) can = two_told IsTold term other (can.0.bytes, can.0.told) (can.1.0, can.1.1)
-  can_told (gen runs k) can = λ place name e. absurd (cc)
+  can_told (run tr w f q name) can = one_told IsTold name (can.bytes, can.told)
+  can_told (walk tr g q name) can = one_told IsTold name (can.bytes, can.told)
+  can_told (view tr k name) can = one_told IsTold name (can.bytes, can.told)
+  can_told (trace tr w f name) can = one_told IsTold name (can.bytes, can.told)
+  can_told (check tr term other) can = two_told IsTold term other (can.0.bytes, can.0.told) (can.1.0, can.1.1)
+  can_told (gen tr runs k) can = λ place name e. absurd (cc)
 
 -- ---- the call
 

@@ -2,6 +2,7 @@
 use Rattle.std.proofs.Common.{◌≡◌, ℕ, ◌+◌, ◌*◌, ◌<◌, ◌≤◌, Vec, Global, Result, Ok, Err, IfOk, true, false, List, length, sym, ◌∙◌, subst, inl, inr, ◌⊎◌, arith}
 use Rattle.std.proofs.lemmas.List.{length-map}
 use Rattle.ol_io.specs.declared.outside.NoMemory.{NoMemory}
+use Rattle.ol_term.specs.declared.translations.Translation.{Translation}
 use Rattle.ol_term.specs.Trees.{Tree}
 use Rattle.ol_net.specs.declared.parts.Kind.{Kind}
 use Rattle.ol_net.specs.Graph.{Graph}
@@ -66,23 +67,23 @@ pub record Told (names : List (List ℕ)) (heads stuck : ℕ) (journal : List En
   pub shown : IsTextOf names tree term
   pub written : text ≡ answer_text term (counts_of journal) stuck
 
-module _ (t : Tree) (names : List (List ℕ)) (start : Graph) (same : SameNet (net_of start) (translation_of t (length names)))
+module _ (tr : Translation) (t : Tree) (names : List (List ℕ)) (start : Graph) (same : SameNet (net_of start) (translation_of tr t (length names)))
     (fuel seats : ℕ) (w : ClosedTable) (table : IsTableOf start fuel seats w) (net : NamedNet NodeName) (after : IsAfter w net)
   where
     words_run : IsRun (net_under Init (net_of start)) 0 (journal_of w) net
     words_run = subst (λ (g : Graph). IsRun (net_under Init (net_of g)) 0 (journal_of w) net) table.1 after
 
     -- the run of the words is one from the term's own net
-    pub own_run : (M : NamedNet NodeName) × IsRun (start_net_of_term t names) 0 (journal_of w) M × SameNet net M
-    own_run = run_from_same _ (start_net_of_term t names) net 0 (journal_of w) (same_under Init (net_of start) (translation_of t (length names)) same) words_run
+    pub own_run : (M : NamedNet NodeName) × IsRun (start_net_of_term tr t names) 0 (journal_of w) M × SameNet net M
+    own_run = run_from_same _ (start_net_of_term tr t names) net 0 (journal_of w) (same_under Init (net_of start) (translation_of tr t (length names)) same) words_run
 
-    own_net : IsNet (net_of start) → IsNet (translation_of t (length names))
-    own_net n = net_same (net_of start) (translation_of t (length names)) same n
+    own_net : IsNet (net_of start) → IsNet (translation_of tr t (length names))
+    own_net n = net_same (net_of start) (translation_of tr t (length names)) same n
 
-    pub runs_out : IsNet (net_of start) → HasActive net → length (journal_of w) ≡ fuel → RunsOut t names fuel
+    pub runs_out : IsNet (net_of start) → HasActive net → length (journal_of w) ≡ fuel → RunsOut tr t names fuel
     runs_out n a full =
         let r = own_run in
-        any_run_runs_out t names fuel (own_net n) (journal_of w) r.0 r.1 (inr (full, (a.0, a.1, a.2, active_same net r.0 r.2 a.0 a.1 a.2 a.3)))
+        any_run_runs_out tr t names fuel (own_net n) (journal_of w) r.0 r.1 (inr (full, (a.0, a.1, a.2, active_same net r.0 r.2 a.0 a.1 a.2 a.3)))
 
     module _ (last : Graph) (f : IsFrozen net last) where
       one_name : (x y : ℕ) (k l : Kind) (i j : ℕ) → HasNode (net_of last) x k i → HasNode (net_of last) y l j → f.names x ≡ f.names y → x ≡ y
@@ -115,19 +116,19 @@ module _ (t : Tree) (names : List (List ℕ)) (start : Graph) (same : SameNet (n
         prints_work = record { complete = complete; within = within; last = last; frozen = f; shows = shows }
 
         -- what is printed of the workers' net is printed of the one-thread run, and what holds of its tree and term holds of those
-        pub prints_with : (P : List ReadNode → List ℕ → Type 0) → IsNet (net_of start) → P tree term → (p : Prints t names fuel heads text) × P p.shows.tree p.shows.term
+        pub prints_with : (P : List ReadNode → List ℕ → Type 0) → IsNet (net_of start) → P tree term → (p : Prints tr t names fuel heads text) × P p.shows.tree p.shows.term
         unfolding shows
         prints_with P n h =
             let r = own_run in
             let listed : SameNet r.0 named = same_trans r.0 net named (same_sym net r.0 r.2) (same_sym named net f.same) in
-            any_run_with P t names fuel heads text (own_net n) (journal_of w) r.0 r.1 (complete_same net r.0 r.2 complete) (record { within = within; listed = named; same = listed; shows = shows }) h
+            any_run_with P tr t names fuel heads text (own_net n) (journal_of w) r.0 r.1 (complete_same net r.0 r.2 complete) (record { within = within; listed = named; same = listed; shows = shows }) h
 
 -- the tree of the untouched net is that of the translation, and what holds of its tree and term holds of those
-pub walks_with : (P : List ReadNode → List ℕ → Type 0) (t : Tree) (names : List (List ℕ)) (net : Graph) → SameNet (net_of net) (translation_of t (length names)) → (edges heads : ℕ) (tree : List ReadNode) (term text : List ℕ) →
-    IsTree (net_of net) heads edges tree → IsTextOf names tree term → text ≡ line term → P tree term → (w : Walks t names edges heads text) × P w.tree w.term
-walks_with P t names net start edges heads tree term text r sh w h =
-    let size = same_length (net_of net) (translation_of t (length names)) start (net_of_once net) (net_of_parts_once (1 + length names) (nodes_of t) (links_of t)) in
-    (record { tree = tree; term = term; read = tree_same (net_of net) (translation_of t (length names)) start size heads edges tree r; shown = sh; written = w }, h)
+pub walks_with : (P : List ReadNode → List ℕ → Type 0) (tr : Translation) (t : Tree) (names : List (List ℕ)) (net : Graph) → SameNet (net_of net) (translation_of tr t (length names)) → (edges heads : ℕ) (tree : List ReadNode) (term text : List ℕ) →
+    IsTree (net_of net) heads edges tree → IsTextOf names tree term → text ≡ line term → P tree term → (w : Walks tr t names edges heads text) × P w.tree w.term
+walks_with P tr t names net start edges heads tree term text r sh w h =
+    let size = same_length (net_of net) (translation_of tr t (length names)) start (net_of_once net) (net_of_parts_once (1 + length names) (nodes_of tr t) (links_of tr t)) in
+    (record { tree = tree; term = term; read = tree_same (net_of net) (translation_of tr t (length names)) start size heads edges tree r; shown = sh; written = w }, h)
 
 -- a text that was made, if one was
 pub reads_text : (P : List ℕ → Type 0) (r : Result (Vec ℕ Global) NoMemory) (text : List ℕ) → IfOk r (λ v. v.items ≡ text) → ((x : List ℕ) → x ≡ text → P x) → IfOk r (λ v. P v.items)

@@ -40,9 +40,9 @@ within : (m n fuel : ℕ) → n ≡ m → m ≤ fuel → n ≤ fuel
 within m n fuel e b = omega arith
 
 pub every_run_prints : EveryRunPrints
-every_run_prints t names fuel heads text is_net p journal net run complete =
-    let N = start_net_of_term t names in
-    let a = runs_agree N (start_is_net t names is_net) (start_is_named t names is_net) p.net net p.journal journal (as_run N p.net 0 p.journal p.run.leads) run p.complete complete in
+every_run_prints tr t names fuel heads text is_net p journal net run complete =
+    let N = start_net_of_term tr t names in
+    let a = runs_agree N (start_is_net tr t names is_net) (start_is_named tr t names is_net) p.net net p.journal journal (as_run N p.net 0 p.journal p.run.leads) run p.complete complete in
     record {
       within = within (length p.journal) (length journal) fuel a.steps p.run.within;
       listed = net_under a.names p.net;
@@ -51,7 +51,7 @@ every_run_prints t names fuel heads text is_net p journal net run complete =
     }
 
 pub every_run_is_longer : EveryRunIsLonger
-every_run_is_longer t names fuel is_net o journal net run complete =
-    let N = start_net_of_term t names in
-    let shorter = goes_on_shorter N (start_is_net t names is_net) (start_is_named t names is_net) o.net net o.journal journal (as_run N o.net 0 o.journal o.run.leads) run o.left complete in
+every_run_is_longer tr t names fuel is_net o journal net run complete =
+    let N = start_net_of_term tr t names in
+    let shorter = goes_on_shorter N (start_is_net tr t names is_net) (start_is_named tr t names is_net) o.net net o.journal journal (as_run N o.net 0 o.journal o.run.leads) run o.left complete in
     omega (arith, o.full, shorter)

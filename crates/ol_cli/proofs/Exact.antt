@@ -5,6 +5,7 @@ use Rattle.std.specs.Result.{IsErrOf}
 use Rattle.ol_io.specs.declared.calls.ReadAll.{ReadAll}
 use Rattle.ol_io.specs.declared.calls.ReadAll.TheVariants.{TooLong}
 use Rattle.ol_io.specs.Outside.{Rose, Appended, IsAllOf, IsLonger}
+use Rattle.ol_term.specs.declared.translations.Translation.{Translation}
 use Rattle.ol_term.specs.Trees.{Tree}
 use Rattle.ol_term.specs.Generated.{doubled_text}
 use Rattle.ol_words.specs.Texts.{Text}
@@ -33,40 +34,40 @@ IsOfTerm Spent = Unit {0}
 IsOfTerm _ = ⊥
 
 pub term_status : (asked : Asked) (t : Tree) (names : List (List ℕ)) (st : Status) (text : List ℕ) → TermAnswer asked t names st text → IsOfTerm st
-term_status (run w f q name) t names Done text h = tt
-term_status (run w f q name) t names Spent text h = tt
-term_status (run w f q name) t names Usage text h = h
-term_status (run w f q name) t names Syntax text h = h
-term_status (run w f q name) t names ReadFault text h = h
-term_status (run w f q name) t names WriteFault text h = h
-term_status (run w f q name) t names NoMemory text h = h
-term_status (run w f q name) t names Limit text h = h
-term_status (walk e q name) t names Done text h = tt
-term_status (walk e q name) t names Spent text h = absurd h
-term_status (walk e q name) t names Usage text h = h
-term_status (walk e q name) t names Syntax text h = h
-term_status (walk e q name) t names ReadFault text h = h
-term_status (walk e q name) t names WriteFault text h = h
-term_status (walk e q name) t names NoMemory text h = h
-term_status (walk e q name) t names Limit text h = h
-term_status (view k name) t names Done text h = tt
-term_status (view k name) t names Spent text h = absurd h
-term_status (view k name) t names Usage text h = h
-term_status (view k name) t names Syntax text h = h
-term_status (view k name) t names ReadFault text h = h
-term_status (view k name) t names WriteFault text h = h
-term_status (view k name) t names NoMemory text h = h
-term_status (view k name) t names Limit text h = h
-term_status (trace w f name) t names Done text h = tt
-term_status (trace w f name) t names Spent text h = tt
-term_status (trace w f name) t names Usage text h = h
-term_status (trace w f name) t names Syntax text h = h
-term_status (trace w f name) t names ReadFault text h = h
-term_status (trace w f name) t names WriteFault text h = h
-term_status (trace w f name) t names NoMemory text h = h
-term_status (trace w f name) t names Limit text h = h
-term_status (check term journal) t names st text h = absurd h
-term_status (gen runs k) t names st text h = absurd h
+term_status (run tr w f q name) t names Done text h = tt
+term_status (run tr w f q name) t names Spent text h = tt
+term_status (run tr w f q name) t names Usage text h = h
+term_status (run tr w f q name) t names Syntax text h = h
+term_status (run tr w f q name) t names ReadFault text h = h
+term_status (run tr w f q name) t names WriteFault text h = h
+term_status (run tr w f q name) t names NoMemory text h = h
+term_status (run tr w f q name) t names Limit text h = h
+term_status (walk tr e q name) t names Done text h = tt
+term_status (walk tr e q name) t names Spent text h = absurd h
+term_status (walk tr e q name) t names Usage text h = h
+term_status (walk tr e q name) t names Syntax text h = h
+term_status (walk tr e q name) t names ReadFault text h = h
+term_status (walk tr e q name) t names WriteFault text h = h
+term_status (walk tr e q name) t names NoMemory text h = h
+term_status (walk tr e q name) t names Limit text h = h
+term_status (view tr k name) t names Done text h = tt
+term_status (view tr k name) t names Spent text h = absurd h
+term_status (view tr k name) t names Usage text h = h
+term_status (view tr k name) t names Syntax text h = h
+term_status (view tr k name) t names ReadFault text h = h
+term_status (view tr k name) t names WriteFault text h = h
+term_status (view tr k name) t names NoMemory text h = h
+term_status (view tr k name) t names Limit text h = h
+term_status (trace tr w f name) t names Done text h = tt
+term_status (trace tr w f name) t names Spent text h = tt
+term_status (trace tr w f name) t names Usage text h = h
+term_status (trace tr w f name) t names Syntax text h = h
+term_status (trace tr w f name) t names ReadFault text h = h
+term_status (trace tr w f name) t names WriteFault text h = h
+term_status (trace tr w f name) t names NoMemory text h = h
+term_status (trace tr w f name) t names Limit text h = h
+term_status (check tr term journal) t names st text h = absurd h
+term_status (gen tr runs k) t names st text h = absurd h
 
 -- the cause of an answer to bytes that were read
 pub read_cause : (asked : Asked) (s : Seen) (st : Status) (text : List ℕ) → s.faults' ≡ s.faults → Read asked s st text → FileCause asked s st text
@@ -84,7 +85,7 @@ no_usage : (s : Seen) (text : List ℕ) (asked : Asked) → JobCause s Usage tex
 no_usage s text asked (by_file has c) = absurd (term_status asked c.1.2.0 c.1.2.1 Usage text c.1.2.3)
 no_usage s text asked (by_journal same w i c) = c
 no_usage s text asked (by_making {runs = false} same m) = let e = m.0 in absurd (cc)
-no_usage s text asked (by_making {runs = true} same m) = absurd (term_status plain_run m.0 m.1 Usage text m.3)
+no_usage s text asked (by_making {translation = tr} {runs = true} same m) = absurd (term_status (plain_run tr) m.0 m.1 Usage text m.3)
 
 -- the cause of a job's answer is that of the words
 pub job_cause : (words : List (String Global)) (s : Seen) (asked : Asked) (st : Status) (text : List ℕ) → AskFor words asked → JobCause s st text asked → Cause words s st text
@@ -104,16 +105,16 @@ AreTold contents asked = EachName asked (λ name. (bytes : List ℕ) × (content
 
 -- the bytes of the term file are told
 told_first : (contents : Text → Option (List ℕ)) (asked : Asked) → HasTermFile asked → AreTold contents asked → (bytes : List ℕ) × (contents (file_name asked) ≡ Some bytes)
-told_first contents (run w f q name) has e = e 0 name refl
-told_first contents (walk g q name) has e = e 0 name refl
-told_first contents (view k name) has e = e 0 name refl
-told_first contents (trace w f name) has e = e 0 name refl
-told_first contents (check term journal) has e = e 0 term refl
-told_first contents (gen runs k) has e = absurd has
+told_first contents (run tr w f q name) has e = e 0 name refl
+told_first contents (walk tr g q name) has e = e 0 name refl
+told_first contents (view tr k name) has e = e 0 name refl
+told_first contents (trace tr w f name) has e = e 0 name refl
+told_first contents (check tr term journal) has e = e 0 term refl
+told_first contents (gen tr runs k) has e = absurd has
 
 -- and those of the journal file
-told_second : (contents : Text → Option (List ℕ)) (term journal : Text) → AreTold contents (check term journal) → (bytes : List ℕ) × (contents journal ≡ Some bytes)
-told_second contents term journal e = e 1 journal refl
+told_second : (tr : Translation) (contents : Text → Option (List ℕ)) (term journal : Text) → AreTold contents (check tr term journal) → (bytes : List ℕ) × (contents journal ≡ Some bytes)
+told_second tr contents term journal e = e 1 journal refl
 
 -- what was read is what is told
 same_read : (contents : Option (List ℕ)) (read told : List ℕ) → contents ≡ Some told → IsAllOf contents read → read ≡ told
@@ -145,22 +146,22 @@ module _ (words : List (String Global)) (f f' given : ℕ) (contents : Text → 
       go WriteFault text c = same WriteFault text c.1
       go NoMemory text c = same NoMemory text c.1
 
-  journal_answer : (journal : Text) (bytes : List ℕ) → contents journal ≡ Some bytes → (t : Tree) (names : List (List ℕ)) (st : Status) (text : List ℕ) → JournalCause at_hand journal t names st text → JournalAnswer t names bytes st text
-  journal_answer journal bytes told t names Limit text c = (past_told (contents journal) bytes 67108864 told c.0.longer, c.1)
-  journal_answer journal bytes told t names Done text c = subst (λ b. JournalAnswer t names b Done text) (same_read (contents journal) c.0 bytes told c.1.whole) c.2
-  journal_answer journal bytes told t names Usage text c = absurd c
-  journal_answer journal bytes told t names Syntax text c = absurd c
-  journal_answer journal bytes told t names Spent text c = absurd c
-  journal_answer journal bytes told t names ReadFault text c = absurd c
-  journal_answer journal bytes told t names WriteFault text c = absurd c
-  journal_answer journal bytes told t names NoMemory text c = absurd c
+  journal_answer : (journal : Text) (bytes : List ℕ) → contents journal ≡ Some bytes → (tr : Translation) (t : Tree) (names : List (List ℕ)) (st : Status) (text : List ℕ) → JournalCause at_hand journal tr t names st text → JournalAnswer tr t names bytes st text
+  journal_answer journal bytes told tr t names Limit text c = (past_told (contents journal) bytes 67108864 told c.0.longer, c.1)
+  journal_answer journal bytes told tr t names Done text c = subst (λ b. JournalAnswer tr t names b Done text) (same_read (contents journal) c.0 bytes told c.1.whole) c.2
+  journal_answer journal bytes told tr t names Usage text c = absurd c
+  journal_answer journal bytes told tr t names Syntax text c = absurd c
+  journal_answer journal bytes told tr t names Spent text c = absurd c
+  journal_answer journal bytes told tr t names ReadFault text c = absurd c
+  journal_answer journal bytes told tr t names WriteFault text c = absurd c
+  journal_answer journal bytes told tr t names NoMemory text c = absurd c
 
   job_answer : (asked : Asked) → AreTold contents asked → (st : Status) (text : List ℕ) → JobCause at_hand st text asked → JobAnswer contents st text asked
   job_answer asked e st text (by_file has c) = let b = told_first contents asked has e in of_file has b.1 (file_answer asked b.0 b.1 st text c)
-  job_answer _ e st text (by_journal {term = term} {journal = journal} {bytes = bytes} {t = t} {names = names} same whole i c) =
-      let b = told_first contents (check term journal) tt e in
-      let d = told_second contents term journal e in
-      of_journal b.1 (subst (λ b. IsTermFile b t names) (same_read (contents term) bytes b.0 b.1 whole) i) d.1 (journal_answer journal d.0 d.1 t names st text c)
+  job_answer _ e st text (by_journal {translation = tr} {term = term} {journal = journal} {bytes = bytes} {t = t} {names = names} same whole i c) =
+      let b = told_first contents (check tr term journal) tt e in
+      let d = told_second tr contents term journal e in
+      of_journal b.1 (subst (λ b. IsTermFile tr b t names) (same_read (contents term) bytes b.0 b.1 whole) i) d.1 (journal_answer journal d.0 d.1 tr t names st text c)
   job_answer _ e st text (by_making same m) = made m
 
   module _ (tells : TellsFiles contents words) where
@@ -261,7 +262,7 @@ job_fault : (asked : Asked) (s : Seen) (text : List ℕ) → JobCause s ReadFaul
 job_fault asked s text (by_file has c) = c.0
 job_fault _ s text (by_journal same whole i c) = absurd c
 job_fault _ s text (by_making {runs = false} same m) = let e = m.0 in absurd (cc)
-job_fault _ s text (by_making {runs = true} same m) = absurd (term_status plain_run m.0 m.1 ReadFault text m.3)
+job_fault _ s text (by_making {translation = tr} {runs = true} same m) = absurd (term_status (plain_run tr) m.0 m.1 ReadFault text m.3)
 
 pub ends_fault : (words : List (String Global)) (s : Seen) (r : Status) (g g' : ℕ) (old new : Option (List ℕ)) → Ends words s r g g' old new → r ≡ ReadFault → Rose s.faults s.faults'
 ends_fault words s ReadFault g g' old new e is = let c = subst (λ st. Cause words s st e.1) (sym e.3.0) e.2 in job_fault c.0 s e.1 c.2
@@ -275,13 +276,13 @@ ends_fault words s Limit g g' old new e is = absurd (cc)
 
 -- ---- what was done came to the end of its input
 
-no_files : (words : List (String Global)) (runs : Bool) (k : ℕ) → AskFor words (gen runs k) → files_of words ≡ 0
-no_files words runs k j = ap (λ (a : Option Asked). option_map_or count_of_files a 0) j
+no_files : (tr : Translation) (words : List (String Global)) (runs : Bool) (k : ℕ) → AskFor words (gen tr runs k) → files_of words ≡ 0
+no_files tr words runs k j = ap (λ (a : Option Asked). option_map_or count_of_files a 0) j
 
 job_ended : (words : List (String Global)) (asked : Asked) (s : Seen) (text : List ℕ) → 0 < files_of words → AskFor words asked → JobCause s Done text asked → s.ended ≡ true
 job_ended words asked s text some j (by_file has c) = c.1.1.to_end
 job_ended words _ s text some j (by_journal same whole i c) = c.1.to_end
-job_ended words _ s text some j (by_making {runs = runs} {k = k} same m) = let none = no_files words runs k j in absurd (omega arith)
+job_ended words _ s text some j (by_making {translation = tr} {runs = runs} {k = k} same m) = let none = no_files tr words runs k j in absurd (omega arith)
 
 pub ends_done : (words : List (String Global)) (s : Seen) (r : Status) (g g' : ℕ) (old new : Option (List ℕ)) → Ends words s r g g' old new → 0 < files_of words → r ≡ Done → s.ended ≡ true
 ends_done words s Done g g' old new e some is = let c = subst (λ st. Cause words s st e.1) (sym e.3.0) e.2 in job_ended words c.0 s e.1 some c.1 c.2
@@ -307,9 +308,9 @@ job_status s st text asked (by_file has c) = file st c
     file Syntax c = ((λ e. cc), (λ e. cc))
     file Spent c = ((λ e. cc), (λ e. cc))
     file Done c = ((λ e. cc), (λ e. cc))
-job_status s st text _ (by_journal {journal = journal} {t = t} {names = names} same w i c) = on_journal st c
+job_status s st text _ (by_journal {translation = tr} {journal = journal} {t = t} {names = names} same w i c) = on_journal st c
   where
-    on_journal : (st : Status) → JournalCause s journal t names st text → (st ≢ NoMemory) × (st ≢ WriteFault)
+    on_journal : (st : Status) → JournalCause s journal tr t names st text → (st ≢ NoMemory) × (st ≢ WriteFault)
     on_journal NoMemory c = absurd c
     on_journal WriteFault c = absurd c
     on_journal ReadFault c = absurd c
@@ -319,11 +320,11 @@ job_status s st text _ (by_journal {journal = journal} {t = t} {names = names} s
     on_journal Limit c = ((λ e. cc), (λ e. cc))
     on_journal Done c = ((λ e. cc), (λ e. cc))
 job_status s st text _ (by_making {runs = false} same m) = ((λ e. let z : NoMemory ≡ Done = sym e ∙ m.0 in cc), (λ e. let z : WriteFault ≡ Done = sym e ∙ m.0 in cc))
-job_status s st text _ (by_making {runs = true} {k = k} same m) = making st m
+job_status s st text _ (by_making {translation = tr} {runs = true} {k = k} same m) = making st m
   where
-    making : (st : Status) → FileAnswer plain_run (doubled_text k) st text → (st ≢ NoMemory) × (st ≢ WriteFault)
-    making NoMemory m = absurd (term_status plain_run m.0 m.1 NoMemory text m.3)
-    making WriteFault m = absurd (term_status plain_run m.0 m.1 WriteFault text m.3)
+    making : (st : Status) → FileAnswer (plain_run tr) (doubled_text k) st text → (st ≢ NoMemory) × (st ≢ WriteFault)
+    making NoMemory m = absurd (term_status (plain_run tr) m.0 m.1 NoMemory text m.3)
+    making WriteFault m = absurd (term_status (plain_run tr) m.0 m.1 WriteFault text m.3)
     making ReadFault m = ((λ e. cc), (λ e. cc))
     making Limit m = ((λ e. cc), (λ e. cc))
     making Usage m = ((λ e. cc), (λ e. cc))
@@ -343,16 +344,16 @@ written_ends words s Done text g g' old new c same w = (Done, text, c, (refl, sa
 
 -- ---- a journal that was read last
 
-pub checked_cause : (s : Seen) (term journal : Text) (bytes : List ℕ) (t : Tree) (names : List (List ℕ)) → IsAllOf (s.contents term) bytes → IsTermFile bytes t names → (st : Status) (text : List ℕ) →
-    EndsJournal s journal t names st text → JobCause s st text (check term journal)
-checked_cause s term journal bytes t names whole i ReadFault text h = by_file tt h
-checked_cause s term journal bytes t names whole i Limit text h = by_journal h.0 whole i h.1
-checked_cause s term journal bytes t names whole i Done text h = by_journal h.0 whole i h.1
-checked_cause s term journal bytes t names whole i Usage text h = absurd h.1
-checked_cause s term journal bytes t names whole i Syntax text h = absurd h.1
-checked_cause s term journal bytes t names whole i Spent text h = absurd h.1
-checked_cause s term journal bytes t names whole i WriteFault text h = absurd h.1
-checked_cause s term journal bytes t names whole i NoMemory text h = absurd h.1
+pub checked_cause : (tr : Translation) (s : Seen) (term journal : Text) (bytes : List ℕ) (t : Tree) (names : List (List ℕ)) → IsAllOf (s.contents term) bytes → IsTermFile tr bytes t names → (st : Status) (text : List ℕ) →
+    EndsJournal s journal tr t names st text → JobCause s st text (check tr term journal)
+checked_cause tr s term journal bytes t names whole i ReadFault text h = by_file tt h
+checked_cause tr s term journal bytes t names whole i Limit text h = by_journal h.0 whole i h.1
+checked_cause tr s term journal bytes t names whole i Done text h = by_journal h.0 whole i h.1
+checked_cause tr s term journal bytes t names whole i Usage text h = absurd h.1
+checked_cause tr s term journal bytes t names whole i Syntax text h = absurd h.1
+checked_cause tr s term journal bytes t names whole i Spent text h = absurd h.1
+checked_cause tr s term journal bytes t names whole i WriteFault text h = absurd h.1
+checked_cause tr s term journal bytes t names whole i NoMemory text h = absurd h.1
 
 -- ---- a file that isn't read
 
@@ -363,7 +364,7 @@ pub past_cause : (s : Seen) (asked : Asked) → HasTermFile asked → (st : Stat
 past_cause s asked has st text same gave is e = subst (λ st. JobCause s st text asked) (sym is) (by_file has (same, inl (gave, e)))
 
 -- what the read of the journal ended with, after that of the term
-pub after_term : (faults mid faults' given : ℕ) (contents then : Text → Option (List ℕ)) (ended : Bool) (journal : Text) (t : Tree) (names : List (List ℕ)) (st : Status) (text : List ℕ) → mid ≡ faults → then ≡ contents →
-    EndsJournal (seen mid faults' then given ended) journal t names st text → EndsJournal (seen faults faults' contents given ended) journal t names st text
-after_term faults mid faults' given contents then ended journal t names st text e d h =
-    subst (λ f. EndsJournal (seen f faults' contents given ended) journal t names st text) e (subst (λ k. EndsJournal (seen mid faults' k given ended) journal t names st text) d h)
+pub after_term : (faults mid faults' given : ℕ) (contents then : Text → Option (List ℕ)) (ended : Bool) (journal : Text) (tr : Translation) (t : Tree) (names : List (List ℕ)) (st : Status) (text : List ℕ) → mid ≡ faults → then ≡ contents →
+    EndsJournal (seen mid faults' then given ended) journal tr t names st text → EndsJournal (seen faults faults' contents given ended) journal tr t names st text
+after_term faults mid faults' given contents then ended journal tr t names st text e d h =
+    subst (λ f. EndsJournal (seen f faults' contents given ended) journal tr t names st text) e (subst (λ k. EndsJournal (seen mid faults' k given ended) journal tr t names st text) d h)

@@ -10,7 +10,7 @@ use Rattle.ol_wire.specs.Closed.{ClosedTable}
 use Rattle.ol_words.specs.Asked.{Asked, run, walk, view, trace, check, gen}
 use Rattle.ol_cli.specs.declared.status.Status.{Status}
 use Rattle.ol_cli.specs.declared.status.Status.TheVariants as status
-use Rattle.ol_cli.specs.Jobs.{AskFor, file_name}
+use Rattle.ol_cli.specs.Jobs.{AskFor, file_name, translation_in}
 use Rattle.ol_cli.specs.Answers.{IsTermFile, Seen, GaveAll}
 use Rattle.ol_cli.specs.Handed.{TermHands, FileHands, ReadHands, JobHands, WordsHand, WhereEnded}
 
@@ -34,55 +34,55 @@ where_ended status.Limit closed P Q f h = h
 -- where no job ends so, nothing is handed back
 module _ (t : Tree) (names : List (List ℕ)) (text : List ℕ) (closed : Option ClosedTable) where
   none_at_usage : (asked : Asked) → TermHands asked t names status.Usage text closed → closed ≡ None
-  none_at_usage (run workers fuel heads name) h = absurd h.4
-  none_at_usage (walk edges heads name) h = h
-  none_at_usage (view after name) h = h
-  none_at_usage (trace workers fuel name) h = absurd h.4
-  none_at_usage (check term journal) h = h
-  none_at_usage (gen runs k) h = h
+  none_at_usage (run tr workers fuel heads name) h = absurd h.4
+  none_at_usage (walk tr edges heads name) h = h
+  none_at_usage (view tr after name) h = h
+  none_at_usage (trace tr workers fuel name) h = absurd h.4
+  none_at_usage (check tr term journal) h = h
+  none_at_usage (gen tr runs k) h = h
 
   none_at_syntax : (asked : Asked) → TermHands asked t names status.Syntax text closed → closed ≡ None
-  none_at_syntax (run workers fuel heads name) h = absurd h.4
-  none_at_syntax (walk edges heads name) h = h
-  none_at_syntax (view after name) h = h
-  none_at_syntax (trace workers fuel name) h = absurd h.4
-  none_at_syntax (check term journal) h = h
-  none_at_syntax (gen runs k) h = h
+  none_at_syntax (run tr workers fuel heads name) h = absurd h.4
+  none_at_syntax (walk tr edges heads name) h = h
+  none_at_syntax (view tr after name) h = h
+  none_at_syntax (trace tr workers fuel name) h = absurd h.4
+  none_at_syntax (check tr term journal) h = h
+  none_at_syntax (gen tr runs k) h = h
 
   none_at_read_fault : (asked : Asked) → TermHands asked t names status.ReadFault text closed → closed ≡ None
-  none_at_read_fault (run workers fuel heads name) h = absurd h.4
-  none_at_read_fault (walk edges heads name) h = h
-  none_at_read_fault (view after name) h = h
-  none_at_read_fault (trace workers fuel name) h = absurd h.4
-  none_at_read_fault (check term journal) h = h
-  none_at_read_fault (gen runs k) h = h
+  none_at_read_fault (run tr workers fuel heads name) h = absurd h.4
+  none_at_read_fault (walk tr edges heads name) h = h
+  none_at_read_fault (view tr after name) h = h
+  none_at_read_fault (trace tr workers fuel name) h = absurd h.4
+  none_at_read_fault (check tr term journal) h = h
+  none_at_read_fault (gen tr runs k) h = h
 
   none_at_write_fault : (asked : Asked) → TermHands asked t names status.WriteFault text closed → closed ≡ None
-  none_at_write_fault (run workers fuel heads name) h = absurd h.4
-  none_at_write_fault (walk edges heads name) h = h
-  none_at_write_fault (view after name) h = h
-  none_at_write_fault (trace workers fuel name) h = absurd h.4
-  none_at_write_fault (check term journal) h = h
-  none_at_write_fault (gen runs k) h = h
+  none_at_write_fault (run tr workers fuel heads name) h = absurd h.4
+  none_at_write_fault (walk tr edges heads name) h = h
+  none_at_write_fault (view tr after name) h = h
+  none_at_write_fault (trace tr workers fuel name) h = absurd h.4
+  none_at_write_fault (check tr term journal) h = h
+  none_at_write_fault (gen tr runs k) h = h
 
   none_at_no_memory : (asked : Asked) → TermHands asked t names status.NoMemory text closed → closed ≡ None
-  none_at_no_memory (run workers fuel heads name) h = absurd h.4
-  none_at_no_memory (walk edges heads name) h = h
-  none_at_no_memory (view after name) h = h
-  none_at_no_memory (trace workers fuel name) h = absurd h.4
-  none_at_no_memory (check term journal) h = h
-  none_at_no_memory (gen runs k) h = h
+  none_at_no_memory (run tr workers fuel heads name) h = absurd h.4
+  none_at_no_memory (walk tr edges heads name) h = h
+  none_at_no_memory (view tr after name) h = h
+  none_at_no_memory (trace tr workers fuel name) h = absurd h.4
+  none_at_no_memory (check tr term journal) h = h
+  none_at_no_memory (gen tr runs k) h = h
 
   none_at_limit : (asked : Asked) → TermHands asked t names status.Limit text closed → closed ≡ None
-  none_at_limit (run workers fuel heads name) h = absurd h.4
-  none_at_limit (walk edges heads name) h = h
-  none_at_limit (view after name) h = h
-  none_at_limit (trace workers fuel name) h = absurd h.4
-  none_at_limit (check term journal) h = h
-  none_at_limit (gen runs k) h = h
+  none_at_limit (run tr workers fuel heads name) h = absurd h.4
+  none_at_limit (walk tr edges heads name) h = h
+  none_at_limit (view tr after name) h = h
+  none_at_limit (trace tr workers fuel name) h = absurd h.4
+  none_at_limit (check tr term journal) h = h
+  none_at_limit (gen tr runs k) h = h
 
 -- what is handed back of a term is handed back of its file
-pub file_hands : (asked : Asked) (bytes : List ℕ) (t : Tree) (names : List (List ℕ)) → IsTermFile bytes t names → (st : Status) (text : List ℕ) (closed : Option ClosedTable) →
+pub file_hands : (asked : Asked) (bytes : List ℕ) (t : Tree) (names : List (List ℕ)) → IsTermFile (translation_in asked) bytes t names → (st : Status) (text : List ℕ) (closed : Option ClosedTable) →
     TermHands asked t names st text closed → WhereEnded st closed (FileHands asked bytes st text closed)
 file_hands asked bytes t names i status.Done text closed h = (t, names, i, h)
 file_hands asked bytes t names i status.Spent text closed h = (t, names, i, h)

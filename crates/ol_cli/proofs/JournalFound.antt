@@ -1,5 +1,6 @@
 -- What is found of a journal against the net that the code has is found against the term's own net.
 use Rattle.std.proofs.Common.{ℕ, List, [], length}
+use Rattle.ol_term.specs.declared.translations.Translation.{Translation}
 use Rattle.ol_term.specs.Trees.{Tree}
 use Rattle.ol_net.specs.Graph.{Graph}
 use Rattle.ol_net.specs.Nets.{NamedNet, SameNet}
@@ -38,9 +39,9 @@ found_to N N' same text _ (bad_text {journal = journal} {last = last} {rest = re
 found_to N N' same text _ (not_a_run {journal = journal} {last = last} {rest = rest} {first = first} {second = second} b l h i) =
     let t = begins_to N N' same text journal last rest b in not_a_run t.1 l h (idle_to last t.0 t.2 first second i)
 
-pub own_found : (t : Tree) (names : List (List ℕ)) (net : Graph) → SameNet (net_of net) (translation_of t (length names)) → (text : List ℕ) (v : Check) →
-    OnlyIsFound (view.start_net_of_graph net) text v → OnlyIsFound (start_net_of_term t names) text v
-own_found t names net same text v only w =
-    let here = same_under Init (net_of net) (translation_of t (length names)) same in
-    let back = same_sym (view.start_net_of_graph net) (start_net_of_term t names) here in
-    ((λ e. found_to (view.start_net_of_graph net) (start_net_of_term t names) here text w ((only w).0 e)), (λ k. (only w).1 (found_to (start_net_of_term t names) (view.start_net_of_graph net) back text w k)))
+pub own_found : (tr : Translation) (t : Tree) (names : List (List ℕ)) (net : Graph) → SameNet (net_of net) (translation_of tr t (length names)) → (text : List ℕ) (v : Check) →
+    OnlyIsFound (view.start_net_of_graph net) text v → OnlyIsFound (start_net_of_term tr t names) text v
+own_found tr t names net same text v only w =
+    let here = same_under Init (net_of net) (translation_of tr t (length names)) same in
+    let back = same_sym (view.start_net_of_graph net) (start_net_of_term tr t names) here in
+    ((λ e. found_to (view.start_net_of_graph net) (start_net_of_term tr t names) here text w ((only w).0 e)), (λ k. (only w).1 (found_to (start_net_of_term tr t names) (view.start_net_of_graph net) back text w k)))

@@ -1,5 +1,6 @@
 -- The same words and files have one status, and one text where the job tells one.
 use Rattle.std.proofs.Common.{◌≡◌, ℕ, ◌<◌, ◌≤◌, Bool, true, false, List, length, Option, Some, refl, sym, ap, ◌∙◌, subst, arith, String, Global}
+use Rattle.ol_term.specs.declared.translations.Translation.{Translation}
 use Rattle.ol_term.specs.Trees.{Tree, depth}
 use Rattle.ol_term.specs.Generated.{doubled_text}
 use Rattle.ol_parse.specs.Texts.{IsRefusedAt}
@@ -19,7 +20,7 @@ use Rattle.ol_words.specs.Texts.{Text}
 use Rattle.ol_words.specs.Asked.{Asked, run, walk, view, trace, check, gen}
 use Rattle.ol_cli.specs.declared.status.Status.{Status}
 use Rattle.ol_cli.specs.declared.status.Status.TheVariants.{Done, Usage, Syntax, Spent, ReadFault, WriteFault, NoMemory, Limit}
-use Rattle.ol_cli.specs.Jobs.{AskFor, AskForNothing, file_name}
+use Rattle.ol_cli.specs.Jobs.{AskFor, AskForNothing, file_name, translation_in}
 use Rattle.ol_cli.specs.Inside.{IsOnTerm}
 use Rattle.ol_cli.specs.Laws.{TellsOne}
 use Rattle.ol_cli.specs.Texts.{usage_text, bytes_text, depth_text, nodes_text, journal_text, syntax_text, spent_text, found_text}
@@ -48,76 +49,76 @@ alike_as asked s s' u x x' y h h' = alike asked s s' x x' (same_as s s' u x x' y
 -- ---- a term
 
 -- the translation of a file's term is a net
-pub file_net : (bytes : List ℕ) (t : Tree) (names : List (List ℕ)) → IsFileOf bytes t names → IsNet (translation_of t (length names))
-file_net bytes t names f =
+pub file_net : (tr : Translation) (bytes : List ℕ) (t : Tree) (names : List (List ℕ)) → IsFileOf bytes t names → IsNet (translation_of tr t (length names))
+file_net tr bytes t names f =
     let has_names : HasNames (number f.named) (length (names_of f.named)) =
     record { bound = whole_bound f.named; named = whole_named f.named; each = λ k b. whole_occurs f.named k b } in
-    translation_net t (length names) (subst (λ t. HasNames t (length names)) (sym f.tree) (subst (λ names. HasNames (number f.named) (length names)) (sym f.free_names) has_names))
+    translation_net tr t (length names) (subst (λ t. HasNames t (length names)) (sym f.tree) (subst (λ names. HasNames (number f.named) (length names)) (sym f.free_names) has_names))
 
 -- what a job answers to a term, by cases
 pub data OfTerm (t : Tree) (names : List (List ℕ)) : Asked → Status → List ℕ → Type 0 where
-  spent : {w fuel heads : ℕ} {name x : List ℕ} → RunsOut t names fuel → x ≡ spent_text fuel → OfTerm t names (run w fuel heads name) Spent x
-  printed : {w fuel heads : ℕ} {name x : List ℕ} → Prints t names fuel heads x → OfTerm t names (run w fuel heads name) Done x
-  walked : {edges heads : ℕ} {name x : List ℕ} → Walks t names edges heads x → OfTerm t names (walk edges heads name) Done x
-  viewed : {after : ℕ} {name x : List ℕ} → Views t names after x → OfTerm t names (view after name) Done x
-  traced : {w fuel : ℕ} {name x : List ℕ} → RunEnds t names fuel → OfTerm t names (trace w fuel name) Done x
-  stopped : {w fuel : ℕ} {name x : List ℕ} → RunsOut t names fuel → OfTerm t names (trace w fuel name) Spent x
+  spent : {tr : Translation} {w fuel heads : ℕ} {name x : List ℕ} → RunsOut tr t names fuel → x ≡ spent_text fuel → OfTerm t names (run tr w fuel heads name) Spent x
+  printed : {tr : Translation} {w fuel heads : ℕ} {name x : List ℕ} → Prints tr t names fuel heads x → OfTerm t names (run tr w fuel heads name) Done x
+  walked : {tr : Translation} {edges heads : ℕ} {name x : List ℕ} → Walks tr t names edges heads x → OfTerm t names (walk tr edges heads name) Done x
+  viewed : {tr : Translation} {after : ℕ} {name x : List ℕ} → Views tr t names after x → OfTerm t names (view tr after name) Done x
+  traced : {tr : Translation} {w fuel : ℕ} {name x : List ℕ} → RunEnds tr t names fuel → OfTerm t names (trace tr w fuel name) Done x
+  stopped : {tr : Translation} {w fuel : ℕ} {name x : List ℕ} → RunsOut tr t names fuel → OfTerm t names (trace tr w fuel name) Spent x
 
 pub of_term : (t : Tree) (names : List (List ℕ)) (a : Asked) (s : Status) (x : List ℕ) → TermAnswer a t names s x → OfTerm t names a s x
-of_term t names (run w fuel heads name) Spent x h = spent h.0 h.1
-of_term t names (run w fuel heads name) Done x h = printed h
-of_term t names (run w fuel heads name) Usage x h = absurd h
-of_term t names (run w fuel heads name) Syntax x h = absurd h
-of_term t names (run w fuel heads name) ReadFault x h = absurd h
-of_term t names (run w fuel heads name) WriteFault x h = absurd h
-of_term t names (run w fuel heads name) NoMemory x h = absurd h
-of_term t names (run w fuel heads name) Limit x h = absurd h
-of_term t names (walk edges heads name) Spent x h = absurd h
-of_term t names (walk edges heads name) Done x h = walked h
-of_term t names (walk edges heads name) Usage x h = absurd h
-of_term t names (walk edges heads name) Syntax x h = absurd h
-of_term t names (walk edges heads name) ReadFault x h = absurd h
-of_term t names (walk edges heads name) WriteFault x h = absurd h
-of_term t names (walk edges heads name) NoMemory x h = absurd h
-of_term t names (walk edges heads name) Limit x h = absurd h
-of_term t names (view k name) Done x h = viewed h
-of_term t names (view k name) Spent x h = absurd h
-of_term t names (view k name) Usage x h = absurd h
-of_term t names (view k name) Syntax x h = absurd h
-of_term t names (view k name) ReadFault x h = absurd h
-of_term t names (view k name) WriteFault x h = absurd h
-of_term t names (view k name) NoMemory x h = absurd h
-of_term t names (view k name) Limit x h = absurd h
-of_term t names (trace w f name) Done x h = traced h.0
-of_term t names (trace w f name) Spent x h = stopped h.0
-of_term t names (trace w f name) Usage x h = absurd h
-of_term t names (trace w f name) Syntax x h = absurd h
-of_term t names (trace w f name) ReadFault x h = absurd h
-of_term t names (trace w f name) WriteFault x h = absurd h
-of_term t names (trace w f name) NoMemory x h = absurd h
-of_term t names (trace w f name) Limit x h = absurd h
-of_term t names (check term journal) s x h = absurd h
-of_term t names (gen runs k) s x h = absurd h
+of_term t names (run tr w fuel heads name) Spent x h = spent h.0 h.1
+of_term t names (run tr w fuel heads name) Done x h = printed h
+of_term t names (run tr w fuel heads name) Usage x h = absurd h
+of_term t names (run tr w fuel heads name) Syntax x h = absurd h
+of_term t names (run tr w fuel heads name) ReadFault x h = absurd h
+of_term t names (run tr w fuel heads name) WriteFault x h = absurd h
+of_term t names (run tr w fuel heads name) NoMemory x h = absurd h
+of_term t names (run tr w fuel heads name) Limit x h = absurd h
+of_term t names (walk tr edges heads name) Spent x h = absurd h
+of_term t names (walk tr edges heads name) Done x h = walked h
+of_term t names (walk tr edges heads name) Usage x h = absurd h
+of_term t names (walk tr edges heads name) Syntax x h = absurd h
+of_term t names (walk tr edges heads name) ReadFault x h = absurd h
+of_term t names (walk tr edges heads name) WriteFault x h = absurd h
+of_term t names (walk tr edges heads name) NoMemory x h = absurd h
+of_term t names (walk tr edges heads name) Limit x h = absurd h
+of_term t names (view tr k name) Done x h = viewed h
+of_term t names (view tr k name) Spent x h = absurd h
+of_term t names (view tr k name) Usage x h = absurd h
+of_term t names (view tr k name) Syntax x h = absurd h
+of_term t names (view tr k name) ReadFault x h = absurd h
+of_term t names (view tr k name) WriteFault x h = absurd h
+of_term t names (view tr k name) NoMemory x h = absurd h
+of_term t names (view tr k name) Limit x h = absurd h
+of_term t names (trace tr w f name) Done x h = traced h.0
+of_term t names (trace tr w f name) Spent x h = stopped h.0
+of_term t names (trace tr w f name) Usage x h = absurd h
+of_term t names (trace tr w f name) Syntax x h = absurd h
+of_term t names (trace tr w f name) ReadFault x h = absurd h
+of_term t names (trace tr w f name) WriteFault x h = absurd h
+of_term t names (trace tr w f name) NoMemory x h = absurd h
+of_term t names (trace tr w f name) Limit x h = absurd h
+of_term t names (check tr term journal) s x h = absurd h
+of_term t names (gen tr runs k) s x h = absurd h
 
-one_of_term : (t : Tree) (names : List (List ℕ)) → IsNet (translation_of t (length names)) → (a : Asked) (s s' : Status) (x x' : List ℕ) → OfTerm t names a s x → OfTerm t names a s' x' → Alike a s s' x x'
-one_of_term t names n a s s' x x' (spent r e) (spent r' e') = (refl, λ one. e ∙ sym e')
-one_of_term t names n a s s' x x' (spent {fuel = fuel} {heads = heads} r e) (printed p) = absurd (ends_or_not t names n fuel heads x' r p)
-one_of_term t names n a s s' x x' (printed {fuel = fuel} {heads = heads} p) (spent r e) = absurd (ends_or_not t names n fuel heads x r p)
-one_of_term t names n a s s' x x' (printed {fuel = fuel} {heads = heads} p) (printed p') = (refl, λ one. one_print t names n fuel heads x x' p p')
-one_of_term t names n a s s' x x' (walked {edges = edges} {heads = heads} w) (walked w') = (refl, λ one. one_walk t names n edges heads x x' w w')
-one_of_term t names n a s s' x x' (traced e) (traced e') = (refl, λ one. absurd one)
-one_of_term t names n a s s' x x' (traced {fuel = fuel} e) (stopped r) = absurd (ends_or_runs_out t names n fuel r e)
-one_of_term t names n a s s' x x' (stopped {fuel = fuel} r) (traced e) = absurd (ends_or_runs_out t names n fuel r e)
-one_of_term t names n a s s' x x' (stopped r) (stopped r') = (refl, λ one. absurd one)
-one_of_term t names n a s s' x x' (viewed {after = after} v) (viewed v') = (refl, λ one. one_view t names n after x x' v v')
+one_of_term : (t : Tree) (names : List (List ℕ)) → (a : Asked) → IsNet (translation_of (translation_in a) t (length names)) → (s s' : Status) (x x' : List ℕ) → OfTerm t names a s x → OfTerm t names a s' x' → Alike a s s' x x'
+one_of_term t names a n s s' x x' (spent r e) (spent r' e') = (refl, λ one. e ∙ sym e')
+one_of_term t names a n s s' x x' (spent {tr = tr} {fuel = fuel} {heads = heads} r e) (printed p) = absurd (ends_or_not tr t names n fuel heads x' r p)
+one_of_term t names a n s s' x x' (printed {tr = tr} {fuel = fuel} {heads = heads} p) (spent r e) = absurd (ends_or_not tr t names n fuel heads x r p)
+one_of_term t names a n s s' x x' (printed {tr = tr} {fuel = fuel} {heads = heads} p) (printed p') = (refl, λ one. one_print tr t names n fuel heads x x' p p')
+one_of_term t names a n s s' x x' (walked {tr = tr} {edges = edges} {heads = heads} w) (walked w') = (refl, λ one. one_walk tr t names n edges heads x x' w w')
+one_of_term t names a n s s' x x' (traced e) (traced e') = (refl, λ one. absurd one)
+one_of_term t names a n s s' x x' (traced {tr = tr} {fuel = fuel} e) (stopped r) = absurd (ends_or_runs_out tr t names n fuel r e)
+one_of_term t names a n s s' x x' (stopped {tr = tr} {fuel = fuel} r) (traced e) = absurd (ends_or_runs_out tr t names n fuel r e)
+one_of_term t names a n s s' x x' (stopped r) (stopped r') = (refl, λ one. absurd one)
+one_of_term t names a n s s' x x' (viewed {tr = tr} {after = after} v) (viewed v') = (refl, λ one. one_view tr t names n after x x' v v')
 
 -- what a job answers to a tree, by the order of refusals
 pub data OfTree (asked : Asked) (t : Tree) (names : List (List ℕ)) (s : Status) (x : List ℕ) : Type 0 where
   too_deep : 1000 < depth t → Same s Limit x depth_text → OfTree asked t names s x
-  too_large : depth t ≤ 1000 → 200000 < size_of_translation t → Same s Limit x nodes_text → OfTree asked t names s x
-  done : depth t ≤ 1000 → size_of_translation t ≤ 200000 → TermAnswer asked t names s x → OfTree asked t names s x
+  too_large : depth t ≤ 1000 → 200000 < size_of_translation (translation_in asked) t → Same s Limit x nodes_text → OfTree asked t names s x
+  done : depth t ≤ 1000 → size_of_translation (translation_in asked) t ≤ 200000 → TermAnswer asked t names s x → OfTree asked t names s x
 
-one_of_tree : (asked : Asked) (t : Tree) (names : List (List ℕ)) → IsNet (translation_of t (length names)) → (s s' : Status) (x x' : List ℕ) → OfTree asked t names s x → OfTree asked t names s' x' → Alike asked s s' x x'
+one_of_tree : (asked : Asked) (t : Tree) (names : List (List ℕ)) → IsNet (translation_of (translation_in asked) t (length names)) → (s s' : Status) (x x' : List ℕ) → OfTree asked t names s x → OfTree asked t names s' x' → Alike asked s s' x x'
 one_of_tree asked t names n s s' x x' (too_deep d h) (too_deep d' h') = alike_as asked s s' Limit x x' depth_text h h'
 one_of_tree asked t names n s s' x x' (too_deep d h) (too_large d' z' h') = absurd (omega arith)
 one_of_tree asked t names n s s' x x' (too_deep d h) (done d' z' h') = absurd (omega arith)
@@ -126,7 +127,7 @@ one_of_tree asked t names n s s' x x' (too_large d z h) (too_large d' z' h') = a
 one_of_tree asked t names n s s' x x' (too_large d z h) (done d' z' h') = absurd (omega arith)
 one_of_tree asked t names n s s' x x' (done d z h) (too_deep d' h') = absurd (omega arith)
 one_of_tree asked t names n s s' x x' (done d z h) (too_large d' z' h') = absurd (omega arith)
-one_of_tree asked t names n s s' x x' (done d z h) (done d' z' h') = one_of_term t names n asked s s' x x' (of_term t names asked s x h) (of_term t names asked s' x' h')
+one_of_tree asked t names n s s' x x' (done d z h) (done d' z' h') = one_of_term t names asked n s s' x x' (of_term t names asked s x h) (of_term t names asked s' x' h')
 
 -- ---- a file
 
@@ -161,7 +162,7 @@ one_of_file asked bytes s s' x x' (has_term l t names f h) (too_long l' h') = ab
 one_of_file asked bytes s s' x x' (has_term l t names f h) (refused l' at' r' h') = absurd (r'.0 f.named f.text)
 one_of_file asked bytes s s' x x' (has_term l t names f h) (has_term l' t' names' f' h') =
     let e = one_file bytes t' t names' names f' f in
-    one_of_tree asked t names (file_net bytes t names f) s s' x x' h (subst (λ t. OfTree asked t names s' x') e.0 (subst (λ names. OfTree asked t' names s' x') e.1 h'))
+    one_of_tree asked t names (file_net (translation_in asked) bytes t names f) s s' x x' h (subst (λ t. OfTree asked t names s' x') e.0 (subst (λ names. OfTree asked t' names s' x') e.1 h'))
 
 one_file_answer : (asked : Asked) (bytes : List ℕ) → (s s' : Status) (x x' : List ℕ) → FileAnswer asked bytes s x → FileAnswer asked bytes s' x' → Alike asked s s' x x'
 one_file_answer asked bytes s s' x x' h h' = one_of_file asked bytes s s' x x' (of_file_answer asked bytes s x h) (of_file_answer asked bytes s' x' h')
@@ -169,66 +170,66 @@ one_file_answer asked bytes s s' x x' h h' = one_of_file asked bytes s s' x x' (
 -- ---- a job
 
 -- a file that is refused has no term within the limits
-not_refused : (term journal : Text) (bytes : List ℕ) (t : Tree) (names : List (List ℕ)) (s : Status) (x : List ℕ) → OfFile (check term journal) bytes s x → IsTermFile bytes t names → ⊥
-not_refused term journal bytes t names s x (too_long l h) i = let b = i.short in omega arith
-not_refused term journal bytes t names s x (refused l at r h) i = r.0 i.file.named i.file.text
-not_refused term journal bytes t names s x (has_term l u others f h) i = go h
+not_refused : (tr : Translation) (term journal : Text) (bytes : List ℕ) (t : Tree) (names : List (List ℕ)) (s : Status) (x : List ℕ) → OfFile (check tr term journal) bytes s x → IsTermFile tr bytes t names → ⊥
+not_refused tr term journal bytes t names s x (too_long l h) i = let b = i.short in omega arith
+not_refused tr term journal bytes t names s x (refused l at r h) i = r.0 i.file.named i.file.text
+not_refused tr term journal bytes t names s x (has_term l u others f h) i = go h
   where
     same : (t ≡ u) × (names ≡ others)
     same = one_file bytes t u names others i.file f
 
-    go : OfTree (check term journal) u others s x → ⊥
+    go : OfTree (check tr term journal) u others s x → ⊥
     go (too_deep d h) = let b = i.shallow in let e = ap depth same.0 in omega arith
-    go (too_large d z h) = let b = i.small in let e = ap size_of_translation same.0 in omega arith
+    go (too_large d z h) = let b = i.small in let e = ap (size_of_translation tr) same.0 in omega arith
     go (done d z h) = h
 
 -- what is found of a journal, by cases
-pub data OfJournal (t : Tree) (names : List (List ℕ)) (journal : List ℕ) (s : Status) (x : List ℕ) : Type 0 where
-  past : 67108864 < length journal → Same s Limit x journal_text → OfJournal t names journal s x
-  found : length journal ≤ 67108864 → (v : Check) → OnlyIsFound (start_net_of_term t names) journal v → Same s Done x (found_text v) → OfJournal t names journal s x
+pub data OfJournal (tr : Translation) (t : Tree) (names : List (List ℕ)) (journal : List ℕ) (s : Status) (x : List ℕ) : Type 0 where
+  past : 67108864 < length journal → Same s Limit x journal_text → OfJournal tr t names journal s x
+  found : length journal ≤ 67108864 → (v : Check) → OnlyIsFound (start_net_of_term tr t names) journal v → Same s Done x (found_text v) → OfJournal tr t names journal s x
 
-pub of_journal_answer : (t : Tree) (names : List (List ℕ)) (journal : List ℕ) (s : Status) (x : List ℕ) → JournalAnswer t names journal s x → OfJournal t names journal s x
-of_journal_answer t names journal Limit x h = past h.0 (refl, h.1)
-of_journal_answer t names journal Done x h = found h.0 h.1.0 h.1.1 (refl, h.1.2)
-of_journal_answer t names journal Spent x h = absurd h
-of_journal_answer t names journal Usage x h = absurd h
-of_journal_answer t names journal Syntax x h = absurd h
-of_journal_answer t names journal ReadFault x h = absurd h
-of_journal_answer t names journal WriteFault x h = absurd h
-of_journal_answer t names journal NoMemory x h = absurd h
+pub of_journal_answer : (tr : Translation) (t : Tree) (names : List (List ℕ)) (journal : List ℕ) (s : Status) (x : List ℕ) → JournalAnswer tr t names journal s x → OfJournal tr t names journal s x
+of_journal_answer tr t names journal Limit x h = past h.0 (refl, h.1)
+of_journal_answer tr t names journal Done x h = found h.0 h.1.0 h.1.1 (refl, h.1.2)
+of_journal_answer tr t names journal Spent x h = absurd h
+of_journal_answer tr t names journal Usage x h = absurd h
+of_journal_answer tr t names journal Syntax x h = absurd h
+of_journal_answer tr t names journal ReadFault x h = absurd h
+of_journal_answer tr t names journal WriteFault x h = absurd h
+of_journal_answer tr t names journal NoMemory x h = absurd h
 
-one_journal : (t : Tree) (names : List (List ℕ)) (journal : List ℕ) (s s' : Status) (x x' : List ℕ) → OfJournal t names journal s x → OfJournal t names journal s' x' → Same s s' x x'
-one_journal t names journal s s' x x' (past l h) (past l' h') = same_as s s' Limit x x' journal_text h h'
-one_journal t names journal s s' x x' (past l h) (found l' v f h') = absurd (omega arith)
-one_journal t names journal s s' x x' (found l v f h) (past l' h') = absurd (omega arith)
-one_journal t names journal s s' x x' (found l v f h) (found l' w g h') =
+one_journal : (tr : Translation) (t : Tree) (names : List (List ℕ)) (journal : List ℕ) (s s' : Status) (x x' : List ℕ) → OfJournal tr t names journal s x → OfJournal tr t names journal s' x' → Same s s' x x'
+one_journal tr t names journal s s' x x' (past l h) (past l' h') = same_as s s' Limit x x' journal_text h h'
+one_journal tr t names journal s s' x x' (past l h) (found l' v f h') = absurd (omega arith)
+one_journal tr t names journal s s' x x' (found l v f h) (past l' h') = absurd (omega arith)
+one_journal tr t names journal s s' x x' (found l v f h) (found l' w g h') =
     let e : v ≡ w = (f w).1 ((g w).0 refl) in
     (h.0 ∙ sym h'.0, h.1 ∙ ap found_text e ∙ sym h'.1)
 
-one_making : (runs : Bool) (k : ℕ) (s s' : Status) (x x' : List ℕ) → Makes runs k s x → Makes runs k s' x' → Same s s' x x'
-one_making false k s s' x x' m m' = (m.0 ∙ sym m'.0, m.1 ∙ sym m'.1)
-one_making true k s s' x x' m m' =
-    let e = one_file_answer plain_run (doubled_text k) s s' x x' m m' in
+one_making : (tr : Translation) (runs : Bool) (k : ℕ) (s s' : Status) (x x' : List ℕ) → Makes tr runs k s x → Makes tr runs k s' x' → Same s s' x x'
+one_making tr false k s s' x x' m m' = (m.0 ∙ sym m'.0, m.1 ∙ sym m'.1)
+one_making tr true k s s' x x' m m' =
+    let e = one_file_answer (plain_run tr) (doubled_text k) s s' x x' m m' in
     (e.0, e.1 tt)
 
 module _ (files : Text → Option (List ℕ)) where
   pub one_bytes : (name : Text) (a b : List ℕ) → files name ≡ Some a → files name ≡ Some b → a ≡ b
   one_bytes name a b e f = let z : Some a ≡ Some b = sym e ∙ f in cc
 
-  one_checked : (term journal : Text) (s s' : Status) (x x' : List ℕ) → JobAnswer files s x (check term journal) → JobAnswer files s' x' (check term journal) → Same s s' x x'
-  one_checked term journal s s' x x' (of_file {bytes = a} has e h) (of_file {bytes = b} has' e' h') =
-      let k = one_file_answer (check term journal) b s s' x x' (subst (λ a. FileAnswer (check term journal) a s x) (one_bytes term a b e e') h) h' in
+  one_checked : (tr : Translation) (term journal : Text) (s s' : Status) (x x' : List ℕ) → JobAnswer files s x (check tr term journal) → JobAnswer files s' x' (check tr term journal) → Same s s' x x'
+  one_checked tr term journal s s' x x' (of_file {bytes = a} has e h) (of_file {bytes = b} has' e' h') =
+      let k = one_file_answer (check tr term journal) b s s' x x' (subst (λ a. FileAnswer (check tr term journal) a s x) (one_bytes term a b e e') h) h' in
       (k.0, k.1 tt)
-  one_checked term journal s s' x x' (of_file {bytes = a} has e h) (of_journal {bytes = b} {t = t} {names = names} e' i f' h') =
-      absurd (not_refused term journal b t names s x (of_file_answer (check term journal) b s x (subst (λ a. FileAnswer (check term journal) a s x) (one_bytes term a b e e') h)) i)
-  one_checked term journal s s' x x' (of_journal {bytes = b} {t = t} {names = names} e i f h) (of_file {bytes = a} has' e' h') =
-      absurd (not_refused term journal b t names s' x' (of_file_answer (check term journal) b s' x' (subst (λ a. FileAnswer (check term journal) a s' x') (one_bytes term a b e' e) h')) i)
-  one_checked term journal s s' x x' (of_journal {bytes = a} {trace = u} {t = t} {names = names} e i f h) (of_journal {bytes = b} {trace = v} {t = t'} {names = names'} e' i' f' h') =
-      let same_file = subst (λ b. IsTermFile b t' names') (one_bytes term b a e' e) i' in
+  one_checked tr term journal s s' x x' (of_file {bytes = a} has e h) (of_journal {bytes = b} {t = t} {names = names} e' i f' h') =
+      absurd (not_refused tr term journal b t names s x (of_file_answer (check tr term journal) b s x (subst (λ a. FileAnswer (check tr term journal) a s x) (one_bytes term a b e e') h)) i)
+  one_checked tr term journal s s' x x' (of_journal {bytes = b} {t = t} {names = names} e i f h) (of_file {bytes = a} has' e' h') =
+      absurd (not_refused tr term journal b t names s' x' (of_file_answer (check tr term journal) b s' x' (subst (λ a. FileAnswer (check tr term journal) a s' x') (one_bytes term a b e' e) h')) i)
+  one_checked tr term journal s s' x x' (of_journal {bytes = a} {trace = u} {t = t} {names = names} e i f h) (of_journal {bytes = b} {trace = v} {t = t'} {names = names'} e' i' f' h') =
+      let same_file = subst (λ b. IsTermFile tr b t' names') (one_bytes term b a e' e) i' in
       let term_is = one_file a t' t names' names same_file.file i.file in
       let trace_is = one_bytes journal v u f' f in
-      let h'' = subst (λ t. JournalAnswer t names u s' x') term_is.0 (subst (λ names. JournalAnswer t' names u s' x') term_is.1 (subst (λ v. JournalAnswer t' names' v s' x') trace_is h')) in
-      one_journal t names u s s' x x' (of_journal_answer t names u s x h) (of_journal_answer t names u s' x' h'')
+      let h'' = subst (λ t. JournalAnswer tr t names u s' x') term_is.0 (subst (λ names. JournalAnswer tr t' names u s' x') term_is.1 (subst (λ v. JournalAnswer tr t' names' v s' x') trace_is h')) in
+      one_journal tr t names u s s' x x' (of_journal_answer tr t names u s x h) (of_journal_answer tr t names u s' x' h'')
 
   one_on_file : (asked : Asked) → IsOnTerm asked → (s s' : Status) (x x' : List ℕ) → JobAnswer files s x asked → JobAnswer files s' x' asked → Alike asked s s' x x'
   one_on_file asked on s s' x x' (of_file {bytes = a} has e h) (of_file {bytes = b} has' e' h') =
@@ -238,18 +239,18 @@ module _ (files : Text → Option (List ℕ)) where
   one_on_file asked on s s' x x' (of_journal e' i f' h') k = absurd on
   one_on_file asked on s s' x x' (made m) k = absurd on
 
-  one_made : (runs : Bool) (k : ℕ) (s s' : Status) (x x' : List ℕ) → JobAnswer files s x (gen runs k) → JobAnswer files s' x' (gen runs k) → Same s s' x x'
-  one_made runs k s s' x x' (of_file has e h) a = absurd has
-  one_made runs k s s' x x' (made m) (of_file has e h) = absurd has
-  one_made runs k s s' x x' (made m) (made m') = one_making runs k s s' x x' m m'
+  one_made : (tr : Translation) (runs : Bool) (k : ℕ) (s s' : Status) (x x' : List ℕ) → JobAnswer files s x (gen tr runs k) → JobAnswer files s' x' (gen tr runs k) → Same s s' x x'
+  one_made tr runs k s s' x x' (of_file has e h) a = absurd has
+  one_made tr runs k s s' x x' (made m) (of_file has e h) = absurd has
+  one_made tr runs k s s' x x' (made m) (made m') = one_making tr runs k s s' x x' m m'
 
   one_of_job : (asked : Asked) → (s s' : Status) (x x' : List ℕ) → JobAnswer files s x asked → JobAnswer files s' x' asked → Alike asked s s' x x'
-  one_of_job (run w f q name) s s' x x' a a' = one_on_file (run w f q name) tt s s' x x' a a'
-  one_of_job (walk g q name) s s' x x' a a' = one_on_file (walk g q name) tt s s' x x' a a'
-  one_of_job (view k name) s s' x x' a a' = one_on_file (view k name) tt s s' x x' a a'
-  one_of_job (trace w f name) s s' x x' a a' = one_on_file (trace w f name) tt s s' x x' a a'
-  one_of_job (check term journal) s s' x x' a a' = alike (check term journal) s s' x x' (one_checked term journal s s' x x' a a')
-  one_of_job (gen runs k) s s' x x' a a' = alike (gen runs k) s s' x x' (one_made runs k s s' x x' a a')
+  one_of_job (run tr w f q name) s s' x x' a a' = one_on_file (run tr w f q name) tt s s' x x' a a'
+  one_of_job (walk tr g q name) s s' x x' a a' = one_on_file (walk tr g q name) tt s s' x x' a a'
+  one_of_job (view tr k name) s s' x x' a a' = one_on_file (view tr k name) tt s s' x x' a a'
+  one_of_job (trace tr w f name) s s' x x' a a' = one_on_file (trace tr w f name) tt s s' x x' a a'
+  one_of_job (check tr term journal) s s' x x' a a' = alike (check tr term journal) s s' x x' (one_checked tr term journal s s' x x' a a')
+  one_of_job (gen tr runs k) s s' x x' a a' = alike (gen tr runs k) s s' x x' (one_made tr runs k s s' x x' a a')
 
 -- ---- words and files
 

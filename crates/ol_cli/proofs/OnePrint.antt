@@ -1,6 +1,7 @@
 -- A term has one answer: what is printed of it, that its run goes on, what is read of its untouched net, or what is shown of its net
 -- after some leads.
 use Rattle.std.proofs.Common.{◌≡◌, ℕ, ◌*◌, List, length, sym, ap, ◌∙◌, subst}
+use Rattle.ol_term.specs.declared.translations.Translation.{Translation}
 use Rattle.ol_term.specs.Trees.{Tree}
 use Rattle.ol_net.specs.Nets.{NamedNet, IsNet, SameNet}
 use Rattle.ol_net.specs.Numbered.{net_of}
@@ -56,43 +57,43 @@ pub one_shown : (names : List (List ℕ)) (fuel heads : ℕ) (journal : List Ent
 one_shown names fuel heads journal net text text' p p' =
     one_show names heads journal p.listed p'.listed text text' (same_trans p.listed net p'.listed (same_sym net p.listed p.same) p'.same) p.shows p'.shows
 
-module _ (t : Tree) (names : List (List ℕ)) (is_net : IsNet (translation_of t (length names))) where
+module _ (tr : Translation) (t : Tree) (names : List (List ℕ)) (is_net : IsNet (translation_of tr t (length names))) where
   -- the net that the run begins with is a net of start nodes
-  pub start_is_net : IsNet (start_net_of_term t names)
-  start_is_net = start.start_net (translation_of t (length names)) is_net
+  pub start_is_net : IsNet (start_net_of_term tr t names)
+  start_is_net = start.start_net (translation_of tr t (length names)) is_net
 
-  pub start_is_named : AreNamedBefore (start_net_of_term t names) 0
-  start_is_named = start.start_named (translation_of t (length names))
+  pub start_is_named : AreNamedBefore (start_net_of_term tr t names) 0
+  start_is_named = start.start_named (translation_of tr t (length names))
 
   -- the one-thread run doesn't both end and go on
-  pub ends_or_runs_out : (fuel : ℕ) → RunsOut t names fuel → RunEnds t names fuel → ⊥
+  pub ends_or_runs_out : (fuel : ℕ) → RunsOut tr t names fuel → RunEnds tr t names fuel → ⊥
   ends_or_runs_out fuel r e =
-      complete_or_active (start_net_of_term t names) (start_net_of_term t names) e.net r.net fuel e.journal r.journal start_is_net start_is_named (same_refl (start_net_of_term t names)) e.run r.run e.complete r.left
+      complete_or_active (start_net_of_term tr t names) (start_net_of_term tr t names) e.net r.net fuel e.journal r.journal start_is_net start_is_named (same_refl (start_net_of_term tr t names)) e.run r.run e.complete r.left
 
-  pub ends_or_not : (fuel heads : ℕ) (text : List ℕ) → RunsOut t names fuel → Prints t names fuel heads text → ⊥
+  pub ends_or_not : (fuel heads : ℕ) (text : List ℕ) → RunsOut tr t names fuel → Prints tr t names fuel heads text → ⊥
   ends_or_not fuel heads text r p = ends_or_runs_out fuel r (record { journal = p.journal; net = p.net; run = p.run; complete = p.complete })
 
   -- and one text is printed of it
-  pub one_print : (fuel heads : ℕ) (text text' : List ℕ) → Prints t names fuel heads text → Prints t names fuel heads text' → text ≡ text'
+  pub one_print : (fuel heads : ℕ) (text text' : List ℕ) → Prints tr t names fuel heads text → Prints tr t names fuel heads text' → text ≡ text'
   one_print fuel heads text text' p p' =
-      let o = one_thread_one (start_net_of_term t names) (start_net_of_term t names) p.net p'.net fuel p.journal p'.journal start_is_net start_is_named (same_refl (start_net_of_term t names)) p.run p'.run in
+      let o = one_thread_one (start_net_of_term tr t names) (start_net_of_term tr t names) p.net p'.net fuel p.journal p'.journal start_is_net start_is_named (same_refl (start_net_of_term tr t names)) p.run p'.run in
       one_show names heads p'.journal p.net p'.net text text' o.1 (subst (λ es. Shows names heads es p.net text) o.0 p.shows) p'.shows
 
   -- the untouched net is read in one way
-  walks_tree : (edges heads : ℕ) (text text' : List ℕ) (w : Walks t names edges heads text) (w' : Walks t names edges heads text') → (w.tree ≡ w'.tree) × (w.term ≡ w'.term)
+  walks_tree : (edges heads : ℕ) (text text' : List ℕ) (w : Walks tr t names edges heads text) (w' : Walks tr t names edges heads text') → (w.tree ≡ w'.tree) × (w.term ≡ w'.term)
   walks_tree edges heads text text' w w' =
-      let tree : w.tree ≡ w'.tree = tree_is_one (translation_of t (length names)) is_net heads edges w.tree w'.tree w.read w'.read in
+      let tree : w.tree ≡ w'.tree = tree_is_one (translation_of tr t (length names)) is_net heads edges w.tree w'.tree w.read w'.read in
       (tree, one_text names w'.tree w.term w'.term (subst (λ ns. IsTextOf names ns w.term) tree w.shown) w'.shown)
 
-  pub one_walk : (edges heads : ℕ) (text text' : List ℕ) → Walks t names edges heads text → Walks t names edges heads text' → text ≡ text'
+  pub one_walk : (edges heads : ℕ) (text text' : List ℕ) → Walks tr t names edges heads text → Walks tr t names edges heads text' → text ≡ text'
   one_walk edges heads text text' w w' =
       let x = walks_tree edges heads text text' w w' in
       w.written ∙ ap line x.1 ∙ sym w'.written
 
   -- the net after some leads is shown in one way
-  pub one_view : (after : ℕ) (text text' : List ℕ) → Views t names after text → Views t names after text' → text ≡ text'
+  pub one_view : (after : ℕ) (text text' : List ℕ) → Views tr t names after text → Views tr t names after text' → text ≡ text'
   one_view after text text' v v' =
-      let N = translation_of t (length names) in
+      let N = translation_of tr t (length names) in
       let from = same_sym (net_of v.start) N v.same in
       let same = same_trans (net_of v.start) N (net_of v'.start) v.same (same_sym (net_of v'.start) N v'.same) in
       let size : length v.start.nodes ≡ length v'.start.nodes = sym v.whole ∙ live_alike v.start v'.start same ∙ v'.whole in
@@ -103,9 +104,9 @@ module _ (t : Tree) (names : List (List ℕ)) (is_net : IsNet (translation_of t 
 -- ---- the laws
 
 pub one_printed_tree : OneTreeIsPrinted
-one_printed_tree t names fuel heads text text' is_net p p' =
-    let o = one_thread_one (start_net_of_term t names) (start_net_of_term t names) p.net p'.net fuel p.journal p'.journal (start_is_net t names is_net) (start_is_named t names is_net) (same_refl (start_net_of_term t names)) p.run p'.run in
+one_printed_tree tr t names fuel heads text text' is_net p p' =
+    let o = one_thread_one (start_net_of_term tr t names) (start_net_of_term tr t names) p.net p'.net fuel p.journal p'.journal (start_is_net tr t names is_net) (start_is_named tr t names is_net) (same_refl (start_net_of_term tr t names)) p.run p'.run in
     shows_tree names heads p.journal p'.journal p.net p'.net text text' o.1 p.shows p'.shows
 
 pub one_walked_tree : OneTreeIsWalked
-one_walked_tree t names edges heads text text' is_net w w' = walks_tree t names is_net edges heads text text' w w'
+one_walked_tree tr t names edges heads text text' is_net w w' = walks_tree tr t names is_net edges heads text text' w w'

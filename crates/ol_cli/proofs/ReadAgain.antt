@@ -1,6 +1,7 @@
 -- What is written is read again.
 use Rattle.std.proofs.Common.{◌≡◌, ℕ, Bool, List, [], Option, Some, refl, subst, String, Global}
 use Rattle.ol_io.specs.Outside.{Appended, IsAllOf}
+use Rattle.ol_term.specs.declared.translations.Translation.{Translation}
 use Rattle.ol_term.specs.Trees.{Tree}
 use Rattle.ol_term.specs.Generated.{doubled_text}
 use Rattle.ol_parse.specs.Parsed.{IsFileOf, AreNames}
@@ -21,11 +22,11 @@ use Rattle.ol_cli.proofs.OneAnswer.{one_job}
 abbrev pub IsReadWhereNamed : List (List ℕ) → List ReadNode → List ℕ → Type 0
 IsReadWhereNamed names tree term = AreNames names → HasAllHeads tree → IsReadBack names tree term
 
-module _ (t : Tree) (names : List (List ℕ)) (text : List ℕ) where
-  pub run_read : (fuel heads : ℕ) (p : Prints t names fuel heads text) → IsReadWhereNamed names p.shows.tree p.shows.term → (workers : ℕ) → AnswerIsReadAgain (run workers fuel heads []) t names status.Done text
+module _ (tr : Translation) (t : Tree) (names : List (List ℕ)) (text : List ℕ) where
+  pub run_read : (fuel heads : ℕ) (p : Prints tr t names fuel heads text) → IsReadWhereNamed names p.shows.tree p.shows.term → (workers : ℕ) → AnswerIsReadAgain (run tr workers fuel heads []) t names status.Done text
   run_read fuel heads p read workers words e = (p, read words)
 
-  pub walk_read : (edges heads : ℕ) (w : Walks t names edges heads text) → IsReadWhereNamed names w.tree w.term → AnswerIsReadAgain (walk edges heads []) t names status.Done text
+  pub walk_read : (edges heads : ℕ) (w : Walks tr t names edges heads text) → IsReadWhereNamed names w.tree w.term → AnswerIsReadAgain (walk tr edges heads []) t names status.Done text
   walk_read edges heads w read words e = (w, read words)
 
 -- by the names of the file's own term
@@ -42,16 +43,16 @@ told_read asked contents read told st text w h e =
 
 -- a job on a file has the bytes of its file
 pub file_bytes : (contents : Text → Option (List ℕ)) (asked : Asked) → IsOnTerm asked → contents (file_name asked) ≡ term_bytes contents asked
-file_bytes contents (run w f q name) on = refl
-file_bytes contents (walk e q name) on = refl
-file_bytes contents (view k name) on = refl
-file_bytes contents (trace w f name) on = refl
-file_bytes contents (check term journal) on = absurd on
-file_bytes contents (gen runs k) on = absurd on
+file_bytes contents (run tr w f q name) on = refl
+file_bytes contents (walk tr e q name) on = refl
+file_bytes contents (view tr k name) on = refl
+file_bytes contents (trace tr w f name) on = refl
+file_bytes contents (check tr term journal) on = absurd on
+file_bytes contents (gen tr runs k) on = absurd on
 
 -- by the bytes that are made
-pub made_read : (contents : Text → Option (List ℕ)) (runs : Bool) (k : ℕ) (st : Status) (text : List ℕ) → FileIsReadAgain (gen runs k) (doubled_text k) st text → IsReadWhereTold (gen runs k) contents st text
-made_read contents runs k st text h bytes e = let same : doubled_text k ≡ bytes = cc in subst (λ b. FileIsReadAgain (gen runs k) b st text) same h
+pub made_read : (tr : Translation) (contents : Text → Option (List ℕ)) (runs : Bool) (k : ℕ) (st : Status) (text : List ℕ) → FileIsReadAgain (gen tr runs k) (doubled_text k) st text → IsReadWhereTold (gen tr runs k) contents st text
+made_read tr contents runs k st text h bytes e = let same : doubled_text k ≡ bytes = cc in subst (λ b. FileIsReadAgain (gen tr runs k) b st text) same h
 
 pub words_read : (words : List (String Global)) (contents : Text → Option (List ℕ)) (asked : Asked) (st : Status) (text : List ℕ) → AskFor words asked →
     IsReadWhereTold asked contents st text → WordsAreReadAgain words contents st text

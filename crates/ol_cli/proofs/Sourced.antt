@@ -1,6 +1,7 @@
 -- What an answer says of the job's own term.
 use Rattle.std.proofs.Common.{◌≡◌, ◌≢◌, ℕ, ◌*◌, ◌==◌, Bool, true, false, zero, suc, List, [], ◌∷◌, codes, slice_get, length, Option, Some, String, Global, sym, ap, ◌∙◌, subst, arith}
 use Rattle.ol_io.specs.Outside.{Appended, Rose}
+use Rattle.ol_term.specs.declared.translations.Translation.{Translation}
 use Rattle.ol_term.specs.Trees.{Tree}
 use Rattle.ol_term.specs.Generated.{doubled_text}
 use Rattle.ol_parse.specs.Parsed.{IsFileOf}
@@ -23,7 +24,7 @@ use Rattle.ol_words.specs.Texts.{Text}
 use Rattle.ol_words.specs.Asked.{Asked, run, walk, view, trace, check, gen}
 use Rattle.ol_cli.specs.declared.status.Status.{Status}
 use Rattle.ol_cli.specs.declared.status.Status.TheVariants as status
-use Rattle.ol_cli.specs.Jobs.{AskFor, EachName, TellsTerm, TellsFiles, term_bytes}
+use Rattle.ol_cli.specs.Jobs.{AskFor, EachName, TellsTerm, TellsFiles, term_bytes, translation_in}
 use Rattle.ol_cli.specs.Evaluation.{start_net_of_term, Prints}
 use Rattle.ol_cli.specs.Answers.{Ends, IsTermFile, TermAnswer, FileAnswer, JobAnswer, of_file, made, IsAnswer, plain_run}
 use Rattle.ol_cli.specs.Sources.{PrintsTree, TellsTree, WritesTree, RunTells, JobTells, EveryRunTells}
@@ -38,10 +39,10 @@ use Rattle.ol_cli.proofs.Exact.{ends_exact}
 -- ---- the tree that is written
 
 -- the paths of the source's own translation are those of the last net
-kept_paths : (t : Tree) (names : List (List ℕ)) (fuel heads : ℕ) (text : List ℕ) → IsNet (translation_of t (length names)) → (p : Prints t names fuel heads text) → HaveSamePaths (translation_of t (length names)) p.net
-kept_paths t names fuel heads text is_net p u c q d =
-    let first = renamed Init (translation_of t (length names)) is_net (λ x y k l i j h h' e. cc) u c q d in
-    let then = run_keeps (start_net_of_term t names) p.net 0 p.journal (start_is_net t names is_net) (start_is_named t names is_net) (as_run (start_net_of_term t names) p.net 0 p.journal p.run.leads) u c q d in
+kept_paths : (tr : Translation) (t : Tree) (names : List (List ℕ)) (fuel heads : ℕ) (text : List ℕ) → IsNet (translation_of tr t (length names)) → (p : Prints tr t names fuel heads text) → HaveSamePaths (translation_of tr t (length names)) p.net
+kept_paths tr t names fuel heads text is_net p u c q d =
+    let first = renamed Init (translation_of tr t (length names)) is_net (λ x y k l i j h h' e. cc) u c q d in
+    let then = run_keeps (start_net_of_term tr t names) p.net 0 p.journal (start_is_net tr t names is_net) (start_is_named tr t names is_net) (as_run (start_net_of_term tr t names) p.net 0 p.journal p.run.leads) u c q d in
     (λ r. then.0 (first.0 r), λ r. first.1 (then.1 r))
 
 none_stuck : {A : Type 0} (N : NamedNet A) (stuck : ℕ) → IsNet N → IsComplete N → HasStuck N stuck → (stuck == 0) ≡ true → HasNoFacing N
@@ -49,47 +50,47 @@ none_stuck N stuck is_net complete counted e =
     let none : stuck ≡ 0 = grind (arith, e) in
     no_facing N is_net complete (subst (λ n. HasStuck N n) none counted)
 
-prints_tree : (t : Tree) (names : List (List ℕ)) (fuel heads : ℕ) (text : List ℕ) → IsNet (translation_of t (length names)) → (p : Prints t names fuel heads text) →
-    (HasAllHeads p.shows.tree → IsReadBack names p.shows.tree p.shows.term) → PrintsTree t names fuel heads text
-prints_tree t names fuel heads text is_net p read =
+prints_tree : (tr : Translation) (t : Tree) (names : List (List ℕ)) (fuel heads : ℕ) (text : List ℕ) → IsNet (translation_of tr t (length names)) → (p : Prints tr t names fuel heads text) →
+    (HasAllHeads p.shows.tree → IsReadBack names p.shows.tree p.shows.term) → PrintsTree tr t names fuel heads text
+prints_tree tr t names fuel heads text is_net p read =
     let s = p.shows in
-    let N = translation_of t (length names) in
+    let N = translation_of tr t (length names) in
     record {
       prints = p;
-      own_heads = read_heads N p.net (kept_paths t names fuel heads text is_net p) s.is_net heads (2 * live p.net) (s.stuck == 0) (none_stuck p.net s.stuck s.is_net p.complete s.counted) s.read;
+      own_heads = read_heads N p.net (kept_paths tr t names fuel heads text is_net p) s.is_net heads (2 * live p.net) (s.stuck == 0) (none_stuck p.net s.stuck s.is_net p.complete s.counted) s.read;
       read_again = read;
     }
 
-tells_tree : (asked : Asked) (t : Tree) (names : List (List ℕ)) (text : List ℕ) → IsNet (translation_of t (length names)) → TextIsReadAgain asked t names text → TellsTree asked t names text
-tells_tree (run workers fuel heads name) t names text is_net h = prints_tree t names fuel heads text is_net h.0 h.1
-tells_tree (view k name) t names text is_net h = tt
-tells_tree (trace w f name) t names text is_net h = tt
-tells_tree (check term journal) t names text is_net h = tt
-tells_tree (gen true k) t names text is_net h = prints_tree t names 200000 4096 text is_net h.0 h.1
-tells_tree (gen false k) t names text is_net h = tt
-tells_tree (walk edges heads name) t names text is_net h =
-    record { walks = h.0; own_heads = (own_heads (translation_of t (length names)) is_net heads edges h.0.tree h.0.read).0; read_again = h.1 }
+tells_tree : (asked : Asked) (t : Tree) (names : List (List ℕ)) (text : List ℕ) → IsNet (translation_of (translation_in asked) t (length names)) → TextIsReadAgain asked t names text → TellsTree asked t names text
+tells_tree (run tr workers fuel heads name) t names text is_net h = prints_tree tr t names fuel heads text is_net h.0 h.1
+tells_tree (view tr k name) t names text is_net h = tt
+tells_tree (trace tr w f name) t names text is_net h = tt
+tells_tree (check tr term journal) t names text is_net h = tt
+tells_tree (gen tr true k) t names text is_net h = prints_tree tr t names 200000 4096 text is_net h.0 h.1
+tells_tree (gen tr false k) t names text is_net h = tt
+tells_tree (walk tr edges heads name) t names text is_net h =
+    record { walks = h.0; own_heads = (own_heads (translation_of tr t (length names)) is_net heads edges h.0.tree h.0.read).0; read_again = h.1 }
 
 pub writes_tree : (words : List (String Global)) (bytes : List ℕ) (old new : Option (List ℕ)) → WritesReadable words bytes old new → WritesTree words bytes old new
 writes_tree words bytes old new h asked t names j f =
     let x = h asked t names j f in
-    (x.0, tells_tree asked t names x.0 (file_net bytes t names f) x.1, x.2)
+    (x.0, tells_tree asked t names x.0 (file_net (translation_in asked) bytes t names f) x.1, x.2)
 
 -- ---- answers to the job's own term
 
 -- the answer of `run` to some bytes is that to their own term, and each complete run tells it
-module _ (bytes : List ℕ) (workers fuel heads : ℕ) (name : Text) (t : Tree) (names : List (List ℕ)) (f : IsFileOf bytes t names) where
-  own_term : (st : Status) (text : List ℕ) (u : Tree) (others : List (List ℕ)) → IsTermFile bytes u others → TermAnswer (run workers fuel heads name) u others st text → TermAnswer (run workers fuel heads name) t names st text
+module _ (tr : Translation) (bytes : List ℕ) (workers fuel heads : ℕ) (name : Text) (t : Tree) (names : List (List ℕ)) (f : IsFileOf bytes t names) where
+  own_term : (st : Status) (text : List ℕ) (u : Tree) (others : List (List ℕ)) → IsTermFile tr bytes u others → TermAnswer (run tr workers fuel heads name) u others st text → TermAnswer (run tr workers fuel heads name) t names st text
   own_term st text u others i h =
       let same = one_file bytes u t others names i.file f in
-      subst (λ t. TermAnswer (run workers fuel heads name) t names st text) same.0 (subst (λ names. TermAnswer (run workers fuel heads name) u names st text) same.1 h)
+      subst (λ t. TermAnswer (run tr workers fuel heads name) t names st text) same.0 (subst (λ names. TermAnswer (run tr workers fuel heads name) u names st text) same.1 h)
 
-  runs_tell : (st : Status) (text : List ℕ) (old new : Option (List ℕ)) → FileAnswer (run workers fuel heads name) bytes st text → Appended old text new →
-      (journal : List Entry) (net : NamedNet NodeName) → IsRun (start_net_of_term t names) 0 journal net → IsComplete net → RunTells names fuel heads journal net st old new
+  runs_tell : (st : Status) (text : List ℕ) (old new : Option (List ℕ)) → FileAnswer (run tr workers fuel heads name) bytes st text → Appended old text new →
+      (journal : List Entry) (net : NamedNet NodeName) → IsRun (start_net_of_term tr t names) 0 journal net → IsComplete net → RunTells names fuel heads journal net st old new
   runs_tell status.Done text old new h written journal net ran complete =
-      (text, every_run_prints t names fuel heads text (file_net bytes t names f) (own_term status.Done text h.0 h.1 h.2 h.3) journal net ran complete, written)
+      (text, every_run_prints tr t names fuel heads text (file_net tr bytes t names f) (own_term status.Done text h.0 h.1 h.2 h.3) journal net ran complete, written)
   runs_tell status.Spent text old new h written journal net ran complete =
-      every_run_is_longer t names fuel (file_net bytes t names f) (own_term status.Spent text h.0 h.1 h.2 h.3).0 journal net ran complete
+      every_run_is_longer tr t names fuel (file_net tr bytes t names f) (own_term status.Spent text h.0 h.1 h.2 h.3).0 journal net ran complete
   runs_tell status.Usage text old new h written journal net ran complete = tt
   runs_tell status.Syntax text old new h written journal net ran complete = tt
   runs_tell status.ReadFault text old new h written journal net ran complete = tt
@@ -101,25 +102,25 @@ same_bytes : (a b : List ℕ) → Some a ≡ Some b → a ≡ b
 same_bytes a b e = cc
 
 module _ (files : Text → Option (List ℕ)) (bytes : List ℕ) (st : Status) (text : List ℕ) (old new : Option (List ℕ)) (written : Appended old text new) (t : Tree) (names : List (List ℕ)) (f : IsFileOf bytes t names)
-    (journal : List Entry) (net : NamedNet NodeName) (ran : IsRun (start_net_of_term t names) 0 journal net) (complete : IsComplete net) where
-  answer_tells : (asked : Asked) → term_bytes files asked ≡ Some bytes → JobAnswer files st text asked → JobTells asked names journal net st old new
-  answer_tells (run workers fuel heads name) told (of_file {bytes = other} has e h) =
-      let own = subst (λ b. FileAnswer (run workers fuel heads name) b st text) (same_bytes other bytes (sym e ∙ told)) h in
-      runs_tell bytes workers fuel heads name t names f st text old new own written journal net ran complete
-  answer_tells (gen true k) told (made m) =
-      let own = subst (λ b. FileAnswer plain_run b st text) (same_bytes (doubled_text k) bytes told) m in
-      runs_tell bytes 4 200000 4096 (codes "-") t names f st text old new own written journal net ran complete
-  answer_tells (gen true k) told (of_file has e h) = absurd has
-  answer_tells (gen false k) told a = tt
-  answer_tells (walk edges heads name) told a = tt
-  answer_tells (view after name) told a = tt
-  answer_tells (trace w f name) told a = tt
-  answer_tells (check term journal) told a = tt
+    (journal : List Entry) (net : NamedNet NodeName) (complete : IsComplete net) where
+  answer_tells : (asked : Asked) → IsRun (start_net_of_term (translation_in asked) t names) 0 journal net → term_bytes files asked ≡ Some bytes → JobAnswer files st text asked → JobTells asked names journal net st old new
+  answer_tells (run tr workers fuel heads name) ran told (of_file {bytes = other} has e h) =
+      let own = subst (λ b. FileAnswer (run tr workers fuel heads name) b st text) (same_bytes other bytes (sym e ∙ told)) h in
+      runs_tell tr bytes workers fuel heads name t names f st text old new own written journal net ran complete
+  answer_tells (gen tr true k) ran told (made m) =
+      let own = subst (λ b. FileAnswer (plain_run tr) b st text) (same_bytes (doubled_text k) bytes told) m in
+      runs_tell tr bytes 4 200000 4096 (codes "-") t names f st text old new own written journal net ran complete
+  answer_tells (gen tr true k) ran told (of_file has e h) = absurd has
+  answer_tells (gen tr false k) ran told a = tt
+  answer_tells (walk tr edges heads name) ran told a = tt
+  answer_tells (view tr after name) ran told a = tt
+  answer_tells (trace tr w f name) ran told a = tt
+  answer_tells (check tr term journal) ran told a = tt
 
 pub answer_runs : (words : List (String Global)) (files : Text → Option (List ℕ)) (bytes : List ℕ) → TellsTerm files words bytes → (st : Status) (text : List ℕ) (old new : Option (List ℕ)) →
     IsAnswer words files st text → Appended old text new → EveryRunTells words bytes st old new
 answer_runs words files bytes tells st text old new a written asked t names j f journal net ran complete =
-    answer_tells files bytes st text old new written t names f journal net ran complete asked (tells asked j) (own_job words files asked j st text a)
+    answer_tells files bytes st text old new written t names f journal net complete asked ran (tells asked j) (own_job words files asked j st text a)
 
 -- ---- the call
 
@@ -132,23 +133,23 @@ one_name contents bytes name told (suc k) n is = absurd (cc)
 pub ends_run : (words : List (String Global)) (f f' given : ℕ) (contents : Text → Option (List ℕ)) (ended : Bool) → (Rose f f' → ⊥) → (bytes : List ℕ) → TellsTerm contents words bytes →
     (r : Status) (g g' : ℕ) (old new : Option (List ℕ)) → (Rose g g' → ⊥) → r ≢ status.NoMemory →
     Ends words (record { faults = f; faults' = f'; contents = contents; given = given; ended = ended }) r g g' old new → EveryRunTells words bytes r old new
-ends_run words f f' given contents ended quiet bytes tells r g g' old new calm has e asked t names j file journal net ran complete = go asked j
+ends_run words f f' given contents ended quiet bytes tells r g g' old new calm has e asked t names j file journal net ran complete = go asked j ran
   where
-    call : (asked : Asked) → AskFor words asked → EachName asked (λ n. (b : List ℕ) × (contents n ≡ Some b)) → JobTells asked names journal net r old new
-    call here j told =
+    call : (asked : Asked) → AskFor words asked → IsRun (start_net_of_term (translation_in asked) t names) 0 journal net → EachName asked (λ n. (b : List ℕ) × (contents n ≡ Some b)) → JobTells asked names journal net r old new
+    call here j ran told =
         let all : TellsFiles contents words = λ asked j'. subst (λ a. EachName a (λ n. (b : List ℕ) × (contents n ≡ Some b))) (one_job words here asked j j') told in
         let x = ends_exact words f f' given contents ended quiet all r g g' old new calm has e in
         answer_runs words contents bytes tells r x.0 old new x.1 x.2 here t names j file journal net ran complete
 
-    no_name : (k : ℕ) → EachName (gen true k) (λ n. (b : List ℕ) × (contents n ≡ Some b))
-    no_name k zero n is = absurd (cc)
-    no_name k (suc place) n is = absurd (cc)
+    no_name : (tr : Translation) (k : ℕ) → EachName (gen tr true k) (λ n. (b : List ℕ) × (contents n ≡ Some b))
+    no_name tr k zero n is = absurd (cc)
+    no_name tr k (suc place) n is = absurd (cc)
 
-    go : (asked : Asked) → AskFor words asked → JobTells asked names journal net r old new
-    go (run workers fuel heads name) j = call (run workers fuel heads name) j (one_name contents bytes name (tells (run workers fuel heads name) j))
-    go (gen true k) j = call (gen true k) j (no_name k)
-    go (gen false k) j = tt
-    go (walk edges heads name) j = tt
-    go (view after name) j = tt
-    go (trace w f name) j = tt
-    go (check term journal) j = tt
+    go : (asked : Asked) → AskFor words asked → IsRun (start_net_of_term (translation_in asked) t names) 0 journal net → JobTells asked names journal net r old new
+    go (run tr workers fuel heads name) j ran = call (run tr workers fuel heads name) j ran (one_name contents bytes name (tells (run tr workers fuel heads name) j))
+    go (gen tr true k) j ran = call (gen tr true k) j ran (no_name tr k)
+    go (gen tr false k) j ran = tt
+    go (walk tr edges heads name) j ran = tt
+    go (view tr after name) j ran = tt
+    go (trace tr w f name) j ran = tt
+    go (check tr term journal) j ran = tt

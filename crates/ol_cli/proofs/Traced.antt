@@ -1,5 +1,6 @@
 -- What is traced of a term, by what the workers' work came to.
 use Rattle.std.proofs.Common.{◌≡◌, ℕ, ◌≤◌, List, length, Some, refl, sym, ap, ◌∙◌, subst}
+use Rattle.ol_term.specs.declared.translations.Translation.{Translation}
 use Rattle.ol_term.specs.Trees.{Tree}
 use Rattle.ol_net.specs.Graph.{Graph}
 use Rattle.ol_net.specs.Nets.{IsNet, SameNet}
@@ -18,10 +19,10 @@ use Rattle.ol_cli.specs.Handed.{journal_of, TraceHands}
 use Rattle.ol_cli.proofs.AnyRun.{any_run_ends}
 use Rattle.ol_cli.proofs.Evaluated.{own_run}
 
-module _ (t : Tree) (names : List (List ℕ)) (start : Graph) (same : SameNet (net_of start) (translation_of t (length names))) (fuel seats : ℕ) (journal : List Entry) (w : ClosedTable) (text : List ℕ) (written : text ≡ trace_text journal) where
-  pub spent_traces : IsSpent start fuel seats journal w → TracesFuel t names fuel text
+module _ (tr : Translation) (t : Tree) (names : List (List ℕ)) (start : Graph) (same : SameNet (net_of start) (translation_of tr t (length names))) (fuel seats : ℕ) (journal : List Entry) (w : ClosedTable) (text : List ℕ) (written : text ≡ trace_text journal) where
+  pub spent_traces : IsSpent start fuel seats journal w → TracesFuel tr t names fuel text
   spent_traces d =
-      let r = own_run t names start same fuel seats w d.table d.last_net d.after in
+      let r = own_run tr t names start same fuel seats w d.table d.last_net d.after in
       let a = d.active in record {
         journal = journal_of w;
         net = r.0;
@@ -31,7 +32,7 @@ module _ (t : Tree) (names : List (List ℕ)) (start : Graph) (same : SameNet (n
         written = written ∙ ap trace_text d.read;
       }
 
-  pub spent_trace_hands : IsSpent start fuel seats journal w → NoNodeTwice (journal_of w) → TraceHands t names seats fuel status.Spent text (Some w)
+  pub spent_trace_hands : IsSpent start fuel seats journal w → NoNodeTwice (journal_of w) → TraceHands tr t names seats fuel status.Spent text (Some w)
   spent_trace_hands d once = (
     w,
     refl,
@@ -41,9 +42,9 @@ module _ (t : Tree) (names : List (List ℕ)) (start : Graph) (same : SameNet (n
     written ∙ ap trace_text d.read,
   )
 
-  pub done_traces : (last : Graph) → IsDone start fuel seats last journal w → TracesWhole t names fuel text
+  pub done_traces : (last : Graph) → IsDone start fuel seats last journal w → TracesWhole tr t names fuel text
   done_traces last d =
-      let r = own_run t names start same fuel seats w d.table d.last_net d.after in record {
+      let r = own_run tr t names start same fuel seats w d.table d.last_net d.after in record {
         journal = journal_of w;
         net = r.0;
         run = r.1;
@@ -53,13 +54,13 @@ module _ (t : Tree) (names : List (List ℕ)) (start : Graph) (same : SameNet (n
       }
 
   -- the one-thread run ends within the fuel
-  pub done_ends : (last : Graph) → IsDone start fuel seats last journal w → IsNet (net_of start) → RunEnds t names fuel
+  pub done_ends : (last : Graph) → IsDone start fuel seats last journal w → IsNet (net_of start) → RunEnds tr t names fuel
   done_ends last d n =
-      let T = translation_of t (length names) in
+      let T = translation_of tr t (length names) in
       let c = done_traces last d in
-      any_run_ends t names fuel (net_same (net_of start) T same n) c.journal c.net c.run c.complete c.within
+      any_run_ends tr t names fuel (net_same (net_of start) T same n) c.journal c.net c.run c.complete c.within
 
-  pub done_trace_hands : (last : Graph) → IsDone start fuel seats last journal w → NoNodeTwice (journal_of w) → TraceHands t names seats fuel status.Done text (Some w)
+  pub done_trace_hands : (last : Graph) → IsDone start fuel seats last journal w → NoNodeTwice (journal_of w) → TraceHands tr t names seats fuel status.Done text (Some w)
   done_trace_hands last d once = (
     w,
     refl,

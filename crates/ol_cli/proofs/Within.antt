@@ -2,11 +2,12 @@
 use Rattle.std.proofs.Common.{◌≡◌, ℕ, ◌≤◌, ◌==◌, Bool, true, false, ◌&&◌, if◌then◌else◌, List, [], ◌∷◌, Option, None, Some, option_map, option_and_then, nat_le, refl, ap, ◌∙◌, subst, arith}
 use Rattle.std.proofs.lemmas.Bool.Decides.{nat_tests}
 use Rattle.std.specs.Str.{bytes_eq}
+use Rattle.ol_term.specs.declared.translations.Translation.{Translation}
 use Rattle.ol_words.specs.Texts.{Text}
 use Rattle.ol_words.specs.Lines.{Line, line_of}
 use Rattle.ol_words.specs.Numbers.{Limits, number_in, number_within, is_number, setting}
 use Rattle.ol_words.specs.Asked.{Asked, run, walk, view, trace, check, gen}
-use Rattle.ol_words.specs.Jobs.{Setting, Verb, workers_setting, fuel_setting, heads_setting, edges_setting, after_setting, runs_setting, doublings, run_verb, walk_verb, view_verb, trace_verb, check_verb, gen_verb, run_asks, walk_asks, view_asks, trace_asks, check_asks, gen_asks, is_input, only, known_of, values_of, number_on, numbers, job_on, job_behind, job_of}
+use Rattle.ol_words.specs.Jobs.{Setting, Verb, translation_numbered, translation_setting, workers_setting, fuel_setting, heads_setting, edges_setting, after_setting, runs_setting, doublings, run_verb, walk_verb, view_verb, trace_verb, check_verb, gen_verb, run_asks, walk_asks, view_asks, trace_asks, check_asks, gen_asks, is_input, only, known_of, values_of, number_on, numbers, job_on, job_behind, job_of}
 use Rattle.ol_cli.specs.Inside.{IsWithinLimits}
 
 and_then_some : {A B : Type 0} (f : A → Option B) (o : Option A) (b : B) → option_and_then f o ≡ Some b → (a : A) × (o ≡ Some a) × (f a ≡ Some b)
@@ -48,6 +49,9 @@ first_number number s rest ns h =
     let u = map_some (λ (more : List ℕ). t.0 ∷ more) (numbers number rest) ns t.2 in
     (t.0, u.0, t.1, u.1, u.2)
 
+four_numbers : (t w f q : ℕ) (a b c d ns : List ℕ) → [] ≡ d → q ∷ d ≡ c → f ∷ c ≡ b → w ∷ b ≡ a → t ∷ a ≡ ns → t ∷ w ∷ f ∷ q ∷ [] ≡ ns
+four_numbers t w f q a b c d ns h i j k l = cc
+
 three_numbers : (w f q : ℕ) (a b c ns : List ℕ) → [] ≡ c → q ∷ c ≡ b → f ∷ b ≡ a → w ∷ a ≡ ns → w ∷ f ∷ q ∷ [] ≡ ns
 three_numbers w f q a b c ns h i j k = cc
 
@@ -63,82 +67,92 @@ same_job asks ns ms asked e h = ap asks e ∙ h
 run_within : (line : Line) (asked : Asked) → job_on run_verb line ≡ Some asked → IsWithinLimits asked
 run_within line asked h =
     let t = and_then_some (λ ns. run_asks ns line.names) (numbers (number_on line) run_verb.settings) asked h in
-    let w = first_number (number_on line) workers_setting (fuel_setting ∷ heads_setting ∷ []) t.0 t.1 in
+    let tr = first_number (number_on line) translation_setting (workers_setting ∷ fuel_setting ∷ heads_setting ∷ []) t.0 t.1 in
+    let w = first_number (number_on line) workers_setting (fuel_setting ∷ heads_setting ∷ []) tr.1 tr.3 in
     let f = first_number (number_on line) fuel_setting (heads_setting ∷ []) w.1 w.3 in
     let q = first_number (number_on line) heads_setting [] f.1 f.3 in
     let none : [] ≡ q.1 = cc in
-    let all : w.0 ∷ f.0 ∷ q.0 ∷ [] ≡ t.0 = three_numbers w.0 f.0 q.0 w.1 f.1 q.1 t.0 none q.4 f.4 w.4 in
-    let job : run_asks (w.0 ∷ f.0 ∷ q.0 ∷ []) line.names ≡ Some asked = same_job (λ ns. run_asks ns line.names) (w.0 ∷ f.0 ∷ q.0 ∷ []) t.0 asked all t.2 in
-    let is = map_some (run w.0 f.0 q.0) (only line.names) asked job in
+    let all : tr.0 ∷ w.0 ∷ f.0 ∷ q.0 ∷ [] ≡ t.0 = four_numbers tr.0 w.0 f.0 q.0 tr.1 w.1 f.1 q.1 t.0 none q.4 f.4 w.4 tr.4 in
+    let job : run_asks (tr.0 ∷ w.0 ∷ f.0 ∷ q.0 ∷ []) line.names ≡ Some asked = same_job (λ ns. run_asks ns line.names) (tr.0 ∷ w.0 ∷ f.0 ∷ q.0 ∷ []) t.0 asked all t.2 in
+    let is = map_some (run (translation_numbered tr.0) w.0 f.0 q.0) (only line.names) asked job in
     let workers = setting_within workers_setting.limits (values_of workers_setting.option line.options) w.0 (omega arith, omega arith) w.2 in
     let fuel = setting_within fuel_setting.limits (values_of fuel_setting.option line.options) f.0 (omega arith, omega arith) f.2 in
     let heads = setting_within heads_setting.limits (values_of heads_setting.option line.options) q.0 (omega arith, omega arith) q.2 in
-    subst IsWithinLimits {x = run w.0 f.0 q.0 is.0} is.2 (workers.0, workers.1, fuel.1, heads.0)
+    subst IsWithinLimits {x = run (translation_numbered tr.0) w.0 f.0 q.0 is.0} is.2 (workers.0, workers.1, fuel.1, heads.0)
 
 walk_within : (line : Line) (asked : Asked) → job_on walk_verb line ≡ Some asked → IsWithinLimits asked
 walk_within line asked h =
     let t = and_then_some (λ ns. walk_asks ns line.names) (numbers (number_on line) walk_verb.settings) asked h in
-    let e = first_number (number_on line) edges_setting (heads_setting ∷ []) t.0 t.1 in
+    let tr = first_number (number_on line) translation_setting (edges_setting ∷ heads_setting ∷ []) t.0 t.1 in
+    let e = first_number (number_on line) edges_setting (heads_setting ∷ []) tr.1 tr.3 in
     let q = first_number (number_on line) heads_setting [] e.1 e.3 in
     let none : [] ≡ q.1 = cc in
-    let all : e.0 ∷ q.0 ∷ [] ≡ t.0 = two_numbers e.0 q.0 e.1 q.1 t.0 none q.4 e.4 in
-    let job : walk_asks (e.0 ∷ q.0 ∷ []) line.names ≡ Some asked = same_job (λ ns. walk_asks ns line.names) (e.0 ∷ q.0 ∷ []) t.0 asked all t.2 in
-    let is = map_some (walk e.0 q.0) (only line.names) asked job in
+    let all : tr.0 ∷ e.0 ∷ q.0 ∷ [] ≡ t.0 = three_numbers tr.0 e.0 q.0 tr.1 e.1 q.1 t.0 none q.4 e.4 tr.4 in
+    let job : walk_asks (tr.0 ∷ e.0 ∷ q.0 ∷ []) line.names ≡ Some asked = same_job (λ ns. walk_asks ns line.names) (tr.0 ∷ e.0 ∷ q.0 ∷ []) t.0 asked all t.2 in
+    let is = map_some (walk (translation_numbered tr.0) e.0 q.0) (only line.names) asked job in
     let heads = setting_within heads_setting.limits (values_of heads_setting.option line.options) q.0 (omega arith, omega arith) q.2 in
-    subst IsWithinLimits {x = walk e.0 q.0 is.0} is.2 heads.0
+    subst IsWithinLimits {x = walk (translation_numbered tr.0) e.0 q.0 is.0} is.2 heads.0
 
 view_within : (line : Line) (asked : Asked) → job_on view_verb line ≡ Some asked → IsWithinLimits asked
 view_within line asked h =
     let t = and_then_some (λ ns. view_asks ns line.names) (numbers (number_on line) view_verb.settings) asked h in
-    let a = first_number (number_on line) after_setting [] t.0 t.1 in
+    let tr = first_number (number_on line) translation_setting (after_setting ∷ []) t.0 t.1 in
+    let a = first_number (number_on line) after_setting [] tr.1 tr.3 in
     let none : [] ≡ a.1 = cc in
-    let all : a.0 ∷ [] ≡ t.0 = one_number a.0 a.1 t.0 none a.4 in
-    let job : view_asks (a.0 ∷ []) line.names ≡ Some asked = same_job (λ ns. view_asks ns line.names) (a.0 ∷ []) t.0 asked all t.2 in
-    let is = map_some (view a.0) (only line.names) asked job in
+    let all : tr.0 ∷ a.0 ∷ [] ≡ t.0 = two_numbers tr.0 a.0 tr.1 a.1 t.0 none a.4 tr.4 in
+    let job : view_asks (tr.0 ∷ a.0 ∷ []) line.names ≡ Some asked = same_job (λ ns. view_asks ns line.names) (tr.0 ∷ a.0 ∷ []) t.0 asked all t.2 in
+    let is = map_some (view (translation_numbered tr.0) a.0) (only line.names) asked job in
     let after = setting_within after_setting.limits (values_of after_setting.option line.options) a.0 (omega arith, omega arith) a.2 in
-    subst IsWithinLimits {x = view a.0 is.0} is.2 after.1
+    subst IsWithinLimits {x = view (translation_numbered tr.0) a.0 is.0} is.2 after.1
 
 trace_within : (line : Line) (asked : Asked) → job_on trace_verb line ≡ Some asked → IsWithinLimits asked
 trace_within line asked h =
     let t = and_then_some (λ ns. trace_asks ns line.names) (numbers (number_on line) trace_verb.settings) asked h in
-    let w = first_number (number_on line) workers_setting (fuel_setting ∷ []) t.0 t.1 in
+    let tr = first_number (number_on line) translation_setting (workers_setting ∷ fuel_setting ∷ []) t.0 t.1 in
+    let w = first_number (number_on line) workers_setting (fuel_setting ∷ []) tr.1 tr.3 in
     let f = first_number (number_on line) fuel_setting [] w.1 w.3 in
     let none : [] ≡ f.1 = cc in
-    let all : w.0 ∷ f.0 ∷ [] ≡ t.0 = two_numbers w.0 f.0 w.1 f.1 t.0 none f.4 w.4 in
-    let job : trace_asks (w.0 ∷ f.0 ∷ []) line.names ≡ Some asked = same_job (λ ns. trace_asks ns line.names) (w.0 ∷ f.0 ∷ []) t.0 asked all t.2 in
-    let is = map_some (trace w.0 f.0) (only line.names) asked job in
+    let all : tr.0 ∷ w.0 ∷ f.0 ∷ [] ≡ t.0 = three_numbers tr.0 w.0 f.0 tr.1 w.1 f.1 t.0 none f.4 w.4 tr.4 in
+    let job : trace_asks (tr.0 ∷ w.0 ∷ f.0 ∷ []) line.names ≡ Some asked = same_job (λ ns. trace_asks ns line.names) (tr.0 ∷ w.0 ∷ f.0 ∷ []) t.0 asked all t.2 in
+    let is = map_some (trace (translation_numbered tr.0) w.0 f.0) (only line.names) asked job in
     let workers = setting_within workers_setting.limits (values_of workers_setting.option line.options) w.0 (omega arith, omega arith) w.2 in
     let fuel = setting_within fuel_setting.limits (values_of fuel_setting.option line.options) f.0 (omega arith, omega arith) f.2 in
-    subst IsWithinLimits {x = trace w.0 f.0 is.0} is.2 (workers.0, workers.1, fuel.1)
+    subst IsWithinLimits {x = trace (translation_numbered tr.0) w.0 f.0 is.0} is.2 (workers.0, workers.1, fuel.1)
 
-checked : (b : Bool) (term journal : Text) (asked : Asked) → (if b then None else Some (check term journal)) ≡ Some asked → IsWithinLimits asked
-checked true term journal asked h = absurd (cc)
-checked false term journal asked h = let is : check term journal ≡ asked = cc in subst IsWithinLimits is tt
+checked : (tr : Translation) (b : Bool) (term journal : Text) (asked : Asked) → (if b then None else Some (check tr term journal)) ≡ Some asked → IsWithinLimits asked
+checked tr true term journal asked h = absurd (cc)
+checked tr false term journal asked h = let is : check tr term journal ≡ asked = cc in subst IsWithinLimits is tt
 
-check_names : (names : List Text) (asked : Asked) → check_asks [] names ≡ Some asked → IsWithinLimits asked
-check_names [] asked h = absurd (cc)
-check_names (a ∷ []) asked h = absurd (cc)
-check_names (a ∷ b ∷ []) asked h = checked (is_input a && is_input b) a b asked h
-check_names (a ∷ b ∷ c ∷ names) asked h = absurd (cc)
+check_names : (n : ℕ) (names : List Text) (asked : Asked) → check_asks (n ∷ []) names ≡ Some asked → IsWithinLimits asked
+check_names n [] asked h = absurd (cc)
+check_names n (a ∷ []) asked h = absurd (cc)
+check_names n (a ∷ b ∷ []) asked h = checked (translation_numbered n) (is_input a && is_input b) a b asked h
+check_names n (a ∷ b ∷ c ∷ names) asked h = absurd (cc)
 
 check_within : (line : Line) (asked : Asked) → job_on check_verb line ≡ Some asked → IsWithinLimits asked
-check_within line asked h = check_names line.names asked h
+check_within line asked h =
+    let t = and_then_some (λ ns. check_asks ns line.names) (numbers (number_on line) check_verb.settings) asked h in
+    let tr = first_number (number_on line) translation_setting [] t.0 t.1 in
+    let none : [] ≡ tr.1 = cc in
+    let all : tr.0 ∷ [] ≡ t.0 = one_number tr.0 tr.1 t.0 none tr.4 in
+    check_names tr.0 line.names asked (same_job (λ ns. check_asks ns line.names) (tr.0 ∷ []) t.0 asked all t.2)
 
-gen_names : (runs : ℕ) (names : List Text) (asked : Asked) → gen_asks (runs ∷ []) names ≡ Some asked → IsWithinLimits asked
-gen_names runs [] asked h = absurd (cc)
-gen_names runs (n ∷ []) asked h =
-    let is = map_some (gen (runs == 1)) (number_within doublings n) asked h in
+gen_names : (tr runs : ℕ) (names : List Text) (asked : Asked) → gen_asks (tr ∷ runs ∷ []) names ≡ Some asked → IsWithinLimits asked
+gen_names tr runs [] asked h = absurd (cc)
+gen_names tr runs (n ∷ []) asked h =
+    let is = map_some (gen (translation_numbered tr) (runs == 1)) (number_within doublings n) asked h in
     let t = three (is_number n) (nat_le doublings.least (number_in n)) (nat_le (number_in n) doublings.most) (number_in n) is.0 is.1 in
-    subst IsWithinLimits {x = gen (runs == 1) is.0} is.2 (subst (λ k. k ≤ 10) t.2 (le_of (number_in n) doublings.most t.1))
-gen_names runs (n ∷ m ∷ names) asked h = absurd (cc)
+    subst IsWithinLimits {x = gen (translation_numbered tr) (runs == 1) is.0} is.2 (subst (λ k. k ≤ 10) t.2 (le_of (number_in n) doublings.most t.1))
+gen_names tr runs (n ∷ m ∷ names) asked h = absurd (cc)
 
 gen_within : (line : Line) (asked : Asked) → job_on gen_verb line ≡ Some asked → IsWithinLimits asked
 gen_within line asked h =
     let t = and_then_some (λ ns. gen_asks ns line.names) (numbers (number_on line) gen_verb.settings) asked h in
-    let r = first_number (number_on line) runs_setting [] t.0 t.1 in
+    let tr = first_number (number_on line) translation_setting (runs_setting ∷ []) t.0 t.1 in
+    let r = first_number (number_on line) runs_setting [] tr.1 tr.3 in
     let none : [] ≡ r.1 = cc in
-    let all : r.0 ∷ [] ≡ t.0 = one_number r.0 r.1 t.0 none r.4 in
-    gen_names r.0 line.names asked (same_job (λ ns. gen_asks ns line.names) (r.0 ∷ []) t.0 asked all t.2)
+    let all : tr.0 ∷ r.0 ∷ [] ≡ t.0 = two_numbers tr.0 r.0 tr.1 r.1 t.0 none r.4 tr.4 in
+    gen_names tr.0 r.0 line.names asked (same_job (λ ns. gen_asks ns line.names) (tr.0 ∷ r.0 ∷ []) t.0 asked all t.2)
 
 -- ---- words
 

@@ -1,5 +1,6 @@
 -- What is answered to a term, and handed back, by what the workers' work came to.
 use Rattle.std.proofs.Common.{◌≡◌, ℕ, ◌+◌, ◌≤◌, List, length, Some, refl, sym, ap, ◌∙◌, subst}
+use Rattle.ol_term.specs.declared.translations.Translation.{Translation}
 use Rattle.ol_term.specs.Trees.{Tree}
 use Rattle.ol_net.specs.Graph.{Graph}
 use Rattle.ol_net.specs.Nets.{IsNet, SameNet}
@@ -16,15 +17,15 @@ use Rattle.ol_cli.specs.Evaluation.{RunsOut, Prints}
 use Rattle.ol_cli.specs.Handed.{journal_of, RunHands}
 use Rattle.ol_cli.proofs.Evaluated.{Told, runs_out, ports_kept, prints_work, prints_with}
 
-module _ (t : Tree) (names : List (List ℕ)) (start : Graph) (same : SameNet (net_of start) (translation_of t (length names))) (fuel seats heads : ℕ) (journal : List Entry) (w : ClosedTable) where
+module _ (tr : Translation) (t : Tree) (names : List (List ℕ)) (start : Graph) (same : SameNet (net_of start) (translation_of tr t (length names))) (fuel seats heads : ℕ) (journal : List Entry) (w : ClosedTable) where
   module _ (d : IsSpent start fuel seats journal w) where
     full : length (journal_of w) ≡ fuel
     full = sym (ap length d.read) ∙ d.steps
 
-    pub spent_answer : IsNet (net_of start) → RunsOut t names fuel
-    spent_answer n = runs_out t names start same fuel seats w d.table d.last_net d.after n d.active full
+    pub spent_answer : IsNet (net_of start) → RunsOut tr t names fuel
+    spent_answer n = runs_out tr t names start same fuel seats w d.table d.last_net d.after n d.active full
 
-    pub spent_hands : (text : List ℕ) → NoNodeTwice (journal_of w) → text ≡ spent_text fuel → RunHands t names seats fuel heads status.Spent text (Some w)
+    pub spent_hands : (text : List ℕ) → NoNodeTwice (journal_of w) → text ≡ spent_text fuel → RunHands tr t names seats fuel heads status.Spent text (Some w)
     spent_hands text once e = (
       w,
       refl,
@@ -35,7 +36,7 @@ module _ (t : Tree) (names : List (List ℕ)) (start : Graph) (same : SameNet (n
 
   module _ (last : Graph) (d : IsDone start fuel seats last journal w) where
     pub done_ports : last.free ≡ 1 + length names
-    done_ports = ports_kept t names start same fuel seats w d.table d.last_net d.after last d.frozen
+    done_ports = ports_kept tr t names start same fuel seats w d.table d.last_net d.after last d.frozen
 
     module _ (stuck : ℕ) (tree : List ReadNode) (term text : List ℕ) (told : Told names heads stuck journal last tree term text) where
       own_told : Told names heads stuck (journal_of w) last tree term text
@@ -44,14 +45,14 @@ module _ (t : Tree) (names : List (List ℕ)) (start : Graph) (same : SameNet (n
       within : length (journal_of w) ≤ fuel
       within = subst (λ (j : List Entry). length j ≤ fuel) d.read d.within
 
-      pub done_answer : (P : List ReadNode → List ℕ → Type 0) → IsNet (net_of start) → P tree term → (p : Prints t names fuel heads text) × P p.shows.tree p.shows.term
-      done_answer P n h = prints_with t names start same fuel seats w d.table d.last_net d.after last d.frozen heads stuck tree term text own_told within d.complete P n h
+      pub done_answer : (P : List ReadNode → List ℕ → Type 0) → IsNet (net_of start) → P tree term → (p : Prints tr t names fuel heads text) × P p.shows.tree p.shows.term
+      done_answer P n h = prints_with tr t names start same fuel seats w d.table d.last_net d.after last d.frozen heads stuck tree term text own_told within d.complete P n h
 
-      pub done_hands : NoNodeTwice (journal_of w) → RunHands t names seats fuel heads status.Done text (Some w)
+      pub done_hands : NoNodeTwice (journal_of w) → RunHands tr t names seats fuel heads status.Done text (Some w)
       done_hands once = (
         w,
         refl,
         d.last_net,
         record { start = start; same = same; table = d.table; after = d.after; once = once },
-        prints_work t names start same fuel seats w d.table d.last_net d.after last d.frozen heads stuck tree term text own_told within d.complete,
+        prints_work tr t names start same fuel seats w d.table d.last_net d.after last d.frozen heads stuck tree term text own_told within d.complete,
       )

@@ -3,6 +3,7 @@
 use Rattle.std.specs.Prelude.{◌≡◌, ℕ, ◌≤◌, ◌<◌, ◌⊎◌, Bool, true, false, List, length, take, codes, Option, Some, String}
 use Rattle.std.specs.declared.alloc.Global.{Global}
 use Rattle.ol_io.specs.Outside.{Rose, Appended, IsAllOf, IsLonger}
+use Rattle.ol_term.specs.declared.translations.Translation.{Translation}
 use Rattle.ol_term.specs.Trees.{Tree, depth}
 use Rattle.ol_term.specs.Generated.{doubled_text}
 use Rattle.ol_parse.specs.Texts.{IsRefusedAt}
@@ -14,7 +15,7 @@ use Rattle.ol_view.specs.declared.answers.Check.{Check}
 use Rattle.ol_view.specs.Checks.{OnlyIsFound}
 use Rattle.ol_cli.specs.declared.status.Status.{Status}
 use Rattle.ol_cli.specs.declared.status.Status.TheVariants as status
-use Rattle.ol_cli.specs.Jobs.{AskFor, AskForNothing, HasTermFile, file_name, plain_fuel, plain_heads}
+use Rattle.ol_cli.specs.Jobs.{AskFor, AskForNothing, HasTermFile, file_name, plain_fuel, plain_heads, translation_in}
 use Rattle.ol_cli.specs.Texts.{usage_text, fault_text, bytes_text, depth_text, nodes_text, journal_text, syntax_text, spent_text, found_text}
 use Rattle.ol_cli.specs.Evaluation.{start_net_of_term, RunsOut, RunEnds, Prints, Walks, Views, TracesWhole, TracesFuel}
 
@@ -32,84 +33,84 @@ status_number status.Limit = 7
 -- ---- a term file
 
 -- the bytes are a text of this term with these free names, and no limit is passed
-pub record IsTermFile (bytes : List ℕ) (t : Tree) (names : List (List ℕ)) : Type 0 where
+pub record IsTermFile (translation : Translation) (bytes : List ℕ) (t : Tree) (names : List (List ℕ)) : Type 0 where
   pub short : length bytes ≤ 1048576
   pub file : IsFileOf bytes t names
   pub shallow : depth t ≤ 1000
-  pub small : size_of_translation t ≤ 200000
+  pub small : size_of_translation translation t ≤ 200000
 
 -- a limit that the file passes, and its text: of bytes, else of the depth of its term, else of the nodes of its translation
-pub data IsPastLimit (bytes text : List ℕ) : Type 0 where
-  long : 1048576 < length bytes → text ≡ bytes_text → IsPastLimit bytes text
+pub data IsPastLimit (translation : Translation) (bytes text : List ℕ) : Type 0 where
+  long : 1048576 < length bytes → text ≡ bytes_text → IsPastLimit translation bytes text
   deep : length bytes ≤ 1048576 → {t : Tree} {names : List (List ℕ)} → IsFileOf bytes t names →
-      1000 < depth t → text ≡ depth_text → IsPastLimit bytes text
+      1000 < depth t → text ≡ depth_text → IsPastLimit translation bytes text
   large : length bytes ≤ 1048576 → {t : Tree} {names : List (List ℕ)} → IsFileOf bytes t names → depth t ≤ 1000 →
-      200000 < size_of_translation t → text ≡ nodes_text → IsPastLimit bytes text
+      200000 < size_of_translation translation t → text ≡ nodes_text → IsPastLimit translation bytes text
 
 -- What `run` answers to a term: its one-thread run is longer than the fuel, or ends and is printed.
-abbrev pub RunAnswer : Tree → List (List ℕ) → (fuel heads : ℕ) → Status → List ℕ → Type 0
-RunAnswer t names fuel heads status.Spent text = RunsOut t names fuel × (text ≡ spent_text fuel)
-RunAnswer t names fuel heads status.Done text = Prints t names fuel heads text
-RunAnswer t names fuel heads _ text = ⊥
+abbrev pub RunAnswer : Translation → Tree → List (List ℕ) → (fuel heads : ℕ) → Status → List ℕ → Type 0
+RunAnswer translation t names fuel heads status.Spent text = RunsOut translation t names fuel × (text ≡ spent_text fuel)
+RunAnswer translation t names fuel heads status.Done text = Prints translation t names fuel heads text
+RunAnswer translation t names fuel heads _ text = ⊥
 
 -- What `walk` answers to a term: its untouched translation is printed.
-abbrev pub WalkAnswer : Tree → List (List ℕ) → (edges heads : ℕ) → Status → List ℕ → Type 0
-WalkAnswer t names edges heads status.Done text = Walks t names edges heads text
-WalkAnswer t names edges heads _ text = ⊥
+abbrev pub WalkAnswer : Translation → Tree → List (List ℕ) → (edges heads : ℕ) → Status → List ℕ → Type 0
+WalkAnswer translation t names edges heads status.Done text = Walks translation t names edges heads text
+WalkAnswer translation t names edges heads _ text = ⊥
 
 -- What `view` answers to a term: its net after some leads is shown.
-abbrev pub ViewAnswer : Tree → List (List ℕ) → (after : ℕ) → Status → List ℕ → Type 0
-ViewAnswer t names after status.Done text = Views t names after text
-ViewAnswer t names after _ text = ⊥
+abbrev pub ViewAnswer : Translation → Tree → List (List ℕ) → (after : ℕ) → Status → List ℕ → Type 0
+ViewAnswer translation t names after status.Done text = Views translation t names after text
+ViewAnswer translation t names after _ text = ⊥
 
 -- What `trace` answers to a term: where its one-thread run ends within the fuel, the trace of any run of it that is complete; where
 -- that run is longer, the trace of any run that has as many entries as the fuel and goes on.
-abbrev pub TraceAnswer : Tree → List (List ℕ) → (fuel : ℕ) → Status → List ℕ → Type 0
-TraceAnswer t names fuel status.Done text = RunEnds t names fuel × TracesWhole t names fuel text
-TraceAnswer t names fuel status.Spent text = RunsOut t names fuel × TracesFuel t names fuel text
-TraceAnswer t names fuel _ text = ⊥
+abbrev pub TraceAnswer : Translation → Tree → List (List ℕ) → (fuel : ℕ) → Status → List ℕ → Type 0
+TraceAnswer translation t names fuel status.Done text = RunEnds translation t names fuel × TracesWhole translation t names fuel text
+TraceAnswer translation t names fuel status.Spent text = RunsOut translation t names fuel × TracesFuel translation t names fuel text
+TraceAnswer translation t names fuel _ text = ⊥
 
 -- What a job answers to a term with these free names. A term alone is no answer of `check`, and `gen` has none.
 abbrev pub TermAnswer : Asked → Tree → List (List ℕ) → Status → List ℕ → Type 0
-TermAnswer (run workers fuel heads name) t names st text = RunAnswer t names fuel heads st text
-TermAnswer (walk edges heads name) t names st text = WalkAnswer t names edges heads st text
-TermAnswer (view after name) t names st text = ViewAnswer t names after st text
-TermAnswer (trace workers fuel name) t names st text = TraceAnswer t names fuel st text
-TermAnswer (check term journal) t names st text = ⊥
-TermAnswer (gen runs k) t names st text = ⊥
+TermAnswer (run translation workers fuel heads name) t names st text = RunAnswer translation t names fuel heads st text
+TermAnswer (walk translation edges heads name) t names st text = WalkAnswer translation t names edges heads st text
+TermAnswer (view translation after name) t names st text = ViewAnswer translation t names after st text
+TermAnswer (trace translation workers fuel name) t names st text = TraceAnswer translation t names fuel st text
+TermAnswer (check translation term journal) t names st text = ⊥
+TermAnswer (gen translation runs k) t names st text = ⊥
 
 -- What a job answers to the bytes of its file: a limit that they pass, the place where they are refused, or the answer to their term.
 abbrev pub FileAnswer : Asked → List ℕ → Status → List ℕ → Type 0
-FileAnswer asked bytes status.Limit text = IsPastLimit bytes text
+FileAnswer asked bytes status.Limit text = IsPastLimit (translation_in asked) bytes text
 FileAnswer asked bytes status.Syntax text = (at : ℕ) × (length bytes ≤ 1048576) × IsRefusedAt bytes at × (text ≡ syntax_text at)
-FileAnswer asked bytes st text = (t : Tree) × (names : List (List ℕ)) × IsTermFile bytes t names × TermAnswer asked t names st text
+FileAnswer asked bytes st text = (t : Tree) × (names : List (List ℕ)) × IsTermFile (translation_in asked) bytes t names × TermAnswer asked t names st text
 
 -- What `check` answers to the bytes of a journal file, against a term: a limit that they pass, or the one thing that they are found
 -- to be.
-abbrev pub JournalAnswer : Tree → List (List ℕ) → List ℕ → Status → List ℕ → Type 0
-JournalAnswer t names journal status.Limit text = (67108864 < length journal) × (text ≡ journal_text)
-JournalAnswer t names journal status.Done text =
-    (length journal ≤ 67108864) × ((found : Check) × OnlyIsFound (start_net_of_term t names) journal found × (text ≡ found_text found))
-JournalAnswer t names journal _ text = ⊥
+abbrev pub JournalAnswer : Translation → Tree → List (List ℕ) → List ℕ → Status → List ℕ → Type 0
+JournalAnswer translation t names journal status.Limit text = (67108864 < length journal) × (text ≡ journal_text)
+JournalAnswer translation t names journal status.Done text =
+    (length journal ≤ 67108864) × ((found : Check) × OnlyIsFound (start_net_of_term translation t names) journal found × (text ≡ found_text found))
+JournalAnswer translation t names journal _ text = ⊥
 
--- `run` without options
-abbrev pub plain_run : Asked
-plain_run = run 4 plain_fuel plain_heads (codes "-")
+-- `run` without options but the translation
+abbrev pub plain_run : Translation → Asked
+plain_run translation = run translation 4 plain_fuel plain_heads (codes "-")
 
 -- What `gen` answers: the text that it makes, or the answer of `run` to that.
-abbrev pub Makes : (runs : Bool) → (k : ℕ) → Status → List ℕ → Type 0
-Makes false k st text = (st ≡ status.Done) × (text ≡ doubled_text k)
-Makes true k st text = FileAnswer plain_run (doubled_text k) st text
+abbrev pub Makes : Translation → (runs : Bool) → (k : ℕ) → Status → List ℕ → Type 0
+Makes translation false k st text = (st ≡ status.Done) × (text ≡ doubled_text k)
+Makes translation true k st text = FileAnswer (plain_run translation) (doubled_text k) st text
 
 -- The answer to a job, where its files have these bytes: that to the file of its term; for `check`, where that file is no refusal, the
 -- answer to its journal; and for `gen` the text that is made, or the answer of `run` to it.
 pub data JobAnswer (files : Text → Option (List ℕ)) (st : Status) (text : List ℕ) : Asked → Type 0 where
   of_file : {asked : Asked} {bytes : List ℕ} → HasTermFile asked → files (file_name asked) ≡ Some bytes →
       FileAnswer asked bytes st text → JobAnswer files st text asked
-  of_journal : {term journal : Text} {bytes trace : List ℕ} {t : Tree} {names : List (List ℕ)} →
-      files term ≡ Some bytes → IsTermFile bytes t names → files journal ≡ Some trace →
-      JournalAnswer t names trace st text → JobAnswer files st text (check term journal)
-  made : {runs : Bool} {k : ℕ} → Makes runs k st text → JobAnswer files st text (gen runs k)
+  of_journal : {translation : Translation} {term journal : Text} {bytes trace : List ℕ} {t : Tree} {names : List (List ℕ)} →
+      files term ≡ Some bytes → IsTermFile translation bytes t names → files journal ≡ Some trace →
+      JournalAnswer translation t names trace st text → JobAnswer files st text (check translation term journal)
+  made : {translation : Translation} {runs : Bool} {k : ℕ} → Makes translation runs k st text → JobAnswer files st text (gen translation runs k)
 
 -- The answer to these words, where nothing fails and the files have these bytes.
 abbrev pub IsAnswer : List (String Global) → (Text → Option (List ℕ)) → Status → List ℕ → Type 0
@@ -170,20 +171,20 @@ FileCause asked s status.Limit text =
 FileCause asked s st text = (s.faults' ≡ s.faults) × Read asked s st text
 
 -- What comes of a journal file, against a term.
-abbrev pub JournalCause : Seen → Text → Tree → List (List ℕ) → Status → List ℕ → Type 0
-JournalCause s journal t names status.Limit text = GavePast s 67108864 journal × (text ≡ journal_text)
-JournalCause s journal t names status.Done text =
-    (trace : List ℕ) × GaveWithin s 67108864 journal trace × JournalAnswer t names trace status.Done text
-JournalCause s journal t names _ text = ⊥
+abbrev pub JournalCause : Seen → Text → Translation → Tree → List (List ℕ) → Status → List ℕ → Type 0
+JournalCause s journal translation t names status.Limit text = GavePast s 67108864 journal × (text ≡ journal_text)
+JournalCause s journal translation t names status.Done text =
+    (trace : List ℕ) × GaveWithin s 67108864 journal trace × JournalAnswer translation t names trace status.Done text
+JournalCause s journal translation t names _ text = ⊥
 
 -- Each status of a job, where it comes, and its text: of its term file; of its journal file, once the term file was read and is no
 -- refusal; or of a text that is made.
 pub data JobCause (s : Seen) (st : Status) (text : List ℕ) : Asked → Type 0 where
   by_file : {asked : Asked} → HasTermFile asked → FileCause asked s st text → JobCause s st text asked
-  by_journal : {term journal : Text} {bytes : List ℕ} {t : Tree} {names : List (List ℕ)} → s.faults' ≡ s.faults →
-      IsAllOf (s.contents term) bytes → IsTermFile bytes t names → JournalCause s journal t names st text →
-      JobCause s st text (check term journal)
-  by_making : {runs : Bool} {k : ℕ} → s.faults' ≡ s.faults → Makes runs k st text → JobCause s st text (gen runs k)
+  by_journal : {translation : Translation} {term journal : Text} {bytes : List ℕ} {t : Tree} {names : List (List ℕ)} → s.faults' ≡ s.faults →
+      IsAllOf (s.contents term) bytes → IsTermFile translation bytes t names → JournalCause s journal translation t names st text →
+      JobCause s st text (check translation term journal)
+  by_making : {translation : Translation} {runs : Bool} {k : ℕ} → s.faults' ≡ s.faults → Makes translation runs k st text → JobCause s st text (gen translation runs k)
 
 -- Each status, where it comes, and its text.
 abbrev pub Cause : List (String Global) → Seen → Status → List ℕ → Type 0

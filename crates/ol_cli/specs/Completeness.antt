@@ -7,15 +7,15 @@ use Rattle.ol_words.specs.Texts.{Text}
 use Rattle.ol_words.specs.Asked.{Asked, run, trace, check, gen}
 use Rattle.ol_cli.specs.declared.status.Status.{Status}
 use Rattle.ol_cli.specs.declared.status.Status.TheVariants as status
-use Rattle.ol_cli.specs.Jobs.{AskFor, plain_fuel, term_bytes}
+use Rattle.ol_cli.specs.Jobs.{AskFor, plain_fuel, term_bytes, translation_in}
 use Rattle.ol_cli.specs.Evaluation.{RunEnds}
 use Rattle.ol_cli.specs.Answers.{IsAnswer, IsTermFile}
 
 -- where the job rewrites a term until no pair is active, the one-thread run of this term ends within the job's fuel
 abbrev pub EndsWithinFuel : Asked → Tree → List (List ℕ) → Type 0
-EndsWithinFuel (run workers fuel heads name) t names = RunEnds t names fuel
-EndsWithinFuel (trace workers fuel name) t names = RunEnds t names fuel
-EndsWithinFuel (gen runs k) t names = RunEnds t names plain_fuel
+EndsWithinFuel (run translation workers fuel heads name) t names = RunEnds translation t names fuel
+EndsWithinFuel (trace translation workers fuel name) t names = RunEnds translation t names fuel
+EndsWithinFuel (gen translation runs k) t names = RunEnds translation t names plain_fuel
 EndsWithinFuel _ t names = Unit {0}
 
 -- the bytes of the job's term are told, in the grammar and within the limits, and its run ends within the fuel
@@ -24,7 +24,7 @@ pub record HasTermWithin (files : Text → Option (List ℕ)) (asked : Asked) : 
   pub term : Tree
   pub names : List (List ℕ)
   pub told : term_bytes files asked ≡ Some bytes
-  pub file : IsTermFile bytes term names
+  pub file : IsTermFile (translation_in asked) bytes term names
   pub ends : EndsWithinFuel asked term names
 
 -- the bytes of a journal file are told, and no more than are read
@@ -33,8 +33,8 @@ HasJournalWithin files name = (journal : List ℕ) × (files name ≡ Some journ
 
 -- The job can be done, its files having these bytes. A term that is only made can always be.
 abbrev pub CanDo : (Text → Option (List ℕ)) → Asked → Type 0
-CanDo files (gen false k) = Unit {0}
-CanDo files (check term journal) = HasTermWithin files (check term journal) × HasJournalWithin files journal
+CanDo files (gen translation false k) = Unit {0}
+CanDo files (check translation term journal) = HasTermWithin files (check translation term journal) × HasJournalWithin files journal
 CanDo files asked = HasTermWithin files asked
 
 -- the words ask for a job that can be done

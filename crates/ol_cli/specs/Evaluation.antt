@@ -1,6 +1,7 @@
 -- What a term is answered: its one-thread run and what is printed of it, its untouched translation read back, its net after some
 -- leads, or the trace of a run of it.
 use Rattle.std.specs.Prelude.{◌≡◌, ℕ, ◌*◌, ◌≤◌, ◌<◌, List, length, count_by, is_some}
+use Rattle.ol_term.specs.declared.translations.Translation.{Translation}
 use Rattle.ol_term.specs.Trees.{Tree}
 use Rattle.ol_net.specs.Graph.{Graph}
 use Rattle.ol_net.specs.Numbered.{net_of}
@@ -23,9 +24,9 @@ use Rattle.ol_view.specs.ShowTexts.{show_text}
 use Rattle.ol_view.specs.TraceTexts.{trace_text}
 use Rattle.ol_cli.specs.Texts.{line, answer_text, view_text}
 
--- the net of a term with these free names, its nodes named by their numbers
-abbrev pub start_net_of_term : Tree → List (List ℕ) → NamedNet NodeName
-start_net_of_term t names = net_under Init (translation_of t (length names))
+-- the net of a term with these free names by this translation, its nodes named by their numbers
+abbrev pub start_net_of_term : Translation → Tree → List (List ℕ) → NamedNet NodeName
+start_net_of_term translation t names = net_under Init (translation_of translation t (length names))
 
 -- What is printed of a journal and its net, each node of which is listed once: the term that is read from the net, of which the first
 -- `heads` subterms are asked, each by walks of at most twice as many crossings as there are nodes; the counts of the journal; and the
@@ -42,62 +43,62 @@ pub record Shows (names : List (List ℕ)) (heads : ℕ) (journal : List Entry) 
   pub written : text ≡ answer_text term (counts_of journal) stuck
 
 -- The one-thread run ends within `fuel` steps, and this is printed of it.
-pub record Prints (t : Tree) (names : List (List ℕ)) (fuel heads : ℕ) (text : List ℕ) : Type 0 where
+pub record Prints (translation : Translation) (t : Tree) (names : List (List ℕ)) (fuel heads : ℕ) (text : List ℕ) : Type 0 where
   pub journal : List Entry
   pub net : NamedNet NodeName
-  pub run : IsOneThread (start_net_of_term t names) fuel journal net
+  pub run : IsOneThread (start_net_of_term translation t names) fuel journal net
   pub complete : IsComplete net
   pub shows : Shows names heads journal net text
 
 -- The one-thread run has more than `fuel` steps.
-pub record RunsOut (t : Tree) (names : List (List ℕ)) (fuel : ℕ) : Type 0 where
+pub record RunsOut (translation : Translation) (t : Tree) (names : List (List ℕ)) (fuel : ℕ) : Type 0 where
   pub journal : List Entry
   pub net : NamedNet NodeName
-  pub run : IsOneThread (start_net_of_term t names) fuel journal net
+  pub run : IsOneThread (start_net_of_term translation t names) fuel journal net
   pub full : length journal ≡ fuel
   pub left : HasActive net
 
 -- The one-thread run ends within `fuel` steps.
-pub record RunEnds (t : Tree) (names : List (List ℕ)) (fuel : ℕ) : Type 0 where
+pub record RunEnds (translation : Translation) (t : Tree) (names : List (List ℕ)) (fuel : ℕ) : Type 0 where
   pub journal : List Entry
   pub net : NamedNet NodeName
-  pub run : IsOneThread (start_net_of_term t names) fuel journal net
+  pub run : IsOneThread (start_net_of_term translation t names) fuel journal net
   pub complete : IsComplete net
 
 -- The untouched translation is read back, each try by at most `edges` crossings, and this is its line.
-pub record Walks (t : Tree) (names : List (List ℕ)) (edges heads : ℕ) (text : List ℕ) : Type 0 where
+pub record Walks (translation : Translation) (t : Tree) (names : List (List ℕ)) (edges heads : ℕ) (text : List ℕ) : Type 0 where
   pub tree : List ReadNode
   pub term : List ℕ
-  pub read : IsTree (translation_of t (length names)) heads edges tree
+  pub read : IsTree (translation_of translation t (length names)) heads edges tree
   pub shown : IsTextOf names tree term
   pub written : text ≡ line term
 
 -- The net of the term is rewritten by at most so many leads, and what is left is shown, with the number of leads. The nodes have the
 -- numbers of the translation, and the new ones the next numbers in the order in which they come. So it is one text.
-pub record Views (t : Tree) (names : List (List ℕ)) (after : ℕ) (text : List ℕ) : Type 0 where
+pub record Views (translation : Translation) (t : Tree) (names : List (List ℕ)) (after : ℕ) (text : List ℕ) : Type 0 where
   pub start : Graph
   pub last : Graph
   pub steps : ℕ
-  pub same : SameNet (net_of start) (translation_of t (length names))
+  pub same : SameNet (net_of start) (translation_of translation t (length names))
   pub whole : count_by is_some start.nodes ≡ length start.nodes
   pub leads : IsAfterLeads start after last steps
   pub tabled : IsTable last
   pub written : text ≡ view_text steps (show_text last)
 
 -- The text is the trace of a run of the term, after which no pair is active, with at most `fuel` entries.
-pub record TracesWhole (t : Tree) (names : List (List ℕ)) (fuel : ℕ) (text : List ℕ) : Type 0 where
+pub record TracesWhole (translation : Translation) (t : Tree) (names : List (List ℕ)) (fuel : ℕ) (text : List ℕ) : Type 0 where
   pub journal : List Entry
   pub net : NamedNet NodeName
-  pub run : IsRun (start_net_of_term t names) 0 journal net
+  pub run : IsRun (start_net_of_term translation t names) 0 journal net
   pub complete : IsComplete net
   pub within : length journal ≤ fuel
   pub written : text ≡ trace_text journal
 
 -- The text is the trace of a run of the term with `fuel` entries, after which some pair is active.
-pub record TracesFuel (t : Tree) (names : List (List ℕ)) (fuel : ℕ) (text : List ℕ) : Type 0 where
+pub record TracesFuel (translation : Translation) (t : Tree) (names : List (List ℕ)) (fuel : ℕ) (text : List ℕ) : Type 0 where
   pub journal : List Entry
   pub net : NamedNet NodeName
-  pub run : IsRun (start_net_of_term t names) 0 journal net
+  pub run : IsRun (start_net_of_term translation t names) 0 journal net
   pub left : HasActive net
   pub full : length journal ≡ fuel
   pub written : text ≡ trace_text journal
@@ -114,13 +115,13 @@ pub record PrintsOf (names : List (List ℕ)) (fuel heads : ℕ) (journal : List
 
 -- Where the answer is printed, each complete run prints it; and where the run is spent, each complete run is longer than the fuel.
 abbrev pub EveryRunPrints : Type 0
-EveryRunPrints = (t : Tree) (names : List (List ℕ)) (fuel heads : ℕ) (text : List ℕ) →
-    IsNet (translation_of t (length names)) → Prints t names fuel heads text →
-    (journal : List Entry) (net : NamedNet NodeName) → IsRun (start_net_of_term t names) 0 journal net → IsComplete net →
+EveryRunPrints = (translation : Translation) (t : Tree) (names : List (List ℕ)) (fuel heads : ℕ) (text : List ℕ) →
+    IsNet (translation_of translation t (length names)) → Prints translation t names fuel heads text →
+    (journal : List Entry) (net : NamedNet NodeName) → IsRun (start_net_of_term translation t names) 0 journal net → IsComplete net →
     PrintsOf names fuel heads journal net text
 
 abbrev pub EveryRunIsLonger : Type 0
-EveryRunIsLonger = (t : Tree) (names : List (List ℕ)) (fuel : ℕ) →
-    IsNet (translation_of t (length names)) → RunsOut t names fuel →
-    (journal : List Entry) (net : NamedNet NodeName) → IsRun (start_net_of_term t names) 0 journal net → IsComplete net →
+EveryRunIsLonger = (translation : Translation) (t : Tree) (names : List (List ℕ)) (fuel : ℕ) →
+    IsNet (translation_of translation t (length names)) → RunsOut translation t names fuel →
+    (journal : List Entry) (net : NamedNet NodeName) → IsRun (start_net_of_term translation t names) 0 journal net → IsComplete net →
     fuel < length journal

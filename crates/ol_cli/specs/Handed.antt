@@ -2,6 +2,7 @@
 use Rattle.std.specs.Prelude.{◌≡◌, ℕ, ◌≤◌, Bool, true, false, List, length, Option, None, Some, String}
 use Rattle.std.specs.declared.alloc.Global.{Global}
 use Rattle.ol_io.specs.Outside.{Appended}
+use Rattle.ol_term.specs.declared.translations.Translation.{Translation}
 use Rattle.ol_term.specs.Trees.{Tree}
 use Rattle.ol_term.specs.Generated.{doubled_text}
 use Rattle.ol_net.specs.Graph.{Graph}
@@ -19,7 +20,7 @@ use Rattle.ol_words.specs.Asked.{Asked, run, trace, check, gen}
 use Rattle.ol_view.specs.TraceTexts.{trace_text}
 use Rattle.ol_cli.specs.declared.status.Status.{Status}
 use Rattle.ol_cli.specs.declared.status.Status.TheVariants as status
-use Rattle.ol_cli.specs.Jobs.{AskFor, file_name}
+use Rattle.ol_cli.specs.Jobs.{AskFor, file_name, translation_in}
 use Rattle.ol_cli.specs.Texts.{spent_text}
 use Rattle.ol_cli.specs.Evaluation.{Shows}
 use Rattle.ol_cli.specs.Answers.{IsTermFile, Seen, GaveAll, plain_run}
@@ -30,9 +31,9 @@ journal_of w = journal_in w.plan.parts w.words
 
 -- The words are those of a table that was made from the net of this term, its nodes numbered as that net has them, with this fuel and
 -- so many seats. Their journal leads from that net to this one, and rewrites no node twice.
-pub record IsWorkOn (t : Tree) (names : List (List ℕ)) (fuel seats : ℕ) (w : ClosedTable) (net : NamedNet NodeName) : Type 0 where
+pub record IsWorkOn (translation : Translation) (t : Tree) (names : List (List ℕ)) (fuel seats : ℕ) (w : ClosedTable) (net : NamedNet NodeName) : Type 0 where
   pub start : Graph
-  pub same : SameNet (net_of start) (translation_of t (length names))
+  pub same : SameNet (net_of start) (translation_of translation t (length names))
   pub table : IsTableOf start fuel seats w
   pub after : IsAfter w net
   pub once : NoNodeTwice (journal_of w)
@@ -60,9 +61,9 @@ EndsWork names fuel heads journal net status.Spent text = SpendsFuel fuel journa
 EndsWork names fuel heads journal net _ text = ⊥
 
 -- the closed words of a term's work that ended so
-abbrev pub RunHands : Tree → List (List ℕ) → (workers fuel heads : ℕ) → Status → List ℕ → Option ClosedTable → Type 0
-RunHands t names workers fuel heads st text closed =
-    (w : ClosedTable) × (closed ≡ Some w) × (net : NamedNet NodeName) × IsWorkOn t names fuel workers w net
+abbrev pub RunHands : Translation → Tree → List (List ℕ) → (workers fuel heads : ℕ) → Status → List ℕ → Option ClosedTable → Type 0
+RunHands translation t names workers fuel heads st text closed =
+    (w : ClosedTable) × (closed ≡ Some w) × (net : NamedNet NodeName) × IsWorkOn translation t names fuel workers w net
     × EndsWork names fuel heads (journal_of w) net st text
 
 -- how the work ended whose trace is written
@@ -72,34 +73,34 @@ EndsTrace fuel journal net status.Spent = HasActive net × (length journal ≡ f
 EndsTrace fuel journal net _ = ⊥
 
 -- the closed words of a term's work that ended so, and the text is the trace of their journal
-abbrev pub TraceHands : Tree → List (List ℕ) → (workers fuel : ℕ) → Status → List ℕ → Option ClosedTable → Type 0
-TraceHands t names workers fuel st text closed =
-    (w : ClosedTable) × (closed ≡ Some w) × (net : NamedNet NodeName) × IsWorkOn t names fuel workers w net
+abbrev pub TraceHands : Translation → Tree → List (List ℕ) → (workers fuel : ℕ) → Status → List ℕ → Option ClosedTable → Type 0
+TraceHands translation t names workers fuel st text closed =
+    (w : ClosedTable) × (closed ≡ Some w) × (net : NamedNet NodeName) × IsWorkOn translation t names fuel workers w net
     × EndsTrace fuel (journal_of w) net st × (text ≡ trace_text (journal_of w))
 
 -- what a job hands back of a term, with its text: the others have no workers
 abbrev pub TermHands : Asked → Tree → List (List ℕ) → Status → List ℕ → Option ClosedTable → Type 0
-TermHands (run workers fuel heads name) t names st text closed = RunHands t names workers fuel heads st text closed
-TermHands (trace workers fuel name) t names st text closed = TraceHands t names workers fuel st text closed
+TermHands (run translation workers fuel heads name) t names st text closed = RunHands translation t names workers fuel heads st text closed
+TermHands (trace translation workers fuel name) t names st text closed = TraceHands translation t names workers fuel st text closed
 TermHands _ t names st text closed = closed ≡ None
 
 -- what it hands back of a file: that of the file's term
 abbrev pub FileHands : Asked → List ℕ → Status → List ℕ → Option ClosedTable → Type 0
-FileHands asked bytes st text closed = (t : Tree) × (names : List (List ℕ)) × IsTermFile bytes t names × TermHands asked t names st text closed
+FileHands asked bytes st text closed = (t : Tree) × (names : List (List ℕ)) × IsTermFile (translation_in asked) bytes t names × TermHands asked t names st text closed
 
 -- the file's bytes are all that the source gave, to their end
 abbrev pub ReadHands : Asked → Seen → Status → List ℕ → Option ClosedTable → Type 0
 ReadHands asked s st text closed = (bytes : List ℕ) × GaveAll s (file_name asked) bytes × FileHands asked bytes st text closed
 
 -- what `gen` hands back: what `run` does of the text that is made
-abbrev pub MakingHands : (runs : Bool) → (k : ℕ) → Status → List ℕ → Option ClosedTable → Type 0
-MakingHands false k st text closed = closed ≡ None
-MakingHands true k st text closed = FileHands plain_run (doubled_text k) st text closed
+abbrev pub MakingHands : Translation → (runs : Bool) → (k : ℕ) → Status → List ℕ → Option ClosedTable → Type 0
+MakingHands translation false k st text closed = closed ≡ None
+MakingHands translation true k st text closed = FileHands (plain_run translation) (doubled_text k) st text closed
 
 -- what a job hands back; `check` has no workers
 abbrev pub JobHands : Asked → Seen → Status → List ℕ → Option ClosedTable → Type 0
-JobHands (check term journal) s st text closed = closed ≡ None
-JobHands (gen runs k) s st text closed = MakingHands runs k st text closed
+JobHands (check translation term journal) s st text closed = closed ≡ None
+JobHands (gen translation runs k) s st text closed = MakingHands translation runs k st text closed
 JobHands asked s st text closed = ReadHands asked s st text closed
 
 -- where the job was done or its fuel was spent, this; in every other case nothing is handed back

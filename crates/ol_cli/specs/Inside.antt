@@ -2,6 +2,7 @@
 -- it there.
 use Rattle.std.specs.Prelude.{◌≡◌, ℕ, ◌≤◌, List, [], Option, Some}
 use Rattle.ol_io.specs.Outside.{Rose}
+use Rattle.ol_term.specs.declared.translations.Translation.{Translation}
 use Rattle.ol_term.specs.Trees.{Tree, tree_of}
 use Rattle.ol_term.specs.declared.term_file.TermFile.{TermFile}
 use Rattle.ol_wire.specs.Closed.{ClosedTable}
@@ -18,25 +19,25 @@ use Rattle.ol_cli.specs.ReadAgain.{AnswerIsReadAgain, FileIsReadAgain}
 
 -- the job is done on one term, that of its one file
 abbrev pub IsOnTerm : Asked → Type 0
-IsOnTerm (check term journal) = ⊥
-IsOnTerm (gen runs k) = ⊥
+IsOnTerm (check translation term journal) = ⊥
+IsOnTerm (gen translation runs k) = ⊥
 IsOnTerm _ = Unit {0}
 
 -- the numbers of a job are within the limits of their options
 abbrev pub IsWithinLimits : Asked → Type 0
-IsWithinLimits (run workers fuel heads name) = (1 ≤ workers) × (workers ≤ 64) × (fuel ≤ 2000000) × (1 ≤ heads)
-IsWithinLimits (walk edges heads name) = 1 ≤ heads
-IsWithinLimits (view after name) = after ≤ 2000000
-IsWithinLimits (trace workers fuel name) = (1 ≤ workers) × (workers ≤ 64) × (fuel ≤ 2000000)
-IsWithinLimits (check term journal) = Unit {0}
-IsWithinLimits (gen runs k) = k ≤ 10
+IsWithinLimits (run translation workers fuel heads name) = (1 ≤ workers) × (workers ≤ 64) × (fuel ≤ 2000000) × (1 ≤ heads)
+IsWithinLimits (walk translation edges heads name) = 1 ≤ heads
+IsWithinLimits (view translation after name) = after ≤ 2000000
+IsWithinLimits (trace translation workers fuel name) = (1 ≤ workers) × (workers ≤ 64) × (fuel ≤ 2000000)
+IsWithinLimits (check translation term journal) = Unit {0}
+IsWithinLimits (gen translation runs k) = k ≤ 10
 
 -- the job `run` of these numbers, and the job `walk`, where the name doesn't matter
 abbrev pub run_by : RunNumbers → Asked
-run_by n = run n.workers n.fuel n.heads []
+run_by n = run n.translation n.workers n.fuel n.heads []
 
-abbrev pub walk_by : (edges heads : ℕ) → Asked
-walk_by edges heads = walk edges heads []
+abbrev pub walk_by : Translation → (edges heads : ℕ) → Asked
+walk_by translation edges heads = walk translation edges heads []
 
 -- what a job answers to the term of a file,
 abbrev pub AnswersTerm : Asked → TermFile → Status → List ℕ → Type 0
@@ -55,6 +56,6 @@ abbrev pub IsReadWhereTold : Asked → (Text → Option (List ℕ)) → Status �
 IsReadWhereTold asked contents st text = (bytes : List ℕ) → term_bytes contents asked ≡ Some bytes → FileIsReadAgain asked bytes st text
 
 -- What comes of a journal file, against a term, where the read of it may fail.
-abbrev pub EndsJournal : Seen → Text → Tree → List (List ℕ) → Status → List ℕ → Type 0
-EndsJournal s journal t names status.ReadFault text = Rose s.faults s.faults' × (text ≡ fault_text)
-EndsJournal s journal t names st text = (s.faults' ≡ s.faults) × JournalCause s journal t names st text
+abbrev pub EndsJournal : Seen → Text → Translation → Tree → List (List ℕ) → Status → List ℕ → Type 0
+EndsJournal s journal translation t names status.ReadFault text = Rose s.faults s.faults' × (text ≡ fault_text)
+EndsJournal s journal translation t names st text = (s.faults' ≡ s.faults) × JournalCause s journal translation t names st text

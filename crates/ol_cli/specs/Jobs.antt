@@ -2,6 +2,7 @@
 use Rattle.std.specs.Prelude.{◌≡◌, ℕ, true, Bool, Option, None, Some, List, [], ◌∷◌, String, length, slice_get}
 use Rattle.std.specs.declared.alloc.Global.{Global}
 use Rattle.std.specs.Option.{option_map_or}
+use Rattle.ol_term.specs.declared.translations.Translation.{Translation}
 use Rattle.ol_term.specs.Generated.{doubled_text}
 use Rattle.ol_words.specs.Texts.{Text}
 use Rattle.ol_words.specs.Texts.{texts_of}
@@ -18,25 +19,25 @@ AskForNothing words = job_of (texts_of words) ≡ None
 
 -- the names of a job's files, in the order in which they are read
 abbrev pub file_names : Asked → List Text
-file_names (run workers fuel heads name) = name ∷ []
-file_names (walk edges heads name) = name ∷ []
-file_names (view after name) = name ∷ []
-file_names (trace workers fuel name) = name ∷ []
-file_names (check term journal) = term ∷ journal ∷ []
-file_names (gen runs k) = []
+file_names (run translation workers fuel heads name) = name ∷ []
+file_names (walk translation edges heads name) = name ∷ []
+file_names (view translation after name) = name ∷ []
+file_names (trace translation workers fuel name) = name ∷ []
+file_names (check translation term journal) = term ∷ journal ∷ []
+file_names (gen translation runs k) = []
 
 -- the name of the file with the term, which is read first; `gen` makes its term itself
 abbrev pub file_name : Asked → Text
-file_name (run workers fuel heads name) = name
-file_name (walk edges heads name) = name
-file_name (view after name) = name
-file_name (trace workers fuel name) = name
-file_name (check term journal) = term
-file_name (gen runs k) = []
+file_name (run translation workers fuel heads name) = name
+file_name (walk translation edges heads name) = name
+file_name (view translation after name) = name
+file_name (trace translation workers fuel name) = name
+file_name (check translation term journal) = term
+file_name (gen translation runs k) = []
 
 -- the job has a file with a term
 abbrev pub HasTermFile : Asked → Type 0
-HasTermFile (gen runs k) = ⊥
+HasTermFile (gen translation runs k) = ⊥
 HasTermFile _ = Unit {0}
 
 -- how many files a job has, and how many the words name, which is none where they ask for nothing
@@ -59,6 +60,15 @@ abbrev pub TellsFiles : (Text → Option (List ℕ)) → List (String Global) �
 TellsFiles contents words =
     (asked : Asked) → AskFor words asked → EachName asked (λ name. (bytes : List ℕ) × (contents name ≡ Some bytes))
 
+-- the translation of a job
+abbrev pub translation_in : Asked → Translation
+translation_in (run translation workers fuel heads name) = translation
+translation_in (walk translation edges heads name) = translation
+translation_in (view translation after name) = translation
+translation_in (trace translation workers fuel name) = translation
+translation_in (check translation term journal) = translation
+translation_in (gen translation runs k) = translation
+
 -- the fuel of `run` without options, and how many subterms it asks
 abbrev pub plain_fuel : ℕ
 plain_fuel = 200000
@@ -68,12 +78,12 @@ plain_heads = 4096
 
 -- the bytes of a job's term: those of its file, where they are told, or those that `gen` makes
 abbrev pub term_bytes : (Text → Option (List ℕ)) → Asked → Option (List ℕ)
-term_bytes contents (gen runs k) = Some (doubled_text k)
-term_bytes contents (run workers fuel heads name) = contents name
-term_bytes contents (walk edges heads name) = contents name
-term_bytes contents (view after name) = contents name
-term_bytes contents (trace workers fuel name) = contents name
-term_bytes contents (check term journal) = contents term
+term_bytes contents (gen translation runs k) = Some (doubled_text k)
+term_bytes contents (run translation workers fuel heads name) = contents name
+term_bytes contents (walk translation edges heads name) = contents name
+term_bytes contents (view translation after name) = contents name
+term_bytes contents (trace translation workers fuel name) = contents name
+term_bytes contents (check translation term journal) = contents term
 
 -- these are the bytes of the term of the job that the words ask for, where they ask for one
 abbrev pub TellsTerm : (Text → Option (List ℕ)) → List (String Global) → List ℕ → Type 0

@@ -1,6 +1,7 @@
 -- The laws of answers.
 use Rattle.std.specs.Prelude.{◌≡◌, ℕ, List, length, Option, String}
 use Rattle.std.specs.declared.alloc.Global.{Global}
+use Rattle.ol_term.specs.declared.translations.Translation.{Translation}
 use Rattle.ol_term.specs.Trees.{Tree}
 use Rattle.ol_net.specs.Nets.{IsNet}
 use Rattle.ol_translate.specs.Translation.{translation_of}
@@ -13,7 +14,7 @@ use Rattle.ol_cli.specs.Evaluation.{Prints, Walks}
 
 -- a job whose answer is one text: what `trace` writes is any of many
 abbrev pub TellsOne : Asked → Type 0
-TellsOne (trace workers fuel name) = ⊥
+TellsOne (trace translation workers fuel name) = ⊥
 TellsOne _ = Unit {0}
 
 -- The same words and files have one answer: each status comes just where the answer is that, and so does each text, where the job
@@ -25,12 +26,12 @@ OneAnswer = (words : List (String Global)) (files : Text → Option (List ℕ)) 
 
 -- However the answer to a term is come by, one tree is printed, one term and one number of stuck pairs.
 abbrev pub OneTreeIsPrinted : Type 0
-OneTreeIsPrinted = (t : Tree) (names : List (List ℕ)) (fuel heads : ℕ) (text text' : List ℕ) →
-    IsNet (translation_of t (length names)) → (p : Prints t names fuel heads text) (p' : Prints t names fuel heads text') →
+OneTreeIsPrinted = (translation : Translation) (t : Tree) (names : List (List ℕ)) (fuel heads : ℕ) (text text' : List ℕ) →
+    IsNet (translation_of translation t (length names)) → (p : Prints translation t names fuel heads text) (p' : Prints translation t names fuel heads text') →
     (p.shows.tree ≡ p'.shows.tree) × (p.shows.term ≡ p'.shows.term) × (p.shows.stuck ≡ p'.shows.stuck)
 
 -- and one tree and one term of the untouched translation
 abbrev pub OneTreeIsWalked : Type 0
-OneTreeIsWalked = (t : Tree) (names : List (List ℕ)) (edges heads : ℕ) (text text' : List ℕ) →
-    IsNet (translation_of t (length names)) → (w : Walks t names edges heads text) (w' : Walks t names edges heads text') →
+OneTreeIsWalked = (translation : Translation) (t : Tree) (names : List (List ℕ)) (edges heads : ℕ) (text text' : List ℕ) →
+    IsNet (translation_of translation t (length names)) → (w : Walks translation t names edges heads text) (w' : Walks translation t names edges heads text') →
     (w.tree ≡ w'.tree) × (w.term ≡ w'.term)

@@ -1,5 +1,6 @@
 -- Private: words of private contracts alone: a term file made ready, which is the net of its term, or the answer that refuses it, whatever the job.
 use Rattle.std.specs.Prelude.{◌≡◌, ℕ, ◌≤◌, List, length, None, count_by, is_some}
+use Rattle.ol_term.specs.declared.translations.Translation.{Translation}
 use Rattle.ol_term.specs.Trees.{Tree, tree_of}
 use Rattle.ol_parse.specs.Texts.{IsRefusedAt}
 use Rattle.ol_parse.specs.Parsed.{AreNames}
@@ -16,27 +17,27 @@ use Rattle.ol_cli.specs.Texts.{syntax_text}
 use Rattle.ol_cli.specs.Answers.{IsTermFile, IsPastLimit}
 
 -- the bytes are refused so
-abbrev pub Refuses : List ℕ → Status → List ℕ → Type 0
-Refuses bytes status.Limit text = IsPastLimit bytes text
-Refuses bytes status.Syntax text = (at : ℕ) × (length bytes ≤ 1048576) × IsRefusedAt bytes at × (text ≡ syntax_text at)
-Refuses bytes _ text = ⊥
+abbrev pub Refuses : Translation → List ℕ → Status → List ℕ → Type 0
+Refuses translation bytes status.Limit text = IsPastLimit translation bytes text
+Refuses translation bytes status.Syntax text = (at : ℕ) × (length bytes ≤ 1048576) × IsRefusedAt bytes at × (text ≡ syntax_text at)
+Refuses translation bytes _ text = ⊥
 
 -- the net is that of the term, with the numbers of its translation, and none of its nodes is gone
-pub record IsNetOf (t : Tree) (names : List (List ℕ)) (net : Graph) : Type 0 where
-  pub same : SameNet (net_of net) (translation_of t (length names))
+pub record IsNetOf (translation : Translation) (t : Tree) (names : List (List ℕ)) (net : Graph) : Type 0 where
+  pub same : SameNet (net_of net) (translation_of translation t (length names))
   pub whole : count_by is_some net.nodes ≡ length net.nodes
   pub small : IsSmallNet net
 
--- this holds of each term whose net it is, with its free names
-abbrev pub HoldsOfTerms : Graph → (Tree → List (List ℕ) → Type 0) → Type 0
-HoldsOfTerms net P = (t : Tree) (names : List (List ℕ)) → IsNetOf t names net → P t names
+-- this holds of each term whose net it is by a translation, with its free names
+abbrev pub HoldsOfTerms : Graph → (Translation → Tree → List (List ℕ) → Type 0) → Type 0
+HoldsOfTerms net P = (translation : Translation) (t : Tree) (names : List (List ℕ)) → IsNetOf translation t names net → P translation t names
 
 -- the bytes are a text of this term, whose net this is
-pub record IsReady (bytes : List ℕ) (t : Tree) (names : List (List ℕ)) (net : Graph) : Type 0 where
-  pub term : IsTermFile bytes t names
+pub record IsReady (translation : Translation) (bytes : List ℕ) (t : Tree) (names : List (List ℕ)) (net : Graph) : Type 0 where
+  pub term : IsTermFile translation bytes t names
   pub named : AreNames names
-  pub ready : IsNetOf t names net
+  pub ready : IsNetOf translation t names net
 
-abbrev pub IsPrepared : List ℕ → Prepared → Type 0
-IsPrepared bytes (prepared.Net net file) = IsReady bytes (tree_of file.term) file.names net
-IsPrepared bytes (prepared.Refused answer) = Refuses bytes answer.status answer.text.items × (answer.closed ≡ None)
+abbrev pub IsPrepared : Translation → List ℕ → Prepared → Type 0
+IsPrepared translation bytes (prepared.Net net file) = IsReady translation bytes (tree_of file.term) file.names net
+IsPrepared translation bytes (prepared.Refused answer) = Refuses translation bytes answer.status answer.text.items × (answer.closed ≡ None)

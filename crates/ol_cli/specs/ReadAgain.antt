@@ -2,6 +2,7 @@
 use Rattle.std.specs.Prelude.{◌≡◌, ℕ, true, List, Option, Some, String}
 use Rattle.std.specs.declared.alloc.Global.{Global}
 use Rattle.ol_io.specs.Outside.{Appended}
+use Rattle.ol_term.specs.declared.translations.Translation.{Translation}
 use Rattle.ol_term.specs.Trees.{Tree}
 use Rattle.ol_parse.specs.Parsed.{IsFileOf, AreNames}
 use Rattle.ol_readback.specs.Terms.{HasAllHeads, IsReadBack}
@@ -13,21 +14,21 @@ use Rattle.ol_cli.specs.Jobs.{AskFor, plain_fuel, plain_heads, term_bytes}
 use Rattle.ol_cli.specs.Evaluation.{Prints, Walks}
 
 -- what `run` prints of a term, and that it is read again
-abbrev pub RunIsReadAgain : Tree → List (List ℕ) → (fuel heads : ℕ) → List ℕ → Type 0
-RunIsReadAgain t names fuel heads text =
-    (p : Prints t names fuel heads text) × (HasAllHeads p.shows.tree → IsReadBack names p.shows.tree p.shows.term)
+abbrev pub RunIsReadAgain : Translation → Tree → List (List ℕ) → (fuel heads : ℕ) → List ℕ → Type 0
+RunIsReadAgain translation t names fuel heads text =
+    (p : Prints translation t names fuel heads text) × (HasAllHeads p.shows.tree → IsReadBack names p.shows.tree p.shows.term)
 
 -- the same of `walk`
-abbrev pub WalkIsReadAgain : Tree → List (List ℕ) → (edges heads : ℕ) → List ℕ → Type 0
-WalkIsReadAgain t names edges heads text =
-    (w : Walks t names edges heads text) × (HasAllHeads w.tree → IsReadBack names w.tree w.term)
+abbrev pub WalkIsReadAgain : Translation → Tree → List (List ℕ) → (edges heads : ℕ) → List ℕ → Type 0
+WalkIsReadAgain translation t names edges heads text =
+    (w : Walks translation t names edges heads text) × (HasAllHeads w.tree → IsReadBack names w.tree w.term)
 
 -- What a job answers to a term, and that the tree whose text it prints is read again, where each of its places has a head. The other
 -- jobs print no tree.
 abbrev pub TextIsReadAgain : Asked → Tree → List (List ℕ) → List ℕ → Type 0
-TextIsReadAgain (run workers fuel heads name) t names text = RunIsReadAgain t names fuel heads text
-TextIsReadAgain (walk edges heads name) t names text = WalkIsReadAgain t names edges heads text
-TextIsReadAgain (gen true k) t names text = RunIsReadAgain t names plain_fuel plain_heads text
+TextIsReadAgain (run translation workers fuel heads name) t names text = RunIsReadAgain translation t names fuel heads text
+TextIsReadAgain (walk translation edges heads name) t names text = WalkIsReadAgain translation t names edges heads text
+TextIsReadAgain (gen translation true k) t names text = RunIsReadAgain translation t names plain_fuel plain_heads text
 TextIsReadAgain _ t names text = Unit {0}
 
 -- where the job is done, its text is read again by these names, if they are names of the grammar

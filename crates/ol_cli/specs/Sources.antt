@@ -2,6 +2,7 @@
 use Rattle.std.specs.Prelude.{ℕ, ◌<◌, ◌==◌, true, false, List, length, Option, String}
 use Rattle.std.specs.declared.alloc.Global.{Global}
 use Rattle.ol_io.specs.Outside.{Appended}
+use Rattle.ol_term.specs.declared.translations.Translation.{Translation}
 use Rattle.ol_term.specs.Trees.{Tree}
 use Rattle.ol_parse.specs.Parsed.{IsFileOf}
 use Rattle.ol_net.specs.Nets.{NamedNet}
@@ -15,7 +16,7 @@ use Rattle.ol_readback.specs.Terms.{HasAllHeads, IsReadBack}
 use Rattle.ol_words.specs.Asked.{Asked, run, walk, gen}
 use Rattle.ol_cli.specs.declared.status.Status.{Status}
 use Rattle.ol_cli.specs.declared.status.Status.TheVariants as status
-use Rattle.ol_cli.specs.Jobs.{AskFor, plain_fuel, plain_heads}
+use Rattle.ol_cli.specs.Jobs.{AskFor, plain_fuel, plain_heads, translation_in}
 use Rattle.ol_cli.specs.Evaluation.{start_net_of_term, Prints, Walks, PrintsOf}
 
 -- ---- the tree that is written
@@ -24,23 +25,23 @@ use Rattle.ol_cli.specs.Evaluation.{start_net_of_term, Prints, Walks, PrintsOf}
 -- translation gives, by paths of any length, and so is each place without a head where no pair is stuck. Where each of its places
 -- has a head, its text is in the grammar, and read back, with its free names numbered by these, it is the tree's own term, in
 -- which no application has an abstraction as its function.
-pub record PrintsTree (t : Tree) (names : List (List ℕ)) (fuel heads : ℕ) (text : List ℕ) : Type 0 where
-  pub prints : Prints t names fuel heads text
-  pub own_heads : HasHeadsOf (translation_of t (length names)) (prints.shows.stuck == 0) prints.shows.tree
+pub record PrintsTree (translation : Translation) (t : Tree) (names : List (List ℕ)) (fuel heads : ℕ) (text : List ℕ) : Type 0 where
+  pub prints : Prints translation t names fuel heads text
+  pub own_heads : HasHeadsOf (translation_of translation t (length names)) (prints.shows.stuck == 0) prints.shows.tree
   pub read_again : HasAllHeads prints.shows.tree → IsReadBack names prints.shows.tree prints.shows.term
 
 -- The same of `walk`, where nothing is said of the places without a head.
-pub record WalksTree (t : Tree) (names : List (List ℕ)) (edges heads : ℕ) (text : List ℕ) : Type 0 where
-  pub walks : Walks t names edges heads text
-  pub own_heads : HasHeadsOf (translation_of t (length names)) false walks.tree
+pub record WalksTree (translation : Translation) (t : Tree) (names : List (List ℕ)) (edges heads : ℕ) (text : List ℕ) : Type 0 where
+  pub walks : Walks translation t names edges heads text
+  pub own_heads : HasHeadsOf (translation_of translation t (length names)) false walks.tree
   pub read_again : HasAllHeads walks.tree → IsReadBack names walks.tree walks.term
 
 -- What a job prints of a term, with the facts of its tree, if it prints one. `gen --run` does with the term that it makes what `run`
 -- does without options.
 abbrev pub TellsTree : Asked → Tree → List (List ℕ) → List ℕ → Type 0
-TellsTree (run workers fuel heads name) t names text = PrintsTree t names fuel heads text
-TellsTree (walk edges heads name) t names text = WalksTree t names edges heads text
-TellsTree (gen true k) t names text = PrintsTree t names plain_fuel plain_heads text
+TellsTree (run translation workers fuel heads name) t names text = PrintsTree translation t names fuel heads text
+TellsTree (walk translation edges heads name) t names text = WalksTree translation t names edges heads text
+TellsTree (gen translation true k) t names text = PrintsTree translation t names plain_fuel plain_heads text
 TellsTree _ t names text = Unit {0}
 
 -- The text was written for the job's own term, and these are the facts of its tree.
@@ -60,12 +61,12 @@ RunTells names fuel heads journal net _ old new = Unit {0}
 
 -- the same of a job: the others rewrite nothing, or write no term
 abbrev pub JobTells : Asked → List (List ℕ) → List Entry → NamedNet NodeName → Status → Option (List ℕ) → Option (List ℕ) → Type 0
-JobTells (run workers fuel heads name) names journal net st old new = RunTells names fuel heads journal net st old new
-JobTells (gen true k) names journal net st old new = RunTells names plain_fuel plain_heads journal net st old new
+JobTells (run translation workers fuel heads name) names journal net st old new = RunTells names fuel heads journal net st old new
+JobTells (gen translation true k) names journal net st old new = RunTells names plain_fuel plain_heads journal net st old new
 JobTells _ names journal net st old new = Unit {0}
 
 -- each complete run from the net of the job's own term tells this, whatever pairs it takes first
 abbrev pub EveryRunTells : List (String Global) → List ℕ → Status → Option (List ℕ) → Option (List ℕ) → Type 0
 EveryRunTells words bytes st old new = (asked : Asked) (t : Tree) (names : List (List ℕ)) → AskFor words asked → IsFileOf bytes t names →
-    (journal : List Entry) (net : NamedNet NodeName) → IsRun (start_net_of_term t names) 0 journal net → IsComplete net →
+    (journal : List Entry) (net : NamedNet NodeName) → IsRun (start_net_of_term (translation_in asked) t names) 0 journal net → IsComplete net →
     JobTells asked names journal net st old new

@@ -7,6 +7,7 @@ ghost use Rattle.ol_translate.specs.Translation.{translation_of};
 ghost use Rattle.ol_wire.specs.Sizes.{IsSmallNet};
 ghost use Rattle.ol_words.specs.Asked.{asked_by};
 ghost use Rattle.ol_cli.specs.Inside.{AnswersTerm, HandsOfTerm, IsOnTerm, IsReadByNames, IsWithinLimits, run_by, walk_by};
+ghost use Rattle.ol_cli.specs.Jobs.{translation_in};
 ghost use Rattle.ol_cli.specs.ReadAgain.{FileIsReadAgain};
 ghost use Rattle.ol_cli.specs.Answers.{FileAnswer, TraceAnswer, plain_run};
 ghost use Rattle.ol_cli.specs.Evaluation.{Views};
@@ -21,7 +22,7 @@ use ol_net::Net;
 use ol_readback::{read_back, tree_text};
 use ol_reduce::{Reduced, reduce};
 use ol_rules::counts;
-use ol_term::TermFile;
+use ol_term::{TermFile, Translation};
 use ol_view::{after, show, trace_text};
 use ol_wire::Words;
 use ol_words::Job;
@@ -57,17 +58,42 @@ impl Answer {
 /// The numbers of a job `run`.
 #[derive(Clone, Copy)]
 struct RunNumbers {
+    translation: Translation,
     workers: u32,
     fuel: u32,
     heads: u32,
 }
 
-// The numbers of `run` without options.
-const PLAIN_RUN: RunNumbers = RunNumbers {
-    workers: 4,
-    fuel: 200_000,
-    heads: 4_096,
-};
+// The numbers of `run` without options but the translation.
+fn plain_run(translation: Translation) -> RunNumbers
+    ensures { result ≡ record {
+      translation = translation;
+      workers = 4;
+      fuel = 200000;
+      heads = 4096;
+    } }
+{
+    RunNumbers {
+        translation,
+        workers: 4,
+        fuel: 200_000,
+        heads: 4_096,
+    }
+}
+
+// The translation of a job.
+fn translation_in(job: &Job) -> Translation
+    ensures { result ≡ translation_in (asked_by job.now) }
+{
+    match job {
+        Job::Run { translation, .. } => *translation,
+        Job::Walk { translation, .. } => *translation,
+        Job::View { translation, .. } => *translation,
+        Job::Trace { translation, .. } => *translation,
+        Job::Check { translation, .. } => *translation,
+        Job::Gen { translation, .. } => *translation,
+    }
+}
 
 /// The answer to the bytes of a job's one file, none of which are past the limit.
 pub fn evaluate<R: Threads + Wait + Sync, G: Gate + Sync>(
@@ -87,7 +113,7 @@ pub fn evaluate<R: Threads + Wait + Sync, G: Gate + Sync>(
     ensures closed { IfOk result (λ a. WhereEnded a.status a.closed
         (FileHands (asked_by job.now) bytes.now a.status a.text.items a.closed)) }
 {
-    match prepare(alloc, bytes)? {
+    match prepare(alloc, bytes, translation_in(job))? {
         Prepared::Refused(answer) => Ok(answer),
         Prepared::Net { net, file } => {
             let answer = evaluate_net(rt, alloc, job, &net, &file, gate)?;
@@ -96,23 +122,26 @@ pub fn evaluate<R: Threads + Wait + Sync, G: Gate + Sync>(
     }
 }
 
-/// The answer of `run` without options to a text that is made.
+/// The answer of `run`, without options but the translation, to a text that is made.
 pub fn run_made<R: Threads + Wait + Sync, G: Gate + Sync>(
     rt: &R,
     alloc: Global,
     bytes: &[u8],
+    translation: Translation,
     gate: &G,
 ) -> Result<Answer, NoMemory>
     requires short { length bytes.now ≤ 1048576 }
-    ensures answer { IfOk result (λ a. FileAnswer plain_run bytes.now a.status a.text.items) }
-    ensures read { IfOk result (λ a. FileIsReadAgain plain_run bytes.now a.status a.text.items) }
+    ensures answer { IfOk result (λ a.
+        FileAnswer (plain_run translation) bytes.now a.status a.text.items) }
+    ensures read { IfOk result (λ a.
+        FileIsReadAgain (plain_run translation) bytes.now a.status a.text.items) }
     ensures closed { IfOk result (λ a. WhereEnded a.status a.closed
-        (FileHands plain_run bytes.now a.status a.text.items a.closed)) }
+        (FileHands (plain_run translation) bytes.now a.status a.text.items a.closed)) }
 {
-    match prepare(alloc, bytes)? {
+    match prepare(alloc, bytes, translation)? {
         Prepared::Refused(answer) => Ok(answer),
         Prepared::Net { net, file } => {
-            let answer = run_net(rt, alloc, &net, &file, PLAIN_RUN, gate)?;
+            let answer = run_net(rt, alloc, &net, &file, plain_run(translation), gate)?;
             Ok(answer)
         }
     }
@@ -127,7 +156,8 @@ fn evaluate_net<R: Threads + Wait + Sync, G: Gate + Sync>(
     file: &TermFile,
     gate: &G,
 ) -> Result<Answer, NoMemory>
-    requires net { IsNetOf (tree_of file.now.term) file.now.names net.now }
+    requires net { IsNetOf (translation_in (asked_by job.now)) (tree_of file.now.term)
+        file.now.names net.now }
     requires on_term { IsOnTerm (asked_by job.now) }
     requires within { IsWithinLimits (asked_by job.now) }
     ensures answer { IfOk result (λ a.
@@ -139,12 +169,14 @@ fn evaluate_net<R: Threads + Wait + Sync, G: Gate + Sync>(
 {
     match job {
         Job::Run {
+            translation,
             workers,
             fuel,
             heads,
             ..
         } => {
             let numbers = RunNumbers {
+                translation: *translation,
                 workers: *workers,
                 fuel: *fuel,
                 heads: *heads,
@@ -152,8 +184,13 @@ fn evaluate_net<R: Threads + Wait + Sync, G: Gate + Sync>(
             let answer = run_net(rt, alloc, net, file, numbers, gate)?;
             Ok(answer)
         }
-        Job::Walk { edges, heads, .. } => {
-            let text = walk_net(alloc, net, file, *edges, *heads)?;
+        Job::Walk {
+            translation,
+            edges,
+            heads,
+            ..
+        } => {
+            let text = walk_net(alloc, net, file, *translation, *edges, *heads)?;
             Ok(Answer::without_words(text, Status::Done))
         }
         Job::View { after, .. } => {
@@ -179,7 +216,7 @@ fn run_net<R: Threads + Wait + Sync, G: Gate + Sync>(
     numbers: RunNumbers,
     gate: &G,
 ) -> Result<Answer, NoMemory>
-    requires net { IsNetOf (tree_of file.now.term) file.now.names net.now }
+    requires net { IsNetOf numbers.translation (tree_of file.now.term) file.now.names net.now }
     requires workers { (1 ≤ numbers.workers) × (numbers.workers ≤ 64) }
     requires fuel { numbers.fuel ≤ 2000000 }
     requires heads { 1 ≤ numbers.heads }
@@ -230,16 +267,17 @@ fn walk_net(
     alloc: Global,
     net: &Net,
     file: &TermFile,
+    translation: Translation,
     edges: u64,
     heads: u32,
 ) -> Result<Vec<u8>, NoMemory>
     requires net { SameNet (net_of net.now)
-        (translation_of (tree_of file.now.term) (length file.now.names)) }
+        (translation_of translation (tree_of file.now.term) (length file.now.names)) }
     requires heads { 1 ≤ heads }
     ensures text { IfOk result (λ text.
-        AnswersTerm (walk_by edges heads) file.now Status.Done text.items) }
+        AnswersTerm (walk_by translation edges heads) file.now Status.Done text.items) }
     ensures read { IfOk result (λ text.
-        IsReadByNames (walk_by edges heads) file.now Status.Done text.items) }
+        IsReadByNames (walk_by translation edges heads) file.now Status.Done text.items) }
 {
     net.is_net();
     let tree = read_back(alloc, net, heads, edges)?;
@@ -252,8 +290,8 @@ fn walk_net(
 fn view_net(alloc: Global, net: &Net, leads: u32) -> Result<Vec<u8>, NoMemory>
     requires small { IsSmallNet net.now }
     requires leads { leads ≤ 2000000 }
-    ensures { IfOk result (λ text.
-        HoldsOfTerms net.now (λ t names. Views t names leads text.items)) }
+    ensures { IfOk result (λ text. HoldsOfTerms net.now (λ translation t names.
+        Views translation t names leads text.items)) }
 {
     let last = after(alloc, net, leads)?;
     last.net.is_tabled();
@@ -275,10 +313,10 @@ fn trace_net<R: Threads + Wait + Sync, G: Gate + Sync>(
     requires small { IsSmallNet net.now }
     requires workers { (1 ≤ workers) × (workers ≤ 64) }
     requires fuel { fuel ≤ 2000000 }
-    ensures answer { IfOk result (λ a.
-        HoldsOfTerms net.now (λ t names. TraceAnswer t names fuel a.status a.text.items)) }
-    ensures closed { IfOk result (λ a. HoldsOfTerms net.now (λ t names.
-        TraceHands t names workers fuel a.status a.text.items a.closed)) }
+    ensures answer { IfOk result (λ a. HoldsOfTerms net.now (λ translation t names.
+        TraceAnswer translation t names fuel a.status a.text.items)) }
+    ensures closed { IfOk result (λ a. HoldsOfTerms net.now (λ translation t names.
+        TraceHands translation t names workers fuel a.status a.text.items a.closed)) }
 {
     net.is_net();
     let reduced = reduce(rt, alloc, net, workers, fuel, gate)?;

@@ -1,5 +1,6 @@
 //! A term file made ready: from its bytes to the net of its term.
 ghost use Rattle.std.specs.Prelude.{List, ℕ, ◌≤◌, length, IfOk};
+ghost use Rattle.ol_term.specs.declared.translations.Translation.{Translation};
 ghost use Rattle.ol_cli.specs.Prepared.{IsPrepared, Refuses};
 
 use crate::evaluation::Answer;
@@ -8,7 +9,7 @@ use crate::texts::{line, syntax_line};
 use ol_io::NoMemory;
 use ol_net::Net;
 use ol_parse::{ParseFault, parse};
-use ol_term::TermFile;
+use ol_term::{TermFile, Translation};
 use ol_translate::{TransFault, translate};
 use std::alloc::Global;
 
@@ -24,12 +25,12 @@ pub enum Prepared {
 /// Reads the bytes of a term file, none of which are past the limit, and translates its term. A
 /// file is refused where its bytes aren't in the grammar, else where its term is too deep, else
 /// where the net has too many nodes.
-pub fn prepare(alloc: Global, bytes: &[u8]) -> Result<Prepared, NoMemory>
+pub fn prepare(alloc: Global, bytes: &[u8], translation: Translation) -> Result<Prepared, NoMemory>
     requires short { length bytes.now ≤ 1048576 }
-    ensures prepared { IfOk result (IsPrepared bytes.now) }
+    ensures prepared { IfOk result (IsPrepared translation bytes.now) }
 {
     match parse(alloc, bytes) {
-        Ok(file) => match translate(alloc, &file) {
+        Ok(file) => match translate(alloc, &file, translation) {
             Ok(net) => Ok(Prepared::Net { net, file }),
             Err(fault) => match fault {
                 TransFault::NoMemory => Err(NoMemory),
@@ -58,7 +59,8 @@ pub fn prepare(alloc: Global, bytes: &[u8]) -> Result<Prepared, NoMemory>
 
 // The refusal of a file, with which nothing is handed back.
 fn refused(text: Vec<u8>, status: Status) -> Prepared
-    ensures { (bytes : List ℕ) → Refuses bytes status text.items → IsPrepared bytes result }
+    ensures { (translation : Translation) (bytes : List ℕ) →
+        Refuses translation bytes status text.items → IsPrepared translation bytes result }
 {
     Prepared::Refused(Answer::without_words(text, status))
 }

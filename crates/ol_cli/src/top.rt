@@ -20,7 +20,7 @@ use crate::status::Status;
 use crate::texts::{found_line, line};
 use ol_io::{Gate, NoMemory, ReadAll, Sink, Source, Written, read_all, write_all};
 use ol_net::Net;
-use ol_term::{Made, make};
+use ol_term::{Made, Translation, make};
 use ol_view::check;
 use ol_wire::Words;
 use ol_words::{Job, UsageFault, job};
@@ -62,6 +62,9 @@ pub struct Outcome {
 ///   of the first: a complete run, a run of so many interactions, no run, or no text of a journal.
 /// - `gen [--run] K` writes a term that is doubled K times, or does with it what `run` does with no
 ///   options.
+///
+/// Each has `--translation T` too, 1 or 2 and by itself 2: by which the term becomes a net, that of
+/// `gen` as well.
 ///
 /// A part of a term that isn't asked for, or whose walk used up its crossings, is written `...`,
 /// and one that has no head `?`.
@@ -287,10 +290,16 @@ fn answer_job<R: Threads + Wait + Sync, S: Source, G: Gate + Sync>(
         Job::Walk { name, .. } => answer_file(rt, alloc, job, name.as_str(), src, gate),
         Job::View { name, .. } => answer_file(rt, alloc, job, name.as_str(), src, gate),
         Job::Trace { name, .. } => answer_file(rt, alloc, job, name.as_str(), src, gate),
-        Job::Check { term, journal } => {
-            answer_check(alloc, term.as_str(), journal.as_str(), src)
-        }
-        Job::Gen { run, k } => answer_made(rt, alloc, *run, *k, gate),
+        Job::Check {
+            translation,
+            term,
+            journal,
+        } => answer_check(alloc, *translation, term.as_str(), journal.as_str(), src),
+        Job::Gen {
+            translation,
+            run,
+            k,
+        } => answer_made(rt, alloc, *translation, *run, *k, gate),
     }
 }
 
@@ -349,6 +358,7 @@ fn refusal(alloc: Global, words: &str, status: Status) -> Result<Answer, NoMemor
 // The text of `check` on two files, which have these names, and its status.
 fn answer_check<S: Source>(
     alloc: Global,
+    translation: Translation,
     term: &str,
     journal: &str,
     src: &mut S,
@@ -357,7 +367,7 @@ fn answer_check<S: Source>(
     requires journal { S.knows src.old journal.now ≡ true }
     ensures caused { IfOk result (λ a. JobCause
         (seen_by S.faults S.contents S.given S.ended src.old src.new)
-        a.status a.text.items (check term.now journal.now)) }
+        a.status a.text.items (check translation term.now journal.now)) }
     ensures closed { IfOk result (λ a. a.closed ≡ None) }
     ensures begins { S.begins src.new ≤ S.begins src.old + 2 }
     ensures knows { S.knows src.new ≡ S.knows src.old }
@@ -373,7 +383,7 @@ fn answer_check<S: Source>(
             let answer = refusal(alloc, "limit bytes 1048576", Status::Limit)?;
             Ok(answer)
         }
-        Ok(bytes) => match prepare(alloc, &bytes)? {
+        Ok(bytes) => match prepare(alloc, &bytes, translation)? {
             Prepared::Refused(answer) => Ok(answer),
             Prepared::Net { net, file: _ } => {
                 let answer = answer_journal(alloc, &net, journal, src)?;
@@ -393,9 +403,9 @@ fn answer_journal<S: Source>(
 ) -> Result<Answer, NoMemory>
     requires known { S.knows src.old name.now ≡ true }
     requires small { IsSmallNet net.now }
-    ensures caused { IfOk result (λ a. HoldsOfTerms net.now (λ t names.
+    ensures caused { IfOk result (λ a. HoldsOfTerms net.now (λ translation t names.
         EndsJournal (seen_by S.faults S.contents S.given S.ended src.old src.new)
-        name.now t names a.status a.text.items)) }
+        name.now translation t names a.status a.text.items)) }
     ensures closed { IfOk result (λ a. a.closed ≡ None) }
     ensures begins { S.begins src.new ≤ S.begins src.old + 1 }
     ensures knows { S.knows src.new ≡ S.knows src.old }
@@ -423,21 +433,22 @@ fn answer_journal<S: Source>(
 fn answer_made<R: Threads + Wait + Sync, G: Gate + Sync>(
     rt: &R,
     alloc: Global,
+    translation: Translation,
     run: bool,
     k: u32,
     gate: &G,
 ) -> Result<Answer, NoMemory>
     requires few { k ≤ 10 }
-    ensures made { IfOk result (λ a. Makes run k a.status a.text.items) }
+    ensures made { IfOk result (λ a. Makes translation run k a.status a.text.items) }
     ensures read { IfOk result (λ a.
-        FileIsReadAgain (gen run k) (doubled_text k) a.status a.text.items) }
+        FileIsReadAgain (gen translation run k) (doubled_text k) a.status a.text.items) }
     ensures closed { IfOk result (λ a. WhereEnded a.status a.closed
-        (MakingHands run k a.status a.text.items a.closed)) }
+        (MakingHands translation run k a.status a.text.items a.closed)) }
 {
     match make(alloc, k) {
         Ok(text) => {
             if run {
-                let answer = run_made(rt, alloc, &text, gate)?;
+                let answer = run_made(rt, alloc, &text, translation, gate)?;
                 return Ok(answer);
             }
             Ok(Answer::without_words(text, Status::Done))

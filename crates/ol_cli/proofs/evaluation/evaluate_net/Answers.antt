@@ -11,4 +11,4 @@ pub returns-in_ok-answer-in-Run-clause-closed : goal.returns-in_ok-answer-in-Run
 returns-in_ok-answer-in-Run-clause-closed g c = rw c.in-Run.is c.in_ok-answer-in-Run.ensures.closed
 
 pub returns-in_ok-answer-in-Trace-clause-closed : goal.returns-in_ok-answer-in-Trace-clause-closed
-returns-in_ok-answer-in-Trace-clause-closed g c = rw c.in-Trace.is (c.in_ok-answer-in-Trace.ensures.closed (tree_of c.args.file.now.term) c.args.file.now.names c.requires.net)
+returns-in_ok-answer-in-Trace-clause-closed g c = rw c.in-Trace.is (c.in_ok-answer-in-Trace.ensures.closed _ (tree_of c.args.file.now.term) c.args.file.now.names (rw c.in-Trace.is at c.requires.net))

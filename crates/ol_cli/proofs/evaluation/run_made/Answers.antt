@@ -9,34 +9,34 @@ pub returns-in_ok-answer-in-Net-clause-answer : goal.returns-in_ok-answer-in-Net
 returns-in_ok-answer-in-Net-clause-answer g c =
     let ready = rw c.in-Net.is at c.in_ok-answer.ensures.prepared in
     let a = c.in_ok-answer-in-Net.answer in
-    term_answer plain_run c.args.bytes.now (tree_of c.in-Net.file.term) c.in-Net.file.names ready.term a.status a.text.items c.in_ok-answer-in-Net.ensures.answer
+    term_answer (plain_run c.args.translation) c.args.bytes.now (tree_of c.in-Net.file.term) c.in-Net.file.names ready.term a.status a.text.items (rw c.plain_run.ensures at c.in_ok-answer-in-Net.ensures.answer)
 
 pub returns-in_ok-answer-in-Net-clause-closed : goal.returns-in_ok-answer-in-Net-clause-closed
 returns-in_ok-answer-in-Net-clause-closed g c =
     let ready = rw c.in-Net.is at c.in_ok-answer.ensures.prepared in
     let a = c.in_ok-answer-in-Net.answer in
-    file_hands plain_run c.args.bytes.now (tree_of c.in-Net.file.term) c.in-Net.file.names ready.term a.status a.text.items a.closed c.in_ok-answer-in-Net.ensures.closed
+    file_hands (plain_run c.args.translation) c.args.bytes.now (tree_of c.in-Net.file.term) c.in-Net.file.names ready.term a.status a.text.items a.closed (rw c.plain_run.ensures at c.in_ok-answer-in-Net.ensures.closed)
 
 pub returns-in-Refused-clause-answer : goal.returns-in-Refused-clause-answer
 returns-in-Refused-clause-answer g c =
     let refused = rw c.in-Refused.is at c.in_ok-answer.ensures.prepared in
     let a = c.in-Refused.answer in
-    refuses_answer plain_run c.args.bytes.now a.status a.text.items refused.0
+    refuses_answer (plain_run c.args.translation) c.args.bytes.now a.status a.text.items refused.0
 
 pub returns-in-Refused-clause-closed : goal.returns-in-Refused-clause-closed
 returns-in-Refused-clause-closed g c =
     let refused = rw c.in-Refused.is at c.in_ok-answer.ensures.prepared in
     let a = c.in-Refused.answer in
-    refuses_hands c.args.bytes.now a.status a.text.items a.closed _ refused.0 refused.1
+    refuses_hands c.args.translation c.args.bytes.now a.status a.text.items a.closed _ refused.0 refused.1
 
 pub returns-in_ok-answer-in-Net-clause-read : goal.returns-in_ok-answer-in-Net-clause-read
 returns-in_ok-answer-in-Net-clause-read g c =
     let ready = rw c.in-Net.is at c.in_ok-answer.ensures.prepared in
     let a = c.in_ok-answer-in-Net.answer in
-    file_read plain_run c.args.bytes.now (tree_of c.in-Net.file.term) c.in-Net.file.names a.status a.text.items ready.term.file ready.named c.in_ok-answer-in-Net.ensures.read
+    file_read (plain_run c.args.translation) c.args.bytes.now (tree_of c.in-Net.file.term) c.in-Net.file.names a.status a.text.items ready.term.file ready.named (rw c.plain_run.ensures at c.in_ok-answer-in-Net.ensures.read)
 
 pub returns-in-Refused-clause-read : goal.returns-in-Refused-clause-read
 returns-in-Refused-clause-read g c =
     let refused = rw c.in-Refused.is at c.in_ok-answer.ensures.prepared in
     let a = c.in-Refused.answer in
-    refuses_read plain_run c.args.bytes.now a.status a.text.items refused.0
+    refuses_read (plain_run c.args.translation) c.args.bytes.now a.status a.text.items refused.0

@@ -14,23 +14,23 @@ use Rattle.ol_cli.proofs.evaluation.run_net.Goals as goal
 pub returns-in-Spent-clause-answer : goal.returns-in-Spent-clause-answer
 returns-in-Spent-clause-answer g c =
     let d = rw c.in-Spent.is at c.in_ok-reduced.ensures.reduced in
-    (spent_answer (tree_of c.args.file.now.term) c.args.file.now.names c.args.net.now c.requires.net.same c.args.numbers.fuel c.args.numbers.workers c.args.numbers.heads c.in-Spent.journal c.in-Spent.words d c.is_net.ensures.net, c.in_ok-text-in-Spent.ensures)
+    (spent_answer c.args.numbers.translation (tree_of c.args.file.now.term) c.args.file.now.names c.args.net.now c.requires.net.same c.args.numbers.fuel c.args.numbers.workers c.args.numbers.heads c.in-Spent.journal c.in-Spent.words d c.is_net.ensures.net, c.in_ok-text-in-Spent.ensures)
 
 pub returns-in-Spent-clause-closed : goal.returns-in-Spent-clause-closed
 returns-in-Spent-clause-closed g c =
     let d = rw c.in-Spent.is at c.in_ok-reduced.ensures.reduced in
-    spent_hands (tree_of c.args.file.now.term) c.args.file.now.names c.args.net.now c.requires.net.same c.args.numbers.fuel c.args.numbers.workers c.args.numbers.heads c.in-Spent.journal c.in-Spent.words d c.in_ok-text-in-Spent.text.items c.once.ensures.once c.in_ok-text-in-Spent.ensures
+    spent_hands c.args.numbers.translation (tree_of c.args.file.now.term) c.args.file.now.names c.args.net.now c.requires.net.same c.args.numbers.fuel c.args.numbers.workers c.args.numbers.heads c.in-Spent.journal c.in-Spent.words d c.in_ok-text-in-Spent.text.items c.once.ensures.once c.in_ok-text-in-Spent.ensures
 
 pub read_back-requires-clause-root : goal.read_back-requires-clause-root
 read_back-requires-clause-root g c =
     let d = rw c.in-Done.is at c.in_ok-reduced.ensures.reduced in
-    let ports = done_ports (tree_of c.args.file.now.term) c.args.file.now.names c.args.net.now c.requires.net.same c.args.numbers.fuel c.args.numbers.workers c.args.numbers.heads c.in-Done.journal c.in-Done.words c.in-Done.last d in
+    let ports = done_ports c.args.numbers.translation (tree_of c.args.file.now.term) c.args.file.now.names c.args.net.now c.requires.net.same c.args.numbers.fuel c.args.numbers.workers c.args.numbers.heads c.in-Done.journal c.in-Done.words c.in-Done.last d in
     omega (arith, ports)
 
 pub tree_text-requires : goal.tree_text-requires
 tree_text-requires g c =
     let d = rw c.in-Done.is at c.in_ok-reduced.ensures.reduced in
-    let ports = done_ports (tree_of c.args.file.now.term) c.args.file.now.names c.args.net.now c.requires.net.same c.args.numbers.fuel c.args.numbers.workers c.args.numbers.heads c.in-Done.journal c.in-Done.words c.in-Done.last d in
+    let ports = done_ports c.args.numbers.translation (tree_of c.args.file.now.term) c.args.file.now.names c.args.net.now c.requires.net.same c.args.numbers.fuel c.args.numbers.workers c.args.numbers.heads c.in-Done.journal c.in-Done.words c.in-Done.last d in
     let e : c.in-Done.last.free - 1 ≡ length c.args.file.now.names = omega (arith, ports) in
     record { free = subst (λ n. AreNamed n c.in_ok-tree-in-Done.tree) e c.in_ok-tree-in-Done.ensures.names }
 
@@ -47,7 +47,7 @@ returns-clause-answer g c =
       shown = c.in_ok-term-in-Done.ensures.text;
       written = text;
     } in
-    (done_answer (tree_of c.args.file.now.term) c.args.file.now.names c.args.net.now c.requires.net.same c.args.numbers.fuel c.args.numbers.workers c.args.numbers.heads c.in-Done.journal c.in-Done.words c.in-Done.last d c.stuck.result c.in_ok-tree-in-Done.tree c.in_ok-term-in-Done.term.items c.in_ok-text-in-Done.text.items told (λ ns x. Unit {0}) c.is_net.ensures.net tt).0
+    (done_answer c.args.numbers.translation (tree_of c.args.file.now.term) c.args.file.now.names c.args.net.now c.requires.net.same c.args.numbers.fuel c.args.numbers.workers c.args.numbers.heads c.in-Done.journal c.in-Done.words c.in-Done.last d c.stuck.result c.in_ok-tree-in-Done.tree c.in_ok-term-in-Done.term.items c.in_ok-text-in-Done.text.items told (λ ns x. Unit {0}) c.is_net.ensures.net tt).0
 
 pub returns-clause-read : goal.returns-clause-read
 returns-clause-read g c =
@@ -62,9 +62,9 @@ returns-clause-read g c =
       shown = c.in_ok-term-in-Done.ensures.text;
       written = text;
     } in
-    let x = done_answer (tree_of c.args.file.now.term) c.args.file.now.names c.args.net.now c.requires.net.same c.args.numbers.fuel c.args.numbers.workers c.args.numbers.heads c.in-Done.journal c.in-Done.words c.in-Done.last d c.stuck.result c.in_ok-tree-in-Done.tree c.in_ok-term-in-Done.term.items c.in_ok-text-in-Done.text.items told
+    let x = done_answer c.args.numbers.translation (tree_of c.args.file.now.term) c.args.file.now.names c.args.net.now c.requires.net.same c.args.numbers.fuel c.args.numbers.workers c.args.numbers.heads c.in-Done.journal c.in-Done.words c.in-Done.last d c.stuck.result c.in_ok-tree-in-Done.tree c.in_ok-term-in-Done.term.items c.in_ok-text-in-Done.text.items told
     (IsReadWhereNamed c.args.file.now.names) c.is_net.ensures.net c.in_ok-term-in-Done.ensures.read in
-    run_read (tree_of c.args.file.now.term) c.args.file.now.names c.in_ok-text-in-Done.text.items c.args.numbers.fuel c.args.numbers.heads x.0 x.1 c.args.numbers.workers
+    run_read c.args.numbers.translation (tree_of c.args.file.now.term) c.args.file.now.names c.in_ok-text-in-Done.text.items c.args.numbers.fuel c.args.numbers.heads x.0 x.1 c.args.numbers.workers
 
 pub returns-clause-closed : goal.returns-clause-closed
 returns-clause-closed g c =
@@ -79,4 +79,4 @@ returns-clause-closed g c =
       shown = c.in_ok-term-in-Done.ensures.text;
       written = text;
     } in
-    done_hands (tree_of c.args.file.now.term) c.args.file.now.names c.args.net.now c.requires.net.same c.args.numbers.fuel c.args.numbers.workers c.args.numbers.heads c.in-Done.journal c.in-Done.words c.in-Done.last d c.stuck.result c.in_ok-tree-in-Done.tree c.in_ok-term-in-Done.term.items c.in_ok-text-in-Done.text.items told c.once-in-Done.ensures.once
+    done_hands c.args.numbers.translation (tree_of c.args.file.now.term) c.args.file.now.names c.args.net.now c.requires.net.same c.args.numbers.fuel c.args.numbers.workers c.args.numbers.heads c.in-Done.journal c.in-Done.words c.in-Done.last d c.stuck.result c.in_ok-tree-in-Done.tree c.in_ok-term-in-Done.term.items c.in_ok-text-in-Done.text.items told c.once-in-Done.ensures.once

@@ -3,23 +3,23 @@ use Rattle.ol_cli.proofs.Worked.{spent_answer}
 use Rattle.ol_cli.proofs.evaluation.trace_net.Goals as goal
 
 pub returns-in-Spent-clause-answer : goal.returns-in-Spent-clause-answer
-returns-in-Spent-clause-answer g c = λ t names n.
+returns-in-Spent-clause-answer g c = λ tr t names n.
     let d = rw c.in-Spent.is at c.in_ok-reduced.ensures.reduced in (
-      spent_answer t names c.args.net.now n.same c.args.fuel c.args.workers 0 c.in-Spent.journal c.in-Spent.words d c.is_net.ensures.net,
-      spent_traces t names c.args.net.now n.same c.args.fuel c.args.workers c.in-Spent.journal c.in-Spent.words c.in_ok-text-in-Spent.text.items c.in_ok-text-in-Spent.ensures d,
+      spent_answer tr t names c.args.net.now n.same c.args.fuel c.args.workers 0 c.in-Spent.journal c.in-Spent.words d c.is_net.ensures.net,
+      spent_traces tr t names c.args.net.now n.same c.args.fuel c.args.workers c.in-Spent.journal c.in-Spent.words c.in_ok-text-in-Spent.text.items c.in_ok-text-in-Spent.ensures d,
     )
 
 pub returns-in-Spent-clause-closed : goal.returns-in-Spent-clause-closed
-returns-in-Spent-clause-closed g c = λ t names n.
-    spent_trace_hands t names c.args.net.now n.same c.args.fuel c.args.workers c.in-Spent.journal c.in-Spent.words c.in_ok-text-in-Spent.text.items c.in_ok-text-in-Spent.ensures (rw c.in-Spent.is at c.in_ok-reduced.ensures.reduced) c.once.ensures.once
+returns-in-Spent-clause-closed g c = λ tr t names n.
+    spent_trace_hands tr t names c.args.net.now n.same c.args.fuel c.args.workers c.in-Spent.journal c.in-Spent.words c.in_ok-text-in-Spent.text.items c.in_ok-text-in-Spent.ensures (rw c.in-Spent.is at c.in_ok-reduced.ensures.reduced) c.once.ensures.once
 
 pub returns-clause-answer : goal.returns-clause-answer
-returns-clause-answer g c = λ t names n.
+returns-clause-answer g c = λ tr t names n.
     let d = rw c.in-Done.is at c.in_ok-reduced.ensures.reduced in (
-      done_ends t names c.args.net.now n.same c.args.fuel c.args.workers c.in-Done.journal c.in-Done.words c.in_ok-text-in-Done.text.items c.in_ok-text-in-Done.ensures c.in-Done.net d c.is_net.ensures.net,
-      done_traces t names c.args.net.now n.same c.args.fuel c.args.workers c.in-Done.journal c.in-Done.words c.in_ok-text-in-Done.text.items c.in_ok-text-in-Done.ensures c.in-Done.net d,
+      done_ends tr t names c.args.net.now n.same c.args.fuel c.args.workers c.in-Done.journal c.in-Done.words c.in_ok-text-in-Done.text.items c.in_ok-text-in-Done.ensures c.in-Done.net d c.is_net.ensures.net,
+      done_traces tr t names c.args.net.now n.same c.args.fuel c.args.workers c.in-Done.journal c.in-Done.words c.in_ok-text-in-Done.text.items c.in_ok-text-in-Done.ensures c.in-Done.net d,
     )
 
 pub returns-clause-closed : goal.returns-clause-closed
-returns-clause-closed g c = λ t names n.
-    done_trace_hands t names c.args.net.now n.same c.args.fuel c.args.workers c.in-Done.journal c.in-Done.words c.in_ok-text-in-Done.text.items c.in_ok-text-in-Done.ensures c.in-Done.net (rw c.in-Done.is at c.in_ok-reduced.ensures.reduced) c.once-in-Done.ensures.once
+returns-clause-closed g c = λ tr t names n.
+    done_trace_hands tr t names c.args.net.now n.same c.args.fuel c.args.workers c.in-Done.journal c.in-Done.words c.in_ok-text-in-Done.text.items c.in_ok-text-in-Done.ensures c.in-Done.net (rw c.in-Done.is at c.in_ok-reduced.ensures.reduced) c.once-in-Done.ensures.once

@@ -10,7 +10,7 @@ pub returns-in-Err-Fault-clause-caused : goal.returns-in-Err-Fault-clause-caused
 returns-in-Err-Fault-clause-caused g c =
     let a = c.in_ok-answer-in-Err-Fault.answer in
     let e = c.in_ok-answer-in-Err-Fault.ensures in
-    fault_cause (record { faults = g.S.Source.faults c.args.src.now; faults' = g.S.Source.faults c.read_all.new.src; contents = g.S.Source.contents c.args.src.now; given = g.S.Source.given c.read_all.new.src; ended = g.S.Source.ended c.read_all.new.src }) (check c.args.term.now c.args.journal.now) tt a.status a.text.items (rw c.in-Err-Fault.field-0-is at c.in-Err-Fault.ensures.cause) e.status e.text
+    fault_cause (record { faults = g.S.Source.faults c.args.src.now; faults' = g.S.Source.faults c.read_all.new.src; contents = g.S.Source.contents c.args.src.now; given = g.S.Source.given c.read_all.new.src; ended = g.S.Source.ended c.read_all.new.src }) (check c.args.translation c.args.term.now c.args.journal.now) tt a.status a.text.items (rw c.in-Err-Fault.field-0-is at c.in-Err-Fault.ensures.cause) e.status e.text
 
 pub returns-in-Err-TooLong-clause-caused : goal.returns-in-Err-TooLong-clause-caused
 returns-in-Err-TooLong-clause-caused g c =
@@ -18,12 +18,12 @@ returns-in-Err-TooLong-clause-caused g c =
     let e = c.in_ok-answer-in-Err-TooLong.ensures in
     let r = c.in-Err-TooLong.ensures in
     let past = r.too_long.0 (rw c.in-Err-TooLong.field-0-is refl) in
-    past_cause (record { faults = g.S.Source.faults c.args.src.now; faults' = g.S.Source.faults c.read_all.new.src; contents = g.S.Source.contents c.args.src.now; given = g.S.Source.given c.read_all.new.src; ended = g.S.Source.ended c.read_all.new.src }) (check c.args.term.now c.args.journal.now) tt a.status a.text.items (rw c.in-Err-TooLong.field-0-is at r.cause) (record { past = past; longer = r.longer past }) e.status e.text
+    past_cause (record { faults = g.S.Source.faults c.args.src.now; faults' = g.S.Source.faults c.read_all.new.src; contents = g.S.Source.contents c.args.src.now; given = g.S.Source.given c.read_all.new.src; ended = g.S.Source.ended c.read_all.new.src }) (check c.args.translation c.args.term.now c.args.journal.now) tt a.status a.text.items (rw c.in-Err-TooLong.field-0-is at r.cause) (record { past = past; longer = r.longer past }) e.status e.text
 
 pub returns-in-Refused-clause-caused : goal.returns-in-Refused-clause-caused
 returns-in-Refused-clause-caused g c =
     let s : Seen = record { faults = g.S.Source.faults c.args.src.now; faults' = g.S.Source.faults c.read_all.new.src; contents = g.S.Source.contents c.args.src.now; given = g.S.Source.given c.read_all.new.src; ended = g.S.Source.ended c.read_all.new.src } in
-    let asked = check c.args.term.now c.args.journal.now in
+    let asked = check c.args.translation c.args.term.now c.args.journal.now in
     let bytes = c.in-Ok.bytes.items in
     let a = c.in-Refused.answer in
     let gave : GaveAll s c.args.term.now bytes =
@@ -41,6 +41,6 @@ returns-clause-caused g c =
     let names = c.in-Net.file.names in
     let prepared = rw c.in-Net.is at c.in_ok-answer-in-Ok.ensures.prepared in
     let ready = rw c.deref.ensures.value at prepared in
-    let ended = after_term s.faults (g.S.Source.faults c.read_all.new.src) s.faults' s.given s.contents (g.S.Source.contents c.read_all.new.src) s.ended c.args.journal.now t names a.status a.text.items
-    c.in-Ok.ensures.cause c.in-Ok.ensures.contents (c.in_ok-answer-in-Net.ensures.caused t names ready.ready) in
-    checked_cause s c.args.term.now c.args.journal.now bytes t names c.in-Ok.ensures.whole ready.term a.status a.text.items ended
+    let ended = after_term s.faults (g.S.Source.faults c.read_all.new.src) s.faults' s.given s.contents (g.S.Source.contents c.read_all.new.src) s.ended c.args.journal.now c.args.translation t names a.status a.text.items
+    c.in-Ok.ensures.cause c.in-Ok.ensures.contents (c.in_ok-answer-in-Net.ensures.caused c.args.translation t names ready.ready) in
+    checked_cause c.args.translation s c.args.term.now c.args.journal.now bytes t names c.in-Ok.ensures.whole ready.term a.status a.text.items ended

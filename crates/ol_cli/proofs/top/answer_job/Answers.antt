@@ -20,7 +20,7 @@ pub returns-in-Gen-clause-caused : goal.returns-in-Gen-clause-caused
 returns-in-Gen-clause-caused g c = rw c.in-Gen.is (IfOk-weaker c.answer_made.result _ _ (λ a h. by_making refl h) c.answer_made.ensures.made)
 
 pub returns-in-Gen-clause-read : goal.returns-in-Gen-clause-read
-returns-in-Gen-clause-read g c = rw c.in-Gen.is (IfOk-weaker c.answer_made.result _ _ (λ a h. made_read (g.S.Source.contents c.args.src.now) c.in-Gen.run' c.in-Gen.k a.status a.text.items h) c.answer_made.ensures.read)
+returns-in-Gen-clause-read g c = rw c.in-Gen.is (IfOk-weaker c.answer_made.result _ _ (λ a h. made_read c.in-Gen.translation (g.S.Source.contents c.args.src.now) c.in-Gen.run' c.in-Gen.k a.status a.text.items h) c.answer_made.ensures.read)
 
 pub answer_file-requires-clause-known : goal.answer_file-requires-clause-known
 answer_file-requires-clause-known g c = λ κs alive. rw c.as_str.ensures (c.requires.known 0 c.in-Run.name (rw c.in-Run.is refl))
