@@ -216,17 +216,37 @@ fn terms_are_made(rt: HostRuntime) -> Result<(), Fail> {
     let (status, closed, text) = written(&rt, a, "gen 6", b"", b"", &[0])?;
     assert_eq!(rt; (status, closed, text.len()), (Status::Done, false, 1_406));
     let ran =
+        "\\a. a\nbeta 2\nfan 1\ncroissant 2\nbracket 0\ncross-fan 2\ncross-croissant 4\ncross-bracket 0\nerase 0\nstuck 0\n";
+    row(&rt, a, "gen --run 0", b"", b"", (Status::Done, true, ran))?;
+    let boxed =
         "\\a. a\nbeta 2\nfan 1\ncroissant 3\nbracket 1\ncross-fan 2\ncross-croissant 6\ncross-bracket 2\nerase 0\nstuck 0\n";
-    row(&rt, a, "gen --run 0", b"", b"", (Status::Done, true, ran))
+    row(
+        &rt,
+        a,
+        "gen --run 0 --translation 1",
+        b"",
+        b"",
+        (Status::Done, true, boxed),
+    )
 }
 
-/// The greatest term that is made is run: 21,500 interactions.
+/// The greatest term that is made is run: 15,356 interactions, and 21,500 in translation 1.
 #[test]
 fn the_greatest_term_is_run(rt: HostRuntime) -> Result<(), Fail> {
     let a = rt.alloc();
     let ran =
+        "\\a. a\nbeta 3071\nfan 1024\ncroissant 3071\nbracket 0\ncross-fan 2048\ncross-croissant 6142\ncross-bracket 0\nerase 0\nstuck 0\n";
+    row(&rt, a, "gen --run 10", b"", b"", (Status::Done, true, ran))?;
+    let boxed =
         "\\a. a\nbeta 3071\nfan 1024\ncroissant 4095\nbracket 1024\ncross-fan 2048\ncross-croissant 8190\ncross-bracket 2048\nerase 0\nstuck 0\n";
-    row(&rt, a, "gen --run 10", b"", b"", (Status::Done, true, ran))
+    row(
+        &rt,
+        a,
+        "gen --translation=1 --run 10",
+        b"",
+        b"",
+        (Status::Done, true, boxed),
+    )
 }
 
 /// A trace of many workers is complete.

@@ -1,10 +1,11 @@
 //! Lines of words that have a job, and lines that have none.
+use ol_term::Translation;
 use ol_words::{Job, UsageFault, job};
 use std::alloc::Global;
 use std::process::Abort;
 use std::test::Fail;
 
-static REFUSED: [&str; 63] = [
+static REFUSED: [&str; 72] = [
     "ol",
     "ol run",
     "ol run a b",
@@ -25,6 +26,12 @@ static REFUSED: [&str; 63] = [
     "ol run --work 3 -",
     "ol run -w 3 -",
     "ol run --edges 5 -",
+    "ol run --translation 0 -",
+    "ol run --translation 3 -",
+    "ol run --translation=two -",
+    "ol run --translation -",
+    "ol run --translation 1 --translation 1 -",
+    "ol run --trans 1 -",
     "ol run --help",
     "ol RUN -",
     "ol walk",
@@ -50,9 +57,12 @@ static REFUSED: [&str; 63] = [
     "ol check -- - -",
     "ol check - -- -",
     "ol check --fuel 1 a b",
+    "ol check --translation 3 a b",
+    "ol check a b -- --translation 1",
     "ol check --help a b",
     "ol gen",
     "ol gen 11",
+    "ol gen 3 --translation",
     "ol gen x",
     "ol gen -",
     "ol gen -3",
@@ -94,6 +104,7 @@ fn runs(
                 fuel,
                 heads,
                 name,
+                ..
             },
         ) => {
             assert_eq!(rt; (workers, fuel, heads), numbers, "of {line}");
@@ -113,7 +124,14 @@ fn walks(
 ) -> Result<(), Fail> {
     let words = words(alloc, line)?;
     match job(alloc, &words) {
-        Ok(Job::Walk { edges, heads, name }) => {
+        Ok(
+            Job::Walk {
+                edges,
+                heads,
+                name,
+                ..
+            },
+        ) => {
             assert_eq!(rt; (edges, heads), numbers, "of {line}");
             assert_eq!(rt; name.as_str(), file, "of {line}");
             Ok(())
@@ -131,7 +149,7 @@ fn asked(alloc: Global, line: &str) -> Result<Job, Fail> {
 }
 
 fn views(rt: &impl Abort, alloc: Global, line: &str, number: u32, file: &str) -> Result<(), Fail> {
-    let Job::View { after, name } = asked(alloc, line)? else {
+    let Job::View { after, name, .. } = asked(alloc, line)? else {
         return Err("no job to view".into());
     };
     assert_eq!(rt; after, number, "of {line}");
@@ -150,6 +168,7 @@ fn traces(
         workers,
         fuel,
         name,
+        ..
     } = asked(alloc, line)?
     else {
         return Err("no job to trace".into());
@@ -166,7 +185,7 @@ fn checks(
     first: &str,
     second: &str,
 ) -> Result<(), Fail> {
-    let Job::Check { term, journal } = asked(alloc, line)? else {
+    let Job::Check { term, journal, .. } = asked(alloc, line)? else {
         return Err("no job to check".into());
     };
     assert_eq!(rt; term.as_str(), first, "of {line}");
@@ -175,7 +194,7 @@ fn checks(
 }
 
 fn makes(rt: &impl Abort, alloc: Global, line: &str, runs: bool, number: u32) -> Result<(), Fail> {
-    let Job::Gen { run, k } = asked(alloc, line)? else {
+    let Job::Gen { run, k, .. } = asked(alloc, line)? else {
         return Err("no job to make a term".into());
     };
     assert_eq!(rt; (run, k), (runs, number), "of {line}");
@@ -256,4 +275,48 @@ fn lines_that_make_a_term(rt: HostRuntime) -> Result<(), Fail> {
     makes(&rt, a, "ol gen --run -- 3", true, 3)?;
     makes(&rt, a, "ol gen --run 3 --", true, 3)?;
     makes(&rt, a, "ol gen 3 --run --", true, 3)
+}
+
+/// The translation of the job of a line.
+fn translation_of(alloc: Global, line: &str) -> Result<Translation, Fail> {
+    let job = asked(alloc, line)?;
+    let translation = match &job {
+        Job::Run { translation, .. } => *translation,
+        Job::Walk { translation, .. } => *translation,
+        Job::View { translation, .. } => *translation,
+        Job::Trace { translation, .. } => *translation,
+        Job::Check { translation, .. } => *translation,
+        Job::Gen { translation, .. } => *translation,
+    };
+    Ok(translation)
+}
+
+#[test]
+fn lines_with_a_translation(rt: HostRuntime) -> Result<(), Fail> {
+    let a = rt.alloc();
+    for line in [
+        "ol run -",
+        "ol walk -",
+        "ol view -",
+        "ol trace -",
+        "ol check a -",
+        "ol gen 3",
+        "ol run --translation 02 -",
+        "ol gen --run --translation=2 3",
+    ] {
+        assert_eq!(rt; translation_of(a, line)?, Translation::Two, "of {line}");
+    }
+    for line in [
+        "ol run --translation 1 -",
+        "ol walk - --translation=1",
+        "ol view --translation 01 -",
+        "ol trace --translation 1 --fuel 3 -",
+        "ol check a --translation 1 b",
+        "ol check --translation=1 a -- b",
+        "ol gen --run 3 --translation 1",
+        "ol gen --translation 1 -- 3",
+    ] {
+        assert_eq!(rt; translation_of(a, line)?, Translation::One, "of {line}");
+    }
+    Ok(())
 }

@@ -6,7 +6,7 @@ use ol_net::{Facing, Net, NodeId, Rule};
 use ol_parse::parse;
 use ol_readback::{read_back, tree_text};
 use ol_rules::step;
-use ol_term::Names;
+use ol_term::{Names, Translation};
 use ol_translate::translate;
 use std::alloc::{AllocError, Global};
 use std::test::Fail;
@@ -66,7 +66,9 @@ fn printed(alloc: Global, input: &str, order: usize) -> Result<([u32; 8], u32, V
         return Err(Fail::from("too long"));
     }
     let file = parse(alloc, input.as_bytes()).ok().ok_or("no term")?;
-    let mut net = translate(alloc, &file).ok().ok_or("no net")?;
+    let mut net = translate(alloc, &file, Translation::One)
+        .ok()
+        .ok_or("no net")?;
     let counts = rewritten(alloc, &mut net, order)?;
     if net.free_ports() != 1 {
         return Err(Fail::from("not closed"));

@@ -128,9 +128,11 @@ fn run_row(
 fn terms_are_printed_with_their_counts(rt: HostRuntime) -> Result<(), Fail> {
     let alloc = rt.alloc();
     let pair = "(\\x. x x) (\\y. y)";
-    let pairs = [2, 1, 3, 1, 2, 6, 2, 0, 0];
+    let pairs = [2, 1, 2, 0, 2, 4, 0, 0, 0];
+    let boxed = [2, 1, 3, 1, 2, 6, 2, 0, 0];
     let nested = "let t = \\f x. f (f x) in t t";
-    let nests = [6, 6, 12, 6, 26, 52, 26, 0, 0];
+    let nests = [6, 6, 9, 3, 20, 31, 11, 0, 0];
+    let boxes = [6, 6, 12, 6, 26, 52, 26, 0, 0];
     let once = [1, 0, 0, 0, 0, 0, 0, 0, 0];
     let rows = [
         (
@@ -140,9 +142,11 @@ fn terms_are_printed_with_their_counts(rt: HostRuntime) -> Result<(), Fail> {
             [1, 0, 1, 0, 0, 2, 0, 0, 0],
         ),
         ("run -", pair, "\\a. a", pairs),
-        ("run --workers 1 --fuel 17 -", pair, "\\a. a", pairs),
-        ("run --workers 2 --fuel 17 -", pair, "\\a. a", pairs),
-        ("run --workers 64 --fuel 17 -", pair, "\\a. a", pairs),
+        ("run --workers 1 --fuel 11 -", pair, "\\a. a", pairs),
+        ("run --workers 2 --fuel 11 -", pair, "\\a. a", pairs),
+        ("run --workers 64 --fuel 11 -", pair, "\\a. a", pairs),
+        ("run --translation 2 -", pair, "\\a. a", pairs),
+        ("run --translation 1 --fuel 17 -", pair, "\\a. a", boxed),
         (
             "run -",
             "(\\x. y) (\\z. z)",
@@ -152,6 +156,12 @@ fn terms_are_printed_with_their_counts(rt: HostRuntime) -> Result<(), Fail> {
         ("run -", "(\\x y. x) a b", "a", [2, 0, 0, 0, 0, 0, 0, 0, 0]),
         ("run -", nested, "\\a b. a (a (a (a b)))", nests),
         ("run --heads 3 -", nested, "\\a b. a (a (a ...))", nests),
+        (
+            "run --translation=1 -",
+            nested,
+            "\\a b. a (a (a (a b)))",
+            boxes,
+        ),
         ("run -", "let x = a in b x", "b a", once),
     ];
     for (words, input, term, counts) in rows {
@@ -183,19 +193,19 @@ fn fuel_is_used_up(rt: HostRuntime) -> Result<(), Fail> {
     let alloc = rt.alloc();
     let rows = [
         (
-            "run --workers 1 --fuel 16 -",
+            "run --workers 1 --fuel 10 -",
+            "(\\x. x x) (\\y. y)",
+            "fuel 10\n",
+        ),
+        (
+            "run --workers 2 --translation 1 --fuel 16 -",
             "(\\x. x x) (\\y. y)",
             "fuel 16\n",
         ),
         (
-            "run --workers 2 --fuel 16 -",
+            "run --workers 64 --fuel 10 -",
             "(\\x. x x) (\\y. y)",
-            "fuel 16\n",
-        ),
-        (
-            "run --workers 64 --fuel 16 -",
-            "(\\x. x x) (\\y. y)",
-            "fuel 16\n",
+            "fuel 10\n",
         ),
         ("run --fuel 0 -", "(\\x. x) (\\y. y)", "fuel 0\n"),
         ("run --fuel=007 -- -", "(\\x. x x) (\\y. y)", "fuel 7\n"),
@@ -231,9 +241,11 @@ fn the_untouched_net_is_walked(rt: HostRuntime) -> Result<(), Fail> {
     let alloc = rt.alloc();
     let rows = [
         ("walk -", "\\a. a\n"),
-        ("walk --edges 43 -", "\\a. a\n"),
-        ("walk --edges 42 -", "...\n"),
-        ("walk --heads 1 --edges 43 -", "\\a. a\n"),
+        ("walk --edges 39 -", "\\a. a\n"),
+        ("walk --edges 38 -", "...\n"),
+        ("walk --translation 1 --edges 43 -", "\\a. a\n"),
+        ("walk --translation 1 --edges 42 -", "...\n"),
+        ("walk --heads 1 --edges 39 -", "\\a. a\n"),
     ];
     for (words, text) in rows {
         plain(
@@ -418,6 +430,8 @@ fn other_words_are_usage(rt: HostRuntime) -> Result<(), Fail> {
         "run --fuel 5 --fuel 5 -",
         "run --fuel=x -",
         "run --edges 5 -",
+        "run --translation 3 -",
+        "check --translation 0 a b",
         "walk --edges 0 -",
         "check - -",
         "--help",
@@ -523,6 +537,31 @@ fn nodes_are_limited(rt: HostRuntime) -> Result<(), Fail> {
     most.extend_from_slice(b" y")?;
     let mut line = String::from_str(alloc, "x")?;
     for argument in 0..21u32 {
+        line.push_str(" ...")?;
+    }
+    let done = answered(alloc, &line, [0; 9])?;
+    let words = "run --translation 1 --heads 1 -";
+    plain(&rt, alloc, words, &most, Status::Done, &done)?;
+    text.extend_from_slice(b" x")?;
+    let refused = "limit nodes 200000\n";
+    plain(&rt, alloc, words, &text, Status::Limit, refused)
+}
+
+// The same in translation 2, where x as an argument adds an application and a fan.
+#[test]
+fn nodes_of_the_other_translation_are_limited(rt: HostRuntime) -> Result<(), Fail> {
+    let alloc = rt.alloc();
+    let mut text = repeated(alloc, b"", b"(", 7, b"")?;
+    put_tree(&mut text, 16)?;
+    for levels in [10, 6, 5, 3, 1, 0, 0] {
+        text.push(b' ')?;
+        put_tree(&mut text, levels)?;
+        text.push(b')')?;
+    }
+    let mut most = Vec::from_slice(alloc, &text)?;
+    most.extend_from_slice(b" y")?;
+    let mut line = String::from_str(alloc, "x")?;
+    for argument in 0..24u32 {
         line.push_str(" ...")?;
     }
     let done = answered(alloc, &line, [0; 9])?;

@@ -6,6 +6,7 @@ ghost use Rattle.ol_context.specs.Shapes.{IsHeld, AreHeld};
 use ol_context::{Context, Shape, Val, Values, Walk, walk};
 use ol_io::NoMemory;
 use ol_parse::parse;
+use ol_term::Translation;
 use ol_translate::translate;
 use std::alloc::Global;
 use std::test::Fail;
@@ -59,7 +60,9 @@ fn walked(
         return Err(Fail::from("too long"));
     }
     let file = parse(alloc, input.as_bytes()).ok().ok_or("no term")?;
-    let net = translate(alloc, &file).ok().ok_or("no net")?;
+    let net = translate(alloc, &file, Translation::One)
+        .ok()
+        .ok_or("no net")?;
     if net.free_ports() == 0 {
         return Err(Fail::from("no root"));
     }

@@ -8,6 +8,7 @@ use ol_io::{Gate, MemFile, MemSink, MemSource, OpenGate};
 use ol_net::{BuildFault, Kind, Net, NodeId, Port};
 use ol_parse::parse;
 use ol_reduce::{Reduced, freeze, reduce};
+use ol_term::Translation;
 use ol_translate::translate;
 use ol_view::show;
 use std::alloc::{AllocError, Global};
@@ -64,11 +65,11 @@ fn any_number_of_workers_gives_one_text(rt: HostRuntime) -> Result<(), Fail> {
     let alloc = rt.alloc();
     let text = generated(alloc, 6)?;
     let wanted =
-        "\\a. a\nbeta 191\nfan 64\ncroissant 255\nbracket 64\ncross-fan 128\ncross-croissant 510\ncross-bracket 128\nerase 0\nstuck 0\n";
+        "\\a. a\nbeta 191\nfan 64\ncroissant 191\nbracket 0\ncross-fan 128\ncross-croissant 382\ncross-bracket 0\nerase 0\nstuck 0\n";
     for workers in [1, 2, 64] {
         let (outcome, written) = run(&rt, alloc, workers, &text, &OpenGate)?;
         assert_eq!(rt; outcome.status, Status::Done);
-        assert_eq!(rt; outcome.closed.map(|words| words.events()), Some(1_340));
+        assert_eq!(rt; outcome.closed.map(|words| words.events()), Some(956));
         assert!(rt; written.as_slice() == wanted.as_bytes(), "{workers}");
     }
     Ok(())
@@ -176,7 +177,9 @@ fn two_workers_of_a_reduction_meet(rt: HostRuntime) -> Result<(), Fail> {
     let text = generated(alloc, 1)?;
     assert!(rt; text.len() <= 1_000_000);
     let file = parse(alloc, &text).ok().ok_or("no term")?;
-    let net = translate(alloc, &file).ok().ok_or("no net")?;
+    let net = translate(alloc, &file, Translation::One)
+        .ok()
+        .ok_or("no net")?;
     assert!(rt; is_small(&net));
     let meeting = Meeting {
         before: Flags::lowered(),
