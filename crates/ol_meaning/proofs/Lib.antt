@@ -13,3 +13,8 @@ pub mod Walking
 pub mod Seats
 pub mod Rooted
 pub mod LeftmostSteps
+pub mod Shapes
+pub mod Along
+pub mod Sights
+pub mod Matched
+pub mod Showing
