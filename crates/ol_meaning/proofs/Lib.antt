@@ -18,3 +18,6 @@ pub mod Along
 pub mod Sights
 pub mod Matched
 pub mod Showing
+pub mod LeftmostRoads
+pub mod Grounds
+pub mod Based

@@ -95,7 +95,7 @@ module _ {A : Type 0} {N : NamedNet A} {ch : Chain} {P : Tree} {S : Seats} (F : 
 
   -- ---- no head
 
-  no_head_is : IsHead N (F ++ framed s 0 ∷ []) (length F) no_head → HasNoHeadNormalForm P
+  pub no_head_is : IsHead N (F ++ framed s 0 ∷ []) (length F) no_head → HasNoHeadNormalForm P
   no_head_is h u r g = by h
     where
       by : IsHead N (F ++ framed s 0 ∷ []) (length F) no_head → ⊥
@@ -115,7 +115,7 @@ pub record SeenAt {A : Type 0} (N : NamedNet A) (ch : Chain) (p : ℕ) (ls : Lis
   pub seen : IsSeen N ch p ls P seats
 
 -- the arguments from number j on, each where its frame is
-data AllSeen {A : Type 0} (N : NamedNet A) (ch : Chain) (q : ℕ) (ls : List Level) : ℕ → List Tree → Type 1 where
+pub data AllSeen {A : Type 0} (N : NamedNet A) (ch : Chain) (q : ℕ) (ls : List Level) : ℕ → List Tree → Type 1 where
   nil : {j : ℕ} → AllSeen N ch q ls j []
   next : {j : ℕ} {P : Tree} {Ps : List Tree} → SeenAt N ch q (ls ++ os j (star empty) ∷ []) P → AllSeen N ch q ls (suc j) Ps → AllSeen N ch q ls j (P ∷ Ps)
 
@@ -145,13 +145,13 @@ is_head_of : {A : Type 0} {N : NamedNet A} {F : List Frame} {i n k : ℕ} {v : H
 is_head_of (heads.leaves {q = q} {X = X} few r (matched m)) = record { port = q; context = X; few = few; path = r; match = m }
 
 -- what a head says of the subterm: it reaches this head with these arguments, which are seen where their frames are
-record Headed {A : Type 0} (N : NamedNet A) (ch : Chain) (F : List Frame) (s : Subterm) (P : Tree) (n k : ℕ) (v : HeadVar) (ls : List Level) : Type 1 where
-  args : List Tree
-  count_is : length args ≡ k
-  reaches : Reaches P (abstracted n (applied (variable_of ((length F, n) ∷ scope ch) v) args))
-  each : AllSeen N ((length F, framed s n) ∷ ch) (port_of (F ++ framed s n ∷ []) v) ls 0 args
+pub record Headed {A : Type 0} (N : NamedNet A) (ch : Chain) (F : List Frame) (s : Subterm) (P : Tree) (n k : ℕ) (v : HeadVar) (ls : List Level) : Type 1 where
+  pub args : List Tree
+  pub count_is : length args ≡ k
+  pub reaches : Reaches P (abstracted n (applied (variable_of ((length F, n) ∷ scope ch) v) args))
+  pub each : AllSeen N ((length F, framed s n) ∷ ch) (port_of (F ++ framed s n ∷ []) v) ls 0 args
 
-headed : {A : Type 0} {N : NamedNet A} {ch : Chain} {P : Tree} (S : Seats) (F : List Frame) (s : Subterm) → IsSeen N ch s.port s.levels P S → IsChain F (length F) s.parent ch →
+pub headed : {A : Type 0} {N : NamedNet A} {ch : Chain} {P : Tree} (S : Seats) (F : List Frame) (s : Subterm) → IsSeen N ch s.port s.levels P S → IsChain F (length F) s.parent ch →
     (n k : ℕ) (v : HeadVar) (ls : List Level) → IsHead N (F ++ framed s 0 ∷ []) (length F) (head n v k ls) → Headed N ch F s P n k v ls
 headed {N = N} {ch = ch} {P = P} S F s seen chain n k v ls h =
     let r = is_head_of h in
@@ -177,3 +177,94 @@ headed {N = N} {ch = ch} {P = P} S F s seen chain n k v ls h =
       })
       0 shape.args shape.each;
     }
+
+-- ---- the whole tree
+
+record Left {A : Type 0} (N : NamedNet A) (lost_too : Bool) (F : List Frame) (ss : List Subterm) (ns : List ReadNode) (k : ℕ) : Type 0 where
+  passed : List Frame
+  many : length passed ≡ k
+  rest : HaveHeadsOf N lost_too (F ++ passed) ss ns
+
+left_one : {A : Type 0} {N : NamedNet A} {lost_too : Bool} {F : List Frame} (f : Frame) {ss : List Subterm} {ns : List ReadNode} → HaveHeadsOf N lost_too (F ++ f ∷ []) ss ns → Left N lost_too F ss ns 1
+left_one f h = record { passed = f ∷ []; many = refl; rest = h }
+
+lost_of : {A : Type 0} {N : NamedNet A} {b : Bool} {F : List Frame} {s : Subterm} {ss : List Subterm} {ns : List ReadNode} → HaveHeadsOf N b F (s ∷ ss) (node.NoHead ∷ ns) →
+    (b ≡ true → IsHead N (F ++ framed s 0 ∷ []) (length F) no_head) × HaveHeadsOf N b (F ++ framed s 0 ∷ []) ss ns
+lost_of (sources.lost f h) = (f, h)
+
+cut_of : {A : Type 0} {N : NamedNet A} {b : Bool} {F : List Frame} {s : Subterm} {ss : List Subterm} {ns : List ReadNode} → HaveHeadsOf N b F (s ∷ ss) (node.Cut ∷ ns) → HaveHeadsOf N b (F ++ framed s 0 ∷ []) ss ns
+cut_of (sources.cut h) = h
+
+found_of : {A : Type 0} {N : NamedNet A} {b : Bool} {F : List Frame} {s : Subterm} {ss : List Subterm} {ns : List ReadNode} {n k : ℕ} {v : HeadVar} → HaveHeadsOf N b F (s ∷ ss) (node.Head n v k ∷ ns) →
+    (ls : List Level) × IsHead N (F ++ framed s 0 ∷ []) (length F) (head n v k ls) × HaveHeadsOf N b (F ++ framed s n ∷ []) (arguments (length F) (port_of (F ++ framed s n ∷ []) v) ls 0 k ++ ss) ns
+found_of (sources.found {ls = ls} h r) = (ls, h, r)
+
+chain_more : (F G : List Frame) (b c : ℕ) (o : Option ℕ) (ch : Chain) → b ≤ c → IsChain F b o ch → IsChain (F ++ G) c o ch
+chain_more F G b c o [] l h = h
+chain_more F G b c o (x ∷ xs) l h =
+    let n = length-append F G in
+    let a = h.1 in
+    let d = h.2 in
+    (h.0, (omega arith), (omega arith), get_or_append_left F G frames.root x.0 h.2 ∙ h.3, chain_more F G x.0 x.0 x.1.parent xs (omega arith) h.4)
+
+module _ {A : Type 0} (N : NamedNet A) (b : Bool) where
+  -- A part shows what is seen at its subterms; and what comes after it is left.
+  abbrev Reads : {c : Bool} → Part c → Type 1
+  Reads {c = true} t = (P : Tree) (s : Subterm) (ch : Chain) (F : List Frame) (ss : List Subterm) (ns : List ReadNode) → SeenAt N ch s.port s.levels P → IsChain F (length F) s.parent ch →
+      HaveHeadsOf N b F (s ∷ ss) (preorder t ++ ns) → Shows b (scope ch) (length F) t P × Left N b F ss ns (length (preorder t))
+  Reads {c = false} ts = (Ps : List Tree) (i q : ℕ) (ls : List Level) (j : ℕ) (ch : Chain) (F : List Frame) (ss : List Subterm) (ns : List ReadNode) → length Ps ≡ count ts → AllSeen N ch q ls j Ps → IsChain F (length F) (Some i) ch →
+      HaveHeadsOf N b F (arguments i q ls j (count ts) ++ ss) (preorder ts ++ ns) → Shows b (scope ch) (length F) ts Ps × Left N b F ss ns (length (preorder ts))
+
+  reads_term : (l : ℕ) (v : HeadVar) (ts : Part false) → Reads ts → Reads (term l v ts)
+  reads_term l v ts up P s ch F ss ns seen chain h =
+      let r = found_of h in
+      let g = headed seen.seats F s seen.seen chain l (count ts) v r.0 r.1 in
+      let f = framed s l in
+      let p = length_push F f in
+      let n : length (F ++ f ∷ []) ≡ suc (length F) = omega arith in
+      let below : IsChain (F ++ f ∷ []) (length (F ++ f ∷ [])) (Some (length F)) ((length F, f) ∷ ch) = (refl, (omega arith), (omega arith), at_last F f, chain_grows F f (length F) s.parent ch chain) in
+      let x = up g.args (length F) (port_of (F ++ f ∷ []) v) r.0 0 ((length F, f) ∷ ch) (F ++ f ∷ []) ss ns g.count_is g.each below r.2 in
+      let m = x.1.many in (
+        (g.args, g.reaches, subst (λ i. Shows b ((length F, l) ∷ scope ch) i ts g.args) n x.0),
+        record { passed = f ∷ x.1.passed; many = ap suc m; rest = subst (λ F. HaveHeadsOf N b F ss ns) (append_assoc F (f ∷ []) x.1.passed) x.1.rest },
+      )
+
+  reads_lost : Reads lost
+  reads_lost P s ch F ss ns seen chain h =
+      let r = lost_of h in
+      (λ e. no_head_is F s seen.seen chain (r.0 e), left_one (framed s 0) r.1)
+
+  reads_cut : Reads cut
+  reads_cut P s ch F ss ns seen chain h = (tt, left_one (framed s 0) (cut_of h))
+
+  reads_none : Reads none
+  reads_none [] i q ls j ch F ss ns e seen chain h = (refl, record { passed = []; many = refl; rest = subst (λ F. HaveHeadsOf N b F ss ns) (sym (append-nil F)) h })
+  reads_none (P ∷ Ps) i q ls j ch F ss ns e seen chain h = absurd (omega arith)
+
+  reads_more : (t : Part true) (ts : Part false) → Reads t → Reads ts → Reads (more t ts)
+  reads_more t ts up next_up [] i q ls j ch F ss ns e seen chain h = absurd (omega arith)
+  reads_more t ts up next_up (P ∷ Ps) i q ls j ch F ss ns e (next seen all) chain h =
+      let s : Subterm = record { port = q; levels = ls ++ os j (star empty) ∷ []; parent = Some i } in
+      let x = up P s ch F (arguments i q ls (suc j) (count ts) ++ ss) (preorder ts ++ ns) seen chain (subst (λ ns. HaveHeadsOf N b F (arguments i q ls j (suc (count ts)) ++ ss) ns) (append_assoc (preorder t) (preorder ts) ns) h) in
+      let G = F ++ x.1.passed in
+      let n = length-append F x.1.passed in
+      let m = x.1.many in
+      let y = next_up Ps i q ls (suc j) ch G ss ns (omega arith) all (chain_more F x.1.passed (length F) (length G) (Some i) ch (omega arith) chain) x.1.rest in
+      let k = y.1.many in
+      let l = length-append x.1.passed y.1.passed in
+      let p = length-append (preorder t) (preorder ts) in
+      let at : length G ≡ length F + length (preorder t) = omega arith in (
+        (x.0, subst (λ i. Shows b (scope ch) i ts Ps) at y.0),
+        record { passed = x.1.passed ++ y.1.passed; many = omega arith; rest = subst (λ F. HaveHeadsOf N b F ss ns) (append_assoc F x.1.passed y.1.passed) y.1.rest },
+      )
+
+  reads : {c : Bool} (t : Part c) → Reads t
+  reads (term l v ts) = reads_term l v ts (reads ts)
+  reads lost = reads_lost
+  reads cut = reads_cut
+  reads none = reads_none
+  reads (more t ts) = reads_more t ts (reads t) (reads ts)
+
+  -- a tree whose heads are those of a subterm that is seen behind no frame
+  pub shows : (t : Part true) (P : Tree) (s : Subterm) → s.parent ≡ None → SeenAt N [] s.port s.levels P → HaveHeadsOf N b [] (s ∷ []) (preorder t) → Shows b [] 0 t P
+  shows t P s e seen h = (reads t P s [] [] [] [] seen e (subst (λ ns. HaveHeadsOf N b [] (s ∷ []) ns) (sym (append-nil (preorder t))) h)).0

@@ -75,3 +75,16 @@ WholeSeats x v c q X = (x ≡ place q) × (X ≡ cons v c)
 abbrev pub ArgSeats : {P u Q : Tree} {m i : ℕ} → Steps P u m → Arg u i Q → Seats → Seats
 ArgSeats s k S x v c q X =
     (y : Place) × (b : Level) × (d : Context) × StandsAt k empty x v c y b d × (w : Level) × SameAlong s y w b × S y w d q X
+
+-- ---- subterms of a term
+
+-- How one comes from a term to what its tree's places show: to the term itself, and to an argument of a head normal form, to which
+-- head steps lead from one that one came to before.
+pub data Within (t : Tree) : Tree → Type 0 where
+  whole : Within t t
+  argument : {P u Q : Tree} {m i : ℕ} → Within t P → Steps P u m → Arg u i Q → Within t Q
+
+-- where its spots stand in the term's net
+abbrev pub seats_of : {t P : Tree} → Within t P → Seats
+seats_of whole = WholeSeats
+seats_of (argument w s k) = ArgSeats s k (seats_of w)

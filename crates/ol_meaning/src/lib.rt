@@ -16,6 +16,9 @@ ghost use Rattle.ol_meaning.specs.Heads.{BinderStays};
 ghost use Rattle.ol_meaning.specs.Heads.{BelowHead, HatIsOne, RootStandsAtHead, ArgsAreThere};
 ghost use Rattle.ol_meaning.specs.Nets.{PathFindsHead, HeadHasPath};
 ghost use Rattle.ol_meaning.specs.Leftmost.{HeadIsLeftmost, OneSubstitution};
+ghost use Rattle.ol_meaning.specs.Meaning.{NormalIsHeadNormal, WholeTermIsSeen, ArgIsSeen};
+ghost use Rattle.ol_meaning.specs.Meaning.{HeadIsReached, NoHeadHasNone};
+ghost use Rattle.ol_meaning.specs.Meaning.{TreeShowsTerm, ShownIsNormalForm, PlacesSay};
 
 /// A term that stands under more abstractions than before has the same edges, with their weights.
 pub fn lifting()
@@ -99,4 +102,38 @@ pub fn net_heads()
 pub fn head_is_leftmost()
     ensures step { HeadIsLeftmost }
     ensures same { OneSubstitution }
+{}
+
+/// The two ways to say what a head normal form is are one: abstractions round a variable or a free
+/// name with arguments, and a term whose head leaves at a place of its interface.
+pub fn head_normal_forms()
+    ensures { NormalIsHeadNormal }
+{}
+
+/// A whole term is seen in its own net at the free ports. Where a term is seen, each argument of a
+/// head normal form to which head steps lead from it is seen too: at the port by which the head
+/// leaves, behind the levels of that exit and the number of the argument. So frames of read-back
+/// ask for terms.
+pub fn seeing()
+    ensures term { WholeTermIsSeen }
+    ensures argument { ArgIsSeen }
+{}
+
+/// The head of a frame, by paths of any length, is the head of the head normal form of the term
+/// that is seen there, with its variable and the number of its arguments. A frame without a head
+/// is that of a term that has no head normal form.
+pub fn framing()
+    ensures reached { HeadIsReached }
+    ensures none { NoHeadHasNone }
+{}
+
+/// A tree whose heads are those of a term's own net shows the term: head steps lead from the term
+/// to each head, and from its arguments to the heads below it. Where each place has a head,
+/// leftmost reduction of the term ends in the tree's term, which is a beta-normal form; and where
+/// places without a head are those of the net too, such a place shows a term without head normal
+/// form.
+pub fn meaning()
+    ensures shows { TreeShowsTerm }
+    ensures normal { ShownIsNormalForm }
+    ensures places { PlacesSay }
 {}

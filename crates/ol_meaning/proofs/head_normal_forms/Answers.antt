@@ -1,0 +1,6 @@
+-- The law of head normal forms.
+use Rattle.ol_meaning.proofs.head_normal_forms.Goals as goal
+use Rattle.ol_meaning.proofs.Shapes.{normal_is, normal_of}
+
+pub returns-clause : goal.returns-clause
+returns-clause g = λ t. (λ h. normal_of h, λ k. normal_is k.3)

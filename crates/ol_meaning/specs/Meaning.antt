@@ -1,0 +1,81 @@
+-- The laws of what a printed tree says of its term.
+use Rattle.std.specs.Prelude.{◌≡◌, ℕ, Bool, true, List, [], ◌∷◌, ◌++◌, length, None, ◌↔◌}
+use Rattle.ol_net.specs.Nets.{NamedNet}
+use Rattle.ol_translate.specs.Translation.{translation_of}
+use Rattle.ol_translate.specs.Names.{HasNames}
+use Rattle.ol_beta.specs.Leftmost.{IsNormal}
+use Rattle.ol_readback.specs.Frames.{Frame}
+use Rattle.ol_readback.specs.Heads.{head, no_head, IsHead}
+use Rattle.ol_readback.specs.ReadTrees.{Subterm, framed}
+use Rattle.ol_readback.specs.Sources.{HasHeadsOf}
+use Rattle.ol_readback.specs.Whole.{Part, preorder}
+use Rattle.ol_readback.specs.Terms.{HasAllHeads, abstracted, variable_of, term_of}
+use Rattle.ol_readback.specs.declared.answers.HeadVar.{HeadVar}
+use Rattle.ol_readback.specs.declared.answers.ReadNode.{ReadNode}
+use Rattle.ol_meaning.specs.Spots.{Tree, Level, empty, star, Context, Place}
+use Rattle.ol_meaning.specs.Heads.{os, outer, Normal, Steps, SameAlong, Arg}
+use Rattle.ol_meaning.specs.Seen.{ahead, Chain, IsChain, scope, IsSeen, WholeSeats, Within, argument, seats_of}
+use Rattle.ol_meaning.specs.Shows.{applied, IsHeadNormal, Reaches, HasNoHeadNormalForm, Shows, LeftmostLeads}
+
+-- ---- head normal forms
+
+-- the two ways to say what a head normal form is
+abbrev pub NormalIsHeadNormal : Type 0
+NormalIsHeadNormal = (t : Tree) → IsHeadNormal t ↔ ((q : Place) × (a : Level) × (j : ℕ) × Normal t q a j)
+
+-- ---- where subterms are seen
+
+-- a whole term is seen in its own net, at the root's free port
+abbrev pub WholeTermIsSeen : Type 0
+WholeTermIsSeen = (t : Tree) (names : ℕ) → HasNames t names → IsSeen (translation_of t names) [] 0 [] t WholeSeats
+
+-- Where P is seen, head steps lead from it to a head normal form u, and the wire of u's head leaves by port q behind levels ms,
+-- there argument i of u is seen: behind ms and the level of argument i, with P's frame round it.
+abbrev pub ArgIsSeen : Type 0
+ArgIsSeen = (N : NamedNet ℕ) (ch : Chain) (f : Frame) (t P : Tree) (p : Within t P) → IsSeen N ch f.port f.levels P (seats_of p) →
+    (u : Tree) (m : ℕ) (s : Steps P u m) → f.lams ≡ outer u → (y : Place) (a w : Level) (j : ℕ) → Normal u y a j → SameAlong s y w a →
+    (q : ℕ) (ms : List Level) → ((d : Context) → seats_of p y w d q (ahead ms d)) → (n i : ℕ) (Q : Tree) (k : Arg u i Q) →
+    IsSeen N ((n, f) ∷ ch) q (ms ++ os i (star empty) ∷ []) Q (seats_of (argument p s k))
+
+-- P is seen where the frame after these is, with the frames of a chain round it.
+pub record IsSeenAt {t P : Tree} (N : NamedNet ℕ) (F : List Frame) (s : Subterm) (ch : Chain) (p : Within t P) : Type 0 where
+  pub chain : IsChain F (length F) s.parent ch
+  pub seen : IsSeen N ch s.port s.levels P (seats_of p)
+
+-- The head of its frame, by paths of any length, is that of a head normal form which head steps lead to: so many abstractions, this
+-- variable, and so many arguments.
+abbrev pub HeadIsReached : Type 0
+HeadIsReached = (N : NamedNet ℕ) (F : List Frame) (s : Subterm) (ch : Chain) (t P : Tree) (p : Within t P) → IsSeenAt N F s ch p →
+    (n k : ℕ) (v : HeadVar) (ls : List Level) → IsHead N (F ++ framed s 0 ∷ []) (length F) (head n v k ls) →
+    (Ps : List Tree) × (length Ps ≡ k) × Reaches P (abstracted n (applied (variable_of ((length F, n) ∷ scope ch) v) Ps))
+
+-- and where its frame has no head, by paths of any length, it has no head normal form
+abbrev pub NoHeadHasNone : Type 0
+NoHeadHasNone = (N : NamedNet ℕ) (F : List Frame) (s : Subterm) (ch : Chain) (t P : Tree) (p : Within t P) → IsSeenAt N F s ch p →
+    IsHead N (F ++ framed s 0 ∷ []) (length F) no_head → HasNoHeadNormalForm P
+
+-- ---- trees
+
+-- a tree that has the heads of a term's own net shows the term
+abbrev pub TreeShowsTerm : Type 0
+TreeShowsTerm = (t : Tree) (names : ℕ) → HasNames t names → (lost_too : Bool) (T : Part true) →
+    HasHeadsOf (translation_of t names) lost_too (preorder T) → Shows lost_too [] 0 T t
+
+-- Where a tree in which each place has a head shows a term, leftmost reduction leads from this to the tree's term, which is a
+-- beta-normal form.
+abbrev pub ShownIsNormalForm : Type 0
+ShownIsNormalForm = (t : Tree) (lost_too : Bool) (T : Part true) → Shows lost_too [] 0 T t → HasAllHeads (preorder T) →
+    LeftmostLeads t (term_of T) × IsNormal (term_of T)
+
+-- What the places of a tree say of a term.
+pub record SaysOf (t : Tree) (lost_too : Bool) (ns : List ReadNode) : Type 0 where
+  pub tree : Part true
+  pub is_list : preorder tree ≡ ns
+  pub shows : Shows lost_too [] 0 tree t
+  pub reduces : HasAllHeads ns → LeftmostLeads t (term_of tree)
+  pub is_normal : HasAllHeads ns → IsNormal (term_of tree)
+
+-- both of these, of the places of a tree with the heads of a term's own net
+abbrev pub PlacesSay : Type 0
+PlacesSay = (t : Tree) (names : ℕ) → HasNames t names → (lost_too : Bool) (T : Part true) (ns : List ReadNode) → preorder T ≡ ns →
+    HasHeadsOf (translation_of t names) lost_too ns → SaysOf t lost_too ns
