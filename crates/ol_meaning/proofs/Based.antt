@@ -29,7 +29,7 @@ shown_normal t b T g h = let r = tree_reached b T t h g in (r.0, no_leftmost (te
 pub places_say : (t : Tree) (names : ℕ) → HasNames t names → (b : Bool) (T : Part true) (ns : List ReadNode) → preorder T ≡ ns → HasHeadsOf (translation_of t names) b ns → SaysOf t b ns
 places_say t names h b T ns e r =
     let g = tree_shows t names h b T (subst (λ ns. HasHeadsOf (translation_of t names) b ns) (sym e) r) in
-    let all : HasAllHeads ns → HasAllHeads (preorder T) = λ a. subst HasAllHeads (sym e) a in
+    let all : HasAllHeads ns → HasAllHeads (preorder T) = λ a. subst (λ ns. HasAllHeads ns) (sym e) a in
     record {
       tree = T;
       is_list = e;

@@ -1,5 +1,5 @@
 -- The laws of what a printed tree says of its term.
-use Rattle.std.specs.Prelude.{◌≡◌, ℕ, Bool, true, List, [], ◌∷◌, ◌++◌, length, None, ◌↔◌}
+use Rattle.std.specs.Prelude.{◌≡◌, ℕ, Bool, true, List, [], ◌∷◌, ◌++◌, length, ◌↔◌}
 use Rattle.ol_net.specs.Nets.{NamedNet}
 use Rattle.ol_translate.specs.Translation.{translation_of}
 use Rattle.ol_translate.specs.Names.{HasNames}
