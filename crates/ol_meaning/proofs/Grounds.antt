@@ -69,15 +69,15 @@ module _ {A : Type 0} (N : NamedNet A) (t : Tree) (closed : is_below 0 t ≡ tru
       (at x v c ≡ at y w d → (q ≡ r) × (X ≡ Y)) × (q ≡ r → X ≡ Y → at x v c ≡ at y w d)
   whole_one x y v w c d q r X Y g h = (
     λ e. (
-      let i : x ≡ y = cc in
-      let j : v ≡ w = cc in
-      let k : c ≡ d = cc in
-      (place_one q r (sym g.0 ∙ i ∙ h.0), g.1 ∙ ap (λ v. cons v c) j ∙ ap (cons w) k ∙ sym h.1)
-    ),
+        let i : x ≡ y = cc in
+        let j : v ≡ w = cc in
+        let k : c ≡ d = cc in
+        (place_one q r (sym g.0 ∙ i ∙ h.0), g.1 ∙ ap (λ v. cons v c) j ∙ ap (cons w) k ∙ sym h.1)
+        ),
     λ e f. (
-      let l : cons v c ≡ cons w d = sym g.1 ∙ f ∙ h.1 in
-      spot_is x y v w c d (g.0 ∙ ap place e ∙ sym h.0) (head_eq v w c d l) (tail_eq v w c d l)
-    ),
+        let l : cons v c ≡ cons w d = sym g.1 ∙ f ∙ h.1 in
+        spot_is x y v w c d (g.0 ∙ ap place e ∙ sym h.0) (head_eq v w c d l) (tail_eq v w c d l)
+        ),
   )
 
   whole_forth : (x y : Place) (v w : Level) (c d : Context) (n q : ℕ) (X : Context) → WholeSeats x v c q X → Leads t (at x v c) (at y w d) n →

@@ -13,34 +13,34 @@ use Rattle.ol_readback.specs.declared.answers.ReadNode.TheVariants as node
 use Rattle.ol_readback.proofs.OneTree.{all_left, all_right}
 use Rattle.ol_meaning.specs.Spots.{Tree, var, free, lam, app}
 use Rattle.ol_meaning.specs.Heads.{Steps, done, step}
-use Rattle.ol_meaning.specs.Shows.{applied, Shown, Shows, LeftmostLeads, ready, contract}
+use Rattle.ol_meaning.specs.Shows.{ReducesBy, ready, contract, LeftmostReduces, applied, Shown, Shows}
 use Rattle.ol_meaning.proofs.LeftmostSteps.{leftmost_step}
 
 -- ---- leftmost steps within a term
 
-then_leads : {t u v : Tree} → LeftmostLeads t u → LeftmostLeads u v → LeftmostLeads t v
+pub then_leads : {Chosen : Tree → List ℕ → Type 0} {t u v : Tree} → ReducesBy Chosen t u → ReducesBy Chosen u v → ReducesBy Chosen t v
 then_leads ready r = r
 then_leads (contract e f l) r = contract e f (then_leads l r)
 
-head_leads : {t u : Tree} {m : ℕ} → Steps t u m → LeftmostLeads t u
+head_leads : {t u : Tree} {m : ℕ} → Steps t u m → LeftmostReduces t u
 head_leads done = ready
 head_leads (step h s) = let r = leftmost_step h in contract r.1 r.2 (head_leads s)
 
-lam_leads : {t u : Tree} → LeftmostLeads t u → LeftmostLeads (lam t) (lam u)
+lam_leads : {t u : Tree} → LeftmostReduces t u → LeftmostReduces (lam t) (lam u)
 lam_leads ready = ready
 lam_leads (contract {at = at} e f l) = contract {at = 0 ∷ at} (ap (beta_steps.under 0) e) (ap (option_map lam) f) (lam_leads l)
 
-abstracted_leads : (l : ℕ) {t u : Tree} → LeftmostLeads t u → LeftmostLeads (abstracted l t) (abstracted l u)
+abstracted_leads : (l : ℕ) {t u : Tree} → LeftmostReduces t u → LeftmostReduces (abstracted l t) (abstracted l u)
 abstracted_leads zero r = r
 abstracted_leads (suc l) r = lam_leads (abstracted_leads l r)
 
 -- no abstraction and no redex
-record IsNeutral (t : Tree) : Type 0 where
-  plain : is_abstraction t ≡ false
-  none : leftmost t ≡ None
+pub record IsNeutral (t : Tree) : Type 0 where
+  pub plain : is_abstraction t ≡ false
+  pub none : leftmost t ≡ None
 
 -- the leftmost redex of an application whose function is none and has none
-arg_leftmost : (f a : Tree) (o : Option (List ℕ)) → IsNeutral f → leftmost a ≡ o → leftmost (app f a) ≡ beta_steps.under 2 o
+pub arg_leftmost : (f a : Tree) (o : Option (List ℕ)) → IsNeutral f → leftmost a ≡ o → leftmost (app f a) ≡ beta_steps.under 2 o
 arg_leftmost f a o n e =
     ap (λ b. if b then Some [] else first_of_two (beta_steps.under 1 (leftmost f)) (beta_steps.under 2 (leftmost a))) n.plain
     ∙ ap (λ x. first_of_two (beta_steps.under 1 x) (beta_steps.under 2 (leftmost a))) n.none ∙ ap (beta_steps.under 2) e
@@ -51,19 +51,19 @@ fun_leftmost f a at n e =
     ap (λ b. if b then Some [] else first_of_two (beta_steps.under 1 (leftmost f)) (beta_steps.under 2 (leftmost a))) n
     ∙ ap (λ x. first_of_two (beta_steps.under 1 x) (beta_steps.under 2 (leftmost a))) e
 
--- a step before further arguments
-record StepsTo (t u : Tree) : Type 0 where
-  at : List ℕ
-  first : leftmost t ≡ Some at
-  gives : contracted t at ≡ Some u
+-- a leftmost step
+pub record StepsTo (t u : Tree) : Type 0 where
+  pub at : List ℕ
+  pub first : leftmost t ≡ Some at
+  pub gives : contracted t at ≡ Some u
 
-step_before : (Ps : List Tree) (t u : Tree) → is_abstraction t ≡ false → StepsTo t u → StepsTo (applied t Ps) (applied u Ps)
+pub step_before : (Ps : List Tree) (t u : Tree) → is_abstraction t ≡ false → StepsTo t u → StepsTo (applied t Ps) (applied u Ps)
 step_before [] t u n s = s
 step_before (P ∷ Ps) t u n s = step_before Ps (app t P) (app u P) refl
     (record { at = 1 ∷ s.at; first = fun_leftmost t P s.at n s.first; gives = ap (option_map (λ g. app g P)) s.gives })
 
 -- the steps of one argument, before further ones
-arg_leads : (f : Tree) → IsNeutral f → (Ps : List Tree) {t u : Tree} → LeftmostLeads t u → LeftmostLeads (applied (app f t) Ps) (applied (app f u) Ps)
+arg_leads : (f : Tree) → IsNeutral f → (Ps : List Tree) {t u : Tree} → LeftmostReduces t u → LeftmostReduces (applied (app f t) Ps) (applied (app f u) Ps)
 arg_leads f n Ps ready = ready
 arg_leads f n Ps (contract {t = t} {u = u} {at = at} e g l) =
     let s = step_before Ps (app f t) (app f u) refl (record { at = 2 ∷ at; first = arg_leftmost f t (Some at) n e; gives = ap (option_map (app f)) g }) in
@@ -71,7 +71,7 @@ arg_leads f n Ps (contract {t = t} {u = u} {at = at} e g l) =
 
 -- ---- a whole tree
 
-variable_neutral : (ss : List (ℕ × ℕ)) (v : HeadVar) → IsNeutral (variable_of ss v)
+pub variable_neutral : (ss : List (ℕ × ℕ)) (v : HeadVar) → IsNeutral (variable_of ss v)
 variable_neutral ss (head.Bound i j) = record { plain = refl; none = refl }
 variable_neutral ss (head.Free q) = record { plain = refl; none = refl }
 
@@ -82,8 +82,8 @@ abstracted_none (suc l) t e = ap (beta_steps.under 0) (abstracted_none l t e)
 module _ (b : Bool) where
   -- a tree's term is reached, and has no redex; and so the terms of a list of trees, one after another
   abbrev Leads : {c : Bool} → Part c → Type 0
-  Leads {c = true} t = (ss : List (ℕ × ℕ)) (i : ℕ) (P : Tree) → HasAllHeads (preorder t) → Shows b ss i t P → LeftmostLeads P (meaning ss i t) × (leftmost (meaning ss i t) ≡ None)
-  Leads {c = false} ts = (ss : List (ℕ × ℕ)) (i : ℕ) (Ps : List Tree) (f : Tree) → IsNeutral f → HasAllHeads (preorder ts) → Shows b ss i ts Ps → LeftmostLeads (applied f Ps) (meaning ss i ts f) × IsNeutral (meaning ss i ts f)
+  Leads {c = true} t = (ss : List (ℕ × ℕ)) (i : ℕ) (P : Tree) → HasAllHeads (preorder t) → Shows b ss i t P → LeftmostReduces P (meaning ss i t) × (leftmost (meaning ss i t) ≡ None)
+  Leads {c = false} ts = (ss : List (ℕ × ℕ)) (i : ℕ) (Ps : List Tree) (f : Tree) → IsNeutral f → HasAllHeads (preorder ts) → Shows b ss i ts Ps → LeftmostReduces (applied f Ps) (meaning ss i ts f) × IsNeutral (meaning ss i ts f)
 
   leads_term : (l : ℕ) (v : HeadVar) (ts : Part false) → Leads ts → Leads (term l v ts)
   leads_term l v ts up ss i P h g =
@@ -97,7 +97,7 @@ module _ (b : Bool) where
   leads_cut ss i P h g = absurd h
 
   leads_none : Leads none
-  leads_none ss i Ps f n h g = (subst (λ Ps. LeftmostLeads (applied f Ps) f) (sym g) ready, n)
+  leads_none ss i Ps f n h g = (subst (λ Ps. LeftmostReduces (applied f Ps) f) (sym g) ready, n)
 
   leads_more : (t : Part true) (ts : Part false) → Leads t → Leads ts → Leads (more t ts)
   leads_more t ts up next_up ss i [] f n h g = absurd g
@@ -114,5 +114,5 @@ module _ (b : Bool) where
   leads none = leads_none
   leads (more t ts) = leads_more t ts (leads t) (leads ts)
 
-  pub tree_reached : (t : Part true) (P : Tree) → HasAllHeads (preorder t) → Shows b [] 0 t P → LeftmostLeads P (term_of t) × (leftmost (term_of t) ≡ None)
+  pub tree_reached : (t : Part true) (P : Tree) → HasAllHeads (preorder t) → Shows b [] 0 t P → LeftmostReduces P (term_of t) × (leftmost (term_of t) ≡ None)
   tree_reached t P h g = leads t [] 0 P h g

@@ -23,9 +23,10 @@ use Rattle.ol_readback.proofs.One.{exit_is_one}
 use Rattle.ol_meaning.specs.Spots.{Tree, Level, empty, star, Context, cons, Place, root, at, Leads}
 use Rattle.ol_meaning.specs.Heads.{os, outer, Normal, Steps, SameAlong, Arg}
 use Rattle.ol_meaning.specs.Seen.{ahead, Chain, IsChain, scope, Seats, IsSeen, ArgSeats}
-use Rattle.ol_meaning.specs.Shows.{applied, IsHeadNormal, Reaches, HasNoHeadNormalForm, Shown, Shows}
+use Rattle.ol_meaning.specs.Shows.{HeadReduces, HeadReducesForever, applied, IsHeadNormal, Shown, Shows}
 use Rattle.ol_meaning.proofs.Walking.{least, is_found}
 use Rattle.ol_meaning.proofs.Shapes.{occurrence, AreArgs, normal_shape, normal_of}
+use Rattle.ol_meaning.proofs.Endless.{forever}
 use Rattle.ol_meaning.proofs.Sights.{ahead_levels, arg_seen}
 use Rattle.ol_meaning.proofs.Matched.{ended, at_last, chain_grows, Says, HeadSays, head_says}
 
@@ -95,8 +96,8 @@ module _ {A : Type 0} {N : NamedNet A} {ch : Chain} {P : Tree} {S : Seats} (F : 
 
   -- ---- no head
 
-  pub no_head_is : IsHead N (F ++ framed s 0 ∷ []) (length F) no_head → HasNoHeadNormalForm P
-  no_head_is h u r g = by h
+  comes_to_none : (u : Tree) → HeadReduces P u → IsHeadNormal u → IsHead N (F ++ framed s 0 ∷ []) (length F) no_head → ⊥
+  comes_to_none u r g h = by h
     where
       by : IsHead N (F ++ framed s 0 ∷ []) (length F) no_head → ⊥
       by (heads.never f) =
@@ -107,6 +108,9 @@ module _ {A : Type 0} {N : NamedNet A} {ch : Chain} {P : Tree} {S : Seats} (F : 
       by (heads.leaves {n = n} {q = q} {X = X} few t (unmatched z)) =
           let e = exit_of n q X few t in
           z e.says.says.variable e.args e.says.first (exit_matches n q X e)
+
+  pub no_head_is : IsHead N (F ++ framed s 0 ∷ []) (length F) no_head → HeadReducesForever P
+  no_head_is h = forever P (λ u r g. comes_to_none u r g h)
 
 -- ---- the arguments
 
@@ -148,7 +152,7 @@ is_head_of (heads.leaves {q = q} {X = X} few r (matched m)) = record { port = q;
 pub record Headed {A : Type 0} (N : NamedNet A) (ch : Chain) (F : List Frame) (s : Subterm) (P : Tree) (n k : ℕ) (v : HeadVar) (ls : List Level) : Type 1 where
   pub args : List Tree
   pub count_is : length args ≡ k
-  pub reaches : Reaches P (abstracted n (applied (variable_of ((length F, n) ∷ scope ch) v) args))
+  pub reaches : HeadReduces P (abstracted n (applied (variable_of ((length F, n) ∷ scope ch) v) args))
   pub each : AllSeen N ((length F, framed s n) ∷ ch) (port_of (F ++ framed s n ∷ []) v) ls 0 args
 
 pub headed : {A : Type 0} {N : NamedNet A} {ch : Chain} {P : Tree} (S : Seats) (F : List Frame) (s : Subterm) → IsSeen N ch s.port s.levels P S → IsChain F (length F) s.parent ch →
@@ -169,13 +173,13 @@ headed {N = N} {ch = ch} {P = P} S F s seen chain n k v ls h =
       count_is = shape.count ∙ sym ek;
       reaches = (e.steps, subst (λ u. Steps P u e.steps) form e.leads);
       each = all_seen N ((length F, framed s n) ∷ ch) (port_of (F ++ framed s n ∷ []) v) ls e.last
-      (λ i Q a. record {
-        seats = ArgSeats e.leads a S;
-        seen = subst (λ ls. IsSeen N ((length F, framed s n) ∷ ch) (port_of (F ++ framed s n ∷ []) v) (ls ++ os i (star empty) ∷ []) Q (ArgSeats e.leads a S)) (sym el)
-        (subst (λ q. IsSeen N ((length F, framed s n) ∷ ch) q (e.says.first ++ os i (star empty) ∷ []) Q (ArgSeats e.leads a S)) (sym port)
-        (arg_seen seen e.leads a (length F) (framed s n) refl refl e.lams e.place e.inner e.level e.args e.normal e.same r.port e.says.first e.says.stands));
-      })
-      0 shape.args shape.each;
+          (λ i Q a. record {
+            seats = ArgSeats e.leads a S;
+            seen = subst (λ ls. IsSeen N ((length F, framed s n) ∷ ch) (port_of (F ++ framed s n ∷ []) v) (ls ++ os i (star empty) ∷ []) Q (ArgSeats e.leads a S)) (sym el)
+                (subst (λ q. IsSeen N ((length F, framed s n) ∷ ch) q (e.says.first ++ os i (star empty) ∷ []) Q (ArgSeats e.leads a S)) (sym port)
+                (arg_seen seen e.leads a (length F) (framed s n) refl refl e.lams e.place e.inner e.level e.args e.normal e.same r.port e.says.first e.says.stands));
+          })
+          0 shape.args shape.each;
     }
 
 -- ---- the whole tree

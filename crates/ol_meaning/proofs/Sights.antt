@@ -51,7 +51,7 @@ module _ {A : Type 0} {N : NamedNet A} {ch : Chain} {p : ℕ} {ls : List Level} 
       let o = root_only seen w d q X k in
       let first : List Level = f.levels ++ os j (star r.0) ∷ [] in
       let is : (c : Context) → ahead ls (cons w c) ≡ ahead first c = λ c. (
-        ap (λ v. ahead ls (cons v c)) r.1 ∙ ap (λ ls. ahead ls (cons (os j (star r.0)) c)) (sym el) ∙ sym (ahead_append f.levels (os j (star r.0) ∷ []) c)
+      ap (λ v. ahead ls (cons v c)) r.1 ∙ ap (λ ls. ahead ls (cons (os j (star r.0)) c)) (sym el) ∙ sym (ahead_append f.levels (os j (star r.0) ∷ []) c)
       ) in (
         record {
           first = first;

@@ -15,13 +15,18 @@ use Rattle.ol_readback.specs.declared.answers.ReadNode.{ReadNode}
 use Rattle.ol_meaning.specs.Spots.{Tree, Level, empty, star, Context, Place}
 use Rattle.ol_meaning.specs.Heads.{os, outer, Normal, Steps, SameAlong, Arg}
 use Rattle.ol_meaning.specs.Seen.{ahead, Chain, IsChain, scope, IsSeen, WholeSeats, Within, argument, seats_of}
-use Rattle.ol_meaning.specs.Shows.{applied, IsHeadNormal, Reaches, HasNoHeadNormalForm, Shows, LeftmostLeads}
+use Rattle.ol_meaning.specs.Shows.{BetaReduces, LeftmostReduces, HeadReduces, HeadReducesForever}
+use Rattle.ol_meaning.specs.Shows.{applied, IsHeadNormal, LacksHead, Fills, Shows}
 
 -- ---- head normal forms
 
 -- the two ways to say what a head normal form is
 abbrev pub NormalIsHeadNormal : Type 0
 NormalIsHeadNormal = (t : Tree) → IsHeadNormal t ↔ ((q : Place) × (a : Level) × (j : ℕ) × Normal t q a j)
+
+-- Head reduction of a term has no end exactly where it comes to no head normal form.
+abbrev pub EndlessOrNormal : Type 0
+EndlessOrNormal = (t : Tree) → HeadReducesForever t ↔ ((u : Tree) → HeadReduces t u → IsHeadNormal u → ⊥)
 
 -- ---- where subterms are seen
 
@@ -47,12 +52,12 @@ pub record IsSeenAt {t P : Tree} (N : NamedNet ℕ) (F : List Frame) (s : Subter
 abbrev pub HeadIsReached : Type 0
 HeadIsReached = (N : NamedNet ℕ) (F : List Frame) (s : Subterm) (ch : Chain) (t P : Tree) (p : Within t P) → IsSeenAt N F s ch p →
     (n k : ℕ) (v : HeadVar) (ls : List Level) → IsHead N (F ++ framed s 0 ∷ []) (length F) (head n v k ls) →
-    (Ps : List Tree) × (length Ps ≡ k) × Reaches P (abstracted n (applied (variable_of ((length F, n) ∷ scope ch) v) Ps))
+    (Ps : List Tree) × (length Ps ≡ k) × HeadReduces P (abstracted n (applied (variable_of ((length F, n) ∷ scope ch) v) Ps))
 
--- and where its frame has no head, by paths of any length, it has no head normal form
-abbrev pub NoHeadHasNone : Type 0
-NoHeadHasNone = (N : NamedNet ℕ) (F : List Frame) (s : Subterm) (ch : Chain) (t P : Tree) (p : Within t P) → IsSeenAt N F s ch p →
-    IsHead N (F ++ framed s 0 ∷ []) (length F) no_head → HasNoHeadNormalForm P
+-- and where its frame has no head, by paths of any length, its head reduction has no end
+abbrev pub NoHeadIsEndless : Type 0
+NoHeadIsEndless = (N : NamedNet ℕ) (F : List Frame) (s : Subterm) (ch : Chain) (t P : Tree) (p : Within t P) → IsSeenAt N F s ch p →
+    IsHead N (F ++ framed s 0 ∷ []) (length F) no_head → HeadReducesForever P
 
 -- ---- trees
 
@@ -61,21 +66,36 @@ abbrev pub TreeShowsTerm : Type 0
 TreeShowsTerm = (t : Tree) (names : ℕ) → HasNames t names → (lost_too : Bool) (T : Part true) →
     HasHeadsOf (translation_of t names) lost_too (preorder T) → Shows lost_too [] 0 T t
 
--- Where a tree in which each place has a head shows a term, leftmost reduction leads from this to the tree's term, which is a
--- beta-normal form.
+-- Where a tree shows a term, beta reduction leads from this to the tree's own term, with some term in the place of each hole.
+abbrev pub ShownIsReduct : Type 0
+ShownIsReduct = (t : Tree) (lost_too : Bool) (T : Part true) → Shows lost_too [] 0 T t →
+    (u : Tree) × BetaReduces t u × Fills lost_too [] 0 T u
+
+-- Where each place of the tree has a head, leftmost reduction leads there, and the tree's term is a beta-normal form.
 abbrev pub ShownIsNormalForm : Type 0
 ShownIsNormalForm = (t : Tree) (lost_too : Bool) (T : Part true) → Shows lost_too [] 0 T t → HasAllHeads (preorder T) →
-    LeftmostLeads t (term_of T) × IsNormal (term_of T)
+    LeftmostReduces t (term_of T) × IsNormal (term_of T)
 
--- What the places of a tree say of a term.
+-- Where some place of the tree has no head, and the tree says that such places are endless, leftmost reduction of the term ends in no
+-- beta-normal form.
+abbrev pub ShownHasNoEnd : Type 0
+ShownHasNoEnd = (t : Tree) (T : Part true) → Shows true [] 0 T t → LacksHead (preorder T) →
+    (v : Tree) → LeftmostReduces t v → IsNormal v → ⊥
+
+-- What the places of a tree say of a term: it reduces to the tree's term, with some term in the place of each hole; and where each
+-- place has a head, its leftmost reduction ends in the tree's term, which is a beta-normal form. Where lost_too is true and some
+-- place has no head, its leftmost reduction ends in no beta-normal form.
 pub record SaysOf (t : Tree) (lost_too : Bool) (ns : List ReadNode) : Type 0 where
   pub tree : Part true
   pub is_list : preorder tree ≡ ns
-  pub shows : Shows lost_too [] 0 tree t
-  pub reduces : HasAllHeads ns → LeftmostLeads t (term_of tree)
-  pub is_normal : HasAllHeads ns → IsNormal (term_of tree)
+  pub reduct : Tree
+  pub reduces : BetaReduces t reduct
+  pub fills : Fills lost_too [] 0 tree reduct
+  pub leftmost : HasAllHeads ns → LeftmostReduces t (term_of tree)
+  pub normal : HasAllHeads ns → IsNormal (term_of tree)
+  pub endless : lost_too ≡ true → LacksHead ns → (v : Tree) → LeftmostReduces t v → IsNormal v → ⊥
 
--- both of these, of the places of a tree with the heads of a term's own net
+-- all this of the places of a tree with the heads of a term's own net
 abbrev pub PlacesSay : Type 0
 PlacesSay = (t : Tree) (names : ℕ) → HasNames t names → (lost_too : Bool) (T : Part true) (ns : List ReadNode) → preorder T ≡ ns →
     HasHeadsOf (translation_of t names) lost_too ns → SaysOf t lost_too ns
