@@ -1,7 +1,6 @@
 -- What several head steps keep of where a term's interface leads.
-use Rattle.std.proofs.Common.{◌≡◌, ℕ, refl, sym, ap, ◌∙◌, subst}
-use Rattle.ol_meaning.specs.Spots.{Tree, Level, Context, Place, at, HeadStep, Leads}
-use Rattle.ol_meaning.specs.Steps.{Same}
+use Rattle.std.proofs.Common.{◌≡◌, ℕ, refl, sym, ◌∙◌, subst}
+use Rattle.ol_meaning.specs.Spots.{Tree, Level, Context, Place, at, Leads}
 use Rattle.ol_meaning.specs.Heads.{Steps, done, step, SameAlong}
 use Rattle.ol_meaning.proofs.Mains.{keeps, reflects, same_one}
 

@@ -28,8 +28,8 @@ tree_of a b e = cc
 some_none : (at : List ℕ) → Some at ≡ None → ⊥
 some_none at e = absurd (cc)
 
-same_step : {t u w : Tree} {at bt : List ℕ} → leftmost t ≡ Some at → contracted t at ≡ Some u → leftmost t ≡ Some bt → contracted t bt ≡ Some w → u ≡ w
-same_step {t} {u} {w} {at} {bt} e f g h = tree_of u w (sym f ∙ ap (contracted t) (one_of at bt (sym e ∙ g)) ∙ h)
+same_step : (t : Tree) {u w : Tree} {at bt : List ℕ} → leftmost t ≡ Some at → contracted t at ≡ Some u → leftmost t ≡ Some bt → contracted t bt ≡ Some w → u ≡ w
+same_step t {u} {w} {at} {bt} e f g h = tree_of u w (sym f ∙ ap (contracted t) (one_of at bt (sym e ∙ g)) ∙ h)
 
 step_or_none : (t : Tree) → (leftmost t ≡ None) ⊎ ((u : Tree) × StepsTo t u)
 step_or_none t = by (leftmost t) refl
@@ -47,7 +47,7 @@ step_or_none t = by (leftmost t) refl
 -- what leftmost reduction that ends leads to after a step
 rest_of : {t u v : Tree} {at : List ℕ} → leftmost t ≡ Some at → contracted t at ≡ Some u → LeftmostReduces t v → leftmost v ≡ None → LeftmostReduces u v
 rest_of {at = at} e f ready n = absurd (some_none at (sym e ∙ n))
-rest_of {v = v} e f (contract g h l) n = subst (λ u. LeftmostReduces u v) (same_step g h e f) l
+rest_of {t = t} {v = v} e f (contract g h l) n = subst (λ u. LeftmostReduces u v) (same_step t g h e f) l
 
 after_head : {t u v : Tree} {m : ℕ} → Steps t u m → LeftmostReduces t v → leftmost v ≡ None → LeftmostReduces u v
 after_head done l n = l
@@ -62,12 +62,12 @@ never f ready n =
     let a = first_step (f 1).1 in
     let r = leftmost_step a.1 in
     some_none r.0 (sym r.1 ∙ n)
-never f (contract {u = u} e g l) n =
+never {t = t} f (contract {u = u} e g l) n =
     never (λ m. (
     let x = f (suc m) in
     let a = first_step x.1 in
     let r = leftmost_step a.1 in
-    (x.0, subst (λ a. Steps a x.0 m) (same_step r.1 r.2 e g) a.2)
+    (x.0, subst (λ a. Steps a x.0 m) (same_step t r.1 r.2 e g) a.2)
     )) l n
 
 -- ---- within a term
@@ -91,7 +91,7 @@ within f up {t = t} {v = v} (contract {u = w} {at = at} g h l) n P e = by (λ Q 
     by next (inl k) = record { last = P; leads = ready; normal = k; rest = subst (λ t. LeftmostReduces t v) e (contract {at = at} g h l) }
     by next (inr k) =
         let s = up P k.0 k.1 in
-        let x = next k.0 (same_step g h (ap leftmost e ∙ s.first) (ap (λ t. contracted t s.at) e ∙ s.gives)) in
+        let x = next k.0 (same_step t g h (ap leftmost e ∙ s.first) (ap (λ t. contracted t s.at) e ∙ s.gives)) in
         record { last = x.last; leads = contract {at = k.1.at} k.1.first k.1.gives x.leads; normal = x.normal; rest = x.rest }
 
 within_lam : (l : ℕ) (t u : Tree) → StepsTo t u → StepsTo (abstracted l t) (abstracted l u)

@@ -1,7 +1,7 @@
 -- Head reduction ends in a head normal form, or has no end.
-use Rattle.std.proofs.Common.{◌≡◌, ℕ, zero, suc, ◌⊎◌, inl, inr, List, Option, Some, refl, sym, ap, ◌∙◌, subst}
+use Rattle.std.proofs.Common.{◌≡◌, ℕ, zero, suc, ◌⊎◌, inl, inr, List, Some, sym, ap, ◌∙◌, subst}
 use Rattle.ol_beta.specs.Beta.{contracted}
-use Rattle.ol_meaning.specs.Spots.{Tree, var, free, lam, app, Level, Wire, Place, HeadStep, beta, below, before}
+use Rattle.ol_meaning.specs.Spots.{Tree, Level, Wire, Place, HeadStep, beta, below, before}
 use Rattle.ol_meaning.specs.Heads.{Steps, done, step, Spine, head_var, head_free, head_app, Normal, flat, layer}
 use Rattle.ol_meaning.specs.Shows.{HeadReduces, HeadReducesForever, IsHeadNormal}
 use Rattle.ol_meaning.proofs.LeftmostSteps.{leftmost_step}
@@ -25,6 +25,9 @@ one_step {t} {a} {b} g h =
 -- ---- a head normal form has none
 
 spine_stops : {t v : Tree} {y : Wire} {a : Level} {j : ℕ} → Spine t y a j → HeadStep t v → ⊥
+spine_stops {v = v} (head_var {y = y}) x6 = elim x6 [ ]
+spine_stops {v = v} (head_free {f = f}) x7 = elim x7 [ ]
+spine_stops (head_app {P = P} {y = y} {a = a} {w = w} {j = j} s e) (beta {M = M}) = elim s [ ]
 spine_stops (head_app s e) (before f h) = spine_stops s h
 
 pub normal_stops : {t v : Tree} {q : Place} {a : Level} {j : ℕ} → Normal t q a j → HeadStep t v → ⊥

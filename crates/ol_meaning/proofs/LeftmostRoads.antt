@@ -1,5 +1,5 @@
 -- From what a whole tree shows to leftmost reduction: it leads to the tree's term.
-use Rattle.std.proofs.Common.{◌≡◌, ℕ, zero, suc, ◌+◌, Bool, true, false, if◌then◌else◌, List, [], ◌∷◌, ◌++◌, length, Option, Some, None, refl, sym, ap, ◌∙◌, subst, arith}
+use Rattle.std.proofs.Common.{◌≡◌, ℕ, zero, suc, ◌+◌, Bool, true, false, if◌then◌else◌, List, [], ◌∷◌, length, Option, Some, None, refl, sym, ap, ◌∙◌, subst}
 use Rattle.std.specs.Option.{option_map}
 use Rattle.ol_beta.specs.Beta.{contracted}
 use Rattle.ol_beta.specs.Leftmost.{leftmost, first_of_two, is_abstraction}
@@ -8,12 +8,10 @@ use Rattle.ol_readback.specs.Whole.{Part, term, lost, cut, none, more, preorder}
 use Rattle.ol_readback.specs.Terms.{HasAllHeads, abstracted, variable_of, meaning, term_of}
 use Rattle.ol_readback.specs.declared.answers.HeadVar.{HeadVar}
 use Rattle.ol_readback.specs.declared.answers.HeadVar.TheVariants as head
-use Rattle.ol_readback.specs.declared.answers.ReadNode.{ReadNode}
-use Rattle.ol_readback.specs.declared.answers.ReadNode.TheVariants as node
 use Rattle.ol_readback.proofs.OneTree.{all_left, all_right}
-use Rattle.ol_meaning.specs.Spots.{Tree, var, free, lam, app}
+use Rattle.ol_meaning.specs.Spots.{Tree, lam, app}
 use Rattle.ol_meaning.specs.Heads.{Steps, done, step}
-use Rattle.ol_meaning.specs.Shows.{ReducesBy, ready, contract, LeftmostReduces, applied, Shown, Shows}
+use Rattle.ol_meaning.specs.Shows.{ReducesBy, ready, contract, LeftmostReduces, applied, Shows}
 use Rattle.ol_meaning.proofs.LeftmostSteps.{leftmost_step}
 
 -- ---- leftmost steps within a term

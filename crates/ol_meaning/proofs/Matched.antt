@@ -1,5 +1,5 @@
 -- What an exit says against the frames: the variable that stands at the head.
-use Rattle.std.proofs.Common.{◌≡◌, ◌≢◌, ℕ, zero, suc, ◌+◌, ◌-◌, ◌<◌, ◌≤◌, ◌==◌, Bool, true, false, if◌then◌else◌, ◌⊎◌, inl, inr, List, [], ◌∷◌, ◌++◌, length, Option, Some, None, refl, sym, ap, ◌∙◌, subst, arith, append_assoc}
+use Rattle.std.proofs.Common.{◌≡◌, ℕ, suc, ◌+◌, ◌-◌, ◌<◌, ◌≤◌, ◌==◌, Bool, true, false, if◌then◌else◌, inl, inr, List, [], ◌∷◌, ◌++◌, length, Option, Some, None, refl, sym, ap, ◌∙◌, subst, arith, append_assoc}
 use Rattle.std.proofs.lemmas.Bool.{eqb-true, eq-eqb}
 use Rattle.std.proofs.lemmas.List.{get_or_append_left, get_or_push, length_push}
 use Rattle.ol_net.specs.Nets.{NamedNet}
@@ -13,7 +13,7 @@ use Rattle.ol_readback.specs.ReadTrees.{port_of}
 use Rattle.ol_readback.specs.Terms.{index_of, variable_of}
 use Rattle.ol_readback.specs.declared.answers.HeadVar.{HeadVar}
 use Rattle.ol_readback.specs.declared.answers.HeadVar.TheVariants as head
-use Rattle.ol_meaning.specs.Spots.{Tree, var, free, Level, empty, star, Context, cons, Wire, bound, name, Place, root, wire, at}
+use Rattle.ol_meaning.specs.Spots.{Tree, var, free, Level, empty, star, Context, cons, Wire, bound, name, Place, root}
 use Rattle.ol_meaning.specs.Heads.{os, outer, Steps, SameAlong}
 use Rattle.ol_meaning.specs.Seen.{ahead, unders, Chain, IsChain, scope, IsNotOf, LeavesAs, Seats, IsSeen}
 use Rattle.ol_meaning.proofs.Walking.{binder_of}

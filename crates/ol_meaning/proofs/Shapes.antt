@@ -2,10 +2,10 @@
 use Rattle.std.proofs.Common.{◌≡◌, ℕ, zero, suc, ◌+◌, ◌-◌, ◌<◌, List, [], ◌∷◌, ◌++◌, length, refl, sym, ap, ◌∙◌, subst, arith}
 use Rattle.std.proofs.lemmas.List.{length_push}
 use Rattle.ol_readback.specs.Terms.{abstracted}
-use Rattle.ol_meaning.specs.Spots.{Tree, var, free, lam, app, Level, empty, o, star, left, Context, cons, Wire, bound, name, under, Place, root, wire}
-use Rattle.ol_meaning.specs.Heads.{os, outer, Spine, head_var, head_free, head_app, OutOf, up_root, up_own, up_wire, Normal, flat, layer, Arg, last, earlier, inner, HatLast, hat_root, hat_wire, HatEarlier, hat_left, HatInner, hat_up, StandsAt}
+use Rattle.ol_meaning.specs.Spots.{Tree, var, free, lam, app, Level, empty, o, star, left, Context, Wire, bound, name, Place, root, wire}
+use Rattle.ol_meaning.specs.Heads.{os, outer, Spine, head_var, head_free, head_app, OutOf, up_root, up_own, up_wire, Normal, flat, layer, Arg, last, earlier, inner, hat_wire, hat_left, hat_up, StandsAt}
 use Rattle.ol_meaning.specs.Shows.{applied, IsVariable, IsHeadNormal}
-use Rattle.ol_meaning.specs.Seen.{ahead, unders}
+use Rattle.ol_meaning.specs.Seen.{unders}
 
 pub unders_bound : (l y : ℕ) → unders l (bound y) ≡ bound (l + y)
 unders_bound zero y = ap bound (let e : y ≡ 0 + y = omega arith in e)

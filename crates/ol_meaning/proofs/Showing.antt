@@ -1,5 +1,5 @@
 -- A tree that has the heads of a term's net shows the term.
-use Rattle.std.proofs.Common.{◌≡◌, ℕ, zero, suc, ◌+◌, ◌<◌, ◌≤◌, Bool, true, false, ◌⊎◌, inl, inr, List, [], ◌∷◌, ◌++◌, length, Option, Some, None, refl, sym, ap, ◌∙◌, subst, arith, append_assoc, length-append}
+use Rattle.std.proofs.Common.{◌≡◌, ℕ, zero, suc, ◌+◌, ◌<◌, ◌≤◌, Bool, true, false, List, [], ◌∷◌, ◌++◌, length, Option, Some, None, refl, sym, ap, ◌∙◌, subst, arith, append_assoc, length-append}
 use Rattle.std.proofs.lemmas.List.{append-nil, get_or_append_left, length_push}
 use Rattle.ol_net.specs.Nets.{NamedNet, free}
 use Rattle.ol_context.specs.Paths.{Path}
@@ -23,12 +23,12 @@ use Rattle.ol_readback.proofs.One.{exit_is_one}
 use Rattle.ol_meaning.specs.Spots.{Tree, Level, empty, star, Context, cons, Place, root, at, Leads}
 use Rattle.ol_meaning.specs.Heads.{os, outer, Normal, Steps, SameAlong, Arg}
 use Rattle.ol_meaning.specs.Seen.{ahead, Chain, IsChain, scope, Seats, IsSeen, ArgSeats}
-use Rattle.ol_meaning.specs.Shows.{HeadReduces, HeadReducesForever, applied, IsHeadNormal, Shown, Shows}
+use Rattle.ol_meaning.specs.Shows.{HeadReduces, HeadReducesForever, applied, IsHeadNormal, Shows}
 use Rattle.ol_meaning.proofs.Walking.{least, is_found}
 use Rattle.ol_meaning.proofs.Shapes.{occurrence, AreArgs, normal_shape, normal_of}
 use Rattle.ol_meaning.proofs.Endless.{forever}
 use Rattle.ol_meaning.proofs.Sights.{ahead_levels, arg_seen}
-use Rattle.ol_meaning.proofs.Matched.{ended, at_last, chain_grows, Says, HeadSays, head_says}
+use Rattle.ol_meaning.proofs.Matched.{ended, at_last, chain_grows, HeadSays, head_says}
 
 asked_is : (ls : List Level) (n : ℕ) → asked ls n ≡ ahead ls (cons (os n empty) (levels []))
 asked_is ls n = sym (ahead_levels ls (os n empty ∷ [])) ∙ ap (ahead ls) (levels_cons (os n empty) [])

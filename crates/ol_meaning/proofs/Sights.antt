@@ -1,13 +1,13 @@
 -- An argument of a head normal form is seen in the net where the term that reduces to it is seen.
-use Rattle.std.proofs.Common.{◌≡◌, ℕ, zero, suc, ◌+◌, ◌-◌, ◌<◌, ◌⊎◌, inl, inr, List, [], ◌∷◌, ◌++◌, length, refl, sym, ap, ◌∙◌, subst, arith}
+use Rattle.std.proofs.Common.{◌≡◌, ℕ, suc, ◌-◌, ◌<◌, inl, inr, List, [], ◌∷◌, ◌++◌, refl, sym, ap, ◌∙◌, subst}
 use Rattle.ol_net.specs.Nets.{NamedNet, free}
 use Rattle.ol_context.specs.Paths.{Path}
 use Rattle.ol_context.specs.Contexts.{levels}
 use Rattle.ol_context.proofs.LevelLists.{levels_cons}
 use Rattle.ol_readback.specs.Frames.{Frame}
 use Rattle.ol_meaning.specs.Spots.{Tree, Level, empty, star, Context, cons, Wire, bound, Place, root, wire, at, Leads}
-use Rattle.ol_meaning.specs.Heads.{os, outer, Normal, Steps, SameAlong, Arg, StandsAt}
-use Rattle.ol_meaning.specs.Seen.{ahead, unders, Chain, IsNotOf, LeavesAs, Seats, IsSeen, ArgSeats}
+use Rattle.ol_meaning.specs.Heads.{os, outer, Normal, Steps, SameAlong, Arg}
+use Rattle.ol_meaning.specs.Seen.{ahead, unders, Chain, LeavesAs, Seats, IsSeen, ArgSeats}
 use Rattle.ol_meaning.proofs.Walking.{binder_of}
 use Rattle.ol_meaning.proofs.Seats.{hat_one, up_to, down_to, root_stands}
 use Rattle.ol_meaning.proofs.Shapes.{Outs, own, past, wire_stands}
