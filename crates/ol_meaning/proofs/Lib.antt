@@ -24,3 +24,4 @@ pub mod Filling
 pub mod Endings
 pub mod Grounds
 pub mod Based
+pub mod SmallTerms

@@ -22,6 +22,7 @@ ghost use Rattle.ol_meaning.specs.Meaning.{HeadIsReached, NoHeadIsEndless};
 ghost use Rattle.ol_meaning.specs.Meaning.{TreeShowsTerm, ShownIsReduct};
 ghost use Rattle.ol_meaning.specs.Meaning.{ShownIsNormalForm, ShownHasNoEnd};
 ghost use Rattle.ol_meaning.specs.Meaning.{PlacesSay};
+ghost use Rattle.ol_meaning.specs.Examples.{SmallTerms};
 
 /// A term that stands under more abstractions than before has the same edges, with their weights.
 pub fn lifting()
@@ -144,4 +145,11 @@ pub fn meaning()
     ensures normal { ShownIsNormalForm }
     ensures endless { ShownHasNoEnd }
     ensures places { PlacesSay }
+{}
+
+/// What the words mean, on small terms: three whose leftmost reduction ends in a normal form, one
+/// that has an argument without an end and doesn't use it, one with a head normal form alone, which
+/// the tree `\a. a ?` shows, and one whose head reduction has no end.
+pub fn small_terms()
+    ensures { SmallTerms }
 {}
