@@ -1,16 +1,16 @@
 -- What several head steps keep of where a term's interface leads.
-use Rattle.std.proofs.Common.{◌≡◌, ℕ, refl, sym, ◌∙◌, subst}
+use Rattle.std.proofs.Common.{◌≡◌, ℕ, ◌≤◌, refl, sym, ◌∙◌, subst, arith}
 use Rattle.ol_meaning.specs.Spots.{Tree, Level, Context, Place, at, Leads}
 use Rattle.ol_meaning.specs.Heads.{Steps, done, step, SameAlong}
 use Rattle.ol_meaning.proofs.Mains.{keeps, reflects, same_one}
 
 pub keeps_along : {t u : Tree} {m : ℕ} (s : Steps t u m) (p q : Place) (v v' w : Level) (c d : Context) (n : ℕ) → SameAlong s p v v' → Leads t (at p v c) (at q w d) n →
-    (w' : Level) × SameAlong s q w w' × (n' : ℕ) × Leads u (at p v' c) (at q w' d) n'
-keeps_along (done {t = t}) p q v v' w c d n e l = (w, refl, n, subst (λ v. Leads t (at p v c) (at q w d) n) e l)
+    (w' : Level) × SameAlong s q w w' × (n' : ℕ) × (n' ≤ n) × Leads u (at p v' c) (at q w' d) n'
+keeps_along (done {t = t}) p q v v' w c d n e l = (w, refl, n, (omega arith), subst (λ v. Leads t (at p v c) (at q w d) n) e l)
 keeps_along (step h s) p q v v' w c d n e l =
     let x = keeps h p q v e.0 w c d n e.1 l in
     let y = keeps_along s p q e.0 v' x.0 c d x.2 e.2 x.5 in
-    (y.0, (x.0, x.1, y.1), y.2, y.3)
+    (y.0, (x.0, x.1, y.1), y.2, (let a : x.2 ≤ n = x.3 in let b : y.2 ≤ x.2 = y.3 in omega arith), y.4)
 
 pub reflects_along : {t u : Tree} {m : ℕ} (s : Steps t u m) (p q : Place) (v v' w' : Level) (c d : Context) (n' : ℕ) → SameAlong s p v v' → Leads u (at p v' c) (at q w' d) n' →
     (w : Level) × SameAlong s q w w' × (n : ℕ) × Leads t (at p v c) (at q w d) n

@@ -2,7 +2,7 @@
 use Rattle.std.proofs.Common.{◌≡◌, ℕ, Bool, true, List, [], refl, sym, subst}
 use Rattle.ol_translate.specs.Translation.{translation_of}
 use Rattle.ol_translate.specs.Names.{HasNames}
-use Rattle.ol_spots_net.proofs.Followed.{net_and_spots}
+use Rattle.ol_spots_net.proofs.Followed.{net_and_spots, path_is_trail}
 use Rattle.ol_beta.proofs.Redexes.{no_leftmost}
 use Rattle.ol_readback.specs.ReadTrees.{whole_term}
 use Rattle.ol_readback.specs.Sources.{HasHeadsOf}
@@ -20,7 +20,7 @@ use Rattle.ol_meaning.proofs.Filling.{filled}
 use Rattle.ol_meaning.proofs.Endings.{has_no_end, no_redex}
 
 pub term_seen : (t : Tree) (names : ℕ) → HasNames t names → IsSeen (translation_of t names) [] 0 [] t WholeSeats
-term_seen t names h = whole_seen (translation_of t names) t h.bound (λ p q c d. net_and_spots t names h p q c d)
+term_seen t names h = whole_seen (translation_of t names) t h.bound (λ p q c d n l. (net_and_spots t names h p q c d).1 (n, l)) (λ p q c d r. path_is_trail t names h p q c d r)
 
 pub tree_shows : (t : Tree) (names : ℕ) → HasNames t names → (b : Bool) (T : Part true) → HasHeadsOf (translation_of t names) b (preorder T) → Shows b [] 0 T t
 tree_shows t names h b T r = shows (translation_of t names) b T t whole_term refl (record { seats = WholeSeats; seen = term_seen t names h }) r

@@ -1,12 +1,12 @@
 -- A whole term is seen in each net whose paths are the trails of the term's spots.
-use Rattle.std.proofs.Common.{◌≡◌, ℕ, zero, suc, ◌+◌, Bool, true, false, ◌&&◌, ◌||◌, ◌↔◌, ◌⊎◌, inl, inr, List, [], ◌∷◌, refl, sym, ap, ◌∙◌, subst, arith}
+use Rattle.std.proofs.Common.{◌≡◌, ℕ, zero, suc, ◌+◌, Bool, true, false, ◌&&◌, ◌||◌, ◌⊎◌, inl, inr, List, [], ◌∷◌, refl, sym, ap, ◌∙◌, subst, arith, ◌≤◌}
 use Rattle.std.proofs.lemmas.Bool.{eqb-true, ltb-true}
 use Rattle.ol_term.specs.Trees.{is_below}
 use Rattle.ol_net.specs.Nets.{NamedNet, free}
 use Rattle.ol_context.specs.Contexts.{tail}
 use Rattle.ol_context.specs.Paths.{Path}
 use Rattle.ol_context.proofs.Contexts.{eta, head_eq, tail_eq}
-use Rattle.ol_spots_net.specs.Spots.{place}
+use Rattle.ol_spots_net.specs.Spots.{place, applications}
 use Rattle.ol_meaning.specs.Spots as spots
 use Rattle.ol_meaning.specs.Spots.{Tree, var, lam, app, Level, Context, cons, Wire, bound, name, under, occurs, Place, root, wire, at, Leads}
 use Rattle.ol_meaning.specs.Seen.{ahead, LeavesAs, IsSeen, WholeSeats}
@@ -64,7 +64,8 @@ whole_wire (name f) v c (suc q) X h =
     let l : f ≡ q = cc in
     (v ∷ [], (ap suc (sym l), v, refl), (λ d. (h.0, refl)), h.1)
 
-module _ {A : Type 0} (N : NamedNet A) (t : Tree) (closed : is_below 0 t ≡ true) (same : (p q : ℕ) (c d : Context) → Path N (free p) c q d ↔ ((n : ℕ) × Leads t (at (place p) (c 0) (tail c)) (at (place q) (d 0) (tail d)) n)) where
+module _ {A : Type 0} (N : NamedNet A) (t : Tree) (closed : is_below 0 t ≡ true) (trail_path : (p q : ℕ) (c d : Context) (n : ℕ) → Leads t (at (place p) (c 0) (tail c)) (at (place q) (d 0) (tail d)) n → Path N (free p) c q d)
+    (path_trail : (p q : ℕ) (c d : Context) (r : Path N (free p) c q d) → Leads t (at (place p) (c 0) (tail c)) (at (place q) (d 0) (tail d)) (applications r)) where
   whole_one : (x y : Place) (v w : Level) (c d : Context) (q r : ℕ) (X Y : Context) → WholeSeats x v c q X → WholeSeats y w d r Y →
       (at x v c ≡ at y w d → (q ≡ r) × (X ≡ Y)) × (q ≡ r → X ≡ Y → at x v c ≡ at y w d)
   whole_one x y v w c d q r X Y g h = (
@@ -85,15 +86,15 @@ module _ {A : Type 0} (N : NamedNet A) (t : Tree) (closed : is_below 0 t ≡ tru
   whole_forth x y v w c d n q X g l =
       let a = port_at t closed y (ends y l.0 l.1) in
       let m : Leads t (at (place q) v c) (at (place a.0) w d) n = subst (λ x. Leads t (at x v c) (at (place a.0) w d) n) g.0 (subst (λ y. Leads t (at x v c) (at y w d) n) a.1 l) in
-      (a.0, cons w d, (a.1, refl), subst (λ X. Path N (free q) X a.0 (cons w d)) (sym g.1) ((same q a.0 (cons v c) (cons w d)).1 (n, m)))
+      (a.0, cons w d, (a.1, refl), subst (λ X. Path N (free q) X a.0 (cons w d)) (sym g.1) (trail_path q a.0 (cons v c) (cons w d) n m))
 
-  whole_back : (x : Place) (v : Level) (c : Context) (q r : ℕ) (X Y : Context) → WholeSeats x v c q X → Path N (free q) X r Y →
-      (y : Place) × (w : Level) × (d : Context) × (n : ℕ) × WholeSeats y w d r Y × Leads t (at x v c) (at y w d) n
+  whole_back : (x : Place) (v : Level) (c : Context) (q r : ℕ) (X Y : Context) → WholeSeats x v c q X → (path : Path N (free q) X r Y) →
+      (y : Place) × (w : Level) × (d : Context) × (n : ℕ) × WholeSeats y w d r Y × Leads t (at x v c) (at y w d) n × (n ≤ applications path)
   whole_back x v c q r X Y g path =
-      let a = (same q r X Y).0 path in
-      let m : Leads t (at x v c) (at (place r) (Y 0) (tail Y)) a.0 =
-      subst (λ e. Leads t e (at (place r) (Y 0) (tail Y)) a.0) (spot_is (place q) x (X 0) v (tail X) c (sym g.0) (ap (λ (X : Context). X 0) g.1) (ap tail g.1)) a.1 in
-      (place r, Y 0, tail Y, a.0, (refl, sym (eta Y)), m)
+      let a = path_trail q r X Y path in
+      let m : Leads t (at x v c) (at (place r) (Y 0) (tail Y)) (applications path) =
+      subst (λ e. Leads t e (at (place r) (Y 0) (tail Y)) (applications path)) (spot_is (place q) x (X 0) v (tail X) c (sym g.0) (ap (λ (X : Context). X 0) g.1) (ap tail g.1)) a in
+      (place r, Y 0, tail Y, applications path, (refl, sym (eta Y)), m, (omega arith))
 
   pub whole_seen : IsSeen N [] 0 [] t WholeSeats
   whole_seen = record {

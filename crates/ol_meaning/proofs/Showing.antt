@@ -20,12 +20,13 @@ use Rattle.ol_readback.specs.declared.answers.HeadVar.TheVariants as var
 use Rattle.ol_readback.specs.declared.answers.ReadNode.{ReadNode}
 use Rattle.ol_readback.specs.declared.answers.ReadNode.TheVariants as node
 use Rattle.ol_readback.proofs.One.{exit_is_one}
+use Rattle.ol_spots_net.specs.Spots.{applications}
 use Rattle.ol_meaning.specs.Spots.{Tree, Level, empty, star, Context, cons, Place, root, at, Leads}
 use Rattle.ol_meaning.specs.Heads.{os, outer, Normal, Steps, SameAlong, Arg}
 use Rattle.ol_meaning.specs.Seen.{ahead, Chain, IsChain, scope, Seats, IsSeen, ArgSeats}
 use Rattle.ol_meaning.specs.Shows.{HeadReduces, HeadReducesForever, applied, IsHeadNormal, Shows}
-use Rattle.ol_meaning.proofs.Walking.{least, is_found}
-use Rattle.ol_meaning.proofs.Shapes.{occurrence, AreArgs, normal_shape, normal_of}
+use Rattle.ol_meaning.proofs.Walking.{least, found, is_found}
+use Rattle.ol_meaning.proofs.Shapes.{normal_is, occurrence, AreArgs, normal_shape, normal_of}
 use Rattle.ol_meaning.proofs.Endless.{forever}
 use Rattle.ol_meaning.proofs.Sights.{ahead_levels, arg_seen}
 use Rattle.ol_meaning.proofs.Matched.{ended, at_last, chain_grows, HeadSays, head_says}
@@ -37,6 +38,23 @@ ended_is : (j : ℕ) → cons (os j empty) (levels []) ≡ ended j
 ended_is j = sym (levels_cons (os j empty) [])
 
 -- ---- the head of one subterm
+
+-- a path of its frame crosses as many applications as head steps lead from a subterm to a head normal form, or more
+pub reached_soon : {A : Type 0} {N : NamedNet A} {ch : Chain} {P : Tree} {S : Seats} (s : Subterm) → IsSeen N ch s.port s.levels P S → (n q : ℕ) (X : Context) (r : Path N (free s.port) (asked s.levels n) q X) →
+    (u : Tree) × (m : ℕ) × (m ≤ applications r) × Steps P u m × IsHeadNormal u
+reached_soon {N = N} {P = P} s seen n q X r =
+    let c = ahead s.levels (cons (os n empty) (levels [])) in
+    let t = subst (λ c. (t : Path N (free s.port) c q X) × (applications t ≡ applications r)) (asked_is s.levels n) (r, refl) in
+    let b = seen.back root (os n empty) (levels []) s.port q c X (seen.at_root (os n empty) (levels [])) t.0 in
+    let x = found P b.0 b.1 (levels []) b.2 n b.3 b.5 in
+    let few : x.1 ≤ applications r =
+    (
+    let i : x.1 ≤ b.3 = x.3 in
+    let j : b.3 ≤ applications t.0 = b.6 in
+    let k : applications t.0 ≡ applications r = t.1 in
+    omega arith
+    ) in
+    (x.0, x.1, few, x.2, normal_is x.6)
 
 -- where a path of the least number n of abstractions leaves, by port q with context X
 record Exit {A : Type 0} (N : NamedNet A) (ch : Chain) (F : List Frame) (s : Subterm) (P : Tree) (S : Seats) (n q : ℕ) (X : Context) : Type 0 where

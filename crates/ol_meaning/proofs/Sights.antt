@@ -1,10 +1,11 @@
 -- An argument of a head normal form is seen in the net where the term that reduces to it is seen.
-use Rattle.std.proofs.Common.{◌≡◌, ℕ, suc, ◌-◌, ◌<◌, inl, inr, List, [], ◌∷◌, ◌++◌, refl, sym, ap, ◌∙◌, subst}
+use Rattle.std.proofs.Common.{◌≡◌, ℕ, suc, ◌-◌, ◌<◌, ◌≤◌, inl, inr, List, [], ◌∷◌, ◌++◌, refl, sym, ap, ◌∙◌, subst, arith}
 use Rattle.ol_net.specs.Nets.{NamedNet, free}
 use Rattle.ol_context.specs.Paths.{Path}
 use Rattle.ol_context.specs.Contexts.{levels}
 use Rattle.ol_context.proofs.LevelLists.{levels_cons}
 use Rattle.ol_readback.specs.Frames.{Frame}
+use Rattle.ol_spots_net.specs.Spots.{applications}
 use Rattle.ol_meaning.specs.Spots.{Tree, Level, empty, star, Context, cons, Wire, bound, Place, root, wire, at, Leads}
 use Rattle.ol_meaning.specs.Heads.{os, outer, Normal, Steps, SameAlong, Arg}
 use Rattle.ol_meaning.specs.Seen.{ahead, unders, Chain, LeavesAs, Seats, IsSeen, ArgSeats}
@@ -94,13 +95,20 @@ module _ {A : Type 0} {N : NamedNet A} {ch : Chain} {p : ℕ} {ls : List Level} 
         let e = seen.forth g.0 a.0 g.4 b.0 g.2 a.2 b.2 q X g.6 b.3 in
         (e.0, e.1, (a.0, a.1, a.2, a.3, b.0, b.1, e.2), e.3)
 
-    arg_back : (x : Place) (v : Level) (c : Context) (q r : ℕ) (X Y : Context) → ArgSeats s k S x v c q X → Path N (free q) X r Y →
-        (y : Place) × (w : Level) × (d : Context) × (n : ℕ) × ArgSeats s k S y w d r Y × Leads Q (at x v c) (at y w d) n
+    arg_back : (x : Place) (v : Level) (c : Context) (q r : ℕ) (X Y : Context) → ArgSeats s k S x v c q X → (t : Path N (free q) X r Y) →
+        (y : Place) × (w : Level) × (d : Context) × (n : ℕ) × ArgSeats s k S y w d r Y × Leads Q (at x v c) (at y w d) n × (n ≤ applications t)
     arg_back x v c q r X Y g t =
         let a = seen.back g.0 g.4 g.2 q r X Y g.6 t in
         let b = keeps_along s g.0 a.0 g.4 g.1 a.1 g.2 a.2 a.3 g.5 a.5 in
-        let e = down_to k empty x g.0 v g.1 c g.2 g.3 a.0 b.0 a.2 b.2 b.3 in
-        (e.0, e.1, e.2, e.4, (a.0, b.0, a.2, e.3, a.1, b.1, a.4), e.6)
+        let e = down_to k empty x g.0 v g.1 c g.2 g.3 a.0 b.0 a.2 b.2 b.4 in
+        let few : e.4 ≤ applications t =
+        (
+        let i : a.3 ≤ applications t = a.6 in
+        let j : b.2 ≤ a.3 = b.3 in
+        let l : e.4 ≤ b.2 = e.5 in
+        omega arith
+        ) in
+        (e.0, e.1, e.2, e.4, (a.0, b.0, a.2, e.3, a.1, b.1, a.4), e.6, few)
 
     arg_wire : (n : ℕ) (f : Frame) → f.port ≡ p → f.levels ≡ ls → f.lams ≡ outer u → (z : Wire) (v : Level) (c : Context) (q : ℕ) (X : Context) → ArgSeats s k S (wire z) v c q X →
         (ms : List Level) × LeavesAs ((n, f) ∷ ch) z q ms × ((d : Context) → ArgSeats s k S (wire z) v d q (ahead ms d)) × (X ≡ ahead ms c)

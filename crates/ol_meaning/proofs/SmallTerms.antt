@@ -1,13 +1,12 @@
 -- Reductions of small terms.
-use Rattle.std.proofs.Common.{◌≡◌, ℕ, zero, suc, List, [], ◌∷◌, true, refl}
-use Rattle.ol_beta.specs.Leftmost.{IsNormal}
+use Rattle.std.proofs.Common.{zero, suc, [], ◌∷◌, true, refl}
 use Rattle.ol_beta.proofs.Redexes.{no_leftmost}
-use Rattle.ol_readback.specs.Whole.{Part, term, lost, none, more}
+use Rattle.ol_readback.specs.Whole.{term, lost, none, more}
 use Rattle.ol_readback.specs.declared.answers.HeadVar.TheVariants as head
-use Rattle.ol_meaning.specs.Spots.{Tree, var, free, lam, app, HeadStep, beta}
+use Rattle.ol_meaning.specs.Spots.{var, free, lam, app, HeadStep, beta}
 use Rattle.ol_meaning.specs.Heads.{done, step}
-use Rattle.ol_meaning.specs.Shows.{ready, contract, BetaReduces, LeftmostReduces, HeadReducesForever, Shows}
-use Rattle.ol_meaning.specs.Examples.{identity, twice, self, loops, EndsIn, Normalize, HasNoEnd, Unused, HasHeadAlone, SmallTerms}
+use Rattle.ol_meaning.specs.Shows.{ready, contract, HeadReducesForever, Shows}
+use Rattle.ol_meaning.specs.Examples.{identity, twice, self, loops, EndsIn, HasNoEnd, Unused, HasHeadAlone, SmallTerms}
 use Rattle.ol_meaning.proofs.Endless.{comes_to_none}
 use Rattle.ol_meaning.proofs.Endings.{has_no_end, no_redex}
 

@@ -1,7 +1,7 @@
 -- Small terms, so that it can be seen what the words for reductions and trees mean.
 use Rattle.std.specs.Prelude.{[], true}
 use Rattle.ol_beta.specs.Leftmost.{IsNormal}
-use Rattle.ol_readback.specs.Whole.{Part, term, lost, none, more}
+use Rattle.ol_readback.specs.Whole.{term, lost, none, more}
 use Rattle.ol_readback.specs.declared.answers.HeadVar.TheVariants as head
 use Rattle.ol_meaning.specs.Spots.{Tree, var, free, lam, app}
 use Rattle.ol_meaning.specs.Shows.{BetaReduces, LeftmostReduces, HeadReduces, HeadReducesForever, IsHeadNormal, Fills, Shows}

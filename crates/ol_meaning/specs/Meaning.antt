@@ -1,10 +1,11 @@
 -- The laws of what a printed tree says of its term.
-use Rattle.std.specs.Prelude.{◌≡◌, ℕ, Bool, true, List, [], ◌∷◌, ◌++◌, length, ◌↔◌}
-use Rattle.ol_net.specs.Nets.{NamedNet}
+use Rattle.std.specs.Prelude.{◌≡◌, ℕ, Bool, true, List, [], ◌∷◌, ◌++◌, length, ◌≤◌, ◌↔◌}
+use Rattle.ol_net.specs.Nets.{NamedNet, free}
+use Rattle.ol_context.specs.Paths.{Path}
 use Rattle.ol_translate.specs.Translation.{translation_of}
 use Rattle.ol_translate.specs.Names.{HasNames}
 use Rattle.ol_beta.specs.Leftmost.{IsNormal}
-use Rattle.ol_readback.specs.Frames.{Frame}
+use Rattle.ol_readback.specs.Frames.{Frame, asked}
 use Rattle.ol_readback.specs.Heads.{head, no_head, IsHead}
 use Rattle.ol_readback.specs.ReadTrees.{Subterm, framed}
 use Rattle.ol_readback.specs.Sources.{HasHeadsOf}
@@ -12,6 +13,7 @@ use Rattle.ol_readback.specs.Whole.{Part, preorder}
 use Rattle.ol_readback.specs.Terms.{HasAllHeads, abstracted, variable_of, term_of}
 use Rattle.ol_readback.specs.declared.answers.HeadVar.{HeadVar}
 use Rattle.ol_readback.specs.declared.answers.ReadNode.{ReadNode}
+use Rattle.ol_spots_net.specs.Spots.{applications}
 use Rattle.ol_meaning.specs.Spots.{Tree, Level, empty, star, Context, Place}
 use Rattle.ol_meaning.specs.Heads.{os, outer, Normal, Steps, SameAlong, Arg}
 use Rattle.ol_meaning.specs.Seen.{ahead, Chain, IsChain, scope, IsSeen, WholeSeats, Within, argument, seats_of}
@@ -46,6 +48,13 @@ ArgIsSeen = (N : NamedNet ℕ) (ch : Chain) (f : Frame) (t P : Tree) (p : Within
 pub record IsSeenAt {t P : Tree} (N : NamedNet ℕ) (F : List Frame) (s : Subterm) (ch : Chain) (p : Within t P) : Type 0 where
   pub chain : IsChain F (length F) s.parent ch
   pub seen : IsSeen N ch s.port s.levels P (seats_of p)
+
+-- A path that its frame has, asked for some number of abstractions, crosses at least as many applications as head steps lead from it
+-- to a head normal form.
+abbrev pub HeadIsReachedSoon : Type 0
+HeadIsReachedSoon = (N : NamedNet ℕ) (F : List Frame) (s : Subterm) (ch : Chain) (t P : Tree) (p : Within t P) → IsSeenAt N F s ch p →
+    (n q : ℕ) (X : Context) (r : Path N (free s.port) (asked s.levels n) q X) →
+    (u : Tree) × (m : ℕ) × (m ≤ applications r) × Steps P u m × IsHeadNormal u
 
 -- The head of its frame, by paths of any length, is that of a head normal form which head steps lead to: so many abstractions, this
 -- variable, and so many arguments.

@@ -1,9 +1,9 @@
 -- Where the spots of a subterm's interface stand in a net that is read back, and which binder the exits are of.
-use Rattle.std.specs.Prelude.{◌≡◌, ℕ, zero, suc, ◌-◌, ◌<◌, ◌⊎◌, List, [], ◌∷◌, ◌++◌, length, Option, Some, None}
+use Rattle.std.specs.Prelude.{◌≡◌, ℕ, zero, suc, ◌-◌, ◌<◌, ◌≤◌, ◌⊎◌, List, [], ◌∷◌, ◌++◌, length, Option, Some, None}
 use Rattle.ol_net.specs.Nets.{NamedNet, free}
 use Rattle.ol_context.specs.Paths.{Path}
 use Rattle.ol_readback.specs.Frames.{Frame, frame_at}
-use Rattle.ol_spots_net.specs.Spots.{place}
+use Rattle.ol_spots_net.specs.Spots.{place, applications}
 use Rattle.ol_meaning.specs.Spots.{Tree, Level, star, Context, cons, Wire, bound, name, under, Place, root, wire, at, Leads}
 use Rattle.ol_meaning.specs.Heads.{os, Steps, SameAlong, Arg, StandsAt}
 use Rattle.ol_meaning.specs.Spots.{empty}
@@ -55,7 +55,8 @@ Seats = Place → Level → Context → ℕ → Context → Type 0
 
 -- Subterm P, with these frames round it, is seen in the net at free port p behind these levels. Each spot of its root stands there, and
 -- each of its wires stands where the binder's or the name's exits are; no two stand at the same, nor one at two. From where a spot
--- stands the paths lead to just those exits at which the spots stand that it leads to in P alone.
+-- stands the paths lead to just those exits at which the spots stand that it leads to in P alone, where it crosses no more
+-- applications than the path.
 pub record IsSeen {A : Type 0} (N : NamedNet A) (ch : Chain) (p : ℕ) (ls : List Level) (P : Tree) (S : Seats) : Type 0 where
   pub at_root : (v : Level) (c : Context) → S root v c p (ahead ls (cons v c))
   pub at_wire : (z : Wire) (v : Level) (c : Context) (q : ℕ) (X : Context) → S (wire z) v c q X →
@@ -64,8 +65,8 @@ pub record IsSeen {A : Type 0} (N : NamedNet A) (ch : Chain) (p : ℕ) (ls : Lis
       (at x v c ≡ at y w d → (q ≡ r) × (X ≡ Y)) × (q ≡ r → X ≡ Y → at x v c ≡ at y w d)
   pub forth : (x y : Place) (v w : Level) (c d : Context) (n q : ℕ) (X : Context) → S x v c q X → Leads P (at x v c) (at y w d) n →
       (r : ℕ) × (Y : Context) × S y w d r Y × Path N (free q) X r Y
-  pub back : (x : Place) (v : Level) (c : Context) (q r : ℕ) (X Y : Context) → S x v c q X → Path N (free q) X r Y →
-      (y : Place) × (w : Level) × (d : Context) × (n : ℕ) × S y w d r Y × Leads P (at x v c) (at y w d) n
+  pub back : (x : Place) (v : Level) (c : Context) (q r : ℕ) (X Y : Context) → S x v c q X → (t : Path N (free q) X r Y) →
+      (y : Place) × (w : Level) × (d : Context) × (n : ℕ) × S y w d r Y × Leads P (at x v c) (at y w d) n × (n ≤ applications t)
 
 -- a whole term's spots stand at its net's own free ports
 abbrev pub WholeSeats : Seats

@@ -18,7 +18,7 @@ ghost use Rattle.ol_meaning.specs.Nets.{PathFindsHead, HeadHasPath};
 ghost use Rattle.ol_meaning.specs.Leftmost.{HeadIsLeftmost, OneSubstitution};
 ghost use Rattle.ol_meaning.specs.Meaning.{NormalIsHeadNormal, EndlessOrNormal};
 ghost use Rattle.ol_meaning.specs.Meaning.{WholeTermIsSeen, ArgIsSeen};
-ghost use Rattle.ol_meaning.specs.Meaning.{HeadIsReached, NoHeadIsEndless};
+ghost use Rattle.ol_meaning.specs.Meaning.{HeadIsReached, HeadIsReachedSoon, NoHeadIsEndless};
 ghost use Rattle.ol_meaning.specs.Meaning.{TreeShowsTerm, ShownIsReduct};
 ghost use Rattle.ol_meaning.specs.Meaning.{ShownIsNormalForm, ShownHasNoEnd};
 ghost use Rattle.ol_meaning.specs.Meaning.{PlacesSay};
@@ -126,10 +126,12 @@ pub fn seeing()
 {}
 
 /// The head of a frame, by paths of any length, is the head of the head normal form of the term
-/// that is seen there, with its variable and the number of its arguments. Where a frame has no
-/// head, head reduction of the term that is seen there has no end.
+/// that is seen there, with its variable and the number of its arguments. At most as many head
+/// steps lead there as the path crosses applications. Where a frame has no head, head reduction of
+/// the term that is seen there has no end.
 pub fn framing()
     ensures reached { HeadIsReached }
+    ensures soon { HeadIsReachedSoon }
     ensures none { NoHeadIsEndless }
 {}
 
