@@ -13,3 +13,15 @@ pub mod Walking
 pub mod Seats
 pub mod Rooted
 pub mod LeftmostSteps
+pub mod Shapes
+pub mod Endless
+pub mod Along
+pub mod Sights
+pub mod Matched
+pub mod Showing
+pub mod LeftmostRoads
+pub mod Filling
+pub mod Endings
+pub mod Grounds
+pub mod Based
+pub mod SmallTerms

@@ -1,4 +1,4 @@
--- HeadStep normal forms: the way to the head, and head reduction to one.
+-- Head normal forms: the way to the head, and head reduction to one.
 use Rattle.std.proofs.Common.{◌<◌, ◌≡◌, ℕ, zero, suc, ◌+◌, ◌≤◌, true, false, refl, sym, ap, ◌∙◌, subst, arith, ◌⊎◌, inl, inr}
 use Rattle.std.proofs.lemmas.Bool.{or_left}
 use Rattle.ol_meaning.specs.Spots.{Tree, var, free, lam, app, Level, empty, o, star, Context, cons, Wire, bound, name, occurs, left, Place, root, wire, at, Edge, var_wire, free_wire, app_root, app_left, Trail, on, is_abstraction, HeadStep, beta, below, before, Leads}

@@ -1,4 +1,4 @@
--- HeadStep normal forms and head reduction, what the root of a term leads to, and what stands below the head; with their laws.
+-- Head normal forms and head reduction, what the root of a term leads to, and what stands below the head; with their laws.
 use Rattle.std.specs.Prelude.{◌≡◌, ℕ, suc, ◌+◌, ◌≤◌, ◌<◌, ◌⊎◌, true}
 use Rattle.ol_meaning.specs.Spots.{Tree, var, free, lam, app, Level, empty, o, star, Context, cons}
 use Rattle.ol_meaning.specs.Spots.{Wire, bound, name, under, occurs, left, right}

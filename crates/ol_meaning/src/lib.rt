@@ -16,6 +16,13 @@ ghost use Rattle.ol_meaning.specs.Heads.{BinderStays};
 ghost use Rattle.ol_meaning.specs.Heads.{BelowHead, HatIsOne, RootStandsAtHead, ArgsAreThere};
 ghost use Rattle.ol_meaning.specs.Nets.{PathFindsHead, HeadHasPath};
 ghost use Rattle.ol_meaning.specs.Leftmost.{HeadIsLeftmost, OneSubstitution};
+ghost use Rattle.ol_meaning.specs.Meaning.{NormalIsHeadNormal, EndlessOrNormal};
+ghost use Rattle.ol_meaning.specs.Meaning.{WholeTermIsSeen, ArgIsSeen};
+ghost use Rattle.ol_meaning.specs.Meaning.{HeadIsReached, HeadIsReachedSoon, NoHeadIsEndless};
+ghost use Rattle.ol_meaning.specs.Meaning.{TreeShowsTerm, ShownIsReduct};
+ghost use Rattle.ol_meaning.specs.Meaning.{ShownIsNormalForm, ShownHasNoEnd};
+ghost use Rattle.ol_meaning.specs.Meaning.{PlacesSay};
+ghost use Rattle.ol_meaning.specs.Examples.{SmallTerms};
 
 /// A term that stands under more abstractions than before has the same edges, with their weights.
 pub fn lifting()
@@ -99,4 +106,52 @@ pub fn net_heads()
 pub fn head_is_leftmost()
     ensures step { HeadIsLeftmost }
     ensures same { OneSubstitution }
+{}
+
+/// The two ways to say what a head normal form is are one: abstractions round a variable or a free
+/// name with arguments, and a term whose head leaves at a place of its interface. Head reduction of
+/// a term has no end exactly where it comes to no head normal form.
+pub fn head_normal_forms()
+    ensures same { NormalIsHeadNormal }
+    ensures endless { EndlessOrNormal }
+{}
+
+/// A whole term is seen in its own net at the free ports. Where a term is seen, each argument of a
+/// head normal form to which head steps lead from it is seen too: at the port by which the head
+/// leaves, behind the levels of that exit and the number of the argument. So frames of read-back
+/// ask for terms.
+pub fn seeing()
+    ensures term { WholeTermIsSeen }
+    ensures argument { ArgIsSeen }
+{}
+
+/// The head of a frame, by paths of any length, is the head of the head normal form of the term
+/// that is seen there, with its variable and the number of its arguments. At most as many head
+/// steps lead there as the path crosses applications. Where a frame has no head, head reduction of
+/// the term that is seen there has no end.
+pub fn framing()
+    ensures reached { HeadIsReached }
+    ensures soon { HeadIsReachedSoon }
+    ensures none { NoHeadIsEndless }
+{}
+
+/// A tree whose heads are those of a term's own net shows the term: head reduction leads from the
+/// term to its head, and from the arguments to the heads below it. So the term reduces to the
+/// tree's own term with some term in the place of each place without a head or cut. Where each
+/// place has a head, leftmost reduction of the term ends in the tree's term, which is a beta-normal
+/// form. Where the places without a head are those of the net too, head reduction of a term in
+/// such a place has no end, and leftmost reduction of the whole term ends in no beta-normal form.
+pub fn meaning()
+    ensures shows { TreeShowsTerm }
+    ensures reduct { ShownIsReduct }
+    ensures normal { ShownIsNormalForm }
+    ensures endless { ShownHasNoEnd }
+    ensures places { PlacesSay }
+{}
+
+/// What the words mean, on small terms: three whose leftmost reduction ends in a normal form, one
+/// that has an argument without an end and doesn't use it, one with a head normal form alone, which
+/// the tree `\a. a ?` shows, and one whose head reduction has no end.
+pub fn small_terms()
+    ensures { SmallTerms }
 {}

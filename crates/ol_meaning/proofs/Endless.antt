@@ -1,0 +1,64 @@
+-- Head reduction ends in a head normal form, or has no end.
+use Rattle.std.proofs.Common.{◌≡◌, ℕ, zero, suc, ◌⊎◌, inl, inr, List, Some, sym, ap, ◌∙◌, subst}
+use Rattle.ol_beta.specs.Beta.{contracted}
+use Rattle.ol_meaning.specs.Spots.{Tree, Level, Wire, Place, HeadStep, beta, below, before}
+use Rattle.ol_meaning.specs.Heads.{Steps, done, step, Spine, head_var, head_free, head_app, Normal, flat, layer}
+use Rattle.ol_meaning.specs.Shows.{HeadReduces, HeadReducesForever, IsHeadNormal}
+use Rattle.ol_meaning.proofs.LeftmostSteps.{leftmost_step}
+use Rattle.ol_meaning.proofs.Walking.{normal_or_step}
+use Rattle.ol_meaning.proofs.Shapes.{normal_is, normal_of}
+
+one_of : (a b : List ℕ) → Some a ≡ Some b → a ≡ b
+one_of a b e = cc
+
+tree_of : (a b : Tree) → Some a ≡ Some b → a ≡ b
+tree_of a b e = cc
+
+-- a term has one head step
+pub one_step : {t a b : Tree} → HeadStep t a → HeadStep t b → a ≡ b
+one_step {t} {a} {b} g h =
+    let x = leftmost_step g in
+    let y = leftmost_step h in
+    let same : x.0 ≡ y.0 = one_of x.0 y.0 (sym x.1 ∙ y.1) in
+    tree_of a b (sym x.2 ∙ ap (contracted t) same ∙ y.2)
+
+-- ---- a head normal form has none
+
+spine_stops : {t v : Tree} {y : Wire} {a : Level} {j : ℕ} → Spine t y a j → HeadStep t v → ⊥
+spine_stops {v = v} (head_var {y = y}) x6 = elim x6 [ ]
+spine_stops {v = v} (head_free {f = f}) x7 = elim x7 [ ]
+spine_stops (head_app {P = P} {y = y} {a = a} {w = w} {j = j} s e) (beta {M = M}) = elim s [ ]
+spine_stops (head_app s e) (before f h) = spine_stops s h
+
+pub normal_stops : {t v : Tree} {q : Place} {a : Level} {j : ℕ} → Normal t q a j → HeadStep t v → ⊥
+normal_stops (flat s) h = spine_stops s h
+normal_stops (layer k o) (below h) = normal_stops k h
+
+-- ---- without end
+
+last_step : {t u v : Tree} {m : ℕ} → Steps t u m → HeadStep u v → Steps t v (suc m)
+last_step done h = step h done
+last_step (step g s) h = step g (last_step s h)
+
+-- what comes to no head normal form goes on
+pub forever : (t : Tree) → ((u : Tree) → HeadReduces t u → IsHeadNormal u → ⊥) → HeadReducesForever t
+forever t f zero = (t, done)
+forever t f (suc m) =
+    let r = forever t f m in
+    by r.0 r.1 (normal_or_step r.0)
+  where
+    by : (u : Tree) → Steps t u m → ((q : Place) × (a : Level) × (j : ℕ) × Normal u q a j) ⊎ ((v : Tree) × HeadStep u v) → (v : Tree) × Steps t v (suc m)
+    by u s (inl k) = absurd (f u (m, s) (normal_is k.3))
+    by u s (inr k) = (k.0, last_step s k.1)
+
+-- so many steps, and one more
+goes_on : {t u w : Tree} {m : ℕ} → Steps t u m → Steps t w (suc m) → (v : Tree) × HeadStep u v
+goes_on done (step {t' = v} h s) = (v, h)
+goes_on (step {t' = a} g s) (step {t' = b} {u = w} {m = m} h r) = goes_on s (subst (λ a. Steps a w m) (sym (one_step g h)) r)
+
+-- and what goes on comes to none
+pub comes_to_none : (t u : Tree) → HeadReducesForever t → HeadReduces t u → IsHeadNormal u → ⊥
+comes_to_none t u f s n =
+    let w = f (suc s.0) in
+    let v = goes_on s.1 w.1 in
+    normal_stops (normal_of n).3 v.1
