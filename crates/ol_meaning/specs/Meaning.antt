@@ -2,6 +2,7 @@
 use Rattle.std.specs.Prelude.{◌≡◌, ℕ, Bool, true, List, [], ◌∷◌, ◌++◌, length, ◌≤◌, ◌↔◌}
 use Rattle.ol_net.specs.Nets.{NamedNet, free}
 use Rattle.ol_context.specs.Paths.{Path}
+use Rattle.ol_term.specs.declared.translations.Translation.TheVariants.{One}
 use Rattle.ol_translate.specs.Translation.{translation_of}
 use Rattle.ol_translate.specs.Names.{HasNames}
 use Rattle.ol_beta.specs.Leftmost.{IsNormal}
@@ -34,7 +35,7 @@ EndlessOrNormal = (t : Tree) → HeadReducesForever t ↔ ((u : Tree) → HeadRe
 
 -- a whole term is seen in its own net, at the root's free port
 abbrev pub WholeTermIsSeen : Type 0
-WholeTermIsSeen = (t : Tree) (names : ℕ) → HasNames t names → IsSeen (translation_of t names) [] 0 [] t WholeSeats
+WholeTermIsSeen = (t : Tree) (names : ℕ) → HasNames t names → IsSeen (translation_of One t names) [] 0 [] t WholeSeats
 
 -- Where P is seen, head steps lead from it to a head normal form u, and the wire of u's head leaves by port q behind levels ms,
 -- there argument i of u is seen: behind ms and the level of argument i, with P's frame round it.
@@ -73,7 +74,7 @@ NoHeadIsEndless = (N : NamedNet ℕ) (F : List Frame) (s : Subterm) (ch : Chain)
 -- a tree that has the heads of a term's own net shows the term
 abbrev pub TreeShowsTerm : Type 0
 TreeShowsTerm = (t : Tree) (names : ℕ) → HasNames t names → (lost_too : Bool) (T : Part true) →
-    HasHeadsOf (translation_of t names) lost_too (preorder T) → Shows lost_too [] 0 T t
+    HasHeadsOf (translation_of One t names) lost_too (preorder T) → Shows lost_too [] 0 T t
 
 -- Where a tree shows a term, beta reduction leads from this to the tree's own term, with some term in the place of each hole.
 abbrev pub ShownIsReduct : Type 0
@@ -107,4 +108,4 @@ pub record SaysOf (t : Tree) (lost_too : Bool) (ns : List ReadNode) : Type 0 whe
 -- all this of the places of a tree with the heads of a term's own net
 abbrev pub PlacesSay : Type 0
 PlacesSay = (t : Tree) (names : ℕ) → HasNames t names → (lost_too : Bool) (T : Part true) (ns : List ReadNode) → preorder T ≡ ns →
-    HasHeadsOf (translation_of t names) lost_too ns → SaysOf t lost_too ns
+    HasHeadsOf (translation_of One t names) lost_too ns → SaysOf t lost_too ns
