@@ -1,8 +1,8 @@
 //! The pool of cells, shared by the workers.
 ghost use Rattle.std.specs.Prelude.{◌≡◌, ◌↔◌, ℕ, ◌<◌, ◌≤◌, ◌∷◌, [], ◌++◌, length, IfOk, IfErr, IfSome, IfNone, IsNone, IsTrue, OnOk, OnErr, vec_len, All};
 ghost use Rattle.crossbeam_deque.specs.Handles.{stealer_deque};
-ghost use Rattle.ol_pool.specs.Looks.{CountsOne, Missed, GaveNone, OneGave};
-ghost use Rattle.ol_pool.specs.Pools.{IsHandOf, AreDealt, part_of};
+ghost use Rattle.ol_pool.specs.Looks.{CountsOne, EachMissed, GaveNone, OneGave};
+ghost use Rattle.ol_pool.specs.Pools.{IsHandOf, AreDealt, TookFirst, part_of};
 ghost use Rattle.ol_pool.specs.Owned.{IsDequeAt};
 
 use crate::deques::Thief;
@@ -112,8 +112,9 @@ impl Pool {
         ensures number { hand.new.number ≡ hand.old.number }
         ensures sent { hand.new.sent ≡ hand.old.sent }
         ensures refused { hand.new.refused ≡ hand.old.refused }
-        ensures one { IfSome result (λ cell. OneGave self.now.hands cell (part_of hand.old) (part_of hand.new)) }
-        ensures all { IfNone result ((p : ℕ) → p < self.now.hands → Missed (part_of hand.old p) (part_of hand.new p)) }
+        ensures one { IfSome result (OneGave self.now.hands (part_of hand.old) (part_of hand.new)) }
+        ensures first { IfSome result (TookFirst hand.old hand.new) }
+        ensures all { IfNone result (EachMissed self.now.hands (part_of hand.old) (part_of hand.new)) }
         ensures stay { IfNone result ((p : ℕ) → GaveNone (part_of hand.old p) (part_of hand.new p)) }
     {
         let own = hand.number();
@@ -122,9 +123,12 @@ impl Pool {
     }
 
     /// Takes a cell: first from the hand's own part, then from each other part in the order of their
-    /// numbers after it. It waits for nobody, and takes no memory.
+    /// numbers after it, and on from 0. It waits for nobody, and takes no memory.
     ///
-    /// None: each part was looked at and gave no cell, and the hand has `missed`.
+    /// A cell came from a part only where each part before it in this order gave none: it was empty,
+    /// or another's step was in the way of two looks at it.
+    ///
+    /// None: each part gave none likewise, and the hand has `missed`.
     pub fn take(&self, hand: &mut Hand) -> Option<u32>
         requires hand { IsHandOf hand.old self.now }
         ensures below { IfSome result (λ cell. cell < self.now.cells) }
@@ -133,8 +137,9 @@ impl Pool {
         ensures number { hand.new.number ≡ hand.old.number }
         ensures sent { hand.new.sent ≡ hand.old.sent }
         ensures refused { hand.new.refused ≡ hand.old.refused }
-        ensures one { IfSome result (λ cell. OneGave self.now.hands cell (part_of hand.old) (part_of hand.new)) }
-        ensures all { IfNone result ((p : ℕ) → p < self.now.hands → Missed (part_of hand.old p) (part_of hand.new p)) }
+        ensures one { IfSome result (OneGave self.now.hands (part_of hand.old) (part_of hand.new)) }
+        ensures first { IfSome result (TookFirst hand.old hand.new) }
+        ensures all { IfNone result (EachMissed self.now.hands (part_of hand.old) (part_of hand.new)) }
         ensures stay { IfNone result ((p : ℕ) → GaveNone (part_of hand.old p) (part_of hand.new p)) }
     {
         let taken = self.search(hand);
