@@ -46,7 +46,7 @@ none_round vs [] v e = refl
 none_round vs (p ∷ ps) v e = absurd (omega arith)
 
 -- marks, packs and empties are apart
-marked_empty : (s : ℕ) (v : Level) → marked s v ≡ empty → ⊥
+pub marked_empty : (s : ℕ) (v : Level) → marked s v ≡ empty → ⊥
 marked_empty zero v e = absurd (cc)
 marked_empty (suc s) v e = absurd (cc)
 

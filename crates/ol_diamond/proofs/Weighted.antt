@@ -25,6 +25,7 @@ use Rattle.ol_diamond.proofs.Confluence.{fresh_in, step_keeps, take, pair_is, pa
 use Rattle.ol_diamond.proofs.Journals.{AreSamePairs}
 use Rattle.ol_diamond.proofs.Orders as orders
 use Rattle.ol_diamond.proofs.Orders.{Commuting}
+use Rattle.ol_rules.proofs.Waiting.{nat_is}
 
 abbrev Port : Type 0
 Port = NamedPort BirthName
@@ -347,15 +348,8 @@ weighted_square s t u p q g h h' other =
       },
     )
 
-number_is : (m n : ℕ) → (m ≡ n) ⊎ (m ≢ n)
-number_is m n = go (nat_eq m n) refl
-  where
-    go : (b : Bool) → nat_eq m n ≡ b → (m ≡ n) ⊎ (m ≢ n)
-    go true e = inl (eqb-true m n e)
-    go false e = inr (λ q. let h = eq-eqb m n q in cc)
-
 label_is : (p q : Label) → IsSameWave p q ⊎ (IsSameWave p q → ⊥)
-label_is p q = go (pair_is p.0 q.0) (number_is p.1 q.1)
+label_is p q = go (pair_is p.0 q.0) (nat_is p.1 q.1)
   where
     go : IsSamePair p.0 q.0 ⊎ (IsSamePair p.0 q.0 → ⊥) → (p.1 ≡ q.1) ⊎ (p.1 ≢ q.1) → IsSameWave p q ⊎ (IsSameWave p q → ⊥)
     go (inl h) (inl e) = inl (h, e)

@@ -9,6 +9,7 @@ use Rattle.ol_net.specs.declared.parts.Kind.TheVariants as kind
 use Rattle.ol_net.specs.declared.parts.Rule.TheVariants as rule
 use Rattle.ol_rules.specs.Rewriting.{index_after}
 use Rattle.ol_invariance.specs.Tables.{IndexesAgree, two_facing, turned_joins, TurnedJoinsLoseAPath, facing_fan, past_fan, IsOnlyIndexPast}
+use Rattle.ol_context.proofs.LeafMoves.{marked_empty}
 
 pub indexes_agree : IndexesAgree
 indexes_agree kind.Fan r i n e = let q : rule.CrossFan ≡ r = cc in subst (λ r. index_after r (i + suc n) ≡ i + suc n) q refl
@@ -106,12 +107,8 @@ marked_past k n {c = c} (goes {d = d} {x = x} {k = l} {i = i} {s = s} {t = t} l'
     let changed : up kind.Fan n from.0 d ≡ c = subst (λ i. up kind.Fan i from.0 d ≡ c) fan.1 (subst (λ l. up l i from.0 d ≡ c) fan.0 from.1) in
     (from.0, d n, sym (at_its_level n from.0 d) ∙ ap (λ (e : Context). e n) changed)
 
-not_empty : (s : ℕ) (v : Level) → marked s v ≡ empty → ⊥
-not_empty zero v e = absurd (cc)
-not_empty (suc s) v e = absurd (cc)
-
 bare : (c : Context) (n : ℕ) → c n ≡ empty → Marked c n → ⊥
-bare c n e m = not_empty m.0 m.1 (m.2 ∙ e)
+bare c n e m = marked_empty m.0 m.1 (m.2 ∙ e)
 
 -- an o at level 0
 pub past_croissant : IsOnlyIndexPast kind.Croissant 0

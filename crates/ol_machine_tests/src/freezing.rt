@@ -3,8 +3,8 @@ ghost use Rattle.std.specs.Prelude.{◌≡◌, ◌<◌, ◌≤◌, IfOk};
 ghost use Rattle.ol_wire.specs.Stand.{IsNewSeat, IsSeatOf};
 ghost use Rattle.ol_wire.specs.Idle.{IsIdle};
 
-use ol_reduce::freeze;
 use ol_net::{Kind, Net, NodeId, Port};
+use ol_reduce::freeze;
 use ol_wire::{Seat, Shared, Turn};
 use std::alloc::Global;
 use std::process::Abort;

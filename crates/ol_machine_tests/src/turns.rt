@@ -2,8 +2,8 @@
 ghost use Rattle.std.specs.Prelude.{◌≡◌, ◌<◌, ◌≤◌, All, IfOk};
 ghost use Rattle.ol_wire.specs.Stand.{IsNewSeat, IsSeatOf};
 
-use ol_wire::{Seat, Shared, Turn};
 use ol_net::{Kind, Net, NodeId, Port, Rule};
+use ol_wire::{Seat, Shared, Turn};
 use std::alloc::Global;
 use std::process::Abort;
 use std::test::Fail;

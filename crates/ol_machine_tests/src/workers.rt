@@ -4,10 +4,10 @@ ghost use Rattle.ol_reduce.specs.Works.{IsWorker};
 ghost use Rattle.ol_wire.specs.Layout.{cells_of};
 ghost use Rattle.ol_wire.specs.Sizes.{IsSmallNet};
 
-use ol_reduce::{End, Reduced, Sweep, Worker, reduce, sweep, worker};
 use ol_io::{NoMemory, OpenGate};
 use ol_net::{Kind, Net, NodeId, Port};
 use ol_pool::Pool;
+use ol_reduce::{End, Reduced, Sweep, Worker, reduce, sweep, worker};
 use ol_wire::Shared;
 use std::alloc::Global;
 use std::test::Fail;

@@ -1,8 +1,8 @@
 //! Traces of small terms, whole and broken.
 
-use ol_view::{Check, check, trace_text};
 use ol_net::{Kind, Net, NodeId, Port};
 use ol_rules::run;
+use ol_view::{Check, check, trace_text};
 use std::alloc::Global;
 use std::process::Abort;
 use std::test::Fail;

@@ -3,9 +3,9 @@
 ghost use Rattle.std.specs.Prelude.{◌≡◌, Some};
 ghost use Rattle.ol_net.specs.Graph.{partner_of};
 
-use ol_netfile::{NetFault, read_net, write_net};
 use ol_io::NoMemory;
 use ol_net::{BuildFault, JoinEnd, Kind, Net, NodeId, Port};
+use ol_netfile::{NetFault, read_net, write_net};
 use std::alloc::Global;
 use std::process::Abort;
 use std::test::Fail;

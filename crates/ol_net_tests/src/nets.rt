@@ -3,8 +3,8 @@
 ghost use Rattle.std.specs.Prelude.{◌≡◌, Some};
 ghost use Rattle.ol_net.specs.Graph.{partner_of};
 
-use ol_net::{BuildFault, Facing, JoinEnd, Kind, Net, NodeId, Port, Rule};
 use ol_io::NoMemory;
+use ol_net::{BuildFault, Facing, JoinEnd, Kind, Net, NodeId, Port, Rule};
 use std::alloc::Global;
 use std::process::Abort;
 use std::test::Fail;

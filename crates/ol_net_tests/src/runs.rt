@@ -1,7 +1,7 @@
 //! Whole runs of one small term.
 
-use ol_rules::{Counts, Ended, Entry, Journal, NodeName, Ran, counts, run};
 use ol_net::{Kind, Net, NodeId, Port, Rule};
+use ol_rules::{Counts, Ended, Entry, Journal, NodeName, Ran, counts, run};
 use std::alloc::Global;
 use std::process::Abort;
 use std::test::Fail;

@@ -1,7 +1,7 @@
 //! The net of one small term, step by step.
 
-use ol_rules::{StepFault, step};
 use ol_net::{Kind, Net, NodeId, Port, Rule};
+use ol_rules::{StepFault, step};
 use std::alloc::Global;
 use std::process::Abort;
 use std::test::Fail;

@@ -3,6 +3,7 @@ use Rattle.std.proofs.Common.{◌≡◌, ◌∙◌, ℕ, zero, suc, ◌+◌, ◌
 use Rattle.std.specs.Option.{ForSome}
 use Rattle.std.proofs.lemmas.List.{reverse-append}
 use Rattle.std.proofs.lemmas.List.Elements.{All-head, All-tail, All-cons, All-nil, All-map, All-weaker}
+use Rattle.std.proofs.lemmas.List.{map_push}
 use Rattle.ol_pool.specs.declared.deques.Log.{Log}
 use Rattle.ol_pool.specs.Deques.{log, lends}
 use Rattle.ol_pool.specs.Looks.{part_at, new_part}
@@ -10,10 +11,6 @@ use Rattle.ol_pool.specs.Owned.{OwnState, ReachState, reach_part, own_part, IsRe
 use Rattle.ol_pool.specs.Handed.{deques_of, pool_of, new_hand, IsHand}
 use Rattle.ol_pool.specs.Pools.{DequeId, PoolState, HandState, IsHandOf, IsNewHand, AreDealt}
 use Rattle.ol_pool.proofs.Places.{same_some, all_at, map_long}
-
-pub map_snoc : {X Y : Type 0} (f : X → Y) (xs : List X) (x : X) → map f (xs ++ x ∷ []) ≡ map f xs ++ f x ∷ []
-map_snoc f [] x = refl
-map_snoc f (y ∷ xs) x = ap (λ l. f y ∷ l) (map_snoc f xs x)
 
 pub long_snoc : {X : Type 0} (xs : List X) (x : X) → length (xs ++ x ∷ []) ≡ length xs + 1
 long_snoc [] x = refl

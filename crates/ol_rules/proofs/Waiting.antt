@@ -20,7 +20,7 @@ use Rattle.ol_rules.specs.Running.{AllWait, OthersWait, StillWait, IsLeast, HasP
 use Rattle.ol_rules.proofs.FreshPairs.{linked_sym, active_after, gone}
 use Rattle.ol_rules.proofs.UnderWay.{node_below, the_pair}
 
-nat_is : (m n : ℕ) → (m ≡ n) ⊎ (m ≢ n)
+pub nat_is : (m n : ℕ) → (m ≡ n) ⊎ (m ≢ n)
 nat_is m n = grind arith
 
 differs : (k q : ℕ) → q ≢ k → is_eq (nat_cmp k q) ≡ false

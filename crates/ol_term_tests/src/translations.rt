@@ -4,9 +4,9 @@ ghost use Rattle.std.specs.Prelude.{◌≡◌, ◌≤◌, ◌+◌, true, length,
 ghost use Rattle.ol_term.specs.Trees.{tree_of, var, lam, app, is_below, is_named_below, depth};
 ghost use Rattle.ol_translate.specs.Names.{HasNames};
 
-use ol_translate::{TransFault, translate};
 use ol_net::{Kind, Net, NodeId, Port};
 use ol_term::{Names, Term, TermFile};
+use ol_translate::{TransFault, translate};
 use std::alloc::Global;
 use std::process::Abort;
 use std::test::Fail;

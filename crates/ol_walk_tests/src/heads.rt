@@ -4,9 +4,9 @@ ghost use Rattle.std.specs.Prelude.{◌≡◌, ℕ, ◌<◌, List, length, IfOk}
 ghost use Rattle.ol_context.specs.Contexts.{Level};
 ghost use Rattle.ol_readback.specs.Frames.{frames_of, ParentsFirst, AreHeldFrames, AreAtPorts};
 
-use ol_readback::{Frame, Head, HeadVar, Levels, head, leave, read_back, tree_text};
 use ol_context::{Context, Values};
 use ol_net::{Kind, Net, NodeId, Port};
+use ol_readback::{Frame, Head, HeadVar, Levels, head, leave, read_back, tree_text};
 use ol_term::Names;
 use std::alloc::{AllocError, Global};
 use std::test::Fail;

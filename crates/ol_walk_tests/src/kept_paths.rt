@@ -3,8 +3,8 @@
 ghost use Rattle.std.specs.Prelude.{IfOk};
 ghost use Rattle.ol_context.specs.Shapes.{IsHeld, AreHeld};
 
-use ol_invariance::{run_kept, step_kept};
 use ol_context::{Context, Shape, Val, Values, Walk, walk};
+use ol_invariance::{run_kept, step_kept};
 use ol_net::{Kind, Net, NodeId, Port, Rule};
 use ol_rules::{Counts, Ended, Ran, StepFault, counts};
 use std::alloc::{AllocError, Global};

@@ -6,8 +6,8 @@ ghost use Rattle.ol_context.specs.Shapes.{AreHeld};
 ghost use Rattle.ol_readback.specs.Frames.{frames_of, ParentsFirst, AreHeldFrames};
 
 use crate::heads::root_alone;
-use ol_readback::{Frame, Head, HeadVar, leave};
 use ol_context::{Context, Values};
+use ol_readback::{Frame, Head, HeadVar, leave};
 use std::alloc::Global;
 use std::process::Abort;
 use std::test::Fail;

@@ -1,90 +1,16 @@
 //! Walks over the translations of four terms, with their exact levels.
 
-ghost use Rattle.std.specs.Prelude.{◌≡◌, ◌<◌, IfOk};
-ghost use Rattle.ol_context.specs.Shapes.{IsHeld, AreHeld, Extends};
+ghost use Rattle.std.specs.Prelude.{◌≡◌, ◌<◌};
 
-use ol_context::{Context, OpenWalk, Shape, Steps, Val, Values, Walk, walk, walk_open};
-use ol_io::NoMemory;
+use crate::level_texts::assert_walks;
+use ol_context::{OpenWalk, Steps, Values, walk_open};
 use ol_net::Net;
 use ol_parse::parse;
 use ol_translate::translate;
-use std::alloc::{AllocError, Global};
+use std::alloc::Global;
 use std::marker::Brand;
 use std::sync::ledger::{Blank, Ledger};
 use std::test::Fail;
-
-/// Appends a level value, as in `*.<empty,o.empty>`.
-fn spell(values: &Values, v: Val, text: &mut String) -> Result<(), AllocError>
-    requires { IsHeld values.now v }
-{
-    match values.shape(v) {
-        Shape::Empty => text.push_str("empty"),
-        Shape::O(a) => {
-            text.push_str("o.")?;
-            spell(values, a, text)
-        }
-        Shape::Star(a) => {
-            text.push_str("*.")?;
-            spell(values, a, text)
-        }
-        Shape::Pair(a, b) => {
-            text.push_str("<")?;
-            spell(values, a, text)?;
-            text.push_str(",")?;
-            spell(values, b, text)?;
-            text.push_str(">")
-        }
-    }
-}
-
-/// The levels below 8 that are not empty, each after its number.
-fn spelled(alloc: Global, values: &Values, context: &Context) -> Result<String, AllocError>
-    requires { AreHeld values.now context.now }
-{
-    let mut text = String::new(alloc);
-    for k in 0..8 {
-        let level = context.level(values, k);
-        if !matches!(values.shape(level), Shape::Empty) {
-            text.push_str(format!(in alloc; " {k}:")?.as_str())?;
-            spell(values, level, &mut text)?;
-        }
-    }
-    Ok(text)
-}
-
-/// A sign before a value: `*`, and else `o`.
-fn put(values: &mut Values, sign: u8, v: Val) -> Result<Val, NoMemory>
-    requires { IsHeld values.old v }
-    ensures extends { Extends values.old values.new }
-    ensures held { IfOk result (λ w. IsHeld values.new w) }
-{
-    if sign == b'*' {
-        return values.put_star(v);
-    }
-    values.put_o(v)
-}
-
-/// These signs before the empty value.
-fn signed(values: &mut Values, signs: &str) -> Result<Val, NoMemory>
-    ensures extends { Extends values.old values.new }
-    ensures held { IfOk result (λ v. IsHeld values.new v) }
-{
-    let mut v = values.empty();
-    for sign in signs.as_bytes().iter().rev() {
-        v = put(values, *sign, v)?;
-    }
-    Ok(v)
-}
-
-/// The context that begins with two levels of such signs.
-fn begun(alloc: Global, values: &mut Values, signs: [&str; 2]) -> Result<Context, Fail>
-    ensures { IfOk result (λ c. AreHeld values.new c) }
-{
-    let [first, second] = signs;
-    let a = signed(values, first)?;
-    let b = signed(values, second)?;
-    Ok(Context::of(vec![in alloc; a, b]?))
-}
 
 /// The translation of a term.
 fn net_of(alloc: Global, input: &str) -> Result<Net, Fail> {
@@ -96,27 +22,6 @@ fn net_of(alloc: Global, input: &str) -> Result<Net, Fail> {
     Ok(net)
 }
 
-/// What a walk from a free port answers that begins with these levels.
-fn walked(alloc: Global, net: &Net, from: u32, signs: [&str; 2]) -> Result<String, Fail> {
-    if from >= net.free_ports() {
-        return Err(Fail::from("no such port"));
-    }
-    let mut values = Values::new(alloc);
-    let context = begun(alloc, &mut values, signs)?;
-    match walk(net, &mut values, from, context, 200)? {
-        Walk::Exit {
-            port,
-            context,
-            crossings,
-        } => {
-            let levels = spelled(alloc, &values, &context)?;
-            Ok(format!(in alloc; "{crossings} to {port} with{levels}")?)
-        }
-        Walk::Undefined { crossings } => Ok(format!(in alloc; "undefined at {crossings}")?),
-        Walk::Budget => Ok(format!(in alloc; "budget")?),
-    }
-}
-
 /// A shared name leaves with `o` and its argument by another context; without eta the head needs an
 /// abstraction; the level of a head past two duplications is nested.
 #[test]
@@ -125,25 +30,24 @@ fn walks_leave_with_their_levels(rt: HostRuntime) -> Result<(), Fail> {
     let nested = "let t = \\f x. f (f x) in t t";
     let pair = "(\\x. x x) (\\y. y)";
     let rows = [
-        ("\\x. f x", 0, ["", ""], "undefined at 1"),
-        ("\\x. f x", 0, ["o", ""], "3 to 1 with 1:o.empty"),
-        ("x x", 0, ["", ""], "3 to 1 with 0:o.empty 1:o.empty"),
-        ("x x", 1, ["o", "*"], "6 to 1 with 0:*.<empty,empty>"),
-        (nested, 0, ["", ""], "undefined at 9"),
-        (nested, 0, ["o", ""], "undefined at 25"),
+        ("\\x. f x", 0, ["", "", ""], "undefined at 1"),
+        ("\\x. f x", 0, ["o", "", ""], "3 to 1 with 1:o.empty"),
+        ("x x", 0, ["", "", ""], "3 to 1 with 0:o.empty 1:o.empty"),
+        ("x x", 1, ["o", "*", ""], "6 to 1 with 0:*.<empty,empty>"),
+        (nested, 0, ["", "", ""], "undefined at 9"),
+        (nested, 0, ["o", "", ""], "undefined at 25"),
         (
             nested,
             0,
-            ["oo", ""],
+            ["oo", "", ""],
             "91 to 0 with 0:*.<<empty,o.empty>,o.empty> 1:o.empty",
         ),
-        (pair, 0, ["", ""], "undefined at 21"),
-        (pair, 0, ["o", ""], "43 to 0 with 0:*.empty"),
+        (pair, 0, ["", "", ""], "undefined at 21"),
+        (pair, 0, ["o", "", ""], "43 to 0 with 0:*.empty"),
     ];
     for (input, from, signs, wanted) in rows {
         let net = net_of(alloc, input)?;
-        let answer = walked(alloc, &net, from, signs)?;
-        assert_eq!(rt; answer.as_str(), wanted);
+        assert_walks(&rt, alloc, &net, &[(from, signs, 200, wanted)])?;
     }
     Ok(())
 }

@@ -2,8 +2,8 @@
 //!
 //! Were such a line in the table, the law that a step keeps the paths would be false.
 
-use ol_invariance::step_kept;
 use crate::kept_paths::{Sign, of, walked};
+use ol_invariance::step_kept;
 use ol_net::{Kind, Net, NodeId, Port};
 use std::alloc::Global;
 use std::process::Abort;

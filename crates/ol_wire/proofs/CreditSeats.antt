@@ -16,7 +16,7 @@ use Rattle.ol_wire.specs.Rule.{Table, Kept, IsView}
 use Rattle.ol_wire.proofs.StepsLists.{total_set, total_cut, each_set, each_cut}
 use Rattle.ol_wire.proofs.CreditSums.{sum_most, active_le, total_least, total_ones}
 
-or_true : (a b : Bool) (X : Type 0) → (a ≡ true → X) → (b ≡ true → X) → (a || b) ≡ true → X
+pub or_true : (a b : Bool) (X : Type 0) → (a ≡ true → X) → (b ≡ true → X) → (a || b) ≡ true → X
 or_true true b X f g e = f refl
 or_true false b X f g e = g e
 

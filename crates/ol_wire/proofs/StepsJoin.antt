@@ -26,7 +26,7 @@ use Rattle.ol_wire.specs.Rule.{KnowsPlan, Table, Kept, WordsKeep, CellsKeep, Sea
 use Rattle.ol_wire.proofs.Alike.{total_append}
 use Rattle.ol_wire.proofs.StepsLists.{total_set, each_set, pending_set, one_below}
 use Rattle.ol_wire.specs.Credit.{IsRuled}
-use Rattle.ol_wire.proofs.CreditSeats.{join_pays}
+use Rattle.ol_wire.proofs.CreditSeats.{join_pays, or_true}
 use Rattle.ol_wire.proofs.StepsLinkLists.{at_number, number_once}
 
 or_past : (a b : Bool) (m n : ℕ) → (if a then m else 0) + (if b then n else 0) ≤ (if a || b then m + n else 0)
@@ -34,10 +34,6 @@ or_past true true m n = omega arith
 or_past true false m n = omega arith
 or_past false true m n = omega arith
 or_past false false m n = omega arith
-
-or_true : (a b : Bool) (X : Type 0) → (a ≡ true → X) → (b ≡ true → X) → (a || b) ≡ true → X
-or_true true b X f g e = f refl
-or_true false b X f g e = g e
 
 no_more : {A : Type 0} (x : A) (xs : List A) → xs ≡ [] → IsIn x xs → ⊥
 no_more {A} x xs e i = subst (λ (ys : List A). IsIn x ys) e i

@@ -2,6 +2,7 @@
 use Rattle.std.proofs.Common.{ℕ, ◌≡◌, ◌∙◌, sym, ap, refl, arith, true, false, List, [], ◌∷◌, ◌++◌, Option, Some, None, map, option_map, if◌then◌else◌, ◌<◌, ◌≤◌, ◌+◌, ◌-◌, length, drop, slice_index_or, String, string_bytes, append-nil, append_assoc}
 use Rattle.std.specs.declared.alloc.Global.{Global}
 use Rattle.std.proofs.lemmas.List.{drop_more, drop_all, length-drop}
+use Rattle.std.proofs.lemmas.List.{map_push}
 use Rattle.ol_words.specs.Texts.{texts_of}
 use Rattle.std.specs.Borrow.{Bor}
 use Rattle.ol_words.specs.Texts.{Text}
@@ -91,16 +92,12 @@ pub none_left : (known : Known) (os : List (Text × Text)) (ns : List Text) (wai
     → so_far known os ns waiting (texts_of (drop i words)) ≡ so_far known os ns waiting []
 none_left known os ns waiting words i end = ap (λ l. so_far known os ns waiting (texts_of l)) (drop_all i words end)
 
-map_more : {X Y : Type 0} (f : X → Y) (xs : List X) (x : X) → map f (xs ++ x ∷ []) ≡ map f xs ++ f x ∷ []
-map_more f [] x = refl
-map_more f (y ∷ xs) x = ap (λ l. f y ∷ l) (map_more f xs x)
-
 pub option_pushed : (now before : List (Bor Text × Bor Text)) (option value : Bor Text) → now ≡ before ++ (option, value) ∷ []
     → seen now ≡ seen before ++ (option.now, value.now) ∷ []
-option_pushed now before option value is = ap seen is ∙ map_more (λ p. (p.0.now, p.1.now)) before (option, value)
+option_pushed now before option value is = ap seen is ∙ map_push (λ p. (p.0.now, p.1.now)) before (option, value)
 
 pub name_pushed : (now before : List (Bor Text)) (name : Bor Text) → now ≡ before ++ name ∷ [] → map (λ n. n.now) now ≡ map (λ n. n.now) before ++ name.now ∷ []
-name_pushed now before name is = ap (λ l. map (λ (n : Bor Text). n.now) l) is ∙ map_more (λ n. n.now) before name
+name_pushed now before name is = ap (λ l. map (λ (n : Bor Text). n.now) l) is ∙ map_push (λ n. n.now) before name
 
 pub went_on : (known : Known) (os os' : List (Text × Text)) (ns ns' : List Text) (w w' : Option Text) (rest : List Text) (all : Option Line)
     → os ≡ os' → ns ≡ ns' → w ≡ w' → so_far known os' ns' w' rest ≡ all → so_far known os ns w rest ≡ all
