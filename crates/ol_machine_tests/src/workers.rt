@@ -65,7 +65,9 @@ fn alone(alloc: Global, net: &Net, fuel: u32) -> Result<(Shared, Pool, Worker), 
     let seat = seats.pop().unwrap();
     let mut hand = hands.pop().unwrap();
     if 0 < pool.cells() {
-        pool.put(&mut hand, 0)?;
+        let Ok(()) = pool.put(&mut hand, 0) else {
+            return Err(NoMemory);
+        };
     }
     let number = hand.number();
     Ok((table, pool, Worker::new(number, seat, hand)))

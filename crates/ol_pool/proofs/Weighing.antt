@@ -1,5 +1,5 @@
 -- The weight of what parts gave, after one gave a cell, and after none did.
-use Rattle.std.proofs.Common.{◌≡◌, ◌≢◌, ◌∙◌, ℕ, zero, suc, ◌+◌, List, [], ◌∷◌, ◌++◌, refl, sym, ap, arith}
+use Rattle.std.proofs.Common.{◌≡◌, ◌≢◌, ℕ, zero, suc, ◌+◌, List, [], ◌∷◌, ◌++◌, refl, sym, ap, arith}
 use Rattle.ol_pool.specs.Looks.{Part, part_at, GaveNone, OneGave}
 use Rattle.ol_pool.specs.Weights.{weigh, weigh_parts}
 use Rattle.ol_pool.proofs.Balances.{weigh_append}
@@ -36,7 +36,7 @@ one_weighs h (x ∷ old) (y ∷ new) (suc p) cell gave same =
     let e = ap (weigh h) (same 0 (λ n. past p (sym n))) in let r = one_weighs h old new p cell gave (λ q n. same (suc q) (λ m. n (omega arith))) in omega arith
 
 -- of a hand's take
-pub taken_weighs : (h : ℕ → ℕ) (old new : List Part) (parts cell : ℕ) → OneGave parts cell (part_at old) (part_at new) → weigh_parts h new ≡ weigh_parts h old + h cell
+pub taken_weighs : (h : ℕ → ℕ) (old new : List Part) (parts cell : ℕ) → OneGave parts (part_at old) (part_at new) cell → weigh_parts h new ≡ weigh_parts h old + h cell
 taken_weighs h old new parts cell gave = one_weighs h old new gave.0 cell gave.2.0 (λ q n. (gave.3 q n).0)
 
 pub missed_weighs : (h : ℕ → ℕ) (old new : List Part) → ((p : ℕ) → GaveNone (part_at old p) (part_at new p)) → weigh_parts h new ≡ weigh_parts h old

@@ -2,7 +2,7 @@
 use Rattle.std.specs.Prelude.{◌≡◌, ℕ, Bool, false, List, [], slice_get}
 use Rattle.std.specs.Option.{ForSome}
 use Rattle.std.specs.declared.alloc.Global.{Global}
-use Rattle.ol_pool.specs.Looks.{Part, part_at, new_part}
+use Rattle.ol_pool.specs.Looks.{Part, part_at, new_part, FirstGave}
 
 -- which deque it is
 abbrev pub DequeId : Type 0
@@ -31,6 +31,10 @@ IsHandOf hand pool = hand.pool ≡ pool
 -- what the hand knows of the part of a number
 abbrev pub part_of : HandState → ℕ → Part
 part_of hand p = part_at hand.parts p
+
+-- the hand was given this cell, and each part of the pool before the one that gave it was missed, from the hand's own on
+abbrev pub TookFirst : HandState → HandState → ℕ → Type 0
+TookFirst old new cell = FirstGave old.number old.pool.hands (part_of old) (part_of new) cell
 
 -- a hand of a pool that made no call yet
 pub record IsNewHand (of : PoolState) (k : ℕ) (hand : HandState) : Type 0 where

@@ -1,6 +1,6 @@
 //! A search for a cell over all parts of a pool, whatever they are made of.
 ghost use Rattle.std.specs.Prelude.{◌≡◌, ◌≢◌, ℕ, ◌<◌, IfSome, IfNone, MatchOption};
-ghost use Rattle.ol_pool.specs.Looks.{Part, HasCounts, Tells, Gave, GaveNone, Missed, OneGave};
+ghost use Rattle.ol_pool.specs.Looks.{Part, HasCounts, Tells, Gave, GaveNone, Missed, EachMissed, OneGave, FirstGave};
 
 /// What one look at a part answers.
 #[derive(Debug, PartialEq, Clone, Copy)]
@@ -15,8 +15,8 @@ pub enum Seen {
 
 /// Parts that cells are taken from, numbered from 0.
 ///
-/// Contracts see each part as a `Part`: the cells that it gave, and two counts of 64 bits, which never fall and so
-/// show that it was looked at. `kept` is what no look changes.
+/// Contracts see each part as a `Part`: the cells that it gave, and two counts of 64 bits, which
+/// never fall and so show that it was looked at. `kept` is what no look changes.
 pub trait Look {
     type Kept;
 
@@ -59,16 +59,21 @@ fn look_again<L: Look>(looks: &mut L, at: u32) -> Option<u32>
     }
 }
 
-/// Takes a cell from the first part that gives one: first from `own`, then from each other part in the order of
-/// numbers after it, and on from 0. Where a part answers `Again` it is looked at once more. Takes no memory.
+/// Takes a cell from the first part that gives one: first from `own`, then from each other part in
+/// the order of numbers after it, and on from 0. Where a part answers `Again` it is looked at once
+/// more. Takes no memory.
 ///
-/// None: each part was looked at and gave no cell.
+/// A cell came from a part only where each part before it in this order gave none: it answered that
+/// it is empty, or twice that it be looked at again.
+///
+/// None: so did each part.
 pub fn take_from<L: Look>(looks: &mut L, own: u32) -> Option<u32>
     requires { own < L.number looks.old }
     ensures number { L.number looks.new ≡ L.number looks.old }
     ensures kept { L.kept looks.new ≡ L.kept looks.old }
-    ensures one { IfSome result (λ cell. OneGave (L.number looks.old) cell (L.part looks.old) (L.part looks.new)) }
-    ensures all { IfNone result ((p : ℕ) → p < L.number looks.old → Missed (L.part looks.old p) (L.part looks.new p)) }
+    ensures one { IfSome result (OneGave (L.number looks.old) (L.part looks.old) (L.part looks.new)) }
+    ensures first { IfSome result (FirstGave own (L.number looks.old) (L.part looks.old) (L.part looks.new)) }
+    ensures all { IfNone result (EachMissed (L.number looks.old) (L.part looks.old) (L.part looks.new)) }
     ensures stay { IfNone result ((p : ℕ) → GaveNone (L.part looks.old p) (L.part looks.new p)) }
 {
     for at in own..looks.parts() {

@@ -37,6 +37,9 @@ pub(crate) fn open_all(
     Ok((owns, thieves))
 }
 
+// So many places of a hand's table of access stay unused: it shares no cache line with another's.
+const APART: usize = 8;
+
 // Access for one hand to each deque.
 fn lend_all(alloc: Global, pool: &Pool, owns: &mut Vec<Own>) -> Result<Vec<Reach>, NoMemory>
     requires some { All (λ own. (1 < own.log.parts) × (own.log.bound ≡ pool.now.cells)) owns.old.items }
@@ -44,7 +47,9 @@ fn lend_all(alloc: Global, pool: &Pool, owns: &mut Vec<Own>) -> Result<Vec<Reach
     ensures owns { OnOk result (owns.new.items ≡ map lends_one owns.old.items) }
     ensures row { IfOk result (λ made. made.items ≡ row_of pool.now) }
 {
-    let mut made = Vec::new(alloc);
+    let Ok(mut made) = Vec::with_capacity(alloc, owns.len() + APART) else {
+        return Err(NoMemory);
+    };
     for at in 0..owns.len() {
         let reach = owns[at].lend();
         let Ok(()) = made.push(reach) else {

@@ -1,8 +1,8 @@
 //! The pool of cells, shared by the workers.
 ghost use Rattle.std.specs.Prelude.{◌≡◌, ◌↔◌, ℕ, ◌<◌, ◌≤◌, ◌∷◌, [], ◌++◌, length, IfOk, IfErr, IfSome, IfNone, IsNone, IsTrue, OnOk, OnErr, vec_len, All};
 ghost use Rattle.crossbeam_deque.specs.Handles.{stealer_deque};
-ghost use Rattle.ol_pool.specs.Looks.{CountsOne, Missed, GaveNone, OneGave};
-ghost use Rattle.ol_pool.specs.Pools.{IsHandOf, AreDealt, part_of};
+ghost use Rattle.ol_pool.specs.Looks.{CountsOne, EachMissed, GaveNone, OneGave};
+ghost use Rattle.ol_pool.specs.Pools.{IsHandOf, AreDealt, TookFirst, part_of};
 ghost use Rattle.ol_pool.specs.Owned.{IsDequeAt};
 
 use crate::deques::Thief;
@@ -13,6 +13,7 @@ use crate::pool_look::PoolLook;
 use ol_io::NoMemory;
 use std::alloc::Global;
 use std::marker::Model;
+use std::sync::atomic::{AtomicU64, Ordering};
 
 /// Cells that wait for a worker: a first-in first-out deque for each hand, from which the other
 /// hands steal. No call of it waits.
@@ -24,6 +25,8 @@ pub struct Pool {
     thieves: Vec<Thief>,
     hands: u32,
     cells: u32,
+    // one more than the cell of the last hint, or 0
+    hint: AtomicU64,
 }
 
 impl Model for Pool {
@@ -61,6 +64,7 @@ impl Pool {
             thieves,
             hands,
             cells,
+            hint: AtomicU64::new(0),
         };
         let rows = lend_rows(alloc, &pool, &mut owns)?;
         let made = deal(alloc, &pool, owns, rows)?;
@@ -81,6 +85,26 @@ impl Pool {
         self.hands
     }
 
+    /// Gives all hands a hint of a cell that is worth a look. The cell isn't put. It waits for
+    /// nobody, and takes no memory.
+    pub fn hint(&self, cell: u32) {
+        self.hint.store(cell as u64 + 1, Ordering::SeqCst);
+    }
+
+    /// The cell of a hint, if one was given. Nothing is promised of it but that it is a cell: it is
+    /// a try where else to look, and no cell is taken by it. It waits for nobody, and takes no
+    /// memory.
+    pub fn hinted(&self) -> Option<u32>
+        ensures below { IfSome result (λ cell. cell < self.now.cells) }
+    {
+        let next = self.hint.load(Ordering::SeqCst);
+        if 0 < next && next <= self.cells as u64 {
+            Some((next - 1) as u32)
+        } else {
+            None
+        }
+    }
+
     // The side of a deque from which other hands steal.
     pub(crate) fn thief(&self, at: u32) -> &Thief
         requires { at < self.now.hands }
@@ -91,8 +115,8 @@ impl Pool {
 
     /// Adds a cell to the hand's own part, behind those that wait there. It waits for nobody.
     ///
-    /// `Err`: the part had to grow, and no memory was found; it comes only where this hand has put at
-    /// least 64 cells. It gives the cell back. The pool stays as it was, and the hand counts it.
+    /// `Err`: the part had to grow, and no memory was found; it comes only where this hand has put
+    /// at least 64 cells. It gives the cell back. The pool stays as it was, and the hand counts it.
     pub fn put(&self, hand: &mut Hand, cell: u32) -> Result<(), u32>
         requires below { cell < self.now.cells }
         requires hand { IsHandOf hand.old self.now }
@@ -112,8 +136,9 @@ impl Pool {
         ensures number { hand.new.number ≡ hand.old.number }
         ensures sent { hand.new.sent ≡ hand.old.sent }
         ensures refused { hand.new.refused ≡ hand.old.refused }
-        ensures one { IfSome result (λ cell. OneGave self.now.hands cell (part_of hand.old) (part_of hand.new)) }
-        ensures all { IfNone result ((p : ℕ) → p < self.now.hands → Missed (part_of hand.old p) (part_of hand.new p)) }
+        ensures one { IfSome result (OneGave self.now.hands (part_of hand.old) (part_of hand.new)) }
+        ensures first { IfSome result (TookFirst hand.old hand.new) }
+        ensures all { IfNone result (EachMissed self.now.hands (part_of hand.old) (part_of hand.new)) }
         ensures stay { IfNone result ((p : ℕ) → GaveNone (part_of hand.old p) (part_of hand.new p)) }
     {
         let own = hand.number();
@@ -122,9 +147,12 @@ impl Pool {
     }
 
     /// Takes a cell: first from the hand's own part, then from each other part in the order of their
-    /// numbers after it. It waits for nobody, and takes no memory.
+    /// numbers after it, and on from 0. It waits for nobody, and takes no memory.
     ///
-    /// None: each part was looked at and gave no cell, and the hand has `missed`.
+    /// A cell came from a part only where each part before it in this order gave none: it was empty,
+    /// or another's step was in the way of two looks at it.
+    ///
+    /// None: each part gave none likewise, and the hand has `missed`.
     pub fn take(&self, hand: &mut Hand) -> Option<u32>
         requires hand { IsHandOf hand.old self.now }
         ensures below { IfSome result (λ cell. cell < self.now.cells) }
@@ -133,8 +161,9 @@ impl Pool {
         ensures number { hand.new.number ≡ hand.old.number }
         ensures sent { hand.new.sent ≡ hand.old.sent }
         ensures refused { hand.new.refused ≡ hand.old.refused }
-        ensures one { IfSome result (λ cell. OneGave self.now.hands cell (part_of hand.old) (part_of hand.new)) }
-        ensures all { IfNone result ((p : ℕ) → p < self.now.hands → Missed (part_of hand.old p) (part_of hand.new p)) }
+        ensures one { IfSome result (OneGave self.now.hands (part_of hand.old) (part_of hand.new)) }
+        ensures first { IfSome result (TookFirst hand.old hand.new) }
+        ensures all { IfNone result (EachMissed self.now.hands (part_of hand.old) (part_of hand.new)) }
         ensures stay { IfNone result ((p : ℕ) → GaveNone (part_of hand.old p) (part_of hand.new p)) }
     {
         let taken = self.search(hand);

@@ -1,5 +1,7 @@
 -- Private: what holds of a worker between its calls, and what each part of its work leaves.
 use Rattle.std.specs.Prelude.{◌≡◌, ◌++◌, ◌∷◌, [], ℕ, ◌≤◌, List, Bool, true, false, Option, None, Some}
+use Rattle.crossbeam_utils.specs.declared.cache_padded.CachePadded.{CachePadded}
+use Rattle.crossbeam_utils.specs.Padded.{padded_value}
 use Rattle.ol_pool.specs.Pools.{PoolState, IsHandOf as IsOfPool}
 use Rattle.ol_wire.specs.Layout.{cells_of}
 use Rattle.ol_wire.specs.Stand.{TableState, SeatState, IsSeatOf}
@@ -18,6 +20,10 @@ IsSeated b w = IsSeatOf b w.seat × (w.seat.view.holds ≡ 1)
 -- and its hand is of this pool
 abbrev pub IsWorker : TableState → PoolState → Worker → Type 0
 IsWorker b p w = IsSeated b w × IsOfPool w.hand p
+
+-- such is the worker that has its cache lines for itself
+abbrev pub IsPadded : (Worker → Type 0) → CachePadded Worker → Type 0
+IsPadded Is padded = Is (padded_value padded)
 
 -- its work is done: it found that no active pair is left, or that the fuel is used up
 abbrev pub IsEnded : TableState → Worker → Type 0

@@ -5,12 +5,13 @@ ghost use Rattle.ol_wire.specs.Layout.{cells_of};
 ghost use Rattle.ol_wire.specs.Sizes.{IsSmallNet};
 ghost use Rattle.ol_wire.specs.Stand.{IsNewSeat, IsSeatOf};
 ghost use Rattle.ol_wire.specs.Starts.{AreParts};
-ghost use Rattle.ol_reduce.specs.Works.{IsEnded, IsWorker};
+ghost use Rattle.ol_reduce.specs.Works.{IsEnded, IsWorker, IsPadded};
 ghost use Rattle.ol_wire.specs.Closed.{HasSettled};
 
 use crate::answers::End;
 use crate::workers::Worker;
 use crate::working::{offer, worker};
+use crossbeam_utils::CachePadded;
 use ol_io::{Gate, NoMemory};
 use ol_net::Net;
 use ol_pool::{Hand, Pool};
@@ -72,18 +73,18 @@ fn put_start(pool: &Pool, hands: &mut Vec<Hand>, workers: u32, count: u32)
     }
 }
 
-// A worker for each seat and each hand, with the number of its hand.
+// A worker for each seat and each hand, with the number of its hand. No two share a cache line.
 pub(crate) fn hire(
     alloc: Global,
     shared: &Shared,
     pool: &Pool,
     mut seats: Vec<Seat>,
     mut hands: Vec<Hand>,
-) -> Result<Vec<Worker>, NoMemory>
+) -> Result<Vec<CachePadded<Worker>>, NoMemory>
     requires seats { All (IsNewSeat shared.now) seats.items }
     requires hands { All (λ hand. IsOfPool hand pool.now) hands.items }
     requires count { vec_len hands ≡ vec_len seats }
-    ensures each { IfOk result (λ made. All (IsWorker shared.now pool.now) made.items) }
+    ensures each { IfOk result (λ made. All (IsPadded (IsWorker shared.now pool.now)) made.items) }
     ensures count { IfOk result (λ made. vec_len made ≡ vec_len seats) }
 {
     let Ok(mut workers) = Vec::with_capacity(alloc, seats.len()) else {
@@ -92,7 +93,9 @@ pub(crate) fn hire(
     while let Some(seat) = seats.pop() {
         let hand = hands.pop().unwrap();
         let number = hand.number();
-        let Ok(()) = workers.push(Worker::new(number, seat, hand)) else {
+        let worker = Worker::new(number, seat, hand);
+        let padded = CachePadded::new(worker);
+        let Ok(()) = workers.push(padded) else {
             return Err(NoMemory);
         };
     }
@@ -100,11 +103,18 @@ pub(crate) fn hire(
 }
 
 // One worker's part of the work.
-fn work<R: Wait, G: Gate>(rt: &R, shared: &Shared, pool: &Pool, own: &mut Worker, gate: &G)
-    requires worker { IsWorker shared.now pool.now own.old }
+fn work<R: Wait, G: Gate>(
+    rt: &R,
+    shared: &Shared,
+    pool: &Pool,
+    padded: &mut CachePadded<Worker>,
+    gate: &G,
+)
+    requires worker { IsPadded (IsWorker shared.now pool.now) padded.old }
     requires cells { pool.now.cells ≡ cells_of shared.now.plan.parts }
-    ensures ended { IsEnded shared.now own.new }
+    ensures ended { IsPadded (IsEnded shared.now) padded.new }
 {
+    let own: &mut Worker = &mut **padded;
     own.is_quiet = matches!(worker(rt, shared, pool, own, gate), End::Quiet);
 }
 
@@ -113,37 +123,38 @@ fn run<R: Threads + Wait + Sync, G: Gate + Sync>(
     rt: &R,
     shared: &Shared,
     pool: &Pool,
-    workers: &mut [Worker],
+    workers: &mut [CachePadded<Worker>],
     count: usize,
     gate: &G,
 )
-    requires workers { All (IsWorker shared.now pool.now) workers.old }
+    requires workers { All (IsPadded (IsWorker shared.now pool.now)) workers.old }
     requires cells { pool.now.cells ≡ cells_of shared.now.plan.parts }
     requires count { 0 < count }
-    ensures ended { All (IsEnded shared.now) workers.new }
+    ensures ended { All (IsPadded (IsEnded shared.now)) workers.new }
     ensures length { length workers.new ≡ length workers.old }
 {
     thread::for_each_mut(
         rt,
         workers,
         count,
-        &|_, own| { work(rt, shared, pool, own, gate) },
+        &|_, padded| { work(rt, shared, pool, padded, gate) },
     );
 }
 
 // One seat of the seats of all workers, and how their work ended.
-fn gather(shared: &Shared, mut workers: Vec<Worker>) -> (Seat, End)
-    requires workers { All (IsEnded shared.now) workers.items }
+fn gather(shared: &Shared, mut workers: Vec<CachePadded<Worker>>) -> (Seat, End)
+    requires workers { All (IsPadded (IsEnded shared.now)) workers.items }
     requires some { 0 < vec_len workers }
     ensures seat { IsSeatOf shared.now result.0 }
     ensures holds { result.0.view.holds ≡ vec_len workers }
     ensures quiet { result.1 ≡ End.Quiet → result.0.view.settled ≡ true }
     ensures spent { result.1 ≡ End.Spent → result.0.view.over ≡ true }
 {
-    let first = workers.pop().unwrap();
+    let first = workers.pop().unwrap().into_inner();
     let mut is_quiet = first.is_quiet;
     let mut seat = first.into_seat();
-    while let Some(other) = workers.pop() {
+    while let Some(padded) = workers.pop() {
+        let other = padded.into_inner();
         let is_either = either(is_quiet, other.is_quiet);
         shared.join(&mut seat, other.into_seat());
         is_quiet = is_either;

@@ -1,5 +1,5 @@
-//! Reduction by many threads: workers that take cells and make turns on them until no active pair is
-//! left, a pass over all cells, and the net that the words of a closed table stand for.
+//! Reduction by many threads: workers that take cells and make turns on them until no active pair
+//! is left, a pass over all cells, and the net that the words of a closed table stand for.
 #![tactic(auto)]
 
 mod answers;

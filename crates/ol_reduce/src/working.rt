@@ -1,5 +1,5 @@
-//! What a worker does: it takes cells from the pool and makes turns on them, and where no cell waits,
-//! it goes round over all cells and asks whether all is done.
+//! What a worker does: it takes cells from the pool and makes turns on them, and where no cell
+//! waits, it goes round over all cells and asks whether all is done.
 ghost use Rattle.std.specs.Prelude.{◌≡◌, ◌==◌, ℕ, List, [], ◌∷◌, ◌+◌, ◌/◌, ◌%◌, ◌^◌, ◌<◌, ◌≤◌, true, false, None, Some, IsTrue, IsFalse};
 ghost use Rattle.ol_pool.specs.Pools.{IsHandOf as IsOfPool};
 ghost use Rattle.ol_wire.specs.Layout.{cells_of};
@@ -21,19 +21,21 @@ use std::sync::Wait;
 
 /// Takes cells from the pool and makes a turn on each, up to the first that answers `Spent`. Where
 /// no cell waits, it makes turns on the next 64 cells of its own round over all cells, so that a
-/// pair whose cell the pool refused is found too. Then it asks `quiet`, ends where that is true, and
-/// else pauses and tries again. A cell in which a turn published a pair is put into the pool.
+/// pair whose cell the pool refused is found too. Then it asks `quiet`, ends where that is true,
+/// and else pauses and tries again. A cell in which a turn published a pair is put into the pool.
+/// Where a turn answers `Spent` its pair stays, and the pool gets a hint of its cell: there the
+/// rounds of the other workers go on, so that each soon finds that the fuel is used up.
 ///
 /// - `Spent` comes only where its last turn answered `Spent`.
 /// - `Quiet` comes only where `quiet` answered true for its seat at the end of the call, which
 ///   `settled` shows, and its last `take` answered None, which the hand's `missed` shows.
 ///
 /// Between the seat's view before the call and the one after it lie the call's turns and looks at
-/// the live word: no turn but such a last one answered `Spent`, and no look but such a last one read
-/// 0. Each cell that its hand was given in the call was claimed by its seat in the call, as often as
-/// it was given. Each cell that its seat published in the call was put by its hand in the call, but
-/// for as many as the hand's `refused` rose by; this is said where that count doesn't end at its
-/// last value.
+/// the live word: no turn but such a last one answered `Spent`, and no look but such a last one
+/// read 0. Each cell that its hand was given in the call was claimed by its seat in the call, as
+/// often as it was given. Each cell that its seat published in the call was put by its hand in the
+/// call, but for as many as the hand's `refused` rose by; this is said where that count doesn't end
+/// at its last value.
 ///
 /// The gate is passed at the start with 0, and after each turn with the number of turns made, up to
 /// 2^64 - 1, at which it stays. A cell for which the pool finds no memory isn't put: its pair stays
@@ -90,6 +92,13 @@ impl Pace {
         }
     }
 
+    // The round goes on from the cell that the pool has a hint of, if there is one.
+    fn follow_hint(&mut self, pool: &Pool) {
+        if let Some(cell) = pool.hinted() {
+            self.next = cell;
+        }
+    }
+
     // The next cell of the round.
     fn next_cell(&mut self, cells: u32) -> u32
         requires { 0 < cells }
@@ -137,6 +146,7 @@ fn wait_on<G: Gate>(
     ensures kept { HasKept shared.now pool.now own.old own.new }
     ensures goes { GoesOn shared.now own.old.seat result own.new }
 {
+    pace.follow_hint(pool);
     if go_round(shared, pool, own, gate, pace) {
         return Some(End::Spent);
     }
@@ -185,7 +195,7 @@ fn go_round<G: Gate>(
 }
 
 // Makes a turn on a cell, and offers the cells in which it published a pair to the pool. Tells
-// whether it answered Spent.
+// whether it answered Spent; its pair is active still then, and the pool gets a hint of it.
 fn turn_on<G: Gate>(
     shared: &Shared,
     pool: &Pool,
@@ -197,14 +207,17 @@ fn turn_on<G: Gate>(
     requires work { IsAtWork shared.now pool.now own.old }
     requires cell { cell < cells_of shared.now.plan.parts }
     ensures turned { HasTurnedOn shared.now own.old cell own.new }
-    ensures other { IsFalse result → IsOtherTurn shared.now own.old.seat.view cell own.new.seat.view }
-    ensures spent { IsTrue result → IsSpentTurn shared.now own.old.seat.view cell own.new.seat.view }
+    ensures no { IsFalse result → IsOtherTurn shared.now own.old.seat.view cell own.new.seat.view }
+    ensures yes { IsTrue result → IsSpentTurn shared.now own.old.seat.view cell own.new.seat.view }
 {
     let turn = shared.turn(&mut own.seat, cell);
     pace.turns = pace.turns.saturating_add(1);
     gate.pass(own.number, pace.turns);
     match turn {
-        Turn::Spent => true,
+        Turn::Spent => {
+            pool.hint(cell);
+            true
+        }
         Turn::Rewrote {
             ticket: _,
             rule: _,

@@ -3,7 +3,7 @@ use Rattle.core.specs.Option.{option_to_list}
 use Rattle.std.proofs.lemmas.List.Elements.{All-pop, All-push, All-same}
 use Rattle.ol_pool.specs.Pools.{HandState, IsHandOf as IsOfPool}
 use Rattle.ol_wire.specs.Stand.{SeatState, IsNewSeat}
-use Rattle.ol_reduce.specs.Works.{IsWorker}
+use Rattle.ol_reduce.specs.Works.{IsWorker, IsPadded}
 use Rattle.ol_reduce.proofs.Hired.{worker_of_fresh}
 use Rattle.ol_reduce.proofs.gathering.hire.Goals as goal
 
@@ -17,10 +17,12 @@ loop-seat-preserved c =
     let seat : IsNewSeat b c.in-Some.seat = subst (λ (r : Option SeatState). IfSome r (IsNewSeat b)) c.in-Some.is s.1 in
     let hand : IsOfPool c.unwrap-hand.result p = subst (λ (r : Option HandState). IfSome r (λ x. IsOfPool x p)) c.unwrap-hand.ensures t.1 in
     let taken : length (option_to_list c.pop-in-Some.result) ≡ 1 = subst (λ (r : Option HandState). length (option_to_list r) ≡ 1) (sym c.unwrap-hand.ensures) refl in
-    let one : IsWorker b p c.new.result = worker_of_fresh b p c.new.result (subst (λ (x : SeatState). IsNewSeat b x) (sym c.new.ensures.seat) seat) (subst (λ (x : HandState). IsOfPool x p) (sym c.new.ensures.hand) hand) in (
+    let made = c.new-worker in
+    let one : IsWorker b p made.result = worker_of_fresh b p made.result (subst (λ (x : SeatState). IsNewSeat b x) (sym made.ensures.seat) seat) (subst (λ (x : HandState). IsOfPool x p) (sym made.ensures.hand) hand) in
+    let padded : IsPadded (IsWorker b p) c.new-padded.result = subst (IsWorker b p) (sym c.new-padded.ensures) one in (
       s.0,
       t.0,
-      All-same (IsWorker b p) c.push.new.self.items (c.loop-seat.workers.items ++ c.new.result ∷ []) c.in-Ok-push.ensures.items (All-push (IsWorker b p) c.loop-seat.workers.items c.new.result h.2 one),
+      All-same (IsPadded (IsWorker b p)) c.push.new.self.items (c.loop-seat.workers.items ++ c.new-padded.result ∷ []) c.in-Ok-push.ensures.items (All-push (IsPadded (IsWorker b p)) c.loop-seat.workers.items c.new-padded.result h.2 padded),
       omega (arith, h.3, taken, c.in-Some.ensures.len, c.pop-in-Some.ensures.len),
       omega (arith, h.4, c.in-Some.ensures.len, c.in-Ok-push.ensures.len),
     )

@@ -22,7 +22,7 @@ returns-then-turn_on-clause-kept g c =
     c.turn_on.ensures.turned
 
 pub returns-then-turn_on-clause-goes : goal.returns-then-turn_on-clause-goes
-returns-then-turn_on-clause-goes g c = (c.args.own.now.seat.view, c.in-Some.cell, rested refl, c.turn_on.ensures.spent c.if-turn_on.true)
+returns-then-turn_on-clause-goes g c = (c.args.own.now.seat.view, c.in-Some.cell, rested refl, c.turn_on.ensures.yes c.if-turn_on.true)
 
 pub returns-clause-kept : goal.returns-clause-kept
 returns-clause-kept g c =
@@ -33,5 +33,5 @@ returns-clause-kept g c =
 
 pub returns-clause-goes : goal.returns-clause-goes
 returns-clause-goes g c =
-    let turn = c.turn_on.ensures.other c.if-turn_on.false in
+    let turn = c.turn_on.ensures.no c.if-turn_on.false in
     turned {m = c.args.own.now.seat.view} c.in-Some.cell turn.0 (rested refl) turn.1 turn.2

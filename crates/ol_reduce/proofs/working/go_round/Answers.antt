@@ -18,7 +18,7 @@ loop-preserved g c =
     let b = c.args.shared.now in
     let p = c.args.pool.now in
     let kept = c.loop.invariant.0 in
-    let turn = c.turn_on.ensures.other c.if-turn_on.false in (
+    let turn = c.turn_on.ensures.no c.if-turn_on.false in (
       kept_on b p c.args.own.now c.loop.own c.turn_on.new.own kept (kept_own_turn b p c.loop.own c.turn_on.new.own c.next_cell-cell.result kept.hand c.turn_on.ensures.turned),
       c.turn_on.ensures.turned.offered.missed ∙ c.loop.invariant.1,
       turned {m = c.loop.own.seat.view} c.next_cell-cell.result turn.0 c.loop.invariant.2 turn.1 turn.2,
