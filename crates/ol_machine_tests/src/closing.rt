@@ -3,19 +3,13 @@ ghost use Rattle.std.specs.Prelude.{◌≡◌, ◌≤◌, IfSome, length, is_som
 ghost use Rattle.ol_wire.specs.Sizes.{IsSmallNet};
 ghost use Rattle.ol_wire.specs.Stand.{IsNewSeat};
 
-use ol_net::{Kind, Net, NodeId, Port, Rule};
+use crate::small_nets::{identity_of_identity, is_small, of};
+use ol_net::{Kind, Net, Rule};
 use ol_rules::NodeName;
 use ol_wire::{Seat, Shared, Turn};
 use std::alloc::Global;
 use std::process::Abort;
 use std::test::Fail;
-
-fn of(node: u32, slot: u8) -> Port {
-    Port::Of {
-        node: NodeId(node),
-        slot,
-    }
-}
 
 /// A table with one seat.
 pub fn alone(alloc: Global, net: &Net, fuel: u32) -> Option<(Shared, Seat)>
@@ -38,10 +32,7 @@ fn tells_the_journal(rt: HostRuntime) -> Result<(), Fail> {
     let nodes = vec![in rt.alloc(); (Kind::Eraser, 0), (Kind::Eraser, 0)]?;
     let links = vec![in rt.alloc(); (of(0, 0), of(1, 0))]?;
     let net = Net::build(rt.alloc(), 0, nodes, links).map_err(Fail::from)?;
-    assert!(rt; net.nodes() == net.born());
-    assert!(rt; net.born() <= 1_000_000);
-    assert!(rt; net.free_ports() <= 1_000_000);
-    assert!(rt; net.top_index() <= 1_000_000);
+    assert!(rt; is_small(&net));
     let Some((shared, mut seat)) = alone(rt.alloc(), &net, 2) else {
         panic!(rt; "no table")
     };
@@ -74,27 +65,6 @@ fn tells_the_journal(rt: HostRuntime) -> Result<(), Fail> {
     Ok(())
 }
 
-// The net of (\x. x) (\y. y).
-fn identity_of_identity(alloc: Global) -> Result<Net, Fail> {
-    let nodes = vec![in alloc;
-        (Kind::App, 0),
-        (Kind::Lam, 0),
-        (Kind::Croissant, 0),
-        (Kind::Lam, 1),
-        (Kind::Croissant, 1),
-    ]?;
-    let links = vec![in alloc;
-        (Port::Free(0), of(0, 1)),
-        (of(0, 0), of(1, 0)),
-        (of(0, 2), of(3, 0)),
-        (of(1, 1), of(2, 1)),
-        (of(1, 2), of(2, 0)),
-        (of(3, 1), of(4, 1)),
-        (of(3, 2), of(4, 0)),
-    ]?;
-    Net::build(alloc, 1, nodes, links).map_err(Fail::from)
-}
-
 fn born(ticket: u32, place: u8) -> NodeName {
     NodeName::Born { ticket, place }
 }
@@ -102,10 +72,7 @@ fn born(ticket: u32, place: u8) -> NodeName {
 #[test]
 fn four_turns_tell_their_journal(rt: HostRuntime) -> Result<(), Fail> {
     let net = identity_of_identity(rt.alloc())?;
-    assert!(rt; net.nodes() == net.born());
-    assert!(rt; net.born() <= 1_000_000);
-    assert!(rt; net.free_ports() <= 1_000_000);
-    assert!(rt; net.top_index() <= 1_000_000);
+    assert!(rt; is_small(&net));
     let Some((shared, mut seat)) = alone(rt.alloc(), &net, 4) else {
         panic!(rt; "no table")
     };

@@ -3,6 +3,7 @@ ghost use Rattle.std.specs.Prelude.{◌≡◌, ◌<◌, ◌≤◌, IfOk};
 ghost use Rattle.ol_wire.specs.Stand.{IsNewSeat, IsSeatOf};
 ghost use Rattle.ol_wire.specs.Idle.{IsIdle};
 
+use crate::small_nets::{each_sort_of_link, identity_of_identity, is_small, of};
 use ol_net::{Kind, Net, NodeId, Port};
 use ol_reduce::freeze;
 use ol_wire::{Seat, Shared, Turn};
@@ -10,63 +11,11 @@ use std::alloc::Global;
 use std::process::Abort;
 use std::test::Fail;
 
-fn of(node: u32, slot: u8) -> Port {
-    Port::Of {
-        node: NodeId(node),
-        slot,
-    }
-}
-
-/// A net with a link of each sort.
-fn small_net(alloc: Global) -> Result<Net, Fail> {
-    let nodes = vec![in alloc;
-        (Kind::App, 0),
-        (Kind::Lam, 0),
-        (Kind::Eraser, 0),
-        (Kind::Croissant, 7),
-        (Kind::Eraser, 0),
-    ]?;
-    let links = vec![in alloc;
-        (of(0, 0), of(1, 0)),
-        (of(0, 1), Port::Free(0)),
-        (of(0, 2), of(2, 0)),
-        (of(1, 1), of(1, 2)),
-        (Port::Free(1), of(3, 0)),
-        (Port::Free(3), Port::Free(2)),
-        (of(3, 1), of(4, 0)),
-    ]?;
-    Net::build(alloc, 4, nodes, links).map_err(Fail::from)
-}
-
-/// The net of (\x. x) (\y. y).
-fn identity_of_identity(alloc: Global) -> Result<Net, Fail> {
-    let nodes = vec![in alloc;
-        (Kind::App, 0),
-        (Kind::Lam, 0),
-        (Kind::Croissant, 0),
-        (Kind::Lam, 1),
-        (Kind::Croissant, 1),
-    ]?;
-    let links = vec![in alloc;
-        (Port::Free(0), of(0, 1)),
-        (of(0, 0), of(1, 0)),
-        (of(0, 2), of(3, 0)),
-        (of(1, 1), of(2, 1)),
-        (of(1, 2), of(2, 0)),
-        (of(3, 1), of(4, 1)),
-        (of(3, 2), of(4, 0)),
-    ]?;
-    Net::build(alloc, 1, nodes, links).map_err(Fail::from)
-}
-
 /// A table with one seat.
 fn table_of(rt: &impl Abort, alloc: Global, net: &Net) -> Result<(Shared, Seat), Fail>
     ensures { IfOk result (λ r. IsNewSeat r.0 r.1 × (r.0.plan.seats ≡ 1)) }
 {
-    assert!(rt; net.nodes() == net.born());
-    assert!(rt; net.born() <= 1_000_000);
-    assert!(rt; net.free_ports() <= 1_000_000);
-    assert!(rt; net.top_index() <= 1_000_000);
+    assert!(rt; is_small(net));
     let (table, mut seats) = Shared::make(alloc, net, 4, 1)?;
     let seat = seats.pop().expect(rt, "a seat");
     Ok((table, seat))
@@ -91,7 +40,7 @@ fn assert_same(rt: &impl Abort, frozen: &Net, net: &Net) {
 
 #[test]
 fn untouched_words_give_the_net(rt: HostRuntime) -> Result<(), Fail> {
-    let net = small_net(rt.alloc())?;
+    let net = each_sort_of_link(rt.alloc())?;
     let (table, seat) = table_of(&rt, rt.alloc(), &net)?;
     let words = table.close(seat);
     let frozen = freeze(rt.alloc(), &words)?;

@@ -1,45 +1,14 @@
 //! A net with a link of each sort, laid out in words.
 
 use crate::closing::alone;
-use ol_net::{Kind, Net, NodeId, Port};
-use std::alloc::Global;
+use crate::small_nets::{each_sort_of_link, is_small};
 use std::process::Abort;
 use std::test::Fail;
 
-fn of(node: u32, slot: u8) -> Port {
-    Port::Of {
-        node: NodeId(node),
-        slot,
-    }
-}
-
-fn small_net(alloc: Global) -> Result<Net, Fail> {
-    let nodes = vec![in alloc;
-        (Kind::App, 0),
-        (Kind::Lam, 0),
-        (Kind::Eraser, 0),
-        (Kind::Croissant, 7),
-        (Kind::Eraser, 0),
-    ]?;
-    let links = vec![in alloc;
-        (of(0, 0), of(1, 0)),
-        (of(0, 1), Port::Free(0)),
-        (of(0, 2), of(2, 0)),
-        (of(1, 1), of(1, 2)),
-        (Port::Free(1), of(3, 0)),
-        (Port::Free(3), Port::Free(2)),
-        (of(3, 1), of(4, 0)),
-    ]?;
-    Net::build(alloc, 4, nodes, links).map_err(Fail::from)
-}
-
 #[test]
 fn lays_a_net_out(rt: HostRuntime) -> Result<(), Fail> {
-    let net = small_net(rt.alloc())?;
-    assert!(rt; net.nodes() == net.born());
-    assert!(rt; net.born() <= 1_000_000);
-    assert!(rt; net.free_ports() <= 1_000_000);
-    assert!(rt; net.top_index() <= 1_000_000);
+    let net = each_sort_of_link(rt.alloc())?;
+    assert!(rt; is_small(&net));
     let Some((shared, seat)) = alone(rt.alloc(), &net, 1) else {
         panic!(rt; "no table")
     };

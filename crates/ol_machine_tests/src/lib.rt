@@ -12,6 +12,8 @@ mod laying;
 #[cfg(test)]
 mod pools;
 #[cfg(test)]
+mod small_nets;
+#[cfg(test)]
 mod turns;
 #[cfg(test)]
 mod workers;

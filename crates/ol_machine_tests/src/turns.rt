@@ -2,52 +2,12 @@
 ghost use Rattle.std.specs.Prelude.{◌≡◌, ◌<◌, ◌≤◌, All, IfOk};
 ghost use Rattle.ol_wire.specs.Stand.{IsNewSeat, IsSeatOf};
 
-use ol_net::{Kind, Net, NodeId, Port, Rule};
+use crate::small_nets::{identity_of_identity, is_small, stuck_pair};
+use ol_net::{Net, Rule};
 use ol_wire::{Seat, Shared, Turn};
 use std::alloc::Global;
 use std::process::Abort;
 use std::test::Fail;
-
-fn of(node: u32, slot: u8) -> Port {
-    Port::Of {
-        node: NodeId(node),
-        slot,
-    }
-}
-
-/// The net of (\x. x) (\y. y).
-fn identity_of_identity(alloc: Global) -> Result<Net, Fail> {
-    let nodes = vec![in alloc;
-        (Kind::App, 0),
-        (Kind::Lam, 0),
-        (Kind::Croissant, 0),
-        (Kind::Lam, 1),
-        (Kind::Croissant, 1),
-    ]?;
-    let links = vec![in alloc;
-        (Port::Free(0), of(0, 1)),
-        (of(0, 0), of(1, 0)),
-        (of(0, 2), of(3, 0)),
-        (of(1, 1), of(2, 1)),
-        (of(1, 2), of(2, 0)),
-        (of(3, 1), of(4, 1)),
-        (of(3, 2), of(4, 0)),
-    ]?;
-    Net::build(alloc, 1, nodes, links).map_err(Fail::from)
-}
-
-/// A fan that faces an abstraction.
-fn stuck_pair(alloc: Global) -> Result<Net, Fail> {
-    let nodes = vec![in alloc; (Kind::Fan, 0), (Kind::Lam, 0)]?;
-    let links = vec![in alloc;
-        (of(0, 0), of(1, 0)),
-        (of(0, 1), Port::Free(0)),
-        (of(0, 2), Port::Free(1)),
-        (of(1, 1), Port::Free(2)),
-        (of(1, 2), Port::Free(3)),
-    ]?;
-    Net::build(alloc, 4, nodes, links).map_err(Fail::from)
-}
 
 fn table_of(
     rt: &impl Abort,
@@ -59,10 +19,7 @@ fn table_of(
     requires { (fuel ≤ 4) × (0 < seats) × (seats ≤ 2) }
     ensures { IfOk result (λ r. All (IsNewSeat r.0) r.1.items) }
 {
-    assert!(rt; net.nodes() == net.born());
-    assert!(rt; net.born() <= 1_000_000);
-    assert!(rt; net.free_ports() <= 1_000_000);
-    assert!(rt; net.top_index() <= 1_000_000);
+    assert!(rt; is_small(net));
     let made = Shared::make(alloc, net, fuel, seats)?;
     Ok(made)
 }

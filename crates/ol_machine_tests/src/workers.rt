@@ -1,55 +1,20 @@
 //! A small net that is swept, worked on by one worker, and worked on by several.
-ghost use Rattle.std.specs.Prelude.{◌≡◌, ◌≤◌, IfOk, IsTrue, count_by, is_some, length};
+ghost use Rattle.std.specs.Prelude.{◌≡◌, ◌≤◌, IfOk, count_by, is_some, length};
 ghost use Rattle.ol_reduce.specs.Works.{IsWorker};
 ghost use Rattle.ol_wire.specs.Layout.{cells_of};
 ghost use Rattle.ol_wire.specs.Sizes.{IsSmallNet};
 
+use crate::small_nets::{
+    identity_of_identity, identity_twice, is_small, of, stuck_pair, without_end,
+};
 use ol_io::{NoMemory, OpenGate};
-use ol_net::{Kind, Net, NodeId, Port};
+use ol_net::{Net, Port};
 use ol_pool::Pool;
 use ol_reduce::{End, Reduced, Sweep, Worker, reduce, sweep, worker};
+use ol_rules::{Counts, counts};
 use ol_wire::Shared;
 use std::alloc::Global;
 use std::test::Fail;
-
-fn of(node: u32, slot: u8) -> Port {
-    Port::Of {
-        node: NodeId(node),
-        slot,
-    }
-}
-
-/// The net of (\x. x) (\y. y), which four steps make \y. y.
-fn identity_of_identity(alloc: Global) -> Result<Net, Fail> {
-    let nodes = vec![in alloc;
-        (Kind::App, 0),
-        (Kind::Lam, 0),
-        (Kind::Croissant, 0),
-        (Kind::Lam, 1),
-        (Kind::Croissant, 1),
-    ]?;
-    let links = vec![in alloc;
-        (Port::Free(0), of(0, 1)),
-        (of(0, 0), of(1, 0)),
-        (of(0, 2), of(3, 0)),
-        (of(1, 1), of(2, 1)),
-        (of(1, 2), of(2, 0)),
-        (of(3, 1), of(4, 1)),
-        (of(3, 2), of(4, 0)),
-    ]?;
-    Net::build(alloc, 1, nodes, links).map_err(Fail::from)
-}
-
-// The net is small enough to be laid out.
-fn is_small(net: &Net) -> bool
-    ensures whole { IsTrue result → count_by is_some net.now.nodes ≡ length net.now.nodes }
-    ensures small { IsTrue result → IsSmallNet net.now }
-{
-    net.nodes() == net.born()
-        && net.born() <= 1_000_000
-        && net.free_ports() <= 1_000_000
-        && net.top_index() <= 1_000_000
-}
 
 // A table with one seat, and a pool with one hand that has put the first cell.
 fn alone(alloc: Global, net: &Net, fuel: u32) -> Result<(Shared, Pool, Worker), NoMemory>
@@ -134,16 +99,62 @@ fn workers_share_a_net(rt: HostRuntime) -> Result<(), Fail> {
 }
 
 #[test]
+fn sixty_four_workers_begin_at_one_cell(rt: HostRuntime) -> Result<(), Fail> {
+    let net = identity_twice(rt.alloc())?;
+    assert!(rt; is_small(&net));
+    let expected = Counts {
+        beta: 2,
+        fan: 1,
+        croissant: 3,
+        bracket: 1,
+        cross_fan: 2,
+        cross_croissant: 6,
+        cross_bracket: 2,
+        erase: 0,
+    };
+    for workers in [1, 2, 64] {
+        match reduce(&rt, rt.alloc(), &net, workers, 100, &OpenGate)? {
+            Reduced::Done {
+                net: last,
+                journal,
+                words,
+            } => {
+                assert_eq!(rt; counts(&journal), expected);
+                assert_eq!(rt; words.events(), 17);
+                assert_eq!(rt; last.nodes(), 2);
+            }
+            Reduced::Spent {
+                journal: _journal,
+                words: _words,
+            } => assert!(rt; false),
+        }
+    }
+    Ok(())
+}
+
+#[test]
+fn a_run_without_an_end_uses_up_its_fuel(rt: HostRuntime) -> Result<(), Fail> {
+    let net = without_end(rt.alloc())?;
+    assert!(rt; is_small(&net));
+    for workers in [1, 2, 64] {
+        match reduce(&rt, rt.alloc(), &net, workers, 300, &OpenGate)? {
+            Reduced::Done {
+                net: _last,
+                journal: _journal,
+                words: _words,
+            } => assert!(rt; false),
+            Reduced::Spent { journal, words } => {
+                assert_eq!(rt; journal.len(), 300);
+                assert_eq!(rt; words.events(), 300);
+            }
+        }
+    }
+    Ok(())
+}
+
+#[test]
 fn a_pair_without_a_rule_stays(rt: HostRuntime) -> Result<(), Fail> {
-    let nodes = vec![in rt.alloc(); (Kind::Fan, 0), (Kind::Lam, 0)]?;
-    let links = vec![in rt.alloc();
-        (of(0, 0), of(1, 0)),
-        (of(0, 1), Port::Free(0)),
-        (of(0, 2), Port::Free(1)),
-        (of(1, 1), Port::Free(2)),
-        (of(1, 2), Port::Free(3)),
-    ]?;
-    let net = Net::build(rt.alloc(), 4, nodes, links).map_err(Fail::from)?;
+    let net = stuck_pair(rt.alloc())?;
     assert!(rt; is_small(&net));
     match reduce(&rt, rt.alloc(), &net, 2, 0, &OpenGate)? {
         Reduced::Done {
