@@ -17,7 +17,6 @@ mod tokens;
 pub use faults::ParseFault;
 pub use parsing::{MOST_DEPTH, parse};
 
-
 /// A text has one term.
 pub fn one_term()
     ensures { OneTerm }
