@@ -1,5 +1,5 @@
 -- One deque: what was put into it is what was given from it and what waits in it.
-use Rattle.std.specs.Prelude.{◌≡◌, ℕ, ◌+◌, ◌-◌, ◌<◌, ◌⊎◌, List, [], ◌∷◌, ◌++◌, All}
+use Rattle.std.specs.Prelude.{◌≡◌, ◌==◌, ℕ, ◌+◌, ◌-◌, ◌<◌, ◌⊎◌, if◌then◌else◌, List, [], ◌∷◌, ◌++◌, All}
 use Rattle.ol_pool.specs.Weights.{weigh}
 use Rattle.ol_pool.specs.declared.deques.Log.{Log}
 
@@ -65,3 +65,15 @@ Kept waiting views =
     ((waiting ≡ []) × (views ≡ untold ∷ []))
     ⊎ (((bound : ℕ) × (waiting ≡ bound ∷ []) × (views ≡ told bound ∷ []))
     ⊎ ((bound : ℕ) × Runs bound waiting views))
+
+-- how often a cell stands in a list
+abbrev pub times : ℕ → List ℕ → ℕ
+times cell cells = weigh (λ other. if other == cell then 1 else 0) cells
+
+-- Wherever such a rule holds of the cells that wait and of the passes: each cell waits or was given to one of them just as often as
+-- one of them put it. Else the bound of all cells waits, while the pool is made.
+abbrev pub NoCellIsLost : (List ℕ → List Log → Type 0) → Type 0
+NoCellIsLost Holds =
+    (waiting : List ℕ) (views : List Log) → Holds waiting views
+    → All (λ v. v.stage ≡ 1) views
+    ⊎ ((cell : ℕ) → total (λ v. times cell v.sent) views ≡ total (λ v. times cell v.given) views + times cell waiting)

@@ -4,6 +4,7 @@
 
 mod deques;
 mod hands;
+mod laws;
 mod looks;
 mod opening;
 mod own;
@@ -11,7 +12,9 @@ mod pool;
 mod pool_look;
 mod reach;
 
+pub use deques::{Fair, Log};
 pub use hands::Hand;
+pub use laws::no_cell_is_lost;
 pub use looks::{Look, Seen, take_from};
 pub use pool::Pool;
 pub use pool_look::PoolLook;

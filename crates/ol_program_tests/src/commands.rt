@@ -1,7 +1,8 @@
 //! Rows of `view`, `trace`, `check` and `gen` over the fakes.
+use crate::fakes::{file, words_of};
 use ol_cli::{Status, ol};
-use ol_io::{MemFile, MemSink, MemSource, OpenGate};
-use std::alloc::{AllocError, Global};
+use ol_io::{MemSink, MemSource, OpenGate};
+use std::alloc::Global;
 use std::process::Abort;
 use std::sync::Wait;
 use std::test::Fail;
@@ -11,13 +12,6 @@ use std::thread::Threads;
 const TERM: &[u8] = b"(\\x. x) (\\y. y)";
 
 const TRACE: &[u8] = b"ol trace 1\n0 1\n2 3\n4 1.1\n1.0 2.0\n";
-
-fn file(alloc: Global, name: &str, bytes: &[u8]) -> Result<MemFile, AllocError> {
-    Ok(MemFile {
-        name: String::from_str(alloc, name)?,
-        bytes: Vec::from_slice(alloc, bytes)?,
-    })
-}
 
 // What these words write, where the term stands in standard input and the journal in the file `j`;
 // call number `failing` of the source fails.
@@ -29,11 +23,7 @@ fn written(
     journal: &[u8],
     failing: &[u64],
 ) -> Result<(Status, bool, Vec<u8>), Fail> {
-    let mut words = Vec::new(alloc);
-    words.push(String::from_str(alloc, "ol")?)?;
-    for word in line.split_ascii_whitespace() {
-        words.push(String::from_str(alloc, word)?)?;
-    }
+    let words = words_of(alloc, line)?;
     let mut files = Vec::new(alloc);
     files.push(file(alloc, "-", term)?)?;
     files.push(file(alloc, "j", journal)?)?;
@@ -83,6 +73,15 @@ fn nets_are_viewed(rt: HostRuntime) -> Result<(), Fail> {
         TERM,
         b"",
         (Status::Done, false, last),
+    )?;
+    let erased = "step 2\nnodes 2\nf0 4.1\nf1 4.0\nf2 5.0\n4 croissant 0 f1 f0\n5 eraser - f2\n";
+    row(
+        &rt,
+        a,
+        "view --after 9 -",
+        b"(\\x y. x) a b",
+        b"",
+        (Status::Done, false, erased),
     )?;
     let none = "step 0\nnodes 2\nf0 0.0\n0 lam 0 f0 1.1 1.0\n1 croissant 0 0.2 0.1\n";
     row(
@@ -139,7 +138,7 @@ fn runs_are_traced(rt: HostRuntime) -> Result<(), Fail> {
 #[test]
 fn journals_are_checked(rt: HostRuntime) -> Result<(), Fail> {
     let a = rt.alloc();
-    let rows: [(&[u8], &str); 17] = [
+    let rows: [(&[u8], &str); 18] = [
         (TRACE, "complete\n"),
         (b"ol trace 1\n0 1\n2 3\n", "run 2\n"),
         (b"ol trace 1\n", "run 0\n"),
@@ -158,6 +157,7 @@ fn journals_are_checked(rt: HostRuntime) -> Result<(), Fail> {
         (b"ol trace 1\n0 2\n", "not a run at line 2\n"),
         (b"ol trace 1\n0 9.0\n", "not a run at line 2\n"),
         (b"ol trace 1\n0 2\n\xff\x00\n", "not a run at line 2\n"),
+        (b"ol trace 1\n0 9.0\n\xff\x00\n", "not a run at line 2\n"),
         (b"ol trace 1\n0 1\n0 1\n", "not a run at line 3\n"),
         (b"ol trace 2\n0 1\n", "bad text at line 1\n"),
     ];
@@ -186,6 +186,44 @@ fn journals_are_checked(rt: HostRuntime) -> Result<(), Fail> {
         b"\\x. x",
         TRACE,
         (Status::Done, false, "not a run at line 2\n"),
+    )
+}
+
+/// A journal by one translation is checked by that one.
+#[test]
+fn journals_have_a_translation(rt: HostRuntime) -> Result<(), Fail> {
+    let a = rt.alloc();
+    let term = b"(\\x. x x) (\\y. y)".as_slice();
+    let journal =
+        b"ol trace 1\n0 1\n6 7\n3 1.2\n2 2.2\n5 1.3\n4 4.2\n8 1.1\n1.0 6.0\n2.1 6.1\n2.0 8.0\n\
+        4.1 6.2\n4.0 10.0\n5.1 10.1\n5.0 12.0\n5.2 8.1\n12.1 14.1\n14.0 15.0\n"
+            .as_slice();
+    let rows = [
+        ("check --translation 1 - j", "complete\n"),
+        ("check --translation 2 - j", "not a run at line 3\n"),
+        ("check - j", "not a run at line 3\n"),
+    ];
+    for (line, text) in rows {
+        row(&rt, a, line, term, journal, (Status::Done, false, text))?;
+    }
+    let last = "step 17\nnodes 2\nf0 33.0\n33 lam 0 f0 35.1 35.0\n35 croissant 0 33.2 33.1\n";
+    row(
+        &rt,
+        a,
+        "view --translation 1 --after 17 -",
+        term,
+        b"",
+        (Status::Done, false, last),
+    )?;
+    let (status, _, traced) = written(&rt, a, "trace --translation 1 -", term, b"", &[])?;
+    assert_eq!(rt; status, Status::Done);
+    row(
+        &rt,
+        a,
+        "check --translation 1 - j",
+        term,
+        &traced,
+        (Status::Done, false, "complete\n"),
     )
 }
 

@@ -3,8 +3,9 @@ ghost use Rattle.std.specs.Prelude.{◌≡◌, ◌≤◌, ◌<◌, ℕ, List, Op
 ghost use Rattle.ol_io.specs.Sure.{bytes_of, told_by};
 ghost use Rattle.ol_cli.specs.Completeness.{AskForWhatCanBeDone, IsDoneOrNothing};
 
+use crate::fakes::{file, words_of};
 use ol_cli::{Outcome, Status, ol};
-use ol_io::{Gate, MemFile, MemSink, MemSource, OpenGate, SureSink, SureSource};
+use ol_io::{Gate, MemSink, MemSource, OpenGate, SureSink, SureSource};
 use std::alloc::{AllocError, Global};
 use std::sync::Wait;
 use std::test::Fail;
@@ -13,22 +14,6 @@ use std::thread::Threads;
 // What `run -` writes of `\x. x`.
 const ANSWER: &str = "\\a. a\nbeta 0\nfan 0\ncroissant 0\nbracket 0\ncross-fan 0\n\
                       cross-croissant 0\ncross-bracket 0\nerase 0\nstuck 0\n";
-
-// The program's name, and words that stand apart by spaces.
-fn words_of(alloc: Global, line: &str) -> Result<Vec<String>, AllocError> {
-    let mut words = Vec::new(alloc);
-    for word in line.split_ascii_whitespace() {
-        words.push(String::from_str(alloc, word)?)?;
-    }
-    Ok(words)
-}
-
-fn file(alloc: Global, name: &str, bytes: &[u8]) -> Result<MemFile, AllocError> {
-    Ok(MemFile {
-        name: String::from_str(alloc, name)?,
-        bytes: Vec::from_slice(alloc, bytes)?,
-    })
-}
 
 // The numbers of the calls that fail: of the source's one, and of the sink's one.
 #[derive(Clone, Copy)]
@@ -76,7 +61,7 @@ fn each_write_may_fail(rt: HostRuntime) -> Result<(), Fail> {
     let alloc = rt.alloc();
     for write in 0..36u64 {
         let failing = Failing { read: NONE, write };
-        let (status, text) = ended(&rt, alloc, "ol run --fuel 0 -", b"\\x. x", 3, failing)?;
+        let (status, text) = ended(&rt, alloc, "run --fuel 0 -", b"\\x. x", 3, failing)?;
         let (wanted, taken) = if write < 35 {
             (Status::WriteFault, 3 * write as usize)
         } else {
@@ -97,7 +82,7 @@ fn a_refusal_may_fail_to_be_written(rt: HostRuntime) -> Result<(), Fail> {
     let alloc = rt.alloc();
     for (term, read) in [(b"".as_slice(), NONE), (b"\\x. x", 1)] {
         let failing = Failing { read, write: 0 };
-        let (status, text) = ended(&rt, alloc, "ol run --fuel 0 -", term, 3, failing)?;
+        let (status, text) = ended(&rt, alloc, "run --fuel 0 -", term, 3, failing)?;
         assert_eq!(rt; status, Status::WriteFault);
         assert!(rt; text.is_empty());
     }
@@ -112,10 +97,10 @@ fn the_journal_is_begun_after_the_term(rt: HostRuntime) -> Result<(), Fail> {
         read: 3,
         write: NONE,
     };
-    let (status, text) = ended(&rt, alloc, "ol check - j", b"x", 16, failing)?;
+    let (status, text) = ended(&rt, alloc, "check - j", b"x", 16, failing)?;
     assert_eq!(rt; status, Status::ReadFault);
     assert!(rt; text.as_slice() == b"read fault\n".as_slice());
-    let (status, text) = ended(&rt, alloc, "ol check - j", b"$", 16, failing)?;
+    let (status, text) = ended(&rt, alloc, "check - j", b"$", 16, failing)?;
     assert_eq!(rt; status, Status::Syntax);
     assert!(rt; text.as_slice() == b"syntax at byte 0\n".as_slice());
     Ok(())
@@ -147,7 +132,7 @@ fn without_faults_the_answer_is_written(rt: HostRuntime) -> Result<(), Fail> {
     let mut files = Vec::new(alloc);
     files.push(file(alloc, "-", b"\\x. x")?)?;
     let mut src = SureSource::new(files);
-    let words = words_of(alloc, "ol run -")?;
+    let words = words_of(alloc, "run -")?;
     for _call in 0..2u32 {
         let mut out = SureSink::new(alloc, 1_048_576)?;
         let outcome = surely(&rt, alloc, &words, &mut src, &mut out, &OpenGate);

@@ -1,6 +1,7 @@
 //! Rows over the fakes: words and a file, and what is written and answered.
+use crate::fakes::{file, words_of};
 use ol_cli::{Status, ol};
-use ol_io::{MemFile, MemSink, MemSource, OpenGate};
+use ol_io::{MemSink, MemSource, OpenGate};
 use std::alloc::{AllocError, Global};
 use std::process::Abort;
 use std::sync::Wait;
@@ -23,15 +24,6 @@ struct Faults<'a> {
     most: usize,
 }
 
-fn words_of(alloc: Global, line: &str) -> Result<Vec<String>, AllocError> {
-    let mut words = Vec::new(alloc);
-    words.push(String::from_str(alloc, "ol")?)?;
-    for word in line.split_ascii_whitespace() {
-        words.push(String::from_str(alloc, word)?)?;
-    }
-    Ok(words)
-}
-
 // What is written, where the status is this one. There are closed words exactly where `run` came to
 // an end, or used up its fuel.
 fn written(
@@ -42,10 +34,7 @@ fn written(
     status: Status,
 ) -> Result<Vec<u8>, Fail> {
     let mut files = Vec::new(alloc);
-    files.push(MemFile {
-        name: String::from_str(alloc, given.name)?,
-        bytes: Vec::from_slice(alloc, given.input)?,
-    })?;
+    files.push(file(alloc, given.name, given.input)?)?;
     let most = faults.most.max(1);
     let mut src = MemSource::new(files, most, Vec::from_slice(alloc, faults.reads)?);
     let mut out = MemSink::new(
@@ -146,7 +135,24 @@ fn terms_are_printed_with_their_counts(rt: HostRuntime) -> Result<(), Fail> {
         ("run --workers 2 --fuel 11 -", pair, "\\a. a", pairs),
         ("run --workers 64 --fuel 11 -", pair, "\\a. a", pairs),
         ("run --translation 2 -", pair, "\\a. a", pairs),
-        ("run --translation 1 --fuel 17 -", pair, "\\a. a", boxed),
+        (
+            "run --workers 1 --translation 1 --fuel 17 -",
+            pair,
+            "\\a. a",
+            boxed,
+        ),
+        (
+            "run --workers 2 --translation 1 --fuel 17 -",
+            pair,
+            "\\a. a",
+            boxed,
+        ),
+        (
+            "run --workers 64 --translation 1 --fuel 17 -",
+            pair,
+            "\\a. a",
+            boxed,
+        ),
         (
             "run -",
             "(\\x. y) (\\z. z)",
@@ -191,44 +197,34 @@ fn terms_without_a_redex_are_printed_as_they_are(rt: HostRuntime) -> Result<(), 
 #[test]
 fn fuel_is_used_up(rt: HostRuntime) -> Result<(), Fail> {
     let alloc = rt.alloc();
+    let pair = "(\\x. x x) (\\y. y)";
+    let endless = "(\\x. x x) (\\x. x x)";
+    let erased = "(\\x y. x) (\\z. z) ((\\x. x x) (\\x. x x))";
     let rows = [
+        ("run --workers 1 --fuel 10 -", pair, "fuel 10\n"),
+        ("run --workers 2 --fuel 10 -", pair, "fuel 10\n"),
+        ("run --workers 64 --fuel 10 -", pair, "fuel 10\n"),
         (
-            "run --workers 1 --fuel 10 -",
-            "(\\x. x x) (\\y. y)",
-            "fuel 10\n",
-        ),
-        (
-            "run --workers 2 --translation 1 --fuel 16 -",
-            "(\\x. x x) (\\y. y)",
+            "run --workers 1 --translation 1 --fuel 16 -",
+            pair,
             "fuel 16\n",
         ),
         (
-            "run --workers 64 --fuel 10 -",
-            "(\\x. x x) (\\y. y)",
-            "fuel 10\n",
+            "run --workers 2 --translation 1 --fuel 16 -",
+            pair,
+            "fuel 16\n",
+        ),
+        (
+            "run --workers 64 --translation 1 --fuel 16 -",
+            pair,
+            "fuel 16\n",
         ),
         ("run --fuel 0 -", "(\\x. x) (\\y. y)", "fuel 0\n"),
-        ("run --fuel=007 -- -", "(\\x. x x) (\\y. y)", "fuel 7\n"),
-        (
-            "run --workers 1 -",
-            "(\\x. x x) (\\x. x x)",
-            "fuel 200000\n",
-        ),
-        (
-            "run --workers 2 -",
-            "(\\x. x x) (\\x. x x)",
-            "fuel 200000\n",
-        ),
-        (
-            "run --workers 64 -",
-            "(\\x. x x) (\\x. x x)",
-            "fuel 200000\n",
-        ),
-        (
-            "run -",
-            "(\\x y. x) (\\z. z) ((\\x. x x) (\\x. x x))",
-            "fuel 200000\n",
-        ),
+        ("run --fuel=007 -- -", pair, "fuel 7\n"),
+        ("run --workers 1 -", endless, "fuel 200000\n"),
+        ("run --workers 2 -", endless, "fuel 200000\n"),
+        ("run --workers 64 -", endless, "fuel 200000\n"),
+        ("run -", erased, "fuel 200000\n"),
     ];
     for (words, input, text) in rows {
         plain(&rt, alloc, words, input.as_bytes(), Status::Spent, text)?;
@@ -502,11 +498,26 @@ fn depth_is_limited(rt: HostRuntime) -> Result<(), Fail> {
     plain(&rt, alloc, "run -", &deeper, Status::Limit, refused)?;
     let deepest = repeated(alloc, b"\\", b"x ", 500_000, b". x")?;
     plain(&rt, alloc, "run -", &deepest, Status::Limit, refused)?;
-    let mut inside = repeated(alloc, b"", b"(", 100_000, b"x")?;
-    let closing = repeated(alloc, b"", b")", 100_000, b"")?;
+    let mut inside = repeated(alloc, b"", b"(", 400_000, b"x")?;
+    let closing = repeated(alloc, b"", b")", 400_000, b"")?;
     inside.extend_from_slice(&closing)?;
     let done = answered(alloc, "x", [0; 9])?;
     plain(&rt, alloc, "run -", &inside, Status::Done, &done)
+}
+
+// An argument in an argument, up to the greatest depth, is printed as it is written.
+#[test]
+fn deep_arguments_are_printed(rt: HostRuntime) -> Result<(), Fail> {
+    let alloc = rt.alloc();
+    let mut text = String::new(alloc);
+    for level in 0..998 {
+        text.push_str("x (")?;
+    }
+    text.push_str("x x")?;
+    for level in 0..998 {
+        text.push_str(")")?;
+    }
+    run_row(&rt, alloc, "run -", &text, &text, [0; 9])
 }
 
 // A tree of applications of so many levels over x.

@@ -3,11 +3,13 @@
 ghost use Rattle.std.specs.Prelude.{◌≡◌, ◌≤◌, IsTrue, count_by, is_some, length};
 ghost use Rattle.ol_wire.specs.Sizes.{IsSmallNet};
 
+use crate::fakes::{file, words_of};
 use ol_cli::{Outcome, Status, ol};
-use ol_io::{Gate, MemFile, MemSink, MemSource, OpenGate};
+use ol_io::{Gate, MemSink, MemSource, OpenGate};
 use ol_net::{BuildFault, Kind, Net, NodeId, Port};
 use ol_parse::parse;
 use ol_reduce::{Reduced, freeze, reduce};
+use ol_rules::counts;
 use ol_term::Translation;
 use ol_translate::translate;
 use ol_view::show;
@@ -32,25 +34,19 @@ fn generated(alloc: Global, rounds: u32) -> Result<Vec<u8>, AllocError> {
     Ok(text)
 }
 
-// How `run -` with so many workers ends on a text, and what it writes.
+// How `run -` with these options and so many workers ends on a text, and what it writes.
 fn run(
     rt: &(impl Threads + Wait + Sync),
     alloc: Global,
+    options: &str,
     workers: u32,
     text: &[u8],
     gate: &(impl Gate + Sync),
 ) -> Result<(Outcome, Vec<u8>), Fail> {
-    let mut words = Vec::new(alloc);
-    for word in ["ol", "run", "--workers"] {
-        words.push(String::from_str(alloc, word)?)?;
-    }
-    words.push(format!(in alloc; "{workers}")?)?;
-    words.push(String::from_str(alloc, "-")?)?;
+    let line = format!(in alloc; "run {options} --workers {workers} -")?;
+    let words = words_of(alloc, &line)?;
     let mut files = Vec::new(alloc);
-    files.push(MemFile {
-        name: String::from_str(alloc, "-")?,
-        bytes: Vec::from_slice(alloc, text)?,
-    })?;
+    files.push(file(alloc, "-", text)?)?;
     let mut src = MemSource::new(files, 65_536, Vec::new(alloc));
     let mut out = MemSink::new(alloc, 1_048_576, 65_536, Vec::new(alloc))
         .ok()
@@ -64,13 +60,31 @@ fn run(
 fn any_number_of_workers_gives_one_text(rt: HostRuntime) -> Result<(), Fail> {
     let alloc = rt.alloc();
     let text = generated(alloc, 6)?;
-    let wanted =
+    let bare =
         "\\a. a\nbeta 191\nfan 64\ncroissant 191\nbracket 0\ncross-fan 128\ncross-croissant 382\ncross-bracket 0\nerase 0\nstuck 0\n";
-    for workers in [1, 2, 64] {
-        let (outcome, written) = run(&rt, alloc, workers, &text, &OpenGate)?;
-        assert_eq!(rt; outcome.status, Status::Done);
-        assert_eq!(rt; outcome.closed.map(|words| words.events()), Some(956));
-        assert!(rt; written.as_slice() == wanted.as_bytes(), "{workers}");
+    let boxed =
+        "\\a. a\nbeta 191\nfan 64\ncroissant 255\nbracket 64\ncross-fan 128\ncross-croissant 510\ncross-bracket 128\nerase 0\nstuck 0\n";
+    let rows = [
+        ("--fuel 956", Status::Done, bare, 956),
+        ("--fuel 955", Status::Spent, "fuel 955\n", 955),
+        ("--translation 1 --fuel 1340", Status::Done, boxed, 1_340),
+        (
+            "--translation 1 --fuel 1339",
+            Status::Spent,
+            "fuel 1339\n",
+            1_339,
+        ),
+    ];
+    for (options, status, wanted, events) in rows {
+        for workers in [1, 2, 64] {
+            let (outcome, written) = run(&rt, alloc, options, workers, &text, &OpenGate)?;
+            assert_eq!(rt; outcome.status, status, "{options} {workers}");
+            assert_eq!(rt; outcome.closed.map(|words| words.events()), Some(events));
+            assert!(rt;
+                written.as_slice() == wanted.as_bytes(),
+                "{options} {workers}"
+            );
+        }
     }
     Ok(())
 }
@@ -78,7 +92,7 @@ fn any_number_of_workers_gives_one_text(rt: HostRuntime) -> Result<(), Fail> {
 #[test]
 fn an_abstraction_and_its_croissant_are_left(rt: HostRuntime) -> Result<(), Fail> {
     let alloc = rt.alloc();
-    let (outcome, _) = run(&rt, alloc, 2, b"(\\x. x x) (\\y. y)", &OpenGate)?;
+    let (outcome, _) = run(&rt, alloc, "", 2, b"(\\x. x x) (\\y. y)", &OpenGate)?;
     let words = outcome.closed.ok_or("no closed words")?;
     let last = freeze(alloc, &words)?;
     assert_eq!(rt; last.nodes(), 2);
@@ -153,7 +167,7 @@ fn two_workers_meet(rt: HostRuntime) -> Result<(), Fail> {
         after: Flags::lowered(),
         met: AtomicU64::new(0),
     };
-    let (outcome, _) = run(&rt, alloc, 2, &text, &meeting)?;
+    let (outcome, _) = run(&rt, alloc, "", 2, &text, &meeting)?;
     assert_eq!(rt; outcome.status, Status::Done);
     assert_eq!(rt; meeting.met.load(Ordering::SeqCst), 4);
     Ok(())
@@ -176,8 +190,8 @@ fn two_workers_of_a_reduction_meet(rt: HostRuntime) -> Result<(), Fail> {
     let alloc = rt.alloc();
     let text = generated(alloc, 1)?;
     assert!(rt; text.len() <= 1_000_000);
-    let file = parse(alloc, &text).ok().ok_or("no term")?;
-    let net = translate(alloc, &file, Translation::One)
+    let term = parse(alloc, &text).ok().ok_or("no term")?;
+    let net = translate(alloc, &term, Translation::One)
         .ok()
         .ok_or("no net")?;
     assert!(rt; is_small(&net));
@@ -219,9 +233,16 @@ fn the_greatest_index_is_raised(rt: HostRuntime) -> Result<(), Fail> {
     assert_eq!(rt; past.err(), Some(BuildFault::BadIndex { node: 1 }));
     let net = bracket_and_abstraction(alloc, 1_000_000)?.map_err(Fail::from)?;
     assert!(rt; is_small(&net));
-    let Reduced::Done { net: last, .. } = reduce(&rt, alloc, &net, 1, 1, &OpenGate)? else {
+    let reduced = reduce(&rt, alloc, &net, 1, 1, &OpenGate)?;
+    let Reduced::Done {
+        net: last,
+        journal,
+        ..
+    } = reduced
+    else {
         return Err(Fail::from("the fuel was used up"));
     };
+    assert_eq!(rt; (journal.len(), counts(&journal).cross_bracket), (1, 1));
     let wanted = "nodes 3\nf0 2.0\nf1 0.0\nf2 1.0\n0 bracket 0 f1 2.1\n1 bracket 0 f2 2.2\n\
                   2 lam 1000001 f0 0.1 1.1\n";
     assert!(rt; show(alloc, &last)?.as_slice() == wanted.as_bytes());
@@ -240,7 +261,7 @@ impl Gate for Turns {
     }
 }
 
-// The sweep after the work leaves nothing to the end: the worker made a turn for each interaction.
+// One worker tells its gate a turn for each interaction at the least.
 #[test]
 fn a_worker_makes_all_turns(rt: HostRuntime) -> Result<(), Fail> {
     let alloc = rt.alloc();
@@ -248,8 +269,8 @@ fn a_worker_makes_all_turns(rt: HostRuntime) -> Result<(), Fail> {
     let turns = Turns {
         most: AtomicU64::new(0),
     };
-    let (outcome, _) = run(&rt, alloc, 1, &text, &turns)?;
+    let (outcome, _) = run(&rt, alloc, "", 1, &text, &turns)?;
     assert_eq!(rt; outcome.status, Status::Done);
-    assert!(rt; turns.most.load(Ordering::SeqCst) >= 1_340);
+    assert!(rt; turns.most.load(Ordering::SeqCst) >= 956);
     Ok(())
 }
