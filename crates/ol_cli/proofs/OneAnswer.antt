@@ -49,11 +49,14 @@ alike_as asked s s' u x x' y h h' = alike asked s s' x x' (same_as s s' u x x' y
 -- ---- a term
 
 -- the translation of a file's term is a net
-pub file_net : (tr : Translation) (bytes : List ℕ) (t : Tree) (names : List (List ℕ)) → IsFileOf bytes t names → IsNet (translation_of tr t (length names))
-file_net tr bytes t names f =
+pub file_names : (bytes : List ℕ) (t : Tree) (names : List (List ℕ)) → IsFileOf bytes t names → HasNames t (length names)
+file_names bytes t names f =
     let has_names : HasNames (number f.named) (length (names_of f.named)) =
     record { bound = whole_bound f.named; named = whole_named f.named; each = λ k b. whole_occurs f.named k b } in
-    translation_net tr t (length names) (subst (λ t. HasNames t (length names)) (sym f.tree) (subst (λ names. HasNames (number f.named) (length names)) (sym f.free_names) has_names))
+    subst (λ t. HasNames t (length names)) (sym f.tree) (subst (λ names. HasNames (number f.named) (length names)) (sym f.free_names) has_names)
+
+pub file_net : (tr : Translation) (bytes : List ℕ) (t : Tree) (names : List (List ℕ)) → IsFileOf bytes t names → IsNet (translation_of tr t (length names))
+file_net tr bytes t names f = translation_net tr t (length names) (file_names bytes t names f)
 
 -- what a job answers to a term, by cases
 pub data OfTerm (t : Tree) (names : List (List ℕ)) : Asked → Status → List ℕ → Type 0 where

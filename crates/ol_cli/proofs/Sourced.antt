@@ -17,23 +17,28 @@ use Rattle.ol_invariance.proofs.Runs.{run_keeps}
 use Rattle.ol_context.specs.Paths.{HaveSamePaths}
 use Rattle.ol_context.specs.Short.{HasNoFacing}
 use Rattle.ol_translate.specs.Translation.{translation_of}
+use Rattle.ol_translate.specs.Names.{HasNames}
+use Rattle.ol_translate.proofs.Whole.{translation_net}
 use Rattle.ol_readback.specs.Heads.{live}
+use Rattle.ol_readback.specs.Sources.{HasHeadsOf}
 use Rattle.ol_readback.specs.Terms.{HasAllHeads, IsReadBack}
 use Rattle.ol_readback.proofs.Sources.{own_heads, read_heads}
+use Rattle.ol_readback.proofs.Forests.{tree_is_whole}
+use Rattle.ol_meaning.proofs.Based.{places_say}
 use Rattle.ol_words.specs.Texts.{Text}
 use Rattle.ol_words.specs.Asked.{Asked, run, walk, view, trace, check, gen}
 use Rattle.ol_cli.specs.declared.status.Status.{Status}
 use Rattle.ol_cli.specs.declared.status.Status.TheVariants as status
 use Rattle.ol_cli.specs.Jobs.{AskFor, EachName, TellsTerm, TellsFiles, term_bytes, translation_in}
-use Rattle.ol_cli.specs.Evaluation.{start_net_of_term, Prints}
+use Rattle.ol_cli.specs.Evaluation.{start_net_of_term, Prints, Walks}
 use Rattle.ol_cli.specs.Answers.{Ends, IsTermFile, TermAnswer, FileAnswer, JobAnswer, of_file, made, IsAnswer, plain_run}
-use Rattle.ol_cli.specs.Sources.{PrintsTree, TellsTree, WritesTree, RunTells, JobTells, EveryRunTells}
+use Rattle.ol_cli.specs.Sources.{PrintsTree, WalksTree, TellsTree, WritesTree, RunTells, JobTells, EveryRunTells}
 use Rattle.ol_cli.specs.ReadAgain.{TextIsReadAgain, WritesReadable}
 use Rattle.ol_rules.proofs.LeadRuns.{as_run}
 use Rattle.ol_cli.proofs.NoFacing.{no_facing}
 use Rattle.ol_cli.proofs.OnePrint.{start_is_net, start_is_named}
 use Rattle.ol_cli.proofs.EveryRun.{every_run_prints, every_run_is_longer}
-use Rattle.ol_cli.proofs.OneAnswer.{file_net, one_job, own_job}
+use Rattle.ol_cli.proofs.OneAnswer.{file_net, file_names, one_job, own_job}
 use Rattle.ol_cli.proofs.Exact.{ends_exact}
 
 -- ---- the tree that is written
@@ -50,31 +55,46 @@ none_stuck N stuck is_net complete counted e =
     let none : stuck ≡ 0 = grind (arith, e) in
     no_facing N is_net complete (subst (λ n. HasStuck N n) none counted)
 
-prints_tree : (tr : Translation) (t : Tree) (names : List (List ℕ)) (fuel heads : ℕ) (text : List ℕ) → IsNet (translation_of tr t (length names)) → (p : Prints tr t names fuel heads text) →
+prints_tree : (tr : Translation) (t : Tree) (names : List (List ℕ)) (fuel heads : ℕ) (text : List ℕ) → HasNames t (length names) → (p : Prints tr t names fuel heads text) →
     (HasAllHeads p.shows.tree → IsReadBack names p.shows.tree p.shows.term) → PrintsTree tr t names fuel heads text
-prints_tree tr t names fuel heads text is_net p read =
+prints_tree tr t names fuel heads text has p read =
     let s = p.shows in
     let N = translation_of tr t (length names) in
+    let own = read_heads N p.net (kept_paths tr t names fuel heads text (translation_net tr t (length names) has) p) s.is_net heads (2 * live p.net) (s.stuck == 0) (none_stuck p.net s.stuck s.is_net p.complete s.counted) s.read in
+    let whole = tree_is_whole p.net heads (2 * live p.net) s.tree s.read in
     record {
       prints = p;
-      own_heads = read_heads N p.net (kept_paths tr t names fuel heads text is_net p) s.is_net heads (2 * live p.net) (s.stuck == 0) (none_stuck p.net s.stuck s.is_net p.complete s.counted) s.read;
+      own_heads = own;
+      says = λ e. places_say t (length names) has (s.stuck == 0) whole.tree s.tree whole.is_list (subst (λ tr. HasHeadsOf (translation_of tr t (length names)) (s.stuck == 0) s.tree) e own);
       read_again = read;
     }
 
-tells_tree : (asked : Asked) (t : Tree) (names : List (List ℕ)) (text : List ℕ) → IsNet (translation_of (translation_in asked) t (length names)) → TextIsReadAgain asked t names text → TellsTree asked t names text
-tells_tree (run tr workers fuel heads name) t names text is_net h = prints_tree tr t names fuel heads text is_net h.0 h.1
-tells_tree (view tr k name) t names text is_net h = tt
-tells_tree (trace tr w f name) t names text is_net h = tt
-tells_tree (check tr term journal) t names text is_net h = tt
-tells_tree (gen tr true k) t names text is_net h = prints_tree tr t names 200000 4096 text is_net h.0 h.1
-tells_tree (gen tr false k) t names text is_net h = tt
-tells_tree (walk tr edges heads name) t names text is_net h =
-    record { walks = h.0; own_heads = (own_heads (translation_of tr t (length names)) is_net heads edges h.0.tree h.0.read).0; read_again = h.1 }
+walks_tree : (tr : Translation) (t : Tree) (names : List (List ℕ)) (edges heads : ℕ) (text : List ℕ) → HasNames t (length names) → (w : Walks tr t names edges heads text) →
+    (HasAllHeads w.tree → IsReadBack names w.tree w.term) → WalksTree tr t names edges heads text
+walks_tree tr t names edges heads text has w read =
+    let N = translation_of tr t (length names) in
+    let own = (own_heads N (translation_net tr t (length names) has) heads edges w.tree w.read).0 in
+    let whole = tree_is_whole N heads edges w.tree w.read in
+    record {
+      walks = w;
+      own_heads = own;
+      says = λ e. places_say t (length names) has false whole.tree w.tree whole.is_list (subst (λ tr. HasHeadsOf (translation_of tr t (length names)) false w.tree) e own);
+      read_again = read;
+    }
+
+tells_tree : (asked : Asked) (t : Tree) (names : List (List ℕ)) (text : List ℕ) → HasNames t (length names) → TextIsReadAgain asked t names text → TellsTree asked t names text
+tells_tree (run tr workers fuel heads name) t names text has h = prints_tree tr t names fuel heads text has h.0 h.1
+tells_tree (view tr k name) t names text has h = tt
+tells_tree (trace tr w f name) t names text has h = tt
+tells_tree (check tr term journal) t names text has h = tt
+tells_tree (gen tr true k) t names text has h = prints_tree tr t names 200000 4096 text has h.0 h.1
+tells_tree (gen tr false k) t names text has h = tt
+tells_tree (walk tr edges heads name) t names text has h = walks_tree tr t names edges heads text has h.0 h.1
 
 pub writes_tree : (words : List (String Global)) (bytes : List ℕ) (old new : Option (List ℕ)) → WritesReadable words bytes old new → WritesTree words bytes old new
 writes_tree words bytes old new h asked t names j f =
     let x = h asked t names j f in
-    (x.0, tells_tree asked t names x.0 (file_net (translation_in asked) bytes t names f) x.1, x.2)
+    (x.0, tells_tree asked t names x.0 (file_names bytes t names f) x.1, x.2)
 
 -- ---- answers to the job's own term
 
