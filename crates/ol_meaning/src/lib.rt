@@ -1,10 +1,11 @@
 //! What head reduction of a term is for the walks over its net: a head that such a walk finds is
-//! the head of the term's head normal form.
+//! the head of the term's head normal form, and a tree that such walks tell is what beta reduction
+//! gives.
 //!
 //! Most is said over a term's spots and trails (`ol_spots_net`), which are the walks over its net.
 //! A trail's weight is the number of application nodes that it crosses. Terms may be open, so that
-//! the laws speak of subterms as well. `net_heads` says it over the net of a whole term. Each
-//! function here is a law: it has no code.
+//! the laws speak of subterms as well. `net_heads` and `meaning` say it over the net of a whole
+//! term, by translation 1. Each function here is a law: it has no code.
 #![tactic(auto)]
 
 ghost use Rattle.ol_meaning.specs.Laws.{LiftKeeps, CutIsHeld, HeldIsCut, RedexOpens, CutCloses};
