@@ -1,22 +1,50 @@
 //! A small net that is swept, worked on by one worker, and worked on by several.
 ghost use Rattle.std.specs.Prelude.{◌≡◌, ◌≤◌, IfOk, count_by, is_some, length};
+ghost use Rattle.ol_pool.specs.Pools.{IsHandOf};
 ghost use Rattle.ol_reduce.specs.Works.{IsWorker};
 ghost use Rattle.ol_wire.specs.Layout.{cells_of};
 ghost use Rattle.ol_wire.specs.Sizes.{IsSmallNet};
+ghost use Rattle.ol_wire.specs.Stand.{IsNewSeat};
 
 use crate::small_nets::{
     identity_of_identity, identity_twice, is_small, of, stuck_pair, without_end,
 };
 use ol_io::{NoMemory, OpenGate};
 use ol_net::{Net, Port};
-use ol_pool::Pool;
+use ol_pool::{Hand, Pool};
 use ol_reduce::{End, Reduced, Sweep, Worker, reduce, sweep, worker};
 use ol_rules::{Counts, counts};
-use ol_wire::Shared;
+use ol_wire::{Seat, Shared};
 use std::alloc::Global;
 use std::test::Fail;
 
-// A table with one seat, and a pool with one hand that has put the first cell.
+// Puts the first cell, if there is one.
+fn put_first(pool: &Pool, hand: &mut Hand) -> Result<(), NoMemory>
+    requires { IsHandOf hand.old pool.now }
+    ensures { IsHandOf hand.new pool.now }
+{
+    if pool.cells() == 0 {
+        return Ok(());
+    }
+    let Ok(()) = pool.put(hand, 0) else {
+        return Err(NoMemory);
+    };
+    Ok(())
+}
+
+// A worker that has put the first cell.
+#[tactic(auto, using(ol_reduce::proofs::Hired::worker_of_fresh))]
+fn hired(table: &Shared, pool: &Pool, seat: Seat, mut hand: Hand) -> Result<Worker, NoMemory>
+    requires seat { IsNewSeat table.now seat }
+    requires hand { IsHandOf hand pool.now }
+    ensures { IfOk result (IsWorker table.now pool.now) }
+{
+    put_first(pool, &mut hand)?;
+    let number = hand.number();
+    Ok(Worker::new(number, seat, hand))
+}
+
+// A table with one seat, and a pool with one hand, which a worker has.
 fn alone(alloc: Global, net: &Net, fuel: u32) -> Result<(Shared, Pool, Worker), NoMemory>
     requires whole { count_by is_some net.now.nodes ≡ length net.now.nodes }
     requires small { IsSmallNet net.now }
@@ -28,14 +56,9 @@ fn alone(alloc: Global, net: &Net, fuel: u32) -> Result<(Shared, Pool, Worker), 
     let (table, mut seats) = Shared::make(alloc, net, fuel, 1)?;
     let (pool, mut hands) = Pool::new(alloc, 1, table.cells())?;
     let seat = seats.pop().unwrap();
-    let mut hand = hands.pop().unwrap();
-    if 0 < pool.cells() {
-        let Ok(()) = pool.put(&mut hand, 0) else {
-            return Err(NoMemory);
-        };
-    }
-    let number = hand.number();
-    Ok((table, pool, Worker::new(number, seat, hand)))
+    let hand = hands.pop().unwrap();
+    let own = hired(&table, &pool, seat, hand)?;
+    Ok((table, pool, own))
 }
 
 #[test]
