@@ -1,6 +1,6 @@
 //! A small net that is swept, worked on by one worker, and worked on by several.
 ghost use Rattle.std.specs.Prelude.{◌≡◌, ◌≤◌, IfOk, count_by, is_some, length};
-ghost use Rattle.ol_pool.specs.Pools.{IsHandOf};
+ghost use Rattle.ol_pool.specs.Pools.{IsHandOf as IsOfPool};
 ghost use Rattle.ol_reduce.specs.Works.{IsWorker};
 ghost use Rattle.ol_wire.specs.Layout.{cells_of};
 ghost use Rattle.ol_wire.specs.Sizes.{IsSmallNet};
@@ -18,33 +18,27 @@ use ol_wire::{Seat, Shared};
 use std::alloc::Global;
 use std::test::Fail;
 
-// Puts the first cell, if there is one.
-fn put_first(pool: &Pool, hand: &mut Hand) -> Result<(), NoMemory>
-    requires { IsHandOf hand.old pool.now }
-    ensures { IsHandOf hand.new pool.now }
+// The hand puts the first cell, if there is one.
+fn put_first(pool: &Pool, hand: &mut Hand)
+    requires { IsOfPool hand.old pool.now }
+    ensures { IsOfPool hand.new pool.now }
 {
-    if pool.cells() == 0 {
-        return Ok(());
+    if 0 < pool.cells() {
+        let _ = pool.put(hand, 0);
     }
-    let Ok(()) = pool.put(hand, 0) else {
-        return Err(NoMemory);
-    };
-    Ok(())
 }
 
-// A worker that has put the first cell.
-#[tactic(auto, using(ol_reduce::proofs::Hired::worker_of_fresh))]
-fn hired(table: &Shared, pool: &Pool, seat: Seat, mut hand: Hand) -> Result<Worker, NoMemory>
+// A worker with a new seat of the table and a hand of the pool.
+fn hired(table: &Shared, pool: &Pool, seat: Seat, hand: Hand) -> Worker
     requires seat { IsNewSeat table.now seat }
-    requires hand { IsHandOf hand pool.now }
-    ensures { IfOk result (IsWorker table.now pool.now) }
+    requires hand { IsOfPool hand pool.now }
+    ensures { IsWorker table.now pool.now result }
 {
-    put_first(pool, &mut hand)?;
     let number = hand.number();
-    Ok(Worker::new(number, seat, hand))
+    Worker::new(number, seat, hand)
 }
 
-// A table with one seat, and a pool with one hand, which a worker has.
+// A table with one seat, and a pool with one hand that has put the first cell.
 fn alone(alloc: Global, net: &Net, fuel: u32) -> Result<(Shared, Pool, Worker), NoMemory>
     requires whole { count_by is_some net.now.nodes ≡ length net.now.nodes }
     requires small { IsSmallNet net.now }
@@ -56,8 +50,9 @@ fn alone(alloc: Global, net: &Net, fuel: u32) -> Result<(Shared, Pool, Worker), 
     let (table, mut seats) = Shared::make(alloc, net, fuel, 1)?;
     let (pool, mut hands) = Pool::new(alloc, 1, table.cells())?;
     let seat = seats.pop().unwrap();
-    let hand = hands.pop().unwrap();
-    let own = hired(&table, &pool, seat, hand)?;
+    let mut hand = hands.pop().unwrap();
+    put_first(&pool, &mut hand);
+    let own = hired(&table, &pool, seat, hand);
     Ok((table, pool, own))
 }
 
