@@ -122,7 +122,3 @@ module _ (words : List (String Global)) (f f' given : ℕ) (contents : Text → 
   done_or_nothing ReadFault g g' old new calm e = is_done ReadFault old new (ends_exact words f f' given contents ended quiet tells ReadFault g g' old new calm (λ e. cc) e)
   done_or_nothing WriteFault g g' old new calm e = is_done WriteFault old new (ends_exact words f f' given contents ended quiet tells WriteFault g g' old new calm (λ e. cc) e)
   done_or_nothing Limit g g' old new calm e = is_done Limit old new (ends_exact words f f' given contents ended quiet tells Limit g g' old new calm (λ e. cc) e)
-
--- a count that stays 0 has not risen
-pub never_rose : Rose 0 0 → ⊥
-never_rose rose = let risen : 1 ≤ 0 = rose.risen in absurd (omega (arith, risen))

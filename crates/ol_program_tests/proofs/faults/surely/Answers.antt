@@ -1,5 +1,10 @@
-use Rattle.ol_cli.proofs.Complete.{never_rose}
+use Rattle.std.proofs.Common.{◌≤◌, arith}
+use Rattle.ol_io.specs.Outside.{Rose}
 use Rattle.ol_program_tests.proofs.faults.surely.Goals as goal
+
+-- a count that stays 0 has not risen
+never_rose : Rose 0 0 → ⊥
+never_rose rose = let risen : 1 ≤ 0 = rose.risen in absurd (omega (arith, risen))
 
 pub returns-clause-done : goal.returns-clause-done
 returns-clause-done g c = λ can. c.ol.ensures.completeness can never_rose never_rose
