@@ -3,7 +3,6 @@ use Rattle.std.proofs.Common.{◌≡◌, ◌∙◌, ℕ, zero, suc, ◌+◌, ◌
 use Rattle.std.specs.Option.{ForSome}
 use Rattle.std.proofs.lemmas.List.{reverse-append}
 use Rattle.std.proofs.lemmas.List.Elements.{All-head, All-tail, All-cons, All-nil, All-map, All-weaker}
-use Rattle.std.proofs.lemmas.List.{map_push}
 use Rattle.ol_pool.specs.declared.deques.Log.{Log}
 use Rattle.ol_pool.specs.Deques.{log, lends}
 use Rattle.ol_pool.specs.Looks.{part_at, new_part}

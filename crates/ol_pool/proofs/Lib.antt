@@ -3,3 +3,4 @@ pub mod Searches
 pub mod Places
 pub mod Dealing
 pub mod Weighing
+pub mod NoneLost

@@ -1,5 +1,5 @@
 -- Each cell that was put waits or was given, as often as it was put.
-use Rattle.std.proofs.Common.{◌≡◌, ◌==◌, ℕ, ◌+◌, ◌⊎◌, inl, inr, if◌then◌else◌, List, [], ◌∷◌, All, refl, sym, subst}
+use Rattle.std.proofs.Common.{◌≡◌, ◌==◌, ℕ, ◌+◌, inl, inr, if◌then◌else◌, List, [], ◌∷◌, All, refl, sym, subst}
 use Rattle.std.proofs.lemmas.List.Elements.{All-cons, All-nil}
 use Rattle.ol_pool.specs.declared.deques.Log.{Log}
 use Rattle.ol_pool.specs.Deques.{Kept, NoCellIsLost, total, times, untold, told}

@@ -16,6 +16,4 @@ mod orders;
 #[cfg(test)]
 mod runs;
 #[cfg(test)]
-mod walks;
-#[cfg(test)]
 mod workers;
