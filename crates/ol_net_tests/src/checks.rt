@@ -1,182 +1,120 @@
-//! Traces of small terms, whole and broken.
+//! Traces of small terms, whole and broken, and nets after some leads.
 
-use ol_net::{Kind, Net, NodeId, Port};
+use crate::small_nets::{IDENTITY_OF_IDENTITY, assert_shown, net_of};
 use ol_rules::run;
-use ol_view::{Check, check, trace_text};
+use ol_view::{Check, after, check, trace_text};
 use std::alloc::Global;
 use std::process::Abort;
 use std::test::Fail;
 
-pub fn of(node: u32, slot: u8) -> Port {
-    Port::Of {
-        node: NodeId(node),
-        slot,
-    }
-}
-
-/// The net of (\x. x) (\y. y).
-pub fn identity_of_identity(alloc: Global) -> Result<Net, Fail> {
-    let nodes = vec![in alloc;
-        (Kind::App, 0),
-        (Kind::Lam, 0),
-        (Kind::Croissant, 0),
-        (Kind::Lam, 1),
-        (Kind::Croissant, 1),
-    ]?;
-    let links = vec![in alloc;
-        (Port::Free(0), of(0, 1)),
-        (of(0, 0), of(1, 0)),
-        (of(0, 2), of(3, 0)),
-        (of(1, 1), of(2, 1)),
-        (of(1, 2), of(2, 0)),
-        (of(3, 1), of(4, 1)),
-        (of(3, 2), of(4, 0)),
-    ]?;
-    Net::build(alloc, 1, nodes, links).map_err(Fail::from)
-}
-
 /// The net of (\x. y) (\z. z).
-fn erased_identity(alloc: Global) -> Result<Net, Fail> {
-    let nodes = vec![in alloc;
-        (Kind::App, 0),
-        (Kind::Lam, 0),
-        (Kind::Croissant, 0),
-        (Kind::Eraser, 0),
-        (Kind::Lam, 1),
-        (Kind::Croissant, 1),
-    ]?;
-    let links = vec![in alloc;
-        (Port::Free(0), of(0, 1)),
-        (Port::Free(1), of(2, 0)),
-        (of(0, 0), of(1, 0)),
-        (of(0, 2), of(4, 0)),
-        (of(1, 1), of(2, 1)),
-        (of(1, 2), of(3, 0)),
-        (of(4, 1), of(5, 1)),
-        (of(4, 2), of(5, 0)),
-    ]?;
-    Net::build(alloc, 2, nodes, links).map_err(Fail::from)
-}
+const ERASED_IDENTITY: &str = "ol net 1\nfree 2\n\
+    node app 0\nnode lam 0\nnode croissant 0\nnode eraser -\nnode lam 1\nnode croissant 1\n\
+    link f0 0.1\nlink f1 2.0\nlink 0.0 1.0\nlink 0.2 4.0\nlink 1.1 2.1\nlink 1.2 3.0\n\
+    link 4.1 5.1\nlink 4.2 5.0\n";
 
-fn assert_trace(
-    rt: &impl Abort,
-    alloc: Global,
-    net: &mut Net,
-    expected: &[u8],
-) -> Result<(), Fail> {
-    assert!(rt; net.born() <= 100);
-    let ran = run(alloc, net, 100).map_err(Fail::from)?;
-    let text = trace_text(alloc, &ran.journal).map_err(Fail::from)?;
-    assert_eq!(rt; &text[..], expected);
+#[test]
+fn traces_runs(rt: HostRuntime) -> Result<(), Fail> {
+    for (net, trace) in [
+        (
+            IDENTITY_OF_IDENTITY,
+            "ol trace 1\n0 1\n2 3\n4 1.1\n1.0 2.0\n",
+        ),
+        (ERASED_IDENTITY, "ol trace 1\n0 1\n3 4\n5 1.1\n1.0 2.0\n"),
+    ] {
+        let mut net = net_of(rt.alloc(), net)?;
+        let ran = run(rt.alloc(), &mut net, 100)?;
+        let text = trace_text(rt.alloc(), &ran.journal)?;
+        assert!(rt; text.as_slice() == trace.as_bytes());
+    }
     Ok(())
 }
 
-fn assert_found(
-    rt: &impl Abort,
-    alloc: Global,
-    net: &Net,
-    text: &[u8],
-    expected: Check,
-) -> Result<(), Fail> {
-    assert!(rt; net.born() <= 100);
-    let found = check(alloc, net, text).map_err(Fail::from)?;
-    assert_eq!(rt; found, expected);
+/// Asserts what each text is found to be, against the net of (\x. x) (\y. y).
+fn assert_found(rt: &impl Abort, alloc: Global, rows: &[(&str, Check)]) -> Result<(), Fail> {
+    let net = net_of(alloc, IDENTITY_OF_IDENTITY)?;
+    for (text, wanted) in rows {
+        assert!(rt; check(alloc, &net, text.as_bytes())? == *wanted, "{text}");
+    }
     Ok(())
 }
 
+/// The line of a pair that isn't active comes before a line that is bad, and the other way round.
 #[test]
-fn traces_a_run(rt: HostRuntime) -> Result<(), Fail> {
-    let mut net = identity_of_identity(rt.alloc())?;
-    let text = b"ol trace 1\n0 1\n2 3\n4 1.1\n1.0 2.0\n";
-    assert_trace(&rt, rt.alloc(), &mut net, text)
+fn finds_runs(rt: HostRuntime) -> Result<(), Fail> {
+    let second = Check::NotARun { line: 2 };
+    let fourth = Check::NotARun { line: 4 };
+    assert_found(
+        &rt,
+        rt.alloc(),
+        &[
+            ("ol trace 1\n0 1\n2 3\n4 1.1\n1.0 2.0\n", Check::Complete),
+            ("ol trace 1\n", Check::Run { k: 0 }),
+            ("ol trace 1\n0 1\n2 3\n", Check::Run { k: 2 }),
+            ("ol trace 1\n0 1\n2 3\n2 3\n4 1.1\n1.0 2.0\n", fourth),
+            ("ol trace 1\n2 3\n", second),
+            ("ol trace 1\n0 2\n", second),
+            ("ol trace 1\n0 9\n", second),
+            ("ol trace 1\n4294967294 4294967295\n", second),
+            ("ol trace 1\n0 1\n2 3\n4 0.1\n", fourth),
+            ("ol trace 1\n0 1\n2 3\n4 2.1\n", fourth),
+            ("ol trace 1\n0 1\n2 3\n4 1.3\n", fourth),
+            ("ol trace 1\n0 1\n2 3\n4 4294967295.3\n", fourth),
+            ("ol trace 1\n2 3\n3 2\n", second),
+            ("ol trace 1\n3 2\n2 3\n", Check::BadText { line: 2 }),
+        ],
+    )
 }
 
-#[test]
-fn traces_erasing(rt: HostRuntime) -> Result<(), Fail> {
-    let mut net = erased_identity(rt.alloc())?;
-    let text = b"ol trace 1\n0 1\n3 4\n5 1.1\n1.0 2.0\n";
-    assert_trace(&rt, rt.alloc(), &mut net, text)
-}
-
-#[test]
-fn finds_a_complete_run(rt: HostRuntime) -> Result<(), Fail> {
-    let net = identity_of_identity(rt.alloc())?;
-    let text = b"ol trace 1\n0 1\n2 3\n4 1.1\n1.0 2.0\n";
-    assert_found(&rt, rt.alloc(), &net, text, Check::Complete)
-}
-
-#[test]
-fn finds_a_run_that_goes_on(rt: HostRuntime) -> Result<(), Fail> {
-    let net = identity_of_identity(rt.alloc())?;
-    let none = b"ol trace 1\n";
-    assert_found(&rt, rt.alloc(), &net, none, Check::Run { k: 0 })?;
-    let two = b"ol trace 1\n0 1\n2 3\n";
-    assert_found(&rt, rt.alloc(), &net, two, Check::Run { k: 2 })
-}
-
-fn assert_no_run(rt: &impl Abort, alloc: Global, text: &[u8], line: u32) -> Result<(), Fail> {
-    let net = identity_of_identity(alloc)?;
-    assert_found(rt, alloc, &net, text, Check::NotARun { line })
-}
-
-#[test]
-fn finds_pairs_that_are_not_active(rt: HostRuntime) -> Result<(), Fail> {
-    let a = rt.alloc();
-    assert_no_run(&rt, a, b"ol trace 1\n0 1\n2 3\n2 3\n4 1.1\n1.0 2.0\n", 4)?;
-    assert_no_run(&rt, a, b"ol trace 1\n2 3\n", 2)?;
-    assert_no_run(&rt, a, b"ol trace 1\n0 2\n", 2)?;
-    assert_no_run(&rt, a, b"ol trace 1\n0 9\n", 2)?;
-    assert_no_run(&rt, a, b"ol trace 1\n4294967294 4294967295\n", 2)?;
-    assert_no_run(&rt, a, b"ol trace 1\n0 1\n2 3\n4 0.1\n", 4)?;
-    assert_no_run(&rt, a, b"ol trace 1\n0 1\n2 3\n4 2.1\n", 4)?;
-    assert_no_run(&rt, a, b"ol trace 1\n0 1\n2 3\n4 1.3\n", 4)?;
-    assert_no_run(&rt, a, b"ol trace 1\n0 1\n2 3\n4 4294967295.3\n", 4)
-}
-
-fn assert_bad(rt: &impl Abort, alloc: Global, text: &[u8], line: u32) -> Result<(), Fail> {
-    let net = identity_of_identity(alloc)?;
-    assert_found(rt, alloc, &net, text, Check::BadText { line })
-}
-
-#[test]
-fn finds_bad_first_lines(rt: HostRuntime) -> Result<(), Fail> {
-    let a = rt.alloc();
-    assert_bad(&rt, a, b"", 1)?;
-    assert_bad(&rt, a, b"ol trace 1", 1)?;
-    assert_bad(&rt, a, b"ol trace 2\n", 1)?;
-    assert_bad(&rt, a, b"ol trace 1 \n0 1\n", 1)?;
-    assert_bad(&rt, a, b"ol trace 1\r\n0 1\n", 1)?;
-    assert_bad(&rt, a, b"0 1\n", 1)
-}
-
+/// Each line of the grammar, broken once.
 #[test]
 fn finds_bad_lines(rt: HostRuntime) -> Result<(), Fail> {
-    let a = rt.alloc();
-    assert_bad(&rt, a, b"ol trace 1\n0 1\n3 2\n4 1.1\n1.0 2.0\n", 3)?;
-    assert_bad(&rt, a, b"ol trace 1\n0 0\n", 2)?;
-    assert_bad(&rt, a, b"ol trace 1\n0 1", 2)?;
-    assert_bad(&rt, a, b"ol trace 1\n0 1\n\n", 3)?;
-    assert_bad(&rt, a, b"ol trace 1\n0  1\n", 2)?;
-    assert_bad(&rt, a, b"ol trace 1\n 0 1\n", 2)?;
-    assert_bad(&rt, a, b"ol trace 1\n0 1 \n", 2)?;
-    assert_bad(&rt, a, b"ol trace 1\n0 1\r\n", 2)?;
-    assert_bad(&rt, a, b"ol trace 1\n00 1\n", 2)?;
-    assert_bad(&rt, a, b"ol trace 1\n0 01\n", 2)?;
-    assert_bad(&rt, a, b"ol trace 1\n0 4294967296\n", 2)?;
-    assert_bad(&rt, a, b"ol trace 1\n0 99999999999999999999\n", 2)?;
-    assert_bad(&rt, a, b"ol trace 1\n0 1.4\n", 2)?;
-    assert_bad(&rt, a, b"ol trace 1\n0 1.00\n", 2)?;
-    assert_bad(&rt, a, b"ol trace 1\n0 1.\n", 2)?;
-    assert_bad(&rt, a, b"ol trace 1\n0\n", 2)?;
-    assert_bad(&rt, a, b"ol trace 1\n0.1 1\n", 2)?;
-    assert_bad(&rt, a, b"ol trace 1\n1.1 1.0\n", 2)?;
-    assert_bad(&rt, a, b"ol trace 1\n+0 1\n", 2)
+    let first = Check::BadText { line: 1 };
+    let second = Check::BadText { line: 2 };
+    let third = Check::BadText { line: 3 };
+    assert_found(
+        &rt,
+        rt.alloc(),
+        &[
+            ("", first),
+            ("ol trace 1", first),
+            ("ol trace 2\n", first),
+            ("ol trace 1 \n0 1\n", first),
+            ("ol trace 1\r\n0 1\n", first),
+            ("0 1\n", first),
+            ("ol trace 1\n0 1\n3 2\n4 1.1\n1.0 2.0\n", third),
+            ("ol trace 1\n0 0\n", second),
+            ("ol trace 1\n0 1", second),
+            ("ol trace 1\n0 1\n\n", third),
+            ("ol trace 1\n0  1\n", second),
+            ("ol trace 1\n 0 1\n", second),
+            ("ol trace 1\n0 1 \n", second),
+            ("ol trace 1\n0 1\r\n", second),
+            ("ol trace 1\n00 1\n", second),
+            ("ol trace 1\n0 01\n", second),
+            ("ol trace 1\n0 4294967296\n", second),
+            ("ol trace 1\n0 99999999999999999999\n", second),
+            ("ol trace 1\n0 1.4\n", second),
+            ("ol trace 1\n0 1.00\n", second),
+            ("ol trace 1\n0 1.\n", second),
+            ("ol trace 1\n0\n", second),
+            ("ol trace 1\n0.1 1\n", second),
+            ("ol trace 1\n1.1 1.0\n", second),
+            ("ol trace 1\n+0 1\n", second),
+        ],
+    )
 }
 
-/// The line of a pair that isn't active comes before a line that is bad.
+/// How many leads, how many of them there are, and the net's text after them.
 #[test]
-fn the_first_bad_line_decides(rt: HostRuntime) -> Result<(), Fail> {
-    let a = rt.alloc();
-    assert_no_run(&rt, a, b"ol trace 1\n2 3\n3 2\n", 2)?;
-    assert_bad(&rt, a, b"ol trace 1\n3 2\n2 3\n", 2)
+fn shows_the_net_after_leads(rt: HostRuntime) -> Result<(), Fail> {
+    let net = net_of(rt.alloc(), IDENTITY_OF_IDENTITY)?;
+    let one = "nodes 3\nf0 2.1\n2 croissant 0 3.0 f0\n3 lam 1 2.0 4.1 4.0\n4 croissant 1 3.2 3.1\n";
+    let last = "nodes 2\nf0 7.0\n7 lam 0 f0 9.1 9.0\n9 croissant 0 7.2 7.1\n";
+    let led = after(rt.alloc(), &net, 1)?;
+    assert!(rt; led.steps == 1);
+    assert_shown(&rt, rt.alloc(), &led.net, one)?;
+    let led = after(rt.alloc(), &net, 9)?;
+    assert!(rt; led.steps == 4);
+    assert_shown(&rt, rt.alloc(), &led.net, last)
 }

@@ -14,7 +14,7 @@ mod nets;
 #[cfg(test)]
 mod runs;
 #[cfg(test)]
-mod shows;
+mod small_nets;
 #[cfg(test)]
 mod squares;
 #[cfg(test)]

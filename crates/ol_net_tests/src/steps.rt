@@ -1,68 +1,27 @@
-//! The net of one small term, step by step.
+//! Small nets, step by step.
 
-use ol_net::{Kind, Net, NodeId, Port, Rule};
-use ol_rules::{StepFault, step};
-use std::alloc::Global;
-use std::process::Abort;
+use crate::small_nets::{IDENTITY_OF_IDENTITY, assert_shown, stepped};
+use ol_net::Rule;
 use std::test::Fail;
-
-fn of(node: u32, slot: u8) -> Port {
-    Port::Of {
-        node: NodeId(node),
-        slot,
-    }
-}
-
-/// The net of (\x. x) (\y. y).
-fn identity_of_identity(alloc: Global) -> Result<Net, Fail> {
-    let nodes = vec![in alloc;
-        (Kind::App, 0),
-        (Kind::Lam, 0),
-        (Kind::Croissant, 0),
-        (Kind::Lam, 1),
-        (Kind::Croissant, 1),
-    ]?;
-    let links = vec![in alloc;
-        (Port::Free(0), of(0, 1)),
-        (of(0, 0), of(1, 0)),
-        (of(0, 2), of(3, 0)),
-        (of(1, 1), of(2, 1)),
-        (of(1, 2), of(2, 0)),
-        (of(3, 1), of(4, 1)),
-        (of(3, 2), of(4, 0)),
-    ]?;
-    Net::build(alloc, 1, nodes, links).map_err(Fail::from)
-}
-
-fn assert_step(rt: &impl Abort, net: &mut Net, at: u32, rule: Rule) {
-    assert!(rt; net.born() <= 2_000_000_000);
-    assert_eq!(rt; step(net, NodeId(at)), Ok(rule));
-}
 
 #[test]
 fn four_steps_leave_an_identity(rt: HostRuntime) -> Result<(), Fail> {
-    let mut net = identity_of_identity(rt.alloc())?;
-    assert_step(&rt, &mut net, 0, Rule::Beta);
-    assert_step(&rt, &mut net, 2, Rule::CrossCroissant);
-    assert_step(&rt, &mut net, 6, Rule::CrossCroissant);
-    assert_step(&rt, &mut net, 5, Rule::Croissant);
-    assert_eq!(rt; net.nodes(), 2);
-    assert_eq!(rt; net.born(), 10);
-    assert_eq!(rt; net.kind_of(NodeId(7)), Some((Kind::Lam, 0)));
-    assert_eq!(rt; net.kind_of(NodeId(9)), Some((Kind::Croissant, 0)));
-    assert_eq!(rt; net.partner(Port::Free(0)), Some(of(7, 0)));
-    assert_eq!(rt; net.partner(of(7, 1)), Some(of(9, 1)));
-    assert_eq!(rt; net.partner(of(7, 2)), Some(of(9, 0)));
-    Ok(())
+    let steps = [
+        (0, Rule::Beta),
+        (2, Rule::CrossCroissant),
+        (6, Rule::CrossCroissant),
+        (5, Rule::Croissant),
+    ];
+    let net = stepped(&rt, rt.alloc(), IDENTITY_OF_IDENTITY, &steps)?;
+    let text = "nodes 2\nf0 7.0\n7 lam 0 f0 9.1 9.0\n9 croissant 0 7.2 7.1\n";
+    assert_shown(&rt, rt.alloc(), &net, text)
 }
 
-/// The croissant's principal port is joined to an auxiliary one.
+/// Two fans go whose slots 1 are linked: joined to each other they are a loop, which goes too.
 #[test]
-fn refuses_a_node_in_no_active_pair(rt: HostRuntime) -> Result<(), Fail> {
-    let mut net = identity_of_identity(rt.alloc())?;
-    assert!(rt; net.born() <= 2_000_000_000);
-    assert_eq!(rt; step(&mut net, NodeId(2)), Err(StepFault::NotActive));
-    assert_eq!(rt; net.born(), 5);
-    assert_eq!(rt; net.partner(of(0, 0)), Some(of(1, 0)));
-    Ok(())
+fn a_loop_goes(rt: HostRuntime) -> Result<(), Fail> {
+    let fans = "ol net 1\nfree 2\nnode fan 0\nnode fan 0\n\
+        link f0 0.2\nlink f1 1.2\nlink 0.0 1.0\nlink 0.1 1.1\n";
+    let net = stepped(&rt, rt.alloc(), fans, &[(0, Rule::Fan)])?;
+    assert_shown(&rt, rt.alloc(), &net, "nodes 0\nf0 f1\nf1 f0\n")
 }
