@@ -189,6 +189,21 @@ fn journals_are_checked(rt: HostRuntime) -> Result<(), Fail> {
     )
 }
 
+/// A journal has at most 67,108,864 bytes.
+#[test]
+fn journals_are_limited(rt: HostRuntime) -> Result<(), Fail> {
+    let a = rt.alloc();
+    let mut journal = Vec::new(a);
+    for _byte in 0..67_108_864u32 {
+        journal.push(b'\n')?;
+    }
+    let bad = (Status::Done, false, "bad text at line 1\n");
+    row(&rt, a, "check - j", TERM, &journal, bad)?;
+    journal.push(b'\n')?;
+    let limit = (Status::Limit, false, "limit journal 67108864\n");
+    row(&rt, a, "check - j", TERM, &journal, limit)
+}
+
 /// A journal by one translation is checked by that one.
 #[test]
 fn journals_have_a_translation(rt: HostRuntime) -> Result<(), Fail> {
