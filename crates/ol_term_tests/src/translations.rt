@@ -5,9 +5,10 @@ ghost use Rattle.ol_term.specs.Trees.{tree_of, var, lam, app, is_below, is_named
 ghost use Rattle.ol_translate.specs.Names.{HasNames};
 
 use ol_net::{Kind, Net, NodeId, Port};
+use ol_parse::parse;
 use ol_term::{Names, Term, TermFile, Translation};
 use ol_translate::{TransFault, translate};
-use std::alloc::Global;
+use std::alloc::{AllocError, Global};
 use std::process::Abort;
 use std::test::Fail;
 
@@ -179,5 +180,36 @@ fn a_net_has_a_most_number_of_nodes(rt: HostRuntime) -> Result<(), Fail> {
             Err(TransFault::TooMany)
         )
     );
+    Ok(())
+}
+
+// The generator's text: `((\x. x x) (\y. y))` for 0, and for each greater number the one before
+// applied to itself.
+fn generated(alloc: Global, rounds: u32) -> Result<Vec<u8>, AllocError> {
+    let mut text = Vec::from_slice(alloc, b"((\\x. x x) (\\y. y))")?;
+    for _round in 0..rounds {
+        let mut twice = Vec::from_slice(alloc, b"(")?;
+        twice.extend_from_slice(&text)?;
+        twice.push(b' ')?;
+        twice.extend_from_slice(&text)?;
+        twice.push(b')')?;
+        text = twice;
+    }
+    Ok(text)
+}
+
+/// Of the generator's term for k the net has 10 * 2^k - 1 nodes by translation 1, and 8 * 2^k - 1 by
+/// translation 2.
+#[test]
+fn generated_nets_have_their_sizes(rt: HostRuntime) -> Result<(), Fail> {
+    let alloc = rt.alloc();
+    for (rounds, one, two) in [(0, 9, 7), (1, 19, 15), (6, 639, 511), (10, 10_239, 8_191)] {
+        let text = generated(alloc, rounds)?;
+        assert!(rt; text.len() <= 1_000_000);
+        let file = parse(alloc, &text).ok().ok_or("no term")?;
+        let first = translate(alloc, &file, Translation::One).map_err(Fail::from)?;
+        let second = translate(alloc, &file, Translation::Two).map_err(Fail::from)?;
+        assert!(rt; [first.nodes(), second.nodes()] == [one, two], "{rounds}");
+    }
     Ok(())
 }
