@@ -31,13 +31,13 @@ use Rattle.ol_diamond.proofs.Renaming.{IsRenamed, under_renamed, renamed_under, 
 -- ---- journal names
 
 -- a name that was given before this ticket
-abbrev IsBefore : NodeName → ℕ → Type 0
+abbrev pub IsBefore : NodeName → ℕ → Type 0
 IsBefore x t = comes_before x (Born t 0) ≡ true
 
-on_before : (t p : ℕ) → IsBefore (Born t p) (suc t)
+pub on_before : (t p : ℕ) → IsBefore (Born t p) (suc t)
 on_before t p = grind (arith, nat_tests)
 
-still_before : (x : NodeName) (t : ℕ) → IsBefore x t → IsBefore x (suc t)
+pub still_before : (x : NodeName) (t : ℕ) → IsBefore x t → IsBefore x (suc t)
 still_before x t h = before_before x (Born t 0) (Born (suc t) 0) h (on_before t 0)
 
 start_name : (x : NodeName) → IsBefore x 0 → (k : ℕ) × (x ≡ Init k)
@@ -66,24 +66,24 @@ later_new m t f g place = ap (λ b. cond b (born f g place) (m (Born t place))) 
 -- ---- one step
 
 -- the nets before this ticket, by the journal's names and by birth names
-record Together (N : NamedNet NodeName) (t : ℕ) (m : NodeName → BirthName) (B : NamedNet BirthName) : Type 0 where
-  net : IsNet N
-  before : AreNamedBefore N t
-  birth_net : IsBirthNet B
-  renames : IsRenamed m N B
+pub record Together (N : NamedNet NodeName) (t : ℕ) (m : NodeName → BirthName) (B : NamedNet BirthName) : Type 0 where
+  pub net : IsNet N
+  pub before : AreNamedBefore N t
+  pub birth_net : IsBirthNet B
+  pub renames : IsRenamed m N B
 
-record OneOn (M : NamedNet NodeName) (t : ℕ) (e : Entry) (m : NodeName → BirthName) (B : NamedNet BirthName) : Type 0 where
-  pair : BirthPair
-  first : IsBefore e.first t
-  second : IsBefore e.second t
-  same : IsSamePair pair (pair_under m e)
-  after : NamedNet BirthName
-  step : IsPairStep B pair after
-  names : NodeName → BirthName
-  old : (x : NodeName) → IsBefore x t → names x ≡ m x
-  new : (place : ℕ) → names (Born t place) ≡ born pair.f pair.g place
-  on : Together M (suc t) names after
-  plain : (r : Rule) → IsActive B pair.g pair.f r → (place : ℕ) (k : Kind) (i : ℕ) → HasNode M (Born t place) k i → ⊥
+pub record OneOn (M : NamedNet NodeName) (t : ℕ) (e : Entry) (m : NodeName → BirthName) (B : NamedNet BirthName) : Type 0 where
+  pub pair : BirthPair
+  pub first : IsBefore e.first t
+  pub second : IsBefore e.second t
+  pub same : IsSamePair pair (pair_under m e)
+  pub after : NamedNet BirthName
+  pub step : IsPairStep B pair after
+  pub names : NodeName → BirthName
+  pub old : (x : NodeName) → IsBefore x t → names x ≡ m x
+  pub new : (place : ℕ) → names (Born t place) ≡ born pair.f pair.g place
+  pub on : Together M (suc t) names after
+  pub plain : (r : Rule) → IsActive B pair.g pair.f r → (place : ℕ) (k : Kind) (i : ℕ) → HasNode M (Born t place) k i → ⊥
 
 -- where either may act, nothing is born
 none_born : (N M : NamedNet NodeName) (t : ℕ) (f g : NodeName) (r : Rule) (k : Kind) (i : ℕ) (l : Kind) (j : ℕ) → IsFresh N (λ place. Born t place)
@@ -105,7 +105,7 @@ none_born N M t f g r k i l j fresh w plain x place is m n h = go plain x is m n
 abbrev Either : Entry → NodeName → NodeName → Type 0
 Either e f g = ((e.first ≡ f) × (e.second ≡ g)) ⊎ ((e.first ≡ g) × (e.second ≡ f))
 
-one_on : (N M : NamedNet NodeName) (t : ℕ) (e : Entry) (m : NodeName → BirthName) (B : NamedNet BirthName) → Together N t m B → IsEntryStep N t e M → OneOn M t e m B
+pub one_on : (N M : NamedNet NodeName) (t : ℕ) (e : Entry) (m : NodeName → BirthName) (B : NamedNet BirthName) → Together N t m B → IsEntryStep N t e M → OneOn M t e m B
 one_on N M t e m B tg s =
     let x = s.step.active in
     let f = m s.f in
@@ -155,6 +155,19 @@ one_on N M t e m B tg s =
     named (inl h) = inl (ap m (sym h.0), ap m (sym h.1))
     named (inr h) = inr (ap m (sym h.1), ap m (sym h.0))
 
+-- the pair of the step is that of its two nodes
+pub pair_f : (N M : NamedNet NodeName) (t : ℕ) (e : Entry) (m : NodeName → BirthName) (B : NamedNet BirthName) (tg : Together N t m B) (s : IsEntryStep N t e M) → (one_on N M t e m B tg s).pair.f ≡ m s.f
+unfolding one_on
+pair_f N M t e m B tg s = refl
+
+pub pair_g : (N M : NamedNet NodeName) (t : ℕ) (e : Entry) (m : NodeName → BirthName) (B : NamedNet BirthName) (tg : Together N t m B) (s : IsEntryStep N t e M) → (one_on N M t e m B tg s).pair.g ≡ m s.g
+unfolding one_on
+pair_g N M t e m B tg s = refl
+
+pub pair_rule : (N M : NamedNet NodeName) (t : ℕ) (e : Entry) (m : NodeName → BirthName) (B : NamedNet BirthName) (tg : Together N t m B) (s : IsEntryStep N t e M) → (one_on N M t e m B tg s).pair.rule ≡ e.rule
+unfolding one_on
+pair_rule N M t e m B tg s = refl
+
 -- ---- runs
 
 record AllOn (M : NamedNet NodeName) (t : ℕ) (es : List Entry) (m : NodeName → BirthName) (B : NamedNet BirthName) : Type 0 where
@@ -190,21 +203,21 @@ all_on N M t (e ∷ es) m B tg (runs.IsRun.then {M = K} s r) =
 
 -- ---- from a net of start nodes
 
-abbrev by_number : NodeName → BirthName
+abbrev pub by_number : NodeName → BirthName
 by_number (Init k) = init k
 by_number (Born t place) = init 0
 
 module _ (N : NamedNet NodeName) (net : IsNet N) (before : AreNamedBefore N 0) where
-  start_apart : (x y : NodeName) (k l : Kind) (i j : ℕ) → HasNode N x k i → HasNode N y l j → by_number x ≡ by_number y → x ≡ y
+  pub start_apart : (x y : NodeName) (k l : Kind) (i j : ℕ) → HasNode N x k i → HasNode N y l j → by_number x ≡ by_number y → x ≡ y
   start_apart x y k l i j h h' e = go x y (start_name x (before x k i h)) (start_name y (before y l j h')) e
     where
       go : (x y : NodeName) → (n : ℕ) × (x ≡ Init n) → (n : ℕ) × (y ≡ Init n) → by_number x ≡ by_number y → x ≡ y
       go x y (m, a) (n, b) e = let z : init m ≡ init n = ap by_number (sym a) ∙ e ∙ ap by_number b in let w : m ≡ n = cc in a ∙ ap (λ n. Init n) w ∙ sym b
 
-  start_renamed : IsRenamed by_number N (net_under by_number N)
+  pub start_renamed : IsRenamed by_number N (net_under by_number N)
   start_renamed = under_renamed by_number N start_apart
 
-  start_net : IsBirthNet (net_under by_number N)
+  pub start_net : IsBirthNet (net_under by_number N)
   start_net = record { net = renamed_net by_number N (net_under by_number N) start_renamed net; no_part = no_part }
     where
       whole : (x : BirthName) (y : NodeName) → (n : ℕ) × (y ≡ Init n) → IsPart x (by_number y) → ⊥

@@ -2,7 +2,7 @@
 use Rattle.std.proofs.Common.{◌≡◌, ◌≢◌, ℕ, suc, ◌+◌, ◌<◌, ◌⊎◌, inl, inr, refl, sym, ap, ◌∙◌, subst}
 use Rattle.ol_edges.specs.Edges.{Joined, here, on, back, Edge, Contracted}
 use Rattle.ol_edges.proofs.Joining.{joined_sym, joined_image, Follows, follow}
-use Rattle.ol_edges.proofs.Composing.{edge_of_apart}
+use Rattle.ol_edges.proofs.Composing.{edge_of_apart, contracted_map}
 use Rattle.ol_net.specs.declared.parts.Kind.{Kind}
 use Rattle.ol_net.specs.Parts.{arity}
 use Rattle.ol_net.specs.Nets.{NamedPort, free, slot, NamedNet, HasNode, Linked, IsPort, IsNet, SameNet, Faces, IsPrincipalOf, IsSlotOf, port_under, net_under}
@@ -101,7 +101,7 @@ agree {A} {B} m m' N M n e r = record {
 module _ {A B : Type 0} (m : A → B) (N : NamedNet A) (M : NamedNet B) (r : IsRenamed m N M) (is_net : IsNet N)
     (f g : A) (k : Kind) (i : ℕ) (l : Kind) (j : ℕ) (a : Action) (faces : Faces N f g k i l j)
     (born : ℕ → A) (born' : ℕ → B) (fresh : IsFresh N born) (fresh' : IsFresh M born') (births : (n : ℕ) → m (born n) ≡ born' n) where
-  abbrev Live : A → Type 0
+  abbrev pub Live : A → Type 0
   Live x = ((k : Kind) × (i : ℕ) × HasNode N x k i) ⊎ ((n : ℕ) × (x ≡ born n))
 
   one_name : (x y : A) → Live x → Live y → m x ≡ m y → x ≡ y
@@ -112,11 +112,11 @@ module _ {A B : Type 0} (m : A → B) (N : NamedNet A) (M : NamedNet B) (r : IsR
       let q = fresh'.apart b.0 b'.0 (sym (births b.0) ∙ ap m (sym b.1) ∙ e ∙ ap m b'.1 ∙ births b'.0) in
       b.1 ∙ ap born q ∙ sym b'.1
 
-  abbrev Real : NamedPort A → Type 0
+  abbrev pub Real : NamedPort A → Type 0
   Real (free n) = Unit {0}
   Real (slot x s) = Live x
 
-  one_port : (p q : NamedPort A) → Real p → Real q → port_under m p ≡ port_under m q → p ≡ q
+  pub one_port : (p q : NamedPort A) → Real p → Real q → port_under m p ≡ port_under m q → p ≡ q
   one_port (free u) (free v) a b e = let z : u ≡ v = cc in ap free z
   one_port (free u) (slot y t) a b e = absurd (cc)
   one_port (slot x s) (free v) a b e = absurd (cc)
@@ -134,7 +134,7 @@ module _ {A B : Type 0} (m : A → B) (N : NamedNet A) (M : NamedNet B) (r : IsR
   born_live : (n : ℕ) → Live (born n)
   born_live n = inr (n, refl)
 
-  real_port : (p : NamedPort A) → IsPort N p → Real p
+  pub real_port : (p : NamedPort A) → IsPort N p → Real p
   real_port (free n) h = tt
   real_port (slot x s) h = inl (h.0, h.1, h.2)
 
@@ -154,135 +154,164 @@ module _ {A B : Type 0} (m : A → B) (N : NamedNet A) (M : NamedNet B) (r : IsR
   principal_to p (inl e) = inl (ap (port_under m) e)
   principal_to p (inr e) = inr (ap (port_under m) e)
 
-  abbrev E : NamedPort A → NamedPort A → Type 0
-  E = Edge (Linked N) (IsPrincipalOf f g) (JoinOf born f g k l a)
-
-  abbrev E' : NamedPort B → NamedPort B → Type 0
-  E' = Edge (Linked M) (IsPrincipalOf (m f) (m g)) (JoinOf born' (m f) (m g) k l a)
-
   at_born : (P : B → Type 0) (n : ℕ) → P (born' n) → P (m (born n))
   at_born P n h = subst P (sym (births n)) h
 
-  join_to : (p q : NamedPort A) → JoinOf born f g k l a p q → JoinOf born' (m f) (m g) k l a (port_under m p) (port_under m q)
-  join_to p q (meet e b) = meet e b
-  join_to p q (at_f {p = u} n e b) = at_born (λ y. JoinOf born' (m f) (m g) k l a (slot y 0) (slot (m f) (suc u))) (arity l + u) (at_f n e b)
-  join_to p q (at_g {q = u} n e b) = at_born (λ y. JoinOf born' (m f) (m g) k l a (slot y 0) (slot (m g) (suc u))) u (at_g n e b)
-  join_to p q (between {p = u} {q = v} n e b b') =
-      at_born (λ y. JoinOf born' (m f) (m g) k l a (slot y (suc u)) (slot (m (born (arity l + u))) (suc v))) v
-      (at_born (λ y. JoinOf born' (m f) (m g) k l a (slot (born' v) (suc u)) (slot y (suc v))) (arity l + u) (between n e b b'))
+  -- Some of the links, their images, and the joins where they count.
+  module _ (Some : NamedPort A → NamedPort A → Type 0) (Some' : NamedPort B → NamedPort B → Type 0) (some : (p q : NamedPort A) → Some p q → Linked N p q)
+      (some_to : (p q : NamedPort A) → Some p q → Some' (port_under m p) (port_under m q))
+      (some_from : (P Q : NamedPort B) → Some' P Q → (p : NamedPort A) × (q : NamedPort A) × Some p q × (P ≡ port_under m p) × (Q ≡ port_under m q))
+      (Count : Type 0) where
+    abbrev E : NamedPort A → NamedPort A → Type 0
+    E = Edge Some (IsPrincipalOf f g) (λ p q. JoinOf born f g k l a p q × Count)
 
-  -- an edge has real ends
-  record Ends (p q : NamedPort A) : Type 0 where
-    first : Real p
-    second : Real q
+    abbrev E' : NamedPort B → NamedPort B → Type 0
+    E' = Edge Some' (IsPrincipalOf (m f) (m g)) (λ P Q. JoinOf born' (m f) (m g) k l a P Q × Count)
 
-  edge_ends : (p q : NamedPort A) → E p q → Ends p q
-  edge_ends p q (inl h) = let c = is_net.of_ports p q h.0 in record { first = real_port p c.0; second = real_port q c.1 }
-  edge_ends p q (inr h) = go p q h
-    where
-      go : (p q : NamedPort A) → JoinOf born f g k l a p q → Ends p q
-      go p q (meet e b) = record { first = f_live; second = g_live }
-      go p q (at_f {p = u} n e b) = record { first = born_live (arity l + u); second = f_live }
-      go p q (at_g {q = u} n e b) = record { first = born_live u; second = g_live }
-      go p q (between {p = u} {q = v} n e b b') = record { first = born_live v; second = born_live (arity l + u) }
+    join_to : (p q : NamedPort A) → JoinOf born f g k l a p q → JoinOf born' (m f) (m g) k l a (port_under m p) (port_under m q)
+    join_to p q (meet e b) = meet e b
+    join_to p q (at_f {p = u} n e b) = at_born (λ y. JoinOf born' (m f) (m g) k l a (slot y 0) (slot (m f) (suc u))) (arity l + u) (at_f n e b)
+    join_to p q (at_g {q = u} n e b) = at_born (λ y. JoinOf born' (m f) (m g) k l a (slot y 0) (slot (m g) (suc u))) u (at_g n e b)
+    join_to p q (between {p = u} {q = v} n e b b') =
+        at_born (λ y. JoinOf born' (m f) (m g) k l a (slot y (suc u)) (slot (m (born (arity l + u))) (suc v))) v
+        (at_born (λ y. JoinOf born' (m f) (m g) k l a (slot (born' v) (suc u)) (slot y (suc v))) (arity l + u) (between n e b b'))
 
-  edge_to : (p q : NamedPort A) → E p q → E' (port_under m p) (port_under m q)
-  edge_to p q (inl h) =
-      let c = is_net.of_ports p q h.0 in
-      inl (r.links_to p q h.0, (λ z. h.1 (principal_of p (real_port p c.0) z)), (λ z. h.2 (principal_of q (real_port q c.1) z)))
-  edge_to p q (inr h) = inr (join_to p q h)
+    -- an edge has real ends
+    record Ends (p q : NamedPort A) : Type 0 where
+      first : Real p
+      second : Real q
 
-  -- an edge under the other names comes from one
-  record Lifted (P Q : NamedPort B) : Type 0 where
-    from : NamedPort A
-    to : NamedPort A
-    edge : E from to
-    from_is : P ≡ port_under m from
-    to_is : Q ≡ port_under m to
+    edge_ends : (p q : NamedPort A) → E p q → Ends p q
+    edge_ends p q (inl h) = let c = is_net.of_ports p q (some p q h.0) in record { first = real_port p c.0; second = real_port q c.1 }
+    edge_ends p q (inr h) = go p q h.0
+      where
+        go : (p q : NamedPort A) → JoinOf born f g k l a p q → Ends p q
+        go p q (meet e b) = record { first = f_live; second = g_live }
+        go p q (at_f {p = u} n e b) = record { first = born_live (arity l + u); second = f_live }
+        go p q (at_g {q = u} n e b) = record { first = born_live u; second = g_live }
+        go p q (between {p = u} {q = v} n e b b') = record { first = born_live v; second = born_live (arity l + u) }
 
-  lift : (P Q : NamedPort B) → E' P Q → Lifted P Q
-  lift P Q (inl h) =
-      let t = r.links_from P Q h.0 in
-      record {
-        from = t.0;
-        to = t.1;
-        from_is = t.3;
-        to_is = t.4;
-        edge = inl (t.2, (λ z. h.1 (subst (λ P. IsPrincipalOf (m f) (m g) P) (sym t.3) (principal_to t.0 z))), (λ z. h.2 (subst (λ P. IsPrincipalOf (m f) (m g) P) (sym t.4) (principal_to t.1 z))));
-      }
-  lift P Q (inr h) = go P Q h
-    where
-      go : (P Q : NamedPort B) → JoinOf born' (m f) (m g) k l a P Q → Lifted P Q
-      go P Q (meet {s = s} e b) = record { from = slot f (suc s); to = slot g (suc s); edge = inr (meet e b); from_is = refl; to_is = refl }
-      go P Q (at_f {p = u} n e b) = record { from = slot (born (arity l + u)) 0; to = slot f (suc u); edge = inr (at_f n e b); from_is = ap (λ y. slot y 0) (sym (births (arity l + u))); to_is = refl }
-      go P Q (at_g {q = u} n e b) = record { from = slot (born u) 0; to = slot g (suc u); edge = inr (at_g n e b); from_is = ap (λ y. slot y 0) (sym (births u)); to_is = refl }
-      go P Q (between {p = u} {q = v} n e b b') = record {
-        from = slot (born v) (suc u);
-        to = slot (born (arity l + u)) (suc v);
-        edge = inr (between n e b b');
-        from_is = ap (λ y. slot y (suc u)) (sym (births v));
-        to_is = ap (λ y. slot y (suc v)) (sym (births (arity l + u)));
-      }
+    edge_to : (p q : NamedPort A) → E p q → E' (port_under m p) (port_under m q)
+    edge_to p q (inl h) =
+        let c = is_net.of_ports p q (some p q h.0) in
+        inl (some_to p q h.0, (λ z. h.1 (principal_of p (real_port p c.0) z)), (λ z. h.2 (principal_of q (real_port q c.1) z)))
+    edge_to p q (inr h) = inr (join_to p q h.0, h.1)
 
-  NamedBy : NamedPort B → NamedPort A → Type 0
-  NamedBy P p = Real p × (P ≡ port_under m p)
+    -- an edge under the other names comes from one
+    record Lifted (P Q : NamedPort B) : Type 0 where
+      from : NamedPort A
+      to : NamedPort A
+      edge : E from to
+      from_is : P ≡ port_under m from
+      to_is : Q ≡ port_under m to
 
-  named_one : (P : NamedPort B) (p q : NamedPort A) → NamedBy P p → NamedBy P q → p ≡ q
-  unfolding NamedBy
-  named_one P p q h h' = one_port p q h.0 h'.0 (sym h.1 ∙ h'.1)
-
-  follows : Follows E' E NamedBy
-  unfolding NamedBy
-  follows = record {
-    forth = λ P Q w e h. let t = lift P Q e in let c = edge_ends t.from t.to t.edge in
-        (t.from, (c.first, t.from_is), subst (λ z. Joined E t.from z) (named_one Q t.to w (c.second, t.to_is) h) (on here t.edge));
-    back' = λ P Q w e h. let t = lift P Q e in let c = edge_ends t.from t.to t.edge in
-        (t.to, (c.second, t.to_is), subst (λ z. Joined E t.to z) (named_one P t.from w (c.first, t.from_is) h) (back here t.edge));
-  }
-
-  real_end : (p q : NamedPort A) → Joined E p q → p ≢ q → Real p
-  real_end p q w n = let a = edge_of_apart w n in go a.0 a.1
-    where
-      go : (z : NamedPort A) → E p z ⊎ E z p → Real p
-      go z (inl e) = (edge_ends p z e).first
-      go z (inr e) = (edge_ends z p e).second
-
-  named_end : (P Q : NamedPort B) → Joined E' P Q → P ≢ Q → (p : NamedPort A) × NamedBy P p
-  unfolding NamedBy
-  named_end P Q w n = let a = edge_of_apart w n in go a.0 a.1
-    where
-      go : (Z : NamedPort B) → E' P Z ⊎ E' Z P → (p : NamedPort A) × (Real p × (P ≡ port_under m p))
-      go Z (inl e) = let t = lift P Z e in (t.from, ((edge_ends t.from t.to t.edge).first, t.from_is))
-      go Z (inr e) = let t = lift Z P e in (t.to, ((edge_ends t.from t.to t.edge).second, t.to_is))
-
-  contracted_to : (p q : NamedPort A) → Contracted E (IsSlotOf f g) p q → Contracted E' (IsSlotOf (m f) (m g)) (port_under m p) (port_under m q)
-  contracted_to p q c =
-      let u = real_end p q c.joined c.apart in
-      let v = real_end q p (joined_sym c.joined) (λ e. c.apart (sym e)) in
-      record {
-        first = λ s. c.first (slot_of p u s);
-        second = λ s. c.second (slot_of q v s);
-        apart = λ e. c.apart (one_port p q u v e);
-        joined = joined_image (port_under m) (λ p q e. on here (edge_to p q e)) c.joined;
-      }
-
-  contracted_from : (P Q : NamedPort B) → Contracted E' (IsSlotOf (m f) (m g)) P Q → (p : NamedPort A) × (q : NamedPort A) × Contracted E (IsSlotOf f g) p q × (P ≡ port_under m p) × (Q ≡ port_under m q)
-  unfolding NamedBy
-  contracted_from P Q c =
-      let u = named_end P Q c.joined c.apart in
-      let v = named_end Q P (joined_sym c.joined) (λ e. c.apart (sym e)) in
-      let t = follow follows c.joined v.0 v.1 in (
-        u.0,
-        v.0,
+    lift : (P Q : NamedPort B) → E' P Q → Lifted P Q
+    lift P Q (inl h) =
+        let t = some_from P Q h.0 in
         record {
-          first = λ s. c.first (subst (λ P. IsSlotOf (m f) (m g) P) (sym u.1.1) (slot_to u.0 s));
-          second = λ s. c.second (subst (λ P. IsSlotOf (m f) (m g) P) (sym v.1.1) (slot_to v.0 s));
-          apart = λ e. c.apart (u.1.1 ∙ ap (port_under m) e ∙ sym v.1.1);
-          joined = subst (λ z. Joined E z v.0) (named_one P t.0 u.0 t.1 u.1) t.2;
-        },
-        u.1.1,
-        v.1.1,
-      )
+          from = t.0;
+          to = t.1;
+          from_is = t.3;
+          to_is = t.4;
+          edge = inl (t.2, (λ z. h.1 (subst (λ P. IsPrincipalOf (m f) (m g) P) (sym t.3) (principal_to t.0 z))), (λ z. h.2 (subst (λ P. IsPrincipalOf (m f) (m g) P) (sym t.4) (principal_to t.1 z))));
+        }
+    lift P Q (inr h) = go P Q h.1 h.0
+      where
+        go : (P Q : NamedPort B) → Count → JoinOf born' (m f) (m g) k l a P Q → Lifted P Q
+        go P Q c (meet {s = s} e b) = record { from = slot f (suc s); to = slot g (suc s); edge = inr (meet e b, c); from_is = refl; to_is = refl }
+        go P Q c (at_f {p = u} n e b) = record { from = slot (born (arity l + u)) 0; to = slot f (suc u); edge = inr (at_f n e b, c); from_is = ap (λ y. slot y 0) (sym (births (arity l + u))); to_is = refl }
+        go P Q c (at_g {q = u} n e b) = record { from = slot (born u) 0; to = slot g (suc u); edge = inr (at_g n e b, c); from_is = ap (λ y. slot y 0) (sym (births u)); to_is = refl }
+        go P Q c (between {p = u} {q = v} n e b b') = record {
+          from = slot (born v) (suc u);
+          to = slot (born (arity l + u)) (suc v);
+          edge = inr (between n e b b', c);
+          from_is = ap (λ y. slot y (suc u)) (sym (births v));
+          to_is = ap (λ y. slot y (suc v)) (sym (births (arity l + u)));
+        }
+
+    NamedBy : NamedPort B → NamedPort A → Type 0
+    NamedBy P p = Real p × (P ≡ port_under m p)
+
+    named_one : (P : NamedPort B) (p q : NamedPort A) → NamedBy P p → NamedBy P q → p ≡ q
+    unfolding NamedBy
+    named_one P p q h h' = one_port p q h.0 h'.0 (sym h.1 ∙ h'.1)
+
+    follows : Follows E' E NamedBy
+    unfolding NamedBy
+    follows = record {
+      forth = λ P Q w e h. let t = lift P Q e in let c = edge_ends t.from t.to t.edge in
+          (t.from, (c.first, t.from_is), subst (λ z. Joined E t.from z) (named_one Q t.to w (c.second, t.to_is) h) (on here t.edge));
+      back' = λ P Q w e h. let t = lift P Q e in let c = edge_ends t.from t.to t.edge in
+          (t.to, (c.second, t.to_is), subst (λ z. Joined E t.to z) (named_one P t.from w (c.first, t.from_is) h) (back here t.edge));
+    }
+
+    real_end : (p q : NamedPort A) → Joined E p q → p ≢ q → Real p
+    real_end p q w n = let a = edge_of_apart w n in go a.0 a.1
+      where
+        go : (z : NamedPort A) → E p z ⊎ E z p → Real p
+        go z (inl e) = (edge_ends p z e).first
+        go z (inr e) = (edge_ends z p e).second
+
+    named_end : (P Q : NamedPort B) → Joined E' P Q → P ≢ Q → (p : NamedPort A) × NamedBy P p
+    unfolding NamedBy
+    named_end P Q w n = let a = edge_of_apart w n in go a.0 a.1
+      where
+        go : (Z : NamedPort B) → E' P Z ⊎ E' Z P → (p : NamedPort A) × (Real p × (P ≡ port_under m p))
+        go Z (inl e) = let t = lift P Z e in (t.from, ((edge_ends t.from t.to t.edge).first, t.from_is))
+        go Z (inr e) = let t = lift Z P e in (t.to, ((edge_ends t.from t.to t.edge).second, t.to_is))
+
+    pub contracted_to : (p q : NamedPort A) → Contracted E (IsSlotOf f g) p q → Contracted E' (IsSlotOf (m f) (m g)) (port_under m p) (port_under m q)
+    contracted_to p q c =
+        let u = real_end p q c.joined c.apart in
+        let v = real_end q p (joined_sym c.joined) (λ e. c.apart (sym e)) in
+        record {
+          first = λ s. c.first (slot_of p u s);
+          second = λ s. c.second (slot_of q v s);
+          apart = λ e. c.apart (one_port p q u v e);
+          joined = joined_image (port_under m) (λ p q e. on here (edge_to p q e)) c.joined;
+        }
+
+    pub contracted_from : (P Q : NamedPort B) → Contracted E' (IsSlotOf (m f) (m g)) P Q → (p : NamedPort A) × (q : NamedPort A) × Contracted E (IsSlotOf f g) p q × (P ≡ port_under m p) × (Q ≡ port_under m q)
+    unfolding NamedBy
+    contracted_from P Q c =
+        let u = named_end P Q c.joined c.apart in
+        let v = named_end Q P (joined_sym c.joined) (λ e. c.apart (sym e)) in
+        let t = follow follows c.joined v.0 v.1 in (
+          u.0,
+          v.0,
+          record {
+            first = λ s. c.first (subst (λ P. IsSlotOf (m f) (m g) P) (sym u.1.1) (slot_to u.0 s));
+            second = λ s. c.second (subst (λ P. IsSlotOf (m f) (m g) P) (sym v.1.1) (slot_to v.0 s));
+            apart = λ e. c.apart (u.1.1 ∙ ap (port_under m) e ∙ sym v.1.1);
+            joined = subst (λ z. Joined E z v.0) (named_one P t.0 u.0 t.1 u.1) t.2;
+          },
+          u.1.1,
+          v.1.1,
+        )
+
+  -- all links, and the joins as they are
+  abbrev All : NamedPort A → NamedPort A → Type 0
+  All = Edge (Linked N) (IsPrincipalOf f g) (JoinOf born f g k l a)
+
+  abbrev All' : NamedPort B → NamedPort B → Type 0
+  All' = Edge (Linked M) (IsPrincipalOf (m f) (m g)) (JoinOf born' (m f) (m g) k l a)
+
+  counted : {V : Type 0} (L J : V → V → Type 0) (P : V → Type 0) (u v : V) → Edge L P J u v → Edge L P (λ p q. J p q × Unit {0}) u v
+  counted L J P u v (inl h) = inl h
+  counted L J P u v (inr h) = inr (h, tt)
+
+  uncounted : {V : Type 0} (L J : V → V → Type 0) (P : V → Type 0) (u v : V) → Edge L P (λ p q. J p q × Unit {0}) u v → Edge L P J u v
+  uncounted L J P u v (inl h) = inl h
+  uncounted L J P u v (inr h) = inr h.0
+
+  to_all : (p q : NamedPort A) → Contracted All (IsSlotOf f g) p q → Contracted All' (IsSlotOf (m f) (m g)) (port_under m p) (port_under m q)
+  to_all p q c = contracted_map (uncounted (Linked M) (JoinOf born' (m f) (m g) k l a) (IsPrincipalOf (m f) (m g))) (λ u e s. s) (port_under m p) (port_under m q)
+      (contracted_to (Linked N) (Linked M) (λ p q h. h) r.links_to r.links_from (Unit {0}) p q (contracted_map (counted (Linked N) (JoinOf born f g k l a) (IsPrincipalOf f g)) (λ u e s. s) p q c))
+
+  from_all : (P Q : NamedPort B) → Contracted All' (IsSlotOf (m f) (m g)) P Q → (p : NamedPort A) × (q : NamedPort A) × Contracted All (IsSlotOf f g) p q × (P ≡ port_under m p) × (Q ≡ port_under m q)
+  from_all P Q c =
+      let t = contracted_from (Linked N) (Linked M) (λ p q h. h) r.links_to r.links_from (Unit {0}) P Q (contracted_map (counted (Linked M) (JoinOf born' (m f) (m g) k l a) (IsPrincipalOf (m f) (m g))) (λ u e s. s) P Q c) in
+      (t.0, t.1, contracted_map (uncounted (Linked N) (JoinOf born f g k l a) (IsPrincipalOf f g)) (λ u e s. s) t.0 t.1 t.2, t.3, t.4)
 
   -- After a step of each, the one is the other under other names.
   pub renamed : (N' : NamedNet A) (M' : NamedNet B) → Rewrites born N f g k i l a N' → Rewrites born' M (m f) (m g) k i l a M' → IsRenamed m N' M'
@@ -290,8 +319,8 @@ module _ {A B : Type 0} (m : A → B) (N : NamedNet A) (M : NamedNet B) (r : IsR
     free_ports = s'.free_ports ∙ r.free_ports ∙ sym s.free_ports;
     nodes_to = λ x k' i' h. (s'.nodes (m x) k' i').1 (node_to x k' i' ((s.nodes x k' i').0 h));
     nodes_from = λ y k' i' h. node_from y k' i' ((s'.nodes y k' i').0 h);
-    links_to = λ p q h. (s'.links (port_under m p) (port_under m q)).1 (contracted_to p q ((s.links p q).0 h));
-    links_from = λ P Q h. let t = contracted_from P Q ((s'.links P Q).0 h) in (t.0, t.1, (s.links t.0 t.1).1 t.2, t.3, t.4);
+    links_to = λ p q h. (s'.links (port_under m p) (port_under m q)).1 (to_all p q ((s.links p q).0 h));
+    links_from = λ P Q h. let t = from_all P Q ((s'.links P Q).0 h) in (t.0, t.1, (s.links t.0 t.1).1 t.2, t.3, t.4);
     apart = λ x y k' l' i' j' h h' e. one_name x y (live x k' i' ((s.nodes x k' i').0 h)) (live y l' j' ((s.nodes y l' j').0 h')) e;
   }
     where

@@ -1,5 +1,5 @@
 -- Steps of nets with weights commute, and so complete runs have the same waves.
-use Rattle.std.proofs.Common.{◌≡◌, ◌≢◌, ℕ, suc, nat_eq, eqb-true, eq-eqb, ◌+◌, ◌≤◌, List, [], ◌∷◌, count_by, Bool, true, false, cond, Some, ◌⊎◌, ◌↔◌, inl, inr, refl, sym, ap, ◌∙◌, subst, arith, map}
+use Rattle.std.proofs.Common.{◌≡◌, ◌≢◌, ℕ, suc, ◌+◌, ◌≤◌, List, [], ◌∷◌, count_by, Bool, true, false, cond, Some, ◌⊎◌, ◌↔◌, inl, inr, refl, sym, ap, ◌∙◌, subst, arith, map}
 use Rattle.std.proofs.lemmas.List.Sums.{sum_by-cons}
 use Rattle.ol_edges.specs.Edges.{Joined, here, on, back, Edge, Contracted, bit}
 use Rattle.ol_edges.proofs.Joining.{joined_map}
@@ -27,7 +27,7 @@ use Rattle.ol_diamond.proofs.Orders as orders
 use Rattle.ol_diamond.proofs.Orders.{Commuting}
 use Rattle.ol_rules.proofs.Waiting.{nat_is}
 
-abbrev Port : Type 0
+abbrev pub Port : Type 0
 Port = NamedPort BirthName
 
 -- what the pair's step joins and leaves within n
@@ -52,7 +52,7 @@ pub record AreSame (s t : State) : Type 0 where
   pub within : (n : ℕ) (u v : Port) → s.within n u v ↔ t.within n u v
 
 -- a pair and its wave
-abbrev Label : Type 0
+abbrev pub Label : Type 0
 Label = BirthPair × ℕ
 
 pub record StepsBy (s : State) (p : Label) (t : State) : Type 0 where
@@ -76,7 +76,7 @@ module _ {s t : State} {p : Label} (h : StepsBy s p t) where
   unfolding active_of
   step_of = record { active = active_of; rewrites = h.rewrites }
 
-iff_trans : {X Y Z : Type 0} → X ↔ Y → Y ↔ Z → X ↔ Z
+pub iff_trans : {X Y Z : Type 0} → X ↔ Y → Y ↔ Z → X ↔ Z
 iff_trans a b = ((λ x. b.0 (a.0 x)), (λ z. a.1 (b.1 z)))
 
 iff_sym : {X Y : Type 0} → X ↔ Y → Y ↔ X
@@ -91,7 +91,7 @@ state_sym s t h = record { nets = same_sym s.net t.net h.nets; within = λ n u v
 state_trans : (s t u : State) → AreSame s t → AreSame t u → AreSame s u
 state_trans s t u h h' = record { nets = same_trans s.net t.net u.net h.nets h'.nets; within = λ n u v. iff_trans (h.within n u v) (h'.within n u v) }
 
-good_kept : (s t : State) (p : Label) → IsGood s → StepsBy s p t → IsGood t
+pub good_kept : (s t : State) (p : Label) → IsGood s → StepsBy s p t → IsGood t
 good_kept s t p g h = record {
   birth = step_keeps s.net t.net p.0 g.birth (step_of h);
   linked = λ n u v w. (h.rewrites.links u v).1 (contracted_map (edge n) (λ u e x. x) u v ((h.weights n u v).0 w));
@@ -372,7 +372,7 @@ commuting = record {
 
 -- ---- runs
 
-state_of : WeightedNet BirthName → State
+unfoldable pub state_of : WeightedNet BirthName → State
 state_of N = record { net = N.net; within = LinkedWithin N }
 
 step_as : (N M : WeightedNet BirthName) (p : Label) → IsPairWave N p M → StepsBy (state_of N) p (state_of M)
@@ -393,7 +393,7 @@ step_as N M p s =
       weights = s.weights;
     }
 
-run_as : (N M : WeightedNet BirthName) (ps : List Label) → IsWaveRun N ps M → orders.Run StepsBy (state_of N) ps (state_of M)
+pub run_as : (N M : WeightedNet BirthName) (ps : List Label) → IsWaveRun N ps M → orders.Run StepsBy (state_of N) ps (state_of M)
 run_as N M [] waves.IsWaveRun.end = orders.Run.end
 run_as N M (p ∷ ps) (waves.IsWaveRun.then {M = K} s r) = orders.Run.then (step_as N K p s) (run_as K M ps r)
 
@@ -401,7 +401,7 @@ ended : (N : WeightedNet BirthName) → IsComplete N.net → orders.Ended StepsB
 unfolding state_of
 ended N d p t h = d p.0.f p.0.g p.0.rule (active_of h)
 
-start : (N : NamedNet BirthName) → IsBirthNet N → IsGood (state_of (weightless N))
+pub start : (N : NamedNet BirthName) → IsBirthNet N → IsGood (state_of (weightless N))
 unfolding state_of
 start N b = record { birth = b; linked = λ n u v h. h.0; swap = λ n u v h. (turn u v h.0, h.1) }
   where
@@ -441,7 +441,7 @@ each_pair_has_its_wave N M P ps qs b r d r' d' p h =
     let t = found (is_label p) qs (omega arith) in
     (t.0, t.1, told (label_is p t.0) t.2)
 
-abbrev pairs_of : List Label → List BirthPair
+abbrev pub pairs_of : List Label → List BirthPair
 pairs_of ps = map (λ (p : Label). p.0) ps
 
 one_list : (s s' t t' : State) (ps qs : List Label) → IsGood s → AreSame s s' → orders.Run StepsBy s ps t → orders.Run StepsBy s' qs t' → pairs_of ps ≡ pairs_of qs → ps ≡ qs
@@ -462,7 +462,7 @@ run_has_one_waves N M P ps qs b r r' e =
     one_list s s (state_of M) (state_of P) ps qs (start N b) (state_refl s) (run_as (weightless N) M ps r) (run_as (weightless N) P qs r') e
 
 -- runs of the same pairs, whichever node of each is written first, have one list of waves
-one_waves : (s s' t t' : State) (ps qs : List Label) → IsGood s → AreSame s s' → orders.Run StepsBy s ps t → orders.Run StepsBy s' qs t' → AreSamePairs (pairs_of ps) (pairs_of qs) → map (λ (p : Label). p.1) ps ≡ map (λ (q : Label). q.1) qs
+pub one_waves : (s s' t t' : State) (ps qs : List Label) → IsGood s → AreSame s s' → orders.Run StepsBy s ps t → orders.Run StepsBy s' qs t' → AreSamePairs (pairs_of ps) (pairs_of qs) → map (λ (p : Label). p.1) ps ≡ map (λ (q : Label). q.1) qs
 one_waves s s' t t' [] [] g m orders.Run.end orders.Run.end e = refl
 one_waves s s' t t' [] (q ∷ qs) g m r r' e = absurd e
 one_waves s s' t t' (p ∷ ps) [] g m r r' e = absurd e

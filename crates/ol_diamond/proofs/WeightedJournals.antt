@@ -30,20 +30,20 @@ journal_has_one_waves N M journal ws vs net before r w v =
 
 -- ---- each run has waves
 
-abbrev Weight : Type 0
+abbrev pub Weight : Type 0
 Weight = NamedPort BirthName → NamedPort BirthName → ℕ
 
-abbrev weighted : NamedNet BirthName → Weight → WeightedNet BirthName
+abbrev pub weighted : NamedNet BirthName → Weight → WeightedNet BirthName
 weighted N weight = record { net = N; weight = weight }
 
-record HasWaves (N : NamedNet BirthName) (weight : Weight) (ps : List BirthPair) (M : NamedNet BirthName) : Type 0 where
-  labels : List (BirthPair × ℕ)
-  after : WeightedNet BirthName
-  run : IsWaveRun (weighted N weight) labels after
-  labels_are : map (λ (q : BirthPair × ℕ). q.0) labels ≡ ps
-  leads : after.net ≡ M
+pub record HasWaves (N : NamedNet BirthName) (weight : Weight) (ps : List BirthPair) (M : NamedNet BirthName) : Type 0 where
+  pub labels : List (BirthPair × ℕ)
+  pub after : WeightedNet BirthName
+  pub run : IsWaveRun (weighted N weight) labels after
+  pub labels_are : map (λ (q : BirthPair × ℕ). q.0) labels ≡ ps
+  pub leads : after.net ≡ M
 
-has_waves : (N : NamedNet BirthName) (weight : Weight) (ps : List BirthPair) (M : NamedNet BirthName) → IsPairRun N ps M → HasWaves N weight ps M
+pub has_waves : (N : NamedNet BirthName) (weight : Weight) (ps : List BirthPair) (M : NamedNet BirthName) → IsPairRun N ps M → HasWaves N weight ps M
 has_waves N weight [] M pairs.IsPairRun.end = record { labels = []; after = weighted N weight; run = end; labels_are = refl; leads = refl }
 has_waves N weight (p ∷ ps) M (pairs.IsPairRun.then {M = K} s r) =
     let t = step_has_wave same_name name_test (born p.f p.g) (weighted N weight) p.f p.g p.rule K s in

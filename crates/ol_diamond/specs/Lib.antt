@@ -7,3 +7,6 @@ pub mod OneThread
 pub mod Weights
 pub mod Waves
 pub mod WaveLaws
+-- What only contracts of private functions and proofs cite.
+pub mod Replaying
+pub mod PortWeights

@@ -5,7 +5,11 @@ use Rattle.ol_net.specs.declared.parts.Kind.{Kind}
 use Rattle.ol_net.specs.declared.parts.Rule.{Rule}
 use Rattle.ol_net.specs.Nets.{NamedPort, slot, NamedNet, Linked, SameNet, net_under, IsPrincipalOf, IsSlotOf}
 use Rattle.ol_rules.specs.Rewriting.{Action, action_of, JoinOf, IsStep}
+use Rattle.ol_net.specs.Graph.{Graph}
+use Rattle.ol_net.specs.Numbered.{net_of}
 use Rattle.ol_rules.specs.declared.journal.NodeName.{NodeName}
+use Rattle.ol_rules.specs.declared.journal.NodeName.TheVariants.{Init}
+use Rattle.ol_rules.specs.Runs.{IsRun}
 use Rattle.ol_rules.specs.declared.journal.Entry.{Entry}
 use Rattle.ol_diamond.specs.Births.{BirthName, born}
 use Rattle.ol_diamond.specs.Runs.{BirthPair, IsSamePair}
@@ -68,3 +72,9 @@ pub record AreWaves (N : NamedNet NodeName) (journal : List Entry) (M : NamedNet
   pub after : WeightedNet BirthName
   pub run : IsWaveRun (weightless (net_under births.birth N)) pairs after
   pub same : SameNet births.after after.net
+
+-- these are the waves of the entries of a journal of some run from the graph, whose nodes are named by their numbers
+pub record IsWavesOf (g : Graph) (journal : List Entry) (waves : List ℕ) : Type 0 where
+  pub last : NamedNet NodeName
+  pub run : IsRun (net_under Init (net_of g)) 0 journal last
+  pub waves_are : AreWaves (net_under Init (net_of g)) journal last waves

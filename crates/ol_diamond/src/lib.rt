@@ -13,13 +13,15 @@
 
 mod one_thread;
 mod square;
-mod waves;
+mod wave_laws;
+mod weighing;
 
 ghost use Rattle.ol_diamond.specs.Laws.{StartIsBirthNet, StepKeepsBirthNet, RunKeepsBirthNet, BornIsFresh, PairsCommute, DoneMeansDone, PairToFront, EachPairIsAmong, NoRunHasMore, NoRunIsLonger, CompleteRunsHaveOnePairs, CompleteRunsHaveOneCounts, CompleteRunsLeaveOneNet, BirthFollows, CompleteFollows, BirthNamesAreOne};
 
 pub use one_thread::{one_thread_agrees, same_nets_run_alike};
 pub use square::{Square, SquareFault, two_orders};
-pub use waves::{heaviest_stays, runs_have_waves, waves_agree};
+pub use wave_laws::{heaviest_stays, runs_have_waves, waves_agree};
+pub use weighing::{WaveList, waves};
 
 /// Where no node's name is a proper part of another's, no node is there already that a rewrite will
 /// make. A net of start nodes is such a net, and each step and each run keeps it.

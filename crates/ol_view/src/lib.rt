@@ -11,6 +11,7 @@ mod pieces;
 mod replay;
 mod showing;
 mod tracing;
+mod wave_tracing;
 
 pub use answers::{After, Check};
 pub use checking::check;
@@ -18,3 +19,4 @@ pub use laws::equal_nets_are_shown_alike;
 pub use leading::after;
 pub use showing::show;
 pub use tracing::trace_text;
+pub use wave_tracing::trace_text_2;

@@ -6,7 +6,8 @@ ghost use Rattle.ol_net.specs.Nets.{slot, Linked};
 ghost use Rattle.ol_net.specs.Pairs.{IsInActive, IsComplete, HasActive};
 ghost use Rattle.ol_net.specs.Numbered.{net_of};
 ghost use Rattle.ol_view.specs.Checks.{AreIdle};
-ghost use Rattle.ol_view.specs.Replaying.{node_number, AreIdleNumbers, RewritesNamed};
+ghost use Rattle.ol_diamond.specs.Replaying.{node_number, RewritesNamed};
+ghost use Rattle.ol_view.specs.Replaying.{AreIdleNumbers};
 
 use ol_io::NoMemory;
 use ol_net::{Facing, Net, NodeId, Port};

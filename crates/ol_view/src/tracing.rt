@@ -24,7 +24,7 @@ fn put_name(text: &mut String, name: NodeName) -> Result<(), NoMemory>
     }
 }
 
-fn put_line(text: &mut String, entry: Entry) -> Result<(), NoMemory>
+pub(crate) fn put_line(text: &mut String, entry: Entry) -> Result<(), NoMemory>
     ensures { OnOk result (string_bytes text.new
         ≡ string_bytes text.old ++ line_text entry.first entry.second) }
 {

@@ -2,7 +2,8 @@ use Rattle.std.proofs.Common.{◌≡◌, ℕ, List, Some, ◌∙◌, subst}
 use Rattle.ol_net.specs.Graph.{Graph}
 use Rattle.ol_net.specs.Numbered.{net_of}
 use Rattle.ol_rules.specs.declared.journal.NodeName.{NodeName}
-use Rattle.ol_view.specs.Replaying.{node_number, AreIdleNumbers}
+use Rattle.ol_diamond.specs.Replaying.{node_number}
+use Rattle.ol_view.specs.Replaying.{AreIdleNumbers}
 use Rattle.ol_view.specs.Checks.{AreIdle}
 use Rattle.ol_view.proofs.replay.Replay.rewrite.Goals as goal
 

@@ -1,5 +1,5 @@
-use Rattle.ol_diamond.proofs.waves.heaviest_stays.Goals as goal
-use Rattle.ol_diamond.proofs.Weighing as laws
+use Rattle.ol_diamond.proofs.wave_laws.heaviest_stays.Goals as goal
+use Rattle.ol_diamond.proofs.Heaviest as laws
 
 pub returns-clause-way : goal.returns-clause-way
 returns-clause-way g c = laws.heaviest_on_the_way

@@ -1,4 +1,4 @@
-use Rattle.ol_diamond.proofs.waves.runs_have_waves.Goals as goal
+use Rattle.ol_diamond.proofs.wave_laws.runs_have_waves.Goals as goal
 use Rattle.ol_diamond.proofs.WaveSteps as steps
 use Rattle.ol_diamond.proofs.WeightedJournals as laws
 

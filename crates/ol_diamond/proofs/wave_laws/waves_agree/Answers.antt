@@ -1,4 +1,4 @@
-use Rattle.ol_diamond.proofs.waves.waves_agree.Goals as goal
+use Rattle.ol_diamond.proofs.wave_laws.waves_agree.Goals as goal
 use Rattle.ol_diamond.proofs.Weighted as laws
 use Rattle.ol_diamond.proofs.WeightedJournals as journals
 

@@ -1,0 +1,377 @@
+//! The waves of a journal, found by a replay on a net whose ports have weights.
+
+ghost use Rattle.std.specs.Prelude.{◌≡◌, ℕ, suc, max, ◌+◌, ◌*◌, ◌≤◌, [], ◌∷◌, ◌++◌, length, true, slice_get, slice_index_or, IfOk, OnOk, IfSome, option_map};
+ghost use Rattle.ol_net.specs.declared.parts.Facing.TheVariants.{Active};
+ghost use Rattle.ol_net.specs.Graph.{place, kind_at, facing_at};
+ghost use Rattle.ol_net.specs.Nets.{slot, Linked, NamedNet, net_under};
+ghost use Rattle.ol_net.specs.Numbered.{net_of};
+ghost use Rattle.ol_rules.specs.declared.journal.NodeName.{NodeName};
+ghost use Rattle.ol_rules.specs.declared.journal.NodeName.TheVariants.{Init};
+ghost use Rattle.ol_rules.specs.Counting.{is_rule};
+ghost use Rattle.ol_rules.specs.Rewriting.{is_meeting};
+ghost use Rattle.ol_rules.specs.Runs.{IsRun};
+ghost use Rattle.ol_diamond.specs.Replaying.{node_number};
+ghost use Rattle.ol_diamond.specs.Waves.{IsWavesOf};
+ghost use Rattle.ol_diamond.specs.PortWeights.{weight_at, raised_if, joined_weights, copied, copies_at, arity_of, acts_on, crossed_weights, weights_after, WeighsEntry};
+
+use ol_io::NoMemory;
+use ol_net::{Facing, Net, NodeId, Port, Rule, rule_of};
+use ol_rules::{Entry, Journal, NodeName, step};
+use std::alloc::Global;
+use std::marker::Model;
+
+/// The waves of the entries of a journal, in order.
+#[derive(Drop)]
+pub struct WaveList {
+    waves: Vec<u32>,
+}
+
+impl Model for WaveList {
+    ghost use Rattle.std.specs.Prelude.{List, ℕ, ◌^◌, ◌<◌, length};
+
+    ghost Value = { List ℕ };
+
+    ghost view = { λ w. w.waves.items };
+
+    ghost invariant = { λ w. length w.waves.items < 2 ^ 32 };
+}
+
+impl WaveList {
+    /// The number of entries.
+    pub fn len(&self) -> u32
+        ensures { result ≡ length self.now }
+    {
+        self.waves.len() as u32
+    }
+
+    /// The wave of the entry with ticket `k`, if there are more than `k` entries.
+    pub fn get(&self, k: u32) -> Option<u32>
+        ensures { result ≡ slice_get self.now k }
+    {
+        self.waves.get(k as usize).copied()
+    }
+}
+
+/// A net while a journal is replayed. `bases` has, for each ticket so far, how many node numbers
+/// were given out before it, and at its end how many are given out by now. `weights` has a weight
+/// at the place of each port: free ports come first, by number, and then three places for each node
+/// number. A link weighs as much as the heavier of its two ports.
+#[derive(Drop)]
+struct Weighing {
+    net: Net,
+    bases: Vec<u32>,
+    weights: Vec<u32>,
+}
+
+/// The waves of the entries of a journal: the round in which each pair would be rewritten if each
+/// round rewrote all pairs that are there. The links of the net have weight 0. The wave of an entry
+/// is one more than the weight of the link of its two nodes, the joins that it makes weigh as much
+/// as its wave, and of two edges that become one the greater weight stays. So no pair of a wave
+/// depends on another of it, and the greatest wave is the depth of the run as a parallel
+/// computation.
+///
+/// The journal is that of a run from the net, whose nodes are named by their numbers. The net stays
+/// as it is. `NoMemory`: no memory was found.
+pub fn waves(alloc: Global, net: &Net, journal: &Journal) -> Result<WaveList, NoMemory>
+    requires few { length net.now.nodes + 4 * length journal.now ≤ 2000000000 }
+    requires run { (M : NamedNet NodeName) × IsRun (net_under Init (net_of net.now)) 0 journal.now M }
+    ensures waves { IfOk result (λ list. IsWavesOf net.now journal.now list) }
+    ensures count { IfOk result (λ list. length list ≡ length journal.now) }
+{
+    net.is_net();
+    let mut weighing = Weighing::new(alloc, net)?;
+    let mut waves = Vec::new(alloc);
+    for k in 0..journal.len() {
+        let Some(entry) = journal.get(k) else {
+            unreachable!()
+        };
+        let wave = weighing.rewrite(entry)?;
+        let Ok(()) = waves.push(wave) else {
+            return Err(NoMemory);
+        };
+    }
+    Ok(WaveList { waves })
+}
+
+fn slot(node: NodeId, slot: u8) -> Port
+    ensures { result ≡ Port.Of node slot }
+{
+    Port::Of { node, slot }
+}
+
+// By these rules both nodes go, and their slots of one number are joined.
+fn is_meeting(rule: Rule) -> bool
+    ensures { result ≡ is_meeting rule }
+{
+    match rule {
+        Rule::Beta => true,
+        Rule::Fan => true,
+        Rule::Croissant => true,
+        Rule::Bracket => true,
+        _ => false,
+    }
+}
+
+fn same_rule(a: Rule, b: Rule) -> bool
+    ensures { result ≡ is_rule a b }
+{
+    a == b
+}
+
+// Whether the two nodes are an active pair of this rule.
+fn are_active(net: &Net, f: NodeId, g: NodeId, rule: Rule) -> bool
+    ensures linked { result ≡ true → Linked (net_of net.now) (slot f.0 0) (slot g.0 0) }
+    ensures active { result ≡ true → facing_at net.now f ≡ Active rule }
+{
+    let Facing::Active(found) = net.facing(f) else {
+        return false;
+    };
+    if !same_rule(found, rule) {
+        return false;
+    }
+    match net.partner(Port::Of { node: f, slot: 0 }) {
+        Some(Port::Of { node, slot }) => slot == 0 && node.0 == g.0,
+        Some(Port::Free(_)) => false,
+        None => false,
+    }
+}
+
+impl Weighing {
+    // A copy of the net at the start: no port weighs anything.
+    fn new(alloc: Global, net: &Net) -> Result<Weighing, NoMemory>
+        ensures net { IfOk result (λ w. w.net ≡ net.now) }
+        ensures bases { IfOk result (λ w. w.bases.items ≡ length net.now.nodes ∷ []) }
+        ensures sized { IfOk result (λ w. length w.weights.items ≡ net.now.free + 3 * length net.now.nodes) }
+        ensures weights { IfOk result (λ w. (k : ℕ) → slice_index_or w.weights.items k 0 ≡ 0) }
+    {
+        let net = net.copy()?;
+        let mut bases = Vec::new(alloc);
+        let Ok(()) = bases.push(net.born()) else {
+            return Err(NoMemory);
+        };
+        let mut weights = Vec::new(alloc);
+        let Ok(()) = weights.resize(net.free_ports() as usize + 3 * net.born() as usize, 0) else {
+            return Err(NoMemory);
+        };
+        Ok(Weighing {
+            net,
+            bases,
+            weights,
+        })
+    }
+
+    // The node of a name, by its number, if the name was given out.
+    fn node_of(&self, name: NodeName) -> Option<NodeId>
+        ensures { option_map (λ node. node.0) result ≡ node_number self.now.bases.items name }
+    {
+        match name {
+            NodeName::Init(k) => {
+                if k < *self.bases.get(0)? {
+                    Some(NodeId(k))
+                } else {
+                    None
+                }
+            }
+            NodeName::Born { ticket, place } => {
+                let base = *self.bases.get(ticket as usize)?;
+                let next = *self.bases.get(ticket as usize + 1)?;
+                let number = base.checked_add(place as u32)?;
+                if number < next {
+                    Some(NodeId(number))
+                } else {
+                    None
+                }
+            }
+        }
+    }
+
+    fn place(&self, port: Port) -> usize
+        ensures { result ≡ place self.now.net.free port }
+    {
+        match port {
+            Port::Free(k) => k as usize,
+            Port::Of { node, slot } => {
+                self.net.free_ports() as usize + 3 * node.0 as usize + slot as usize
+            }
+        }
+    }
+
+    fn weight(&self, port: Port) -> u32
+        ensures { result ≡ weight_at self.now.net.free self.now.weights.items port }
+    {
+        match self.weights.get(self.place(port)) {
+            Some(weight) => *weight,
+            None => 0,
+        }
+    }
+
+    // The wave of the pair of two nodes.
+    fn wave_of(&self, a: NodeId, b: NodeId) -> Option<u32>
+        ensures { IfSome result (λ wave. wave
+            ≡ suc (max (weight_at self.now.net.free self.now.weights.items (Port.Of a 0))
+            (weight_at self.now.net.free self.now.weights.items (Port.Of b 0)))) }
+    {
+        let weight = self.weight(slot(a, 0)).max(self.weight(slot(b, 0)));
+        weight.checked_add(1)
+    }
+
+    // The port, if there is one, weighs this at least.
+    fn raise(&mut self, port: Option<Port>, least: u32)
+        ensures net { self.new.net ≡ self.old.net }
+        ensures bases { self.new.bases ≡ self.old.bases }
+        ensures weights { self.new.weights.items
+            ≡ raised_if self.old.net.free self.old.weights.items port least }
+    {
+        let Some(port) = port else {
+            return;
+        };
+        let weight = self.weight(port).max(least);
+        let place = self.place(port);
+        if place < self.weights.len() {
+            self.weights[place] = weight;
+        }
+    }
+
+    // Two slots are joined: what they were linked to weighs as much as both, and as the wave.
+    fn join(&mut self, a: Port, b: Port, wave: u32)
+        ensures net { self.new.net ≡ self.old.net }
+        ensures bases { self.new.bases ≡ self.old.bases }
+        ensures weights { self.new.weights.items
+            ≡ joined_weights self.old.net self.old.weights.items a b wave }
+    {
+        let both = self.weight(a).max(self.weight(b));
+        let least = wave.max(both);
+        let x = self.net.partner(a);
+        let y = self.net.partner(b);
+        self.raise(x, least);
+        self.raise(y, least);
+    }
+
+    fn push(&mut self, weight: u32) -> Result<(), NoMemory>
+        ensures net { self.new.net ≡ self.old.net }
+        ensures bases { self.new.bases ≡ self.old.bases }
+        ensures weights { OnOk result (self.new.weights.items
+            ≡ self.old.weights.items ++ weight ∷ []) }
+    {
+        match self.weights.push(weight) {
+            Ok(()) => Ok(()),
+            Err(_) => Err(NoMemory),
+        }
+    }
+
+    // A copy comes at a slot: its principal port weighs as much as the slot, and as the wave; its
+    // other ports as the wave.
+    fn copy(&mut self, at: Port, wave: u32) -> Result<(), NoMemory>
+        ensures net { self.new.net ≡ self.old.net }
+        ensures bases { self.new.bases ≡ self.old.bases }
+        ensures weights { OnOk result (self.new.weights.items
+            ≡ copied self.old.net.free self.old.weights.items at wave) }
+    {
+        let first = wave.max(self.weight(at));
+        self.push(first)?;
+        self.push(wave)?;
+        self.push(wave)
+    }
+
+    fn arity(&self, at: NodeId) -> u8
+        ensures { result ≡ arity_of (kind_at self.now.net.nodes at.0) }
+    {
+        match self.net.kind_of(at) {
+            Some((kind, _)) => kind.slots() - 1,
+            None => 0,
+        }
+    }
+
+    // Copies come at the slots of the node but the principal one.
+    fn copies(&mut self, at: NodeId, wave: u32) -> Result<(), NoMemory>
+        ensures net { self.new.net ≡ self.old.net }
+        ensures bases { self.new.bases ≡ self.old.bases }
+        ensures weights { OnOk result (self.new.weights.items
+            ≡ copies_at self.old.net.free self.old.weights.items at
+            (arity_of (kind_at self.old.net.nodes at.0)) wave) }
+    {
+        let slots = self.arity(at);
+        if slots == 0 {
+            return Ok(());
+        }
+        self.copy(slot(at, 1), wave)?;
+        if slots == 1 {
+            return Ok(());
+        }
+        self.copy(slot(at, 2), wave)
+    }
+
+    // Whether a acts on b.
+    fn acts(&self, a: NodeId, b: NodeId) -> bool
+        ensures { result
+            ≡ acts_on (kind_at self.now.net.nodes a.0) (kind_at self.now.net.nodes b.0) }
+    {
+        match (self.net.kind_of(a), self.net.kind_of(b)) {
+            (Some(here), Some(there)) => rule_of(here, there).is_some(),
+            _ => false,
+        }
+    }
+
+    // f and h cross: copies of f come at the slots of h, and then copies of h at those of f.
+    fn cross(&mut self, f: NodeId, h: NodeId, wave: u32) -> Result<(), NoMemory>
+        ensures net { self.new.net ≡ self.old.net }
+        ensures bases { self.new.bases ≡ self.old.bases }
+        ensures weights { OnOk result (self.new.weights.items
+            ≡ crossed_weights self.old.net self.old.weights.items f h wave) }
+    {
+        self.copies(h, wave)?;
+        self.copies(f, wave)
+    }
+
+    // The weights once the pair was rewritten, which it isn't yet.
+    fn weigh(&mut self, a: NodeId, b: NodeId, rule: Rule, wave: u32) -> Result<(), NoMemory>
+        ensures net { self.new.net ≡ self.old.net }
+        ensures bases { self.new.bases ≡ self.old.bases }
+        ensures weights { OnOk result (self.new.weights.items
+            ≡ weights_after self.old.net self.old.weights.items a b rule wave) }
+    {
+        if is_meeting(rule) {
+            self.join(slot(a, 1), slot(b, 1), wave);
+            self.join(slot(a, 2), slot(b, 2), wave);
+            return Ok(());
+        }
+        if self.acts(a, b) {
+            self.cross(a, b, wave)
+        } else {
+            self.cross(b, a, wave)
+        }
+    }
+
+    // Rewrites the pair of an entry, and answers its wave. Of a run each entry's pair is active, and
+    // no wave is above the number of entries; for other entries the answer is `NoMemory`.
+    fn rewrite(&mut self, entry: Entry) -> Result<u32, NoMemory>
+        requires few { length self.old.net.nodes ≤ 2000000000 }
+        ensures weighed { IfOk result (λ wave. WeighsEntry self.old.net self.new.net
+            self.old.bases.items self.new.bases.items
+            self.old.weights.items self.new.weights.items entry wave) }
+    {
+        self.net.is_net();
+        self.net.is_tabled();
+        let Some(a) = self.node_of(entry.first) else {
+            return Err(NoMemory);
+        };
+        let Some(b) = self.node_of(entry.second) else {
+            return Err(NoMemory);
+        };
+        if !are_active(&self.net, a, b, entry.rule) {
+            return Err(NoMemory);
+        }
+        let Some(wave) = self.wave_of(a, b) else {
+            return Err(NoMemory);
+        };
+        self.weigh(a, b, entry.rule, wave)?;
+        let Ok(_) = step(&mut self.net, a) else {
+            return Err(NoMemory);
+        };
+        self.net.is_net();
+        let Ok(()) = self.bases.push(self.net.born()) else {
+            return Err(NoMemory);
+        };
+        Ok(wave)
+    }
+}
