@@ -59,13 +59,13 @@ module _ (files : Text → Option (List ℕ)) where
       let file = subst (λ tr. IsTermFile tr bytes w.term w.names) alike (subst (λ b. IsTermFile (translation_in asked) b w.term w.names) at w.file) in
       done_file goal bytes w.term w.names file ends s x (of_file_answer goal bytes s x h)
 
-  done_journal : (tr : Translation) (t : Tree) (names : List (List ℕ)) (journal : List ℕ) → length journal ≤ 67108864 → (s : Status) (x : List ℕ) → OfJournal tr t names journal s x → s ≡ Done
+  done_journal : (tr : Translation) (t : Tree) (names : List (List ℕ)) (journal : List ℕ) → length journal ≤ 402653184 → (s : Status) (x : List ℕ) → OfJournal tr t names journal s x → s ≡ Done
   done_journal tr t names journal b s x (by.past l h) = absurd (omega arith)
   done_journal tr t names journal b s x (by.found l v f h) = h.0
 
   done_on_journal : (name : Text) → HasJournalWithin files name → (tr : Translation) (t : Tree) (names : List (List ℕ)) (given : List ℕ) → files name ≡ Some given → (s : Status) (x : List ℕ) → JournalAnswer tr t names given s x → s ≡ Done
   done_on_journal name (read, e, b) tr t names given e' s x h =
-      let short = subst (λ l. length l ≤ 67108864) (one_bytes files name read given e e') b in
+      let short = subst (λ l. length l ≤ 402653184) (one_bytes files name read given e e') b in
       done_journal tr t names given short s x (of_journal_answer tr t names given s x h)
 
   done_made : (tr : Translation) (runs : Bool) (k : ℕ) → CanDo files (gen tr runs k) → (s : Status) (x : List ℕ) → Makes tr runs k s x → s ≡ Done

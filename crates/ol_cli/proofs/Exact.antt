@@ -147,7 +147,7 @@ module _ (words : List (String Global)) (f f' given : ℕ) (contents : Text → 
       go NoMemory text c = same NoMemory text c.1
 
   journal_answer : (journal : Text) (bytes : List ℕ) → contents journal ≡ Some bytes → (tr : Translation) (t : Tree) (names : List (List ℕ)) (st : Status) (text : List ℕ) → JournalCause at_hand journal tr t names st text → JournalAnswer tr t names bytes st text
-  journal_answer journal bytes told tr t names Limit text c = (past_told (contents journal) bytes 67108864 told c.0.longer, c.1)
+  journal_answer journal bytes told tr t names Limit text c = (past_told (contents journal) bytes 402653184 told c.0.longer, c.1)
   journal_answer journal bytes told tr t names Done text c = subst (λ b. JournalAnswer tr t names b Done text) (same_read (contents journal) c.0 bytes told c.1.whole) c.2
   journal_answer journal bytes told tr t names Usage text c = absurd c
   journal_answer journal bytes told tr t names Syntax text c = absurd c

@@ -188,8 +188,8 @@ not_refused tr term journal bytes t names s x (has_term l u others f h) i = go h
 
 -- what is found of a journal, by cases
 pub data OfJournal (tr : Translation) (t : Tree) (names : List (List ℕ)) (journal : List ℕ) (s : Status) (x : List ℕ) : Type 0 where
-  past : 67108864 < length journal → Same s Limit x journal_text → OfJournal tr t names journal s x
-  found : length journal ≤ 67108864 → (v : Check) → OnlyIsFound (start_net_of_term tr t names) journal v → Same s Done x (found_text v) → OfJournal tr t names journal s x
+  past : 402653184 < length journal → Same s Limit x journal_text → OfJournal tr t names journal s x
+  found : length journal ≤ 402653184 → (v : Check) → OnlyIsFound (start_net_of_term tr t names) journal v → Same s Done x (found_text v) → OfJournal tr t names journal s x
 
 pub of_journal_answer : (tr : Translation) (t : Tree) (names : List (List ℕ)) (journal : List ℕ) (s : Status) (x : List ℕ) → JournalAnswer tr t names journal s x → OfJournal tr t names journal s x
 of_journal_answer tr t names journal Limit x h = past h.0 (refl, h.1)

@@ -88,9 +88,9 @@ FileAnswer asked bytes st text = (t : Tree) × (names : List (List ℕ)) × IsTe
 -- What `check` answers to the bytes of a journal file, against a term: a limit that they pass, or the one thing that they are found
 -- to be.
 abbrev pub JournalAnswer : Translation → Tree → List (List ℕ) → List ℕ → Status → List ℕ → Type 0
-JournalAnswer translation t names journal status.Limit text = (67108864 < length journal) × (text ≡ journal_text)
+JournalAnswer translation t names journal status.Limit text = (402653184 < length journal) × (text ≡ journal_text)
 JournalAnswer translation t names journal status.Done text =
-    (length journal ≤ 67108864) × ((found : Check) × OnlyIsFound (start_net_of_term translation t names) journal found × (text ≡ found_text found))
+    (length journal ≤ 402653184) × ((found : Check) × OnlyIsFound (start_net_of_term translation t names) journal found × (text ≡ found_text found))
 JournalAnswer translation t names journal _ text = ⊥
 
 -- `run` without options but the translation
@@ -172,9 +172,9 @@ FileCause asked s st text = (s.faults' ≡ s.faults) × Read asked s st text
 
 -- What comes of a journal file, against a term.
 abbrev pub JournalCause : Seen → Text → Translation → Tree → List (List ℕ) → Status → List ℕ → Type 0
-JournalCause s journal translation t names status.Limit text = GavePast s 67108864 journal × (text ≡ journal_text)
+JournalCause s journal translation t names status.Limit text = GavePast s 402653184 journal × (text ≡ journal_text)
 JournalCause s journal translation t names status.Done text =
-    (trace : List ℕ) × GaveWithin s 67108864 journal trace × JournalAnswer translation t names trace status.Done text
+    (trace : List ℕ) × GaveWithin s 402653184 journal trace × JournalAnswer translation t names trace status.Done text
 JournalCause s journal translation t names _ text = ⊥
 
 -- Each status of a job, where it comes, and its text: of its term file; of its journal file, once the term file was read and is no

@@ -29,7 +29,7 @@ pub record HasTermWithin (files : Text → Option (List ℕ)) (asked : Asked) : 
 
 -- the bytes of a journal file are told, and no more than are read
 abbrev pub HasJournalWithin : (Text → Option (List ℕ)) → Text → Type 0
-HasJournalWithin files name = (journal : List ℕ) × (files name ≡ Some journal) × (length journal ≤ 67108864)
+HasJournalWithin files name = (journal : List ℕ) × (files name ≡ Some journal) × (length journal ≤ 402653184)
 
 -- The job can be done, its files having these bytes. A term that is only made can always be.
 abbrev pub CanDo : (Text → Option (List ℕ)) → Asked → Type 0

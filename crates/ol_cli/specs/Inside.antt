@@ -25,10 +25,10 @@ IsOnTerm _ = Unit {0}
 
 -- the numbers of a job are within the limits of their options
 abbrev pub IsWithinLimits : Asked → Type 0
-IsWithinLimits (run translation workers fuel heads name) = (1 ≤ workers) × (workers ≤ 64) × (fuel ≤ 2000000) × (1 ≤ heads)
+IsWithinLimits (run translation workers fuel heads name) = (1 ≤ workers) × (workers ≤ 64) × (fuel ≤ 8000000) × (1 ≤ heads)
 IsWithinLimits (walk translation edges heads name) = 1 ≤ heads
-IsWithinLimits (view translation after name) = after ≤ 2000000
-IsWithinLimits (trace translation workers fuel name) = (1 ≤ workers) × (workers ≤ 64) × (fuel ≤ 2000000)
+IsWithinLimits (view translation after name) = after ≤ 8000000
+IsWithinLimits (trace translation workers fuel name) = (1 ≤ workers) × (workers ≤ 64) × (fuel ≤ 8000000)
 IsWithinLimits (check translation term journal) = Unit {0}
 IsWithinLimits (gen translation runs k) = k ≤ 10
 

@@ -29,7 +29,7 @@ abbrev pub nodes_text : List ℕ
 nodes_text = line (codes "limit nodes 200000")
 
 abbrev pub journal_text : List ℕ
-journal_text = line (codes "limit journal 67108864")
+journal_text = line (codes "limit journal 402653184")
 
 abbrev pub syntax_text : ℕ → List ℕ
 syntax_text at = count_line (codes "syntax at byte") at

@@ -218,7 +218,7 @@ fn run_net<R: Threads + Wait + Sync, G: Gate + Sync>(
 ) -> Result<Answer, NoMemory>
     requires net { IsNetOf numbers.translation (tree_of file.now.term) file.now.names net.now }
     requires workers { (1 ≤ numbers.workers) × (numbers.workers ≤ 64) }
-    requires fuel { numbers.fuel ≤ 2000000 }
+    requires fuel { numbers.fuel ≤ 8000000 }
     requires heads { 1 ≤ numbers.heads }
     ensures answer { IfOk result (λ a.
         AnswersTerm (run_by numbers) file.now a.status a.text.items) }
@@ -289,7 +289,7 @@ fn walk_net(
 // is.
 fn view_net(alloc: Global, net: &Net, leads: u32) -> Result<Vec<u8>, NoMemory>
     requires small { IsSmallNet net.now }
-    requires leads { leads ≤ 2000000 }
+    requires leads { leads ≤ 8000000 }
     ensures { IfOk result (λ text. HoldsOfTerms net.now (λ translation t names.
         Views translation t names leads text.items)) }
 {
@@ -312,7 +312,7 @@ fn trace_net<R: Threads + Wait + Sync, G: Gate + Sync>(
     requires whole { count_by is_some net.now.nodes ≡ length net.now.nodes }
     requires small { IsSmallNet net.now }
     requires workers { (1 ≤ workers) × (workers ≤ 64) }
-    requires fuel { fuel ≤ 2000000 }
+    requires fuel { fuel ≤ 8000000 }
     ensures answer { IfOk result (λ a. HoldsOfTerms net.now (λ translation t names.
         TraceAnswer translation t names fuel a.status a.text.items)) }
     ensures closed { IfOk result (λ a. HoldsOfTerms net.now (λ translation t names.

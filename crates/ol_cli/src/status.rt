@@ -23,7 +23,7 @@ pub enum Status {
     /// Memory ran out, and nothing was written.
     NoMemory,
     /// The term file has more than 1,048,576 bytes, its term is deeper than 1,000, the net of its
-    /// term has more than 200,000 nodes, or the journal file has more than 67,108,864 bytes.
+    /// term has more than 200,000 nodes, or the journal file has more than 402,653,184 bytes.
     Limit,
 }
 

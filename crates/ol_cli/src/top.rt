@@ -32,7 +32,7 @@ use std::thread::Threads;
 const MOST_BYTES: usize = 1_048_576;
 
 /// The greatest number of bytes of a journal file.
-const MOST_JOURNAL_BYTES: usize = 67_108_864;
+const MOST_JOURNAL_BYTES: usize = 402_653_184;
 
 /// How a call of `ol` ended.
 ///
@@ -86,7 +86,7 @@ pub struct Outcome {
 /// Refusals are tried in the order that `Status` tells. Each has a line of its own: the usage,
 /// `read fault`, `syntax at byte B` with the length of the longest prefix that begins a text of the
 /// grammar, `fuel F`, `limit bytes 1048576`, `limit depth 1000`, `limit nodes 200000`, or
-/// `limit journal 67108864`. With `WriteFault` the sink took a prefix of the text, and with
+/// `limit journal 402653184`. With `WriteFault` the sink took a prefix of the text, and with
 /// `NoMemory` nothing.
 ///
 /// With `Done` or `Spent` of `run`, `trace` or `gen --run`, the closed words are handed back: those
@@ -418,7 +418,7 @@ fn answer_journal<S: Source>(
             Ok(answer)
         }
         Err(ReadAll::TooLong) => {
-            let answer = refusal(alloc, "limit journal 67108864", Status::Limit)?;
+            let answer = refusal(alloc, "limit journal 402653184", Status::Limit)?;
             Ok(answer)
         }
         Ok(bytes) => {

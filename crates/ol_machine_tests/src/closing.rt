@@ -15,7 +15,7 @@ use std::test::Fail;
 pub fn alone(alloc: Global, net: &Net, fuel: u32) -> Option<(Shared, Seat)>
     requires whole { count_by is_some net.now.nodes ≡ length net.now.nodes }
     requires small { IsSmallNet net.now }
-    requires fuel { fuel ≤ 2000000 }
+    requires fuel { fuel ≤ 8000000 }
     ensures { IfSome result (λ r. IsNewSeat r.0 r.1 × (r.0.plan.seats ≡ 1)) }
 {
     let Ok((shared, mut seats)) = Shared::make(alloc, net, fuel, 1) else {

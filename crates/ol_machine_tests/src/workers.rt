@@ -42,7 +42,7 @@ fn hired(table: &Shared, pool: &Pool, seat: Seat, hand: Hand) -> Worker
 fn alone(alloc: Global, net: &Net, fuel: u32) -> Result<(Shared, Pool, Worker), NoMemory>
     requires whole { count_by is_some net.now.nodes ≡ length net.now.nodes }
     requires small { IsSmallNet net.now }
-    requires fuel { fuel ≤ 2000000 }
+    requires fuel { fuel ≤ 8000000 }
     ensures worker { IfOk result (λ r. IsWorker r.0 r.1 r.2) }
     ensures alone { IfOk result (λ r. r.0.plan.seats ≡ 1) }
     ensures cells { IfOk result (λ r. r.1.cells ≡ cells_of r.0.plan.parts) }

@@ -12,7 +12,7 @@ static REFUSED: [&str; 72] = [
     "ol run -- a b",
     "ol run --workers 0 -",
     "ol run --workers 65 -",
-    "ol run --fuel 2000001 -",
+    "ol run --fuel 8000001 -",
     "ol run --fuel 5 --fuel 5 -",
     "ol run --fuel=5 --fuel 5 -",
     "ol run --fuel=x -",
@@ -42,12 +42,12 @@ static REFUSED: [&str; 72] = [
     "ol view",
     "ol view a b",
     "ol view --after",
-    "ol view --after 2000001 -",
+    "ol view --after 8000001 -",
     "ol view --after 1 --after=1 -",
     "ol view --fuel 1 -",
     "ol trace",
     "ol trace --workers 65 -",
-    "ol trace --fuel 2000001 -",
+    "ol trace --fuel 8000001 -",
     "ol trace --heads 3 -",
     "ol trace --work 3 -",
     "ol check",
@@ -247,7 +247,7 @@ fn lines_with_a_job(rt: HostRuntime) -> Result<(), Fail> {
 fn lines_that_view_and_trace(rt: HostRuntime) -> Result<(), Fail> {
     let a = rt.alloc();
     views(&rt, a, "ol view -", 0, "-")?;
-    views(&rt, a, "ol view --after=2000000 -- -x", 2_000_000, "-x")?;
+    views(&rt, a, "ol view --after=8000000 -- -x", 8_000_000, "-x")?;
     views(&rt, a, "ol view view --after 00000009", 9, "view")?;
     traces(&rt, a, "ol trace -", (4, 200_000), "-")?;
     traces(&rt, a, "ol trace --fuel 0 a --workers=64", (64, 0), "a")

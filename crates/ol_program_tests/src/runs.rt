@@ -422,7 +422,7 @@ fn other_words_are_usage(rt: HostRuntime) -> Result<(), Fail> {
         "run a b",
         "run --workers 0 -",
         "run --workers 65 -",
-        "run --fuel 2000001 -",
+        "run --fuel 8000001 -",
         "run --fuel 5 --fuel 5 -",
         "run --fuel=x -",
         "run --edges 5 -",

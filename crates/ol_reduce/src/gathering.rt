@@ -35,7 +35,7 @@ pub(crate) fn run_workers<R: Threads + Wait + Sync, G: Gate + Sync>(
 ) -> Result<(Words, End), NoMemory>
     requires whole { count_by is_some net.now.nodes ≡ length net.now.nodes }
     requires small { IsSmallNet net.now }
-    requires fuel { fuel ≤ 2000000 }
+    requires fuel { fuel ≤ 8000000 }
     requires workers { (0 < workers) × (workers ≤ 64) }
     ensures parts { IfOk result (λ r. AreParts net.now fuel r.0.plan.parts) }
     ensures start { IfOk result (λ r. r.0.plan.start.value ≡ net.now) }

@@ -28,7 +28,7 @@ pub(crate) struct Live {
 
 // The rank of a name. `None`: no node can have the name after so many tickets.
 fn rank_of(parts: Parts, events: u32, name: NodeName) -> Option<u32>
-    requires { IsSmall parts × (events ≤ 2000000) }
+    requires { IsSmall parts × (events ≤ 8000000) }
     ensures { MatchOption result (IsPlaced parts events name → ⊥) (IsRankOf parts events name) }
 {
     match name {
@@ -83,7 +83,7 @@ fn births(words: &Words, ticket: u32) -> u32
 
 // Marks a name.
 fn mark(parts: Parts, events: u32, marks: &mut Vec<bool>, name: NodeName)
-    requires small { IsSmall parts × (events ≤ 2000000) }
+    requires small { IsSmall parts × (events ≤ 8000000) }
     requires long { length marks.old.items ≡ parts.nodes + 4 * events }
     ensures long { length marks.new.items ≡ length marks.old.items }
     ensures marked { IsMarkedToo parts events marks.old.items name marks.new.items }
@@ -96,7 +96,7 @@ fn mark(parts: Parts, events: u32, marks: &mut Vec<bool>, name: NodeName)
 // By rank, whether a ticket rewrote the node.
 fn rewritten(alloc: Global, words: &Words) -> Result<Vec<bool>, NoMemory>
     requires small { IsSmall words.now.plan.parts }
-    requires drawn { events_drawn words.now ≤ 2000000 }
+    requires drawn { events_drawn words.now ≤ 8000000 }
     ensures { IfOk result (λ v. AreMarked words.now (events_drawn words.now) v.items) }
 {
     let parts = words.parts();

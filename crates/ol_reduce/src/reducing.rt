@@ -23,7 +23,7 @@ use std::thread::Threads;
 /// - `net`: no number of it is that of a node that went; at most 1,000,000 nodes, at most 1,000,000
 ///   free ports, no index above 1,000,000.
 /// - `workers`: 1 to 64. Where fewer threads can be had, the workers work in turn.
-/// - `fuel`: at most 2,000,000.
+/// - `fuel`: at most 8,000,000.
 ///
 /// `Done` comes exactly where the one-thread run has at most `fuel` steps, with a journal of as
 /// many entries and the net that it leads to. `Spent` comes exactly where that run has more: the
@@ -41,7 +41,7 @@ pub fn reduce<R: Threads + Wait + Sync, G: Gate + Sync>(
 ) -> Result<Reduced, NoMemory>
     requires whole { count_by is_some net.now.nodes ≡ length net.now.nodes }
     requires small { IsSmallNet net.now }
-    requires fuel { fuel ≤ 2000000 }
+    requires fuel { fuel ≤ 8000000 }
     requires workers { (0 < workers) × (workers ≤ 64) }
     ensures reduced { IfOk result (λ r. Reduces net.now fuel workers r) }
     ensures done { IfOk result (λ r. IsDoneAnswer r ↔ EndsWithin net.now fuel) }

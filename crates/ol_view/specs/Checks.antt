@@ -18,12 +18,12 @@ use Rattle.ol_view.specs.TraceTexts.{header, trace_text, BeginsWithLine}
 abbrev pub start_net_of_graph : Graph → NamedNet NodeName
 start_net_of_graph g = net_under Init (net_of g)
 
--- The first lines of the text are the trace of a run of at most 2,000,000 entries, which leads from
+-- The first lines of the text are the trace of a run of at most 8,000,000 entries, which leads from
 -- one net to the other; this follows them.
 pub record BeginsWithRun (net : NamedNet NodeName) (text : List ℕ)
     (journal : List Entry) (last : NamedNet NodeName) (rest : List ℕ) : Type 0 where
   pub begins : text ≡ trace_text journal ++ rest
-  pub few : length journal ≤ 2000000
+  pub few : length journal ≤ 8000000
   pub run : IsRun net 0 journal last
 
 -- the two are no active pair, whichever of them acts
@@ -45,11 +45,11 @@ pub data IsFound (net : NamedNet NodeName) (text : List ℕ) : Check → Type 0 
   no_header : ((rest : List ℕ) → text ≢ header ++ rest) → IsFound net text (BadText 1)
   bad_text : {journal : List Entry} {last : NamedNet NodeName} {rest : List ℕ} →
       BeginsWithRun net text journal last rest → rest ≢ [] →
-      (length journal ≡ 2000000) ⊎ HasNoLine rest →
+      (length journal ≡ 8000000) ⊎ HasNoLine rest →
       IsFound net text (BadText (length journal + 2))
   not_a_run : {journal : List Entry} {last : NamedNet NodeName} {rest more : List ℕ}
       {first second : NodeName} →
-      BeginsWithRun net text journal last rest → length journal < 2000000 →
+      BeginsWithRun net text journal last rest → length journal < 8000000 →
       BeginsWithLine rest first second more → AreIdle last first second →
       IsFound net text (NotARun (length journal + 2))
 
@@ -57,9 +57,9 @@ pub data IsFound (net : NamedNet NodeName) (text : List ℕ) : Check → Type 0 
 abbrev pub OnlyIsFound : NamedNet NodeName → List ℕ → Check → Type 0
 OnlyIsFound net text check = (found : Check) → (check ≡ found) ↔ IsFound net text found
 
--- Where the text is the trace of a run of at most 2,000,000 entries, this is found: Complete where
+-- Where the text is the trace of a run of at most 8,000,000 entries, this is found: Complete where
 -- no pair is active after it, else Run with its length.
 abbrev pub IsReadAgain : NamedNet NodeName → List ℕ → Check → Type 0
 IsReadAgain net text found = (journal : List Entry) (last : NamedNet NodeName) →
-    length journal ≤ 2000000 → IsRun net 0 journal last → text ≡ trace_text journal →
+    length journal ≤ 8000000 → IsRun net 0 journal last → text ≡ trace_text journal →
     (IsComplete last → found ≡ Complete) × ((IsComplete last → ⊥) → found ≡ Run (length journal))

@@ -14,7 +14,7 @@ use ol_net::Net;
 use std::alloc::Global;
 
 // The most entries of a trace text.
-const MOST_ENTRIES: u32 = 2_000_000;
+const MOST_ENTRIES: u32 = 8_000_000;
 
 /// Reads a trace text and replays it from a net, whose nodes are named by their numbers. The lines
 /// are tried in order, and the first bad one decides.
@@ -22,7 +22,7 @@ const MOST_ENTRIES: u32 = 2_000_000;
 /// - `BadText`: this line isn't in the grammar: the first line is `ol trace 1`; each other line is
 ///   two names with one space between, the smaller one first; numbers are at most 4294967295,
 ///   without leading zeros; a place is one digit, 0 to 3; every line ends with a line feed; there
-///   are at most 2,000,000 entries. A text with no byte is bad at line 1.
+///   are at most 8,000,000 entries. A text with no byte is bad at line 1.
 /// - `NotARun`: this line is in the grammar, and its pair isn't active after the lines before it.
 /// - `Complete`: all lines are good, and no active pair is left.
 /// - `Run`: all lines are good, and one is left.

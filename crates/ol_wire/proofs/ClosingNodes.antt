@@ -31,7 +31,7 @@ pub record Fits (z : Parts) (N : NamedNet NodeName) (t : ℕ) : Type 0 where
   pub names : (x : NodeName) (m : Kind) (i : ℕ) → HasNode N x m i → IsPlaced z t x
   pub indexes : (x : NodeName) (m : Kind) (i : ℕ) → HasNode N x m i → i ≤ 1000000 + t
 
-module _ (z : Parts) (few : z.fuel ≤ 2000000) (N M : NamedNet NodeName) (t : ℕ) (e : Event) (x y : NodeName) (st : IsStep (λ place. Born t place) N x y e.rule M) (ef : e.f ≡ node_ref st.active.k st.active.i (place_of z x)) (eg : e.g ≡ node_ref st.active.l st.active.j (place_of z y)) (fits : Fits z N t) (drawn : t < z.fuel) where
+module _ (z : Parts) (few : z.fuel ≤ 8000000) (N M : NamedNet NodeName) (t : ℕ) (e : Event) (x y : NodeName) (st : IsStep (λ place. Born t place) N x y e.rule M) (ef : e.f ≡ node_ref st.active.k st.active.i (place_of z x)) (eg : e.g ≡ node_ref st.active.l st.active.j (place_of z y)) (fits : Fits z N t) (drawn : t < z.fuel) where
   abbrev Made : NodeName → Kind → ℕ → Type 0
   Made u m n = NodeOf N (λ place. Born t place) x y st.active.k st.active.i st.active.l (action_of e.rule st.active.j) u m n
 
@@ -150,7 +150,7 @@ made_cases t e es (Born u i) (zero, d, at, q, lt) = let s : t + 0 ≡ t = omega 
 made_cases t e es (Born u i) (suc n, d, at, q, lt) = inr (n, d, at, omega (arith, q), lt)
 
 -- one event more in front; X says that the node is there at the end
-live_on : (z : Parts) (few : z.fuel ≤ 2000000) (N K : NamedNet NodeName) (t : ℕ) (e : Event) (es : List Event) (x y : NodeName) (st : IsStep (λ place. Born t place) N x y e.rule K)
+live_on : (z : Parts) (few : z.fuel ≤ 8000000) (N K : NamedNet NodeName) (t : ℕ) (e : Event) (es : List Event) (x y : NodeName) (st : IsStep (λ place. Born t place) N x y e.rule K)
     → e.f ≡ node_ref st.active.k st.active.i (place_of z x) → e.g ≡ node_ref st.active.l st.active.j (place_of z y) → Fits z N t → t < z.fuel → (X : Type 0) (u : NodeName)
     → X ↔ ((IsLive K u ⊎ IsMadeFrom (suc t) es u) × IsLeft z es u) → X ↔ ((IsLive N u ⊎ IsMadeFrom t (e ∷ es) u) × IsLeft z (e ∷ es) u)
 live_on z few N K t e es x y st ef eg fits drawn X u ih = ((λ h. let a = ih.0 h in there a.0 a.1), (λ h. ih.1 (back h.0 h.1, (λ d. h.1 (suc d)))))
@@ -182,7 +182,7 @@ live_on z few N K t e es x y st ef eg fits drawn X u ih = ((λ h. let a = ih.0 h
         go (inl a) = inl (subst (λ u. IsLive K u) (sym a.1) (born_live z few N K t e x y st ef eg fits drawn a.0 a.2))
         go (inr a) = inr a
 
-module _ (z : Parts) (few : z.fuel ≤ 2000000) where
+module _ (z : Parts) (few : z.fuel ≤ 8000000) where
   pub live_after : (N M : NamedNet NodeName) (t : ℕ) (es : List Event) → Fits z N t → t + length es ≤ z.fuel → IsPlayed z N t es M → (u : NodeName) → IsLive M u ↔ ((IsLive N u ⊎ IsMadeFrom t es u) × IsLeft z es u)
   live_after N M t [] fits room IsPlayed.end u = ((λ h. (inl h, (λ d e at. absurd (cc)))), (λ h. go u h.0))
     where

@@ -149,7 +149,7 @@ pub record Follows (p : Plan) (log : List Event) (N : NamedNet NodeName) (x y : 
 
 module _ (p : Plan) (log : List Event) (N : NamedNet NodeName) (j : JournalKeeps p log N) (x y : NodeName) (k l : Kind) (i n : ℕ) (e : Event)
     (faces : Faces N x y k i l n) (rule : rule_of k i l n ≡ Some e.rule) (f_is : e.f ≡ node_ref k i (place_of p.parts x)) (g_is : e.g ≡ node_ref l n (place_of p.parts y))
-    (low : length log < p.parts.fuel) (small : p.parts.fuel ≤ 2000000) where
+    (low : length log < p.parts.fuel) (small : p.parts.fuel ≤ 8000000) where
   abbrev pub active : IsActive N x y e.rule
   active = record { k = k; i = i; l = l; j = n; faces = faces; fits = rule }
 

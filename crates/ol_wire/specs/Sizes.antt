@@ -9,7 +9,7 @@ pub record IsSmall (z : Parts) : Type 0 where
   pub nodes : z.nodes ≤ 1000000
   pub wires : z.wires ≤ 2000000
   pub cells : z.cells ≤ 2000000
-  pub fuel : z.fuel ≤ 2000000
+  pub fuel : z.fuel ≤ 8000000
 
 -- The numbers of the net are so small that each reference to a part of it fits its word.
 pub record IsSmallNet (net : Graph) : Type 0 where

@@ -49,7 +49,7 @@ impl Parts {
 
     /// The first word of the block of a ticket.
     pub fn block(self, ticket: u32) -> u32
-        requires { IsSmall self × (ticket ≤ 2000000) }
+        requires { IsSmall self × (ticket ≤ 8000000) }
         ensures { result ≡ block self ticket }
     {
         2 + self.free + 2 * self.nodes + self.wires + 2 * self.cells + BLOCK * ticket

@@ -51,7 +51,7 @@ fn bit(join: u32) -> u8
 impl Parts {
     // The left word of the cell of a join of a ticket.
     fn born_cell(self, ticket: u32, join: u32) -> u32
-        requires { IsSmall self × (ticket ≤ 2000000) × (join < 4) }
+        requires { IsSmall self × (ticket ≤ 8000000) × (join < 4) }
         ensures { result ≡ born_cell self ticket join }
     {
         self.block(ticket) + 14 + 2 * join
@@ -69,7 +69,7 @@ impl Parts {
 impl Begun {
     // The two ends of a join.
     fn ends(self, parts: Parts, join: u32) -> (u64, u64)
-        requires small { IsSmall parts × (self.ticket ≤ 2000000) }
+        requires small { IsSmall parts × (self.ticket ≤ 8000000) }
         requires join { join < joins_in (event_for self.rewrite) }
         requires rule { rule_between self.rewrite.f self.rewrite.g ≡ Some self.rewrite.rule }
         requires index { index_in self.rewrite.g < 16777215 }

@@ -164,7 +164,7 @@ impl Rewrite {
 impl Parts {
     /// The wire between the copy of f at slot q + 1 of g and the copy of g at slot p + 1 of f.
     fn born_wire(self, ticket: u32, q: u32, p: u32) -> u32
-        requires { IsSmall self × (ticket ≤ 2000000) × (q < 4) × (p < 4) }
+        requires { IsSmall self × (ticket ≤ 8000000) × (q < 4) × (p < 4) }
         ensures { result ≡ born_wire self ticket q p }
     {
         self.block(ticket) + 10 + 2 * q + p
@@ -172,7 +172,7 @@ impl Parts {
 
     /// The reference of the node that the ticket makes at place i.
     pub(crate) fn born_ref(self, rewrite: Rewrite, ticket: u32, i: u32) -> u64
-        requires { IsSmall self × (ticket ≤ 2000000) × (i < 4) × (index_in rewrite.g < 16777215) }
+        requires { IsSmall self × (ticket ≤ 8000000) × (i < 4) × (index_in rewrite.g < 16777215) }
         ensures { result ≡ born_ref self (event_for rewrite) ticket i }
     {
         let place = self.block(ticket) + 2 + 2 * i;
@@ -185,7 +185,7 @@ impl Parts {
 
     /// What the field of slot s + 1 of the node that the ticket makes at place i holds at first.
     fn born_field(self, rewrite: Rewrite, ticket: u32, i: u32, s: u32) -> u64
-        requires { IsSmall self × (ticket ≤ 2000000) × (i < 4) × (s < 2) }
+        requires { IsSmall self × (ticket ≤ 8000000) × (i < 4) × (s < 2) }
         ensures { result ≡ born_field self (event_for rewrite) ticket i s }
     {
         let of_f = rewrite.copies_of_f();
@@ -202,7 +202,7 @@ impl Parts {
     /// The first ten words of the ticket's block: the two nodes, and the fields of the nodes that
     /// come.
     pub(crate) fn block_words(self, rewrite: Rewrite, ticket: u32) -> [u64; 10]
-        requires small { IsSmall self × (ticket ≤ 2000000) }
+        requires small { IsSmall self × (ticket ≤ 8000000) }
         requires places { (place_in rewrite.f < 4294967296) × (place_in rewrite.g < 4294967296) }
         ensures { result ≡ block_words self (event_for rewrite) ticket }
     {

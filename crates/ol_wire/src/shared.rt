@@ -41,7 +41,7 @@ impl Shared {
     ///
     /// - `net`: a net no number of which is that of a node that went: at most 1,000,000 nodes, at
     ///   most 1,000,000 free ports, no index above 1,000,000.
-    /// - `fuel`: at most 2,000,000 tickets, each of 22 words. `seats`: 1 to 64.
+    /// - `fuel`: at most 8,000,000 tickets, each of 22 words. `seats`: 1 to 64.
     ///
     /// Each facing pair of the net stands in a cell of its own: cell c has the c-th of them by the
     /// smaller node number. All words that the run can need are taken here. `NoMemory`: there was
@@ -54,7 +54,7 @@ impl Shared {
     ) -> Result<(Shared, Vec<Seat>), NoMemory>
         requires whole { count_by is_some net.now.nodes ≡ length net.now.nodes }
         requires small { IsSmallNet net.now }
-        requires fuel { fuel ≤ 2000000 }
+        requires fuel { fuel ≤ 8000000 }
         requires seats { (0 < seats) × (seats ≤ 64) }
         ensures parts { IfOk result (λ r. AreParts net.now fuel r.0.plan.parts) }
         ensures start { IfOk result (λ r. r.0.plan.start.value ≡ net.now) }

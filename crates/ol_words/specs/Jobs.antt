@@ -27,7 +27,7 @@ abbrev pub workers_setting : Setting
 workers_setting = record { option = codes "workers"; limits = record { least = 1; most = 64; default = 4 } }
 
 abbrev pub fuel_setting : Setting
-fuel_setting = record { option = codes "fuel"; limits = record { least = 0; most = 2000000; default = 200000 } }
+fuel_setting = record { option = codes "fuel"; limits = record { least = 0; most = 8000000; default = 200000 } }
 
 abbrev pub heads_setting : Setting
 heads_setting = record { option = codes "heads"; limits = record { least = 1; most = 100000; default = 4096 } }
@@ -36,7 +36,7 @@ abbrev pub edges_setting : Setting
 edges_setting = record { option = codes "edges"; limits = record { least = 1; most = 10000000; default = 100000 } }
 
 abbrev pub after_setting : Setting
-after_setting = record { option = codes "after"; limits = record { least = 0; most = 2000000; default = 0 } }
+after_setting = record { option = codes "after"; limits = record { least = 0; most = 8000000; default = 0 } }
 
 -- a flag is 1 where it is given, else 0
 abbrev pub runs_setting : Setting

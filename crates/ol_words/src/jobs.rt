@@ -51,7 +51,7 @@ pub enum Job {
         translation: Translation,
         /// How many workers rewrite, 1 to 64.
         workers: u32,
-        /// How many interactions may be made, 0 to 2,000,000.
+        /// How many interactions may be made, 0 to 8,000,000.
         fuel: u32,
         /// How many subterms of the answer are asked for their heads, 1 to 100,000.
         heads: u32,
@@ -73,7 +73,7 @@ pub enum Job {
     View {
         /// By which translation the term becomes a net.
         translation: Translation,
-        /// After how many interactions, 0 to 2,000,000.
+        /// After how many interactions, 0 to 8,000,000.
         after: u32,
         /// The file with the term, or `-` for standard input.
         name: Word,
@@ -84,7 +84,7 @@ pub enum Job {
         translation: Translation,
         /// How many workers rewrite, 1 to 64.
         workers: u32,
-        /// How many interactions may be made, 0 to 2,000,000.
+        /// How many interactions may be made, 0 to 8,000,000.
         fuel: u32,
         /// The file with the term, or `-` for standard input.
         name: Word,

@@ -21,7 +21,7 @@ pub(crate) const WORKERS: Limits = Limits {
 
 pub(crate) const FUEL: Limits = Limits {
     least: 0,
-    most: 2_000_000,
+    most: 8_000_000,
     default: 200_000,
 };
 
@@ -39,7 +39,7 @@ pub(crate) const EDGES: Limits = Limits {
 
 pub(crate) const AFTER: Limits = Limits {
     least: 0,
-    most: 2_000_000,
+    most: 8_000_000,
     default: 0,
 };
 
