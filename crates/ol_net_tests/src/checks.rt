@@ -30,79 +30,52 @@ fn traces_runs(rt: HostRuntime) -> Result<(), Fail> {
     Ok(())
 }
 
-/// Asserts what each text is found to be, against the net of (\x. x) (\y. y).
-fn assert_found(rt: &impl Abort, alloc: Global, rows: &[(&str, Check)]) -> Result<(), Fail> {
+/// Asserts what each of some texts, parted by `;`, is found to be, against the net of
+/// (\x. x) (\y. y).
+fn assert_found(rt: &impl Abort, alloc: Global, texts: &str, wanted: Check) -> Result<(), Fail> {
     let net = net_of(alloc, IDENTITY_OF_IDENTITY)?;
-    for (text, wanted) in rows {
-        assert!(rt; check(alloc, &net, text.as_bytes())? == *wanted, "{text}");
+    for text in texts.split(';') {
+        assert!(rt; check(alloc, &net, text.as_bytes())? == wanted, "{text}");
     }
     Ok(())
 }
 
-/// The line of a pair that isn't active comes before a line that is bad, and the other way round.
-#[test]
-fn finds_runs(rt: HostRuntime) -> Result<(), Fail> {
-    let second = Check::NotARun { line: 2 };
-    let fourth = Check::NotARun { line: 4 };
-    assert_found(
-        &rt,
-        rt.alloc(),
-        &[
-            ("ol trace 1\n0 1\n2 3\n4 1.1\n1.0 2.0\n", Check::Complete),
-            ("ol trace 1\n", Check::Run { k: 0 }),
-            ("ol trace 1\n0 1\n2 3\n", Check::Run { k: 2 }),
-            ("ol trace 1\n0 1\n2 3\n2 3\n4 1.1\n1.0 2.0\n", fourth),
-            ("ol trace 1\n2 3\n", second),
-            ("ol trace 1\n0 2\n", second),
-            ("ol trace 1\n0 9\n", second),
-            ("ol trace 1\n4294967294 4294967295\n", second),
-            ("ol trace 1\n0 1\n2 3\n4 0.1\n", fourth),
-            ("ol trace 1\n0 1\n2 3\n4 2.1\n", fourth),
-            ("ol trace 1\n0 1\n2 3\n4 1.3\n", fourth),
-            ("ol trace 1\n0 1\n2 3\n4 4294967295.3\n", fourth),
-            ("ol trace 1\n2 3\n3 2\n", second),
-            ("ol trace 1\n3 2\n2 3\n", Check::BadText { line: 2 }),
-        ],
-    )
-}
+const NO_RUNS_AT_LINE_2: &str = "ol trace 1\n2 3\n;ol trace 1\n0 2\n;ol trace 1\n0 9\n;\
+    ol trace 1\n4294967294 4294967295\n;ol trace 1\n2 3\n3 2\n";
+
+const NO_RUNS_AT_LINE_4: &str = "ol trace 1\n0 1\n2 3\n2 3\n4 1.1\n1.0 2.0\n;\
+    ol trace 1\n0 1\n2 3\n4 0.1\n;ol trace 1\n0 1\n2 3\n4 2.1\n;\
+    ol trace 1\n0 1\n2 3\n4 1.3\n;ol trace 1\n0 1\n2 3\n4 4294967295.3\n";
+
+const BAD_AT_LINE_1: &str = ";ol trace 1;ol trace 2\n;ol trace 1 \n0 1\n;\
+    ol trace 1\r\n0 1\n;0 1\n";
 
 /// Each line of the grammar, broken once.
+const BAD_AT_LINE_2: &str = "ol trace 1\n0 0\n;ol trace 1\n0 1;ol trace 1\n0  1\n;\
+    ol trace 1\n 0 1\n;ol trace 1\n0 1 \n;ol trace 1\n0 1\r\n;ol trace 1\n00 1\n;\
+    ol trace 1\n0 01\n;ol trace 1\n0 4294967296\n;ol trace 1\n0 99999999999999999999\n;\
+    ol trace 1\n0 1.4\n;ol trace 1\n0 1.00\n;ol trace 1\n0 1.\n;ol trace 1\n0\n;\
+    ol trace 1\n0.1 1\n;ol trace 1\n1.1 1.0\n;ol trace 1\n1.1 4\n;ol trace 1\n+0 1\n;\
+    ol trace 1\n3 2\n2 3\n";
+
+const BAD_AT_LINE_3: &str = "ol trace 1\n0 1\n3 2\n4 1.1\n1.0 2.0\n;ol trace 1\n0 1\n\n";
+
+/// The line of a pair that isn't active comes before a line that is bad, and the other way round.
 #[test]
-fn finds_bad_lines(rt: HostRuntime) -> Result<(), Fail> {
-    let first = Check::BadText { line: 1 };
-    let second = Check::BadText { line: 2 };
-    let third = Check::BadText { line: 3 };
-    assert_found(
-        &rt,
-        rt.alloc(),
-        &[
-            ("", first),
-            ("ol trace 1", first),
-            ("ol trace 2\n", first),
-            ("ol trace 1 \n0 1\n", first),
-            ("ol trace 1\r\n0 1\n", first),
-            ("0 1\n", first),
-            ("ol trace 1\n0 1\n3 2\n4 1.1\n1.0 2.0\n", third),
-            ("ol trace 1\n0 0\n", second),
-            ("ol trace 1\n0 1", second),
-            ("ol trace 1\n0 1\n\n", third),
-            ("ol trace 1\n0  1\n", second),
-            ("ol trace 1\n 0 1\n", second),
-            ("ol trace 1\n0 1 \n", second),
-            ("ol trace 1\n0 1\r\n", second),
-            ("ol trace 1\n00 1\n", second),
-            ("ol trace 1\n0 01\n", second),
-            ("ol trace 1\n0 4294967296\n", second),
-            ("ol trace 1\n0 99999999999999999999\n", second),
-            ("ol trace 1\n0 1.4\n", second),
-            ("ol trace 1\n0 1.00\n", second),
-            ("ol trace 1\n0 1.\n", second),
-            ("ol trace 1\n0\n", second),
-            ("ol trace 1\n0.1 1\n", second),
-            ("ol trace 1\n1.1 1.0\n", second),
-            ("ol trace 1\n+0 1\n", second),
-        ],
-    )
+fn finds_runs_and_bad_lines(rt: HostRuntime) -> Result<(), Fail> {
+    for (texts, wanted) in [
+        ("ol trace 1\n0 1\n2 3\n4 1.1\n1.0 2.0\n", Check::Complete),
+        ("ol trace 1\n", Check::Run { k: 0 }),
+        ("ol trace 1\n0 1\n2 3\n", Check::Run { k: 2 }),
+        (NO_RUNS_AT_LINE_2, Check::NotARun { line: 2 }),
+        (NO_RUNS_AT_LINE_4, Check::NotARun { line: 4 }),
+        (BAD_AT_LINE_1, Check::BadText { line: 1 }),
+        (BAD_AT_LINE_2, Check::BadText { line: 2 }),
+        (BAD_AT_LINE_3, Check::BadText { line: 3 }),
+    ] {
+        assert_found(&rt, rt.alloc(), texts, wanted)?;
+    }
+    Ok(())
 }
 
 /// How many leads, how many of them there are, and the net's text after them.

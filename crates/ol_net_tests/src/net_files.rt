@@ -58,13 +58,15 @@ fn writes_a_term_and_ranks_nodes(rt: HostRuntime) -> Result<(), Fail> {
     assert_written(&rt, alloc, &net, text)
 }
 
-/// Asserts that a text is refused with this fault.
-fn assert_refused(rt: &impl Abort, alloc: Global, text: &str, fault: NetFault) {
-    assert!(rt; text.len() < 1000);
-    assert!(rt;
-        read_net(alloc, text.as_bytes()).err() == Some(fault),
-        "{text}"
-    );
+/// Asserts that each of some texts, parted by `;`, is refused with this fault.
+fn assert_refused(rt: &impl Abort, alloc: Global, texts: &str, fault: NetFault) {
+    for text in texts.split(';') {
+        assert!(rt; text.len() < 1000);
+        assert!(rt;
+            read_net(alloc, text.as_bytes()).err() == Some(fault),
+            "{text}"
+        );
+    }
 }
 
 /// A fault of `Net::build` for nodes and links in their order.
@@ -76,53 +78,46 @@ fn hands_faults_on(rt: HostRuntime) {
     let index = "ol net 1\nfree 0\nnode lam 0\nnode fan 1000001\n";
     let missing = "ol net 1\nfree 2\nnode eraser -\nlink f0 f1\nlink 0.0 0.1\n";
     let twice = "ol net 1\nfree 3\nlink f0 f2\nlink f1 f2\n";
-    let faults = [
+    for (text, fault) in [
         (loose, BuildFault::Loose { port }),
         (index, BuildFault::BadIndex { node: 1 }),
         (missing, BuildFault::BadPort { link: 1 }),
         (twice, BuildFault::Twice { link: 1 }),
-    ];
-    for (text, fault) in faults {
+    ] {
         assert_refused(&rt, rt.alloc(), text, NetFault::Build { fault });
     }
 }
 
+const BAD_AT_LINE_1: &str = ";ol net 2\n;ol net 1\r\nfree 0\n;ol net 1";
+
+const BAD_AT_LINE_2: &str = "ol net 1\n;ol net 1\nfree 1000001\n;ol net 1\nfree 01\n;\
+    ol net 1\nfree 1;ol net 1\nfree \n";
+
 /// Each line of the grammar, broken once, and texts that end too early.
+const BAD_AT_LINE_3: &str = "ol net 1\nfree 1\n\n;ol net 1\nfree 0\nnode lam\n;\
+    ol net 1\nfree 0\nnode lam 4294967296\n;ol net 1\nfree 0\nnode lamb 0\n;\
+    ol net 1\nfree 0\nnode eraser 0\n;ol net 1\nfree 0\nnode fan -\n;\
+    ol net 1\nfree 0\nnode fan  0\n;ol net 1\nfree 2\nlink f1 f0\n;\
+    ol net 1\nfree 2\nlink f0 f0\n;ol net 1\nfree 2\nlink f0 f1 \n;\
+    ol net 1\nfree 2\nlink f0 0.3\n;ol net 1\nfree 2\nlink f0 0.00\n";
+
+const BAD_AT_LINE_4: &str = "ol net 1\nfree 2\nlink f0 f1\nnode lam 0\n;\
+    ol net 1\nfree 4\nlink f1 f2\nlink f0 f3\n;ol net 1\nfree 4\nlink f1 f2\nlink f1 f3\n";
+
 #[test]
 fn finds_bad_lines(rt: HostRuntime) {
     let exchanged = "ol net 1\nfree 4\nnode fan 0\nnode lam 0\n\
         link f1 0.2\nlink f0 0.1\nlink f2 1.1\nlink f3 1.2\nlink 0.0 1.0\n";
     let croissants = "ol net 1\nfree 0\nnode croissant 7\nnode app 1000000\n\
         link 0.0 1.2\nlink 0.1 1.0\nlink 1.1 1.3\n";
-    let rows = [
-        ("", 1),
-        ("ol net 2\n", 1),
-        ("ol net 1\r\nfree 0\n", 1),
-        ("ol net 1", 1),
-        ("ol net 1\n", 2),
-        ("ol net 1\nfree 1000001\n", 2),
-        ("ol net 1\nfree 01\n", 2),
-        ("ol net 1\nfree 1", 2),
-        ("ol net 1\nfree \n", 2),
-        ("ol net 1\nfree 1\n\n", 3),
-        ("ol net 1\nfree 0\nnode lam\n", 3),
-        ("ol net 1\nfree 0\nnode lam 4294967296\n", 3),
-        ("ol net 1\nfree 0\nnode lamb 0\n", 3),
-        ("ol net 1\nfree 0\nnode eraser 0\n", 3),
-        ("ol net 1\nfree 0\nnode fan -\n", 3),
-        ("ol net 1\nfree 0\nnode fan  0\n", 3),
-        ("ol net 1\nfree 2\nlink f1 f0\n", 3),
-        ("ol net 1\nfree 2\nlink f0 f0\n", 3),
-        ("ol net 1\nfree 2\nlink f0 f1 \n", 3),
-        ("ol net 1\nfree 2\nlink f0 0.3\n", 3),
-        ("ol net 1\nfree 2\nlink f0 0.00\n", 3),
-        ("ol net 1\nfree 2\nlink f0 f1\nnode lam 0\n", 4),
-        ("ol net 1\nfree 4\nlink f1 f2\nlink f0 f3\n", 4),
-        ("ol net 1\nfree 4\nlink f1 f2\nlink f1 f3\n", 4),
+    for (texts, line) in [
+        (BAD_AT_LINE_1, 1),
+        (BAD_AT_LINE_2, 2),
+        (BAD_AT_LINE_3, 3),
+        (BAD_AT_LINE_4, 4),
         (exchanged, 6),
         (croissants, 7),
-    ];
-    for (text, line) in rows {
-        assert_refused(&rt, rt.alloc(), text, NetFault::BadText { line });
+    ] {
+        assert_refused(&rt, rt.alloc(), texts, NetFault::BadText { line });
     }
 }

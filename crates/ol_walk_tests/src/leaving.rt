@@ -1,68 +1,79 @@
 //! Exits of walks over the nets of small terms, against the root's frame.
 
-ghost use Rattle.std.specs.Prelude.{◌≡◌, ℕ, List, length};
+ghost use Rattle.std.specs.Prelude.{◌≡◌, ℕ, ◌<◌, List, length, IfOk};
 ghost use Rattle.ol_context.specs.Contexts.{Level};
 ghost use Rattle.ol_context.specs.Shapes.{AreHeld};
-ghost use Rattle.ol_readback.specs.Frames.{frames_of, ParentsFirst, AreHeldFrames};
+ghost use Rattle.ol_readback.specs.Frames.{frames_of, ParentsFirst, AreHeldFrames, AreAtPorts};
 
-use crate::heads::root_alone;
+use crate::level_texts::begun;
 use ol_context::{Context, Values};
-use ol_readback::{Frame, Head, HeadVar, leave};
-use std::alloc::Global;
+use ol_readback::{Frame, Head, HeadVar, Levels, leave};
+use std::alloc::{AllocError, Global};
 use std::process::Abort;
 use std::test::Fail;
 
-/// Asserts that an exit says a variable with one argument, and one level for its frame, or no head.
+/// The frame of the root alone, whose head has two abstractions.
+pub fn root_alone(alloc: Global) -> Result<Vec<Frame>, AllocError>
+    ensures count { IfOk result (λ fs. length fs.items ≡ 1) }
+    ensures parents { IfOk result (λ fs. (vs : List Level) → ParentsFirst (frames_of vs fs.items)) }
+    ensures held { IfOk result (λ fs. (vs : List Level) → AreHeldFrames vs fs.items) }
+    ensures ports { IfOk result (λ fs. (n : ℕ) → 0 < n → AreAtPorts n fs.items) }
+{
+    let root = Frame {
+        port: 0,
+        levels: Levels::of(Vec::new(alloc)),
+        parent: None,
+        lams: 2,
+    };
+    let frames = vec![in alloc; root]?;
+    Ok(frames)
+}
+
+/// Asserts that an exit, asked for so many abstractions, says a variable with so many arguments, and
+/// one level for their frames, or no head.
 fn assert_left(
     rt: &impl Abort,
     alloc: Global,
     values: &Values,
-    frames: &Vec<Frame>,
     lams: u32,
     port: u32,
     context: &Context,
-    wanted: Option<HeadVar>,
+    wanted: Option<(HeadVar, u32)>,
 ) -> Result<(), Fail>
-    requires count { length frames.now.items ≡ 1 }
-    requires parents { (vs : List Level) → ParentsFirst (frames_of vs frames.now.items) }
-    requires frames { (vs : List Level) → AreHeldFrames vs frames.now.items }
-    requires context { AreHeld values.now context.now }
+    requires { AreHeld values.now context.now }
 {
-    match leave(alloc, values, frames, 0, lams, port, context)? {
+    let frames = root_alone(alloc)?;
+    match leave(alloc, values, &frames, 0, lams, port, context)? {
         Head::Is {
             lams: there,
             var,
             args,
             at,
         } => {
-            assert!(rt; there == lams && args == 1 && at.len() == 1);
-            assert!(rt; Some(var) == wanted);
+            assert!(rt; there == lams && at.len() == 1);
+            assert!(rt; Some((var, args)) == wanted);
         }
-        Head::NoHead => assert!(rt; wanted.is_none(), "no head"),
-        Head::Budget => panic!(rt; "budget"),
+        Head::NoHead | Head::Budget => assert!(rt; wanted.is_none(), "no head"),
     }
     Ok(())
 }
 
-/// `\x. f x`, asked for one abstraction, leaves by the port of f with levels `empty`, `o.empty`.
+/// `\x. f x`, asked for one abstraction, leaves by the port of f with levels `empty`, `o.empty`. No
+/// head: by port 0, which is no free name, with the context of one; by the port of f, and as a
+/// binder, where a level after the arguments' is not empty.
 #[test]
 fn leaves_by_a_name(rt: HostRuntime) -> Result<(), Fail> {
-    let alloc = rt.alloc();
-    let mut values = Values::new(alloc);
-    let empty = values.empty();
-    let o = values.put_o(empty)?;
-    let context = Context::of(vec![in alloc; empty, o]?);
-    let frames = root_alone(alloc)?;
-    assert_left(
-        &rt,
-        alloc,
-        &values,
-        &frames,
-        1,
-        1,
-        &context,
-        Some(HeadVar::Free(1)),
-    )
+    for (lams, port, signs, wanted) in [
+        (1, 1, ["", "o", ""], Some((HeadVar::Free(1), 1))),
+        (2, 0, ["", "o", ""], None),
+        (2, 1, ["", "o", "*"], None),
+        (2, 0, ["*", "o", "*"], None),
+    ] {
+        let mut values = Values::new(rt.alloc());
+        let context = begun(rt.alloc(), &mut values, signs)?;
+        assert_left(&rt, rt.alloc(), &values, lams, port, &context, wanted)?;
+    }
+    Ok(())
 }
 
 /// `let t = \f x. f (f x) in t t`, asked for two, leaves by the root with levels
@@ -77,25 +88,20 @@ fn leaves_by_a_nested_level(rt: HostRuntime) -> Result<(), Fail> {
     let outer = values.put_pair(inner, o)?;
     let star = values.put_star(outer)?;
     let context = Context::of(vec![in alloc; star, o]?);
-    let frames = root_alone(alloc)?;
     let binder = HeadVar::Bound { node: 0, binder: 1 };
-    assert_left(&rt, alloc, &values, &frames, 2, 0, &context, Some(binder))
+    assert_left(&rt, alloc, &values, 2, 0, &context, Some((binder, 1)))
 }
 
-/// By port 0, which is no free name, with the context of one; by the port of f, and as a binder,
-/// where a level after the arguments' is not empty.
+/// An exit with `o.*.<empty,empty>` is binder 2 of the root's frame, with no argument.
 #[test]
-fn leaves_without_a_head(rt: HostRuntime) -> Result<(), Fail> {
+fn leaves_as_the_second_binder(rt: HostRuntime) -> Result<(), Fail> {
     let alloc = rt.alloc();
     let mut values = Values::new(alloc);
     let empty = values.empty();
-    let o = values.put_o(empty)?;
-    let star = values.put_star(empty)?;
-    let frames = root_alone(alloc)?;
-    let name = Context::of(vec![in alloc; empty, o]?);
-    assert_left(&rt, alloc, &values, &frames, 2, 0, &name, None)?;
-    let name = Context::of(vec![in alloc; empty, o, star]?);
-    assert_left(&rt, alloc, &values, &frames, 2, 1, &name, None)?;
-    let binder = Context::of(vec![in alloc; star, o, star]?);
-    assert_left(&rt, alloc, &values, &frames, 2, 0, &binder, None)
+    let both = values.put_pair(empty, empty)?;
+    let star = values.put_star(both)?;
+    let marked = values.put_o(star)?;
+    let context = Context::of(vec![in alloc; marked]?);
+    let binder = HeadVar::Bound { node: 0, binder: 2 };
+    assert_left(&rt, alloc, &values, 2, 0, &context, Some((binder, 0)))
 }

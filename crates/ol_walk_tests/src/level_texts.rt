@@ -7,11 +7,10 @@ use ol_context::{Context, Cross, Shape, Val, Values, Walk, cross, walk};
 use ol_io::NoMemory;
 use ol_net::{Kind, Net, NodeId, Port};
 use std::alloc::{AllocError, Global};
-use std::process::Abort;
 use std::test::Fail;
 
 /// The port of a node by its slot.
-pub fn of(node: u32, slot: u8) -> Port
+fn of(node: u32, slot: u8) -> Port
     ensures { result ≡ Port.Of (record { 0 = node }) slot }
 {
     Port::Of {
@@ -84,7 +83,7 @@ fn signed(values: &mut Values, signs: &str) -> Result<Val, NoMemory>
 }
 
 /// The context that begins with three levels of such signs.
-fn begun(alloc: Global, values: &mut Values, signs: [&str; 3]) -> Result<Context, Fail>
+pub fn begun(alloc: Global, values: &mut Values, signs: [&str; 3]) -> Result<Context, Fail>
     ensures { IfOk result (λ c. AreHeld values.new c) }
 {
     let [first, second, third] = signs;
@@ -95,7 +94,7 @@ fn begun(alloc: Global, values: &mut Values, signs: [&str; 3]) -> Result<Context
 }
 
 /// What a walk from a free port answers that begins with these levels.
-fn walked(
+pub fn walked(
     alloc: Global,
     net: &Net,
     from: u32,
@@ -121,23 +120,8 @@ fn walked(
     }
 }
 
-/// Asserts for each row what a walk answers: the free port from which it starts, its first three
-/// levels, the crossings allowed, and the answer.
-pub fn assert_walks(
-    rt: &impl Abort,
-    alloc: Global,
-    net: &Net,
-    rows: &[(u32, [&str; 3], u64, &str)],
-) -> Result<(), Fail> {
-    for (from, signs, edges, wanted) in rows {
-        let answer = walked(alloc, net, *from, *signs, *edges)?;
-        assert_eq!(rt; answer.as_str(), *wanted);
-    }
-    Ok(())
-}
-
 /// What a crossing answers that enters a node by a slot with these levels.
-fn crossed(
+pub fn crossed(
     alloc: Global,
     net: &Net,
     node: u32,
@@ -161,19 +145,4 @@ fn crossed(
         Cross::Out(Port::Free(_)) => Err(Fail::from("free port")),
         Cross::Undefined => Ok(format!(in alloc; "undefined")?),
     }
-}
-
-/// Asserts for each row what a crossing answers: the node and the slot that it enters, the first
-/// three levels, and the answer.
-pub fn assert_crossings(
-    rt: &impl Abort,
-    alloc: Global,
-    net: &Net,
-    rows: &[(u32, u8, [&str; 3], &str)],
-) -> Result<(), Fail> {
-    for (node, slot, signs, wanted) in rows {
-        let answer = crossed(alloc, net, *node, *slot, *signs)?;
-        assert_eq!(rt; answer.as_str(), *wanted);
-    }
-    Ok(())
 }

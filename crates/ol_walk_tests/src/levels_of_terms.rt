@@ -2,82 +2,99 @@
 
 ghost use Rattle.std.specs.Prelude.{◌≡◌, ◌<◌};
 
-use crate::level_texts::assert_walks;
+use crate::level_texts::walked;
+use crate::small_nets::{net_of, net_of_text};
 use ol_context::{OpenWalk, Steps, Values, walk_open};
 use ol_net::Net;
-use ol_parse::parse;
 use ol_term::Translation;
-use ol_translate::translate;
 use std::alloc::Global;
 use std::marker::Brand;
+use std::process::Abort;
 use std::sync::ledger::{Blank, Ledger};
 use std::test::Fail;
 
-/// The net of a term by a translation.
-fn net_of(alloc: Global, input: &str, translation: Translation) -> Result<Net, Fail> {
-    if input.len() > 100 {
-        return Err(Fail::from("too long"));
-    }
-    let file = parse(alloc, input.as_bytes()).ok().ok_or("no term")?;
-    let net = translate(alloc, &file, translation).ok().ok_or("no net")?;
-    Ok(net)
-}
-
-/// A shared name leaves with `o` and its argument by another context; without eta the head needs an
-/// abstraction; the level of a head past two duplications is nested.
-#[test]
-fn walks_leave_with_their_levels(rt: HostRuntime) -> Result<(), Fail> {
-    let alloc = rt.alloc();
-    let nested = "let t = \\f x. f (f x) in t t";
-    let pair = "(\\x. x x) (\\y. y)";
-    let rows = [
-        ("\\x. f x", 0, ["", "", ""], "undefined at 1"),
-        ("\\x. f x", 0, ["o", "", ""], "3 to 1 with 1:o.empty"),
-        ("x x", 0, ["", "", ""], "3 to 1 with 0:o.empty 1:o.empty"),
-        ("x x", 1, ["o", "*", ""], "6 to 1 with 0:*.<empty,empty>"),
-        (nested, 0, ["", "", ""], "undefined at 9"),
-        (nested, 0, ["o", "", ""], "undefined at 25"),
-        (
-            nested,
-            0,
-            ["oo", "", ""],
-            "91 to 0 with 0:*.<<empty,o.empty>,o.empty> 1:o.empty",
-        ),
-        (pair, 0, ["", "", ""], "undefined at 21"),
-        (pair, 0, ["o", "", ""], "43 to 0 with 0:*.empty"),
-    ];
-    for (input, from, signs, wanted) in rows {
-        let net = net_of(alloc, input, Translation::One)?;
-        assert_walks(&rt, alloc, &net, &[(from, signs, 200, wanted)])?;
+/// Asserts for each row what a walk over the net of a term answers: the term, the free port from
+/// which it starts, its first three levels, the crossings allowed, and the answer.
+fn assert_walks(
+    rt: &impl Abort,
+    alloc: Global,
+    translation: Translation,
+    rows: &[(&str, u32, [&str; 3], u64, &str)],
+) -> Result<(), Fail> {
+    for (input, from, signs, edges, wanted) in rows {
+        let net = net_of(alloc, input, translation)?;
+        let answer = walked(alloc, &net, *from, *signs, *edges)?;
+        assert!(rt; answer.as_str() == *wanted, "{answer}");
     }
     Ok(())
+}
+
+const NESTED: &str = "let t = \\f x. f (f x) in t t";
+
+const PAIR: &str = "(\\x. x x) (\\y. y)";
+
+/// A shared name leaves with `o` and its argument by another context; without eta the head needs an
+/// abstraction; the level of a head past two duplications is nested. Before the last crossing a walk
+/// stands at a node.
+#[test]
+fn walks_leave_with_their_levels(rt: HostRuntime) -> Result<(), Fail> {
+    let nested = "91 to 0 with 0:*.<<empty,o.empty>,o.empty> 1:o.empty";
+    let rows = [
+        ("\\x. f x", 0, ["", "", ""], 200, "undefined at 1"),
+        ("\\x. f x", 0, ["o", "", ""], 200, "3 to 1 with 1:o.empty"),
+        (
+            "x x",
+            0,
+            ["", "", ""],
+            200,
+            "3 to 1 with 0:o.empty 1:o.empty",
+        ),
+        (
+            "x x",
+            1,
+            ["o", "*", ""],
+            200,
+            "6 to 1 with 0:*.<empty,empty>",
+        ),
+        (NESTED, 0, ["", "", ""], 200, "undefined at 9"),
+        (NESTED, 0, ["o", "", ""], 200, "undefined at 25"),
+        (NESTED, 0, ["oo", "", ""], 200, nested),
+        (PAIR, 0, ["", "", ""], 200, "undefined at 21"),
+        (PAIR, 0, ["o", "", ""], 42, "budget"),
+        (PAIR, 0, ["o", "", ""], 43, "43 to 0 with 0:*.empty"),
+        (
+            "\\x y. x y",
+            0,
+            ["oo", "", ""],
+            5,
+            "5 to 0 with 0:*.empty 1:o.empty",
+        ),
+        ("\\x y. x y", 0, ["oo", "", ""], 4, "budget"),
+        ("\\x y. x y", 0, ["o", "", ""], 4, "undefined at 2"),
+    ];
+    assert_walks(&rt, rt.alloc(), Translation::One, &rows)
 }
 
 /// By translation 2 an argument that is a variable leaves with no pair, and walks are shorter.
 #[test]
 fn walks_by_translation_2_leave_with_fewer_pairs(rt: HostRuntime) -> Result<(), Fail> {
-    let alloc = rt.alloc();
-    let nested = "let t = \\f x. f (f x) in t t";
-    let pair = "(\\x. x x) (\\y. y)";
+    let nested = "81 to 0 with 0:*.<o.empty,o.empty> 1:o.empty";
     let rows = [
-        ("\\x. f x", 0, ["o", "", ""], "3 to 1 with 1:o.empty"),
-        ("x x", 0, ["", "", ""], "3 to 1 with 0:o.empty 1:o.empty"),
-        ("x x", 1, ["o", "*", ""], "4 to 1 with 0:*.empty"),
-        (nested, 0, ["o", "", ""], "undefined at 23"),
+        ("\\x. f x", 0, ["o", "", ""], 200, "3 to 1 with 1:o.empty"),
         (
-            nested,
+            "x x",
             0,
-            ["oo", "", ""],
-            "81 to 0 with 0:*.<o.empty,o.empty> 1:o.empty",
+            ["", "", ""],
+            200,
+            "3 to 1 with 0:o.empty 1:o.empty",
         ),
-        (pair, 0, ["", "", ""], "undefined at 19"),
-        (pair, 0, ["o", "", ""], "39 to 0 with 0:*.empty"),
+        ("x x", 1, ["o", "*", ""], 200, "4 to 1 with 0:*.empty"),
+        (NESTED, 0, ["o", "", ""], 200, "undefined at 23"),
+        (NESTED, 0, ["oo", "", ""], 200, nested),
+        (PAIR, 0, ["", "", ""], 200, "undefined at 19"),
+        (PAIR, 0, ["o", "", ""], 200, "39 to 0 with 0:*.empty"),
     ];
-    for (input, from, signs, wanted) in rows {
-        let net = net_of(alloc, input, Translation::Two)?;
-        assert_walks(&rt, alloc, &net, &[(from, signs, 200, wanted)])?;
-    }
-    Ok(())
+    assert_walks(&rt, rt.alloc(), Translation::Two, &rows)
 }
 
 /// What the open walk from the root answers, without its levels.
@@ -105,14 +122,26 @@ fn opened<L: Ledger>(alloc: Global, net: &Net, edges: u64, blank: Blank) -> Resu
     }
 }
 
-/// The open walk finds that one abstraction is asked for, with the crossings of the walk for one.
+/// The open walk finds how many abstractions are asked for, with the crossings of the walk for that
+/// many; over an abstraction of an eraser it breaks off for all.
 #[test]
 fn one_open_walk_finds_the_abstractions(rt: HostRuntime) -> Result<(), Fail> {
     let alloc = rt.alloc();
-    let net = net_of(alloc, "(\\x. x x) (\\y. y)", Translation::One)?;
-    let left = opened::<Brand>(alloc, &net, 43, Blank::new(1))?;
-    assert_eq!(rt; left.as_str(), "1: 43 to 0");
-    let spent = opened::<Brand>(alloc, &net, 42, Blank::new(1))?;
-    assert_eq!(rt; spent.as_str(), "1: budget");
+    for (input, edges, wanted) in [
+        ("\\x. f x", 200, "1: 3 to 1"),
+        ("x x", 200, "0: 3 to 1"),
+        (NESTED, 200, "2: 91 to 0"),
+        (PAIR, 43, "1: 43 to 0"),
+        (PAIR, 42, "1: budget"),
+    ] {
+        let net = net_of(alloc, input, Translation::One)?;
+        let left = opened::<Brand>(alloc, &net, edges, Blank::new(1))?;
+        assert!(rt; left.as_str() == wanted, "{left}");
+    }
+    let erasers = "ol net 1\nfree 1\nnode lam 0\nnode eraser -\nnode eraser -\n\
+        link f0 0.0\nlink 0.1 1.0\nlink 0.2 2.0\n";
+    let net = net_of_text(alloc, erasers)?;
+    let left = opened::<Brand>(alloc, &net, 9, Blank::new(1))?;
+    assert!(rt; left.as_str() == "1: undefined at 2");
     Ok(())
 }

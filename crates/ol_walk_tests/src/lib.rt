@@ -20,8 +20,8 @@ mod level_texts;
 #[cfg(test)]
 mod levels_of_terms;
 #[cfg(test)]
-mod open_walks;
+mod small_nets;
 #[cfg(test)]
 mod tables;
 #[cfg(test)]
-mod walks;
+mod trees;
