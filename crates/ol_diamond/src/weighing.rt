@@ -74,7 +74,8 @@ struct Weighing {
 /// as it is. `NoMemory`: no memory was found.
 pub fn waves(alloc: Global, net: &Net, journal: &Journal) -> Result<WaveList, NoMemory>
     requires few { length net.now.nodes + 4 * length journal.now ≤ 2000000000 }
-    requires run { (M : NamedNet NodeName) × IsRun (net_under Init (net_of net.now)) 0 journal.now M }
+    requires run { (M : NamedNet NodeName)
+        × IsRun (net_under Init (net_of net.now)) 0 journal.now M }
     ensures waves { IfOk result (λ list. IsWavesOf net.now journal.now list) }
     ensures count { IfOk result (λ list. length list ≡ length journal.now) }
 {
@@ -141,7 +142,8 @@ impl Weighing {
     fn new(alloc: Global, net: &Net) -> Result<Weighing, NoMemory>
         ensures net { IfOk result (λ w. w.net ≡ net.now) }
         ensures bases { IfOk result (λ w. w.bases.items ≡ length net.now.nodes ∷ []) }
-        ensures sized { IfOk result (λ w. length w.weights.items ≡ net.now.free + 3 * length net.now.nodes) }
+        ensures sized { IfOk result (λ w.
+            length w.weights.items ≡ net.now.free + 3 * length net.now.nodes) }
         ensures weights { IfOk result (λ w. (k : ℕ) → slice_index_or w.weights.items k 0 ≡ 0) }
     {
         let net = net.copy()?;

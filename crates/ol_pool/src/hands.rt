@@ -103,8 +103,10 @@ impl Hand {
     // Puts a cell into its own part.
     pub(crate) fn put(&mut self, cell: u32) -> Result<(), u32>
         requires below { cell < self.old.pool.cells }
-        ensures sent { OnOk result (self.new ≡ record self.old { sent = self.old.sent ++ cell ∷ [] }) }
-        ensures unchanged { OnErr result (self.new ≡ record self.old { refused = self.new.refused }) }
+        ensures sent { OnOk result
+            (self.new ≡ record self.old { sent = self.old.sent ++ cell ∷ [] }) }
+        ensures unchanged { OnErr result
+            (self.new ≡ record self.old { refused = self.new.refused }) }
         ensures refused { OnErr result (CountsOne self.old.refused self.new.refused) }
         ensures many { OnErr result (64 ≤ length self.old.sent) }
         ensures back { IfErr result (λ returned. returned ≡ cell) }
@@ -120,7 +122,8 @@ impl Hand {
 
     // Looks at its own part.
     fn look_home(&mut self) -> Seen
-        ensures tells { Tells result (part_of self.old self.old.number) (part_of self.new self.old.number) }
+        ensures tells { Tells result
+            (part_of self.old self.old.number) (part_of self.new self.old.number) }
         ensures others { (q : ℕ) → q ≢ self.old.number → part_of self.new q ≡ part_of self.old q }
         ensures rest { self.new ≡ record self.old { parts = self.new.parts } }
     {

@@ -45,7 +45,8 @@ fn look_again<L: Look>(looks: &mut L, at: u32) -> Option<u32>
     requires { at < L.number looks.old }
     ensures number { L.number looks.new ≡ L.number looks.old }
     ensures kept { L.kept looks.new ≡ L.kept looks.old }
-    ensures here { MatchOption result (Missed (L.part looks.old at) (L.part looks.new at)) (λ cell. Gave cell (L.part looks.old at) (L.part looks.new at)) }
+    ensures here { MatchOption result (Missed (L.part looks.old at) (L.part looks.new at))
+        (λ cell. Gave cell (L.part looks.old at) (L.part looks.new at)) }
     ensures others { (q : ℕ) → q ≢ at → L.part looks.new q ≡ L.part looks.old q }
 {
     match looks.look(at) {
@@ -71,10 +72,14 @@ pub fn take_from<L: Look>(looks: &mut L, own: u32) -> Option<u32>
     requires { own < L.number looks.old }
     ensures number { L.number looks.new ≡ L.number looks.old }
     ensures kept { L.kept looks.new ≡ L.kept looks.old }
-    ensures one { IfSome result (OneGave (L.number looks.old) (L.part looks.old) (L.part looks.new)) }
-    ensures first { IfSome result (FirstGave own (L.number looks.old) (L.part looks.old) (L.part looks.new)) }
-    ensures all { IfNone result (EachMissed (L.number looks.old) (L.part looks.old) (L.part looks.new)) }
-    ensures stay { IfNone result ((p : ℕ) → GaveNone (L.part looks.old p) (L.part looks.new p)) }
+    ensures one { IfSome result
+        (OneGave (L.number looks.old) (L.part looks.old) (L.part looks.new)) }
+    ensures first { IfSome result
+        (FirstGave own (L.number looks.old) (L.part looks.old) (L.part looks.new)) }
+    ensures all { IfNone result
+        (EachMissed (L.number looks.old) (L.part looks.old) (L.part looks.new)) }
+    ensures stay { IfNone result
+        ((p : ℕ) → GaveNone (L.part looks.old p) (L.part looks.new p)) }
 {
     for at in own..looks.parts() {
         if let Some(cell) = look_again(looks, at) {

@@ -20,7 +20,8 @@ pub(crate) fn open_all(
     bound: u32,
 ) -> Result<(Vec<Own>, Vec<Thief>), NoMemory>
     ensures owns { IfOk result (λ made. All (λ own. own.log ≡ opened bound) made.0.items) }
-    ensures thieves { IfOk result (λ made. map (λ own. own.deque) made.0.items ≡ map (λ t. stealer_deque t) made.1.items) }
+    ensures thieves { IfOk result (λ made.
+        map (λ own. own.deque) made.0.items ≡ map (λ t. stealer_deque t) made.1.items) }
     ensures count { IfOk result (λ made. length made.1.items ≡ count) }
 {
     let mut owns = Vec::new(alloc);
@@ -42,7 +43,8 @@ const APART: usize = 8;
 
 // Access for one hand to each deque.
 fn lend_all(alloc: Global, pool: &Pool, owns: &mut Vec<Own>) -> Result<Vec<Reach>, NoMemory>
-    requires some { All (λ own. (1 < own.log.parts) × (own.log.bound ≡ pool.now.cells)) owns.old.items }
+    requires some { All (λ own. (1 < own.log.parts) × (own.log.bound ≡ pool.now.cells))
+        owns.old.items }
     requires deques { map (λ own. own.deque) owns.old.items ≡ pool.now.deques }
     ensures owns { OnOk result (owns.new.items ≡ map lends_one owns.old.items) }
     ensures row { IfOk result (λ made. made.items ≡ row_of pool.now) }

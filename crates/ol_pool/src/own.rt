@@ -84,7 +84,8 @@ impl Own {
     /// `Err`: the deque had to grow, and no memory was found. It gives the cell back.
     pub(crate) fn put(&mut self, cell: u32) -> Result<(), u32>
         requires below { cell < self.old.log.bound }
-        ensures sent { OnOk result (self.new ≡ record self.old { log = puts self.old.log (cell ∷ []) }) }
+        ensures sent { OnOk result
+            (self.new ≡ record self.old { log = puts self.old.log (cell ∷ []) }) }
         ensures unchanged { OnErr result (self.new ≡ self.old) }
         ensures many { OnErr result (64 ≤ length self.old.log.sent) }
         ensures back { IfErr result (λ returned. returned ≡ cell) }
@@ -94,7 +95,8 @@ impl Own {
 
     /// Takes the cell at the front, if there is one.
     pub(crate) fn next(&mut self) -> Option<u32>
-        ensures { MatchOption result (self.new ≡ self.old) (λ cell. self.new ≡ record self.old { log = gets self.old.log (cell ∷ []) }) }
+        ensures { MatchOption result (self.new ≡ self.old)
+            (λ cell. self.new ≡ record self.old { log = gets self.old.log (cell ∷ []) }) }
     {
         self.deque.pop_as::<Gets>()
     }

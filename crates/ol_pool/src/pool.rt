@@ -120,8 +120,10 @@ impl Pool {
     pub fn put(&self, hand: &mut Hand, cell: u32) -> Result<(), u32>
         requires below { cell < self.now.cells }
         requires hand { IsHandOf hand.old self.now }
-        ensures sent { OnOk result (hand.new ≡ record hand.old { sent = hand.old.sent ++ cell ∷ [] }) }
-        ensures unchanged { OnErr result (hand.new ≡ record hand.old { refused = hand.new.refused }) }
+        ensures sent { OnOk result
+            (hand.new ≡ record hand.old { sent = hand.old.sent ++ cell ∷ [] }) }
+        ensures unchanged { OnErr result
+            (hand.new ≡ record hand.old { refused = hand.new.refused }) }
         ensures refused { OnErr result (CountsOne hand.old.refused hand.new.refused) }
         ensures many { OnErr result (64 ≤ length hand.old.sent) }
         ensures back { IfErr result (λ returned. returned ≡ cell) }
@@ -138,8 +140,10 @@ impl Pool {
         ensures refused { hand.new.refused ≡ hand.old.refused }
         ensures one { IfSome result (OneGave self.now.hands (part_of hand.old) (part_of hand.new)) }
         ensures first { IfSome result (TookFirst hand.old hand.new) }
-        ensures all { IfNone result (EachMissed self.now.hands (part_of hand.old) (part_of hand.new)) }
-        ensures stay { IfNone result ((p : ℕ) → GaveNone (part_of hand.old p) (part_of hand.new p)) }
+        ensures all { IfNone result
+            (EachMissed self.now.hands (part_of hand.old) (part_of hand.new)) }
+        ensures stay { IfNone result
+            ((p : ℕ) → GaveNone (part_of hand.old p) (part_of hand.new p)) }
     {
         let own = hand.number();
         let mut looks = PoolLook::of(self, hand);
@@ -163,8 +167,10 @@ impl Pool {
         ensures refused { hand.new.refused ≡ hand.old.refused }
         ensures one { IfSome result (OneGave self.now.hands (part_of hand.old) (part_of hand.new)) }
         ensures first { IfSome result (TookFirst hand.old hand.new) }
-        ensures all { IfNone result (EachMissed self.now.hands (part_of hand.old) (part_of hand.new)) }
-        ensures stay { IfNone result ((p : ℕ) → GaveNone (part_of hand.old p) (part_of hand.new p)) }
+        ensures all { IfNone result
+            (EachMissed self.now.hands (part_of hand.old) (part_of hand.new)) }
+        ensures stay { IfNone result
+            ((p : ℕ) → GaveNone (part_of hand.old p) (part_of hand.new p)) }
     {
         let taken = self.search(hand);
         hand.given_below();

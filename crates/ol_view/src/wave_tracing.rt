@@ -35,7 +35,8 @@ fn put_rule(text: &mut String, rule: Rule) -> Result<(), NoMemory>
 }
 
 fn put_wave_line(text: &mut String, entry: Entry, wave: u32) -> Result<(), NoMemory>
-    ensures { OnOk result (string_bytes text.new ≡ string_bytes text.old ++ wave_line_text entry wave) }
+    ensures { OnOk result
+        (string_bytes text.new ≡ string_bytes text.old ++ wave_line_text entry wave) }
 {
     put_rule(text, entry.rule)?;
     put(text, " ")?;
