@@ -77,7 +77,7 @@ TraceHands translation t names workers fuel st text closed =
     (w : ClosedTable) × (closed ≡ Some w) × (net : NamedNet NodeName) × IsWorkOn translation t names fuel workers w net
     × EndsTrace fuel (journal_of w) net st × IsTraceOf translation t names (journal_of w) net text
 
--- what a job hands back of a term, with its text: the others have no workers
+-- what a job hands back of a term, with its text: `run` and `trace` their closed words, the others nothing
 abbrev pub TermHands : Asked → Tree → List (List ℕ) → Status → List ℕ → Option ClosedTable → Type 0
 TermHands (run translation workers fuel heads name) t names st text closed = RunHands translation t names workers fuel heads st text closed
 TermHands (trace translation workers fuel name) t names st text closed = TraceHands translation t names workers fuel st text closed

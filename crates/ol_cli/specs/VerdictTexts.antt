@@ -20,9 +20,9 @@ abbrev pub addresses_text : List (List ℕ) → List ℕ
 addresses_text [] = []
 addresses_text (at ∷ road) = line (address_text at) ++ addresses_text road
 
--- how many steps a road has, and where they were made
-abbrev pub road_text : List (List ℕ) → List ℕ
-road_text road = count_line (codes "steps") (length road) ++ addresses_text road
+-- a word, how many steps a road has, and where they are made
+abbrev pub road_text : List ℕ → List (List ℕ) → List ℕ
+road_text word road = line word ++ count_line (codes "steps") (length road) ++ addresses_text road
 
 -- a verdict by at most `steps` steps
 abbrev pub verdict_text : (steps : ℕ) → Verdict → List ℕ
@@ -30,5 +30,5 @@ verdict_text steps (verdict.NotWhole place) = line (codes "incomplete")
 verdict_text steps (verdict.Deep depth) = count_line (codes "deep") depth
 verdict_text steps (verdict.Past step size depth) = count_line (codes "past at step") step
 verdict_text steps verdict.Short = count_line (codes "beta steps") steps
-verdict_text steps (verdict.Differs road) = line (codes "differs") ++ road_text road
-verdict_text steps (verdict.Agreed road) = line (codes "agreed") ++ road_text road
+verdict_text steps (verdict.Differs road) = road_text (codes "differs") road
+verdict_text steps (verdict.Agreed road) = road_text (codes "agreed") road
