@@ -4,7 +4,7 @@ use Rattle.std.specs.declared.alloc.Global.{Global}
 use Rattle.ol_io.specs.Outside.{Appended}
 use Rattle.ol_term.specs.Trees.{Tree}
 use Rattle.ol_words.specs.Texts.{Text}
-use Rattle.ol_words.specs.Asked.{Asked, run, trace, check, gen}
+use Rattle.ol_words.specs.Asked.{Asked, run, trace, check, gen, certify}
 use Rattle.ol_cli.specs.declared.status.Status.{Status}
 use Rattle.ol_cli.specs.declared.status.Status.TheVariants as status
 use Rattle.ol_cli.specs.Jobs.{AskFor, plain_fuel, term_bytes, translation_in}
@@ -16,6 +16,7 @@ abbrev pub EndsWithinFuel : Asked → Tree → List (List ℕ) → Type 0
 EndsWithinFuel (run translation workers fuel heads name) t names = RunEnds translation t names fuel
 EndsWithinFuel (trace translation workers fuel name) t names = RunEnds translation t names fuel
 EndsWithinFuel (gen translation runs k) t names = RunEnds translation t names plain_fuel
+EndsWithinFuel (certify translation steps workers fuel heads name) t names = RunEnds translation t names fuel
 EndsWithinFuel _ t names = Unit {0}
 
 -- the bytes of the job's term are told, in the grammar and within the limits, and its run ends within the fuel

@@ -252,7 +252,7 @@ fn plan<R: Threads + Wait + Sync, S: Source, G: Gate + Sync>(
         Err(UsageFault::Refused) => {
             let text = line(
                 alloc,
-                "usage: ol run|walk|view|trace|check|gen [options] NAME",
+                "usage: ol run|walk|view|trace|check|gen|certify|net|equal [options] NAME",
             )?;
             Ok(Answer::without_words(text, Status::Usage))
         }
@@ -290,6 +290,7 @@ fn answer_job<R: Threads + Wait + Sync, S: Source, G: Gate + Sync>(
         Job::Walk { name, .. } => answer_file(rt, alloc, job, name.as_str(), src, gate),
         Job::View { name, .. } => answer_file(rt, alloc, job, name.as_str(), src, gate),
         Job::Trace { name, .. } => answer_file(rt, alloc, job, name.as_str(), src, gate),
+        Job::Certify { name, .. } => answer_file(rt, alloc, job, name.as_str(), src, gate),
         Job::Check {
             translation,
             term,
@@ -300,6 +301,8 @@ fn answer_job<R: Threads + Wait + Sync, S: Source, G: Gate + Sync>(
             run,
             k,
         } => answer_made(rt, alloc, *translation, *run, *k, gate),
+        Job::Net { .. } => Err(NoMemory),
+        Job::Equal { .. } => Err(NoMemory),
     }
 }
 

@@ -4,6 +4,7 @@
 
 mod answers;
 mod checking;
+mod forms;
 mod laws;
 mod leading;
 mod line_reading;
