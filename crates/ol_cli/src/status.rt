@@ -25,6 +25,8 @@ pub enum Status {
     /// The term file has more than 1,048,576 bytes, its term is deeper than 1,000, the net of its
     /// term has more than 200,000 nodes, or the journal file has more than 402,653,184 bytes.
     Limit,
+    /// The bytes of the net file aren't a text of the grammar, or its nodes and links make no net.
+    BadNet,
 }
 
 impl Status {
@@ -41,6 +43,7 @@ impl Status {
             Status::WriteFault => 5,
             Status::NoMemory => 6,
             Status::Limit => 7,
+            Status::BadNet => 9,
         }
     }
 }
