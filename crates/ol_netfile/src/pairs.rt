@@ -17,7 +17,7 @@ use std::alloc::Global;
 pub fn stuck_text(alloc: Global, net: &Net) -> Result<Vec<u8>, NoMemory>
     ensures pairs { IfOk result (λ text. IsPairsText (net_of net.now) text.items) }
 {
-    net.is_tabled();
+    net.is_net();
     let mut text = Vec::new(alloc);
     for number in 0..net.born() {
         if let Some(greater) = stuck_with(net, number) {
