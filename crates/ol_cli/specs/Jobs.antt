@@ -44,6 +44,8 @@ file_name (equal translation workers fuel heads first second) = first
 -- the job has a file with a term
 abbrev pub HasTermFile : Asked → Type 0
 HasTermFile (gen translation runs k) = ⊥
+HasTermFile (net translation from_term workers fuel name) = ⊥
+HasTermFile (equal translation workers fuel heads first second) = ⊥
 HasTermFile _ = Unit {0}
 
 -- how many files a job has, and how many the words name, which is none where they ask for nothing
