@@ -82,5 +82,6 @@ ready_net tr bytes t names net short file shallow named same numbers size free f
         same = same;
         whole = whole_net net (nodes_of tr t) numbers;
         small = record { nodes = omega arith; free = omega arith; indexes = indexes };
+        few = omega arith;
       };
     }

@@ -15,3 +15,5 @@ pub mod Completeness
 pub mod ReadAgain
 pub mod Prepared
 pub mod Inside
+pub mod NetLines
+pub mod Sides

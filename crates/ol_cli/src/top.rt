@@ -14,7 +14,9 @@ ghost use Rattle.ol_cli.specs.Sources.{EveryRunTells, WritesTree};
 ghost use Rattle.ol_cli.specs.ReadAgain.{FileIsReadAgain, WordsAreReadAgain, WritesReadable};
 ghost use Rattle.ol_cli.specs.Handed.{Hands, JobHands, MakingHands, ReadHands, WhereEnded, WordsHand};
 
-use crate::evaluation::{Answer, evaluate, run_made};
+use crate::comparing::answer_equal;
+use crate::evaluation::{Answer, RunNumbers, evaluate, refusal, run_made};
+use crate::net_files::answer_net;
 use crate::preparing::{Prepared, prepare};
 use crate::status::Status;
 use crate::texts::{found_line, line};
@@ -301,8 +303,42 @@ fn answer_job<R: Threads + Wait + Sync, S: Source, G: Gate + Sync>(
             run,
             k,
         } => answer_made(rt, alloc, *translation, *run, *k, gate),
-        Job::Net { .. } => Err(NoMemory),
-        Job::Equal { .. } => Err(NoMemory),
+        Job::Net {
+            from_term: true,
+            name,
+            ..
+        } => answer_file(rt, alloc, job, name.as_str(), src, gate),
+        Job::Net {
+            from_term: false,
+            workers,
+            fuel,
+            name,
+            ..
+        } => answer_net(rt, alloc, name.as_str(), *workers, *fuel, src, gate),
+        Job::Equal {
+            translation,
+            workers,
+            fuel,
+            heads,
+            first,
+            second,
+        } => {
+            let numbers = RunNumbers {
+                translation: *translation,
+                workers: *workers,
+                fuel: *fuel,
+                heads: *heads,
+            };
+            answer_equal(
+                rt,
+                alloc,
+                numbers,
+                first.as_str(),
+                second.as_str(),
+                src,
+                gate,
+            )
+        }
     }
 }
 
@@ -346,16 +382,6 @@ fn answer_file<R: Threads + Wait + Sync, S: Source, G: Gate + Sync>(
             Ok(answer)
         }
     }
-}
-
-// A line that tells why there is no answer.
-fn refusal(alloc: Global, words: &str, status: Status) -> Result<Answer, NoMemory>
-    ensures text { IfOk result (λ a. a.text.items ≡ line words.now) }
-    ensures status { IfOk result (λ a. a.status ≡ status) }
-    ensures closed { IfOk result (λ a. a.closed ≡ None) }
-{
-    let text = line(alloc, words)?;
-    Ok(Answer::without_words(text, status))
 }
 
 // The text of `check` on two files, which have these names, and its status.
