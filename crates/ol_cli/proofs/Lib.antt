@@ -22,3 +22,5 @@ mod Traced
 mod WavesKept
 mod TermSizes
 mod LastTrees
+pub mod NetRuns
+pub mod NetFiles

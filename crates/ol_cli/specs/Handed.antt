@@ -100,7 +100,7 @@ MakingHands translation true k st text closed = FileHands (plain_run translation
 abbrev pub JobHands : Asked → Seen → Status → List ℕ → Option ClosedTable → Type 0
 JobHands (check translation term journal) s st text closed = closed ≡ None
 JobHands (gen translation runs k) s st text closed = MakingHands translation runs k st text closed
-JobHands (net translation from_term workers fuel name) s st text closed = closed ≡ None
+JobHands (net translation false workers fuel name) s st text closed = closed ≡ None
 JobHands (equal translation workers fuel heads first second) s st text closed = closed ≡ None
 JobHands asked s st text closed = ReadHands asked s st text closed
 

@@ -54,7 +54,7 @@ pub fn answer_equal<R: Threads + Wait + Sync, S: Source, G: Gate + Sync>(
     ensures knows { S.knows src.new ≡ S.knows src.old }
     ensures contents { S.contents src.new ≡ S.contents src.old }
 {
-    match side(rt, alloc, numbers, first, src, gate)? {
+    match read_side(rt, alloc, numbers, first, src, gate)? {
         Side::Refused(answer) => Ok(answer),
         Side::Read { tree, names } => {
             let answer = answer_second(rt, alloc, numbers, &tree, &names, second, src, gate)?;
@@ -87,7 +87,7 @@ fn answer_second<R: Threads + Wait + Sync, S: Source, G: Gate + Sync>(
     ensures knows { S.knows src.new ≡ S.knows src.old }
     ensures contents { S.contents src.new ≡ S.contents src.old }
 {
-    match side(rt, alloc, numbers, second, src, gate)? {
+    match read_side(rt, alloc, numbers, second, src, gate)? {
         Side::Refused(answer) => Ok(answer),
         Side::Read {
             tree: other,
@@ -102,7 +102,7 @@ fn answer_second<R: Threads + Wait + Sync, S: Source, G: Gate + Sync>(
 }
 
 // What comes of the file of this name.
-fn side<R: Threads + Wait + Sync, S: Source, G: Gate + Sync>(
+fn read_side<R: Threads + Wait + Sync, S: Source, G: Gate + Sync>(
     rt: &R,
     alloc: Global,
     numbers: RunNumbers,

@@ -238,6 +238,7 @@ fn evaluate_net<R: Threads + Wait + Sync, G: Gate + Sync>(
         Job::Net {
             from_term: true, ..
         } => {
+            net.is_tabled();
             let text = write_net(alloc, net)?;
             Ok(Answer::without_words(text, Status::Done))
         }
