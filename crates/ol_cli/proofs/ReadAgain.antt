@@ -51,7 +51,8 @@ file_bytes contents (trace tr w f name) on = refl
 file_bytes contents (check tr term journal) on = absurd on
 file_bytes contents (gen tr runs k) on = absurd on
 file_bytes contents (certify tr b w f q name) on = refl
-file_bytes contents (jobs.net tr from w f name) on = absurd on
+file_bytes contents (jobs.net tr true w f name) on = refl
+file_bytes contents (jobs.net tr false w f name) on = absurd on
 file_bytes contents (jobs.equal tr w f q first second) on = absurd on
 
 -- by the bytes that are made

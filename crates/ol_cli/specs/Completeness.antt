@@ -6,7 +6,8 @@ use Rattle.ol_term.specs.Trees.{Tree}
 use Rattle.ol_net.specs.Graph.{Graph}
 use Rattle.ol_rules.specs.declared.journal.Counts.{Counts}
 use Rattle.ol_words.specs.Texts.{Text}
-use Rattle.ol_words.specs.Asked.{Asked, run, trace, check, gen, certify, net, equal}
+use Rattle.ol_words.specs.Asked.{Asked, run, trace, check, gen, certify}
+use Rattle.ol_words.specs.Asked as jobs
 use Rattle.ol_cli.specs.declared.status.Status.{Status}
 use Rattle.ol_cli.specs.declared.status.Status.TheVariants as status
 use Rattle.ol_cli.specs.Jobs.{AskFor, plain_fuel, term_bytes, translation_in}
@@ -53,8 +54,8 @@ pub record HasNetWithin (files : Text → Option (List ℕ)) (name : Text) (fuel
 abbrev pub CanDo : (Text → Option (List ℕ)) → Asked → Type 0
 CanDo files (gen translation false k) = Unit {0}
 CanDo files (check translation term journal) = HasTermWithin files (check translation term journal) × HasJournalWithin files journal
-CanDo files (net translation false workers fuel name) = HasNetWithin files name fuel
-CanDo files (equal translation workers fuel heads first second) =
+CanDo files (jobs.net translation false workers fuel name) = HasNetWithin files name fuel
+CanDo files (jobs.equal translation workers fuel heads first second) =
     HasTermWithin files (run translation workers fuel heads first) × HasTermWithin files (run translation workers fuel heads second)
 CanDo files asked = HasTermWithin files asked
 

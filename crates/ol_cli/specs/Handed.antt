@@ -16,7 +16,8 @@ use Rattle.ol_wire.specs.Closed.{ClosedTable, journal_in}
 use Rattle.ol_wire.specs.Standing.{IsAfter, NoNodeTwice}
 use Rattle.ol_reduce.specs.Frozen.{IsFrozen}
 use Rattle.ol_reduce.specs.Reduced.{IsTableOf}
-use Rattle.ol_words.specs.Asked.{Asked, run, trace, check, gen, net, equal}
+use Rattle.ol_words.specs.Asked.{Asked, run, trace, check, gen}
+use Rattle.ol_words.specs.Asked as jobs
 use Rattle.ol_cli.specs.declared.status.Status.{Status}
 use Rattle.ol_cli.specs.declared.status.Status.TheVariants as status
 use Rattle.ol_cli.specs.Jobs.{AskFor, file_name, translation_in}
@@ -100,8 +101,8 @@ MakingHands translation true k st text closed = FileHands (plain_run translation
 abbrev pub JobHands : Asked → Seen → Status → List ℕ → Option ClosedTable → Type 0
 JobHands (check translation term journal) s st text closed = closed ≡ None
 JobHands (gen translation runs k) s st text closed = MakingHands translation runs k st text closed
-JobHands (net translation false workers fuel name) s st text closed = closed ≡ None
-JobHands (equal translation workers fuel heads first second) s st text closed = closed ≡ None
+JobHands (jobs.net translation false workers fuel name) s st text closed = closed ≡ None
+JobHands (jobs.equal translation workers fuel heads first second) s st text closed = closed ≡ None
 JobHands asked s st text closed = ReadHands asked s st text closed
 
 -- where the job was done or its fuel was spent, this; in every other case nothing is handed back

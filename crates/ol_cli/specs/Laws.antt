@@ -10,7 +10,8 @@ use Rattle.ol_rules.specs.declared.journal.Counts.{Counts}
 use Rattle.ol_translate.specs.Translation.{translation_of}
 use Rattle.ol_cli.specs.declared.status.Status.{Status}
 use Rattle.ol_words.specs.Texts.{Text}
-use Rattle.ol_words.specs.Asked.{Asked, trace, net}
+use Rattle.ol_words.specs.Asked.{Asked, trace}
+use Rattle.ol_words.specs.Asked as jobs
 use Rattle.ol_cli.specs.Jobs.{AskFor}
 use Rattle.ol_cli.specs.Answers.{IsAnswer}
 use Rattle.ol_cli.specs.NetAnswers.{NetRunEnds}
@@ -19,7 +20,7 @@ use Rattle.ol_cli.specs.Evaluation.{Prints, Walks}
 -- a job whose answer is one text: what `trace` writes is any of many, and so is what `net` writes of a net that was rewritten
 abbrev pub TellsOne : Asked → Type 0
 TellsOne (trace translation workers fuel name) = ⊥
-TellsOne (net translation false workers fuel name) = ⊥
+TellsOne (jobs.net translation false workers fuel name) = ⊥
 TellsOne _ = Unit {0}
 
 -- The same words and files have one answer: each status comes just where the answer is that, and so does each text, where the job
