@@ -22,3 +22,4 @@ mod Traced
 mod WavesKept
 mod TermSizes
 mod LastTrees
+mod VerdictLines
