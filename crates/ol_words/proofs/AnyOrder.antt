@@ -1,6 +1,6 @@
 -- What clap makes of the words behind a verb whose options, flags and names come in any order.
-use Rattle.std.proofs.Common.{ℕ, ◌≡◌, ◌∙◌, ◌+◌, ◌<◌, sym, ap, refl, arith, true, false, true≢false, Bool, ◌||◌, List, [], ◌∷◌, Option, Some, None, if◌then◌else◌, codes, inl, inr, ◌⊎◌, length, map, min, nat_eq, nat_lt, subst, suc, zero, ◌≤◌}
-use Rattle.std.specs.Prelude.{filter, option_and_then, slice_get}
+use Rattle.std.proofs.Common.{ℕ, ◌≡◌, ◌∙◌, ◌+◌, ◌<◌, sym, ap, refl, arith, true, false, true≢false, Bool, ◌||◌, List, [], ◌∷◌, Option, Some, None, if◌then◌else◌, codes, inl, inr, length, map, min, nat_eq, nat_lt, subst, suc, zero, ◌≤◌}
+use Rattle.std.specs.Prelude.{filter}
 use Rattle.std.specs.List.{list_all}
 use Rattle.std.specs.Option.{option_map_or}
 use Rattle.std.specs.Str.{bytes_eq}
@@ -101,7 +101,7 @@ few vs e = grind (arith, nat_tests)
 -- a value, if it is the only one or there is none
 abbrev pub given_once : List Text → Option Text
 given_once [] = None
-given_once (value ∷ more) = Some value
+given_once (v ∷ more) = Some v
 
 met : (x v o : Text) (options : List (Text × Text)) → bytes_eq x o ≡ true → values_of o ((x, v) ∷ options) ≡ v ∷ values_of o options
 met x v o options same = ap (λ b. map (λ (g : Text × Text). g.1) (if b then (x, v) ∷ filter (λ (g : Text × Text). bytes_eq g.0 o) options else filter (λ (g : Text × Text). bytes_eq g.0 o) options)) same

@@ -176,6 +176,10 @@ abbrev pub Sound : List Text → List Setting → Type 0
 Sound flags [] = Unit {0}
 Sound flags (s ∷ ss) = ((is_option flags s.option ≡ false) ⊎ ((is_option flags s.option ≡ true) × (s.limits ≡ switch))) × Sound flags ss
 
+pub without_flags : (ss : List Setting) → Sound [] ss
+without_flags [] = tt
+without_flags (s ∷ ss) = (inl refl, without_flags ss)
+
 module _ (v : Verb) (line : Line) (rows : List Row) (end : Values) (t : Tells (known_of v) v.names nothing_given end line)
     (value : (o : Text) → first_of o rows ≡ end o) (fresh : (o : Text) → end o ≡ None → found_in o rows ≡ None) where
   abbrev given : Text → Option Text

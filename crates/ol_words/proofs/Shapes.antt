@@ -1,6 +1,6 @@
 -- How clap sees the words.
-use Rattle.std.proofs.Common.{ℕ, suc, ◌≡◌, ◌∙◌, ◌+◌, ◌==◌, ◌&&◌, not, sym, ap, refl, arith, true, false, true≢false, List, [], ◌∷◌, Option, Some, None, if◌then◌else◌, inl, inr, ◌⊎◌, codes, length, nat_lt, lt-ltb, ap₂}
-use Rattle.std.specs.Prelude.{option_and_then, option_map, unwrap_or}
+use Rattle.std.proofs.Common.{ℕ, suc, ◌≡◌, ◌∙◌, ◌+◌, ◌==◌, ◌&&◌, not, sym, ap, refl, arith, true, false, true≢false, [], ◌∷◌, Option, Some, None, if◌then◌else◌, inl, inr, ◌⊎◌, codes, length, nat_lt, lt-ltb, ap₂}
+use Rattle.std.specs.Prelude.{option_and_then}
 use Rattle.std.proofs.lemmas.Bool.{cases_lt}
 use Rattle.std.proofs.lemmas.Bool.Decides.{nat_tests}
 use Rattle.std.specs.List.{position_or_len, before_first, after_first}

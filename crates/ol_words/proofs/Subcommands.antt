@@ -16,7 +16,7 @@ use Rattle.ol_words.specs.Once.{is_told_once}
 use Rattle.ol_words.specs.Command.{app}
 use Rattle.std.proofs.lemmas.Bool.{and_from, cases_Bool}
 use Rattle.ol_words.proofs.FixedRules.{Reads, shape_with}
-use Rattle.ol_words.proofs.AnyVerb.{rules_of, verb_reads}
+use Rattle.ol_words.proofs.AnyVerb.{without_flags, rules_of, verb_reads}
 
 pub is_simple_app : is_simple app ≡ true
 is_simple_app = refl
@@ -168,7 +168,7 @@ is_run = record {
   one = run_one;
   rows = rows_behind run_verb.word (rules_of run_verb) refl refl refl;
   taken = taken_behind run_verb.word (rules_of run_verb) refl refl refl;
-  reads = verb_reads run_verb (refl, refl, refl, tt, refl, tt) refl (inl refl, inl refl, inl refl, inl refl, tt) (λ rows. refl);
+  reads = verb_reads run_verb (refl, refl, refl, tt, refl, tt) refl (without_flags run_verb.settings) (λ rows. refl);
 }
 
 is_walk : IsVerb walk_verb
@@ -177,7 +177,7 @@ is_walk = record {
   one = walk_one;
   rows = rows_behind walk_verb.word (rules_of walk_verb) refl refl refl;
   taken = taken_behind walk_verb.word (rules_of walk_verb) refl refl refl;
-  reads = verb_reads walk_verb (refl, refl, refl, tt, refl, tt) refl (inl refl, inl refl, inl refl, tt) (λ rows. refl);
+  reads = verb_reads walk_verb (refl, refl, refl, tt, refl, tt) refl (without_flags walk_verb.settings) (λ rows. refl);
 }
 
 is_view : IsVerb view_verb
@@ -186,7 +186,7 @@ is_view = record {
   one = view_one;
   rows = rows_behind view_verb.word (rules_of view_verb) refl refl refl;
   taken = taken_behind view_verb.word (rules_of view_verb) refl refl refl;
-  reads = verb_reads view_verb (refl, refl, refl, tt, refl, tt) refl (inl refl, inl refl, tt) (λ rows. refl);
+  reads = verb_reads view_verb (refl, refl, refl, tt, refl, tt) refl (without_flags view_verb.settings) (λ rows. refl);
 }
 
 is_trace : IsVerb trace_verb
@@ -195,7 +195,7 @@ is_trace = record {
   one = trace_one;
   rows = rows_behind trace_verb.word (rules_of trace_verb) refl refl refl;
   taken = taken_behind trace_verb.word (rules_of trace_verb) refl refl refl;
-  reads = verb_reads trace_verb (refl, refl, refl, tt, refl, tt) refl (inl refl, inl refl, inl refl, tt) (λ rows. refl);
+  reads = verb_reads trace_verb (refl, refl, refl, tt, refl, tt) refl (without_flags trace_verb.settings) (λ rows. refl);
 }
 
 is_check : IsVerb check_verb
@@ -204,7 +204,7 @@ is_check = record {
   one = check_two;
   rows = rows_behind check_verb.word (rules_of check_verb) refl refl refl;
   taken = taken_behind check_verb.word (rules_of check_verb) refl refl refl;
-  reads = verb_reads check_verb (refl, refl, refl, (refl, tt), refl, (refl, refl, refl, tt, refl, tt)) refl (inl refl, tt) (λ rows. refl);
+  reads = verb_reads check_verb (refl, refl, refl, (refl, tt), refl, (refl, refl, refl, tt, refl, tt)) refl (without_flags check_verb.settings) (λ rows. refl);
 }
 
 is_gen : IsVerb gen_verb
@@ -213,7 +213,7 @@ is_gen = record {
   one = gen_one;
   rows = rows_behind gen_verb.word (rules_of gen_verb) refl refl refl;
   taken = taken_behind gen_verb.word (rules_of gen_verb) refl refl refl;
-  reads = verb_reads gen_verb (refl, refl, refl, tt, refl, tt) refl (inl refl, inr (refl, refl), tt) (λ rows. refl);
+  reads = verb_reads gen_verb (refl, refl, refl, tt, refl, tt) refl (inl refl, (inr (refl, refl), tt)) (λ rows. refl);
 }
 
 is_certify : IsVerb certify_verb
@@ -222,7 +222,7 @@ is_certify = record {
   one = certify_one;
   rows = rows_behind certify_verb.word (rules_of certify_verb) refl refl refl;
   taken = taken_behind certify_verb.word (rules_of certify_verb) refl refl refl;
-  reads = verb_reads certify_verb (refl, refl, refl, tt, refl, tt) refl (inl refl, inl refl, inl refl, inl refl, inl refl, tt) (λ rows. refl);
+  reads = verb_reads certify_verb (refl, refl, refl, tt, refl, tt) refl (without_flags certify_verb.settings) (λ rows. refl);
 }
 
 is_net : IsVerb net_verb
@@ -231,7 +231,7 @@ is_net = record {
   one = net_one;
   rows = rows_behind net_verb.word (rules_of net_verb) refl refl refl;
   taken = taken_behind net_verb.word (rules_of net_verb) refl refl refl;
-  reads = verb_reads net_verb (refl, refl, refl, tt, refl, tt) refl (inl refl, inr (refl, refl), inl refl, inl refl, tt) (λ rows. refl);
+  reads = verb_reads net_verb (refl, refl, refl, tt, refl, tt) refl (inl refl, (inr (refl, refl), (inl refl, (inl refl, tt)))) (λ rows. refl);
 }
 
 is_equal : IsVerb equal_verb
@@ -240,7 +240,7 @@ is_equal = record {
   one = equal_two;
   rows = rows_behind equal_verb.word (rules_of equal_verb) refl refl refl;
   taken = taken_behind equal_verb.word (rules_of equal_verb) refl refl refl;
-  reads = verb_reads equal_verb (refl, refl, refl, (refl, tt), refl, (refl, refl, refl, tt, refl, tt)) refl (inl refl, inl refl, inl refl, inl refl, tt) (λ rows. refl);
+  reads = verb_reads equal_verb (refl, refl, refl, (refl, tt), refl, (refl, refl, refl, tt, refl, tt)) refl (without_flags equal_verb.settings) (λ rows. refl);
 }
 
 -- a verb among some
