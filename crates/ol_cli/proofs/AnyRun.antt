@@ -158,9 +158,8 @@ any_run_reads tr t names fuel heads tree is_net journal net other run complete w
     let e = ends_once N o.1 listed 0 o.0 same (start_once tr t names) once o.2.leads in
     let c = complete_same o.1 e.net (same_trans o.1 listed e.net same e.same) d.0 in
     let size : live other ≡ live listed = sym (length-map other.nodes (λ (n : NodeName × Kind × ℕ). (a.names n.0, n.1, n.2))) in
-    let under : IsTree listed heads (2 * live other) tree = tree_under a.names other other_net apart heads (2 * live other) tree read in
-    let size' : live other ≡ live e.net = size ∙ same_length listed e.net e.same once e.once in
-    let size'' : live listed ≡ live e.net = same_length listed e.net e.same once e.once in
+    let under : IsTree listed heads (2 * live listed) tree = subst (λ n. IsTree listed heads (2 * n) tree) size (tree_under a.names other other_net apart heads (2 * live other) tree read) in
+    let last : live listed ≡ live e.net = same_length listed e.net e.same once e.once in
     record {
       journal = o.0;
       net = e.net;
@@ -168,5 +167,5 @@ any_run_reads tr t names fuel heads tree is_net journal net other run complete w
       complete = c;
       is_net = net_same listed e.net e.same (named_net a.names other other_net apart);
       once = e.once;
-      read = subst (λ n. IsTree e.net heads (2 * n) tree) size' (tree_same listed e.net e.same size'' heads (2 * live other) tree under);
+      read = subst (λ n. IsTree e.net heads (2 * n) tree) last (tree_same listed e.net e.same last heads (2 * live listed) tree under);
     }

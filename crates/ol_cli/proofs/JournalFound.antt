@@ -52,8 +52,8 @@ found_to N N' same text _ (run {form = form} {journal = journal} {waves = waves}
 found_to N N' same text _ (no_header n) = no_header n
 found_to N N' same text _ (bad_text {form = form} {journal = journal} {waves = waves} {last = last} {rest = rest} b n h) =
     let t = begins_to form N N' same text journal waves last rest b in bad_text {form = form} t.1 n h
-found_to N N' same text _ (not_a_run {form = form} {journal = journal} {waves = waves} {last = last} {rest = rest} {entry = entry} {wave = wave} b l h i) =
-    let t = begins_to form N N' same text journal waves last rest b in not_a_run {form = form} t.1 l h (otherwise_to form N N' last t.0 same t.2 journal waves entry wave i)
+found_to N N' same text _ (not_a_run {form = form} {journal = journal} {waves = waves} {last = last} {rest = rest} entry wave more b l h i) =
+    let t = begins_to form N N' same text journal waves last rest b in not_a_run {form = form} entry wave more t.1 l h (otherwise_to form N N' last t.0 same t.2 journal waves entry wave i)
 
 pub own_found : (tr : Translation) (t : Tree) (names : List (List ℕ)) (net : Graph) → SameNet (net_of net) (translation_of tr t (length names)) → (text : List ℕ) (v : Check) →
     OnlyIsFound (view.start_net_of_graph net) text v → OnlyIsFound (start_net_of_term tr t names) text v

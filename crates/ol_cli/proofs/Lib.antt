@@ -24,3 +24,5 @@ mod TermSizes
 mod LastTrees
 pub mod NetRuns
 pub mod NetFiles
+mod VerdictLines
+mod Comparing

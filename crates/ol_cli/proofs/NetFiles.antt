@@ -173,3 +173,8 @@ done_net_file fuel bytes net counts stuck nodes i ends few s x (bad l {f = d} f 
 done_net_file fuel bytes net counts stuck nodes i ends few s x (of_net {net = g} j h) =
     let h' = subst (λ n. NetAnswer n fuel s x) (one_net bytes g net j i) h in
     done_of_net net (net_is_net net i.tabled) fuel s x counts stuck nodes ends few (of_net_answer net fuel s x h')
+
+-- ---- what the call makes
+
+pub large_answer : (net : Graph) (fuel : ℕ) (st : Status) (text : List ℕ) → st ≡ Limit → text ≡ nodes_text → IsPastNodes net fuel → NetAnswer net fuel st text
+large_answer net fuel st text is e l = subst (λ st. NetAnswer net fuel st text) (sym is) (l, e)

@@ -1,6 +1,6 @@
 -- What a run of the net of a file tells of its one-thread run.
-use Rattle.std.proofs.Common.{◌≡◌, ℕ, ◌≤◌, List, ◌++◌, length, inl, refl, sym, ap, ◌∙◌, subst}
-use Rattle.std.proofs.lemmas.List.{length-map}
+use Rattle.std.proofs.Common.{◌≡◌, ℕ, ◌<◌, ◌≤◌, List, ◌++◌, length, inl, refl, sym, ap, ◌∙◌, subst}
+use Rattle.std.proofs.lemmas.List.{append_assoc, length-map}
 use Rattle.ol_net.specs.declared.parts.Kind.{Kind}
 use Rattle.ol_net.specs.Graph.{Graph}
 use Rattle.ol_net.specs.Nets.{NamedNet, HasNode, IsNet, SameNet, net_under}
@@ -30,7 +30,9 @@ use Rattle.ol_view.specs.Laws.{IsTable}
 use Rattle.ol_cli.specs.Handed.{journal_of}
 use Rattle.ol_cli.specs.Laws.{OneNetIsLeft}
 use Rattle.ol_cli.specs.Listing.{ListsOnce}
-use Rattle.ol_cli.specs.NetAnswers.{start_net, NetRunsOut, NetRunEnds, TellsLast}
+use Rattle.ol_cli.specs.NetAnswers.{start_net, NetRunsOut, NetRunEnds, TellsLast, PrintsNet, IsPastNodes}
+use Rattle.ol_cli.specs.NetLines.{AreLinesOf}
+use Rattle.ol_cli.specs.Texts.{counts_text}
 use Rattle.ol_cli.proofs.AnyRun.{ends_once}
 use Rattle.ol_cli.proofs.Evaluated.{rising_apart}
 use Rattle.ol_cli.proofs.ListedOnce.{net_of_once, net_under_once, same_length}
@@ -130,6 +132,21 @@ module _ (net : Graph) (is_net : IsNet (net_of net)) where
         stuck = told;
         written = refl;
       }
+
+      pub done_prints : (stuck : ℕ) → IsNet (net_of last) → HasStuck (net_of last) stuck → IsTable last → live (net_of last) ≤ 200000 → (text : List ℕ) → AreLinesOf last (counts_of journal) stuck text → PrintsNet net fuel text
+      done_prints stuck n counted table few text lines = record {
+        counts = counts_of journal;
+        stuck = stuck;
+        nodes = live (net_of last);
+        ends = done_leaves stuck n counted;
+        few = few;
+        rest = lines.pairs ++ net_text last;
+        tells = done_tells_last table lines.pairs lines.told;
+        written = lines.written ∙ append_assoc (counts_text (counts_of journal) stuck) lines.pairs (net_text last);
+      }
+
+      pub done_is_large : (stuck : ℕ) → IsNet (net_of last) → HasStuck (net_of last) stuck → 200000 < live (net_of last) → IsPastNodes net fuel
+      done_is_large stuck n counted many = record { counts = counts_of journal; stuck = stuck; nodes = live (net_of last); ends = done_leaves stuck n counted; many = many }
 
 pub one_net_is_left : OneNetIsLeft
 one_net_is_left net fuel counts counts' stuck stuck' nodes nodes' is_net e e' = one_left net is_net fuel counts counts' stuck stuck' nodes nodes' e e'

@@ -12,7 +12,7 @@ use Rattle.ol_rules.specs.Runs.{IsRun}
 use Rattle.ol_rules.proofs.Recount.{net_same}
 use Rattle.ol_rules.proofs.Relation.{same_refl, same_trans}
 use Rattle.ol_rules.proofs.Same.{complete_same, active_same}
-use Rattle.ol_rules.proofs.StartNets as start
+use Rattle.ol_rules.proofs.StartNets.{start_net, start_named}
 use Rattle.ol_rules.proofs.UnderNames.{same_under}
 use Rattle.ol_diamond.specs.Waves.{IsWavesOf}
 use Rattle.ol_translate.specs.Translation.{translation_of}
@@ -38,7 +38,7 @@ module _ (tr : Translation) (t : Tree) (names : List (List ℕ)) (start : Graph)
   trace_of read M run P last =
       let x : IsTextOfWaves start (journal_of w) text = subst (λ j. IsTextOfWaves start j text) read told in
       let N = net_under Init (net_of start) in
-      let end = one_end N N x.1.last M 0 (journal_of w) (start.start_net (net_of start) n) (start.start_named (net_of start)) (same_refl N) x.1.run run in
+      let end = one_end N N x.1.last M 0 (journal_of w) (start_net (net_of start) n) (start_named (net_of start)) (same_refl N) x.1.run run in
       let here = same_under Init (net_of start) (translation_of tr t (length names)) same in
       (x.0, waves_kept N (start_net_of_term tr t names) x.1.last P (journal_of w) x.0 here (same_trans x.1.last M P end last) x.1.waves_are, x.2)
 

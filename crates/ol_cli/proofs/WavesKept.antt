@@ -31,6 +31,10 @@ pairs_from M N P (p ∷ ps) same (IsPairRun.then {M = K} step run) =
 abbrev with_net : WeightedNet BirthName → NamedNet BirthName → WeightedNet BirthName
 with_net N B = record { net = B; weight = N.weight }
 
+-- the joins of a step that weigh n at most
+abbrev Joins : (N : WeightedNet BirthName) (p : BirthPair × ℕ) (M : WeightedNet BirthName) → IsPairWave N p M → ℕ → NamedPort BirthName → NamedPort BirthName → Type 0
+Joins N p M s n = JoinWithin (born p.0.f p.0.g) p.0.f p.0.g s.step.active.k s.step.active.l (action_of p.0.rule s.step.active.j) p.1 n
+
 step_from : (N : WeightedNet BirthName) (B : NamedNet BirthName) → SameNet N.net B → (p : BirthPair × ℕ) (M : WeightedNet BirthName) → IsPairWave N p M → IsPairWave (with_net N B) p M
 step_from N B same p M s =
     let a = s.step.active in
@@ -54,14 +58,11 @@ step_from N B same p M s =
       weights = λ n u v. iff_trans (s.weights n u v) ((λ c. contracted_map (forth n) (λ u e x. x) u v c), (λ c. contracted_map (back n) (λ u e x. x) u v c));
     }
   where
-    abbrev Join : ℕ → NamedPort BirthName → NamedPort BirthName → Type 0
-    Join n = JoinWithin (born p.0.f p.0.g) p.0.f p.0.g s.step.active.k s.step.active.l (action_of p.0.rule s.step.active.j) p.1 n
-
-    forth : (n : ℕ) (u v : NamedPort BirthName) → Edge (LinkedWithin N n) (IsPrincipalOf p.0.f p.0.g) (Join n) u v → Edge (LinkedWithin (with_net N B) n) (IsPrincipalOf p.0.f p.0.g) (Join n) u v
+    forth : (n : ℕ) (u v : NamedPort BirthName) → Edge (LinkedWithin N n) (IsPrincipalOf p.0.f p.0.g) (Joins N p M s n) u v → Edge (LinkedWithin (with_net N B) n) (IsPrincipalOf p.0.f p.0.g) (Joins N p M s n) u v
     forth n u v (inl e) = inl (((same.links u v).0 e.0.0, e.0.1), e.1, e.2)
     forth n u v (inr e) = inr e
 
-    back : (n : ℕ) (u v : NamedPort BirthName) → Edge (LinkedWithin (with_net N B) n) (IsPrincipalOf p.0.f p.0.g) (Join n) u v → Edge (LinkedWithin N n) (IsPrincipalOf p.0.f p.0.g) (Join n) u v
+    back : (n : ℕ) (u v : NamedPort BirthName) → Edge (LinkedWithin (with_net N B) n) (IsPrincipalOf p.0.f p.0.g) (Joins N p M s n) u v → Edge (LinkedWithin N n) (IsPrincipalOf p.0.f p.0.g) (Joins N p M s n) u v
     back n u v (inl e) = inl (((same.links u v).1 e.0.0, e.0.1), e.1, e.2)
     back n u v (inr e) = inr e
 

@@ -122,11 +122,12 @@ fn rewrite<R: Threads + Wait + Sync, G: Gate + Sync>(
         } => {
             last.is_net();
             last.is_tabled();
+            let stuck = last.stuck();
             if last.nodes() > MOST_NODES {
                 let answer = refusal(alloc, "limit nodes 200000", Status::Limit)?;
                 return Ok(answer);
             }
-            let text = net_lines(alloc, &last, counts(&journal))?;
+            let text = net_lines(alloc, &last, counts(&journal), stuck)?;
             Ok(Answer::without_words(text, Status::Done))
         }
     }
@@ -134,12 +135,12 @@ fn rewrite<R: Threads + Wait + Sync, G: Gate + Sync>(
 
 // The lines of a net that is left: the interactions of each rule, the number of stuck pairs, these
 // pairs, and the net.
-fn net_lines(alloc: Global, last: &Net, counts: Counts) -> Result<Vec<u8>, NoMemory>
+fn net_lines(alloc: Global, last: &Net, counts: Counts, stuck: u32) -> Result<Vec<u8>, NoMemory>
     requires few_nodes { length (net_of last.now).nodes ≤ 200000 }
     requires few_ports { last.now.free ≤ 1000000 }
-    ensures { IfOk result (λ text. AreLinesOf last.now counts text.items) }
+    ensures { IfOk result (λ text. AreLinesOf last.now counts stuck text.items) }
 {
-    let mut text = count_lines(alloc, counts, last.stuck())?;
+    let mut text = count_lines(alloc, counts, stuck)?;
     let pairs = stuck_text(alloc, last)?;
     append(&mut text, &pairs)?;
     let written = write_net(alloc, last)?;

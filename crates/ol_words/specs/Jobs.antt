@@ -39,14 +39,17 @@ abbrev pub after_setting : Setting
 after_setting = record { option = codes "after"; limits = record { least = 0; most = 8000000; default = 0 } }
 
 -- a flag is 1 where it is given, else 0
+abbrev pub switch : Limits
+switch = record { least = 0; most = 1; default = 0 }
+
 abbrev pub runs_setting : Setting
-runs_setting = record { option = codes "run"; limits = record { least = 0; most = 1; default = 0 } }
+runs_setting = record { option = codes "run"; limits = switch }
 
 abbrev pub steps_setting : Setting
 steps_setting = record { option = codes "steps"; limits = record { least = 0; most = 10000; default = 1000 } }
 
 abbrev pub from_term_setting : Setting
-from_term_setting = record { option = codes "from-term"; limits = record { least = 0; most = 1; default = 0 } }
+from_term_setting = record { option = codes "from-term"; limits = switch }
 
 -- how often a term may be doubled
 abbrev pub doublings : Limits

@@ -1,13 +1,13 @@
 //! The job of a list of words.
 
-ghost use Rattle.std.specs.Prelude.{◌≡◌, ◌==◌, IfOk, Err, Some, None, option_map, option_and_then};
+ghost use Rattle.std.specs.Prelude.{◌≡◌, ◌==◌, ◌&&◌, IfOk, Err, Some, None, option_map, option_and_then};
 ghost use Rattle.ol_words.specs.Texts.{texts_of};
 ghost use Rattle.ol_words.specs.Asked.{asked_by};
 ghost use Rattle.ol_words.specs.Jobs.{job_of};
 ghost use Rattle.ol_words.specs.Views.{verb_of};
 ghost use Rattle.ol_words.specs.Once.{agreed_verb};
 ghost use Rattle.ol_words.specs.Found.{flag_by, job_found, setting_by};
-ghost use Rattle.ol_words.specs.Jobs.{certify_verb, check_verb, equal_verb, gen_verb, net_verb, run_verb, trace_verb, translation_numbered, translation_setting, view_verb, walk_verb};
+ghost use Rattle.ol_words.specs.Jobs.{certify_verb, check_verb, equal_verb, gen_verb, is_input, net_verb, run_verb, trace_verb, translation_numbered, translation_setting, view_verb, walk_verb};
 
 use crate::command::matches_of;
 use crate::jobs::{Job, UsageFault, Word};
@@ -214,7 +214,7 @@ fn check_by(alloc: Global, found: &ArgMatches) -> Result<Job, UsageFault>
     let Some(journal) = found.get_str("journal") else {
         return Err(UsageFault::Refused);
     };
-    if term == "-" && journal == "-" {
+    if are_input(term, journal) {
         return Err(UsageFault::Refused);
     }
     let term = Word::of(alloc, term)?;
@@ -333,7 +333,7 @@ fn equal_by(alloc: Global, found: &ArgMatches) -> Result<Job, UsageFault>
     let Some(second) = found.get_str("second") else {
         return Err(UsageFault::Refused);
     };
-    if first == "-" && second == "-" {
+    if are_input(first, second) {
         return Err(UsageFault::Refused);
     }
     let first = Word::of(alloc, first)?;
@@ -359,6 +359,13 @@ fn translation_by(value: Option<&str>) -> Option<Translation>
     } else {
         Some(Translation::Two)
     }
+}
+
+// Both names are that of standard input.
+fn are_input(first: &str, second: &str) -> bool
+    ensures { result ≡ (is_input first.now && is_input second.now) }
+{
+    first == "-" && second == "-"
 }
 
 // Whether clap has given a flag the value `true`.

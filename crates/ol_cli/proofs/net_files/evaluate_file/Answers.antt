@@ -1,0 +1,15 @@
+use Rattle.std.proofs.Common.{refl, ap, ◌∙◌}
+use Rattle.ol_cli.specs.NetAnswers.{bad, of_net}
+use Rattle.ol_cli.specs.Texts.{line}
+use Rattle.ol_cli.proofs.NetFiles.{read_whole, read_small}
+use Rattle.ol_cli.proofs.net_files.evaluate_file.Goals as goal
+
+pub rewrite-requires-clause-whole : goal.rewrite-requires-clause-whole
+rewrite-requires-clause-whole g c = read_whole c.args.bytes.now c.in-Ok.net c.in-Ok.ensures.net
+
+pub rewrite-requires-clause-small : goal.rewrite-requires-clause-small
+rewrite-requires-clause-small g c = read_small c.args.bytes.now c.in-Ok.net c.in-Ok.ensures.net
+
+pub returns-in_ok-answer-in-Ok-clause-answer : goal.returns-in_ok-answer-in-Ok-clause-answer
+returns-in_ok-answer-in-Ok-clause-answer g c =
+    of_net (record { short = c.requires.short; tabled = c.is_tabled.ensures.tables; read = c.in-Ok.ensures.net }) c.in_ok-answer-in-Ok.ensures.answer
