@@ -25,4 +25,4 @@ mod LastTrees
 pub mod NetRuns
 pub mod NetFiles
 mod VerdictLines
-mod Comparing
+mod BothFiles

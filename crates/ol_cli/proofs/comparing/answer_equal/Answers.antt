@@ -1,5 +1,5 @@
 use Rattle.ol_cli.specs.Answers.{by_first}
-use Rattle.ol_cli.proofs.Comparing.{second_cause}
+use Rattle.ol_cli.proofs.BothFiles.{second_cause}
 use Rattle.ol_cli.proofs.comparing.answer_equal.Goals as goal
 
 pub returns-in-Refused-clause-caused : goal.returns-in-Refused-clause-caused

@@ -1,5 +1,5 @@
 use Rattle.ol_cli.specs.Answers.{Seen, GaveAll}
-use Rattle.ol_cli.proofs.Comparing.{comes_of}
+use Rattle.ol_cli.proofs.BothFiles.{comes_of}
 use Rattle.ol_cli.proofs.Exact.{within_ok}
 use Rattle.ol_cli.proofs.comparing.read_side.Goals as goal
 
