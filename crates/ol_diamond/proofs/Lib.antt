@@ -31,3 +31,4 @@ pub mod WeighedPorts
 pub mod Copies
 pub mod WeighedEntries
 pub mod Weighed
+pub mod Facing
