@@ -1,5 +1,6 @@
 -- Private: words of private contracts alone: reading one line of a trace text from the front of some bytes.
-use Rattle.std.specs.Prelude.{◌≡◌, ℕ, ◌+◌, ◌-◌, ◌*◌, Bool, ◌&&◌, ◌==◌, nat_le, if◌then◌else◌, List, [], ◌∷◌, Option, None, Some, option_and_then, option_map}
+use Rattle.std.specs.Prelude.{◌≡◌, ℕ, ◌+◌, ◌-◌, ◌*◌, Bool, ◌&&◌, ◌==◌, nat_le, if◌then◌else◌, List, [], ◌∷◌, Option, None, Some, option_and_then, option_map, eqb, drop, length}
+use Rattle.std.specs.List.{starts_with}
 use Rattle.ol_net.specs.declared.parts.Rule.{Rule}
 use Rattle.ol_net.specs.declared.parts.Rule.TheVariants as rule
 use Rattle.ol_rules.specs.declared.journal.NodeName.{NodeName}
@@ -56,17 +57,18 @@ front_line bs = option_and_then line_on (front_name bs)
 
 -- what follows this word
 abbrev pub word_behind : List ℕ → List ℕ → Option (List ℕ)
-word_behind [] bs = Some bs
-word_behind (c ∷ word) bs = option_and_then (word_behind word) (behind c bs)
+word_behind word bs = if starts_with eqb bs word then Some (drop (length word) bs) else None
+
+-- the first of the two, where there is one
+abbrev pub first_of : Option (Rule × List ℕ) → Option (Rule × List ℕ) → Option (Rule × List ℕ)
+first_of (Some x) y = Some x
+first_of None y = y
 
 -- the first of these rules whose name stands here
 abbrev pub front_rule_of : List Rule → List ℕ → Option (Rule × List ℕ)
 front_rule_of [] bs = None
-front_rule_of (r ∷ rs) bs = named_or r (word_behind (rule_text r) bs) (front_rule_of rs bs)
-  where
-    named_or : Rule → Option (List ℕ) → Option (Rule × List ℕ) → Option (Rule × List ℕ)
-    named_or r (Some rest) more = Some (r, rest)
-    named_or r None more = more
+front_rule_of (r ∷ rs) bs =
+    first_of (option_map (λ (rest : List ℕ). (r, rest)) (word_behind (rule_text r) bs)) (front_rule_of rs bs)
 
 abbrev pub all_rules : List Rule
 all_rules = rule.Beta ∷ rule.Fan ∷ rule.Croissant ∷ rule.Bracket ∷ rule.CrossFan ∷ rule.CrossCroissant ∷ rule.CrossBracket ∷ rule.Erase ∷ []
