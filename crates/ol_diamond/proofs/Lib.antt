@@ -32,3 +32,5 @@ pub mod Copies
 pub mod WeighedEntries
 pub mod Weighed
 pub mod Facing
+pub mod OneStep
+pub mod WaveRuns
