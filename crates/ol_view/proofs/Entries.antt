@@ -12,7 +12,7 @@ use Rattle.ol_rules.specs.declared.journal.Entry.{Entry}
 use Rattle.ol_view.specs.declared.forms.Form.{Form}
 use Rattle.ol_view.specs.declared.forms.Form.TheVariants.{One, Two}
 use Rattle.ol_view.specs.TraceTexts.{line_text, BeginsWithLine}
-use Rattle.ol_view.specs.WaveTexts.{rule_text, wave_line_text, BeginsWithWaveLine}
+use Rattle.ol_view.specs.WaveTexts.{rule_text, BeginsWithWaveLine}
 use Rattle.ol_view.specs.Forms.{BeginsWithEntry}
 use Rattle.ol_view.specs.Checks.{HasNoLine}
 use Rattle.ol_view.specs.LineReading.{front_number, behind, front_line, word_behind, first_of, front_rule_of, all_rules, front_rule, told_end, told_on, front_told, told_with, front_entry, TellsOf}
@@ -185,3 +185,10 @@ none_read form text h = go (front_entry form text) refl
 
 pub none_there : (form : Form) (text : List ℕ) → ◌≡◌ {A = Read} (front_entry form text) None → HasNoLine form text
 none_there form text e d wave rest h = let z : ◌≡◌ {A = Read} None (Some (told_of form d wave, d.first, d.second, rest)) = sym e ∙ entry_complete form text d wave rest h in cc
+
+-- the first form tells neither rule nor wave
+pub first_tells_nothing : (text : List ℕ) (t : Option (Rule × ℕ)) (a b : NodeName) (rest : List ℕ) → ◌≡◌ {A = Read} (front_entry One text) (Some (t, a, b, rest)) → (r : Rule) (wave : ℕ) → TellsOf t r wave
+first_tells_nothing text t a b rest e r wave =
+    let l = line_read One text t a b rest e in
+    let z : ◌≡◌ {A = Option (Rule × ℕ) × List ℕ} (None, text) (t, l.names) = (let y = l.told in cc) in
+    subst (λ t. TellsOf t r wave) (ap (λ (p : Option (Rule × ℕ) × List ℕ). p.0) z) tt

@@ -1,5 +1,3 @@
-use Rattle.std.proofs.Common.{◌≡◌, ℕ, Bool, ◌+◌, drop, length, eqb, Some, sym, ap, ◌∙◌, if◌then◌else◌, Option, List, None}
-use Rattle.std.specs.List.{starts_with}
 use Rattle.ol_view.proofs.Rules.{is_behind}
 use Rattle.ol_view.proofs.line_reading.word_behind.Goals as goal
 
