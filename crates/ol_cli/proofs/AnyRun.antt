@@ -140,6 +140,19 @@ any_run_ends tr t names fuel is_net journal net run complete within =
     let d = done_tells N net o.1 fuel journal o.0 n b run complete within o.2 in
     record { journal = o.0; net = o.1; run = o.2; complete = d.0 }
 
+-- the tree of a net, with twice its nodes as the budget, is that of the same net
+read_same : (tree : List ReadNode) (heads : ℕ) (M N : NamedNet NodeName) → SameNet M N → ListsOnce M → ListsOnce N → IsTree M heads (2 * live M) tree → IsTree N heads (2 * live N) tree
+read_same tree heads M N same once once' read =
+    let size : live M ≡ live N = same_length M N same once once' in
+    subst (λ n. IsTree N heads (2 * n) tree) size (tree_same M N same size heads (2 * live M) tree read)
+
+-- and of the net under other names
+read_under : (tree : List ReadNode) (heads : ℕ) (m : NodeName → NodeName) (N : NamedNet NodeName) → IsNet N → ((x y : NodeName) (k l : Kind) (i j : ℕ) → HasNode N x k i → HasNode N y l j → m x ≡ m y → x ≡ y) →
+    IsTree N heads (2 * live N) tree → IsTree (net_under m N) heads (2 * live (net_under m N)) tree
+read_under tree heads m N is_net apart read =
+    let size : live N ≡ live (net_under m N) = sym (length-map N.nodes (λ (n : NodeName × Kind × ℕ). (m n.0, n.1, n.2))) in
+    subst (λ n. IsTree (net_under m N) heads (2 * n) tree) size (tree_under m N is_net apart heads (2 * live N) tree read)
+
 -- the tree that is read of the last net of a complete run is read of that of the one-thread run
 pub any_run_reads : (tr : Translation) (t : Tree) (names : List (List ℕ)) (fuel heads : ℕ) (tree : List ReadNode) → IsNet (translation_of tr t (length names)) →
     (journal : List Entry) (net listed : NamedNet NodeName) → IsRun (start_net_of_term tr t names) 0 journal net → IsComplete net → length journal ≤ fuel →
@@ -157,9 +170,7 @@ any_run_reads tr t names fuel heads tree is_net journal net other run complete w
     let same : SameNet o.1 listed = same_trans o.1 (net_under a.names net) listed (same_sym (net_under a.names net) o.1 a.written.same) (same_under a.names net other alike) in
     let e = ends_once N o.1 listed 0 o.0 same (start_once tr t names) once o.2.leads in
     let c = complete_same o.1 e.net (same_trans o.1 listed e.net same e.same) d.0 in
-    let size : live other ≡ live listed = sym (length-map other.nodes (λ (n : NodeName × Kind × ℕ). (a.names n.0, n.1, n.2))) in
-    let under : IsTree listed heads (2 * live listed) tree = subst (λ n. IsTree listed heads (2 * n) tree) size (tree_under a.names other other_net apart heads (2 * live other) tree read) in
-    let last : live listed ≡ live e.net = same_length listed e.net e.same once e.once in
+    let under = read_under tree heads a.names other other_net apart read in
     record {
       journal = o.0;
       net = e.net;
@@ -167,5 +178,5 @@ any_run_reads tr t names fuel heads tree is_net journal net other run complete w
       complete = c;
       is_net = net_same listed e.net e.same (named_net a.names other other_net apart);
       once = e.once;
-      read = subst (λ n. IsTree e.net heads (2 * n) tree) last (tree_same listed e.net e.same last heads (2 * live listed) tree under);
+      read = read_same tree heads listed e.net e.same once e.once under;
     }

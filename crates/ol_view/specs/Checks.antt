@@ -1,15 +1,15 @@
 -- What is found of a text against a net: its lines are tried in order, and the first bad one
 -- decides.
 use Rattle.std.specs.Prelude.{◌≡◌, ◌≢◌, ℕ, ◌+◌, ◌≤◌, ◌<◌, List, [], ◌∷◌, ◌++◌, length, ◌⊎◌, ◌↔◌}
-use Rattle.ol_net.specs.declared.parts.Rule.{Rule}
 use Rattle.ol_net.specs.Graph.{Graph}
 use Rattle.ol_net.specs.Nets.{NamedNet, net_under}
 use Rattle.ol_net.specs.Numbered.{net_of}
-use Rattle.ol_net.specs.Pairs.{IsActive, IsComplete, HasActive}
+use Rattle.ol_net.specs.Pairs.{IsComplete, HasActive}
 use Rattle.ol_rules.specs.declared.journal.NodeName.{NodeName}
 use Rattle.ol_rules.specs.declared.journal.NodeName.TheVariants.{Init}
 use Rattle.ol_rules.specs.declared.journal.Entry.{Entry}
 use Rattle.ol_rules.specs.Runs.{IsRun}
+pub use Rattle.ol_diamond.specs.Replaying.{AreIdle}
 use Rattle.ol_diamond.specs.Waves.{AreWaves}
 use Rattle.ol_view.specs.declared.answers.Check.{Check}
 use Rattle.ol_view.specs.declared.answers.Check.TheVariants.{Complete, Run, BadText, NotARun}
@@ -34,10 +34,6 @@ pub record BeginsWithRun (form : Form) (net : NamedNet NodeName) (text : List �
   pub begins : text ≡ text_of form journal waves ++ rest
   pub few : length journal ≤ 8000000
   pub run : IsRunTold form net journal waves last
-
--- the two are no active pair, whichever of them acts
-abbrev pub AreIdle : {A : Type 0} → NamedNet A → A → A → Type 0
-AreIdle {A} N f g = (r : Rule) → (IsActive N f g r → ⊥) × (IsActive N g f r → ⊥)
 
 -- there is no line of the grammar here
 abbrev pub HasNoLine : Form → List ℕ → Type 0
@@ -66,7 +62,7 @@ pub data IsFound (net : NamedNet NodeName) (text : List ℕ) : Check → Type 0 
       (length journal ≡ 8000000) ⊎ HasNoLine form rest →
       IsFound net text (BadText (length journal + 2))
   not_a_run : {form : Form} {journal : List Entry} {waves : List ℕ} {last : NamedNet NodeName}
-      {rest more : List ℕ} {entry : Entry} {wave : ℕ} →
+      {rest : List ℕ} (entry : Entry) (wave : ℕ) (more : List ℕ) →
       BeginsWithRun form net text journal waves last rest → length journal < 8000000 →
       BeginsWithEntry form rest entry wave more →
       IsOtherwise form net journal waves last entry wave →

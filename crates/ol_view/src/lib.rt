@@ -9,7 +9,6 @@ mod laws;
 mod leading;
 mod line_reading;
 mod pieces;
-mod replay;
 mod showing;
 mod tracing;
 mod wave_tracing;
