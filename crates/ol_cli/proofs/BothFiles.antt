@@ -28,7 +28,7 @@ has_tree n bytes names tree r = record { term = r.term; names = names; tree = tr
 
 both_cause : (n : RunNumbers) (s : Seen) (first second : Text) (bytes : List ℕ) (names : List (List ℕ)) (tree : List ReadNode) (st : Status) (text : List ℕ) → IsAllOf (s.contents first) bytes → IsReadOf n bytes names tree →
     EndsSecond n tree names s second st text → JobCause s st text (jobs.equal n.translation n.workers n.fuel n.heads first second)
-both_cause n s first second bytes names tree st text whole r (refused no c) = by_second whole (has_tree n bytes names tree r) no c
+both_cause n s first second bytes names tree st text whole r (refused isnt c) = by_second whole (has_tree n bytes names tree r) isnt c
 both_cause n s first second bytes names tree st text whole r (compared same {bytes = bytes'} gave {others = others} {other = other} r' c h is e) =
     by_both same whole (has_tree n bytes names tree r) gave (has_tree n bytes' others other r') is (c, h, e)
 

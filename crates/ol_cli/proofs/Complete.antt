@@ -92,8 +92,8 @@ module _ (files : Text → Option (List ℕ)) where
       let file = subst (λ b. IsNetFile b can.net) (one_bytes files name can.bytes bytes can.told e) can.file in
       done_net_file f bytes can.net can.counts can.stuck can.nodes file can.ends can.few s x h
   done_job (jobs.equal tr w f q a b) can s x (answers.of_file has e h) = absurd has
-  done_job (jobs.equal tr w f q a b) can s x (answers.of_first e no h) = absurd (no (done_told (run tr w f q a) a (files a) can.0 refl _ e (run tr w f q a) refl can.0.ends s x h))
-  done_job (jobs.equal tr w f q a b) can s x (answers.of_second e t d no h) = absurd (no (done_told (run tr w f q b) b (files b) can.1 refl _ d (run tr w f q b) refl can.1.ends s x h))
+  done_job (jobs.equal tr w f q a b) can s x (answers.of_first e isnt h) = absurd (isnt (done_told (run tr w f q a) a (files a) can.0 refl _ e (run tr w f q a) refl can.0.ends s x h))
+  done_job (jobs.equal tr w f q a b) can s x (answers.of_second e t d isnt h) = absurd (isnt (done_told (run tr w f q b) b (files b) can.1 refl _ d (run tr w f q b) refl can.1.ends s x h))
   done_job (jobs.equal tr w f q a b) can s x (answers.of_both e t d u is h) = is
   done_job (gen tr runs k) can s x (answers.of_file has e h) = absurd has
   done_job (gen tr runs k) can s x (answers.made m) = done_made tr runs k can s x m

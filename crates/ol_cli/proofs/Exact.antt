@@ -15,10 +15,11 @@ use Rattle.ol_cli.specs.declared.status.Status.{Status}
 use Rattle.ol_cli.specs.declared.status.Status.TheVariants.{Done, Usage, Syntax, Spent, ReadFault, WriteFault, NoMemory, Limit, BadNet}
 use Rattle.ol_cli.specs.Jobs.{AskFor, AskForNothing, EachName, HasTermFile, TellsFiles, count_of_files, files_of, file_name}
 use Rattle.ol_cli.specs.Texts.{bytes_text, fault_text}
-use Rattle.ol_cli.specs.Answers.{IsTermFile, TermAnswer, FileAnswer, JournalAnswer, JobAnswer, of_file, of_journal, made, IsAnswer, long, Seen, seen, GaveTooMany, Read, FileCause, JournalCause, JobCause, by_file, by_journal, by_making, by_net_file, by_first, by_second, by_both, of_net_file, of_first, of_second, of_both, HasTree, NetCause, failed, past, given, Cause, Ends, plain_run}
+use Rattle.ol_cli.specs.Answers.{IsTermFile, TermAnswer, FileAnswer, JournalAnswer, JobAnswer, of_file, of_journal, made, IsAnswer, long, Seen, seen, GaveTooMany, Read, FileCause, JournalCause, JobCause, by_file, by_journal, by_making, by_net_file, by_first, by_second, by_both, of_net_file, of_first, of_second, of_both, HasTree, NetCause, Cause, Ends, plain_run}
 use Rattle.ol_cli.specs.Inside.{EndsJournal}
 use Rattle.ol_cli.specs.NetAnswers.{NetFileAnswer}
 use Rattle.ol_cli.specs.NetAnswers as net_answers
+use Rattle.ol_cli.specs.Answers as answers
 use Rattle.ol_cli.proofs.NetFiles.{IsOfNet, net_cause_status}
 
 -- where all bytes were given, they are within the limit
@@ -116,8 +117,8 @@ no_usage s text asked (by_journal same w i c) = c
 no_usage s text asked (by_making {runs = false} same m) = let e = m.0 in absurd (cc)
 no_usage s text asked (by_making {translation = tr} {runs = true} same m) = absurd (term_status (plain_run tr) m.0 m.1 Usage text m.3)
 no_usage s text asked (by_net_file {fuel = fuel} {name = name} c) = elim (net_cause_status s name fuel Usage text c) [ inl e ↦ (let z = e.0 in absurd (cc)) | inr h ↦ h.1 ]
-no_usage s text asked (by_first {translation = tr} {workers = w} {fuel = f} {heads = q} {a = a} no c) = absurd (term_status (run tr w f q a) c.1.2.0 c.1.2.1 Usage text c.1.2.3)
-no_usage s text asked (by_second {translation = tr} {workers = w} {fuel = f} {heads = q} {b = b} whole t no c) = absurd (term_status (run tr w f q b) c.1.2.0 c.1.2.1 Usage text c.1.2.3)
+no_usage s text asked (by_first {translation = tr} {workers = w} {fuel = f} {heads = q} {a = a} isnt c) = absurd (term_status (run tr w f q a) c.1.2.0 c.1.2.1 Usage text c.1.2.3)
+no_usage s text asked (by_second {translation = tr} {workers = w} {fuel = f} {heads = q} {b = b} whole t isnt c) = absurd (term_status (run tr w f q b) c.1.2.0 c.1.2.1 Usage text c.1.2.3)
 no_usage s text asked (by_both same whole t gave u is h) = absurd (cc)
 
 -- the cause of a job's answer is that of the words
@@ -201,9 +202,9 @@ module _ (words : List (String Global)) (f f' given : ℕ) (contents : Text → 
   journal_answer journal bytes told tr t names BadNet text c = absurd c
 
   net_answer : (name : Text) (bytes : List ℕ) → contents name ≡ Some bytes → (fuel : ℕ) (st : Status) (text : List ℕ) → NetCause at_hand name fuel st text → NetFileAnswer fuel bytes st text
-  net_answer name bytes told fuel st text (failed rose e x) = absurd (quiet rose)
-  net_answer name bytes told fuel st text (past same gave e x) = net_answers.long (past_told (contents name) bytes 33554432 told gave.longer) e x
-  net_answer name bytes told fuel st text (given same {bytes = read} gave h) = subst (λ b. NetFileAnswer fuel b st text) (same_read (contents name) read bytes told gave.whole) h
+  net_answer name bytes told fuel st text (answers.failed rose e x) = absurd (quiet rose)
+  net_answer name bytes told fuel st text (answers.past same gave e x) = net_answers.long (past_told (contents name) bytes 33554432 told gave.longer) e x
+  net_answer name bytes told fuel st text (answers.given same {bytes = read} gave h) = subst (λ b. NetFileAnswer fuel b st text) (same_read (contents name) read bytes told gave.whole) h
 
   job_answer : (asked : Asked) → AreTold contents asked → (st : Status) (text : List ℕ) → JobCause at_hand st text asked → JobAnswer contents st text asked
   job_answer asked e st text (by_file has c) = let b = told_first contents asked has e in of_file has b.1 (file_answer asked b.0 b.1 st text c)
@@ -213,12 +214,12 @@ module _ (words : List (String Global)) (f f' given : ℕ) (contents : Text → 
       of_journal b.1 (subst (λ b. IsTermFile tr b t names) (same_read (contents term) bytes b.0 b.1 whole) i) d.1 (journal_answer journal d.0 d.1 tr t names st text c)
   job_answer _ e st text (by_making same m) = made m
   job_answer _ e st text (by_net_file {fuel = fuel} {name = name} c) = let b = e 0 name refl in of_net_file b.1 (net_answer name b.0 b.1 fuel st text c)
-  job_answer _ e st text (by_first {translation = tr} {workers = w} {fuel = f} {heads = q} {a = a} no c) =
-      let d = e 0 a refl in of_first d.1 no (file_answer (run tr w f q a) d.0 d.1 st text c)
-  job_answer _ e st text (by_second {translation = tr} {workers = w} {fuel = f} {heads = q} {a = a} {b = b} {bytes = bytes} whole t no c) =
+  job_answer _ e st text (by_first {translation = tr} {workers = w} {fuel = f} {heads = q} {a = a} isnt c) =
+      let d = e 0 a refl in of_first d.1 isnt (file_answer (run tr w f q a) d.0 d.1 st text c)
+  job_answer _ e st text (by_second {translation = tr} {workers = w} {fuel = f} {heads = q} {a = a} {b = b} {bytes = bytes} whole t isnt c) =
       let d = e 0 a refl in
       let g = e 1 b refl in
-      of_second d.1 (moved tr bytes d.0 f q (same_read (contents a) bytes d.0 d.1 whole) t) g.1 no (file_answer (run tr w f q b) g.0 g.1 st text c)
+      of_second d.1 (moved tr bytes d.0 f q (same_read (contents a) bytes d.0 d.1 whole) t) g.1 isnt (file_answer (run tr w f q b) g.0 g.1 st text c)
   job_answer _ e st text (by_both {translation = tr} {fuel = f} {heads = q} {a = a} {b = b} {bytes = m} {bytes' = n} same whole t gave u is h) =
       let d = e 0 a refl in
       let g = e 1 b refl in
@@ -270,8 +271,8 @@ job_risen asked s text st h (by_file has c) = file_risen asked s text st h c
 job_risen _ s text st h (by_journal same whole i c) = absurd (omega (arith, same))
 job_risen _ s text st h (by_making same m) = absurd (omega (arith, same))
 job_risen _ s text st h (by_net_file {fuel = fuel} {name = name} c) = elim (net_cause_status s name fuel st text c) [ inl e ↦ e.0 | inr k ↦ absurd (omega (arith, k.0)) ]
-job_risen _ s text st h (by_first {translation = tr} {workers = w} {fuel = f} {heads = q} {a = a} no c) = file_risen (run tr w f q a) s text st h c
-job_risen _ s text st h (by_second {translation = tr} {workers = w} {fuel = f} {heads = q} {b = b} whole t no c) = file_risen (run tr w f q b) s text st h c
+job_risen _ s text st h (by_first {translation = tr} {workers = w} {fuel = f} {heads = q} {a = a} isnt c) = file_risen (run tr w f q a) s text st h c
+job_risen _ s text st h (by_second {translation = tr} {workers = w} {fuel = f} {heads = q} {b = b} whole t isnt c) = file_risen (run tr w f q b) s text st h c
 job_risen _ s text st h (by_both same whole t gave u is k) = absurd (omega (arith, same))
 
 cause_risen : (words : List (String Global)) (s : Seen) (text : List ℕ) (st : Status) → s.faults < s.faults' → Cause words s st text → st ≡ ReadFault
@@ -335,8 +336,8 @@ job_fault _ s text (by_journal same whole i c) = absurd c
 job_fault _ s text (by_making {runs = false} same m) = let e = m.0 in absurd (cc)
 job_fault _ s text (by_making {translation = tr} {runs = true} same m) = absurd (term_status (plain_run tr) m.0 m.1 ReadFault text m.3)
 job_fault _ s text (by_net_file {fuel = fuel} {name = name} c) = elim (net_cause_status s name fuel ReadFault text c) [ inl e ↦ e.1 | inr k ↦ absurd k.1 ]
-job_fault _ s text (by_first no c) = c.0
-job_fault _ s text (by_second whole t no c) = c.0
+job_fault _ s text (by_first isnt c) = c.0
+job_fault _ s text (by_second whole t isnt c) = c.0
 job_fault _ s text (by_both same whole t gave u is k) = absurd (cc)
 
 pub ends_fault : (words : List (String Global)) (s : Seen) (r : Status) (g g' : ℕ) (old new : Option (List ℕ)) → Ends words s r g g' old new → r ≡ ReadFault → Rose s.faults s.faults'
@@ -357,9 +358,9 @@ no_files tr words runs k j = ap (λ (a : Option Asked). option_map_or count_of_f
 
 -- what was done with the net of a file came to its end
 net_ended : (s : Seen) (name : Text) (fuel : ℕ) (text : List ℕ) → NetCause s name fuel Done text → s.ended ≡ true
-net_ended s name fuel text (failed rose e x) = absurd (cc)
-net_ended s name fuel text (past same gave e x) = absurd (cc)
-net_ended s name fuel text (given same gave h) = gave.to_end
+net_ended s name fuel text (answers.failed rose e x) = absurd (cc)
+net_ended s name fuel text (answers.past same gave e x) = absurd (cc)
+net_ended s name fuel text (answers.given same gave h) = gave.to_end
 
 job_ended : (words : List (String Global)) (asked : Asked) (s : Seen) (text : List ℕ) → 0 < files_of words → AskFor words asked → JobCause s Done text asked → s.ended ≡ true
 job_ended words asked s text some j (by_file has c) = c.1.1.to_end
@@ -367,8 +368,8 @@ job_ended words _ s text some j (by_journal same whole i c) = c.1.to_end
 job_ended words _ s text some j (by_making {translation = tr} {runs = runs} {k = k} same m) = let none = no_files tr words runs k j in absurd (omega arith)
 
 job_ended words _ s text some j (by_net_file {fuel = fuel} {name = name} c) = net_ended s name fuel text c
-job_ended words _ s text some j (by_first no c) = absurd (no refl)
-job_ended words _ s text some j (by_second whole t no c) = absurd (no refl)
+job_ended words _ s text some j (by_first isnt c) = absurd (isnt refl)
+job_ended words _ s text some j (by_second whole t isnt c) = absurd (isnt refl)
 job_ended words _ s text some j (by_both same whole t gave u is k) = gave.to_end
 
 pub ends_done : (words : List (String Global)) (s : Seen) (r : Status) (g g' : ℕ) (old new : Option (List ℕ)) → Ends words s r g g' old new → 0 < files_of words → r ≡ Done → s.ended ≡ true
@@ -443,8 +444,8 @@ job_status s st text _ (by_net_file {fuel = fuel} {name = name} c) = elim (net_c
   | inl e ↦ ((λ z. let y : ReadFault ≡ NoMemory = sym e.0 ∙ z in cc), (λ z. let y : ReadFault ≡ WriteFault = sym e.0 ∙ z in cc))
   | inr k ↦ net_no_fault st k.1
 ]
-job_status s st text _ (by_first {translation = tr} {workers = w} {fuel = f} {heads = q} {a = a} no c) = file_cause_status (run tr w f q a) s st text c
-job_status s st text _ (by_second {translation = tr} {workers = w} {fuel = f} {heads = q} {b = b} whole t no c) = file_cause_status (run tr w f q b) s st text c
+job_status s st text _ (by_first {translation = tr} {workers = w} {fuel = f} {heads = q} {a = a} isnt c) = file_cause_status (run tr w f q a) s st text c
+job_status s st text _ (by_second {translation = tr} {workers = w} {fuel = f} {heads = q} {b = b} whole t isnt c) = file_cause_status (run tr w f q b) s st text c
 job_status s st text _ (by_both same whole t gave u is k) = ((λ z. let y : Done ≡ NoMemory = sym k ∙ z in cc), (λ z. let y : Done ≡ WriteFault = sym k ∙ z in cc))
 
 pub written_ends : (words : List (String Global)) (s : Seen) (st : Status) (text : List ℕ) (g g' : ℕ) (old new : Option (List ℕ)) → Cause words s st text → g' ≡ g → Appended old text new → Ends words s st g g' old new

@@ -90,7 +90,7 @@ net_status net fuel NoMemory text h = h
 
 pub net_file_status : (fuel : ℕ) (bytes : List ℕ) (st : Status) (text : List ℕ) → NetFileAnswer fuel bytes st text → IsOfNet st
 net_file_status fuel bytes st text (long l e x) = subst IsOfNet (sym e) tt
-net_file_status fuel bytes st text (bad l f no e x) = subst IsOfNet (sym e) tt
+net_file_status fuel bytes st text (bad l d f isnt e x) = subst IsOfNet (sym e) tt
 net_file_status fuel bytes st text (of_net {net = net} i h) = net_status net fuel st text h
 
 -- a fault that rose, or a status of a net
@@ -146,7 +146,7 @@ module _ (net : Graph) (is_net : IsNet (net_of net)) (fuel : ℕ) where
   done_of_net s x counts stuck nodes ends few (printed p) = refl
 
 is_not_bad : (bytes : List ℕ) (net : Graph) (f : NetFault) → IsNetFile bytes net → IsNetFault bytes f → f ≢ fault.NoMemory → ⊥
-is_not_bad bytes net f i h no = no (net_has_no_fault bytes net f i.read h)
+is_not_bad bytes net f i h isnt = isnt (net_has_no_fault bytes net f i.read h)
 
 -- the net of a file is one
 one_net : (bytes : List ℕ) (g h : Graph) → IsNetFile bytes g → IsNetFile bytes h → g ≡ h
@@ -154,13 +154,13 @@ one_net bytes g h i j = net_is_one bytes g h i.tabled j.tabled i.read j.read
 
 pub one_net_file : (fuel : ℕ) (bytes : List ℕ) (s s' : Status) (x x' : List ℕ) → NetFileAnswer fuel bytes s x → NetFileAnswer fuel bytes s' x' → s ≡ s'
 one_net_file fuel bytes s s' x x' (long l e t) (long l' e' t') = e ∙ sym e'
-one_net_file fuel bytes s s' x x' (long l e t) (bad l' f no e' t') = absurd (omega arith)
+one_net_file fuel bytes s s' x x' (long l e t) (bad l' d f isnt e' t') = absurd (omega arith)
 one_net_file fuel bytes s s' x x' (long l e t) (of_net i h) = absurd (let short = i.short in omega arith)
-one_net_file fuel bytes s s' x x' (bad l f no e t) (long l' e' t') = absurd (omega arith)
-one_net_file fuel bytes s s' x x' (bad l f no e t) (bad l' f' no' e' t') = e ∙ sym e'
-one_net_file fuel bytes s s' x x' (bad l {f = d} f no e t) (of_net {net = net} i h) = absurd (is_not_bad bytes net d i f no)
+one_net_file fuel bytes s s' x x' (bad l d f isnt e t) (long l' e' t') = absurd (omega arith)
+one_net_file fuel bytes s s' x x' (bad l d f isnt e t) (bad l' d' f' isnt' e' t') = e ∙ sym e'
+one_net_file fuel bytes s s' x x' (bad l d f isnt e t) (of_net {net = net} i h) = absurd (is_not_bad bytes net d i f isnt)
 one_net_file fuel bytes s s' x x' (of_net i h) (long l' e' t') = absurd (let short = i.short in omega arith)
-one_net_file fuel bytes s s' x x' (of_net {net = net} i h) (bad l' {f = d} f' no' e' t') = absurd (is_not_bad bytes net d i f' no')
+one_net_file fuel bytes s s' x x' (of_net {net = net} i h) (bad l' d f' isnt' e' t') = absurd (is_not_bad bytes net d i f' isnt')
 one_net_file fuel bytes s s' x x' (of_net {net = g} i h) (of_net {net = k} i' h') =
     let h'' = subst (λ n. NetAnswer n fuel s' x') (one_net bytes k g i' i) h' in
     one_of_net g (net_is_net g i.tabled) fuel s s' x x' (of_net_answer g fuel s x h) (of_net_answer g fuel s' x' h'')
@@ -169,7 +169,7 @@ one_net_file fuel bytes s s' x x' (of_net {net = g} i h) (of_net {net = k} i' h'
 pub done_net_file : (fuel : ℕ) (bytes : List ℕ) (net : Graph) (counts : Counts) (stuck nodes : ℕ) → IsNetFile bytes net → NetRunEnds net fuel counts stuck nodes → nodes ≤ 200000 →
     (s : Status) (x : List ℕ) → NetFileAnswer fuel bytes s x → s ≡ Done
 done_net_file fuel bytes net counts stuck nodes i ends few s x (long l e t) = absurd (let short = i.short in omega arith)
-done_net_file fuel bytes net counts stuck nodes i ends few s x (bad l {f = d} f no e t) = absurd (is_not_bad bytes net d i f no)
+done_net_file fuel bytes net counts stuck nodes i ends few s x (bad l d f isnt e t) = absurd (is_not_bad bytes net d i f isnt)
 done_net_file fuel bytes net counts stuck nodes i ends few s x (of_net {net = g} j h) =
     let h' = subst (λ n. NetAnswer n fuel s x) (one_net bytes g net j i) h in
     done_of_net net (net_is_net net i.tabled) fuel s x counts stuck nodes ends few (of_net_answer net fuel s x h')

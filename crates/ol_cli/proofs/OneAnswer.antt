@@ -340,12 +340,12 @@ module _ (files : Text → Option (List ℕ)) where
   one_on_file asked on s s' x x' (of_journal e' i f' h') k = absurd on
   one_on_file asked on s s' x x' (made m) k = absurd on
   one_on_file asked on s s' x x' (of_file has e h) (of_net_file e' h') = absurd on
-  one_on_file asked on s s' x x' (of_file has e h) (of_first e' no' h') = absurd on
-  one_on_file asked on s s' x x' (of_file has e h) (of_second e' t' f' no' h') = absurd on
+  one_on_file asked on s s' x x' (of_file has e h) (of_first e' isnt' h') = absurd on
+  one_on_file asked on s s' x x' (of_file has e h) (of_second e' t' f' isnt' h') = absurd on
   one_on_file asked on s s' x x' (of_file has e h) (of_both e' t' f' u' is' h') = absurd on
   one_on_file asked on s s' x x' (of_net_file e h) k = absurd on
-  one_on_file asked on s s' x x' (of_first e no h) k = absurd on
-  one_on_file asked on s s' x x' (of_second e t f no h) k = absurd on
+  one_on_file asked on s s' x x' (of_first e isnt h) k = absurd on
+  one_on_file asked on s s' x x' (of_second e t f isnt h) k = absurd on
   one_on_file asked on s s' x x' (of_both e t f u is h) k = absurd on
 
   -- what `run` answers to bytes that another file's name has is one answer
@@ -358,22 +358,22 @@ module _ (files : Text → Option (List ℕ)) where
   -- a file whose term is read back is no refusal
   not_read : (tr : Translation) (w fuel heads : ℕ) (name : Text) (a b : List ℕ) → files name ≡ Some a → files name ≡ Some b → HasTree tr a fuel heads → (s : Status) (x : List ℕ) → s ≢ Done →
       FileAnswer (run tr w fuel heads name) b s x → ⊥
-  not_read tr w fuel heads name a b e e' t s x no h =
-      no (read_file tr w fuel heads name b (subst (λ a. HasTree tr a fuel heads) (one_bytes name a b e e') t) s x (of_file_answer (run tr w fuel heads name) b s x h))
+  not_read tr w fuel heads name a b e e' t s x isnt h =
+      isnt (read_file tr w fuel heads name b (subst (λ a. HasTree tr a fuel heads) (one_bytes name a b e e') t) s x (of_file_answer (run tr w fuel heads name) b s x h))
 
   one_equal : (tr : Translation) (w fuel heads : ℕ) (a b : Text) (s s' : Status) (x x' : List ℕ) → JobAnswer files s x (jobs.equal tr w fuel heads a b) → JobAnswer files s' x' (jobs.equal tr w fuel heads a b) → Same s s' x x'
   one_equal tr w f q a b s s' x x' (of_file has e h) k = absurd has
-  one_equal tr w f q a b s s' x x' (of_first e no h) (of_file has e' h') = absurd has
-  one_equal tr w f q a b s s' x x' (of_first {bytes = m} e no h) (of_first {bytes = n} e' no' h') = one_of_run tr w f q a m n e e' s s' x x' h h'
-  one_equal tr w f q a b s s' x x' (of_first {bytes = m} e no h) (of_second {bytes = n} e' t' f' no' h') = absurd (not_read tr w f q a n m e' e t' s x no h)
-  one_equal tr w f q a b s s' x x' (of_first {bytes = m} e no h) (of_both {bytes = n} e' t' f' u' is' h') = absurd (not_read tr w f q a n m e' e t' s x no h)
-  one_equal tr w f q a b s s' x x' (of_second e t d no h) (of_file has e' h') = absurd has
-  one_equal tr w f q a b s s' x x' (of_second {bytes = m} e t d no h) (of_first {bytes = n} e' no' h') = absurd (not_read tr w f q a m n e e' t s' x' no' h')
-  one_equal tr w f q a b s s' x x' (of_second {bytes' = m} e t d no h) (of_second {bytes' = n} e' t' d' no' h') = one_of_run tr w f q b m n d d' s s' x x' h h'
-  one_equal tr w f q a b s s' x x' (of_second {bytes' = m} e t d no h) (of_both {bytes' = n} e' t' d' u' is' h') = absurd (not_read tr w f q b n m d' d u' s x no h)
+  one_equal tr w f q a b s s' x x' (of_first e isnt h) (of_file has e' h') = absurd has
+  one_equal tr w f q a b s s' x x' (of_first {bytes = m} e isnt h) (of_first {bytes = n} e' isnt' h') = one_of_run tr w f q a m n e e' s s' x x' h h'
+  one_equal tr w f q a b s s' x x' (of_first {bytes = m} e isnt h) (of_second {bytes = n} e' t' f' isnt' h') = absurd (not_read tr w f q a n m e' e t' s x isnt h)
+  one_equal tr w f q a b s s' x x' (of_first {bytes = m} e isnt h) (of_both {bytes = n} e' t' f' u' is' h') = absurd (not_read tr w f q a n m e' e t' s x isnt h)
+  one_equal tr w f q a b s s' x x' (of_second e t d isnt h) (of_file has e' h') = absurd has
+  one_equal tr w f q a b s s' x x' (of_second {bytes = m} e t d isnt h) (of_first {bytes = n} e' isnt' h') = absurd (not_read tr w f q a m n e e' t s' x' isnt' h')
+  one_equal tr w f q a b s s' x x' (of_second {bytes' = m} e t d isnt h) (of_second {bytes' = n} e' t' d' isnt' h') = one_of_run tr w f q b m n d d' s s' x x' h h'
+  one_equal tr w f q a b s s' x x' (of_second {bytes' = m} e t d isnt h) (of_both {bytes' = n} e' t' d' u' is' h') = absurd (not_read tr w f q b n m d' d u' s x isnt h)
   one_equal tr w f q a b s s' x x' (of_both e t d u is h) (of_file has e' h') = absurd has
-  one_equal tr w f q a b s s' x x' (of_both {bytes = m} e t d u is h) (of_first {bytes = n} e' no' h') = absurd (not_read tr w f q a m n e e' t s' x' no' h')
-  one_equal tr w f q a b s s' x x' (of_both {bytes' = m} e t d u is h) (of_second {bytes' = n} e' t' d' no' h') = absurd (not_read tr w f q b m n d d' u s' x' no' h')
+  one_equal tr w f q a b s s' x x' (of_both {bytes = m} e t d u is h) (of_first {bytes = n} e' isnt' h') = absurd (not_read tr w f q a m n e e' t s' x' isnt' h')
+  one_equal tr w f q a b s s' x x' (of_both {bytes' = m} e t d u is h) (of_second {bytes' = n} e' t' d' isnt' h') = absurd (not_read tr w f q b m n d d' u s' x' isnt' h')
   one_equal tr w f q a b s s' x x' (of_both {bytes = m} {bytes' = n} e t d u is h) (of_both {bytes = m'} {bytes' = n'} e' t' d' u' is' h') =
       (is ∙ sym is', one_compared tr m m' n n' f q (one_bytes a m m' e e') (one_bytes b n n' d d') t t' u u' x x' h h')
 

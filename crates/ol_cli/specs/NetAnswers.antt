@@ -116,6 +116,6 @@ pub record IsNetFile (bytes : List ℕ) (net : Graph) : Type 0 where
 -- What the bytes of a file with a net are answered: a limit that they pass, what is wrong with them, or the answer to their net.
 pub data NetFileAnswer (fuel : ℕ) (bytes : List ℕ) (st : Status) (text : List ℕ) : Type 0 where
   long : 33554432 < length bytes → st ≡ status.Limit → text ≡ net_bytes_text → NetFileAnswer fuel bytes st text
-  bad : length bytes ≤ 33554432 → {f : NetFault} → IsNetFault bytes f → f ≢ fault.NoMemory → st ≡ status.BadNet →
+  bad : length bytes ≤ 33554432 → (f : NetFault) → IsNetFault bytes f → f ≢ fault.NoMemory → st ≡ status.BadNet →
       text ≡ line (fault_text f) → NetFileAnswer fuel bytes st text
   of_net : {net : Graph} → IsNetFile bytes net → NetAnswer net fuel st text → NetFileAnswer fuel bytes st text

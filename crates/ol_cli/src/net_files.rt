@@ -14,7 +14,7 @@ use crate::status::Status;
 use crate::texts::{append, count_lines, spent_line, term_line};
 use ol_io::{Gate, NoMemory, ReadAll, Source, read_all};
 use ol_net::Net;
-use ol_netfile::{NetFault, fault_text, read_net, stuck_text, write_net};
+use ol_netfile::{fault_text, read_net, stuck_text, write_net};
 use ol_reduce::{Reduced, reduce};
 use ol_rules::{Counts, counts};
 use std::alloc::Global;
@@ -86,7 +86,6 @@ fn evaluate_file<R: Threads + Wait + Sync, G: Gate + Sync>(
             let answer = rewrite(rt, alloc, &net, workers, fuel, gate)?;
             Ok(answer)
         }
-        Err(NetFault::NoMemory) => Err(NoMemory),
         Err(fault) => {
             let words = fault_text(alloc, fault)?;
             let text = term_line(alloc, &words)?;

@@ -16,7 +16,7 @@ returns-then-nodes-gt-MOST_NODES-clause-answer g c =
     let e = c.in_ok-answer-in-Done.ensures in
     let many = c.nodes.ensures.nodes in
     large_answer c.args.net.now c.args.fuel c.in_ok-answer-in-Done.answer.status c.in_ok-answer-in-Done.answer.text.items e.status e.text
-    (done_is_large c.args.net.now c.is_net.ensures.net c.args.fuel c.args.workers c.in-Done.journal c.in-Done.words c.in-Done.last d c.stuck.result c.is_net-in-Done.ensures.net c.stuck.ensures.stuck (omega (arith, many, c.if-nodes-gt-MOST_NODES.true)))
+    (done_is_large c.args.net.now c.is_net.ensures.net c.args.fuel c.args.workers c.in-Done.journal c.in-Done.words c.in-Done.last d c.stuck-stuck.result c.is_net-in-Done.ensures.net c.stuck-stuck.ensures.stuck (omega (arith, many, c.if-nodes-gt-MOST_NODES.true)))
 
 pub net_lines-requires-clause-few_ports : goal.net_lines-requires-clause-few_ports
 net_lines-requires-clause-few_ports g c =
@@ -27,7 +27,7 @@ pub returns-clause-answer : goal.returns-clause-answer
 returns-clause-answer g c =
     let d = rw c.in-Done.is at c.in_ok-reduce.ensures.reduced in
     let few = c.nodes.ensures.nodes in
-    let lines = subst (λ k. AreLinesOf c.in-Done.last k c.stuck.result c.in_ok-text-in-Done.text.items) c.counts.ensures c.in_ok-text-in-Done.ensures in
+    let lines = subst (λ k. AreLinesOf c.in-Done.last k c.stuck-stuck.result c.in_ok-text-in-Done.text.items) c.counts.ensures c.in_ok-text-in-Done.ensures in
     rw c.without_words-in-Done.ensures
-    (done_prints c.args.net.now c.is_net.ensures.net c.args.fuel c.args.workers c.in-Done.journal c.in-Done.words c.in-Done.last d c.stuck.result c.is_net-in-Done.ensures.net c.stuck.ensures.stuck
+    (done_prints c.args.net.now c.is_net.ensures.net c.args.fuel c.args.workers c.in-Done.journal c.in-Done.words c.in-Done.last d c.stuck-stuck.result c.is_net-in-Done.ensures.net c.stuck-stuck.ensures.stuck
     c.is_tabled.ensures.tables (omega (arith, few, c.if-nodes-gt-MOST_NODES.false)) c.in_ok-text-in-Done.text.items lines)
