@@ -1,9 +1,8 @@
 -- A term is at most twice as large as its translation.
-use Rattle.std.proofs.Common.{◌≡◌, ℕ, ◌+◌, ◌*◌, ◌^◌, ◌<◌, ◌≤◌, List, length, filter, Option, None, Some, refl, subst, arith}
+use Rattle.std.proofs.Common.{◌≡◌, ℕ, ◌+◌, ◌*◌, ◌^◌, ◌<◌, ◌≤◌, List, Option, None, Some, refl, arith}
 use Rattle.ol_term.specs.declared.translations.Translation.{Translation}
 use Rattle.ol_term.specs.declared.translations.Translation.TheVariants.{One, Two}
 use Rattle.ol_term.specs.Trees.{Tree, var, free, lam, app, term_size}
-use Rattle.ol_parse.specs.Parsed.{IsFileOf}
 use Rattle.ol_translate.specs.Translation.{bare_variable}
 use Rattle.ol_translate.specs.Sizes.{variables, size_of_argument, size_under, size_of_translation}
 use Rattle.ol_cli.specs.Answers.{IsTermFile}

@@ -123,12 +123,7 @@ pub fn count_line(alloc: Global, name: &str, count: u32) -> Result<Vec<u8>, NoMe
 }
 
 /// Appends a name, a space, a number and a line feed.
-pub fn add_count(
-    alloc: Global,
-    text: &mut Vec<u8>,
-    name: &str,
-    count: u32,
-) -> Result<(), NoMemory>
+pub fn add_count(alloc: Global, text: &mut Vec<u8>, name: &str, count: u32) -> Result<(), NoMemory>
     ensures { OnOk result (text.new.items ≡ text.old.items ++ count_line name.now count) }
 {
     let Ok(line) = format!(in alloc; "{name} {count}\n") else {

@@ -1,4 +1,4 @@
-use Rattle.std.proofs.Common.{◌+◌, ◌*◌, ◌≤◌, length, ap, arith}
+use Rattle.std.proofs.Common.{arith}
 use Rattle.ol_cli.proofs.Traced.{spent_traces, spent_trace_hands, spent_leads, done_traces, done_ends, done_trace_hands, done_leads}
 use Rattle.ol_cli.proofs.Worked.{spent_answer}
 use Rattle.ol_cli.proofs.evaluation.trace_net.Goals as goal
