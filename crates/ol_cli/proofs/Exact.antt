@@ -366,7 +366,6 @@ job_ended : (words : List (String Global)) (asked : Asked) (s : Seen) (text : Li
 job_ended words asked s text some j (by_file has c) = c.1.1.to_end
 job_ended words _ s text some j (by_journal same whole i c) = c.1.to_end
 job_ended words _ s text some j (by_making {translation = tr} {runs = runs} {k = k} same m) = let none = no_files tr words runs k j in absurd (omega arith)
-
 job_ended words _ s text some j (by_net_file {fuel = fuel} {name = name} c) = net_ended s name fuel text c
 job_ended words _ s text some j (by_first isnt c) = absurd (isnt refl)
 job_ended words _ s text some j (by_second whole t isnt c) = absurd (isnt refl)
@@ -439,7 +438,6 @@ job_status s st text _ (by_making {translation = tr} {runs = true} {k = k} same 
     making Syntax m = ((λ e. cc), (λ e. cc))
     making Spent m = ((λ e. cc), (λ e. cc))
     making Done m = ((λ e. cc), (λ e. cc))
-
 job_status s st text _ (by_net_file {fuel = fuel} {name = name} c) = elim (net_cause_status s name fuel st text c) [
   | inl e ↦ ((λ z. let y : ReadFault ≡ NoMemory = sym e.0 ∙ z in cc), (λ z. let y : ReadFault ≡ WriteFault = sym e.0 ∙ z in cc))
   | inr k ↦ net_no_fault st k.1

@@ -236,7 +236,8 @@ fn evaluate_net<R: Threads + Wait + Sync, G: Gate + Sync>(
             Ok(answer)
         }
         Job::Net {
-            from_term: true, ..
+            from_term: true,
+            ..
         } => {
             net.is_tabled();
             let text = write_net(alloc, net)?;
@@ -245,7 +246,8 @@ fn evaluate_net<R: Threads + Wait + Sync, G: Gate + Sync>(
         Job::Check { .. } => unreachable!(),
         Job::Gen { .. } => unreachable!(),
         Job::Net {
-            from_term: false, ..
+            from_term: false,
+            ..
         } => unreachable!(),
         Job::Equal { .. } => unreachable!(),
     }

@@ -117,7 +117,9 @@ fn rewrite<R: Threads + Wait + Sync, G: Gate + Sync>(
             Ok(Answer::without_words(text, Status::Spent))
         }
         Reduced::Done {
-            net: last, journal, ..
+            net: last,
+            journal,
+            ..
         } => {
             last.is_net();
             last.is_tabled();

@@ -69,15 +69,15 @@ more-below N n b text text' one above w e = record {
       | inl old ↦ (let r = (w.all x y).0 old in (omega (arith, r.0), r.1, r.2))
       | inr new ↦ elim new [
         | inl is ↦ (let ex : x ≡ n = ap (λ (p : ℕ × ℕ). p.0) is in
-          let ey : y ≡ b = ap (λ (p : ℕ × ℕ). p.1) is in
-          (omega (arith, ex), omega (arith, ex, ey, above.0), subst (λ x. IsStuck N x y) (sym ex) (subst (IsStuck N n) (sym ey) above.1)))
+            let ey : y ≡ b = ap (λ (p : ℕ × ℕ). p.1) is in
+            (omega (arith, ex), omega (arith, ex, ey, above.0), subst (λ x. IsStuck N x y) (sym ex) (subst (IsStuck N n) (sym ey) above.1)))
         | inr none ↦ absurd none
       ]
     ],
     λ h. elim (which x n h.0) [
       | inl lt ↦ in_left (x, y) w.pairs ((n, b) ∷ []) ((w.all x y).1 (lt, h.1, h.2))
       | inr ex ↦ (let ey : y ≡ b = one y (subst (λ x. IsStuck N x y) ex h.2) in
-        in_right (x, y) w.pairs ((n, b) ∷ []) (inl (ap (λ x. (x, y)) ex ∙ ap (λ y. (n, y)) ey)))
+          in_right (x, y) w.pairs ((n, b) ∷ []) (inl (ap (λ x. (x, y)) ex ∙ ap (λ y. (n, y)) ey)))
     ],
   );
   ascend = ascend-push 0 w.pairs (n, b) w.ascend (λ x i. ((w.all x.0 x.1).0 i).0) (omega arith);
