@@ -444,7 +444,7 @@ job_status s st text _ (by_net_file {fuel = fuel} {name = name} c) = elim (net_c
 ]
 job_status s st text _ (by_first {translation = tr} {workers = w} {fuel = f} {heads = q} {a = a} isnt c) = file_cause_status (run tr w f q a) s st text c
 job_status s st text _ (by_second {translation = tr} {workers = w} {fuel = f} {heads = q} {b = b} whole t isnt c) = file_cause_status (run tr w f q b) s st text c
-job_status s st text _ (by_both same whole t gave u is k) = ((λ z. let y : Done ≡ NoMemory = sym k ∙ z in cc), (λ z. let y : Done ≡ WriteFault = sym k ∙ z in cc))
+job_status s st text _ (by_both same whole t gave u is k) = ((λ z. let y : Done ≡ NoMemory = sym is ∙ z in cc), (λ z. let y : Done ≡ WriteFault = sym is ∙ z in cc))
 
 pub written_ends : (words : List (String Global)) (s : Seen) (st : Status) (text : List ℕ) (g g' : ℕ) (old new : Option (List ℕ)) → Cause words s st text → g' ≡ g → Appended old text new → Ends words s st g g' old new
 written_ends words s NoMemory text g g' old new c same w = absurd ((job_status s NoMemory text c.0 c.2).0 refl)

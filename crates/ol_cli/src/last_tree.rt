@@ -15,8 +15,8 @@ use std::sync::Wait;
 use std::thread::Threads;
 
 /// The tree of the net that the workers leave, each walk within twice as many crossings as that net
-/// has nodes. There is none where the fuel was used up. This holds of each term whose net it is. Its
-/// free names are those of the net's ports.
+/// has nodes. There is none where the fuel was used up. This holds of each term whose net it is.
+/// Its free names are those of the net's ports.
 pub fn last_tree<R: Threads + Wait + Sync, G: Gate + Sync>(
     rt: &R,
     alloc: Global,

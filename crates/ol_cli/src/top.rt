@@ -91,10 +91,10 @@ pub struct Outcome {
 /// Where nothing fails, the words and the bytes of the files alone decide on the text and the
 /// status: not the number of workers, nor the order in which they take pairs. Only the text of
 /// `trace` isn't one: it is the journal of any run; nor is the net that `net` leaves, the nodes of
-/// which may be numbered by any run that leaves no active pair. The answer of `run` is that of the one-thread
-/// run, which always rewrites the active pair whose smaller name is least; each complete run prints
-/// the same, and each is longer than F where that one is. Each head that is written is the one that
-/// walks of any length give in the source's untouched net (Gonthier, Abadi and Lévy, The Geometry
+/// which may be numbered by any run that leaves no active pair. The answer of `run` is that of the
+/// one-thread run, which always rewrites the active pair whose smaller name is least; each complete
+/// run prints the same, and each is longer than F where that one is. Each head that is written is
+/// the one that walks of any length give in the source's untouched net (Gonthier, Abadi and Lévy, The Geometry
 /// of Optimal Lambda Reduction, 1992). So is each `?` of `run` where it writes `stuck 0`; one of
 /// `walk` says only that none of the walks that were tried gave a head. A term without `...` and
 /// `?` is in the grammar, and read again it has no redex.

@@ -65,10 +65,10 @@ answer_equal-requires-clause-second g c = λ κs alive. rw c.as_str-in-Equal-2.e
 pub returns-in-Net-default-true-default-default-default-clause-caused : goal.returns-in-Net-default-true-default-default-default-clause-caused
 returns-in-Net-default-true-default-default-default-clause-caused g c =
     let v = c.in-Net-default-true-default-default-default in
-    IfOk-weaker c.answer_file-in-Net-default-true-default-default-default.result _ _ (λ a h. by_file (rw v.is (rw v.from_term-is tt)) h) c.answer_file-in-Net-default-true-default-default-default.ensures.caused
+    IfOk-weaker c.answer_file-in-Net-default-true-default-default-default.result _ _ (λ a h. by_file (rw (v.is, ← v.from_term-is) tt) h) c.answer_file-in-Net-default-true-default-default-default.ensures.caused
 
 pub returns-in-Net-default-false-default-default-default-clause-caused : goal.returns-in-Net-default-false-default-default-default-clause-caused
 returns-in-Net-default-false-default-default-default-clause-caused g c =
     let v = c.in-Net-default-false-default-default-default in
     let caused = rw c.as_str-in-Net-default-false-default-default-default.ensures at c.answer_net.ensures.caused in
-    rw v.is (rw v.from_term-is (IfOk-weaker c.answer_net.result _ _ (λ a h. by_net_file h) caused))
+    rw (v.is, ← v.from_term-is) (IfOk-weaker c.answer_net.result _ _ (λ a h. by_net_file h) caused)
