@@ -94,10 +94,10 @@ pub struct Outcome {
 /// which may be numbered by any run that leaves no active pair. The answer of `run` is that of the
 /// one-thread run, which always rewrites the active pair whose smaller name is least; each complete
 /// run prints the same, and each is longer than F where that one is. Each head that is written is
-/// the one that walks of any length give in the source's untouched net (Gonthier, Abadi and Lévy, The Geometry
-/// of Optimal Lambda Reduction, 1992). So is each `?` of `run` where it writes `stuck 0`; one of
-/// `walk` says only that none of the walks that were tried gave a head. A term without `...` and
-/// `?` is in the grammar, and read again it has no redex.
+/// the one that walks of any length give in the source's untouched net (Gonthier, Abadi and Lévy,
+/// The Geometry of Optimal Lambda Reduction, 1992). So is each `?` of `run` where it writes
+/// `stuck 0`; one of `walk` says only that none of the walks that were tried gave a head. A term
+/// without `...` and `?` is in the grammar, and read again it has no redex.
 ///
 /// Refusals are tried in the order that `Status` tells. Each has a line of its own: the usage,
 /// `read fault`, `syntax at byte B` with the length of the longest prefix that begins a text of the
