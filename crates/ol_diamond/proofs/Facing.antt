@@ -4,7 +4,7 @@ use Rattle.ol_net.specs.Graph.{Graph}
 use Rattle.ol_net.specs.Nets.{NamedPort, slot, Linked, IsNet}
 use Rattle.ol_net.specs.Numbered.{net_of}
 use Rattle.ol_rules.proofs.FreshPairs.{linked_sym}
-use Rattle.ol_view.specs.Checks.{AreIdle}
+use Rattle.ol_diamond.specs.Replaying.{AreIdle}
 
 -- two nodes whose principal ports aren't joined
 pub unlinked : (g : Graph) (f h : ℕ) → (Linked (net_of g) (slot f 0) (slot h 0) → ⊥) → AreIdle (net_of g) f h
