@@ -14,22 +14,13 @@ use Rattle.ol_readback.specs.declared.answers.ReadNode.TheVariants as node
 use Rattle.ol_meaning.specs.Spots.{Tree, lam, app, HeadStep}
 use Rattle.ol_meaning.specs.Heads.{Steps, done, step}
 use Rattle.ol_meaning.specs.Shows.{ready, contract, LeftmostReduces, HeadReducesForever, applied, Shows, LacksHead}
-use Rattle.ol_meaning.proofs.LeftmostSteps.{leftmost_step}
+use Rattle.ol_meaning.proofs.LeftmostSteps.{leftmost_step, same_step}
 use Rattle.ol_meaning.proofs.LeftmostRoads.{IsNeutral, arg_leftmost, variable_neutral, StepsTo, step_before}
 
--- ---- leftmost steps are one
-
-one_of : (a b : List ℕ) → Some a ≡ Some b → a ≡ b
-one_of a b e = cc
-
-tree_of : (a b : Tree) → Some a ≡ Some b → a ≡ b
-tree_of a b e = cc
+-- ---- a leftmost step, or none
 
 some_none : (at : List ℕ) → Some at ≡ None → ⊥
 some_none at e = absurd (cc)
-
-same_step : (t : Tree) {u w : Tree} {at bt : List ℕ} → leftmost t ≡ Some at → contracted t at ≡ Some u → leftmost t ≡ Some bt → contracted t bt ≡ Some w → u ≡ w
-same_step t {u} {w} {at} {bt} e f g h = tree_of u w (sym f ∙ ap (contracted t) (one_of at bt (sym e ∙ g)) ∙ h)
 
 step_or_none : (t : Tree) → (leftmost t ≡ None) ⊎ ((u : Tree) × StepsTo t u)
 step_or_none t = by (leftmost t) refl

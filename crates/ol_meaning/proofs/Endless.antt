@@ -1,26 +1,18 @@
 -- Head reduction ends in a head normal form, or has no end.
-use Rattle.std.proofs.Common.{◌≡◌, ℕ, zero, suc, ◌⊎◌, inl, inr, List, Some, sym, ap, ◌∙◌, subst}
-use Rattle.ol_beta.specs.Beta.{contracted}
+use Rattle.std.proofs.Common.{◌≡◌, ℕ, zero, suc, ◌⊎◌, inl, inr, sym, subst}
 use Rattle.ol_meaning.specs.Spots.{Tree, Level, Wire, Place, HeadStep, beta, below, before}
 use Rattle.ol_meaning.specs.Heads.{Steps, done, step, Spine, head_var, head_free, head_app, Normal, flat, layer}
 use Rattle.ol_meaning.specs.Shows.{HeadReduces, HeadReducesForever, IsHeadNormal}
-use Rattle.ol_meaning.proofs.LeftmostSteps.{leftmost_step}
+use Rattle.ol_meaning.proofs.LeftmostSteps.{leftmost_step, same_step}
 use Rattle.ol_meaning.proofs.Walking.{normal_or_step}
 use Rattle.ol_meaning.proofs.Shapes.{normal_is, normal_of}
-
-one_of : (a b : List ℕ) → Some a ≡ Some b → a ≡ b
-one_of a b e = cc
-
-tree_of : (a b : Tree) → Some a ≡ Some b → a ≡ b
-tree_of a b e = cc
 
 -- a term has one head step
 pub one_step : {t a b : Tree} → HeadStep t a → HeadStep t b → a ≡ b
 one_step {t} {a} {b} g h =
     let x = leftmost_step g in
     let y = leftmost_step h in
-    let same : x.0 ≡ y.0 = one_of x.0 y.0 (sym x.1 ∙ y.1) in
-    tree_of a b (sym x.2 ∙ ap (contracted t) same ∙ y.2)
+    same_step t x.1 x.2 y.1 y.2
 
 -- ---- a head normal form has none
 

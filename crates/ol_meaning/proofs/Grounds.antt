@@ -1,31 +1,21 @@
 -- A whole term is seen in each net whose paths are the trails of the term's spots.
-use Rattle.std.proofs.Common.{◌≡◌, ℕ, zero, suc, ◌+◌, Bool, true, false, ◌&&◌, ◌||◌, ◌⊎◌, inl, inr, List, [], ◌∷◌, refl, sym, ap, ◌∙◌, subst, arith, ◌≤◌}
-use Rattle.std.proofs.lemmas.Bool.{eqb-true, ltb-true}
+use Rattle.std.proofs.Common.{◌≡◌, ℕ, zero, suc, ◌+◌, true, List, [], ◌∷◌, refl, sym, ap, ◌∙◌, subst, arith, ◌≤◌}
+use Rattle.std.proofs.lemmas.Bool.{eqb-true, ltb-true, and_parts}
 use Rattle.ol_term.specs.Trees.{is_below}
 use Rattle.ol_net.specs.Nets.{NamedNet, free}
 use Rattle.ol_context.specs.Contexts.{tail}
 use Rattle.ol_context.specs.Paths.{Path}
 use Rattle.ol_context.proofs.Contexts.{eta, head_eq, tail_eq}
 use Rattle.ol_spots_net.specs.Spots.{place, applications}
+use Rattle.ol_spots_net.proofs.Parts.{or_parts}
 use Rattle.ol_meaning.specs.Spots as spots
 use Rattle.ol_meaning.specs.Spots.{Tree, var, lam, app, Level, Context, cons, Wire, bound, name, under, occurs, Place, root, wire, at, Leads}
 use Rattle.ol_meaning.specs.Seen.{ahead, LeavesAs, IsSeen, WholeSeats}
 use Rattle.ol_meaning.proofs.Ways.{Has}
 use Rattle.ol_meaning.proofs.Mains.{ends}
+use Rattle.ol_meaning.proofs.Seats.{spot_is}
 
 -- ---- a closed term has no wire of a variable
-
-and_true : (a b : Bool) → (a && b) ≡ true → (a ≡ true) × (b ≡ true)
-and_true true b e = (refl, e)
-and_true false b e = absurd (cc)
-
-or_true : (a b : Bool) → (a || b) ≡ true → (a ≡ true) ⊎ (b ≡ true)
-or_true true b e = inl refl
-or_true false b e = inr e
-
-neither : {X Y : Type 0} → (X → ⊥) → (Y → ⊥) → X ⊎ Y → ⊥
-neither f g (inl x) = f x
-neither f g (inr y) = g y
 
 pub none_free : (t : Tree) (d y : ℕ) → is_below d t ≡ true → occurs (bound (y + d)) t ≡ true → ⊥
 none_free (var v) d y h e =
@@ -35,7 +25,8 @@ none_free (var v) d y h e =
 none_free (spots.free f) d y h e = absurd (cc)
 none_free (lam t) d y h e = none_free t (d + 1) y h (subst (λ n. occurs (bound n) t ≡ true) (let k : suc (y + d) ≡ y + (d + 1) = omega arith in k) e)
 none_free (app t u) d y h e =
-    neither (λ f. none_free t d y (and_true (is_below d t) (is_below d u) h).0 f) (λ f. none_free u d y (and_true (is_below d t) (is_below d u) h).1 f) (or_true (occurs (bound (y + d)) t) (occurs (bound (y + d)) u) e)
+    let b = and_parts (is_below d t) (is_below d u) h in
+    or_parts (occurs (bound (y + d)) t) (occurs (bound (y + d)) u) e ⊥ (none_free t d y b.0) (none_free u d y b.1)
 
 -- ---- a whole term
 
@@ -50,9 +41,6 @@ port_at : (t : Tree) → is_below 0 t ≡ true → (x : Place) → Has x t → (
 port_at t h root e = (0, refl)
 port_at t h (wire (bound y)) e = absurd (none_free t 0 y h (subst (λ n. occurs (bound n) t ≡ true) (let k : y ≡ y + 0 = omega arith in k) e))
 port_at t h (wire (name f)) e = (suc f, refl)
-
-spot_is : (x y : Place) (v w : Level) (c d : Context) → x ≡ y → v ≡ w → c ≡ d → at x v c ≡ at y w d
-spot_is x y v w c d e f g = ap (λ x. at x v c) e ∙ ap (λ v. at y v c) f ∙ ap (at y w) g
 
 whole_wire : (z : Wire) (v : Level) (c : Context) (q : ℕ) (X : Context) → WholeSeats (wire z) v c q X →
     (ms : List Level) × LeavesAs [] z q ms × ((d : Context) → WholeSeats (wire z) v d q (ahead ms d)) × (X ≡ ahead ms c)

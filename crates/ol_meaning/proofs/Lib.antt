@@ -15,6 +15,7 @@ pub mod Rooted
 pub mod LeftmostSteps
 pub mod Shapes
 pub mod Endless
+pub mod WrongTables
 pub mod Along
 pub mod Sights
 pub mod Matched

@@ -1,15 +1,15 @@
 -- What an exit says against the frames: the variable that stands at the head.
 use Rattle.std.proofs.Common.{◌≡◌, ℕ, suc, ◌+◌, ◌-◌, ◌<◌, ◌≤◌, ◌==◌, Bool, true, false, if◌then◌else◌, inl, inr, List, [], ◌∷◌, ◌++◌, length, Option, Some, None, refl, sym, ap, ◌∙◌, subst, arith, append_assoc}
 use Rattle.std.proofs.lemmas.Bool.{eqb-true, eq-eqb}
-use Rattle.std.proofs.lemmas.List.{get_or_append_left, get_or_push, length_push}
+use Rattle.std.proofs.lemmas.List.{length_push}
 use Rattle.ol_net.specs.Nets.{NamedNet}
 use Rattle.ol_context.specs.Contexts.{levels}
 use Rattle.ol_context.proofs.LevelLists.{levels_cons}
-use Rattle.ol_readback.specs.Frames as frames
 use Rattle.ol_readback.specs.Frames.{Frame, frame_at}
 use Rattle.ol_readback.specs.Matching.{Fits, NoFit, IsOpen, Matches, here, above}
 use Rattle.ol_readback.specs.Matching as matching
 use Rattle.ol_readback.specs.ReadTrees.{port_of}
+use Rattle.ol_readback.proofs.Forests.{frame_stays, frame_last}
 use Rattle.ol_readback.specs.Terms.{index_of, variable_of}
 use Rattle.ol_readback.specs.declared.answers.HeadVar.{HeadVar}
 use Rattle.ol_readback.specs.declared.answers.HeadVar.TheVariants as head
@@ -26,18 +26,12 @@ ended k = levels (os k empty ∷ [])
 
 -- ---- frames
 
-pub stays : (F : List Frame) (f : Frame) (i : ℕ) → i < length F → frame_at (F ++ f ∷ []) i ≡ frame_at F i
-stays F f i b = get_or_append_left F (f ∷ []) frames.root i b
-
-pub at_last : (F : List Frame) (f : Frame) → frame_at (F ++ f ∷ []) (length F) ≡ f
-at_last F f = get_or_push F f frames.root (length F) refl
-
 pub chain_grows : (F : List Frame) (f : Frame) (b : ℕ) (o : Option ℕ) (ch : Chain) → IsChain F b o ch → IsChain (F ++ f ∷ []) b o ch
 chain_grows F f b o [] h = h
 chain_grows F f b o (x ∷ xs) h =
     let l = length_push F f in
     let a = h.2 in
-    (h.0, h.1, (omega arith), stays F f x.0 h.2 ∙ h.3, chain_grows F f x.0 x.1.parent xs h.4)
+    (h.0, h.1, (omega arith), frame_stays F f x.0 h.2 ∙ h.3, chain_grows F f x.0 x.1.parent xs h.4)
 
 -- ---- numbers of variables
 
@@ -177,7 +171,7 @@ module _ {A : Type 0} {N : NamedNet A} {ch : Chain} {p : ℕ} {ls : List Level} 
   head_says x y a w k q X (own {j = j} e h g i) b r =
       let c = binder_of s j e w a b g in
       let o = root_only seen w (ended k) q X r in
-      let last = at_last F f in
+      let last = frame_last F f in
       let first : List Level = ls ++ os j (star c.0) ∷ [] in
       let is : (d : Context) → ahead ls (cons w d) ≡ ahead first d = λ d. (ap (λ v. ahead ls (cons v d)) c.1 ∙ sym (ahead_append ls (os j (star c.0) ∷ []) d)) in
       record {
@@ -188,7 +182,7 @@ module _ {A : Type 0} {N : NamedNet A} {ch : Chain} {p : ℕ} {ls : List Level} 
       }
   head_says x y a w k q X (past {z = z} e) b r =
       let t = seen.at_wire z w (ended k) q X r in
-      let last = at_last F f in
+      let last = frame_last F f in
       let apart : IsNotOf (frame_at G (length F)) q t.0 = λ j v c c' g h. wire_apart seen z w (os j (star v)) c c' q (ahead t.0 c) (t.2 c) (sym (ap (λ (f : Frame). f.port) last ∙ ep) ∙ g) (h ∙ ap (λ ls. ahead ls (cons (os j (star v)) c')) (ap (λ (f : Frame). f.levels) last ∙ el)) in
       record {
         first = t.0;

@@ -354,7 +354,7 @@ abbrev Ones : Hats → Type 0
 Ones H = (p q p' q' : Place) (v b v' b' : Level) (c d c' d' : Context) → H p v c q b d → H p' v' c' q' b' d' →
     (at p v c ≡ at p' v' c' → at q b d ≡ at q' b' d') × (at q b d ≡ at q' b' d' → at p v c ≡ at p' v' c')
 
-spot_is : (p q : Place) (v w : Level) (c d : Context) → p ≡ q → v ≡ w → c ≡ d → at p v c ≡ at q w d
+pub spot_is : (p q : Place) (v w : Level) (c d : Context) → p ≡ q → v ≡ w → c ≡ d → at p v c ≡ at q w d
 spot_is p q v w c d e f g = ap (λ p. at p v c) e ∙ ap (λ v. at q v c) f ∙ ap (at q w) g
 
 last_one : {R : Tree} {y : Wire} {a : Level} {i : ℕ} → Spine R y a i → (P : Tree) (w : Level) (p q p' q' : Place) (v b v' b' : Level) (c d c' d' : Context) → HatLast R P y a i w p v c q b d → HatLast R P y a i w p' v' c' q' b' d' →

@@ -6,6 +6,7 @@ use Rattle.ol_meaning.specs.Spots.{Tree, var, free, lam, app, Level, empty, o, s
 use Rattle.ol_meaning.specs.Heads.{os, outer, Spine, head_var, head_free, head_app, OutOf, up_root, up_own, up_wire, Normal, flat, layer, Arg, last, earlier, inner, hat_wire, hat_left, hat_up, StandsAt}
 use Rattle.ol_meaning.specs.Shows.{applied, IsVariable, IsHeadNormal}
 use Rattle.ol_meaning.specs.Seen.{unders}
+use Rattle.ol_meaning.proofs.Walking.{spine_outer}
 
 pub unders_bound : (l y : ℕ) → unders l (bound y) ≡ bound (l + y)
 unders_bound zero y = ap bound (let e : y ≡ 0 + y = omega arith in e)
@@ -76,11 +77,6 @@ spine_shape (head_app {R = R} {P = P} {y = y} {j = j} s e) =
       each = args_push 0 r.args (args_before P s 0 r.args r.each) (subst (λ i. Arg (app R P) i P) (let k : j ≡ 0 + length r.args = omega arith in k) (last s));
     }
 
-spine_flat : {t : Tree} {y : Wire} {a : Level} {j : ℕ} → Spine t y a j → outer t ≡ 0
-spine_flat head_var = refl
-spine_flat head_free = refl
-spine_flat (head_app s e) = refl
-
 -- a head normal form: its head's wire within its abstractions, and its arguments
 pub record NormalShape (t : Tree) (q : Place) (a : Level) (j : ℕ) : Type 0 where
   pub wire_is : Wire
@@ -99,7 +95,7 @@ flat_outs n y a e = past (sym (ap (λ n. unders n y) e))
 pub normal_shape : {t : Tree} {q : Place} {a : Level} {j : ℕ} → Normal t q a j → NormalShape t q a j
 normal_shape (flat {t = t} {y = y} {a = a} s) =
     let r = spine_shape s in
-    record { wire_is = y; args = r.args; count = r.count; is = flat_is (outer t) (spine_flat s) r.is; each = r.each; outs = flat_outs (outer t) y a (spine_flat s) }
+    record { wire_is = y; args = r.args; count = r.count; is = flat_is (outer t) (spine_outer s) r.is; each = r.each; outs = flat_outs (outer t) y a (spine_outer s) }
 normal_shape (layer {t = t} k h) =
     let r = normal_shape k in
     record { wire_is = r.wire_is; args = r.args; count = r.count; is = ap lam r.is; each = args_inner t 0 r.args r.each; outs = outs_up r.outs h }
@@ -131,7 +127,7 @@ pub wire_stands : {u P : Tree} {i : ℕ} (k : Arg u i P) (w : Level) (x : Wire) 
 wire_stands (last s) w x v c q b d (hat_wire e m f g) = record { outs = past (sym e); rest = g; even = λ h. hat_wire e m f refl }
 wire_stands (earlier {R = R} {Q = Q} s k) w x v c q b d (hat_left {z = z} {b = a} h e) =
     let r = wire_stands k w x v c (wire z) a d h in
-    record { outs = outs_at (outer R) 0 (spine_flat s) (past_is r.outs); rest = r.rest; even = λ f. hat_left (r.even f) e }
+    record { outs = outs_at (outer R) 0 (spine_outer s) (past_is r.outs); rest = r.rest; even = λ f. hat_left (r.even f) e }
 wire_stands (inner k) w x v c q b d (hat_up {q = p} {b = a} h e) =
     let r = wire_stands k w x v c p a d h in
     record { outs = outs_up r.outs e; rest = r.rest; even = λ f. hat_up (r.even f) e }

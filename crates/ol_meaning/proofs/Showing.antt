@@ -20,6 +20,7 @@ use Rattle.ol_readback.specs.declared.answers.HeadVar.TheVariants as var
 use Rattle.ol_readback.specs.declared.answers.ReadNode.{ReadNode}
 use Rattle.ol_readback.specs.declared.answers.ReadNode.TheVariants as node
 use Rattle.ol_readback.proofs.One.{exit_is_one}
+use Rattle.ol_readback.proofs.Forests.{frame_last}
 use Rattle.ol_spots_net.specs.Spots.{applications}
 use Rattle.ol_meaning.specs.Spots.{Tree, Level, empty, star, Context, cons, Place, root, at, Leads}
 use Rattle.ol_meaning.specs.Heads.{os, outer, Normal, Steps, SameAlong, Arg}
@@ -29,7 +30,7 @@ use Rattle.ol_meaning.proofs.Walking.{least, found, is_found}
 use Rattle.ol_meaning.proofs.Shapes.{normal_is, occurrence, AreArgs, normal_shape, normal_of}
 use Rattle.ol_meaning.proofs.Endless.{forever}
 use Rattle.ol_meaning.proofs.Sights.{ahead_levels, arg_seen}
-use Rattle.ol_meaning.proofs.Matched.{ended, at_last, chain_grows, HeadSays, head_says}
+use Rattle.ol_meaning.proofs.Matched.{ended, chain_grows, HeadSays, head_says}
 
 asked_is : (ls : List Level) (n : ℕ) → asked ls n ≡ ahead ls (cons (os n empty) (levels []))
 asked_is ls n = sym (ahead_levels ls (os n empty ∷ [])) ∙ ap (ahead ls) (levels_cons (os n empty) [])
@@ -74,11 +75,11 @@ module _ {A : Type 0} {N : NamedNet A} {ch : Chain} {P : Tree} {S : Seats} (F : 
   -- what is asked of the subterm's frame
   from_asked : (n q : ℕ) (X : Context) → Path N (free (frame_at (F ++ framed s 0 ∷ []) (length F)).port) (asked (frame_at (F ++ framed s 0 ∷ []) (length F)).levels n) q X →
       Path N (free s.port) (ahead s.levels (cons (os n empty) (levels []))) q X
-  from_asked n q X r = subst (λ c. Path N (free s.port) c q X) (asked_is s.levels n) (subst (λ (f : Frame). Path N (free f.port) (asked f.levels n) q X) (at_last F (framed s 0)) r)
+  from_asked n q X r = subst (λ c. Path N (free s.port) c q X) (asked_is s.levels n) (subst (λ (f : Frame). Path N (free f.port) (asked f.levels n) q X) (frame_last F (framed s 0)) r)
 
   to_asked : (n q : ℕ) (X : Context) → Path N (free s.port) (ahead s.levels (cons (os n empty) (levels []))) q X →
       Path N (free (frame_at (F ++ framed s 0 ∷ []) (length F)).port) (asked (frame_at (F ++ framed s 0 ∷ []) (length F)).levels n) q X
-  to_asked n q X r = subst (λ (f : Frame). Path N (free f.port) (asked f.levels n) q X) (sym (at_last F (framed s 0))) (subst (λ c. Path N (free s.port) c q X) (sym (asked_is s.levels n)) r)
+  to_asked n q X r = subst (λ (f : Frame). Path N (free f.port) (asked f.levels n) q X) (sym (frame_last F (framed s 0))) (subst (λ c. Path N (free s.port) c q X) (sym (asked_is s.levels n)) r)
 
   -- a number of abstractions that leads on in the subterm has a path
   leads_path : (n k : ℕ) (y : Place) (w : Level) (d : Context) → Leads P (at root (os n empty) (levels [])) (at y w d) k →
@@ -244,7 +245,7 @@ module _ {A : Type 0} (N : NamedNet A) (b : Bool) where
       let f = framed s l in
       let p = length_push F f in
       let n : length (F ++ f ∷ []) ≡ suc (length F) = omega arith in
-      let below : IsChain (F ++ f ∷ []) (length (F ++ f ∷ [])) (Some (length F)) ((length F, f) ∷ ch) = (refl, (omega arith), (omega arith), at_last F f, chain_grows F f (length F) s.parent ch chain) in
+      let below : IsChain (F ++ f ∷ []) (length (F ++ f ∷ [])) (Some (length F)) ((length F, f) ∷ ch) = (refl, (omega arith), (omega arith), frame_last F f, chain_grows F f (length F) s.parent ch chain) in
       let x = up g.args (length F) (port_of (F ++ f ∷ []) v) r.0 0 ((length F, f) ∷ ch) (F ++ f ∷ []) ss ns g.count_is g.each below r.2 in
       let m = x.1.many in (
         (g.args, g.reaches, subst (λ i. Shows b ((length F, l) ∷ scope ch) i ts g.args) n x.0),

@@ -56,7 +56,7 @@ spine_channel (head_free {f = f}) v c = channel_free f v c
 spine_channel (head_app {R = R} {P = P} {y = y} {a = a} {w = w} {j = j} s e) v c =
     channel_app (spine_occurs s) e (subst (λ l. Channel R (at root (o v) c) (at (wire y) a (cons l c))) (os_o j v) (spine_channel s (o v) c))
 
-spine_outer : {t : Tree} {y : Wire} {a : Level} {j : ℕ} → Spine t y a j → outer t ≡ 0
+pub spine_outer : {t : Tree} {y : Wire} {a : Level} {j : ℕ} → Spine t y a j → outer t ≡ 0
 spine_outer head_var = refl
 spine_outer head_free = refl
 spine_outer (head_app s e) = refl

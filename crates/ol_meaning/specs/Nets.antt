@@ -1,7 +1,7 @@
 -- The laws of heads over a term's net itself: what a path from the free port of the net's root tells.
 use Rattle.std.specs.Prelude.{◌≡◌, ℕ, ◌+◌, ◌≤◌}
 use Rattle.ol_term.specs.declared.translations.Translation.TheVariants.{One}
-use Rattle.ol_net.specs.Nets.{free}
+use Rattle.ol_net.specs.Nets.{NamedNet, free}
 use Rattle.ol_context.specs.Paths.{Path}
 use Rattle.ol_translate.specs.Translation.{translation_of}
 use Rattle.ol_translate.specs.Names.{HasNames}
@@ -9,13 +9,16 @@ use Rattle.ol_spots_net.specs.Spots.{place, applications}
 use Rattle.ol_meaning.specs.Spots.{Tree, Level, empty, Context, cons, tail}
 use Rattle.ol_meaning.specs.Heads.{os, outer, Normal, Steps, SameAlong}
 
--- Where a path leads from the root's free port, with o^n.empty on level 0, to free port q, at most as many head steps as it crosses
--- applications lead from the term to a head normal form. It has at most n abstractions, and its head leaves at q's place.
-abbrev pub PathFindsHead : Type 0
-PathFindsHead = (t : Tree) (names : ℕ) → HasNames t names → (q n : ℕ) (c d : Context) → c 0 ≡ os n empty →
-    (r : Path (translation_of One t names) (free 0) c q d) →
+-- In this net, where a path leads from the root's free port, with o^n.empty on level 0, to free port q, at most as many head steps as
+-- it crosses applications lead from the term to a head normal form. It has at most n abstractions, and its head leaves at q's place.
+abbrev pub FindsHeads : NamedNet ℕ → Tree → Type 0
+FindsHeads N t = (q n : ℕ) (c d : Context) → c 0 ≡ os n empty → (r : Path N (free 0) c q d) →
     (u : Tree) × (m : ℕ) × (s : Steps t u m) × (m ≤ applications r) × (a : Level) × (j : ℕ) × Normal u (place q) a j
     × SameAlong s (place q) (d 0) a × (e : ℕ) × (n ≡ outer u + e) × (tail d ≡ cons (os (j + e) empty) (tail c))
+
+-- So it is in the term's own net.
+abbrev pub PathFindsHead : Type 0
+PathFindsHead = (t : Tree) (names : ℕ) → HasNames t names → FindsHeads (translation_of One t names) t
 
 -- And where head steps lead to a head normal form of k abstractions, whose head leaves at the place of a free port, such a path is
 -- there, with o^k.empty on level 0.

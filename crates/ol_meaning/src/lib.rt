@@ -16,6 +16,7 @@ ghost use Rattle.ol_meaning.specs.Heads.{HeadFound, ExitIsHead, HeadIsFound, Lea
 ghost use Rattle.ol_meaning.specs.Heads.{BinderStays};
 ghost use Rattle.ol_meaning.specs.Heads.{BelowHead, HatIsOne, RootStandsAtHead, ArgsAreThere};
 ghost use Rattle.ol_meaning.specs.Nets.{PathFindsHead, HeadHasPath};
+ghost use Rattle.ol_meaning.specs.Tables.{BracketIsNeeded, FanIsNotTurned};
 ghost use Rattle.ol_meaning.specs.Leftmost.{HeadIsLeftmost, OneSubstitution};
 ghost use Rattle.ol_meaning.specs.Meaning.{NormalIsHeadNormal, EndlessOrNormal};
 ghost use Rattle.ol_meaning.specs.Meaning.{WholeTermIsSeen, ArgIsSeen};
@@ -99,6 +100,15 @@ pub fn seating()
 pub fn net_heads()
     ensures found { PathFindsHead }
     ensures reached { HeadHasPath }
+{}
+
+/// Wrong tables of translation break the first of these laws, on small terms. Where an argument's
+/// bracket is left out of the net of `(\x. x) y`, a path leads to y with levels that no head has.
+/// Where the slots of the fan are turned in that of `y y`, the path to the head leaves by the mark
+/// of the other occurrence.
+pub fn wrong_tables_mislead()
+    ensures bracket { BracketIsNeeded }
+    ensures fan { FanIsNotTurned }
 {}
 
 /// A head step is the leftmost beta step of the term, as `ol_beta` says it: its redex is the first

@@ -159,7 +159,7 @@ has_wire (app M N) y d n k h i =
     ∙ ap (λ b. occurs y M || b) (has_wire N y d (n + 1) (k + 1 + length P.nodes) b.1 i)
     ∙ sym (occurs_app y M N)
 
-or_parts : (a b : Bool) → a || b ≡ true → (P : Type 0) → (a ≡ true → P) → (b ≡ true → P) → P
+pub or_parts : (a b : Bool) → a || b ≡ true → (P : Type 0) → (a ≡ true → P) → (b ≡ true → P) → P
 or_parts true b h P f g = f refl
 or_parts false b h P f g = g h
 
