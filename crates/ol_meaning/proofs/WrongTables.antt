@@ -1,6 +1,7 @@
 -- Lines of the table of translation that would break the laws.
 use Rattle.std.proofs.Common.{◌≡◌, ℕ, [], inl, inr, refl, ap, ◌∙◌, arith}
 use Rattle.ol_net.specs.Nets.{free}
+use Rattle.ol_term.specs.declared.translations.Translation.TheVariants.{One}
 use Rattle.ol_net.specs.declared.parts.Kind.TheVariants as kind
 use Rattle.ol_context.specs.Contexts.{levels}
 use Rattle.ol_context.specs.Paths.{inward, outward, Path, ends, goes}
@@ -44,7 +45,7 @@ to_itself =
 spine_level : {y : term.Wire} {a : Level} {j : ℕ} → Spine doubled y a j → (b : Level) × (a ≡ o b)
 spine_level (head_app {a = b} head_free e) = (b, e)
 
-no_star : {u : Tree} {m : ℕ} (s : Steps doubled u m) {q : Place} {a : Level} {j : ℕ} → Normal u q a j → SameAlong s q (star empty) a → ⊥
+no_star : {u : Tree} {m : ℕ} (s : Steps doubled u m) {q : Place} {a : Level} {j : ℕ} → Normal u q a j → SameAlong One s q (star empty) a → ⊥
 no_star done (flat k) e = let l = spine_level k in let f : star empty ≡ o l.0 = e ∙ l.1 in absurd (cc)
 no_star (step h s) k e = normal_stops (flat (head_app head_free refl)) h
 

@@ -4,7 +4,7 @@ use Rattle.ol_net.specs.Nets.{NamedNet, free}
 use Rattle.ol_context.specs.Paths.{Path}
 use Rattle.ol_readback.specs.Frames.{Frame, frame_at}
 use Rattle.ol_spots_net.specs.Spots.{place, applications}
-use Rattle.ol_meaning.specs.Spots.{Tree, Level, star, Context, cons, Wire, bound, name, under, Place, root, wire, at, Leads}
+use Rattle.ol_meaning.specs.Spots.{Translation, Tree, Level, star, Context, cons, Wire, bound, name, under, Place, root, wire, at, Leads}
 use Rattle.ol_meaning.specs.Heads.{os, Steps, SameAlong, Arg, StandsAt}
 use Rattle.ol_meaning.specs.Spots.{empty}
 
@@ -57,25 +57,25 @@ Seats = Place → Level → Context → ℕ → Context → Type 0
 -- each of its wires stands where the binder's or the name's exits are; no two stand at the same, nor one at two. From where a spot
 -- stands the paths lead to just those exits at which the spots stand that it leads to in P alone, where it crosses no more
 -- applications than the path.
-pub record IsSeen {A : Type 0} (N : NamedNet A) (ch : Chain) (p : ℕ) (ls : List Level) (P : Tree) (S : Seats) : Type 0 where
+pub record IsSeen {A : Type 0} (τ : Translation) (N : NamedNet A) (ch : Chain) (p : ℕ) (ls : List Level) (P : Tree) (S : Seats) : Type 0 where
   pub at_root : (v : Level) (c : Context) → S root v c p (ahead ls (cons v c))
   pub at_wire : (z : Wire) (v : Level) (c : Context) (q : ℕ) (X : Context) → S (wire z) v c q X →
       (ms : List Level) × LeavesAs ch z q ms × ((d : Context) → S (wire z) v d q (ahead ms d)) × (X ≡ ahead ms c)
   pub one : (x y : Place) (v w : Level) (c d : Context) (q r : ℕ) (X Y : Context) → S x v c q X → S y w d r Y →
       (at x v c ≡ at y w d → (q ≡ r) × (X ≡ Y)) × (q ≡ r → X ≡ Y → at x v c ≡ at y w d)
-  pub forth : (x y : Place) (v w : Level) (c d : Context) (n q : ℕ) (X : Context) → S x v c q X → Leads P (at x v c) (at y w d) n →
+  pub forth : (x y : Place) (v w : Level) (c d : Context) (n q : ℕ) (X : Context) → S x v c q X → Leads τ P (at x v c) (at y w d) n →
       (r : ℕ) × (Y : Context) × S y w d r Y × Path N (free q) X r Y
   pub back : (x : Place) (v : Level) (c : Context) (q r : ℕ) (X Y : Context) → S x v c q X → (t : Path N (free q) X r Y) →
-      (y : Place) × (w : Level) × (d : Context) × (n : ℕ) × S y w d r Y × Leads P (at x v c) (at y w d) n × (n ≤ applications t)
+      (y : Place) × (w : Level) × (d : Context) × (n : ℕ) × S y w d r Y × Leads τ P (at x v c) (at y w d) n × (n ≤ applications t)
 
 -- a whole term's spots stand at its net's own free ports
 abbrev pub WholeSeats : Seats
 WholeSeats x v c q X = (x ≡ place q) × (X ≡ cons v c)
 
 -- an argument's spots stand where those of the head normal form stand, in a term from which head steps lead to this
-abbrev pub ArgSeats : {P u Q : Tree} {m i : ℕ} → Steps P u m → Arg u i Q → Seats → Seats
-ArgSeats s k S x v c q X =
-    (y : Place) × (b : Level) × (d : Context) × StandsAt k empty x v c y b d × (w : Level) × SameAlong s y w b × S y w d q X
+abbrev pub ArgSeats : Translation → {P u Q : Tree} {m i : ℕ} → Steps P u m → Arg u i Q → Seats → Seats
+ArgSeats τ s k S x v c q X =
+    (y : Place) × (b : Level) × (d : Context) × StandsAt τ k empty x v c y b d × (w : Level) × SameAlong τ s y w b × S y w d q X
 
 -- ---- subterms of a term
 
@@ -86,6 +86,6 @@ pub data Within (t : Tree) : Tree → Type 0 where
   argument : {P u Q : Tree} {m i : ℕ} → Within t P → Steps P u m → Arg u i Q → Within t Q
 
 -- where its spots stand in the term's net
-abbrev pub seats_of : {t P : Tree} → Within t P → Seats
-seats_of whole = WholeSeats
-seats_of (argument w s k) = ArgSeats s k (seats_of w)
+abbrev pub seats_of : Translation → {t P : Tree} → Within t P → Seats
+seats_of τ whole = WholeSeats
+seats_of τ (argument w s k) = ArgSeats τ s k (seats_of τ w)

@@ -1,4 +1,4 @@
--- Lines of the table of translation that would break the laws: an argument's bracket left out, and a fan's slots turned.
+-- Lines of the table of translation 1 that would break the laws: an argument's bracket left out, and a fan's slots turned.
 use Rattle.std.specs.Prelude.{◌≡◌, ℕ, [], ◌∷◌}
 use Rattle.ol_net.specs.declared.parts.Kind.TheVariants as kind
 use Rattle.ol_net.specs.Nets.{NamedNet, free, slot}
@@ -35,7 +35,7 @@ without_bracket = record {
 -- Without it, a path tells levels that no head has.
 pub record BracketIsNeeded : Type 0 where
   pub with_it : translation_of One named 1 ≡ net_of_named
-  pub without_it : FindsHeads without_bracket named → ⊥
+  pub without_it : FindsHeads One without_bracket named → ⊥
 
 -- ---- a fan's slots
 
@@ -55,4 +55,4 @@ net_of_doubled s r = record {
 -- With the slots turned, a path leaves by the mark of the other occurrence.
 pub record FanIsNotTurned : Type 0 where
   pub straight : translation_of One doubled 1 ≡ net_of_doubled 1 2
-  pub turned : FindsHeads (net_of_doubled 2 1) doubled → ⊥
+  pub turned : FindsHeads One (net_of_doubled 2 1) doubled → ⊥

@@ -22,6 +22,13 @@ bare_right M y v t e = record { level = λ x. refl; is = e ∙ sym (ap (λ x. if
 pub right_bare : {τ : Translation} {N : Tree} (M : Tree) (y : Wire) (b v : Level) {a : Level} → is_bare τ N ≡ true → IsRight τ M N y b v a → a ≡ (if occurs y M then star v else v)
 right_bare M y b v t r = r.is ∙ ap (λ x. if occurs y M then star (boxed x b v) else boxed x b v) t
 
+-- of a function and an argument that are alike
+pub right_like : {τ : Translation} {M N : Tree} {y : Wire} {b v a : Level} (M' N' : Tree) (y' : Wire) → occurs y' M' ≡ occurs y M → is_bare τ N' ≡ is_bare τ N → IsRight τ M N y b v a → IsRight τ M' N' y' b v a
+right_like {τ} {M} {N} {y} {b} {v} M' N' y' e f r = record {
+  level = λ t. r.level (sym f ∙ t);
+  is = r.is ∙ ap (λ t. if t then star (boxed (is_bare τ N) b v) else boxed (is_bare τ N) b v) (sym e) ∙ ap (λ x. if occurs y' M' then star (boxed x b v) else boxed x b v) (sym f);
+}
+
 -- ---- which arguments have none
 
 pub is_wire : (τ : Translation) (d x : ℕ) (N : Tree) → bare_variable τ d N ≡ Some x → is_bare τ N ≡ true
