@@ -7,8 +7,10 @@ use Rattle.ol_meaning.specs.Spots.{ofM, ofN, WireOf, HeadStep, beta, below, befo
 -- of the redex (lam M) N: at the root each value; at a wire of M, and at a wire of N, what the wire is in M[N]
 pub data SameRedex (τ : Translation) (M N : Tree) : Place → Level → Level → Type 0 where
   redex_root : {v : Level} → SameRedex τ M N root v v
-  redex_m : {y : Wire} {a w a' : Level} → w ≡ left N y a → WireOf τ N M 0 (ofM (under y) a) y a' → SameRedex τ M N (wire y) w a'
-  redex_n : {y : Wire} {b v w a' : Level} → IsRight τ (lam M) N y b v w → WireOf τ N M 0 (ofN v y b) y a' → SameRedex τ M N (wire y) w a'
+  redex_m : {y : Wire} {a w a' : Level} → w ≡ left N y a → WireOf τ N M 0 (ofM (under y) a) y a' →
+      SameRedex τ M N (wire y) w a'
+  redex_n : {y : Wire} {b v w a' : Level} → IsRight τ (lam M) N y b v w →
+      WireOf τ N M 0 (ofN v y b) y a' → SameRedex τ M N (wire y) w a'
 
 -- under an abstraction, where S says it of the body: at the root, the body's root stands below an o, and the wire of the
 -- abstraction's own variable below a star
@@ -18,12 +20,14 @@ pub data SameBelow (S : Place → Level → Level → Type 0) : Place → Level 
   below_wire : {y : Wire} {a a' : Level} → S (wire (under y)) a a' → SameBelow S (wire y) a a'
 
 -- before an argument P, where S says it of the function, which is R and becomes R': marks follow the function
-pub data SameBefore (τ : Translation) (R R' P : Tree) (S : Place → Level → Level → Type 0) : Place → Level → Level → Type 0 where
+pub data SameBefore (τ : Translation) (R R' P : Tree) (S : Place → Level → Level → Type 0) : Place →
+    Level → Level → Type 0 where
   before_root : {v : Level} → SameBefore τ R R' P S root v v
   before_left : {y : Wire} {a a' w w' : Level} →
       w ≡ left P y a → w' ≡ left P y a' → S (wire y) a a' → SameBefore τ R R' P S (wire y) w w'
   before_right : {y : Wire} {w w' : Level} (b v : Level) →
-      occurs y P ≡ true → IsRight τ R P y b v w → IsRight τ R' P y b v w' → SameBefore τ R R' P S (wire y) w w'
+      occurs y P ≡ true → IsRight τ R P y b v w → IsRight τ R' P y b v w' →
+      SameBefore τ R R' P S (wire y) w w'
 
 -- of any head step
 abbrev pub Same : Translation → {t t' : Tree} → HeadStep t t' → Place → Level → Level → Type 0

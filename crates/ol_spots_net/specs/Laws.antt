@@ -15,10 +15,12 @@ LeadsOut τ t p c q d n = Leads τ t (at (place p) (c 0) (tail c)) (at (place q)
 
 -- a path of the term's net leads from one free port to another, with these contexts, exactly where a trail of its spots does
 abbrev pub NetAndSpots : Type 0
-NetAndSpots = (τ : Translation) (t : Tree) (names : ℕ) → HasNames t names → (p q : ℕ) (c d : Context) →
+NetAndSpots = (τ : Translation) (t : Tree) (names : ℕ) → HasNames t names →
+    (p q : ℕ) (c d : Context) →
     Path (translation_of τ t names) (free p) c q d ↔ ((n : ℕ) × LeadsOut τ t p c q d n)
 
 -- and for each path there is a trail whose weight is the number of application nodes that the path crosses
 abbrev pub PathHasWeight : Type 0
-PathHasWeight = (τ : Translation) (t : Tree) (names : ℕ) → HasNames t names → (p q : ℕ) (c d : Context) →
+PathHasWeight = (τ : Translation) (t : Tree) (names : ℕ) → HasNames t names →
+    (p q : ℕ) (c d : Context) →
     (r : Path (translation_of τ t names) (free p) c q d) → LeadsOut τ t p c q d (applications r)
