@@ -9,8 +9,7 @@ use Rattle.ol_pool.specs.Looks.{part_at, new_part}
 use Rattle.ol_pool.specs.Owned.{OwnState, ReachState, reach_part, own_part, IsReach, new_reach, row_of, AreOpen, lends_one}
 use Rattle.ol_pool.specs.Handed.{deques_of, pool_of, new_hand, IsHand}
 use Rattle.ol_pool.specs.Pools.{DequeId, PoolState, HandState, IsHandOf, IsNewHand, AreDealt}
-use Rattle.std.proofs.Math.Option.{some-injective}
-use Rattle.ol_pool.proofs.Places.{all_at, map_long}
+use Rattle.ol_pool.proofs.Places.{same_some, all_at, map_long}
 
 pub long_snoc : {X : Type 0} (xs : List X) (x : X) → length (xs ++ x ∷ []) ≡ length xs + 1
 long_snoc [] x = refl
@@ -29,7 +28,7 @@ done_at f (suc k) (x ∷ xs) = done_at f k xs
 
 pub done_more : {X : Type 0} (f : X → X) (k : ℕ) (xs : List X) (x : X) → slice_get xs k ≡ Some x → slice_set (done f k xs) k (f x) ≡ done f (suc k) xs
 done_more f zero [] x at = absurd (cc)
-done_more f zero (y ∷ xs) x at = ap (λ z. f z ∷ xs) (sym (some-injective y x at))
+done_more f zero (y ∷ xs) x at = ap (λ z. f z ∷ xs) (sym (same_some y x at))
 done_more f (suc k) [] x at = absurd (cc)
 done_more f (suc k) (y ∷ xs) x at = ap (λ l. f y ∷ l) (done_more f k xs x at)
 
@@ -52,7 +51,7 @@ firsts g (suc k) (x ∷ xs) = g x ∷ firsts g k xs
 
 pub firsts_more : {X Y : Type 0} (g : X → Y) (k : ℕ) (xs : List X) (x : X) → slice_get xs k ≡ Some x → firsts g k xs ++ g x ∷ [] ≡ firsts g (suc k) xs
 firsts_more g zero [] x at = absurd (cc)
-firsts_more g zero (y ∷ xs) x at = ap (λ z. g z ∷ []) (sym (some-injective y x at))
+firsts_more g zero (y ∷ xs) x at = ap (λ z. g z ∷ []) (sym (same_some y x at))
 firsts_more g (suc k) [] x at = absurd (cc)
 firsts_more g (suc k) (y ∷ xs) x at = ap (λ l. g y ∷ l) (firsts_more g k xs x at)
 
@@ -126,7 +125,7 @@ get_between (y ∷ xs) ys x = get_between xs ys x
 
 get_mapped : (xs : List OwnState) (i : ℕ) (x : OwnState) → slice_get xs i ≡ Some x → slice_get (map (λ (own : OwnState). own.deque) xs) i ≡ Some x.deque
 get_mapped [] i x at = absurd (cc)
-get_mapped (y ∷ xs) zero x at = ap (λ (z : OwnState). Some z.deque) (some-injective y x at)
+get_mapped (y ∷ xs) zero x at = ap (λ (z : OwnState). Some z.deque) (same_some y x at)
 get_mapped (y ∷ xs) (suc i) x at = get_mapped xs i x at
 
 pub hand_is : (pool : PoolState) (all owns rest : List OwnState) (own : OwnState) → all ≡ owns ++ own ∷ rest → AreOpen pool pool.hands all
@@ -176,7 +175,7 @@ each_dealt pool j [] all long k h at = absurd (cc)
 each_dealt pool j (own ∷ owns) all long zero h at =
     let e : j ≡ j + 0 = omega arith in
     subst (λ n. IsNewHand pool n h) e
-    (subst (IsNewHand pool j) (some-injective _ h at) (new_hand_is pool j own (All-head (λ (own : OwnState). own.log ≡ log pool.cells (128 - pool.hands) [] []) own owns all) long))
+    (subst (IsNewHand pool j) (same_some _ h at) (new_hand_is pool j own (All-head (λ (own : OwnState). own.log ≡ log pool.cells (128 - pool.hands) [] []) own owns all) long))
 each_dealt pool j (own ∷ owns) all long (suc k) h at =
     let e : suc j + k ≡ j + suc k = omega arith in
     subst (λ n. IsNewHand pool n h) e (each_dealt pool (suc j) owns (All-tail (λ (own : OwnState). own.log ≡ log pool.cells (128 - pool.hands) [] []) own owns all) long k h at)
