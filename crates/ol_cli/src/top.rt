@@ -337,17 +337,17 @@ fn answer_job<R: Threads + Wait + Sync, S: Source, G: Gate + Sync>(
             k,
         } => answer_made(rt, alloc, *translation, *run, *k, gate),
         Job::Net {
-            from_term: true,
-            name,
-            ..
-        } => answer_file(rt, alloc, job, name.as_str(), src, gate),
-        Job::Net {
-            from_term: false,
+            from_term,
             workers,
             fuel,
             name,
             ..
-        } => answer_net(rt, alloc, name.as_str(), *workers, *fuel, src, gate),
+        } => {
+            if *from_term {
+                return answer_file(rt, alloc, job, name.as_str(), src, gate);
+            }
+            answer_net(rt, alloc, name.as_str(), *workers, *fuel, src, gate)
+        }
         Job::Equal {
             translation,
             workers,

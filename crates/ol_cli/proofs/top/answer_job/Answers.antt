@@ -46,29 +46,8 @@ answer_check-requires-clause-term g c = rw c.as_str-in-Check.ensures (c.requires
 pub answer_check-requires-clause-journal : goal.answer_check-requires-clause-journal
 answer_check-requires-clause-journal g c = rw c.as_str-in-Check-2.ensures (c.requires.known 1 c.in-Check.journal (rw c.in-Check.is refl))
 
-pub answer_file-requires-in-Net-default-true-default-default-default-clause-known : goal.answer_file-requires-in-Net-default-true-default-default-default-clause-known
-answer_file-requires-in-Net-default-true-default-default-default-clause-known g c = λ κs alive.
-    let v = c.in-Net-default-true-default-default-default in
-    rw c.as_str-in-Net-default-true-default-default-default.ensures (c.requires.known 0 v.name (rw v.is refl))
-
-pub answer_net-requires-clause-known : goal.answer_net-requires-clause-known
-answer_net-requires-clause-known g c = λ κs alive.
-    let v = c.in-Net-default-false-default-default-default in
-    rw c.as_str-in-Net-default-false-default-default-default.ensures (c.requires.known 0 v.name (rw v.is refl))
-
 pub answer_equal-requires-clause-first : goal.answer_equal-requires-clause-first
 answer_equal-requires-clause-first g c = λ κs alive. rw c.as_str-in-Equal.ensures (c.requires.known 0 c.in-Equal.first (rw c.in-Equal.is refl))
 
 pub answer_equal-requires-clause-second : goal.answer_equal-requires-clause-second
 answer_equal-requires-clause-second g c = λ κs alive. rw c.as_str-in-Equal-2.ensures (c.requires.known 1 c.in-Equal.second (rw c.in-Equal.is refl))
-
-pub returns-in-Net-default-true-default-default-default-clause-caused : goal.returns-in-Net-default-true-default-default-default-clause-caused
-returns-in-Net-default-true-default-default-default-clause-caused g c =
-    let v = c.in-Net-default-true-default-default-default in
-    IfOk-weaker c.answer_file-in-Net-default-true-default-default-default.result _ _ (λ a h. by_file (rw (v.is, ← v.from_term-is) tt) h) c.answer_file-in-Net-default-true-default-default-default.ensures.caused
-
-pub returns-in-Net-default-false-default-default-default-clause-caused : goal.returns-in-Net-default-false-default-default-default-clause-caused
-returns-in-Net-default-false-default-default-default-clause-caused g c =
-    let v = c.in-Net-default-false-default-default-default in
-    let caused = rw c.as_str-in-Net-default-false-default-default-default.ensures at c.answer_net.ensures.caused in
-    rw (v.is, ← v.from_term-is) (IfOk-weaker c.answer_net.result _ _ (λ a h. by_net_file h) caused)
