@@ -1,7 +1,7 @@
 //! Lists of names, the names of binders, and printed terms.
 
 ghost use Rattle.std.specs.Prelude.{◌≡◌, ◌<◌, ◌≤◌, ◌^◌, true, length, IfOk};
-ghost use Rattle.ol_term.specs.Trees.{tree_of, var, free, lam, app, is_below, is_named_below, term_size, depth};
+ghost use Rattle.ol_term.specs.Trees.{tree_of, var, lam, app, term_size, depth};
 
 use ol_parse::parse;
 use ol_term::{BinderNames, Made, Names, Term, alpha_eq, depth, make, print_term, size};
