@@ -1,4 +1,4 @@
-//! Tests of the command line and of whole jobs.
+//! Tests of whole jobs.
 //!
 //! They stand apart from what they test, so that their proof does not prove that again.
 #![tactic(auto)]
@@ -9,10 +9,6 @@ mod commands;
 mod fakes;
 #[cfg(test)]
 mod faults;
-#[cfg(test)]
-mod jobs;
-#[cfg(test)]
-mod orders;
 #[cfg(test)]
 mod runs;
 #[cfg(test)]

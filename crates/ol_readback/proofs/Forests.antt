@@ -1,5 +1,5 @@
 -- A tree that is read back is whole.
-use Rattle.std.proofs.Common.{◌≡◌, ℕ, zero, suc, ◌+◌, ◌<◌, inl, inr, List, [], ◌∷◌, ◌++◌, length, map, replicate, true, false, Option, Some, None, refl, sym, ap, ◌∙◌, subst, arith, append_assoc, length-append}
+use Rattle.std.proofs.Common.{◌≡◌, ℕ, zero, suc, ◌+◌, ◌<◌, inl, inr, List, [], ◌∷◌, ◌++◌, length, map, replicate, Bool, true, false, Option, Some, None, refl, sym, ap, ◌∙◌, subst, arith, append_assoc, length-append}
 use Rattle.std.proofs.lemmas.List.{append-nil, get_or_append_left, get_or_push, length_push}
 use Rattle.ol_net.specs.Nets.{NamedNet}
 use Rattle.ol_context.specs.Contexts.{Level, Context}
@@ -7,6 +7,10 @@ use Rattle.ol_readback.specs.Frames.{Frame, frame_at, root}
 use Rattle.ol_readback.specs.Matching.{Matches, here, above, name}
 use Rattle.ol_readback.specs.Heads.{head, matched, IsHeadWithin, leaves}
 use Rattle.ol_readback.specs.ReadTrees.{Subterm, framed, port_of, arguments, ReadsBack, end, past, spent, lost, found, IsTree}
+use Rattle.ol_readback.specs.Heads.{IsHead}
+use Rattle.ol_readback.specs.Heads as heads
+use Rattle.ol_readback.specs.Sources.{HaveHeadsOf, HasHeadsOf}
+use Rattle.ol_readback.specs.Sources as sources
 use Rattle.ol_readback.specs.Whole.{Part, term, cut, none, more, count, preorder, IsInScope, IsBound, IsWholeTree}
 use Rattle.ol_readback.specs.Whole as whole
 use Rattle.ol_readback.specs.declared.answers.HeadVar.{HeadVar}
@@ -49,6 +53,10 @@ in_scope (name n e b o) ss s = tt
 
 pub matches_head : {A : Type 0} {N : NamedNet A} {F : List Frame} {i e n k : ℕ} {v : HeadVar} {ls : List Level} → IsHeadWithin N F i e (head n v k ls) → (q : ℕ) × (X : Context) × Matches F q X i n v k ls
 matches_head (leaves {q = q} {X = X} b h w (matched m)) = (q, X, m)
+
+-- by paths alone
+pub matches_found : {A : Type 0} {N : NamedNet A} {F : List Frame} {i n k : ℕ} {v : HeadVar} {ls : List Level} → IsHead N F i (head n v k ls) → (q : ℕ) × (X : Context) × Matches F q X i n v k ls
+matches_found (heads.leaves {q = q} {X = X} h w (matched m)) = (q, X, m)
 
 -- subterms one after another, each in its scope, from place i on
 pub data Forest : ℕ → List (List (ℕ × ℕ)) → List ReadNode → Type 0 where
@@ -107,6 +115,38 @@ cuts i (s ∷ ss) F (c ∷ cs) h = tree cut tt (cuts (i + 1) ss F cs h.1)
 cuts i [] F (c ∷ cs) h = absurd h
 cuts i (s ∷ ss) F [] h = absurd h
 
+-- a head, and after it the trees of its arguments
+head_found : {ns : List ReadNode} {q : ℕ} {X : Context} (ss : List Subterm) (F : List Frame) (s : Subterm) (n k : ℕ) (v : HeadVar) (ls : List Level) (c : List (ℕ × ℕ)) (cs : List (List (ℕ × ℕ))) → AllScoped F (s ∷ ss) (c ∷ cs) →
+    Matches (F ++ framed s 0 ∷ []) q X (length F) n v k ls →
+    ((ds : List (List (ℕ × ℕ))) → AllScoped (F ++ framed s n ∷ []) (arguments (length F) (port_of (F ++ framed s n ∷ []) v) ls 0 k ++ ss) ds → Forest (length (F ++ framed s n ∷ [])) ds ns) →
+    Forest (length F) (c ∷ cs) (node.Head n v k ∷ ns)
+head_found {ns = ns} ss F s n k v ls c cs h m later = go (halves k (later (replicate k ((length F, n) ∷ c) ++ cs) scoped))
+  where
+    scoped : AllScoped (F ++ framed s n ∷ []) (arguments (length F) (port_of (F ++ framed s n ∷ []) v) ls 0 k ++ ss) (replicate k ((length F, n) ∷ c) ++ cs)
+    scoped =
+        let l = length_push F (framed s n) in
+        let z = frame_last F (framed s n) in
+        let up = scope_grows F (framed s n) s.parent c h.0 in
+        arguments_scoped (F ++ framed s n ∷ []) (length F) (port_of (F ++ framed s n ∷ []) v) ls 0 k ss ((length F, n) ∷ c) cs
+        (subst (λ (m : ℕ). ScopeOf (F ++ framed s n ∷ []) (Some (length F)) ((length F, m) ∷ c)) (ap (λ (f : Frame). f.lams) z)
+        (inner (omega arith) (subst (λ (o : Option ℕ). ScopeOf (F ++ framed s n ∷ []) o c) (ap (λ (f : Frame). f.parent) (sym z)) up)))
+        (scopes_grow F (framed s n) ss cs h.1)
+
+    bound : IsInScope ((length F, n) ∷ c) v
+    bound =
+        let z = frame_last F (framed s 0) in
+        in_scope m c (subst (λ (o : Option ℕ). ScopeOf (F ++ framed s 0 ∷ []) o c) (ap (λ (f : Frame). f.parent) (sym z)) (scope_grows F (framed s 0) s.parent c h.0))
+
+    go : Halves (length (F ++ framed s n ∷ [])) k ((length F, n) ∷ c) cs ns → Forest (length F) (c ∷ cs) (node.Head n v k ∷ ns)
+    go t =
+        let l = length_push F (framed s n) in
+        let p : length (F ++ framed s n ∷ []) ≡ suc (length F) = omega arith in
+        let b = subst (λ (i : ℕ). IsBound ((length F, n) ∷ c) i t.first) p t.bound in
+        let q : length (F ++ framed s n ∷ []) + length (preorder t.first) ≡ length F + suc (length (preorder t.first)) = omega arith in
+        let g = subst (λ (i : ℕ). Forest i cs t.rest) q t.forest in
+        subst (λ (ms : List ReadNode). Forest (length F) (c ∷ cs) (node.Head n v k ∷ ms)) t.listed
+        (subst (λ (k : ℕ). Forest (length F) (c ∷ cs) (node.Head n v k ∷ (preorder t.first ++ t.rest))) t.many (tree (term n v t.first) (bound, b) g))
+
 module _ {A : Type 0} {N : NamedNet A} {heads e : ℕ} where
   forest_of : {F : List Frame} {ss : List Subterm} {ns : List ReadNode} → ReadsBack N heads e F ss ns → (cs : List (List (ℕ × ℕ))) → AllScoped F ss cs → Forest (length F) cs ns
   forest_of end [] h = bare
@@ -117,36 +157,25 @@ module _ {A : Type 0} {N : NamedNet A} {heads e : ℕ} where
   forest_of (lost {frames = F} {s = s} {ss = ss} b x r) [] h = absurd h
   forest_of (lost {frames = F} {s = s} {ss = ss} b x r) (c ∷ cs) h = one F (framed s 0) whole.lost node.NoHead refl tt refl (forest_of r cs (scopes_grow F (framed s 0) ss cs h.1))
   forest_of (found b x r) [] h = absurd h
-  forest_of (found {frames = F} {s = s} {ss = ss} {ns = ns} {n = n} {k = k} {v = v} {ls = ls} b x r) (c ∷ cs) h = go (halves k (forest_of r (replicate k ((length F, n) ∷ c) ++ cs) scoped))
-    where
-      scoped : AllScoped (F ++ framed s n ∷ []) (arguments (length F) (port_of (F ++ framed s n ∷ []) v) ls 0 k ++ ss) (replicate k ((length F, n) ∷ c) ++ cs)
-      scoped =
-          let l = length_push F (framed s n) in
-          let z = frame_last F (framed s n) in
-          let up = scope_grows F (framed s n) s.parent c h.0 in
-          arguments_scoped (F ++ framed s n ∷ []) (length F) (port_of (F ++ framed s n ∷ []) v) ls 0 k ss ((length F, n) ∷ c) cs
-          (subst (λ (m : ℕ). ScopeOf (F ++ framed s n ∷ []) (Some (length F)) ((length F, m) ∷ c)) (ap (λ (f : Frame). f.lams) z)
-          (inner (omega arith) (subst (λ (o : Option ℕ). ScopeOf (F ++ framed s n ∷ []) o c) (ap (λ (f : Frame). f.parent) (sym z)) up)))
-          (scopes_grow F (framed s n) ss cs h.1)
+  forest_of (found {frames = F} {s = s} {ss = ss} {n = n} {k = k} {v = v} {ls = ls} b x r) (c ∷ cs) h = head_found ss F s n k v ls c cs h (let m = matches_head x in m.2) (λ ds g. forest_of r ds g)
 
-      bound : IsInScope ((length F, n) ∷ c) v
-      bound =
-          let m = matches_head x in
-          let z = frame_last F (framed s 0) in
-          in_scope m.2 c (subst (λ (o : Option ℕ). ScopeOf (F ++ framed s 0 ∷ []) o c) (ap (λ (f : Frame). f.parent) (sym z)) (scope_grows F (framed s 0) s.parent c h.0))
-
-      go : Halves (length (F ++ framed s n ∷ [])) k ((length F, n) ∷ c) cs ns → Forest (length F) (c ∷ cs) (node.Head n v k ∷ ns)
-      go t =
-          let l = length_push F (framed s n) in
-          let p : length (F ++ framed s n ∷ []) ≡ suc (length F) = omega arith in
-          let b = subst (λ (i : ℕ). IsBound ((length F, n) ∷ c) i t.first) p t.bound in
-          let q : length (F ++ framed s n ∷ []) + length (preorder t.first) ≡ length F + suc (length (preorder t.first)) = omega arith in
-          let g = subst (λ (i : ℕ). Forest i cs t.rest) q t.forest in
-          subst (λ (ms : List ReadNode). Forest (length F) (c ∷ cs) (node.Head n v k ∷ ms)) t.listed
-          (subst (λ (k : ℕ). Forest (length F) (c ∷ cs) (node.Head n v k ∷ (preorder t.first ++ t.rest))) t.many (tree (term n v t.first) (bound, b) g))
+module _ {A : Type 0} {N : NamedNet A} {lost_too : Bool} where
+  forest_of_heads : {F : List Frame} {ss : List Subterm} {ns : List ReadNode} → HaveHeadsOf N lost_too F ss ns → (cs : List (List (ℕ × ℕ))) → AllScoped F ss cs → Forest (length F) cs ns
+  forest_of_heads sources.end [] h = bare
+  forest_of_heads sources.end (c ∷ cs) h = absurd h
+  forest_of_heads (sources.cut {frames = F} {s = s} {ss = ss} r) [] h = absurd h
+  forest_of_heads (sources.cut {frames = F} {s = s} {ss = ss} r) (c ∷ cs) h = one F (framed s 0) cut node.Cut refl tt refl (forest_of_heads r cs (scopes_grow F (framed s 0) ss cs h.1))
+  forest_of_heads (sources.lost {frames = F} {s = s} {ss = ss} x r) [] h = absurd h
+  forest_of_heads (sources.lost {frames = F} {s = s} {ss = ss} x r) (c ∷ cs) h = one F (framed s 0) whole.lost node.NoHead refl tt refl (forest_of_heads r cs (scopes_grow F (framed s 0) ss cs h.1))
+  forest_of_heads (sources.found x r) [] h = absurd h
+  forest_of_heads (sources.found {frames = F} {s = s} {ss = ss} {n = n} {k = k} {v = v} {ls = ls} x r) (c ∷ cs) h = head_found ss F s n k v ls c cs h (let m = matches_found x in m.2) (λ ds g. forest_of_heads r ds g)
 
 only : {ns : List ReadNode} → Forest 0 ([] ∷ []) ns → IsWholeTree ns
 only (tree t b bare) = record { tree = t; is_list = sym (append-nil (preorder t)); bound = b }
 
 pub tree_is_whole : {A : Type 0} (N : NamedNet A) (heads e : ℕ) (ns : List ReadNode) → IsTree N heads e ns → IsWholeTree ns
 tree_is_whole N heads e ns r = only (forest_of r ([] ∷ []) (outer, tt))
+
+-- so is a list whose heads are those of some net
+pub heads_are_whole : {A : Type 0} (N : NamedNet A) (lost_too : Bool) (ns : List ReadNode) → HasHeadsOf N lost_too ns → IsWholeTree ns
+heads_are_whole N lost_too ns r = only (forest_of_heads r ([] ∷ []) (outer, tt))

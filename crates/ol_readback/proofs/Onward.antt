@@ -38,15 +38,15 @@ pub record After (N : NamedNet ℕ) (heads edges free : ℕ) (vs : List Level) (
   pub placed : ArePlacedGroups free (length fs) gs
 
 module _ (N : NamedNet ℕ) (heads edges free : ℕ) where
-  pending_add : (vs : List Level) (gs : List Group) (g : Option Group) → pending_of vs (gs ++ option_to_list g) ≡ subterms_in vs g ++ pending_of vs gs
+  pub pending_add : (vs : List Level) (gs : List Group) (g : Option Group) → pending_of vs (gs ++ option_to_list g) ≡ subterms_in vs g ++ pending_of vs gs
   pending_add vs gs None = ap (pending_of vs) (append-nil gs)
   pending_add vs gs (Some g) = pending_push vs gs g
 
-  held_add : (vs : List Level) (gs : List Group) (g : Option Group) → AreHeldGroups vs gs → AreHeldIn vs g → AreHeldGroups vs (gs ++ option_to_list g)
+  pub held_add : (vs : List Level) (gs : List Group) (g : Option Group) → AreHeldGroups vs gs → AreHeldIn vs g → AreHeldGroups vs (gs ++ option_to_list g)
   held_add vs gs None h k = subst (λ (gs : List Group). AreHeldGroups vs gs) (sym (append-nil gs)) h
   held_add vs gs (Some g) h k = held_push vs gs g h k
 
-  placed_add : (count : ℕ) (gs : List Group) (g : Option Group) → ArePlacedGroups free count gs → ArePlacedIn free count g → ArePlacedGroups free count (gs ++ option_to_list g)
+  pub placed_add : (count : ℕ) (gs : List Group) (g : Option Group) → ArePlacedGroups free count gs → ArePlacedIn free count g → ArePlacedGroups free count (gs ++ option_to_list g)
   placed_add count gs None h k = subst (λ (gs : List Group). ArePlacedGroups free count gs) (sym (append-nil gs)) h
   placed_add count gs (Some g) h k = placed_push free count gs g h k
 

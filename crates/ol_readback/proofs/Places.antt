@@ -111,7 +111,7 @@ pub head_is : (N : NamedNet ℕ) (F : List Frame) (i j e : ℕ) (vs : List Level
 head_is N F i j e vs a b h q z = subst (λ (j : ℕ). IsHeadWithin N F j e (answer_of vs b)) z (subst (λ (a : Head). IsHeadWithin N F i e (answer_of vs a)) q h)
 
 -- the port doesn't depend on abstractions
-port_same : (F : List Frame) (s : Subterm) (m n : ℕ) (v : HeadVar) → port_of (F ++ framed s m ∷ []) v ≡ port_of (F ++ framed s n ∷ []) v
+pub port_same : (F : List Frame) (s : Subterm) (m n : ℕ) (v : HeadVar) → port_of (F ++ framed s m ∷ []) v ≡ port_of (F ++ framed s n ∷ []) v
 port_same F s m n (var.Free q) = refl
 port_same F s m n (var.Bound i j) = go F i
   where
@@ -123,10 +123,10 @@ port_same F s m n (var.Bound i j) = go F i
 
 module _ (N : NamedNet ℕ) (edges : ℕ) (free : ℕ) (vs ws : List Level) (fs : List code.Frame) (f : code.Frame) (h : IsFrameList free vs fs) (k : IsNextFrame free (length fs) vs f) (x : Extends vs ws) where
   -- the frames after it, read from the later holder
-  frames_after : (n : ℕ) → frames_of ws (fs ++ with_lams f n ∷ []) ≡ frames_of vs fs ++ framed (subterm_of vs f) n ∷ []
+  pub frames_after : (n : ℕ) → frames_of ws (fs ++ with_lams f n ∷ []) ≡ frames_of vs fs ++ framed (subterm_of vs f) n ∷ []
   frames_after n = frames_more vs ws (fs ++ with_lams f n ∷ []) x (list_push free vs fs f h k n).held ∙ frames_push vs fs (with_lams f n)
 
-  asked_frames : frames_of vs (fs ++ f ∷ []) ≡ frames_of vs fs ++ framed (subterm_of vs f) 0 ∷ []
+  pub asked_frames : frames_of vs (fs ++ f ∷ []) ≡ frames_of vs fs ++ framed (subterm_of vs f) 0 ∷ []
   asked_frames = ap (λ f. frames_of vs (fs ++ f ∷ [])) (sym (same_frame free vs fs f h k)) ∙ frames_push vs fs (with_lams f 0)
 
   at_last : (a : Answer) → IsHeadWithin N (frames_of vs (fs ++ f ∷ [])) (length fs) edges a → IsHeadWithin N (frames_of vs fs ++ framed (subterm_of vs f) 0 ∷ []) (length (frames_of vs fs)) edges a
@@ -134,7 +134,7 @@ module _ (N : NamedNet ℕ) (edges : ℕ) (free : ℕ) (vs ws : List Level) (fs 
       subst (λ (i : ℕ). IsHeadWithin N (frames_of vs fs ++ framed (subterm_of vs f) 0 ∷ []) i edges a) (sym (count_frames vs fs))
       (subst (λ (F : List Frame). IsHeadWithin N F (length fs) edges a) asked_frames y)
 
-  after_none : frames_of ws (fs ++ f ∷ []) ≡ frames_of vs fs ++ framed (subterm_of vs f) 0 ∷ []
+  pub after_none : frames_of ws (fs ++ f ∷ []) ≡ frames_of vs fs ++ framed (subterm_of vs f) 0 ∷ []
   after_none = ap (λ f. frames_of ws (fs ++ f ∷ [])) (sym (same_frame free vs fs f h k)) ∙ frames_after 0
 
   pub read_spent : (gs : List code.Frame) → gs ≡ fs ++ f ∷ [] → IsHeadWithin N (frames_of vs gs) (length fs) edges budget → IsRead N edges vs ws fs f gs node.Cut None

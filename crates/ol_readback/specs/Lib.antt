@@ -10,10 +10,11 @@ pub mod Asking
 pub mod Laws
 pub mod Terms
 pub mod PrintedLaws
--- What only contracts of private functions and proofs cite.
-pub mod Fitting
+-- What clauses of the functions rest on that read one place after another.
 pub mod Groups
 pub mod Reading
-pub mod Printing
 pub mod Skipping
+-- What only contracts of private functions and proofs cite.
+pub mod Fitting
+pub mod Printing
 pub mod Searches

@@ -1,4 +1,4 @@
--- Private: reading one place after another.
+-- Reading one place after another.
 use Rattle.std.specs.Prelude.{ℕ, ◌<◌, List, ◌∷◌, ◌++◌, length, map, Option}
 use Rattle.ol_net.specs.Nets.{NamedNet}
 use Rattle.ol_context.specs.Contexts.{Level}

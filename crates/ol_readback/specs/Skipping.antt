@@ -1,4 +1,4 @@
--- Private: frames that bind nothing are passed over.
+-- Frames that bind nothing are passed over.
 use Rattle.std.specs.Prelude.{◌≡◌, ℕ, List, [], ◌∷◌, ◌++◌, Option, Some, slice_get}
 use Rattle.ol_context.specs.Contexts.{Level}
 use Rattle.ol_readback.specs.Frames.{Frame, frame_at, frames_of, ParentsFirst}

@@ -11,12 +11,12 @@ mod answers;
 mod asking;
 mod fitting;
 mod frames;
-mod groups;
+pub mod groups;
 mod laws;
-mod leaving;
+pub mod leaving;
 mod levels;
 mod printing;
-mod reading;
+pub mod reading;
 mod skipping;
 mod tree;
 

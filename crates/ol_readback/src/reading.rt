@@ -28,8 +28,9 @@ use std::alloc::Global;
 use std::marker::Brand;
 use std::sync::ledger::Blank;
 
-// The port by which the walk of a head with this variable left.
-fn exit_port(frames: &Vec<Frame>, var: HeadVar) -> u32
+/// The port by which the walk of a head with this variable left, which is free or a binder of one
+/// of these frames.
+pub fn exit_port(frames: &Vec<Frame>, var: HeadVar) -> u32
     requires { IsKnown (length frames.now.items) var }
     ensures { (vs : List Level) → result ≡ port_of (frames_of vs frames.now.items) var }
 {
@@ -39,8 +40,9 @@ fn exit_port(frames: &Vec<Frame>, var: HeadVar) -> u32
     }
 }
 
-// Adds the frame, and to the skips the nearest frame round it that has abstractions.
-fn add_frame(
+/// Adds the frame, and to the skips the nearest frame round it that has abstractions. `NoMemory`: no
+/// memory was found.
+pub fn add_frame(
     frames: &mut Vec<Frame>,
     skips: &mut Vec<Option<u32>>,
     frame: Frame,
@@ -113,8 +115,9 @@ fn read_frame(
     }
 }
 
-// Adds a place. There are fewer than 4294967296.
-fn put(nodes: &mut Vec<ReadNode>, node: ReadNode) -> Result<(), NoMemory>
+/// Adds a place. There are fewer than 4294967296. `NoMemory`: no memory was found, or there would be
+/// more.
+pub fn put(nodes: &mut Vec<ReadNode>, node: ReadNode) -> Result<(), NoMemory>
     ensures last { OnOk result (nodes.new.items ≡ nodes.old.items ++ node ∷ []) }
     ensures few { OnOk result (length nodes.new.items < 2 ^ 32) }
 {
@@ -127,8 +130,8 @@ fn put(nodes: &mut Vec<ReadNode>, node: ReadNode) -> Result<(), NoMemory>
     Ok(())
 }
 
-// Adds the group, if there is one.
-fn add(pending: &mut Vec<Group>, group: Option<Group>) -> Result<(), NoMemory>
+/// Adds the group, if there is one. `NoMemory`: no memory was found.
+pub fn add(pending: &mut Vec<Group>, group: Option<Group>) -> Result<(), NoMemory>
     ensures { OnOk result (pending.new.items ≡ pending.old.items ++ option_to_list group) }
 {
     match group {
@@ -154,8 +157,9 @@ fn cut(nodes: &mut Vec<ReadNode>, count: u32) -> Result<(), NoMemory>
     Ok(())
 }
 
-// Cuts all arguments that are left.
-fn cut_all(nodes: &mut Vec<ReadNode>, pending: &mut Vec<Group>) -> Result<(), NoMemory>
+/// Cuts all arguments that are left. `NoMemory`: no memory was found, or there would be too many
+/// places.
+pub fn cut_all(nodes: &mut Vec<ReadNode>, pending: &mut Vec<Group>) -> Result<(), NoMemory>
     requires { length nodes.old.items < 2 ^ 32 }
     ensures cut { OnOk result
         ((vs : List Level) → nodes.new.items ≡ nodes.old.items ++ cuts_of vs pending.old.items) }

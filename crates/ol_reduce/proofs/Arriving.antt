@@ -27,7 +27,7 @@ use Rattle.ol_reduce.proofs.Bounded.{events_few}
 abbrev pub Told : ClosedTable → Type 0
 Told w = (net : NamedNet NodeName) × IsAfter w net × WordsStandFor w net (is_reached_in w)
 
-pub small_of : (w : ClosedTable) → Told w → table_size w.plan.parts ≤ 100000000
+pub small_of : (w : ClosedTable) → Told w → table_size w.plan.parts ≤ 400000000
 small_of w t = omega (arith, t.2.small.free, t.2.small.nodes, t.2.small.wires, t.2.small.cells, t.2.small.fuel)
 
 -- a cell that isn't in use is behind the words in use
@@ -55,7 +55,7 @@ module _ (w : ClosedTable) (places numbers : List ℕ) (left_are : AreLeft w (ra
       let p = place_before z t.0 z.fuel (wider z t.0 (events_in z w.words) z.fuel (events_few z w.words) t.1) in
       omega (arith, t.3, p.1, small_of w told)
 
-  pub table_long : (kinds : List (Kind × ℕ)) (partners : List ℕ) → IsPartly w places kinds partners → (length kinds ≡ length places) × (length partners ≡ z.free + 3 * length places) × (length partners < 100000000)
+  pub table_long : (kinds : List (Kind × ℕ)) (partners : List ℕ) → IsPartly w places kinds partners → (length kinds ≡ length places) × (length partners ≡ z.free + 3 * length places) × (length partners < 400000000)
   table_long kinds partners h =
       let k = h told.0 (is_reached_in w) told.2 in
       (k.kinds_long, k.partners_long, omega (arith, k.partners_long, left_are.few, told.2.small.free, told.2.small.nodes, told.2.small.fuel, events_few z w.words))

@@ -13,7 +13,7 @@ use Rattle.ol_wire.specs.Standing.{WordsStandFor}
 use Rattle.ol_reduce.specs.Following.{LeadsTo, IsStart, IsFirst, EndsAt, value_after, IsPassed, IsValueAfter}
 use Rattle.ol_reduce.proofs.Bounded.{along, few, led_ref, led_wire, Names, a_port, a_wire, no_wire_below}
 
-small_size : (z : Parts) → IsSmall z → table_size z ≤ 100000000
+small_size : (z : Parts) → IsSmall z → table_size z ≤ 400000000
 small_size z s = omega (arith, s.free, s.nodes, s.wires, s.cells, s.fuel)
 
 -- what isn't the reference of a node is that of a wire

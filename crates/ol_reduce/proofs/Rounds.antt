@@ -28,7 +28,7 @@ module _ (w : ClosedTable) (places numbers : List ℕ) (left_are : AreLeft w (ra
   pub slot_within : (j c at : ℕ) → j < length places → c < 2 → at ≡ slice_index places j + c → at < table_size z
   slot_within j c at lt small q = omega (arith, q, field_within w places numbers left_are told.0 (is_reached_in w) told.2 j c lt small)
 
-  pub slot_below : (j c at : ℕ) → j < length places → c < 2 → at ≡ slice_index places j + c → at < 100000000
+  pub slot_below : (j c at : ℕ) → j < length places → c < 2 → at ≡ slice_index places j + c → at < 400000000
   slot_below j c at lt small q = omega (arith, slot_within j c at lt small q, small_of w told)
 
   -- slot 0 owns no word

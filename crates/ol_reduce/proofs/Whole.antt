@@ -31,7 +31,7 @@ fresh_partly w places kinds partners k p alone N reached s = record {
 
 module _ (w : ClosedTable) (places numbers : List ℕ) (left_are : AreLeft w (ranks_in w) places numbers) (told : Told w) (kinds : List (Kind × ℕ)) (partners : List ℕ)
     (whole : IsPartly w places kinds partners) (cells : AreCelledTo w places partners (cells_of w.plan.parts)) (walked : (met : List ℕ) × AreMetTo w places partners met (length partners)) (free : ℕ) (same : free ≡ w.plan.parts.free) where
-  pub few : (length kinds ≤ 10000000) × (length partners < 100000000)
+  pub few : (length kinds ≤ 40000000) × (length partners < 400000000)
   few =
       let t = table_long w places numbers left_are told kinds partners whole in
       (omega (arith, t.0, left_are.few, told.2.small.nodes, told.2.small.fuel, events_few w.plan.parts w.words), t.2)

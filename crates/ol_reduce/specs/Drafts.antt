@@ -38,7 +38,7 @@ StayWithin partners = (k : ℕ) → k < length partners → other partners k < l
 
 -- as many nodes and places as `build` takes
 abbrev pub AreFew : List (Kind × ℕ) → List ℕ → Type 0
-AreFew kinds partners = (length kinds ≤ 10000000) × (length partners < 100000000)
+AreFew kinds partners = (length kinds ≤ 40000000) × (length partners < 400000000)
 
 -- the net has these nodes and links
 abbrev pub IsBuilt : ℕ → List (Kind × ℕ) → List ℕ → Graph → Type 0

@@ -26,7 +26,7 @@ pub(crate) struct Draft {
 
 // The port at a place.
 fn port_at(free: u32, place: usize) -> Port
-    requires { place < 100000000 }
+    requires { place < 400000000 }
     ensures { result ≡ port_at free place }
 {
     if place < free as usize {
@@ -104,7 +104,7 @@ impl Draft {
 
     // Each link once, from the lower place.
     fn links(&self, alloc: Global) -> Result<Vec<(Port, Port)>, NoMemory>
-        requires few { length self.now.partners.items < 100000000 }
+        requires few { length self.now.partners.items < 400000000 }
         requires within { StayWithin self.now.partners.items }
         ensures { IfOk result (λ v. v.items ≡ all_links self.now.free self.now.partners.items) }
     {

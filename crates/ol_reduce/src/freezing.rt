@@ -112,7 +112,7 @@ fn link_cells(words: &Words, live: &Live, draft: &mut Draft)
 // each wire 1 more than the place of the port that came first, or 0.
 fn meet(draft: &mut Draft, met: &mut Vec<u32>, place: usize, wire: u32)
     requires wire { wire < length met.old.items }
-    requires place { (place < length draft.old.partners.items) × (place < 100000000) }
+    requires place { (place < length draft.old.partners.items) × (place < 400000000) }
     requires other { IsOtherIn draft.old met.old.items wire }
     ensures free { draft.new.free ≡ draft.old.free }
     ensures kinds { draft.new.kinds.items ≡ draft.old.kinds.items }

@@ -178,7 +178,7 @@ impl Live {
 
     // The next rank.
     fn add(&mut self, is_left: bool, place: u32) -> Result<(), NoMemory>
-        requires few { length self.old.places.items < 100000000 }
+        requires few { length self.old.places.items < 400000000 }
         ensures places { OnOk result (AddsPlace self.old is_left place self.new) }
         ensures numbers { OnOk result (AddsNumber self.old is_left self.new) }
     {
@@ -192,7 +192,7 @@ impl Live {
 
     /// How many there are.
     pub(crate) fn count(&self) -> u32
-        requires few { length self.now.places.items < 100000000 }
+        requires few { length self.now.places.items < 400000000 }
         ensures { result ≡ length self.now.places.items }
     {
         self.places.len() as u32

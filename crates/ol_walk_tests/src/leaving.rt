@@ -61,47 +61,25 @@ fn assert_left(
 /// `\x. f x`, asked for one abstraction, leaves by the port of f with levels `empty`, `o.empty`. No
 /// head: by port 0, which is no free name, with the context of one; by the port of f, and as a
 /// binder, where a level after the arguments' is not empty.
+///
+/// `let t = \f x. f (f x) in t t`, asked for two, leaves by the root with levels
+/// `*.<<empty,o.empty>,o.empty>`, `o.empty`: binder 1 with one argument. An exit with
+/// `o.*.<empty,empty>` is binder 2 of the root's frame, with no argument.
 #[test]
-fn leaves_by_a_name(rt: HostRuntime) -> Result<(), Fail> {
+fn leaves_by_a_name_and_as_a_binder(rt: HostRuntime) -> Result<(), Fail> {
+    let first = HeadVar::Bound { node: 0, binder: 1 };
+    let second = HeadVar::Bound { node: 0, binder: 2 };
     for (lams, port, signs, wanted) in [
         (1, 1, ["", "o", ""], Some((HeadVar::Free(1), 1))),
         (2, 0, ["", "o", ""], None),
         (2, 1, ["", "o", "*"], None),
         (2, 0, ["*", "o", "*"], None),
+        (2, 0, ["*pp", "o", ""], Some((first, 1))),
+        (2, 0, ["o*e", "", ""], Some((second, 0))),
     ] {
         let mut values = Values::new(rt.alloc());
         let context = begun(rt.alloc(), &mut values, signs)?;
         assert_left(&rt, rt.alloc(), &values, lams, port, &context, wanted)?;
     }
     Ok(())
-}
-
-/// `let t = \f x. f (f x) in t t`, asked for two, leaves by the root with levels
-/// `*.<<empty,o.empty>,o.empty>`, `o.empty`.
-#[test]
-fn leaves_by_a_nested_level(rt: HostRuntime) -> Result<(), Fail> {
-    let alloc = rt.alloc();
-    let mut values = Values::new(alloc);
-    let empty = values.empty();
-    let o = values.put_o(empty)?;
-    let inner = values.put_pair(empty, o)?;
-    let outer = values.put_pair(inner, o)?;
-    let star = values.put_star(outer)?;
-    let context = Context::of(vec![in alloc; star, o]?);
-    let binder = HeadVar::Bound { node: 0, binder: 1 };
-    assert_left(&rt, alloc, &values, 2, 0, &context, Some((binder, 1)))
-}
-
-/// An exit with `o.*.<empty,empty>` is binder 2 of the root's frame, with no argument.
-#[test]
-fn leaves_as_the_second_binder(rt: HostRuntime) -> Result<(), Fail> {
-    let alloc = rt.alloc();
-    let mut values = Values::new(alloc);
-    let empty = values.empty();
-    let both = values.put_pair(empty, empty)?;
-    let star = values.put_star(both)?;
-    let marked = values.put_o(star)?;
-    let context = Context::of(vec![in alloc; marked]?);
-    let binder = HeadVar::Bound { node: 0, binder: 2 };
-    assert_left(&rt, alloc, &values, 2, 0, &context, Some((binder, 0)))
 }

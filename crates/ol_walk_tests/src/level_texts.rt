@@ -58,19 +58,25 @@ fn spelled(alloc: Global, values: &Values, context: &Context) -> Result<String, 
     Ok(text)
 }
 
-/// A sign before a value: `*`, and else `o`.
+/// A value made of v, by a sign: `*.v`, `<v,empty>` by `e`, `<v,o.empty>` by `p`, and else `o.v`.
 fn put(values: &mut Values, sign: u8, v: Val) -> Result<Val, NoMemory>
     requires { IsHeld values.old v }
     ensures extends { Extends values.old values.new }
     ensures held { IfOk result (λ w. IsHeld values.new w) }
 {
-    if sign == b'*' {
-        return values.put_star(v);
+    let empty = values.empty();
+    match sign {
+        b'*' => values.put_star(v),
+        b'e' => values.put_pair(v, empty),
+        b'p' => {
+            let o = values.put_o(empty)?;
+            values.put_pair(v, o)
+        }
+        _ => values.put_o(v),
     }
-    values.put_o(v)
 }
 
-/// These signs before the empty value.
+/// What such signs make of the empty value, the last first.
 fn signed(values: &mut Values, signs: &str) -> Result<Val, NoMemory>
     ensures extends { Extends values.old values.new }
     ensures held { IfOk result (λ v. IsHeld values.new v) }

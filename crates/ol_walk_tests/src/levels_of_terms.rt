@@ -75,7 +75,8 @@ fn walks_leave_with_their_levels(rt: HostRuntime) -> Result<(), Fail> {
     assert_walks(&rt, rt.alloc(), Translation::One, &rows)
 }
 
-/// By translation 2 an argument that is a variable leaves with no pair, and walks are shorter.
+/// By translation 2 an argument that is a variable leaves with no pair, and walks are shorter; in
+/// `\x y. x y` the argument leaves by the binder nearest to it.
 #[test]
 fn walks_by_translation_2_leave_with_fewer_pairs(rt: HostRuntime) -> Result<(), Fail> {
     let nested = "81 to 0 with 0:*.<o.empty,o.empty> 1:o.empty";
@@ -93,6 +94,13 @@ fn walks_by_translation_2_leave_with_fewer_pairs(rt: HostRuntime) -> Result<(), 
         (NESTED, 0, ["oo", "", ""], 200, nested),
         (PAIR, 0, ["", "", ""], 200, "undefined at 19"),
         (PAIR, 0, ["o", "", ""], 200, "39 to 0 with 0:*.empty"),
+        (
+            "\\x y. x y",
+            0,
+            ["*", "*", ""],
+            200,
+            "5 to 0 with 0:o.*.empty",
+        ),
     ];
     assert_walks(&rt, rt.alloc(), Translation::Two, &rows)
 }

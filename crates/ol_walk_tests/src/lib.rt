@@ -20,6 +20,8 @@ mod level_texts;
 #[cfg(test)]
 mod levels_of_terms;
 #[cfg(test)]
+mod orders;
+#[cfg(test)]
 mod small_nets;
 #[cfg(test)]
 mod tables;

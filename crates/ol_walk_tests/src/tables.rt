@@ -62,14 +62,19 @@ fn assert_told_apart(
     signs: [&str; 3],
     wanted: [&str; 3],
 ) -> Result<(), Fail> {
-    let mut net = net_of_text(alloc, nets[0])?;
-    assert!(rt; walked(alloc, &net, 0, signs, 200)?.as_str() == wanted[0]);
-    assert!(rt; step_kept(&mut net, NodeId(0)).is_ok());
-    assert!(rt; walked(alloc, &net, 0, signs, 200)?.as_str() == wanted[1]);
-    let right = net_of_text(alloc, nets[1])?;
-    assert!(rt; walked(alloc, &right, 0, signs, 200)?.as_str() == wanted[1]);
-    let wrong = net_of_text(alloc, nets[2])?;
-    assert!(rt; walked(alloc, &wrong, 0, signs, 200)?.as_str() == wanted[2]);
+    for (text, is_stepped, wanted) in [
+        (nets[0], false, wanted[0]),
+        (nets[0], true, wanted[1]),
+        (nets[1], false, wanted[1]),
+        (nets[2], false, wanted[2]),
+    ] {
+        let mut net = net_of_text(alloc, text)?;
+        if is_stepped {
+            step_kept(&mut net, NodeId(0))?;
+        }
+        let answer = walked(alloc, &net, 0, signs, 200)?;
+        assert!(rt; answer.as_str() == wanted, "{answer}");
+    }
     Ok(())
 }
 

@@ -24,7 +24,8 @@ use Rattle.ol_words.specs.Once.{is_given_once, is_told_once, is_agreed, agreed_v
 use Rattle.ol_words.specs.Found.{job_by}
 use Rattle.ol_words.specs.Command.{app}
 use Rattle.std.proofs.lemmas.Bool.{cases_Bool}
-use Rattle.ol_words.proofs.Passing.{shape_with}
+use Rattle.ol_words.proofs.FixedRules.{shape_with}
+use Rattle.ol_words.proofs.AnyVerb.{rules_of}
 use Rattle.ol_words.proofs.Subcommands.{IsVerb, named_is}
 
 -- ---- words that aren't agreed have no job
@@ -87,7 +88,7 @@ pub record Read (words : List Text) (v : Verb) : Type 0 where
   pub taken : takes app words ≡ true
 
 line_reads : (v : Verb) (is : IsVerb v) (rest : List Text) (line : Option Line) → line_of (known_of v) rest ≡ line → option_map_or (is_told_once (options_of v) (length v.names)) line false ≡ true
-    → (option_and_then (job_on v) line ≡ job_by v (λ id. first_of id (rows_after is.rules [] rest))) × (level_passes (shape_with v.word is.rules) [] nothing_held rest false ≡ true)
+    → (option_and_then (job_on v) line ≡ job_by v (λ id. first_of id (rows_after (rules_of v) [] rest))) × (level_passes (shape_with v.word (rules_of v)) [] nothing_held rest false ≡ true)
 line_reads v is rest None line_is e = absurd (true≢false (sym e))
 line_reads v is rest (Some line) line_is e = is.reads rest line line_is e
 
@@ -104,7 +105,7 @@ read_behind program word rest v (Some x) named e = elim (cases_Bool (is_agreed x
       let same = the_verb x v (sym (ap (λ b. if b then Some x else None) agreed) ∙ e) in
       let reads = line_reads x is.0 rest (line_of (known_of x) rest) refl agreed in
       let read : Read (program ∷ word ∷ rest) x = record {
-        rows = rows_after is.0.rules [] rest;
+        rows = rows_after (rules_of x) [] rest;
         found = ap (λ w. subcommand_of app (program ∷ w ∷ rest)) is.1 ∙ is.0.rows program rest;
         job = ap (option_and_then (job_behind rest)) named ∙ reads.0;
         taken = ap (λ w. takes app (program ∷ w ∷ rest)) is.1 ∙ is.0.taken program rest reads.1;

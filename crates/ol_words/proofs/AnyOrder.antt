@@ -1,9 +1,10 @@
 -- What clap makes of the words behind a verb whose options, flags and names come in any order.
-use Rattle.std.proofs.Common.{ℕ, ◌≡◌, ◌∙◌, ◌+◌, ◌<◌, sym, ap, refl, arith, true, false, true≢false, Bool, ◌||◌, List, [], ◌∷◌, Option, Some, None, if◌then◌else◌, codes, inl, inr, ◌⊎◌, length, map, min, nat_eq, nat_lt, subst, suc, zero, ◌≤◌}
-use Rattle.std.specs.Prelude.{filter, option_and_then, slice_get}
+use Rattle.std.proofs.Common.{ℕ, ◌≡◌, ◌∙◌, ◌+◌, ◌<◌, sym, ap, refl, arith, true, false, true≢false, Bool, ◌||◌, List, [], ◌∷◌, Option, Some, None, if◌then◌else◌, codes, inl, inr, length, map, min, nat_eq, nat_lt, subst, suc, zero, ◌≤◌}
+use Rattle.std.specs.Prelude.{filter}
 use Rattle.std.specs.List.{list_all}
 use Rattle.std.specs.Option.{option_map_or}
 use Rattle.std.specs.Str.{bytes_eq}
+use Rattle.std.proofs.Math.Bool.{and-false}
 use Rattle.std.proofs.lemmas.Bool.{and_from, and_parts, cases_Bool, or_right}
 use Rattle.std.proofs.lemmas.Bool.Decides.{nat_tests}
 use Rattle.std.proofs.lemmas.Slice.Eq.{bytes_eq-Decides}
@@ -19,13 +20,9 @@ use Rattle.ol_words.specs.Jobs.{values_of}
 use Rattle.ol_words.specs.Once.{is_given_once, is_told_once}
 use Rattle.ol_words.specs.Found.{name_before, names_by}
 use Rattle.ol_words.specs.Command.{flag_rule, name_rule, option_rule}
-use Rattle.ol_words.proofs.Matched.{given_once}
-use Rattle.ol_words.proofs.Rows.{found_in, itself, set_fresh, set_other}
-use Rattle.ol_words.proofs.Fits.{lacks}
+use Rattle.ol_words.proofs.Rows.{first_same, found_in, itself, lacks, set_fresh, set_other}
 use Rattle.ol_words.proofs.Shapes.{Written, written_long}
-use Rattle.ol_words.proofs.Passing.{shape_with, few}
-use Rattle.ol_words.proofs.Walking.{and_false}
-use Rattle.ol_words.proofs.FixedRules.{Goes, goes_on, idle_at, met_waiting, other_plain, pass_end, pass_plain, pass_trailing, stays, step_end, step_plain, step_trailing}
+use Rattle.ol_words.proofs.FixedRules.{Goes, goes_on, idle_at, met_waiting, other_plain, pass_end, pass_plain, pass_trailing, shape_with, stays, step_end, step_plain, step_trailing}
 use Rattle.ol_words.proofs.Views.{View, view}
 use Rattle.ol_words.proofs.Views as views
 
@@ -97,6 +94,14 @@ differs_all known rules x is p [] a = tt
 differs_all known rules x is p (id ∷ ids) a = (option_differs known.options x id is a.2, differs_all known rules x is (p + 1) ids a.5)
 
 -- ---- the values of an option on a line
+
+pub few : (vs : List Text) → nat_lt (length vs) 2 ≡ true → length vs < 2
+few vs e = grind (arith, nat_tests)
+
+-- a value, if it is the only one or there is none
+abbrev pub given_once : List Text → Option Text
+given_once [] = None
+given_once (v ∷ more) = Some v
 
 met : (x v o : Text) (options : List (Text × Text)) → bytes_eq x o ≡ true → values_of o ((x, v) ∷ options) ≡ v ∷ values_of o options
 met x v o options same = ap (λ b. map (λ (g : Text × Text). g.1) (if b then (x, v) ∷ filter (λ (g : Text × Text). bytes_eq g.0 o) options else filter (λ (g : Text × Text). bytes_eq g.0 o) options)) same
@@ -243,9 +248,6 @@ pub record Stands (rules : List Rule) (vals : Values) (h : Held) : Type 0 where
 pub stands_first : (rules : List Rule) → Stands rules nothing_given nothing_held
 stands_first rules = record { settles = refl; value = λ o. refl; fresh = λ o none. refl }
 
-pub first_same : (id : Text) (a b : List Row) → found_in id a ≡ found_in id b → first_of id a ≡ first_of id b
-first_same id a b e = ap (λ (r : Option Row). option_and_then (λ (r : Row). slice_get r.values 0) r) e
-
 module _ (rules : List Rule) (vals : Values) (h h' : Held) (x v : Text) (how : Reading) (s : Stands rules vals h) (none : vals x ≡ None)
     (rows : (settled rules h').rows ≡ used_as Set x how (v ∷ []) (settled rules h).rows) (settles : settle_passes rules false h' ≡ true) where
   stands_more : Stands rules (given_to x v vals) h'
@@ -386,10 +388,10 @@ module _ (known : Known) (rules : List Rule) (verb : Text) (f : Finds known rule
 
     takes_name : (t : Bool) → to_positional rules (arg_by_index rules p) n (idle_at h p t) h ≡ idle_at held_name (p + 1) t
     takes_name false = ap (λ (r : Option Rule). to_positional rules r n (idle_at h p false) h) a.0
-        ∙ ap (λ b. idle_at (pushed id n (if b then h else settled rules h)) (min (p + 1) usize_max) false) (and_false (is_pending (name_at p id) h.pending))
+        ∙ ap (λ b. idle_at (pushed id n (if b then h else settled rules h)) (min (p + 1) usize_max) false) (and-false (is_pending (name_at p id) h.pending))
         ∙ ap (λ q. idle_at (pushed id n (settled rules h)) q false) a.4
     takes_name true = ap (λ (r : Option Rule). to_positional rules r n (idle_at h p true) h) a.0
-        ∙ ap (λ b. idle_at (pushed id n (if b then h else settled rules h)) (min (p + 1) usize_max) true) (and_false (is_pending (name_at p id) h.pending))
+        ∙ ap (λ b. idle_at (pushed id n (if b then h else settled rules h)) (min (p + 1) usize_max) true) (and-false (is_pending (name_at p id) h.pending))
         ∙ ap (λ q. idle_at (pushed id n (settled rules h)) q true) a.4
 
     name_passes : step_passes S p h value ≡ true
@@ -593,13 +595,6 @@ module _ (known : Known) (rules : List Rule) (verb : Text) (f : Finds known rule
         never v x = cc
 
 -- ---- what the words of a verb tell
-
--- the text is the first of these, or one of the others
-pub one_of : (x : Text) (os : List Text) (o : Text) → is_option (x ∷ os) o ≡ true → (x ≡ o) ⊎ (is_option os o ≡ true)
-one_of x os o e = elim (cases_Bool (bytes_eq x o)) [
-  | inl same ↦ inl ((bytes_eq-Decides x o).0 same)
-  | inr differs ↦ inr (sym (ap (λ b. b || is_option os o) differs) ∙ e)
-]
 
 pub names_told : (vals : Values) (ids names : List Text) → Named vals ids names → length names ≡ length ids → names ≡ names_by vals ids
 names_told vals [] [] n e = refl

@@ -5,15 +5,23 @@ use Rattle.std.specs.Option.{option_map_or}
 use Rattle.std.proofs.lemmas.Bool.{and_from, or_right}
 use Rattle.clap.specs.Lexer.{long_of}
 use Rattle.clap.specs.Walk.{Held, Rule, Step, Walk, after_step, arg_by_index, finished, first_of, idle, long_or_other, nothing_held, option, plain_word, rows_after, short_or_plain, to_positional, trailing, value, walk_from, walked, word_met}
-use Rattle.clap.specs.Simple.{Shape}
+use Rattle.clap.specs.Simple.{Shape, new_shape}
 use Rattle.clap.specs.Takes.{bundle_passes, default_passes, flag_word_passes, is_valid, level_passes, other_passes, settle_passes, step_passes, turn_passes, walk_passes}
 use Rattle.ol_words.specs.Texts.{Text}
 use Rattle.ol_words.specs.Lines.{Line, is_dashed}
 use Rattle.ol_words.specs.Jobs.{Verb, job_on}
 use Rattle.ol_words.specs.Found.{job_by}
-use Rattle.ol_words.proofs.Shapes.{plain_long, plain_short}
-use Rattle.ol_words.proofs.Walking.{not_end}
-use Rattle.ol_words.proofs.Passing.{shape_with}
+use Rattle.ol_words.proofs.Shapes.{not_end, plain_long, plain_short}
+
+-- a subcommand of the command line, as clap builds it
+abbrev pub shape_with : Text → List Rule → Shape
+shape_with word rules = record (new_shape word) {
+  rules = rules;
+  disable_help_flag = true;
+  disable_version_flag = true;
+  disable_help_subcommand = true;
+  is_built = true;
+}
 
 -- where the walk stands while no option waits
 abbrev pub idle_at : Held → ℕ → Bool → Walk

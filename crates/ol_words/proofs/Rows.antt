@@ -1,10 +1,10 @@
 -- The rows of what was found, by their ids.
 use Rattle.std.proofs.Common.{◌≡◌, ◌∙◌, sym, ap, refl, true, false, true≢false, List, [], ◌∷◌, Option, Some, None, if◌then◌else◌, inl, inr}
-use Rattle.std.specs.Prelude.{find, is_some}
+use Rattle.std.specs.Prelude.{find, is_some, option_and_then, slice_get}
 use Rattle.std.specs.Str.{bytes_eq}
 use Rattle.std.proofs.lemmas.Bool.{cases_Bool}
 use Rattle.std.proofs.lemmas.Slice.Eq.{bytes_eq-Decides}
-use Rattle.clap.specs.Walk.{Row, used_as, without, with_values, first_of}
+use Rattle.clap.specs.Walk.{Row, used_as, without, with_values, first_of, has_row}
 use Rattle.clap.specs.declared.parser.matches.ValueSource.{ValueSource}
 use Rattle.clap.specs.declared.parser.matches.ValueSource.TheVariants.{CommandLine}
 use Rattle.clap.specs.declared.builder.value_parser.Reading.{Reading}
@@ -63,3 +63,14 @@ set_fresh id how v (r ∷ rs) none = elim (cases_Bool (bytes_eq r.id id)) [
       let before = set_fresh id how v rs rest in
       rw differs (rw differs (rw differs before))
 ]
+
+-- what isn't found has no row
+pub lacks : (id : Text) (rows : List Row) → found_in id rows ≡ None → has_row id rows ≡ false
+lacks id [] e = refl
+lacks id (r ∷ rs) e = elim (cases_Bool (bytes_eq r.id id)) [
+  | inl same ↦ absurd (some_is r (sym (ap (λ b. if b then Some r else found_in id rs) same) ∙ e))
+  | inr differs ↦ rw differs (lacks id rs (sym (ap (λ b. if b then Some r else found_in id rs) differs) ∙ e))
+]
+
+pub first_same : (id : Text) (a b : List Row) → found_in id a ≡ found_in id b → first_of id a ≡ first_of id b
+first_same id a b e = ap (λ (r : Option Row). option_and_then (λ (r : Row). slice_get r.values 0) r) e

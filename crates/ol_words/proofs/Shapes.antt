@@ -1,6 +1,6 @@
 -- How clap sees the words.
-use Rattle.std.proofs.Common.{ℕ, suc, ◌≡◌, ◌∙◌, ◌+◌, ◌==◌, ◌&&◌, not, sym, ap, refl, arith, true, false, true≢false, List, [], ◌∷◌, Option, Some, None, if◌then◌else◌, inl, inr, ◌⊎◌, codes, length, nat_lt, lt-ltb, ap₂}
-use Rattle.std.specs.Prelude.{option_and_then, option_map, unwrap_or}
+use Rattle.std.proofs.Common.{ℕ, suc, ◌≡◌, ◌∙◌, ◌+◌, ◌==◌, ◌&&◌, not, sym, ap, refl, arith, true, false, true≢false, [], ◌∷◌, Option, Some, None, if◌then◌else◌, inl, inr, ◌⊎◌, codes, length, nat_lt, lt-ltb, ap₂}
+use Rattle.std.specs.Prelude.{option_and_then}
 use Rattle.std.proofs.lemmas.Bool.{cases_lt}
 use Rattle.std.proofs.lemmas.Bool.Decides.{nat_tests}
 use Rattle.std.specs.List.{position_or_len, before_first, after_first}
@@ -8,7 +8,7 @@ use Rattle.clap.specs.Lexer.{long_of, short_of, has_byte}
 use Rattle.ol_words.specs.Texts.{Text}
 use Rattle.ol_words.specs.Lines.{Known, is_dashed, is_end, is_option, is_equals, flag_alone, option_of, name_and_value, value_in}
 use Rattle.std.proofs.lemmas.Bool.{cases_Bool}
-use Rattle.ol_words.proofs.Options.{valued}
+use Rattle.std.proofs.lemmas.Slice.Eq.{bytes_eq-Decides}
 
 some_left : (rest : Text) → (suc (length rest) == 0) ≡ false
 some_left rest = grind (arith, nat_tests)
@@ -63,35 +63,8 @@ hyphens known x y text o value e = elim (cases_Bool (x == 45)) [
     nothing : ◌≡◌ {A = Option (Text × Option Text)} None (Some (o, value)) → ⊥
     nothing e = cc
 
-named : (os : List Text) (text o : Text) (value : Option Text) → name_and_value (valued os) text ≡ Some (o, value)
-    → (◌≡◌ {A = Option (Text × Option Text)} (Some (before_first is_equals text, value_in text)) (Some (o, value))) × (is_option os o ≡ true)
-named os text o value e = elim (cases_Bool (is_option os (before_first is_equals text))) [
-  | inl known ↦
-      let same : ◌≡◌ {A = Option (Text × Option Text)} (Some (before_first is_equals text, value_in text)) (Some (o, value)) =
-      sym (ap (λ b. if b then Some (before_first is_equals text, value_in text) else None) known) ∙ e in
-      let name : before_first is_equals text ≡ o = ap (λ p. unwrap_or (option_map (λ (q : Text × Option Text). q.0) p) []) same in
-      (same, ap (is_option os) (sym name) ∙ known)
-  | inr other ↦ absurd (nothing (sym (ap (λ b. if b then Some (before_first is_equals text, value_in text) else None) other) ∙ e))
-]
-  where
-    nothing : ◌≡◌ {A = Option (Text × Option Text)} None (Some (o, value)) → ⊥
-    nothing e = cc
-
 two_hyphens : (x y : ℕ) → (x == 45) ≡ true → (y == 45) ≡ true → is_end (x ∷ y ∷ []) ≡ true
 two_hyphens x y one two = rw one (rw two refl)
-
--- a word that writes out an option is a long flag with that name and value
-pub option_long : (os : List Text) (word o : Text) (value : Option Text) → is_end word ≡ false → option_of (valued os) word ≡ Some (o, value) → (long_of word ≡ Some (o, value)) × (is_option os o ≡ true)
-option_long os [] o value goes e = absurd (cc)
-option_long os (x ∷ []) o value goes e = absurd (cc)
-option_long os (x ∷ y ∷ []) o value goes e =
-    let parts = hyphens (valued os) x y [] o value e in
-    absurd (true≢false (sym (two_hyphens x y parts.0 parts.1) ∙ goes))
-option_long os (x ∷ y ∷ z ∷ zs) o value goes e =
-    let parts = hyphens (valued os) x y (z ∷ zs) o value e in
-    let is = named os (z ∷ zs) o value parts.2 in
-    let pair : long_of (x ∷ y ∷ z ∷ zs) ≡ Some (before_first is_equals (z ∷ zs), if has_byte 61 (z ∷ zs) then Some (after_first is_equals (z ∷ zs)) else None) = rw parts.0 (rw parts.1 refl) in
-    (pair ∙ ap (λ v. Some (before_first is_equals (z ∷ zs), v)) (value_same (z ∷ zs)) ∙ is.0, is.1)
 
 -- A word that writes out an option is a long flag with its name: a flag stands alone and has the value 1, any other option has the
 -- value that is attached.
@@ -151,3 +124,9 @@ written_long known (x ∷ y ∷ z ∷ zs) o value goes e =
     let parts = hyphens known x y (z ∷ zs) o value e in
     let pair : long_of (x ∷ y ∷ z ∷ zs) ≡ Some (before_first is_equals (z ∷ zs), if has_byte 61 (z ∷ zs) then Some (after_first is_equals (z ∷ zs)) else None) = rw parts.0 (rw parts.1 refl) in
     written_text known (x ∷ y ∷ z ∷ zs) (z ∷ zs) o value (pair ∙ ap (λ v. Some (before_first is_equals (z ∷ zs), v)) (value_same (z ∷ zs))) parts.2
+
+pub not_end : (word : Text) → is_dashed word ≡ false → is_end word ≡ false
+not_end word plain = elim (cases_Bool (is_end word)) [
+  | inl same ↦ let is : word ≡ codes "--" = (bytes_eq-Decides word (codes "--")).0 same in absurd (true≢false (sym (ap is_dashed is) ∙ plain))
+  | inr differs ↦ differs
+]

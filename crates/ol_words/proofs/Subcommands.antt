@@ -1,5 +1,5 @@
 -- The verbs, as clap is told of them.
-use Rattle.std.proofs.Common.{ℕ, ◌≡◌, ◌∙◌, ap, refl, true, false, List, [], ◌∷◌, ◌++◌, Option, Some, None, if◌then◌else◌, inl, inr, true≢false, sym, subst, fold, find}
+use Rattle.std.proofs.Common.{ℕ, ◌≡◌, ◌∙◌, ◌==◌, ap, append-nil, append_assoc, refl, true, false, List, [], ◌∷◌, ◌++◌, Option, Some, None, if◌then◌else◌, inl, inr, true≢false, sym, subst, fold, find}
 use Rattle.std.specs.Option.{option_map_or}
 use Rattle.std.specs.Prelude.{option_map, nat_eq, length}
 use Rattle.std.specs.Str.{bytes_eq}
@@ -10,18 +10,13 @@ use Rattle.clap.specs.Simple.{Shape, names_of, entered, label_of, rows_at}
 use Rattle.clap.specs.Words.{is_simple, built, subcommand_of, takes}
 use Rattle.ol_words.specs.Texts.{Text}
 use Rattle.ol_words.specs.Lines.{Line, line_of}
-use Rattle.ol_words.specs.Asked.{run, walk, view, trace}
-use Rattle.ol_words.specs.Jobs.{Verb, known_of, options_of, only, verb_named, translation_numbered, check_asks, gen_asks, run_asks, trace_asks, view_asks, walk_asks, check_verb, gen_verb, run_verb, trace_verb, view_verb, walk_verb}
+use Rattle.ol_words.specs.Asked.{run, walk, view, trace, certify, net}
+use Rattle.ol_words.specs.Jobs.{Verb, known_of, options_of, only, verb_named, translation_numbered, certify_asks, check_asks, equal_asks, gen_asks, net_asks, run_asks, trace_asks, view_asks, walk_asks, certify_verb, check_verb, equal_verb, gen_verb, net_verb, run_verb, trace_verb, view_verb, walk_verb}
 use Rattle.ol_words.specs.Once.{is_told_once}
 use Rattle.ol_words.specs.Command.{app}
 use Rattle.std.proofs.lemmas.Bool.{and_from, cases_Bool}
-use Rattle.ol_words.proofs.Options.{rules_for}
-use Rattle.ol_words.proofs.Matched.{left_to_it, held_before}
-use Rattle.ol_words.proofs.Passing.{shape_with}
-use Rattle.ol_words.proofs.FixedRules.{Reads}
-use Rattle.ol_words.proofs.FileVerbs.{file_reads}
-use Rattle.ol_words.proofs.TwoFiles.{check_rules, check_reads}
-use Rattle.ol_words.proofs.Flagged.{gen_rules, gen_reads}
+use Rattle.ol_words.proofs.FixedRules.{Reads, shape_with}
+use Rattle.ol_words.proofs.AnyVerb.{without_flags, rules_of, verb_reads}
 
 pub is_simple_app : is_simple app ≡ true
 is_simple_app = refl
@@ -30,14 +25,12 @@ is_simple_app = refl
 pub record IsVerb (v : Verb) : Type 0 where
   -- there is a job only for as many names as the verb has
   pub one : (ns : List ℕ) (names : List Text) → nat_eq (length names) (length v.names) ≡ false → v.asks ns names ≡ None
-  -- what clap is told of the words behind the verb
-  pub rules : List Rule
   -- clap leaves the words behind the verb to its subcommand
-  pub rows : (program : Text) (rest : List Text) → subcommand_of app (program ∷ v.word ∷ rest) ≡ Some (v.word, rows_after rules [] rest)
+  pub rows : (program : Text) (rest : List Text) → subcommand_of app (program ∷ v.word ∷ rest) ≡ Some (v.word, rows_after (rules_of v) [] rest)
   -- clap takes the words where the subcommand takes those behind the verb
-  pub taken : (program : Text) (rest : List Text) → level_passes (shape_with v.word rules) [] nothing_held rest false ≡ true → takes app (program ∷ v.word ∷ rest) ≡ true
+  pub taken : (program : Text) (rest : List Text) → level_passes (shape_with v.word (rules_of v)) [] nothing_held rest false ≡ true → takes app (program ∷ v.word ∷ rest) ≡ true
   -- clap finds in agreed words what they say
-  pub reads : (rest : List Text) (line : Line) → line_of (known_of v) rest ≡ Some line → is_told_once (options_of v) (length v.names) line ≡ true → Reads v rules rest line
+  pub reads : (rest : List Text) (line : Line) → line_of (known_of v) rest ≡ Some line → is_told_once (options_of v) (length v.names) line ≡ true → Reads v (rules_of v) rest line
 
 not_only : (names : List Text) → nat_eq (length names) 1 ≡ false → only names ≡ None
 not_only [] e = refl
@@ -88,6 +81,48 @@ gen_one (t ∷ r ∷ []) [] e = refl
 gen_one (t ∷ r ∷ []) (n ∷ []) e = absurd (true≢false e)
 gen_one (t ∷ r ∷ []) (n ∷ m ∷ names) e = refl
 
+certify_one : (ns : List ℕ) (names : List Text) → nat_eq (length names) 1 ≡ false → certify_asks ns names ≡ None
+certify_one [] names e = refl
+certify_one (t ∷ []) names e = refl
+certify_one (t ∷ s ∷ []) names e = refl
+certify_one (t ∷ s ∷ w ∷ []) names e = refl
+certify_one (t ∷ s ∷ w ∷ f ∷ []) names e = refl
+certify_one (t ∷ s ∷ w ∷ f ∷ h ∷ []) names e = ap (option_map (certify (translation_numbered t) s w f h)) (not_only names e)
+certify_one (t ∷ s ∷ w ∷ f ∷ h ∷ x ∷ xs) names e = refl
+
+net_one : (ns : List ℕ) (names : List Text) → nat_eq (length names) 1 ≡ false → net_asks ns names ≡ None
+net_one [] names e = refl
+net_one (t ∷ []) names e = refl
+net_one (t ∷ r ∷ []) names e = refl
+net_one (t ∷ r ∷ w ∷ []) names e = refl
+net_one (t ∷ r ∷ w ∷ f ∷ []) names e = ap (option_map (net (translation_numbered t) (r == 1) w f)) (not_only names e)
+net_one (t ∷ r ∷ w ∷ f ∷ x ∷ xs) names e = refl
+
+equal_two : (ns : List ℕ) (names : List Text) → nat_eq (length names) 2 ≡ false → equal_asks ns names ≡ None
+equal_two [] names e = refl
+equal_two (t ∷ []) names e = refl
+equal_two (t ∷ w ∷ []) names e = refl
+equal_two (t ∷ w ∷ f ∷ []) names e = refl
+equal_two (t ∷ w ∷ f ∷ h ∷ x ∷ xs) names e = refl
+equal_two (t ∷ w ∷ f ∷ h ∷ []) [] e = refl
+equal_two (t ∷ w ∷ f ∷ h ∷ []) (a ∷ []) e = refl
+equal_two (t ∷ w ∷ f ∷ h ∷ []) (a ∷ b ∷ []) e = absurd (true≢false e)
+equal_two (t ∷ w ∷ f ∷ h ∷ []) (a ∷ b ∷ c ∷ names) e = refl
+
+-- behind a subcommand the words are left to it
+left_to_it : (c : List Rule) (names : Names) (w : Walk) (name : Text) (seen words : List Text)
+    → (fold (walked c names) (record w { stopped = Some (name, seen) }) words).stopped ≡ Some (name, seen ++ words)
+unfolding walked
+left_to_it c names w name seen [] = ap (λ xs. Some (name, xs)) (sym (append-nil seen))
+left_to_it c names w name seen (x ∷ xs) = left_to_it c names w name (seen ++ x ∷ []) xs ∙ ap (λ ys. Some (name, ys)) (append_assoc seen (x ∷ []) xs)
+
+-- and what was held before stays
+held_before : (c : List Rule) (names : Names) (w : Walk) (name : Text) (seen words : List Text)
+    → (fold (walked c names) (record w { stopped = Some (name, seen) }) words).held ≡ w.held
+unfolding walked
+held_before c names w name seen [] = refl
+held_before c names w name seen (x ∷ xs) = held_before c names w name (seen ++ x ∷ []) xs
+
 top_shape : Shape
 top_shape = (built app).top
 
@@ -131,60 +166,81 @@ is_run : IsVerb run_verb
 unfolding walked top_shape
 is_run = record {
   one = run_one;
-  rules = rules_for (options_of run_verb);
-  rows = rows_behind run_verb.word (rules_for (options_of run_verb)) refl refl refl;
-  taken = taken_behind run_verb.word (rules_for (options_of run_verb)) refl refl refl;
-  reads = file_reads run_verb.word run_verb.settings run_asks refl;
+  rows = rows_behind run_verb.word (rules_of run_verb) refl refl refl;
+  taken = taken_behind run_verb.word (rules_of run_verb) refl refl refl;
+  reads = verb_reads run_verb (refl, refl, refl, tt, refl, tt) refl (without_flags run_verb.settings) (λ rows. refl);
 }
 
 is_walk : IsVerb walk_verb
 unfolding walked top_shape
 is_walk = record {
   one = walk_one;
-  rules = rules_for (options_of walk_verb);
-  rows = rows_behind walk_verb.word (rules_for (options_of walk_verb)) refl refl refl;
-  taken = taken_behind walk_verb.word (rules_for (options_of walk_verb)) refl refl refl;
-  reads = file_reads walk_verb.word walk_verb.settings walk_asks refl;
+  rows = rows_behind walk_verb.word (rules_of walk_verb) refl refl refl;
+  taken = taken_behind walk_verb.word (rules_of walk_verb) refl refl refl;
+  reads = verb_reads walk_verb (refl, refl, refl, tt, refl, tt) refl (without_flags walk_verb.settings) (λ rows. refl);
 }
 
 is_view : IsVerb view_verb
 unfolding walked top_shape
 is_view = record {
   one = view_one;
-  rules = rules_for (options_of view_verb);
-  rows = rows_behind view_verb.word (rules_for (options_of view_verb)) refl refl refl;
-  taken = taken_behind view_verb.word (rules_for (options_of view_verb)) refl refl refl;
-  reads = file_reads view_verb.word view_verb.settings view_asks refl;
+  rows = rows_behind view_verb.word (rules_of view_verb) refl refl refl;
+  taken = taken_behind view_verb.word (rules_of view_verb) refl refl refl;
+  reads = verb_reads view_verb (refl, refl, refl, tt, refl, tt) refl (without_flags view_verb.settings) (λ rows. refl);
 }
 
 is_trace : IsVerb trace_verb
 unfolding walked top_shape
 is_trace = record {
   one = trace_one;
-  rules = rules_for (options_of trace_verb);
-  rows = rows_behind trace_verb.word (rules_for (options_of trace_verb)) refl refl refl;
-  taken = taken_behind trace_verb.word (rules_for (options_of trace_verb)) refl refl refl;
-  reads = file_reads trace_verb.word trace_verb.settings trace_asks refl;
+  rows = rows_behind trace_verb.word (rules_of trace_verb) refl refl refl;
+  taken = taken_behind trace_verb.word (rules_of trace_verb) refl refl refl;
+  reads = verb_reads trace_verb (refl, refl, refl, tt, refl, tt) refl (without_flags trace_verb.settings) (λ rows. refl);
 }
 
 is_check : IsVerb check_verb
 unfolding walked top_shape
 is_check = record {
   one = check_two;
-  rules = check_rules;
-  rows = rows_behind check_verb.word check_rules refl refl refl;
-  taken = taken_behind check_verb.word check_rules refl refl refl;
-  reads = check_reads;
+  rows = rows_behind check_verb.word (rules_of check_verb) refl refl refl;
+  taken = taken_behind check_verb.word (rules_of check_verb) refl refl refl;
+  reads = verb_reads check_verb (refl, refl, refl, (refl, tt), refl, (refl, refl, refl, tt, refl, tt)) refl (without_flags check_verb.settings) (λ rows. refl);
 }
 
 is_gen : IsVerb gen_verb
 unfolding walked top_shape
 is_gen = record {
   one = gen_one;
-  rules = gen_rules;
-  rows = rows_behind gen_verb.word gen_rules refl refl refl;
-  taken = taken_behind gen_verb.word gen_rules refl refl refl;
-  reads = gen_reads;
+  rows = rows_behind gen_verb.word (rules_of gen_verb) refl refl refl;
+  taken = taken_behind gen_verb.word (rules_of gen_verb) refl refl refl;
+  reads = verb_reads gen_verb (refl, refl, refl, tt, refl, tt) refl (inl refl, (inr (refl, refl), tt)) (λ rows. refl);
+}
+
+is_certify : IsVerb certify_verb
+unfolding walked top_shape
+is_certify = record {
+  one = certify_one;
+  rows = rows_behind certify_verb.word (rules_of certify_verb) refl refl refl;
+  taken = taken_behind certify_verb.word (rules_of certify_verb) refl refl refl;
+  reads = verb_reads certify_verb (refl, refl, refl, tt, refl, tt) refl (without_flags certify_verb.settings) (λ rows. refl);
+}
+
+is_net : IsVerb net_verb
+unfolding walked top_shape
+is_net = record {
+  one = net_one;
+  rows = rows_behind net_verb.word (rules_of net_verb) refl refl refl;
+  taken = taken_behind net_verb.word (rules_of net_verb) refl refl refl;
+  reads = verb_reads net_verb (refl, refl, refl, tt, refl, tt) refl (inl refl, (inr (refl, refl), (inl refl, (inl refl, tt)))) (λ rows. refl);
+}
+
+is_equal : IsVerb equal_verb
+unfolding walked top_shape
+is_equal = record {
+  one = equal_two;
+  rows = rows_behind equal_verb.word (rules_of equal_verb) refl refl refl;
+  taken = taken_behind equal_verb.word (rules_of equal_verb) refl refl refl;
+  reads = verb_reads equal_verb (refl, refl, refl, (refl, tt), refl, (refl, refl, refl, tt, refl, tt)) refl (without_flags equal_verb.settings) (λ rows. refl);
 }
 
 -- a verb among some
@@ -207,4 +263,5 @@ module _ (word : Text) (v : Verb) where
 -- each verb that a word names is one of the command line's, and is written so
 pub named_is : (word : Text) (v : Verb) → verb_named word ≡ Some v → IsVerb v × (word ≡ v.word)
 named_is word v = here_or_later word v run_verb _ is_run (here_or_later word v walk_verb _ is_walk (here_or_later word v view_verb _ is_view
-    (here_or_later word v trace_verb _ is_trace (here_or_later word v check_verb _ is_check (here_or_later word v gen_verb _ is_gen (none_left word v))))))
+    (here_or_later word v trace_verb _ is_trace (here_or_later word v check_verb _ is_check (here_or_later word v gen_verb _ is_gen
+    (here_or_later word v certify_verb _ is_certify (here_or_later word v net_verb _ is_net (here_or_later word v equal_verb _ is_equal (none_left word v)))))))))

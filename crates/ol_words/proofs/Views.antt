@@ -4,7 +4,10 @@ use Rattle.std.proofs.lemmas.Slice.Eq.{bytes_eq-Decides}
 use Rattle.ol_words.specs.Texts.{Text}
 use Rattle.ol_words.specs.Lines.{Known, Line, line_from, is_dashed, is_end, option_of, after_option, with_option, with_name}
 use Rattle.std.proofs.lemmas.Bool.{cases_Bool}
-use Rattle.ol_words.proofs.Walks.{mapped}
+
+mapped : (f : Line → Line) (r : Option Line) (line : Line) → option_map f r ≡ Some line → (l : Line) × (r ≡ Some l) × (f l ≡ line)
+mapped f None line e = absurd (cc)
+mapped f (Some l) line e = (l, refl, cc)
 
 pub data View (known : Known) : List Text → Line → Type 0 where
   nothing : View known [] (record { options = []; names = [] })

@@ -5,7 +5,7 @@ use Rattle.std.specs.Str.{bytes_eq}
 use Rattle.ol_term.specs.declared.translations.Translation.{Translation}
 use Rattle.ol_term.specs.declared.translations.Translation.TheVariants.{One, Two}
 use Rattle.ol_words.specs.Texts.{Text}
-use Rattle.ol_words.specs.Asked.{Asked, run, walk, view, trace, check, gen}
+use Rattle.ol_words.specs.Asked.{Asked, run, walk, view, trace, check, gen, certify, net, equal}
 use Rattle.ol_words.specs.Lines.{Line, Known, line_of}
 use Rattle.ol_words.specs.Numbers.{Limits, number_within, setting}
 
@@ -39,8 +39,17 @@ abbrev pub after_setting : Setting
 after_setting = record { option = codes "after"; limits = record { least = 0; most = 8000000; default = 0 } }
 
 -- a flag is 1 where it is given, else 0
+abbrev pub switch : Limits
+switch = record { least = 0; most = 1; default = 0 }
+
 abbrev pub runs_setting : Setting
-runs_setting = record { option = codes "run"; limits = record { least = 0; most = 1; default = 0 } }
+runs_setting = record { option = codes "run"; limits = switch }
+
+abbrev pub steps_setting : Setting
+steps_setting = record { option = codes "steps"; limits = record { least = 0; most = 10000; default = 1000 } }
+
+abbrev pub from_term_setting : Setting
+from_term_setting = record { option = codes "from-term"; limits = switch }
 
 -- how often a term may be doubled
 abbrev pub doublings : Limits
@@ -104,6 +113,23 @@ gen_asks (w ∷ runs ∷ []) (number ∷ []) =
     gen_of (translation_numbered w) (runs == 1) (number_within doublings number)
 gen_asks _ names = None
 
+abbrev pub certify_asks : List ℕ → List Text → Option Asked
+certify_asks (w ∷ steps ∷ workers ∷ fuel ∷ heads ∷ []) names =
+    option_map (certify (translation_numbered w) steps workers fuel heads) (only names)
+certify_asks _ names = None
+
+abbrev pub net_asks : List ℕ → List Text → Option Asked
+net_asks (w ∷ from_term ∷ workers ∷ fuel ∷ []) names =
+    option_map (net (translation_numbered w) (from_term == 1) workers fuel) (only names)
+net_asks _ names = None
+
+-- standard input can't be both files
+abbrev pub equal_asks : List ℕ → List Text → Option Asked
+equal_asks (w ∷ workers ∷ fuel ∷ heads ∷ []) (first ∷ second ∷ []) =
+    if is_input first && is_input second then None
+    else Some (equal (translation_numbered w) workers fuel heads first second)
+equal_asks _ names = None
+
 abbrev pub run_verb : Verb
 run_verb = file_verb (codes "run") (translation_setting ∷ workers_setting ∷ fuel_setting ∷ heads_setting ∷ []) run_asks
 
@@ -134,8 +160,32 @@ gen_verb = record {
   asks = gen_asks;
 }
 
+abbrev pub certify_verb : Verb
+certify_verb = file_verb (codes "certify")
+    (translation_setting ∷ steps_setting ∷ workers_setting ∷ fuel_setting ∷ heads_setting ∷ []) certify_asks
+
+abbrev pub net_verb : Verb
+net_verb = record {
+  word = codes "net";
+  settings = translation_setting ∷ from_term_setting ∷ workers_setting ∷ fuel_setting ∷ [];
+  flags = codes "from-term" ∷ [];
+  names = codes "name" ∷ [];
+  asks = net_asks;
+}
+
+abbrev pub equal_verb : Verb
+equal_verb = record {
+  word = codes "equal";
+  settings = translation_setting ∷ workers_setting ∷ fuel_setting ∷ heads_setting ∷ [];
+  flags = [];
+  names = codes "first" ∷ codes "second" ∷ [];
+  asks = equal_asks;
+}
+
 abbrev pub verbs : List Verb
-verbs = run_verb ∷ walk_verb ∷ view_verb ∷ trace_verb ∷ check_verb ∷ gen_verb ∷ []
+verbs =
+    run_verb ∷ walk_verb ∷ view_verb ∷ trace_verb ∷ check_verb ∷ gen_verb
+    ∷ certify_verb ∷ net_verb ∷ equal_verb ∷ []
 
 abbrev pub verb_named : Text → Option Verb
 verb_named word = find (λ v. bytes_eq v.word word) verbs

@@ -107,6 +107,51 @@ pub enum Job {
         /// How often it is applied to itself, 0 to 10.
         k: u32,
     },
+    /// Rewrite the net of a term, and tell whether leftmost beta steps of the term lead to what is
+    /// then read back.
+    Certify {
+        /// By which translation the term becomes a net.
+        translation: Translation,
+        /// How many beta steps may be made, 0 to 10,000.
+        steps: u32,
+        /// How many workers rewrite, 1 to 64.
+        workers: u32,
+        /// How many interactions may be made, 0 to 8,000,000.
+        fuel: u32,
+        /// How many subterms of the answer are asked for their heads, 1 to 100,000.
+        heads: u32,
+        /// The file with the term, or `-` for standard input.
+        name: Word,
+    },
+    /// Rewrite a net, and print what is left of it; or print the net of a term as it stands.
+    Net {
+        /// By which translation a term becomes a net.
+        translation: Translation,
+        /// Whether the file has a term, whose net is printed, in place of a net to rewrite.
+        from_term: bool,
+        /// How many workers rewrite, 1 to 64.
+        workers: u32,
+        /// How many interactions may be made, 0 to 8,000,000.
+        fuel: u32,
+        /// The file with the net or the term, or `-` for standard input.
+        name: Word,
+    },
+    /// Rewrite the nets of two terms, and tell whether what is read back from both is the same.
+    Equal {
+        /// By which translation the terms become nets.
+        translation: Translation,
+        /// How many workers rewrite, 1 to 64.
+        workers: u32,
+        /// How many interactions may be made with each net, 0 to 8,000,000.
+        fuel: u32,
+        /// How many subterms of each answer are asked for their heads, 1 to 100,000.
+        heads: u32,
+        /// The file with the first term, or `-` for standard input.
+        first: Word,
+        /// The file with the second term, or `-` for standard input where the first is in another
+        /// file.
+        second: Word,
+    },
 }
 
 /// Why no job is given.

@@ -43,6 +43,12 @@ pub(crate) const AFTER: Limits = Limits {
     default: 0,
 };
 
+pub(crate) const STEPS: Limits = Limits {
+    least: 0,
+    most: 10_000,
+    default: 1_000,
+};
+
 /// The number of a translation.
 pub(crate) const TRANSLATION: Limits = Limits {
     least: 1,

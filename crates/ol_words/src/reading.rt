@@ -1,19 +1,19 @@
 //! The job of a list of words.
 
-ghost use Rattle.std.specs.Prelude.{◌≡◌, ◌==◌, IfOk, Err, Some, None, option_map, option_and_then};
+ghost use Rattle.std.specs.Prelude.{◌≡◌, ◌==◌, ◌&&◌, IfOk, Err, Some, None, option_map, option_and_then};
 ghost use Rattle.ol_words.specs.Texts.{texts_of};
 ghost use Rattle.ol_words.specs.Asked.{asked_by};
 ghost use Rattle.ol_words.specs.Jobs.{job_of};
 ghost use Rattle.ol_words.specs.Views.{verb_of};
 ghost use Rattle.ol_words.specs.Once.{agreed_verb};
 ghost use Rattle.ol_words.specs.Found.{flag_by, job_found, setting_by};
-ghost use Rattle.ol_words.specs.Jobs.{check_verb, gen_verb, run_verb, trace_verb, translation_numbered, translation_setting, view_verb, walk_verb};
+ghost use Rattle.ol_words.specs.Jobs.{certify_verb, check_verb, equal_verb, gen_verb, is_input, net_verb, run_verb, trace_verb, translation_numbered, translation_setting, view_verb, walk_verb};
 
 use crate::command::matches_of;
 use crate::jobs::{Job, UsageFault, Word};
 use crate::lines::line_of;
 use crate::numbers::{
-    AFTER, DOUBLINGS, EDGES, FUEL, HEADS, TRANSLATION, WORKERS, number_within, setting_by,
+    AFTER, DOUBLINGS, EDGES, FUEL, HEADS, STEPS, TRANSLATION, WORKERS, number_within, setting_by,
 };
 use crate::verbs::Verb;
 use clap::ArgMatches;
@@ -21,20 +21,21 @@ use ol_term::Translation;
 use std::alloc::{AllocError, Global};
 
 /// The job of the words of a command line: the program's name, which isn't looked at, then the
-/// command `run`, `walk`, `view`, `trace`, `check` or `gen`, then its options and its names in any
-/// order.
+/// command `run`, `walk`, `view`, `trace`, `check`, `gen`, `certify`, `net` or `equal`, then its
+/// options and its names in any order.
 ///
-/// `run` has the options `--workers`, `--fuel` and `--heads`, `walk` has `--edges` and `--heads`,
-/// `view` has `--after`, `trace` has `--workers` and `--fuel`, and `gen` has `--run`, which takes
-/// no value; all six have `--translation`, 1 or 2. `run`, `walk`, `view` and `trace` take the name
-/// of one file, `check` those of two, which aren't both `-`, and `gen` takes one number in a name's
-/// place.
+/// `run` and `equal` have the options `--workers`, `--fuel` and `--heads`, `walk` has `--edges` and
+/// `--heads`, `view` has `--after`, `trace` has `--workers` and `--fuel`, `gen` has `--run`,
+/// `certify` has `--steps` and those of `run`, and `net` has `--from-term` and those of `trace`.
+/// `--run` and `--from-term` take no value. All commands have `--translation`, 1 or 2. `check` and
+/// `equal` take the names of two files, which aren't both `-`, `gen` takes one number in a name's
+/// place, and the others take the name of one file.
 ///
 /// An option is written out whole, as `--name value` or `--name=value`, and comes at most once. A
 /// number is 1 to 8 ASCII digits within the range that `Job` gives. By themselves the translation
-/// is 2, there are 4 workers, a fuel of 200,000, 4,096 heads and 100,000 edges, and a net is viewed
-/// after no interaction. The word `--` ends the options; before it a word that begins with `-`, and
-/// isn't `-` alone, is no name and no value.
+/// is 2, there are 4 workers, a fuel of 200,000, 4,096 heads, 100,000 edges and 1,000 steps, and a
+/// net is viewed after no interaction. The word `--` ends the options; before it a word that begins
+/// with `-`, and isn't `-` alone, is no name and no value.
 ///
 /// `Refused` comes exactly where the words have no job by these rules. `NoMemory` comes where
 /// memory runs out.
@@ -89,6 +90,9 @@ fn job_by(alloc: Global, verb: Verb, found: &ArgMatches) -> Result<Job, UsageFau
         Verb::Trace => trace_by(alloc, found),
         Verb::Check => check_by(alloc, found),
         Verb::Gen => gen_by(found),
+        Verb::Certify => certify_by(alloc, found),
+        Verb::Net => net_by(alloc, found),
+        Verb::Equal => equal_by(alloc, found),
     }
 }
 
@@ -210,7 +214,7 @@ fn check_by(alloc: Global, found: &ArgMatches) -> Result<Job, UsageFault>
     let Some(journal) = found.get_str("journal") else {
         return Err(UsageFault::Refused);
     };
-    if term == "-" && journal == "-" {
+    if are_input(term, journal) {
         return Err(UsageFault::Refused);
     }
     let term = Word::of(alloc, term)?;
@@ -244,6 +248,106 @@ fn gen_by(found: &ArgMatches) -> Result<Job, UsageFault>
     })
 }
 
+// The job by what was given behind `certify`.
+fn certify_by(alloc: Global, found: &ArgMatches) -> Result<Job, UsageFault>
+    ensures job { IfOk result (λ job. job_found certify_verb found.now ≡ Some (asked_by job)) }
+    ensures refused { result ≡ Err UsageFault.Refused → job_found certify_verb found.now ≡ None }
+{
+    let Some(translation) = translation_by(found.get_str("translation")) else {
+        return Err(UsageFault::Refused);
+    };
+    let Some(steps) = setting_by(found.get_str("steps"), STEPS) else {
+        return Err(UsageFault::Refused);
+    };
+    let Some(workers) = setting_by(found.get_str("workers"), WORKERS) else {
+        return Err(UsageFault::Refused);
+    };
+    let Some(fuel) = setting_by(found.get_str("fuel"), FUEL) else {
+        return Err(UsageFault::Refused);
+    };
+    let Some(heads) = setting_by(found.get_str("heads"), HEADS) else {
+        return Err(UsageFault::Refused);
+    };
+    let Some(name) = found.get_str("name") else {
+        return Err(UsageFault::Refused);
+    };
+    let name = Word::of(alloc, name)?;
+    Ok(Job::Certify {
+        translation,
+        steps,
+        workers,
+        fuel,
+        heads,
+        name,
+    })
+}
+
+// The job by what was given behind `net`.
+fn net_by(alloc: Global, found: &ArgMatches) -> Result<Job, UsageFault>
+    ensures job { IfOk result (λ job. job_found net_verb found.now ≡ Some (asked_by job)) }
+    ensures refused { result ≡ Err UsageFault.Refused → job_found net_verb found.now ≡ None }
+{
+    let Some(translation) = translation_by(found.get_str("translation")) else {
+        return Err(UsageFault::Refused);
+    };
+    let from_term = is_true(found.get_str("from-term"));
+    let Some(workers) = setting_by(found.get_str("workers"), WORKERS) else {
+        return Err(UsageFault::Refused);
+    };
+    let Some(fuel) = setting_by(found.get_str("fuel"), FUEL) else {
+        return Err(UsageFault::Refused);
+    };
+    let Some(name) = found.get_str("name") else {
+        return Err(UsageFault::Refused);
+    };
+    let name = Word::of(alloc, name)?;
+    Ok(Job::Net {
+        translation,
+        from_term,
+        workers,
+        fuel,
+        name,
+    })
+}
+
+// The job by what was given behind `equal`.
+fn equal_by(alloc: Global, found: &ArgMatches) -> Result<Job, UsageFault>
+    ensures job { IfOk result (λ job. job_found equal_verb found.now ≡ Some (asked_by job)) }
+    ensures refused { result ≡ Err UsageFault.Refused → job_found equal_verb found.now ≡ None }
+{
+    let Some(translation) = translation_by(found.get_str("translation")) else {
+        return Err(UsageFault::Refused);
+    };
+    let Some(workers) = setting_by(found.get_str("workers"), WORKERS) else {
+        return Err(UsageFault::Refused);
+    };
+    let Some(fuel) = setting_by(found.get_str("fuel"), FUEL) else {
+        return Err(UsageFault::Refused);
+    };
+    let Some(heads) = setting_by(found.get_str("heads"), HEADS) else {
+        return Err(UsageFault::Refused);
+    };
+    let Some(first) = found.get_str("first") else {
+        return Err(UsageFault::Refused);
+    };
+    let Some(second) = found.get_str("second") else {
+        return Err(UsageFault::Refused);
+    };
+    if are_input(first, second) {
+        return Err(UsageFault::Refused);
+    }
+    let first = Word::of(alloc, first)?;
+    let second = Word::of(alloc, second)?;
+    Ok(Job::Equal {
+        translation,
+        workers,
+        fuel,
+        heads,
+        first,
+        second,
+    })
+}
+
 // The translation by the number that was given, which is 2 by itself.
 fn translation_by(value: Option<&str>) -> Option<Translation>
     ensures { result ≡ option_map translation_numbered
@@ -255,6 +359,13 @@ fn translation_by(value: Option<&str>) -> Option<Translation>
     } else {
         Some(Translation::Two)
     }
+}
+
+// Both names are that of standard input.
+fn are_input(first: &str, second: &str) -> bool
+    ensures { result ≡ (is_input first.now && is_input second.now) }
+{
+    first == "-" && second == "-"
 }
 
 // Whether clap has given a flag the value `true`.

@@ -19,11 +19,19 @@ static GEN_OPTIONS: [&str; 2] = ["translation", "run"];
 
 static GEN_FLAGS: [&str; 1] = ["run"];
 
+static CERTIFY_OPTIONS: [&str; 5] = ["translation", "steps", "workers", "fuel", "heads"];
+
+static NET_OPTIONS: [&str; 4] = ["translation", "from-term", "workers", "fuel"];
+
+static NET_FLAGS: [&str; 1] = ["from-term"];
+
 static FILE_NAMES: [&str; 1] = ["name"];
 
 static CHECK_NAMES: [&str; 2] = ["term", "journal"];
 
 static GEN_NAMES: [&str; 1] = ["number"];
+
+static EQUAL_NAMES: [&str; 2] = ["first", "second"];
 
 static NOTHING: [&str; 0] = [];
 
@@ -36,6 +44,9 @@ pub(crate) enum Verb {
     Trace,
     Check,
     Gen,
+    Certify,
+    Net,
+    Equal,
 }
 
 impl Verb {
@@ -50,6 +61,9 @@ impl Verb {
             "trace" => Some(Verb::Trace),
             "check" => Some(Verb::Check),
             "gen" => Some(Verb::Gen),
+            "certify" => Some(Verb::Certify),
+            "net" => Some(Verb::Net),
+            "equal" => Some(Verb::Equal),
             _ => None,
         }
     }
@@ -65,6 +79,9 @@ impl Verb {
             Verb::Trace => "trace",
             Verb::Check => "check",
             Verb::Gen => "gen",
+            Verb::Certify => "certify",
+            Verb::Net => "net",
+            Verb::Equal => "equal",
         }
     }
 
@@ -73,12 +90,14 @@ impl Verb {
         ensures { texts result.now ≡ options_of (verb_of self) }
     {
         match self {
-            Verb::Run => RUN_OPTIONS.as_slice(),
+            Verb::Run | Verb::Equal => RUN_OPTIONS.as_slice(),
             Verb::Walk => WALK_OPTIONS.as_slice(),
             Verb::View => VIEW_OPTIONS.as_slice(),
             Verb::Trace => TRACE_OPTIONS.as_slice(),
             Verb::Check => CHECK_OPTIONS.as_slice(),
             Verb::Gen => GEN_OPTIONS.as_slice(),
+            Verb::Certify => CERTIFY_OPTIONS.as_slice(),
+            Verb::Net => NET_OPTIONS.as_slice(),
         }
     }
 
@@ -87,8 +106,15 @@ impl Verb {
         ensures { texts result.now ≡ (verb_of self).flags }
     {
         match self {
-            Verb::Run | Verb::Walk | Verb::View | Verb::Trace | Verb::Check => NOTHING.as_slice(),
             Verb::Gen => GEN_FLAGS.as_slice(),
+            Verb::Net => NET_FLAGS.as_slice(),
+            Verb::Run
+            | Verb::Walk
+            | Verb::View
+            | Verb::Trace
+            | Verb::Check
+            | Verb::Certify
+            | Verb::Equal => NOTHING.as_slice(),
         }
     }
 
@@ -97,9 +123,11 @@ impl Verb {
         ensures { texts result.now ≡ (verb_of self).names }
     {
         match self {
-            Verb::Run | Verb::Walk | Verb::View | Verb::Trace => FILE_NAMES.as_slice(),
+            Verb::Run | Verb::Walk | Verb::View | Verb::Trace | Verb::Certify | Verb::Net =>
+                FILE_NAMES.as_slice(),
             Verb::Check => CHECK_NAMES.as_slice(),
             Verb::Gen => GEN_NAMES.as_slice(),
+            Verb::Equal => EQUAL_NAMES.as_slice(),
         }
     }
 }

@@ -1,4 +1,4 @@
-use Rattle.std.proofs.Common.{◌-◌, ℕ, ◌≡◌, ◌∙◌, sym, ap, ap₂, true, false, List, Some, None, drop, length, string_bytes, String, Global}
+use Rattle.std.proofs.Common.{◌-◌, arith, ℕ, ◌≡◌, ◌∙◌, sym, ap, ap₂, true, false, List, Some, None, drop, length, string_bytes, String, Global}
 use Rattle.std.proofs.lemmas.List.{length-map, take_all}
 use Rattle.ol_words.specs.Texts.{Text}
 use Rattle.ol_words.specs.Lines.{line_of}
@@ -8,8 +8,11 @@ use Rattle.ol_words.specs.Jobs.{known_of, options_of, verb_named}
 use Rattle.ol_words.specs.Views.{verb_of}
 use Rattle.ol_words.specs.Once.{agreed_verb, is_told_once}
 use Rattle.ol_words.proofs.SoFar.{rest_length}
-use Rattle.ol_words.proofs.AgreedVerbs.{parts, no_verb, no_line, not_once, once}
+use Rattle.ol_words.proofs.AgreedVerbs.{few_words, parts, no_verb, no_line, not_once, once}
 use Rattle.ol_words.proofs.reading.agreed_verb.Goals as goal
+
+pub returns-in_default : goal.returns-in_default
+returns-in_default c = few_words c.as_slice.result.now (omega (arith, c.in_default.len_below)) ∙ ap (λ (ws : List (String Global)). agreed_verb (texts_of ws)) c.as_slice.ensures.value
 
 pub returns-in_default-named : goal.returns-in_default-named
 returns-in_default-named c =

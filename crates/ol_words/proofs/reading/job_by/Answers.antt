@@ -5,3 +5,15 @@ returns-in-Run-clause-job c = rw c.in-Run.is c.run_by.ensures.job
 
 pub returns-in-Run-clause-refused : goal.returns-in-Run-clause-refused
 returns-in-Run-clause-refused c = rw c.in-Run.is c.run_by.ensures.refused
+
+pub returns-in-Certify-clause-job : goal.returns-in-Certify-clause-job
+returns-in-Certify-clause-job c = rw c.in-Certify.is c.certify_by.ensures.job
+
+pub returns-in-Certify-clause-refused : goal.returns-in-Certify-clause-refused
+returns-in-Certify-clause-refused c = rw c.in-Certify.is c.certify_by.ensures.refused
+
+pub returns-in-Equal-clause-job : goal.returns-in-Equal-clause-job
+returns-in-Equal-clause-job c = rw c.in-Equal.is c.equal_by.ensures.job
+
+pub returns-in-Equal-clause-refused : goal.returns-in-Equal-clause-refused
+returns-in-Equal-clause-refused c = rw c.in-Equal.is c.equal_by.ensures.refused
