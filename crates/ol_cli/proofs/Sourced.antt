@@ -20,7 +20,6 @@ use Rattle.ol_translate.specs.Translation.{translation_of}
 use Rattle.ol_translate.specs.Names.{HasNames}
 use Rattle.ol_translate.proofs.Whole.{translation_net}
 use Rattle.ol_readback.specs.Heads.{live}
-use Rattle.ol_readback.specs.Sources.{HasHeadsOf}
 use Rattle.ol_readback.specs.Terms.{HasAllHeads, IsReadBack}
 use Rattle.ol_readback.proofs.Sources.{own_heads, read_heads}
 use Rattle.ol_readback.proofs.Forests.{tree_is_whole}
