@@ -1,5 +1,6 @@
 -- Any run tells the answer of the one-thread run.
 use Rattle.std.proofs.Common.{◌≡◌, ℕ, suc, ◌+◌, ◌*◌, ◌≤◌, List, [], ◌∷◌, length, inl, inr, sym, ◌∙◌, subst}
+use Rattle.std.proofs.lemmas.List.{length-map}
 use Rattle.ol_term.specs.declared.translations.Translation.{Translation}
 use Rattle.ol_term.specs.Trees.{Tree}
 use Rattle.ol_net.specs.declared.parts.Kind.{Kind}
@@ -19,13 +20,14 @@ use Rattle.ol_readback.specs.Heads.{live}
 use Rattle.ol_readback.specs.ReadTrees.{IsTree}
 use Rattle.ol_readback.specs.declared.answers.ReadNode.{ReadNode}
 use Rattle.ol_cli.specs.Listing.{ListsOnce}
-use Rattle.ol_cli.specs.Evaluation.{start_net_of_term, Shows, RunEnds, Prints, PrintsOf}
+use Rattle.ol_cli.specs.Evaluation.{start_net_of_term, Shows, RunEnds, ReadsLast, Prints, PrintsOf}
 use Rattle.ol_cli.specs.Journals.{OneThreadIsThere, AnyRunPrints, AnyRunRunsOut}
 use Rattle.ol_cli.proofs.EveryRun.{shows_under}
+use Rattle.ol_cli.proofs.NamedNets.{named_net}
 use Rattle.ol_diamond.proofs.OneThread.{one_thread_exists, done_tells, spent_tells, longer_tells}
 use Rattle.ol_cli.proofs.ListedOnce.{net_of_parts_once, net_under_once, same_length}
 use Rattle.ol_cli.proofs.OnePrint.{start_is_net, start_is_named}
-use Rattle.ol_cli.proofs.TreeTransport.{tree_same}
+use Rattle.ol_cli.proofs.TreeTransport.{tree_same, tree_under}
 
 -- ---- another order of the last net's lists
 
@@ -137,3 +139,44 @@ any_run_ends tr t names fuel is_net journal net run complete within =
     let o = one_thread_exists N fuel n b in
     let d = done_tells N net o.1 fuel journal o.0 n b run complete within o.2 in
     record { journal = o.0; net = o.1; run = o.2; complete = d.0 }
+
+-- the tree of a net, with twice its nodes as the budget, is that of the same net
+read_same : (tree : List ReadNode) (heads : ℕ) (M N : NamedNet NodeName) → SameNet M N → ListsOnce M → ListsOnce N → IsTree M heads (2 * live M) tree → IsTree N heads (2 * live N) tree
+read_same tree heads M N same once once' read =
+    let size : live M ≡ live N = same_length M N same once once' in
+    subst (λ n. IsTree N heads (2 * n) tree) size (tree_same M N same size heads (2 * live M) tree read)
+
+-- and of the net under other names
+read_under : (tree : List ReadNode) (heads : ℕ) (m : NodeName → NodeName) (N : NamedNet NodeName) → IsNet N → ((x y : NodeName) (k l : Kind) (i j : ℕ) → HasNode N x k i → HasNode N y l j → m x ≡ m y → x ≡ y) →
+    IsTree N heads (2 * live N) tree → IsTree (net_under m N) heads (2 * live (net_under m N)) tree
+read_under tree heads m N is_net apart read =
+    let size : live N ≡ live (net_under m N) = sym (length-map N.nodes (λ (n : NodeName × Kind × ℕ). (m n.0, n.1, n.2))) in
+    subst (λ n. IsTree (net_under m N) heads (2 * n) tree) size (tree_under m N is_net apart heads (2 * live N) tree read)
+
+-- the tree that is read of the last net of a complete run is read of that of the one-thread run
+pub any_run_reads : (tr : Translation) (t : Tree) (names : List (List ℕ)) (fuel heads : ℕ) (tree : List ReadNode) → IsNet (translation_of tr t (length names)) →
+    (journal : List Entry) (net listed : NamedNet NodeName) → IsRun (start_net_of_term tr t names) 0 journal net → IsComplete net → length journal ≤ fuel →
+    SameNet net listed → IsNet listed → ListsOnce listed → IsTree listed heads (2 * live listed) tree → ReadsLast tr t names fuel heads tree
+any_run_reads tr t names fuel heads tree is_net journal net other run complete within alike other_net other_once read =
+    let N = start_net_of_term tr t names in
+    let n = start_is_net tr t names is_net in
+    let b = start_is_named tr t names is_net in
+    let o = one_thread_exists N fuel n b in
+    let d = done_tells N net o.1 fuel journal o.0 n b run complete within o.2 in
+    let a = d.1 in
+    let listed = net_under a.names other in
+    let apart : (x y : NodeName) (k l : Kind) (i j : ℕ) → HasNode other x k i → HasNode other y l j → a.names x ≡ a.names y → x ≡ y = λ x y k l i j h h' e. a.written.apart x y k l i j ((alike.nodes x k i).1 h) ((alike.nodes y l j).1 h') e in
+    let once = net_under_once a.names other apart other_once in
+    let same : SameNet o.1 listed = same_trans o.1 (net_under a.names net) listed (same_sym (net_under a.names net) o.1 a.written.same) (same_under a.names net other alike) in
+    let e = ends_once N o.1 listed 0 o.0 same (start_once tr t names) once o.2.leads in
+    let c = complete_same o.1 e.net (same_trans o.1 listed e.net same e.same) d.0 in
+    let under = read_under tree heads a.names other other_net apart read in
+    record {
+      journal = o.0;
+      net = e.net;
+      run = record { leads = e.leads; within = o.2.within; ended = inl c };
+      complete = c;
+      is_net = net_same listed e.net e.same (named_net a.names other other_net apart);
+      once = e.once;
+      read = read_same tree heads listed e.net e.same once e.once under;
+    }

@@ -10,7 +10,8 @@ use Rattle.ol_net.specs.Nets.{IsNet}
 use Rattle.ol_translate.specs.Sizes.{size_of_translation}
 use Rattle.ol_translate.specs.Translation.{translation_of}
 use Rattle.ol_words.specs.Texts.{Text}
-use Rattle.ol_words.specs.Asked.{Asked, run, walk, view, trace, check, gen}
+use Rattle.ol_words.specs.Asked.{Asked, run, walk, view, trace, check, gen, certify}
+use Rattle.ol_words.specs.Asked as jobs
 use Rattle.ol_cli.specs.declared.status.Status.{Status}
 use Rattle.ol_cli.specs.declared.status.Status.TheVariants.{Done, Usage, Syntax, Spent, ReadFault, WriteFault, NoMemory, Limit}
 use Rattle.ol_cli.specs.Jobs.{EachName, TellsFiles, term_bytes, translation_in}
@@ -30,6 +31,8 @@ done_term t names _ n ends s x (by.printed p) = refl
 done_term t names _ n ends s x (by.walked w) = refl
 done_term t names _ n ends s x (by.viewed v) = refl
 done_term t names _ n ends s x (by.traced e) = refl
+done_term t names _ n ends s x (by.certified c) = refl
+done_term t names _ n ends s x (by.uncertified {tr = tr} {fuel = fuel} r e) = absurd (ends_or_runs_out tr t names n fuel r ends)
 done_term t names _ n ends s x (by.stopped {tr = tr} {fuel = fuel} r) = absurd (ends_or_runs_out tr t names n fuel r ends)
 
 -- ---- a file within the limits
@@ -79,6 +82,9 @@ module _ (files : Text → Option (List ℕ)) where
   done_job (trace tr w f name) can s x (answers.of_file has e h) = done_told (trace tr w f name) name (files name) can refl _ e (trace tr w f name) refl can.ends s x h
   done_job (check tr term other) can s x (answers.of_file has e h) = done_told (check tr term other) term (files term) can.0 refl _ e (check tr term other) refl can.0.ends s x h
   done_job (check tr term other) can s x (answers.of_journal {trace = read} {t = t} {names = names} e i e' h) = done_on_journal other can.1 tr t names read e' s x h
+  done_job (certify tr b w f q name) can s x (answers.of_file has e h) = done_told (certify tr b w f q name) name (files name) can refl _ e (certify tr b w f q name) refl can.ends s x h
+  done_job (jobs.net tr from w f name) can s x (answers.of_file has e h) = absurd has
+  done_job (jobs.equal tr w f q first second) can s x (answers.of_file has e h) = absurd has
   done_job (gen tr runs k) can s x (answers.of_file has e h) = absurd has
   done_job (gen tr runs k) can s x (answers.made m) = done_made tr runs k can s x m
 
@@ -100,6 +106,9 @@ module _ (files : Text → Option (List ℕ)) where
   can_told (view tr k name) can = one_told IsTold name (can.bytes, can.told)
   can_told (trace tr w f name) can = one_told IsTold name (can.bytes, can.told)
   can_told (check tr term other) can = two_told IsTold term other (can.0.bytes, can.0.told) (can.1.0, can.1.1)
+  can_told (certify tr b w f q name) can = one_told IsTold name (can.bytes, can.told)
+  can_told (jobs.net tr from w f name) can = one_told IsTold name (can.bytes, can.told)
+  can_told (jobs.equal tr w f q first second) can = absurd can
   can_told (gen tr runs k) can = λ place name e. absurd (cc)
 
 -- ---- the call

@@ -70,14 +70,14 @@ pub record Told (names : List (List ℕ)) (heads stuck : ℕ) (journal : List En
 module _ (tr : Translation) (t : Tree) (names : List (List ℕ)) (start : Graph) (same : SameNet (net_of start) (translation_of tr t (length names)))
     (fuel seats : ℕ) (w : ClosedTable) (table : IsTableOf start fuel seats w) (net : NamedNet NodeName) (after : IsAfter w net)
   where
-    words_run : IsRun (net_under Init (net_of start)) 0 (journal_of w) net
+    pub words_run : IsRun (net_under Init (net_of start)) 0 (journal_of w) net
     words_run = subst (λ (g : Graph). IsRun (net_under Init (net_of g)) 0 (journal_of w) net) table.1 after
 
     -- the run of the words is one from the term's own net
     pub own_run : (M : NamedNet NodeName) × IsRun (start_net_of_term tr t names) 0 (journal_of w) M × SameNet net M
     own_run = run_from_same _ (start_net_of_term tr t names) net 0 (journal_of w) (same_under Init (net_of start) (translation_of tr t (length names)) same) words_run
 
-    own_net : IsNet (net_of start) → IsNet (translation_of tr t (length names))
+    pub own_net : IsNet (net_of start) → IsNet (translation_of tr t (length names))
     own_net n = net_same (net_of start) (translation_of tr t (length names)) same n
 
     pub runs_out : IsNet (net_of start) → HasActive net → length (journal_of w) ≡ fuel → RunsOut tr t names fuel
@@ -86,7 +86,7 @@ module _ (tr : Translation) (t : Tree) (names : List (List ℕ)) (start : Graph)
         any_run_runs_out tr t names fuel (own_net n) (journal_of w) r.0 r.1 (inr (full, (a.0, a.1, a.2, active_same net r.0 r.2 a.0 a.1 a.2 a.3)))
 
     module _ (last : Graph) (f : IsFrozen net last) where
-      one_name : (x y : ℕ) (k l : Kind) (i j : ℕ) → HasNode (net_of last) x k i → HasNode (net_of last) y l j → f.names x ≡ f.names y → x ≡ y
+      pub one_name : (x y : ℕ) (k l : Kind) (i j : ℕ) → HasNode (net_of last) x k i → HasNode (net_of last) y l j → f.names x ≡ f.names y → x ≡ y
       one_name x y k l i j h h' e = rising_apart f.names (length last.nodes) f.rising x y (node_below last x k i h) (node_below last y l j h') e
 
       -- the run keeps the free ports

@@ -9,7 +9,8 @@ use Rattle.ol_term.specs.declared.translations.Translation.{Translation}
 use Rattle.ol_term.specs.Trees.{Tree}
 use Rattle.ol_term.specs.Generated.{doubled_text}
 use Rattle.ol_words.specs.Texts.{Text}
-use Rattle.ol_words.specs.Asked.{Asked, run, walk, view, trace, check, gen}
+use Rattle.ol_words.specs.Asked.{Asked, run, walk, view, trace, check, gen, certify}
+use Rattle.ol_words.specs.Asked as jobs
 use Rattle.ol_cli.specs.declared.status.Status.{Status}
 use Rattle.ol_cli.specs.declared.status.Status.TheVariants.{Done, Usage, Syntax, Spent, ReadFault, WriteFault, NoMemory, Limit}
 use Rattle.ol_cli.specs.Jobs.{AskFor, AskForNothing, EachName, HasTermFile, TellsFiles, count_of_files, files_of, file_name}
@@ -68,6 +69,16 @@ term_status (trace tr w f name) t names NoMemory text h = h
 term_status (trace tr w f name) t names Limit text h = h
 term_status (check tr term journal) t names st text h = absurd h
 term_status (gen tr runs k) t names st text h = absurd h
+term_status (certify tr b w f q name) t names Done text h = tt
+term_status (certify tr b w f q name) t names Spent text h = tt
+term_status (certify tr b w f q name) t names Usage text h = h
+term_status (certify tr b w f q name) t names Syntax text h = h
+term_status (certify tr b w f q name) t names ReadFault text h = h
+term_status (certify tr b w f q name) t names WriteFault text h = h
+term_status (certify tr b w f q name) t names NoMemory text h = h
+term_status (certify tr b w f q name) t names Limit text h = h
+term_status (jobs.net tr from w f name) t names st text h = absurd h
+term_status (jobs.equal tr w f q first second) t names st text h = absurd h
 
 -- the cause of an answer to bytes that were read
 pub read_cause : (asked : Asked) (s : Seen) (st : Status) (text : List ℕ) → s.faults' ≡ s.faults → Read asked s st text → FileCause asked s st text
@@ -111,6 +122,9 @@ told_first contents (view tr k name) has e = e 0 name refl
 told_first contents (trace tr w f name) has e = e 0 name refl
 told_first contents (check tr term journal) has e = e 0 term refl
 told_first contents (gen tr runs k) has e = absurd has
+told_first contents (certify tr b w f q name) has e = e 0 name refl
+told_first contents (jobs.net tr from w f name) has e = absurd has
+told_first contents (jobs.equal tr w f q first second) has e = absurd has
 
 -- and those of the journal file
 told_second : (tr : Translation) (contents : Text → Option (List ℕ)) (term journal : Text) → AreTold contents (check tr term journal) → (bytes : List ℕ) × (contents journal ≡ Some bytes)

@@ -7,7 +7,8 @@ use Rattle.ol_net.specs.Numbered.{all_live}
 use Rattle.ol_net.specs.Graph.{Graph}
 use Rattle.ol_net.proofs.Linking.{length-all_live, count_by-all_live}
 use Rattle.ol_wire.specs.Closed.{ClosedTable}
-use Rattle.ol_words.specs.Asked.{Asked, run, walk, view, trace, check, gen}
+use Rattle.ol_words.specs.Asked.{Asked, run, walk, view, trace, check, gen, certify}
+use Rattle.ol_words.specs.Asked as jobs
 use Rattle.ol_cli.specs.declared.status.Status.{Status}
 use Rattle.ol_cli.specs.declared.status.Status.TheVariants as status
 use Rattle.ol_cli.specs.Jobs.{AskFor, file_name, translation_in}
@@ -40,6 +41,9 @@ module _ (t : Tree) (names : List (List ℕ)) (text : List ℕ) (closed : Option
   none_at_usage (trace tr workers fuel name) h = absurd h.4
   none_at_usage (check tr term journal) h = h
   none_at_usage (gen tr runs k) h = h
+  none_at_usage (certify tr b workers fuel heads name) h = h
+  none_at_usage (jobs.net tr from workers fuel name) h = h
+  none_at_usage (jobs.equal tr workers fuel heads first second) h = h
 
   none_at_syntax : (asked : Asked) → TermHands asked t names status.Syntax text closed → closed ≡ None
   none_at_syntax (run tr workers fuel heads name) h = absurd h.4
@@ -48,6 +52,9 @@ module _ (t : Tree) (names : List (List ℕ)) (text : List ℕ) (closed : Option
   none_at_syntax (trace tr workers fuel name) h = absurd h.4
   none_at_syntax (check tr term journal) h = h
   none_at_syntax (gen tr runs k) h = h
+  none_at_syntax (certify tr b workers fuel heads name) h = h
+  none_at_syntax (jobs.net tr from workers fuel name) h = h
+  none_at_syntax (jobs.equal tr workers fuel heads first second) h = h
 
   none_at_read_fault : (asked : Asked) → TermHands asked t names status.ReadFault text closed → closed ≡ None
   none_at_read_fault (run tr workers fuel heads name) h = absurd h.4
@@ -56,6 +63,9 @@ module _ (t : Tree) (names : List (List ℕ)) (text : List ℕ) (closed : Option
   none_at_read_fault (trace tr workers fuel name) h = absurd h.4
   none_at_read_fault (check tr term journal) h = h
   none_at_read_fault (gen tr runs k) h = h
+  none_at_read_fault (certify tr b workers fuel heads name) h = h
+  none_at_read_fault (jobs.net tr from workers fuel name) h = h
+  none_at_read_fault (jobs.equal tr workers fuel heads first second) h = h
 
   none_at_write_fault : (asked : Asked) → TermHands asked t names status.WriteFault text closed → closed ≡ None
   none_at_write_fault (run tr workers fuel heads name) h = absurd h.4
@@ -64,6 +74,9 @@ module _ (t : Tree) (names : List (List ℕ)) (text : List ℕ) (closed : Option
   none_at_write_fault (trace tr workers fuel name) h = absurd h.4
   none_at_write_fault (check tr term journal) h = h
   none_at_write_fault (gen tr runs k) h = h
+  none_at_write_fault (certify tr b workers fuel heads name) h = h
+  none_at_write_fault (jobs.net tr from workers fuel name) h = h
+  none_at_write_fault (jobs.equal tr workers fuel heads first second) h = h
 
   none_at_no_memory : (asked : Asked) → TermHands asked t names status.NoMemory text closed → closed ≡ None
   none_at_no_memory (run tr workers fuel heads name) h = absurd h.4
@@ -72,6 +85,9 @@ module _ (t : Tree) (names : List (List ℕ)) (text : List ℕ) (closed : Option
   none_at_no_memory (trace tr workers fuel name) h = absurd h.4
   none_at_no_memory (check tr term journal) h = h
   none_at_no_memory (gen tr runs k) h = h
+  none_at_no_memory (certify tr b workers fuel heads name) h = h
+  none_at_no_memory (jobs.net tr from workers fuel name) h = h
+  none_at_no_memory (jobs.equal tr workers fuel heads first second) h = h
 
   none_at_limit : (asked : Asked) → TermHands asked t names status.Limit text closed → closed ≡ None
   none_at_limit (run tr workers fuel heads name) h = absurd h.4
@@ -80,6 +96,9 @@ module _ (t : Tree) (names : List (List ℕ)) (text : List ℕ) (closed : Option
   none_at_limit (trace tr workers fuel name) h = absurd h.4
   none_at_limit (check tr term journal) h = h
   none_at_limit (gen tr runs k) h = h
+  none_at_limit (certify tr b workers fuel heads name) h = h
+  none_at_limit (jobs.net tr from workers fuel name) h = h
+  none_at_limit (jobs.equal tr workers fuel heads first second) h = h
 
 -- what is handed back of a term is handed back of its file
 pub file_hands : (asked : Asked) (bytes : List ℕ) (t : Tree) (names : List (List ℕ)) → IsTermFile (translation_in asked) bytes t names → (st : Status) (text : List ℕ) (closed : Option ClosedTable) →

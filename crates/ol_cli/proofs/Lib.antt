@@ -19,3 +19,7 @@ mod Worked
 mod Readied
 mod JournalFound
 mod Traced
+mod WavesKept
+mod TermSizes
+mod LastTrees
+mod VerdictLines

@@ -17,16 +17,17 @@ use Rattle.ol_translate.proofs.Whole.{translation_net}
 use Rattle.ol_view.specs.declared.answers.Check.{Check}
 use Rattle.ol_view.specs.Checks.{OnlyIsFound}
 use Rattle.ol_words.specs.Texts.{Text}
-use Rattle.ol_words.specs.Asked.{Asked, run, walk, view, trace, check, gen}
+use Rattle.ol_words.specs.Asked.{Asked, run, walk, view, trace, check, gen, certify}
+use Rattle.ol_words.specs.Asked as jobs
 use Rattle.ol_cli.specs.declared.status.Status.{Status}
 use Rattle.ol_cli.specs.declared.status.Status.TheVariants.{Done, Usage, Syntax, Spent, ReadFault, WriteFault, NoMemory, Limit}
 use Rattle.ol_cli.specs.Jobs.{AskFor, AskForNothing, file_name, translation_in}
 use Rattle.ol_cli.specs.Inside.{IsOnTerm}
 use Rattle.ol_cli.specs.Laws.{TellsOne}
 use Rattle.ol_cli.specs.Texts.{usage_text, bytes_text, depth_text, nodes_text, journal_text, syntax_text, spent_text, found_text}
-use Rattle.ol_cli.specs.Evaluation.{start_net_of_term, RunsOut, RunEnds, Prints, Walks, Views}
+use Rattle.ol_cli.specs.Evaluation.{start_net_of_term, RunsOut, RunEnds, Prints, Walks, Views, Certifies}
 use Rattle.ol_cli.specs.Answers.{long, deep, large, IsTermFile, TermAnswer, FileAnswer, JournalAnswer, JobAnswer, of_file, of_journal, made, Makes, plain_run, IsAnswer}
-use Rattle.ol_cli.proofs.OnePrint.{ends_or_not, ends_or_runs_out, one_print, one_walk, one_view}
+use Rattle.ol_cli.proofs.OnePrint.{ends_or_not, ends_or_runs_out, reads_or_runs_out, one_print, one_walk, one_view, one_certified}
 
 abbrev pub Same : Status → Status → List ℕ → List ℕ → Type 0
 Same s s' x x' = (s ≡ s') × (x ≡ x')
@@ -65,6 +66,8 @@ pub data OfTerm (t : Tree) (names : List (List ℕ)) : Asked → Status → List
   walked : {tr : Translation} {edges heads : ℕ} {name x : List ℕ} → Walks tr t names edges heads x → OfTerm t names (walk tr edges heads name) Done x
   viewed : {tr : Translation} {after : ℕ} {name x : List ℕ} → Views tr t names after x → OfTerm t names (view tr after name) Done x
   traced : {tr : Translation} {w fuel : ℕ} {name x : List ℕ} → RunEnds tr t names fuel → OfTerm t names (trace tr w fuel name) Done x
+  certified : {tr : Translation} {b w fuel heads : ℕ} {name x : List ℕ} → Certifies tr t names b fuel heads x → OfTerm t names (certify tr b w fuel heads name) Done x
+  uncertified : {tr : Translation} {b w fuel heads : ℕ} {name x : List ℕ} → RunsOut tr t names fuel → x ≡ spent_text fuel → OfTerm t names (certify tr b w fuel heads name) Spent x
   stopped : {tr : Translation} {w fuel : ℕ} {name x : List ℕ} → RunsOut tr t names fuel → OfTerm t names (trace tr w fuel name) Spent x
 
 pub of_term : (t : Tree) (names : List (List ℕ)) (a : Asked) (s : Status) (x : List ℕ) → TermAnswer a t names s x → OfTerm t names a s x
@@ -102,6 +105,16 @@ of_term t names (trace tr w f name) NoMemory x h = absurd h
 of_term t names (trace tr w f name) Limit x h = absurd h
 of_term t names (check tr term journal) s x h = absurd h
 of_term t names (gen tr runs k) s x h = absurd h
+of_term t names (certify tr b w fuel heads name) Spent x h = uncertified h.0 h.1
+of_term t names (certify tr b w fuel heads name) Done x h = certified h
+of_term t names (certify tr b w fuel heads name) Usage x h = absurd h
+of_term t names (certify tr b w fuel heads name) Syntax x h = absurd h
+of_term t names (certify tr b w fuel heads name) ReadFault x h = absurd h
+of_term t names (certify tr b w fuel heads name) WriteFault x h = absurd h
+of_term t names (certify tr b w fuel heads name) NoMemory x h = absurd h
+of_term t names (certify tr b w fuel heads name) Limit x h = absurd h
+of_term t names (jobs.net tr from w f name) s x h = absurd h
+of_term t names (jobs.equal tr w f q first second) s x h = absurd h
 
 one_of_term : (t : Tree) (names : List (List ℕ)) → (a : Asked) → IsNet (translation_of (translation_in a) t (length names)) → (s s' : Status) (x x' : List ℕ) → OfTerm t names a s x → OfTerm t names a s' x' → Alike a s s' x x'
 one_of_term t names a n s s' x x' (spent r e) (spent r' e') = (refl, λ one. e ∙ sym e')
@@ -113,6 +126,10 @@ one_of_term t names a n s s' x x' (traced e) (traced e') = (refl, λ one. absurd
 one_of_term t names a n s s' x x' (traced {tr = tr} {fuel = fuel} e) (stopped r) = absurd (ends_or_runs_out tr t names n fuel r e)
 one_of_term t names a n s s' x x' (stopped {tr = tr} {fuel = fuel} r) (traced e) = absurd (ends_or_runs_out tr t names n fuel r e)
 one_of_term t names a n s s' x x' (stopped r) (stopped r') = (refl, λ one. absurd one)
+one_of_term t names a n s s' x x' (uncertified r e) (uncertified r' e') = (refl, λ one. e ∙ sym e')
+one_of_term t names a n s s' x x' (uncertified {tr = tr} {fuel = fuel} {heads = heads} r e) (certified c) = absurd (reads_or_runs_out tr t names n fuel heads c.tree r c.last)
+one_of_term t names a n s s' x x' (certified {tr = tr} {fuel = fuel} {heads = heads} c) (uncertified r e) = absurd (reads_or_runs_out tr t names n fuel heads c.tree r c.last)
+one_of_term t names a n s s' x x' (certified {tr = tr} {b = b} {fuel = fuel} {heads = heads} c) (certified c') = (refl, λ one. one_certified tr t names n b fuel heads x x' c c')
 one_of_term t names a n s s' x x' (viewed {tr = tr} {after = after} v) (viewed v') = (refl, λ one. one_view tr t names n after x x' v v')
 
 -- what a job answers to a tree, by the order of refusals
@@ -253,6 +270,9 @@ module _ (files : Text → Option (List ℕ)) where
   one_of_job (view tr k name) s s' x x' a a' = one_on_file (view tr k name) tt s s' x x' a a'
   one_of_job (trace tr w f name) s s' x x' a a' = one_on_file (trace tr w f name) tt s s' x x' a a'
   one_of_job (check tr term journal) s s' x x' a a' = alike (check tr term journal) s s' x x' (one_checked tr term journal s s' x x' a a')
+  one_of_job (certify tr b w f q name) s s' x x' a a' = one_on_file (certify tr b w f q name) tt s s' x x' a a'
+  one_of_job (jobs.net tr from w f name) s s' x x' (of_file has e h) a' = absurd has
+  one_of_job (jobs.equal tr w f q first second) s s' x x' (of_file has e h) a' = absurd has
   one_of_job (gen tr runs k) s s' x x' a a' = alike (gen tr runs k) s s' x x' (one_made tr runs k s s' x x' a a')
 
 -- ---- words and files

@@ -1,5 +1,5 @@
--- A term has one answer: what is printed of it, that its run goes on, what is read of its untouched net, or what is shown of its net
--- after some leads.
+-- A term has one answer: what is printed of it, that its run goes on, what is read of its untouched net, what is shown of its net
+-- after some leads, or what leftmost reduction says of it.
 use Rattle.std.proofs.Common.{◌≡◌, ℕ, ◌*◌, List, length, sym, ap, ◌∙◌, subst}
 use Rattle.ol_term.specs.declared.translations.Translation.{Translation}
 use Rattle.ol_term.specs.Trees.{Tree}
@@ -22,12 +22,15 @@ use Rattle.ol_readback.specs.Texts.{text_of_tree, IsTextOf}
 use Rattle.ol_readback.specs.declared.answers.ReadNode.{ReadNode}
 use Rattle.ol_readback.proofs.One.{tree_is_one}
 use Rattle.ol_readback.proofs.OneTree.{list_is_of_one_tree}
+use Rattle.ol_beta.specs.Verdicts.{IsVerdict}
+use Rattle.ol_beta.proofs.OneVerdict.{verdict_one}
 use Rattle.ol_view.specs.ShowTexts.{show_text}
 use Rattle.ol_view.proofs.OneView.{leads_one}
 use Rattle.ol_view.proofs.ShownAlike.{live_alike, shown_alike}
 use Rattle.ol_cli.specs.Texts.{line, answer_text, view_text}
+use Rattle.ol_cli.specs.VerdictTexts.{verdict_text}
 use Rattle.ol_cli.specs.Laws.{OneTreeIsPrinted, OneTreeIsWalked}
-use Rattle.ol_cli.specs.Evaluation.{start_net_of_term, Shows, Prints, RunsOut, RunEnds, Walks, Views, PrintsOf}
+use Rattle.ol_cli.specs.Evaluation.{start_net_of_term, Shows, Prints, RunsOut, RunEnds, ReadsLast, Certifies, Walks, Views, PrintsOf}
 use Rattle.ol_cli.proofs.ListedOnce.{same_length}
 use Rattle.ol_cli.proofs.TreeTransport.{tree_same}
 
@@ -78,6 +81,24 @@ module _ (tr : Translation) (t : Tree) (names : List (List ℕ)) (is_net : IsNet
   one_print fuel heads text text' p p' =
       let o = one_thread_one (start_net_of_term tr t names) (start_net_of_term tr t names) p.net p'.net fuel p.journal p'.journal start_is_net start_is_named (same_refl (start_net_of_term tr t names)) p.run p'.run in
       one_show names heads p'.journal p.net p'.net text text' o.1 (subst (λ es. Shows names heads es p.net text) o.0 p.shows) p'.shows
+
+  -- one tree is read from its last net
+  pub one_last_tree : (fuel heads : ℕ) (tree tree' : List ReadNode) → ReadsLast tr t names fuel heads tree → ReadsLast tr t names fuel heads tree' → tree ≡ tree'
+  one_last_tree fuel heads tree tree' p p' =
+      let o = one_thread_one (start_net_of_term tr t names) (start_net_of_term tr t names) p.net p'.net fuel p.journal p'.journal start_is_net start_is_named (same_refl (start_net_of_term tr t names)) p.run p'.run in
+      let size : live p.net ≡ live p'.net = same_length p.net p'.net o.1 p.once p'.once in
+      let read = subst (λ n. IsTree p'.net heads (2 * n) tree) size (tree_same p.net p'.net o.1 size heads (2 * live p.net) tree p.read) in
+      tree_is_one p'.net p'.is_net heads (2 * live p'.net) tree tree' read p'.read
+
+  pub reads_or_runs_out : (fuel heads : ℕ) (tree : List ReadNode) → RunsOut tr t names fuel → ReadsLast tr t names fuel heads tree → ⊥
+  reads_or_runs_out fuel heads tree r p = ends_or_runs_out fuel r (record { journal = p.journal; net = p.net; run = p.run; complete = p.complete })
+
+  -- and one verdict is told of it
+  pub one_certified : (steps fuel heads : ℕ) (text text' : List ℕ) → Certifies tr t names steps fuel heads text → Certifies tr t names steps fuel heads text' → text ≡ text'
+  one_certified steps fuel heads text text' c c' =
+      let tree = one_last_tree fuel heads c.tree c'.tree c.last c'.last in
+      let verdict = verdict_one t c'.tree steps c.verdict c'.verdict (subst (λ ns. IsVerdict t ns steps c.verdict) tree c.holds) c'.holds in
+      c.written ∙ ap (verdict_text steps) verdict ∙ sym c'.written
 
   -- the untouched net is read in one way
   walks_tree : (edges heads : ℕ) (text text' : List ℕ) (w : Walks tr t names edges heads text) (w' : Walks tr t names edges heads text') → (w.tree ≡ w'.tree) × (w.term ≡ w'.term)

@@ -9,7 +9,8 @@ use Rattle.ol_parse.proofs.Exact.{one_file}
 use Rattle.ol_readback.specs.Terms.{HasAllHeads, IsReadBack}
 use Rattle.ol_readback.specs.declared.answers.ReadNode.{ReadNode}
 use Rattle.ol_words.specs.Texts.{Text}
-use Rattle.ol_words.specs.Asked.{Asked, run, walk, view, trace, check, gen}
+use Rattle.ol_words.specs.Asked.{Asked, run, walk, view, trace, check, gen, certify}
+use Rattle.ol_words.specs.Asked as jobs
 use Rattle.ol_cli.specs.declared.status.Status.{Status}
 use Rattle.ol_cli.specs.declared.status.Status.TheVariants as status
 use Rattle.ol_cli.specs.Inside.{IsOnTerm, IsReadWhereTold}
@@ -49,6 +50,9 @@ file_bytes contents (view tr k name) on = refl
 file_bytes contents (trace tr w f name) on = refl
 file_bytes contents (check tr term journal) on = absurd on
 file_bytes contents (gen tr runs k) on = absurd on
+file_bytes contents (certify tr b w f q name) on = refl
+file_bytes contents (jobs.net tr from w f name) on = absurd on
+file_bytes contents (jobs.equal tr w f q first second) on = absurd on
 
 -- by the bytes that are made
 pub made_read : (tr : Translation) (contents : Text → Option (List ℕ)) (runs : Bool) (k : ℕ) (st : Status) (text : List ℕ) → FileIsReadAgain (gen tr runs k) (doubled_text k) st text → IsReadWhereTold (gen tr runs k) contents st text

@@ -20,13 +20,13 @@ use Rattle.ol_translate.specs.Translation.{translation_of}
 use Rattle.ol_translate.specs.Names.{HasNames}
 use Rattle.ol_translate.proofs.Whole.{translation_net}
 use Rattle.ol_readback.specs.Heads.{live}
-use Rattle.ol_readback.specs.Sources.{HasHeadsOf}
 use Rattle.ol_readback.specs.Terms.{HasAllHeads, IsReadBack}
 use Rattle.ol_readback.proofs.Sources.{own_heads, read_heads}
 use Rattle.ol_readback.proofs.Forests.{tree_is_whole}
 use Rattle.ol_meaning.proofs.Based.{places_say}
 use Rattle.ol_words.specs.Texts.{Text}
-use Rattle.ol_words.specs.Asked.{Asked, run, walk, view, trace, check, gen}
+use Rattle.ol_words.specs.Asked.{Asked, run, walk, view, trace, check, gen, certify}
+use Rattle.ol_words.specs.Asked as jobs
 use Rattle.ol_cli.specs.declared.status.Status.{Status}
 use Rattle.ol_cli.specs.declared.status.Status.TheVariants as status
 use Rattle.ol_cli.specs.Jobs.{AskFor, EachName, TellsTerm, TellsFiles, term_bytes, translation_in}
@@ -65,7 +65,7 @@ prints_tree tr t names fuel heads text has p read =
     record {
       prints = p;
       own_heads = own;
-      says = λ e. places_say t (length names) has (s.stuck == 0) whole.tree s.tree whole.is_list (subst (λ tr. HasHeadsOf (translation_of tr t (length names)) (s.stuck == 0) s.tree) e own);
+      says = places_say tr t (length names) has (s.stuck == 0) whole.tree s.tree whole.is_list own;
       read_again = read;
     }
 
@@ -78,7 +78,7 @@ walks_tree tr t names edges heads text has w read =
     record {
       walks = w;
       own_heads = own;
-      says = λ e. places_say t (length names) has false whole.tree w.tree whole.is_list (subst (λ tr. HasHeadsOf (translation_of tr t (length names)) false w.tree) e own);
+      says = places_say tr t (length names) has false whole.tree w.tree whole.is_list own;
       read_again = read;
     }
 
@@ -87,6 +87,9 @@ tells_tree (run tr workers fuel heads name) t names text has h = prints_tree tr 
 tells_tree (view tr k name) t names text has h = tt
 tells_tree (trace tr w f name) t names text has h = tt
 tells_tree (check tr term journal) t names text has h = tt
+tells_tree (certify tr b w f q name) t names text has h = tt
+tells_tree (jobs.net tr from w f name) t names text has h = tt
+tells_tree (jobs.equal tr w f q first second) t names text has h = tt
 tells_tree (gen tr true k) t names text has h = prints_tree tr t names 200000 4096 text has h.0 h.1
 tells_tree (gen tr false k) t names text has h = tt
 tells_tree (walk tr edges heads name) t names text has h = walks_tree tr t names edges heads text has h.0 h.1
@@ -136,6 +139,9 @@ module _ (files : Text → Option (List ℕ)) (bytes : List ℕ) (st : Status) (
   answer_tells (view tr after name) ran told a = tt
   answer_tells (trace tr w f name) ran told a = tt
   answer_tells (check tr term journal) ran told a = tt
+  answer_tells (certify tr b w f q name) ran told a = tt
+  answer_tells (jobs.net tr from w f name) ran told a = tt
+  answer_tells (jobs.equal tr w f q first second) ran told a = tt
 
 pub answer_runs : (words : List (String Global)) (files : Text → Option (List ℕ)) (bytes : List ℕ) → TellsTerm files words bytes → (st : Status) (text : List ℕ) (old new : Option (List ℕ)) →
     IsAnswer words files st text → Appended old text new → EveryRunTells words bytes st old new
@@ -173,3 +179,6 @@ ends_run words f f' given contents ended quiet bytes tells r g g' old new calm h
     go (view tr after name) j ran = tt
     go (trace tr w f name) j ran = tt
     go (check tr term journal) j ran = tt
+    go (certify tr b w f q name) j ran = tt
+    go (jobs.net tr from w f name) j ran = tt
+    go (jobs.equal tr w f q first second) j ran = tt

@@ -6,8 +6,8 @@ use Rattle.ol_term.specs.declared.translations.Translation.{Translation}
 use Rattle.ol_words.specs.Texts.{Text}
 use Rattle.ol_words.specs.Lines.{Line, line_of}
 use Rattle.ol_words.specs.Numbers.{Limits, number_in, number_within, is_number, setting}
-use Rattle.ol_words.specs.Asked.{Asked, run, walk, view, trace, check, gen}
-use Rattle.ol_words.specs.Jobs.{Setting, Verb, translation_numbered, translation_setting, workers_setting, fuel_setting, heads_setting, edges_setting, after_setting, runs_setting, doublings, run_verb, walk_verb, view_verb, trace_verb, check_verb, gen_verb, run_asks, walk_asks, view_asks, trace_asks, check_asks, gen_asks, is_input, only, known_of, values_of, number_on, numbers, job_on, job_behind, job_of}
+use Rattle.ol_words.specs.Asked.{Asked, run, walk, view, trace, check, gen, certify, net, equal}
+use Rattle.ol_words.specs.Jobs.{Setting, Verb, translation_numbered, translation_setting, workers_setting, fuel_setting, heads_setting, edges_setting, after_setting, runs_setting, steps_setting, from_term_setting, doublings, run_verb, walk_verb, view_verb, trace_verb, check_verb, gen_verb, certify_verb, net_verb, equal_verb, run_asks, walk_asks, view_asks, trace_asks, check_asks, gen_asks, certify_asks, net_asks, equal_asks, is_input, only, known_of, values_of, number_on, numbers, job_on, job_behind, job_of}
 use Rattle.ol_cli.specs.Inside.{IsWithinLimits}
 
 and_then_some : {A B : Type 0} (f : A → Option B) (o : Option A) (b : B) → option_and_then f o ≡ Some b → (a : A) × (o ≡ Some a) × (f a ≡ Some b)
@@ -51,6 +51,9 @@ first_number number s rest ns h =
 
 four_numbers : (t w f q : ℕ) (a b c d ns : List ℕ) → [] ≡ d → q ∷ d ≡ c → f ∷ c ≡ b → w ∷ b ≡ a → t ∷ a ≡ ns → t ∷ w ∷ f ∷ q ∷ [] ≡ ns
 four_numbers t w f q a b c d ns h i j k l = cc
+
+five_numbers : (t s w f q : ℕ) (a b c d e ns : List ℕ) → [] ≡ e → q ∷ e ≡ d → f ∷ d ≡ c → w ∷ c ≡ b → s ∷ b ≡ a → t ∷ a ≡ ns → t ∷ s ∷ w ∷ f ∷ q ∷ [] ≡ ns
+five_numbers t s w f q a b c d e ns h i j k l m = cc
 
 three_numbers : (w f q : ℕ) (a b c ns : List ℕ) → [] ≡ c → q ∷ c ≡ b → f ∷ b ≡ a → w ∷ a ≡ ns → w ∷ f ∷ q ∷ [] ≡ ns
 three_numbers w f q a b c ns h i j k = cc
@@ -154,6 +157,63 @@ gen_within line asked h =
     let all : tr.0 ∷ r.0 ∷ [] ≡ t.0 = two_numbers tr.0 r.0 tr.1 r.1 t.0 none r.4 tr.4 in
     gen_names tr.0 r.0 line.names asked (same_job (λ ns. gen_asks ns line.names) (tr.0 ∷ r.0 ∷ []) t.0 asked all t.2)
 
+certify_within : (line : Line) (asked : Asked) → job_on certify_verb line ≡ Some asked → IsWithinLimits asked
+certify_within line asked h =
+    let t = and_then_some (λ ns. certify_asks ns line.names) (numbers (number_on line) certify_verb.settings) asked h in
+    let tr = first_number (number_on line) translation_setting (steps_setting ∷ workers_setting ∷ fuel_setting ∷ heads_setting ∷ []) t.0 t.1 in
+    let b = first_number (number_on line) steps_setting (workers_setting ∷ fuel_setting ∷ heads_setting ∷ []) tr.1 tr.3 in
+    let w = first_number (number_on line) workers_setting (fuel_setting ∷ heads_setting ∷ []) b.1 b.3 in
+    let f = first_number (number_on line) fuel_setting (heads_setting ∷ []) w.1 w.3 in
+    let q = first_number (number_on line) heads_setting [] f.1 f.3 in
+    let none : [] ≡ q.1 = cc in
+    let all : tr.0 ∷ b.0 ∷ w.0 ∷ f.0 ∷ q.0 ∷ [] ≡ t.0 = five_numbers tr.0 b.0 w.0 f.0 q.0 tr.1 b.1 w.1 f.1 q.1 t.0 none q.4 f.4 w.4 b.4 tr.4 in
+    let job : certify_asks (tr.0 ∷ b.0 ∷ w.0 ∷ f.0 ∷ q.0 ∷ []) line.names ≡ Some asked = same_job (λ ns. certify_asks ns line.names) (tr.0 ∷ b.0 ∷ w.0 ∷ f.0 ∷ q.0 ∷ []) t.0 asked all t.2 in
+    let is = map_some (certify (translation_numbered tr.0) b.0 w.0 f.0 q.0) (only line.names) asked job in
+    let workers = setting_within workers_setting.limits (values_of workers_setting.option line.options) w.0 (omega arith, omega arith) w.2 in
+    let fuel = setting_within fuel_setting.limits (values_of fuel_setting.option line.options) f.0 (omega arith, omega arith) f.2 in
+    let heads = setting_within heads_setting.limits (values_of heads_setting.option line.options) q.0 (omega arith, omega arith) q.2 in
+    subst IsWithinLimits {x = certify (translation_numbered tr.0) b.0 w.0 f.0 q.0 is.0} is.2 (workers.0, workers.1, fuel.1, heads.0)
+
+net_within : (line : Line) (asked : Asked) → job_on net_verb line ≡ Some asked → IsWithinLimits asked
+net_within line asked h =
+    let t = and_then_some (λ ns. net_asks ns line.names) (numbers (number_on line) net_verb.settings) asked h in
+    let tr = first_number (number_on line) translation_setting (from_term_setting ∷ workers_setting ∷ fuel_setting ∷ []) t.0 t.1 in
+    let r = first_number (number_on line) from_term_setting (workers_setting ∷ fuel_setting ∷ []) tr.1 tr.3 in
+    let w = first_number (number_on line) workers_setting (fuel_setting ∷ []) r.1 r.3 in
+    let f = first_number (number_on line) fuel_setting [] w.1 w.3 in
+    let none : [] ≡ f.1 = cc in
+    let all : tr.0 ∷ r.0 ∷ w.0 ∷ f.0 ∷ [] ≡ t.0 = four_numbers tr.0 r.0 w.0 f.0 tr.1 r.1 w.1 f.1 t.0 none f.4 w.4 r.4 tr.4 in
+    let job : net_asks (tr.0 ∷ r.0 ∷ w.0 ∷ f.0 ∷ []) line.names ≡ Some asked = same_job (λ ns. net_asks ns line.names) (tr.0 ∷ r.0 ∷ w.0 ∷ f.0 ∷ []) t.0 asked all t.2 in
+    let is = map_some (net (translation_numbered tr.0) (r.0 == 1) w.0 f.0) (only line.names) asked job in
+    let workers = setting_within workers_setting.limits (values_of workers_setting.option line.options) w.0 (omega arith, omega arith) w.2 in
+    let fuel = setting_within fuel_setting.limits (values_of fuel_setting.option line.options) f.0 (omega arith, omega arith) f.2 in
+    subst IsWithinLimits {x = net (translation_numbered tr.0) (r.0 == 1) w.0 f.0 is.0} is.2 (workers.0, workers.1, fuel.1)
+
+compared : (tr : Translation) (w f q : ℕ) (b : Bool) (first second : Text) (asked : Asked) → (1 ≤ w) × (w ≤ 64) × (f ≤ 8000000) × (1 ≤ q) → (if b then None else Some (equal tr w f q first second)) ≡ Some asked → IsWithinLimits asked
+compared tr w f q true first second asked l h = absurd (cc)
+compared tr w f q false first second asked l h = let is : equal tr w f q first second ≡ asked = cc in subst IsWithinLimits is l
+
+equal_names : (n w f q : ℕ) (names : List Text) (asked : Asked) → (1 ≤ w) × (w ≤ 64) × (f ≤ 8000000) × (1 ≤ q) → equal_asks (n ∷ w ∷ f ∷ q ∷ []) names ≡ Some asked → IsWithinLimits asked
+equal_names n w f q [] asked l h = absurd (cc)
+equal_names n w f q (a ∷ []) asked l h = absurd (cc)
+equal_names n w f q (a ∷ b ∷ []) asked l h = compared (translation_numbered n) w f q (is_input a && is_input b) a b asked l h
+equal_names n w f q (a ∷ b ∷ c ∷ names) asked l h = absurd (cc)
+
+equal_within : (line : Line) (asked : Asked) → job_on equal_verb line ≡ Some asked → IsWithinLimits asked
+equal_within line asked h =
+    let t = and_then_some (λ ns. equal_asks ns line.names) (numbers (number_on line) equal_verb.settings) asked h in
+    let tr = first_number (number_on line) translation_setting (workers_setting ∷ fuel_setting ∷ heads_setting ∷ []) t.0 t.1 in
+    let w = first_number (number_on line) workers_setting (fuel_setting ∷ heads_setting ∷ []) tr.1 tr.3 in
+    let f = first_number (number_on line) fuel_setting (heads_setting ∷ []) w.1 w.3 in
+    let q = first_number (number_on line) heads_setting [] f.1 f.3 in
+    let none : [] ≡ q.1 = cc in
+    let all : tr.0 ∷ w.0 ∷ f.0 ∷ q.0 ∷ [] ≡ t.0 = four_numbers tr.0 w.0 f.0 q.0 tr.1 w.1 f.1 q.1 t.0 none q.4 f.4 w.4 tr.4 in
+    let job : equal_asks (tr.0 ∷ w.0 ∷ f.0 ∷ q.0 ∷ []) line.names ≡ Some asked = same_job (λ ns. equal_asks ns line.names) (tr.0 ∷ w.0 ∷ f.0 ∷ q.0 ∷ []) t.0 asked all t.2 in
+    let workers = setting_within workers_setting.limits (values_of workers_setting.option line.options) w.0 (omega arith, omega arith) w.2 in
+    let fuel = setting_within fuel_setting.limits (values_of fuel_setting.option line.options) f.0 (omega arith, omega arith) f.2 in
+    let heads = setting_within heads_setting.limits (values_of heads_setting.option line.options) q.0 (omega arith, omega arith) q.2 in
+    equal_names tr.0 w.0 f.0 q.0 line.names asked (workers.0, workers.1, fuel.1, heads.0) job
+
 -- ---- words
 
 abbrev VerbIsWithin : Verb → Type 0
@@ -179,4 +239,7 @@ job_within (program ∷ word ∷ rest) asked h =
     (here_or_later rest asked view_verb _ (bytes_eq view_verb.word word) view_within
     (here_or_later rest asked trace_verb _ (bytes_eq trace_verb.word word) trace_within
     (here_or_later rest asked check_verb _ (bytes_eq check_verb.word word) check_within
-    (here_or_later rest asked gen_verb _ (bytes_eq gen_verb.word word) gen_within (nothing rest asked)))))) h
+    (here_or_later rest asked gen_verb _ (bytes_eq gen_verb.word word) gen_within
+    (here_or_later rest asked certify_verb _ (bytes_eq certify_verb.word word) certify_within
+    (here_or_later rest asked net_verb _ (bytes_eq net_verb.word word) net_within
+    (here_or_later rest asked equal_verb _ (bytes_eq equal_verb.word word) equal_within (nothing rest asked))))))))) h

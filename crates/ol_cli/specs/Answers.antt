@@ -10,14 +10,14 @@ use Rattle.ol_parse.specs.Texts.{IsRefusedAt}
 use Rattle.ol_parse.specs.Parsed.{IsFileOf}
 use Rattle.ol_translate.specs.Sizes.{size_of_translation}
 use Rattle.ol_words.specs.Texts.{Text}
-use Rattle.ol_words.specs.Asked.{Asked, run, walk, view, trace, check, gen}
+use Rattle.ol_words.specs.Asked.{Asked, run, walk, view, trace, check, gen, certify, net, equal}
 use Rattle.ol_view.specs.declared.answers.Check.{Check}
 use Rattle.ol_view.specs.Checks.{OnlyIsFound}
 use Rattle.ol_cli.specs.declared.status.Status.{Status}
 use Rattle.ol_cli.specs.declared.status.Status.TheVariants as status
 use Rattle.ol_cli.specs.Jobs.{AskFor, AskForNothing, HasTermFile, file_name, plain_fuel, plain_heads, translation_in}
 use Rattle.ol_cli.specs.Texts.{usage_text, fault_text, bytes_text, depth_text, nodes_text, journal_text, syntax_text, spent_text, found_text}
-use Rattle.ol_cli.specs.Evaluation.{start_net_of_term, RunsOut, RunEnds, Prints, Walks, Views, TracesWhole, TracesFuel}
+use Rattle.ol_cli.specs.Evaluation.{start_net_of_term, RunsOut, RunEnds, Prints, Walks, Views, TracesWhole, TracesFuel, Certifies}
 
 -- the number that a process ends with
 abbrev pub status_number : Status → ℕ
@@ -70,6 +70,12 @@ TraceAnswer translation t names fuel status.Done text = RunEnds translation t na
 TraceAnswer translation t names fuel status.Spent text = RunsOut translation t names fuel × TracesFuel translation t names fuel text
 TraceAnswer translation t names fuel _ text = ⊥
 
+-- What `certify` answers to a term: its one-thread run is longer than the fuel, or ends, and the verdict is told.
+abbrev pub CertifyAnswer : Translation → Tree → List (List ℕ) → (steps fuel heads : ℕ) → Status → List ℕ → Type 0
+CertifyAnswer translation t names steps fuel heads status.Spent text = RunsOut translation t names fuel × (text ≡ spent_text fuel)
+CertifyAnswer translation t names steps fuel heads status.Done text = Certifies translation t names steps fuel heads text
+CertifyAnswer translation t names steps fuel heads _ text = ⊥
+
 -- What a job answers to a term with these free names. A term alone is no answer of `check`, and `gen` has none.
 abbrev pub TermAnswer : Asked → Tree → List (List ℕ) → Status → List ℕ → Type 0
 TermAnswer (run translation workers fuel heads name) t names st text = RunAnswer translation t names fuel heads st text
@@ -78,6 +84,9 @@ TermAnswer (view translation after name) t names st text = ViewAnswer translatio
 TermAnswer (trace translation workers fuel name) t names st text = TraceAnswer translation t names fuel st text
 TermAnswer (check translation term journal) t names st text = ⊥
 TermAnswer (gen translation runs k) t names st text = ⊥
+TermAnswer (certify translation steps workers fuel heads name) t names st text = CertifyAnswer translation t names steps fuel heads st text
+TermAnswer (net translation from_term workers fuel name) t names st text = ⊥
+TermAnswer (equal translation workers fuel heads first second) t names st text = ⊥
 
 -- What a job answers to the bytes of its file: a limit that they pass, the place where they are refused, or the answer to their term.
 abbrev pub FileAnswer : Asked → List ℕ → Status → List ℕ → Type 0

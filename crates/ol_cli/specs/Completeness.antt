@@ -4,7 +4,7 @@ use Rattle.std.specs.declared.alloc.Global.{Global}
 use Rattle.ol_io.specs.Outside.{Appended}
 use Rattle.ol_term.specs.Trees.{Tree}
 use Rattle.ol_words.specs.Texts.{Text}
-use Rattle.ol_words.specs.Asked.{Asked, run, trace, check, gen}
+use Rattle.ol_words.specs.Asked.{Asked, run, trace, check, gen, certify, equal}
 use Rattle.ol_cli.specs.declared.status.Status.{Status}
 use Rattle.ol_cli.specs.declared.status.Status.TheVariants as status
 use Rattle.ol_cli.specs.Jobs.{AskFor, plain_fuel, term_bytes, translation_in}
@@ -16,6 +16,7 @@ abbrev pub EndsWithinFuel : Asked → Tree → List (List ℕ) → Type 0
 EndsWithinFuel (run translation workers fuel heads name) t names = RunEnds translation t names fuel
 EndsWithinFuel (trace translation workers fuel name) t names = RunEnds translation t names fuel
 EndsWithinFuel (gen translation runs k) t names = RunEnds translation t names plain_fuel
+EndsWithinFuel (certify translation steps workers fuel heads name) t names = RunEnds translation t names fuel
 EndsWithinFuel _ t names = Unit {0}
 
 -- the bytes of the job's term are told, in the grammar and within the limits, and its run ends within the fuel
@@ -35,6 +36,7 @@ HasJournalWithin files name = (journal : List ℕ) × (files name ≡ Some journ
 abbrev pub CanDo : (Text → Option (List ℕ)) → Asked → Type 0
 CanDo files (gen translation false k) = Unit {0}
 CanDo files (check translation term journal) = HasTermWithin files (check translation term journal) × HasJournalWithin files journal
+CanDo files (equal translation workers fuel heads first second) = ⊥
 CanDo files asked = HasTermWithin files asked
 
 -- the words ask for a job that can be done

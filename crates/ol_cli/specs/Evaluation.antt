@@ -1,5 +1,5 @@
 -- What a term is answered: its one-thread run and what is printed of it, its untouched translation read back, its net after some
--- leads, or the trace of a run of it.
+-- leads, the trace of a run of it, or what leftmost reduction of it says of that run's tree.
 use Rattle.std.specs.Prelude.{◌≡◌, ℕ, ◌*◌, ◌≤◌, ◌<◌, List, length, count_by, is_some}
 use Rattle.ol_term.specs.declared.translations.Translation.{Translation}
 use Rattle.ol_term.specs.Trees.{Tree}
@@ -12,17 +12,21 @@ use Rattle.ol_rules.specs.declared.journal.NodeName.TheVariants.{Init}
 use Rattle.ol_rules.specs.declared.journal.Entry.{Entry}
 use Rattle.ol_rules.specs.Counting.{counts_of}
 use Rattle.ol_rules.specs.Runs.{IsRun, IsOneThread}
+use Rattle.ol_diamond.specs.Waves.{AreWaves}
 use Rattle.ol_readback.specs.Heads.{live}
 use Rattle.ol_readback.specs.ReadTrees.{IsTree}
 use Rattle.ol_readback.specs.Texts.{IsTextOf}
 use Rattle.ol_readback.specs.declared.answers.ReadNode.{ReadNode}
+use Rattle.ol_beta.specs.Verdicts.{IsVerdict}
+use Rattle.ol_beta.specs.declared.certifying.Verdict.{Verdict}
 use Rattle.ol_translate.specs.Translation.{translation_of}
 use Rattle.ol_cli.specs.Listing.{ListsOnce}
 use Rattle.ol_view.specs.Laws.{IsTable}
 use Rattle.ol_view.specs.Leads.{IsAfterLeads}
 use Rattle.ol_view.specs.ShowTexts.{show_text}
-use Rattle.ol_view.specs.TraceTexts.{trace_text}
+use Rattle.ol_view.specs.WaveTexts.{wave_trace_text}
 use Rattle.ol_cli.specs.Texts.{line, answer_text, view_text}
+use Rattle.ol_cli.specs.VerdictTexts.{verdict_text}
 
 -- the net of a term with these free names by this translation, its nodes named by their numbers
 abbrev pub start_net_of_term : Translation → Tree → List (List ℕ) → NamedNet NodeName
@@ -85,6 +89,11 @@ pub record Views (translation : Translation) (t : Tree) (names : List (List ℕ)
   pub tabled : IsTable last
   pub written : text ≡ view_text steps (show_text last)
 
+-- The text tells each entry of this journal, which leads from the term's net to this one, with its rule and its wave.
+abbrev pub IsTraceOf : Translation → Tree → List (List ℕ) → List Entry → NamedNet NodeName → List ℕ → Type 0
+IsTraceOf translation t names journal net text =
+    (waves : List ℕ) × AreWaves (start_net_of_term translation t names) journal net waves × (text ≡ wave_trace_text journal waves)
+
 -- The text is the trace of a run of the term, after which no pair is active, with at most `fuel` entries.
 pub record TracesWhole (translation : Translation) (t : Tree) (names : List (List ℕ)) (fuel : ℕ) (text : List ℕ) : Type 0 where
   pub journal : List Entry
@@ -92,7 +101,7 @@ pub record TracesWhole (translation : Translation) (t : Tree) (names : List (Lis
   pub run : IsRun (start_net_of_term translation t names) 0 journal net
   pub complete : IsComplete net
   pub within : length journal ≤ fuel
-  pub written : text ≡ trace_text journal
+  pub written : IsTraceOf translation t names journal net text
 
 -- The text is the trace of a run of the term with `fuel` entries, after which some pair is active.
 pub record TracesFuel (translation : Translation) (t : Tree) (names : List (List ℕ)) (fuel : ℕ) (text : List ℕ) : Type 0 where
@@ -101,7 +110,27 @@ pub record TracesFuel (translation : Translation) (t : Tree) (names : List (List
   pub run : IsRun (start_net_of_term translation t names) 0 journal net
   pub left : HasActive net
   pub full : length journal ≡ fuel
-  pub written : text ≡ trace_text journal
+  pub written : IsTraceOf translation t names journal net text
+
+-- The one-thread run ends within `fuel` steps, and this tree is read from its last net, each node of which is listed once. The first
+-- `heads` subterms are asked, each by walks of at most twice as many crossings as there are nodes.
+pub record ReadsLast (translation : Translation) (t : Tree) (names : List (List ℕ)) (fuel heads : ℕ) (tree : List ReadNode) : Type 0 where
+  pub journal : List Entry
+  pub net : NamedNet NodeName
+  pub run : IsOneThread (start_net_of_term translation t names) fuel journal net
+  pub complete : IsComplete net
+  pub is_net : IsNet net
+  pub once : ListsOnce net
+  pub read : IsTree net heads (2 * live net) tree
+
+-- The one-thread run ends within `fuel` steps, and the text tells the verdict of leftmost reduction of the term, by at most `steps`
+-- steps, on the tree that is read from its last net.
+pub record Certifies (translation : Translation) (t : Tree) (names : List (List ℕ)) (steps fuel heads : ℕ) (text : List ℕ) : Type 0 where
+  pub tree : List ReadNode
+  pub verdict : Verdict
+  pub last : ReadsLast translation t names fuel heads tree
+  pub holds : IsVerdict t tree steps verdict
+  pub written : text ≡ verdict_text steps verdict
 
 -- ---- every complete run, not the one-thread run alone, gives these answers
 

@@ -17,12 +17,11 @@ use Rattle.ol_wire.specs.Standing.{IsAfter, NoNodeTwice}
 use Rattle.ol_reduce.specs.Frozen.{IsFrozen}
 use Rattle.ol_reduce.specs.Reduced.{IsTableOf}
 use Rattle.ol_words.specs.Asked.{Asked, run, trace, check, gen}
-use Rattle.ol_view.specs.TraceTexts.{trace_text}
 use Rattle.ol_cli.specs.declared.status.Status.{Status}
 use Rattle.ol_cli.specs.declared.status.Status.TheVariants as status
 use Rattle.ol_cli.specs.Jobs.{AskFor, file_name, translation_in}
 use Rattle.ol_cli.specs.Texts.{spent_text}
-use Rattle.ol_cli.specs.Evaluation.{Shows}
+use Rattle.ol_cli.specs.Evaluation.{Shows, IsTraceOf}
 use Rattle.ol_cli.specs.Answers.{IsTermFile, Seen, GaveAll, plain_run}
 
 -- the journal of closed words
@@ -72,13 +71,13 @@ EndsTrace fuel journal net status.Done = IsComplete net × (length journal ≤ f
 EndsTrace fuel journal net status.Spent = HasActive net × (length journal ≡ fuel)
 EndsTrace fuel journal net _ = ⊥
 
--- the closed words of a term's work that ended so, and the text is the trace of their journal
+-- the closed words of a term's work that ended so, and the text is the trace of their journal, with its waves
 abbrev pub TraceHands : Translation → Tree → List (List ℕ) → (workers fuel : ℕ) → Status → List ℕ → Option ClosedTable → Type 0
 TraceHands translation t names workers fuel st text closed =
     (w : ClosedTable) × (closed ≡ Some w) × (net : NamedNet NodeName) × IsWorkOn translation t names fuel workers w net
-    × EndsTrace fuel (journal_of w) net st × (text ≡ trace_text (journal_of w))
+    × EndsTrace fuel (journal_of w) net st × IsTraceOf translation t names (journal_of w) net text
 
--- what a job hands back of a term, with its text: the others have no workers
+-- what a job hands back of a term, with its text: `run` and `trace` their closed words, the others nothing
 abbrev pub TermHands : Asked → Tree → List (List ℕ) → Status → List ℕ → Option ClosedTable → Type 0
 TermHands (run translation workers fuel heads name) t names st text closed = RunHands translation t names workers fuel heads st text closed
 TermHands (trace translation workers fuel name) t names st text closed = TraceHands translation t names workers fuel st text closed

@@ -1,17 +1,19 @@
 -- Private: words of private contracts alone, which no clause of a public call needs: what is asked of a job within the call, and what is kept of
 -- it there.
-use Rattle.std.specs.Prelude.{◌≡◌, ℕ, ◌≤◌, List, [], Option, Some}
+use Rattle.std.specs.Prelude.{◌≡◌, ℕ, ◌≤◌, List, [], Option, None, Some}
 use Rattle.ol_io.specs.Outside.{Rose}
 use Rattle.ol_term.specs.declared.translations.Translation.{Translation}
 use Rattle.ol_term.specs.Trees.{Tree, tree_of}
 use Rattle.ol_term.specs.declared.term_file.TermFile.{TermFile}
 use Rattle.ol_wire.specs.Closed.{ClosedTable}
+use Rattle.ol_readback.specs.declared.answers.ReadNode.{ReadNode}
 use Rattle.ol_words.specs.Texts.{Text}
-use Rattle.ol_words.specs.Asked.{Asked, run, walk, view, trace, check, gen}
+use Rattle.ol_words.specs.Asked.{Asked, run, walk, view, trace, check, gen, certify, net, equal}
 use Rattle.ol_cli.specs.declared.evaluation.RunNumbers.{RunNumbers}
 use Rattle.ol_cli.specs.declared.status.Status.{Status}
 use Rattle.ol_cli.specs.declared.status.Status.TheVariants as status
 use Rattle.ol_cli.specs.Jobs.{term_bytes}
+use Rattle.ol_cli.specs.Evaluation.{RunsOut, ReadsLast}
 use Rattle.ol_cli.specs.Answers.{Seen, TermAnswer, JournalCause}
 use Rattle.ol_cli.specs.Handed.{TermHands}
 use Rattle.ol_cli.specs.Texts.{fault_text}
@@ -21,6 +23,8 @@ use Rattle.ol_cli.specs.ReadAgain.{AnswerIsReadAgain, FileIsReadAgain}
 abbrev pub IsOnTerm : Asked → Type 0
 IsOnTerm (check translation term journal) = ⊥
 IsOnTerm (gen translation runs k) = ⊥
+IsOnTerm (net translation from_term workers fuel name) = ⊥
+IsOnTerm (equal translation workers fuel heads first second) = ⊥
 IsOnTerm _ = Unit {0}
 
 -- the numbers of a job are within the limits of their options
@@ -31,10 +35,16 @@ IsWithinLimits (view translation after name) = after ≤ 8000000
 IsWithinLimits (trace translation workers fuel name) = (1 ≤ workers) × (workers ≤ 64) × (fuel ≤ 8000000)
 IsWithinLimits (check translation term journal) = Unit {0}
 IsWithinLimits (gen translation runs k) = k ≤ 10
+IsWithinLimits (certify translation steps workers fuel heads name) = (1 ≤ workers) × (workers ≤ 64) × (fuel ≤ 8000000) × (1 ≤ heads)
+IsWithinLimits (net translation from_term workers fuel name) = (1 ≤ workers) × (workers ≤ 64) × (fuel ≤ 8000000)
+IsWithinLimits (equal translation workers fuel heads first second) = (1 ≤ workers) × (workers ≤ 64) × (fuel ≤ 8000000) × (1 ≤ heads)
 
--- the job `run` of these numbers, and the job `walk`, where the name doesn't matter
+-- the jobs `run` and `certify` of these numbers, and the job `walk`, where the name doesn't matter
 abbrev pub run_by : RunNumbers → Asked
 run_by n = run n.translation n.workers n.fuel n.heads []
+
+abbrev pub certify_by : RunNumbers → (steps : ℕ) → Asked
+certify_by n steps = certify n.translation steps n.workers n.fuel n.heads []
 
 abbrev pub walk_by : Translation → (edges heads : ℕ) → Asked
 walk_by translation edges heads = walk translation edges heads []
@@ -50,6 +60,11 @@ IsReadByNames asked file st text = AnswerIsReadAgain asked (tree_of file.term) f
 -- and what is handed back with it
 abbrev pub HandsOfTerm : Asked → TermFile → Status → List ℕ → Option ClosedTable → Type 0
 HandsOfTerm asked file st text closed = TermHands asked (tree_of file.term) file.names st text closed
+
+-- The one-thread run ends within the fuel and this tree is read from its last net; or it is longer, and there is no tree.
+abbrev pub ReadsOrRunsOut : Translation → Tree → List (List ℕ) → (fuel heads : ℕ) → Option (List ReadNode) → Type 0
+ReadsOrRunsOut translation t names fuel heads None = RunsOut translation t names fuel
+ReadsOrRunsOut translation t names fuel heads (Some tree) = ReadsLast translation t names fuel heads tree
 
 -- where the bytes of the job's term are told, the text is read again by the names of that term
 abbrev pub IsReadWhereTold : Asked → (Text → Option (List ℕ)) → Status → List ℕ → Type 0

@@ -6,7 +6,7 @@ use Rattle.ol_term.specs.declared.translations.Translation.{Translation}
 use Rattle.ol_term.specs.Generated.{doubled_text}
 use Rattle.ol_words.specs.Texts.{Text}
 use Rattle.ol_words.specs.Texts.{texts_of}
-use Rattle.ol_words.specs.Asked.{Asked, run, walk, view, trace, check, gen}
+use Rattle.ol_words.specs.Asked.{Asked, run, walk, view, trace, check, gen, certify, net, equal}
 use Rattle.ol_words.specs.Jobs.{job_of}
 
 -- the words ask for this
@@ -25,6 +25,9 @@ file_names (view translation after name) = name ∷ []
 file_names (trace translation workers fuel name) = name ∷ []
 file_names (check translation term journal) = term ∷ journal ∷ []
 file_names (gen translation runs k) = []
+file_names (certify translation steps workers fuel heads name) = name ∷ []
+file_names (net translation from_term workers fuel name) = name ∷ []
+file_names (equal translation workers fuel heads first second) = first ∷ second ∷ []
 
 -- the name of the file with the term, which is read first; `gen` makes its term itself
 abbrev pub file_name : Asked → Text
@@ -34,10 +37,15 @@ file_name (view translation after name) = name
 file_name (trace translation workers fuel name) = name
 file_name (check translation term journal) = term
 file_name (gen translation runs k) = []
+file_name (certify translation steps workers fuel heads name) = name
+file_name (net translation from_term workers fuel name) = name
+file_name (equal translation workers fuel heads first second) = first
 
 -- the job has a file with a term
 abbrev pub HasTermFile : Asked → Type 0
 HasTermFile (gen translation runs k) = ⊥
+HasTermFile (net translation from_term workers fuel name) = ⊥
+HasTermFile (equal translation workers fuel heads first second) = ⊥
 HasTermFile _ = Unit {0}
 
 -- how many files a job has, and how many the words name, which is none where they ask for nothing
@@ -68,6 +76,9 @@ translation_in (view translation after name) = translation
 translation_in (trace translation workers fuel name) = translation
 translation_in (check translation term journal) = translation
 translation_in (gen translation runs k) = translation
+translation_in (certify translation steps workers fuel heads name) = translation
+translation_in (net translation from_term workers fuel name) = translation
+translation_in (equal translation workers fuel heads first second) = translation
 
 -- the fuel of `run` without options, and how many subterms it asks
 abbrev pub plain_fuel : ℕ
@@ -84,6 +95,9 @@ term_bytes contents (walk translation edges heads name) = contents name
 term_bytes contents (view translation after name) = contents name
 term_bytes contents (trace translation workers fuel name) = contents name
 term_bytes contents (check translation term journal) = contents term
+term_bytes contents (certify translation steps workers fuel heads name) = contents name
+term_bytes contents (net translation from_term workers fuel name) = contents name
+term_bytes contents (equal translation workers fuel heads first second) = contents first
 
 -- these are the bytes of the term of the job that the words ask for, where they ask for one
 abbrev pub TellsTerm : (Text → Option (List ℕ)) → List (String Global) → List ℕ → Type 0

@@ -1,5 +1,6 @@
 -- What clauses of public functions rest on.
 pub mod Texts
+pub mod VerdictTexts
 pub mod Jobs
 pub mod Listing
 pub mod Evaluation

@@ -1,7 +1,7 @@
 -- Private: words of private contracts alone: a term file made ready, which is the net of its term, or the answer that refuses it, whatever the job.
-use Rattle.std.specs.Prelude.{◌≡◌, ℕ, ◌≤◌, List, length, None, count_by, is_some}
+use Rattle.std.specs.Prelude.{◌≡◌, ℕ, ◌≤◌, ◌<◌, ◌^◌, true, List, length, None, count_by, is_some}
 use Rattle.ol_term.specs.declared.translations.Translation.{Translation}
-use Rattle.ol_term.specs.Trees.{Tree, tree_of}
+use Rattle.ol_term.specs.Trees.{Tree, tree_of, is_below, depth, term_size}
 use Rattle.ol_parse.specs.Texts.{IsRefusedAt}
 use Rattle.ol_parse.specs.Parsed.{AreNames}
 use Rattle.ol_net.specs.Graph.{Graph}
@@ -27,6 +27,12 @@ pub record IsNetOf (translation : Translation) (t : Tree) (names : List (List �
   pub same : SameNet (net_of net) (translation_of translation t (length names))
   pub whole : count_by is_some net.nodes ≡ length net.nodes
   pub small : IsSmallNet net
+
+-- the term isn't deep, each variable is bound, and its size is counted in 64 bits, so that it can be reduced
+pub record IsReducible (t : Tree) : Type 0 where
+  pub shallow : depth t ≤ 1000
+  pub bound : is_below 0 t ≡ true
+  pub few : term_size t < 2 ^ 64
 
 -- this holds of each term whose net it is by a translation, with its free names
 abbrev pub HoldsOfTerms : Graph → (Translation → Tree → List (List ℕ) → Type 0) → Type 0

@@ -12,8 +12,9 @@ ghost use Rattle.ol_cli.specs.ReadAgain.{FileIsReadAgain};
 ghost use Rattle.ol_cli.specs.Answers.{FileAnswer, TraceAnswer, plain_run};
 ghost use Rattle.ol_cli.specs.Evaluation.{Views};
 ghost use Rattle.ol_cli.specs.Handed.{WhereEnded, FileHands, TraceHands};
-ghost use Rattle.ol_cli.specs.Prepared.{HoldsOfTerms, IsNetOf};
+ghost use Rattle.ol_cli.specs.Prepared.{HoldsOfTerms, IsNetOf, IsReducible};
 
+use crate::certifying::certify_net;
 use crate::preparing::{Prepared, prepare};
 use crate::status::Status;
 use crate::texts::{answer_lines, spent_line, term_line, view_lines};
@@ -23,7 +24,7 @@ use ol_readback::{read_back, tree_text};
 use ol_reduce::{Reduced, reduce};
 use ol_rules::counts;
 use ol_term::{TermFile, Translation};
-use ol_view::{after, show, trace_text};
+use ol_view::{after, show, trace_text_2};
 use ol_wire::Words;
 use ol_words::Job;
 use std::alloc::Global;
@@ -55,13 +56,13 @@ impl Answer {
     }
 }
 
-/// The numbers of a job `run`.
+/// The numbers of a job that rewrites a term's net and reads it back.
 #[derive(Clone, Copy)]
-struct RunNumbers {
-    translation: Translation,
-    workers: u32,
-    fuel: u32,
-    heads: u32,
+pub struct RunNumbers {
+    pub translation: Translation,
+    pub workers: u32,
+    pub fuel: u32,
+    pub heads: u32,
 }
 
 // The numbers of `run` without options but the translation.
@@ -92,6 +93,9 @@ fn translation_in(job: &Job) -> Translation
         Job::Trace { translation, .. } => *translation,
         Job::Check { translation, .. } => *translation,
         Job::Gen { translation, .. } => *translation,
+        Job::Certify { translation, .. } => *translation,
+        Job::Net { translation, .. } => *translation,
+        Job::Equal { translation, .. } => *translation,
     }
 }
 
@@ -158,6 +162,7 @@ fn evaluate_net<R: Threads + Wait + Sync, G: Gate + Sync>(
 ) -> Result<Answer, NoMemory>
     requires net { IsNetOf (translation_in (asked_by job.now)) (tree_of file.now.term)
         file.now.names net.now }
+    requires term { IsReducible (tree_of file.now.term) }
     requires on_term { IsOnTerm (asked_by job.now) }
     requires within { IsWithinLimits (asked_by job.now) }
     ensures answer { IfOk result (λ a.
@@ -201,8 +206,27 @@ fn evaluate_net<R: Threads + Wait + Sync, G: Gate + Sync>(
             let answer = trace_net(rt, alloc, net, *workers, *fuel, gate)?;
             Ok(answer)
         }
+        Job::Certify {
+            translation,
+            steps,
+            workers,
+            fuel,
+            heads,
+            ..
+        } => {
+            let numbers = RunNumbers {
+                translation: *translation,
+                workers: *workers,
+                fuel: *fuel,
+                heads: *heads,
+            };
+            let answer = certify_net(rt, alloc, net, file, numbers, *steps, gate)?;
+            Ok(answer)
+        }
         Job::Check { .. } => unreachable!(),
         Job::Gen { .. } => unreachable!(),
+        Job::Net { .. } => unreachable!(),
+        Job::Equal { .. } => unreachable!(),
     }
 }
 
@@ -323,7 +347,7 @@ fn trace_net<R: Threads + Wait + Sync, G: Gate + Sync>(
     match reduced {
         Reduced::Spent { journal, words } => {
             words.once();
-            let text = trace_text(alloc, &journal)?;
+            let text = trace_text_2(alloc, net, &journal)?;
             let status = Status::Spent;
             let closed = Some(words);
             Ok(Answer {
@@ -338,7 +362,7 @@ fn trace_net<R: Threads + Wait + Sync, G: Gate + Sync>(
             words,
         } => {
             words.once();
-            let text = trace_text(alloc, &journal)?;
+            let text = trace_text_2(alloc, net, &journal)?;
             let status = Status::Done;
             let closed = Some(words);
             Ok(Answer {

@@ -1,12 +1,15 @@
 //! The top call: from words to a text on a sink and a status.
 #![tactic(auto)]
 
+mod certifying;
 mod evaluation;
+mod last_tree;
 mod laws;
 mod preparing;
 mod status;
 mod texts;
 mod top;
+mod verdicts;
 
 pub use laws::{any_run_tells, every_run_answers, one_answer};
 pub use status::Status;

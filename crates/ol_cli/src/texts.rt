@@ -93,8 +93,8 @@ pub fn term_line(alloc: Global, term: &[u8]) -> Result<Vec<u8>, NoMemory>
     Ok(text)
 }
 
-// A name, a space, a number and a line feed.
-fn count_line(alloc: Global, name: &str, count: u32) -> Result<Vec<u8>, NoMemory>
+/// A name, a space, a number and a line feed.
+pub fn count_line(alloc: Global, name: &str, count: u32) -> Result<Vec<u8>, NoMemory>
     ensures { IfOk result (λ text. text.items ≡ count_line name.now count) }
 {
     let mut text = Vec::new(alloc);
@@ -102,8 +102,8 @@ fn count_line(alloc: Global, name: &str, count: u32) -> Result<Vec<u8>, NoMemory
     Ok(text)
 }
 
-// Appends a name, a space, a number and a line feed.
-fn add_count(alloc: Global, text: &mut Vec<u8>, name: &str, count: u32) -> Result<(), NoMemory>
+/// Appends a name, a space, a number and a line feed.
+pub fn add_count(alloc: Global, text: &mut Vec<u8>, name: &str, count: u32) -> Result<(), NoMemory>
     ensures { OnOk result (text.new.items ≡ text.old.items ++ count_line name.now count) }
 {
     let Ok(line) = format!(in alloc; "{name} {count}\n") else {

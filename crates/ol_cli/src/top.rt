@@ -57,11 +57,17 @@ pub struct Outcome {
 /// - `view [--after K] NAME` rewrites the net by at most K interactions of the one-thread run, and
 ///   writes how many they were and the net after them.
 /// - `trace [--workers N] [--fuel F] NAME` rewrites the net as `run` does, and writes the journal
-///   of what was rewritten.
+///   of what was rewritten: of each pair its rule, its wave and its two nodes. The wave is the round
+///   in which it would be rewritten if each round rewrote all pairs that are there.
 /// - `check TERM JOURNAL` writes what the text of the second file is found to be against the term
 ///   of the first: a complete run, a run of so many interactions, no run, or no text of a journal.
+///   The text may tell each pair's rule and wave, or its two nodes alone.
 /// - `gen [--run] K` writes a term that is doubled K times, or does with it what `run` does with no
 ///   options.
+/// - `certify [--steps B] [--workers N] [--fuel F] [--heads Q] NAME` rewrites the net and reads it
+///   back as `run` does, and reduces the term by at most B leftmost beta steps. It writes whether
+///   the normal form is what was read back, and then the address of each step; or why that isn't
+///   known.
 ///
 /// Each has `--translation T` too, 1 or 2 and by itself 2: by which the term becomes a net, that of
 /// `gen` as well.
@@ -92,6 +98,14 @@ pub struct Outcome {
 /// With `Done` or `Spent` of `run`, `trace` or `gen --run`, the closed words are handed back: those
 /// of a table that was made from the term's own net, with F as its fuel and N seats. What is
 /// written is what their journal tells.
+///
+/// What `certify` writes is `agreed` or `differs`, then `steps N` and N lines, each the address of
+/// a step: `.` for the root, else digits, 0 into the body of an abstraction, 1 into a function, 2
+/// into an argument. It is `incomplete` where a part wasn't read, `deep D` where what was read is
+/// more than 1,000 deep, `past at step S` where that step gave a term of more than 100,000
+/// constructors or more than 1,000 deep, and `beta steps B` where a redex is left. `agreed` comes
+/// exactly where the leftmost reduction stays within these bounds and reaches, within B steps, a
+/// normal form that is the term which `run` would print.
 pub fn ol<R: Threads + Wait + Sync, S: Source, W: Sink, G: Gate + Sync>(
     rt: &R,
     alloc: Global,
@@ -143,9 +157,12 @@ pub fn ol<R: Threads + Wait + Sync, S: Source, W: Sink, G: Gate + Sync>(
         result.status (W.taken out.old) (W.taken out.new)) }
 
     // A fault that is told has risen, and one that has risen is told.
-    ensures read { result.status ≡ Status.ReadFault → Rose (S.faults src.old) (S.faults src.new) }
-    ensures write { result.status ≡ Status.WriteFault → Rose (W.faults out.old) (W.faults out.new) }
-    ensures write_told { W.faults out.old < W.faults out.new → result.status ≡ Status.WriteFault }
+    ensures read { result.status ≡ Status.ReadFault
+        → Rose (S.faults src.old) (S.faults src.new) }
+    ensures write { result.status ≡ Status.WriteFault
+        → Rose (W.faults out.old) (W.faults out.new) }
+    ensures write_told { W.faults out.old < W.faults out.new
+        → result.status ≡ Status.WriteFault }
     ensures read_told { S.faults src.old < S.faults src.new
         → ¬ Rose (W.faults out.old) (W.faults out.new)
         → (result.status ≡ Status.ReadFault) ⊎ (result.status ≡ Status.NoMemory) }
@@ -252,7 +269,7 @@ fn plan<R: Threads + Wait + Sync, S: Source, G: Gate + Sync>(
         Err(UsageFault::Refused) => {
             let text = line(
                 alloc,
-                "usage: ol run|walk|view|trace|check|gen [options] NAME",
+                "usage: ol run|walk|view|trace|check|gen|certify|net|equal [options] NAME",
             )?;
             Ok(Answer::without_words(text, Status::Usage))
         }
@@ -290,6 +307,7 @@ fn answer_job<R: Threads + Wait + Sync, S: Source, G: Gate + Sync>(
         Job::Walk { name, .. } => answer_file(rt, alloc, job, name.as_str(), src, gate),
         Job::View { name, .. } => answer_file(rt, alloc, job, name.as_str(), src, gate),
         Job::Trace { name, .. } => answer_file(rt, alloc, job, name.as_str(), src, gate),
+        Job::Certify { name, .. } => answer_file(rt, alloc, job, name.as_str(), src, gate),
         Job::Check {
             translation,
             term,
@@ -300,6 +318,8 @@ fn answer_job<R: Threads + Wait + Sync, S: Source, G: Gate + Sync>(
             run,
             k,
         } => answer_made(rt, alloc, *translation, *run, *k, gate),
+        Job::Net { .. } => Err(NoMemory),
+        Job::Equal { .. } => Err(NoMemory),
     }
 }
 

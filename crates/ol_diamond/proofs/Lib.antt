@@ -31,3 +31,6 @@ pub mod WeighedPorts
 pub mod Copies
 pub mod WeighedEntries
 pub mod Weighed
+pub mod Facing
+pub mod OneStep
+pub mod WaveRuns

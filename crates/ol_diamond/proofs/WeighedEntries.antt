@@ -45,7 +45,7 @@ abbrev pub weighted_named : (ℕ → NodeName) → Graph → List ℕ → List �
 weighted_named m g bases weights = by_ports (net_under m (net_of g)) (name_weight g.free bases weights)
 
 -- the net of numbers under names of which no two are equal
-net_is : (m : ℕ → NodeName) (g : Graph) → ((x y : ℕ) → m x ≡ m y → x ≡ y) → IsNet (net_of g) → IsNet (net_under m (net_of g))
+pub net_is : (m : ℕ → NodeName) (g : Graph) → ((x y : ℕ) → m x ≡ m y → x ≡ y) → IsNet (net_of g) → IsNet (net_under m (net_of g))
 net_is m g apart net = renamed_net m (net_of g) (net_under m (net_of g)) (under_renamed m (net_of g) (λ x y k l i j h h' e. apart x y e)) net
 
 module _ (g g' : Graph) (bases bases' ws ws' : List ℕ) (e : Entry) (wave : ℕ) (x : WeighsEntry g g' bases bases' ws ws' e wave) (ordered : comes_before e.first e.second ≡ true)

@@ -7,6 +7,5 @@ pub mod OneThread
 pub mod Weights
 pub mod Waves
 pub mod WaveLaws
--- What only contracts of private functions and proofs cite.
 pub mod Replaying
 pub mod PortWeights

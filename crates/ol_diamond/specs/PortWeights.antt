@@ -1,4 +1,4 @@
--- Private: words of private contracts alone: what the ports of a graph weigh while a journal is replayed, by place.
+-- What the ports of a graph weigh while a journal is replayed, by place.
 use Rattle.std.specs.Prelude.{◌≡◌, ℕ, suc, max, Bool, false, if◌then◌else◌, ◌==◌, is_some, List, [], ◌∷◌, ◌++◌, Option, None, Some, slice_set, slice_index_or}
 use Rattle.ol_net.specs.declared.parts.Kind.{Kind}
 use Rattle.ol_net.specs.declared.parts.NodeId.{NodeId}

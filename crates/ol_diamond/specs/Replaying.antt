@@ -1,9 +1,10 @@
--- Private: words of private contracts alone: the numbers of names while a journal is replayed.
+-- The numbers of names while a journal is replayed.
 use Rattle.std.specs.Prelude.{◌≡◌, ℕ, suc, ◌+◌, nat_lt, if◌then◌else◌, List, [], ◌∷◌, ◌++◌, length, Option, None, Some, slice_get, slice_index_or}
 use Rattle.ol_net.specs.declared.parts.Rule.{Rule}
 use Rattle.ol_net.specs.Graph.{Graph}
-use Rattle.ol_net.specs.Nets.{slot, Linked, IsNet}
+use Rattle.ol_net.specs.Nets.{slot, NamedNet, Linked, IsNet}
 use Rattle.ol_net.specs.Numbered.{net_of}
+use Rattle.ol_net.specs.Pairs.{IsActive}
 use Rattle.ol_rules.specs.declared.journal.NodeName.{NodeName}
 use Rattle.ol_rules.specs.declared.journal.NodeName.TheVariants.{Init, Born}
 use Rattle.ol_rules.specs.Steps.{StepsAt}
@@ -32,3 +33,12 @@ pub record RewritesNamed (old new : Graph) (bases bases' : List ℕ) (a b : Node
   pub old_net : IsNet (net_of old)
   pub new_net : IsNet (net_of new)
   pub bases_on : bases' ≡ bases ++ length new.nodes ∷ []
+
+-- the two are no active pair, whichever of them acts
+abbrev pub AreIdle : {A : Type 0} → NamedNet A → A → A → Type 0
+AreIdle {A} N f g = (r : Rule) → (IsActive N f g r → ⊥) × (IsActive N g f r → ⊥)
+
+-- no two nodes of these names are an active pair
+abbrev pub AreIdleNumbers : Graph → List ℕ → NodeName → NodeName → Type 0
+AreIdleNumbers g bases a b =
+    (f h : ℕ) → node_number bases a ≡ Some f → node_number bases b ≡ Some h → AreIdle (net_of g) f h

@@ -21,7 +21,7 @@ ghost use Rattle.ol_diamond.specs.Laws.{StartIsBirthNet, StepKeepsBirthNet, RunK
 pub use one_thread::{one_thread_agrees, same_nets_run_alike};
 pub use square::{Square, SquareFault, two_orders};
 pub use wave_laws::{heaviest_stays, runs_have_waves, waves_agree};
-pub use weighing::{WaveList, waves};
+pub use weighing::{Rewritten, WaveList, Weighing, waves};
 
 /// Where no node's name is a proper part of another's, no node is there already that a rewrite will
 /// make. A net of start nodes is such a net, and each step and each run keeps it.

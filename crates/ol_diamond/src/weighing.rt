@@ -1,16 +1,17 @@
 //! The waves of a journal, found by a replay on a net whose ports have weights.
 
-ghost use Rattle.std.specs.Prelude.{◌≡◌, ℕ, suc, max, ◌+◌, ◌*◌, ◌≤◌, [], ◌∷◌, ◌++◌, length, true, slice_get, slice_index_or, IfOk, OnOk, IfSome, option_map};
+ghost use Rattle.std.specs.Prelude.{◌≡◌, ◌↔◌, IsNone, ℕ, suc, max, ◌+◌, ◌*◌, ◌≤◌, [], ◌∷◌, ◌++◌, length, true, false, slice_get, slice_index_or, IfOk, OnOk, IfSome, IfNone, option_map};
 ghost use Rattle.ol_net.specs.declared.parts.Facing.TheVariants.{Active};
 ghost use Rattle.ol_net.specs.Graph.{place, kind_at, facing_at};
 ghost use Rattle.ol_net.specs.Nets.{slot, Linked, NamedNet, net_under};
 ghost use Rattle.ol_net.specs.Numbered.{net_of};
+ghost use Rattle.ol_net.specs.Pairs.{IsComplete, HasActive};
 ghost use Rattle.ol_rules.specs.declared.journal.NodeName.{NodeName};
 ghost use Rattle.ol_rules.specs.declared.journal.NodeName.TheVariants.{Init};
-ghost use Rattle.ol_rules.specs.Counting.{is_rule};
+ghost use Rattle.ol_rules.specs.declared.journal.Entry.{Entry};
 ghost use Rattle.ol_rules.specs.Rewriting.{is_meeting};
 ghost use Rattle.ol_rules.specs.Runs.{IsRun};
-ghost use Rattle.ol_diamond.specs.Replaying.{node_number};
+ghost use Rattle.ol_diamond.specs.Replaying.{node_number, AreIdle, AreIdleNumbers};
 ghost use Rattle.ol_diamond.specs.Waves.{IsWavesOf};
 ghost use Rattle.ol_diamond.specs.PortWeights.{weight_at, raised_if, joined_weights, copied, copies_at, arity_of, acts_on, crossed_weights, weights_after, WeighsEntry};
 
@@ -44,20 +45,36 @@ impl WaveList {
         self.waves.len() as u32
     }
 
-    /// The wave of the entry with ticket `k`, if there are more than `k` entries.
+    /// The wave of the entry with ticket `k`. None comes exactly where `k` isn't below `len`.
     pub fn get(&self, k: u32) -> Option<u32>
-        ensures { result ≡ slice_get self.now k }
+        ensures wave { result ≡ slice_get self.now k }
+        ensures none { IsNone result ↔ (length self.now ≤ k) }
     {
-        self.waves.get(k as usize).copied()
+        let k = k as usize;
+        if k < self.waves.len() {
+            Some(self.waves[k])
+        } else {
+            None
+        }
     }
 }
 
-/// A net while a journal is replayed. `bases` has, for each ticket so far, how many node numbers
-/// were given out before it, and at its end how many are given out by now. `weights` has a weight
-/// at the place of each port: free ports come first, by number, and then three places for each node
-/// number. A link weighs as much as the heavier of its two ports.
+/// What the rewrite of a pair was: its rule, and the round in which it would come if each round
+/// rewrote all pairs that are there.
+#[derive(Clone, Copy, Debug, PartialEq, Eq)]
+pub struct Rewritten {
+    pub rule: Rule,
+    pub wave: u32,
+}
+
+/// A net while a journal is replayed, with weights of its links, which `waves` tells of. `bases`
+/// has, for each ticket so far, how many node numbers were given out before it, and at its end how
+/// many are given out by now: so the node that ticket t made at place p has the number
+/// `bases[t] + p`, and that is below `bases[t + 1]`. `weights` has a weight at the place of each
+/// port: free ports come first, by number, and then three places for each node number. A link
+/// weighs as much as the heavier of its two ports.
 #[derive(Drop)]
-struct Weighing {
+pub struct Weighing {
     net: Net,
     bases: Vec<u32>,
     weights: Vec<u32>,
@@ -66,9 +83,8 @@ struct Weighing {
 /// The waves of the entries of a journal: the round in which each pair would be rewritten if each
 /// round rewrote all pairs that are there. The links of the net have weight 0. The wave of an entry
 /// is one more than the weight of the link of its two nodes, the joins that it makes weigh as much
-/// as its wave, and of two edges that become one the greater weight stays. So no pair of a wave
-/// depends on another of it, and the greatest wave is the depth of the run as a parallel
-/// computation.
+/// as its wave, and of two edges that become one the greater weight stays. So a pair's wave is greater
+/// than those of the pairs whose rewriting made the link of its two nodes.
 ///
 /// The journal is that of a run from the net, whose nodes are named by their numbers. The net stays
 /// as it is. `NoMemory`: no memory was found.
@@ -86,7 +102,7 @@ pub fn waves(alloc: Global, net: &Net, journal: &Journal) -> Result<WaveList, No
         let Some(entry) = journal.get(k) else {
             unreachable!()
         };
-        let wave = weighing.rewrite(entry)?;
+        let wave = weighing.rewrite_entry(entry)?;
         let Ok(()) = waves.push(wave) else {
             return Err(NoMemory);
         };
@@ -114,22 +130,17 @@ fn is_meeting(rule: Rule) -> bool
 }
 
 fn same_rule(a: Rule, b: Rule) -> bool
-    ensures { result ≡ is_rule a b }
+    ensures { result ≡ true → a ≡ b }
 {
     a == b
 }
 
-// Whether the two nodes are an active pair of this rule.
-fn are_active(net: &Net, f: NodeId, g: NodeId, rule: Rule) -> bool
+// Whether the principal ports of the two nodes are joined.
+fn face(net: &Net, f: NodeId, g: NodeId) -> bool
     ensures linked { result ≡ true → Linked (net_of net.now) (slot f.0 0) (slot g.0 0) }
-    ensures active { result ≡ true → facing_at net.now f ≡ Active rule }
+    ensures idle { result ≡ false → AreIdle (net_of net.now) f.0 g.0 }
 {
-    let Facing::Active(found) = net.facing(f) else {
-        return false;
-    };
-    if !same_rule(found, rule) {
-        return false;
-    }
+    net.is_net();
     match net.partner(Port::Of { node: f, slot: 0 }) {
         Some(Port::Of { node, slot }) => slot == 0 && node.0 == g.0,
         Some(Port::Free(_)) => false,
@@ -137,9 +148,25 @@ fn are_active(net: &Net, f: NodeId, g: NodeId, rule: Rule) -> bool
     }
 }
 
+// The rule by which the two nodes are an active pair, if they are one.
+fn rule_between(net: &Net, f: NodeId, g: NodeId) -> Option<Rule>
+    ensures linked { IfSome result (λ rule. Linked (net_of net.now) (slot f.0 0) (slot g.0 0)) }
+    ensures active { IfSome result (λ rule. facing_at net.now f ≡ Active rule) }
+    ensures idle { IfNone result (AreIdle (net_of net.now) f.0 g.0) }
+{
+    let Facing::Active(rule) = net.facing(f) else {
+        return None;
+    };
+    if !face(net, f, g) {
+        return None;
+    }
+    Some(rule)
+}
+
 impl Weighing {
-    // A copy of the net at the start: no port weighs anything.
-    fn new(alloc: Global, net: &Net) -> Result<Weighing, NoMemory>
+    /// A copy of the net at the start: its nodes are named by their numbers, and no port weighs
+    /// anything. `NoMemory`: no memory was found.
+    pub fn new(alloc: Global, net: &Net) -> Result<Weighing, NoMemory>
         ensures net { IfOk result (λ w. w.net ≡ net.now) }
         ensures bases { IfOk result (λ w. w.bases.items ≡ length net.now.nodes ∷ []) }
         ensures sized { IfOk result (λ w.
@@ -344,29 +371,37 @@ impl Weighing {
         }
     }
 
-    // Rewrites the pair of an entry, and answers its wave. Of a run each entry's pair is active, and
-    // no wave is above the number of entries; for other entries the answer is `NoMemory`.
-    fn rewrite(&mut self, entry: Entry) -> Result<u32, NoMemory>
+    /// Rewrites the pair of the nodes of these names, where it is active, and answers its rule and
+    /// its wave. `None`: no such pair is active; the net stays as it is. `NoMemory`: no memory was
+    /// found, or the wave is above 4294967295.
+    pub fn rewrite(
+        &mut self,
+        first: NodeName,
+        second: NodeName,
+    ) -> Result<Option<Rewritten>, NoMemory>
         requires few { length self.old.net.nodes ≤ 2000000000 }
-        ensures weighed { IfOk result (λ wave. WeighsEntry self.old.net self.new.net
-            self.old.bases.items self.new.bases.items
-            self.old.weights.items self.new.weights.items entry wave) }
+        ensures made { IfOk result (λ made. IfSome made (λ of. WeighsEntry
+            self.old.net self.new.net self.old.bases.items self.new.bases.items
+            self.old.weights.items self.new.weights.items
+            (record { rule = of.rule; first = first; second = second }) of.wave)) }
+        ensures idle { IfOk result (λ made. IfNone made
+            (AreIdleNumbers self.old.net self.old.bases.items first second)) }
     {
         self.net.is_net();
         self.net.is_tabled();
-        let Some(a) = self.node_of(entry.first) else {
-            return Err(NoMemory);
+        let Some(a) = self.node_of(first) else {
+            return Ok(None);
         };
-        let Some(b) = self.node_of(entry.second) else {
-            return Err(NoMemory);
+        let Some(b) = self.node_of(second) else {
+            return Ok(None);
         };
-        if !are_active(&self.net, a, b, entry.rule) {
-            return Err(NoMemory);
-        }
+        let Some(rule) = rule_between(&self.net, a, b) else {
+            return Ok(None);
+        };
         let Some(wave) = self.wave_of(a, b) else {
             return Err(NoMemory);
         };
-        self.weigh(a, b, entry.rule, wave)?;
+        self.weigh(a, b, rule, wave)?;
         let Ok(_) = step(&mut self.net, a) else {
             return Err(NoMemory);
         };
@@ -374,6 +409,36 @@ impl Weighing {
         let Ok(()) = self.bases.push(self.net.born()) else {
             return Err(NoMemory);
         };
-        Ok(wave)
+        Ok(Some(Rewritten { rule, wave }))
+    }
+
+    // Rewrites the pair of an entry, and answers its wave. Of a run each entry's pair is active, and
+    // no wave is above the number of entries; for other entries the answer is `NoMemory`.
+    fn rewrite_entry(&mut self, entry: Entry) -> Result<u32, NoMemory>
+        requires few { length self.old.net.nodes ≤ 2000000000 }
+        ensures weighed { IfOk result (λ wave. WeighsEntry self.old.net self.new.net
+            self.old.bases.items self.new.bases.items
+            self.old.weights.items self.new.weights.items entry wave) }
+    {
+        let Some(made) = self.rewrite(entry.first, entry.second)? else {
+            return Err(NoMemory);
+        };
+        if !same_rule(made.rule, entry.rule) {
+            return Err(NoMemory);
+        }
+        Ok(made.wave)
+    }
+
+    /// Whether no pair is active.
+    pub fn is_complete(&self) -> bool
+        ensures complete { result ≡ true → IsComplete (net_of self.now.net) }
+        ensures active { result ≡ false → HasActive (net_of self.now.net) }
+    {
+        for n in 0..self.net.born() {
+            if let Facing::Active(_) = self.net.facing(NodeId(n)) {
+                return false;
+            }
+        }
+        true
     }
 }

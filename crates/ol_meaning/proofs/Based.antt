@@ -1,6 +1,5 @@
 -- What a printed tree says of a term, by the term's own net.
 use Rattle.std.proofs.Common.{◌≡◌, ℕ, Bool, true, List, [], refl, sym, subst}
-use Rattle.ol_term.specs.declared.translations.Translation.TheVariants.{One}
 use Rattle.ol_translate.specs.Translation.{translation_of}
 use Rattle.ol_translate.specs.Names.{HasNames}
 use Rattle.ol_spots_net.proofs.Followed.{net_and_spots, path_is_trail}
@@ -19,12 +18,14 @@ use Rattle.ol_meaning.proofs.Showing.{shows}
 use Rattle.ol_meaning.proofs.LeftmostRoads.{tree_reached}
 use Rattle.ol_meaning.proofs.Filling.{filled}
 use Rattle.ol_meaning.proofs.Endings.{has_no_end, no_redex}
+use Rattle.ol_term.specs.declared.translations.Translation.{Translation}
 
-pub term_seen : (t : Tree) (names : ℕ) → HasNames t names → IsSeen (translation_of One t names) [] 0 [] t WholeSeats
-term_seen t names h = whole_seen (translation_of One t names) t h.bound (λ p q c d n l. (net_and_spots t names h p q c d).1 (n, l)) (λ p q c d r. path_is_trail t names h p q c d r)
+module _ (τ : Translation) where
+  pub term_seen : (t : Tree) (names : ℕ) → HasNames t names → IsSeen τ (translation_of τ t names) [] 0 [] t WholeSeats
+  term_seen t names h = whole_seen (translation_of τ t names) t h.bound (λ p q c d n l. (net_and_spots τ t names h p q c d).1 (n, l)) (λ p q c d r. path_is_trail τ t names h p q c d r)
 
-pub tree_shows : (t : Tree) (names : ℕ) → HasNames t names → (b : Bool) (T : Part true) → HasHeadsOf (translation_of One t names) b (preorder T) → Shows b [] 0 T t
-tree_shows t names h b T r = shows (translation_of One t names) b T t whole_term refl (record { seats = WholeSeats; seen = term_seen t names h }) r
+  pub tree_shows : (t : Tree) (names : ℕ) → HasNames t names → (b : Bool) (T : Part true) → HasHeadsOf (translation_of τ t names) b (preorder T) → Shows b [] 0 T t
+  tree_shows t names h b T r = shows τ (translation_of τ t names) b T t whole_term refl (record { seats = WholeSeats; seen = term_seen t names h }) r
 
 pub shown_normal : ShownIsNormalForm
 shown_normal t b T g h = let r = tree_reached b T t h g in (r.0, no_leftmost (term_of T) r.1)
@@ -35,18 +36,19 @@ shown_reduct t b T h = filled b T t h
 pub shown_endless : ShownHasNoEnd
 shown_endless t T h g v r n = has_no_end T t v g h r (no_redex v n)
 
-pub places_say : (t : Tree) (names : ℕ) → HasNames t names → (b : Bool) (T : Part true) (ns : List ReadNode) → preorder T ≡ ns → HasHeadsOf (translation_of One t names) b ns → SaysOf t b ns
-places_say t names h b T ns e r =
-    let g = tree_shows t names h b T (subst (λ ns. HasHeadsOf (translation_of One t names) b ns) (sym e) r) in
-    let all : HasAllHeads ns → HasAllHeads (preorder T) = λ a. subst (λ ns. HasAllHeads ns) (sym e) a in
-    let x = filled b T t g in
-    record {
-      tree = T;
-      is_list = e;
-      reduct = x.0;
-      reduces = x.1;
-      fills = x.2;
-      leftmost = λ a. (shown_normal t b T g (all a)).0;
-      normal = λ a. (shown_normal t b T g (all a)).1;
-      endless = λ l k v m n. shown_endless t T (subst (λ b. Shows b [] 0 T t) l g) (subst (λ ns. LacksHead ns) (sym e) k) v m n;
-    }
+module _ (τ : Translation) where
+  pub places_say : (t : Tree) (names : ℕ) → HasNames t names → (b : Bool) (T : Part true) (ns : List ReadNode) → preorder T ≡ ns → HasHeadsOf (translation_of τ t names) b ns → SaysOf t b ns
+  places_say t names h b T ns e r =
+      let g = tree_shows τ t names h b T (subst (λ ns. HasHeadsOf (translation_of τ t names) b ns) (sym e) r) in
+      let all : HasAllHeads ns → HasAllHeads (preorder T) = λ a. subst (λ ns. HasAllHeads ns) (sym e) a in
+      let x = filled b T t g in
+      record {
+        tree = T;
+        is_list = e;
+        reduct = x.0;
+        reduces = x.1;
+        fills = x.2;
+        leftmost = λ a. (shown_normal t b T g (all a)).0;
+        normal = λ a. (shown_normal t b T g (all a)).1;
+        endless = λ l k v m n. shown_endless t T (subst (λ b. Shows b [] 0 T t) l g) (subst (λ ns. LacksHead ns) (sym e) k) v m n;
+      }

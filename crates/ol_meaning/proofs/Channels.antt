@@ -1,25 +1,27 @@
 -- The one way from the root of a head normal form to its head.
 use Rattle.std.proofs.Common.{◌≡◌, ℕ, suc, true, refl, sym, ap, ◌∙◌, subst, arith, ◌⊎◌, inl, inr}
 use Rattle.ol_context.proofs.Contexts.{head_eq, tail_eq}
-use Rattle.ol_meaning.specs.Spots.{Tree, var, free, lam, app, Level, empty, o, star, Context, cons, Wire, bound, name, under, occurs, left, right, Place, root, wire, Spot, at, body, fun, Edge, var_wire, free_wire, lam_root, lam_own, lam_wire, app_root, app_arg, app_left, app_right, in_body, in_fun, in_arg, Trail, here, on, back}
+use Rattle.ol_meaning.specs.Spots.{Tree, var, free, lam, app, Level, empty, o, star, Context, cons, Wire, bound, name, under, occurs, left, Place, root, wire, Spot, at, body, fun, Edge, var_wire, free_wire, lam_root, lam_own, lam_wire, app_root, app_arg, app_left, app_right, in_body, in_fun, in_arg, Trail, here, on, back, IsRight}
 use Rattle.ol_meaning.specs.Heads.{OutOf, up_root, up_own, up_wire}
 use Rattle.ol_meaning.proofs.Addresses.{left_one, sides_apart}
 use Rattle.ol_meaning.proofs.Ways.{Has}
+use Rattle.ol_term.specs.declared.translations.Translation.{Translation}
 
 -- ---- the spots of such a way, which nothing leaves
 
-pub record Channel (t : Tree) (e x : Spot) : Type 1 where
+pub record Channel (τ : Translation) (t : Tree) (e x : Spot) : Type 1 where
   pub In : Spot → Type 0
-  pub go : (s s' : Spot) (n : ℕ) → Edge t s s' n → In s → In s'
-  pub come : (s s' : Spot) (n : ℕ) → Edge t s' s n → In s → In s'
+  pub go : (s s' : Spot) (n : ℕ) → Edge τ t s s' n → In s → In s'
+  pub come : (s s' : Spot) (n : ℕ) → Edge τ t s' s n → In s → In s'
   pub first : In e
   pub last : In x
   pub only : (p : Place) (v : Level) (d : Context) → In (at p v d) → (at p v d ≡ e) ⊎ (at p v d ≡ x)
 
-pub along : {t : Tree} {e x s s' : Spot} {n : ℕ} (k : Channel t e x) → Trail (Edge t) s s' n → k.In s → k.In s'
-along k here r = r
-along k (on {s = s} {s' = s1} {w = w} e a h) r = along k a (k.go s s1 w e r)
-along k (back {s = s} {s' = s1} {w = w} e a h) r = along k a (k.come s s1 w e r)
+module _ {τ : Translation} where
+  pub along : {t : Tree} {e x s s' : Spot} {n : ℕ} (k : Channel τ t e x) → Trail (Edge τ t) s s' n → k.In s → k.In s'
+  along k here r = r
+  along k (on {s = s} {s' = s1} {w = w} e a h) r = along k a (k.go s s1 w e r)
+  along k (back {s = s} {s' = s1} {w = w} e a h) r = along k a (k.come s s1 w e r)
 
 data Ends (e x : Spot) : Spot → Type 0 where
   is_e : {s : Spot} → s ≡ e → Ends e x s
@@ -29,34 +31,35 @@ ends_only : {e x s : Spot} → Ends e x s → (s ≡ e) ⊎ (s ≡ x)
 ends_only (is_e q) = inl q
 ends_only (is_x q) = inr q
 
--- a variable
-var_go : {y : ℕ} {v : Level} {c : Context} {s s' : Spot} {n : ℕ} → Edge (var y) s s' n → Ends (at root v c) (at (wire (bound y)) empty (cons v c)) s → Ends (at root v c) (at (wire (bound y)) empty (cons v c)) s'
-var_go {y} {v} {c} (var_wire {v = u} {c = k} {d = d} e) (is_e q) =
-    let i : u ≡ v = cc in
-    let l : k ≡ c = cc in
-    is_x (ap (at (wire (bound y)) empty) (e ∙ ap (λ u. cons u k) i ∙ ap (cons v) l))
-var_go (var_wire e) (is_x q) = absurd (cc)
+module _ {τ : Translation} where
+  -- a variable
+  var_go : {y : ℕ} {v : Level} {c : Context} {s s' : Spot} {n : ℕ} → Edge τ (var y) s s' n → Ends (at root v c) (at (wire (bound y)) empty (cons v c)) s → Ends (at root v c) (at (wire (bound y)) empty (cons v c)) s'
+  var_go {y} {v} {c} (var_wire {v = u} {c = k} {d = d} e) (is_e q) =
+      let i : u ≡ v = cc in
+      let l : k ≡ c = cc in
+      is_x (ap (at (wire (bound y)) empty) (e ∙ ap (λ u. cons u k) i ∙ ap (cons v) l))
+  var_go (var_wire e) (is_x q) = absurd (cc)
 
-var_come : {y : ℕ} {v : Level} {c : Context} {s s' : Spot} {n : ℕ} → Edge (var y) s' s n → Ends (at root v c) (at (wire (bound y)) empty (cons v c)) s → Ends (at root v c) (at (wire (bound y)) empty (cons v c)) s'
-var_come (var_wire e) (is_e q) = absurd (cc)
-var_come {v = v} {c = c} (var_wire {v = u} {c = k} {d = d} e) (is_x q) =
-    let i : d ≡ cons v c = cc in
-    let l : cons u k ≡ cons v c = sym e ∙ i in
-    is_e (ap (λ u. at root u k) (head_eq u v k c l) ∙ ap (at root v) (tail_eq u v k c l))
+  var_come : {y : ℕ} {v : Level} {c : Context} {s s' : Spot} {n : ℕ} → Edge τ (var y) s' s n → Ends (at root v c) (at (wire (bound y)) empty (cons v c)) s → Ends (at root v c) (at (wire (bound y)) empty (cons v c)) s'
+  var_come (var_wire e) (is_e q) = absurd (cc)
+  var_come {v = v} {c = c} (var_wire {v = u} {c = k} {d = d} e) (is_x q) =
+      let i : d ≡ cons v c = cc in
+      let l : cons u k ≡ cons v c = sym e ∙ i in
+      is_e (ap (λ u. at root u k) (head_eq u v k c l) ∙ ap (at root v) (tail_eq u v k c l))
 
-free_go : {y : ℕ} {v : Level} {c : Context} {s s' : Spot} {n : ℕ} → Edge (free y) s s' n → Ends (at root v c) (at (wire (name y)) empty (cons v c)) s → Ends (at root v c) (at (wire (name y)) empty (cons v c)) s'
-free_go {y} {v} {c} (free_wire {v = u} {c = k} {d = d} e) (is_e q) =
-    let i : u ≡ v = cc in
-    let l : k ≡ c = cc in
-    is_x (ap (at (wire (name y)) empty) (e ∙ ap (λ u. cons u k) i ∙ ap (cons v) l))
-free_go (free_wire e) (is_x q) = absurd (cc)
+  free_go : {y : ℕ} {v : Level} {c : Context} {s s' : Spot} {n : ℕ} → Edge τ (free y) s s' n → Ends (at root v c) (at (wire (name y)) empty (cons v c)) s → Ends (at root v c) (at (wire (name y)) empty (cons v c)) s'
+  free_go {y} {v} {c} (free_wire {v = u} {c = k} {d = d} e) (is_e q) =
+      let i : u ≡ v = cc in
+      let l : k ≡ c = cc in
+      is_x (ap (at (wire (name y)) empty) (e ∙ ap (λ u. cons u k) i ∙ ap (cons v) l))
+  free_go (free_wire e) (is_x q) = absurd (cc)
 
-free_come : {y : ℕ} {v : Level} {c : Context} {s s' : Spot} {n : ℕ} → Edge (free y) s' s n → Ends (at root v c) (at (wire (name y)) empty (cons v c)) s → Ends (at root v c) (at (wire (name y)) empty (cons v c)) s'
-free_come (free_wire e) (is_e q) = absurd (cc)
-free_come {v = v} {c = c} (free_wire {v = u} {c = k} {d = d} e) (is_x q) =
-    let i : d ≡ cons v c = cc in
-    let l : cons u k ≡ cons v c = sym e ∙ i in
-    is_e (ap (λ u. at root u k) (head_eq u v k c l) ∙ ap (at root v) (tail_eq u v k c l))
+  free_come : {y : ℕ} {v : Level} {c : Context} {s s' : Spot} {n : ℕ} → Edge τ (free y) s' s n → Ends (at root v c) (at (wire (name y)) empty (cons v c)) s → Ends (at root v c) (at (wire (name y)) empty (cons v c)) s'
+  free_come (free_wire e) (is_e q) = absurd (cc)
+  free_come {v = v} {c = c} (free_wire {v = u} {c = k} {d = d} e) (is_x q) =
+      let i : d ≡ cons v c = cc in
+      let l : cons u k ≡ cons v c = sym e ∙ i in
+      is_e (ap (λ u. at root u k) (head_eq u v k c l) ∙ ap (at root v) (tail_eq u v k c l))
 
 -- before an argument
 data Fun (I : Spot → Type 0) (e x : Spot) : Spot → Type 0 where
@@ -69,8 +72,8 @@ fun_only p u l e (fun_e q) = inl (sym e ∙ q)
 fun_only p u l e (fun_x q) = inr (sym e ∙ q)
 fun_only p u l e (fun_in r) = absurd (cc)
 
-module _ {R P : Tree} {y : Wire} {a w v : Level} {c d : Context} (m : occurs y R ≡ true) (h : w ≡ left P y a) (k : Channel R (at root (o v) c) (at (wire y) a d)) where
-  app_go : {s s' : Spot} {n : ℕ} → Edge (app R P) s s' n → Fun k.In (at root v c) (at (wire y) w d) s → Fun k.In (at root v c) (at (wire y) w d) s'
+module _ {τ : Translation} {R P : Tree} {y : Wire} {a w v : Level} {c d : Context} (m : occurs y R ≡ true) (h : w ≡ left P y a) (k : Channel τ R (at root (o v) c) (at (wire y) a d)) where
+  app_go : {s s' : Spot} {n : ℕ} → Edge τ (app R P) s s' n → Fun k.In (at root v c) (at (wire y) w d) s → Fun k.In (at root v c) (at (wire y) w d) s'
   app_go (app_root {v = u} {c = l}) (fun_e q) =
       let i : u ≡ v = cc in
       let j : l ≡ c = cc in
@@ -92,7 +95,7 @@ module _ {R P : Tree} {y : Wire} {a w v : Level} {c d : Context} (m : occurs y R
   app_go (app_right {y = z} {b = b} {v = t} {w = u} {c = l} e f) (fun_x q) =
       let i : z ≡ y = cc in
       let g : u ≡ w = cc in
-      absurd (sides_apart R P y a b t m (subst (λ z. occurs z P ≡ true) i e) (sym h ∙ sym g ∙ f ∙ ap (λ z. right R z b t) i))
+      absurd (sides_apart R P y a b t m (subst (λ z. occurs z P ≡ true) i e) (g ∙ h) (subst (λ z. IsRight τ R P z b t u) i f))
   app_go (in_fun {s = s} {s' = s'} {w = n} e) (fun_in r) = fun_in (k.go s s' n e r)
   app_go (in_fun e) (fun_e q) = absurd (cc)
   app_go (in_fun e) (fun_x q) = absurd (cc)
@@ -101,7 +104,7 @@ module _ {R P : Tree} {y : Wire} {a w v : Level} {c d : Context} (m : occurs y R
   app_go (in_arg e) (fun_e q) = absurd (cc)
   app_go (in_arg e) (fun_x q) = absurd (cc)
 
-  app_come : {s s' : Spot} {n : ℕ} → Edge (app R P) s' s n → Fun k.In (at root v c) (at (wire y) w d) s → Fun k.In (at root v c) (at (wire y) w d) s'
+  app_come : {s s' : Spot} {n : ℕ} → Edge τ (app R P) s' s n → Fun k.In (at root v c) (at (wire y) w d) s → Fun k.In (at root v c) (at (wire y) w d) s'
   app_come (app_root {v = u} {c = l}) (fun_in r) = by (k.only root (o u) l r)
     where
       by : (at root (o u) l ≡ at root (o v) c) ⊎ (at root (o u) l ≡ at (wire y) a d) → Fun k.In (at root v c) (at (wire y) w d) (at root u l)
@@ -131,7 +134,7 @@ module _ {R P : Tree} {y : Wire} {a w v : Level} {c d : Context} (m : occurs y R
   app_come (in_arg e) (fun_e q) = absurd (cc)
   app_come (in_arg e) (fun_x q) = absurd (cc)
 
-  pub channel_app : Channel (app R P) (at root v c) (at (wire y) w d)
+  pub channel_app : Channel τ (app R P) (at root v c) (at (wire y) w d)
   channel_app = record {
     In = Fun k.In (at root v c) (at (wire y) w d);
     go = λ s s' n e r. app_go e r;
@@ -141,25 +144,26 @@ module _ {R P : Tree} {y : Wire} {a w v : Level} {c d : Context} (m : occurs y R
     only = λ p u l r. fun_only p u l refl r;
   }
 
-pub channel_var : (y : ℕ) (v : Level) (c : Context) → Channel (var y) (at root v c) (at (wire (bound y)) empty (cons v c))
-channel_var y v c = record {
-  In = Ends (at root v c) (at (wire (bound y)) empty (cons v c));
-  go = λ s s' n e r. var_go e r;
-  come = λ s s' n e r. var_come e r;
-  first = is_e refl;
-  last = is_x refl;
-  only = λ p u l r. ends_only r;
-}
+module _ {τ : Translation} where
+  pub channel_var : (y : ℕ) (v : Level) (c : Context) → Channel τ (var y) (at root v c) (at (wire (bound y)) empty (cons v c))
+  channel_var y v c = record {
+    In = Ends (at root v c) (at (wire (bound y)) empty (cons v c));
+    go = λ s s' n e r. var_go e r;
+    come = λ s s' n e r. var_come e r;
+    first = is_e refl;
+    last = is_x refl;
+    only = λ p u l r. ends_only r;
+  }
 
-pub channel_free : (y : ℕ) (v : Level) (c : Context) → Channel (free y) (at root v c) (at (wire (name y)) empty (cons v c))
-channel_free y v c = record {
-  In = Ends (at root v c) (at (wire (name y)) empty (cons v c));
-  go = λ s s' n e r. free_go e r;
-  come = λ s s' n e r. free_come e r;
-  first = is_e refl;
-  last = is_x refl;
-  only = λ p u l r. ends_only r;
-}
+  pub channel_free : (y : ℕ) (v : Level) (c : Context) → Channel τ (free y) (at root v c) (at (wire (name y)) empty (cons v c))
+  channel_free y v c = record {
+    In = Ends (at root v c) (at (wire (name y)) empty (cons v c));
+    go = λ s s' n e r. free_go e r;
+    come = λ s s' n e r. free_come e r;
+    first = is_e refl;
+    last = is_x refl;
+    only = λ p u l r. ends_only r;
+  }
 
 -- ---- under an abstraction: the way out is one-to-one
 
@@ -180,11 +184,12 @@ pub record Inside (M : Tree) (q : Place) (w : Level) (c : Context) (s : Spot) : 
   pub up : OutOf port level q w
   pub is : s ≡ body (at port level c)
 
-pub inside : {M : Tree} {q : Place} {w : Level} {c : Context} {s s' : Spot} {n : ℕ} → Edge (lam M) s s' n → s ≡ at q w c → Inside M q w c s'
-inside {q = q} {w = w} {c = c} (lam_root {v = v} {c = l}) e = (let i : root ≡ q = cc in let j : w ≡ o v = cc in let g : l ≡ c = cc in record { port = root; level = v; up = subst (λ q. OutOf root v q w) i (up_root j); is = ap (λ c. body (at root v c)) g })
-inside {q = q} {w = w} {c = c} (lam_own {a = a} {c = l} m) e = (let i : root ≡ q = cc in let j : w ≡ star a = cc in let g : l ≡ c = cc in record { port = wire (bound 0); level = a; up = subst (λ q. OutOf (wire (bound 0)) a q w) i (up_own refl j); is = ap (λ c. body (at (wire (bound 0)) a c)) g })
-inside {q = q} {w = w} {c = c} (lam_wire {y = y} {z = z} {a = a} {c = l} h m) e = (let i : wire y ≡ q = cc in let j : w ≡ a = cc in let g : l ≡ c = cc in record { port = wire z; level = a; up = subst (λ q. OutOf (wire z) a q w) i (up_wire h j); is = ap (λ c. body (at (wire z) a c)) g })
-inside (in_body x) e = absurd (cc)
+module _ {τ : Translation} where
+  pub inside : {M : Tree} {q : Place} {w : Level} {c : Context} {s s' : Spot} {n : ℕ} → Edge τ (lam M) s s' n → s ≡ at q w c → Inside M q w c s'
+  inside {q = q} {w = w} {c = c} (lam_root {v = v} {c = l}) e = (let i : root ≡ q = cc in let j : w ≡ o v = cc in let g : l ≡ c = cc in record { port = root; level = v; up = subst (λ q. OutOf root v q w) i (up_root j); is = ap (λ c. body (at root v c)) g })
+  inside {q = q} {w = w} {c = c} (lam_own {a = a} {c = l} m) e = (let i : root ≡ q = cc in let j : w ≡ star a = cc in let g : l ≡ c = cc in record { port = wire (bound 0); level = a; up = subst (λ q. OutOf (wire (bound 0)) a q w) i (up_own refl j); is = ap (λ c. body (at (wire (bound 0)) a c)) g })
+  inside {q = q} {w = w} {c = c} (lam_wire {y = y} {z = z} {a = a} {c = l} h m) e = (let i : wire y ≡ q = cc in let j : w ≡ a = cc in let g : l ≡ c = cc in record { port = wire z; level = a; up = subst (λ q. OutOf (wire z) a q w) i (up_wire h j); is = ap (λ c. body (at (wire z) a c)) g })
+  inside (in_body x) e = absurd (cc)
 
 pub up_from_one : {p p' q q' : Place} {v v' w w' : Level} → OutOf p v q w → OutOf p' v' q' w' → q ≡ q' → w ≡ w' → (p ≡ p') × (v ≡ v')
 up_from_one (up_root e) (up_root f) i j = (refl, (let k = sym e ∙ j ∙ f in cc))
@@ -208,21 +213,22 @@ up_to_one (up_wire h e) (up_root f) i j = absurd (cc)
 up_to_one (up_own {x = x} g e) (up_wire {y = y} {z = z} h f) i j = absurd (under_zero y (sym g ∙ (let k : x ≡ z = cc in k) ∙ h))
 up_to_one (up_wire {y = y} {z = z} h f) (up_own {x = x} g e) i j = absurd (under_zero y (sym g ∙ (let k : x ≡ z = cc in k) ∙ h))
 
-pub up_edge : {M : Tree} {p q : Place} {v w : Level} → OutOf p v q w → Has p M → (c : Context) → Edge (lam M) (at q w c) (body (at p v c)) 0
-up_edge {M} (up_root {v = v} e) m c = subst (λ w. Edge (lam M) (at root w c) (body (at root v c)) 0) (sym e) lam_root
-up_edge {M} (up_own {x = x} {a = a} {w = w} g e) m c = subst (λ x. Edge (lam M) (at root w c) (body (at (wire x) a c)) 0) (sym g) (subst (λ w. Edge (lam M) (at root w c) (body (at (wire (bound 0)) a c)) 0) (sym e) (lam_own (subst (λ x. occurs x M ≡ true) g m)))
-up_edge {M} (up_wire {y = y} {z = z} {a = a} e f) m c = subst (λ b. Edge (lam M) (at (wire y) b c) (body (at (wire z) a c)) 0) (sym f) (lam_wire e m)
+module _ {τ : Translation} where
+  pub up_edge : {M : Tree} {p q : Place} {v w : Level} → OutOf p v q w → Has p M → (c : Context) → Edge τ (lam M) (at q w c) (body (at p v c)) 0
+  up_edge {M} (up_root {v = v} e) m c = subst (λ w. Edge τ (lam M) (at root w c) (body (at root v c)) 0) (sym e) lam_root
+  up_edge {M} (up_own {x = x} {a = a} {w = w} g e) m c = subst (λ x. Edge τ (lam M) (at root w c) (body (at (wire x) a c)) 0) (sym g) (subst (λ w. Edge τ (lam M) (at root w c) (body (at (wire (bound 0)) a c)) 0) (sym e) (lam_own (subst (λ x. occurs x M ≡ true) g m)))
+  up_edge {M} (up_wire {y = y} {z = z} {a = a} e f) m c = subst (λ b. Edge τ (lam M) (at (wire y) b c) (body (at (wire z) a c)) 0) (sym f) (lam_wire e m)
 
 data In (I : Spot → Type 0) (e x : Spot) : Spot → Type 0 where
   in_e : {s : Spot} → s ≡ e → In I e x s
   in_x : {s : Spot} → s ≡ x → In I e x s
   in_in : {s : Spot} → I s → In I e x (body s)
 
-module _ {M : Tree} {p p' q q' : Place} {v v' w w' : Level} {c d : Context} (u : OutOf p v q w) (u' : OutOf p' v' q' w') (k : Channel M (at p v c) (at p' v' d)) where
+module _ {τ : Translation} {M : Tree} {p p' q q' : Place} {v v' w w' : Level} {c d : Context} (u : OutOf p v q w) (u' : OutOf p' v' q' w') (k : Channel τ M (at p v c) (at p' v' d)) where
   abbrev G : Spot → Type 0
   G = In k.In (at q w c) (at q' w' d)
 
-  enter : {s s' : Spot} {n : ℕ} → Edge (lam M) s s' n → G s → G s'
+  enter : {s s' : Spot} {n : ℕ} → Edge τ (lam M) s s' n → G s → G s'
   enter (in_body {s = s} {s' = s'} {w = n} e) (in_in r) = in_in (k.go s s' n e r)
   enter {s' = s'} e (in_e g) =
       let t = inside e g in
@@ -241,7 +247,7 @@ module _ {M : Tree} {p p' q q' : Place} {v v' w w' : Level} {c d : Context} (u :
       by (inl e) = (let i = up_to_one h u (let j : r ≡ p = cc in j) (let j : a ≡ v = cc in j) in let g : l ≡ c = cc in in_e (ap (λ f. at f b l) i.0 ∙ ap (λ b. at q b l) i.1 ∙ ap (at q w) g))
       by (inr e) = (let i = up_to_one h u' (let j : r ≡ p' = cc in j) (let j : a ≡ v' = cc in j) in let g : l ≡ d = cc in in_x (ap (λ f. at f b l) i.0 ∙ ap (λ b. at q' b l) i.1 ∙ ap (at q' w') g))
 
-  exit : {s s' : Spot} {n : ℕ} → Edge (lam M) s' s n → G s → G s'
+  exit : {s s' : Spot} {n : ℕ} → Edge τ (lam M) s' s n → G s → G s'
   exit lam_root (in_in r) = leave (up_root refl) r
   exit (lam_own m) (in_in r) = leave (up_own refl refl) r
   exit (lam_wire e m) (in_in r) = leave (up_wire e refl) r
@@ -260,7 +266,7 @@ module _ {M : Tree} {p p' q q' : Place} {v v' w w' : Level} {c d : Context} (u :
   lam_only r b l e (in_x g) = inr (sym e ∙ g)
   lam_only r b l e (in_in g) = absurd (cc)
 
-  pub channel_lam : Channel (lam M) (at q w c) (at q' w' d)
+  pub channel_lam : Channel τ (lam M) (at q w c) (at q' w' d)
   channel_lam = record {
     In = G;
     go = λ s s' n e r. enter e r;

@@ -14,6 +14,7 @@ use Rattle.ol_meaning.specs.Seen.{ahead, LeavesAs, IsSeen, WholeSeats}
 use Rattle.ol_meaning.proofs.Ways.{Has}
 use Rattle.ol_meaning.proofs.Mains.{ends}
 use Rattle.ol_meaning.proofs.Seats.{spot_is}
+use Rattle.ol_term.specs.declared.translations.Translation.{Translation}
 
 -- ---- a closed term has no wire of a variable
 
@@ -52,8 +53,8 @@ whole_wire (name f) v c (suc q) X h =
     let l : f ≡ q = cc in
     (v ∷ [], (ap suc (sym l), v, refl), (λ d. (h.0, refl)), h.1)
 
-module _ {A : Type 0} (N : NamedNet A) (t : Tree) (closed : is_below 0 t ≡ true) (trail_path : (p q : ℕ) (c d : Context) (n : ℕ) → Leads t (at (place p) (c 0) (tail c)) (at (place q) (d 0) (tail d)) n → Path N (free p) c q d)
-    (path_trail : (p q : ℕ) (c d : Context) (r : Path N (free p) c q d) → Leads t (at (place p) (c 0) (tail c)) (at (place q) (d 0) (tail d)) (applications r)) where
+module _ {τ : Translation} {A : Type 0} (N : NamedNet A) (t : Tree) (closed : is_below 0 t ≡ true) (trail_path : (p q : ℕ) (c d : Context) (n : ℕ) → Leads τ t (at (place p) (c 0) (tail c)) (at (place q) (d 0) (tail d)) n → Path N (free p) c q d)
+    (path_trail : (p q : ℕ) (c d : Context) (r : Path N (free p) c q d) → Leads τ t (at (place p) (c 0) (tail c)) (at (place q) (d 0) (tail d)) (applications r)) where
   whole_one : (x y : Place) (v w : Level) (c d : Context) (q r : ℕ) (X Y : Context) → WholeSeats x v c q X → WholeSeats y w d r Y →
       (at x v c ≡ at y w d → (q ≡ r) × (X ≡ Y)) × (q ≡ r → X ≡ Y → at x v c ≡ at y w d)
   whole_one x y v w c d q r X Y g h = (
@@ -69,22 +70,22 @@ module _ {A : Type 0} (N : NamedNet A) (t : Tree) (closed : is_below 0 t ≡ tru
         ),
   )
 
-  whole_forth : (x y : Place) (v w : Level) (c d : Context) (n q : ℕ) (X : Context) → WholeSeats x v c q X → Leads t (at x v c) (at y w d) n →
+  whole_forth : (x y : Place) (v w : Level) (c d : Context) (n q : ℕ) (X : Context) → WholeSeats x v c q X → Leads τ t (at x v c) (at y w d) n →
       (r : ℕ) × (Y : Context) × WholeSeats y w d r Y × Path N (free q) X r Y
   whole_forth x y v w c d n q X g l =
       let a = port_at t closed y (ends y l.0 l.1) in
-      let m : Leads t (at (place q) v c) (at (place a.0) w d) n = subst (λ x. Leads t (at x v c) (at (place a.0) w d) n) g.0 (subst (λ y. Leads t (at x v c) (at y w d) n) a.1 l) in
+      let m : Leads τ t (at (place q) v c) (at (place a.0) w d) n = subst (λ x. Leads τ t (at x v c) (at (place a.0) w d) n) g.0 (subst (λ y. Leads τ t (at x v c) (at y w d) n) a.1 l) in
       (a.0, cons w d, (a.1, refl), subst (λ X. Path N (free q) X a.0 (cons w d)) (sym g.1) (trail_path q a.0 (cons v c) (cons w d) n m))
 
   whole_back : (x : Place) (v : Level) (c : Context) (q r : ℕ) (X Y : Context) → WholeSeats x v c q X → (path : Path N (free q) X r Y) →
-      (y : Place) × (w : Level) × (d : Context) × (n : ℕ) × WholeSeats y w d r Y × Leads t (at x v c) (at y w d) n × (n ≤ applications path)
+      (y : Place) × (w : Level) × (d : Context) × (n : ℕ) × WholeSeats y w d r Y × Leads τ t (at x v c) (at y w d) n × (n ≤ applications path)
   whole_back x v c q r X Y g path =
       let a = path_trail q r X Y path in
-      let m : Leads t (at x v c) (at (place r) (Y 0) (tail Y)) (applications path) =
-      subst (λ e. Leads t e (at (place r) (Y 0) (tail Y)) (applications path)) (spot_is (place q) x (X 0) v (tail X) c (sym g.0) (ap (λ (X : Context). X 0) g.1) (ap tail g.1)) a in
+      let m : Leads τ t (at x v c) (at (place r) (Y 0) (tail Y)) (applications path) =
+      subst (λ e. Leads τ t e (at (place r) (Y 0) (tail Y)) (applications path)) (spot_is (place q) x (X 0) v (tail X) c (sym g.0) (ap (λ (X : Context). X 0) g.1) (ap tail g.1)) a in
       (place r, Y 0, tail Y, applications path, (refl, sym (eta Y)), m, (omega arith))
 
-  pub whole_seen : IsSeen N [] 0 [] t WholeSeats
+  pub whole_seen : IsSeen τ N [] 0 [] t WholeSeats
   whole_seen = record {
     at_root = λ v c. (refl, refl);
     at_wire = whole_wire;

@@ -19,6 +19,7 @@ use Rattle.ol_meaning.specs.Seen.{ahead, unders, Chain, IsChain, scope, IsNotOf,
 use Rattle.ol_meaning.proofs.Walking.{binder_of}
 use Rattle.ol_meaning.proofs.Shapes.{unders_bound, unders_name, Outs, own, past, occurrence}
 use Rattle.ol_meaning.proofs.Sights.{ahead_append, ahead_levels, root_only, wire_apart}
+use Rattle.ol_term.specs.declared.translations.Translation.{Translation}
 
 -- the levels of an exit past j applications
 abbrev pub ended : ℕ → Context
@@ -161,15 +162,15 @@ pub record HeadSays (F : List Frame) (q : ℕ) (X : Context) (i l k : ℕ) (ss :
   pub exit : X ≡ ahead first (ended k)
   pub stands : (d : Context) → H q d (ahead first d)
 
-module _ {A : Type 0} {N : NamedNet A} {ch : Chain} {p : ℕ} {ls : List Level} {P : Tree} {S : Seats} (seen : IsSeen N ch p ls P S) {u : Tree} {m : ℕ} (s : Steps P u m) (F : List Frame) (f : Frame) (ep : f.port ≡ p) (el : f.levels ≡ ls) (chain : IsChain F (length F) f.parent ch) where
+module _ {τ : Translation} {A : Type 0} {N : NamedNet A} {ch : Chain} {p : ℕ} {ls : List Level} {P : Tree} {S : Seats} (seen : IsSeen τ N ch p ls P S) {u : Tree} {m : ℕ} (s : Steps P u m) (F : List Frame) (f : Frame) (ep : f.port ≡ p) (el : f.levels ≡ ls) (chain : IsChain F (length F) f.parent ch) where
   G : List Frame
   G = F ++ f ∷ []
 
-  pub head_says : (x : Wire) (y : Place) (a w : Level) (k q : ℕ) (X : Context) → Outs (outer u) x y a → SameAlong s y w a → S y w (ended k) q X →
+  pub head_says : (x : Wire) (y : Place) (a w : Level) (k q : ℕ) (X : Context) → Outs (outer u) x y a → SameAlong τ s y w a → S y w (ended k) q X →
       HeadSays (F ++ f ∷ []) q X (length F) (outer u) k ((length F, outer u) ∷ scope ch) (occurrence x) (λ q c X. S y w c q X)
   unfolding G
   head_says x y a w k q X (own {j = j} e h g i) b r =
-      let c = binder_of s j e w a b g in
+      let c = binder_of τ s j e w a b g in
       let o = root_only seen w (ended k) q X r in
       let last = frame_last F f in
       let first : List Level = ls ++ os j (star c.0) ∷ [] in

@@ -7,6 +7,7 @@ use Rattle.ol_meaning.specs.Heads.{os, outer, Spine, head_var, head_free, head_a
 use Rattle.ol_meaning.specs.Shows.{applied, IsVariable, IsHeadNormal}
 use Rattle.ol_meaning.specs.Seen.{unders}
 use Rattle.ol_meaning.proofs.Walking.{spine_outer}
+use Rattle.ol_term.specs.declared.translations.Translation.{Translation}
 
 pub unders_bound : (l y : ℕ) → unders l (bound y) ≡ bound (l + y)
 unders_bound zero y = ap bound (let e : y ≡ 0 + y = omega arith in e)
@@ -122,15 +123,16 @@ pub record WireStands (u : Tree) (H : Context → Context → Type 0) (x : Wire)
   pub rest : d ≡ c
   pub even : (e : Context) → H e e
 
-pub wire_stands : {u P : Tree} {i : ℕ} (k : Arg u i P) (w : Level) (x : Wire) (v : Level) (c : Context) (q : Place) (b : Level) (d : Context) → StandsAt k w (wire x) v c q b d →
-    WireStands u (λ c d. StandsAt k w (wire x) v c q b d) x q b c d
-wire_stands (last s) w x v c q b d (hat_wire e m f g) = record { outs = past (sym e); rest = g; even = λ h. hat_wire e m f refl }
-wire_stands (earlier {R = R} {Q = Q} s k) w x v c q b d (hat_left {z = z} {b = a} h e) =
-    let r = wire_stands k w x v c (wire z) a d h in
-    record { outs = outs_at (outer R) 0 (spine_outer s) (past_is r.outs); rest = r.rest; even = λ f. hat_left (r.even f) e }
-wire_stands (inner k) w x v c q b d (hat_up {q = p} {b = a} h e) =
-    let r = wire_stands k w x v c p a d h in
-    record { outs = outs_up r.outs e; rest = r.rest; even = λ f. hat_up (r.even f) e }
+module _ (τ : Translation) where
+  pub wire_stands : {u P : Tree} {i : ℕ} (k : Arg u i P) (w : Level) (x : Wire) (v : Level) (c : Context) (q : Place) (b : Level) (d : Context) → StandsAt τ k w (wire x) v c q b d →
+      WireStands u (λ c d. StandsAt τ k w (wire x) v c q b d) x q b c d
+  wire_stands (last s) w x v c q b d (hat_wire e m f g) = record { outs = past (sym e); rest = g; even = λ h. hat_wire e m f refl }
+  wire_stands (earlier {R = R} {Q = Q} s k) w x v c q b d (hat_left {z = z} {b = a} h e) =
+      let r = wire_stands k w x v c (wire z) a d h in
+      record { outs = outs_at (outer R) 0 (spine_outer s) (past_is r.outs); rest = r.rest; even = λ f. hat_left (r.even f) e }
+  wire_stands (inner k) w x v c q b d (hat_up {q = p} {b = a} h e) =
+      let r = wire_stands k w x v c p a d h in
+      record { outs = outs_up r.outs e; rest = r.rest; even = λ f. hat_up (r.even f) e }
 
 -- ---- from the shape back
 

@@ -31,6 +31,7 @@ use Rattle.ol_meaning.proofs.Shapes.{normal_is, occurrence, AreArgs, normal_shap
 use Rattle.ol_meaning.proofs.Endless.{forever}
 use Rattle.ol_meaning.proofs.Sights.{ahead_levels, arg_seen}
 use Rattle.ol_meaning.proofs.Matched.{ended, chain_grows, HeadSays, head_says}
+use Rattle.ol_term.specs.declared.translations.Translation.{Translation}
 
 asked_is : (ls : List Level) (n : ℕ) → asked ls n ≡ ahead ls (cons (os n empty) (levels []))
 asked_is ls n = sym (ahead_levels ls (os n empty ∷ [])) ∙ ap (ahead ls) (levels_cons (os n empty) [])
@@ -38,27 +39,28 @@ asked_is ls n = sym (ahead_levels ls (os n empty ∷ [])) ∙ ap (ahead ls) (lev
 ended_is : (j : ℕ) → cons (os j empty) (levels []) ≡ ended j
 ended_is j = sym (levels_cons (os j empty) [])
 
--- ---- the head of one subterm
+module _ {τ : Translation} where
+  -- ---- the head of one subterm
 
--- a path of its frame crosses as many applications as head steps lead from a subterm to a head normal form, or more
-pub reached_soon : {A : Type 0} {N : NamedNet A} {ch : Chain} {P : Tree} {S : Seats} (s : Subterm) → IsSeen N ch s.port s.levels P S → (n q : ℕ) (X : Context) (r : Path N (free s.port) (asked s.levels n) q X) →
-    (u : Tree) × (m : ℕ) × (m ≤ applications r) × Steps P u m × IsHeadNormal u
-reached_soon {N = N} {P = P} s seen n q X r =
-    let c = ahead s.levels (cons (os n empty) (levels [])) in
-    let t = subst (λ c. (t : Path N (free s.port) c q X) × (applications t ≡ applications r)) (asked_is s.levels n) (r, refl) in
-    let b = seen.back root (os n empty) (levels []) s.port q c X (seen.at_root (os n empty) (levels [])) t.0 in
-    let x = found P b.0 b.1 (levels []) b.2 n b.3 b.5 in
-    let few : x.1 ≤ applications r =
-    (
-    let i : x.1 ≤ b.3 = x.3 in
-    let j : b.3 ≤ applications t.0 = b.6 in
-    let k : applications t.0 ≡ applications r = t.1 in
-    omega arith
-    ) in
-    (x.0, x.1, few, x.2, normal_is x.6)
+  -- a path of its frame crosses as many applications as head steps lead from a subterm to a head normal form, or more
+  pub reached_soon : {A : Type 0} {N : NamedNet A} {ch : Chain} {P : Tree} {S : Seats} (s : Subterm) → IsSeen τ N ch s.port s.levels P S → (n q : ℕ) (X : Context) (r : Path N (free s.port) (asked s.levels n) q X) →
+      (u : Tree) × (m : ℕ) × (m ≤ applications r) × Steps P u m × IsHeadNormal u
+  reached_soon {N = N} {P = P} s seen n q X r =
+      let c = ahead s.levels (cons (os n empty) (levels [])) in
+      let t = subst (λ c. (t : Path N (free s.port) c q X) × (applications t ≡ applications r)) (asked_is s.levels n) (r, refl) in
+      let b = seen.back root (os n empty) (levels []) s.port q c X (seen.at_root (os n empty) (levels [])) t.0 in
+      let x = found P b.0 b.1 (levels []) b.2 n b.3 b.5 in
+      let few : x.1 ≤ applications r =
+      (
+      let i : x.1 ≤ b.3 = x.3 in
+      let j : b.3 ≤ applications t.0 = b.6 in
+      let k : applications t.0 ≡ applications r = t.1 in
+      omega arith
+      ) in
+      (x.0, x.1, few, x.2, normal_is x.6)
 
 -- where a path of the least number n of abstractions leaves, by port q with context X
-record Exit {A : Type 0} (N : NamedNet A) (ch : Chain) (F : List Frame) (s : Subterm) (P : Tree) (S : Seats) (n q : ℕ) (X : Context) : Type 0 where
+record Exit (τ : Translation) {A : Type 0} (N : NamedNet A) (ch : Chain) (F : List Frame) (s : Subterm) (P : Tree) (S : Seats) (n q : ℕ) (X : Context) : Type 0 where
   last : Tree
   steps : ℕ
   leads : Steps P last steps
@@ -67,11 +69,11 @@ record Exit {A : Type 0} (N : NamedNet A) (ch : Chain) (F : List Frame) (s : Sub
   level : Level
   args : ℕ
   normal : Normal last place inner args
-  same : SameAlong leads place level inner
+  same : SameAlong τ leads place level inner
   lams : n ≡ outer last
   says : HeadSays (F ++ framed s 0 ∷ []) q X (length F) (outer last) args ((length F, outer last) ∷ scope ch) (occurrence (normal_shape normal).wire_is) (λ q c X. S place level c q X)
 
-module _ {A : Type 0} {N : NamedNet A} {ch : Chain} {P : Tree} {S : Seats} (F : List Frame) (s : Subterm) (seen : IsSeen N ch s.port s.levels P S) (chain : IsChain F (length F) s.parent ch) where
+module _ {τ : Translation} {A : Type 0} {N : NamedNet A} {ch : Chain} {P : Tree} {S : Seats} (F : List Frame) (s : Subterm) (seen : IsSeen τ N ch s.port s.levels P S) (chain : IsChain F (length F) s.parent ch) where
   -- what is asked of the subterm's frame
   from_asked : (n q : ℕ) (X : Context) → Path N (free (frame_at (F ++ framed s 0 ∷ []) (length F)).port) (asked (frame_at (F ++ framed s 0 ∷ []) (length F)).levels n) q X →
       Path N (free s.port) (ahead s.levels (cons (os n empty) (levels []))) q X
@@ -82,14 +84,14 @@ module _ {A : Type 0} {N : NamedNet A} {ch : Chain} {P : Tree} {S : Seats} (F : 
   to_asked n q X r = subst (λ (f : Frame). Path N (free f.port) (asked f.levels n) q X) (sym (frame_last F (framed s 0))) (subst (λ c. Path N (free s.port) c q X) (sym (asked_is s.levels n)) r)
 
   -- a number of abstractions that leads on in the subterm has a path
-  leads_path : (n k : ℕ) (y : Place) (w : Level) (d : Context) → Leads P (at root (os n empty) (levels [])) (at y w d) k →
+  leads_path : (n k : ℕ) (y : Place) (w : Level) (d : Context) → Leads τ P (at root (os n empty) (levels [])) (at y w d) k →
       (q : ℕ) × (X : Context) × Path N (free (frame_at (F ++ framed s 0 ∷ []) (length F)).port) (asked (frame_at (F ++ framed s 0 ∷ []) (length F)).levels n) q X
   leads_path n k y w d l =
       let a = seen.forth root y (os n empty) w (levels []) d k s.port (ahead s.levels (cons (os n empty) (levels []))) (seen.at_root (os n empty) (levels [])) l in
       (a.0, a.1, to_asked n a.0 a.1 a.3)
 
   exit_of : (n q : ℕ) (X : Context) → ((m : ℕ) → m < n → NoPath N (frame_at (F ++ framed s 0 ∷ []) (length F)).port (asked (frame_at (F ++ framed s 0 ∷ []) (length F)).levels m)) →
-      Path N (free (frame_at (F ++ framed s 0 ∷ []) (length F)).port) (asked (frame_at (F ++ framed s 0 ∷ []) (length F)).levels n) q X → Exit N ch F s P S n q X
+      Path N (free (frame_at (F ++ framed s 0 ∷ []) (length F)).port) (asked (frame_at (F ++ framed s 0 ∷ []) (length F)).levels n) q X → Exit τ N ch F s P S n q X
   exit_of n q X few r =
       let b = seen.back root (os n empty) (levels []) s.port q (ahead s.levels (cons (os n empty) (levels []))) X (seen.at_root (os n empty) (levels [])) (from_asked n q X r) in
       let x = least P b.0 b.1 (levels []) b.2 n b.3 b.5 (λ m k y w d h l. (let t = leads_path m k y w d l in few m h t.0 t.1 t.2)) in
@@ -108,7 +110,7 @@ module _ {A : Type 0} {N : NamedNet A} {ch : Chain} {P : Tree} {S : Seats} (F : 
       }
 
   -- it matches
-  exit_matches : (n q : ℕ) (X : Context) (e : Exit N ch F s P S n q X) → Matches (F ++ framed s 0 ∷ []) q X (length F) n e.says.says.variable e.args e.says.first
+  exit_matches : (n q : ℕ) (X : Context) (e : Exit τ N ch F s P S n q X) → Matches (F ++ framed s 0 ∷ []) q X (length F) n e.says.says.variable e.args e.says.first
   exit_matches n q X e =
       subst (λ X. Matches (F ++ framed s 0 ∷ []) q X (length F) n e.says.says.variable e.args e.says.first) (sym e.says.exit)
       (subst (λ n. Matches (F ++ framed s 0 ∷ []) q (ahead e.says.first (ended e.args)) (length F) n e.says.says.variable e.args e.says.first) (sym e.lams) e.says.says.match)
@@ -133,18 +135,19 @@ module _ {A : Type 0} {N : NamedNet A} {ch : Chain} {P : Tree} {S : Seats} (F : 
 
 -- ---- the arguments
 
-pub record SeenAt {A : Type 0} (N : NamedNet A) (ch : Chain) (p : ℕ) (ls : List Level) (P : Tree) : Type 1 where
+pub record SeenAt (τ : Translation) {A : Type 0} (N : NamedNet A) (ch : Chain) (p : ℕ) (ls : List Level) (P : Tree) : Type 1 where
   pub seats : Seats
-  pub seen : IsSeen N ch p ls P seats
+  pub seen : IsSeen τ N ch p ls P seats
 
 -- the arguments from number j on, each where its frame is
-pub data AllSeen {A : Type 0} (N : NamedNet A) (ch : Chain) (q : ℕ) (ls : List Level) : ℕ → List Tree → Type 1 where
-  nil : {j : ℕ} → AllSeen N ch q ls j []
-  next : {j : ℕ} {P : Tree} {Ps : List Tree} → SeenAt N ch q (ls ++ os j (star empty) ∷ []) P → AllSeen N ch q ls (suc j) Ps → AllSeen N ch q ls j (P ∷ Ps)
+pub data AllSeen (τ : Translation) {A : Type 0} (N : NamedNet A) (ch : Chain) (q : ℕ) (ls : List Level) : ℕ → List Tree → Type 1 where
+  nil : {j : ℕ} → AllSeen τ N ch q ls j []
+  next : {j : ℕ} {P : Tree} {Ps : List Tree} → SeenAt τ N ch q (ls ++ os j (star empty) ∷ []) P → AllSeen τ N ch q ls (suc j) Ps → AllSeen τ N ch q ls j (P ∷ Ps)
 
-all_seen : {A : Type 0} (N : NamedNet A) (ch : Chain) (q : ℕ) (ls : List Level) (u : Tree) → ((i : ℕ) (Q : Tree) → Arg u i Q → SeenAt N ch q (ls ++ os i (star empty) ∷ []) Q) → (j : ℕ) (Ps : List Tree) → AreArgs u j Ps → AllSeen N ch q ls j Ps
-all_seen N ch q ls u f j [] h = nil
-all_seen N ch q ls u f j (P ∷ Ps) h = next (f j P h.0) (all_seen N ch q ls u f (suc j) Ps h.1)
+module _ {τ : Translation} where
+  all_seen : {A : Type 0} (N : NamedNet A) (ch : Chain) (q : ℕ) (ls : List Level) (u : Tree) → ((i : ℕ) (Q : Tree) → Arg u i Q → SeenAt τ N ch q (ls ++ os i (star empty) ∷ []) Q) → (j : ℕ) (Ps : List Tree) → AreArgs u j Ps → AllSeen τ N ch q ls j Ps
+  all_seen N ch q ls u f j [] h = nil
+  all_seen N ch q ls u f j (P ∷ Ps) h = next (f j P h.0) (all_seen N ch q ls u f (suc j) Ps h.1)
 
 -- the port of a variable's frame doesn't depend on how many abstractions the last frame has
 port_stays : (F : List Frame) (f g : Frame) (i : ℕ) → f.port ≡ g.port → (frame_at (F ++ f ∷ []) i).port ≡ (frame_at (F ++ g ∷ []) i).port
@@ -168,38 +171,39 @@ is_head_of : {A : Type 0} {N : NamedNet A} {F : List Frame} {i n k : ℕ} {v : H
 is_head_of (heads.leaves {q = q} {X = X} few r (matched m)) = record { port = q; context = X; few = few; path = r; match = m }
 
 -- what a head says of the subterm: it reaches this head with these arguments, which are seen where their frames are
-pub record Headed {A : Type 0} (N : NamedNet A) (ch : Chain) (F : List Frame) (s : Subterm) (P : Tree) (n k : ℕ) (v : HeadVar) (ls : List Level) : Type 1 where
+pub record Headed (τ : Translation) {A : Type 0} (N : NamedNet A) (ch : Chain) (F : List Frame) (s : Subterm) (P : Tree) (n k : ℕ) (v : HeadVar) (ls : List Level) : Type 1 where
   pub args : List Tree
   pub count_is : length args ≡ k
   pub reaches : HeadReduces P (abstracted n (applied (variable_of ((length F, n) ∷ scope ch) v) args))
-  pub each : AllSeen N ((length F, framed s n) ∷ ch) (port_of (F ++ framed s n ∷ []) v) ls 0 args
+  pub each : AllSeen τ N ((length F, framed s n) ∷ ch) (port_of (F ++ framed s n ∷ []) v) ls 0 args
 
-pub headed : {A : Type 0} {N : NamedNet A} {ch : Chain} {P : Tree} (S : Seats) (F : List Frame) (s : Subterm) → IsSeen N ch s.port s.levels P S → IsChain F (length F) s.parent ch →
-    (n k : ℕ) (v : HeadVar) (ls : List Level) → IsHead N (F ++ framed s 0 ∷ []) (length F) (head n v k ls) → Headed N ch F s P n k v ls
-headed {N = N} {ch = ch} {P = P} S F s seen chain n k v ls h =
-    let r = is_head_of h in
-    let e = exit_of F s seen chain n r.port r.context r.few r.path in
-    let one = exit_is_one (F ++ framed s 0 ∷ []) (length F) n r.port r.context (head n v k ls) (head n e.says.says.variable e.args e.says.first) (matched r.match) (matched (exit_matches F s seen chain n r.port r.context e)) in
-    let ev : v ≡ e.says.says.variable = cc in
-    let ek : k ≡ e.args = cc in
-    let el : ls ≡ e.says.first = cc in
-    let shape = normal_shape e.normal in
-    let port : port_of (F ++ framed s n ∷ []) v ≡ r.port = ap (port_of (F ++ framed s n ∷ [])) ev ∙ port_of_stays F (framed s n) (framed s 0) e.says.says.variable refl ∙ e.says.says.port in
-    let variable : occurrence shape.wire_is ≡ variable_of ((length F, n) ∷ scope ch) v = sym (ap (variable_of ((length F, n) ∷ scope ch)) ev ∙ ap (λ n. variable_of ((length F, n) ∷ scope ch) e.says.says.variable) e.lams ∙ e.says.says.is) in
-    let form : e.last ≡ abstracted n (applied (variable_of ((length F, n) ∷ scope ch) v) shape.args) = shape.is ∙ ap (λ n. abstracted n (applied (occurrence shape.wire_is) shape.args)) (sym e.lams) ∙ ap (λ h. abstracted n (applied h shape.args)) variable in
-    record {
-      args = shape.args;
-      count_is = shape.count ∙ sym ek;
-      reaches = (e.steps, subst (λ u. Steps P u e.steps) form e.leads);
-      each = all_seen N ((length F, framed s n) ∷ ch) (port_of (F ++ framed s n ∷ []) v) ls e.last
-          (λ i Q a. record {
-            seats = ArgSeats e.leads a S;
-            seen = subst (λ ls. IsSeen N ((length F, framed s n) ∷ ch) (port_of (F ++ framed s n ∷ []) v) (ls ++ os i (star empty) ∷ []) Q (ArgSeats e.leads a S)) (sym el)
-                (subst (λ q. IsSeen N ((length F, framed s n) ∷ ch) q (e.says.first ++ os i (star empty) ∷ []) Q (ArgSeats e.leads a S)) (sym port)
-                (arg_seen seen e.leads a (length F) (framed s n) refl refl e.lams e.place e.inner e.level e.args e.normal e.same r.port e.says.first e.says.stands));
-          })
-          0 shape.args shape.each;
-    }
+module _ {τ : Translation} where
+  pub headed : {A : Type 0} {N : NamedNet A} {ch : Chain} {P : Tree} (S : Seats) (F : List Frame) (s : Subterm) → IsSeen τ N ch s.port s.levels P S → IsChain F (length F) s.parent ch →
+      (n k : ℕ) (v : HeadVar) (ls : List Level) → IsHead N (F ++ framed s 0 ∷ []) (length F) (head n v k ls) → Headed τ N ch F s P n k v ls
+  headed {N = N} {ch = ch} {P = P} S F s seen chain n k v ls h =
+      let r = is_head_of h in
+      let e = exit_of F s seen chain n r.port r.context r.few r.path in
+      let one = exit_is_one (F ++ framed s 0 ∷ []) (length F) n r.port r.context (head n v k ls) (head n e.says.says.variable e.args e.says.first) (matched r.match) (matched (exit_matches F s seen chain n r.port r.context e)) in
+      let ev : v ≡ e.says.says.variable = cc in
+      let ek : k ≡ e.args = cc in
+      let el : ls ≡ e.says.first = cc in
+      let shape = normal_shape e.normal in
+      let port : port_of (F ++ framed s n ∷ []) v ≡ r.port = ap (port_of (F ++ framed s n ∷ [])) ev ∙ port_of_stays F (framed s n) (framed s 0) e.says.says.variable refl ∙ e.says.says.port in
+      let variable : occurrence shape.wire_is ≡ variable_of ((length F, n) ∷ scope ch) v = sym (ap (variable_of ((length F, n) ∷ scope ch)) ev ∙ ap (λ n. variable_of ((length F, n) ∷ scope ch) e.says.says.variable) e.lams ∙ e.says.says.is) in
+      let form : e.last ≡ abstracted n (applied (variable_of ((length F, n) ∷ scope ch) v) shape.args) = shape.is ∙ ap (λ n. abstracted n (applied (occurrence shape.wire_is) shape.args)) (sym e.lams) ∙ ap (λ h. abstracted n (applied h shape.args)) variable in
+      record {
+        args = shape.args;
+        count_is = shape.count ∙ sym ek;
+        reaches = (e.steps, subst (λ u. Steps P u e.steps) form e.leads);
+        each = all_seen N ((length F, framed s n) ∷ ch) (port_of (F ++ framed s n ∷ []) v) ls e.last
+            (λ i Q a. record {
+              seats = ArgSeats τ e.leads a S;
+              seen = subst (λ ls. IsSeen τ N ((length F, framed s n) ∷ ch) (port_of (F ++ framed s n ∷ []) v) (ls ++ os i (star empty) ∷ []) Q (ArgSeats τ e.leads a S)) (sym el)
+                  (subst (λ q. IsSeen τ N ((length F, framed s n) ∷ ch) q (e.says.first ++ os i (star empty) ∷ []) Q (ArgSeats τ e.leads a S)) (sym port)
+                  (arg_seen seen e.leads a (length F) (framed s n) refl refl e.lams e.place e.inner e.level e.args e.normal e.same r.port e.says.first e.says.stands));
+            })
+            0 shape.args shape.each;
+      }
 
 -- ---- the whole tree
 
@@ -230,12 +234,12 @@ chain_more F G b c o (x ∷ xs) l h =
     let d = h.2 in
     (h.0, (omega arith), (omega arith), get_or_append_left F G frames.root x.0 h.2 ∙ h.3, chain_more F G x.0 x.0 x.1.parent xs (omega arith) h.4)
 
-module _ {A : Type 0} (N : NamedNet A) (b : Bool) where
+module _ (τ : Translation) {A : Type 0} (N : NamedNet A) (b : Bool) where
   -- A part shows what is seen at its subterms; and what comes after it is left.
   abbrev Reads : {c : Bool} → Part c → Type 1
-  Reads {c = true} t = (P : Tree) (s : Subterm) (ch : Chain) (F : List Frame) (ss : List Subterm) (ns : List ReadNode) → SeenAt N ch s.port s.levels P → IsChain F (length F) s.parent ch →
+  Reads {c = true} t = (P : Tree) (s : Subterm) (ch : Chain) (F : List Frame) (ss : List Subterm) (ns : List ReadNode) → SeenAt τ N ch s.port s.levels P → IsChain F (length F) s.parent ch →
       HaveHeadsOf N b F (s ∷ ss) (preorder t ++ ns) → Shows b (scope ch) (length F) t P × Left N b F ss ns (length (preorder t))
-  Reads {c = false} ts = (Ps : List Tree) (i q : ℕ) (ls : List Level) (j : ℕ) (ch : Chain) (F : List Frame) (ss : List Subterm) (ns : List ReadNode) → length Ps ≡ count ts → AllSeen N ch q ls j Ps → IsChain F (length F) (Some i) ch →
+  Reads {c = false} ts = (Ps : List Tree) (i q : ℕ) (ls : List Level) (j : ℕ) (ch : Chain) (F : List Frame) (ss : List Subterm) (ns : List ReadNode) → length Ps ≡ count ts → AllSeen τ N ch q ls j Ps → IsChain F (length F) (Some i) ch →
       HaveHeadsOf N b F (arguments i q ls j (count ts) ++ ss) (preorder ts ++ ns) → Shows b (scope ch) (length F) ts Ps × Left N b F ss ns (length (preorder ts))
 
   reads_term : (l : ℕ) (v : HeadVar) (ts : Part false) → Reads ts → Reads (term l v ts)
@@ -289,5 +293,5 @@ module _ {A : Type 0} (N : NamedNet A) (b : Bool) where
   reads (more t ts) = reads_more t ts (reads t) (reads ts)
 
   -- a tree whose heads are those of a subterm that is seen behind no frame
-  pub shows : (t : Part true) (P : Tree) (s : Subterm) → s.parent ≡ None → SeenAt N [] s.port s.levels P → HaveHeadsOf N b [] (s ∷ []) (preorder t) → Shows b [] 0 t P
+  pub shows : (t : Part true) (P : Tree) (s : Subterm) → s.parent ≡ None → SeenAt τ N [] s.port s.levels P → HaveHeadsOf N b [] (s ∷ []) (preorder t) → Shows b [] 0 t P
   shows t P s e seen h = (reads t P s [] [] [] [] seen e (subst (λ ns. HaveHeadsOf N b [] (s ∷ []) ns) (sym (append-nil (preorder t))) h)).0

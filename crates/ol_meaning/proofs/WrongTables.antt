@@ -1,13 +1,15 @@
 -- Lines of the table of translation that would break the laws.
 use Rattle.std.proofs.Common.{◌≡◌, ℕ, [], inl, inr, refl, ap, ◌∙◌, arith}
 use Rattle.ol_net.specs.Nets.{free}
+use Rattle.ol_term.specs.declared.translations.Translation.{Translation}
+use Rattle.ol_term.specs.declared.translations.Translation.TheVariants.{One, Two}
 use Rattle.ol_net.specs.declared.parts.Kind.TheVariants as kind
 use Rattle.ol_context.specs.Contexts.{levels}
 use Rattle.ol_context.specs.Paths.{inward, outward, Path, ends, goes}
 use Rattle.ol_meaning.specs.Spots.{Tree, Level, empty, o, star, Context, cons, tail, left, Place}
 use Rattle.ol_meaning.specs.Spots as term
 use Rattle.ol_meaning.specs.Heads.{Steps, done, step, SameAlong, Spine, head_free, head_app, Normal, flat}
-use Rattle.ol_meaning.specs.Tables.{without_bracket, BracketIsNeeded, doubled, net_of_doubled, FanIsNotTurned}
+use Rattle.ol_meaning.specs.Tables.{without_bracket, BracketIsNeeded, doubled, net_of_doubled, bare_net_of_doubled, FanIsNotTurned}
 use Rattle.ol_meaning.proofs.Endless.{normal_stops}
 
 abbrev Asked : Context
@@ -41,17 +43,28 @@ to_itself =
     (goes {d = cons (star empty) (cons (o empty) (levels []))} {x = 4} {k = kind.Fan} {i = 0} {s = 2} {t = 0} (inr (inr (inr (inr (inl refl))))) (inr (inr (inr (inr (inl refl))))) (inward (omega arith) refl)
     (ends (inr (inr (inr (inr (inr (inr (inr (inl refl)))))))))))
 
+bare_to_itself : Path (bare_net_of_doubled 2 1) (free 0) (levels []) 1 (cons (star empty) (cons (o empty) (levels [])))
+bare_to_itself =
+    goes {d = cons (o empty) (levels [])} {x = 0} {k = kind.App} {i = 0} {s = 1} {t = 0} (inl (inr (inr (inr (inl refl))))) (inl refl) (inward (omega arith) refl)
+    (goes {d = cons empty (cons (o empty) (levels []))} {x = 1} {k = kind.Croissant} {i = 0} {s = 1} {t = 0} (inl (inl refl)) (inr (inl refl)) (inward (omega arith) refl)
+    (goes {d = cons (star empty) (cons (o empty) (levels []))} {x = 2} {k = kind.Fan} {i = 0} {s = 2} {t = 0} (inr (inr (inl refl))) (inr (inr (inl refl))) (inward (omega arith) refl)
+    (ends (inr (inr (inr (inr (inr (inl refl)))))))))
+
 spine_level : {y : term.Wire} {a : Level} {j : ℕ} → Spine doubled y a j → (b : Level) × (a ≡ o b)
 spine_level (head_app {a = b} head_free e) = (b, e)
 
-no_star : {u : Tree} {m : ℕ} (s : Steps doubled u m) {q : Place} {a : Level} {j : ℕ} → Normal u q a j → SameAlong s q (star empty) a → ⊥
-no_star done (flat k) e = let l = spine_level k in let f : star empty ≡ o l.0 = e ∙ l.1 in absurd (cc)
-no_star (step h s) k e = normal_stops (flat (head_app head_free refl)) h
+no_star : (τ : Translation) {u : Tree} {m : ℕ} (s : Steps doubled u m) {q : Place} {a : Level} {j : ℕ} → Normal u q a j → SameAlong τ s q (star empty) a → ⊥
+no_star τ done (flat k) e = let l = spine_level k in let f : star empty ≡ o l.0 = e ∙ l.1 in absurd (cc)
+no_star τ (step h s) k e = normal_stops (flat (head_app head_free refl)) h
 
 pub fan_not_turned : FanIsNotTurned
 fan_not_turned = record {
   straight = refl;
   turned = λ f.
       let r = f 1 0 (levels []) (cons (star empty) (cons (o empty) (levels []))) refl to_itself in
-      no_star r.2 r.6 r.7;
+      no_star One r.2 r.6 r.7;
+  bare_straight = refl;
+  bare_turned = λ f.
+      let r = f 1 0 (levels []) (cons (star empty) (cons (o empty) (levels []))) refl bare_to_itself in
+      no_star Two r.2 r.6 r.7;
 }

@@ -6,7 +6,8 @@ use Rattle.ol_meaning.specs.Spots.{Tree, HeadStep, subst_for}
 
 -- a head step is the leftmost beta step
 abbrev pub HeadIsLeftmost : Type 0
-HeadIsLeftmost = (t t' : Tree) → HeadStep t t' → (at : List ℕ) × (leftmost t ≡ Some at) × (contracted t at ≡ Some t')
+HeadIsLeftmost = (t t' : Tree) → HeadStep t t' →
+    (at : List ℕ) × (leftmost t ≡ Some at) × (contracted t at ≡ Some t')
 
 -- the two ways to put a term in for a variable are one
 abbrev pub OneSubstitution : Type 0

@@ -74,12 +74,14 @@ LacksHead (node.Cut ∷ ns) = LacksHead ns
 -- places round it, with their abstractions.
 abbrev pub Fills : {b : Bool} → Bool → List (ℕ × ℕ) → ℕ → Part b → Shown b → Type 0
 Fills lost_too ss i (term l v ts) t =
-    (Ps : List Tree) × (t ≡ abstracted l (applied (variable_of ((i, l) ∷ ss) v) Ps)) × Fills lost_too ((i, l) ∷ ss) (suc i) ts Ps
+    (Ps : List Tree) × (t ≡ abstracted l (applied (variable_of ((i, l) ∷ ss) v) Ps))
+    × Fills lost_too ((i, l) ∷ ss) (suc i) ts Ps
 Fills lost_too ss i lost t = lost_too ≡ true → HeadReducesForever t
 Fills lost_too ss i cut t = Unit {0}
 Fills lost_too ss i none Ps = Ps ≡ []
 Fills lost_too ss i (more t ts) [] = ⊥
-Fills lost_too ss i (more t ts) (P ∷ Ps) = Fills lost_too ss i t P × Fills lost_too ss (i + length (preorder t)) ts Ps
+Fills lost_too ss i (more t ts) (P ∷ Ps) = Fills lost_too ss i t P
+    × Fills lost_too ss (i + length (preorder t)) ts Ps
 
 -- The tree shows the term: the same with head reduction at each head in the place of equality, so that each head is that of a head
 -- normal form of the subterm at its place.
@@ -91,4 +93,5 @@ Shows lost_too ss i lost t = lost_too ≡ true → HeadReducesForever t
 Shows lost_too ss i cut t = Unit {0}
 Shows lost_too ss i none Ps = Ps ≡ []
 Shows lost_too ss i (more t ts) [] = ⊥
-Shows lost_too ss i (more t ts) (P ∷ Ps) = Shows lost_too ss i t P × Shows lost_too ss (i + length (preorder t)) ts Ps
+Shows lost_too ss i (more t ts) (P ∷ Ps) = Shows lost_too ss i t P
+    × Shows lost_too ss (i + length (preorder t)) ts Ps

@@ -5,7 +5,7 @@
 //! Most is said over a term's spots and trails (`ol_spots_net`), which are the walks over its net.
 //! A trail's weight is the number of application nodes that it crosses. Terms may be open, so that
 //! the laws speak of subterms as well. `net_heads` and `meaning` say it over the net of a whole
-//! term, by translation 1. Each function here is a law: it has no code.
+//! term. All laws hold for both translations. Each function here is a law: it has no code.
 #![tactic(auto)]
 
 ghost use Rattle.ol_meaning.specs.Laws.{LiftKeeps, CutIsHeld, HeldIsCut, RedexOpens, CutCloses};
@@ -93,19 +93,20 @@ pub fn seating()
     ensures args { ArgsAreThere }
 {}
 
-/// The same over the net of a whole term. Where a path leads from the root's free port, asked with
-/// n marks `o`, to a free port, the term has a head normal form, which is reached by at most as
-/// many head steps as the path crosses applications, and its head leaves at that port. And where
-/// head steps lead to a head normal form whose head leaves at a free port, such a path is there.
+/// The same over the net of a whole term, by either translation. Where a path leads from the
+/// root's free port, asked with n marks `o`, to a free port, the term has a head normal form, which
+/// is reached by at most as many head steps as the path crosses applications, and its head leaves
+/// at that port. And where head steps lead to a head normal form whose head leaves at a free port,
+/// such a path is there.
 pub fn net_heads()
     ensures found { PathFindsHead }
     ensures reached { HeadHasPath }
 {}
 
 /// Wrong tables of translation break the first of these laws, on small terms. Where an argument's
-/// bracket is left out of the net of `(\x. x) y`, a path leads to y with levels that no head has.
-/// Where the slots of the fan are turned in that of `y y`, the path to the head leaves by the mark
-/// of the other occurrence.
+/// bracket is left out of the net of `(\x. x) y` by translation 1, a path leads to y with levels
+/// that no head has. Where the slots of the fan are turned in the net of `y y`, by either
+/// translation, the path to the head leaves by the mark of the other occurrence.
 pub fn wrong_tables_mislead()
     ensures bracket { BracketIsNeeded }
     ensures fan { FanIsNotTurned }

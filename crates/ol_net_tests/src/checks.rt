@@ -1,17 +1,11 @@
 //! Traces of small terms, whole and broken, and nets after some leads.
 
-use crate::small_nets::{IDENTITY_OF_IDENTITY, assert_shown, net_of};
+use crate::small_nets::{ERASED_IDENTITY, IDENTITY_OF_IDENTITY, assert_shown, net_of};
 use ol_rules::run;
 use ol_view::{Check, after, check, trace_text};
 use std::alloc::Global;
 use std::process::Abort;
 use std::test::Fail;
-
-/// The net of (\x. y) (\z. z).
-const ERASED_IDENTITY: &str = "ol net 1\nfree 2\n\
-    node app 0\nnode lam 0\nnode croissant 0\nnode eraser -\nnode lam 1\nnode croissant 1\n\
-    link f0 0.1\nlink f1 2.0\nlink 0.0 1.0\nlink 0.2 4.0\nlink 1.1 2.1\nlink 1.2 3.0\n\
-    link 4.1 5.1\nlink 4.2 5.0\n";
 
 #[test]
 fn traces_runs(rt: HostRuntime) -> Result<(), Fail> {
@@ -47,7 +41,7 @@ const NO_RUNS_AT_LINE_4: &str = "ol trace 1\n0 1\n2 3\n2 3\n4 1.1\n1.0 2.0\n;\
     ol trace 1\n0 1\n2 3\n4 0.1\n;ol trace 1\n0 1\n2 3\n4 2.1\n;\
     ol trace 1\n0 1\n2 3\n4 1.3\n;ol trace 1\n0 1\n2 3\n4 4294967295.3\n";
 
-const BAD_AT_LINE_1: &str = ";ol trace 1;ol trace 2\n;ol trace 1 \n0 1\n;\
+const BAD_AT_LINE_1: &str = ";ol trace 1;ol trace 3\n;ol trace 1 \n0 1\n;\
     ol trace 1\r\n0 1\n;0 1\n";
 
 /// Each line of the grammar, broken once.

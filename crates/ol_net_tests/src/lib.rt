@@ -19,3 +19,5 @@ mod small_nets;
 mod squares;
 #[cfg(test)]
 mod steps;
+#[cfg(test)]
+mod waves;

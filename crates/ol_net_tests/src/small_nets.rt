@@ -16,6 +16,12 @@ pub const IDENTITY_OF_IDENTITY: &str = "ol net 1\nfree 1\n\
     link f0 0.1\nlink 0.0 1.0\nlink 0.2 3.0\nlink 1.1 2.1\nlink 1.2 2.0\n\
     link 3.1 4.1\nlink 3.2 4.0\n";
 
+/// The net of (\x. y) (\z. z), which four steps make y.
+pub const ERASED_IDENTITY: &str = "ol net 1\nfree 2\n\
+    node app 0\nnode lam 0\nnode croissant 0\nnode eraser -\nnode lam 1\nnode croissant 1\n\
+    link f0 0.1\nlink f1 2.0\nlink 0.0 1.0\nlink 0.2 4.0\nlink 1.1 2.1\nlink 1.2 3.0\n\
+    link 4.1 5.1\nlink 4.2 5.0\n";
+
 /// The net of (\x. x x) (\y. y), which 17 steps make \y. y.
 pub const IDENTITY_TWICE: &str = "ol net 1\nfree 1\n\
     node app 0\nnode lam 0\nnode app 0\nnode croissant 0\nnode croissant 1\nnode bracket 0\n\

@@ -1,5 +1,8 @@
--- Spots: where a walk over a term's net can stand, said by the term alone, without nodes and numbers; and what joins them.
+-- Spots: where a walk over a term's net can stand, said by the term alone, without nodes and numbers; and what joins them, by each
+-- of the two translations.
 use Rattle.std.specs.Prelude.{◌≡◌, ◌≢◌, ℕ, zero, suc, ◌+◌, ◌==◌, Bool, true, false, ◌||◌, if◌then◌else◌}
+use Rattle.ol_term.specs.declared.translations.Translation.{Translation}
+use Rattle.ol_term.specs.declared.translations.Translation.TheVariants.{One, Two}
 use Rattle.ol_term.specs.Trees.{Tree, var, free, lam, app}
 use Rattle.ol_net.specs.declared.parts.Kind.{Kind}
 use Rattle.ol_net.specs.declared.parts.Kind.TheVariants as kind
@@ -33,10 +36,34 @@ occurs y (app t u) = occurs y t || occurs y u
 abbrev pub left : Tree → Wire → Level → Level
 left N y a = if occurs y N then o a else a
 
--- The same by what it is at the argument, whose box has the value v: the box's bracket packs v with it, and a star tells the
--- argument's side where the function M has this wire too.
-abbrev pub right : Tree → Wire → Level → Level → Level
-right M y b v = if occurs y M then star (pair b v) else pair b v
+-- ---- arguments
+
+-- the argument has no box of its own: by translation 2 a variable or a free name is its wire itself
+abbrev pub is_bare : Translation → Tree → Bool
+is_bare One N = false
+is_bare Two (var y) = true
+is_bare Two (free f) = true
+is_bare Two (lam t) = false
+is_bare Two (app t u) = false
+
+-- b may be level 0 of a wire at the argument N, as N itself sees it: where N has no box, that is empty
+abbrev pub IsLevelOf : Translation → Tree → Level → Type 0
+IsLevelOf τ N b = is_bare τ N ≡ true → b ≡ empty
+
+-- Level 0 of a wire outside of the argument, by what it is inside, b, and by the value v from which the argument is entered. The
+-- bracket of a box packs both; where there is no box, it is v.
+abbrev pub boxed : Bool → Level → Level → Level
+boxed bare b v = if bare then v else pair b v
+
+-- Level 0 of wire y at an application's interface, by what it is at the argument N: a star tells the argument's side where the
+-- function M has this wire too.
+abbrev pub right : Translation → Tree → Tree → Wire → Level → Level → Level
+right τ M N y b v = if occurs y M then star (boxed (is_bare τ N) b v) else boxed (is_bare τ N) b v
+
+-- level 0 of wire y is a at the application M N, where it is b at N
+pub record IsRight (τ : Translation) (M N : Tree) (y : Wire) (b v a : Level) : Type 0 where
+  pub level : IsLevelOf τ N b
+  pub is : a ≡ right τ M N y b v
 
 pub data Place : Type 0 where
   root : Place
@@ -45,7 +72,7 @@ pub data Place : Type 0 where
 -- ---- spots
 
 -- at a place of the term's interface, with the value of level 0 and the levels after it; or at a spot of the body of an
--- abstraction, of the function, or of the argument of an application, whose box has this value
+-- abstraction, of the function, or of the argument of an application, which is entered with this value
 pub data Spot : Type 0 where
   at : Place → Level → Context → Spot
   body : Spot → Spot
@@ -55,24 +82,33 @@ pub data Spot : Type 0 where
 -- What joins two spots, the outer one first, and its weight: how many application nodes are crossed. An occurrence's root is
 -- joined to its wire; an abstraction's root to its body's root (o) and to the wire of its own variable (star); an application's
 -- root to its function's root, and this (star) to the argument's root; and each wire to that of the part that has it.
-pub data Edge : Tree → Spot → Spot → ℕ → Type 0 where
-  var_wire : {y : ℕ} {v : Level} {c d : Context} → d ≡ cons v c → Edge (var y) (at root v c) (at (wire (bound y)) empty d) 0
-  free_wire : {f : ℕ} {v : Level} {c d : Context} → d ≡ cons v c → Edge (free f) (at root v c) (at (wire (name f)) empty d) 0
-  lam_root : {M : Tree} {v : Level} {c : Context} → Edge (lam M) (at root (o v) c) (body (at root v c)) 0
+pub data Edge (τ : Translation) : Tree → Spot → Spot → ℕ → Type 0 where
+  var_wire : {y : ℕ} {v : Level} {c d : Context} → d ≡ cons v c →
+      Edge τ (var y) (at root v c) (at (wire (bound y)) empty d) 0
+  free_wire : {f : ℕ} {v : Level} {c d : Context} → d ≡ cons v c →
+      Edge τ (free f) (at root v c) (at (wire (name f)) empty d) 0
+  lam_root : {M : Tree} {v : Level} {c : Context} →
+      Edge τ (lam M) (at root (o v) c) (body (at root v c)) 0
   lam_own : {M : Tree} {a : Level} {c : Context} →
-      occurs (bound 0) M ≡ true → Edge (lam M) (at root (star a) c) (body (at (wire (bound 0)) a c)) 0
+      occurs (bound 0) M ≡ true → Edge τ (lam M) (at root (star a) c)
+      (body (at (wire (bound 0)) a c)) 0
   lam_wire : {M : Tree} {y z : Wire} {a : Level} {c : Context} →
-      z ≡ under y → occurs z M ≡ true → Edge (lam M) (at (wire y) a c) (body (at (wire z) a c)) 0
-  app_root : {M N : Tree} {v : Level} {c : Context} → Edge (app M N) (at root v c) (fun (at root (o v) c)) 1
+      z ≡ under y → occurs z M ≡ true → Edge τ (lam M) (at (wire y) a c) (body (at (wire z) a c)) 0
+  app_root : {M N : Tree} {v : Level} {c : Context} →
+      Edge τ (app M N) (at root v c) (fun (at root (o v) c)) 1
   app_arg : {M N : Tree} {v u : Level} {c d : Context} →
-      c ≡ cons u d → Edge (app M N) (fun (at root (star v) c)) (arg v (at root u d)) 1
+      c ≡ cons u d → Edge τ (app M N) (fun (at root (star v) c)) (arg v (at root u d)) 1
   app_left : {M N : Tree} {y : Wire} {a w : Level} {c : Context} →
-      occurs y M ≡ true → w ≡ left N y a → Edge (app M N) (at (wire y) w c) (fun (at (wire y) a c)) 0
+      occurs y M ≡ true → w ≡ left N y a →
+      Edge τ (app M N) (at (wire y) w c) (fun (at (wire y) a c)) 0
   app_right : {M N : Tree} {y : Wire} {b v w : Level} {c : Context} →
-      occurs y N ≡ true → w ≡ right M y b v → Edge (app M N) (at (wire y) w c) (arg v (at (wire y) b c)) 0
-  in_body : {M : Tree} {s s' : Spot} {w : ℕ} → Edge M s s' w → Edge (lam M) (body s) (body s') w
-  in_fun : {M N : Tree} {s s' : Spot} {w : ℕ} → Edge M s s' w → Edge (app M N) (fun s) (fun s') w
-  in_arg : {M N : Tree} {v : Level} {s s' : Spot} {w : ℕ} → Edge N s s' w → Edge (app M N) (arg v s) (arg v s') w
+      occurs y N ≡ true → IsRight τ M N y b v w →
+      Edge τ (app M N) (at (wire y) w c) (arg v (at (wire y) b c)) 0
+  in_body : {M : Tree} {s s' : Spot} {w : ℕ} → Edge τ M s s' w → Edge τ (lam M) (body s) (body s') w
+  in_fun : {M N : Tree} {s s' : Spot} {w : ℕ} → Edge τ M s s' w →
+      Edge τ (app M N) (fun s) (fun s') w
+  in_arg : {M N : Tree} {v : Level} {s s' : Spot} {w : ℕ} → Edge τ N s s' w →
+      Edge τ (app M N) (arg v s) (arg v s') w
 
 -- A trail: edges one after another, each taken either way round, of this weight in all.
 pub data Trail {V : Type 0} (E : V → V → ℕ → Type 0) : V → V → ℕ → Type 0 where
@@ -81,8 +117,8 @@ pub data Trail {V : Type 0} (E : V → V → ℕ → Type 0) : V → V → ℕ �
   back : {s s' z : V} {w n m : ℕ} → E s' s w → Trail E s' z n → m ≡ w + n → Trail E s z m
 
 -- a trail of weight n from one spot of a term to another one
-abbrev pub Leads : Tree → Spot → Spot → ℕ → Type 0
-Leads t e x n = Trail (Edge t) e x n × (e ≢ x)
+abbrev pub Leads : Translation → Tree → Spot → Spot → ℕ → Type 0
+Leads τ t e x n = Trail (Edge τ t) e x n × (e ≢ x)
 
 -- ---- a whole term and its net
 
@@ -101,6 +137,7 @@ weight_of kind.Bracket = 0
 weight_of kind.Eraser = 0
 
 -- how many application nodes a path crosses
-abbrev pub applications : {A : Type 0} {N : NamedNet A} {p : NamedPort A} {c : Context} {q : ℕ} {d : Context} → Path N p c q d → ℕ
+abbrev pub applications : {A : Type 0} {N : NamedNet A} {p : NamedPort A} {c : Context} {q : ℕ}
+    {d : Context} → Path N p c q d → ℕ
 applications (ends l) = 0
 applications (goes {k = k} l h x r) = weight_of k + applications r

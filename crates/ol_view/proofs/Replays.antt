@@ -8,10 +8,9 @@ use Rattle.ol_rules.specs.declared.journal.NodeName.{NodeName}
 use Rattle.ol_rules.proofs.NameOrder.{Names, names_apart}
 use Rattle.ol_rules.proofs.Renaming.{active_from}
 use Rattle.ol_rules.proofs.UnderWay.{node_below}
-use Rattle.ol_diamond.specs.Replaying.{node_number}
+use Rattle.ol_diamond.specs.Replaying.{node_number, AreIdle}
 use Rattle.ol_diamond.proofs.Replays.{Index}
-use Rattle.ol_view.specs.Replaying.{AreIdleNumbers}
-use Rattle.ol_view.specs.Checks.{AreIdle}
+use Rattle.ol_diamond.specs.Replaying.{AreIdleNumbers}
 
 -- the pair of two names that have no active numbers
 pub idle_names : (g : Graph) (bases : List ℕ) (start ticket : ℕ) (m : ℕ → NodeName) (a b : NodeName) → Names start (length g.nodes) ticket m → Index bases (length g.nodes) ticket m →

@@ -4,11 +4,11 @@
 
 mod answers;
 mod checking;
+mod forms;
 mod laws;
 mod leading;
 mod line_reading;
 mod pieces;
-mod replay;
 mod showing;
 mod tracing;
 mod wave_tracing;

@@ -3,9 +3,36 @@
 ghost use Rattle.std.specs.Prelude.{◌≡◌, ◌<◌, ◌≤◌, length, drop, option_map, IfSome};
 ghost use Rattle.ol_rules.specs.declared.journal.NodeName.{NodeName};
 ghost use Rattle.ol_rules.specs.Names.{comes_before};
-ghost use Rattle.ol_view.specs.LineReading.{front_number, front_name, behind, front_line};
+ghost use Rattle.ol_view.specs.LineReading.{front_number, front_name, behind, front_line, word_behind, front_rule, front_told, front_entry};
 
+use crate::forms::Form;
+use crate::wave_tracing::rule_word;
+use ol_net::Rule;
 use ol_rules::NodeName;
+
+/// A line of a trace text.
+#[derive(Clone, Copy)]
+pub struct Line {
+    /// The rule and the wave, where the form tells them.
+    pub told: Option<(Rule, u32)>,
+    /// The smaller name, and the other.
+    pub first: NodeName,
+    pub second: NodeName,
+    /// The place behind the line.
+    pub next: usize,
+}
+
+// All rules.
+const RULES: [Rule; 8] = [
+    Rule::Beta,
+    Rule::Fan,
+    Rule::Croissant,
+    Rule::Bracket,
+    Rule::CrossFan,
+    Rule::CrossCroissant,
+    Rule::CrossBracket,
+    Rule::Erase,
+];
 
 // The number at a place of the text, and the place behind it.
 fn number_at(text: &[u8], at: usize) -> Option<(u32, usize)>
@@ -91,9 +118,56 @@ fn comes_before(a: NodeName, b: NodeName) -> bool
     }
 }
 
-/// The line at a place of the text: its two names, the smaller one first, and the place behind its
-/// line feed. `None`: there is no line of the grammar.
-pub fn line_at(text: &[u8], at: usize) -> Option<(NodeName, NodeName, usize)>
+// The place behind this word.
+fn word_behind(text: &[u8], at: usize, word: &str) -> Option<usize>
+    requires { at ≤ length text.now }
+    ensures read { word_behind word.now (drop at text.now)
+        ≡ option_map (λ to. drop to text.now) result }
+    ensures place { IfSome result (λ to. (at ≤ to) × (to ≤ length text.now)) }
+{
+    if text[at..].starts_with(word.as_bytes()) {
+        Some(at + word.len())
+    } else {
+        None
+    }
+}
+
+// The rule of this name, and the place behind the name.
+fn rule_at(text: &[u8], at: usize) -> Option<(Rule, usize)>
+    requires { at ≤ length text.now }
+    ensures read { front_rule (drop at text.now)
+        ≡ option_map (λ r. (r.0, drop r.1 text.now)) result }
+    ensures place { IfSome result (λ r. (at ≤ r.1) × (r.1 ≤ length text.now)) }
+{
+    for rule in RULES {
+        if let Some(to) = word_behind(text, at, rule_word(rule)) {
+            return Some((rule, to));
+        }
+    }
+    None
+}
+
+// The rule and the wave that a line of this form begins with, and the place behind them.
+fn told_at(form: Form, text: &[u8], at: usize) -> Option<(Option<(Rule, u32)>, usize)>
+    requires { at ≤ length text.now }
+    ensures read { front_told form (drop at text.now)
+        ≡ option_map (λ r. (r.0, drop r.1 text.now)) result }
+    ensures place { IfSome result (λ r. (at ≤ r.1) × (r.1 ≤ length text.now)) }
+{
+    match form {
+        Form::One => Some((None, at)),
+        Form::Two => {
+            let (rule, space) = rule_at(text, at)?;
+            let to = behind(text, space, b' ')?;
+            let (wave, space) = number_at(text, to)?;
+            let to = behind(text, space, b' ')?;
+            Some((Some((rule, wave)), to))
+        }
+    }
+}
+
+// Two names, the smaller one first, and the place behind the line feed that follows.
+fn pair_at(text: &[u8], at: usize) -> Option<(NodeName, NodeName, usize)>
     requires { at ≤ length text.now }
     ensures read { front_line (drop at text.now)
         ≡ option_map (λ r. (r.0, r.1, drop r.2 text.now)) result }
@@ -107,4 +181,21 @@ pub fn line_at(text: &[u8], at: usize) -> Option<(NodeName, NodeName, usize)>
         return None;
     }
     Some((first, second, next))
+}
+
+/// The line of this form at a place of the text. `None`: there is no line of the grammar.
+pub fn line_at(form: Form, text: &[u8], at: usize) -> Option<Line>
+    requires { at ≤ length text.now }
+    ensures read { front_entry form (drop at text.now)
+        ≡ option_map (λ l. (l.told, l.first, l.second, drop l.next text.now)) result }
+    ensures place { IfSome result (λ l. (at < l.next) × (l.next ≤ length text.now)) }
+{
+    let (told, to) = told_at(form, text, at)?;
+    let (first, second, next) = pair_at(text, to)?;
+    Some(Line {
+        told,
+        first,
+        second,
+        next,
+    })
 }

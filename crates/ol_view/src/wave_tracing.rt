@@ -19,18 +19,19 @@ use std::alloc::Global;
 // The first line of a trace text with waves.
 pub(crate) const WAVE_HEADER: &str = "ol trace 2\n";
 
-fn put_rule(text: &mut String, rule: Rule) -> Result<(), NoMemory>
-    ensures { OnOk result (string_bytes text.new ≡ string_bytes text.old ++ rule_text rule) }
+/// The name of a rule, as in the lines of counts.
+pub(crate) fn rule_word(rule: Rule) -> &'static str
+    ensures { result.now ≡ rule_text rule }
 {
     match rule {
-        Rule::Beta => put(text, "beta"),
-        Rule::Fan => put(text, "fan"),
-        Rule::Croissant => put(text, "croissant"),
-        Rule::Bracket => put(text, "bracket"),
-        Rule::CrossFan => put(text, "cross-fan"),
-        Rule::CrossCroissant => put(text, "cross-croissant"),
-        Rule::CrossBracket => put(text, "cross-bracket"),
-        Rule::Erase => put(text, "erase"),
+        Rule::Beta => "beta",
+        Rule::Fan => "fan",
+        Rule::Croissant => "croissant",
+        Rule::Bracket => "bracket",
+        Rule::CrossFan => "cross-fan",
+        Rule::CrossCroissant => "cross-croissant",
+        Rule::CrossBracket => "cross-bracket",
+        Rule::Erase => "erase",
     }
 }
 
@@ -38,7 +39,7 @@ fn put_wave_line(text: &mut String, entry: Entry, wave: u32) -> Result<(), NoMem
     ensures { OnOk result
         (string_bytes text.new ≡ string_bytes text.old ++ wave_line_text entry wave) }
 {
-    put_rule(text, entry.rule)?;
+    put(text, rule_word(entry.rule))?;
     put(text, " ")?;
     put_number(text, wave)?;
     put(text, " ")?;

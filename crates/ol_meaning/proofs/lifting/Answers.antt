@@ -3,4 +3,4 @@ use Rattle.ol_meaning.proofs.lifting.Goals as goal
 use Rattle.ol_meaning.proofs.Lifts.{lift_keeps}
 
 pub returns : goal.returns
-returns g = lift_keeps
+returns g = λ τ t d i s s' w e. lift_keeps t d i s s' w e

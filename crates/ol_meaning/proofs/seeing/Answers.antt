@@ -5,7 +5,7 @@ use Rattle.ol_meaning.proofs.Sights.{arg_seen}
 use Rattle.ol_meaning.proofs.Based.{term_seen}
 
 pub returns-clause-term : goal.returns-clause-term
-returns-clause-term g = λ t names h. term_seen t names h
+returns-clause-term g = λ τ t names h. term_seen τ t names h
 
 pub returns-clause-argument : goal.returns-clause-argument
-returns-clause-argument g = λ N ch f t P p seen u m s e y a w j normal same q ms stands n i Q k. arg_seen seen s k n f refl refl e y a w j normal same q ms stands
+returns-clause-argument g = λ τ N ch f t P p seen u m s e y a w j normal same q ms stands n i Q k. arg_seen seen s k n f refl refl e y a w j normal same q ms stands

@@ -4,6 +4,7 @@ use Rattle.ol_cli.specs.Jobs.{translation_in}
 use Rattle.ol_cli.proofs.Handing.{file_hands}
 use Rattle.ol_cli.proofs.ReadAgain.{file_read}
 use Rattle.ol_cli.proofs.Readied.{refuses_answer, refuses_read, refuses_hands, term_answer}
+use Rattle.ol_cli.proofs.TermSizes.{reducible}
 use Rattle.ol_cli.proofs.evaluation.evaluate.Goals as goal
 
 pub returns-in_ok-answer-in-Net-clause-answer : goal.returns-in_ok-answer-in-Net-clause-answer
@@ -41,3 +42,8 @@ returns-in-Refused-clause-read g c =
     let refused = rw (c.in-Refused.is, c.translation_in.ensures) at c.in_ok-answer.ensures.prepared in
     let a = c.in-Refused.answer in
     refuses_read (asked_by c.args.job.now) c.args.bytes.now a.status a.text.items refused.0
+
+pub evaluate_net-requires-clause-term : goal.evaluate_net-requires-clause-term
+evaluate_net-requires-clause-term g c = λ κs alive.
+    let ready = rw (c.in-Net.is, c.translation_in.ensures) at c.in_ok-answer.ensures.prepared in
+    reducible (translation_in (asked_by c.args.job.now)) c.args.bytes.now (tree_of c.in-Net.file.term) c.in-Net.file.names ready.term

@@ -16,6 +16,9 @@ returns-in-View-clause-caused g c = IfOk-weaker c.answer_file-in-View.result _ _
 pub returns-in-Trace-clause-caused : goal.returns-in-Trace-clause-caused
 returns-in-Trace-clause-caused g c = IfOk-weaker c.answer_file-in-Trace.result _ _ (λ a h. by_file (rw c.in-Trace.is tt) h) c.answer_file-in-Trace.ensures.caused
 
+pub returns-in-Certify-clause-caused : goal.returns-in-Certify-clause-caused
+returns-in-Certify-clause-caused g c = IfOk-weaker c.answer_file-in-Certify.result _ _ (λ a h. by_file (rw c.in-Certify.is tt) h) c.answer_file-in-Certify.ensures.caused
+
 pub returns-in-Gen-clause-caused : goal.returns-in-Gen-clause-caused
 returns-in-Gen-clause-caused g c = rw c.in-Gen.is (IfOk-weaker c.answer_made.result _ _ (λ a h. by_making refl h) c.answer_made.ensures.made)
 
@@ -33,6 +36,9 @@ answer_file-requires-in-View-clause-known g c = λ κs alive. rw c.as_str-in-Vie
 
 pub answer_file-requires-in-Trace-clause-known : goal.answer_file-requires-in-Trace-clause-known
 answer_file-requires-in-Trace-clause-known g c = λ κs alive. rw c.as_str-in-Trace.ensures (c.requires.known 0 c.in-Trace.name (rw c.in-Trace.is refl))
+
+pub answer_file-requires-in-Certify-clause-known : goal.answer_file-requires-in-Certify-clause-known
+answer_file-requires-in-Certify-clause-known g c = λ κs alive. rw c.as_str-in-Certify.ensures (c.requires.known 0 c.in-Certify.name (rw c.in-Certify.is refl))
 
 pub answer_check-requires-clause-term : goal.answer_check-requires-clause-term
 answer_check-requires-clause-term g c = rw c.as_str-in-Check.ensures (c.requires.known 0 c.in-Check.term (rw c.in-Check.is refl))

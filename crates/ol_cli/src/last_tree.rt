@@ -1,0 +1,44 @@
+//! The tree that is read back from the net that the workers leave.
+ghost use Rattle.std.specs.Prelude.{◌≡◌, ◌≤◌, ◌<◌, length, count_by, is_some, IfOk};
+ghost use Rattle.ol_wire.specs.Sizes.{IsSmallNet};
+ghost use Rattle.ol_cli.specs.Inside.{ReadsOrRunsOut};
+ghost use Rattle.ol_cli.specs.Prepared.{HoldsOfTerms};
+
+use crate::evaluation::RunNumbers;
+use ol_io::{Gate, NoMemory};
+use ol_net::Net;
+use ol_readback::{ReadTree, read_back};
+use ol_reduce::{Reduced, reduce};
+use std::alloc::Global;
+use std::sync::Wait;
+use std::thread::Threads;
+
+/// The tree of the net that the workers leave, each walk within twice as many crossings as that net
+/// has nodes. There is none where the fuel was used up. This holds of each term whose net it is.
+pub fn last_tree<R: Threads + Wait + Sync, G: Gate + Sync>(
+    rt: &R,
+    alloc: Global,
+    net: &Net,
+    numbers: RunNumbers,
+    gate: &G,
+) -> Result<Option<ReadTree>, NoMemory>
+    requires root { 0 < net.now.free }
+    requires whole { count_by is_some net.now.nodes ≡ length net.now.nodes }
+    requires small { IsSmallNet net.now }
+    requires workers { (1 ≤ numbers.workers) × (numbers.workers ≤ 64) }
+    requires fuel { numbers.fuel ≤ 8000000 }
+    requires heads { 1 ≤ numbers.heads }
+    ensures { IfOk result (λ tree. HoldsOfTerms net.now (λ translation t names.
+        ReadsOrRunsOut translation t names numbers.fuel numbers.heads tree)) }
+{
+    net.is_net();
+    let reduced = reduce(rt, alloc, net, numbers.workers, numbers.fuel, gate)?;
+    match reduced {
+        Reduced::Spent { .. } => Ok(None),
+        Reduced::Done { net: last, .. } => {
+            last.is_net();
+            let tree = read_back(alloc, &last, numbers.heads, 2 * last.nodes() as u64)?;
+            Ok(Some(tree))
+        }
+    }
+}
