@@ -1,5 +1,5 @@
 -- What is written for a job's own term, where its bytes are told: that of its file, or the one that `gen --run` makes.
-use Rattle.std.specs.Prelude.{◌≡◌, ℕ, ◌<◌, ◌==◌, true, false, List, length, Option, String}
+use Rattle.std.specs.Prelude.{ℕ, ◌<◌, ◌==◌, true, false, List, length, Option, String}
 use Rattle.std.specs.declared.alloc.Global.{Global}
 use Rattle.ol_io.specs.Outside.{Appended}
 use Rattle.ol_term.specs.declared.translations.Translation.{Translation}
