@@ -1,5 +1,6 @@
 -- The text of a journal in either form, line by line.
 use Rattle.std.proofs.Common.{◌≡◌, ℕ, List, [], ◌∷◌, ◌++◌, append_assoc, true, length, refl, sym, ap, ◌∙◌, arith}
+use Rattle.std.proofs.lemmas.List.{append-nil}
 use Rattle.ol_rules.specs.declared.journal.Entry.{Entry}
 use Rattle.ol_rules.specs.Names.{comes_before}
 use Rattle.ol_view.specs.declared.forms.Form.{Form}
@@ -30,12 +31,8 @@ pub text_is : (form : Form) (es : List Entry) (ws : List ℕ) → text_of form e
 text_is One es ws = refl
 text_is Two es ws = refl
 
-append_nil : (bs : List ℕ) → bs ++ [] ≡ bs
-append_nil [] = refl
-append_nil (b ∷ bs) = ap (λ bs. b ∷ bs) (append_nil bs)
-
 wave_lines_append : (es : List Entry) (ws : List ℕ) (e : Entry) (wave : ℕ) → length ws ≡ length es → wave_lines_text (es ++ e ∷ []) (ws ++ wave ∷ []) ≡ wave_lines_text es ws ++ wave_line_text e wave
-wave_lines_append [] [] e wave q = append_nil (wave_line_text e wave)
+wave_lines_append [] [] e wave q = append-nil (wave_line_text e wave)
 wave_lines_append [] (w ∷ ws) e wave q = absurd (omega arith)
 wave_lines_append (d ∷ es) [] e wave q = absurd (omega arith)
 wave_lines_append (d ∷ es) (w ∷ ws) e wave q = ap (λ bs. wave_line_text d w ++ bs) (wave_lines_append es ws e wave (omega arith)) ∙ sym (append_assoc (wave_line_text d w) (wave_lines_text es ws) (wave_line_text e wave))
