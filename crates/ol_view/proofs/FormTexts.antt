@@ -31,7 +31,6 @@ pub text_is : (form : Form) (es : List Entry) (ws : List ℕ) → text_of form e
 text_is One es ws = refl
 text_is Two es ws = refl
 
-
 wave_lines_append : (es : List Entry) (ws : List ℕ) (e : Entry) (wave : ℕ) → length ws ≡ length es → wave_lines_text (es ++ e ∷ []) (ws ++ wave ∷ []) ≡ wave_lines_text es ws ++ wave_line_text e wave
 wave_lines_append [] [] e wave q = append-nil (wave_line_text e wave)
 wave_lines_append [] (w ∷ ws) e wave q = absurd (omega arith)

@@ -1,22 +1,17 @@
 -- The names of rules, as they are read and written.
-use Rattle.std.proofs.Common.{◌≡◌, ℕ, suc, ◌+◌, ◌<◌, ◌≤◌, Bool, true, false, if◌then◌else◌, eqb, List, [], ◌∷◌, ◌++◌, length, drop, get_or, Option, None, Some, refl, sym, ap, ◌∙◌, arith}
+use Rattle.std.proofs.Common.{◌≡◌, ℕ, suc, ◌+◌, ◌<◌, ◌≤◌, Bool, true, false, if◌then◌else◌, eqb, List, ◌++◌, length, drop, get_or, Option, None, Some, sym, ap, ◌∙◌, arith}
 use Rattle.std.specs.List.{starts_with, slice_range}
 use Rattle.std.proofs.lemmas.List.{append-nil, drop-drop}
 use Rattle.std.proofs.lemmas.List.Folds.{drop_split}
-use Rattle.std.proofs.Math.Seq.{drop-cons}
+use Rattle.std.proofs.Math.Seq.{drop-cons, drop-length}
 use Rattle.std.specs.Prelude.{option_map}
 use Rattle.ol_net.specs.declared.parts.Rule.{Rule}
 use Rattle.ol_net.specs.declared.parts.Rule.TheVariants.{Beta}
 use Rattle.ol_view.specs.WaveTexts.{rule_text}
 use Rattle.ol_view.specs.LineReading.{word_behind, first_of, front_rule_of, all_rules}
 
-
-drop_all : (bs : List ℕ) → drop (length bs) bs ≡ []
-drop_all [] = refl
-drop_all (b ∷ bs) = drop_all bs
-
 to_end : (text : List ℕ) (at : ℕ) → at ≤ length text → slice_range text at (length text) ≡ drop at text
-to_end text at h = sym (drop_split text at (length text) h ∙ ap (λ bs. slice_range text at (length text) ++ bs) (drop_all text) ∙ append-nil (slice_range text at (length text)))
+to_end text at h = sym (drop_split text at (length text) h ∙ ap (λ bs. slice_range text at (length text) ++ bs) (drop-length text) ∙ append-nil (slice_range text at (length text)))
 
 -- what follows a word that stands here
 pub is_behind : (text : List ℕ) (at : ℕ) (word bytes : List ℕ) (r : Bool) → at ≤ length text → bytes ≡ word → r ≡ starts_with eqb (slice_range text at (length text)) bytes →

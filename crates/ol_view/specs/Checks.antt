@@ -21,8 +21,8 @@ use Rattle.ol_view.specs.Forms.{header_of, text_of, BeginsWithEntry}
 abbrev pub start_net_of_graph : Graph → NamedNet NodeName
 start_net_of_graph g = net_under Init (net_of g)
 
--- What a text of this form tells of a run from one net to the other: the first form its entries, the
--- second their waves too.
+-- What a text of this form tells of a run from one net to the other: the first form its entries,
+-- the second their waves too.
 abbrev pub IsRunTold : Form → NamedNet NodeName → List Entry → List ℕ → NamedNet NodeName → Type 0
 IsRunTold One net journal waves last = IsRun net 0 journal last
 IsRunTold Two net journal waves last = IsRun net 0 journal last × AreWaves net journal last waves
@@ -30,7 +30,8 @@ IsRunTold Two net journal waves last = IsRun net 0 journal last × AreWaves net 
 -- The first lines of the text are the trace of a run of at most 8,000,000 entries, which leads from
 -- one net to the other; this follows them.
 pub record BeginsWithRun (form : Form) (net : NamedNet NodeName) (text : List ℕ)
-    (journal : List Entry) (waves : List ℕ) (last : NamedNet NodeName) (rest : List ℕ) : Type 0 where
+    (journal : List Entry) (waves : List ℕ) (last : NamedNet NodeName) (rest : List ℕ)
+    : Type 0 where
   pub begins : text ≡ text_of form journal waves ++ rest
   pub few : length journal ≤ 8000000
   pub run : IsRunTold form net journal waves last
@@ -40,17 +41,20 @@ abbrev pub HasNoLine : Form → List ℕ → Type 0
 HasNoLine form text =
     (entry : Entry) (wave : ℕ) (rest : List ℕ) → BeginsWithEntry form text entry wave rest → ⊥
 
--- The run so far, which led to this last net, doesn't go on with what the line of this entry tells: its
--- pair isn't active or, in the second form, its rule or its wave isn't the entry's own.
-abbrev pub IsOtherwise : Form → NamedNet NodeName → List Entry → List ℕ → NamedNet NodeName → Entry → ℕ → Type 0
+-- The run so far, which led to this last net, doesn't go on with what the line of this entry tells:
+-- its pair isn't active or, in the second form, its rule or its wave isn't the entry's own.
+abbrev pub IsOtherwise : Form → NamedNet NodeName → List Entry → List ℕ →
+    NamedNet NodeName → Entry → ℕ → Type 0
 IsOtherwise One net journal waves last entry wave = AreIdle last entry.first entry.second
 IsOtherwise Two net journal waves last entry wave = (next : NamedNet NodeName) →
     IsRunTold Two net (journal ++ entry ∷ []) (waves ++ wave ∷ []) next → ⊥
 
--- What is found of the text. Lines are numbered from 1, and the line of entry k, from 0, is line k + 2.
+-- What is found of the text. Lines are numbered from 1, and the line of entry k, from 0, is line
+-- k + 2.
 pub data IsFound (net : NamedNet NodeName) (text : List ℕ) : Check → Type 0 where
   complete : {form : Form} {journal : List Entry} {waves : List ℕ} {last : NamedNet NodeName} →
-      BeginsWithRun form net text journal waves last [] → IsComplete last → IsFound net text Complete
+      BeginsWithRun form net text journal waves last [] → IsComplete last →
+      IsFound net text Complete
   run : {form : Form} {journal : List Entry} {waves : List ℕ} {last : NamedNet NodeName} →
       BeginsWithRun form net text journal waves last [] → HasActive last →
       IsFound net text (Run (length journal))
@@ -72,10 +76,11 @@ pub data IsFound (net : NamedNet NodeName) (text : List ℕ) : Check → Type 0 
 abbrev pub OnlyIsFound : NamedNet NodeName → List ℕ → Check → Type 0
 OnlyIsFound net text check = (found : Check) → (check ≡ found) ↔ IsFound net text found
 
--- Where the text is the trace, in either form, of a run of at most 8,000,000 entries, this is found:
--- Complete where no pair is active after it, else Run with its length.
+-- Where the text is the trace, in either form, of a run of at most 8,000,000 entries, this is
+-- found: Complete where no pair is active after it, else Run with its length.
 abbrev pub IsReadAgain : NamedNet NodeName → List ℕ → Check → Type 0
 IsReadAgain net text found =
     (form : Form) (journal : List Entry) (waves : List ℕ) (last : NamedNet NodeName) →
-    length journal ≤ 8000000 → IsRunTold form net journal waves last → text ≡ text_of form journal waves →
+    length journal ≤ 8000000 → IsRunTold form net journal waves last →
+    text ≡ text_of form journal waves →
     (IsComplete last → found ≡ Complete) × ((IsComplete last → ⊥) → found ≡ Run (length journal))

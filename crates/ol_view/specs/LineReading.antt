@@ -68,10 +68,12 @@ first_of None y = y
 abbrev pub front_rule_of : List Rule → List ℕ → Option (Rule × List ℕ)
 front_rule_of [] bs = None
 front_rule_of (r ∷ rs) bs =
-    first_of (option_map (λ (rest : List ℕ). (r, rest)) (word_behind (rule_text r) bs)) (front_rule_of rs bs)
+    first_of (option_map (λ (rest : List ℕ). (r, rest)) (word_behind (rule_text r) bs))
+    (front_rule_of rs bs)
 
 abbrev pub all_rules : List Rule
-all_rules = rule.Beta ∷ rule.Fan ∷ rule.Croissant ∷ rule.Bracket ∷ rule.CrossFan ∷ rule.CrossCroissant ∷ rule.CrossBracket ∷ rule.Erase ∷ []
+all_rules = rule.Beta ∷ rule.Fan ∷ rule.Croissant ∷ rule.Bracket ∷ rule.CrossFan
+    ∷ rule.CrossCroissant ∷ rule.CrossBracket ∷ rule.Erase ∷ []
 
 abbrev pub front_rule : List ℕ → Option (Rule × List ℕ)
 front_rule bs = front_rule_of all_rules bs
@@ -89,11 +91,10 @@ front_told One bs = Some (None, bs)
 front_told Two bs = option_and_then told_on (front_rule bs)
 
 -- what a line of this form tells
-abbrev pub Told : Type 0
-Told = Option (Rule × ℕ) × NodeName × NodeName
-
-abbrev pub told_with : Option (Rule × ℕ) × List ℕ → Option (Option (Rule × ℕ) × NodeName × NodeName × List ℕ)
-told_with r = option_map (λ (l : NodeName × NodeName × List ℕ). (r.0, l.0, l.1, l.2)) (front_line r.1)
+abbrev pub told_with : Option (Rule × ℕ) × List ℕ →
+    Option (Option (Rule × ℕ) × NodeName × NodeName × List ℕ)
+told_with r =
+    option_map (λ (l : NodeName × NodeName × List ℕ). (r.0, l.0, l.1, l.2)) (front_line r.1)
 
 abbrev pub front_entry : Form → List ℕ → Option (Option (Rule × ℕ) × NodeName × NodeName × List ℕ)
 front_entry form bs = option_and_then told_with (front_told form bs)
