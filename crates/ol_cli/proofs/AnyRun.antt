@@ -49,17 +49,17 @@ step_to_same N P Q t e s st =
     }
 
 -- leads whose last net lists each node once, and is this net
-record EndsOnce (N : NamedNet NodeName) (t : ℕ) (es : List Entry) (Q : NamedNet NodeName) : Type 0 where
-  net : NamedNet NodeName
-  leads : IsLeadRun N t es net
-  same : SameNet Q net
-  once : ListsOnce net
+pub record EndsOnce (N : NamedNet NodeName) (t : ℕ) (es : List Entry) (Q : NamedNet NodeName) : Type 0 where
+  pub net : NamedNet NodeName
+  pub leads : IsLeadRun N t es net
+  pub same : SameNet Q net
+  pub once : ListsOnce net
 
 ends_at : (N P Q : NamedNet NodeName) (t : ℕ) (e : Entry) (es : List Entry) → SameNet P Q → IsLeadRun N t (e ∷ es) P → IsLeadRun N t (e ∷ es) Q
 ends_at N P Q t e [] s (IsLeadRun.then d st IsLeadRun.end) = IsLeadRun.then d (step_to_same N P Q t e s st) IsLeadRun.end
 ends_at N P Q t e (e' ∷ es) s (IsLeadRun.then {M = K} d st r) = IsLeadRun.then d st (ends_at K P Q (suc t) e' es s r)
 
-ends_once : (N P Q : NamedNet NodeName) (t : ℕ) (es : List Entry) → SameNet P Q → ListsOnce N → ListsOnce Q → IsLeadRun N t es P → EndsOnce N t es Q
+pub ends_once : (N P Q : NamedNet NodeName) (t : ℕ) (es : List Entry) → SameNet P Q → ListsOnce N → ListsOnce Q → IsLeadRun N t es P → EndsOnce N t es Q
 ends_once N P Q t [] s n q IsLeadRun.end = record { net = N; leads = IsLeadRun.end; same = same_sym N Q s; once = n }
 ends_once N P Q t (e ∷ es) s n q r = record { net = Q; leads = ends_at N P Q t e es s r; same = same_refl Q; once = q }
 

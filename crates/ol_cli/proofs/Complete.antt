@@ -13,7 +13,7 @@ use Rattle.ol_words.specs.Texts.{Text}
 use Rattle.ol_words.specs.Asked.{Asked, run, walk, view, trace, check, gen, certify}
 use Rattle.ol_words.specs.Asked as jobs
 use Rattle.ol_cli.specs.declared.status.Status.{Status}
-use Rattle.ol_cli.specs.declared.status.Status.TheVariants.{Done, Usage, Syntax, Spent, ReadFault, WriteFault, NoMemory, Limit}
+use Rattle.ol_cli.specs.declared.status.Status.TheVariants.{Done, Usage, Syntax, Spent, ReadFault, WriteFault, NoMemory, Limit, BadNet}
 use Rattle.ol_cli.specs.Jobs.{EachName, TellsFiles, term_bytes, translation_in}
 use Rattle.ol_cli.specs.Answers.{IsTermFile, FileAnswer, JournalAnswer, JobAnswer, Makes, plain_run, IsAnswer, Ends, seen}
 use Rattle.ol_cli.specs.Answers as answers
@@ -22,6 +22,8 @@ use Rattle.ol_cli.proofs.Exact.{ends_exact}
 use Rattle.ol_cli.proofs.OnePrint.{ends_or_runs_out}
 use Rattle.ol_cli.proofs.OneAnswer.{file_net, OfTerm, of_term, OfTree, OfFile, of_file_answer, OfJournal, of_journal_answer, one_bytes, one_job, own_job}
 use Rattle.ol_cli.proofs.OneAnswer as by
+use Rattle.ol_cli.specs.NetAnswers.{IsNetFile}
+use Rattle.ol_cli.proofs.NetFiles.{done_net_file}
 
 -- ---- a term whose run ends within the fuel
 
@@ -32,6 +34,7 @@ done_term t names _ n ends s x (by.walked w) = refl
 done_term t names _ n ends s x (by.viewed v) = refl
 done_term t names _ n ends s x (by.traced e) = refl
 done_term t names _ n ends s x (by.certified c) = refl
+done_term t names _ n ends s x (by.netted w) = refl
 done_term t names _ n ends s x (by.uncertified {tr = tr} {fuel = fuel} r e) = absurd (ends_or_runs_out tr t names n fuel r ends)
 done_term t names _ n ends s x (by.stopped {tr = tr} {fuel = fuel} r) = absurd (ends_or_runs_out tr t names n fuel r ends)
 
@@ -83,8 +86,15 @@ module _ (files : Text → Option (List ℕ)) where
   done_job (check tr term other) can s x (answers.of_file has e h) = done_told (check tr term other) term (files term) can.0 refl _ e (check tr term other) refl can.0.ends s x h
   done_job (check tr term other) can s x (answers.of_journal {trace = read} {t = t} {names = names} e i e' h) = done_on_journal other can.1 tr t names read e' s x h
   done_job (certify tr b w f q name) can s x (answers.of_file has e h) = done_told (certify tr b w f q name) name (files name) can refl _ e (certify tr b w f q name) refl can.ends s x h
-  done_job (jobs.net tr from w f name) can s x (answers.of_file has e h) = absurd has
-  done_job (jobs.equal tr w f q first second) can s x (answers.of_file has e h) = absurd has
+  done_job (jobs.net tr true w f name) can s x (answers.of_file has e h) = done_told (jobs.net tr true w f name) name (files name) can refl _ e (jobs.net tr true w f name) refl can.ends s x h
+  done_job (jobs.net tr false w f name) can s x (answers.of_file has e h) = absurd has
+  done_job (jobs.net tr false w f name) can s x (answers.of_net_file {bytes = bytes} e h) =
+      let file = subst (λ b. IsNetFile b can.net) (one_bytes files name can.bytes bytes can.told e) can.file in
+      done_net_file f bytes can.net can.counts can.stuck can.nodes file can.ends can.few s x h
+  done_job (jobs.equal tr w f q a b) can s x (answers.of_file has e h) = absurd has
+  done_job (jobs.equal tr w f q a b) can s x (answers.of_first e isnt h) = absurd (isnt (done_told (run tr w f q a) a (files a) can.0 refl _ e (run tr w f q a) refl can.0.ends s x h))
+  done_job (jobs.equal tr w f q a b) can s x (answers.of_second e t d isnt h) = absurd (isnt (done_told (run tr w f q b) b (files b) can.1 refl _ d (run tr w f q b) refl can.1.ends s x h))
+  done_job (jobs.equal tr w f q a b) can s x (answers.of_both e t d u is h) = is
   done_job (gen tr runs k) can s x (answers.of_file has e h) = absurd has
   done_job (gen tr runs k) can s x (answers.made m) = done_made tr runs k can s x m
 
@@ -107,8 +117,9 @@ module _ (files : Text → Option (List ℕ)) where
   can_told (trace tr w f name) can = one_told IsTold name (can.bytes, can.told)
   can_told (check tr term other) can = two_told IsTold term other (can.0.bytes, can.0.told) (can.1.0, can.1.1)
   can_told (certify tr b w f q name) can = one_told IsTold name (can.bytes, can.told)
-  can_told (jobs.net tr from w f name) can = one_told IsTold name (can.bytes, can.told)
-  can_told (jobs.equal tr w f q first second) can = absurd can
+  can_told (jobs.net tr true w f name) can = one_told IsTold name (can.bytes, can.told)
+  can_told (jobs.net tr false w f name) can = one_told IsTold name (can.bytes, can.told)
+  can_told (jobs.equal tr w f q a b) can = two_told IsTold a b (can.0.bytes, can.0.told) (can.1.bytes, can.1.told)
   can_told (gen tr runs k) can = λ place name e. absurd (cc)
 
 -- ---- the call
@@ -131,3 +142,4 @@ module _ (words : List (String Global)) (f f' given : ℕ) (contents : Text → 
   done_or_nothing ReadFault g g' old new calm e = is_done ReadFault old new (ends_exact words f f' given contents ended quiet tells ReadFault g g' old new calm (λ e. cc) e)
   done_or_nothing WriteFault g g' old new calm e = is_done WriteFault old new (ends_exact words f f' given contents ended quiet tells WriteFault g g' old new calm (λ e. cc) e)
   done_or_nothing Limit g g' old new calm e = is_done Limit old new (ends_exact words f f' given contents ended quiet tells Limit g g' old new calm (λ e. cc) e)
+  done_or_nothing BadNet g g' old new calm e = is_done BadNet old new (ends_exact words f f' given contents ended quiet tells BadNet g g' old new calm (λ e. cc) e)

@@ -41,7 +41,7 @@ use Rattle.ol_cli.proofs.KeptPorts.{same_ports}
 use Rattle.ol_cli.proofs.AnyRun.{any_run_with, any_run_runs_out}
 
 -- names that rise with their numbers give two numbers two names
-rising_apart : (names : ℕ → NodeName) (n : ℕ) → ((j k : ℕ) → j < k → k < n → comes_before (names j) (names k) ≡ true) → (j k : ℕ) → j < n → k < n → names j ≡ names k → j ≡ k
+pub rising_apart : (names : ℕ → NodeName) (n : ℕ) → ((j k : ℕ) → j < k → k < n → comes_before (names j) (names k) ≡ true) → (j k : ℕ) → j < n → k < n → names j ≡ names k → j ≡ k
 rising_apart names n rising j k bj bk e = elim (which j k) [
   | inl r ↦ elim r [
     | inl lt ↦ absurd (clash j k (rising j k lt bk) e)

@@ -31,6 +31,7 @@ where_ended status.ReadFault closed P Q f h = h
 where_ended status.WriteFault closed P Q f h = h
 where_ended status.NoMemory closed P Q f h = h
 where_ended status.Limit closed P Q f h = h
+where_ended status.BadNet closed P Q f h = h
 
 -- where no job ends so, nothing is handed back
 module _ (t : Tree) (names : List (List ℕ)) (text : List ℕ) (closed : Option ClosedTable) where
@@ -100,6 +101,17 @@ module _ (t : Tree) (names : List (List ℕ)) (text : List ℕ) (closed : Option
   none_at_limit (jobs.net tr from workers fuel name) h = h
   none_at_limit (jobs.equal tr workers fuel heads first second) h = h
 
+  none_at_bad_net : (asked : Asked) → TermHands asked t names status.BadNet text closed → closed ≡ None
+  none_at_bad_net (run tr workers fuel heads name) h = absurd h.4
+  none_at_bad_net (walk tr edges heads name) h = h
+  none_at_bad_net (view tr after name) h = h
+  none_at_bad_net (trace tr workers fuel name) h = absurd h.4
+  none_at_bad_net (check tr term journal) h = h
+  none_at_bad_net (gen tr runs k) h = h
+  none_at_bad_net (certify tr b workers fuel heads name) h = h
+  none_at_bad_net (jobs.net tr from workers fuel name) h = h
+  none_at_bad_net (jobs.equal tr workers fuel heads first second) h = h
+
 -- what is handed back of a term is handed back of its file
 pub file_hands : (asked : Asked) (bytes : List ℕ) (t : Tree) (names : List (List ℕ)) → IsTermFile (translation_in asked) bytes t names → (st : Status) (text : List ℕ) (closed : Option ClosedTable) →
     TermHands asked t names st text closed → WhereEnded st closed (FileHands asked bytes st text closed)
@@ -111,6 +123,7 @@ file_hands asked bytes t names i status.ReadFault text closed h = none_at_read_f
 file_hands asked bytes t names i status.WriteFault text closed h = none_at_write_fault t names text closed asked h
 file_hands asked bytes t names i status.NoMemory text closed h = none_at_no_memory t names text closed asked h
 file_hands asked bytes t names i status.Limit text closed h = none_at_limit t names text closed asked h
+file_hands asked bytes t names i status.BadNet text closed h = none_at_bad_net t names text closed asked h
 
 -- where nothing is handed back, nothing is
 pub none_ended : (st : Status) (closed : Option ClosedTable) → closed ≡ None → WhereEnded st closed (closed ≡ None)
@@ -122,6 +135,7 @@ none_ended status.ReadFault closed h = h
 none_ended status.WriteFault closed h = h
 none_ended status.NoMemory closed h = h
 none_ended status.Limit closed h = h
+none_ended status.BadNet closed h = h
 
 pub read_hands : (asked : Asked) (s : Seen) (bytes : List ℕ) (st : Status) (text : List ℕ) (closed : Option ClosedTable) → GaveAll s (file_name asked) bytes →
     WhereEnded st closed (FileHands asked bytes st text closed) → WhereEnded st closed (ReadHands asked s st text closed)

@@ -22,4 +22,7 @@ mod Traced
 mod WavesKept
 mod TermSizes
 mod LastTrees
+pub mod NetRuns
+pub mod NetFiles
 mod VerdictLines
+mod BothFiles

@@ -1,5 +1,5 @@
 -- The same words and files have one status, and one text where the job tells one.
-use Rattle.std.proofs.Common.{◌≡◌, ℕ, ◌<◌, ◌≤◌, Bool, true, false, List, length, Option, Some, refl, sym, ap, ◌∙◌, subst, arith, String, Global}
+use Rattle.std.proofs.Common.{◌≡◌, ◌≢◌, ℕ, ◌<◌, ◌≤◌, Bool, true, false, List, length, Option, Some, refl, sym, ap, ◌∙◌, subst, arith, String, Global}
 use Rattle.ol_term.specs.declared.translations.Translation.{Translation}
 use Rattle.ol_term.specs.Trees.{Tree, depth}
 use Rattle.ol_term.specs.Generated.{doubled_text}
@@ -14,20 +14,31 @@ use Rattle.ol_translate.specs.Names.{HasNames}
 use Rattle.ol_translate.specs.Sizes.{size_of_translation}
 use Rattle.ol_translate.specs.Translation.{translation_of}
 use Rattle.ol_translate.proofs.Whole.{translation_net}
+use Rattle.ol_net.specs.Numbered.{net_of}
+use Rattle.ol_netfile.specs.Written.{net_text}
+use Rattle.ol_netfile.proofs.OneGraph.{one_graph}
+use Rattle.ol_rules.proofs.Relation.{same_sym, same_trans}
+use Rattle.ol_readback.specs.declared.answers.ReadNode.{ReadNode}
+use Rattle.ol_equal.specs.Comparing.{TreeWithNames, IsComparison}
+use Rattle.ol_equal.specs.Texts.{compared_text}
+use Rattle.ol_equal.proofs.Alone.{comparison_is_one}
+use Rattle.ol_view.proofs.ShownAlike.{live_alike}
 use Rattle.ol_view.specs.declared.answers.Check.{Check}
 use Rattle.ol_view.specs.Checks.{OnlyIsFound}
 use Rattle.ol_words.specs.Texts.{Text}
 use Rattle.ol_words.specs.Asked.{Asked, run, walk, view, trace, check, gen, certify}
 use Rattle.ol_words.specs.Asked as jobs
 use Rattle.ol_cli.specs.declared.status.Status.{Status}
-use Rattle.ol_cli.specs.declared.status.Status.TheVariants.{Done, Usage, Syntax, Spent, ReadFault, WriteFault, NoMemory, Limit}
+use Rattle.ol_cli.specs.declared.status.Status.TheVariants.{Done, Usage, Syntax, Spent, ReadFault, WriteFault, NoMemory, Limit, BadNet}
 use Rattle.ol_cli.specs.Jobs.{AskFor, AskForNothing, file_name, translation_in}
 use Rattle.ol_cli.specs.Inside.{IsOnTerm}
 use Rattle.ol_cli.specs.Laws.{TellsOne}
-use Rattle.ol_cli.specs.Texts.{usage_text, bytes_text, depth_text, nodes_text, journal_text, syntax_text, spent_text, found_text}
-use Rattle.ol_cli.specs.Evaluation.{start_net_of_term, RunsOut, RunEnds, Prints, Walks, Views, Certifies}
-use Rattle.ol_cli.specs.Answers.{long, deep, large, IsTermFile, TermAnswer, FileAnswer, JournalAnswer, JobAnswer, of_file, of_journal, made, Makes, plain_run, IsAnswer}
-use Rattle.ol_cli.proofs.OnePrint.{ends_or_not, ends_or_runs_out, reads_or_runs_out, one_print, one_walk, one_view, one_certified}
+use Rattle.ol_cli.specs.Texts.{line, usage_text, bytes_text, depth_text, nodes_text, journal_text, syntax_text, spent_text, found_text}
+use Rattle.ol_cli.specs.Evaluation.{start_net_of_term, RunsOut, RunEnds, Prints, Walks, Views, ReadsLast, Certifies}
+use Rattle.ol_cli.specs.NetAnswers.{WritesNet, NetFileAnswer}
+use Rattle.ol_cli.specs.Answers.{long, deep, large, IsTermFile, TermAnswer, FileAnswer, JournalAnswer, JobAnswer, of_file, of_journal, made, of_net_file, of_first, of_second, of_both, HasTree, Compares, Makes, plain_run, IsAnswer}
+use Rattle.ol_cli.proofs.OnePrint.{ends_or_not, ends_or_runs_out, reads_or_runs_out, one_last_tree, one_print, one_walk, one_view, one_certified}
+use Rattle.ol_cli.proofs.NetFiles.{one_net_file}
 
 abbrev pub Same : Status → Status → List ℕ → List ℕ → Type 0
 Same s s' x x' = (s ≡ s') × (x ≡ x')
@@ -69,6 +80,7 @@ pub data OfTerm (t : Tree) (names : List (List ℕ)) : Asked → Status → List
   certified : {tr : Translation} {b w fuel heads : ℕ} {name x : List ℕ} → Certifies tr t names b fuel heads x → OfTerm t names (certify tr b w fuel heads name) Done x
   uncertified : {tr : Translation} {b w fuel heads : ℕ} {name x : List ℕ} → RunsOut tr t names fuel → x ≡ spent_text fuel → OfTerm t names (certify tr b w fuel heads name) Spent x
   stopped : {tr : Translation} {w fuel : ℕ} {name x : List ℕ} → RunsOut tr t names fuel → OfTerm t names (trace tr w fuel name) Spent x
+  netted : {tr : Translation} {w fuel : ℕ} {name x : List ℕ} → WritesNet tr t names x → OfTerm t names (jobs.net tr true w fuel name) Done x
 
 pub of_term : (t : Tree) (names : List (List ℕ)) (a : Asked) (s : Status) (x : List ℕ) → TermAnswer a t names s x → OfTerm t names a s x
 of_term t names (run tr w fuel heads name) Spent x h = spent h.0 h.1
@@ -79,6 +91,7 @@ of_term t names (run tr w fuel heads name) ReadFault x h = absurd h
 of_term t names (run tr w fuel heads name) WriteFault x h = absurd h
 of_term t names (run tr w fuel heads name) NoMemory x h = absurd h
 of_term t names (run tr w fuel heads name) Limit x h = absurd h
+of_term t names (run tr w fuel heads name) BadNet x h = absurd h
 of_term t names (walk tr edges heads name) Spent x h = absurd h
 of_term t names (walk tr edges heads name) Done x h = walked h
 of_term t names (walk tr edges heads name) Usage x h = absurd h
@@ -87,6 +100,7 @@ of_term t names (walk tr edges heads name) ReadFault x h = absurd h
 of_term t names (walk tr edges heads name) WriteFault x h = absurd h
 of_term t names (walk tr edges heads name) NoMemory x h = absurd h
 of_term t names (walk tr edges heads name) Limit x h = absurd h
+of_term t names (walk tr edges heads name) BadNet x h = absurd h
 of_term t names (view tr k name) Done x h = viewed h
 of_term t names (view tr k name) Spent x h = absurd h
 of_term t names (view tr k name) Usage x h = absurd h
@@ -95,6 +109,7 @@ of_term t names (view tr k name) ReadFault x h = absurd h
 of_term t names (view tr k name) WriteFault x h = absurd h
 of_term t names (view tr k name) NoMemory x h = absurd h
 of_term t names (view tr k name) Limit x h = absurd h
+of_term t names (view tr k name) BadNet x h = absurd h
 of_term t names (trace tr w f name) Done x h = traced h.0
 of_term t names (trace tr w f name) Spent x h = stopped h.0
 of_term t names (trace tr w f name) Usage x h = absurd h
@@ -103,6 +118,7 @@ of_term t names (trace tr w f name) ReadFault x h = absurd h
 of_term t names (trace tr w f name) WriteFault x h = absurd h
 of_term t names (trace tr w f name) NoMemory x h = absurd h
 of_term t names (trace tr w f name) Limit x h = absurd h
+of_term t names (trace tr w f name) BadNet x h = absurd h
 of_term t names (check tr term journal) s x h = absurd h
 of_term t names (gen tr runs k) s x h = absurd h
 of_term t names (certify tr b w fuel heads name) Spent x h = uncertified h.0 h.1
@@ -113,8 +129,26 @@ of_term t names (certify tr b w fuel heads name) ReadFault x h = absurd h
 of_term t names (certify tr b w fuel heads name) WriteFault x h = absurd h
 of_term t names (certify tr b w fuel heads name) NoMemory x h = absurd h
 of_term t names (certify tr b w fuel heads name) Limit x h = absurd h
-of_term t names (jobs.net tr from w f name) s x h = absurd h
+of_term t names (certify tr b w fuel heads name) BadNet x h = absurd h
+of_term t names (jobs.net tr true w f name) Done x h = netted h
+of_term t names (jobs.net tr true w f name) Spent x h = absurd h
+of_term t names (jobs.net tr true w f name) Usage x h = absurd h
+of_term t names (jobs.net tr true w f name) Syntax x h = absurd h
+of_term t names (jobs.net tr true w f name) ReadFault x h = absurd h
+of_term t names (jobs.net tr true w f name) WriteFault x h = absurd h
+of_term t names (jobs.net tr true w f name) NoMemory x h = absurd h
+of_term t names (jobs.net tr true w f name) Limit x h = absurd h
+of_term t names (jobs.net tr true w f name) BadNet x h = absurd h
+of_term t names (jobs.net tr false w f name) s x h = absurd h
 of_term t names (jobs.equal tr w f q first second) s x h = absurd h
+
+-- the net of a term has one text
+one_net_text : (tr : Translation) (t : Tree) (names : List (List ℕ)) (x x' : List ℕ) → WritesNet tr t names x → WritesNet tr t names x' → x ≡ x'
+one_net_text tr t names x x' w w' =
+    let N = translation_of tr t (length names) in
+    let same = same_trans (net_of w.net) N (net_of w'.net) w.same (same_sym (net_of w'.net) N w'.same) in
+    let size : length w.net.nodes ≡ length w'.net.nodes = sym w.whole ∙ live_alike w.net w'.net same ∙ w'.whole in
+    w.written ∙ ap net_text (one_graph w.net w'.net w.tabled w'.tabled same size) ∙ sym w'.written
 
 one_of_term : (t : Tree) (names : List (List ℕ)) → (a : Asked) → IsNet (translation_of (translation_in a) t (length names)) → (s s' : Status) (x x' : List ℕ) → OfTerm t names a s x → OfTerm t names a s' x' → Alike a s s' x x'
 one_of_term t names a n s s' x x' (spent r e) (spent r' e') = (refl, λ one. e ∙ sym e')
@@ -126,6 +160,7 @@ one_of_term t names a n s s' x x' (traced e) (traced e') = (refl, λ one. absurd
 one_of_term t names a n s s' x x' (traced {tr = tr} {fuel = fuel} e) (stopped r) = absurd (ends_or_runs_out tr t names n fuel r e)
 one_of_term t names a n s s' x x' (stopped {tr = tr} {fuel = fuel} r) (traced e) = absurd (ends_or_runs_out tr t names n fuel r e)
 one_of_term t names a n s s' x x' (stopped r) (stopped r') = (refl, λ one. absurd one)
+one_of_term t names a n s s' x x' (netted {tr = tr} w) (netted w') = (refl, λ one. one_net_text tr t names x x' w w')
 one_of_term t names a n s s' x x' (uncertified r e) (uncertified r' e') = (refl, λ one. e ∙ sym e')
 one_of_term t names a n s s' x x' (uncertified {tr = tr} {fuel = fuel} {heads = heads} r e) (certified c) = absurd (reads_or_runs_out tr t names n fuel heads c.tree r c.last)
 one_of_term t names a n s s' x x' (certified {tr = tr} {fuel = fuel} {heads = heads} c) (uncertified r e) = absurd (reads_or_runs_out tr t names n fuel heads c.tree r c.last)
@@ -167,6 +202,7 @@ of_file_answer asked bytes Usage x (t, names, i, h) = has_term i.short t names i
 of_file_answer asked bytes Spent x (t, names, i, h) = has_term i.short t names i.file (done i.shallow i.small h)
 of_file_answer asked bytes ReadFault x (t, names, i, h) = has_term i.short t names i.file (done i.shallow i.small h)
 of_file_answer asked bytes WriteFault x (t, names, i, h) = has_term i.short t names i.file (done i.shallow i.small h)
+of_file_answer asked bytes BadNet x (t, names, i, h) = has_term i.short t names i.file (done i.shallow i.small h)
 of_file_answer asked bytes NoMemory x (t, names, i, h) = has_term i.short t names i.file (done i.shallow i.small h)
 
 one_of_file : (asked : Asked) (bytes : List ℕ) → (s s' : Status) (x x' : List ℕ) → OfFile asked bytes s x → OfFile asked bytes s' x' → Alike asked s s' x x'
@@ -186,6 +222,50 @@ one_of_file asked bytes s s' x x' (has_term l t names f h) (has_term l' t' names
 
 one_file_answer : (asked : Asked) (bytes : List ℕ) → (s s' : Status) (x x' : List ℕ) → FileAnswer asked bytes s x → FileAnswer asked bytes s' x' → Alike asked s s' x x'
 one_file_answer asked bytes s s' x x' h h' = one_of_file asked bytes s s' x x' (of_file_answer asked bytes s x h) (of_file_answer asked bytes s' x' h')
+
+-- ---- two files
+
+-- what `run` answers to a file whose term is read back is Done
+read_term : (tr : Translation) (w fuel heads : ℕ) (name : Text) (t : Tree) (names : List (List ℕ)) (tree : List ReadNode) → IsNet (translation_of tr t (length names)) → ReadsLast tr t names fuel heads tree →
+    (s : Status) (x : List ℕ) → OfTerm t names (run tr w fuel heads name) s x → s ≡ Done
+read_term tr w fuel heads name t names tree n last s x (spent r e) = absurd (reads_or_runs_out tr t names n fuel heads tree r last)
+read_term tr w fuel heads name t names tree n last s x (printed p) = refl
+
+read_tree : (tr : Translation) (w fuel heads : ℕ) (name : Text) (bytes : List ℕ) (h : HasTree tr bytes fuel heads) (u : Tree) (others : List (List ℕ)) → IsFileOf bytes u others →
+    (s : Status) (x : List ℕ) → OfTree (run tr w fuel heads name) u others s x → s ≡ Done
+read_tree tr w fuel heads name bytes h u others f s x (too_deep d e) =
+    let b = h.file.shallow in let is = ap depth (one_file bytes h.term u h.names others h.file.file f).0 in absurd (omega arith)
+read_tree tr w fuel heads name bytes h u others f s x (too_large d z e) =
+    let b = h.file.small in let is = ap (size_of_translation tr) (one_file bytes h.term u h.names others h.file.file f).0 in absurd (omega arith)
+read_tree tr w fuel heads name bytes h u others f s x (done d z a) =
+    let same = one_file bytes h.term u h.names others h.file.file f in
+    let last = subst (λ t. ReadsLast tr t others fuel heads h.tree) same.0 (subst (λ names. ReadsLast tr h.term names fuel heads h.tree) same.1 h.read) in
+    read_term tr w fuel heads name u others h.tree (file_net tr bytes u others f) last s x (of_term u others (run tr w fuel heads name) s x a)
+
+read_file : (tr : Translation) (w fuel heads : ℕ) (name : Text) (bytes : List ℕ) → HasTree tr bytes fuel heads → (s : Status) (x : List ℕ) → OfFile (run tr w fuel heads name) bytes s x → s ≡ Done
+read_file tr w fuel heads name bytes h s x (too_long l e) = let b = h.file.short in absurd (omega arith)
+read_file tr w fuel heads name bytes h s x (refused l at r e) = absurd (r.0 h.file.file.named h.file.file.text)
+read_file tr w fuel heads name bytes h s x (has_term l u others f e) = read_tree tr w fuel heads name bytes h u others f s x e
+
+-- one tree is read back of a file, with the same names
+one_read : (tr : Translation) (a b : List ℕ) (fuel heads : ℕ) → a ≡ b → (h : HasTree tr a fuel heads) (h' : HasTree tr b fuel heads) → (h.names ≡ h'.names) × (h.tree ≡ h'.tree)
+one_read tr a b fuel heads e h h' =
+    let file' = subst (λ b. IsTermFile tr b h'.term h'.names) (sym e) h'.file in
+    let same = one_file a h.term h'.term h.names h'.names h.file.file file'.file in
+    let last = subst (λ t. ReadsLast tr t h'.names fuel heads h.tree) same.0 (subst (λ names. ReadsLast tr h.term names fuel heads h.tree) same.1 h.read) in
+    (same.1, one_last_tree tr h'.term h'.names (file_net tr a h'.term h'.names file'.file) fuel heads h.tree h'.tree last h'.read)
+
+-- two files have one comparison
+one_compared : (tr : Translation) (a a' b b' : List ℕ) (fuel heads : ℕ) → a ≡ a' → b ≡ b' → (x : HasTree tr a fuel heads) (x' : HasTree tr a' fuel heads) (y : HasTree tr b fuel heads) (y' : HasTree tr b' fuel heads) →
+    (text text' : List ℕ) → Compares x y text → Compares x' y' text' → text ≡ text'
+one_compared tr a a' b b' fuel heads e f x x' y y' text text' (c, h, is) (c', h', is') =
+    let u = one_read tr a a' fuel heads e x x' in
+    let v = one_read tr b b' fuel heads f y y' in
+    let names : ◌≡◌ {A = TreeWithNames} (record { a = x.names; b = y.names }) (record { a = x'.names; b = y'.names }) =
+    ap (λ (ns : List (List ℕ)). record { a = ns; b = y.names }) u.0 ∙ ap (λ (ns : List (List ℕ)). record { a = x'.names; b = ns }) v.0 in
+    let moved = subst (λ n. IsComparison n x'.tree y'.tree c) names
+    (subst (λ t. IsComparison (record { a = x.names; b = y.names }) x'.tree t c) v.1 (subst (λ t. IsComparison (record { a = x.names; b = y.names }) t y.tree c) u.1 h)) in
+    is ∙ ap (λ c. line (compared_text c)) (comparison_is_one (record { a = x'.names; b = y'.names }) x'.tree y'.tree c c' moved h') ∙ sym is'
 
 -- ---- a job
 
@@ -217,6 +297,7 @@ of_journal_answer tr t names journal Syntax x h = absurd h
 of_journal_answer tr t names journal ReadFault x h = absurd h
 of_journal_answer tr t names journal WriteFault x h = absurd h
 of_journal_answer tr t names journal NoMemory x h = absurd h
+of_journal_answer tr t names journal BadNet x h = absurd h
 
 one_journal : (tr : Translation) (t : Tree) (names : List (List ℕ)) (journal : List ℕ) (s s' : Status) (x x' : List ℕ) → OfJournal tr t names journal s x → OfJournal tr t names journal s' x' → Same s s' x x'
 one_journal tr t names journal s s' x x' (past l h) (past l' h') = same_as s s' Limit x x' journal_text h h'
@@ -258,6 +339,49 @@ module _ (files : Text → Option (List ℕ)) where
   one_on_file asked on s s' x x' (of_file has e h) (made m) = absurd on
   one_on_file asked on s s' x x' (of_journal e' i f' h') k = absurd on
   one_on_file asked on s s' x x' (made m) k = absurd on
+  one_on_file asked on s s' x x' (of_file has e h) (of_net_file e' h') = absurd on
+  one_on_file asked on s s' x x' (of_file has e h) (of_first e' isnt' h') = absurd on
+  one_on_file asked on s s' x x' (of_file has e h) (of_second e' t' f' isnt' h') = absurd on
+  one_on_file asked on s s' x x' (of_file has e h) (of_both e' t' f' u' is' h') = absurd on
+  one_on_file asked on s s' x x' (of_net_file e h) k = absurd on
+  one_on_file asked on s s' x x' (of_first e isnt h) k = absurd on
+  one_on_file asked on s s' x x' (of_second e t f isnt h) k = absurd on
+  one_on_file asked on s s' x x' (of_both e t f u is h) k = absurd on
+
+  -- what `run` answers to bytes that another file's name has is one answer
+  one_of_run : (tr : Translation) (w fuel heads : ℕ) (name : Text) (a b : List ℕ) → files name ≡ Some a → files name ≡ Some b → (s s' : Status) (x x' : List ℕ) →
+      FileAnswer (run tr w fuel heads name) a s x → FileAnswer (run tr w fuel heads name) b s' x' → Same s s' x x'
+  one_of_run tr w fuel heads name a b e e' s s' x x' h h' =
+      let k = one_file_answer (run tr w fuel heads name) b s s' x x' (subst (λ a. FileAnswer (run tr w fuel heads name) a s x) (one_bytes name a b e e') h) h' in
+      (k.0, k.1 tt)
+
+  -- a file whose term is read back is no refusal
+  not_read : (tr : Translation) (w fuel heads : ℕ) (name : Text) (a b : List ℕ) → files name ≡ Some a → files name ≡ Some b → HasTree tr a fuel heads → (s : Status) (x : List ℕ) → s ≢ Done →
+      FileAnswer (run tr w fuel heads name) b s x → ⊥
+  not_read tr w fuel heads name a b e e' t s x isnt h =
+      isnt (read_file tr w fuel heads name b (subst (λ a. HasTree tr a fuel heads) (one_bytes name a b e e') t) s x (of_file_answer (run tr w fuel heads name) b s x h))
+
+  one_equal : (tr : Translation) (w fuel heads : ℕ) (a b : Text) (s s' : Status) (x x' : List ℕ) → JobAnswer files s x (jobs.equal tr w fuel heads a b) → JobAnswer files s' x' (jobs.equal tr w fuel heads a b) → Same s s' x x'
+  one_equal tr w f q a b s s' x x' (of_file has e h) k = absurd has
+  one_equal tr w f q a b s s' x x' (of_first e isnt h) (of_file has e' h') = absurd has
+  one_equal tr w f q a b s s' x x' (of_first {bytes = m} e isnt h) (of_first {bytes = n} e' isnt' h') = one_of_run tr w f q a m n e e' s s' x x' h h'
+  one_equal tr w f q a b s s' x x' (of_first {bytes = m} e isnt h) (of_second {bytes = n} e' t' f' isnt' h') = absurd (not_read tr w f q a n m e' e t' s x isnt h)
+  one_equal tr w f q a b s s' x x' (of_first {bytes = m} e isnt h) (of_both {bytes = n} e' t' f' u' is' h') = absurd (not_read tr w f q a n m e' e t' s x isnt h)
+  one_equal tr w f q a b s s' x x' (of_second e t d isnt h) (of_file has e' h') = absurd has
+  one_equal tr w f q a b s s' x x' (of_second {bytes = m} e t d isnt h) (of_first {bytes = n} e' isnt' h') = absurd (not_read tr w f q a m n e e' t s' x' isnt' h')
+  one_equal tr w f q a b s s' x x' (of_second {bytes' = m} e t d isnt h) (of_second {bytes' = n} e' t' d' isnt' h') = one_of_run tr w f q b m n d d' s s' x x' h h'
+  one_equal tr w f q a b s s' x x' (of_second {bytes' = m} e t d isnt h) (of_both {bytes' = n} e' t' d' u' is' h') = absurd (not_read tr w f q b n m d' d u' s x isnt h)
+  one_equal tr w f q a b s s' x x' (of_both e t d u is h) (of_file has e' h') = absurd has
+  one_equal tr w f q a b s s' x x' (of_both {bytes = m} e t d u is h) (of_first {bytes = n} e' isnt' h') = absurd (not_read tr w f q a m n e e' t s' x' isnt' h')
+  one_equal tr w f q a b s s' x x' (of_both {bytes' = m} e t d u is h) (of_second {bytes' = n} e' t' d' isnt' h') = absurd (not_read tr w f q b m n d d' u s' x' isnt' h')
+  one_equal tr w f q a b s s' x x' (of_both {bytes = m} {bytes' = n} e t d u is h) (of_both {bytes = m'} {bytes' = n'} e' t' d' u' is' h') =
+      (is ∙ sym is', one_compared tr m m' n n' f q (one_bytes a m m' e e') (one_bytes b n n' d d') t t' u u' x x' h h')
+
+  one_of_net_job : (tr : Translation) (w fuel : ℕ) (name : Text) (s s' : Status) (x x' : List ℕ) → JobAnswer files s x (jobs.net tr false w fuel name) → JobAnswer files s' x' (jobs.net tr false w fuel name) → s ≡ s'
+  one_of_net_job tr w fuel name s s' x x' (of_file has e h) k = absurd has
+  one_of_net_job tr w fuel name s s' x x' (of_net_file e h) (of_file has e' h') = absurd has
+  one_of_net_job tr w fuel name s s' x x' (of_net_file {bytes = a} e h) (of_net_file {bytes = b} e' h') =
+      one_net_file fuel b s s' x x' (subst (λ a. NetFileAnswer fuel a s x) (one_bytes name a b e e') h) h'
 
   one_made : (tr : Translation) (runs : Bool) (k : ℕ) (s s' : Status) (x x' : List ℕ) → JobAnswer files s x (gen tr runs k) → JobAnswer files s' x' (gen tr runs k) → Same s s' x x'
   one_made tr runs k s s' x x' (of_file has e h) a = absurd has
@@ -271,8 +395,9 @@ module _ (files : Text → Option (List ℕ)) where
   one_of_job (trace tr w f name) s s' x x' a a' = one_on_file (trace tr w f name) tt s s' x x' a a'
   one_of_job (check tr term journal) s s' x x' a a' = alike (check tr term journal) s s' x x' (one_checked tr term journal s s' x x' a a')
   one_of_job (certify tr b w f q name) s s' x x' a a' = one_on_file (certify tr b w f q name) tt s s' x x' a a'
-  one_of_job (jobs.net tr from w f name) s s' x x' (of_file has e h) a' = absurd has
-  one_of_job (jobs.equal tr w f q first second) s s' x x' (of_file has e h) a' = absurd has
+  one_of_job (jobs.net tr true w f name) s s' x x' a a' = one_on_file (jobs.net tr true w f name) tt s s' x x' a a'
+  one_of_job (jobs.net tr false w f name) s s' x x' a a' = (one_of_net_job tr w f name s s' x x' a a', λ one. absurd one)
+  one_of_job (jobs.equal tr w f q first second) s s' x x' a a' = alike (jobs.equal tr w f q first second) s s' x x' (one_equal tr w f q first second s s' x x' a a')
   one_of_job (gen tr runs k) s s' x x' a a' = alike (gen tr runs k) s s' x x' (one_made tr runs k s s' x x' a a')
 
 -- ---- words and files
@@ -290,6 +415,7 @@ of_words words files ReadFault x a = job a.0 a.1 a.2
 of_words words files WriteFault x a = job a.0 a.1 a.2
 of_words words files NoMemory x a = job a.0 a.1 a.2
 of_words words files Limit x a = job a.0 a.1 a.2
+of_words words files BadNet x a = job a.0 a.1 a.2
 
 -- words ask for one job
 pub one_job : (words : List (String Global)) (a b : Asked) → AskFor words a → AskFor words b → a ≡ b

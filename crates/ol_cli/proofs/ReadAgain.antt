@@ -1,5 +1,5 @@
 -- What is written is read again.
-use Rattle.std.proofs.Common.{◌≡◌, ℕ, Bool, List, [], Option, Some, refl, subst, String, Global}
+use Rattle.std.proofs.Common.{◌≡◌, ℕ, Bool, List, [], Option, Some, refl, subst, String, Global, true, false}
 use Rattle.ol_io.specs.Outside.{Appended, IsAllOf}
 use Rattle.ol_term.specs.declared.translations.Translation.{Translation}
 use Rattle.ol_term.specs.Trees.{Tree}
@@ -51,7 +51,8 @@ file_bytes contents (trace tr w f name) on = refl
 file_bytes contents (check tr term journal) on = absurd on
 file_bytes contents (gen tr runs k) on = absurd on
 file_bytes contents (certify tr b w f q name) on = refl
-file_bytes contents (jobs.net tr from w f name) on = absurd on
+file_bytes contents (jobs.net tr true w f name) on = refl
+file_bytes contents (jobs.net tr false w f name) on = absurd on
 file_bytes contents (jobs.equal tr w f q first second) on = absurd on
 
 -- by the bytes that are made

@@ -12,7 +12,7 @@ use Rattle.ol_translate.specs.Translation.{nodes_of, translation_of}
 use Rattle.ol_wire.specs.Closed.{ClosedTable}
 use Rattle.ol_words.specs.Asked.{Asked}
 use Rattle.ol_cli.specs.declared.status.Status.{Status}
-use Rattle.ol_cli.specs.declared.status.Status.TheVariants.{Done, Usage, Syntax, Spent, ReadFault, WriteFault, NoMemory, Limit}
+use Rattle.ol_cli.specs.declared.status.Status.TheVariants.{Done, Usage, Syntax, Spent, ReadFault, WriteFault, NoMemory, Limit, BadNet}
 use Rattle.ol_cli.specs.Jobs.{translation_in}
 use Rattle.ol_cli.specs.Answers.{IsTermFile, TermAnswer, FileAnswer}
 use Rattle.ol_cli.specs.ReadAgain.{FileIsReadAgain}
@@ -28,6 +28,7 @@ module _ (asked : Asked) (bytes : List ℕ) where
   refuses_answer Done text r = absurd r
   refuses_answer Spent text r = absurd r
   refuses_answer Usage text r = absurd r
+  refuses_answer BadNet text r = absurd r
   refuses_answer Syntax text r = r
   refuses_answer ReadFault text r = absurd r
   refuses_answer WriteFault text r = absurd r
@@ -38,6 +39,7 @@ module _ (asked : Asked) (bytes : List ℕ) where
   refuses_read Done text r t names f e = absurd r
   refuses_read Spent text r t names f e = absurd r
   refuses_read Usage text r t names f e = absurd r
+  refuses_read BadNet text r t names f e = absurd r
   refuses_read Syntax text r t names f e = absurd (cc)
   refuses_read ReadFault text r t names f e = absurd r
   refuses_read WriteFault text r t names f e = absurd r
@@ -48,6 +50,7 @@ pub refuses_hands : (tr : Translation) (bytes : List ℕ) (st : Status) (text : 
 refuses_hands tr bytes Done text closed P r e = absurd r
 refuses_hands tr bytes Spent text closed P r e = absurd r
 refuses_hands tr bytes Usage text closed P r e = absurd r
+refuses_hands tr bytes BadNet text closed P r e = absurd r
 refuses_hands tr bytes Syntax text closed P r e = e
 refuses_hands tr bytes ReadFault text closed P r e = absurd r
 refuses_hands tr bytes WriteFault text closed P r e = absurd r
@@ -63,6 +66,7 @@ term_answer asked bytes t names i Usage text h = (t, names, i, h)
 term_answer asked bytes t names i Syntax text h = absurd (term_status asked t names Syntax text h)
 term_answer asked bytes t names i ReadFault text h = (t, names, i, h)
 term_answer asked bytes t names i WriteFault text h = (t, names, i, h)
+term_answer asked bytes t names i BadNet text h = (t, names, i, h)
 term_answer asked bytes t names i NoMemory text h = (t, names, i, h)
 term_answer asked bytes t names i Limit text h = absurd (term_status asked t names Limit text h)
 
@@ -82,5 +86,6 @@ ready_net tr bytes t names net short file shallow named same numbers size free f
         same = same;
         whole = whole_net net (nodes_of tr t) numbers;
         small = record { nodes = omega arith; free = omega arith; indexes = indexes };
+        few = omega arith;
       };
     }

@@ -120,6 +120,7 @@ module _ (tr : Translation) (bytes : List ℕ) (workers fuel heads : ℕ) (name 
   runs_tell status.WriteFault text old new h written journal net ran complete = tt
   runs_tell status.NoMemory text old new h written journal net ran complete = tt
   runs_tell status.Limit text old new h written journal net ran complete = tt
+  runs_tell status.BadNet text old new h written journal net ran complete = tt
 
 same_bytes : (a b : List ℕ) → Some a ≡ Some b → a ≡ b
 same_bytes a b e = cc

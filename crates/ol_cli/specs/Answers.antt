@@ -1,6 +1,6 @@
 -- The answer to a list of words and to the bytes of the files that they name: a text and a status, by the order of refusals; and what
 -- a call does, by what its source and its sink did.
-use Rattle.std.specs.Prelude.{◌≡◌, ℕ, ◌≤◌, ◌<◌, ◌⊎◌, Bool, true, false, List, length, take, codes, Option, Some, String}
+use Rattle.std.specs.Prelude.{◌≡◌, ◌≢◌, ℕ, ◌≤◌, ◌<◌, ◌⊎◌, Bool, true, false, List, length, take, codes, Option, Some, String}
 use Rattle.std.specs.declared.alloc.Global.{Global}
 use Rattle.ol_io.specs.Outside.{Rose, Appended, IsAllOf, IsLonger}
 use Rattle.ol_term.specs.declared.translations.Translation.{Translation}
@@ -11,13 +11,18 @@ use Rattle.ol_parse.specs.Parsed.{IsFileOf}
 use Rattle.ol_translate.specs.Sizes.{size_of_translation}
 use Rattle.ol_words.specs.Texts.{Text}
 use Rattle.ol_words.specs.Asked.{Asked, run, walk, view, trace, check, gen, certify, net, equal}
+use Rattle.ol_readback.specs.declared.answers.ReadNode.{ReadNode}
+use Rattle.ol_equal.specs.Comparing.{IsComparison}
+use Rattle.ol_equal.specs.Texts.{compared_text}
+use Rattle.ol_equal.specs.declared.answers.Compared.{Compared}
 use Rattle.ol_view.specs.declared.answers.Check.{Check}
 use Rattle.ol_view.specs.Checks.{OnlyIsFound}
 use Rattle.ol_cli.specs.declared.status.Status.{Status}
 use Rattle.ol_cli.specs.declared.status.Status.TheVariants as status
 use Rattle.ol_cli.specs.Jobs.{AskFor, AskForNothing, HasTermFile, file_name, plain_fuel, plain_heads, translation_in}
-use Rattle.ol_cli.specs.Texts.{usage_text, fault_text, bytes_text, depth_text, nodes_text, journal_text, syntax_text, spent_text, found_text}
-use Rattle.ol_cli.specs.Evaluation.{start_net_of_term, RunsOut, RunEnds, Prints, Walks, Views, TracesWhole, TracesFuel, Certifies}
+use Rattle.ol_cli.specs.Texts.{line, usage_text, fault_text, bytes_text, depth_text, nodes_text, journal_text, net_bytes_text, syntax_text, spent_text, found_text}
+use Rattle.ol_cli.specs.Evaluation.{start_net_of_term, RunsOut, RunEnds, Prints, Walks, Views, TracesWhole, TracesFuel, ReadsLast, Certifies}
+use Rattle.ol_cli.specs.NetAnswers.{WritesNet, NetFileAnswer}
 
 -- the number that a process ends with
 abbrev pub status_number : Status → ℕ
@@ -29,6 +34,7 @@ status_number status.ReadFault = 4
 status_number status.WriteFault = 5
 status_number status.NoMemory = 6
 status_number status.Limit = 7
+status_number status.BadNet = 9
 
 -- ---- a term file
 
@@ -76,7 +82,13 @@ CertifyAnswer translation t names steps fuel heads status.Spent text = RunsOut t
 CertifyAnswer translation t names steps fuel heads status.Done text = Certifies translation t names steps fuel heads text
 CertifyAnswer translation t names steps fuel heads _ text = ⊥
 
--- What a job answers to a term with these free names. A term alone is no answer of `check`, and `gen` has none.
+-- What `net` with its flag answers to a term: the text of its net.
+abbrev pub WritesNetAnswer : Translation → Tree → List (List ℕ) → Status → List ℕ → Type 0
+WritesNetAnswer translation t names status.Done text = WritesNet translation t names text
+WritesNetAnswer translation t names _ text = ⊥
+
+-- What a job answers to a term with these free names. A term alone is no answer of `check` or `equal`, and `gen` and `net` without
+-- its flag have none.
 abbrev pub TermAnswer : Asked → Tree → List (List ℕ) → Status → List ℕ → Type 0
 TermAnswer (run translation workers fuel heads name) t names st text = RunAnswer translation t names fuel heads st text
 TermAnswer (walk translation edges heads name) t names st text = WalkAnswer translation t names edges heads st text
@@ -85,7 +97,8 @@ TermAnswer (trace translation workers fuel name) t names st text = TraceAnswer t
 TermAnswer (check translation term journal) t names st text = ⊥
 TermAnswer (gen translation runs k) t names st text = ⊥
 TermAnswer (certify translation steps workers fuel heads name) t names st text = CertifyAnswer translation t names steps fuel heads st text
-TermAnswer (net translation from_term workers fuel name) t names st text = ⊥
+TermAnswer (net translation true workers fuel name) t names st text = WritesNetAnswer translation t names st text
+TermAnswer (net translation false workers fuel name) t names st text = ⊥
 TermAnswer (equal translation workers fuel heads first second) t names st text = ⊥
 
 -- What a job answers to the bytes of its file: a limit that they pass, the place where they are refused, or the answer to their term.
@@ -102,6 +115,20 @@ JournalAnswer translation t names journal status.Done text =
     (length journal ≤ 402653184) × ((found : Check) × OnlyIsFound (start_net_of_term translation t names) journal found × (text ≡ found_text found))
 JournalAnswer translation t names journal _ text = ⊥
 
+-- The file's term is read back: its one-thread run ends within `fuel` steps, and this tree is read from its last net.
+pub record HasTree (translation : Translation) (bytes : List ℕ) (fuel heads : ℕ) : Type 0 where
+  pub term : Tree
+  pub names : List (List ℕ)
+  pub tree : List ReadNode
+  pub file : IsTermFile translation bytes term names
+  pub read : ReadsLast translation term names fuel heads tree
+
+-- the line of the comparison of two such trees
+abbrev pub Compares : {translation : Translation} {bytes bytes' : List ℕ} {fuel heads : ℕ} → HasTree translation bytes fuel heads →
+    HasTree translation bytes' fuel heads → List ℕ → Type 0
+Compares a b text = (compared : Compared) × IsComparison (record { a = a.names; b = b.names }) a.tree b.tree compared
+    × (text ≡ line (compared_text compared))
+
 -- `run` without options but the translation
 abbrev pub plain_run : Translation → Asked
 plain_run translation = run translation 4 plain_fuel plain_heads (codes "-")
@@ -112,7 +139,8 @@ Makes translation false k st text = (st ≡ status.Done) × (text ≡ doubled_te
 Makes translation true k st text = FileAnswer (plain_run translation) (doubled_text k) st text
 
 -- The answer to a job, where its files have these bytes: that to the file of its term; for `check`, where that file is no refusal, the
--- answer to its journal; and for `gen` the text that is made, or the answer of `run` to it.
+-- answer to its journal; for `gen` the text that is made, or the answer of `run` to it; for `net` that to the file of a net; and for
+-- `equal` the answer of `run` to the first file where it isn't Done, else to the second where it isn't Done, else the comparison.
 pub data JobAnswer (files : Text → Option (List ℕ)) (st : Status) (text : List ℕ) : Asked → Type 0 where
   of_file : {asked : Asked} {bytes : List ℕ} → HasTermFile asked → files (file_name asked) ≡ Some bytes →
       FileAnswer asked bytes st text → JobAnswer files st text asked
@@ -120,6 +148,16 @@ pub data JobAnswer (files : Text → Option (List ℕ)) (st : Status) (text : Li
       files term ≡ Some bytes → IsTermFile translation bytes t names → files journal ≡ Some trace →
       JournalAnswer translation t names trace st text → JobAnswer files st text (check translation term journal)
   made : {translation : Translation} {runs : Bool} {k : ℕ} → Makes translation runs k st text → JobAnswer files st text (gen translation runs k)
+  of_net_file : {translation : Translation} {workers fuel : ℕ} {name : Text} {bytes : List ℕ} → files name ≡ Some bytes →
+      NetFileAnswer fuel bytes st text → JobAnswer files st text (net translation false workers fuel name)
+  of_first : {translation : Translation} {workers fuel heads : ℕ} {a b : Text} {bytes : List ℕ} → files a ≡ Some bytes → st ≢ status.Done →
+      FileAnswer (run translation workers fuel heads a) bytes st text → JobAnswer files st text (equal translation workers fuel heads a b)
+  of_second : {translation : Translation} {workers fuel heads : ℕ} {a b : Text} {bytes bytes' : List ℕ} → files a ≡ Some bytes →
+      HasTree translation bytes fuel heads → files b ≡ Some bytes' → st ≢ status.Done →
+      FileAnswer (run translation workers fuel heads b) bytes' st text → JobAnswer files st text (equal translation workers fuel heads a b)
+  of_both : {translation : Translation} {workers fuel heads : ℕ} {a b : Text} {bytes bytes' : List ℕ} → files a ≡ Some bytes →
+      (x : HasTree translation bytes fuel heads) → files b ≡ Some bytes' → (y : HasTree translation bytes' fuel heads) → st ≡ status.Done →
+      Compares x y text → JobAnswer files st text (equal translation workers fuel heads a b)
 
 -- The answer to these words, where nothing fails and the files have these bytes.
 abbrev pub IsAnswer : List (String Global) → (Text → Option (List ℕ)) → Status → List ℕ → Type 0
@@ -186,14 +224,33 @@ JournalCause s journal translation t names status.Done text =
     (trace : List ℕ) × GaveWithin s 402653184 journal trace × JournalAnswer translation t names trace status.Done text
 JournalCause s journal translation t names _ text = ⊥
 
+-- What comes of the file of a net: a fault, a limit that was passed, or what all its bytes are answered.
+pub data NetCause (s : Seen) (name : Text) (fuel : ℕ) (st : Status) (text : List ℕ) : Type 0 where
+  failed : Rose s.faults s.faults' → st ≡ status.ReadFault → text ≡ fault_text → NetCause s name fuel st text
+  past : s.faults' ≡ s.faults → GavePast s 33554432 name → st ≡ status.Limit → text ≡ net_bytes_text → NetCause s name fuel st text
+  given : s.faults' ≡ s.faults → {bytes : List ℕ} → GaveWithin s 33554432 name bytes → NetFileAnswer fuel bytes st text →
+      NetCause s name fuel st text
+
 -- Each status of a job, where it comes, and its text: of its term file; of its journal file, once the term file was read and is no
--- refusal; or of a text that is made.
+-- refusal; of a text that is made; of the file of a net; or of two term files, of which the second is begun once the first was read
+-- and is no refusal.
 pub data JobCause (s : Seen) (st : Status) (text : List ℕ) : Asked → Type 0 where
   by_file : {asked : Asked} → HasTermFile asked → FileCause asked s st text → JobCause s st text asked
   by_journal : {translation : Translation} {term journal : Text} {bytes : List ℕ} {t : Tree} {names : List (List ℕ)} → s.faults' ≡ s.faults →
       IsAllOf (s.contents term) bytes → IsTermFile translation bytes t names → JournalCause s journal translation t names st text →
       JobCause s st text (check translation term journal)
   by_making : {translation : Translation} {runs : Bool} {k : ℕ} → s.faults' ≡ s.faults → Makes translation runs k st text → JobCause s st text (gen translation runs k)
+  by_net_file : {translation : Translation} {workers fuel : ℕ} {name : Text} → NetCause s name fuel st text →
+      JobCause s st text (net translation false workers fuel name)
+  by_first : {translation : Translation} {workers fuel heads : ℕ} {a b : Text} → st ≢ status.Done →
+      FileCause (run translation workers fuel heads a) s st text → JobCause s st text (equal translation workers fuel heads a b)
+  by_second : {translation : Translation} {workers fuel heads : ℕ} {a b : Text} {bytes : List ℕ} → IsAllOf (s.contents a) bytes →
+      HasTree translation bytes fuel heads → st ≢ status.Done → FileCause (run translation workers fuel heads b) s st text →
+      JobCause s st text (equal translation workers fuel heads a b)
+  by_both : {translation : Translation} {workers fuel heads : ℕ} {a b : Text} {bytes bytes' : List ℕ} → s.faults' ≡ s.faults →
+      IsAllOf (s.contents a) bytes → (x : HasTree translation bytes fuel heads) → GaveAll s b bytes' →
+      (y : HasTree translation bytes' fuel heads) → st ≡ status.Done → Compares x y text →
+      JobCause s st text (equal translation workers fuel heads a b)
 
 -- Each status, where it comes, and its text.
 abbrev pub Cause : List (String Global) → Seen → Status → List ℕ → Type 0

@@ -3,13 +3,17 @@ use Rattle.std.specs.Prelude.{◌≡◌, ◌⊎◌, ℕ, ◌≤◌, false, List,
 use Rattle.std.specs.declared.alloc.Global.{Global}
 use Rattle.ol_io.specs.Outside.{Appended}
 use Rattle.ol_term.specs.Trees.{Tree}
+use Rattle.ol_net.specs.Graph.{Graph}
+use Rattle.ol_rules.specs.declared.journal.Counts.{Counts}
 use Rattle.ol_words.specs.Texts.{Text}
-use Rattle.ol_words.specs.Asked.{Asked, run, trace, check, gen, certify, equal}
+use Rattle.ol_words.specs.Asked.{Asked, run, trace, check, gen, certify}
+use Rattle.ol_words.specs.Asked as jobs
 use Rattle.ol_cli.specs.declared.status.Status.{Status}
 use Rattle.ol_cli.specs.declared.status.Status.TheVariants as status
 use Rattle.ol_cli.specs.Jobs.{AskFor, plain_fuel, term_bytes, translation_in}
 use Rattle.ol_cli.specs.Evaluation.{RunEnds}
 use Rattle.ol_cli.specs.Answers.{IsAnswer, IsTermFile}
+use Rattle.ol_cli.specs.NetAnswers.{IsNetFile, NetRunEnds}
 
 -- where the job rewrites a term until no pair is active, the one-thread run of this term ends within the job's fuel
 abbrev pub EndsWithinFuel : Asked → Tree → List (List ℕ) → Type 0
@@ -32,11 +36,27 @@ pub record HasTermWithin (files : Text → Option (List ℕ)) (asked : Asked) : 
 abbrev pub HasJournalWithin : (Text → Option (List ℕ)) → Text → Type 0
 HasJournalWithin files name = (journal : List ℕ) × (files name ≡ Some journal) × (length journal ≤ 402653184)
 
--- The job can be done, its files having these bytes. A term that is only made can always be.
+-- the bytes of a file with a net are told, no more than are read, and they are the text of a net whose run ends within the fuel, with
+-- few nodes left
+pub record HasNetWithin (files : Text → Option (List ℕ)) (name : Text) (fuel : ℕ) : Type 0 where
+  pub bytes : List ℕ
+  pub net : Graph
+  pub told : files name ≡ Some bytes
+  pub file : IsNetFile bytes net
+  pub counts : Counts
+  pub stuck : ℕ
+  pub nodes : ℕ
+  pub ends : NetRunEnds net fuel counts stuck nodes
+  pub few : nodes ≤ 200000
+
+-- The job can be done, its files having these bytes. A term that is only made can always be. Two terms can be compared where `run`
+-- can be done on both.
 abbrev pub CanDo : (Text → Option (List ℕ)) → Asked → Type 0
 CanDo files (gen translation false k) = Unit {0}
 CanDo files (check translation term journal) = HasTermWithin files (check translation term journal) × HasJournalWithin files journal
-CanDo files (equal translation workers fuel heads first second) = ⊥
+CanDo files (jobs.net translation false workers fuel name) = HasNetWithin files name fuel
+CanDo files (jobs.equal translation workers fuel heads first second) =
+    HasTermWithin files (run translation workers fuel heads first) × HasTermWithin files (run translation workers fuel heads second)
 CanDo files asked = HasTermWithin files asked
 
 -- the words ask for a job that can be done

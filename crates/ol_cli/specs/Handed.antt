@@ -17,6 +17,7 @@ use Rattle.ol_wire.specs.Standing.{IsAfter, NoNodeTwice}
 use Rattle.ol_reduce.specs.Frozen.{IsFrozen}
 use Rattle.ol_reduce.specs.Reduced.{IsTableOf}
 use Rattle.ol_words.specs.Asked.{Asked, run, trace, check, gen}
+use Rattle.ol_words.specs.Asked as jobs
 use Rattle.ol_cli.specs.declared.status.Status.{Status}
 use Rattle.ol_cli.specs.declared.status.Status.TheVariants as status
 use Rattle.ol_cli.specs.Jobs.{AskFor, file_name, translation_in}
@@ -96,10 +97,12 @@ abbrev pub MakingHands : Translation → (runs : Bool) → (k : ℕ) → Status 
 MakingHands translation false k st text closed = closed ≡ None
 MakingHands translation true k st text closed = FileHands (plain_run translation) (doubled_text k) st text closed
 
--- what a job hands back; `check` has no workers
+-- what a job hands back; `check` has no workers, and `net` and `equal` keep the words of theirs
 abbrev pub JobHands : Asked → Seen → Status → List ℕ → Option ClosedTable → Type 0
 JobHands (check translation term journal) s st text closed = closed ≡ None
 JobHands (gen translation runs k) s st text closed = MakingHands translation runs k st text closed
+JobHands (jobs.net translation false workers fuel name) s st text closed = closed ≡ None
+JobHands (jobs.equal translation workers fuel heads first second) s st text closed = closed ≡ None
 JobHands asked s st text closed = ReadHands asked s st text closed
 
 -- where the job was done or its fuel was spent, this; in every other case nothing is handed back

@@ -1,6 +1,6 @@
 -- Private: words of private contracts alone, which no clause of a public call needs: what is asked of a job within the call, and what is kept of
 -- it there.
-use Rattle.std.specs.Prelude.{◌≡◌, ℕ, ◌≤◌, List, [], Option, None, Some}
+use Rattle.std.specs.Prelude.{◌≡◌, ℕ, ◌≤◌, false, List, [], Option, None, Some}
 use Rattle.ol_io.specs.Outside.{Rose}
 use Rattle.ol_term.specs.declared.translations.Translation.{Translation}
 use Rattle.ol_term.specs.Trees.{Tree, tree_of}
@@ -23,7 +23,7 @@ use Rattle.ol_cli.specs.ReadAgain.{AnswerIsReadAgain, FileIsReadAgain}
 abbrev pub IsOnTerm : Asked → Type 0
 IsOnTerm (check translation term journal) = ⊥
 IsOnTerm (gen translation runs k) = ⊥
-IsOnTerm (net translation from_term workers fuel name) = ⊥
+IsOnTerm (net translation false workers fuel name) = ⊥
 IsOnTerm (equal translation workers fuel heads first second) = ⊥
 IsOnTerm _ = Unit {0}
 

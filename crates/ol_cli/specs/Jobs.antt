@@ -1,5 +1,5 @@
 -- What the words ask for, and the files of it.
-use Rattle.std.specs.Prelude.{◌≡◌, ℕ, true, Bool, Option, None, Some, List, [], ◌∷◌, String, length, slice_get}
+use Rattle.std.specs.Prelude.{◌≡◌, ℕ, true, false, Bool, Option, None, Some, List, [], ◌∷◌, String, length, slice_get}
 use Rattle.std.specs.declared.alloc.Global.{Global}
 use Rattle.std.specs.Option.{option_map_or}
 use Rattle.ol_term.specs.declared.translations.Translation.{Translation}
@@ -29,7 +29,7 @@ file_names (certify translation steps workers fuel heads name) = name ∷ []
 file_names (net translation from_term workers fuel name) = name ∷ []
 file_names (equal translation workers fuel heads first second) = first ∷ second ∷ []
 
--- the name of the file with the term, which is read first; `gen` makes its term itself
+-- the name of the file that is read first; `gen` makes its term itself
 abbrev pub file_name : Asked → Text
 file_name (run translation workers fuel heads name) = name
 file_name (walk translation edges heads name) = name
@@ -41,10 +41,10 @@ file_name (certify translation steps workers fuel heads name) = name
 file_name (net translation from_term workers fuel name) = name
 file_name (equal translation workers fuel heads first second) = first
 
--- the job has a file with a term
+-- The job has one file with a term. `net` has one with its flag alone, and `equal` has two.
 abbrev pub HasTermFile : Asked → Type 0
 HasTermFile (gen translation runs k) = ⊥
-HasTermFile (net translation from_term workers fuel name) = ⊥
+HasTermFile (net translation false workers fuel name) = ⊥
 HasTermFile (equal translation workers fuel heads first second) = ⊥
 HasTermFile _ = Unit {0}
 
@@ -87,7 +87,7 @@ plain_fuel = 200000
 abbrev pub plain_heads : ℕ
 plain_heads = 4096
 
--- the bytes of a job's term: those of its file, where they are told, or those that `gen` makes
+-- the bytes of a job's one term: those of its file, where they are told, or those that `gen` makes
 abbrev pub term_bytes : (Text → Option (List ℕ)) → Asked → Option (List ℕ)
 term_bytes contents (gen translation runs k) = Some (doubled_text k)
 term_bytes contents (run translation workers fuel heads name) = contents name
@@ -96,8 +96,9 @@ term_bytes contents (view translation after name) = contents name
 term_bytes contents (trace translation workers fuel name) = contents name
 term_bytes contents (check translation term journal) = contents term
 term_bytes contents (certify translation steps workers fuel heads name) = contents name
-term_bytes contents (net translation from_term workers fuel name) = contents name
-term_bytes contents (equal translation workers fuel heads first second) = contents first
+term_bytes contents (net translation true workers fuel name) = contents name
+term_bytes contents (net translation false workers fuel name) = None
+term_bytes contents (equal translation workers fuel heads first second) = None
 
 -- these are the bytes of the term of the job that the words ask for, where they ask for one
 abbrev pub TellsTerm : (Text → Option (List ℕ)) → List (String Global) → List ℕ → Type 0

@@ -1,20 +1,26 @@
 -- The laws of answers.
-use Rattle.std.specs.Prelude.{◌≡◌, ℕ, List, length, Option, String}
+use Rattle.std.specs.Prelude.{◌≡◌, ℕ, false, List, length, Option, String}
 use Rattle.std.specs.declared.alloc.Global.{Global}
 use Rattle.ol_term.specs.declared.translations.Translation.{Translation}
 use Rattle.ol_term.specs.Trees.{Tree}
+use Rattle.ol_net.specs.Graph.{Graph}
 use Rattle.ol_net.specs.Nets.{IsNet}
+use Rattle.ol_net.specs.Numbered.{net_of}
+use Rattle.ol_rules.specs.declared.journal.Counts.{Counts}
 use Rattle.ol_translate.specs.Translation.{translation_of}
 use Rattle.ol_cli.specs.declared.status.Status.{Status}
 use Rattle.ol_words.specs.Texts.{Text}
 use Rattle.ol_words.specs.Asked.{Asked, trace}
+use Rattle.ol_words.specs.Asked as jobs
 use Rattle.ol_cli.specs.Jobs.{AskFor}
 use Rattle.ol_cli.specs.Answers.{IsAnswer}
+use Rattle.ol_cli.specs.NetAnswers.{NetRunEnds}
 use Rattle.ol_cli.specs.Evaluation.{Prints, Walks}
 
--- a job whose answer is one text: what `trace` writes is any of many
+-- a job whose answer is one text: what `trace` writes is any of many, and so is what `net` writes of a net that was rewritten
 abbrev pub TellsOne : Asked → Type 0
 TellsOne (trace translation workers fuel name) = ⊥
+TellsOne (jobs.net translation false workers fuel name) = ⊥
 TellsOne _ = Unit {0}
 
 -- The same words and files have one answer: each status comes just where the answer is that, and so does each text, where the job
@@ -35,3 +41,10 @@ abbrev pub OneTreeIsWalked : Type 0
 OneTreeIsWalked = (translation : Translation) (t : Tree) (names : List (List ℕ)) (edges heads : ℕ) (text text' : List ℕ) →
     IsNet (translation_of translation t (length names)) → (w : Walks translation t names edges heads text) (w' : Walks translation t names edges heads text') →
     (w.tree ≡ w'.tree) × (w.term ≡ w'.term)
+
+-- Of the net of a file, however its run is come by, the interactions of each rule, the stuck pairs and the nodes that are left are as
+-- many; so the counts that `net` writes are one, and whether the net is printed.
+abbrev pub OneNetIsLeft : Type 0
+OneNetIsLeft = (net : Graph) (fuel : ℕ) (counts counts' : Counts) (stuck stuck' nodes nodes' : ℕ) → IsNet (net_of net) →
+    NetRunEnds net fuel counts stuck nodes → NetRunEnds net fuel counts' stuck' nodes' →
+    (counts ≡ counts') × (stuck ≡ stuck') × (nodes ≡ nodes')

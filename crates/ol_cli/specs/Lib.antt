@@ -4,6 +4,7 @@ pub mod VerdictTexts
 pub mod Jobs
 pub mod Listing
 pub mod Evaluation
+pub mod NetAnswers
 pub mod Journals
 pub mod Answers
 pub mod Sources
@@ -14,3 +15,5 @@ pub mod Completeness
 pub mod ReadAgain
 pub mod Prepared
 pub mod Inside
+pub mod NetLines
+pub mod Sides

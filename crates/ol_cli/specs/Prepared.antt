@@ -27,6 +27,7 @@ pub record IsNetOf (translation : Translation) (t : Tree) (names : List (List �
   pub same : SameNet (net_of net) (translation_of translation t (length names))
   pub whole : count_by is_some net.nodes ≡ length net.nodes
   pub small : IsSmallNet net
+  pub few : length net.nodes ≤ 200000
 
 -- the term isn't deep, each variable is bound, and its size is counted in 64 bits, so that it can be reduced
 pub record IsReducible (t : Tree) : Type 0 where

@@ -31,6 +31,9 @@ nodes_text = line (codes "limit nodes 200000")
 abbrev pub journal_text : List ℕ
 journal_text = line (codes "limit journal 402653184")
 
+abbrev pub net_bytes_text : List ℕ
+net_bytes_text = line (codes "limit net 33554432")
+
 abbrev pub syntax_text : ℕ → List ℕ
 syntax_text at = count_line (codes "syntax at byte") at
 
@@ -48,11 +51,10 @@ found_text (check.NotARun l) = count_line (codes "not a run at line") l
 abbrev pub view_text : ℕ → List ℕ → List ℕ
 view_text steps shown = count_line (codes "step") steps ++ shown
 
--- the line of the term, and the nine lines: the number of interactions of each rule, and of the pairs that are stuck
-abbrev pub answer_text : List ℕ → Counts → ℕ → List ℕ
-answer_text term c stuck =
-    line term
-    ++ count_line (codes "beta") c.beta
+-- nine lines: the number of interactions of each rule, and of the pairs that are stuck
+abbrev pub counts_text : Counts → ℕ → List ℕ
+counts_text c stuck =
+    count_line (codes "beta") c.beta
     ++ count_line (codes "fan") c.fan
     ++ count_line (codes "croissant") c.croissant
     ++ count_line (codes "bracket") c.bracket
@@ -61,3 +63,7 @@ answer_text term c stuck =
     ++ count_line (codes "cross-bracket") c.cross_bracket
     ++ count_line (codes "erase") c.erase
     ++ count_line (codes "stuck") stuck
+
+-- the line of the term, and the nine lines
+abbrev pub answer_text : List ℕ → Counts → ℕ → List ℕ
+answer_text term c stuck = line term ++ counts_text c stuck

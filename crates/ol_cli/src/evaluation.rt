@@ -9,6 +9,7 @@ ghost use Rattle.ol_words.specs.Asked.{asked_by};
 ghost use Rattle.ol_cli.specs.Inside.{AnswersTerm, HandsOfTerm, IsOnTerm, IsReadByNames, IsWithinLimits, run_by, walk_by};
 ghost use Rattle.ol_cli.specs.Jobs.{translation_in};
 ghost use Rattle.ol_cli.specs.ReadAgain.{FileIsReadAgain};
+ghost use Rattle.ol_cli.specs.Texts.{line};
 ghost use Rattle.ol_cli.specs.Answers.{FileAnswer, TraceAnswer, plain_run};
 ghost use Rattle.ol_cli.specs.Evaluation.{Views};
 ghost use Rattle.ol_cli.specs.Handed.{WhereEnded, FileHands, TraceHands};
@@ -17,9 +18,10 @@ ghost use Rattle.ol_cli.specs.Prepared.{HoldsOfTerms, IsNetOf, IsReducible};
 use crate::certifying::certify_net;
 use crate::preparing::{Prepared, prepare};
 use crate::status::Status;
-use crate::texts::{answer_lines, spent_line, term_line, view_lines};
+use crate::texts::{answer_lines, line, spent_line, term_line, view_lines};
 use ol_io::{Gate, NoMemory};
 use ol_net::Net;
+use ol_netfile::write_net;
 use ol_readback::{read_back, tree_text};
 use ol_reduce::{Reduced, reduce};
 use ol_rules::counts;
@@ -54,6 +56,16 @@ impl Answer {
             closed: None,
         }
     }
+}
+
+/// A line that tells why there is no answer.
+pub fn refusal(alloc: Global, words: &str, status: Status) -> Result<Answer, NoMemory>
+    ensures text { IfOk result (λ a. a.text.items ≡ line words.now) }
+    ensures status { IfOk result (λ a. a.status ≡ status) }
+    ensures closed { IfOk result (λ a. a.closed ≡ None) }
+{
+    let text = line(alloc, words)?;
+    Ok(Answer::without_words(text, status))
 }
 
 /// The numbers of a job that rewrites a term's net and reads it back.
@@ -223,9 +235,20 @@ fn evaluate_net<R: Threads + Wait + Sync, G: Gate + Sync>(
             let answer = certify_net(rt, alloc, net, file, numbers, *steps, gate)?;
             Ok(answer)
         }
+        Job::Net {
+            from_term: true,
+            ..
+        } => {
+            net.is_tabled();
+            let text = write_net(alloc, net)?;
+            Ok(Answer::without_words(text, Status::Done))
+        }
         Job::Check { .. } => unreachable!(),
         Job::Gen { .. } => unreachable!(),
-        Job::Net { .. } => unreachable!(),
+        Job::Net {
+            from_term: false,
+            ..
+        } => unreachable!(),
         Job::Equal { .. } => unreachable!(),
     }
 }

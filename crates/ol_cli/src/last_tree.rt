@@ -1,5 +1,6 @@
 //! The tree that is read back from the net that the workers leave.
-ghost use Rattle.std.specs.Prelude.{◌≡◌, ◌≤◌, ◌<◌, length, count_by, is_some, IfOk};
+ghost use Rattle.std.specs.Prelude.{◌≡◌, ◌≤◌, ◌<◌, ◌-◌, length, count_by, is_some, IfOk, IfSome};
+ghost use Rattle.ol_readback.specs.Texts.{AreNamed};
 ghost use Rattle.ol_wire.specs.Sizes.{IsSmallNet};
 ghost use Rattle.ol_cli.specs.Inside.{ReadsOrRunsOut};
 ghost use Rattle.ol_cli.specs.Prepared.{HoldsOfTerms};
@@ -15,6 +16,7 @@ use std::thread::Threads;
 
 /// The tree of the net that the workers leave, each walk within twice as many crossings as that net
 /// has nodes. There is none where the fuel was used up. This holds of each term whose net it is.
+/// Its free names are those of the net's ports.
 pub fn last_tree<R: Threads + Wait + Sync, G: Gate + Sync>(
     rt: &R,
     alloc: Global,
@@ -28,8 +30,9 @@ pub fn last_tree<R: Threads + Wait + Sync, G: Gate + Sync>(
     requires workers { (1 ≤ numbers.workers) × (numbers.workers ≤ 64) }
     requires fuel { numbers.fuel ≤ 8000000 }
     requires heads { 1 ≤ numbers.heads }
-    ensures { IfOk result (λ tree. HoldsOfTerms net.now (λ translation t names.
+    ensures reads { IfOk result (λ tree. HoldsOfTerms net.now (λ translation t names.
         ReadsOrRunsOut translation t names numbers.fuel numbers.heads tree)) }
+    ensures names { IfOk result (λ tree. IfSome tree (AreNamed (net.now.free - 1))) }
 {
     net.is_net();
     let reduced = reduce(rt, alloc, net, numbers.workers, numbers.fuel, gate)?;

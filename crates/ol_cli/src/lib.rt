@@ -2,9 +2,11 @@
 #![tactic(auto)]
 
 mod certifying;
+mod comparing;
 mod evaluation;
 mod last_tree;
 mod laws;
+mod net_files;
 mod preparing;
 mod status;
 mod texts;

@@ -4,7 +4,9 @@ ghost use Rattle.ol_cli.specs.Answers.{status_number};
 
 /// How a call of the program ended. The order in which refusals are tried is `Usage`, `ReadFault`,
 /// `Limit` by bytes, `Syntax`, `Limit` by depth, `Limit` by nodes, `Spent`, `WriteFault`; for
-/// `check` those of the journal file, `ReadFault` and `Limit`, come after all of the term file.
+/// `check` those of the journal file, `ReadFault` and `Limit`, come after all of the term file, and
+/// for `equal` those of the second file after all of the first. For a file with a net `BadNet`
+/// stands in the place of `Syntax`, and `Limit` by the nodes that are left comes after `Spent`.
 /// `NoMemory` may stand at any place before the first byte is written.
 #[derive(Clone, Copy, Debug, PartialEq, Eq)]
 pub enum Status {
@@ -23,8 +25,11 @@ pub enum Status {
     /// Memory ran out, and nothing was written.
     NoMemory,
     /// The term file has more than 1,048,576 bytes, its term is deeper than 1,000, the net of its
-    /// term has more than 200,000 nodes, or the journal file has more than 402,653,184 bytes.
+    /// term has more than 200,000 nodes, or the journal file has more than 402,653,184 bytes; or
+    /// the net file has more than 33,554,432 bytes, or more than 200,000 nodes of its net are left.
     Limit,
+    /// The bytes of the net file aren't a text of the grammar, or its nodes and links make no net.
+    BadNet,
 }
 
 impl Status {
@@ -41,6 +46,7 @@ impl Status {
             Status::WriteFault => 5,
             Status::NoMemory => 6,
             Status::Limit => 7,
+            Status::BadNet => 9,
         }
     }
 }

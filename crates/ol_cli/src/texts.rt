@@ -1,6 +1,6 @@
 //! The texts that the program writes.
 ghost use Rattle.std.specs.Prelude.{◌≡◌, ◌++◌, IfOk, OnOk};
-ghost use Rattle.ol_cli.specs.Texts.{line, count_line, syntax_text, spent_text, found_text, view_text, answer_text};
+ghost use Rattle.ol_cli.specs.Texts.{line, count_line, syntax_text, spent_text, found_text, view_text, counts_text, answer_text};
 
 use ol_io::NoMemory;
 use ol_rules::Counts;
@@ -68,6 +68,16 @@ pub fn answer_lines(
     ensures { IfOk result (λ text. text.items ≡ answer_text term.now counts stuck) }
 {
     let mut text = term_line(alloc, term)?;
+    let lines = count_lines(alloc, counts, stuck)?;
+    append(&mut text, &lines)?;
+    Ok(text)
+}
+
+/// The nine lines of a run that ended: the interactions of each rule, and the pairs that are stuck.
+pub fn count_lines(alloc: Global, counts: Counts, stuck: u32) -> Result<Vec<u8>, NoMemory>
+    ensures { IfOk result (λ text. text.items ≡ counts_text counts stuck) }
+{
+    let mut text = Vec::new(alloc);
     add_count(alloc, &mut text, "beta", counts.beta)?;
     add_count(alloc, &mut text, "fan", counts.fan)?;
     add_count(alloc, &mut text, "croissant", counts.croissant)?;
@@ -78,6 +88,16 @@ pub fn answer_lines(
     add_count(alloc, &mut text, "erase", counts.erase)?;
     add_count(alloc, &mut text, "stuck", stuck)?;
     Ok(text)
+}
+
+/// Appends some lines.
+pub fn append(text: &mut Vec<u8>, lines: &[u8]) -> Result<(), NoMemory>
+    ensures { OnOk result (text.new.items ≡ text.old.items ++ lines.now) }
+{
+    match text.extend_from_slice(lines) {
+        Ok(()) => Ok(()),
+        Err(_) => Err(NoMemory),
+    }
 }
 
 /// A term's text and a line feed.

@@ -14,7 +14,9 @@ ghost use Rattle.ol_cli.specs.Sources.{EveryRunTells, WritesTree};
 ghost use Rattle.ol_cli.specs.ReadAgain.{FileIsReadAgain, WordsAreReadAgain, WritesReadable};
 ghost use Rattle.ol_cli.specs.Handed.{Hands, JobHands, MakingHands, ReadHands, WhereEnded, WordsHand};
 
-use crate::evaluation::{Answer, evaluate, run_made};
+use crate::comparing::answer_equal;
+use crate::evaluation::{Answer, RunNumbers, evaluate, refusal, run_made};
+use crate::net_files::answer_net;
 use crate::preparing::{Prepared, prepare};
 use crate::status::Status;
 use crate::texts::{found_line, line};
@@ -68,6 +70,13 @@ pub struct Outcome {
 ///   back as `run` does, and reduces the term by at most B leftmost beta steps. It writes whether
 ///   the normal form is what was read back, and then the address of each step; or why that isn't
 ///   known.
+/// - `net [--workers N] [--fuel F] NAME` reads a net, has N workers rewrite it by at most F
+///   interactions, and writes how often each rule was applied and how many pairs are stuck, a line
+///   for each of these, and the text of the net that is left. With `--from-term` it reads a term,
+///   and writes the text of its net as it stands.
+/// - `equal [--workers N] [--fuel F] [--heads Q] A B` does with each of two terms what `run` does,
+///   and writes whether the two that are read back are equal, and else the first place where they
+///   differ.
 ///
 /// Each has `--translation T` too, 1 or 2 and by itself 2: by which the term becomes a net, that of
 /// `gen` as well.
@@ -81,18 +90,22 @@ pub struct Outcome {
 ///
 /// Where nothing fails, the words and the bytes of the files alone decide on the text and the
 /// status: not the number of workers, nor the order in which they take pairs. Only the text of
-/// `trace` isn't one: it is the journal of any run. The answer of `run` is that of the one-thread
-/// run, which always rewrites the active pair whose smaller name is least; each complete run prints
-/// the same, and each is longer than F where that one is. Each head that is written is the one that
-/// walks of any length give in the source's untouched net (Gonthier, Abadi and Lévy, The Geometry
-/// of Optimal Lambda Reduction, 1992). So is each `?` of `run` where it writes `stuck 0`; one of
-/// `walk` says only that none of the walks that were tried gave a head. A term without `...` and
-/// `?` is in the grammar, and read again it has no redex.
+/// `trace` isn't one: it is the journal of any run; nor is the net that `net` leaves, the nodes of
+/// which may be numbered by any run that leaves no active pair. The answer of `run` is that of the
+/// one-thread run, which always rewrites the active pair whose smaller name is least; each complete
+/// run prints the same, and each is longer than F where that one is. Each head that is written is
+/// the one that walks of any length give in the source's untouched net (Gonthier, Abadi and Lévy,
+/// The Geometry of Optimal Lambda Reduction, 1992). So is each `?` of `run` where it writes
+/// `stuck 0`; one of `walk` says only that none of the walks that were tried gave a head. A term
+/// without `...` and `?` is in the grammar, and read again it has no redex.
 ///
 /// Refusals are tried in the order that `Status` tells. Each has a line of its own: the usage,
 /// `read fault`, `syntax at byte B` with the length of the longest prefix that begins a text of the
-/// grammar, `fuel F`, `limit bytes 1048576`, `limit depth 1000`, `limit nodes 200000`, or
-/// `limit journal 402653184`. With `WriteFault` the sink took a prefix of the text, and with
+/// grammar, `fuel F`, `limit bytes 1048576`, `limit depth 1000`, `limit nodes 200000`,
+/// `limit journal 402653184`, `limit net 33554432`, or what is wrong with the text of a net:
+/// `bad net at line L`, `bad index at node K`, `bad port at link K`, `port twice at link K` or
+/// `loose port P`. For `equal` all refusals of A come before those of B, which is begun where A is
+/// none. With `WriteFault` the sink took a prefix of the text, and with
 /// `NoMemory` nothing.
 ///
 /// With `Done` or `Spent` of `run`, `trace` or `gen --run`, the closed words are handed back: those
@@ -106,6 +119,11 @@ pub struct Outcome {
 /// constructors or more than 1,000 deep, and `beta steps B` where a redex is left. `agreed` comes
 /// exactly where the leftmost reduction stays within these bounds and reaches, within B steps, a
 /// normal form that is the term which `run` would print.
+///
+/// What `equal` writes is `equal`, `different at PATH` or `cut at PATH`: the path of the first
+/// place where the two trees don't have heads that agree, as numbers of arguments from 1 with dots
+/// between them, or `root`. It is `cut` where one of the two has no head there or wasn't asked.
+/// Free names agree by their text.
 pub fn ol<R: Threads + Wait + Sync, S: Source, W: Sink, G: Gate + Sync>(
     rt: &R,
     alloc: Global,
@@ -318,8 +336,42 @@ fn answer_job<R: Threads + Wait + Sync, S: Source, G: Gate + Sync>(
             run,
             k,
         } => answer_made(rt, alloc, *translation, *run, *k, gate),
-        Job::Net { .. } => Err(NoMemory),
-        Job::Equal { .. } => Err(NoMemory),
+        Job::Net {
+            from_term,
+            workers,
+            fuel,
+            name,
+            ..
+        } => {
+            if *from_term {
+                return answer_file(rt, alloc, job, name.as_str(), src, gate);
+            }
+            answer_net(rt, alloc, name.as_str(), *workers, *fuel, src, gate)
+        }
+        Job::Equal {
+            translation,
+            workers,
+            fuel,
+            heads,
+            first,
+            second,
+        } => {
+            let numbers = RunNumbers {
+                translation: *translation,
+                workers: *workers,
+                fuel: *fuel,
+                heads: *heads,
+            };
+            answer_equal(
+                rt,
+                alloc,
+                numbers,
+                first.as_str(),
+                second.as_str(),
+                src,
+                gate,
+            )
+        }
     }
 }
 
@@ -363,16 +415,6 @@ fn answer_file<R: Threads + Wait + Sync, S: Source, G: Gate + Sync>(
             Ok(answer)
         }
     }
-}
-
-// A line that tells why there is no answer.
-fn refusal(alloc: Global, words: &str, status: Status) -> Result<Answer, NoMemory>
-    ensures text { IfOk result (λ a. a.text.items ≡ line words.now) }
-    ensures status { IfOk result (λ a. a.status ≡ status) }
-    ensures closed { IfOk result (λ a. a.closed ≡ None) }
-{
-    let text = line(alloc, words)?;
-    Ok(Answer::without_words(text, status))
 }
 
 // The text of `check` on two files, which have these names, and its status.

@@ -1,4 +1,5 @@
 use Rattle.ol_term.specs.Trees.{tree_of}
+use Rattle.ol_cli.proofs.NetFiles.{few_live}
 use Rattle.ol_cli.proofs.evaluation.evaluate_net.Goals as goal
 
 pub returns-in_ok-answer-in-Run-clause-read : goal.returns-in_ok-answer-in-Run-clause-read
@@ -12,3 +13,6 @@ returns-in_ok-answer-in-Run-clause-closed g c = rw c.in-Run.is c.in_ok-answer-in
 
 pub returns-in_ok-answer-in-Trace-clause-closed : goal.returns-in_ok-answer-in-Trace-clause-closed
 returns-in_ok-answer-in-Trace-clause-closed g c = rw c.in-Trace.is (c.in_ok-answer-in-Trace.ensures.closed _ (tree_of c.args.file.now.term) c.args.file.now.names (rw c.in-Trace.is at c.requires.net))
+
+pub write_net-requires-clause-few_nodes : goal.write_net-requires-clause-few_nodes
+write_net-requires-clause-few_nodes g c = few_live c.args.net.now 200000 c.requires.net.few

@@ -1,0 +1,180 @@
+-- What the bytes of a file with a net are answered, and that this is one status.
+use Rattle.std.proofs.Common.{◌≡◌, ◌≢◌, ℕ, suc, ◌+◌, ◌<◌, ◌≤◌, List, [], ◌∷◌, ◌++◌, length, Option, Some, None, count_by, is_some, true, inl, inr, ◌⊎◌, refl, sym, ap, ◌∙◌, subst, arith}
+use Rattle.ol_io.specs.Outside.{Rose}
+use Rattle.ol_net.specs.declared.parts.Kind.{Kind}
+use Rattle.ol_net.specs.declared.parts.Port.{Port}
+use Rattle.ol_net.specs.Graph.{Graph}
+use Rattle.ol_net.specs.Indexes.{top_index_of}
+use Rattle.ol_net.specs.Nets.{IsNet}
+use Rattle.ol_net.specs.Numbered.{nodes_from, net_of, all_live}
+use Rattle.ol_net.proofs.Linking.{length-all_live}
+use Rattle.ol_net.proofs.Numbered.{net_is_net}
+use Rattle.ol_netfile.specs.declared.faults.NetFault.{NetFault}
+use Rattle.ol_netfile.specs.declared.faults.NetFault.TheVariants as fault
+use Rattle.ol_netfile.specs.NetTexts.{Front, nothing, titled, so_far, Adds, title, free, node, link, Lines, none, more, IsNetText, IsNetRead, IsNetFault}
+use Rattle.ol_netfile.proofs.SameNets.{net_is_one}
+use Rattle.ol_netfile.proofs.Unique.{text-few}
+use Rattle.ol_netfile.proofs.OneText.{net_has_no_fault}
+use Rattle.ol_rules.specs.declared.journal.Counts.{Counts}
+use Rattle.ol_translate.proofs.Indexes.{top_is_low}
+use Rattle.ol_wire.specs.Sizes.{IsSmallNet}
+use Rattle.ol_words.specs.Texts.{Text}
+use Rattle.ol_cli.specs.declared.status.Status.{Status}
+use Rattle.ol_cli.specs.declared.status.Status.TheVariants.{Done, Usage, Syntax, Spent, ReadFault, WriteFault, NoMemory, Limit, BadNet}
+use Rattle.ol_cli.specs.Texts.{nodes_text, spent_text}
+use Rattle.ol_cli.specs.NetAnswers.{NetRunsOut, NetRunEnds, IsPastNodes, PrintsNet, NetAnswer, IsNetFile, NetFileAnswer, long, bad, of_net}
+use Rattle.ol_cli.specs.Answers.{Seen, GaveWithin, NetCause, failed, past, given}
+use Rattle.ol_cli.proofs.Handing.{whole_net}
+use Rattle.ol_cli.proofs.NetRuns.{one_left, left_or_runs_out}
+
+-- ---- a net that is read can be rewritten
+
+abbrev ports_few : Front → Type 0
+ports_few nothing = Unit {0}
+ports_few titled = Unit {0}
+ports_few (so_far f ns ls) = f ≤ 1000000
+
+adds_few : {a b : Front} {l : List ℕ} → Adds a l b → ports_few a → ports_few b
+adds_few title h = tt
+adds_few (free f few) h = few
+adds_few (node f ns n few i) h = h
+adds_few (link f ns ls l i j before after) h = h
+
+lines_few : {b : Front} {n : ℕ} {s : List ℕ} → Lines nothing n s b → ports_few b
+lines_few (none a) = tt
+lines_few (more a b c n s l ls x) = adds_few x (lines_few ls)
+
+pub read_whole : (bytes : List ℕ) (net : Graph) → IsNetRead bytes net → count_by is_some net.nodes ≡ length net.nodes
+read_whole bytes net r = whole_net net r.nodes r.built.same_nodes
+
+pub read_small : (bytes : List ℕ) (net : Graph) → IsNetRead bytes net → IsSmallNet net
+read_small bytes net r =
+    let few = (text-few bytes r.free r.nodes r.links r.spelled).0 in
+    let ports : r.free ≤ 1000000 = lines_few r.spelled.1 in
+    let size : length net.nodes ≡ length r.nodes = ap length r.built.same_nodes ∙ length-all_live r.nodes in
+    let top : top_index_of (all_live r.nodes) ≤ 1000000 = top_is_low 1000000 r.nodes r.built.good_indexes in
+    record {
+      nodes = omega (arith, few, size);
+      free = omega (arith, ports, r.built.same_free);
+      indexes = subst (λ ns. top_index_of ns ≤ 1000000) (sym r.built.same_nodes) top;
+    }
+
+-- no more nodes are live than numbers were given out
+live_few : (n : ℕ) (nodes : List (Option (Kind × ℕ))) → length (nodes_from n nodes) ≤ length nodes
+live_few n [] = omega arith
+live_few n (None ∷ nodes) = omega (arith, live_few (suc n) nodes)
+live_few n (Some k ∷ nodes) = omega (arith, live_few (suc n) nodes)
+
+pub few_live : (net : Graph) (most : ℕ) → length net.nodes ≤ most → length (net_of net).nodes ≤ most
+few_live net most h = let b = live_few 0 net.nodes in omega (arith, b, h)
+
+-- ---- the statuses of a net
+
+abbrev pub IsOfNet : Status → Type 0
+IsOfNet Done = Unit {0}
+IsOfNet Spent = Unit {0}
+IsOfNet Limit = Unit {0}
+IsOfNet BadNet = Unit {0}
+IsOfNet _ = ⊥
+
+net_status : (net : Graph) (fuel : ℕ) (st : Status) (text : List ℕ) → NetAnswer net fuel st text → IsOfNet st
+net_status net fuel Done text h = tt
+net_status net fuel Spent text h = tt
+net_status net fuel Limit text h = tt
+net_status net fuel BadNet text h = tt
+net_status net fuel Usage text h = h
+net_status net fuel Syntax text h = h
+net_status net fuel ReadFault text h = h
+net_status net fuel WriteFault text h = h
+net_status net fuel NoMemory text h = h
+
+pub net_file_status : (fuel : ℕ) (bytes : List ℕ) (st : Status) (text : List ℕ) → NetFileAnswer fuel bytes st text → IsOfNet st
+net_file_status fuel bytes st text (long l e x) = subst IsOfNet (sym e) tt
+net_file_status fuel bytes st text (bad l d f isnt e x) = subst IsOfNet (sym e) tt
+net_file_status fuel bytes st text (of_net {net = net} i h) = net_status net fuel st text h
+
+-- a fault that rose, or a status of a net
+pub net_cause_status : (s : Seen) (name : Text) (fuel : ℕ) (st : Status) (text : List ℕ) → NetCause s name fuel st text →
+    ((st ≡ ReadFault) × Rose s.faults s.faults') ⊎ ((s.faults' ≡ s.faults) × IsOfNet st)
+net_cause_status s name fuel st text (failed rose e x) = inl (e, rose)
+net_cause_status s name fuel st text (past same gave e x) = inr (same, subst IsOfNet (sym e) tt)
+net_cause_status s name fuel st text (given same {bytes = bytes} gave h) = inr (same, net_file_status fuel bytes st text h)
+
+-- ---- one status
+
+-- what a net is answered, by cases
+data OfNet (net : Graph) (fuel : ℕ) : Status → List ℕ → Type 0 where
+  runs_out : {text : List ℕ} → NetRunsOut net fuel → OfNet net fuel Spent text
+  large : {text : List ℕ} → IsPastNodes net fuel → OfNet net fuel Limit text
+  printed : {text : List ℕ} → PrintsNet net fuel text → OfNet net fuel Done text
+
+of_net_answer : (net : Graph) (fuel : ℕ) (st : Status) (text : List ℕ) → NetAnswer net fuel st text → OfNet net fuel st text
+of_net_answer net fuel Spent text h = runs_out h.0
+of_net_answer net fuel Limit text h = large h.0
+of_net_answer net fuel Done text h = printed h
+of_net_answer net fuel BadNet text h = absurd h
+of_net_answer net fuel Usage text h = absurd h
+of_net_answer net fuel Syntax text h = absurd h
+of_net_answer net fuel ReadFault text h = absurd h
+of_net_answer net fuel WriteFault text h = absurd h
+of_net_answer net fuel NoMemory text h = absurd h
+
+module _ (net : Graph) (is_net : IsNet (net_of net)) (fuel : ℕ) where
+  -- the net that is left is large or not
+  not_both : IsPastNodes net fuel → {text : List ℕ} → PrintsNet net fuel text → ⊥
+  not_both l p =
+      let e = (one_left net is_net fuel l.counts p.counts l.stuck p.stuck l.nodes p.nodes l.ends p.ends).2 in
+      let many = l.many in let few = p.few in omega (arith, e, many, few)
+
+  one_of_net : (s s' : Status) (x x' : List ℕ) → OfNet net fuel s x → OfNet net fuel s' x' → s ≡ s'
+  one_of_net s s' x x' (runs_out r) (runs_out r') = refl
+  one_of_net s s' x x' (runs_out r) (large l) = absurd (left_or_runs_out net is_net fuel l.counts l.stuck l.nodes r l.ends)
+  one_of_net s s' x x' (runs_out r) (printed p) = absurd (left_or_runs_out net is_net fuel p.counts p.stuck p.nodes r p.ends)
+  one_of_net s s' x x' (large l) (runs_out r) = absurd (left_or_runs_out net is_net fuel l.counts l.stuck l.nodes r l.ends)
+  one_of_net s s' x x' (large l) (large l') = refl
+  one_of_net s s' x x' (large l) (printed p) = absurd (not_both l p)
+  one_of_net s s' x x' (printed p) (runs_out r) = absurd (left_or_runs_out net is_net fuel p.counts p.stuck p.nodes r p.ends)
+  one_of_net s s' x x' (printed p) (large l) = absurd (not_both l p)
+  one_of_net s s' x x' (printed p) (printed p') = refl
+
+  -- where the run ends within the fuel and few nodes are left, the net is printed
+  done_of_net : (s : Status) (x : List ℕ) → (counts : Counts) (stuck nodes : ℕ) → NetRunEnds net fuel counts stuck nodes → nodes ≤ 200000 → OfNet net fuel s x → s ≡ Done
+  done_of_net s x counts stuck nodes ends few (runs_out r) = absurd (left_or_runs_out net is_net fuel counts stuck nodes r ends)
+  done_of_net s x counts stuck nodes ends few (large l) =
+      let e = (one_left net is_net fuel l.counts counts l.stuck stuck l.nodes nodes l.ends ends).2 in
+      let many = l.many in absurd (omega (arith, e, many, few))
+  done_of_net s x counts stuck nodes ends few (printed p) = refl
+
+is_not_bad : (bytes : List ℕ) (net : Graph) (f : NetFault) → IsNetFile bytes net → IsNetFault bytes f → f ≢ fault.NoMemory → ⊥
+is_not_bad bytes net f i h isnt = isnt (net_has_no_fault bytes net f i.read h)
+
+-- the net of a file is one
+one_net : (bytes : List ℕ) (g h : Graph) → IsNetFile bytes g → IsNetFile bytes h → g ≡ h
+one_net bytes g h i j = net_is_one bytes g h i.tabled j.tabled i.read j.read
+
+pub one_net_file : (fuel : ℕ) (bytes : List ℕ) (s s' : Status) (x x' : List ℕ) → NetFileAnswer fuel bytes s x → NetFileAnswer fuel bytes s' x' → s ≡ s'
+one_net_file fuel bytes s s' x x' (long l e t) (long l' e' t') = e ∙ sym e'
+one_net_file fuel bytes s s' x x' (long l e t) (bad l' d f isnt e' t') = absurd (omega arith)
+one_net_file fuel bytes s s' x x' (long l e t) (of_net i h) = absurd (let short = i.short in omega arith)
+one_net_file fuel bytes s s' x x' (bad l d f isnt e t) (long l' e' t') = absurd (omega arith)
+one_net_file fuel bytes s s' x x' (bad l d f isnt e t) (bad l' d' f' isnt' e' t') = e ∙ sym e'
+one_net_file fuel bytes s s' x x' (bad l d f isnt e t) (of_net {net = net} i h) = absurd (is_not_bad bytes net d i f isnt)
+one_net_file fuel bytes s s' x x' (of_net i h) (long l' e' t') = absurd (let short = i.short in omega arith)
+one_net_file fuel bytes s s' x x' (of_net {net = net} i h) (bad l' d f' isnt' e' t') = absurd (is_not_bad bytes net d i f' isnt')
+one_net_file fuel bytes s s' x x' (of_net {net = g} i h) (of_net {net = k} i' h') =
+    let h'' = subst (λ n. NetAnswer n fuel s' x') (one_net bytes k g i' i) h' in
+    one_of_net g (net_is_net g i.tabled) fuel s s' x x' (of_net_answer g fuel s x h) (of_net_answer g fuel s' x' h'')
+
+-- a file whose net is left small within the fuel is printed
+pub done_net_file : (fuel : ℕ) (bytes : List ℕ) (net : Graph) (counts : Counts) (stuck nodes : ℕ) → IsNetFile bytes net → NetRunEnds net fuel counts stuck nodes → nodes ≤ 200000 →
+    (s : Status) (x : List ℕ) → NetFileAnswer fuel bytes s x → s ≡ Done
+done_net_file fuel bytes net counts stuck nodes i ends few s x (long l e t) = absurd (let short = i.short in omega arith)
+done_net_file fuel bytes net counts stuck nodes i ends few s x (bad l d f isnt e t) = absurd (is_not_bad bytes net d i f isnt)
+done_net_file fuel bytes net counts stuck nodes i ends few s x (of_net {net = g} j h) =
+    let h' = subst (λ n. NetAnswer n fuel s x) (one_net bytes g net j i) h in
+    done_of_net net (net_is_net net i.tabled) fuel s x counts stuck nodes ends few (of_net_answer net fuel s x h')
+
+-- ---- what the call makes
+
+pub large_answer : (net : Graph) (fuel : ℕ) (st : Status) (text : List ℕ) → st ≡ Limit → text ≡ nodes_text → IsPastNodes net fuel → NetAnswer net fuel st text
+large_answer net fuel st text is e l = subst (λ st. NetAnswer net fuel st text) (sym is) (l, e)

@@ -1,0 +1,167 @@
+//! The job `equal`: two terms, each read back from the net that its workers leave.
+ghost use Rattle.std.specs.Prelude.{◌≡◌, ◌≤◌, ◌+◌, length, true, IfOk, None};
+ghost use Rattle.ol_readback.specs.Texts.{AreNamed};
+ghost use Rattle.ol_words.specs.Asked.{equal};
+ghost use Rattle.ol_cli.specs.Answers.{JobCause, seen_by};
+ghost use Rattle.ol_cli.specs.Sides.{ComesOf, IsSideOf, EndsSecond};
+
+use crate::evaluation::{Answer, RunNumbers, refusal};
+use crate::last_tree::last_tree;
+use crate::preparing::{Prepared, prepare};
+use crate::status::Status;
+use crate::texts::{spent_line, term_line};
+use ol_equal::{compared_text, same_tree};
+use ol_io::{Gate, NoMemory, ReadAll, Source, read_all};
+use ol_readback::ReadTree;
+use ol_term::Names;
+use std::alloc::Global;
+use std::sync::Wait;
+use std::thread::Threads;
+
+/// The greatest number of bytes of a term file.
+const MOST_BYTES: usize = 1_048_576;
+
+/// What comes of one of the two files: a refusal, or the tree that is read back of its term, with
+/// the free names of the term.
+#[derive(Drop)]
+pub enum Side {
+    Refused(Answer),
+    Read { tree: ReadTree, names: Names },
+}
+
+/// The text of `equal` on two files, which have these names, and its status. The second file is
+/// begun where the first is no refusal.
+pub fn answer_equal<R: Threads + Wait + Sync, S: Source, G: Gate + Sync>(
+    rt: &R,
+    alloc: Global,
+    numbers: RunNumbers,
+    first: &str,
+    second: &str,
+    src: &mut S,
+    gate: &G,
+) -> Result<Answer, NoMemory>
+    requires first { S.knows src.old first.now ≡ true }
+    requires second { S.knows src.old second.now ≡ true }
+    requires workers { (1 ≤ numbers.workers) × (numbers.workers ≤ 64) }
+    requires fuel { numbers.fuel ≤ 8000000 }
+    requires heads { 1 ≤ numbers.heads }
+    ensures caused { IfOk result (λ a. JobCause
+        (seen_by S.faults S.contents S.given S.ended src.old src.new) a.status a.text.items
+        (equal numbers.translation numbers.workers numbers.fuel numbers.heads
+        first.now second.now)) }
+    ensures closed { IfOk result (λ a. a.closed ≡ None) }
+    ensures begins { S.begins src.new ≤ S.begins src.old + 2 }
+    ensures knows { S.knows src.new ≡ S.knows src.old }
+    ensures contents { S.contents src.new ≡ S.contents src.old }
+{
+    match read_side(rt, alloc, numbers, first, src, gate)? {
+        Side::Refused(answer) => Ok(answer),
+        Side::Read { tree, names } => {
+            let answer = answer_second(rt, alloc, numbers, &tree, &names, second, src, gate)?;
+            Ok(answer)
+        }
+    }
+}
+
+// The text of the comparison of this tree with that of the second file, and its status.
+fn answer_second<R: Threads + Wait + Sync, S: Source, G: Gate + Sync>(
+    rt: &R,
+    alloc: Global,
+    numbers: RunNumbers,
+    tree: &ReadTree,
+    names: &Names,
+    second: &str,
+    src: &mut S,
+    gate: &G,
+) -> Result<Answer, NoMemory>
+    requires known { S.knows src.old second.now ≡ true }
+    requires named { AreNamed (length names.now) tree.now }
+    requires workers { (1 ≤ numbers.workers) × (numbers.workers ≤ 64) }
+    requires fuel { numbers.fuel ≤ 8000000 }
+    requires heads { 1 ≤ numbers.heads }
+    ensures caused { IfOk result (λ a. EndsSecond numbers tree.now names.now
+        (seen_by S.faults S.contents S.given S.ended src.old src.new)
+        second.now a.status a.text.items) }
+    ensures closed { IfOk result (λ a. a.closed ≡ None) }
+    ensures begins { S.begins src.new ≤ S.begins src.old + 1 }
+    ensures knows { S.knows src.new ≡ S.knows src.old }
+    ensures contents { S.contents src.new ≡ S.contents src.old }
+{
+    match read_side(rt, alloc, numbers, second, src, gate)? {
+        Side::Refused(answer) => Ok(answer),
+        Side::Read {
+            tree: other,
+            names: other_names,
+        } => {
+            let compared = same_tree(alloc, tree, names, &other, &other_names)?;
+            let words = compared_text(alloc, &compared)?;
+            let text = term_line(alloc, &words)?;
+            Ok(Answer::without_words(text, Status::Done))
+        }
+    }
+}
+
+// What comes of the file of this name.
+fn read_side<R: Threads + Wait + Sync, S: Source, G: Gate + Sync>(
+    rt: &R,
+    alloc: Global,
+    numbers: RunNumbers,
+    name: &str,
+    src: &mut S,
+    gate: &G,
+) -> Result<Side, NoMemory>
+    requires known { S.knows src.old name.now ≡ true }
+    requires workers { (1 ≤ numbers.workers) × (numbers.workers ≤ 64) }
+    requires fuel { numbers.fuel ≤ 8000000 }
+    requires heads { 1 ≤ numbers.heads }
+    ensures caused { IfOk result (λ side. ComesOf numbers
+        (seen_by S.faults S.contents S.given S.ended src.old src.new) name.now side) }
+    ensures begins { S.begins src.new ≤ S.begins src.old + 1 }
+    ensures knows { S.knows src.new ≡ S.knows src.old }
+    ensures contents { S.contents src.new ≡ S.contents src.old }
+{
+    match read_all(alloc, src, name, MOST_BYTES) {
+        Err(ReadAll::NoMemory) => Err(NoMemory),
+        Err(ReadAll::Fault) => {
+            let answer = refusal(alloc, "read fault", Status::ReadFault)?;
+            Ok(Side::Refused(answer))
+        }
+        Err(ReadAll::TooLong) => {
+            let answer = refusal(alloc, "limit bytes 1048576", Status::Limit)?;
+            Ok(Side::Refused(answer))
+        }
+        Ok(bytes) => {
+            let side = side_of(rt, alloc, numbers, &bytes, gate)?;
+            Ok(side)
+        }
+    }
+}
+
+// What comes of the bytes of a file, none of which are past the limit.
+fn side_of<R: Threads + Wait + Sync, G: Gate + Sync>(
+    rt: &R,
+    alloc: Global,
+    numbers: RunNumbers,
+    bytes: &[u8],
+    gate: &G,
+) -> Result<Side, NoMemory>
+    requires short { length bytes.now ≤ 1048576 }
+    requires workers { (1 ≤ numbers.workers) × (numbers.workers ≤ 64) }
+    requires fuel { numbers.fuel ≤ 8000000 }
+    requires heads { 1 ≤ numbers.heads }
+    ensures { IfOk result (λ side. IsSideOf numbers bytes.now side) }
+{
+    match prepare(alloc, bytes, numbers.translation)? {
+        Prepared::Refused(answer) => Ok(Side::Refused(answer)),
+        Prepared::Net { net, file } => match last_tree(rt, alloc, &net, numbers, gate)? {
+            None => {
+                let text = spent_line(alloc, numbers.fuel)?;
+                Ok(Side::Refused(Answer::without_words(text, Status::Spent)))
+            }
+            Some(tree) => Ok(Side::Read {
+                tree,
+                names: file.names,
+            }),
+        },
+    }
+}

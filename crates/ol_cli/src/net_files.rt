@@ -1,0 +1,150 @@
+//! The job `net` on a file with a net.
+ghost use Rattle.std.specs.Prelude.{◌≡◌, ◌≤◌, ◌<◌, ◌+◌, ◌++◌, List, ℕ, length, count_by, is_some, true, IfOk, OnOk, None};
+ghost use Rattle.ol_net.specs.Numbered.{net_of};
+ghost use Rattle.ol_netfile.specs.StuckPairs.{IsPairsText};
+ghost use Rattle.ol_netfile.specs.Written.{net_text};
+ghost use Rattle.ol_wire.specs.Sizes.{IsSmallNet};
+ghost use Rattle.ol_cli.specs.Answers.{NetCause, seen_by};
+ghost use Rattle.ol_cli.specs.NetAnswers.{NetAnswer, NetFileAnswer};
+ghost use Rattle.ol_cli.specs.NetLines.{AreLinesOf};
+ghost use Rattle.ol_cli.specs.Texts.{counts_text};
+
+use crate::evaluation::{Answer, refusal};
+use crate::status::Status;
+use crate::texts::{append, count_lines, spent_line, term_line};
+use ol_io::{Gate, NoMemory, ReadAll, Source, read_all};
+use ol_net::Net;
+use ol_netfile::{fault_text, read_net, stuck_text, write_net};
+use ol_reduce::{Reduced, reduce};
+use ol_rules::{Counts, counts};
+use std::alloc::Global;
+use std::sync::Wait;
+use std::thread::Threads;
+
+/// The greatest number of bytes of a net file.
+const MOST_NET_BYTES: usize = 33_554_432;
+
+/// The greatest number of nodes of a net that is printed.
+const MOST_NODES: u32 = 200_000;
+
+/// The text of `net` on a file with a net, which has this name, and its status.
+pub fn answer_net<R: Threads + Wait + Sync, S: Source, G: Gate + Sync>(
+    rt: &R,
+    alloc: Global,
+    name: &str,
+    workers: u32,
+    fuel: u32,
+    src: &mut S,
+    gate: &G,
+) -> Result<Answer, NoMemory>
+    requires known { S.knows src.old name.now ≡ true }
+    requires workers { (1 ≤ workers) × (workers ≤ 64) }
+    requires fuel { fuel ≤ 8000000 }
+    ensures caused { IfOk result (λ a. NetCause
+        (seen_by S.faults S.contents S.given S.ended src.old src.new)
+        name.now fuel a.status a.text.items) }
+    ensures closed { IfOk result (λ a. a.closed ≡ None) }
+    ensures begins { S.begins src.new ≤ S.begins src.old + 1 }
+    ensures knows { S.knows src.new ≡ S.knows src.old }
+    ensures contents { S.contents src.new ≡ S.contents src.old }
+{
+    match read_all(alloc, src, name, MOST_NET_BYTES) {
+        Err(ReadAll::NoMemory) => Err(NoMemory),
+        Err(ReadAll::Fault) => {
+            let answer = refusal(alloc, "read fault", Status::ReadFault)?;
+            Ok(answer)
+        }
+        Err(ReadAll::TooLong) => {
+            let answer = refusal(alloc, "limit net 33554432", Status::Limit)?;
+            Ok(answer)
+        }
+        Ok(bytes) => {
+            let answer = evaluate_file(rt, alloc, &bytes, workers, fuel, gate)?;
+            Ok(answer)
+        }
+    }
+}
+
+// The answer to the bytes of a file with a net, none of which are past the limit.
+fn evaluate_file<R: Threads + Wait + Sync, G: Gate + Sync>(
+    rt: &R,
+    alloc: Global,
+    bytes: &[u8],
+    workers: u32,
+    fuel: u32,
+    gate: &G,
+) -> Result<Answer, NoMemory>
+    requires short { length bytes.now ≤ 33554432 }
+    requires workers { (1 ≤ workers) × (workers ≤ 64) }
+    requires fuel { fuel ≤ 8000000 }
+    ensures answer { IfOk result (λ a. NetFileAnswer fuel bytes.now a.status a.text.items) }
+    ensures closed { IfOk result (λ a. a.closed ≡ None) }
+{
+    match read_net(alloc, bytes) {
+        Ok(net) => {
+            net.is_tabled();
+            let answer = rewrite(rt, alloc, &net, workers, fuel, gate)?;
+            Ok(answer)
+        }
+        Err(fault) => {
+            let words = fault_text(alloc, fault)?;
+            let text = term_line(alloc, &words)?;
+            Ok(Answer::without_words(text, Status::BadNet))
+        }
+    }
+}
+
+// The net is rewritten by the workers, and what is left is printed, if it is small enough.
+fn rewrite<R: Threads + Wait + Sync, G: Gate + Sync>(
+    rt: &R,
+    alloc: Global,
+    net: &Net,
+    workers: u32,
+    fuel: u32,
+    gate: &G,
+) -> Result<Answer, NoMemory>
+    requires whole { count_by is_some net.now.nodes ≡ length net.now.nodes }
+    requires small { IsSmallNet net.now }
+    requires workers { (1 ≤ workers) × (workers ≤ 64) }
+    requires fuel { fuel ≤ 8000000 }
+    ensures answer { IfOk result (λ a. NetAnswer net.now fuel a.status a.text.items) }
+    ensures closed { IfOk result (λ a. a.closed ≡ None) }
+{
+    net.is_net();
+    match reduce(rt, alloc, net, workers, fuel, gate)? {
+        Reduced::Spent { .. } => {
+            let text = spent_line(alloc, fuel)?;
+            Ok(Answer::without_words(text, Status::Spent))
+        }
+        Reduced::Done {
+            net: last,
+            journal,
+            ..
+        } => {
+            last.is_net();
+            last.is_tabled();
+            let stuck = last.stuck();
+            if last.nodes() > MOST_NODES {
+                let answer = refusal(alloc, "limit nodes 200000", Status::Limit)?;
+                return Ok(answer);
+            }
+            let text = net_lines(alloc, &last, counts(&journal), stuck)?;
+            Ok(Answer::without_words(text, Status::Done))
+        }
+    }
+}
+
+// The lines of a net that is left: the interactions of each rule, the number of stuck pairs, these
+// pairs, and the net.
+fn net_lines(alloc: Global, last: &Net, counts: Counts, stuck: u32) -> Result<Vec<u8>, NoMemory>
+    requires few_nodes { length (net_of last.now).nodes ≤ 200000 }
+    requires few_ports { last.now.free ≤ 1000000 }
+    ensures { IfOk result (λ text. AreLinesOf last.now counts stuck text.items) }
+{
+    let mut text = count_lines(alloc, counts, stuck)?;
+    let pairs = stuck_text(alloc, last)?;
+    append(&mut text, &pairs)?;
+    let written = write_net(alloc, last)?;
+    append(&mut text, &written)?;
+    Ok(text)
+}
