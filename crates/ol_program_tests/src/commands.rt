@@ -17,7 +17,7 @@ const TRACE: &[u8] = b"ol trace 1\n0 1\n2 3\n4 1.1\n1.0 2.0\n";
 
 // What these words write, where the term stands in standard input and the journal in the file `j`;
 // call number `failing` of the source fails.
-fn written(
+pub fn written(
     rt: &(impl Abort + Threads + Wait + Sync),
     alloc: Global,
     line: &str,
@@ -40,7 +40,7 @@ fn written(
 
 // Asserts for each row the status, whether closed words are handed back, and the text: the words and
 // the term of the row, and these.
-fn assert_written(
+pub fn assert_written(
     rt: &(impl Abort + Threads + Wait + Sync),
     alloc: Global,
     journal: &[u8],
@@ -87,9 +87,10 @@ fn nets_are_viewed(rt: HostRuntime) -> Result<(), Fail> {
 
 #[test]
 fn runs_are_traced(rt: HostRuntime) -> Result<(), Fail> {
-    let whole = "ol trace 1\n0 1\n2 3\n4 1.1\n1.0 2.0\n";
-    let two = "ol trace 1\n0 1\n2 3\n";
-    let erased = "ol trace 1\n0 1\n3 4\n5 1.1\n1.0 2.0\n";
+    let whole =
+        "ol trace 2\nbeta 1 0 1\ncross-croissant 2 2 3\ncross-croissant 3 4 1.1\ncroissant 4 1.0 2.0\n";
+    let two = "ol trace 2\nbeta 1 0 1\ncross-croissant 2 2 3\n";
+    let erased = "ol trace 2\nbeta 1 0 1\nerase 2 3 4\nerase 3 5 1.1\nerase 4 1.0 2.0\n";
     let rows: [(&str, &[u8], Status, bool, &str); 4] = [
         ("trace -", TERM, Status::Done, true, whole),
         (
@@ -122,7 +123,7 @@ fn assert_found(
 #[test]
 fn journals_are_checked(rt: HostRuntime) -> Result<(), Fail> {
     let identity = b"\\x. x".as_slice();
-    let rows: [(&[u8], &[u8], &str); 11] = [
+    let rows: [(&[u8], &[u8], &str); 16] = [
         (TERM, TRACE, "complete\n"),
         (TERM, b"ol trace 1\n0 1\n2 3\n", "run 2\n"),
         (TERM, b"ol trace 1\n", "run 0\n"),
@@ -146,6 +147,11 @@ fn journals_are_checked(rt: HostRuntime) -> Result<(), Fail> {
         (TERM, b"ol trace 1\n0 1\n0 1\n", "not a run at line 3\n"),
         (identity, b"ol trace 1\n", "complete\n"),
         (identity, TRACE, "not a run at line 2\n"),
+        (TERM, b"ol trace 2\nbeta 1 0 1\n", "run 1\n"),
+        (TERM, b"ol trace 2\nfan 1 0 1\n", "not a run at line 2\n"),
+        (TERM, b"ol trace 2\nbeta 2 0 1\n", "not a run at line 2\n"),
+        (TERM, b"ol trace 2\nbeta 01 0 1\n", "bad text at line 2\n"),
+        (TERM, b"ol trace 3\n", "bad text at line 1\n"),
     ];
     for (term, journal, wanted) in rows {
         assert_found(&rt, rt.alloc(), "check - j", term, journal, wanted)?;

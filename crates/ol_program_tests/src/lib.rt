@@ -4,11 +4,17 @@
 #![tactic(auto)]
 
 #[cfg(test)]
+mod certificates;
+#[cfg(test)]
 mod commands;
+#[cfg(test)]
+mod equality;
 #[cfg(test)]
 mod fakes;
 #[cfg(test)]
 mod faults;
+#[cfg(test)]
+mod nets;
 #[cfg(test)]
 mod runs;
 #[cfg(test)]
