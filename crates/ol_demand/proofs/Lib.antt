@@ -1,0 +1,4 @@
+pub mod Pairs
+pub mod Chains
+pub mod OnChains
+pub mod Dropping
