@@ -112,6 +112,7 @@ impl Run {
         ensures err { OnErr result
             (AtMostOneStep net.old net.new x.0 ⊎ AtMostOneStep net.old net.new y.0) }
     {
+        net.is_net();
         if x.0 < y.0 {
             self.advance(net, x, y)
         } else {
