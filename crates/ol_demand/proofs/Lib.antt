@@ -3,3 +3,7 @@ pub mod Chains
 pub mod OnChains
 pub mod Dropping
 pub mod Paired
+pub mod UnderNames
+pub mod LiveNodes
+pub mod Entries
+pub mod UnderWays

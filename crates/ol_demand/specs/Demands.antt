@@ -1,5 +1,6 @@
 -- Demand order: subterms are asked in preorder, and only the pairs that their chains meet are rewritten.
 use Rattle.std.specs.Prelude.{◌≡◌, ℕ, suc, ◌<◌, ◌≤◌, ◌⊎◌, List, [], ◌∷◌, ◌++◌, length, map}
+use Rattle.ol_net.specs.declared.parts.Rule.{Rule}
 use Rattle.ol_net.specs.Nets.{NamedNet}
 use Rattle.ol_context.specs.Contexts.{Level, Context}
 use Rattle.ol_context.specs.Short.{live, IsOnce}
@@ -68,7 +69,7 @@ pub data Turn (heads : ℕ) (M : NamedNet NodeName) (ticket : ℕ) : Asking → 
 -- So many turns from net N, read from the root's frame: the journal and the places so far, the net, and what is to be read next.
 pub data Turns (N : NamedNet NodeName) (heads : ℕ) : ℕ → List Entry → List ReadNode → NamedNet NodeName → Asking → Type 0 where
   begins : Turns N heads 0 [] [] N (asks [] (whole_term ∷ []) 0)
-  then : {turns : ℕ} {journal es : List Entry} {places ns : List ReadNode} {M P : NamedNet NodeName} {a b : Asking} →
+  and_then : {turns : ℕ} {journal es : List Entry} {places ns : List ReadNode} {M P : NamedNet NodeName} {a b : Asking} →
       Turns N heads turns journal places M a → Turn heads M (length journal) a es ns P b →
       Turns N heads (suc turns) (journal ++ es) (places ++ ns) P b
 
@@ -90,9 +91,10 @@ pub record GoesOn (N : NamedNet NodeName) (heads : ℕ) (journal : List Entry) (
   pub later : List Subterm
   pub lams : ℕ
   pub run : Turns N heads turns journal places M (asks frames (subterm ∷ later) lams)
-  pub entry : Entry
-  pub net : NamedNet NodeName
-  pub meets : Meets heads M (length journal) frames subterm lams entry net
+  pub first : NodeName
+  pub second : NodeName
+  pub rule : Rule
+  pub meets : ChainEnds heads M frames subterm lams (met first second rule)
 
 -- it has more than so many steps
 abbrev pub HasMoreSteps : NamedNet NodeName → ℕ → ℕ → Type 0

@@ -4,5 +4,6 @@ pub mod Demands
 pub mod Laws
 pub mod Answers
 -- What only contracts of private functions and proofs cite.
+pub mod Asking
 pub mod Chaining
 pub mod Rewriting

@@ -5,6 +5,7 @@ ghost use Rattle.ol_context.specs.Shapes.{Extends};
 ghost use Rattle.ol_readback.specs.Frames.{frames_of, ParentsFirst, AreHeldFrames, AreAtPorts};
 ghost use Rattle.ol_readback.specs.Heads.{IsHeldHead};
 ghost use Rattle.ol_readback.specs.Skipping.{AreSkipsOf};
+ghost use Rattle.ol_demand.specs.Asking.{IsRunning, IsAnswered, IsSpentIfNone, IsStopped, IsHeldIfSome, IsKnownIfSome};
 
 use crate::answers::End;
 use crate::chaining::ask_once;
@@ -31,6 +32,23 @@ pub fn ask(
     skips: &Vec<Option<u32>>,
     at: u32,
 ) -> Result<Option<Head>, NoMemory>
+    requires running { IsRunning net.old run.old fuel }
+    requires last { at + 1 ≡ length frames.now.items }
+    requires parents { ParentsFirst (frames_of values.old frames.now.items) }
+    requires frames { AreHeldFrames values.old frames.now.items }
+    requires ports { AreAtPorts net.old.free frames.now.items }
+    requires skips { AreSkipsOf frames.now.items skips.now.items }
+    ensures answered { IfOk result
+        (IsAnswered net.old net.new run.old run.new (frames_of values.old frames.now.items)
+        values.new) }
+    ensures spent { IfOk result (IsSpentIfNone run.new fuel) }
+    ensures running { IfOk result (λ r. IsRunning net.new run.new fuel) }
+    ensures free { net.new.free ≡ net.old.free }
+    ensures stopped { OnErr result
+        (IsStopped net.old net.new run.old (frames_of values.old frames.now.items) fuel) }
+    ensures held { IfOk result (IsHeldIfSome values.new) }
+    ensures known { IfOk result (IsKnownIfSome net.new.free (frames_of values.old frames.now.items)) }
+    ensures extends { Extends values.old values.new }
 {
     let frame = &frames[at as usize];
     let mut lams: u32 = 0;

@@ -1,4 +1,6 @@
-use Rattle.ol_demand.proofs.Chains.{ends_one, no_path_at, path_at}
+use Rattle.ol_demand.proofs.UnderWays.{begun}
+use Rattle.ol_demand.proofs.Entries.{names_of_next}
+use Rattle.ol_demand.proofs.LiveNodes.{once, live_same}
 use Rattle.ol_demand.proofs.laws.demand_run_is_one.Goals as goal
 
 pub returns-clause-one : goal.returns-clause-one
