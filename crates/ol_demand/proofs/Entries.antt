@@ -64,7 +64,7 @@ module _ (g g' : Graph) (is_net : IsNet (net_of g)) (x y : ℕ) (r : Rule) (s : 
         let u = step_under m (one_name start (length g.nodes) t m n) (λ p. length g.nodes + p) (net_of g) s.f s.g r (net_of g') s.step in
         subst StepBy (λ i. λ p. n.born p i) u.0
 
-length-names_born : (t b : ℕ) → length (names_born t b) ≡ b
+pub length-names_born : (t b : ℕ) → length (names_born t b) ≡ b
 length-names_born t zero = refl
 length-names_born t (suc b) = let e = length-names_born t b in let l = length_push (names_born t b) (Born t b) in omega arith
 

@@ -7,3 +7,7 @@ pub mod UnderNames
 pub mod LiveNodes
 pub mod Entries
 pub mod UnderWays
+pub mod Questions
+pub mod Turning
+pub mod Needed
+pub mod SourceHeads

@@ -129,7 +129,7 @@ module _ (old g : Graph) (run : Run) (heads : ℕ) (places : List ReadNode) (F :
       go (inr a) = by y x (record { active = a; principal = inr refl })
 
   -- the step of x and y, of which x has the smaller number, and one of which the chain stands at
-  module _ (g' : Graph) (is_net : IsNet (net_of g)) (is_net' : IsNet (net_of g')) (x y z : ℕ) (lesser : x < y) (at : (z ≡ x) ⊎ (z ≡ y)) (b : (x < length g.nodes) × (y < length g.nodes))
+  module _ (g' : Graph) (is_net : IsNet (net_of g)) (x y z : ℕ) (lesser : x < y) (at : (z ≡ x) ⊎ (z ≡ y)) (b : (x < length g.nodes) × (y < length g.nodes))
       (l : Linked (net_of g) (slot x 0) (slot y 0)) (h : (f k : ℕ) (r : Rule) → IsAtPair (net_of g) (slot z 0) f k r → Ends (net_of g) s.port (asked s.levels n) (chain.met f k r)) (r : Rule) (st : StepsAt g g' x r) where
     principal : IsPrincipalOf st.f st.g (slot z 0)
     principal = go at (the_pair g g' is_net x y r st l)
@@ -156,33 +156,25 @@ module _ (old g : Graph) (run : Run) (heads : ℕ) (places : List ReadNode) (F :
     }
 
     -- the net after it, under any names that are these where there are nodes
-    made_by : (m : ℕ → NodeName) → ((k : ℕ) → k < length g'.nodes → m k ≡ u.names k) → Turns (start_of old) heads (suc u.turns) (run.journal ++ entry ∷ []) places (net_under m (net_of g')) (asks F (s ∷ ss) n)
-    made_by m e =
+    made_by : IsNet (net_of g') → (m : ℕ → NodeName) → ((k : ℕ) → k < length g'.nodes → m k ≡ u.names k) → Turns (start_of old) heads (suc u.turns) (run.journal ++ entry ∷ []) places (net_under m (net_of g')) (asks F (s ∷ ss) n)
+    made_by is_net' m e =
         let same = net_alike u.names m (net_of g') is_net' (λ x k i h. sym (e x (node_below g' x k i h))) in
         then_entry entry u.made (rewrites (subst (λ P. Meets heads M (length run.journal) F s n entry P) same meets_under))
 
     -- not written down
     pub stopped : (fuel : ℕ) → length run.journal < fuel → StopsOnTheWay old heads fuel g'
     stopped fuel b = record {
-      names = names_after u.names (length g'.nodes) (suc (length run.journal));
-      are_names = record { initial = named.initial; rising = λ j k h c. named.rising j k h };
+      names = u.names;
+      are_names = record { initial = u.are_names.naming.initial; rising = λ j k h c. u.are_names.naming.rising j k h };
       is = record {
         turns = suc u.turns;
         journal = run.journal ++ entry ∷ [];
         places = places;
         next = asks F (s ∷ ss) n;
-        run = made_by _ (λ k h. names_after_old u.names (length g'.nodes) (suc (length run.journal)) k h);
+        run = then_entry entry u.made (rewrites meets_under);
         within = omega (arith, length-append run.journal (entry ∷ []));
       };
     }
-      where
-        named : IsNaming (length old.nodes) (length g'.nodes) (suc (length run.journal)) (names_after u.names (length g'.nodes) (suc (length run.journal)))
-        named =
-            let q = st.numbers in
-            let e : length g.nodes + (length g'.nodes - length g.nodes) ≡ length g'.nodes = omega arith in
-            subst (λ k. IsNaming (length old.nodes) k (suc (length run.journal)) (names_after u.names k (suc (length run.journal)))) e
-            (is_naming (length old.nodes) (length g.nodes + (length g'.nodes - length g.nodes)) (suc (length run.journal)) _
-            (names_on (length old.nodes) (length g.nodes) (length run.journal) (length g'.nodes - length g.nodes) u.names (as_names (length old.nodes) (length g.nodes) (length run.journal) u.names u.are_names.naming)))
 
   -- the same without a step
   pub stops_here : (fuel : ℕ) → length run.journal ≤ fuel → StopsOnTheWay old heads fuel g
@@ -201,7 +193,7 @@ module _ (old g : Graph) (run : Run) (heads : ℕ) (places : List ReadNode) (F :
     are_names = names_of_next old g g' run run' u.names x y u.are_names c a;
     turns = suc u.turns;
     made = subst (λ (es : List Entry). Turns (start_of old) heads (suc u.turns) es places (net_under (after_step g' run u.names) (net_of g')) (asks F (s ∷ ss) n)) (sym written)
-        (made_by g' is_net a.is_net x y z lesser at b l h a.rule a.step (after_step g' run u.names) (λ k h. names_after_old u.names (length g'.nodes) (suc (length run.journal)) k h));
+        (made_by g' is_net x y z lesser at b l h a.rule a.step a.is_net (after_step g' run u.names) (λ k h. names_after_old u.names (length g'.nodes) (suc (length run.journal)) k h));
   }
     where
       written : run'.journal ≡ run.journal ++ record { rule = a.rule; first = u.names x; second = u.names y } ∷ []

@@ -30,3 +30,7 @@ pub record Advances (old new : Run) (g g' : Graph) (x y : ℕ) : Type 0 where
 -- the step of the pair x and y, the one with the smaller number first
 abbrev pub AdvancesEither : Run → Run → Graph → Graph → ℕ → ℕ → Type 0
 AdvancesEither old new g g' x y = ((x < y) × Advances old new g g' x y) ⊎ ((y < x) × Advances old new g g' y x)
+
+-- no memory was found for it
+abbrev pub StopsEither : Graph → Graph → ℕ → ℕ → Type 0
+StopsEither g g' x y = ((x < y) × AtMostOneStep g g' x) ⊎ ((y < x) × AtMostOneStep g g' y)

@@ -43,17 +43,19 @@ pub fn ask(
         values.new) }
     ensures spent { IfOk result (IsSpentIfNone run.new fuel) }
     ensures running { IfOk result (λ r. IsRunning net.new run.new fuel) }
-    ensures free { net.new.free ≡ net.old.free }
+    ensures free { IfOk result (λ r. net.new.free ≡ net.old.free) }
     ensures stopped { OnErr result
         (IsStopped net.old net.new run.old (frames_of values.old frames.now.items) fuel) }
     ensures held { IfOk result (IsHeldIfSome values.new) }
-    ensures known { IfOk result (IsKnownIfSome net.new.free (frames_of values.old frames.now.items)) }
+    ensures known { IfOk result
+        (IsKnownIfSome net.new.free (frames_of values.old frames.now.items)) }
     ensures extends { Extends values.old values.new }
 {
     let frame = &frames[at as usize];
     let mut lams: u32 = 0;
     let mut mark = values.empty();
     loop {
+        net.is_net();
         let end = ask_once(alloc, net, values, frame.port, &frame.levels, mark)?;
         match end {
             End::Met { first, second } => {

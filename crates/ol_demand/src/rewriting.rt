@@ -1,6 +1,6 @@
 //! Rewriting pairs, one after another, and writing them down under names.
 
-ghost use Rattle.std.specs.Prelude.{◌≡◌, ◌≤◌, ◌<◌, ◌+◌, ◌*◌, ◌-◌, ◌++◌, ◌⊎◌, [], length, IfOk, OnOk, OnErr};
+ghost use Rattle.std.specs.Prelude.{◌≡◌, ◌≤◌, ◌<◌, ◌+◌, ◌*◌, ◌-◌, ◌++◌, [], length, IfOk, OnOk, OnErr};
 ghost use Rattle.ol_net.specs.Nets.{IsNet};
 ghost use Rattle.ol_net.specs.Numbered.{net_of};
 ghost use Rattle.ol_rules.specs.Runs.{names_born};
@@ -8,7 +8,7 @@ ghost use Rattle.ol_rules.specs.Running.{name_in};
 ghost use Rattle.ol_rules.specs.Steps.{StepsAt};
 ghost use Rattle.ol_net.specs.declared.parts.Rule.{Rule};
 ghost use Rattle.ol_demand.specs.Chaining.{IsPair};
-ghost use Rattle.ol_demand.specs.Rewriting.{Advances, AdvancesEither, AtMostOneStep};
+ghost use Rattle.ol_demand.specs.Rewriting.{Advances, AdvancesEither, AtMostOneStep, StopsEither};
 
 use ol_io::NoMemory;
 use ol_net::{Net, NodeId, Rule};
@@ -109,8 +109,7 @@ impl Run {
         requires journal { length self.old.journal < 4294967295 }
         ensures ok { OnOk result
             (AdvancesEither self.old self.new net.old net.new x.0 y.0) }
-        ensures err { OnErr result
-            (AtMostOneStep net.old net.new x.0 ⊎ AtMostOneStep net.old net.new y.0) }
+        ensures err { OnErr result (StopsEither net.old net.new x.0 y.0) }
     {
         net.is_net();
         if x.0 < y.0 {

@@ -1,5 +1,5 @@
 use Rattle.std.proofs.Common.{inl, inr, arith}
-use Rattle.std.proofs.lemmas.Result.{on_ok_weaker}
+use Rattle.std.proofs.lemmas.Result.{on_ok_weaker, on_err_weaker}
 use Rattle.ol_net.specs.Numbered.{net_of}
 use Rattle.ol_demand.proofs.Paired.{turned, apart}
 use Rattle.ol_demand.proofs.rewriting.Run.rewrite_pair.Goals as goal
@@ -12,3 +12,9 @@ returns-else-x-y-clause-ok c =
     let p = c.requires.pair in
     let n = apart (net_of c.args.net.now) c.is_net.ensures.net c.args.x.0 c.args.y.0 p.0 p.1 in
     on_ok_weaker c.advance-else-x-y.result (λ a. inr (omega (arith, n, c.if-x-y.false), a)) c.advance-else-x-y.ensures.ok
+
+pub returns-else-x-y-clause-err : goal.returns-else-x-y-clause-err
+returns-else-x-y-clause-err c =
+    let p = c.requires.pair in
+    let n = apart (net_of c.args.net.now) c.is_net.ensures.net c.args.x.0 c.args.y.0 p.0 p.1 in
+    on_err_weaker c.advance-else-x-y.result (λ a. inr (omega (arith, n, c.if-x-y.false), a)) c.advance-else-x-y.ensures.err
