@@ -80,7 +80,7 @@ turn_ahead N M P many ticket es places ns a b is_net paths (one_more {F = F} {s 
 turn_ahead N M P many ticket es places ns a b is_net paths (finds {F = F} {s = s} {ss = ss} {n = n} {a = c} h f) x y =
     (λ rest r. subst (λ (ps : List ReadNode). HasHeadsOf N false ps) (sym (append_assoc places (place_of c ∷ []) rest)) (x (place_of c ∷ rest) (found_ahead N M is_net paths F s ss n y c f h.ends rest r)), tried_none N F s ss c)
 
-heads_ahead : {N M : NamedNet NodeName} {many turns : ℕ} {journal : List Entry} {places : List ReadNode} {a : Asking} → IsStart N → Turns N many turns journal places M a → Ahead N places a × Tried N a
+heads_ahead : {N : NamedNet NodeName} {many : ℕ} {M : NamedNet NodeName} {turns : ℕ} {journal : List Entry} {places : List ReadNode} {a : Asking} → IsStart N → Turns N many turns journal places M a → Ahead N places a × Tried N a
 heads_ahead s begins = (λ rest r. r, λ t ts e m b. absurd (omega arith))
 heads_ahead {N = N} {many = many} s (and_then {journal = journal} {es = es} {places = places} {ns = ns} {M = M} {P = P} {a = a} {b = b} r t) =
     let k = turns_kept s r in
