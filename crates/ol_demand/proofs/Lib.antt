@@ -11,3 +11,4 @@ pub mod Questions
 pub mod Turning
 pub mod Needed
 pub mod SourceHeads
+pub mod Places
