@@ -12,3 +12,5 @@ pub mod Turning
 pub mod Needed
 pub mod SourceHeads
 pub mod Places
+pub mod SameChains
+pub mod OneTurn
