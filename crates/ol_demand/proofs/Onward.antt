@@ -43,7 +43,7 @@ use Rattle.ol_demand.proofs.Needed.{needed}
 use Rattle.ol_demand.proofs.OneDemand.{no_more}
 use Rattle.ol_demand.proofs.SourceHeads.{heads_are_of_source}
 use Rattle.ol_demand.proofs.UnderNames.{once_under}
-use Rattle.ol_demand.proofs.UnderWays.{under_stops}
+use Rattle.ol_demand.proofs.UnderWays.{begun, under_stops}
 use Rattle.ol_rules.proofs.Relation.{same_refl}
 
 pub is_start : (old : Graph) → IsNet (net_of old) → IsStart (start_of old)
@@ -98,6 +98,11 @@ module _ (old g g' : Graph) (run run' : Run) (heads fuel free : ℕ) (vs : List 
     placed = subst (λ (gs : List Group). ArePlacedGroups free (length fs') gs) (sym q)
         (placed_add (net_of g) 0 0 free (length fs') gs r.1 (placed_more free (length fs) (length fs') gs (omega arith) b.placed) (subst (λ free. ArePlacedIn free (length fs') r.1) b.is_free (subst (ArePlacedIfSome g.free (length fs')) e p)));
   }
+
+  pub read_stops : (ws : List Level) (fs' : List code.Frame) (o : Option (ReadNode × Option Group)) (r : ReadNode × Option Group) → IsReadNext g g' run run' vs ws fs f fs' o → o ≡ Some r → IsRunning g' run' fuel → StopsOnTheWay old heads fuel g'
+  read_stops ws fs' o r h e c =
+      let t = (subst (IsReadNext g g' run run' vs ws fs f fs') e h) old heads nodes (pending_of vs gs) b.below b.under in
+      under_stops old g' run' heads fuel _ _ t c.within
 
   pub spent_read : (ws : List Level) (fs' : List code.Frame) (o : Option (ReadNode × Option Group)) → IsReadNext g g' run run' vs ws fs f fs' o → o ≡ None → IsLeftOff old g' run' heads
   spent_read ws fs' o h e = (subst (IsReadNext g g' run run' vs ws fs f fs') e h) old heads nodes (pending_of vs gs) b.below b.under
@@ -188,3 +193,31 @@ module _ (old g : Graph) (is_net : IsNet (net_of old)) (run : Run) (heads fuel :
 
   pub spent_more : IsSpent (answer.Spent run.journal) ↔ HasMoreSteps (start_of old) heads fuel
   spent_more = (λ e. (run.journal, net_under h.names (net_of g), h.goes_on, q), λ m. tt)
+
+-- before the root's frame is read
+pub first_before : (old : Graph) (run : Run) (heads fuel : ℕ) (vs : List Level) (fs : List code.Frame) (f : code.Frame) (nodes : List ReadNode) (gs : List Group) → IsNet (net_of old) → run.start ≡ length old.nodes → run.names.items ≡ [] → run.journal ≡ [] →
+    length old.nodes + 4 * fuel ≤ 2000000000 → 1 ≤ heads → 0 < old.free → fs ≡ [] → f ≡ record { port = 0; levels = []; parent = None; lams = 0 } → nodes ≡ [] → gs ≡ [] → Before old old run heads fuel old.free vs fs f nodes gs
+first_before old run heads fuel vs fs f nodes gs n s m j few h r efs ef en eg =
+    subst (λ (fs : List code.Frame). Before old old run heads fuel old.free vs fs f nodes gs) (sym efs)
+    (subst (λ (nodes : List ReadNode). Before old old run heads fuel old.free vs [] f nodes gs) (sym en)
+    (subst (λ (gs : List Group). Before old old run heads fuel old.free vs [] f [] gs) (sym eg)
+    (subst (λ (f : code.Frame). Before old old run heads fuel old.free vs [] f [] []) (sym ef) base)))
+  where
+    running : IsRunning old run fuel
+    running =
+        let a = ap (λ (ns : List NodeName). length ns) m in
+        let b = ap (λ (es : List Entry). length es) j in
+        record { names = omega (arith, s); within = omega arith; few = omega arith }
+
+    base : Before old old run heads fuel old.free vs [] (record { port = 0; levels = []; parent = None; lams = 0 }) [] []
+    base = record {
+      under = begun old run heads n s j;
+      running = running;
+      is_free = refl;
+      frames = record { parents = λ i p e. absurd (cc); held = tt; ports = tt };
+      frame = record { held = tt; port = r; parent = λ p e. absurd (cc); fresh = refl };
+      held = tt;
+      placed = tt;
+      below = omega arith;
+      few = omega arith;
+    }
