@@ -18,6 +18,7 @@ use Rattle.ol_rules.specs.Steps.{StepsAt}
 use Rattle.ol_rules.proofs.FreshPairs.{linked_sym}
 use Rattle.ol_rules.proofs.NameOrder.{Names, names_apart, names_after, names_after_old, names_on}
 use Rattle.ol_rules.proofs.Renaming.{step_under}
+use Rattle.ol_rules.proofs.UnderWay.{length-names_born}
 use Rattle.ol_demand.specs.Asking.{IsNaming, AreNamesOf}
 use Rattle.ol_demand.specs.Rewriting.{Advances}
 use Rattle.ol_demand.specs.declared.rewriting.Run.{Run}
@@ -61,10 +62,6 @@ module _ (g g' : Graph) (is_net : IsNet (net_of g)) (x y : ℕ) (r : Rule) (s : 
     named_step =
         let u = step_under m (one_name start (length g.nodes) t m n) (λ p. length g.nodes + p) (net_of g) s.f s.g r (net_of g') s.step in
         subst StepBy (λ i. λ p. n.born p i) u.0
-
-pub length-names_born : (t b : ℕ) → length (names_born t b) ≡ b
-length-names_born t zero = refl
-length-names_born t (suc b) = let e = length-names_born t b in let l = length_push (names_born t b) (Born t b) in omega arith
 
 name_born : (t b p : ℕ) (d : NodeName) → p < b → get_or (names_born t b) p d ≡ Born t p
 name_born t zero p d h = absurd (omega arith)

@@ -11,7 +11,7 @@ use Rattle.ol_rules.specs.declared.journal.Entry.{Entry}
 use Rattle.ol_rules.specs.declared.journal.NodeName.{NodeName}
 use Rattle.ol_rules.specs.Runs.{names_born}
 use Rattle.ol_readback.specs.declared.answers.ReadNode.{ReadNode}
-use Rattle.ol_demand.proofs.Entries.{length-names_born}
+use Rattle.ol_rules.proofs.UnderWay.{length-names_born}
 use Rattle.ol_rules.proofs.OneThread.{step_few}
 use Rattle.ol_readback.specs.Frames.{Frame, os, asked, frame_at, frame_of, frames_of, ParentsFirst, AreHeldFrames}
 use Rattle.ol_readback.specs.Heads.{Answer, IsMatched, matched, unmatched, answer_of}

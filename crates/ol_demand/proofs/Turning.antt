@@ -13,13 +13,9 @@ use Rattle.ol_rules.specs.Runs.{IsEntryStep, IsRun}
 use Rattle.ol_rules.proofs.OneRun.{name_same, name_test, fresh_names, named_after}
 use Rattle.ol_rules.proofs.Relation.{net_kept}
 use Rattle.ol_readback.specs.declared.answers.ReadNode.{ReadNode}
+use Rattle.ol_rules.proofs.RunsOn.{run_on}
 use Rattle.ol_demand.specs.Demands.{Asking, Turn, rewrites, one_more, finds, Turns, begins, and_then}
 use Rattle.ol_demand.specs.Laws.{IsStart}
-
--- a run goes on by an entry
-run_on : (N M P : NamedNet NodeName) (t u : ℕ) (es : List Entry) (e : Entry) → IsRun N t es M → u ≡ t + length es → IsEntryStep M u e P → IsRun N t (es ++ e ∷ []) P
-run_on N M P t u [] e IsRun.end q s = let q' : u ≡ t = omega arith in IsRun.then (subst (λ u. IsEntryStep N u e P) q' s) IsRun.end
-run_on N M P t u (d ∷ es) e (IsRun.then {M = K} d' r) q s = IsRun.then d' (run_on K M P (suc t) u es e r (omega arith) s)
 
 -- what a net is after so many entries
 pub record IsKept (N : NamedNet NodeName) (journal : List Entry) (M : NamedNet NodeName) : Type 0 where

@@ -18,7 +18,7 @@ use Rattle.ol_net.specs.declared.parts.Port.TheVariants.{Free, Of}
 use Rattle.ol_net.specs.Parts.{arity}
 use Rattle.ol_net.specs.Pairing.{other}
 use Rattle.ol_net.specs.Graph.{Graph, IsTabled, kind_at, has_slot, has_port, place, port_at, partner_of, facing_between, facing_across, facing_at}
-use Rattle.ol_net.specs.Nets.{NamedPort, free, slot, HasNode, Linked, IsPort, IsNet, Faces}
+use Rattle.ol_net.specs.Nets.{NamedPort, free, slot, HasNode, Linked, IsPort, IsNet, SameNet, Faces}
 use Rattle.ol_net.specs.Numbered.{numbered_port, nodes_from, links_from, net_of}
 use Rattle.ol_net.proofs.Tables.{other-past}
 use Rattle.ol_net.proofs.Places.{place-port_at, port_at-place, partner_in-some}
@@ -51,6 +51,15 @@ has_node g x k i = (
   λ h. let r = nodes_from-in g.nodes 0 x k i h in let e : x ≡ r.0 = omega arith in rw e r.2,
   λ h. nodes_from-has g.nodes 0 x x k i (omega arith) h,
 )
+
+-- equal nets have the same nodes under the same numbers
+pub same_kinds : (g h : Graph) → SameNet (net_of g) (net_of h) → (n : ℕ) → kind_at g.nodes n ≡ kind_at h.nodes n
+same_kinds g h same n = go (kind_at g.nodes n) (kind_at h.nodes n) refl refl
+  where
+    go : (o p : Option (Kind × ℕ)) → kind_at g.nodes n ≡ o → kind_at h.nodes n ≡ p → kind_at g.nodes n ≡ kind_at h.nodes n
+    go None None e f = e ∙ sym f
+    go (Some k) p e f = e ∙ sym ((has_node h n k.0 k.1).0 ((same.nodes n k.0 k.1).0 ((has_node g n k.0 k.1).1 e)))
+    go None (Some k) e f = (has_node g n k.0 k.1).0 ((same.nodes n k.0 k.1).1 ((has_node h n k.0 k.1).1 f)) ∙ sym f
 
 -- Links
 

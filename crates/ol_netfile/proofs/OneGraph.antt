@@ -9,19 +9,11 @@ use Rattle.ol_net.specs.Graph.{Graph, IsTabled, kind_at, has_port, place, port_a
 use Rattle.ol_net.specs.Pairing.{other}
 use Rattle.ol_net.specs.Nets.{SameNet}
 use Rattle.ol_net.specs.Numbered.{numbered_port, net_of}
-use Rattle.ol_net.proofs.Numbered.{has_node, linked, net_is_net, numbered_port-injective, partner_of-parts, partner_of-there}
+use Rattle.ol_net.proofs.Numbered.{has_node, same_kinds, linked, net_is_net, numbered_port-injective, partner_of-parts, partner_of-there}
 use Rattle.ol_net.proofs.Places.{place-port_at}
 use Rattle.ol_netfile.proofs.SameNets.{same-graph}
 
 -- equal nets have the same nodes under the same numbers
-kinds : (g h : Graph) → SameNet (net_of g) (net_of h) → (n : ℕ) → kind_at g.nodes n ≡ kind_at h.nodes n
-kinds g h same n = go (kind_at g.nodes n) (kind_at h.nodes n) refl refl
-  where
-    go : (o p : Option (Kind × ℕ)) → kind_at g.nodes n ≡ o → kind_at h.nodes n ≡ p → kind_at g.nodes n ≡ kind_at h.nodes n
-    go None None e f = e ∙ sym f
-    go (Some k) p e f = e ∙ sym ((has_node h n k.0 k.1).0 ((same.nodes n k.0 k.1).0 ((has_node g n k.0 k.1).1 e)))
-    go None (Some k) e f = (has_node g n k.0 k.1).0 ((same.nodes n k.0 k.1).1 ((has_node h n k.0 k.1).1 f)) ∙ sym f
-
 -- the same place has the same partner in the tables of two graphs with these nodes
 same-other : (g h : Graph) → IsTabled g.free g.nodes g.partners → IsTabled h.free h.nodes h.partners → SameNet (net_of g) (net_of h) → g.free ≡ h.free → g.nodes ≡ h.nodes → (k : ℕ) → other g.partners k ≡ other h.partners k
 same-other g h t u same free nodes k = elim (cases_Bool (has_port g.free g.nodes (port_at g.free k))) [
@@ -49,7 +41,7 @@ same-other g h t u same free nodes k = elim (cases_Bool (has_port g.free g.nodes
 pub one_graph : (g h : Graph) → IsTabled g.free g.nodes g.partners → IsTabled h.free h.nodes h.partners → SameNet (net_of g) (net_of h) → length g.nodes ≡ length h.nodes → g ≡ h
 one_graph g h t u same size =
     let free = same.free_ports in
-    let nodes : g.nodes ≡ h.nodes = ext_get_or None g.nodes h.nodes size (λ k lt. kinds g h same k) in
+    let nodes : g.nodes ≡ h.nodes = ext_get_or None g.nodes h.nodes size (λ k lt. same_kinds g h same k) in
     let long : length g.partners ≡ length h.partners = omega (arith, t.size, u.size, free, size) in
     let partners : g.partners ≡ h.partners = ext_get_or 0 g.partners h.partners long (λ k lt.
     let lt' : k < length h.partners = omega arith in

@@ -24,3 +24,4 @@ pub mod UnderNames
 pub mod BothWays
 pub mod OneRun
 pub mod StartNets
+pub mod RunsOn

@@ -129,7 +129,7 @@ module _ (g g' : Graph) (is_net : IsNet (net_of g)) (at partner : ℕ) (r : Rule
 abbrev pub AreFrom : ℕ → List NodeName → (ℕ → NodeName) → Type 0
 AreFrom start names m = (p : ℕ) (x : NodeName) → slice_get names p ≡ Some x → m (start + p) ≡ x
 
-length-names_born : (t b : ℕ) → length (names_born t b) ≡ b
+pub length-names_born : (t b : ℕ) → length (names_born t b) ≡ b
 length-names_born t zero = refl
 length-names_born t (suc b) = let e = length-names_born t b in omega (arith, length-append (names_born t b) (Born t b ∷ []))
 

@@ -11,7 +11,7 @@ use Rattle.ol_net.specs.Parts.{slots_of}
 use Rattle.ol_net.specs.Graph.{Graph, kind_at, has_slot, has_port, partner_of}
 use Rattle.ol_net.specs.Nets.{SameNet}
 use Rattle.ol_net.specs.Numbered.{numbered_port, net_of}
-use Rattle.ol_net.proofs.Numbered.{has_node, linked, net_is_net, numbered_port-injective, partner_of-parts, partner_of-there}
+use Rattle.ol_net.proofs.Numbered.{has_node, same_kinds, linked, net_is_net, numbered_port-injective, partner_of-parts, partner_of-there}
 use Rattle.ol_rules.proofs.Relation.{same_sym}
 use Rattle.ol_view.specs.Laws.{IsTable, EqualNetsAreShownAlike}
 use Rattle.ol_view.specs.ShowTexts.{index_text, partner_text, free_lines, partners_text, node_line, node_lines}
@@ -19,17 +19,9 @@ use Rattle.ol_net.specs.PartTexts.{kind_text, port_text}
 
 -- ---- equal nets have the same nodes under the same numbers, and the same partners
 
-kinds : (g h : Graph) → SameNet (net_of g) (net_of h) → (n : ℕ) → kind_at g.nodes n ≡ kind_at h.nodes n
-kinds g h same n = go (kind_at g.nodes n) (kind_at h.nodes n) refl refl
-  where
-    go : (o p : Option (Kind × ℕ)) → kind_at g.nodes n ≡ o → kind_at h.nodes n ≡ p → kind_at g.nodes n ≡ kind_at h.nodes n
-    go None None e f = e ∙ sym f
-    go (Some k) p e f = e ∙ sym ((has_node h n k.0 k.1).0 ((same.nodes n k.0 k.1).0 ((has_node g n k.0 k.1).1 e)))
-    go None (Some k) e f = (has_node g n k.0 k.1).0 ((same.nodes n k.0 k.1).1 ((has_node h n k.0 k.1).1 f)) ∙ sym f
-
 ports : (g h : Graph) → SameNet (net_of g) (net_of h) → (p : Port) → has_port g.free g.nodes p ≡ has_port h.free h.nodes p
 ports g h same (Free k) = ap (λ free. nat_lt k free) same.free_ports
-ports g h same (Of n s) = ap (λ o. has_slot o s) (kinds g h same n.0)
+ports g h same (Of n s) = ap (λ o. has_slot o s) (same_kinds g h same n.0)
 
 partner_kept : (g h : Graph) → IsTable g → IsTable h → SameNet (net_of g) (net_of h) → (p q : Port) → partner_of g p ≡ Some q → partner_of h p ≡ Some q
 partner_kept g h t u same p q e =
@@ -66,7 +58,7 @@ counts (x ∷ xs) (y ∷ ys) e =
     count_one x xs ∙ ap (λ x. cond (is_some x) 1 0 + count_by is_some xs) one ∙ ap (λ n. cond (is_some y) 1 0 + n) (counts xs ys (λ n. e (suc n))) ∙ sym (count_one y ys)
 
 pub live_alike : (g h : Graph) → SameNet (net_of g) (net_of h) → count_by is_some g.nodes ≡ count_by is_some h.nodes
-live_alike g h same = counts g.nodes h.nodes (kinds g h same)
+live_alike g h same = counts g.nodes h.nodes (same_kinds g h same)
 
 -- ---- so their lines are the same
 
@@ -107,7 +99,7 @@ lines_past g (suc n) past = elim (cases_lt n (length g.nodes)) [
 pub shown_alike : EqualNetsAreShownAlike
 shown_alike g h t u same =
     let all = length g.nodes + length h.nodes in
-    let k = kinds g h same in
+    let k = same_kinds g h same in
     let p = partners g h t u same in
     let count = live_alike g h same in
     let frees = free_same g h k p g.free ∙ ap (λ n. free_lines h n) same.free_ports in

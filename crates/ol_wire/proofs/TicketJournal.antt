@@ -23,6 +23,7 @@ use Rattle.ol_rules.proofs.Born.{at_most_two}
 use Rattle.ol_edges.proofs.Lists.{got_append}
 use Rattle.ol_rules.proofs.OneRun.{name_same, name_test}
 use Rattle.ol_rules.proofs.Relation.{next, net_kept}
+use Rattle.ol_rules.proofs.RunsOn.{run_on}
 use Rattle.ol_wire.specs.declared.layout.Parts.{Parts}
 use Rattle.ol_wire.specs.declared.plan.Plan.{Plan}
 use Rattle.ol_wire.specs.References.{node_ref, kind_in, index_in, place_in}
@@ -57,14 +58,6 @@ got_one_more {A} xs x y n h = go (got_append xs (x ∷ []) n y h)
 
 pub length_one_more : {A : Type 0} (xs : List A) (x : A) → length (xs ++ x ∷ []) ≡ suc (length xs)
 length_one_more xs x = omega (arith, length-append xs (x ∷ []))
-
--- a run goes on by one entry
-pub run_on : (N M P : NamedNet NodeName) (t u : ℕ) (es : List Entry) (e : Entry) → IsRun N t es M → u ≡ t + length es → IsEntryStep M u e P → IsRun N t (es ++ e ∷ []) P
-run_on N M P t u [] e IsRun.end h s =
-    let q : u ≡ t = omega arith in
-    let S : ℕ → Type 0 = λ u. IsEntryStep N u e P in
-    IsRun.then (subst S q s) IsRun.end
-run_on N M P t u (d ∷ es) e (IsRun.then {M = K} s' r) h s = IsRun.then s' (run_on K M P (suc t) u es e r (omega arith) s)
 
 pub played_on : (z : Parts) (N M P : NamedNet NodeName) (t u : ℕ) (es : List Event) (e : Event) (x y : NodeName) → IsPlayed z N t es M → u ≡ t + length es → (s : IsStep (λ place. Born u place) M x y e.rule P)
     → e.f ≡ node_ref s.active.k s.active.i (place_of z x) → e.g ≡ node_ref s.active.l s.active.j (place_of z y) → IsPlayed z N t (es ++ e ∷ []) P
