@@ -76,6 +76,14 @@ ol gen --ru 3
 ol gen -- --run
 ol gen -r 3
 ol gen --from-term 3
+ol demand
+ol demand a b
+ol demand --workers 1 -
+ol demand --fuel 8000001 -
+ol demand --heads 0 -
+ol demand --heads= -
+ol demand --steps 1 -
+ol demand --from-term -
 ol certify
 ol certify a b
 ol certify --steps 10001 -
@@ -184,6 +192,14 @@ ol gen --run 3 --translation 1|\
     Gen { translation: One, run: true, k: 3 }
 ol gen --translation 1 -- 3|\
     Gen { translation: One, run: false, k: 3 }
+ol demand -|\
+    Demand { translation: Two, fuel: 200000, heads: 4096, name: Word { text: \"-\" } }
+ol demand --fuel=0 a --heads 1 --translation 1|\
+    Demand { translation: One, fuel: 0, heads: 1, name: Word { text: \"a\" } }
+ol demand demand --fuel 8000000 --|\
+    Demand { translation: Two, fuel: 8000000, heads: 4096, name: Word { text: \"demand\" } }
+ol demand --heads=100000 -- --heads|\
+    Demand { translation: Two, fuel: 200000, heads: 100000, name: Word { text: \"--heads\" } }
 ol certify -|\
     Certify { translation: Two, steps: 1000, workers: 4, fuel: 200000, \
     heads: 4096, name: Word { text: \"-\" } }
