@@ -26,12 +26,12 @@ pub path_port : {N : NamedNet ℕ} → IsNet N → {p : NamedPort ℕ} {c : Cont
 path_port n {p = p} {q = q} (ends l) = (n.of_ports p (nets.free q) l).1
 path_port n (goes l h x r) = path_port n r
 
-port_is : {F : List Frame} {q : ℕ} {X : Context} {i l k : ℕ} {v : HeadVar} {ls : List Level} → Matches F q X i l v k ls → port_of F v ≡ q
+pub port_is : {F : List Frame} {q : ℕ} {X : Context} {i l k : ℕ} {v : HeadVar} {ls : List Level} → Matches F q X i l v k ls → port_of F v ≡ q
 port_is (here e f) = e
 port_is (above n e m) = port_is m
 port_is (name n e b o) = refl
 
-known : {F : List Frame} {q : ℕ} {X : Context} {i l k : ℕ} {v : HeadVar} {ls : List Level} → ParentsFirst F → Matches F q X i l v k ls → (n : ℕ) → i < n → IsKnown n v
+pub known : {F : List Frame} {q : ℕ} {X : Context} {i l k : ℕ} {v : HeadVar} {ls : List Level} → ParentsFirst F → Matches F q X i l v k ls → (n : ℕ) → i < n → IsKnown n v
 known h (here e f) n b = b
 known h (above {i = i} {p = p} z e m) n b = let c = h i p e in known h m n (omega arith)
 known h (name z e b' o) n b = tt

@@ -1,0 +1,13 @@
+pub mod Pairs
+pub mod Chains
+pub mod OnChains
+pub mod Dropping
+pub mod Paired
+pub mod UnderNames
+pub mod LiveNodes
+pub mod Entries
+pub mod UnderWays
+pub mod Questions
+pub mod Turning
+pub mod Needed
+pub mod SourceHeads

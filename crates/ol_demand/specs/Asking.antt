@@ -1,0 +1,89 @@
+-- Private: a demand run on its way.
+use Rattle.std.specs.Prelude.{◌≡◌, ℕ, ◌+◌, ◌*◌, ◌<◌, ◌≤◌, true, List, [], ◌∷◌, ◌++◌, length, Option, Some, None}
+use Rattle.ol_net.specs.Graph.{Graph}
+use Rattle.ol_net.specs.Nets.{net_under}
+use Rattle.ol_net.specs.Numbered.{net_of}
+use Rattle.ol_context.specs.Contexts.{Level}
+use Rattle.ol_rules.specs.declared.journal.NodeName.{NodeName}
+use Rattle.ol_rules.specs.declared.journal.NodeName.TheVariants.{Init, Born}
+use Rattle.ol_rules.specs.Names.{comes_before}
+use Rattle.ol_rules.specs.Running.{name_in}
+use Rattle.ol_readback.specs.Frames.{Frame}
+use Rattle.ol_readback.specs.Heads.{answer_of, IsHeldHead}
+use Rattle.ol_readback.specs.ReadTrees.{Subterm, framed, port_of}
+use Rattle.ol_readback.specs.Reading.{IsKnown}
+use Rattle.ol_readback.specs.declared.answers.Head.{Head}
+use Rattle.ol_readback.specs.declared.answers.Head.TheVariants as head
+use Rattle.ol_readback.specs.declared.answers.ReadNode.{ReadNode}
+use Rattle.ol_demand.specs.Demands.{Asking, asks, place_of, next, Turns, GoesOn}
+use Rattle.ol_demand.specs.Answers.{start_of, StopsOnTheWay}
+use Rattle.ol_demand.specs.declared.rewriting.Run.{Run}
+
+-- Names of all numbers: a start node's number names it, a greater number has a later name, and from next on come the nodes that
+-- this ticket will make.
+pub record IsNaming (start next ticket : ℕ) (m : ℕ → NodeName) : Type 0 where
+  pub room : start ≤ next
+  pub initial : (k : ℕ) → k < start → m k ≡ Init k
+  pub rising : (j k : ℕ) → j < k → comes_before (m j) (m k) ≡ true
+  pub born : (p : ℕ) → m (next + p) ≡ Born ticket p
+
+-- The names of a run's numbers, from the graph old to g.
+pub record AreNamesOf (old g : Graph) (run : Run) (m : ℕ → NodeName) : Type 0 where
+  pub naming : IsNaming (length old.nodes) (length g.nodes) (length run.journal) m
+  pub start : run.start ≡ length old.nodes
+  pub listed : (k : ℕ) → k < length g.nodes → name_in run.start run.names.items k ≡ m k
+
+-- The run has made turns of the demand run from the graph old, and this is what is to be read.
+pub record IsUnderWay (old g : Graph) (run : Run) (heads : ℕ) (places : List ReadNode) (a : Asking) : Type 0 where
+  pub names : ℕ → NodeName
+  pub are_names : AreNamesOf old g run names
+  pub turns : ℕ
+  pub made : Turns (start_of old) heads turns run.journal places (net_under names (net_of g)) a
+
+-- It has more turns that rewrite.
+pub record IsLeftOff (old g : Graph) (run : Run) (heads : ℕ) : Type 0 where
+  pub names : ℕ → NodeName
+  pub are_names : AreNamesOf old g run names
+  pub goes_on : GoesOn (start_of old) heads run.journal (net_under names (net_of g))
+
+-- there are as many names as numbers since the start, and room for all that the fuel allows
+pub record IsRunning (g : Graph) (run : Run) (fuel : ℕ) : Type 0 where
+  pub names : run.start + length run.names.items ≡ length g.nodes
+  pub within : length run.journal ≤ fuel
+  pub few : length g.nodes + 4 * fuel ≤ 2000000000 + 4 * length run.journal
+
+-- Whatever demand run it is, if the first subterm that is left has the last of the frames F and is asked for no abstraction yet,
+-- P holds of the graph it began with, of the number of heads, of the places, the other frames, this subterm and the later ones.
+abbrev pub Whatever : Graph → Run → List Frame → (Graph → ℕ → List ReadNode → List Frame → Subterm → List Subterm → Type 0) → Type 0
+Whatever g run F P =
+    (old : Graph) (heads : ℕ) (places : List ReadNode) (front : List Frame) (s : Subterm) (ss : List Subterm) →
+    F ≡ front ++ framed s 0 ∷ [] → length front < heads → IsUnderWay old g run heads places (asks front (s ∷ ss) 0) → P old heads places front s ss
+
+-- the subterm was found to be what h says, or the fuel is used up
+abbrev pub IsAnswered : Graph → Graph → Run → Run → List Frame → List Level → Option Head → Type 0
+IsAnswered g g' run run' F vs (Some h) =
+    Whatever g run F (λ old heads places front s ss. IsUnderWay old g' run' heads (places ++ place_of (answer_of vs h) ∷ []) (next front s ss (answer_of vs h)))
+IsAnswered g g' run run' F vs None = Whatever g run F (λ old heads places front s ss. IsLeftOff old g' run' heads)
+
+abbrev pub IsSpentIfNone : Run → ℕ → Option Head → Type 0
+IsSpentIfNone run fuel (Some h) = Unit {0}
+IsSpentIfNone run fuel None = length run.journal ≡ fuel
+
+-- no memory was found on the way
+abbrev pub IsStopped : Graph → Graph → Run → List Frame → ℕ → Type 0
+IsStopped g g' run F fuel = Whatever g run F (λ old heads places front s ss. StopsOnTheWay old heads fuel g')
+
+-- the level values of the answer are of this holder
+abbrev pub IsHeldIfSome : List Level → Option Head → Type 0
+IsHeldIfSome vs (Some h) = IsHeldHead vs h
+IsHeldIfSome vs None = Unit {0}
+
+-- the variable of the answer is a binder of one of these frames or a free name, and its port one of so many free ports
+abbrev pub IsKnownHead : ℕ → List Frame → Head → Type 0
+IsKnownHead free F (head.Is lams v args at) = IsKnown (length F) v × (port_of F v < free)
+IsKnownHead free F head.NoHead = Unit {0}
+IsKnownHead free F head.Budget = Unit {0}
+
+abbrev pub IsKnownIfSome : ℕ → List Frame → Option Head → Type 0
+IsKnownIfSome free F (Some h) = IsKnownHead free F h
+IsKnownIfSome free F None = Unit {0}

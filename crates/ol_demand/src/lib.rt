@@ -1,0 +1,22 @@
+//! Demand order: a net is read back, and only the active pairs that the walks of the reading meet
+//! are rewritten.
+//!
+//! Subterms are asked in preorder, each for 0 abstractions, then for 1, and so on. The chain of such
+//! a question is its walk up to the first active pair on the way. This pair is rewritten, and the
+//! same is asked again. So a part of the net that no head needs stays as it is.
+//!
+//! Each pair that is rewritten so is rewritten in every complete run, and each head that is found is
+//! that of the net before, since steps keep paths (Gonthier, Abadi and Lévy, The Geometry of Optimal
+//! Lambda Reduction, 1992).
+#![tactic(auto)]
+
+mod answers;
+mod asking;
+mod chaining;
+mod demanding;
+mod laws;
+mod rewriting;
+
+pub use answers::Demanded;
+pub use demanding::demand;
+pub use laws::{demand_run_is_one, each_pair_is_needed, heads_are_of_the_source};
