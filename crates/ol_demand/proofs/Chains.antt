@@ -14,6 +14,14 @@ use Rattle.ol_rules.proofs.OneRun.{ArePaired}
 use Rattle.ol_demand.specs.Chains.{IsAtPair, IsAtNoPair, Chain, starts, crosses, End, met, left, undefined, budget, Stands, at_pair, at_port, barred, at_last, Ends}
 use Rattle.ol_demand.proofs.Pairs.{other_of, no_free}
 
+-- two ends are the same, but for which of two nodes is given first
+abbrev pub Agree : {A : Type 0} → End A → End A → Type 0
+Agree (met f g r) (met f' g' r') = ArePaired f g f' g'
+Agree (left q X) (left q' X') = (q ≡ q') × (X ≡ X')
+Agree undefined undefined = Unit {0}
+Agree budget budget = Unit {0}
+Agree _ _ = ⊥
+
 module _ {A : Type 0} (N : NamedNet A) where
   -- a chain is a walk
   pub chain_way : {p : ℕ} {c : Context} {n : ℕ} {u : NamedPort A} {d : Context} → Chain N p c n u d → Way N (free p) c n u d
@@ -62,14 +70,6 @@ module _ {A : Type 0} (N : NamedNet A) where
         let y' : Stands N n q.port q.context end = subst (λ d. Stands N n q.port d end) e.1 (subst (λ u. Stands N n u _ end) e.0 y) in
         no_further y' q.alone q.few q.node q.at q.linked q.out q.after q.goes
 
-    -- two ends are the same, but for which of two nodes is given first
-    pub Agree : End A → End A → Type 0
-    Agree (met f g r) (met f' g' r') = ArePaired f g f' g'
-    Agree (left q X) (left q' X') = (q ≡ q') × (X ≡ X')
-    Agree undefined undefined = Unit {0}
-    Agree budget budget = Unit {0}
-    Agree _ _ = ⊥
-
     one_pair : (u : NamedPort A) (f g f' g' : A) (r r' : Rule) → IsAtPair N u f g r → IsAtPair N u f' g' r' → ArePaired f g f' g'
     one_pair u f g f' g' r r' a b = go a.principal b.principal
       where
@@ -92,7 +92,6 @@ module _ {A : Type 0} (N : NamedNet A) where
     unfree u q x s l k = let e = is_net.one_link u (free q) (slot x s) l k in absurd (cc)
 
     same_stand : (n : ℕ) (u : NamedPort A) (d : Context) {a b : End A} → Stands N n u d a → Stands N n u d b → Agree a b
-    unfolding Agree
     same_stand n u d (at_pair {f = f} {g = g} {r = r} y) (at_pair {f = f'} {g = g'} {r = r'} z) = one_pair u f g f' g' r r' y z
     same_stand n u d (at_pair {f = f} {g = g} {r = r} y) (at_port {q = q} z) = absurd (no_free N is_net u q z f g r y)
     same_stand n u d (at_pair {f = f} {g = g} {r = r} y) (barred z l x) = absurd (z f g r y)

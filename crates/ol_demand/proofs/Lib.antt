@@ -11,3 +11,6 @@ pub mod Questions
 pub mod Turning
 pub mod Needed
 pub mod SourceHeads
+pub mod Places
+pub mod SameChains
+pub mod OneTurn

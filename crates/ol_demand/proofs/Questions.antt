@@ -37,7 +37,7 @@ use Rattle.ol_demand.specs.declared.answers.End.TheVariants as answer
 use Rattle.ol_demand.specs.declared.rewriting.Run.{Run}
 use Rattle.ol_demand.proofs.Chains.{path_at}
 use Rattle.ol_demand.proofs.Paired.{both_below, linked_turned, turned}
-use Rattle.ol_demand.proofs.UnderWays.{rewritten, stopped, stops_here}
+use Rattle.ol_demand.proofs.UnderWays.{rewritten, stopped, under_stops}
 
 -- the list's last frame is that of subterm s
 module _ (vs : List Level) (fs : List code.Frame) (at : ℕ) (f : code.Frame) (b : at + 1 ≡ length fs) (e : f ≡ get_or fs at f) (front : List Frame) (s : Subterm) (z : frames_of vs fs ≡ front ++ framed s 0 ∷ []) where
@@ -135,7 +135,7 @@ module _ (old g g' : Graph) (run : Run) (heads : ℕ) (places : List ReadNode) (
   met_on run' c (inr t) = rewritten old g run heads places F s ss n below u g' run' is_net y x x t.0 (inr refl) (both.1, both.0) (linked_turned (net_of g) x y h.pair.1) h.ends c t.1
 
   pub met_stopped : (fuel : ℕ) → length run.journal < fuel → StopsEither g g' x y → StopsOnTheWay old heads fuel g'
-  met_stopped fuel b (inl (l, inl e)) = subst (λ g. StopsOnTheWay old heads fuel g) (sym e) (stops_here old g run heads places F s ss n below u fuel (omega arith))
+  met_stopped fuel b (inl (l, inl e)) = subst (λ g. StopsOnTheWay old heads fuel g) (sym e) (under_stops old g run heads fuel places (asks F (s ∷ ss) n) u (omega arith))
   met_stopped fuel b (inl (l, inr t)) = stopped old g run heads places F s ss n below u g' is_net x y x l (inl refl) both h.pair.1 h.ends t.0 t.1 fuel b
-  met_stopped fuel b (inr (l, inl e)) = subst (λ g. StopsOnTheWay old heads fuel g) (sym e) (stops_here old g run heads places F s ss n below u fuel (omega arith))
+  met_stopped fuel b (inr (l, inl e)) = subst (λ g. StopsOnTheWay old heads fuel g) (sym e) (under_stops old g run heads fuel places (asks F (s ∷ ss) n) u (omega arith))
   met_stopped fuel b (inr (l, inr t)) = stopped old g run heads places F s ss n below u g' is_net y x x l (inr refl) (both.1, both.0) (linked_turned (net_of g) x y h.pair.1) h.ends t.0 t.1 fuel b

@@ -64,6 +64,14 @@ module _ {N M : NamedNet NodeName} {heads turns : ℕ} {journal : List Entry} {p
   then_entry : {P : NamedNet NodeName} (e : Entry) → Turns N heads turns journal places M a → Turn heads M (length journal) a (e ∷ []) [] P b → Turns N heads (suc turns) (journal ++ e ∷ []) places P b
   then_entry {P} e r t = subst (λ (ns : List ReadNode). Turns N heads (suc turns) (journal ++ e ∷ []) ns P b) (append-nil places) (and_then r t)
 
+-- a run under way is a front part
+pub under_stops : (old g : Graph) (run : Run) (heads fuel : ℕ) (places : List ReadNode) (a : Asking) → IsUnderWay old g run heads places a → length run.journal ≤ fuel → StopsOnTheWay old heads fuel g
+under_stops old g run heads fuel places a u b = record {
+  names = u.names;
+  are_names = record { initial = u.are_names.naming.initial; rising = λ j k h c. u.are_names.naming.rising j k h };
+  is = record { turns = u.turns; journal = run.journal; places = places; next = a; run = u.made; within = b };
+}
+
 module _ (old g : Graph) (run : Run) (heads : ℕ) (places : List ReadNode) (F : List Frame) (s : Subterm) (ss : List Subterm) (n : ℕ) (below : length F < heads) (u : IsUnderWay old g run heads places (asks F (s ∷ ss) n)) where
   abbrev M : NamedNet NodeName
   M = net_under u.names (net_of g)
@@ -175,14 +183,6 @@ module _ (old g : Graph) (run : Run) (heads : ℕ) (places : List ReadNode) (F :
         within = omega (arith, length-append run.journal (entry ∷ []));
       };
     }
-
-  -- the same without a step
-  pub stops_here : (fuel : ℕ) → length run.journal ≤ fuel → StopsOnTheWay old heads fuel g
-  stops_here fuel b = record {
-    names = u.names;
-    are_names = record { initial = u.are_names.naming.initial; rising = λ j k h c. u.are_names.naming.rising j k h };
-    is = record { turns = u.turns; journal = run.journal; places = places; next = asks F (s ∷ ss) n; run = u.made; within = b };
-  }
 
   -- a step that was written down
   pub rewritten : (g' : Graph) (run' : Run) → IsNet (net_of g) → (x y z : ℕ) → x < y → (z ≡ x) ⊎ (z ≡ y) → (x < length g.nodes) × (y < length g.nodes) → Linked (net_of g) (slot x 0) (slot y 0) →

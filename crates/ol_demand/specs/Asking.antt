@@ -65,7 +65,7 @@ IsAnswered g g' run run' F vs (Some h) =
     Whatever g run F (λ old heads places front s ss. IsUnderWay old g' run' heads (places ++ place_of (answer_of vs h) ∷ []) (next front s ss (answer_of vs h)))
 IsAnswered g g' run run' F vs None = Whatever g run F (λ old heads places front s ss. IsLeftOff old g' run' heads)
 
-abbrev pub IsSpentIfNone : Run → ℕ → Option Head → Type 0
+abbrev pub IsSpentIfNone : {T : Type 0} → Run → ℕ → Option T → Type 0
 IsSpentIfNone run fuel (Some h) = Unit {0}
 IsSpentIfNone run fuel None = length run.journal ≡ fuel
 

@@ -12,7 +12,7 @@ use Rattle.ol_demand.specs.Chaining.{IsEndOf, IsUnchangedUnlessLeft}
 use Rattle.ol_demand.specs.Demands.{asks}
 use Rattle.ol_demand.specs.Asking.{IsRunning, IsUnderWay}
 use Rattle.ol_demand.specs.declared.answers.End.TheVariants as answer
-use Rattle.ol_demand.proofs.UnderWays.{left_off, found_left, found_lost, found_spent, asked_more, stops_here}
+use Rattle.ol_demand.proofs.UnderWays.{left_off, found_left, found_lost, found_spent, asked_more, under_stops}
 use Rattle.ol_demand.proofs.Questions.{end_is, matched_last, known_head, running_on, free_on, journal_on, met_on, met_stopped}
 use Rattle.ol_demand.proofs.asking.ask.Goals as goal
 
@@ -36,7 +36,7 @@ ask_once-requires-clause-levels c =
     (held_this c.args.values.now c.args.frames.now.items c.args.at c.index-frame.result.now c.requires.frames (omega (arith, c.requires.last)) c.index-frame.ensures)
 
 pub returns-in_err-end-clause-stopped : goal.returns-in_err-end-clause-stopped
-returns-in_err-end-clause-stopped c = on_err c.from_residual.result (λ old heads places front s ss z b u. stops_here old c.loop-end.net c.loop-end.run heads places front s ss c.loop-end.lams b (c.loop-end.invariant.under old heads places front s ss z b u) c.args.fuel c.loop-end.invariant.running.within)
+returns-in_err-end-clause-stopped c = on_err c.from_residual.result (λ old heads places front s ss z b u. under_stops old c.loop-end.net c.loop-end.run heads c.args.fuel places (asks front (s ∷ ss) c.loop-end.lams) (c.loop-end.invariant.under old heads places front s ss z b u) c.loop-end.invariant.running.within)
 
 pub returns-then-len-fuel-clause-answered : goal.returns-then-len-fuel-clause-answered
 returns-then-len-fuel-clause-answered c = λ old heads places front s ss z b u.
@@ -89,7 +89,7 @@ leave_by-requires-clause-frames c =
     held_frames_more c.args.values.now c.ask_once.new.values c.args.frames.now.items x c.requires.frames
 
 pub returns-in_err-left-in-Left-clause-stopped : goal.returns-in_err-left-in-Left-clause-stopped
-returns-in_err-left-in-Left-clause-stopped c = on_err c.from_residual-in_err-left-in-Left.result (λ old heads places front s ss z b u. stops_here old c.loop-end.net c.loop-end.run heads places front s ss c.loop-end.lams b (c.loop-end.invariant.under old heads places front s ss z b u) c.args.fuel c.loop-end.invariant.running.within)
+returns-in_err-left-in-Left-clause-stopped c = on_err c.from_residual-in_err-left-in-Left.result (λ old heads places front s ss z b u. under_stops old c.loop-end.net c.loop-end.run heads c.args.fuel places (asks front (s ∷ ss) c.loop-end.lams) (c.loop-end.invariant.under old heads places front s ss z b u) c.loop-end.invariant.running.within)
 
 pub returns-in-Left-clause-answered : goal.returns-in-Left-clause-answered
 returns-in-Left-clause-answered c = λ old heads places front s ss z b u.
@@ -117,7 +117,7 @@ returns-then-lams-nodes-clause-answered c = λ old heads places front s ss z b u
     found_lost old c.loop-end.net c.loop-end.run heads places front s ss c.loop-end.lams b (c.loop-end.invariant.under old heads places front s ss z b u) e (omega (arith, c.if-lams-nodes.true, c.nodes.ensures.nodes))
 
 pub returns-in_err-mark-in-Undefined-clause-stopped : goal.returns-in_err-mark-in-Undefined-clause-stopped
-returns-in_err-mark-in-Undefined-clause-stopped c = on_err c.from_residual-in_err-mark-in-Undefined.result (λ old heads places front s ss z b u. stops_here old c.loop-end.net c.loop-end.run heads places front s ss c.loop-end.lams b (c.loop-end.invariant.under old heads places front s ss z b u) c.args.fuel c.loop-end.invariant.running.within)
+returns-in_err-mark-in-Undefined-clause-stopped c = on_err c.from_residual-in_err-mark-in-Undefined.result (λ old heads places front s ss z b u. under_stops old c.loop-end.net c.loop-end.run heads c.args.fuel places (asks front (s ∷ ss) c.loop-end.lams) (c.loop-end.invariant.under old heads places front s ss z b u) c.loop-end.invariant.running.within)
 
 pub loop-end-preserved : goal.loop-end-preserved
 loop-end-preserved c =
