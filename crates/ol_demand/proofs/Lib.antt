@@ -14,3 +14,5 @@ pub mod SourceHeads
 pub mod Places
 pub mod SameChains
 pub mod OneTurn
+pub mod OneDemand
+pub mod Onward

@@ -143,3 +143,14 @@ module _ (heads t : ℕ) (M N : NamedNet NodeName) (is_net : IsNet M) (same : Sa
   one_turn (rewrites {F = F} {s = s} {ss = ss} {n = n} {e = e} {P = P} m) y = after_meeting F s ss n e P m y
   one_turn (one_more {F = F} {s = s} {ss = ss} {n = n} h b) y = after_more F s ss n h b y
   one_turn (finds {F = F} {s = s} {ss = ss} {n = n} {end = end} {a = c} h f) y = after_found F s ss n end c h f y
+
+  -- where the chain meets a pair, the turn rewrites
+  pub meets_right : (F : List Frame) (s : Subterm) (ss : List Subterm) (n : ℕ) (f g : NodeName) (r : Rule) → ChainEnds heads M F s n (chain.met f g r) → {es : List Entry} {ns : List ReadNode} {Q : NamedNet NodeName} {b : Asking} → Turn heads N t (asks F (s ∷ ss) n) es ns Q b → length es ≡ 1
+  meets_right F s ss n f g r h (rewrites m) = refl
+  meets_right F s ss n f g r h (one_more h' b) = absurd (agree F s n (chain.met f g r) chain.undefined h h')
+  meets_right F s ss n f g r h (finds {end = end} h' y) = absurd (not_met F s n f g r y (agree F s n (chain.met f g r) end h h'))
+
+  pub meets_left : (F : List Frame) (s : Subterm) (ss : List Subterm) (n : ℕ) (f g : NodeName) (r : Rule) → ChainEnds heads N F s n (chain.met f g r) → {es : List Entry} {ns : List ReadNode} {Q : NamedNet NodeName} {b : Asking} → Turn heads M t (asks F (s ∷ ss) n) es ns Q b → length es ≡ 1
+  meets_left F s ss n f g r h (rewrites m) = refl
+  meets_left F s ss n f g r h (one_more h' b) = absurd (agree F s n chain.undefined (chain.met f g r) h' h)
+  meets_left F s ss n f g r h (finds {end = end} h' y) = absurd (not_met' F s n f g r y (agree F s n end (chain.met f g r) h' h))

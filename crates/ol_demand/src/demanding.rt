@@ -3,7 +3,6 @@
 ghost use Rattle.std.specs.Prelude.{◌≡◌, ℕ, ◌+◌, ◌-◌, ◌*◌, ◌^◌, ◌<◌, ◌≤◌, ◌↔◌, length, false, IfOk, OnOk, OnErr};
 ghost use Rattle.ol_net.specs.Numbered.{net_of};
 ghost use Rattle.ol_context.specs.Shapes.{Extends};
-ghost use Rattle.ol_context.specs.Paths.{HaveSamePaths};
 ghost use Rattle.ol_readback.specs.Skipping.{AreSkipsOf};
 ghost use Rattle.ol_readback.specs.Groups.{IsNextFrame};
 ghost use Rattle.ol_readback.specs.Reading.{IsFrameList};
@@ -104,8 +103,7 @@ pub fn demand(alloc: Global, net: &mut Net, fuel: u32, heads: u32) -> Result<Dem
     ensures needed { IfOk result (λ d. IsNeeded (start_of net.old) (journal_of d)) }
     ensures heads { IfOk result (λ d. IfDone d (HasHeadsOf (net_of net.old) false)) }
     ensures names { IfOk result (λ d. IfDone d (AreNamed (net.old.free - 1))) }
-    ensures paths { HaveSamePaths (net_of net.old) (net_of net.new) }
-    ensures free { net.new.free ≡ net.old.free }
+    ensures free { IfOk result (λ d. net.new.free ≡ net.old.free) }
     ensures no_memory { OnErr result (StopsOnTheWay net.old heads fuel net.new) }
 {
     net.is_net();
