@@ -1,5 +1,5 @@
 -- What comes of two files that are compared.
-use Rattle.std.proofs.Common.{◌≡◌, ℕ, Bool, List, length, Option, subst}
+use Rattle.std.proofs.Common.{◌≡◌, ℕ, Bool, List, Option, subst}
 use Rattle.ol_io.specs.Outside.{IsAllOf}
 use Rattle.ol_readback.specs.declared.answers.ReadNode.{ReadNode}
 use Rattle.ol_words.specs.Texts.{Text}

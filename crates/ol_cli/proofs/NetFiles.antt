@@ -1,8 +1,7 @@
 -- What the bytes of a file with a net are answered, and that this is one status.
-use Rattle.std.proofs.Common.{◌≡◌, ◌≢◌, ℕ, suc, ◌+◌, ◌<◌, ◌≤◌, List, [], ◌∷◌, ◌++◌, length, Option, Some, None, count_by, is_some, true, inl, inr, ◌⊎◌, refl, sym, ap, ◌∙◌, subst, arith}
+use Rattle.std.proofs.Common.{◌≡◌, ◌≢◌, ℕ, suc, ◌≤◌, List, [], ◌∷◌, length, Option, Some, None, count_by, is_some, inl, inr, ◌⊎◌, refl, sym, ap, ◌∙◌, subst, arith}
 use Rattle.ol_io.specs.Outside.{Rose}
 use Rattle.ol_net.specs.declared.parts.Kind.{Kind}
-use Rattle.ol_net.specs.declared.parts.Port.{Port}
 use Rattle.ol_net.specs.Graph.{Graph}
 use Rattle.ol_net.specs.Indexes.{top_index_of}
 use Rattle.ol_net.specs.Nets.{IsNet}
@@ -11,7 +10,7 @@ use Rattle.ol_net.proofs.Linking.{length-all_live}
 use Rattle.ol_net.proofs.Numbered.{net_is_net}
 use Rattle.ol_netfile.specs.declared.faults.NetFault.{NetFault}
 use Rattle.ol_netfile.specs.declared.faults.NetFault.TheVariants as fault
-use Rattle.ol_netfile.specs.NetTexts.{Front, nothing, titled, so_far, Adds, title, free, node, link, Lines, none, more, IsNetText, IsNetRead, IsNetFault}
+use Rattle.ol_netfile.specs.NetTexts.{Front, nothing, titled, so_far, Adds, title, free, node, link, Lines, none, more, IsNetRead, IsNetFault}
 use Rattle.ol_netfile.proofs.SameNets.{net_is_one}
 use Rattle.ol_netfile.proofs.Unique.{text-few}
 use Rattle.ol_netfile.proofs.OneText.{net_has_no_fault}
@@ -21,9 +20,9 @@ use Rattle.ol_wire.specs.Sizes.{IsSmallNet}
 use Rattle.ol_words.specs.Texts.{Text}
 use Rattle.ol_cli.specs.declared.status.Status.{Status}
 use Rattle.ol_cli.specs.declared.status.Status.TheVariants.{Done, Usage, Syntax, Spent, ReadFault, WriteFault, NoMemory, Limit, BadNet}
-use Rattle.ol_cli.specs.Texts.{nodes_text, spent_text}
+use Rattle.ol_cli.specs.Texts.{nodes_text}
 use Rattle.ol_cli.specs.NetAnswers.{NetRunsOut, NetRunEnds, IsPastNodes, PrintsNet, NetAnswer, IsNetFile, NetFileAnswer, long, bad, of_net}
-use Rattle.ol_cli.specs.Answers.{Seen, GaveWithin, NetCause, failed, past, given}
+use Rattle.ol_cli.specs.Answers.{Seen, NetCause, failed, past, given}
 use Rattle.ol_cli.proofs.Handing.{whole_net}
 use Rattle.ol_cli.proofs.NetRuns.{one_left, left_or_runs_out}
 

@@ -20,7 +20,6 @@ use Rattle.ol_translate.specs.Translation.{translation_of}
 use Rattle.ol_translate.specs.Names.{HasNames}
 use Rattle.ol_translate.proofs.Whole.{translation_net}
 use Rattle.ol_readback.specs.Heads.{live}
-use Rattle.ol_readback.specs.Sources.{HasHeadsOf}
 use Rattle.ol_readback.specs.Terms.{HasAllHeads, IsReadBack}
 use Rattle.ol_readback.proofs.Sources.{own_heads, read_heads}
 use Rattle.ol_readback.proofs.Forests.{tree_is_whole, heads_are_whole}
@@ -71,7 +70,7 @@ prints_tree tr t names fuel heads text has p read =
     record {
       prints = p;
       own_heads = own;
-      says = λ e. places_say t (length names) has (s.stuck == 0) whole.tree s.tree whole.is_list (subst (λ tr. HasHeadsOf (translation_of tr t (length names)) (s.stuck == 0) s.tree) e own);
+      says = places_say tr t (length names) has (s.stuck == 0) whole.tree s.tree whole.is_list own;
       read_again = read;
     }
 
@@ -84,7 +83,7 @@ walks_tree tr t names edges heads text has w read =
     record {
       walks = w;
       own_heads = own;
-      says = λ e. places_say t (length names) has false whole.tree w.tree whole.is_list (subst (λ tr. HasHeadsOf (translation_of tr t (length names)) false w.tree) e own);
+      says = places_say tr t (length names) has false whole.tree w.tree whole.is_list own;
       read_again = read;
     }
 

@@ -1,6 +1,5 @@
 -- Private: words of private contracts alone: what comes of one of two files that are compared, and of the second once the first is read back.
 use Rattle.std.specs.Prelude.{◌≡◌, ◌≢◌, ℕ, List, length, None}
-use Rattle.ol_io.specs.Outside.{IsAllOf}
 use Rattle.ol_term.specs.Trees.{Tree}
 use Rattle.ol_readback.specs.Texts.{AreNamed}
 use Rattle.ol_readback.specs.declared.answers.ReadNode.{ReadNode}

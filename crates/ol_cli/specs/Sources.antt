@@ -1,9 +1,8 @@
 -- What is written for a job's own term, where its bytes are told: that of its file, or the one that `gen --run` makes.
-use Rattle.std.specs.Prelude.{◌≡◌, ℕ, ◌<◌, ◌==◌, true, false, List, length, Option, String}
+use Rattle.std.specs.Prelude.{ℕ, ◌<◌, ◌==◌, true, false, List, length, Option, String}
 use Rattle.std.specs.declared.alloc.Global.{Global}
 use Rattle.ol_io.specs.Outside.{Appended}
 use Rattle.ol_term.specs.declared.translations.Translation.{Translation}
-use Rattle.ol_term.specs.declared.translations.Translation.TheVariants.{One}
 use Rattle.ol_term.specs.Trees.{Tree}
 use Rattle.ol_parse.specs.Parsed.{IsFileOf}
 use Rattle.ol_net.specs.Nets.{NamedNet}
@@ -26,23 +25,22 @@ use Rattle.ol_cli.specs.DemandOrder.{Demands}
 -- ---- the tree that is written
 
 -- What `run` prints of a term, and three facts of the tree whose text it prints. Each of its heads is the one that the term's own
--- translation gives, by paths of any length, and so is each place without a head where no pair is stuck. By translation 1, beta
--- reduction leads from the term to the tree's own term, with some term in the place of each place without a head or cut; where each
--- place has a head, leftmost reduction of the term ends in the tree's own term, which is a beta-normal form; and where no pair is
--- stuck, head reduction of the term in a place without a head has no end, and leftmost reduction of the whole term ends in no normal
--- form. Where each of its places has a head, its text is in the grammar, and read back, with its free names numbered by these, it is
+-- translation gives, by paths of any length, and so is each place without a head where no pair is stuck. Beta reduction leads from
+-- the term to the tree's own term, with some term in the place of each place without a head or cut; where each place has a head,
+-- leftmost reduction of the term ends in the tree's own term, which is a beta-normal form; and where no pair is stuck, head reduction
+-- of the term in a place without a head has no end, and leftmost reduction of the whole term ends in no normal form. Where each of its places has a head, its text is in the grammar, and read back, with its free names numbered by these, it is
 -- the tree's own term, in which no application has an abstraction as its function.
 pub record PrintsTree (translation : Translation) (t : Tree) (names : List (List ℕ)) (fuel heads : ℕ) (text : List ℕ) : Type 0 where
   pub prints : Prints translation t names fuel heads text
   pub own_heads : HasHeadsOf (translation_of translation t (length names)) (prints.shows.stuck == 0) prints.shows.tree
-  pub says : translation ≡ One → SaysOf t (prints.shows.stuck == 0) prints.shows.tree
+  pub says : SaysOf t (prints.shows.stuck == 0) prints.shows.tree
   pub read_again : HasAllHeads prints.shows.tree → IsReadBack names prints.shows.tree prints.shows.term
 
 -- The same of `walk`, where nothing is said of the places without a head.
 pub record WalksTree (translation : Translation) (t : Tree) (names : List (List ℕ)) (edges heads : ℕ) (text : List ℕ) : Type 0 where
   pub walks : Walks translation t names edges heads text
   pub own_heads : HasHeadsOf (translation_of translation t (length names)) false walks.tree
-  pub says : translation ≡ One → SaysOf t false walks.tree
+  pub says : SaysOf t false walks.tree
   pub read_again : HasAllHeads walks.tree → IsReadBack names walks.tree walks.term
 
 -- The same of `demand`, where nothing is said of the places without a head. Each pair that it rewrites is, by birth names, rewritten

@@ -155,18 +155,11 @@ one_on N M t e m B tg s =
     named (inl h) = inl (ap m (sym h.0), ap m (sym h.1))
     named (inr h) = inr (ap m (sym h.1), ap m (sym h.0))
 
--- the pair of the step is that of its two nodes
-pub pair_f : (N M : NamedNet NodeName) (t : ℕ) (e : Entry) (m : NodeName → BirthName) (B : NamedNet BirthName) (tg : Together N t m B) (s : IsEntryStep N t e M) → (one_on N M t e m B tg s).pair.f ≡ m s.f
+-- the pair of the step is that of its two nodes, with the rule of the entry
+pub pair_is : (N M : NamedNet NodeName) (t : ℕ) (e : Entry) (m : NodeName → BirthName) (B : NamedNet BirthName) (tg : Together N t m B) (s : IsEntryStep N t e M) →
+    let p = (one_on N M t e m B tg s).pair in (p.f ≡ m s.f) × (p.g ≡ m s.g) × (p.rule ≡ e.rule)
 unfolding one_on
-pair_f N M t e m B tg s = refl
-
-pub pair_g : (N M : NamedNet NodeName) (t : ℕ) (e : Entry) (m : NodeName → BirthName) (B : NamedNet BirthName) (tg : Together N t m B) (s : IsEntryStep N t e M) → (one_on N M t e m B tg s).pair.g ≡ m s.g
-unfolding one_on
-pair_g N M t e m B tg s = refl
-
-pub pair_rule : (N M : NamedNet NodeName) (t : ℕ) (e : Entry) (m : NodeName → BirthName) (B : NamedNet BirthName) (tg : Together N t m B) (s : IsEntryStep N t e M) → (one_on N M t e m B tg s).pair.rule ≡ e.rule
-unfolding one_on
-pair_rule N M t e m B tg s = refl
+pair_is N M t e m B tg s = (refl, refl, refl)
 
 -- ---- runs
 

@@ -17,7 +17,7 @@ use Rattle.ol_diamond.specs.Laws.{RunByBirths}
 use Rattle.ol_diamond.specs.Waves.{WeightedNet, weightless, IsWaveStep, AreWaves}
 use Rattle.ol_diamond.proofs.Confluence.{rename}
 use Rattle.ol_diamond.proofs.Renaming.{IsRenamed, renamed_under}
-use Rattle.ol_diamond.proofs.Journals.{IsBefore, on_before, still_before, Together, one_on, pair_f, pair_g, pair_rule, by_number, start_apart, start_renamed, start_net}
+use Rattle.ol_diamond.proofs.Journals.{IsBefore, on_before, still_before, Together, one_on, pair_is, by_number, start_apart, start_renamed, start_net}
 use Rattle.ol_diamond.proofs.WavesTold.{Told, are_waves}
 use Rattle.ol_diamond.proofs.WavesTold as told
 
@@ -84,7 +84,8 @@ waved_along N P t (e ∷ es) (w ∷ ws) m B tg (goes {M = K} s r) =
     let of_f : b.names s.f ≡ m s.f = old s.f (tg.before s.f act.k act.i act.faces.first) in
     let of_g : b.names s.g ≡ m s.g = old s.g (tg.before s.g act.l act.j act.faces.second) in
     let here : BirthPair = record { f = b.names s.f; g = b.names s.g; rule = e.rule } in
-    let is : a.pair ≡ here = rename a.pair here (pair_f N.net K.net t e m B tg x ∙ sym of_f) (pair_g N.net K.net t e m B tg x ∙ sym of_g) (pair_rule N.net K.net t e m B tg x) in
+    let p = pair_is N.net K.net t e m B tg x in
+    let is : a.pair ≡ here = rename a.pair here (p.0 ∙ sym of_f) (p.1 ∙ sym of_g) p.2 in
     record {
       pairs = a.pair ∷ b.pairs;
       after = b.after;

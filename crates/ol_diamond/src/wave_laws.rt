@@ -1,5 +1,5 @@
 //! Waves: the round in which a pair would be rewritten if each round rewrote all pairs that are
-//! there. A run's greatest wave is its depth as a parallel computation.
+//! there.
 
 ghost use Rattle.ol_diamond.specs.Weights.{HeaviestOnTheWay, HeaviestIsLeft};
 ghost use Rattle.ol_diamond.specs.WaveLaws.{WavesAgree, EachPairHasItsWave, RunHasOneWaves, JournalWavesAgree, JournalHasOneWaves, StepHasWave, RunHasWaves, JournalHasWaves};

@@ -1,6 +1,6 @@
 //! The waves of a journal, found by a replay on a net whose ports have weights.
 
-ghost use Rattle.std.specs.Prelude.{◌≡◌, ℕ, suc, max, ◌+◌, ◌*◌, ◌≤◌, [], ◌∷◌, ◌++◌, length, true, false, slice_get, slice_index_or, IfOk, OnOk, IfSome, IfNone, option_map};
+ghost use Rattle.std.specs.Prelude.{◌≡◌, ◌↔◌, IsNone, ℕ, suc, max, ◌+◌, ◌*◌, ◌≤◌, [], ◌∷◌, ◌++◌, length, true, false, slice_get, slice_index_or, IfOk, OnOk, IfSome, IfNone, option_map};
 ghost use Rattle.ol_net.specs.declared.parts.Facing.TheVariants.{Active};
 ghost use Rattle.ol_net.specs.Graph.{place, kind_at, facing_at};
 ghost use Rattle.ol_net.specs.Nets.{slot, Linked, NamedNet, net_under};
@@ -45,11 +45,17 @@ impl WaveList {
         self.waves.len() as u32
     }
 
-    /// The wave of the entry with ticket `k`, if there are more than `k` entries.
+    /// The wave of the entry with ticket `k`. None comes exactly where `k` isn't below `len`.
     pub fn get(&self, k: u32) -> Option<u32>
-        ensures { result ≡ slice_get self.now k }
+        ensures wave { result ≡ slice_get self.now k }
+        ensures none { IsNone result ↔ (length self.now ≤ k) }
     {
-        self.waves.get(k as usize).copied()
+        let k = k as usize;
+        if k < self.waves.len() {
+            Some(self.waves[k])
+        } else {
+            None
+        }
     }
 }
 
@@ -77,9 +83,8 @@ pub struct Weighing {
 /// The waves of the entries of a journal: the round in which each pair would be rewritten if each
 /// round rewrote all pairs that are there. The links of the net have weight 0. The wave of an entry
 /// is one more than the weight of the link of its two nodes, the joins that it makes weigh as much
-/// as its wave, and of two edges that become one the greater weight stays. So no pair of a wave
-/// depends on another of it, and the greatest wave is the depth of the run as a parallel
-/// computation.
+/// as its wave, and of two edges that become one the greater weight stays. So a pair's wave is greater
+/// than those of the pairs whose rewriting made the link of its two nodes.
 ///
 /// The journal is that of a run from the net, whose nodes are named by their numbers. The net stays
 /// as it is. `NoMemory`: no memory was found.

@@ -178,11 +178,7 @@ module _ {τ : Translation} where
   occurs_new {N} {i = i} {z = z} (fun_n {M1 = M1} {M2 = M2} r e e') = or_left (occurs z (subst_for i N M1)) (occurs z (subst_for i N M2)) (occurs_new r)
   occurs_new {N} {i = i} {z = z} (arg_n {M1 = M1} {M2 = M2} v r e e') = or_right (occurs z (subst_for i N M1)) (occurs z (subst_for i N M2)) (occurs_new r)
 
--- the wire of an address occurs in M
-other_is : (i y z : ℕ) → nat_eq y y ≡ true
-other_is i y z = same_is y
-
-module _ {τ : Translation} where
+  -- the wire of an address occurs in M
   pub occurs_old : {N M : Tree} {i : ℕ} {y z : Wire} {a a' : Level} → WireOf τ N M i (ofM y a) z a' → occurs y M ≡ true
   occurs_old (same e f h) = h
   occurs_old (other {y = y} e) = same_is y

@@ -1,7 +1,7 @@
 -- From the term with N put in to the cut.
 use Rattle.std.proofs.Common.{◌≡◌, ℕ, zero, suc, true, false, Option, Some, None, refl, sym, ap, ◌∙◌, subst, arith}
 use Rattle.std.proofs.lemmas.Bool.{or_left, or_right, eqb-true}
-use Rattle.ol_meaning.specs.Spots.{Tree, var, free, lam, app, Level, empty, o, star, Context, Wire, bound, name, under, root, wire, Spot, at, body, fun, arg, Edge, var_wire, free_wire, lam_root, lam_own, lam_wire, app_root, app_arg, app_left, app_right, in_body, in_fun, in_arg, Trail, here, occurs, left, right, lift, up_from, lifted_wire, lifted, without, suc_of, wire_without, wire_of, put, subst_for, Cut, inM, inN, CutEdge, of_m, of_n, joint, Tag, ofM, ofN, WireOf, same, other, named, own, lam_m, lam_n, fun_m, arg_m, fun_n, arg_n, Held, at_root, wire_m, wire_n, x_spot, x_wire, p_body, p_fun, p_arg, n_body, n_fun, n_arg, i_body, i_fun, i_arg, IsRight, IsLevelOf, IsSpotOf, on, back}
+use Rattle.ol_meaning.specs.Spots.{Tree, var, free, lam, app, Level, empty, o, star, Context, Wire, bound, name, under, root, wire, Spot, at, body, fun, arg, Edge, var_wire, free_wire, lam_root, lam_own, lam_wire, app_root, app_arg, app_left, app_right, in_body, in_fun, in_arg, Trail, here, occurs, left, right, lift, up_from, lifted_wire, lifted, without, suc_of, wire_without, wire_of, put, subst_for, Cut, inM, inN, CutEdge, of_m, of_n, joint, ofM, ofN, WireOf, same, other, named, own, lam_m, lam_n, fun_m, arg_m, fun_n, arg_n, Held, at_root, wire_m, wire_n, x_spot, x_wire, p_body, p_fun, p_arg, n_body, n_fun, n_arg, i_body, i_fun, i_arg, IsRight, IsLevelOf, IsSpotOf, on, back}
 use Rattle.ol_meaning.proofs.Lifts.{same_is, occurs_lifted, lift_finds}
 use Rattle.ol_spots_net.proofs.Trails.{tr_trans, tr_map, one, one_back, tr_sym}
 use Rattle.ol_meaning.proofs.Addresses.{gone, without_is, without_own, left_one, right_one, sides_apart, occurs_new, occurs_old, own_occurs, occurs_same, occurs_more, in_body_of, own_same, zero_lifted, address_same, left_same, own_gone, bare_same, level_own, level_old, lam_level, app_level, var_level, free_level, spot_from, spot_to}
@@ -354,10 +354,6 @@ module _ {τ : Translation} where
           record { cut = inN w (at (wire x) l k); held = wire_n (lam_n (subst (λ u. WireOf τ N M (suc i) (ofN w x l) u a) e r)); trail = tr_trans t (body_trail z) (omega arith) }
 
 -- ---- an application
-
-record LeftOf (τ : Translation) (N M1 M2 : Tree) (i : ℕ) (t : Tag) (y : Wire) (a : Level) : Type 0 where
-  tag_level : Level
-  address : WireOf τ N M1 i t y a
 
 module _ {τ : Translation} where
   pub left_m : {N M1 M2 : Tree} {i : ℕ} {x y : Wire} {a w w' : Level} → WireOf τ N (app M1 M2) i (ofM x w) y w' → occurs y (subst_for i N M1) ≡ true → w' ≡ left (subst_for i N M2) y a → (a1 : Level) × WireOf τ N M1 i (ofM x a1) y a × (w ≡ left M2 x a1)

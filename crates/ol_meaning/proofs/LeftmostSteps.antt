@@ -72,11 +72,8 @@ leftmost_step (before {R = R} {P = P} e h) =
 
 -- ---- leftmost steps are one
 
-one_of : (a b : List ℕ) → Some a ≡ Some b → a ≡ b
-one_of a b e = cc
-
-tree_of : (a b : Tree) → Some a ≡ Some b → a ≡ b
-tree_of a b e = cc
+some_one : {X : Type 0} (a b : X) → Some a ≡ Some b → a ≡ b
+some_one a b e = cc
 
 pub same_step : (t : Tree) {u w : Tree} {at bt : List ℕ} → leftmost t ≡ Some at → contracted t at ≡ Some u → leftmost t ≡ Some bt → contracted t bt ≡ Some w → u ≡ w
-same_step t {u} {w} {at} {bt} e f g h = tree_of u w (sym f ∙ ap (contracted t) (one_of at bt (sym e ∙ g)) ∙ h)
+same_step t {u} {w} {at} {bt} e f g h = some_one u w (sym f ∙ ap (contracted t) (some_one at bt (sym e ∙ g)) ∙ h)

@@ -71,11 +71,6 @@ module _ {τ : Translation} where
   way_off (below {M = M} {M' = M'} h) = renamed flip_below below_flip (way_below M' M (Flip (Same τ h)) false (way_off h))
   way_off (before {R = R} {R' = R'} {P = P} e h) = renamed flip_before before_flip (way_before R' R P (Flip (Same τ h)) false (way_off h) (λ v' v r. sym (root_is τ h e v v' r)) (root_keeps τ h e))
 
-module _ (τ : Translation) where
-  -- a wire's values are the same only where it occurs, before and after
-  pub same_occurs : {t t' : Tree} (h : HeadStep t t') (y : Wire) (a a' : Level) → Same τ h (wire y) a a' → (occurs y t ≡ true) × (occurs y t' ≡ true)
-  same_occurs h y a a' r = ((way_on h).old y a a' r, (way_on h).new y a a' r)
-
 opened_same : (R : Tree) (u : Level) → is_abstraction R ≡ false → opened R u ≡ u
 opened_same (var y) u e = refl
 opened_same (free f) u e = refl

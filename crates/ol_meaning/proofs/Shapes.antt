@@ -6,7 +6,7 @@ use Rattle.ol_meaning.specs.Spots.{Tree, var, free, lam, app, Level, empty, o, s
 use Rattle.ol_meaning.specs.Heads.{os, outer, Spine, head_var, head_free, head_app, OutOf, up_root, up_own, up_wire, Normal, flat, layer, Arg, last, earlier, inner, hat_wire, hat_left, hat_up, StandsAt}
 use Rattle.ol_meaning.specs.Shows.{applied, IsVariable, IsHeadNormal}
 use Rattle.ol_meaning.specs.Seen.{unders}
-use Rattle.ol_meaning.proofs.Walking.{spine_outer}
+use Rattle.ol_meaning.proofs.Walking.{spine_outer, under_lam}
 use Rattle.ol_term.specs.declared.translations.Translation.{Translation}
 
 pub unders_bound : (l y : ℕ) → unders l (bound y) ≡ bound (l + y)
@@ -140,15 +140,9 @@ spine_applied : {y : Wire} (Ps : List Tree) (f : Tree) (a : Level) (j : ℕ) →
 spine_applied [] f a j s = (a, j, s)
 spine_applied {y} (P ∷ Ps) f a j s = spine_applied Ps (app f P) (left P y a) (suc j) (head_app s refl)
 
-normal_lam : {t : Tree} (p : Place) {v : Level} {j : ℕ} → Normal t p v j → (q : Place) × (a : Level) × (k : ℕ) × Normal (lam t) q a k
-normal_lam root {v = v} {j = j} k = (root, o v, j, layer k (up_root refl))
-normal_lam (wire (bound zero)) {v = v} {j = j} k = (root, star v, j, layer k (up_own refl refl))
-normal_lam (wire (bound (suc y))) {v = v} {j = j} k = (wire (bound y), v, j, layer k (up_wire refl refl))
-normal_lam (wire (name f)) {v = v} {j = j} k = (wire (name f), v, j, layer k (up_wire refl refl))
-
 normal_abstracted : (l : ℕ) (t : Tree) → (q : Place) × (a : Level) × (j : ℕ) × Normal t q a j → (q : Place) × (a : Level) × (j : ℕ) × Normal (abstracted l t) q a j
 normal_abstracted zero t k = k
-normal_abstracted (suc l) t k = let r = normal_abstracted l t k in normal_lam r.0 r.3
+normal_abstracted (suc l) t k = let r = normal_abstracted l t k in under_lam r.0 r.3
 
 head_spine : (h : Tree) → IsVariable h → (Ps : List Tree) → (q : Place) × (a : Level) × (j : ℕ) × Normal (applied h Ps) q a j
 head_spine (var y) i Ps = let r = spine_applied Ps (var y) empty 0 head_var in (wire (bound y), r.0, r.1, flat r.2)

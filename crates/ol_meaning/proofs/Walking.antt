@@ -104,10 +104,10 @@ module _ {τ : Translation} where
 
 -- ---- a head normal form, or a head step
 
-abbrev IsNormal : Tree → Type 0
+abbrev pub IsNormal : Tree → Type 0
 IsNormal t = (q : Place) × (a : Level) × (j : ℕ) × Normal t q a j
 
-under_lam : {t : Tree} (p : Place) {v : Level} {j : ℕ} → Normal t p v j → IsNormal (lam t)
+pub under_lam : {t : Tree} (p : Place) {v : Level} {j : ℕ} → Normal t p v j → IsNormal (lam t)
 under_lam root {v = v} {j = j} k = (root, o v, j, layer k (up_root refl))
 under_lam (wire (bound zero)) {v = v} {j = j} k = (root, star v, j, layer k (up_own refl refl))
 under_lam (wire (bound (suc y))) {v = v} {j = j} k = (wire (bound y), v, j, layer k (up_wire refl refl))

@@ -248,9 +248,6 @@ same_key τ d x Q y e h i =
 pub bare_there : (τ : Translation) (d x : ℕ) (Q : Tree) (y : Wire) (p : Port) → bare_variable τ d Q ≡ Some x → is_below d Q ≡ true → IsInside d y → occurs y Q ≡ true → wire_of (key d y) ((x, p) ∷ []) ≡ Some p
 bare_there τ d x Q y p e h i o = let t : nat_eq x (key d y) ≡ true = same_key τ d x Q y e h i ∙ o in rw t refl
 
-pub bare_not : (τ : Translation) (d x : ℕ) (Q : Tree) (y : Wire) (p : Port) → bare_variable τ d Q ≡ Some x → is_below d Q ≡ true → IsInside d y → occurs y Q ≡ false → wire_of (key d y) ((x, p) ∷ []) ≡ None
-bare_not τ d x Q y p e h i o = let t : nat_eq x (key d y) ≡ false = same_key τ d x Q y e h i ∙ o in rw t refl
-
 -- which of both it is
 pub bare_occurs : (τ : Translation) (d x : ℕ) (Q : Tree) (y : Wire) (p q : Port) → bare_variable τ d Q ≡ Some x → is_below d Q ≡ true → IsInside d y → wire_of (key d y) ((x, p) ∷ []) ≡ Some q → (occurs y Q ≡ true) × (q ≡ p)
 bare_occurs τ d x Q y p q e h i f =

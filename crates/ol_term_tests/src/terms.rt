@@ -1,8 +1,9 @@
 //! Lists of names, the names of binders, and printed terms.
 
 ghost use Rattle.std.specs.Prelude.{◌≡◌, ◌<◌, ◌≤◌, ◌^◌, true, length, IfOk};
-ghost use Rattle.ol_term.specs.Trees.{tree_of, var, free, lam, app, is_below, is_named_below, term_size, depth};
+ghost use Rattle.ol_term.specs.Trees.{tree_of, var, lam, app, term_size, depth};
 
+use ol_parse::parse;
 use ol_term::{BinderNames, Made, Names, Term, alpha_eq, depth, make, print_term, size};
 use std::alloc::Global;
 use std::test::Fail;
@@ -59,12 +60,6 @@ fn variable(alloc: Global, number: u32) -> Result<Box<Term>, Fail>
     Ok(Box::new(alloc, Term::Var(number))?)
 }
 
-fn name(alloc: Global, number: u32) -> Result<Box<Term>, Fail>
-    ensures { IfOk result (λ term. tree_of term.value ≡ free number) }
-{
-    Ok(Box::new(alloc, Term::Free(number))?)
-}
-
 fn abstraction(alloc: Global, body: Box<Term>) -> Result<Box<Term>, Fail>
     ensures { IfOk result (λ term. tree_of term.value ≡ lam (tree_of body.value)) }
 {
@@ -91,55 +86,39 @@ fn two_identities(alloc: Global) -> Result<Box<Term>, Fail>
     application(alloc, identity(alloc)?, identity(alloc)?)
 }
 
+/// A function that is an abstraction and an argument that is none stand in brackets, abstractions are
+/// gathered, and binders pass over the free names.
 #[test]
-fn a_function_that_is_an_abstraction_stands_in_brackets(rt: HostRuntime) -> Result<(), Fail> {
+fn terms_are_printed(rt: HostRuntime) -> Result<(), Fail> {
     let alloc = rt.alloc();
-    let term = two_identities(alloc)?;
-    let names = Names::new(alloc);
-    let text = print_term(alloc, &term, &names)?;
-    assert!(rt; text.as_slice() == b"(\\a. a) (\\a. a)".as_slice());
-    assert_eq!(rt; size(&term), 5);
-    assert_eq!(rt; depth(&term), 3);
+    for (input, wanted) in [
+        ("(\\x. x) (\\y. y)", "(\\a. a) (\\a. a)"),
+        ("\\x. \\y. x y a c", "\\b d. b d a c"),
+        ("\\f. f (f (\\x. f))", "\\a. a (a (\\b. a))"),
+    ] {
+        assert!(rt; input.len() <= 100);
+        let file = parse(alloc, input.as_bytes()).ok().ok_or("no term")?;
+        let text = print_term(alloc, &file.term, &file.names)?;
+        assert!(rt; text.as_slice() == wanted.as_bytes(), "{input}");
+    }
     Ok(())
 }
 
-/// `\x y. x y a`, where `a` and `c` are free.
+/// The size and the depth of a term, and what equals it.
 #[test]
-fn nested_abstractions_are_gathered(rt: HostRuntime) -> Result<(), Fail> {
-    let alloc = rt.alloc();
-    let names = two_names(alloc, b"c")?;
-    let two = application(alloc, variable(alloc, 1)?, variable(alloc, 0)?)?;
-    let three = application(alloc, two, name(alloc, 0)?)?;
-    let inner = abstraction(alloc, three)?;
-    let term = abstraction(alloc, inner)?;
-    let text = print_term(alloc, &term, &names)?;
-    assert!(rt; text.as_slice() == b"\\b d. b d a".as_slice());
-    Ok(())
-}
-
-/// `\f. f (f (\x. f))`
-#[test]
-fn arguments_stand_in_brackets(rt: HostRuntime) -> Result<(), Fail> {
-    let alloc = rt.alloc();
-    let names = Names::new(alloc);
-    let constant = abstraction(alloc, variable(alloc, 1)?)?;
-    let inner = application(alloc, variable(alloc, 0)?, constant)?;
-    let outer = application(alloc, variable(alloc, 0)?, inner)?;
-    let term = abstraction(alloc, outer)?;
-    let text = print_term(alloc, &term, &names)?;
-    assert!(rt; text.as_slice() == b"\\a. a (a (\\b. a))".as_slice());
-    Ok(())
-}
-
-#[test]
-fn terms_are_equal_as_trees(rt: HostRuntime) -> Result<(), Fail> {
+fn terms_are_compared_as_trees(rt: HostRuntime) -> Result<(), Fail> {
     let alloc = rt.alloc();
     let first = two_identities(alloc)?;
     let second = two_identities(alloc)?;
-    assert!(rt; alpha_eq(&first, &second));
-    assert!(rt; !alpha_eq(&first, &*identity(alloc)?));
-    assert!(rt; !alpha_eq(&Term::Free(0), &Term::Free(1)));
-    assert!(rt; !alpha_eq(&Term::Free(0), &Term::Var(0)));
+    assert!(rt; [size(&first), depth(&first)] == [5, 3]);
+    let identity = identity(alloc)?;
+    let answers = [
+        alpha_eq(&first, &second),
+        alpha_eq(&first, &identity),
+        alpha_eq(&Term::Free(0), &Term::Free(1)),
+        alpha_eq(&Term::Free(0), &Term::Var(0)),
+    ];
+    assert!(rt; answers == [true, false, false, false]);
     Ok(())
 }
 

@@ -1,8 +1,20 @@
-use Rattle.std.proofs.Common.{refl}
+use Rattle.std.proofs.Common.{◌≡◌, ℕ, Bool, true, false, List, refl, sym, subst}
+use Rattle.ol_term.specs.declared.translations.Translation.{Translation}
+use Rattle.ol_words.specs.Texts.{Text}
+use Rattle.ol_words.specs.Asked as jobs
+use Rattle.ol_cli.specs.declared.status.Status.{Status}
+use Rattle.ol_cli.specs.Jobs.{HasTermFile}
 use Rattle.std.proofs.lemmas.Result.{IfOk-weaker}
-use Rattle.ol_cli.specs.Answers.{by_file, by_making, by_net_file}
+use Rattle.ol_cli.specs.Answers.{Seen, NetCause, JobCause, by_file, by_making, by_net_file}
 use Rattle.ol_cli.proofs.ReadAgain.{made_read}
 use Rattle.ol_cli.proofs.top.answer_job.Goals as goal
+
+-- with its flag `net` has a term file, and without it the file of a net
+net_term : (tr : Translation) (b : Bool) (w fuel : ℕ) (name : Text) → b ≡ true → HasTermFile (jobs.net tr b w fuel name)
+net_term tr b w fuel name e = subst (λ b. HasTermFile (jobs.net tr b w fuel name)) (sym e) tt
+
+net_job : (s : Seen) (tr : Translation) (b : Bool) (w fuel : ℕ) (name : Text) (st : Status) (text : List ℕ) → b ≡ false → NetCause s name fuel st text → JobCause s st text (jobs.net tr b w fuel name)
+net_job s tr b w fuel name st text e h = subst (λ b. JobCause s st text (jobs.net tr b w fuel name)) (sym e) (by_net_file h)
 
 pub returns-in-Run-clause-caused : goal.returns-in-Run-clause-caused
 returns-in-Run-clause-caused g c = IfOk-weaker c.answer_file.result _ _ (λ a h. by_file (rw c.in-Run.is tt) h) c.answer_file.ensures.caused
@@ -57,3 +69,20 @@ answer_equal-requires-clause-first g c = λ κs alive. rw c.as_str-in-Equal.ensu
 
 pub answer_equal-requires-clause-second : goal.answer_equal-requires-clause-second
 answer_equal-requires-clause-second g c = λ κs alive. rw c.as_str-in-Equal-2.ensures (c.requires.known 1 c.in-Equal.second (rw c.in-Equal.is refl))
+
+pub answer_file-requires-then-from_term-clause-known : goal.answer_file-requires-then-from_term-clause-known
+answer_file-requires-then-from_term-clause-known g c = λ κs alive. rw c.as_str-then-from_term.ensures (c.requires.known 0 c.in-Net.name (rw c.in-Net.is refl))
+
+pub answer_net-requires-clause-known : goal.answer_net-requires-clause-known
+answer_net-requires-clause-known g c = λ κs alive. rw c.as_str-in-Net.ensures (c.requires.known 0 c.in-Net.name (rw c.in-Net.is refl))
+
+pub returns-then-from_term-clause-caused : goal.returns-then-from_term-clause-caused
+returns-then-from_term-clause-caused g c =
+    let v = c.in-Net in
+    IfOk-weaker c.answer_file-then-from_term.result _ _ (λ a h. by_file (rw v.is (net_term v.translation v.from_term v.workers v.fuel v.name c.if-from_term.true)) h) c.answer_file-then-from_term.ensures.caused
+
+pub returns-else-from_term-clause-caused : goal.returns-else-from_term-clause-caused
+returns-else-from_term-clause-caused g c =
+    let v = c.in-Net in
+    let caused = rw c.as_str-in-Net.ensures at c.answer_net.ensures.caused in
+    rw v.is (IfOk-weaker c.answer_net.result _ _ (λ a h. net_job _ v.translation v.from_term v.workers v.fuel v.name a.status a.text.items c.if-from_term.false h) caused)

@@ -9,13 +9,13 @@ unreachable-requires-in_default-get c =
     let b = c.loop-k-test.true in
     let r = c.requires in
     let t = wave_there c.args.waves.now c.loop-k.k (omega arith) in
-    c.in_default-get.not-Some t.0 (c.get-in-loop-k.ensures ∙ t.1)
+    c.in_default-get.not-Some t.0 (c.get-in-loop-k.ensures.wave ∙ t.1)
 
 pub loop-k-preserved : goal.loop-k-preserved
 loop-k-preserved c =
     let e = c.in-Some.entry in
     let w = c.in-Some-get.wave in
-    let t = wave_lines_on c.args.journal.now c.args.waves.now c.loop-k.k e w (sym c.get.ensures ∙ c.in-Some.is) (sym c.get-in-loop-k.ensures ∙ c.in-Some-get.is) in
+    let t = wave_lines_on c.args.journal.now c.args.waves.now c.loop-k.k e w (sym c.get.ensures ∙ c.in-Some.is) (sym c.get-in-loop-k.ensures.wave ∙ c.in-Some-get.is) in
     c.in_ok-put_wave_line.ensures
     ∙ ap (λ bs. bs ++ wave_line_text e w) c.loop-k.invariant
     ∙ append_assoc wave_header (wave_lines_text (take c.loop-k.k c.args.journal.now) (take c.loop-k.k c.args.waves.now)) (wave_line_text e w)
