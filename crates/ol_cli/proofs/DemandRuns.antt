@@ -1,6 +1,5 @@
 -- From the net that is read in demand order to what is printed of the term, which is one text.
-use Rattle.std.proofs.Common.{◌≡◌, ℕ, ◌+◌, ◌*◌, ◌<◌, ◌≤◌, List, [], ◌∷◌, length, refl, sym, ap, ◌∙◌, subst, arith}
-use Rattle.ol_edges.specs.Edges.{IsIn}
+use Rattle.std.proofs.Common.{◌≡◌, ℕ, ◌+◌, ◌<◌, ◌≤◌, List, [], ◌∷◌, length, sym, ap, ◌∙◌, subst, arith}
 use Rattle.ol_term.specs.declared.translations.Translation.{Translation}
 use Rattle.ol_term.specs.Trees.{Tree}
 use Rattle.ol_net.specs.declared.parts.Kind.{Kind}
@@ -15,14 +14,12 @@ use Rattle.ol_rules.specs.declared.journal.NodeName.TheVariants.{Init}
 use Rattle.ol_rules.specs.declared.journal.Entry.{Entry}
 use Rattle.ol_rules.specs.Counting.{counts_of}
 use Rattle.ol_rules.specs.Runs.{IsRun}
-use Rattle.ol_rules.proofs.Recount.{net_same}
 use Rattle.ol_rules.proofs.Relation.{same_refl}
 use Rattle.ol_rules.proofs.Same.{has_stuck_same}
 use Rattle.ol_rules.proofs.UnderNames.{same_under, has_stuck_under}
 use Rattle.ol_rules.proofs.UnderWay.{node_below}
 use Rattle.ol_diamond.proofs.OneThreadRuns.{goes_on_shorter}
 use Rattle.ol_translate.specs.Translation.{nodes_of, links_of, translation_of}
-use Rattle.ol_wire.specs.Sizes.{IsSmallNet}
 use Rattle.ol_readback.specs.Texts.{IsTextOf}
 use Rattle.ol_readback.specs.declared.answers.ReadNode.{ReadNode}
 use Rattle.ol_demand.specs.Answers.{start_of, StandsFor}

@@ -1,5 +1,5 @@
 -- The heads of one net are those of each net with the same paths.
-use Rattle.std.proofs.Common.{ℕ, Bool, List, [], ◌∷◌, ◌++◌, length}
+use Rattle.std.proofs.Common.{Bool, List, [], ◌∷◌, ◌++◌, length}
 use Rattle.ol_net.specs.Nets.{NamedNet}
 use Rattle.ol_context.specs.Paths.{HaveSamePaths}
 use Rattle.ol_readback.specs.Frames.{Frame}

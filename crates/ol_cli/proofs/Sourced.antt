@@ -100,7 +100,7 @@ demands_tree tr t names fuel heads text has d read =
     record {
       demands = d;
       own_heads = own;
-      says = λ e. places_say t (length names) has false whole.tree d.ends.tree whole.is_list (subst (λ tr. HasHeadsOf (translation_of tr t (length names)) false d.ends.tree) e own);
+      says = places_say tr t (length names) has false whole.tree d.ends.tree whole.is_list own;
       read_again = read;
       needed = needed s d.ends.run.run;
     }

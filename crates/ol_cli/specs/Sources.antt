@@ -48,7 +48,7 @@ pub record WalksTree (translation : Translation) (t : Tree) (names : List (List 
 pub record DemandsTree (translation : Translation) (t : Tree) (names : List (List ℕ)) (fuel heads : ℕ) (text : List ℕ) : Type 0 where
   pub demands : Demands translation t names fuel heads text
   pub own_heads : HasHeadsOf (translation_of translation t (length names)) false demands.ends.tree
-  pub says : translation ≡ One → SaysOf t false demands.ends.tree
+  pub says : SaysOf t false demands.ends.tree
   pub read_again : HasAllHeads demands.ends.tree → IsReadBack names demands.ends.tree demands.term
   pub needed : IsNeeded (start_net_of_term translation t names) demands.ends.journal
 
