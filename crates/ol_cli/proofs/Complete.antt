@@ -10,7 +10,7 @@ use Rattle.ol_net.specs.Nets.{IsNet}
 use Rattle.ol_translate.specs.Sizes.{size_of_translation}
 use Rattle.ol_translate.specs.Translation.{translation_of}
 use Rattle.ol_words.specs.Texts.{Text}
-use Rattle.ol_words.specs.Asked.{Asked, run, walk, view, trace, check, gen, certify}
+use Rattle.ol_words.specs.Asked.{Asked, run, walk, view, trace, check, gen, demand, certify}
 use Rattle.ol_words.specs.Asked as jobs
 use Rattle.ol_cli.specs.declared.status.Status.{Status}
 use Rattle.ol_cli.specs.declared.status.Status.TheVariants.{Done, Usage, Syntax, Spent, ReadFault, WriteFault, NoMemory, Limit, BadNet}
@@ -19,6 +19,7 @@ use Rattle.ol_cli.specs.Answers.{IsTermFile, FileAnswer, JournalAnswer, JobAnswe
 use Rattle.ol_cli.specs.Answers as answers
 use Rattle.ol_cli.specs.Completeness.{EndsWithinFuel, HasTermWithin, HasJournalWithin, CanDo, AskForWhatCanBeDone, IsDoneOrNothing}
 use Rattle.ol_cli.proofs.Exact.{ends_exact}
+use Rattle.ol_cli.proofs.DemandRuns.{demand_ends_or_not}
 use Rattle.ol_cli.proofs.OnePrint.{ends_or_runs_out}
 use Rattle.ol_cli.proofs.OneAnswer.{file_net, OfTerm, of_term, OfTree, OfFile, of_file_answer, OfJournal, of_journal_answer, one_bytes, one_job, own_job}
 use Rattle.ol_cli.proofs.OneAnswer as by
@@ -33,6 +34,8 @@ done_term t names _ n ends s x (by.printed p) = refl
 done_term t names _ n ends s x (by.walked w) = refl
 done_term t names _ n ends s x (by.viewed v) = refl
 done_term t names _ n ends s x (by.traced e) = refl
+done_term t names _ n ends s x (by.demanded d) = refl
+done_term t names _ n ends s x (by.undemanded {tr = tr} {fuel = fuel} {heads = heads} r e) = absurd (demand_ends_or_not tr t names n fuel heads r ends)
 done_term t names _ n ends s x (by.certified c) = refl
 done_term t names _ n ends s x (by.netted w) = refl
 done_term t names _ n ends s x (by.uncertified {tr = tr} {fuel = fuel} r e) = absurd (ends_or_runs_out tr t names n fuel r ends)
@@ -85,6 +88,7 @@ module _ (files : Text → Option (List ℕ)) where
   done_job (trace tr w f name) can s x (answers.of_file has e h) = done_told (trace tr w f name) name (files name) can refl _ e (trace tr w f name) refl can.ends s x h
   done_job (check tr term other) can s x (answers.of_file has e h) = done_told (check tr term other) term (files term) can.0 refl _ e (check tr term other) refl can.0.ends s x h
   done_job (check tr term other) can s x (answers.of_journal {trace = read} {t = t} {names = names} e i e' h) = done_on_journal other can.1 tr t names read e' s x h
+  done_job (demand tr f q name) can s x (answers.of_file has e h) = done_told (demand tr f q name) name (files name) can refl _ e (demand tr f q name) refl can.ends s x h
   done_job (certify tr b w f q name) can s x (answers.of_file has e h) = done_told (certify tr b w f q name) name (files name) can refl _ e (certify tr b w f q name) refl can.ends s x h
   done_job (jobs.net tr true w f name) can s x (answers.of_file has e h) = done_told (jobs.net tr true w f name) name (files name) can refl _ e (jobs.net tr true w f name) refl can.ends s x h
   done_job (jobs.net tr false w f name) can s x (answers.of_file has e h) = absurd has
@@ -116,6 +120,7 @@ module _ (files : Text → Option (List ℕ)) where
   can_told (view tr k name) can = one_told IsTold name (can.bytes, can.told)
   can_told (trace tr w f name) can = one_told IsTold name (can.bytes, can.told)
   can_told (check tr term other) can = two_told IsTold term other (can.0.bytes, can.0.told) (can.1.0, can.1.1)
+  can_told (demand tr f q name) can = one_told IsTold name (can.bytes, can.told)
   can_told (certify tr b w f q name) can = one_told IsTold name (can.bytes, can.told)
   can_told (jobs.net tr true w f name) can = one_told IsTold name (can.bytes, can.told)
   can_told (jobs.net tr false w f name) can = one_told IsTold name (can.bytes, can.told)

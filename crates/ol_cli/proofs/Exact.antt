@@ -9,7 +9,7 @@ use Rattle.ol_term.specs.declared.translations.Translation.{Translation}
 use Rattle.ol_term.specs.Trees.{Tree}
 use Rattle.ol_term.specs.Generated.{doubled_text}
 use Rattle.ol_words.specs.Texts.{Text}
-use Rattle.ol_words.specs.Asked.{Asked, run, walk, view, trace, check, gen, certify}
+use Rattle.ol_words.specs.Asked.{Asked, run, walk, view, trace, check, gen, demand, certify}
 use Rattle.ol_words.specs.Asked as jobs
 use Rattle.ol_cli.specs.declared.status.Status.{Status}
 use Rattle.ol_cli.specs.declared.status.Status.TheVariants.{Done, Usage, Syntax, Spent, ReadFault, WriteFault, NoMemory, Limit, BadNet}
@@ -77,6 +77,15 @@ term_status (trace tr w f name) t names Limit text h = h
 term_status (trace tr w f name) t names BadNet text h = h
 term_status (check tr term journal) t names st text h = absurd h
 term_status (gen tr runs k) t names st text h = absurd h
+term_status (demand tr f q name) t names Done text h = tt
+term_status (demand tr f q name) t names Spent text h = tt
+term_status (demand tr f q name) t names Usage text h = h
+term_status (demand tr f q name) t names Syntax text h = h
+term_status (demand tr f q name) t names ReadFault text h = h
+term_status (demand tr f q name) t names WriteFault text h = h
+term_status (demand tr f q name) t names NoMemory text h = h
+term_status (demand tr f q name) t names Limit text h = h
+term_status (demand tr f q name) t names BadNet text h = h
 term_status (certify tr b w f q name) t names Done text h = tt
 term_status (certify tr b w f q name) t names Spent text h = tt
 term_status (certify tr b w f q name) t names Usage text h = h
@@ -146,6 +155,7 @@ told_first contents (view tr k name) has e = e 0 name refl
 told_first contents (trace tr w f name) has e = e 0 name refl
 told_first contents (check tr term journal) has e = e 0 term refl
 told_first contents (gen tr runs k) has e = absurd has
+told_first contents (demand tr f q name) has e = e 0 name refl
 told_first contents (certify tr b w f q name) has e = e 0 name refl
 told_first contents (jobs.net tr true w f name) has e = e 0 name refl
 told_first contents (jobs.net tr false w f name) has e = absurd has

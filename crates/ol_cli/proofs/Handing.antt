@@ -7,7 +7,7 @@ use Rattle.ol_net.specs.Numbered.{all_live}
 use Rattle.ol_net.specs.Graph.{Graph}
 use Rattle.ol_net.proofs.Linking.{length-all_live, count_by-all_live}
 use Rattle.ol_wire.specs.Closed.{ClosedTable}
-use Rattle.ol_words.specs.Asked.{Asked, run, walk, view, trace, check, gen, certify}
+use Rattle.ol_words.specs.Asked.{Asked, run, walk, view, trace, check, gen, demand, certify}
 use Rattle.ol_words.specs.Asked as jobs
 use Rattle.ol_cli.specs.declared.status.Status.{Status}
 use Rattle.ol_cli.specs.declared.status.Status.TheVariants as status
@@ -42,6 +42,7 @@ module _ (t : Tree) (names : List (List ℕ)) (text : List ℕ) (closed : Option
   none_at_usage (trace tr workers fuel name) h = absurd h.4
   none_at_usage (check tr term journal) h = h
   none_at_usage (gen tr runs k) h = h
+  none_at_usage (demand tr fuel heads name) h = h
   none_at_usage (certify tr b workers fuel heads name) h = h
   none_at_usage (jobs.net tr from workers fuel name) h = h
   none_at_usage (jobs.equal tr workers fuel heads first second) h = h
@@ -53,6 +54,7 @@ module _ (t : Tree) (names : List (List ℕ)) (text : List ℕ) (closed : Option
   none_at_syntax (trace tr workers fuel name) h = absurd h.4
   none_at_syntax (check tr term journal) h = h
   none_at_syntax (gen tr runs k) h = h
+  none_at_syntax (demand tr fuel heads name) h = h
   none_at_syntax (certify tr b workers fuel heads name) h = h
   none_at_syntax (jobs.net tr from workers fuel name) h = h
   none_at_syntax (jobs.equal tr workers fuel heads first second) h = h
@@ -64,6 +66,7 @@ module _ (t : Tree) (names : List (List ℕ)) (text : List ℕ) (closed : Option
   none_at_read_fault (trace tr workers fuel name) h = absurd h.4
   none_at_read_fault (check tr term journal) h = h
   none_at_read_fault (gen tr runs k) h = h
+  none_at_read_fault (demand tr fuel heads name) h = h
   none_at_read_fault (certify tr b workers fuel heads name) h = h
   none_at_read_fault (jobs.net tr from workers fuel name) h = h
   none_at_read_fault (jobs.equal tr workers fuel heads first second) h = h
@@ -75,6 +78,7 @@ module _ (t : Tree) (names : List (List ℕ)) (text : List ℕ) (closed : Option
   none_at_write_fault (trace tr workers fuel name) h = absurd h.4
   none_at_write_fault (check tr term journal) h = h
   none_at_write_fault (gen tr runs k) h = h
+  none_at_write_fault (demand tr fuel heads name) h = h
   none_at_write_fault (certify tr b workers fuel heads name) h = h
   none_at_write_fault (jobs.net tr from workers fuel name) h = h
   none_at_write_fault (jobs.equal tr workers fuel heads first second) h = h
@@ -86,6 +90,7 @@ module _ (t : Tree) (names : List (List ℕ)) (text : List ℕ) (closed : Option
   none_at_no_memory (trace tr workers fuel name) h = absurd h.4
   none_at_no_memory (check tr term journal) h = h
   none_at_no_memory (gen tr runs k) h = h
+  none_at_no_memory (demand tr fuel heads name) h = h
   none_at_no_memory (certify tr b workers fuel heads name) h = h
   none_at_no_memory (jobs.net tr from workers fuel name) h = h
   none_at_no_memory (jobs.equal tr workers fuel heads first second) h = h
@@ -97,6 +102,7 @@ module _ (t : Tree) (names : List (List ℕ)) (text : List ℕ) (closed : Option
   none_at_limit (trace tr workers fuel name) h = absurd h.4
   none_at_limit (check tr term journal) h = h
   none_at_limit (gen tr runs k) h = h
+  none_at_limit (demand tr fuel heads name) h = h
   none_at_limit (certify tr b workers fuel heads name) h = h
   none_at_limit (jobs.net tr from workers fuel name) h = h
   none_at_limit (jobs.equal tr workers fuel heads first second) h = h
@@ -108,6 +114,7 @@ module _ (t : Tree) (names : List (List ℕ)) (text : List ℕ) (closed : Option
   none_at_bad_net (trace tr workers fuel name) h = absurd h.4
   none_at_bad_net (check tr term journal) h = h
   none_at_bad_net (gen tr runs k) h = h
+  none_at_bad_net (demand tr fuel heads name) h = h
   none_at_bad_net (certify tr b workers fuel heads name) h = h
   none_at_bad_net (jobs.net tr from workers fuel name) h = h
   none_at_bad_net (jobs.equal tr workers fuel heads first second) h = h

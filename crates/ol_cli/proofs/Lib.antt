@@ -8,6 +8,8 @@ mod Following
 mod TreeTransport
 mod KeptPorts
 mod OnePrint
+mod DemandRuns
+mod KeptHeads
 mod EveryRun
 mod NoFacing
 mod AnyRun

@@ -26,7 +26,7 @@ use Rattle.ol_view.proofs.ShownAlike.{live_alike}
 use Rattle.ol_view.specs.declared.answers.Check.{Check}
 use Rattle.ol_view.specs.Checks.{OnlyIsFound}
 use Rattle.ol_words.specs.Texts.{Text}
-use Rattle.ol_words.specs.Asked.{Asked, run, walk, view, trace, check, gen, certify}
+use Rattle.ol_words.specs.Asked.{Asked, run, walk, view, trace, check, gen, demand, certify}
 use Rattle.ol_words.specs.Asked as jobs
 use Rattle.ol_cli.specs.declared.status.Status.{Status}
 use Rattle.ol_cli.specs.declared.status.Status.TheVariants.{Done, Usage, Syntax, Spent, ReadFault, WriteFault, NoMemory, Limit, BadNet}
@@ -35,9 +35,11 @@ use Rattle.ol_cli.specs.Inside.{IsOnTerm}
 use Rattle.ol_cli.specs.Laws.{TellsOne}
 use Rattle.ol_cli.specs.Texts.{line, usage_text, bytes_text, depth_text, nodes_text, journal_text, syntax_text, spent_text, found_text}
 use Rattle.ol_cli.specs.Evaluation.{start_net_of_term, RunsOut, RunEnds, Prints, Walks, Views, ReadsLast, Certifies}
+use Rattle.ol_cli.specs.DemandOrder.{Demands, DemandRunsOut}
 use Rattle.ol_cli.specs.NetAnswers.{WritesNet, NetFileAnswer}
 use Rattle.ol_cli.specs.Answers.{long, deep, large, IsTermFile, TermAnswer, FileAnswer, JournalAnswer, JobAnswer, of_file, of_journal, made, of_net_file, of_first, of_second, of_both, HasTree, Compares, Makes, plain_run, IsAnswer}
 use Rattle.ol_cli.proofs.OnePrint.{ends_or_not, ends_or_runs_out, reads_or_runs_out, one_last_tree, one_print, one_walk, one_view, one_certified}
+use Rattle.ol_cli.proofs.DemandRuns.{one_demanded, demand_ends_or_not}
 use Rattle.ol_cli.proofs.NetFiles.{one_net_file}
 
 abbrev pub Same : Status → Status → List ℕ → List ℕ → Type 0
@@ -77,6 +79,8 @@ pub data OfTerm (t : Tree) (names : List (List ℕ)) : Asked → Status → List
   walked : {tr : Translation} {edges heads : ℕ} {name x : List ℕ} → Walks tr t names edges heads x → OfTerm t names (walk tr edges heads name) Done x
   viewed : {tr : Translation} {after : ℕ} {name x : List ℕ} → Views tr t names after x → OfTerm t names (view tr after name) Done x
   traced : {tr : Translation} {w fuel : ℕ} {name x : List ℕ} → RunEnds tr t names fuel → OfTerm t names (trace tr w fuel name) Done x
+  demanded : {tr : Translation} {fuel heads : ℕ} {name x : List ℕ} → Demands tr t names fuel heads x → OfTerm t names (demand tr fuel heads name) Done x
+  undemanded : {tr : Translation} {fuel heads : ℕ} {name x : List ℕ} → DemandRunsOut tr t names fuel heads → x ≡ spent_text fuel → OfTerm t names (demand tr fuel heads name) Spent x
   certified : {tr : Translation} {b w fuel heads : ℕ} {name x : List ℕ} → Certifies tr t names b fuel heads x → OfTerm t names (certify tr b w fuel heads name) Done x
   uncertified : {tr : Translation} {b w fuel heads : ℕ} {name x : List ℕ} → RunsOut tr t names fuel → x ≡ spent_text fuel → OfTerm t names (certify tr b w fuel heads name) Spent x
   stopped : {tr : Translation} {w fuel : ℕ} {name x : List ℕ} → RunsOut tr t names fuel → OfTerm t names (trace tr w fuel name) Spent x
@@ -121,6 +125,15 @@ of_term t names (trace tr w f name) Limit x h = absurd h
 of_term t names (trace tr w f name) BadNet x h = absurd h
 of_term t names (check tr term journal) s x h = absurd h
 of_term t names (gen tr runs k) s x h = absurd h
+of_term t names (demand tr fuel heads name) Spent x h = undemanded h.0 h.1
+of_term t names (demand tr fuel heads name) Done x h = demanded h
+of_term t names (demand tr fuel heads name) Usage x h = absurd h
+of_term t names (demand tr fuel heads name) Syntax x h = absurd h
+of_term t names (demand tr fuel heads name) ReadFault x h = absurd h
+of_term t names (demand tr fuel heads name) WriteFault x h = absurd h
+of_term t names (demand tr fuel heads name) NoMemory x h = absurd h
+of_term t names (demand tr fuel heads name) Limit x h = absurd h
+of_term t names (demand tr fuel heads name) BadNet x h = absurd h
 of_term t names (certify tr b w fuel heads name) Spent x h = uncertified h.0 h.1
 of_term t names (certify tr b w fuel heads name) Done x h = certified h
 of_term t names (certify tr b w fuel heads name) Usage x h = absurd h
@@ -161,6 +174,10 @@ one_of_term t names a n s s' x x' (traced {tr = tr} {fuel = fuel} e) (stopped r)
 one_of_term t names a n s s' x x' (stopped {tr = tr} {fuel = fuel} r) (traced e) = absurd (ends_or_runs_out tr t names n fuel r e)
 one_of_term t names a n s s' x x' (stopped r) (stopped r') = (refl, λ one. absurd one)
 one_of_term t names a n s s' x x' (netted {tr = tr} w) (netted w') = (refl, λ one. one_net_text tr t names x x' w w')
+one_of_term t names a n s s' x x' (undemanded r e) (undemanded r' e') = (refl, λ one. e ∙ sym e')
+one_of_term t names a n s s' x x' (undemanded {tr = tr} {fuel = fuel} {heads = heads} r e) (demanded d) = absurd (demand_ends_or_not tr t names n fuel heads r d.ends)
+one_of_term t names a n s s' x x' (demanded {tr = tr} {fuel = fuel} {heads = heads} d) (undemanded r e) = absurd (demand_ends_or_not tr t names n fuel heads r d.ends)
+one_of_term t names a n s s' x x' (demanded {tr = tr} {fuel = fuel} {heads = heads} d) (demanded d') = (refl, λ one. one_demanded tr t names n fuel heads x x' d d')
 one_of_term t names a n s s' x x' (uncertified r e) (uncertified r' e') = (refl, λ one. e ∙ sym e')
 one_of_term t names a n s s' x x' (uncertified {tr = tr} {fuel = fuel} {heads = heads} r e) (certified c) = absurd (reads_or_runs_out tr t names n fuel heads c.tree r c.last)
 one_of_term t names a n s s' x x' (certified {tr = tr} {fuel = fuel} {heads = heads} c) (uncertified r e) = absurd (reads_or_runs_out tr t names n fuel heads c.tree r c.last)
@@ -394,6 +411,7 @@ module _ (files : Text → Option (List ℕ)) where
   one_of_job (view tr k name) s s' x x' a a' = one_on_file (view tr k name) tt s s' x x' a a'
   one_of_job (trace tr w f name) s s' x x' a a' = one_on_file (trace tr w f name) tt s s' x x' a a'
   one_of_job (check tr term journal) s s' x x' a a' = alike (check tr term journal) s s' x x' (one_checked tr term journal s s' x x' a a')
+  one_of_job (demand tr f q name) s s' x x' a a' = one_on_file (demand tr f q name) tt s s' x x' a a'
   one_of_job (certify tr b w f q name) s s' x x' a a' = one_on_file (certify tr b w f q name) tt s s' x x' a a'
   one_of_job (jobs.net tr true w f name) s s' x x' a a' = one_on_file (jobs.net tr true w f name) tt s s' x x' a a'
   one_of_job (jobs.net tr false w f name) s s' x x' a a' = (one_of_net_job tr w f name s s' x x' a a', λ one. absurd one)

@@ -35,7 +35,7 @@ use Rattle.ol_cli.proofs.ListedOnce.{same_length}
 use Rattle.ol_cli.proofs.TreeTransport.{tree_same}
 
 -- a list of places has one text
-one_text : (names : List (List ℕ)) (ns : List ReadNode) (a b : List ℕ) → IsTextOf names ns a → IsTextOf names ns b → a ≡ b
+pub one_text : (names : List (List ℕ)) (ns : List ReadNode) (a b : List ℕ) → IsTextOf names ns a → IsTextOf names ns b → a ≡ b
 one_text names ns a b x y = x.is ∙ ap (λ t. text_of_tree names t) (list_is_of_one_tree x.tree y.tree (x.listed ∙ sym y.listed)) ∙ sym y.is
 
 -- of one net, whose lists may be ordered in two ways, one tree, one term and one number of stuck pairs are shown

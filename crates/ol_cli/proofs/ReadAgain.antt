@@ -9,13 +9,14 @@ use Rattle.ol_parse.proofs.Exact.{one_file}
 use Rattle.ol_readback.specs.Terms.{HasAllHeads, IsReadBack}
 use Rattle.ol_readback.specs.declared.answers.ReadNode.{ReadNode}
 use Rattle.ol_words.specs.Texts.{Text}
-use Rattle.ol_words.specs.Asked.{Asked, run, walk, view, trace, check, gen, certify}
+use Rattle.ol_words.specs.Asked.{Asked, run, walk, view, trace, check, gen, demand, certify}
 use Rattle.ol_words.specs.Asked as jobs
 use Rattle.ol_cli.specs.declared.status.Status.{Status}
 use Rattle.ol_cli.specs.declared.status.Status.TheVariants as status
 use Rattle.ol_cli.specs.Inside.{IsOnTerm, IsReadWhereTold}
 use Rattle.ol_cli.specs.Jobs.{AskFor, TellsTerm, file_name, term_bytes}
 use Rattle.ol_cli.specs.Evaluation.{Prints, Walks}
+use Rattle.ol_cli.specs.DemandOrder.{Demands}
 use Rattle.ol_cli.specs.ReadAgain.{TextIsReadAgain, AnswerIsReadAgain, FileIsReadAgain, WordsAreReadAgain, WritesReadable}
 use Rattle.ol_cli.proofs.OneAnswer.{one_job}
 
@@ -29,6 +30,9 @@ module _ (tr : Translation) (t : Tree) (names : List (List ℕ)) (text : List �
 
   pub walk_read : (edges heads : ℕ) (w : Walks tr t names edges heads text) → IsReadWhereNamed names w.tree w.term → AnswerIsReadAgain (walk tr edges heads []) t names status.Done text
   walk_read edges heads w read words e = (w, read words)
+
+  pub demand_read : (fuel heads : ℕ) (d : Demands tr t names fuel heads text) → IsReadWhereNamed names d.ends.tree d.term → AnswerIsReadAgain (demand tr fuel heads []) t names status.Done text
+  demand_read fuel heads d read words e = (d, read words)
 
 -- by the names of the file's own term
 pub file_read : (asked : Asked) (bytes : List ℕ) (t : Tree) (names : List (List ℕ)) (st : Status) (text : List ℕ) → IsFileOf bytes t names → AreNames names → AnswerIsReadAgain asked t names st text → FileIsReadAgain asked bytes st text
@@ -50,6 +54,7 @@ file_bytes contents (view tr k name) on = refl
 file_bytes contents (trace tr w f name) on = refl
 file_bytes contents (check tr term journal) on = absurd on
 file_bytes contents (gen tr runs k) on = absurd on
+file_bytes contents (demand tr f q name) on = refl
 file_bytes contents (certify tr b w f q name) on = refl
 file_bytes contents (jobs.net tr true w f name) on = refl
 file_bytes contents (jobs.net tr false w f name) on = absurd on

@@ -22,20 +22,25 @@ use Rattle.ol_translate.proofs.Whole.{translation_net}
 use Rattle.ol_readback.specs.Heads.{live}
 use Rattle.ol_readback.specs.Terms.{HasAllHeads, IsReadBack}
 use Rattle.ol_readback.proofs.Sources.{own_heads, read_heads}
-use Rattle.ol_readback.proofs.Forests.{tree_is_whole}
+use Rattle.ol_readback.proofs.Forests.{tree_is_whole, heads_are_whole}
+use Rattle.ol_demand.proofs.Needed.{needed}
+use Rattle.ol_demand.proofs.SourceHeads.{heads_are_of_source}
 use Rattle.ol_meaning.proofs.Based.{places_say}
 use Rattle.ol_words.specs.Texts.{Text}
-use Rattle.ol_words.specs.Asked.{Asked, run, walk, view, trace, check, gen, certify}
+use Rattle.ol_words.specs.Asked.{Asked, run, walk, view, trace, check, gen, demand, certify}
 use Rattle.ol_words.specs.Asked as jobs
 use Rattle.ol_cli.specs.declared.status.Status.{Status}
 use Rattle.ol_cli.specs.declared.status.Status.TheVariants as status
 use Rattle.ol_cli.specs.Jobs.{AskFor, EachName, TellsTerm, TellsFiles, term_bytes, translation_in}
 use Rattle.ol_cli.specs.Evaluation.{start_net_of_term, Prints, Walks}
+use Rattle.ol_cli.specs.DemandOrder.{Demands}
 use Rattle.ol_cli.specs.Answers.{Ends, IsTermFile, TermAnswer, FileAnswer, JobAnswer, of_file, made, IsAnswer, plain_run}
-use Rattle.ol_cli.specs.Sources.{PrintsTree, WalksTree, TellsTree, WritesTree, RunTells, JobTells, EveryRunTells}
+use Rattle.ol_cli.specs.Sources.{PrintsTree, WalksTree, DemandsTree, TellsTree, WritesTree, RunTells, DemandTells, JobTells, EveryRunTells}
 use Rattle.ol_cli.specs.ReadAgain.{TextIsReadAgain, WritesReadable}
 use Rattle.ol_rules.proofs.LeadRuns.{as_run}
 use Rattle.ol_cli.proofs.NoFacing.{no_facing}
+use Rattle.ol_cli.proofs.DemandRuns.{is_start, demand_is_longer}
+use Rattle.ol_cli.proofs.KeptHeads.{heads_to}
 use Rattle.ol_cli.proofs.OnePrint.{start_is_net, start_is_named}
 use Rattle.ol_cli.proofs.EveryRun.{every_run_prints, every_run_is_longer}
 use Rattle.ol_cli.proofs.OneAnswer.{file_net, file_names, one_job, own_job}
@@ -82,11 +87,30 @@ walks_tree tr t names edges heads text has w read =
       read_again = read;
     }
 
+demands_tree : (tr : Translation) (t : Tree) (names : List (List ℕ)) (fuel heads : ℕ) (text : List ℕ) → HasNames t (length names) → (d : Demands tr t names fuel heads text) →
+    (HasAllHeads d.ends.tree → IsReadBack names d.ends.tree d.term) → DemandsTree tr t names fuel heads text
+demands_tree tr t names fuel heads text has d read =
+    let N = translation_of tr t (length names) in
+    let start = start_net_of_term tr t names in
+    let is_net = translation_net tr t (length names) has in
+    let s = is_start tr t names is_net in
+    let there = renamed Init N is_net (λ x y k l i j h h' e. cc) in
+    let own = heads_to start N (λ p c q e. ((there p c q e).1, (there p c q e).0)) false (heads_are_of_source start d.ends.net heads d.ends.journal d.ends.tree s d.ends.run) in
+    let whole = heads_are_whole N false d.ends.tree own in
+    record {
+      demands = d;
+      own_heads = own;
+      says = places_say tr t (length names) has false whole.tree d.ends.tree whole.is_list own;
+      read_again = read;
+      needed = needed s d.ends.run.run;
+    }
+
 tells_tree : (asked : Asked) (t : Tree) (names : List (List ℕ)) (text : List ℕ) → HasNames t (length names) → TextIsReadAgain asked t names text → TellsTree asked t names text
 tells_tree (run tr workers fuel heads name) t names text has h = prints_tree tr t names fuel heads text has h.0 h.1
 tells_tree (view tr k name) t names text has h = tt
 tells_tree (trace tr w f name) t names text has h = tt
 tells_tree (check tr term journal) t names text has h = tt
+tells_tree (demand tr f q name) t names text has h = demands_tree tr t names f q text has h.0 h.1
 tells_tree (certify tr b w f q name) t names text has h = tt
 tells_tree (jobs.net tr from w f name) t names text has h = tt
 tells_tree (jobs.equal tr w f q first second) t names text has h = tt
@@ -122,6 +146,23 @@ module _ (tr : Translation) (bytes : List ℕ) (workers fuel heads : ℕ) (name 
   runs_tell status.Limit text old new h written journal net ran complete = tt
   runs_tell status.BadNet text old new h written journal net ran complete = tt
 
+-- so is that of `demand`
+module _ (tr : Translation) (bytes : List ℕ) (fuel heads : ℕ) (name : Text) (t : Tree) (names : List (List ℕ)) (f : IsFileOf bytes t names) (journal : List Entry) (net : NamedNet NodeName)
+    (ran : IsRun (start_net_of_term tr t names) 0 journal net) (complete : IsComplete net) where
+  demand_tells : (st : Status) (text : List ℕ) → FileAnswer (demand tr fuel heads name) bytes st text → DemandTells fuel journal st
+  demand_tells status.Spent text h =
+      let same = one_file bytes h.0 t h.1 names h.2.file f in
+      let own = subst (λ t. TermAnswer (demand tr fuel heads name) t names status.Spent text) same.0 (subst (λ names. TermAnswer (demand tr fuel heads name) h.0 names status.Spent text) same.1 h.3) in
+      demand_is_longer tr t names (file_net tr bytes t names f) fuel heads own.0 journal net ran complete
+  demand_tells status.Done text h = tt
+  demand_tells status.Usage text h = tt
+  demand_tells status.Syntax text h = tt
+  demand_tells status.ReadFault text h = tt
+  demand_tells status.WriteFault text h = tt
+  demand_tells status.NoMemory text h = tt
+  demand_tells status.Limit text h = tt
+  demand_tells status.BadNet text h = tt
+
 same_bytes : (a b : List ℕ) → Some a ≡ Some b → a ≡ b
 same_bytes a b e = cc
 
@@ -140,6 +181,9 @@ module _ (files : Text → Option (List ℕ)) (bytes : List ℕ) (st : Status) (
   answer_tells (view tr after name) ran told a = tt
   answer_tells (trace tr w f name) ran told a = tt
   answer_tells (check tr term journal) ran told a = tt
+  answer_tells (demand tr fuel heads name) ran told (of_file {bytes = other} has e h) =
+      let own = subst (λ b. FileAnswer (demand tr fuel heads name) b st text) (same_bytes other bytes (sym e ∙ told)) h in
+      demand_tells tr bytes fuel heads name t names f journal net ran complete st text own
   answer_tells (certify tr b w f q name) ran told a = tt
   answer_tells (jobs.net tr from w f name) ran told a = tt
   answer_tells (jobs.equal tr w f q first second) ran told a = tt
@@ -180,6 +224,7 @@ ends_run words f f' given contents ended quiet bytes tells r g g' old new calm h
     go (view tr after name) j ran = tt
     go (trace tr w f name) j ran = tt
     go (check tr term journal) j ran = tt
+    go (demand tr fuel heads name) j ran = call (demand tr fuel heads name) j ran (one_name contents bytes name (tells (demand tr fuel heads name) j))
     go (certify tr b w f q name) j ran = tt
     go (jobs.net tr from w f name) j ran = tt
     go (jobs.equal tr w f q first second) j ran = tt

@@ -6,8 +6,8 @@ use Rattle.ol_term.specs.declared.translations.Translation.{Translation}
 use Rattle.ol_words.specs.Texts.{Text}
 use Rattle.ol_words.specs.Lines.{Line, line_of}
 use Rattle.ol_words.specs.Numbers.{Limits, number_in, number_within, is_number, setting}
-use Rattle.ol_words.specs.Asked.{Asked, run, walk, view, trace, check, gen, certify, net, equal}
-use Rattle.ol_words.specs.Jobs.{Setting, Verb, translation_numbered, translation_setting, workers_setting, fuel_setting, heads_setting, edges_setting, after_setting, runs_setting, steps_setting, from_term_setting, doublings, run_verb, walk_verb, view_verb, trace_verb, check_verb, gen_verb, certify_verb, net_verb, equal_verb, run_asks, walk_asks, view_asks, trace_asks, check_asks, gen_asks, certify_asks, net_asks, equal_asks, is_input, only, known_of, values_of, number_on, numbers, job_on, job_behind, job_of}
+use Rattle.ol_words.specs.Asked.{Asked, run, walk, view, trace, check, gen, demand, certify, net, equal}
+use Rattle.ol_words.specs.Jobs.{Setting, Verb, translation_numbered, translation_setting, workers_setting, fuel_setting, heads_setting, edges_setting, after_setting, runs_setting, steps_setting, from_term_setting, doublings, run_verb, walk_verb, view_verb, trace_verb, check_verb, gen_verb, demand_verb, certify_verb, net_verb, equal_verb, run_asks, walk_asks, view_asks, trace_asks, check_asks, gen_asks, demand_asks, certify_asks, net_asks, equal_asks, is_input, only, known_of, values_of, number_on, numbers, job_on, job_behind, job_of}
 use Rattle.ol_cli.specs.Inside.{IsWithinLimits}
 
 and_then_some : {A B : Type 0} (f : A → Option B) (o : Option A) (b : B) → option_and_then f o ≡ Some b → (a : A) × (o ≡ Some a) × (f a ≡ Some b)
@@ -157,6 +157,20 @@ gen_within line asked h =
     let all : tr.0 ∷ r.0 ∷ [] ≡ t.0 = two_numbers tr.0 r.0 tr.1 r.1 t.0 none r.4 tr.4 in
     gen_names tr.0 r.0 line.names asked (same_job (λ ns. gen_asks ns line.names) (tr.0 ∷ r.0 ∷ []) t.0 asked all t.2)
 
+demand_within : (line : Line) (asked : Asked) → job_on demand_verb line ≡ Some asked → IsWithinLimits asked
+demand_within line asked h =
+    let t = and_then_some (λ ns. demand_asks ns line.names) (numbers (number_on line) demand_verb.settings) asked h in
+    let tr = first_number (number_on line) translation_setting (fuel_setting ∷ heads_setting ∷ []) t.0 t.1 in
+    let f = first_number (number_on line) fuel_setting (heads_setting ∷ []) tr.1 tr.3 in
+    let q = first_number (number_on line) heads_setting [] f.1 f.3 in
+    let none : [] ≡ q.1 = cc in
+    let all : tr.0 ∷ f.0 ∷ q.0 ∷ [] ≡ t.0 = three_numbers tr.0 f.0 q.0 tr.1 f.1 q.1 t.0 none q.4 f.4 tr.4 in
+    let job : demand_asks (tr.0 ∷ f.0 ∷ q.0 ∷ []) line.names ≡ Some asked = same_job (λ ns. demand_asks ns line.names) (tr.0 ∷ f.0 ∷ q.0 ∷ []) t.0 asked all t.2 in
+    let is = map_some (demand (translation_numbered tr.0) f.0 q.0) (only line.names) asked job in
+    let fuel = setting_within fuel_setting.limits (values_of fuel_setting.option line.options) f.0 (omega arith, omega arith) f.2 in
+    let heads = setting_within heads_setting.limits (values_of heads_setting.option line.options) q.0 (omega arith, omega arith) q.2 in
+    subst IsWithinLimits {x = demand (translation_numbered tr.0) f.0 q.0 is.0} is.2 (fuel.1, heads.0)
+
 certify_within : (line : Line) (asked : Asked) → job_on certify_verb line ≡ Some asked → IsWithinLimits asked
 certify_within line asked h =
     let t = and_then_some (λ ns. certify_asks ns line.names) (numbers (number_on line) certify_verb.settings) asked h in
@@ -240,6 +254,7 @@ job_within (program ∷ word ∷ rest) asked h =
     (here_or_later rest asked trace_verb _ (bytes_eq trace_verb.word word) trace_within
     (here_or_later rest asked check_verb _ (bytes_eq check_verb.word word) check_within
     (here_or_later rest asked gen_verb _ (bytes_eq gen_verb.word word) gen_within
+    (here_or_later rest asked demand_verb _ (bytes_eq demand_verb.word word) demand_within
     (here_or_later rest asked certify_verb _ (bytes_eq certify_verb.word word) certify_within
     (here_or_later rest asked net_verb _ (bytes_eq net_verb.word word) net_within
-    (here_or_later rest asked equal_verb _ (bytes_eq equal_verb.word word) equal_within (nothing rest asked))))))))) h
+    (here_or_later rest asked equal_verb _ (bytes_eq equal_verb.word word) equal_within (nothing rest asked)))))))))) h

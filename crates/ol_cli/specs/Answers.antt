@@ -10,7 +10,7 @@ use Rattle.ol_parse.specs.Texts.{IsRefusedAt}
 use Rattle.ol_parse.specs.Parsed.{IsFileOf}
 use Rattle.ol_translate.specs.Sizes.{size_of_translation}
 use Rattle.ol_words.specs.Texts.{Text}
-use Rattle.ol_words.specs.Asked.{Asked, run, walk, view, trace, check, gen, certify, net, equal}
+use Rattle.ol_words.specs.Asked.{Asked, run, walk, view, trace, check, gen, demand, certify, net, equal}
 use Rattle.ol_readback.specs.declared.answers.ReadNode.{ReadNode}
 use Rattle.ol_equal.specs.Comparing.{IsComparison}
 use Rattle.ol_equal.specs.Texts.{compared_text}
@@ -22,6 +22,7 @@ use Rattle.ol_cli.specs.declared.status.Status.TheVariants as status
 use Rattle.ol_cli.specs.Jobs.{AskFor, AskForNothing, HasTermFile, file_name, plain_fuel, plain_heads, translation_in}
 use Rattle.ol_cli.specs.Texts.{line, usage_text, fault_text, bytes_text, depth_text, nodes_text, journal_text, net_bytes_text, syntax_text, spent_text, found_text}
 use Rattle.ol_cli.specs.Evaluation.{start_net_of_term, RunsOut, RunEnds, Prints, Walks, Views, TracesWhole, TracesFuel, ReadsLast, Certifies}
+use Rattle.ol_cli.specs.DemandOrder.{Demands, DemandRunsOut}
 use Rattle.ol_cli.specs.NetAnswers.{WritesNet, NetFileAnswer}
 
 -- the number that a process ends with
@@ -76,6 +77,12 @@ TraceAnswer translation t names fuel status.Done text = RunEnds translation t na
 TraceAnswer translation t names fuel status.Spent text = RunsOut translation t names fuel × TracesFuel translation t names fuel text
 TraceAnswer translation t names fuel _ text = ⊥
 
+-- What `demand` answers to a term: its demand run is longer than the fuel, or ends and is printed.
+abbrev pub DemandAnswer : Translation → Tree → List (List ℕ) → (fuel heads : ℕ) → Status → List ℕ → Type 0
+DemandAnswer translation t names fuel heads status.Spent text = DemandRunsOut translation t names fuel heads × (text ≡ spent_text fuel)
+DemandAnswer translation t names fuel heads status.Done text = Demands translation t names fuel heads text
+DemandAnswer translation t names fuel heads _ text = ⊥
+
 -- What `certify` answers to a term: its one-thread run is longer than the fuel, or ends, and the verdict is told.
 abbrev pub CertifyAnswer : Translation → Tree → List (List ℕ) → (steps fuel heads : ℕ) → Status → List ℕ → Type 0
 CertifyAnswer translation t names steps fuel heads status.Spent text = RunsOut translation t names fuel × (text ≡ spent_text fuel)
@@ -96,6 +103,7 @@ TermAnswer (view translation after name) t names st text = ViewAnswer translatio
 TermAnswer (trace translation workers fuel name) t names st text = TraceAnswer translation t names fuel st text
 TermAnswer (check translation term journal) t names st text = ⊥
 TermAnswer (gen translation runs k) t names st text = ⊥
+TermAnswer (demand translation fuel heads name) t names st text = DemandAnswer translation t names fuel heads st text
 TermAnswer (certify translation steps workers fuel heads name) t names st text = CertifyAnswer translation t names steps fuel heads st text
 TermAnswer (net translation true workers fuel name) t names st text = WritesNetAnswer translation t names st text
 TermAnswer (net translation false workers fuel name) t names st text = ⊥

@@ -6,20 +6,23 @@ use Rattle.ol_term.specs.Trees.{Tree}
 use Rattle.ol_net.specs.Graph.{Graph}
 use Rattle.ol_rules.specs.declared.journal.Counts.{Counts}
 use Rattle.ol_words.specs.Texts.{Text}
-use Rattle.ol_words.specs.Asked.{Asked, run, trace, check, gen, certify}
+use Rattle.ol_words.specs.Asked.{Asked, run, trace, check, gen, demand, certify}
 use Rattle.ol_words.specs.Asked as jobs
 use Rattle.ol_cli.specs.declared.status.Status.{Status}
 use Rattle.ol_cli.specs.declared.status.Status.TheVariants as status
 use Rattle.ol_cli.specs.Jobs.{AskFor, plain_fuel, term_bytes, translation_in}
 use Rattle.ol_cli.specs.Evaluation.{RunEnds}
+use Rattle.ol_cli.specs.DemandOrder.{DemandEnds}
 use Rattle.ol_cli.specs.Answers.{IsAnswer, IsTermFile}
 use Rattle.ol_cli.specs.NetAnswers.{IsNetFile, NetRunEnds}
 
--- where the job rewrites a term until no pair is active, the one-thread run of this term ends within the job's fuel
+-- where the job rewrites a term until no pair is active, the one-thread run of this term ends within the job's fuel; and where it
+-- rewrites in demand order, so does the demand run
 abbrev pub EndsWithinFuel : Asked → Tree → List (List ℕ) → Type 0
 EndsWithinFuel (run translation workers fuel heads name) t names = RunEnds translation t names fuel
 EndsWithinFuel (trace translation workers fuel name) t names = RunEnds translation t names fuel
 EndsWithinFuel (gen translation runs k) t names = RunEnds translation t names plain_fuel
+EndsWithinFuel (demand translation fuel heads name) t names = DemandEnds translation t names fuel heads
 EndsWithinFuel (certify translation steps workers fuel heads name) t names = RunEnds translation t names fuel
 EndsWithinFuel _ t names = Unit {0}
 

@@ -8,7 +8,7 @@ use Rattle.ol_term.specs.declared.term_file.TermFile.{TermFile}
 use Rattle.ol_wire.specs.Closed.{ClosedTable}
 use Rattle.ol_readback.specs.declared.answers.ReadNode.{ReadNode}
 use Rattle.ol_words.specs.Texts.{Text}
-use Rattle.ol_words.specs.Asked.{Asked, run, walk, view, trace, check, gen, certify, net, equal}
+use Rattle.ol_words.specs.Asked.{Asked, run, walk, view, trace, check, gen, demand, certify, net, equal}
 use Rattle.ol_cli.specs.declared.evaluation.RunNumbers.{RunNumbers}
 use Rattle.ol_cli.specs.declared.status.Status.{Status}
 use Rattle.ol_cli.specs.declared.status.Status.TheVariants as status
@@ -35,11 +35,12 @@ IsWithinLimits (view translation after name) = after ≤ 8000000
 IsWithinLimits (trace translation workers fuel name) = (1 ≤ workers) × (workers ≤ 64) × (fuel ≤ 8000000)
 IsWithinLimits (check translation term journal) = Unit {0}
 IsWithinLimits (gen translation runs k) = k ≤ 10
+IsWithinLimits (demand translation fuel heads name) = (fuel ≤ 8000000) × (1 ≤ heads)
 IsWithinLimits (certify translation steps workers fuel heads name) = (1 ≤ workers) × (workers ≤ 64) × (fuel ≤ 8000000) × (1 ≤ heads)
 IsWithinLimits (net translation from_term workers fuel name) = (1 ≤ workers) × (workers ≤ 64) × (fuel ≤ 8000000)
 IsWithinLimits (equal translation workers fuel heads first second) = (1 ≤ workers) × (workers ≤ 64) × (fuel ≤ 8000000) × (1 ≤ heads)
 
--- the jobs `run` and `certify` of these numbers, and the job `walk`, where the name doesn't matter
+-- the jobs `run` and `certify` of these numbers, and the jobs `walk` and `demand`, where the name doesn't matter
 abbrev pub run_by : RunNumbers → Asked
 run_by n = run n.translation n.workers n.fuel n.heads []
 
@@ -48,6 +49,9 @@ certify_by n steps = certify n.translation steps n.workers n.fuel n.heads []
 
 abbrev pub walk_by : Translation → (edges heads : ℕ) → Asked
 walk_by translation edges heads = walk translation edges heads []
+
+abbrev pub demand_by : Translation → (fuel heads : ℕ) → Asked
+demand_by translation fuel heads = demand translation fuel heads []
 
 -- what a job answers to the term of a file,
 abbrev pub AnswersTerm : Asked → TermFile → Status → List ℕ → Type 0

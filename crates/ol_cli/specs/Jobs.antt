@@ -6,7 +6,7 @@ use Rattle.ol_term.specs.declared.translations.Translation.{Translation}
 use Rattle.ol_term.specs.Generated.{doubled_text}
 use Rattle.ol_words.specs.Texts.{Text}
 use Rattle.ol_words.specs.Texts.{texts_of}
-use Rattle.ol_words.specs.Asked.{Asked, run, walk, view, trace, check, gen, certify, net, equal}
+use Rattle.ol_words.specs.Asked.{Asked, run, walk, view, trace, check, gen, demand, certify, net, equal}
 use Rattle.ol_words.specs.Jobs.{job_of}
 
 -- the words ask for this
@@ -25,6 +25,7 @@ file_names (view translation after name) = name ∷ []
 file_names (trace translation workers fuel name) = name ∷ []
 file_names (check translation term journal) = term ∷ journal ∷ []
 file_names (gen translation runs k) = []
+file_names (demand translation fuel heads name) = name ∷ []
 file_names (certify translation steps workers fuel heads name) = name ∷ []
 file_names (net translation from_term workers fuel name) = name ∷ []
 file_names (equal translation workers fuel heads first second) = first ∷ second ∷ []
@@ -37,6 +38,7 @@ file_name (view translation after name) = name
 file_name (trace translation workers fuel name) = name
 file_name (check translation term journal) = term
 file_name (gen translation runs k) = []
+file_name (demand translation fuel heads name) = name
 file_name (certify translation steps workers fuel heads name) = name
 file_name (net translation from_term workers fuel name) = name
 file_name (equal translation workers fuel heads first second) = first
@@ -76,6 +78,7 @@ translation_in (view translation after name) = translation
 translation_in (trace translation workers fuel name) = translation
 translation_in (check translation term journal) = translation
 translation_in (gen translation runs k) = translation
+translation_in (demand translation fuel heads name) = translation
 translation_in (certify translation steps workers fuel heads name) = translation
 translation_in (net translation from_term workers fuel name) = translation
 translation_in (equal translation workers fuel heads first second) = translation
@@ -95,6 +98,7 @@ term_bytes contents (walk translation edges heads name) = contents name
 term_bytes contents (view translation after name) = contents name
 term_bytes contents (trace translation workers fuel name) = contents name
 term_bytes contents (check translation term journal) = contents term
+term_bytes contents (demand translation fuel heads name) = contents name
 term_bytes contents (certify translation steps workers fuel heads name) = contents name
 term_bytes contents (net translation true workers fuel name) = contents name
 term_bytes contents (net translation false workers fuel name) = None

@@ -16,6 +16,7 @@ use Rattle.ol_cli.specs.Jobs.{AskFor}
 use Rattle.ol_cli.specs.Answers.{IsAnswer}
 use Rattle.ol_cli.specs.NetAnswers.{NetRunEnds}
 use Rattle.ol_cli.specs.Evaluation.{Prints, Walks}
+use Rattle.ol_cli.specs.DemandOrder.{Demands}
 
 -- a job whose answer is one text: what `trace` writes is any of many, and so is what `net` writes of a net that was rewritten
 abbrev pub TellsOne : Asked → Type 0
@@ -41,6 +42,12 @@ abbrev pub OneTreeIsWalked : Type 0
 OneTreeIsWalked = (translation : Translation) (t : Tree) (names : List (List ℕ)) (edges heads : ℕ) (text text' : List ℕ) →
     IsNet (translation_of translation t (length names)) → (w : Walks translation t names edges heads text) (w' : Walks translation t names edges heads text') →
     (w.tree ≡ w'.tree) × (w.term ≡ w'.term)
+
+-- and one tree, one term, one journal and one number of stuck pairs of its demand run
+abbrev pub OneTreeIsDemanded : Type 0
+OneTreeIsDemanded = (translation : Translation) (t : Tree) (names : List (List ℕ)) (fuel heads : ℕ) (text text' : List ℕ) →
+    IsNet (translation_of translation t (length names)) → (d : Demands translation t names fuel heads text) (d' : Demands translation t names fuel heads text') →
+    (d.ends.tree ≡ d'.ends.tree) × (d.term ≡ d'.term) × (d.ends.journal ≡ d'.ends.journal) × (d.stuck ≡ d'.stuck)
 
 -- Of the net of a file, however its run is come by, the interactions of each rule, the stuck pairs and the nodes that are left are as
 -- many; so the counts that `net` writes are one, and whether the net is printed.

@@ -4,6 +4,7 @@ pub mod VerdictTexts
 pub mod Jobs
 pub mod Listing
 pub mod Evaluation
+pub mod DemandOrder
 pub mod NetAnswers
 pub mod Journals
 pub mod Answers

@@ -7,11 +7,12 @@ use Rattle.ol_term.specs.Trees.{Tree}
 use Rattle.ol_parse.specs.Parsed.{IsFileOf, AreNames}
 use Rattle.ol_readback.specs.Terms.{HasAllHeads, IsReadBack}
 use Rattle.ol_words.specs.Texts.{Text}
-use Rattle.ol_words.specs.Asked.{Asked, run, walk, gen}
+use Rattle.ol_words.specs.Asked.{Asked, run, walk, gen, demand}
 use Rattle.ol_cli.specs.declared.status.Status.{Status}
 use Rattle.ol_cli.specs.declared.status.Status.TheVariants as status
 use Rattle.ol_cli.specs.Jobs.{AskFor, plain_fuel, plain_heads, term_bytes}
 use Rattle.ol_cli.specs.Evaluation.{Prints, Walks}
+use Rattle.ol_cli.specs.DemandOrder.{Demands}
 
 -- what `run` prints of a term, and that it is read again
 abbrev pub RunIsReadAgain : Translation → Tree → List (List ℕ) → (fuel heads : ℕ) → List ℕ → Type 0
@@ -23,12 +24,18 @@ abbrev pub WalkIsReadAgain : Translation → Tree → List (List ℕ) → (edges
 WalkIsReadAgain translation t names edges heads text =
     (w : Walks translation t names edges heads text) × (HasAllHeads w.tree → IsReadBack names w.tree w.term)
 
+-- the same of `demand`
+abbrev pub DemandIsReadAgain : Translation → Tree → List (List ℕ) → (fuel heads : ℕ) → List ℕ → Type 0
+DemandIsReadAgain translation t names fuel heads text =
+    (d : Demands translation t names fuel heads text) × (HasAllHeads d.ends.tree → IsReadBack names d.ends.tree d.term)
+
 -- What a job answers to a term, and that the tree whose text it prints is read again, where each of its places has a head. The other
 -- jobs print no tree.
 abbrev pub TextIsReadAgain : Asked → Tree → List (List ℕ) → List ℕ → Type 0
 TextIsReadAgain (run translation workers fuel heads name) t names text = RunIsReadAgain translation t names fuel heads text
 TextIsReadAgain (walk translation edges heads name) t names text = WalkIsReadAgain translation t names edges heads text
 TextIsReadAgain (gen translation true k) t names text = RunIsReadAgain translation t names plain_fuel plain_heads text
+TextIsReadAgain (demand translation fuel heads name) t names text = DemandIsReadAgain translation t names fuel heads text
 TextIsReadAgain _ t names text = Unit {0}
 
 -- where the job is done, its text is read again by these names, if they are names of the grammar

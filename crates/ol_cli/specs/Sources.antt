@@ -13,12 +13,14 @@ use Rattle.ol_net.specs.Pairs.{IsComplete}
 use Rattle.ol_translate.specs.Translation.{translation_of}
 use Rattle.ol_readback.specs.Sources.{HasHeadsOf}
 use Rattle.ol_readback.specs.Terms.{HasAllHeads, IsReadBack}
+use Rattle.ol_demand.specs.Answers.{IsNeeded}
 use Rattle.ol_meaning.specs.Meaning.{SaysOf}
-use Rattle.ol_words.specs.Asked.{Asked, run, walk, gen}
+use Rattle.ol_words.specs.Asked.{Asked, run, walk, gen, demand}
 use Rattle.ol_cli.specs.declared.status.Status.{Status}
 use Rattle.ol_cli.specs.declared.status.Status.TheVariants as status
 use Rattle.ol_cli.specs.Jobs.{AskFor, plain_fuel, plain_heads, translation_in}
 use Rattle.ol_cli.specs.Evaluation.{start_net_of_term, Prints, Walks, PrintsOf}
+use Rattle.ol_cli.specs.DemandOrder.{Demands}
 
 -- ---- the tree that is written
 
@@ -41,12 +43,22 @@ pub record WalksTree (translation : Translation) (t : Tree) (names : List (List 
   pub says : SaysOf t false walks.tree
   pub read_again : HasAllHeads walks.tree → IsReadBack names walks.tree walks.term
 
+-- The same of `demand`, where nothing is said of the places without a head. Each pair that it rewrites is, by birth names, rewritten
+-- in every complete run from the term's net.
+pub record DemandsTree (translation : Translation) (t : Tree) (names : List (List ℕ)) (fuel heads : ℕ) (text : List ℕ) : Type 0 where
+  pub demands : Demands translation t names fuel heads text
+  pub own_heads : HasHeadsOf (translation_of translation t (length names)) false demands.ends.tree
+  pub says : SaysOf t false demands.ends.tree
+  pub read_again : HasAllHeads demands.ends.tree → IsReadBack names demands.ends.tree demands.term
+  pub needed : IsNeeded (start_net_of_term translation t names) demands.ends.journal
+
 -- What a job prints of a term, with the facts of its tree, if it prints one. `gen --run` does with the term that it makes what `run`
 -- does without options.
 abbrev pub TellsTree : Asked → Tree → List (List ℕ) → List ℕ → Type 0
 TellsTree (run translation workers fuel heads name) t names text = PrintsTree translation t names fuel heads text
 TellsTree (walk translation edges heads name) t names text = WalksTree translation t names edges heads text
 TellsTree (gen translation true k) t names text = PrintsTree translation t names plain_fuel plain_heads text
+TellsTree (demand translation fuel heads name) t names text = DemandsTree translation t names fuel heads text
 TellsTree _ t names text = Unit {0}
 
 -- The text was written for the job's own term, and these are the facts of its tree.
@@ -64,10 +76,16 @@ RunTells names fuel heads journal net status.Done old new =
 RunTells names fuel heads journal net status.Spent old new = fuel < length journal
 RunTells names fuel heads journal net _ old new = Unit {0}
 
+-- what it tells of the status of `demand`: where the demand run is longer than the fuel, so is each complete run
+abbrev pub DemandTells : (fuel : ℕ) → List Entry → Status → Type 0
+DemandTells fuel journal status.Spent = fuel < length journal
+DemandTells fuel journal _ = Unit {0}
+
 -- the same of a job: the others rewrite nothing, or write no term
 abbrev pub JobTells : Asked → List (List ℕ) → List Entry → NamedNet NodeName → Status → Option (List ℕ) → Option (List ℕ) → Type 0
 JobTells (run translation workers fuel heads name) names journal net st old new = RunTells names fuel heads journal net st old new
 JobTells (gen translation true k) names journal net st old new = RunTells names plain_fuel plain_heads journal net st old new
+JobTells (demand translation fuel heads name) names journal net st old new = DemandTells fuel journal st
 JobTells _ names journal net st old new = Unit {0}
 
 -- each complete run from the net of the job's own term tells this, whatever pairs it takes first

@@ -14,7 +14,7 @@ abbrev pub count_line : List ℕ → ℕ → List ℕ
 count_line name n = name ++ (32 ∷ decimal n ++ 10 ∷ [])
 
 abbrev pub usage_text : List ℕ
-usage_text = line (codes "usage: ol run|walk|view|trace|check|gen|certify|net|equal [options] NAME")
+usage_text = line (codes "usage: ol run|walk|view|trace|check|gen|demand|certify|net|equal [options] NAME")
 
 abbrev pub fault_text : List ℕ
 fault_text = line (codes "read fault")

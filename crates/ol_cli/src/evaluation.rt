@@ -16,6 +16,7 @@ ghost use Rattle.ol_cli.specs.Handed.{WhereEnded, FileHands, TraceHands};
 ghost use Rattle.ol_cli.specs.Prepared.{HoldsOfTerms, IsNetOf, IsReducible};
 
 use crate::certifying::certify_net;
+use crate::demanding::demand_net;
 use crate::preparing::{Prepared, prepare};
 use crate::status::Status;
 use crate::texts::{answer_lines, line, spent_line, term_line, view_lines};
@@ -105,6 +106,7 @@ fn translation_in(job: &Job) -> Translation
         Job::Trace { translation, .. } => *translation,
         Job::Check { translation, .. } => *translation,
         Job::Gen { translation, .. } => *translation,
+        Job::Demand { translation, .. } => *translation,
         Job::Certify { translation, .. } => *translation,
         Job::Net { translation, .. } => *translation,
         Job::Equal { translation, .. } => *translation,
@@ -216,6 +218,15 @@ fn evaluate_net<R: Threads + Wait + Sync, G: Gate + Sync>(
         }
         Job::Trace { workers, fuel, .. } => {
             let answer = trace_net(rt, alloc, net, *workers, *fuel, gate)?;
+            Ok(answer)
+        }
+        Job::Demand {
+            translation,
+            fuel,
+            heads,
+            ..
+        } => {
+            let answer = demand_net(alloc, net, file, *translation, *fuel, *heads)?;
             Ok(answer)
         }
         Job::Certify {

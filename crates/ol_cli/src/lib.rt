@@ -3,6 +3,7 @@
 
 mod certifying;
 mod comparing;
+mod demanding;
 mod evaluation;
 mod last_tree;
 mod laws;

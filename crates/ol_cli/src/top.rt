@@ -66,6 +66,10 @@ pub struct Outcome {
 ///   The text may tell each pair's rule and wave, or its two nodes alone.
 /// - `gen [--run] K` writes a term that is doubled K times, or does with it what `run` does with no
 ///   options.
+/// - `demand [--fuel F] [--heads Q] NAME` reads the term back in one thread from the untouched net,
+///   and rewrites only the active pairs that the walks of the reading meet, at most F of them. It
+///   writes what `run` writes: the term, of which the first Q subterms are asked for, how often each
+///   rule was applied, and how many pairs are stuck in the net that is left.
 /// - `certify [--steps B] [--workers N] [--fuel F] [--heads Q] NAME` rewrites the net and reads it
 ///   back as `run` does, and reduces the term by at most B leftmost beta steps. It writes whether
 ///   the normal form is what was read back, and then the address of each step; or why that isn't
@@ -96,8 +100,10 @@ pub struct Outcome {
 /// run prints the same, and each is longer than F where that one is. Each head that is written is
 /// the one that walks of any length give in the source's untouched net (Gonthier, Abadi and Lévy,
 /// The Geometry of Optimal Lambda Reduction, 1992). So is each `?` of `run` where it writes
-/// `stuck 0`; one of `walk` says only that none of the walks that were tried gave a head. A term
-/// without `...` and `?` is in the grammar, and read again it has no redex.
+/// `stuck 0`; one of `walk` or `demand` says only that none of the walks that were tried gave a
+/// head. A term without `...` and `?` is in the grammar, and read again it has no redex. Each pair
+/// that `demand` rewrites is, by birth names, rewritten in every complete run; so where it needs
+/// more than F interactions, each complete run does.
 ///
 /// Refusals are tried in the order that `Status` tells. Each has a line of its own: the usage,
 /// `read fault`, `syntax at byte B` with the length of the longest prefix that begins a text of the
@@ -157,18 +163,20 @@ pub fn ol<R: Threads + Wait + Sync, S: Source, W: Sink, G: Gate + Sync>(
         (IsDoneOrNothing words.now.items (S.contents src.old)
         result.status (W.taken out.old) (W.taken out.new)) }
 
-    // And where `run`, `walk` or `gen --run` is done, two facts hold of the tree whose text is
-    // written. Each of its heads is the one that paths of any length give in the untouched net of
-    // the job's own term; so is each `?`, where the printed `stuck` is 0, while of a `?` of `walk`
-    // nothing is said. And where each of its places has a head, its text is in the grammar, and
-    // read back it is the tree's term, which has no redex.
+    // And where `run`, `walk`, `demand` or `gen --run` is done, two facts hold of the tree whose
+    // text is written. Each of its heads is the one that paths of any length give in the untouched
+    // net of the job's own term; so is each `?`, where the printed `stuck` is 0, while of a `?` of
+    // `walk` or `demand` nothing is said. And where each of its places has a head, its text is in
+    // the grammar, and read back it is the tree's term, which has no redex. Of `demand` a third
+    // holds: each pair that it rewrites is, by birth names, rewritten in every complete run.
     ensures tree { (bytes : List ℕ) → TellsTerm (S.contents src.old) words.now.items bytes
         → IfNoneFailed (S.faults src.old) (S.faults src.new) (W.faults out.old) (W.faults out.new)
         (result.status ≡ Status.Done
         → WritesTree words.now.items bytes (W.taken out.old) (W.taken out.new)) }
 
     // And each complete run of the own term of `run` or `gen --run`, whatever pairs it takes first,
-    // prints what is written, or is longer than the fuel where that is spent.
+    // prints what is written, or is longer than the fuel where that is spent. It is so too where
+    // the fuel of `demand` is spent.
     ensures every_run { (bytes : List ℕ) → TellsTerm (S.contents src.old) words.now.items bytes
         → IfNoneFailed (S.faults src.old) (S.faults src.new) (W.faults out.old) (W.faults out.new)
         (result.status ≢ Status.NoMemory → EveryRunTells words.now.items bytes
@@ -287,7 +295,7 @@ fn plan<R: Threads + Wait + Sync, S: Source, G: Gate + Sync>(
         Err(UsageFault::Refused) => {
             let text = line(
                 alloc,
-                "usage: ol run|walk|view|trace|check|gen|certify|net|equal [options] NAME",
+                "usage: ol run|walk|view|trace|check|gen|demand|certify|net|equal [options] NAME",
             )?;
             Ok(Answer::without_words(text, Status::Usage))
         }
@@ -325,6 +333,7 @@ fn answer_job<R: Threads + Wait + Sync, S: Source, G: Gate + Sync>(
         Job::Walk { name, .. } => answer_file(rt, alloc, job, name.as_str(), src, gate),
         Job::View { name, .. } => answer_file(rt, alloc, job, name.as_str(), src, gate),
         Job::Trace { name, .. } => answer_file(rt, alloc, job, name.as_str(), src, gate),
+        Job::Demand { name, .. } => answer_file(rt, alloc, job, name.as_str(), src, gate),
         Job::Certify { name, .. } => answer_file(rt, alloc, job, name.as_str(), src, gate),
         Job::Check {
             translation,

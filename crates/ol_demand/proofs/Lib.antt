@@ -16,3 +16,4 @@ pub mod SameChains
 pub mod OneTurn
 pub mod OneDemand
 pub mod Onward
+pub mod SameDemand

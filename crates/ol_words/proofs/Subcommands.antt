@@ -10,8 +10,8 @@ use Rattle.clap.specs.Simple.{Shape, names_of, entered, label_of, rows_at}
 use Rattle.clap.specs.Words.{is_simple, built, subcommand_of, takes}
 use Rattle.ol_words.specs.Texts.{Text}
 use Rattle.ol_words.specs.Lines.{Line, line_of}
-use Rattle.ol_words.specs.Asked.{run, walk, view, trace, certify, net}
-use Rattle.ol_words.specs.Jobs.{Verb, known_of, options_of, only, verb_named, translation_numbered, certify_asks, check_asks, equal_asks, gen_asks, net_asks, run_asks, trace_asks, view_asks, walk_asks, certify_verb, check_verb, equal_verb, gen_verb, net_verb, run_verb, trace_verb, view_verb, walk_verb}
+use Rattle.ol_words.specs.Asked.{run, walk, view, trace, demand, certify, net}
+use Rattle.ol_words.specs.Jobs.{Verb, known_of, options_of, only, verb_named, translation_numbered, certify_asks, check_asks, demand_asks, equal_asks, gen_asks, net_asks, run_asks, trace_asks, view_asks, walk_asks, certify_verb, check_verb, demand_verb, equal_verb, gen_verb, net_verb, run_verb, trace_verb, view_verb, walk_verb}
 use Rattle.ol_words.specs.Once.{is_told_once}
 use Rattle.ol_words.specs.Command.{app}
 use Rattle.std.proofs.lemmas.Bool.{and_from, cases_Bool}
@@ -80,6 +80,13 @@ gen_one (t ∷ r ∷ x ∷ xs) names e = refl
 gen_one (t ∷ r ∷ []) [] e = refl
 gen_one (t ∷ r ∷ []) (n ∷ []) e = absurd (true≢false e)
 gen_one (t ∷ r ∷ []) (n ∷ m ∷ names) e = refl
+
+demand_one : (ns : List ℕ) (names : List Text) → nat_eq (length names) 1 ≡ false → demand_asks ns names ≡ None
+demand_one [] names e = refl
+demand_one (t ∷ []) names e = refl
+demand_one (t ∷ f ∷ []) names e = refl
+demand_one (t ∷ f ∷ h ∷ []) names e = ap (option_map (demand (translation_numbered t) f h)) (not_only names e)
+demand_one (t ∷ f ∷ h ∷ x ∷ xs) names e = refl
 
 certify_one : (ns : List ℕ) (names : List Text) → nat_eq (length names) 1 ≡ false → certify_asks ns names ≡ None
 certify_one [] names e = refl
@@ -216,6 +223,15 @@ is_gen = record {
   reads = verb_reads gen_verb (refl, refl, refl, tt, refl, tt) refl (inl refl, (inr (refl, refl), tt)) (λ rows. refl);
 }
 
+is_demand : IsVerb demand_verb
+unfolding walked top_shape
+is_demand = record {
+  one = demand_one;
+  rows = rows_behind demand_verb.word (rules_of demand_verb) refl refl refl;
+  taken = taken_behind demand_verb.word (rules_of demand_verb) refl refl refl;
+  reads = verb_reads demand_verb (refl, refl, refl, tt, refl, tt) refl (without_flags demand_verb.settings) (λ rows. refl);
+}
+
 is_certify : IsVerb certify_verb
 unfolding walked top_shape
 is_certify = record {
@@ -264,4 +280,4 @@ module _ (word : Text) (v : Verb) where
 pub named_is : (word : Text) (v : Verb) → verb_named word ≡ Some v → IsVerb v × (word ≡ v.word)
 named_is word v = here_or_later word v run_verb _ is_run (here_or_later word v walk_verb _ is_walk (here_or_later word v view_verb _ is_view
     (here_or_later word v trace_verb _ is_trace (here_or_later word v check_verb _ is_check (here_or_later word v gen_verb _ is_gen
-    (here_or_later word v certify_verb _ is_certify (here_or_later word v net_verb _ is_net (here_or_later word v equal_verb _ is_equal (none_left word v)))))))))
+    (here_or_later word v demand_verb _ is_demand (here_or_later word v certify_verb _ is_certify (here_or_later word v net_verb _ is_net (here_or_later word v equal_verb _ is_equal (none_left word v))))))))))

@@ -13,6 +13,7 @@ pub data Asked : Type 0 where
   trace : (translation : Translation) → (workers : ℕ) → (fuel : ℕ) → (name : Text) → Asked
   check : (translation : Translation) → (term : Text) → (journal : Text) → Asked
   gen : (translation : Translation) → (runs : Bool) → (k : ℕ) → Asked
+  demand : (translation : Translation) → (fuel : ℕ) → (heads : ℕ) → (name : Text) → Asked
   certify : (translation : Translation) → (steps : ℕ) → (workers : ℕ) → (fuel : ℕ) → (heads : ℕ) → (name : Text) → Asked
   net : (translation : Translation) → (from_term : Bool) → (workers : ℕ) → (fuel : ℕ) → (name : Text) → Asked
   equal : (translation : Translation) → (workers : ℕ) → (fuel : ℕ) → (heads : ℕ) → (first : Text) → (second : Text) → Asked
@@ -24,6 +25,7 @@ asked_by (job.View translation after name) = view translation after name
 asked_by (job.Trace translation workers fuel name) = trace translation workers fuel name
 asked_by (job.Check translation term journal) = check translation term journal
 asked_by (job.Gen translation runs k) = gen translation runs k
+asked_by (job.Demand translation fuel heads name) = demand translation fuel heads name
 asked_by (job.Certify translation steps workers fuel heads name) = certify translation steps workers fuel heads name
 asked_by (job.Net translation from_term workers fuel name) = net translation from_term workers fuel name
 asked_by (job.Equal translation workers fuel heads first second) = equal translation workers fuel heads first second

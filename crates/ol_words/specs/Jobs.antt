@@ -5,7 +5,7 @@ use Rattle.std.specs.Str.{bytes_eq}
 use Rattle.ol_term.specs.declared.translations.Translation.{Translation}
 use Rattle.ol_term.specs.declared.translations.Translation.TheVariants.{One, Two}
 use Rattle.ol_words.specs.Texts.{Text}
-use Rattle.ol_words.specs.Asked.{Asked, run, walk, view, trace, check, gen, certify, net, equal}
+use Rattle.ol_words.specs.Asked.{Asked, run, walk, view, trace, check, gen, demand, certify, net, equal}
 use Rattle.ol_words.specs.Lines.{Line, Known, line_of}
 use Rattle.ol_words.specs.Numbers.{Limits, number_within, setting}
 
@@ -113,6 +113,10 @@ gen_asks (w ∷ runs ∷ []) (number ∷ []) =
     gen_of (translation_numbered w) (runs == 1) (number_within doublings number)
 gen_asks _ names = None
 
+abbrev pub demand_asks : List ℕ → List Text → Option Asked
+demand_asks (w ∷ fuel ∷ heads ∷ []) names = option_map (demand (translation_numbered w) fuel heads) (only names)
+demand_asks _ names = None
+
 abbrev pub certify_asks : List ℕ → List Text → Option Asked
 certify_asks (w ∷ steps ∷ workers ∷ fuel ∷ heads ∷ []) names =
     option_map (certify (translation_numbered w) steps workers fuel heads) (only names)
@@ -160,6 +164,9 @@ gen_verb = record {
   asks = gen_asks;
 }
 
+abbrev pub demand_verb : Verb
+demand_verb = file_verb (codes "demand") (translation_setting ∷ fuel_setting ∷ heads_setting ∷ []) demand_asks
+
 abbrev pub certify_verb : Verb
 certify_verb = file_verb (codes "certify")
     (translation_setting ∷ steps_setting ∷ workers_setting ∷ fuel_setting ∷ heads_setting ∷ []) certify_asks
@@ -185,7 +192,7 @@ equal_verb = record {
 abbrev pub verbs : List Verb
 verbs =
     run_verb ∷ walk_verb ∷ view_verb ∷ trace_verb ∷ check_verb ∷ gen_verb
-    ∷ certify_verb ∷ net_verb ∷ equal_verb ∷ []
+    ∷ demand_verb ∷ certify_verb ∷ net_verb ∷ equal_verb ∷ []
 
 abbrev pub verb_named : Text → Option Verb
 verb_named word = find (λ v. bytes_eq v.word word) verbs

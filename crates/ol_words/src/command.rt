@@ -95,6 +95,7 @@ fn command<'a>(alloc: Global) -> Result<Command<'a>, AllocError>
         .subcommand(subcommand(alloc, Verb::Trace)?)?
         .subcommand(subcommand(alloc, Verb::Check)?)?
         .subcommand(subcommand(alloc, Verb::Gen)?)?
+        .subcommand(subcommand(alloc, Verb::Demand)?)?
         .subcommand(subcommand(alloc, Verb::Certify)?)?
         .subcommand(subcommand(alloc, Verb::Net)?)?
         .subcommand(subcommand(alloc, Verb::Equal)?)?;

@@ -107,6 +107,18 @@ pub enum Job {
         /// How often it is applied to itself, 0 to 10.
         k: u32,
     },
+    /// Rewrite only what the heads of a term ask for, in one thread, and print what is left with the
+    /// counts of the rules.
+    Demand {
+        /// By which translation the term becomes a net.
+        translation: Translation,
+        /// How many interactions may be made, 0 to 8,000,000.
+        fuel: u32,
+        /// How many subterms of the answer are asked for their heads, 1 to 100,000.
+        heads: u32,
+        /// The file with the term, or `-` for standard input.
+        name: Word,
+    },
     /// Rewrite the net of a term, and tell whether leftmost beta steps of the term lead to what is
     /// then read back.
     Certify {

@@ -7,7 +7,7 @@ ghost use Rattle.ol_words.specs.Jobs.{job_of};
 ghost use Rattle.ol_words.specs.Views.{verb_of};
 ghost use Rattle.ol_words.specs.Once.{agreed_verb};
 ghost use Rattle.ol_words.specs.Found.{flag_by, job_found, setting_by};
-ghost use Rattle.ol_words.specs.Jobs.{certify_verb, check_verb, equal_verb, gen_verb, is_input, net_verb, run_verb, trace_verb, translation_numbered, translation_setting, view_verb, walk_verb};
+ghost use Rattle.ol_words.specs.Jobs.{certify_verb, check_verb, demand_verb, equal_verb, gen_verb, is_input, net_verb, run_verb, trace_verb, translation_numbered, translation_setting, view_verb, walk_verb};
 
 use crate::command::matches_of;
 use crate::jobs::{Job, UsageFault, Word};
@@ -21,15 +21,15 @@ use ol_term::Translation;
 use std::alloc::{AllocError, Global};
 
 /// The job of the words of a command line: the program's name, which isn't looked at, then the
-/// command `run`, `walk`, `view`, `trace`, `check`, `gen`, `certify`, `net` or `equal`, then its
-/// options and its names in any order.
+/// command `run`, `walk`, `view`, `trace`, `check`, `gen`, `demand`, `certify`, `net` or `equal`,
+/// then its options and its names in any order.
 ///
 /// `run` and `equal` have the options `--workers`, `--fuel` and `--heads`, `walk` has `--edges` and
 /// `--heads`, `view` has `--after`, `trace` has `--workers` and `--fuel`, `gen` has `--run`,
-/// `certify` has `--steps` and those of `run`, and `net` has `--from-term` and those of `trace`.
-/// `--run` and `--from-term` take no value. All commands have `--translation`, 1 or 2. `check` and
-/// `equal` take the names of two files, which aren't both `-`, `gen` takes one number in a name's
-/// place, and the others take the name of one file.
+/// `demand` has `--fuel` and `--heads`, `certify` has `--steps` and those of `run`, and `net` has
+/// `--from-term` and those of `trace`. `--run` and `--from-term` take no value. All commands have
+/// `--translation`, 1 or 2. `check` and `equal` take the names of two files, which aren't both `-`,
+/// `gen` takes one number in a name's place, and the others take the name of one file.
 ///
 /// An option is written out whole, as `--name value` or `--name=value`, and comes at most once. A
 /// number is 1 to 8 ASCII digits within the range that `Job` gives. By themselves the translation
@@ -90,6 +90,7 @@ fn job_by(alloc: Global, verb: Verb, found: &ArgMatches) -> Result<Job, UsageFau
         Verb::Trace => trace_by(alloc, found),
         Verb::Check => check_by(alloc, found),
         Verb::Gen => gen_by(found),
+        Verb::Demand => demand_by(alloc, found),
         Verb::Certify => certify_by(alloc, found),
         Verb::Net => net_by(alloc, found),
         Verb::Equal => equal_by(alloc, found),
@@ -245,6 +246,32 @@ fn gen_by(found: &ArgMatches) -> Result<Job, UsageFault>
         translation,
         run,
         k,
+    })
+}
+
+// The job by what was given behind `demand`.
+fn demand_by(alloc: Global, found: &ArgMatches) -> Result<Job, UsageFault>
+    ensures job { IfOk result (λ job. job_found demand_verb found.now ≡ Some (asked_by job)) }
+    ensures refused { result ≡ Err UsageFault.Refused → job_found demand_verb found.now ≡ None }
+{
+    let Some(translation) = translation_by(found.get_str("translation")) else {
+        return Err(UsageFault::Refused);
+    };
+    let Some(fuel) = setting_by(found.get_str("fuel"), FUEL) else {
+        return Err(UsageFault::Refused);
+    };
+    let Some(heads) = setting_by(found.get_str("heads"), HEADS) else {
+        return Err(UsageFault::Refused);
+    };
+    let Some(name) = found.get_str("name") else {
+        return Err(UsageFault::Refused);
+    };
+    let name = Word::of(alloc, name)?;
+    Ok(Job::Demand {
+        translation,
+        fuel,
+        heads,
+        name,
     })
 }
 

@@ -19,6 +19,8 @@ static GEN_OPTIONS: [&str; 2] = ["translation", "run"];
 
 static GEN_FLAGS: [&str; 1] = ["run"];
 
+static DEMAND_OPTIONS: [&str; 3] = ["translation", "fuel", "heads"];
+
 static CERTIFY_OPTIONS: [&str; 5] = ["translation", "steps", "workers", "fuel", "heads"];
 
 static NET_OPTIONS: [&str; 4] = ["translation", "from-term", "workers", "fuel"];
@@ -44,6 +46,7 @@ pub(crate) enum Verb {
     Trace,
     Check,
     Gen,
+    Demand,
     Certify,
     Net,
     Equal,
@@ -61,6 +64,7 @@ impl Verb {
             "trace" => Some(Verb::Trace),
             "check" => Some(Verb::Check),
             "gen" => Some(Verb::Gen),
+            "demand" => Some(Verb::Demand),
             "certify" => Some(Verb::Certify),
             "net" => Some(Verb::Net),
             "equal" => Some(Verb::Equal),
@@ -79,6 +83,7 @@ impl Verb {
             Verb::Trace => "trace",
             Verb::Check => "check",
             Verb::Gen => "gen",
+            Verb::Demand => "demand",
             Verb::Certify => "certify",
             Verb::Net => "net",
             Verb::Equal => "equal",
@@ -96,6 +101,7 @@ impl Verb {
             Verb::Trace => TRACE_OPTIONS.as_slice(),
             Verb::Check => CHECK_OPTIONS.as_slice(),
             Verb::Gen => GEN_OPTIONS.as_slice(),
+            Verb::Demand => DEMAND_OPTIONS.as_slice(),
             Verb::Certify => CERTIFY_OPTIONS.as_slice(),
             Verb::Net => NET_OPTIONS.as_slice(),
         }
@@ -113,6 +119,7 @@ impl Verb {
             | Verb::View
             | Verb::Trace
             | Verb::Check
+            | Verb::Demand
             | Verb::Certify
             | Verb::Equal => NOTHING.as_slice(),
         }
@@ -123,8 +130,13 @@ impl Verb {
         ensures { texts result.now ≡ (verb_of self).names }
     {
         match self {
-            Verb::Run | Verb::Walk | Verb::View | Verb::Trace | Verb::Certify | Verb::Net =>
-                FILE_NAMES.as_slice(),
+            Verb::Run
+            | Verb::Walk
+            | Verb::View
+            | Verb::Trace
+            | Verb::Demand
+            | Verb::Certify
+            | Verb::Net => FILE_NAMES.as_slice(),
             Verb::Check => CHECK_NAMES.as_slice(),
             Verb::Gen => GEN_NAMES.as_slice(),
             Verb::Equal => EQUAL_NAMES.as_slice(),

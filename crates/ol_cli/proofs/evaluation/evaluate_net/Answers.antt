@@ -8,6 +8,9 @@ returns-in_ok-answer-in-Run-clause-read g c = rw c.in-Run.is c.in_ok-answer-in-R
 pub returns-in_ok-text-in-Walk-clause-read : goal.returns-in_ok-text-in-Walk-clause-read
 returns-in_ok-text-in-Walk-clause-read g c = rw (c.without_words.ensures, c.in-Walk.is) c.in_ok-text-in-Walk.ensures.read
 
+pub returns-in_ok-answer-in-Demand-clause-read : goal.returns-in_ok-answer-in-Demand-clause-read
+returns-in_ok-answer-in-Demand-clause-read g c = rw c.in-Demand.is c.in_ok-answer-in-Demand.ensures.read
+
 pub returns-in_ok-answer-in-Run-clause-closed : goal.returns-in_ok-answer-in-Run-clause-closed
 returns-in_ok-answer-in-Run-clause-closed g c = rw c.in-Run.is c.in_ok-answer-in-Run.ensures.closed
 

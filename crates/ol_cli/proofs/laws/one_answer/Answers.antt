@@ -1,3 +1,4 @@
+use Rattle.ol_cli.proofs.DemandRuns.{one_demanded_tree}
 use Rattle.ol_cli.proofs.OneAnswer.{answers_one}
 use Rattle.ol_cli.proofs.NetRuns.{one_net_is_left}
 use Rattle.ol_cli.proofs.OnePrint.{one_printed_tree, one_walked_tree}
@@ -11,6 +12,9 @@ returns-clause-printed c = one_printed_tree
 
 pub returns-clause-walked : goal.returns-clause-walked
 returns-clause-walked c = one_walked_tree
+
+pub returns-clause-demanded : goal.returns-clause-demanded
+returns-clause-demanded c = one_demanded_tree
 
 pub returns-clause-left : goal.returns-clause-left
 returns-clause-left c = λ net fuel counts counts' stuck stuck' nodes nodes' is_net e e'. one_net_is_left net fuel counts counts' stuck stuck' nodes nodes' is_net e e'

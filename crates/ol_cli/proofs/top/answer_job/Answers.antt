@@ -28,6 +28,9 @@ returns-in-View-clause-caused g c = IfOk-weaker c.answer_file-in-View.result _ _
 pub returns-in-Trace-clause-caused : goal.returns-in-Trace-clause-caused
 returns-in-Trace-clause-caused g c = IfOk-weaker c.answer_file-in-Trace.result _ _ (λ a h. by_file (rw c.in-Trace.is tt) h) c.answer_file-in-Trace.ensures.caused
 
+pub returns-in-Demand-clause-caused : goal.returns-in-Demand-clause-caused
+returns-in-Demand-clause-caused g c = IfOk-weaker c.answer_file-in-Demand.result _ _ (λ a h. by_file (rw c.in-Demand.is tt) h) c.answer_file-in-Demand.ensures.caused
+
 pub returns-in-Certify-clause-caused : goal.returns-in-Certify-clause-caused
 returns-in-Certify-clause-caused g c = IfOk-weaker c.answer_file-in-Certify.result _ _ (λ a h. by_file (rw c.in-Certify.is tt) h) c.answer_file-in-Certify.ensures.caused
 
@@ -48,6 +51,9 @@ answer_file-requires-in-View-clause-known g c = λ κs alive. rw c.as_str-in-Vie
 
 pub answer_file-requires-in-Trace-clause-known : goal.answer_file-requires-in-Trace-clause-known
 answer_file-requires-in-Trace-clause-known g c = λ κs alive. rw c.as_str-in-Trace.ensures (c.requires.known 0 c.in-Trace.name (rw c.in-Trace.is refl))
+
+pub answer_file-requires-in-Demand-clause-known : goal.answer_file-requires-in-Demand-clause-known
+answer_file-requires-in-Demand-clause-known g c = λ κs alive. rw c.as_str-in-Demand.ensures (c.requires.known 0 c.in-Demand.name (rw c.in-Demand.is refl))
 
 pub answer_file-requires-in-Certify-clause-known : goal.answer_file-requires-in-Certify-clause-known
 answer_file-requires-in-Certify-clause-known g c = λ κs alive. rw c.as_str-in-Certify.ensures (c.requires.known 0 c.in-Certify.name (rw c.in-Certify.is refl))
