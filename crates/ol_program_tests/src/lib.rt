@@ -8,6 +8,8 @@ mod certificates;
 #[cfg(test)]
 mod commands;
 #[cfg(test)]
+mod demands;
+#[cfg(test)]
 mod equality;
 #[cfg(test)]
 mod fakes;

@@ -439,7 +439,7 @@ fn other_words_are_usage(rt: HostRuntime) -> Result<(), Fail> {
             words,
             b"\\x. x",
             Status::Usage,
-            "usage: ol run|walk|view|trace|check|gen|certify|net|equal [options] NAME\n",
+            "usage: ol run|walk|view|trace|check|gen|demand|certify|net|equal [options] NAME\n",
         )?;
     }
     Ok(())

@@ -20,7 +20,8 @@ const REFUSED: &str = "ol;ol run;ol run a b;ol run -- a b;ol run --workers 0 -;\
     ol check --translation 3 a b;ol check a b -- --translation 1;ol check --help a b;ol gen;\
     ol gen 11;ol gen 3 --translation;ol gen x;ol gen -;ol gen -3;ol gen +3;ol gen 1 2;\
     ol gen 000000001;ol gen --run;ol gen --run 3 --run;ol gen --run=1 3;ol gen --run= 3;\
-    ol gen --ru 3;ol gen -- --run;ol gen -r 3;ol certify;ol certify a b;ol certify --steps -;\
+    ol gen --ru 3;ol gen -- --run;ol gen -r 3;ol demand;ol demand a b;ol demand --workers 1 -;\
+    ol demand --fuel 8000001 -;ol demand --heads 0 -;ol demand --steps 1 -;ol certify;ol certify a b;ol certify --steps -;\
     ol certify --steps 10001 -;ol certify --steps 1 --steps 1 -;ol certify --edges 3 -;ol net;\
     ol net a b;ol net --from-term;ol net --from-term=1 a;ol net --from-term a --from-term;\
     ol net --from a;ol net --heads 3 a;ol equal;ol equal a;ol equal a b c;ol equal - -;\
@@ -116,8 +117,16 @@ const TERMS: &str = "\
     ol gen --translation 1 -- 3 \
     => Gen { translation: One, run: false, k: 3 }";
 
-/// The same of lines that certify, take nets and compare terms.
+/// The same of lines that take demand order, certify, take nets and compare terms.
 const ANSWERS: &str = "\
+    ol demand - \
+    => Demand { translation: Two, fuel: 200000, heads: 4096, name: Word { text: \"-\" } };\
+    ol demand --fuel=0 a --heads 1 --translation 1 \
+    => Demand { translation: One, fuel: 0, heads: 1, name: Word { text: \"a\" } };\
+    ol demand demand --fuel 8000000 -- \
+    => Demand { translation: Two, fuel: 8000000, heads: 4096, name: Word { text: \"demand\" } };\
+    ol demand --heads=100000 -- --heads \
+    => Demand { translation: Two, fuel: 200000, heads: 100000, name: Word { text: \"--heads\" } };\
     ol certify - \
     => Certify { translation: Two, steps: 1000, workers: 4, fuel: 200000, heads: 4096, \
     name: Word { text: \"-\" } };\
