@@ -1,18 +1,17 @@
 -- A chain ends in one way.
-use Rattle.std.proofs.Common.{◌≡◌, ◌≢◌, ℕ, zero, suc, ◌*◌, ◌<◌, ◌≤◌, inl, inr, ◌⊎◌, refl, sym, ap, ◌∙◌, subst, arith}
-use Rattle.ol_net.specs.declared.parts.Kind.{Kind}
+use Rattle.std.proofs.Common.{◌≡◌, ℕ, suc, ◌*◌, ◌<◌, inl, inr, refl, sym, subst, arith}
 use Rattle.ol_net.specs.declared.parts.Rule.{Rule}
-use Rattle.ol_net.specs.Nets.{NamedNet, NamedPort, free, slot, HasNode, Linked, IsNet, IsPrincipalOf}
+use Rattle.ol_net.specs.Nets.{NamedNet, NamedPort, free, slot, Linked, IsNet, IsPrincipalOf}
 use Rattle.ol_context.specs.Contexts.{Context}
-use Rattle.ol_context.specs.Paths.{Crosses, Through, through, IsBarred, Path}
-use Rattle.ol_context.specs.Ways.{Way, start, on, WalkStands, Stops}
+use Rattle.ol_context.specs.Paths.{Through, through, Path}
+use Rattle.ol_context.specs.Ways.{Way, start, on}
 use Rattle.ol_context.specs.Short.{live}
-use Rattle.ol_context.proofs.Ways.{through_one, way_one, way_exits}
+use Rattle.ol_context.proofs.Ways.{way_one, way_exits}
 use Rattle.ol_context.proofs.Exits.{Three, three, no_stop}
 use Rattle.ol_rules.proofs.FreshPairs.{linked_sym}
 use Rattle.ol_rules.proofs.OneRun.{ArePaired}
 use Rattle.ol_demand.specs.Chains.{IsAtPair, IsAtNoPair, Chain, starts, crosses, End, met, left, undefined, budget, Stands, at_pair, at_port, barred, at_last, Ends}
-use Rattle.ol_demand.proofs.Pairs.{other_of, no_free}
+use Rattle.ol_demand.proofs.Pairs.{no_free}
 
 -- two ends are the same, but for which of two nodes is given first
 abbrev pub Agree : {A : Type 0} → End A → End A → Type 0

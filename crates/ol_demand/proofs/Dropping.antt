@@ -3,7 +3,6 @@ use Rattle.std.proofs.Common.{◌≡◌, ℕ, List, length, sym, subst}
 use Rattle.ol_net.specs.Graph.{Graph}
 use Rattle.ol_context.specs.Contexts.{Level, Context}
 use Rattle.ol_context.specs.Shapes.{Extends, AreHeld}
-use Rattle.ol_context.proofs.ValueLists.{held_append}
 use Rattle.ol_readback.proofs.Dropped as dropped
 use Rattle.ol_readback.specs.declared.answers.Head.TheVariants.{NoHead}
 use Rattle.ol_demand.specs.Chaining.{IsEndOf, IsHeldEnd, KeepsIfLeft, IsUnchangedUnlessLeft}

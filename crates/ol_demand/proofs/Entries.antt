@@ -1,11 +1,11 @@
 -- A step of a pair as an entry of a journal, under the names of a run.
-use Rattle.std.proofs.Common.{◌≡◌, ◌≢◌, ℕ, zero, suc, ◌+◌, ◌-◌, ◌<◌, ◌≤◌, List, [], ◌∷◌, ◌++◌, length, length-append, get_or, if◌then◌else◌, Bool, true, false, nat_lt, ◌⊎◌, inl, inr, refl, sym, ap, ◌∙◌, subst, arith, add-one}
+use Rattle.std.proofs.Common.{◌≡◌, ℕ, zero, suc, ◌+◌, ◌-◌, ◌<◌, ◌≤◌, List, [], ◌∷◌, ◌++◌, length, get_or, if◌then◌else◌, Bool, true, false, nat_lt, ◌⊎◌, inl, inr, refl, sym, ap, ◌∙◌, subst, arith, add-one}
 use Rattle.std.proofs.lemmas.Bool.{cases_lt}
 use Rattle.std.proofs.lemmas.Bool.Decides.{nat_tests}
 use Rattle.std.proofs.lemmas.List.{get_or_append_left, get_or-append_right, get_or_push, length_push}
 use Rattle.ol_net.specs.declared.parts.Rule.{Rule}
 use Rattle.ol_net.specs.Graph.{Graph}
-use Rattle.ol_net.specs.Nets.{slot, NamedNet, Linked, IsNet, net_under}
+use Rattle.ol_net.specs.Nets.{slot, Linked, IsNet, net_under}
 use Rattle.ol_net.specs.Numbered.{net_of}
 use Rattle.ol_rules.specs.declared.journal.NodeName.{NodeName}
 use Rattle.ol_rules.specs.declared.journal.NodeName.TheVariants.{Init, Born}
@@ -16,12 +16,10 @@ use Rattle.ol_rules.specs.Runs.{names_born}
 use Rattle.ol_rules.specs.Running.{name_in}
 use Rattle.ol_rules.specs.Steps.{StepsAt}
 use Rattle.ol_rules.proofs.FreshPairs.{linked_sym}
-use Rattle.ol_rules.proofs.NameOrder.{Names, names_apart, names_after, names_after_old, names_after_new, names_on, names_first}
-use Rattle.ol_rules.proofs.OneThread.{step_few}
-use Rattle.ol_rules.proofs.Renaming.{net_alike, step_under}
-use Rattle.ol_rules.proofs.UnderWay.{node_below}
+use Rattle.ol_rules.proofs.NameOrder.{Names, names_apart, names_after, names_after_old, names_on}
+use Rattle.ol_rules.proofs.Renaming.{step_under}
 use Rattle.ol_demand.specs.Asking.{IsNaming, AreNamesOf}
-use Rattle.ol_demand.specs.Rewriting.{Advances, entry_for}
+use Rattle.ol_demand.specs.Rewriting.{Advances}
 use Rattle.ol_demand.specs.declared.rewriting.Run.{Run}
 
 pub as_names : (start next ticket : ℕ) (m : ℕ → NodeName) → IsNaming start next ticket m → Names start next ticket m

@@ -12,7 +12,7 @@ use Rattle.ol_readback.specs.declared.answers.ReadNode.{ReadNode}
 use Rattle.ol_demand.specs.Answers.{IsNeeded}
 use Rattle.ol_demand.specs.Demands.{Asking, Turns}
 use Rattle.ol_demand.specs.Laws.{IsStart, EachPairIsNeeded, TurnsAreRun}
-use Rattle.ol_demand.proofs.Turning.{IsKept, turns_kept}
+use Rattle.ol_demand.proofs.Turning.{turns_kept}
 
 pub turns_are_run : TurnsAreRun
 turns_are_run N M heads turns journal places a s r = let k = turns_kept s r in (k.run, k.paths)

@@ -1,9 +1,9 @@
 -- What a chain keeps on its way.
-use Rattle.std.proofs.Common.{◌≡◌, ℕ, ◌+◌, ◌*◌, ◌<◌, ◌≤◌, List, refl, sym, arith, add-one, subst}
+use Rattle.std.proofs.Common.{◌≡◌, ℕ, ◌+◌, ◌*◌, ◌<◌, ◌≤◌, List, refl, arith, add-one, subst}
 use Rattle.ol_net.specs.declared.parts.Port.{Port}
 use Rattle.ol_net.specs.declared.parts.Port.TheVariants.{Free, Of}
 use Rattle.ol_net.specs.Graph.{Graph}
-use Rattle.ol_net.specs.Nets.{NamedNet, NamedPort, free, slot, Linked, IsNet, IsPort}
+use Rattle.ol_net.specs.Nets.{NamedNet, NamedPort, slot, Linked, IsPort}
 use Rattle.ol_net.specs.Numbered.{numbered_port, net_of}
 use Rattle.ol_context.specs.Contexts.{Level, Context}
 use Rattle.ol_context.specs.Paths.{Through, through, IsBarred}
@@ -11,7 +11,7 @@ use Rattle.ol_context.specs.Shapes.{Extends, AreHeld, context_of}
 use Rattle.ol_context.specs.Short.{live}
 use Rattle.ol_context.proofs.Shapes.{extends_refl, extends_trans}
 use Rattle.ol_context.proofs.Walked.{IsNotFree, through_port}
-use Rattle.ol_demand.specs.Chains.{IsAtNoPair, IsAtPair, Chain, starts, crosses, met, left, undefined, budget, at_pair, at_port, barred, at_last, Ends}
+use Rattle.ol_demand.specs.Chains.{IsAtNoPair, Chain, starts, crosses, left, undefined, budget, at_pair, at_port, barred, at_last, Ends}
 use Rattle.ol_demand.specs.Chaining.{IsPair, MetBy}
 
 -- after some crossings the chain leaves by a port, with the context that the numbers stand for

@@ -1,15 +1,14 @@
 -- The demand run of a net is one.
-use Rattle.std.proofs.Common.{◌≡◌, ℕ, zero, suc, ◌+◌, ◌<◌, ◌≤◌, ◌⊎◌, inl, inr, List, [], ◌∷◌, ◌++◌, length, length-append, append-nil, map, refl, sym, ap, ◌∙◌, subst, arith}
+use Rattle.std.proofs.Common.{◌≡◌, ℕ, ◌<◌, ◌≤◌, ◌⊎◌, inl, inr, List, [], ◌∷◌, ◌++◌, length, length-append, append-nil, map, refl, sym, ap, ◌∙◌, subst, arith}
 use Rattle.std.proofs.lemmas.List.{append_assoc}
-use Rattle.ol_net.specs.Nets.{NamedNet, IsNet, SameNet}
-use Rattle.ol_context.specs.Short.{live, IsOnce}
+use Rattle.ol_net.specs.Nets.{NamedNet, SameNet}
+use Rattle.ol_context.specs.Short.{IsOnce}
 use Rattle.ol_context.proofs.Exits.{Three, three}
 use Rattle.ol_rules.specs.declared.journal.NodeName.{NodeName}
 use Rattle.ol_rules.specs.declared.journal.Entry.{Entry}
-use Rattle.ol_readback.specs.ReadTrees.{Subterm}
 use Rattle.ol_readback.specs.declared.answers.ReadNode.{ReadNode}
 use Rattle.ol_readback.specs.declared.answers.ReadNode.TheVariants as node
-use Rattle.ol_demand.specs.Demands.{Asking, asks, Turn, rewrites, one_more, finds, Turns, begins, and_then, IsDemandRun, GoesOn, HasMoreSteps}
+use Rattle.ol_demand.specs.Demands.{Asking, asks, Turn, rewrites, one_more, finds, Turns, begins, and_then, IsDemandRun, GoesOn}
 use Rattle.ol_demand.specs.Laws.{IsStart, DemandRunIsOne, FrontIsOne, EndsOrGoesOn}
 use Rattle.ol_demand.proofs.LiveNodes.{live_same}
 use Rattle.ol_demand.proofs.OneTurn.{OneTurn, one_turn, meets_left, meets_right}

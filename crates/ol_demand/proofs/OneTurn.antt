@@ -1,22 +1,20 @@
 -- A net makes one turn.
-use Rattle.std.proofs.Common.{◌≡◌, ℕ, suc, ◌<◌, ◌≤◌, ◌⊎◌, inl, inr, true, List, [], ◌∷◌, ◌++◌, length, refl, sym, ap, ◌∙◌, subst, arith}
+use Rattle.std.proofs.Common.{◌≡◌, ℕ, suc, ◌<◌, ◌⊎◌, inl, inr, true, List, [], ◌∷◌, ◌++◌, length, refl, sym, ap, ◌∙◌, subst, arith}
 use Rattle.ol_net.specs.declared.parts.Rule.{Rule}
 use Rattle.ol_net.specs.Nets.{NamedNet, IsNet, SameNet}
 use Rattle.ol_net.specs.Pairs.{IsActive, IsInActive}
-use Rattle.ol_context.specs.Contexts.{Context}
-use Rattle.ol_context.specs.Short.{live, IsOnce}
+use Rattle.ol_context.specs.Short.{live}
 use Rattle.ol_diamond.proofs.Pairs.{one_rule}
 use Rattle.ol_rules.specs.declared.journal.NodeName.{NodeName}
 use Rattle.ol_rules.specs.declared.journal.NodeName.TheVariants.{Born}
 use Rattle.ol_rules.specs.declared.journal.Entry.{Entry}
-use Rattle.ol_rules.specs.Names.{comes_before, IsNamed}
-use Rattle.ol_rules.specs.Runs.{IsEntryStep}
+use Rattle.ol_rules.specs.Names.{comes_before}
 use Rattle.ol_rules.proofs.NameOrder.{before_before, not_before_itself}
 use Rattle.ol_rules.proofs.OneRun.{ArePaired, step_either}
 use Rattle.ol_rules.proofs.Relation.{same_sym}
 use Rattle.ol_rules.proofs.Same.{active_same}
 use Rattle.ol_readback.specs.Frames.{Frame, asked}
-use Rattle.ol_readback.specs.Heads.{Answer, no_head, budget, IsMatched}
+use Rattle.ol_readback.specs.Heads.{Answer, IsMatched}
 use Rattle.ol_readback.specs.ReadTrees.{Subterm, framed}
 use Rattle.ol_readback.specs.declared.answers.ReadNode.{ReadNode}
 use Rattle.ol_readback.proofs.One.{exit_is_one}
@@ -24,7 +22,6 @@ use Rattle.ol_demand.specs.Chains.{End, Ends}
 use Rattle.ol_demand.specs.Chains as chain
 use Rattle.ol_demand.specs.Demands.{Asking, asks, ChainEnds, Meets, IsFound, exits, lost, spent, place_of, next, Turn, rewrites, one_more, finds}
 use Rattle.ol_demand.proofs.Chains.{Agree, ends_one}
-use Rattle.ol_demand.proofs.LiveNodes.{live_same}
 use Rattle.ol_demand.proofs.SameChains.{ends_same}
 
 -- two names in order, given as a pair either way round
@@ -80,8 +77,7 @@ module _ (heads t : ℕ) (M N : NamedNet NodeName) (is_net : IsNet M) (same : Sa
   one_meeting F s n e e' P Q m m' =
       let p : ArePaired m.step.f m.step.g m'.step.f m'.step.g = agree F s n (chain.met m.step.f m.step.g e.rule) (chain.met m'.step.f m'.step.g e'.rule) m.ends m'.ends in
       let r = rule_is m.step.f m.step.g m'.step.f m'.step.g e.rule e'.rule m.step.step.active m'.step.step.active p in
-      let o = one_order e.first e.second e'.first e'.second m.step.f m.step.g m'.step.f m'.step.g m.step.named.ordered m'.step.named.ordered m.step.named.pair m'.step.named.pair p in
-      (
+      let o = one_order e.first e.second e'.first e'.second m.step.f m.step.g m'.step.f m'.step.g m.step.named.ordered m'.step.named.ordered m.step.named.pair m'.step.named.pair p in (
         ap (λ r. entry_of r e.first e.second) r ∙ ap (λ x. entry_of e'.rule x e.second) o.0 ∙ ap (λ y. entry_of e'.rule e'.first y) o.1,
         step_either (λ place. Born t place) M N P Q m.step.f m.step.g m'.step.f m'.step.g e.rule e'.rule is_net same p m.step.step m'.step.step,
       )

@@ -1,5 +1,5 @@
 -- A whole demand run of a graph, place after place.
-use Rattle.std.proofs.Common.{◌≡◌, ◌≢◌, ℕ, zero, suc, ◌+◌, ◌-◌, ◌*◌, ◌^◌, ◌<◌, ◌≤◌, ◌⊎◌, ◌↔◌, inl, inr, List, [], ◌∷◌, ◌++◌, length, map, Bool, false, true, option_to_list, Option, Some, None, refl, sym, ap, ◌∙◌, subst, arith}
+use Rattle.std.proofs.Common.{◌≡◌, ℕ, ◌+◌, ◌-◌, ◌*◌, ◌^◌, ◌<◌, ◌≤◌, ◌↔◌, inl, inr, List, [], ◌∷◌, ◌++◌, length, map, Bool, false, option_to_list, Option, Some, None, refl, sym, ap, ◌∙◌, subst, arith}
 use Rattle.std.proofs.lemmas.List.{append-nil}
 use Rattle.ol_net.specs.Graph.{Graph}
 use Rattle.ol_net.specs.Nets.{NamedNet, IsNet, net_under}
@@ -13,8 +13,8 @@ use Rattle.ol_rules.specs.declared.journal.NodeName.TheVariants.{Init}
 use Rattle.ol_rules.specs.declared.journal.Entry.{Entry}
 use Rattle.ol_rules.proofs.StartNets.{start_net, start_named, one_start}
 use Rattle.ol_readback.specs.Frames.{Frame, frames_of}
-use Rattle.ol_readback.specs.Groups.{subterm_of, subterms_in, pending_of, AreHeldGroups, ArePlacedGroups, AreHeldIn, ArePlacedIn, IsNextFrame, IsNext}
-use Rattle.ol_readback.specs.ReadTrees.{Subterm, whole_term, framed}
+use Rattle.ol_readback.specs.Groups.{subterm_of, subterms_in, pending_of, AreHeldGroups, ArePlacedGroups, ArePlacedIn, IsNextFrame, IsNext}
+use Rattle.ol_readback.specs.ReadTrees.{Subterm, framed}
 use Rattle.ol_readback.specs.Reading.{IsFrameList, cuts_of}
 use Rattle.ol_readback.specs.Sources.{HaveHeadsOf, HasHeadsOf}
 use Rattle.ol_readback.specs.Sources as sources
@@ -33,7 +33,7 @@ use Rattle.ol_readback.proofs.Onward.{pending_add, held_add, placed_add}
 use Rattle.ol_readback.proofs.Places.{list_more}
 use Rattle.ol_demand.specs.Answers.{start_of, StandsFor, IsAnswer, IsSpent, IsNeeded, StopsOnTheWay}
 use Rattle.ol_demand.specs.Asking.{IsUnderWay, IsLeftOff, IsRunning}
-use Rattle.ol_demand.specs.Demands.{asks, IsDemandRun, GoesOn, HasMoreSteps}
+use Rattle.ol_demand.specs.Demands.{asks, IsDemandRun, HasMoreSteps}
 use Rattle.ol_demand.specs.FrameReading.{IsReadNext, AreHeldIfSome, ArePlacedIfSome, StopsNext}
 use Rattle.ol_demand.specs.Laws.{IsStart}
 use Rattle.ol_demand.specs.declared.answers.Demanded.TheVariants as answer

@@ -6,7 +6,6 @@ use Rattle.ol_net.specs.Nets.{NamedNet, slot, Linked, IsNet}
 use Rattle.ol_net.specs.Numbered.{net_of}
 use Rattle.ol_net.specs.Pairs.{IsActive, IsInActive}
 use Rattle.ol_rules.proofs.FreshPairs.{linked_sym}
-use Rattle.ol_rules.proofs.UnderWay.{node_below}
 use Rattle.ol_rules.proofs.Waiting.{active_below}
 use Rattle.ol_demand.specs.Chaining.{IsPair}
 

@@ -1,27 +1,24 @@
 -- The next place, and what is to be read after it.
-use Rattle.std.proofs.Common.{◌≡◌, ℕ, ◌+◌, ◌<◌, ◌≤◌, List, [], ◌∷◌, ◌++◌, length, map, Option, Some, None, refl, sym, ap, ◌∙◌, subst, arith}
+use Rattle.std.proofs.Common.{◌≡◌, ℕ, ◌<◌, ◌≤◌, List, [], ◌∷◌, ◌++◌, length, map, Option, Some, None, sym, ap, ◌∙◌, subst, arith}
 use Rattle.ol_net.specs.Graph.{Graph}
 use Rattle.ol_net.specs.Numbered.{net_of}
 use Rattle.ol_context.specs.Contexts.{Level}
 use Rattle.ol_context.specs.Shapes.{value, Extends}
 use Rattle.ol_readback.specs.Frames.{Frame, frames_of}
-use Rattle.ol_readback.specs.Heads.{head, no_head, budget, answer_of}
 use Rattle.ol_readback.specs.ReadTrees.{Subterm, framed, port_of, arguments}
 use Rattle.ol_readback.specs.Groups.{subterm_of, subterms_in, IsNextFrame, IsGroupOf}
 use Rattle.ol_readback.specs.Reading.{IsFrameList}
 use Rattle.ol_readback.specs.declared.answers.HeadVar.{HeadVar}
 use Rattle.ol_readback.specs.declared.answers.Head.{Head}
 use Rattle.ol_readback.specs.declared.answers.Head.TheVariants as code
-use Rattle.ol_readback.specs.declared.answers.ReadNode.{ReadNode}
 use Rattle.ol_readback.specs.declared.answers.ReadNode.TheVariants as node
 use Rattle.ol_readback.specs.declared.frames.Frame as frame
 use Rattle.ol_readback.specs.declared.groups.Group.{Group}
 use Rattle.ol_readback.proofs.FrameLists.{count_frames}
 use Rattle.ol_readback.proofs.Places.{port_same, frames_after, asked_frames, after_none, with_lams}
-use Rattle.ol_demand.specs.Demands.{Asking, asks, place_of, next}
-use Rattle.ol_demand.specs.Answers.{StopsOnTheWay}
-use Rattle.ol_demand.specs.Asking.{IsUnderWay, IsLeftOff, IsAnswered, IsStopped}
-use Rattle.ol_demand.specs.FrameReading.{WhateverNext, IsReadNext, StopsNext}
+use Rattle.ol_demand.specs.Demands.{asks}
+use Rattle.ol_demand.specs.Asking.{IsUnderWay, IsAnswered, IsStopped}
+use Rattle.ol_demand.specs.FrameReading.{IsReadNext, StopsNext}
 use Rattle.ol_demand.specs.declared.rewriting.Run.{Run}
 use Rattle.ol_demand.proofs.UnderWays.{under_stops}
 

@@ -1,13 +1,11 @@
 -- The last frame of a list, its question, and what its chain says of a run under way.
-use Rattle.std.proofs.Common.{◌≡◌, ◌≢◌, ℕ, suc, ◌+◌, ◌-◌, ◌*◌, ◌<◌, ◌≤◌, ◌⊎◌, inl, inr, List, [], ◌∷◌, ◌++◌, length, length-append, map, get_or, refl, sym, ap, ◌∙◌, subst, arith}
+use Rattle.std.proofs.Common.{◌≡◌, ◌≢◌, ℕ, ◌+◌, ◌-◌, ◌<◌, inl, inr, List, [], ◌∷◌, ◌++◌, length, length-append, map, get_or, refl, sym, ap, ◌∙◌, subst, arith}
 use Rattle.std.proofs.lemmas.List.{map-append, length_push}
-use Rattle.ol_net.specs.declared.parts.Rule.{Rule}
 use Rattle.ol_net.specs.Graph.{Graph}
-use Rattle.ol_net.specs.Nets.{IsNet, slot, Linked}
+use Rattle.ol_net.specs.Nets.{IsNet}
 use Rattle.ol_net.specs.Numbered.{net_of}
 use Rattle.ol_context.specs.Contexts.{Level, empty, Context, levels}
-use Rattle.ol_context.specs.Shapes.{value, AreHeld, Extends, context_of}
-use Rattle.ol_context.specs.Short.{live}
+use Rattle.ol_context.specs.Shapes.{value, Extends, context_of}
 use Rattle.ol_context.proofs.Shapes.{map_more}
 use Rattle.ol_rules.specs.declared.journal.Entry.{Entry}
 use Rattle.ol_rules.specs.declared.journal.NodeName.{NodeName}
@@ -15,10 +13,10 @@ use Rattle.ol_rules.specs.Runs.{names_born}
 use Rattle.ol_readback.specs.declared.answers.ReadNode.{ReadNode}
 use Rattle.ol_demand.proofs.Entries.{length-names_born}
 use Rattle.ol_rules.proofs.OneThread.{step_few}
-use Rattle.ol_readback.specs.Frames.{Frame, os, asked, frame_at, frame_of, frames_of, ParentsFirst, AreHeldFrames, root}
+use Rattle.ol_readback.specs.Frames.{Frame, os, asked, frame_at, frame_of, frames_of, ParentsFirst, AreHeldFrames}
 use Rattle.ol_readback.specs.Heads.{Answer, IsMatched, matched, unmatched, answer_of}
 use Rattle.ol_readback.specs.Matching.{Matches}
-use Rattle.ol_readback.specs.ReadTrees.{Subterm, framed, port_of}
+use Rattle.ol_readback.specs.ReadTrees.{Subterm, framed}
 use Rattle.ol_readback.specs.declared.answers.Head.{Head}
 use Rattle.ol_readback.specs.declared.answers.Head.TheVariants as head
 use Rattle.ol_readback.specs.declared.frames.Frame as code
@@ -27,16 +25,15 @@ use Rattle.ol_readback.proofs.FrameLists.{frame_is, held_this, count_frames}
 use Rattle.ol_readback.proofs.Places.{port_is, known, path_port}
 use Rattle.ol_demand.specs.Chains as chain
 use Rattle.ol_demand.specs.Chains.{Ends}
-use Rattle.ol_demand.specs.Chaining.{IsPair, MetBy, IsEndOf, question_of}
+use Rattle.ol_demand.specs.Chaining.{MetBy, IsEndOf, question_of}
 use Rattle.ol_demand.specs.Demands.{asks}
 use Rattle.ol_demand.specs.Answers.{StopsOnTheWay}
 use Rattle.ol_demand.specs.Asking.{IsUnderWay, IsRunning, IsKnownHead}
-use Rattle.ol_demand.specs.Rewriting.{entry_for, Advances, AdvancesEither, AtMostOneStep, StopsEither}
+use Rattle.ol_demand.specs.Rewriting.{entry_for, Advances, AdvancesEither, StopsEither}
 use Rattle.ol_demand.specs.declared.answers.End.{End}
-use Rattle.ol_demand.specs.declared.answers.End.TheVariants as answer
 use Rattle.ol_demand.specs.declared.rewriting.Run.{Run}
 use Rattle.ol_demand.proofs.Chains.{path_at}
-use Rattle.ol_demand.proofs.Paired.{both_below, linked_turned, turned}
+use Rattle.ol_demand.proofs.Paired.{both_below, linked_turned}
 use Rattle.ol_demand.proofs.UnderWays.{rewritten, stopped, under_stops}
 
 -- the list's last frame is that of subterm s

@@ -1,10 +1,9 @@
 -- The same net, however its lists are ordered, has the same chains.
-use Rattle.std.proofs.Common.{◌≡◌, ℕ, suc, ◌*◌, ◌<◌, ◌≤◌, sym, subst, arith}
-use Rattle.ol_net.specs.declared.parts.Kind.{Kind}
+use Rattle.std.proofs.Common.{◌≡◌, ℕ, arith}
 use Rattle.ol_net.specs.declared.parts.Rule.{Rule}
-use Rattle.ol_net.specs.Nets.{NamedNet, NamedPort, free, slot, HasNode, Linked, SameNet}
+use Rattle.ol_net.specs.Nets.{NamedNet, NamedPort, free, slot, SameNet}
 use Rattle.ol_context.specs.Contexts.{Context}
-use Rattle.ol_context.specs.Paths.{Through, through, IsBarred}
+use Rattle.ol_context.specs.Paths.{Through, through}
 use Rattle.ol_context.specs.Short.{live}
 use Rattle.ol_rules.proofs.Relation.{same_sym}
 use Rattle.ol_rules.proofs.Same.{active_same}

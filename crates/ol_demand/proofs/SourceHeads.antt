@@ -1,16 +1,16 @@
 -- The heads that turns find are those of the net before.
-use Rattle.std.proofs.Common.{◌≡◌, ℕ, zero, suc, ◌+◌, ◌<◌, ◌≤◌, ◌⊎◌, inl, inr, List, [], ◌∷◌, ◌++◌, length, append-nil, map, false, true, refl, sym, ap, ◌∙◌, subst, arith}
+use Rattle.std.proofs.Common.{◌≡◌, ℕ, suc, ◌<◌, ◌≤◌, ◌⊎◌, inl, inr, List, [], ◌∷◌, ◌++◌, length, append-nil, map, false, refl, sym, subst, arith}
 use Rattle.std.proofs.lemmas.List.{append_assoc}
 use Rattle.std.proofs.lemmas.Bool.{cases_lt}
 use Rattle.ol_net.specs.Nets.{NamedNet, free, IsNet}
-use Rattle.ol_context.specs.Contexts.{Level, Context}
+use Rattle.ol_context.specs.Contexts.{Level}
 use Rattle.ol_context.specs.Paths.{Path, HaveSamePaths}
 use Rattle.ol_rules.specs.declared.journal.NodeName.{NodeName}
 use Rattle.ol_rules.specs.declared.journal.Entry.{Entry}
-use Rattle.ol_readback.specs.Frames.{Frame, frame_at, asked}
+use Rattle.ol_readback.specs.Frames.{Frame, asked}
 use Rattle.ol_readback.specs.Heads.{Answer, head, no_head, NoPath, IsHead}
 use Rattle.ol_readback.specs.Heads as heads
-use Rattle.ol_readback.specs.ReadTrees.{Subterm, whole_term, framed}
+use Rattle.ol_readback.specs.ReadTrees.{Subterm, framed}
 use Rattle.ol_readback.specs.Sources.{HaveHeadsOf, HasHeadsOf}
 use Rattle.ol_readback.specs.Sources as sources
 use Rattle.ol_readback.specs.declared.answers.HeadVar.{HeadVar}
@@ -19,7 +19,7 @@ use Rattle.ol_readback.specs.declared.answers.ReadNode.TheVariants as node
 use Rattle.ol_readback.proofs.Forests.{frame_last}
 use Rattle.ol_demand.specs.Chains as chain
 use Rattle.ol_demand.specs.Chains.{Ends}
-use Rattle.ol_demand.specs.Demands.{Asking, asks, ChainEnds, IsFound, exits, lost, spent, place_of, next, Turn, rewrites, one_more, finds, Turns, begins, and_then}
+use Rattle.ol_demand.specs.Demands.{Asking, asks, IsFound, exits, lost, spent, place_of, next, Turn, rewrites, one_more, finds, Turns, begins, and_then}
 use Rattle.ol_demand.specs.Laws.{IsStart, HeadsAreOfSource}
 use Rattle.ol_demand.proofs.Chains.{no_path_at, path_at}
 use Rattle.ol_demand.proofs.Turning.{turns_kept}

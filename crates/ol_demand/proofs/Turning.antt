@@ -1,20 +1,19 @@
 -- What turns keep, and that each is one.
-use Rattle.std.proofs.Common.{◌≡◌, ◌≢◌, ℕ, zero, suc, ◌+◌, ◌<◌, ◌≤◌, ◌⊎◌, inl, inr, List, [], ◌∷◌, ◌++◌, length, length-append, append-nil, map, refl, sym, ap, ◌∙◌, subst, arith, add-one}
-use Rattle.std.proofs.lemmas.List.{append_assoc}
-use Rattle.ol_net.specs.Nets.{NamedNet, IsNet, SameNet}
+use Rattle.std.proofs.Common.{◌≡◌, ℕ, suc, ◌+◌, List, [], ◌∷◌, ◌++◌, length, length-append, append-nil, sym, subst, arith}
+use Rattle.ol_net.specs.Nets.{NamedNet, IsNet}
 use Rattle.ol_context.specs.Paths.{HaveSamePaths}
-use Rattle.ol_context.specs.Short.{live, IsOnce}
+use Rattle.ol_context.specs.Short.{IsOnce}
 use Rattle.ol_invariance.proofs.Steps.{step_keeps}
 use Rattle.ol_rules.specs.declared.journal.NodeName.{NodeName}
 use Rattle.ol_rules.specs.declared.journal.NodeName.TheVariants.{Born}
 use Rattle.ol_rules.specs.declared.journal.Entry.{Entry}
 use Rattle.ol_rules.specs.Laws.{AreNamedBefore, IsFresh}
 use Rattle.ol_rules.specs.Rewriting.{action_of}
-use Rattle.ol_rules.specs.Runs.{IsEntryStep, IsRun, end, then}
+use Rattle.ol_rules.specs.Runs.{IsEntryStep, IsRun}
 use Rattle.ol_rules.proofs.OneRun.{name_same, name_test, fresh_names, named_after}
 use Rattle.ol_rules.proofs.Relation.{net_kept}
 use Rattle.ol_readback.specs.declared.answers.ReadNode.{ReadNode}
-use Rattle.ol_demand.specs.Demands.{Asking, asks, Turn, rewrites, one_more, finds, Turns, begins, and_then}
+use Rattle.ol_demand.specs.Demands.{Asking, Turn, rewrites, one_more, finds, Turns, begins, and_then}
 use Rattle.ol_demand.specs.Laws.{IsStart}
 
 -- a run goes on by an entry

@@ -1,19 +1,19 @@
 -- A demand run on its way, turn after turn.
-use Rattle.std.proofs.Common.{◌≡◌, ◌≢◌, ℕ, zero, suc, ◌+◌, ◌-◌, ◌*◌, ◌<◌, ◌≤◌, Bool, true, nat_lt, if◌then◌else◌, slice_index_or, List, [], ◌∷◌, ◌++◌, length, length-append, append-nil, ◌⊎◌, inl, inr, refl, sym, ap, ◌∙◌, subst, arith}
+use Rattle.std.proofs.Common.{◌≡◌, ℕ, suc, ◌+◌, ◌-◌, ◌<◌, ◌≤◌, Bool, true, nat_lt, if◌then◌else◌, slice_index_or, List, [], ◌∷◌, ◌++◌, length, length-append, append-nil, ◌⊎◌, inl, inr, refl, sym, ap, ◌∙◌, subst, arith}
 use Rattle.ol_net.specs.declared.parts.Rule.{Rule}
 use Rattle.ol_net.specs.Graph.{Graph}
 use Rattle.ol_net.specs.Nets.{slot, NamedNet, Linked, IsNet, IsPrincipalOf, net_under}
 use Rattle.ol_net.specs.Numbered.{net_of}
 use Rattle.ol_net.specs.Pairs.{IsActive}
-use Rattle.ol_context.specs.Contexts.{Level, Context}
+use Rattle.ol_context.specs.Contexts.{Context}
 use Rattle.ol_context.specs.Short.{live}
 use Rattle.ol_rules.specs.declared.journal.NodeName.{NodeName}
-use Rattle.ol_rules.specs.declared.journal.NodeName.TheVariants.{Init, Born}
+use Rattle.ol_rules.specs.declared.journal.NodeName.TheVariants.{Init}
 use Rattle.ol_rules.specs.declared.journal.Entry.{Entry}
 use Rattle.ol_rules.specs.Running.{name_in}
 use Rattle.ol_rules.specs.Steps.{StepsAt}
 use Rattle.std.proofs.lemmas.Bool.Decides.{nat_tests}
-use Rattle.ol_rules.proofs.NameOrder.{names_first, names_on, names_after, names_after_old}
+use Rattle.ol_rules.proofs.NameOrder.{names_first, names_after, names_after_old}
 use Rattle.ol_rules.proofs.Renaming.{net_alike}
 use Rattle.ol_rules.proofs.UnderWay.{node_below}
 use Rattle.ol_readback.specs.Frames.{Frame, asked}
@@ -22,13 +22,13 @@ use Rattle.ol_readback.specs.ReadTrees.{Subterm, whole_term, framed}
 use Rattle.ol_readback.specs.declared.answers.ReadNode.{ReadNode}
 use Rattle.ol_demand.specs.Chains.{IsAtPair, Ends}
 use Rattle.ol_demand.specs.Chains as chain
-use Rattle.ol_demand.specs.Chaining.{IsPair, MetBy}
-use Rattle.ol_demand.specs.Demands.{Asking, asks, ChainEnds, Meets, IsFound, exits, lost, spent, place_of, next, Turn, rewrites, one_more, finds, Turns, begins, and_then, GoesOn}
-use Rattle.ol_demand.specs.Answers.{start_of, AreNames, StandsFor, IsFront, StopsOnTheWay}
-use Rattle.ol_demand.specs.Asking.{IsNaming, AreNamesOf, IsUnderWay, IsLeftOff, IsRunning}
-use Rattle.ol_demand.specs.Rewriting.{Advances, AtMostOneStep, entry_for}
+use Rattle.ol_demand.specs.Chaining.{MetBy}
+use Rattle.ol_demand.specs.Demands.{Asking, asks, ChainEnds, Meets, IsFound, exits, lost, spent, place_of, next, Turn, rewrites, one_more, finds, Turns, begins, and_then}
+use Rattle.ol_demand.specs.Answers.{start_of, StopsOnTheWay}
+use Rattle.ol_demand.specs.Asking.{IsNaming, IsUnderWay, IsLeftOff}
+use Rattle.ol_demand.specs.Rewriting.{Advances}
 use Rattle.ol_demand.specs.declared.rewriting.Run.{Run}
-use Rattle.ol_demand.proofs.Entries.{as_names, is_naming, one_name, the_pair, entry_names, named_step, names_of_next, after_step}
+use Rattle.ol_demand.proofs.Entries.{is_naming, one_name, the_pair, entry_names, named_step, names_of_next, after_step}
 use Rattle.ol_demand.proofs.LiveNodes.{once}
 use Rattle.ol_demand.proofs.Paired.{acts}
 use Rattle.ol_demand.proofs.UnderNames.{end_under, live_under, ends_under, once_under}

@@ -10,7 +10,6 @@ use Rattle.ol_rules.specs.declared.journal.Entry.{Entry}
 use Rattle.ol_rules.specs.Names.{comes_before}
 use Rattle.ol_rules.specs.Runs.{IsRun}
 use Rattle.ol_diamond.specs.Laws.{RunByBirths}
-use Rattle.ol_readback.specs.Sources.{HasHeadsOf}
 use Rattle.ol_readback.specs.declared.answers.ReadNode.{ReadNode}
 use Rattle.ol_demand.specs.Demands.{Asking, Turns, IsDemandRun, GoesOn}
 use Rattle.ol_demand.specs.Laws.{ArePairsOf}

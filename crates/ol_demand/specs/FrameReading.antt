@@ -1,5 +1,5 @@
 -- Private: reading one place after another.
-use Rattle.std.specs.Prelude.{◌≡◌, ℕ, ◌<◌, List, [], ◌∷◌, ◌++◌, length, Option, Some, None}
+use Rattle.std.specs.Prelude.{ℕ, ◌<◌, List, [], ◌∷◌, ◌++◌, length, Option, Some, None}
 use Rattle.ol_net.specs.Graph.{Graph}
 use Rattle.ol_context.specs.Contexts.{Level}
 use Rattle.ol_readback.specs.Frames.{frames_of}

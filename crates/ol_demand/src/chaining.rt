@@ -30,7 +30,8 @@ fn pair_at(net: &Net, at: Port, next: Port) -> Option<(NodeId, NodeId)>
     let Port::Of {
         node: second,
         slot: entered,
-    } = next else {
+    } = next
+    else {
         return None;
     };
     if entered != 0 {

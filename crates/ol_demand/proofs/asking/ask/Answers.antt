@@ -1,8 +1,7 @@
-use Rattle.std.proofs.Common.{◌≡◌, ◌≢◌, ℕ, suc, ◌+◌, ◌-◌, ◌*◌, ◌^◌, ◌<◌, ◌≤◌, List, [], ◌∷◌, length, map, refl, sym, ap, ◌∙◌, subst, arith, add-one}
-use Rattle.ol_net.specs.Numbered.{net_of}
+use Rattle.std.proofs.Common.{◌≡◌, ◌≢◌, ◌+◌, ◌-◌, ◌^◌, ◌<◌, List, ◌∷◌, length, refl, sym, ap, ◌∙◌, subst, arith, add-one}
 use Rattle.ol_context.specs.Contexts.{Level, empty, o}
 use Rattle.ol_context.specs.Asked.{os}
-use Rattle.ol_context.specs.Shapes.{value, AreHeld, IsNumberOf, Extends, context_of}
+use Rattle.ol_context.specs.Shapes.{value, IsNumberOf, context_of}
 use Rattle.ol_context.proofs.Shapes.{held_more, extends_refl, extends_trans}
 use Rattle.ol_rules.proofs.OneThread.{on_err}
 use Rattle.ol_readback.specs.Frames.{Frame, frames_of, ParentsFirst}
@@ -10,7 +9,6 @@ use Rattle.ol_readback.specs.Heads.{answer_of, IsMatched}
 use Rattle.ol_readback.proofs.FrameLists.{frames_more, held_frames_more, held_this, port_this, count_frames}
 use Rattle.ol_demand.specs.Chaining.{IsEndOf, IsUnchangedUnlessLeft}
 use Rattle.ol_demand.specs.Demands.{asks}
-use Rattle.ol_demand.specs.Asking.{IsRunning, IsUnderWay}
 use Rattle.ol_demand.specs.declared.answers.End.TheVariants as answer
 use Rattle.ol_demand.proofs.UnderWays.{left_off, found_left, found_lost, found_spent, asked_more, under_stops}
 use Rattle.ol_demand.proofs.Questions.{end_is, matched_last, known_head, running_on, free_on, journal_on, met_on, met_stopped}
@@ -72,8 +70,8 @@ returns-in_err-rewrite_pair-in-Met-clause-stopped c =
     let more : length c.loop-end.run.journal ≢ c.args.fuel = λ q. c.if-len-fuel.false (c.len.ensures ∙ q) in
     let i = c.loop-end.invariant.running.within in
     on_err c.from_residual-in_err-rewrite_pair-in-Met.result (λ old heads places front s ss z b u.
-      let e = end_is c.args.values.now c.args.frames.now.items c.args.at c.index-frame.result.now c.requires.last c.index-frame.ensures front s z c.loop-end.values c.loop-end.mark c.loop-end.lams c.loop-end.invariant.extends c.requires.frames c.loop-end.invariant.mark.is c.loop-end.net c.ask_once.new.values c.in_ok-end.end (answer.Met c.in-Met.first c.in-Met.second) c.in_ok-end.ensures.ends c.in-Met.is in
-      met_stopped old c.loop-end.net c.rewrite_pair.new.net c.loop-end.run heads places front s ss c.loop-end.lams c.in-Met.first.0 c.in-Met.second.0 b (c.loop-end.invariant.under old heads places front s ss z b u) c.is_net.ensures.net e c.args.fuel (omega arith) c.in_err-rewrite_pair-in-Met.ensures.err)
+    let e = end_is c.args.values.now c.args.frames.now.items c.args.at c.index-frame.result.now c.requires.last c.index-frame.ensures front s z c.loop-end.values c.loop-end.mark c.loop-end.lams c.loop-end.invariant.extends c.requires.frames c.loop-end.invariant.mark.is c.loop-end.net c.ask_once.new.values c.in_ok-end.end (answer.Met c.in-Met.first c.in-Met.second) c.in_ok-end.ensures.ends c.in-Met.is in
+    met_stopped old c.loop-end.net c.rewrite_pair.new.net c.loop-end.run heads places front s ss c.loop-end.lams c.in-Met.first.0 c.in-Met.second.0 b (c.loop-end.invariant.under old heads places front s ss z b u) c.is_net.ensures.net e c.args.fuel (omega arith) c.in_err-rewrite_pair-in-Met.ensures.err)
 
 pub rewrite_pair-requires-clause-pair : goal.rewrite_pair-requires-clause-pair
 rewrite_pair-requires-clause-pair c = let e = subst (IsEndOf c.loop-end.net c.index-frame.result.now.port _ c.ask_once.new.values) c.in-Met.is c.in_ok-end.ensures.ends in (e.rule, e.pair)

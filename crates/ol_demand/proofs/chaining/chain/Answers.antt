@@ -1,4 +1,4 @@
-use Rattle.std.proofs.Common.{ℕ, ◌*◌, sym, ap, ◌∙◌, refl, subst}
+use Rattle.std.proofs.Common.{◌*◌, ap, refl, subst}
 use Rattle.ol_net.specs.Numbered.{net_of, numbered_port}
 use Rattle.ol_context.specs.Paths.{Through}
 use Rattle.ol_context.specs.Shapes.{context_of}
@@ -6,7 +6,7 @@ use Rattle.ol_context.specs.Crossed.{IfOut}
 use Rattle.ol_context.specs.declared.answers.Cross.{Cross}
 use Rattle.ol_context.proofs.Walked.{node_port}
 use Rattle.ol_net.specs.declared.parts.NodeId.{NodeId}
-use Rattle.std.proofs.Common.{Option, Some, None}
+use Rattle.std.proofs.Common.{Option}
 use Rattle.ol_demand.specs.Chaining.{FindsPair}
 use Rattle.ol_demand.proofs.OnChains.{begins, meets, leaves, goes_on, stops, spends}
 use Rattle.ol_demand.proofs.chaining.chain.Goals as goal

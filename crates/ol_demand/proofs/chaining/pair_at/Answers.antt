@@ -1,7 +1,6 @@
 use Rattle.std.proofs.Common.{◌≡◌, sym, subst, ap, ◌∙◌}
 use Rattle.ol_net.specs.declared.parts.Port.{Port}
-use Rattle.ol_net.specs.declared.parts.Port.TheVariants.{Free, Of}
-use Rattle.ol_net.specs.Nets.{NamedPort, slot, free, Linked}
+use Rattle.ol_net.specs.Nets.{slot, Linked}
 use Rattle.ol_net.specs.Numbered.{net_of, numbered_port, PortsLinked}
 use Rattle.ol_demand.specs.Chains.{IsAtNoPair}
 use Rattle.ol_demand.proofs.Pairs.{none_active, no_free, no_auxiliary}
@@ -27,5 +26,5 @@ returns c =
     let at : numbered_port c.args.at ≡ slot c.in-Of.first.0 0 = ap numbered_port c.in-Of.is ∙ ap (slot c.in-Of.first.0) c.if-slot-ne0.false in
     let next : numbered_port c.args.next ≡ slot c.in-Of-next.second.0 0 = ap numbered_port c.in-Of-next.is ∙ ap (slot c.in-Of-next.second.0) c.if-entered-ne0.false in
     let l : Linked (net_of c.args.net.now) (slot c.in-Of.first.0 0) (slot c.in-Of-next.second.0 0) =
-        subst (λ p. Linked (net_of c.args.net.now) p (slot c.in-Of-next.second.0 0)) at (subst (λ q. Linked (net_of c.args.net.now) (numbered_port c.args.at) q) next c.requires) in
+    subst (λ p. Linked (net_of c.args.net.now) p (slot c.in-Of-next.second.0 0)) at (subst (λ q. Linked (net_of c.args.net.now) (numbered_port c.args.at) q) next c.requires) in
     (at, (c.in-Active.field-0, ((c.facing.ensures.active c.in-Active.field-0).0 c.in-Active.is, l)))

@@ -1,5 +1,4 @@
-use Rattle.std.proofs.Common.{◌≡◌, ℕ, [], ◌∷◌, List, Option, None, MatchOption, length, refl, sym, ap, ◌∙◌, subst, arith}
-use Rattle.ol_net.specs.Numbered.{net_of}
+use Rattle.std.proofs.Common.{ℕ, List, Option, None, MatchOption, length, sym, ap, ◌∙◌, subst, arith}
 use Rattle.ol_rules.proofs.OneThread.{on_err}
 use Rattle.ol_readback.specs.Groups.{NoneLeft, IsNext}
 use Rattle.ol_readback.specs.declared.answers.ReadNode.{ReadNode}

@@ -1,15 +1,13 @@
-use Rattle.std.proofs.Common.{◌≡◌, ℕ, ◌++◌, [], ◌∷◌, ◌+◌, List, length, set, Option, Some, sym, ap, ◌∙◌, subst, arith}
+use Rattle.std.proofs.Common.{◌≡◌, ℕ, ◌++◌, [], ◌∷◌, List, length, set, Some, sym, ap, ◌∙◌, subst, arith}
 use Rattle.std.proofs.lemmas.List.{length_push}
-use Rattle.ol_context.proofs.Shapes.{extends_refl, extends_trans}
+use Rattle.ol_context.proofs.Shapes.{extends_trans}
 use Rattle.ol_rules.proofs.OneThread.{on_err}
 use Rattle.ol_readback.specs.Frames.{frames_of}
 use Rattle.ol_readback.specs.Groups.{IsGroupOf}
 use Rattle.ol_readback.specs.Reading.{IsFrameList}
 use Rattle.ol_readback.specs.Skipping.{AreSkipsOf}
 use Rattle.ol_readback.specs.declared.answers.Head.{Head}
-use Rattle.ol_readback.specs.declared.answers.Head.TheVariants.{Is, NoHead, Budget}
 use Rattle.ol_readback.specs.declared.frames.Frame.{Frame}
-use Rattle.ol_readback.proofs.FrameLists.{count_frames}
 use Rattle.ol_readback.proofs.Places.{list_push, list_pushed, list_more, with_lams, written}
 use Rattle.ol_readback.proofs.Skips.{parents_any}
 use Rattle.ol_demand.specs.Asking.{IsKnownIfSome}

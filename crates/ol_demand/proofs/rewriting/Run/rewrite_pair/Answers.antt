@@ -1,4 +1,4 @@
-use Rattle.std.proofs.Common.{inl, inr, arith}
+use Rattle.std.proofs.Common.{inr, arith}
 use Rattle.std.proofs.lemmas.Result.{on_ok_weaker, on_err_weaker}
 use Rattle.ol_net.specs.Numbered.{net_of}
 use Rattle.ol_demand.proofs.Paired.{turned, apart}
