@@ -12,7 +12,7 @@ use Rattle.ol_words.specs.Asked.{Asked, run, walk, view, trace, check, gen, dema
 use Rattle.ol_cli.specs.declared.evaluation.RunNumbers.{RunNumbers}
 use Rattle.ol_cli.specs.declared.status.Status.{Status}
 use Rattle.ol_cli.specs.declared.status.Status.TheVariants as status
-use Rattle.ol_cli.specs.Jobs.{term_bytes}
+use Rattle.ol_cli.specs.Jobs.{plain_fuel, plain_heads, term_bytes, translation_in}
 use Rattle.ol_cli.specs.Evaluation.{RunsOut, ReadsLast}
 use Rattle.ol_cli.specs.Answers.{Seen, TermAnswer, JournalCause}
 use Rattle.ol_cli.specs.Handed.{TermHands}
@@ -39,6 +39,13 @@ IsWithinLimits (demand translation fuel heads name) = (fuel ≤ 8000000) × (1 �
 IsWithinLimits (certify translation steps workers fuel heads name) = (1 ≤ workers) × (workers ≤ 64) × (fuel ≤ 8000000) × (1 ≤ heads)
 IsWithinLimits (net translation from_term workers fuel name) = (1 ≤ workers) × (workers ≤ 64) × (fuel ≤ 8000000)
 IsWithinLimits (equal translation workers fuel heads first second) = (1 ≤ workers) × (workers ≤ 64) × (fuel ≤ 8000000) × (1 ≤ heads)
+
+-- the numbers of a job that rewrites the net of a term and reads it back; the others have those of `run` without options
+abbrev pub numbers_in : Asked → RunNumbers
+numbers_in (run translation workers fuel heads name) = record { translation = translation; workers = workers; fuel = fuel; heads = heads }
+numbers_in (certify translation steps workers fuel heads name) = record { translation = translation; workers = workers; fuel = fuel; heads = heads }
+numbers_in (equal translation workers fuel heads first second) = record { translation = translation; workers = workers; fuel = fuel; heads = heads }
+numbers_in asked = record { translation = translation_in asked; workers = 4; fuel = plain_fuel; heads = plain_heads }
 
 -- the jobs `run` and `certify` of these numbers, and the jobs `walk` and `demand`, where the name doesn't matter
 abbrev pub run_by : RunNumbers → Asked

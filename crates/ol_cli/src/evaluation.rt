@@ -6,7 +6,7 @@ ghost use Rattle.ol_net.specs.Nets.{SameNet};
 ghost use Rattle.ol_translate.specs.Translation.{translation_of};
 ghost use Rattle.ol_wire.specs.Sizes.{IsSmallNet};
 ghost use Rattle.ol_words.specs.Asked.{asked_by};
-ghost use Rattle.ol_cli.specs.Inside.{AnswersTerm, HandsOfTerm, IsOnTerm, IsReadByNames, IsWithinLimits, run_by, walk_by};
+ghost use Rattle.ol_cli.specs.Inside.{AnswersTerm, HandsOfTerm, IsOnTerm, IsReadByNames, IsWithinLimits, numbers_in, run_by, walk_by};
 ghost use Rattle.ol_cli.specs.Jobs.{translation_in};
 ghost use Rattle.ol_cli.specs.ReadAgain.{FileIsReadAgain};
 ghost use Rattle.ol_cli.specs.Texts.{line};
@@ -78,6 +78,25 @@ pub struct RunNumbers {
     pub heads: u32,
 }
 
+impl RunNumbers {
+    // These numbers.
+    fn of(translation: Translation, workers: u32, fuel: u32, heads: u32) -> RunNumbers
+        ensures { result ≡ record {
+          translation = translation;
+          workers = workers;
+          fuel = fuel;
+          heads = heads;
+        } }
+    {
+        RunNumbers {
+            translation,
+            workers,
+            fuel,
+            heads,
+        }
+    }
+}
+
 // The numbers of `run` without options but the translation.
 fn plain_run(translation: Translation) -> RunNumbers
     ensures { result ≡ record {
@@ -87,12 +106,7 @@ fn plain_run(translation: Translation) -> RunNumbers
       heads = 4096;
     } }
 {
-    RunNumbers {
-        translation,
-        workers: 4,
-        fuel: 200_000,
-        heads: 4_096,
-    }
+    RunNumbers::of(translation, 4, 200_000, 4_096)
 }
 
 // The translation of a job.
@@ -110,6 +124,37 @@ fn translation_in(job: &Job) -> Translation
         Job::Certify { translation, .. } => *translation,
         Job::Net { translation, .. } => *translation,
         Job::Equal { translation, .. } => *translation,
+    }
+}
+
+/// The numbers of a job that rewrites the net of a term and reads it back. The others have those of
+/// `run` without options.
+pub fn numbers_in(job: &Job) -> RunNumbers
+    ensures { result ≡ numbers_in (asked_by job.now) }
+{
+    match job {
+        Job::Run {
+            translation,
+            workers,
+            fuel,
+            heads,
+            ..
+        } => RunNumbers::of(*translation, *workers, *fuel, *heads),
+        Job::Certify {
+            translation,
+            workers,
+            fuel,
+            heads,
+            ..
+        } => RunNumbers::of(*translation, *workers, *fuel, *heads),
+        Job::Equal {
+            translation,
+            workers,
+            fuel,
+            heads,
+            ..
+        } => RunNumbers::of(*translation, *workers, *fuel, *heads),
+        _ => plain_run(translation_in(job)),
     }
 }
 
@@ -187,20 +232,8 @@ fn evaluate_net<R: Threads + Wait + Sync, G: Gate + Sync>(
         HandsOfTerm (asked_by job.now) file.now a.status a.text.items a.closed) }
 {
     match job {
-        Job::Run {
-            translation,
-            workers,
-            fuel,
-            heads,
-            ..
-        } => {
-            let numbers = RunNumbers {
-                translation: *translation,
-                workers: *workers,
-                fuel: *fuel,
-                heads: *heads,
-            };
-            let answer = run_net(rt, alloc, net, file, numbers, gate)?;
+        Job::Run { .. } => {
+            let answer = run_net(rt, alloc, net, file, numbers_in(job), gate)?;
             Ok(answer)
         }
         Job::Walk {
@@ -229,21 +262,8 @@ fn evaluate_net<R: Threads + Wait + Sync, G: Gate + Sync>(
             let answer = demand_net(alloc, net, file, *translation, *fuel, *heads)?;
             Ok(answer)
         }
-        Job::Certify {
-            translation,
-            steps,
-            workers,
-            fuel,
-            heads,
-            ..
-        } => {
-            let numbers = RunNumbers {
-                translation: *translation,
-                workers: *workers,
-                fuel: *fuel,
-                heads: *heads,
-            };
-            let answer = certify_net(rt, alloc, net, file, numbers, *steps, gate)?;
+        Job::Certify { steps, .. } => {
+            let answer = certify_net(rt, alloc, net, file, numbers_in(job), *steps, gate)?;
             Ok(answer)
         }
         Job::Net {

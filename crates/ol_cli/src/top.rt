@@ -15,7 +15,7 @@ ghost use Rattle.ol_cli.specs.ReadAgain.{FileIsReadAgain, WordsAreReadAgain, Wri
 ghost use Rattle.ol_cli.specs.Handed.{Hands, JobHands, MakingHands, ReadHands, WhereEnded, WordsHand};
 
 use crate::comparing::answer_equal;
-use crate::evaluation::{Answer, RunNumbers, evaluate, refusal, run_made};
+use crate::evaluation::{Answer, evaluate, numbers_in, refusal, run_made};
 use crate::net_files::answer_net;
 use crate::preparing::{Prepared, prepare};
 use crate::status::Status;
@@ -357,29 +357,9 @@ fn answer_job<R: Threads + Wait + Sync, S: Source, G: Gate + Sync>(
             }
             answer_net(rt, alloc, name.as_str(), *workers, *fuel, src, gate)
         }
-        Job::Equal {
-            translation,
-            workers,
-            fuel,
-            heads,
-            first,
-            second,
-        } => {
-            let numbers = RunNumbers {
-                translation: *translation,
-                workers: *workers,
-                fuel: *fuel,
-                heads: *heads,
-            };
-            answer_equal(
-                rt,
-                alloc,
-                numbers,
-                first.as_str(),
-                second.as_str(),
-                src,
-                gate,
-            )
+        Job::Equal { first, second, .. } => {
+            let (first, second) = (first.as_str(), second.as_str());
+            answer_equal(rt, alloc, numbers_in(job), first, second, src, gate)
         }
     }
 }

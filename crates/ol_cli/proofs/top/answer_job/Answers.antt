@@ -65,10 +65,10 @@ pub answer_check-requires-clause-journal : goal.answer_check-requires-clause-jou
 answer_check-requires-clause-journal g c = rw c.as_str-in-Check-2.ensures (c.requires.known 1 c.in-Check.journal (rw c.in-Check.is refl))
 
 pub answer_equal-requires-clause-first : goal.answer_equal-requires-clause-first
-answer_equal-requires-clause-first g c = λ κs alive. rw c.as_str-in-Equal.ensures (c.requires.known 0 c.in-Equal.first (rw c.in-Equal.is refl))
+answer_equal-requires-clause-first g c = λ κs alive. rw c.as_str-first.ensures (c.requires.known 0 c.in-Equal.first (rw c.in-Equal.is refl))
 
 pub answer_equal-requires-clause-second : goal.answer_equal-requires-clause-second
-answer_equal-requires-clause-second g c = λ κs alive. rw c.as_str-in-Equal-2.ensures (c.requires.known 1 c.in-Equal.second (rw c.in-Equal.is refl))
+answer_equal-requires-clause-second g c = λ κs alive. rw c.as_str-second.ensures (c.requires.known 1 c.in-Equal.second (rw c.in-Equal.is refl))
 
 pub answer_file-requires-then-from_term-clause-known : goal.answer_file-requires-then-from_term-clause-known
 answer_file-requires-then-from_term-clause-known g c = λ κs alive. rw c.as_str-then-from_term.ensures (c.requires.known 0 c.in-Net.name (rw c.in-Net.is refl))
