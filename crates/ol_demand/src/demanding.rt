@@ -87,10 +87,10 @@ fn read_frame(
 /// four for each step that the fuel allows, `heads` is at least 1, and the net has a free port.
 ///
 /// `Done` has the tree, of which the first `heads` places were asked, and the steps. Each later
-/// place is `Cut`, and so is one whose chain made twice as many crossings as there are nodes. `Spent`
-/// comes exactly where the whole run would have more than `fuel` steps, and has the first ones. The
-/// net is what these steps leave. `NoMemory`: no memory was found, and the net is what some of the
-/// first steps leave.
+/// place is `Cut`, and so is one whose chain would make more than twice as many crossings as there
+/// are nodes. `Spent` comes exactly where the whole run has more than `fuel` steps, and has the
+/// first ones. The net is what these steps leave. `NoMemory`: no memory was found, and the net is
+/// what some of the first steps leave.
 ///
 /// Each step's pair is, by birth names, rewritten in every complete run, and each head of the tree
 /// is that of the net before, by paths of any length.

@@ -1,13 +1,16 @@
 //! Demand order: a net is read back, and only the active pairs that the walks of the reading meet
 //! are rewritten.
 //!
-//! Subterms are asked in preorder, each for 0 abstractions, then for 1, and so on. The chain of such
-//! a question is its walk up to the first active pair on the way. This pair is rewritten, and the
-//! same is asked again. So a part of the net that no head needs stays as it is.
+//! Subterms are asked in preorder, each for 0 abstractions, then for 1, and so on. The chain of
+//! such a question is its walk up to the first active pair on the way. This pair is rewritten, and
+//! the same is asked again. So a part of the net that no head needs stays as it is.
 //!
-//! Each pair that is rewritten so is rewritten in every complete run, and each head that is found is
-//! that of the net before, since steps keep paths (Gonthier, Abadi and Lévy, The Geometry of Optimal
-//! Lambda Reduction, 1992).
+//! Each pair that is rewritten so is rewritten in every complete run, and each head that is found
+//! is that of the net before, since steps keep paths (Gonthier, Abadi and Lévy, The Geometry of
+//! Optimal Lambda Reduction, 1992).
+//!
+//! A chain is walked for one number of abstractions at a time, and from its start after each
+//! rewrite: an open walk asks for all numbers at once, but it doesn't stop at an active pair.
 #![tactic(auto)]
 
 mod answers;
