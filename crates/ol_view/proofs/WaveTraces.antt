@@ -5,7 +5,6 @@ use Rattle.std.specs.Prelude.{slice_get}
 use Rattle.ol_rules.specs.declared.journal.Entry.{Entry}
 use Rattle.ol_view.specs.WaveTexts.{wave_line_text, wave_lines_text}
 
-
 -- one line more
 pub wave_lines_on : (es : List Entry) (ws : List ℕ) (k : ℕ) (e : Entry) (w : ℕ) → slice_get es k ≡ Some e → slice_get ws k ≡ Some w →
     wave_lines_text (take (suc k) es) (take (suc k) ws) ≡ wave_lines_text (take k es) (take k ws) ++ wave_line_text e w
