@@ -151,8 +151,9 @@ pub fn framing()
 /// term to its head, and from the arguments to the heads below it. So the term reduces to the
 /// tree's own term with some term in the place of each place without a head or cut. Where each
 /// place has a head, leftmost reduction of the term ends in the tree's term, which is a beta-normal
-/// form. Where the places without a head are those of the net too, head reduction of a term in
-/// such a place has no end, and leftmost reduction of the whole term ends in no beta-normal form.
+/// form. Where some place has no head, and the places without a head are the net's too, head
+/// reduction of the term in such a place has no end, and leftmost reduction of the whole term ends
+/// in no beta-normal form.
 pub fn meaning()
     ensures shows { TreeShowsTerm }
     ensures reduct { ShownIsReduct }
