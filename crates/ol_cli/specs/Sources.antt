@@ -27,8 +27,9 @@ use Rattle.ol_cli.specs.DemandOrder.{Demands}
 -- What `run` prints of a term, and three facts of the tree whose text it prints. Each of its heads is the one that the term's own
 -- translation gives, by paths of any length, and so is each place without a head where no pair is stuck. Beta reduction leads from
 -- the term to the tree's own term, with some term in the place of each place without a head or cut; where each place has a head,
--- leftmost reduction of the term ends in the tree's own term, which is a beta-normal form; and where no pair is stuck, head reduction
--- of the term in a place without a head has no end, and leftmost reduction of the whole term ends in no normal form. Where each of its places has a head, its text is in the grammar, and read back, with its free names numbered by these, it is
+-- leftmost reduction of the term ends in the tree's own term, which is a beta-normal form; and where some place has no head and no
+-- pair is stuck, head reduction of the term in such a place has no end, and leftmost reduction of the whole term ends in no normal
+-- form. Where each of its places has a head, its text is in the grammar, and read back, with its free names numbered by these, it is
 -- the tree's own term, in which no application has an abstraction as its function.
 pub record PrintsTree (translation : Translation) (t : Tree) (names : List (List ℕ)) (fuel heads : ℕ) (text : List ℕ) : Type 0 where
   pub prints : Prints translation t names fuel heads text
