@@ -2,10 +2,8 @@
 use Rattle.std.specs.Prelude.{ℕ, ◌≤◌, List}
 use Rattle.ol_term.specs.Trees.{Tree, tree_of, depth}
 use Rattle.ol_readback.specs.declared.answers.ReadNode.{ReadNode}
-use Rattle.ol_beta.specs.Leftmost.{leftmost}
 use Rattle.ol_beta.specs.TreeTerms.{IsTermOf}
 use Rattle.ol_beta.specs.declared.certifying.Verdict.{Verdict}
-use Rattle.ol_beta.specs.declared.certifying.Verdict.TheVariants.{Past, Short}
 use Rattle.ol_beta.specs.declared.walking.End as walking
 use Rattle.ol_beta.specs.declared.walking.End.TheVariants as end
 use Rattle.ol_beta.specs.Verdicts.{IsNormalForm, IsPastAt, IsShort, IsVerdict}
