@@ -1,6 +1,6 @@
 //! The whole demand run.
 
-ghost use Rattle.std.specs.Prelude.{◌≡◌, ℕ, ◌+◌, ◌-◌, ◌*◌, ◌^◌, ◌<◌, ◌≤◌, ◌↔◌, length, false, IfOk, OnOk, OnErr};
+ghost use Rattle.std.specs.Prelude.{◌≡◌, ℕ, ◌+◌, ◌-◌, ◌*◌, ◌^◌, ◌<◌, ◌≤◌, ◌↔◌, [], length, false, None, IfOk, OnOk, OnErr};
 ghost use Rattle.ol_net.specs.Numbered.{net_of};
 ghost use Rattle.ol_context.specs.Shapes.{Extends};
 ghost use Rattle.ol_readback.specs.Skipping.{AreSkipsOf};
@@ -23,6 +23,18 @@ use ol_readback::groups::{Group, group_of, next};
 use ol_readback::reading::{add, add_frame, cut_all, exit_port, put};
 use ol_readback::{Frame, Head, Levels, ReadNode, ReadTree};
 use std::alloc::Global;
+
+// The frame of the whole term, which is read from free port 0.
+fn first_frame(alloc: Global) -> Frame
+    ensures { result ≡ record { port = 0; levels = []; parent = None; lams = 0 } }
+{
+    Frame {
+        port: 0,
+        levels: Levels::of(Vec::new(alloc)),
+        parent: None,
+        lams: 0,
+    }
+}
 
 // Adds the frame to the frames and asks it: what stands at its place, and the arguments of its
 // head. `None`: a chain meets a pair, and the fuel is used up.
@@ -113,15 +125,10 @@ pub fn demand(alloc: Global, net: &mut Net, fuel: u32, heads: u32) -> Result<Dem
     let mut skips: Vec<Option<u32>> = Vec::new(alloc);
     let mut nodes: Vec<ReadNode> = Vec::new(alloc);
     let mut pending: Vec<Group> = Vec::new(alloc);
-    let mut frame = Frame {
-        port: 0,
-        levels: Levels::of(Vec::new(alloc)),
-        parent: None,
-        lams: 0,
-    };
+    let mut frame = first_frame(alloc);
     let most = heads as usize;
     loop {
-        let asked = read_frame(
+        let Some((node, group)) = read_frame(
             alloc,
             net,
             &mut run,
@@ -130,14 +137,14 @@ pub fn demand(alloc: Global, net: &mut Net, fuel: u32, heads: u32) -> Result<Dem
             &mut frames,
             &mut skips,
             frame,
-        )?;
-        let Some(read) = asked else {
+        )?
+        else {
             return Ok(Demanded::Spent {
                 journal: run.journal,
             });
         };
-        put(&mut nodes, read.0)?;
-        add(&mut pending, read.1)?;
+        put(&mut nodes, node)?;
+        add(&mut pending, group)?;
         if frames.len() >= most {
             cut_all(&mut nodes, &mut pending)?;
             return Ok(Demanded::Done {
@@ -145,15 +152,12 @@ pub fn demand(alloc: Global, net: &mut Net, fuel: u32, heads: u32) -> Result<Dem
                 journal: run.journal,
             });
         }
-        let following = next(alloc, &mut values, &mut pending)?;
-        match following {
-            None => {
-                return Ok(Demanded::Done {
-                    tree: ReadTree::of(nodes),
-                    journal: run.journal,
-                });
-            }
-            Some(argument) => frame = argument,
-        }
+        let Some(argument) = next(alloc, &mut values, &mut pending)? else {
+            return Ok(Demanded::Done {
+                tree: ReadTree::of(nodes),
+                journal: run.journal,
+            });
+        };
+        frame = argument;
     }
 }
