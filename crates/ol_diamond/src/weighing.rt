@@ -386,6 +386,7 @@ impl Weighing {
             (record { rule = of.rule; first = first; second = second }) of.wave)) }
         ensures idle { IfOk result (λ made. IfNone made
             (AreIdleNumbers self.old.net self.old.bases.items first second)) }
+        ensures stays { IfOk result (λ made. IfNone made (self.new ≡ self.old)) }
     {
         self.net.is_net();
         self.net.is_tabled();
