@@ -236,13 +236,8 @@ fn evaluate_net<R: Threads + Wait + Sync, G: Gate + Sync>(
             let answer = run_net(rt, alloc, net, file, numbers_in(job), gate)?;
             Ok(answer)
         }
-        Job::Walk {
-            translation,
-            edges,
-            heads,
-            ..
-        } => {
-            let text = walk_net(alloc, net, file, *translation, *edges, *heads)?;
+        Job::Walk { edges, heads, .. } => {
+            let text = walk_net(alloc, net, file, translation_in(job), *edges, *heads)?;
             Ok(Answer::without_words(text, Status::Done))
         }
         Job::View { after, .. } => {
@@ -253,13 +248,8 @@ fn evaluate_net<R: Threads + Wait + Sync, G: Gate + Sync>(
             let answer = trace_net(rt, alloc, net, *workers, *fuel, gate)?;
             Ok(answer)
         }
-        Job::Demand {
-            translation,
-            fuel,
-            heads,
-            ..
-        } => {
-            let answer = demand_net(alloc, net, file, *translation, *fuel, *heads)?;
+        Job::Demand { fuel, heads, .. } => {
+            let answer = demand_net(alloc, net, file, translation_in(job), *fuel, *heads)?;
             Ok(answer)
         }
         Job::Certify { steps, .. } => {
@@ -274,13 +264,11 @@ fn evaluate_net<R: Threads + Wait + Sync, G: Gate + Sync>(
             let text = write_net(alloc, net)?;
             Ok(Answer::without_words(text, Status::Done))
         }
-        Job::Check { .. } => unreachable!(),
-        Job::Gen { .. } => unreachable!(),
         Job::Net {
             from_term: false,
             ..
         } => unreachable!(),
-        Job::Equal { .. } => unreachable!(),
+        Job::Check { .. } | Job::Gen { .. } | Job::Equal { .. } => unreachable!(),
     }
 }
 

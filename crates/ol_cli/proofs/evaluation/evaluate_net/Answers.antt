@@ -8,10 +8,14 @@ returns-in_ok-answer-in-Run-clause-read g c =
     rw c.in-Run.is read
 
 pub returns-in_ok-text-in-Walk-clause-read : goal.returns-in_ok-text-in-Walk-clause-read
-returns-in_ok-text-in-Walk-clause-read g c = rw (c.without_words.ensures, c.in-Walk.is) c.in_ok-text-in-Walk.ensures.read
+returns-in_ok-text-in-Walk-clause-read g c =
+    let read = rw (c.translation_in.ensures, c.in-Walk.is) at c.in_ok-text-in-Walk.ensures.read in
+    rw (c.without_words.ensures, c.in-Walk.is) read
 
 pub returns-in_ok-answer-in-Demand-clause-read : goal.returns-in_ok-answer-in-Demand-clause-read
-returns-in_ok-answer-in-Demand-clause-read g c = rw c.in-Demand.is c.in_ok-answer-in-Demand.ensures.read
+returns-in_ok-answer-in-Demand-clause-read g c =
+    let read = rw (c.translation_in-in-Demand.ensures, c.in-Demand.is) at c.in_ok-answer-in-Demand.ensures.read in
+    rw c.in-Demand.is read
 
 pub returns-in_ok-answer-in-Run-clause-closed : goal.returns-in_ok-answer-in-Run-clause-closed
 returns-in_ok-answer-in-Run-clause-closed g c =
