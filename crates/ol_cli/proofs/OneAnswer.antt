@@ -1,4 +1,4 @@
--- The same words and files have one status, and one text where the job tells one.
+-- The same words and files have one status, and one text as far as the job tells one.
 use Rattle.std.proofs.Common.{◌≡◌, ◌≢◌, ℕ, ◌<◌, ◌≤◌, Bool, true, false, List, length, Option, Some, refl, sym, ap, ◌∙◌, subst, arith, String, Global}
 use Rattle.ol_term.specs.declared.translations.Translation.{Translation}
 use Rattle.ol_term.specs.Trees.{Tree, depth}
@@ -32,7 +32,7 @@ use Rattle.ol_cli.specs.declared.status.Status.{Status}
 use Rattle.ol_cli.specs.declared.status.Status.TheVariants.{Done, Usage, Syntax, Spent, ReadFault, WriteFault, NoMemory, Limit, BadNet}
 use Rattle.ol_cli.specs.Jobs.{AskFor, AskForNothing, file_name, translation_in}
 use Rattle.ol_cli.specs.Inside.{IsOnTerm}
-use Rattle.ol_cli.specs.Laws.{TellsOne}
+use Rattle.ol_cli.specs.Laws.{HaveOneText}
 use Rattle.ol_cli.specs.Texts.{line, usage_text, bytes_text, depth_text, nodes_text, journal_text, syntax_text, spent_text, found_text}
 use Rattle.ol_cli.specs.Evaluation.{start_net_of_term, RunsOut, RunEnds, Prints, Walks, Views, ReadsLast, Certifies}
 use Rattle.ol_cli.specs.DemandOrder.{Demands, DemandRunsOut}
@@ -40,7 +40,7 @@ use Rattle.ol_cli.specs.NetAnswers.{WritesNet, NetFileAnswer}
 use Rattle.ol_cli.specs.Answers.{long, deep, large, IsTermFile, TermAnswer, FileAnswer, JournalAnswer, JobAnswer, of_file, of_journal, made, of_net_file, of_first, of_second, of_both, HasTree, Compares, Makes, plain_run, IsAnswer}
 use Rattle.ol_cli.proofs.OnePrint.{ends_or_not, ends_or_runs_out, reads_or_runs_out, one_last_tree, one_print, one_walk, one_view, one_certified}
 use Rattle.ol_cli.proofs.DemandRuns.{one_demanded, demand_ends_or_not}
-use Rattle.ol_cli.proofs.NetFiles.{one_net_file}
+use Rattle.ol_cli.proofs.NetFiles.{Alike, alike_by, one_net_file}
 
 abbrev pub Same : Status → Status → List ℕ → List ℕ → Type 0
 Same s s' x x' = (s ≡ s') × (x ≡ x')
@@ -49,16 +49,23 @@ Same s s' x x' = (s ≡ s') × (x ≡ x')
 same_as : (s s' u : Status) (x x' y : List ℕ) → Same s u x y → Same s' u x' y → Same s s' x x'
 same_as s s' u x x' y h h' = (h.0 ∙ sym h'.0, h.1 ∙ sym h'.1)
 
--- one status, and one text where this job tells one
-abbrev pub Alike : Asked → Status → Status → List ℕ → List ℕ → Type 0
-Alike asked s s' x x' = (s ≡ s') × (TellsOne asked → x ≡ x')
+-- refusals have one text, whatever the job is
+refused_texts : (asked : Asked) (x x' : List ℕ) → x ≡ x' → HaveOneText asked Limit x x' × HaveOneText asked Syntax x x'
+refused_texts (run tr w f q name) x x' e = (e, e)
+refused_texts (walk tr g q name) x x' e = (e, e)
+refused_texts (view tr k name) x x' e = (e, e)
+refused_texts (trace tr w f name) x x' e = (e, e)
+refused_texts (check tr term journal) x x' e = (e, e)
+refused_texts (gen tr runs k) x x' e = (e, e)
+refused_texts (demand tr f q name) x x' e = (e, e)
+refused_texts (certify tr b w f q name) x x' e = (e, e)
+refused_texts (jobs.net tr true w f name) x x' e = (e, e)
+refused_texts (jobs.net tr false w f name) x x' e = (e, e)
+refused_texts (jobs.equal tr w f q first second) x x' e = (e, e)
 
-alike : (asked : Asked) (s s' : Status) (x x' : List ℕ) → Same s s' x x' → Alike asked s s' x x'
-alike asked s s' x x' h = (h.0, λ one. h.1)
-
--- two answers of a job that are each this one
-alike_as : (asked : Asked) (s s' u : Status) (x x' y : List ℕ) → Same s u x y → Same s' u x' y → Alike asked s s' x x'
-alike_as asked s s' u x x' y h h' = alike asked s s' x x' (same_as s s' u x x' y h h')
+-- two answers of a job that are each this limit
+alike_as : (asked : Asked) (s s' : Status) (x x' y : List ℕ) → Same s Limit x y → Same s' Limit x' y → Alike asked s s' x x'
+alike_as asked s s' x x' y h h' = alike_by asked s s' Limit x x' h.0 h'.0 (refused_texts asked x x' (h.1 ∙ sym h'.1)).0
 
 -- ---- a term
 
@@ -164,25 +171,25 @@ one_net_text tr t names x x' w w' =
     w.written ∙ ap net_text (one_graph w.net w'.net w.tabled w'.tabled same size) ∙ sym w'.written
 
 one_of_term : (t : Tree) (names : List (List ℕ)) → (a : Asked) → IsNet (translation_of (translation_in a) t (length names)) → (s s' : Status) (x x' : List ℕ) → OfTerm t names a s x → OfTerm t names a s' x' → Alike a s s' x x'
-one_of_term t names a n s s' x x' (spent r e) (spent r' e') = (refl, λ one. e ∙ sym e')
+one_of_term t names a n s s' x x' (spent r e) (spent r' e') = (refl, e ∙ sym e')
 one_of_term t names a n s s' x x' (spent {tr = tr} {fuel = fuel} {heads = heads} r e) (printed p) = absurd (ends_or_not tr t names n fuel heads x' r p)
 one_of_term t names a n s s' x x' (printed {tr = tr} {fuel = fuel} {heads = heads} p) (spent r e) = absurd (ends_or_not tr t names n fuel heads x r p)
-one_of_term t names a n s s' x x' (printed {tr = tr} {fuel = fuel} {heads = heads} p) (printed p') = (refl, λ one. one_print tr t names n fuel heads x x' p p')
-one_of_term t names a n s s' x x' (walked {tr = tr} {edges = edges} {heads = heads} w) (walked w') = (refl, λ one. one_walk tr t names n edges heads x x' w w')
-one_of_term t names a n s s' x x' (traced e) (traced e') = (refl, λ one. absurd one)
+one_of_term t names a n s s' x x' (printed {tr = tr} {fuel = fuel} {heads = heads} p) (printed p') = (refl, one_print tr t names n fuel heads x x' p p')
+one_of_term t names a n s s' x x' (walked {tr = tr} {edges = edges} {heads = heads} w) (walked w') = (refl, one_walk tr t names n edges heads x x' w w')
+one_of_term t names a n s s' x x' (traced e) (traced e') = (refl, tt)
 one_of_term t names a n s s' x x' (traced {tr = tr} {fuel = fuel} e) (stopped r) = absurd (ends_or_runs_out tr t names n fuel r e)
 one_of_term t names a n s s' x x' (stopped {tr = tr} {fuel = fuel} r) (traced e) = absurd (ends_or_runs_out tr t names n fuel r e)
-one_of_term t names a n s s' x x' (stopped r) (stopped r') = (refl, λ one. absurd one)
-one_of_term t names a n s s' x x' (netted {tr = tr} w) (netted w') = (refl, λ one. one_net_text tr t names x x' w w')
-one_of_term t names a n s s' x x' (undemanded r e) (undemanded r' e') = (refl, λ one. e ∙ sym e')
+one_of_term t names a n s s' x x' (stopped r) (stopped r') = (refl, tt)
+one_of_term t names a n s s' x x' (netted {tr = tr} w) (netted w') = (refl, one_net_text tr t names x x' w w')
+one_of_term t names a n s s' x x' (undemanded r e) (undemanded r' e') = (refl, e ∙ sym e')
 one_of_term t names a n s s' x x' (undemanded {tr = tr} {fuel = fuel} {heads = heads} r e) (demanded d) = absurd (demand_ends_or_not tr t names n fuel heads r d.ends)
 one_of_term t names a n s s' x x' (demanded {tr = tr} {fuel = fuel} {heads = heads} d) (undemanded r e) = absurd (demand_ends_or_not tr t names n fuel heads r d.ends)
-one_of_term t names a n s s' x x' (demanded {tr = tr} {fuel = fuel} {heads = heads} d) (demanded d') = (refl, λ one. one_demanded tr t names n fuel heads x x' d d')
-one_of_term t names a n s s' x x' (uncertified r e) (uncertified r' e') = (refl, λ one. e ∙ sym e')
+one_of_term t names a n s s' x x' (demanded {tr = tr} {fuel = fuel} {heads = heads} d) (demanded d') = (refl, one_demanded tr t names n fuel heads x x' d d')
+one_of_term t names a n s s' x x' (uncertified r e) (uncertified r' e') = (refl, e ∙ sym e')
 one_of_term t names a n s s' x x' (uncertified {tr = tr} {fuel = fuel} {heads = heads} r e) (certified c) = absurd (reads_or_runs_out tr t names n fuel heads c.tree r c.last)
 one_of_term t names a n s s' x x' (certified {tr = tr} {fuel = fuel} {heads = heads} c) (uncertified r e) = absurd (reads_or_runs_out tr t names n fuel heads c.tree r c.last)
-one_of_term t names a n s s' x x' (certified {tr = tr} {b = b} {fuel = fuel} {heads = heads} c) (certified c') = (refl, λ one. one_certified tr t names n b fuel heads x x' c c')
-one_of_term t names a n s s' x x' (viewed {tr = tr} {after = after} v) (viewed v') = (refl, λ one. one_view tr t names n after x x' v v')
+one_of_term t names a n s s' x x' (certified {tr = tr} {b = b} {fuel = fuel} {heads = heads} c) (certified c') = (refl, one_certified tr t names n b fuel heads x x' c c')
+one_of_term t names a n s s' x x' (viewed {tr = tr} {after = after} v) (viewed v') = (refl, one_view tr t names n after x x' v v')
 
 -- what a job answers to a tree, by the order of refusals
 pub data OfTree (asked : Asked) (t : Tree) (names : List (List ℕ)) (s : Status) (x : List ℕ) : Type 0 where
@@ -191,11 +198,11 @@ pub data OfTree (asked : Asked) (t : Tree) (names : List (List ℕ)) (s : Status
   done : depth t ≤ 1000 → size_of_translation (translation_in asked) t ≤ 200000 → TermAnswer asked t names s x → OfTree asked t names s x
 
 one_of_tree : (asked : Asked) (t : Tree) (names : List (List ℕ)) → IsNet (translation_of (translation_in asked) t (length names)) → (s s' : Status) (x x' : List ℕ) → OfTree asked t names s x → OfTree asked t names s' x' → Alike asked s s' x x'
-one_of_tree asked t names n s s' x x' (too_deep d h) (too_deep d' h') = alike_as asked s s' Limit x x' depth_text h h'
+one_of_tree asked t names n s s' x x' (too_deep d h) (too_deep d' h') = alike_as asked s s' x x' depth_text h h'
 one_of_tree asked t names n s s' x x' (too_deep d h) (too_large d' z' h') = absurd (omega arith)
 one_of_tree asked t names n s s' x x' (too_deep d h) (done d' z' h') = absurd (omega arith)
 one_of_tree asked t names n s s' x x' (too_large d z h) (too_deep d' h') = absurd (omega arith)
-one_of_tree asked t names n s s' x x' (too_large d z h) (too_large d' z' h') = alike_as asked s s' Limit x x' nodes_text h h'
+one_of_tree asked t names n s s' x x' (too_large d z h) (too_large d' z' h') = alike_as asked s s' x x' nodes_text h h'
 one_of_tree asked t names n s s' x x' (too_large d z h) (done d' z' h') = absurd (omega arith)
 one_of_tree asked t names n s s' x x' (done d z h) (too_deep d' h') = absurd (omega arith)
 one_of_tree asked t names n s s' x x' (done d z h) (too_large d' z' h') = absurd (omega arith)
@@ -223,13 +230,13 @@ of_file_answer asked bytes BadNet x (t, names, i, h) = has_term i.short t names 
 of_file_answer asked bytes NoMemory x (t, names, i, h) = has_term i.short t names i.file (done i.shallow i.small h)
 
 one_of_file : (asked : Asked) (bytes : List ℕ) → (s s' : Status) (x x' : List ℕ) → OfFile asked bytes s x → OfFile asked bytes s' x' → Alike asked s s' x x'
-one_of_file asked bytes s s' x x' (too_long l h) (too_long l' h') = alike_as asked s s' Limit x x' bytes_text h h'
+one_of_file asked bytes s s' x x' (too_long l h) (too_long l' h') = alike_as asked s s' x x' bytes_text h h'
 one_of_file asked bytes s s' x x' (too_long l h) (refused l' at' r' h') = absurd (omega arith)
 one_of_file asked bytes s s' x x' (too_long l h) (has_term l' t' names' f' h') = absurd (omega arith)
 one_of_file asked bytes s s' x x' (refused l at r h) (too_long l' h') = absurd (omega arith)
 one_of_file asked bytes s s' x x' (refused l at r h) (refused l' at' r' h') =
     let e : at ≡ at' = one_dead_place bytes at at' r.1 r'.1 in
-    (h.0 ∙ sym h'.0, λ one. h.1 ∙ ap (λ at. syntax_text at) e ∙ sym h'.1)
+    alike_by asked s s' Syntax x x' h.0 h'.0 (refused_texts asked x x' (h.1 ∙ ap (λ at. syntax_text at) e ∙ sym h'.1)).1
 one_of_file asked bytes s s' x x' (refused l at r h) (has_term l' t' names' f' h') = absurd (r.0 f'.named f'.text)
 one_of_file asked bytes s s' x x' (has_term l t names f h) (too_long l' h') = absurd (omega arith)
 one_of_file asked bytes s s' x x' (has_term l t names f h) (refused l' at' r' h') = absurd (r'.0 f.named f.text)
@@ -328,7 +335,7 @@ one_making : (tr : Translation) (runs : Bool) (k : ℕ) (s s' : Status) (x x' : 
 one_making tr false k s s' x x' m m' = (m.0 ∙ sym m'.0, m.1 ∙ sym m'.1)
 one_making tr true k s s' x x' m m' =
     let e = one_file_answer (plain_run tr) (doubled_text k) s s' x x' m m' in
-    (e.0, e.1 tt)
+    (e.0, e.1)
 
 module _ (files : Text → Option (List ℕ)) where
   pub one_bytes : (name : Text) (a b : List ℕ) → files name ≡ Some a → files name ≡ Some b → a ≡ b
@@ -337,7 +344,7 @@ module _ (files : Text → Option (List ℕ)) where
   one_checked : (tr : Translation) (term journal : Text) (s s' : Status) (x x' : List ℕ) → JobAnswer files s x (check tr term journal) → JobAnswer files s' x' (check tr term journal) → Same s s' x x'
   one_checked tr term journal s s' x x' (of_file {bytes = a} has e h) (of_file {bytes = b} has' e' h') =
       let k = one_file_answer (check tr term journal) b s s' x x' (subst (λ a. FileAnswer (check tr term journal) a s x) (one_bytes term a b e e') h) h' in
-      (k.0, k.1 tt)
+      (k.0, k.1)
   one_checked tr term journal s s' x x' (of_file {bytes = a} has e h) (of_journal {bytes = b} {t = t} {names = names} e' i f' h') =
       absurd (not_refused tr term journal b t names s x (of_file_answer (check tr term journal) b s x (subst (λ a. FileAnswer (check tr term journal) a s x) (one_bytes term a b e e') h)) i)
   one_checked tr term journal s s' x x' (of_journal {bytes = b} {t = t} {names = names} e i f h) (of_file {bytes = a} has' e' h') =
@@ -370,7 +377,7 @@ module _ (files : Text → Option (List ℕ)) where
       FileAnswer (run tr w fuel heads name) a s x → FileAnswer (run tr w fuel heads name) b s' x' → Same s s' x x'
   one_of_run tr w fuel heads name a b e e' s s' x x' h h' =
       let k = one_file_answer (run tr w fuel heads name) b s s' x x' (subst (λ a. FileAnswer (run tr w fuel heads name) a s x) (one_bytes name a b e e') h) h' in
-      (k.0, k.1 tt)
+      (k.0, k.1)
 
   -- a file whose term is read back is no refusal
   not_read : (tr : Translation) (w fuel heads : ℕ) (name : Text) (a b : List ℕ) → files name ≡ Some a → files name ≡ Some b → HasTree tr a fuel heads → (s : Status) (x : List ℕ) → s ≢ Done →
@@ -394,11 +401,11 @@ module _ (files : Text → Option (List ℕ)) where
   one_equal tr w f q a b s s' x x' (of_both {bytes = m} {bytes' = n} e t d u is h) (of_both {bytes = m'} {bytes' = n'} e' t' d' u' is' h') =
       (is ∙ sym is', one_compared tr m m' n n' f q (one_bytes a m m' e e') (one_bytes b n n' d d') t t' u u' x x' h h')
 
-  one_of_net_job : (tr : Translation) (w fuel : ℕ) (name : Text) (s s' : Status) (x x' : List ℕ) → JobAnswer files s x (jobs.net tr false w fuel name) → JobAnswer files s' x' (jobs.net tr false w fuel name) → s ≡ s'
+  one_of_net_job : (tr : Translation) (w fuel : ℕ) (name : Text) (s s' : Status) (x x' : List ℕ) → JobAnswer files s x (jobs.net tr false w fuel name) → JobAnswer files s' x' (jobs.net tr false w fuel name) → Alike (jobs.net tr false w fuel name) s s' x x'
   one_of_net_job tr w fuel name s s' x x' (of_file has e h) k = absurd has
   one_of_net_job tr w fuel name s s' x x' (of_net_file e h) (of_file has e' h') = absurd has
   one_of_net_job tr w fuel name s s' x x' (of_net_file {bytes = a} e h) (of_net_file {bytes = b} e' h') =
-      one_net_file fuel b s s' x x' (subst (λ a. NetFileAnswer fuel a s x) (one_bytes name a b e e') h) h'
+      one_net_file tr w name fuel b s s' x x' (subst (λ a. NetFileAnswer fuel a s x) (one_bytes name a b e e') h) h'
 
   one_made : (tr : Translation) (runs : Bool) (k : ℕ) (s s' : Status) (x x' : List ℕ) → JobAnswer files s x (gen tr runs k) → JobAnswer files s' x' (gen tr runs k) → Same s s' x x'
   one_made tr runs k s s' x x' (of_file has e h) a = absurd has
@@ -410,13 +417,13 @@ module _ (files : Text → Option (List ℕ)) where
   one_of_job (walk tr g q name) s s' x x' a a' = one_on_file (walk tr g q name) tt s s' x x' a a'
   one_of_job (view tr k name) s s' x x' a a' = one_on_file (view tr k name) tt s s' x x' a a'
   one_of_job (trace tr w f name) s s' x x' a a' = one_on_file (trace tr w f name) tt s s' x x' a a'
-  one_of_job (check tr term journal) s s' x x' a a' = alike (check tr term journal) s s' x x' (one_checked tr term journal s s' x x' a a')
+  one_of_job (check tr term journal) s s' x x' a a' = one_checked tr term journal s s' x x' a a'
   one_of_job (demand tr f q name) s s' x x' a a' = one_on_file (demand tr f q name) tt s s' x x' a a'
   one_of_job (certify tr b w f q name) s s' x x' a a' = one_on_file (certify tr b w f q name) tt s s' x x' a a'
   one_of_job (jobs.net tr true w f name) s s' x x' a a' = one_on_file (jobs.net tr true w f name) tt s s' x x' a a'
-  one_of_job (jobs.net tr false w f name) s s' x x' a a' = (one_of_net_job tr w f name s s' x x' a a', λ one. absurd one)
-  one_of_job (jobs.equal tr w f q first second) s s' x x' a a' = alike (jobs.equal tr w f q first second) s s' x x' (one_equal tr w f q first second s s' x x' a a')
-  one_of_job (gen tr runs k) s s' x x' a a' = alike (gen tr runs k) s s' x x' (one_made tr runs k s s' x x' a a')
+  one_of_job (jobs.net tr false w f name) s s' x x' a a' = one_of_net_job tr w f name s s' x x' a a'
+  one_of_job (jobs.equal tr w f q first second) s s' x x' a a' = one_equal tr w f q first second s s' x x' a a'
+  one_of_job (gen tr runs k) s s' x x' a a' = one_made tr runs k s s' x x' a a'
 
 -- ---- words and files
 
@@ -447,17 +454,25 @@ own_job words files asked j s x a = go (of_words words files s x a)
     go (no_job j' h) = let e = sym j ∙ j' in absurd (cc)
     go (job asked' j' h) = subst (λ a. JobAnswer files s x a) (one_job words asked' asked j' j) h
 
+-- one status, and one text as far as these words ask for one
+abbrev pub OneOfWords : List (String Global) → Status → Status → List ℕ → List ℕ → Type 0
+OneOfWords words s s' x x' = (s ≡ s') × (AskForNothing words → x ≡ x') × ((asked : Asked) → AskFor words asked → HaveOneText asked s x x')
+
+-- words don't ask both for nothing and for a job
+not_both : (words : List (String Global)) (asked : Asked) → AskForNothing words → AskFor words asked → ⊥
+not_both words asked n j = let e = sym n ∙ j in cc
+
 one_of_words : (words : List (String Global)) (files : Text → Option (List ℕ)) (s s' : Status) (x x' : List ℕ) → OfWords words files s x → OfWords words files s' x' →
-    (s ≡ s') × (((asked : Asked) → AskFor words asked → TellsOne asked) → x ≡ x')
-one_of_words words files s s' x x' (no_job j h) (no_job j' h') =
+    OneOfWords words s s' x x'
+one_of_words words files s s' x x' (no_job n h) (no_job n' h') =
     let e = same_as s s' Usage x x' usage_text h h' in
-    (e.0, λ one. e.1)
-one_of_words words files s s' x x' (no_job j h) (job a' j' h') = let e = sym j ∙ j' in absurd (cc)
-one_of_words words files s s' x x' (job a j h) (no_job j' h') = let e = sym j ∙ j' in absurd (cc)
+    (e.0, λ nothing. e.1, λ asked j. absurd (not_both words asked n j))
+one_of_words words files s s' x x' (no_job n h) (job a' j' h') = absurd (not_both words a' n j')
+one_of_words words files s s' x x' (job a j h) (no_job n' h') = absurd (not_both words a n' j)
 one_of_words words files s s' x x' (job a j h) (job a' j' h') =
     let e = one_of_job files a s s' x x' h (subst (λ a. JobAnswer files s' x' a) (one_job words a' a j' j) h') in
-    (e.0, λ one. e.1 (one a j))
+    (e.0, λ n. absurd (not_both words a n j), λ asked j''. subst (λ a. HaveOneText a s x x') (one_job words a asked j j'') e.1)
 
 pub answers_one : (words : List (String Global)) (files : Text → Option (List ℕ)) (s s' : Status) (x x' : List ℕ) → IsAnswer words files s x → IsAnswer words files s' x' →
-    (s ≡ s') × (((asked : Asked) → AskFor words asked → TellsOne asked) → x ≡ x')
+    OneOfWords words s s' x x'
 answers_one words files s s' x x' a a' = one_of_words words files s s' x x' (of_words words files s x a) (of_words words files s' x' a')

@@ -1,5 +1,5 @@
 -- The laws of answers.
-use Rattle.std.specs.Prelude.{◌≡◌, ℕ, false, List, length, Option, String}
+use Rattle.std.specs.Prelude.{◌≡◌, ℕ, false, List, ◌++◌, length, Option, String}
 use Rattle.std.specs.declared.alloc.Global.{Global}
 use Rattle.ol_term.specs.declared.translations.Translation.{Translation}
 use Rattle.ol_term.specs.Trees.{Tree}
@@ -9,27 +9,38 @@ use Rattle.ol_net.specs.Numbered.{net_of}
 use Rattle.ol_rules.specs.declared.journal.Counts.{Counts}
 use Rattle.ol_translate.specs.Translation.{translation_of}
 use Rattle.ol_cli.specs.declared.status.Status.{Status}
+use Rattle.ol_cli.specs.declared.status.Status.TheVariants as status
 use Rattle.ol_words.specs.Texts.{Text}
 use Rattle.ol_words.specs.Asked.{Asked, trace}
 use Rattle.ol_words.specs.Asked as jobs
-use Rattle.ol_cli.specs.Jobs.{AskFor}
+use Rattle.ol_cli.specs.Jobs.{AskFor, AskForNothing}
+use Rattle.ol_cli.specs.Texts.{counts_text}
 use Rattle.ol_cli.specs.Answers.{IsAnswer}
 use Rattle.ol_cli.specs.NetAnswers.{NetRunEnds}
 use Rattle.ol_cli.specs.Evaluation.{Prints, Walks}
 use Rattle.ol_cli.specs.DemandOrder.{Demands}
 
--- a job whose answer is one text: what `trace` writes is any of many, and so is what `net` writes of a net that was rewritten
-abbrev pub TellsOne : Asked → Type 0
-TellsOne (trace translation workers fuel name) = ⊥
-TellsOne (jobs.net translation false workers fuel name) = ⊥
-TellsOne _ = Unit {0}
+-- two texts begin with the same nine lines of counts
+abbrev pub HaveOneCounts : List ℕ → List ℕ → Type 0
+HaveOneCounts text text' = (counts : Counts) × (stuck : ℕ) × (rest : List ℕ) × (rest' : List ℕ)
+    × (text ≡ counts_text counts stuck ++ rest) × (text' ≡ counts_text counts stuck ++ rest')
 
--- The same words and files have one answer: each status comes just where the answer is that, and so does each text, where the job
+-- What two texts with which a job is answered have in common, by its status. They are one text. But what `trace` writes of a run is
+-- the journal of any of many; and what `net` writes of a net that was rewritten begins with the same nine lines, while the net that
+-- follows them is that of any of many runs.
+abbrev pub HaveOneText : Asked → Status → List ℕ → List ℕ → Type 0
+HaveOneText (trace translation workers fuel name) status.Done text text' = Unit {0}
+HaveOneText (trace translation workers fuel name) status.Spent text text' = Unit {0}
+HaveOneText (jobs.net translation false workers fuel name) status.Done text text' = HaveOneCounts text text'
+HaveOneText _ _ text text' = text ≡ text'
+
+-- The same words and files have one answer: each status comes just where the answer is that, and so does each text, as far as the job
 -- tells one.
 abbrev pub OneAnswer : Type 0
 OneAnswer = (words : List (String Global)) (files : Text → Option (List ℕ)) (status status' : Status) (text text' : List ℕ) →
     IsAnswer words files status text → IsAnswer words files status' text' →
-    (status ≡ status') × (((asked : Asked) → AskFor words asked → TellsOne asked) → text ≡ text')
+    (status ≡ status') × (AskForNothing words → text ≡ text')
+    × ((asked : Asked) → AskFor words asked → HaveOneText asked status text text')
 
 -- However the answer to a term is come by, one tree is printed, one term and one number of stuck pairs.
 abbrev pub OneTreeIsPrinted : Type 0
