@@ -24,13 +24,13 @@ use Rattle.ol_cli.specs.DemandOrder.{Demands}
 
 -- ---- the tree that is written
 
--- What `run` prints of a term, and three facts of the tree whose text it prints. Each of its heads is the one that the term's own
--- translation gives, by paths of any length, and so is each place without a head where no pair is stuck. Beta reduction leads from
--- the term to the tree's own term, with some term in the place of each place without a head or cut; where each place has a head,
--- leftmost reduction of the term ends in the tree's own term, which is a beta-normal form; and where some place has no head and no
--- pair is stuck, head reduction of the term in such a place has no end, and leftmost reduction of the whole term ends in no normal
--- form. Where each of its places has a head, its text is in the grammar, and read back, with its free names numbered by these, it is
--- the tree's own term, in which no application has an abstraction as its function.
+-- What `run` prints of a term, and what holds of the tree whose text it prints. Each of its heads is the one that the term's own
+-- translation gives, by paths of any length; so is each place without a head where no pair is stuck. Beta reduction leads from the
+-- term to the tree's own term, with some term in each place that has no head or was cut. Where each place has a head, leftmost
+-- reduction of the term ends in the tree's own term, which is a beta-normal form; the text is in the grammar, and read back, with its
+-- free names numbered by these, it is the tree's own term, in which no application has an abstraction as its function. Where no pair
+-- is stuck and some place has no head, head reduction of the term in each such place has no end, and leftmost reduction of the whole
+-- term ends in no normal form.
 pub record PrintsTree (translation : Translation) (t : Tree) (names : List (List ℕ)) (fuel heads : ℕ) (text : List ℕ) : Type 0 where
   pub prints : Prints translation t names fuel heads text
   pub own_heads : HasHeadsOf (translation_of translation t (length names)) (prints.shows.stuck == 0) prints.shows.tree

@@ -93,17 +93,24 @@ pub struct Outcome {
 /// wait, for these threads and for what the gate does; what is promised here holds if it returns.
 ///
 /// Where nothing fails, the words and the bytes of the files alone decide on the text and the
-/// status: not the number of workers, nor the order in which they take pairs. Only the text of
-/// `trace` isn't one: it is the journal of any run; nor is the net that `net` leaves, the nodes of
-/// which may be numbered by any run that leaves no active pair. The answer of `run` is that of the
-/// one-thread run, which always rewrites the active pair whose smaller name is least; each complete
-/// run prints the same, and each is longer than F where that one is. Each head that is written is
-/// the one that walks of any length give in the source's untouched net (Gonthier, Abadi and Lévy,
-/// The Geometry of Optimal Lambda Reduction, 1992). So is each `?` of `run` where it writes
-/// `stuck 0`; one of `walk` or `demand` says only that none of the walks that were tried gave a
-/// head. A term without `...` and `?` is in the grammar, and read again it has no redex. Each pair
-/// that `demand` rewrites is, by birth names, rewritten in every complete run; so where it needs
-/// more than F interactions, each complete run does.
+/// status: not the number of workers, nor the order in which they take pairs. Only what `trace`
+/// writes of a run isn't one: it is the journal of any; nor is the net that `net` leaves, the nodes
+/// of which may be numbered by any run that leaves no active pair, while the nine lines before it
+/// are one. The answer of `run` is that of the one-thread run, which always rewrites the active
+/// pair whose smaller name is least; each complete run prints the same, and each is longer than F
+/// where that one is.
+///
+/// Each head that is written is the one that walks of any length give in the source's untouched net
+/// (Gonthier, Abadi and Lévy, The Geometry of Optimal Lambda Reduction, 1992). Beta reduction leads
+/// from the source to the term that is written, with some term in the place of each `...` and each
+/// `?`. Where there are none of these, leftmost reduction leads there, and the term is a normal
+/// form; its text is in the grammar, and read again it has no redex. Where `run` writes `stuck 0`,
+/// walks of any length give no head in the place of a `?`: head reduction of the term there has no
+/// end, and leftmost reduction of the source ends in no normal form (Barendregt, The Lambda
+/// Calculus, 1984). A `?` of `walk` or `demand`, or one beside stuck pairs, says only that none of
+/// the walks that were tried gave a head. Each pair that `demand` rewrites is, by birth names,
+/// rewritten in every complete run; so where it needs more than F interactions, each complete run
+/// does.
 ///
 /// Refusals are tried in the order that `Status` tells. Each has a line of its own: the usage,
 /// `read fault`, `syntax at byte B` with the length of the longest prefix that begins a text of the
@@ -163,12 +170,20 @@ pub fn ol<R: Threads + Wait + Sync, S: Source, W: Sink, G: Gate + Sync>(
         (IsDoneOrNothing words.now.items (S.contents src.old)
         result.status (W.taken out.old) (W.taken out.new)) }
 
-    // And where `run`, `walk`, `demand` or `gen --run` is done, two facts hold of the tree whose
-    // text is written. Each of its heads is the one that paths of any length give in the untouched
-    // net of the job's own term; so is each `?`, where the printed `stuck` is 0, while of a `?` of
-    // `walk` or `demand` nothing is said. And where each of its places has a head, its text is in
-    // the grammar, and read back it is the tree's term, which has no redex. Of `demand` a third
-    // holds: each pair that it rewrites is, by birth names, rewritten in every complete run.
+    // And where `run`, `walk`, `demand` or `gen --run` is done, this holds of the job's own term
+    // and the tree whose text is written, each place of which has a head, is a `?` or is a `...`.
+    //
+    // - Each head is the one that paths of any length give in the untouched net of the term.
+    // - Beta reduction leads from the term to the tree's term, with some term in the place of each
+    //   `?` and each `...`.
+    // - Where each place has a head, leftmost reduction leads from the term to the tree's term,
+    //   which is a beta-normal form. Its text is in the grammar, and read back it is the tree's
+    //   term, which has no redex.
+    // - Where `run` or `gen --run` prints `stuck 0`, paths of any length give no head in the
+    //   untouched net at a `?`, head reduction of the term in its place has no end, and leftmost
+    //   reduction of the whole term ends in no normal form. Where pairs are stuck, and of `walk`
+    //   and `demand`, only the first three hold, whatever a `?` may stand for.
+    // - Each pair that `demand` rewrites is, by birth names, rewritten in every complete run.
     ensures tree { (bytes : List ℕ) → TellsTerm (S.contents src.old) words.now.items bytes
         → IfNoneFailed (S.faults src.old) (S.faults src.new) (W.faults out.old) (W.faults out.new)
         (result.status ≡ Status.Done
