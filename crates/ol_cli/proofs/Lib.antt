@@ -28,3 +28,4 @@ pub mod NetRuns
 pub mod NetFiles
 mod VerdictLines
 mod BothFiles
+mod FirstAlone

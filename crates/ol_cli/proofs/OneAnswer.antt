@@ -266,7 +266,7 @@ read_tree tr w fuel heads name bytes h u others f s x (done d z a) =
     let last = subst (λ t. ReadsLast tr t others fuel heads h.tree) same.0 (subst (λ names. ReadsLast tr h.term names fuel heads h.tree) same.1 h.read) in
     read_term tr w fuel heads name u others h.tree (file_net tr bytes u others f) last s x (of_term u others (run tr w fuel heads name) s x a)
 
-read_file : (tr : Translation) (w fuel heads : ℕ) (name : Text) (bytes : List ℕ) → HasTree tr bytes fuel heads → (s : Status) (x : List ℕ) → OfFile (run tr w fuel heads name) bytes s x → s ≡ Done
+pub read_file : (tr : Translation) (w fuel heads : ℕ) (name : Text) (bytes : List ℕ) → HasTree tr bytes fuel heads → (s : Status) (x : List ℕ) → OfFile (run tr w fuel heads name) bytes s x → s ≡ Done
 read_file tr w fuel heads name bytes h s x (too_long l e) = let b = h.file.short in absurd (omega arith)
 read_file tr w fuel heads name bytes h s x (refused l at r e) = absurd (r.0 h.file.file.named h.file.file.text)
 read_file tr w fuel heads name bytes h s x (has_term l u others f e) = read_tree tr w fuel heads name bytes h u others f s x e
@@ -294,7 +294,7 @@ one_compared tr a a' b b' fuel heads e f x x' y y' text text' (c, h, is) (c', h'
 -- ---- a job
 
 -- a file that is refused has no term within the limits
-not_refused : (tr : Translation) (term journal : Text) (bytes : List ℕ) (t : Tree) (names : List (List ℕ)) (s : Status) (x : List ℕ) → OfFile (check tr term journal) bytes s x → IsTermFile tr bytes t names → ⊥
+pub not_refused : (tr : Translation) (term journal : Text) (bytes : List ℕ) (t : Tree) (names : List (List ℕ)) (s : Status) (x : List ℕ) → OfFile (check tr term journal) bytes s x → IsTermFile tr bytes t names → ⊥
 not_refused tr term journal bytes t names s x (too_long l h) i = let b = i.short in omega arith
 not_refused tr term journal bytes t names s x (refused l at r h) i = r.0 i.file.named i.file.text
 not_refused tr term journal bytes t names s x (has_term l u others f h) i = go h

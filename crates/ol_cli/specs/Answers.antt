@@ -167,6 +167,14 @@ pub data JobAnswer (files : Text → Option (List ℕ)) (st : Status) (text : Li
       (x : HasTree translation bytes fuel heads) → files b ≡ Some bytes' → (y : HasTree translation bytes' fuel heads) → st ≡ status.Done →
       Compares x y text → JobAnswer files st text (equal translation workers fuel heads a b)
 
+-- The first of a job's two files is refused for its bytes: that of `check` is no term file, and with that of `equal` `run` isn't Done.
+abbrev pub RefusesFirst : (Text → Option (List ℕ)) → Asked → Type 0
+RefusesFirst files (check translation term journal) =
+    (bytes : List ℕ) × (files term ≡ Some bytes) × ((st : Status) × (text : List ℕ) × FileAnswer (check translation term journal) bytes st text)
+RefusesFirst files (equal translation workers fuel heads a b) =
+    (bytes : List ℕ) × (files a ≡ Some bytes) × ((st : Status) × (text : List ℕ) × (st ≢ status.Done) × FileAnswer (run translation workers fuel heads a) bytes st text)
+RefusesFirst files _ = ⊥
+
 -- The answer to these words, where nothing fails and the files have these bytes.
 abbrev pub IsAnswer : List (String Global) → (Text → Option (List ℕ)) → Status → List ℕ → Type 0
 IsAnswer words files status.Usage text = AskForNothing words × (text ≡ usage_text)

@@ -2,7 +2,7 @@
 ghost use Rattle.std.specs.Prelude.{◌≡◌, ◌≤◌, ◌+◌, length, true, IfOk, None};
 ghost use Rattle.ol_readback.specs.Texts.{AreNamed};
 ghost use Rattle.ol_words.specs.Asked.{equal};
-ghost use Rattle.ol_cli.specs.Answers.{JobCause, seen_by};
+ghost use Rattle.ol_cli.specs.Answers.{JobCause, RefusesFirst, seen_by};
 ghost use Rattle.ol_cli.specs.Sides.{ComesOf, IsSideOf, EndsSecond};
 
 use crate::evaluation::{Answer, RunNumbers, refusal};
@@ -51,6 +51,9 @@ pub fn answer_equal<R: Threads + Wait + Sync, S: Source, G: Gate + Sync>(
         first.now second.now)) }
     ensures closed { IfOk result (λ a. a.closed ≡ None) }
     ensures begins { S.begins src.new ≤ S.begins src.old + 2 }
+    ensures first_alone { RefusesFirst (S.contents src.old)
+        (equal numbers.translation numbers.workers numbers.fuel numbers.heads
+        first.now second.now) → S.begins src.new ≤ S.begins src.old + 1 }
     ensures knows { S.knows src.new ≡ S.knows src.old }
     ensures contents { S.contents src.new ≡ S.contents src.old }
 {

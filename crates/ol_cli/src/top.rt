@@ -3,11 +3,11 @@ ghost use Rattle.std.specs.Prelude.{List, ℕ, ◌≢◌, ◌≤◌, ◌+◌, �
 ghost use Rattle.ol_io.specs.Outside.{Rose, Appended};
 ghost use Rattle.ol_term.specs.Generated.{doubled_text};
 ghost use Rattle.ol_wire.specs.Sizes.{IsSmallNet};
-ghost use Rattle.ol_words.specs.Asked.{asked_by, check, gen};
+ghost use Rattle.ol_words.specs.Asked.{Asked, asked_by, check, gen};
 ghost use Rattle.ol_cli.specs.Texts.{line};
-ghost use Rattle.ol_cli.specs.Jobs.{AskForNothing, EachName, IsKnownTo, TellsTerm, TellsFiles, count_of_files, files_of, file_name};
+ghost use Rattle.ol_cli.specs.Jobs.{AskFor, AskForNothing, EachName, IsKnownTo, TellsTerm, TellsFiles, count_of_files, files_of, file_name};
 ghost use Rattle.ol_cli.specs.Inside.{IsReadWhereTold, IsOnTerm, IsWithinLimits, EndsJournal};
-ghost use Rattle.ol_cli.specs.Answers.{IfNoneFailed, seen_by, Cause, Ends, FileCause, IsAnswer, JobCause, Makes};
+ghost use Rattle.ol_cli.specs.Answers.{IfNoneFailed, seen_by, Cause, Ends, FileCause, IsAnswer, JobCause, Makes, RefusesFirst};
 ghost use Rattle.ol_cli.specs.Completeness.{AskForWhatCanBeDone, IsDoneOrNothing};
 ghost use Rattle.ol_cli.specs.Prepared.{HoldsOfTerms};
 ghost use Rattle.ol_cli.specs.Sources.{EveryRunTells, WritesTree};
@@ -229,6 +229,10 @@ pub fn ol<R: Threads + Wait + Sync, S: Source, W: Sink, G: Gate + Sync>(
     // job's files.
     ensures begins { S.begins src.new ≤ S.begins src.old + files_of words.now.items }
 
+    // Where the first of two files is refused for its bytes, the second isn't begun.
+    ensures first_alone { (asked : Asked) → AskFor words.now.items asked
+        → RefusesFirst (S.contents src.old) asked → S.begins src.new ≤ S.begins src.old + 1 }
+
     // The source knows the names that it knew and has the bytes that it had, so `ol` can be called
     // again.
     ensures knows { S.knows src.new ≡ S.knows src.old }
@@ -257,6 +261,8 @@ fn answer<R: Threads + Wait + Sync, S: Source, W: Sink, G: Gate + Sync>(
         (seen_by S.faults S.contents S.given S.ended src.old src.new)
         result.status result.closed (W.taken out.old) (W.taken out.new) }
     ensures begins { S.begins src.new ≤ S.begins src.old + files_of words.now.items }
+    ensures first_alone { (asked : Asked) → AskFor words.now.items asked
+        → RefusesFirst (S.contents src.old) asked → S.begins src.new ≤ S.begins src.old + 1 }
     ensures knows { S.knows src.new ≡ S.knows src.old }
     ensures contents { S.contents src.new ≡ S.contents src.old }
 {
@@ -302,6 +308,8 @@ fn plan<R: Threads + Wait + Sync, S: Source, G: Gate + Sync>(
         (seen_by S.faults S.contents S.given S.ended src.old src.new)
         a.status a.text.items a.closed)) }
     ensures begins { S.begins src.new ≤ S.begins src.old + files_of words.now.items }
+    ensures first_alone { (asked : Asked) → AskFor words.now.items asked
+        → RefusesFirst (S.contents src.old) asked → S.begins src.new ≤ S.begins src.old + 1 }
     ensures knows { S.knows src.new ≡ S.knows src.old }
     ensures contents { S.contents src.new ≡ S.contents src.old }
 {
@@ -340,6 +348,8 @@ fn answer_job<R: Threads + Wait + Sync, S: Source, G: Gate + Sync>(
         (seen_by S.faults S.contents S.given S.ended src.old src.new)
         a.status a.text.items a.closed)) }
     ensures begins { S.begins src.new ≤ S.begins src.old + count_of_files (asked_by job.now) }
+    ensures first_alone { RefusesFirst (S.contents src.old) (asked_by job.now)
+        → S.begins src.new ≤ S.begins src.old + 1 }
     ensures knows { S.knows src.new ≡ S.knows src.old }
     ensures contents { S.contents src.new ≡ S.contents src.old }
 {
@@ -436,6 +446,8 @@ fn answer_check<S: Source>(
         a.status a.text.items (check translation term.now journal.now)) }
     ensures closed { IfOk result (λ a. a.closed ≡ None) }
     ensures begins { S.begins src.new ≤ S.begins src.old + 2 }
+    ensures first_alone { RefusesFirst (S.contents src.old) (check translation term.now journal.now)
+        → S.begins src.new ≤ S.begins src.old + 1 }
     ensures knows { S.knows src.new ≡ S.knows src.old }
     ensures contents { S.contents src.new ≡ S.contents src.old }
 {

@@ -4,6 +4,7 @@ use Rattle.ol_words.specs.Asked.{check}
 use Rattle.ol_cli.specs.Answers.{Seen, GaveAll, by_file}
 use Rattle.ol_cli.proofs.Exact.{after_term, checked_cause, fault_cause, past_cause, read_cause, within_ok}
 use Rattle.ol_cli.proofs.Readied.{refuses_answer}
+use Rattle.ol_cli.proofs.FirstAlone.{term_first}
 use Rattle.ol_cli.proofs.top.answer_check.Goals as goal
 
 pub returns-in-Err-Fault-clause-caused : goal.returns-in-Err-Fault-clause-caused
@@ -44,3 +45,15 @@ returns-clause-caused g c =
     let ended = after_term s.faults (g.S.Source.faults c.read_all.new.src) s.faults' s.given s.contents (g.S.Source.contents c.read_all.new.src) s.ended c.args.journal.now c.args.translation t names a.status a.text.items
     c.in-Ok.ensures.cause c.in-Ok.ensures.contents (c.in_ok-answer-in-Net.ensures.caused c.args.translation t names ready.ready) in
     checked_cause c.args.translation s c.args.term.now c.args.journal.now bytes t names c.in-Ok.ensures.whole ready.term a.status a.text.items ended
+
+pub returns-clause-first_alone : goal.returns-clause-first_alone
+returns-clause-first_alone g c = λ refused.
+    let prepared = rw c.in-Net.is at c.in_ok-answer-in-Ok.ensures.prepared in
+    let ready = rw c.deref.ensures.value at prepared in
+    absurd (term_first c.args.translation c.args.term.now c.args.journal.now (g.S.Source.contents c.args.src.now) c.in-Ok.bytes.items (tree_of c.in-Net.file.term) c.in-Net.file.names c.in-Ok.ensures.whole ready.term refused)
+
+pub returns-in_err-answer-in-Net-clause-first_alone : goal.returns-in_err-answer-in-Net-clause-first_alone
+returns-in_err-answer-in-Net-clause-first_alone g c = λ refused.
+    let prepared = rw c.in-Net.is at c.in_ok-answer-in-Ok.ensures.prepared in
+    let ready = rw c.deref.ensures.value at prepared in
+    absurd (term_first c.args.translation c.args.term.now c.args.journal.now (g.S.Source.contents c.args.src.now) c.in-Ok.bytes.items (tree_of c.in-Net.file.term) c.in-Net.file.names c.in-Ok.ensures.whole ready.term refused)
