@@ -4,11 +4,11 @@ ghost use Rattle.ol_cli.specs.Evaluation.{EveryRunIsLonger, EveryRunPrints};
 ghost use Rattle.ol_cli.specs.Journals.{AnyRunPrints, AnyRunRunsOut, OneThreadIsThere};
 ghost use Rattle.ol_cli.specs.Laws.{OneAnswer, OneNetIsLeft, OneTreeIsDemanded, OneTreeIsPrinted, OneTreeIsWalked};
 
-/// The same words and bytes have one status and one text, but for what `trace` writes of a run and
-/// for the net that `net` leaves, before which the nine lines are one. However the answer to a term
-/// is come by, it is that of one tree, one term and one number of stuck pairs, and in demand order
-/// of one journal; and the net of a file leaves one number of nodes and of stuck pairs, by as many
-/// interactions of each rule.
+/// The same words and bytes have one status and one text, but for what `trace` writes of a run, and
+/// for the stuck pairs and the net that `net` writes after nine lines, which are one. However the
+/// answer to a term is come by, it is that of one tree, one term and one number of stuck pairs, and
+/// in demand order of one journal; and the net of a file leaves one number of nodes and of stuck
+/// pairs, by as many interactions of each rule.
 pub fn one_answer()
     ensures answer { OneAnswer }
     ensures printed { OneTreeIsPrinted }

@@ -94,19 +94,19 @@ pub struct Outcome {
 ///
 /// Where nothing fails, the words and the bytes of the files alone decide on the text and the
 /// status: not the number of workers, nor the order in which they take pairs. Only what `trace`
-/// writes of a run isn't one: it is the journal of any; nor is the net that `net` leaves, the nodes
-/// of which may be numbered by any run that leaves no active pair, while the nine lines before it
-/// are one. The answer of `run` is that of the one-thread run, which always rewrites the active
-/// pair whose smaller name is least; each complete run prints the same, and each is longer than F
-/// where that one is.
+/// writes of a run isn't one: it is the journal of any; nor are the net that `net` leaves and the
+/// lines of its stuck pairs, as any run that leaves no active pair may have numbered the nodes,
+/// while the nine lines before are one. The answer of `run` is that of the one-thread run, which
+/// always rewrites the active pair whose smaller name is least; each complete run prints the same,
+/// and each is longer than F where that one is.
 ///
 /// Each head that is written is the one that walks of any length give in the source's untouched net
 /// (Gonthier, Abadi and Lévy, The Geometry of Optimal Lambda Reduction, 1992). Beta reduction leads
 /// from the source to the term that is written, with some term in the place of each `...` and each
 /// `?`. Where there are none of these, leftmost reduction leads there, and the term is a normal
-/// form; its text is in the grammar, and read again it has no redex. Where `run` writes `stuck 0`,
-/// walks of any length give no head in the place of a `?`: head reduction of the term there has no
-/// end, and leftmost reduction of the source ends in no normal form (Barendregt, The Lambda
+/// form; its text is in the grammar, and read again it has no redex. Where `run` writes a `?` and
+/// `stuck 0`, walks of any length give no head in its place: head reduction of the term there has
+/// no end, and leftmost reduction of the source ends in no normal form (Barendregt, The Lambda
 /// Calculus, 1984). A `?` of `walk` or `demand`, or one beside stuck pairs, says only that none of
 /// the walks that were tried gave a head. Each pair that `demand` rewrites is, by birth names,
 /// rewritten in every complete run; so where it needs more than F interactions, each complete run
@@ -179,10 +179,10 @@ pub fn ol<R: Threads + Wait + Sync, S: Source, W: Sink, G: Gate + Sync>(
     // - Where each place has a head, leftmost reduction leads from the term to the tree's term,
     //   which is a beta-normal form. Its text is in the grammar, and read back it is the tree's
     //   term, which has no redex.
-    // - Where `run` or `gen --run` prints `stuck 0`, paths of any length give no head in the
-    //   untouched net at a `?`, head reduction of the term in its place has no end, and leftmost
+    // - Where `run` or `gen --run` prints a `?` and `stuck 0`, paths of any length give no head in
+    //   the untouched net in its place, head reduction of the term there has no end, and leftmost
     //   reduction of the whole term ends in no normal form. Where pairs are stuck, and of `walk`
-    //   and `demand`, only the first three hold, whatever a `?` may stand for.
+    //   and `demand`, nothing more is said of a `?`.
     // - Each pair that `demand` rewrites is, by birth names, rewritten in every complete run.
     ensures tree { (bytes : List ℕ) → TellsTerm (S.contents src.old) words.now.items bytes
         → IfNoneFailed (S.faults src.old) (S.faults src.new) (W.faults out.old) (W.faults out.new)
@@ -229,7 +229,8 @@ pub fn ol<R: Threads + Wait + Sync, S: Source, W: Sink, G: Gate + Sync>(
     // job's files.
     ensures begins { S.begins src.new ≤ S.begins src.old + files_of words.now.items }
 
-    // Where the first of two files is refused for its bytes, the second isn't begun.
+    // Where the source tells the bytes of the first of two files, and it is refused for them, the
+    // second isn't begun.
     ensures first_alone { (asked : Asked) → AskFor words.now.items asked
         → RefusesFirst (S.contents src.old) asked → S.begins src.new ≤ S.begins src.old + 1 }
 
