@@ -311,19 +311,20 @@ ends_risen words s BadNet g g' old new h calm e = inl (e.3.0 ∙ cause_risen wor
 
 -- ---- words without a job
 
-no_job : (words : List (String Global)) (asked : Asked) → AskForNothing words → AskFor words asked → ⊥
-no_job words asked lacks j = let e = sym lacks ∙ j in absurd (cc)
+-- words don't ask both for nothing and for a job
+pub not_both : (words : List (String Global)) (asked : Asked) → AskForNothing words → AskFor words asked → ⊥
+not_both words asked lacks j = let e = sym lacks ∙ j in absurd (cc)
 
 planned_usage : (words : List (String Global)) (s : Seen) (text : List ℕ) (st : Status) → AskForNothing words → Cause words s st text → st ≡ Usage
 planned_usage words s text Usage lacks c = refl
-planned_usage words s text ReadFault lacks c = absurd (no_job words c.0 lacks c.1)
-planned_usage words s text Limit lacks c = absurd (no_job words c.0 lacks c.1)
-planned_usage words s text BadNet lacks c = absurd (no_job words c.0 lacks c.1)
-planned_usage words s text Syntax lacks c = absurd (no_job words c.0 lacks c.1)
-planned_usage words s text Spent lacks c = absurd (no_job words c.0 lacks c.1)
-planned_usage words s text Done lacks c = absurd (no_job words c.0 lacks c.1)
-planned_usage words s text WriteFault lacks c = absurd (no_job words c.0 lacks c.1)
-planned_usage words s text NoMemory lacks c = absurd (no_job words c.0 lacks c.1)
+planned_usage words s text ReadFault lacks c = absurd (not_both words c.0 lacks c.1)
+planned_usage words s text Limit lacks c = absurd (not_both words c.0 lacks c.1)
+planned_usage words s text BadNet lacks c = absurd (not_both words c.0 lacks c.1)
+planned_usage words s text Syntax lacks c = absurd (not_both words c.0 lacks c.1)
+planned_usage words s text Spent lacks c = absurd (not_both words c.0 lacks c.1)
+planned_usage words s text Done lacks c = absurd (not_both words c.0 lacks c.1)
+planned_usage words s text WriteFault lacks c = absurd (not_both words c.0 lacks c.1)
+planned_usage words s text NoMemory lacks c = absurd (not_both words c.0 lacks c.1)
 
 -- words that ask for no job are told so
 pub ends_usage : (words : List (String Global)) (s : Seen) (r : Status) (g g' : ℕ) (old new : Option (List ℕ)) → AskForNothing words

@@ -41,6 +41,7 @@ use Rattle.ol_cli.specs.Answers.{long, deep, large, IsTermFile, TermAnswer, File
 use Rattle.ol_cli.proofs.OnePrint.{ends_or_not, ends_or_runs_out, reads_or_runs_out, one_last_tree, one_print, one_walk, one_view, one_certified}
 use Rattle.ol_cli.proofs.DemandRuns.{one_demanded, demand_ends_or_not}
 use Rattle.ol_cli.proofs.NetFiles.{Alike, alike_by, one_net_file}
+use Rattle.ol_cli.proofs.Exact.{not_both}
 
 abbrev pub Same : Status → Status → List ℕ → List ℕ → Type 0
 Same s s' x x' = (s ≡ s') × (x ≡ x')
@@ -457,10 +458,6 @@ own_job words files asked j s x a = go (of_words words files s x a)
 -- one status, and one text as far as these words ask for one
 abbrev pub OneOfWords : List (String Global) → Status → Status → List ℕ → List ℕ → Type 0
 OneOfWords words s s' x x' = (s ≡ s') × (AskForNothing words → x ≡ x') × ((asked : Asked) → AskFor words asked → HaveOneText asked s x x')
-
--- words don't ask both for nothing and for a job
-not_both : (words : List (String Global)) (asked : Asked) → AskForNothing words → AskFor words asked → ⊥
-not_both words asked n j = let e = sym n ∙ j in cc
 
 one_of_words : (words : List (String Global)) (files : Text → Option (List ℕ)) (s s' : Status) (x x' : List ℕ) → OfWords words files s x → OfWords words files s' x' →
     OneOfWords words s s' x x'
