@@ -11,9 +11,14 @@ mod OnePrint
 mod DemandRuns
 mod KeptHeads
 mod EveryRun
-mod NoFacing
 mod AnyRun
 mod Sourced
+mod SourceTrees
+mod NormalLines
+mod DemandedLines
+mod ComparedLines
+mod PlainLines
+mod DemandedFuel
 mod Within
 mod ReadAgain
 mod Handing

@@ -1,31 +1,32 @@
 -- What an answer says of the job's own term.
-use Rattle.std.proofs.Common.{◌≡◌, ◌≢◌, ℕ, ◌*◌, ◌==◌, Bool, true, false, zero, suc, List, [], ◌∷◌, codes, slice_get, length, Option, Some, String, Global, sym, ap, ◌∙◌, subst, arith}
+use Rattle.std.proofs.Common.{◌≡◌, ◌≢◌, ℕ, ◌*◌, Bool, true, false, zero, suc, List, [], ◌∷◌, codes, slice_get, length, Option, Some, String, Global, sym, ap, ◌∙◌, subst}
 use Rattle.ol_io.specs.Outside.{Appended, Rose}
 use Rattle.ol_term.specs.declared.translations.Translation.{Translation}
 use Rattle.ol_term.specs.Trees.{Tree}
 use Rattle.ol_term.specs.Generated.{doubled_text}
 use Rattle.ol_parse.specs.Parsed.{IsFileOf}
 use Rattle.ol_parse.proofs.Exact.{one_file}
-use Rattle.ol_net.specs.Nets.{NamedNet, IsNet}
-use Rattle.ol_net.specs.Pairs.{HasStuck, IsComplete}
+use Rattle.ol_net.specs.Nets.{NamedNet}
+use Rattle.ol_net.specs.Pairs.{IsComplete}
 use Rattle.ol_rules.specs.declared.journal.NodeName.TheVariants.{Init}
 use Rattle.ol_rules.specs.declared.journal.NodeName.{NodeName}
 use Rattle.ol_rules.specs.declared.journal.Entry.{Entry}
 use Rattle.ol_rules.specs.Runs.{IsRun}
 use Rattle.ol_invariance.proofs.Renamed.{renamed}
-use Rattle.ol_invariance.proofs.Runs.{run_keeps}
-use Rattle.ol_context.specs.Paths.{HaveSamePaths}
-use Rattle.ol_context.specs.Short.{HasNoFacing}
 use Rattle.ol_translate.specs.Translation.{translation_of}
 use Rattle.ol_translate.specs.Names.{HasNames}
 use Rattle.ol_translate.proofs.Whole.{translation_net}
 use Rattle.ol_readback.specs.Heads.{live}
 use Rattle.ol_readback.specs.Terms.{HasAllHeads, IsReadBack}
-use Rattle.ol_readback.proofs.Sources.{own_heads, read_heads}
+use Rattle.ol_readback.proofs.Sources.{own_heads}
 use Rattle.ol_readback.proofs.Forests.{tree_is_whole, heads_are_whole}
 use Rattle.ol_demand.proofs.Needed.{needed}
-use Rattle.ol_demand.proofs.SourceHeads.{heads_are_of_source}
+use Rattle.ol_levels.proofs.DemandPlaces.{demand_places}
+use Rattle.ol_levels.proofs.Runs.{start_levelled}
+use Rattle.ol_levels.proofs.Sources.{last_places}
+use Rattle.ol_levels.proofs.Terms.{term_is_levelled}
 use Rattle.ol_meaning.proofs.Based.{places_say}
+use Rattle.ol_confluence.proofs.PrintedTrees.{says_always}
 use Rattle.ol_words.specs.Texts.{Text}
 use Rattle.ol_words.specs.Asked.{Asked, run, walk, view, trace, check, gen, demand, certify}
 use Rattle.ol_words.specs.Asked as jobs
@@ -38,39 +39,29 @@ use Rattle.ol_cli.specs.Answers.{Ends, IsTermFile, TermAnswer, FileAnswer, JobAn
 use Rattle.ol_cli.specs.Sources.{PrintsTree, WalksTree, DemandsTree, TellsTree, WritesTree, RunTells, DemandTells, JobTells, EveryRunTells}
 use Rattle.ol_cli.specs.ReadAgain.{TextIsReadAgain, WritesReadable}
 use Rattle.ol_rules.proofs.LeadRuns.{as_run}
-use Rattle.ol_cli.proofs.NoFacing.{no_facing}
 use Rattle.ol_cli.proofs.DemandRuns.{is_start, demand_is_longer}
 use Rattle.ol_cli.proofs.KeptHeads.{heads_to}
-use Rattle.ol_cli.proofs.OnePrint.{start_is_net, start_is_named}
 use Rattle.ol_cli.proofs.EveryRun.{every_run_prints, every_run_is_longer}
 use Rattle.ol_cli.proofs.OneAnswer.{file_net, file_names, one_job, own_job}
 use Rattle.ol_cli.proofs.Exact.{ends_exact}
 
 -- ---- the tree that is written
 
--- the paths of the source's own translation are those of the last net
-kept_paths : (tr : Translation) (t : Tree) (names : List (List ℕ)) (fuel heads : ℕ) (text : List ℕ) → IsNet (translation_of tr t (length names)) → (p : Prints tr t names fuel heads text) → HaveSamePaths (translation_of tr t (length names)) p.net
-kept_paths tr t names fuel heads text is_net p u c q d =
-    let first = renamed Init (translation_of tr t (length names)) is_net (λ x y k l i j h h' e. cc) u c q d in
-    let then = run_keeps (start_net_of_term tr t names) p.net 0 p.journal (start_is_net tr t names is_net) (start_is_named tr t names is_net) (as_run (start_net_of_term tr t names) p.net 0 p.journal p.run.leads) u c q d in
-    (λ r. then.0 (first.0 r), λ r. first.1 (then.1 r))
-
-none_stuck : {A : Type 0} (N : NamedNet A) (stuck : ℕ) → IsNet N → IsComplete N → HasStuck N stuck → (stuck == 0) ≡ true → HasNoFacing N
-none_stuck N stuck is_net complete counted e =
-    let none : stuck ≡ 0 = grind (arith, e) in
-    no_facing N is_net complete (subst (λ n. HasStuck N n) none counted)
-
 prints_tree : (tr : Translation) (t : Tree) (names : List (List ℕ)) (fuel heads : ℕ) (text : List ℕ) → HasNames t (length names) → (p : Prints tr t names fuel heads text) →
     (HasAllHeads p.shows.tree → IsReadBack names p.shows.tree p.shows.term) → PrintsTree tr t names fuel heads text
 prints_tree tr t names fuel heads text has p read =
     let s = p.shows in
     let N = translation_of tr t (length names) in
-    let own = read_heads N p.net (kept_paths tr t names fuel heads text (translation_net tr t (length names) has) p) s.is_net heads (2 * live p.net) (s.stuck == 0) (none_stuck p.net s.stuck s.is_net p.complete s.counted) s.read in
+    let ran = as_run (start_net_of_term tr t names) p.net 0 p.journal p.run.leads in
+    let own = last_places tr t (length names) has p.journal p.net ran p.complete heads (2 * live p.net) s.tree s.read in
     let whole = tree_is_whole p.net heads (2 * live p.net) s.tree s.read in
+    let says = places_say tr t (length names) has true whole.tree s.tree whole.is_list own
+    in
     record {
       prints = p;
       own_heads = own;
-      says = places_say tr t (length names) has (s.stuck == 0) whole.tree s.tree whole.is_list own;
+      says = says;
+      always = says_always says;
       read_again = read;
     }
 
@@ -80,10 +71,12 @@ walks_tree tr t names edges heads text has w read =
     let N = translation_of tr t (length names) in
     let own = (own_heads N (translation_net tr t (length names) has) heads edges w.tree w.read).0 in
     let whole = tree_is_whole N heads edges w.tree w.read in
+    let says = places_say tr t (length names) has false whole.tree w.tree whole.is_list own in
     record {
       walks = w;
       own_heads = own;
-      says = places_say tr t (length names) has false whole.tree w.tree whole.is_list own;
+      says = says;
+      always = says_always says;
       read_again = read;
     }
 
@@ -95,12 +88,15 @@ demands_tree tr t names fuel heads text has d read =
     let is_net = translation_net tr t (length names) has in
     let s = is_start tr t names is_net in
     let there = renamed Init N is_net (λ x y k l i j h h' e. cc) in
-    let own = heads_to start N (λ p c q e. ((there p c q e).1, (there p c q e).0)) false (heads_are_of_source start d.ends.net heads d.ends.journal d.ends.tree s d.ends.run) in
-    let whole = heads_are_whole N false d.ends.tree own in
+    let levels = start_levelled N (term_is_levelled tr t (length names) has) in
+    let own = heads_to start N (λ p c q e. ((there p c q e).1, (there p c q e).0)) true (demand_places start d.ends.net heads d.ends.journal d.ends.tree s levels d.ends.run) in
+    let whole = heads_are_whole N true d.ends.tree own in
+    let says = places_say tr t (length names) has true whole.tree d.ends.tree whole.is_list own in
     record {
       demands = d;
       own_heads = own;
-      says = places_say tr t (length names) has false whole.tree d.ends.tree whole.is_list own;
+      says = says;
+      always = says_always says;
       read_again = read;
       needed = needed s d.ends.run.run;
     }

@@ -9,6 +9,9 @@ pub mod NetAnswers
 pub mod Journals
 pub mod Answers
 pub mod Sources
+pub mod SourceLaws
+pub mod NormalForms
+pub mod DemandFuel
 pub mod Laws
 pub mod Handed
 pub mod Completeness

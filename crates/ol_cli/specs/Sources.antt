@@ -1,5 +1,5 @@
 -- What is written for a job's own term, where its bytes are told: that of its file, or the one that `gen --run` makes.
-use Rattle.std.specs.Prelude.{ℕ, ◌<◌, ◌==◌, true, false, List, length, Option, String}
+use Rattle.std.specs.Prelude.{ℕ, ◌<◌, true, false, List, length, Option, String}
 use Rattle.std.specs.declared.alloc.Global.{Global}
 use Rattle.ol_io.specs.Outside.{Appended}
 use Rattle.ol_term.specs.declared.translations.Translation.{Translation}
@@ -15,6 +15,7 @@ use Rattle.ol_readback.specs.Sources.{HasHeadsOf}
 use Rattle.ol_readback.specs.Terms.{HasAllHeads, IsReadBack}
 use Rattle.ol_demand.specs.Answers.{IsNeeded}
 use Rattle.ol_meaning.specs.Meaning.{SaysOf}
+use Rattle.ol_confluence.specs.Printed.{SaysAlways}
 use Rattle.ol_words.specs.Asked.{Asked, run, walk, gen, demand}
 use Rattle.ol_cli.specs.declared.status.Status.{Status}
 use Rattle.ol_cli.specs.declared.status.Status.TheVariants as status
@@ -25,16 +26,18 @@ use Rattle.ol_cli.specs.DemandOrder.{Demands}
 -- ---- the tree that is written
 
 -- What `run` prints of a term, and what holds of the tree whose text it prints. Each of its heads is the one that the term's own
--- translation gives, by paths of any length; so is each place without a head where no pair is stuck. Beta reduction leads from the
--- term to the tree's own term, with some term in each place that has no head or was cut. Where each place has a head, leftmost
--- reduction of the term ends in the tree's own term, which is a beta-normal form; the text is in the grammar, and read back, with its
--- free names numbered by these, it is the tree's own term, in which no application has an abstraction as its function. Where no pair
--- is stuck and some place has no head, head reduction of the term in each such place has no end, and leftmost reduction of the whole
--- term ends in no normal form.
+-- translation gives, by paths of any length; so is each place without a head. Beta reduction leads from the term to the tree's own
+-- term, with some term in each place that has no head or was cut. Where each place has a head, leftmost reduction of the term ends
+-- in the tree's own term, which is a beta-normal form; the text is in the grammar, and read back, with its free names numbered by
+-- these, it is the tree's own term, in which no application has an abstraction as its function. Where some place has no head, head
+-- reduction of the term in each such place has no end, and leftmost reduction of the whole term ends in no normal form. And whatever
+-- is reduced: where each place has a head, the tree's term is the term's one normal form, to which each of its reducts leads; where
+-- some place has no head, the term has no normal form.
 pub record PrintsTree (translation : Translation) (t : Tree) (names : List (List ℕ)) (fuel heads : ℕ) (text : List ℕ) : Type 0 where
   pub prints : Prints translation t names fuel heads text
-  pub own_heads : HasHeadsOf (translation_of translation t (length names)) (prints.shows.stuck == 0) prints.shows.tree
-  pub says : SaysOf t (prints.shows.stuck == 0) prints.shows.tree
+  pub own_heads : HasHeadsOf (translation_of translation t (length names)) true prints.shows.tree
+  pub says : SaysOf t true prints.shows.tree
+  pub always : SaysAlways says
   pub read_again : HasAllHeads prints.shows.tree → IsReadBack names prints.shows.tree prints.shows.term
 
 -- The same of `walk`, where nothing is said of the places without a head.
@@ -42,14 +45,15 @@ pub record WalksTree (translation : Translation) (t : Tree) (names : List (List 
   pub walks : Walks translation t names edges heads text
   pub own_heads : HasHeadsOf (translation_of translation t (length names)) false walks.tree
   pub says : SaysOf t false walks.tree
+  pub always : SaysAlways says
   pub read_again : HasAllHeads walks.tree → IsReadBack names walks.tree walks.term
 
--- The same of `demand`, where nothing is said of the places without a head. Each pair that it rewrites is, by birth names, rewritten
--- in every complete run from the term's net.
+-- The same of `demand`. Each pair that it rewrites is, by birth names, rewritten in every complete run from the term's net.
 pub record DemandsTree (translation : Translation) (t : Tree) (names : List (List ℕ)) (fuel heads : ℕ) (text : List ℕ) : Type 0 where
   pub demands : Demands translation t names fuel heads text
-  pub own_heads : HasHeadsOf (translation_of translation t (length names)) false demands.ends.tree
-  pub says : SaysOf t false demands.ends.tree
+  pub own_heads : HasHeadsOf (translation_of translation t (length names)) true demands.ends.tree
+  pub says : SaysOf t true demands.ends.tree
+  pub always : SaysAlways says
   pub read_again : HasAllHeads demands.ends.tree → IsReadBack names demands.ends.tree demands.term
   pub needed : IsNeeded (start_net_of_term translation t names) demands.ends.journal
 

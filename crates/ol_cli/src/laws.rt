@@ -1,7 +1,9 @@
 //! The laws of answers.
 
+ghost use Rattle.ol_cli.specs.DemandFuel.{DemandHasFuel};
 ghost use Rattle.ol_cli.specs.Evaluation.{EveryRunIsLonger, EveryRunPrints};
 ghost use Rattle.ol_cli.specs.Journals.{AnyRunPrints, AnyRunRunsOut, OneThreadIsThere};
+ghost use Rattle.ol_cli.specs.SourceLaws.{CertifyNeverDiffers, ComparisonTellsSources};
 ghost use Rattle.ol_cli.specs.Laws.{OneAnswer, OneNetIsLeft, OneTreeIsDemanded, OneTreeIsPrinted, OneTreeIsWalked};
 
 /// The same words and bytes have one status and one text, but for what `trace` writes of a run, and
@@ -31,4 +33,18 @@ pub fn any_run_tells()
     ensures there { OneThreadIsThere }
     ensures prints { AnyRunPrints }
     ensures spent { AnyRunRunsOut }
+{}
+
+/// Where `equal` compares the trees of two files, and all places agree, their terms have one normal
+/// form. Where it finds a place with two heads that don't agree, the terms aren't convertible. And
+/// `certify` never tells that leftmost reduction of a term ends in another term than its tree's.
+pub fn sources_are_told()
+    ensures equal { ComparisonTellsSources }
+    ensures certify { CertifyNeverDiffers }
+{}
+
+/// Where a term has a normal form, there is a number that the term and the translation alone tell:
+/// `demand` on a file of the term never spends a fuel of so many interactions or more.
+pub fn demand_has_fuel()
+    ensures fuel { DemandHasFuel }
 {}

@@ -11,6 +11,8 @@ ghost use Rattle.ol_cli.specs.Answers.{IfNoneFailed, seen_by, Cause, Ends, FileC
 ghost use Rattle.ol_cli.specs.Completeness.{AskForWhatCanBeDone, IsDoneOrNothing};
 ghost use Rattle.ol_cli.specs.Prepared.{HoldsOfTerms};
 ghost use Rattle.ol_cli.specs.Sources.{EveryRunTells, WritesTree};
+ghost use Rattle.ol_cli.specs.NormalForms.{LineSays, IsItsNormalForm, TellsOfNone, IsFoundOnDemand, LineSaysOfTwo, PlainLineSays};
+ghost use Rattle.ol_cli.specs.SourceLaws.{WritesOfSources};
 ghost use Rattle.ol_cli.specs.ReadAgain.{FileIsReadAgain, WordsAreReadAgain, WritesReadable};
 ghost use Rattle.ol_cli.specs.Handed.{Hands, JobHands, MakingHands, ReadHands, WhereEnded, WordsHand};
 
@@ -104,13 +106,12 @@ pub struct Outcome {
 /// (Gonthier, Abadi and Lévy, The Geometry of Optimal Lambda Reduction, 1992). Beta reduction leads
 /// from the source to the term that is written, with some term in the place of each `...` and each
 /// `?`. Where there are none of these, leftmost reduction leads there, and the term is a normal
-/// form; its text is in the grammar, and read again it has no redex. Where `run` writes a `?` and
-/// `stuck 0`, walks of any length give no head in its place: head reduction of the term there has
-/// no end, and leftmost reduction of the source ends in no normal form (Barendregt, The Lambda
-/// Calculus, 1984). A `?` of `walk` or `demand`, or one beside stuck pairs, says only that none of
-/// the walks that were tried gave a head. Each pair that `demand` rewrites is, by birth names,
-/// rewritten in every complete run; so where it needs more than F interactions, each complete run
-/// does.
+/// form; its text is in the grammar, and read again it has no redex. Where `run` or `demand` writes
+/// a `?`, whatever pairs are stuck, walks of any length give no head in its place: head reduction of
+/// the term there has no end, and the source has no normal form (Barendregt, The Lambda Calculus,
+/// 1984). A `?` of `walk` says only that none of the walks that were tried gave a head. Each pair
+/// that `demand` rewrites is, by birth names, rewritten in every complete run; so where it needs
+/// more than F interactions, each complete run does.
 ///
 /// Refusals are tried in the order that `Status` tells. Each has a line of its own: the usage,
 /// `read fault`, `syntax at byte B` with the length of the longest prefix that begins a text of the
@@ -177,17 +178,63 @@ pub fn ol<R: Threads + Wait + Sync, S: Source, W: Sink, G: Gate + Sync>(
     // - Beta reduction leads from the term to the tree's term, with some term in the place of each
     //   `?` and each `...`.
     // - Where each place has a head, leftmost reduction leads from the term to the tree's term,
-    //   which is a beta-normal form. Its text is in the grammar, and read back it is the tree's
-    //   term, which has no redex.
-    // - Where `run` or `gen --run` prints a `?` and `stuck 0`, paths of any length give no head in
-    //   the untouched net in its place, head reduction of the term there has no end, and leftmost
-    //   reduction of the whole term ends in no normal form. Where pairs are stuck, and of `walk`
-    //   and `demand`, nothing more is said of a `?`.
+    //   which is a beta-normal form: the only one, to which each reduct of the term leads. Its text
+    //   is in the grammar, and read back it is the tree's term, which has no redex.
+    // - Where `run`, `demand` or `gen --run` prints a `?`, whatever pairs are stuck, paths of any
+    //   length give no head in the untouched net in its place, head reduction of the term there has
+    //   no end, and the whole term has no normal form. Of a `?` of `walk` nothing more is said.
     // - Each pair that `demand` rewrites is, by birth names, rewritten in every complete run.
     ensures tree { (bytes : List ℕ) → TellsTerm (S.contents src.old) words.now.items bytes
         → IfNoneFailed (S.faults src.old) (S.faults src.new) (W.faults out.old) (W.faults out.new)
         (result.status ≡ Status.Done
         → WritesTree words.now.items bytes (W.taken out.old) (W.taken out.new)) }
+
+    // Where `equal` is done, the line that is written tells of the terms of its files: `equal`,
+    // that they have one normal form, and `different at`, that they aren't convertible, whatever is
+    // reduced. A free name of the one is one of the other where the bytes are the same. And the
+    // verdict that `certify` writes is never `differs`.
+    ensures sources { TellsFiles (S.contents src.old) words.now.items
+        → IfNoneFailed (S.faults src.old) (S.faults src.new) (W.faults out.old) (W.faults out.new)
+        (result.status ≡ Status.Done
+        → WritesOfSources words.now.items (S.contents src.old)
+        (W.taken out.old) (W.taken out.new)) }
+
+    // In the words of terms alone, for the words `ol run NAME`, `ol demand NAME` and `ol walk NAME`:
+    // where the first line that is written is a text of a term, that term is the normal form of the
+    // term in the file; and where `run` or `demand` has put a `?` in it, the latter has none.
+    ensures plain { IfNoneFailed (S.faults src.old) (S.faults src.new)
+        (W.faults out.old) (W.faults out.new)
+        (result.status ≡ Status.Done → PlainLineSays words.now.items (S.contents src.old)
+        (W.taken out.old) (W.taken out.new)) }
+
+    // The same of all words: where `run`, `walk`, `demand` or `gen --run` is done, and the
+    // first line that is written is a text of a term, that term is the normal form of the job's own
+    // term.
+    ensures normal_form { (bytes : List ℕ) → TellsTerm (S.contents src.old) words.now.items bytes
+        → IfNoneFailed (S.faults src.old) (S.faults src.new) (W.faults out.old) (W.faults out.new)
+        (result.status ≡ Status.Done → LineSays IsItsNormalForm words.now.items bytes
+        (W.taken out.old) (W.taken out.new)) }
+
+    // Where a `?` stands on the line that `run`, `demand` or `gen --run` writes, the job's own term
+    // has no normal form.
+    ensures no_normal_form { (bytes : List ℕ) → TellsTerm (S.contents src.old) words.now.items bytes
+        → IfNoneFailed (S.faults src.old) (S.faults src.new) (W.faults out.old) (W.faults out.new)
+        (result.status ≡ Status.Done → LineSays TellsOfNone words.now.items bytes
+        (W.taken out.old) (W.taken out.new)) }
+
+    // And where the job's own term has a normal form, with no more variables than there are heads
+    // that `demand` was asked for, that is the term that `demand` writes.
+    ensures demanded { (bytes : List ℕ) → TellsTerm (S.contents src.old) words.now.items bytes
+        → IfNoneFailed (S.faults src.old) (S.faults src.new) (W.faults out.old) (W.faults out.new)
+        (result.status ≡ Status.Done → LineSays IsFoundOnDemand words.now.items bytes
+        (W.taken out.old) (W.taken out.new)) }
+
+    // Where `equal` writes `equal`, the terms of its two files are convertible, and where it writes
+    // `different`, they aren't. Free names are the same where their bytes are.
+    ensures two_terms { TellsFiles (S.contents src.old) words.now.items
+        → IfNoneFailed (S.faults src.old) (S.faults src.new) (W.faults out.old) (W.faults out.new)
+        (result.status ≡ Status.Done → LineSaysOfTwo words.now.items (S.contents src.old)
+        (W.taken out.old) (W.taken out.new)) }
 
     // And each complete run of the own term of `run` or `gen --run`, whatever pairs it takes first,
     // prints what is written, or is longer than the fuel where that is spent. It is so too where

@@ -1,8 +1,9 @@
 -- A source and a sink in memory: their states, what each call answers, and the state that it leaves.
-use Rattle.std.specs.Prelude.{ℕ, ◌+◌, ◌-◌, ◌==◌, ◌||◌, min, Bool, true, false, if◌then◌else◌, List, [], ◌++◌, length, take, drop, is_none, unwrap_or}
+use Rattle.std.specs.Prelude.{ℕ, ◌+◌, ◌-◌, ◌==◌, ◌||◌, min, Bool, true, false, if◌then◌else◌, List, [], ◌∷◌, ◌++◌, length, take, drop, is_none, unwrap_or}
 use Rattle.std.specs.List.{list_any}
 use Rattle.ol_io.specs.Files.{File, contents_of}
 use Rattle.ol_io.specs.Outside.{next_count, byte_count}
+use Rattle.ol_io.specs.Readings.{Reading, begun, gave, closed}
 use Rattle.ol_io.specs.declared.outside.Begun.{Begun}
 use Rattle.ol_io.specs.declared.outside.Begun.TheVariants.{Ready as BeginReady, Failed as BeginFailed}
 use Rattle.ol_io.specs.declared.outside.Got.{Got}
@@ -26,6 +27,7 @@ pub record SourceState : Type 0 where
   pub given : ℕ
   pub ready : Bool
   pub ended : Bool
+  pub readings : List Reading
 
 -- a source of which no call was made
 abbrev pub fresh_source : List File → ℕ → List ℕ → SourceState
@@ -40,6 +42,7 @@ fresh_source files most failing = record {
   given = 0;
   ready = false;
   ended = false;
+  readings = [];
 }
 
 -- `begin` fails at a number in `failing`, and where no file has the name
@@ -56,6 +59,7 @@ after_begin BeginReady name s = record s {
   given = 0;
   ready = true;
   ended = false;
+  readings = begun name ∷ s.readings;
 }
 after_begin BeginFailed name s = record s {
   calls = next_count s.calls;
@@ -64,6 +68,7 @@ after_begin BeginFailed name s = record s {
   given = 0;
   ready = false;
   ended = false;
+  readings = begun name ∷ s.readings;
 }
 
 -- `read` fails at a number in `failing`, and ends where nothing is left. Else it gives as many bytes as are left,
@@ -81,8 +86,14 @@ after_read (GotBytes n) s = record s {
   given = s.given + n;
   ready = true;
   ended = false;
+  readings = gave (take n s.left) s.readings;
 }
-after_read GotEnd s = record s { calls = next_count s.calls; ready = false; ended = true }
+after_read GotEnd s = record s {
+  calls = next_count s.calls;
+  ready = false;
+  ended = true;
+  readings = closed true s.readings;
+}
 after_read GotFailed s = record s {
   calls = next_count s.calls;
   faults = next_count s.faults;

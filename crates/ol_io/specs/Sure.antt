@@ -1,7 +1,8 @@
 -- A source and a sink in memory that never fail: their states, what each call answers, and the state that it leaves.
-use Rattle.std.specs.Prelude.{ℕ, ◌+◌, ◌-◌, ◌==◌, nat_le, ◌&&◌, min, Bool, true, false, if◌then◌else◌, List, [], ◌++◌, length, take, drop, Option, None, Some, unwrap_or}
+use Rattle.std.specs.Prelude.{ℕ, ◌+◌, ◌-◌, ◌==◌, nat_le, ◌&&◌, min, Bool, true, false, if◌then◌else◌, List, [], ◌∷◌, ◌++◌, length, take, drop, Option, None, Some, unwrap_or}
 use Rattle.ol_io.specs.Files.{File, contents_of}
 use Rattle.ol_io.specs.Outside.{next_count, gave_bytes, at_end, byte_count}
+use Rattle.ol_io.specs.Readings.{Reading, begun, after_got}
 use Rattle.ol_io.specs.declared.outside.Begun.{Begun}
 use Rattle.ol_io.specs.declared.outside.Begun.TheVariants.{Ready as BeginReady}
 use Rattle.ol_io.specs.declared.outside.Got.{Got}
@@ -21,10 +22,11 @@ pub record SureSourceState : Type 0 where
   pub given : ℕ
   pub ready : Bool
   pub ended : Bool
+  pub readings : List Reading
 
 -- a source of which no call was made
 abbrev pub fresh_sure_source : List File → SureSourceState
-fresh_sure_source files = record { files = files; left = []; begins = 0; given = 0; ready = false; ended = false }
+fresh_sure_source files = record { files = files; left = []; begins = 0; given = 0; ready = false; ended = false; readings = [] }
 
 -- `begin` begins every name
 abbrev pub sure_begin_answer : Begun
@@ -38,6 +40,7 @@ after_sure_begin name s = record s {
   given = 0;
   ready = true;
   ended = false;
+  readings = begun name ∷ s.readings;
 }
 
 -- `read` gives all bytes that are left and that there is room for, and ends where nothing is left
@@ -51,6 +54,7 @@ after_sure_read got s = record s {
   given = s.given + byte_count got;
   ready = gave_bytes got;
   ended = at_end got;
+  readings = after_got got s.left s.readings;
 }
 
 -- `bytes` are the bytes kept, of at most `room`. They are `whole` as long as no byte was taken without being kept.

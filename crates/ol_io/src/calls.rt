@@ -1,6 +1,8 @@
 //! Reading a name to its end, and writing a whole text.
-ghost use Rattle.std.specs.Prelude.{◌≡◌, ◌≤◌, ◌<◌, ◌+◌, ◌↔◌, true, length, IfOk, OnOk, IsErrOf};
+ghost use Rattle.std.specs.Prelude.{ℕ, List, Option, ◌≡◌, ◌≤◌, ◌<◌, ◌+◌, ◌↔◌, true, length, IfOk, OnOk, IsErrOf};
 ghost use Rattle.ol_io.specs.Outside.{next_count, Appended, Counts, IsAllOf, IsLonger};
+ghost use Rattle.ol_io.specs.Readings.{AreOfSince, HandsOver};
+ghost use Rattle.ol_io.specs.ReadingOn.{ReadsOn};
 ghost use Rattle.ol_io.specs.Calls.{read_all_failed, write_all_failed, written, FaultsWithin};
 
 use crate::outside::{Begun, Got, Put, Sink, Source};
@@ -54,6 +56,15 @@ pub fn read_all<S: Source>(
     ensures begins { S.begins src.new ≡ next_count (S.begins src.old) }
     ensures knows { S.knows src.new ≡ S.knows src.old }
     ensures contents { S.contents src.new ≡ S.contents src.old }
+    ensures hands { HandsOver name.now (S.given src.new) (S.ended src.new)
+        (S.readings src.old) (S.readings src.new) result }
+    ensures told { AreOfSince (λ _. S.contents src.old) (S.readings src.old) (S.readings src.new) }
+    ensures whole_of { (files : ℕ → List ℕ → Option (List ℕ))
+        → AreOfSince files (S.readings src.old) (S.readings src.new)
+        → IfOk result (λ bytes. IsAllOf (files 0 name.now) bytes.items) }
+    ensures longer_of { (files : ℕ → List ℕ → Option (List ℕ))
+        → AreOfSince files (S.readings src.old) (S.readings src.new)
+        → most < S.given src.new → IsLonger (files 0 name.now) most }
 {
     match src.begin(name) {
         Begun::Ready => read_on(alloc, src, most),
@@ -76,6 +87,8 @@ fn read_on<S: Source>(alloc: Global, src: &mut S, most: usize) -> Result<Vec<u8>
     ensures begins { S.begins src.new ≡ S.begins src.old }
     ensures knows { S.knows src.new ≡ S.knows src.old }
     ensures contents { S.contents src.new ≡ S.contents src.old }
+    ensures hands { ReadsOn (S.left src.old) (S.given src.new) (S.ended src.new)
+        (S.readings src.old) (S.readings src.new) result }
 {
     let mut bytes = Vec::new(alloc);
     let mut buf = [0u8; 65536];

@@ -1,10 +1,12 @@
 //! A source in memory, which fails where it is told to.
 ghost use Rattle.std.specs.Prelude.{◌≡◌, ◌≤◌, ◌<◌, ◌^◌, ◌+◌, ◌++◌, ℕ, List, true, Some, length, take, drop, min};
 ghost use Rattle.ol_io.specs.Outside.{Counts, Reads, ReadsWithin, begin_failed, read_failed};
+ghost use Rattle.ol_io.specs.Readings.{after_got};
 ghost use Rattle.ol_io.specs.Unread.{left_of};
 ghost use Rattle.ol_io.specs.Fakes.{fails_at, fresh_source, begin_answer, after_begin, read_answer, after_read, buffer_after};
 
 use crate::files::{MemFile, find_file};
+use crate::log::{Log, Note};
 use crate::outside::{Begun, Got, Source};
 use std::marker::Model;
 
@@ -29,6 +31,7 @@ pub struct MemSource {
     given: u64,
     ready: bool,
     ended: bool,
+    log: Log,
 }
 
 impl Model for MemSource {
@@ -49,6 +52,7 @@ impl Model for MemSource {
       given = s.given;
       ready = s.ready;
       ended = s.ended;
+      readings = s.log.passed.readings;
     } };
 
     ghost invariant = { λ s. (0 < s.most) × (s.at < 2 ^ 63) };
@@ -74,6 +78,7 @@ impl MemSource {
             given: 0,
             ready: false,
             ended: false,
+            log: Log::new(),
         }
     }
 }
@@ -98,6 +103,8 @@ impl Source for MemSource {
 
     ghost left = { λ s. Some s.left };
 
+    ghost readings = { λ s. s.readings };
+
     fn begin(&mut self, name: &str) -> Begun
         ensures cause { Counts (begin_failed result) self.old.faults self.new.faults }
         ensures answer { result ≡ begin_answer self.old name.now }
@@ -105,6 +112,7 @@ impl Source for MemSource {
     {
         let fails = is_failing(&self.failing, self.calls);
         let found = find_file(&self.files, name);
+        self.log = self.log.then(&Note::Begun(name));
         self.calls = self.calls.saturating_add(1);
         self.begins = self.begins.saturating_add(1);
         self.given = 0;
@@ -127,6 +135,7 @@ impl Source for MemSource {
         ensures cause { Counts (read_failed result) self.old.faults self.new.faults }
         ensures bytes { Reads result buf.new (Some self.old.left) (Some self.new.left) }
         ensures within { ReadsWithin result (length buf.old) }
+        ensures readings { self.new.readings ≡ after_got result buf.new self.old.readings }
         ensures answer { result ≡ read_answer self.old (length buf.old) }
         ensures state { self.new ≡ after_read result self.old }
         ensures buffer { buf.new ≡ buffer_after result self.old.left buf.old }
@@ -141,9 +150,11 @@ impl Source for MemSource {
         }
         let count = copy_front(rest(&self.files, self.place, self.at), self.most, buf);
         if count == 0 {
+            self.log = self.log.then(&Note::Ended);
             self.ended = true;
             return Got::End;
         }
+        self.log = self.log.then(&Note::Gave(&buf[..count]));
         self.at += count;
         self.given += count as u64;
         self.ready = true;

@@ -1,6 +1,7 @@
 //! What the program asks of the outside.
-ghost use Rattle.std.specs.Prelude.{◌≡◌, ◌+◌, ◌≤◌, ◌<◌, ℕ, Bool, true, false, List, Option, length};
+ghost use Rattle.std.specs.Prelude.{◌≡◌, ◌+◌, ◌≤◌, ◌<◌, ℕ, Bool, true, false, List, ◌∷◌, Option, length};
 ghost use Rattle.ol_io.specs.Outside.{Counts, Begins, Reads, ReadsWithin, Writes, WritesWithin, next_count, begin_failed, begin_ready, read_failed, gave_bytes, at_end, byte_count, write_failed};
+ghost use Rattle.ol_io.specs.Readings.{Reading, begun, after_got};
 
 /// No memory was found. Nothing else is ever told by it.
 #[derive(Clone, Copy, Debug, PartialEq, Eq)]
@@ -38,7 +39,7 @@ pub enum Put {
 /// Where bytes come from, by name. The name `-` is standard input.
 ///
 /// A source tells its bytes where it can, as one in memory does. One that stands for files tells
-/// none, and then its clauses speak of faults, counts and the end alone.
+/// none before they are read. Each tells what it handed over.
 pub trait Source {
     /// How often a call has failed. It never falls, and stays at its last value, 2^64 - 1.
     ghost faults: { Self → ℕ };
@@ -64,6 +65,9 @@ pub trait Source {
     /// The bytes left of the name that was begun last, where the source tells them.
     ghost left: { Self → Option (List ℕ) };
 
+    /// What was handed over: a reading for each `begin`, the last one first.
+    ghost readings: { Self → List Reading };
+
     /// Begins to read a name from its first byte.
     ///
     /// `Ready` makes the bytes of that name the bytes left. After `Failed` they are what they were.
@@ -76,7 +80,8 @@ pub trait Source {
         ensures ready { ready self.new ≡ begin_ready result }
         ensures ended { ended self.new ≡ false }
         ensures knows { knows self.new ≡ knows self.old }
-        ensures contents { contents self.new ≡ contents self.old };
+        ensures contents { contents self.new ≡ contents self.old }
+        ensures readings { readings self.new ≡ begun name.now ∷ readings self.old };
 
     /// Reads bytes of the name that was begun last, 1 to the length of the buffer.
     ///
@@ -94,7 +99,8 @@ pub trait Source {
         ensures ended { ended self.new ≡ at_end result }
         ensures begins { begins self.new ≡ begins self.old }
         ensures knows { knows self.new ≡ knows self.old }
-        ensures contents { contents self.new ≡ contents self.old };
+        ensures contents { contents self.new ≡ contents self.old }
+        ensures readings { readings self.new ≡ after_got result buf.new (readings self.old) };
 }
 
 /// Where bytes go.

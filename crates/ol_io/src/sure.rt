@@ -1,10 +1,12 @@
 //! A source and a sink in memory that never fail.
 ghost use Rattle.std.specs.Prelude.{◌≡◌, ◌≤◌, ◌<◌, ◌^◌, ◌++◌, ℕ, List, true, Some, IfOk, length, take, drop, min};
 ghost use Rattle.ol_io.specs.Outside.{Counts, Reads, ReadsWithin, Writes, WritesWithin, begin_failed, read_failed, write_failed};
+ghost use Rattle.ol_io.specs.Readings.{after_got};
 ghost use Rattle.ol_io.specs.Fakes.{buffer_after};
 ghost use Rattle.ol_io.specs.Sure.{fresh_sure_source, sure_begin_answer, after_sure_begin, sure_read_answer, after_sure_read, fresh_sure_sink, sure_write_answer, after_sure_write, told_by};
 
 use crate::files::{MemFile, find_file};
+use crate::log::{Log, Note};
 use crate::mem_source::{copy_front, rest};
 use crate::outside::{Begun, Got, NoMemory, Put, Sink, Source};
 use std::alloc::Global;
@@ -26,6 +28,7 @@ pub struct SureSource {
     given: u64,
     ready: bool,
     ended: bool,
+    log: Log,
 }
 
 impl Model for SureSource {
@@ -42,6 +45,7 @@ impl Model for SureSource {
       given = s.given;
       ready = s.ready;
       ended = s.ended;
+      readings = s.log.passed.readings;
     } };
 
     ghost invariant = { λ s. s.at < 2 ^ 63 };
@@ -62,6 +66,7 @@ impl SureSource {
             given: 0,
             ready: false,
             ended: false,
+            log: Log::new(),
         }
     }
 }
@@ -86,10 +91,13 @@ impl Source for SureSource {
 
     ghost left = { λ s. Some s.left };
 
+    ghost readings = { λ s. s.readings };
+
     fn begin(&mut self, name: &str) -> Begun
         ensures answer { result ≡ sure_begin_answer }
         ensures state { self.new ≡ after_sure_begin name.now self.old }
     {
+        self.log = self.log.then(&Note::Begun(name));
         self.place = find_file(&self.files, name).unwrap_or(self.files.len());
         self.at = 0;
         self.begins = self.begins.saturating_add(1);
@@ -106,6 +114,7 @@ impl Source for SureSource {
         ensures cause { Counts (read_failed result) 0 0 }
         ensures bytes { Reads result buf.new (Some self.old.left) (Some self.new.left) }
         ensures within { ReadsWithin result (length buf.old) }
+        ensures readings { self.new.readings ≡ after_got result buf.new self.old.readings }
         ensures answer { result ≡ sure_read_answer self.old (length buf.old) }
         ensures state { self.new ≡ after_sure_read result self.old }
         ensures buffer { buf.new ≡ buffer_after result self.old.left buf.old }
@@ -115,8 +124,10 @@ impl Source for SureSource {
         self.ready = count != 0;
         self.ended = count == 0;
         if count == 0 {
+            self.log = self.log.then(&Note::Ended);
             return Got::End;
         }
+        self.log = self.log.then(&Note::Gave(&buf[..count]));
         self.at += count;
         self.given += count as u64;
         Got::Bytes(count)

@@ -11,7 +11,7 @@ use Rattle.ol_wire.specs.Layout.{block}
 use Rattle.ol_net.specs.declared.parts.Rule.{Rule}
 use Rattle.ol_wire.specs.Events.{rule_between, acting, entry_of}
 use Rattle.ol_wire.specs.Blocks.{copies_of_f, copies_of_g}
-use Rattle.ol_wire.specs.Closed.{events_in, event_at, journal_in}
+use Rattle.ol_wire.specs.Closed.{ClosedTable, events_in, event_at, journal_in, journal_drawn}
 use Rattle.ol_wire.proofs.ClosingTable.{entry_at}
 
 pub length_each : {X : Type 0} (f : ℕ → X) (n : ℕ) → length (each n (λ t. f t ∷ [])) ≡ n
@@ -21,6 +21,10 @@ length_each f (suc n) = length_more (each n (λ t. f t ∷ [])) (f n) ∙ ap suc
     length_more : {X : Type 0} (xs : List X) (x : X) → length (xs ++ x ∷ []) ≡ suc (length xs)
     length_more [] x = refl
     length_more (y ∷ xs) x = ap suc (length_more xs x)
+
+-- an entry that a journal gives is that of the words that it is drawn from
+pub read : (w : ClosedTable) (j : List Entry) (t : ℕ) (found : Option Entry) → j ≡ journal_drawn w → found ≡ slice_get j t → found ≡ slice_get (journal_in w.plan.parts w.words) t
+read w j t found e f = f ∙ ap (λ j. slice_get j t) e
 
 -- how many nodes an event makes, whichever of its two nodes comes first
 acting_copies : (a b : Option Rule) (l r : ℕ) → copies_of_f (acting a b l r) + copies_of_g (acting a b l r) ≡ (if is_meeting (acting a b l r).rule then 0 else arity (kind_in l) + arity (kind_in r))

@@ -4,7 +4,7 @@ ghost use Rattle.ol_net.specs.Nets.{NamedNet};
 ghost use Rattle.ol_net.specs.Linking.{linked};
 ghost use Rattle.ol_rules.specs.declared.journal.NodeName.{NodeName};
 ghost use Rattle.ol_wire.specs.Layout.{table_size, cells_of};
-ghost use Rattle.ol_wire.specs.Closed.{EachAfter};
+ghost use Rattle.ol_wire.specs.Closed.{EachAfter, journal_drawn};
 ghost use Rattle.ol_reduce.specs.Left.{ranks_in, AreLeft};
 ghost use Rattle.ol_reduce.specs.Frozen.{IsFrozen};
 ghost use Rattle.ol_reduce.specs.Used.{words_used, cells_used};
@@ -17,6 +17,7 @@ use crate::live::Live;
 use crate::reading::word_at;
 use ol_io::NoMemory;
 use ol_net::Net;
+use ol_rules::Journal;
 use ol_wire::{Words, index_in, kind_in, place_in};
 use std::alloc::Global;
 
@@ -27,9 +28,19 @@ use std::alloc::Global;
 pub fn freeze(alloc: Global, words: &Words) -> Result<Net, NoMemory>
     ensures frozen { IfOk result (λ g. EachAfter words.now (λ net. IsFrozen net g)) }
 {
+    let journal = words.whole_journal(alloc)?;
+    let net = freeze_by(alloc, words, &journal)?;
+    Ok(net)
+}
+
+/// The same, by the journal of the words, so that it isn't read from them again.
+pub(crate) fn freeze_by(alloc: Global, words: &Words, journal: &Journal) -> Result<Net, NoMemory>
+    requires journal { journal.now ≡ journal_drawn words.now }
+    ensures frozen { IfOk result (λ g. EachAfter words.now (λ net. IsFrozen net g)) }
+{
     words.stands();
     words.runs();
-    let live = Live::find(alloc, words)?;
+    let live = Live::find(alloc, words, journal)?;
     let mut draft = Draft::new(alloc, words.parts().free, live.count())?;
     link_cells(words, &live, &mut draft);
     link_chains(alloc, words, &live, &mut draft)?;

@@ -4,7 +4,7 @@ ghost use Rattle.ol_net.specs.Parts.{arity};
 ghost use Rattle.ol_rules.specs.declared.journal.NodeName.{NodeName};
 ghost use Rattle.ol_rules.specs.Rewriting.{is_meeting};
 ghost use Rattle.ol_wire.specs.Blocks.{copies_of_f, copies_of_g};
-ghost use Rattle.ol_wire.specs.Closed.{ClosedTable, events_in, event_at, events_drawn};
+ghost use Rattle.ol_wire.specs.Closed.{ClosedTable, events_in, event_at, events_drawn, journal_drawn};
 ghost use Rattle.ol_wire.specs.Layout.{place_of, table_size, IsPlaced};
 ghost use Rattle.ol_wire.specs.Sizes.{IsSmall};
 ghost use Rattle.ol_reduce.specs.Left.{rank_of, AreMarked, births_at, IsSmallTable, IsWithinFuel, IsMarkedToo, IsPlaceOfSome, IsRankAt, IsRankOf, IsPlaceLeft};
@@ -13,7 +13,7 @@ ghost use Rattle.ol_reduce.specs.Linked.{AreAllLeft, AreLeftTo, AddsPlace, AddsN
 use crate::reading::word_at;
 use ol_io::NoMemory;
 use ol_net::{Kind, Rule};
-use ol_rules::NodeName;
+use ol_rules::{Journal, NodeName};
 use ol_wire::{Parts, Words, kind_in};
 use std::alloc::Global;
 
@@ -66,12 +66,13 @@ fn arity(kind: Kind) -> u32
 }
 
 // How many nodes a ticket made.
-fn births(words: &Words, ticket: u32) -> u32
+fn births(words: &Words, journal: &Journal, ticket: u32) -> u32
     requires small { IsSmallTable words.now }
+    requires journal { journal.now ≡ journal_drawn words.now }
     requires drawn { ticket < events_drawn words.now }
     ensures { result ≡ births_at words.now ticket }
 {
-    let Some(entry) = words.journal(ticket) else {
+    let Some(entry) = journal.get(ticket) else {
         return 0;
     };
     if is_meeting(entry.rule) {
@@ -94,8 +95,9 @@ fn mark(parts: Parts, events: u32, marks: &mut Vec<bool>, name: NodeName)
 }
 
 // By rank, whether a ticket rewrote the node.
-fn rewritten(alloc: Global, words: &Words) -> Result<Vec<bool>, NoMemory>
+fn rewritten(alloc: Global, words: &Words, journal: &Journal) -> Result<Vec<bool>, NoMemory>
     requires small { IsSmall words.now.plan.parts }
+    requires journal { journal.now ≡ journal_drawn words.now }
     requires drawn { events_drawn words.now ≤ 8000000 }
     ensures { IfOk result (λ v. AreMarked words.now (events_drawn words.now) v.items) }
 {
@@ -106,7 +108,7 @@ fn rewritten(alloc: Global, words: &Words) -> Result<Vec<bool>, NoMemory>
         return Err(NoMemory);
     };
     for ticket in 0..events {
-        if let Some(entry) = words.journal(ticket) {
+        if let Some(entry) = journal.get(ticket) {
             mark(parts, events, &mut marks, entry.first);
             mark(parts, events, &mut marks, entry.second);
         }
@@ -138,12 +140,13 @@ fn put(numbers: &mut Vec<u32>, number: u32) -> Result<(), NoMemory>
 
 impl Live {
     /// The nodes that the words tell as left.
-    pub(crate) fn find(alloc: Global, words: &Words) -> Result<Live, NoMemory>
+    pub(crate) fn find(alloc: Global, words: &Words, journal: &Journal) -> Result<Live, NoMemory>
         requires small { IsSmallTable words.now }
+        requires journal { journal.now ≡ journal_drawn words.now }
         requires drawn { IsWithinFuel words.now }
         ensures { IfOk result (AreAllLeft words.now) }
     {
-        let marks = rewritten(alloc, words)?;
+        let marks = rewritten(alloc, words, journal)?;
         let parts = words.parts();
         let mut live = Live {
             places: Vec::new(alloc),
@@ -153,21 +156,28 @@ impl Live {
             live.add(!marks[node as usize], parts.start_node(node))?;
         }
         for ticket in 0..words.events() {
-            live.add_born(words, &marks, ticket)?;
+            live.add_born(words, journal, &marks, ticket)?;
         }
         Ok(live)
     }
 
     // The four ranks of a ticket.
-    fn add_born(&mut self, words: &Words, marks: &Vec<bool>, ticket: u32) -> Result<(), NoMemory>
+    fn add_born(
+        &mut self,
+        words: &Words,
+        journal: &Journal,
+        marks: &Vec<bool>,
+        ticket: u32,
+    ) -> Result<(), NoMemory>
         requires small { IsSmallTable words.now }
+        requires journal { journal.now ≡ journal_drawn words.now }
         requires drawn { IsWithinFuel words.now × (ticket < events_drawn words.now) }
         requires marked { AreMarked words.now (events_drawn words.now) marks.now.items }
         requires before { AreLeftTo words.now ticket self.old }
         ensures { OnOk result (AreLeftTo words.now (ticket + 1) self.new) }
     {
         let parts = words.parts();
-        let births = births(words, ticket);
+        let births = births(words, journal, ticket);
         for place in 0..4 {
             let rank = parts.nodes + 4 * ticket + place;
             let is_left = place < births && !marks[rank as usize];

@@ -5,14 +5,12 @@ ghost use Rattle.ol_wire.specs.Sizes.{IsSmallNet};
 ghost use Rattle.ol_reduce.specs.Reduced.{EndsWithin, IsDoneAnswer, Reduces};
 
 use crate::answers::End;
-use crate::freezing::freeze;
+use crate::freezing::freeze_by;
 use crate::gathering::run_workers;
 use crate::reduced::Reduced;
 use ol_diamond::one_thread_agrees;
 use ol_io::{Gate, NoMemory};
 use ol_net::Net;
-use ol_rules::Journal;
-use ol_wire::Words;
 use std::alloc::Global;
 use std::sync::Wait;
 use std::thread::Threads;
@@ -52,10 +50,10 @@ pub fn reduce<R: Threads + Wait + Sync, G: Gate + Sync>(
     words.runs();
     words.over();
     words.settled();
-    let journal = journal_of(alloc, &words)?;
+    let journal = words.whole_journal(alloc)?;
     match end {
         End::Quiet => {
-            let last = freeze(alloc, &words)?;
+            let last = freeze_by(alloc, &words, &journal)?;
             Ok(Reduced::Done {
                 net: last,
                 journal,
@@ -64,15 +62,4 @@ pub fn reduce<R: Threads + Wait + Sync, G: Gate + Sync>(
         }
         End::Spent => Ok(Reduced::Spent { journal, words }),
     }
-}
-
-// The journal of closed words.
-fn journal_of(alloc: Global, words: &Words) -> Result<Journal, NoMemory>
-    ensures { IfOk result (λ journal. journal ≡ journal_drawn words.now) }
-{
-    let mut journal = Journal::new(alloc);
-    for k in 0..words.events() {
-        journal.push(words.journal(k).unwrap())?;
-    }
-    Ok(journal)
 }

@@ -34,6 +34,10 @@ events_in z words = if nat_lt (slice_index words 0) z.fuel then slice_index word
 abbrev pub event_at : Parts → List ℕ → ℕ → Event
 event_at z words t = event_of (slice_index words (block z t)) (slice_index words (block z t + 1))
 
+-- the pair of a ticket: the first two words of its block
+abbrev pub pair_at : Parts → List ℕ → ℕ → ℕ × ℕ
+pair_at z words t = (slice_index words (block z t), slice_index words (block z t + 1))
+
 -- the events, which the tickets were drawn for
 abbrev pub log_in : Parts → List ℕ → List Event
 log_in z words = each (events_in z words) (λ t. event_at z words t ∷ [])
@@ -61,6 +65,14 @@ events_drawn w = events_in w.plan.parts w.words
 
 abbrev pub journal_drawn : ClosedTable → List Entry
 journal_drawn w = journal_in w.plan.parts w.words
+
+-- the pairs that the tickets were drawn for
+abbrev pub pairs_drawn : ClosedTable → List (ℕ × ℕ)
+pairs_drawn w = each (events_in w.plan.parts w.words) (λ t. pair_at w.plan.parts w.words t ∷ [])
+
+-- the entry of a ticket
+abbrev pub entry_at : ClosedTable → ℕ → Entry
+entry_at w t = entry_of w.plan.parts (event_at w.plan.parts w.words t)
 
 -- what holds of each net after the journal
 abbrev pub EachAfter : ClosedTable → (NamedNet NodeName → Type 0) → Type 0

@@ -1,7 +1,7 @@
 //! The words of a table that no thread shares any more, and what they say.
-ghost use Rattle.std.specs.Prelude.{◌≡◌, ℕ, ◌+◌, ◌<◌, ◌≤◌, length, MatchOption, slice_get, slice_index};
+ghost use Rattle.std.specs.Prelude.{◌≡◌, ℕ, ◌+◌, ◌<◌, ◌≤◌, length, MatchOption, IfOk, slice_get, slice_index};
 ghost use Rattle.core.specs.Mem.Slots.{slots_items, slots_len, IsFull};
-ghost use Rattle.ol_wire.specs.Closed.{ClosedTable, events_in, event_at, journal_in, HasWord, closed_of};
+ghost use Rattle.ol_wire.specs.Closed.{ClosedTable, events_in, event_at, journal_in, journal_drawn, pair_at, pairs_drawn, entry_at, HasWord, closed_of};
 ghost use Rattle.ol_wire.specs.Layout.{table_size as size_of};
 ghost use Rattle.ol_wire.specs.Sizes.{IsSmall};
 ghost use Rattle.ol_wire.specs.ClosedRule.{IsClosed, IsClosedOf};
@@ -11,7 +11,8 @@ use crate::layout::Parts;
 use crate::plan::Plan;
 use crate::seat::Token;
 use crate::view::View;
-use ol_rules::Entry;
+use ol_io::NoMemory;
+use ol_rules::{Entry, Journal};
 use std::alloc::Global;
 use std::marker::Model;
 use std::snapshot::Snapshot;
@@ -84,6 +85,51 @@ impl Words {
         let first = self.at(start);
         let second = self.at(start + 1);
         Some(self.parts.entry(first, second))
+    }
+
+    // The pair of a ticket.
+    fn pair(&self, k: u32) -> (u64, u64)
+        requires { k < events_in self.now.plan.parts self.now.words }
+        ensures { result ≡ pair_at self.now.plan.parts self.now.words k }
+    {
+        let start = self.parts.block(k);
+        (self.at(start), self.at(start + 1))
+    }
+
+    // The pairs of all tickets. Each block is looked at but for a moment, so that the memory of many
+    // is on its way at one time.
+    fn pairs(&self, alloc: Global) -> Result<Vec<(u64, u64)>, NoMemory>
+        ensures { IfOk result (λ pairs. pairs.items ≡ pairs_drawn self.now) }
+    {
+        let mut pairs = Vec::new(alloc);
+        for k in 0..self.events() {
+            let Ok(()) = pairs.push(self.pair(k)) else {
+                return Err(NoMemory);
+            };
+        }
+        Ok(pairs)
+    }
+
+    // The entry of the pair of a ticket.
+    fn entry(&self, k: u32, pair: (u64, u64)) -> Entry
+        requires drawn { k < events_in self.now.plan.parts self.now.words }
+        requires pair { pair ≡ pair_at self.now.plan.parts self.now.words k }
+        ensures { result ≡ entry_at self.now k }
+    {
+        self.parts.entry(pair.0, pair.1)
+    }
+
+    /// The whole journal. `NoMemory`: no memory was found for it.
+    pub fn whole_journal(&self, alloc: Global) -> Result<Journal, NoMemory>
+        ensures { IfOk result (λ journal. journal ≡ journal_drawn self.now) }
+    {
+        let pairs = self.pairs(alloc)?;
+        let mut journal = Journal::new(alloc);
+        for k in 0..self.events() {
+            let pair = pairs[k as usize];
+            journal.push(self.entry(k, pair))?;
+        }
+        Ok(journal)
     }
 }
 

@@ -1,5 +1,6 @@
 use Rattle.std.proofs.Common.{◌≡◌, ◌+◌, ◌-◌, ◌≤◌, true, length, vec_len}
 use Rattle.ol_io.specs.Outside.{Consumed}
+use Rattle.ol_io.specs.Readings.{gave}
 use Rattle.ol_io.proofs.calls.read_on.Given as goal
 
 abbrev pub invariant-reading : goal.invariant-reading
@@ -12,6 +13,7 @@ invariant-reading g l = record {
   begins : g.S.Source.begins l.src ≡ g.S.Source.begins l.fn.src;
   knows : g.S.Source.knows l.src ≡ g.S.Source.knows l.fn.src;
   contents : g.S.Source.contents l.src ≡ g.S.Source.contents l.fn.src;
+  readings : g.S.Source.readings l.src ≡ gave l.bytes.items (g.S.Source.readings l.fn.src);
 }
 
 abbrev pub decreases-reading : goal.decreases-reading

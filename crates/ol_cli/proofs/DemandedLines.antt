@@ -1,0 +1,171 @@
+-- Demand order writes the normal form, where there is one.
+use Rattle.std.proofs.Common.{◌≡◌, ◌≤◌, ◌<◌, ℕ, suc, zero, ◌+◌, length, List, [], ◌∷◌, ◌++◌}
+use Rattle.std.proofs.Common.{true, false, Option, String, Global, refl, sym, ap, ◌∙◌, subst, arith}
+use Rattle.ol_io.specs.Outside.{Appended}
+use Rattle.ol_term.specs.declared.translations.Translation.{Translation}
+use Rattle.ol_term.specs.Trees.{Tree}
+use Rattle.ol_term.specs.Trees as tree
+use Rattle.ol_parse.specs.Grammar.{Named}
+use Rattle.ol_parse.specs.Texts.{IsText}
+use Rattle.ol_parse.specs.Numbered.{names_of, number}
+use Rattle.ol_rules.specs.declared.journal.NodeName.TheVariants.{Init}
+use Rattle.ol_rules.proofs.StartNets.{one_start}
+use Rattle.ol_translate.specs.Translation.{translation_of}
+use Rattle.ol_translate.specs.Names.{HasNames}
+use Rattle.ol_translate.proofs.Whole.{translation_net}
+use Rattle.ol_invariance.proofs.Renamed.{renamed}
+use Rattle.ol_beta.specs.Leftmost.{IsNormal}
+use Rattle.ol_meaning.specs.Shows.{BetaReduces, LeftmostReduces}
+use Rattle.ol_readback.specs.Whole.{Part, term, lost, cut, none, more, preorder}
+use Rattle.ol_readback.specs.Terms.{HasAllHeads, abstracted, variable_of, meaning, term_of}
+use Rattle.ol_readback.specs.declared.answers.HeadVar.{HeadVar}
+use Rattle.ol_readback.specs.declared.answers.HeadVar.TheVariants as var
+use Rattle.ol_readback.specs.declared.answers.ReadNode.{ReadNode}
+use Rattle.ol_readback.proofs.OneTree.{list_is_of_one_tree}
+use Rattle.ol_levels.proofs.Runs.{start_levelled}
+use Rattle.ol_levels.proofs.Terms.{term_is_levelled}
+use Rattle.ol_completeness.proofs.Completing.{demand_is_complete}
+use Rattle.ol_completeness.proofs.Levelled.{stays_clear}
+use Rattle.ol_confluence.proofs.LeftmostEnds.{leftmost_finds}
+use Rattle.ol_words.specs.Asked.{Asked, run, walk, view, trace, check, gen, demand, certify}
+use Rattle.ol_words.specs.Asked as jobs
+use Rattle.ol_lines.specs.NormalForms.{by_names_of}
+use Rattle.ol_lines.proofs.Read.{read_line}
+use Rattle.ol_cli.specs.Evaluation.{start_net_of_term}
+use Rattle.ol_cli.specs.DemandOrder.{DemandEnds, DemandRunsOut}
+use Rattle.ol_cli.specs.Sources.{DemandsTree, TellsTree, WritesTree}
+use Rattle.ol_cli.specs.NormalForms.{PrintsTerm, FirstLine, LineSays, IsFoundOnDemand}
+use Rattle.ol_cli.specs.NormalForms.{count_of_variables}
+use Rattle.ol_cli.proofs.DemandRuns.{is_start}
+use Rattle.ol_cli.proofs.OneAnswer.{file_names}
+use Rattle.ol_cli.proofs.NormalLines.{run_printed, walk_printed, demand_printed, first_line}
+use Rattle.ol_cli.proofs.NormalLines.{file_of}
+
+-- the demand run of a term with a normal form: how long it is at most, and what it reads
+pub record IsDemanded (tr : Translation) (t : Tree) (names : List (List ℕ)) (v : Tree) : Type 0
+  where
+    pub steps : ℕ
+    pub tree : Part true
+    pub all : HasAllHeads (preorder tree)
+    pub term : term_of tree ≡ v
+    pub ends : (fuel heads : ℕ) → steps ≤ fuel → DemandEnds tr t names fuel heads
+    pub reads : (fuel heads : ℕ) → length (preorder tree) ≤ heads →
+        (d : DemandEnds tr t names fuel heads) → d.tree ≡ preorder tree
+    pub no_more : (fuel heads : ℕ) → steps < fuel → DemandRunsOut tr t names fuel heads → ⊥
+
+pub is_demanded : (tr : Translation) (t : Tree) (names : List (List ℕ)) →
+    HasNames t (length names) →
+    (v : Tree) → LeftmostReduces t v → IsNormal v → IsDemanded tr t names v
+is_demanded tr t names h v r n =
+    let N = translation_of tr t (length names) in
+    let is_net = translation_net tr t (length names) h in
+    let start = is_start tr t names is_net in
+    let x = demand_is_complete tr t (length names) h v r n (start_net_of_term tr t names) start
+    (renamed Init N is_net (λ x y k l i j h h' e. one_start x y e))
+    (stays_clear (start_net_of_term tr t names) start
+    (start_levelled N (term_is_levelled tr t (length names) h))) in
+    record {
+      steps = x.3;
+      tree = x.0;
+      all = x.1;
+      term = x.2;
+      ends = λ fuel heads b.
+          let y = (x.4 heads).0 in
+          let d = y.run in
+          record {
+            journal = d.0;
+            tree = d.1;
+            net = d.2;
+            run = d.3;
+            within = (let l = y.few d.0 d.1 d.2 d.3 in omega arith);
+          };
+      reads = λ fuel heads b d. (x.4 heads).1 b d.journal d.tree d.net d.run;
+      no_more = λ fuel heads b h. (x.4 heads).0.ends fuel b h;
+    }
+
+-- ---- a tree has as many places as its term has variables
+
+in_abstractions : (l : ℕ) (t : Tree) → count_of_variables (abstracted l t) ≡ count_of_variables t
+in_abstractions zero t = refl
+in_abstractions (suc l) t = in_abstractions l t
+
+one_variable : (ss : List (ℕ × ℕ)) (v : HeadVar) → count_of_variables (variable_of ss v) ≡ 1
+one_variable ss (var.Bound i j) = refl
+one_variable ss (var.Free q) = refl
+
+length_append : (xs ys : List ReadNode) → length (xs ++ ys) ≡ length xs + length ys
+length_append [] ys = omega arith
+length_append (x ∷ xs) ys = let h = length_append xs ys in omega arith
+
+mutual
+  places_of_tree : (ss : List (ℕ × ℕ)) (i : ℕ) (p : Part true) →
+      count_of_variables (meaning ss i p) ≡ length (preorder p)
+  places_of_tree ss i (term l v ts) =
+      let h = places_of_trees ((i, l) ∷ ss) (suc i) ts (variable_of ((i, l) ∷ ss) v) in
+      let k = one_variable ((i, l) ∷ ss) v in
+      in_abstractions l (meaning ((i, l) ∷ ss) (suc i) ts (variable_of ((i, l) ∷ ss) v))
+      ∙ omega arith
+  places_of_tree ss i lost = refl
+  places_of_tree ss i cut = refl
+
+  places_of_trees : (ss : List (ℕ × ℕ)) (i : ℕ) (p : Part false) (f : Tree) →
+      count_of_variables (meaning ss i p f) ≡ count_of_variables f + length (preorder p)
+  places_of_trees ss i none f = omega arith
+  places_of_trees ss i (more u us) f =
+      let h = places_of_trees ss (i + length (preorder u)) us (tree.app f (meaning ss i u)) in
+      let k = places_of_tree ss i u in
+      let a = length_append (preorder u) (preorder us) in
+      omega arith
+
+-- ---- the line
+
+found : {tr : Translation} {bytes : List ℕ} {source : Named} {fuel heads : ℕ} {text : List ℕ} →
+    (is : IsText bytes source) →
+    (d : DemandsTree tr (number source) (names_of source) fuel heads text) →
+    (v : Tree) → BetaReduces (number source) v → IsNormal v → count_of_variables v ≤ heads →
+    (result : Named) × IsText d.demands.term result × (by_names_of source result ≡ v)
+unfolding demand_printed
+found {tr} {bytes} {source} {fuel} {heads} {text} is d v r n few =
+    let x =
+    is_demanded tr (number source) (names_of source)
+    (file_names bytes (number source) (names_of source) (file_of is)) v (leftmost_finds r n) n in
+    let places = places_of_tree [] 0 x.tree in
+    let same = ap count_of_variables x.term in
+    let reads = x.reads fuel heads (omega arith) d.demands.ends in
+    let p = demand_printed d in
+    let line = read_line is p (subst HasAllHeads (sym reads) x.all) in (
+      line.0,
+      line.1,
+      line.3 ∙ ap (λ T. term_of T) (list_is_of_one_tree p.says.tree x.tree (p.says.is_list ∙ reads))
+          ∙ x.term,
+    )
+
+module _ {bytes : List ℕ} {source : Named} (is : IsText bytes source) (old new : Option (List ℕ))
+    (text : List ℕ) (a : Appended old text new) where
+  found_of : (asked : Asked) → PrintsTerm asked →
+      TellsTree asked (number source) (names_of source) text →
+      FirstLine (IsFoundOnDemand asked source) old new
+  unfolding demand_printed
+  found_of (run tr w f q name) k h =
+      first_line is (run_printed h) (IsFoundOnDemand (run tr w f q name) source) old new a tt
+  found_of (walk tr e q name) k h =
+      first_line is (walk_printed h) (IsFoundOnDemand (walk tr e q name) source) old new a tt
+  found_of (view tr n name) k h = absurd k
+  found_of (trace tr w f name) k h = absurd k
+  found_of (check tr first second) k h = absurd k
+  found_of (gen tr true n) k h =
+      first_line is (run_printed h) (IsFoundOnDemand (gen tr true n) source) old new a tt
+  found_of (gen tr false n) k h = absurd k
+  found_of (demand tr f q name) k h =
+      first_line is (demand_printed h) (IsFoundOnDemand (demand tr f q name) source) old new a
+      (found is h)
+  found_of (certify tr b w f q name) k h = absurd k
+  found_of (jobs.net tr from w f name) k h = absurd k
+  found_of (jobs.equal tr w f q first second) k h = absurd k
+
+pub writes_demanded : (words : List (String Global)) (bytes : List ℕ)
+    (old new : Option (List ℕ)) → WritesTree words bytes old new →
+    LineSays IsFoundOnDemand words bytes old new
+writes_demanded words bytes old new w asked j k source is =
+    let r = w asked (number source) (names_of source) j (file_of is) in
+    found_of is old new r.0 r.2 asked k r.1

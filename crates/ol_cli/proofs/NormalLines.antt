@@ -1,0 +1,144 @@
+-- The first line that is written, in the words of terms.
+use Rattle.std.proofs.Common.{ℕ, List, [], ◌∷◌, Bool, true, false, Option, String}
+use Rattle.std.proofs.Common.{Global, refl, ◌∙◌, subst, append_assoc}
+use Rattle.ol_io.specs.Outside.{Appended}
+use Rattle.ol_term.specs.declared.translations.Translation.{Translation}
+use Rattle.ol_parse.specs.Grammar.{Named}
+use Rattle.ol_parse.specs.Texts.{IsText}
+use Rattle.ol_parse.specs.Numbered.{names_of, number}
+use Rattle.ol_parse.specs.Parsed.{IsFileOf}
+use Rattle.ol_rules.specs.Counting.{counts_of}
+use Rattle.ol_words.specs.Asked.{Asked, run, walk, view, trace, check, gen, demand, certify}
+use Rattle.ol_words.specs.Asked as jobs
+use Rattle.ol_lines.proofs.Read.{IsPrinted, one_line, line_is_normal_form, lost_has_no_normal_form}
+use Rattle.ol_cli.specs.Texts.{counts_text}
+use Rattle.ol_cli.specs.Sources.{PrintsTree, WalksTree, DemandsTree, TellsTree, WritesTree}
+use Rattle.ol_cli.specs.NormalForms.{PrintsTerm, FirstLine, LineSays, IsItsNormalForm, TellsOfNone}
+
+pub run_printed : {tr : Translation} {source : Named} {fuel heads : ℕ} {text : List ℕ} →
+    PrintsTree tr (number source) (names_of source) fuel heads text → IsPrinted source true text
+run_printed p = record {
+  tree = p.prints.shows.tree;
+  line = p.prints.shows.term;
+  rest = counts_text (counts_of p.prints.journal) p.prints.shows.stuck;
+  shown = p.prints.shows.shown;
+  written =
+      p.prints.shows.written
+      ∙ append_assoc p.prints.shows.term (10 ∷ [])
+      (counts_text (counts_of p.prints.journal) p.prints.shows.stuck);
+  says = p.says;
+  always = p.always;
+  read = p.read_again;
+}
+
+pub walk_printed : {tr : Translation} {source : Named} {edges heads : ℕ} {text : List ℕ} →
+    WalksTree tr (number source) (names_of source) edges heads text → IsPrinted source false text
+walk_printed w = record {
+  tree = w.walks.tree;
+  line = w.walks.term;
+  rest = [];
+  shown = w.walks.shown;
+  written = w.walks.written;
+  says = w.says;
+  always = w.always;
+  read = w.read_again;
+}
+
+unfoldable pub demand_printed : {tr : Translation} {source : Named} {fuel heads : ℕ} {text : List ℕ}
+    →
+    DemandsTree tr (number source) (names_of source) fuel heads text → IsPrinted source true text
+demand_printed d = record {
+  tree = d.demands.ends.tree;
+  line = d.demands.term;
+  rest = counts_text (counts_of d.demands.ends.journal) d.demands.stuck;
+  shown = d.demands.shown;
+  written =
+      d.demands.written
+      ∙ append_assoc d.demands.term (10 ∷ [])
+      (counts_text (counts_of d.demands.ends.journal) d.demands.stuck);
+  says = d.says;
+  always = d.always;
+  read = d.read_again;
+}
+
+module _ {source : Named} {b : Bool} {text bytes : List ℕ} (is : IsText bytes source)
+    (p : IsPrinted source b text) where
+  pub first_line : (Says : List ℕ → Type 0) (old new : Option (List ℕ)) → Appended old text new →
+      Says p.line → FirstLine Says old new
+  first_line Says old new a says = record {
+    line = p.line;
+    rest = p.rest;
+    one = one_line is p;
+    written = subst (λ t. Appended old t new) p.written a;
+    says = says;
+  }
+
+  normal_line : (asked : Asked) (old new : Option (List ℕ)) → Appended old text new →
+      FirstLine (IsItsNormalForm asked source) old new
+  normal_line asked old new a =
+      first_line (IsItsNormalForm asked source) old new a (line_is_normal_form is p)
+
+pub file_of : {bytes : List ℕ} {source : Named} → IsText bytes source →
+    IsFileOf bytes (number source) (names_of source)
+file_of {source = source} is = record {
+  named = source;
+  text = is;
+  tree = refl;
+  free_names = refl;
+}
+
+module _ {bytes : List ℕ} {source : Named} (is : IsText bytes source) (old new : Option (List ℕ))
+    (text : List ℕ) (a : Appended old text new) where
+  normal_of : (asked : Asked) → PrintsTerm asked →
+      TellsTree asked (number source) (names_of source) text →
+      FirstLine (IsItsNormalForm asked source) old new
+  normal_of (run tr w f q name) k h = normal_line is (run_printed h) (run tr w f q name) old new a
+  normal_of (walk tr e q name) k h = normal_line is (walk_printed h) (walk tr e q name) old new a
+  normal_of (view tr n name) k h = absurd k
+  normal_of (trace tr w f name) k h = absurd k
+  normal_of (check tr term journal) k h = absurd k
+  normal_of (gen tr true n) k h = normal_line is (run_printed h) (gen tr true n) old new a
+  normal_of (gen tr false n) k h = absurd k
+  normal_of (demand tr f q name) k h =
+      normal_line is (demand_printed h) (demand tr f q name) old new a
+  normal_of (certify tr b w f q name) k h = absurd k
+  normal_of (jobs.net tr from w f name) k h = absurd k
+  normal_of (jobs.equal tr w f q first second) k h = absurd k
+
+  lost_of : (asked : Asked) → PrintsTerm asked →
+      TellsTree asked (number source) (names_of source) text →
+      FirstLine (TellsOfNone asked source) old new
+  lost_of (run tr w f q name) k h =
+      let p = run_printed h in
+      first_line is p (TellsOfNone (run tr w f q name) source) old new a
+      (lost_has_no_normal_form is p)
+  lost_of (walk tr e q name) k h =
+      first_line is (walk_printed h) (TellsOfNone (walk tr e q name) source) old new a tt
+  lost_of (view tr n name) k h = absurd k
+  lost_of (trace tr w f name) k h = absurd k
+  lost_of (check tr term journal) k h = absurd k
+  lost_of (gen tr true n) k h =
+      let p = run_printed h in
+      first_line is p (TellsOfNone (gen tr true n) source) old new a (lost_has_no_normal_form is p)
+  lost_of (gen tr false n) k h = absurd k
+  lost_of (demand tr f q name) k h =
+      let p = demand_printed h in
+      first_line is p (TellsOfNone (demand tr f q name) source) old new a
+      (lost_has_no_normal_form is p)
+  lost_of (certify tr b w f q name) k h = absurd k
+  lost_of (jobs.net tr from w f name) k h = absurd k
+  lost_of (jobs.equal tr w f q first second) k h = absurd k
+
+pub writes_normal_form : (words : List (String Global)) (bytes : List ℕ)
+    (old new : Option (List ℕ)) → WritesTree words bytes old new →
+    LineSays IsItsNormalForm words bytes old new
+writes_normal_form words bytes old new w asked j k source is =
+    let r = w asked (number source) (names_of source) j (file_of is) in
+    normal_of is old new r.0 r.2 asked k r.1
+
+pub writes_no_normal_form : (words : List (String Global)) (bytes : List ℕ)
+    (old new : Option (List ℕ)) → WritesTree words bytes old new →
+    LineSays TellsOfNone words bytes old new
+writes_no_normal_form words bytes old new w asked j k source is =
+    let r = w asked (number source) (names_of source) j (file_of is) in
+    lost_of is old new r.0 r.2 asked k r.1

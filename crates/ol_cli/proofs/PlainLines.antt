@@ -1,0 +1,122 @@
+-- Words without options, and the line that is written for them.
+use Rattle.std.proofs.Common.{◌≡◌, ℕ, List, [], ◌∷◌, Bool, true, false, ◌&&◌, inl, inr}
+use Rattle.std.proofs.Common.{codes, not, nat_eq, length, Option, Some, None, String, Global}
+use Rattle.std.proofs.Common.{refl, sym, ap, ◌∙◌, subst, cond, suc, arith}
+use Rattle.std.specs.Str.{bytes_eq}
+use Rattle.std.proofs.lemmas.Bool.{ne_eqb}
+use Rattle.std.specs.Prelude.{option_and_then}
+use Rattle.ol_term.specs.declared.translations.Translation.TheVariants.{Two}
+use Rattle.ol_parse.specs.Numbered.{names_of, number}
+use Rattle.ol_words.specs.Texts.{Text}
+use Rattle.ol_words.specs.Lines.{Line, Known, line_from, line_of, is_dashed, is_end, after_option}
+use Rattle.ol_words.specs.Lines.{option_of}
+use Rattle.ol_words.specs.Asked.{Asked, run, walk, demand}
+use Rattle.ol_words.specs.Jobs.{job_of, job_on, run_verb, walk_verb, demand_verb}
+use Rattle.ol_lines.proofs.Read.{line_is_normal_form, lost_has_no_normal_form}
+use Rattle.ol_cli.specs.Jobs.{AskFor, TellsTerm, term_bytes}
+use Rattle.ol_cli.specs.Sources.{WritesTree}
+use Rattle.ol_cli.specs.NormalForms.{ArePlain, LineIsOf, PlainLineSays}
+use Rattle.ol_cli.proofs.OneAnswer.{one_job}
+use Rattle.ol_cli.proofs.NormalLines.{run_printed, walk_printed, demand_printed, first_line}
+use Rattle.ol_cli.proofs.NormalLines.{file_of}
+
+-- ---- one name
+
+no_end : (name : Text) → is_dashed name ≡ false → is_end name ≡ false
+no_end [] h = refl
+no_end (b ∷ []) h = go (nat_eq b 45)
+  where
+    go : (x : Bool) → x && false ≡ false
+    go true = refl
+    go false = refl
+no_end (b ∷ c ∷ rest) h =
+    go (nat_eq b 45)
+    (sym
+    (ap (λ (x : Bool). nat_eq b 45 && not x)
+    (ne_eqb (suc (length rest)) 0 (λ e. absurd (omega arith)))) ∙ h)
+  where
+    go : (x : Bool) → x && true ≡ false → x && bytes_eq (c ∷ rest) (45 ∷ []) ≡ false
+    go true e = absurd (cc)
+    go false e = refl
+
+abbrev named : Text → Option Line
+named name = Some (record { options = []; names = name ∷ [] })
+
+abbrev unnamed : Option Line
+unnamed = Some (record { options = []; names = [] })
+
+abbrev other : Known → Text → Option Line
+other known name =
+    after_option (option_of known name) (λ option. None) unnamed
+
+one_name : (known : Known) (name : Text) → is_dashed name ≡ false →
+    line_of known (name ∷ []) ≡ named name
+unfolding line_from
+one_name known name h = go (is_end name) (is_dashed name) (no_end name h) h
+  where
+    go : (a b : Bool) → a ≡ false → b ≡ false →
+        cond a unnamed (cond b (other known name) (named name)) ≡ named name
+    go true b e f = absurd (cc)
+    go false true e f = absurd (cc)
+    go false false e f = refl
+
+module _ {words : List (String Global)} {verb name : Text} (p : ArePlain words verb name) where
+  asks_run : verb ≡ codes "run" → AskFor words (run Two 4 200000 4096 name)
+  asks_run e =
+      ap job_of p.are ∙ ap (λ v. job_of (p.program ∷ v ∷ name ∷ [])) e
+      ∙ ap (option_and_then (job_on run_verb)) (one_name _ name p.is_name)
+
+  asks_walk : verb ≡ codes "walk" → AskFor words (walk Two 100000 4096 name)
+  asks_walk e =
+      ap job_of p.are ∙ ap (λ v. job_of (p.program ∷ v ∷ name ∷ [])) e
+      ∙ ap (option_and_then (job_on walk_verb)) (one_name _ name p.is_name)
+
+  asks_demand : verb ≡ codes "demand" → AskFor words (demand Two 200000 4096 name)
+  asks_demand e =
+      ap job_of p.are ∙ ap (λ v. job_of (p.program ∷ v ∷ name ∷ [])) e
+      ∙ ap (option_and_then (job_on demand_verb)) (one_name _ name p.is_name)
+
+-- the bytes of the file are those of the job's term
+pub tells_of : (words : List (String Global)) (files : Text → Option (List ℕ)) (asked : Asked)
+    (bytes : List ℕ) →
+    AskFor words asked → term_bytes files asked ≡ Some bytes → TellsTerm files words bytes
+tells_of words files asked bytes j e other k =
+    subst (λ a. term_bytes files a ≡ Some bytes) (one_job words asked other j k) e
+
+-- ---- the line
+
+not_walk : (verb : Text) → verb ≡ codes "walk" → {P : Type 0} → (verb ≡ codes "walk" → ⊥) → P
+not_walk verb e differ = absurd (differ e)
+
+abbrev pub Writes : List (String Global) → (Text → Option (List ℕ)) → Option (List ℕ) →
+    Option (List ℕ) → Type 0
+Writes words files old new =
+    (bytes : List ℕ) → TellsTerm files words bytes → WritesTree words bytes old new
+
+pub plain_writes : (words : List (String Global)) (files : Text → Option (List ℕ))
+    (old new : Option (List ℕ)) →
+    Writes words files old new → PlainLineSays words files old new
+plain_writes words files old new w verb name p (inl e) bytes has source is =
+    let j = asks_run p e in
+    let r =
+    w bytes (tells_of words files (run Two 4 200000 4096 name) bytes j has)
+    (run Two 4 200000 4096 name) (number source) (names_of source) j (file_of is) in
+    let q = run_printed r.1 in
+    first_line is q (LineIsOf verb source) old new r.2
+    (line_is_normal_form is q, λ differ. lost_has_no_normal_form is q)
+plain_writes words files old new w verb name p (inr (inl e)) bytes has source is =
+    let j = asks_demand p e in
+    let r =
+    w bytes (tells_of words files (demand Two 200000 4096 name) bytes j has)
+    (demand Two 200000 4096 name) (number source) (names_of source) j (file_of is) in
+    let q = demand_printed r.1 in
+    first_line is q (LineIsOf verb source) old new r.2
+    (line_is_normal_form is q, λ differ. lost_has_no_normal_form is q)
+plain_writes words files old new w verb name p (inr (inr e)) bytes has source is =
+    let j = asks_walk p e in
+    let r =
+    w bytes (tells_of words files (walk Two 100000 4096 name) bytes j has)
+    (walk Two 100000 4096 name) (number source) (names_of source) j (file_of is) in
+    let q = walk_printed r.1 in
+    first_line is q (LineIsOf verb source) old new r.2
+    (line_is_normal_form is q, λ differ. not_walk verb e differ)

@@ -1,0 +1,103 @@
+-- What the first line that is written says of the normal form of a job's term.
+use Rattle.std.specs.Prelude.{◌≡◌, ◌≤◌, ◌⊎◌, ℕ, ◌+◌, true, false, List, [], ◌∷◌, ◌++◌, Option, Some}
+use Rattle.std.specs.Prelude.{String, codes}
+use Rattle.std.specs.declared.alloc.Global.{Global}
+use Rattle.ol_io.specs.Outside.{Appended}
+use Rattle.ol_term.specs.declared.translations.Translation.{Translation}
+use Rattle.ol_term.specs.Trees.{Tree, var, free, lam, app}
+use Rattle.ol_parse.specs.Grammar.{Named}
+use Rattle.ol_parse.specs.Texts.{IsLine, IsText}
+use Rattle.ol_beta.specs.Leftmost.{IsNormal}
+use Rattle.ol_meaning.specs.Shows.{BetaReduces}
+use Rattle.ol_lines.specs.NormalForms.{by_names_of, IsNormalFormOf, HasNoNormalForm}
+use Rattle.ol_lines.specs.NormalForms.{AreConvertible}
+use Rattle.ol_words.specs.Texts.{Text, texts_of}
+use Rattle.ol_words.specs.Lines.{is_dashed}
+use Rattle.ol_words.specs.Asked.{Asked, run, walk, gen, demand, equal}
+use Rattle.ol_cli.specs.Jobs.{AskFor}
+
+-- these jobs write a term, and it stands on the first line
+abbrev pub PrintsTerm : Asked → Type 0
+PrintsTerm (run translation workers fuel heads name) = Unit {0}
+PrintsTerm (walk translation edges heads name) = Unit {0}
+PrintsTerm (gen translation true k) = Unit {0}
+PrintsTerm (demand translation fuel heads name) = Unit {0}
+PrintsTerm _ = ⊥
+
+-- The text begins with a line, of which this is said: bytes without a line feed, and a line feed.
+pub record FirstLine (Says : List ℕ → Type 0) (old new : Option (List ℕ)) : Type 0 where
+  pub line : List ℕ
+  pub rest : List ℕ
+  pub one : IsLine line
+  pub written : Appended old (line ++ 10 ∷ rest) new
+  pub says : Says line
+
+-- The job writes a term, its own term is the source, and this is said of the source and the line.
+abbrev pub LineSays : (Asked → Named → List ℕ → Type 0) → List (String Global) → List ℕ →
+    Option (List ℕ) → Option (List ℕ) → Type 0
+LineSays Says words bytes old new = (asked : Asked) → AskFor words asked → PrintsTerm asked →
+    (source : Named) → IsText bytes source → FirstLine (Says asked source) old new
+
+-- if the line is a text of a term, this term is the normal form of the source
+abbrev pub IsItsNormalForm : Asked → Named → List ℕ → Type 0
+IsItsNormalForm asked source line =
+    (result : Named) → IsText line result → IsNormalFormOf source result
+
+-- if a question mark stands in the line, the source has no normal form; of `walk` this isn't said
+abbrev pub TellsOfNone : Asked → Named → List ℕ → Type 0
+TellsOfNone (walk translation edges heads name) source line = Unit {0}
+TellsOfNone asked source line =
+    (before after : List ℕ) → line ≡ before ++ 63 ∷ after → HasNoNormalForm source
+
+-- how many variables a term has, bound and free
+abbrev pub count_of_variables : Tree → ℕ
+count_of_variables (var k) = 1
+count_of_variables (free k) = 1
+count_of_variables (lam t) = count_of_variables t
+count_of_variables (app f a) = count_of_variables f + count_of_variables a
+
+-- if the source has a normal form, with no more variables than heads were demanded, the line is a
+-- text of it
+abbrev pub IsFoundOnDemand : Asked → Named → List ℕ → Type 0
+IsFoundOnDemand (demand translation fuel heads name) source line =
+    (v : Tree) → BetaReduces (by_names_of source source) v → IsNormal v →
+    count_of_variables v ≤ heads →
+    (result : Named) × IsText line result × (by_names_of source result ≡ v)
+IsFoundOnDemand asked source line = Unit {0}
+
+-- `equal` says that the two terms are convertible, and `different` that they aren't.
+abbrev pub SaysOfTwo : Named → Named → List ℕ → Type 0
+SaysOfTwo t u line = (line ≡ codes "equal" → AreConvertible t u)
+    × ((rest : List ℕ) → line ≡ codes "different" ++ rest → AreConvertible t u → ⊥)
+
+-- the line of `equal` says this of the terms of its two files
+abbrev pub LineSaysOfTwo : List (String Global) → (Text → Option (List ℕ)) →
+    Option (List ℕ) → Option (List ℕ) → Type 0
+LineSaysOfTwo words files old new =
+    (translation : Translation) (workers fuel heads : ℕ) (a b : Text) →
+    AskFor words (equal translation workers fuel heads a b) →
+    (bytes bytes' : List ℕ) → files a ≡ Some bytes → files b ≡ Some bytes' →
+    (t u : Named) → IsText bytes t → IsText bytes' u → FirstLine (SaysOfTwo t u) old new
+
+-- ---- words without options
+
+-- the words are the program's name, this verb and the name of a file, which is no option
+pub record ArePlain (words : List (String Global)) (verb name : Text) : Type 0 where
+  pub program : Text
+  pub are : texts_of words ≡ program ∷ verb ∷ name ∷ []
+  pub is_name : is_dashed name ≡ false
+
+-- The line is that of one of these verbs, `run`, `demand` or `walk`, for this source. If it is a
+-- text of a term, that term is the normal form of the source; if `run` or `demand` has put a
+-- question mark in it, the source has none.
+abbrev pub LineIsOf : Text → Named → List ℕ → Type 0
+LineIsOf verb source line = ((result : Named) → IsText line result → IsNormalFormOf source result)
+    × ((verb ≡ codes "walk" → ⊥) →
+    (before after : List ℕ) → line ≡ before ++ 63 ∷ after → HasNoNormalForm source)
+
+abbrev pub PlainLineSays : List (String Global) → (Text → Option (List ℕ)) →
+    Option (List ℕ) → Option (List ℕ) → Type 0
+PlainLineSays words files old new = (verb name : Text) → ArePlain words verb name →
+    (verb ≡ codes "run") ⊎ ((verb ≡ codes "demand") ⊎ (verb ≡ codes "walk")) →
+    (bytes : List ℕ) → files name ≡ Some bytes → (source : Named) → IsText bytes source →
+    FirstLine (LineIsOf verb source) old new
