@@ -1,10 +1,112 @@
 //! The program: `ol` over files, standard input and standard output.
 #![tactic(auto)]
 
+ghost use Rattle.std.specs.Prelude.{◌≡◌, ◌≢◌, ℕ, List, [], Some};
+ghost use Rattle.ol_io.specs.Readings.{handed};
+ghost use Rattle.ol_cli.specs.Jobs.{TellsTerm, TellsFiles};
+ghost use Rattle.ol_cli.specs.NormalForms.{LineSays, IsItsNormalForm, TellsOfNone};
+ghost use Rattle.ol_cli.specs.NormalForms.{IsFoundOnDemand, LineSaysOfTwo, PlainLineSays};
+ghost use Rattle.ol_cli.specs.Answers.{IsAnswer};
+ghost use Rattle.ol_cli.specs.Completeness.{AskForWhatCanBeDone, IsDoneOrNothing};
+ghost use Rattle.ol_cli.specs.Sources.{EveryRunTells, WritesTree};
+
 use ol_cli::{Status, ol};
-use ol_io::{OpenGate, StdSink, StdSource};
+use ol_io::{OpenGate, Sink, Source, StdSink, StdSource};
+use std::alloc::Global;
 use std::io::ErrorKind;
 use std::process::ExitCode;
+use std::rt::Files;
+use std::sync::Wait;
+use std::thread::Threads;
+
+/// How the call ended, and the adapters, which tell what passed through them.
+#[derive(Drop)]
+struct Passed<'a, R: Files + Input + Print> {
+    status: Status,
+    src: StdSource<'a, R>,
+    out: StdSink<'a, R>,
+}
+
+/// `ol` over files, standard input and standard output.
+fn run<'a, R: Files + Input + Print + Threads + Wait + Sync>(
+    rt: &'a R,
+    alloc: Global,
+    words: &Vec<String>,
+) -> Passed<'a, R>
+    // In the words of terms alone, where nothing failed: the first line that standard output
+    // accepted is, where it is a text of a term, the normal form of the term in the bytes that were
+    // read; and where `run` or `demand` has put a `?` in it, that term has none.
+    ensures plain { ⟦<StdSource<'a, R> as Source>⟧.faults result.src ≡ 0
+        → ⟦<StdSink<'a, R> as Sink>⟧.faults result.out ≡ 0 → result.status ≡ Status.Done
+        → PlainLineSays words.now.items
+        (handed (⟦<StdSource<'a, R> as Source>⟧.readings result.src))
+        (Some []) (⟦<StdSink<'a, R> as Sink>⟧.taken result.out) }
+    ensures normal_form { ⟦<StdSource<'a, R> as Source>⟧.faults result.src ≡ 0
+        → ⟦<StdSink<'a, R> as Sink>⟧.faults result.out ≡ 0 → (bytes : List ℕ)
+        → TellsTerm (handed (⟦<StdSource<'a, R> as Source>⟧.readings result.src) 0)
+        words.now.items bytes → result.status ≡ Status.Done
+        → LineSays IsItsNormalForm words.now.items bytes (Some [])
+        (⟦<StdSink<'a, R> as Sink>⟧.taken result.out) }
+    ensures no_normal_form { ⟦<StdSource<'a, R> as Source>⟧.faults result.src ≡ 0
+        → ⟦<StdSink<'a, R> as Sink>⟧.faults result.out ≡ 0 → (bytes : List ℕ)
+        → TellsTerm (handed (⟦<StdSource<'a, R> as Source>⟧.readings result.src) 0)
+        words.now.items bytes → result.status ≡ Status.Done
+        → LineSays TellsOfNone words.now.items bytes (Some [])
+        (⟦<StdSink<'a, R> as Sink>⟧.taken result.out) }
+
+    // `demand` has written the normal form, where there is one and enough heads were asked for.
+    ensures demanded { ⟦<StdSource<'a, R> as Source>⟧.faults result.src ≡ 0
+        → ⟦<StdSink<'a, R> as Sink>⟧.faults result.out ≡ 0 → (bytes : List ℕ)
+        → TellsTerm (handed (⟦<StdSource<'a, R> as Source>⟧.readings result.src) 0)
+        words.now.items bytes → result.status ≡ Status.Done
+        → LineSays IsFoundOnDemand words.now.items bytes (Some [])
+        (⟦<StdSink<'a, R> as Sink>⟧.taken result.out) }
+
+    // `equal` means that the two terms are convertible, and `different` that they aren't.
+    ensures two_terms { ⟦<StdSource<'a, R> as Source>⟧.faults result.src ≡ 0
+        → ⟦<StdSink<'a, R> as Sink>⟧.faults result.out ≡ 0
+        → TellsFiles (handed (⟦<StdSource<'a, R> as Source>⟧.readings result.src))
+        words.now.items → result.status ≡ Status.Done → LineSaysOfTwo words.now.items
+        (handed (⟦<StdSource<'a, R> as Source>⟧.readings result.src))
+        (Some []) (⟦<StdSink<'a, R> as Sink>⟧.taken result.out) }
+
+    // Where nothing failed, what was accepted is the answer to what was handed over.
+    ensures exact { ⟦<StdSource<'a, R> as Source>⟧.faults result.src ≡ 0
+        → ⟦<StdSink<'a, R> as Sink>⟧.faults result.out ≡ 0 → result.status ≢ Status.NoMemory
+        → (text : List ℕ)
+        × IsAnswer words.now.items (handed (⟦<StdSource<'a, R> as Source>⟧.readings result.src))
+        result.status text
+        × (⟦<StdSink<'a, R> as Sink>⟧.taken result.out ≡ Some text) }
+
+    // And what holds of an answer's text holds of it: what the job's own term says of it, what
+    // every complete run tells of it, and that what can be done is done.
+    ensures tree { ⟦<StdSource<'a, R> as Source>⟧.faults result.src ≡ 0
+        → ⟦<StdSink<'a, R> as Sink>⟧.faults result.out ≡ 0 → (bytes : List ℕ)
+        → TellsTerm (handed (⟦<StdSource<'a, R> as Source>⟧.readings result.src) 0)
+        words.now.items bytes → result.status ≡ Status.Done
+        → WritesTree words.now.items bytes (Some []) (⟦<StdSink<'a, R> as Sink>⟧.taken result.out) }
+    ensures every_run { ⟦<StdSource<'a, R> as Source>⟧.faults result.src ≡ 0
+        → ⟦<StdSink<'a, R> as Sink>⟧.faults result.out ≡ 0 → (bytes : List ℕ)
+        → TellsTerm (handed (⟦<StdSource<'a, R> as Source>⟧.readings result.src) 0)
+        words.now.items bytes → result.status ≢ Status.NoMemory
+        → EveryRunTells words.now.items bytes result.status (Some [])
+        (⟦<StdSink<'a, R> as Sink>⟧.taken result.out) }
+    ensures completeness { ⟦<StdSource<'a, R> as Source>⟧.faults result.src ≡ 0
+        → ⟦<StdSink<'a, R> as Sink>⟧.faults result.out ≡ 0 → AskForWhatCanBeDone words.now.items
+        (handed (⟦<StdSource<'a, R> as Source>⟧.readings result.src))
+        → IsDoneOrNothing words.now.items
+        (handed (⟦<StdSource<'a, R> as Source>⟧.readings result.src)) result.status (Some [])
+        (⟦<StdSink<'a, R> as Sink>⟧.taken result.out) }
+{
+    let mut src = StdSource::new(rt);
+    let mut out = StdSink::new(rt);
+    let outcome = ol(rt, alloc, words, &mut src, &mut out, &OpenGate);
+    Passed {
+        status: outcome.status,
+        src,
+        out,
+    }
+}
 
 fn main(rt: HostRuntime) -> ExitCode {
     let words = match std::env::args(&rt) {
@@ -18,8 +120,5 @@ fn main(rt: HostRuntime) -> ExitCode {
     let Some(words) = words else {
         return ExitCode::from(Status::NoMemory.number());
     };
-    let mut src = StdSource::new(&rt);
-    let mut out = StdSink::new(&rt);
-    let outcome = ol(&rt, rt.alloc(), &words, &mut src, &mut out, &OpenGate);
-    ExitCode::from(outcome.status.number())
+    ExitCode::from(run(&rt, rt.alloc(), &words).status.number())
 }

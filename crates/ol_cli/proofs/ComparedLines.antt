@@ -14,7 +14,7 @@ use Rattle.ol_confluence.proofs.Meetings.{convertible}
 use Rattle.ol_lines.proofs.Counts.{times, times_append}
 use Rattle.ol_lines.proofs.Printed.{decimal_none, feed}
 use Rattle.ol_lines.proofs.Lines.{line_of}
-use Rattle.ol_words.specs.Texts.{Text}
+use Rattle.ol_cli.specs.Jobs.{Files}
 use Rattle.ol_words.specs.Asked.{equal}
 use Rattle.ol_cli.specs.SourceLaws.{WritesOfSources}
 use Rattle.ol_cli.specs.NormalForms.{SaysOfTwo, LineSaysOfTwo}
@@ -61,7 +61,7 @@ says_of_two t u (answer.Cut path) h = (
   (λ rest e. let k : 99 ≡ 100 = ap first e in absurd (omega arith)),
 )
 
-pub writes_of_two : (words : List (String Global)) (files : Text → Option (List ℕ))
+pub writes_of_two : (words : List (String Global)) (files : Files)
     (old new : Option (List ℕ)) → WritesOfSources words files old new →
     LineSaysOfTwo words files old new
 writes_of_two words files old new w tr k fuel heads a b ask m n e f t u i j =

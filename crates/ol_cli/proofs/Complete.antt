@@ -14,7 +14,7 @@ use Rattle.ol_words.specs.Asked.{Asked, run, walk, view, trace, check, gen, dema
 use Rattle.ol_words.specs.Asked as jobs
 use Rattle.ol_cli.specs.declared.status.Status.{Status}
 use Rattle.ol_cli.specs.declared.status.Status.TheVariants.{Done, Usage, Syntax, Spent, ReadFault, WriteFault, NoMemory, Limit, BadNet}
-use Rattle.ol_cli.specs.Jobs.{EachName, TellsFiles, term_bytes, translation_in}
+use Rattle.ol_cli.specs.Jobs.{Files, AreTold, TellsFiles, term_bytes, translation_in}
 use Rattle.ol_cli.specs.Answers.{IsTermFile, FileAnswer, JournalAnswer, JobAnswer, Makes, plain_run, IsAnswer, Ends, seen}
 use Rattle.ol_cli.specs.Answers as answers
 use Rattle.ol_cli.specs.Completeness.{EndsWithinFuel, HasTermWithin, HasJournalWithin, CanDo, AskForWhatCanBeDone, IsDoneOrNothing}
@@ -59,10 +59,10 @@ module _ (asked : Asked) (bytes : List ℕ) (t : Tree) (names : List (List ℕ))
 
 -- ---- a job
 
-module _ (files : Text → Option (List ℕ)) where
+module _ (files : Files) where
   -- the bytes of the job's term are those that are told
-  done_told : (asked : Asked) (name : Text) (told : Option (List ℕ)) (w : HasTermWithin files asked) → told ≡ term_bytes files asked → (bytes : List ℕ) → told ≡ Some bytes → (goal : Asked) → translation_in asked ≡ translation_in goal → EndsWithinFuel goal w.term w.names → (s : Status) (x : List ℕ) → FileAnswer goal bytes s x → s ≡ Done
-  done_told asked name told w same bytes e goal alike ends s x h =
+  done_told : (files : Text → Option (List ℕ)) (asked : Asked) (name : Text) (told : Option (List ℕ)) (w : HasTermWithin files asked) → told ≡ term_bytes files asked → (bytes : List ℕ) → told ≡ Some bytes → (goal : Asked) → translation_in asked ≡ translation_in goal → EndsWithinFuel goal w.term w.names → (s : Status) (x : List ℕ) → FileAnswer goal bytes s x → s ≡ Done
+  done_told files asked name told w same bytes e goal alike ends s x h =
       let is : Some w.bytes ≡ Some bytes = sym w.told ∙ sym same ∙ e in
       let at : w.bytes ≡ bytes = cc in
       let file = subst (λ tr. IsTermFile tr bytes w.term w.names) alike (subst (λ b. IsTermFile (translation_in asked) b w.term w.names) at w.file) in
@@ -72,49 +72,50 @@ module _ (files : Text → Option (List ℕ)) where
   done_journal tr t names journal b s x (by.past l h) = absurd (omega arith)
   done_journal tr t names journal b s x (by.found l v f h) = h.0
 
-  done_on_journal : (name : Text) → HasJournalWithin files name → (tr : Translation) (t : Tree) (names : List (List ℕ)) (given : List ℕ) → files name ≡ Some given → (s : Status) (x : List ℕ) → JournalAnswer tr t names given s x → s ≡ Done
+  done_on_journal : (name : Text) → HasJournalWithin (files 1) name → (tr : Translation) (t : Tree) (names : List (List ℕ)) (given : List ℕ) → files 1 name ≡ Some given → (s : Status) (x : List ℕ) → JournalAnswer tr t names given s x → s ≡ Done
   done_on_journal name (read, e, b) tr t names given e' s x h =
-      let short = subst (λ l. length l ≤ 402653184) (one_bytes files name read given e e') b in
+      let short = subst (λ l. length l ≤ 402653184) (one_bytes (files 1 name) read given e e') b in
       done_journal tr t names given short s x (of_journal_answer tr t names given s x h)
 
   done_made : (tr : Translation) (runs : Bool) (k : ℕ) → CanDo files (gen tr runs k) → (s : Status) (x : List ℕ) → Makes tr runs k s x → s ≡ Done
   done_made tr false k can s x m = m.0
-  done_made tr true k can s x m = done_told (gen tr true k) [] (Some (doubled_text k)) can refl (doubled_text k) refl (plain_run tr) refl can.ends s x m
+  done_made tr true k can s x m = done_told (files 0) (gen tr true k) [] (Some (doubled_text k)) can refl (doubled_text k) refl (plain_run tr) refl can.ends s x m
 
   done_job : (asked : Asked) → CanDo files asked → (s : Status) (x : List ℕ) → JobAnswer files s x asked → s ≡ Done
-  done_job (run tr w f q name) can s x (answers.of_file has e h) = done_told (run tr w f q name) name (files name) can refl _ e (run tr w f q name) refl can.ends s x h
-  done_job (walk tr g q name) can s x (answers.of_file has e h) = done_told (walk tr g q name) name (files name) can refl _ e (walk tr g q name) refl can.ends s x h
-  done_job (view tr k name) can s x (answers.of_file has e h) = done_told (view tr k name) name (files name) can refl _ e (view tr k name) refl can.ends s x h
-  done_job (trace tr w f name) can s x (answers.of_file has e h) = done_told (trace tr w f name) name (files name) can refl _ e (trace tr w f name) refl can.ends s x h
-  done_job (check tr term other) can s x (answers.of_file has e h) = done_told (check tr term other) term (files term) can.0 refl _ e (check tr term other) refl can.0.ends s x h
+  done_job (run tr w f q name) can s x (answers.of_file has e h) = done_told (files 0) (run tr w f q name) name (files 0 name) can refl _ e (run tr w f q name) refl can.ends s x h
+  done_job (walk tr g q name) can s x (answers.of_file has e h) = done_told (files 0) (walk tr g q name) name (files 0 name) can refl _ e (walk tr g q name) refl can.ends s x h
+  done_job (view tr k name) can s x (answers.of_file has e h) = done_told (files 0) (view tr k name) name (files 0 name) can refl _ e (view tr k name) refl can.ends s x h
+  done_job (trace tr w f name) can s x (answers.of_file has e h) = done_told (files 0) (trace tr w f name) name (files 0 name) can refl _ e (trace tr w f name) refl can.ends s x h
+  done_job (check tr term other) can s x (answers.of_file has e h) = done_told (files 0) (check tr term other) term (files 0 term) can.0 refl _ e (check tr term other) refl can.0.ends s x h
   done_job (check tr term other) can s x (answers.of_journal {trace = read} {t = t} {names = names} e i e' h) = done_on_journal other can.1 tr t names read e' s x h
-  done_job (demand tr f q name) can s x (answers.of_file has e h) = done_told (demand tr f q name) name (files name) can refl _ e (demand tr f q name) refl can.ends s x h
-  done_job (certify tr b w f q name) can s x (answers.of_file has e h) = done_told (certify tr b w f q name) name (files name) can refl _ e (certify tr b w f q name) refl can.ends s x h
-  done_job (jobs.net tr true w f name) can s x (answers.of_file has e h) = done_told (jobs.net tr true w f name) name (files name) can refl _ e (jobs.net tr true w f name) refl can.ends s x h
+  done_job (demand tr f q name) can s x (answers.of_file has e h) = done_told (files 0) (demand tr f q name) name (files 0 name) can refl _ e (demand tr f q name) refl can.ends s x h
+  done_job (certify tr b w f q name) can s x (answers.of_file has e h) = done_told (files 0) (certify tr b w f q name) name (files 0 name) can refl _ e (certify tr b w f q name) refl can.ends s x h
+  done_job (jobs.net tr true w f name) can s x (answers.of_file has e h) = done_told (files 0) (jobs.net tr true w f name) name (files 0 name) can refl _ e (jobs.net tr true w f name) refl can.ends s x h
   done_job (jobs.net tr false w f name) can s x (answers.of_file has e h) = absurd has
   done_job (jobs.net tr false w f name) can s x (answers.of_net_file {bytes = bytes} e h) =
-      let file = subst (λ b. IsNetFile b can.net) (one_bytes files name can.bytes bytes can.told e) can.file in
+      let file = subst (λ b. IsNetFile b can.net) (one_bytes (files 0 name) can.bytes bytes can.told e) can.file in
       done_net_file f bytes can.net can.counts can.stuck can.nodes file can.ends can.few s x h
   done_job (jobs.equal tr w f q a b) can s x (answers.of_file has e h) = absurd has
-  done_job (jobs.equal tr w f q a b) can s x (answers.of_first e isnt h) = absurd (isnt (done_told (run tr w f q a) a (files a) can.0 refl _ e (run tr w f q a) refl can.0.ends s x h))
-  done_job (jobs.equal tr w f q a b) can s x (answers.of_second e t d isnt h) = absurd (isnt (done_told (run tr w f q b) b (files b) can.1 refl _ d (run tr w f q b) refl can.1.ends s x h))
+  done_job (jobs.equal tr w f q a b) can s x (answers.of_first e isnt h) = absurd (isnt (done_told (files 0) (run tr w f q a) a (files 0 a) can.0 refl _ e (run tr w f q a) refl can.0.ends s x h))
+  done_job (jobs.equal tr w f q a b) can s x (answers.of_second e t d isnt h) = absurd (isnt (done_told (files 1) (run tr w f q b) b (files 1 b) can.1 refl _ d (run tr w f q b) refl can.1.ends s x h))
   done_job (jobs.equal tr w f q a b) can s x (answers.of_both e t d u is h) = is
   done_job (gen tr runs k) can s x (answers.of_file has e h) = absurd has
   done_job (gen tr runs k) can s x (answers.made m) = done_made tr runs k can s x m
 
   -- the bytes of the job's files are told
-  one_told : (P : Text → Type 0) (a : Text) → P a → (place : ℕ) (name : Text) → slice_get (a ∷ []) place ≡ Some name → P name
-  one_told P a p zero name e = let some : Some a ≡ Some name = e in let z : a ≡ name = cc in subst P z p
+  one_told : (P : ℕ → Text → Type 0) (a : Text) → P 0 a → (place : ℕ) (name : Text) → slice_get (a ∷ []) place ≡ Some name → P place name
+  one_told P a p zero name e = let some : Some a ≡ Some name = e in let z : a ≡ name = cc in subst (P 0) z p
   one_told P a p (suc k) name e = absurd (cc)
 
-  two_told : (P : Text → Type 0) (a b : Text) → P a → P b → (place : ℕ) (name : Text) → slice_get (a ∷ b ∷ []) place ≡ Some name → P name
-  two_told P a b p q zero name e = let some : Some a ≡ Some name = e in let z : a ≡ name = cc in subst P z p
-  two_told P a b p q (suc k) name e = one_told P b q k name e
+  two_told : (P : ℕ → Text → Type 0) (a b : Text) → P 0 a → P 1 b → (place : ℕ) (name : Text) → slice_get (a ∷ b ∷ []) place ≡ Some name → P place name
+  two_told P a b p q zero name e = let some : Some a ≡ Some name = e in let z : a ≡ name = cc in subst (P 0) z p
+  two_told P a b p q (suc zero) name e = let some : Some b ≡ Some name = e in let z : b ≡ name = cc in subst (P 1) z q
+  two_told P a b p q (suc (suc k)) name e = absurd (cc)
 
-  abbrev IsTold : Text → Type 0
-  IsTold name = (bytes : List ℕ) × (files name ≡ Some bytes)
+  abbrev IsTold : ℕ → Text → Type 0
+  IsTold place name = (bytes : List ℕ) × (files place name ≡ Some bytes)
 
-  can_told : (asked : Asked) → CanDo files asked → EachName asked IsTold
+  can_told : (asked : Asked) → CanDo files asked → AreTold files asked
   can_told (run tr w f q name) can = one_told IsTold name (can.bytes, can.told)
   can_told (walk tr g q name) can = one_told IsTold name (can.bytes, can.told)
   can_told (view tr k name) can = one_told IsTold name (can.bytes, can.told)
@@ -129,7 +130,7 @@ module _ (files : Text → Option (List ℕ)) where
 
 -- ---- the call
 
-module _ (words : List (String Global)) (f f' given : ℕ) (contents : Text → Option (List ℕ)) (ended : Bool) (quiet : Rose f f' → ⊥) (can : AskForWhatCanBeDone words contents) where
+module _ (words : List (String Global)) (f f' given : ℕ) (contents : Files) (ended : Bool) (quiet : Rose f f' → ⊥) (can : AskForWhatCanBeDone words contents) where
   tells : TellsFiles contents words
   tells asked j = can_told contents asked (subst (λ a. CanDo contents a) (one_job words can.0 asked can.1 j) can.2)
 

@@ -10,6 +10,7 @@ use Rattle.ol_confluence.proofs.LeftmostEnds.{leftmost_finds}
 use Rattle.ol_words.specs.Texts.{Text}
 use Rattle.ol_words.specs.Asked.{demand}
 use Rattle.ol_cli.specs.declared.status.Status.TheVariants as status
+use Rattle.ol_cli.specs.Jobs.{Files}
 use Rattle.ol_cli.specs.Answers.{TermAnswer, FileAnswer, JobAnswer, of_file}
 use Rattle.ol_cli.specs.DemandOrder.{DemandRunsOut}
 use Rattle.ol_cli.specs.DemandFuel.{DemandHasFuel}
@@ -30,13 +31,13 @@ module _ (tr : Translation) (bytes : List ℕ) (t : Tree) (names : List (List �
       (subst (λ names. TermAnswer (demand tr fuel heads name) h.0 names status.Spent text) same.1
       h.3)).0
 
-  job_runs_out : (files : Text → Option (List ℕ)) → files name ≡ Some bytes →
+  job_runs_out : (files : Files) → files 0 name ≡ Some bytes →
       JobAnswer files status.Spent text (demand tr fuel heads name) →
       DemandRunsOut tr t names fuel heads
   job_runs_out files e (of_file {bytes = m} has d h) =
       runs_out
       (subst (λ b. FileAnswer (demand tr fuel heads name) b status.Spent text)
-      (same_bytes (files name) m bytes d e) h)
+      (same_bytes (files 0 name) m bytes d e) h)
 
 pub demand_has_fuel : DemandHasFuel
 demand_has_fuel tr bytes source is v r n =

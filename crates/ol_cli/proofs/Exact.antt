@@ -13,9 +13,9 @@ use Rattle.ol_words.specs.Asked.{Asked, run, walk, view, trace, check, gen, dema
 use Rattle.ol_words.specs.Asked as jobs
 use Rattle.ol_cli.specs.declared.status.Status.{Status}
 use Rattle.ol_cli.specs.declared.status.Status.TheVariants.{Done, Usage, Syntax, Spent, ReadFault, WriteFault, NoMemory, Limit, BadNet}
-use Rattle.ol_cli.specs.Jobs.{AskFor, AskForNothing, EachName, HasTermFile, TellsFiles, count_of_files, files_of, file_name}
+use Rattle.ol_cli.specs.Jobs.{AskFor, AskForNothing, Files, AreTold, HasTermFile, TellsFiles, count_of_files, files_of, file_name}
 use Rattle.ol_cli.specs.Texts.{bytes_text, fault_text}
-use Rattle.ol_cli.specs.Answers.{IsTermFile, TermAnswer, FileAnswer, JournalAnswer, JobAnswer, of_file, of_journal, made, IsAnswer, long, Seen, seen, GaveTooMany, Read, FileCause, JournalCause, JobCause, by_file, by_journal, by_making, by_net_file, by_first, by_second, by_both, of_net_file, of_first, of_second, of_both, HasTree, NetCause, Cause, Ends, plain_run}
+use Rattle.ol_cli.specs.Answers.{IsTermFile, TermAnswer, FileAnswer, JournalAnswer, JobAnswer, of_file, of_journal, made, IsAnswer, long, Seen, seen, on_second, GaveTooMany, Read, FileCause, JournalCause, JobCause, by_file, by_journal, by_making, by_net_file, by_first, by_second, by_both, of_net_file, of_first, of_second, of_both, HasTree, NetCause, Cause, Ends, plain_run}
 use Rattle.ol_cli.specs.Inside.{EndsJournal}
 use Rattle.ol_cli.specs.NetAnswers.{NetFileAnswer}
 use Rattle.ol_cli.specs.NetAnswers as net_answers
@@ -144,11 +144,8 @@ job_cause words s asked Usage text j c = absurd (no_usage s text asked c)
 
 -- ---- where the source tells the bytes of the files
 
-abbrev AreTold : (Text → Option (List ℕ)) → Asked → Type 0
-AreTold contents asked = EachName asked (λ name. (bytes : List ℕ) × (contents name ≡ Some bytes))
-
 -- the bytes of the term file are told
-told_first : (contents : Text → Option (List ℕ)) (asked : Asked) → HasTermFile asked → AreTold contents asked → (bytes : List ℕ) × (contents (file_name asked) ≡ Some bytes)
+told_first : (contents : Files) (asked : Asked) → HasTermFile asked → AreTold contents asked → (bytes : List ℕ) × (contents 0 (file_name asked) ≡ Some bytes)
 told_first contents (run tr w f q name) has e = e 0 name refl
 told_first contents (walk tr g q name) has e = e 0 name refl
 told_first contents (view tr k name) has e = e 0 name refl
@@ -162,7 +159,7 @@ told_first contents (jobs.net tr false w f name) has e = absurd has
 told_first contents (jobs.equal tr w f q first second) has e = absurd has
 
 -- and those of the journal file
-told_second : (tr : Translation) (contents : Text → Option (List ℕ)) (term journal : Text) → AreTold contents (check tr term journal) → (bytes : List ℕ) × (contents journal ≡ Some bytes)
+told_second : (tr : Translation) (contents : Files) (term journal : Text) → AreTold contents (check tr term journal) → (bytes : List ℕ) × (contents 1 journal ≡ Some bytes)
 told_second tr contents term journal e = e 1 journal refl
 
 -- what was read is what is told
@@ -176,64 +173,66 @@ past_told contents told most e l = subst (λ k. IsLonger k most) e l
 abbrev moved : (tr : Translation) (a b : List ℕ) (fuel heads : ℕ) → a ≡ b → HasTree tr a fuel heads → HasTree tr b fuel heads
 moved tr a b fuel heads e h = record { term = h.term; names = h.names; tree = h.tree; file = subst (λ b. IsTermFile tr b h.term h.names) e h.file; read = h.read }
 
-module _ (words : List (String Global)) (f f' given : ℕ) (contents : Text → Option (List ℕ)) (ended : Bool) (quiet : Rose f f' → ⊥) where
+-- what comes of a term file is what its bytes are answered
+file_answer : (s : Seen) → (Rose s.faults s.faults' → ⊥) → (asked : Asked) (bytes : List ℕ) → s.contents 0 (file_name asked) ≡ Some bytes → (st : Status) (text : List ℕ) → FileCause asked s st text → FileAnswer asked bytes st text
+file_answer s quiet asked bytes told st text c = go st text c
+  where
+    same : (st : Status) (text : List ℕ) → Read asked s st text → FileAnswer asked bytes st text
+    same st text (read, gave, h) = subst (λ b. FileAnswer asked b st text) (same_read (s.contents 0 (file_name asked)) read bytes told gave.whole) h
+
+    go : (st : Status) (text : List ℕ) → FileCause asked s st text → FileAnswer asked bytes st text
+    go ReadFault text c = absurd (quiet c.0)
+    go Limit text c = elim c.1 [
+      | inl g ↦ long (past_told (s.contents 0 (file_name asked)) bytes 1048576 told g.0.longer) g.1
+      | inr r ↦ same Limit text r
+    ]
+    go Usage text c = same Usage text c.1
+    go Syntax text c = same Syntax text c.1
+    go Spent text c = same Spent text c.1
+    go Done text c = same Done text c.1
+    go WriteFault text c = same WriteFault text c.1
+    go BadNet text c = same BadNet text c.1
+    go NoMemory text c = same NoMemory text c.1
+
+-- and of a journal file
+journal_answer : (s : Seen) (journal : Text) (bytes : List ℕ) → s.contents 0 journal ≡ Some bytes → (tr : Translation) (t : Tree) (names : List (List ℕ)) (st : Status) (text : List ℕ) → JournalCause s journal tr t names st text → JournalAnswer tr t names bytes st text
+journal_answer s journal bytes told tr t names Limit text c = (past_told (s.contents 0 journal) bytes 402653184 told c.0.longer, c.1)
+journal_answer s journal bytes told tr t names Done text c = subst (λ b. JournalAnswer tr t names b Done text) (same_read (s.contents 0 journal) c.0 bytes told c.1.whole) c.2
+journal_answer s journal bytes told tr t names Usage text c = absurd c
+journal_answer s journal bytes told tr t names Syntax text c = absurd c
+journal_answer s journal bytes told tr t names Spent text c = absurd c
+journal_answer s journal bytes told tr t names ReadFault text c = absurd c
+journal_answer s journal bytes told tr t names WriteFault text c = absurd c
+journal_answer s journal bytes told tr t names NoMemory text c = absurd c
+journal_answer s journal bytes told tr t names BadNet text c = absurd c
+
+module _ (words : List (String Global)) (f f' given : ℕ) (contents : Files) (ended : Bool) (quiet : Rose f f' → ⊥) where
   abbrev pub at_hand : Seen
   at_hand = record { faults = f; faults' = f'; contents = contents; given = given; ended = ended }
 
-  file_answer : (asked : Asked) (bytes : List ℕ) → contents (file_name asked) ≡ Some bytes → (st : Status) (text : List ℕ) → FileCause asked at_hand st text → FileAnswer asked bytes st text
-  file_answer asked bytes told st text c = go st text c
-    where
-      same : (st : Status) (text : List ℕ) → Read asked at_hand st text → FileAnswer asked bytes st text
-      same st text (read, gave, h) = subst (λ b. FileAnswer asked b st text) (same_read (contents (file_name asked)) read bytes told gave.whole) h
-
-      go : (st : Status) (text : List ℕ) → FileCause asked at_hand st text → FileAnswer asked bytes st text
-      go ReadFault text c = absurd (quiet c.0)
-      go Limit text c = elim c.1 [
-        | inl g ↦ long (past_told (contents (file_name asked)) bytes 1048576 told g.0.longer) g.1
-        | inr r ↦ same Limit text r
-      ]
-      go Usage text c = same Usage text c.1
-      go Syntax text c = same Syntax text c.1
-      go Spent text c = same Spent text c.1
-      go Done text c = same Done text c.1
-      go WriteFault text c = same WriteFault text c.1
-      go BadNet text c = same BadNet text c.1
-      go NoMemory text c = same NoMemory text c.1
-
-  journal_answer : (journal : Text) (bytes : List ℕ) → contents journal ≡ Some bytes → (tr : Translation) (t : Tree) (names : List (List ℕ)) (st : Status) (text : List ℕ) → JournalCause at_hand journal tr t names st text → JournalAnswer tr t names bytes st text
-  journal_answer journal bytes told tr t names Limit text c = (past_told (contents journal) bytes 402653184 told c.0.longer, c.1)
-  journal_answer journal bytes told tr t names Done text c = subst (λ b. JournalAnswer tr t names b Done text) (same_read (contents journal) c.0 bytes told c.1.whole) c.2
-  journal_answer journal bytes told tr t names Usage text c = absurd c
-  journal_answer journal bytes told tr t names Syntax text c = absurd c
-  journal_answer journal bytes told tr t names Spent text c = absurd c
-  journal_answer journal bytes told tr t names ReadFault text c = absurd c
-  journal_answer journal bytes told tr t names WriteFault text c = absurd c
-  journal_answer journal bytes told tr t names NoMemory text c = absurd c
-  journal_answer journal bytes told tr t names BadNet text c = absurd c
-
-  net_answer : (name : Text) (bytes : List ℕ) → contents name ≡ Some bytes → (fuel : ℕ) (st : Status) (text : List ℕ) → NetCause at_hand name fuel st text → NetFileAnswer fuel bytes st text
+  net_answer : (name : Text) (bytes : List ℕ) → contents 0 name ≡ Some bytes → (fuel : ℕ) (st : Status) (text : List ℕ) → NetCause at_hand name fuel st text → NetFileAnswer fuel bytes st text
   net_answer name bytes told fuel st text (answers.failed rose e x) = absurd (quiet rose)
-  net_answer name bytes told fuel st text (answers.past same gave e x) = net_answers.long (past_told (contents name) bytes 33554432 told gave.longer) e x
-  net_answer name bytes told fuel st text (answers.given same {bytes = read} gave h) = subst (λ b. NetFileAnswer fuel b st text) (same_read (contents name) read bytes told gave.whole) h
+  net_answer name bytes told fuel st text (answers.past same gave e x) = net_answers.long (past_told (contents 0 name) bytes 33554432 told gave.longer) e x
+  net_answer name bytes told fuel st text (answers.given same {bytes = read} gave h) = subst (λ b. NetFileAnswer fuel b st text) (same_read (contents 0 name) read bytes told gave.whole) h
 
   job_answer : (asked : Asked) → AreTold contents asked → (st : Status) (text : List ℕ) → JobCause at_hand st text asked → JobAnswer contents st text asked
-  job_answer asked e st text (by_file has c) = let b = told_first contents asked has e in of_file has b.1 (file_answer asked b.0 b.1 st text c)
+  job_answer asked e st text (by_file has c) = let b = told_first contents asked has e in of_file has b.1 (file_answer at_hand quiet asked b.0 b.1 st text c)
   job_answer _ e st text (by_journal {translation = tr} {term = term} {journal = journal} {bytes = bytes} {t = t} {names = names} same whole i c) =
       let b = told_first contents (check tr term journal) tt e in
       let d = told_second tr contents term journal e in
-      of_journal b.1 (subst (λ b. IsTermFile tr b t names) (same_read (contents term) bytes b.0 b.1 whole) i) d.1 (journal_answer journal d.0 d.1 tr t names st text c)
+      of_journal b.1 (subst (λ b. IsTermFile tr b t names) (same_read (contents 0 term) bytes b.0 b.1 whole) i) d.1 (journal_answer (on_second at_hand) journal d.0 d.1 tr t names st text c)
   job_answer _ e st text (by_making same m) = made m
   job_answer _ e st text (by_net_file {fuel = fuel} {name = name} c) = let b = e 0 name refl in of_net_file b.1 (net_answer name b.0 b.1 fuel st text c)
   job_answer _ e st text (by_first {translation = tr} {workers = w} {fuel = f} {heads = q} {a = a} isnt c) =
-      let d = e 0 a refl in of_first d.1 isnt (file_answer (run tr w f q a) d.0 d.1 st text c)
+      let d = e 0 a refl in of_first d.1 isnt (file_answer at_hand quiet (run tr w f q a) d.0 d.1 st text c)
   job_answer _ e st text (by_second {translation = tr} {workers = w} {fuel = f} {heads = q} {a = a} {b = b} {bytes = bytes} whole t isnt c) =
       let d = e 0 a refl in
       let g = e 1 b refl in
-      of_second d.1 (moved tr bytes d.0 f q (same_read (contents a) bytes d.0 d.1 whole) t) g.1 isnt (file_answer (run tr w f q b) g.0 g.1 st text c)
+      of_second d.1 (moved tr bytes d.0 f q (same_read (contents 0 a) bytes d.0 d.1 whole) t) g.1 isnt (file_answer (on_second at_hand) quiet (run tr w f q b) g.0 g.1 st text c)
   job_answer _ e st text (by_both {translation = tr} {fuel = f} {heads = q} {a = a} {b = b} {bytes = m} {bytes' = n} same whole t gave u is h) =
       let d = e 0 a refl in
       let g = e 1 b refl in
-      of_both d.1 (moved tr m d.0 f q (same_read (contents a) m d.0 d.1 whole) t) g.1 (moved tr n g.0 f q (same_read (contents b) n g.0 g.1 gave.whole) u) is h
+      of_both d.1 (moved tr m d.0 f q (same_read (contents 0 a) m d.0 d.1 whole) t) g.1 (moved tr n g.0 f q (same_read (contents 1 b) n g.0 g.1 gave.whole) u) is h
 
   module _ (tells : TellsFiles contents words) where
     pub cause_answer : (st : Status) (text : List ℕ) → Cause words at_hand st text → IsAnswer words contents st text
@@ -282,7 +281,7 @@ job_risen _ s text st h (by_journal same whole i c) = absurd (omega (arith, same
 job_risen _ s text st h (by_making same m) = absurd (omega (arith, same))
 job_risen _ s text st h (by_net_file {fuel = fuel} {name = name} c) = elim (net_cause_status s name fuel st text c) [ inl e ↦ e.0 | inr k ↦ absurd (omega (arith, k.0)) ]
 job_risen _ s text st h (by_first {translation = tr} {workers = w} {fuel = f} {heads = q} {a = a} isnt c) = file_risen (run tr w f q a) s text st h c
-job_risen _ s text st h (by_second {translation = tr} {workers = w} {fuel = f} {heads = q} {b = b} whole t isnt c) = file_risen (run tr w f q b) s text st h c
+job_risen _ s text st h (by_second {translation = tr} {workers = w} {fuel = f} {heads = q} {b = b} whole t isnt c) = file_risen (run tr w f q b) (on_second s) text st h c
 job_risen _ s text st h (by_both same whole t gave u is k) = absurd (omega (arith, same))
 
 cause_risen : (words : List (String Global)) (s : Seen) (text : List ℕ) (st : Status) → s.faults < s.faults' → Cause words s st text → st ≡ ReadFault
@@ -426,7 +425,7 @@ job_status s st text asked (by_file has c) = file st c
     file Done c = ((λ e. cc), (λ e. cc))
 job_status s st text _ (by_journal {translation = tr} {journal = journal} {t = t} {names = names} same w i c) = on_journal st c
   where
-    on_journal : (st : Status) → JournalCause s journal tr t names st text → (st ≢ NoMemory) × (st ≢ WriteFault)
+    on_journal : (st : Status) → JournalCause (on_second s) journal tr t names st text → (st ≢ NoMemory) × (st ≢ WriteFault)
     on_journal NoMemory c = absurd c
     on_journal WriteFault c = absurd c
     on_journal ReadFault c = absurd c
@@ -454,7 +453,7 @@ job_status s st text _ (by_net_file {fuel = fuel} {name = name} c) = elim (net_c
   | inr k ↦ net_no_fault st k.1
 ]
 job_status s st text _ (by_first {translation = tr} {workers = w} {fuel = f} {heads = q} {a = a} isnt c) = file_cause_status (run tr w f q a) s st text c
-job_status s st text _ (by_second {translation = tr} {workers = w} {fuel = f} {heads = q} {b = b} whole t isnt c) = file_cause_status (run tr w f q b) s st text c
+job_status s st text _ (by_second {translation = tr} {workers = w} {fuel = f} {heads = q} {b = b} whole t isnt c) = file_cause_status (run tr w f q b) (on_second s) st text c
 job_status s st text _ (by_both same whole t gave u is k) = ((λ z. let y : Done ≡ NoMemory = sym is ∙ z in cc), (λ z. let y : Done ≡ WriteFault = sym is ∙ z in cc))
 
 pub written_ends : (words : List (String Global)) (s : Seen) (st : Status) (text : List ℕ) (g g' : ℕ) (old new : Option (List ℕ)) → Cause words s st text → g' ≡ g → Appended old text new → Ends words s st g g' old new
@@ -470,8 +469,8 @@ written_ends words s Done text g g' old new c same w = (Done, text, c, (refl, sa
 
 -- ---- a journal that was read last
 
-pub checked_cause : (tr : Translation) (s : Seen) (term journal : Text) (bytes : List ℕ) (t : Tree) (names : List (List ℕ)) → IsAllOf (s.contents term) bytes → IsTermFile tr bytes t names → (st : Status) (text : List ℕ) →
-    EndsJournal s journal tr t names st text → JobCause s st text (check tr term journal)
+pub checked_cause : (tr : Translation) (s : Seen) (term journal : Text) (bytes : List ℕ) (t : Tree) (names : List (List ℕ)) → IsAllOf (s.contents 0 term) bytes → IsTermFile tr bytes t names → (st : Status) (text : List ℕ) →
+    EndsJournal (on_second s) journal tr t names st text → JobCause s st text (check tr term journal)
 checked_cause tr s term journal bytes t names whole i ReadFault text h = by_file tt h
 checked_cause tr s term journal bytes t names whole i Limit text h = by_journal h.0 whole i h.1
 checked_cause tr s term journal bytes t names whole i Done text h = by_journal h.0 whole i h.1
@@ -491,7 +490,45 @@ pub past_cause : (s : Seen) (asked : Asked) → HasTermFile asked → (st : Stat
 past_cause s asked has st text same gave is e = subst (λ st. JobCause s st text asked) (sym is) (by_file has (same, inl (gave, e)))
 
 -- what the read of the journal ended with, after that of the term
-pub after_term : (faults mid faults' given : ℕ) (contents then : Text → Option (List ℕ)) (ended : Bool) (journal : Text) (tr : Translation) (t : Tree) (names : List (List ℕ)) (st : Status) (text : List ℕ) → mid ≡ faults → then ≡ contents →
+pub after_term : (faults mid faults' given : ℕ) (contents then : Files) (ended : Bool) (journal : Text) (tr : Translation) (t : Tree) (names : List (List ℕ)) (st : Status) (text : List ℕ) → mid ≡ faults → then ≡ contents →
     EndsJournal (seen mid faults' then given ended) journal tr t names st text → EndsJournal (seen faults faults' contents given ended) journal tr t names st text
 after_term faults mid faults' given contents then ended journal tr t names st text e d h =
     subst (λ f. EndsJournal (seen f faults' contents given ended) journal tr t names st text) e (subst (λ k. EndsJournal (seen mid faults' k given ended) journal tr t names st text) d h)
+
+-- ---- a write fault
+
+-- it has risen
+pub ends_write : (words : List (String Global)) (s : Seen) (r : Status) (g g' : ℕ) (old new : Option (List ℕ)) → Ends words s r g g' old new → r ≡ WriteFault → Rose g g'
+ends_write words s WriteFault g g' old new e is = e.3.0
+ends_write words s NoMemory g g' old new e is = absurd (cc)
+ends_write words s ReadFault g g' old new e is = absurd (cc)
+ends_write words s Done g g' old new e is = absurd (cc)
+ends_write words s Usage g g' old new e is = absurd (cc)
+ends_write words s Syntax g g' old new e is = absurd (cc)
+ends_write words s Spent g g' old new e is = absurd (cc)
+ends_write words s Limit g g' old new e is = absurd (cc)
+ends_write words s BadNet g g' old new e is = absurd (cc)
+
+-- one that has risen is told
+pub ends_write_told : (words : List (String Global)) (s : Seen) (r : Status) (g g' : ℕ) (old new : Option (List ℕ)) → g < g' → Ends words s r g g' old new → r ≡ WriteFault
+ends_write_told words s WriteFault g g' old new h e = refl
+ends_write_told words s NoMemory g g' old new h e = let same = e.1 in absurd (omega (arith, same))
+ends_write_told words s ReadFault g g' old new h e = let same = e.3.1 in absurd (omega (arith, same))
+ends_write_told words s Done g g' old new h e = let same = e.3.1 in absurd (omega (arith, same))
+ends_write_told words s Usage g g' old new h e = let same = e.3.1 in absurd (omega (arith, same))
+ends_write_told words s Syntax g g' old new h e = let same = e.3.1 in absurd (omega (arith, same))
+ends_write_told words s Spent g g' old new h e = let same = e.3.1 in absurd (omega (arith, same))
+ends_write_told words s Limit g g' old new h e = let same = e.3.1 in absurd (omega (arith, same))
+ends_write_told words s BadNet g g' old new h e = let same = e.3.1 in absurd (omega (arith, same))
+
+-- words to which the usage is told ask for nothing
+pub ends_asked : (words : List (String Global)) (s : Seen) (r : Status) (g g' : ℕ) (old new : Option (List ℕ)) → Ends words s r g g' old new → r ≡ Usage → AskForNothing words
+ends_asked words s Usage g g' old new e is = let c = subst (λ st. Cause words s st e.1) (sym e.3.0) e.2 in c.0
+ends_asked words s WriteFault g g' old new e is = absurd (cc)
+ends_asked words s NoMemory g g' old new e is = absurd (cc)
+ends_asked words s ReadFault g g' old new e is = absurd (cc)
+ends_asked words s Done g g' old new e is = absurd (cc)
+ends_asked words s Syntax g g' old new e is = absurd (cc)
+ends_asked words s Spent g g' old new e is = absurd (cc)
+ends_asked words s Limit g g' old new e is = absurd (cc)
+ends_asked words s BadNet g g' old new e is = absurd (cc)

@@ -30,7 +30,7 @@ use Rattle.ol_words.specs.Asked.{Asked, run, walk, view, trace, check, gen, dema
 use Rattle.ol_words.specs.Asked as jobs
 use Rattle.ol_cli.specs.declared.status.Status.{Status}
 use Rattle.ol_cli.specs.declared.status.Status.TheVariants.{Done, Usage, Syntax, Spent, ReadFault, WriteFault, NoMemory, Limit, BadNet}
-use Rattle.ol_cli.specs.Jobs.{AskFor, AskForNothing, file_name, translation_in}
+use Rattle.ol_cli.specs.Jobs.{Files, AskFor, AskForNothing, file_name, translation_in}
 use Rattle.ol_cli.specs.Inside.{IsOnTerm}
 use Rattle.ol_cli.specs.Laws.{HaveOneText}
 use Rattle.ol_cli.specs.Texts.{line, usage_text, bytes_text, depth_text, nodes_text, journal_text, syntax_text, spent_text, found_text}
@@ -338,28 +338,28 @@ one_making tr true k s s' x x' m m' =
     let e = one_file_answer (plain_run tr) (doubled_text k) s s' x x' m m' in
     (e.0, e.1)
 
-module _ (files : Text → Option (List ℕ)) where
-  pub one_bytes : (name : Text) (a b : List ℕ) → files name ≡ Some a → files name ≡ Some b → a ≡ b
-  one_bytes name a b e f = let z : Some a ≡ Some b = sym e ∙ f in cc
+pub one_bytes : (told : Option (List ℕ)) (a b : List ℕ) → told ≡ Some a → told ≡ Some b → a ≡ b
+one_bytes told a b e f = let z : Some a ≡ Some b = sym e ∙ f in cc
 
+module _ (files : Files) where
   one_checked : (tr : Translation) (term journal : Text) (s s' : Status) (x x' : List ℕ) → JobAnswer files s x (check tr term journal) → JobAnswer files s' x' (check tr term journal) → Same s s' x x'
   one_checked tr term journal s s' x x' (of_file {bytes = a} has e h) (of_file {bytes = b} has' e' h') =
-      let k = one_file_answer (check tr term journal) b s s' x x' (subst (λ a. FileAnswer (check tr term journal) a s x) (one_bytes term a b e e') h) h' in
+      let k = one_file_answer (check tr term journal) b s s' x x' (subst (λ a. FileAnswer (check tr term journal) a s x) (one_bytes (files 0 term) a b e e') h) h' in
       (k.0, k.1)
   one_checked tr term journal s s' x x' (of_file {bytes = a} has e h) (of_journal {bytes = b} {t = t} {names = names} e' i f' h') =
-      absurd (not_refused tr term journal b t names s x (of_file_answer (check tr term journal) b s x (subst (λ a. FileAnswer (check tr term journal) a s x) (one_bytes term a b e e') h)) i)
+      absurd (not_refused tr term journal b t names s x (of_file_answer (check tr term journal) b s x (subst (λ a. FileAnswer (check tr term journal) a s x) (one_bytes (files 0 term) a b e e') h)) i)
   one_checked tr term journal s s' x x' (of_journal {bytes = b} {t = t} {names = names} e i f h) (of_file {bytes = a} has' e' h') =
-      absurd (not_refused tr term journal b t names s' x' (of_file_answer (check tr term journal) b s' x' (subst (λ a. FileAnswer (check tr term journal) a s' x') (one_bytes term a b e' e) h')) i)
+      absurd (not_refused tr term journal b t names s' x' (of_file_answer (check tr term journal) b s' x' (subst (λ a. FileAnswer (check tr term journal) a s' x') (one_bytes (files 0 term) a b e' e) h')) i)
   one_checked tr term journal s s' x x' (of_journal {bytes = a} {trace = u} {t = t} {names = names} e i f h) (of_journal {bytes = b} {trace = v} {t = t'} {names = names'} e' i' f' h') =
-      let same_file = subst (λ b. IsTermFile tr b t' names') (one_bytes term b a e' e) i' in
+      let same_file = subst (λ b. IsTermFile tr b t' names') (one_bytes (files 0 term) b a e' e) i' in
       let term_is = one_file a t' t names' names same_file.file i.file in
-      let trace_is = one_bytes journal v u f' f in
+      let trace_is = one_bytes (files 1 journal) v u f' f in
       let h'' = subst (λ t. JournalAnswer tr t names u s' x') term_is.0 (subst (λ names. JournalAnswer tr t' names u s' x') term_is.1 (subst (λ v. JournalAnswer tr t' names' v s' x') trace_is h')) in
       one_journal tr t names u s s' x x' (of_journal_answer tr t names u s x h) (of_journal_answer tr t names u s' x' h'')
 
   one_on_file : (asked : Asked) → IsOnTerm asked → (s s' : Status) (x x' : List ℕ) → JobAnswer files s x asked → JobAnswer files s' x' asked → Alike asked s s' x x'
   one_on_file asked on s s' x x' (of_file {bytes = a} has e h) (of_file {bytes = b} has' e' h') =
-      one_file_answer asked b s s' x x' (subst (λ a. FileAnswer asked a s x) (one_bytes (file_name asked) a b e e') h) h'
+      one_file_answer asked b s s' x x' (subst (λ a. FileAnswer asked a s x) (one_bytes (files 0 (file_name asked)) a b e e') h) h'
   one_on_file asked on s s' x x' (of_file has e h) (of_journal e' i f' h') = absurd on
   one_on_file asked on s s' x x' (of_file has e h) (made m) = absurd on
   one_on_file asked on s s' x x' (of_journal e' i f' h') k = absurd on
@@ -374,39 +374,39 @@ module _ (files : Text → Option (List ℕ)) where
   one_on_file asked on s s' x x' (of_both e t f u is h) k = absurd on
 
   -- what `run` answers to bytes that another file's name has is one answer
-  one_of_run : (tr : Translation) (w fuel heads : ℕ) (name : Text) (a b : List ℕ) → files name ≡ Some a → files name ≡ Some b → (s s' : Status) (x x' : List ℕ) →
+  one_of_run : (tr : Translation) (w fuel heads : ℕ) (name : Text) (told : Option (List ℕ)) (a b : List ℕ) → told ≡ Some a → told ≡ Some b → (s s' : Status) (x x' : List ℕ) →
       FileAnswer (run tr w fuel heads name) a s x → FileAnswer (run tr w fuel heads name) b s' x' → Same s s' x x'
-  one_of_run tr w fuel heads name a b e e' s s' x x' h h' =
-      let k = one_file_answer (run tr w fuel heads name) b s s' x x' (subst (λ a. FileAnswer (run tr w fuel heads name) a s x) (one_bytes name a b e e') h) h' in
+  one_of_run tr w fuel heads name told a b e e' s s' x x' h h' =
+      let k = one_file_answer (run tr w fuel heads name) b s s' x x' (subst (λ a. FileAnswer (run tr w fuel heads name) a s x) (one_bytes told a b e e') h) h' in
       (k.0, k.1)
 
   -- a file whose term is read back is no refusal
-  not_read : (tr : Translation) (w fuel heads : ℕ) (name : Text) (a b : List ℕ) → files name ≡ Some a → files name ≡ Some b → HasTree tr a fuel heads → (s : Status) (x : List ℕ) → s ≢ Done →
+  not_read : (tr : Translation) (w fuel heads : ℕ) (name : Text) (told : Option (List ℕ)) (a b : List ℕ) → told ≡ Some a → told ≡ Some b → HasTree tr a fuel heads → (s : Status) (x : List ℕ) → s ≢ Done →
       FileAnswer (run tr w fuel heads name) b s x → ⊥
-  not_read tr w fuel heads name a b e e' t s x isnt h =
-      isnt (read_file tr w fuel heads name b (subst (λ a. HasTree tr a fuel heads) (one_bytes name a b e e') t) s x (of_file_answer (run tr w fuel heads name) b s x h))
+  not_read tr w fuel heads name told a b e e' t s x isnt h =
+      isnt (read_file tr w fuel heads name b (subst (λ a. HasTree tr a fuel heads) (one_bytes told a b e e') t) s x (of_file_answer (run tr w fuel heads name) b s x h))
 
   one_equal : (tr : Translation) (w fuel heads : ℕ) (a b : Text) (s s' : Status) (x x' : List ℕ) → JobAnswer files s x (jobs.equal tr w fuel heads a b) → JobAnswer files s' x' (jobs.equal tr w fuel heads a b) → Same s s' x x'
   one_equal tr w f q a b s s' x x' (of_file has e h) k = absurd has
   one_equal tr w f q a b s s' x x' (of_first e isnt h) (of_file has e' h') = absurd has
-  one_equal tr w f q a b s s' x x' (of_first {bytes = m} e isnt h) (of_first {bytes = n} e' isnt' h') = one_of_run tr w f q a m n e e' s s' x x' h h'
-  one_equal tr w f q a b s s' x x' (of_first {bytes = m} e isnt h) (of_second {bytes = n} e' t' f' isnt' h') = absurd (not_read tr w f q a n m e' e t' s x isnt h)
-  one_equal tr w f q a b s s' x x' (of_first {bytes = m} e isnt h) (of_both {bytes = n} e' t' f' u' is' h') = absurd (not_read tr w f q a n m e' e t' s x isnt h)
+  one_equal tr w f q a b s s' x x' (of_first {bytes = m} e isnt h) (of_first {bytes = n} e' isnt' h') = one_of_run tr w f q a (files 0 a) m n e e' s s' x x' h h'
+  one_equal tr w f q a b s s' x x' (of_first {bytes = m} e isnt h) (of_second {bytes = n} e' t' f' isnt' h') = absurd (not_read tr w f q a (files 0 a) n m e' e t' s x isnt h)
+  one_equal tr w f q a b s s' x x' (of_first {bytes = m} e isnt h) (of_both {bytes = n} e' t' f' u' is' h') = absurd (not_read tr w f q a (files 0 a) n m e' e t' s x isnt h)
   one_equal tr w f q a b s s' x x' (of_second e t d isnt h) (of_file has e' h') = absurd has
-  one_equal tr w f q a b s s' x x' (of_second {bytes = m} e t d isnt h) (of_first {bytes = n} e' isnt' h') = absurd (not_read tr w f q a m n e e' t s' x' isnt' h')
-  one_equal tr w f q a b s s' x x' (of_second {bytes' = m} e t d isnt h) (of_second {bytes' = n} e' t' d' isnt' h') = one_of_run tr w f q b m n d d' s s' x x' h h'
-  one_equal tr w f q a b s s' x x' (of_second {bytes' = m} e t d isnt h) (of_both {bytes' = n} e' t' d' u' is' h') = absurd (not_read tr w f q b n m d' d u' s x isnt h)
+  one_equal tr w f q a b s s' x x' (of_second {bytes = m} e t d isnt h) (of_first {bytes = n} e' isnt' h') = absurd (not_read tr w f q a (files 0 a) m n e e' t s' x' isnt' h')
+  one_equal tr w f q a b s s' x x' (of_second {bytes' = m} e t d isnt h) (of_second {bytes' = n} e' t' d' isnt' h') = one_of_run tr w f q b (files 1 b) m n d d' s s' x x' h h'
+  one_equal tr w f q a b s s' x x' (of_second {bytes' = m} e t d isnt h) (of_both {bytes' = n} e' t' d' u' is' h') = absurd (not_read tr w f q b (files 1 b) n m d' d u' s x isnt h)
   one_equal tr w f q a b s s' x x' (of_both e t d u is h) (of_file has e' h') = absurd has
-  one_equal tr w f q a b s s' x x' (of_both {bytes = m} e t d u is h) (of_first {bytes = n} e' isnt' h') = absurd (not_read tr w f q a m n e e' t s' x' isnt' h')
-  one_equal tr w f q a b s s' x x' (of_both {bytes' = m} e t d u is h) (of_second {bytes' = n} e' t' d' isnt' h') = absurd (not_read tr w f q b m n d d' u s' x' isnt' h')
+  one_equal tr w f q a b s s' x x' (of_both {bytes = m} e t d u is h) (of_first {bytes = n} e' isnt' h') = absurd (not_read tr w f q a (files 0 a) m n e e' t s' x' isnt' h')
+  one_equal tr w f q a b s s' x x' (of_both {bytes' = m} e t d u is h) (of_second {bytes' = n} e' t' d' isnt' h') = absurd (not_read tr w f q b (files 1 b) m n d d' u s' x' isnt' h')
   one_equal tr w f q a b s s' x x' (of_both {bytes = m} {bytes' = n} e t d u is h) (of_both {bytes = m'} {bytes' = n'} e' t' d' u' is' h') =
-      (is ∙ sym is', one_compared tr m m' n n' f q (one_bytes a m m' e e') (one_bytes b n n' d d') t t' u u' x x' h h')
+      (is ∙ sym is', one_compared tr m m' n n' f q (one_bytes (files 0 a) m m' e e') (one_bytes (files 1 b) n n' d d') t t' u u' x x' h h')
 
   one_of_net_job : (tr : Translation) (w fuel : ℕ) (name : Text) (s s' : Status) (x x' : List ℕ) → JobAnswer files s x (jobs.net tr false w fuel name) → JobAnswer files s' x' (jobs.net tr false w fuel name) → Alike (jobs.net tr false w fuel name) s s' x x'
   one_of_net_job tr w fuel name s s' x x' (of_file has e h) k = absurd has
   one_of_net_job tr w fuel name s s' x x' (of_net_file e h) (of_file has e' h') = absurd has
   one_of_net_job tr w fuel name s s' x x' (of_net_file {bytes = a} e h) (of_net_file {bytes = b} e' h') =
-      one_net_file tr w name fuel b s s' x x' (subst (λ a. NetFileAnswer fuel a s x) (one_bytes name a b e e') h) h'
+      one_net_file tr w name fuel b s s' x x' (subst (λ a. NetFileAnswer fuel a s x) (one_bytes (files 0 name) a b e e') h) h'
 
   one_made : (tr : Translation) (runs : Bool) (k : ℕ) (s s' : Status) (x x' : List ℕ) → JobAnswer files s x (gen tr runs k) → JobAnswer files s' x' (gen tr runs k) → Same s s' x x'
   one_made tr runs k s s' x x' (of_file has e h) a = absurd has
@@ -428,11 +428,11 @@ module _ (files : Text → Option (List ℕ)) where
 
 -- ---- words and files
 
-data OfWords (words : List (String Global)) (files : Text → Option (List ℕ)) (s : Status) (x : List ℕ) : Type 0 where
+data OfWords (words : List (String Global)) (files : Files) (s : Status) (x : List ℕ) : Type 0 where
   no_job : AskForNothing words → Same s Usage x usage_text → OfWords words files s x
   job : (asked : Asked) → AskFor words asked → JobAnswer files s x asked → OfWords words files s x
 
-of_words : (words : List (String Global)) (files : Text → Option (List ℕ)) (s : Status) (x : List ℕ) → IsAnswer words files s x → OfWords words files s x
+of_words : (words : List (String Global)) (files : Files) (s : Status) (x : List ℕ) → IsAnswer words files s x → OfWords words files s x
 of_words words files Usage x a = no_job a.0 (refl, a.1)
 of_words words files Syntax x a = job a.0 a.1 a.2
 of_words words files Spent x a = job a.0 a.1 a.2
@@ -448,7 +448,7 @@ pub one_job : (words : List (String Global)) (a b : Asked) → AskFor words a �
 one_job words a b h h' = let e : Some a ≡ Some b = sym h ∙ h' in cc
 
 -- the answer to words that ask for a job is that to the job
-pub own_job : (words : List (String Global)) (files : Text → Option (List ℕ)) (asked : Asked) → AskFor words asked → (s : Status) (x : List ℕ) → IsAnswer words files s x → JobAnswer files s x asked
+pub own_job : (words : List (String Global)) (files : Files) (asked : Asked) → AskFor words asked → (s : Status) (x : List ℕ) → IsAnswer words files s x → JobAnswer files s x asked
 own_job words files asked j s x a = go (of_words words files s x a)
   where
     go : OfWords words files s x → JobAnswer files s x asked
@@ -459,7 +459,7 @@ own_job words files asked j s x a = go (of_words words files s x a)
 abbrev pub OneOfWords : List (String Global) → Status → Status → List ℕ → List ℕ → Type 0
 OneOfWords words s s' x x' = (s ≡ s') × (AskForNothing words → x ≡ x') × ((asked : Asked) → AskFor words asked → HaveOneText asked s x x')
 
-one_of_words : (words : List (String Global)) (files : Text → Option (List ℕ)) (s s' : Status) (x x' : List ℕ) → OfWords words files s x → OfWords words files s' x' →
+one_of_words : (words : List (String Global)) (files : Files) (s s' : Status) (x x' : List ℕ) → OfWords words files s x → OfWords words files s' x' →
     OneOfWords words s s' x x'
 one_of_words words files s s' x x' (no_job n h) (no_job n' h') =
     let e = same_as s s' Usage x x' usage_text h h' in
@@ -470,6 +470,6 @@ one_of_words words files s s' x x' (job a j h) (job a' j' h') =
     let e = one_of_job files a s s' x x' h (subst (λ a. JobAnswer files s' x' a) (one_job words a' a j' j) h') in
     (e.0, λ n. absurd (not_both words a n j), λ asked j''. subst (λ a. HaveOneText a s x x') (one_job words a asked j j'') e.1)
 
-pub answers_one : (words : List (String Global)) (files : Text → Option (List ℕ)) (s s' : Status) (x x' : List ℕ) → IsAnswer words files s x → IsAnswer words files s' x' →
+pub answers_one : (words : List (String Global)) (files : Files) (s s' : Status) (x x' : List ℕ) → IsAnswer words files s x → IsAnswer words files s' x' →
     OneOfWords words s s' x x'
 answers_one words files s s' x x' a a' = one_of_words words files s s' x x' (of_words words files s x a) (of_words words files s' x' a')

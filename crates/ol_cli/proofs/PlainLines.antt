@@ -13,7 +13,7 @@ use Rattle.ol_words.specs.Lines.{option_of}
 use Rattle.ol_words.specs.Asked.{Asked, run, walk, demand}
 use Rattle.ol_words.specs.Jobs.{job_of, job_on, run_verb, walk_verb, demand_verb}
 use Rattle.ol_lines.proofs.Read.{line_is_normal_form, lost_has_no_normal_form}
-use Rattle.ol_cli.specs.Jobs.{AskFor, TellsTerm, term_bytes}
+use Rattle.ol_cli.specs.Jobs.{AskFor, TellsTerm, term_bytes, Files}
 use Rattle.ol_cli.specs.Sources.{WritesTree}
 use Rattle.ol_cli.specs.NormalForms.{ArePlain, LineIsOf, PlainLineSays}
 use Rattle.ol_cli.proofs.OneAnswer.{one_job}
@@ -77,29 +77,28 @@ module _ {words : List (String Global)} {verb name : Text} (p : ArePlain words v
       ∙ ap (option_and_then (job_on demand_verb)) (one_name _ name p.is_name)
 
 -- the bytes of the file are those of the job's term
-pub tells_of : (words : List (String Global)) (files : Text → Option (List ℕ)) (asked : Asked)
+pub tells_of : (words : List (String Global)) (contents : Text → Option (List ℕ)) (asked : Asked)
     (bytes : List ℕ) →
-    AskFor words asked → term_bytes files asked ≡ Some bytes → TellsTerm files words bytes
-tells_of words files asked bytes j e other k =
-    subst (λ a. term_bytes files a ≡ Some bytes) (one_job words asked other j k) e
+    AskFor words asked → term_bytes contents asked ≡ Some bytes → TellsTerm contents words bytes
+tells_of words contents asked bytes j e other k =
+    subst (λ a. term_bytes contents a ≡ Some bytes) (one_job words asked other j k) e
 
 -- ---- the line
 
 not_walk : (verb : Text) → verb ≡ codes "walk" → {P : Type 0} → (verb ≡ codes "walk" → ⊥) → P
 not_walk verb e differ = absurd (differ e)
 
-abbrev pub Writes : List (String Global) → (Text → Option (List ℕ)) → Option (List ℕ) →
-    Option (List ℕ) → Type 0
+abbrev pub Writes : List (String Global) → Files → Option (List ℕ) → Option (List ℕ) → Type 0
 Writes words files old new =
-    (bytes : List ℕ) → TellsTerm files words bytes → WritesTree words bytes old new
+    (bytes : List ℕ) → TellsTerm (files 0) words bytes → WritesTree words bytes old new
 
-pub plain_writes : (words : List (String Global)) (files : Text → Option (List ℕ))
+pub plain_writes : (words : List (String Global)) (files : Files)
     (old new : Option (List ℕ)) →
     Writes words files old new → PlainLineSays words files old new
 plain_writes words files old new w verb name p (inl e) bytes has source is =
     let j = asks_run p e in
     let r =
-    w bytes (tells_of words files (run Two 4 200000 4096 name) bytes j has)
+    w bytes (tells_of words (files 0) (run Two 4 200000 4096 name) bytes j has)
     (run Two 4 200000 4096 name) (number source) (names_of source) j (file_of is) in
     let q = run_printed r.1 in
     first_line is q (LineIsOf verb source) old new r.2
@@ -107,7 +106,7 @@ plain_writes words files old new w verb name p (inl e) bytes has source is =
 plain_writes words files old new w verb name p (inr (inl e)) bytes has source is =
     let j = asks_demand p e in
     let r =
-    w bytes (tells_of words files (demand Two 200000 4096 name) bytes j has)
+    w bytes (tells_of words (files 0) (demand Two 200000 4096 name) bytes j has)
     (demand Two 200000 4096 name) (number source) (names_of source) j (file_of is) in
     let q = demand_printed r.1 in
     first_line is q (LineIsOf verb source) old new r.2
@@ -115,7 +114,7 @@ plain_writes words files old new w verb name p (inr (inl e)) bytes has source is
 plain_writes words files old new w verb name p (inr (inr e)) bytes has source is =
     let j = asks_walk p e in
     let r =
-    w bytes (tells_of words files (walk Two 100000 4096 name) bytes j has)
+    w bytes (tells_of words (files 0) (walk Two 100000 4096 name) bytes j has)
     (walk Two 100000 4096 name) (number source) (names_of source) j (file_of is) in
     let q = walk_printed r.1 in
     first_line is q (LineIsOf verb source) old new r.2

@@ -36,6 +36,7 @@ use Rattle.ol_cli.specs.declared.status.Status.TheVariants.{Done}
 use Rattle.ol_cli.specs.Answers.{HasTree, FileAnswer, JobAnswer, of_file, of_first, of_second}
 use Rattle.ol_cli.specs.Answers.{of_both}
 use Rattle.ol_cli.specs.Answers.{IsAnswer}
+use Rattle.ol_cli.specs.Jobs.{Files}
 use Rattle.ol_cli.specs.Evaluation.{start_net_of_term, ReadsLast}
 use Rattle.ol_cli.specs.SourceLaws.{TellsSources, WritesOfSources, ComparisonTellsSources}
 use Rattle.ol_cli.specs.SourceLaws.{CertifyNeverDiffers}
@@ -119,7 +120,7 @@ compares_both tr a b fuel heads x y t u names others f g c h =
     tells_moved x.names names y.names others x.term t y.term u c p.1 q.1 p.0 q.0
     (comparison_tells_sources tr a b fuel heads x y c h)
 
-compares : (files : Text → Option (List ℕ)) (tr : Translation) (w fuel heads : ℕ) (a b : Text)
+compares : (files : Files) (tr : Translation) (w fuel heads : ℕ) (a b : Text)
     (old new : Option (List ℕ)) (s : Status) (text : List ℕ) → s ≡ Done →
     Appended old text new → JobAnswer files s text (jobs.equal tr w fuel heads a b) →
     TellsSources (jobs.equal tr w fuel heads a b) files old new
@@ -132,14 +133,14 @@ compares files tr w fuel heads a b old new s text done ap
     λ m' n' e' d' t u names others f g. (
       h.0,
       compares_both tr m n fuel heads x y t u names others
-          (subst (λ m. IsFileOf m t names) (same_bytes (files a) m' m e' e) f)
-          (subst (λ n. IsFileOf n u others) (same_bytes (files b) n' n d' d) g) h.0 h.1,
+          (subst (λ m. IsFileOf m t names) (same_bytes (files 0 a) m' m e' e) f)
+          (subst (λ n. IsFileOf n u others) (same_bytes (files 1 b) n' n d' d) g) h.0 h.1,
       subst (λ text. Appended old text new) h.2 ap,
     )
 
 -- ---- the verdict of `certify`
 
-certifies : (files : Text → Option (List ℕ)) (tr : Translation) (b w fuel heads : ℕ) (name : Text)
+certifies : (files : Files) (tr : Translation) (b w fuel heads : ℕ) (name : Text)
     (old new : Option (List ℕ)) (s : Status) (text : List ℕ) → s ≡ Done → Appended old text new →
     JobAnswer files s text (jobs.certify tr b w fuel heads name) →
     TellsSources (jobs.certify tr b w fuel heads name) files old new
@@ -152,7 +153,7 @@ certifies files tr b w fuel heads name old new s text done ap (of_file {bytes = 
     )
 
 -- a job that is done
-by_job : (files : Text → Option (List ℕ)) (old new : Option (List ℕ)) (s : Status) (text : List ℕ) →
+by_job : (files : Files) (old new : Option (List ℕ)) (s : Status) (text : List ℕ) →
     s ≡ Done → Appended old text new → (asked : Asked) → JobAnswer files s text asked →
     TellsSources asked files old new
 by_job files old new s text done ap (jobs.equal tr w fuel heads a b) h =
@@ -168,7 +169,7 @@ by_job files old new s text done ap (jobs.certify tr b w f q name) h =
     certifies files tr b w f q name old new s text done ap h
 by_job files old new s text done ap (jobs.net tr from w f name) h = tt
 
-pub writes_of_sources : (words : List (String Global)) (files : Text → Option (List ℕ))
+pub writes_of_sources : (words : List (String Global)) (files : Files)
     (old new : Option (List ℕ)) (s : Status) → s ≡ Done →
     (text : List ℕ) × IsAnswer words files s text × Appended old text new →
     WritesOfSources words files old new

@@ -32,7 +32,7 @@ use Rattle.ol_words.specs.Asked.{Asked, run, walk, view, trace, check, gen, dema
 use Rattle.ol_words.specs.Asked as jobs
 use Rattle.ol_cli.specs.declared.status.Status.{Status}
 use Rattle.ol_cli.specs.declared.status.Status.TheVariants as status
-use Rattle.ol_cli.specs.Jobs.{AskFor, EachName, TellsTerm, TellsFiles, term_bytes, translation_in}
+use Rattle.ol_cli.specs.Jobs.{AskFor, Files, AreTold, TellsTerm, TellsFiles, term_bytes, translation_in}
 use Rattle.ol_cli.specs.Evaluation.{start_net_of_term, Prints, Walks}
 use Rattle.ol_cli.specs.DemandOrder.{Demands}
 use Rattle.ol_cli.specs.Answers.{Ends, IsTermFile, TermAnswer, FileAnswer, JobAnswer, of_file, made, IsAnswer, plain_run}
@@ -162,9 +162,9 @@ module _ (tr : Translation) (bytes : List ℕ) (fuel heads : ℕ) (name : Text) 
 same_bytes : (a b : List ℕ) → Some a ≡ Some b → a ≡ b
 same_bytes a b e = cc
 
-module _ (files : Text → Option (List ℕ)) (bytes : List ℕ) (st : Status) (text : List ℕ) (old new : Option (List ℕ)) (written : Appended old text new) (t : Tree) (names : List (List ℕ)) (f : IsFileOf bytes t names)
+module _ (files : Files) (bytes : List ℕ) (st : Status) (text : List ℕ) (old new : Option (List ℕ)) (written : Appended old text new) (t : Tree) (names : List (List ℕ)) (f : IsFileOf bytes t names)
     (journal : List Entry) (net : NamedNet NodeName) (complete : IsComplete net) where
-  answer_tells : (asked : Asked) → IsRun (start_net_of_term (translation_in asked) t names) 0 journal net → term_bytes files asked ≡ Some bytes → JobAnswer files st text asked → JobTells asked names journal net st old new
+  answer_tells : (asked : Asked) → IsRun (start_net_of_term (translation_in asked) t names) 0 journal net → term_bytes (files 0) asked ≡ Some bytes → JobAnswer files st text asked → JobTells asked names journal net st old new
   answer_tells (run tr workers fuel heads name) ran told (of_file {bytes = other} has e h) =
       let own = subst (λ b. FileAnswer (run tr workers fuel heads name) b st text) (same_bytes other bytes (sym e ∙ told)) h in
       runs_tell tr bytes workers fuel heads name t names f st text old new own written journal net ran complete
@@ -184,7 +184,7 @@ module _ (files : Text → Option (List ℕ)) (bytes : List ℕ) (st : Status) (
   answer_tells (jobs.net tr from w f name) ran told a = tt
   answer_tells (jobs.equal tr w f q first second) ran told a = tt
 
-pub answer_runs : (words : List (String Global)) (files : Text → Option (List ℕ)) (bytes : List ℕ) → TellsTerm files words bytes → (st : Status) (text : List ℕ) (old new : Option (List ℕ)) →
+pub answer_runs : (words : List (String Global)) (files : Files) (bytes : List ℕ) → TellsTerm (files 0) words bytes → (st : Status) (text : List ℕ) (old new : Option (List ℕ)) →
     IsAnswer words files st text → Appended old text new → EveryRunTells words bytes st old new
 answer_runs words files bytes tells st text old new a written asked t names j f journal net ran complete =
     answer_tells files bytes st text old new written t names f journal net complete asked ran (tells asked j) (own_job words files asked j st text a)
@@ -192,23 +192,23 @@ answer_runs words files bytes tells st text old new a written asked t names j f 
 -- ---- the call
 
 -- a job with one file, or none, whose bytes are told
-one_name : (contents : Text → Option (List ℕ)) (bytes : List ℕ) (name : Text) → contents name ≡ Some bytes → (place : ℕ) (n : Text) → slice_get (name ∷ []) place ≡ Some n → (b : List ℕ) × (contents n ≡ Some b)
-one_name contents bytes name told zero n is = let same : name ≡ n = cc in (bytes, ap contents (sym same) ∙ told)
+one_name : (contents : Files) (bytes : List ℕ) (name : Text) → contents 0 name ≡ Some bytes → (place : ℕ) (n : Text) → slice_get (name ∷ []) place ≡ Some n → (b : List ℕ) × (contents place n ≡ Some b)
+one_name contents bytes name told zero n is = let same : name ≡ n = cc in (bytes, ap (contents 0) (sym same) ∙ told)
 one_name contents bytes name told (suc k) n is = absurd (cc)
 
 -- what the call ended with is told by each complete run
-pub ends_run : (words : List (String Global)) (f f' given : ℕ) (contents : Text → Option (List ℕ)) (ended : Bool) → (Rose f f' → ⊥) → (bytes : List ℕ) → TellsTerm contents words bytes →
+pub ends_run : (words : List (String Global)) (f f' given : ℕ) (contents : Files) (ended : Bool) → (Rose f f' → ⊥) → (bytes : List ℕ) → TellsTerm (contents 0) words bytes →
     (r : Status) (g g' : ℕ) (old new : Option (List ℕ)) → (Rose g g' → ⊥) → r ≢ status.NoMemory →
     Ends words (record { faults = f; faults' = f'; contents = contents; given = given; ended = ended }) r g g' old new → EveryRunTells words bytes r old new
 ends_run words f f' given contents ended quiet bytes tells r g g' old new calm has e asked t names j file journal net ran complete = go asked j ran
   where
-    call : (asked : Asked) → AskFor words asked → IsRun (start_net_of_term (translation_in asked) t names) 0 journal net → EachName asked (λ n. (b : List ℕ) × (contents n ≡ Some b)) → JobTells asked names journal net r old new
+    call : (asked : Asked) → AskFor words asked → IsRun (start_net_of_term (translation_in asked) t names) 0 journal net → AreTold contents asked → JobTells asked names journal net r old new
     call here j ran told =
-        let all : TellsFiles contents words = λ asked j'. subst (λ a. EachName a (λ n. (b : List ℕ) × (contents n ≡ Some b))) (one_job words here asked j j') told in
+        let all : TellsFiles contents words = λ asked j'. subst (AreTold contents) (one_job words here asked j j') told in
         let x = ends_exact words f f' given contents ended quiet all r g g' old new calm has e in
         answer_runs words contents bytes tells r x.0 old new x.1 x.2 here t names j file journal net ran complete
 
-    no_name : (tr : Translation) (k : ℕ) → EachName (gen tr true k) (λ n. (b : List ℕ) × (contents n ≡ Some b))
+    no_name : (tr : Translation) (k : ℕ) → AreTold contents (gen tr true k)
     no_name tr k zero n is = absurd (cc)
     no_name tr k (suc place) n is = absurd (cc)
 

@@ -1,6 +1,6 @@
 -- The answer to a list of words and to the bytes of the files that they name: a text and a status, by the order of refusals; and what
 -- a call does, by what its source and its sink did.
-use Rattle.std.specs.Prelude.{◌≡◌, ◌≢◌, ℕ, ◌≤◌, ◌<◌, ◌⊎◌, Bool, true, false, List, length, take, codes, Option, Some, String}
+use Rattle.std.specs.Prelude.{◌≡◌, ◌≢◌, ℕ, ◌+◌, ◌≤◌, ◌<◌, ◌⊎◌, Bool, true, false, List, length, take, codes, Option, Some, String}
 use Rattle.std.specs.declared.alloc.Global.{Global}
 use Rattle.ol_io.specs.Outside.{Rose, Appended, IsAllOf, IsLonger}
 use Rattle.ol_term.specs.declared.translations.Translation.{Translation}
@@ -19,7 +19,7 @@ use Rattle.ol_view.specs.declared.answers.Check.{Check}
 use Rattle.ol_view.specs.Checks.{OnlyIsFound}
 use Rattle.ol_cli.specs.declared.status.Status.{Status}
 use Rattle.ol_cli.specs.declared.status.Status.TheVariants as status
-use Rattle.ol_cli.specs.Jobs.{AskFor, AskForNothing, HasTermFile, file_name, plain_fuel, plain_heads, translation_in}
+use Rattle.ol_cli.specs.Jobs.{AskFor, AskForNothing, Files, HasTermFile, file_name, plain_fuel, plain_heads, translation_in}
 use Rattle.ol_cli.specs.Texts.{line, usage_text, fault_text, bytes_text, depth_text, nodes_text, journal_text, net_bytes_text, syntax_text, spent_text, found_text}
 use Rattle.ol_cli.specs.Evaluation.{start_net_of_term, RunsOut, RunEnds, Prints, Walks, Views, TracesWhole, TracesFuel, ReadsLast, Certifies}
 use Rattle.ol_cli.specs.DemandOrder.{Demands, DemandRunsOut}
@@ -149,22 +149,22 @@ Makes translation true k st text = FileAnswer (plain_run translation) (doubled_t
 -- The answer to a job, where its files have these bytes: that to the file of its term; for `check`, where that file is no refusal, the
 -- answer to its journal; for `gen` the text that is made, or the answer of `run` to it; for `net` that to the file of a net; and for
 -- `equal` the answer of `run` to the first file where it isn't Done, else to the second where it isn't Done, else the comparison.
-pub data JobAnswer (files : Text → Option (List ℕ)) (st : Status) (text : List ℕ) : Asked → Type 0 where
-  of_file : {asked : Asked} {bytes : List ℕ} → HasTermFile asked → files (file_name asked) ≡ Some bytes →
+pub data JobAnswer (files : Files) (st : Status) (text : List ℕ) : Asked → Type 0 where
+  of_file : {asked : Asked} {bytes : List ℕ} → HasTermFile asked → files 0 (file_name asked) ≡ Some bytes →
       FileAnswer asked bytes st text → JobAnswer files st text asked
   of_journal : {translation : Translation} {term journal : Text} {bytes trace : List ℕ} {t : Tree} {names : List (List ℕ)} →
-      files term ≡ Some bytes → IsTermFile translation bytes t names → files journal ≡ Some trace →
+      files 0 term ≡ Some bytes → IsTermFile translation bytes t names → files 1 journal ≡ Some trace →
       JournalAnswer translation t names trace st text → JobAnswer files st text (check translation term journal)
   made : {translation : Translation} {runs : Bool} {k : ℕ} → Makes translation runs k st text → JobAnswer files st text (gen translation runs k)
-  of_net_file : {translation : Translation} {workers fuel : ℕ} {name : Text} {bytes : List ℕ} → files name ≡ Some bytes →
+  of_net_file : {translation : Translation} {workers fuel : ℕ} {name : Text} {bytes : List ℕ} → files 0 name ≡ Some bytes →
       NetFileAnswer fuel bytes st text → JobAnswer files st text (net translation false workers fuel name)
-  of_first : {translation : Translation} {workers fuel heads : ℕ} {a b : Text} {bytes : List ℕ} → files a ≡ Some bytes → st ≢ status.Done →
+  of_first : {translation : Translation} {workers fuel heads : ℕ} {a b : Text} {bytes : List ℕ} → files 0 a ≡ Some bytes → st ≢ status.Done →
       FileAnswer (run translation workers fuel heads a) bytes st text → JobAnswer files st text (equal translation workers fuel heads a b)
-  of_second : {translation : Translation} {workers fuel heads : ℕ} {a b : Text} {bytes bytes' : List ℕ} → files a ≡ Some bytes →
-      HasTree translation bytes fuel heads → files b ≡ Some bytes' → st ≢ status.Done →
+  of_second : {translation : Translation} {workers fuel heads : ℕ} {a b : Text} {bytes bytes' : List ℕ} → files 0 a ≡ Some bytes →
+      HasTree translation bytes fuel heads → files 1 b ≡ Some bytes' → st ≢ status.Done →
       FileAnswer (run translation workers fuel heads b) bytes' st text → JobAnswer files st text (equal translation workers fuel heads a b)
-  of_both : {translation : Translation} {workers fuel heads : ℕ} {a b : Text} {bytes bytes' : List ℕ} → files a ≡ Some bytes →
-      (x : HasTree translation bytes fuel heads) → files b ≡ Some bytes' → (y : HasTree translation bytes' fuel heads) → st ≡ status.Done →
+  of_both : {translation : Translation} {workers fuel heads : ℕ} {a b : Text} {bytes bytes' : List ℕ} → files 0 a ≡ Some bytes →
+      (x : HasTree translation bytes fuel heads) → files 1 b ≡ Some bytes' → (y : HasTree translation bytes' fuel heads) → st ≡ status.Done →
       Compares x y text → JobAnswer files st text (equal translation workers fuel heads a b)
 
 -- The first of a job's two files is refused for its bytes: that of `check` is no term file, and with that of `equal` `run` isn't Done.
@@ -175,29 +175,32 @@ RefusesFirst files (equal translation workers fuel heads a b) =
     (bytes : List ℕ) × (files a ≡ Some bytes) × ((st : Status) × (text : List ℕ) × (st ≢ status.Done) × FileAnswer (run translation workers fuel heads a) bytes st text)
 RefusesFirst files _ = ⊥
 
--- The answer to these words, where nothing fails and the files have these bytes.
-abbrev pub IsAnswer : List (String Global) → (Text → Option (List ℕ)) → Status → List ℕ → Type 0
+-- The answer to these words, where nothing fails and the files have these bytes, each when it is read.
+abbrev pub IsAnswer : List (String Global) → Files → Status → List ℕ → Type 0
 IsAnswer words files status.Usage text = AskForNothing words × (text ≡ usage_text)
 IsAnswer words files st text = (asked : Asked) × AskFor words asked × JobAnswer files st text asked
 
 -- ---- what the call did
 
--- What a source did in the call: its count of faults before and after, the bytes of each name where it tells them, how many
--- it gave, and whether it came to the end.
+-- What a source did in the call: its count of faults before and after, the bytes of each name at each reading where they are told, how
+-- many it gave last, and whether it came to the end.
 pub record Seen : Type 0 where
   pub faults : ℕ
   pub faults' : ℕ
-  pub contents : Text → Option (List ℕ)
+  pub contents : Files
   pub given : ℕ
   pub ended : Bool
 
-abbrev pub seen : (faults faults' : ℕ) → (Text → Option (List ℕ)) → (given : ℕ) → Bool → Seen
+abbrev pub seen : (faults faults' : ℕ) → Files → (given : ℕ) → Bool → Seen
 seen faults faults' contents given ended = record { faults = faults; faults' = faults'; contents = contents; given = given; ended = ended }
 
--- the same, by what a source tells of itself before the call and after
-abbrev pub seen_by : {S : Type 0} → (faults : S → ℕ) → (contents : S → Text → Option (List ℕ)) → (given : S → ℕ) → (ended : S → Bool) →
-    (old new : S) → Seen
-seen_by faults contents given ended old new = seen (faults old) (faults new) (contents old) (given new) (ended new)
+-- the same, by what a source tells of itself before the call and after, where the files have these bytes
+abbrev pub seen_of : {S : Type 0} → (faults : S → ℕ) → Files → (given : S → ℕ) → (ended : S → Bool) → (old new : S) → Seen
+seen_of faults files given ended old new = seen (faults old) (faults new) files (given new) (ended new)
+
+-- the same from the second reading on
+abbrev pub on_second : Seen → Seen
+on_second s = record s { contents = λ n. s.contents (n + 1) }
 
 -- this holds where neither the source nor the sink failed, by their counts of faults
 abbrev pub IfNoneFailed : (source source' sink sink' : ℕ) → Type 0 → Type 0
@@ -205,7 +208,7 @@ IfNoneFailed source source' sink sink' P = (Rose source source' → ⊥) → (Ro
 
 -- the source gave these bytes last, to their end and at most so many, and they are all bytes of the name where it tells them
 pub record GaveWithin (s : Seen) (most : ℕ) (name : Text) (bytes : List ℕ) : Type 0 where
-  pub whole : IsAllOf (s.contents name) bytes
+  pub whole : IsAllOf (s.contents 0 name) bytes
   pub counted : length bytes ≡ s.given
   pub within : s.given ≤ most
   pub to_end : s.ended ≡ true
@@ -213,7 +216,7 @@ pub record GaveWithin (s : Seen) (most : ℕ) (name : Text) (bytes : List ℕ) :
 -- the source gave more bytes than this last
 pub record GavePast (s : Seen) (most : ℕ) (name : Text) : Type 0 where
   pub past : most < s.given
-  pub longer : IsLonger (s.contents name) most
+  pub longer : IsLonger (s.contents 0 name) most
 
 -- the same of a term file
 abbrev pub GaveAll : Seen → Text → List ℕ → Type 0
@@ -253,18 +256,18 @@ pub data NetCause (s : Seen) (name : Text) (fuel : ℕ) (st : Status) (text : Li
 pub data JobCause (s : Seen) (st : Status) (text : List ℕ) : Asked → Type 0 where
   by_file : {asked : Asked} → HasTermFile asked → FileCause asked s st text → JobCause s st text asked
   by_journal : {translation : Translation} {term journal : Text} {bytes : List ℕ} {t : Tree} {names : List (List ℕ)} → s.faults' ≡ s.faults →
-      IsAllOf (s.contents term) bytes → IsTermFile translation bytes t names → JournalCause s journal translation t names st text →
+      IsAllOf (s.contents 0 term) bytes → IsTermFile translation bytes t names → JournalCause (on_second s) journal translation t names st text →
       JobCause s st text (check translation term journal)
   by_making : {translation : Translation} {runs : Bool} {k : ℕ} → s.faults' ≡ s.faults → Makes translation runs k st text → JobCause s st text (gen translation runs k)
   by_net_file : {translation : Translation} {workers fuel : ℕ} {name : Text} → NetCause s name fuel st text →
       JobCause s st text (net translation false workers fuel name)
   by_first : {translation : Translation} {workers fuel heads : ℕ} {a b : Text} → st ≢ status.Done →
       FileCause (run translation workers fuel heads a) s st text → JobCause s st text (equal translation workers fuel heads a b)
-  by_second : {translation : Translation} {workers fuel heads : ℕ} {a b : Text} {bytes : List ℕ} → IsAllOf (s.contents a) bytes →
-      HasTree translation bytes fuel heads → st ≢ status.Done → FileCause (run translation workers fuel heads b) s st text →
+  by_second : {translation : Translation} {workers fuel heads : ℕ} {a b : Text} {bytes : List ℕ} → IsAllOf (s.contents 0 a) bytes →
+      HasTree translation bytes fuel heads → st ≢ status.Done → FileCause (run translation workers fuel heads b) (on_second s) st text →
       JobCause s st text (equal translation workers fuel heads a b)
   by_both : {translation : Translation} {workers fuel heads : ℕ} {a b : Text} {bytes bytes' : List ℕ} → s.faults' ≡ s.faults →
-      IsAllOf (s.contents a) bytes → (x : HasTree translation bytes fuel heads) → GaveAll s b bytes' →
+      IsAllOf (s.contents 0 a) bytes → (x : HasTree translation bytes fuel heads) → GaveAll (on_second s) b bytes' →
       (y : HasTree translation bytes' fuel heads) → st ≡ status.Done → Compares x y text →
       JobCause s st text (equal translation workers fuel heads a b)
 

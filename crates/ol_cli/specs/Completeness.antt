@@ -10,7 +10,7 @@ use Rattle.ol_words.specs.Asked.{Asked, run, trace, check, gen, demand, certify}
 use Rattle.ol_words.specs.Asked as jobs
 use Rattle.ol_cli.specs.declared.status.Status.{Status}
 use Rattle.ol_cli.specs.declared.status.Status.TheVariants as status
-use Rattle.ol_cli.specs.Jobs.{AskFor, plain_fuel, term_bytes, translation_in}
+use Rattle.ol_cli.specs.Jobs.{AskFor, Files, plain_fuel, term_bytes, translation_in}
 use Rattle.ol_cli.specs.Evaluation.{RunEnds}
 use Rattle.ol_cli.specs.DemandOrder.{DemandEnds}
 use Rattle.ol_cli.specs.Answers.{IsAnswer, IsTermFile}
@@ -54,20 +54,21 @@ pub record HasNetWithin (files : Text → Option (List ℕ)) (name : Text) (fuel
 
 -- The job can be done, its files having these bytes. A term that is only made can always be. Two terms can be compared where `run`
 -- can be done on both.
-abbrev pub CanDo : (Text → Option (List ℕ)) → Asked → Type 0
+abbrev pub CanDo : Files → Asked → Type 0
 CanDo files (gen translation false k) = Unit {0}
-CanDo files (check translation term journal) = HasTermWithin files (check translation term journal) × HasJournalWithin files journal
-CanDo files (jobs.net translation false workers fuel name) = HasNetWithin files name fuel
+CanDo files (check translation term journal) =
+    HasTermWithin (files 0) (check translation term journal) × HasJournalWithin (files 1) journal
+CanDo files (jobs.net translation false workers fuel name) = HasNetWithin (files 0) name fuel
 CanDo files (jobs.equal translation workers fuel heads first second) =
-    HasTermWithin files (run translation workers fuel heads first) × HasTermWithin files (run translation workers fuel heads second)
-CanDo files asked = HasTermWithin files asked
+    HasTermWithin (files 0) (run translation workers fuel heads first) × HasTermWithin (files 1) (run translation workers fuel heads second)
+CanDo files asked = HasTermWithin (files 0) asked
 
 -- the words ask for a job that can be done
-abbrev pub AskForWhatCanBeDone : List (String Global) → (Text → Option (List ℕ)) → Type 0
+abbrev pub AskForWhatCanBeDone : List (String Global) → Files → Type 0
 AskForWhatCanBeDone words files = (asked : Asked) × AskFor words asked × CanDo files asked
 
 -- The job was done and its answer's text was written whole, or no memory was found and nothing was written.
-abbrev pub IsDoneOrNothing : List (String Global) → (Text → Option (List ℕ)) → Status → Option (List ℕ) → Option (List ℕ) → Type 0
+abbrev pub IsDoneOrNothing : List (String Global) → Files → Status → Option (List ℕ) → Option (List ℕ) → Type 0
 IsDoneOrNothing words files st old new =
     ((st ≡ status.Done) × ((text : List ℕ) × IsAnswer words files status.Done text × Appended old text new))
     ⊎ ((st ≡ status.NoMemory) × (new ≡ old))

@@ -2,6 +2,7 @@
 use Rattle.std.specs.Prelude.{◌≡◌, ℕ, true, false, Bool, Option, None, Some, List, [], ◌∷◌, String, length, slice_get}
 use Rattle.std.specs.declared.alloc.Global.{Global}
 use Rattle.std.specs.Option.{option_map_or}
+use Rattle.ol_io.specs.Readings.{Reading, AreOfSince}
 use Rattle.ol_term.specs.declared.translations.Translation.{Translation}
 use Rattle.ol_term.specs.Generated.{doubled_text}
 use Rattle.ol_words.specs.Texts.{Text}
@@ -65,10 +66,22 @@ EachName asked P = (place : ℕ) (name : Text) → slice_get (file_names asked) 
 abbrev pub IsKnownTo : (Text → Bool) → List (String Global) → Type 0
 IsKnownTo knows words = (asked : Asked) → AskFor words asked → EachName asked (λ name. knows name ≡ true)
 
--- the bytes of each file that the words ask for are told
-abbrev pub TellsFiles : (Text → Option (List ℕ)) → List (String Global) → Type 0
-TellsFiles contents words =
-    (asked : Asked) → AskFor words asked → EachName asked (λ name. (bytes : List ℕ) × (contents name ≡ Some bytes))
+-- the bytes that names have at each reading of a call, the first of which has the number 0
+abbrev pub Files : Type 0
+Files = ℕ → Text → Option (List ℕ)
+
+-- this holds of any files of which the readings are that were made between these two moments
+abbrev pub OfReadFiles : (old new : List Reading) → (Files → Type 0) → Type 0
+OfReadFiles old new Says = (files : Files) → AreOfSince files old new → Says files
+
+-- the bytes of each file of a job are told, those of its second file at the second reading
+abbrev pub AreTold : Files → Asked → Type 0
+AreTold files asked =
+    (place : ℕ) (name : Text) → slice_get (file_names asked) place ≡ Some name → (bytes : List ℕ) × (files place name ≡ Some bytes)
+
+-- the bytes of each file that the words ask for are
+abbrev pub TellsFiles : Files → List (String Global) → Type 0
+TellsFiles files words = (asked : Asked) → AskFor words asked → AreTold files asked
 
 -- the translation of a job
 abbrev pub translation_in : Asked → Translation

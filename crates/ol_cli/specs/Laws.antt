@@ -1,5 +1,5 @@
 -- The laws of answers.
-use Rattle.std.specs.Prelude.{◌≡◌, ℕ, false, List, ◌++◌, length, Option, String}
+use Rattle.std.specs.Prelude.{◌≡◌, ℕ, false, List, ◌++◌, length, String}
 use Rattle.std.specs.declared.alloc.Global.{Global}
 use Rattle.ol_term.specs.declared.translations.Translation.{Translation}
 use Rattle.ol_term.specs.Trees.{Tree}
@@ -10,10 +10,9 @@ use Rattle.ol_rules.specs.declared.journal.Counts.{Counts}
 use Rattle.ol_translate.specs.Translation.{translation_of}
 use Rattle.ol_cli.specs.declared.status.Status.{Status}
 use Rattle.ol_cli.specs.declared.status.Status.TheVariants as status
-use Rattle.ol_words.specs.Texts.{Text}
 use Rattle.ol_words.specs.Asked.{Asked, trace}
 use Rattle.ol_words.specs.Asked as jobs
-use Rattle.ol_cli.specs.Jobs.{AskFor, AskForNothing}
+use Rattle.ol_cli.specs.Jobs.{AskFor, AskForNothing, Files}
 use Rattle.ol_cli.specs.Texts.{counts_text}
 use Rattle.ol_cli.specs.Answers.{IsAnswer}
 use Rattle.ol_cli.specs.NetAnswers.{NetRunEnds}
@@ -37,7 +36,7 @@ HaveOneText _ _ text text' = text ≡ text'
 -- The same words and files have one answer: each status comes just where the answer is that, and so does each text, as far as the job
 -- tells one.
 abbrev pub OneAnswer : Type 0
-OneAnswer = (words : List (String Global)) (files : Text → Option (List ℕ)) (status status' : Status) (text text' : List ℕ) →
+OneAnswer = (words : List (String Global)) (files : Files) (status status' : Status) (text text' : List ℕ) →
     IsAnswer words files status text → IsAnswer words files status' text' →
     (status ≡ status') × (AskForNothing words → text ≡ text')
     × ((asked : Asked) → AskFor words asked → HaveOneText asked status text text')

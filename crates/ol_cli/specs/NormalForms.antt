@@ -14,7 +14,7 @@ use Rattle.ol_lines.specs.NormalForms.{AreConvertible}
 use Rattle.ol_words.specs.Texts.{Text, texts_of}
 use Rattle.ol_words.specs.Lines.{is_dashed}
 use Rattle.ol_words.specs.Asked.{Asked, run, walk, gen, demand, equal}
-use Rattle.ol_cli.specs.Jobs.{AskFor}
+use Rattle.ol_cli.specs.Jobs.{AskFor, Files}
 
 -- these jobs write a term, and it stands on the first line
 abbrev pub PrintsTerm : Asked → Type 0
@@ -71,12 +71,12 @@ SaysOfTwo t u line = (line ≡ codes "equal" → AreConvertible t u)
     × ((rest : List ℕ) → line ≡ codes "different" ++ rest → AreConvertible t u → ⊥)
 
 -- the line of `equal` says this of the terms of its two files
-abbrev pub LineSaysOfTwo : List (String Global) → (Text → Option (List ℕ)) →
-    Option (List ℕ) → Option (List ℕ) → Type 0
+abbrev pub LineSaysOfTwo : List (String Global) → Files → Option (List ℕ) → Option (List ℕ) →
+    Type 0
 LineSaysOfTwo words files old new =
     (translation : Translation) (workers fuel heads : ℕ) (a b : Text) →
     AskFor words (equal translation workers fuel heads a b) →
-    (bytes bytes' : List ℕ) → files a ≡ Some bytes → files b ≡ Some bytes' →
+    (bytes bytes' : List ℕ) → files 0 a ≡ Some bytes → files 1 b ≡ Some bytes' →
     (t u : Named) → IsText bytes t → IsText bytes' u → FirstLine (SaysOfTwo t u) old new
 
 -- ---- words without options
@@ -95,9 +95,9 @@ LineIsOf verb source line = ((result : Named) → IsText line result → IsNorma
     × ((verb ≡ codes "walk" → ⊥) →
     (before after : List ℕ) → line ≡ before ++ 63 ∷ after → HasNoNormalForm source)
 
-abbrev pub PlainLineSays : List (String Global) → (Text → Option (List ℕ)) →
-    Option (List ℕ) → Option (List ℕ) → Type 0
+abbrev pub PlainLineSays : List (String Global) → Files → Option (List ℕ) → Option (List ℕ) →
+    Type 0
 PlainLineSays words files old new = (verb name : Text) → ArePlain words verb name →
     (verb ≡ codes "run") ⊎ ((verb ≡ codes "demand") ⊎ (verb ≡ codes "walk")) →
-    (bytes : List ℕ) → files name ≡ Some bytes → (source : Named) → IsText bytes source →
+    (bytes : List ℕ) → files 0 name ≡ Some bytes → (source : Named) → IsText bytes source →
     FirstLine (LineIsOf verb source) old new

@@ -11,11 +11,10 @@ use Rattle.ol_equal.specs.declared.answers.Compared.{Compared}
 use Rattle.ol_equal.specs.Comparing.{IsComparison}
 use Rattle.ol_equal.specs.Texts.{compared_text}
 use Rattle.ol_confluence.specs.Compared.{TellsTerms}
-use Rattle.ol_words.specs.Texts.{Text}
 use Rattle.ol_words.specs.Asked.{Asked, certify, equal}
 use Rattle.ol_cli.specs.Texts.{line}
 use Rattle.ol_cli.specs.VerdictTexts.{verdict_text}
-use Rattle.ol_cli.specs.Jobs.{AskFor}
+use Rattle.ol_cli.specs.Jobs.{AskFor, Files}
 use Rattle.ol_cli.specs.Evaluation.{Certifies}
 use Rattle.ol_cli.specs.Answers.{HasTree}
 
@@ -23,10 +22,9 @@ use Rattle.ol_cli.specs.Answers.{HasTree}
 -- that they have one normal form, and `different at`, that they aren't convertible; a free name of
 -- the one is one of the other where the bytes are the same. The verdict of `certify` is never
 -- `differs`.
-abbrev pub TellsSources : Asked → (Text → Option (List ℕ)) → Option (List ℕ) → Option (List ℕ) →
-    Type 0
+abbrev pub TellsSources : Asked → Files → Option (List ℕ) → Option (List ℕ) → Type 0
 TellsSources (equal translation workers fuel heads a b) files old new =
-    (bytes bytes' : List ℕ) → files a ≡ Some bytes → files b ≡ Some bytes' →
+    (bytes bytes' : List ℕ) → files 0 a ≡ Some bytes → files 1 b ≡ Some bytes' →
     (t u : Tree) (names others : List (List ℕ)) → IsFileOf bytes t names →
     IsFileOf bytes' u others →
     (c : Compared) × TellsTerms (record { a = names; b = others }) t u c
@@ -37,8 +35,8 @@ TellsSources (certify translation steps workers fuel heads name) files old new =
 TellsSources _ files old new = Unit {0}
 
 -- the same of the words
-abbrev pub WritesOfSources : List (String Global) → (Text → Option (List ℕ)) →
-    Option (List ℕ) → Option (List ℕ) → Type 0
+abbrev pub WritesOfSources : List (String Global) → Files → Option (List ℕ) → Option (List ℕ) →
+    Type 0
 WritesOfSources words files old new =
     (asked : Asked) → AskFor words asked → TellsSources asked files old new
 

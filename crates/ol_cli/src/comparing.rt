@@ -1,8 +1,10 @@
 //! The job `equal`: two terms, each read back from the net that its workers leave.
-ghost use Rattle.std.specs.Prelude.{◌≡◌, ◌≤◌, ◌+◌, length, true, IfOk, None};
+ghost use Rattle.std.specs.Prelude.{◌≡◌, ◌≤◌, ◌+◌, ◌∷◌, length, true, IfOk, None};
+ghost use Rattle.ol_io.specs.Readings.{Reading, AreOfSince};
+ghost use Rattle.ol_cli.specs.Jobs.{Files};
 ghost use Rattle.ol_readback.specs.Texts.{AreNamed};
 ghost use Rattle.ol_words.specs.Asked.{equal};
-ghost use Rattle.ol_cli.specs.Answers.{JobCause, RefusesFirst, seen_by};
+ghost use Rattle.ol_cli.specs.Answers.{JobCause, RefusesFirst, seen_of};
 ghost use Rattle.ol_cli.specs.Sides.{ComesOf, IsSideOf, EndsSecond};
 
 use crate::evaluation::{Answer, RunNumbers, refusal};
@@ -45,17 +47,22 @@ pub fn answer_equal<R: Threads + Wait + Sync, S: Source, G: Gate + Sync>(
     requires workers { (1 ≤ numbers.workers) × (numbers.workers ≤ 64) }
     requires fuel { numbers.fuel ≤ 8000000 }
     requires heads { 1 ≤ numbers.heads }
-    ensures caused { IfOk result (λ a. JobCause
-        (seen_by S.faults S.contents S.given S.ended src.old src.new) a.status a.text.items
+    ensures caused { (files : Files)
+        → AreOfSince files (S.readings src.old) (S.readings src.new)
+        → IfOk result (λ a. JobCause
+        (seen_of S.faults files S.given S.ended src.old src.new) a.status a.text.items
         (equal numbers.translation numbers.workers numbers.fuel numbers.heads
         first.now second.now)) }
     ensures closed { IfOk result (λ a. a.closed ≡ None) }
     ensures begins { S.begins src.new ≤ S.begins src.old + 2 }
-    ensures first_alone { RefusesFirst (S.contents src.old)
+    ensures first_alone { (files : Files)
+        → AreOfSince files (S.readings src.old) (S.readings src.new)
+        → RefusesFirst (files 0)
         (equal numbers.translation numbers.workers numbers.fuel numbers.heads
         first.now second.now) → S.begins src.new ≤ S.begins src.old + 1 }
     ensures knows { S.knows src.new ≡ S.knows src.old }
     ensures contents { S.contents src.new ≡ S.contents src.old }
+    ensures told { AreOfSince (λ _. S.contents src.old) (S.readings src.old) (S.readings src.new) }
 {
     match read_side(rt, alloc, numbers, first, src, gate)? {
         Side::Refused(answer) => Ok(answer),
@@ -82,13 +89,16 @@ fn answer_second<R: Threads + Wait + Sync, S: Source, G: Gate + Sync>(
     requires workers { (1 ≤ numbers.workers) × (numbers.workers ≤ 64) }
     requires fuel { numbers.fuel ≤ 8000000 }
     requires heads { 1 ≤ numbers.heads }
-    ensures caused { IfOk result (λ a. EndsSecond numbers tree.now names.now
-        (seen_by S.faults S.contents S.given S.ended src.old src.new)
+    ensures caused { (files : Files)
+        → AreOfSince files (S.readings src.old) (S.readings src.new)
+        → IfOk result (λ a. EndsSecond numbers tree.now names.now
+        (seen_of S.faults files S.given S.ended src.old src.new)
         second.now a.status a.text.items) }
     ensures closed { IfOk result (λ a. a.closed ≡ None) }
     ensures begins { S.begins src.new ≤ S.begins src.old + 1 }
     ensures knows { S.knows src.new ≡ S.knows src.old }
     ensures contents { S.contents src.new ≡ S.contents src.old }
+    ensures told { AreOfSince (λ _. S.contents src.old) (S.readings src.old) (S.readings src.new) }
 {
     match read_side(rt, alloc, numbers, second, src, gate)? {
         Side::Refused(answer) => Ok(answer),
@@ -117,11 +127,15 @@ fn read_side<R: Threads + Wait + Sync, S: Source, G: Gate + Sync>(
     requires workers { (1 ≤ numbers.workers) × (numbers.workers ≤ 64) }
     requires fuel { numbers.fuel ≤ 8000000 }
     requires heads { 1 ≤ numbers.heads }
-    ensures caused { IfOk result (λ side. ComesOf numbers
-        (seen_by S.faults S.contents S.given S.ended src.old src.new) name.now side) }
+    ensures caused { (files : Files)
+        → AreOfSince files (S.readings src.old) (S.readings src.new)
+        → IfOk result (λ side. ComesOf numbers
+        (seen_of S.faults files S.given S.ended src.old src.new) name.now side) }
     ensures begins { S.begins src.new ≤ S.begins src.old + 1 }
     ensures knows { S.knows src.new ≡ S.knows src.old }
     ensures contents { S.contents src.new ≡ S.contents src.old }
+    ensures told { AreOfSince (λ _. S.contents src.old) (S.readings src.old) (S.readings src.new) }
+    ensures one { (r : Reading) × (S.readings src.new ≡ r ∷ S.readings src.old) }
 {
     match read_all(alloc, src, name, MOST_BYTES) {
         Err(ReadAll::NoMemory) => Err(NoMemory),

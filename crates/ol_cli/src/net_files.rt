@@ -1,10 +1,12 @@
 //! The job `net` on a file with a net.
 ghost use Rattle.std.specs.Prelude.{◌≡◌, ◌≤◌, ◌<◌, ◌+◌, ◌++◌, List, ℕ, length, count_by, is_some, true, IfOk, OnOk, None};
+ghost use Rattle.ol_io.specs.Readings.{AreOfSince};
 ghost use Rattle.ol_net.specs.Numbered.{net_of};
 ghost use Rattle.ol_netfile.specs.StuckPairs.{IsPairsText};
 ghost use Rattle.ol_netfile.specs.Written.{net_text};
 ghost use Rattle.ol_wire.specs.Sizes.{IsSmallNet};
-ghost use Rattle.ol_cli.specs.Answers.{NetCause, seen_by};
+ghost use Rattle.ol_cli.specs.Jobs.{Files};
+ghost use Rattle.ol_cli.specs.Answers.{NetCause, seen_of};
 ghost use Rattle.ol_cli.specs.NetAnswers.{NetAnswer, NetFileAnswer};
 ghost use Rattle.ol_cli.specs.NetLines.{AreLinesOf};
 ghost use Rattle.ol_cli.specs.Texts.{counts_text};
@@ -40,13 +42,16 @@ pub fn answer_net<R: Threads + Wait + Sync, S: Source, G: Gate + Sync>(
     requires known { S.knows src.old name.now ≡ true }
     requires workers { (1 ≤ workers) × (workers ≤ 64) }
     requires fuel { fuel ≤ 8000000 }
-    ensures caused { IfOk result (λ a. NetCause
-        (seen_by S.faults S.contents S.given S.ended src.old src.new)
+    ensures caused { (files : Files)
+        → AreOfSince files (S.readings src.old) (S.readings src.new)
+        → IfOk result (λ a. NetCause
+        (seen_of S.faults files S.given S.ended src.old src.new)
         name.now fuel a.status a.text.items) }
     ensures closed { IfOk result (λ a. a.closed ≡ None) }
     ensures begins { S.begins src.new ≤ S.begins src.old + 1 }
     ensures knows { S.knows src.new ≡ S.knows src.old }
     ensures contents { S.contents src.new ≡ S.contents src.old }
+    ensures told { AreOfSince (λ _. S.contents src.old) (S.readings src.old) (S.readings src.new) }
 {
     match read_all(alloc, src, name, MOST_NET_BYTES) {
         Err(ReadAll::NoMemory) => Err(NoMemory),

@@ -1,13 +1,14 @@
 //! The top call.
-ghost use Rattle.std.specs.Prelude.{List, ℕ, ◌≢◌, ◌≤◌, ◌+◌, ◌≡◌, ◌<◌, ◌⊎◌, true, IfOk, None};
+ghost use Rattle.std.specs.Prelude.{List, ◌++◌, ℕ, ◌≢◌, ◌≤◌, ◌+◌, ◌≡◌, ◌<◌, ◌⊎◌, true, IfOk, None};
 ghost use Rattle.ol_io.specs.Outside.{Rose, Appended};
+ghost use Rattle.ol_io.specs.Readings.{Reading, AreOfSince, handed};
 ghost use Rattle.ol_term.specs.Generated.{doubled_text};
 ghost use Rattle.ol_wire.specs.Sizes.{IsSmallNet};
 ghost use Rattle.ol_words.specs.Asked.{Asked, asked_by, check, gen};
 ghost use Rattle.ol_cli.specs.Texts.{line};
-ghost use Rattle.ol_cli.specs.Jobs.{AskFor, AskForNothing, EachName, IsKnownTo, TellsTerm, TellsFiles, count_of_files, files_of, file_name};
+ghost use Rattle.ol_cli.specs.Jobs.{AskFor, AskForNothing, EachName, IsKnownTo, Files, OfReadFiles, TellsTerm, TellsFiles, count_of_files, files_of, file_name};
 ghost use Rattle.ol_cli.specs.Inside.{IsReadWhereTold, IsOnTerm, IsWithinLimits, EndsJournal};
-ghost use Rattle.ol_cli.specs.Answers.{IfNoneFailed, seen_by, Cause, Ends, FileCause, IsAnswer, JobCause, Makes, RefusesFirst};
+ghost use Rattle.ol_cli.specs.Answers.{IfNoneFailed, seen_of, Cause, Ends, FileCause, IsAnswer, JobCause, Makes, RefusesFirst};
 ghost use Rattle.ol_cli.specs.Completeness.{AskForWhatCanBeDone, IsDoneOrNothing};
 ghost use Rattle.ol_cli.specs.Prepared.{HoldsOfTerms};
 ghost use Rattle.ol_cli.specs.Sources.{EveryRunTells, WritesTree};
@@ -149,27 +150,81 @@ pub fn ol<R: Threads + Wait + Sync, S: Source, W: Sink, G: Gate + Sync>(
     // The source knows the names of the job's files.
     requires known { IsKnownTo (S.knows src.old) words.now.items }
 
+    // What is said of files below holds of any files that the readings of this call are of: of
+    // those whose bytes the source tells, and of those that the readings make (`handed`).
+    ensures told { AreOfSince (λ _. S.contents src.old) (S.readings src.old) (S.readings src.new) }
+
+    // In the words of terms alone, for the words `ol run NAME`, `ol demand NAME` and `ol walk
+    // NAME`: where the first line that is written is a text of a term, that term is the normal form
+    // of the term in the file; and where `run` or `demand` has put a `?` in it, the latter has none.
+    ensures plain { OfReadFiles (S.readings src.old) (S.readings src.new) (λ files.
+        IfNoneFailed (S.faults src.old) (S.faults src.new) (W.faults out.old) (W.faults out.new)
+        (result.status ≡ Status.Done
+        → PlainLineSays words.now.items files (W.taken out.old) (W.taken out.new))) }
+
+    // The same of all words: where `run`, `walk`, `demand` or `gen --run` is done, and the first
+    // line that is written is a text of a term, that term is the normal form of the job's own term.
+    ensures normal_form { OfReadFiles (S.readings src.old) (S.readings src.new) (λ files.
+        (bytes : List ℕ) → TellsTerm (files 0) words.now.items bytes
+        → IfNoneFailed (S.faults src.old) (S.faults src.new) (W.faults out.old) (W.faults out.new)
+        (result.status ≡ Status.Done → LineSays IsItsNormalForm words.now.items bytes
+        (W.taken out.old) (W.taken out.new))) }
+
+    // Where a `?` stands on the line that `run`, `demand` or `gen --run` writes, the job's own term
+    // has no normal form.
+    ensures no_normal_form { OfReadFiles (S.readings src.old) (S.readings src.new) (λ files.
+        (bytes : List ℕ) → TellsTerm (files 0) words.now.items bytes
+        → IfNoneFailed (S.faults src.old) (S.faults src.new) (W.faults out.old) (W.faults out.new)
+        (result.status ≡ Status.Done → LineSays TellsOfNone words.now.items bytes
+        (W.taken out.old) (W.taken out.new))) }
+
+    // And where the job's own term has a normal form, with no more variables than there are heads
+    // that `demand` was asked for, that is the term that `demand` writes.
+    ensures demanded { OfReadFiles (S.readings src.old) (S.readings src.new) (λ files.
+        (bytes : List ℕ) → TellsTerm (files 0) words.now.items bytes
+        → IfNoneFailed (S.faults src.old) (S.faults src.new) (W.faults out.old) (W.faults out.new)
+        (result.status ≡ Status.Done → LineSays IsFoundOnDemand words.now.items bytes
+        (W.taken out.old) (W.taken out.new))) }
+
+    // Where `equal` writes `equal`, the terms of its two files are convertible, and where it writes
+    // `different`, they aren't. Free names are the same where their bytes are.
+    ensures two_terms { OfReadFiles (S.readings src.old) (S.readings src.new) (λ files.
+        TellsFiles files words.now.items
+        → IfNoneFailed (S.faults src.old) (S.faults src.new) (W.faults out.old) (W.faults out.new)
+        (result.status ≡ Status.Done → LineSaysOfTwo words.now.items files
+        (W.taken out.old) (W.taken out.new))) }
+
     // Each status has its cause, and its text is appended whole, or a prefix of it where the sink
     // failed.
-    ensures ends { Ends words.now.items
-        (seen_by S.faults S.contents S.given S.ended src.old src.new)
-        result.status (W.faults out.old) (W.faults out.new) (W.taken out.old) (W.taken out.new) }
+    ensures ends { OfReadFiles (S.readings src.old) (S.readings src.new) (λ files.
+        Ends words.now.items (seen_of S.faults files S.given S.ended src.old src.new)
+        result.status (W.faults out.old) (W.faults out.new) (W.taken out.old) (W.taken out.new)) }
 
-    // Where the source tells the bytes of the job's files and nothing fails, the status and the
-    // text are those of the answer.
-    ensures exact { TellsFiles (S.contents src.old) words.now.items
+    // Where the bytes of the job's files are told and nothing fails, the status and the text are
+    // those of the answer.
+    ensures exact { OfReadFiles (S.readings src.old) (S.readings src.new) (λ files.
+        TellsFiles files words.now.items
         → IfNoneFailed (S.faults src.old) (S.faults src.new) (W.faults out.old) (W.faults out.new)
         (result.status ≢ Status.NoMemory
-        → (text : List ℕ) × IsAnswer words.now.items (S.contents src.old) result.status text
+        → (text : List ℕ) × IsAnswer words.now.items files result.status text
+        × Appended (W.taken out.old) text (W.taken out.new))) }
+
+    // So it is of the bytes that were handed over, whatever any file holds: some readings were
+    // made, and where nothing fails, the status and the text are those of the answer to them.
+    ensures handed { (rs : List Reading) × (S.readings src.new ≡ rs ++ S.readings src.old)
+        × IfNoneFailed (S.faults src.old) (S.faults src.new) (W.faults out.old) (W.faults out.new)
+        (result.status ≢ Status.NoMemory
+        → (text : List ℕ) × IsAnswer words.now.items (handed rs) result.status text
         × Appended (W.taken out.old) text (W.taken out.new)) }
 
     // Where the words ask for a job that can be done, its files being within the limits and in the
     // grammar and its run ending within the fuel, and where nothing fails, the job is done and its
     // answer's text written, or no memory was found and nothing was written.
-    ensures completeness { AskForWhatCanBeDone words.now.items (S.contents src.old)
+    ensures completeness { OfReadFiles (S.readings src.old) (S.readings src.new) (λ files.
+        AskForWhatCanBeDone words.now.items files
         → IfNoneFailed (S.faults src.old) (S.faults src.new) (W.faults out.old) (W.faults out.new)
-        (IsDoneOrNothing words.now.items (S.contents src.old)
-        result.status (W.taken out.old) (W.taken out.new)) }
+        (IsDoneOrNothing words.now.items files
+        result.status (W.taken out.old) (W.taken out.new))) }
 
     // And where `run`, `walk`, `demand` or `gen --run` is done, this holds of the job's own term
     // and the tree whose text is written, each place of which has a head, is a `?` or is a `...`.
@@ -184,65 +239,38 @@ pub fn ol<R: Threads + Wait + Sync, S: Source, W: Sink, G: Gate + Sync>(
     //   length give no head in the untouched net in its place, head reduction of the term there has
     //   no end, and the whole term has no normal form. Of a `?` of `walk` nothing more is said.
     // - Each pair that `demand` rewrites is, by birth names, rewritten in every complete run.
-    ensures tree { (bytes : List ℕ) → TellsTerm (S.contents src.old) words.now.items bytes
+    ensures tree { OfReadFiles (S.readings src.old) (S.readings src.new) (λ files.
+        (bytes : List ℕ) → TellsTerm (files 0) words.now.items bytes
         → IfNoneFailed (S.faults src.old) (S.faults src.new) (W.faults out.old) (W.faults out.new)
         (result.status ≡ Status.Done
-        → WritesTree words.now.items bytes (W.taken out.old) (W.taken out.new)) }
+        → WritesTree words.now.items bytes (W.taken out.old) (W.taken out.new))) }
 
     // Where `equal` is done, the line that is written tells of the terms of its files: `equal`,
     // that they have one normal form, and `different at`, that they aren't convertible, whatever is
     // reduced. A free name of the one is one of the other where the bytes are the same. And the
     // verdict that `certify` writes is never `differs`.
-    ensures sources { TellsFiles (S.contents src.old) words.now.items
+    ensures sources { OfReadFiles (S.readings src.old) (S.readings src.new) (λ files.
+        TellsFiles files words.now.items
         → IfNoneFailed (S.faults src.old) (S.faults src.new) (W.faults out.old) (W.faults out.new)
         (result.status ≡ Status.Done
-        → WritesOfSources words.now.items (S.contents src.old)
-        (W.taken out.old) (W.taken out.new)) }
-
-    // In the words of terms alone, for the words `ol run NAME`, `ol demand NAME` and `ol walk NAME`:
-    // where the first line that is written is a text of a term, that term is the normal form of the
-    // term in the file; and where `run` or `demand` has put a `?` in it, the latter has none.
-    ensures plain { IfNoneFailed (S.faults src.old) (S.faults src.new)
-        (W.faults out.old) (W.faults out.new)
-        (result.status ≡ Status.Done → PlainLineSays words.now.items (S.contents src.old)
-        (W.taken out.old) (W.taken out.new)) }
-
-    // The same of all words: where `run`, `walk`, `demand` or `gen --run` is done, and the
-    // first line that is written is a text of a term, that term is the normal form of the job's own
-    // term.
-    ensures normal_form { (bytes : List ℕ) → TellsTerm (S.contents src.old) words.now.items bytes
-        → IfNoneFailed (S.faults src.old) (S.faults src.new) (W.faults out.old) (W.faults out.new)
-        (result.status ≡ Status.Done → LineSays IsItsNormalForm words.now.items bytes
-        (W.taken out.old) (W.taken out.new)) }
-
-    // Where a `?` stands on the line that `run`, `demand` or `gen --run` writes, the job's own term
-    // has no normal form.
-    ensures no_normal_form { (bytes : List ℕ) → TellsTerm (S.contents src.old) words.now.items bytes
-        → IfNoneFailed (S.faults src.old) (S.faults src.new) (W.faults out.old) (W.faults out.new)
-        (result.status ≡ Status.Done → LineSays TellsOfNone words.now.items bytes
-        (W.taken out.old) (W.taken out.new)) }
-
-    // And where the job's own term has a normal form, with no more variables than there are heads
-    // that `demand` was asked for, that is the term that `demand` writes.
-    ensures demanded { (bytes : List ℕ) → TellsTerm (S.contents src.old) words.now.items bytes
-        → IfNoneFailed (S.faults src.old) (S.faults src.new) (W.faults out.old) (W.faults out.new)
-        (result.status ≡ Status.Done → LineSays IsFoundOnDemand words.now.items bytes
-        (W.taken out.old) (W.taken out.new)) }
-
-    // Where `equal` writes `equal`, the terms of its two files are convertible, and where it writes
-    // `different`, they aren't. Free names are the same where their bytes are.
-    ensures two_terms { TellsFiles (S.contents src.old) words.now.items
-        → IfNoneFailed (S.faults src.old) (S.faults src.new) (W.faults out.old) (W.faults out.new)
-        (result.status ≡ Status.Done → LineSaysOfTwo words.now.items (S.contents src.old)
-        (W.taken out.old) (W.taken out.new)) }
+        → WritesOfSources words.now.items files (W.taken out.old) (W.taken out.new))) }
 
     // And each complete run of the own term of `run` or `gen --run`, whatever pairs it takes first,
     // prints what is written, or is longer than the fuel where that is spent. It is so too where
     // the fuel of `demand` is spent.
-    ensures every_run { (bytes : List ℕ) → TellsTerm (S.contents src.old) words.now.items bytes
+    ensures every_run { OfReadFiles (S.readings src.old) (S.readings src.new) (λ files.
+        (bytes : List ℕ) → TellsTerm (files 0) words.now.items bytes
         → IfNoneFailed (S.faults src.old) (S.faults src.new) (W.faults out.old) (W.faults out.new)
         (result.status ≢ Status.NoMemory → EveryRunTells words.now.items bytes
-        result.status (W.taken out.old) (W.taken out.new)) }
+        result.status (W.taken out.old) (W.taken out.new))) }
+
+    // Where `run`, `trace` or `gen --run` was done or its fuel was spent, the closed words are
+    // those of a table that was made from the net of the job's term, with the job's fuel and as
+    // many seats as the job has workers, which for `gen --run` are those of `run` without options,
+    // and the text is what their journal tells. In every other case there are none.
+    ensures closed { OfReadFiles (S.readings src.old) (S.readings src.new) (λ files.
+        Hands words.now.items (seen_of S.faults files S.given S.ended src.old src.new)
+        result.status result.closed (W.taken out.old) (W.taken out.new)) }
 
     // A fault that is told has risen, and one that has risen is told.
     ensures read { result.status ≡ Status.ReadFault
@@ -264,22 +292,14 @@ pub fn ol<R: Threads + Wait + Sync, S: Source, W: Sink, G: Gate + Sync>(
     ensures done { 0 < files_of words.now.items → result.status ≡ Status.Done
         → S.ended src.new ≡ true }
 
-    // Where `run`, `trace` or `gen --run` was done or its fuel was spent, the closed words are
-    // those of a table that was made from the net of the job's term, with the job's fuel and as
-    // many seats as the job has workers, which for `gen --run` are those of `run` without options,
-    // and the text is what their journal tells. In every other case there are none.
-    ensures closed { Hands words.now.items
-        (seen_by S.faults S.contents S.given S.ended src.old src.new)
-        result.status result.closed (W.taken out.old) (W.taken out.new) }
-
     // It begins as many names at most as the job has files. It knows of no name but those of its
     // job's files.
     ensures begins { S.begins src.new ≤ S.begins src.old + files_of words.now.items }
 
-    // Where the source tells the bytes of the first of two files, and it is refused for them, the
-    // second isn't begun.
-    ensures first_alone { (asked : Asked) → AskFor words.now.items asked
-        → RefusesFirst (S.contents src.old) asked → S.begins src.new ≤ S.begins src.old + 1 }
+    // Where the first of two files is refused for its bytes, the second isn't begun.
+    ensures first_alone { OfReadFiles (S.readings src.old) (S.readings src.new) (λ files.
+        (asked : Asked) → AskFor words.now.items asked
+        → RefusesFirst (files 0) asked → S.begins src.new ≤ S.begins src.old + 1) }
 
     // The source knows the names that it knew and has the bytes that it had, so `ol` can be called
     // again.
@@ -299,20 +319,29 @@ fn answer<R: Threads + Wait + Sync, S: Source, W: Sink, G: Gate + Sync>(
     gate: &G,
 ) -> Outcome
     requires known { IsKnownTo (S.knows src.old) words.now.items }
-    ensures ends { Ends words.now.items
-        (seen_by S.faults S.contents S.given S.ended src.old src.new)
+    ensures ends { (files : Files)
+        → AreOfSince files (S.readings src.old) (S.readings src.new)
+        → Ends words.now.items
+        (seen_of S.faults files S.given S.ended src.old src.new)
         result.status (W.faults out.old) (W.faults out.new) (W.taken out.old) (W.taken out.new) }
-    ensures read_again { (bytes : List ℕ) → TellsTerm (S.contents src.old) words.now.items bytes
+    ensures read_again { (files : Files)
+        → AreOfSince files (S.readings src.old) (S.readings src.new)
+        → (bytes : List ℕ) → TellsTerm (files 0) words.now.items bytes
         → result.status ≡ Status.Done
         → WritesReadable words.now.items bytes (W.taken out.old) (W.taken out.new) }
-    ensures closed { Hands words.now.items
-        (seen_by S.faults S.contents S.given S.ended src.old src.new)
+    ensures closed { (files : Files)
+        → AreOfSince files (S.readings src.old) (S.readings src.new)
+        → Hands words.now.items
+        (seen_of S.faults files S.given S.ended src.old src.new)
         result.status result.closed (W.taken out.old) (W.taken out.new) }
     ensures begins { S.begins src.new ≤ S.begins src.old + files_of words.now.items }
-    ensures first_alone { (asked : Asked) → AskFor words.now.items asked
-        → RefusesFirst (S.contents src.old) asked → S.begins src.new ≤ S.begins src.old + 1 }
+    ensures first_alone { (files : Files)
+        → AreOfSince files (S.readings src.old) (S.readings src.new)
+        → (asked : Asked) → AskFor words.now.items asked
+        → RefusesFirst (files 0) asked → S.begins src.new ≤ S.begins src.old + 1 }
     ensures knows { S.knows src.new ≡ S.knows src.old }
     ensures contents { S.contents src.new ≡ S.contents src.old }
+    ensures told { AreOfSince (λ _. S.contents src.old) (S.readings src.old) (S.readings src.new) }
 {
     match plan(rt, alloc, words, src, gate) {
         Err(NoMemory) => Outcome {
@@ -347,19 +376,28 @@ fn plan<R: Threads + Wait + Sync, S: Source, G: Gate + Sync>(
     gate: &G,
 ) -> Result<Answer, NoMemory>
     requires known { IsKnownTo (S.knows src.old) words.now.items }
-    ensures planned { IfOk result (λ a. Cause words.now.items
-        (seen_by S.faults S.contents S.given S.ended src.old src.new)
+    ensures planned { (files : Files)
+        → AreOfSince files (S.readings src.old) (S.readings src.new)
+        → IfOk result (λ a. Cause words.now.items
+        (seen_of S.faults files S.given S.ended src.old src.new)
         a.status a.text.items) }
-    ensures read { IfOk result (λ a.
-        WordsAreReadAgain words.now.items (S.contents src.old) a.status a.text.items) }
-    ensures closed { IfOk result (λ a. WhereEnded a.status a.closed (WordsHand words.now.items
-        (seen_by S.faults S.contents S.given S.ended src.old src.new)
+    ensures read { (files : Files)
+        → AreOfSince files (S.readings src.old) (S.readings src.new)
+        → IfOk result (λ a.
+        WordsAreReadAgain words.now.items (files 0) a.status a.text.items) }
+    ensures closed { (files : Files)
+        → AreOfSince files (S.readings src.old) (S.readings src.new)
+        → IfOk result (λ a. WhereEnded a.status a.closed (WordsHand words.now.items
+        (seen_of S.faults files S.given S.ended src.old src.new)
         a.status a.text.items a.closed)) }
     ensures begins { S.begins src.new ≤ S.begins src.old + files_of words.now.items }
-    ensures first_alone { (asked : Asked) → AskFor words.now.items asked
-        → RefusesFirst (S.contents src.old) asked → S.begins src.new ≤ S.begins src.old + 1 }
+    ensures first_alone { (files : Files)
+        → AreOfSince files (S.readings src.old) (S.readings src.new)
+        → (asked : Asked) → AskFor words.now.items asked
+        → RefusesFirst (files 0) asked → S.begins src.new ≤ S.begins src.old + 1 }
     ensures knows { S.knows src.new ≡ S.knows src.old }
     ensures contents { S.contents src.new ≡ S.contents src.old }
+    ensures told { AreOfSince (λ _. S.contents src.old) (S.readings src.old) (S.readings src.new) }
 {
     match job(alloc, words) {
         Err(UsageFault::NoMemory) => Err(NoMemory),
@@ -387,19 +425,28 @@ fn answer_job<R: Threads + Wait + Sync, S: Source, G: Gate + Sync>(
 ) -> Result<Answer, NoMemory>
     requires known { EachName (asked_by job.now) (λ name. S.knows src.old name ≡ true) }
     requires within { IsWithinLimits (asked_by job.now) }
-    ensures caused { IfOk result (λ a. JobCause
-        (seen_by S.faults S.contents S.given S.ended src.old src.new)
+    ensures caused { (files : Files)
+        → AreOfSince files (S.readings src.old) (S.readings src.new)
+        → IfOk result (λ a. JobCause
+        (seen_of S.faults files S.given S.ended src.old src.new)
         a.status a.text.items (asked_by job.now)) }
-    ensures read { IfOk result (λ a.
-        IsReadWhereTold (asked_by job.now) (S.contents src.old) a.status a.text.items) }
-    ensures closed { IfOk result (λ a. WhereEnded a.status a.closed (JobHands (asked_by job.now)
-        (seen_by S.faults S.contents S.given S.ended src.old src.new)
+    ensures read { (files : Files)
+        → AreOfSince files (S.readings src.old) (S.readings src.new)
+        → IfOk result (λ a.
+        IsReadWhereTold (asked_by job.now) (files 0) a.status a.text.items) }
+    ensures closed { (files : Files)
+        → AreOfSince files (S.readings src.old) (S.readings src.new)
+        → IfOk result (λ a. WhereEnded a.status a.closed (JobHands (asked_by job.now)
+        (seen_of S.faults files S.given S.ended src.old src.new)
         a.status a.text.items a.closed)) }
     ensures begins { S.begins src.new ≤ S.begins src.old + count_of_files (asked_by job.now) }
-    ensures first_alone { RefusesFirst (S.contents src.old) (asked_by job.now)
+    ensures first_alone { (files : Files)
+        → AreOfSince files (S.readings src.old) (S.readings src.new)
+        → RefusesFirst (files 0) (asked_by job.now)
         → S.begins src.new ≤ S.begins src.old + 1 }
     ensures knows { S.knows src.new ≡ S.knows src.old }
     ensures contents { S.contents src.new ≡ S.contents src.old }
+    ensures told { AreOfSince (λ _. S.contents src.old) (S.readings src.old) (S.readings src.new) }
 {
     match job {
         Job::Run { name, .. } => answer_file(rt, alloc, job, name.as_str(), src, gate),
@@ -450,17 +497,24 @@ fn answer_file<R: Threads + Wait + Sync, S: Source, G: Gate + Sync>(
     requires known { S.knows src.old name.now ≡ true }
     requires on_term { IsOnTerm (asked_by job.now) }
     requires within { IsWithinLimits (asked_by job.now) }
-    ensures caused { IfOk result (λ a. FileCause (asked_by job.now)
-        (seen_by S.faults S.contents S.given S.ended src.old src.new)
+    ensures caused { (files : Files)
+        → AreOfSince files (S.readings src.old) (S.readings src.new)
+        → IfOk result (λ a. FileCause (asked_by job.now)
+        (seen_of S.faults files S.given S.ended src.old src.new)
         a.status a.text.items) }
-    ensures read { IfOk result (λ a.
-        IsReadWhereTold (asked_by job.now) (S.contents src.old) a.status a.text.items) }
-    ensures closed { IfOk result (λ a. WhereEnded a.status a.closed (ReadHands (asked_by job.now)
-        (seen_by S.faults S.contents S.given S.ended src.old src.new)
+    ensures read { (files : Files)
+        → AreOfSince files (S.readings src.old) (S.readings src.new)
+        → IfOk result (λ a.
+        IsReadWhereTold (asked_by job.now) (files 0) a.status a.text.items) }
+    ensures closed { (files : Files)
+        → AreOfSince files (S.readings src.old) (S.readings src.new)
+        → IfOk result (λ a. WhereEnded a.status a.closed (ReadHands (asked_by job.now)
+        (seen_of S.faults files S.given S.ended src.old src.new)
         a.status a.text.items a.closed)) }
     ensures begins { S.begins src.new ≤ S.begins src.old + 1 }
     ensures knows { S.knows src.new ≡ S.knows src.old }
     ensures contents { S.contents src.new ≡ S.contents src.old }
+    ensures told { AreOfSince (λ _. S.contents src.old) (S.readings src.old) (S.readings src.new) }
 {
     match read_all(alloc, src, name, MOST_BYTES) {
         Err(ReadAll::NoMemory) => Err(NoMemory),
@@ -489,15 +543,20 @@ fn answer_check<S: Source>(
 ) -> Result<Answer, NoMemory>
     requires term { S.knows src.old term.now ≡ true }
     requires journal { S.knows src.old journal.now ≡ true }
-    ensures caused { IfOk result (λ a. JobCause
-        (seen_by S.faults S.contents S.given S.ended src.old src.new)
+    ensures caused { (files : Files)
+        → AreOfSince files (S.readings src.old) (S.readings src.new)
+        → IfOk result (λ a. JobCause
+        (seen_of S.faults files S.given S.ended src.old src.new)
         a.status a.text.items (check translation term.now journal.now)) }
     ensures closed { IfOk result (λ a. a.closed ≡ None) }
     ensures begins { S.begins src.new ≤ S.begins src.old + 2 }
-    ensures first_alone { RefusesFirst (S.contents src.old) (check translation term.now journal.now)
+    ensures first_alone { (files : Files)
+        → AreOfSince files (S.readings src.old) (S.readings src.new)
+        → RefusesFirst (files 0) (check translation term.now journal.now)
         → S.begins src.new ≤ S.begins src.old + 1 }
     ensures knows { S.knows src.new ≡ S.knows src.old }
     ensures contents { S.contents src.new ≡ S.contents src.old }
+    ensures told { AreOfSince (λ _. S.contents src.old) (S.readings src.old) (S.readings src.new) }
 {
     match read_all(alloc, src, term, MOST_BYTES) {
         Err(ReadAll::NoMemory) => Err(NoMemory),
@@ -529,13 +588,16 @@ fn answer_journal<S: Source>(
 ) -> Result<Answer, NoMemory>
     requires known { S.knows src.old name.now ≡ true }
     requires small { IsSmallNet net.now }
-    ensures caused { IfOk result (λ a. HoldsOfTerms net.now (λ translation t names.
-        EndsJournal (seen_by S.faults S.contents S.given S.ended src.old src.new)
+    ensures caused { (files : Files)
+        → AreOfSince files (S.readings src.old) (S.readings src.new)
+        → IfOk result (λ a. HoldsOfTerms net.now (λ translation t names.
+        EndsJournal (seen_of S.faults files S.given S.ended src.old src.new)
         name.now translation t names a.status a.text.items)) }
     ensures closed { IfOk result (λ a. a.closed ≡ None) }
     ensures begins { S.begins src.new ≤ S.begins src.old + 1 }
     ensures knows { S.knows src.new ≡ S.knows src.old }
     ensures contents { S.contents src.new ≡ S.contents src.old }
+    ensures told { AreOfSince (λ _. S.contents src.old) (S.readings src.old) (S.readings src.new) }
 {
     match read_all(alloc, src, name, MOST_JOURNAL_BYTES) {
         Err(ReadAll::NoMemory) => Err(NoMemory),

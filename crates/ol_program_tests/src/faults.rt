@@ -116,8 +116,8 @@ fn surely<R: Threads + Wait + Sync, G: Gate + Sync>(
     out: &mut SureSink,
     gate: &G,
 ) -> Outcome
-    ensures done { AskForWhatCanBeDone words.now.items (λ name. Some (bytes_of src.old.files name))
-        → IsDoneOrNothing words.now.items (λ name. Some (bytes_of src.old.files name))
+    ensures done { AskForWhatCanBeDone words.now.items (λ _ name. Some (bytes_of src.old.files name))
+        → IsDoneOrNothing words.now.items (λ _ name. Some (bytes_of src.old.files name))
         result.status (told_by out.old) (told_by out.new) }
     ensures contents { ◌≡◌ {A = List ℕ → Option (List ℕ)}
         (λ name. Some (bytes_of src.new.files name)) (λ name. Some (bytes_of src.old.files name)) }

@@ -1,0 +1,107 @@
+-- The contract of the call that `main` makes: that of `ol`, of the files that the readings make, over adapters of which no call was
+-- made before.
+use Rattle.std.proofs.Common.{Some, subst}
+use Rattle.ol_cli.specs.NormalForms.{LineSays, IsItsNormalForm, TellsOfNone, IsFoundOnDemand}
+use Rattle.ol_cli.specs.NormalForms.{LineSaysOfTwo, PlainLineSays}
+use Rattle.ol_cli.specs.Sources.{EveryRunTells, WritesTree}
+use Rattle.ol_cli.specs.Completeness.{IsDoneOrNothing}
+use Rattle.ol_io.specs.Readings.{handed}
+use Rattle.ol.proofs.Passing.{passing, no_rise, of_own}
+use Rattle.ol.proofs.run.Goals as goal
+
+pub returns-clause-plain : goal.returns-clause-plain
+returns-clause-plain g c = λ f w done.
+    subst (λ before. PlainLineSays c.args.words.now.items (handed c.ol-outcome.new.src.log.passed.readings) before
+    (Some c.ol-outcome.new.out.log.passed.taken))
+    c.new-out.ensures.taken
+    (c.ol-outcome.ensures.plain (handed c.ol-outcome.new.src.log.passed.readings)
+    (of_own c.new-src.result.log.passed.readings c.ol-outcome.new.src.log.passed.readings
+    c.new-src.ensures.readings)
+    (no_rise c.new-src.result.faults c.ol-outcome.new.src.faults c.new-src.ensures.faults f)
+    (no_rise c.new-out.result.faults c.ol-outcome.new.out.faults c.new-out.ensures.faults w) done)
+
+pub returns-clause-normal_form : goal.returns-clause-normal_form
+returns-clause-normal_form g c = λ f w bytes tells done.
+    subst (λ before. LineSays IsItsNormalForm c.args.words.now.items bytes before
+    (Some c.ol-outcome.new.out.log.passed.taken))
+    c.new-out.ensures.taken
+    (c.ol-outcome.ensures.normal_form (handed c.ol-outcome.new.src.log.passed.readings)
+    (of_own c.new-src.result.log.passed.readings c.ol-outcome.new.src.log.passed.readings
+    c.new-src.ensures.readings)
+    bytes tells (no_rise c.new-src.result.faults c.ol-outcome.new.src.faults c.new-src.ensures.faults f)
+    (no_rise c.new-out.result.faults c.ol-outcome.new.out.faults c.new-out.ensures.faults w) done)
+
+pub returns-clause-no_normal_form : goal.returns-clause-no_normal_form
+returns-clause-no_normal_form g c = λ f w bytes tells done.
+    subst (λ before. LineSays TellsOfNone c.args.words.now.items bytes before
+    (Some c.ol-outcome.new.out.log.passed.taken))
+    c.new-out.ensures.taken
+    (c.ol-outcome.ensures.no_normal_form (handed c.ol-outcome.new.src.log.passed.readings)
+    (of_own c.new-src.result.log.passed.readings c.ol-outcome.new.src.log.passed.readings
+    c.new-src.ensures.readings)
+    bytes tells (no_rise c.new-src.result.faults c.ol-outcome.new.src.faults c.new-src.ensures.faults f)
+    (no_rise c.new-out.result.faults c.ol-outcome.new.out.faults c.new-out.ensures.faults w) done)
+
+pub returns-clause-demanded : goal.returns-clause-demanded
+returns-clause-demanded g c = λ f w bytes tells done.
+    subst (λ before. LineSays IsFoundOnDemand c.args.words.now.items bytes before
+    (Some c.ol-outcome.new.out.log.passed.taken))
+    c.new-out.ensures.taken
+    (c.ol-outcome.ensures.demanded (handed c.ol-outcome.new.src.log.passed.readings)
+    (of_own c.new-src.result.log.passed.readings c.ol-outcome.new.src.log.passed.readings
+    c.new-src.ensures.readings)
+    bytes tells (no_rise c.new-src.result.faults c.ol-outcome.new.src.faults c.new-src.ensures.faults f)
+    (no_rise c.new-out.result.faults c.ol-outcome.new.out.faults c.new-out.ensures.faults w) done)
+
+pub returns-clause-tree : goal.returns-clause-tree
+returns-clause-tree g c = λ f w bytes tells done.
+    subst (λ before. WritesTree c.args.words.now.items bytes before
+    (Some c.ol-outcome.new.out.log.passed.taken))
+    c.new-out.ensures.taken
+    (c.ol-outcome.ensures.tree (handed c.ol-outcome.new.src.log.passed.readings)
+    (of_own c.new-src.result.log.passed.readings c.ol-outcome.new.src.log.passed.readings
+    c.new-src.ensures.readings)
+    bytes tells (no_rise c.new-src.result.faults c.ol-outcome.new.src.faults c.new-src.ensures.faults f)
+    (no_rise c.new-out.result.faults c.ol-outcome.new.out.faults c.new-out.ensures.faults w) done)
+
+pub returns-clause-two_terms : goal.returns-clause-two_terms
+returns-clause-two_terms g c = λ f w tells done.
+    subst (λ before. LineSaysOfTwo c.args.words.now.items (handed c.ol-outcome.new.src.log.passed.readings) before
+    (Some c.ol-outcome.new.out.log.passed.taken))
+    c.new-out.ensures.taken
+    (c.ol-outcome.ensures.two_terms (handed c.ol-outcome.new.src.log.passed.readings)
+    (of_own c.new-src.result.log.passed.readings c.ol-outcome.new.src.log.passed.readings
+    c.new-src.ensures.readings)
+    tells (no_rise c.new-src.result.faults c.ol-outcome.new.src.faults c.new-src.ensures.faults f)
+    (no_rise c.new-out.result.faults c.ol-outcome.new.out.faults c.new-out.ensures.faults w) done)
+
+pub returns-clause-every_run : goal.returns-clause-every_run
+returns-clause-every_run g c = λ f w bytes tells has.
+    subst (λ before. EveryRunTells c.args.words.now.items bytes c.ol-outcome.result.status before
+    (Some c.ol-outcome.new.out.log.passed.taken))
+    c.new-out.ensures.taken
+    (c.ol-outcome.ensures.every_run (handed c.ol-outcome.new.src.log.passed.readings)
+    (of_own c.new-src.result.log.passed.readings c.ol-outcome.new.src.log.passed.readings
+    c.new-src.ensures.readings)
+    bytes tells (no_rise c.new-src.result.faults c.ol-outcome.new.src.faults c.new-src.ensures.faults f)
+    (no_rise c.new-out.result.faults c.ol-outcome.new.out.faults c.new-out.ensures.faults w) has)
+
+pub returns-clause-completeness : goal.returns-clause-completeness
+returns-clause-completeness g c = λ f w can.
+    subst (λ before. IsDoneOrNothing c.args.words.now.items (handed c.ol-outcome.new.src.log.passed.readings)
+    c.ol-outcome.result.status before (Some c.ol-outcome.new.out.log.passed.taken))
+    c.new-out.ensures.taken
+    (c.ol-outcome.ensures.completeness (handed c.ol-outcome.new.src.log.passed.readings)
+    (of_own c.new-src.result.log.passed.readings c.ol-outcome.new.src.log.passed.readings
+    c.new-src.ensures.readings)
+    can (no_rise c.new-src.result.faults c.ol-outcome.new.src.faults c.new-src.ensures.faults f)
+    (no_rise c.new-out.result.faults c.ol-outcome.new.out.faults c.new-out.ensures.faults w))
+
+pub returns-clause-exact : goal.returns-clause-exact
+returns-clause-exact g c = passing c.args.words.now.items c.ol-outcome.result.status
+    c.new-src.result.log.passed.readings c.ol-outcome.new.src.log.passed.readings
+    c.new-src.result.faults c.ol-outcome.new.src.faults
+    c.new-out.result.faults c.ol-outcome.new.out.faults
+    c.new-out.result.log.passed.taken c.ol-outcome.new.out.log.passed.taken
+    c.new-src.ensures.readings c.new-src.ensures.faults c.new-out.ensures.faults
+    c.new-out.ensures.taken c.ol-outcome.ensures.handed
