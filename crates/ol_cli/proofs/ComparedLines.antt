@@ -69,9 +69,9 @@ writes_of_two words files old new w tr k fuel heads a b ask m n e f t u i j =
     w (equal tr k fuel heads a b) ask m n e f (number t) (number u) (names_of t) (names_of u)
     (file_of i) (file_of j) in
     record {
-      line = compared_text r.0;
+      line = compared_text r.compared;
       rest = [];
-      one = line_of (compared_text r.0) (compared_feeds r.0);
-      written = r.2;
-      says = says_of_two t u r.0 r.1;
+      one = line_of (compared_text r.compared) (compared_feeds r.compared);
+      written = r.written;
+      says = says_of_two t u r.compared r.tells;
     }

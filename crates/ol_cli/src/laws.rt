@@ -3,7 +3,7 @@
 ghost use Rattle.ol_cli.specs.DemandFuel.{DemandHasFuel};
 ghost use Rattle.ol_cli.specs.Evaluation.{EveryRunIsLonger, EveryRunPrints};
 ghost use Rattle.ol_cli.specs.Journals.{AnyRunPrints, AnyRunRunsOut, OneThreadIsThere};
-ghost use Rattle.ol_cli.specs.SourceLaws.{CertifyNeverDiffers, ComparisonTellsSources};
+ghost use Rattle.ol_cli.specs.SourceLaws.{CertifyNeverDiffers, ComparisonTellsSources, HeadBesideLostTellsSources};
 ghost use Rattle.ol_cli.specs.Laws.{OneAnswer, OneNetIsLeft, OneTreeIsDemanded, OneTreeIsPrinted, OneTreeIsWalked};
 
 /// The same words and bytes have one status and one text, but for what `trace` writes of a run, and
@@ -36,10 +36,12 @@ pub fn any_run_tells()
 {}
 
 /// Where `equal` compares the trees of two files, and all places agree, their terms have one normal
-/// form. Where it finds a place with two heads that don't agree, the terms aren't convertible. And
+/// form. Where it finds a place with two heads that don't agree, the terms aren't convertible; nor
+/// are they where the first place apart has a head in the one tree and is a `?` in the other. And
 /// `certify` never tells that leftmost reduction of a term ends in another term than its tree's.
 pub fn sources_are_told()
     ensures equal { ComparisonTellsSources }
+    ensures lost { HeadBesideLostTellsSources }
     ensures certify { CertifyNeverDiffers }
 {}
 
