@@ -21,7 +21,6 @@ use Rattle.ol_readback.specs.Terms.{HasAllHeads, abstracted, variable_of, meanin
 use Rattle.ol_readback.specs.declared.answers.HeadVar.{HeadVar}
 use Rattle.ol_readback.specs.declared.answers.HeadVar.TheVariants as var
 use Rattle.ol_readback.specs.declared.answers.ReadNode.{ReadNode}
-use Rattle.ol_readback.proofs.OneTree.{list_is_of_one_tree}
 use Rattle.ol_levels.proofs.Runs.{start_levelled}
 use Rattle.ol_levels.proofs.Terms.{term_is_levelled}
 use Rattle.ol_completeness.proofs.Completing.{demand_is_complete}
@@ -29,8 +28,8 @@ use Rattle.ol_completeness.proofs.Levelled.{stays_clear}
 use Rattle.ol_confluence.proofs.LeftmostEnds.{leftmost_finds}
 use Rattle.ol_words.specs.Asked.{Asked, run, walk, view, trace, check, gen, demand, certify}
 use Rattle.ol_words.specs.Asked as jobs
-use Rattle.ol_lines.specs.NormalForms.{by_names_of}
-use Rattle.ol_lines.proofs.Read.{read_line}
+use Rattle.ol_lines.specs.NormalForms.{IsNormalFormOf}
+use Rattle.ol_lines.proofs.Read.{read_line, line_is_normal_form}
 use Rattle.ol_cli.specs.Evaluation.{start_net_of_term}
 use Rattle.ol_cli.specs.DemandOrder.{DemandEnds, DemandRunsOut}
 use Rattle.ol_cli.specs.Sources.{DemandsTree, TellsTree, WritesTree}
@@ -123,7 +122,7 @@ found : {tr : Translation} {bytes : List ℕ} {source : Named} {fuel heads : ℕ
     (is : IsText bytes source) →
     (d : DemandsTree tr (number source) (names_of source) fuel heads text) →
     (v : Tree) → BetaReduces (number source) v → IsNormal v → count_of_variables v ≤ heads →
-    (result : Named) × IsText d.demands.term result × (by_names_of source result ≡ v)
+    (result : Named) × IsText d.demands.term result × IsNormalFormOf source result
 unfolding demand_printed
 found {tr} {bytes} {source} {fuel} {heads} {text} is d v r n few =
     let x =
@@ -136,8 +135,7 @@ found {tr} {bytes} {source} {fuel} {heads} {text} is d v r n few =
     let line = read_line is p (subst HasAllHeads (sym reads) x.all) in (
       line.0,
       line.1,
-      line.3 ∙ ap (λ T. term_of T) (list_is_of_one_tree p.says.tree x.tree (p.says.is_list ∙ reads))
-          ∙ x.term,
+      line_is_normal_form is p line.0 line.1,
     )
 
 module _ {bytes : List ℕ} {source : Named} (is : IsText bytes source) (old new : Option (List ℕ))

@@ -34,3 +34,4 @@ pub mod NetFiles
 mod VerdictLines
 mod BothFiles
 mod FirstAlone
+mod Workers

@@ -33,7 +33,7 @@ use Rattle.ol_cli.specs.Answers.{HasTree, FileAnswer, JobAnswer, of_file, of_fir
 use Rattle.ol_cli.specs.Answers.{of_both}
 use Rattle.ol_cli.specs.Answers.{IsAnswer}
 use Rattle.ol_cli.specs.Jobs.{Files}
-use Rattle.ol_cli.specs.Evaluation.{start_net_of_term, ReadsLast}
+use Rattle.ol_cli.specs.Evaluation.{start_net_of_term, ReadsLast, Certifies}
 use Rattle.ol_cli.specs.SourceLaws.{TellsOfTwo, TellsSources, WritesOfSources, ComparisonTellsSources}
 use Rattle.ol_cli.specs.SourceLaws.{HeadBesideLostTellsSources}
 use Rattle.ol_cli.specs.SourceLaws.{CertifyNeverDiffers}
@@ -158,11 +158,17 @@ certifies : (files : Files) (tr : Translation) (b w fuel heads : ℕ) (name : Te
     JobAnswer files s text (jobs.certify tr b w fuel heads name) →
     TellsSources (jobs.certify tr b w fuel heads name) files old new
 certifies files tr b w fuel heads name old new s text done ap (of_file {bytes = m} has e h) =
+    λ m' e' t names f.
     let x = subst (λ s. FileAnswer (jobs.certify tr b w fuel heads name) m s text) done h in
-    let c = x.3 in (
-      c.verdict,
-      (λ road d. certify_never_differs tr m x.0 x.1 x.2.file b fuel heads text c road d),
-      subst (λ text. Appended old text new) c.written ap,
+    let p = same_bytes (files 0 name) m' m e' e in
+    let q = one_file m x.0 t x.1 names x.2.file (subst (λ k. IsFileOf k t names) p f) in
+    let c =
+    subst (λ t. Certifies tr t names b fuel heads text) q.0
+    (subst (λ ns. Certifies tr x.0 ns b fuel heads text) q.1 x.3) in (
+      text,
+      c,
+      (λ road d. certify_never_differs tr m' t names f b fuel heads text c road d),
+      ap,
     )
 
 -- a job that is done

@@ -1,26 +1,18 @@
 -- How much fuel demand order wants.
-use Rattle.std.specs.Prelude.{◌≡◌, ℕ, ◌≤◌, List, Option, Some, String}
-use Rattle.std.specs.declared.alloc.Global.{Global}
+use Rattle.std.specs.Prelude.{ℕ, ◌≤◌, List, length}
 use Rattle.ol_term.specs.declared.translations.Translation.{Translation}
 use Rattle.ol_term.specs.Trees.{Tree}
-use Rattle.ol_parse.specs.Grammar.{Named}
-use Rattle.ol_parse.specs.Texts.{IsText}
+use Rattle.ol_translate.specs.Names.{HasNames}
 use Rattle.ol_beta.specs.Leftmost.{IsNormal}
 use Rattle.ol_meaning.specs.Shows.{BetaReduces}
-use Rattle.ol_lines.specs.NormalForms.{by_names_of}
-use Rattle.ol_words.specs.Texts.{Text}
-use Rattle.ol_words.specs.Asked.{demand}
-use Rattle.ol_cli.specs.declared.status.Status.TheVariants as status
-use Rattle.ol_cli.specs.Jobs.{AskFor, Files}
-use Rattle.ol_cli.specs.Answers.{IsAnswer}
+use Rattle.ol_cli.specs.DemandOrder.{DemandEnds, DemandRunsOut}
 
--- Where a term has a normal form, there is a number so that `demand` on a file of this term never
--- spends a fuel that is no less, whatever heads it is asked for.
+-- Where a term has a normal form, there is a number so that its demand run, by this translation,
+-- ends within each fuel that is no less, and isn't longer than it, whatever heads are asked for. So
+-- `demand` on its file is never spent with such a fuel (`exact`), and is done where no limit is
+-- passed (`completeness`).
 abbrev pub DemandHasFuel : Type 0
-DemandHasFuel = (translation : Translation) (bytes : List ℕ) (source : Named) →
-    IsText bytes source →
-    (v : Tree) → BetaReduces (by_names_of source source) v → IsNormal v →
-    (enough : ℕ) × ((words : List (String Global)) (files : Files)
-    (fuel heads : ℕ) (name : Text) (text : List ℕ) → enough ≤ fuel →
-    AskFor words (demand translation fuel heads name) → files 0 name ≡ Some bytes →
-    IsAnswer words files status.Spent text → ⊥)
+DemandHasFuel = (translation : Translation) (t : Tree) (names : List (List ℕ)) →
+    HasNames t (length names) → (v : Tree) → BetaReduces t v → IsNormal v →
+    (enough : ℕ) × ((fuel heads : ℕ) → enough ≤ fuel →
+    DemandEnds translation t names fuel heads × (DemandRunsOut translation t names fuel heads → ⊥))

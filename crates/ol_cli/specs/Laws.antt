@@ -14,7 +14,7 @@ use Rattle.ol_words.specs.Asked.{Asked, trace}
 use Rattle.ol_words.specs.Asked as jobs
 use Rattle.ol_cli.specs.Jobs.{AskFor, AskForNothing, Files}
 use Rattle.ol_cli.specs.Texts.{counts_text}
-use Rattle.ol_cli.specs.Answers.{IsAnswer}
+use Rattle.ol_cli.specs.Answers.{IsAnswer, JobAnswer}
 use Rattle.ol_cli.specs.NetAnswers.{NetRunEnds}
 use Rattle.ol_cli.specs.Evaluation.{Prints, Walks}
 use Rattle.ol_cli.specs.DemandOrder.{Demands}
@@ -40,6 +40,23 @@ OneAnswer = (words : List (String Global)) (files : Files) (status status' : Sta
     IsAnswer words files status text → IsAnswer words files status' text' →
     (status ≡ status') × (AskForNothing words → text ≡ text')
     × ((asked : Asked) → AskFor words asked → HaveOneText asked status text text')
+
+-- the job with so many workers, where it has any
+abbrev pub with_workers : ℕ → Asked → Asked
+with_workers n (jobs.run translation workers fuel heads name) = jobs.run translation n fuel heads name
+with_workers n (trace translation workers fuel name) = trace translation n fuel name
+with_workers n (jobs.certify translation steps workers fuel heads name) =
+    jobs.certify translation steps n fuel heads name
+with_workers n (jobs.net translation from_term workers fuel name) =
+    jobs.net translation from_term n fuel name
+with_workers n (jobs.equal translation workers fuel heads first second) =
+    jobs.equal translation n fuel heads first second
+with_workers n asked = asked
+
+-- The number of workers isn't seen: an answer to a job is one with any other number of workers.
+abbrev pub WorkersAreNotSeen : Type 0
+WorkersAreNotSeen = (n : ℕ) (asked : Asked) (files : Files) (status : Status) (text : List ℕ) →
+    JobAnswer files status text asked → JobAnswer files status text (with_workers n asked)
 
 -- However the answer to a term is come by, one tree is printed, one term and one number of stuck pairs.
 abbrev pub OneTreeIsPrinted : Type 0

@@ -24,7 +24,8 @@ PrintsTerm (gen translation true k) = Unit {0}
 PrintsTerm (demand translation fuel heads name) = Unit {0}
 PrintsTerm _ = ⊥
 
--- The text begins with a line, of which this is said: bytes without a line feed, and a line feed.
+-- What was appended, where the sink tells it, begins with a line, of which this is said: bytes
+-- without a line feed, and a line feed.
 pub record FirstLine (Says : List ℕ → Type 0) (old new : Option (List ℕ)) : Type 0 where
   pub line : List ℕ
   pub rest : List ℕ
@@ -49,20 +50,20 @@ TellsOfNone (walk translation edges heads name) source line = Unit {0}
 TellsOfNone asked source line =
     (before after : List ℕ) → line ≡ before ++ 63 ∷ after → HasNoNormalForm source
 
--- how many variables a term has, bound and free
+-- in how many places a term has a variable, bound or free
 abbrev pub count_of_variables : Tree → ℕ
 count_of_variables (var k) = 1
 count_of_variables (free k) = 1
 count_of_variables (lam t) = count_of_variables t
 count_of_variables (app f a) = count_of_variables f + count_of_variables a
 
--- if the source has a normal form, with no more variables than heads were demanded, the line is a
--- text of it
+-- if the source has a normal form, in which variables stand in no more places than heads were
+-- demanded, the line is a text of it
 abbrev pub IsFoundOnDemand : Asked → Named → List ℕ → Type 0
 IsFoundOnDemand (demand translation fuel heads name) source line =
     (v : Tree) → BetaReduces (by_names_of source source) v → IsNormal v →
     count_of_variables v ≤ heads →
-    (result : Named) × IsText line result × (by_names_of source result ≡ v)
+    (result : Named) × IsText line result × IsNormalFormOf source result
 IsFoundOnDemand asked source line = Unit {0}
 
 -- `equal` says that the two terms are convertible, and `different` that they aren't.

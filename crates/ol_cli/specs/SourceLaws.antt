@@ -5,7 +5,6 @@ use Rattle.ol_io.specs.Outside.{Appended}
 use Rattle.ol_term.specs.declared.translations.Translation.{Translation}
 use Rattle.ol_term.specs.Trees.{Tree}
 use Rattle.ol_parse.specs.Parsed.{IsFileOf}
-use Rattle.ol_beta.specs.declared.certifying.Verdict.{Verdict}
 use Rattle.ol_beta.specs.declared.certifying.Verdict.TheVariants.{Differs}
 use Rattle.ol_equal.specs.declared.answers.Compared.{Compared}
 use Rattle.ol_equal.specs.Comparing.{TreeWithNames, place_at, IsFirstApart, IsComparison}
@@ -14,7 +13,6 @@ use Rattle.ol_confluence.specs.Reductions.{Convertible}
 use Rattle.ol_confluence.specs.Compared.{by_bytes, TellsTerms, IsHeadBesideLost}
 use Rattle.ol_words.specs.Asked.{Asked, certify, equal}
 use Rattle.ol_cli.specs.Texts.{line}
-use Rattle.ol_cli.specs.VerdictTexts.{verdict_text}
 use Rattle.ol_cli.specs.Jobs.{AskFor, Files}
 use Rattle.ol_cli.specs.Evaluation.{Certifies}
 use Rattle.ol_cli.specs.Answers.{HasTree}
@@ -35,8 +33,8 @@ pub record TellsOfTwo (translation : Translation) (fuel heads : ℕ) (bytes byte
       Convertible (by_bytes names.a t) (by_bytes names.b u) → ⊥
   pub written : Appended old (line (compared_text compared)) new
 
--- What was written tells of the terms of the files: the line of `equal` of its two, and the verdict
--- of `certify` is never `differs`.
+-- What was written tells of the terms of the files: the line of `equal` of its two; and `certify`
+-- writes the verdict of leftmost reduction of its term on what `run` prints, never `differs`.
 abbrev pub TellsSources : Asked → Files → Option (List ℕ) → Option (List ℕ) → Type 0
 TellsSources (equal translation workers fuel heads a b) files old new =
     (bytes bytes' : List ℕ) → files 0 a ≡ Some bytes → files 1 b ≡ Some bytes' →
@@ -44,8 +42,9 @@ TellsSources (equal translation workers fuel heads a b) files old new =
     IsFileOf bytes' u others →
     TellsOfTwo translation fuel heads bytes bytes' (record { a = names; b = others }) t u old new
 TellsSources (certify translation steps workers fuel heads name) files old new =
-    (v : Verdict) × ((road : List (List ℕ)) → v ≡ Differs road → ⊥)
-    × Appended old (verdict_text steps v) new
+    (bytes : List ℕ) → files 0 name ≡ Some bytes → (t : Tree) (names : List (List ℕ)) →
+    IsFileOf bytes t names → (text : List ℕ) × (c : Certifies translation t names steps fuel heads text)
+    × ((road : List (List ℕ)) → c.verdict ≡ Differs road → ⊥) × Appended old text new
 TellsSources _ files old new = Unit {0}
 
 -- the same of the words

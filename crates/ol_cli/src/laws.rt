@@ -4,7 +4,7 @@ ghost use Rattle.ol_cli.specs.DemandFuel.{DemandHasFuel};
 ghost use Rattle.ol_cli.specs.Evaluation.{EveryRunIsLonger, EveryRunPrints};
 ghost use Rattle.ol_cli.specs.Journals.{AnyRunPrints, AnyRunRunsOut, OneThreadIsThere};
 ghost use Rattle.ol_cli.specs.SourceLaws.{CertifyNeverDiffers, ComparisonTellsSources, HeadBesideLostTellsSources};
-ghost use Rattle.ol_cli.specs.Laws.{OneAnswer, OneNetIsLeft, OneTreeIsDemanded, OneTreeIsPrinted, OneTreeIsWalked};
+ghost use Rattle.ol_cli.specs.Laws.{OneAnswer, OneNetIsLeft, OneTreeIsDemanded, OneTreeIsPrinted, OneTreeIsWalked, WorkersAreNotSeen};
 
 /// The same words and bytes have one status and one text, but for what `trace` writes of a run, and
 /// for the stuck pairs and the net that `net` writes after nine lines, which are one. However the
@@ -17,6 +17,12 @@ pub fn one_answer()
     ensures walked { OneTreeIsWalked }
     ensures demanded { OneTreeIsDemanded }
     ensures left { OneNetIsLeft }
+{}
+
+/// The number of workers isn't seen: an answer to a job is one to the same job with any other
+/// number of workers.
+pub fn workers_are_not_seen()
+    ensures { WorkersAreNotSeen }
 {}
 
 /// Where the answer is printed, each complete run prints it, whatever pairs it takes first. Where
@@ -45,8 +51,8 @@ pub fn sources_are_told()
     ensures certify { CertifyNeverDiffers }
 {}
 
-/// Where a term has a normal form, there is a number that the term and the translation alone tell:
-/// `demand` on a file of the term never spends a fuel of so many interactions or more.
+/// Where a term has a normal form, there is a number of interactions for it and a translation: its
+/// demand run ends within each fuel of so many or more, whatever heads are asked for.
 pub fn demand_has_fuel()
     ensures fuel { DemandHasFuel }
 {}
