@@ -41,7 +41,6 @@ use Rattle.ol_cli.specs.Answers.{long, deep, large, IsTermFile, TermAnswer, File
 use Rattle.ol_cli.proofs.OnePrint.{ends_or_not, ends_or_runs_out, reads_or_runs_out, one_last_tree, one_print, one_walk, one_view, one_certified}
 use Rattle.ol_cli.proofs.DemandRuns.{one_demanded, demand_ends_or_not}
 use Rattle.ol_cli.proofs.NetFiles.{Alike, alike_by, one_net_file}
-use Rattle.ol_cli.proofs.Exact.{not_both}
 
 abbrev pub Same : Status → Status → List ℕ → List ℕ → Type 0
 Same s s' x x' = (s ≡ s') × (x ≡ x')
