@@ -1,5 +1,5 @@
 -- What passed through adapters of which no call was made before.
-use Rattle.std.proofs.Common.{◌≡◌, ◌≢◌, ℕ, List, [], ◌++◌, Some, String, Global, refl, ap, sym, ◌∙◌, subst, append-nil, arith}
+use Rattle.std.proofs.Common.{◌≡◌, ◌≢◌, ◌<◌, ◌⊎◌, inl, inr, ℕ, zero, suc, List, [], ◌++◌, Some, String, Global, refl, ap, sym, ◌∙◌, subst, append-nil, arith}
 use Rattle.ol_io.specs.Outside.{Rose, Appended}
 use Rattle.ol_io.specs.Readings.{Reading, AreOfSince, handed}
 use Rattle.ol_io.proofs.Readings.{handed-over}
@@ -9,6 +9,21 @@ use Rattle.ol_cli.specs.Answers.{IsAnswer, IfNoneFailed}
 
 pub no_rise : (before now : ℕ) → before ≡ 0 → now ≡ 0 → Rose before now → ⊥
 no_rise before now e f r = let h = rw (e, f) at r.risen in absurd (omega (arith, h))
+
+-- nothing failed where a call is done, by what `ol` says of faults
+pub none_out : (st : Status) (before now : ℕ) → before ≡ 0 → st ≡ status.Done →
+    (before < now → st ≡ status.WriteFault) → now ≡ 0
+none_out st before zero e done told = refl
+none_out st before (suc n) e done told =
+    let k : status.Done ≡ status.WriteFault = sym done ∙ told (omega (arith, e)) in absurd (cc)
+
+pub none_in : (st : Status) (before now : ℕ) → before ≡ 0 → st ≡ status.Done → {P : Type 0} → P →
+    (before < now → P → (st ≡ status.ReadFault) ⊎ (st ≡ status.NoMemory)) → now ≡ 0
+none_in st before zero e done p told = refl
+none_in st before (suc n) e done p told = elim (told (omega (arith, e)) p) [
+  | inl r ↦ (let k : status.Done ≡ status.ReadFault = sym done ∙ r in absurd (cc))
+  | inr m ↦ (let k : status.Done ≡ status.NoMemory = sym done ∙ m in absurd (cc))
+]
 
 pub passing : (words : List (String Global)) (st : Status) (old new : List Reading) (f f' g g' : ℕ) (before after : List ℕ) → old ≡ [] → f ≡ 0 → g ≡ 0 → ◌≡◌ (Some before) (Some [])
     → (rs : List Reading) × (new ≡ rs ++ old) × IfNoneFailed f f' g g' (st ≢ status.NoMemory → (text : List ℕ) × IsAnswer words (handed rs) st text × Appended (Some before) text (Some after))

@@ -1,9 +1,9 @@
 //! The program: `ol` over files, standard input and standard output.
 #![tactic(auto)]
 
-ghost use Rattle.std.specs.Prelude.{◌≡◌, ◌≢◌, ℕ, List, [], Some};
+ghost use Rattle.std.specs.Prelude.{◌≡◌, ◌≢◌, ◌<◌, ℕ, true, List, [], Some};
 ghost use Rattle.ol_io.specs.Readings.{handed};
-ghost use Rattle.ol_cli.specs.Jobs.{TellsTerm, TellsFiles};
+ghost use Rattle.ol_cli.specs.Jobs.{TellsTerm, TellsFiles, files_of};
 ghost use Rattle.ol_cli.specs.NormalForms.{LineSays, IsItsNormalForm, TellsOfNone};
 ghost use Rattle.ol_cli.specs.NormalForms.{IsFoundOnDemand, LineSaysOfTwo, PlainLineSays};
 ghost use Rattle.ol_cli.specs.Answers.{IsAnswer};
@@ -33,42 +33,38 @@ fn run<'a, R: Files + Input + Print + Threads + Wait + Sync>(
     alloc: Global,
     words: &Vec<String>,
 ) -> Passed<'a, R>
-    // In the words of terms alone, where nothing failed: the first line that standard output
+    // In the words of terms alone, where the status is `Done`: the first line that standard output
     // accepted is, where it is a text of a term, the normal form of the term in the bytes that were
     // read; and where `run` or `demand` has put a `?` in it, that term has none.
-    ensures plain { ⟦<StdSource<'a, R> as Source>⟧.faults result.src ≡ 0
-        → ⟦<StdSink<'a, R> as Sink>⟧.faults result.out ≡ 0 → result.status ≡ Status.Done
-        → PlainLineSays words.now.items
+    ensures plain { result.status ≡ Status.Done → PlainLineSays words.now.items
         (handed (⟦<StdSource<'a, R> as Source>⟧.readings result.src))
         (Some []) (⟦<StdSink<'a, R> as Sink>⟧.taken result.out) }
-    ensures normal_form { ⟦<StdSource<'a, R> as Source>⟧.faults result.src ≡ 0
-        → ⟦<StdSink<'a, R> as Sink>⟧.faults result.out ≡ 0 → (bytes : List ℕ)
+    ensures normal_form { result.status ≡ Status.Done → (bytes : List ℕ)
         → TellsTerm (handed (⟦<StdSource<'a, R> as Source>⟧.readings result.src) 0)
-        words.now.items bytes → result.status ≡ Status.Done
-        → LineSays IsItsNormalForm words.now.items bytes (Some [])
+        words.now.items bytes → LineSays IsItsNormalForm words.now.items bytes (Some [])
         (⟦<StdSink<'a, R> as Sink>⟧.taken result.out) }
-    ensures no_normal_form { ⟦<StdSource<'a, R> as Source>⟧.faults result.src ≡ 0
-        → ⟦<StdSink<'a, R> as Sink>⟧.faults result.out ≡ 0 → (bytes : List ℕ)
+    ensures no_normal_form { result.status ≡ Status.Done → (bytes : List ℕ)
         → TellsTerm (handed (⟦<StdSource<'a, R> as Source>⟧.readings result.src) 0)
-        words.now.items bytes → result.status ≡ Status.Done
-        → LineSays TellsOfNone words.now.items bytes (Some [])
+        words.now.items bytes → LineSays TellsOfNone words.now.items bytes (Some [])
         (⟦<StdSink<'a, R> as Sink>⟧.taken result.out) }
 
     // `demand` has written the normal form, where there is one and enough heads were asked for.
-    ensures demanded { ⟦<StdSource<'a, R> as Source>⟧.faults result.src ≡ 0
-        → ⟦<StdSink<'a, R> as Sink>⟧.faults result.out ≡ 0 → (bytes : List ℕ)
+    ensures demanded { result.status ≡ Status.Done → (bytes : List ℕ)
         → TellsTerm (handed (⟦<StdSource<'a, R> as Source>⟧.readings result.src) 0)
-        words.now.items bytes → result.status ≡ Status.Done
-        → LineSays IsFoundOnDemand words.now.items bytes (Some [])
+        words.now.items bytes → LineSays IsFoundOnDemand words.now.items bytes (Some [])
         (⟦<StdSink<'a, R> as Sink>⟧.taken result.out) }
 
     // `equal` means that the two terms are convertible, and `different` that they aren't.
-    ensures two_terms { ⟦<StdSource<'a, R> as Source>⟧.faults result.src ≡ 0
-        → ⟦<StdSink<'a, R> as Sink>⟧.faults result.out ≡ 0
+    ensures two_terms { result.status ≡ Status.Done
         → TellsFiles (handed (⟦<StdSource<'a, R> as Source>⟧.readings result.src))
-        words.now.items → result.status ≡ Status.Done → LineSaysOfTwo words.now.items
+        words.now.items → LineSaysOfTwo words.now.items
         (handed (⟦<StdSource<'a, R> as Source>⟧.readings result.src))
         (Some []) (⟦<StdSink<'a, R> as Sink>⟧.taken result.out) }
+
+    // `Done` of a job with a file comes after the end of the input was seen, and no call failed.
+    ensures done { result.status ≡ Status.Done
+        → (⟦<StdSource<'a, R> as Source>⟧.faults result.src ≡ 0) × (⟦<StdSink<'a, R> as Sink>⟧.faults result.out ≡ 0)
+        × (0 < files_of words.now.items → ⟦<StdSource<'a, R> as Source>⟧.ended result.src ≡ true) }
 
     // Where nothing failed, what was accepted is the answer to what was handed over.
     ensures exact { ⟦<StdSource<'a, R> as Source>⟧.faults result.src ≡ 0
@@ -80,11 +76,10 @@ fn run<'a, R: Files + Input + Print + Threads + Wait + Sync>(
 
     // And what holds of an answer's text holds of it: what the job's own term says of it, what
     // every complete run tells of it, and that what can be done is done.
-    ensures tree { ⟦<StdSource<'a, R> as Source>⟧.faults result.src ≡ 0
-        → ⟦<StdSink<'a, R> as Sink>⟧.faults result.out ≡ 0 → (bytes : List ℕ)
+    ensures tree { result.status ≡ Status.Done → (bytes : List ℕ)
         → TellsTerm (handed (⟦<StdSource<'a, R> as Source>⟧.readings result.src) 0)
-        words.now.items bytes → result.status ≡ Status.Done
-        → WritesTree words.now.items bytes (Some []) (⟦<StdSink<'a, R> as Sink>⟧.taken result.out) }
+        words.now.items bytes → WritesTree words.now.items bytes (Some [])
+        (⟦<StdSink<'a, R> as Sink>⟧.taken result.out) }
     ensures every_run { ⟦<StdSource<'a, R> as Source>⟧.faults result.src ≡ 0
         → ⟦<StdSink<'a, R> as Sink>⟧.faults result.out ≡ 0 → (bytes : List ℕ)
         → TellsTerm (handed (⟦<StdSource<'a, R> as Source>⟧.readings result.src) 0)

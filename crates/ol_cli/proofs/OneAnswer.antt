@@ -41,13 +41,12 @@ use Rattle.ol_cli.specs.Answers.{long, deep, large, IsTermFile, TermAnswer, File
 use Rattle.ol_cli.proofs.OnePrint.{ends_or_not, ends_or_runs_out, reads_or_runs_out, one_last_tree, one_print, one_walk, one_view, one_certified}
 use Rattle.ol_cli.proofs.DemandRuns.{one_demanded, demand_ends_or_not}
 use Rattle.ol_cli.proofs.NetFiles.{Alike, alike_by, one_net_file}
-use Rattle.ol_cli.proofs.Exact.{not_both}
 
 abbrev pub Same : Status → Status → List ℕ → List ℕ → Type 0
 Same s s' x x' = (s ≡ s') × (x ≡ x')
 
 -- two answers that are each this one
-same_as : (s s' u : Status) (x x' y : List ℕ) → Same s u x y → Same s' u x' y → Same s s' x x'
+pub same_as : (s s' u : Status) (x x' y : List ℕ) → Same s u x y → Same s' u x' y → Same s s' x x'
 same_as s s' u x x' y h h' = (h.0 ∙ sym h'.0, h.1 ∙ sym h'.1)
 
 -- refusals have one text, whatever the job is
@@ -413,7 +412,7 @@ module _ (files : Files) where
   one_made tr runs k s s' x x' (made m) (of_file has e h) = absurd has
   one_made tr runs k s s' x x' (made m) (made m') = one_making tr runs k s s' x x' m m'
 
-  one_of_job : (asked : Asked) → (s s' : Status) (x x' : List ℕ) → JobAnswer files s x asked → JobAnswer files s' x' asked → Alike asked s s' x x'
+  pub one_of_job : (asked : Asked) → (s s' : Status) (x x' : List ℕ) → JobAnswer files s x asked → JobAnswer files s' x' asked → Alike asked s s' x x'
   one_of_job (run tr w f q name) s s' x x' a a' = one_on_file (run tr w f q name) tt s s' x x' a a'
   one_of_job (walk tr g q name) s s' x x' a a' = one_on_file (walk tr g q name) tt s s' x x' a a'
   one_of_job (view tr k name) s s' x x' a a' = one_on_file (view tr k name) tt s s' x x' a a'
@@ -428,11 +427,11 @@ module _ (files : Files) where
 
 -- ---- words and files
 
-data OfWords (words : List (String Global)) (files : Files) (s : Status) (x : List ℕ) : Type 0 where
+pub data OfWords (words : List (String Global)) (files : Files) (s : Status) (x : List ℕ) : Type 0 where
   no_job : AskForNothing words → Same s Usage x usage_text → OfWords words files s x
   job : (asked : Asked) → AskFor words asked → JobAnswer files s x asked → OfWords words files s x
 
-of_words : (words : List (String Global)) (files : Files) (s : Status) (x : List ℕ) → IsAnswer words files s x → OfWords words files s x
+pub of_words : (words : List (String Global)) (files : Files) (s : Status) (x : List ℕ) → IsAnswer words files s x → OfWords words files s x
 of_words words files Usage x a = no_job a.0 (refl, a.1)
 of_words words files Syntax x a = job a.0 a.1 a.2
 of_words words files Spent x a = job a.0 a.1 a.2
@@ -454,22 +453,3 @@ own_job words files asked j s x a = go (of_words words files s x a)
     go : OfWords words files s x → JobAnswer files s x asked
     go (no_job j' h) = let e = sym j ∙ j' in absurd (cc)
     go (job asked' j' h) = subst (λ a. JobAnswer files s x a) (one_job words asked' asked j' j) h
-
--- one status, and one text as far as these words ask for one
-abbrev pub OneOfWords : List (String Global) → Status → Status → List ℕ → List ℕ → Type 0
-OneOfWords words s s' x x' = (s ≡ s') × (AskForNothing words → x ≡ x') × ((asked : Asked) → AskFor words asked → HaveOneText asked s x x')
-
-one_of_words : (words : List (String Global)) (files : Files) (s s' : Status) (x x' : List ℕ) → OfWords words files s x → OfWords words files s' x' →
-    OneOfWords words s s' x x'
-one_of_words words files s s' x x' (no_job n h) (no_job n' h') =
-    let e = same_as s s' Usage x x' usage_text h h' in
-    (e.0, λ nothing. e.1, λ asked j. absurd (not_both words asked n j))
-one_of_words words files s s' x x' (no_job n h) (job a' j' h') = absurd (not_both words a' n j')
-one_of_words words files s s' x x' (job a j h) (no_job n' h') = absurd (not_both words a n' j)
-one_of_words words files s s' x x' (job a j h) (job a' j' h') =
-    let e = one_of_job files a s s' x x' h (subst (λ a. JobAnswer files s' x' a) (one_job words a' a j' j) h') in
-    (e.0, λ n. absurd (not_both words a n j), λ asked j''. subst (λ a. HaveOneText a s x x') (one_job words a asked j j'') e.1)
-
-pub answers_one : (words : List (String Global)) (files : Files) (s s' : Status) (x x' : List ℕ) → IsAnswer words files s x → IsAnswer words files s' x' →
-    OneOfWords words s s' x x'
-answers_one words files s s' x x' a a' = one_of_words words files s s' x x' (of_words words files s x a) (of_words words files s' x' a')

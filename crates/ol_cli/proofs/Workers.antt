@@ -1,12 +1,19 @@
--- An answer to a job is one to the same job with any other number of workers: no definition of an answer looks at that number.
-use Rattle.std.proofs.Common.{ℕ, Bool, true, false, List}
+-- An answer to a job is one to the same job with any other number of workers: no definition of an answer looks at that number. So
+-- words that ask for one job but for that number have one answer (`one_answer`).
+use Rattle.std.proofs.Common.{◌≡◌, ℕ, Bool, true, false, List, Option, None, Some, String, Global, option_map, sym, ap, ◌∙◌, subst}
+use Rattle.ol_words.specs.Texts.{texts_of}
 use Rattle.ol_words.specs.Asked.{Asked}
 use Rattle.ol_words.specs.Asked as jobs
+use Rattle.ol_words.specs.Jobs.{job_of}
 use Rattle.ol_cli.specs.declared.status.Status.{Status}
 use Rattle.ol_cli.specs.declared.status.Status.TheVariants as status
-use Rattle.ol_cli.specs.Jobs.{Files}
-use Rattle.ol_cli.specs.Answers.{FileAnswer, JobAnswer, of_file, of_net_file, of_first, of_second, of_both}
-use Rattle.ol_cli.specs.Laws.{WorkersAreNotSeen, with_workers}
+use Rattle.ol_cli.specs.declared.status.Status.TheVariants.{Usage}
+use Rattle.ol_cli.specs.Texts.{usage_text}
+use Rattle.ol_cli.specs.Jobs.{Files, AskFor, AskForNothing}
+use Rattle.ol_cli.specs.Answers.{IsAnswer, FileAnswer, JobAnswer, of_file, of_net_file, of_first, of_second, of_both}
+use Rattle.ol_cli.specs.Laws.{AskAlike, HaveOneText, WorkersAreNotSeen, with_workers}
+use Rattle.ol_cli.proofs.Exact.{not_both}
+use Rattle.ol_cli.proofs.OneAnswer.{OfWords, no_job, job, of_words, one_of_job, one_job, same_as}
 
 -- the answer to the bytes of a file
 file_unseen : (n : ℕ) (asked : Asked) (bytes : List ℕ) (st : Status) (text : List ℕ) →
@@ -97,3 +104,69 @@ workers_unseen n (jobs.view tr k name) files st text h = h
 workers_unseen n (jobs.check tr term journal) files st text h = h
 workers_unseen n (jobs.gen tr runs k) files st text h = h
 workers_unseen n (jobs.demand tr f q name) files st text h = h
+
+-- ---- two lists of words
+
+text_seen : (n : ℕ) (asked : Asked) (s : Status) (x x' : List ℕ) → HaveOneText (with_workers n asked) s x x' → HaveOneText asked s x x'
+text_seen n (jobs.run tr w f q name) s x x' h = h
+text_seen n (jobs.walk tr e q name) s x x' h = h
+text_seen n (jobs.view tr k name) s x x' h = h
+text_seen n (jobs.trace tr w f name) status.Done x x' h = tt
+text_seen n (jobs.trace tr w f name) status.Spent x x' h = tt
+text_seen n (jobs.trace tr w f name) status.Limit x x' h = h
+text_seen n (jobs.trace tr w f name) status.Syntax x x' h = h
+text_seen n (jobs.trace tr w f name) status.Usage x x' h = h
+text_seen n (jobs.trace tr w f name) status.ReadFault x x' h = h
+text_seen n (jobs.trace tr w f name) status.WriteFault x x' h = h
+text_seen n (jobs.trace tr w f name) status.NoMemory x x' h = h
+text_seen n (jobs.trace tr w f name) status.BadNet x x' h = h
+text_seen n (jobs.check tr term journal) s x x' h = h
+text_seen n (jobs.gen tr runs k) s x x' h = h
+text_seen n (jobs.demand tr f q name) s x x' h = h
+text_seen n (jobs.certify tr b w f q name) s x x' h = h
+text_seen n (jobs.net tr true w f name) s x x' h = h
+text_seen n (jobs.net tr false w f name) status.Done x x' h = h
+text_seen n (jobs.net tr false w f name) status.Spent x x' h = h
+text_seen n (jobs.net tr false w f name) status.Limit x x' h = h
+text_seen n (jobs.net tr false w f name) status.Syntax x x' h = h
+text_seen n (jobs.net tr false w f name) status.Usage x x' h = h
+text_seen n (jobs.net tr false w f name) status.ReadFault x x' h = h
+text_seen n (jobs.net tr false w f name) status.WriteFault x x' h = h
+text_seen n (jobs.net tr false w f name) status.NoMemory x x' h = h
+text_seen n (jobs.net tr false w f name) status.BadNet x x' h = h
+text_seen n (jobs.equal tr w f q a b) s x x' h = h
+
+-- where these words ask for this job and those for that, the two are one but for the workers
+jobs_alike : (o o' : Option Asked) (a a' : Asked) → o ≡ Some a → o' ≡ Some a' → option_map (with_workers 1) o ≡ option_map (with_workers 1) o' →
+    with_workers 1 a ≡ with_workers 1 a'
+jobs_alike o o' a a' e e' alike =
+    let k : Some (with_workers 1 a) ≡ Some (with_workers 1 a') = sym (ap (option_map (with_workers 1)) e) ∙ alike ∙ ap (option_map (with_workers 1)) e' in cc
+
+-- words that ask for a job aren't alike with words that ask for nothing
+not_alike : (o o' : Option Asked) (a : Asked) → o ≡ None → o' ≡ Some a → option_map (with_workers 1) o ≡ option_map (with_workers 1) o' → ⊥
+not_alike o o' a e e' alike =
+    let k : None ≡ Some (with_workers 1 a) = sym (ap (option_map (with_workers 1)) e) ∙ alike ∙ ap (option_map (with_workers 1)) e' in absurd (cc)
+
+-- one status, and one text as far as these words ask for one
+abbrev pub OneOfWords : List (String Global) → Status → Status → List ℕ → List ℕ → Type 0
+OneOfWords words s s' x x' = (s ≡ s') × (AskForNothing words → x ≡ x') × ((asked : Asked) → AskFor words asked → HaveOneText asked s x x')
+
+one_of_words : (words words' : List (String Global)) → AskAlike words words' → (files : Files) (s s' : Status) (x x' : List ℕ) → OfWords words files s x →
+    OfWords words' files s' x' → OneOfWords words s s' x x'
+one_of_words words words' e files s s' x x' (no_job n h) (no_job n' h') =
+    let k = same_as s s' Usage x x' usage_text h h' in
+    (k.0, λ nothing. k.1, λ asked j. absurd (not_both words asked n j))
+one_of_words words words' e files s s' x x' (no_job n h) (job a' j' h') =
+    absurd (not_alike (job_of (texts_of words)) (job_of (texts_of words')) a' n j' e)
+one_of_words words words' e files s s' x x' (job a j h) (no_job n' h') =
+    absurd (not_alike (job_of (texts_of words')) (job_of (texts_of words)) a n' j (sym e))
+one_of_words words words' e files s s' x x' (job a j h) (job a' j' h') =
+    let same = jobs_alike (job_of (texts_of words)) (job_of (texts_of words')) a a' j j' e in
+    let k = one_of_job files (with_workers 1 a) s s' x x' (workers_unseen 1 a files s x h)
+    (subst (λ a. JobAnswer files s' x' a) (sym same) (workers_unseen 1 a' files s' x' h')) in
+    (k.0, λ n. absurd (not_both words a n j), λ asked j''. subst (λ a. HaveOneText a s x x') (one_job words a asked j j'') (text_seen 1 a s x x' k.1))
+
+pub answers_alike : (words words' : List (String Global)) → AskAlike words words' → (files : Files) (s s' : Status) (x x' : List ℕ) → IsAnswer words files s x →
+    IsAnswer words' files s' x' → OneOfWords words s s' x x'
+answers_alike words words' e files s s' x x' a a' =
+    one_of_words words words' e files s s' x x' (of_words words files s x a) (of_words words' files s' x' a')

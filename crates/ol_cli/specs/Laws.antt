@@ -1,5 +1,5 @@
 -- The laws of answers.
-use Rattle.std.specs.Prelude.{◌≡◌, ℕ, false, List, ◌++◌, length, String}
+use Rattle.std.specs.Prelude.{◌≡◌, ℕ, false, List, ◌++◌, length, option_map, String}
 use Rattle.std.specs.declared.alloc.Global.{Global}
 use Rattle.ol_term.specs.declared.translations.Translation.{Translation}
 use Rattle.ol_term.specs.Trees.{Tree}
@@ -10,8 +10,10 @@ use Rattle.ol_rules.specs.declared.journal.Counts.{Counts}
 use Rattle.ol_translate.specs.Translation.{translation_of}
 use Rattle.ol_cli.specs.declared.status.Status.{Status}
 use Rattle.ol_cli.specs.declared.status.Status.TheVariants as status
+use Rattle.ol_words.specs.Texts.{texts_of}
 use Rattle.ol_words.specs.Asked.{Asked, trace}
 use Rattle.ol_words.specs.Asked as jobs
+use Rattle.ol_words.specs.Jobs.{job_of}
 use Rattle.ol_cli.specs.Jobs.{AskFor, AskForNothing, Files}
 use Rattle.ol_cli.specs.Texts.{counts_text}
 use Rattle.ol_cli.specs.Answers.{IsAnswer, JobAnswer}
@@ -33,14 +35,6 @@ HaveOneText (trace translation workers fuel name) status.Spent text text' = Unit
 HaveOneText (jobs.net translation false workers fuel name) status.Done text text' = HaveOneCounts text text'
 HaveOneText _ _ text text' = text ≡ text'
 
--- The same words and files have one answer: each status comes just where the answer is that, and so does each text, as far as the job
--- tells one.
-abbrev pub OneAnswer : Type 0
-OneAnswer = (words : List (String Global)) (files : Files) (status status' : Status) (text text' : List ℕ) →
-    IsAnswer words files status text → IsAnswer words files status' text' →
-    (status ≡ status') × (AskForNothing words → text ≡ text')
-    × ((asked : Asked) → AskFor words asked → HaveOneText asked status text text')
-
 -- the job with so many workers, where it has any
 abbrev pub with_workers : ℕ → Asked → Asked
 with_workers n (jobs.run translation workers fuel heads name) = jobs.run translation n fuel heads name
@@ -52,6 +46,19 @@ with_workers n (jobs.net translation from_term workers fuel name) =
 with_workers n (jobs.equal translation workers fuel heads first second) =
     jobs.equal translation n fuel heads first second
 with_workers n asked = asked
+
+-- The words ask for one job, but for the number of its workers, or both for nothing.
+abbrev pub AskAlike : (words words' : List (String Global)) → Type 0
+AskAlike words words' = option_map (with_workers 1) (job_of (texts_of words))
+    ≡ option_map (with_workers 1) (job_of (texts_of words'))
+
+-- The same words and files have one answer: each status comes just where the answer is that, and so does each text, as far as the job
+-- tells one.
+abbrev pub OneAnswer : Type 0
+OneAnswer = (words words' : List (String Global)) → AskAlike words words' → (files : Files) (status status' : Status) (text text' : List ℕ) →
+    IsAnswer words files status text → IsAnswer words' files status' text' →
+    (status ≡ status') × (AskForNothing words → text ≡ text')
+    × ((asked : Asked) → AskFor words asked → HaveOneText asked status text text')
 
 -- The number of workers isn't seen: an answer to a job is one with any other number of workers.
 abbrev pub WorkersAreNotSeen : Type 0

@@ -14,6 +14,9 @@ mod texts;
 mod top;
 mod verdicts;
 
-pub use laws::{any_run_tells, demand_has_fuel, every_run_answers, one_answer, sources_are_told};
+pub use laws::{
+    any_run_tells, demand_has_fuel, every_run_answers, one_answer, sources_are_told,
+    workers_are_not_seen,
+};
 pub use status::Status;
 pub use top::{Outcome, ol};

@@ -3,4 +3,4 @@ use Rattle.ol_cli.proofs.Workers.{workers_unseen}
 use Rattle.ol_cli.proofs.laws.workers_are_not_seen.Goals as goal
 
 pub returns : goal.returns
-returns c = record { ensures = workers_unseen }
+returns c = workers_unseen
