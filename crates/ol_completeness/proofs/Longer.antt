@@ -1,5 +1,5 @@
--- Where the chain for as many abstractions as there are nodes breaks off, or one is given up for its
--- length, those for more meet no pair.
+-- Where the chain for as many abstractions as there are nodes breaks off, or one is given up for
+-- its length, those for more meet no pair.
 use Rattle.std.proofs.Common.{ℕ, ◌≤◌, List, inl, inr, subst, arith}
 use Rattle.ol_net.specs.declared.parts.Rule.{Rule}
 use Rattle.ol_net.specs.Nets.{NamedNet, free, IsNet, IsPrincipalOf}
@@ -43,8 +43,8 @@ module _ {A : Type 0} (N : NamedNet A) (is_net : IsNet N) where
         IsOnWalk N (AtPair N f g r) (meets_goes N m).0 n' n end
     beside end e f g r m =
         let w = meets_goes N m in
-        chain_is_on_walk N is_net none p ls (AtPair N f g r) (pair_stops N f g r) w.0 n' n w.1 end le
-        e
+        chain_is_on_walk N is_net none p ls (AtPair N f g r) (pair_stops N f g r) w.0 n' n w.1 end
+        le e
 
     pub longer_meet_none : live N ≤ n → Ends N p (asked ls n) undefined →
         MeetsNone N p (asked ls n')
