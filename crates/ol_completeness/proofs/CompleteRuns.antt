@@ -23,12 +23,13 @@ use Rattle.ol_demand.specs.Demands.{next, Turn, rewrites, one_more, finds, Turns
 use Rattle.ol_demand.specs.Laws.{IsStart}
 use Rattle.ol_demand.proofs.Chains.{no_path_at, path_at}
 use Rattle.ol_demand.proofs.Turning.{turns_kept}
-use Rattle.ol_levels.proofs.Sources.{run_net}
+use Rattle.ol_diamond.proofs.OneThreadRuns.{run_net}
 use Rattle.ol_completeness.specs.Laws.{CrossesNoStuck}
 use Rattle.ol_completeness.specs.Complete.{StaysClear}
 use Rattle.ol_completeness.specs.Least.{IsEnough, done, past, place, unknown, headless}
 use Rattle.ol_completeness.specs.Least.{CompleteIsEnough, DemandedIsLeast}
-use Rattle.ol_completeness.proofs.AsItIs.{first_is, no_lams}
+use Rattle.ol_demand.proofs.SourceHeads.{first_is}
+use Rattle.ol_completeness.proofs.AsItIs.{no_lams}
 use Rattle.ol_completeness.proofs.Chaining.{chain_ends}
 use Rattle.ol_completeness.proofs.Ending.{path_port}
 use Rattle.ol_completeness.proofs.Frozen.{meets_of}
