@@ -7,7 +7,7 @@ use Rattle.atomic_table.proofs.Lists.{set_again}
 use Rattle.ol_wire.specs.declared.plan.Plan.{Plan}
 use Rattle.ol_wire.specs.declared.view.View.{View}
 use Rattle.ol_wire.specs.StepPlays.{Seated}
-use Rattle.ol_wire.specs.Rule.{Kept, KnowsPlan}
+use Rattle.ol_wire.specs.Rule.{Table, Kept, IsView, KnowsPlan}
 use Rattle.ol_wire.specs.Moments.{Moment}
 use Rattle.ol_wire.specs.Credit.{Credited, IsRuled}
 use Rattle.ol_wire.specs.Looking.{MomentWith, sees}
@@ -19,6 +19,10 @@ one_plan p q v a b =
     let seats : p.seats ≡ q.seats = sym a.1 ∙ b.1 in
     let start : p.start.value ≡ q.start.value = sym a.2 ∙ b.2 in
     λ i. record { parts = parts i; seats = seats i; start = record { marker = p.start.marker; value = start i } }
+
+-- what holds of the plan of a table is so for each plan that one of its views knows
+pub told_of : (p : Plan) (s : Table) (k : Kept p s) (v : View) → IsView s v → 0 < v.holds → (Q : Plan → Type 0) → Q p → (q : Plan) → KnowsPlan q v → Q q
+told_of p s k v is held Q x q knows = subst Q (one_plan p q v (k.seats.plans v is held) knows) x
 
 pub sees_allowed : (p : Plan) (slots id : ℕ) (m : Seated) → 0 < m.0.holds → Allows (IsRuled p) slots id m 0 (λ n. n) (sees (step slots 0 0 0 none) m)
 sees_allowed p slots id m held s (k, c) homes here small =

@@ -1,5 +1,5 @@
 -- What each kind of step asks of its seat.
-use Rattle.std.proofs.Common.{◌≡◌, ◌≢◌, ℕ, suc, ◌+◌, ◌%◌, ◌^◌, ◌<◌, ◌≤◌, ◌⊎◌, true, false, if◌then◌else◌, List, [], ◌∷◌, get_or, sym, refl, ap, ◌∙◌, subst, inl, inr, arith}
+use Rattle.std.proofs.Common.{◌≡◌, ◌≢◌, ℕ, suc, ◌+◌, ◌%◌, ◌^◌, ◌<◌, ◌≤◌, ◌⊎◌, true, false, if◌then◌else◌, List, [], ◌∷◌, get_or, set, sym, refl, ap, ◌∙◌, subst, inl, inr, arith, get_or-set_other, get_or-set_same}
 use Rattle.std.proofs.lemmas.Bool.{cases_eq, cases_lt}
 use native.Mathlib.Nat.{mod-eq_of_lt}
 use mathlib.Core.Option.{none, some}
@@ -27,6 +27,10 @@ use Rattle.ol_wire.proofs.StepsKeep.{after}
 use Rattle.ol_wire.proofs.StepsPlain.{miss_keeps, claim_keeps, knowing_keeps, paired_keeps, write_keeps, late_keeps}
 use Rattle.ol_wire.proofs.StepsReturn.{return_keeps}
 use Rattle.ol_wire.specs.Credit.{IsRuled}
+use Rattle.ol_wire.specs.Moments.{Moment, MomentEmpty, MomentHolding}
+use Rattle.ol_wire.proofs.Sight.{told_of}
+use Rattle.ol_wire.proofs.StepsLive.{index_in}
+use Rattle.atomic_table.proofs.Lists.{set_here}
 use Rattle.ol_wire.proofs.CreditKeep.{read_keeps}
 use Rattle.ol_wire.proofs.CreditSteps.{miss_pays, claim_pays, return_pays, write_pays, ticket_pays, late_pays}
 use Rattle.ol_wire.proofs.StepsPair.{node_of_ref, ref_of_field, ticket_stands, due_past, full_of_claimed, right_of_claimed, pair_active, small_index}
@@ -43,14 +47,24 @@ module _ (p : Plan) (slots id : ℕ) (m : Seated) (held : 0 < m.0.holds) where
   of_plan : (s : Table) (k : Kept p s) → get_elem? s.views id ≡ some m.0 → m.0.parts ≡ p.parts
   of_plan s k here = (k.seats.plans m.0 (id, here) held).0
 
+  -- the moment after a step
+  abbrev moment_after : (i x : ℕ) (w : View) (s : Table) → get_elem? s.views id ≡ some m.0 → IsRuled p (after s i x id w) → Moment p w
+  moment_after i x w s here ruled = record { table = after s i x id w; kept = ruled.0; credit = ruled.1; seen = (id, set_here s.views id w (index_in s.views id m.0 here)) }
+
   pub claims_allowed : (c w : ℕ) → c < cells_of p.parts → w ≡ left_word p.parts c → IsIdle m.0 → Allows (IsRuled p) slots id m w (λ _. 0) (claims (step slots w 0 0 none) m)
   claims_allowed c w low at idle s (k, paid) homes here small = elim (cases_eq (get_or s.words w 0) 0) [
-    | inl e ↦ (missing m.0 w, keeps, tt, (miss_keeps p s k id m.0 here held w is c low at idle e, miss_pays p s k paid id m.0 here w is e), (refl, (λ _. refl), (λ ne. absurd (ne e))))
+    | inl e ↦ (missing m.0 w, keeps, tt, missed e, (refl, (λ _. (refl, told_of p s k m.0 (id, here) held (λ (q : Plan). MomentEmpty q w (missing m.0 w)) (moment_after w 0 (missing m.0 w) s here (missed e), empty))), (λ ne. absurd (ne e))))
     | inr ne ↦ (holding m.0 w (get_or s.words w 0), keeps, tt, (next ne, claim_pays p s k paid id m.0 here w is idle held), (refl, (λ e. absurd (ne e)), (λ _. (refl, is_node ne))))
   ]
     where
       is : part_of_word p.parts w ≡ left
       is = ap (part_of_word p.parts) at ∙ (part_cell p.parts c low).0
+
+      missed : get_or s.words w 0 ≡ 0 → IsRuled p (after s w 0 id (missing m.0 w))
+      missed e = (miss_keeps p s k id m.0 here held w is c low at idle e, miss_pays p s k paid id m.0 here w is e)
+
+      empty : get_or (set s.words w 0) w 0 ≡ 0
+      empty = get_or-set_same s.words w 0 0 (omega (arith, k.words.wide, (is_left p.parts w is).1))
 
       next : get_or s.words w 0 ≢ 0 → Kept p (after s w 0 id (holding m.0 w (get_or s.words w 0)))
       next = claim_keeps p s k id m.0 here held w is
@@ -144,7 +158,19 @@ module _ (p : Plan) (slots id : ℕ) (m : Seated) (held : 0 < m.0.holds) where
       (subst (λ (b : ℕ). Allows (IsRuled p) slots id m w (λ _. b) (λ _. returns (step slots w b 0 none) m b)) (sym first) there)
     where
       there : Allows (IsRuled p) slots id m w (λ _. m.0.last.0) (λ _. returns (step slots w m.0.last.0 0 none) m m.0.last.0)
-      there s (k, paid) homes here small = (returned m.0, keeps, tt, (return_keeps p s k id m.0 here held c w low at taken known, return_pays p s k paid id m.0 here w (ap (part_of_word p.parts) at ∙ (part_cell p.parts c low).0) taken), (refl, refl))
+      there s (k, paid) homes here small = (returned m.0, keeps, tt, ruled, (refl, refl, told_of p s k m.0 (id, here) held (λ (q : Plan). MomentHolding q w (returned m.0)) (moment_after w m.0.last.0 (returned m.0) s here ruled, stands, beside)))
+        where
+          is : part_of_word p.parts w ≡ left
+          is = ap (part_of_word p.parts) at ∙ (part_cell p.parts c low).0
+
+          ruled : IsRuled p (after s w m.0.last.0 id (returned m.0))
+          ruled = (return_keeps p s k id m.0 here held c w low at taken known, return_pays p s k paid id m.0 here w is taken)
+
+          stands : get_or (set s.words w m.0.last.0) w 0 ≡ m.0.last.0
+          stands = get_or-set_same s.words w m.0.last.0 0 (omega (arith, k.words.wide, (is_left p.parts w is).1))
+
+          beside : get_or (set s.words w m.0.last.0) (suc w) 0 ≡ m.0.last.1
+          beside = get_or-set_other s.words w (suc w) m.0.last.0 0 (λ e. omega (arith, e)) ∙ (k.words.known m.0 (suc w) m.0.last.1 (id, here) known).0
 
 module _ (p : Plan) (slots id : ℕ) (m : Seated) where
   pub draws_allowed : (w : ℕ) → IsLookedUp m.0 w → Allows (IsRuled p) slots id m 0 (λ n. (n + 1) % 2 ^ 64) (draws (step slots 0 1 0 none) m)
@@ -154,9 +180,10 @@ module _ (p : Plan) (slots id : ℕ) (m : Seated) where
       let fits : n + 1 < 18446744073709551616 = omega (arith, k.seats.calm, k.plan.small.fuel, k.plan.seats.1, k.seats.all, past_le s.views) in
       let next : (n + 1) % 2 ^ 64 ≡ n + 1 = mod-eq_of_lt fits in
       let is = (k.seats.taken m.0 w m.0.last.0 (id, here) (subst (λ (l : List (ℕ × ℕ)). IsIn {X = ℕ × ℕ} (w, m.0.last.0) l) (sym up.taken) (inl refl))).0 in
+      let drawn : n < p.parts.fuel → IsRuled p (after s 0 (n + 1) id (ticketed m.0 n)) = λ low. (ticket_keeps p s k id m.0 here w up low, ticket_pays p s k paid id m.0 here w is up.taken up.right up.rule n up.owed) in
       let P : ℕ → Type 0 = λ y. (w : View) × (a : Act (Unit {0})) × Valid s.homes m.1 a × IsRuled p (stepped s 0 y id m.1 w a) × draws (step slots 0 1 0 none) m n (w, carried_after m.1 a) in
       subst P (sym next) (elim (cases_lt n p.parts.fuel) [
-        | inl low ↦ (ticketed m.0 n, keeps, tt, (ticket_keeps p s k id m.0 here w up low, ticket_pays p s k paid id m.0 here w is up.taken up.right up.rule n up.owed), (refl, (λ _. refl), (λ high. absurd (omega (arith, fuel, low, high)))))
+        | inl low ↦ (ticketed m.0 n, keeps, tt, drawn low, (refl, (λ _. (refl, told_of p s k m.0 (id, here) up.held (λ (q : Plan). Moment q (ticketed m.0 n)) (moment_after p slots id m up.held 0 (n + 1) (ticketed m.0 n) s here (drawn low)))), (λ high. absurd (omega (arith, fuel, low, high)))))
         | inr high ↦ (
           late m.0,
           keeps,

@@ -78,13 +78,16 @@ module _ (p : Plan) (id : ℕ) (v : View) (held : 0 < v.holds) (s : Table) (k : 
   seen : IsView next (live_read v y)
   seen = (id, set_here s.views id (live_read v y) (index_in s.views id v here))
 
+  stands : get_or next.words 1 0 ≡ y
+  stands = ap (λ ws. get_or ws 1 0) (set-get_or s.words 1 0)
+
   empty : y ≡ 0 → get_or next.words 1 0 ≡ 0
-  empty e = ap (λ ws. get_or ws 1 0) (set-get_or s.words 1 0) ∙ e
+  empty e = stands ∙ e
 
   told : (q : Plan) → KnowsPlan q v → MomentLive q (live_read v y) y
   told q knows =
       let same : p ≡ q = one_plan p q v (k.seats.plans v (id, here) held) knows in
-      subst (λ (t : Plan). MomentLive t (live_read v y) y) same (record { table = next; kept = kept; credit = credit; seen = seen }, (λ e. quiet_complete p next kept credit (empty e)))
+      subst (λ (t : Plan). MomentLive t (live_read v y) y) same (record { table = next; kept = kept; credit = credit; seen = seen }, stands, (λ e. quiet_complete p next kept credit (empty e)))
 
 pub listens_allowed : (p : Plan) (slots id : ℕ) (m : Seated) → 0 < m.0.holds → Allows (IsRuled p) slots id m 1 (λ n. n) (listens (step slots 1 0 0 none) m)
 listens_allowed p slots id m held s (k, c) homes here small = (live_read m.0 (get_or s.words 1 0), keeps, tt, (kept p id m.0 held s k c here, credit p id m.0 held s k c here), (refl, refl, told p id m.0 held s k c here))
