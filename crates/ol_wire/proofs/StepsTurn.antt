@@ -50,7 +50,7 @@ swept_stays v c n le lt = of (nat_eq v.holds v.seats) (nat_eq c v.swept) refl
 module _ (z : Parts) (v t n : View) (c : ℕ) (pair : ℕ × ℕ) (ks : List (ℕ × ℕ)) (o : Bool) (parts : v.parts ≡ z) (low : c < cells_of z) (idle : IsIdle v)
     (hand : t ≡ record (in_hand v (left_word z c) c pair) { known = ks; over = o }) (back : n ≡ returned t) where
   abbrev shape : List (ℕ × ℕ) → ℕ → Bool → ℕ × ℕ → View
-  shape taken swept over last = record v { claimed = v.claimed ++ c ∷ []; last = last; taken = taken; known = []; swept = swept; over = over }
+  shape taken swept over last = record v { claimed = v.claimed ++ c ∷ []; last = last; cell = c; taken = taken; known = []; swept = swept; over = over }
 
   number : cell_at v.parts (left_word z c) ≡ c
   number = ap (λ (y : Parts). cell_at y (left_word z c)) parts ∙ cell_of_left z c low
@@ -153,6 +153,7 @@ module _ (z : Parts) (v m n : View) (c mask : ℕ) (b : Begun) (ws : List ℕ) (
     published = v.published ++ masked first_cell mask;
     made = v.made ++ (b.ticket, entry_of y (event_of last.0 last.1)) ∷ [];
     last = last;
+    cell = c;
     taken = taken;
     known = n.known;
     pending = pending;

@@ -5,12 +5,14 @@ use Rattle.ol_wire.specs.declared.plan.Plan.{Plan}
 use Rattle.ol_wire.specs.declared.view.View.{View}
 use Rattle.ol_wire.specs.Rule.{Table, IsView, Kept}
 use Rattle.ol_wire.specs.Credit.{Credited}
+use Rattle.ol_wire.specs.Remembered.{Remembered}
 
 -- The words and the views of a table that was made by this plan, at a moment at which the view stood among them: they met the rule.
 pub record Moment (p : Plan) (v : View) : Type 0 where
   pub table : Table
   pub kept : Kept p table
   pub credit : Credited p table
+  pub told : Remembered p table
   pub seen : IsView table v
 
 -- the list ends with this number

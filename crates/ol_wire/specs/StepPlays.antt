@@ -35,10 +35,10 @@ rest (x ∷ xs) = xs
 
 -- a claim of the cell with left word w, where x stood
 abbrev pub missing : View → ℕ → View
-missing v w = record v { claimed = v.claimed ++ cell_at v.parts w ∷ []; last = (0, 0); swept = swept_on v (cell_at v.parts w) }
+missing v w = record v { claimed = v.claimed ++ cell_at v.parts w ∷ []; last = (0, 0); cell = cell_at v.parts w; swept = swept_on v (cell_at v.parts w) }
 
 abbrev pub holding : View → ℕ → ℕ → View
-holding v w x = record v { claimed = v.claimed ++ cell_at v.parts w ∷ []; last = (x, 0); taken = (w, x) ∷ v.taken }
+holding v w x = record v { claimed = v.claimed ++ cell_at v.parts w ∷ []; last = (x, 0); cell = cell_at v.parts w; taken = (w, x) ∷ v.taken }
 
 -- a look at the right word of the cell that was claimed, and at a field
 abbrev pub paired : View → ℕ → ℕ → View
