@@ -63,7 +63,8 @@ fn run<'a, R: Files + Input + Print + Threads + Wait + Sync>(
 
     // `Done` of a job with a file comes after the end of the input was seen, and no call failed.
     ensures done { result.status ≡ Status.Done
-        → (⟦<StdSource<'a, R> as Source>⟧.faults result.src ≡ 0) × (⟦<StdSink<'a, R> as Sink>⟧.faults result.out ≡ 0)
+        → (⟦<StdSource<'a, R> as Source>⟧.faults result.src ≡ 0)
+        × (⟦<StdSink<'a, R> as Sink>⟧.faults result.out ≡ 0)
         × (0 < files_of words.now.items → ⟦<StdSource<'a, R> as Source>⟧.ended result.src ≡ true) }
 
     // Where nothing failed, what was accepted is the answer to what was handed over.
