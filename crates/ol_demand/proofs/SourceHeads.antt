@@ -29,17 +29,17 @@ abbrev Ahead : NamedNet NodeName → List ReadNode → Asking → Type 0
 Ahead N places a = (rest : List ReadNode) → HaveHeadsOf N false a.frames a.waiting rest → HasHeadsOf N false (places ++ rest)
 
 -- the first subterm that is left was asked in vain for each smaller number of abstractions
-abbrev Tried : NamedNet NodeName → Asking → Type 0
+abbrev pub Tried : NamedNet NodeName → Asking → Type 0
 Tried N a = (s : Subterm) (ss : List Subterm) → a.waiting ≡ s ∷ ss → (m : ℕ) → m < a.lams → NoPath N s.port (asked s.levels m)
 
-first_is : (s t : Subterm) (ss ts : List Subterm) → s ∷ ss ≡ t ∷ ts → s ≡ t
+pub first_is : (s t : Subterm) (ss ts : List Subterm) → s ∷ ss ≡ t ∷ ts → s ≡ t
 first_is s t ss ts e = cc
 
 module _ (N M : NamedNet NodeName) (is_net : IsNet M) (paths : HaveSamePaths N M) where
   none_in : (s : Subterm) (n : ℕ) → Ends M s.port (asked s.levels n) chain.undefined → NoPath N s.port (asked s.levels n)
   none_in s n h q X r = no_path_at M is_net s.port (asked s.levels n) h q X ((paths s.port (asked s.levels n) q X).0 r)
 
-  tried_more : (F : List Frame) (s : Subterm) (ss : List Subterm) (n : ℕ) → Ends M s.port (asked s.levels n) chain.undefined → Tried N (asks F (s ∷ ss) n) → Tried N (asks F (s ∷ ss) (suc n))
+  pub tried_more : (F : List Frame) (s : Subterm) (ss : List Subterm) (n : ℕ) → Ends M s.port (asked s.levels n) chain.undefined → Tried N (asks F (s ∷ ss) n) → Tried N (asks F (s ∷ ss) (suc n))
   tried_more F s ss n h y t ts e m b = go (cases_lt m n)
     where
       go : (m < n) ⊎ (n ≤ m) → NoPath N t.port (asked t.levels m)
@@ -68,7 +68,7 @@ module _ (N M : NamedNet NodeName) (is_net : IsNet M) (paths : HaveSamePaths N M
     found_ahead no_head f h rest r = sources.lost (λ e. absurd (cc)) r
     found_ahead heads.budget f h rest r = sources.cut r
 
-tried_none : (N : NamedNet NodeName) (F : List Frame) (s : Subterm) (ss : List Subterm) (a : Answer) → Tried N (next F s ss a)
+pub tried_none : (N : NamedNet NodeName) (F : List Frame) (s : Subterm) (ss : List Subterm) (a : Answer) → Tried N (next F s ss a)
 tried_none N F s ss (head n v k ls) t ts e m b = absurd (omega arith)
 tried_none N F s ss no_head t ts e m b = absurd (omega arith)
 tried_none N F s ss heads.budget t ts e m b = absurd (omega arith)

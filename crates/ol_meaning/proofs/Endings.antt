@@ -19,10 +19,10 @@ use Rattle.ol_meaning.proofs.LeftmostRoads.{IsNeutral, arg_leftmost, variable_ne
 
 -- ---- a leftmost step, or none
 
-some_none : (at : List ℕ) → Some at ≡ None → ⊥
+pub some_none : (at : List ℕ) → Some at ≡ None → ⊥
 some_none at e = absurd (cc)
 
-step_or_none : (t : Tree) → (leftmost t ≡ None) ⊎ ((u : Tree) × StepsTo t u)
+pub step_or_none : (t : Tree) → (leftmost t ≡ None) ⊎ ((u : Tree) × StepsTo t u)
 step_or_none t = by (leftmost t) refl
   where
     gives : (at : List ℕ) → leftmost t ≡ Some at → (o : Option Tree) → contracted t at ≡ o → IsSome o → (u : Tree) × StepsTo t u
@@ -36,11 +36,11 @@ step_or_none t = by (leftmost t) refl
 -- ---- a reduction that ends, and steps that it begins with
 
 -- what leftmost reduction that ends leads to after a step
-rest_of : {t u v : Tree} {at : List ℕ} → leftmost t ≡ Some at → contracted t at ≡ Some u → LeftmostReduces t v → leftmost v ≡ None → LeftmostReduces u v
+pub rest_of : {t u v : Tree} {at : List ℕ} → leftmost t ≡ Some at → contracted t at ≡ Some u → LeftmostReduces t v → leftmost v ≡ None → LeftmostReduces u v
 rest_of {at = at} e f ready n = absurd (some_none at (sym e ∙ n))
 rest_of {t = t} {v = v} e f (contract g h l) n = subst (λ u. LeftmostReduces u v) (same_step t g h e f) l
 
-after_head : {t u v : Tree} {m : ℕ} → Steps t u m → LeftmostReduces t v → leftmost v ≡ None → LeftmostReduces u v
+pub after_head : {t u v : Tree} {m : ℕ} → Steps t u m → LeftmostReduces t v → leftmost v ≡ None → LeftmostReduces u v
 after_head done l n = l
 after_head (step h s) l n = let r = leftmost_step h in after_head s (rest_of r.1 r.2 l n) n
 
@@ -64,13 +64,13 @@ never {t = t} f (contract {u = u} e g l) n =
 -- ---- within a term
 
 -- what reduction that ends makes of a part in which the leftmost redex is looked for first
-record Ended (P v : Tree) (f : Tree → Tree) : Type 0 where
-  last : Tree
-  leads : LeftmostReduces P last
-  normal : leftmost last ≡ None
-  rest : LeftmostReduces (f last) v
+pub record Ended (P v : Tree) (f : Tree → Tree) : Type 0 where
+  pub last : Tree
+  pub leads : LeftmostReduces P last
+  pub normal : leftmost last ≡ None
+  pub rest : LeftmostReduces (f last) v
 
-within : (f : Tree → Tree) → ((t u : Tree) → StepsTo t u → StepsTo (f t) (f u)) → {t v : Tree} → LeftmostReduces t v → leftmost v ≡ None → (P : Tree) → t ≡ f P → Ended P v f
+pub within : (f : Tree → Tree) → ((t u : Tree) → StepsTo t u → StepsTo (f t) (f u)) → {t v : Tree} → LeftmostReduces t v → leftmost v ≡ None → (P : Tree) → t ≡ f P → Ended P v f
 within f up {v = v} ready n P e = by (step_or_none P)
   where
     by : (leftmost P ≡ None) ⊎ ((u : Tree) × StepsTo P u) → Ended P v f
@@ -85,13 +85,13 @@ within f up {t = t} {v = v} (contract {u = w} {at = at} g h l) n P e = by (λ Q 
         let x = next k.0 (same_step t g h (ap leftmost e ∙ s.first) (ap (λ t. contracted t s.at) e ∙ s.gives)) in
         record { last = x.last; leads = contract {at = k.1.at} k.1.first k.1.gives x.leads; normal = x.normal; rest = x.rest }
 
-within_lam : (l : ℕ) (t u : Tree) → StepsTo t u → StepsTo (abstracted l t) (abstracted l u)
+pub within_lam : (l : ℕ) (t u : Tree) → StepsTo t u → StepsTo (abstracted l t) (abstracted l u)
 within_lam zero t u s = s
 within_lam (suc l) t u s =
     let r = within_lam l t u s in
     record { at = 0 ∷ r.at; first = ap (beta_steps.under 0) r.first; gives = ap (option_map lam) r.gives }
 
-within_arg : (f : Tree) → IsNeutral f → (Ps : List Tree) (t u : Tree) → StepsTo t u → StepsTo (applied (app f t) Ps) (applied (app f u) Ps)
+pub within_arg : (f : Tree) → IsNeutral f → (Ps : List Tree) (t u : Tree) → StepsTo t u → StepsTo (applied (app f t) Ps) (applied (app f u) Ps)
 within_arg f n Ps t u s = step_before Ps (app f t) (app f u) refl (record { at = 2 ∷ s.at; first = arg_leftmost f t (Some s.at) n s.first; gives = ap (option_map (app f)) s.gives })
 
 -- ---- a whole tree

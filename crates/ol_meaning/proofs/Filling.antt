@@ -12,19 +12,19 @@ use Rattle.ol_meaning.proofs.LeftmostRoads.{then_leads}
 
 -- ---- beta reduction within a term
 
-head_beta : {t u : Tree} {m : ℕ} → Steps t u m → BetaReduces t u
+pub head_beta : {t u : Tree} {m : ℕ} → Steps t u m → BetaReduces t u
 head_beta done = ready
 head_beta (step h s) = let r = leftmost_step h in contract {at = r.0} tt r.2 (head_beta s)
 
-lam_beta : {t u : Tree} → BetaReduces t u → BetaReduces (lam t) (lam u)
+pub lam_beta : {t u : Tree} → BetaReduces t u → BetaReduces (lam t) (lam u)
 lam_beta ready = ready
 lam_beta (contract {at = at} c e l) = contract {at = 0 ∷ at} tt (ap (option_map lam) e) (lam_beta l)
 
-fun_beta : (a : Tree) {t u : Tree} → BetaReduces t u → BetaReduces (app t a) (app u a)
+pub fun_beta : (a : Tree) {t u : Tree} → BetaReduces t u → BetaReduces (app t a) (app u a)
 fun_beta a ready = ready
 fun_beta a (contract {at = at} c e l) = contract {at = 1 ∷ at} tt (ap (option_map (λ g. app g a)) e) (fun_beta a l)
 
-arg_beta : (f : Tree) {t u : Tree} → BetaReduces t u → BetaReduces (app f t) (app f u)
+pub arg_beta : (f : Tree) {t u : Tree} → BetaReduces t u → BetaReduces (app f t) (app f u)
 arg_beta f ready = ready
 arg_beta f (contract {at = at} c e l) = contract {at = 2 ∷ at} tt (ap (option_map (app f)) e) (arg_beta f l)
 

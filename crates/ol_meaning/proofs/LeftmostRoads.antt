@@ -24,7 +24,7 @@ head_leads : {t u : Tree} {m : ℕ} → Steps t u m → LeftmostReduces t u
 head_leads done = ready
 head_leads (step h s) = let r = leftmost_step h in contract r.1 r.2 (head_leads s)
 
-lam_leads : {t u : Tree} → LeftmostReduces t u → LeftmostReduces (lam t) (lam u)
+pub lam_leads : {t u : Tree} → LeftmostReduces t u → LeftmostReduces (lam t) (lam u)
 lam_leads ready = ready
 lam_leads (contract {at = at} e f l) = contract {at = 0 ∷ at} (ap (beta_steps.under 0) e) (ap (option_map lam) f) (lam_leads l)
 
@@ -44,7 +44,7 @@ arg_leftmost f a o n e =
     ∙ ap (λ x. first_of_two (beta_steps.under 1 x) (beta_steps.under 2 (leftmost a))) n.none ∙ ap (beta_steps.under 2) e
 
 -- and of one whose function has one and is no abstraction
-fun_leftmost : (f a : Tree) (at : List ℕ) → is_abstraction f ≡ false → leftmost f ≡ Some at → leftmost (app f a) ≡ Some (1 ∷ at)
+pub fun_leftmost : (f a : Tree) (at : List ℕ) → is_abstraction f ≡ false → leftmost f ≡ Some at → leftmost (app f a) ≡ Some (1 ∷ at)
 fun_leftmost f a at n e =
     ap (λ b. if b then Some [] else first_of_two (beta_steps.under 1 (leftmost f)) (beta_steps.under 2 (leftmost a))) n
     ∙ ap (λ x. first_of_two (beta_steps.under 1 x) (beta_steps.under 2 (leftmost a))) e
@@ -73,7 +73,7 @@ pub variable_neutral : (ss : List (ℕ × ℕ)) (v : HeadVar) → IsNeutral (var
 variable_neutral ss (head.Bound i j) = record { plain = refl; none = refl }
 variable_neutral ss (head.Free q) = record { plain = refl; none = refl }
 
-abstracted_none : (l : ℕ) (t : Tree) → leftmost t ≡ None → leftmost (abstracted l t) ≡ None
+pub abstracted_none : (l : ℕ) (t : Tree) → leftmost t ≡ None → leftmost (abstracted l t) ≡ None
 abstracted_none zero t e = e
 abstracted_none (suc l) t e = ap (beta_steps.under 0) (abstracted_none l t e)
 

@@ -60,22 +60,22 @@ module _ {τ : Translation} where
       (x.0, x.1, few, x.2, normal_is x.6)
 
 -- where a path of the least number n of abstractions leaves, by port q with context X
-record Exit (τ : Translation) {A : Type 0} (N : NamedNet A) (ch : Chain) (F : List Frame) (s : Subterm) (P : Tree) (S : Seats) (n q : ℕ) (X : Context) : Type 0 where
-  last : Tree
-  steps : ℕ
-  leads : Steps P last steps
-  place : Place
-  inner : Level
-  level : Level
-  args : ℕ
-  normal : Normal last place inner args
-  same : SameAlong τ leads place level inner
-  lams : n ≡ outer last
-  says : HeadSays (F ++ framed s 0 ∷ []) q X (length F) (outer last) args ((length F, outer last) ∷ scope ch) (occurrence (normal_shape normal).wire_is) (λ q c X. S place level c q X)
+pub record Exit (τ : Translation) {A : Type 0} (N : NamedNet A) (ch : Chain) (F : List Frame) (s : Subterm) (P : Tree) (S : Seats) (n q : ℕ) (X : Context) : Type 0 where
+  pub last : Tree
+  pub steps : ℕ
+  pub leads : Steps P last steps
+  pub place : Place
+  pub inner : Level
+  pub level : Level
+  pub args : ℕ
+  pub normal : Normal last place inner args
+  pub same : SameAlong τ leads place level inner
+  pub lams : n ≡ outer last
+  pub says : HeadSays (F ++ framed s 0 ∷ []) q X (length F) (outer last) args ((length F, outer last) ∷ scope ch) (occurrence (normal_shape normal).wire_is) (λ q c X. S place level c q X)
 
 module _ {τ : Translation} {A : Type 0} {N : NamedNet A} {ch : Chain} {P : Tree} {S : Seats} (F : List Frame) (s : Subterm) (seen : IsSeen τ N ch s.port s.levels P S) (chain : IsChain F (length F) s.parent ch) where
   -- what is asked of the subterm's frame
-  from_asked : (n q : ℕ) (X : Context) → Path N (free (frame_at (F ++ framed s 0 ∷ []) (length F)).port) (asked (frame_at (F ++ framed s 0 ∷ []) (length F)).levels n) q X →
+  pub from_asked : (n q : ℕ) (X : Context) → Path N (free (frame_at (F ++ framed s 0 ∷ []) (length F)).port) (asked (frame_at (F ++ framed s 0 ∷ []) (length F)).levels n) q X →
       Path N (free s.port) (ahead s.levels (cons (os n empty) (levels []))) q X
   from_asked n q X r = subst (λ c. Path N (free s.port) c q X) (asked_is s.levels n) (subst (λ (f : Frame). Path N (free f.port) (asked f.levels n) q X) (frame_last F (framed s 0)) r)
 
@@ -84,13 +84,13 @@ module _ {τ : Translation} {A : Type 0} {N : NamedNet A} {ch : Chain} {P : Tree
   to_asked n q X r = subst (λ (f : Frame). Path N (free f.port) (asked f.levels n) q X) (sym (frame_last F (framed s 0))) (subst (λ c. Path N (free s.port) c q X) (sym (asked_is s.levels n)) r)
 
   -- a number of abstractions that leads on in the subterm has a path
-  leads_path : (n k : ℕ) (y : Place) (w : Level) (d : Context) → Leads τ P (at root (os n empty) (levels [])) (at y w d) k →
+  pub leads_path : (n k : ℕ) (y : Place) (w : Level) (d : Context) → Leads τ P (at root (os n empty) (levels [])) (at y w d) k →
       (q : ℕ) × (X : Context) × Path N (free (frame_at (F ++ framed s 0 ∷ []) (length F)).port) (asked (frame_at (F ++ framed s 0 ∷ []) (length F)).levels n) q X
   leads_path n k y w d l =
       let a = seen.forth root y (os n empty) w (levels []) d k s.port (ahead s.levels (cons (os n empty) (levels []))) (seen.at_root (os n empty) (levels [])) l in
       (a.0, a.1, to_asked n a.0 a.1 a.3)
 
-  exit_of : (n q : ℕ) (X : Context) → ((m : ℕ) → m < n → NoPath N (frame_at (F ++ framed s 0 ∷ []) (length F)).port (asked (frame_at (F ++ framed s 0 ∷ []) (length F)).levels m)) →
+  pub exit_of : (n q : ℕ) (X : Context) → ((m : ℕ) → m < n → NoPath N (frame_at (F ++ framed s 0 ∷ []) (length F)).port (asked (frame_at (F ++ framed s 0 ∷ []) (length F)).levels m)) →
       Path N (free (frame_at (F ++ framed s 0 ∷ []) (length F)).port) (asked (frame_at (F ++ framed s 0 ∷ []) (length F)).levels n) q X → Exit τ N ch F s P S n q X
   exit_of n q X few r =
       let b = seen.back root (os n empty) (levels []) s.port q (ahead s.levels (cons (os n empty) (levels []))) X (seen.at_root (os n empty) (levels [])) (from_asked n q X r) in
@@ -110,7 +110,7 @@ module _ {τ : Translation} {A : Type 0} {N : NamedNet A} {ch : Chain} {P : Tree
       }
 
   -- it matches
-  exit_matches : (n q : ℕ) (X : Context) (e : Exit τ N ch F s P S n q X) → Matches (F ++ framed s 0 ∷ []) q X (length F) n e.says.says.variable e.args e.says.first
+  pub exit_matches : (n q : ℕ) (X : Context) (e : Exit τ N ch F s P S n q X) → Matches (F ++ framed s 0 ∷ []) q X (length F) n e.says.says.variable e.args e.says.first
   exit_matches n q X e =
       subst (λ X. Matches (F ++ framed s 0 ∷ []) q X (length F) n e.says.says.variable e.args e.says.first) (sym e.says.exit)
       (subst (λ n. Matches (F ++ framed s 0 ∷ []) q (ahead e.says.first (ended e.args)) (length F) n e.says.says.variable e.args e.says.first) (sym e.lams) e.says.says.match)
@@ -226,7 +226,7 @@ found_of : {A : Type 0} {N : NamedNet A} {b : Bool} {F : List Frame} {s : Subter
     (ls : List Level) × IsHead N (F ++ framed s 0 ∷ []) (length F) (head n v k ls) × HaveHeadsOf N b (F ++ framed s n ∷ []) (arguments (length F) (port_of (F ++ framed s n ∷ []) v) ls 0 k ++ ss) ns
 found_of (sources.found {ls = ls} h r) = (ls, h, r)
 
-chain_more : (F G : List Frame) (b c : ℕ) (o : Option ℕ) (ch : Chain) → b ≤ c → IsChain F b o ch → IsChain (F ++ G) c o ch
+pub chain_more : (F G : List Frame) (b c : ℕ) (o : Option ℕ) (ch : Chain) → b ≤ c → IsChain F b o ch → IsChain (F ++ G) c o ch
 chain_more F G b c o [] l h = h
 chain_more F G b c o (x ∷ xs) l h =
     let n = length-append F G in

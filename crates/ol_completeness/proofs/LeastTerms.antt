@@ -1,0 +1,22 @@
+-- Demand order is least on nets of terms.
+use Rattle.ol_completeness.specs.Terms.{TermIsReadLeast, TermIsDemandedLeast, CompleteRunIsEnough}
+use Rattle.ol_demand.specs.Answers.{start_of}
+use Rattle.ol_completeness.proofs.CompleteRuns.{complete_is_enough, demanded_is_least}
+use Rattle.ol_completeness.proofs.Least.{demand_is_least}
+use Rattle.ol_completeness.proofs.Levelled.{start, levels, clear}
+
+pub term_is_read_least : TermIsReadLeast
+term_is_read_least τ t names h g is_net same M P most heads turns journal other places a below
+    turned run enough =
+    demand_is_least (start_of g) M P most heads turns journal other places a
+    (start τ t names h g is_net same) (clear τ t names h g is_net same) below turned run enough
+
+pub term_is_demanded_least : TermIsDemandedLeast
+term_is_demanded_least τ t names h g is_net same M heads turns journal places a turned =
+    demanded_is_least (start_of g) M heads turns journal places a (start τ t names h g is_net same)
+    (levels τ t names h g is_net same) turned
+
+pub complete_run_is_enough : CompleteRunIsEnough
+complete_run_is_enough τ t names h g is_net same M heads journal places d =
+    complete_is_enough (start_of g) M heads journal places (start τ t names h g is_net same)
+    (clear τ t names h g is_net same) d

@@ -1,0 +1,12 @@
+use Rattle.ol_completeness.proofs.terms_are_read_least.Goals as goal
+use Rattle.ol_completeness.proofs.LeastTerms.{term_is_read_least, term_is_demanded_least}
+use Rattle.ol_completeness.proofs.LeastTerms.{complete_run_is_enough}
+
+pub returns-clause-least : goal.returns-clause-least
+returns-clause-least c = term_is_read_least
+
+pub returns-clause-demanded : goal.returns-clause-demanded
+returns-clause-demanded c = term_is_demanded_least
+
+pub returns-clause-complete : goal.returns-clause-complete
+returns-clause-complete c = complete_run_is_enough
