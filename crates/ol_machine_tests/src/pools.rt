@@ -166,6 +166,18 @@ fn a_cell_goes_from_hand_to_hand(rt: HostRuntime) -> Result<(), Fail> {
     Ok(())
 }
 
+#[test]
+fn a_hand_takes_what_it_put_in_order(rt: HostRuntime) -> Result<(), Fail> {
+    let (pool, mut zero, _one) = pool_of_two(rt.alloc(), 8)?;
+    assert_eq!(rt; pool.put(&mut zero, 3), Ok(()));
+    assert_eq!(rt; pool.put(&mut zero, 1), Ok(()));
+    assert_eq!(rt; pool.take(&mut zero), Some(3));
+    assert_eq!(rt; pool.take(&mut zero), Some(1));
+    assert_eq!(rt; pool.take(&mut zero), None);
+    assert_eq!(rt; zero.refused(), 0);
+    Ok(())
+}
+
 // The sum of `cell + 1` over the cells that one hand takes until it misses.
 fn take_all(pool: &Pool, hand: Hand) -> u32
     requires { IsHandOf hand pool.now }

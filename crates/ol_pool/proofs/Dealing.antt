@@ -166,6 +166,7 @@ new_hand_is pool k own is long =
       sent = ap (λ (l : Log). l.sent) is;
       parts = λ p. ap (λ x. part_at (slice_set (map reach_part (row_of pool)) k x) p) mine ∙ new_parts pool.cells pool.deques k p;
       refused = refl;
+      stage = ap (λ (l : Log). l.stage) is;
       missed = refl;
     }
 
@@ -194,6 +195,16 @@ dealt_of pool (h ∷ hands) each = All-cons (λ (hand : HandState). IsHandOf han
   rest : (hands : List HandState) → ((k : ℕ) → ForSome (slice_get hands k) (λ (x : HandState). IsHandOf x pool)) → All (λ (hand : HandState). IsHandOf hand pool) hands
   rest [] f = All-nil (λ (hand : HandState). IsHandOf hand pool)
   rest (x ∷ xs) f = All-cons (λ (hand : HandState). IsHandOf hand pool) x xs (f 0 x refl) (rest xs (λ k y at. f (suc k) y at))
+
+pub opened_of : (pool : PoolState) (hands : List HandState) → AreDealt pool hands → All (λ (hand : HandState). hand.stage ≡ 2) hands
+opened_of pool [] each = All-nil (λ (hand : HandState). hand.stage ≡ 2)
+opened_of pool (h ∷ hands) each = All-cons (λ (hand : HandState). hand.stage ≡ 2) h hands (each 0 h refl).stage (rest hands (λ k. from k)) where
+  from : (k : ℕ) → ForSome (slice_get hands k) (λ (x : HandState). x.stage ≡ 2)
+  from k x at = (each (suc k) x at).stage
+
+  rest : (hands : List HandState) → ((k : ℕ) → ForSome (slice_get hands k) (λ (x : HandState). x.stage ≡ 2)) → All (λ (hand : HandState). hand.stage ≡ 2) hands
+  rest [] f = All-nil (λ (hand : HandState). hand.stage ≡ 2)
+  rest (x ∷ xs) f = All-cons (λ (hand : HandState). hand.stage ≡ 2) x xs (f 0 x refl) (rest xs (λ k y at. f (suc k) y at))
 
 pub snoc_append : {X : Type 0} (xs ys : List X) (x : X) → (xs ++ x ∷ []) ++ ys ≡ xs ++ x ∷ ys
 snoc_append [] ys x = refl

@@ -70,10 +70,14 @@ Kept waiting views =
 abbrev pub times : ℕ → List ℕ → ℕ
 times cell cells = weigh (λ other. if other == cell then 1 else 0) cells
 
+-- a pass of a deque in which its bound waits: no cell was put into it, and none was given
+abbrev pub IsTold : Log → Type 0
+IsTold v = (v.stage ≡ 1) × (v.sent ≡ []) × (v.given ≡ [])
+
 -- Wherever such a rule holds of the cells that wait and of the passes: each cell waits or was given to one of them just as often as
--- one of them put it. Else the bound of all cells waits, while the pool is made.
+-- one of them put it. Else the bound of all cells waits, while the pool is made, and there is no cell yet.
 abbrev pub NoCellIsLost : (List ℕ → List Log → Type 0) → Type 0
 NoCellIsLost Holds =
     (waiting : List ℕ) (views : List Log) → Holds waiting views
-    → All (λ v. v.stage ≡ 1) views
+    → All IsTold views
     ⊎ ((cell : ℕ) → total (λ v. times cell v.sent) views ≡ total (λ v. times cell v.given) views + times cell waiting)

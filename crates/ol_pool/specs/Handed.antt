@@ -24,6 +24,7 @@ new_hand number own others = record {
   sent = own.log.sent;
   parts = parts_of number own 0 others;
   refused = 0;
+  stage = own.log.stage;
   missed = false;
 }
 

@@ -1,15 +1,28 @@
 -- The two sides of a deque, and a hand's access to all.
-use Rattle.std.specs.Prelude.{◌≡◌, ℕ, ◌-◌, ◌<◌, ◌^◌, List, [], All, map, Some, slice_get, Vec}
+use Rattle.std.specs.Prelude.{◌≡◌, ℕ, ◌-◌, ◌<◌, ◌^◌, List, [], ◌∷◌, All, map, Some, slice_get, Vec}
 use Rattle.std.specs.declared.alloc.Global.{Global}
 use Rattle.ol_pool.specs.declared.deques.Log.{Log}
-use Rattle.ol_pool.specs.Deques.{AllBelow, log, lends, lent}
-use Rattle.ol_pool.specs.Looks.{Part}
+use Rattle.ol_pool.specs.Deques.{AllBelow, log, lends, lent, gets}
+use Rattle.ol_pool.specs.Looks.{Part, Rose}
 use Rattle.ol_pool.specs.Pools.{DequeId, PoolState}
 
 -- a deque from its owner's side
 pub record OwnState : Type 0 where
   pub deque : DequeId
   pub log : Log
+
+-- a hand's own deque, how often it was looked at in vain, and how often it refused a cell
+pub record HomeState : Type 0 where
+  pub own : OwnState
+  pub empties : ℕ
+  pub refused : ℕ
+
+-- a look at it that found no cell, and one that gave this cell
+abbrev pub FoundEmpty : HomeState → HomeState → Type 0
+FoundEmpty h n = (n ≡ record h { empties = n.empties }) × Rose h.empties n.empties × (n.empties < 2 ^ 64)
+
+abbrev pub FoundCell : ℕ → HomeState → HomeState → Type 0
+FoundCell cell h n = n ≡ record h { own = record h.own { log = gets h.own.log (cell ∷ []) } }
 
 -- another's deque, as a hand knows it, and how often it was looked at in vain
 pub record ReachState : Type 0 where

@@ -15,13 +15,15 @@ pub record PoolState : Type 0 where
   pub deques : List DequeId
 
 -- a hand by its number, its pool, the cells that it put, what it knows of each part of the pool, the number of its puts
--- that were refused, and whether its last `take` answered None
+-- that were refused, how far its own deque has been made ready (2 where it is open), and whether its last `take` answered
+-- None
 pub record HandState : Type 0 where
   pub number : ℕ
   pub pool : PoolState
   pub sent : List ℕ
   pub parts : List Part
   pub refused : ℕ
+  pub stage : ℕ
   pub missed : Bool
 
 -- the hand is of this very pool: they have the same deques
@@ -36,13 +38,14 @@ part_of hand p = part_at hand.parts p
 abbrev pub TookFirst : HandState → HandState → ℕ → Type 0
 TookFirst old new cell = FirstGave old.number old.pool.hands (part_of old) (part_of new) cell
 
--- a hand of a pool that made no call yet
+-- a hand of a pool that made no call yet; its own deque is open
 pub record IsNewHand (of : PoolState) (k : ℕ) (hand : HandState) : Type 0 where
   pub number : hand.number ≡ k
   pub pool : IsHandOf hand of
   pub sent : hand.sent ≡ []
   pub parts : (p : ℕ) → part_of hand p ≡ new_part
   pub refused : hand.refused ≡ 0
+  pub stage : hand.stage ≡ 2
   pub missed : hand.missed ≡ false
 
 -- the hands of a pool in the order of their numbers, none of which made a call yet

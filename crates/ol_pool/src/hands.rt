@@ -6,6 +6,7 @@ ghost use Rattle.ol_pool.specs.Pools.{IsHandOf, part_of};
 ghost use Rattle.ol_pool.specs.Handed.{IsHand, new_hand};
 ghost use Rattle.ol_pool.specs.Deques.{AllBelow};
 
+use crate::home::Home;
 use crate::looks::Seen;
 use crate::own::Own;
 use crate::pool::Pool;
@@ -19,11 +20,9 @@ use std::marker::Model;
 #[derive(Drop)]
 pub struct Hand {
     number: u32,
-    own: Own,
+    home: Home,
     // by number, the hand's own too, which isn't used
     others: Vec<Reach>,
-    empties: u64,
-    refused: u64,
     missed: bool,
 }
 
@@ -38,7 +37,7 @@ impl Model for Hand {
 
     ghost view = { hand_of };
 
-    ghost invariant = { λ h. IsHand h.number h.own h.others.items × (h.empties < 2 ^ 64) };
+    ghost invariant = { λ h. IsHand h.number h.home.own h.others.items × (h.home.empties < 2 ^ 64) };
 }
 
 impl Hand {
@@ -49,10 +48,8 @@ impl Hand {
     {
         Hand {
             number,
-            own,
+            home: Home::new(own),
             others,
-            empties: 0,
-            refused: 0,
             missed: false,
         }
     }
@@ -76,7 +73,7 @@ impl Hand {
     pub fn refused(&self) -> u64
         ensures { result ≡ self.now.refused }
     {
-        self.refused
+        self.home.refused()
     }
 
     // Remembers whether a `take` answered None.
@@ -90,14 +87,21 @@ impl Hand {
     pub fn counts(&self)
         ensures { (p : ℕ) → HasCounts (part_of self.now p) }
     {
-        let _ = &self.empties;
+        let _ = &self.missed;
     }
 
     /// Law: each cell that it was given is below the bound of its pool.
     pub fn given_below(&self)
         ensures { (p : ℕ) → All (λ cell. cell < self.now.pool.cells) (part_of self.now p).given }
     {
-        self.own.gave_below();
+        self.home.gave_below();
+    }
+
+    /// Law: its own deque is open: the bound of all cells was put into it and taken out again.
+    pub fn is_open(&self)
+        ensures { self.now.stage ≡ 2 }
+    {
+        self.home.is_open();
     }
 
     // Puts a cell into its own part.
@@ -111,13 +115,7 @@ impl Hand {
         ensures many { OnErr result (64 ≤ length self.old.sent) }
         ensures back { IfErr result (λ returned. returned ≡ cell) }
     {
-        match self.own.put(cell) {
-            Ok(()) => Ok(()),
-            Err(returned) => {
-                self.refused = self.refused.saturating_add(1);
-                Err(returned)
-            }
-        }
+        self.home.put(cell)
     }
 
     // Looks at its own part.
@@ -127,12 +125,9 @@ impl Hand {
         ensures others { (q : ℕ) → q ≢ self.old.number → part_of self.new q ≡ part_of self.old q }
         ensures rest { self.new ≡ record self.old { parts = self.new.parts } }
     {
-        match self.own.next() {
+        match self.home.look() {
             Some(cell) => Seen::Cell(cell),
-            None => {
-                self.empties = self.empties.saturating_add(1);
-                Seen::Empty
-            }
+            None => Seen::Empty,
         }
     }
 

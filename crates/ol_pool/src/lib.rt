@@ -4,6 +4,7 @@
 
 mod deques;
 mod hands;
+mod home;
 mod laws;
 mod looks;
 mod opening;

@@ -101,6 +101,13 @@ impl Own {
         self.deque.pop_as::<Gets>()
     }
 
+    /// Law: it is open.
+    pub(crate) fn is_open(&self)
+        ensures { self.now.log.stage ≡ 2 }
+    {
+        let _ = &self.deque;
+    }
+
     /// Law: the cells that it gave are below its bound.
     pub(crate) fn gave_below(&self)
         ensures { AllBelow self.now.log.bound self.now.log.given }

@@ -58,6 +58,7 @@ impl Pool {
         ensures count { IfOk result (λ made. vec_len made.1 ≡ hands) }
         ensures each { IfOk result (λ made. AreDealt made.0 made.1.items) }
         ensures same_pool { IfOk result (λ made. All (λ hand. IsHandOf hand made.0) made.1.items) }
+        ensures open { IfOk result (λ made. All (λ hand. hand.stage ≡ 2) made.1.items) }
     {
         let (mut owns, thieves) = open_all(alloc, hands, cells)?;
         let pool = Pool {

@@ -38,16 +38,16 @@ rest_length : {A : Type 0} (xs : List A) → length (rest xs) ≤ length xs
 rest_length [] = omega arith
 rest_length (x ∷ xs) = omega arith
 
-own_not_left : (q : WordPart) → IsOwn q → q ≢ left
+pub own_not_left : (q : WordPart) → IsOwn q → q ≢ left
 own_not_left q o e = subst IsOwn e o
 
-own_not_right : (q : WordPart) → IsOwn q → q ≢ right
+pub own_not_right : (q : WordPart) → IsOwn q → q ≢ right
 own_not_right q o e = subst IsOwn e o
 
-linked_not_left : (q : WordPart) → IsLinked q → q ≢ left
+pub linked_not_left : (q : WordPart) → IsLinked q → q ≢ left
 linked_not_left q o e = subst IsLinked e o
 
-linked_not_right : (q : WordPart) → IsLinked q → q ≢ right
+pub linked_not_right : (q : WordPart) → IsLinked q → q ≢ right
 linked_not_right q o e = subst IsLinked e o
 
 module _ (p : Plan) (s : Table) (k : Kept p s) (c : Credited p s) (id : ℕ) (v : View) (here : get_elem? s.views id ≡ some v) where
@@ -249,7 +249,7 @@ module _ (p : Plan) (s : Table) (k : Kept p s) (c : Credited p s) (id : ℕ) (v 
     cell_full : get_or k.full l.cell 0 ≡ 0
     cell_full = (k.cells.unpublished v l seen first_link).1
 
-    cell_empty : get_or s.words l.cell 0 ≡ 0
+    pub cell_empty : get_or s.words l.cell 0 ≡ 0
     cell_empty = elim (cases_eq (get_or s.words l.cell 0) 0) [
       | inl e ↦ e
       | inr d ↦ absurd (d (sym (word_full p s k l.cell (omega (arith, (is_left p.parts l.cell cell_is).1)) d) ∙ cell_full))

@@ -78,6 +78,7 @@ pub mod OpeningSites
 pub mod OpeningStands
 pub mod OpeningRefs
 mod CreditSums
+mod Remembering
 mod CreditWords
 mod CreditKeep
 mod CreditSteps

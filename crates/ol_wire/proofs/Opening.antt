@@ -30,6 +30,7 @@ use Rattle.ol_wire.specs.Stands.{StandsForNet}
 use Rattle.ol_wire.specs.Rule.{Table, Kept, PlanKeeps, JournalKeeps, WordsKeep, CellsKeep, SeatsKeep, IsView, filled}
 use Rattle.ol_wire.specs.Openings.{opener}
 use Rattle.ol_wire.specs.Credit.{active_cells, Credited, IsRuled}
+use Rattle.ol_wire.specs.Remembered.{Remembered}
 use Rattle.ol_wire.specs.LaidWords.{IsLaid}
 use Rattle.ol_wire.proofs.Places.{part_wire, is_wire}
 use Rattle.ol_wire.proofs.OpeningEnds.{live_start}
@@ -213,8 +214,14 @@ module _ (p : Plan) (fuel : ℕ) (words : List ℕ) (is : IsStart p.start.value 
     settled = λ v h e. absurd (let bad : false ≡ true = sym (ap (λ (u : View). u.settled) (view_is v h)) ∙ e in cc);
   }
 
+  remembered : Remembered p start
+  remembered = record {
+    last = λ v h found. absurd (found (ap (λ (u : View). u.last.0) (view_is v h)));
+    taken = λ v w y h m. absurd (subst (λ (l : List (ℕ × ℕ)). IsIn {X = ℕ × ℕ} (w, y) l) (ap (λ (u : View). u.taken) (view_is v h)) m);
+  }
+
   opens_ruled : IsRuled p start
-  opens_ruled = (opens, credited)
+  opens_ruled = (opens, credited, remembered)
 
 pub opens_as : (p : Plan) (net : Graph) (fuel : ℕ) (z : Parts) (words : List ℕ) → IsStart net fuel z words → p.parts ≡ z → p.start.value ≡ net → 0 < p.seats → p.seats ≤ 64 → IsRuled p (opening words [] (opener p))
 opens_as p net fuel z words is is_z is_net = opens_ruled p fuel words (subst (λ (n : Graph). IsStart n fuel p.parts words) (sym is_net) (subst (λ (y : Parts). IsStart net fuel y words) (sym is_z) is))

@@ -21,6 +21,7 @@ use Rattle.ol_wire.proofs.StepsKeep.{IsSwept}
 use Rattle.ol_wire.specs.Idle.{IsIdle}
 use Rattle.ol_wire.specs.Credit.{IsRuled}
 use Rattle.ol_wire.proofs.CreditSeats.{cut_pays}
+use Rattle.ol_wire.proofs.Remembering.{cut_recalls}
 use Rattle.core.specs.Prelude.{slice_get}
 use Rattle.ol_wire.proofs.StepsLists.{total_cut, each_cut, edges_same, pending_set, pending_more}
 
@@ -106,4 +107,4 @@ module _ (p : Plan) (id : ℕ) (v : View) (two : 1 < v.holds) (under : v.over �
   cut_keeps = record { log = k.log; net = k.net; full = k.full; from = k.from; plan = k.plan; tickets = k.tickets; journal = k.journal; words = words_keep; cells = cells_keep; seats = seats_keep; stands = stands_kept }
 
 pub cut_allowed : (p : Plan) (id : ℕ) (v : View) → 1 < v.holds → v.over ≡ false → v.swept ≡ 0 → IsIdle v → Splits {S = Unit {0}} (IsRuled p) id v (fewer v) (one_seat v)
-cut_allowed p id v two under unswept idle s (k, c) here = (cut_keeps p id v two under unswept s k here, cut_pays p id v two idle s c here)
+cut_allowed p id v two under unswept idle s (k, c, r) here = (cut_keeps p id v two under unswept s k here, cut_pays p id v two idle s c here, cut_recalls p id v s r here)

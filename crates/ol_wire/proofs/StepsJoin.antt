@@ -27,6 +27,7 @@ use Rattle.ol_wire.proofs.Alike.{total_append}
 use Rattle.ol_wire.proofs.StepsLists.{total_set, each_set, pending_set, one_below}
 use Rattle.ol_wire.specs.Credit.{IsRuled}
 use Rattle.ol_wire.proofs.CreditSeats.{join_pays, or_true}
+use Rattle.ol_wire.proofs.Remembering.{join_recalls}
 use Rattle.ol_wire.proofs.StepsLinkLists.{at_number, number_once}
 
 or_past : (a b : Bool) (m n : ℕ) → (if a then m else 0) + (if b then n else 0) ≤ (if a || b then m + n else 0)
@@ -129,9 +130,9 @@ module _ (p : Plan) (id : ℕ) (v : View) (other : ℕ) (w : View) (idle : IsIdl
   join_keeps = record { log = k.log; net = k.net; full = k.full; from = k.from; plan = k.plan; tickets = k.tickets; journal = k.journal; words = words_keep; cells = cells_keep; seats = seats_keep; stands = stands }
 
 pub join_allowed : (p : Plan) (id : ℕ) (v : View) (other : ℕ) (w : View) → IsIdle v → IsIdle w → 0 < v.holds → Joins {S = Unit {0}} (IsRuled p) id v other w (joined v w) spent_view
-join_allowed p id v other w idle idle' held s (k, c) here apart there =
+join_allowed p id v other w idle idle' held s (k, c, r) here apart there =
     let was = sym (set_else s.views id other (joined v w) apart) ∙ there in
-    (join_keeps p id v other w idle idle' held s k here there was, join_pays p id v other w idle idle' s c here there was)
+    (join_keeps p id v other w idle idle' held s k here there was, join_pays p id v other w idle idle' s c here there was, join_recalls p id v other w idle idle' s r here there was)
 
 -- a view stands for no more seats than there are
 pub holds_within : (p : Plan) (s : Table) (k : Kept p s) (id : ℕ) (v : View) → get_elem? s.views id ≡ some v → v.holds ≤ p.seats

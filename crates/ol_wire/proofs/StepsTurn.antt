@@ -1,9 +1,11 @@
 -- What a turn leaves, and that each answer comes by its own cause alone.
-use Rattle.std.proofs.Common.{◌≡◌, ◌≢◌, ℕ, suc, ◌+◌, ◌-◌, ◌<◌, ◌≤◌, ◌&&◌, nat_eq, eqb-true, true, arith, false, get_or, if◌then◌else◌, Bool, None, Some, Option, List, [], ◌∷◌, ◌++◌, sym, refl, ap, ◌∙◌, subst, ◌*◌}
+use Rattle.std.proofs.Common.{◌≡◌, ◌≢◌, ℕ, suc, ◌+◌, ◌-◌, ◌<◌, ◌≤◌, ◌&&◌, nat_eq, eqb-true, true, arith, false, get_or, if◌then◌else◌, Bool, None, Some, Option, List, [], ◌∷◌, ◌++◌, sym, refl, ap, ◌∙◌, subst, ◌*◌, ◌^◌}
 use Rattle.ol_net.specs.declared.parts.Rule.{Rule}
 use Rattle.ol_wire.specs.declared.layout.Parts.{Parts}
 use Rattle.ol_wire.specs.declared.turning.Begun.{Begun}
-use Rattle.ol_wire.specs.declared.turning.Turn.TheVariants.{Rewrote}
+use Rattle.ol_wire.specs.declared.turning.Turn.{Turn}
+use Rattle.ol_wire.specs.declared.turning.Turn.TheVariants.{Gone, Stuck, Spent, Rewrote}
+use Rattle.ol_wire.specs.declared.plan.Plan.{Plan}
 use Rattle.ol_wire.specs.declared.view.Link.{Link}
 use Rattle.ol_wire.specs.declared.view.View.{View}
 use Rattle.ol_wire.specs.Layout.{left_word, cells_of}
@@ -17,10 +19,12 @@ use Rattle.ol_wire.specs.LinkLists.{links_of, joins_in}
 use Rattle.ol_wire.specs.InHand as hands
 use Rattle.ol_wire.specs.Hands.{claiming, IsStuckLast, IsActiveLast}
 use Rattle.ol_wire.specs.InHand.{in_hand, AreRefs}
-use Rattle.ol_wire.specs.Turns.{FoundActive, HasCause, masked, Leaves}
+use Rattle.ol_wire.specs.Moments.{WasPending}
+use Rattle.ol_wire.specs.Turns.{FoundActive, HasCause, masked, Leaves, LinksJoins}
 use Rattle.ol_wire.specs.TurnParts.{TurnBegins, IsBegun, AreLinked}
 use Rattle.ol_wire.proofs.Places.{cell_of_left}
-use Rattle.ol_wire.proofs.TicketRefs.{event_of_pair}
+use Rattle.ol_wire.proofs.TicketRefs.{event_of_pair, joins_few}
+use Rattle.ol_wire.proofs.TurningLinks.{cell_of_born}
 
 none_some : {x : Rule} → ◌≡◌ {A = Option Rule} None (Some x) → ⊥
 none_some e = absurd (cc)
@@ -46,7 +50,7 @@ swept_stays v c n le lt = of (nat_eq v.holds v.seats) (nat_eq c v.swept) refl
 module _ (z : Parts) (v t n : View) (c : ℕ) (pair : ℕ × ℕ) (ks : List (ℕ × ℕ)) (o : Bool) (parts : v.parts ≡ z) (low : c < cells_of z) (idle : IsIdle v)
     (hand : t ≡ record (in_hand v (left_word z c) c pair) { known = ks; over = o }) (back : n ≡ returned t) where
   abbrev shape : List (ℕ × ℕ) → ℕ → Bool → ℕ × ℕ → View
-  shape taken swept over last = record v { claimed = v.claimed ++ c ∷ []; last = last; taken = taken; known = []; swept = swept; over = over }
+  shape taken swept over last = record v { claimed = v.claimed ++ c ∷ []; last = last; cell = c; taken = taken; known = []; swept = swept; over = over }
 
   number : cell_at v.parts (left_word z c) ≡ c
   number = ap (λ (y : Parts). cell_at y (left_word z c)) parts ∙ cell_of_left z c low
@@ -95,14 +99,14 @@ module _ (z : Parts) (v t n : View) (c : ℕ) (pair : ℕ × ℕ) (ks : List (�
 
 -- the links were owed, and are owed no more
 module _ (z : Parts) (v t back n : View) (c joins : ℕ) (pair : ℕ × ℕ) (ks : List (ℕ × ℕ)) (idle : IsIdle v)
-    (hand : t ≡ record (in_hand v (left_word z c) c pair) { known = ks; over = true; owed = joins }) (returns : back ≡ returned t) (repays : n ≡ repaid back joins) where
+    (hand : t ≡ record (in_hand v (left_word z c) c pair) { known = ks; over = true; owed = joins }) (repays : back ≡ repaid t joins) (returns : n ≡ returned back) where
   pub hand_repaid : record t { owed = v.owed } ≡ record (in_hand v (left_word z c) c pair) { known = ks; over = true }
   hand_repaid = ap (λ (u : View). record u { owed = v.owed }) hand
 
   pub back_repaid : n ≡ returned (record t { owed = v.owed })
   back_repaid =
       let none : t.owed - joins ≡ v.owed = omega (arith, ap (λ (u : View). u.owed) hand, idle.3) in
-      repays ∙ ap (λ (u : View). repaid u joins) returns ∙ ap (λ (o : ℕ). record (returned t) { owed = o }) none
+      returns ∙ ap returned (repays ∙ ap (λ (o : ℕ). record t { owed = o }) none)
 
 -- the pair in hand has become a ticket
 module _ (z : Parts) (v t n : View) (c : ℕ) (pair : ℕ × ℕ) (r : Rewrite) (b : Begun) (hand : t ≡ in_hand v (left_word z c) c pair) (same : b.rewrite ≡ r) (done : hands.Rewrote t b.ticket b.of_f b.of_g n)
@@ -149,6 +153,7 @@ module _ (z : Parts) (v m n : View) (c mask : ℕ) (b : Begun) (ws : List ℕ) (
     published = v.published ++ masked first_cell mask;
     made = v.made ++ (b.ticket, entry_of y (event_of last.0 last.1)) ∷ [];
     last = last;
+    cell = c;
     taken = taken;
     known = n.known;
     pending = pending;
@@ -187,9 +192,52 @@ module _ (z : Parts) (v m n : View) (c mask : ℕ) (b : Begun) (ws : List ℕ) (
       rule : b.rewrite.rule ≡ (event_in n).rule
       rule = ap (λ (e : Event). e.rule) (begun.event ∙ ap (λ (l : ℕ × ℕ). event_of l.0 l.1) (sym same_last))
 
+-- which cell is which join's
+pub joins_told : (p : Plan) (v m n : View) (c mask : ℕ) (b : Begun) → v.parts ≡ p.parts → IsIdle v → TurnBegins p.parts v c b m → AreLinked p.parts m b mask n → WasPending p m
+    → n.published ≡ v.published ++ masked (p.parts.cells + 4 * b.ticket) mask → LinksJoins p v b.ticket (p.parts.cells + 4 * b.ticket) mask n
+joins_told p v m n c mask b parts idle begun linked was published = record {
+  of_f = λ s. get_or b.of_f s 0;
+  of_g = λ s. get_or b.of_g s 0;
+  drawn = was.0;
+  moment = was.1;
+  links = was.2 ∙ (links_pending p.parts v m c b parts idle begun).pending ∙ ap (λ (e : Event). links_of p.parts e b.ticket (λ s. get_or b.of_f s 0) (λ s. get_or b.of_g s 0)) event;
+  cells = λ j lt. cell_of_born p.parts b.ticket j (omega (arith, lt, joins_few (event_in n)));
+  bits = subst (λ (e : Event). mask < 2 ^ joins_in e) event linked.joins;
+  published = published;
+}
+  where
+    last : n.last ≡ m.last
+    last = ap (λ (u : View). u.last) linked.view
+
+    event : event_for b.rewrite ≡ event_in n
+    event = begun.event ∙ ap (λ (l : ℕ × ℕ). event_of l.0 l.1) (sym last)
+
 -- the whole turn, in one
 pub turn_rewrites : (z : Parts) (v m n : View) (c mask : ℕ) (b : Begun) → v.parts ≡ z → c < cells_of z → IsIdle v → TurnBegins z v c b m → AreLinked z m b mask n
     → HasCause (Rewrote b.ticket b.rewrite.rule (z.cells + 4 * b.ticket) mask) n × Leaves z v c (Rewrote b.ticket b.rewrite.rule (z.cells + 4 * b.ticket) mask) n
 turn_rewrites z v m n c mask b parts low idle begun linked =
     rewritten_leaves z v m n c mask b linked.dead.0 parts low idle begun linked.mask
     (linked.view ∙ ap (λ (ds : List ℕ). record m { pending = []; known = n.known; published = m.published ++ masked (z.cells + 4 * b.ticket) mask; dead = ds; owed = 0 }) linked.dead.1)
+
+-- a turn that is over leaves a seat at rest, as it was
+rests : (v n : View) (c : ℕ) (over : Bool) (holds : ℕ) → c < cells_of v.parts → IsIdle v → v.over ≡ over → v.holds ≡ holds → 0 < holds → v.swept ≤ cells_of v.parts
+    → n.taken ≡ v.taken → n.due ≡ v.due → n.pending ≡ v.pending → n.owed ≡ v.owed → n.over ≡ v.over → n.holds ≡ v.holds → n.parts ≡ v.parts → n.swept ≡ swept_on v c
+    → IsIdle n × (n.over ≡ over) × (n.holds ≡ holds) × (0 < holds) × (n.swept ≤ cells_of n.parts)
+rests v n c over holds low idle o h some within taken due pending owed over' holds' parts swept = (
+  (taken ∙ idle.0, due ∙ idle.1, pending ∙ idle.2, owed ∙ idle.3),
+  over' ∙ o,
+  holds' ∙ h,
+  some,
+  omega (arith, swept, ap (λ (z : Parts). cells_of z) parts, swept_stays v c (cells_of v.parts) within low),
+)
+
+pub ended_rests : (z : Parts) (v n : View) (c : ℕ) (t : Turn) (over : Bool) (holds : ℕ) → c < cells_of v.parts → IsIdle v → v.over ≡ over → v.holds ≡ holds → 0 < holds → v.swept ≤ cells_of v.parts
+    → t ≢ Spent → Leaves z v c t n → IsIdle n × (n.over ≡ over) × (n.holds ≡ holds) × (0 < holds) × (n.swept ≤ cells_of n.parts)
+ended_rests z v n c Gone over holds low idle o h some within more e =
+    rests v n c over holds low idle o h some within (ap (λ (u : View). u.taken) e) (ap (λ (u : View). u.due) e) (ap (λ (u : View). u.pending) e) (ap (λ (u : View). u.owed) e) (ap (λ (u : View). u.over) e) (ap (λ (u : View). u.holds) e) (ap (λ (u : View). u.parts) e) (ap (λ (u : View). u.swept) e)
+ended_rests z v n c Stuck over holds low idle o h some within more e =
+    rests v n c over holds low idle o h some within (ap (λ (u : View). u.taken) e) (ap (λ (u : View). u.due) e) (ap (λ (u : View). u.pending) e) (ap (λ (u : View). u.owed) e) (ap (λ (u : View). u.over) e) (ap (λ (u : View). u.holds) e) (ap (λ (u : View). u.parts) e) (ap (λ (u : View). u.swept) e)
+ended_rests z v n c Spent over holds low idle o h some within more e = absurd (more refl)
+ended_rests z v n c (Rewrote t r b m) over holds low idle o h some within more done =
+    let e = done.view in
+    rests v n c over holds low idle o h some within (ap (λ (u : View). u.taken) e) (ap (λ (u : View). u.due) e) (ap (λ (u : View). u.pending) e) (ap (λ (u : View). u.owed) e) (ap (λ (u : View). u.over) e) (ap (λ (u : View). u.holds) e) (ap (λ (u : View). u.parts) e) (ap (λ (u : View). u.swept) e)

@@ -14,7 +14,6 @@ use Rattle.ol_net.specs.Nets.{slot, NamedNet, HasNode, Linked, Faces}
 use Rattle.ol_net.specs.Pairs.{IsActive, HasActive}
 use Rattle.ol_rules.specs.declared.journal.NodeName.{NodeName}
 use Rattle.ol_rules.specs.declared.journal.NodeName.TheVariants.{Init, Born}
-use Rattle.ol_rules.specs.declared.journal.Entry.{Entry}
 use Rattle.ol_rules.specs.Names.{comes_before, IsNamed}
 use Rattle.ol_rules.specs.Laws.{IsFresh}
 use Rattle.ol_rules.specs.Rewriting.{crossing, action_of, NodeOf, left, of_f, of_g, Rewrites, IsStep}

@@ -269,6 +269,7 @@ module _ (z : Parts) (v : View) (b : Begun) (begun : IsBegun z v b) where
   pub all_linked : (m o : ℕ) (n k : View) → AreLinking z v b joins m o n → k ≡ repaid n o → AreLinked z v b m k
   all_linked m o n k h repays = record {
     mask = low joins (joins_few (event_for b.rewrite)) h.mask;
+    joins = h.mask;
     dead = (h.dead.0, ap (λ (u : View). u.dead) repays ∙ h.dead.1);
     view = whole ∙ ap (λ (q : List (ℕ × ℕ)). record v { pending = []; known = q; published = v.published ++ masked first_cell m; dead = n.dead; owed = 0 }) (sym (ap (λ (u : View). u.known) repays))
         ∙ ap (λ (q : List ℕ). record v { pending = []; known = k.known; published = v.published ++ masked first_cell m; dead = q; owed = 0 }) (sym (ap (λ (u : View). u.dead) repays));

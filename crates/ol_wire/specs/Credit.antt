@@ -8,6 +8,7 @@ use Rattle.ol_wire.specs.Layout.{left_word, cells_of}
 use Rattle.ol_wire.specs.Events.{rule_between}
 use Rattle.ol_wire.specs.Weights.{total, sum_below}
 use Rattle.ol_wire.specs.Rule.{Table, IsView, Kept}
+use Rattle.ol_wire.specs.Remembered.{Remembered}
 
 -- whether one of two nodes has a rule with the other, as a number
 abbrev pub ruled : Option Rule → Option Rule → ℕ
@@ -40,9 +41,9 @@ pub record Credited (p : Plan) (s : Table) : Type 0 where
   -- once a seat has read 0 there the word stays 0
   pub settled : (v : View) → IsView s v → v.settled ≡ true → slice_index s.words 1 ≡ 0
 
--- the rule of a table, with its live word
+-- the rule of a table, with its live word, and with what each view remembers of its last claim
 abbrev pub IsRuled : Plan → Table → Type 0
-IsRuled p s = Kept p s × Credited p s
+IsRuled p s = Kept p s × Credited p s × Remembered p s
 
 -- what the one says of a table, the other says too
 abbrev pub IsImplied : (Plan → Table → Type 0) → (Plan → Table → Type 0) → Type 0

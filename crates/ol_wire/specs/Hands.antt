@@ -6,7 +6,7 @@ use Rattle.ol_wire.specs.Plays.{event_in, swept_on}
 
 -- a claim of cell c, which read `pair.0`, and nothing more
 abbrev pub claiming : View → ℕ → ℕ × ℕ → View
-claiming v c pair = record v { claimed = v.claimed ++ c ∷ []; last = pair }
+claiming v c pair = record v { claimed = v.claimed ++ c ∷ []; last = pair; cell = c }
 
 -- the cell was empty
 abbrev pub missed : View → ℕ → View

@@ -11,6 +11,7 @@ pub mod Stands
 pub mod Weights
 pub mod Views
 pub mod Rule
+pub mod Remembered
 pub mod Still
 pub mod Credit
 pub mod Moments

@@ -1,4 +1,4 @@
--- Private: the links that a ticket leaves to be made, and what it writes.
+-- The links that a ticket leaves to be made, one for each join, and what it writes.
 use Rattle.std.specs.Prelude.{ℕ, suc, ◌+◌, ◌-◌, ◌==◌, nat_lt, if◌then◌else◌, List, [], ◌∷◌}
 use Rattle.ol_net.specs.Parts.{arity}
 use Rattle.ol_rules.specs.declared.journal.NodeName.TheVariants.{Born}
@@ -22,7 +22,7 @@ abbrev pub to_write : ℕ → List ℕ → List (ℕ × ℕ)
 to_write w [] = []
 to_write w (x ∷ xs) = if x == 0 then to_write (suc w) xs else (w, x) ∷ to_write (suc w) xs
 
--- the number of joins, and join j: `a` and `b` are what the fields of f and of g hold, by slot - 1
+-- the number of joins, and the link of join j, with the left word of its cell: `a` and `b` are what the fields of f and of g hold, by slot - 1
 abbrev pub joins_in : Event → ℕ
 joins_in e = if is_meeting e.rule then arity (kind_in e.f) else copies_of_f e + copies_of_g e
 

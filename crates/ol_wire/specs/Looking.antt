@@ -14,7 +14,7 @@ MomentWith p v word = (m : Moment p v) × (slice_index m.table.words 0 ≡ word)
 
 -- a moment at which the live word was this; where it was 0 the net has no active pair
 abbrev pub MomentLive : Plan → View → ℕ → Type 0
-MomentLive p v word = (m : Moment p v) × (word ≡ 0 → IsComplete m.kept.net)
+MomentLive p v word = (m : Moment p v) × (slice_index m.table.words 1 ≡ word) × (word ≡ 0 → IsComplete m.kept.net)
 
 -- A look at the live word.
 abbrev pub listens : Play

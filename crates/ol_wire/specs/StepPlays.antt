@@ -5,6 +5,7 @@ use Rattle.ol_edges.specs.Edges.{IsIn}
 use Rattle.ol_net.specs.declared.parts.Rule.{Rule}
 use Rattle.ol_net.specs.Parts.{arity}
 use Rattle.ol_wire.specs.declared.layout.Parts.{Parts}
+use Rattle.ol_wire.specs.declared.plan.Plan.{Plan}
 use Rattle.ol_wire.specs.declared.view.Link.{Link}
 use Rattle.ol_wire.specs.declared.view.View.{View}
 use Rattle.ol_wire.specs.References.{IsNodeRef, IsWireRef, kind_in, index_in, place_in, node_ref}
@@ -12,7 +13,9 @@ use Rattle.ol_wire.specs.Layout.{block, table_size}
 use Rattle.ol_wire.specs.Events.{rule_between, entry_of}
 use Rattle.ol_wire.specs.Blocks.{block_words}
 use Rattle.ol_wire.specs.LinkLists.{to_write, links_of, joins_in}
+use Rattle.ol_wire.specs.Rule.{KnowsPlan}
 use Rattle.ol_wire.specs.Credit.{active_in}
+use Rattle.ol_wire.specs.Moments.{Moment, MomentEmpty}
 use Rattle.ol_wire.specs.Views.{fresh}
 use Rattle.ol_wire.specs.Plays.{cell_at, event_in, swept_on}
 
@@ -32,10 +35,10 @@ rest (x ∷ xs) = xs
 
 -- a claim of the cell with left word w, where x stood
 abbrev pub missing : View → ℕ → View
-missing v w = record v { claimed = v.claimed ++ cell_at v.parts w ∷ []; last = (0, 0); swept = swept_on v (cell_at v.parts w) }
+missing v w = record v { claimed = v.claimed ++ cell_at v.parts w ∷ []; last = (0, 0); cell = cell_at v.parts w; swept = swept_on v (cell_at v.parts w) }
 
 abbrev pub holding : View → ℕ → ℕ → View
-holding v w x = record v { claimed = v.claimed ++ cell_at v.parts w ∷ []; last = (x, 0); taken = (w, x) ∷ v.taken }
+holding v w x = record v { claimed = v.claimed ++ cell_at v.parts w ∷ []; last = (x, 0); cell = cell_at v.parts w; taken = (w, x) ∷ v.taken }
 
 -- a look at the right word of the cell that was claimed, and at a field
 abbrev pub paired : View → ℕ → ℕ → View
@@ -141,8 +144,10 @@ IsNodeOf z r = IsNodeRef r × (r ≡ node_ref (kind_in r) (index_in r) (place_in
 abbrev pub IsRefOf : Parts → ℕ → Type 0
 IsRefOf z r = IsNodeOf z r ⊎ (IsWireRef r × (0 < place_in r) × (place_in r < table_size z))
 
+-- The cell was empty, at a moment, or a node of its pair stood there. A step can't read the plan, so that the moment is told for each plan that the
+-- view knows, and there is one.
 abbrev pub claims : Play
-claims s m r n = (n.1 ≡ m.1) × (r ≡ 0 → n.0 ≡ missing m.0 s.word)
+claims s m r n = (n.1 ≡ m.1) × (r ≡ 0 → (n.0 ≡ missing m.0 s.word) × ((p : Plan) → KnowsPlan p m.0 → MomentEmpty p s.word n.0))
     × (r ≢ 0 → (n.0 ≡ holding m.0 s.word r) × IsNodeOf m.0.parts r)
 
 -- of the right word of the cell whose pair is in hand
@@ -155,7 +160,7 @@ abbrev pub looks : Play
 looks s m r n = (n.1 ≡ m.1) × (n.0 ≡ knowing m.0 s.word r) × IsRefOf m.0.parts r
 
 abbrev pub draws : Play
-draws s m r n = (n.1 ≡ m.1) × (r < m.0.parts.fuel → n.0 ≡ ticketed m.0 r) × (m.0.parts.fuel ≤ r → n.0 ≡ late m.0)
+draws s m r n = (n.1 ≡ m.1) × (r < m.0.parts.fuel → (n.0 ≡ ticketed m.0 r) × ((p : Plan) → KnowsPlan p m.0 → Moment p n.0)) × (m.0.parts.fuel ≤ r → n.0 ≡ late m.0)
 
 -- the operand is added to the live word, or taken from it
 abbrev pub owes : Play

@@ -1,5 +1,5 @@
 -- Private: what the parts of a turn ask and leave: the claim with the ticket, and the links.
-use Rattle.std.specs.Prelude.{◌≡◌, ℕ, suc, ◌+◌, ◌*◌, ◌<◌, List, [], ◌++◌, true, false, Some, slice_index, MatchOption, Option}
+use Rattle.std.specs.Prelude.{◌≡◌, ℕ, suc, ◌+◌, ◌*◌, ◌^◌, ◌<◌, List, [], ◌++◌, true, false, Some, slice_index, MatchOption, Option}
 use Rattle.ol_wire.specs.declared.layout.Parts.{Parts}
 use Rattle.ol_wire.specs.declared.view.View.{View}
 use Rattle.ol_wire.specs.declared.turning.Begun.{Begun}
@@ -39,6 +39,7 @@ pub record IsBegun (z : Parts) (v : View) (b : Begun) : Type 0 where
 -- They are made, and nothing is owed.
 pub record AreLinked (z : Parts) (v : View) (b : Begun) (m : ℕ) (n : View) : Type 0 where
   pub mask : m < 16
+  pub joins : m < 2 ^ joins_in (event_for b.rewrite)
   pub dead : (ws : List ℕ) × (n.dead ≡ v.dead ++ ws)
   pub view : n ≡ record v { pending = []; known = n.known; published = v.published ++ masked (z.cells + 4 * b.ticket) m; dead = n.dead; owed = 0 }
 

@@ -3,11 +3,15 @@ use Rattle.std.specs.Prelude.{◌≡◌, ◌≢◌, ℕ, ◌+◌, ◌*◌, ◌/�
 use Rattle.ol_net.specs.declared.parts.Rule.{Rule}
 use Rattle.ol_rules.specs.Listed.{each}
 use Rattle.ol_wire.specs.declared.layout.Parts.{Parts}
+use Rattle.ol_wire.specs.declared.plan.Plan.{Plan}
 use Rattle.ol_wire.specs.declared.view.View.{View}
 use Rattle.ol_wire.specs.declared.turning.Turn.{Turn}
 use Rattle.ol_wire.specs.declared.turning.Turn.TheVariants.{Rewrote, Gone, Stuck, Spent}
 use Rattle.ol_wire.specs.Events.{entry_of}
-use Rattle.ol_wire.specs.Plays.{event_in, swept_on, live_read}
+use Rattle.ol_wire.specs.Layout.{left_word}
+use Rattle.ol_wire.specs.LinkLists.{joins_in, link_of, links_of}
+use Rattle.ol_wire.specs.Moments.{Moment, MomentEmpty, MomentHolding}
+use Rattle.ol_wire.specs.Plays.{cell_at, event_in, swept_on, live_read}
 use Rattle.ol_wire.specs.Hands.{claiming, missed, IsStuckLast, IsActiveLast}
 
 -- a look at the live word read n, and was asked whether that is 0
@@ -65,3 +69,27 @@ Leaves z v c Gone n = n ≡ missed v c
 Leaves z v c Stuck n = n ≡ record (claiming v c n.last) { known = []; swept = swept_on v c }
 Leaves z v c Spent n = n ≡ record (claiming v c n.last) { known = []; over = true }
 Leaves z v c (Rewrote t r b m) n = TurnRewrites z v c t r b m n
+
+-- The turn's answer and a moment of it: the cell was empty, or it held the pair that the view says was claimed.
+abbrev pub IsMomentOf : Plan → ℕ → Turn → View → Type 0
+IsMomentOf p c Gone n = MomentEmpty p (left_word p.parts c) n
+IsMomentOf p c Stuck n = MomentHolding p (left_word p.parts c) n
+IsMomentOf p c Spent n = MomentHolding p (left_word p.parts c) n
+IsMomentOf p c (Rewrote t r b m) n = Unit {0}
+
+-- Which cell is which join's. Once the ticket was drawn the seat had a link to make for each join, by what the fields of the two nodes held; the cell
+-- of the link of join j is that of number b + j. Bit j of the mask is set exactly where this link ended with two nodes face to face, and the pair
+-- was published in this cell.
+pub record LinksJoins (p : Plan) (v : View) (t b m : ℕ) (n : View) : Type 0 where
+  pub of_f : ℕ → ℕ
+  pub of_g : ℕ → ℕ
+  pub drawn : View
+  pub moment : Moment p drawn
+  pub links : drawn.pending ≡ links_of p.parts (event_in n) t of_f of_g
+  pub cells : (j : ℕ) → j < joins_in (event_in n) → cell_at p.parts (link_of p.parts (event_in n) t of_f of_g j).cell ≡ b + j
+  pub bits : m < 2 ^ joins_in (event_in n)
+  pub published : n.published ≡ v.published ++ masked b m
+
+abbrev pub HasLinked : Plan → View → Turn → View → Type 0
+HasLinked p v (Rewrote t r b m) n = LinksJoins p v t b m n
+HasLinked p v other n = Unit {0}

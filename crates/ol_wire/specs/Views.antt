@@ -10,6 +10,7 @@ fresh z net seats holds = record {
   published = [];
   made = [];
   last = (0, 0);
+  cell = 0;
   over = false;
   holds = holds;
   taken = [];

@@ -26,7 +26,9 @@ pub use closed::Words;
 pub use law::Law;
 pub use layout::Parts;
 pub use plan::Plan;
-pub use promise::{at_every_moment, live_at_every_moment, nothing_is_overlooked};
+pub use promise::{
+    at_every_moment, last_claims_at_every_moment, live_at_every_moment, nothing_is_overlooked,
+};
 pub use reference::{index_in, is_node, kind_in, place_in};
 pub use seat::Seat;
 pub use shared::Shared;

@@ -1,5 +1,6 @@
 //! What the rule of the table says at every moment, as laws.
 ghost use Rattle.ol_wire.specs.Credit.{Credited, IsImplied};
+ghost use Rattle.ol_wire.specs.Remembered.{Remembered};
 ghost use Rattle.ol_wire.specs.Rule.{Kept, Table};
 ghost use Rattle.ol_wire.specs.Still.{NothingIsOverlooked};
 ghost use Rattle.ol_wire.specs.declared.plan.Plan.{Plan};
@@ -20,6 +21,13 @@ pub fn at_every_moment()
 /// claimed and of those that seats owe, and where a seat is settled it is 0.
 pub fn live_at_every_moment()
     ensures { IsImplied ⟦<Law as TableRule<(), View, Plan>>⟧.holds Credited }
+{}
+
+/// Law: at the same moments each view tells the truth of its last claim, where this found a pair: the
+/// right word of its cell is the one that was read, and a pair without a rule is in this cell still,
+/// or a seat has claimed it there.
+pub fn last_claims_at_every_moment()
+    ensures { IsImplied ⟦<Law as TableRule<(), View, Plan>>⟧.holds Remembered }
 {}
 
 /// Law: where no view has a claimed pair or a link to make, and no cell holds an active pair, the

@@ -53,6 +53,16 @@ impl Seat {
     {
         let _ = &self.holds;
     }
+
+    /// Law: between two calls it holds no claimed pair, no word of a block that it has not written,
+    /// and no link that it has to make.
+    pub fn holds_nothing(&self)
+        ensures taken { self.now.view.taken ≡ [] }
+        ensures due { self.now.view.due ≡ [] }
+        ensures pending { self.now.view.pending ≡ [] }
+    {
+        let _ = &self.holds;
+    }
 }
 
 impl Shared {

@@ -1,5 +1,5 @@
 //! The single steps of a seat: each changes one word at most, and tells what it found.
-ghost use Rattle.std.specs.Prelude.{◌≡◌, ◌≢◌, ℕ, suc, ◌+◌, ◌<◌, ◌≤◌, [], ◌∷◌, MatchOption};
+ghost use Rattle.std.specs.Prelude.{◌≡◌, ◌≢◌, ℕ, suc, ◌+◌, ◌<◌, ◌≤◌, [], ◌∷◌, MatchOption, IfSome};
 ghost use Rattle.ol_edges.specs.Edges.{IsIn};
 ghost use Rattle.ol_net.specs.Parts.{arity};
 ghost use Rattle.ol_wire.specs.References.{kind_in, place_in};
@@ -8,6 +8,7 @@ ghost use Rattle.ol_wire.specs.StepPlays.{IsNodeOf, IsRefOf, IsLookedUp, paired,
 ghost use Rattle.ol_wire.specs.Sizes.{IsSmall};
 ghost use Rattle.ol_wire.specs.Tokens.{IsTokenOf, IsSameSeat};
 ghost use Rattle.ol_wire.specs.Idle.{IsIdle};
+ghost use Rattle.ol_wire.specs.Moments.{Moment, MomentEmpty, MomentHolding};
 ghost use Rattle.ol_wire.specs.Hands.{IsActiveLast, claiming, missed};
 ghost use Rattle.ol_wire.specs.InHand.{IsInHand, IsOfPair, HasClaimed, HoldsLeft, HasPaired, HasDrawn};
 
@@ -35,6 +36,8 @@ impl Shared {
         requires idle { IsIdle token.old.me.0 }
         ensures token { IsSameSeat token.old token.new }
         ensures gone { result ≡ 0 → token.new.me.0 ≡ missed token.old.me.0 cell }
+        ensures empty { result ≡ 0
+            → MomentEmpty self.now.plan (left_word self.now.plan.parts cell) token.new.me.0 }
         ensures taken { result ≢ 0 → HasClaimed self.now token.old.me.0 cell result token.new.me.0 }
         ensures node { result ≢ 0 → IsNodeOf self.now.plan.parts result }
     {
@@ -101,6 +104,7 @@ impl Shared {
         requires pair { (w : ℕ) × IsLookedUp token.old.me.0 w }
         ensures token { IsSameSeat token.old token.new }
         ensures view { HasDrawn self.now token.old.me.0 result token.new.me.0 }
+        ensures moment { IfSome result (λ _. Moment self.now.plan token.new.me.0) }
     {
         let ticket = self.table.shared.fetch_add::<Draws>(token, 0, 1);
         if ticket < self.parts.fuel as u64 {
@@ -129,6 +133,8 @@ impl Shared {
         requires left { left ≡ token.old.me.0.last.0 }
         ensures token { IsSameSeat token.old token.new }
         ensures view { token.new.me.0 ≡ returned token.old.me.0 }
+        ensures moment { MomentHolding self.now.plan (left_word self.now.plan.parts cell)
+            token.new.me.0 }
     {
         let word = self.parts.left_word(cell);
         self.table

@@ -1,5 +1,5 @@
 //! A turn: a claim, and what becomes of the pair that it finds.
-ghost use Rattle.std.specs.Prelude.{◌≡◌, ◌≢◌, ℕ, ◌+◌, ◌*◌, ◌<◌, ◌≤◌, [], ◌∷◌, ◌++◌, true, false, None, Some, MatchOption, IfSome, IfOk, IfErr, ◌↔◌};
+ghost use Rattle.std.specs.Prelude.{◌≡◌, ◌≢◌, ℕ, ◌+◌, ◌*◌, ◌<◌, ◌≤◌, [], ◌∷◌, ◌++◌, true, false, None, Some, MatchOption, IfSome, IfNone, IfOk, IfErr, ◌↔◌};
 ghost use Rattle.ol_edges.specs.Edges.{IsIn};
 ghost use Rattle.ol_net.specs.Parts.{arity};
 ghost use Rattle.ol_wire.specs.References.{kind_in, place_in};
@@ -14,7 +14,8 @@ ghost use Rattle.ol_wire.specs.Tokens.{IsTokenOf, IsSameSeat};
 ghost use Rattle.ol_wire.specs.Idle.{IsIdle};
 ghost use Rattle.ol_wire.specs.Hands.{IsStuckLast, missed};
 ghost use Rattle.ol_wire.specs.InHand.{in_hand, IsInHand, IsOfPair, fields_known, IsSure, AreFields, AreRefs, Rewrote, HasTaken, AreNodesOf, MayDraw, KeepsInHand, looked_at, KeepsSure};
-ghost use Rattle.ol_wire.specs.Turns.{FoundActive, IsRewrote, HasCause, Leaves, FoundStuck, FoundFuel, FoundNoFuel};
+ghost use Rattle.ol_wire.specs.Moments.{MomentEmpty, WasPending};
+ghost use Rattle.ol_wire.specs.Turns.{HasLinked, IsMomentOf, FoundActive, IsRewrote, HasCause, Leaves, FoundStuck, FoundFuel, FoundNoFuel};
 ghost use Rattle.ol_wire.specs.TurnParts.{TurnBegins, HasBegun, HasEnded, IsRewriteInHand, HasBegunOrLate, HasFieldsOf};
 
 use crate::reference::kind_in;
@@ -67,6 +68,8 @@ impl Shared {
         ensures claimed { seat.new.view.claimed ≡ seat.old.view.claimed ++ cell ∷ [] }
         ensures others { seat.new.view.holds ≡ seat.old.view.holds }
         ensures view { Leaves self.now.plan.parts seat.old.view cell result seat.new.view }
+        ensures moment { IsMomentOf self.now.plan cell result seat.new.view }
+        ensures links { HasLinked self.now.plan seat.old.view result seat.new.view }
     {
         let begun = match self.begin(&mut seat.token, seat.over, cell) {
             Ok(begun) => begun,
@@ -96,6 +99,11 @@ impl Shared {
         ensures token { IsSameSeat token.old token.new }
         ensures begun { IfOk result (HasBegun self.now token.old.me.0 cell token.new.me.0) }
         ensures ended { IfErr result (HasEnded self.now token.old.me.0 cell token.new.me.0) }
+        ensures drawn { IfOk result (λ _. WasPending self.now.plan token.new.me.0) }
+        ensures links { IfErr result
+            (λ turn. HasLinked self.now.plan token.old.me.0 turn token.new.me.0) }
+        ensures moment { IfErr result
+            (λ turn. IsMomentOf self.now.plan cell turn token.new.me.0) }
     {
         let Some((left, right)) = self.take(token, cell) else {
             return Err(Turn::Gone);
@@ -109,8 +117,8 @@ impl Shared {
             return Err(Turn::Spent);
         }
         let Some(begun) = self.rewrite(token, rewrite) else {
-            self.put_back(token, cell, left);
             self.repay(token, rewrite.joins());
+            self.put_back(token, cell, left);
             return Err(Turn::Spent);
         };
         Ok(begun)
@@ -124,6 +132,8 @@ impl Shared {
         ensures token { IsSameSeat token.old token.new }
         ensures view { HasTaken self.now token.old.me.0 cell result token.new.me.0 }
         ensures nodes { IfSome result (AreNodesOf self.now.plan.parts) }
+        ensures empty { IfNone result
+            (MomentEmpty self.now.plan (left_word self.now.plan.parts cell) token.new.me.0) }
     {
         let left = self.claim(token, cell);
         if left == 0 {
@@ -143,6 +153,7 @@ impl Shared {
         ensures token { IsSameSeat token.old token.new }
         ensures view { HasBegunOrLate self.now token.old.me.0 rewrite result token.new.me.0 }
         ensures refs { IfSome result (HasFieldsOf self.now.plan.parts rewrite) }
+        ensures drawn { IfSome result (λ _. WasPending self.now.plan token.new.me.0) }
         ensures hand { result ≡ None → KeepsInHand token.old.me.0 token.new.me.0 }
     {
         let of_f = self.look_at(token, rewrite.f);

@@ -27,6 +27,8 @@ pub struct View {
     pub ghost made: { List (ℕ × Entry) },
     /// The left word that its last claiming step read, and the right word, once it was looked at.
     pub ghost last: { ℕ × ℕ },
+    /// The cell of its last claiming step.
+    pub ghost cell: { ℕ },
     /// It read a ticket at or above the fuel.
     pub ghost over: { Bool },
     /// How many of the seats that were made stand in it.

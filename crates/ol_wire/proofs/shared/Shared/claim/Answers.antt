@@ -1,6 +1,7 @@
-use Rattle.std.proofs.Common.{◌≡◌, ◌<◌, sym, ap, ◌∙◌, subst, arith}
+use Rattle.std.proofs.Common.{◌≡◌, ◌<◌, ℕ, sym, ap, ◌∙◌, subst, arith}
 use Rattle.ol_wire.specs.declared.layout.Parts.{Parts}
 use Rattle.ol_wire.specs.Layout.{left_word, cells_of, table_size}
+use Rattle.ol_wire.specs.Moments.{MomentEmpty}
 use Rattle.ol_wire.specs.Stand.{TableState}
 use Rattle.ol_wire.proofs.Places.{part_cell}
 use Rattle.ol_wire.proofs.Steps.{claims_allowed}
@@ -16,3 +17,10 @@ swap-requires c =
     let word : c.left_word-word.result ≡ left_word t.key.parts c.args.cell = c.left_word-word.ensures ∙ ap (λ (z : Parts). left_word z c.args.cell) (sym c.self.invariant.0) in
     let place = part_cell t.key.parts c.args.cell cell in
     (of, omega (arith, word, place.2, c.self.invariant.2, ap (λ (z : Parts). table_size z) c.self.invariant.0), claims_allowed t.key t.table_id.slots me.id me.me c.requires.token.1.2 c.args.cell c.left_word-word.result cell word c.requires.idle)
+
+pub returns-clause-empty : goal.returns-clause-empty
+returns-clause-empty c = λ none.
+    let p = c.args.self.now.plan in
+    let word : c.left_word-word.result ≡ left_word p.parts c.args.cell = c.left_word-word.ensures ∙ ap (λ (z : Parts). left_word z c.args.cell) (sym c.self.invariant.0 ∙ ap (λ (b : TableState). b.plan.parts) c.self.view_is) in
+    let u = c.requires.token.1 in
+    subst (λ (w : ℕ). MomentEmpty p w c.swap.new.seat.me.0) word ((c.swap.ensures.2.1 none).1 p (u.0, u.1, u.3))

@@ -2,6 +2,7 @@ use Rattle.std.proofs.Common.{◌≡◌, ◌<◌, ℕ, sym, refl, ap, ◌∙◌,
 use Rattle.ol_wire.specs.declared.layout.Parts.{Parts}
 use Rattle.ol_wire.specs.Layout.{left_word, cells_of, table_size}
 use Rattle.ol_wire.specs.InHand.{IsInHand}
+use Rattle.ol_wire.specs.Moments.{MomentHolding}
 use Rattle.ol_wire.specs.Stand.{TableState}
 use Rattle.ol_wire.proofs.Places.{part_cell}
 use Rattle.ol_wire.proofs.Steps.{returns_allowed}
@@ -18,3 +19,10 @@ store-requires c =
     let word : c.left_word-word.result ≡ w = c.left_word-word.ensures ∙ ap (λ (z : Parts). left_word z c.args.cell) (sym c.self.invariant.0) in
     let hand : IsInHand me.me.0 w = subst (λ (z : Parts). IsInHand me.me.0 (left_word z c.args.cell)) (sym parts) c.requires.pair in
     (of, omega (arith, word, (part_cell t.key.parts c.args.cell cell).2, c.self.invariant.2, ap (λ (z : Parts). table_size z) c.self.invariant.0), returns_allowed t.key t.table_id.slots me.id me.me c.requires.token.1.2 c.args.cell w c.args.left c.left_word-word.result cell refl word c.requires.left hand.taken hand.right)
+
+pub returns-clause-moment : goal.returns-clause-moment
+returns-clause-moment c =
+    let p = c.args.self.now.plan in
+    let word : c.left_word-word.result ≡ left_word p.parts c.args.cell = c.left_word-word.ensures ∙ ap (λ (z : Parts). left_word z c.args.cell) (sym c.self.invariant.0 ∙ ap (λ (b : TableState). b.plan.parts) c.self.view_is) in
+    let u = c.requires.token.1 in
+    subst (λ (w : ℕ). MomentHolding p w c.store.new.seat.me.0) word (c.store.ensures.2.2 p (u.0, u.1, u.3))
