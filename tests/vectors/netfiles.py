@@ -134,8 +134,9 @@ def difference(a, b):
     for net in (a, b):
         if net.pairs is not None and (net.pairs != facing(net) or net.counts[8] != f"stuck {len(net.pairs)}"):
             return "the lines of pairs aren't the pairs of the net below them"
-    if (a.free, len(a.nodes)) != (b.free, len(b.nodes)):
-        return f"{a.free} free ports and {len(a.nodes)} nodes; {b.free} and {len(b.nodes)}"
+    for what, one, other in (("free ports", a.free, b.free), ("nodes", len(a.nodes), len(b.nodes))):
+        if one != other:
+            return f"the numbers of {what}: {one} and {other}"
     there, back = {}, {}
     for k in range(a.free):
         p, q = a.linked["f", k], b.linked["f", k]
