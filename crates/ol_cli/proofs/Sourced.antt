@@ -20,7 +20,8 @@ use Rattle.ol_readback.specs.Heads.{live}
 use Rattle.ol_readback.specs.Terms.{HasAllHeads, IsReadBack}
 use Rattle.ol_readback.proofs.Sources.{own_heads}
 use Rattle.ol_readback.proofs.Forests.{tree_is_whole, heads_are_whole}
-use Rattle.ol_demand.proofs.Needed.{needed}
+use Rattle.ol_completeness.proofs.CompleteRuns.{complete_is_enough, demanded_is_least}
+use Rattle.ol_completeness.proofs.Levelled.{stays_clear}
 use Rattle.ol_levels.proofs.DemandPlaces.{demand_places}
 use Rattle.ol_levels.proofs.Runs.{start_levelled}
 use Rattle.ol_levels.proofs.Sources.{last_places}
@@ -98,7 +99,8 @@ demands_tree tr t names fuel heads text has d read =
       says = says;
       always = says_always says;
       read_again = read;
-      needed = needed s d.ends.run.run;
+      least = demanded_is_least start d.ends.net heads d.ends.run.turns d.ends.journal d.ends.run.asked_places d.ends.run.last s levels d.ends.run.run;
+      complete = complete_is_enough start d.ends.net heads d.ends.journal d.ends.tree s (stays_clear start s levels) d.ends.run;
     }
 
 tells_tree : (asked : Asked) (t : Tree) (names : List (List ℕ)) (text : List ℕ) → HasNames t (length names) → TextIsReadAgain asked t names text → TellsTree asked t names text

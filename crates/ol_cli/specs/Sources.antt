@@ -13,7 +13,7 @@ use Rattle.ol_net.specs.Pairs.{IsComplete}
 use Rattle.ol_translate.specs.Translation.{translation_of}
 use Rattle.ol_readback.specs.Sources.{HasHeadsOf}
 use Rattle.ol_readback.specs.Terms.{HasAllHeads, IsReadBack}
-use Rattle.ol_demand.specs.Answers.{IsNeeded}
+use Rattle.ol_completeness.specs.Least.{IsLeast, CompleteRunsAreEnough}
 use Rattle.ol_meaning.specs.Meaning.{SaysOf}
 use Rattle.ol_confluence.specs.Printed.{SaysAlways}
 use Rattle.ol_words.specs.Asked.{Asked, run, walk, gen, demand}
@@ -48,14 +48,16 @@ pub record WalksTree (translation : Translation) (t : Tree) (names : List (List 
   pub always : SaysAlways says
   pub read_again : HasAllHeads walks.tree → IsReadBack names walks.tree walks.term
 
--- The same of `demand`. Each pair that it rewrites is, by birth names, rewritten in every complete run from the term's net.
+-- The same of `demand`. Each run from the term's net, of any pairs in any order, that leads to a net from which the asked places can be
+-- read as it is has rewritten each pair that `demand` rewrites, by birth names, and is no shorter; and each complete run leads to one.
 pub record DemandsTree (translation : Translation) (t : Tree) (names : List (List ℕ)) (fuel heads : ℕ) (text : List ℕ) : Type 0 where
   pub demands : Demands translation t names fuel heads text
   pub own_heads : HasHeadsOf (translation_of translation t (length names)) true demands.ends.tree
   pub says : SaysOf t true demands.ends.tree
   pub always : SaysAlways says
   pub read_again : HasAllHeads demands.ends.tree → IsReadBack names demands.ends.tree demands.term
-  pub needed : IsNeeded (start_net_of_term translation t names) demands.ends.journal
+  pub least : IsLeast (start_net_of_term translation t names) heads demands.ends.journal
+  pub complete : CompleteRunsAreEnough (start_net_of_term translation t names) heads
 
 -- What a job prints of a term, with the facts of its tree, if it prints one. `gen --run` does with the term that it makes what `run`
 -- does without options.
