@@ -1,5 +1,5 @@
--- What a tree of a levelled net without an active pair tells of each place that was asked: for
--- `asked_places_are_the_sources`, and for demand runs (DemandPlaces).
+-- A tree of a levelled net without an active pair tells the head of each place that was asked.
+-- Used in DemandPlaces, and for `asked_places_are_the_sources`.
 use Rattle.std.proofs.Common.{ℕ, ◌*◌, ◌≤◌, List, [], ◌∷◌, ◌++◌, length, map, true}
 use Rattle.ol_context.specs.Paths.{HaveSamePaths}
 use Rattle.ol_context.specs.Short.{live}

@@ -1,5 +1,5 @@
--- A walk that has made twice as many crossings as there are nodes never leaves, nor does one that
--- asks for more: the clauses of `cut_places_have_no_head`.
+-- A walk that used up its crossings in a levelled net never leaves, nor does one for more.
+-- Used in AskedTrees and DemandPlaces, and for `cut_places_have_no_head`.
 use Rattle.std.proofs.Common.{◌≡◌, ℕ, suc, ◌+◌, ◌*◌, ◌<◌, ◌≤◌, ◌⊎◌, inl, inr, List, length, refl, sym, subst, arith}
 use Rattle.std.proofs.lemmas.Bool.{cases_lt}
 use Rattle.ol_context.specs.Contexts.{Level, Context, up}

@@ -1,5 +1,5 @@
--- A walk that asks for fewer abstractions goes down where one for more does, as far as it is
--- defined: for walks that used up their crossings (Spent, Budgets).
+-- A walk that asks for fewer abstractions goes down where one for more does, while it is defined.
+-- Used in Budgets.
 use Rattle.std.proofs.Common.{◌≡◌, ℕ, zero, suc, ◌+◌, ◌<◌, ◌≤◌, refl, sym, ap, ◌∙◌, subst, arith}
 use Rattle.ol_context.specs.Contexts.{Level, empty, o, star, pair, Context, tail, marked, up}
 use Rattle.ol_context.specs.Paths.{Crosses, inward, outward, Through, through}
