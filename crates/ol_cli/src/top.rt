@@ -232,7 +232,9 @@ pub fn ol<R: Threads + Wait + Sync, S: Source, W: Sink, G: Gate + Sync>(
     // And where `run`, `walk`, `demand` or `gen --run` is done, this holds of the job's own term
     // and the tree whose text is written, each place of which has a head, is a `?` or is a `...`.
     //
-    // - Each head is the one that paths of any length give in the untouched net of the term.
+    // - Each head is the one that paths of any length give in the untouched net of the term. Where
+    //   `run`, `demand` or `gen --run` prints a `...` in a place that was asked for, no path gives
+    //   one: so a place that has a head is cut by `--heads` alone.
     // - Beta reduction leads from the term to the tree's term, with some term in the place of each
     //   `?` and each `...`.
     // - Where each place has a head, leftmost reduction leads from the term to the tree's term,
