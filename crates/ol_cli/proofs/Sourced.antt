@@ -1,5 +1,5 @@
 -- What an answer says of the job's own term.
-use Rattle.std.proofs.Common.{◌≡◌, ◌≢◌, ℕ, ◌*◌, Bool, true, false, zero, suc, List, [], ◌∷◌, codes, slice_get, length, Option, Some, String, Global, sym, ap, ◌∙◌, subst}
+use Rattle.std.proofs.Common.{◌≡◌, ◌≢◌, ℕ, ◌*◌, Bool, true, false, zero, suc, List, [], ◌∷◌, ◌≤◌, codes, slice_get, length, Option, Some, String, Global, sym, ap, ◌∙◌, subst, arith}
 use Rattle.ol_io.specs.Outside.{Appended, Rose}
 use Rattle.ol_term.specs.declared.translations.Translation.{Translation}
 use Rattle.ol_term.specs.Trees.{Tree}
@@ -20,10 +20,11 @@ use Rattle.ol_readback.specs.Heads.{live}
 use Rattle.ol_readback.specs.Terms.{HasAllHeads, IsReadBack}
 use Rattle.ol_readback.proofs.Sources.{own_heads}
 use Rattle.ol_readback.proofs.Forests.{tree_is_whole, heads_are_whole}
-use Rattle.ol_demand.proofs.Needed.{needed}
-use Rattle.ol_levels.proofs.DemandPlaces.{demand_places}
+use Rattle.ol_completeness.proofs.CompleteRuns.{complete_is_enough, demanded_is_least}
+use Rattle.ol_completeness.proofs.Levelled.{stays_clear}
+use Rattle.ol_levels.proofs.AskedTrees.{asked_heads, last_tree_tells}
+use Rattle.ol_levels.proofs.DemandPlaces.{demand_tells}
 use Rattle.ol_levels.proofs.Runs.{start_levelled}
-use Rattle.ol_levels.proofs.Sources.{last_places}
 use Rattle.ol_levels.proofs.Terms.{term_is_levelled}
 use Rattle.ol_meaning.proofs.Based.{places_say}
 use Rattle.ol_confluence.proofs.PrintedTrees.{says_always}
@@ -40,7 +41,7 @@ use Rattle.ol_cli.specs.Sources.{PrintsTree, WalksTree, DemandsTree, TellsTree, 
 use Rattle.ol_cli.specs.ReadAgain.{TextIsReadAgain, WritesReadable}
 use Rattle.ol_rules.proofs.LeadRuns.{as_run}
 use Rattle.ol_cli.proofs.DemandRuns.{is_start, demand_is_longer}
-use Rattle.ol_cli.proofs.KeptHeads.{heads_to}
+use Rattle.ol_cli.proofs.KeptHeads.{asked_to}
 use Rattle.ol_cli.proofs.EveryRun.{every_run_prints, every_run_is_longer}
 use Rattle.ol_cli.proofs.OneAnswer.{file_net, file_names, one_job, own_job}
 use Rattle.ol_cli.proofs.Exact.{ends_exact}
@@ -53,13 +54,14 @@ prints_tree tr t names fuel heads text has p read =
     let s = p.shows in
     let N = translation_of tr t (length names) in
     let ran = as_run (start_net_of_term tr t names) p.net 0 p.journal p.run.leads in
-    let own = last_places tr t (length names) has p.journal p.net ran p.complete heads (2 * live p.net) s.tree s.read in
+    let asked = last_tree_tells tr t (length names) has p.journal p.net ran p.complete heads (2 * live p.net) s.tree (omega arith) s.read in
+    let own = asked_heads N heads s.tree asked in
     let whole = tree_is_whole p.net heads (2 * live p.net) s.tree s.read in
     let says = places_say tr t (length names) has true whole.tree s.tree whole.is_list own
     in
     record {
       prints = p;
-      own_heads = own;
+      own_heads = asked;
       says = says;
       always = says_always says;
       read_again = read;
@@ -89,16 +91,18 @@ demands_tree tr t names fuel heads text has d read =
     let s = is_start tr t names is_net in
     let there = renamed Init N is_net (λ x y k l i j h h' e. cc) in
     let levels = start_levelled N (term_is_levelled tr t (length names) has) in
-    let own = heads_to start N (λ p c q e. ((there p c q e).1, (there p c q e).0)) true (demand_places start d.ends.net heads d.ends.journal d.ends.tree s levels d.ends.run) in
+    let asked = asked_to start N (λ p c q e. ((there p c q e).1, (there p c q e).0)) heads (demand_tells start d.ends.net heads d.ends.journal d.ends.tree s levels d.ends.run) in
+    let own = asked_heads N heads d.ends.tree asked in
     let whole = heads_are_whole N true d.ends.tree own in
     let says = places_say tr t (length names) has true whole.tree d.ends.tree whole.is_list own in
     record {
       demands = d;
-      own_heads = own;
+      own_heads = asked;
       says = says;
       always = says_always says;
       read_again = read;
-      needed = needed s d.ends.run.run;
+      least = demanded_is_least start d.ends.net heads d.ends.run.turns d.ends.journal d.ends.run.asked_places d.ends.run.last s levels d.ends.run.run;
+      complete = complete_is_enough start d.ends.net heads d.ends.journal d.ends.tree s (stays_clear start s levels) d.ends.run;
     }
 
 tells_tree : (asked : Asked) (t : Tree) (names : List (List ℕ)) (text : List ℕ) → HasNames t (length names) → TextIsReadAgain asked t names text → TellsTree asked t names text

@@ -12,8 +12,9 @@ use Rattle.ol_rules.specs.Runs.{IsRun}
 use Rattle.ol_net.specs.Pairs.{IsComplete}
 use Rattle.ol_translate.specs.Translation.{translation_of}
 use Rattle.ol_readback.specs.Sources.{HasHeadsOf}
+use Rattle.ol_levels.specs.Asked.{HasAskedHeadsOf}
 use Rattle.ol_readback.specs.Terms.{HasAllHeads, IsReadBack}
-use Rattle.ol_demand.specs.Answers.{IsNeeded}
+use Rattle.ol_completeness.specs.Least.{IsLeast, CompleteRunsAreEnough}
 use Rattle.ol_meaning.specs.Meaning.{SaysOf}
 use Rattle.ol_confluence.specs.Printed.{SaysAlways}
 use Rattle.ol_words.specs.Asked.{Asked, run, walk, gen, demand}
@@ -26,7 +27,8 @@ use Rattle.ol_cli.specs.DemandOrder.{Demands}
 -- ---- the tree that is written
 
 -- What `run` prints of a term, and what holds of the tree whose text it prints. Each of its heads is the one that the term's own
--- translation gives, by paths of any length; so is each place without a head. Beta reduction leads from the term to the tree's own
+-- translation gives, by paths of any length; in each place without a head it gives none, nor in one that was asked and is cut all the
+-- same, as its walk used up its crossings. Beta reduction leads from the term to the tree's own
 -- term, with some term in each place that has no head or was cut. Where each place has a head, leftmost reduction of the term ends
 -- in the tree's own term, which is a beta-normal form; the text is in the grammar, and read back, with its free names numbered by
 -- these, it is the tree's own term, in which no application has an abstraction as its function. Where some place has no head, head
@@ -35,7 +37,7 @@ use Rattle.ol_cli.specs.DemandOrder.{Demands}
 -- some place has no head, the term has no normal form.
 pub record PrintsTree (translation : Translation) (t : Tree) (names : List (List ℕ)) (fuel heads : ℕ) (text : List ℕ) : Type 0 where
   pub prints : Prints translation t names fuel heads text
-  pub own_heads : HasHeadsOf (translation_of translation t (length names)) true prints.shows.tree
+  pub own_heads : HasAskedHeadsOf (translation_of translation t (length names)) heads prints.shows.tree
   pub says : SaysOf t true prints.shows.tree
   pub always : SaysAlways says
   pub read_again : HasAllHeads prints.shows.tree → IsReadBack names prints.shows.tree prints.shows.term
@@ -48,14 +50,16 @@ pub record WalksTree (translation : Translation) (t : Tree) (names : List (List 
   pub always : SaysAlways says
   pub read_again : HasAllHeads walks.tree → IsReadBack names walks.tree walks.term
 
--- The same of `demand`. Each pair that it rewrites is, by birth names, rewritten in every complete run from the term's net.
+-- The same of `demand`. Each run from the term's net, of any pairs in any order, that leads to a net from which the asked places can be
+-- read as it is has rewritten each pair that `demand` rewrites, by birth names, and is no shorter; and each complete run leads to one.
 pub record DemandsTree (translation : Translation) (t : Tree) (names : List (List ℕ)) (fuel heads : ℕ) (text : List ℕ) : Type 0 where
   pub demands : Demands translation t names fuel heads text
-  pub own_heads : HasHeadsOf (translation_of translation t (length names)) true demands.ends.tree
+  pub own_heads : HasAskedHeadsOf (translation_of translation t (length names)) heads demands.ends.tree
   pub says : SaysOf t true demands.ends.tree
   pub always : SaysAlways says
   pub read_again : HasAllHeads demands.ends.tree → IsReadBack names demands.ends.tree demands.term
-  pub needed : IsNeeded (start_net_of_term translation t names) demands.ends.journal
+  pub least : IsLeast (start_net_of_term translation t names) heads demands.ends.journal
+  pub complete : CompleteRunsAreEnough (start_net_of_term translation t names) heads
 
 -- What a job prints of a term, with the facts of its tree, if it prints one. `gen --run` does with the term that it makes what `run`
 -- does without options.

@@ -110,9 +110,12 @@ pub struct Outcome {
 /// form; its text is in the grammar, and read again it has no redex. Where `run` or `demand` writes
 /// a `?`, whatever pairs are stuck, walks of any length give no head in its place: head reduction of
 /// the term there has no end, and the source has no normal form (Barendregt, The Lambda Calculus,
-/// 1984). A `?` of `walk` says only that none of the walks that were tried gave a head. Each pair
-/// that `demand` rewrites is, by birth names, rewritten in every complete run; so where it needs
-/// more than F interactions, each complete run does.
+/// 1984). A `?` of `walk` says only that none of the walks that were tried gave a head. Whatever run
+/// leads to a net from which the same places can be read as it is rewrites, by birth names, each
+/// pair that `demand` rewrites, and is no shorter; so is each complete run, and where `demand` needs
+/// more than F interactions, each complete run does. Where the term has a normal form, `demand` ends
+/// within some number of interactions, and writes it if as many heads are asked for as it has
+/// places.
 ///
 /// Refusals are tried in the order that `Status` tells. Each has a line of its own: the usage,
 /// `read fault`, `syntax at byte B` with the length of the longest prefix that begins a text of the
@@ -229,7 +232,9 @@ pub fn ol<R: Threads + Wait + Sync, S: Source, W: Sink, G: Gate + Sync>(
     // And where `run`, `walk`, `demand` or `gen --run` is done, this holds of the job's own term
     // and the tree whose text is written, each place of which has a head, is a `?` or is a `...`.
     //
-    // - Each head is the one that paths of any length give in the untouched net of the term.
+    // - Each head is the one that paths of any length give in the untouched net of the term. Where
+    //   `run`, `demand` or `gen --run` prints a `...` in a place that was asked for, no path gives
+    //   one: so a place that has a head is cut by `--heads` alone.
     // - Beta reduction leads from the term to the tree's term, with some term in the place of each
     //   `?` and each `...`.
     // - Where each place has a head, leftmost reduction leads from the term to the tree's term,
@@ -238,7 +243,9 @@ pub fn ol<R: Threads + Wait + Sync, S: Source, W: Sink, G: Gate + Sync>(
     // - Where `run`, `demand` or `gen --run` prints a `?`, whatever pairs are stuck, paths of any
     //   length give no head in the untouched net in its place, head reduction of the term there has
     //   no end, and the whole term has no normal form. Of a `?` of `walk` nothing more is said.
-    // - Each pair that `demand` rewrites is, by birth names, rewritten in every complete run.
+    // - Each run, of any pairs in any order, that leads to a net from which the asked places can be
+    //   read as it is has rewritten each pair that `demand` rewrites, by birth names, and is no
+    //   shorter. Each complete run leads to such a net.
     ensures tree { OfReadFiles (S.readings src.old) (S.readings src.new) (λ files.
         (bytes : List ℕ) → TellsTerm (files 0) words.now.items bytes
         → IfNoneFailed (S.faults src.old) (S.faults src.new) (W.faults out.old) (W.faults out.new)

@@ -18,15 +18,15 @@ use Rattle.ol_words.specs.declared.jobs.UsageFault.TheVariants.{NoMemory, Refuse
 use Rattle.ol_words.specs.Texts.{Text}
 use Rattle.ol_words.specs.Lines.{Line, line_of}
 use Rattle.ol_words.specs.Numbers.{Limits, setting}
-use Rattle.ol_words.specs.Asked.{Asked}
-use Rattle.ol_words.specs.Jobs.{Setting, Verb, options_of, known_of, verb_named, values_of, number_on, numbers, job_on, job_behind, job_of}
+use Rattle.ol_words.specs.Asked.{Asked, Verb, asks}
+use Rattle.ol_words.specs.Jobs.{Setting, setting_row, verb_row, options_of, known_of, verb_named, values_of, number_on, numbers, job_on, job_behind, job_of}
 use Rattle.ol_words.specs.Once.{is_given_once, is_told_once, is_agreed, agreed_verb}
 use Rattle.ol_words.specs.Found.{job_by}
-use Rattle.ol_words.specs.Command.{app}
+use Rattle.ol_words.specs.Command.{app, ids_of}
 use Rattle.std.proofs.lemmas.Bool.{cases_Bool}
 use Rattle.ol_words.proofs.FixedRules.{shape_with}
 use Rattle.ol_words.proofs.AnyVerb.{rules_of}
-use Rattle.ol_words.proofs.Subcommands.{IsVerb, named_is}
+use Rattle.ol_words.proofs.Subcommands.{IsVerb, named_is, no_job}
 
 -- ---- words that aren't agreed have no job
 
@@ -39,12 +39,12 @@ none_added : (x : Option ℕ) → option_and_then (λ n. option_map (λ more. n 
 none_added None = refl
 none_added (Some n) = refl
 
-numbers_twice : (line : Line) (ss : List Setting) → list_all (is_given_once line) (map (λ s. s.option) ss) ≡ false → numbers (number_on line) ss ≡ None
+numbers_twice : (line : Line) (ss : List Setting) → list_all (is_given_once line) (map (λ s. (setting_row s).option) ss) ≡ false → numbers (number_on line) ss ≡ None
 numbers_twice line [] e = absurd (true≢false e)
-numbers_twice line (s ∷ rest) e = elim (cases_Bool (is_given_once line s.option)) [
-  | inr twice ↦ ap (λ (number : Option ℕ). option_and_then (λ n. option_map (λ more. n ∷ more) (numbers (number_on line) rest)) number) (again s.limits (values_of s.option line.options) twice)
+numbers_twice line (s ∷ rest) e = elim (cases_Bool (is_given_once line (setting_row s).option)) [
+  | inr twice ↦ ap (λ (number : Option ℕ). option_and_then (λ n. option_map (λ more. n ∷ more) (numbers (number_on line) rest)) number) (again (setting_row s).limits (values_of (setting_row s).option line.options) twice)
   | inl once ↦
-      let later = numbers_twice line rest (sym (ap (λ b. b && list_all (is_given_once line) (map (λ (s : Setting). s.option) rest)) once) ∙ e) in
+      let later = numbers_twice line rest (sym (ap (λ b. b && list_all (is_given_once line) (map (λ (s : Setting). (setting_row s).option) rest)) once) ∙ e) in
       ap (λ (ns : Option (List ℕ)). option_and_then (λ n. option_map (λ more. n ∷ more) ns) (number_on line s)) later ∙ none_added (number_on line s)
 ]
 
@@ -52,17 +52,17 @@ none_each : (asks : List ℕ → Option Asked) → ((ns : List ℕ) → asks ns 
 none_each asks none None = refl
 none_each asks none (Some ns) = none ns
 
-not_told : (v : Verb) → IsVerb v → (line : Line) → is_told_once (options_of v) (length v.names) line ≡ false → job_on v line ≡ None
-not_told v is line e = elim (cases_Bool (list_all (is_given_once line) (options_of v))) [
-  | inr twice ↦ ap (λ (ns : Option (List ℕ)). option_and_then (λ ns. v.asks ns line.names) ns) (numbers_twice line v.settings twice)
+not_told : (v : Verb) (line : Line) → is_told_once (options_of v) (length (ids_of v)) line ≡ false → job_on v line ≡ None
+not_told v line e = elim (cases_Bool (list_all (is_given_once line) (options_of v))) [
+  | inr twice ↦ ap (λ (ns : Option (List ℕ)). option_and_then (λ ns. asks v ns line.names) ns) (numbers_twice line (verb_row v).settings twice)
   | inl once ↦
-      let others : nat_eq (length line.names) (length v.names) ≡ false = sym (ap (λ b. b && nat_eq (length line.names) (length v.names)) once) ∙ e in
-      none_each (λ ns. v.asks ns line.names) (λ ns. is.one ns line.names others) (numbers (number_on line) v.settings)
+      let others : nat_eq (length line.names) (length (ids_of v)) ≡ false = sym (ap (λ b. b && nat_eq (length line.names) (length (ids_of v))) once) ∙ e in
+      none_each (λ ns. asks v ns line.names) (λ ns. no_job v ns line.names others) (numbers (number_on line) (verb_row v).settings)
 ]
 
-line_not_told : (v : Verb) → IsVerb v → (line : Option Line) → option_map_or (is_told_once (options_of v) (length v.names)) line false ≡ false → option_and_then (job_on v) line ≡ None
-line_not_told v is None e = refl
-line_not_told v is (Some line) e = not_told v is line e
+line_not_told : (v : Verb) (line : Option Line) → option_map_or (is_told_once (options_of v) (length (ids_of v))) line false ≡ false → option_and_then (job_on v) line ≡ None
+line_not_told v None e = refl
+line_not_told v (Some line) e = not_told v line e
 
 some_verb : (v : Verb) → ◌≡◌ {A = Option Verb} (Some v) None → ⊥
 some_verb v e = cc
@@ -72,7 +72,7 @@ behind_not_agreed : (word : Text) (rest : List Text) (r : Option Verb) → verb_
 behind_not_agreed word rest None is e = refl
 behind_not_agreed word rest (Some v) is e = elim (cases_Bool (is_agreed v rest)) [
   | inl agreed ↦ absurd (some_verb v (sym (ap (λ b. if b then Some v else None) agreed) ∙ e))
-  | inr other ↦ line_not_told v (named_is word v is).0 (line_of (known_of v) rest) other
+  | inr other ↦ line_not_told v (line_of (known_of v) rest) other
 ]
 
 pub not_agreed : (words : List Text) → agreed_verb words ≡ None → job_of words ≡ None
@@ -83,12 +83,12 @@ not_agreed (program ∷ word ∷ rest) e = behind_not_agreed word rest (verb_nam
 -- what clap finds in agreed words
 pub record Read (words : List Text) (v : Verb) : Type 0 where
   pub rows : List Row
-  pub found : subcommand_of app words ≡ Some (v.word, rows)
+  pub found : subcommand_of app words ≡ Some ((verb_row v).word, rows)
   pub job : job_of words ≡ job_by v (λ id. first_of id rows)
   pub taken : takes app words ≡ true
 
-line_reads : (v : Verb) (is : IsVerb v) (rest : List Text) (line : Option Line) → line_of (known_of v) rest ≡ line → option_map_or (is_told_once (options_of v) (length v.names)) line false ≡ true
-    → (option_and_then (job_on v) line ≡ job_by v (λ id. first_of id (rows_after (rules_of v) [] rest))) × (level_passes (shape_with v.word (rules_of v)) [] nothing_held rest false ≡ true)
+line_reads : (v : Verb) (is : IsVerb v) (rest : List Text) (line : Option Line) → line_of (known_of v) rest ≡ line → option_map_or (is_told_once (options_of v) (length (ids_of v))) line false ≡ true
+    → (option_and_then (job_on v) line ≡ job_by v (λ id. first_of id (rows_after (rules_of v) [] rest))) × (level_passes (shape_with (verb_row v).word (rules_of v)) [] nothing_held rest false ≡ true)
 line_reads v is rest None line_is e = absurd (true≢false (sym e))
 line_reads v is rest (Some line) line_is e = is.reads rest line line_is e
 

@@ -9,13 +9,15 @@ use Rattle.std.proofs.lemmas.Slice.Eq.{bytes_eq-Decides}
 use Rattle.ol_words.specs.Texts.{Text}
 use Rattle.ol_words.specs.Lines.{Line, line_of}
 use Rattle.ol_words.specs.Texts.{texts_of}
-use Rattle.ol_words.specs.Jobs.{Verb, known_of, options_of, verb_named}
+use Rattle.ol_words.specs.Asked.{Verb}
+use Rattle.ol_words.specs.Jobs.{known_of, options_of, verb_named, verb_row}
+use Rattle.ol_words.specs.Command.{ids_of}
 use Rattle.ol_words.specs.Once.{agreed_verb, is_agreed, is_told_once}
 
 -- a word that isn't this verb's is another's or no verb's
-pub not_this : (v : Verb) (word : Text) (later : Option Verb) → (word ≡ v.word → ⊥) → None ≡ later → None ≡ (if bytes_eq v.word word then Some v else later)
-not_this v word later differs e = elim (cases_Bool (bytes_eq v.word word)) [
-  | inl same ↦ absurd (differs (sym ((bytes_eq-Decides v.word word).0 same)))
+pub not_this : (v : Verb) (word : Text) (later : Option Verb) → (word ≡ (verb_row v).word → ⊥) → None ≡ later → None ≡ (if bytes_eq (verb_row v).word word then Some v else later)
+not_this v word later differs e = elim (cases_Bool (bytes_eq (verb_row v).word word)) [
+  | inl same ↦ absurd (differs (sym ((bytes_eq-Decides (verb_row v).word word).0 same)))
   | inr other ↦ e ∙ sym (ap (λ b. if b then Some v else later) other)
 ]
 
@@ -37,16 +39,16 @@ module _ (program word : Text) (rest : List Text) where
 
   module _ (v : Verb) (named : Some v ≡ verb_named word) where
     by_line : (line : Option Line) → line ≡ line_of (known_of v) rest
-        → (if option_map_or (is_told_once (options_of v) (length v.names)) line false then Some v else None) ≡ agreed_verb (program ∷ word ∷ rest)
-    by_line line is = ap (λ (l : Option Line). if option_map_or (is_told_once (options_of v) (length v.names)) l false then Some v else None) is
+        → (if option_map_or (is_told_once (options_of v) (length (ids_of v))) line false then Some v else None) ≡ agreed_verb (program ∷ word ∷ rest)
+    by_line line is = ap (λ (l : Option Line). if option_map_or (is_told_once (options_of v) (length (ids_of v))) l false then Some v else None) is
         ∙ ap (λ (r : Option Verb). option_and_then (λ v. if is_agreed v rest then Some v else None) r) named
 
     pub no_line : None ≡ line_of (known_of v) rest → None ≡ agreed_verb (program ∷ word ∷ rest)
     no_line is = by_line None is
 
     module _ (line : Line) (is : Some line ≡ line_of (known_of v) rest) where
-      pub not_once : false ≡ is_told_once (options_of v) (length v.names) line → None ≡ agreed_verb (program ∷ word ∷ rest)
+      pub not_once : false ≡ is_told_once (options_of v) (length (ids_of v)) line → None ≡ agreed_verb (program ∷ word ∷ rest)
       not_once e = ap (λ b. if b then Some v else None) e ∙ by_line (Some line) is
 
-      pub once : true ≡ is_told_once (options_of v) (length v.names) line → Some v ≡ agreed_verb (program ∷ word ∷ rest)
+      pub once : true ≡ is_told_once (options_of v) (length (ids_of v)) line → Some v ≡ agreed_verb (program ∷ word ∷ rest)
       once e = ap (λ b. if b then Some v else None) e ∙ by_line (Some line) is

@@ -13,9 +13,11 @@ use Rattle.clap.specs.declared.builder.value_parser.Reading.{Reading}
 use Rattle.clap.specs.declared.parser.matches.ValueSource.TheVariants.{DefaultValue}
 use Rattle.ol_words.specs.Texts.{Text}
 use Rattle.ol_words.specs.Lines.{Line, is_option, line_of}
-use Rattle.ol_words.specs.Numbers.{Limits, setting}
+use Rattle.ol_words.specs.Numbers.{Limits, from_to, setting}
 use Rattle.ol_words.specs.Found.{flag_by, name_before, names_by, number_by, setting_by}
-use Rattle.ol_words.specs.Jobs.{Setting, Verb, known_of, number_on, numbers, options_of, switch, values_of}
+use Rattle.ol_words.specs.Asked.{Verb, asks}
+use Rattle.ol_words.specs.Jobs.{Setting, flags_of, known_of, number_on, numbers, options_of, setting_row, values_of, verb_row}
+use Rattle.ol_words.specs.Command.{ids_of}
 use Rattle.ol_words.specs.Once.{is_given_once, is_told_once}
 use Rattle.ol_words.proofs.Rows.{first_same, found_in, itself, lacks, with_values_other}
 use Rattle.ol_words.proofs.FixedRules.{Reads, idle_at, lands, shape_with}
@@ -34,7 +36,7 @@ all_rules flags [] ids = name_rules 1 ids
 all_rules flags (o ∷ os) ids = rule_as (is_option flags o) o ∷ all_rules flags os ids
 
 abbrev pub rules_of : Verb → List Rule
-rules_of v = all_rules v.flags (options_of v) v.names
+rules_of v = all_rules (flags_of v) (options_of v) (ids_of v)
 
 is_long : (b : Bool) (x o : Text) → (not (is_some (rule_as b x).index) && has_long (rule_as b x) o) ≡ bytes_eq x o
 is_long true x o = or-false (bytes_eq x o)
@@ -67,7 +69,7 @@ module _ (flags ids : List Text) where
       ]
 
 finds : (v : Verb) → Finds (known_of v) (rules_of v)
-finds v = record { by_long = found_by_long v.flags v.names (options_of v); by_id = found_by_id v.flags v.names (options_of v) }
+finds v = record { by_long = found_by_long (flags_of v) (ids_of v) (options_of v); by_id = found_by_id (flags_of v) (ids_of v) (options_of v) }
 
 -- ---- a flag has the default `false`, and nothing else has one
 
@@ -171,55 +173,58 @@ setting_given limits [] e = refl
 setting_given limits (v ∷ []) e = refl
 setting_given limits (v ∷ w ∷ vs) e = absurd (grind (arith, nat_tests))
 
+abbrev switch : Limits
+switch = from_to 0 1 0
+
 -- each setting of a flag has the limits of one
 abbrev pub Sound : List Text → List Setting → Type 0
 Sound flags [] = Unit {0}
-Sound flags (s ∷ ss) = ((is_option flags s.option ≡ false) ⊎ ((is_option flags s.option ≡ true) × (s.limits ≡ switch))) × Sound flags ss
+Sound flags (s ∷ ss) = ((is_option flags (setting_row s).option ≡ false) ⊎ ((is_option flags (setting_row s).option ≡ true) × ((setting_row s).limits ≡ switch))) × Sound flags ss
 
 pub without_flags : (ss : List Setting) → Sound [] ss
 without_flags [] = tt
 without_flags (s ∷ ss) = (inl refl, without_flags ss)
 
-module _ (v : Verb) (line : Line) (rows : List Row) (end : Values) (t : Tells (known_of v) v.names nothing_given end line)
+module _ (v : Verb) (line : Line) (rows : List Row) (end : Values) (t : Tells (known_of v) (ids_of v) nothing_given end line)
     (value : (o : Text) → first_of o rows ≡ end o) (fresh : (o : Text) → end o ≡ None → found_in o rows ≡ None) where
   abbrev given : Text → Option Text
   given id = first_of id (fold with_default rows (rules_of v))
 
-  option_told : (o : Text) → is_option v.flags o ≡ false → given o ≡ end o
-  option_told o none = first_same o _ rows (option_kept v.flags v.names o none (options_of v) rows) ∙ value o
+  option_told : (o : Text) → is_option (flags_of v) o ≡ false → given o ≡ end o
+  option_told o none = first_same o _ rows (option_kept (flags_of v) (ids_of v) o none (options_of v) rows) ∙ value o
 
-  flag_told : (o : Text) → is_option v.flags o ≡ true → is_option (options_of v) o ≡ true → (vs : List Text) → values_of o line.options ≡ vs → length vs < 2
+  flag_told : (o : Text) → is_option (flags_of v) o ≡ true → is_option (options_of v) o ≡ true → (vs : List Text) → values_of o line.options ≡ vs → length vs < 2
       → setting switch vs ≡ Some (flag_by (given o))
-  flag_told o flag is [] e below = ap (λ w. Some (flag_by w)) (sym (flag_missing v.flags v.names o flag (options_of v) is rows (fresh o (t.absent o is e))))
+  flag_told o flag is [] e below = ap (λ w. Some (flag_by w)) (sym (flag_missing (flags_of v) (ids_of v) o flag (options_of v) is rows (fresh o (t.absent o is e))))
   flag_told o flag is (u ∷ []) e below =
-      let there = value_stays v.flags v.names o (codes "true") (options_of v) rows (value o ∙ t.given o u is e ∙ ap (λ b. Some (seen_as b u)) flag) in
+      let there = value_stays (flags_of v) (ids_of v) o (codes "true") (options_of v) rows (value o ∙ t.given o u is e ∙ ap (λ b. Some (seen_as b u)) flag) in
       ap (λ w. setting switch (w ∷ [])) (t.flag o u flag e) ∙ ap (λ w. Some (flag_by w)) (sym there)
   flag_told o flag is (u ∷ w ∷ vs) e below = absurd (omega arith)
 
-  number_told : (s : Setting) → (is_option v.flags s.option ≡ false) ⊎ ((is_option v.flags s.option ≡ true) × (s.limits ≡ switch)) → is_option (options_of v) s.option ≡ true
-      → is_given_once line s.option ≡ true → number_on line s ≡ number_by v.flags given s
+  number_told : (s : Setting) → (is_option (flags_of v) (setting_row s).option ≡ false) ⊎ ((is_option (flags_of v) (setting_row s).option ≡ true) × ((setting_row s).limits ≡ switch)) → is_option (options_of v) (setting_row s).option ≡ true
+      → is_given_once line (setting_row s).option ≡ true → number_on line s ≡ number_by (flags_of v) given s
   number_told s (inl none) is once =
-      setting_given s.limits (values_of s.option line.options) once
-      ∙ ap (setting_by s.limits) (value_told (known_of v) v.names end line t s.option is none once ∙ sym (option_told s.option none))
-      ∙ sym (ap (λ b. if b then Some (flag_by (given s.option)) else setting_by s.limits (given s.option)) none)
+      setting_given (setting_row s).limits (values_of (setting_row s).option line.options) once
+      ∙ ap (setting_by (setting_row s).limits) (value_told (known_of v) (ids_of v) end line t (setting_row s).option is none once ∙ sym (option_told (setting_row s).option none))
+      ∙ sym (ap (λ b. if b then Some (flag_by (given (setting_row s).option)) else setting_by (setting_row s).limits (given (setting_row s).option)) none)
   number_told s (inr (flag, limits)) is once =
-      ap (λ l. setting l (values_of s.option line.options)) limits
-      ∙ flag_told s.option flag is (values_of s.option line.options) refl (few _ once)
-      ∙ sym (ap (λ b. if b then Some (flag_by (given s.option)) else setting_by s.limits (given s.option)) flag)
+      ap (λ l. setting l (values_of (setting_row s).option line.options)) limits
+      ∙ flag_told (setting_row s).option flag is (values_of (setting_row s).option line.options) refl (few _ once)
+      ∙ sym (ap (λ b. if b then Some (flag_by (given (setting_row s).option)) else setting_by (setting_row s).limits (given (setting_row s).option)) flag)
 
-  numbers_told : (ss : List Setting) → Sound v.flags ss → ((o : Text) → is_option (map (λ s. s.option) ss) o ≡ true → is_option (options_of v) o ≡ true)
-      → list_all (is_given_once line) (map (λ s. s.option) ss) ≡ true → numbers (number_on line) ss ≡ numbers (number_by v.flags given) ss
+  numbers_told : (ss : List Setting) → Sound (flags_of v) ss → ((o : Text) → is_option (map (λ s. (setting_row s).option) ss) o ≡ true → is_option (options_of v) o ≡ true)
+      → list_all (is_given_once line) (map (λ s. (setting_row s).option) ss) ≡ true → numbers (number_on line) ss ≡ numbers (number_by (flags_of v) given) ss
   numbers_told [] sound known e = refl
   numbers_told (s ∷ rest) sound known e =
       let parts = and_parts _ _ e in
-      let first : is_option (map (λ (s : Setting). s.option) (s ∷ rest)) s.option ≡ true = rw (itself s.option) refl in
-      let here = number_told s sound.0 (known s.option first) parts.0 in
-      let more = numbers_told rest sound.1 (λ o later. known o (or_right (bytes_eq s.option o) (is_option (map (λ (s : Setting). s.option) rest) o) later)) parts.1 in
+      let first : is_option (map (λ (s : Setting). (setting_row s).option) (s ∷ rest)) (setting_row s).option ≡ true = rw (itself (setting_row s).option) refl in
+      let here = number_told s sound.0 (known (setting_row s).option first) parts.0 in
+      let more = numbers_told rest sound.1 (λ o later. known o (or_right (bytes_eq (setting_row s).option o) (is_option (map (λ (s : Setting). (setting_row s).option) rest) o) later)) parts.1 in
       ap₂ (λ (ns : Option (List ℕ)) (number : Option ℕ). option_and_then (λ n. option_map (λ more. n ∷ more) ns) number) more here
 
-  module _ (within : (o : Text) → is_option v.flags o ≡ true → is_option (options_of v) o ≡ true) where
-    no_flag : (id : Text) → is_option (options_of v) id ≡ false → is_option v.flags id ≡ false
-    no_flag id apart = elim (cases_Bool (is_option v.flags id)) [
+  module _ (within : (o : Text) → is_option (flags_of v) o ≡ true → is_option (options_of v) o ≡ true) where
+    no_flag : (id : Text) → is_option (options_of v) id ≡ false → is_option (flags_of v) id ≡ false
+    no_flag id apart = elim (cases_Bool (is_option (flags_of v) id)) [
       | inl flag ↦ absurd (true≢false (sym (within id flag) ∙ apart))
       | inr none ↦ none
     ]
@@ -238,15 +243,15 @@ all_options os (x ∷ flags) e o is =
     ]
 
 -- where clap knows the names of a verb, the job of agreed words is that of the rows that clap finds
-pub verb_reads : (v : Verb) → Awaits (known_of v) (rules_of v) 1 v.names → list_all (is_option (options_of v)) v.flags ≡ true → Sound v.flags v.settings
-    → ((rows : List Row) → (list_all default_passes (rules_of v) && is_valid (shape_with v.word (rules_of v)) rows false) ≡ true)
-    → (rest : List Text) (line : Line) → line_of (known_of v) rest ≡ Some line → is_told_once (options_of v) (length v.names) line ≡ true → Reads v (rules_of v) rest line
+pub verb_reads : (v : Verb) → Awaits (known_of v) (rules_of v) 1 (ids_of v) → list_all (is_option (options_of v)) (flags_of v) ≡ true → Sound (flags_of v) (verb_row v).settings
+    → ((rows : List Row) → (list_all default_passes (rules_of v) && is_valid (shape_with (verb_row v).word (rules_of v)) rows false) ≡ true)
+    → (rest : List Text) (line : Line) → line_of (known_of v) rest ≡ Some line → is_told_once (options_of v) (length (ids_of v)) line ≡ true → Reads v (rules_of v) rest line
 verb_reads v awaits options sound valid rest line is e =
-    let within = all_options (options_of v) v.flags options in
-    let c = come_all (known_of v) (rules_of v) v.word (finds v) within v.names awaits rest line is e in
+    let within = all_options (options_of v) (flags_of v) options in
+    let c = come_all (known_of v) (rules_of v) (verb_row v).word (finds v) within (ids_of v) awaits rest line is e in
     let rows = (settled (rules_of v) c.1.held).rows in
-    let numbers = numbers_told v line rows c.1.end c.1.tells c.1.stands.value c.1.stands.fresh v.settings sound (λ o known. known) (and_parts _ _ e).0 in
-    let names = names_told c.1.end v.names line.names c.1.tells.names (names_count (options_of v) v.names line e)
-    ∙ names_same v line rows c.1.end c.1.tells c.1.stands.value c.1.stands.fresh within 1 v.names awaits in
-    let job = ap₂ (λ (ns : Option (List ℕ)) (names : List Text). option_and_then (λ ns. v.asks ns names) ns) numbers names in
+    let numbers = numbers_told v line rows c.1.end c.1.tells c.1.stands.value c.1.stands.fresh (verb_row v).settings sound (λ o known. known) (and_parts _ _ e).0 in
+    let names = names_told c.1.end (ids_of v) line.names c.1.tells.names (names_count (options_of v) (ids_of v) line e)
+    ∙ names_same v line rows c.1.end c.1.tells c.1.stands.value c.1.stands.fresh within 1 (ids_of v) awaits in
+    let job = ap₂ (λ (ns : Option (List ℕ)) (names : List Text). option_and_then (λ ns. asks v ns names) ns) numbers names in
     lands v (rules_of v) rest line (idle_at c.1.held c.1.position c.0) c.1.goes job (and_from _ _ c.1.stands.settles (valid (finished (rules_of v) c.1.held)))

@@ -9,7 +9,8 @@ use Rattle.clap.specs.Simple.{Shape, new_shape}
 use Rattle.clap.specs.Takes.{bundle_passes, default_passes, flag_word_passes, is_valid, level_passes, other_passes, settle_passes, step_passes, turn_passes, walk_passes}
 use Rattle.ol_words.specs.Texts.{Text}
 use Rattle.ol_words.specs.Lines.{Line, is_dashed}
-use Rattle.ol_words.specs.Jobs.{Verb, job_on}
+use Rattle.ol_words.specs.Asked.{Verb}
+use Rattle.ol_words.specs.Jobs.{job_on, verb_row}
 use Rattle.ol_words.specs.Found.{job_by}
 use Rattle.ol_words.proofs.Shapes.{not_end, plain_long, plain_short}
 
@@ -98,14 +99,14 @@ module _ (rules : List Rule) (verb : Text) (h : Held) (position : ℕ) where
 -- what clap makes of the words behind a verb, where these say this
 abbrev pub Reads : Verb → List Rule → List Text → Line → Type 0
 Reads v rules rest line = (job_on v line ≡ job_by v (λ id. first_of id (rows_after rules [] rest)))
-    × (level_passes (shape_with v.word rules) [] nothing_held rest false ≡ true)
+    × (level_passes (shape_with (verb_row v).word rules) [] nothing_held rest false ≡ true)
 
 -- once the words are walked over
 abbrev pub settles_at : Verb → List Rule → Held → Bool
 settles_at v rules h = settle_passes rules false h
-    && (list_all default_passes rules && is_valid (shape_with v.word rules) (finished rules h) false)
+    && (list_all default_passes rules && is_valid (shape_with (verb_row v).word rules) (finished rules h) false)
 
-pub lands : (v : Verb) (rules : List Rule) (rest : List Text) (line : Line) (end : Walk) → Goes (shape_with v.word rules) (walk_from nothing_held) rest end
+pub lands : (v : Verb) (rules : List Rule) (rest : List Text) (line : Line) (end : Walk) → Goes (shape_with (verb_row v).word rules) (walk_from nothing_held) rest end
     → job_on v line ≡ job_by v (λ id. first_of id (finished rules end.held)) → settles_at v rules end.held ≡ true → Reads v rules rest line
 lands v rules rest line end g job ok = (
   job ∙ ap (λ (w : Walk). job_by v (λ id. first_of id (finished rules w.held))) (sym g.walks),

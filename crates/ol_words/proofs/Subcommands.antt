@@ -1,5 +1,5 @@
 -- The verbs, as clap is told of them.
-use Rattle.std.proofs.Common.{ℕ, ◌≡◌, ◌∙◌, ◌==◌, ap, append-nil, append_assoc, refl, true, false, List, [], ◌∷◌, ◌++◌, Option, Some, None, if◌then◌else◌, inl, inr, true≢false, sym, subst, fold, find}
+use Rattle.std.proofs.Common.{ℕ, ◌≡◌, ◌∙◌, ap, append-nil, append_assoc, refl, true, false, List, [], ◌∷◌, ◌++◌, Option, Some, None, if◌then◌else◌, inl, inr, true≢false, sym, fold, find}
 use Rattle.std.specs.Option.{option_map_or}
 use Rattle.std.specs.Prelude.{option_map, nat_eq, length}
 use Rattle.std.specs.Str.{bytes_eq}
@@ -10,10 +10,10 @@ use Rattle.clap.specs.Simple.{Shape, names_of, entered, label_of, rows_at}
 use Rattle.clap.specs.Words.{is_simple, built, subcommand_of, takes}
 use Rattle.ol_words.specs.Texts.{Text}
 use Rattle.ol_words.specs.Lines.{Line, line_of}
-use Rattle.ol_words.specs.Asked.{run, walk, view, trace, demand, certify, net}
-use Rattle.ol_words.specs.Jobs.{Verb, known_of, options_of, only, verb_named, translation_numbered, certify_asks, check_asks, demand_asks, equal_asks, gen_asks, net_asks, run_asks, trace_asks, view_asks, walk_asks, certify_verb, check_verb, demand_verb, equal_verb, gen_verb, net_verb, run_verb, trace_verb, view_verb, walk_verb}
+use Rattle.ol_words.specs.Asked.{Verb, asks, certify_verb, check_verb, demand_verb, equal_verb, gen_verb, net_verb, run_verb, trace_verb, view_verb, walk_verb}
+use Rattle.ol_words.specs.Jobs.{known_of, options_of, verb_named, verb_row, verbs}
 use Rattle.ol_words.specs.Once.{is_told_once}
-use Rattle.ol_words.specs.Command.{app}
+use Rattle.ol_words.specs.Command.{app, ids_of}
 use Rattle.std.proofs.lemmas.Bool.{and_from, cases_Bool}
 use Rattle.ol_words.proofs.FixedRules.{Reads, shape_with}
 use Rattle.ol_words.proofs.AnyVerb.{without_flags, rules_of, verb_reads}
@@ -23,98 +23,26 @@ is_simple_app = refl
 
 -- what a verb is to the command line
 pub record IsVerb (v : Verb) : Type 0 where
-  -- there is a job only for as many names as the verb has
-  pub one : (ns : List ℕ) (names : List Text) → nat_eq (length names) (length v.names) ≡ false → v.asks ns names ≡ None
   -- clap leaves the words behind the verb to its subcommand
-  pub rows : (program : Text) (rest : List Text) → subcommand_of app (program ∷ v.word ∷ rest) ≡ Some (v.word, rows_after (rules_of v) [] rest)
+  pub rows : (program : Text) (rest : List Text) → subcommand_of app (program ∷ (verb_row v).word ∷ rest) ≡ Some ((verb_row v).word, rows_after (rules_of v) [] rest)
   -- clap takes the words where the subcommand takes those behind the verb
-  pub taken : (program : Text) (rest : List Text) → level_passes (shape_with v.word (rules_of v)) [] nothing_held rest false ≡ true → takes app (program ∷ v.word ∷ rest) ≡ true
+  pub taken : (program : Text) (rest : List Text) → level_passes (shape_with (verb_row v).word (rules_of v)) [] nothing_held rest false ≡ true → takes app (program ∷ (verb_row v).word ∷ rest) ≡ true
   -- clap finds in agreed words what they say
-  pub reads : (rest : List Text) (line : Line) → line_of (known_of v) rest ≡ Some line → is_told_once (options_of v) (length v.names) line ≡ true → Reads v (rules_of v) rest line
+  pub reads : (rest : List Text) (line : Line) → line_of (known_of v) rest ≡ Some line → is_told_once (options_of v) (length (ids_of v)) line ≡ true → Reads v (rules_of v) rest line
 
-not_only : (names : List Text) → nat_eq (length names) 1 ≡ false → only names ≡ None
-not_only [] e = refl
-not_only (n ∷ []) e = absurd (true≢false e)
-not_only (n ∷ m ∷ names) e = refl
-
-run_one : (ns : List ℕ) (names : List Text) → nat_eq (length names) 1 ≡ false → run_asks ns names ≡ None
-run_one [] names e = refl
-run_one (t ∷ []) names e = refl
-run_one (t ∷ w ∷ []) names e = refl
-run_one (t ∷ w ∷ f ∷ []) names e = refl
-run_one (t ∷ w ∷ f ∷ h ∷ []) names e = ap (option_map (run (translation_numbered t) w f h)) (not_only names e)
-run_one (t ∷ w ∷ f ∷ h ∷ x ∷ xs) names e = refl
-
-walk_one : (ns : List ℕ) (names : List Text) → nat_eq (length names) 1 ≡ false → walk_asks ns names ≡ None
-walk_one [] names e = refl
-walk_one (t ∷ []) names e = refl
-walk_one (t ∷ g ∷ []) names e = refl
-walk_one (t ∷ g ∷ h ∷ []) names e = ap (option_map (walk (translation_numbered t) g h)) (not_only names e)
-walk_one (t ∷ g ∷ h ∷ x ∷ xs) names e = refl
-
-view_one : (ns : List ℕ) (names : List Text) → nat_eq (length names) 1 ≡ false → view_asks ns names ≡ None
-view_one [] names e = refl
-view_one (t ∷ []) names e = refl
-view_one (t ∷ k ∷ []) names e = ap (option_map (view (translation_numbered t) k)) (not_only names e)
-view_one (t ∷ k ∷ x ∷ xs) names e = refl
-
-trace_one : (ns : List ℕ) (names : List Text) → nat_eq (length names) 1 ≡ false → trace_asks ns names ≡ None
-trace_one [] names e = refl
-trace_one (t ∷ []) names e = refl
-trace_one (t ∷ w ∷ []) names e = refl
-trace_one (t ∷ w ∷ f ∷ []) names e = ap (option_map (trace (translation_numbered t) w f)) (not_only names e)
-trace_one (t ∷ w ∷ f ∷ x ∷ xs) names e = refl
-
-check_two : (ns : List ℕ) (names : List Text) → nat_eq (length names) 2 ≡ false → check_asks ns names ≡ None
-check_two [] names e = refl
-check_two (t ∷ x ∷ xs) names e = refl
-check_two (t ∷ []) [] e = refl
-check_two (t ∷ []) (a ∷ []) e = refl
-check_two (t ∷ []) (a ∷ b ∷ []) e = absurd (true≢false e)
-check_two (t ∷ []) (a ∷ b ∷ c ∷ names) e = refl
-
-gen_one : (ns : List ℕ) (names : List Text) → nat_eq (length names) 1 ≡ false → gen_asks ns names ≡ None
-gen_one [] names e = refl
-gen_one (t ∷ []) names e = refl
-gen_one (t ∷ r ∷ x ∷ xs) names e = refl
-gen_one (t ∷ r ∷ []) [] e = refl
-gen_one (t ∷ r ∷ []) (n ∷ []) e = absurd (true≢false e)
-gen_one (t ∷ r ∷ []) (n ∷ m ∷ names) e = refl
-
-demand_one : (ns : List ℕ) (names : List Text) → nat_eq (length names) 1 ≡ false → demand_asks ns names ≡ None
-demand_one [] names e = refl
-demand_one (t ∷ []) names e = refl
-demand_one (t ∷ f ∷ []) names e = refl
-demand_one (t ∷ f ∷ h ∷ []) names e = ap (option_map (demand (translation_numbered t) f h)) (not_only names e)
-demand_one (t ∷ f ∷ h ∷ x ∷ xs) names e = refl
-
-certify_one : (ns : List ℕ) (names : List Text) → nat_eq (length names) 1 ≡ false → certify_asks ns names ≡ None
-certify_one [] names e = refl
-certify_one (t ∷ []) names e = refl
-certify_one (t ∷ s ∷ []) names e = refl
-certify_one (t ∷ s ∷ w ∷ []) names e = refl
-certify_one (t ∷ s ∷ w ∷ f ∷ []) names e = refl
-certify_one (t ∷ s ∷ w ∷ f ∷ h ∷ []) names e = ap (option_map (certify (translation_numbered t) s w f h)) (not_only names e)
-certify_one (t ∷ s ∷ w ∷ f ∷ h ∷ x ∷ xs) names e = refl
-
-net_one : (ns : List ℕ) (names : List Text) → nat_eq (length names) 1 ≡ false → net_asks ns names ≡ None
-net_one [] names e = refl
-net_one (t ∷ []) names e = refl
-net_one (t ∷ r ∷ []) names e = refl
-net_one (t ∷ r ∷ w ∷ []) names e = refl
-net_one (t ∷ r ∷ w ∷ f ∷ []) names e = ap (option_map (net (translation_numbered t) (r == 1) w f)) (not_only names e)
-net_one (t ∷ r ∷ w ∷ f ∷ x ∷ xs) names e = refl
-
-equal_two : (ns : List ℕ) (names : List Text) → nat_eq (length names) 2 ≡ false → equal_asks ns names ≡ None
-equal_two [] names e = refl
-equal_two (t ∷ []) names e = refl
-equal_two (t ∷ w ∷ []) names e = refl
-equal_two (t ∷ w ∷ f ∷ []) names e = refl
-equal_two (t ∷ w ∷ f ∷ h ∷ x ∷ xs) names e = refl
-equal_two (t ∷ w ∷ f ∷ h ∷ []) [] e = refl
-equal_two (t ∷ w ∷ f ∷ h ∷ []) (a ∷ []) e = refl
-equal_two (t ∷ w ∷ f ∷ h ∷ []) (a ∷ b ∷ []) e = absurd (true≢false e)
-equal_two (t ∷ w ∷ f ∷ h ∷ []) (a ∷ b ∷ c ∷ names) e = refl
+-- there is a job only for as many names as a verb has
+pub no_job : (v : Verb) (ns : List ℕ) (names : List Text) → nat_eq (length names) (length (ids_of v)) ≡ false → asks v ns names ≡ None
+no_job run_verb (t ∷ workers ∷ fuel ∷ heads ∷ []) (name ∷ []) e = absurd (true≢false e)
+no_job walk_verb (t ∷ edges ∷ heads ∷ []) (name ∷ []) e = absurd (true≢false e)
+no_job view_verb (t ∷ after ∷ []) (name ∷ []) e = absurd (true≢false e)
+no_job trace_verb (t ∷ workers ∷ fuel ∷ []) (name ∷ []) e = absurd (true≢false e)
+no_job check_verb (t ∷ []) (term ∷ journal ∷ []) e = absurd (true≢false e)
+no_job gen_verb (t ∷ runs ∷ []) (number ∷ []) e = absurd (true≢false e)
+no_job demand_verb (t ∷ fuel ∷ heads ∷ []) (name ∷ []) e = absurd (true≢false e)
+no_job certify_verb (t ∷ steps ∷ workers ∷ fuel ∷ heads ∷ []) (name ∷ []) e = absurd (true≢false e)
+no_job net_verb (t ∷ from_term ∷ workers ∷ fuel ∷ []) (name ∷ []) e = absurd (true≢false e)
+no_job equal_verb (t ∷ workers ∷ fuel ∷ heads ∷ []) (first ∷ second ∷ []) e = absurd (true≢false e)
+no_job _ _ _ e = refl
 
 -- behind a subcommand the words are left to it
 left_to_it : (c : List Rule) (names : Names) (w : Walk) (name : Text) (seen words : List Text)
@@ -172,112 +100,108 @@ module _ (word : Text) (rules : List Rule)
 is_run : IsVerb run_verb
 unfolding walked top_shape
 is_run = record {
-  one = run_one;
-  rows = rows_behind run_verb.word (rules_of run_verb) refl refl refl;
-  taken = taken_behind run_verb.word (rules_of run_verb) refl refl refl;
-  reads = verb_reads run_verb (refl, refl, refl, tt, refl, tt) refl (without_flags run_verb.settings) (λ rows. refl);
+  rows = rows_behind (verb_row run_verb).word (rules_of run_verb) refl refl refl;
+  taken = taken_behind (verb_row run_verb).word (rules_of run_verb) refl refl refl;
+  reads = verb_reads run_verb (refl, refl, refl, tt, refl, tt) refl (without_flags (verb_row run_verb).settings) (λ rows. refl);
 }
 
 is_walk : IsVerb walk_verb
 unfolding walked top_shape
 is_walk = record {
-  one = walk_one;
-  rows = rows_behind walk_verb.word (rules_of walk_verb) refl refl refl;
-  taken = taken_behind walk_verb.word (rules_of walk_verb) refl refl refl;
-  reads = verb_reads walk_verb (refl, refl, refl, tt, refl, tt) refl (without_flags walk_verb.settings) (λ rows. refl);
+  rows = rows_behind (verb_row walk_verb).word (rules_of walk_verb) refl refl refl;
+  taken = taken_behind (verb_row walk_verb).word (rules_of walk_verb) refl refl refl;
+  reads = verb_reads walk_verb (refl, refl, refl, tt, refl, tt) refl (without_flags (verb_row walk_verb).settings) (λ rows. refl);
 }
 
 is_view : IsVerb view_verb
 unfolding walked top_shape
 is_view = record {
-  one = view_one;
-  rows = rows_behind view_verb.word (rules_of view_verb) refl refl refl;
-  taken = taken_behind view_verb.word (rules_of view_verb) refl refl refl;
-  reads = verb_reads view_verb (refl, refl, refl, tt, refl, tt) refl (without_flags view_verb.settings) (λ rows. refl);
+  rows = rows_behind (verb_row view_verb).word (rules_of view_verb) refl refl refl;
+  taken = taken_behind (verb_row view_verb).word (rules_of view_verb) refl refl refl;
+  reads = verb_reads view_verb (refl, refl, refl, tt, refl, tt) refl (without_flags (verb_row view_verb).settings) (λ rows. refl);
 }
 
 is_trace : IsVerb trace_verb
 unfolding walked top_shape
 is_trace = record {
-  one = trace_one;
-  rows = rows_behind trace_verb.word (rules_of trace_verb) refl refl refl;
-  taken = taken_behind trace_verb.word (rules_of trace_verb) refl refl refl;
-  reads = verb_reads trace_verb (refl, refl, refl, tt, refl, tt) refl (without_flags trace_verb.settings) (λ rows. refl);
+  rows = rows_behind (verb_row trace_verb).word (rules_of trace_verb) refl refl refl;
+  taken = taken_behind (verb_row trace_verb).word (rules_of trace_verb) refl refl refl;
+  reads = verb_reads trace_verb (refl, refl, refl, tt, refl, tt) refl (without_flags (verb_row trace_verb).settings) (λ rows. refl);
 }
 
 is_check : IsVerb check_verb
 unfolding walked top_shape
 is_check = record {
-  one = check_two;
-  rows = rows_behind check_verb.word (rules_of check_verb) refl refl refl;
-  taken = taken_behind check_verb.word (rules_of check_verb) refl refl refl;
-  reads = verb_reads check_verb (refl, refl, refl, (refl, tt), refl, (refl, refl, refl, tt, refl, tt)) refl (without_flags check_verb.settings) (λ rows. refl);
+  rows = rows_behind (verb_row check_verb).word (rules_of check_verb) refl refl refl;
+  taken = taken_behind (verb_row check_verb).word (rules_of check_verb) refl refl refl;
+  reads = verb_reads check_verb (refl, refl, refl, (refl, tt), refl, (refl, refl, refl, tt, refl, tt)) refl (without_flags (verb_row check_verb).settings) (λ rows. refl);
 }
 
 is_gen : IsVerb gen_verb
 unfolding walked top_shape
 is_gen = record {
-  one = gen_one;
-  rows = rows_behind gen_verb.word (rules_of gen_verb) refl refl refl;
-  taken = taken_behind gen_verb.word (rules_of gen_verb) refl refl refl;
+  rows = rows_behind (verb_row gen_verb).word (rules_of gen_verb) refl refl refl;
+  taken = taken_behind (verb_row gen_verb).word (rules_of gen_verb) refl refl refl;
   reads = verb_reads gen_verb (refl, refl, refl, tt, refl, tt) refl (inl refl, (inr (refl, refl), tt)) (λ rows. refl);
 }
 
 is_demand : IsVerb demand_verb
 unfolding walked top_shape
 is_demand = record {
-  one = demand_one;
-  rows = rows_behind demand_verb.word (rules_of demand_verb) refl refl refl;
-  taken = taken_behind demand_verb.word (rules_of demand_verb) refl refl refl;
-  reads = verb_reads demand_verb (refl, refl, refl, tt, refl, tt) refl (without_flags demand_verb.settings) (λ rows. refl);
+  rows = rows_behind (verb_row demand_verb).word (rules_of demand_verb) refl refl refl;
+  taken = taken_behind (verb_row demand_verb).word (rules_of demand_verb) refl refl refl;
+  reads = verb_reads demand_verb (refl, refl, refl, tt, refl, tt) refl (without_flags (verb_row demand_verb).settings) (λ rows. refl);
 }
 
 is_certify : IsVerb certify_verb
 unfolding walked top_shape
 is_certify = record {
-  one = certify_one;
-  rows = rows_behind certify_verb.word (rules_of certify_verb) refl refl refl;
-  taken = taken_behind certify_verb.word (rules_of certify_verb) refl refl refl;
-  reads = verb_reads certify_verb (refl, refl, refl, tt, refl, tt) refl (without_flags certify_verb.settings) (λ rows. refl);
+  rows = rows_behind (verb_row certify_verb).word (rules_of certify_verb) refl refl refl;
+  taken = taken_behind (verb_row certify_verb).word (rules_of certify_verb) refl refl refl;
+  reads = verb_reads certify_verb (refl, refl, refl, tt, refl, tt) refl (without_flags (verb_row certify_verb).settings) (λ rows. refl);
 }
 
 is_net : IsVerb net_verb
 unfolding walked top_shape
 is_net = record {
-  one = net_one;
-  rows = rows_behind net_verb.word (rules_of net_verb) refl refl refl;
-  taken = taken_behind net_verb.word (rules_of net_verb) refl refl refl;
+  rows = rows_behind (verb_row net_verb).word (rules_of net_verb) refl refl refl;
+  taken = taken_behind (verb_row net_verb).word (rules_of net_verb) refl refl refl;
   reads = verb_reads net_verb (refl, refl, refl, tt, refl, tt) refl (inl refl, (inr (refl, refl), (inl refl, (inl refl, tt)))) (λ rows. refl);
 }
 
 is_equal : IsVerb equal_verb
 unfolding walked top_shape
 is_equal = record {
-  one = equal_two;
-  rows = rows_behind equal_verb.word (rules_of equal_verb) refl refl refl;
-  taken = taken_behind equal_verb.word (rules_of equal_verb) refl refl refl;
-  reads = verb_reads equal_verb (refl, refl, refl, (refl, tt), refl, (refl, refl, refl, tt, refl, tt)) refl (without_flags equal_verb.settings) (λ rows. refl);
+  rows = rows_behind (verb_row equal_verb).word (rules_of equal_verb) refl refl refl;
+  taken = taken_behind (verb_row equal_verb).word (rules_of equal_verb) refl refl refl;
+  reads = verb_reads equal_verb (refl, refl, refl, (refl, tt), refl, (refl, refl, refl, tt, refl, tt)) refl (without_flags (verb_row equal_verb).settings) (λ rows. refl);
 }
 
--- a verb among some
-module _ (word : Text) (v : Verb) where
-  here_or_later : (x : Verb) (later : Option Verb) → IsVerb x → (later ≡ Some v → IsVerb v × (word ≡ v.word))
-      → (if bytes_eq x.word word then Some x else later) ≡ Some v → IsVerb v × (word ≡ v.word)
-  here_or_later x later is_x more e = elim (cases_Bool (bytes_eq x.word word)) [
-    | inl same ↦
-        let is : x ≡ v = the x (sym (ap (λ b. if b then Some x else later) same) ∙ e) in
-        subst (λ y. IsVerb y × (word ≡ y.word)) is (is_x, sym ((bytes_eq-Decides x.word word).0 same))
-    | inr other ↦ more (sym (ap (λ b. if b then Some x else later) other) ∙ e)
-  ]
-    where
-      the : (x : Verb) → ◌≡◌ {A = Option Verb} (Some x) (Some v) → x ≡ v
-      the x e = cc
+is_verb : (v : Verb) → IsVerb v
+is_verb run_verb = is_run
+is_verb walk_verb = is_walk
+is_verb view_verb = is_view
+is_verb trace_verb = is_trace
+is_verb check_verb = is_check
+is_verb gen_verb = is_gen
+is_verb demand_verb = is_demand
+is_verb certify_verb = is_certify
+is_verb net_verb = is_net
+is_verb equal_verb = is_equal
 
-  none_left : ◌≡◌ {A = Option Verb} None (Some v) → IsVerb v × (word ≡ v.word)
-  none_left e = absurd (cc)
+-- a verb that is found among some by a word is written so
+found_word : (word : Text) (v : Verb) (vs : List Verb) → find (λ x. bytes_eq (verb_row x).word word) vs ≡ Some v → word ≡ (verb_row v).word
+found_word word v [] e = absurd (cc)
+found_word word v (x ∷ vs) e = elim (cases_Bool (bytes_eq (verb_row x).word word)) [
+  | inl same ↦
+      let is : x ≡ v = the x (sym (ap (λ b. if b then Some x else find (λ y. bytes_eq (verb_row y).word word) vs) same) ∙ e) in
+      sym ((bytes_eq-Decides (verb_row x).word word).0 same) ∙ ap (λ y. (verb_row y).word) is
+  | inr other ↦ found_word word v vs (sym (ap (λ b. if b then Some x else find (λ y. bytes_eq (verb_row y).word word) vs) other) ∙ e)
+]
+  where
+    the : (x : Verb) → ◌≡◌ {A = Option Verb} (Some x) (Some v) → x ≡ v
+    the x e = cc
 
 -- each verb that a word names is one of the command line's, and is written so
-pub named_is : (word : Text) (v : Verb) → verb_named word ≡ Some v → IsVerb v × (word ≡ v.word)
-named_is word v = here_or_later word v run_verb _ is_run (here_or_later word v walk_verb _ is_walk (here_or_later word v view_verb _ is_view
-    (here_or_later word v trace_verb _ is_trace (here_or_later word v check_verb _ is_check (here_or_later word v gen_verb _ is_gen
-    (here_or_later word v demand_verb _ is_demand (here_or_later word v certify_verb _ is_certify (here_or_later word v net_verb _ is_net (here_or_later word v equal_verb _ is_equal (none_left word v))))))))))
+pub named_is : (word : Text) (v : Verb) → verb_named word ≡ Some v → IsVerb v × (word ≡ (verb_row v).word)
+named_is word v e = (is_verb v, found_word word v verbs e)

@@ -1,193 +1,66 @@
--- The job of a list of words.
-use Rattle.std.specs.Prelude.{ℕ, ◌&&◌, ◌==◌, List, [], ◌∷◌, Option, None, Some}
-use Rattle.std.specs.Prelude.{if◌then◌else◌, map, codes, Bool, filter, find, option_map, option_and_then}
+-- The job of a list of words: the tables of settings and of verbs, and how a line is read by them.
+use Rattle.std.specs.Prelude.{ℕ, List, [], ◌∷◌, Option, None, Some, Bool, true, false, map, codes, filter, find, option_map, option_and_then}
 use Rattle.std.specs.Str.{bytes_eq}
-use Rattle.ol_term.specs.declared.translations.Translation.{Translation}
-use Rattle.ol_term.specs.declared.translations.Translation.TheVariants.{One, Two}
 use Rattle.ol_words.specs.Texts.{Text}
-use Rattle.ol_words.specs.Asked.{Asked, run, walk, view, trace, check, gen, demand, certify, net, equal}
+use Rattle.ol_words.specs.Asked.{Asked, Verb, run_verb, walk_verb, view_verb, trace_verb, check_verb, gen_verb, demand_verb, certify_verb, net_verb, equal_verb, asks}
 use Rattle.ol_words.specs.Lines.{Line, Known, line_of}
-use Rattle.ol_words.specs.Numbers.{Limits, number_within, setting}
+use Rattle.ol_words.specs.Numbers.{Limits, from_to, setting}
+
+-- ---- the settings
+
+-- what may be set by an option
+pub data Setting : Type 0 where
+  translation workers fuel heads edges after steps runs from_term : Setting
+
+-- how a setting is given: its option, whether this is a flag, and what its number may be
+pub record SettingRow : Type 0 where
+  pub option : Text
+  pub is_flag : Bool
+  pub limits : Limits
+
+-- an option with the least and the most that its number may be, and what it is where the option isn't given
+abbrev pub number : Text → ℕ → ℕ → ℕ → SettingRow
+number option least most default = record { option = option; is_flag = false; limits = from_to least most default }
+
+-- a flag takes no value: its number is 1 where it is given, else 0
+abbrev pub flag : Text → SettingRow
+flag option = record { option = option; is_flag = true; limits = from_to 0 1 0 }
+
+-- the table of settings
+abbrev pub setting_row : Setting → SettingRow
+setting_row translation = number (codes "translation") 1 2 2
+setting_row workers = number (codes "workers") 1 64 4
+setting_row fuel = number (codes "fuel") 0 8000000 200000
+setting_row heads = number (codes "heads") 1 100000 4096
+setting_row edges = number (codes "edges") 1 10000000 100000
+setting_row after = number (codes "after") 0 8000000 0
+setting_row steps = number (codes "steps") 0 10000 1000
+setting_row runs = flag (codes "run")
+setting_row from_term = flag (codes "from-term")
 
 -- ---- the verbs
 
--- a setting of a verb: its option, and what its value may be
-pub record Setting : Type 0 where
-  pub option : Text
-  pub limits : Limits
-
-abbrev pub translation_setting : Setting
-translation_setting = record { option = codes "translation"; limits = record { least = 1; most = 2; default = 2 } }
-
--- the translation of a number: 1 or 2
-abbrev pub translation_numbered : ℕ → Translation
-translation_numbered n = if n == 1 then One else Two
-
-abbrev pub workers_setting : Setting
-workers_setting = record { option = codes "workers"; limits = record { least = 1; most = 64; default = 4 } }
-
-abbrev pub fuel_setting : Setting
-fuel_setting = record { option = codes "fuel"; limits = record { least = 0; most = 8000000; default = 200000 } }
-
-abbrev pub heads_setting : Setting
-heads_setting = record { option = codes "heads"; limits = record { least = 1; most = 100000; default = 4096 } }
-
-abbrev pub edges_setting : Setting
-edges_setting = record { option = codes "edges"; limits = record { least = 1; most = 10000000; default = 100000 } }
-
-abbrev pub after_setting : Setting
-after_setting = record { option = codes "after"; limits = record { least = 0; most = 8000000; default = 0 } }
-
--- a flag is 1 where it is given, else 0
-abbrev pub switch : Limits
-switch = record { least = 0; most = 1; default = 0 }
-
-abbrev pub runs_setting : Setting
-runs_setting = record { option = codes "run"; limits = switch }
-
-abbrev pub steps_setting : Setting
-steps_setting = record { option = codes "steps"; limits = record { least = 0; most = 10000; default = 1000 } }
-
-abbrev pub from_term_setting : Setting
-from_term_setting = record { option = codes "from-term"; limits = switch }
-
--- how often a term may be doubled
-abbrev pub doublings : Limits
-doublings = record { least = 0; most = 10; default = 0 }
-
--- A verb: how it is written, the settings that it has, those of their options that are flags, what its names are
--- called, and the job that the numbers of its settings and its names ask for.
-pub record Verb : Type 0 where
+-- how a verb is written, and its settings in the order of their numbers
+pub record VerbRow : Type 0 where
   pub word : Text
   pub settings : List Setting
-  pub flags : List Text
-  pub names : List Text
-  pub asks : List ℕ → List Text → Option Asked
 
--- a verb without flags, which takes the name of one file
-abbrev pub file_verb : Text → List Setting → (List ℕ → List Text → Option Asked) → Verb
-file_verb word settings asks = record {
-  word = word;
-  settings = settings;
-  flags = [];
-  names = codes "name" ∷ [];
-  asks = asks;
-}
+-- every verb has the translation, and these settings behind it
+abbrev pub verb : Text → List Setting → VerbRow
+verb word settings = record { word = word; settings = translation ∷ settings }
 
-abbrev pub only : List Text → Option Text
-only (name ∷ []) = Some name
-only _ = None
-
-abbrev pub run_asks : List ℕ → List Text → Option Asked
-run_asks (w ∷ workers ∷ fuel ∷ heads ∷ []) names =
-    option_map (run (translation_numbered w) workers fuel heads) (only names)
-run_asks _ names = None
-
-abbrev pub walk_asks : List ℕ → List Text → Option Asked
-walk_asks (w ∷ edges ∷ heads ∷ []) names = option_map (walk (translation_numbered w) edges heads) (only names)
-walk_asks _ names = None
-
-abbrev pub view_asks : List ℕ → List Text → Option Asked
-view_asks (w ∷ after ∷ []) names = option_map (view (translation_numbered w) after) (only names)
-view_asks _ names = None
-
-abbrev pub trace_asks : List ℕ → List Text → Option Asked
-trace_asks (w ∷ workers ∷ fuel ∷ []) names = option_map (trace (translation_numbered w) workers fuel) (only names)
-trace_asks _ names = None
-
--- the name of standard input
-abbrev pub is_input : Text → Bool
-is_input name = bytes_eq name (codes "-")
-
--- standard input can't be both files
-abbrev pub check_asks : List ℕ → List Text → Option Asked
-check_asks (w ∷ []) (term ∷ journal ∷ []) =
-    if is_input term && is_input journal then None else Some (check (translation_numbered w) term journal)
-check_asks _ names = None
-
-abbrev pub gen_of : Translation → Bool → Option ℕ → Option Asked
-gen_of w runs number = option_map (gen w runs) number
-
-abbrev pub gen_asks : List ℕ → List Text → Option Asked
-gen_asks (w ∷ runs ∷ []) (number ∷ []) =
-    gen_of (translation_numbered w) (runs == 1) (number_within doublings number)
-gen_asks _ names = None
-
-abbrev pub demand_asks : List ℕ → List Text → Option Asked
-demand_asks (w ∷ fuel ∷ heads ∷ []) names = option_map (demand (translation_numbered w) fuel heads) (only names)
-demand_asks _ names = None
-
-abbrev pub certify_asks : List ℕ → List Text → Option Asked
-certify_asks (w ∷ steps ∷ workers ∷ fuel ∷ heads ∷ []) names =
-    option_map (certify (translation_numbered w) steps workers fuel heads) (only names)
-certify_asks _ names = None
-
-abbrev pub net_asks : List ℕ → List Text → Option Asked
-net_asks (w ∷ from_term ∷ workers ∷ fuel ∷ []) names =
-    option_map (net (translation_numbered w) (from_term == 1) workers fuel) (only names)
-net_asks _ names = None
-
--- standard input can't be both files
-abbrev pub equal_asks : List ℕ → List Text → Option Asked
-equal_asks (w ∷ workers ∷ fuel ∷ heads ∷ []) (first ∷ second ∷ []) =
-    if is_input first && is_input second then None
-    else Some (equal (translation_numbered w) workers fuel heads first second)
-equal_asks _ names = None
-
-abbrev pub run_verb : Verb
-run_verb = file_verb (codes "run") (translation_setting ∷ workers_setting ∷ fuel_setting ∷ heads_setting ∷ []) run_asks
-
-abbrev pub walk_verb : Verb
-walk_verb = file_verb (codes "walk") (translation_setting ∷ edges_setting ∷ heads_setting ∷ []) walk_asks
-
-abbrev pub view_verb : Verb
-view_verb = file_verb (codes "view") (translation_setting ∷ after_setting ∷ []) view_asks
-
-abbrev pub trace_verb : Verb
-trace_verb = file_verb (codes "trace") (translation_setting ∷ workers_setting ∷ fuel_setting ∷ []) trace_asks
-
-abbrev pub check_verb : Verb
-check_verb = record {
-  word = codes "check";
-  settings = translation_setting ∷ [];
-  flags = [];
-  names = codes "term" ∷ codes "journal" ∷ [];
-  asks = check_asks;
-}
-
-abbrev pub gen_verb : Verb
-gen_verb = record {
-  word = codes "gen";
-  settings = translation_setting ∷ runs_setting ∷ [];
-  flags = codes "run" ∷ [];
-  names = codes "number" ∷ [];
-  asks = gen_asks;
-}
-
-abbrev pub demand_verb : Verb
-demand_verb = file_verb (codes "demand") (translation_setting ∷ fuel_setting ∷ heads_setting ∷ []) demand_asks
-
-abbrev pub certify_verb : Verb
-certify_verb = file_verb (codes "certify")
-    (translation_setting ∷ steps_setting ∷ workers_setting ∷ fuel_setting ∷ heads_setting ∷ []) certify_asks
-
-abbrev pub net_verb : Verb
-net_verb = record {
-  word = codes "net";
-  settings = translation_setting ∷ from_term_setting ∷ workers_setting ∷ fuel_setting ∷ [];
-  flags = codes "from-term" ∷ [];
-  names = codes "name" ∷ [];
-  asks = net_asks;
-}
-
-abbrev pub equal_verb : Verb
-equal_verb = record {
-  word = codes "equal";
-  settings = translation_setting ∷ workers_setting ∷ fuel_setting ∷ heads_setting ∷ [];
-  flags = [];
-  names = codes "first" ∷ codes "second" ∷ [];
-  asks = equal_asks;
-}
+-- the table of verbs
+abbrev pub verb_row : Verb → VerbRow
+verb_row run_verb = verb (codes "run") (workers ∷ fuel ∷ heads ∷ [])
+verb_row walk_verb = verb (codes "walk") (edges ∷ heads ∷ [])
+verb_row view_verb = verb (codes "view") (after ∷ [])
+verb_row trace_verb = verb (codes "trace") (workers ∷ fuel ∷ [])
+verb_row check_verb = verb (codes "check") []
+verb_row gen_verb = verb (codes "gen") (runs ∷ [])
+verb_row demand_verb = verb (codes "demand") (fuel ∷ heads ∷ [])
+verb_row certify_verb = verb (codes "certify") (steps ∷ workers ∷ fuel ∷ heads ∷ [])
+verb_row net_verb = verb (codes "net") (from_term ∷ workers ∷ fuel ∷ [])
+verb_row equal_verb = verb (codes "equal") (workers ∷ fuel ∷ heads ∷ [])
 
 abbrev pub verbs : List Verb
 verbs =
@@ -195,13 +68,19 @@ verbs =
     ∷ demand_verb ∷ certify_verb ∷ net_verb ∷ equal_verb ∷ []
 
 abbrev pub verb_named : Text → Option Verb
-verb_named word = find (λ v. bytes_eq v.word word) verbs
+verb_named word = find (λ v. bytes_eq (verb_row v).word word) verbs
+
+abbrev pub options_in : List Setting → List Text
+options_in settings = map (λ s. (setting_row s).option) settings
 
 abbrev pub options_of : Verb → List Text
-options_of v = map (λ s. s.option) v.settings
+options_of v = options_in (verb_row v).settings
+
+abbrev pub flags_of : Verb → List Text
+flags_of v = options_in (filter (λ s. (setting_row s).is_flag) (verb_row v).settings)
 
 abbrev pub known_of : Verb → Known
-known_of v = record { options = options_of v; flags = v.flags }
+known_of v = record { options = options_of v; flags = flags_of v }
 
 -- ---- the job
 
@@ -212,7 +91,7 @@ values_of option options =
 
 -- the number of a setting on a line
 abbrev pub number_on : Line → Setting → Option ℕ
-number_on line s = setting s.limits (values_of s.option line.options)
+number_on line s = setting (setting_row s).limits (values_of (setting_row s).option line.options)
 
 -- the numbers of settings in order, where each has one
 abbrev pub numbers : (Setting → Option ℕ) → List Setting → Option (List ℕ)
@@ -221,7 +100,7 @@ numbers number (s ∷ rest) = option_and_then (λ n. option_map (λ more. n ∷ 
 
 -- the job of what stands behind a verb
 abbrev pub job_on : Verb → Line → Option Asked
-job_on v line = option_and_then (λ ns. v.asks ns line.names) (numbers (number_on line) v.settings)
+job_on v line = option_and_then (λ ns. asks v ns line.names) (numbers (number_on line) (verb_row v).settings)
 
 abbrev pub job_behind : List Text → Verb → Option Asked
 job_behind rest v = option_and_then (job_on v) (line_of (known_of v) rest)

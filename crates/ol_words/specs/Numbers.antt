@@ -22,6 +22,10 @@ pub record Limits : Type 0 where
   pub most : ℕ
   pub default : ℕ
 
+-- limits by the least, the most and the default
+abbrev pub from_to : ℕ → ℕ → ℕ → Limits
+from_to least most default = record { least = least; most = most; default = default }
+
 -- the number that a text gives within the limits
 abbrev pub number_within : Limits → Text → Option ℕ
 number_within limits text =

@@ -4,7 +4,9 @@ use Rattle.std.specs.Option.{option_map_or}
 use Rattle.std.specs.List.{list_all}
 use Rattle.ol_words.specs.Texts.{Text}
 use Rattle.ol_words.specs.Lines.{Line, line_of}
-use Rattle.ol_words.specs.Jobs.{Verb, verb_named, options_of, known_of, values_of}
+use Rattle.ol_words.specs.Asked.{Verb}
+use Rattle.ol_words.specs.Jobs.{verb_named, options_of, known_of, values_of}
+use Rattle.ol_words.specs.Command.{ids_of}
 
 abbrev pub is_given_once : Line → Text → Bool
 is_given_once line option = nat_lt (length (values_of option line.options)) 2
@@ -16,7 +18,7 @@ is_told_once options names line =
 
 abbrev pub is_agreed : Verb → List Text → Bool
 is_agreed v rest =
-    option_map_or (is_told_once (options_of v) (length v.names)) (line_of (known_of v) rest) false
+    option_map_or (is_told_once (options_of v) (length (ids_of v))) (line_of (known_of v) rest) false
 
 -- the verb of words that are left to clap: all words that have a job, and of the others those with a
 -- bad number and those that name standard input twice

@@ -2,12 +2,11 @@
 
 ghost use Rattle.std.specs.Prelude.{◌≡◌, ◌==◌, ◌&&◌, IfOk, Err, Some, None, option_map, option_and_then};
 ghost use Rattle.ol_words.specs.Texts.{texts_of};
-ghost use Rattle.ol_words.specs.Asked.{asked_by};
+ghost use Rattle.ol_words.specs.Asked.{asked_by, certify_verb, check_verb, demand_verb, equal_verb, gen_verb, is_input, net_verb, run_verb, trace_verb, view_verb, walk_verb};
 ghost use Rattle.ol_words.specs.Jobs.{job_of};
 ghost use Rattle.ol_words.specs.Views.{verb_of};
 ghost use Rattle.ol_words.specs.Once.{agreed_verb};
-ghost use Rattle.ol_words.specs.Found.{flag_by, job_found, setting_by};
-ghost use Rattle.ol_words.specs.Jobs.{certify_verb, check_verb, demand_verb, equal_verb, gen_verb, is_input, net_verb, run_verb, trace_verb, translation_numbered, translation_setting, view_verb, walk_verb};
+ghost use Rattle.ol_words.specs.Found.{flag_by, job_found, translation_given};
 
 use crate::command::matches_of;
 use crate::jobs::{Job, UsageFault, Word};
@@ -377,8 +376,7 @@ fn equal_by(alloc: Global, found: &ArgMatches) -> Result<Job, UsageFault>
 
 // The translation by the number that was given, which is 2 by itself.
 fn translation_by(value: Option<&str>) -> Option<Translation>
-    ensures { result ≡ option_map translation_numbered
-        (setting_by translation_setting.limits (option_map (λ v. v.now) value.entry)) }
+    ensures { result ≡ translation_given (option_map (λ v. v.now) value.entry) }
 {
     let number = setting_by(value, TRANSLATION)?;
     if number == 1 {

@@ -1,7 +1,8 @@
 //! The verbs of a command line, and what each has: options, flags and names.
 
 ghost use Rattle.std.specs.Prelude.{◌≡◌, option_map};
-ghost use Rattle.ol_words.specs.Jobs.{options_of, verb_named};
+ghost use Rattle.ol_words.specs.Jobs.{flags_of, options_of, verb_named, verb_row};
+ghost use Rattle.ol_words.specs.Command.{ids_of};
 ghost use Rattle.ol_words.specs.Views.{verb_of};
 ghost use Rattle.ol_words.specs.Views.{texts};
 
@@ -74,7 +75,7 @@ impl Verb {
 
     /// How the verb is written.
     pub(crate) fn word(self) -> &'static str
-        ensures { result.now ≡ (verb_of self).word }
+        ensures { result.now ≡ (verb_row (verb_of self)).word }
     {
         match self {
             Verb::Run => "run",
@@ -109,7 +110,7 @@ impl Verb {
 
     /// Those of the options that take no value.
     pub(crate) fn flags(self) -> &'static [&'static str]
-        ensures { texts result.now ≡ (verb_of self).flags }
+        ensures { texts result.now ≡ flags_of (verb_of self) }
     {
         match self {
             Verb::Gen => GEN_FLAGS.as_slice(),
@@ -127,7 +128,7 @@ impl Verb {
 
     /// What the names are called that stand behind the verb, in their order.
     pub(crate) fn names(self) -> &'static [&'static str]
-        ensures { texts result.now ≡ (verb_of self).names }
+        ensures { texts result.now ≡ ids_of (verb_of self) }
     {
         match self {
             Verb::Run

@@ -5,6 +5,7 @@ use Rattle.ol_words.specs.Lines.{line_of}
 use Rattle.ol_words.specs.Views.{known_by}
 use Rattle.ol_words.specs.Texts.{texts_of}
 use Rattle.ol_words.specs.Jobs.{known_of, options_of, verb_named}
+use Rattle.ol_words.specs.Command.{ids_of}
 use Rattle.ol_words.specs.Views.{verb_of}
 use Rattle.ol_words.specs.Once.{agreed_verb, is_told_once}
 use Rattle.ol_words.proofs.SoFar.{rest_length}
@@ -42,9 +43,9 @@ returns-then-not-is_told_once c =
     let rest_is = ap (λ (l : List (String Global)). line_of (known_by c.options.result.now c.flags.result.now) (texts_of l)) (take_all (length xs - 2) (drop 2 xs) (rest_length xs 2)) in
     let known = ap₂ (λ (os fs : List Text). line_of (record { options = os; flags = fs }) rest) c.options.ensures c.flags.ensures in
     let read : Some c.in-Some-2.line ≡ line_of (known_of v) rest = sym c.in-Some-2.is ∙ c.in_ok-line.ensures ∙ rest_is ∙ known in
-    let count : length c.names.result.now ≡ length v.names = sym (length-map c.names.result.now (λ n. n.now)) ∙ ap length c.names.ensures in
+    let count : length c.names.result.now ≡ length (ids_of v) = sym (length-map c.names.result.now (λ n. n.now)) ∙ ap length c.names.ensures in
     let by_verb = ap₂ (λ (os : List Text) (n : ℕ). is_told_once os n c.in-Some-2.line) c.options-2.ensures count in
-    let told : false ≡ is_told_once (options_of v) (length v.names) c.in-Some-2.line = sym c.if-not-is_told_once.true ∙ c.is_told_once.ensures ∙ by_verb in
+    let told : false ≡ is_told_once (options_of v) (length (ids_of v)) c.in-Some-2.line = sym c.if-not-is_told_once.true ∙ c.is_told_once.ensures ∙ by_verb in
     not_once p.0 (string_bytes c.word-item.result) rest v named c.in-Some-2.line read told ∙ ap agreed_verb (sym p.1) ∙ ap (λ (ws : List (String Global)). agreed_verb (texts_of ws)) c.as_slice.ensures.value
 
 pub returns : goal.returns
@@ -57,7 +58,7 @@ returns c =
     let rest_is = ap (λ (l : List (String Global)). line_of (known_by c.options.result.now c.flags.result.now) (texts_of l)) (take_all (length xs - 2) (drop 2 xs) (rest_length xs 2)) in
     let known = ap₂ (λ (os fs : List Text). line_of (record { options = os; flags = fs }) rest) c.options.ensures c.flags.ensures in
     let read : Some c.in-Some-2.line ≡ line_of (known_of v) rest = sym c.in-Some-2.is ∙ c.in_ok-line.ensures ∙ rest_is ∙ known in
-    let count : length c.names.result.now ≡ length v.names = sym (length-map c.names.result.now (λ n. n.now)) ∙ ap length c.names.ensures in
+    let count : length c.names.result.now ≡ length (ids_of v) = sym (length-map c.names.result.now (λ n. n.now)) ∙ ap length c.names.ensures in
     let by_verb = ap₂ (λ (os : List Text) (n : ℕ). is_told_once os n c.in-Some-2.line) c.options-2.ensures count in
-    let told : true ≡ is_told_once (options_of v) (length v.names) c.in-Some-2.line = sym c.if-not-is_told_once.false ∙ c.is_told_once.ensures ∙ by_verb in
+    let told : true ≡ is_told_once (options_of v) (length (ids_of v)) c.in-Some-2.line = sym c.if-not-is_told_once.false ∙ c.is_told_once.ensures ∙ by_verb in
     once p.0 (string_bytes c.word-item.result) rest v named c.in-Some-2.line read told ∙ ap agreed_verb (sym p.1) ∙ ap (λ (ws : List (String Global)). agreed_verb (texts_of ws)) c.as_slice.ensures.value

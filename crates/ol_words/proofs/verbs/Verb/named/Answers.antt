@@ -1,5 +1,5 @@
 use Rattle.std.proofs.Common.{refl}
-use Rattle.ol_words.specs.Jobs.{certify_verb, check_verb, demand_verb, equal_verb, gen_verb, net_verb, run_verb, trace_verb, view_verb, walk_verb}
+use Rattle.ol_words.specs.Asked.{certify_verb, check_verb, demand_verb, equal_verb, gen_verb, net_verb, run_verb, trace_verb, view_verb, walk_verb}
 use Rattle.ol_words.proofs.AgreedVerbs.{not_this}
 use Rattle.ol_words.proofs.verbs.Verb.named.Goals as goal
 

@@ -1,0 +1,30 @@
+#!/usr/bin/env python3
+"""Shows the place that `syntax at byte B` names, with line, column and a caret below it; passes everything else on.
+
+    ol run NAME | python3 examples/caret.py NAME
+
+Lines and columns are counted from 1. A column is a character: λ, two bytes, is one. Where the text ended too early,
+the caret stands behind what is there. The status is 2 where a place is shown, else 0.
+"""
+import codecs
+import re
+import sys
+
+answer = sys.stdin.read()
+found = re.fullmatch(r"syntax at byte (\d+)\n", answer)
+if not found:
+    sys.stdout.write(answer)
+    sys.exit(0)
+with open(sys.argv[1], "rb") as file:
+    text = file.read()
+before = text[:int(found.group(1))]
+at_end = len(before) == len(text)
+if at_end:
+    before = text.rstrip()
+begin = before.rfind(b"\n") + 1
+line = before.count(b"\n") + 1
+left = codecs.getincrementaldecoder("utf-8")("replace").decode(before[begin:])
+whole = text[begin:].split(b"\n")[0].decode("utf-8", "replace")
+print(f"line {line}, column {len(left) + 1}{', the end of the text' if at_end else ''}: {answer}{whole}")
+print("".join("\t" if sign == "\t" else " " for sign in left) + "^")
+sys.exit(2)
