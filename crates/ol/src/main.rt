@@ -40,9 +40,9 @@ fn run<'a, R: Files + Input + Print + Threads + Wait + Sync>(
     ensures plain { result.status ≡ Status.Done → PlainLineSays words.now.items
         (handed (⟦<StdSource<'a, R> as Source>⟧.readings result.src))
         (Some []) (⟦<StdSink<'a, R> as Sink>⟧.taken result.out) }
-    // After `ol demand NAME` it is a text of the normal form, where there is one and variables stand
-    // in at most 4,096 places of it. After `ol equal A B` the line is `equal` only where the two
-    // terms are convertible, and begins with `different` only where they aren't.
+    // After `ol demand NAME` it is a text of the normal form, where there is one and variables
+    // stand in at most 4,096 places of it. After `ol equal A B` the line is `equal` only where the
+    // two terms are convertible, and begins with `different` only where they aren't.
     ensures plain_demand { result.status ≡ Status.Done → PlainDemandFinds words.now.items
         (handed (⟦<StdSource<'a, R> as Source>⟧.readings result.src))
         (Some []) (⟦<StdSink<'a, R> as Sink>⟧.taken result.out) }
