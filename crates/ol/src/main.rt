@@ -5,7 +5,8 @@ ghost use Rattle.std.specs.Prelude.{◌≡◌, ◌≢◌, ◌<◌, ℕ, true, Li
 ghost use Rattle.ol_io.specs.Readings.{handed};
 ghost use Rattle.ol_cli.specs.Jobs.{TellsTerm, TellsFiles, files_of};
 ghost use Rattle.ol_cli.specs.NormalForms.{LineSays, IsItsNormalForm, TellsOfNone};
-ghost use Rattle.ol_cli.specs.NormalForms.{IsFoundOnDemand, LineSaysOfTwo, PlainLineSays};
+ghost use Rattle.ol_cli.specs.NormalForms.{IsFoundOnDemand, LineSaysOfTwo};
+ghost use Rattle.ol_cli.specs.NormalForms.{PlainDemandFinds, PlainEqualSays, PlainLineSays};
 ghost use Rattle.ol_cli.specs.Answers.{IsAnswer};
 ghost use Rattle.ol_cli.specs.Completeness.{AskForWhatCanBeDone, IsDoneOrNothing};
 ghost use Rattle.ol_cli.specs.Sources.{EveryRunTells, WritesTree};
@@ -39,6 +40,17 @@ fn run<'a, R: Files + Input + Print + Threads + Wait + Sync>(
     ensures plain { result.status ≡ Status.Done → PlainLineSays words.now.items
         (handed (⟦<StdSource<'a, R> as Source>⟧.readings result.src))
         (Some []) (⟦<StdSink<'a, R> as Sink>⟧.taken result.out) }
+    // After `ol demand NAME` it is a text of the normal form, where there is one and variables
+    // stand in at most 4,096 places of it. After `ol equal A B` the line is `equal` only where the
+    // two terms are convertible, and begins with `different` only where they aren't.
+    ensures plain_demand { result.status ≡ Status.Done → PlainDemandFinds words.now.items
+        (handed (⟦<StdSource<'a, R> as Source>⟧.readings result.src))
+        (Some []) (⟦<StdSink<'a, R> as Sink>⟧.taken result.out) }
+    ensures plain_equal { result.status ≡ Status.Done → PlainEqualSays words.now.items
+        (handed (⟦<StdSource<'a, R> as Source>⟧.readings result.src))
+        (Some []) (⟦<StdSink<'a, R> as Sink>⟧.taken result.out) }
+
+    // The same with any options.
     ensures normal_form { result.status ≡ Status.Done → (bytes : List ℕ)
         → TellsTerm (handed (⟦<StdSource<'a, R> as Source>⟧.readings result.src) 0)
         words.now.items bytes → LineSays IsItsNormalForm words.now.items bytes (Some [])

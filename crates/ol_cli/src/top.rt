@@ -12,7 +12,8 @@ ghost use Rattle.ol_cli.specs.Answers.{IfNoneFailed, seen_of, Cause, Ends, FileC
 ghost use Rattle.ol_cli.specs.Completeness.{AskForWhatCanBeDone, IsDoneOrNothing};
 ghost use Rattle.ol_cli.specs.Prepared.{HoldsOfTerms};
 ghost use Rattle.ol_cli.specs.Sources.{EveryRunTells, WritesTree};
-ghost use Rattle.ol_cli.specs.NormalForms.{LineSays, IsItsNormalForm, TellsOfNone, IsFoundOnDemand, LineSaysOfTwo, PlainLineSays};
+ghost use Rattle.ol_cli.specs.NormalForms.{LineSays, IsItsNormalForm, TellsOfNone, IsFoundOnDemand, LineSaysOfTwo};
+ghost use Rattle.ol_cli.specs.NormalForms.{PlainDemandFinds, PlainEqualSays, PlainLineSays};
 ghost use Rattle.ol_cli.specs.SourceLaws.{WritesOfSources};
 ghost use Rattle.ol_cli.specs.ReadAgain.{FileIsReadAgain, WordsAreReadAgain, WritesReadable};
 ghost use Rattle.ol_cli.specs.Handed.{Hands, JobHands, MakingHands, ReadHands, WhereEnded, WordsHand};
@@ -164,6 +165,21 @@ pub fn ol<R: Threads + Wait + Sync, S: Source, W: Sink, G: Gate + Sync>(
         IfNoneFailed (S.faults src.old) (S.faults src.new) (W.faults out.old) (W.faults out.new)
         (result.status ≡ Status.Done
         → PlainLineSays words.now.items files (W.taken out.old) (W.taken out.new))) }
+
+    // And after `ol demand NAME` that line is a text of the normal form of the term in the file,
+    // where there is one and variables stand in at most 4,096 places of it.
+    ensures plain_demand { OfReadFiles (S.readings src.old) (S.readings src.new) (λ files.
+        IfNoneFailed (S.faults src.old) (S.faults src.new) (W.faults out.old) (W.faults out.new)
+        (result.status ≡ Status.Done
+        → PlainDemandFinds words.now.items files (W.taken out.old) (W.taken out.new))) }
+
+    // After `ol equal A B` the line is `equal` only where the terms in the two files are
+    // convertible, and begins with `different` only where they aren't. Beta reduction alone counts,
+    // and free names are the same where their bytes are.
+    ensures plain_equal { OfReadFiles (S.readings src.old) (S.readings src.new) (λ files.
+        IfNoneFailed (S.faults src.old) (S.faults src.new) (W.faults out.old) (W.faults out.new)
+        (result.status ≡ Status.Done
+        → PlainEqualSays words.now.items files (W.taken out.old) (W.taken out.new))) }
 
     // The same of all words: where `run`, `walk`, `demand` or `gen --run` is done, and the first
     // line that is written is a text of a term, that term is the normal form of the job's own term.

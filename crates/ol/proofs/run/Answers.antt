@@ -2,7 +2,7 @@
 -- made before.
 use Rattle.std.proofs.Common.{Some, subst}
 use Rattle.ol_cli.specs.NormalForms.{LineSays, IsItsNormalForm, TellsOfNone, IsFoundOnDemand}
-use Rattle.ol_cli.specs.NormalForms.{LineSaysOfTwo, PlainLineSays}
+use Rattle.ol_cli.specs.NormalForms.{LineSaysOfTwo, PlainDemandFinds, PlainEqualSays, PlainLineSays}
 use Rattle.ol_cli.specs.Sources.{EveryRunTells, WritesTree}
 use Rattle.ol_cli.specs.Completeness.{IsDoneOrNothing}
 use Rattle.ol_io.specs.Readings.{handed}
@@ -15,6 +15,38 @@ returns-clause-plain g c = λ done.
     (Some c.ol-outcome.new.out.log.passed.taken))
     c.new-out.ensures.taken
     (c.ol-outcome.ensures.plain (handed c.ol-outcome.new.src.log.passed.readings)
+    (of_own c.new-src.result.log.passed.readings c.ol-outcome.new.src.log.passed.readings
+    c.new-src.ensures.readings)
+    (no_rise c.new-src.result.faults c.ol-outcome.new.src.faults c.new-src.ensures.faults (none_in c.ol-outcome.result.status c.new-src.result.faults c.ol-outcome.new.src.faults
+    c.new-src.ensures.faults done
+    (no_rise c.new-out.result.faults c.ol-outcome.new.out.faults c.new-out.ensures.faults
+    (none_out c.ol-outcome.result.status c.new-out.result.faults c.ol-outcome.new.out.faults
+    c.new-out.ensures.faults done c.ol-outcome.ensures.write_told)) c.ol-outcome.ensures.read_told))
+    (no_rise c.new-out.result.faults c.ol-outcome.new.out.faults c.new-out.ensures.faults (none_out c.ol-outcome.result.status c.new-out.result.faults c.ol-outcome.new.out.faults
+    c.new-out.ensures.faults done c.ol-outcome.ensures.write_told)) done)
+
+pub returns-clause-plain_demand : goal.returns-clause-plain_demand
+returns-clause-plain_demand g c = λ done.
+    subst (λ before. PlainDemandFinds c.args.words.now.items (handed c.ol-outcome.new.src.log.passed.readings) before
+    (Some c.ol-outcome.new.out.log.passed.taken))
+    c.new-out.ensures.taken
+    (c.ol-outcome.ensures.plain_demand (handed c.ol-outcome.new.src.log.passed.readings)
+    (of_own c.new-src.result.log.passed.readings c.ol-outcome.new.src.log.passed.readings
+    c.new-src.ensures.readings)
+    (no_rise c.new-src.result.faults c.ol-outcome.new.src.faults c.new-src.ensures.faults (none_in c.ol-outcome.result.status c.new-src.result.faults c.ol-outcome.new.src.faults
+    c.new-src.ensures.faults done
+    (no_rise c.new-out.result.faults c.ol-outcome.new.out.faults c.new-out.ensures.faults
+    (none_out c.ol-outcome.result.status c.new-out.result.faults c.ol-outcome.new.out.faults
+    c.new-out.ensures.faults done c.ol-outcome.ensures.write_told)) c.ol-outcome.ensures.read_told))
+    (no_rise c.new-out.result.faults c.ol-outcome.new.out.faults c.new-out.ensures.faults (none_out c.ol-outcome.result.status c.new-out.result.faults c.ol-outcome.new.out.faults
+    c.new-out.ensures.faults done c.ol-outcome.ensures.write_told)) done)
+
+pub returns-clause-plain_equal : goal.returns-clause-plain_equal
+returns-clause-plain_equal g c = λ done.
+    subst (λ before. PlainEqualSays c.args.words.now.items (handed c.ol-outcome.new.src.log.passed.readings) before
+    (Some c.ol-outcome.new.out.log.passed.taken))
+    c.new-out.ensures.taken
+    (c.ol-outcome.ensures.plain_equal (handed c.ol-outcome.new.src.log.passed.readings)
     (of_own c.new-src.result.log.passed.readings c.ol-outcome.new.src.log.passed.readings
     c.new-src.ensures.readings)
     (no_rise c.new-src.result.faults c.ol-outcome.new.src.faults c.new-src.ensures.faults (none_in c.ol-outcome.result.status c.new-src.result.faults c.ol-outcome.new.src.faults

@@ -11,7 +11,7 @@ use Rattle.ol_cli.proofs.SourceTrees.{writes_of_sources}
 use Rattle.ol_cli.proofs.NormalLines.{writes_normal_form, writes_no_normal_form}
 use Rattle.ol_cli.proofs.DemandedLines.{writes_demanded}
 use Rattle.ol_cli.proofs.ComparedLines.{writes_of_two}
-use Rattle.ol_cli.proofs.PlainLines.{plain_writes}
+use Rattle.ol_cli.proofs.PlainLines.{plain_demand, plain_equal, plain_writes}
 use Rattle.ol_cli.proofs.top.ol.Goals as goal
 
 pub returns-clause-plain : goal.returns-clause-plain
@@ -19,6 +19,24 @@ returns-clause-plain g c = λ files of quiet calm e.
     plain_writes c.args.words.now.items files (g.W.Sink.taken c.args.out.now) (g.W.Sink.taken c.answer.new.out)
     (λ bytes tells. (writes_tree c.args.words.now.items bytes (g.W.Sink.taken c.args.out.now) (g.W.Sink.taken c.answer.new.out)
     (c.answer.ensures.read_again files of bytes tells e)))
+
+pub returns-clause-plain_demand : goal.returns-clause-plain_demand
+returns-clause-plain_demand g c = λ files of quiet calm e.
+    plain_demand c.args.words.now.items files (g.W.Sink.taken c.args.out.now) (g.W.Sink.taken c.answer.new.out)
+    (λ bytes tells. (writes_tree c.args.words.now.items bytes (g.W.Sink.taken c.args.out.now) (g.W.Sink.taken c.answer.new.out)
+    (c.answer.ensures.read_again files of bytes tells e)))
+
+pub returns-clause-plain_equal : goal.returns-clause-plain_equal
+returns-clause-plain_equal g c = λ files of quiet calm e.
+    plain_equal c.args.words.now.items files (g.W.Sink.taken c.args.out.now) (g.W.Sink.taken c.answer.new.out)
+    (λ tells. writes_of_two c.args.words.now.items files (g.W.Sink.taken c.args.out.now) (g.W.Sink.taken c.answer.new.out)
+    (writes_of_sources c.args.words.now.items files (g.W.Sink.taken c.args.out.now) (g.W.Sink.taken c.answer.new.out)
+    c.answer.result.status e
+    (ends_exact c.args.words.now.items (g.S.Source.faults c.args.src.now)
+    (g.S.Source.faults c.answer.new.src) (g.S.Source.given c.answer.new.src) files
+    (g.S.Source.ended c.answer.new.src) quiet tells c.answer.result.status (g.W.Sink.faults c.args.out.now)
+    (g.W.Sink.faults c.answer.new.out) (g.W.Sink.taken c.args.out.now) (g.W.Sink.taken c.answer.new.out) calm
+    (λ x. (let k : Done ≡ NoMemory = sym e ∙ x in absurd (cc))) (c.answer.ensures.ends files of))))
 
 pub returns-clause-normal_form : goal.returns-clause-normal_form
 returns-clause-normal_form g c = λ files of bytes tells quiet calm e.
