@@ -15,7 +15,7 @@ use Rattle.ol_readback.specs.declared.answers.ReadNode.{ReadNode}
 use Rattle.ol_readback.specs.declared.answers.ReadNode.TheVariants as node
 use Rattle.ol_readback.proofs.Kept.{heads_are_kept, found_is_head}
 use Rattle.ol_levels.specs.Levels.{IsLevelled}
-use Rattle.ol_levels.specs.Asked.{HaveAskedHeadsOf, AskedHeadsAreHeads, TreeTellsAsked, LastTreeTellsAsked}
+use Rattle.ol_levels.specs.Asked.{HaveAskedHeadsOf, AskedHeadsAreHeads, AskedHeadsAreKept, TreeTellsAsked, LastTreeTellsAsked}
 use Rattle.ol_levels.specs.Asked as asked_of
 use Rattle.ol_levels.proofs.Budgets.{budget_is_no_head}
 use Rattle.ol_levels.proofs.Heads.{no_head_is}
@@ -60,7 +60,25 @@ module _ {A B : Type 0} (N : NamedNet A) (M : NamedNet B) (same : HaveSamePaths 
       asked_of.found b (heads_are_kept M N back (F ++ framed s 0 ∷ []) (length F) (head n v k ls)
       (found_is_head M (F ++ framed s 0 ∷ []) (length F) edges n k v ls h)) (tells r)
 
+module _ {A B : Type 0} (N : NamedNet A) (M : NamedNet B) (same : HaveSamePaths N M) (many : ℕ)
+  where
+    keeps : {F : List Frame} {ss : List Subterm} {ns : List ReadNode} →
+        HaveAskedHeadsOf N many F ss ns → HaveAskedHeadsOf M many F ss ns
+    keeps asked_of.end = asked_of.end
+    keeps (asked_of.past b) = asked_of.past b
+    keeps {F = F} {ss = s ∷ ss} (asked_of.cut b h r) =
+        asked_of.cut b (heads_are_kept N M same (F ++ framed s 0 ∷ []) (length F) no_head h) (keeps r)
+    keeps {F = F} {ss = s ∷ ss} (asked_of.lost b h r) =
+        asked_of.lost b (heads_are_kept N M same (F ++ framed s 0 ∷ []) (length F) no_head h)
+        (keeps r)
+    keeps {F = F} {ss = s ∷ ss} (asked_of.found {n = n} {k = k} {v = v} {ls = ls} b h r) =
+        asked_of.found b (heads_are_kept N M same (F ++ framed s 0 ∷ []) (length F) (head n v k ls) h)
+        (keeps r)
+
 module _ {A B : Type 0} where
+  pub asked_kept : AskedHeadsAreKept A B
+  asked_kept N M same many ns h = keeps N M same many h
+
   pub tree_tells : TreeTellsAsked A B
   tree_tells N M same is_net L complete many edges ns enough r =
       tells N M same is_net L complete many edges enough r

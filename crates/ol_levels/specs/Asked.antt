@@ -81,6 +81,11 @@ abbrev pub AskedHeadsAreHeads : Type 0 → Type 0
 AskedHeadsAreHeads A = (N : NamedNet A) (heads : ℕ) (ns : List ReadNode) →
     HasAskedHeadsOf N heads ns → HasHeadsOf N true ns
 
+-- It is said of each net with the same paths.
+abbrev pub AskedHeadsAreKept : Type 0 → Type 0 → Type 0
+AskedHeadsAreKept A B = (N : NamedNet A) (M : NamedNet B) → HaveSamePaths N M →
+    (heads : ℕ) (ns : List ReadNode) → HasAskedHeadsOf N heads ns → HasAskedHeadsOf M heads ns
+
 -- A tree that was read from a levelled net without an active pair, with at least twice as many
 -- crossings as nodes for each walk, tells each net with the same paths so.
 abbrev pub TreeTellsAsked : Type 0 → Type 0 → Type 0

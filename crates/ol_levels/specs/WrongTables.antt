@@ -19,6 +19,7 @@ application_net croissant bracket = record {
       ∷ (free 1, slot 1 0) ∷ (free 2, slot 3 0) ∷ [];
 }
 
+-- With those it is the net of this term, and is levelled.
 abbrev pub RightIndexesAreLevelled : Type 0
 RightIndexesAreLevelled =
     (translation_of One (tree.app (tree.free 0) (tree.free 1)) 2 ≡ application_net 1 0)
