@@ -23,7 +23,7 @@ use Rattle.ol_readback.proofs.Forests.{tree_is_whole, heads_are_whole}
 use Rattle.ol_completeness.proofs.CompleteRuns.{complete_is_enough, demanded_is_least}
 use Rattle.ol_completeness.proofs.Levelled.{stays_clear}
 use Rattle.ol_levels.proofs.AskedTrees.{asked_heads, asked_kept, last_tree_tells}
-use Rattle.ol_levels.proofs.DemandPlaces.{demand_tells}
+use Rattle.ol_levels.proofs.DemandPlaces.{demand_tells as places_told}
 use Rattle.ol_levels.proofs.Runs.{start_levelled}
 use Rattle.ol_levels.proofs.Terms.{term_is_levelled}
 use Rattle.ol_meaning.proofs.Based.{places_say}
@@ -90,7 +90,7 @@ demands_tree tr t names fuel heads text has d read =
     let s = is_start tr t names is_net in
     let there = renamed Init N is_net (λ x y k l i j h h' e. cc) in
     let levels = start_levelled N (term_is_levelled tr t (length names) has) in
-    let asked = asked_kept start N (λ p c q e. ((there p c q e).1, (there p c q e).0)) heads d.ends.tree (demand_tells start d.ends.net heads d.ends.journal d.ends.tree s levels d.ends.run) in
+    let asked = asked_kept start N (λ p c q e. ((there p c q e).1, (there p c q e).0)) heads d.ends.tree (places_told start d.ends.net heads d.ends.journal d.ends.tree s levels d.ends.run) in
     let own = asked_heads N heads d.ends.tree asked in
     let whole = heads_are_whole N true d.ends.tree own in
     let says = places_say tr t (length names) has true whole.tree d.ends.tree whole.is_list own in
