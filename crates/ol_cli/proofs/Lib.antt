@@ -9,7 +9,6 @@ mod TreeTransport
 mod KeptPorts
 mod OnePrint
 mod DemandRuns
-mod KeptHeads
 mod EveryRun
 mod AnyRun
 mod Sourced

@@ -1,7 +1,7 @@
 -- Words without options, and the line that is written for them.
 use Rattle.std.proofs.Common.{◌≡◌, ℕ, List, [], ◌∷◌, Bool, true, false, ◌&&◌, inl, inr}
 use Rattle.std.proofs.Common.{codes, not, nat_eq, length, Option, Some, None, String, Global}
-use Rattle.std.proofs.Common.{refl, sym, ap, ◌∙◌, subst, cond, suc, arith}
+use Rattle.std.proofs.Common.{refl, sym, ap, ◌∙◌, subst, cond, zero, suc, arith}
 use Rattle.std.specs.Str.{bytes_eq}
 use Rattle.std.proofs.lemmas.Bool.{ne_eqb, cases_Bool}
 use Rattle.std.proofs.lemmas.Slice.Eq.{bytes_eq-Decides}
@@ -167,8 +167,8 @@ plain_demand words files old new w name p bytes has source is =
 -- the bytes of two files are those of the job's files
 two_told : (files : Files) (a b : Text) (m n : List ℕ) → files 0 a ≡ Some m → files 1 b ≡ Some n →
     AreTold files (equal Two 4 200000 4096 a b)
-two_told files a b m n e f 0 name i = (m, let same : a ≡ name = cc in subst (λ name. files 0 name ≡ Some m) same e)
-two_told files a b m n e f 1 name i = (n, let same : b ≡ name = cc in subst (λ name. files 1 name ≡ Some n) same f)
+two_told files a b m n e f zero name i = (m, let same : a ≡ name = cc in subst (λ name. files 0 name ≡ Some m) same e)
+two_told files a b m n e f (suc zero) name i = (n, let same : b ≡ name = cc in subst (λ name. files 1 name ≡ Some n) same f)
 two_told files a b m n e f (suc (suc place)) name i = absurd (cc)
 
 -- what is said of `equal` with any options, without options

@@ -22,8 +22,8 @@ use Rattle.ol_readback.proofs.Sources.{own_heads}
 use Rattle.ol_readback.proofs.Forests.{tree_is_whole, heads_are_whole}
 use Rattle.ol_completeness.proofs.CompleteRuns.{complete_is_enough, demanded_is_least}
 use Rattle.ol_completeness.proofs.Levelled.{stays_clear}
-use Rattle.ol_levels.proofs.AskedTrees.{asked_heads, last_tree_tells}
-use Rattle.ol_levels.proofs.DemandPlaces.{demand_tells}
+use Rattle.ol_levels.proofs.AskedTrees.{asked_heads, asked_kept, last_tree_tells}
+use Rattle.ol_levels.proofs.DemandPlaces.{demand_tells as places_told}
 use Rattle.ol_levels.proofs.Runs.{start_levelled}
 use Rattle.ol_levels.proofs.Terms.{term_is_levelled}
 use Rattle.ol_meaning.proofs.Based.{places_say}
@@ -41,7 +41,6 @@ use Rattle.ol_cli.specs.Sources.{PrintsTree, WalksTree, DemandsTree, TellsTree, 
 use Rattle.ol_cli.specs.ReadAgain.{TextIsReadAgain, WritesReadable}
 use Rattle.ol_rules.proofs.LeadRuns.{as_run}
 use Rattle.ol_cli.proofs.DemandRuns.{is_start, demand_is_longer}
-use Rattle.ol_cli.proofs.KeptHeads.{asked_to}
 use Rattle.ol_cli.proofs.EveryRun.{every_run_prints, every_run_is_longer}
 use Rattle.ol_cli.proofs.OneAnswer.{file_net, file_names, one_job, own_job}
 use Rattle.ol_cli.proofs.Exact.{ends_exact}
@@ -91,7 +90,7 @@ demands_tree tr t names fuel heads text has d read =
     let s = is_start tr t names is_net in
     let there = renamed Init N is_net (λ x y k l i j h h' e. cc) in
     let levels = start_levelled N (term_is_levelled tr t (length names) has) in
-    let asked = asked_to start N (λ p c q e. ((there p c q e).1, (there p c q e).0)) heads (demand_tells start d.ends.net heads d.ends.journal d.ends.tree s levels d.ends.run) in
+    let asked = asked_kept start N (λ p c q e. ((there p c q e).1, (there p c q e).0)) heads d.ends.tree (places_told start d.ends.net heads d.ends.journal d.ends.tree s levels d.ends.run) in
     let own = asked_heads N heads d.ends.tree asked in
     let whole = heads_are_whole N true d.ends.tree own in
     let says = places_say tr t (length names) has true whole.tree d.ends.tree whole.is_list own in
