@@ -90,7 +90,7 @@ module _ {A : Type 0} (N : NamedNet A) where
     joined_path p c q d j = last_link (joined_trail j).1 q d refl
 
     -- no way comes back to the link that it left by
-    no_return : (n : ℕ) {p u : NamedPort A} {c d : Context} → Way N p c n u d → Linked N p u → c ≡ d → ⊥
+    pub no_return : (n : ℕ) {p u : NamedPort A} {c d : Context} → Way N p c n u d → Linked N p u → c ≡ d → ⊥
     no_return zero {p} start l e = is_net.apart p l
     no_return (suc zero) {p} (on {x = x} {s = s} {t = t} start l h y) m e =
         let q : slot x s ≡ slot x t = is_net.one_link p (slot x s) (slot x t) l m in

@@ -20,7 +20,8 @@ use Rattle.ol_demand.proofs.Chains.{chain_way}
 use Rattle.ol_levels.specs.Levels.{IsLevelled}
 use Rattle.ol_levels.specs.Asked.{StandingIsLost, BudgetIsNoHead, SpentIsLost}
 use Rattle.ol_levels.proofs.Climbs.{Route, leaves, turns, falls, way_first, climb_way, IsTop, few_ups, few_ups_to}
-use Rattle.ol_levels.proofs.Tops.{AtActive, Top, Meets, downs, asked_filled, path_route, path_downs, not_active}
+use Rattle.ol_levels.proofs.Tops.{AtActive, Top, Meets, downs, path_route, path_downs, not_active}
+use Rattle.ol_readback.proofs.Enough.{asked_filled}
 use Rattle.ol_levels.proofs.Downwards.{also_down}
 use Rattle.ol_levels.proofs.Lost.{stood, apart_at}
 

@@ -15,7 +15,7 @@ use Rattle.ol_readback.proofs.Holes.{fill, Before, moved, stripped, before}
 use Rattle.ol_edges.proofs.Lists.{in_map}
 
 -- what is asked, as a level that is filled
-asked_filled : (ls : List Level) → (b : Context) × ((n : ℕ) → asked ls n ≡ fill (length ls) (os n empty) b)
+pub asked_filled : (ls : List Level) → (b : Context) × ((n : ℕ) → asked ls n ≡ fill (length ls) (os n empty) b)
 asked_filled [] = (levels [], λ n. levels_cons (os n empty) [])
 asked_filled (v ∷ ls) = let t = asked_filled ls in (cons v t.0, λ n. levels_cons v (ls ++ os n empty ∷ []) ∙ ap (cons v) (t.1 n))
 
@@ -52,8 +52,8 @@ module _ {A : Type 0} (N : NamedNet A) (is_net : IsNet N) (no_facing : HasNoFaci
           ((m j' : ℕ) (b' : Context) → d ≡ fill j' (os (suc m) empty) b' → downs r ≤ m → Other (slot y (suc s)) (fill j' (os m empty) b') q0 (downs r)) →
           (m : ℕ) → m ≡ n → Other p (fill j (os n empty) b) q0 (suc (downs r))
       go (moved j' b' x y) ih ih' m q = back j' (os n empty) b' (y (os n empty)) (ih j' b' x (omega arith))
-      go (stripped j' b' x y) ih ih' zero q = absurd (omega arith)
-      go (stripped j' b' x y) ih ih' (suc m) q = back j' (os m empty) b' (y (os m empty) ∙ ap (λ n. fill j (os n empty) b) q) (ih' m j' b' (x ∙ ap (λ n. fill j' (os n empty) b') (sym q)) (omega arith))
+      go (stripped j' b' x y bars) ih ih' zero q = absurd (omega arith)
+      go (stripped j' b' x y bars) ih ih' (suc m) q = back j' (os m empty) b' (y (os m empty) ∙ ap (λ n. fill j (os n empty) b) q) (ih' m j' b' (x ∙ ap (λ n. fill j' (os n empty) b') (sym q)) (omega arith))
 
   module _ (p : ℕ) where
     record Later (i : ℕ) (z : A) : Type 0 where

@@ -23,7 +23,7 @@ use Rattle.ol_rules.proofs.BothWays.{both_ways, step_turned}
 -- ---- names
 
 -- two names of which neither comes before the other are one
-one_name : (a b : NodeName) → comes_before a b ≡ false → comes_before b a ≡ false → a ≡ b
+pub one_name : (a b : NodeName) → comes_before a b ≡ false → comes_before b a ≡ false → a ≡ b
 one_name (Init m) (Init n) h h' = let e : m ≡ n = grind (arith, nat_tests) in ap (λ n. Init n) e
 one_name (Init m) (Born t p) h h' = absurd (cc)
 one_name (Born t p) (Init n) h h' = absurd (cc)
