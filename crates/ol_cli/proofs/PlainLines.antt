@@ -11,7 +11,8 @@ use Rattle.ol_words.specs.Texts.{Text}
 use Rattle.ol_words.specs.Lines.{Line, Known, line_from, line_of, is_dashed, is_end, after_option}
 use Rattle.ol_words.specs.Lines.{option_of}
 use Rattle.ol_words.specs.Asked.{Asked, run, walk, demand}
-use Rattle.ol_words.specs.Jobs.{job_of, job_on, run_verb, walk_verb, demand_verb}
+use Rattle.ol_words.specs.Asked.{run_verb, walk_verb, demand_verb}
+use Rattle.ol_words.specs.Jobs.{job_of, job_on}
 use Rattle.ol_lines.proofs.Read.{line_is_normal_form, lost_has_no_normal_form}
 use Rattle.ol_cli.specs.Jobs.{AskFor, TellsTerm, term_bytes, Files}
 use Rattle.ol_cli.specs.Sources.{WritesTree}
