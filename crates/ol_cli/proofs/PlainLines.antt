@@ -3,23 +3,25 @@ use Rattle.std.proofs.Common.{◌≡◌, ℕ, List, [], ◌∷◌, Bool, true, f
 use Rattle.std.proofs.Common.{codes, not, nat_eq, length, Option, Some, None, String, Global}
 use Rattle.std.proofs.Common.{refl, sym, ap, ◌∙◌, subst, cond, suc, arith}
 use Rattle.std.specs.Str.{bytes_eq}
-use Rattle.std.proofs.lemmas.Bool.{ne_eqb}
-use Rattle.std.specs.Prelude.{option_and_then}
+use Rattle.std.proofs.lemmas.Bool.{ne_eqb, cases_Bool}
+use Rattle.std.proofs.lemmas.Slice.Eq.{bytes_eq-Decides}
+use Rattle.std.specs.Prelude.{option_and_then, option_map}
 use Rattle.ol_term.specs.declared.translations.Translation.TheVariants.{Two}
 use Rattle.ol_parse.specs.Numbered.{names_of, number}
 use Rattle.ol_words.specs.Texts.{Text}
 use Rattle.ol_words.specs.Lines.{Line, Known, line_from, line_of, is_dashed, is_end, after_option}
-use Rattle.ol_words.specs.Lines.{option_of}
-use Rattle.ol_words.specs.Asked.{Asked, run, walk, demand}
-use Rattle.ol_words.specs.Asked.{run_verb, walk_verb, demand_verb}
+use Rattle.ol_words.specs.Lines.{option_of, with_name}
+use Rattle.ol_words.specs.Asked.{Asked, run, walk, demand, equal, run_verb, walk_verb, demand_verb, equal_verb, is_input}
 use Rattle.ol_words.specs.Jobs.{job_of, job_on}
 use Rattle.ol_lines.proofs.Read.{line_is_normal_form, lost_has_no_normal_form}
 use Rattle.ol_cli.specs.Jobs.{AskFor, TellsTerm, term_bytes, Files}
 use Rattle.ol_cli.specs.Sources.{WritesTree}
 use Rattle.ol_cli.specs.NormalForms.{ArePlain, LineIsOf, PlainLineSays}
+use Rattle.ol_cli.specs.NormalForms.{ArePlainTwo, PlainEqualSays, PlainDemandFinds, LineSaysOfTwo}
 use Rattle.ol_cli.proofs.OneAnswer.{one_job}
 use Rattle.ol_cli.proofs.NormalLines.{run_printed, walk_printed, demand_printed, first_line}
 use Rattle.ol_cli.proofs.NormalLines.{file_of}
+use Rattle.ol_cli.proofs.DemandedLines.{writes_demanded}
 
 -- ---- one name
 
@@ -40,26 +42,40 @@ no_end (b ∷ c ∷ rest) h =
     go true e = absurd (cc)
     go false e = refl
 
-abbrev named : Text → Option Line
-named name = Some (record { options = []; names = name ∷ [] })
+abbrev named : Text → List Text → Option Line
+named name names = Some (record { options = []; names = name ∷ names })
 
-abbrev unnamed : Option Line
-unnamed = Some (record { options = []; names = [] })
+abbrev unnamed : List Text → Option Line
+unnamed rest = Some (record { options = []; names = rest })
 
-abbrev other : Known → Text → Option Line
-other known name =
-    after_option (option_of known name) (λ option. None) unnamed
+abbrev other : Known → Text → List Text → Option Line
+other known name rest =
+    after_option (option_of known name) (λ option. line_from known (Some option) rest)
+    (line_of known rest)
 
-one_name : (known : Known) (name : Text) → is_dashed name ≡ false →
-    line_of known (name ∷ []) ≡ named name
+-- a name stands before what the rest says
+name_first : (known : Known) (name : Text) (rest : List Text) → is_dashed name ≡ false →
+    line_of known (name ∷ rest) ≡ option_map (with_name name) (line_of known rest)
 unfolding line_from
-one_name known name h = go (is_end name) (is_dashed name) (no_end name h) h
+name_first known name rest h = go (is_end name) (is_dashed name) (no_end name h) h
   where
     go : (a b : Bool) → a ≡ false → b ≡ false →
-        cond a unnamed (cond b (other known name) (named name)) ≡ named name
+        cond a (unnamed rest) (cond b (other known name rest)
+        (option_map (with_name name) (line_of known rest)))
+        ≡ option_map (with_name name) (line_of known rest)
     go true b e f = absurd (cc)
     go false true e f = absurd (cc)
     go false false e f = refl
+
+one_name : (known : Known) (name : Text) → is_dashed name ≡ false →
+    line_of known (name ∷ []) ≡ named name []
+unfolding line_from
+one_name known name h = name_first known name [] h
+
+two_names : (known : Known) (a b : Text) → is_dashed a ≡ false → is_dashed b ≡ false →
+    line_of known (a ∷ b ∷ []) ≡ named a (b ∷ [])
+two_names known a b h k =
+    name_first known a (b ∷ []) h ∙ ap (option_map (with_name a)) (one_name known b k)
 
 module _ {words : List (String Global)} {verb name : Text} (p : ArePlain words verb name) where
   asks_run : verb ≡ codes "run" → AskFor words (run Two 4 200000 4096 name)
@@ -76,6 +92,25 @@ module _ {words : List (String Global)} {verb name : Text} (p : ArePlain words v
   asks_demand e =
       ap job_of p.are ∙ ap (λ v. job_of (p.program ∷ v ∷ name ∷ [])) e
       ∙ ap (option_and_then (job_on demand_verb)) (one_name _ name p.is_name)
+
+-- two names that aren't both `-` ask for a comparison
+both_inputs : (a b : Text) → (a ≡ codes "-" → b ≡ codes "-" → ⊥) →
+    is_input a && is_input b ≡ false
+both_inputs a b apart = elim (cases_Bool (is_input a)) [
+  | inr other ↦ ap (λ x. x && is_input b) other
+  | inl first ↦ elim (cases_Bool (is_input b)) [
+    | inr other ↦ ap (λ x. x && is_input b) first ∙ other
+    | inl second ↦ absurd
+        (apart ((bytes_eq-Decides a (codes "-")).0 first)
+        ((bytes_eq-Decides b (codes "-")).0 second))
+  ]
+]
+
+asks_equal : {words : List (String Global)} {a b : Text} → ArePlainTwo words a b →
+    AskFor words (equal Two 4 200000 4096 a b)
+asks_equal {words} {a} {b} p =
+    ap job_of p.are ∙ ap (option_and_then (job_on equal_verb)) (two_names _ a b p.is_first p.is_second)
+    ∙ ap (λ x. cond x None (Some (equal Two 4 200000 4096 a b))) (both_inputs a b p.not_both)
 
 -- the bytes of the file are those of the job's term
 pub tells_of : (words : List (String Global)) (contents : Text → Option (List ℕ)) (asked : Asked)
@@ -120,3 +155,16 @@ plain_writes words files old new w verb name p (inr (inr e)) bytes has source is
     let q = walk_printed r.1 in
     first_line is q (LineIsOf verb source) old new r.2
     (line_is_normal_form is q, λ differ. not_walk verb e differ)
+
+-- what is said of `demand` with any options, without options
+pub plain_demand : (words : List (String Global)) (files : Files) (old new : Option (List ℕ)) →
+    Writes words files old new → PlainDemandFinds words files old new
+plain_demand words files old new w name p bytes has source is =
+    let j = asks_demand p refl in
+    let told = tells_of words (files 0) (demand Two 200000 4096 name) bytes j has in
+    writes_demanded words bytes old new (w bytes told) (demand Two 200000 4096 name) j tt source is
+
+-- what is said of `equal` with any options, without options
+pub plain_equal : (words : List (String Global)) (files : Files) (old new : Option (List ℕ)) →
+    LineSaysOfTwo words files old new → PlainEqualSays words files old new
+plain_equal words files old new w a b p = w Two 4 200000 4096 a b (asks_equal p)

@@ -56,13 +56,16 @@ count_of_variables (free k) = 1
 count_of_variables (lam t) = count_of_variables t
 count_of_variables (app f a) = count_of_variables f + count_of_variables a
 
--- if the source has a normal form, with no more variables than heads were demanded, the line is a
--- text of it
-abbrev pub IsFoundOnDemand : Asked → Named → List ℕ → Type 0
-IsFoundOnDemand (demand translation fuel heads name) source line =
+-- if the source has a normal form with so many variables at most, the line is a text of it
+abbrev pub IsFoundWithin : (heads : ℕ) → Named → List ℕ → Type 0
+IsFoundWithin heads source line =
     (v : Tree) → BetaReduces (by_names_of source source) v → IsNormal v →
     count_of_variables v ≤ heads →
     (result : Named) × IsText line result × (by_names_of source result ≡ v)
+
+-- it is found where it has no more variables than heads were demanded
+abbrev pub IsFoundOnDemand : Asked → Named → List ℕ → Type 0
+IsFoundOnDemand (demand translation fuel heads name) source line = IsFoundWithin heads source line
 IsFoundOnDemand asked source line = Unit {0}
 
 -- `equal` says that the two terms are convertible, and `different` that they aren't.
@@ -101,3 +104,27 @@ PlainLineSays words files old new = (verb name : Text) → ArePlain words verb n
     (verb ≡ codes "run") ⊎ ((verb ≡ codes "demand") ⊎ (verb ≡ codes "walk")) →
     (bytes : List ℕ) → files 0 name ≡ Some bytes → (source : Named) → IsText bytes source →
     FirstLine (LineIsOf verb source) old new
+
+-- after `demand` the line is a text of the source's normal form, where this has 4,096 variables at
+-- most
+abbrev pub PlainDemandFinds : List (String Global) → Files → Option (List ℕ) →
+    Option (List ℕ) → Type 0
+PlainDemandFinds words files old new = (name : Text) → ArePlain words (codes "demand") name →
+    (bytes : List ℕ) → files 0 name ≡ Some bytes → (source : Named) → IsText bytes source →
+    FirstLine (IsFoundWithin 4096 source) old new
+
+-- the words are the program's name, `equal` and the names of two files: no options, and not
+-- standard input for both
+pub record ArePlainTwo (words : List (String Global)) (a b : Text) : Type 0 where
+  pub program : Text
+  pub are : texts_of words ≡ program ∷ codes "equal" ∷ a ∷ b ∷ []
+  pub is_first : is_dashed a ≡ false
+  pub is_second : is_dashed b ≡ false
+  pub not_both : a ≡ codes "-" → b ≡ codes "-" → ⊥
+
+-- after `equal` the line says whether the terms of the two files are convertible
+abbrev pub PlainEqualSays : List (String Global) → Files → Option (List ℕ) → Option (List ℕ) →
+    Type 0
+PlainEqualSays words files old new = (a b : Text) → ArePlainTwo words a b →
+    (bytes bytes' : List ℕ) → files 0 a ≡ Some bytes → files 1 b ≡ Some bytes' →
+    (t u : Named) → IsText bytes t → IsText bytes' u → FirstLine (SaysOfTwo t u) old new
