@@ -1,0 +1,6 @@
+pub mod Sites
+pub mod Cuts
+pub mod Heads
+pub mod Meeting
+pub mod Lanes
+pub mod Counting
