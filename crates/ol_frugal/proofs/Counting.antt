@@ -4,7 +4,8 @@ use Rattle.ol_edges.specs.Edges.{IsIn}
 use Rattle.ol_meaning.specs.Spots.{Tree, HeadStep, Place, Level}
 use Rattle.ol_meaning.specs.Heads.{Normal, Steps, done, step}
 use Rattle.ol_term.specs.declared.translations.Translation.{Translation}
-use Rattle.ol_frugal.specs.Sites.{Site, IsMet, AreDifferent, AreMet}
+use Rattle.ol_frugal.specs.Met.{IsMet, AreDifferent, AreMet}
+use Rattle.ol_spots_net.specs.Sites.{Site}
 use Rattle.ol_frugal.proofs.Heads.{step_of}
 use Rattle.ol_frugal.proofs.Meeting.{met_goes, Becomes, becomes_one}
 use Rattle.ol_frugal.proofs.Lanes.{none_met}

@@ -3,7 +3,7 @@ use Rattle.std.proofs.Common.{◌≡◌, ℕ, suc, Bool, true, false, refl, sym,
 use Rattle.ol_meaning.specs.Spots.{Tree, var, free, lam, app, Level, Context, root, Spot, at, body, fun, arg, left, right, bound, put, lifted, subst_for, Cut, inM, inN, Held, at_root, wire_n, x_spot, p_body, p_fun, p_arg, n_body, n_fun, n_arg}
 use Rattle.ol_meaning.proofs.There.{root_is, in_body_held, in_fun_held, in_arg_held}
 use Rattle.ol_term.specs.declared.translations.Translation.{Translation}
-use Rattle.ol_frugal.specs.Sites.{Site, self, in_lam, in_function, in_argument, spot_in, PartAt, whole, of_lam, of_function, of_argument}
+use Rattle.ol_spots_net.specs.Sites.{Site, self, in_lam, in_function, in_argument, spot_in, PartAt, whole, of_lam, of_function, of_argument}
 use Rattle.ol_frugal.proofs.Sites.{base, Is, Stands, no_wire, no_root, one_site, lifted_spot, lifted_part}
 
 -- the site of M[N] for one of the cut, whatever the levels

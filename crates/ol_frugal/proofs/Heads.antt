@@ -6,7 +6,7 @@ use Rattle.ol_meaning.proofs.There.{root_is}
 use Rattle.ol_meaning.proofs.Ways.{Way, way_below, below_is, is_below, way_before, before_is, is_before, Below, parts, sides, Before, funs, args, edges}
 use Rattle.ol_meaning.proofs.Betas.{Through, way_there, there_is, is_there}
 use Rattle.ol_term.specs.declared.translations.Translation.{Translation}
-use Rattle.ol_frugal.specs.Sites.{Site, self, in_lam, in_function, in_argument, spot_in, PartAt, whole, of_lam, of_function, of_argument}
+use Rattle.ol_spots_net.specs.Sites.{Site, self, in_lam, in_function, in_argument, spot_in, PartAt, whole, of_lam, of_function, of_argument}
 use Rattle.ol_frugal.proofs.Sites.{base, Is, Stands, no_root, one_site}
 use Rattle.ol_frugal.proofs.Cuts.{m_moves, n_moves, m_n_apart, n_n_one}
 

@@ -6,7 +6,8 @@ use Rattle.ol_meaning.proofs.Addresses.{left_one, sides_apart}
 use Rattle.ol_meaning.proofs.Channels.{Channel, along, Ends, is_e, is_x, Fun, fun_e, fun_x, fun_in, channel_app, app_in, channel_var, var_in, channel_free, free_in, In, in_e, in_x, in_in, channel_lam, lam_in, inside, up_from_one, up_to_one}
 use Rattle.ol_meaning.proofs.Walking.{os_o, spine_occurs, spine_outer, passing, least_or, opened_os}
 use Rattle.ol_term.specs.declared.translations.Translation.{Translation}
-use Rattle.ol_frugal.specs.Sites.{Site, self, in_lam, in_function, in_argument, spot_in, whole, of_lam, of_function, of_argument, IsMet, blank, function_at}
+use Rattle.ol_frugal.specs.Met.{IsMet, blank}
+use Rattle.ol_spots_net.specs.Sites.{Site, self, in_lam, in_function, in_argument, spot_in, whole, of_lam, of_function, of_argument, function_at}
 use Rattle.ol_frugal.proofs.Sites.{base, Stands, no_root}
 use Rattle.ol_frugal.proofs.Meeting.{too_few}
 

@@ -4,3 +4,5 @@ pub mod Heads
 pub mod Meeting
 pub mod Lanes
 pub mod Counting
+pub mod Principals
+pub mod Arrived

@@ -6,7 +6,8 @@ use Rattle.ol_meaning.proofs.Ways.{Next, follow}
 use Rattle.ol_meaning.proofs.Mains.{Chain, top, down, chain_trail}
 use Rattle.ol_meaning.proofs.Walking.{short_os, passing, least_or, root_stays}
 use Rattle.ol_term.specs.declared.translations.Translation.{Translation}
-use Rattle.ol_frugal.specs.Sites.{Site, self, in_lam, in_function, in_argument, spot_in, PartAt, IsMatched, IsMet, blank, function_at}
+use Rattle.ol_frugal.specs.Met.{IsMatched, IsMet, blank}
+use Rattle.ol_spots_net.specs.Sites.{Site, self, in_lam, in_function, in_argument, spot_in, PartAt, function_at}
 use Rattle.ol_frugal.proofs.Sites.{base, Is, Stands, no_root, same_site}
 use Rattle.ol_frugal.proofs.Heads.{Goes, step_of}
 

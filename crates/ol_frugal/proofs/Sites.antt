@@ -1,7 +1,7 @@
 -- Sites and their spots: one spot is at one site.
 use Rattle.std.proofs.Common.{◌≡◌, ℕ, suc, Bool, true, false, ◌⊎◌, inl, inr, refl, ap, ◌∙◌}
 use Rattle.ol_meaning.specs.Spots.{Tree, var, free, lam, app, Level, empty, o, star, pair, Context, Wire, Place, root, wire, Spot, at, body, fun, arg, lift, lifted}
-use Rattle.ol_frugal.specs.Sites.{Site, self, in_lam, in_function, in_argument, spot_in, PartAt, whole, of_lam, of_function, of_argument}
+use Rattle.ol_spots_net.specs.Sites.{Site, self, in_lam, in_function, in_argument, spot_in, PartAt, whole, of_lam, of_function, of_argument}
 
 -- the root of an application's function, and that of an abstraction
 abbrev pub base : Bool → Level → Context → Spot

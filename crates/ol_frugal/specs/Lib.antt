@@ -1,2 +1,2 @@
 -- What clauses of public functions rest on.
-pub mod Sites
+pub mod Met

@@ -3,7 +3,7 @@
 //! Each function here is a law: it has no code.
 #![tactic(auto)]
 
-ghost use Rattle.ol_frugal.specs.Sites.{NoMoreThanHeadSteps};
+ghost use Rattle.ol_frugal.specs.Met.{NoMoreThanHeadSteps};
 
 /// The applications of redexes that the walks from a term's root meet, each with the levels round
 /// it, are at most as many as the head steps that lead from the term to a head normal form.
