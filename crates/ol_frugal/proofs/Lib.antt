@@ -6,3 +6,5 @@ pub mod Lanes
 pub mod Counting
 pub mod Principals
 pub mod Arrived
+pub mod Keys
+pub mod Seeing
