@@ -8,3 +8,4 @@ pub mod Principals
 pub mod Arrived
 pub mod Keys
 pub mod Seeing
+pub mod Few

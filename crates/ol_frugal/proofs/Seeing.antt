@@ -14,7 +14,7 @@ use Rattle.ol_net.specs.declared.parts.Kind.{Kind}
 use Rattle.ol_net.specs.declared.parts.Kind.TheVariants as kind
 use Rattle.ol_rules.proofs.FreshPairs.{linked_sym}
 use Rattle.ol_rules.proofs.Renaming.{one_port}
-use Rattle.ol_spots_net.proofs.Followed.{net}
+use Rattle.ol_spots_net.proofs.Followed.{St, net}
 use Rattle.ol_spots_net.specs.Sites.{Site, depth, context_at, function_at, abstraction_at}
 use Rattle.ol_spots_net.specs.Spots.{root, at, Edge, Trail}
 use Rattle.ol_term.specs.Trees.{Tree}
@@ -27,7 +27,7 @@ use Rattle.ol_optimal.specs.Seen.{Move, link, node, IsOnWalk, IsSeen}
 use Rattle.ol_optimal.proofs.Carrying.{rise_at, fall_at}
 use Rattle.ol_frugal.specs.Met.{IsMet, blank}
 use Rattle.ol_frugal.proofs.Arrived.{Application, Come, from_root, from_function}
-use Rattle.ol_frugal.proofs.Keys.{put_one, levels_of, as_put, as_long}
+use Rattle.ol_frugal.proofs.Keys.{one_redex, put_one, levels_of, as_put, as_long}
 
 -- ---- what moves from a free port lead to is on one way
 
@@ -118,6 +118,7 @@ module _ {B : Type 0} (m : ℕ → B) (M : NamedNet B) (n : IsNet M) (τ : Trans
     pub at_site : Application τ t names node context
     pub begin_is : V.begin ≡ levels_of at_site.site
     pub met : IsMet τ t at_site.site
+    pub stands : (w : Level) (e : Context) → St τ t names h (function_at at_site.site w e) (at_site.port, context_at at_site.site (cons w e))
 
   one_index : (x i j : ℕ) (K : Kind) → HasNode N x K i → HasNode N x K j → i ≡ j
   one_index x i j K a b = ((net τ t names h).one_node x K K i j a b).1
@@ -160,6 +161,7 @@ module _ {B : Type 0} (m : ℕ → B) (M : NamedNet B) (n : IsNet M) (τ : Trans
               context = put S.redex.begin S.rest;
               at_site = k.at_site;
               begin_is = begin;
+              stands = k.stands;
               met = record {
                 matched = record {
                   function = k.at_site.function;
@@ -179,3 +181,18 @@ module _ {B : Type 0} (m : ℕ → B) (M : NamedNet B) (n : IsNet M) (τ : Trans
                 way = k.trail;
               };
             }
+
+  -- no two of them at one site
+  pub one_route : (s s' : Route B) (V : IsVirtualRedex M s) (V' : IsVirtualRedex M s') (a : MetAt s V) (b : MetAt s' V') → a.at_site.site ≡ b.at_site.site → s ≡ s'
+  one_route s s' V V' a b e =
+      let p = a.at_site.site in
+      let x = a.stands empty blank in
+      let y : St τ t names h (function_at p empty blank) (b.at_site.port, context_at p (cons empty blank)) = subst (λ q. St τ t names h (function_at q empty blank) (b.at_site.port, context_at q (cons empty blank))) (sym e) (b.stands empty blank) in
+      let one : ◌≡◌ {A = Option (NamedPort ℕ × Context)} (Some (a.at_site.port, context_at p (cons empty blank))) (Some (b.at_site.port, context_at p (cons empty blank))) = sym x.is ∙ y.is in
+      let pair : ◌≡◌ {A = NamedPort ℕ × Context} (a.at_site.port, context_at p (cons empty blank)) (b.at_site.port, context_at p (cons empty blank)) = cc in
+      let port = ap (λ (u : NamedPort ℕ × Context). u.0) pair in
+      let l = linked_sym N (slot a.node 0) a.at_site.port a.at_site.linked in
+      let l' : Linked N a.at_site.port (slot b.node 0) = subst (λ q. Linked N q (slot b.node 0)) (sym port) (linked_sym N (slot b.node 0) b.at_site.port b.at_site.linked) in
+      let z : slot a.node 0 ≡ slot b.node 0 = (net τ t names h).one_link a.at_site.port (slot a.node 0) (slot b.node 0) l l' in
+      let node : a.node ≡ b.node = cc in
+      one_redex M n s s' V V' (a.from_is ∙ ap m node ∙ sym b.from_is) (a.begin_is ∙ ap levels_of e ∙ sym b.begin_is)

@@ -2,6 +2,17 @@
 -- from the term's root sees, said by the term's spots alone.
 use Rattle.std.specs.Prelude.{ℕ, ◌≤◌, List, [], ◌∷◌, length}
 use Rattle.ol_edges.specs.Edges.{IsIn}
+use Rattle.ol_net.specs.Graph.{Graph}
+use Rattle.ol_net.specs.Nets.{NamedNet, IsNet, SameNet}
+use Rattle.ol_net.specs.Numbered.{net_of}
+use Rattle.ol_context.specs.Asked.{asked}
+use Rattle.ol_demand.specs.Answers.{start_of}
+use Rattle.ol_optimal.specs.Laws as routes
+use Rattle.ol_optimal.specs.Routes.{Route}
+use Rattle.ol_optimal.specs.Seen.{IsSeen}
+use Rattle.ol_rules.specs.declared.journal.NodeName.{NodeName}
+use Rattle.ol_translate.specs.Names.{HasNames}
+use Rattle.ol_translate.specs.Translation.{translation_of}
 use Rattle.ol_context.specs.Contexts.{Level, empty, Context}
 use Rattle.ol_meaning.specs.Heads.{os, Normal, Steps}
 use Rattle.ol_spots_net.specs.Sites.{Site, PartAt, function_at, abstraction_at}
@@ -46,3 +57,16 @@ abbrev pub NoMoreThanHeadSteps : Type 0
 NoMoreThanHeadSteps = (τ : Translation) (t u : Tree) (m : ℕ) → Steps t u m →
     (q : Place) (a : Level) (j : ℕ) → Normal u q a j →
     (ps : List Site) → AreDifferent ps → AreMet τ t ps → length ps ≤ m
+
+-- the virtual redex is on a walk that asks the root
+abbrev pub IsSeenFromRoot : NamedNet NodeName → Route NodeName → Type 0
+IsSeenFromRoot N s = (lams : ℕ) × IsSeen N 0 (asked [] lams) s
+
+-- So the different virtual redexes on the walks that ask the root of a term's net are no more than
+-- the head steps.
+abbrev pub SeenIsFew : Type 0
+SeenIsFew = (τ : Translation) (t u : Tree) (names : ℕ) → HasNames t names →
+    (g : Graph) → IsNet (net_of g) → SameNet (net_of g) (translation_of τ t names) →
+    (m : ℕ) → Steps t u m → (q : Place) (a : Level) (j : ℕ) → Normal u q a j →
+    (ss : List (Route NodeName)) → routes.AreDifferent ss →
+    ((s : Route NodeName) → IsIn s ss → IsSeenFromRoot (start_of g) s) → length ss ≤ m

@@ -2,7 +2,6 @@
 use Rattle.ol_frugal.proofs.met_are_few.Goals as goal
 use Rattle.ol_frugal.proofs.Counting.{met_few}
 use Rattle.ol_frugal.proofs.Keys.{one_redex}
-use Rattle.ol_frugal.proofs.Seeing.{met_at}
 
 pub returns : goal.returns
 returns g = λ τ t u m s q a j k ps d f. met_few τ s q a j k ps d f
