@@ -113,6 +113,15 @@ module _ (τ : Translation) (M N : Tree) where
     new = redex_new;
   }
 
+  -- its spots
+  pub there_is : {s z : Spot} → way_there.R s z → Through τ M N s z
+  unfolding way_there
+  there_is r = r
+
+  pub is_there : {s z : Spot} → Through τ M N s z → way_there.R s z
+  unfolding way_there
+  is_there r = r
+
   -- ---- and back
 
   abbrev Undone : Spot → Spot → Type 0

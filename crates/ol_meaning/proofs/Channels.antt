@@ -23,7 +23,7 @@ module _ {τ : Translation} where
   along k (on {s = s} {s' = s1} {w = w} e a h) r = along k a (k.go s s1 w e r)
   along k (back {s = s} {s' = s1} {w = w} e a h) r = along k a (k.come s s1 w e r)
 
-data Ends (e x : Spot) : Spot → Type 0 where
+pub data Ends (e x : Spot) : Spot → Type 0 where
   is_e : {s : Spot} → s ≡ e → Ends e x s
   is_x : {s : Spot} → s ≡ x → Ends e x s
 
@@ -62,7 +62,7 @@ module _ {τ : Translation} where
       is_e (ap (λ u. at root u k) (head_eq u v k c l) ∙ ap (at root v) (tail_eq u v k c l))
 
 -- before an argument
-data Fun (I : Spot → Type 0) (e x : Spot) : Spot → Type 0 where
+pub data Fun (I : Spot → Type 0) (e x : Spot) : Spot → Type 0 where
   fun_e : {s : Spot} → s ≡ e → Fun I e x s
   fun_x : {s : Spot} → s ≡ x → Fun I e x s
   fun_in : {s : Spot} → I s → Fun I e x (fun s)
@@ -144,6 +144,12 @@ module _ {τ : Translation} {R P : Tree} {y : Wire} {a w v : Level} {c d : Conte
     only = λ p u l r. fun_only p u l refl r;
   }
 
+module _ {τ : Translation} {R : Tree} (P : Tree) {y : Wire} {a w v : Level} {c d : Context} (m : occurs y R ≡ true) (h : w ≡ left P y a) (k : Channel τ R (at root (o v) c) (at (wire y) a d)) where
+  -- its spots
+  pub app_in : {s : Spot} → (channel_app {P = P} m h k).In s → Fun k.In (at root v c) (at (wire y) w d) s
+  unfolding channel_app
+  app_in r = r
+
 module _ {τ : Translation} where
   pub channel_var : (y : ℕ) (v : Level) (c : Context) → Channel τ (var y) (at root v c) (at (wire (bound y)) empty (cons v c))
   channel_var y v c = record {
@@ -164,6 +170,16 @@ module _ {τ : Translation} where
     last = is_x refl;
     only = λ p u l r. ends_only r;
   }
+
+module _ (τ : Translation) where
+  -- their spots
+  pub var_in : (y : ℕ) {v : Level} {c : Context} {s : Spot} → (channel_var {τ = τ} y v c).In s → Ends (at root v c) (at (wire (bound y)) empty (cons v c)) s
+  unfolding channel_var
+  var_in y r = r
+
+  pub free_in : (y : ℕ) {v : Level} {c : Context} {s : Spot} → (channel_free {τ = τ} y v c).In s → Ends (at root v c) (at (wire (name y)) empty (cons v c)) s
+  unfolding channel_free
+  free_in y r = r
 
 -- ---- under an abstraction: the way out is one-to-one
 
@@ -219,7 +235,7 @@ module _ {τ : Translation} where
   up_edge {M} (up_own {x = x} {a = a} {w = w} g e) m c = subst (λ x. Edge τ (lam M) (at root w c) (body (at (wire x) a c)) 0) (sym g) (subst (λ w. Edge τ (lam M) (at root w c) (body (at (wire (bound 0)) a c)) 0) (sym e) (lam_own (subst (λ x. occurs x M ≡ true) g m)))
   up_edge {M} (up_wire {y = y} {z = z} {a = a} e f) m c = subst (λ b. Edge τ (lam M) (at (wire y) b c) (body (at (wire z) a c)) 0) (sym f) (lam_wire e m)
 
-data In (I : Spot → Type 0) (e x : Spot) : Spot → Type 0 where
+pub data In (I : Spot → Type 0) (e x : Spot) : Spot → Type 0 where
   in_e : {s : Spot} → s ≡ e → In I e x s
   in_x : {s : Spot} → s ≡ x → In I e x s
   in_in : {s : Spot} → I s → In I e x (body s)
@@ -275,3 +291,7 @@ module _ {τ : Translation} {M : Tree} {p p' q q' : Place} {v v' w w' : Level} {
     last = in_x refl;
     only = λ r b l g. lam_only r b l refl g;
   }
+
+  pub lam_in : {s : Spot} → channel_lam.In s → G s
+  unfolding channel_lam
+  lam_in r = r

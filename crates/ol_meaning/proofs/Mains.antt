@@ -239,7 +239,7 @@ module _ {τ : Translation} where
 
 -- ---- values that stop at an outer abstraction
 
-data Chain (c : Context) : Tree → Level → Spot → Type 0 where
+pub data Chain (c : Context) : Tree → Level → Spot → Type 0 where
   top : {t : Tree} {v : Level} → Chain c t v (at root v c)
   down : {t : Tree} {v : Level} {s : Spot} → Chain c t v s → Chain c (lam t) (o v) (body s)
 
@@ -267,7 +267,7 @@ module _ {τ : Translation} where
   chain_off c (lam t) (o v) h (down k) (lam_own m) = elim k [ ]
   chain_off c (lam t) (o v) h (down k) (lam_wire e m) = elim k [ ]
 
-  chain_trail : (c : Context) (t : Tree) (v : Level) {s s' : Spot} {n : ℕ} → Short t v → Trail (Edge τ t) s s' n → Chain c t v s → Chain c t v s'
+  pub chain_trail : (c : Context) (t : Tree) (v : Level) {s s' : Spot} {n : ℕ} → Short t v → Trail (Edge τ t) s s' n → Chain c t v s → Chain c t v s'
   chain_trail c t v h here k = k
   chain_trail c t v h (on e a q) k = chain_trail c t v h a (chain_on c t v h k e)
   chain_trail c t v h (back e a q) k = chain_trail c t v h a (chain_off c t v h k e)

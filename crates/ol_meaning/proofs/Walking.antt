@@ -27,7 +27,7 @@ opened_os (var y) u = refl
 opened_os (free f) u = refl
 opened_os (app t s) u = refl
 
-short_os : (t : Tree) (n : ℕ) → n < outer t → Short t (os n empty)
+pub short_os : (t : Tree) (n : ℕ) → n < outer t → Short t (os n empty)
 short_os (lam t) zero h = tt
 short_os (lam t) (suc n) h = short_os t n (omega arith)
 short_os (var y) n h = absurd (omega arith)
@@ -151,7 +151,7 @@ pub record Passing (t : Tree) (n : ℕ) : Type 0 where
   pub sum : n ≡ outer t + rest
   pub is : os n empty ≡ opened t (os rest empty)
 
-passing : (t : Tree) (n : ℕ) → outer t ≤ n → Passing t n
+pub passing : (t : Tree) (n : ℕ) → outer t ≤ n → Passing t n
 passing t n h = by (below_is (outer t) n h)
   where
     below_is : (a n : ℕ) → a ≤ n → (r : ℕ) × (n ≡ a + r)
@@ -162,7 +162,7 @@ passing t n h = by (below_is (outer t) n h)
     by : (r : ℕ) × (n ≡ outer t + r) → Passing t n
     by (r, e) = record { rest = r; sum = e; is = ap (λ n. os n empty) e ∙ sym (os_sum (outer t) r empty) ∙ sym (opened_os t (os r empty)) }
 
-least_or : (a n : ℕ) → (n < a) ⊎ (a ≤ n)
+pub least_or : (a n : ℕ) → (n < a) ⊎ (a ≤ n)
 least_or zero n = inr (omega arith)
 least_or (suc a) zero = inl (omega arith)
 least_or (suc a) (suc n) = by (least_or a n)
@@ -180,7 +180,7 @@ module _ {τ : Translation} where
       by (inr h) = passing t n h
 
 module _ (τ : Translation) where
-  root_stays : {t t' : Tree} (h : HeadStep t t') (n : ℕ) → Passing t n → Same τ h root (os n empty) (os n empty)
+  pub root_stays : {t t' : Tree} (h : HeadStep t t') (n : ℕ) → Passing t n → Same τ h root (os n empty) (os n empty)
   root_stays h n p = subst (λ v. Same τ h root v v) (sym p.is) (root_same τ h (os p.rest empty))
 
 module _ {τ : Translation} where

@@ -126,6 +126,15 @@ module _ {τ : Translation} (M M' : Tree) (S : Place → Level → Level → Typ
     new = λ y a a' r. below_new r;
   }
 
+  -- its spots
+  pub below_is : {s z : Spot} → way_below.R s z → Below w.R S s z
+  unfolding way_below
+  below_is r = r
+
+  pub is_below : {s z : Spot} → Below w.R S s z → way_below.R s z
+  unfolding way_below
+  is_below r = r
+
 -- ---- before an argument
 
 pub data Before (R : Spot → Spot → Type 0) (S : Place → Level → Level → Type 0) : Spot → Spot → Type 0 where
@@ -203,6 +212,15 @@ module _ {τ : Translation} (R R' P : Tree) (S : Place → Level → Level → T
     old = λ y a a' r. before_old r;
     new = λ y a a' r. before_new r;
   }
+
+  -- its spots
+  pub before_is : {s z : Spot} → way_before.R s z → Before w.R (SameBefore τ R R' P S) s z
+  unfolding way_before
+  before_is r = r
+
+  pub is_before : {s z : Spot} → Before w.R (SameBefore τ R R' P S) s z → way_before.R s z
+  unfolding way_before
+  is_before r = r
 
 -- ---- strictness: a trail from the chain of spots down to the redex either stays in it, or gets lighter
 

@@ -20,7 +20,7 @@ use Rattle.ol_spots_net.proofs.Bare.{packed_right, bare_right, is_wire, has_box,
 use Rattle.ol_spots_net.proofs.Parts.{Has, argument, HasLam, has_lam, Wires, has_app, HasAppTo, has_app_to, has_head, applied_root, bare_occurs, bare_lacks, key, IsInside, key_under, some, has_wire, wire_there, wire_not, occurs_inside, occurs_lam}
 use Rattle.ol_spots_net.proofs.States.{Before, before_arg, S, H, L, at_port, bare_state, arg_state, state, if_true, if_false, bool_or}
 use Rattle.ol_spots_net.proofs.Trails.{tr_trans, one, one_back, tr_body, tr_fun, tr_arg}
-use Rattle.ol_spots_net.proofs.Turns.{Fits, Stands, Turn, Rest, Reaches, Resting, Next, turn_lift, turn_front, turn_in, turn_out, turn_eraser, of_cons, stands_port}
+use Rattle.ol_spots_net.proofs.Turns.{no_principal, of_control, Fits, Stands, Turn, Rest, Reaches, Resting, Next, turn_lift, turn_front, turn_in, turn_out, turn_eraser, of_cons, stands_port}
 
 -- the levels of a context from the second on, put back
 pub eta2 : (c : Context) → cons (c 0) (cons (c 1) (tail (tail c))) ≡ c
@@ -97,7 +97,7 @@ module _ (τ : Translation) (N : NamedNet ℕ) where
           let none = wire_not τ M (bound 0) (d + 1) n (k + 1) i (omega arith) o' in
           let l : L N (slot_port k 2) (slot_port x 0) = subst (λ w. L N (slot_port k 2) (bound_port w (k + 1 + length (subnet_of τ M (d + 1) n (k + 1)).nodes))) none A.var_link in
           let e' : Holds (H N) (k + 1 + length (subnet_of τ M (d + 1) n (k + 1)).nodes) ((kind.Eraser, 0) ∷ []) = subst (λ w. Holds (H N) (k + 1 + length (subnet_of τ M (d + 1) n (k + 1)).nodes) (erasers w)) none A.eraser in
-          (at root (star (e 0)) (tail e), here, inr (nets.slot x 0, l, turn_eraser N (Reaches (Trail (Edge τ (lam M))) (Rest N (Stands τ (lam M) d n k F)) (at root (star (e 0)) (tail e))) x 0 (F e) e'.0))
+          (at root (star (e 0)) (tail e), here, inr (nets.slot x 0, l, turn_eraser N (Reaches (Trail (Edge τ (lam M))) (Rest N (Stands τ (lam M) d n k F)) (at root (star (e 0)) (tail e))) x 0 (F e) e'.0, no_principal N k 1, of_control N x 0 kind.Eraser e'.0 (λ q. absurd (cc)) (λ q. absurd (cc))))
 
       go : (s : ℕ) (e : Context) → s < arity kind.Lam → change kind.Lam s e ≡ cons v c → After (lam M) d n k F (at root v c) 0 (nets.slot k (suc s), F e)
       go zero e low q =
@@ -243,7 +243,7 @@ module _ (τ : Translation) (N : NamedNet ℕ) where
         go o' m' (suc zero) e low g = of_cons (λ w c. Goal w c 0 (nets.slot z 2, F e)) (star (e 0)) w (tail e) c g (
           at (wire y) (star (e 0)) (tail e),
           here,
-          inr (nets.slot x 0, lg, turn_out N (Reaches (Trail (Edge τ (app M Q))) (Rest N (Stands τ (app M Q) d n k F)) (at (wire y) (star (e 0)) (tail e))) x kind.Bracket n F e b hb (bracket o' m' e)),
+          inr (nets.slot x 0, lg, turn_out N (Reaches (Trail (Edge τ (app M Q))) (Rest N (Stands τ (app M Q) d n k F)) (at (wire y) (star (e 0)) (tail e))) x kind.Bracket n F e b hb (bracket o' m' e), no_principal N z 1, of_control N x n kind.Bracket hb (λ q. absurd (cc)) (λ q. absurd (cc))),
         )
         go o' m' (suc (suc s)) e low g = absurd (omega arith)
 
@@ -276,6 +276,8 @@ module _ (τ : Translation) (N : NamedNet ℕ) where
             subst (λ l. Turn N (Reaches (Trail (Edge τ (app M Q))) (Rest N (Stands τ (app M Q) d n k F)) (at (wire y) (star (e 0)) (tail e))) (nets.slot k 2) (F l)) (eta e)
                 (at_slot M Q d n k x F b bare A (at (wire y) (star (e 0)) (tail e)) (e 0) (tail e)
                 (tr_trans (one (app_right o' (bare_right M y (e 0) (is_wire τ d x Q bare) (sym (if_true N (occurs y M) (star (e 0)) (e 0) m'))))) (wire_trail M Q d n k x F b bare A y (e 0) (tail e) o') refl)),
+            no_principal N z 1,
+            no_principal N k 1,
           ),
         )
         go o' m' l (suc (suc s)) e low g = absurd (omega arith)

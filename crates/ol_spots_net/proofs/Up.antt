@@ -14,12 +14,13 @@ use Rattle.ol_rules.proofs.FreshPairs.{linked_sym}
 use Rattle.ol_translate.specs.Translation.{Subnet, subnet_of, applied, bare_variable, wire_of, bound_port, slot_port}
 use Rattle.ol_translate.proofs.Joints.{few_wires}
 use Rattle.ol_spots_net.specs.Spots.{Wire, bound, name, under, occurs, Place, root, wire, Spot, at, body, fun, arg, Edge, lam_root, lam_own, lam_wire, app_root, app_arg, app_left, app_right, in_arg, Trail, here}
+use Rattle.ol_spots_net.specs.Sites.{Site, self, in_lam, in_function, in_argument, PartAt, whole, of_lam, of_function, of_argument, function_at, depth, context_at}
 use Rattle.ol_spots_net.proofs.Fans.{Merges}
 use Rattle.ol_spots_net.proofs.Bare.{packed_right, bare_right, is_wire, has_box, has_one, wire_edge}
 use Rattle.ol_spots_net.proofs.Parts.{Has, argument, HasLam, has_lam, Wires, HasApp, has_app, HasAppTo, has_app_to, HasHead, has_head, applied_root, bare_there, bare_occurs, bare_lacks, key, wire_there, occurs_inside, occurs_lam, occurs_app}
 use Rattle.ol_spots_net.proofs.States.{Before, before_arg, S, H, L, at_port, bare_state, arg_state, state, if_true, if_false}
 use Rattle.ol_spots_net.proofs.Trails.{one, one_back, tr_trans, tr_body, tr_fun, tr_arg}
-use Rattle.ol_spots_net.proofs.Turns.{Fits, Stands, Turn, Rest, Reaches, turn_in, turn_out, of_cons, stands_port}
+use Rattle.ol_spots_net.proofs.Turns.{no_principal, of_control, Fits, Stands, Turn, Rest, Reaches, turn_in, turn_out, of_cons, stands_port}
 use Rattle.ol_spots_net.proofs.Down.{eta2, occurs_there, occurs_not, wire_under, After, lift_body, lift_fun, lift_arg, at_root, linked_to}
 
 module _ (τ : Translation) (N : NamedNet ℕ) where
@@ -31,9 +32,72 @@ module _ (τ : Translation) (N : NamedNet ℕ) where
     pub trail : Trail (Edge τ t) z (at place_is level later) 0
     pub stands : Stands τ t d n k F (at place_is level later) u
 
+  -- the spot is at the root of the function of application node x
+  pub record AtFunction (t : Tree) (d n k : ℕ) (F : Context → Context) (z : Spot) (u : S) (x : ℕ) : Type 0 where
+    pub site : Site
+    pub function : Tree
+    pub argument : Tree
+    pub is : PartAt t site (app function argument)
+    pub level : Level
+    pub later : Context
+    pub trail : Trail (Edge τ t) z (function_at site level later) 0
+    pub there : HasNode N x kind.App (n + depth site)
+    pub stands : (w : Level) (e : Context) → Stands τ t d n k F (function_at site w e) (u.0, F (context_at site (cons w e)))
+    pub same : u.1 ≡ F (context_at site (cons level later))
+
+  function_in_body : (M : Tree) (d n k : ℕ) (F : Context → Context) (z : Spot) (u : S) (x : ℕ) → AtFunction M (d + 1) n (k + 1) F z u x → AtFunction (lam M) d n k F (body z) u x
+  function_in_body M d n k F z u x r = record {
+    site = in_lam r.site;
+    function = r.function;
+    argument = r.argument;
+    is = of_lam r.is;
+    level = r.level;
+    later = r.later;
+    trail = tr_body r.trail;
+    there = r.there;
+    stands = λ w e. (let s = r.stands w e in record { is = s.is; fits = s.fits });
+    same = r.same;
+  }
+
+  function_in_fun : (M Q : Tree) (d n k : ℕ) (F : Context → Context) (z : Spot) (u : S) (x : ℕ) → AtFunction M d n (k + 1) F z u x → AtFunction (app M Q) d n k F (fun z) u x
+  function_in_fun M Q d n k F z u x r = record {
+    site = in_function r.site;
+    function = r.function;
+    argument = r.argument;
+    is = of_function r.is;
+    level = r.level;
+    later = r.later;
+    trail = tr_fun r.trail;
+    there = r.there;
+    stands = λ w e. (let s = r.stands w e in record { is = s.is; fits = s.fits });
+    same = r.same;
+  }
+
+  function_in_arg : (M Q : Tree) (d n k : ℕ) (F : Context → Context) (v : Level) → bare_variable τ d Q ≡ None → (z : Spot) (u : S) (x : ℕ) →
+      AtFunction Q d (n + 1) (k + 1 + length (subnet_of τ M d n (k + 1)).nodes) (λ c. F (cons v c)) z u x → AtFunction (app M Q) d n k F (arg v z) u x
+  function_in_arg M Q d n k F v none z u x r = record {
+    site = in_argument v r.site;
+    function = r.function;
+    argument = r.argument;
+    is = of_argument r.is;
+    level = r.level;
+    later = r.later;
+    trail = tr_arg r.trail;
+    there = subst (λ i. HasNode N x kind.App i) (let g : n + 1 + depth r.site ≡ n + suc (depth r.site) = omega arith in g) r.there;
+    stands = λ w e. (let s = r.stands w e in record {
+      is = ap (λ o. arg_state o (function_at r.site w e) k (λ c. F (cons v c)) (state τ (function_at r.site w e) Q d (n + 1) (k + 1 + length (subnet_of τ M d n (k + 1)).nodes) (λ c. F (cons v c)))) none ∙ s.is;
+      fits = s.fits;
+    });
+    same = r.same;
+  }
+
+  no_slot : {x y s : ℕ} → ◌≡◌ {A = NamedPort ℕ} (nets.slot x (suc s)) (nets.slot y 0) → ⊥
+  no_slot {s = s} e = let n : suc s ≡ 0 = cc in omega arith
+
   -- or a link to a node
   pub record Turned (t : Tree) (d n k : ℕ) (F : Context → Context) (z : Spot) (u : S) : Type 0 where
     pub next : NamedPort ℕ
+    pub application : (x : ℕ) → next ≡ nets.slot x 0 → AtFunction t d n k F z u x
     pub linked : Linked N u.0 next
     pub turn : Turn N (After τ N t d n k F z) next u.1
 
@@ -61,6 +125,7 @@ module _ (τ : Translation) (N : NamedNet ℕ) where
         subst (λ u. Leaves (lam M) d n k F (body z) u) (stands_port (Some (subnet_of τ M (d + 1) n (k + 1)).root) (subnet_of τ M (d + 1) n (k + 1)).root (F (cons v c)) u s.is refl)
         (inr (record {
           next = nets.slot k 1;
+          application = λ x e. absurd (no_slot e);
           linked = back_link (slot_port k 1) (subnet_of τ M (d + 1) n (k + 1)).root A.link;
           turn = turn_in N (After τ N (lam M) d n k F (body z)) k kind.Lam n 0 F (cons v c) b A.node
               (at root (o v) c, tr_trans (tr_body t) (one_back lam_root) refl, inl (inl (record { is = refl; fits = tt })));
@@ -71,6 +136,7 @@ module _ (τ : Translation) (N : NamedNet ℕ) where
         subst (λ u. Leaves (lam M) d n k F (body z) u) (stands_port (wire_of 0 (subnet_of τ M (d + 1) n (k + 1)).wires) W.0 (F (cons v c)) u s.is W.1)
         (inr (record {
           next = nets.slot k 2;
+          application = λ x e. absurd (no_slot e);
           linked = back_link (slot_port k 2) W.0 l;
           turn = turn_in N (After τ N (lam M) d n k F (body z)) k kind.Lam n 1 F (cons v c) b A.node
               (at root (star v) c, tr_trans (tr_body t) (one_back (lam_own s.fits)) refl, inl (inl (record { is = refl; fits = tt })));
@@ -160,6 +226,7 @@ module _ (τ : Translation) (N : NamedNet ℕ) where
     fun_shared y w c a x t f o' e hf lf =
         inr (record {
           next = nets.slot x 1;
+          application = λ x e. absurd (no_slot e);
           linked = back_link (slot_port x 1) a lf;
           turn = turn_in N (After τ N (app M Q) d n k F (fun z)) x kind.Fan n 0 F (cons w c) b hf (
             at (wire y) (o w) c,
@@ -190,6 +257,18 @@ module _ (τ : Translation) (N : NamedNet ℕ) where
         subst (λ u. Leaves (app M Q) d n k F (fun z) u) (stands_port (Some P.root) P.root (F (cons v c)) u s.is refl)
         (inr (record {
           next = nets.slot k 0;
+          application = λ x e. (let q : k ≡ x = cc in record {
+            site = self;
+            function = M;
+            argument = Q;
+            is = whole;
+            level = v;
+            later = c;
+            trail = tr_fun t;
+            there = subst (λ x. HasNode N x kind.App (n + 0)) q (subst (λ i. HasNode N k kind.App i) (let g : n ≡ n + 0 = omega arith in g) top.node);
+            stands = λ w e. record { is = refl; fits = tt };
+            same = refl;
+          });
           linked = back_link (slot_port k 0) P.root top.link;
           turn = turn_out N (After τ N (app M Q) d n k F (fun z)) k kind.App n F (cons v c) b top.node (λ s e low g. root_turn v c s e low g t);
         }))
@@ -211,6 +290,7 @@ module _ (τ : Translation) (N : NamedNet ℕ) where
           let n' = occurs_not τ M y d n (k + 1) I.0 (occurs_inside Q y d I.1 f) ea in
           inr (record {
             next = nets.slot x 1;
+            application = λ x e. absurd (no_slot e);
             linked = back_link (slot_port x 1) q lb;
             turn = turn_in N (After τ N (app M Q) d n k F (arg v' z)) x kind.Bracket n 0 F (cons v' (cons w c)) b hb (
               at (wire y) (pair w v') c,
@@ -222,6 +302,7 @@ module _ (τ : Translation) (N : NamedNet ℕ) where
           let o' = occurs_there τ M y d n (k + 1) a I.0 (occurs_inside Q y d I.1 f) ea in
           inr (record {
             next = nets.slot x 1;
+            application = λ x e. absurd (no_slot e);
             linked = back_link (slot_port x 1) q lb;
             turn = turn_in N (After τ N (app M Q) d n k F (arg v' z)) x kind.Bracket n 0 F (cons v' (cons w c)) b hb (
               arg v' z,
@@ -234,6 +315,8 @@ module _ (τ : Translation) (N : NamedNet ℕ) where
                   tr_trans (tr_arg t) (one_back (app_right f (packed_right M y w v' (has_box τ d Q none) (sym (if_true N (occurs y M) (star (pair w v')) (pair w v') o'))))) refl,
                   inl (own_wire y (star (pair w v')) c (slot_port x' 0) (er ∙ ez) (occurs_app y M Q ∙ or_right (occurs y M) (occurs y Q) f)),
                 ),
+                of_control N x n kind.Bracket hb (λ q. absurd (cc)) (λ q. absurd (cc)),
+                no_principal N x' 1,
               ),
             );
           })
@@ -243,6 +326,7 @@ module _ (τ : Translation) (N : NamedNet ℕ) where
           subst (λ u. Leaves (app M Q) d n k F (arg v' z) u) (stands_port (Some R.root) R.root (F (cons v' (cons v c))) u s.is refl)
           (inr (record {
             next = nets.slot k 2;
+            application = λ x e. absurd (no_slot e);
             linked = back_link (slot_port k 2) R.root (B none).arg_link;
             turn = turn_in N (After τ N (app M Q) d n k F (arg v' z)) k kind.App n 1 F (cons v' (cons v c)) b top.node (
               fun (at root (star v') (cons v c)),
@@ -272,6 +356,7 @@ module _ (τ : Translation) (N : NamedNet ℕ) where
         let o' = occurs_there τ M y d n (k + 1) a I.0 (occurs_inside Q y d I.1 f) ea in
         inr (record {
           next = nets.slot x' 2;
+          application = λ x e. absurd (no_slot e);
           linked = back_link (slot_port x' 2) (slot_port k 2) lg;
           turn = turn_in N (After τ N (app M Q) d n k F s) x' kind.Fan n 1 F (cons v c) b hf (
             at (wire y) (star v) c,
@@ -310,19 +395,19 @@ module _ (τ : Translation) (N : NamedNet ℕ) where
   up t d n k F b i h (at p v c) u s = inl (record { place_is = p; level = v; later = c; trail = here; stands = s })
   up (lam M) d n k F b i h (body z) u s = elim (up M (d + 1) n (k + 1) F b i (has_lam (H N) (L N) n k (subnet_of τ M (d + 1) n (k + 1)) h).part z u (record { is = s.is; fits = s.fits })) [
     | inl e ↦ leave_body M d n k F b i h z e.place_is e.level e.later u e.trail e.stands
-    | inr r ↦ inr (record { next = r.next; linked = r.linked; turn = lift_body τ N M d n k F z r.next u.1 r.turn })
+    | inr r ↦ inr (record { next = r.next; application = λ x e. function_in_body M d n k F z u x (r.application x e); linked = r.linked; turn = lift_body τ N M d n k F z r.next u.1 r.turn })
   ]
   up (app M Q) d n k F b i h (fun z) u s =
       elim (up M d n (k + 1) F b (and_parts (is_below d M) (is_below d Q) i).0 (has_head (H N) (L N) n k (bare_variable τ d Q) (subnet_of τ M d n (k + 1)) (argument τ M Q d n k) h).function z u (record { is = s.is; fits = s.fits })) [
         | inl e ↦ leave_fun M Q d n k F b i h z e.place_is e.level e.later u e.trail e.stands
-        | inr r ↦ inr (record { next = r.next; linked = r.linked; turn = lift_fun τ N M Q d n k F z r.next u.1 r.turn })
+        | inr r ↦ inr (record { next = r.next; application = λ x e. function_in_fun M Q d n k F z u x (r.application x e); linked = r.linked; turn = lift_fun τ N M Q d n k F z r.next u.1 r.turn })
       ]
   up (app M Q) d n k F b i h (arg v z) u s =
       arg_up M Q d n k F b i h z v z u (state τ z Q d (n + 1) (k + 1 + length (subnet_of τ M d n (k + 1)).nodes) (λ c. F (cons v c))) (bare_variable τ d Q) refl s.is s.fits
       (λ none is. elim (up Q d (n + 1) (k + 1 + length (subnet_of τ M d n (k + 1)).nodes) (λ c. F (cons v c)) (before_arg n F v b) (and_parts (is_below d M) (is_below d Q) i).1
       (has_app (H N) (L N) n k (subnet_of τ M d n (k + 1)) (argument τ M Q d n k) (subst (λ o. Has (H N) (L N) k (applied n k o (subnet_of τ M d n (k + 1)) (argument τ M Q d n k))) none h)).argument z u (record { is = is; fits = s.fits })) [
         | inl e ↦ leave_arg M Q d n k F b i h z v none e.place_is e.level e.later u e.trail e.stands
-        | inr r ↦ inr (record { next = r.next; linked = r.linked; turn = lift_arg τ N M Q d n k F v none z r.next u.1 r.turn })
+        | inr r ↦ inr (record { next = r.next; application = λ x e. function_in_arg M Q d n k F v none z u x (r.application x e); linked = r.linked; turn = lift_arg τ N M Q d n k F v none z r.next u.1 r.turn })
       ])
   up (var w) d n k F b i h (body z) u s = absurd s.fits
   up (free f) d n k F b i h (body z) u s = absurd s.fits
