@@ -117,11 +117,11 @@ module _ {A : Type 0} (N : NamedNet A) (is_net : IsNet N) where
         go (moved j' b' x y') less q =
             falls k i l h r (y' (os n empty)) (also j' n (suc n') b' x z (suc made)
             (on way l h (outward r (y' (os n empty)))) (omega arith))
-        go (stripped j' b' x y') zero q =
+        go (stripped j' b' x y' bars) zero q =
             let c = subst (λ n. Way N (free p) start made u (fill j (os n empty) b)) (sym q) way in
             let f = goes_down u (fill j empty b) made c (omega arith) y k i l h in
             absurd (not_stripped k i s f.slot_left j j' b b' f.context r y' f.is)
-        go (stripped j' b' x y') (suc less) q =
+        go (stripped j' b' x y' bars) (suc less) q =
             let c = subst (λ n. Way N (free p) start made u (fill j (os n empty) b)) (sym q) way in
             subst (λ n. Route N T u (fill j (os n empty) b) (suc m)) q
             (falls k i l h r (y' (os less empty)) (also j' less n' b' x (omega arith) (suc made)
