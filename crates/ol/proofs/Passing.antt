@@ -2,9 +2,9 @@
 use Rattle.std.proofs.Common.{◌≡◌, ◌≢◌, ◌<◌, ◌⊎◌, inl, inr, ℕ, zero, suc, List, [], ◌++◌, Some, String, Global, refl, ap, sym, ◌∙◌, subst, append-nil, arith}
 use Rattle.ol_io.specs.Outside.{Rose, Appended}
 use Rattle.ol_io.specs.Readings.{Reading, AreOfSince, handed}
-use Rattle.ol_io.proofs.Readings.{handed-over}
 use Rattle.ol_cli.specs.declared.status.Status.{Status}
 use Rattle.ol_cli.specs.declared.status.Status.TheVariants as status
+use Rattle.ol_cli.specs.Jobs.{Files}
 use Rattle.ol_cli.specs.Answers.{IsAnswer, IfNoneFailed}
 
 pub no_rise : (before now : ℕ) → before ≡ 0 → now ≡ 0 → Rose before now → ⊥
@@ -25,16 +25,32 @@ none_in st before (suc n) e done p told = elim (told (omega (arith, e)) p) [
   | inr m ↦ (let k : status.Done ≡ status.NoMemory = sym done ∙ m in absurd (cc))
 ]
 
-pub passing : (words : List (String Global)) (st : Status) (old new : List Reading) (f f' g g' : ℕ) (before after : List ℕ) → old ≡ [] → f ≡ 0 → g ≡ 0 → ◌≡◌ (Some before) (Some [])
-    → (rs : List Reading) × (new ≡ rs ++ old) × IfNoneFailed f f' g g' (st ≢ status.NoMemory → (text : List ℕ) × IsAnswer words (handed rs) st text × Appended (Some before) text (Some after))
-    → f' ≡ 0 → g' ≡ 0 → st ≢ status.NoMemory → (text : List ℕ) × IsAnswer words (handed new) st text × ◌≡◌ (Some after) (Some text)
+-- files of the readings since none were made are files of the readings since those of the start
+pub of_none : (files : Files) (old new : List Reading) → old ≡ [] → AreOfSince files [] new →
+    AreOfSince files old new
+of_none files old new none h = subst (λ old. AreOfSince files old new) (sym none) h
+
+-- what was appended to nothing is all that was taken
+pub all_taken : (words : List (String Global)) (files : Files) (st : Status)
+    (before after : List ℕ) → ◌≡◌ (Some before) (Some []) →
+    (text : List ℕ) × IsAnswer words files st text × Appended (Some before) text (Some after) →
+    (text : List ℕ) × IsAnswer words files st text × ◌≡◌ (Some after) (Some text)
+all_taken words files st before after empty x =
+    let nothing : before ≡ [] = cc in
+    let all : after ≡ x.0 = x.2 ∙ ap (λ l. l ++ x.0) nothing in
+    (x.0, x.1, ap Some all)
+
+pub passing : (words : List (String Global)) (st : Status) (old new : List Reading)
+    (f f' g g' : ℕ) (before after : List ℕ) →
+    old ≡ [] → f ≡ 0 → g ≡ 0 → ◌≡◌ (Some before) (Some []) →
+    (rs : List Reading) × (new ≡ rs ++ old) × IfNoneFailed f f' g g' (st ≢ status.NoMemory →
+    (text : List ℕ) × IsAnswer words (handed rs) st text
+    × Appended (Some before) text (Some after)) →
+    f' ≡ 0 → g' ≡ 0 → st ≢ status.NoMemory →
+    (text : List ℕ) × IsAnswer words (handed new) st text × ◌≡◌ (Some after) (Some text)
 passing words st old new f f' g g' before after none ef eg empty (rs, grown, h) f0 g0 has =
     let x = h (no_rise f f' ef f0) (no_rise g g' eg g0) has in
     let same : rs ≡ new = sym (append-nil rs) ∙ ap (λ l. rs ++ l) (sym none) ∙ sym grown in
-    let nothing : before ≡ [] = cc in
-    let all : after ≡ x.0 = x.2 ∙ ap (λ l. l ++ x.0) nothing in
-    (x.0, subst (λ rs. IsAnswer words (handed rs) st x.0) same x.1, ap Some all)
-
--- all readings are of the files that they make
-pub of_own : (old new : List Reading) → old ≡ [] → AreOfSince (handed new) old new
-of_own old new none = (new, sym (append-nil new) ∙ ap (λ l. new ++ l) (sym none), handed-over new)
+    subst (λ rs. (text : List ℕ) × IsAnswer words (handed rs) st text
+    × ◌≡◌ (Some after) (Some text)) same
+    (all_taken words (handed rs) st before after empty x)

@@ -1,9 +1,9 @@
 //! The program: `ol` over files, standard input and standard output.
 #![tactic(auto)]
 
-ghost use Rattle.std.specs.Prelude.{◌≡◌, ◌≢◌, ◌<◌, ℕ, true, List, [], Some};
+ghost use Rattle.std.specs.Prelude.{◌≡◌, ◌≢◌, ◌<◌, ◌≤◌, ℕ, true, List, [], Some};
 ghost use Rattle.ol_io.specs.Readings.{handed};
-ghost use Rattle.ol_cli.specs.Jobs.{TellsTerm, TellsFiles, files_of};
+ghost use Rattle.ol_cli.specs.Jobs.{OfReadFiles, TellsTerm, TellsFiles, files_of};
 ghost use Rattle.ol_cli.specs.NormalForms.{LineSays, IsItsNormalForm, TellsOfNone};
 ghost use Rattle.ol_cli.specs.NormalForms.{IsFoundOnDemand, LineSaysOfTwo};
 ghost use Rattle.ol_cli.specs.NormalForms.{PlainDemandFinds, PlainEqualSays, PlainLineSays};
@@ -34,53 +34,68 @@ fn run<'a, R: Files + Input + Print + Threads + Wait + Sync>(
     alloc: Global,
     words: &Vec<String>,
 ) -> Passed<'a, R>
+    // What is said of files holds of any files that the readings of this call are of: a reading has
+    // all bytes of the file of its name where its end was seen, and else its first.
+    //
     // In the words of terms alone, where the status is `Done`: the first line that standard output
-    // accepted is, where it is a text of a term, the normal form of the term in the bytes that were
-    // read; and where `run` or `demand` has put a `?` in it, that term has none.
-    ensures plain { result.status ≡ Status.Done → PlainLineSays words.now.items
-        (handed (⟦<StdSource<'a, R> as Source>⟧.readings result.src))
-        (Some []) (⟦<StdSink<'a, R> as Sink>⟧.taken result.out) }
+    // accepted is, where it is a text of a term, the normal form of the term in the file; and where
+    // `run` or `demand` has put a `?` in it, that term has none.
+    ensures plain { result.status ≡ Status.Done
+        → OfReadFiles [] (⟦<StdSource<'a, R> as Source>⟧.readings result.src) (λ files.
+        PlainLineSays words.now.items files (Some [])
+        (⟦<StdSink<'a, R> as Sink>⟧.taken result.out)) }
+
     // After `ol demand NAME` it is a text of the normal form, where there is one and variables
     // stand in at most 4,096 places of it. After `ol equal A B` the line is `equal` only where the
     // two terms are convertible, and begins with `different` only where they aren't.
-    ensures plain_demand { result.status ≡ Status.Done → PlainDemandFinds words.now.items
-        (handed (⟦<StdSource<'a, R> as Source>⟧.readings result.src))
-        (Some []) (⟦<StdSink<'a, R> as Sink>⟧.taken result.out) }
-    ensures plain_equal { result.status ≡ Status.Done → PlainEqualSays words.now.items
-        (handed (⟦<StdSource<'a, R> as Source>⟧.readings result.src))
-        (Some []) (⟦<StdSink<'a, R> as Sink>⟧.taken result.out) }
+    ensures plain_demand { result.status ≡ Status.Done
+        → OfReadFiles [] (⟦<StdSource<'a, R> as Source>⟧.readings result.src) (λ files.
+        PlainDemandFinds words.now.items files (Some [])
+        (⟦<StdSink<'a, R> as Sink>⟧.taken result.out)) }
+    ensures plain_equal { result.status ≡ Status.Done
+        → OfReadFiles [] (⟦<StdSource<'a, R> as Source>⟧.readings result.src) (λ files.
+        PlainEqualSays words.now.items files (Some [])
+        (⟦<StdSink<'a, R> as Sink>⟧.taken result.out)) }
 
     // The same with any options.
-    ensures normal_form { result.status ≡ Status.Done → (bytes : List ℕ)
-        → TellsTerm (handed (⟦<StdSource<'a, R> as Source>⟧.readings result.src) 0)
-        words.now.items bytes → LineSays IsItsNormalForm words.now.items bytes (Some [])
-        (⟦<StdSink<'a, R> as Sink>⟧.taken result.out) }
-    ensures no_normal_form { result.status ≡ Status.Done → (bytes : List ℕ)
-        → TellsTerm (handed (⟦<StdSource<'a, R> as Source>⟧.readings result.src) 0)
-        words.now.items bytes → LineSays TellsOfNone words.now.items bytes (Some [])
-        (⟦<StdSink<'a, R> as Sink>⟧.taken result.out) }
-
-    // `demand` has written the normal form, where there is one and enough heads were asked for.
-    ensures demanded { result.status ≡ Status.Done → (bytes : List ℕ)
-        → TellsTerm (handed (⟦<StdSource<'a, R> as Source>⟧.readings result.src) 0)
-        words.now.items bytes → LineSays IsFoundOnDemand words.now.items bytes (Some [])
-        (⟦<StdSink<'a, R> as Sink>⟧.taken result.out) }
-
-    // `equal` means that the two terms are convertible, and `different` that they aren't.
+    ensures normal_form { result.status ≡ Status.Done
+        → OfReadFiles [] (⟦<StdSource<'a, R> as Source>⟧.readings result.src) (λ files.
+        (bytes : List ℕ) → TellsTerm (files 0) words.now.items bytes
+        → LineSays IsItsNormalForm words.now.items bytes (Some [])
+        (⟦<StdSink<'a, R> as Sink>⟧.taken result.out)) }
+    ensures no_normal_form { result.status ≡ Status.Done
+        → OfReadFiles [] (⟦<StdSource<'a, R> as Source>⟧.readings result.src) (λ files.
+        (bytes : List ℕ) → TellsTerm (files 0) words.now.items bytes
+        → LineSays TellsOfNone words.now.items bytes (Some [])
+        (⟦<StdSink<'a, R> as Sink>⟧.taken result.out)) }
+    ensures demanded { result.status ≡ Status.Done
+        → OfReadFiles [] (⟦<StdSource<'a, R> as Source>⟧.readings result.src) (λ files.
+        (bytes : List ℕ) → TellsTerm (files 0) words.now.items bytes
+        → LineSays IsFoundOnDemand words.now.items bytes (Some [])
+        (⟦<StdSink<'a, R> as Sink>⟧.taken result.out)) }
     ensures two_terms { result.status ≡ Status.Done
-        → TellsFiles (handed (⟦<StdSource<'a, R> as Source>⟧.readings result.src))
-        words.now.items → LineSaysOfTwo words.now.items
-        (handed (⟦<StdSource<'a, R> as Source>⟧.readings result.src))
-        (Some []) (⟦<StdSink<'a, R> as Sink>⟧.taken result.out) }
+        → OfReadFiles [] (⟦<StdSource<'a, R> as Source>⟧.readings result.src) (λ files.
+        TellsFiles files words.now.items
+        → LineSaysOfTwo words.now.items files (Some [])
+        (⟦<StdSink<'a, R> as Sink>⟧.taken result.out)) }
 
-    // `Done` of a job with a file comes after the end of the input was seen, and no call failed.
+    // `Done` of a job with a file comes after the end of the input was seen, and no call failed. As
+    // many names are begun at most as the job has files.
     ensures done { result.status ≡ Status.Done
         → (⟦<StdSource<'a, R> as Source>⟧.faults result.src ≡ 0)
         × (⟦<StdSink<'a, R> as Sink>⟧.faults result.out ≡ 0)
         × (0 < files_of words.now.items → ⟦<StdSource<'a, R> as Source>⟧.ended result.src ≡ true) }
+    ensures begins { ⟦<StdSource<'a, R> as Source>⟧.begins result.src ≤ files_of words.now.items }
 
-    // Where nothing failed, what was accepted is the answer to what was handed over.
+    // Where nothing failed, what was accepted is the answer: to any files that the readings are of,
+    // where their bytes are told, and to what was handed over.
     ensures exact { ⟦<StdSource<'a, R> as Source>⟧.faults result.src ≡ 0
+        → ⟦<StdSink<'a, R> as Sink>⟧.faults result.out ≡ 0 → result.status ≢ Status.NoMemory
+        → OfReadFiles [] (⟦<StdSource<'a, R> as Source>⟧.readings result.src) (λ files.
+        TellsFiles files words.now.items → (text : List ℕ)
+        × IsAnswer words.now.items files result.status text
+        × (⟦<StdSink<'a, R> as Sink>⟧.taken result.out ≡ Some text)) }
+    ensures handed { ⟦<StdSource<'a, R> as Source>⟧.faults result.src ≡ 0
         → ⟦<StdSink<'a, R> as Sink>⟧.faults result.out ≡ 0 → result.status ≢ Status.NoMemory
         → (text : List ℕ)
         × IsAnswer words.now.items (handed (⟦<StdSource<'a, R> as Source>⟧.readings result.src))
@@ -89,22 +104,23 @@ fn run<'a, R: Files + Input + Print + Threads + Wait + Sync>(
 
     // And what holds of an answer's text holds of it: what the job's own term says of it, what
     // every complete run tells of it, and that what can be done is done.
-    ensures tree { result.status ≡ Status.Done → (bytes : List ℕ)
-        → TellsTerm (handed (⟦<StdSource<'a, R> as Source>⟧.readings result.src) 0)
-        words.now.items bytes → WritesTree words.now.items bytes (Some [])
-        (⟦<StdSink<'a, R> as Sink>⟧.taken result.out) }
+    ensures tree { result.status ≡ Status.Done
+        → OfReadFiles [] (⟦<StdSource<'a, R> as Source>⟧.readings result.src) (λ files.
+        (bytes : List ℕ) → TellsTerm (files 0) words.now.items bytes
+        → WritesTree words.now.items bytes (Some [])
+        (⟦<StdSink<'a, R> as Sink>⟧.taken result.out)) }
     ensures every_run { ⟦<StdSource<'a, R> as Source>⟧.faults result.src ≡ 0
-        → ⟦<StdSink<'a, R> as Sink>⟧.faults result.out ≡ 0 → (bytes : List ℕ)
-        → TellsTerm (handed (⟦<StdSource<'a, R> as Source>⟧.readings result.src) 0)
-        words.now.items bytes → result.status ≢ Status.NoMemory
+        → ⟦<StdSink<'a, R> as Sink>⟧.faults result.out ≡ 0 → result.status ≢ Status.NoMemory
+        → OfReadFiles [] (⟦<StdSource<'a, R> as Source>⟧.readings result.src) (λ files.
+        (bytes : List ℕ) → TellsTerm (files 0) words.now.items bytes
         → EveryRunTells words.now.items bytes result.status (Some [])
-        (⟦<StdSink<'a, R> as Sink>⟧.taken result.out) }
+        (⟦<StdSink<'a, R> as Sink>⟧.taken result.out)) }
     ensures completeness { ⟦<StdSource<'a, R> as Source>⟧.faults result.src ≡ 0
-        → ⟦<StdSink<'a, R> as Sink>⟧.faults result.out ≡ 0 → AskForWhatCanBeDone words.now.items
-        (handed (⟦<StdSource<'a, R> as Source>⟧.readings result.src))
-        → IsDoneOrNothing words.now.items
-        (handed (⟦<StdSource<'a, R> as Source>⟧.readings result.src)) result.status (Some [])
-        (⟦<StdSink<'a, R> as Sink>⟧.taken result.out) }
+        → ⟦<StdSink<'a, R> as Sink>⟧.faults result.out ≡ 0
+        → OfReadFiles [] (⟦<StdSource<'a, R> as Source>⟧.readings result.src) (λ files.
+        AskForWhatCanBeDone words.now.items files
+        → IsDoneOrNothing words.now.items files result.status (Some [])
+        (⟦<StdSink<'a, R> as Sink>⟧.taken result.out)) }
 {
     let mut src = StdSource::new(rt);
     let mut out = StdSink::new(rt);
