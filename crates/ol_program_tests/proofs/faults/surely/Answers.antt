@@ -1,5 +1,6 @@
-use Rattle.std.proofs.Common.{◌≤◌, arith}
+use Rattle.std.proofs.Common.{◌≤◌, Some, arith}
 use Rattle.ol_io.specs.Outside.{Rose}
+use Rattle.ol_io.specs.Sure.{bytes_of}
 use Rattle.ol_program_tests.proofs.faults.surely.Goals as goal
 
 -- a count that stays 0 has not risen
@@ -7,4 +8,5 @@ never_rose : Rose 0 0 → ⊥
 never_rose rose = let risen : 1 ≤ 0 = rose.risen in absurd (omega (arith, risen))
 
 pub returns-clause-done : goal.returns-clause-done
-returns-clause-done g c = λ can. c.ol.ensures.completeness can never_rose never_rose
+returns-clause-done g c = λ can.
+    c.ol.ensures.completeness (λ _ name. Some (bytes_of c.args.src.now.files name)) c.ol.ensures.told can never_rose never_rose
