@@ -1,5 +1,5 @@
 -- What passed through adapters of which no call was made before.
-use Rattle.std.proofs.Common.{◌≡◌, ◌≢◌, ◌<◌, ◌⊎◌, inl, inr, ℕ, zero, suc, List, [], ◌++◌, Some, String, Global, refl, ap, sym, ◌∙◌, subst, append-nil, arith}
+use Rattle.std.proofs.Common.{◌≡◌, ◌≢◌, ◌<◌, ◌≤◌, ◌+◌, ◌⊎◌, inl, inr, ℕ, zero, suc, List, [], ◌++◌, Some, String, Global, refl, ap, sym, ◌∙◌, subst, append-nil, arith}
 use Rattle.ol_io.specs.Outside.{Rose, Appended}
 use Rattle.ol_io.specs.Readings.{Reading, AreOfSince, handed}
 use Rattle.ol_cli.specs.declared.status.Status.{Status}
@@ -24,6 +24,10 @@ none_in st before (suc n) e done p told = elim (told (omega (arith, e)) p) [
   | inl r ↦ (let k : status.Done ≡ status.ReadFault = sym done ∙ r in absurd (cc))
   | inr m ↦ (let k : status.Done ≡ status.NoMemory = sym done ∙ m in absurd (cc))
 ]
+
+-- no more than these were begun, as none were before
+pub begun_at_most : (before begun most : ℕ) → before ≡ 0 → begun ≤ before + most → begun ≤ most
+begun_at_most before begun most e h = omega (arith, e, h)
 
 -- files of the readings since none were made are files of the readings since those of the start
 pub of_none : (files : Files) (old new : List Reading) → old ≡ [] → AreOfSince files [] new →

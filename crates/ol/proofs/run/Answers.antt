@@ -1,11 +1,11 @@
 -- The contract of the call that `main` makes: that of `ol`, of any files of its readings, over adapters of which no call was made before.
-use Rattle.std.proofs.Common.{◌≤◌, ◌+◌, Some, subst}
+use Rattle.std.proofs.Common.{Some, subst}
 use Rattle.ol_cli.specs.Jobs.{files_of}
 use Rattle.ol_cli.specs.NormalForms.{LineSays, IsItsNormalForm, TellsOfNone, IsFoundOnDemand}
 use Rattle.ol_cli.specs.NormalForms.{LineSaysOfTwo, PlainDemandFinds, PlainEqualSays, PlainLineSays}
 use Rattle.ol_cli.specs.Sources.{EveryRunTells, WritesTree}
 use Rattle.ol_cli.specs.Completeness.{IsDoneOrNothing}
-use Rattle.ol.proofs.Passing.{all_taken, none_in, none_out, passing, no_rise, of_none}
+use Rattle.ol.proofs.Passing.{all_taken, begun_at_most, none_in, none_out, passing, no_rise, of_none}
 use Rattle.ol.proofs.run.Goals as goal
 
 pub returns-clause-plain : goal.returns-clause-plain
@@ -166,8 +166,9 @@ returns-clause-done g c = λ done. (
 )
 
 pub returns-clause-begins : goal.returns-clause-begins
-returns-clause-begins g c = subst (λ n. c.ol-outcome.new.src.begins ≤ n + files_of c.args.words.now.items)
-    c.new-src.ensures.begins c.ol-outcome.ensures.begins
+returns-clause-begins g c =
+    begun_at_most c.new-src.result.begins c.ol-outcome.new.src.begins
+    (files_of c.args.words.now.items) c.new-src.ensures.begins c.ol-outcome.ensures.begins
 
 pub returns-clause-exact : goal.returns-clause-exact
 returns-clause-exact g c = λ f w has files of tells.
