@@ -4,19 +4,27 @@
     ol run NAME | python3 examples/caret.py NAME
 
 Lines and columns are counted from 1. A column is a character: λ, two bytes, is one. Where the text ended too early,
-the caret stands behind what is there. The status is 2 where a place is shown, else 0.
+the caret stands behind what is there. NAME is the file that `ol` read: `-` can't be read again, since standard input is
+the answer here. The status is 2 where a place is shown, 1 where NAME can't be read or isn't said, else 0.
 """
 import codecs
 import re
 import sys
 
+if len(sys.argv) != 2:
+    sys.exit("usage: ol run NAME | python3 examples/caret.py NAME")
 answer = sys.stdin.read()
 found = re.fullmatch(r"syntax at byte (\d+)\n", answer)
 if not found:
     sys.stdout.write(answer)
     sys.exit(0)
-with open(sys.argv[1], "rb") as file:
-    text = file.read()
+try:
+    with open(sys.argv[1], "rb") as file:
+        text = file.read()
+except OSError as fault:
+    why = "standard input is the answer of `ol`: put the term into a file" if sys.argv[1] == "-" else fault.strerror
+    sys.stdout.write(answer)
+    sys.exit(f"caret.py: {sys.argv[1]} can't be read: {why}")
 before = text[:int(found.group(1))]
 at_end = len(before) == len(text)
 if at_end:

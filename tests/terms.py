@@ -10,6 +10,15 @@ sys.setrecursionlimit(20_000)
 TOKEN = re.compile(r"(?:[ \t\r\n]|#[^\n]*)*(?:([A-Za-z_][A-Za-z0-9_']*)|([\\λ.=()])|$)")
 
 
+def text_of(name):
+    """The text of a term file. Where it can't be read, the script ends with a line that says so."""
+    try:
+        with open(name, encoding="utf-8", errors="replace") as file:
+            return file.read()
+    except OSError as fault:
+        sys.exit(f"{name} can't be read: {fault.strerror}")
+
+
 def tokens(text):
     at, found = 0, []
     while at < len(text):
