@@ -1,5 +1,8 @@
 """Nets as `ol net` and `ol view` write them: read, written, and compared up to the numbers of their nodes."""
 import collections
+import os
+
+HERE = os.path.dirname(os.path.realpath(__file__))
 
 SLOTS = {"lam": 3, "app": 3, "fan": 3, "croissant": 2, "bracket": 2, "eraser": 1}
 RULES = ["beta", "fan", "croissant", "bracket", "cross-fan", "cross-croissant", "cross-bracket", "erase"]
@@ -92,10 +95,34 @@ def write(net):
     return "".join(text + [f"link {word[one]} {word[other]}\n" for one, other in links])
 
 
+def write_view(net, steps):
+    """What `ol view` shows of the net after so many steps, with the numbers that the nodes have."""
+    lines = [f"step {steps}", f"nodes {len(net.nodes)}"] + [f"f{k} {name(net.linked['f', k])}" for k in range(net.free)]
+    for n, (kind, index) in sorted(net.nodes.items()):
+        lines.append(" ".join([str(n), kind, index, *(name(net.linked[n, s]) for s in range(SLOTS[kind]))]))
+    return "".join(line + "\n" for line in lines)
+
+
 def facing(net):
     """The pairs of nodes whose slots 0 are joined, the smaller number first."""
     ahead = [(n, net.linked[n, 0]) for n in sorted(net.nodes)]
     return [(n, other[0]) for n, other in ahead if other[0] != "f" and other[1] == 0 and n < other[0]]
+
+
+def sections(file, first):
+    """Each record of a file beside this one, as a dict from a section's name to its status and text. A record begins
+    with the section `first`."""
+    lines = open(os.path.join(HERE, file), encoding="utf-8").read().split("\n")
+    at, record = 0, {}
+    while at < len(lines) - 1:
+        section, status, count = lines[at].split()
+        if section == first and record:
+            yield record
+            record = {}
+        record[section] = int(status), "".join(line + "\n" for line in lines[at + 1:at + 1 + int(count)])
+        at += 1 + int(count)
+    if record:
+        yield record
 
 
 def told(net, number):
