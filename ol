@@ -39,8 +39,7 @@ if is_stale "$proved" "$here/crates.txt" "$here"/crates/*/src "$here"/crates/*/s
     tell "this program isn't proved on this machine yet. ./prove proves it."
   fi
 fi
-# The shared words of a run are one large block of memory. With large pages it takes a fraction of the time to have it, and memory that
-# was freed is kept for what is wanted next; where the C library or the system knows of none of this, it changes nothing.
-malloc=glibc.malloc
-export GLIBC_TUNABLES="${GLIBC_TUNABLES:-$malloc.hugetlb=1:$malloc.mmap_max=0:$malloc.trim_threshold=4294967296:$malloc.top_pad=67108864}"
+# The shared words of a run are one large block of memory. With large pages it takes a fraction of the time to have it; where the C
+# library or the system knows of none, this changes nothing.
+export GLIBC_TUNABLES="${GLIBC_TUNABLES:-glibc.malloc.hugetlb=1}"
 exec "$program" "$@"
