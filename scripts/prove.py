@@ -1,7 +1,8 @@
-"""Proves all crates side by side, each once those that it stands on are proved, and then builds the program. See ../prove."""
+"""Proves the crates below `ol` side by side, each once those that it stands on are proved, and then builds the program. See ../prove."""
 import os
 import re
 import shutil
+import signal
 import subprocess
 import sys
 import time
@@ -20,9 +21,21 @@ def stop(text):
     sys.exit(1)
 
 
-def count_of_crates():
+def crates_below(program):
+    """The crates of the repository that this one stands on."""
+    rows = {}
     with open(TOP + '/crates.txt', encoding='utf-8') as file:
-        return sum(':' in row.partition('#')[0] for row in file)
+        for row in file:
+            name, colon, rest = row.partition('#')[0].partition(':')
+            if colon:
+                rows[name.split()[0]] = rest.split()
+    below, todo = set(), [program]
+    while todo:
+        for it in rows.get(todo.pop(), ()):
+            if it in rows and it not in below:
+                below.add(it)
+                todo.append(it)
+    return below
 
 
 def check_the_machine():
@@ -40,23 +53,30 @@ def clock(start):
     return f'{took // 60:3}:{took % 60:02}'
 
 
-def prove_all(lanes, crates, start):
-    """Runs `rt all check`, and tells each crate when its proof ends. What a crate's check printed is kept until it is known to be proved."""
+def prove_below(top, lanes, count, start):
+    """Has `rt all check` prove the crates below this one, and tells each when its proof ends. It is stopped once they are proved: what is
+    left stands on all of them, and gets more processors from a command of its own."""
+    left, ended = crates_below(top), 0
     words = ['rt', 'all', 'check', '--jobs', str(lanes)]
-    running = subprocess.Popen(words, cwd=TOP, stdin=subprocess.DEVNULL, stdout=subprocess.PIPE, stderr=subprocess.STDOUT, text=True, errors='replace')
-    name, said, ended = '', [], 0
+    running = subprocess.Popen(words, cwd=TOP, stdin=subprocess.DEVNULL, stdout=subprocess.PIPE, stderr=subprocess.STDOUT, text=True,
+                               errors='replace', start_new_session=True)
+    said = []
     for row in running.stdout:
         found = re.fullmatch(r'== (\w+)\n', row)
-        if found:
-            name, said = found.group(1), []
-            if name != 'summary':
-                ended += 1
-                tell(f'{ended:2} of {crates} {clock(start)}  {name}')
-        else:
-            said.append(row)
-    if running.wait():
+        if found and found.group(1) == 'summary':
+            break
+        said.append(row)
+        if found and found.group(1) in left:
+            ended, said = ended + 1, []
+            left.remove(found.group(1))
+            tell(f'{ended:2} of {count} {clock(start)}  {found.group(1)}')
+            if not left:
+                os.killpg(running.pid, signal.SIGTERM)
+                break
+    running.stdout.close()
+    if running.wait() > 0:
         print(''.join(said), end='')
-        stop('not every crate is proved: above is what `rt` printed last, and `rt check` in that crate\'s folder says why.')
+        stop("not every crate is proved: above is what `rt` printed last; `rt check` in a crate's folder says more.")
 
 
 def build():
@@ -73,13 +93,14 @@ def main():
     # a lane whose crate waits for those below it uses no processor, so there are two more
     lanes = int(sys.argv[1]) if sys.argv[1:] and sys.argv[1].isdigit() else processors + 2
     check_the_machine()
-    crates, start = count_of_crates(), time.time()
-    tell(f'{crates} crates, at most {lanes} at a time.')
-    prove_all(lanes, crates, start)
+    count, start = len(crates_below('ol')) + 1, time.time()
+    tell(f'{count} crates, at most {lanes} at a time; the last two by all processors together.')
+    prove_below('ol_cli', lanes, count, start)
     build()
     program = TOP + '/crates/ol/out/ol'
     os.utime(program)
-    tell(f'proved and built after{clock(start)}: {os.path.relpath(program)}. ./ol runs it from now on.')
+    tell(f'{count:2} of {count} {clock(start)}  ol')
+    tell(f'proved and built: {os.path.relpath(program)}. ./ol runs it from now on.')
 
 
 if __name__ == '__main__':
