@@ -1,7 +1,8 @@
 """Proves the crates below `ol` side by side, each once those that it stands on are proved, and then builds the program. See ../prove."""
-import concurrent.futures
 import os
+import re
 import shutil
+import signal
 import subprocess
 import sys
 import time
@@ -21,23 +22,19 @@ def stop(text):
 
 
 def crates_below(program):
-    """Each crate of the repository that the program stands on, and those that it stands on itself, lowest first."""
+    """The crates of the repository that this one stands on."""
     rows = {}
     with open(TOP + '/crates.txt', encoding='utf-8') as file:
         for row in file:
             name, colon, rest = row.partition('#')[0].partition(':')
             if colon:
                 rows[name.split()[0]] = rest.split()
-    below = {}
-
-    def add(name):
-        if name not in below:
-            mine = [it for it in rows[name] if it in rows]
-            for it in mine:
-                add(it)
-            below[name] = mine
-
-    add(program)
+    below, todo = set(), [program]
+    while todo:
+        for it in rows.get(todo.pop(), ()):
+            if it in rows and it not in below:
+                below.add(it)
+                todo.append(it)
     return below
 
 
@@ -51,40 +48,58 @@ def check_the_machine():
         stop(f'less than {ROOM} GB of disk are free, which the proofs take.')
 
 
-def prove(name, is_program):
-    """Proves one crate over what is proved below it. The program is built as well."""
-    words = ['rt', 'run'] if is_program else ['rt', 'lib', '--jobs', '1']
-    ran = subprocess.run(words, cwd=f'{TOP}/crates/{name}', stdin=subprocess.DEVNULL, stdout=subprocess.PIPE, stderr=subprocess.STDOUT,
+def clock(start):
+    took = int(time.time() - start)
+    return f'{took // 60:3}:{took % 60:02}'
+
+
+def prove_below(top, lanes, count, start):
+    """Has `rt all check` prove the crates below this one, and tells each when its proof ends. It is stopped once they are proved: what is
+    left stands on all of them, and gets more processors from a command of its own."""
+    left, ended = crates_below(top), 0
+    words = ['rt', 'all', 'check', '--jobs', str(lanes)]
+    running = subprocess.Popen(words, cwd=TOP, stdin=subprocess.DEVNULL, stdout=subprocess.PIPE, stderr=subprocess.STDOUT, text=True,
+                               errors='replace', start_new_session=True)
+    said = []
+    for row in running.stdout:
+        found = re.fullmatch(r'== (\w+)\n', row)
+        if found and found.group(1) == 'summary':
+            break
+        said.append(row)
+        if found and found.group(1) in left:
+            ended, said = ended + 1, []
+            left.remove(found.group(1))
+            tell(f'{ended:2} of {count} {clock(start)}  {found.group(1)}')
+            if not left:
+                os.killpg(running.pid, signal.SIGTERM)
+                break
+    running.stdout.close()
+    if running.wait() > 0:
+        print(''.join(said), end='')
+        stop("not every crate is proved: above is what `rt` printed last; `rt check` in a crate's folder says more.")
+
+
+def build():
+    """Builds the program over what is proved. Without words it prints its usage line, with status 1."""
+    ran = subprocess.run(['rt', 'run'], cwd=TOP + '/crates/ol', stdin=subprocess.DEVNULL, stdout=subprocess.PIPE, stderr=subprocess.STDOUT,
                          text=True, errors='replace')
-    # without words the program prints its usage line, with status 1
-    well = ran.returncode == 0 or is_program and ran.returncode == 1 and 'usage: ol ' in ran.stdout
-    return well, ran.stdout
+    if ran.returncode != 0 and not (ran.returncode == 1 and 'usage: ol ' in ran.stdout):
+        print(ran.stdout)
+        stop('the program is not built: above is what `rt` printed.')
 
 
 def main():
-    lanes = int(sys.argv[1]) if sys.argv[1:] and sys.argv[1].isdigit() else len(os.sched_getaffinity(0))
+    processors = len(os.sched_getaffinity(0))
+    # a lane whose crate waits for those below it uses no processor, so there are two more
+    lanes = int(sys.argv[1]) if sys.argv[1:] and sys.argv[1].isdigit() else processors + 2
     check_the_machine()
-    below, proved, begun, start = crates_below('ol'), set(), set(), time.time()
-    tell(f'{len(below)} crates, {lanes} at a time.')
-    with concurrent.futures.ThreadPoolExecutor(lanes) as pool:
-        running = {}
-        while len(proved) < len(below):
-            for name, mine in below.items():
-                if name not in begun and len(running) < lanes and all(it in proved for it in mine):
-                    begun.add(name)
-                    running[pool.submit(prove, name, name == 'ol')] = name
-            for ended in concurrent.futures.wait(running, return_when=concurrent.futures.FIRST_COMPLETED).done:
-                name, (well, said) = running.pop(ended), ended.result()
-                if not well:
-                    print(said)
-                    for it in running:
-                        it.cancel()
-                    stop(f'{name} is not proved: above is what `rt` printed.')
-                proved.add(name)
-                took = int(time.time() - start)
-                tell(f'{len(proved):2} of {len(below)}  {took // 60:3}:{took % 60:02}  {name}')
+    count, start = len(crates_below('ol')) + 1, time.time()
+    tell(f'{count} crates, at most {lanes} at a time; the last two by all processors together.')
+    prove_below('ol_cli', lanes, count, start)
+    build()
     program = TOP + '/crates/ol/out/ol'
     os.utime(program)
+    tell(f'{count:2} of {count} {clock(start)}  ol')
     tell(f'proved and built: {os.path.relpath(program)}. ./ol runs it from now on.')
 
 

@@ -14,7 +14,8 @@ use Rattle.ol_context.proofs.Short.{few, IsLive, Down, first, next, down_one, sh
 use Rattle.ol_context.proofs.Ways.{way_exits, way_passes}
 use Rattle.ol_edges.proofs.Lists.{in_map}
 
-in_last : {X : Type 0} (z x : X) (xs : List X) → IsIn z (xs ++ x ∷ []) → IsIn z xs ⊎ (z ≡ x)
+-- what is in a list with one more is in the list, or is that one
+pub in_last : {X : Type 0} (z x : X) (xs : List X) → IsIn z (xs ++ x ∷ []) → IsIn z xs ⊎ (z ≡ x)
 in_last z x [] (inl e) = inr e
 in_last z x [] (inr h) = absurd h
 in_last z x (y ∷ ys) (inl e) = inl (inl e)
@@ -24,7 +25,7 @@ in_last z x (y ∷ ys) (inr h) = go (in_last z x ys h)
     go (inl h) = inl (inr h)
     go (inr e) = inr e
 
-once_more : {X : Type 0} (x : X) (xs : List X) → IsOnce xs → (IsIn x xs → ⊥) → IsOnce (xs ++ x ∷ [])
+pub once_more : {X : Type 0} (x : X) (xs : List X) → IsOnce xs → (IsIn x xs → ⊥) → IsOnce (xs ++ x ∷ [])
 once_more x [] o h = ((λ k. k), tt)
 once_more x (y ∷ ys) o h = (fresh, once_more x ys o.1 (λ k. h (inr k)))
   where

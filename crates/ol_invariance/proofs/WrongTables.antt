@@ -88,7 +88,7 @@ is_change e (inward {s = s} b f) = absurd (omega arith)
 is_change e (outward {s = s} b f) = (s, f)
 
 -- a mark stands at its level
-at_its_level : (n s : ℕ) (d : Context) → at_level n (mark s) d n ≡ marked s (d n)
+pub at_its_level : (n s : ℕ) (d : Context) → at_level n (mark s) d n ≡ marked s (d n)
 at_its_level zero s d = refl
 at_its_level (suc n) s d = at_its_level n s (tail d)
 

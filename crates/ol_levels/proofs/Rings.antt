@@ -17,13 +17,7 @@ use Rattle.ol_readback.specs.declared.answers.ReadNode.TheVariants as node
 use Rattle.ol_levels.specs.Levels.{CanStand, depth_beside, out_beside, IsLevelled}
 use Rattle.ol_levels.specs.Rings.{ring_net, RingIsCut}
 use Rattle.ol_levels.proofs.Copies.{opposite}
-
-depth : NamedPort ℕ → ℕ
-depth (free zero) = 0
-depth (free (suc f)) = 1
-depth (slot zero zero) = 1
-depth (slot zero (suc s)) = 0
-depth (slot (suc x) s) = 1
+use Rattle.ol_levels.proofs.Examples.{depth, of_pair, croissant_stands, fan_stands}
 
 is_out : NamedPort ℕ → Bool
 is_out (free zero) = false
@@ -34,16 +28,11 @@ is_out (slot x (suc s)) = true
 Agree : NamedPort ℕ → NamedPort ℕ → Type 0
 Agree p q = (depth p ≡ depth q) × (is_out p ≡ not (is_out q))
 
-agree_at : (p q : NamedPort ℕ) (l : NamedPort ℕ × NamedPort ℕ) → (p, q) ≡ l → Agree l.0 l.1 →
-    Agree p q
-agree_at p q l e h =
-    subst (λ (l : NamedPort ℕ × NamedPort ℕ). Agree l.0 l.1) (sym e) h
-
 agree : (p q : NamedPort ℕ) → IsIn (p, q) ring_net.links → Agree p q
 unfolding Agree depth is_out
-agree p q (inl e) = agree_at p q (free 0, slot 0 1) e (refl, refl)
-agree p q (inr (inl e)) = agree_at p q (slot 0 0, slot 1 2) e (refl, refl)
-agree p q (inr (inr (inl e))) = agree_at p q (slot 1 0, slot 1 1) e (refl, refl)
+agree p q (inl e) = of_pair Agree p q (free 0, slot 0 1) e (refl, refl)
+agree p q (inr (inl e)) = of_pair Agree p q (slot 0 0, slot 1 2) e (refl, refl)
+agree p q (inr (inr (inl e))) = of_pair Agree p q (slot 1 0, slot 1 1) e (refl, refl)
 agree p q (inr (inr (inr h))) = absurd h
 
 linked : (p q : NamedPort ℕ) → Linked ring_net p q → Agree p q
@@ -72,22 +61,14 @@ fan_beside : Beside 1 kind.Fan
 unfolding depth is_out
 fan_beside s b = (refl, refl)
 
-croissant_stands : CanStand kind.Croissant 0 (depth (slot 0 0)) (is_out (slot 0 0))
-unfolding depth
-croissant_stands = omega arith
-
-fan_stands : CanStand kind.Fan 0 (depth (slot 1 0)) (is_out (slot 1 0))
-unfolding depth
-fan_stands = omega arith
-
 levelled : IsLevelled ring_net
 unfolding Agree depth is_out
 levelled = record {
   depth = depth;
   is_out = is_out;
   links = linked;
-  stands = by_node (λ x k i. CanStand k i (depth (slot x 0)) (is_out (slot x 0))) croissant_stands
-      fan_stands;
+  stands = by_node (λ x k i. CanStand k i (depth (slot x 0)) (is_out (slot x 0)))
+      (croissant_stands (is_out (slot 0 0))) (fan_stands (is_out (slot 1 0)));
   beside = λ x k i s h b. by_node (λ x k i. Beside x k) croissant_beside fan_beside x k i h s b;
   root = (refl, refl);
   names = λ f. (refl, refl);

@@ -1,0 +1,9 @@
+-- The law of wrong lines.
+use Rattle.ol_lines.proofs.wrong_lines_mislead.Goals as goal
+use Rattle.ol_lines.proofs.WrongLines as wrong
+
+pub returns-clause-other : goal.returns-clause-other
+returns-clause-other g = wrong.other_term
+
+pub returns-clause-reduct : goal.returns-clause-reduct
+returns-clause-reduct g = wrong.reduct
