@@ -1,7 +1,7 @@
 -- Demand order is least on nets of terms.
 use Rattle.std.proofs.Common.{arith}
 use Rattle.ol_completeness.specs.Terms.{TermIsReadLeast, TermIsDemandedLeast, CompleteRunIsEnough}
-use Rattle.ol_completeness.specs.Terms.{TermIsReadByTheLeast, TermIsReadWhereOneServes}
+use Rattle.ol_completeness.specs.Terms.{TermNetIsFit, TermIsReadByTheLeast, TermIsReadWhereOneServes}
 use Rattle.ol_demand.specs.Answers.{start_of}
 use Rattle.ol_completeness.proofs.CompleteRuns.{complete_is_enough, demanded_is_least}
 use Rattle.ol_completeness.proofs.Least.{demand_is_least}
@@ -30,7 +30,15 @@ term_is_read_by_the_least τ t names h g is_net same M heads journal places d =
     demand_is_the_least (start_of g) M heads journal places (start τ t names h g is_net same)
     (clear τ t names h g is_net same) d
 
+pub term_net_is_fit : TermNetIsFit
+term_net_is_fit τ t names h g is_net same = (
+  start τ t names h g is_net same,
+  clear τ t names h g is_net same,
+  let e = same.free_ports in
+      omega arith,
+)
+
 pub term_is_read_where_one_serves : TermIsReadWhereOneServes
 term_is_read_where_one_serves τ t names h g is_net same P heads other run enough =
-    ends_where_one_serves (start_of g) P heads other (start τ t names h g is_net same)
-    (clear τ t names h g is_net same) (let e = same.free_ports in omega arith) run enough
+    let fit = term_net_is_fit τ t names h g is_net same in
+    ends_where_one_serves (start_of g) P heads other fit.0 fit.1 fit.2 run enough

@@ -1,6 +1,7 @@
 -- A run that has rewritten all pairs of another leads on from that one's net, by birth names. So
 -- what can be read from the one net can be read from the other.
-use Rattle.std.proofs.Common.{◌≡◌, ℕ, ◌⊎◌, inl, inr, List, [], ◌∷◌, refl, sym, subst}
+use Rattle.std.proofs.Common.{◌≡◌, ℕ, ◌+◌, ◌⊎◌, inl, inr, List, [], ◌∷◌, length, refl, sym}
+use Rattle.std.proofs.Common.{subst, arith}
 use Rattle.ol_edges.specs.Edges.{IsIn}
 use Rattle.ol_invariance.proofs.Runs.{run_keeps as paths_kept}
 use Rattle.ol_net.specs.declared.parts.Kind.{Kind}
@@ -15,6 +16,7 @@ use Rattle.ol_diamond.specs.Births.{BirthName, init, born, IsPart, IsBirthNet}
 use Rattle.ol_diamond.specs.Laws.{RunByBirths}
 use Rattle.ol_diamond.specs.Runs.{BirthPair, IsSamePair, IsPairStep, IsPairRun, end, then}
 use Rattle.ol_diamond.proofs.Confluence.{step_keeps, run_keeps, pair_trans, pair_sym}
+use Rattle.ol_diamond.proofs.OneThreadCounts.{as_many}
 use Rattle.ol_diamond.proofs.OneThreadRuns.{run_net, start_alike}
 use Rattle.ol_diamond.proofs.Renaming.{under_renamed}
 use Rattle.ol_demand.specs.Laws.{IsStart, ArePairsOf}
@@ -89,16 +91,18 @@ not_again K A (q ∷ ps) p b (then {M = L} s t) w x (inl e) h = go h.1
 
 -- ---- a run that has rewritten these pairs
 
-record GoesOnTo (A Q : NamedNet BirthName) : Type 0 where
+record GoesOnTo (A Q : NamedNet BirthName) (ps qs : List BirthPair) : Type 0 where
   rest : List BirthPair
   after : NamedNet BirthName
   run : IsPairRun A rest after
   same : SameNet Q after
+  many : length ps + length rest ≡ length qs
 
 goes_on : (N A Q : NamedNet BirthName) (ps qs : List BirthPair) → IsBirthNet N →
     IsPairRun N ps A → IsPairRun N qs Q → ((p : BirthPair) → IsIn p ps → IsAmong p qs) →
-    GoesOnTo A Q
-goes_on N A Q [] qs b end r h = record { rest = qs; after = Q; run = r; same = same_refl Q }
+    GoesOnTo A Q ps qs
+goes_on N A Q [] qs b end r h =
+    record { rest = qs; after = Q; run = r; same = same_refl Q; many = omega arith }
 goes_on N A Q (p ∷ ps) qs b (then {M = K} s t) r h =
     let f = front N K Q p qs b s r (h p (inl refl)) in
     let b' = step_keeps N K p b s in
@@ -109,6 +113,7 @@ goes_on N A Q (p ∷ ps) qs b (then {M = K} s t) r h =
       after = y.after;
       run = y.run;
       same = same_trans Q f.after y.after f.same y.same;
+      many = let w = f.shorter in let m = y.many in omega arith;
     }
   where
     later : (rest : List BirthPair) → ((m : BirthPair) → IsIn m qs → IsSamePair m p ⊎ IsIn m rest) →
@@ -120,6 +125,11 @@ goes_on N A Q (p ∷ ps) qs b (then {M = K} s t) r h =
             absurd (not_again K A ps p b' t (gone N K p b s) x i (pair_trans p m x
             (pair_sym m p z) e))
         go (inr k) = (m, k, e)
+
+none_beyond : (A W : NamedNet BirthName) (ps : List BirthPair) → IsPairRun A ps W →
+    length ps ≡ 0 → SameNet A W
+none_beyond A W [] end e = same_refl A
+none_beyond A W (p ∷ ps) r e = absurd (omega arith)
 
 none_run : (A W : NamedNet BirthName) (ps : List BirthPair) → IsBirthNet A → IsPairRun A ps W →
     (p : ℕ) (c : Context) → MeetsNone A p c → MeetsNone W p c
@@ -140,7 +150,7 @@ module _ (N M P : NamedNet NodeName) (journal other : List Entry) (start : IsSta
   net_of_other : IsNet P
   net_of_other = run_net N P 0 other start.net start.named run'
 
-  beyond : GoesOnTo r.after s.after
+  beyond : GoesOnTo r.after s.after r.pairs s.pairs
   beyond =
       goes_on (net_under r.birth N) r.after s.after r.pairs s.pairs r.start r.run
       (subst (λ B. IsPairRun B s.pairs s.after) (start_alike N start.net start.named s.birth r.birth
@@ -167,3 +177,13 @@ module _ (N M P : NamedNet NodeName) (journal other : List Entry) (start : IsSta
         λ t. (k' p c q d).0 ((k p c q d).1 t),
         λ t. (k p c q d).0 ((k' p c q d).1 t),
       )) none_there
+
+  -- a run of the same pairs, and of no more, leads to the same net by birth names
+  pub one_net : length journal ≡ length other → SameNet r.after s.after
+  one_net e =
+      let a = as_many r.birth 0 journal r.pairs r.births in
+      let b = as_many s.birth 0 other s.pairs s.births in
+      let m = beyond.many in
+      same_trans r.after beyond.after s.after
+      (none_beyond r.after beyond.after beyond.rest beyond.run (omega arith))
+      (same_sym s.after beyond.after beyond.same)

@@ -22,7 +22,7 @@ use Rattle.ol_completeness.proofs.Frozen.{meets_of}
 use Rattle.ol_completeness.proofs.Lasting.{lasts_run, lasts_step, enough_lasts}
 use Rattle.ol_completeness.proofs.Least.{demand_is_least}
 use Rattle.ol_completeness.proofs.Listing.{step_turn}
-use Rattle.ol_completeness.proofs.Serving.{lasts_beyond}
+use Rattle.ol_completeness.proofs.Serving.{lasts_beyond, one_net}
 
 -- ---- runs that go on
 
@@ -82,12 +82,16 @@ least_is_in_common N heads journal l q = (
 )
 
 pub the_least_is_one : TheLeastIsOne
-the_least_is_one N heads journal journal' l l' =
+the_least_is_one N heads journal journal' s clear l l' =
     let a = l.least.no_shorter journal' l'.least.net l'.least.run l'.enough in
-    let b = l'.least.no_shorter journal l.least.net l.least.run l.enough in (
-      l.least.needed journal' l'.least.net l'.least.run l'.enough l'.least.births,
-      l'.least.needed journal l.least.net l.least.run l.enough l.least.births,
+    let b = l'.least.no_shorter journal l.least.net l.least.run l.enough in
+    let all = l.least.needed journal' l'.least.net l'.least.run l'.enough l'.least.births in
+    let back = l'.least.needed journal l.least.net l.least.run l.enough l.least.births in (
+      all,
+      back,
       omega arith,
+      one_net N l.least.net l'.least.net journal journal' s clear l.least.run l'.least.run
+          l.least.births l'.least.births all (omega arith),
     )
 
 -- ---- wrong demands

@@ -2,7 +2,7 @@
 -- serves to read the same places exactly where it has rewritten all that demand order rewrites.
 use Rattle.std.specs.Prelude.{◌≡◌, ℕ, ◌<◌, ◌≤◌, ◌↔◌, List, [], ◌∷◌, ◌++◌, length}
 use Rattle.ol_edges.specs.Edges.{IsIn}
-use Rattle.ol_net.specs.Nets.{NamedNet}
+use Rattle.ol_net.specs.Nets.{NamedNet, SameNet}
 use Rattle.ol_rules.specs.declared.journal.NodeName.{NodeName}
 use Rattle.ol_rules.specs.declared.journal.Entry.{Entry}
 use Rattle.ol_rules.specs.Runs.{IsEntryStep, IsRun}
@@ -60,12 +60,13 @@ LeastIsInCommon = (N : NamedNet NodeName) (heads : ℕ) (journal : List Entry) �
     (l : IsTheLeast N heads journal) (q : BirthPair) →
     IsInEach N heads q ↔ ((p : BirthPair) × IsIn p l.least.births.pairs × IsSamePair p q)
 
--- There is but one: two of them have the same pairs, and are of one length.
+-- There is but one, up to the order of its pairs: two of them have the same pairs and one length,
+-- and lead to one net, by birth names.
 abbrev pub TheLeastIsOne : Type 0
-TheLeastIsOne = (N : NamedNet NodeName) (heads : ℕ) (journal journal' : List Entry) →
-    (l : IsTheLeast N heads journal) (l' : IsTheLeast N heads journal') →
+TheLeastIsOne = (N : NamedNet NodeName) (heads : ℕ) (journal journal' : List Entry) → IsStart N →
+    StaysClear N → (l : IsTheLeast N heads journal) (l' : IsTheLeast N heads journal') →
     ArePairsOf l.least.births l'.least.births × ArePairsOf l'.least.births l.least.births
-    × (length journal ≡ length journal')
+    × (length journal ≡ length journal') × SameNet l.least.births.after l'.least.births.after
 
 -- And where some run from a net with a root serves for these places, the demand run has an end.
 abbrev pub EndsWhereOneServes : Type 0
