@@ -29,8 +29,8 @@ use Rattle.ol_demand.proofs.Chains.{path_at}
 use Rattle.ol_demand.proofs.Turning.{IsKept, turns_kept}
 use Rattle.ol_completeness.specs.Laws.{CrossesNoStuck}
 use Rattle.ol_completeness.specs.Complete.{StaysClear}
-use Rattle.ol_completeness.specs.Least.{IsEnough, past, place, unknown, headless}
-use Rattle.ol_completeness.specs.TheLeast.{CanBeRead, EndsWhereOneServes}
+use Rattle.ol_completeness.specs.Least.{CanBeRead, IsEnough, past, place, unknown, headless}
+use Rattle.ol_completeness.specs.TheLeast.{EndsWhereOneServes}
 use Rattle.ol_completeness.proofs.Beside.{Beside, turns_beside, not_tried, path_of, none_of}
 use Rattle.ol_completeness.proofs.Chaining.{chain_ends}
 use Rattle.ol_completeness.proofs.Ending.{exit_here}

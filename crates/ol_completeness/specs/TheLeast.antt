@@ -8,16 +8,11 @@ use Rattle.ol_rules.specs.declared.journal.Entry.{Entry}
 use Rattle.ol_rules.specs.Runs.{IsEntryStep, IsRun}
 use Rattle.ol_diamond.specs.Laws.{RunByBirths}
 use Rattle.ol_diamond.specs.Runs.{BirthPair, IsSamePair}
-use Rattle.ol_readback.specs.ReadTrees.{whole_term}
 use Rattle.ol_readback.specs.declared.answers.ReadNode.{ReadNode}
 use Rattle.ol_demand.specs.Demands.{IsDemandRun, GoesOn}
 use Rattle.ol_demand.specs.Laws.{IsStart, ArePairsOf}
 use Rattle.ol_completeness.specs.Complete.{StaysClear}
-use Rattle.ol_completeness.specs.Least.{IsEnough, IsLeast}
-
--- the first places, as many as heads, can be read from net P as it is
-abbrev pub CanBeRead : NamedNet NodeName → ℕ → Type 0
-CanBeRead P heads = IsEnough P heads [] (whole_term ∷ [])
+use Rattle.ol_completeness.specs.Least.{CanBeRead, IsLeast}
 
 -- What can be read from a net as it is can be read so from each net that it is rewritten to,
 -- whatever pairs are rewritten.
