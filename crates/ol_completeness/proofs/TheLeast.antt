@@ -16,7 +16,7 @@ use Rattle.ol_demand.specs.Demands.{and_then, asks}
 use Rattle.ol_demand.proofs.Turning.{turns_kept}
 use Rattle.ol_completeness.specs.TheLeast.{EnoughIsKept, DemandIsTheLeast}
 use Rattle.ol_completeness.specs.TheLeast.{LeastIsInCommon, TheLeastIsOne, OneMoreIsNotLeast}
-use Rattle.ol_completeness.specs.TheLeast.{LongerIsNotLeast, StoppedIsNotEnough}
+use Rattle.ol_completeness.specs.TheLeast.{LongerIsNotLeast, StoppedIsNotEnough, MissingIsNotEnough}
 use Rattle.ol_completeness.proofs.Demanded.{demanded_is_enough}
 use Rattle.ol_completeness.proofs.Frozen.{meets_of}
 use Rattle.ol_completeness.proofs.Lasting.{lasts_run, lasts_step, enough_lasts}
@@ -123,3 +123,9 @@ stopped_is_not_enough N M P heads journal other s clear g run few enough =
     (and_then g.run x.turn) run enough).1 in
     let longer = length-append journal (x.entry ∷ []) in
     omega arith
+
+pub missing_is_not_enough : MissingIsNotEnough
+missing_is_not_enough N M P heads turns journal other places a s clear t run r u q i none enough =
+    let z = (demand_is_least N M P heads heads turns journal other places a s clear (omega arith) t
+    run enough).0 r u q i in
+    none z.0 z.1 z.2

@@ -9,7 +9,7 @@ use Rattle.ol_rules.specs.Runs.{IsEntryStep, IsRun}
 use Rattle.ol_diamond.specs.Laws.{RunByBirths}
 use Rattle.ol_diamond.specs.Runs.{BirthPair, IsSamePair}
 use Rattle.ol_readback.specs.declared.answers.ReadNode.{ReadNode}
-use Rattle.ol_demand.specs.Demands.{IsDemandRun, GoesOn}
+use Rattle.ol_demand.specs.Demands.{Asking, Turns, IsDemandRun, GoesOn}
 use Rattle.ol_demand.specs.Laws.{IsStart, ArePairsOf}
 use Rattle.ol_completeness.specs.Complete.{StaysClear}
 use Rattle.ol_completeness.specs.Least.{CanBeRead, IsLeast}
@@ -92,3 +92,12 @@ abbrev pub StoppedIsNotEnough : Type 0
 StoppedIsNotEnough = (N M P : NamedNet NodeName) (heads : ℕ) (journal other : List Entry) →
     IsStart N → StaysClear N → GoesOn N heads journal M → IsRun N 0 other P →
     length other ≤ length journal → CanBeRead P heads → ⊥
+
+-- Nor does a run that leaves out a pair of the demand run, or of a front part of it, however long
+-- it is and whatever it rewrites in its place.
+abbrev pub MissingIsNotEnough : Type 0
+MissingIsNotEnough = (N M P : NamedNet NodeName) (heads turns : ℕ) (journal other : List Entry)
+    (places : List ReadNode) (a : Asking) → IsStart N → StaysClear N →
+    Turns N heads turns journal places M a → IsRun N 0 other P →
+    (r : RunByBirths N journal M) (s : RunByBirths N other P) (q : BirthPair) → IsIn q r.pairs →
+    ((p : BirthPair) → IsIn p s.pairs → IsSamePair p q → ⊥) → CanBeRead P heads → ⊥
