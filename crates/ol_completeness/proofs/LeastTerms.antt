@@ -1,9 +1,13 @@
 -- Demand order is least on nets of terms.
+use Rattle.std.proofs.Common.{arith}
 use Rattle.ol_completeness.specs.Terms.{TermIsReadLeast, TermIsDemandedLeast, CompleteRunIsEnough}
+use Rattle.ol_completeness.specs.Terms.{TermNetIsFit, TermIsReadByTheLeast, TermIsReadWhereOneServes}
 use Rattle.ol_demand.specs.Answers.{start_of}
 use Rattle.ol_completeness.proofs.CompleteRuns.{complete_is_enough, demanded_is_least}
 use Rattle.ol_completeness.proofs.Least.{demand_is_least}
 use Rattle.ol_completeness.proofs.Levelled.{start, levels, clear}
+use Rattle.ol_completeness.proofs.Served.{ends_where_one_serves}
+use Rattle.ol_completeness.proofs.TheLeast.{demand_is_the_least}
 
 pub term_is_read_least : TermIsReadLeast
 term_is_read_least τ t names h g is_net same M P most heads turns journal other places a below
@@ -20,3 +24,21 @@ pub complete_run_is_enough : CompleteRunIsEnough
 complete_run_is_enough τ t names h g is_net same M heads journal places d =
     complete_is_enough (start_of g) M heads journal places (start τ t names h g is_net same)
     (clear τ t names h g is_net same) d
+
+pub term_is_read_by_the_least : TermIsReadByTheLeast
+term_is_read_by_the_least τ t names h g is_net same M heads journal places d =
+    demand_is_the_least (start_of g) M heads journal places (start τ t names h g is_net same)
+    (clear τ t names h g is_net same) d
+
+pub term_net_is_fit : TermNetIsFit
+term_net_is_fit τ t names h g is_net same = (
+  start τ t names h g is_net same,
+  clear τ t names h g is_net same,
+  let e = same.free_ports in
+      omega arith,
+)
+
+pub term_is_read_where_one_serves : TermIsReadWhereOneServes
+term_is_read_where_one_serves τ t names h g is_net same P heads other run enough =
+    let fit = term_net_is_fit τ t names h g is_net same in
+    ends_where_one_serves (start_of g) P heads other fit.0 fit.1 fit.2 run enough

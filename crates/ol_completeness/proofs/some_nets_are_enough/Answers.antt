@@ -1,6 +1,7 @@
 use Rattle.ol_completeness.proofs.some_nets_are_enough.Goals as goal
 use Rattle.ol_completeness.proofs.AsItIs.{enough_as_it_is, enough_without_heads}
 use Rattle.ol_completeness.proofs.CompleteRuns.{complete_is_enough}
+use Rattle.ol_completeness.proofs.TheLeast.{enough_is_kept}
 
 pub returns-clause-as_it_is : goal.returns-clause-as_it_is
 returns-clause-as_it_is c = enough_as_it_is
@@ -10,3 +11,6 @@ returns-clause-without_heads c = enough_without_heads
 
 pub returns-clause-complete : goal.returns-clause-complete
 returns-clause-complete c = complete_is_enough
+
+pub returns-clause-kept : goal.returns-clause-kept
+returns-clause-kept c = enough_is_kept
