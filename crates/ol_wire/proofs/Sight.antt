@@ -11,7 +11,7 @@ use Rattle.ol_wire.specs.Rule.{Table, Kept, IsView, KnowsPlan}
 use Rattle.ol_wire.specs.Moments.{Moment}
 use Rattle.ol_wire.specs.Credit.{Credited, IsRuled}
 use Rattle.ol_wire.specs.Remembered.{Remembered}
-use Rattle.ol_wire.specs.Looking.{MomentWith, sees}
+use Rattle.ol_wire.specs.Looking.{MomentWith, reads_tickets}
 
 -- a view knows one plan
 pub one_plan : (p q : Plan) (v : View) → KnowsPlan p v → KnowsPlan q v → p ≡ q
@@ -25,8 +25,8 @@ one_plan p q v a b =
 pub told_of : (p : Plan) (s : Table) (k : Kept p s) (v : View) → IsView s v → 0 < v.holds → (Q : Plan → Type 0) → Q p → (q : Plan) → KnowsPlan q v → Q q
 told_of p s k v is held Q x q knows = subst Q (one_plan p q v (k.seats.plans v is held) knows) x
 
-pub sees_allowed : (p : Plan) (slots id : ℕ) (m : Seated) → 0 < m.0.holds → Allows (IsRuled p) slots id m 0 (λ n. n) (sees (step slots 0 0 0 none) m)
-sees_allowed p slots id m held s (k, c, r) homes here small =
+pub reads_tickets_allowed : (p : Plan) (slots id : ℕ) (m : Seated) → 0 < m.0.holds → Allows (IsRuled p) slots id m 0 (λ n. n) (reads_tickets (step slots 0 0 0 none) m)
+reads_tickets_allowed p slots id m held s (k, c, r) homes here small =
     let P : List ℕ → List View → Type 0 = λ ws vs. IsRuled p record { words = ws; homes = s.homes; views = vs } in
     let told : (q : Plan) → KnowsPlan q m.0 → MomentWith q m.0 (get_or s.words 0 0) =
     λ q knows. (let same : p ≡ q = one_plan p q m.0 (k.seats.plans m.0 (id, here) held) knows in record { table = s; kept = subst (λ (t : Plan). Kept t s) same k; credit = subst (λ (t : Plan). Credited t s) same c; told = subst (λ (t : Plan). Remembered t s) same r; seen = (id, here) }, refl) in

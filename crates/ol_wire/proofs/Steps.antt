@@ -15,8 +15,8 @@ use Rattle.ol_wire.specs.Weights.{total}
 use Rattle.ol_wire.specs.Layout.{left, part_of_word, place_of, table_size, left_word, cells_of}
 use Rattle.ol_wire.specs.Views.{past_fuel}
 use Rattle.ol_wire.specs.Idle.{IsIdle}
-use Rattle.ol_wire.specs.StepPlays.{Seated, cell_in_hand, returned, missing, holding, paired, knowing, ticketed, late, wrote, IsNodeOf, IsRefOf, IsLookedUp, claims, pairs_up, draws, writes}
-use Rattle.ol_wire.specs.TurnPlays.{reads, returns}
+use Rattle.ol_wire.specs.StepPlays.{Seated, cell_in_hand, returned, missing, holding, paired, knowing, ticketed, late, wrote, IsNodeOf, IsRefOf, IsLookedUp, claims, reads_right, draws, writes}
+use Rattle.ol_wire.specs.TurnPlays.{reads_field, returns}
 use Rattle.ol_wire.specs.Rule.{Table, Kept, IsLasting}
 use Rattle.ol_wire.proofs.References.{kind_of_ref, place_of_ref}
 use Rattle.ol_wire.proofs.Places.{is_left, part_field, part_cell}
@@ -77,8 +77,8 @@ module _ (p : Plan) (slots id : ℕ) (m : Seated) (held : 0 < m.0.holds) where
           let pair = cell_pair p s k w is (λ q. ne (sym e ∙ q)) in
           subst (λ z. IsNodeOf z (get_or s.words w 0)) (sym (of_plan s k here)) (subst (IsNodeOf p.parts) e (node_of_ref p s k (get_or k.full w 0) pair.f))
 
-  pub pairs_allowed : (w x : ℕ) → m.0.taken ≡ (w, x) ∷ [] → Allows (IsRuled p) slots id m (suc w) (λ n. n) (pairs_up (step slots (suc w) 0 0 none) m)
-  pairs_allowed w x only s (k, paid, told) homes here small =
+  pub reads_right_allowed : (w x : ℕ) → m.0.taken ≡ (w, x) ∷ [] → Allows (IsRuled p) slots id m (suc w) (λ n. n) (reads_right (step slots (suc w) 0 0 none) m)
+  reads_right_allowed w x only s (k, paid, told) homes here small =
       let taken : IsIn (w, x) m.0.taken = subst (λ (l : List (ℕ × ℕ)). IsIn {X = ℕ × ℕ} (w, x) l) (sym only) (inl refl) in
       let h = full_of_claimed p s k m.0 w x (id, here) taken in
       let pair = cell_pair p s k w h.0 h.2 in
@@ -87,8 +87,8 @@ module _ (p : Plan) (slots id : ℕ) (m : Seated) (held : 0 < m.0.holds) where
       let lasting = subst IsLasting (sym (is_left p.parts w h.0).0) tt in
       (paired m.0 (suc w) (get_or s.words (suc w) 0), keeps, tt, (paired_keeps p s k id m.0 here held (suc w) lasting (is_left p.parts w h.0).1 (λ q. omega (arith, node.0, q)), read_keeps p s paid (suc w) (get_or s.words (suc w) 0) id m.0 (paired m.0 (suc w) (get_or s.words (suc w) 0)) refl here refl refl refl refl refl, pair_recalls p s k told id m.0 here held w x only (λ q. omega (arith, node.0, q))), (refl, sym (ap (λ (l : List (ℕ × ℕ)). suc (cell_in_hand l)) only), refl, node))
 
-  pub pairs_allowed_at : (w x : ℕ) → m.0.taken ≡ (w, x) ∷ [] → (u : ℕ) → u ≡ suc w → Allows (IsRuled p) slots id m u (λ n. n) (pairs_up (step slots u 0 0 none) m)
-  pairs_allowed_at w x taken u is = subst (λ (a : ℕ). Allows (IsRuled p) slots id m a (λ n. n) (pairs_up (step slots a 0 0 none) m)) (sym is) (pairs_allowed w x taken)
+  pub reads_right_allowed_at : (w x : ℕ) → m.0.taken ≡ (w, x) ∷ [] → (u : ℕ) → u ≡ suc w → Allows (IsRuled p) slots id m u (λ n. n) (reads_right (step slots u 0 0 none) m)
+  reads_right_allowed_at w x taken u is = subst (λ (a : ℕ). Allows (IsRuled p) slots id m a (λ n. n) (reads_right (step slots a 0 0 none) m)) (sym is) (reads_right_allowed w x taken)
 
   -- a field of one of the two nodes of the pair
   module _ (w r c : ℕ) (taken : IsIn (w, m.0.last.0) m.0.taken) (known : IsIn (suc w, m.0.last.1) m.0.known) (side : (r ≡ m.0.last.0) ⊎ (r ≡ m.0.last.1)) (lt : c < arity (kind_in r)) where
@@ -139,14 +139,14 @@ module _ (p : Plan) (slots id : ℕ) (m : Seated) (held : 0 < m.0.holds) where
       found_there : IsLasting (part_of_word p.parts (place_in r + c)) × (place_in r + c < table_size p.parts) × (get_or s.words (place_in r + c) 0 ≢ 0) × IsRefOf m.0.parts (get_or s.words (place_in r + c) 0)
       found_there = subst (λ (a : ℕ). IsLasting (part_of_word p.parts (a + c)) × (a + c < table_size p.parts) × (get_or s.words (a + c) 0 ≢ 0) × IsRefOf m.0.parts (get_or s.words (a + c) 0)) (sym (place_is node)) (found node)
 
-    looks_there : Allows (IsRuled p) slots id m (place_in r + c) (λ n. n) (reads (step slots (place_in r + c) 0 0 none) m)
-    looks_there s (k, paid, told) homes here small =
+    reads_field_there : Allows (IsRuled p) slots id m (place_in r + c) (λ n. n) (reads_field (step slots (place_in r + c) 0 0 none) m)
+    reads_field_there s (k, paid, told) homes here small =
         let u : ℕ = place_in r + c in
         let h = found_there s k here in
         (knowing m.0 u (get_or s.words u 0), keeps, tt, (knowing_keeps p s k id m.0 here held u h.0 h.1 h.2, read_keeps p s paid u (get_or s.words u 0) id m.0 (knowing m.0 u (get_or s.words u 0)) refl here refl refl refl refl refl, read_recalls p s told id m.0 (knowing m.0 u (get_or s.words u 0)) u (get_or s.words u 0) here refl refl refl refl), ((refl, refl, h.3), (λ y known_there. sym (k.words.known m.0 u y (id, here) known_there).0)))
 
-    pub looks_allowed : (u : ℕ) → u ≡ place_in r + c → Allows (IsRuled p) slots id m u (λ n. n) (reads (step slots u 0 0 none) m)
-    looks_allowed u is = subst (λ (a : ℕ). Allows (IsRuled p) slots id m a (λ n. n) (reads (step slots a 0 0 none) m)) (sym is) looks_there
+    pub reads_field_allowed : (u : ℕ) → u ≡ place_in r + c → Allows (IsRuled p) slots id m u (λ n. n) (reads_field (step slots u 0 0 none) m)
+    reads_field_allowed u is = subst (λ (a : ℕ). Allows (IsRuled p) slots id m a (λ n. n) (reads_field (step slots a 0 0 none) m)) (sym is) reads_field_there
 
   pub writes_allowed : (i x : ℕ) (ds : List (ℕ × ℕ)) → m.0.due ≡ (i, x) ∷ ds → Allows (IsRuled p) slots id m i (λ _. x) (λ _. writes (step slots i x 0 none) m x)
   writes_allowed i x ds due s (k, paid, told) homes here small =

@@ -15,7 +15,7 @@ use Rattle.ol_wire.specs.Plays.{live_read}
 use Rattle.ol_wire.specs.StepPlays.{Seated, owing, repaid, owes, repays}
 use Rattle.ol_wire.specs.Credit.{Credited, IsRuled}
 use Rattle.ol_wire.specs.Rule.{Table, Kept, IsView, KnowsPlan}
-use Rattle.ol_wire.specs.Looking.{MomentLive, listens}
+use Rattle.ol_wire.specs.Looking.{MomentLive, reads_live}
 use Rattle.ol_wire.proofs.StepsKeep.{after}
 use Rattle.ol_wire.proofs.StepsLive.{live_keeps, index_in}
 use Rattle.ol_wire.proofs.CreditSteps.{owe_pays, repay_pays, owed_below}
@@ -94,5 +94,5 @@ module _ (p : Plan) (id : ℕ) (v : View) (held : 0 < v.holds) (s : Table) (k : 
       let same : p ≡ q = one_plan p q v (k.seats.plans v (id, here) held) knows in
       subst (λ (t : Plan). MomentLive t (live_read v y) y) same (record { table = next; kept = kept; credit = credit; told = recalls; seen = seen }, stands, (λ e. quiet_complete p next kept credit (empty e)))
 
-pub listens_allowed : (p : Plan) (slots id : ℕ) (m : Seated) → 0 < m.0.holds → Allows (IsRuled p) slots id m 1 (λ n. n) (listens (step slots 1 0 0 none) m)
-listens_allowed p slots id m held s (k, c, r) homes here small = (live_read m.0 (get_or s.words 1 0), keeps, tt, (kept p id m.0 held s k c r here, credit p id m.0 held s k c r here, recalls p id m.0 held s k c r here), (refl, refl, told p id m.0 held s k c r here))
+pub reads_live_allowed : (p : Plan) (slots id : ℕ) (m : Seated) → 0 < m.0.holds → Allows (IsRuled p) slots id m 1 (λ n. n) (reads_live (step slots 1 0 0 none) m)
+reads_live_allowed p slots id m held s (k, c, r) homes here small = (live_read m.0 (get_or s.words 1 0), keeps, tt, (kept p id m.0 held s k c r here, credit p id m.0 held s k c r here, recalls p id m.0 held s k c r here), (refl, refl, told p id m.0 held s k c r here))

@@ -13,7 +13,7 @@ use Rattle.ol_wire.specs.declared.view.View.{View}
 use Rattle.ol_wire.specs.References.{wire_ref, place_in, IsNodeRef, IsWireRef}
 use Rattle.ol_wire.specs.Layout.{left, right, table_size}
 use Rattle.ol_wire.specs.StepPlays.{Seated, linked, moved, knowing, publishing, IsRefOf}
-use Rattle.ol_wire.specs.LinkSteps.{IsBetween, spread, links, places, publishes, counts}
+use Rattle.ol_wire.specs.LinkSteps.{IsBetween, spread, links, places, publishes, reads_tickets_joined}
 use Rattle.ol_wire.specs.Rule.{IsMadeRef, IsRightOf}
 use Rattle.ol_wire.proofs.StepsLinkSites.{wire_whole, ref_of_end}
 use Rattle.ol_wire.proofs.StepsLink.{other_made, other_end, is_linked, empty_keeps, found_keeps, found_made, found_end, found_spread}
@@ -33,8 +33,8 @@ abbrev IsFound : Parts → ℕ → ℕ → List ℕ → List ℕ → Type 0
 IsFound z b c old new = IsRefOf z b × IsRefOf z c × (spread (table_size z) new ≡ spread (table_size z) old + 1) × (spread (table_size z) new ≤ table_size z)
 
 module _ (p : Plan) (slots id : ℕ) (m : Seated) (held : 0 < m.0.holds) where
-  pub counts_allowed : Allows (IsRuled p) slots id m 0 (λ n. n) (counts (step slots 0 0 0 none) m)
-  counts_allowed s (k, q, r) homes here small =
+  pub reads_tickets_joined_allowed : Allows (IsRuled p) slots id m 0 (λ n. n) (reads_tickets_joined (step slots 0 0 0 none) m)
+  reads_tickets_joined_allowed s (k, q, r) homes here small =
       let P : List ℕ → List View → Type 0 = λ ws vs. IsRuled p record { words = ws; homes = s.homes; views = vs } in
       (m.0, keeps, tt, subst (λ ws. P ws (set s.views id m.0)) (sym (set-get_or s.words 0 0)) (subst (P s.words) (sym (set_again s.views id m.0 here)) (k, q, r)), (refl, refl, omega (arith, holds_within p s k id m.0 here, (k.seats.plans m.0 (id, here) held).1), drawn_once p s k id m.0 here))
 

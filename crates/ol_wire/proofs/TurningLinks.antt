@@ -7,7 +7,7 @@ use Rattle.ol_rules.specs.Listed.{each}
 use Rattle.ol_rules.specs.Rewriting.{is_meeting, index_after}
 use Rattle.ol_rules.proofs.Alike.{meeting_alike}
 use Rattle.ol_wire.specs.declared.layout.Parts.{Parts}
-use Rattle.ol_wire.specs.declared.turning.Begun.{Begun}
+use Rattle.ol_wire.specs.declared.begun.Begun.{Begun}
 use Rattle.ol_wire.specs.declared.view.Link.{Link}
 use Rattle.ol_wire.specs.declared.view.View.{View}
 use Rattle.ol_wire.specs.References.{kind_in, index_in, node_ref, IsNodeRef}
