@@ -1,5 +1,5 @@
 use Rattle.std.proofs.Common.{arith, sym, ap, ◌∙◌, ◌+◌, ◌-◌, Some}
-use Rattle.ol_wire.proofs.OpeningWords.{wires_few, wire_comes_up, field_again_up}
+use Rattle.ol_wire.proofs.Opening.Words.{wires_few, wire_comes_up, field_again_up}
 use Rattle.ol_wire.proofs.net_words.field_of.Goals as goal
 
 pub start_wire-requires : goal.start_wire-requires

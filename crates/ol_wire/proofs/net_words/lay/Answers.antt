@@ -1,5 +1,5 @@
 use Rattle.std.proofs.Common.{◌∙◌}
-use Rattle.ol_wire.proofs.Opening.{IsStart, opens_as}
+use Rattle.ol_wire.proofs.Opening.Keeps.{IsStart, opens_as}
 use Rattle.ol_wire.proofs.net_words.lay.Goals as goal
 
 pub returns-clause-words : goal.returns-clause-words

@@ -3,8 +3,8 @@ use Rattle.ol_wire.specs.declared.layout.Parts.{Parts}
 use Rattle.ol_wire.specs.Layout.{start_cell}
 use Rattle.ol_wire.specs.Weights.{sum_below}
 use Rattle.ol_wire.specs.Credit.{active_at}
-use Rattle.ol_wire.proofs.CreditOpening.{laid_with, live_with}
-use Rattle.ol_wire.proofs.OpeningLists.{wires_bound, start_length, laid}
+use Rattle.ol_wire.proofs.Credit.Opening.{laid_with, live_with}
+use Rattle.ol_wire.proofs.Opening.Lists.{wires_bound, start_length, laid}
 use Rattle.ol_wire.proofs.net_words.lay_out.Goals as goal
 
 pub put_nodes-requires-clause-behind : goal.put_nodes-requires-clause-behind

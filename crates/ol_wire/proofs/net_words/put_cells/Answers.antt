@@ -1,6 +1,6 @@
 use Rattle.std.proofs.Common.{arith, ◌+◌, suc, ◌≡◌}
 use Rattle.ol_wire.specs.Starts.{pair_at}
-use Rattle.ol_wire.proofs.OpeningWords.{cells_more, count_more}
+use Rattle.ol_wire.proofs.Opening.Words.{cells_more, count_more}
 use Rattle.ol_wire.proofs.net_words.put_cells.Goals as goal
 
 pub loop-node-preserved : goal.loop-node-preserved

@@ -1,4 +1,4 @@
-use Rattle.ol_wire.proofs.OpeningWords.{fields_twice}
+use Rattle.ol_wire.proofs.Opening.Words.{fields_twice}
 use Rattle.ol_wire.proofs.net_words.put_node.Goals as goal
 
 pub returns-clause-before : goal.returns-clause-before

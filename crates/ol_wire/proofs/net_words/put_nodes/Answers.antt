@@ -1,6 +1,6 @@
 use Rattle.std.proofs.Common.{arith, ◌+◌, suc, ◌≡◌}
 use Rattle.ol_wire.specs.LaidWords.{field_row}
-use Rattle.ol_wire.proofs.OpeningWords.{added_more, fields_step, wires_step}
+use Rattle.ol_wire.proofs.Opening.Words.{added_more, fields_step, wires_step}
 use Rattle.ol_wire.proofs.net_words.put_nodes.Goals as goal
 
 pub loop-node-preserved : goal.loop-node-preserved

@@ -1,4 +1,4 @@
-use Rattle.ol_wire.proofs.NothingLeft.{nothing_overlooked}
+use Rattle.ol_wire.proofs.Closing.NothingLeft.{nothing_overlooked}
 use Rattle.ol_wire.proofs.rule_laws.nothing_is_overlooked.Goals as goal
 
 pub returns : goal.returns

@@ -3,7 +3,7 @@ use Rattle.ol_wire.specs.declared.layout.Parts.{Parts}
 use Rattle.ol_wire.specs.declared.view.View.{View}
 use Rattle.ol_wire.specs.Moments.{Moment}
 use Rattle.ol_wire.specs.Stand.{SeatState, TableState}
-use Rattle.ol_wire.proofs.Sight.{entries_below, entries_above}
+use Rattle.ol_wire.proofs.Steps.Sight.{entries_below, entries_above}
 use Rattle.ol_wire.proofs.shared.Shared.events.Goals as goal
 use Rattle.ol_wire.proofs.shared.Shared.events.Goals.{then-drawn-self, else-drawn-self}
 

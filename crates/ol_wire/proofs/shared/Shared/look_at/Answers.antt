@@ -3,7 +3,7 @@ use Rattle.ol_net.specs.Parts.{arity}
 use Rattle.ol_wire.specs.declared.view.View.{View}
 use Rattle.ol_wire.specs.References.{kind_in, place_in}
 use Rattle.ol_wire.specs.InHand.{fields_known}
-use Rattle.ol_wire.proofs.StepsHold.{keeps_sure, one_field, two_fields, one_ref, two_refs}
+use Rattle.ol_wire.proofs.Steps.Hold.{keeps_sure, one_field, two_fields, one_ref, two_refs}
 use Rattle.ol_wire.proofs.shared.Shared.look_at.Goals as goal
 
 pub returns-then-slots-eq1-clause-view : goal.returns-then-slots-eq1-clause-view

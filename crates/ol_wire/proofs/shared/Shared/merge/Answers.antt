@@ -2,8 +2,8 @@ use Rattle.std.proofs.Common.{◌<◌, sym, ap, ◌∙◌, arith}
 use Rattle.atomic_table.specs.Table.{Me}
 use Rattle.ol_wire.specs.declared.view.View.{View}
 use Rattle.ol_wire.specs.Stand.{TableState}
-use Rattle.ol_wire.proofs.StepsJoin.{join_allowed}
-use Rattle.ol_wire.proofs.StepsLinkAllowed.{reads_tickets_joined_allowed}
+use Rattle.ol_wire.proofs.Steps.Join.{join_allowed}
+use Rattle.ol_wire.proofs.LinkSteps.Allowed.{reads_tickets_joined_allowed}
 use Rattle.ol_wire.proofs.shared.Shared.merge.Goals as goal
 
 pub join_seat-requires : goal.join_seat-requires

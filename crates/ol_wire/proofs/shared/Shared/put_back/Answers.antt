@@ -4,8 +4,8 @@ use Rattle.ol_wire.specs.Layout.{left_word, cells_of, table_size}
 use Rattle.ol_wire.specs.InHand.{IsInHand}
 use Rattle.ol_wire.specs.Moments.{MomentHolding}
 use Rattle.ol_wire.specs.Stand.{TableState}
-use Rattle.ol_wire.proofs.Places.{part_cell}
-use Rattle.ol_wire.proofs.Steps.{returns_allowed}
+use Rattle.ol_wire.proofs.InWords.Places.{part_cell}
+use Rattle.ol_wire.proofs.Steps.Allowed.{returns_allowed}
 use Rattle.ol_wire.proofs.shared.Shared.put_back.Goals as goal
 
 pub store-requires : goal.store-requires

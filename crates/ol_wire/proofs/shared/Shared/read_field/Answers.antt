@@ -7,7 +7,7 @@ use Rattle.ol_wire.specs.Layout.{table_size}
 use Rattle.ol_wire.specs.StepPlays.{IsNodeOf}
 use Rattle.ol_wire.specs.Stand.{TableState}
 use Rattle.ol_wire.specs.InHand.{IsInHand, IsOfPair}
-use Rattle.ol_wire.proofs.Steps.{reads_field_allowed}
+use Rattle.ol_wire.proofs.Steps.Allowed.{reads_field_allowed}
 use Rattle.ol_wire.proofs.shared.Shared.read_field.Goals as goal
 use Rattle.ol_rules.proofs.Born.{at_most_two}
 

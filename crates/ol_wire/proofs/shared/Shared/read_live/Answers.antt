@@ -1,6 +1,6 @@
 use Rattle.std.proofs.Common.{◌≡◌, sym, ap, ◌∙◌, arith}
 use Rattle.ol_wire.specs.Stand.{TableState}
-use Rattle.ol_wire.proofs.StepsCredit.{reads_live_allowed}
+use Rattle.ol_wire.proofs.Steps.LiveAllowed.{reads_live_allowed}
 use Rattle.ol_wire.proofs.shared.Shared.read_live.Goals as goal
 
 pub load-requires : goal.load-requires

@@ -2,8 +2,8 @@ use Rattle.std.proofs.Common.{◌≡◌, ◌+◌, ℕ, sym, ap, ◌∙◌, arith
 use Rattle.ol_wire.specs.declared.layout.Parts.{Parts}
 use Rattle.ol_wire.specs.Layout.{left_word, table_size}
 use Rattle.ol_wire.specs.Stand.{TableState}
-use Rattle.ol_wire.proofs.Places.{part_cell}
-use Rattle.ol_wire.proofs.Steps.{reads_right_allowed_at}
+use Rattle.ol_wire.proofs.InWords.Places.{part_cell}
+use Rattle.ol_wire.proofs.Steps.Allowed.{reads_right_allowed_at}
 use Rattle.ol_wire.proofs.shared.Shared.read_right.Goals as goal
 
 pub load-requires : goal.load-requires

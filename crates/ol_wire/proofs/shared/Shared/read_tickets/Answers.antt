@@ -1,6 +1,6 @@
 use Rattle.std.proofs.Common.{sym, ap, ◌∙◌, arith}
 use Rattle.ol_wire.specs.Stand.{TableState}
-use Rattle.ol_wire.proofs.Sight.{reads_tickets_allowed}
+use Rattle.ol_wire.proofs.Steps.Sight.{reads_tickets_allowed}
 use Rattle.ol_wire.proofs.shared.Shared.read_tickets.Goals as goal
 
 pub load-requires : goal.load-requires
