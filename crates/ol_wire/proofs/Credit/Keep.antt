@@ -27,6 +27,7 @@ pub record Pays (p : Plan) (s : Table) (v w : View) (i x : ℕ) : Type 0 where
   pub balance : get_or (set s.words i x) 1 0 + active_cells p.parts s.words + (active_claims s.words v + v.owed)
       ≡ get_or s.words 1 0 + active_cells p.parts (set s.words i x) + (active_claims (set s.words i x) w + w.owed)
   pub links : length w.pending ≤ w.owed
+  pub owes : w.owed ≤ 5 * (active_claims (set s.words i x) w + length w.made)
   pub few : w.owed + length w.taken ≤ 5 * w.holds
   pub settled : w.settled ≡ true → (v.settled ≡ true) ⊎ (get_or (set s.words i x) 1 0 ≡ 0)
   pub stays : get_or s.words 1 0 ≡ 0 → get_or (set s.words i x) 1 0 ≡ 0
@@ -59,6 +60,7 @@ module _ (p : Plan) (s : Table) (c : Credited p s) (id : ℕ) (v w : View) (i x 
       total_set (λ (u : View). u.owed) s.views id v w here,
     );
     links = viewed (λ u. length u.pending ≤ u.owed) pays.links c.links;
+    owes = viewed (λ u. u.owed ≤ 5 * (active_claims new u + length u.made)) pays.owes (λ u is. omega (arith, c.owes u is, claim_same u is));
     few = viewed (λ u. u.owed + length u.taken ≤ 5 * u.holds) pays.few c.few;
     settled = viewed (λ u. u.settled ≡ true → get_or new 1 0 ≡ 0) now (λ u is e. pays.stays (c.settled u is e));
   }
@@ -76,9 +78,9 @@ module _ (p : Plan) (s : Table) (k : Kept p s) where
   no_claim i not_right u a y is m e = not_right (ap (part_of_word p.parts) (sym e) ∙ (is_left p.parts a (k.seats.taken u a y is m).0).0)
 
 -- a step that leaves all words as they are
-pub same_words : (p : Plan) (s : Table) (c : Credited p s) (id : ℕ) (v w : View) → get_elem? s.views id ≡ some v → w.taken ≡ v.taken → w.owed ≡ v.owed → w.pending ≡ v.pending → w.holds ≡ v.holds → (w.settled ≡ true → (v.settled ≡ true) ⊎ (get_or s.words 1 0 ≡ 0))
+pub same_words : (p : Plan) (s : Table) (c : Credited p s) (id : ℕ) (v w : View) → get_elem? s.views id ≡ some v → w.taken ≡ v.taken → w.owed ≡ v.owed → w.pending ≡ v.pending → w.holds ≡ v.holds → (w.settled ≡ true → (v.settled ≡ true) ⊎ (get_or s.words 1 0 ≡ 0)) → w.made ≡ v.made
     → Credited p record { words = s.words; homes = s.homes; views = set s.views id w }
-same_words p s c id v w here taken owed pending holds settled = record {
+same_words p s c id v w here taken owed pending holds settled made = record {
   live = omega (
     arith,
     c.live,
@@ -88,6 +90,8 @@ same_words p s c id v w here taken owed pending holds settled = record {
     total_set (λ (u : View). u.owed) s.views id v w here,
   );
   links = viewed (λ u. length u.pending ≤ u.owed) (omega (arith, owed, ap length pending, c.links v (id, here))) c.links;
+  owes = viewed (λ u. u.owed ≤ 5 * (active_claims s.words u + length u.made))
+      (omega (arith, owed, c.owes v (id, here), ap (λ (l : List (ℕ × ℕ)). active_claims s.words (record v { taken = l })) taken, ap length made)) c.owes;
   few = viewed (λ u. u.owed + length u.taken ≤ 5 * u.holds) (omega (arith, owed, holds, ap length taken, c.few v (id, here))) c.few;
   settled = viewed (λ u. u.settled ≡ true → get_or s.words 1 0 ≡ 0) (λ e. of (settled e)) c.settled;
 }
@@ -99,19 +103,20 @@ same_words p s c id v w here taken owed pending holds settled = record {
     viewed : (P : View → Type 0) → P w → ((u : View) → IsView s u → P u) → (u : View) → IsView (record { words = s.words; homes = s.homes; views = set s.views id w }) u → P u
     viewed P at old u is = each_set P s.views id w at (λ j y e. old y (j, e)) is.0 u is.1
 
-pub read_keeps : (p : Plan) (s : Table) (c : Credited p s) (i x id : ℕ) (v w : View) → x ≡ get_or s.words i 0 → get_elem? s.views id ≡ some v → w.taken ≡ v.taken → w.owed ≡ v.owed → w.pending ≡ v.pending → w.holds ≡ v.holds → w.settled ≡ v.settled
+pub read_keeps : (p : Plan) (s : Table) (c : Credited p s) (i x id : ℕ) (v w : View) → x ≡ get_or s.words i 0 → get_elem? s.views id ≡ some v → w.taken ≡ v.taken → w.owed ≡ v.owed → w.pending ≡ v.pending → w.holds ≡ v.holds → w.settled ≡ v.settled → w.made ≡ v.made
     → Credited p (after s i x id w)
-read_keeps p s c i x id v w is here taken owed pending holds settled =
+read_keeps p s c i x id v w is here taken owed pending holds settled made =
     subst (λ (ws : List ℕ). Credited p record { words = ws; homes = s.homes; views = set s.views id w }) (sym (ap (set s.words i) is ∙ set-get_or s.words i 0))
-    (same_words p s c id v w here taken owed pending holds (λ e. inl (sym settled ∙ e)))
+    (same_words p s c id v w here taken owed pending holds (λ e. inl (sym settled ∙ e)) made)
 
 -- a word that is none of a cell, nor the live word, is set, and the view owes as much as before and has no more links
 pub plain_keeps : (p : Plan) (s : Table) (k : Kept p s) (c : Credited p s) (i x id : ℕ) (v w : View) → get_elem? s.views id ≡ some v → part_of_word p.parts i ≢ left → part_of_word p.parts i ≢ right → i ≢ 1
-    → active_cells p.parts (set s.words i x) ≡ active_cells p.parts s.words → w.taken ≡ v.taken → w.owed ≡ v.owed → length w.pending ≤ length v.pending → w.holds ≡ v.holds → w.settled ≡ v.settled → Credited p (after s i x id w)
-plain_keeps p s k c i x id v w here not_left not_right not_live cells taken owed pending holds settled = pays_keeps p s c id v w i x here record {
+    → active_cells p.parts (set s.words i x) ≡ active_cells p.parts s.words → w.taken ≡ v.taken → w.owed ≡ v.owed → length w.pending ≤ length v.pending → w.holds ≡ v.holds → w.settled ≡ v.settled → w.made ≡ v.made → Credited p (after s i x id w)
+plain_keeps p s k c i x id v w here not_left not_right not_live cells taken owed pending holds settled made = pays_keeps p s c id v w i x here record {
   off = no_claim p s k i not_right;
   balance = omega (arith, live, cells, owed, claims);
   links = omega (arith, pending, owed, c.links v (id, here));
+  owes = omega (arith, owed, claims, c.owes v (id, here), ap length made);
   few = omega (arith, owed, holds, ap length taken, c.few v (id, here));
   settled = λ e. inl (sym settled ∙ e);
   stays = λ e. live ∙ e;

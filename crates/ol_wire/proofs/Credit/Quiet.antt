@@ -63,7 +63,7 @@ pub listen_pays : (p : Plan) (s : Table) (c : Credited p s) (id : ℕ) (v : View
 listen_pays p s c id v here =
     let y : ℕ = get_or s.words 1 0 in
     subst (λ (ws : List ℕ). Credited p record { words = ws; homes = s.homes; views = set s.views id (live_read v (get_or s.words 1 0)) }) (sym (set-get_or s.words 1 0))
-    (same_words p s c id v (live_read v (get_or s.words 1 0)) here refl refl refl refl (λ e. of (or_right v.settled (nat_eq (get_or s.words 1 0) 0) e)))
+    (same_words p s c id v (live_read v (get_or s.words 1 0)) here refl refl refl refl (λ e. of (or_right v.settled (nat_eq (get_or s.words 1 0) 0) e)) refl)
   where
     of : (v.settled ≡ true) ⊎ (nat_eq (get_or s.words 1 0) 0 ≡ true) → (v.settled ≡ true) ⊎ (get_or s.words 1 0 ≡ 0)
     of (inl o) = inl o

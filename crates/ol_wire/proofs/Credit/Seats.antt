@@ -45,6 +45,7 @@ module _ (p : Plan) (id : ℕ) (v : View) (other : ℕ) (w : View) (idle : IsIdl
       ap (λ (l : List (ℕ × ℕ)). active_claims s.words (record w { taken = l })) idle'.0,
     );
     links = viewed (λ u. length u.pending ≤ u.owed) (omega (arith, c.links v (id, here))) (omega arith) c.links;
+    owes = viewed (λ u. u.owed ≤ 5 * (active_claims s.words u + length u.made)) (omega (arith, idle.3, idle'.3)) (omega arith) c.owes;
     few = viewed (λ u. u.owed + length u.taken ≤ 5 * u.holds) (omega (arith, c.few v (id, here), c.few w (other, was))) (omega arith) c.few;
     settled = viewed (λ u. u.settled ≡ true → get_or s.words 1 0 ≡ 0) (or_true v.settled w.settled _ (c.settled v (id, here)) (c.settled w (other, was))) (λ e. absurd (false≢true e)) c.settled;
   }
@@ -65,6 +66,7 @@ module _ (p : Plan) (id : ℕ) (v : View) (two : 1 < v.holds) (idle : IsIdle v) 
       total_cut (λ (u : View). u.owed) s.views id v (fewer v) (one_seat v) here (omega arith),
     );
     links = cut_viewed (λ u. length u.pending ≤ u.owed) (c.links v (id, here)) (omega arith) c.links;
+    owes = cut_viewed (λ u. u.owed ≤ 5 * (active_claims s.words u + length u.made)) (omega (arith, idle.3)) (omega arith) c.owes;
     few = cut_viewed (λ u. u.owed + length u.taken ≤ 5 * u.holds) (omega (arith, two, idle.3, ap length idle.0)) (omega arith) c.few;
     settled = cut_viewed (λ u. u.settled ≡ true → get_or s.words 1 0 ≡ 0) (c.settled v (id, here)) (λ e. absurd (false≢true e)) c.settled;
   }

@@ -13,6 +13,7 @@ use Rattle.ol_wire.specs.References.{place_in}
 use Rattle.ol_wire.specs.Layout.{WordPart, left, right, live_word, part_of_word}
 use Rattle.ol_wire.specs.Idle.{IsIdle}
 use Rattle.ol_wire.specs.LinkLists.{joins_in, link_of}
+use Rattle.ol_wire.specs.Events.{entry_of}
 use Rattle.ol_wire.specs.Plays.{event_in}
 use Rattle.ol_wire.specs.StepPlays.{known_at, missing, holding, ticketed, late, wrote, returned, linked, moved, relinked, knowing, publishing, owing, repaid, rest, first_active}
 use Rattle.ol_wire.specs.Credit.{active_in, active_claims, Credited}
@@ -20,6 +21,7 @@ use Rattle.ol_wire.specs.Hands.{IsActiveLast}
 use Rattle.ol_wire.specs.Rule.{Table, Kept, IsView, IsOwn}
 use Rattle.ol_wire.proofs.InWords.Places.{is_left}
 use Rattle.ol_wire.proofs.InWords.Held.{held_empty, word_full, total_at}
+use Rattle.ol_wire.proofs.Ticket.Refs.{joins_few}
 use Rattle.ol_wire.proofs.Steps.Keep.{after}
 use Rattle.ol_wire.proofs.Steps.Pair.{full_of_claimed}
 use Rattle.ol_wire.proofs.LinkSteps.Sites.{IsLinked}
@@ -77,7 +79,7 @@ module _ (p : Plan) (s : Table) (k : Kept p s) (c : Credited p s) (id : ℕ) (v 
 
     -- the cell was empty
     pub miss_pays : get_or s.words w 0 ≡ 0 → Credited p (after s w 0 id (missing v w))
-    miss_pays empty = read_keeps p s c w 0 id v (missing v w) (sym empty) here refl refl refl refl refl
+    miss_pays empty = read_keeps p s c w 0 id v (missing v w) (sym empty) here refl refl refl refl refl refl
 
     -- the pair goes from its cell to the view
     pub claim_pays : IsIdle v → 0 < v.holds → Credited p (after s w 0 id (holding v w (get_or s.words w 0)))
@@ -92,14 +94,15 @@ module _ (p : Plan) (s : Table) (k : Kept p s) (c : Credited p s) (id : ℕ) (v 
         claims_stay 0,
       );
       links = c.links v seen;
+      owes = omega (arith, idle.3);
       few = omega (arith, ap length idle.0, idle.3, held);
       settled = λ e. inl e;
       stays = λ e. live_stays 0 ∙ e;
     }
 
     -- and back
-    pub return_pays : v.taken ≡ (w, v.last.0) ∷ [] → Credited p (after s w v.last.0 id (returned v))
-    return_pays taken = pays_keeps p s c id v (returned v) w v.last.0 here record {
+    pub return_pays : v.taken ≡ (w, v.last.0) ∷ [] → v.owed ≡ 0 → Credited p (after s w v.last.0 id (returned v))
+    return_pays taken nothing = pays_keeps p s c id v (returned v) w v.last.0 here record {
       off = no_claim p s k w not_right;
       balance = omega (
         arith,
@@ -111,6 +114,7 @@ module _ (p : Plan) (s : Table) (k : Kept p s) (c : Credited p s) (id : ℕ) (v 
         ap (λ (l : List (ℕ × ℕ)). active_claims (set s.words w v.last.0) (record v { taken = rest l })) taken,
       );
       links = c.links v seen;
+      owes = omega (arith, nothing);
       few = omega (arith, c.few v seen, rest_length v.taken);
       settled = λ e. inl e;
       stays = λ e. live_stays v.last.0 ∙ e;
@@ -148,6 +152,7 @@ module _ (p : Plan) (s : Table) (k : Kept p s) (c : Credited p s) (id : ℕ) (v 
         off = no_claim p s k 1 (λ q. cc);
         balance = omega (arith, now, cells_off p.parts s.words 1 (get_or s.words 1 0 + n) (λ q. cc) (λ q. cc), claims);
         links = omega (arith, ap length pending);
+        owes = omega (arith, owed, few, claims, one_claim);
         few = omega (arith, owed, few, held, ap length taken);
         settled = λ e. inl e;
         stays = λ e. absurd (omega (arith, e, some_live));
@@ -171,6 +176,7 @@ module _ (p : Plan) (s : Table) (k : Kept p s) (c : Credited p s) (id : ℕ) (v 
           ap (λ (l : List (ℕ × ℕ)). active_claims (set s.words 0 (t + 1)) (record v { taken = rest l })) taken,
         );
         links = omega (arith, owed, each_length (joins_in (event_in v)) (λ j. link_of v.parts (event_in v) t (λ q. known_at v.known (place_in (event_in v).f + q)) (λ q. known_at v.known (place_in (event_in v).g + q)) j));
+        owes = omega (arith, owed, joins_few (event_in v), length-append v.made ((t, entry_of v.parts (event_in v)) ∷ []));
         few = omega (arith, c.few v seen, ap length taken, ap (λ (l : List (ℕ × ℕ)). length (rest l)) taken);
         settled = λ e. inl e;
         stays = λ e. get_or-set_other s.words 0 1 (t + 1) 0 (λ q. omega (arith, q)) ∙ e;
@@ -178,7 +184,7 @@ module _ (p : Plan) (s : Table) (k : Kept p s) (c : Credited p s) (id : ℕ) (v 
 
   -- a ticket at or above it
   pub late_pays : (x : ℕ) → Credited p (after s 0 x id (late v))
-  late_pays x = plain_keeps p s k c 0 x id v (late v) here (λ q. cc) (λ q. cc) (λ e. omega (arith, e)) (cells_off p.parts s.words 0 x (λ q. cc) (λ q. cc)) refl refl (omega arith) refl refl
+  late_pays x = plain_keeps p s k c 0 x id v (late v) here (λ q. cc) (λ q. cc) (λ e. omega (arith, e)) (cells_off p.parts s.words 0 x (λ q. cc) (λ q. cc)) refl refl (omega arith) refl refl refl
 
   -- what is left is taken from the word
   pub repay_pays : v.pending ≡ [] → Credited p (after s 1 (get_or s.words 1 0 - v.owed) id (repaid v v.owed))
@@ -186,6 +192,7 @@ module _ (p : Plan) (s : Table) (k : Kept p s) (c : Credited p s) (id : ℕ) (v 
     off = no_claim p s k 1 (λ q. cc);
     balance = omega (arith, enough, now, cells_off p.parts s.words 1 (get_or s.words 1 0 - v.owed) (λ q. cc) (λ q. cc), claims);
     links = omega (arith, ap length pending);
+    owes = omega arith;
     few = omega (arith, c.few v seen);
     settled = λ e. inl e;
     stays = λ e. omega (arith, now, e);
@@ -205,7 +212,7 @@ module _ (p : Plan) (s : Table) (k : Kept p s) (c : Credited p s) (id : ℕ) (v 
 
   -- a word that is due is a field or a word of an entry
   pub write_pays : (i x : ℕ) (ds : List (ℕ × ℕ)) → v.due ≡ (i, x) ∷ ds → Credited p (after s i x id (wrote v))
-  write_pays i x ds due = plain_keeps p s k c i x id v (wrote v) here not_left not_right (λ e. live_own (subst (λ (n : ℕ). IsOwn (part_of_word p.parts n)) e own)) (cells_off p.parts s.words i x not_left not_right) refl refl (omega arith) refl refl
+  write_pays i x ds due = plain_keeps p s k c i x id v (wrote v) here not_left not_right (λ e. live_own (subst (λ (n : ℕ). IsOwn (part_of_word p.parts n)) e own)) (cells_off p.parts s.words i x not_left not_right) refl refl (omega arith) refl refl refl
     where
       own : IsOwn (part_of_word p.parts i)
       own = (k.seats.due v i x seen (subst (λ (l : List (ℕ × ℕ)). IsIn {X = ℕ × ℕ} (i, x) l) (sym due) (inl refl))).1
@@ -234,10 +241,10 @@ module _ (p : Plan) (s : Table) (k : Kept p s) (c : Credited p s) (id : ℕ) (v 
         no l = l
 
     pub linked_pays : Credited p (after s i x id (linked v))
-    linked_pays = plain_keeps p s k c i x id v (linked v) here off_left off_right off_live (cells_off p.parts s.words i x off_left off_right) refl refl (rest_length v.pending) refl refl
+    linked_pays = plain_keeps p s k c i x id v (linked v) here off_left off_right off_live (cells_off p.parts s.words i x off_left off_right) refl refl (rest_length v.pending) refl refl refl
 
     pub moved_pays : (b d : ℕ) → Credited p (after s i x id (moved v i b d))
-    moved_pays b d = plain_keeps p s k c i x id v (moved v i b d) here off_left off_right off_live (cells_off p.parts s.words i x off_left off_right) refl refl (omega (arith, relinked_length v.pending b d)) refl refl
+    moved_pays b d = plain_keeps p s k c i x id v (moved v i b d) here off_left off_right off_live (cells_off p.parts s.words i x off_left off_right) refl refl (omega (arith, relinked_length v.pending b d)) refl refl refl
 
   -- the first pending link is published
   module _ (l : Link) (ls : List Link) (pending : v.pending ≡ l ∷ ls) where
@@ -276,6 +283,7 @@ module _ (p : Plan) (s : Table) (k : Kept p s) (c : Credited p s) (id : ℕ) (v 
         claims_same (set s.words (suc l.cell) l.two) s.words v (λ a y m. get_or-set_other s.words (suc l.cell) (suc a) l.two 0 (right_free v a y seen m)),
       );
       links = c.links v seen;
+      owes = omega (arith, c.owes v seen, claims_same (set s.words (suc l.cell) l.two) s.words v (λ a y m. get_or-set_other s.words (suc l.cell) (suc a) l.two 0 (right_free v a y seen m)));
       few = c.few v seen;
       settled = λ e. inl e;
       stays = λ e. live ∙ e;
@@ -300,6 +308,7 @@ module _ (p : Plan) (s : Table) (k : Kept p s) (c : Credited p s) (id : ℕ) (v 
         ap length pending,
       );
       links = omega (arith, c.links v seen, ap length pending, ap (λ (ks : List Link). length (rest ks)) pending, paid, one);
+      owes = omega (arith, c.owes v seen, claims_stay l.cell cell_is l.one, paid, one);
       few = omega (arith, c.few v seen);
       settled = λ e. inl e;
       stays = λ e. live_stays l.cell cell_is l.one ∙ e;

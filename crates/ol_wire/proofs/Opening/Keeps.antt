@@ -211,6 +211,7 @@ module _ (p : Plan) (fuel : ℕ) (words : List ℕ) (is : IsStart p.start.value 
   credited = record {
     live = omega (arith, is.live);
     links = λ v h. let e = ap (λ (u : View). length u.pending) (view_is v h) in omega (arith, e);
+    owes = λ v h. let e = ap (λ (u : View). u.owed) (view_is v h) in omega (arith, e);
     few = λ v h. let e = ap (λ (u : View). u.owed + length u.taken) (view_is v h) in omega (arith, e);
     settled = λ v h e. absurd (let bad : false ≡ true = sym (ap (λ (u : View). u.settled) (view_is v h)) ∙ e in cc);
   }

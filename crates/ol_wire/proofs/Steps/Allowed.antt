@@ -86,7 +86,7 @@ module _ (p : Plan) (slots id : ℕ) (m : Seated) (held : 0 < m.0.holds) where
       let e : get_or s.words (suc w) 0 ≡ get_or k.full (suc w) 0 = right_written p s k w h.0 h.2 in
       let node = subst (λ z. IsNodeOf z (get_or s.words (suc w) 0)) (sym (of_plan s k here)) (subst (IsNodeOf p.parts) (sym e) (node_of_ref p s k (get_or k.full (suc w) 0) pair.g)) in
       let lasting = subst IsLasting (sym (is_left p.parts w h.0).0) tt in
-      (paired m.0 (suc w) (get_or s.words (suc w) 0), keeps, tt, (paired_keeps p s k id m.0 here held (suc w) lasting (is_left p.parts w h.0).1 (λ q. omega (arith, node.0, q)), read_keeps p s paid (suc w) (get_or s.words (suc w) 0) id m.0 (paired m.0 (suc w) (get_or s.words (suc w) 0)) refl here refl refl refl refl refl, pair_recalls p s k told id m.0 here held w x only (λ q. omega (arith, node.0, q))), (refl, sym (ap (λ (l : List (ℕ × ℕ)). suc (cell_in_hand l)) only), refl, node))
+      (paired m.0 (suc w) (get_or s.words (suc w) 0), keeps, tt, (paired_keeps p s k id m.0 here held (suc w) lasting (is_left p.parts w h.0).1 (λ q. omega (arith, node.0, q)), read_keeps p s paid (suc w) (get_or s.words (suc w) 0) id m.0 (paired m.0 (suc w) (get_or s.words (suc w) 0)) refl here refl refl refl refl refl refl, pair_recalls p s k told id m.0 here held w x only (λ q. omega (arith, node.0, q))), (refl, sym (ap (λ (l : List (ℕ × ℕ)). suc (cell_in_hand l)) only), refl, node))
 
   pub reads_right_allowed_at : (w x : ℕ) → m.0.taken ≡ (w, x) ∷ [] → (u : ℕ) → u ≡ suc w → Allows (IsRuled p) slots id m u (λ n. n) (reads_right (step slots u 0 0 none) m)
   reads_right_allowed_at w x taken u is = subst (λ (a : ℕ). Allows (IsRuled p) slots id m a (λ n. n) (reads_right (step slots a 0 0 none) m)) (sym is) (reads_right_allowed w x taken)
@@ -144,7 +144,7 @@ module _ (p : Plan) (slots id : ℕ) (m : Seated) (held : 0 < m.0.holds) where
     reads_field_there s (k, paid, told) homes here small =
         let u : ℕ = place_in r + c in
         let h = found_there s k here in
-        (knowing m.0 u (get_or s.words u 0), keeps, tt, (knowing_keeps p s k id m.0 here held u h.0 h.1 h.2, read_keeps p s paid u (get_or s.words u 0) id m.0 (knowing m.0 u (get_or s.words u 0)) refl here refl refl refl refl refl, read_recalls p s told id m.0 (knowing m.0 u (get_or s.words u 0)) u (get_or s.words u 0) here refl refl refl refl), ((refl, refl, h.3), (λ y known_there. sym (k.words.known m.0 u y (id, here) known_there).0)))
+        (knowing m.0 u (get_or s.words u 0), keeps, tt, (knowing_keeps p s k id m.0 here held u h.0 h.1 h.2, read_keeps p s paid u (get_or s.words u 0) id m.0 (knowing m.0 u (get_or s.words u 0)) refl here refl refl refl refl refl refl, read_recalls p s told id m.0 (knowing m.0 u (get_or s.words u 0)) u (get_or s.words u 0) here refl refl refl refl), ((refl, refl, h.3), (λ y known_there. sym (k.words.known m.0 u y (id, here) known_there).0)))
 
     pub reads_field_allowed : (u : ℕ) → u ≡ place_in r + c → Allows (IsRuled p) slots id m u (λ n. n) (reads_field (step slots u 0 0 none) m)
     reads_field_allowed u is = subst (λ (a : ℕ). Allows (IsRuled p) slots id m a (λ n. n) (reads_field (step slots a 0 0 none) m)) (sym is) reads_field_there
@@ -154,8 +154,8 @@ module _ (p : Plan) (slots id : ℕ) (m : Seated) (held : 0 < m.0.holds) where
       let first : IsIn {X = ℕ × ℕ} (i, x) m.0.due = subst (λ (l : List (ℕ × ℕ)). IsIn {X = ℕ × ℕ} (i, x) l) (sym due) (inl refl) in
       (wrote m.0, keeps, tt, (write_keeps p s k id m.0 here held i x ds due (due_past p s k m.0 i x (id, here) first), write_pays p s k paid id m.0 here i x ds due, plain_recalls p s told id m.0 (wrote m.0) i x here (own_not_left (part_of_word p.parts i) (k.seats.due m.0 i x (id, here) first).1) (own_not_right (part_of_word p.parts i) (k.seats.due m.0 i x (id, here) first).1) refl refl refl), (refl, refl))
 
-  pub returns_allowed : (c w x u : ℕ) → c < cells_of p.parts → w ≡ left_word p.parts c → u ≡ w → x ≡ m.0.last.0 → m.0.taken ≡ (w, m.0.last.0) ∷ [] → IsIn (suc w, m.0.last.1) m.0.known → Allows (IsRuled p) slots id m u (λ _. x) (λ _. returns (step slots u x 0 none) m x)
-  returns_allowed c w x u low at same first taken known =
+  pub returns_allowed : (c w x u : ℕ) → c < cells_of p.parts → w ≡ left_word p.parts c → u ≡ w → x ≡ m.0.last.0 → m.0.taken ≡ (w, m.0.last.0) ∷ [] → IsIn (suc w, m.0.last.1) m.0.known → m.0.owed ≡ 0 → Allows (IsRuled p) slots id m u (λ _. x) (λ _. returns (step slots u x 0 none) m x)
+  returns_allowed c w x u low at same first taken known nothing =
       subst (λ (a : ℕ). Allows (IsRuled p) slots id m a (λ _. x) (λ _. returns (step slots a x 0 none) m x)) (sym same)
       (subst (λ (b : ℕ). Allows (IsRuled p) slots id m w (λ _. b) (λ _. returns (step slots w b 0 none) m b)) (sym first) there)
     where
@@ -166,7 +166,7 @@ module _ (p : Plan) (slots id : ℕ) (m : Seated) (held : 0 < m.0.holds) where
           is = ap (part_of_word p.parts) at ∙ (part_cell p.parts c low).0
 
           ruled : IsRuled p (after s w m.0.last.0 id (returned m.0))
-          ruled = (return_keeps p s k id m.0 here held c w low at taken known, return_pays p s k paid id m.0 here w is taken, return_recalls p s k told id m.0 here held w taken known)
+          ruled = (return_keeps p s k id m.0 here held c w low at taken known, return_pays p s k paid id m.0 here w is taken nothing, return_recalls p s k told id m.0 here held w taken known)
 
           stands : get_or (set s.words w m.0.last.0) w 0 ≡ m.0.last.0
           stands = get_or-set_same s.words w m.0.last.0 0 (omega (arith, k.words.wide, (is_left p.parts w is).1))

@@ -118,6 +118,7 @@ impl Shared {
         requires cell { cell < cells_of self.now.plan.parts }
         requires pair { IsInHand token.old.me.0 (left_word self.now.plan.parts cell) }
         requires left { left ≡ token.old.me.0.last.0 }
+        requires nothing { token.old.me.0.owed ≡ 0 }
         ensures token { IsSameSeat token.old token.new }
         ensures view { token.new.me.0 ≡ returned token.old.me.0 }
         ensures moment { MomentHolding self.now.plan (left_word self.now.plan.parts cell)
