@@ -5,4 +5,5 @@ pub mod Keep
 pub mod Steps
 pub mod Seats
 pub mod Quiet
+pub mod Owed
 pub mod Opening

@@ -53,6 +53,7 @@ pub use plan::Plan;
 pub use reference::{index_in, is_node, kind_in, place_in};
 pub use rule_laws::{
     at_every_moment, last_claims_at_every_moment, live_at_every_moment, nothing_is_overlooked,
+    nothing_is_owed,
 };
 pub use seat::Seat;
 pub use shared::Shared;

@@ -2,7 +2,7 @@
 ghost use Rattle.ol_wire.specs.Credit.{Credited, IsImplied};
 ghost use Rattle.ol_wire.specs.Remembered.{Remembered};
 ghost use Rattle.ol_wire.specs.Rule.{Kept, Table};
-ghost use Rattle.ol_wire.specs.Still.{NothingIsOverlooked};
+ghost use Rattle.ol_wire.specs.Still.{NothingIsOverlooked, NothingIsOwed};
 ghost use Rattle.ol_wire.specs.declared.plan.Plan.{Plan};
 
 use crate::law::Law;
@@ -34,4 +34,11 @@ pub fn last_claims_at_every_moment()
 /// net of the journal has none. A seat holds neither between its calls.
 pub fn nothing_is_overlooked()
     ensures { NothingIsOverlooked }
+{}
+
+/// Law: where the net of the journal has no active pair, and no seat that has drawn a ticket owes
+/// anything, the live word is 0. So where it isn't 0 a pair is active, or a seat is still at the
+/// links of a ticket.
+pub fn nothing_is_owed()
+    ensures { NothingIsOwed }
 {}

@@ -1,5 +1,5 @@
 -- Numbers below a bound, added up, and which pairs are active.
--- Used in Keep, Opening, Quiet, Seats, Steps, Words and Steps.Remembering.
+-- Used in Keep, Opening, Owed, Quiet, Seats, Steps, Words and Steps.Remembering.
 use Rattle.std.proofs.Common.{◌≡◌, ◌≢◌, ℕ, zero, suc, ◌+◌, ◌<◌, ◌≤◌, ◌==◌, true, false, if◌then◌else◌, Option, Some, None, List, [], ◌∷◌, refl, sym, ap, ◌∙◌, arith, inl, inr, ne_eqb}
 use Rattle.std.proofs.lemmas.Bool.{cases_eq}
 use mathlib.Core.Option.{some}
@@ -73,7 +73,7 @@ active_le x y = elim (x == 0) as (λ b. (if b then 0 else ruled (rule_between x 
   | false ↦ ruled_le (rule_between x y) (rule_between y x)
 ]
 
-active_some : (x y : ℕ) → x ≢ 0 → active_in x y ≡ ruled (rule_between x y) (rule_between y x)
+pub active_some : (x y : ℕ) → x ≢ 0 → active_in x y ≡ ruled (rule_between x y) (rule_between y x)
 active_some x y n = ap (λ b. if b then 0 else ruled (rule_between x y) (rule_between y x)) (ne_eqb x 0 n)
 
 pub active_empty : (x y : ℕ) → x ≡ 0 → active_in x y ≡ 0

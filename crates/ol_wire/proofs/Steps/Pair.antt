@@ -1,5 +1,5 @@
 -- What a look finds: references of nodes, of wires and of free ports, by words of the table; and that a pair in hand is active.
--- Used in Credit.Steps, Allowed and Return.
+-- Used in Credit.Owed, Credit.Steps, Allowed and Return.
 use Rattle.std.proofs.Common.{◌≡◌, ◌≢◌, ℕ, zero, suc, ◌+◌, ◌%◌, ◌<◌, ◌⊎◌, true, Some, List, get_or, sym, refl, ap, ◌∙◌, subst, inl, inr, arith}
 use Rattle.std.proofs.lemmas.Bool.{cases_eq, and_parts}
 use mathlib.Core.Bool.{false≢true}
@@ -144,7 +144,7 @@ module _ (p : Plan) (s : Table) (k : Kept p s) where
       let h = full_of_claimed v w x is m in
       sym (right_written p s k w h.0 h.2) ∙ (k.words.known v (suc w) y is known).0
 
-  fits_pair : (a b : ℕ) (f : IsNodeAt z k.net a) (g : IsNodeAt z k.net b) (r : Rule) → Linked k.net (slot f.x 0) (slot g.x 0) → rule_between a b ≡ Some r → HasActive k.net
+  pub fits_pair : (a b : ℕ) (f : IsNodeAt z k.net a) (g : IsNodeAt z k.net b) (r : Rule) → Linked k.net (slot f.x 0) (slot g.x 0) → rule_between a b ≡ Some r → HasActive k.net
   fits_pair a b f g r link rule =
       let fk : kind_in a ≡ f.k = ap kind_in f.is ∙ kind_of_ref f.k f.i (place_of z f.x) in
       let gk : kind_in b ≡ g.k = ap kind_in g.is ∙ kind_of_ref g.k g.i (place_of z g.x) in
@@ -153,7 +153,7 @@ module _ (p : Plan) (s : Table) (k : Kept p s) where
       let e : rule_between a b ≡ rule_of f.k f.i g.k g.i = ap (λ q. rule_of q (index_in a) (kind_in b) (index_in b)) fk ∙ ap (λ q. rule_of f.k q (kind_in b) (index_in b)) fi ∙ ap (λ q. rule_of f.k f.i q (index_in b)) gk ∙ ap (rule_of f.k f.i g.k) gi in
       (f.x, g.x, r, record { k = f.k; i = f.i; l = g.k; j = g.i; faces = record { first = f.has; second = g.has; linked = link }; fits = sym e ∙ rule })
 
-  turned : (q r : NamedPort NodeName) → Linked k.net q r → Linked k.net r q
+  pub turned : (q r : NamedPort NodeName) → Linked k.net q r → Linked k.net r q
   turned q r (inl i) = inr i
   turned q r (inr i) = inl i
 

@@ -1,5 +1,5 @@
 -- What a ticket writes and what its links join are references to what has been made: to the old words, to the block's wires and to its nodes.
--- Used in LinkSteps.All, Steps.Turn, Cells, Fields, Words and `rewrite`.
+-- Used in Credit.Steps, LinkSteps.All, Steps.Turn, Cells, Fields, Words and `rewrite`.
 use Rattle.std.proofs.Common.{◌≡◌, ◌≢◌, ℕ, zero, suc, ◌+◌, ◌-◌, ◌<◌, ◌≤◌, if◌then◌else◌, nat_lt, lt-ltb, inl, inr, Bool, true, false, Option, Some, None, List, [], ◌∷◌, ◌++◌, get_or, sym, refl, ap, ◌∙◌, subst, arith}
 use Rattle.std.proofs.lemmas.Bool.{cases_lt}
 use Rattle.std.proofs.lemmas.Bool.Decides.{nat_tests}
