@@ -34,8 +34,9 @@ impl Shared {
     /// word, which the seat's view keeps in `looked`.
     ///
     /// True: the word was 0 then. At that moment the net of the journal had no active pair, and so
-    /// it stays. False: another number stood there, so that a pair was active or a turn was under
-    /// way.
+    /// it stays. False: another number stood there, so that a pair was active, or a seat was still
+    /// at the links of its ticket (`nothing_is_owed`).
+    ///
     /// It takes no memory and doesn't wait.
     pub fn quiet(&self, seat: &mut Seat) -> bool
         requires seat { IsSeatOf self.now seat.old }

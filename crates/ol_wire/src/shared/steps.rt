@@ -112,7 +112,7 @@ impl Shared {
         self.table.shared.store::<Writes>(token, at as usize, word);
     }
 
-    // Puts the pair in hand back into its cell.
+    // Puts the pair in hand back into its cell, once nothing is owed.
     pub(crate) fn put_back(&self, token: &mut Token, cell: u32, left: u64)
         requires token { IsTokenOf self.now token.old }
         requires cell { cell < cells_of self.now.plan.parts }
