@@ -1,4 +1,4 @@
--- After a ticket each port of the net stands at one end of an edge, each reached wire at two, and nothing else at any.
+-- After a ticket each port is at one end of an edge, each reached wire at two, nothing else at any.
 pub mod Sums
 pub mod Weights
 pub mod Counts

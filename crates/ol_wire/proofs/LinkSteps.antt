@@ -1,4 +1,4 @@
--- The steps that make a link: each keeps the rule, and may be made.
+-- The steps that make a link: each keeps the rule.
 pub mod Lists
 pub mod Keep
 pub mod Edges

@@ -1,4 +1,4 @@
--- The steps of a turn but its links, and those on the live word: each keeps the rule, and may be made.
+-- The steps of a turn but its links, and those on the live word: each keeps the rule.
 pub mod Lists
 pub mod Keep
 pub mod Swept

@@ -21,7 +21,8 @@ IsStill p s = (c : ℕ) → c < cells_of p.parts → slice_index s.words (left_w
 abbrev pub NothingIsOverlooked : Type 0
 NothingIsOverlooked = (p : Plan) (s : Table) (k : Kept p s) → IsSettled s → IsStill p s → IsComplete k.net
 
--- Where the net of the journal has no active pair, and no seat that has drawn a ticket owes anything, the live word is 0.
+-- Where the net of the journal has no active pair, and no seat that has drawn a ticket owes
+-- anything, the live word is 0.
 abbrev pub NothingIsOwed : Type 0
 NothingIsOwed = (p : Plan) (s : Table) (k : Kept p s) → Credited p s → IsComplete k.net
     → ((v : View) → IsView s v → (v.made ≡ []) ⊎ (v.owed ≡ 0)) → slice_index s.words 1 ≡ 0
