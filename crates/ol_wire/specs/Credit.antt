@@ -36,6 +36,8 @@ pub record Credited (p : Plan) (s : Table) : Type 0 where
   pub live : slice_index s.words 1 ≡ active_cells p.parts s.words + total (active_claims s.words) s.views + total (λ (v : View). v.owed) s.views
   -- each link that is to be made is owed
   pub links : (v : View) → IsView s v → length v.pending ≤ v.owed
+  -- what a seat owes is for an active pair that it has claimed, or for tickets that it has drawn
+  pub owes : (v : View) → IsView s v → v.owed ≤ 5 * (active_claims s.words v + length v.made)
   -- a seat has a claimed pair with four joins, or a rewritten one with these
   pub few : (v : View) → IsView s v → v.owed + length v.taken ≤ 5 * v.holds
   -- once a seat has read 0 there the word stays 0

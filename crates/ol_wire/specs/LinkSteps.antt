@@ -36,8 +36,8 @@ abbrev pub publishes : Play
 publishes s m r n = (n.1 ≡ m.1) × (n.0 ≡ publishing m.0 s.word)
 
 -- a look at the ticket word, which tells that no seat stands for more than there are, and has no ticket twice
-abbrev pub counts : Play
-counts s m r n = (n.1 ≡ m.1) × (n.0 ≡ m.0) × (m.0.holds ≤ m.0.seats) × ((t : ℕ) → times_drawn t m.0.made ≤ 1)
+abbrev pub reads_tickets_joined : Play
+reads_tickets_joined s m r n = (n.1 ≡ m.1) × (n.0 ≡ m.0) × (m.0.holds ≤ m.0.seats) × ((t : ℕ) → times_drawn t m.0.made ≤ 1)
 
 -- what a seat is left with that was joined to another: nothing, of no table
 abbrev pub no_parts : Parts

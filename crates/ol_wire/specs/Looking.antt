@@ -17,9 +17,9 @@ abbrev pub MomentLive : Plan → View → ℕ → Type 0
 MomentLive p v word = (m : Moment p v) × (slice_index m.table.words 1 ≡ word) × (word ≡ 0 → IsComplete m.kept.net)
 
 -- A look at the live word.
-abbrev pub listens : Play
-listens s m r n = (n.1 ≡ m.1) × (n.0 ≡ live_read m.0 r) × ((p : Plan) → KnowsPlan p m.0 → MomentLive p n.0 r)
+abbrev pub reads_live : Play
+reads_live s m r n = (n.1 ≡ m.1) × (n.0 ≡ live_read m.0 r) × ((p : Plan) → KnowsPlan p m.0 → MomentLive p n.0 r)
 
 -- A look at the ticket word. A step can't read the plan, so that the moment is told for each plan that the view knows, and there is one.
-abbrev pub sees : Play
-sees s m r n = (n.1 ≡ m.1) × (n.0 ≡ m.0) × ((p : Plan) → KnowsPlan p m.0 → MomentWith p m.0 r)
+abbrev pub reads_tickets : Play
+reads_tickets s m r n = (n.1 ≡ m.1) × (n.0 ≡ m.0) × ((p : Plan) → KnowsPlan p m.0 → MomentWith p m.0 r)

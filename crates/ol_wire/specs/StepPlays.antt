@@ -151,13 +151,13 @@ claims s m r n = (n.1 ≡ m.1) × (r ≡ 0 → (n.0 ≡ missing m.0 s.word) × (
     × (r ≢ 0 → (n.0 ≡ holding m.0 s.word r) × IsNodeOf m.0.parts r)
 
 -- of the right word of the cell whose pair is in hand
-abbrev pub pairs_up : Play
-pairs_up s m r n = (n.1 ≡ m.1) × (s.word ≡ suc (cell_in_hand m.0.taken)) × (n.0 ≡ paired m.0 s.word r)
+abbrev pub reads_right : Play
+reads_right s m r n = (n.1 ≡ m.1) × (s.word ≡ suc (cell_in_hand m.0.taken)) × (n.0 ≡ paired m.0 s.word r)
     × IsNodeOf m.0.parts r
 
 -- of a field of one of the two nodes of the claimed pair
-abbrev pub looks : Play
-looks s m r n = (n.1 ≡ m.1) × (n.0 ≡ knowing m.0 s.word r) × IsRefOf m.0.parts r
+abbrev pub reads_reference : Play
+reads_reference s m r n = (n.1 ≡ m.1) × (n.0 ≡ knowing m.0 s.word r) × IsRefOf m.0.parts r
 
 abbrev pub draws : Play
 draws s m r n = (n.1 ≡ m.1) × (r < m.0.parts.fuel → (n.0 ≡ ticketed m.0 r) × ((p : Plan) → KnowsPlan p m.0 → Moment p n.0)) × (m.0.parts.fuel ≤ r → n.0 ≡ late m.0)

@@ -2,8 +2,8 @@
 use Rattle.std.specs.Prelude.{◌≡◌, ℕ, suc, ◌+◌, ◌*◌, ◌^◌, ◌<◌, List, [], ◌++◌, true, false, Some, slice_index, MatchOption, Option}
 use Rattle.ol_wire.specs.declared.layout.Parts.{Parts}
 use Rattle.ol_wire.specs.declared.view.View.{View}
-use Rattle.ol_wire.specs.declared.turning.Begun.{Begun}
-use Rattle.ol_wire.specs.declared.turning.Turn.{Turn}
+use Rattle.ol_wire.specs.declared.begun.Begun.{Begun}
+use Rattle.ol_wire.specs.declared.turn.Turn.{Turn}
 use Rattle.ol_wire.specs.Layout.{left_word, born_cell}
 use Rattle.ol_wire.specs.Events.{rule_between}
 use Rattle.ol_wire.specs.LinkLists.{links_of, link_of, joins_in}

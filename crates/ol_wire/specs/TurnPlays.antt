@@ -4,11 +4,11 @@ use Rattle.ol_edges.specs.Edges.{IsIn}
 use Rattle.ol_wire.specs.declared.plan.Plan.{Plan}
 use Rattle.ol_wire.specs.Rule.{KnowsPlan}
 use Rattle.ol_wire.specs.Moments.{MomentHolding}
-use Rattle.ol_wire.specs.StepPlays.{Play, looks, returned}
+use Rattle.ol_wire.specs.StepPlays.{Play, reads_reference, returned}
 
 -- a look that agrees with what the seat knows of that word already
-abbrev pub reads : Play
-reads s m r n = looks s m r n × ((y : ℕ) → IsIn (s.word, y) m.0.known → y ≡ r)
+abbrev pub reads_field : Play
+reads_field s m r n = reads_reference s m r n × ((y : ℕ) → IsIn (s.word, y) m.0.known → y ≡ r)
 
 -- the pair is in its cell again, at a moment
 abbrev pub returns : Play

@@ -5,8 +5,8 @@ use Rattle.ol_rules.specs.Listed.{each}
 use Rattle.ol_wire.specs.declared.layout.Parts.{Parts}
 use Rattle.ol_wire.specs.declared.plan.Plan.{Plan}
 use Rattle.ol_wire.specs.declared.view.View.{View}
-use Rattle.ol_wire.specs.declared.turning.Turn.{Turn}
-use Rattle.ol_wire.specs.declared.turning.Turn.TheVariants.{Rewrote, Gone, Stuck, Spent}
+use Rattle.ol_wire.specs.declared.turn.Turn.{Turn}
+use Rattle.ol_wire.specs.declared.turn.Turn.TheVariants.{Rewrote, Gone, Stuck, Spent}
 use Rattle.ol_wire.specs.Events.{entry_of}
 use Rattle.ol_wire.specs.Layout.{left_word}
 use Rattle.ol_wire.specs.LinkLists.{joins_in, link_of, links_of}

@@ -1,7 +1,11 @@
 //! How the words of a table are laid out.
 ghost use Rattle.std.specs.Prelude.{◌≡◌, ℕ, ◌+◌, ◌*◌, ◌<◌, ◌≤◌};
-ghost use Rattle.ol_wire.specs.Layout.{start_node, start_wire, start_cell, block, table_size, left_word, cells_of};
+ghost use Rattle.ol_wire.specs.References.{place_in};
+ghost use Rattle.ol_wire.specs.Layout.{port_word, start_node, start_wire, start_cell, block, table_size, left_word, cells_of, born_wire, born_cell};
 ghost use Rattle.ol_wire.specs.Sizes.{IsSmall};
+ghost use Rattle.ol_wire.specs.StepPlays.{IsNodeOf};
+
+use crate::reference::place_in;
 
 /// The numbers of the parts of a table.
 #[derive(Clone, Copy, Debug, PartialEq, Eq)]
@@ -21,6 +25,14 @@ pub struct Parts {
 /// The words of a block: the two nodes of the entry, two fields for each of four nodes, four wires,
 /// two words for each of four cells.
 pub const BLOCK: u32 = 22;
+
+/// The word of the free port of that number, in each table.
+pub fn port_word(port: u32) -> u32
+    requires { port < 4294967294 }
+    ensures { result ≡ port_word port }
+{
+    2 + port
+}
 
 impl Parts {
     /// The place of the start node of that number.
@@ -81,5 +93,37 @@ impl Parts {
         }
         let later = cell - self.cells;
         self.block(later / 4) + 14 + 2 * (later % 4)
+    }
+
+    // The word of the field of an auxiliary slot of a node. The slots are counted from 0.
+    pub(crate) fn field(self, node: u64, slot: u32) -> u32
+        requires { IsSmall self × IsNodeOf self node × (slot < 2) }
+        ensures { result ≡ place_in node + slot }
+    {
+        place_in(node) + slot
+    }
+
+    // The left word of the cell of a join of a ticket.
+    pub(crate) fn born_cell(self, ticket: u32, join: u32) -> u32
+        requires { IsSmall self × (ticket ≤ 8000000) × (join < 4) }
+        ensures { result ≡ born_cell self ticket join }
+    {
+        self.block(ticket) + 14 + 2 * join
+    }
+
+    // The word of a wire or of a free port.
+    pub(crate) fn word_of(self, wire: u64) -> u32
+        requires { IsSmall self × (place_in wire < table_size self) }
+        ensures { result ≡ place_in wire }
+    {
+        place_in(wire)
+    }
+
+    // The wire between the copy of f at slot q + 1 of g and the copy of g at slot p + 1 of f.
+    pub(crate) fn born_wire(self, ticket: u32, q: u32, p: u32) -> u32
+        requires { IsSmall self × (ticket ≤ 8000000) × (q < 4) × (p < 4) }
+        ensures { result ≡ born_wire self ticket q p }
+    {
+        self.block(ticket) + 10 + 2 * q + p
     }
 }

@@ -1,36 +1,61 @@
 //! The shared words: a net laid out in words that any number of threads rewrite by single atomic
 //! steps.
+//!
+//! What the words are:
+//! - `layout`: which word is which, by number.
+//! - `reference`: what a word holds that isn't empty.
+//! - `net_words`: the words of a net, before any step.
+//!
+//! What a ticket is drawn for:
+//! - `rewrite`: the pair, its rule, and how many nodes and links come of it.
+//! - `blocks`: the words that its seat writes.
+//! - `begun`: a rewrite that has its ticket, and the ends of its links.
+//! - `entries`: its entry in the journal.
+//! - `turn`: what a turn came to.
+//!
+//! The rule, which no step breaks:
+//! - `plan`: what a table is told when it is made.
+//! - `view`: what a seat knows and holds.
+//! - `law`: the rule.
+//! - `plays`: what each kind of step tells the seat that makes it.
+//! - `rule_laws`: what the rule says at every moment.
+//!
+//! The calls:
+//! - `shared`: the table that threads share. Its parts are `seats`, `turns`, `steps`, `links`,
+//!   `moments` and `close`.
+//! - `seat`: what a thread steps with.
+//! - `closed`: the words once no thread shares them, and their journal.
+//! - `closed_laws`: what these words say.
 #![tactic(auto)]
 
+mod begun;
+mod blocks;
 mod closed;
-mod closing;
-mod joining;
+mod closed_laws;
+mod entries;
 mod law;
-mod laying;
 mod layout;
-mod linking;
-mod naming;
-mod outcome;
+mod net_words;
 mod plan;
-mod promise;
+mod plays;
 mod reference;
 mod rewrite;
+mod rule_laws;
 mod seat;
-mod seeing;
 mod shared;
-mod stepping;
-mod turning;
+mod turn;
 mod view;
 
 pub use closed::Words;
 pub use law::Law;
-pub use layout::Parts;
+pub use layout::{BLOCK, Parts, port_word};
 pub use plan::Plan;
-pub use promise::{
-    at_every_moment, last_claims_at_every_moment, live_at_every_moment, nothing_is_overlooked,
-};
 pub use reference::{index_in, is_node, kind_in, place_in};
+pub use rule_laws::{
+    at_every_moment, last_claims_at_every_moment, live_at_every_moment, nothing_is_overlooked,
+    nothing_is_owed,
+};
 pub use seat::Seat;
 pub use shared::Shared;
-pub use turning::Turn;
+pub use turn::Turn;
 pub use view::{Link, View};

@@ -1,13 +1,10 @@
 //! The seat with which a thread steps on a table.
-ghost use Rattle.std.specs.Prelude.{◌≡◌, ◌<◌, ◌≤◌, [], false};
+ghost use Rattle.std.specs.Prelude.{◌≡◌, ◌≤◌, []};
 ghost use Rattle.ol_wire.specs.Layout.{cells_of};
-ghost use Rattle.ol_wire.specs.StepPlays.{fewer, one_seat};
 ghost use Rattle.ol_wire.specs.Stand.{SeatState};
 ghost use Rattle.ol_wire.specs.Tokens.{IsAtRest};
 ghost use Rattle.ol_wire.specs.Idle.{IsIdle};
 
-use crate::law::Cut;
-use crate::shared::Shared;
 use crate::view::View;
 use std::marker::Model;
 
@@ -62,24 +59,5 @@ impl Seat {
         ensures pending { self.now.view.pending ≡ [] }
     {
         let _ = &self.holds;
-    }
-}
-
-impl Shared {
-    // Cuts one seat off a seat that stands for more than one.
-    pub(crate) fn cut(&self, seat: &mut Seat) -> Seat
-        requires table { seat.old.table ≡ self.now.table }
-        requires holds { (1 < seat.old.view.holds) × (seat.old.view.over ≡ false) }
-        requires unswept { seat.old.view.swept ≡ 0 }
-        ensures left { (seat.new.table ≡ seat.old.table) × (seat.new.view ≡ fewer seat.old.view) }
-        ensures right { (result.table ≡ seat.old.table) × (result.view ≡ one_seat seat.old.view) }
-    {
-        let token = self.table.shared.split_seat::<Cut>(&mut seat.token);
-        seat.holds -= 1;
-        Seat {
-            token,
-            over: false,
-            holds: 1,
-        }
     }
 }

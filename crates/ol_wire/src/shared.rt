@@ -1,15 +1,29 @@
 //! The table that threads share.
+//!
+//! - `seats`: how its seats are dealt out, cut off and joined.
+//! - `turns`: a turn: a claim, and what becomes of the pair that it finds.
+//! - `steps`: the single steps of a turn, but those of its links.
+//! - `links`: the links that a rewrite leaves.
+//! - `moments`: looks at the whole table.
+//! - `close`: the end of the table.
 ghost use Rattle.std.specs.Prelude.{◌≡◌, ◌+◌, ◌<◌, ◌≤◌, [], All, IfOk, vec_len, length, is_some, count_by};
 ghost use Rattle.ol_wire.specs.Layout.{table_size as size_of, cells_of};
 ghost use Rattle.ol_wire.specs.Sizes.{IsSmall, IsSmallNet};
 ghost use Rattle.ol_wire.specs.Starts.{AreParts};
 ghost use Rattle.ol_wire.specs.Stand.{TableState, IsNewSeat};
-ghost use Rattle.ol_wire.specs.Tokens.{IsFreshFor, IsTable};
+ghost use Rattle.ol_wire.specs.Tokens.{IsTable};
 ghost use Rattle.ol_wire.specs.Views.{fresh};
 
+mod close;
+mod links;
+mod moments;
+mod seats;
+mod steps;
+mod turns;
+
 use crate::law::Law;
-use crate::laying::lay;
 use crate::layout::Parts;
+use crate::net_words::lay;
 use crate::plan::Plan;
 use crate::seat::Seat;
 use crate::view::View;
@@ -82,26 +96,6 @@ impl Shared {
         };
         let dealt = shared.deal(alloc, first, seats)?;
         Ok((shared, dealt))
-    }
-
-    // Cuts a seat that has done nothing into seats of one each.
-    fn deal(&self, alloc: Global, mut seat: Seat, count: u32) -> Result<Vec<Seat>, NoMemory>
-        requires seat { IsFreshFor self.now seat count }
-        ensures { IfOk result (λ v. (vec_len v ≡ count) × All (IsNewSeat self.now) v.items) }
-    {
-        let Ok(mut seats) = Vec::with_capacity(alloc, count as usize) else {
-            return Err(NoMemory);
-        };
-        for _ in 1..count {
-            let one = self.cut(&mut seat);
-            let Ok(()) = seats.push(one) else {
-                return Err(NoMemory);
-            };
-        }
-        let Ok(()) = seats.push(seat) else {
-            return Err(NoMemory);
-        };
-        Ok(seats)
     }
 
     /// The number of cells: those of the net at the start, and four for each ticket.

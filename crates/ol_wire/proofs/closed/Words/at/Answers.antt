@@ -1,7 +1,7 @@
 use Rattle.std.proofs.Common.{ap, ◌∙◌, slice_index}
 use Rattle.core.specs.Mem.Slots.{slots_items}
 use Rattle.ol_wire.specs.Closed.{ClosedTable}
-use Rattle.ol_wire.proofs.ClosingTable.{got}
+use Rattle.ol_wire.proofs.Closing.Table.{got}
 use Rattle.ol_wire.proofs.closed.Words.at.Goals as goal
 
 pub returns : goal.returns

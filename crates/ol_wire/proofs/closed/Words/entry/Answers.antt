@@ -5,7 +5,7 @@ use Rattle.ol_wire.specs.Layout.{block}
 use Rattle.ol_wire.specs.Events.{event_of, entry_of}
 use Rattle.ol_wire.specs.Closed.{ClosedTable}
 use Rattle.ol_wire.specs.ClosedRule.{IsClosed}
-use Rattle.ol_wire.proofs.ClosingTable.{place_small}
+use Rattle.ol_wire.proofs.Closing.Table.{place_small}
 use Rattle.ol_wire.proofs.closed.Words.entry.Goals as goal
 
 pub entry-requires-clause-places : goal.entry-requires-clause-places

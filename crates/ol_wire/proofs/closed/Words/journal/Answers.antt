@@ -6,7 +6,7 @@ use Rattle.ol_wire.specs.Layout.{block}
 use Rattle.ol_wire.specs.Events.{event_of, entry_of}
 use Rattle.ol_wire.specs.Closed.{ClosedTable}
 use Rattle.ol_wire.specs.ClosedRule.{IsClosed}
-use Rattle.ol_wire.proofs.ClosingTable.{place_small, entry_at, no_entry}
+use Rattle.ol_wire.proofs.Closing.Table.{place_small, entry_at, no_entry}
 use Rattle.ol_wire.proofs.closed.Words.journal.Goals as goal
 
 pub returns-then-k-events : goal.returns-then-k-events

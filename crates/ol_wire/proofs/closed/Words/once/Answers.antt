@@ -1,6 +1,6 @@
 use Rattle.std.proofs.Common.{subst}
 use Rattle.ol_wire.specs.ClosedRule.{IsClosed}
-use Rattle.ol_wire.proofs.ClosingTold as told
+use Rattle.ol_wire.proofs.Closing.Told as told
 use Rattle.ol_wire.proofs.closed.Words.once.Goals as goal
 
 pub returns-clause-once : goal.returns-clause-once

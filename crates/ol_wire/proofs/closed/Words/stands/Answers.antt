@@ -1,6 +1,6 @@
 use Rattle.std.proofs.Common.{subst}
 use Rattle.ol_wire.specs.ClosedRule.{IsClosed}
-use Rattle.ol_wire.proofs.ClosingStands.{stands_told}
+use Rattle.ol_wire.proofs.Closing.Stands.{stands_told}
 use Rattle.ol_wire.proofs.closed.Words.stands.Goals as goal
 
 pub returns : goal.returns

@@ -1,6 +1,6 @@
 use Rattle.std.proofs.Common.{subst}
 use Rattle.ol_wire.specs.ClosedRule.{IsClosed}
-use Rattle.ol_wire.proofs.ClosingStands.{complete_after}
+use Rattle.ol_wire.proofs.Closing.Stands.{complete_after}
 use Rattle.ol_wire.proofs.closed.Words.swept.Goals as goal
 
 pub returns : goal.returns

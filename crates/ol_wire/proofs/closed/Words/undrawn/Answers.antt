@@ -1,6 +1,6 @@
 use Rattle.std.proofs.Common.{subst}
 use Rattle.ol_wire.specs.ClosedRule.{IsClosed}
-use Rattle.ol_wire.proofs.ClosingStands as stands
+use Rattle.ol_wire.proofs.Closing.Stands as stands
 use Rattle.ol_wire.proofs.closed.Words.undrawn.Goals as goal
 
 pub returns : goal.returns

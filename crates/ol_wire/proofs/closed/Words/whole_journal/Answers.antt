@@ -4,7 +4,7 @@ use Rattle.std.specs.Prelude.{slice_get}
 use Rattle.ol_rules.specs.Listed.{each}
 use Rattle.ol_rules.specs.declared.journal.Entry.{Entry}
 use Rattle.ol_wire.specs.Closed.{ClosedTable, events_in, pair_at, pairs_drawn, entry_at}
-use Rattle.ol_wire.proofs.ClosingLists.{one_each}
+use Rattle.ol_wire.proofs.Closing.Lists.{one_each}
 use Rattle.ol_wire.proofs.closed.Words.whole_journal.Goals as goal
 
 length_more : {X : Type 0} (xs : List X) (x : X) → length (xs ++ x ∷ []) ≡ suc (length xs)

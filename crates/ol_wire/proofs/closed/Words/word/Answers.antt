@@ -1,7 +1,7 @@
 use Rattle.std.proofs.Common.{◌≡◌, ◌<◌, length, subst, slice_index}
 use Rattle.core.specs.Mem.Slots.{slots_items}
 use Rattle.ol_wire.specs.Closed.{ClosedTable}
-use Rattle.ol_wire.proofs.ClosingTable.{got}
+use Rattle.ol_wire.proofs.Closing.Table.{got}
 use Rattle.ol_wire.proofs.closed.Words.word.Goals as goal
 
 pub returns-then-at-size : goal.returns-then-at-size

@@ -1,7 +1,7 @@
 use Rattle.std.proofs.Common.{◌<◌, sym, subst}
 use Rattle.ol_wire.specs.References.{place_in}
 use Rattle.ol_wire.specs.Events.{Event}
-use Rattle.ol_wire.proofs.ClosingEntry.{event_small}
+use Rattle.ol_wire.proofs.Closing.Entry.{event_small}
 use Rattle.ol_wire.proofs.layout.Parts.entry.Goals as goal
 
 pub entry_by-requires-clause-places : goal.entry_by-requires-clause-places

@@ -2,11 +2,11 @@ use Rattle.std.proofs.Common.{◌≡◌, suc, ◌∷◌, ℕ, true, refl, sym, a
 use Rattle.ol_wire.specs.declared.view.View.{View}
 use Rattle.ol_wire.specs.Layout.{left_word}
 use Rattle.ol_wire.specs.InHand.{in_hand, IsInHand}
-use Rattle.ol_wire.proofs.StepsHold.{hand_of}
+use Rattle.ol_wire.proofs.Steps.Hold.{hand_of}
 use Rattle.ol_wire.specs.LinkLists.{joins_in}
 use Rattle.ol_wire.specs.Rewrites.{event_for}
 use Rattle.ol_wire.specs.StepPlays.{repaid}
-use Rattle.ol_wire.proofs.StepsTurn.{stuck_after, spent_after, begun_after, hand_repaid, back_repaid}
+use Rattle.ol_wire.proofs.Steps.Turn.{stuck_after, spent_after, begun_after, hand_repaid, back_repaid}
 use Rattle.ol_wire.proofs.shared.Shared.begin.Goals as goal
 
 pub rewrite-requires-clause-pair : goal.rewrite-requires-clause-pair

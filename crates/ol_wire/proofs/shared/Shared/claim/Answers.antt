@@ -3,8 +3,8 @@ use Rattle.ol_wire.specs.declared.layout.Parts.{Parts}
 use Rattle.ol_wire.specs.Layout.{left_word, cells_of, table_size}
 use Rattle.ol_wire.specs.Moments.{MomentEmpty}
 use Rattle.ol_wire.specs.Stand.{TableState}
-use Rattle.ol_wire.proofs.Places.{part_cell}
-use Rattle.ol_wire.proofs.Steps.{claims_allowed}
+use Rattle.ol_wire.proofs.InWords.Places.{part_cell}
+use Rattle.ol_wire.proofs.Steps.Allowed.{claims_allowed}
 use Rattle.ol_wire.proofs.shared.Shared.claim.Goals as goal
 
 pub swap-requires : goal.swap-requires

@@ -1,7 +1,7 @@
 use Rattle.std.proofs.Common.{◌≡◌, sym, ap, ◌∙◌, arith}
 use Rattle.ol_wire.specs.Stand.{SeatState, TableState}
 use Rattle.ol_wire.specs.declared.view.View.{View}
-use Rattle.ol_wire.proofs.StepsCut.{cut_allowed}
+use Rattle.ol_wire.proofs.Steps.Cut.{cut_allowed}
 use Rattle.ol_wire.proofs.shared.Shared.cut.Goals as goal
 
 pub split_seat-token-requires : goal.split_seat-token-requires

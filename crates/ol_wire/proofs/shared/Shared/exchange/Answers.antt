@@ -3,7 +3,7 @@ use Rattle.ol_wire.specs.declared.layout.Parts.{Parts}
 use Rattle.ol_wire.specs.Layout.{table_size}
 use Rattle.ol_wire.specs.StepPlays.{rest}
 use Rattle.ol_wire.specs.Stand.{TableState}
-use Rattle.ol_wire.proofs.StepsLinkAllowed.{links_allowed}
+use Rattle.ol_wire.proofs.LinkSteps.Allowed.{links_allowed}
 use Rattle.ol_wire.proofs.shared.Shared.exchange.Goals as goal
 
 pub swap-found-requires : goal.swap-found-requires

@@ -1,5 +1,5 @@
 use Rattle.std.proofs.Common.{refl, ◌∙◌}
-use Rattle.ol_wire.proofs.TurningLinks.{linking_begins, open_next, linking_goes_on}
+use Rattle.ol_wire.proofs.LinkSteps.All.{linking_begins, open_next, linking_goes_on}
 use Rattle.ol_wire.specs.References.{place_in}
 use Rattle.ol_wire.proofs.shared.Shared.link.Goals as goal
 

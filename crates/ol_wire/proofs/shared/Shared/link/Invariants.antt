@@ -1,7 +1,7 @@
 use Rattle.std.proofs.Common.{◌≡◌, ◌+◌, ◌-◌}
 use Rattle.ol_wire.specs.Layout.{table_size}
 use Rattle.ol_wire.specs.LinkSteps.{spread}
-use Rattle.ol_wire.proofs.TurningLinks.{IsLinking}
+use Rattle.ol_wire.proofs.LinkSteps.All.{IsLinking}
 use Rattle.ol_wire.proofs.shared.Shared.link.Given as goal
 
 abbrev pub invariant-loop-wire : goal.invariant-loop-wire

@@ -6,7 +6,7 @@ use Rattle.ol_wire.specs.LinkLists.{joins_in}
 use Rattle.ol_wire.specs.Rewrites.{event_for}
 use Rattle.ol_wire.specs.Links.{link_between}
 use Rattle.ol_wire.specs.Stand.{TableState}
-use Rattle.ol_wire.proofs.TurningLinks.{link_in, AreLinking, all_begin, link_is_next, both_ends, more_published, more_made, none_left, all_linked}
+use Rattle.ol_wire.proofs.LinkSteps.All.{link_in, AreLinking, all_begin, link_is_next, both_ends, more_published, more_made, none_left, all_linked}
 use Rattle.ol_wire.proofs.shared.Shared.link_all.Goals as goal
 use Rattle.ol_wire.proofs.shared.Shared.link_all.Goals.{in-Some, in_default}
 

@@ -1,5 +1,5 @@
 use Rattle.std.proofs.Common.{◌≡◌}
-use Rattle.ol_wire.proofs.TurningLinks.{AreLinking}
+use Rattle.ol_wire.proofs.LinkSteps.All.{AreLinking}
 use Rattle.ol_wire.proofs.shared.Shared.link_all.Given as goal
 
 abbrev pub invariant-loop-j : goal.invariant-loop-j

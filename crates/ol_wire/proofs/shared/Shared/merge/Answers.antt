@@ -2,8 +2,8 @@ use Rattle.std.proofs.Common.{◌<◌, sym, ap, ◌∙◌, arith}
 use Rattle.atomic_table.specs.Table.{Me}
 use Rattle.ol_wire.specs.declared.view.View.{View}
 use Rattle.ol_wire.specs.Stand.{TableState}
-use Rattle.ol_wire.proofs.StepsJoin.{join_allowed}
-use Rattle.ol_wire.proofs.StepsLinkAllowed.{counts_allowed}
+use Rattle.ol_wire.proofs.Steps.Join.{join_allowed}
+use Rattle.ol_wire.proofs.LinkSteps.Allowed.{reads_tickets_joined_allowed}
 use Rattle.ol_wire.proofs.shared.Shared.merge.Goals as goal
 
 pub join_seat-requires : goal.join_seat-requires
@@ -20,7 +20,7 @@ load-requires c =
     let me = c.join_seat.new.seat in
     let e = c.join_seat.ensures in
     let held : 0 < me.me.0.holds = omega (arith, c.requires.into.1.2, ap (λ (x : Me (Unit {0}) View). x.0.holds) e.2) in
-    (e.0 ∙ c.requires.into.0 ∙ sym (ap (λ (b : TableState). b.table) c.self.view_is), omega (arith, c.self.invariant.2), counts_allowed t.key t.table_id.slots me.id me.me held)
+    (e.0 ∙ c.requires.into.0 ∙ sym (ap (λ (b : TableState). b.table) c.self.view_is), omega (arith, c.self.invariant.2), reads_tickets_joined_allowed t.key t.table_id.slots me.id me.me held)
 
 pub returns-clause-few : goal.returns-clause-few
 returns-clause-few c =

@@ -1,6 +1,6 @@
 use Rattle.std.proofs.Common.{◌≡◌, sym, ap, ◌∙◌, arith}
 use Rattle.ol_wire.specs.Stand.{TableState}
-use Rattle.ol_wire.proofs.StepsCredit.{owes_allowed}
+use Rattle.ol_wire.proofs.Steps.LiveAllowed.{owes_allowed}
 use Rattle.ol_wire.proofs.shared.Shared.owe.Goals as goal
 
 pub fetch_add-requires : goal.fetch_add-requires

@@ -7,7 +7,7 @@ use Rattle.ol_wire.specs.Layout.{table_size}
 use Rattle.ol_wire.specs.Links.{link_between}
 use Rattle.ol_wire.specs.StepPlays.{rest}
 use Rattle.ol_wire.specs.Stand.{TableState}
-use Rattle.ol_wire.proofs.StepsLinkAllowed.{places_allowed, publishes_allowed}
+use Rattle.ol_wire.proofs.LinkSteps.Allowed.{places_allowed, publishes_allowed}
 use Rattle.ol_wire.proofs.shared.Shared.publish.Goals as goal
 
 pair_at : (a b x : ℕ) → a ≡ b → ◌≡◌ {A = ℕ × ℕ} (a, x) (b, x)

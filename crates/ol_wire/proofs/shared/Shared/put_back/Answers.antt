@@ -4,8 +4,8 @@ use Rattle.ol_wire.specs.Layout.{left_word, cells_of, table_size}
 use Rattle.ol_wire.specs.InHand.{IsInHand}
 use Rattle.ol_wire.specs.Moments.{MomentHolding}
 use Rattle.ol_wire.specs.Stand.{TableState}
-use Rattle.ol_wire.proofs.Places.{part_cell}
-use Rattle.ol_wire.proofs.Steps.{returns_allowed}
+use Rattle.ol_wire.proofs.InWords.Places.{part_cell}
+use Rattle.ol_wire.proofs.Steps.Allowed.{returns_allowed}
 use Rattle.ol_wire.proofs.shared.Shared.put_back.Goals as goal
 
 pub store-requires : goal.store-requires
@@ -18,7 +18,7 @@ store-requires c =
     let w : ℕ = left_word t.key.parts c.args.cell in
     let word : c.left_word-word.result ≡ w = c.left_word-word.ensures ∙ ap (λ (z : Parts). left_word z c.args.cell) (sym c.self.invariant.0) in
     let hand : IsInHand me.me.0 w = subst (λ (z : Parts). IsInHand me.me.0 (left_word z c.args.cell)) (sym parts) c.requires.pair in
-    (of, omega (arith, word, (part_cell t.key.parts c.args.cell cell).2, c.self.invariant.2, ap (λ (z : Parts). table_size z) c.self.invariant.0), returns_allowed t.key t.table_id.slots me.id me.me c.requires.token.1.2 c.args.cell w c.args.left c.left_word-word.result cell refl word c.requires.left hand.taken hand.right)
+    (of, omega (arith, word, (part_cell t.key.parts c.args.cell cell).2, c.self.invariant.2, ap (λ (z : Parts). table_size z) c.self.invariant.0), returns_allowed t.key t.table_id.slots me.id me.me c.requires.token.1.2 c.args.cell w c.args.left c.left_word-word.result cell refl word c.requires.left hand.taken hand.right c.requires.nothing)
 
 pub returns-clause-moment : goal.returns-clause-moment
 returns-clause-moment c =

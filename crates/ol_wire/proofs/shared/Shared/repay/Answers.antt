@@ -1,6 +1,6 @@
 use Rattle.std.proofs.Common.{◌≡◌, sym, ap, ◌∙◌, arith}
 use Rattle.ol_wire.specs.Stand.{TableState}
-use Rattle.ol_wire.proofs.StepsCredit.{repays_allowed}
+use Rattle.ol_wire.proofs.Steps.LiveAllowed.{repays_allowed}
 use Rattle.ol_wire.proofs.shared.Shared.repay.Goals as goal
 
 pub fetch_sub-requires : goal.fetch_sub-requires

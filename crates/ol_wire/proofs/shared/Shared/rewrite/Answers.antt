@@ -11,8 +11,8 @@ use Rattle.ol_wire.specs.Events.{Event, rule_between}
 use Rattle.ol_wire.specs.Plays.{event_in}
 use Rattle.ol_wire.specs.Rewrites.{event_for}
 use Rattle.ol_wire.specs.TurnParts.{HasBegunOrLate}
-use Rattle.ol_wire.proofs.TicketRefs.{joins_few}
-use Rattle.ol_wire.proofs.StepsHold.{of_pair, node_in_hand, place_small, seen, still_in_hand, owing_in_hand, owed_after, late_told, looked_up, looked_twice, rewritten}
+use Rattle.ol_wire.proofs.Ticket.Refs.{joins_few}
+use Rattle.ol_wire.proofs.Steps.Hold.{of_pair, node_in_hand, place_small, seen, still_in_hand, owing_in_hand, owed_after, late_told, looked_up, looked_twice, rewritten}
 use Rattle.ol_wire.proofs.shared.Shared.rewrite.Goals as goal
 
 pub look_at-of_f-requires-clause-node : goal.look_at-of_f-requires-clause-node

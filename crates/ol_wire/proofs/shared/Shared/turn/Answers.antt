@@ -5,7 +5,7 @@ use Rattle.ol_wire.specs.declared.view.View.{View}
 use Rattle.ol_wire.specs.Stand.{SeatState, TableState}
 use Rattle.ol_wire.specs.Turns.{TurnRewrites, LinksJoins}
 use Rattle.ol_wire.specs.Layout.{cells_of}
-use Rattle.ol_wire.proofs.StepsTurn.{swept_stays, links_pending, turn_rewrites, joins_told, ended_rests}
+use Rattle.ol_wire.proofs.Steps.Turn.{swept_stays, links_pending, turn_rewrites, joins_told, ended_rests}
 use Rattle.ol_wire.proofs.shared.Shared.turn.Goals as goal
 
 pub link_all-mask-requires-clause-begun : goal.link_all-mask-requires-clause-begun

@@ -3,7 +3,7 @@ use Rattle.ol_wire.specs.declared.layout.Parts.{Parts}
 use Rattle.ol_wire.specs.Layout.{table_size}
 use Rattle.ol_wire.specs.StepPlays.{rest}
 use Rattle.ol_wire.specs.Stand.{TableState}
-use Rattle.ol_wire.proofs.Steps.{writes_allowed}
+use Rattle.ol_wire.proofs.Steps.Allowed.{writes_allowed}
 use Rattle.ol_wire.proofs.shared.Shared.write.Goals as goal
 
 pub store-requires : goal.store-requires

@@ -1,5 +1,0 @@
-use Rattle.ol_wire.proofs.NothingLeft.{nothing_overlooked}
-use Rattle.ol_wire.proofs.promise.nothing_is_overlooked.Goals as goal
-
-pub returns : goal.returns
-returns c = nothing_overlooked

@@ -1,0 +1,72 @@
+//! The names of nodes by their places, and the entry of a pair that was rewritten.
+ghost use Rattle.std.specs.Prelude.{◌≡◌, ◌<◌, ◌⊎◌, Some};
+ghost use Rattle.ol_wire.specs.References.{place_in};
+ghost use Rattle.ol_wire.specs.Events.{name_at, rule_between, event_of, entry_of};
+ghost use Rattle.ol_wire.specs.Sizes.{IsSmall};
+
+use crate::layout::{BLOCK, Parts};
+use crate::reference::place_in;
+use crate::rewrite::rewrite_of;
+use ol_net::Rule;
+use ol_rules::{Entry, NodeName};
+
+impl Parts {
+    /// The node whose first field has that place; for a word that is no field it has no meaning.
+    pub fn name_at(self, place: u32) -> NodeName
+        requires { IsSmall self }
+        ensures { result ≡ name_at self place }
+    {
+        let nodes = self.start_node(0);
+        if nodes <= place && place < self.start_wire(0) {
+            return NodeName::Init((place - nodes) / 2);
+        }
+        let blocks = self.block(0);
+        if blocks <= place && place < self.size() {
+            let ticket = (place - blocks) / BLOCK;
+            let j = (place - blocks) % BLOCK;
+            if 2 <= j && j < 10 {
+                let at = (j - 2) / 2;
+                return NodeName::Born {
+                    ticket,
+                    place: at as u8,
+                };
+            }
+        }
+        NodeName::Init(0)
+    }
+
+    // The entry of a rewrite by this rule.
+    fn entry_by(self, rule: Rule, f: u64, g: u64) -> Entry
+        requires small { IsSmall self }
+        requires places { (place_in f < 4294967296) × (place_in g < 4294967296) }
+        ensures { result ≡ entry_of self (record { rule = rule; f = f; g = g }) }
+    {
+        let one = self.name_at(place_in(f));
+        let other = self.name_at(place_in(g));
+        if place_in(f) < place_in(g) {
+            return Entry {
+                rule,
+                first: one,
+                second: other,
+            };
+        }
+        Entry {
+            rule,
+            first: other,
+            second: one,
+        }
+    }
+
+    /// The entry of two nodes that were rewritten, by their references; for a stuck pair it has no
+    /// meaning.
+    pub(crate) fn entry(self, left: u64, right: u64) -> Entry
+        requires small { IsSmall self }
+        requires places { (place_in left < 4294967296) × (place_in right < 4294967296) }
+        ensures { result ≡ entry_of self (event_of left right) }
+    {
+        match rewrite_of(left, right) {
+            Some(rewrite) => self.entry_by(rewrite.rule, rewrite.f, rewrite.g),
+            None => self.entry_by(Rule::Erase, left, right),
+        }
+    }
+}
