@@ -6,6 +6,7 @@ pub mod Births
 pub mod Numbering
 pub mod Sites
 pub mod Linking
+pub mod Wires
 pub mod Meeting
 pub mod WordOf
 pub mod Finished
