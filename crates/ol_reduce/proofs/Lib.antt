@@ -11,6 +11,7 @@ pub mod Meeting
 pub mod WordOf
 pub mod Finished
 pub mod TheNet
+pub mod Filled
 pub mod Arriving
 pub mod Walking
 pub mod Rounds

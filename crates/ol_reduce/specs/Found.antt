@@ -9,7 +9,7 @@ use Rattle.ol_net.specs.Pairing.{IsPaired, other}
 use Rattle.ol_rules.specs.declared.journal.NodeName.{NodeName}
 use Rattle.ol_wire.specs.declared.layout.Parts.{Parts}
 use Rattle.ol_wire.specs.References.{wire_ref}
-use Rattle.ol_wire.specs.Layout.{left_word, start_wire, start_cell, block, table_size}
+use Rattle.ol_wire.specs.Layout.{left_word, cells_of, start_wire, start_cell, block, table_size}
 use Rattle.ol_wire.specs.Events.{name_at}
 use Rattle.ol_wire.specs.Stands.{IsEnd}
 use Rattle.ol_wire.specs.Closed.{ClosedTable}
@@ -90,6 +90,18 @@ AreCelled w net places partners n = (c r a : ℕ) → c < n → a < length partn
     → (r ≡ slice_index w.words (left_word w.plan.parts c)) ⊎ (r ≡ slice_index w.words (suc (left_word w.plan.parts c)))
     → IsEnd w.plan.parts net (port_of w.plan.parts places a) r → other partners a ≢ a
 
+-- and those of the first k of these cells
+abbrev pub AreListed : ClosedTable → NamedNet NodeName → List ℕ → List ℕ → List ℕ → ℕ → Type 0
+AreListed w net places partners cells k = (j r a : ℕ) → j < k → a < length partners
+    → slice_index w.words (left_word w.plan.parts (slice_index cells j)) ≢ 0
+    → (r ≡ slice_index w.words (left_word w.plan.parts (slice_index cells j)))
+    ⊎ (r ≡ slice_index w.words (suc (left_word w.plan.parts (slice_index cells j))))
+    → IsEnd w.plan.parts net (port_of w.plan.parts places a) r → other partners a ≢ a
+
+-- these are cells of the table
+abbrev pub AreCells : ClosedTable → List ℕ → Type 0
+AreCells w cells = (j : ℕ) → j < length cells → slice_index cells j < cells_of w.plan.parts
+
 -- Each of these holds of the net and the wires that the words stand for, whichever they are.
 abbrev pub IsPartly : ClosedTable → List ℕ → List (Kind × ℕ) → List ℕ → Type 0
 IsPartly w places kinds partners = (net : NamedNet NodeName) (reached : ℕ → Bool) → WordsStandFor w net reached
@@ -102,6 +114,10 @@ AreMetTo w places partners met n = (net : NamedNet NodeName) (reached : ℕ → 
 abbrev pub AreCelledTo : ClosedTable → List ℕ → List ℕ → ℕ → Type 0
 AreCelledTo w places partners n = (net : NamedNet NodeName) (reached : ℕ → Bool) → WordsStandFor w net reached
     → AreCelled w net places partners n
+
+abbrev pub AreListedTo : ClosedTable → List ℕ → List ℕ → List ℕ → ℕ → Type 0
+AreListedTo w places partners cells k = (net : NamedNet NodeName) (reached : ℕ → Bool) → WordsStandFor w net reached
+    → AreListed w net places partners cells k
 
 abbrev pub IsNodeIn : ClosedTable → ℕ → Type 0
 IsNodeIn w r = (net : NamedNet NodeName) (reached : ℕ → Bool) → WordsStandFor w net reached → IsOfNode w net r

@@ -22,7 +22,7 @@ mod stepping;
 mod turning;
 mod view;
 
-pub use closed::Words;
+pub use closed::{Blocks, Words};
 pub use law::Law;
 pub use layout::Parts;
 pub use plan::Plan;
