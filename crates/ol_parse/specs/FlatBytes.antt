@@ -64,6 +64,11 @@ abbrev pub TakesByte :
 TakesByte text at place m opens ops next opens' ops' = (s : Reading) → Stands text at s place m opens ops
     → NextPlace text (at + 1) (byte_step s (slice_index text at)) next opens' ops'
 
+-- the byte at this place is taken, and all else stays as it is
+abbrev pub GoesOn : List ℕ → ℕ → Place → Type 0
+GoesOn text at place = (m : Mode) (opens : List Open) (ops : List Op)
+    → TakesByte text at place m opens ops (Some (place, m)) opens ops
+
 abbrev pub EndsIn : Option Named → Bool → List Op → Type 0
 EndsIn (Some t) true ops = built ops ≡ Some (t ∷ [])
 EndsIn None false ops = Unit {0}

@@ -1,10 +1,10 @@
 //! The reader over bytes.
 
-ghost use Rattle.std.specs.Prelude.{◌≡◌, option_map, ◌<◌, ◌≤◌, IfOk, IfErr, IfSome, length};
+ghost use Rattle.std.specs.Prelude.{◌≡◌, true, option_map, ◌<◌, ◌≤◌, IfOk, IfErr, IfSome, length};
 ghost use Rattle.std.specs.Str.{bytes_eq};
 ghost use Rattle.ol_parse.specs.Texts.{class_of, in_word, token_of};
 ghost use Rattle.ol_parse.specs.Flat.{Takes};
-ghost use Rattle.ol_parse.specs.FlatBytes.{seen, key_of, from_of, TakesInGap, TakesByte, Ends, EndsText, BuildsText, IsRefused};
+ghost use Rattle.ol_parse.specs.FlatBytes.{seen, key_of, from_of, TakesInGap, TakesByte, GoesOn, Ends, EndsText, BuildsText, IsRefused};
 
 use crate::faults::ParseFault;
 use crate::flat::{Mode, Op, Open};
@@ -206,6 +206,20 @@ fn take_byte<'a>(
     }
 }
 
+// Whether the byte at this place goes on a word, a gap or a comment, so that all stays as it is.
+fn goes_on(text: &[u8], at: usize, place: Place) -> bool
+    requires within { at < length text.now }
+    requires begun { from_of place ≤ at }
+    ensures { result ≡ true → GoesOn text.now at place }
+{
+    match place {
+        Place::Gap => matches!(class_of_byte(text[at]), Class::Blank),
+        Place::Word(_) => is_in_word(text[at]),
+        Place::Comment => text[at] != b'\n',
+        Place::Half => false,
+    }
+}
+
 /// Ends the text behind a token.
 fn take_end<'a>(
     mode: Mode<'a>,
@@ -256,6 +270,9 @@ pub fn read<'a>(alloc: Global, text: &'a [u8]) -> Result<Vec<Op<'a>>, ParseFault
     let mut place = Place::Gap;
     let mut mode = Mode::Term(false);
     for at in 0..text.len() {
+        if goes_on(text, at, place) {
+            continue;
+        }
         match take_byte(text, at, place, mode, &mut opens, &mut out)? {
             Some((next, then)) => {
                 place = next;

@@ -12,17 +12,17 @@ use Rattle.ol_wire.specs.declared.layout.Parts.{Parts}
 use Rattle.ol_wire.specs.References.{kind_in, index_in, place_in}
 use Rattle.ol_wire.specs.Layout.{block, place_of, table_size, start_cell, born_cell, left_word, cells_of, IsPlaced}
 use Rattle.ol_wire.specs.Stands.{IsEnd}
-use Rattle.ol_wire.specs.Closed.{ClosedTable, events_in, IsAfter}
+use Rattle.ol_wire.specs.Closed.{ClosedTable, events_in, IsAfter, cells_filled}
 use Rattle.ol_wire.specs.Standing.{is_reached_in, WordsStandFor}
 use Rattle.ol_wire.proofs.Places.{part_cell, place_before}
 use Rattle.ol_wire.proofs.Claimed.{wider}
 use Rattle.ol_reduce.specs.Left.{ranks_in, IsLeft, AreLeft}
-use Rattle.ol_reduce.specs.Used.{words_used, cells_used}
-use Rattle.ol_reduce.specs.Found.{port_of, IsKnown, IsPartial, IsPartly, AreCelledTo, IsNodeIn, IsSiteIn, KeepsKnown}
+use Rattle.ol_reduce.specs.Found.{port_of, IsKnown, IsPartial, IsPartly, AreCelledTo, AreListedTo, IsNodeIn, IsSiteIn, KeepsKnown}
 use Rattle.ol_reduce.proofs.Sites.{one_site}
 use Rattle.ol_reduce.proofs.Linking.{still_linked, now_linked, node_told, one_port, linked_partial, ends_apart, set_partial, set_known, set_keeps, set_site}
 use Rattle.ol_reduce.proofs.Meeting.{left_node, right_node, cell_linked}
 use Rattle.ol_reduce.proofs.Bounded.{events_few}
+use Rattle.ol_reduce.proofs.Filled.{filled_listed}
 
 abbrev pub Told : ClosedTable → Type 0
 Told w = (net : NamedNet NodeName) × IsAfter w net × WordsStandFor w net (is_reached_in w)
@@ -97,19 +97,19 @@ module _ (w : ClosedTable) (places numbers : List ℕ) (left_are : AreLeft w (ra
         let t = right_node w places numbers left_are N reached s (left_word z cell) (part_cell z cell low).0 (λ g. f (sym q ∙ g)) in
         (t.0, subst (λ v. IsEnd z N (slot t.0 0) v) r t.1)
 
-    next : (c : ℕ) → c < cell + 1 → (c < cell) ⊎ (c ≡ cell)
-    next c lt = elim (cases_lt c cell) [ inl h ↦ inl h | inr h ↦ inr (omega (arith, lt, h)) ]
+    next : (k c : ℕ) → c < k + 1 → (c < k) ⊎ (c ≡ k)
+    next k c lt = elim (cases_lt c k) [ inl h ↦ inl h | inr h ↦ inr (omega (arith, lt, h)) ]
 
-    pub cell_empty : (partners : List ℕ) (value : ℕ) → value ≡ slice_index w.words at → value ≡ 0 → AreCelledTo w places partners cell → AreCelledTo w places partners (cell + 1)
-    cell_empty partners value e f before N reached s c r a lt lta filled q h = go (next c lt)
+    pub cell_empty : (cells : List ℕ) (k : ℕ) → cell ≡ slice_index cells k → (partners : List ℕ) (value : ℕ) → value ≡ slice_index w.words at → value ≡ 0 → AreListedTo w places partners cells k → AreListedTo w places partners cells (k + 1)
+    cell_empty cells k here partners value e f before N reached s c r a lt lta filled q h = go (next k c lt)
       where
-        go : (c < cell) ⊎ (c ≡ cell) → other partners a ≢ a
+        go : (c < k) ⊎ (c ≡ k) → other partners a ≢ a
         go (inl b) = before N reached s c r a b lta filled q h
-        go (inr b) = absurd (filled (ap (λ c. slice_index w.words (left_word z c)) b ∙ ap (slice_index w.words) (sym is) ∙ sym e ∙ f))
+        go (inr b) = absurd (filled (ap (λ c. slice_index w.words (left_word z c)) (ap (slice_index cells) b ∙ sym here) ∙ ap (slice_index w.words) (sym is) ∙ sym e ∙ f))
 
-    module _ (value right : ℕ) (e : value ≡ slice_index w.words at) (f : value ≢ 0) (g : right ≡ slice_index w.words (at + 1))
+    module _ (cells : List ℕ) (k : ℕ) (here : cell ≡ slice_index cells k) (value right : ℕ) (e : value ≡ slice_index w.words at) (f : value ≢ 0) (g : right ≡ slice_index w.words (at + 1))
         (kinds1 kinds2 kinds3 : List (Kind × ℕ)) (partners partners1 partners2 partners3 : List ℕ) (one two : ℕ)
-        (before : AreCelledTo w places partners cell) (p1 : partners1 ≡ partners) (lt1 : one < length partners) (s1 : IsSiteIn w places kinds1 value one)
+        (before : AreListedTo w places partners cells k) (p1 : partners1 ≡ partners) (lt1 : one < length partners) (s1 : IsSiteIn w places kinds1 value one)
         (p2 : partners2 ≡ partners1) (lt2 : two < length partners1) (after2 : IsPartly w places kinds2 partners2) (s2 : IsSiteIn w places kinds2 right two) (keeps : KeepsKnown w places kinds1 kinds2)
         (k3 : kinds3 ≡ kinds2) (p3 : partners3 ≡ linked partners2 one two) where
       lt1' : one < length partners2
@@ -134,8 +134,8 @@ module _ (w : ClosedTable) (places numbers : List ℕ) (left_are : AreLeft w (ra
           subst (λ ks. IsPartial w N places ks partners3) (sym k3) (subst (λ ps. IsPartial w N places kinds2 ps) (sym p3)
           (linked_partial w places numbers left_are N reached s kinds2 partners2 (after2 N reached s) one two lt1' lt2' (link N reached s) (keeps N reached s one (s1 N reached s).1) (s2 N reached s).1))
 
-      pub cell_celled : AreCelledTo w places partners3 (cell + 1)
-      cell_celled N reached s c r a lt lta filled q h = subst (λ ps. other ps a ≢ a) (sym p3) (go (next c lt) q)
+      pub cell_listed : AreListedTo w places partners3 cells (k + 1)
+      cell_listed N reached s c r a lt lta filled q h = subst (λ ps. other ps a ≢ a) (sym p3) (go (next k c lt) q)
         where
           d : one ≢ two
           d = ends_apart w places numbers left_are N reached s kinds2 partners2 (after2 N reached s) one two lt1' lt2' (link N reached s)
@@ -149,15 +149,19 @@ module _ (w : ClosedTable) (places numbers : List ℕ) (left_are : AreLeft w (ra
           site_is : (b v : ℕ) → b < length partners2 → IsEnd z N (port_of z places b) v → r ≡ v → a ≡ b
           site_is b v ltb hb rv = one_site w places numbers left_are a b (omega (arith, lta2, long)) (omega (arith, ltb, long)) (one_port w places numbers left_are N reached s (port_of z places a) (port_of z places b) v (subst (λ v. IsEnd z N (port_of z places a) v) rv h) hb)
 
-          go : (c < cell) ⊎ (c ≡ cell) → (r ≡ slice_index w.words (left_word z c)) ⊎ (r ≡ slice_index w.words (suc (left_word z c))) → other (linked partners2 one two) a ≢ a
+          go : (c < k) ⊎ (c ≡ k) → (r ≡ slice_index w.words (left_word z (slice_index cells c))) ⊎ (r ≡ slice_index w.words (suc (left_word z (slice_index cells c)))) → other (linked partners2 one two) a ≢ a
           go (inl b) q = still_linked partners2 one two lt1' lt2' d a (subst (λ ps. other ps a ≢ a) (sym (p2 ∙ p1)) (before N reached s c r a b (omega (arith, lta2, ap (λ (l : List ℕ). length l) p1, ap (λ (l : List ℕ). length l) p2)) filled q h))
-          go (inr b) (inl q) = subst (λ a. other (linked partners2 one two) a ≢ a) (sym (site_is one value lt1' (s1 N reached s).0 (q ∙ ap (λ c. slice_index w.words (left_word z c)) b ∙ q0))) (now_linked partners2 one two lt1' lt2' d).0
-          go (inr b) (inr q) = subst (λ a. other (linked partners2 one two) a ≢ a) (sym (site_is two right lt2' (s2 N reached s).0 (q ∙ ap (λ c. slice_index w.words (suc (left_word z c))) b ∙ q1))) (now_linked partners2 one two lt1' lt2' d).1
+          go (inr b) (inl q) = subst (λ a. other (linked partners2 one two) a ≢ a) (sym (site_is one value lt1' (s1 N reached s).0 (q ∙ ap (λ c. slice_index w.words (left_word z c)) (ap (slice_index cells) b ∙ sym here) ∙ q0))) (now_linked partners2 one two lt1' lt2' d).0
+          go (inr b) (inr q) = subst (λ a. other (linked partners2 one two) a ≢ a) (sym (site_is two right lt2' (s2 N reached s).0 (q ∙ ap (λ c. slice_index w.words (suc (left_word z c))) (ap (slice_index cells) b ∙ sym here) ∙ q1))) (now_linked partners2 one two lt1' lt2' d).1
 
-  -- ---- the cells that aren't in use
+  -- ---- a cell that isn't among those that aren't empty is empty
 
-  pub rest_empty : (partners : List ℕ) (cells : ℕ) → cells ≡ cells_used w → ((n : ℕ) → words_used w ≤ n → slice_index w.words n ≡ 0) → AreCelledTo w places partners cells → AreCelledTo w places partners (cells_of z)
-  rest_empty partners cells is empty before N reached s c r a lt lta filled q h = elim (cases_lt c cells) [
-    | inl b ↦ before N reached s c r a b lta filled q h
-    | inr ge ↦ absurd (filled (empty (left_word z c) (left_behind z (events_in z w.words) c (omega (arith, ge, is)))))
+  pub all_celled : (partners cells : List ℕ) (k : ℕ) → cells ≡ cells_filled w → length cells ≤ k → ((n : ℕ) → block z (events_in z w.words) ≤ n → slice_index w.words n ≡ 0) → AreListedTo w places partners cells k → AreCelledTo w places partners (cells_of z)
+  all_celled partners cells k is all empty before N reached s c r a lt lta filled q h = elim (cases_lt c (z.cells + 4 * events_in z w.words)) [
+    | inl b ↦
+        let t = filled_listed w (z.cells + 4 * events_in z w.words) c b filled in
+        let e : slice_index cells t.0 ≡ c = ap (λ l. slice_index l t.0) is ∙ t.2 in
+        before N reached s t.0 r a (omega (arith, t.1, all, ap (λ (l : List ℕ). length l) is)) lta (subst (λ c. slice_index w.words (left_word z c) ≢ 0) (sym e) filled)
+        (subst (λ c. (r ≡ slice_index w.words (left_word z c)) ⊎ (r ≡ slice_index w.words (suc (left_word z c)))) (sym e) q) h
+    | inr ge ↦ absurd (filled (empty (left_word z c) (left_behind z (events_in z w.words) c ge)))
   ]

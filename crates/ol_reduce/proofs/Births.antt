@@ -1,6 +1,7 @@
 -- How many nodes a ticket made, as its entry and the two nodes of its block tell.
-use Rattle.std.proofs.Common.{◌≡◌, ℕ, zero, suc, ◌+◌, ◌<◌, Bool, true, false, if◌then◌else◌, List, [], ◌∷◌, ◌++◌, length, slice_index, Option, Some, None, refl, sym, ap, ◌∙◌, arith}
+use Rattle.std.proofs.Common.{◌≡◌, ℕ, zero, suc, ◌+◌, ◌<◌, Bool, true, false, if◌then◌else◌, List, [], ◌∷◌, ◌++◌, length, get_or, slice_index, Option, Some, None, refl, sym, ap, ◌∙◌, arith}
 use Rattle.std.specs.Prelude.{slice_get}
+use Rattle.std.proofs.lemmas.Option.{get_or_from_slice_get}
 use Rattle.ol_net.specs.Parts.{arity}
 use Rattle.ol_rules.specs.declared.journal.Entry.{Entry}
 use Rattle.ol_rules.specs.Listed.{each}
@@ -11,8 +12,9 @@ use Rattle.ol_wire.specs.Layout.{block}
 use Rattle.ol_net.specs.declared.parts.Rule.{Rule}
 use Rattle.ol_wire.specs.Events.{rule_between, acting, entry_of}
 use Rattle.ol_wire.specs.Blocks.{copies_of_f, copies_of_g}
-use Rattle.ol_wire.specs.Closed.{ClosedTable, events_in, event_at, journal_in, journal_drawn}
+use Rattle.ol_wire.specs.Closed.{ClosedTable, events_in, events_drawn, event_at, pair_at, pairs_drawn, journal_in, journal_drawn}
 use Rattle.ol_wire.proofs.ClosingTable.{entry_at}
+use Rattle.ol_wire.proofs.ClosingLists.{one_each}
 
 pub length_each : {X : Type 0} (f : ℕ → X) (n : ℕ) → length (each n (λ t. f t ∷ [])) ≡ n
 length_each f zero = refl
@@ -25,6 +27,13 @@ length_each f (suc n) = length_more (each n (λ t. f t ∷ [])) (f n) ∙ ap suc
 -- an entry that a journal gives is that of the words that it is drawn from
 pub read : (w : ClosedTable) (j : List Entry) (t : ℕ) (found : Option Entry) → j ≡ journal_drawn w → found ≡ slice_get j t → found ≡ slice_get (journal_in w.plan.parts w.words) t
 read w j t found e f = f ∙ ap (λ j. slice_get j t) e
+
+-- the pair of a ticket, as it was read among all
+pub pair_read : (w : ClosedTable) (pairs : List (ℕ × ℕ)) (t : ℕ) (value : ℕ × ℕ) → pairs ≡ pairs_drawn w → t < events_drawn w → value ≡ get_or pairs t value → value ≡ pair_at w.plan.parts w.words t
+pair_read w pairs t value e lt got = got ∙ get_or_from_slice_get pairs t (pair_at w.plan.parts w.words t) value (ap (λ l. slice_get l t) e ∙ one_each (pair_at w.plan.parts w.words) (events_in w.plan.parts w.words) t lt)
+
+pub as_many : (w : ClosedTable) (pairs : List (ℕ × ℕ)) → pairs ≡ pairs_drawn w → length pairs ≡ events_drawn w
+as_many w pairs e = ap length e ∙ length_each (pair_at w.plan.parts w.words) (events_in w.plan.parts w.words)
 
 -- how many nodes an event makes, whichever of its two nodes comes first
 acting_copies : (a b : Option Rule) (l r : ℕ) → copies_of_f (acting a b l r) + copies_of_g (acting a b l r) ≡ (if is_meeting (acting a b l r).rule then 0 else arity (kind_in l) + arity (kind_in r))

@@ -23,10 +23,11 @@ use Rattle.ol_wire.proofs.References.{node_sort, wire_sort, slot_sort}
 use Rattle.ol_reduce.specs.Left.{ranks_in, AreLeft}
 use Rattle.ol_reduce.specs.Following.{OwnsWord, LeadsTo}
 use Rattle.ol_reduce.specs.Drafts.{frozen_top, IsFullDraft}
-use Rattle.ol_reduce.specs.Found.{name_of, port_of, kind_of, IsPartial, WaitsAt, AreMet, AreCelled}
+use Rattle.ol_reduce.specs.Found.{name_of, port_of, kind_of, IsPartial, WaitsAt, AreMet, AreCelled, wire_word}
 use Rattle.ol_reduce.proofs.Forward.{IsSink, linked_goes, linked_meets, one_sink, owner_of, port_no_wire, owner_no_node, EdgeIs, owned, celled, edge_is, es}
 use Rattle.ol_reduce.proofs.Bounded.{owner_behind, events_few}
 use Rattle.ol_reduce.proofs.WordOf.{word_of_port}
+use Rattle.ol_reduce.proofs.Wires.{wire_same}
 use Rattle.ol_reduce.proofs.Sites.{one_site, site, IsSite, of_free, of_slot, port_low, port_high, port_free, port_slot, numbered, site_of_port, end_of_port}
 use Rattle.ol_reduce.proofs.Linking.{within_table, view, EndView, at_port, at_node, at_slot, one_end}
 
@@ -86,16 +87,16 @@ module _ (w : ClosedTable) (places numbers : List ℕ) (left_are : AreLeft w (ra
         go : (other partners a ≢ a) ⊎ WaitsAt w N reached met a d → other partners a ≢ a
         go (inl h) = h
         go (inr t) =
-            let k = empty_sink t.0 t.2 in
-            let g = linked_meets w N reached s (port a) (port b) d e (wire_ref t.0) hd he l k (t.0, t.1, refl) t.3 in
-            let m = owner_of w N reached s e (wire_ref t.0) g in
+            let k = empty_sink (wire_word z t.0) t.2 in
+            let g = linked_meets w N reached s (port a) (port b) d e (wire_ref (wire_word z t.0)) hd he l k (wire_word z t.0, t.1, refl) t.3 in
+            let m = owner_of w N reached s e (wire_ref (wire_word z t.0)) g in
             partner t.0 k g t.4 (are.settled b e m.0 ltb he m.1)
           where
-            partner : (u : ℕ) → IsSink w N reached s (wire_ref u) → LeadsTo w N reached e (wire_ref u) → slice_index met u ≡ a + 1 → (other partners b ≢ b) ⊎ WaitsAt w N reached met b e → other partners a ≢ a
+            partner : (u : ℕ) → IsSink w N reached s (wire_ref (wire_word z u)) → LeadsTo w N reached e (wire_ref (wire_word z u)) → slice_index met u ≡ a + 1 → (other partners b ≢ b) ⊎ WaitsAt w N reached met b e → other partners a ≢ a
             partner u k g q (inl h) = back h
             partner u k g q (inr r) =
-                let same : wire_ref u ≡ wire_ref r.0 = one_sink w N reached s e (wire_ref u) (wire_ref r.0) k (empty_sink r.0 r.2) g r.3 in
-                let f : u ≡ r.0 = omega (arith, same) in
+                let same : wire_ref (wire_word z u) ≡ wire_ref (wire_word z r.0) = one_sink w N reached s e (wire_ref (wire_word z u)) (wire_ref (wire_word z r.0)) k (empty_sink (wire_word z r.0) r.2) g r.3 in
+                let f : u ≡ r.0 = wire_same z u r.0 (omega (arith, same)) in
                 absurd (apart (omega (arith, q, r.4, ap (slice_index met) f)))
 
     -- one that owns none
@@ -108,8 +109,8 @@ module _ (w : ClosedTable) (places numbers : List ℕ) (left_are : AreLeft w (ra
         go : LeadsTo w N reached e d → (other partners b ≢ b) ⊎ WaitsAt w N reached met b e → other partners a ≢ a
         go g (inl h) = back h
         go g (inr t) =
-            let same : d ≡ wire_ref t.0 = one_sink w N reached s e d (wire_ref t.0) k (empty_sink t.0 t.2) g t.3 in
-            absurd (port_no_wire w N reached s (port a) d hd (t.0, t.1, same))
+            let same : d ≡ wire_ref (wire_word z t.0) = one_sink w N reached s e d (wire_ref (wire_word z t.0)) k (empty_sink (wire_word z t.0) t.2) g t.3 in
+            absurd (port_no_wire w N reached s (port a) d hd (wire_word z t.0, t.1, same))
 
     -- a slot that isn't slot 0 owns its field
     slot_owned : (v : ℕ) → d ≡ slot_ref v → (n : ℕ) × OwnsWord w N reached n d

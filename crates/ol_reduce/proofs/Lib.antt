@@ -6,10 +6,12 @@ pub mod Births
 pub mod Numbering
 pub mod Sites
 pub mod Linking
+pub mod Wires
 pub mod Meeting
 pub mod WordOf
 pub mod Finished
 pub mod TheNet
+pub mod Filled
 pub mod Arriving
 pub mod Walking
 pub mod Rounds

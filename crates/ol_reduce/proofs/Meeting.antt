@@ -20,7 +20,7 @@ use Rattle.ol_wire.proofs.Places.{is_left}
 use Rattle.ol_wire.proofs.EdgeList.{edge_there}
 use Rattle.ol_reduce.specs.Left.{ranks_in, AreLeft}
 use Rattle.ol_reduce.specs.Following.{OwnsWord, LeadsTo}
-use Rattle.ol_reduce.specs.Found.{name_of, port_of, IsKnown, IsPartial, WaitsAt, AreMet, IsWordOf}
+use Rattle.ol_reduce.specs.Found.{name_of, port_of, IsKnown, IsPartial, WaitsAt, AreMet, IsWordOf, wire_word}
 use Rattle.ol_reduce.proofs.Forward.{meet_linked, owner_no_node, owner_of, port_no_wire, es}
 use Rattle.ol_reduce.proofs.Sites.{one_site, port_slot}
 use Rattle.ol_reduce.proofs.Linking.{still_linked, now_linked, view, EndView, at_port, at_node, at_slot, one_end, one_port, node_at, ends_apart}
@@ -110,7 +110,7 @@ module _ (w : ClosedTable) (places numbers : List ℕ) (left_are : AreLeft w (ra
         settle c e m h o (inr q) = inl (subst (λ c. other (linked partners a b) c ≢ c) (sym q) (now_linked partners a b low ltb d).0)
 
     -- it waits
-    pub wait_met : (e u : ℕ) → IsEnd z N (port a) e → reached u ≡ true → word u ≡ 0 → LeadsTo w N reached e (wire_ref u) → slice_index met u ≡ 0 → u < length met → AreMet w N reached places partners (slice_set met u (a + 1)) (a + 1)
+    pub wait_met : (e u : ℕ) → IsEnd z N (port a) e → reached (wire_word z u) ≡ true → word (wire_word z u) ≡ 0 → LeadsTo w N reached e (wire_ref (wire_word z u)) → slice_index met u ≡ 0 → u < length met → AreMet w N reached places partners (slice_set met u (a + 1)) (a + 1)
     wait_met e u h is empty leads free_wire ltu = record {
       came = λ v f. comes v f (cases_eq v u);
       settled = λ c d m lt g o. settle c d m g o (next c lt);
@@ -123,8 +123,8 @@ module _ (w : ClosedTable) (places numbers : List ℕ) (left_are : AreLeft w (ra
         else_is v n = get_or-set_other met u v (a + 1) 0 n
 
         comes : (v : ℕ) → slice_index (slice_set met u (a + 1)) v ≢ 0 → (v ≡ u) ⊎ (v ≢ u)
-            → (b : ℕ) × (d : ℕ) × (slice_index (slice_set met u (a + 1)) v ≡ b + 1) × (b < a + 1) × IsEnd z N (port b) d × LeadsTo w N reached d (wire_ref v)
-        comes v f (inl q) = (a, e, ap (slice_index (slice_set met u (a + 1))) q ∙ here_is, omega arith, h, subst (λ v. LeadsTo w N reached e (wire_ref v)) (sym q) leads)
+            → (b : ℕ) × (d : ℕ) × (slice_index (slice_set met u (a + 1)) v ≡ b + 1) × (b < a + 1) × IsEnd z N (port b) d × LeadsTo w N reached d (wire_ref (wire_word z v))
+        comes v f (inl q) = (a, e, ap (slice_index (slice_set met u (a + 1))) q ∙ here_is, omega arith, h, subst (λ v. LeadsTo w N reached e (wire_ref (wire_word z v))) (sym q) leads)
         comes v f (inr n) = let t = are.came v (λ q. f (else_is v n ∙ q)) in (t.0, t.1, else_is v n ∙ t.2, omega (arith, t.3), t.4, t.5)
 
         kept : (c d : ℕ) → Settled partners met c d → Settled partners (slice_set met u (a + 1)) c d
@@ -135,18 +135,18 @@ module _ (w : ClosedTable) (places numbers : List ℕ) (left_are : AreLeft w (ra
         settle c d m g o (inl lt) = kept c d (are.settled c d m lt g o)
         settle c d m g o (inr q) =
             let same : e ≡ d = one_end w places numbers left_are N reached s (port a) e d h (subst (λ c. IsEnd z N (port c) d) q g) in
-            inr (u, is, empty, subst (λ e. LeadsTo w N reached e (wire_ref u)) same leads, here_is ∙ ap (λ c. c + 1) (sym q))
+            inr (u, is, empty, subst (λ e. LeadsTo w N reached e (wire_ref (wire_word z u))) same leads, here_is ∙ ap (λ c. c + 1) (sym q))
 
     -- another one waits for it
-    pub waiting : (u before' : ℕ) → slice_index met u ≡ before' → before' ≢ 0 → (e : ℕ) → IsEnd z N (port a) e → LeadsTo w N reached e (wire_ref u) → (before' - 1 < length partners) × Linked N (port a) (port (before' - 1)) × IsKnown w N places kinds (before' - 1)
+    pub waiting : (u before' : ℕ) → slice_index met u ≡ before' → before' ≢ 0 → (e : ℕ) → IsEnd z N (port a) e → LeadsTo w N reached e (wire_ref (wire_word z u)) → (before' - 1 < length partners) × Linked N (port a) (port (before' - 1)) × IsKnown w N places kinds (before' - 1)
     waiting u v is some e h leads =
         let t = are.came u (λ q. some (sym is ∙ q)) in
         let q : v - 1 ≡ t.0 = omega (arith, is, t.2) in
         let ltb : t.0 < length partners = omega (arith, t.3, low) in
         let apart : e ≢ t.1 = (λ same. omega (arith, t.3, one_site w places numbers left_are a t.0 (omega (arith, low, before.partners_long)) (omega (arith, ltb, before.partners_long)) (one_port w places numbers left_are N reached s (port a) (port t.0) e h (subst (λ e. IsEnd z N (port t.0) e) (sym same) t.4)))) in (
           omega (arith, q, ltb),
-          subst (λ b. Linked N (port a) (port b)) (sym q) (meet_linked w N reached s (port a) (port t.0) e t.1 (wire_ref u) h t.4 apart leads t.5),
-          (λ m ltm f. let o = owner_of w N reached s t.1 (wire_ref u) t.5 in absurd (owner_no_slot t.0 t.1 o.0 m t.4 o.1 (sym q ∙ f))),
+          subst (λ b. Linked N (port a) (port b)) (sym q) (meet_linked w N reached s (port a) (port t.0) e t.1 (wire_ref (wire_word z u)) h t.4 apart leads t.5),
+          (λ m ltm f. let o = owner_of w N reached s t.1 (wire_ref (wire_word z u)) t.5 in absurd (owner_no_slot t.0 t.1 o.0 m t.4 o.1 (sym q ∙ f))),
         )
 
   -- ---- more sites without a word between

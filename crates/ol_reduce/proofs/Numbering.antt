@@ -1,5 +1,5 @@
 -- Numbers and ranks of the nodes that are left.
-use Rattle.std.proofs.Common.{◌≡◌, ◌≢◌, ℕ, zero, suc, ◌+◌, ◌-◌, ◌*◌, ◌/◌, ◌%◌, ◌<◌, ◌≤◌, Bool, true, false, not, nat_lt, lt-ltb, if◌then◌else◌, List, [], ◌∷◌, ◌++◌, length, slice_index, get_or, Some, None, ◌⊎◌, inl, inr, ◌↔◌, refl, sym, ap, ◌∙◌, subst, arith}
+use Rattle.std.proofs.Common.{◌≡◌, ◌≢◌, ℕ, zero, suc, ◌+◌, ◌-◌, ◌*◌, ◌/◌, ◌%◌, ◌<◌, ◌≤◌, Bool, true, false, not, nat_lt, lt-ltb, if◌then◌else◌, List, [], ◌∷◌, ◌++◌, length, length-set, get_or-set_same, get_or-set_other, slice_index, slice_set, get_or, Some, None, ◌⊎◌, inl, inr, ◌↔◌, refl, sym, ap, ◌∙◌, subst, arith}
 use Rattle.std.specs.Prelude.{slice_get, replicate}
 use Rattle.std.proofs.lemmas.Bool.{cases_eq, cases_lt, false≢true}
 use Rattle.std.proofs.lemmas.Bool.Decides.{nat_tests}
@@ -78,9 +78,9 @@ module _ (w : ClosedTable) (n : ℕ) (places numbers : List ℕ) (before : AreLe
   z = w.plan.parts
 
   -- it isn't left
-  pub skip : (IsLeft w (name n) → ⊥) → AreLeft w (suc n) places (numbers ++ 0 ∷ [])
+  pub skip : (IsLeft w (name n) → ⊥) → AreLeft w (suc n) places numbers
   skip gone = record {
-    long = omega (arith, before.long, length-append numbers (0 ∷ []));
+    long = before.long;
     few = omega (arith, before.few);
     each = λ j lt. let t = before.each j lt in (t.0, omega (arith, t.1), t.2, t.3);
     rising = before.rising;
@@ -88,16 +88,14 @@ module _ (w : ClosedTable) (n : ℕ) (places numbers : List ℕ) (before : AreLe
       | inl e ↦ absurd (gone (subst (λ r. IsLeft w (name r)) e left))
       | inr d ↦
           let below : r < n = omega (arith, lt, d) in
-          let t = before.found r below left in
-          let q = at_old numbers 0 r (omega (arith, below, before.long)) in
-          (omega (arith, t.0, q), omega (arith, t.1, q), ap (λ m. slice_index places (m - 1)) q ∙ t.2)
+          before.found r below left
     ];
   }
 
   -- it is left
-  pub take : (place : ℕ) → place ≡ place_of z (name n) → IsLeft w (name n) → AreLeft w (suc n) (places ++ place ∷ []) (numbers ++ (length places + 1) ∷ [])
-  take place e left = record {
-    long = omega (arith, before.long, length-append numbers ((length places + 1) ∷ []));
+  pub take : (place : ℕ) → place ≡ place_of z (name n) → IsLeft w (name n) → n < length numbers → AreLeft w (suc n) (places ++ place ∷ []) (slice_set numbers n (length places + 1))
+  take place e left low = record {
+    long = length-set numbers n (length places + 1) ∙ before.long;
     few = omega (arith, before.few, length-append places (place ∷ []));
     each = λ j lt. elim (cases_lt j (length places)) [
       | inl a ↦ let t = before.each j a in (t.0, omega (arith, t.1), t.2, at_old places place j a ∙ t.3)
@@ -112,20 +110,20 @@ module _ (w : ClosedTable) (n : ℕ) (places numbers : List ℕ) (before : AreLe
     ];
     found = λ r lt l. elim (cases_eq r n) [
       | inl d ↦
-          let q = at_new numbers (length places + 1) r (omega (arith, d, before.long)) in
+          let q : slice_index (slice_set numbers n (length places + 1)) r ≡ length places + 1 = ap (slice_index (slice_set numbers n (length places + 1))) d ∙ get_or-set_same numbers n (length places + 1) 0 low in
           (omega (arith, q), omega (arith, q, length-append places (place ∷ [])), ap (λ m. slice_index (places ++ place ∷ []) (m - 1)) q ∙ at_new places place (length places + 1 - 1) (omega arith) ∙ e ∙ ap (λ r. place_of z (name r)) (sym d))
       | inr d ↦
           let below : r < n = omega (arith, lt, d) in
           let t = before.found r below l in
-          let q = at_old numbers (length places + 1) r (omega (arith, below, before.long)) in
+          let q : slice_index (slice_set numbers n (length places + 1)) r ≡ slice_index numbers r = get_or-set_other numbers n r (length places + 1) 0 d in
           (omega (arith, t.0, q), omega (arith, t.1, q, length-append places (place ∷ [])), ap (λ m. slice_index (places ++ place ∷ []) (m - 1)) q ∙ at_old places place (slice_index numbers r - 1) (omega (arith, t.0, t.1)) ∙ t.2)
     ];
   }
 
   pub added : (b : Bool) (place : ℕ) (places' numbers' : List ℕ) → place ≡ place_of z (name n) → (b ≡ true → IsLeft w (name n)) → (b ≡ false → IsLeft w (name n) → ⊥)
-      → places' ≡ (if b then places ++ place ∷ [] else places) → numbers' ≡ numbers ++ (if b then length places + 1 else 0) ∷ [] → AreLeft w (suc n) places' numbers'
-  added true place places' numbers' e is not p q = subst (λ ps. AreLeft w (suc n) ps numbers') (sym p) (subst (λ ns. AreLeft w (suc n) (places ++ place ∷ []) ns) (sym q) (take place e (is refl)))
-  added false place places' numbers' e is not p q = subst (λ ps. AreLeft w (suc n) ps numbers') (sym p) (subst (λ ns. AreLeft w (suc n) places ns) (sym q) (skip (not refl)))
+      → places' ≡ (if b then places ++ place ∷ [] else places) → n < length numbers → numbers' ≡ (if b then slice_set numbers n (length places + 1) else numbers) → AreLeft w (suc n) places' numbers'
+  added true place places' numbers' e is not p low q = subst (λ ps. AreLeft w (suc n) ps numbers') (sym p) (subst (λ ns. AreLeft w (suc n) (places ++ place ∷ []) ns) (sym q) (take place e (is refl) low))
+  added false place places' numbers' e is not p low q = subst (λ ps. AreLeft w (suc n) ps numbers') (sym p) (subst (λ ns. AreLeft w (suc n) places ns) (sym q) (skip (not refl)))
 
 -- ---- what the marks tell
 
@@ -222,7 +220,13 @@ not_true false h = absurd (false≢true (sym h))
 
 module _ (w : ClosedTable) (marks : List Bool) (m : AreMarked w (events_in w.plan.parts w.words) marks) (n : ℕ) (low : n < ranks_in w) (x : NodeName) (is : name_of_rank w.plan.parts n ≡ x)
     (places numbers places' numbers' : List ℕ) (before : AreLeft w n places numbers) (place : ℕ) (at : place ≡ place_of w.plan.parts x) (b : Bool)
-    (more : places' ≡ (if b then places ++ place ∷ [] else places)) (number : numbers' ≡ numbers ++ (if b then length places + 1 else 0) ∷ []) where
+    (more : places' ≡ (if b then places ++ place ∷ [] else places)) (spot : ℕ) (here : spot ≡ n) (number : numbers' ≡ (if b then slice_set numbers spot (length places + 1) else numbers)) where
+  low_spot : n < length numbers
+  low_spot = omega (arith, low, before.long)
+
+  number_here : numbers' ≡ (if b then slice_set numbers n (length places + 1) else numbers)
+  number_here = number ∙ ap (λ r. if b then slice_set numbers r (length places + 1) else numbers) here
+
   placed : IsPlaced w.plan.parts (events_in w.plan.parts w.words) x
   placed = subst (IsPlaced w.plan.parts (events_in w.plan.parts w.words)) is (name_placed w.plan.parts (events_in w.plan.parts w.words) n low)
 
@@ -231,7 +235,7 @@ module _ (w : ClosedTable) (marks : List Bool) (m : AreMarked w (events_in w.pla
 
   -- it was made, and the mark tells whether it is left
   pub by_mark : (mark : Bool) → mark ≡ get_or marks n mark → b ≡ not mark → IsMadeNode w.plan.parts w.words x → AreLeft w (suc n) places' numbers'
-  by_mark mark e q made = added w n places numbers before b place places' numbers' (at ∙ ap (place_of w.plan.parts) (sym is)) left gone more number
+  by_mark mark e q made = added w n places numbers before b place places' numbers' (at ∙ ap (place_of w.plan.parts) (sym is)) left gone more low_spot number_here
     where
       read : slice_get marks (rank_of w.plan.parts x) ≡ Some mark
       read = ap (slice_get marks) rank ∙ got_read marks n mark (omega (arith, low, m.long)) e
@@ -244,7 +248,7 @@ module _ (w : ClosedTable) (marks : List Bool) (m : AreMarked w (events_in w.pla
 
   -- it wasn't made
   pub by_births : b ≡ false → (IsMadeNode w.plan.parts w.words x → ⊥) → AreLeft w (suc n) places' numbers'
-  by_births q none = added w n places numbers before b place places' numbers' (at ∙ ap (place_of w.plan.parts) (sym is)) (λ h. absurd (false≢true (sym q ∙ h))) (λ h l. none (subst (IsLeft w) is l).0) more number
+  by_births q none = added w n places numbers before b place places' numbers' (at ∙ ap (place_of w.plan.parts) (sym is)) (λ h. absurd (false≢true (sym q ∙ h))) (λ h l. none (subst (IsLeft w) is l).0) more low_spot number_here
 
 pub name_of_born : (z : Parts) (t p : ℕ) → p < 4 → name_of_rank z (z.nodes + 4 * t + p) ≡ Born t p
 name_of_born z t p lt = name_back z (Born t p) (suc t) (omega arith, lt)

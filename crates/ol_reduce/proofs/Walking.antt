@@ -1,5 +1,5 @@
 -- What walking the chain of one port does, over all nets that the words stand for.
-use Rattle.std.proofs.Common.{◌≡◌, ◌≢◌, ℕ, ◌+◌, ◌-◌, ◌*◌, ◌<◌, Bool, List, length, slice_index, slice_set, inl, inr, refl, sym, ap, ◌∙◌, subst, arith}
+use Rattle.std.proofs.Common.{◌≡◌, ◌≢◌, ℕ, ◌+◌, ◌-◌, ◌*◌, ◌<◌, ◌⊎◌, Bool, List, length, slice_index, slice_set, inl, inr, refl, sym, ap, ◌∙◌, subst, arith}
 use Rattle.std.proofs.lemmas.Bool.{cases_eq}
 use Rattle.ol_net.specs.declared.parts.Kind.{Kind}
 use Rattle.ol_net.specs.Nets.{NamedNet, Linked}
@@ -9,20 +9,21 @@ use Rattle.ol_net.proofs.Tables.{length-linked}
 use Rattle.ol_rules.specs.declared.journal.NodeName.{NodeName}
 use Rattle.ol_wire.specs.declared.layout.Parts.{Parts}
 use Rattle.ol_wire.specs.References.{place_in, wire_ref}
-use Rattle.ol_wire.specs.Layout.{port_word}
+use Rattle.ol_wire.specs.Layout.{port_word, part_of_word}
 use Rattle.ol_wire.specs.Stands.{IsEnd, of_port}
-use Rattle.ol_wire.specs.Closed.{ClosedTable}
+use Rattle.ol_wire.specs.Closed.{ClosedTable, events_in}
 use Rattle.ol_wire.specs.Standing.{is_reached_in, WordsStandFor}
 use Rattle.ol_reduce.specs.declared.chains.End.{End}
 use Rattle.ol_reduce.specs.declared.chains.End.TheVariants.{Node, Port, Wire}
 use Rattle.ol_reduce.specs.Left.{ranks_in, AreLeft}
 use Rattle.ol_reduce.specs.Following.{IsStart, IsFirst, EndsAt}
-use Rattle.ol_reduce.specs.Used.{words_used}
-use Rattle.ol_reduce.specs.Found.{port_of, IsKnown, IsPartial, AreMet, IsPartly, AreMetTo, IsNodeIn, IsSiteIn, IsWordAt, KeepsPartners}
+use Rattle.ol_reduce.specs.Used.{wires_used}
+use Rattle.ol_reduce.specs.Found.{port_of, IsKnown, IsPartial, AreMet, IsPartly, AreMetTo, IsNodeIn, IsSiteIn, IsWordAt, KeepsPartners, wire_word, IsStartWire, IsBornWire}
 use Rattle.ol_reduce.proofs.Arriving.{Told}
 use Rattle.ol_reduce.proofs.Bounded.{led_used}
 use Rattle.ol_reduce.proofs.Forward.{goes_linked}
 use Rattle.ol_reduce.proofs.Sites.{port_free}
+use Rattle.ol_reduce.proofs.Wires.{wire_below, wire_spot}
 use Rattle.ol_reduce.proofs.Linking.{still_linked, led_node, linked_partial, ends_apart}
 use Rattle.ol_reduce.proofs.Meeting.{skip_met, link_met, wait_met, waiting}
 
@@ -111,15 +112,25 @@ module _ (w : ClosedTable) (places numbers : List ℕ) (left_are : AreLeft w (ra
     pub port_known : (found : End) (k : ℕ) → found ≡ Port k → Ends found → (N : NamedNet NodeName) (reached : ℕ → Bool) → WordsStandFor w N reached → IsKnown w N places kinds k
     port_known found k q h N reached s m ltm e = absurd (omega (arith, e, port_low found k q h))
 
-    module _ (long : length met ≡ words_used w) (found : End) (u : ℕ) (q : found ≡ Wire u) (h : Ends found) where
-      ends_at : (N : NamedNet NodeName) (reached : ℕ → Bool) → (s : WordsStandFor w N reached) → EndsAt w N reached (own N reached s).0 (Wire u)
+    -- a wire, by its word
+    pub wire_at : (found : End) (n : ℕ) → found ≡ Wire n → Ends found → IsStartWire z n ⊎ IsBornWire z n
+    wire_at found n q h =
+        let t = own told.0 (is_reached_in w) told.2 in
+        let d = subst (λ f. EndsAt w told.0 (is_reached_in w) t.0 f) q (h told.0 (is_reached_in w) t.0 told.2 t.2) in
+        wire_spot z n (part_of_word z n) refl (told.2.wires n d.0)
+
+    module _ (long : length met ≡ wires_used w) (found : End) (n' u : ℕ) (q' : found ≡ Wire n') (number : wire_word w.plan.parts u ≡ n') (h : Ends found) where
+      q : found ≡ Wire (wire_word z u)
+      q = q' ∙ ap (λ n. Wire n) (sym number)
+
+      ends_at : (N : NamedNet NodeName) (reached : ℕ → Bool) → (s : WordsStandFor w N reached) → EndsAt w N reached (own N reached s).0 (Wire (wire_word z u))
       ends_at N reached s = let t = own N reached s in subst (λ f. EndsAt w N reached t.0 f) q (h N reached t.0 s t.2)
 
       pub wire_within : u < length met
       wire_within =
-          let r = led_used w told.0 (is_reached_in w) told.2 (own told.0 (is_reached_in w) told.2).0 (wire_ref u) (ends_at told.0 (is_reached_in w) told.2).2 in
-          let p : place_in (wire_ref u) ≡ u = omega arith in
-          omega (arith, r, p, long)
+          let r = led_used w told.0 (is_reached_in w) told.2 (own told.0 (is_reached_in w) told.2).0 (wire_ref (wire_word z u)) (ends_at told.0 (is_reached_in w) told.2).2 in
+          let p : place_in (wire_ref (wire_word z u)) ≡ wire_word z u = omega arith in
+          omega (arith, wire_below z (events_in z w.words) u (omega (arith, r, p)), long)
 
       -- the one that waits there
       waits : (N : NamedNet NodeName) (reached : ℕ → Bool) → WordsStandFor w N reached → slice_index met u ≢ 0 → (slice_index met u - 1 < length partners) × Linked N (port_of z places a) (port_of z places (slice_index met u - 1)) × IsKnown w N places kinds (slice_index met u - 1)

@@ -1,5 +1,5 @@
 -- Private: what is known of a net while its links are found in the words of a closed table.
-use Rattle.std.specs.Prelude.{◌≡◌, ◌≢◌, ℕ, suc, ◌+◌, ◌*◌, ◌<◌, Bool, true, List, length, slice_index, slice_index_or, ◌⊎◌}
+use Rattle.std.specs.Prelude.{◌≡◌, ◌≢◌, ℕ, suc, ◌+◌, ◌-◌, ◌*◌, ◌/◌, ◌%◌, ◌<◌, ◌≤◌, nat_lt, if◌then◌else◌, Bool, true, List, length, slice_index, slice_index_or, ◌⊎◌}
 use Rattle.ol_net.specs.declared.parts.Kind.{Kind}
 use Rattle.ol_net.specs.declared.parts.Kind.TheVariants.{Eraser}
 use Rattle.ol_net.specs.Nets.{NamedPort, slot, NamedNet, HasNode, Linked, port_under}
@@ -9,7 +9,7 @@ use Rattle.ol_net.specs.Pairing.{IsPaired, other}
 use Rattle.ol_rules.specs.declared.journal.NodeName.{NodeName}
 use Rattle.ol_wire.specs.declared.layout.Parts.{Parts}
 use Rattle.ol_wire.specs.References.{wire_ref}
-use Rattle.ol_wire.specs.Layout.{left_word}
+use Rattle.ol_wire.specs.Layout.{left_word, cells_of, start_wire, start_cell, block, table_size}
 use Rattle.ol_wire.specs.Events.{name_at}
 use Rattle.ol_wire.specs.Stands.{IsEnd}
 use Rattle.ol_wire.specs.Closed.{ClosedTable}
@@ -41,16 +41,29 @@ pub record IsPartial (w : ClosedTable) (net : NamedNet NodeName) (places : List 
       → Linked net (port_of w.plan.parts places a) (port_of w.plan.parts places (other partners a))
   pub known : (a : ℕ) → other partners a ≢ a → IsKnown w net places kinds a
 
+-- wires are numbered from 0: those of the start, and then four for each ticket
+abbrev pub wire_word : Parts → ℕ → ℕ
+wire_word z k = if nat_lt k z.wires then start_wire z k else block z ((k - z.wires) / 4) + 10 + (k - z.wires) % 4
+
+-- a word of a wire of the start, or of one that a ticket may have made
+abbrev pub IsStartWire : Parts → ℕ → Type 0
+IsStartWire z n = (start_wire z 0 ≤ n) × (n < start_cell z 0)
+
+abbrev pub IsBornWire : Parts → ℕ → Type 0
+IsBornWire z n = (block z 0 ≤ n) × (n < table_size z) × (10 ≤ (n - block z 0) % 22) × ((n - block z 0) % 22 < 14)
+
 -- the chain of e leads to an empty wire, where it is written that the port at place a came there
 abbrev pub WaitsAt : ClosedTable → NamedNet NodeName → (ℕ → Bool) → List ℕ → ℕ → ℕ → Type 0
-WaitsAt w net reached met a e = (u : ℕ) × (reached u ≡ true) × (slice_index w.words u ≡ 0)
-    × LeadsTo w net reached e (wire_ref u) × (slice_index met u ≡ a + 1)
+WaitsAt w net reached met a e = (k : ℕ) × (reached (wire_word w.plan.parts k) ≡ true)
+    × (slice_index w.words (wire_word w.plan.parts k) ≡ 0)
+    × LeadsTo w net reached e (wire_ref (wire_word w.plan.parts k)) × (slice_index met k ≡ a + 1)
 
--- Of the ports at places below n, each that owns a word has a partner or waits for one.
+-- `met` has a place for each wire. Of the ports at places below n, each that owns a word has a partner or waits for one.
 pub record AreMet (w : ClosedTable) (net : NamedNet NodeName) (reached : ℕ → Bool) (places partners met : List ℕ) (n : ℕ) : Type 0 where
-  pub came : (u : ℕ) → slice_index met u ≢ 0
-      → (a : ℕ) × (e : ℕ) × (slice_index met u ≡ a + 1) × (a < n)
-      × IsEnd w.plan.parts net (port_of w.plan.parts places a) e × LeadsTo w net reached e (wire_ref u)
+  pub came : (k : ℕ) → slice_index met k ≢ 0
+      → (a : ℕ) × (e : ℕ) × (slice_index met k ≡ a + 1) × (a < n)
+      × IsEnd w.plan.parts net (port_of w.plan.parts places a) e
+      × LeadsTo w net reached e (wire_ref (wire_word w.plan.parts k))
   pub settled : (a e m : ℕ) → a < n → IsEnd w.plan.parts net (port_of w.plan.parts places a) e
       → OwnsWord w net reached m e → (other partners a ≢ a) ⊎ WaitsAt w net reached met a e
 
@@ -77,6 +90,18 @@ AreCelled w net places partners n = (c r a : ℕ) → c < n → a < length partn
     → (r ≡ slice_index w.words (left_word w.plan.parts c)) ⊎ (r ≡ slice_index w.words (suc (left_word w.plan.parts c)))
     → IsEnd w.plan.parts net (port_of w.plan.parts places a) r → other partners a ≢ a
 
+-- and those of the first k of these cells
+abbrev pub AreListed : ClosedTable → NamedNet NodeName → List ℕ → List ℕ → List ℕ → ℕ → Type 0
+AreListed w net places partners cells k = (j r a : ℕ) → j < k → a < length partners
+    → slice_index w.words (left_word w.plan.parts (slice_index cells j)) ≢ 0
+    → (r ≡ slice_index w.words (left_word w.plan.parts (slice_index cells j)))
+    ⊎ (r ≡ slice_index w.words (suc (left_word w.plan.parts (slice_index cells j))))
+    → IsEnd w.plan.parts net (port_of w.plan.parts places a) r → other partners a ≢ a
+
+-- these are cells of the table
+abbrev pub AreCells : ClosedTable → List ℕ → Type 0
+AreCells w cells = (j : ℕ) → j < length cells → slice_index cells j < cells_of w.plan.parts
+
 -- Each of these holds of the net and the wires that the words stand for, whichever they are.
 abbrev pub IsPartly : ClosedTable → List ℕ → List (Kind × ℕ) → List ℕ → Type 0
 IsPartly w places kinds partners = (net : NamedNet NodeName) (reached : ℕ → Bool) → WordsStandFor w net reached
@@ -89,6 +114,10 @@ AreMetTo w places partners met n = (net : NamedNet NodeName) (reached : ℕ → 
 abbrev pub AreCelledTo : ClosedTable → List ℕ → List ℕ → ℕ → Type 0
 AreCelledTo w places partners n = (net : NamedNet NodeName) (reached : ℕ → Bool) → WordsStandFor w net reached
     → AreCelled w net places partners n
+
+abbrev pub AreListedTo : ClosedTable → List ℕ → List ℕ → List ℕ → ℕ → Type 0
+AreListedTo w places partners cells k = (net : NamedNet NodeName) (reached : ℕ → Bool) → WordsStandFor w net reached
+    → AreListed w net places partners cells k
 
 abbrev pub IsNodeIn : ClosedTable → ℕ → Type 0
 IsNodeIn w r = (net : NamedNet NodeName) (reached : ℕ → Bool) → WordsStandFor w net reached → IsOfNode w net r

@@ -6,7 +6,7 @@ use Rattle.ol_wire.specs.Closed.{ClosedTable}
 use Rattle.ol_reduce.specs.declared.live.Live.{Live}
 use Rattle.ol_reduce.specs.declared.draft.Draft.{Draft}
 use Rattle.ol_reduce.specs.Left.{ranks_in, AreLeft}
-use Rattle.ol_reduce.specs.Found.{IsPartly, AreMetTo, AreCelledTo, KeepsKnown, KeepsPartners}
+use Rattle.ol_reduce.specs.Found.{IsPartly, AreMetTo, AreCelledTo, AreListedTo, KeepsKnown, KeepsPartners}
 
 -- these are all nodes that are left
 abbrev pub AreAllLeft : ClosedTable → Live → Type 0
@@ -20,8 +20,8 @@ AreLeftTo w t live = AreLeft w (w.plan.parts.nodes + 4 * t) live.places.items li
 abbrev pub AddsPlace : Live → Bool → ℕ → Live → Type 0
 AddsPlace old is_left place new = new.places.items ≡ (if is_left then old.places.items ++ place ∷ [] else old.places.items)
 
-abbrev pub AddsNumber : Live → Bool → Live → Type 0
-AddsNumber old is_left new = new.numbers.items ≡ old.numbers.items ++ (if is_left then length old.places.items + 1 else 0) ∷ []
+abbrev pub AddsNumber : Live → Bool → ℕ → Live → Type 0
+AddsNumber old is_left rank new = new.numbers.items ≡ (if is_left then slice_set old.numbers.items rank (length old.places.items + 1) else old.numbers.items)
 
 -- what is known of the net is right
 abbrev pub IsRight : ClosedTable → Live → Draft → Type 0
@@ -33,6 +33,9 @@ AreCellsLinked w live d = AreCelledTo w live.places.items d.partners.items (cell
 
 abbrev pub HasCells : ClosedTable → Live → Draft → ℕ → Type 0
 HasCells w live d n = IsRight w live d × AreCelledTo w live.places.items d.partners.items n
+
+abbrev pub HasListed : ClosedTable → Live → Draft → List ℕ → ℕ → Type 0
+HasListed w live d cells k = IsRight w live d × AreListedTo w live.places.items d.partners.items cells k
 
 -- and so have those ports at places below n that own a word, or they wait
 abbrev pub HasPorts : ClosedTable → Live → Draft → List ℕ → ℕ → Type 0

@@ -7,6 +7,10 @@ use Rattle.ol_wire.specs.Closed.{ClosedTable, events_in}
 abbrev pub words_used : ClosedTable → ℕ
 words_used w = block w.plan.parts (events_in w.plan.parts w.words)
 
+-- the number of wires in use
+abbrev pub wires_used : ClosedTable → ℕ
+wires_used w = w.plan.parts.wires + 4 * events_in w.plan.parts w.words
+
 -- the number of cells in use
 abbrev pub cells_used : ClosedTable → ℕ
 cells_used w = w.plan.parts.cells + 4 * events_in w.plan.parts w.words

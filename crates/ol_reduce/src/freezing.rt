@@ -1,15 +1,16 @@
 //! The net that the words of a closed table stand for.
-ghost use Rattle.std.specs.Prelude.{◌≡◌, ◌≢◌, ℕ, Bool, List, ◌+◌, ◌-◌, ◌*◌, ◌<◌, ◌≤◌, length, slice_index, slice_set, IfOk, OnOk};
+ghost use Rattle.std.specs.Prelude.{◌≡◌, ◌≢◌, ℕ, Bool, List, ◌+◌, ◌-◌, ◌*◌, ◌<◌, ◌≤◌, ◌⊎◌, length, slice_index, slice_set, IfOk, OnOk};
 ghost use Rattle.ol_net.specs.Nets.{NamedNet};
 ghost use Rattle.ol_net.specs.Linking.{linked};
 ghost use Rattle.ol_rules.specs.declared.journal.NodeName.{NodeName};
 ghost use Rattle.ol_wire.specs.Layout.{table_size, cells_of};
-ghost use Rattle.ol_wire.specs.Closed.{EachAfter, journal_drawn};
+ghost use Rattle.ol_wire.specs.Sizes.{IsSmall};
+ghost use Rattle.ol_wire.specs.Closed.{EachAfter, journal_drawn, pairs_drawn, cells_filled};
 ghost use Rattle.ol_reduce.specs.Left.{ranks_in, AreLeft};
 ghost use Rattle.ol_reduce.specs.Frozen.{IsFrozen};
-ghost use Rattle.ol_reduce.specs.Used.{words_used, cells_used};
-ghost use Rattle.ol_reduce.specs.Found.{IsPartly, AreMetTo, AreCelledTo, IsNodeIn, IsSiteIn, IsWordAt, KeepsKnown, KeepsPartners};
-ghost use Rattle.ol_reduce.specs.Linked.{AreAllLeft, IsRight, AreCellsLinked, HasCells, HasPorts, HasFree, HasNodes, HasAll, AreAllMet, KeepsKinds, KeepsLinks, IsOwner, IsOtherIn, WaitsThere, MeetsThere};
+ghost use Rattle.ol_reduce.specs.Used.{wires_used};
+ghost use Rattle.ol_reduce.specs.Found.{wire_word, IsStartWire, IsBornWire, IsPartly, AreMetTo, AreCelledTo, AreCells, IsNodeIn, IsSiteIn, IsWordAt, KeepsKnown, KeepsPartners};
+ghost use Rattle.ol_reduce.specs.Linked.{AreAllLeft, IsRight, AreCellsLinked, HasListed, HasCells, HasPorts, HasFree, HasNodes, HasAll, AreAllMet, KeepsKinds, KeepsLinks, IsOwner, IsOtherIn, WaitsThere, MeetsThere};
 
 use crate::chains::{End, follow};
 use crate::draft::Draft;
@@ -18,7 +19,7 @@ use crate::reading::word_at;
 use ol_io::NoMemory;
 use ol_net::Net;
 use ol_rules::Journal;
-use ol_wire::{Words, index_in, kind_in, place_in};
+use ol_wire::{Blocks, Parts, Words, index_in, kind_in, place_in};
 use std::alloc::Global;
 
 /// The net that the words stand for, its nodes numbered from 0 by ascending name: first those of
@@ -28,21 +29,29 @@ use std::alloc::Global;
 pub fn freeze(alloc: Global, words: &Words) -> Result<Net, NoMemory>
     ensures frozen { IfOk result (λ g. EachAfter words.now (λ net. IsFrozen net g)) }
 {
-    let journal = words.whole_journal(alloc)?;
-    let net = freeze_by(alloc, words, &journal)?;
+    let blocks = words.blocks(alloc)?;
+    let journal = words.journal_by(alloc, &blocks.pairs)?;
+    let net = freeze_by(alloc, words, &blocks, &journal)?;
     Ok(net)
 }
 
-/// The same, by the journal of the words, so that it isn't read from them again.
-pub(crate) fn freeze_by(alloc: Global, words: &Words, journal: &Journal) -> Result<Net, NoMemory>
+/// The same, by what the blocks hold and by the journal, so that neither is looked for again.
+pub(crate) fn freeze_by(
+    alloc: Global,
+    words: &Words,
+    blocks: &Blocks,
+    journal: &Journal,
+) -> Result<Net, NoMemory>
+    requires pairs { blocks.now.pairs.items ≡ pairs_drawn words.now }
+    requires cells { blocks.now.cells.items ≡ cells_filled words.now }
     requires journal { journal.now ≡ journal_drawn words.now }
     ensures frozen { IfOk result (λ g. EachAfter words.now (λ net. IsFrozen net g)) }
 {
     words.stands();
     words.runs();
-    let live = Live::find(alloc, words, journal)?;
+    let live = Live::find(alloc, words, &blocks.pairs, journal)?;
     let mut draft = Draft::new(alloc, words.parts().free, live.count())?;
-    link_cells(words, &live, &mut draft);
+    link_cells(words, &live, &mut draft, &blocks.cells);
     link_chains(alloc, words, &live, &mut draft)?;
     draft.build(alloc)
 }
@@ -66,16 +75,18 @@ fn arrive(words: &Words, live: &Live, draft: &mut Draft, reference: u64) -> usiz
     draft.place_of(node, 0)
 }
 
-// Links the two nodes of a cell, if it isn't empty.
-fn link_cell(words: &Words, live: &Live, draft: &mut Draft, cell: u32)
+// Links the two nodes of the cell that is number k of these, if it isn't empty.
+fn link_cell(words: &Words, live: &Live, draft: &mut Draft, cells: &Vec<u32>, k: usize)
     requires live { AreAllLeft words.now live.now }
     requires free { draft.old.free ≡ words.now.plan.parts.free }
-    requires cell { cell < cells_of words.now.plan.parts }
-    requires before { HasCells words.now live.now draft.old cell }
+    requires cells { AreCells words.now cells.now.items }
+    requires k { k < length cells.now.items }
+    requires before { HasListed words.now live.now draft.old cells.now.items k }
     ensures free { draft.new.free ≡ draft.old.free }
-    ensures after { HasCells words.now live.now draft.new (cell + 1) }
+    ensures after { HasListed words.now live.now draft.new cells.now.items (k + 1) }
 {
     words.stands();
+    let cell = cells[k];
     let at = words.parts().left_word(cell);
     let left = word_at(words, at);
     if left == 0 {
@@ -87,25 +98,31 @@ fn link_cell(words: &Words, live: &Live, draft: &mut Draft, cell: u32)
     draft.link(one, other);
 }
 
-// The number of words in use, which grows with the tickets that were drawn and not with the fuel.
-fn words_used(words: &Words) -> u32
-    ensures { result ≡ words_used words.now }
+// The number of wires in use, which grows with the tickets that were drawn and not with the fuel.
+fn wires_used(words: &Words) -> u32
+    ensures { result ≡ wires_used words.now }
 {
     words.stands();
-    words.parts().block(words.events())
+    words.parts().wires + 4 * words.events()
 }
 
-// The number of cells in use.
-fn cells_used(words: &Words) -> u32
-    ensures { result ≡ cells_used words.now }
+// The number of the wire whose word this is: first those of the start, then four for each ticket.
+fn wire_number(parts: Parts, at: u32) -> u32
+    requires small { IsSmall parts }
+    requires wire { IsStartWire parts at ⊎ IsBornWire parts at }
+    ensures { wire_word parts result ≡ at }
 {
-    words.stands();
-    words.parts().cells + 4 * words.events()
+    if at < parts.start_cell(0) {
+        return at - parts.start_wire(0);
+    }
+    let behind = at - parts.block(0);
+    parts.wires + 4 * (behind / 22) + (behind % 22 - 10)
 }
 
 // Links the two nodes of each cell that isn't empty. The cells of tickets that weren't drawn are
 // empty.
-fn link_cells(words: &Words, live: &Live, draft: &mut Draft)
+fn link_cells(words: &Words, live: &Live, draft: &mut Draft, cells: &Vec<u32>)
+    requires cells { cells.now.items ≡ cells_filled words.now }
     requires live { AreAllLeft words.now live.now }
     requires free { draft.old.free ≡ words.now.plan.parts.free }
     requires before { IsRight words.now live.now draft.old }
@@ -114,8 +131,8 @@ fn link_cells(words: &Words, live: &Live, draft: &mut Draft)
 {
     words.stands();
     words.undrawn();
-    for cell in 0..cells_used(words) {
-        link_cell(words, live, draft, cell);
+    for k in 0..cells.len() {
+        link_cell(words, live, draft, cells, k);
     }
 }
 
@@ -149,7 +166,7 @@ fn link_one(
 )
     requires live { AreAllLeft words.now live.now }
     requires free { draft.old.free ≡ words.now.plan.parts.free }
-    requires met { length met.old.items ≡ words_used words.now }
+    requires met { length met.old.items ≡ wires_used words.now }
     requires at { at < table_size words.now.plan.parts }
     requires place { IsOwner words.now draft.old place }
     requires word { IsWordAt words.now live.now.places.items place at }
@@ -170,7 +187,10 @@ fn link_one(
             draft.link(place, other);
         }
         End::Port(port) => draft.link(place, port as usize),
-        End::Wire(wire) => meet(draft, met, place, wire),
+        End::Wire(wire) => {
+            let number = wire_number(words.parts(), wire);
+            meet(draft, met, place, number)
+        }
     }
 }
 
@@ -178,7 +198,7 @@ fn link_one(
 fn link_ports(words: &Words, live: &Live, draft: &mut Draft, met: &mut Vec<u32>)
     requires live { AreAllLeft words.now live.now }
     requires free { draft.old.free ≡ words.now.plan.parts.free }
-    requires met { length met.old.items ≡ words_used words.now }
+    requires met { length met.old.items ≡ wires_used words.now }
     requires before { HasPorts words.now live.now draft.old met.old.items 0 }
     ensures free { draft.new.free ≡ draft.old.free }
     ensures met { length met.new.items ≡ length met.old.items }
@@ -195,7 +215,7 @@ fn link_ports(words: &Words, live: &Live, draft: &mut Draft, met: &mut Vec<u32>)
 fn link_node(words: &Words, live: &Live, draft: &mut Draft, met: &mut Vec<u32>, node: u32)
     requires live { AreAllLeft words.now live.now }
     requires free { draft.old.free ≡ words.now.plan.parts.free }
-    requires met { length met.old.items ≡ words_used words.now }
+    requires met { length met.old.items ≡ wires_used words.now }
     requires node { node < length live.now.places.items }
     requires before { HasNodes words.now live.now draft.old met.old.items node }
     ensures free { draft.new.free ≡ draft.old.free }
@@ -215,7 +235,7 @@ fn link_node(words: &Words, live: &Live, draft: &mut Draft, met: &mut Vec<u32>, 
 fn link_nodes(words: &Words, live: &Live, draft: &mut Draft, met: &mut Vec<u32>)
     requires live { AreAllLeft words.now live.now }
     requires free { draft.old.free ≡ words.now.plan.parts.free }
-    requires met { length met.old.items ≡ words_used words.now }
+    requires met { length met.old.items ≡ wires_used words.now }
     requires before { HasFree words.now live.now draft.old met.old.items }
     ensures free { draft.new.free ≡ draft.old.free }
     ensures keeps { KeepsLinks draft.old draft.new }
@@ -239,7 +259,7 @@ fn link_chains(alloc: Global, words: &Words, live: &Live, draft: &mut Draft) -> 
 {
     words.stands();
     let mut met = Vec::new(alloc);
-    let Ok(()) = met.resize(words_used(words) as usize, 0) else {
+    let Ok(()) = met.resize(wires_used(words) as usize, 0) else {
         return Err(NoMemory);
     };
     link_ports(words, live, draft, &mut met);

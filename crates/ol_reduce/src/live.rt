@@ -4,13 +4,12 @@ ghost use Rattle.ol_net.specs.Parts.{arity};
 ghost use Rattle.ol_rules.specs.declared.journal.NodeName.{NodeName};
 ghost use Rattle.ol_rules.specs.Rewriting.{is_meeting};
 ghost use Rattle.ol_wire.specs.Blocks.{copies_of_f, copies_of_g};
-ghost use Rattle.ol_wire.specs.Closed.{ClosedTable, events_in, event_at, events_drawn, journal_drawn};
+ghost use Rattle.ol_wire.specs.Closed.{ClosedTable, events_in, event_at, events_drawn, journal_drawn, pairs_drawn};
 ghost use Rattle.ol_wire.specs.Layout.{place_of, table_size, IsPlaced};
 ghost use Rattle.ol_wire.specs.Sizes.{IsSmall};
 ghost use Rattle.ol_reduce.specs.Left.{rank_of, AreMarked, births_at, IsSmallTable, IsWithinFuel, IsMarkedToo, IsPlaceOfSome, IsRankAt, IsRankOf, IsPlaceLeft};
 ghost use Rattle.ol_reduce.specs.Linked.{AreAllLeft, AreLeftTo, AddsPlace, AddsNumber};
 
-use crate::reading::word_at;
 use ol_io::NoMemory;
 use ol_net::{Kind, Rule};
 use ol_rules::{Journal, NodeName};
@@ -66,8 +65,8 @@ fn arity(kind: Kind) -> u32
 }
 
 // How many nodes a ticket made.
-fn births(words: &Words, journal: &Journal, ticket: u32) -> u32
-    requires small { IsSmallTable words.now }
+fn births(words: &Words, pairs: &Vec<(u64, u64)>, journal: &Journal, ticket: u32) -> u32
+    requires pairs { pairs.now.items ≡ pairs_drawn words.now }
     requires journal { journal.now ≡ journal_drawn words.now }
     requires drawn { ticket < events_drawn words.now }
     ensures { result ≡ births_at words.now ticket }
@@ -78,8 +77,8 @@ fn births(words: &Words, journal: &Journal, ticket: u32) -> u32
     if is_meeting(entry.rule) {
         return 0;
     }
-    let block = words.parts().block(ticket);
-    arity(kind_in(word_at(words, block))) + arity(kind_in(word_at(words, block + 1)))
+    let (one, other) = pairs[ticket as usize];
+    arity(kind_in(one)) + arity(kind_in(other))
 }
 
 // Marks a name.
@@ -140,8 +139,14 @@ fn put(numbers: &mut Vec<u32>, number: u32) -> Result<(), NoMemory>
 
 impl Live {
     /// The nodes that the words tell as left.
-    pub(crate) fn find(alloc: Global, words: &Words, journal: &Journal) -> Result<Live, NoMemory>
+    pub(crate) fn find(
+        alloc: Global,
+        words: &Words,
+        pairs: &Vec<(u64, u64)>,
+        journal: &Journal,
+    ) -> Result<Live, NoMemory>
         requires small { IsSmallTable words.now }
+        requires pairs { pairs.now.items ≡ pairs_drawn words.now }
         requires journal { journal.now ≡ journal_drawn words.now }
         requires drawn { IsWithinFuel words.now }
         ensures { IfOk result (AreAllLeft words.now) }
@@ -152,11 +157,14 @@ impl Live {
             places: Vec::new(alloc),
             numbers: Vec::new(alloc),
         };
+        let Ok(()) = live.numbers.resize(marks.len(), 0) else {
+            return Err(NoMemory);
+        };
         for node in 0..parts.nodes {
-            live.add(!marks[node as usize], parts.start_node(node))?;
+            live.add(!marks[node as usize], node, parts.start_node(node))?;
         }
         for ticket in 0..words.events() {
-            live.add_born(words, journal, &marks, ticket)?;
+            live.add_born(words, pairs, journal, &marks, ticket)?;
         }
         Ok(live)
     }
@@ -165,11 +173,13 @@ impl Live {
     fn add_born(
         &mut self,
         words: &Words,
+        pairs: &Vec<(u64, u64)>,
         journal: &Journal,
         marks: &Vec<bool>,
         ticket: u32,
     ) -> Result<(), NoMemory>
         requires small { IsSmallTable words.now }
+        requires pairs { pairs.now.items ≡ pairs_drawn words.now }
         requires journal { journal.now ≡ journal_drawn words.now }
         requires drawn { IsWithinFuel words.now × (ticket < events_drawn words.now) }
         requires marked { AreMarked words.now (events_drawn words.now) marks.now.items }
@@ -177,27 +187,27 @@ impl Live {
         ensures { OnOk result (AreLeftTo words.now (ticket + 1) self.new) }
     {
         let parts = words.parts();
-        let births = births(words, journal, ticket);
+        let births = births(words, pairs, journal, ticket);
         for place in 0..4 {
             let rank = parts.nodes + 4 * ticket + place;
             let is_left = place < births && !marks[rank as usize];
-            self.add(is_left, parts.block(ticket) + 2 + 2 * place)?;
+            self.add(is_left, rank, parts.block(ticket) + 2 + 2 * place)?;
         }
         Ok(())
     }
 
     // The next rank.
-    fn add(&mut self, is_left: bool, place: u32) -> Result<(), NoMemory>
+    fn add(&mut self, is_left: bool, rank: u32, place: u32) -> Result<(), NoMemory>
+        requires rank { rank < length self.old.numbers.items }
         requires few { length self.old.places.items < 400000000 }
         ensures places { OnOk result (AddsPlace self.old is_left place self.new) }
-        ensures numbers { OnOk result (AddsNumber self.old is_left self.new) }
+        ensures numbers { OnOk result (AddsNumber self.old is_left rank self.new) }
     {
-        if !is_left {
-            return put(&mut self.numbers, 0);
+        if is_left {
+            put(&mut self.places, place)?;
+            self.numbers[rank as usize] = self.places.len() as u32;
         }
-        let number = self.places.len() as u32 + 1;
-        put(&mut self.places, place)?;
-        put(&mut self.numbers, number)
+        Ok(())
     }
 
     /// How many there are.

@@ -50,10 +50,11 @@ pub fn reduce<R: Threads + Wait + Sync, G: Gate + Sync>(
     words.runs();
     words.over();
     words.settled();
-    let journal = words.whole_journal(alloc)?;
+    let blocks = words.blocks(alloc)?;
+    let journal = words.journal_by(alloc, &blocks.pairs)?;
     match end {
         End::Quiet => {
-            let last = freeze_by(alloc, &words, &journal)?;
+            let last = freeze_by(alloc, &words, &blocks, &journal)?;
             Ok(Reduced::Done {
                 net: last,
                 journal,

@@ -21,6 +21,7 @@ pub mod Waiting
 pub mod OneThread
 pub mod Same
 pub mod UnderNames
+mod Counted
 pub mod BothWays
 pub mod OneRun
 pub mod StartNets

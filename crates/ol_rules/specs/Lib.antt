@@ -9,5 +9,6 @@ pub mod Laws
 pub mod Contracting
 -- What only contracts of private functions and proofs cite.
 pub mod Actors
+pub mod Counted
 pub mod Running
 pub mod BornLists

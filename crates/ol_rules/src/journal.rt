@@ -1,7 +1,6 @@
 //! Journals: what was rewritten, in order, under names that don't depend on the order.
 
-ghost use Rattle.std.specs.Prelude.{◌≡◌, ℕ, ◌+◌, ◌-◌, ◌<◌, ◌^◌, ◌++◌, [], ◌∷◌, length, OnOk, OnErr, slice_get, vec_len, count_by};
-ghost use Rattle.ol_rules.specs.Counting.{times_applied};
+ghost use Rattle.std.specs.Prelude.{◌≡◌, ℕ, ◌+◌, ◌-◌, ◌<◌, ◌^◌, ◌++◌, [], ◌∷◌, length, IfOk, OnOk, OnErr, slice_get, get_or, vec_len};
 
 use ol_io::NoMemory;
 use ol_net::Rule;
@@ -52,6 +51,16 @@ impl Journal {
         }
     }
 
+    /// The empty journal, with room for so many entries. `NoMemory`: no memory was found for it.
+    pub fn with_room(alloc: Global, entries: u32) -> Result<Journal, NoMemory>
+        ensures empty { IfOk result (λ journal. journal ≡ []) }
+    {
+        let Ok(entries) = Vec::with_capacity(alloc, entries as usize) else {
+            return Err(NoMemory);
+        };
+        Ok(Journal { entries })
+    }
+
     /// Appends an entry. With `NoMemory` the journal is unchanged.
     pub fn push(&mut self, entry: Entry) -> Result<(), NoMemory>
         requires few { length self.old < 4294967295 }
@@ -78,11 +87,12 @@ impl Journal {
         self.entries.get(k as usize).copied()
     }
 
-    /// The number of entries with this rule.
-    pub(crate) fn entries_of(&self, rule: Rule) -> u32
-        ensures { result ≡ times_applied rule self.now }
+    /// The entry with ticket `k`, which is there.
+    pub(crate) fn entry(&self, k: u32) -> Entry
+        requires { k < length self.now }
+        ensures { result ≡ get_or self.now k result }
     {
-        self.entries.iter().filter(|e| e.rule == rule).count() as u32
+        self.entries[k as usize]
     }
 }
 

@@ -1,5 +1,5 @@
 -- A table that no thread shares any more, the journal that its words tell, and the net after it.
-use Rattle.std.specs.Prelude.{◌≡◌, ℕ, ◌+◌, ◌⊎◌, nat_lt, if◌then◌else◌, true, List, [], ◌∷◌, Some, slice_index, slice_get, ◌<◌, ◌≤◌, length}
+use Rattle.std.specs.Prelude.{◌≡◌, ℕ, ◌+◌, ◌*◌, ◌⊎◌, nat_eq, nat_lt, if◌then◌else◌, true, List, [], ◌∷◌, Some, slice_index, slice_get, ◌<◌, ◌≤◌, length}
 use Rattle.ol_net.specs.declared.parts.Kind.{Kind}
 use Rattle.ol_net.specs.Nets.{NamedNet, HasNode, SameNet}
 use Rattle.ol_rules.specs.declared.journal.NodeName.{NodeName}
@@ -9,7 +9,7 @@ use Rattle.ol_rules.specs.Runs.{IsRun}
 use Rattle.ol_wire.specs.declared.layout.Parts.{Parts}
 use Rattle.ol_wire.specs.declared.plan.Plan.{Plan}
 use Rattle.ol_wire.specs.declared.view.View.{View}
-use Rattle.ol_wire.specs.Layout.{block, cells_of}
+use Rattle.ol_wire.specs.Layout.{block, left_word, cells_of}
 use Rattle.ol_wire.specs.Starts.{start_net_of_plan}
 use Rattle.ol_wire.specs.Events.{Event, event_of, entry_of}
 use Rattle.core.specs.Mem.Slots.{slots_items}
@@ -69,6 +69,21 @@ journal_drawn w = journal_in w.plan.parts w.words
 -- the pairs that the tickets were drawn for
 abbrev pub pairs_drawn : ClosedTable → List (ℕ × ℕ)
 pairs_drawn w = each (events_in w.plan.parts w.words) (λ t. pair_at w.plan.parts w.words t ∷ [])
+
+-- the cell, if it isn't empty
+abbrev pub filled_row : ClosedTable → ℕ → List ℕ
+filled_row w c = if nat_eq (slice_index w.words (left_word w.plan.parts c)) 0 then [] else c ∷ []
+
+-- those of the cells below n that aren't empty, and those of the start and of the tickets before t
+abbrev pub filled_below : ClosedTable → ℕ → List ℕ
+filled_below w n = each n (λ c. filled_row w c)
+
+abbrev pub filled_before : ClosedTable → ℕ → List ℕ
+filled_before w t = filled_below w (w.plan.parts.cells + 4 * t)
+
+-- the cells that aren't empty, of those of the start and of the tickets that were drawn
+abbrev pub cells_filled : ClosedTable → List ℕ
+cells_filled w = filled_before w (events_in w.plan.parts w.words)
 
 -- the entry of a ticket
 abbrev pub entry_at : ClosedTable → ℕ → Entry

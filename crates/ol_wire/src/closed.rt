@@ -1,8 +1,8 @@
 //! The words of a table that no thread shares any more, and what they say.
-ghost use Rattle.std.specs.Prelude.{◌≡◌, ℕ, ◌+◌, ◌<◌, ◌≤◌, length, MatchOption, IfOk, slice_get, slice_index};
+ghost use Rattle.std.specs.Prelude.{◌≡◌, ℕ, ◌+◌, ◌<◌, ◌≤◌, ◌++◌, [], length, MatchOption, IfOk, OnOk, slice_get, slice_index};
 ghost use Rattle.core.specs.Mem.Slots.{slots_items, slots_len, IsFull};
-ghost use Rattle.ol_wire.specs.Closed.{ClosedTable, events_in, event_at, journal_in, journal_drawn, pair_at, pairs_drawn, entry_at, HasWord, closed_of};
-ghost use Rattle.ol_wire.specs.Layout.{table_size as size_of};
+ghost use Rattle.ol_wire.specs.Closed.{ClosedTable, events_in, event_at, journal_in, journal_drawn, pair_at, pairs_drawn, filled_row, filled_below, filled_before, cells_filled, entry_at, HasWord, closed_of};
+ghost use Rattle.ol_wire.specs.Layout.{table_size as size_of, left_word, cells_of};
 ghost use Rattle.ol_wire.specs.Sizes.{IsSmall};
 ghost use Rattle.ol_wire.specs.ClosedRule.{IsClosed, IsClosedOf};
 
@@ -32,6 +32,16 @@ impl Model for Words {
     ghost view = { λ w. closed_of w.closed w.was.value.key w.last.value.me.0 };
 
     ghost invariant = { λ w. IsClosedOf w.closed w.was.value.key w.parts w.last.value.me.0 };
+}
+
+/// What the blocks of the drawn tickets hold.
+#[derive(Drop)]
+pub struct Blocks {
+    /// By ticket: the references of the two nodes that it was drawn for, that of the smaller place
+    /// first.
+    pub pairs: Vec<(u64, u64)>,
+    /// The numbers of the cells that aren't empty, rising.
+    pub cells: Vec<u32>,
 }
 
 impl Words {
@@ -96,18 +106,69 @@ impl Words {
         (self.at(start), self.at(start + 1))
     }
 
-    // The pairs of all tickets. Each block is looked at but for a moment, so that the memory of many
-    // is on its way at one time.
-    fn pairs(&self, alloc: Global) -> Result<Vec<(u64, u64)>, NoMemory>
-        ensures { IfOk result (λ pairs. pairs.items ≡ pairs_drawn self.now) }
+    // Notes a cell if it isn't empty. `at` is the number of its left word.
+    fn note(&self, cells: &mut Vec<u32>, cell: u32, at: u32) -> Result<(), NoMemory>
+        requires cell { cell < cells_of self.now.plan.parts }
+        requires at { at ≡ left_word self.now.plan.parts cell }
+        ensures { OnOk result (cells.new.items ≡ cells.old.items ++ filled_row self.now cell) }
     {
-        let mut pairs = Vec::new(alloc);
-        for k in 0..self.events() {
+        if self.at(at) == 0 {
+            return Ok(());
+        }
+        let Ok(()) = cells.push(cell) else {
+            return Err(NoMemory);
+        };
+        Ok(())
+    }
+
+    // Notes the cells of the start that aren't empty.
+    fn note_start(&self, cells: &mut Vec<u32>) -> Result<(), NoMemory>
+        requires before { cells.old.items ≡ [] }
+        ensures { OnOk result (cells.new.items ≡ filled_below self.now self.now.plan.parts.cells) }
+    {
+        for cell in 0..self.parts.cells {
+            self.note(cells, cell, self.parts.start_cell(cell))?;
+        }
+        Ok(())
+    }
+
+    // Notes the cells of a ticket that aren't empty, behind those of the start and of the tickets
+    // before it.
+    fn note_block(&self, cells: &mut Vec<u32>, k: u32) -> Result<(), NoMemory>
+        requires drawn { k < events_in self.now.plan.parts self.now.words }
+        requires before { cells.old.items ≡ filled_before self.now k }
+        ensures { OnOk result (cells.new.items ≡ filled_before self.now (k + 1)) }
+    {
+        let first = self.parts.cells + 4 * k;
+        let start = self.parts.block(k) + 14;
+        for j in 0..4 {
+            self.note(cells, first + j, start + 2 * j)?;
+        }
+        Ok(())
+    }
+
+    /// What the blocks of the tickets hold: their pairs, and which cells aren't empty. `NoMemory`: no
+    /// memory was found for it.
+    ///
+    /// Each block is looked at once and but for a moment, so that the memory of many is on its way
+    /// at one time.
+    pub fn blocks(&self, alloc: Global) -> Result<Blocks, NoMemory>
+        ensures pairs { IfOk result (λ blocks. blocks.pairs.items ≡ pairs_drawn self.now) }
+        ensures cells { IfOk result (λ blocks. blocks.cells.items ≡ cells_filled self.now) }
+    {
+        let mut cells = Vec::new(alloc);
+        self.note_start(&mut cells)?;
+        let events = self.events();
+        let Ok(mut pairs) = Vec::with_capacity(alloc, events as usize) else {
+            return Err(NoMemory);
+        };
+        for k in 0..events {
             let Ok(()) = pairs.push(self.pair(k)) else {
                 return Err(NoMemory);
             };
+            self.note_block(&mut cells, k)?;
         }
-        Ok(pairs)
+        Ok(Blocks { pairs, cells })
     }
 
     // The entry of the pair of a ticket.
@@ -123,9 +184,20 @@ impl Words {
     pub fn whole_journal(&self, alloc: Global) -> Result<Journal, NoMemory>
         ensures { IfOk result (λ journal. journal ≡ journal_drawn self.now) }
     {
-        let pairs = self.pairs(alloc)?;
-        let mut journal = Journal::new(alloc);
-        for k in 0..self.events() {
+        let blocks = self.blocks(alloc)?;
+        let journal = self.journal_by(alloc, &blocks.pairs)?;
+        Ok(journal)
+    }
+
+    /// The whole journal, by the pairs of the tickets, so that no block is looked at again.
+    /// `NoMemory`: no memory was found for it.
+    pub fn journal_by(&self, alloc: Global, pairs: &Vec<(u64, u64)>) -> Result<Journal, NoMemory>
+        requires pairs { pairs.now.items ≡ pairs_drawn self.now }
+        ensures { IfOk result (λ journal. journal ≡ journal_drawn self.now) }
+    {
+        let events = self.events();
+        let mut journal = Journal::with_room(alloc, events)?;
+        for k in 0..events {
             let pair = pairs[k as usize];
             journal.push(self.entry(k, pair))?;
         }

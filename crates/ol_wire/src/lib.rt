@@ -46,7 +46,7 @@ mod shared;
 mod turn;
 mod view;
 
-pub use closed::Words;
+pub use closed::{Blocks, Words};
 pub use law::Law;
 pub use layout::{BLOCK, Parts, port_word};
 pub use plan::Plan;

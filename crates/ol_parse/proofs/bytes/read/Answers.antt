@@ -1,4 +1,4 @@
-use Rattle.std.proofs.Common.{◌≡◌, length, arith}
+use Rattle.std.proofs.Common.{◌≡◌, length, Some, refl, arith}
 use Rattle.ol_parse.proofs.FlatReads.{first, one_more, dies, is_whole, breaks_off}
 use Rattle.ol_parse.proofs.bytes.read.Goals as goal
 
@@ -26,3 +26,9 @@ returns-clause-found c =
     let e : c.loop-at.at ≡ length c.args.text.now = omega arith in
     is_whole c.args.text.now c.loop-at.at c.loop-at.place c.loop-at.mode c.loop-at.opens.items c.loop-at.out.items c.loop-at.invariant e
     c.take_text_end.new.out.items c.in_ok-take_text_end.field-0 c.if-not-branch.false c.in_ok-take_text_end.ensures
+
+pub loop-at-preserved-then-goes_on : goal.loop-at-preserved-then-goes_on
+loop-at-preserved-then-goes_on c =
+    one_more c.args.text.now c.loop-at.at c.loop-at.place c.loop-at.mode c.loop-at.opens.items c.loop-at.out.items c.loop-at.invariant c.loop-at-test.true
+    c.loop-at.place c.loop-at.mode c.loop-at.opens.items c.loop-at.out.items (Some (c.loop-at.place, c.loop-at.mode)) refl c.loop-at.invariant.begun
+    (c.goes_on.ensures c.if-goes_on.true c.loop-at.mode c.loop-at.opens.items c.loop-at.out.items)

@@ -1,9 +1,9 @@
-use Rattle.std.proofs.Common.{◌≡◌, ◌+◌, slice_index, sym, ap, ◌∙◌, arith}
+use Rattle.std.proofs.Common.{◌≡◌, ℕ, ◌+◌, slice_index, sym, ap, ◌∙◌, arith}
 use Rattle.ol_net.specs.Parts.{arity}
 use Rattle.ol_wire.specs.References.{kind_in}
 use Rattle.ol_wire.specs.Layout.{block}
-use Rattle.ol_wire.specs.declared.layout.Parts.{Parts}
-use Rattle.ol_reduce.proofs.Births.{read, no_entry, none_made, some_made}
+use Rattle.ol_wire.specs.Closed.{pair_at}
+use Rattle.ol_reduce.proofs.Births.{read, pair_read, as_many, no_entry, none_made, some_made}
 use Rattle.ol_reduce.proofs.live.births.Goals as goal
 
 pub returns-in_default : goal.returns-in_default
@@ -16,7 +16,10 @@ pub returns : goal.returns
 returns c =
     let z = c.args.words.now.plan.parts in
     let words = c.args.words.now.words in
-    let b : c.block-block.result ≡ block z c.args.ticket = c.block-block.ensures ∙ ap (λ (z : Parts). block z c.args.ticket) c.parts.ensures in
-    let l : c.arity.result ≡ arity (kind_in (slice_index words (block z c.args.ticket))) = c.arity.ensures ∙ ap arity (c.kind_in.ensures ∙ ap kind_in (c.word_at.ensures ∙ ap (slice_index words) b)) in
-    let r : c.arity-2.result ≡ arity (kind_in (slice_index words (block z c.args.ticket + 1))) = c.arity-2.ensures ∙ ap arity (c.kind_in-2.ensures ∙ ap kind_in (c.word_at-2.ensures ∙ ap (λ n. slice_index words (n + 1)) b)) in
+    let p : c.index.result.now ≡ pair_at z words c.args.ticket = pair_read c.args.words.now c.args.pairs.now.items c.args.ticket c.index.result.now c.requires.pairs c.requires.drawn c.index.ensures in
+    let l : c.arity.result ≡ arity (kind_in (slice_index words (block z c.args.ticket))) = c.arity.ensures ∙ ap arity (c.kind_in.ensures ∙ ap (λ (p : ℕ × ℕ). kind_in p.0) p) in
+    let r : c.arity-2.result ≡ arity (kind_in (slice_index words (block z c.args.ticket + 1))) = c.arity-2.ensures ∙ ap arity (c.kind_in-2.ensures ∙ ap (λ (p : ℕ × ℕ). kind_in p.1) p) in
     omega (arith, some_made z words c.args.ticket c.requires.drawn c.in-Some.entry (sym c.in-Some.is ∙ read c.args.words.now c.args.journal.now c.args.ticket c.get.result c.requires.journal c.get.ensures) (sym c.is_meeting.ensures ∙ c.if-is_meeting.false), l, r)
+
+pub index-requires : goal.index-requires
+index-requires c = omega (arith, c.requires.drawn, as_many c.args.words.now c.args.pairs.now.items c.requires.pairs, c.args.pairs.now.ok)

@@ -16,7 +16,7 @@ loop-node-preserved c =
     subst (λ n. AreLeft c.args.words.now n c.add.new.self.places.items c.add.new.self.numbers.items) e
     (by_mark c.args.words.now c.in_ok-marks.marks.items c.in_ok-marks.ensures k (omega (arith, low)) (Init k) (name_of_start z k low)
     c.loop-node.live.places.items c.loop-node.live.numbers.items c.add.new.self.places.items c.add.new.self.numbers.items c.loop-node.invariant c.start_node.result at (not c.index.result.now)
-    c.in_ok-add.ensures.places c.in_ok-add.ensures.numbers c.index.result.now c.index.ensures refl low)
+    c.in_ok-add.ensures.places k refl c.in_ok-add.ensures.numbers c.index.result.now c.index.ensures refl low)
 
 pub loop-ticket-init : goal.loop-ticket-init
 loop-ticket-init c =

@@ -5,7 +5,7 @@ use Rattle.ol_rules.specs.Listed.{each}
 use Rattle.ol_rules.specs.declared.journal.Entry.{Entry}
 use Rattle.ol_wire.specs.Closed.{ClosedTable, events_in, pair_at, pairs_drawn, entry_at}
 use Rattle.ol_wire.proofs.Closing.Lists.{one_each}
-use Rattle.ol_wire.proofs.closed.Words.whole_journal.Goals as goal
+use Rattle.ol_wire.proofs.closed.Words.journal_by.Goals as goal
 
 length_more : {X : Type 0} (xs : List X) (x : X) → length (xs ++ x ∷ []) ≡ suc (length xs)
 length_more [] x = refl
@@ -29,18 +29,18 @@ one_more : (w : ClosedTable) (k : ℕ) (j j' : List Entry) (x : Entry) → j ≡
 one_more w k j j' x e p q = p ∙ ap (λ l. l ++ x ∷ []) e ∙ ap (λ x. each k (λ t. entry_at w t ∷ []) ++ x ∷ []) q
 
 pub index-pair-requires : goal.index-pair-requires
-index-pair-requires c = omega (arith, c.loop-k-test.true, c.events-k-end.ensures, as_many c.args.self.now c.in_ok-pairs.pairs.items c.in_ok-pairs.ensures, c.in_ok-pairs.pairs.ok)
+index-pair-requires c = omega (arith, c.loop-k-test.true, c.events-events.ensures, as_many c.args.self.now c.args.pairs.now.items c.requires.pairs, c.args.pairs.now.ok)
 
 pub entry-requires-clause-pair : goal.entry-requires-clause-pair
 entry-requires-clause-pair c =
     let w = c.args.self.now in
-    let lt = below c.loop-k.k c.events-k-end.result (events_in w.plan.parts w.words) c.loop-k-test.true c.events-k-end.ensures in
-    c.index-pair.ensures ∙ get_or_from_slice_get c.in_ok-pairs.pairs.items c.loop-k.k (pair_at w.plan.parts w.words c.loop-k.k) c.index-pair.result.now (found w c.in_ok-pairs.pairs.items c.loop-k.k c.in_ok-pairs.ensures lt)
+    let lt = below c.loop-k.k c.events-events.result (events_in w.plan.parts w.words) c.loop-k-test.true c.events-events.ensures in
+    c.index-pair.ensures ∙ get_or_from_slice_get c.args.pairs.now.items c.loop-k.k (pair_at w.plan.parts w.words c.loop-k.k) c.index-pair.result.now (found w c.args.pairs.now.items c.loop-k.k c.requires.pairs lt)
 
 pub push-requires : goal.push-requires
 push-requires c =
     let w = c.args.self.now in
-    record { few = omega (arith, ap length c.loop-k.invariant, length_each (entry_at w) c.loop-k.k, c.loop-k-test.true, c.events-k-end.type_inv) }
+    record { few = omega (arith, ap length c.loop-k.invariant, length_each (entry_at w) c.loop-k.k, c.loop-k-test.true, c.events-events.type_inv) }
 
 pub loop-k-preserved : goal.loop-k-preserved
 loop-k-preserved c =
