@@ -177,6 +177,36 @@ pub fn head_by<L: Ledger>(
     ask_and_drop(alloc, net, values, frames, skips, at, edges, &mut steps)
 }
 
+// As `head_counted`, on a counter of its own: a ledger of at least one part.
+fn head_on<L: Ledger>(
+    alloc: Global,
+    net: &Net,
+    values: &mut Values,
+    frames: &Vec<Frame>,
+    at: u32,
+    edges: u64,
+    blank: Blank,
+) -> Result<Head, NoMemory>
+    requires at { at < length frames.now.items }
+    requires parents { ParentsFirst (frames_of values.old frames.now.items) }
+    requires frames { AreHeldFrames values.old frames.now.items }
+    requires ports { AreAtPorts net.now.free frames.now.items }
+    requires name { blank.name ≡ L.name }
+    requires parts { blank.parts ≡ L.parts }
+    requires some { 0 < blank.parts }
+    ensures answer { IfOk result
+        (IsAnswerOfAsking net.now values.old frames.now.items at edges values.new) }
+    ensures found { IfOk result (IsHeadIfFound net.now values.old frames.now.items at values.new) }
+    ensures lost { IfOk result (IsLostIfNoHead net.now values.old frames.now.items at) }
+    ensures ring { IfOk result (IsRingIfBudget net.now values.old frames.now.items at edges) }
+    ensures held { IfOk result (IsHeldHead values.new) }
+    ensures unchanged { IfOk result (IsUnchangedUnlessFound values.old values.new) }
+    ensures extends { Extends values.old values.new }
+{
+    let mut steps: Steps<L> = Steps::new(blank);
+    head_counted(alloc, net, values, frames, at, edges, &mut steps)
+}
+
 /// The head of frame `at`: what the least number of abstractions says for which a walk from it
 /// leaves the net. The numbers 0, 1, 2 and so on, up to the number of live nodes, are tried up to
 /// the first whose walk leaves, or makes all its `edges` crossings; one walk is made for all of
@@ -212,9 +242,6 @@ pub fn head(
     ensures unchanged { IfOk result (IsUnchangedUnlessFound values.old values.new) }
     ensures extends { Extends values.old values.new }
 {
-    net.is_net();
-    let skips: Vec<Option<u32>> = Vec::new(alloc);
     let blank = Blank::new(1);
-    let answer = head_by::<Brand>(alloc, net, values, frames, &skips, at, edges, blank)?;
-    Ok(answer)
+    head_on::<Brand>(alloc, net, values, frames, at, edges, blank)
 }
