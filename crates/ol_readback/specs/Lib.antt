@@ -14,7 +14,10 @@ pub mod PrintedLaws
 pub mod Groups
 pub mod Reading
 pub mod Skipping
+pub mod Askers
 -- What only contracts of private functions and proofs cite.
 pub mod Fitting
 pub mod Printing
 pub mod Searches
+pub mod NextPlaces
+pub mod Walks

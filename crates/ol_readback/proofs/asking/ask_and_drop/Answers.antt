@@ -7,7 +7,7 @@ use Rattle.ol_readback.proofs.asking.ask_and_drop.Goals as goal
 
 pub returns-clause-answer : goal.returns-clause-answer
 returns-clause-answer g c =
-    subst (λ (a : Answer). IsHeadWithin (net_of c.args.net.now) (frames_of c.args.values.now c.args.frames.now.items) c.args.at c.args.edges a)
+    subst (λ (a : Answer). IsHeadWithin (net_of c.args.net.now) (frames_of c.args.values.now c.args.asked.now.frames.now.items) c.args.asked.now.at c.args.edges a)
     (sym (answer_kept c.count-count.result c.ask.new.values c.drop_unused.new.values c.in_ok-answer.answer c.drop_unused.ensures)) c.in_ok-answer.ensures.answer
 
 pub returns-clause-held : goal.returns-clause-held
