@@ -19,7 +19,7 @@ use std::marker::Brand;
 use std::sync::ledger::{Blank, Ledger};
 
 // What one walk for all numbers of abstractions says of frame `at`.
-fn ask<L: Ledger>(
+fn ask_by_walk<L: Ledger>(
     alloc: Global,
     net: &Net,
     values: &mut Values,
@@ -100,7 +100,7 @@ fn ask_and_drop<L: Ledger>(
     ensures ticks { steps.new ≤ steps.old + edges }
 {
     let count = values.count();
-    let answer = ask(alloc, net, values, asked, edges, steps)?;
+    let answer = ask_by_walk(alloc, net, values, asked, edges, steps)?;
     drop_unused(values, count, &answer);
     Ok(answer)
 }

@@ -6,7 +6,7 @@ use Rattle.ol_readback.specs.Frames.{Frame, frame_at, frames_of, ParentsFirst}
 use Rattle.ol_readback.specs.Heads.{answer_of, IsMatched}
 use Rattle.ol_readback.proofs.FrameLists.{frame_is, held_this, port_this, frames_more, held_frames_more}
 use Rattle.ol_readback.proofs.Trying.{walk_tried, exit_left, exit_lost, budget_spent, budget_lost, all_lost}
-use Rattle.ol_readback.proofs.asking.ask.Goals as goal
+use Rattle.ol_readback.proofs.asking.ask_by_walk.Goals as goal
 
 pub walk_open-requires-clause-port : goal.walk_open-requires-clause-port
 walk_open-requires-clause-port g c = port_this c.args.net.now.free c.args.asked.now.frames.now.items c.args.asked.now.at c.index-frame.result.now c.requires.ports c.requires.at c.index-frame.ensures
