@@ -11,7 +11,7 @@ pub mod Questions
 pub mod Turning
 pub mod Needed
 pub mod SourceHeads
-pub mod Places
+pub mod Chained
 pub mod SameChains
 pub mod OneTurn
 pub mod OneDemand

@@ -13,6 +13,7 @@ use Rattle.ol_rules.specs.Runs.{names_born}
 use Rattle.ol_readback.specs.declared.answers.ReadNode.{ReadNode}
 use Rattle.ol_rules.proofs.UnderWay.{length-names_born}
 use Rattle.ol_rules.proofs.OneThread.{step_few}
+use Rattle.ol_readback.specs.Askers.{IsKnownHead}
 use Rattle.ol_readback.specs.Frames.{Frame, os, asked, frame_at, frame_of, frames_of, ParentsFirst, AreHeldFrames}
 use Rattle.ol_readback.specs.Heads.{Answer, IsMatched, matched, unmatched, answer_of}
 use Rattle.ol_readback.specs.Matching.{Matches}
@@ -28,7 +29,7 @@ use Rattle.ol_demand.specs.Chains.{Ends}
 use Rattle.ol_demand.specs.Chaining.{MetBy, IsEndOf, question_of}
 use Rattle.ol_demand.specs.Demands.{asks}
 use Rattle.ol_demand.specs.Answers.{StopsOnTheWay}
-use Rattle.ol_demand.specs.Asking.{IsUnderWay, IsRunning, IsKnownHead}
+use Rattle.ol_demand.specs.Asking.{IsUnderWay, IsRunning}
 use Rattle.ol_demand.specs.Rewriting.{entry_for, Advances, AdvancesEither, StopsEither}
 use Rattle.ol_demand.specs.declared.answers.End.{End}
 use Rattle.ol_demand.specs.declared.rewriting.Run.{Run}

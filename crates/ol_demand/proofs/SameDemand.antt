@@ -1,5 +1,5 @@
 -- The same net, however its lists are ordered, has the same demand run.
-use Rattle.std.proofs.Common.{◌≡◌, ℕ, ◌<◌, ◌≤◌, List, length, refl, arith}
+use Rattle.std.proofs.Common.{◌≡◌, ℕ, List, length, refl, arith}
 use Rattle.ol_net.specs.declared.parts.Rule.{Rule}
 use Rattle.ol_net.specs.Nets.{NamedNet, NamedPort, SameNet}
 use Rattle.ol_net.specs.Pairs.{HasActive}

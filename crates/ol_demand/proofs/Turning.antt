@@ -1,5 +1,5 @@
 -- What turns keep, and that each is one.
-use Rattle.std.proofs.Common.{◌≡◌, ℕ, suc, ◌+◌, List, [], ◌∷◌, ◌++◌, length, length-append, append-nil, sym, subst, arith}
+use Rattle.std.proofs.Common.{◌≡◌, ℕ, suc, List, [], ◌∷◌, ◌++◌, length, length-append, append-nil, sym, subst, arith}
 use Rattle.ol_net.specs.Nets.{NamedNet, IsNet}
 use Rattle.ol_context.specs.Paths.{HaveSamePaths}
 use Rattle.ol_context.specs.Short.{IsOnce}

@@ -9,11 +9,9 @@ use Rattle.ol_rules.specs.declared.journal.NodeName.TheVariants.{Init, Born}
 use Rattle.ol_rules.specs.Names.{comes_before}
 use Rattle.ol_rules.specs.Running.{name_in}
 use Rattle.ol_readback.specs.Frames.{Frame}
-use Rattle.ol_readback.specs.Heads.{answer_of, IsHeldHead}
-use Rattle.ol_readback.specs.ReadTrees.{Subterm, framed, port_of}
-use Rattle.ol_readback.specs.Reading.{IsKnown}
+use Rattle.ol_readback.specs.Heads.{answer_of}
+use Rattle.ol_readback.specs.ReadTrees.{Subterm, framed}
 use Rattle.ol_readback.specs.declared.answers.Head.{Head}
-use Rattle.ol_readback.specs.declared.answers.Head.TheVariants as head
 use Rattle.ol_readback.specs.declared.answers.ReadNode.{ReadNode}
 use Rattle.ol_demand.specs.Demands.{Asking, asks, place_of, next, Turns, GoesOn}
 use Rattle.ol_demand.specs.Answers.{start_of, StopsOnTheWay}
@@ -72,18 +70,3 @@ IsSpentIfNone run fuel None = length run.journal ≡ fuel
 -- no memory was found on the way
 abbrev pub IsStopped : Graph → Graph → Run → List Frame → ℕ → Type 0
 IsStopped g g' run F fuel = Whatever g run F (λ old heads places front s ss. StopsOnTheWay old heads fuel g')
-
--- the level values of the answer are of this holder
-abbrev pub IsHeldIfSome : List Level → Option Head → Type 0
-IsHeldIfSome vs (Some h) = IsHeldHead vs h
-IsHeldIfSome vs None = Unit {0}
-
--- the variable of the answer is a binder of one of these frames or a free name, and its port one of so many free ports
-abbrev pub IsKnownHead : ℕ → List Frame → Head → Type 0
-IsKnownHead free F (head.Is lams v args at) = IsKnown (length F) v × (port_of F v < free)
-IsKnownHead free F head.NoHead = Unit {0}
-IsKnownHead free F head.Budget = Unit {0}
-
-abbrev pub IsKnownIfSome : ℕ → List Frame → Option Head → Type 0
-IsKnownIfSome free F (Some h) = IsKnownHead free F h
-IsKnownIfSome free F None = Unit {0}

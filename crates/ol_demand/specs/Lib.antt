@@ -5,6 +5,6 @@ pub mod Laws
 pub mod Answers
 -- What only contracts of private functions and proofs cite.
 pub mod Asking
-pub mod FrameReading
+pub mod Readings
 pub mod Chaining
 pub mod Rewriting

@@ -12,7 +12,6 @@ use ol_context::{Context, Cross, Val, Values, cross};
 use ol_io::NoMemory;
 use ol_net::{Facing, Net, NodeId, Port};
 use ol_readback::Levels;
-use ol_readback::leaving::copied;
 use std::alloc::Global;
 
 // The active pair whose principal ports the link of these two ports joins.
@@ -86,7 +85,7 @@ fn chain(net: &Net, values: &mut Values, from: u32, context: Context) -> Result<
 fn question(alloc: Global, levels: &Levels, mark: Val) -> Result<Context, NoMemory>
     ensures { IfOk result (λ c. c ≡ question_of levels.now mark) }
 {
-    let mut levels = copied(alloc, levels)?;
+    let mut levels = levels.copied(alloc)?;
     let Ok(()) = levels.push(mark) else {
         return Err(NoMemory);
     };

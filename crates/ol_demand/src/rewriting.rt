@@ -3,6 +3,7 @@
 ghost use Rattle.std.specs.Prelude.{◌≡◌, ◌≤◌, ◌<◌, ◌+◌, ◌*◌, ◌-◌, ◌++◌, [], length, IfOk, OnOk, OnErr};
 ghost use Rattle.ol_net.specs.Nets.{IsNet};
 ghost use Rattle.ol_net.specs.Numbered.{net_of};
+ghost use Rattle.ol_net.specs.Pairs.{IsInActive};
 ghost use Rattle.ol_rules.specs.Runs.{names_born};
 ghost use Rattle.ol_rules.specs.Running.{name_in};
 ghost use Rattle.ol_rules.specs.Steps.{StepsAt};
@@ -12,7 +13,7 @@ ghost use Rattle.ol_demand.specs.Rewriting.{Advances, AdvancesEither, AtMostOneS
 
 use ol_io::NoMemory;
 use ol_net::{Net, NodeId, Rule};
-use ol_rules::{Entry, Journal, NodeName, step};
+use ol_rules::{Entry, Journal, NodeName, StepFault, step};
 use std::alloc::Global;
 
 /// A run on its way, from a net that had given out `start` node numbers. Those given out since have
@@ -27,12 +28,15 @@ pub struct Run {
 // Rewrites the active pair of a node, which has one, so that only memory can be lacking.
 fn rewrite(net: &mut Net, at: NodeId) -> Result<Rule, NoMemory>
     requires few { length net.old.nodes ≤ 2000000000 }
+    requires active { (r : Rule) × IsInActive (net_of net.old) at.0 r }
     ensures steps { IfOk result (λ rule. StepsAt net.old net.new at.0 rule) }
     ensures refused { OnErr result (net.new ≡ net.old) }
 {
+    let _facing = net.facing(at);
     match step(net, at) {
         Ok(rule) => Ok(rule),
-        Err(_) => Err(NoMemory),
+        Err(StepFault::NoMemory) => Err(NoMemory),
+        Err(StepFault::NotActive) => unreachable!(),
     }
 }
 

@@ -1,3 +1,4 @@
+pub mod Results
 pub mod Fits
 pub mod FrameLists
 pub mod Climbing
@@ -7,6 +8,8 @@ pub mod Dropped
 pub mod Forests
 pub mod GroupLists
 pub mod Places
+pub mod NextPlaces
+pub mod Walking
 pub mod Onward
 pub mod Layers
 pub mod Printed

@@ -1,23 +1,21 @@
 -- The next place of a tree.
-use Rattle.std.proofs.Common.{◌≡◌, ℕ, zero, suc, ◌<◌, ◌⊎◌, inl, inr, List, [], ◌∷◌, ◌++◌, length, map, get_or, set, Option, Some, None, refl, sym, ap, ◌∙◌, subst, arith}
+use Rattle.std.proofs.Common.{◌≡◌, ℕ, zero, suc, ◌<◌, ◌⊎◌, inl, inr, List, [], ◌∷◌, ◌++◌, length, get_or, set, Some, None, refl, sym, ap, ◌∙◌, subst, arith}
 use Rattle.std.proofs.lemmas.List.{map-append, length_push, get_or_push, get_or_past}
 use Rattle.ol_net.specs.Nets as nets
 use Rattle.ol_net.specs.Nets.{NamedNet, NamedPort, IsNet}
 use Rattle.ol_context.specs.Contexts.{Level, Context}
 use Rattle.ol_context.specs.Paths.{Path, ends, goes}
-use Rattle.ol_context.specs.Shapes.{value, AreHeld, Extends}
+use Rattle.ol_context.specs.Shapes.{AreHeld, Extends}
 use Rattle.ol_readback.specs.Frames.{Frame, root, frame_at, frame_of, frames_of, ParentsFirst, AreHeldFrames, AreAtPorts}
 use Rattle.ol_readback.specs.Matching.{Matches, here, above, name}
-use Rattle.ol_readback.specs.Heads.{Answer, head, no_head, budget, matched, IsHeadWithin, leaves, answer_of}
-use Rattle.ol_readback.specs.ReadTrees.{Subterm, framed, port_of, arguments, ReadsBack, spent, lost, found}
-use Rattle.ol_readback.specs.Groups.{subterm_of, subterms_in, IsNextFrame, IsGroupOf}
-use Rattle.ol_readback.specs.Reading.{IsFrameList, IsKnown, IsRead}
+use Rattle.ol_readback.specs.Heads.{head, matched, IsHeadWithin, leaves, answer_of}
+use Rattle.ol_readback.specs.ReadTrees.{Subterm, framed, port_of}
+use Rattle.ol_readback.specs.Groups.{subterm_of, IsNextFrame}
+use Rattle.ol_readback.specs.Reading.{IsFrameList, IsKnown}
 use Rattle.ol_readback.specs.declared.answers.HeadVar.{HeadVar}
 use Rattle.ol_readback.specs.declared.answers.HeadVar.TheVariants as var
 use Rattle.ol_readback.specs.declared.answers.Head.{Head}
-use Rattle.ol_readback.specs.declared.answers.ReadNode.TheVariants as node
 use Rattle.ol_readback.specs.declared.frames.Frame as code
-use Rattle.ol_readback.specs.declared.groups.Group.{Group}
 use Rattle.ol_readback.proofs.FrameLists.{count_frames, frames_more, held_frames_more}
 use Rattle.ol_readback.proofs.Forests.{frame_stays, frame_last, matches_head}
 
@@ -121,7 +119,7 @@ port_same F s m n (var.Bound i j) = go F i
     go (f ∷ F) zero = refl
     go (f ∷ F) (suc i) = go F i
 
-module _ (N : NamedNet ℕ) (edges : ℕ) (free : ℕ) (vs ws : List Level) (fs : List code.Frame) (f : code.Frame) (h : IsFrameList free vs fs) (k : IsNextFrame free (length fs) vs f) (x : Extends vs ws) where
+module _ (free : ℕ) (vs ws : List Level) (fs : List code.Frame) (f : code.Frame) (h : IsFrameList free vs fs) (k : IsNextFrame free (length fs) vs f) (x : Extends vs ws) where
   -- the frames after it, read from the later holder
   pub frames_after : (n : ℕ) → frames_of ws (fs ++ with_lams f n ∷ []) ≡ frames_of vs fs ++ framed (subterm_of vs f) n ∷ []
   frames_after n = frames_more vs ws (fs ++ with_lams f n ∷ []) x (list_push free vs fs f h k n).held ∙ frames_push vs fs (with_lams f n)
@@ -129,40 +127,5 @@ module _ (N : NamedNet ℕ) (edges : ℕ) (free : ℕ) (vs ws : List Level) (fs 
   pub asked_frames : frames_of vs (fs ++ f ∷ []) ≡ frames_of vs fs ++ framed (subterm_of vs f) 0 ∷ []
   asked_frames = ap (λ f. frames_of vs (fs ++ f ∷ [])) (sym (same_frame free vs fs f h k)) ∙ frames_push vs fs (with_lams f 0)
 
-  at_last : (a : Answer) → IsHeadWithin N (frames_of vs (fs ++ f ∷ [])) (length fs) edges a → IsHeadWithin N (frames_of vs fs ++ framed (subterm_of vs f) 0 ∷ []) (length (frames_of vs fs)) edges a
-  at_last a y =
-      subst (λ (i : ℕ). IsHeadWithin N (frames_of vs fs ++ framed (subterm_of vs f) 0 ∷ []) i edges a) (sym (count_frames vs fs))
-      (subst (λ (F : List Frame). IsHeadWithin N F (length fs) edges a) asked_frames y)
-
   pub after_none : frames_of ws (fs ++ f ∷ []) ≡ frames_of vs fs ++ framed (subterm_of vs f) 0 ∷ []
   after_none = ap (λ f. frames_of ws (fs ++ f ∷ [])) (sym (same_frame free vs fs f h k)) ∙ frames_after 0
-
-  pub read_spent : (gs : List code.Frame) → gs ≡ fs ++ f ∷ [] → IsHeadWithin N (frames_of vs gs) (length fs) edges budget → IsRead N edges vs ws fs f gs node.Cut None
-  read_spent gs e y = record {
-    reads = λ heads ss ns b r.
-        spent b (at_last budget (subst (λ (gs : List code.Frame). IsHeadWithin N (frames_of vs gs) (length fs) edges budget) e y)) (subst (λ (F : List Frame). ReadsBack N heads edges F ss ns) (ap (frames_of ws) e ∙ after_none) r);
-  }
-
-  pub read_lost : (gs : List code.Frame) → gs ≡ fs ++ f ∷ [] → IsHeadWithin N (frames_of vs gs) (length fs) edges no_head → IsRead N edges vs ws fs f gs node.NoHead None
-  read_lost gs e y = record {
-    reads = λ heads ss ns b r.
-        lost b (at_last no_head (subst (λ (gs : List code.Frame). IsHeadWithin N (frames_of vs gs) (length fs) edges no_head) e y)) (subst (λ (F : List Frame). ReadsBack N heads edges F ss ns) (ap (frames_of ws) e ∙ after_none) r);
-  }
-
-  pub read_found : (mid : List Level) (gs hs : List code.Frame) (n q args : ℕ) (v : HeadVar) (at : List ℕ) (group : Option Group) → gs ≡ fs ++ f ∷ [] → hs ≡ fs ++ with_lams f n ∷ [] →
-      IsHeadWithin N (frames_of vs gs) (length fs) edges (head n v args (map (value mid) at)) → ((us : List Level) → q ≡ port_of (frames_of us gs) v) → IsGroupOf mid ws (length fs) q args at group →
-      IsRead N edges vs ws fs f hs (node.Head n v args) group
-  read_found mid gs hs n q args v at group e z y p g = record {
-    reads = λ heads ss ns b r.
-        found b (at_last (head n v args (map (value mid) at)) (subst (λ (gs : List code.Frame). IsHeadWithin N (frames_of vs gs) (length fs) edges (head n v args (map (value mid) at))) e y))
-        (subst (λ (ts : List Subterm). ReadsBack N heads edges (frames_of vs fs ++ framed (subterm_of vs f) n ∷ []) (ts ++ ss) ns) arguments_are
-        (subst (λ (F : List Frame). ReadsBack N heads edges F (subterms_in ws group ++ ss) ns) (ap (frames_of ws) z ∙ frames_after n) r));
-  }
-    where
-      port_now : q ≡ port_of (frames_of vs fs ++ framed (subterm_of vs f) n ∷ []) v
-      port_now = p vs ∙ ap (λ (F : List Frame). port_of F v) (ap (frames_of vs) e ∙ asked_frames) ∙ port_same (frames_of vs fs) (subterm_of vs f) 0 n v
-
-      arguments_are : subterms_in ws group ≡ arguments (length (frames_of vs fs)) (port_of (frames_of vs fs ++ framed (subterm_of vs f) n ∷ []) v) (map (value mid) at) 0 args
-      arguments_are =
-          g.is ∙ ap (λ q. arguments (length fs) q (map (value mid) at) 0 args) port_now
-          ∙ ap (λ i. arguments i (port_of (frames_of vs fs ++ framed (subterm_of vs f) n ∷ []) v) (map (value mid) at) 0 args) (sym (count_frames vs fs))

@@ -1,4 +1,4 @@
--- Arguments that are still to be read, head by head.
+-- Private: arguments that are still to be read, head by head.
 use Rattle.std.specs.Prelude.{◌≡◌, ℕ, ◌-◌, ◌<◌, List, [], ◌∷◌, ◌++◌, map, Option, Some, None, MatchOption}
 use Rattle.ol_context.specs.Contexts.{Level, empty, star}
 use Rattle.ol_context.specs.Shapes.{value, AreHeld, IsNumberOf}

@@ -1,10 +1,8 @@
 -- Reading one place after another.
-use Rattle.std.specs.Prelude.{ℕ, ◌<◌, List, ◌∷◌, ◌++◌, length, map, Option}
-use Rattle.ol_net.specs.Nets.{NamedNet}
+use Rattle.std.specs.Prelude.{ℕ, ◌<◌, List, map}
 use Rattle.ol_context.specs.Contexts.{Level}
 use Rattle.ol_readback.specs.Frames.{frames_of, ParentsFirst, AreHeldFrames, AreAtPorts}
-use Rattle.ol_readback.specs.ReadTrees.{Subterm, ReadsBack}
-use Rattle.ol_readback.specs.Groups.{subterms_in, pending_of, subterm_of}
+use Rattle.ol_readback.specs.Groups.{pending_of}
 use Rattle.ol_readback.specs.declared.answers.HeadVar.{HeadVar}
 use Rattle.ol_readback.specs.declared.answers.HeadVar.TheVariants as var
 use Rattle.ol_readback.specs.declared.answers.ReadNode.{ReadNode}
@@ -23,11 +21,6 @@ pub record IsFrameList (free : ℕ) (vs : List Level) (fs : List Frame) : Type 0
 abbrev pub IsKnown : ℕ → HeadVar → Type 0
 IsKnown count (var.Bound i j) = i < count
 IsKnown count (var.Free q) = Unit {0}
-
--- Frame f was read as the next place, after the frames fs, which became gs. It has this node, and this group of arguments.
-pub record IsRead (N : NamedNet ℕ) (edges : ℕ) (old new : List Level) (fs : List Frame) (f : Frame) (gs : List Frame) (n : ReadNode) (group : Option Group) : Type 0 where
-  pub reads : (heads : ℕ) (ss : List Subterm) (ns : List ReadNode) → length (frames_of old fs) < heads → ReadsBack N heads edges (frames_of new gs) (subterms_in new group ++ ss) ns →
-      ReadsBack N heads edges (frames_of old fs) (subterm_of old f ∷ ss) (n ∷ ns)
 
 -- all arguments that are left are cut
 abbrev pub cuts_of : List Level → List Group → List ReadNode

@@ -9,8 +9,8 @@ ghost use Rattle.ol_readback.specs.Asking.{IsAnswerOfAsking, IsHeadIfFound, IsLo
 ghost use Rattle.ol_readback.specs.Searches.{IsAsked, KeepsFirst};
 
 use crate::answers::Head;
-use crate::frames::Frame;
-use crate::leaving::{copied, leave_by};
+use crate::frames::{Asked, Frame};
+use crate::leaving::leave_by;
 use ol_context::{OpenWalk, Steps, Values, walk_open};
 use ol_io::NoMemory;
 use ol_net::Net;
@@ -19,30 +19,29 @@ use std::marker::Brand;
 use std::sync::ledger::{Blank, Ledger};
 
 // What one walk for all numbers of abstractions says of frame `at`.
-fn ask<L: Ledger>(
+fn ask_by_walk<L: Ledger>(
     alloc: Global,
     net: &Net,
     values: &mut Values,
-    frames: &Vec<Frame>,
-    skips: &Vec<Option<u32>>,
-    at: u32,
+    asked: &Asked<'_>,
     edges: u64,
     steps: &mut Steps<L>,
 ) -> Result<Head, NoMemory>
-    requires at { at < length frames.now.items }
-    requires parents { ParentsFirst (frames_of values.old frames.now.items) }
-    requires frames { AreHeldFrames values.old frames.now.items }
-    requires ports { AreAtPorts net.now.free frames.now.items }
-    requires skips { AreSkipsOf frames.now.items skips.now.items }
-    ensures answer { IfOk result (IsAsked net.now values.old frames.now.items at edges values.new) }
+    requires at { asked.now.at < length asked.now.frames.now.items }
+    requires parents { ParentsFirst (frames_of values.old asked.now.frames.now.items) }
+    requires frames { AreHeldFrames values.old asked.now.frames.now.items }
+    requires ports { AreAtPorts net.now.free asked.now.frames.now.items }
+    requires skips { AreSkipsOf asked.now.frames.now.items asked.now.skips.now.items }
+    ensures answer { IfOk result
+        (IsAsked net.now values.old asked.now.frames.now.items asked.now.at edges values.new) }
     ensures held { IfOk result (IsHeldHead values.new) }
     ensures extends { Extends values.old values.new }
     ensures ticks { steps.new ≤ steps.old + edges }
 {
     net.is_net();
-    let frame = &frames[at as usize];
+    let frame = &asked.frames[asked.at as usize];
     let top = net.nodes();
-    let levels = copied(alloc, &frame.levels)?;
+    let levels = frame.levels.copied(alloc)?;
     let walked = walk_open(net, values, frame.port, levels, edges, steps)?;
     match walked {
         OpenWalk::Exit {
@@ -54,16 +53,7 @@ fn ask<L: Ledger>(
             if lams > top as u64 {
                 return Ok(Head::NoHead);
             }
-            let left = leave_by(
-                alloc,
-                values,
-                frames,
-                skips,
-                at,
-                lams as u32,
-                port,
-                &context,
-            )?;
+            let left = leave_by(alloc, values, asked, lams as u32, port, &context)?;
             Ok(left)
         }
         OpenWalk::Budget { lams } => {
@@ -93,27 +83,77 @@ fn ask_and_drop<L: Ledger>(
     alloc: Global,
     net: &Net,
     values: &mut Values,
-    frames: &Vec<Frame>,
-    skips: &Vec<Option<u32>>,
-    at: u32,
+    asked: &Asked<'_>,
     edges: u64,
     steps: &mut Steps<L>,
 ) -> Result<Head, NoMemory>
-    requires at { at < length frames.now.items }
-    requires parents { ParentsFirst (frames_of values.old frames.now.items) }
-    requires frames { AreHeldFrames values.old frames.now.items }
-    requires ports { AreAtPorts net.now.free frames.now.items }
-    requires skips { AreSkipsOf frames.now.items skips.now.items }
-    ensures answer { IfOk result (IsAsked net.now values.old frames.now.items at edges values.new) }
+    requires at { asked.now.at < length asked.now.frames.now.items }
+    requires parents { ParentsFirst (frames_of values.old asked.now.frames.now.items) }
+    requires frames { AreHeldFrames values.old asked.now.frames.now.items }
+    requires ports { AreAtPorts net.now.free asked.now.frames.now.items }
+    requires skips { AreSkipsOf asked.now.frames.now.items asked.now.skips.now.items }
+    ensures answer { IfOk result
+        (IsAsked net.now values.old asked.now.frames.now.items asked.now.at edges values.new) }
     ensures held { IfOk result (IsHeldHead values.new) }
     ensures unchanged { IfOk result (IsUnchangedUnlessFound values.old values.new) }
     ensures extends { Extends values.old values.new }
     ensures ticks { steps.new ≤ steps.old + edges }
 {
     let count = values.count();
-    let answer = ask(alloc, net, values, frames, skips, at, edges, steps)?;
+    let answer = ask_by_walk(alloc, net, values, asked, edges, steps)?;
     drop_unused(values, count, &answer);
     Ok(answer)
+}
+
+// The same, on a counter of its own: a ledger of at least one part.
+fn head_by<L: Ledger>(
+    alloc: Global,
+    net: &Net,
+    values: &mut Values,
+    asked: &Asked<'_>,
+    edges: u64,
+    blank: Blank,
+) -> Result<Head, NoMemory>
+    requires at { asked.now.at < length asked.now.frames.now.items }
+    requires parents { ParentsFirst (frames_of values.old asked.now.frames.now.items) }
+    requires frames { AreHeldFrames values.old asked.now.frames.now.items }
+    requires ports { AreAtPorts net.now.free asked.now.frames.now.items }
+    requires skips { AreSkipsOf asked.now.frames.now.items asked.now.skips.now.items }
+    requires name { blank.name ≡ L.name }
+    requires parts { blank.parts ≡ L.parts }
+    requires some { 0 < blank.parts }
+    ensures answer { IfOk result
+        (IsAsked net.now values.old asked.now.frames.now.items asked.now.at edges values.new) }
+    ensures held { IfOk result (IsHeldHead values.new) }
+    ensures unchanged { IfOk result (IsUnchangedUnlessFound values.old values.new) }
+    ensures extends { Extends values.old values.new }
+{
+    let mut steps: Steps<L> = Steps::new(blank);
+    ask_and_drop(alloc, net, values, asked, edges, &mut steps)
+}
+
+/// What one walk for all numbers of abstractions, of at most `edges` crossings, says of a frame.
+/// Where no head was found, no value stays that the walk put in. `NoMemory`: no memory was found.
+pub fn walk_frame(
+    alloc: Global,
+    net: &Net,
+    values: &mut Values,
+    asked: &Asked<'_>,
+    edges: u64,
+) -> Result<Head, NoMemory>
+    requires at { asked.now.at < length asked.now.frames.now.items }
+    requires parents { ParentsFirst (frames_of values.old asked.now.frames.now.items) }
+    requires frames { AreHeldFrames values.old asked.now.frames.now.items }
+    requires ports { AreAtPorts net.now.free asked.now.frames.now.items }
+    requires skips { AreSkipsOf asked.now.frames.now.items asked.now.skips.now.items }
+    ensures answer { IfOk result
+        (IsAsked net.now values.old asked.now.frames.now.items asked.now.at edges values.new) }
+    ensures held { IfOk result (IsHeldHead values.new) }
+    ensures unchanged { IfOk result (IsUnchangedUnlessFound values.old values.new) }
+    ensures extends { Extends values.old values.new }
+{
+    let blank = Blank::new(1);
+    head_by::<Brand>(alloc, net, values, asked, edges, blank)
 }
 
 /// The head of frame `at`: asks it for all numbers of abstractions at once, by one walk of at most
@@ -145,17 +185,21 @@ pub fn head_counted<L: Ledger>(
 {
     net.is_net();
     let skips: Vec<Option<u32>> = Vec::new(alloc);
-    let answer = ask_and_drop(alloc, net, values, frames, &skips, at, edges, steps)?;
+    let asked = Asked {
+        frames,
+        skips: &skips,
+        at,
+    };
+    let answer = ask_and_drop(alloc, net, values, &asked, edges, steps)?;
     Ok(answer)
 }
 
-/// As `head`, with skips, and a ledger of at least one part for the crossings.
-pub fn head_by<L: Ledger>(
+// As `head_counted`, on a counter of its own: a ledger of at least one part.
+fn head_on<L: Ledger>(
     alloc: Global,
     net: &Net,
     values: &mut Values,
     frames: &Vec<Frame>,
-    skips: &Vec<Option<u32>>,
     at: u32,
     edges: u64,
     blank: Blank,
@@ -164,17 +208,20 @@ pub fn head_by<L: Ledger>(
     requires parents { ParentsFirst (frames_of values.old frames.now.items) }
     requires frames { AreHeldFrames values.old frames.now.items }
     requires ports { AreAtPorts net.now.free frames.now.items }
-    requires skips { AreSkipsOf frames.now.items skips.now.items }
     requires name { blank.name ≡ L.name }
     requires parts { blank.parts ≡ L.parts }
     requires some { 0 < blank.parts }
-    ensures answer { IfOk result (IsAsked net.now values.old frames.now.items at edges values.new) }
+    ensures answer { IfOk result
+        (IsAnswerOfAsking net.now values.old frames.now.items at edges values.new) }
+    ensures found { IfOk result (IsHeadIfFound net.now values.old frames.now.items at values.new) }
+    ensures lost { IfOk result (IsLostIfNoHead net.now values.old frames.now.items at) }
+    ensures ring { IfOk result (IsRingIfBudget net.now values.old frames.now.items at edges) }
     ensures held { IfOk result (IsHeldHead values.new) }
     ensures unchanged { IfOk result (IsUnchangedUnlessFound values.old values.new) }
     ensures extends { Extends values.old values.new }
 {
     let mut steps: Steps<L> = Steps::new(blank);
-    ask_and_drop(alloc, net, values, frames, skips, at, edges, &mut steps)
+    head_counted(alloc, net, values, frames, at, edges, &mut steps)
 }
 
 /// The head of frame `at`: what the least number of abstractions says for which a walk from it
@@ -212,9 +259,6 @@ pub fn head(
     ensures unchanged { IfOk result (IsUnchangedUnlessFound values.old values.new) }
     ensures extends { Extends values.old values.new }
 {
-    net.is_net();
-    let skips: Vec<Option<u32>> = Vec::new(alloc);
     let blank = Blank::new(1);
-    let answer = head_by::<Brand>(alloc, net, values, frames, &skips, at, edges, blank)?;
-    Ok(answer)
+    head_on::<Brand>(alloc, net, values, frames, at, edges, blank)
 }

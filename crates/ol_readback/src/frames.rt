@@ -12,3 +12,11 @@ pub struct Frame {
     pub parent: Option<u32>,
     pub lams: u32,
 }
+
+/// A frame that is asked, number `at` of a list of frames, and the skips of that list.
+#[derive(Drop)]
+pub struct Asked<'a> {
+    pub frames: &'a Vec<Frame>,
+    pub skips: &'a Vec<Option<u32>>,
+    pub at: u32,
+}

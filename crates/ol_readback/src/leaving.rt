@@ -11,7 +11,7 @@ ghost use Rattle.ol_readback.specs.Heads.{IsMatched, answer_of, IsHeldHead};
 
 use crate::answers::{Head, HeadVar};
 use crate::fitting::{fits, is_name};
-use crate::frames::Frame;
+use crate::frames::{Asked, Frame};
 use crate::levels::Levels;
 use crate::skipping::next_round;
 use ol_context::{Context, Val, Values};
@@ -57,16 +57,6 @@ pub fn push_level(alloc: Global, levels: &Levels, last: Val) -> Result<Levels, N
     Ok(Levels::of(longer))
 }
 
-/// A list of its own with these levels.
-pub fn copied(alloc: Global, levels: &Levels) -> Result<Vec<Val>, NoMemory>
-    ensures { IfOk result (λ r. r.items ≡ levels.now) }
-{
-    let Ok(copy) = Vec::from_slice(alloc, levels.levels.as_slice()) else {
-        return Err(NoMemory);
-    };
-    Ok(copy)
-}
-
 // The free name of a port, or no head.
 fn named(
     alloc: Global,
@@ -101,27 +91,25 @@ fn named(
 pub fn leave_by(
     alloc: Global,
     values: &Values,
-    frames: &Vec<Frame>,
-    skips: &Vec<Option<u32>>,
-    at: u32,
+    asked: &Asked<'_>,
     lams: u32,
     port: u32,
     context: &Context,
 ) -> Result<Head, NoMemory>
-    requires at { at < length frames.now.items }
-    requires parents { ParentsFirst (frames_of values.now frames.now.items) }
-    requires frames { AreHeldFrames values.now frames.now.items }
+    requires at { asked.now.at < length asked.now.frames.now.items }
+    requires parents { ParentsFirst (frames_of values.now asked.now.frames.now.items) }
+    requires frames { AreHeldFrames values.now asked.now.frames.now.items }
     requires context { AreHeld values.now context.now }
-    requires skips { AreSkipsOf frames.now.items skips.now.items }
+    requires skips { AreSkipsOf asked.now.frames.now.items asked.now.skips.now.items }
     ensures answer { IfOk result (λ h.
-        IsMatched (frames_of values.now frames.now.items) at lams port
+        IsMatched (frames_of values.now asked.now.frames.now.items) asked.now.at lams port
         (context_of values.now context.now) (answer_of values.now h)) }
     ensures held { IfOk result (IsHeldHead values.now) }
 {
-    let mut i = at;
+    let mut i = asked.at;
     let mut abstractions = lams;
     loop {
-        let frame = &frames[i as usize];
+        let frame = &asked.frames[i as usize];
         let fit = fits_frame(values, frame, abstractions, port, context)?;
         match fit {
             Some(found) => {
@@ -137,9 +125,9 @@ pub fn leave_by(
                     at: levels,
                 });
             }
-            None => match next_round(frames, skips, i) {
+            None => match next_round(asked.frames, asked.skips, i) {
                 Some(round) => {
-                    abstractions = frames[round as usize].lams;
+                    abstractions = asked.frames[round as usize].lams;
                     i = round;
                 }
                 None => {
@@ -182,6 +170,11 @@ pub fn leave(
     ensures held { IfOk result (λ h. IsHeldHead values.now h) }
 {
     let skips: Vec<Option<u32>> = Vec::new(alloc);
-    let left = leave_by(alloc, values, frames, &skips, at, lams, port, context)?;
+    let asked = Asked {
+        frames,
+        skips: &skips,
+        at,
+    };
+    let left = leave_by(alloc, values, &asked, lams, port, context)?;
     Ok(left)
 }

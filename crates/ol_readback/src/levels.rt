@@ -1,8 +1,10 @@
 //! Lists of level values.
 
-ghost use Rattle.std.specs.Prelude.{◌≡◌, ◌≤◌, ◌↔◌, length, slice_get, IsNone};
+ghost use Rattle.std.specs.Prelude.{◌≡◌, ◌≤◌, ◌↔◌, length, slice_get, IsNone, IfOk};
 
 use ol_context::Val;
+use ol_io::NoMemory;
+use std::alloc::Global;
 use std::marker::Model;
 
 /// Level values of one holder. Contracts see the list of their numbers.
@@ -32,6 +34,16 @@ impl Levels {
         ensures { result ≡ length self.now }
     {
         self.levels.len()
+    }
+
+    /// A list of its own with these levels. `NoMemory`: no memory was found.
+    pub fn copied(&self, alloc: Global) -> Result<Vec<Val>, NoMemory>
+        ensures { IfOk result (λ r. r.items ≡ self.now) }
+    {
+        let Ok(copy) = Vec::from_slice(alloc, self.levels.as_slice()) else {
+            return Err(NoMemory);
+        };
+        Ok(copy)
     }
 
     /// Level `k`. None comes exactly where `k` isn't below `len`.

@@ -5,30 +5,35 @@
 //! port, with these levels and then n times o, for all n at once. The least n for which it leaves
 //! the net is the subterm's number of abstractions. Its exit says which variable is the head, and
 //! how many arguments it has.
+//!
+//! `read` reads one place after another, whoever asks the frames for their heads. `read_back` has
+//! them asked by walks over a net that stays as it is.
 #![tactic(auto)]
 
 mod answers;
+mod askers;
 mod asking;
 mod fitting;
 mod frames;
-pub mod groups;
+mod groups;
 mod laws;
-pub mod leaving;
+mod leaving;
 mod levels;
 mod printing;
-pub mod reading;
+mod reading;
 mod skipping;
 mod tree;
 
 pub use answers::{Head, HeadVar, ReadNode};
+pub use askers::Asks;
 pub use asking::{head, head_counted};
-pub use frames::Frame;
+pub use frames::{Asked, Frame};
 pub use laws::{
     answers_are_one, heads_kept, printed_heads, printed_terms_are_read, trees_are_whole,
     walk_is_short,
 };
-pub use leaving::leave;
+pub use leaving::{leave, leave_by};
 pub use levels::Levels;
 pub use printing::tree_text;
-pub use reading::read_back;
+pub use reading::{read, read_back};
 pub use tree::ReadTree;

@@ -1,22 +1,24 @@
-//! Reading a whole net back.
+//! Reading one place after another, and a whole net back.
 
-ghost use Rattle.std.specs.Prelude.{◌≡◌, ℕ, ◌+◌, ◌-◌, ◌^◌, ◌<◌, ◌≤◌, ◌++◌, [], ◌∷◌, List, length, replicate, option_to_list, Some, IfOk, OnOk, true, false};
+ghost use Rattle.std.specs.Prelude.{◌≡◌, ℕ, ◌+◌, ◌-◌, ◌^◌, ◌<◌, ◌≤◌, ◌++◌, [], ◌∷◌, List, length, replicate, option_to_list, None, Some, IfOk, OnOk, OnErr, IfSome, MatchOption, true, false};
 ghost use Rattle.ol_net.specs.Numbered.{net_of};
 ghost use Rattle.ol_context.specs.Contexts.{Level};
 ghost use Rattle.ol_context.specs.Shapes.{Extends};
 ghost use Rattle.ol_context.specs.Short.{HasNoFacing};
+ghost use Rattle.ol_readback.specs.Askers.{the_start, IsReadTo};
 ghost use Rattle.ol_readback.specs.Frames.{frames_of};
 ghost use Rattle.ol_readback.specs.Skipping.{AreSkipsOf, HaveSkip, AreParentsFirst};
 ghost use Rattle.ol_readback.specs.Texts.{AreNamed};
 ghost use Rattle.ol_readback.specs.ReadTrees.{IsTree, port_of};
-ghost use Rattle.ol_readback.specs.Groups.{AreHeldIn, ArePlacedIn, IsNextFrame};
+ghost use Rattle.ol_readback.specs.Groups.{IsNextFrame};
+ghost use Rattle.ol_readback.specs.NextPlaces.{IsReader, IsReadNext, StopsNext, AreHeldIfSome, ArePlacedIfSome};
 ghost use Rattle.ol_readback.specs.Sources.{HasHeadsOf};
-ghost use Rattle.ol_readback.specs.Reading.{IsFrameList, IsKnown, IsRead, cuts_of};
+ghost use Rattle.ol_readback.specs.Reading.{IsKnown, cuts_of};
 ghost use Rattle.ol_readback.specs.declared.answers.ReadNode.TheVariants.{Cut};
 
 use crate::answers::{Head, HeadVar, ReadNode};
-use crate::asking::head_by;
-use crate::frames::Frame;
+use crate::askers::{Asks, Walks};
+use crate::frames::{Asked, Frame};
 use crate::groups::{Group, group_of, next};
 use crate::levels::Levels;
 use crate::skipping::skip_from;
@@ -25,12 +27,10 @@ use ol_context::Values;
 use ol_io::NoMemory;
 use ol_net::Net;
 use std::alloc::Global;
-use std::marker::Brand;
-use std::sync::ledger::Blank;
 
 /// The port by which the walk of a head with this variable left, which is free or a binder of one
 /// of these frames.
-pub fn exit_port(frames: &Vec<Frame>, var: HeadVar) -> u32
+fn exit_port(frames: &Vec<Frame>, var: HeadVar) -> u32
     requires { IsKnown (length frames.now.items) var }
     ensures { (vs : List Level) → result ≡ port_of (frames_of vs frames.now.items) var }
 {
@@ -42,7 +42,7 @@ pub fn exit_port(frames: &Vec<Frame>, var: HeadVar) -> u32
 
 /// Adds the frame, and to the skips the nearest frame round it that has abstractions. `NoMemory`: no
 /// memory was found.
-pub fn add_frame(
+fn add_frame(
     frames: &mut Vec<Frame>,
     skips: &mut Vec<Option<u32>>,
     frame: Frame,
@@ -65,59 +65,91 @@ pub fn add_frame(
     Ok(())
 }
 
-// Adds the frame to the frames and asks it: what stands at its place, and the arguments of its
-// head.
-fn read_frame(
-    alloc: Global,
-    net: &Net,
-    values: &mut Values,
-    frames: &mut Vec<Frame>,
-    skips: &mut Vec<Option<u32>>,
-    frame: Frame,
-    edges: u64,
-) -> Result<(ReadNode, Option<Group>), NoMemory>
-    requires frames { IsFrameList net.now.free values.old frames.old.items }
-    requires frame { IsNextFrame net.now.free (length frames.old.items) values.old frame }
-    requires few { length frames.old.items + 1 < 2 ^ 32 }
-    requires skips { AreSkipsOf frames.old.items skips.old.items }
-    requires each { length skips.old.items ≡ length frames.old.items }
-    ensures read { IfOk result (λ r.
-        IsRead (net_of net.now) edges values.old values.new frames.old.items frame frames.new.items
-        r.0 r.1) }
-    ensures frames { OnOk result (IsFrameList net.now.free values.new frames.new.items) }
-    ensures held { IfOk result (λ r. AreHeldIn values.new r.1) }
-    ensures placed { IfOk result (λ r. ArePlacedIn net.now.free (length frames.new.items) r.1) }
-    ensures longer { OnOk result (length frames.new.items ≡ length frames.old.items + 1) }
-    ensures skips { OnOk result (AreSkipsOf frames.new.items skips.new.items) }
-    ensures each { OnOk result (length skips.new.items ≡ length frames.new.items) }
-    ensures extends { Extends values.old values.new }
-{
-    net.is_net();
-    let at = frames.len() as u32;
-    add_frame(frames, skips, frame)?;
-    let blank = Blank::new(1);
-    let answer = head_by::<Brand>(alloc, net, values, frames, skips, at, edges, blank)?;
-    match answer {
-        Head::NoHead => Ok((ReadNode::NoHead, None)),
-        Head::Budget => Ok((ReadNode::Cut, None)),
-        Head::Is {
-            lams,
-            var,
-            args,
-            at: levels,
-        } => {
-            let port = exit_port(frames, var);
-            let group = group_of(values, at, port, args, levels)?;
-            let read = &mut frames[at as usize];
-            read.lams = lams;
-            Ok((ReadNode::Head { lams, var, args }, group))
+/// A reading on its way: level values, the frames of the places that were asked, and their skips.
+#[derive(Drop)]
+struct Reader {
+    values: Values,
+    frames: Vec<Frame>,
+    skips: Vec<Option<u32>>,
+}
+
+impl Reader {
+    fn new(alloc: Global) -> Reader
+        ensures frames { result.frames.items ≡ [] }
+        ensures skips { result.skips.items ≡ [] }
+    {
+        Reader {
+            values: Values::new(alloc),
+            frames: Vec::new(alloc),
+            skips: Vec::new(alloc),
+        }
+    }
+
+    // Adds the frame and asks it: what stands at its place, and the arguments of its head. `None`:
+    // the reading ends without a tree.
+    fn read_frame<N, A: Asks<N>>(
+        &mut self,
+        alloc: Global,
+        asker: &mut A,
+        net: &mut N,
+        frame: Frame,
+    ) -> Result<Option<(ReadNode, Option<Group>)>, NoMemory>
+        requires ready { A.ready asker.old net.old }
+        requires reader { IsReader (A.free net.old) self.old.values self.old.frames.items
+            self.old.skips.items }
+        requires frame { IsNextFrame (A.free net.old) (length self.old.frames.items)
+            self.old.values frame }
+        requires few { length self.old.frames.items + 1 < 2 ^ 32 }
+        ensures read { IfOk result
+            (IsReadNext A.reads A.ends asker.old net.old asker.new net.new self.old.values
+            self.new.values self.old.frames.items frame self.new.frames.items) }
+        ensures stopped { OnErr result
+            (StopsNext A.reads A.stops asker.old net.old asker.new net.new self.old.values
+            self.old.frames.items frame) }
+        ensures ready { IfOk result (λ r. A.ready asker.new net.new) }
+        ensures free { IfOk result (λ r. A.free net.new ≡ A.free net.old) }
+        ensures reader { IfOk result (λ r.
+            IsReader (A.free net.old) self.new.values self.new.frames.items self.new.skips.items) }
+        ensures held { IfOk result (AreHeldIfSome self.new.values) }
+        ensures placed { IfOk result
+            (ArePlacedIfSome (A.free net.old) (length self.new.frames.items)) }
+        ensures longer { OnOk result
+            (length self.new.frames.items ≡ length self.old.frames.items + 1) }
+        ensures extends { Extends self.old.values self.new.values }
+    {
+        let at = self.frames.len() as u32;
+        add_frame(&mut self.frames, &mut self.skips, frame)?;
+        let asked = Asked {
+            frames: &self.frames,
+            skips: &self.skips,
+            at,
+        };
+        let answer = asker.ask(alloc, net, &mut self.values, &asked)?;
+        let Some(head) = answer else {
+            return Ok(None);
+        };
+        match head {
+            Head::NoHead => Ok(Some((ReadNode::NoHead, None))),
+            Head::Budget => Ok(Some((ReadNode::Cut, None))),
+            Head::Is {
+                lams,
+                var,
+                args,
+                at: levels,
+            } => {
+                let port = exit_port(&self.frames, var);
+                let group = group_of(&mut self.values, at, port, args, levels)?;
+                let read = &mut self.frames[at as usize];
+                read.lams = lams;
+                Ok(Some((ReadNode::Head { lams, var, args }, group)))
+            }
         }
     }
 }
 
 /// Adds a place. There are fewer than 4294967296. `NoMemory`: no memory was found, or there would be
 /// more.
-pub fn put(nodes: &mut Vec<ReadNode>, node: ReadNode) -> Result<(), NoMemory>
+fn put(nodes: &mut Vec<ReadNode>, node: ReadNode) -> Result<(), NoMemory>
     ensures last { OnOk result (nodes.new.items ≡ nodes.old.items ++ node ∷ []) }
     ensures few { OnOk result (length nodes.new.items < 2 ^ 32) }
 {
@@ -131,7 +163,7 @@ pub fn put(nodes: &mut Vec<ReadNode>, node: ReadNode) -> Result<(), NoMemory>
 }
 
 /// Adds the group, if there is one. `NoMemory`: no memory was found.
-pub fn add(pending: &mut Vec<Group>, group: Option<Group>) -> Result<(), NoMemory>
+fn add(pending: &mut Vec<Group>, group: Option<Group>) -> Result<(), NoMemory>
     ensures { OnOk result (pending.new.items ≡ pending.old.items ++ option_to_list group) }
 {
     match group {
@@ -159,7 +191,7 @@ fn cut(nodes: &mut Vec<ReadNode>, count: u32) -> Result<(), NoMemory>
 
 /// Cuts all arguments that are left. `NoMemory`: no memory was found, or there would be too many
 /// places.
-pub fn cut_all(nodes: &mut Vec<ReadNode>, pending: &mut Vec<Group>) -> Result<(), NoMemory>
+fn cut_all(nodes: &mut Vec<ReadNode>, pending: &mut Vec<Group>) -> Result<(), NoMemory>
     requires { length nodes.old.items < 2 ^ 32 }
     ensures cut { OnOk result
         ((vs : List Level) → nodes.new.items ≡ nodes.old.items ++ cuts_of vs pending.old.items) }
@@ -169,6 +201,63 @@ pub fn cut_all(nodes: &mut Vec<ReadNode>, pending: &mut Vec<Group>) -> Result<()
         cut(nodes, group.args.saturating_sub(group.done))?;
     }
     Ok(())
+}
+
+// The frame of the whole term, which is read from free port 0.
+fn first_frame(alloc: Global) -> Frame
+    ensures { result ≡ record { port = 0; levels = []; parent = None; lams = 0 } }
+{
+    Frame {
+        port: 0,
+        levels: Levels::of(Vec::new(alloc)),
+        parent: None,
+        lams: 0,
+    }
+}
+
+/// The places of the term that is read from free port 0, in preorder, by one who asks each of the
+/// first `heads` places for its head. Every later place is `Cut`, and so is each whose answer is
+/// `Head::Budget`.
+///
+/// `None`: the reading ends without a tree. `NoMemory`: no memory was found. `heads` is at least 1,
+/// there is a free port, and a reading may begin.
+pub fn read<N, A: Asks<N>>(
+    alloc: Global,
+    asker: &mut A,
+    net: &mut N,
+    heads: u32,
+) -> Result<Option<Vec<ReadNode>>, NoMemory>
+    requires heads { 1 ≤ heads }
+    requires root { 0 < A.free net.old }
+    requires ready { A.ready asker.old net.old }
+    requires begins { A.reads asker.old net.old asker.old net.old heads the_start }
+    ensures read { IfOk result (λ r.
+        MatchOption r (A.ends asker.old net.old asker.new net.new heads)
+        (λ ns. IsReadTo A.reads asker.old net.old asker.new net.new heads ns.items)) }
+    ensures few { IfOk result (λ r. IfSome r (λ ns. length ns.items < 2 ^ 32)) }
+    ensures free { IfOk result (λ r. A.free net.new ≡ A.free net.old) }
+    ensures stopped { OnErr result (A.stops asker.old net.old asker.new net.new heads) }
+{
+    let mut reader = Reader::new(alloc);
+    let mut nodes: Vec<ReadNode> = Vec::new(alloc);
+    let mut pending: Vec<Group> = Vec::new(alloc);
+    let mut frame = first_frame(alloc);
+    let most = heads as usize;
+    loop {
+        let Some((node, group)) = reader.read_frame(alloc, asker, net, frame)? else {
+            return Ok(None);
+        };
+        put(&mut nodes, node)?;
+        add(&mut pending, group)?;
+        if reader.frames.len() >= most {
+            cut_all(&mut nodes, &mut pending)?;
+            return Ok(Some(nodes));
+        }
+        let Some(argument) = next(alloc, &mut reader.values, &mut pending)? else {
+            return Ok(Some(nodes));
+        };
+        frame = argument;
+    }
 }
 
 /// The term that the net stands for, read from free port 0.
@@ -190,38 +279,10 @@ pub fn read_back(alloc: Global, net: &Net, heads: u32, edges: u64) -> Result<Rea
         HasNoFacing (net_of net.now) → HasHeadsOf (net_of net.now) true t) }
 {
     net.is_net();
-    let mut values = Values::new(alloc);
-    let mut frames: Vec<Frame> = Vec::new(alloc);
-    let mut skips: Vec<Option<u32>> = Vec::new(alloc);
-    let mut nodes: Vec<ReadNode> = Vec::new(alloc);
-    let mut pending: Vec<Group> = Vec::new(alloc);
-    let mut frame = Frame {
-        port: 0,
-        levels: Levels::of(Vec::new(alloc)),
-        parent: None,
-        lams: 0,
+    let mut walks = Walks { edges };
+    let mut seen = net;
+    let Some(nodes) = read(alloc, &mut walks, &mut seen, heads)? else {
+        unreachable!()
     };
-    let most = heads as usize;
-    loop {
-        let read = read_frame(
-            alloc,
-            net,
-            &mut values,
-            &mut frames,
-            &mut skips,
-            frame,
-            edges,
-        )?;
-        put(&mut nodes, read.0)?;
-        add(&mut pending, read.1)?;
-        if frames.len() >= most {
-            cut_all(&mut nodes, &mut pending)?;
-            return Ok(ReadTree::of(nodes));
-        }
-        let following = next(alloc, &mut values, &mut pending)?;
-        match following {
-            None => return Ok(ReadTree::of(nodes)),
-            Some(argument) => frame = argument,
-        }
-    }
+    Ok(ReadTree::of(nodes))
 }

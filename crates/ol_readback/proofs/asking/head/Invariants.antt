@@ -1,4 +1,4 @@
 use Rattle.ol_readback.proofs.asking.head.Given as goal
 
-abbrev pub ghosts-head_by : goal.ghosts-head_by
-ghosts-head_by a = record { name = a.blank.name; parts = a.blank.parts }
+abbrev pub ghosts-head_on : goal.ghosts-head_on
+ghosts-head_on a = record { name = a.blank.name; parts = a.blank.parts }

@@ -1,4 +1,4 @@
-use Rattle.ol_readback.proofs.reading.read_frame.Given as goal
+use Rattle.ol_readback.proofs.asking.walk_frame.Given as goal
 
 abbrev pub ghosts-head_by : goal.ghosts-head_by
 ghosts-head_by a = record { name = a.blank.name; parts = a.blank.parts }
