@@ -14,8 +14,8 @@ use Rattle.ol_wire.specs.Layout.{block, place_of, table_size, start_cell, born_c
 use Rattle.ol_wire.specs.Stands.{IsEnd}
 use Rattle.ol_wire.specs.Closed.{ClosedTable, events_in, IsAfter, cells_filled}
 use Rattle.ol_wire.specs.Standing.{is_reached_in, WordsStandFor}
-use Rattle.ol_wire.proofs.Places.{part_cell, place_before}
-use Rattle.ol_wire.proofs.Claimed.{wider}
+use Rattle.ol_wire.proofs.InWords.Places.{part_cell, place_before}
+use Rattle.ol_wire.proofs.InWords.Claimed.{wider}
 use Rattle.ol_reduce.specs.Left.{ranks_in, IsLeft, AreLeft}
 use Rattle.ol_reduce.specs.Found.{port_of, IsKnown, IsPartial, IsPartly, AreCelledTo, AreListedTo, IsNodeIn, IsSiteIn, KeepsKnown}
 use Rattle.ol_reduce.proofs.Sites.{one_site}

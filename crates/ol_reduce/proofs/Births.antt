@@ -13,8 +13,8 @@ use Rattle.ol_net.specs.declared.parts.Rule.{Rule}
 use Rattle.ol_wire.specs.Events.{rule_between, acting, entry_of}
 use Rattle.ol_wire.specs.Blocks.{copies_of_f, copies_of_g}
 use Rattle.ol_wire.specs.Closed.{ClosedTable, events_in, events_drawn, event_at, pair_at, pairs_drawn, journal_in, journal_drawn}
-use Rattle.ol_wire.proofs.ClosingTable.{entry_at}
-use Rattle.ol_wire.proofs.ClosingLists.{one_each}
+use Rattle.ol_wire.proofs.Closing.Table.{entry_at}
+use Rattle.ol_wire.proofs.Closing.Lists.{one_each}
 
 pub length_each : {X : Type 0} (f : ℕ → X) (n : ℕ) → length (each n (λ t. f t ∷ [])) ≡ n
 length_each f zero = refl

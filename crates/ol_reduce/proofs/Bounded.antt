@@ -12,9 +12,9 @@ use Rattle.ol_wire.specs.Edges.{edge_in, edges_in}
 use Rattle.ol_wire.specs.Stands.{IsEnd, of_port, principal, auxiliary, IsWireEnd}
 use Rattle.ol_wire.specs.Closed.{ClosedTable, events_in}
 use Rattle.ol_wire.specs.Standing.{WordsStandFor, IsWirePart}
-use Rattle.ol_wire.proofs.References.{node_sort, slot_sort}
-use Rattle.ol_wire.proofs.Places.{part_port}
-use Rattle.ol_wire.proofs.Claimed.{EdgeAt, at_wire, at_field, at_cell, edge_at}
+use Rattle.ol_wire.proofs.InWords.References.{node_sort, slot_sort}
+use Rattle.ol_wire.proofs.InWords.Places.{part_port}
+use Rattle.ol_wire.proofs.InWords.Claimed.{EdgeAt, at_wire, at_field, at_cell, edge_at}
 use Rattle.ol_reduce.specs.Following.{OwnsWord, LeadsTo, last, more, IsStart, value_after, IsPassed}
 use Rattle.ol_reduce.proofs.Forward.{seconds, ends_split, first_counts, second_counts, seconds_append, own_edge, goes_on, es, row}
 

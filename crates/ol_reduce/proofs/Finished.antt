@@ -14,12 +14,12 @@ use Rattle.ol_rules.specs.declared.journal.NodeName.{NodeName}
 use Rattle.ol_wire.specs.declared.layout.Parts.{Parts}
 use Rattle.ol_wire.specs.References.{node_ref, wire_ref, slot_ref, IsNodeRef, IsRef}
 use Rattle.ol_wire.specs.Layout.{port_word, left_word, cells_of, place_of}
-use Rattle.ol_wire.proofs.ClosingCells.{cell_word}
-use Rattle.ol_wire.proofs.Claimed.{ends_found}
+use Rattle.ol_wire.proofs.Closing.Cells.{cell_word}
+use Rattle.ol_wire.proofs.InWords.Claimed.{ends_found}
 use Rattle.ol_wire.specs.Stands.{IsEnd}
 use Rattle.ol_wire.specs.Closed.{ClosedTable}
 use Rattle.ol_wire.specs.Standing.{WordsStandFor}
-use Rattle.ol_wire.proofs.References.{node_sort, wire_sort, slot_sort}
+use Rattle.ol_wire.proofs.InWords.References.{node_sort, wire_sort, slot_sort}
 use Rattle.ol_reduce.specs.Left.{ranks_in, AreLeft}
 use Rattle.ol_reduce.specs.Following.{OwnsWord, LeadsTo}
 use Rattle.ol_reduce.specs.Drafts.{frozen_top, IsFullDraft}

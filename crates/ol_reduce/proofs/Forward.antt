@@ -12,8 +12,8 @@ use Rattle.ol_wire.specs.Stands.{IsEnd, IsWireEnd}
 use Rattle.ol_wire.specs.Closed.{ClosedTable}
 use Rattle.ol_wire.specs.Standing.{WordsStandFor}
 use Rattle.ol_reduce.specs.Following.{OwnsWord, LeadsTo, last, more}
-use Rattle.ol_wire.proofs.EdgeList.{word_edge, edge_there, edge_found}
-use Rattle.ol_wire.proofs.Claimed.{EdgeAt, at_wire, at_field, at_cell, edge_at, same_bit}
+use Rattle.ol_wire.proofs.InWords.EdgeList.{word_edge, edge_there, edge_found}
+use Rattle.ol_wire.proofs.InWords.Claimed.{EdgeAt, at_wire, at_field, at_cell, edge_at, same_bit}
 
 -- how often an end stands first in an edge, and how often second
 abbrev pub firsts : ℕ → List (ℕ × ℕ) → ℕ

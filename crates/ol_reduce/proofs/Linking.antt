@@ -15,8 +15,8 @@ use Rattle.ol_wire.specs.Layout.{place_of, port_word}
 use Rattle.ol_wire.specs.Stands.{IsEnd, of_port, principal, auxiliary, IsWireEnd}
 use Rattle.ol_wire.specs.Closed.{ClosedTable, events_in}
 use Rattle.ol_wire.specs.Standing.{WordsStandFor}
-use Rattle.ol_wire.proofs.References.{kind_of_ref, index_of_ref, place_of_ref, node_same, node_sort, wire_sort, slot_sort}
-use Rattle.ol_wire.proofs.Places.{place_same}
+use Rattle.ol_wire.proofs.InWords.References.{kind_of_ref, index_of_ref, place_of_ref, node_same, node_sort, wire_sort, slot_sort}
+use Rattle.ol_wire.proofs.InWords.Places.{place_same}
 use Rattle.ol_reduce.specs.Left.{ranks_in, AreLeft}
 use Rattle.ol_reduce.specs.Following.{LeadsTo}
 use Rattle.ol_reduce.specs.Found.{name_of, port_of, kind_of, IsKnown, IsPartial}

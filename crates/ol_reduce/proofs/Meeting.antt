@@ -14,10 +14,10 @@ use Rattle.ol_wire.specs.Edges.{edge_in}
 use Rattle.ol_wire.specs.Stands.{IsEnd}
 use Rattle.ol_wire.specs.Closed.{ClosedTable}
 use Rattle.ol_wire.specs.Standing.{WordsStandFor}
-use Rattle.ol_wire.proofs.References.{node_sort}
-use Rattle.ol_wire.proofs.Claimed.{ends_first, ends_second, ends_twice}
-use Rattle.ol_wire.proofs.Places.{is_left}
-use Rattle.ol_wire.proofs.EdgeList.{edge_there}
+use Rattle.ol_wire.proofs.InWords.References.{node_sort}
+use Rattle.ol_wire.proofs.InWords.Claimed.{ends_first, ends_second, ends_twice}
+use Rattle.ol_wire.proofs.InWords.Places.{is_left}
+use Rattle.ol_wire.proofs.InWords.EdgeList.{edge_there}
 use Rattle.ol_reduce.specs.Left.{ranks_in, AreLeft}
 use Rattle.ol_reduce.specs.Following.{OwnsWord, LeadsTo}
 use Rattle.ol_reduce.specs.Found.{name_of, port_of, IsKnown, IsPartial, WaitsAt, AreMet, IsWordOf, wire_word}

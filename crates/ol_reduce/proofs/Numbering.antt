@@ -13,7 +13,7 @@ use Rattle.ol_wire.specs.Closed.{ClosedTable, events_in, event_at, journal_in}
 use Rattle.ol_wire.specs.Events.{entry_of}
 use Rattle.ol_wire.specs.Standing.{IsUntouched, IsMadeNode}
 use Rattle.ol_reduce.proofs.Births.{length_each}
-use Rattle.ol_wire.proofs.Claimed.{wider}
+use Rattle.ol_wire.proofs.InWords.Claimed.{wider}
 use Rattle.ol_reduce.specs.Left.{rank_of, name_of_rank, ranks_in, IsLeft, IsNamedBefore, AreMarked, AreLeft}
 
 pub name_of_start : (z : Parts) (r : ℕ) → r < z.nodes → name_of_rank z r ≡ Init r

@@ -8,8 +8,8 @@ use Rattle.ol_pool.proofs.Balances.{weigh_append}
 use Rattle.ol_net.specs.declared.parts.Rule.{Rule}
 use Rattle.ol_wire.specs.declared.layout.Parts.{Parts}
 use Rattle.ol_wire.specs.declared.view.View.{View}
-use Rattle.ol_wire.specs.declared.turning.Turn.{Turn}
-use Rattle.ol_wire.specs.declared.turning.Turn.TheVariants.{Rewrote, Gone, Stuck, Spent}
+use Rattle.ol_wire.specs.declared.turn.Turn.{Turn}
+use Rattle.ol_wire.specs.declared.turn.Turn.TheVariants.{Rewrote, Gone, Stuck, Spent}
 use Rattle.ol_wire.specs.Stand.{SeatState}
 use Rattle.ol_wire.specs.Turns.{Leaves, masked}
 use Rattle.ol_reduce.specs.Working.{ClaimsGiven, HasPut, PutsPublished}

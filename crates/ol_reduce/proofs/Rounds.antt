@@ -11,7 +11,7 @@ use Rattle.ol_reduce.specs.Found.{AreMetTo, AreCelledTo, IsWordOf, IsWordAt, Kee
 use Rattle.ol_reduce.proofs.Arriving.{Told, small_of}
 use Rattle.ol_reduce.proofs.WordOf.{word_of_port, word_of_slot, field_within}
 use Rattle.ol_reduce.proofs.Meeting.{wider_met, none_met, owner_no_slot}
-use Rattle.ol_wire.proofs.OpeningLists.{empty_at}
+use Rattle.ol_wire.proofs.Opening.Lists.{empty_at}
 
 module _ (w : ClosedTable) (places numbers : List ℕ) (left_are : AreLeft w (ranks_in w) places numbers) (told : Told w) where
   abbrev z : Parts

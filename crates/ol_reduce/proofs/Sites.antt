@@ -18,8 +18,8 @@ use Rattle.ol_wire.specs.Events.{name_at}
 use Rattle.ol_wire.specs.Stands.{IsEnd, of_port, principal, auxiliary}
 use Rattle.ol_wire.specs.Closed.{ClosedTable, events_in}
 use Rattle.ol_wire.specs.Standing.{WordsStandFor}
-use Rattle.ol_wire.proofs.Places.{name_of_place, place_order}
-use Rattle.ol_wire.proofs.Claimed.{wider}
+use Rattle.ol_wire.proofs.InWords.Places.{name_of_place, place_order}
+use Rattle.ol_wire.proofs.InWords.Claimed.{wider}
 use Rattle.ol_reduce.specs.Left.{ranks_in, rank_of, name_of_rank, IsLeft, AreLeft}
 use Rattle.ol_reduce.specs.Found.{name_of, port_of}
 use Rattle.ol_reduce.proofs.Numbering.{name_placed, name_back, rank_low}

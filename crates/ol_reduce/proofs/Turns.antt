@@ -5,8 +5,8 @@ use Rattle.std.proofs.lemmas.List.{append_assoc, append-nil}
 use Rattle.ol_net.specs.declared.parts.Rule.{Rule}
 use Rattle.ol_wire.specs.declared.layout.Parts.{Parts}
 use Rattle.ol_wire.specs.declared.view.View.{View}
-use Rattle.ol_wire.specs.declared.turning.Turn.{Turn}
-use Rattle.ol_wire.specs.declared.turning.Turn.TheVariants.{Rewrote, Gone, Stuck, Spent}
+use Rattle.ol_wire.specs.declared.turn.Turn.{Turn}
+use Rattle.ol_wire.specs.declared.turn.Turn.TheVariants.{Rewrote, Gone, Stuck, Spent}
 use Rattle.ol_wire.specs.Hands.{IsStuckLast}
 use Rattle.ol_wire.specs.Layout.{cells_of}
 use Rattle.ol_wire.specs.Plays.{swept_on}

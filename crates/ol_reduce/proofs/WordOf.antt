@@ -12,10 +12,10 @@ use Rattle.ol_wire.specs.Edges.{edge_to, edge_in, is_live}
 use Rattle.ol_wire.specs.Stands.{IsEnd, of_port, IsWireEnd}
 use Rattle.ol_wire.specs.Closed.{ClosedTable, events_in}
 use Rattle.ol_wire.specs.Standing.{WordsStandFor, IsWirePart}
-use Rattle.ol_wire.proofs.References.{node_sort, slot_sort}
-use Rattle.ol_wire.proofs.Places.{part_port, part_field, place_before, place_same}
-use Rattle.ol_wire.proofs.Claimed.{wider}
-use Rattle.ol_wire.proofs.EdgeList.{live_there}
+use Rattle.ol_wire.proofs.InWords.References.{node_sort, slot_sort}
+use Rattle.ol_wire.proofs.InWords.Places.{part_port, part_field, place_before, place_same}
+use Rattle.ol_wire.proofs.InWords.Claimed.{wider}
+use Rattle.ol_wire.proofs.InWords.EdgeList.{live_there}
 use Rattle.ol_reduce.specs.Left.{ranks_in, AreLeft}
 use Rattle.ol_reduce.specs.Following.{OwnsWord}
 use Rattle.ol_reduce.specs.Found.{name_of, port_of, IsWordOf}

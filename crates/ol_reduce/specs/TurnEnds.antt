@@ -1,7 +1,7 @@
 -- Private: a turn that found the fuel used up, and any other.
 use Rattle.std.specs.Prelude.{◌≢◌, ℕ}
-use Rattle.ol_wire.specs.declared.turning.Turn.{Turn}
-use Rattle.ol_wire.specs.declared.turning.Turn.TheVariants.{Spent}
+use Rattle.ol_wire.specs.declared.turn.Turn.{Turn}
+use Rattle.ol_wire.specs.declared.turn.Turn.TheVariants.{Spent}
 use Rattle.ol_wire.specs.declared.view.View.{View}
 use Rattle.ol_wire.specs.Stand.{TableState}
 use Rattle.ol_reduce.specs.Turned.{IsTurn}

@@ -2,8 +2,8 @@
 use Rattle.std.specs.Prelude.{◌≡◌, ◌≢◌, ◌<◌, ℕ, List, [], ◌∷◌, ◌++◌}
 use Rattle.ol_rules.specs.Listed.{each}
 use Rattle.ol_wire.specs.declared.layout.Parts.{Parts}
-use Rattle.ol_wire.specs.declared.turning.Turn.{Turn}
-use Rattle.ol_wire.specs.declared.turning.Turn.TheVariants.{Spent}
+use Rattle.ol_wire.specs.declared.turn.Turn.{Turn}
+use Rattle.ol_wire.specs.declared.turn.Turn.TheVariants.{Spent}
 use Rattle.ol_wire.specs.declared.view.View.{View}
 use Rattle.ol_wire.specs.Layout.{cells_of}
 use Rattle.ol_wire.specs.Turns.{HasCause, Leaves}

@@ -1,8 +1,8 @@
 -- What the work of a seat leaves: turns, and looks at the live word.
 use Rattle.std.specs.Prelude.{◌≡◌, ◌≢◌, ℕ, true, false}
 use Rattle.ol_wire.specs.declared.layout.Parts.{Parts}
-use Rattle.ol_wire.specs.declared.turning.Turn.{Turn}
-use Rattle.ol_wire.specs.declared.turning.Turn.TheVariants.{Spent}
+use Rattle.ol_wire.specs.declared.turn.Turn.{Turn}
+use Rattle.ol_wire.specs.declared.turn.Turn.TheVariants.{Spent}
 use Rattle.ol_wire.specs.declared.view.View.{View}
 use Rattle.ol_wire.specs.Turns.{HasListened}
 use Rattle.ol_wire.specs.Stand.{TableState, SeatState}

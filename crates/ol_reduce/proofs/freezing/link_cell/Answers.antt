@@ -2,7 +2,7 @@ use Rattle.std.proofs.Common.{◌≡◌, ◌<◌, slice_index, ap, ◌∙◌, ar
 use Rattle.ol_wire.specs.declared.layout.Parts.{Parts}
 use Rattle.ol_wire.specs.Layout.{left_word, cells_of}
 use Rattle.ol_reduce.proofs.Arriving.{cell_left, cell_right, cell_empty, cell_partly, cell_listed}
-use Rattle.ol_wire.proofs.Places.{part_cell}
+use Rattle.ol_wire.proofs.InWords.Places.{part_cell}
 use Rattle.ol_reduce.proofs.Rounds.{place_read}
 use Rattle.ol_reduce.proofs.freezing.link_cell.Goals as goal
 

@@ -1,6 +1,6 @@
 use Rattle.std.proofs.Common.{◌≡◌, ◌≢◌, refl, sym, ◌∙◌}
-use Rattle.ol_wire.specs.declared.turning.Turn.{Turn}
-use Rattle.ol_wire.specs.declared.turning.Turn.TheVariants.{Spent}
+use Rattle.ol_wire.specs.declared.turn.Turn.{Turn}
+use Rattle.ol_wire.specs.declared.turn.Turn.TheVariants.{Spent}
 use Rattle.ol_reduce.specs.Turned.{IsTurn}
 use Rattle.ol_reduce.proofs.Turns.{at_next}
 use Rattle.ol_reduce.proofs.sweeping.sweep.Goals as goal

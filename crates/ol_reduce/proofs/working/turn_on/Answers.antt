@@ -1,7 +1,7 @@
 use Rattle.std.proofs.Common.{◌≡◌, ℕ, List, [], refl, sym, ◌∙◌, subst}
 use Rattle.ol_wire.specs.declared.layout.Parts.{Parts}
-use Rattle.ol_wire.specs.declared.turning.Turn.{Turn}
-use Rattle.ol_wire.specs.declared.turning.Turn.TheVariants.{Rewrote, Spent}
+use Rattle.ol_wire.specs.declared.turn.Turn.{Turn}
+use Rattle.ol_wire.specs.declared.turn.Turn.TheVariants.{Rewrote, Spent}
 use Rattle.ol_wire.specs.declared.view.View.{View}
 use Rattle.ol_pool.specs.Pools.{HandState}
 use Rattle.ol_reduce.specs.Offered.{HasOffered}
