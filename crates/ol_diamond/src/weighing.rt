@@ -17,7 +17,7 @@ ghost use Rattle.ol_diamond.specs.PortWeights.{weight_at, raised_if, joined_weig
 
 use ol_io::NoMemory;
 use ol_net::{Facing, Net, NodeId, Port, Rule, rule_of};
-use ol_rules::{Entry, Journal, NodeName, step};
+use ol_rules::{Entry, Journal, NodeName, is_meeting, step};
 use std::alloc::Global;
 use std::marker::Model;
 
@@ -112,19 +112,6 @@ fn slot(node: NodeId, slot: u8) -> Port
     ensures { result ≡ Port.Of node slot }
 {
     Port::Of { node, slot }
-}
-
-// By these rules both nodes go, and their slots of one number are joined.
-fn is_meeting(rule: Rule) -> bool
-    ensures { result ≡ is_meeting rule }
-{
-    match rule {
-        Rule::Beta => true,
-        Rule::Fan => true,
-        Rule::Croissant => true,
-        Rule::Bracket => true,
-        _ => false,
-    }
 }
 
 fn same_rule(a: Rule, b: Rule) -> bool

@@ -11,8 +11,8 @@ ghost use Rattle.ol_reduce.specs.Left.{rank_of, AreMarked, births_at, IsSmallTab
 ghost use Rattle.ol_reduce.specs.Linked.{AreAllLeft, AreLeftTo, AddsPlace, AddsNumber};
 
 use ol_io::NoMemory;
-use ol_net::{Kind, Rule};
-use ol_rules::{Journal, NodeName};
+use ol_net::Kind;
+use ol_rules::{Journal, NodeName, is_meeting};
 use ol_wire::{Parts, Words, kind_in};
 use std::alloc::Global;
 
@@ -43,18 +43,6 @@ fn rank_of(parts: Parts, events: u32, name: NodeName) -> Option<u32>
             }
             None
         }
-    }
-}
-
-fn is_meeting(rule: Rule) -> bool
-    ensures { result ≡ is_meeting rule }
-{
-    match rule {
-        Rule::Beta => true,
-        Rule::Fan => true,
-        Rule::Croissant => true,
-        Rule::Bracket => true,
-        _ => false,
     }
 }
 

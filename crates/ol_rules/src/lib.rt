@@ -4,11 +4,13 @@
 mod counting;
 mod journal;
 mod laws;
+mod meetings;
 mod one_thread;
 mod steps;
 
 pub use counting::counts;
 pub use journal::{Counts, Entry, Journal, NodeName};
 pub use laws::{a_step_is_a_contraction, a_step_is_a_net, a_step_is_one, one_thread_is_one};
+pub use meetings::is_meeting;
 pub use one_thread::{Ended, Ran, run};
 pub use steps::{StepFault, step};

@@ -8,7 +8,8 @@ ghost use Rattle.ol_wire.specs.Sizes.{IsSmall};
 ghost use Rattle.ol_wire.specs.TurnParts.{AreEndsOf};
 
 use crate::layout::Parts;
-use crate::rewrite::{Rewrite, is_meeting};
+use crate::rewrite::Rewrite;
+use ol_rules::is_meeting;
 
 /// A rewrite whose ticket is drawn and whose block is written, and what the fields of its two nodes
 /// held. Its links are to be made.

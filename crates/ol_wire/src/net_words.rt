@@ -92,9 +92,7 @@ fn field_of(net: &Net, parts: Parts, words: &[u64], node: u32, slot: u8, wires: 
 fn put(words: &mut Vec<u64>, word: u64) -> Result<(), NoMemory>
     ensures { OnOk result (words.new.items ≡ words.old.items ++ word ∷ []) }
 {
-    let Ok(()) = words.push(word) else {
-        return Err(NoMemory);
-    };
+    words.push(word)?;
     Ok(())
 }
 
@@ -102,9 +100,7 @@ fn put(words: &mut Vec<u64>, word: u64) -> Result<(), NoMemory>
 fn put_empty(words: &mut Vec<u64>, count: u32) -> Result<(), NoMemory>
     ensures { OnOk result (words.new.items ≡ words.old.items ++ replicate count 0) }
 {
-    let Ok(()) = words.resize(words.len() + count as usize, 0) else {
-        return Err(NoMemory);
-    };
+    words.resize(words.len() + count as usize, 0)?;
     Ok(())
 }
 

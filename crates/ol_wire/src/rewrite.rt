@@ -11,6 +11,7 @@ ghost use Rattle.ol_wire.specs.Rewrites.{event_for, IsRewriteFor};
 
 use crate::reference::{index_in, kind_in, place_in};
 use ol_net::{Kind, Rule, rule_of};
+use ol_rules::is_meeting;
 
 /// The rewrite of two nodes, by their references. The one that acts comes first.
 #[derive(Clone, Copy)]
@@ -25,19 +26,6 @@ fn arity(kind: Kind) -> u32
     ensures { result ≡ arity kind }
 {
     kind.slots() as u32 - 1
-}
-
-/// Whether the rule joins the slots of the two nodes side by side.
-pub(crate) fn is_meeting(rule: Rule) -> bool
-    ensures { result ≡ is_meeting rule }
-{
-    match rule {
-        Rule::Beta => true,
-        Rule::Fan => true,
-        Rule::Croissant => true,
-        Rule::Bracket => true,
-        _ => false,
-    }
 }
 
 /// The rule of two nodes, the first of which acts.

@@ -81,9 +81,7 @@ impl Shared {
             seats,
             start: Snapshot::of(net),
         };
-        let Ok((table, token)) = Table::of_words(alloc, words.as_slice(), &plan) else {
-            return Err(NoMemory);
-        };
+        let (table, token) = Table::of_words(alloc, words.as_slice(), &plan)?;
         let shared = Shared {
             table,
             parts,

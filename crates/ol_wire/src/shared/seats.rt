@@ -24,18 +24,12 @@ impl Shared {
         requires seat { IsFreshFor self.now seat count }
         ensures { IfOk result (λ v. (vec_len v ≡ count) × All (IsNewSeat self.now) v.items) }
     {
-        let Ok(mut seats) = Vec::with_capacity(alloc, count as usize) else {
-            return Err(NoMemory);
-        };
+        let mut seats = Vec::with_capacity(alloc, count as usize)?;
         for _ in 1..count {
             let one = self.cut(&mut seat);
-            let Ok(()) = seats.push(one) else {
-                return Err(NoMemory);
-            };
+            seats.push(one)?;
         }
-        let Ok(()) = seats.push(seat) else {
-            return Err(NoMemory);
-        };
+        seats.push(seat)?;
         Ok(seats)
     }
 

@@ -23,7 +23,7 @@ cut-one-requires-clause-unswept c = ap (λ v. v.swept) c.loop.invariant.1
 
 pub loop-init : goal.loop-init
 loop-init c = let e : c.args.count + 1 - 1 ≡ c.args.count = omega arith in
-    (c.requires.seat.0, c.requires.seat.1 ∙ ap (fresh c.args.self.now.plan.parts c.args.self.now.plan.start.value c.args.self.now.plan.seats) (sym e), omega (arith, c.in-Ok.ensures.len), none_fresh c.args.self.now c.in-Ok.seats.items c.in-Ok.ensures.items)
+    (c.requires.seat.0, c.requires.seat.1 ∙ ap (fresh c.args.self.now.plan.parts c.args.self.now.plan.start.value c.args.self.now.plan.seats) (sym e), omega (arith, c.in_ok-seats.ensures.len), none_fresh c.args.self.now c.in_ok-seats.seats.items c.in_ok-seats.ensures.items)
 
 pub loop-preserved : goal.loop-preserved
 loop-preserved c =
@@ -33,8 +33,8 @@ loop-preserved c =
     let e : c.args.count + 1 - c.loop.counter - 1 ≡ c.args.count + 1 - (c.loop.counter + 1) = omega arith in (
       c.cut-one.ensures.left.0 ∙ h.0,
       c.cut-one.ensures.left.1 ∙ ap fewer h.1 ∙ ap (fresh z c.args.self.now.plan.start.value g) e,
-      omega (arith, c.in-Ok-push.ensures.len, h.2),
-      snoc_fresh c.args.self.now c.loop.seats.items c.push.new.self.items c.cut-one.result c.in-Ok-push.ensures.items h.3 (c.cut-one.ensures.right.0 ∙ h.0, c.cut-one.ensures.right.1 ∙ ap one_seat h.1),
+      omega (arith, c.in_ok-push.ensures.len, h.2),
+      snoc_fresh c.args.self.now c.loop.seats.items c.push.new.self.items c.cut-one.result c.in_ok-push.ensures.items h.3 (c.cut-one.ensures.right.0 ∙ h.0, c.cut-one.ensures.right.1 ∙ ap one_seat h.1),
     )
 
 pub returns : goal.returns
@@ -43,4 +43,4 @@ returns c =
     let z = c.args.self.now.plan.parts in
     let g = c.args.self.now.plan.seats in
     let e : c.args.count + 1 - c.loop.counter ≡ 1 = omega (arith, c.loop-test.false, c.loop.auto.counter, c.loop.auto.counter-end (omega (arith, c.requires.seat.2))) in
-    (omega (arith, c.in-Ok-push-2.ensures.len, h.2, e, c.loop-test.false), snoc_fresh c.args.self.now c.loop.seats.items c.push-2.new.self.items c.loop.seat c.in-Ok-push-2.ensures.items h.3 (h.0, h.1 ∙ ap (fresh z c.args.self.now.plan.start.value g) e))
+    (omega (arith, c.in_ok-push-2.ensures.len, h.2, e, c.loop-test.false), snoc_fresh c.args.self.now c.loop.seats.items c.push-2.new.self.items c.loop.seat c.in_ok-push-2.ensures.items h.3 (h.0, h.1 ∙ ap (fresh z c.args.self.now.plan.start.value g) e))
