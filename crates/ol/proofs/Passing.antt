@@ -1,7 +1,14 @@
 -- What passed through adapters of which no call was made before.
 use Rattle.std.proofs.Common.{◌≡◌, ◌≢◌, ◌<◌, ◌≤◌, ◌+◌, ◌⊎◌, inl, inr, ℕ, zero, suc, List, [], ◌++◌, Some, String, Global, refl, ap, sym, ◌∙◌, subst, append-nil, arith}
+use Rattle.std.specs.Prelude.{true, codes}
 use Rattle.ol_io.specs.Outside.{Rose, Appended}
-use Rattle.ol_io.specs.Readings.{Reading, AreOfSince, handed}
+use Rattle.ol_io.specs.Readings.{Reading, reading, AreOfSince, handed}
+use Rattle.ol_parse.specs.Grammar.{Named}
+use Rattle.ol_parse.specs.Texts.{IsText}
+use Rattle.ol_meaning.specs.Shows.{ready}
+use Rattle.ol_lines.specs.NormalForms.{BeginsReduced}
+use Rattle.ol_cli.specs.NormalForms.{ArePlain, PlainLineSays}
+use Rattle.ol_cli.specs.Jobs.{OfReadFiles}
 use Rattle.ol_cli.specs.declared.status.Status.{Status}
 use Rattle.ol_cli.specs.declared.status.Status.TheVariants as status
 use Rattle.ol_cli.specs.Jobs.{Files}
@@ -58,3 +65,22 @@ passing words st old new f f' g g' before after none ef eg empty (rs, grown, h) 
     subst (λ rs. (text : List ℕ) × IsAnswer words (handed rs) st text
     × ◌≡◌ (Some after) (Some text)) same
     (all_taken words (handed rs) st before after empty x)
+
+-- where one reading was made, of all bytes of a name, this is what is said of any files of the readings
+pub of_one_reading : (words : List (String Global)) (readings : List Reading) (now taken : List ℕ) →
+    OfReadFiles [] readings (λ files. PlainLineSays words files (Some []) (Some now)) →
+    (verb name bytes : List ℕ) → ArePlain words verb name →
+    (verb ≡ codes "run") ⊎ ((verb ≡ codes "demand") ⊎ (verb ≡ codes "walk")) →
+    readings ≡ reading name bytes true ∷ [] → ◌≡◌ (Some now) (Some taken) →
+    (source : Named) → IsText bytes source → BeginsReduced source taken
+of_one_reading words readings now taken plain verb name bytes are is one all source text =
+    let r = plain (λ n x. Some bytes) (reading name bytes true ∷ [], one, (refl, tt)) verb name are is
+    bytes refl source text in
+    let same : now ≡ taken = cc in (
+      r.line,
+      r.rest,
+      r.one,
+      sym same ∙ r.written,
+      λ result t.
+          let n = r.says.0 result t in (n.0, n.1.every_reduct _ ready, n.1.is_normal),
+    )

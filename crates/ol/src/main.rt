@@ -1,12 +1,15 @@
 //! The program: `ol` over files, standard input and standard output.
 #![tactic(auto)]
 
-ghost use Rattle.std.specs.Prelude.{◌≡◌, ◌≢◌, ◌<◌, ◌≤◌, ℕ, true, List, [], Some};
-ghost use Rattle.ol_io.specs.Readings.{handed};
+ghost use Rattle.std.specs.Prelude.{◌≡◌, ◌≢◌, ◌<◌, ◌≤◌, ◌⊎◌, ◌∷◌, ℕ, true, List, [], Some, codes};
+ghost use Rattle.ol_io.specs.Readings.{handed, reading};
+ghost use Rattle.ol_parse.specs.Grammar.{Named};
+ghost use Rattle.ol_parse.specs.Texts.{IsText};
+ghost use Rattle.ol_lines.specs.NormalForms.{BeginsReduced};
 ghost use Rattle.ol_cli.specs.Jobs.{OfReadFiles, TellsTerm, TellsFiles, files_of};
 ghost use Rattle.ol_cli.specs.NormalForms.{LineSays, IsItsNormalForm, TellsOfNone};
 ghost use Rattle.ol_cli.specs.NormalForms.{IsFoundOnDemand, LineSaysOfTwo};
-ghost use Rattle.ol_cli.specs.NormalForms.{PlainDemandFinds, PlainEqualSays, PlainLineSays};
+ghost use Rattle.ol_cli.specs.NormalForms.{ArePlain, PlainDemandFinds, PlainEqualSays, PlainLineSays};
 ghost use Rattle.ol_cli.specs.Answers.{IsAnswer};
 ghost use Rattle.ol_cli.specs.Completeness.{AskForWhatCanBeDone, IsDoneOrNothing};
 ghost use Rattle.ol_cli.specs.Sources.{EveryRunTells, WritesTree};
@@ -34,6 +37,17 @@ fn run<'a, R: Files + Input + Print + Threads + Wait + Sync>(
     alloc: Global,
     words: &Vec<String>,
 ) -> Passed<'a, R>
+    // In short: after `ol run NAME`, `ol demand NAME` or `ol walk NAME` with the status `Done`, where
+    // what was read are these bytes of NAME, to their end, and they are a text of a term: standard
+    // output accepted a line first, and where this line is a text of a term, this is the normal form
+    // of the term that was read.
+    ensures in_short { result.status ≡ Status.Done
+        → (verb name bytes : List ℕ) → ArePlain words.now.items verb name
+        → (verb ≡ codes "run") ⊎ ((verb ≡ codes "demand") ⊎ (verb ≡ codes "walk"))
+        → ⟦<StdSource<'a, R> as Source>⟧.readings result.src ≡ reading name bytes true ∷ []
+        → (taken : List ℕ) → ⟦<StdSink<'a, R> as Sink>⟧.taken result.out ≡ Some taken
+        → (source : Named) → IsText bytes source → BeginsReduced source taken }
+
     // What is said of files holds of any files that the readings of this call are of: a reading has
     // all bytes of the file of its name where its end was seen, and else its first.
     //

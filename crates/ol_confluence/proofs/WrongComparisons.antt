@@ -2,16 +2,16 @@
 use Rattle.std.proofs.Common.{◌≡◌, ℕ, true, List, [], ◌∷◌, refl, sym, ◌∙◌}
 use Rattle.std.specs.Prelude.{codes}
 use Rattle.ol_beta.proofs.Redexes.{no_leftmost}
-use Rattle.ol_readback.specs.Whole.{term, cut, none, IsWholeTree}
+use Rattle.ol_readback.specs.Whole.{term, cut, none, more, IsWholeTree}
 use Rattle.ol_readback.specs.declared.answers.HeadVar.TheVariants as var
 use Rattle.ol_readback.specs.declared.answers.ReadNode.{ReadNode}
 use Rattle.ol_equal.specs.Comparing.{TreeWithNames}
-use Rattle.ol_meaning.specs.Spots.{Tree, free}
+use Rattle.ol_meaning.specs.Spots.{Tree, free, app}
 use Rattle.ol_meaning.specs.Shows.{ready, BetaReduces}
 use Rattle.ol_meaning.specs.Meaning.{SaysOf}
 use Rattle.ol_confluence.specs.Reductions.{Convertible, same, turned, joined}
 use Rattle.ol_confluence.specs.Compared.{number_of, ShareNormalForm}
-use Rattle.ol_confluence.specs.WrongComparisons.{first_name, not_asked, NumbersMislead, CutMisleads}
+use Rattle.ol_confluence.specs.WrongComparisons.{first_name, argument_cut, NumbersMislead, CutMisleads}
 use Rattle.ol_confluence.proofs.Meetings.{convertible, convertible_normal}
 use Rattle.ol_confluence.proofs.Renamings.{number_of_one}
 
@@ -27,23 +27,24 @@ says_name = record {
   endless = λ e h v r n. absurd h;
 }
 
-says_nothing : SaysOf (free 0) true not_asked
-says_nothing = record {
-  tree = cut;
+says_front : SaysOf (app (free 0) (free 0)) true argument_cut
+says_front = record {
+  tree = term 0 (var.Free 1) (more cut none);
   is_list = refl;
-  reduct = free 0;
+  reduct = app (free 0) (free 0);
   reduces = ready;
-  fills = tt;
-  leftmost = λ h. absurd h;
-  normal = λ h. absurd h;
+  fills = (free 0 ∷ [], refl, (tt, refl));
+  leftmost = λ h. absurd (h.1);
+  normal = λ h. absurd (h.1);
   endless = λ e h v r n. absurd h;
 }
 
 name_is_whole : IsWholeTree first_name
 name_is_whole = record { tree = term 0 (var.Free 1) none; is_list = refl; bound = (tt, tt) }
 
-cut_is_whole : IsWholeTree not_asked
-cut_is_whole = record { tree = cut; is_list = refl; bound = tt }
+front_is_whole : IsWholeTree argument_cut
+front_is_whole =
+    record { tree = term 0 (var.Free 1) (more cut none); is_list = refl; bound = (tt, (tt, tt)) }
 
 -- a free name by its bytes is a normal form, so two that reduce to one term are one
 one_name : (n m : ℕ) → ShareNormalForm (free n) (free m) → free n ≡ free m
@@ -72,10 +73,10 @@ numbers_mislead = record {
 pub cut_misleads : CutMisleads
 cut_misleads = record {
   printed = record {
-    first = says_name;
-    second = says_nothing;
-    first_whole = name_is_whole;
-    second_whole = cut_is_whole;
+    first = says_front;
+    second = says_front;
+    first_whole = front_is_whole;
+    second_whole = front_is_whole;
   };
   not_so = λ tells. tells same;
 }

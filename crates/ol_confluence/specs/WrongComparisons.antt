@@ -1,4 +1,4 @@
--- What two wrong comparisons would answer of the terms `a` and `b`, and that it isn't so.
+-- What two wrong comparisons would answer of small terms, and that it isn't so.
 use Rattle.std.specs.Prelude.{ℕ, true, List, [], ◌∷◌, codes}
 use Rattle.ol_readback.specs.declared.answers.HeadVar.TheVariants as var
 use Rattle.ol_readback.specs.declared.answers.ReadNode.{ReadNode}
@@ -6,7 +6,7 @@ use Rattle.ol_readback.specs.declared.answers.ReadNode.TheVariants as node
 use Rattle.ol_equal.specs.declared.answers.Compared.{Compared}
 use Rattle.ol_equal.specs.declared.answers.Compared.TheVariants as answer
 use Rattle.ol_equal.specs.Comparing.{TreeWithNames}
-use Rattle.ol_meaning.specs.Spots.{Tree, free}
+use Rattle.ol_meaning.specs.Spots.{Tree, free, app}
 use Rattle.ol_confluence.specs.Compared.{ArePrinted, TellsTerms}
 
 -- these places are printed of the two terms, and this answer isn't so of them
@@ -19,8 +19,9 @@ pub record IsNotSo (names : TreeWithNames) (t u : Tree) (ns ms : List ReadNode) 
 abbrev pub first_name : List ReadNode
 first_name = node.Head 0 (var.Free 1) 0 ∷ []
 
-abbrev pub not_asked : List ReadNode
-not_asked = node.Cut ∷ []
+-- the first free name, applied to an argument that wasn't asked for
+abbrev pub argument_cut : List ReadNode
+argument_cut = node.Head 0 (var.Free 1) 1 ∷ node.Cut ∷ []
 
 -- A comparison of free names by their numbers finds the trees of `a` and of `b` equal; but these two
 -- have no normal form in common.
@@ -28,8 +29,8 @@ abbrev pub NumbersMislead : Type 0
 NumbersMislead = IsNotSo (record { a = codes "a" ∷ []; b = codes "b" ∷ [] }) (free 0) (free 0)
     first_name first_name answer.Equal
 
--- A comparison that answers `different` where one side is cut does so of `a` and of `a`, of which the
--- second wasn't asked for; but a term is convertible with itself.
+-- A comparison that answers `different` where the first place apart is cut does so of `a a` and `a a`,
+-- of which one head was asked for; but a term is convertible with itself.
 abbrev pub CutMisleads : Type 0
-CutMisleads = IsNotSo (record { a = codes "a" ∷ []; b = codes "a" ∷ [] }) (free 0) (free 0)
-    first_name not_asked (answer.Different [])
+CutMisleads = IsNotSo (record { a = codes "a" ∷ []; b = codes "a" ∷ [] }) (app (free 0) (free 0))
+    (app (free 0) (free 0)) argument_cut argument_cut (answer.Different (1 ∷ []))

@@ -5,7 +5,7 @@ use Rattle.ol_cli.specs.NormalForms.{LineSays, IsItsNormalForm, TellsOfNone, IsF
 use Rattle.ol_cli.specs.NormalForms.{LineSaysOfTwo, PlainDemandFinds, PlainEqualSays, PlainLineSays}
 use Rattle.ol_cli.specs.Sources.{EveryRunTells, WritesTree}
 use Rattle.ol_cli.specs.Completeness.{IsDoneOrNothing}
-use Rattle.ol.proofs.Passing.{all_taken, begun_at_most, none_in, none_out, passing, no_rise, of_none}
+use Rattle.ol.proofs.Passing.{all_taken, begun_at_most, none_in, none_out, passing, no_rise, of_none, of_one_reading}
 use Rattle.ol.proofs.run.Goals as goal
 
 pub returns-clause-plain : goal.returns-clause-plain
@@ -22,6 +22,12 @@ returns-clause-plain g c = λ done files of.
     c.new-out.ensures.faults done c.ol-outcome.ensures.write_told)) c.ol-outcome.ensures.read_told))
     (no_rise c.new-out.result.faults c.ol-outcome.new.out.faults c.new-out.ensures.faults (none_out c.ol-outcome.result.status c.new-out.result.faults c.ol-outcome.new.out.faults
     c.new-out.ensures.faults done c.ol-outcome.ensures.write_told)) done)
+
+pub returns-clause-in_short : goal.returns-clause-in_short
+returns-clause-in_short g c = λ done verb name bytes are is one taken all source text.
+    of_one_reading c.args.words.now.items c.ol-outcome.new.src.log.passed.readings
+    c.ol-outcome.new.out.log.passed.taken taken (returns-clause-plain g c done) verb name bytes are is
+    one all source text
 
 pub returns-clause-plain_demand : goal.returns-clause-plain_demand
 returns-clause-plain_demand g c = λ done files of.

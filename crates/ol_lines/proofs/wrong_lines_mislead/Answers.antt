@@ -7,3 +7,6 @@ returns-clause-other g = wrong.other_term
 
 pub returns-clause-reduct : goal.returns-clause-reduct
 returns-clause-reduct g = wrong.reduct
+
+pub returns-clause-names : goal.returns-clause-names
+returns-clause-names g = wrong.names_apart
