@@ -141,9 +141,7 @@ impl Values {
         if count >= 4294967294 {
             return Err(NoMemory);
         }
-        let Ok((at, _)) = self.shapes.insert_full(shape) else {
-            return Err(NoMemory);
-        };
+        let (at, _) = self.shapes.insert_full(shape)?;
         Ok(Val {
             at: (at + 1) as u32,
         })

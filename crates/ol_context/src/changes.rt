@@ -21,9 +21,7 @@ pub fn reach(levels: &mut Vec<Val>, n: usize, none: Val) -> Result<(), NoMemory>
     if levels.len() >= n {
         return Ok(());
     }
-    let Ok(()) = levels.resize(n, none) else {
-        return Err(NoMemory);
-    };
+    levels.resize(n, none)?;
     Ok(())
 }
 
@@ -32,9 +30,7 @@ pub fn insert(levels: &mut Vec<Val>, i: usize, v: Val) -> Result<(), NoMemory>
     ensures ok { OnOk result (levels.new.items ≡ inserted levels.old.items i v) }
     ensures err { OnErr result (levels.new.items ≡ levels.old.items) }
 {
-    let Ok(()) = levels.insert(i, v) else {
-        return Err(NoMemory);
-    };
+    levels.insert(i, v)?;
     Ok(())
 }
 

@@ -20,9 +20,7 @@ fn wrap(leaf: &mut Leaf, part: Around) -> Result<(), NoMemory>
     ensures at { leaf.new.at ≡ leaf.old.at }
     ensures err { OnErr result (seen leaf.new ≡ seen leaf.old) }
 {
-    let Ok(()) = leaf.around.push(part) else {
-        return Err(NoMemory);
-    };
+    leaf.around.push(part)?;
     Ok(())
 }
 

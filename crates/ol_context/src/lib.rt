@@ -9,6 +9,19 @@
 //! An open context has a leaf in the place of one level's value and stands for many contexts at
 //! once, one for each number of abstractions that may be asked for. An open walk finds the least
 //! number for which the walk leaves, without a walk for each.
+//!
+//! - `arena`: the holder of level values
+//! - `row`: contexts
+//! - `changes`: what nodes do to the levels of a context
+//! - `crossing`: crossings of nodes
+//! - `walking`: walks with a budget
+//! - `steps`: a counter of crossings
+//! - `leaf`: the leaf of an open context, and what crossings make of it
+//! - `leaf_changes`: what nodes do to a row of levels of which one has a leaf
+//! - `open`: open contexts
+//! - `open_walking`: their crossings and walks
+//! - `answers`: what crossings and walks answer
+//! - `laws`: the laws of all of these
 #![tactic(auto)]
 
 mod answers;

@@ -9,6 +9,11 @@
 //!
 //! The laws have no code. `two_orders` shows one square of it on a net: two pairs, rewritten in
 //! both orders.
+//!
+//! - `one_thread`: what a run in any order tells of the one-thread run
+//! - `square`: two active pairs of a net, rewritten in both orders
+//! - `weighing`: the waves of a journal, by a replay on a net with weights
+//! - `wave_laws`: the laws of waves
 #![tactic(auto)]
 
 mod one_thread;

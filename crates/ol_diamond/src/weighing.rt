@@ -103,9 +103,7 @@ pub fn waves(alloc: Global, net: &Net, journal: &Journal) -> Result<WaveList, No
             unreachable!()
         };
         let wave = weighing.rewrite_entry(entry)?;
-        let Ok(()) = waves.push(wave) else {
-            return Err(NoMemory);
-        };
+        waves.push(wave)?;
     }
     Ok(WaveList { waves })
 }
@@ -175,13 +173,9 @@ impl Weighing {
     {
         let net = net.copy()?;
         let mut bases = Vec::new(alloc);
-        let Ok(()) = bases.push(net.born()) else {
-            return Err(NoMemory);
-        };
+        bases.push(net.born())?;
         let mut weights = Vec::new(alloc);
-        let Ok(()) = weights.resize(net.free_ports() as usize + 3 * net.born() as usize, 0) else {
-            return Err(NoMemory);
-        };
+        weights.resize(net.free_ports() as usize + 3 * net.born() as usize, 0)?;
         Ok(Weighing {
             net,
             bases,
@@ -282,10 +276,8 @@ impl Weighing {
         ensures weights { OnOk result (self.new.weights.items
             ≡ self.old.weights.items ++ weight ∷ []) }
     {
-        match self.weights.push(weight) {
-            Ok(()) => Ok(()),
-            Err(_) => Err(NoMemory),
-        }
+        self.weights.push(weight)?;
+        Ok(())
     }
 
     // A copy comes at a slot: its principal port weighs as much as the slot, and as the wave; its
@@ -407,9 +399,7 @@ impl Weighing {
             return Err(NoMemory);
         };
         self.net.is_net();
-        let Ok(()) = self.bases.push(self.net.born()) else {
-            return Err(NoMemory);
-        };
+        self.bases.push(self.net.born())?;
         Ok(Some(Rewritten { rule, wave }))
     }
 

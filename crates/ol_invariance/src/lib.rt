@@ -3,6 +3,8 @@
 //!
 //! A path leads from a free port with a context to a free port with a context. Whatever pair a step
 //! rewrites, each path of the net before it is one of the net after it, and the other way round.
+//!
+//! - `kept`: steps and runs that say what they keep
 #![tactic(auto)]
 
 mod kept;

@@ -58,17 +58,15 @@ impl MemSink {
         requires most { 0 < most }
         ensures state { IfOk result (λ sink. sink ≡ fresh_sink room most failing.items) }
     {
-        match Vec::with_capacity(alloc, room) {
-            Ok(bytes) => Ok(MemSink {
-                bytes,
-                room,
-                most,
-                failing,
-                calls: 0,
-                faults: 0,
-            }),
-            Err(_) => Err(NoMemory),
-        }
+        let bytes = Vec::with_capacity(alloc, room)?;
+        Ok(MemSink {
+            bytes,
+            room,
+            most,
+            failing,
+            calls: 0,
+            faults: 0,
+        })
     }
 
     /// The bytes that were taken, in order.

@@ -167,14 +167,12 @@ impl SureSink {
     pub fn new(alloc: Global, room: usize) -> Result<SureSink, NoMemory>
         ensures state { IfOk result (λ sink. sink ≡ fresh_sure_sink room) }
     {
-        match Vec::with_capacity(alloc, room) {
-            Ok(bytes) => Ok(SureSink {
-                bytes,
-                room,
-                whole: true,
-            }),
-            Err(_) => Err(NoMemory),
-        }
+        let bytes = Vec::with_capacity(alloc, room)?;
+        Ok(SureSink {
+            bytes,
+            room,
+            whole: true,
+        })
     }
 
     /// The bytes that are kept, in order: the first `room` of those taken, which are all of them

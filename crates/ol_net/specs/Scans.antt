@@ -1,5 +1,5 @@
 -- Private: scans of a table, and tables that are put together to a graph.
-use Rattle.std.specs.Prelude.{ℕ, Option, MatchOption, ◌<◌, None, ◌-◌, List}
+use Rattle.std.specs.Prelude.{ℕ, Option, MatchOption, ◌<◌, List}
 use Rattle.ol_net.specs.Build.{FirstOf, NoneOf}
 use Rattle.ol_net.specs.Graph.{Graph}
 use Rattle.ol_net.specs.Numbered.{net_of}

@@ -191,12 +191,8 @@ impl Net {
     pub fn copy(&self) -> Result<Net, NoMemory>
         ensures copy { IfOk result (λ net. net ≡ self.now) }
     {
-        let Ok(nodes) = self.nodes.clone() else {
-            return Err(NoMemory);
-        };
-        let Ok(partners) = self.partners.clone() else {
-            return Err(NoMemory);
-        };
+        let nodes = self.nodes.clone()?;
+        let partners = self.partners.clone()?;
         Ok(Net {
             free: self.free,
             live: self.live,
@@ -254,7 +250,7 @@ impl Net {
         ensures ok { OnOk result (Replaces self.old self.new first second born.now joins.now) }
         ensures err { OnErr result (self.new ≡ self.old) }
     {
-        let Ok(()) = replace_in(
+        replace_in(
             self.free,
             &mut self.nodes,
             &mut self.partners,
@@ -262,9 +258,7 @@ impl Net {
             second.0,
             born,
             joins,
-        ) else {
-            return Err(NoMemory);
-        };
+        )?;
         self.live = self.live - 2 + born.len() as u32;
         Ok(())
     }

@@ -1,15 +1,14 @@
 -- A net has one graph, where none of its numbers is gone
-use Rattle.std.proofs.Common.{◌≡◌, ℕ, ◌<◌, true, false, not, nat_eq, length, Option, Some, None, refl, sym, ◌∙◌, ap, inl, inr, arith}
+use Rattle.std.proofs.Common.{◌≡◌, ℕ, ◌<◌, true, false, not, nat_eq, length, None, sym, ◌∙◌, ap, inl, inr, arith}
 use Rattle.std.proofs.lemmas.List.{get_or_default, ext_get_or}
 use Rattle.std.proofs.lemmas.Bool.{cases_Bool}
 use Rattle.std.proofs.lemmas.Bool.Decides.{nat_tests}
-use Rattle.ol_net.specs.declared.parts.Kind.{Kind}
 use Rattle.ol_net.specs.declared.parts.Port.{Port}
-use Rattle.ol_net.specs.Graph.{Graph, IsTabled, kind_at, has_port, place, port_at}
+use Rattle.ol_net.specs.Graph.{Graph, IsTabled, has_port, place, port_at}
 use Rattle.ol_net.specs.Pairing.{other}
 use Rattle.ol_net.specs.Nets.{SameNet}
 use Rattle.ol_net.specs.Numbered.{numbered_port, net_of}
-use Rattle.ol_net.proofs.Numbered.{has_node, same_kinds, linked, net_is_net, numbered_port-injective, partner_of-parts, partner_of-there}
+use Rattle.ol_net.proofs.Numbered.{same_kinds, linked, net_is_net, numbered_port-injective, partner_of-parts, partner_of-there}
 use Rattle.ol_net.proofs.Places.{place-port_at}
 use Rattle.ol_netfile.proofs.SameNets.{same-graph}
 

@@ -5,7 +5,7 @@ ghost use Rattle.ol_net.specs.Numbered.{net_of};
 ghost use Rattle.ol_net.specs.Pairs.{IsStuck};
 ghost use Rattle.ol_netfile.specs.StuckPairs.{IsPairsText, pair_line};
 
-use crate::writing::{put, put_number};
+use crate::writing::{put, put_shown};
 use ol_io::NoMemory;
 use ol_net::{Facing, Net, NodeId, Port};
 use std::alloc::Global;
@@ -58,9 +58,9 @@ fn put_pair(alloc: Global, text: &mut Vec<u8>, a: u32, b: u32) -> Result<(), NoM
     ensures { OnOk result (text.new.items ≡ text.old.items ++ pair_line (a, b)) }
 {
     put(text, b"pair ")?;
-    put_number(alloc, text, a)?;
+    put_shown(alloc, text, &a)?;
     put(text, b" ")?;
-    put_number(alloc, text, b)?;
+    put_shown(alloc, text, &b)?;
     put(text, b"\n")?;
     Ok(())
 }

@@ -8,3 +8,4 @@ pub mod Handed
 pub mod Hands
 -- What only contracts of private functions and proofs cite.
 pub mod Fixed
+pub mod Counted

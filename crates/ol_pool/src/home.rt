@@ -1,19 +1,18 @@
-//! A hand's own deque with its two counts. These lines alone can raise the counts, and each of them
-//! only after an answer of the deque.
+//! A hand's own deque, with what it answered.
 ghost use Rattle.std.specs.Prelude.{◌≡◌, ◌<◌, ◌^◌, ◌≤◌, ◌∷◌, [], length, OnOk, OnErr, IfErr, MatchOption};
 ghost use Rattle.ol_pool.specs.Deques.{AllBelow, puts};
 ghost use Rattle.ol_pool.specs.Looks.{CountsOne};
 ghost use Rattle.ol_pool.specs.Owned.{FoundEmpty, FoundCell};
 
 use crate::own::Own;
+use crate::tally::Tally;
 use std::marker::Model;
 
 /// A hand's own deque, how often it was looked at in vain, and how often it refused a cell.
 #[derive(Drop)]
 pub(crate) struct Home {
     own: Own,
-    empties: u64,
-    refused: u64,
+    tally: Tally,
 }
 
 impl Model for Home {
@@ -21,7 +20,11 @@ impl Model for Home {
 
     ghost Value = { HomeState };
 
-    ghost view = { λ h. record { own = h.own; empties = h.empties; refused = h.refused } };
+    ghost view = { λ h. record {
+      own = h.own;
+      empties = h.tally.empties;
+      refused = h.tally.refused;
+    } };
 }
 
 impl Home {
@@ -31,8 +34,7 @@ impl Home {
     {
         Home {
             own,
-            empties: 0,
-            refused: 0,
+            tally: Tally::none(),
         }
     }
 
@@ -48,13 +50,7 @@ impl Home {
         ensures many { OnErr result (64 ≤ length self.old.own.log.sent) }
         ensures back { IfErr result (λ returned. returned ≡ cell) }
     {
-        match self.own.put(cell) {
-            Ok(()) => Ok(()),
-            Err(returned) => {
-                self.refused = self.refused.saturating_add(1);
-                Err(returned)
-            }
-        }
+        self.own.put(&mut self.tally, cell)
     }
 
     /// Takes the cell at the front. None: the deque answered so, and it is counted.
@@ -62,20 +58,14 @@ impl Home {
         ensures { MatchOption result (FoundEmpty self.old self.new)
             (λ cell. FoundCell cell self.old self.new) }
     {
-        match self.own.next() {
-            Some(cell) => Some(cell),
-            None => {
-                self.empties = self.empties.saturating_add(1);
-                None
-            }
-        }
+        self.own.next(&mut self.tally)
     }
 
     /// The number of puts that were refused.
     pub(crate) fn refused(&self) -> u64
         ensures { result ≡ self.now.refused }
     {
-        self.refused
+        self.tally.refused()
     }
 
     /// Law: the cells that it gave are below its bound.

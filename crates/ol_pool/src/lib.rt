@@ -1,5 +1,17 @@
 //! The cells that wait for a worker: a first-in first-out deque for each hand, from which the other
 //! hands steal.
+//!
+//! - `deques`: the rule of one hand's deque
+//! - `tally`: what deques answered, counted by no other lines
+//! - `own`: a hand's own deque
+//! - `home`: the same, with what it answered
+//! - `reach`: what a hand knows of another's deque
+//! - `hands`: what a worker holds of a pool
+//! - `pool`: the pool, shared by the workers
+//! - `opening`: the deques of a new pool, and its hands
+//! - `looks`: a search for a cell over parts of any sort
+//! - `pool_look`: a hand's search over its pool
+//! - `laws`: what holds of each deque between any two steps of any threads
 #![tactic(auto)]
 
 mod deques;
@@ -12,6 +24,7 @@ mod own;
 mod pool;
 mod pool_look;
 mod reach;
+mod tally;
 
 pub use deques::{Fair, Log};
 pub use hands::Hand;

@@ -28,12 +28,8 @@ pub(crate) fn open_all(
     let mut thieves = Vec::new(alloc);
     for _ in 0..count {
         let (own, thief) = Own::new(alloc, bound)?;
-        let Ok(()) = owns.push(own) else {
-            return Err(NoMemory);
-        };
-        let Ok(()) = thieves.push(thief) else {
-            return Err(NoMemory);
-        };
+        owns.push(own)?;
+        thieves.push(thief)?;
     }
     Ok((owns, thieves))
 }
@@ -49,14 +45,10 @@ fn lend_all(alloc: Global, pool: &Pool, owns: &mut Vec<Own>) -> Result<Vec<Reach
     ensures owns { OnOk result (owns.new.items ≡ map lends_one owns.old.items) }
     ensures row { IfOk result (λ made. made.items ≡ row_of pool.now) }
 {
-    let Ok(mut made) = Vec::with_capacity(alloc, owns.len() + APART) else {
-        return Err(NoMemory);
-    };
+    let mut made = Vec::with_capacity(alloc, owns.len() + APART)?;
     for at in 0..owns.len() {
         let reach = owns[at].lend();
-        let Ok(()) = made.push(reach) else {
-            return Err(NoMemory);
-        };
+        made.push(reach)?;
     }
     Ok(made)
 }
@@ -76,9 +68,7 @@ pub(crate) fn lend_rows(
     let mut rows = Vec::new(alloc);
     for _ in 0..pool.hands() {
         let row = lend_all(alloc, pool, owns)?;
-        let Ok(()) = rows.push(row) else {
-            return Err(NoMemory);
-        };
+        rows.push(row)?;
     }
     Ok(rows)
 }
@@ -100,9 +90,7 @@ pub(crate) fn deal(
     while let Some(own) = owns.pop() {
         let others = rows.pop().unwrap();
         let hand = Hand::new(owns.len() as u32, own, others);
-        let Ok(()) = hands.push(hand) else {
-            return Err(NoMemory);
-        };
+        hands.push(hand)?;
     }
     hands.reverse();
     Ok(hands)

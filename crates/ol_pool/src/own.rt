@@ -2,10 +2,12 @@
 ghost use Rattle.std.specs.Prelude.{◌≡◌, ℕ, ◌+◌, ◌-◌, ◌<◌, ◌≤◌, [], ◌∷◌, length, IfOk, IfErr, OnOk, OnErr, MatchOption};
 ghost use Rattle.crossbeam_deque.specs.Handles.{stealer_deque, worker_capacity, worker_deque, worker_flavor, worker_index, worker_view};
 ghost use Rattle.ol_pool.specs.Deques.{untold, opened, puts, gets, lends, AllBelow};
+ghost use Rattle.ol_pool.specs.Counted.{CountedEmpty, CountedRefusal};
 ghost use Rattle.ol_pool.specs.Owned.{new_reach};
 
-use crate::deques::{Gets, Lends, Opens, Owner, Puts, Tells, Thief};
+use crate::deques::{Fair, Gets, Lends, Opens, Owner, Puts, Tells, Thief};
 use crate::reach::Reach;
+use crate::tally::Tally;
 use ol_io::NoMemory;
 use std::alloc::Global;
 use std::marker::Model;
@@ -60,12 +62,8 @@ impl Own {
         ensures thief { IfOk result (λ made. stealer_deque made.1 ≡ made.0.deque) }
     {
         // One slot for the bound, and 64 more.
-        let Ok(mut deque) = Owner::fifo_as(alloc, 65) else {
-            return Err(NoMemory);
-        };
-        let Ok(thief) = deque.stealer() else {
-            return Err(NoMemory);
-        };
+        let mut deque = Owner::fifo_as(alloc, 65)?;
+        let thief = deque.stealer()?;
         tell(&mut deque, bound);
         Ok((Own { deque }, thief))
     }
@@ -82,23 +80,27 @@ impl Own {
     /// Puts a cell at the back.
     ///
     /// `Err`: the deque had to grow, and no memory was found. It gives the cell back.
-    pub(crate) fn put(&mut self, cell: u32) -> Result<(), u32>
+    pub(crate) fn put(&mut self, tally: &mut Tally, cell: u32) -> Result<(), u32>
         requires below { cell < self.old.log.bound }
         ensures sent { OnOk result
             (self.new ≡ record self.old { log = puts self.old.log (cell ∷ []) }) }
         ensures unchanged { OnErr result (self.new ≡ self.old) }
+        ensures accepted { OnOk result (tally.new ≡ tally.old) }
+        ensures refused { OnErr result (CountedRefusal tally.old tally.new) }
         ensures many { OnErr result (64 ≤ length self.old.log.sent) }
         ensures back { IfErr result (λ returned. returned ≡ cell) }
     {
-        self.deque.push_as::<Puts>(cell)
+        tally.put::<Fair, Puts>(&mut self.deque, cell)
     }
 
     /// Takes the cell at the front, if there is one.
-    pub(crate) fn next(&mut self) -> Option<u32>
-        ensures { MatchOption result (self.new ≡ self.old)
+    pub(crate) fn next(&mut self, tally: &mut Tally) -> Option<u32>
+        ensures own { MatchOption result (self.new ≡ self.old)
             (λ cell. self.new ≡ record self.old { log = gets self.old.log (cell ∷ []) }) }
+        ensures counted { MatchOption result (CountedEmpty tally.old tally.new)
+            (λ _. tally.new ≡ tally.old) }
     {
-        self.deque.pop_as::<Gets>()
+        tally.take::<Fair, Gets>(&mut self.deque)
     }
 
     /// Law: it is open.

@@ -4,17 +4,17 @@ ghost use Rattle.crossbeam_deque.specs.Handles.{view as knows, stealer_deque};
 ghost use Rattle.ol_pool.specs.Looks.{Tells};
 ghost use Rattle.ol_pool.specs.Owned.{IsReach, reach_part, reach_of};
 
-use crate::deques::{Access, Gets, Thief};
+use crate::deques::{Access, Fair, Gets, Thief};
 use crate::looks::Seen;
+use crate::tally::Tally;
 use crossbeam_deque::Steal;
 use std::marker::Model;
 
-/// Access to another's deque, and how often it was looked at in vain.
+/// Access to another's deque, with what that answered.
 #[derive(Drop)]
 pub(crate) struct Reach {
     access: Access,
-    empties: u64,
-    agains: u64,
+    tally: Tally,
 }
 
 impl Model for Reach {
@@ -27,8 +27,8 @@ impl Model for Reach {
     ghost view = { λ r. record {
       deque = (r.access.rows, r.access.heap);
       log = knows r.access;
-      empties = r.empties;
-      agains = r.agains;
+      empties = r.tally.empties;
+      agains = r.tally.agains;
     } };
 
     ghost invariant = { λ r. (r.access.me.hand ≡ None) × (r.access.me.spare ≡ None) };
@@ -42,8 +42,7 @@ impl Reach {
     {
         Reach {
             access,
-            empties: 0,
-            agains: 0,
+            tally: Tally::none(),
         }
     }
 
@@ -55,16 +54,10 @@ impl Reach {
         ensures open { IsReach self.old.log.bound self.new }
         ensures tells { Tells result (reach_part self.old) (reach_part self.new) }
     {
-        match thief.steal_as::<Gets>(&mut self.access) {
+        match self.tally.steal::<Fair, Gets>(thief, &mut self.access) {
             Steal::Success(cell) => Seen::Cell(cell),
-            Steal::Empty => {
-                self.empties = self.empties.saturating_add(1);
-                Seen::Empty
-            }
-            Steal::Retry => {
-                self.agains = self.agains.saturating_add(1);
-                Seen::Again
-            }
+            Steal::Empty => Seen::Empty,
+            Steal::Retry => Seen::Again,
         }
     }
 }

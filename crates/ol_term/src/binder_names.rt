@@ -36,9 +36,7 @@ fn write_candidate(alloc: Global, text: &mut Vec<u8>, number: u64) -> Result<(),
 fn put_candidate(alloc: Global, text: &mut Vec<u8>, number: u64) -> Result<(), NoMemory>
     ensures { OnOk result (text.new.items ≡ text.old.items ++ candidate number) }
 {
-    let Ok(()) = write_candidate(alloc, text, number) else {
-        return Err(NoMemory);
-    };
+    write_candidate(alloc, text, number)?;
     Ok(())
 }
 
@@ -109,9 +107,7 @@ fn number_of(
     'fill: while numbers.len() <= t {
         let start = start_of(numbers)?;
         let number = next_fresh(alloc, names, start)?;
-        let Ok(()) = numbers.push(number) else {
-            return Err(NoMemory);
-        };
+        numbers.push(number)?;
     }
     Ok(numbers[t])
 }

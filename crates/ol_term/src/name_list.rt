@@ -86,9 +86,9 @@ impl Names {
             return Ok(k);
         }
         let number = self.rows.len() as u32;
-        let row = Vec::from_slice(self.alloc, name).map_err(|_| NoMemory)?;
-        let key = Vec::from_slice(self.alloc, name).map_err(|_| NoMemory)?;
-        self.rows.push(row).map_err(|_| NoMemory)?;
+        let row = Vec::from_slice(self.alloc, name)?;
+        let key = Vec::from_slice(self.alloc, name)?;
+        self.rows.push(row)?;
         match put(&mut self.index, key, number) {
             Ok(()) => Ok(number),
             Err(NoMemory) => {
@@ -110,8 +110,6 @@ fn put(index: &mut BTreeMap<Vec<u8>, u32>, key: Vec<u8>, number: u32) -> Result<
         ≡ insert_entry by_bytes index.old.entries key number) }
     ensures refusal { OnErr result (index.new.entries ≡ index.old.entries) }
 {
-    match index.insert(key, number) {
-        Ok(_) => Ok(()),
-        Err(_) => Err(NoMemory),
-    }
+    index.insert(key, number)?;
+    Ok(())
 }

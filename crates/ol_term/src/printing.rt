@@ -25,18 +25,14 @@ pub enum Todo<'a> {
 fn put(text: &mut Vec<u8>, bytes: &[u8]) -> Result<(), NoMemory>
     ensures { OnOk result (text.new.items ≡ text.old.items ++ bytes.now) }
 {
-    let Ok(()) = text.extend_from_slice(bytes) else {
-        return Err(NoMemory);
-    };
+    text.extend_from_slice(bytes)?;
     Ok(())
 }
 
 fn add<'a>(todo: &mut Vec<Todo<'a>>, item: Todo<'a>) -> Result<(), NoMemory>
     ensures { OnOk result (todo.new.items ≡ todo.old.items ++ item.entry ∷ []) }
 {
-    let Ok(()) = todo.push(item) else {
-        return Err(NoMemory);
-    };
+    todo.push(item)?;
     Ok(())
 }
 

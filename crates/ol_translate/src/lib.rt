@@ -1,4 +1,11 @@
 //! Terms as nets.
+//!
+//! - `faults`: why a term is not translated
+//! - `parts`: the nodes and links that are laid down
+//! - `wires`: the ports at which the variables of a term leave it
+//! - `index`: where the wires of variables stand
+//! - `laying`: the walk over a term that lays down its nodes and links
+//! - `laws`: the law of the translations
 #![tactic(auto)]
 
 ghost use Rattle.std.specs.Prelude.{◌≡◌, ◌≢◌, ◌≤◌, ◌<◌, ◌+◌, ◌↔◌, length, Err, IfOk};

@@ -11,11 +11,11 @@ use Rattle.ol_net.specs.Parts.{slots_of}
 use Rattle.ol_net.specs.Graph.{Graph, kind_at, has_slot, has_port, partner_of}
 use Rattle.ol_net.specs.Nets.{SameNet}
 use Rattle.ol_net.specs.Numbered.{numbered_port, net_of}
-use Rattle.ol_net.proofs.Numbered.{has_node, same_kinds, linked, net_is_net, numbered_port-injective, partner_of-parts, partner_of-there}
+use Rattle.ol_net.proofs.Numbered.{same_kinds, linked, net_is_net, numbered_port-injective, partner_of-parts, partner_of-there}
 use Rattle.ol_rules.proofs.Relation.{same_sym}
 use Rattle.ol_view.specs.Laws.{IsTable, EqualNetsAreShownAlike}
-use Rattle.ol_view.specs.ShowTexts.{index_text, partner_text, free_lines, partners_text, node_line, node_lines}
-use Rattle.ol_net.specs.PartTexts.{kind_text, port_text}
+use Rattle.ol_view.specs.ShowTexts.{partner_text, free_lines, partners_text, node_line, node_lines}
+use Rattle.ol_net.specs.PartTexts.{kind_text, index_text, port_text}
 
 -- ---- equal nets have the same nodes under the same numbers, and the same partners
 

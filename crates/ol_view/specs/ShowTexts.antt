@@ -2,17 +2,11 @@
 use Rattle.std.specs.Prelude.{ℕ, zero, suc, List, [], ◌∷◌, ◌++◌, Option, None, Some, codes, length, count_by, is_some}
 use Rattle.std.specs.Fmt.{decimal}
 use Rattle.ol_net.specs.declared.parts.Kind.{Kind}
-use Rattle.ol_net.specs.declared.parts.Kind.TheVariants as kind
 use Rattle.ol_net.specs.declared.parts.Port.{Port}
 use Rattle.ol_net.specs.declared.parts.Port.TheVariants.{Free, Of}
 use Rattle.ol_net.specs.Parts.{slots_of}
-use Rattle.ol_net.specs.PartTexts.{kind_text, port_text}
+use Rattle.ol_net.specs.PartTexts.{kind_text, index_text, port_text}
 use Rattle.ol_net.specs.Graph.{Graph, kind_at, partner_of}
-
--- an eraser has no index of its own; the same text as that of `ol_net`, kind by kind
-abbrev pub index_text : Kind → ℕ → List ℕ
-index_text kind.Eraser i = codes "-"
-index_text _ i = decimal i
 
 -- a space and the port's partner
 abbrev pub partner_text : Option Port → List ℕ

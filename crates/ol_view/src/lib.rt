@@ -1,5 +1,16 @@
 //! What users see of nets and runs: the text of a net, a net after some leads, the text of a
 //! journal, and what such a text is found to be when it is replayed.
+//!
+//! - `showing`: the text of a net
+//! - `leading`: a net after some leads
+//! - `tracing`: the text of a journal
+//! - `wave_tracing`: the text of a journal with its rules and waves
+//! - `forms`: the two forms of a trace text
+//! - `line_reading`: one line of a trace text
+//! - `checking`: trace texts, read and replayed
+//! - `answers`: what the calls of this crate answer
+//! - `pieces`: bytes at the end of a text
+//! - `laws`: the law of shown nets
 #![tactic(auto)]
 
 mod answers;

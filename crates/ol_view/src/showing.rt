@@ -3,52 +3,12 @@
 ghost use Rattle.std.specs.Prelude.{◌≡◌, ◌++◌, length, OnOk, IfOk, string_bytes};
 ghost use Rattle.ol_net.specs.Parts.{slots_of};
 ghost use Rattle.ol_net.specs.Graph.{kind_at, partner_of};
-ghost use Rattle.ol_view.specs.ShowTexts.{index_text, partner_text, free_lines, partners_text, node_line, node_lines, show_text};
-ghost use Rattle.ol_net.specs.PartTexts.{kind_text, port_text};
+ghost use Rattle.ol_view.specs.ShowTexts.{partner_text, free_lines, partners_text, node_line, node_lines, show_text};
 
-use crate::pieces::{put, put_number};
+use crate::pieces::{put, put_number, put_shown};
 use ol_io::NoMemory;
-use ol_net::{Kind, Net, NodeId, Port};
+use ol_net::{IndexOf, Net, NodeId, Port};
 use std::alloc::Global;
-
-fn kind_word(kind: Kind) -> &'static str
-    ensures { result.now ≡ kind_text kind }
-{
-    match kind {
-        Kind::Lam => "lam",
-        Kind::App => "app",
-        Kind::Fan => "fan",
-        Kind::Croissant => "croissant",
-        Kind::Bracket => "bracket",
-        Kind::Eraser => "eraser",
-    }
-}
-
-fn put_index(text: &mut String, kind: Kind, index: u32) -> Result<(), NoMemory>
-    ensures { OnOk result (string_bytes text.new
-        ≡ string_bytes text.old ++ index_text kind index) }
-{
-    match kind {
-        Kind::Eraser => put(text, "-"),
-        _ => put_number(text, index),
-    }
-}
-
-fn put_port(text: &mut String, port: Port) -> Result<(), NoMemory>
-    ensures { OnOk result (string_bytes text.new ≡ string_bytes text.old ++ port_text port) }
-{
-    match port {
-        Port::Free(k) => {
-            put(text, "f")?;
-            put_number(text, k)
-        }
-        Port::Of { node, slot } => {
-            put_number(text, node.0)?;
-            put(text, ".")?;
-            put_number(text, slot as u32)
-        }
-    }
-}
 
 // A space and the partner of a port.
 fn put_partner(text: &mut String, net: &Net, of: Port) -> Result<(), NoMemory>
@@ -57,7 +17,7 @@ fn put_partner(text: &mut String, net: &Net, of: Port) -> Result<(), NoMemory>
 {
     if let Some(partner) = net.partner(of) {
         put(text, " ")?;
-        put_port(text, partner)?;
+        put_shown(text, &partner)?;
     }
     Ok(())
 }
@@ -67,7 +27,7 @@ fn put_free_ports(text: &mut String, net: &Net) -> Result<(), NoMemory>
         ≡ string_bytes text.old ++ free_lines net.now net.now.free) }
 {
     for k in 0..net.free_ports() {
-        put_port(text, Port::Free(k))?;
+        put_shown(text, &Port::Free(k))?;
         put_partner(text, net, Port::Free(k))?;
         put(text, "\n")?;
     }
@@ -94,11 +54,12 @@ fn put_node(text: &mut String, net: &Net, node: NodeId) -> Result<(), NoMemory>
     };
     put_number(text, node.0)?;
     put(text, " ")?;
-    put(text, kind_word(kind))?;
+    put_shown(text, &kind)?;
     put(text, " ")?;
-    put_index(text, kind, index)?;
+    put_shown(text, &IndexOf { kind, index })?;
     put_partners(text, net, node, kind.slots())?;
-    put(text, "\n")
+    put(text, "\n")?;
+    Ok(())
 }
 
 fn put_nodes(text: &mut String, net: &Net) -> Result<(), NoMemory>

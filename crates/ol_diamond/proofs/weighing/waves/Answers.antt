@@ -25,7 +25,7 @@ loop-k-preserved c =
     c.loop-k.weighing.weights.items c.rewrite_entry.new.self.weights.items c.loop-k.waves.items c.loop-k.k c.in-Some.entry c.in_ok-wave.wave c.loop-k.invariant (sym c.get.ensures ∙ c.in-Some.is) c.in_ok-wave.ensures.weighed in
     let q : suc c.loop-k.k ≡ c.loop-k.k + 1 = omega arith in
     subst (λ k. UnderWay c.args.net.now c.args.journal.now c.rewrite_entry.new.self.net c.rewrite_entry.new.self.bases.items c.rewrite_entry.new.self.weights.items c.push.new.self.items k) q
-    (subst (λ (ws : List ℕ). UnderWay c.args.net.now c.args.journal.now c.rewrite_entry.new.self.net c.rewrite_entry.new.self.bases.items c.rewrite_entry.new.self.weights.items ws (suc c.loop-k.k)) (sym c.in-Ok.ensures.items) t)
+    (subst (λ (ws : List ℕ). UnderWay c.args.net.now c.args.journal.now c.rewrite_entry.new.self.net c.rewrite_entry.new.self.bases.items c.rewrite_entry.new.self.weights.items ws (suc c.loop-k.k)) (sym c.in_ok-push.ensures.items) t)
 
 pub returns : goal.returns
 returns c =

@@ -35,7 +35,7 @@ returns-clause-made c = record {
     steps = subst (λ (g : Graph). StepsAt g c.step.new.net c.in-Some.a.0 c.in-Ok.field-0) c.weigh.ensures.net c.in-Ok.ensures.steps;
     old_net = c.is_net.ensures.net;
     new_net = c.is_net-2.ensures.net;
-    bases_on = c.in-Ok-push.ensures.items ∙ ap (λ n. c.weigh.new.self.bases.items ++ n ∷ []) c.born.ensures.born
+    bases_on = c.in_ok-push.ensures.items ∙ ap (λ n. c.weigh.new.self.bases.items ++ n ∷ []) c.born.ensures.born
         ∙ ap (λ (v : Vec ℕ Global). v.items ++ length c.step.new.net.nodes ∷ []) c.weigh.ensures.bases;
   };
   rule = one_rule c.weigh.new.self.net c.args.self.now.net c.in-Some.a c.in-Ok.field-0 c.in-Some-rule_between.rule c.weigh.ensures.net c.in-Ok.ensures.active c.in-Some-rule_between.ensures.active;

@@ -24,9 +24,9 @@ invariant_of-self-2 c =
     let fit = rw (← c.self.view_is) at c.requires.fit in
     let few = rw (← c.self.view_is) at c.requires.few in
     let given = Given-from (record { free = c.self.inside.free; nodes = c.self.inside.nodes.items; partners = c.self.inside.partners.items }) c.args.first c.args.second c.args.born.now c.args.joins.now c.self.invariant.2 face fit in
-    let k = kept _ c.self.inside.live _ c.replace_in.new.nodes.items _ c.replace_in.new.partners.items _ _ _ _ given c.self.invariant.0 c.in-Ok.ensures.nodes c.in-Ok.ensures.partners in
+    let k = kept _ c.self.inside.live _ c.replace_in.new.nodes.items _ c.replace_in.new.partners.items _ _ _ _ given c.self.invariant.0 c.in_ok-replace_in.ensures.nodes c.in_ok-replace_in.ensures.partners in
     let may = rw (← c.self.view_is) at c.requires.indexes in
-    let indexes = HasIndexes-kept _ _ _ _ _ c.self.invariant.3 may c.in-Ok.ensures.nodes k.1 in
+    let indexes = HasIndexes-kept _ _ _ _ _ c.self.invariant.3 may c.in_ok-replace_in.ensures.nodes k.1 in
     (k.0, omega (arith, k.1, few, c.requires.few_born), k.2, indexes)
 
 pub returns-clause-ok : goal.returns-clause-ok
@@ -35,4 +35,4 @@ returns-clause-ok c =
     let fit = rw (← c.self.view_is) at c.requires.fit in
     let old : Graph = record { free = c.self.inside.free; nodes = c.self.inside.nodes.items; partners = c.self.inside.partners.items } in
     let given = Given-from old c.args.first c.args.second c.args.born.now c.args.joins.now c.self.invariant.2 face fit in
-    rw (← c.self.view_is) (Replaces-from old _ _ c.args.first c.args.second c.args.born.now c.args.joins.now given c.in-Ok.ensures.nodes c.in-Ok.ensures.partners)
+    rw (← c.self.view_is) (Replaces-from old _ _ c.args.first c.args.second c.args.born.now c.args.joins.now given c.in_ok-replace_in.ensures.nodes c.in_ok-replace_in.ensures.partners)
