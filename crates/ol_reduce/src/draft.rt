@@ -46,9 +46,7 @@ fn alone(alloc: Global, places: usize) -> Result<Vec<usize>, NoMemory>
 {
     let mut partners = Vec::new(alloc);
     for place in 0..places {
-        let Ok(()) = partners.push(place) else {
-            return Err(NoMemory);
-        };
+        partners.push(place)?;
     }
     Ok(partners)
 }
@@ -62,9 +60,7 @@ impl Draft {
         ensures alone { IfOk result (λ d. (k : ℕ) → other d.partners.items k ≡ k) }
     {
         let mut kinds = Vec::new(alloc);
-        let Ok(()) = kinds.resize(nodes as usize, (Kind::Eraser, 0)) else {
-            return Err(NoMemory);
-        };
+        kinds.resize(nodes as usize, (Kind::Eraser, 0))?;
         let partners = alone(alloc, free as usize + 3 * nodes as usize)?;
         Ok(Draft {
             free,
@@ -113,9 +109,7 @@ impl Draft {
             let partner = self.partners[place];
             if place < partner {
                 let link = (port_at(self.free, place), port_at(self.free, partner));
-                let Ok(()) = links.push(link) else {
-                    return Err(NoMemory);
-                };
+                links.push(link)?;
             }
         }
         Ok(links)

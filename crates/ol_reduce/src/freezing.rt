@@ -259,9 +259,7 @@ fn link_chains(alloc: Global, words: &Words, live: &Live, draft: &mut Draft) -> 
 {
     words.stands();
     let mut met = Vec::new(alloc);
-    let Ok(()) = met.resize(wires_used(words) as usize, 0) else {
-        return Err(NoMemory);
-    };
+    met.resize(wires_used(words) as usize, 0)?;
     link_ports(words, live, draft, &mut met);
     link_nodes(words, live, draft, &mut met);
     Ok(())

@@ -87,17 +87,13 @@ pub(crate) fn hire(
     ensures each { IfOk result (λ made. All (IsPadded (IsWorker shared.now pool.now)) made.items) }
     ensures count { IfOk result (λ made. vec_len made ≡ vec_len seats) }
 {
-    let Ok(mut workers) = Vec::with_capacity(alloc, seats.len()) else {
-        return Err(NoMemory);
-    };
+    let mut workers = Vec::with_capacity(alloc, seats.len())?;
     while let Some(seat) = seats.pop() {
         let hand = hands.pop().unwrap();
         let number = hand.number();
         let worker = Worker::new(number, seat, hand);
         let padded = CachePadded::new(worker);
-        let Ok(()) = workers.push(padded) else {
-            return Err(NoMemory);
-        };
+        workers.push(padded)?;
     }
     Ok(workers)
 }

@@ -91,9 +91,7 @@ fn rewritten(alloc: Global, words: &Words, journal: &Journal) -> Result<Vec<bool
     let parts = words.parts();
     let events = words.events();
     let mut marks = Vec::new(alloc);
-    let Ok(()) = marks.resize((parts.nodes + 4 * events) as usize, false) else {
-        return Err(NoMemory);
-    };
+    marks.resize((parts.nodes + 4 * events) as usize, false)?;
     for ticket in 0..events {
         if let Some(entry) = journal.get(ticket) {
             mark(parts, events, &mut marks, entry.first);
@@ -119,9 +117,7 @@ fn rank_at(parts: Parts, place: u32) -> u32
 fn put(numbers: &mut Vec<u32>, number: u32) -> Result<(), NoMemory>
     ensures { OnOk result (numbers.new.items ≡ numbers.old.items ++ number ∷ []) }
 {
-    let Ok(()) = numbers.push(number) else {
-        return Err(NoMemory);
-    };
+    numbers.push(number)?;
     Ok(())
 }
 
@@ -145,9 +141,7 @@ impl Live {
             places: Vec::new(alloc),
             numbers: Vec::new(alloc),
         };
-        let Ok(()) = live.numbers.resize(marks.len(), 0) else {
-            return Err(NoMemory);
-        };
+        live.numbers.resize(marks.len(), 0)?;
         for node in 0..parts.nodes {
             live.add(!marks[node as usize], node, parts.start_node(node))?;
         }

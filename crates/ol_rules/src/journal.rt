@@ -55,9 +55,7 @@ impl Journal {
     pub fn with_room(alloc: Global, entries: u32) -> Result<Journal, NoMemory>
         ensures empty { IfOk result (λ journal. journal ≡ []) }
     {
-        let Ok(entries) = Vec::with_capacity(alloc, entries as usize) else {
-            return Err(NoMemory);
-        };
+        let entries = Vec::with_capacity(alloc, entries as usize)?;
         Ok(Journal { entries })
     }
 
@@ -67,10 +65,8 @@ impl Journal {
         ensures ok { OnOk result (self.new ≡ self.old ++ entry ∷ []) }
         ensures err { OnErr result (self.new ≡ self.old) }
     {
-        match self.entries.push(entry) {
-            Ok(()) => Ok(()),
-            Err(_) => Err(NoMemory),
-        }
+        self.entries.push(entry)?;
+        Ok(())
     }
 
     /// The number of entries.

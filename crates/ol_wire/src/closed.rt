@@ -115,9 +115,7 @@ impl Words {
         if self.at(at) == 0 {
             return Ok(());
         }
-        let Ok(()) = cells.push(cell) else {
-            return Err(NoMemory);
-        };
+        cells.push(cell)?;
         Ok(())
     }
 
@@ -159,13 +157,9 @@ impl Words {
         let mut cells = Vec::new(alloc);
         self.note_start(&mut cells)?;
         let events = self.events();
-        let Ok(mut pairs) = Vec::with_capacity(alloc, events as usize) else {
-            return Err(NoMemory);
-        };
+        let mut pairs = Vec::with_capacity(alloc, events as usize)?;
         for k in 0..events {
-            let Ok(()) = pairs.push(self.pair(k)) else {
-                return Err(NoMemory);
-            };
+            pairs.push(self.pair(k))?;
             self.note_block(&mut cells, k)?;
         }
         Ok(Blocks { pairs, cells })

@@ -1,4 +1,4 @@
-use Rattle.std.proofs.Common.{◌≡◌, ◌≤◌, length, ◌∙◌, arith}
+use Rattle.std.proofs.Common.{◌≤◌, length, arith}
 use Rattle.ol_reduce.proofs.Arriving.{all_celled}
 use Rattle.ol_reduce.proofs.Bounded.{events_few}
 use Rattle.ol_reduce.proofs.Filled.{are_cells}

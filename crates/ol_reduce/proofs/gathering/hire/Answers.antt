@@ -22,7 +22,7 @@ loop-seat-preserved c =
     let padded : IsPadded (IsWorker b p) c.new-padded.result = subst (IsWorker b p) (sym c.new-padded.ensures) one in (
       s.0,
       t.0,
-      All-same (IsPadded (IsWorker b p)) c.push.new.self.items (c.loop-seat.workers.items ++ c.new-padded.result ∷ []) c.in-Ok-push.ensures.items (All-push (IsPadded (IsWorker b p)) c.loop-seat.workers.items c.new-padded.result h.2 padded),
+      All-same (IsPadded (IsWorker b p)) c.push.new.self.items (c.loop-seat.workers.items ++ c.new-padded.result ∷ []) c.in_ok-push.ensures.items (All-push (IsPadded (IsWorker b p)) c.loop-seat.workers.items c.new-padded.result h.2 padded),
       omega (arith, h.3, taken, c.in-Some.ensures.len, c.pop-in-Some.ensures.len),
-      omega (arith, h.4, c.in-Some.ensures.len, c.in-Ok-push.ensures.len),
+      omega (arith, h.4, c.in-Some.ensures.len, c.in_ok-push.ensures.len),
     )
