@@ -3,7 +3,8 @@ use crate::commands::assert_written;
 use ol_cli::Status;
 use std::test::Fail;
 
-/// Each answer but `deep`, `past` and `differs`, which ol_beta's calls give in ol_walk_tests.
+/// Each answer but `deep`, whose row is in limits.rt, and `past` and `differs`, which ol_beta's
+/// calls give in ol_walk_tests.
 #[test]
 fn runs_are_certified(rt: HostRuntime) -> Result<(), Fail> {
     let pair = b"(\\x. x x) (\\y. y)".as_slice();
