@@ -82,3 +82,34 @@ fn asks_a_frame(rt: HostRuntime) -> Result<(), Fail> {
     }
     Ok(())
 }
+
+/// Which of its answers a head is.
+fn answer_name(answer: &Head) -> &'static str {
+    match answer {
+        Head::Is { .. } => "is",
+        Head::NoHead => "none",
+        Head::Budget => "budget",
+    }
+}
+
+/// With as many crossings as the walk makes the head is found, and with one fewer the budget is
+/// met.
+#[test]
+fn asks_with_a_budget(rt: HostRuntime) -> Result<(), Fail> {
+    let alloc = rt.alloc();
+    let frames = root_alone(alloc)?;
+    for (input, edges, wanted) in [
+        ("(\\x. x x) (\\y. y)", 43, "is"),
+        ("(\\x. x x) (\\y. y)", 42, "budget"),
+        ("\\x. f x", 3, "is"),
+        ("\\x. f x", 2, "budget"),
+    ] {
+        let net = net_of(alloc, input, Translation::One)?;
+        assert!(rt; net.free_ports() > 0);
+        let mut values = Values::new(alloc);
+        let answer = head(alloc, &net, &mut values, &frames, 0, edges)?;
+        let name = answer_name(&answer);
+        assert!(rt; name == wanted, "{edges}: {name}");
+    }
+    Ok(())
+}
