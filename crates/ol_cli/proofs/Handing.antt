@@ -22,7 +22,7 @@ whole_net net parts e = ap (count_by is_some) e ∙ count_by-all_live parts ∙ 
 
 -- ---- what is handed back
 
-where_ended : (st : Status) (closed : Option ClosedTable) (P Q : Type 0) → (P → Q) → WhereEnded st closed P → WhereEnded st closed Q
+pub where_ended : (st : Status) (closed : Option ClosedTable) (P Q : Type 0) → (P → Q) → WhereEnded st closed P → WhereEnded st closed Q
 where_ended status.Done closed P Q f h = f h
 where_ended status.Spent closed P Q f h = f h
 where_ended status.Usage closed P Q f h = h

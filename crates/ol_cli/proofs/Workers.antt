@@ -1,6 +1,6 @@
 -- An answer to a job is one to the same job with any other number of workers: no definition of an answer looks at that number. So
 -- words that ask for one job but for that number have one answer (`one_answer`).
-use Rattle.std.proofs.Common.{◌≡◌, ℕ, Bool, true, false, List, Option, None, Some, String, Global, option_map, sym, ap, ◌∙◌, subst}
+use Rattle.std.proofs.Common.{◌≡◌, ℕ, true, false, List, Option, None, Some, String, Global, option_map, sym, ap, ◌∙◌, subst}
 use Rattle.ol_words.specs.Texts.{texts_of}
 use Rattle.ol_words.specs.Asked.{Asked}
 use Rattle.ol_words.specs.Asked as jobs

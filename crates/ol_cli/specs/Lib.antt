@@ -17,7 +17,8 @@ pub mod Handed
 pub mod Completeness
 -- What only contracts of private functions and proofs cite.
 pub mod ReadAgain
-pub mod Prepared
+pub mod Files
+pub mod Ready
 pub mod Inside
 pub mod NetLines
 pub mod Sides

@@ -3,9 +3,9 @@ ghost use Rattle.std.specs.Prelude.{◌≡◌, ◌≤◌, ◌<◌, ◌-◌, leng
 ghost use Rattle.ol_readback.specs.Texts.{AreNamed};
 ghost use Rattle.ol_wire.specs.Sizes.{IsSmallNet};
 ghost use Rattle.ol_cli.specs.Inside.{ReadsOrRunsOut};
-ghost use Rattle.ol_cli.specs.Prepared.{HoldsOfTerms};
+ghost use Rattle.ol_cli.specs.Ready.{HoldsOfTerms};
 
-use crate::evaluation::RunNumbers;
+use crate::numbers::RunNumbers;
 use ol_io::{Gate, NoMemory};
 use ol_net::Net;
 use ol_readback::{ReadTree, read_back};
