@@ -7,7 +7,8 @@ use Rattle.ol_words.specs.Asked as jobs
 use Rattle.ol_cli.specs.declared.numbers.RunNumbers.{RunNumbers}
 use Rattle.ol_cli.specs.declared.status.Status.{Status}
 use Rattle.ol_cli.specs.Jobs.{Files}
-use Rattle.ol_cli.specs.Answers.{Seen, seen, on_second, HasTree, JobCause, by_second, by_both}
+use Rattle.ol_cli.specs.Answers.{Seen, seen, on_second, JobCause, by_second, by_both}
+use Rattle.ol_cli.specs.Equal.{HasTree}
 use Rattle.ol_cli.specs.Sides.{IsReadOf, EndsSecond, refused, compared}
 
 -- what the read of the second file ended with, after that of the first

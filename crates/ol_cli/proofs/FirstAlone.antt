@@ -10,7 +10,8 @@ use Rattle.ol_words.specs.Texts.{Text}
 use Rattle.ol_words.specs.Asked.{Asked, check, equal, run}
 use Rattle.ol_cli.specs.declared.numbers.RunNumbers.{RunNumbers}
 use Rattle.ol_cli.specs.Jobs.{AskFor}
-use Rattle.ol_cli.specs.Answers.{IsTermFile, FileAnswer, RefusesFirst}
+use Rattle.ol_cli.specs.TermFiles.{IsTermFile, FileAnswer}
+use Rattle.ol_cli.specs.Answers.{RefusesFirst}
 use Rattle.ol_cli.specs.Sides.{IsReadOf}
 use Rattle.ol_cli.proofs.BothFiles.{has_tree}
 use Rattle.ol_cli.proofs.OneAnswer.{of_file_answer, read_file, not_refused, one_job}

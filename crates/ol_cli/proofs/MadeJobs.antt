@@ -5,8 +5,11 @@ use Rattle.ol_term.specs.Generated.{doubled_text}
 use Rattle.ol_words.specs.Asked.{gen}
 use Rattle.ol_cli.specs.declared.answer.Answer.{Answer}
 use Rattle.ol_cli.specs.declared.status.Status.TheVariants.{Done}
-use Rattle.ol_cli.specs.Answers.{Seen, FileAnswer, plain_run, by_making}
-use Rattle.ol_cli.specs.Handed.{FileHands, WhereEnded}
+use Rattle.ol_cli.specs.Answers.{Seen, by_making}
+use Rattle.ol_cli.specs.TermFiles.{FileAnswer}
+use Rattle.ol_cli.specs.Generate.{plain_run}
+use Rattle.ol_cli.specs.TermFiles.{FileHands}
+use Rattle.ol_cli.specs.Handed.{WhereEnded}
 use Rattle.ol_cli.specs.Inside.{ComesOf}
 use Rattle.ol_cli.specs.ReadAgain.{FileIsReadAgain}
 use Rattle.ol_cli.proofs.Handing.{none_ended}

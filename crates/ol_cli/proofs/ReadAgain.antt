@@ -15,8 +15,9 @@ use Rattle.ol_cli.specs.declared.status.Status.{Status}
 use Rattle.ol_cli.specs.declared.status.Status.TheVariants as status
 use Rattle.ol_cli.specs.Inside.{IsReadWhereTold}
 use Rattle.ol_cli.specs.Jobs.{AskFor, HasTermFile, TellsTerm, file_name, term_bytes}
-use Rattle.ol_cli.specs.Evaluation.{Prints, Walks}
-use Rattle.ol_cli.specs.DemandOrder.{Demands}
+use Rattle.ol_cli.specs.Run.{Prints}
+use Rattle.ol_cli.specs.Walk.{Walks}
+use Rattle.ol_cli.specs.Demand.{Demands}
 use Rattle.ol_cli.specs.ReadAgain.{TextIsReadAgain, AnswerIsReadAgain, FileIsReadAgain, WordsAreReadAgain, WritesReadable}
 use Rattle.ol_cli.proofs.OneAnswer.{one_job}
 

@@ -13,8 +13,10 @@ use Rattle.ol_cli.specs.declared.ready.Ready.TheVariants as ready
 use Rattle.ol_cli.specs.declared.status.Status.{Status}
 use Rattle.ol_cli.specs.declared.status.Status.TheVariants.{Done, Usage, Syntax, Spent, ReadFault, WriteFault, NoMemory, Limit, BadNet}
 use Rattle.ol_cli.specs.Jobs.{HasTermFile, file_name, translation_in}
-use Rattle.ol_cli.specs.Answers.{Seen, TermAnswer, FileCause, NetCause, by_file, by_net_file}
-use Rattle.ol_cli.specs.Handed.{TermHands, ReadHands, JobHands, WhereEnded}
+use Rattle.ol_cli.specs.Answers.{Seen, FileCause, NetCause, by_file, by_net_file}
+use Rattle.ol_cli.specs.TermFiles.{TermAnswer}
+use Rattle.ol_cli.specs.TermFiles.{TermHands}
+use Rattle.ol_cli.specs.Handed.{ReadHands, JobHands, WhereEnded}
 use Rattle.ol_cli.specs.Inside.{ComesOf}
 use Rattle.ol_cli.specs.ReadAgain.{AnswerIsReadAgain}
 use Rattle.ol_cli.specs.Ready.{RefusesTerm, ComesOfTerm}

@@ -10,7 +10,8 @@ use Rattle.ol_cli.specs.declared.status.Status.TheVariants as status
 use Rattle.ol_cli.specs.declared.status.Status.TheVariants.{Usage}
 use Rattle.ol_cli.specs.Texts.{usage_text}
 use Rattle.ol_cli.specs.Jobs.{Files, AskFor, AskForNothing}
-use Rattle.ol_cli.specs.Answers.{IsAnswer, FileAnswer, JobAnswer, of_file, of_net_file, of_first, of_second, of_both}
+use Rattle.ol_cli.specs.Answers.{IsAnswer, JobAnswer, of_file, of_net_file, of_first, of_second, of_both}
+use Rattle.ol_cli.specs.TermFiles.{FileAnswer}
 use Rattle.ol_cli.specs.Laws.{AskAlike, HaveOneText, WorkersAreNotSeen, with_workers}
 use Rattle.ol_cli.proofs.Exact.{not_both}
 use Rattle.ol_cli.proofs.OneAnswer.{OfWords, no_job, job, of_words, one_of_job, one_job, same_as}

@@ -10,12 +10,13 @@ use Rattle.ol_cli.specs.declared.status.Status.{Status}
 use Rattle.ol_cli.specs.declared.status.Status.TheVariants as status
 use Rattle.ol_cli.specs.Answers.{Seen, GaveWithin, GavePast}
 use Rattle.ol_cli.specs.Texts.{fault_text, bytes_text, journal_text, net_bytes_text}
+use Rattle.ol_cli.specs.Limits.{most_term_bytes, most_journal_bytes, most_net_bytes}
 
 -- how many bytes a file may have, and the line that refuses one with more
 abbrev pub most_bytes : FileKind → ℕ
-most_bytes kind.Term = 1048576
-most_bytes kind.Journal = 402653184
-most_bytes kind.Net = 33554432
+most_bytes kind.Term = most_term_bytes
+most_bytes kind.Journal = most_journal_bytes
+most_bytes kind.Net = most_net_bytes
 
 abbrev pub limit_text : FileKind → List ℕ
 limit_text kind.Term = bytes_text

@@ -17,24 +17,27 @@ use Rattle.ol_cli.specs.declared.top.Outcome.{Outcome}
 use Rattle.ol_cli.specs.declared.status.Status.{Status}
 use Rattle.ol_cli.specs.declared.status.Status.TheVariants as status
 use Rattle.ol_cli.specs.Jobs.{term_bytes}
-use Rattle.ol_cli.specs.Evaluation.{RunsOut, ReadsLast}
-use Rattle.ol_cli.specs.Answers.{Seen, TermAnswer, JournalCause, JobCause, Cause}
-use Rattle.ol_cli.specs.Handed.{TermHands, JobHands, WhereEnded, WordsHand}
+use Rattle.ol_cli.specs.Run.{RunsOut, ReadsLast}
+use Rattle.ol_cli.specs.Answers.{Seen, JournalCause, JobCause, Cause}
+use Rattle.ol_cli.specs.TermFiles.{TermAnswer}
+use Rattle.ol_cli.specs.TermFiles.{TermHands}
+use Rattle.ol_cli.specs.Handed.{JobHands, WhereEnded, WordsHand}
 use Rattle.ol_cli.specs.Texts.{fault_text}
 use Rattle.ol_cli.specs.ReadAgain.{AnswerIsReadAgain, FileIsReadAgain, WordsAreReadAgain}
+use Rattle.ol_cli.specs.Limits.{most_fuel, most_workers}
 
 -- the numbers of a job are within the limits of their options
 abbrev pub IsWithinLimits : Asked → Type 0
-IsWithinLimits (run translation workers fuel heads name) = (1 ≤ workers) × (workers ≤ 64) × (fuel ≤ 8000000) × (1 ≤ heads)
+IsWithinLimits (run translation workers fuel heads name) = (1 ≤ workers) × (workers ≤ most_workers) × (fuel ≤ most_fuel) × (1 ≤ heads)
 IsWithinLimits (walk translation edges heads name) = 1 ≤ heads
-IsWithinLimits (view translation after name) = after ≤ 8000000
-IsWithinLimits (trace translation workers fuel name) = (1 ≤ workers) × (workers ≤ 64) × (fuel ≤ 8000000)
+IsWithinLimits (view translation after name) = after ≤ most_fuel
+IsWithinLimits (trace translation workers fuel name) = (1 ≤ workers) × (workers ≤ most_workers) × (fuel ≤ most_fuel)
 IsWithinLimits (check translation term journal) = Unit {0}
 IsWithinLimits (gen translation runs k) = k ≤ 10
-IsWithinLimits (demand translation fuel heads name) = (fuel ≤ 8000000) × (1 ≤ heads)
-IsWithinLimits (certify translation steps workers fuel heads name) = (1 ≤ workers) × (workers ≤ 64) × (fuel ≤ 8000000) × (1 ≤ heads)
-IsWithinLimits (net translation from_term workers fuel name) = (1 ≤ workers) × (workers ≤ 64) × (fuel ≤ 8000000)
-IsWithinLimits (equal translation workers fuel heads first second) = (1 ≤ workers) × (workers ≤ 64) × (fuel ≤ 8000000) × (1 ≤ heads)
+IsWithinLimits (demand translation fuel heads name) = (fuel ≤ most_fuel) × (1 ≤ heads)
+IsWithinLimits (certify translation steps workers fuel heads name) = (1 ≤ workers) × (workers ≤ most_workers) × (fuel ≤ most_fuel) × (1 ≤ heads)
+IsWithinLimits (net translation from_term workers fuel name) = (1 ≤ workers) × (workers ≤ most_workers) × (fuel ≤ most_fuel)
+IsWithinLimits (equal translation workers fuel heads first second) = (1 ≤ workers) × (workers ≤ most_workers) × (fuel ≤ most_fuel) × (1 ≤ heads)
 
 -- the jobs of these numbers, on files of these names
 abbrev pub run_on : RunNumbers → Text → Asked

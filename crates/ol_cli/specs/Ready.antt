@@ -16,12 +16,14 @@ use Rattle.ol_cli.specs.declared.ready.Ready.{Ready}
 use Rattle.ol_cli.specs.declared.ready.Ready.TheVariants as ready
 use Rattle.ol_words.specs.Texts.{Text}
 use Rattle.ol_cli.specs.Texts.{syntax_text, fault_text, bytes_text}
-use Rattle.ol_cli.specs.Answers.{IsTermFile, IsPastLimit, Seen, GaveAll, GaveTooMany}
+use Rattle.ol_cli.specs.TermFiles.{IsTermFile, IsPastLimit}
+use Rattle.ol_cli.specs.Answers.{Seen, GaveAll, GaveTooMany}
+use Rattle.ol_cli.specs.Limits.{most_term_bytes, most_depth, most_nodes}
 
 -- the bytes are refused so
 abbrev pub Refuses : Translation → List ℕ → Status → List ℕ → Type 0
 Refuses translation bytes status.Limit text = IsPastLimit translation bytes text
-Refuses translation bytes status.Syntax text = (at : ℕ) × (length bytes ≤ 1048576) × IsRefusedAt bytes at × (text ≡ syntax_text at)
+Refuses translation bytes status.Syntax text = (at : ℕ) × (length bytes ≤ most_term_bytes) × IsRefusedAt bytes at × (text ≡ syntax_text at)
 Refuses translation bytes _ text = ⊥
 
 -- the net is that of the term, with the numbers of its translation, and none of its nodes is gone
@@ -29,11 +31,11 @@ pub record IsNetOf (translation : Translation) (t : Tree) (names : List (List �
   pub same : SameNet (net_of net) (translation_of translation t (length names))
   pub whole : count_by is_some net.nodes ≡ length net.nodes
   pub small : IsSmallNet net
-  pub few : length net.nodes ≤ 200000
+  pub few : length net.nodes ≤ most_nodes
 
 -- the term isn't deep, each variable is bound, and its size is counted in 64 bits, so that it can be reduced
 pub record IsReducible (t : Tree) : Type 0 where
-  pub shallow : depth t ≤ 1000
+  pub shallow : depth t ≤ most_depth
   pub bound : is_below 0 t ≡ true
   pub few : term_size t < 2 ^ 64
 

@@ -6,8 +6,9 @@ ghost use Rattle.ol_cli.specs.Answers.{seen_of};
 ghost use Rattle.ol_cli.specs.Files.{most_bytes, limit_text, ComesOfFile, IsShort};
 
 use crate::answer::{Answer, refusal};
+use crate::limits::{MOST_JOURNAL_BYTES, MOST_NET_BYTES, MOST_TERM_BYTES};
 use crate::status::Status;
-use crate::texts::line;
+use crate::texts::count_line;
 use ol_io::{NoMemory, ReadAll, Source, read_all};
 use std::alloc::Global;
 
@@ -24,13 +25,13 @@ pub enum FileKind {
 
 impl FileKind {
     // How many bytes such a file may have.
-    fn most(self) -> usize
+    fn most(self) -> u32
         ensures { result ≡ most_bytes self }
     {
         match self {
-            FileKind::Term => 1_048_576,
-            FileKind::Journal => 402_653_184,
-            FileKind::Net => 33_554_432,
+            FileKind::Term => MOST_TERM_BYTES,
+            FileKind::Journal => MOST_JOURNAL_BYTES,
+            FileKind::Net => MOST_NET_BYTES,
         }
     }
 
@@ -39,9 +40,9 @@ impl FileKind {
         ensures { IfOk result (λ text. text.items ≡ limit_text self) }
     {
         match self {
-            FileKind::Term => line(alloc, "limit bytes 1048576"),
-            FileKind::Journal => line(alloc, "limit journal 402653184"),
-            FileKind::Net => line(alloc, "limit net 33554432"),
+            FileKind::Term => count_line(alloc, "limit bytes", MOST_TERM_BYTES),
+            FileKind::Journal => count_line(alloc, "limit journal", MOST_JOURNAL_BYTES),
+            FileKind::Net => count_line(alloc, "limit net", MOST_NET_BYTES),
         }
     }
 }
@@ -74,7 +75,7 @@ pub fn read_file<S: Source>(
     ensures contents { S.contents src.new ≡ S.contents src.old }
     ensures told { AreOfSince (λ _. S.contents src.old) (S.readings src.old) (S.readings src.new) }
 {
-    match read_all(alloc, src, name, kind.most()) {
+    match read_all(alloc, src, name, kind.most() as usize) {
         Err(ReadAll::NoMemory) => Err(NoMemory),
         Err(ReadAll::Fault) => {
             let answer = refusal(alloc, "read fault", Status::ReadFault)?;

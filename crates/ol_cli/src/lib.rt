@@ -6,6 +6,7 @@ mod commands;
 mod files;
 mod last_tree;
 mod laws;
+mod limits;
 mod numbers;
 mod ready;
 mod status;

@@ -1,6 +1,8 @@
 //! The numbers of the jobs that rewrite a term's net and read it back.
 ghost use Rattle.std.specs.Prelude.{◌≡◌};
+ghost use Rattle.ol_cli.specs.Limits.{plain_fuel, plain_heads, plain_workers};
 
+use crate::limits::{PLAIN_FUEL, PLAIN_HEADS, PLAIN_WORKERS};
 use ol_term::Translation;
 
 /// The numbers of a job that rewrites a term's net and reads it back.
@@ -39,11 +41,11 @@ impl RunNumbers {
     pub fn plain(translation: Translation) -> RunNumbers
         ensures { result ≡ record {
           translation = translation;
-          workers = 4;
-          fuel = 200000;
-          heads = 4096;
+          workers = plain_workers;
+          fuel = plain_fuel;
+          heads = plain_heads;
         } }
     {
-        RunNumbers::of(translation, 4, 200_000, 4_096)
+        RunNumbers::of(translation, PLAIN_WORKERS, PLAIN_FUEL, PLAIN_HEADS)
     }
 }

@@ -5,11 +5,13 @@ ghost use Rattle.ol_term.specs.declared.translations.Translation.{Translation};
 ghost use Rattle.ol_cli.specs.Jobs.{OfReadFiles};
 ghost use Rattle.ol_cli.specs.Answers.{seen_of};
 ghost use Rattle.ol_cli.specs.Ready.{ComesOfTerm, IsMadeReady, IsNetReady, Refuses};
+ghost use Rattle.ol_cli.specs.Limits.{most_term_bytes};
 
 use crate::answer::Answer;
 use crate::files::{File, FileKind, read_file};
+use crate::limits::{MOST_DEPTH, MOST_NODES};
 use crate::status::Status;
-use crate::texts::{line, syntax_line};
+use crate::texts::{count_line, syntax_line};
 use ol_io::{NoMemory, Source};
 use ol_net::Net;
 use ol_parse::{ParseFault, parse};
@@ -58,7 +60,7 @@ pub fn read_term<S: Source>(
 /// file is refused where its bytes aren't in the grammar, else where its term is too deep, else
 /// where the net has too many nodes.
 pub fn make_ready(alloc: Global, bytes: &[u8], translation: Translation) -> Result<Ready, NoMemory>
-    requires short { length bytes.now ≤ 1048576 }
+    requires short { length bytes.now ≤ most_term_bytes }
     ensures ready { IfOk result (IsMadeReady translation bytes.now) }
 {
     match parse(alloc, bytes) {
@@ -67,7 +69,7 @@ pub fn make_ready(alloc: Global, bytes: &[u8], translation: Translation) -> Resu
             Err(fault) => match fault {
                 TransFault::NoMemory => Err(NoMemory),
                 TransFault::TooMany => {
-                    let text = line(alloc, "limit nodes 200000")?;
+                    let text = count_line(alloc, "limit nodes", MOST_NODES)?;
                     let status = Status::Limit;
                     Ok(refused(text, status))
                 }
@@ -81,7 +83,7 @@ pub fn make_ready(alloc: Global, bytes: &[u8], translation: Translation) -> Resu
                 Ok(refused(text, status))
             }
             ParseFault::Depth { .. } => {
-                let text = line(alloc, "limit depth 1000")?;
+                let text = count_line(alloc, "limit depth", MOST_DEPTH)?;
                 let status = Status::Limit;
                 Ok(refused(text, status))
             }

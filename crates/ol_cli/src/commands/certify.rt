@@ -6,6 +6,7 @@ ghost use Rattle.ol_cli.specs.Jobs.{OfReadFiles};
 ghost use Rattle.ol_cli.specs.Answers.{seen_of};
 ghost use Rattle.ol_cli.specs.Inside.{AnswersTerm, ComesOf, certify_on, certify_by};
 ghost use Rattle.ol_cli.specs.Ready.{IsNetOf, IsReducible};
+ghost use Rattle.ol_cli.specs.Limits.{most_fuel, most_workers};
 
 use crate::answer::Answer;
 use crate::last_tree::last_tree;
@@ -33,8 +34,8 @@ pub fn answer_certify<R: Threads + Wait + Sync, S: Source, G: Gate + Sync>(
     gate: &G,
 ) -> Result<Answer, NoMemory>
     requires known { S.knows src.old name.now ≡ true }
-    requires workers { (1 ≤ numbers.workers) × (numbers.workers ≤ 64) }
-    requires fuel { numbers.fuel ≤ 8000000 }
+    requires workers { (1 ≤ numbers.workers) × (numbers.workers ≤ most_workers) }
+    requires fuel { numbers.fuel ≤ most_fuel }
     requires heads { 1 ≤ numbers.heads }
     ensures comes { OfReadFiles (S.readings src.old) (S.readings src.new) (λ files.
         IfOk result (ComesOf (certify_on numbers steps name.now)
@@ -67,8 +68,8 @@ fn certify_net<R: Threads + Wait + Sync, G: Gate + Sync>(
 ) -> Result<Answer, NoMemory>
     requires net { IsNetOf numbers.translation (tree_of file.now.term) file.now.names net.now }
     requires term { IsReducible (tree_of file.now.term) }
-    requires workers { (1 ≤ numbers.workers) × (numbers.workers ≤ 64) }
-    requires fuel { numbers.fuel ≤ 8000000 }
+    requires workers { (1 ≤ numbers.workers) × (numbers.workers ≤ most_workers) }
+    requires fuel { numbers.fuel ≤ most_fuel }
     requires heads { 1 ≤ numbers.heads }
     ensures answer { IfOk result (λ a.
         AnswersTerm (certify_by numbers steps) file.now a.status a.text.items) }

@@ -8,6 +8,7 @@ ghost use Rattle.ol_cli.specs.Jobs.{OfReadFiles};
 ghost use Rattle.ol_cli.specs.Answers.{seen_of};
 ghost use Rattle.ol_cli.specs.Inside.{AnswersTerm, ComesOf, IsReadByNames, demand_by};
 ghost use Rattle.ol_cli.specs.Ready.{IsNetOf};
+ghost use Rattle.ol_cli.specs.Limits.{most_fuel};
 
 use crate::answer::Answer;
 use crate::ready::{Ready, read_term};
@@ -32,7 +33,7 @@ pub fn answer_demand<S: Source>(
     src: &mut S,
 ) -> Result<Answer, NoMemory>
     requires known { S.knows src.old name.now ≡ true }
-    requires fuel { fuel ≤ 8000000 }
+    requires fuel { fuel ≤ most_fuel }
     requires heads { 1 ≤ heads }
     ensures comes { OfReadFiles (S.readings src.old) (S.readings src.new) (λ files.
         IfOk result (ComesOf (demand translation fuel heads name.now)
@@ -63,7 +64,7 @@ fn demand_net(
     heads: u32,
 ) -> Result<Answer, NoMemory>
     requires net { IsNetOf translation (tree_of file.now.term) file.now.names net.now }
-    requires fuel { fuel ≤ 8000000 }
+    requires fuel { fuel ≤ most_fuel }
     requires heads { 1 ≤ heads }
     ensures answer { IfOk result (λ a.
         AnswersTerm (demand_by translation fuel heads) file.now a.status a.text.items) }

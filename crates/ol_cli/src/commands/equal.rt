@@ -6,6 +6,7 @@ ghost use Rattle.ol_cli.specs.Jobs.{OfReadFiles};
 ghost use Rattle.ol_cli.specs.Answers.{RefusesFirst, seen_of};
 ghost use Rattle.ol_cli.specs.Inside.{ComesOf, equal_on};
 ghost use Rattle.ol_cli.specs.Sides.{ComesOfSide, EndsSecond};
+ghost use Rattle.ol_cli.specs.Limits.{most_fuel, most_workers};
 
 use crate::answer::Answer;
 use crate::last_tree::last_tree;
@@ -42,8 +43,8 @@ pub fn answer_equal<R: Threads + Wait + Sync, S: Source, G: Gate + Sync>(
 ) -> Result<Answer, NoMemory>
     requires first { S.knows src.old first.now ≡ true }
     requires second { S.knows src.old second.now ≡ true }
-    requires workers { (1 ≤ numbers.workers) × (numbers.workers ≤ 64) }
-    requires fuel { numbers.fuel ≤ 8000000 }
+    requires workers { (1 ≤ numbers.workers) × (numbers.workers ≤ most_workers) }
+    requires fuel { numbers.fuel ≤ most_fuel }
     requires heads { 1 ≤ numbers.heads }
     ensures comes { OfReadFiles (S.readings src.old) (S.readings src.new) (λ files.
         IfOk result (ComesOf (equal_on numbers first.now second.now)
@@ -79,8 +80,8 @@ fn answer_second<R: Threads + Wait + Sync, S: Source, G: Gate + Sync>(
 ) -> Result<Answer, NoMemory>
     requires known { S.knows src.old second.now ≡ true }
     requires named { AreNamed (length names.now) tree.now }
-    requires workers { (1 ≤ numbers.workers) × (numbers.workers ≤ 64) }
-    requires fuel { numbers.fuel ≤ 8000000 }
+    requires workers { (1 ≤ numbers.workers) × (numbers.workers ≤ most_workers) }
+    requires fuel { numbers.fuel ≤ most_fuel }
     requires heads { 1 ≤ numbers.heads }
     ensures caused { OfReadFiles (S.readings src.old) (S.readings src.new) (λ files.
         IfOk result (λ a. EndsSecond numbers tree.now names.now
@@ -117,8 +118,8 @@ fn read_side<R: Threads + Wait + Sync, S: Source, G: Gate + Sync>(
     gate: &G,
 ) -> Result<Side, NoMemory>
     requires known { S.knows src.old name.now ≡ true }
-    requires workers { (1 ≤ numbers.workers) × (numbers.workers ≤ 64) }
-    requires fuel { numbers.fuel ≤ 8000000 }
+    requires workers { (1 ≤ numbers.workers) × (numbers.workers ≤ most_workers) }
+    requires fuel { numbers.fuel ≤ most_fuel }
     requires heads { 1 ≤ numbers.heads }
     ensures comes { OfReadFiles (S.readings src.old) (S.readings src.new) (λ files.
         IfOk result (ComesOfSide numbers

@@ -1,10 +1,14 @@
 //! The command `gen`: a term that is made, printed or evaluated.
 ghost use Rattle.std.specs.Prelude.{◌≡◌, ◌≤◌, length, IfOk};
 ghost use Rattle.ol_words.specs.Asked.{gen};
-ghost use Rattle.ol_cli.specs.Answers.{FileAnswer, Seen, plain_run};
-ghost use Rattle.ol_cli.specs.Handed.{FileHands, WhereEnded};
+ghost use Rattle.ol_cli.specs.TermFiles.{FileAnswer};
+ghost use Rattle.ol_cli.specs.Answers.{Seen};
+ghost use Rattle.ol_cli.specs.Generate.{plain_run};
+ghost use Rattle.ol_cli.specs.TermFiles.{FileHands};
+ghost use Rattle.ol_cli.specs.Handed.{WhereEnded};
 ghost use Rattle.ol_cli.specs.Inside.{ComesOf};
 ghost use Rattle.ol_cli.specs.ReadAgain.{FileIsReadAgain};
+ghost use Rattle.ol_cli.specs.Limits.{most_term_bytes};
 
 use crate::answer::Answer;
 use crate::commands::run::run_net;
@@ -50,7 +54,7 @@ fn run_made<R: Threads + Wait + Sync, G: Gate + Sync>(
     translation: Translation,
     gate: &G,
 ) -> Result<Answer, NoMemory>
-    requires short { length bytes.now ≤ 1048576 }
+    requires short { length bytes.now ≤ most_term_bytes }
     ensures answer { IfOk result (λ a.
         FileAnswer (plain_run translation) bytes.now a.status a.text.items) }
     ensures read { IfOk result (λ a.

@@ -8,15 +8,18 @@ ghost use Rattle.ol_words.specs.Asked as jobs;
 ghost use Rattle.ol_cli.specs.Jobs.{OfReadFiles};
 ghost use Rattle.ol_cli.specs.Answers.{seen_of};
 ghost use Rattle.ol_cli.specs.Inside.{ComesOf};
-ghost use Rattle.ol_cli.specs.NetAnswers.{NetAnswer, NetFileAnswer, WritesNet};
+ghost use Rattle.ol_cli.specs.Net.{NetAnswer, NetFileAnswer, WritesNet};
 ghost use Rattle.ol_cli.specs.NetLines.{AreLinesOf};
 ghost use Rattle.ol_cli.specs.Ready.{HoldsOfTerms};
+ghost use Rattle.ol_cli.specs.Limits.{most_net_bytes, most_nodes};
+ghost use Rattle.ol_cli.specs.Limits.{most_fuel, most_workers};
 
-use crate::answer::{Answer, refusal};
+use crate::answer::Answer;
 use crate::files::{File, FileKind, read_file};
+use crate::limits::MOST_NODES;
 use crate::ready::{Ready, read_term};
 use crate::status::Status;
-use crate::texts::{append, count_lines, spent_line, term_line};
+use crate::texts::{append, count_line, count_lines, spent_line, term_line};
 use ol_io::{Gate, NoMemory, Source};
 use ol_net::Net;
 use ol_netfile::{fault_text, read_net, stuck_text, write_net};
@@ -26,9 +29,6 @@ use ol_term::Translation;
 use std::alloc::Global;
 use std::sync::Wait;
 use std::thread::Threads;
-
-/// The greatest number of nodes of a net that is printed.
-const MOST_NODES: u32 = 200_000;
 
 /// The answer of `net` with its flag to the term file of this name: the text of the term's net.
 pub fn answer_net_of_term<S: Source>(
@@ -61,7 +61,7 @@ pub fn answer_net_of_term<S: Source>(
 fn net_text(alloc: Global, net: &Net) -> Result<Vec<u8>, NoMemory>
     requires whole { count_by is_some net.now.nodes ≡ length net.now.nodes }
     requires small { IsSmallNet net.now }
-    requires few { length net.now.nodes ≤ 200000 }
+    requires few { length net.now.nodes ≤ most_nodes }
     ensures { IfOk result (λ text. HoldsOfTerms net.now (λ translation t names.
         WritesNet translation t names text.items)) }
 {
@@ -80,8 +80,8 @@ pub fn answer_net<R: Threads + Wait + Sync, S: Source, G: Gate + Sync>(
     gate: &G,
 ) -> Result<Answer, NoMemory>
     requires known { S.knows src.old name.now ≡ true }
-    requires workers { (1 ≤ workers) × (workers ≤ 64) }
-    requires fuel { fuel ≤ 8000000 }
+    requires workers { (1 ≤ workers) × (workers ≤ most_workers) }
+    requires fuel { fuel ≤ most_fuel }
     ensures comes { OfReadFiles (S.readings src.old) (S.readings src.new) (λ files.
         IfOk result (λ a. (translation : Translation) →
         ComesOf (jobs.net translation false workers fuel name.now)
@@ -110,9 +110,9 @@ fn evaluate_file<R: Threads + Wait + Sync, G: Gate + Sync>(
     fuel: u32,
     gate: &G,
 ) -> Result<Answer, NoMemory>
-    requires short { length bytes.now ≤ 33554432 }
-    requires workers { (1 ≤ workers) × (workers ≤ 64) }
-    requires fuel { fuel ≤ 8000000 }
+    requires short { length bytes.now ≤ most_net_bytes }
+    requires workers { (1 ≤ workers) × (workers ≤ most_workers) }
+    requires fuel { fuel ≤ most_fuel }
     ensures answer { IfOk result (λ a. NetFileAnswer fuel bytes.now a.status a.text.items) }
     ensures closed { IfOk result (λ a. a.closed ≡ None) }
 {
@@ -141,8 +141,8 @@ fn rewrite<R: Threads + Wait + Sync, G: Gate + Sync>(
 ) -> Result<Answer, NoMemory>
     requires whole { count_by is_some net.now.nodes ≡ length net.now.nodes }
     requires small { IsSmallNet net.now }
-    requires workers { (1 ≤ workers) × (workers ≤ 64) }
-    requires fuel { fuel ≤ 8000000 }
+    requires workers { (1 ≤ workers) × (workers ≤ most_workers) }
+    requires fuel { fuel ≤ most_fuel }
     ensures answer { IfOk result (λ a. NetAnswer net.now fuel a.status a.text.items) }
     ensures closed { IfOk result (λ a. a.closed ≡ None) }
 {
@@ -161,8 +161,8 @@ fn rewrite<R: Threads + Wait + Sync, G: Gate + Sync>(
             last.is_tabled();
             let stuck = last.stuck();
             if last.nodes() > MOST_NODES {
-                let answer = refusal(alloc, "limit nodes 200000", Status::Limit)?;
-                return Ok(answer);
+                let text = count_line(alloc, "limit nodes", MOST_NODES)?;
+                return Ok(Answer::without_words(text, Status::Limit));
             }
             let text = net_lines(alloc, &last, counts(&journal), stuck)?;
             Ok(Answer::without_words(text, Status::Done))
@@ -173,7 +173,7 @@ fn rewrite<R: Threads + Wait + Sync, G: Gate + Sync>(
 // The lines of a net that is left: the interactions of each rule, the number of stuck pairs, these
 // pairs, and the net.
 fn net_lines(alloc: Global, last: &Net, counts: Counts, stuck: u32) -> Result<Vec<u8>, NoMemory>
-    requires few_nodes { length (net_of last.now).nodes ≤ 200000 }
+    requires few_nodes { length (net_of last.now).nodes ≤ most_nodes }
     requires few_ports { last.now.free ≤ 1000000 }
     ensures { IfOk result (λ text. AreLinesOf last.now counts stuck text.items) }
 {

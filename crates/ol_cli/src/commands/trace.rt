@@ -4,10 +4,12 @@ ghost use Rattle.ol_io.specs.Readings.{AreOfSince};
 ghost use Rattle.ol_wire.specs.Sizes.{IsSmallNet};
 ghost use Rattle.ol_words.specs.Asked.{trace};
 ghost use Rattle.ol_cli.specs.Jobs.{OfReadFiles};
-ghost use Rattle.ol_cli.specs.Answers.{seen_of, TraceAnswer};
-ghost use Rattle.ol_cli.specs.Handed.{TraceHands};
+ghost use Rattle.ol_cli.specs.Answers.{seen_of};
+ghost use Rattle.ol_cli.specs.Trace.{TraceAnswer};
+ghost use Rattle.ol_cli.specs.Trace.{TraceHands};
 ghost use Rattle.ol_cli.specs.Inside.{ComesOf};
 ghost use Rattle.ol_cli.specs.Ready.{HoldsOfTerms};
+ghost use Rattle.ol_cli.specs.Limits.{most_fuel, most_workers};
 
 use crate::answer::Answer;
 use crate::ready::{Ready, read_term};
@@ -34,8 +36,8 @@ pub fn answer_trace<R: Threads + Wait + Sync, S: Source, G: Gate + Sync>(
     gate: &G,
 ) -> Result<Answer, NoMemory>
     requires known { S.knows src.old name.now ≡ true }
-    requires workers { (1 ≤ workers) × (workers ≤ 64) }
-    requires fuel { fuel ≤ 8000000 }
+    requires workers { (1 ≤ workers) × (workers ≤ most_workers) }
+    requires fuel { fuel ≤ most_fuel }
     ensures comes { OfReadFiles (S.readings src.old) (S.readings src.new) (λ files.
         IfOk result (ComesOf (trace translation workers fuel name.now)
         (seen_of S.faults files S.given S.ended src.old src.new))) }
@@ -66,8 +68,8 @@ fn trace_net<R: Threads + Wait + Sync, G: Gate + Sync>(
 ) -> Result<Answer, NoMemory>
     requires whole { count_by is_some net.now.nodes ≡ length net.now.nodes }
     requires small { IsSmallNet net.now }
-    requires workers { (1 ≤ workers) × (workers ≤ 64) }
-    requires fuel { fuel ≤ 8000000 }
+    requires workers { (1 ≤ workers) × (workers ≤ most_workers) }
+    requires fuel { fuel ≤ most_fuel }
     ensures answer { IfOk result (λ a. HoldsOfTerms net.now (λ translation t names.
         TraceAnswer translation t names fuel a.status a.text.items)) }
     ensures closed { IfOk result (λ a. HoldsOfTerms net.now (λ translation t names.

@@ -5,9 +5,10 @@ ghost use Rattle.ol_wire.specs.Sizes.{IsSmallNet};
 ghost use Rattle.ol_words.specs.Asked.{view};
 ghost use Rattle.ol_cli.specs.Jobs.{OfReadFiles};
 ghost use Rattle.ol_cli.specs.Answers.{seen_of};
-ghost use Rattle.ol_cli.specs.Evaluation.{Views};
+ghost use Rattle.ol_cli.specs.View.{Views};
 ghost use Rattle.ol_cli.specs.Inside.{ComesOf};
 ghost use Rattle.ol_cli.specs.Ready.{HoldsOfTerms};
+ghost use Rattle.ol_cli.specs.Limits.{most_fuel};
 
 use crate::answer::Answer;
 use crate::ready::{Ready, read_term};
@@ -28,7 +29,7 @@ pub fn answer_view<S: Source>(
     src: &mut S,
 ) -> Result<Answer, NoMemory>
     requires known { S.knows src.old name.now ≡ true }
-    requires leads { leads ≤ 8000000 }
+    requires leads { leads ≤ most_fuel }
     ensures comes { OfReadFiles (S.readings src.old) (S.readings src.new) (λ files.
         IfOk result (ComesOf (view translation leads name.now)
         (seen_of S.faults files S.given S.ended src.old src.new))) }
@@ -51,7 +52,7 @@ pub fn answer_view<S: Source>(
 // is.
 fn view_net(alloc: Global, net: &Net, leads: u32) -> Result<Vec<u8>, NoMemory>
     requires small { IsSmallNet net.now }
-    requires leads { leads ≤ 8000000 }
+    requires leads { leads ≤ most_fuel }
     ensures { IfOk result (λ text. HoldsOfTerms net.now (λ translation t names.
         Views translation t names leads text.items)) }
 {

@@ -1,6 +1,6 @@
 use Rattle.std.proofs.Common.{refl}
 use Rattle.ol_term.specs.Trees.{tree_of}
-use Rattle.ol_cli.specs.Answers.{deep, large}
+use Rattle.ol_cli.specs.TermFiles.{deep, large}
 use Rattle.ol_cli.proofs.Readied.{ready_net}
 use Rattle.ol_cli.proofs.ready.make_ready.Goals as goal
 

@@ -1,5 +1,5 @@
 use Rattle.ol_term.specs.Trees.{tree_of}
-use Rattle.ol_cli.specs.Answers.{plain_run}
+use Rattle.ol_cli.specs.Generate.{plain_run}
 use Rattle.ol_cli.proofs.Handing.{file_hands}
 use Rattle.ol_cli.proofs.ReadAgain.{file_read}
 use Rattle.ol_cli.proofs.Readied.{refuses_answer, refuses_read, refuses_hands, term_answer}

@@ -1,5 +1,5 @@
 use Rattle.std.proofs.Common.{refl, ap, ◌∙◌}
-use Rattle.ol_cli.specs.NetAnswers.{bad, of_net}
+use Rattle.ol_cli.specs.Net.{bad, of_net}
 use Rattle.ol_cli.specs.Texts.{line}
 use Rattle.ol_cli.proofs.NetFiles.{read_whole, read_small}
 use Rattle.ol_cli.proofs.commands.net.evaluate_file.Goals as goal

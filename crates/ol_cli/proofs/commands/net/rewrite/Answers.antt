@@ -2,7 +2,6 @@ use Rattle.std.proofs.Common.{arith, subst}
 use Rattle.ol_cli.specs.NetLines.{AreLinesOf}
 use Rattle.ol_cli.proofs.LastTrees.{ports_stay}
 use Rattle.ol_cli.proofs.NetRuns.{spent_goes_on, done_prints, done_is_large}
-use Rattle.ol_cli.proofs.NetFiles.{large_answer}
 use Rattle.ol_cli.proofs.commands.net.rewrite.Goals as goal
 
 pub returns-in-Spent-clause-answer : goal.returns-in-Spent-clause-answer
@@ -13,10 +12,9 @@ returns-in-Spent-clause-answer g c =
 pub returns-then-nodes-gt-MOST_NODES-clause-answer : goal.returns-then-nodes-gt-MOST_NODES-clause-answer
 returns-then-nodes-gt-MOST_NODES-clause-answer g c =
     let d = rw c.in-Done.is at c.in_ok-reduce.ensures.reduced in
-    let e = c.in_ok-answer-in-Done.ensures in
     let many = c.nodes.ensures.nodes in
-    large_answer c.args.net.now c.args.fuel c.in_ok-answer-in-Done.answer.status c.in_ok-answer-in-Done.answer.text.items e.status e.text
-    (done_is_large c.args.net.now c.is_net.ensures.net c.args.fuel c.args.workers c.in-Done.journal c.in-Done.words c.in-Done.last d c.stuck-stuck.result c.is_net-in-Done.ensures.net c.stuck-stuck.ensures.stuck (omega (arith, many, c.if-nodes-gt-MOST_NODES.true)))
+    rw c.without_words-then-nodes-gt-MOST_NODES.ensures
+    (done_is_large c.args.net.now c.is_net.ensures.net c.args.fuel c.args.workers c.in-Done.journal c.in-Done.words c.in-Done.last d c.stuck-stuck.result c.is_net-in-Done.ensures.net c.stuck-stuck.ensures.stuck (omega (arith, many, c.if-nodes-gt-MOST_NODES.true)), c.in_ok-text-in-Done.ensures)
 
 pub net_lines-requires-clause-few_ports : goal.net_lines-requires-clause-few_ports
 net_lines-requires-clause-few_ports g c =
@@ -27,7 +25,7 @@ pub returns-clause-answer : goal.returns-clause-answer
 returns-clause-answer g c =
     let d = rw c.in-Done.is at c.in_ok-reduce.ensures.reduced in
     let few = c.nodes.ensures.nodes in
-    let lines = subst (λ k. AreLinesOf c.in-Done.last k c.stuck-stuck.result c.in_ok-text-in-Done.text.items) c.counts.ensures c.in_ok-text-in-Done.ensures in
+    let lines = subst (λ k. AreLinesOf c.in-Done.last k c.stuck-stuck.result c.in_ok-text-in-Done-2.text.items) c.counts.ensures c.in_ok-text-in-Done-2.ensures in
     rw c.without_words-in-Done.ensures
     (done_prints c.args.net.now c.is_net.ensures.net c.args.fuel c.args.workers c.in-Done.journal c.in-Done.words c.in-Done.last d c.stuck-stuck.result c.is_net-in-Done.ensures.net c.stuck-stuck.ensures.stuck
-    c.is_tabled.ensures.tables (omega (arith, few, c.if-nodes-gt-MOST_NODES.false)) c.in_ok-text-in-Done.text.items lines)
+    c.is_tabled.ensures.tables (omega (arith, few, c.if-nodes-gt-MOST_NODES.false)) c.in_ok-text-in-Done-2.text.items lines)

@@ -1,6 +1,6 @@
 use Rattle.std.proofs.Common.{ℕ, List}
 use Rattle.ol_term.specs.Trees.{tree_of}
-use Rattle.ol_cli.specs.Evaluation.{Walks}
+use Rattle.ol_cli.specs.Walk.{Walks}
 use Rattle.ol_cli.specs.Texts.{line}
 use Rattle.ol_cli.proofs.Evaluated.{walks_with, reads_text}
 use Rattle.ol_cli.specs.declared.status.Status.TheVariants.{Done}

@@ -1,33 +1,33 @@
--- What a file with a net is answered, and a term whose net is printed.
-use Rattle.std.specs.Prelude.{◌≡◌, ◌≢◌, ℕ, ◌≤◌, ◌<◌, List, ◌++◌, length, count_by, is_some}
-use Rattle.ol_term.specs.declared.translations.Translation.{Translation}
-use Rattle.ol_term.specs.Trees.{Tree}
+-- `net`: what a file with a net is answered, and a term whose net is printed.
+use Rattle.std.specs.Prelude.{List, count_by, is_some, length, ℕ, ◌++◌, ◌<◌, ◌≡◌, ◌≢◌, ◌≤◌}
 use Rattle.ol_net.specs.Graph.{Graph}
 use Rattle.ol_net.specs.Nets.{NamedNet, SameNet, net_under}
 use Rattle.ol_net.specs.Numbered.{net_of}
-use Rattle.ol_net.specs.Pairs.{HasStuck, IsComplete, HasActive}
-use Rattle.ol_netfile.specs.NetTexts.{IsNetRead, IsNetFault}
-use Rattle.ol_netfile.specs.Written.{net_text}
+use Rattle.ol_net.specs.Pairs.{HasActive, HasStuck, IsComplete}
 use Rattle.ol_netfile.specs.FaultTexts.{fault_text}
+use Rattle.ol_netfile.specs.NetTexts.{IsNetFault, IsNetRead}
 use Rattle.ol_netfile.specs.StuckPairs.{IsPairsText}
+use Rattle.ol_netfile.specs.Written.{net_text}
 use Rattle.ol_netfile.specs.declared.faults.NetFault.{NetFault}
-use Rattle.ol_netfile.specs.declared.faults.NetFault.TheVariants as fault
+use Rattle.ol_readback.specs.Heads.{live}
+use Rattle.ol_reduce.specs.Frozen.{IsFrozen}
+use Rattle.ol_rules.specs.Counting.{counts_of}
+use Rattle.ol_rules.specs.Runs.{IsOneThread, IsRun}
 use Rattle.ol_rules.specs.declared.journal.Counts.{Counts}
+use Rattle.ol_rules.specs.declared.journal.Entry.{Entry}
 use Rattle.ol_rules.specs.declared.journal.NodeName.{NodeName}
 use Rattle.ol_rules.specs.declared.journal.NodeName.TheVariants.{Init}
-use Rattle.ol_rules.specs.declared.journal.Entry.{Entry}
-use Rattle.ol_rules.specs.Counting.{counts_of}
-use Rattle.ol_rules.specs.Runs.{IsRun, IsOneThread}
-use Rattle.ol_reduce.specs.Frozen.{IsFrozen}
-use Rattle.ol_readback.specs.Heads.{live}
+use Rattle.ol_term.specs.Trees.{Tree}
+use Rattle.ol_term.specs.declared.translations.Translation.{Translation}
 use Rattle.ol_translate.specs.Translation.{translation_of}
 use Rattle.ol_view.specs.Laws.{IsTable}
+use Rattle.ol_cli.specs.Listing.{ListsOnce}
+use Rattle.ol_cli.specs.Texts.{counts_text, line, net_bytes_text, nodes_text, spent_text}
 use Rattle.ol_cli.specs.declared.status.Status.{Status}
 use Rattle.ol_cli.specs.declared.status.Status.TheVariants as status
-use Rattle.ol_cli.specs.Listing.{ListsOnce}
-use Rattle.ol_cli.specs.Texts.{line, nodes_text, net_bytes_text, spent_text, counts_text}
-
--- ---- the net of a term
+use Rattle.ol_netfile.specs.declared.faults.NetFault.TheVariants as fault
+use Rattle.ol_cli.specs.Shapes.{OnlyDone}
+use Rattle.ol_cli.specs.Limits.{most_net_bytes, most_nodes}
 
 -- The net of the term, with the numbers of its translation, has this text.
 pub record WritesNet (translation : Translation) (t : Tree) (names : List (List ℕ)) (text : List ℕ) : Type 0 where
@@ -36,6 +36,10 @@ pub record WritesNet (translation : Translation) (t : Tree) (names : List (List 
   pub whole : count_by is_some net.nodes ≡ length net.nodes
   pub tabled : IsTable net
   pub written : text ≡ net_text net
+
+-- What `net` with its flag answers to a term: the text of its net.
+abbrev pub WritesNetAnswer : Translation → Tree → List (List ℕ) → Status → List ℕ → Type 0
+WritesNetAnswer translation t names = OnlyDone (WritesNet translation t names)
 
 -- ---- a net that is rewritten
 
@@ -84,7 +88,7 @@ pub record PrintsNet (net : Graph) (fuel : ℕ) (text : List ℕ) : Type 0 where
   pub stuck : ℕ
   pub nodes : ℕ
   pub ends : NetRunEnds net fuel counts stuck nodes
-  pub few : nodes ≤ 200000
+  pub few : nodes ≤ most_nodes
   pub rest : List ℕ
   pub tells : TellsLast net rest
   pub written : text ≡ counts_text counts stuck ++ rest
@@ -95,7 +99,7 @@ pub record IsPastNodes (net : Graph) (fuel : ℕ) : Type 0 where
   pub stuck : ℕ
   pub nodes : ℕ
   pub ends : NetRunEnds net fuel counts stuck nodes
-  pub many : 200000 < nodes
+  pub many : most_nodes < nodes
 
 -- what a net is answered
 abbrev pub NetAnswer : Graph → (fuel : ℕ) → Status → List ℕ → Type 0
@@ -108,13 +112,13 @@ NetAnswer net fuel _ text = ⊥
 
 -- the bytes are the text of this net, and no more than are read
 pub record IsNetFile (bytes : List ℕ) (net : Graph) : Type 0 where
-  pub short : length bytes ≤ 33554432
+  pub short : length bytes ≤ most_net_bytes
   pub tabled : IsTable net
   pub read : IsNetRead bytes net
 
 -- What the bytes of a file with a net are answered: a limit that they pass, what is wrong with them, or the answer to their net.
 pub data NetFileAnswer (fuel : ℕ) (bytes : List ℕ) (st : Status) (text : List ℕ) : Type 0 where
-  long : 33554432 < length bytes → st ≡ status.Limit → text ≡ net_bytes_text → NetFileAnswer fuel bytes st text
-  bad : length bytes ≤ 33554432 → (f : NetFault) → IsNetFault bytes f → f ≢ fault.NoMemory → st ≡ status.BadNet →
+  long : most_net_bytes < length bytes → st ≡ status.Limit → text ≡ net_bytes_text → NetFileAnswer fuel bytes st text
+  bad : length bytes ≤ most_net_bytes → (f : NetFault) → IsNetFault bytes f → f ≢ fault.NoMemory → st ≡ status.BadNet →
       text ≡ line (fault_text f) → NetFileAnswer fuel bytes st text
   of_net : {net : Graph} → IsNetFile bytes net → NetAnswer net fuel st text → NetFileAnswer fuel bytes st text
