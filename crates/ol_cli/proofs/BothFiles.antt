@@ -4,19 +4,12 @@ use Rattle.ol_io.specs.Outside.{IsAllOf}
 use Rattle.ol_readback.specs.declared.answers.ReadNode.{ReadNode}
 use Rattle.ol_words.specs.Texts.{Text}
 use Rattle.ol_words.specs.Asked as jobs
-use Rattle.ol_cli.specs.declared.comparing.Side.{Side}
-use Rattle.ol_cli.specs.declared.comparing.Side.TheVariants.{Refused, Read}
-use Rattle.ol_cli.specs.declared.evaluation.RunNumbers.{RunNumbers}
+use Rattle.ol_cli.specs.declared.numbers.RunNumbers.{RunNumbers}
 use Rattle.ol_cli.specs.declared.status.Status.{Status}
 use Rattle.ol_cli.specs.Jobs.{Files}
-use Rattle.ol_cli.specs.Answers.{Seen, seen, on_second, GaveAll, HasTree, JobCause, by_second, by_both}
-use Rattle.ol_cli.specs.Sides.{run_on, IsReadOf, IsSideOf, ComesOf, EndsSecond, refused, compared}
-use Rattle.ol_cli.proofs.Exact.{read_cause}
-
--- what comes of a file is what comes of its bytes
-pub comes_of : (n : RunNumbers) (s : Seen) (name : Text) (bytes : List ℕ) → s.faults' ≡ s.faults → GaveAll s name bytes → (side : Side) → IsSideOf n bytes side → ComesOf n s name side
-comes_of n s name bytes same gave (Refused answer) h = (h.0, read_cause (run_on n name) s answer.status answer.text.items same (bytes, gave, h.1 name), h.2)
-comes_of n s name bytes same gave (Read tree names) h = (same, (bytes, gave, h.0), h.1)
+use Rattle.ol_cli.specs.Answers.{Seen, seen, on_second, JobCause, by_second, by_both}
+use Rattle.ol_cli.specs.Equal.{HasTree}
+use Rattle.ol_cli.specs.Sides.{IsReadOf, EndsSecond, refused, compared}
 
 -- what the read of the second file ended with, after that of the first
 after_first : (n : RunNumbers) (tree : List ReadNode) (names : List (List ℕ)) (faults mid faults' given : ℕ) (contents then : Files) (ended : Bool) (name : Text) (st : Status) (text : List ℕ) → mid ≡ faults → then ≡ contents →

@@ -15,7 +15,10 @@ use Rattle.ol_words.specs.Asked as jobs
 use Rattle.ol_cli.specs.declared.status.Status.{Status}
 use Rattle.ol_cli.specs.declared.status.Status.TheVariants.{Done, Usage, Syntax, Spent, ReadFault, WriteFault, NoMemory, Limit, BadNet}
 use Rattle.ol_cli.specs.Jobs.{Files, AreTold, TellsFiles, term_bytes, translation_in}
-use Rattle.ol_cli.specs.Answers.{IsTermFile, FileAnswer, JournalAnswer, JobAnswer, Makes, plain_run, IsAnswer, Ends, seen}
+use Rattle.ol_cli.specs.TermFiles.{IsTermFile, FileAnswer}
+use Rattle.ol_cli.specs.Check.{JournalAnswer}
+use Rattle.ol_cli.specs.Answers.{JobAnswer, IsAnswer, Ends, seen}
+use Rattle.ol_cli.specs.Generate.{Makes, plain_run}
 use Rattle.ol_cli.specs.Answers as answers
 use Rattle.ol_cli.specs.Completeness.{EndsWithinFuel, HasTermWithin, HasJournalWithin, CanDo, AskForWhatCanBeDone, IsDoneOrNothing}
 use Rattle.ol_cli.proofs.Exact.{ends_exact}
@@ -23,7 +26,7 @@ use Rattle.ol_cli.proofs.DemandRuns.{demand_ends_or_not}
 use Rattle.ol_cli.proofs.OnePrint.{ends_or_runs_out}
 use Rattle.ol_cli.proofs.OneAnswer.{file_net, OfTerm, of_term, OfTree, OfFile, of_file_answer, OfJournal, of_journal_answer, one_bytes, one_job, own_job}
 use Rattle.ol_cli.proofs.OneAnswer as by
-use Rattle.ol_cli.specs.NetAnswers.{IsNetFile}
+use Rattle.ol_cli.specs.Net.{IsNetFile}
 use Rattle.ol_cli.proofs.NetFiles.{done_net_file}
 
 -- ---- a term whose run ends within the fuel

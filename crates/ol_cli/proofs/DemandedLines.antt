@@ -30,8 +30,8 @@ use Rattle.ol_words.specs.Asked.{Asked, run, walk, view, trace, check, gen, dema
 use Rattle.ol_words.specs.Asked as jobs
 use Rattle.ol_lines.specs.NormalForms.{IsNormalFormOf}
 use Rattle.ol_lines.proofs.Read.{read_line, line_is_normal_form}
-use Rattle.ol_cli.specs.Evaluation.{start_net_of_term}
-use Rattle.ol_cli.specs.DemandOrder.{DemandEnds, DemandRunsOut}
+use Rattle.ol_cli.specs.Run.{start_net_of_term}
+use Rattle.ol_cli.specs.Demand.{DemandEnds, DemandRunsOut}
 use Rattle.ol_cli.specs.Sources.{DemandsTree, TellsTree, WritesTree}
 use Rattle.ol_cli.specs.NormalForms.{PrintsTerm, FirstLine, LineSays, IsFoundOnDemand}
 use Rattle.ol_cli.specs.NormalForms.{count_of_variables}

@@ -13,7 +13,8 @@ use Rattle.ol_readback.specs.ReadTrees.{IsTree}
 use Rattle.ol_rules.proofs.LeadRuns.{as_run}
 use Rattle.ol_diamond.proofs.OneThreadRuns.{runs_agree, goes_on_shorter}
 use Rattle.ol_cli.specs.Texts.{answer_text}
-use Rattle.ol_cli.specs.Evaluation.{start_net_of_term, Shows, EveryRunPrints, EveryRunIsLonger}
+use Rattle.ol_cli.specs.Run.{start_net_of_term, Shows}
+use Rattle.ol_cli.specs.EveryRun.{EveryRunPrints, EveryRunIsLonger}
 use Rattle.ol_cli.proofs.ListedOnce.{net_under_once}
 use Rattle.ol_cli.proofs.NamedNets.{named_net}
 use Rattle.ol_cli.proofs.TreeTransport.{tree_under}

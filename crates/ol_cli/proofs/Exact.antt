@@ -15,10 +15,14 @@ use Rattle.ol_cli.specs.declared.status.Status.{Status}
 use Rattle.ol_cli.specs.declared.status.Status.TheVariants.{Done, Usage, Syntax, Spent, ReadFault, WriteFault, NoMemory, Limit, BadNet}
 use Rattle.ol_cli.specs.Jobs.{AskFor, AskForNothing, Files, AreTold, HasTermFile, TellsFiles, count_of_files, files_of, file_name}
 use Rattle.ol_cli.specs.Texts.{bytes_text, fault_text}
-use Rattle.ol_cli.specs.Answers.{IsTermFile, TermAnswer, FileAnswer, JournalAnswer, JobAnswer, of_file, of_journal, made, IsAnswer, long, Seen, seen, on_second, GaveTooMany, Read, FileCause, JournalCause, JobCause, by_file, by_journal, by_making, by_net_file, by_first, by_second, by_both, of_net_file, of_first, of_second, of_both, HasTree, NetCause, Cause, Ends, plain_run}
+use Rattle.ol_cli.specs.TermFiles.{IsTermFile, TermAnswer, FileAnswer, long}
+use Rattle.ol_cli.specs.Check.{JournalAnswer}
+use Rattle.ol_cli.specs.Answers.{JobAnswer, of_file, of_journal, made, IsAnswer, Seen, seen, on_second, GaveTooMany, Read, FileCause, JournalCause, JobCause, by_file, by_journal, by_making, by_net_file, by_first, by_second, by_both, of_net_file, of_first, of_second, of_both, NetCause, Cause, Ends}
+use Rattle.ol_cli.specs.Equal.{HasTree}
+use Rattle.ol_cli.specs.Generate.{plain_run}
 use Rattle.ol_cli.specs.Inside.{EndsJournal}
-use Rattle.ol_cli.specs.NetAnswers.{NetFileAnswer}
-use Rattle.ol_cli.specs.NetAnswers as net_answers
+use Rattle.ol_cli.specs.Net.{NetFileAnswer}
+use Rattle.ol_cli.specs.Net as net_answers
 use Rattle.ol_cli.specs.Answers as answers
 use Rattle.ol_cli.proofs.NetFiles.{IsOfNet, net_cause_status}
 

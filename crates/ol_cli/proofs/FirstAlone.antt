@@ -1,16 +1,17 @@
 -- Where the first of two files is refused, it isn't read to a term.
-use Rattle.std.proofs.Common.{◌≡◌, ℕ, List, Option, Some, ap, sym, subst, refl}
+use Rattle.std.proofs.Common.{◌≡◌, ℕ, List, Option, Some, sym, subst}
 use Rattle.std.specs.declared.alloc.Global.{Global}
-use Rattle.std.specs.Prelude.{◌≤◌, ◌+◌, String}
+use Rattle.std.specs.Prelude.{String}
 use Rattle.ol_io.specs.Outside.{IsAllOf}
 use Rattle.ol_term.specs.declared.translations.Translation.{Translation}
 use Rattle.ol_term.specs.Trees.{Tree}
 use Rattle.ol_readback.specs.declared.answers.ReadNode.{ReadNode}
 use Rattle.ol_words.specs.Texts.{Text}
 use Rattle.ol_words.specs.Asked.{Asked, check, equal, run}
-use Rattle.ol_cli.specs.declared.evaluation.RunNumbers.{RunNumbers}
+use Rattle.ol_cli.specs.declared.numbers.RunNumbers.{RunNumbers}
 use Rattle.ol_cli.specs.Jobs.{AskFor}
-use Rattle.ol_cli.specs.Answers.{IsTermFile, FileAnswer, RefusesFirst}
+use Rattle.ol_cli.specs.TermFiles.{IsTermFile, FileAnswer}
+use Rattle.ol_cli.specs.Answers.{RefusesFirst}
 use Rattle.ol_cli.specs.Sides.{IsReadOf}
 use Rattle.ol_cli.proofs.BothFiles.{has_tree}
 use Rattle.ol_cli.proofs.OneAnswer.{of_file_answer, read_file, not_refused, one_job}

@@ -12,8 +12,10 @@ use Rattle.ol_words.specs.Asked as jobs
 use Rattle.ol_cli.specs.declared.status.Status.{Status}
 use Rattle.ol_cli.specs.declared.status.Status.TheVariants as status
 use Rattle.ol_cli.specs.Jobs.{AskFor, file_name, translation_in}
-use Rattle.ol_cli.specs.Answers.{IsTermFile, Seen, GaveAll}
-use Rattle.ol_cli.specs.Handed.{TermHands, FileHands, ReadHands, JobHands, WordsHand, WhereEnded}
+use Rattle.ol_cli.specs.TermFiles.{IsTermFile}
+use Rattle.ol_cli.specs.Answers.{Seen, GaveAll}
+use Rattle.ol_cli.specs.TermFiles.{TermHands, FileHands}
+use Rattle.ol_cli.specs.Handed.{ReadHands, JobHands, WordsHand, WhereEnded}
 
 -- ---- the net that is handed to the workers
 
@@ -22,7 +24,7 @@ whole_net net parts e = ap (count_by is_some) e ∙ count_by-all_live parts ∙ 
 
 -- ---- what is handed back
 
-where_ended : (st : Status) (closed : Option ClosedTable) (P Q : Type 0) → (P → Q) → WhereEnded st closed P → WhereEnded st closed Q
+pub where_ended : (st : Status) (closed : Option ClosedTable) (P Q : Type 0) → (P → Q) → WhereEnded st closed P → WhereEnded st closed Q
 where_ended status.Done closed P Q f h = f h
 where_ended status.Spent closed P Q f h = f h
 where_ended status.Usage closed P Q f h = h

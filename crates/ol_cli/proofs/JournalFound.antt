@@ -18,7 +18,7 @@ use Rattle.ol_view.specs.declared.forms.Form.{Form}
 use Rattle.ol_view.specs.declared.forms.Form.TheVariants.{One, Two}
 use Rattle.ol_view.specs.Checks.{BeginsWithRun, IsRunTold, AreIdle, IsOtherwise, IsFound, complete, run, no_header, bad_text, not_a_run, OnlyIsFound}
 use Rattle.ol_view.specs.Checks as view
-use Rattle.ol_cli.specs.Evaluation.{start_net_of_term}
+use Rattle.ol_cli.specs.Run.{start_net_of_term}
 use Rattle.ol_cli.proofs.WavesKept.{waves_kept}
 
 told_to : (form : Form) (N N' : NamedNet NodeName) → SameNet N N' → (journal : List Entry) (waves : List ℕ) (last : NamedNet NodeName) → IsRunTold form N journal waves last →

@@ -23,6 +23,11 @@ mod ReadAgain
 mod Handing
 mod Worked
 mod Readied
+mod TermJobs
+mod MadeJobs
+mod TwoFiles
+mod FilesRead
+mod Called
 mod JournalFound
 mod Traced
 mod WavesKept

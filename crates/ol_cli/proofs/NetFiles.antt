@@ -26,7 +26,7 @@ use Rattle.ol_cli.specs.declared.status.Status.{Status}
 use Rattle.ol_cli.specs.declared.status.Status.TheVariants.{Done, Usage, Syntax, Spent, ReadFault, WriteFault, NoMemory, Limit, BadNet}
 use Rattle.ol_cli.specs.Laws.{HaveOneText}
 use Rattle.ol_cli.specs.Texts.{line, nodes_text, spent_text, counts_text}
-use Rattle.ol_cli.specs.NetAnswers.{NetRunsOut, NetRunEnds, IsPastNodes, PrintsNet, NetAnswer, IsNetFile, NetFileAnswer, long, bad, of_net}
+use Rattle.ol_cli.specs.Net.{long, NetRunsOut, NetRunEnds, IsPastNodes, PrintsNet, NetAnswer, IsNetFile, NetFileAnswer, bad, of_net}
 use Rattle.ol_cli.specs.Answers.{Seen, NetCause, failed, past, given}
 use Rattle.ol_cli.proofs.Handing.{whole_net}
 use Rattle.ol_cli.proofs.NetRuns.{one_left, left_or_runs_out}

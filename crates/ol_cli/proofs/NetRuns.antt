@@ -27,10 +27,10 @@ use Rattle.ol_wire.specs.Closed.{ClosedTable}
 use Rattle.ol_reduce.specs.Reduced.{IsDone, IsSpent}
 use Rattle.ol_readback.specs.Heads.{live}
 use Rattle.ol_view.specs.Laws.{IsTable}
-use Rattle.ol_cli.specs.Handed.{journal_of}
+use Rattle.ol_cli.specs.Run.{journal_of}
 use Rattle.ol_cli.specs.Laws.{OneNetIsLeft}
 use Rattle.ol_cli.specs.Listing.{ListsOnce}
-use Rattle.ol_cli.specs.NetAnswers.{start_net, NetRunsOut, NetRunEnds, TellsLast, PrintsNet, IsPastNodes}
+use Rattle.ol_cli.specs.Net.{start_net, NetRunsOut, NetRunEnds, TellsLast, PrintsNet, IsPastNodes}
 use Rattle.ol_cli.specs.NetLines.{AreLinesOf}
 use Rattle.ol_cli.specs.Texts.{counts_text}
 use Rattle.ol_cli.proofs.AnyRun.{ends_once}

@@ -31,13 +31,20 @@ use Rattle.ol_words.specs.Asked as jobs
 use Rattle.ol_cli.specs.declared.status.Status.{Status}
 use Rattle.ol_cli.specs.declared.status.Status.TheVariants.{Done, Usage, Syntax, Spent, ReadFault, WriteFault, NoMemory, Limit, BadNet}
 use Rattle.ol_cli.specs.Jobs.{Files, AskFor, AskForNothing, file_name, translation_in}
-use Rattle.ol_cli.specs.Inside.{IsOnTerm}
 use Rattle.ol_cli.specs.Laws.{HaveOneText}
-use Rattle.ol_cli.specs.Texts.{line, usage_text, bytes_text, depth_text, nodes_text, journal_text, syntax_text, spent_text, found_text}
-use Rattle.ol_cli.specs.Evaluation.{start_net_of_term, RunsOut, RunEnds, Prints, Walks, Views, ReadsLast, Certifies}
-use Rattle.ol_cli.specs.DemandOrder.{Demands, DemandRunsOut}
-use Rattle.ol_cli.specs.NetAnswers.{WritesNet, NetFileAnswer}
-use Rattle.ol_cli.specs.Answers.{long, deep, large, IsTermFile, TermAnswer, FileAnswer, JournalAnswer, JobAnswer, of_file, of_journal, made, of_net_file, of_first, of_second, of_both, HasTree, Compares, Makes, plain_run, IsAnswer}
+use Rattle.ol_cli.specs.Texts.{line, usage_text, bytes_text, depth_text, nodes_text, journal_text, syntax_text, spent_text}
+use Rattle.ol_cli.specs.Check.{found_text}
+use Rattle.ol_cli.specs.Run.{start_net_of_term, RunsOut, RunEnds, Prints, ReadsLast}
+use Rattle.ol_cli.specs.Walk.{Walks}
+use Rattle.ol_cli.specs.View.{Views}
+use Rattle.ol_cli.specs.Certify.{Certifies}
+use Rattle.ol_cli.specs.Demand.{Demands, DemandRunsOut}
+use Rattle.ol_cli.specs.Net.{WritesNet, NetFileAnswer}
+use Rattle.ol_cli.specs.TermFiles.{long, deep, large, IsTermFile, TermAnswer, FileAnswer}
+use Rattle.ol_cli.specs.Check.{JournalAnswer}
+use Rattle.ol_cli.specs.Answers.{JobAnswer, of_file, of_journal, made, of_net_file, of_first, of_second, of_both, IsAnswer}
+use Rattle.ol_cli.specs.Equal.{HasTree, Compares}
+use Rattle.ol_cli.specs.Generate.{Makes, plain_run}
 use Rattle.ol_cli.proofs.OnePrint.{ends_or_not, ends_or_runs_out, reads_or_runs_out, one_last_tree, one_print, one_walk, one_view, one_certified}
 use Rattle.ol_cli.proofs.DemandRuns.{one_demanded, demand_ends_or_not}
 use Rattle.ol_cli.proofs.NetFiles.{Alike, alike_by, one_net_file}
@@ -292,6 +299,14 @@ one_compared tr a a' b b' fuel heads e f x x' y y' text text' (c, h, is) (c', h'
     is ∙ ap (λ c. line (compared_text c)) (comparison_is_one (record { a = x'.names; b = y'.names }) x'.tree y'.tree c c' moved h') ∙ sym is'
 
 -- ---- a job
+
+-- the job is done on one term, that of its one file
+abbrev IsOnTerm : Asked → Type 0
+IsOnTerm (check translation term journal) = ⊥
+IsOnTerm (gen translation runs k) = ⊥
+IsOnTerm (jobs.net translation false workers fuel name) = ⊥
+IsOnTerm (jobs.equal translation workers fuel heads first second) = ⊥
+IsOnTerm _ = Unit {0}
 
 -- a file that is refused has no term within the limits
 pub not_refused : (tr : Translation) (term journal : Text) (bytes : List ℕ) (t : Tree) (names : List (List ℕ)) (s : Status) (x : List ℕ) → OfFile (check tr term journal) bytes s x → IsTermFile tr bytes t names → ⊥

@@ -27,10 +27,15 @@ use Rattle.ol_beta.proofs.OneVerdict.{verdict_one}
 use Rattle.ol_view.specs.ShowTexts.{show_text}
 use Rattle.ol_view.proofs.OneView.{leads_one}
 use Rattle.ol_view.proofs.ShownAlike.{live_alike, shown_alike}
-use Rattle.ol_cli.specs.Texts.{line, answer_text, view_text}
-use Rattle.ol_cli.specs.VerdictTexts.{verdict_text}
+use Rattle.ol_cli.specs.Texts.{line, answer_text}
+use Rattle.ol_cli.specs.View.{view_text}
+use Rattle.ol_cli.specs.Certify.{verdict_text}
 use Rattle.ol_cli.specs.Laws.{OneTreeIsPrinted, OneTreeIsWalked}
-use Rattle.ol_cli.specs.Evaluation.{start_net_of_term, Shows, Prints, RunsOut, RunEnds, ReadsLast, Certifies, Walks, Views, PrintsOf}
+use Rattle.ol_cli.specs.Run.{start_net_of_term, Shows, Prints, RunsOut, RunEnds, ReadsLast}
+use Rattle.ol_cli.specs.Certify.{Certifies}
+use Rattle.ol_cli.specs.Walk.{Walks}
+use Rattle.ol_cli.specs.View.{Views}
+use Rattle.ol_cli.specs.EveryRun.{PrintsOf}
 use Rattle.ol_cli.proofs.ListedOnce.{same_length}
 use Rattle.ol_cli.proofs.TreeTransport.{tree_same}
 

@@ -13,10 +13,11 @@ use Rattle.ol_words.specs.Asked.{Asked, run, walk, view, trace, check, gen, dema
 use Rattle.ol_words.specs.Asked as jobs
 use Rattle.ol_cli.specs.declared.status.Status.{Status}
 use Rattle.ol_cli.specs.declared.status.Status.TheVariants as status
-use Rattle.ol_cli.specs.Inside.{IsOnTerm, IsReadWhereTold}
-use Rattle.ol_cli.specs.Jobs.{AskFor, TellsTerm, file_name, term_bytes}
-use Rattle.ol_cli.specs.Evaluation.{Prints, Walks}
-use Rattle.ol_cli.specs.DemandOrder.{Demands}
+use Rattle.ol_cli.specs.Inside.{IsReadWhereTold}
+use Rattle.ol_cli.specs.Jobs.{AskFor, HasTermFile, TellsTerm, file_name, term_bytes}
+use Rattle.ol_cli.specs.Run.{Prints}
+use Rattle.ol_cli.specs.Walk.{Walks}
+use Rattle.ol_cli.specs.Demand.{Demands}
 use Rattle.ol_cli.specs.ReadAgain.{TextIsReadAgain, AnswerIsReadAgain, FileIsReadAgain, WordsAreReadAgain, WritesReadable}
 use Rattle.ol_cli.proofs.OneAnswer.{one_job}
 
@@ -47,12 +48,12 @@ told_read asked contents read told st text w h e =
     subst (λ b. FileIsReadAgain asked b st text) whole h
 
 -- a job on a file has the bytes of its file
-pub file_bytes : (contents : Text → Option (List ℕ)) (asked : Asked) → IsOnTerm asked → contents (file_name asked) ≡ term_bytes contents asked
+pub file_bytes : (contents : Text → Option (List ℕ)) (asked : Asked) → HasTermFile asked → contents (file_name asked) ≡ term_bytes contents asked
 file_bytes contents (run tr w f q name) on = refl
 file_bytes contents (walk tr e q name) on = refl
 file_bytes contents (view tr k name) on = refl
 file_bytes contents (trace tr w f name) on = refl
-file_bytes contents (check tr term journal) on = absurd on
+file_bytes contents (check tr term journal) on = refl
 file_bytes contents (gen tr runs k) on = absurd on
 file_bytes contents (demand tr f q name) on = refl
 file_bytes contents (certify tr b w f q name) on = refl

@@ -14,10 +14,10 @@ use Rattle.ol_words.specs.Asked.{Asked}
 use Rattle.ol_cli.specs.declared.status.Status.{Status}
 use Rattle.ol_cli.specs.declared.status.Status.TheVariants.{Done, Usage, Syntax, Spent, ReadFault, WriteFault, NoMemory, Limit, BadNet}
 use Rattle.ol_cli.specs.Jobs.{translation_in}
-use Rattle.ol_cli.specs.Answers.{IsTermFile, TermAnswer, FileAnswer}
+use Rattle.ol_cli.specs.TermFiles.{IsTermFile, TermAnswer, FileAnswer}
 use Rattle.ol_cli.specs.ReadAgain.{FileIsReadAgain}
 use Rattle.ol_cli.specs.Handed.{WhereEnded}
-use Rattle.ol_cli.specs.Prepared.{Refuses, IsReady}
+use Rattle.ol_cli.specs.Ready.{Refuses, IsReady}
 use Rattle.ol_cli.proofs.Exact.{term_status}
 use Rattle.ol_cli.proofs.Handing.{whole_net}
 

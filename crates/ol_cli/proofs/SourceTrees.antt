@@ -29,11 +29,14 @@ use Rattle.ol_confluence.specs.Compared.{by_bytes, TellsTerms, ArePrinted, IsHea
 use Rattle.ol_cli.specs.Texts.{line}
 use Rattle.ol_cli.specs.declared.status.Status.{Status}
 use Rattle.ol_cli.specs.declared.status.Status.TheVariants.{Done}
-use Rattle.ol_cli.specs.Answers.{HasTree, FileAnswer, JobAnswer, of_file, of_first, of_second}
+use Rattle.ol_cli.specs.Equal.{HasTree}
+use Rattle.ol_cli.specs.TermFiles.{FileAnswer}
+use Rattle.ol_cli.specs.Answers.{JobAnswer, of_file, of_first, of_second}
 use Rattle.ol_cli.specs.Answers.{of_both}
 use Rattle.ol_cli.specs.Answers.{IsAnswer}
 use Rattle.ol_cli.specs.Jobs.{Files}
-use Rattle.ol_cli.specs.Evaluation.{start_net_of_term, ReadsLast, Certifies}
+use Rattle.ol_cli.specs.Run.{start_net_of_term, ReadsLast}
+use Rattle.ol_cli.specs.Certify.{Certifies}
 use Rattle.ol_cli.specs.SourceLaws.{TellsOfTwo, TellsSources, WritesOfSources, ComparisonTellsSources}
 use Rattle.ol_cli.specs.SourceLaws.{HeadBesideLostTellsSources}
 use Rattle.ol_cli.specs.SourceLaws.{CertifyNeverDiffers}

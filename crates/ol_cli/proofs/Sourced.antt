@@ -1,5 +1,5 @@
 -- What an answer says of the job's own term.
-use Rattle.std.proofs.Common.{◌≡◌, ◌≢◌, ℕ, ◌*◌, Bool, true, false, zero, suc, List, [], ◌∷◌, ◌≤◌, codes, slice_get, length, Option, Some, String, Global, sym, ap, ◌∙◌, subst, arith}
+use Rattle.std.proofs.Common.{◌≡◌, ◌≢◌, ℕ, ◌*◌, Bool, true, false, zero, suc, List, [], ◌∷◌, codes, slice_get, length, Option, Some, String, Global, sym, ap, ◌∙◌, subst, arith}
 use Rattle.ol_io.specs.Outside.{Appended, Rose}
 use Rattle.ol_term.specs.declared.translations.Translation.{Translation}
 use Rattle.ol_term.specs.Trees.{Tree}
@@ -34,9 +34,12 @@ use Rattle.ol_words.specs.Asked as jobs
 use Rattle.ol_cli.specs.declared.status.Status.{Status}
 use Rattle.ol_cli.specs.declared.status.Status.TheVariants as status
 use Rattle.ol_cli.specs.Jobs.{AskFor, Files, AreTold, TellsTerm, TellsFiles, term_bytes, translation_in}
-use Rattle.ol_cli.specs.Evaluation.{start_net_of_term, Prints, Walks}
-use Rattle.ol_cli.specs.DemandOrder.{Demands}
-use Rattle.ol_cli.specs.Answers.{Ends, IsTermFile, TermAnswer, FileAnswer, JobAnswer, of_file, made, IsAnswer, plain_run}
+use Rattle.ol_cli.specs.Run.{start_net_of_term, Prints}
+use Rattle.ol_cli.specs.Walk.{Walks}
+use Rattle.ol_cli.specs.Demand.{Demands}
+use Rattle.ol_cli.specs.Answers.{Ends, JobAnswer, of_file, made, IsAnswer}
+use Rattle.ol_cli.specs.TermFiles.{IsTermFile, TermAnswer, FileAnswer}
+use Rattle.ol_cli.specs.Generate.{plain_run}
 use Rattle.ol_cli.specs.Sources.{PrintsTree, WalksTree, DemandsTree, TellsTree, WritesTree, RunTells, DemandTells, JobTells, EveryRunTells}
 use Rattle.ol_cli.specs.ReadAgain.{TextIsReadAgain, WritesReadable}
 use Rattle.ol_rules.proofs.LeadRuns.{as_run}

@@ -5,8 +5,8 @@ use Rattle.ol_term.specs.declared.translations.Translation.TheVariants.{One, Two
 use Rattle.ol_term.specs.Trees.{Tree, var, free, lam, app, term_size}
 use Rattle.ol_translate.specs.Translation.{bare_variable}
 use Rattle.ol_translate.specs.Sizes.{variables, size_of_argument, size_under, size_of_translation}
-use Rattle.ol_cli.specs.Answers.{IsTermFile}
-use Rattle.ol_cli.specs.Prepared.{IsReducible}
+use Rattle.ol_cli.specs.TermFiles.{IsTermFile}
+use Rattle.ol_cli.specs.Ready.{IsReducible}
 use Rattle.ol_cli.proofs.OneAnswer.{file_names}
 
 -- an argument that is no wire has its own nodes

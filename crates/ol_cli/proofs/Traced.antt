@@ -22,8 +22,10 @@ use Rattle.ol_wire.proofs.Closing.Run.{one_end}
 use Rattle.ol_reduce.specs.Reduced.{IsDone, IsSpent}
 use Rattle.ol_view.specs.WaveTexts.{wave_trace_text}
 use Rattle.ol_cli.specs.declared.status.Status.TheVariants as status
-use Rattle.ol_cli.specs.Evaluation.{start_net_of_term, RunEnds, TracesWhole, TracesFuel, IsTraceOf}
-use Rattle.ol_cli.specs.Handed.{journal_of, TraceHands}
+use Rattle.ol_cli.specs.Run.{start_net_of_term, RunEnds}
+use Rattle.ol_cli.specs.Trace.{TracesWhole, TracesFuel, IsTraceOf}
+use Rattle.ol_cli.specs.Run.{journal_of}
+use Rattle.ol_cli.specs.Trace.{TraceHands}
 use Rattle.ol_cli.proofs.AnyRun.{any_run_ends}
 use Rattle.ol_cli.proofs.Evaluated.{own_run, words_run}
 use Rattle.ol_cli.proofs.WavesKept.{waves_kept}

@@ -3,7 +3,7 @@ use Rattle.std.proofs.Common.{◌≡◌, ℕ, zero, suc, List, [], ◌∷◌, �
 use Rattle.std.specs.Prelude.{slice_get}
 use Rattle.std.specs.Fmt.{decimal}
 use Rattle.ol_cli.specs.Texts.{line}
-use Rattle.ol_cli.specs.VerdictTexts.{moves_text, address_text, addresses_text}
+use Rattle.ol_cli.specs.Certify.{moves_text, address_text, addresses_text}
 
 append_nil : (bs : List ℕ) → bs ++ [] ≡ bs
 append_nil [] = refl

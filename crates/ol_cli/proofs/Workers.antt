@@ -1,6 +1,6 @@
 -- An answer to a job is one to the same job with any other number of workers: no definition of an answer looks at that number. So
 -- words that ask for one job but for that number have one answer (`one_answer`).
-use Rattle.std.proofs.Common.{◌≡◌, ℕ, Bool, true, false, List, Option, None, Some, String, Global, option_map, sym, ap, ◌∙◌, subst}
+use Rattle.std.proofs.Common.{◌≡◌, ℕ, true, false, List, Option, None, Some, String, Global, option_map, sym, ap, ◌∙◌, subst}
 use Rattle.ol_words.specs.Texts.{texts_of}
 use Rattle.ol_words.specs.Asked.{Asked}
 use Rattle.ol_words.specs.Asked as jobs
@@ -10,7 +10,8 @@ use Rattle.ol_cli.specs.declared.status.Status.TheVariants as status
 use Rattle.ol_cli.specs.declared.status.Status.TheVariants.{Usage}
 use Rattle.ol_cli.specs.Texts.{usage_text}
 use Rattle.ol_cli.specs.Jobs.{Files, AskFor, AskForNothing}
-use Rattle.ol_cli.specs.Answers.{IsAnswer, FileAnswer, JobAnswer, of_file, of_net_file, of_first, of_second, of_both}
+use Rattle.ol_cli.specs.Answers.{IsAnswer, JobAnswer, of_file, of_net_file, of_first, of_second, of_both}
+use Rattle.ol_cli.specs.TermFiles.{FileAnswer}
 use Rattle.ol_cli.specs.Laws.{AskAlike, HaveOneText, WorkersAreNotSeen, with_workers}
 use Rattle.ol_cli.proofs.Exact.{not_both}
 use Rattle.ol_cli.proofs.OneAnswer.{OfWords, no_job, job, of_words, one_of_job, one_job, same_as}

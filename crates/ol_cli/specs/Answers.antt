@@ -1,29 +1,22 @@
 -- The answer to a list of words and to the bytes of the files that they name: a text and a status, by the order of refusals; and what
 -- a call does, by what its source and its sink did.
-use Rattle.std.specs.Prelude.{◌≡◌, ◌≢◌, ℕ, ◌+◌, ◌≤◌, ◌<◌, ◌⊎◌, Bool, true, false, List, length, take, codes, Option, Some, String}
+use Rattle.std.specs.Prelude.{Bool, List, Option, Some, String, false, length, take, true, ℕ, ◌+◌, ◌<◌, ◌≡◌, ◌≢◌, ◌≤◌, ◌⊎◌}
 use Rattle.std.specs.declared.alloc.Global.{Global}
-use Rattle.ol_io.specs.Outside.{Rose, Appended, IsAllOf, IsLonger}
+use Rattle.ol_io.specs.Outside.{Appended, IsAllOf, IsLonger, Rose}
+use Rattle.ol_term.specs.Trees.{Tree}
 use Rattle.ol_term.specs.declared.translations.Translation.{Translation}
-use Rattle.ol_term.specs.Trees.{Tree, depth}
-use Rattle.ol_term.specs.Generated.{doubled_text}
-use Rattle.ol_parse.specs.Texts.{IsRefusedAt}
-use Rattle.ol_parse.specs.Parsed.{IsFileOf}
-use Rattle.ol_translate.specs.Sizes.{size_of_translation}
+use Rattle.ol_words.specs.Asked.{Asked, check, equal, gen, net, run}
 use Rattle.ol_words.specs.Texts.{Text}
-use Rattle.ol_words.specs.Asked.{Asked, run, walk, view, trace, check, gen, demand, certify, net, equal}
-use Rattle.ol_readback.specs.declared.answers.ReadNode.{ReadNode}
-use Rattle.ol_equal.specs.Comparing.{IsComparison}
-use Rattle.ol_equal.specs.Texts.{compared_text}
-use Rattle.ol_equal.specs.declared.answers.Compared.{Compared}
-use Rattle.ol_view.specs.declared.answers.Check.{Check}
-use Rattle.ol_view.specs.Checks.{OnlyIsFound}
+use Rattle.ol_cli.specs.Check.{JournalAnswer}
+use Rattle.ol_cli.specs.Equal.{Compares, HasTree}
+use Rattle.ol_cli.specs.Generate.{Makes}
+use Rattle.ol_cli.specs.Jobs.{AskFor, AskForNothing, Files, HasTermFile, file_name}
+use Rattle.ol_cli.specs.Net.{NetFileAnswer}
+use Rattle.ol_cli.specs.TermFiles.{FileAnswer, IsTermFile}
+use Rattle.ol_cli.specs.Texts.{bytes_text, fault_text, journal_text, net_bytes_text, usage_text}
 use Rattle.ol_cli.specs.declared.status.Status.{Status}
 use Rattle.ol_cli.specs.declared.status.Status.TheVariants as status
-use Rattle.ol_cli.specs.Jobs.{AskFor, AskForNothing, Files, HasTermFile, file_name, plain_fuel, plain_heads, translation_in}
-use Rattle.ol_cli.specs.Texts.{line, usage_text, fault_text, bytes_text, depth_text, nodes_text, journal_text, net_bytes_text, syntax_text, spent_text, found_text}
-use Rattle.ol_cli.specs.Evaluation.{start_net_of_term, RunsOut, RunEnds, Prints, Walks, Views, TracesWhole, TracesFuel, ReadsLast, Certifies}
-use Rattle.ol_cli.specs.DemandOrder.{Demands, DemandRunsOut}
-use Rattle.ol_cli.specs.NetAnswers.{WritesNet, NetFileAnswer}
+use Rattle.ol_cli.specs.Limits.{most_term_bytes, most_journal_bytes, most_net_bytes}
 
 -- the number that a process ends with
 abbrev pub status_number : Status → ℕ
@@ -36,115 +29,6 @@ status_number status.WriteFault = 5
 status_number status.NoMemory = 6
 status_number status.Limit = 7
 status_number status.BadNet = 9
-
--- ---- a term file
-
--- the bytes are a text of this term with these free names, and no limit is passed
-pub record IsTermFile (translation : Translation) (bytes : List ℕ) (t : Tree) (names : List (List ℕ)) : Type 0 where
-  pub short : length bytes ≤ 1048576
-  pub file : IsFileOf bytes t names
-  pub shallow : depth t ≤ 1000
-  pub small : size_of_translation translation t ≤ 200000
-
--- a limit that the file passes, and its text: of bytes, else of the depth of its term, else of the nodes of its translation
-pub data IsPastLimit (translation : Translation) (bytes text : List ℕ) : Type 0 where
-  long : 1048576 < length bytes → text ≡ bytes_text → IsPastLimit translation bytes text
-  deep : length bytes ≤ 1048576 → {t : Tree} {names : List (List ℕ)} → IsFileOf bytes t names →
-      1000 < depth t → text ≡ depth_text → IsPastLimit translation bytes text
-  large : length bytes ≤ 1048576 → {t : Tree} {names : List (List ℕ)} → IsFileOf bytes t names → depth t ≤ 1000 →
-      200000 < size_of_translation translation t → text ≡ nodes_text → IsPastLimit translation bytes text
-
--- What `run` answers to a term: its one-thread run is longer than the fuel, or ends and is printed.
-abbrev pub RunAnswer : Translation → Tree → List (List ℕ) → (fuel heads : ℕ) → Status → List ℕ → Type 0
-RunAnswer translation t names fuel heads status.Spent text = RunsOut translation t names fuel × (text ≡ spent_text fuel)
-RunAnswer translation t names fuel heads status.Done text = Prints translation t names fuel heads text
-RunAnswer translation t names fuel heads _ text = ⊥
-
--- What `walk` answers to a term: its untouched translation is printed.
-abbrev pub WalkAnswer : Translation → Tree → List (List ℕ) → (edges heads : ℕ) → Status → List ℕ → Type 0
-WalkAnswer translation t names edges heads status.Done text = Walks translation t names edges heads text
-WalkAnswer translation t names edges heads _ text = ⊥
-
--- What `view` answers to a term: its net after some leads is shown.
-abbrev pub ViewAnswer : Translation → Tree → List (List ℕ) → (after : ℕ) → Status → List ℕ → Type 0
-ViewAnswer translation t names after status.Done text = Views translation t names after text
-ViewAnswer translation t names after _ text = ⊥
-
--- What `trace` answers to a term: where its one-thread run ends within the fuel, the trace of any run of it that is complete; where
--- that run is longer, the trace of any run that has as many entries as the fuel and goes on.
-abbrev pub TraceAnswer : Translation → Tree → List (List ℕ) → (fuel : ℕ) → Status → List ℕ → Type 0
-TraceAnswer translation t names fuel status.Done text = RunEnds translation t names fuel × TracesWhole translation t names fuel text
-TraceAnswer translation t names fuel status.Spent text = RunsOut translation t names fuel × TracesFuel translation t names fuel text
-TraceAnswer translation t names fuel _ text = ⊥
-
--- What `demand` answers to a term: its demand run is longer than the fuel, or ends and is printed.
-abbrev pub DemandAnswer : Translation → Tree → List (List ℕ) → (fuel heads : ℕ) → Status → List ℕ → Type 0
-DemandAnswer translation t names fuel heads status.Spent text = DemandRunsOut translation t names fuel heads × (text ≡ spent_text fuel)
-DemandAnswer translation t names fuel heads status.Done text = Demands translation t names fuel heads text
-DemandAnswer translation t names fuel heads _ text = ⊥
-
--- What `certify` answers to a term: its one-thread run is longer than the fuel, or ends, and the verdict is told.
-abbrev pub CertifyAnswer : Translation → Tree → List (List ℕ) → (steps fuel heads : ℕ) → Status → List ℕ → Type 0
-CertifyAnswer translation t names steps fuel heads status.Spent text = RunsOut translation t names fuel × (text ≡ spent_text fuel)
-CertifyAnswer translation t names steps fuel heads status.Done text = Certifies translation t names steps fuel heads text
-CertifyAnswer translation t names steps fuel heads _ text = ⊥
-
--- What `net` with its flag answers to a term: the text of its net.
-abbrev pub WritesNetAnswer : Translation → Tree → List (List ℕ) → Status → List ℕ → Type 0
-WritesNetAnswer translation t names status.Done text = WritesNet translation t names text
-WritesNetAnswer translation t names _ text = ⊥
-
--- What a job answers to a term with these free names. A term alone is no answer of `check` or `equal`, and `gen` and `net` without
--- its flag have none.
-abbrev pub TermAnswer : Asked → Tree → List (List ℕ) → Status → List ℕ → Type 0
-TermAnswer (run translation workers fuel heads name) t names st text = RunAnswer translation t names fuel heads st text
-TermAnswer (walk translation edges heads name) t names st text = WalkAnswer translation t names edges heads st text
-TermAnswer (view translation after name) t names st text = ViewAnswer translation t names after st text
-TermAnswer (trace translation workers fuel name) t names st text = TraceAnswer translation t names fuel st text
-TermAnswer (check translation term journal) t names st text = ⊥
-TermAnswer (gen translation runs k) t names st text = ⊥
-TermAnswer (demand translation fuel heads name) t names st text = DemandAnswer translation t names fuel heads st text
-TermAnswer (certify translation steps workers fuel heads name) t names st text = CertifyAnswer translation t names steps fuel heads st text
-TermAnswer (net translation true workers fuel name) t names st text = WritesNetAnswer translation t names st text
-TermAnswer (net translation false workers fuel name) t names st text = ⊥
-TermAnswer (equal translation workers fuel heads first second) t names st text = ⊥
-
--- What a job answers to the bytes of its file: a limit that they pass, the place where they are refused, or the answer to their term.
-abbrev pub FileAnswer : Asked → List ℕ → Status → List ℕ → Type 0
-FileAnswer asked bytes status.Limit text = IsPastLimit (translation_in asked) bytes text
-FileAnswer asked bytes status.Syntax text = (at : ℕ) × (length bytes ≤ 1048576) × IsRefusedAt bytes at × (text ≡ syntax_text at)
-FileAnswer asked bytes st text = (t : Tree) × (names : List (List ℕ)) × IsTermFile (translation_in asked) bytes t names × TermAnswer asked t names st text
-
--- What `check` answers to the bytes of a journal file, against a term: a limit that they pass, or the one thing that they are found
--- to be.
-abbrev pub JournalAnswer : Translation → Tree → List (List ℕ) → List ℕ → Status → List ℕ → Type 0
-JournalAnswer translation t names journal status.Limit text = (402653184 < length journal) × (text ≡ journal_text)
-JournalAnswer translation t names journal status.Done text =
-    (length journal ≤ 402653184) × ((found : Check) × OnlyIsFound (start_net_of_term translation t names) journal found × (text ≡ found_text found))
-JournalAnswer translation t names journal _ text = ⊥
-
--- The file's term is read back: its one-thread run ends within `fuel` steps, and this tree is read from its last net.
-pub record HasTree (translation : Translation) (bytes : List ℕ) (fuel heads : ℕ) : Type 0 where
-  pub term : Tree
-  pub names : List (List ℕ)
-  pub tree : List ReadNode
-  pub file : IsTermFile translation bytes term names
-  pub read : ReadsLast translation term names fuel heads tree
-
--- the line of the comparison of two such trees
-abbrev pub Compares : {translation : Translation} {bytes bytes' : List ℕ} {fuel heads : ℕ} → HasTree translation bytes fuel heads →
-    HasTree translation bytes' fuel heads → List ℕ → Type 0
-Compares a b text = (compared : Compared) × IsComparison (record { a = a.names; b = b.names }) a.tree b.tree compared
-    × (text ≡ line (compared_text compared))
-
--- `run` without options but the translation
-abbrev pub plain_run : Translation → Asked
-plain_run translation = run translation 4 plain_fuel plain_heads (codes "-")
-
--- What `gen` answers: the text that it makes, or the answer of `run` to that.
-abbrev pub Makes : Translation → (runs : Bool) → (k : ℕ) → Status → List ℕ → Type 0
-Makes translation false k st text = (st ≡ status.Done) × (text ≡ doubled_text k)
-Makes translation true k st text = FileAnswer (plain_run translation) (doubled_text k) st text
 
 -- The answer to a job, where its files have these bytes: that to the file of its term; for `check`, where that file is no refusal, the
 -- answer to its journal; for `gen` the text that is made, or the answer of `run` to it; for `net` that to the file of a net; and for
@@ -220,10 +104,10 @@ pub record GavePast (s : Seen) (most : ℕ) (name : Text) : Type 0 where
 
 -- the same of a term file
 abbrev pub GaveAll : Seen → Text → List ℕ → Type 0
-GaveAll s name bytes = GaveWithin s 1048576 name bytes
+GaveAll s name bytes = GaveWithin s most_term_bytes name bytes
 
 abbrev pub GaveTooMany : Seen → Text → Type 0
-GaveTooMany s name = GavePast s 1048576 name
+GaveTooMany s name = GavePast s most_term_bytes name
 
 -- all bytes that the source gave, and what they are answered
 abbrev pub Read : Asked → Seen → Status → List ℕ → Type 0
@@ -238,16 +122,16 @@ FileCause asked s st text = (s.faults' ≡ s.faults) × Read asked s st text
 
 -- What comes of a journal file, against a term.
 abbrev pub JournalCause : Seen → Text → Translation → Tree → List (List ℕ) → Status → List ℕ → Type 0
-JournalCause s journal translation t names status.Limit text = GavePast s 402653184 journal × (text ≡ journal_text)
+JournalCause s journal translation t names status.Limit text = GavePast s most_journal_bytes journal × (text ≡ journal_text)
 JournalCause s journal translation t names status.Done text =
-    (trace : List ℕ) × GaveWithin s 402653184 journal trace × JournalAnswer translation t names trace status.Done text
+    (trace : List ℕ) × GaveWithin s most_journal_bytes journal trace × JournalAnswer translation t names trace status.Done text
 JournalCause s journal translation t names _ text = ⊥
 
 -- What comes of the file of a net: a fault, a limit that was passed, or what all its bytes are answered.
 pub data NetCause (s : Seen) (name : Text) (fuel : ℕ) (st : Status) (text : List ℕ) : Type 0 where
   failed : Rose s.faults s.faults' → st ≡ status.ReadFault → text ≡ fault_text → NetCause s name fuel st text
-  past : s.faults' ≡ s.faults → GavePast s 33554432 name → st ≡ status.Limit → text ≡ net_bytes_text → NetCause s name fuel st text
-  given : s.faults' ≡ s.faults → {bytes : List ℕ} → GaveWithin s 33554432 name bytes → NetFileAnswer fuel bytes st text →
+  past : s.faults' ≡ s.faults → GavePast s most_net_bytes name → st ≡ status.Limit → text ≡ net_bytes_text → NetCause s name fuel st text
+  given : s.faults' ≡ s.faults → {bytes : List ℕ} → GaveWithin s most_net_bytes name bytes → NetFileAnswer fuel bytes st text →
       NetCause s name fuel st text
 
 -- Each status of a job, where it comes, and its text: of its term file; of its journal file, once the term file was read and is no

@@ -10,11 +10,14 @@ use Rattle.ol_words.specs.Asked.{Asked, run, trace, check, gen, demand, certify}
 use Rattle.ol_words.specs.Asked as jobs
 use Rattle.ol_cli.specs.declared.status.Status.{Status}
 use Rattle.ol_cli.specs.declared.status.Status.TheVariants as status
-use Rattle.ol_cli.specs.Jobs.{AskFor, Files, plain_fuel, term_bytes, translation_in}
-use Rattle.ol_cli.specs.Evaluation.{RunEnds}
-use Rattle.ol_cli.specs.DemandOrder.{DemandEnds}
-use Rattle.ol_cli.specs.Answers.{IsAnswer, IsTermFile}
-use Rattle.ol_cli.specs.NetAnswers.{IsNetFile, NetRunEnds}
+use Rattle.ol_cli.specs.Jobs.{AskFor, Files, term_bytes, translation_in}
+use Rattle.ol_cli.specs.Limits.{plain_fuel}
+use Rattle.ol_cli.specs.Run.{RunEnds}
+use Rattle.ol_cli.specs.Demand.{DemandEnds}
+use Rattle.ol_cli.specs.Answers.{IsAnswer}
+use Rattle.ol_cli.specs.TermFiles.{IsTermFile}
+use Rattle.ol_cli.specs.Net.{IsNetFile, NetRunEnds}
+use Rattle.ol_cli.specs.Limits.{most_journal_bytes, most_nodes}
 
 -- where the job rewrites a term until no pair is active, the one-thread run of this term ends within the job's fuel; and where it
 -- rewrites in demand order, so does the demand run
@@ -37,7 +40,7 @@ pub record HasTermWithin (files : Text → Option (List ℕ)) (asked : Asked) : 
 
 -- the bytes of a journal file are told, and no more than are read
 abbrev pub HasJournalWithin : (Text → Option (List ℕ)) → Text → Type 0
-HasJournalWithin files name = (journal : List ℕ) × (files name ≡ Some journal) × (length journal ≤ 402653184)
+HasJournalWithin files name = (journal : List ℕ) × (files name ≡ Some journal) × (length journal ≤ most_journal_bytes)
 
 -- the bytes of a file with a net are told, no more than are read, and they are the text of a net whose run ends within the fuel, with
 -- few nodes left
@@ -50,7 +53,7 @@ pub record HasNetWithin (files : Text → Option (List ℕ)) (name : Text) (fuel
   pub stuck : ℕ
   pub nodes : ℕ
   pub ends : NetRunEnds net fuel counts stuck nodes
-  pub few : nodes ≤ 200000
+  pub few : nodes ≤ most_nodes
 
 -- The job can be done, its files having these bytes. A term that is only made can always be. Two terms can be compared where `run`
 -- can be done on both.

@@ -5,7 +5,7 @@ use Rattle.ol_term.specs.Trees.{Tree}
 use Rattle.ol_translate.specs.Names.{HasNames}
 use Rattle.ol_beta.specs.Leftmost.{IsNormal}
 use Rattle.ol_meaning.specs.Shows.{BetaReduces}
-use Rattle.ol_cli.specs.DemandOrder.{DemandEnds, DemandRunsOut}
+use Rattle.ol_cli.specs.Demand.{DemandEnds, DemandRunsOut}
 
 -- Where a term has a normal form, there is a number so that its demand run, by this translation,
 -- ends within each fuel that is no less, and isn't longer than it, whatever heads are asked for. So

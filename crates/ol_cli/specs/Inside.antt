@@ -1,7 +1,9 @@
 -- Private: words of private contracts alone, which no clause of a public call needs: what is asked of a job within the call, and what is kept of
 -- it there.
-use Rattle.std.specs.Prelude.{◌≡◌, ℕ, ◌≤◌, false, List, [], Option, None, Some}
-use Rattle.ol_io.specs.Outside.{Rose}
+use Rattle.std.specs.Prelude.{◌≡◌, ℕ, ◌≤◌, ◌⊎◌, List, [], length, take, Option, None, Some, Result, Ok, Err, String}
+use Rattle.std.specs.declared.alloc.Global.{Global}
+use Rattle.ol_io.specs.Outside.{Rose, Appended}
+use Rattle.ol_io.specs.declared.outside.NoMemory.{NoMemory}
 use Rattle.ol_term.specs.declared.translations.Translation.{Translation}
 use Rattle.ol_term.specs.Trees.{Tree, tree_of}
 use Rattle.ol_term.specs.declared.term_file.TermFile.{TermFile}
@@ -9,50 +11,50 @@ use Rattle.ol_wire.specs.Closed.{ClosedTable}
 use Rattle.ol_readback.specs.declared.answers.ReadNode.{ReadNode}
 use Rattle.ol_words.specs.Texts.{Text}
 use Rattle.ol_words.specs.Asked.{Asked, run, walk, view, trace, check, gen, demand, certify, net, equal}
-use Rattle.ol_cli.specs.declared.evaluation.RunNumbers.{RunNumbers}
+use Rattle.ol_cli.specs.declared.numbers.RunNumbers.{RunNumbers}
+use Rattle.ol_cli.specs.declared.answer.Answer.{Answer}
+use Rattle.ol_cli.specs.declared.top.Outcome.{Outcome}
 use Rattle.ol_cli.specs.declared.status.Status.{Status}
 use Rattle.ol_cli.specs.declared.status.Status.TheVariants as status
-use Rattle.ol_cli.specs.Jobs.{plain_fuel, plain_heads, term_bytes, translation_in}
-use Rattle.ol_cli.specs.Evaluation.{RunsOut, ReadsLast}
-use Rattle.ol_cli.specs.Answers.{Seen, TermAnswer, JournalCause}
-use Rattle.ol_cli.specs.Handed.{TermHands}
+use Rattle.ol_cli.specs.Jobs.{term_bytes}
+use Rattle.ol_cli.specs.Run.{RunsOut, ReadsLast}
+use Rattle.ol_cli.specs.Answers.{Seen, JournalCause, JobCause, Cause}
+use Rattle.ol_cli.specs.TermFiles.{TermAnswer}
+use Rattle.ol_cli.specs.TermFiles.{TermHands}
+use Rattle.ol_cli.specs.Handed.{JobHands, WhereEnded, WordsHand}
 use Rattle.ol_cli.specs.Texts.{fault_text}
-use Rattle.ol_cli.specs.ReadAgain.{AnswerIsReadAgain, FileIsReadAgain}
-
--- the job is done on one term, that of its one file
-abbrev pub IsOnTerm : Asked → Type 0
-IsOnTerm (check translation term journal) = ⊥
-IsOnTerm (gen translation runs k) = ⊥
-IsOnTerm (net translation false workers fuel name) = ⊥
-IsOnTerm (equal translation workers fuel heads first second) = ⊥
-IsOnTerm _ = Unit {0}
+use Rattle.ol_cli.specs.ReadAgain.{AnswerIsReadAgain, FileIsReadAgain, WordsAreReadAgain}
+use Rattle.ol_cli.specs.Limits.{most_fuel, most_workers}
 
 -- the numbers of a job are within the limits of their options
 abbrev pub IsWithinLimits : Asked → Type 0
-IsWithinLimits (run translation workers fuel heads name) = (1 ≤ workers) × (workers ≤ 64) × (fuel ≤ 8000000) × (1 ≤ heads)
+IsWithinLimits (run translation workers fuel heads name) = (1 ≤ workers) × (workers ≤ most_workers) × (fuel ≤ most_fuel) × (1 ≤ heads)
 IsWithinLimits (walk translation edges heads name) = 1 ≤ heads
-IsWithinLimits (view translation after name) = after ≤ 8000000
-IsWithinLimits (trace translation workers fuel name) = (1 ≤ workers) × (workers ≤ 64) × (fuel ≤ 8000000)
+IsWithinLimits (view translation after name) = after ≤ most_fuel
+IsWithinLimits (trace translation workers fuel name) = (1 ≤ workers) × (workers ≤ most_workers) × (fuel ≤ most_fuel)
 IsWithinLimits (check translation term journal) = Unit {0}
 IsWithinLimits (gen translation runs k) = k ≤ 10
-IsWithinLimits (demand translation fuel heads name) = (fuel ≤ 8000000) × (1 ≤ heads)
-IsWithinLimits (certify translation steps workers fuel heads name) = (1 ≤ workers) × (workers ≤ 64) × (fuel ≤ 8000000) × (1 ≤ heads)
-IsWithinLimits (net translation from_term workers fuel name) = (1 ≤ workers) × (workers ≤ 64) × (fuel ≤ 8000000)
-IsWithinLimits (equal translation workers fuel heads first second) = (1 ≤ workers) × (workers ≤ 64) × (fuel ≤ 8000000) × (1 ≤ heads)
+IsWithinLimits (demand translation fuel heads name) = (fuel ≤ most_fuel) × (1 ≤ heads)
+IsWithinLimits (certify translation steps workers fuel heads name) = (1 ≤ workers) × (workers ≤ most_workers) × (fuel ≤ most_fuel) × (1 ≤ heads)
+IsWithinLimits (net translation from_term workers fuel name) = (1 ≤ workers) × (workers ≤ most_workers) × (fuel ≤ most_fuel)
+IsWithinLimits (equal translation workers fuel heads first second) = (1 ≤ workers) × (workers ≤ most_workers) × (fuel ≤ most_fuel) × (1 ≤ heads)
 
--- the numbers of a job that rewrites the net of a term and reads it back; the others have those of `run` without options
-abbrev pub numbers_in : Asked → RunNumbers
-numbers_in (run translation workers fuel heads name) = record { translation = translation; workers = workers; fuel = fuel; heads = heads }
-numbers_in (certify translation steps workers fuel heads name) = record { translation = translation; workers = workers; fuel = fuel; heads = heads }
-numbers_in (equal translation workers fuel heads first second) = record { translation = translation; workers = workers; fuel = fuel; heads = heads }
-numbers_in asked = record { translation = translation_in asked; workers = 4; fuel = plain_fuel; heads = plain_heads }
+-- the jobs of these numbers, on files of these names
+abbrev pub run_on : RunNumbers → Text → Asked
+run_on n name = run n.translation n.workers n.fuel n.heads name
 
--- the jobs `run` and `certify` of these numbers, and the jobs `walk` and `demand`, where the name doesn't matter
+abbrev pub certify_on : RunNumbers → (steps : ℕ) → Text → Asked
+certify_on n steps name = certify n.translation steps n.workers n.fuel n.heads name
+
+abbrev pub equal_on : RunNumbers → (first second : Text) → Asked
+equal_on n first second = equal n.translation n.workers n.fuel n.heads first second
+
+-- the same of jobs on a term, where the name doesn't matter
 abbrev pub run_by : RunNumbers → Asked
-run_by n = run n.translation n.workers n.fuel n.heads []
+run_by n = run_on n []
 
 abbrev pub certify_by : RunNumbers → (steps : ℕ) → Asked
-certify_by n steps = certify n.translation steps n.workers n.fuel n.heads []
+certify_by n steps = certify_on n steps []
 
 abbrev pub walk_by : Translation → (edges heads : ℕ) → Asked
 walk_by translation edges heads = walk translation edges heads []
@@ -85,3 +87,30 @@ IsReadWhereTold asked contents st text = (bytes : List ℕ) → term_bytes conte
 abbrev pub EndsJournal : Seen → Text → Translation → Tree → List (List ℕ) → Status → List ℕ → Type 0
 EndsJournal s journal translation t names status.ReadFault text = Rose s.faults s.faults' × (text ≡ fault_text)
 EndsJournal s journal translation t names st text = (s.faults' ≡ s.faults) × JournalCause s journal translation t names st text
+
+-- ---- what a job comes to
+
+-- What a job comes to: its answer has its cause, is read again where the bytes of its term are told,
+-- and hands back what the job does.
+pub record ComesOf (asked : Asked) (s : Seen) (a : Answer) : Type 0 where
+  pub caused : JobCause s a.status a.text.items asked
+  pub read : IsReadWhereTold asked (s.contents 0) a.status a.text.items
+  pub closed : WhereEnded a.status a.closed (JobHands asked s a.status a.text.items a.closed)
+
+-- the same of the job that the words ask for, or of the usage
+pub record ComesOfWords (words : List (String Global)) (s : Seen) (a : Answer) : Type 0 where
+  pub caused : Cause words s a.status a.text.items
+  pub read : WordsAreReadAgain words (s.contents 0) a.status a.text.items
+  pub closed : WhereEnded a.status a.closed (WordsHand words s a.status a.text.items a.closed)
+
+-- How the call ends: where there is no answer, for want of memory, nothing is written; else its text
+-- is appended whole, and what it hands back is handed on, or the sink failed and took a prefix of it.
+abbrev pub Writes : Result Answer NoMemory → Outcome → (faults faults' : ℕ) →
+    Option (List ℕ) → Option (List ℕ) → Type 0
+Writes (Err e) o faults faults' old new =
+    (o ≡ record { status = status.NoMemory; closed = None }) × (faults' ≡ faults) × (new ≡ old)
+Writes (Ok a) o faults faults' old new =
+    ((o ≡ record { status = a.status; closed = a.closed }) × (faults' ≡ faults)
+    × Appended old a.text.items new)
+    ⊎ ((o ≡ record { status = status.WriteFault; closed = None }) × Rose faults faults'
+    × ((taken : ℕ) × (taken ≤ length a.text.items) × Appended old (take taken a.text.items) new))

@@ -32,17 +32,12 @@ file_names (net translation from_term workers fuel name) = name ∷ []
 file_names (equal translation workers fuel heads first second) = first ∷ second ∷ []
 
 -- the name of the file that is read first; `gen` makes its term itself
+abbrev pub first_of : List Text → Text
+first_of [] = []
+first_of (name ∷ names) = name
+
 abbrev pub file_name : Asked → Text
-file_name (run translation workers fuel heads name) = name
-file_name (walk translation edges heads name) = name
-file_name (view translation after name) = name
-file_name (trace translation workers fuel name) = name
-file_name (check translation term journal) = term
-file_name (gen translation runs k) = []
-file_name (demand translation fuel heads name) = name
-file_name (certify translation steps workers fuel heads name) = name
-file_name (net translation from_term workers fuel name) = name
-file_name (equal translation workers fuel heads first second) = first
+file_name asked = first_of (file_names asked)
 
 -- The job has one file with a term. `net` has one with its flag alone, and `equal` has two.
 abbrev pub HasTermFile : Asked → Type 0
@@ -96,26 +91,12 @@ translation_in (certify translation steps workers fuel heads name) = translation
 translation_in (net translation from_term workers fuel name) = translation
 translation_in (equal translation workers fuel heads first second) = translation
 
--- the fuel of `run` without options, and how many subterms it asks
-abbrev pub plain_fuel : ℕ
-plain_fuel = 200000
-
-abbrev pub plain_heads : ℕ
-plain_heads = 4096
-
 -- the bytes of a job's one term: those of its file, where they are told, or those that `gen` makes
 abbrev pub term_bytes : (Text → Option (List ℕ)) → Asked → Option (List ℕ)
 term_bytes contents (gen translation runs k) = Some (doubled_text k)
-term_bytes contents (run translation workers fuel heads name) = contents name
-term_bytes contents (walk translation edges heads name) = contents name
-term_bytes contents (view translation after name) = contents name
-term_bytes contents (trace translation workers fuel name) = contents name
-term_bytes contents (check translation term journal) = contents term
-term_bytes contents (demand translation fuel heads name) = contents name
-term_bytes contents (certify translation steps workers fuel heads name) = contents name
-term_bytes contents (net translation true workers fuel name) = contents name
 term_bytes contents (net translation false workers fuel name) = None
 term_bytes contents (equal translation workers fuel heads first second) = None
+term_bytes contents asked = contents (file_name asked)
 
 -- these are the bytes of the term of the job that the words ask for, where they ask for one
 abbrev pub TellsTerm : (Text → Option (List ℕ)) → List (String Global) → List ℕ → Type 0

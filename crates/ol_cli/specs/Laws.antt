@@ -17,9 +17,10 @@ use Rattle.ol_words.specs.Jobs.{job_of}
 use Rattle.ol_cli.specs.Jobs.{AskFor, AskForNothing, Files}
 use Rattle.ol_cli.specs.Texts.{counts_text}
 use Rattle.ol_cli.specs.Answers.{IsAnswer, JobAnswer}
-use Rattle.ol_cli.specs.NetAnswers.{NetRunEnds}
-use Rattle.ol_cli.specs.Evaluation.{Prints, Walks}
-use Rattle.ol_cli.specs.DemandOrder.{Demands}
+use Rattle.ol_cli.specs.Net.{NetRunEnds}
+use Rattle.ol_cli.specs.Run.{Prints}
+use Rattle.ol_cli.specs.Walk.{Walks}
+use Rattle.ol_cli.specs.Demand.{Demands}
 
 -- two texts begin with the same nine lines of counts
 abbrev pub HaveOneCounts : List ℕ → List ℕ → Type 0

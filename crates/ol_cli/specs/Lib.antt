@@ -1,12 +1,21 @@
 -- What clauses of public functions rest on.
+pub mod Limits
 pub mod Texts
-pub mod VerdictTexts
+pub mod Shapes
 pub mod Jobs
 pub mod Listing
-pub mod Evaluation
-pub mod DemandOrder
-pub mod NetAnswers
-pub mod Journals
+pub mod Run
+pub mod EveryRun
+pub mod Walk
+pub mod View
+pub mod Trace
+pub mod Demand
+pub mod Certify
+pub mod Net
+pub mod TermFiles
+pub mod Check
+pub mod Equal
+pub mod Generate
 pub mod Answers
 pub mod Sources
 pub mod SourceLaws
@@ -17,7 +26,8 @@ pub mod Handed
 pub mod Completeness
 -- What only contracts of private functions and proofs cite.
 pub mod ReadAgain
-pub mod Prepared
+pub mod Files
+pub mod Ready
 pub mod Inside
 pub mod NetLines
 pub mod Sides

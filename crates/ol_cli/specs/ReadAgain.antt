@@ -10,9 +10,11 @@ use Rattle.ol_words.specs.Texts.{Text}
 use Rattle.ol_words.specs.Asked.{Asked, run, walk, gen, demand}
 use Rattle.ol_cli.specs.declared.status.Status.{Status}
 use Rattle.ol_cli.specs.declared.status.Status.TheVariants as status
-use Rattle.ol_cli.specs.Jobs.{AskFor, plain_fuel, plain_heads, term_bytes}
-use Rattle.ol_cli.specs.Evaluation.{Prints, Walks}
-use Rattle.ol_cli.specs.DemandOrder.{Demands}
+use Rattle.ol_cli.specs.Jobs.{AskFor, term_bytes}
+use Rattle.ol_cli.specs.Limits.{plain_fuel, plain_heads}
+use Rattle.ol_cli.specs.Run.{Prints}
+use Rattle.ol_cli.specs.Walk.{Walks}
+use Rattle.ol_cli.specs.Demand.{Demands}
 
 -- what `run` prints of a term, and that it is read again
 abbrev pub RunIsReadAgain : Translation → Tree → List (List ℕ) → (fuel heads : ℕ) → List ℕ → Type 0

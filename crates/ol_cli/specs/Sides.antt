@@ -7,19 +7,16 @@ use Rattle.ol_equal.specs.Comparing.{IsComparison}
 use Rattle.ol_equal.specs.Texts.{compared_text}
 use Rattle.ol_equal.specs.declared.answers.Compared.{Compared}
 use Rattle.ol_words.specs.Texts.{Text}
-use Rattle.ol_words.specs.Asked.{Asked, run}
-use Rattle.ol_cli.specs.declared.comparing.Side.{Side}
-use Rattle.ol_cli.specs.declared.comparing.Side.TheVariants.{Refused, Read}
-use Rattle.ol_cli.specs.declared.evaluation.RunNumbers.{RunNumbers}
+use Rattle.ol_cli.specs.declared.commands.equal.Side.{Side}
+use Rattle.ol_cli.specs.declared.commands.equal.Side.TheVariants.{Refused, Read}
+use Rattle.ol_cli.specs.declared.numbers.RunNumbers.{RunNumbers}
 use Rattle.ol_cli.specs.declared.status.Status.{Status}
 use Rattle.ol_cli.specs.declared.status.Status.TheVariants as status
 use Rattle.ol_cli.specs.Texts.{line}
-use Rattle.ol_cli.specs.Evaluation.{ReadsLast}
-use Rattle.ol_cli.specs.Answers.{IsTermFile, FileAnswer, Seen, GaveAll, FileCause}
-
--- the job `run` of these numbers on the file of this name
-abbrev pub run_on : RunNumbers → Text → Asked
-run_on n name = run n.translation n.workers n.fuel n.heads name
+use Rattle.ol_cli.specs.Run.{ReadsLast}
+use Rattle.ol_cli.specs.Inside.{run_on}
+use Rattle.ol_cli.specs.TermFiles.{IsTermFile}
+use Rattle.ol_cli.specs.Answers.{Seen, GaveAll, FileCause}
 
 -- the bytes are a text of a term with these free names, and this tree is read of it
 pub record IsReadOf (n : RunNumbers) (bytes : List ℕ) (names : List (List ℕ)) (tree : List ReadNode) : Type 0 where
@@ -27,17 +24,11 @@ pub record IsReadOf (n : RunNumbers) (bytes : List ℕ) (names : List (List ℕ)
   pub file : IsTermFile n.translation bytes term names
   pub read : ReadsLast n.translation term names n.fuel n.heads tree
 
--- what comes of bytes: a refusal is that of `run`, whatever the file's name
-abbrev pub IsSideOf : RunNumbers → List ℕ → Side → Type 0
-IsSideOf n bytes (Refused answer) =
-    (answer.status ≢ status.Done) × ((name : Text) → FileAnswer (run_on n name) bytes answer.status answer.text.items) × (answer.closed ≡ None)
-IsSideOf n bytes (Read tree names) = IsReadOf n bytes names tree × AreNamed (length names) tree
-
 -- what comes of a file
-abbrev pub ComesOf : RunNumbers → Seen → Text → Side → Type 0
-ComesOf n s name (Refused answer) =
+abbrev pub ComesOfSide : RunNumbers → Seen → Text → Side → Type 0
+ComesOfSide n s name (Refused answer) =
     (answer.status ≢ status.Done) × FileCause (run_on n name) s answer.status answer.text.items × (answer.closed ≡ None)
-ComesOf n s name (Read tree names) =
+ComesOfSide n s name (Read tree names) =
     (s.faults' ≡ s.faults) × ((bytes : List ℕ) × GaveAll s name bytes × IsReadOf n bytes names tree) × AreNamed (length names) tree
 
 -- what comes of the second file, against the tree and the names of the first

@@ -14,8 +14,8 @@ use Rattle.ol_confluence.specs.Compared.{by_bytes, TellsTerms, IsHeadBesideLost}
 use Rattle.ol_words.specs.Asked.{Asked, certify, equal}
 use Rattle.ol_cli.specs.Texts.{line}
 use Rattle.ol_cli.specs.Jobs.{AskFor, Files}
-use Rattle.ol_cli.specs.Evaluation.{Certifies}
-use Rattle.ol_cli.specs.Answers.{HasTree}
+use Rattle.ol_cli.specs.Certify.{Certifies}
+use Rattle.ol_cli.specs.Equal.{HasTree}
 
 -- What the line of `equal` tells of the terms of its two files: `equal`, that they have one normal
 -- form, and `different at`, that they aren't convertible; a free name of the one is one of the other

@@ -20,9 +20,12 @@ use Rattle.ol_confluence.specs.Printed.{SaysAlways}
 use Rattle.ol_words.specs.Asked.{Asked, run, walk, gen, demand}
 use Rattle.ol_cli.specs.declared.status.Status.{Status}
 use Rattle.ol_cli.specs.declared.status.Status.TheVariants as status
-use Rattle.ol_cli.specs.Jobs.{AskFor, plain_fuel, plain_heads, translation_in}
-use Rattle.ol_cli.specs.Evaluation.{start_net_of_term, Prints, Walks, PrintsOf}
-use Rattle.ol_cli.specs.DemandOrder.{Demands}
+use Rattle.ol_cli.specs.Jobs.{AskFor, translation_in}
+use Rattle.ol_cli.specs.Limits.{plain_fuel, plain_heads}
+use Rattle.ol_cli.specs.Run.{start_net_of_term, Prints}
+use Rattle.ol_cli.specs.Walk.{Walks}
+use Rattle.ol_cli.specs.EveryRun.{PrintsOf}
+use Rattle.ol_cli.specs.Demand.{Demands}
 
 -- ---- the tree that is written
 

@@ -1,9 +1,8 @@
--- The texts that the program writes.
-use Rattle.std.specs.Prelude.{ℕ, List, [], ◌∷◌, ◌++◌, codes}
+-- The texts that more than one command writes.
 use Rattle.std.specs.Fmt.{decimal}
+use Rattle.std.specs.Prelude.{List, [], codes, ℕ, ◌++◌, ◌∷◌}
 use Rattle.ol_rules.specs.declared.journal.Counts.{Counts}
-use Rattle.ol_view.specs.declared.answers.Check.{Check}
-use Rattle.ol_view.specs.declared.answers.Check.TheVariants as check
+use Rattle.ol_cli.specs.Limits.{most_term_bytes, most_depth, most_nodes, most_journal_bytes, most_net_bytes}
 
 -- the words and a line feed
 abbrev pub line : List ℕ → List ℕ
@@ -20,36 +19,25 @@ abbrev pub fault_text : List ℕ
 fault_text = line (codes "read fault")
 
 abbrev pub bytes_text : List ℕ
-bytes_text = line (codes "limit bytes 1048576")
+bytes_text = count_line (codes "limit bytes") most_term_bytes
 
 abbrev pub depth_text : List ℕ
-depth_text = line (codes "limit depth 1000")
+depth_text = count_line (codes "limit depth") most_depth
 
 abbrev pub nodes_text : List ℕ
-nodes_text = line (codes "limit nodes 200000")
+nodes_text = count_line (codes "limit nodes") most_nodes
 
 abbrev pub journal_text : List ℕ
-journal_text = line (codes "limit journal 402653184")
+journal_text = count_line (codes "limit journal") most_journal_bytes
 
 abbrev pub net_bytes_text : List ℕ
-net_bytes_text = line (codes "limit net 33554432")
+net_bytes_text = count_line (codes "limit net") most_net_bytes
 
 abbrev pub syntax_text : ℕ → List ℕ
 syntax_text at = count_line (codes "syntax at byte") at
 
 abbrev pub spent_text : ℕ → List ℕ
 spent_text fuel = count_line (codes "fuel") fuel
-
--- what is found of a journal
-abbrev pub found_text : Check → List ℕ
-found_text check.Complete = line (codes "complete")
-found_text (check.Run k) = count_line (codes "run") k
-found_text (check.BadText l) = count_line (codes "bad text at line") l
-found_text (check.NotARun l) = count_line (codes "not a run at line") l
-
--- the line of the number of steps, and the net after them as it is shown
-abbrev pub view_text : ℕ → List ℕ → List ℕ
-view_text steps shown = count_line (codes "step") steps ++ shown
 
 -- nine lines: the number of interactions of each rule, and of the pairs that are stuck
 abbrev pub counts_text : Counts → ℕ → List ℕ

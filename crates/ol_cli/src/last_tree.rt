@@ -3,9 +3,10 @@ ghost use Rattle.std.specs.Prelude.{◌≡◌, ◌≤◌, ◌<◌, ◌-◌, leng
 ghost use Rattle.ol_readback.specs.Texts.{AreNamed};
 ghost use Rattle.ol_wire.specs.Sizes.{IsSmallNet};
 ghost use Rattle.ol_cli.specs.Inside.{ReadsOrRunsOut};
-ghost use Rattle.ol_cli.specs.Prepared.{HoldsOfTerms};
+ghost use Rattle.ol_cli.specs.Ready.{HoldsOfTerms};
+ghost use Rattle.ol_cli.specs.Limits.{most_fuel, most_workers};
 
-use crate::evaluation::RunNumbers;
+use crate::numbers::RunNumbers;
 use ol_io::{Gate, NoMemory};
 use ol_net::Net;
 use ol_readback::{ReadTree, read_back};
@@ -27,8 +28,8 @@ pub fn last_tree<R: Threads + Wait + Sync, G: Gate + Sync>(
     requires root { 0 < net.now.free }
     requires whole { count_by is_some net.now.nodes ≡ length net.now.nodes }
     requires small { IsSmallNet net.now }
-    requires workers { (1 ≤ numbers.workers) × (numbers.workers ≤ 64) }
-    requires fuel { numbers.fuel ≤ 8000000 }
+    requires workers { (1 ≤ numbers.workers) × (numbers.workers ≤ most_workers) }
+    requires fuel { numbers.fuel ≤ most_fuel }
     requires heads { 1 ≤ numbers.heads }
     ensures reads { IfOk result (λ tree. HoldsOfTerms net.now (λ translation t names.
         ReadsOrRunsOut translation t names numbers.fuel numbers.heads tree)) }

@@ -1,14 +1,14 @@
 //! The top call: from words to a text on a sink and a status.
 #![tactic(auto)]
 
-mod certifying;
-mod comparing;
-mod demanding;
-mod evaluation;
+mod answer;
+mod commands;
+mod files;
 mod last_tree;
 mod laws;
-mod net_files;
-mod preparing;
+mod limits;
+mod numbers;
+mod ready;
 mod status;
 mod texts;
 mod top;

@@ -1,6 +1,8 @@
 //! The texts that the program writes.
 ghost use Rattle.std.specs.Prelude.{◌≡◌, ◌++◌, IfOk, OnOk};
-ghost use Rattle.ol_cli.specs.Texts.{line, count_line, syntax_text, spent_text, found_text, view_text, counts_text, answer_text};
+ghost use Rattle.ol_cli.specs.Texts.{line, count_line, syntax_text, spent_text, counts_text, answer_text};
+ghost use Rattle.ol_cli.specs.Check.{found_text};
+ghost use Rattle.ol_cli.specs.View.{view_text};
 
 use ol_io::NoMemory;
 use ol_rules::Counts;

@@ -1,44 +1,38 @@
 //! The top call.
-ghost use Rattle.std.specs.Prelude.{List, ◌++◌, ℕ, ◌≢◌, ◌≤◌, ◌+◌, ◌≡◌, ◌<◌, ◌⊎◌, true, IfOk, None};
+ghost use Rattle.std.specs.Prelude.{List, ◌++◌, ℕ, ◌≢◌, ◌≤◌, ◌+◌, ◌≡◌, ◌<◌, ◌⊎◌, true, IfOk};
 ghost use Rattle.ol_io.specs.Outside.{Rose, Appended};
 ghost use Rattle.ol_io.specs.Readings.{Reading, AreOfSince, handed};
-ghost use Rattle.ol_term.specs.Generated.{doubled_text};
-ghost use Rattle.ol_wire.specs.Sizes.{IsSmallNet};
-ghost use Rattle.ol_words.specs.Asked.{Asked, asked_by, check, gen};
-ghost use Rattle.ol_cli.specs.Texts.{line};
-ghost use Rattle.ol_cli.specs.Jobs.{AskFor, AskForNothing, EachName, IsKnownTo, Files, OfReadFiles, TellsTerm, TellsFiles, count_of_files, files_of, file_name};
-ghost use Rattle.ol_cli.specs.Inside.{IsReadWhereTold, IsOnTerm, IsWithinLimits, EndsJournal};
-ghost use Rattle.ol_cli.specs.Answers.{IfNoneFailed, seen_of, Cause, Ends, FileCause, IsAnswer, JobCause, Makes, RefusesFirst};
+ghost use Rattle.ol_words.specs.Asked.{Asked, asked_by};
+ghost use Rattle.ol_cli.specs.Jobs.{AskFor, AskForNothing, EachName, IsKnownTo, OfReadFiles, TellsTerm, TellsFiles, count_of_files, files_of};
+ghost use Rattle.ol_cli.specs.Inside.{ComesOf, ComesOfWords, IsWithinLimits, Writes};
+ghost use Rattle.ol_cli.specs.Answers.{IfNoneFailed, seen_of, Ends, IsAnswer, RefusesFirst};
 ghost use Rattle.ol_cli.specs.Completeness.{AskForWhatCanBeDone, IsDoneOrNothing};
-ghost use Rattle.ol_cli.specs.Prepared.{HoldsOfTerms};
 ghost use Rattle.ol_cli.specs.Sources.{EveryRunTells, WritesTree};
 ghost use Rattle.ol_cli.specs.NormalForms.{LineSays, IsItsNormalForm, TellsOfNone, IsFoundOnDemand, LineSaysOfTwo};
 ghost use Rattle.ol_cli.specs.NormalForms.{PlainDemandFinds, PlainEqualSays, PlainLineSays};
 ghost use Rattle.ol_cli.specs.SourceLaws.{WritesOfSources};
-ghost use Rattle.ol_cli.specs.ReadAgain.{FileIsReadAgain, WordsAreReadAgain, WritesReadable};
-ghost use Rattle.ol_cli.specs.Handed.{Hands, JobHands, MakingHands, ReadHands, WhereEnded, WordsHand};
+ghost use Rattle.ol_cli.specs.Handed.{Hands};
 
-use crate::comparing::answer_equal;
-use crate::evaluation::{Answer, evaluate, numbers_in, refusal, run_made};
-use crate::net_files::answer_net;
-use crate::preparing::{Prepared, prepare};
+use crate::answer::Answer;
+use crate::commands::certify::answer_certify;
+use crate::commands::check::answer_check;
+use crate::commands::demand::answer_demand;
+use crate::commands::equal::answer_equal;
+use crate::commands::generate::answer_gen;
+use crate::commands::net::{answer_net, answer_net_of_term};
+use crate::commands::run::answer_run;
+use crate::commands::trace::answer_trace;
+use crate::commands::view::answer_view;
+use crate::commands::walk::answer_walk;
+use crate::numbers::RunNumbers;
 use crate::status::Status;
-use crate::texts::{found_line, line};
-use ol_io::{Gate, NoMemory, ReadAll, Sink, Source, Written, read_all, write_all};
-use ol_net::Net;
-use ol_term::{Made, Translation, make};
-use ol_view::check;
+use crate::texts::line;
+use ol_io::{Gate, NoMemory, Sink, Source, Written, write_all};
 use ol_wire::Words;
 use ol_words::{Job, UsageFault, job};
 use std::alloc::Global;
 use std::sync::Wait;
 use std::thread::Threads;
-
-/// The greatest number of bytes of a term file.
-const MOST_BYTES: usize = 1_048_576;
-
-/// The greatest number of bytes of a journal file.
-const MOST_JOURNAL_BYTES: usize = 402_653_184;
 
 /// How a call of `ol` ended.
 ///
@@ -329,44 +323,16 @@ pub fn ol<R: Threads + Wait + Sync, S: Source, W: Sink, G: Gate + Sync>(
     ensures knows { S.knows src.new ≡ S.knows src.old }
     ensures contents { S.contents src.new ≡ S.contents src.old }
 {
-    answer(rt, alloc, words, src, out, gate)
+    let made = answer_words(rt, alloc, words, src, gate);
+    write(out, made)
 }
 
-// The text is made, and then written.
-fn answer<R: Threads + Wait + Sync, S: Source, W: Sink, G: Gate + Sync>(
-    rt: &R,
-    alloc: Global,
-    words: &Vec<String>,
-    src: &mut S,
-    out: &mut W,
-    gate: &G,
-) -> Outcome
-    requires known { IsKnownTo (S.knows src.old) words.now.items }
-    ensures ends { (files : Files)
-        → AreOfSince files (S.readings src.old) (S.readings src.new)
-        → Ends words.now.items
-        (seen_of S.faults files S.given S.ended src.old src.new)
-        result.status (W.faults out.old) (W.faults out.new) (W.taken out.old) (W.taken out.new) }
-    ensures read_again { (files : Files)
-        → AreOfSince files (S.readings src.old) (S.readings src.new)
-        → (bytes : List ℕ) → TellsTerm (files 0) words.now.items bytes
-        → result.status ≡ Status.Done
-        → WritesReadable words.now.items bytes (W.taken out.old) (W.taken out.new) }
-    ensures closed { (files : Files)
-        → AreOfSince files (S.readings src.old) (S.readings src.new)
-        → Hands words.now.items
-        (seen_of S.faults files S.given S.ended src.old src.new)
-        result.status result.closed (W.taken out.old) (W.taken out.new) }
-    ensures begins { S.begins src.new ≤ S.begins src.old + files_of words.now.items }
-    ensures first_alone { (files : Files)
-        → AreOfSince files (S.readings src.old) (S.readings src.new)
-        → (asked : Asked) → AskFor words.now.items asked
-        → RefusesFirst (files 0) asked → S.begins src.new ≤ S.begins src.old + 1 }
-    ensures knows { S.knows src.new ≡ S.knows src.old }
-    ensures contents { S.contents src.new ≡ S.contents src.old }
-    ensures told { AreOfSince (λ _. S.contents src.old) (S.readings src.old) (S.readings src.new) }
+// Writes an answer, if there is one, and tells how that ended.
+fn write<W: Sink>(out: &mut W, made: Result<Answer, NoMemory>) -> Outcome
+    ensures told { Writes made result
+        (W.faults out.old) (W.faults out.new) (W.taken out.old) (W.taken out.new) }
 {
-    match plan(rt, alloc, words, src, gate) {
+    match made {
         Err(NoMemory) => Outcome {
             status: Status::NoMemory,
             closed: None,
@@ -390,8 +356,8 @@ fn answer<R: Threads + Wait + Sync, S: Source, W: Sink, G: Gate + Sync>(
     }
 }
 
-// The text that is to be written, and its status.
-fn plan<R: Threads + Wait + Sync, S: Source, G: Gate + Sync>(
+// The answer to words: the usage, or the answer to their job.
+fn answer_words<R: Threads + Wait + Sync, S: Source, G: Gate + Sync>(
     rt: &R,
     alloc: Global,
     words: &Vec<String>,
@@ -399,25 +365,13 @@ fn plan<R: Threads + Wait + Sync, S: Source, G: Gate + Sync>(
     gate: &G,
 ) -> Result<Answer, NoMemory>
     requires known { IsKnownTo (S.knows src.old) words.now.items }
-    ensures planned { (files : Files)
-        → AreOfSince files (S.readings src.old) (S.readings src.new)
-        → IfOk result (λ a. Cause words.now.items
-        (seen_of S.faults files S.given S.ended src.old src.new)
-        a.status a.text.items) }
-    ensures read { (files : Files)
-        → AreOfSince files (S.readings src.old) (S.readings src.new)
-        → IfOk result (λ a.
-        WordsAreReadAgain words.now.items (files 0) a.status a.text.items) }
-    ensures closed { (files : Files)
-        → AreOfSince files (S.readings src.old) (S.readings src.new)
-        → IfOk result (λ a. WhereEnded a.status a.closed (WordsHand words.now.items
-        (seen_of S.faults files S.given S.ended src.old src.new)
-        a.status a.text.items a.closed)) }
+    ensures comes { OfReadFiles (S.readings src.old) (S.readings src.new) (λ files.
+        IfOk result (ComesOfWords words.now.items
+        (seen_of S.faults files S.given S.ended src.old src.new))) }
     ensures begins { S.begins src.new ≤ S.begins src.old + files_of words.now.items }
-    ensures first_alone { (files : Files)
-        → AreOfSince files (S.readings src.old) (S.readings src.new)
-        → (asked : Asked) → AskFor words.now.items asked
-        → RefusesFirst (files 0) asked → S.begins src.new ≤ S.begins src.old + 1 }
+    ensures first_alone { OfReadFiles (S.readings src.old) (S.readings src.new) (λ files.
+        (asked : Asked) → AskFor words.now.items asked
+        → RefusesFirst (files 0) asked → S.begins src.new ≤ S.begins src.old + 1) }
     ensures knows { S.knows src.new ≡ S.knows src.old }
     ensures contents { S.contents src.new ≡ S.contents src.old }
     ensures told { AreOfSince (λ _. S.contents src.old) (S.readings src.old) (S.readings src.new) }
@@ -438,7 +392,7 @@ fn plan<R: Threads + Wait + Sync, S: Source, G: Gate + Sync>(
     }
 }
 
-// The text of a job, and its status.
+// The answer to a job: a line a command.
 fn answer_job<R: Threads + Wait + Sync, S: Source, G: Gate + Sync>(
     rt: &R,
     alloc: Global,
@@ -448,36 +402,53 @@ fn answer_job<R: Threads + Wait + Sync, S: Source, G: Gate + Sync>(
 ) -> Result<Answer, NoMemory>
     requires known { EachName (asked_by job.now) (λ name. S.knows src.old name ≡ true) }
     requires within { IsWithinLimits (asked_by job.now) }
-    ensures caused { (files : Files)
-        → AreOfSince files (S.readings src.old) (S.readings src.new)
-        → IfOk result (λ a. JobCause
-        (seen_of S.faults files S.given S.ended src.old src.new)
-        a.status a.text.items (asked_by job.now)) }
-    ensures read { (files : Files)
-        → AreOfSince files (S.readings src.old) (S.readings src.new)
-        → IfOk result (λ a.
-        IsReadWhereTold (asked_by job.now) (files 0) a.status a.text.items) }
-    ensures closed { (files : Files)
-        → AreOfSince files (S.readings src.old) (S.readings src.new)
-        → IfOk result (λ a. WhereEnded a.status a.closed (JobHands (asked_by job.now)
-        (seen_of S.faults files S.given S.ended src.old src.new)
-        a.status a.text.items a.closed)) }
+    ensures comes { OfReadFiles (S.readings src.old) (S.readings src.new) (λ files.
+        IfOk result (ComesOf (asked_by job.now)
+        (seen_of S.faults files S.given S.ended src.old src.new))) }
     ensures begins { S.begins src.new ≤ S.begins src.old + count_of_files (asked_by job.now) }
-    ensures first_alone { (files : Files)
-        → AreOfSince files (S.readings src.old) (S.readings src.new)
-        → RefusesFirst (files 0) (asked_by job.now)
-        → S.begins src.new ≤ S.begins src.old + 1 }
+    ensures first_alone { OfReadFiles (S.readings src.old) (S.readings src.new) (λ files.
+        RefusesFirst (files 0) (asked_by job.now) → S.begins src.new ≤ S.begins src.old + 1) }
     ensures knows { S.knows src.new ≡ S.knows src.old }
     ensures contents { S.contents src.new ≡ S.contents src.old }
     ensures told { AreOfSince (λ _. S.contents src.old) (S.readings src.old) (S.readings src.new) }
 {
     match job {
-        Job::Run { name, .. } => answer_file(rt, alloc, job, name.as_str(), src, gate),
-        Job::Walk { name, .. } => answer_file(rt, alloc, job, name.as_str(), src, gate),
-        Job::View { name, .. } => answer_file(rt, alloc, job, name.as_str(), src, gate),
-        Job::Trace { name, .. } => answer_file(rt, alloc, job, name.as_str(), src, gate),
-        Job::Demand { name, .. } => answer_file(rt, alloc, job, name.as_str(), src, gate),
-        Job::Certify { name, .. } => answer_file(rt, alloc, job, name.as_str(), src, gate),
+        Job::Run {
+            translation,
+            workers,
+            fuel,
+            heads,
+            name,
+        } => {
+            let numbers = RunNumbers::of(*translation, *workers, *fuel, *heads);
+            answer_run(rt, alloc, numbers, name.as_str(), src, gate)
+        }
+        Job::Walk {
+            translation,
+            edges,
+            heads,
+            name,
+        } => answer_walk(alloc, *translation, *edges, *heads, name.as_str(), src),
+        Job::View {
+            translation,
+            after,
+            name,
+        } => answer_view(alloc, *translation, *after, name.as_str(), src),
+        Job::Trace {
+            translation,
+            workers,
+            fuel,
+            name,
+        } => answer_trace(
+            rt,
+            alloc,
+            *translation,
+            *workers,
+            *fuel,
+            name.as_str(),
+            src,
+            gate,
+        ),
         Job::Check {
             translation,
             term,
@@ -487,184 +458,47 @@ fn answer_job<R: Threads + Wait + Sync, S: Source, G: Gate + Sync>(
             translation,
             run,
             k,
-        } => answer_made(rt, alloc, *translation, *run, *k, gate),
+        } => answer_gen(rt, alloc, *translation, *run, *k, gate),
+        Job::Demand {
+            translation,
+            fuel,
+            heads,
+            name,
+        } => answer_demand(alloc, *translation, *fuel, *heads, name.as_str(), src),
+        Job::Certify {
+            translation,
+            steps,
+            workers,
+            fuel,
+            heads,
+            name,
+        } => {
+            let numbers = RunNumbers::of(*translation, *workers, *fuel, *heads);
+            answer_certify(rt, alloc, numbers, *steps, name.as_str(), src, gate)
+        }
         Job::Net {
+            translation,
             from_term,
             workers,
             fuel,
             name,
-            ..
         } => {
             if *from_term {
-                return answer_file(rt, alloc, job, name.as_str(), src, gate);
+                return answer_net_of_term(alloc, *translation, name.as_str(), src);
             }
-            answer_net(rt, alloc, name.as_str(), *workers, *fuel, src, gate)
+            answer_net(rt, alloc, *workers, *fuel, name.as_str(), src, gate)
         }
-        Job::Equal { first, second, .. } => {
+        Job::Equal {
+            translation,
+            workers,
+            fuel,
+            heads,
+            first,
+            second,
+        } => {
+            let numbers = RunNumbers::of(*translation, *workers, *fuel, *heads);
             let (first, second) = (first.as_str(), second.as_str());
-            answer_equal(rt, alloc, numbers_in(job), first, second, src, gate)
+            answer_equal(rt, alloc, numbers, first, second, src, gate)
         }
-    }
-}
-
-// The text of a job on one file, which has this name, and its status.
-fn answer_file<R: Threads + Wait + Sync, S: Source, G: Gate + Sync>(
-    rt: &R,
-    alloc: Global,
-    job: &Job,
-    name: &str,
-    src: &mut S,
-    gate: &G,
-) -> Result<Answer, NoMemory>
-    requires name { name.now ≡ file_name (asked_by job.now) }
-    requires known { S.knows src.old name.now ≡ true }
-    requires on_term { IsOnTerm (asked_by job.now) }
-    requires within { IsWithinLimits (asked_by job.now) }
-    ensures caused { (files : Files)
-        → AreOfSince files (S.readings src.old) (S.readings src.new)
-        → IfOk result (λ a. FileCause (asked_by job.now)
-        (seen_of S.faults files S.given S.ended src.old src.new)
-        a.status a.text.items) }
-    ensures read { (files : Files)
-        → AreOfSince files (S.readings src.old) (S.readings src.new)
-        → IfOk result (λ a.
-        IsReadWhereTold (asked_by job.now) (files 0) a.status a.text.items) }
-    ensures closed { (files : Files)
-        → AreOfSince files (S.readings src.old) (S.readings src.new)
-        → IfOk result (λ a. WhereEnded a.status a.closed (ReadHands (asked_by job.now)
-        (seen_of S.faults files S.given S.ended src.old src.new)
-        a.status a.text.items a.closed)) }
-    ensures begins { S.begins src.new ≤ S.begins src.old + 1 }
-    ensures knows { S.knows src.new ≡ S.knows src.old }
-    ensures contents { S.contents src.new ≡ S.contents src.old }
-    ensures told { AreOfSince (λ _. S.contents src.old) (S.readings src.old) (S.readings src.new) }
-{
-    match read_all(alloc, src, name, MOST_BYTES) {
-        Err(ReadAll::NoMemory) => Err(NoMemory),
-        Err(ReadAll::Fault) => {
-            let answer = refusal(alloc, "read fault", Status::ReadFault)?;
-            Ok(answer)
-        }
-        Err(ReadAll::TooLong) => {
-            let answer = refusal(alloc, "limit bytes 1048576", Status::Limit)?;
-            Ok(answer)
-        }
-        Ok(bytes) => {
-            let answer = evaluate(rt, alloc, job, &bytes, gate)?;
-            Ok(answer)
-        }
-    }
-}
-
-// The text of `check` on two files, which have these names, and its status.
-fn answer_check<S: Source>(
-    alloc: Global,
-    translation: Translation,
-    term: &str,
-    journal: &str,
-    src: &mut S,
-) -> Result<Answer, NoMemory>
-    requires term { S.knows src.old term.now ≡ true }
-    requires journal { S.knows src.old journal.now ≡ true }
-    ensures caused { (files : Files)
-        → AreOfSince files (S.readings src.old) (S.readings src.new)
-        → IfOk result (λ a. JobCause
-        (seen_of S.faults files S.given S.ended src.old src.new)
-        a.status a.text.items (check translation term.now journal.now)) }
-    ensures closed { IfOk result (λ a. a.closed ≡ None) }
-    ensures begins { S.begins src.new ≤ S.begins src.old + 2 }
-    ensures first_alone { (files : Files)
-        → AreOfSince files (S.readings src.old) (S.readings src.new)
-        → RefusesFirst (files 0) (check translation term.now journal.now)
-        → S.begins src.new ≤ S.begins src.old + 1 }
-    ensures knows { S.knows src.new ≡ S.knows src.old }
-    ensures contents { S.contents src.new ≡ S.contents src.old }
-    ensures told { AreOfSince (λ _. S.contents src.old) (S.readings src.old) (S.readings src.new) }
-{
-    match read_all(alloc, src, term, MOST_BYTES) {
-        Err(ReadAll::NoMemory) => Err(NoMemory),
-        Err(ReadAll::Fault) => {
-            let answer = refusal(alloc, "read fault", Status::ReadFault)?;
-            Ok(answer)
-        }
-        Err(ReadAll::TooLong) => {
-            let answer = refusal(alloc, "limit bytes 1048576", Status::Limit)?;
-            Ok(answer)
-        }
-        Ok(bytes) => match prepare(alloc, &bytes, translation)? {
-            Prepared::Refused(answer) => Ok(answer),
-            Prepared::Net { net, file: _ } => {
-                let answer = answer_journal(alloc, &net, journal, src)?;
-                Ok(answer)
-            }
-        },
-    }
-}
-
-// The text of `check` on a journal file, against a net, and its status. It holds of each term whose
-// net it is.
-fn answer_journal<S: Source>(
-    alloc: Global,
-    net: &Net,
-    name: &str,
-    src: &mut S,
-) -> Result<Answer, NoMemory>
-    requires known { S.knows src.old name.now ≡ true }
-    requires small { IsSmallNet net.now }
-    ensures caused { (files : Files)
-        → AreOfSince files (S.readings src.old) (S.readings src.new)
-        → IfOk result (λ a. HoldsOfTerms net.now (λ translation t names.
-        EndsJournal (seen_of S.faults files S.given S.ended src.old src.new)
-        name.now translation t names a.status a.text.items)) }
-    ensures closed { IfOk result (λ a. a.closed ≡ None) }
-    ensures begins { S.begins src.new ≤ S.begins src.old + 1 }
-    ensures knows { S.knows src.new ≡ S.knows src.old }
-    ensures contents { S.contents src.new ≡ S.contents src.old }
-    ensures told { AreOfSince (λ _. S.contents src.old) (S.readings src.old) (S.readings src.new) }
-{
-    match read_all(alloc, src, name, MOST_JOURNAL_BYTES) {
-        Err(ReadAll::NoMemory) => Err(NoMemory),
-        Err(ReadAll::Fault) => {
-            let answer = refusal(alloc, "read fault", Status::ReadFault)?;
-            Ok(answer)
-        }
-        Err(ReadAll::TooLong) => {
-            let answer = refusal(alloc, "limit journal 402653184", Status::Limit)?;
-            Ok(answer)
-        }
-        Ok(bytes) => {
-            let found = check(alloc, net, &bytes)?;
-            let text = found_line(alloc, found)?;
-            Ok(Answer::without_words(text, Status::Done))
-        }
-    }
-}
-
-// The text that is made, or the answer of `run` to it.
-fn answer_made<R: Threads + Wait + Sync, G: Gate + Sync>(
-    rt: &R,
-    alloc: Global,
-    translation: Translation,
-    run: bool,
-    k: u32,
-    gate: &G,
-) -> Result<Answer, NoMemory>
-    requires few { k ≤ 10 }
-    ensures made { IfOk result (λ a. Makes translation run k a.status a.text.items) }
-    ensures read { IfOk result (λ a.
-        FileIsReadAgain (gen translation run k) (doubled_text k) a.status a.text.items) }
-    ensures closed { IfOk result (λ a. WhereEnded a.status a.closed
-        (MakingHands translation run k a.status a.text.items a.closed)) }
-{
-    match make(alloc, k) {
-        Ok(text) => {
-            if run {
-                let answer = run_made(rt, alloc, &text, translation, gate)?;
-                return Ok(answer);
-            }
-            Ok(Answer::without_words(text, Status::Done))
-        }
-        Err(Made::TooLarge) => unreachable!(),
-        Err(Made::NoMemory) => Err(NoMemory),
     }
 }

@@ -1,6 +1,6 @@
 use Rattle.std.proofs.Common.{◌≡◌, suc, ◌+◌, ◌++◌, arith, take, sym, ap, ◌∙◌}
 use Rattle.std.specs.Fmt.{decimal}
-use Rattle.ol_cli.specs.VerdictTexts.{moves_text}
+use Rattle.ol_cli.specs.Certify.{moves_text}
 use Rattle.ol_cli.proofs.VerdictLines.{moves_on}
 use Rattle.ol_cli.proofs.verdicts.digits.Goals as goal
 

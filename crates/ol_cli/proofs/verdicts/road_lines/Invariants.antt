@@ -1,6 +1,6 @@
 use Rattle.std.proofs.Common.{◌≡◌, ◌++◌, codes, length, take}
 use Rattle.ol_cli.specs.Texts.{line, count_line}
-use Rattle.ol_cli.specs.VerdictTexts.{addresses_text}
+use Rattle.ol_cli.specs.Certify.{addresses_text}
 use Rattle.ol_cli.proofs.verdicts.road_lines.Given as goal
 
 -- the addresses so far are written

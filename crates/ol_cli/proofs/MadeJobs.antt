@@ -1,0 +1,45 @@
+-- What `gen` comes to: a text that is made, or what `run` answers to it.
+use Rattle.std.proofs.Common.{◌≡◌, ℕ, List, None, true, false, subst}
+use Rattle.ol_term.specs.declared.translations.Translation.{Translation}
+use Rattle.ol_term.specs.Generated.{doubled_text}
+use Rattle.ol_words.specs.Asked.{gen}
+use Rattle.ol_cli.specs.declared.answer.Answer.{Answer}
+use Rattle.ol_cli.specs.declared.status.Status.TheVariants.{Done}
+use Rattle.ol_cli.specs.Answers.{Seen, by_making}
+use Rattle.ol_cli.specs.TermFiles.{FileAnswer}
+use Rattle.ol_cli.specs.Generate.{plain_run}
+use Rattle.ol_cli.specs.TermFiles.{FileHands}
+use Rattle.ol_cli.specs.Handed.{WhereEnded}
+use Rattle.ol_cli.specs.Inside.{ComesOf}
+use Rattle.ol_cli.specs.ReadAgain.{FileIsReadAgain}
+use Rattle.ol_cli.proofs.Handing.{none_ended}
+use Rattle.ol_cli.proofs.ReadAgain.{made_read}
+
+pub made_comes : (tr : Translation) (k : ℕ) (s : Seen) → s.faults' ≡ s.faults → (a : Answer) →
+    a.status ≡ Done → a.text.items ≡ doubled_text k → a.closed ≡ None →
+    ComesOf (gen tr false k) s a
+made_comes tr k s same a is e none = record {
+  caused = by_making same (is, e);
+  read = λ bytes told t names f done. tt;
+  closed = none_ended a.status a.closed none;
+}
+
+pub run_comes : (tr : Translation) (k : ℕ) (s : Seen) → s.faults' ≡ s.faults → (a : Answer)
+    (bytes : List ℕ) → bytes ≡ doubled_text k →
+    FileAnswer (plain_run tr) bytes a.status a.text.items →
+    FileIsReadAgain (plain_run tr) bytes a.status a.text.items →
+    WhereEnded a.status a.closed (FileHands (plain_run tr) bytes a.status a.text.items a.closed) →
+    ComesOf (gen tr true k) s a
+run_comes tr k s same a bytes e h read closed = record {
+  caused =
+      by_making same
+      (subst (λ (b : List ℕ). FileAnswer (plain_run tr) b a.status a.text.items) e h);
+  read =
+      made_read tr (s.contents 0) true k a.status a.text.items
+      (subst (λ (b : List ℕ). FileIsReadAgain (plain_run tr) b a.status a.text.items) e read);
+  closed =
+      subst
+      (λ (b : List ℕ). WhereEnded a.status a.closed
+      (FileHands (plain_run tr) b a.status a.text.items a.closed))
+      e closed;
+}

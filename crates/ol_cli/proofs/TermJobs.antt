@@ -1,0 +1,133 @@
+-- What a job on a term file comes to, by what comes of that file, and by what is answered to its term. Used by each command.
+use Rattle.std.proofs.Common.{◌≡◌, ℕ, List, Option, None, true, false, ◌∙◌}
+use Rattle.ol_term.specs.Trees.{tree_of}
+use Rattle.ol_term.specs.declared.term_file.TermFile.{TermFile}
+use Rattle.ol_term.specs.declared.translations.Translation.{Translation}
+use Rattle.ol_net.specs.Graph.{Graph}
+use Rattle.ol_wire.specs.Closed.{ClosedTable}
+use Rattle.ol_words.specs.Texts.{Text}
+use Rattle.ol_words.specs.Asked.{Asked, run, walk, view, trace, check, gen, demand, certify}
+use Rattle.ol_words.specs.Asked as jobs
+use Rattle.ol_cli.specs.declared.answer.Answer.{Answer}
+use Rattle.ol_cli.specs.declared.ready.Ready.TheVariants as ready
+use Rattle.ol_cli.specs.declared.status.Status.{Status}
+use Rattle.ol_cli.specs.declared.status.Status.TheVariants.{Done, Usage, Syntax, Spent, ReadFault, WriteFault, NoMemory, Limit, BadNet}
+use Rattle.ol_cli.specs.Jobs.{HasTermFile, file_name, translation_in}
+use Rattle.ol_cli.specs.Answers.{Seen, FileCause, NetCause, by_file, by_net_file}
+use Rattle.ol_cli.specs.TermFiles.{TermAnswer}
+use Rattle.ol_cli.specs.TermFiles.{TermHands}
+use Rattle.ol_cli.specs.Handed.{ReadHands, JobHands, WhereEnded}
+use Rattle.ol_cli.specs.Inside.{ComesOf}
+use Rattle.ol_cli.specs.ReadAgain.{AnswerIsReadAgain}
+use Rattle.ol_cli.specs.Ready.{RefusesTerm, ComesOfTerm}
+use Rattle.ol_cli.proofs.Exact.{read_cause}
+use Rattle.ol_cli.proofs.Handing.{file_hands, none_ended, read_hands, where_ended}
+use Rattle.ol_cli.proofs.ReadAgain.{file_bytes, file_read, told_read}
+use Rattle.ol_cli.proofs.Readied.{term_answer}
+
+-- ---- a file that is refused
+
+-- a refusal is the cause of an answer, whatever the job
+pub refused_cause : (asked : Asked) (s : Seen) (st : Status) (text : List ℕ) →
+    RefusesTerm (translation_in asked) s (file_name asked) st text → FileCause asked s st text
+refused_cause asked s ReadFault text r = r
+refused_cause asked s Limit text r = r
+refused_cause asked s Syntax text r = r
+refused_cause asked s Done text r = absurd r.1.2
+refused_cause asked s Spent text r = absurd r.1.2
+refused_cause asked s Usage text r = absurd r.1.2
+refused_cause asked s WriteFault text r = absurd r.1.2
+refused_cause asked s NoMemory text r = absurd r.1.2
+refused_cause asked s BadNet text r = absurd r.1.2
+
+module _ (tr : Translation) (s : Seen) (name : Text) (text : List ℕ) where
+  -- nothing is done with it,
+  pub refused_undone : (st : Status) → RefusesTerm tr s name st text → st ≡ Done → ⊥
+  refused_undone Done r e = r.1.2
+  refused_undone ReadFault r e = absurd (cc)
+  refused_undone Limit r e = absurd (cc)
+  refused_undone Syntax r e = absurd (cc)
+  refused_undone Spent r e = absurd (cc)
+  refused_undone Usage r e = absurd (cc)
+  refused_undone WriteFault r e = absurd (cc)
+  refused_undone NoMemory r e = absurd (cc)
+  refused_undone BadNet r e = absurd (cc)
+
+  -- and nothing is handed back
+  refused_closed : (st : Status) (closed : Option ClosedTable) (P : Type 0) →
+      RefusesTerm tr s name st text → closed ≡ None → WhereEnded st closed P
+  refused_closed Done closed P r e = absurd r.1.2
+  refused_closed Spent closed P r e = absurd r.1.2
+  refused_closed ReadFault closed P r e = e
+  refused_closed Limit closed P r e = e
+  refused_closed Syntax closed P r e = e
+  refused_closed Usage closed P r e = e
+  refused_closed WriteFault closed P r e = e
+  refused_closed NoMemory closed P r e = e
+  refused_closed BadNet closed P r e = e
+
+pub refused_comes : (asked : Asked) → HasTermFile asked → (s : Seen) (a : Answer) →
+    ComesOfTerm (translation_in asked) s (file_name asked) (ready.Refused a) → ComesOf asked s a
+refused_comes asked has s a r = record {
+  caused = by_file has (refused_cause asked s a.status a.text.items r.0);
+  read =
+      λ bytes told t names f e.
+      absurd (refused_undone (translation_in asked) s (file_name asked) a.text.items a.status r.0 e);
+  closed =
+      refused_closed (translation_in asked) s (file_name asked) a.text.items a.status a.closed
+      (JobHands asked s a.status a.text.items a.closed) r.0 r.1;
+}
+
+-- ---- a file whose term is answered
+
+-- what is handed back of a job's term file is what the job hands back
+job_hands : (asked : Asked) → HasTermFile asked → (s : Seen) (st : Status) (text : List ℕ)
+    (closed : Option ClosedTable) → ReadHands asked s st text closed → JobHands asked s st text closed
+job_hands (run tr w f q name) has s st text closed h = h
+job_hands (walk tr e q name) has s st text closed h = h
+job_hands (view tr k name) has s st text closed h = h
+job_hands (trace tr w f name) has s st text closed h = h
+job_hands (check tr term journal) has s st text closed h = h.2.3
+job_hands (gen tr runs k) has s st text closed h = absurd has
+job_hands (demand tr f q name) has s st text closed h = h
+job_hands (certify tr b w f q name) has s st text closed h = h
+job_hands (jobs.net tr true w f name) has s st text closed h = h
+job_hands (jobs.net tr false w f name) has s st text closed h = absurd has
+job_hands (jobs.equal tr w f q first second) has s st text closed h = absurd has
+
+pub term_comes : (asked : Asked) → HasTermFile asked → (s : Seen) (net : Graph) (file : TermFile) →
+    ComesOfTerm (translation_in asked) s (file_name asked) (ready.Net net file) → (a : Answer) →
+    TermAnswer asked (tree_of file.term) file.names a.status a.text.items →
+    AnswerIsReadAgain asked (tree_of file.term) file.names a.status a.text.items →
+    TermHands asked (tree_of file.term) file.names a.status a.text.items a.closed → ComesOf asked s a
+term_comes asked has s net file (same, (bytes, gave, i)) a h read closed =
+    let t = tree_of file.term in
+    let names = file.names in
+    let st = a.status in
+    let text = a.text.items in record {
+      caused =
+          by_file has
+          (read_cause asked s st text same
+          (bytes, gave, term_answer asked bytes t names i.term st text h));
+      read =
+          λ told e.
+          told_read asked (s.contents 0 (file_name asked)) bytes told st text gave.whole
+          (file_read asked bytes t names st text i.term.file i.named read)
+          (file_bytes (s.contents 0) asked has ∙ e);
+      closed =
+          where_ended st a.closed (ReadHands asked s st text a.closed)
+          (JobHands asked s st text a.closed) (job_hands asked has s st text a.closed)
+          (read_hands asked s bytes st text a.closed gave
+          (file_hands asked bytes t names i.term st text a.closed closed));
+    }
+
+-- ---- the file of a net
+
+pub net_comes : (tr : Translation) (workers fuel : ℕ) (name : Text) (s : Seen) (a : Answer) →
+    NetCause s name fuel a.status a.text.items → a.closed ≡ None →
+    ComesOf (jobs.net tr false workers fuel name) s a
+net_comes tr workers fuel name s a cause e = record {
+  caused = by_net_file cause;
+  read = λ bytes told. absurd (cc);
+  closed = none_ended a.status a.closed e;
+}

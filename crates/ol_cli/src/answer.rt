@@ -1,0 +1,44 @@
+//! An answer: a text, its status, and what is handed back with it.
+ghost use Rattle.std.specs.Prelude.{◌≡◌, IfOk, None};
+ghost use Rattle.ol_cli.specs.Texts.{line};
+
+use crate::status::Status;
+use crate::texts::line;
+use ol_io::NoMemory;
+use ol_wire::Words;
+use std::alloc::Global;
+
+/// A text that is to be written, and the status that goes with it.
+///
+/// `closed` are the closed words of the workers' table, where the job has workers and their work
+/// came to an end, or used up its fuel.
+#[derive(Drop)]
+pub struct Answer {
+    pub text: Vec<u8>,
+    pub status: Status,
+    pub closed: Option<Words>,
+}
+
+impl Answer {
+    /// An answer with which nothing is handed back: its job has no workers, or their work came to
+    /// no end.
+    pub fn without_words(text: Vec<u8>, status: Status) -> Answer
+        ensures { result ≡ record { text = text; status = status; closed = None } }
+    {
+        Answer {
+            text,
+            status,
+            closed: None,
+        }
+    }
+}
+
+/// A line that tells why there is no answer.
+pub fn refusal(alloc: Global, words: &str, status: Status) -> Result<Answer, NoMemory>
+    ensures text { IfOk result (λ a. a.text.items ≡ line words.now) }
+    ensures status { IfOk result (λ a. a.status ≡ status) }
+    ensures closed { IfOk result (λ a. a.closed ≡ None) }
+{
+    let text = line(alloc, words)?;
+    Ok(Answer::without_words(text, status))
+}

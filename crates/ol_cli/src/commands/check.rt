@@ -1,0 +1,82 @@
+//! The command `check`: the text of a journal against a term.
+ghost use Rattle.std.specs.Prelude.{◌≡◌, ◌≤◌, ◌+◌, true, IfOk, None};
+ghost use Rattle.ol_io.specs.Readings.{AreOfSince};
+ghost use Rattle.ol_wire.specs.Sizes.{IsSmallNet};
+ghost use Rattle.ol_words.specs.Asked.{check};
+ghost use Rattle.ol_cli.specs.Jobs.{OfReadFiles};
+ghost use Rattle.ol_cli.specs.Answers.{RefusesFirst, seen_of};
+ghost use Rattle.ol_cli.specs.Inside.{ComesOf, EndsJournal};
+ghost use Rattle.ol_cli.specs.Ready.{HoldsOfTerms};
+
+use crate::answer::Answer;
+use crate::files::{File, FileKind, read_file};
+use crate::ready::{Ready, read_term};
+use crate::status::Status;
+use crate::texts::found_line;
+use ol_io::{NoMemory, Source};
+use ol_net::Net;
+use ol_term::Translation;
+use ol_view::check;
+use std::alloc::Global;
+
+/// The answer of `check` to the term file and the journal file of these names. The second is begun
+/// where the first is no refusal.
+pub fn answer_check<S: Source>(
+    alloc: Global,
+    translation: Translation,
+    term: &str,
+    journal: &str,
+    src: &mut S,
+) -> Result<Answer, NoMemory>
+    requires term { S.knows src.old term.now ≡ true }
+    requires journal { S.knows src.old journal.now ≡ true }
+    ensures comes { OfReadFiles (S.readings src.old) (S.readings src.new) (λ files.
+        IfOk result (ComesOf (check translation term.now journal.now)
+        (seen_of S.faults files S.given S.ended src.old src.new))) }
+    ensures first_alone { OfReadFiles (S.readings src.old) (S.readings src.new) (λ files.
+        RefusesFirst (files 0) (check translation term.now journal.now)
+        → S.begins src.new ≤ S.begins src.old + 1) }
+    ensures begins { S.begins src.new ≤ S.begins src.old + 2 }
+    ensures knows { S.knows src.new ≡ S.knows src.old }
+    ensures contents { S.contents src.new ≡ S.contents src.old }
+    ensures told { AreOfSince (λ _. S.contents src.old) (S.readings src.old) (S.readings src.new) }
+{
+    let ready = read_term(alloc, translation, term, src)?;
+    match ready {
+        Ready::Refused(answer) => Ok(answer),
+        Ready::Net { net, file: _ } => {
+            let answer = answer_journal(alloc, &net, journal, src)?;
+            Ok(answer)
+        }
+    }
+}
+
+// The answer of `check` to a journal file, against a net. It holds of each term whose net it is.
+fn answer_journal<S: Source>(
+    alloc: Global,
+    net: &Net,
+    name: &str,
+    src: &mut S,
+) -> Result<Answer, NoMemory>
+    requires known { S.knows src.old name.now ≡ true }
+    requires small { IsSmallNet net.now }
+    ensures caused { OfReadFiles (S.readings src.old) (S.readings src.new) (λ files.
+        IfOk result (λ a. HoldsOfTerms net.now (λ translation t names.
+        EndsJournal (seen_of S.faults files S.given S.ended src.old src.new)
+        name.now translation t names a.status a.text.items))) }
+    ensures closed { IfOk result (λ a. a.closed ≡ None) }
+    ensures begins { S.begins src.new ≤ S.begins src.old + 1 }
+    ensures knows { S.knows src.new ≡ S.knows src.old }
+    ensures contents { S.contents src.new ≡ S.contents src.old }
+    ensures told { AreOfSince (λ _. S.contents src.old) (S.readings src.old) (S.readings src.new) }
+{
+    let file = read_file(alloc, FileKind::Journal, name, src)?;
+    match file {
+        File::Refused(answer) => Ok(answer),
+        File::Bytes(bytes) => {
+            let found = check(alloc, net, &bytes)?;
+            let text = found_line(alloc, found)?;
+            Ok(Answer::without_words(text, Status::Done))
+        }
+    }
+}

@@ -1,0 +1,90 @@
+//! The command `demand`: a term's net is read back, and only the pairs that the reading meets are
+//! rewritten.
+ghost use Rattle.std.specs.Prelude.{◌≡◌, ◌≤◌, ◌+◌, true, IfOk, None};
+ghost use Rattle.ol_io.specs.Readings.{AreOfSince};
+ghost use Rattle.ol_term.specs.Trees.{tree_of};
+ghost use Rattle.ol_words.specs.Asked.{demand};
+ghost use Rattle.ol_cli.specs.Jobs.{OfReadFiles};
+ghost use Rattle.ol_cli.specs.Answers.{seen_of};
+ghost use Rattle.ol_cli.specs.Inside.{AnswersTerm, ComesOf, IsReadByNames, demand_by};
+ghost use Rattle.ol_cli.specs.Ready.{IsNetOf};
+ghost use Rattle.ol_cli.specs.Limits.{most_fuel};
+
+use crate::answer::Answer;
+use crate::ready::{Ready, read_term};
+use crate::status::Status;
+use crate::texts::{answer_lines, spent_line};
+use ol_demand::{Demanded, demand};
+use ol_io::{NoMemory, Source};
+use ol_net::Net;
+use ol_readback::tree_text;
+use ol_rules::counts;
+use ol_term::{TermFile, Translation};
+use std::alloc::Global;
+
+/// The answer of `demand` to the term file of this name: of its term the first `heads` subterms are
+/// asked, and at most `fuel` pairs are rewritten.
+pub fn answer_demand<S: Source>(
+    alloc: Global,
+    translation: Translation,
+    fuel: u32,
+    heads: u32,
+    name: &str,
+    src: &mut S,
+) -> Result<Answer, NoMemory>
+    requires known { S.knows src.old name.now ≡ true }
+    requires fuel { fuel ≤ most_fuel }
+    requires heads { 1 ≤ heads }
+    ensures comes { OfReadFiles (S.readings src.old) (S.readings src.new) (λ files.
+        IfOk result (ComesOf (demand translation fuel heads name.now)
+        (seen_of S.faults files S.given S.ended src.old src.new))) }
+    ensures begins { S.begins src.new ≤ S.begins src.old + 1 }
+    ensures knows { S.knows src.new ≡ S.knows src.old }
+    ensures contents { S.contents src.new ≡ S.contents src.old }
+    ensures told { AreOfSince (λ _. S.contents src.old) (S.readings src.old) (S.readings src.new) }
+{
+    let ready = read_term(alloc, translation, name, src)?;
+    match ready {
+        Ready::Refused(answer) => Ok(answer),
+        Ready::Net { net, file } => {
+            let answer = demand_net(alloc, &net, &file, translation, fuel, heads)?;
+            Ok(answer)
+        }
+    }
+}
+
+// A copy of the net is read back in demand order, in one thread. Its stuck pairs are those of the
+// net that this leaves.
+fn demand_net(
+    alloc: Global,
+    net: &Net,
+    file: &TermFile,
+    translation: Translation,
+    fuel: u32,
+    heads: u32,
+) -> Result<Answer, NoMemory>
+    requires net { IsNetOf translation (tree_of file.now.term) file.now.names net.now }
+    requires fuel { fuel ≤ most_fuel }
+    requires heads { 1 ≤ heads }
+    ensures answer { IfOk result (λ a.
+        AnswersTerm (demand_by translation fuel heads) file.now a.status a.text.items) }
+    ensures read { IfOk result (λ a.
+        IsReadByNames (demand_by translation fuel heads) file.now a.status a.text.items) }
+    ensures closed { IfOk result (λ a. a.closed ≡ None) }
+{
+    let mut last = net.copy()?;
+    last.is_net();
+    let demanded = demand(alloc, &mut last, fuel, heads)?;
+    match demanded {
+        Demanded::Spent { .. } => {
+            let text = spent_line(alloc, fuel)?;
+            Ok(Answer::without_words(text, Status::Spent))
+        }
+        Demanded::Done { tree, journal } => {
+            last.is_net();
+            let term = tree_text(alloc, &tree, &file.names)?;
+            let text = answer_lines(alloc, &term, counts(&journal), last.stuck())?;
+            Ok(Answer::without_words(text, Status::Done))
+        }
+    }
+}

@@ -1,0 +1,186 @@
+//! The command `net`: the net of a file is rewritten and written, or the net of a term is written.
+ghost use Rattle.std.specs.Prelude.{◌≡◌, ◌≤◌, ◌<◌, ◌+◌, ◌++◌, List, ℕ, Bool, true, false, length, count_by, is_some, IfOk, None};
+ghost use Rattle.ol_io.specs.Readings.{AreOfSince};
+ghost use Rattle.ol_net.specs.Numbered.{net_of};
+ghost use Rattle.ol_wire.specs.Sizes.{IsSmallNet};
+ghost use Rattle.ol_term.specs.declared.translations.Translation.{Translation};
+ghost use Rattle.ol_words.specs.Asked as jobs;
+ghost use Rattle.ol_cli.specs.Jobs.{OfReadFiles};
+ghost use Rattle.ol_cli.specs.Answers.{seen_of};
+ghost use Rattle.ol_cli.specs.Inside.{ComesOf};
+ghost use Rattle.ol_cli.specs.Net.{NetAnswer, NetFileAnswer, WritesNet};
+ghost use Rattle.ol_cli.specs.NetLines.{AreLinesOf};
+ghost use Rattle.ol_cli.specs.Ready.{HoldsOfTerms};
+ghost use Rattle.ol_cli.specs.Limits.{most_net_bytes, most_nodes};
+ghost use Rattle.ol_cli.specs.Limits.{most_fuel, most_workers};
+
+use crate::answer::Answer;
+use crate::files::{File, FileKind, read_file};
+use crate::limits::MOST_NODES;
+use crate::ready::{Ready, read_term};
+use crate::status::Status;
+use crate::texts::{append, count_line, count_lines, spent_line, term_line};
+use ol_io::{Gate, NoMemory, Source};
+use ol_net::Net;
+use ol_netfile::{fault_text, read_net, stuck_text, write_net};
+use ol_reduce::{Reduced, reduce};
+use ol_rules::{Counts, counts};
+use ol_term::Translation;
+use std::alloc::Global;
+use std::sync::Wait;
+use std::thread::Threads;
+
+/// The answer of `net` with its flag to the term file of this name: the text of the term's net.
+pub fn answer_net_of_term<S: Source>(
+    alloc: Global,
+    translation: Translation,
+    name: &str,
+    src: &mut S,
+) -> Result<Answer, NoMemory>
+    requires known { S.knows src.old name.now ≡ true }
+    ensures comes { OfReadFiles (S.readings src.old) (S.readings src.new) (λ files.
+        IfOk result (λ a. (workers fuel : ℕ) →
+        ComesOf (jobs.net translation true workers fuel name.now)
+        (seen_of S.faults files S.given S.ended src.old src.new) a)) }
+    ensures begins { S.begins src.new ≤ S.begins src.old + 1 }
+    ensures knows { S.knows src.new ≡ S.knows src.old }
+    ensures contents { S.contents src.new ≡ S.contents src.old }
+    ensures told { AreOfSince (λ _. S.contents src.old) (S.readings src.old) (S.readings src.new) }
+{
+    let ready = read_term(alloc, translation, name, src)?;
+    match ready {
+        Ready::Refused(answer) => Ok(answer),
+        Ready::Net { net, file: _ } => {
+            let text = net_text(alloc, &net)?;
+            Ok(Answer::without_words(text, Status::Done))
+        }
+    }
+}
+
+// The text of a net. It is that of the net of each term whose net it is.
+fn net_text(alloc: Global, net: &Net) -> Result<Vec<u8>, NoMemory>
+    requires whole { count_by is_some net.now.nodes ≡ length net.now.nodes }
+    requires small { IsSmallNet net.now }
+    requires few { length net.now.nodes ≤ most_nodes }
+    ensures { IfOk result (λ text. HoldsOfTerms net.now (λ translation t names.
+        WritesNet translation t names text.items)) }
+{
+    net.is_tabled();
+    write_net(alloc, net)
+}
+
+/// The answer of `net` without its flag to the net file of this name.
+pub fn answer_net<R: Threads + Wait + Sync, S: Source, G: Gate + Sync>(
+    rt: &R,
+    alloc: Global,
+    workers: u32,
+    fuel: u32,
+    name: &str,
+    src: &mut S,
+    gate: &G,
+) -> Result<Answer, NoMemory>
+    requires known { S.knows src.old name.now ≡ true }
+    requires workers { (1 ≤ workers) × (workers ≤ most_workers) }
+    requires fuel { fuel ≤ most_fuel }
+    ensures comes { OfReadFiles (S.readings src.old) (S.readings src.new) (λ files.
+        IfOk result (λ a. (translation : Translation) →
+        ComesOf (jobs.net translation false workers fuel name.now)
+        (seen_of S.faults files S.given S.ended src.old src.new) a)) }
+    ensures begins { S.begins src.new ≤ S.begins src.old + 1 }
+    ensures knows { S.knows src.new ≡ S.knows src.old }
+    ensures contents { S.contents src.new ≡ S.contents src.old }
+    ensures told { AreOfSince (λ _. S.contents src.old) (S.readings src.old) (S.readings src.new) }
+{
+    let file = read_file(alloc, FileKind::Net, name, src)?;
+    match file {
+        File::Refused(answer) => Ok(answer),
+        File::Bytes(bytes) => {
+            let answer = evaluate_file(rt, alloc, &bytes, workers, fuel, gate)?;
+            Ok(answer)
+        }
+    }
+}
+
+// The answer to the bytes of a file with a net, none of which are past the limit.
+fn evaluate_file<R: Threads + Wait + Sync, G: Gate + Sync>(
+    rt: &R,
+    alloc: Global,
+    bytes: &[u8],
+    workers: u32,
+    fuel: u32,
+    gate: &G,
+) -> Result<Answer, NoMemory>
+    requires short { length bytes.now ≤ most_net_bytes }
+    requires workers { (1 ≤ workers) × (workers ≤ most_workers) }
+    requires fuel { fuel ≤ most_fuel }
+    ensures answer { IfOk result (λ a. NetFileAnswer fuel bytes.now a.status a.text.items) }
+    ensures closed { IfOk result (λ a. a.closed ≡ None) }
+{
+    match read_net(alloc, bytes) {
+        Ok(net) => {
+            net.is_tabled();
+            let answer = rewrite(rt, alloc, &net, workers, fuel, gate)?;
+            Ok(answer)
+        }
+        Err(fault) => {
+            let words = fault_text(alloc, fault)?;
+            let text = term_line(alloc, &words)?;
+            Ok(Answer::without_words(text, Status::BadNet))
+        }
+    }
+}
+
+// The net is rewritten by the workers, and what is left is printed, if it is small enough.
+fn rewrite<R: Threads + Wait + Sync, G: Gate + Sync>(
+    rt: &R,
+    alloc: Global,
+    net: &Net,
+    workers: u32,
+    fuel: u32,
+    gate: &G,
+) -> Result<Answer, NoMemory>
+    requires whole { count_by is_some net.now.nodes ≡ length net.now.nodes }
+    requires small { IsSmallNet net.now }
+    requires workers { (1 ≤ workers) × (workers ≤ most_workers) }
+    requires fuel { fuel ≤ most_fuel }
+    ensures answer { IfOk result (λ a. NetAnswer net.now fuel a.status a.text.items) }
+    ensures closed { IfOk result (λ a. a.closed ≡ None) }
+{
+    net.is_net();
+    match reduce(rt, alloc, net, workers, fuel, gate)? {
+        Reduced::Spent { .. } => {
+            let text = spent_line(alloc, fuel)?;
+            Ok(Answer::without_words(text, Status::Spent))
+        }
+        Reduced::Done {
+            net: last,
+            journal,
+            ..
+        } => {
+            last.is_net();
+            last.is_tabled();
+            let stuck = last.stuck();
+            if last.nodes() > MOST_NODES {
+                let text = count_line(alloc, "limit nodes", MOST_NODES)?;
+                return Ok(Answer::without_words(text, Status::Limit));
+            }
+            let text = net_lines(alloc, &last, counts(&journal), stuck)?;
+            Ok(Answer::without_words(text, Status::Done))
+        }
+    }
+}
+
+// The lines of a net that is left: the interactions of each rule, the number of stuck pairs, these
+// pairs, and the net.
+fn net_lines(alloc: Global, last: &Net, counts: Counts, stuck: u32) -> Result<Vec<u8>, NoMemory>
+    requires few_nodes { length (net_of last.now).nodes ≤ most_nodes }
+    requires few_ports { last.now.free ≤ 1000000 }
+    ensures { IfOk result (λ text. AreLinesOf last.now counts stuck text.items) }
+{
+    let mut text = count_lines(alloc, counts, stuck)?;
+    let pairs = stuck_text(alloc, last)?;
+    append(&mut text, &pairs)?;
+    let written = write_net(alloc, last)?;
+    append(&mut text, &written)?;
+    Ok(text)
+}

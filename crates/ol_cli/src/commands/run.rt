@@ -1,0 +1,112 @@
+//! The command `run`: a term's net is rewritten by workers, and read back.
+ghost use Rattle.std.specs.Prelude.{◌≡◌, ◌≤◌, ◌+◌, ◌*◌, true, IfOk};
+ghost use Rattle.ol_io.specs.Readings.{AreOfSince};
+ghost use Rattle.ol_term.specs.Trees.{tree_of};
+ghost use Rattle.ol_cli.specs.Jobs.{OfReadFiles};
+ghost use Rattle.ol_cli.specs.Answers.{seen_of};
+ghost use Rattle.ol_cli.specs.Inside.{AnswersTerm, ComesOf, HandsOfTerm, IsReadByNames, run_on, run_by};
+ghost use Rattle.ol_cli.specs.Ready.{IsNetOf};
+ghost use Rattle.ol_cli.specs.Limits.{most_fuel, most_workers};
+
+use crate::answer::Answer;
+use crate::numbers::RunNumbers;
+use crate::ready::{Ready, read_term};
+use crate::status::Status;
+use crate::texts::{answer_lines, spent_line};
+use ol_io::{Gate, NoMemory, Source};
+use ol_net::Net;
+use ol_readback::{read_back, tree_text};
+use ol_reduce::{Reduced, reduce};
+use ol_rules::counts;
+use ol_term::TermFile;
+use std::alloc::Global;
+use std::sync::Wait;
+use std::thread::Threads;
+
+/// The answer of `run` to the term file of this name. The closed words of the workers' table are
+/// handed back where their work came to an end, or used up its fuel.
+pub fn answer_run<R: Threads + Wait + Sync, S: Source, G: Gate + Sync>(
+    rt: &R,
+    alloc: Global,
+    numbers: RunNumbers,
+    name: &str,
+    src: &mut S,
+    gate: &G,
+) -> Result<Answer, NoMemory>
+    requires known { S.knows src.old name.now ≡ true }
+    requires workers { (1 ≤ numbers.workers) × (numbers.workers ≤ most_workers) }
+    requires fuel { numbers.fuel ≤ most_fuel }
+    requires heads { 1 ≤ numbers.heads }
+    ensures comes { OfReadFiles (S.readings src.old) (S.readings src.new) (λ files.
+        IfOk result (ComesOf (run_on numbers name.now)
+        (seen_of S.faults files S.given S.ended src.old src.new))) }
+    ensures begins { S.begins src.new ≤ S.begins src.old + 1 }
+    ensures knows { S.knows src.new ≡ S.knows src.old }
+    ensures contents { S.contents src.new ≡ S.contents src.old }
+    ensures told { AreOfSince (λ _. S.contents src.old) (S.readings src.old) (S.readings src.new) }
+{
+    let ready = read_term(alloc, numbers.translation, name, src)?;
+    match ready {
+        Ready::Refused(answer) => Ok(answer),
+        Ready::Net { net, file } => {
+            let answer = run_net(rt, alloc, &net, &file, numbers, gate)?;
+            Ok(answer)
+        }
+    }
+}
+
+/// The net is rewritten by the workers, and the last net is read back, each walk within twice as
+/// many crossings as that net has nodes.
+pub fn run_net<R: Threads + Wait + Sync, G: Gate + Sync>(
+    rt: &R,
+    alloc: Global,
+    net: &Net,
+    file: &TermFile,
+    numbers: RunNumbers,
+    gate: &G,
+) -> Result<Answer, NoMemory>
+    requires net { IsNetOf numbers.translation (tree_of file.now.term) file.now.names net.now }
+    requires workers { (1 ≤ numbers.workers) × (numbers.workers ≤ most_workers) }
+    requires fuel { numbers.fuel ≤ most_fuel }
+    requires heads { 1 ≤ numbers.heads }
+    ensures answer { IfOk result (λ a.
+        AnswersTerm (run_by numbers) file.now a.status a.text.items) }
+    ensures read { IfOk result (λ a.
+        IsReadByNames (run_by numbers) file.now a.status a.text.items) }
+    ensures closed { IfOk result (λ a.
+        HandsOfTerm (run_by numbers) file.now a.status a.text.items a.closed) }
+{
+    net.is_net();
+    let reduced = reduce(rt, alloc, net, numbers.workers, numbers.fuel, gate)?;
+    match reduced {
+        Reduced::Spent { journal: _, words } => {
+            words.once();
+            let text = spent_line(alloc, numbers.fuel)?;
+            let status = Status::Spent;
+            let closed = Some(words);
+            Ok(Answer {
+                text,
+                status,
+                closed,
+            })
+        }
+        Reduced::Done {
+            net: last,
+            journal,
+            words,
+        } => {
+            words.once();
+            last.is_net();
+            let tree = read_back(alloc, &last, numbers.heads, 2 * last.nodes() as u64)?;
+            let term = tree_text(alloc, &tree, &file.names)?;
+            let text = answer_lines(alloc, &term, counts(&journal), last.stuck())?;
+            let status = Status::Done;
+            let closed = Some(words);
+            Ok(Answer {
+                text,
+                status,
+                closed,
+            })
+        }
+    }
+}

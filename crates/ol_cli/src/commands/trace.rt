@@ -1,0 +1,108 @@
+//! The command `trace`: a term's net is rewritten by workers, and their journal is told.
+ghost use Rattle.std.specs.Prelude.{◌≡◌, ◌≤◌, ◌+◌, true, length, count_by, is_some, IfOk};
+ghost use Rattle.ol_io.specs.Readings.{AreOfSince};
+ghost use Rattle.ol_wire.specs.Sizes.{IsSmallNet};
+ghost use Rattle.ol_words.specs.Asked.{trace};
+ghost use Rattle.ol_cli.specs.Jobs.{OfReadFiles};
+ghost use Rattle.ol_cli.specs.Answers.{seen_of};
+ghost use Rattle.ol_cli.specs.Trace.{TraceAnswer};
+ghost use Rattle.ol_cli.specs.Trace.{TraceHands};
+ghost use Rattle.ol_cli.specs.Inside.{ComesOf};
+ghost use Rattle.ol_cli.specs.Ready.{HoldsOfTerms};
+ghost use Rattle.ol_cli.specs.Limits.{most_fuel, most_workers};
+
+use crate::answer::Answer;
+use crate::ready::{Ready, read_term};
+use crate::status::Status;
+use ol_io::{Gate, NoMemory, Source};
+use ol_net::Net;
+use ol_reduce::{Reduced, reduce};
+use ol_term::Translation;
+use ol_view::trace_text_2;
+use std::alloc::Global;
+use std::sync::Wait;
+use std::thread::Threads;
+
+/// The answer of `trace` to the term file of this name. The closed words of the workers' table are
+/// handed back where their work came to an end, or used up its fuel.
+pub fn answer_trace<R: Threads + Wait + Sync, S: Source, G: Gate + Sync>(
+    rt: &R,
+    alloc: Global,
+    translation: Translation,
+    workers: u32,
+    fuel: u32,
+    name: &str,
+    src: &mut S,
+    gate: &G,
+) -> Result<Answer, NoMemory>
+    requires known { S.knows src.old name.now ≡ true }
+    requires workers { (1 ≤ workers) × (workers ≤ most_workers) }
+    requires fuel { fuel ≤ most_fuel }
+    ensures comes { OfReadFiles (S.readings src.old) (S.readings src.new) (λ files.
+        IfOk result (ComesOf (trace translation workers fuel name.now)
+        (seen_of S.faults files S.given S.ended src.old src.new))) }
+    ensures begins { S.begins src.new ≤ S.begins src.old + 1 }
+    ensures knows { S.knows src.new ≡ S.knows src.old }
+    ensures contents { S.contents src.new ≡ S.contents src.old }
+    ensures told { AreOfSince (λ _. S.contents src.old) (S.readings src.old) (S.readings src.new) }
+{
+    let ready = read_term(alloc, translation, name, src)?;
+    match ready {
+        Ready::Refused(answer) => Ok(answer),
+        Ready::Net { net, file: _ } => {
+            let answer = trace_net(rt, alloc, &net, workers, fuel, gate)?;
+            Ok(answer)
+        }
+    }
+}
+
+// The net is rewritten by the workers, and their journal is traced. This holds of each term whose
+// net it is.
+fn trace_net<R: Threads + Wait + Sync, G: Gate + Sync>(
+    rt: &R,
+    alloc: Global,
+    net: &Net,
+    workers: u32,
+    fuel: u32,
+    gate: &G,
+) -> Result<Answer, NoMemory>
+    requires whole { count_by is_some net.now.nodes ≡ length net.now.nodes }
+    requires small { IsSmallNet net.now }
+    requires workers { (1 ≤ workers) × (workers ≤ most_workers) }
+    requires fuel { fuel ≤ most_fuel }
+    ensures answer { IfOk result (λ a. HoldsOfTerms net.now (λ translation t names.
+        TraceAnswer translation t names fuel a.status a.text.items)) }
+    ensures closed { IfOk result (λ a. HoldsOfTerms net.now (λ translation t names.
+        TraceHands translation t names workers fuel a.status a.text.items a.closed)) }
+{
+    net.is_net();
+    let reduced = reduce(rt, alloc, net, workers, fuel, gate)?;
+    match reduced {
+        Reduced::Spent { journal, words } => {
+            words.once();
+            let text = trace_text_2(alloc, net, &journal)?;
+            let status = Status::Spent;
+            let closed = Some(words);
+            Ok(Answer {
+                text,
+                status,
+                closed,
+            })
+        }
+        Reduced::Done {
+            net: _,
+            journal,
+            words,
+        } => {
+            words.once();
+            let text = trace_text_2(alloc, net, &journal)?;
+            let status = Status::Done;
+            let closed = Some(words);
+            Ok(Answer {
+                text,
+                status,
+                closed,
+            })
+        }
+    }
+}

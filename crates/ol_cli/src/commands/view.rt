@@ -1,0 +1,63 @@
+//! The command `view`: a term's net is rewritten by some leads, and shown.
+ghost use Rattle.std.specs.Prelude.{◌≡◌, ◌≤◌, ◌+◌, true, IfOk};
+ghost use Rattle.ol_io.specs.Readings.{AreOfSince};
+ghost use Rattle.ol_wire.specs.Sizes.{IsSmallNet};
+ghost use Rattle.ol_words.specs.Asked.{view};
+ghost use Rattle.ol_cli.specs.Jobs.{OfReadFiles};
+ghost use Rattle.ol_cli.specs.Answers.{seen_of};
+ghost use Rattle.ol_cli.specs.View.{Views};
+ghost use Rattle.ol_cli.specs.Inside.{ComesOf};
+ghost use Rattle.ol_cli.specs.Ready.{HoldsOfTerms};
+ghost use Rattle.ol_cli.specs.Limits.{most_fuel};
+
+use crate::answer::Answer;
+use crate::ready::{Ready, read_term};
+use crate::status::Status;
+use crate::texts::view_lines;
+use ol_io::{NoMemory, Source};
+use ol_net::Net;
+use ol_term::Translation;
+use ol_view::{after, show};
+use std::alloc::Global;
+
+/// The answer of `view` to the term file of this name: its net after at most so many leads.
+pub fn answer_view<S: Source>(
+    alloc: Global,
+    translation: Translation,
+    leads: u32,
+    name: &str,
+    src: &mut S,
+) -> Result<Answer, NoMemory>
+    requires known { S.knows src.old name.now ≡ true }
+    requires leads { leads ≤ most_fuel }
+    ensures comes { OfReadFiles (S.readings src.old) (S.readings src.new) (λ files.
+        IfOk result (ComesOf (view translation leads name.now)
+        (seen_of S.faults files S.given S.ended src.old src.new))) }
+    ensures begins { S.begins src.new ≤ S.begins src.old + 1 }
+    ensures knows { S.knows src.new ≡ S.knows src.old }
+    ensures contents { S.contents src.new ≡ S.contents src.old }
+    ensures told { AreOfSince (λ _. S.contents src.old) (S.readings src.old) (S.readings src.new) }
+{
+    let ready = read_term(alloc, translation, name, src)?;
+    match ready {
+        Ready::Refused(answer) => Ok(answer),
+        Ready::Net { net, file: _ } => {
+            let text = view_net(alloc, &net, leads)?;
+            Ok(Answer::without_words(text, Status::Done))
+        }
+    }
+}
+
+// The net is rewritten by leads, one after another, and shown. This holds of each term whose net it
+// is.
+fn view_net(alloc: Global, net: &Net, leads: u32) -> Result<Vec<u8>, NoMemory>
+    requires small { IsSmallNet net.now }
+    requires leads { leads ≤ most_fuel }
+    ensures { IfOk result (λ text. HoldsOfTerms net.now (λ translation t names.
+        Views translation t names leads text.items)) }
+{
+    let last = after(alloc, net, leads)?;
+    last.net.is_tabled();
+    let shown = show(alloc, &last.net)?;
+    view_lines(alloc, last.steps, &shown)
+}

@@ -1,0 +1,74 @@
+//! The command `walk`: a term is read back from its untouched net.
+ghost use Rattle.std.specs.Prelude.{◌≡◌, ◌≤◌, ◌+◌, true, length, IfOk};
+ghost use Rattle.ol_io.specs.Readings.{AreOfSince};
+ghost use Rattle.ol_term.specs.Trees.{tree_of};
+ghost use Rattle.ol_net.specs.Numbered.{net_of};
+ghost use Rattle.ol_net.specs.Nets.{SameNet};
+ghost use Rattle.ol_translate.specs.Translation.{translation_of};
+ghost use Rattle.ol_words.specs.Asked.{walk};
+ghost use Rattle.ol_cli.specs.Jobs.{OfReadFiles};
+ghost use Rattle.ol_cli.specs.Answers.{seen_of};
+ghost use Rattle.ol_cli.specs.Inside.{AnswersTerm, ComesOf, IsReadByNames, walk_by};
+
+use crate::answer::Answer;
+use crate::ready::{Ready, read_term};
+use crate::status::Status;
+use crate::texts::term_line;
+use ol_io::{NoMemory, Source};
+use ol_net::Net;
+use ol_readback::{read_back, tree_text};
+use ol_term::{TermFile, Translation};
+use std::alloc::Global;
+
+/// The answer of `walk` to the term file of this name: the first `heads` subterms are asked, each
+/// walk by at most `edges` crossings.
+pub fn answer_walk<S: Source>(
+    alloc: Global,
+    translation: Translation,
+    edges: u64,
+    heads: u32,
+    name: &str,
+    src: &mut S,
+) -> Result<Answer, NoMemory>
+    requires known { S.knows src.old name.now ≡ true }
+    requires heads { 1 ≤ heads }
+    ensures comes { OfReadFiles (S.readings src.old) (S.readings src.new) (λ files.
+        IfOk result (ComesOf (walk translation edges heads name.now)
+        (seen_of S.faults files S.given S.ended src.old src.new))) }
+    ensures begins { S.begins src.new ≤ S.begins src.old + 1 }
+    ensures knows { S.knows src.new ≡ S.knows src.old }
+    ensures contents { S.contents src.new ≡ S.contents src.old }
+    ensures told { AreOfSince (λ _. S.contents src.old) (S.readings src.old) (S.readings src.new) }
+{
+    let ready = read_term(alloc, translation, name, src)?;
+    match ready {
+        Ready::Refused(answer) => Ok(answer),
+        Ready::Net { net, file } => {
+            let text = walk_net(alloc, &net, &file, translation, edges, heads)?;
+            Ok(Answer::without_words(text, Status::Done))
+        }
+    }
+}
+
+// The net is read back as it is.
+fn walk_net(
+    alloc: Global,
+    net: &Net,
+    file: &TermFile,
+    translation: Translation,
+    edges: u64,
+    heads: u32,
+) -> Result<Vec<u8>, NoMemory>
+    requires net { SameNet (net_of net.now)
+        (translation_of translation (tree_of file.now.term) (length file.now.names)) }
+    requires heads { 1 ≤ heads }
+    ensures text { IfOk result (λ text.
+        AnswersTerm (walk_by translation edges heads) file.now Status.Done text.items) }
+    ensures read { IfOk result (λ text.
+        IsReadByNames (walk_by translation edges heads) file.now Status.Done text.items) }
+{
+    net.is_net();
+    let tree = read_back(alloc, net, heads, edges)?;
+    let term = tree_text(alloc, &tree, &file.names)?;
+    term_line(alloc, &term)
+}
