@@ -26,8 +26,10 @@ unused c e d (app f a) h =
     ap (λ (f : Tree). app f (substituted c d a)) (unused c e d f g) ∙ ap (app (substituted e d f)) (unused c e d a k)
 
 -- both parts of an application, one after the other, with what is left of c after the first
-pub both_parts : (c left : Tree) (n d : ℕ) (f a g b : Tree) → IsKept c left n → places_of d a ≤ n → g ≡ substituted c d f → b ≡ substituted left d a → app g b ≡ substituted c d (app f a)
-both_parts c left n d f a g b (inl k) l i j = ap (λ (g : Tree). app g b) i ∙ ap (app (substituted c d f)) (j ∙ ap (λ (c : Tree). substituted c d a) k)
+pub both_parts : (c left : Tree) (n d : ℕ) (f a g b : Tree) → IsKept c left n → places_of d a ≤ n →
+    g ≡ substituted c d f → b ≡ substituted left d a → app g b ≡ substituted c d (app f a)
+both_parts c left n d f a g b (inl k) l i j = ap (λ (g : Tree). app g b) i
+    ∙ ap (app (substituted c d f)) (j ∙ ap (λ (c : Tree). substituted c d a) k)
 both_parts c left n d f a g b (inr k) l i j =
     let z : places_of d a ≡ 0 = let e = k.0 in omega arith in
     ap (λ (g : Tree). app g b) i ∙ ap (app (substituted c d f)) (j ∙ unused left c d a z)

@@ -16,4 +16,5 @@ IsEnd t most (end.Normal road term) = IsNormalForm t most road (tree_of term)
 
 -- what an end says of the tree's term
 abbrev pub IsCompared : walking.End → Tree → Verdict → Type 0
-IsCompared e u v = (t : Tree) (ns : List ReadNode) (most : ℕ) → IsEnd t most e → IsTermOf ns u → depth u ≤ 1000 → IsVerdict t ns most v
+IsCompared e u v = (t : Tree) (ns : List ReadNode) (most : ℕ) → IsEnd t most e → IsTermOf ns u →
+    depth u ≤ 1000 → IsVerdict t ns most v

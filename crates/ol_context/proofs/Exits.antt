@@ -18,17 +18,21 @@ three m n = grind arith
 
 module _ {A : Type 0} (N : NamedNet A) (is_net : IsNet N) (p : NamedPort A) (c : Context) where
   -- two paths are one
-  pub path_one : (q q' : ℕ) (d d' : Context) (r : Path N p c q d) (s : Path N p c q' d') → (q ≡ q') × (d ≡ d') × (crossings r ≡ crossings s)
+  pub path_one : (q q' : ℕ) (d d' : Context) (r : Path N p c q d) (s : Path N p c q' d') →
+      (q ≡ q') × (d ≡ d') × (crossings r ≡ crossings s)
   path_one q q' d d' r s = go (three (crossings r) (crossings s))
     where
       go : Three (crossings r) (crossings s) → (q ≡ q') × (d ≡ d') × (crossings r ≡ crossings s)
-      go (inl (inl b)) = let v = path_way N r in let w = path_way N s in absurd (ended N is_net q v.1 v.2 ((way_passes N (crossings r) w.1 b).stands))
-      go (inr b) = let v = path_way N r in let w = path_way N s in absurd (ended N is_net q' w.1 w.2 ((way_passes N (crossings s) v.1 b).stands))
+      go (inl (inl b)) = let v = path_way N r in let w = path_way N s in
+          absurd (ended N is_net q v.1 v.2 ((way_passes N (crossings r) w.1 b).stands))
+      go (inr b) = let v = path_way N r in let w = path_way N s in
+          absurd (ended N is_net q' w.1 w.2 ((way_passes N (crossings s) v.1 b).stands))
       go (inl (inr e)) =
           let v = path_way N r in
           let w = path_way N s in
           let z = way_one N is_net (subst (λ n. Way N p c n v.0 d) e v.1) w.1 in
-          let l : free q ≡ free q' = is_net.one_link w.0 (free q) (free q') (subst (λ u. Linked N u (free q)) z.0 v.2) w.2 in
+          let l : free q ≡ free q' = is_net.one_link w.0 (free q) (free q')
+          (subst (λ u. Linked N u (free q)) z.0 v.2) w.2 in
           (cc, z.1, e)
 
   -- a walk that leaves within n crossings doesn't stand after n
@@ -63,7 +67,8 @@ module _ {A : Type 0} (N : NamedNet A) (is_net : IsNet N) (p : NamedPort A) (c :
 
   -- a walk that stops doesn't stand after all crossings
   pub no_stand_past : (edges n : ℕ) → Stops N p c edges n → WalkStands N p c edges → ⊥
-  no_stand_past edges n s t = let e = s.tried in let w = s.within in stopped N is_net s (way_passes N s.made t.way (omega arith))
+  no_stand_past edges n s t = let e = s.tried in let w = s.within in
+      stopped N is_net s (way_passes N s.made t.way (omega arith))
 
 module _ {A : Type 0} where
   pub one_walk : WalkIsOne A
@@ -72,11 +77,15 @@ module _ {A : Type 0} where
 -- the answers of a walk, each from its cause
 module _ (N : NamedNet ℕ) (is_net : IsNet N) (p : ℕ) (c : Context) (edges : ℕ) (vs : List Level) where
   module _ (q : ℕ) (ms : List ℕ) (n : ℕ) (x : Exits N (free p) c edges q (context_of vs ms) n) where
-    same_exit : (q' : ℕ) (d : Context) (n' : ℕ) → (q ≡ q') × (context_of vs ms ≡ d) × (n ≡ n') → Exits N (free p) c edges q' d n'
+    same_exit : (q' : ℕ) (d : Context) (n' : ℕ) → (q ≡ q') × (context_of vs ms ≡ d) × (n ≡ n') →
+        Exits N (free p) c edges q' d n'
     same_exit q' d n' e =
-        subst (λ q. Exits N (free p) c edges q d n') e.0 (subst (λ d. Exits N (free p) c edges q d n') e.1 (subst (Exits N (free p) c edges q (context_of vs ms)) e.2 x))
+        subst (λ q. Exits N (free p) c edges q d n') e.0
+        (subst (λ d. Exits N (free p) c edges q d n') e.1
+        (subst (Exits N (free p) c edges q (context_of vs ms)) e.2 x))
 
-    one_exit : (q' : ℕ) (d : Context) (n' : ℕ) → Exits N (free p) c edges q' d n' → (q ≡ q') × (context_of vs ms ≡ d) × (n ≡ n')
+    one_exit : (q' : ℕ) (d : Context) (n' : ℕ) → Exits N (free p) c edges q' d n' →
+        (q ≡ q') × (context_of vs ms ≡ d) × (n ≡ n')
     one_exit q' d n' y =
         let o = path_one N is_net (free p) c q q' (context_of vs ms) d x.path y.path in
         (o.0, o.1, sym x.long ∙ o.2 ∙ y.long)
@@ -88,7 +97,11 @@ module _ (N : NamedNet ℕ) (is_net : IsNet N) (p : ℕ) (c : Context) (edges : 
     exit_stops n' = (λ e. absurd (cc), λ s. absurd (no_stop N is_net (free p) c q (context_of vs ms) x.path edges n' s))
 
     pub exit_stands : StandsExactly N p c edges (Exit q ms n)
-    exit_stands = (λ e. absurd (cc), λ s. absurd (no_stand N is_net (free p) c q (context_of vs ms) x.path edges (within x.long x.within) s))
+    exit_stands = (
+      λ e. absurd (cc),
+      λ s.
+          absurd (no_stand N is_net (free p) c q (context_of vs ms) x.path edges (within x.long x.within) s),
+    )
       where
         within : crossings x.path ≡ n → n ≤ edges → crossings x.path ≤ edges
         within e b = omega arith
@@ -98,7 +111,10 @@ module _ (N : NamedNet ℕ) (is_net : IsNet N) (p : ℕ) (c : Context) (edges : 
     undefined_exits q' d n' = (λ h. absurd h, λ y. absurd (no_stop N is_net (free p) c q' d y.path edges n x))
 
     pub undefined_stops : StopsExactly N p c edges (Undefined n)
-    undefined_stops n' = (λ e. subst (Stops N (free p) c edges) (number n' e) x, λ s. ap Undefined (stop_one N is_net (free p) c edges n n' x s))
+    undefined_stops n' = (
+      λ e. subst (Stops N (free p) c edges) (number n' e) x,
+      λ s. ap Undefined (stop_one N is_net (free p) c edges n n' x s),
+    )
       where
         number : (n' : ℕ) → Undefined n ≡ Undefined n' → n ≡ n'
         number n' e = cc
@@ -108,9 +124,13 @@ module _ (N : NamedNet ℕ) (is_net : IsNet N) (p : ℕ) (c : Context) (edges : 
 
   module _ (x : WalkStands N (free p) c edges) where
     pub budget_exits : ExitsExactly N p c edges vs Budget
-    budget_exits q' d n' = (λ h. absurd h, λ y. absurd (no_stand N is_net (free p) c q' d y.path edges (within y.path y.long y.within) x))
+    budget_exits q' d n' = (
+      λ h. absurd h,
+      λ y. absurd (no_stand N is_net (free p) c q' d y.path edges (within y.path y.long y.within) x),
+    )
       where
-        within : {q' : ℕ} {d : Context} {n' : ℕ} (r : Path N (free p) c q' d) → crossings r ≡ n' → n' ≤ edges → crossings r ≤ edges
+        within : {q' : ℕ} {d : Context} {n' : ℕ} (r : Path N (free p) c q' d) → crossings r ≡ n' →
+            n' ≤ edges → crossings r ≤ edges
         within r e b = omega arith
 
     pub budget_stops : StopsExactly N p c edges Budget

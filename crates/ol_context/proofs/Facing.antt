@@ -7,7 +7,8 @@ use Rattle.ol_net.specs.Pairs.{IsActive, HasPair, HasStuck}
 use Rattle.ol_net.specs.Rules.{rule_of}
 use Rattle.ol_context.specs.Facing.{NoPairsAreLeft}
 
-module _ {A : Type 0} (N : NamedNet A) (complete : (f g : A) (r : Rule) → IsActive N f g r → ⊥) (stuck : HasStuck N 0) where
+module _ {A : Type 0} (N : NamedNet A) (complete : (f g : A) (r : Rule) → IsActive N f g r → ⊥)
+    (stuck : HasStuck N 0) where
   none_listed : (x y : A) → HasPair stuck.pairs x y → ⊥
   none_listed x y h = go stuck.pairs stuck.count h
     where
@@ -29,7 +30,8 @@ module _ {A : Type 0} (N : NamedNet A) (complete : (f g : A) (r : Rule) → IsAc
       go : (r s : Option Rule) → rule_of k i l j ≡ r → rule_of l j k i ≡ s → ⊥
       go (Some r) s e e' = complete x y r (record { k = k; i = i; l = l; j = j; faces = f; fits = e })
       go None (Some s) e e' = complete y x s (record { k = l; i = j; l = k; j = i; faces = back; fits = e' })
-      go None None e e' = none_listed x y ((stuck.all x y).1 (record { k = k; i = i; l = l; j = j; faces = f; first = e; second = e' }))
+      go None None e e' = none_listed x y ((stuck.all x y).1
+          (record { k = k; i = i; l = l; j = j; faces = f; first = e; second = e' }))
 
 module _ {A : Type 0} where
   pub no_pairs_are_left : NoPairsAreLeft A

@@ -1,5 +1,6 @@
 -- Without facing pairs a path is short.
-use Rattle.std.proofs.Common.{◌≡◌, ◌≢◌, ℕ, suc, ◌+◌, ◌*◌, ◌<◌, ◌≤◌, List, [], ◌∷◌, map, length, inl, inr, refl, sym, ap, ◌∙◌, subst, arith}
+use Rattle.std.proofs.Common.{◌≡◌, ◌≢◌, ℕ, suc, ◌+◌, ◌*◌, ◌<◌, ◌≤◌, List, [], ◌∷◌, map, length, inl}
+use Rattle.std.proofs.Common.{inr, refl, sym, ap, ◌∙◌, subst, arith}
 use Rattle.std.proofs.lemmas.List.{length-map}
 use Rattle.ol_edges.specs.Edges.{IsIn}
 use Rattle.ol_net.specs.declared.parts.Kind.{Kind}
@@ -34,7 +35,8 @@ pub few : {A : Type 0} (xs ys : List A) → IsOnce xs → ((x : A) → IsIn x xs
 few [] ys o h = omega arith
 few (x ∷ xs) ys o h =
     let i = h x (inl refl) in
-    let r = few xs (take_out x ys i) o.1 (λ z k. take_other x z ys i (λ e. o.0 (subst (λ z. IsIn z xs) e k)) (h z (inr k))) in
+    let r = few xs (take_out x ys i) o.1
+    (λ z k. take_other x z ys i (λ e. o.0 (subst (λ z. IsIn z xs) e k)) (h z (inr k))) in
     let e = take_length x ys i in
     omega arith
 
@@ -44,14 +46,20 @@ module _ {A : Type 0} (N : NamedNet A) (is_net : IsNet N) (no_facing : HasNoFaci
   flip p q (inr h) = inl h
 
   -- from slot 0 a path goes on by the links alone
-  one_length : (x x' : A) → x ≡ x' → {c d c' d' : Context} {q q' : ℕ} (r : Path N (slot x 0) c q d) (s : Path N (slot x' 0) c' q' d') → crossings r ≡ crossings s
+  one_length : (x x' : A) → x ≡ x' → {c d c' d' : Context} {q q' : ℕ} (r : Path N (slot x 0) c q d)
+      (s : Path N (slot x' 0) c' q' d') → crossings r ≡ crossings s
   one_length x x' v (ends l) (ends l') = refl
-  one_length x x' v (ends {q = q} l) (goes {x = y} {s = t} l' h k s) = let e : free q ≡ slot y t = is_net.one_link (slot x 0) (free q) (slot y t) l (subst (λ z. Linked N (slot z 0) (slot y t)) (sym v) l') in absurd (cc)
-  one_length x x' v (goes {x = y} {s = t} l h k r) (ends {q = q} l') = let e : slot y t ≡ free q = is_net.one_link (slot x 0) (slot y t) (free q) l (subst (λ z. Linked N (slot z 0) (free q)) (sym v) l') in absurd (cc)
+  one_length x x' v (ends {q = q} l) (goes {x = y} {s = t} l' h k s) = let e : free q ≡ slot y
+      t = is_net.one_link (slot x 0) (free q) (slot y t) l
+      (subst (λ z. Linked N (slot z 0) (slot y t)) (sym v) l') in absurd (cc)
+  one_length x x' v (goes {x = y} {s = t} l h k r)
+      (ends {q = q} l') = let e : slot y t ≡ free q = is_net.one_link (slot x 0) (slot y t)
+      (free q) l (subst (λ z. Linked N (slot z 0) (free q)) (sym v) l') in absurd (cc)
   one_length x x' v (goes {x = y} l h (outward b e) r) s = absurd (no_facing x y l)
   one_length x x' v (goes l h (inward b e) r) (goes {x = z} l' h' (outward b' e') s) = absurd (no_facing x' z l')
   one_length x x' v (goes {x = y} l h (inward {s = t} b e) r) (goes {x = z} l' h' (inward {s = u} b' e') s) =
-      let w : slot y (suc t) ≡ slot z (suc u) = is_net.one_link (slot x 0) (slot y (suc t)) (slot z (suc u)) l (subst (λ x. Linked N (slot x 0) (slot z (suc u))) (sym v) l') in
+      let w : slot y (suc t) ≡ slot z (suc u) = is_net.one_link (slot x 0) (slot y (suc t))
+      (slot z (suc u)) l (subst (λ x. Linked N (slot x 0) (slot z (suc u))) (sym v) l') in
       let v' : y ≡ z = cc in
       ap suc (one_length y z v' r s)
 
@@ -72,7 +80,8 @@ module _ {A : Type 0} (N : NamedNet A) (is_net : IsNet N) (no_facing : HasNoFaci
     live : (z : A) → IsIn z ys → IsLive z
     low : (z : A) → IsIn z ys → Below n z
 
-  fall : (y : A) (ys : List A) (n : ℕ) {c d : Context} {q : ℕ} (r : Path N (slot y 0) c q d) → crossings r ≡ n → IsLive y → Falls n ys → Falls (suc n) (y ∷ ys)
+  fall : (y : A) (ys : List A) (n : ℕ) {c d : Context} {q : ℕ} (r : Path N (slot y 0) c q d) →
+      crossings r ≡ n → IsLive y → Falls n ys → Falls (suc n) (y ∷ ys)
   fall y ys n {c} {d} {q} r e h f = record { long = ap suc f.long; once = (fresh, f.once); live = live; low = low }
     where
       fresh : IsIn y ys → ⊥
@@ -83,13 +92,16 @@ module _ {A : Type 0} (N : NamedNet A) (is_net : IsNet N) (no_facing : HasNoFaci
       live z (inr k) = f.live z k
 
       low : (z : A) → IsIn z (y ∷ ys) → Below (suc n) z
-      low z (inl w) = subst (λ z. Below (suc n) z) (sym w) (record { c = c; q = q; d = d; path = r; less = omega arith })
-      low z (inr k) = let b = f.low z k in let l = b.less in record { c = b.c; q = b.q; d = b.d; path = b.path; less = omega arith }
+      low z (inl w) = subst (λ z. Below (suc n) z) (sym w)
+          (record { c = c; q = q; d = d; path = r; less = omega arith })
+      low z (inr k) = let b = f.low z k in let l = b.less in
+          record { c = b.c; q = b.q; d = b.d; path = b.path; less = omega arith }
 
   falls : (x : A) {c d : Context} {q : ℕ} (r : Path N (slot x 0) c q d) → (ys : List A) × Falls (crossings r) ys
   falls x (ends l) = ([], record { long = refl; once = tt; live = λ z k. absurd k; low = λ z k. absurd k })
   falls x (goes {x = y} l h (outward b e) r) = absurd (no_facing x y l)
-  falls x (goes {x = y} {k = k} {i = i} l h (inward b e) r) = let t = falls y r in (y ∷ t.0, fall y t.0 (crossings r) r refl (live k i h) t.1)
+  falls x (goes {x = y} {k = k} {i = i} l h (inward b e) r) = let t = falls y r in
+      (y ∷ t.0, fall y t.0 (crossings r) r refl (live k i h) t.1)
     where
       live : (k : Kind) (i : ℕ) → HasNode N y k i → IsLive y
       live k i h = (k, i, h)
@@ -103,11 +115,17 @@ module _ {A : Type 0} (N : NamedNet A) (is_net : IsNet N) (no_facing : HasNoFaci
     pub down_one : {i j : ℕ} {x x' : A} → Down i x → Down j x' → x ≡ x' → i ≡ j
     down_one (first l) (first l') v = refl
     down_one {x = x} {x' = x'} (first l) (next {x = y} s d l') v =
-        let w : free p ≡ slot y (suc s) = is_net.one_link (slot x 0) (free p) (slot y (suc s)) (flip (free p) (slot x 0) l) (flip (slot y (suc s)) (slot x 0) (subst (λ z. Linked N (slot y (suc s)) (slot z 0)) (sym v) l')) in absurd (cc)
+        let w : free p ≡ slot y (suc s) = is_net.one_link (slot x 0) (free p) (slot y (suc s))
+        (flip (free p) (slot x 0) l) (flip (slot y (suc s)) (slot x 0)
+        (subst (λ z. Linked N (slot y (suc s)) (slot z 0)) (sym v) l')) in absurd (cc)
     down_one {x = x} {x' = x'} (next {x = y} s d l) (first l') v =
-        let w : slot y (suc s) ≡ free p = is_net.one_link (slot x 0) (slot y (suc s)) (free p) (flip (slot y (suc s)) (slot x 0) l) (flip (free p) (slot x 0) (subst (λ z. Linked N (free p) (slot z 0)) (sym v) l')) in absurd (cc)
+        let w : slot y (suc s) ≡ free p = is_net.one_link (slot x 0) (slot y (suc s)) (free p)
+        (flip (slot y (suc s)) (slot x 0) l)
+        (flip (free p) (slot x 0) (subst (λ z. Linked N (free p) (slot z 0)) (sym v) l')) in absurd (cc)
     down_one {x = x} {x' = x'} (next {x = y} s d l) (next {x = z} t d' l') v =
-        let w : slot y (suc s) ≡ slot z (suc t) = is_net.one_link (slot x 0) (slot y (suc s)) (slot z (suc t)) (flip (slot y (suc s)) (slot x 0) l) (flip (slot z (suc t)) (slot x 0) (subst (λ u. Linked N (slot z (suc t)) (slot u 0)) (sym v) l')) in
+        let w : slot y (suc s) ≡ slot z (suc t) = is_net.one_link (slot x 0) (slot y (suc s))
+        (slot z (suc t)) (flip (slot y (suc s)) (slot x 0) l)
+        (flip (slot z (suc t)) (slot x 0) (subst (λ u. Linked N (slot z (suc t)) (slot u 0)) (sym v) l')) in
         let v' : y ≡ z = cc in
         ap suc (down_one d d' v')
 
@@ -128,10 +146,29 @@ module _ {A : Type 0} (N : NamedNet A) (is_net : IsNet N) (no_facing : HasNoFaci
       falls' : Falls m ys
 
     plain : (i : ℕ) (ys : List A) (n : ℕ) → Falls n ys → Rises i n
-    plain i ys n f = record { xs = []; ys = ys; m = n; long = omega arith; once = tt; live = λ z k. absurd k; late = λ z k. absurd k; falls' = f }
+    plain i ys n f = record {
+      xs = [];
+      ys = ys;
+      m = n;
+      long = omega arith;
+      once = tt;
+      live = λ z k. absurd k;
+      late = λ z k. absurd k;
+      falls' = f;
+    }
 
     rise : (i n : ℕ) (y : A) → Down i y → IsLive y → Rises (suc i) n → Rises i (suc n)
-    rise i n y d h r = record { xs = y ∷ r.xs; ys = r.ys; m = r.m; long = let l = r.long in omega arith; once = (fresh, r.once); live = live; late = late; falls' = r.falls' }
+    rise i n y d h r = record {
+      xs = y ∷ r.xs;
+      ys = r.ys;
+      m = r.m;
+      long = let l = r.long in
+          omega arith;
+      once = (fresh, r.once);
+      live = live;
+      late = late;
+      falls' = r.falls';
+    }
       where
         fresh : IsIn y r.xs → ⊥
         fresh k = let a = r.late y k in let b = a.more in let e = down_one d a.down refl in omega arith
@@ -150,23 +187,30 @@ module _ {A : Type 0} (N : NamedNet A) (is_net : IsNet N) (no_facing : HasNoFaci
     is_live : (y : A) (k : Kind) (i : ℕ) → HasNode N y k i → IsLive y
     is_live y k i h = (k, i, h)
 
-    rises : (i : ℕ) (x : A) (s : ℕ) → Down i x → {c d : Context} {q : ℕ} (r : Path N (slot x (suc s)) c q d) → Rises (suc i) (crossings r)
+    rises : (i : ℕ) (x : A) (s : ℕ) → Down i x →
+        {c d : Context} {q : ℕ} (r : Path N (slot x (suc s)) c q d) → Rises (suc i) (crossings r)
     rises i x s w (ends l) = plain (suc i) [] 0 nothing
-    rises i x s w (goes {x = y} {k = k} {i = j} l h (inward b e) r) = let t = falls y r in plain (suc i) (y ∷ t.0) (suc (crossings r)) (fall y t.0 (crossings r) r refl (is_live y k j h) t.1)
-    rises i x s w (goes {x = y} {k = k} {i = j} l h (outward {s = u} b e) r) = rise (suc i) (crossings r) y (next s w l) (is_live y k j h) (rises (suc i) y u (next s w l) r)
+    rises i x s w (goes {x = y} {k = k} {i = j} l h (inward b e) r) = let t = falls y r in
+        plain (suc i) (y ∷ t.0) (suc (crossings r)) (fall y t.0 (crossings r) r refl (is_live y k j h) t.1)
+    rises i x s w (goes {x = y} {k = k} {i = j} l h (outward {s = u} b e) r) = rise (suc i)
+        (crossings r) y (next s w l) (is_live y k j h) (rises (suc i) y u (next s w l) r)
 
     from_free : {c d : Context} {q : ℕ} (r : Path N (free p) c q d) → Rises 0 (crossings r)
     from_free (ends l) = plain 0 [] 0 nothing
-    from_free (goes {x = y} {k = k} {i = j} l h (inward b e) r) = let t = falls y r in plain 0 (y ∷ t.0) (suc (crossings r)) (fall y t.0 (crossings r) r refl (is_live y k j h) t.1)
-    from_free (goes {x = y} {k = k} {i = j} l h (outward {s = u} b e) r) = rise 0 (crossings r) y (first l) (is_live y k j h) (rises 0 y u (first l) r)
+    from_free (goes {x = y} {k = k} {i = j} l h (inward b e) r) = let t = falls y r in
+        plain 0 (y ∷ t.0) (suc (crossings r)) (fall y t.0 (crossings r) r refl (is_live y k j h) t.1)
+    from_free (goes {x = y} {k = k} {i = j} l h (outward {s = u} b e) r) = rise 0 (crossings r) y
+        (first l) (is_live y k j h) (rises 0 y u (first l) r)
 
     -- Each node is entered by slot 0 at most once, and then left by it at most once.
     pub walk_is_short : {c d : Context} {q : ℕ} (r : Path N (free p) c q d) → crossings r ≤ 2 * live N
     walk_is_short r =
         let t = from_free r in
-        let inside : (z : A) → IsLive z → IsIn z (map (λ (n : A × Kind × ℕ). n.0) N.nodes) = λ z h. in_map (λ (n : A × Kind × ℕ). n.0) (z, h.0, h.1) N.nodes h.2 in
+        let inside : (z : A) → IsLive z → IsIn z (map (λ (n : A × Kind × ℕ). n.0) N.nodes) = λ z h.
+        in_map (λ (n : A × Kind × ℕ). n.0) (z, h.0, h.1) N.nodes h.2 in
         let a = few t.xs (map (λ (n : A × Kind × ℕ). n.0) N.nodes) t.once (λ z k. inside z (t.live z k)) in
-        let b = few t.ys (map (λ (n : A × Kind × ℕ). n.0) N.nodes) t.falls'.once (λ z k. inside z (t.falls'.live z k)) in
+        let b = few t.ys (map (λ (n : A × Kind × ℕ). n.0) N.nodes) t.falls'.once
+        (λ z k. inside z (t.falls'.live z k)) in
         let l = t.long in
         let l' = t.falls'.long in
         let m = length-map N.nodes (λ (n : A × Kind × ℕ). n.0) in

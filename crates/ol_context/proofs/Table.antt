@@ -24,7 +24,8 @@ change_back kind.Lam s d b = mark_back s d b
 change_back kind.App s d b = mark_back s d b
 change_back kind.Fan s d b = mark_back s d b
 change_back kind.Croissant s d b = slot_0 s d b
-change_back kind.Bracket s d b = ap (λ d. Some (1, d)) (cons_eq (d 0) (d 0) (cons (d 1) (tail (tail d))) (tail d) refl (eta (tail d)) ∙ eta d) ∙ slot_0 s d b
+change_back kind.Bracket s d b = ap (λ d. Some (1, d))
+    (cons_eq (d 0) (d 0) (cons (d 1) (tail (tail d))) (tail d) refl (eta (tail d)) ∙ eta d) ∙ slot_0 s d b
 change_back kind.Eraser s d b = absurd (omega arith)
 
 up_back : (k : Kind) (i s : ℕ) (d : Context) → s < arity k → down k i (up k i s d) ≡ Some (suc s, d)
@@ -64,9 +65,12 @@ as_fan c (Some r) h = h
 
 into_0 : (k : Kind) (c : Context) → Into k 0 c (unchange k c)
 into_0 kind.Lam c = subst (λ d. Into kind.Lam 0 d (unmark (c 0) (tail c))) (eta c) (unmark_into (c 0) (tail c))
-into_0 kind.App c = as_app c (unmark (c 0) (tail c)) (subst (λ d. Into kind.Lam 0 d (unmark (c 0) (tail c))) (eta c) (unmark_into (c 0) (tail c)))
-into_0 kind.Fan c = as_fan c (unmark (c 0) (tail c)) (subst (λ d. Into kind.Lam 0 d (unmark (c 0) (tail c))) (eta c) (unmark_into (c 0) (tail c)))
-into_0 kind.Croissant c = subst (λ d. Into kind.Croissant 0 d (unput (c 0) (tail c))) (eta c) (unput_into (c 0) (tail c))
+into_0 kind.App c = as_app c (unmark (c 0) (tail c))
+    (subst (λ d. Into kind.Lam 0 d (unmark (c 0) (tail c))) (eta c) (unmark_into (c 0) (tail c)))
+into_0 kind.Fan c = as_fan c (unmark (c 0) (tail c))
+    (subst (λ d. Into kind.Lam 0 d (unmark (c 0) (tail c))) (eta c) (unmark_into (c 0) (tail c)))
+into_0 kind.Croissant c = subst (λ d. Into kind.Croissant 0 d (unput (c 0) (tail c))) (eta c)
+    (unput_into (c 0) (tail c))
 into_0 kind.Bracket c = subst (λ d. Into kind.Bracket 0 d (unpack (c 0) (tail c))) (eta c) (unpack_into (c 0) (tail c))
 into_0 kind.Eraser c = tt
 
@@ -86,4 +90,8 @@ crosses_by k i t s c d e b u = subst (λ t. Crosses k i 0 c t d) (sym e) (outwar
 
 -- The table from slot 0: exactly where a change gives the context.
 pub by_table : CrossingByTable
-by_table k i t c d = (table_gives k i t c d, λ e. let r = subst (Into k i c) e (into k i c) in crosses_by k i t r.0 c d r.1 r.2 r.3)
+by_table k i t c d = (
+  table_gives k i t c d,
+  λ e. let r = subst (Into k i c) e (into k i c) in
+      crosses_by k i t r.0 c d r.1 r.2 r.3,
+)

@@ -1,5 +1,7 @@
 -- Without facing pairs a walk turns once, and then goes on.
-use Rattle.std.proofs.Common.{◌≡◌, ℕ, zero, suc, ◌+◌, ◌-◌, ◌*◌, ◌<◌, ◌≤◌, ◌⊎◌, List, [], ◌∷◌, ◌++◌, map, length, inl, inr, refl, sym, ap, ◌∙◌, subst, arith, append_assoc, append-nil}
+use Rattle.std.proofs.Common.{◌≡◌, ℕ, zero, suc, ◌+◌, ◌-◌, ◌*◌, ◌<◌, ◌≤◌, ◌⊎◌, List, [], ◌∷◌, ◌++◌}
+use Rattle.std.proofs.Common.{map, length, inl, inr, refl, sym, ap, ◌∙◌, subst, arith, append_assoc}
+use Rattle.std.proofs.Common.{append-nil}
 use Rattle.std.proofs.lemmas.List.{map-append, length-map, length-append}
 use Rattle.ol_edges.specs.Edges.{IsIn}
 use Rattle.ol_net.specs.declared.parts.Kind.{Kind}
@@ -70,11 +72,14 @@ module _ {A : Type 0} (N : NamedNet A) (is_net : IsNet N) (apart : HasNoFacing N
   is_live : (y : A) (k : Kind) (i : ℕ) → HasNode N y k i → IsLive N is_net apart y
   is_live y k i h = (k, i, h)
 
-  fall : (n : ℕ) (u : NamedPort A) (ps : List (NamedPort A)) (x : A) (t : ℕ) → IsLive N is_net apart x → Linked N u (slot x 0) → Falling n u ps → Falling (suc n) (slot x (suc t)) (ps ++ slot x 0 ∷ [])
+  fall : (n : ℕ) (u : NamedPort A) (ps : List (NamedPort A)) (x : A) (t : ℕ) →
+      IsLive N is_net apart x → Linked N u (slot x 0) → Falling n u ps →
+      Falling (suc n) (slot x (suc t)) (ps ++ slot x 0 ∷ [])
   fall n u ps x t h l f = record {
     down = f.down ++ x ∷ [];
     are = ap (λ r. r ++ slot x 0 ∷ []) f.are ∙ sym (map-append principal f.down (x ∷ []));
-    long = (let a : length (f.down ++ x ∷ []) ≡ length f.down + 1 = length-append f.down (x ∷ []) in let b = f.long in omega arith);
+    long = (let a : length (f.down ++ x ∷ []) ≡ length f.down + 1 = length-append f.down (x ∷ []) in
+        let b = f.long in omega arith);
     once = once_more x f.down f.once fresh;
     lives = lives;
     earlier = earlier;
@@ -82,7 +87,8 @@ module _ {A : Type 0} (N : NamedNet A) (is_net : IsNet N) (apart : HasNoFacing N
   }
     where
       fresh : IsIn x f.down → ⊥
-      fresh k = let e = f.earlier x k in let b = e.less in let q = down_one N is_net apart p e.down (f.onward x l) refl in omega arith
+      fresh k = let e = f.earlier x k in let b = e.less in
+          let q = down_one N is_net apart p e.down (f.onward x l) refl in omega arith
 
       lives : (z : A) → IsIn z (f.down ++ x ∷ []) → IsLive N is_net apart z
       lives z k = go (in_last z x f.down k)
@@ -95,37 +101,63 @@ module _ {A : Type 0} (N : NamedNet A) (is_net : IsNet N) (apart : HasNoFacing N
       earlier z k = go (in_last z x f.down k)
         where
           go : IsIn z f.down ⊎ (z ≡ x) → Earlier (suc n) z
-          go (inl k) = let e = f.earlier z k in let b = e.less in record { at = e.at; less = omega arith; down = e.down }
-          go (inr e) = subst (λ z. Earlier (suc n) z) (sym e) (record { at = n; less = omega arith; down = f.onward x l })
+          go (inl k) = let e = f.earlier z k in let b = e.less in
+              record { at = e.at; less = omega arith; down = e.down }
+          go (inr e) = subst (λ z. Earlier (suc n) z) (sym e)
+              (record { at = n; less = omega arith; down = f.onward x l })
 
   turns : (n : ℕ) (u : NamedPort A) (ps : List (NamedPort A)) → Stage n u ps → TurnsOnce ps
-  turns n u ps (falls f) = record { down = f.down; up = []; are = f.are ∙ sym (append-nil (map principal f.down)); once = f.once }
+  turns n u ps (falls f) = record {
+    down = f.down;
+    up = [];
+    are = f.are
+        ∙ sym (append-nil (map principal f.down));
+    once = f.once;
+  }
   turns n u ps (rises r) = r.turned
 
   turn_on : (ps : List (NamedPort A)) (x : A) (s : ℕ) → TurnsOnce ps → TurnsOnce (ps ++ slot x (suc s) ∷ [])
   turn_on ps x s t = record {
     down = t.down;
     up = t.up ++ (x, s) ∷ [];
-    are = ap (λ r. r ++ slot x (suc s) ∷ []) t.are ∙ append_assoc (map principal t.down) (map auxiliary t.up) (slot x (suc s) ∷ []) ∙ ap (λ r. map principal t.down ++ r) (sym (map-append auxiliary t.up ((x, s) ∷ [])));
+    are = ap (λ r. r ++ slot x (suc s) ∷ []) t.are
+        ∙ append_assoc (map principal t.down) (map auxiliary t.up) (slot x (suc s) ∷ [])
+        ∙ ap (λ r. map principal t.down ++ r) (sym (map-append auxiliary t.up ((x, s) ∷ [])));
     once = t.once;
   }
 
   stage : {c : Context} {n : ℕ} {u : NamedPort A} {d : Context} (w : Way N (free p) c n u d) → Stage n u (entries w)
-  stage start = falls (record { down = []; are = refl; long = refl; once = tt; lives = λ z k. absurd k; earlier = λ z k. absurd k; onward = λ y l. first l })
+  stage start = falls (record {
+    down = [];
+    are = refl;
+    long = refl;
+    once = tt;
+    lives = λ z k. absurd k;
+    earlier = λ z k. absurd k;
+    onward = λ y l. first l;
+  })
   stage (on {n = n} {u = u} {x = x} {k = k} {i = i} w l h (inward {s = s} b e)) =
-      rises (record { turned = turn_on (entries w) x s (turns n u (entries w) (stage w)); node = x; at = refl; lives = is_live x k i h })
+      rises (record {
+        turned = turn_on (entries w) x s (turns n u (entries w) (stage w));
+        node = x;
+        at = refl;
+        lives = is_live x k i h;
+      })
   stage (on {n = n} {u = u} {x = x} {k = k} {i = i} w l h (outward {s = t} b e)) = go (stage w)
     where
       go : Stage n u (entries w) → Stage (suc n) (slot x (suc t)) (entries w ++ slot x 0 ∷ [])
       go (falls f) = falls (fall n u (entries w) x t (is_live x k i h) l f)
       go (rises r) = absurd (apart r.node x (subst (λ u. Linked N u (slot x 0)) r.at l))
 
-  pub turns_once : {c : Context} {n : ℕ} {u : NamedPort A} {d : Context} (w : Way N (free p) c n u d) → TurnsOnce (entries w)
+  pub turns_once : {c : Context} {n : ℕ} {u : NamedPort A} {d : Context}
+      (w : Way N (free p) c n u d) → TurnsOnce (entries w)
   turns_once {n = n} {u = u} w = turns n u (entries w) (stage w)
 
   few_down : (n : ℕ) (u : NamedPort A) (ps : List (NamedPort A)) → Falling n u ps → n ≤ live N
   few_down n u ps f =
-      let inside : (z : A) → IsLive N is_net apart z → IsIn z (map (λ (n : A × Kind × ℕ). n.0) N.nodes) = λ z h. in_map (λ (n : A × Kind × ℕ). n.0) (z, h.0, h.1) N.nodes h.2 in
+      let inside : (z : A) → IsLive N is_net apart z →
+      IsIn z (map (λ (n : A × Kind × ℕ). n.0) N.nodes) = λ z h.
+      in_map (λ (n : A × Kind × ℕ). n.0) (z, h.0, h.1) N.nodes h.2 in
       let a = few f.down (map (λ (n : A × Kind × ℕ). n.0) N.nodes) f.once (λ z k. inside z (f.lives z k)) in
       let m = length-map N.nodes (λ (n : A × Kind × ℕ). n.0) in
       let l = f.long in
@@ -143,10 +175,16 @@ module _ {A : Type 0} (N : NamedNet A) (is_net : IsNet N) (apart : HasNoFacing N
   up_on c n r x (suc s) l = go (is_net.of_ports (slot r.node 0) (slot x (suc s)) l).1
     where
       go : IsPort N (slot x (suc s)) → Up c (suc n)
-      go h = record { node = x; context = _; way = on r.way l h.2 (inward {s = s} (let b = h.3 in omega arith) refl); lives = is_live x h.0 h.1 h.2 }
+      go h = record {
+        node = x;
+        context = _;
+        way = on r.way l h.2 (inward {s = s} (let b = h.3 in omega arith) refl);
+        lives = is_live x h.0 h.1 h.2;
+      }
 
   -- the node that comes next, where no exit can come any more
-  up_link : (c : Context) (n : ℕ) → 2 * live N < n → (r : Up c n) → (x : A) × (s : ℕ) × Linked N (slot r.node 0) (slot x s)
+  up_link : (c : Context) (n : ℕ) → 2 * live N < n → (r : Up c n) →
+      (x : A) × (s : ℕ) × Linked N (slot r.node 0) (slot x s)
   up_link c n b r = go link.0 link.1
     where
       link : (v : NamedPort A) × Linked N (slot r.node 0) v
@@ -176,12 +214,18 @@ module _ {A : Type 0} (N : NamedNet A) (is_net : IsNet N) (apart : HasNoFacing N
           let h = (is_net.of_ports s.port (slot s.node s.at) s.linked).1 in
           let one = some_long (s.node, h.0, h.1) N.nodes h.2 in
           absurd (omega arith)
-      go (rises r) = up_on c edges (record { node = r.node; context = s.context; way = subst (λ u. Way N (free p) c edges u s.context) r.at s.way; lives = r.lives }) s.node s.at (subst (λ u. Linked N u (slot s.node s.at)) r.at s.linked)
+      go (rises r) = up_on c edges (record {
+        node = r.node;
+        context = s.context;
+        way = subst (λ u. Way N (free p) c edges u s.context) r.at s.way;
+        lives = r.lives;
+      }) s.node s.at (subst (λ u. Linked N u (slot s.node s.at)) r.at s.linked)
 
   three : (m n : ℕ) → ((m < n) ⊎ (m ≡ n)) ⊎ (n < m)
   three m n = grind arith
 
-  pub goes_on : (c : Context) (edges : ℕ) → 2 * live N ≤ edges → WalkStands N (free p) c edges → (n : ℕ) → WalkStands N (free p) c n
+  pub goes_on : (c : Context) (edges : ℕ) → 2 * live N ≤ edges → WalkStands N (free p) c edges →
+      (n : ℕ) → WalkStands N (free p) c n
   goes_on c edges b s n = go (three n edges)
     where
       go : ((n < edges) ⊎ (n ≡ edges)) ⊎ (edges < n) → WalkStands N (free p) c n
@@ -194,11 +238,17 @@ module _ {A : Type 0} (N : NamedNet A) (is_net : IsNet N) (apart : HasNoFacing N
           record { port = slot r.node 0; context = r.context; way = r.way; node = l.0; at = l.1; linked = l.2 }
 
 -- so an exit needs no word of the budget
-pub leaves_exactly : (N : NamedNet ℕ) → IsNet N → (p : ℕ) (c : Context) (edges : ℕ) (vs : List Level) (w : Walk) → ExitsExactly N p c edges vs w → HasNoFacing N → 2 * live N ≤ edges → LeavesExactly N p c vs w
+pub leaves_exactly : (N : NamedNet ℕ) → IsNet N →
+    (p : ℕ) (c : Context) (edges : ℕ) (vs : List Level) (w : Walk) → ExitsExactly N p c edges vs w →
+    HasNoFacing N → 2 * live N ≤ edges → LeavesExactly N p c vs w
 leaves_exactly N is_net p c edges vs w e apart b q d n = (there, back)
   where
     there : IsExit vs w q d n → (r : Path N (free p) c q d) × (crossings r ≡ n)
     there h = let x = (e q d n).0 h in (x.path, x.long)
 
     back : (r : Path N (free p) c q d) × (crossings r ≡ n) → IsExit vs w q d n
-    back r = (e q d n).1 (record { path = r.0; long = r.1; within = (let k = short N is_net apart p c q d r.0 in let l : crossings r.0 ≡ n = r.1 in omega arith) })
+    back r = (e q d n).1 (record {
+      path = r.0;
+      long = r.1;
+      within = (let k = short N is_net apart p c q d r.0 in let l : crossings r.0 ≡ n = r.1 in omega arith);
+    })

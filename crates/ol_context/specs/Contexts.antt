@@ -1,4 +1,5 @@
--- Level values, contexts, and what a node does to a context (Gonthier, Abadi and Lévy, The Geometry of Optimal Lambda Reduction, 1992).
+-- Level values, contexts, and what a node does to a context (Gonthier, Abadi and Lévy, The Geometry
+-- of Optimal Lambda Reduction, 1992).
 use Rattle.std.specs.Prelude.{ℕ, zero, suc, List, [], ◌∷◌}
 use Rattle.ol_net.specs.declared.parts.Kind.{Kind}
 use Rattle.ol_net.specs.declared.parts.Kind.TheVariants as kind

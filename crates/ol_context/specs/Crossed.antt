@@ -23,7 +23,8 @@ IfOut cross.Undefined P = Unit {0}
 
 -- An answer Out is the port by which the node of port p is left, with the context that the numbers ms stand for.
 abbrev pub LeavesNode : Graph → Port → List Level → List Level → List ℕ → List ℕ → Cross → Type 0
-LeavesNode g p old new ns ms r = IfOut r (λ q. Through (net_of g) (numbered_port p) (context_of old ns) (numbered_port q) (context_of new ms))
+LeavesNode g p old new ns ms r = IfOut r
+    (λ q. Through (net_of g) (numbered_port p) (context_of old ns) (numbered_port q) (context_of new ms))
 
 -- Undefined comes exactly where no crossing of the node of port p is defined.
 abbrev pub IsUndefinedExactly : Graph → Port → List Level → List ℕ → Cross → Type 0

@@ -22,11 +22,14 @@ NoneInto vs ns i f = (s : ℕ) (d : Context) → at_level i (f s) d ≡ context_
 
 -- level i has lost the mark of auxiliary port s + 1; None where it has no mark, and then nothing is changed
 abbrev pub HasLostMark : List Level → ℕ → List ℕ → List ℕ → Option ℕ → Type 0
-HasLostMark vs i ns ms r = MatchOption r ((ms ≡ ns) × NoneInto vs ns i mark) (λ s. (s < 2) × ComesFrom vs ns ms (at_level i (mark s)))
+HasLostMark vs i ns ms r = MatchOption r ((ms ≡ ns) × NoneInto vs ns i mark)
+    (λ s. (s < 2) × ComesFrom vs ns ms (at_level i (mark s)))
 
--- f at level i, the change of a node's only auxiliary port, is undone; None where f makes no such levels, and then nothing is changed
+-- f at level i, the change of a node's only auxiliary port, is undone; None where f makes no such
+-- levels, and then nothing is changed
 abbrev pub HasUndone : (Context → Context) → List Level → ℕ → List ℕ → List ℕ → Option ℕ → Type 0
-HasUndone f vs i ns ms r = MatchOption r ((ms ≡ ns) × NoneInto vs ns i (λ s. f)) (λ s. (s ≡ 0) × ComesFrom vs ns ms (at_level i f))
+HasUndone f vs i ns ms r = MatchOption r ((ms ≡ ns) × NoneInto vs ns i (λ s. f))
+    (λ s. (s ≡ 0) × ComesFrom vs ns ms (at_level i f))
 
 -- from slot 0 to slot s + 1, or nowhere
 abbrev pub HasFallen : Kind → ℕ → List Level → List ℕ → List ℕ → Option ℕ → Type 0
@@ -37,7 +40,8 @@ HasFallen k i vs ns ms (Some s) = (s < arity k) × ComesFrom vs ns ms (up k i s)
 abbrev pub NoCrossing : Kind → ℕ → ℕ → Context → Type 0
 NoCrossing k i s c = (t : ℕ) (d : Context) → Crosses k i s c t d → ⊥
 
--- where the walk leaves a node of this kind and index and with which context; None where no crossing is defined, and then
+-- where the walk leaves a node of this kind and index and with which context; None where no
+-- crossing is defined, and then
 -- nothing is changed
 abbrev pub IsCrossed : Kind → ℕ → ℕ → List Level → List Level → List ℕ → List ℕ → Option ℕ → Type 0
 IsCrossed k i s old new ns ms None = NoCrossing k i s (context_of old ns) × (ms ≡ ns)

@@ -6,4 +6,5 @@ use Rattle.ol_context.specs.Short.{HasNoFacing}
 
 -- A net in which no pair is active, and none stuck, has no facing pairs.
 abbrev pub NoPairsAreLeft : Type 0 → Type 0
-NoPairsAreLeft A = (N : NamedNet A) → IsNet N → ((f g : A) (r : Rule) → IsActive N f g r → ⊥) → HasStuck N 0 → HasNoFacing N
+NoPairsAreLeft A = (N : NamedNet A) → IsNet N → ((f g : A) (r : Rule) → IsActive N f g r → ⊥) →
+    HasStuck N 0 → HasNoFacing N

@@ -19,7 +19,8 @@ ContextsPull = (f : Kind) (p : ℕ) → IsCrosser f → (i j : ℕ) (g : Context
 
 -- the context at slot 0 tells the slot and the context that it comes from
 abbrev pub ContextsInjective : Type 0
-ContextsInjective = (k : Kind) (i s t : ℕ) (c d : Context) → s < arity k → t < arity k → up k i s c ≡ up k i t d → (s ≡ t) × (c ≡ d)
+ContextsInjective = (k : Kind) (i s t : ℕ) (c d : Context) → s < arity k → t < arity k →
+    up k i s c ≡ up k i t d → (s ≡ t) × (c ≡ d)
 
 -- crossing back undoes crossing
 abbrev pub CrossingBack : Type 0
@@ -30,7 +31,8 @@ ThroughBack A = (N : NamedNet A) (p q : NamedPort A) (c d : Context) → Through
 
 -- a crossing has one result
 abbrev pub CrossingIsOne : Type 0
-CrossingIsOne = (k : Kind) (i s t t' : ℕ) (c d d' : Context) → Crosses k i s c t d → Crosses k i s c t' d' → (t ≡ t') × (d ≡ d')
+CrossingIsOne = (k : Kind) (i s t t' : ℕ) (c d d' : Context) → Crosses k i s c t d →
+    Crosses k i s c t' d' → (t ≡ t') × (d ≡ d')
 
 -- a crossing from slot 0 is what the table gives
 abbrev pub CrossingByTable : Type 0
@@ -38,7 +40,8 @@ CrossingByTable = (k : Kind) (i t : ℕ) (c d : Context) → Crosses k i 0 c t d
 
 -- a walk has one path
 abbrev pub WalkIsOne : Type 0 → Type 0
-WalkIsOne A = (N : NamedNet A) → IsNet N → (p : NamedPort A) (c : Context) (q q' : ℕ) (d d' : Context) (r : Path N p c q d) (s : Path N p c q' d') →
+WalkIsOne A = (N : NamedNet A) → IsNet N →
+    (p : NamedPort A) (c : Context) (q q' : ℕ) (d d' : Context) (r : Path N p c q d) (s : Path N p c q' d') →
     (q ≡ q') × (d ≡ d') × (crossings r ≡ crossings s)
 
 -- and a path leads back in as many crossings

@@ -13,8 +13,10 @@ use Rattle.ol_context.specs.Asked.{os}
 use Rattle.ol_context.specs.declared.leaf.Fate.{Fate}
 use Rattle.ol_context.specs.declared.leaf.Fate.TheVariants as fate
 
--- A node of kind k and index i is entered by slot s, with the context F v where the leaf is v, and left by slot t, with the
--- context G v. The leaf stays: it only moves. It gives off an o: G is what is left of it, and with an empty leaf no crossing
+-- A node of kind k and index i is entered by slot s, with the context F v where the leaf is v, and
+-- left by slot t, with the
+-- context G v. The leaf stays: it only moves. It gives off an o: G is what is left of it, and with
+-- an empty leaf no crossing
 -- is defined. It goes: that is so with an empty leaf alone, and no leaf is left.
 abbrev pub Moves : Kind → ℕ → ℕ → (Level → Context) → (Level → Context) → Context → ℕ → Fate → Type 0
 Moves k i s F G c t fate.Stays = (v : Level) → Crosses k i s (F v) t (G v)
@@ -47,7 +49,8 @@ AreHeldWithIt v none ns ms = (vs : List Level) → IsHeld vs v → IsHeld vs non
 
 -- where none is the number of the empty value, ms stand for the levels of ns with the value of v put in as level i
 abbrev pub HasPutIn : ℕ → ℕ → ℕ → List ℕ → List ℕ → Type 0
-HasPutIn i v none ns ms = (vs : List Level) → value vs none ≡ empty → context_of vs ms ≡ at_level i (cons (value vs v)) (context_of vs ns)
+HasPutIn i v none ns ms = (vs : List Level) → value vs none ≡ empty →
+    context_of vs ms ≡ at_level i (cons (value vs v)) (context_of vs ns)
 
 -- ms stand for the levels of ns without level i
 abbrev pub HasTakenOut : ℕ → List ℕ → List ℕ → Type 0
@@ -58,8 +61,10 @@ abbrev pub HasRisen : List Level → List Level → List ℕ → List ℕ → Le
 HasRisen old new ns ms l m f = (v : Level) → reading new ms (Some (seen m)) v ≡ f (reading old ns (Some (seen l)) v)
 
 -- a crossing of a node of this kind and index from this slot
-abbrev pub LeafHasMoved : Kind → ℕ → ℕ → List Level → List Level → List ℕ → List ℕ → Leaf → Leaf → Option (ℕ × Fate) → Type 0
-LeafHasMoved k i s old new ns ms l m r = HasMoved k i s (reading old ns (Some (seen l))) (reading new ms (Some (seen m))) (context_of new ms) r
+abbrev pub LeafHasMoved : Kind → ℕ → ℕ → List Level → List Level → List ℕ → List ℕ → Leaf → Leaf →
+    Option (ℕ × Fate) → Type 0
+LeafHasMoved k i s old new ns ms l m r = HasMoved k i s (reading old ns (Some (seen l)))
+    (reading new ms (Some (seen m))) (context_of new ms) r
 
 -- where no crossing is defined nothing is changed
 abbrev pub IfNoMove : Option (ℕ × Fate) → Type 0 → Type 0

@@ -5,7 +5,8 @@ use Rattle.ol_net.specs.Parts.{arity}
 use Rattle.ol_net.specs.Nets.{NamedNet, NamedPort, free, slot, HasNode, Linked}
 use Rattle.ol_context.specs.Contexts.{Context, up}
 
--- A node of kind k and index i is entered by slot s with context c and left by slot t with context d. From slot 0 the walk
+-- A node of kind k and index i is entered by slot s with context c and left by slot t with context
+-- d. From slot 0 the walk
 -- leaves by the slot whose change gives the context, with the context before that change. An eraser lets nothing pass.
 pub data Crosses (k : Kind) (i : ℕ) : ℕ → Context → ℕ → Context → Type 0 where
   inward : {s : ℕ} {c d : Context} → s < arity k → up k i s c ≡ d → Crosses k i (suc s) c 0 d
@@ -13,7 +14,8 @@ pub data Crosses (k : Kind) (i : ℕ) : ℕ → Context → ℕ → Context → 
 
 -- A node of the net is entered by port p with context c and left by port q with context d.
 pub data Through {A : Type 0} (N : NamedNet A) : NamedPort A → Context → NamedPort A → Context → Type 0 where
-  through : {x : A} {k : Kind} {i s t : ℕ} {c d : Context} → HasNode N x k i → Crosses k i s c t d → Through N (slot x s) c (slot x t) d
+  through : {x : A} {k : Kind} {i s t : ℕ} {c d : Context} → HasNode N x k i → Crosses k i s c t d →
+      Through N (slot x s) c (slot x t) d
 
 -- No crossing is defined there.
 abbrev pub IsBarred : {A : Type 0} → NamedNet A → NamedPort A → Context → Type 0
@@ -26,7 +28,8 @@ pub data Path {A : Type 0} (N : NamedNet A) : NamedPort A → Context → ℕ �
       Linked N p (slot x s) → HasNode N x k i → Crosses k i s c t d → Path N (slot x t) d q e → Path N p c q e
 
 -- how many crossings a path has
-abbrev pub crossings : {A : Type 0} {N : NamedNet A} {p : NamedPort A} {c : Context} {q : ℕ} {d : Context} → Path N p c q d → ℕ
+abbrev pub crossings : {A : Type 0} {N : NamedNet A} {p : NamedPort A} {c : Context} {q : ℕ}
+    {d : Context} → Path N p c q d → ℕ
 crossings (ends l) = 0
 crossings (goes l h x r) = suc (crossings r)
 

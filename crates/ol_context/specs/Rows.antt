@@ -12,5 +12,6 @@ IsRow n (s ∷ ss) = IsBelow n s × IsRow (suc n) ss
 
 -- no shape stands twice, and none is that of the empty value, which has number 0
 abbrev pub AreOnce : List Shape → Type 0
-AreOnce ss = ((j k : ℕ) (d : Shape) → j < length ss → k < length ss → slice_index_or ss j d ≡ slice_index_or ss k d → j ≡ k)
+AreOnce ss = ((j k : ℕ) (d : Shape) → j < length ss → k < length ss →
+    slice_index_or ss j d ≡ slice_index_or ss k d → j ≡ k)
     × ((k : ℕ) (d : Shape) → k < length ss → slice_index_or ss k d ≡ shape.Empty → ⊥)

@@ -22,7 +22,8 @@ IsOnce [] = Unit {0}
 IsOnce (x ∷ xs) = (IsIn x xs → ⊥) × IsOnce xs
 
 -- the ports by which a walk entered nodes, one after another
-abbrev pub entries : {A : Type 0} {N : NamedNet A} {p : NamedPort A} {c : Context} {n : ℕ} {u : NamedPort A} {d : Context} →
+abbrev pub entries : {A : Type 0} {N : NamedNet A} {p : NamedPort A} {c : Context} {n : ℕ}
+    {u : NamedPort A} {d : Context} →
     Way N p c n u d → List (NamedPort A)
 entries start = []
 entries (on {x = x} {s = s} w l h y) = entries w ++ slot x s ∷ []
@@ -56,10 +57,12 @@ abbrev pub WalkGoesOn : Type 0 → Type 0
 WalkGoesOn A = (N : NamedNet A) → IsNet N → HasNoFacing N → (p : ℕ) (c : Context) (edges : ℕ) →
     2 * live N ≤ edges → WalkStands N (free p) c edges → (n : ℕ) → WalkStands N (free p) c n
 
--- An exit comes exactly where a path leads to a free port, of any number of crossings: by that port, with the context there,
+-- An exit comes exactly where a path leads to a free port, of any number of crossings: by that
+-- port, with the context there,
 -- and with the number of crossings.
 abbrev pub LeavesExactly : NamedNet ℕ → ℕ → Context → List Level → Walk → Type 0
-LeavesExactly N p c vs w = (q : ℕ) (d : Context) (n : ℕ) → IsExit vs w q d n ↔ ((r : Path N (free p) c q d) × (crossings r ≡ n))
+LeavesExactly N p c vs w = (q : ℕ) (d : Context) (n : ℕ) →
+    IsExit vs w q d n ↔ ((r : Path N (free p) c q d) × (crossings r ≡ n))
 
 -- That is so where no two principal ports are linked and edges is at least twice the number of nodes.
 abbrev pub LeavesIfEnough : NamedNet ℕ → ℕ → Context → ℕ → List Level → Walk → Type 0

@@ -12,7 +12,8 @@ pub data Way {A : Type 0} (N : NamedNet A) (p : NamedPort A) (c : Context) : ℕ
       Way N p c n u d → Linked N u (slot x s) → HasNode N x k i → Crosses k i s d t e → Way N p c (suc n) (slot x t) e
 
 -- A path of n crossings, and of no more than edges, leads from port p to the free port q with context d.
-pub record Exits {A : Type 0} (N : NamedNet A) (p : NamedPort A) (c : Context) (edges q : ℕ) (d : Context) (n : ℕ) : Type 0 where
+pub record Exits {A : Type 0} (N : NamedNet A) (p : NamedPort A) (c : Context) (edges q : ℕ)
+    (d : Context) (n : ℕ) : Type 0 where
   pub path : Path N p c q d
   pub long : crossings path ≡ n
   pub within : n ≤ edges

@@ -16,8 +16,11 @@ use Rattle.ol_demand.specs.Readings.{IsReadByChains, IsSpentReading}
 use Rattle.ol_demand.specs.declared.asking.Chains.{Chains}
 use Rattle.ol_demand.specs.declared.rewriting.Run.{Run}
 
-found_on : (old g : Graph) (run : Run) (heads : ℕ) (places : List ReadNode) (F : List Frame) (s : Subterm) (ss : List Subterm) (a : Answer) → IsUnderWay old g run heads (places ++ place_of a ∷ []) (next F s ss a) →
-    IsUnderWay old g run heads (found places F s ss a).places (asks (found places F s ss a).frames (found places F s ss a).waiting 0)
+found_on : (old g : Graph) (run : Run) (heads : ℕ) (places : List ReadNode) (F : List Frame)
+    (s : Subterm) (ss : List Subterm) (a : Answer) →
+    IsUnderWay old g run heads (places ++ place_of a ∷ []) (next F s ss a) →
+    IsUnderWay old g run heads (found places F s ss a).places
+    (asks (found places F s ss a).frames (found places F s ss a).waiting 0)
 found_on old g run heads places F s ss (head n v k ls) u = u
 found_on old g run heads places F s ss no_head u = u
 found_on old g run heads places F s ss budget u = u
@@ -32,13 +35,17 @@ abbrev stops : Chains → Graph → Chains → Graph → ℕ → Type 0
 stops c g c' g' heads = StopsOnTheWay g heads c.fuel g'
 
 module _ (c : Chains) (g : Graph) (c' : Chains) (g' : Graph) (F : List Frame) where
-  pub answered_by : (vs : List Level) (o : Option Head) → c'.fuel ≡ c.fuel → IsAnswered g g' c.run c'.run F vs o → IsSpentIfNone c'.run c.fuel o → length c'.run.journal ≤ c.fuel → asker.IsAnswered reads ends c g c' g' F vs o
+  pub answered_by : (vs : List Level) (o : Option Head) → c'.fuel ≡ c.fuel →
+      IsAnswered g g' c.run c'.run F vs o → IsSpentIfNone c'.run c.fuel o →
+      length c'.run.journal ≤ c.fuel → asker.IsAnswered reads ends c g c' g' F vs o
   answered_by vs (Some h) q a s w = λ s0 n0 heads places front t ss z b u. record {
     same_fuel = q ∙ u.same_fuel;
     within = let e = u.same_fuel in omega (arith, w);
     under = found_on n0 g' c'.run heads places front t ss (answer_of vs h) (a n0 heads places front t ss z b u.under);
   }
-  answered_by vs None q a s w = λ s0 n0 heads places front t ss z b u. (a n0 heads places front t ss z b u.under, s ∙ u.same_fuel)
+  answered_by vs None q a s w = λ s0 n0 heads places front t ss z b u.
+      (a n0 heads places front t ss z b u.under, s ∙ u.same_fuel)
 
   pub stopped_by : (fuel : ℕ) → fuel ≡ c.fuel → IsStopped g g' c.run F fuel → asker.IsStopped reads stops c g c' g' F
-  stopped_by fuel q a = λ s0 n0 heads places front t ss z b u. subst (λ (fuel : ℕ). StopsOnTheWay n0 heads fuel g') (q ∙ u.same_fuel) (a n0 heads places front t ss z b u.under)
+  stopped_by fuel q a = λ s0 n0 heads places front t ss z b u.
+      subst (λ (fuel : ℕ). StopsOnTheWay n0 heads fuel g') (q ∙ u.same_fuel) (a n0 heads places front t ss z b u.under)

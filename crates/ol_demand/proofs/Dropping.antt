@@ -29,7 +29,8 @@ module _ (mid new : List Level) (count : ℕ) where
   held Undefined k h = tt
   held Budget k h = tt
 
-  pub ends : (g : Graph) (p : ℕ) (c : Context) (e : End) → KeepsIfLeft count mid new e → IsEndOf g p c mid e → IsEndOf g p c new e
+  pub ends : (g : Graph) (p : ℕ) (c : Context) (e : End) → KeepsIfLeft count mid new e →
+      IsEndOf g p c mid e → IsEndOf g p c new e
   ends g p c (Left q ms) k h = subst (λ (vs : List Level). IsEndOf g p c vs (Left q ms)) (sym k) h
   ends g p c (Met a b) k h = h
   ends g p c Undefined k h = h

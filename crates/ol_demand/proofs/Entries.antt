@@ -1,5 +1,7 @@
 -- A step of a pair as an entry of a journal, under the names of a run.
-use Rattle.std.proofs.Common.{◌≡◌, ℕ, zero, suc, ◌+◌, ◌-◌, ◌<◌, ◌≤◌, List, [], ◌∷◌, ◌++◌, length, get_or, if◌then◌else◌, Bool, true, false, nat_lt, ◌⊎◌, inl, inr, refl, sym, ap, ◌∙◌, subst, arith, add-one}
+use Rattle.std.proofs.Common.{◌≡◌, ℕ, zero, suc, ◌+◌, ◌-◌, ◌<◌, ◌≤◌, List, [], ◌∷◌, ◌++◌, length}
+use Rattle.std.proofs.Common.{get_or, if◌then◌else◌, Bool, true, false, nat_lt, ◌⊎◌, inl, inr, refl}
+use Rattle.std.proofs.Common.{sym, ap, ◌∙◌, subst, arith, add-one}
 use Rattle.std.proofs.lemmas.Bool.{cases_lt}
 use Rattle.std.proofs.lemmas.Bool.Decides.{nat_tests}
 use Rattle.std.proofs.lemmas.List.{get_or_append_left, get_or-append_right, get_or_push, length_push}
@@ -33,12 +35,14 @@ pub one_name : (start next ticket : ℕ) (m : ℕ → NodeName) → IsNaming sta
 one_name start next ticket m n = names_apart start next ticket m (as_names start next ticket m n)
 
 -- the step of x and y, of which x has the smaller number
-module _ (g g' : Graph) (is_net : IsNet (net_of g)) (x y : ℕ) (r : Rule) (s : StepsAt g g' x r) (l : Linked (net_of g) (slot x 0) (slot y 0)) where
+module _ (g g' : Graph) (is_net : IsNet (net_of g)) (x y : ℕ) (r : Rule) (s : StepsAt g g' x r)
+    (l : Linked (net_of g) (slot x 0) (slot y 0)) where
   pub the_pair : ((x ≡ s.f) × (y ≡ s.g)) ⊎ ((x ≡ s.g) × (y ≡ s.f))
   the_pair = go s.one_of
     where
       other : (f h : ℕ) → Linked (net_of g) (slot f 0) (slot h 0) → x ≡ f → y ≡ h
-      other f h a e = let c = is_net.one_link (slot f 0) (slot y 0) (slot h 0) (subst (λ z. Linked (net_of g) (slot z 0) (slot y 0)) e l) a in cc
+      other f h a e = let c = is_net.one_link (slot f 0) (slot y 0) (slot h 0)
+          (subst (λ z. Linked (net_of g) (slot z 0) (slot y 0)) e l) a in cc
 
       go : (x ≡ s.f) ⊎ (x ≡ s.g) → ((x ≡ s.f) × (y ≡ s.g)) ⊎ ((x ≡ s.g) × (y ≡ s.f))
       go (inl e) = inl (e, other s.f s.g s.step.active.faces.linked e)
@@ -51,7 +55,8 @@ module _ (g g' : Graph) (is_net : IsNet (net_of g)) (x y : ℕ) (r : Rule) (s : 
     pub entry_names : IsNamed entry (m s.f) (m s.g)
     entry_names = record { ordered = n.rising x y lesser; pair = go the_pair }
       where
-        go : ((x ≡ s.f) × (y ≡ s.g)) ⊎ ((x ≡ s.g) × (y ≡ s.f)) → ((m x ≡ m s.f) × (m y ≡ m s.g)) ⊎ ((m x ≡ m s.g) × (m y ≡ m s.f))
+        go : ((x ≡ s.f) × (y ≡ s.g)) ⊎ ((x ≡ s.g) × (y ≡ s.f)) →
+            ((m x ≡ m s.f) × (m y ≡ m s.g)) ⊎ ((m x ≡ m s.g) × (m y ≡ m s.f))
         go (inl e) = inl (ap m e.0, ap m e.1)
         go (inr e) = inr (ap m e.0, ap m e.1)
 
@@ -60,7 +65,8 @@ module _ (g g' : Graph) (is_net : IsNet (net_of g)) (x y : ℕ) (r : Rule) (s : 
 
     pub named_step : StepBy (λ p. Born t p)
     named_step =
-        let u = step_under m (one_name start (length g.nodes) t m n) (λ p. length g.nodes + p) (net_of g) s.f s.g r (net_of g') s.step in
+        let u = step_under m (one_name start (length g.nodes) t m n) (λ p. length g.nodes + p)
+        (net_of g) s.f s.g r (net_of g') s.step in
         subst StepBy (λ i. λ p. n.born p i) u.0
 
 name_born : (t b p : ℕ) (d : NodeName) → p < b → get_or (names_born t b) p d ≡ Born t p
@@ -70,25 +76,31 @@ name_born t (suc b) p d h = go (name_born t b p d) (cases_lt p b)
     l : length (names_born t b) ≡ b
     l = length-names_born t b
 
-    go : (p < b → get_or (names_born t b) p d ≡ Born t p) → (p < b) ⊎ (b ≤ p) → get_or (names_born t b ++ Born t b ∷ []) p d ≡ Born t p
+    go : (p < b → get_or (names_born t b) p d ≡ Born t p) → (p < b) ⊎ (b ≤ p) →
+        get_or (names_born t b ++ Born t b ∷ []) p d ≡ Born t p
     go before (inl z) = (let y = l in get_or_append_left (names_born t b) (Born t b ∷ []) d p (omega arith)) ∙ before z
-    go before (inr z) = (let y = l in get_or_push (names_born t b) (Born t b) d p (omega arith)) ∙ ap (Born t) (let e : b ≡ p = omega arith in e)
+    go before (inr z) = (let y = l in get_or_push (names_born t b) (Born t b) d p (omega arith))
+        ∙ ap (Born t) (let e : b ≡ p = omega arith in e)
 
 -- the names that are kept, with those of one more ticket
-listed_on : (start next t b : ℕ) (names : List NodeName) (m : ℕ → NodeName) → start + length names ≡ next → ((p : ℕ) → m (next + p) ≡ Born t p) → ((k : ℕ) → k < next → name_in start names k ≡ m k) →
+listed_on : (start next t b : ℕ) (names : List NodeName) (m : ℕ → NodeName) →
+    start + length names ≡ next → ((p : ℕ) → m (next + p) ≡ Born t p) →
+    ((k : ℕ) → k < next → name_in start names k ≡ m k) →
     (k : ℕ) → k < next + b → name_in start (names ++ names_born t b) k ≡ m k
 listed_on start next t b names m c born listed k h = go (cases_lt k start) (cases_lt k next)
   where
     some : start ≤ k → k < next → get_or (names ++ names_born t b) (k - start) (Init k) ≡ m k
     some x y =
         let e : nat_lt k start ≡ false = grind (arith, nat_tests) in
-        let z : get_or names (k - start) (Init k) ≡ m k = ap (λ (v : Bool). if v then Init k else get_or names (k - start) (Init k)) (sym e) ∙ listed k y in
+        let z : get_or names (k - start) (Init k) ≡ m k = ap
+        (λ (v : Bool). if v then Init k else get_or names (k - start) (Init k)) (sym e) ∙ listed k y in
         get_or_append_left names (names_born t b) (Init k) (k - start) (omega arith) ∙ z
 
     go : (k < start) ⊎ (start ≤ k) → (k < next) ⊎ (next ≤ k) → name_in start (names ++ names_born t b) k ≡ m k
     go (inl x) y =
         let e : nat_lt k start ≡ true = grind (arith, nat_tests) in
-        let z : Init k ≡ m k = ap (λ (v : Bool). if v then Init k else get_or names (k - start) (Init k)) (sym e) ∙ listed k (omega arith) in
+        let z : Init k ≡ m k = ap (λ (v : Bool).
+        if v then Init k else get_or names (k - start) (Init k)) (sym e) ∙ listed k (omega arith) in
         ap (λ (v : Bool). if v then Init k else get_or (names ++ names_born t b) (k - start) (Init k)) e ∙ z
     go (inr x) (inl y) =
         let e : nat_lt k start ≡ false = grind (arith, nat_tests) in
@@ -98,20 +110,27 @@ listed_on start next t b names m c born listed k h = go (cases_lt k start) (case
         let q : next + (k - start - length names) ≡ k = omega arith in
         ap (λ (v : Bool). if v then Init k else get_or (names ++ names_born t b) (k - start) (Init k)) e
         ∙ get_or-append_right names (names_born t b) (length names) (k - start) (Init k) refl (omega arith)
-        ∙ name_born t b (k - start - length names) (Init k) (omega arith) ∙ sym (born (k - start - length names)) ∙ ap m q
+        ∙ name_born t b (k - start - length names) (Init k) (omega arith)
+        ∙ sym (born (k - start - length names)) ∙ ap m q
 
 -- the names after a step was written down
 abbrev pub after_step : Graph → Run → (ℕ → NodeName) → ℕ → NodeName
 after_step g' run m = names_after m (length g'.nodes) (suc (length run.journal))
 
-pub names_of_next : (old g g' : Graph) (run run' : Run) (m : ℕ → NodeName) (x y : ℕ) → AreNamesOf old g run m → run.start + length run.names.items ≡ length g.nodes → Advances run run' g g' x y → AreNamesOf old g' run' (after_step g' run m)
+pub names_of_next : (old g g' : Graph) (run run' : Run) (m : ℕ → NodeName) (x y : ℕ) →
+    AreNamesOf old g run m → run.start + length run.names.items ≡ length g.nodes →
+    Advances run run' g g' x y → AreNamesOf old g' run' (after_step g' run m)
 names_of_next old g g' run run' m x y n c a = record {
   naming = subst (λ t. IsNaming (length old.nodes) (length g'.nodes) t (after_step g' run m)) (sym count)
-      (subst (λ k. IsNaming (length old.nodes) k (suc t) (names_after m k (suc t))) total (is_naming (length old.nodes) (length g.nodes + b) (suc t) _ (names_on (length old.nodes) (length g.nodes) t b m (as_names (length old.nodes) (length g.nodes) t m n.naming))));
+      (subst (λ k. IsNaming (length old.nodes) k (suc t) (names_after m k (suc t))) total
+      (is_naming (length old.nodes) (length g.nodes + b) (suc t) _
+      (names_on (length old.nodes) (length g.nodes) t b m
+      (as_names (length old.nodes) (length g.nodes) t m n.naming))));
   start = a.start ∙ n.start;
   listed = λ k h.
       ap (λ s. name_in s run'.names.items k) a.start ∙ ap (λ (ns : List NodeName). name_in run.start ns k) a.names
-      ∙ listed_on run.start (length g.nodes) t b run.names.items m c n.naming.born n.listed k (omega arith) ∙ sym (names_after_old m (length g'.nodes) (suc t) k h);
+      ∙ listed_on run.start (length g.nodes) t b run.names.items m c n.naming.born n.listed k
+      (omega arith) ∙ sym (names_after_old m (length g'.nodes) (suc t) k h);
 }
   where
     t : ℕ

@@ -8,16 +8,22 @@ use Rattle.ol_net.specs.Numbered.{nodes_from, net_of}
 use Rattle.ol_context.specs.Short.{live, IsOnce}
 use Rattle.ol_context.proofs.Short.{few}
 
-below_first : (n x : ℕ) (k : Kind) (i : ℕ) (nodes : List (Option (Kind × ℕ))) → IsIn (x, k, i) (nodes_from n nodes) → n ≤ x
+below_first : (n x : ℕ) (k : Kind) (i : ℕ) (nodes : List (Option (Kind × ℕ))) →
+    IsIn (x, k, i) (nodes_from n nodes) → n ≤ x
 below_first n x k i [] h = absurd h
 below_first n x k i (None ∷ nodes) h = let b = below_first (suc n) x k i nodes h in omega arith
-below_first n x k i (Some f ∷ nodes) (inl e) = let z = ap (λ (d : ℕ × Kind × ℕ). d.0) e in let z' : x ≡ n = z in omega arith
+below_first n x k i (Some f ∷ nodes) (inl e) = let z = ap (λ (d : ℕ × Kind × ℕ). d.0) e in
+    let z' : x ≡ n = z in omega arith
 below_first n x k i (Some f ∷ nodes) (inr h) = let b = below_first (suc n) x k i nodes h in omega arith
 
 once_from : (n : ℕ) (nodes : List (Option (Kind × ℕ))) → IsOnce (nodes_from n nodes)
 once_from n [] = tt
 once_from n (None ∷ nodes) = once_from (suc n) nodes
-once_from n (Some f ∷ nodes) = (λ h. let b = below_first (suc n) n f.0 f.1 nodes h in absurd (omega arith), once_from (suc n) nodes)
+once_from n (Some f ∷ nodes) = (
+  λ h. let b = below_first (suc n) n f.0 f.1 nodes h in
+      absurd (omega arith),
+  once_from (suc n) nodes,
+)
 
 pub once : (g : Graph) → IsOnce (net_of g).nodes
 once g = once_from 0 g.nodes

@@ -20,11 +20,18 @@ turns_are_run N M heads turns journal places a s r = let k = turns_kept s r in (
 pub each_is_needed : EachPairIsNeeded
 each_is_needed N M P heads turns journal complete places a s t run done r u q h =
     let d = (complete_follows N P complete s.net s.named run u).0 done in
-    let second = subst (λ B. IsPairRun B u.pairs u.after) (start_alike N s.net s.named u.birth r.birth u.initial r.initial) u.run in
+    let second = subst (λ B. IsPairRun B u.pairs u.after)
+    (start_alike N s.net s.named u.birth r.birth u.initial r.initial) u.run in
     each_pair_is_among (net_under r.birth N) u.after r.after u.pairs r.pairs r.start second d r.run q h
 
-pub needed : {N M : NamedNet NodeName} {heads turns : _} {journal : List Entry} {places : List ReadNode} {a : Asking} → IsStart N → Turns N heads turns journal places M a → IsNeeded N journal
+pub needed : {N M : NamedNet NodeName} {heads turns : _} {journal : List Entry}
+    {places : List ReadNode} {a : Asking} → IsStart N → Turns N heads turns journal places M a → IsNeeded N journal
 needed {N = N} {M = M} {heads = heads} {turns = turns} {journal = journal} {places = places} {a = a} s t =
     let k = turns_kept s t in
     let r = birth_follows N M journal s.net s.named k.run in
-    record { net = M; run = k.run; births = r; needed = λ complete P run done u. each_is_needed N M P heads turns journal complete places a s t run done r u }
+    record {
+      net = M;
+      run = k.run;
+      births = r;
+      needed = λ complete P run done u. each_is_needed N M P heads turns journal complete places a s t run done r u;
+    }

@@ -11,11 +11,13 @@ use Rattle.ol_context.specs.Shapes.{Extends, AreHeld, context_of}
 use Rattle.ol_context.specs.Short.{live}
 use Rattle.ol_context.proofs.Shapes.{extends_refl, extends_trans}
 use Rattle.ol_context.proofs.Walked.{IsNotFree, through_port}
-use Rattle.ol_demand.specs.Chains.{IsAtNoPair, Chain, starts, crosses, left, undefined, budget, at_pair, at_port, barred, at_last, Ends}
+use Rattle.ol_demand.specs.Chains.{IsAtNoPair, Chain, starts, crosses, left, undefined, budget}
+use Rattle.ol_demand.specs.Chains.{at_pair, at_port, barred, at_last, Ends}
 use Rattle.ol_demand.specs.Chaining.{IsPair, MetBy}
 
 -- after some crossings the chain leaves by a port, with the context that the numbers stand for
-pub record Chaining (g : Graph) (from : ℕ) (c : Context) (old vs : List Level) (ns : List ℕ) (at : Port) (made most : ℕ) : Type 0 where
+pub record Chaining (g : Graph) (from : ℕ) (c : Context) (old vs : List Level) (ns : List ℕ)
+    (at : Port) (made most : ℕ) : Type 0 where
   pub extends : Extends old vs
   pub held : AreHeld vs ns
   pub within : made ≤ most
@@ -23,12 +25,22 @@ pub record Chaining (g : Graph) (from : ℕ) (c : Context) (old vs : List Level)
   pub chain : Chain (net_of g) from c made (numbered_port at) (context_of vs ns)
   pub port : IsPort (net_of g) (numbered_port at)
 
-chain_on : {A : Type 0} (N : NamedNet A) (from : ℕ) (c : Context) (made : ℕ) {u v w : NamedPort A} {d e : Context} → Chain N from c made u d → IsAtNoPair N u → made < 2 * live N → Linked N u v → Through N v d w e → Chain N from c (made + 1) w e
+chain_on : {A : Type 0} (N : NamedNet A) (from : ℕ) (c : Context)
+    (made : ℕ) {u v w : NamedPort A} {d e : Context} → Chain N from c made u d → IsAtNoPair N u →
+    made < 2 * live N → Linked N u v → Through N v d w e → Chain N from c (made + 1) w e
 chain_on N from c made h a b l (through {x = x} {s = s} k y) = rw add-one (crosses h a b l k y)
 
 module _ (g : Graph) (from : ℕ) (c : Context) (old : List Level) (most : ℕ) where
-  pub begins : (ns : List ℕ) → AreHeld old ns → from < g.free → most ≡ 2 * live (net_of g) → Chaining g from (context_of old ns) old old ns (Free from) 0 most
-  begins ns h b e = record { extends = extends_refl old; held = h; within = omega arith; most_is = e; chain = starts; port = b }
+  pub begins : (ns : List ℕ) → AreHeld old ns → from < g.free → most ≡ 2 * live (net_of g) →
+      Chaining g from (context_of old ns) old old ns (Free from) 0 most
+  begins ns h b e = record {
+    extends = extends_refl old;
+    held = h;
+    within = omega arith;
+    most_is = e;
+    chain = starts;
+    port = b;
+  }
 
   module _ (vs : List Level) (ns : List ℕ) (p : Port) (made : ℕ) (w : Chaining g from c old vs ns p made most) where
     abbrev N : NamedNet ℕ
@@ -38,15 +50,28 @@ module _ (g : Graph) (from : ℕ) (c : Context) (old : List Level) (most : ℕ) 
     meets x y r e h = record {
       rule = r;
       pair = h;
-      ends = λ f k s a. record { made = made; port = slot x 0; context = context_of vs ns; chain = subst (λ p. Chain N from c made p (context_of vs ns)) e w.chain; stands = at_pair a };
+      ends = λ f k s a. record {
+        made = made;
+        port = slot x 0;
+        context = context_of vs ns;
+        chain = subst (λ p. Chain N from c made p (context_of vs ns)) e w.chain;
+        stands = at_pair a;
+      };
     }
 
     module _ (q : Port) (l : Linked N (numbered_port p) (numbered_port q)) where
       pub leaves : (k : ℕ) → q ≡ Free k → Ends N from c (left k (context_of vs ns))
-      leaves k e = record { made = made; port = numbered_port p; context = context_of vs ns; chain = w.chain; stands = at_port (subst (λ q. Linked N (numbered_port p) (numbered_port q)) e l) }
+      leaves k e = record {
+        made = made;
+        port = numbered_port p;
+        context = context_of vs ns;
+        chain = w.chain;
+        stands = at_port (subst (λ q. Linked N (numbered_port p) (numbered_port q)) e l);
+      }
 
       module _ (a : IsAtNoPair N (numbered_port p)) where
-        pub goes_on : (us : List Level) (ms : List ℕ) (r : Port) → made < most → Extends vs us → AreHeld us ms → Through N (numbered_port q) (context_of vs ns) (numbered_port r) (context_of us ms) →
+        pub goes_on : (us : List Level) (ms : List ℕ) (r : Port) → made < most → Extends vs us →
+            AreHeld us ms → Through N (numbered_port q) (context_of vs ns) (numbered_port r) (context_of us ms) →
             Chaining g from c old us ms r (made + 1) most
         goes_on us ms r b x h y = record {
           extends = extends_trans old vs us w.extends x;
@@ -57,7 +82,8 @@ module _ (g : Graph) (from : ℕ) (c : Context) (old : List Level) (most : ℕ) 
           port = through_port N (numbered_port q) (numbered_port r) (context_of vs ns) (context_of us ms) y;
         }
 
-        pub stops : (q' : Port) → q ≡ q' → IsNotFree q' → IsBarred N (numbered_port q') (context_of vs ns) → Ends N from c undefined
+        pub stops : (q' : Port) → q ≡ q' → IsNotFree q' →
+            IsBarred N (numbered_port q') (context_of vs ns) → Ends N from c undefined
         stops (Free k) e f b = absurd (f k refl)
         stops (Of x s) e f b = record {
           made = made;
@@ -67,12 +93,15 @@ module _ (g : Graph) (from : ℕ) (c : Context) (old : List Level) (most : ℕ) 
           stands = barred a (subst (λ q. Linked N (numbered_port p) (numbered_port q)) e l) b;
         }
 
-        pub spends : (us : List Level) (ms : List ℕ) (r : Port) (q' : Port) → q ≡ q' → IsNotFree q' → most ≤ made → Through N (numbered_port q') (context_of vs ns) (numbered_port r) (context_of us ms) → Ends N from c budget
+        pub spends : (us : List Level) (ms : List ℕ) (r : Port) (q' : Port) → q ≡ q' →
+            IsNotFree q' → most ≤ made → Through N (numbered_port q') (context_of vs ns)
+            (numbered_port r) (context_of us ms) → Ends N from c budget
         spends us ms r (Free k) e f b y = absurd (f k refl)
         spends us ms r (Of x s) e f b y = record {
           made = made;
           port = numbered_port p;
           context = context_of vs ns;
           chain = w.chain;
-          stands = let z = w.most_is in at_last a (subst (λ q. Linked N (numbered_port p) (numbered_port q)) e l) y (omega arith);
+          stands = let z = w.most_is in at_last a
+              (subst (λ q. Linked N (numbered_port p) (numbered_port q)) e l) y (omega arith);
         }

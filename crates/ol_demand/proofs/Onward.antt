@@ -1,5 +1,6 @@
 -- A whole demand run of a graph.
-use Rattle.std.proofs.Common.{◌≡◌, ℕ, ◌+◌, ◌-◌, ◌*◌, ◌≤◌, ◌↔◌, List, [], ◌∷◌, ◌++◌, length, Bool, false, refl, ap, arith}
+use Rattle.std.proofs.Common.{◌≡◌, ℕ, ◌+◌, ◌-◌, ◌*◌, ◌≤◌, ◌↔◌, List, [], ◌∷◌, ◌++◌, length, Bool}
+use Rattle.std.proofs.Common.{false, refl, ap, arith}
 use Rattle.ol_net.specs.Graph.{Graph}
 use Rattle.ol_net.specs.Nets.{NamedNet, IsNet, net_under}
 use Rattle.ol_net.specs.Numbered.{net_of}
@@ -36,33 +37,57 @@ use Rattle.ol_demand.proofs.UnderWays.{begun}
 use Rattle.ol_rules.proofs.Relation.{same_refl}
 
 pub is_start : (old : Graph) → IsNet (net_of old) → IsStart (start_of old)
-is_start old n = record { net = start_net (net_of old) n; named = start_named (net_of old); once = once_under Init one_start (net_of old) (once old) }
+is_start old n = record {
+  net = start_net (net_of old) n;
+  named = start_named (net_of old);
+  once = once_under Init one_start (net_of old) (once old);
+}
 
 -- heads of a net with the same paths
-heads_moved : {A B : Type 0} (N : NamedNet A) (M : NamedNet B) → HaveSamePaths N M → (lost_too : Bool) {F : List Frame} {ss : List Subterm} {ns : List ReadNode} → HaveHeadsOf N lost_too F ss ns → HaveHeadsOf M lost_too F ss ns
+heads_moved : {A B : Type 0} (N : NamedNet A) (M : NamedNet B) → HaveSamePaths N M →
+    (lost_too : Bool) {F : List Frame} {ss : List Subterm} {ns : List ReadNode} →
+    HaveHeadsOf N lost_too F ss ns → HaveHeadsOf M lost_too F ss ns
 heads_moved N M p b sources.end = sources.end
 heads_moved N M p b (sources.cut r) = sources.cut (heads_moved N M p b r)
-heads_moved N M p b (sources.lost {frames = F} {s = s} h r) = sources.lost (λ e. heads_are_kept N M p (F ++ framed s 0 ∷ []) (length F) _ (h e)) (heads_moved N M p b r)
-heads_moved N M p b (sources.found {frames = F} {s = s} h r) = sources.found (heads_are_kept N M p (F ++ framed s 0 ∷ []) (length F) _ h) (heads_moved N M p b r)
+heads_moved N M p b (sources.lost {frames = F} {s = s} h r) = sources.lost
+    (λ e. heads_are_kept N M p (F ++ framed s 0 ∷ []) (length F) _ (h e)) (heads_moved N M p b r)
+heads_moved N M p b (sources.found {frames = F} {s = s} h r) = sources.found
+    (heads_are_kept N M p (F ++ framed s 0 ∷ []) (length F) _ h) (heads_moved N M p b r)
 
-pub graph_heads : (old : Graph) → IsNet (net_of old) → (heads : ℕ) (journal : List Entry) (places : List ReadNode) (M : NamedNet NodeName) → IsDemandRun (start_of old) heads journal places M → HasHeadsOf (net_of old) false places
+pub graph_heads : (old : Graph) → IsNet (net_of old) →
+    (heads : ℕ) (journal : List Entry) (places : List ReadNode) (M : NamedNet NodeName) →
+    IsDemandRun (start_of old) heads journal places M → HasHeadsOf (net_of old) false places
 graph_heads old n heads journal places M d =
     let same = renamed Init (net_of old) n (λ x y k l i j h h' e. one_start x y e) in
-    heads_moved (start_of old) (net_of old) (λ p c q X. ((same p c q X).1, (same p c q X).0)) false (heads_are_of_source (start_of old) M heads journal places (is_start old n) d)
+    heads_moved (start_of old) (net_of old) (λ p c q X. ((same p c q X).1, (same p c q X).0)) false
+    (heads_are_of_source (start_of old) M heads journal places (is_start old n) d)
 
 -- the places of a reading by chains that is over
-pub done_answer : (old : Graph) (fuel : ℕ) (g : Graph) (run : Run) (fuel' heads : ℕ) (r : Reading) (ns : List ReadNode) → IsReadByChains old fuel g run fuel' heads r → IsOver heads r ns → IsAnswer old heads fuel g (answer.Done ns run.journal)
+pub done_answer : (old : Graph) (fuel : ℕ) (g : Graph) (run : Run) (fuel' heads : ℕ) (r : Reading)
+    (ns : List ReadNode) → IsReadByChains old fuel g run fuel' heads r → IsOver heads r ns →
+    IsAnswer old heads fuel g (answer.Done ns run.journal)
 done_answer old fuel g run fuel' heads r ns w o = (
   record {
     names = w.under.names;
-    are_names = record { initial = w.under.are_names.naming.initial; rising = λ j k h c. w.under.are_names.naming.rising j k h };
-    is = record { turns = w.under.turns; asked_places = r.places; last = asks r.frames r.waiting 0; run = w.under.made; over = o.over; all = o.all };
+    are_names = record {
+      initial = w.under.are_names.naming.initial;
+      rising = λ j k h c. w.under.are_names.naming.rising j k h;
+    };
+    is = record {
+      turns = w.under.turns;
+      asked_places = r.places;
+      last = asks r.frames r.waiting 0;
+      run = w.under.made;
+      over = o.over;
+      all = o.all;
+    };
   },
   w.within,
 )
 
 -- what an answer Done tells
-module _ (old g : Graph) (is_net : IsNet (net_of old)) (heads fuel : ℕ) (tree : List ReadNode) (journal : List Entry) (h : IsAnswer old heads fuel g (answer.Done tree journal)) where
+module _ (old g : Graph) (is_net : IsNet (net_of old)) (heads fuel : ℕ) (tree : List ReadNode)
+    (journal : List Entry) (h : IsAnswer old heads fuel g (answer.Done tree journal)) where
   pub done_heads : HasHeadsOf (net_of old) false tree
   done_heads = graph_heads old is_net heads journal tree _ h.0.is
 
@@ -85,10 +110,18 @@ module _ (old g : Graph) (is_net : IsNet (net_of old)) (heads fuel : ℕ) (tree 
   )
 
 -- what an answer Spent tells
-module _ (old g : Graph) (is_net : IsNet (net_of old)) (run : Run) (heads fuel : ℕ) (h : IsLeftOff old g run heads) (q : length run.journal ≡ fuel) where
+module _ (old g : Graph) (is_net : IsNet (net_of old)) (run : Run) (heads fuel : ℕ)
+    (h : IsLeftOff old g run heads) (q : length run.journal ≡ fuel) where
   pub spent_answer : IsAnswer old heads fuel g (answer.Spent run.journal)
   spent_answer = (
-    record { names = h.names; are_names = record { initial = h.are_names.naming.initial; rising = λ j k b c. h.are_names.naming.rising j k b }; is = h.goes_on },
+    record {
+      names = h.names;
+      are_names = record {
+        initial = h.are_names.naming.initial;
+        rising = λ j k b c. h.are_names.naming.rising j k b;
+      };
+      is = h.goes_on;
+    },
     q,
   )
 
@@ -99,7 +132,8 @@ module _ (old g : Graph) (is_net : IsNet (net_of old)) (run : Run) (heads fuel :
   spent_more = (λ e. (run.journal, net_under h.names (net_of g), h.goes_on, q), λ m. tt)
 
 -- nothing was read yet
-module _ (old : Graph) (run : Run) (heads fuel : ℕ) (is_net : IsNet (net_of old)) (s : run.start ≡ length old.nodes) (m : run.names.items ≡ []) (j : run.journal ≡ []) where
+module _ (old : Graph) (run : Run) (heads fuel : ℕ) (is_net : IsNet (net_of old))
+    (s : run.start ≡ length old.nodes) (m : run.names.items ≡ []) (j : run.journal ≡ []) where
   pub first_running : length old.nodes + 4 * fuel ≤ 2000000000 → IsRunning old run fuel
   first_running few =
       let a = ap (λ (ns : List NodeName). length ns) m in

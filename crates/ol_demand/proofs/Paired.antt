@@ -34,5 +34,7 @@ module _ (N : NamedNet ℕ) (is_net : IsNet N) (x y : ℕ) (r : Rule) (p : IsPai
   pub apart : x ≢ y
   apart e = is_net.apart (slot x 0) (subst (λ z. Linked N (slot x 0) (slot z 0)) (sym e) p.1)
 
-pub both_below : (g : Graph) → IsNet (net_of g) → (x y : ℕ) (r : Rule) → IsPair (net_of g) x y r → (x < length g.nodes) × (y < length g.nodes)
-both_below g is_net x y r p = let t = turned (net_of g) is_net x y r p in (active_below g x r p.0, active_below g y r t.0)
+pub both_below : (g : Graph) → IsNet (net_of g) → (x y : ℕ) (r : Rule) → IsPair (net_of g) x y r →
+    (x < length g.nodes) × (y < length g.nodes)
+both_below g is_net x y r p = let t = turned (net_of g) is_net x y r p in
+    (active_below g x r p.0, active_below g y r t.0)

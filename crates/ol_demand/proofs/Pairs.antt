@@ -13,7 +13,11 @@ module _ {A : Type 0} (N : NamedNet A) where
     where
       go : IsPrincipalOf f g p → (y : A) × Linked N p (slot y 0)
       go (inl e) = (g, subst (λ p. Linked N p (slot g 0)) (sym e) a.active.faces.linked)
-      go (inr e) = (f, subst (λ p. Linked N p (slot f 0)) (sym e) (linked_sym N (slot f 0) (slot g 0) a.active.faces.linked))
+      go (inr e) = (
+        f,
+        subst (λ p. Linked N p (slot f 0)) (sym e)
+            (linked_sym N (slot f 0) (slot g 0) a.active.faces.linked),
+      )
 
   pub in_active : (x f g : A) (r : Rule) → IsAtPair N (slot x 0) f g r → IsInActive N x r
   in_active x f g r a = go a.principal

@@ -31,11 +31,14 @@ pub record StandsFor (old new : Graph) (P : NamedNet NodeName → Type 0) : Type
   pub are_names : AreNames (length old.nodes) (length new.nodes) names
   pub is : P (net_under names (net_of new))
 
--- Done: the tree and the journal are those of the whole demand run, which has no more steps than the fuel, and the net is the
+-- Done: the tree and the journal are those of the whole demand run, which has no more steps than
+-- the fuel, and the net is the
 -- one after it. Spent: the journal has the first pairs that it rewrites, as many as the fuel, and it meets one more.
 abbrev pub IsAnswer : Graph → ℕ → ℕ → Graph → Demanded → Type 0
-IsAnswer old heads fuel new (answer.Done tree journal) = StandsFor old new (λ M. IsDemandRun (start_of old) heads journal tree M) × (length journal ≤ fuel)
-IsAnswer old heads fuel new (answer.Spent journal) = StandsFor old new (λ M. GoesOn (start_of old) heads journal M) × (length journal ≡ fuel)
+IsAnswer old heads fuel new (answer.Done tree journal) = StandsFor old new
+    (λ M. IsDemandRun (start_of old) heads journal tree M) × (length journal ≤ fuel)
+IsAnswer old heads fuel new (answer.Spent journal) = StandsFor old new
+    (λ M. GoesOn (start_of old) heads journal M) × (length journal ≡ fuel)
 
 -- the answer is Spent
 abbrev pub IsSpent : Demanded → Type 0

@@ -17,7 +17,8 @@ use Rattle.ol_demand.specs.Demands.{Asking, asks, place_of, next, Turns, GoesOn}
 use Rattle.ol_demand.specs.Answers.{start_of, StopsOnTheWay}
 use Rattle.ol_demand.specs.declared.rewriting.Run.{Run}
 
--- Names of all numbers: a start node's number names it, a greater number has a later name, and from next on come the nodes that
+-- Names of all numbers: a start node's number names it, a greater number has a later name, and from
+-- next on come the nodes that
 -- this ticket will make.
 pub record IsNaming (start next ticket : ℕ) (m : ℕ → NodeName) : Type 0 where
   pub room : start ≤ next
@@ -50,17 +51,22 @@ pub record IsRunning (g : Graph) (run : Run) (fuel : ℕ) : Type 0 where
   pub within : length run.journal ≤ fuel
   pub few : length g.nodes + 4 * fuel ≤ 2000000000 + 4 * length run.journal
 
--- Whatever demand run it is, if the first subterm that is left has the last of the frames F and is asked for no abstraction yet,
--- P holds of the graph it began with, of the number of heads, of the places, the other frames, this subterm and the later ones.
-abbrev pub Whatever : Graph → Run → List Frame → (Graph → ℕ → List ReadNode → List Frame → Subterm → List Subterm → Type 0) → Type 0
+-- Whatever demand run it is, if the first subterm that is left has the last of the frames F and is
+-- asked for no abstraction yet,
+-- P holds of the graph it began with, of the number of heads, of the places, the other frames, this
+-- subterm and the later ones.
+abbrev pub Whatever : Graph → Run → List Frame →
+    (Graph → ℕ → List ReadNode → List Frame → Subterm → List Subterm → Type 0) → Type 0
 Whatever g run F P =
     (old : Graph) (heads : ℕ) (places : List ReadNode) (front : List Frame) (s : Subterm) (ss : List Subterm) →
-    F ≡ front ++ framed s 0 ∷ [] → length front < heads → IsUnderWay old g run heads places (asks front (s ∷ ss) 0) → P old heads places front s ss
+    F ≡ front ++ framed s 0 ∷ [] → length front < heads →
+    IsUnderWay old g run heads places (asks front (s ∷ ss) 0) → P old heads places front s ss
 
 -- the subterm was found to be what h says, or the fuel is used up
 abbrev pub IsAnswered : Graph → Graph → Run → Run → List Frame → List Level → Option Head → Type 0
 IsAnswered g g' run run' F vs (Some h) =
-    Whatever g run F (λ old heads places front s ss. IsUnderWay old g' run' heads (places ++ place_of (answer_of vs h) ∷ []) (next front s ss (answer_of vs h)))
+    Whatever g run F (λ old heads places front s ss.
+    IsUnderWay old g' run' heads (places ++ place_of (answer_of vs h) ∷ []) (next front s ss (answer_of vs h)))
 IsAnswered g g' run run' F vs None = Whatever g run F (λ old heads places front s ss. IsLeftOff old g' run' heads)
 
 abbrev pub IsSpentIfNone : {T : Type 0} → Run → ℕ → Option T → Type 0

@@ -20,7 +20,8 @@ IsPair N x y r = IsInActive N x r × Linked N (slot x 0) (slot y 0)
 -- the active pair at this port, given first the node of the port, or None where there is none
 abbrev pub FindsPair : Graph → Port → Option (NodeId × NodeId) → Type 0
 FindsPair g at found =
-    MatchOption found (IsAtNoPair (net_of g) (numbered_port at)) (λ pair. (numbered_port at ≡ slot pair.0.0 0) × ((r : Rule) × IsPair (net_of g) pair.0.0 pair.1.0 r))
+    MatchOption found (IsAtNoPair (net_of g) (numbered_port at))
+    (λ pair. (numbered_port at ≡ slot pair.0.0 0) × ((r : Rule) × IsPair (net_of g) pair.0.0 pair.1.0 r))
 
 -- f and g meet, given either way round
 pub record MetBy (N : NamedNet ℕ) (p : ℕ) (c : Context) (x y : ℕ) : Type 0 where

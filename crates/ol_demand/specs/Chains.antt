@@ -1,4 +1,5 @@
--- The chain of a frame and a number of abstractions: the walk that asks this frame for them, up to the first active pair that it meets.
+-- The chain of a frame and a number of abstractions: the walk that asks this frame for them, up to
+-- the first active pair that it meets.
 use Rattle.std.specs.Prelude.{ℕ, suc, ◌*◌, ◌<◌, ◌≤◌}
 use Rattle.ol_net.specs.declared.parts.Kind.{Kind}
 use Rattle.ol_net.specs.declared.parts.Rule.{Rule}
@@ -17,15 +18,18 @@ pub record IsAtPair {A : Type 0} (N : NamedNet A) (p : NamedPort A) (f g : A) (r
 abbrev pub IsAtNoPair : {A : Type 0} → NamedNet A → NamedPort A → Type 0
 IsAtNoPair {A} N p = (f g : A) (r : Rule) → IsAtPair N p f g r → ⊥
 
--- From the free port p with context c, n crossings were made, of at most twice as many as there are nodes, and no active pair
+-- From the free port p with context c, n crossings were made, of at most twice as many as there are
+-- nodes, and no active pair
 -- was met before: the last node was left by this port with this context.
 pub data Chain {A : Type 0} (N : NamedNet A) (p : ℕ) (c : Context) : ℕ → NamedPort A → Context → Type 0 where
   starts : Chain N p c 0 (free p) c
   crosses : {n : ℕ} {u : NamedPort A} {d e : Context} {x : A} {k : Kind} {i s t : ℕ} →
-      Chain N p c n u d → IsAtNoPair N u → n < 2 * live N → Linked N u (slot x s) → HasNode N x k i → Crosses k i s d t e →
+      Chain N p c n u d → IsAtNoPair N u → n < 2 * live N → Linked N u (slot x s) →
+      HasNode N x k i → Crosses k i s d t e →
       Chain N p c (suc n) (slot x t) e
 
--- How it ends: it stands on the link of an active pair, or at a free port, or its next crossing isn't defined, or this would be
+-- How it ends: it stands on the link of an active pair, or at a free port, or its next crossing
+-- isn't defined, or this would be
 -- one crossing too many.
 pub data End (A : Type 0) : Type 0 where
   met : A → A → Rule → End A

@@ -16,7 +16,11 @@ AtMostOneStep old new at = (new ≡ old) ⊎ ((r : Rule) × StepsAt old new at r
 
 -- what a run writes down of a step by this rule, by the names of its two nodes
 abbrev pub entry_for : Run → Rule → (x y : ℕ) → Entry
-entry_for run rule x y = record { rule = rule; first = name_in run.start run.names.items x; second = name_in run.start run.names.items y }
+entry_for run rule x y = record {
+  rule = rule;
+  first = name_in run.start run.names.items x;
+  second = name_in run.start run.names.items y;
+}
 
 -- The second run is the first after the step of x and y, of which x has the smaller number.
 pub record Advances (old new : Run) (g g' : Graph) (x y : ℕ) : Type 0 where

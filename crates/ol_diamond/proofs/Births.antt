@@ -1,5 +1,6 @@
 -- Birth names: a test, parts, and that a step's names are new.
-use Rattle.std.proofs.Common.{◌≡◌, ◌≢◌, ℕ, ◌+◌, ◌<◌, Bool, true, false, ◌&&◌, ◌⊎◌, inl, inr, refl, sym, ap, ◌∙◌, subst, arith, nat_eq, eq-eqb, eqb-true}
+use Rattle.std.proofs.Common.{◌≡◌, ◌≢◌, ℕ, ◌+◌, ◌<◌, Bool, true, false, ◌&&◌, ◌⊎◌, inl, inr, refl}
+use Rattle.std.proofs.Common.{sym, ap, ◌∙◌, subst, arith, nat_eq, eq-eqb, eqb-true}
 use Rattle.ol_edges.specs.Edges.{IsTest}
 use Rattle.ol_net.specs.declared.parts.Kind.{Kind}
 use Rattle.ol_net.specs.Parts.{arity}
@@ -24,7 +25,8 @@ three_true false b c h = absurd (cc)
 
 name_holds : (x : BirthName) → same_name x x ≡ true
 name_holds (init n) = eq-eqb n n refl
-name_holds (born f g n) = subst (λ b. b && (same_name g g && nat_eq n n) ≡ true) (sym (name_holds f)) (subst (λ b. b && nat_eq n n ≡ true) (sym (name_holds g)) (eq-eqb n n refl))
+name_holds (born f g n) = subst (λ b. b && (same_name g g && nat_eq n n) ≡ true)
+    (sym (name_holds f)) (subst (λ b. b && nat_eq n n ≡ true) (sym (name_holds g)) (eq-eqb n n refl))
 
 name_tells : (x y : BirthName) → same_name x y ≡ true → x ≡ y
 name_tells (init m) (init n) h = ap init (eqb-true m n h)
@@ -62,14 +64,17 @@ part_smaller x (born f g n) (inr (inr q)) = let r = part_smaller x g q in omega 
 not_part : (x : BirthName) → IsPart x x → ⊥
 not_part x p = let r = part_smaller x x p in omega arith
 
-pub fresh_of : (N : NamedNet BirthName) → IsBirthNet N → (f g : BirthName) (k l : Kind) (i j : ℕ) → HasNode N f k i → HasNode N g l j → IsFresh N (born f g)
+pub fresh_of : (N : NamedNet BirthName) → IsBirthNet N → (f g : BirthName) (k l : Kind) (i j : ℕ) →
+    HasNode N f k i → HasNode N g l j → IsFresh N (born f g)
 fresh_of N birth_net f g k l i j h h' = record {
   apart = λ m n e. cc;
   unused = λ x m n p hx e. birth_net.no_part f x k m i n h hx (subst (λ x. IsPart f x) (sym e) (inl (inl refl)));
 }
 
 -- a step keeps names apart
-pub birth_net_kept : (N M : NamedNet BirthName) (f g : BirthName) (k : Kind) (i : ℕ) (l : Kind) (j : ℕ) (a : Action) → IsBirthNet N → Faces N f g k i l j → Rewrites (born f g) N f g k i l a M → IsNet M → IsBirthNet M
+pub birth_net_kept : (N M : NamedNet BirthName) (f g : BirthName) (k : Kind) (i : ℕ) (l : Kind)
+    (j : ℕ) (a : Action) → IsBirthNet N → Faces N f g k i l j →
+    Rewrites (born f g) N f g k i l a M → IsNet M → IsBirthNet M
 birth_net_kept N M f g k i l j a birth_net faces r c = record { net = c; no_part = no_part }
   where
     Source : BirthName → Type 0
@@ -92,13 +97,16 @@ birth_net_kept N M f g k i l j a birth_net faces r c = record { net = c; no_part
     of_born x (inl s) q (inr (inl e)) = s.4 e
     of_born x (inl s) q (inr (inr p)) = birth_net.no_part x g s.0 l s.1 j s.2 faces.second p
     of_born x (inr (n, e)) q (inl (inl z)) = not_part f (subst (λ y. IsPart f y) (sym e ∙ z) (f_part n))
-    of_born x (inr (n, e)) q (inl (inr p)) = not_part f (part_trans f x f (subst (λ y. IsPart f y) (sym e) (f_part n)) p)
+    of_born x (inr (n, e)) q (inl (inr p)) = not_part f
+        (part_trans f x f (subst (λ y. IsPart f y) (sym e) (f_part n)) p)
     of_born x (inr (n, e)) q (inr (inl z)) = not_part g (subst (λ y. IsPart g y) (sym e ∙ z) (g_part n))
-    of_born x (inr (n, e)) q (inr (inr p)) = not_part g (part_trans g x g (subst (λ y. IsPart g y) (sym e) (g_part n)) p)
+    of_born x (inr (n, e)) q (inr (inr p)) = not_part g
+        (part_trans g x g (subst (λ y. IsPart g y) (sym e) (g_part n)) p)
 
     go : (x y : BirthName) → Source x → Source y → IsPart x y → ⊥
     go x y (inl s) (inl s') p = birth_net.no_part x y s.0 s'.0 s.1 s'.1 s.2 s'.2 p
-    go x y (inr (n, e)) (inl s') p = birth_net.no_part f y k s'.0 i s'.1 faces.first s'.2 (part_trans f x y (subst (λ y. IsPart f y) (sym e) (f_part n)) p)
+    go x y (inr (n, e)) (inl s') p = birth_net.no_part f y k s'.0 i s'.1 faces.first s'.2
+        (part_trans f x y (subst (λ y. IsPart f y) (sym e) (f_part n)) p)
     go x y s (inr (q, e)) p = of_born x s q (subst (λ y. IsPart x y) e p)
 
     no_part : (x y : BirthName) (m n : Kind) (u v : ℕ) → HasNode M x m u → HasNode M y n v → IsPart x y → ⊥
@@ -107,5 +115,6 @@ birth_net_kept N M f g k i l j a birth_net faces r c = record { net = c; no_part
 pub start_is_birth_net : StartIsBirthNet
 start_is_birth_net N n = record { net = net_to init (λ x y e. cc) N n; no_part = no_part }
   where
-    no_part : (x y : BirthName) (k l : Kind) (i j : ℕ) → HasNode (net_under init N) x k i → HasNode (net_under init N) y l j → IsPart x y → ⊥
+    no_part : (x y : BirthName) (k l : Kind) (i j : ℕ) → HasNode (net_under init N) x k i →
+        HasNode (net_under init N) y l j → IsPart x y → ⊥
     no_part x y k l i j h h' p = let t = node_from init N y l j h' in subst (λ y. IsPart x y) t.2 p

@@ -1,5 +1,7 @@
 -- The least weight within which two vertices are joined by the edges of a list.
-use Rattle.std.proofs.Common.{◌≡◌, ℕ, ◌≤◌, min, max, nat_lt, ltb-true, List, [], ◌∷◌, Option, Some, None, Bool, true, false, cond, ◌⊎◌, inl, inr, refl, sym, ap, subst, arith}
+use Rattle.std.proofs.Common.{◌≡◌, ℕ, ◌≤◌, min, max, nat_lt, ltb-true, List, [], ◌∷◌, Option, Some}
+use Rattle.std.proofs.Common.{None, Bool, true, false, cond, ◌⊎◌, inl, inr, refl, sym, ap, subst}
+use Rattle.std.proofs.Common.{arith}
 use Rattle.std.proofs.lemmas.Bool.{ltb-false}
 use Rattle.ol_edges.specs.Edges.{IsTest, Joined, here, on, back}
 use Rattle.ol_edges.proofs.Joining.{joined_trans, joined_map}
@@ -115,7 +117,8 @@ module _ {V : Type 0} (same : V → V → Bool) (test : IsTest same) where
   none (back j e) = absurd e.1
 
   -- from what holds of the edges but the first
-  way_of : (e : V × V × ℕ) (es : List (V × V × ℕ)) (n : ℕ) (u v : V) → ((a b : V) → Under (bottle es a b) n → Light es n a b) → Under (bottle (e ∷ es) u v) n → Way e.0 e.1 e.2 es n u v
+  way_of : (e : V × V × ℕ) (es : List (V × V × ℕ)) (n : ℕ) (u v : V) →
+      ((a b : V) → Under (bottle es a b) n → Light es n a b) → Under (bottle (e ∷ es) u v) n → Way e.0 e.1 e.2 es n u v
   unfolding bottle
   way_of e es n u v joins h = go (least_of (bottle es u v) (least first second) n h)
     where
@@ -125,7 +128,8 @@ module _ {V : Type 0} (same : V → V → Bool) (test : IsTest same) where
       second : Option ℕ
       second = heavier (Some e.2) (heavier (bottle es u e.1) (bottle es e.0 v))
 
-      both : (a b c d : V) → Under (heavier (Some e.2) (heavier (bottle es a b) (bottle es c d))) n → (e.2 ≤ n) × Light es n a b × Light es n c d
+      both : (a b c d : V) → Under (heavier (Some e.2)
+          (heavier (bottle es a b) (bottle es c d))) n → (e.2 ≤ n) × Light es n a b × Light es n c d
       both a b c d h =
           let s = heavier_of (Some e.2) (heavier (bottle es a b) (bottle es c d)) n h in
           let t = heavier_of (bottle es a b) (bottle es c d) n s.1 in
@@ -138,7 +142,8 @@ module _ {V : Type 0} (same : V → V → Bool) (test : IsTest same) where
         | inr h ↦ inr (inr (both u e.1 e.0 v h))
       ]
 
-  of_way : (e : V × V × ℕ) (es : List (V × V × ℕ)) (n : ℕ) (u v : V) → ((a b : V) → Light es n a b → Under (bottle es a b) n) → Way e.0 e.1 e.2 es n u v → Under (bottle (e ∷ es) u v) n
+  of_way : (e : V × V × ℕ) (es : List (V × V × ℕ)) (n : ℕ) (u v : V) →
+      ((a b : V) → Light es n a b → Under (bottle es a b) n) → Way e.0 e.1 e.2 es n u v → Under (bottle (e ∷ es) u v) n
   unfolding bottle
   of_way e es n u v under w = go w
     where
@@ -148,13 +153,17 @@ module _ {V : Type 0} (same : V → V → Bool) (test : IsTest same) where
       second : Option ℕ
       second = heavier (Some e.2) (heavier (bottle es u e.1) (bottle es e.0 v))
 
-      both : (a b c d : V) → (e.2 ≤ n) × Light es n a b × Light es n c d → Under (heavier (Some e.2) (heavier (bottle es a b) (bottle es c d))) n
-      both a b c d t = heavier_both (Some e.2) (heavier (bottle es a b) (bottle es c d)) n t.0 (heavier_both (bottle es a b) (bottle es c d) n (under a b t.1) (under c d t.2))
+      both : (a b c d : V) → (e.2 ≤ n) × Light es n a b × Light es n c d →
+          Under (heavier (Some e.2) (heavier (bottle es a b) (bottle es c d))) n
+      both a b c d t = heavier_both (Some e.2) (heavier (bottle es a b) (bottle es c d)) n t.0
+          (heavier_both (bottle es a b) (bottle es c d) n (under a b t.1) (under c d t.2))
 
       go : Way e.0 e.1 e.2 es n u v → Under (least (bottle es u v) (least first second)) n
       go (inl j) = least_first (bottle es u v) (least first second) n (under u v j)
-      go (inr (inl t)) = least_second (bottle es u v) (least first second) n (least_first first second n (both u e.0 e.1 v t))
-      go (inr (inr t)) = least_second (bottle es u v) (least first second) n (least_second first second n (both u e.1 e.0 v t))
+      go (inr (inl t)) = least_second (bottle es u v) (least first second) n
+          (least_first first second n (both u e.0 e.1 v t))
+      go (inr (inr t)) = least_second (bottle es u v) (least first second) n
+          (least_second first second n (both u e.1 e.0 v t))
 
   -- they are joined by edges of weight n at most exactly where that is n at most
   pub joined_of : (es : List (V × V × ℕ)) (n : ℕ) (u v : V) → Under (bottle es u v) n → Light es n u v
@@ -168,5 +177,6 @@ module _ {V : Type 0} (same : V → V → Bool) (test : IsTest same) where
 
   pub under_of : (es : List (V × V × ℕ)) (n : ℕ) (u v : V) → Light es n u v → Under (bottle es u v) n
   unfolding bottle
-  under_of [] n u v j = let e : same u v ≡ true = subst (λ z. same u z ≡ true) (none j) (test.holds u) in subst (λ b. Under (cond b (Some 0) None) n) (sym e) (omega arith)
+  under_of [] n u v j = let e : same u v ≡ true = subst (λ z. same u z ≡ true) (none j)
+      (test.holds u) in subst (λ b. Under (cond b (Some 0) None) n) (sym e) (omega arith)
   under_of (e ∷ es) n u v j = of_way e es n u v (λ a b j. under_of es n a b j) (way e.0 e.1 e.2 es n u j)

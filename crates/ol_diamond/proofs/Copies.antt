@@ -1,5 +1,6 @@
 -- What is put behind the weights of a graph's ports where copies come at the slots of a node.
-use Rattle.std.proofs.Common.{◌≡◌, ℕ, zero, suc, ◌+◌, ◌*◌, ◌<◌, ◌≤◌, max, List, [], ◌∷◌, ◌++◌, length, length-append, get_or, refl, ap, ◌∙◌, arith}
+use Rattle.std.proofs.Common.{◌≡◌, ℕ, zero, suc, ◌+◌, ◌*◌, ◌<◌, ◌≤◌, max, List, [], ◌∷◌, ◌++◌}
+use Rattle.std.proofs.Common.{length, length-append, get_or, refl, ap, ◌∙◌, arith}
 use Rattle.std.proofs.lemmas.List.{get_or_append_left, get_or-append-add}
 use Rattle.ol_net.specs.declared.parts.NodeId.{NodeId}
 use Rattle.ol_net.specs.declared.parts.Port.TheVariants.{Of}
@@ -63,8 +64,10 @@ module _ (ports : ℕ) (old : List ℕ) (n : NodeId) (wave : ℕ) (inside : port
 
   two_rows : IsCopied old new2 2 source wave
   two_rows = record {
-    size = row_size new1 (weight_at ports new1 (Of n 2)) wave ∙ ap (λ k. k + 3) (row_size old (source 0) wave) ∙ omega arith;
-    kept = λ k b. row_kept new1 (weight_at ports new1 (Of n 2)) wave k (let s = row_size old (source 0) wave in omega arith) ∙ row_kept old (source 0) wave k b;
+    size = row_size new1 (weight_at ports new1 (Of n 2)) wave
+        ∙ ap (λ k. k + 3) (row_size old (source 0) wave) ∙ omega arith;
+    kept = λ k b. row_kept new1 (weight_at ports new1 (Of n 2)) wave k
+        (let s = row_size old (source 0) wave in omega arith) ∙ row_kept old (source 0) wave k b;
     principal = principal;
     other = other;
   }
@@ -76,18 +79,25 @@ module _ (ports : ℕ) (old : List ℕ) (n : NodeId) (wave : ℕ) (inside : port
       principal zero b =
           row_kept new1 (weight_at ports new1 (Of n 2)) wave (length old + 3 * 0) (let s = size1 in omega arith)
           ∙ row_first old (source 0) wave (length old + 3 * 0) (omega arith)
-      principal (suc zero) b = row_first new1 (weight_at ports new1 (Of n 2)) wave (length old + 3 * 1) (let s = size1 in omega arith) ∙ ap (λ v. max wave v) second_is
+      principal (suc zero) b = row_first new1 (weight_at ports new1 (Of n 2)) wave
+          (length old + 3 * 1) (let s = size1 in omega arith) ∙ ap (λ v. max wave v) second_is
       principal (suc (suc q)) b = absurd (omega arith)
 
       other : (q t : ℕ) → q < 2 → t < 2 → get_or new2 (length old + 3 * q + suc t) 0 ≡ wave
       other zero t b c =
           row_kept new1 (weight_at ports new1 (Of n 2)) wave (length old + 3 * 0 + suc t) (let s = size1 in omega arith)
           ∙ row_other old (source 0) wave (length old + 3 * 0 + suc t) t c (omega arith)
-      other (suc zero) t b c = row_other new1 (weight_at ports new1 (Of n 2)) wave (length old + 3 * 1 + suc t) t c (let s = size1 in omega arith)
+      other (suc zero) t b c = row_other new1 (weight_at ports new1 (Of n 2)) wave
+          (length old + 3 * 1 + suc t) t c (let s = size1 in omega arith)
       other (suc (suc q)) t b c = absurd (omega arith)
 
   no_row : IsCopied old old 0 source wave
-  no_row = record { size = omega arith; kept = λ k b. refl; principal = λ q b. absurd (omega arith); other = λ q t b c. absurd (omega arith) }
+  no_row = record {
+    size = omega arith;
+    kept = λ k b. refl;
+    principal = λ q b. absurd (omega arith);
+    other = λ q t b c. absurd (omega arith);
+  }
 
   pub rows : (slots : ℕ) → slots ≤ 2 → IsCopied old (copies_at ports old n slots wave) slots source wave
   rows zero b = no_row

@@ -11,5 +11,6 @@ pub unlinked : (g : Graph) (f h : ℕ) → (Linked (net_of g) (slot f 0) (slot h
 unlinked g f h n r = ((λ a. n a.faces.linked), (λ a. n (linked_sym (net_of g) (slot h 0) (slot f 0) a.faces.linked)))
 
 -- the partner of f's principal port is another port
-pub otherwise : (g : Graph) (f h : ℕ) (q : NamedPort ℕ) → IsNet (net_of g) → Linked (net_of g) (slot f 0) q → slot h 0 ≢ q → AreIdle (net_of g) f h
+pub otherwise : (g : Graph) (f h : ℕ) (q : NamedPort ℕ) → IsNet (net_of g) →
+    Linked (net_of g) (slot f 0) q → slot h 0 ≢ q → AreIdle (net_of g) f h
 otherwise g f h q n l d = unlinked g f h (λ k. d (n.one_link (slot f 0) (slot h 0) q k l))

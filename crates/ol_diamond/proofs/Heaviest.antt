@@ -1,7 +1,8 @@
 -- The laws of edges with weights.
 use Rattle.std.proofs.Common.{ℕ, ◌≤◌, max, ◌↔◌, arith}
 use Rattle.ol_edges.specs.Edges.{IsIn, Joined, here, on, back, Contracted}
-use Rattle.ol_diamond.specs.Weights.{JoinedBy, at, along, against, AtMost, WeightedEdgeOf, ContractedBy, HeaviestOnTheWay, HeaviestIsLeft}
+use Rattle.ol_diamond.specs.Weights.{JoinedBy, at, along, against, AtMost, WeightedEdgeOf}
+use Rattle.ol_diamond.specs.Weights.{ContractedBy, HeaviestOnTheWay, HeaviestIsLeft}
 
 module _ {V : Type 0} (E : V → V → ℕ → Type 0) (n : ℕ) where
   heaviest : {u v : V} → Joined (AtMost E n) u v → (w : ℕ) × JoinedBy E u v w × (w ≤ n)
@@ -26,9 +27,11 @@ pub heaviest_on_the_way : {V : Type 0} → HeaviestOnTheWay V
 heaviest_on_the_way es n u v = (heaviest (WeightedEdgeOf es) n, λ h. light (WeightedEdgeOf es) n h.1 h.2)
 
 -- an edge of weight n at most is left exactly where the edges of weight n at most leave one, whatever the edges
-pub left_by : {V : Type 0} (K : V → V → ℕ → Type 0) (G : V → Type 0) (n : ℕ) (u v : V) → Contracted (AtMost K n) G u v ↔ (w : ℕ) × ContractedBy K G u v w × (w ≤ n)
+pub left_by : {V : Type 0} (K : V → V → ℕ → Type 0) (G : V → Type 0) (n : ℕ) (u v : V) →
+    Contracted (AtMost K n) G u v ↔ (w : ℕ) × ContractedBy K G u v w × (w ≤ n)
 left_by K G n u v = (
-  (λ c. let h = heaviest K n c.joined in (h.0, record { first = c.first; second = c.second; apart = c.apart; joined = h.1 }, h.2)),
+  (λ c. let h = heaviest K n c.joined in
+      (h.0, record { first = c.first; second = c.second; apart = c.apart; joined = h.1 }, h.2)),
   (λ h. record { first = h.1.first; second = h.1.second; apart = h.1.apart; joined = light K n h.1.joined h.2 }),
 )
 

@@ -1,4 +1,5 @@
--- Links, each vertex in one at most, and one join of two vertices a and b, which are taken out: what is left, and what it weighs.
+-- Links, each vertex in one at most, and one join of two vertices a and b, which are taken out:
+-- what is left, and what it weighs.
 use Rattle.std.proofs.Common.{◌≡◌, ◌≢◌, ℕ, ◌≤◌, max, ◌⊎◌, ◌↔◌, inl, inr, refl, sym, subst, arith}
 use Rattle.ol_edges.specs.Edges.{Joined, here, on, back, Contracted}
 use Rattle.ol_edges.proofs.Composing.{joined_keeps, contracted_swap}
@@ -63,11 +64,13 @@ module _ {V : Type 0} (L : V → V → Type 0) (links : AreLinks L) (a b : V) (d
 
   forth : (u : V) → (IsOneOf a b u → ⊥) → (z z' : V) → AndJoin L a b C z z' → Stands L a b C u z → Stands L a b C u z'
   forth u n z z' (inl h) s = along u z z' h s
-  forth u n z z' (inr h) s = subst (λ x. Stands L a b C u x) (sym h.1) (to_b u n h.2 (subst (λ x. Stands L a b C u x) h.0 s))
+  forth u n z z' (inr h) s = subst (λ x. Stands L a b C u x) (sym h.1)
+      (to_b u n h.2 (subst (λ x. Stands L a b C u x) h.0 s))
 
   back_to : (u : V) → (IsOneOf a b u → ⊥) → (z z' : V) → AndJoin L a b C z z' → Stands L a b C u z' → Stands L a b C u z
   back_to u n z z' (inl h) s = along u z' z (links.swap z z' h) s
-  back_to u n z z' (inr h) s = subst (λ x. Stands L a b C u x) (sym h.0) (to_a u n h.2 (subst (λ x. Stands L a b C u x) h.1 s))
+  back_to u n z z' (inr h) s = subst (λ x. Stands L a b C u x) (sym h.0)
+      (to_a u n h.2 (subst (λ x. Stands L a b C u x) h.1 s))
 
   pub left_of : (u v : V) → Contracted (AndJoin L a b C) (IsOneOf a b) u v → Left L a b C u v
   left_of u v c = go (joined_keeps (Stands L a b C u) (forth u c.first) (back_to u c.first) c.joined (at refl))
@@ -85,7 +88,8 @@ module _ {V : Type 0} (L : V → V → Type 0) (links : AreLinks L) (a b : V) (d
   apart_of u v (by_a c k l) e = differ (links.one u a b k (links.swap b u (subst (λ x. L b x) (sym e) l)))
   apart_of u v (by_b c k l) e = differ (links.one u a b (links.swap a u (subst (λ x. L a x) (sym e) l)) k)
 
-  pub of_left : (u v : V) → (IsOneOf a b u → ⊥) → (IsOneOf a b v → ⊥) → Left L a b C u v → Contracted (AndJoin L a b C) (IsOneOf a b) u v
+  pub of_left : (u v : V) → (IsOneOf a b u → ⊥) → (IsOneOf a b v → ⊥) → Left L a b C u v →
+      Contracted (AndJoin L a b C) (IsOneOf a b) u v
   of_left u v n m h = record { first = n; second = m; apart = apart_of u v h; joined = go h }
     where
       go : Left L a b C u v → Joined (AndJoin L a b C) u v
@@ -117,16 +121,22 @@ abbrev pub AreWithin : {V : Type 0} → (V → V → Type 0) → (V → V → �
 AreWithin {V} L W K = (n : ℕ) (u v : V) → K n u v ↔ (L u v × (W u v ≤ n))
 
 -- The links weigh W, and the join this. Of two links that became one the greatest weight stays.
-pub record StaysGreatest {V : Type 0} (L : V → V → Type 0) (W : V → V → ℕ) (a b : V) (wave : ℕ) (W' : V → V → ℕ) : Type 0 where
+pub record StaysGreatest {V : Type 0} (L : V → V → Type 0) (W : V → V → ℕ) (a b : V) (wave : ℕ)
+    (W' : V → V → ℕ) : Type 0 where
   pub same : (u v : V) → (IsOneOf a b u → ⊥) → (IsOneOf a b v → ⊥) → L u v → W' u v ≡ W u v
-  pub by_a : (u v : V) → (IsOneOf a b u → ⊥) → (IsOneOf a b v → ⊥) → L u a → L b v → W' u v ≡ max (W u a) (max wave (W b v))
-  pub by_b : (u v : V) → (IsOneOf a b u → ⊥) → (IsOneOf a b v → ⊥) → L u b → L a v → W' u v ≡ max (W u b) (max wave (W a v))
+  pub by_a : (u v : V) → (IsOneOf a b u → ⊥) → (IsOneOf a b v → ⊥) → L u a → L b v →
+      W' u v ≡ max (W u a) (max wave (W b v))
+  pub by_b : (u v : V) → (IsOneOf a b u → ⊥) → (IsOneOf a b v → ⊥) → L u b → L a v →
+      W' u v ≡ max (W u b) (max wave (W a v))
 
-module _ {V : Type 0} (L : V → V → Type 0) (links : AreLinks L) (W : V → V → ℕ) (swap : (u v : V) → W u v ≡ W v u) (K : ℕ → V → V → Type 0) (within : AreWithin L W K) (a b : V) (differ : a ≢ b) (C : Type 0)
+module _ {V : Type 0} (L : V → V → Type 0) (links : AreLinks L) (W : V → V → ℕ)
+    (swap : (u v : V) → W u v ≡ W v u) (K : ℕ → V → V → Type 0) (within : AreWithin L W K) (a b : V)
+    (differ : a ≢ b) (C : Type 0)
     (wave : ℕ) (W' : V → V → ℕ) (stays : StaysGreatest L W a b wave W') where
   some : (n : ℕ) → AreLinks (K n)
   some n = record {
-    swap = λ u v h. let t = (within n u v).0 h in (within n v u).1 (links.swap u v t.0, subst (λ x. x ≤ n) (swap u v) t.1);
+    swap = λ u v h. let t = (within n u v).0 h in
+        (within n v u).1 (links.swap u v t.0, subst (λ x. x ≤ n) (swap u v) t.1);
     one = λ u v w h k. links.one u v w ((within n u v).0 h).0 ((within n u w).0 k).0;
     apart = λ u h. links.apart u ((within n u u).0 h).0;
   }
@@ -170,7 +180,8 @@ module _ {V : Type 0} (L : V → V → Type 0) (links : AreLinks L) (W : V → V
           these h = of_left (K n) (some n) a b differ (C × (wave ≤ n)) u v c.first c.second h
 
           go : Left L a b C u v → Some n u v
-          go (linked k) = these (linked ((within n u v).1 (k, subst (λ x. x ≤ n) (stays.same u v c.first c.second k) m)))
+          go (linked k) = these (linked ((within n u v).1
+              (k, subst (λ x. x ≤ n) (stays.same u v c.first c.second k) m)))
           go (by_a x k l) =
               let z : max (W u a) (max wave (W b v)) ≤ n = subst (λ x. x ≤ n) (stays.by_a u v c.first c.second k l) m in
               these (by_a (x, omega arith) ((within n u a).1 (k, omega arith)) ((within n b v).1 (l, omega arith)))

@@ -7,14 +7,16 @@ use Rattle.ol_rules.proofs.LeadRuns.{as_run}
 use Rattle.ol_rules.specs.Laws.{AreNamedBefore}
 use Rattle.ol_rules.specs.Runs.{IsRun, IsOneThread}
 use Rattle.ol_net.specs.Pairs.{IsComplete, HasActive}
-use Rattle.ol_diamond.specs.OneThread.{OneThreadExists, DoneTells, SpentTells, LongerTells, SomeEndsWithin, EndsWhereSomeEnds}
+use Rattle.ol_diamond.specs.OneThread.{OneThreadExists, DoneTells, SpentTells, LongerTells}
+use Rattle.ol_diamond.specs.OneThread.{SomeEndsWithin, EndsWhereSomeEnds}
 use Rattle.ol_diamond.proofs.OneThreadLeads.{active_or_complete, one_thread_run}
 use Rattle.ol_diamond.proofs.OneThreadRuns.{run_net, not_longer, goes_on_shorter, runs_agree}
 
 not_both : {A : Type 0} (M : NamedNet A) → HasActive M → IsComplete M → ⊥
 not_both M (f, g, rule, a) c = c f g rule a
 
-module _ (N P : NamedNet NodeName) (fuel : ℕ) (one_thread : List Entry) (is_net : IsNet N) (before : AreNamedBefore N 0) (o : IsOneThread N fuel one_thread P) where
+module _ (N P : NamedNet NodeName) (fuel : ℕ) (one_thread : List Entry) (is_net : IsNet N)
+    (before : AreNamedBefore N 0) (o : IsOneThread N fuel one_thread P) where
   its_run : IsRun N 0 one_thread P
   its_run = as_run N P 0 one_thread o.leads
 
@@ -87,7 +89,10 @@ longer_tells N M P fuel journal one_thread is_net before run long o =
     (a, full N P fuel one_thread is_net before o a)
 
 pub ends_where_some_ends : EndsWhereSomeEnds
-ends_where_some_ends N P fuel one_thread is_net before o = ((itself, some), (none, go (goes_on_or_ends N P fuel one_thread is_net before o)))
+ends_where_some_ends N P fuel one_thread is_net before o = (
+  (itself, some),
+  (none, go (goes_on_or_ends N P fuel one_thread is_net before o)),
+)
   where
     itself : IsComplete P → SomeEndsWithin N fuel
     itself c = (one_thread, P, as_run N P 0 one_thread o.leads, c, o.within)

@@ -13,13 +13,15 @@ use Rattle.ol_diamond.specs.Runs.{BirthPair, AreBirths}
 abbrev pub pairs_of : Rule → List BirthPair → ℕ
 pairs_of r ps = count_by (λ (p : BirthPair). is_rule p.rule r) ps
 
-pub as_many : (m : NodeName → BirthName) (t : ℕ) (es : List Entry) (ps : List BirthPair) → AreBirths m t es ps → length es ≡ length ps
+pub as_many : (m : NodeName → BirthName) (t : ℕ) (es : List Entry) (ps : List BirthPair) →
+    AreBirths m t es ps → length es ≡ length ps
 as_many m t [] [] b = refl
 as_many m t [] (p ∷ ps) b = absurd b
 as_many m t (e ∷ es) [] b = absurd b
 as_many m t (e ∷ es) (p ∷ ps) b = ap suc (as_many m (suc t) es ps b.2)
 
-pub as_often : (m : NodeName → BirthName) (t : ℕ) (es : List Entry) (ps : List BirthPair) (r : Rule) → AreBirths m t es ps → times_applied r es ≡ pairs_of r ps
+pub as_often : (m : NodeName → BirthName) (t : ℕ) (es : List Entry) (ps : List BirthPair)
+    (r : Rule) → AreBirths m t es ps → times_applied r es ≡ pairs_of r ps
 as_often m t [] [] r b = refl
 as_often m t [] (p ∷ ps) r b = absurd b
 as_often m t (e ∷ es) [] r b = absurd b
@@ -30,7 +32,8 @@ as_often m t (e ∷ es) (p ∷ ps) r b =
     ∙ sym (sum_by-cons (λ (p : BirthPair). cond (is_rule p.rule r) 1 0) p ps)
 
 -- journals with each rule as often have one record of counts
-pub one_counts : (es fs : List Entry) → ((r : Rule) → times_applied r es ≡ times_applied r fs) → counts_of es ≡ counts_of fs
+pub one_counts : (es fs : List Entry) → ((r : Rule) → times_applied r es ≡ times_applied r fs) →
+    counts_of es ≡ counts_of fs
 one_counts es fs h = λ i. record {
   beta = h rule.Beta i;
   fan = h rule.Fan i;

@@ -1,5 +1,6 @@
 -- A net has a lead or is complete, and so there is a one-thread run for each fuel.
-use Rattle.std.proofs.Common.{◌≡◌, ◌≢◌, ℕ, zero, suc, ◌≤◌, Bool, true, false, List, [], ◌∷◌, length, Option, Some, None, ◌⊎◌, inl, inr, refl, sym, ap, ◌∙◌, subst, arith}
+use Rattle.std.proofs.Common.{◌≡◌, ◌≢◌, ℕ, zero, suc, ◌≤◌, Bool, true, false, List, [], ◌∷◌, length}
+use Rattle.std.proofs.Common.{Option, Some, None, ◌⊎◌, inl, inr, refl, sym, ap, ◌∙◌, subst, arith}
 use Rattle.std.proofs.lemmas.Bool.Decides.{nat_tests}
 use Rattle.ol_edges.specs.Edges.{IsIn}
 use Rattle.ol_net.specs.declared.parts.Kind.{Kind}
@@ -29,21 +30,30 @@ module _ {A : Type 0} (N : NamedNet A) (is_net : IsNet N) where
   -- what stands at the other end of the principal port decides
   not_free : (x : A) (n : ℕ) → Linked N (slot x 0) (free n) → Acts N x → ⊥
   not_free x n h (r, y, inl a) = let e = is_net.one_link (slot x 0) (free n) (slot y 0) h a.faces.linked in absurd (cc)
-  not_free x n h (r, y, inr a) = let e = is_net.one_link (slot x 0) (free n) (slot y 0) h (linked_sym N (slot y 0) (slot x 0) a.faces.linked) in absurd (cc)
+  not_free x n h (r, y, inr a) = let e = is_net.one_link (slot x 0) (free n) (slot y 0) h
+      (linked_sym N (slot y 0) (slot x 0) a.faces.linked) in absurd (cc)
 
   not_auxiliary : (x y : A) (s : ℕ) → Linked N (slot x 0) (slot y (suc s)) → Acts N x → ⊥
-  not_auxiliary x y s h (r, z, inl a) = let e = is_net.one_link (slot x 0) (slot y (suc s)) (slot z 0) h a.faces.linked in absurd (cc)
-  not_auxiliary x y s h (r, z, inr a) = let e = is_net.one_link (slot x 0) (slot y (suc s)) (slot z 0) h (linked_sym N (slot z 0) (slot x 0) a.faces.linked) in absurd (cc)
+  not_auxiliary x y s h (r, z, inl a) = let e = is_net.one_link (slot x 0) (slot y (suc s))
+      (slot z 0) h a.faces.linked in absurd (cc)
+  not_auxiliary x y s h (r, z, inr a) = let e = is_net.one_link (slot x 0) (slot y (suc s))
+      (slot z 0) h (linked_sym N (slot z 0) (slot x 0) a.faces.linked) in absurd (cc)
 
   -- the rule of two nodes, at the kinds that they have
-  rule_at : (x y : A) (k : Kind) (i : ℕ) (l : Kind) (j : ℕ) (r : Rule) → Faces N x y k i l j → IsActive N x y r → rule_of k i l j ≡ Some r
+  rule_at : (x y : A) (k : Kind) (i : ℕ) (l : Kind) (j : ℕ) (r : Rule) → Faces N x y k i l j →
+      IsActive N x y r → rule_of k i l j ≡ Some r
   rule_at x y k i l j r h a =
       let p = is_net.one_node x a.k k a.i i a.faces.first h.first in
       let q = is_net.one_node y a.l l a.j j a.faces.second h.second in
-      sym (ap (λ k. rule_of k a.i a.l a.j) p.0 ∙ ap (λ i. rule_of k i a.l a.j) p.1 ∙ ap (λ l. rule_of k i l a.j) q.0 ∙ ap (λ j. rule_of k i l j) q.1) ∙ a.fits
+      sym (ap (λ k. rule_of k a.i a.l a.j) p.0 ∙ ap (λ i. rule_of k i a.l a.j) p.1
+      ∙ ap (λ l. rule_of k i l a.j) q.0 ∙ ap (λ j. rule_of k i l j) q.1) ∙ a.fits
 
   turned : (x y : A) (k : Kind) (i : ℕ) (l : Kind) (j : ℕ) → Faces N x y k i l j → Faces N y x l j k i
-  turned x y k i l j h = record { first = h.second; second = h.first; linked = linked_sym N (slot x 0) (slot y 0) h.linked }
+  turned x y k i l j h = record {
+    first = h.second;
+    second = h.first;
+    linked = linked_sym N (slot x 0) (slot y 0) h.linked;
+  }
 
   faced : (x y : A) (k : Kind) (i : ℕ) (l : Kind) (j : ℕ) → Faces N x y k i l j → Acts N x ⊎ (Acts N x → ⊥)
   faced x y k i l j h = go (rule_of k i l j) (rule_of l j k i) refl refl
@@ -53,7 +63,12 @@ module _ {A : Type 0} (N : NamedNet A) (is_net : IsNet N) where
 
       go : (a b : Option Rule) → rule_of k i l j ≡ a → rule_of l j k i ≡ b → Acts N x ⊎ (Acts N x → ⊥)
       go (Some r) b e e' = inl (r, y, inl (record { k = k; i = i; l = l; j = j; faces = h; fits = e }))
-      go None (Some r) e e' = inl (r, y, inr (record { k = l; i = j; l = k; j = i; faces = turned x y k i l j h; fits = e' }))
+      go None (Some r) e e' = inl (
+        r,
+        y,
+        inr
+            (record { k = l; i = j; l = k; j = i; faces = turned x y k i l j h; fits = e' }),
+      )
       go None None e e' = inr clash
         where
           clash : Acts N x → ⊥
@@ -97,28 +112,36 @@ not_true false h = refl
 module _ (N : NamedNet NodeName) (is_net : IsNet N) where
   least_of : (nodes : List (NodeName × Kind × ℕ)) → AreNodesOf N nodes → Least N nodes ⊎ NoneActs N nodes
   least_of [] of = inr (λ x k i h a. h)
-  least_of (n ∷ nodes) of = go (acts_or_not N is_net n.0 n.1 n.2 (of n.0 n.1 n.2 (inl refl))) (least_of nodes (λ x k i h. of x k i (inr h)))
+  least_of (n ∷ nodes) of = go (acts_or_not N is_net n.0 n.1 n.2 (of n.0 n.1 n.2 (inl refl)))
+      (least_of nodes (λ x k i h. of x k i (inr h)))
     where
       -- the head of the list doesn't stand in a pair
-      passed : (Acts N n.0 → ⊥) → (P : Type 0) (x : NodeName) (k : Kind) (i : ℕ) → ◌≡◌ {A = NodeName × Kind × ℕ} (x, k, i) n → Acts N x → P
+      passed : (Acts N n.0 → ⊥) → (P : Type 0) (x : NodeName) (k : Kind) (i : ℕ) →
+          ◌≡◌ {A = NodeName × Kind × ℕ} (x, k, i) n → Acts N x → P
       passed lacks P x k i e a = absurd (lacks (subst (λ x. Acts N x) (ap (λ (d : NodeName × Kind × ℕ). d.0) e) a))
 
-      itself : (x : NodeName) (k : Kind) (i : ℕ) → ◌≡◌ {A = NodeName × Kind × ℕ} (x, k, i) n → comes_before x n.0 ≡ false
-      itself x k i e = subst (λ x. comes_before x n.0 ≡ false) (sym (ap (λ (d : NodeName × Kind × ℕ). d.0) e)) (not_before_itself n.0)
+      itself : (x : NodeName) (k : Kind) (i : ℕ) → ◌≡◌ {A = NodeName × Kind × ℕ} (x, k, i) n →
+          comes_before x n.0 ≡ false
+      itself x k i e = subst (λ x. comes_before x n.0 ≡ false)
+          (sym (ap (λ (d : NodeName × Kind × ℕ). d.0) e)) (not_before_itself n.0)
 
       compared : (a : Acts N n.0) (l : Least N nodes) (b : Bool) → comes_before n.0 l.name ≡ b → Least N (n ∷ nodes)
       compared a l true e = record { name = n.0; acts = a; least = least }
         where
           least : (x : NodeName) (k : Kind) (i : ℕ) → IsIn (x, k, i) (n ∷ nodes) → Acts N x → comes_before x n.0 ≡ false
           least x k i (inl h) c = itself x k i h
-          least x k i (inr h) c = not_true (comes_before x n.0) (λ t. let u = before_before x n.0 l.name t e in let v = l.least x k i h c in absurd (cc))
+          least x k i (inr h) c = not_true (comes_before x n.0)
+              (λ t. let u = before_before x n.0 l.name t e in let v = l.least x k i h c in absurd (cc))
       compared a l false e = record { name = l.name; acts = l.acts; least = least }
         where
-          least : (x : NodeName) (k : Kind) (i : ℕ) → IsIn (x, k, i) (n ∷ nodes) → Acts N x → comes_before x l.name ≡ false
-          least x k i (inl h) c = subst (λ x. comes_before x l.name ≡ false) (sym (ap (λ (d : NodeName × Kind × ℕ). d.0) h)) e
+          least : (x : NodeName) (k : Kind) (i : ℕ) → IsIn (x, k, i) (n ∷ nodes) → Acts N x →
+              comes_before x l.name ≡ false
+          least x k i (inl h) c = subst (λ x. comes_before x l.name ≡ false)
+              (sym (ap (λ (d : NodeName × Kind × ℕ). d.0) h)) e
           least x k i (inr h) c = l.least x k i h c
 
-      go : Acts N n.0 ⊎ (Acts N n.0 → ⊥) → Least N nodes ⊎ NoneActs N nodes → Least N (n ∷ nodes) ⊎ NoneActs N (n ∷ nodes)
+      go : Acts N n.0 ⊎ (Acts N n.0 → ⊥) → Least N nodes ⊎ NoneActs N nodes →
+          Least N (n ∷ nodes) ⊎ NoneActs N (n ∷ nodes)
       go (inl a) (inl l) = inl (compared a l (comes_before n.0 l.name) refl)
       go (inl a) (inr none) = inl (record { name = n.0; acts = a; least = least })
         where
@@ -127,7 +150,8 @@ module _ (N : NamedNet NodeName) (is_net : IsNet N) where
           least x k i (inr h) c = absurd (none x k i h c)
       go (inr lacks) (inl l) = inl (record { name = l.name; acts = l.acts; least = least })
         where
-          least : (x : NodeName) (k : Kind) (i : ℕ) → IsIn (x, k, i) (n ∷ nodes) → Acts N x → comes_before x l.name ≡ false
+          least : (x : NodeName) (k : Kind) (i : ℕ) → IsIn (x, k, i) (n ∷ nodes) → Acts N x →
+              comes_before x l.name ≡ false
           least x k i (inl h) c = passed lacks (comes_before x l.name ≡ false) x k i h c
           least x k i (inr h) c = l.least x k i h c
       go (inr lacks) (inr none) = inr none_here
@@ -144,7 +168,8 @@ module _ (N : NamedNet NodeName) (is_net : IsNet N) where
   either_first (Born t p) (Init n) d h = absurd (cc)
   either_first (Born t p) (Born u q) d h = go (comes_before (Born t p) (Born u q)) refl
     where
-      same : comes_before (Born t p) (Born u q) ≡ false → comes_before (Born u q) (Born t p) ≡ false → Born t p ≡ Born u q
+      same : comes_before (Born t p) (Born u q) ≡ false →
+          comes_before (Born u q) (Born t p) ≡ false → Born t p ≡ Born u q
       same g h = grind (arith, nat_tests)
 
       go : (b : Bool) → comes_before (Born t p) (Born u q) ≡ b → comes_before (Born t p) (Born u q) ≡ true
@@ -155,7 +180,8 @@ module _ (N : NamedNet NodeName) (is_net : IsNet N) where
   lead_at : (l : Least N N.nodes) → (e : Entry) × IsLead N e
   lead_at l = go l.acts
     where
-      least : (f g : NodeName) (r : Rule) → IsActive N f g r → (comes_before f l.name ≡ false) × (comes_before g l.name ≡ false)
+      least : (f g : NodeName) (r : Rule) → IsActive N f g r →
+          (comes_before f l.name ≡ false) × (comes_before g l.name ≡ false)
       least f g r a = (l.least f a.k a.i a.faces.first (r, g, inl a), l.least g a.l a.j a.faces.second (r, f, inr a))
 
       two : (y : NodeName) → Linked N (slot l.name 0) (slot y 0) → l.name ≢ y
@@ -165,12 +191,31 @@ module _ (N : NamedNet NodeName) (is_net : IsNet N) where
       go (r, y, inl a) =
           let before = either_first l.name y (two y a.faces.linked) (least l.name y r a).1 in (
             record { rule = r; first = l.name; second = y },
-            record { f = l.name; g = y; named = record { ordered = before; pair = inl (refl, refl) }; active = a; least = least },
+            record {
+              f = l.name;
+              g = y;
+              named = record {
+                ordered = before;
+                pair = inl (refl, refl);
+              };
+              active = a;
+              least = least;
+            },
           )
       go (r, y, inr a) =
-          let before = either_first l.name y (two y (linked_sym N (slot y 0) (slot l.name 0) a.faces.linked)) (least y l.name r a).0 in (
+          let before = either_first l.name y (two y
+          (linked_sym N (slot y 0) (slot l.name 0) a.faces.linked)) (least y l.name r a).0 in (
             record { rule = r; first = l.name; second = y },
-            record { f = y; g = l.name; named = record { ordered = before; pair = inr (refl, refl) }; active = a; least = least },
+            record {
+              f = y;
+              g = l.name;
+              named = record {
+                ordered = before;
+                pair = inr (refl, refl);
+              };
+              active = a;
+              least = least;
+            },
           )
 
   pub lead_or_complete : ((e : Entry) × IsLead N e) ⊎ IsComplete N
@@ -190,13 +235,20 @@ record LeadsOn (N : NamedNet NodeName) (t fuel : ℕ) : Type 0 where
   ended : IsComplete net ⊎ (length journal ≡ fuel)
 
 leads_on : (fuel : ℕ) (N : NamedNet NodeName) (t : ℕ) → IsNet N → AreNamedBefore N t → LeadsOn N t fuel
-leads_on zero N t is_net before = record { journal = []; net = N; leads = IsLeadRun.end; within = omega arith; ended = inr refl }
+leads_on zero N t is_net before = record {
+  journal = [];
+  net = N;
+  leads = IsLeadRun.end;
+  within = omega arith;
+  ended = inr refl;
+}
 leads_on (suc fuel) N t is_net before = go (lead_or_complete N is_net) (λ K n b. leads_on fuel K (suc t) n b)
   where
     more : (m fuel : ℕ) → m ≤ fuel → suc m ≤ suc fuel
     more m fuel b = omega arith
 
-    further : (e : Entry) → IsLead N e → (K : NamedNet NodeName) → IsEntryStep N t e K → LeadsOn K (suc t) fuel → LeadsOn N t (suc fuel)
+    further : (e : Entry) → IsLead N e → (K : NamedNet NodeName) → IsEntryStep N t e K →
+        LeadsOn K (suc t) fuel → LeadsOn N t (suc fuel)
     further e d K s r = record {
       journal = e ∷ r.journal;
       net = r.net;
@@ -205,19 +257,32 @@ leads_on (suc fuel) N t is_net before = go (lead_or_complete N is_net) (λ K n b
       ended = elim r.ended [ inl c ↦ inl c | inr q ↦ inr (ap suc q) ];
     }
 
-    go : ((e : Entry) × IsLead N e) ⊎ IsComplete N → ((K : NamedNet NodeName) → IsNet K → AreNamedBefore K (suc t) → LeadsOn K (suc t) fuel) → LeadsOn N t (suc fuel)
+    go : ((e : Entry) × IsLead N e) ⊎ IsComplete N →
+        ((K : NamedNet NodeName) → IsNet K → AreNamedBefore K (suc t) → LeadsOn K (suc t) fuel) → LeadsOn N t (suc fuel)
     go (inr c) rest = record { journal = []; net = N; leads = IsLeadRun.end; within = omega arith; ended = inl c }
     go (inl (e, d)) rest =
         let a = d.active in
-        let k = next name_same name_test (λ place. Born t place) N d.f d.g a.k a.i a.l a.j e.rule is_net a.faces (fresh_names N t before) a.fits in
-        let s : IsEntryStep N t e k.0 = record { f = d.f; g = d.g; named = d.named; step = record { active = a; rewrites = k.1.rewrites } } in
-        further e d k.0 s (rest k.0 k.1.net (named_after N k.0 t d.f d.g a.k a.i a.l (action_of e.rule a.j) before k.1.rewrites))
+        let k = next name_same name_test (λ place.
+        Born t place) N d.f d.g a.k a.i a.l a.j e.rule is_net a.faces (fresh_names N t before) a.fits in
+        let s : IsEntryStep N t e k.0 = record {
+          f = d.f;
+          g = d.g;
+          named = d.named;
+          step = record { active = a; rewrites = k.1.rewrites };
+        } in
+        further e d k.0 s (rest k.0 k.1.net (named_after N k.0 t d.f d.g a.k a.i a.l
+        (action_of e.rule a.j) before k.1.rewrites))
 
-pub one_thread_run : (N : NamedNet NodeName) (fuel : ℕ) → IsNet N → AreNamedBefore N 0 → (journal : List Entry) × (net : NamedNet NodeName) × IsOneThread N fuel journal net
+pub one_thread_run : (N : NamedNet NodeName) (fuel : ℕ) → IsNet N → AreNamedBefore N 0 →
+    (journal : List Entry) × (net : NamedNet NodeName) × IsOneThread N fuel journal net
 one_thread_run N fuel is_net before =
     let r = leads_on fuel N 0 is_net before in
     (r.journal, r.net, record { leads = r.leads; within = r.within; ended = r.ended })
 
 -- a net goes on or is complete
 pub active_or_complete : (N : NamedNet NodeName) → IsNet N → HasActive N ⊎ IsComplete N
-active_or_complete N is_net = elim (lead_or_complete N is_net) [ inl d ↦ inl (d.1.f, d.1.g, d.0.rule, d.1.active) | inr c ↦ inr c ]
+active_or_complete N is_net = elim (lead_or_complete N is_net) [
+  | inl d ↦ inl
+      (d.1.f, d.1.g, d.0.rule, d.1.active)
+  | inr c ↦ inr c
+]

@@ -2,7 +2,8 @@
 use Rattle.std.proofs.Common.{◌≡◌, ℕ, List, [], ◌∷◌, Bool, true, false, cond, inl, inr, refl, sym, ap, ◌∙◌, subst}
 use Rattle.ol_edges.specs.Edges.{IsIn}
 use Rattle.ol_net.specs.declared.parts.Kind.{Kind}
-use Rattle.ol_net.specs.Nets.{NamedPort, free, slot, NamedNet, HasNode, Linked, IsPort, IsNet, SameNet, port_under, net_under}
+use Rattle.ol_net.specs.Nets.{NamedPort, free, slot, NamedNet, HasNode, Linked, IsPort, IsNet}
+use Rattle.ol_net.specs.Nets.{SameNet, port_under, net_under}
 use Rattle.ol_rules.specs.declared.journal.NodeName.{NodeName}
 use Rattle.ol_rules.specs.declared.journal.NodeName.TheVariants.{Init}
 use Rattle.ol_rules.proofs.Renaming.{node_to, node_from, link_to, link_from}
@@ -19,20 +20,25 @@ behind : (NodeName → BirthName) → List (NodeName × Kind × ℕ) → BirthNa
 behind m [] b = Init 0
 behind m (n ∷ nodes) b = cond (same_name (m n.0) b) n.0 (behind m nodes b)
 
-behind_is : (m : NodeName → BirthName) (nodes : List (NodeName × Kind × ℕ)) → ((x y : NodeName) (k l : Kind) (i j : ℕ) → IsIn (x, k, i) nodes → IsIn (y, l, j) nodes → m x ≡ m y → x ≡ y) →
+behind_is : (m : NodeName → BirthName) (nodes : List (NodeName × Kind × ℕ)) →
+    ((x y : NodeName) (k l : Kind) (i j : ℕ) → IsIn (x, k, i) nodes → IsIn (y, l, j) nodes → m x ≡ m y → x ≡ y) →
     (x : NodeName) (k : Kind) (i : ℕ) → IsIn (x, k, i) nodes → behind m nodes (m x) ≡ x
 unfolding behind
 behind_is m [] apart x k i h = absurd h
-behind_is m (n ∷ nodes) apart x k i h = go (same_name (m n.0) (m x)) refl h (λ h'. behind_is m nodes (λ x y k l i j a b. apart x y k l i j (inr a) (inr b)) x k i h')
+behind_is m (n ∷ nodes) apart x k i h = go (same_name (m n.0) (m x)) refl h
+    (λ h'. behind_is m nodes (λ x y k l i j a b. apart x y k l i j (inr a) (inr b)) x k i h')
   where
-    go : (b : Bool) → same_name (m n.0) (m x) ≡ b → IsIn (x, k, i) (n ∷ nodes) → (IsIn (x, k, i) nodes → behind m nodes (m x) ≡ x) → cond b n.0 (behind m nodes (m x)) ≡ x
+    go : (b : Bool) → same_name (m n.0) (m x) ≡ b → IsIn (x, k, i) (n ∷ nodes) →
+        (IsIn (x, k, i) nodes → behind m nodes (m x) ≡ x) → cond b n.0 (behind m nodes (m x)) ≡ x
     go true e h rest = apart n.0 x n.1 k n.2 i (inl refl) h (name_test.tells (m n.0) (m x) e)
     go false e (inl q) rest =
         let q' : x ≡ n.0 = ap (λ (d : NodeName × Kind × ℕ). d.0) q in
         absurd (let z = sym (name_test.holds (m n.0)) ∙ ap (λ x. same_name (m n.0) (m x)) (sym q') ∙ e in cc)
     go false e (inr h) rest = rest h
 
-module _ (m m' : NodeName → BirthName) (L M : NamedNet NodeName) (apart : AreApart m L) (apart' : AreApart m' M) (is_net : IsNet L) (is_net' : IsNet M) (same : SameNet (net_under m L) (net_under m' M)) where
+module _ (m m' : NodeName → BirthName) (L M : NamedNet NodeName) (apart : AreApart m L)
+    (apart' : AreApart m' M) (is_net : IsNet L) (is_net' : IsNet M)
+    (same : SameNet (net_under m L) (net_under m' M)) where
   -- the node of M that has the birth name of a node of L
   pub across : NodeName → NodeName
   across x = behind m' M.nodes (m x)
@@ -70,13 +76,17 @@ module _ (m m' : NodeName → BirthName) (L M : NamedNet NodeName) (apart : AreA
   across_renames = record {
     free_ports = sym same.free_ports;
     nodes_to = λ x k i h. let t = meets x k i h in subst (λ y. HasNode M y k i) (sym t.is) t.has;
-    nodes_from = λ y k i h. let t = node_from m L (m' y) k i ((same.nodes (m' y) k i).1 (node_to m' M y k i h)) in (t.0, t.1, sym (met t.0 y k i h (sym t.2)));
+    nodes_from = λ y k i h. let t = node_from m L (m' y) k i
+        ((same.nodes (m' y) k i).1 (node_to m' M y k i h)) in (t.0, t.1, sym (met t.0 y k i h (sym t.2)));
     links_to = λ p q h.
-        let t = link_from m' M (port_under m p) (port_under m q) ((same.links (port_under m p) (port_under m q)).0 (link_to m L p q h)) in
+        let t = link_from m' M (port_under m p) (port_under m q)
+        ((same.links (port_under m p) (port_under m q)).0 (link_to m L p q h)) in
         let ports = is_net'.of_ports t.0 t.1 t.4 in
-        subst (λ u. Linked M u (port_under across q)) (sym (met_port p t.0 ports.0 t.2)) (subst (λ u. Linked M t.0 u) (sym (met_port q t.1 ports.1 t.3)) t.4);
+        subst (λ u. Linked M u (port_under across q)) (sym (met_port p t.0 ports.0 t.2))
+        (subst (λ u. Linked M t.0 u) (sym (met_port q t.1 ports.1 t.3)) t.4);
     links_from = λ p q h.
-        let t = link_from m L (port_under m' p) (port_under m' q) ((same.links (port_under m' p) (port_under m' q)).1 (link_to m' M p q h)) in
+        let t = link_from m L (port_under m' p) (port_under m' q)
+        ((same.links (port_under m' p) (port_under m' q)).1 (link_to m' M p q h)) in
         let ports = is_net'.of_ports p q h in
         (t.0, t.1, t.4, sym (met_port t.0 p ports.0 (sym t.2)), sym (met_port t.1 q ports.1 (sym t.3)));
     apart = λ x y k l i j h h' e.

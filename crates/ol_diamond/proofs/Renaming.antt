@@ -5,7 +5,8 @@ use Rattle.ol_edges.proofs.Joining.{joined_sym, joined_image, Follows, follow}
 use Rattle.ol_edges.proofs.Composing.{edge_of_apart, contracted_map}
 use Rattle.ol_net.specs.declared.parts.Kind.{Kind}
 use Rattle.ol_net.specs.Parts.{arity}
-use Rattle.ol_net.specs.Nets.{NamedPort, free, slot, NamedNet, HasNode, Linked, IsPort, IsNet, SameNet, Faces, IsPrincipalOf, IsSlotOf, port_under, net_under}
+use Rattle.ol_net.specs.Nets.{NamedPort, free, slot, NamedNet, HasNode, Linked, IsPort, IsNet}
+use Rattle.ol_net.specs.Nets.{SameNet, Faces, IsPrincipalOf, IsSlotOf, port_under, net_under}
 use Rattle.ol_rules.specs.Rewriting.{Action, JoinOf, meet, at_f, at_g, between, NodeOf, left, of_f, of_g, Rewrites}
 use Rattle.ol_rules.specs.Laws.{IsFresh}
 use Rattle.ol_rules.proofs.Renaming.{node_to, node_from, link_to, link_from}
@@ -16,11 +17,14 @@ pub record IsRenamed {A B : Type 0} (m : A → B) (N : NamedNet A) (M : NamedNet
   pub nodes_to : (x : A) (k : Kind) (i : ℕ) → HasNode N x k i → HasNode M (m x) k i
   pub nodes_from : (y : B) (k : Kind) (i : ℕ) → HasNode M y k i → (x : A) × HasNode N x k i × (y ≡ m x)
   pub links_to : (p q : NamedPort A) → Linked N p q → Linked M (port_under m p) (port_under m q)
-  pub links_from : (p q : NamedPort B) → Linked M p q → (p' : NamedPort A) × (q' : NamedPort A) × Linked N p' q' × (p ≡ port_under m p') × (q ≡ port_under m q')
+  pub links_from : (p q : NamedPort B) → Linked M p q →
+      (p' : NamedPort A) × (q' : NamedPort A) × Linked N p' q' × (p ≡ port_under m p') × (q ≡ port_under m q')
   pub apart : (x y : A) (k l : Kind) (i j : ℕ) → HasNode N x k i → HasNode N y l j → m x ≡ m y → x ≡ y
 
 -- the net under the names is such a net, and each such net is that one
-pub under_renamed : {A B : Type 0} (m : A → B) (N : NamedNet A) → ((x y : A) (k l : Kind) (i j : ℕ) → HasNode N x k i → HasNode N y l j → m x ≡ m y → x ≡ y) → IsRenamed m N (net_under m N)
+pub under_renamed : {A B : Type 0} (m : A → B) (N : NamedNet A) →
+    ((x y : A) (k l : Kind) (i j : ℕ) → HasNode N x k i → HasNode N y l j → m x ≡ m y → x ≡ y) →
+    IsRenamed m N (net_under m N)
 under_renamed m N apart = record {
   free_ports = refl;
   nodes_to = node_to m N;
@@ -30,16 +34,21 @@ under_renamed m N apart = record {
   apart = apart;
 }
 
-pub renamed_under : {A B : Type 0} (m : A → B) (N : NamedNet A) (M : NamedNet B) → IsRenamed m N M → SameNet M (net_under m N)
+pub renamed_under : {A B : Type 0} (m : A → B) (N : NamedNet A) (M : NamedNet B) → IsRenamed m N M →
+    SameNet M (net_under m N)
 renamed_under m N M r = record {
   nodes = λ y k i. (
-    (λ h. let t = r.nodes_from y k i h in subst (λ z. HasNode (net_under m N) z k i) (sym t.2) (node_to m N t.0 k i t.1)),
+    (λ h. let t = r.nodes_from y k i h in
+        subst (λ z. HasNode (net_under m N) z k i) (sym t.2) (node_to m N t.0 k i t.1)),
     (λ h. let t = node_from m N y k i h in subst (λ z. HasNode M z k i) (sym t.2) (r.nodes_to t.0 k i t.1)),
   );
   free_ports = r.free_ports;
   links = λ P Q. (
-    (λ h. let t = r.links_from P Q h in subst (λ z. Linked (net_under m N) z Q) (sym t.3) (subst (λ z. Linked (net_under m N) (port_under m t.0) z) (sym t.4) (link_to m N t.0 t.1 t.2))),
-    (λ h. let t = link_from m N P Q h in subst (λ z. Linked M z Q) (sym t.2) (subst (λ z. Linked M (port_under m t.0) z) (sym t.3) (r.links_to t.0 t.1 t.4))),
+    (λ h. let t = r.links_from P Q h in subst (λ z. Linked (net_under m N) z Q) (sym t.3)
+        (subst (λ z. Linked (net_under m N) (port_under m t.0) z) (sym t.4) (link_to m N t.0 t.1 t.2))),
+    (λ h. let t = link_from m N P Q h in
+        subst (λ z. Linked M z Q) (sym t.2) (subst (λ z. Linked M (port_under m t.0) z) (sym t.3)
+        (r.links_to t.0 t.1 t.4))),
   );
 }
 
@@ -49,7 +58,8 @@ renamed_net {A} {B} m N M r n = record {
   one_node = λ y k l i j h h'.
       let a = r.nodes_from y k i h in
       let b = r.nodes_from y l j h' in
-      n.one_node a.0 k l i j a.1 (subst (λ x. HasNode N x l j) (sym (r.apart a.0 b.0 k l i j a.1 b.1 (sym a.2 ∙ b.2))) b.1);
+      n.one_node a.0 k l i j a.1 (subst (λ x. HasNode N x l j)
+      (sym (r.apart a.0 b.0 k l i j a.1 b.1 (sym a.2 ∙ b.2))) b.1);
   of_ports = λ p q h.
       let t = r.links_from p q h in
       let c = n.of_ports t.0 t.1 t.2 in
@@ -63,7 +73,8 @@ renamed_net {A} {B} m N M r n = record {
       let a = r.links_from p p h in
       let c = n.of_ports a.0 a.1 a.2 in
       n.apart a.0 (subst (λ z. Linked N a.0 z) (one_port a.1 a.0 c.1 c.0 (sym a.4 ∙ a.3)) a.2);
-  some_link = λ p h. let a = port_from p h in let l = n.some_link a.0 a.1 in (port_under m l.0, subst (λ p. Linked M p (port_under m l.0)) (sym a.2) (r.links_to a.0 l.0 l.1));
+  some_link = λ p h. let a = port_from p h in let l = n.some_link a.0 a.1 in
+      (port_under m l.0, subst (λ p. Linked M p (port_under m l.0)) (sym a.2) (r.links_to a.0 l.0 l.1));
 }
   where
     one_port : (p q : NamedPort A) → IsPort N p → IsPort N q → port_under m p ≡ port_under m q → p ≡ q
@@ -81,16 +92,21 @@ renamed_net {A} {B} m N M r n = record {
 
     port_from : (p : NamedPort B) → IsPort M p → (q : NamedPort A) × IsPort N q × (p ≡ port_under m q)
     port_from (free u) h = (free u, subst (λ b. u < b) r.free_ports h, refl)
-    port_from (slot y s) (k, i, h, b) = let a = r.nodes_from y k i h in (slot a.0 s, (k, i, a.1, b), ap (λ y. slot y s) a.2)
+    port_from (slot y s) (k, i, h, b) = let a = r.nodes_from y k i h in
+        (slot a.0 s, (k, i, a.1, b), ap (λ y. slot y s) a.2)
 
 -- names that agree where nodes are
-pub agree : {A B : Type 0} (m m' : A → B) (N : NamedNet A) (M : NamedNet B) → IsNet N → ((x : A) (k : Kind) (i : ℕ) → HasNode N x k i → m' x ≡ m x) → IsRenamed m N M → IsRenamed m' N M
+pub agree : {A B : Type 0} (m m' : A → B) (N : NamedNet A) (M : NamedNet B) → IsNet N →
+    ((x : A) (k : Kind) (i : ℕ) → HasNode N x k i → m' x ≡ m x) → IsRenamed m N M → IsRenamed m' N M
 agree {A} {B} m m' N M n e r = record {
   free_ports = r.free_ports;
   nodes_to = λ x k i h. subst (λ y. HasNode M y k i) (sym (e x k i h)) (r.nodes_to x k i h);
   nodes_from = λ y k i h. let t = r.nodes_from y k i h in (t.0, t.1, t.2 ∙ sym (e t.0 k i t.1));
-  links_to = λ p q h. let c = n.of_ports p q h in subst (λ p. Linked M p (port_under m' q)) (sym (port p c.0)) (subst (λ q. Linked M (port_under m p) q) (sym (port q c.1)) (r.links_to p q h));
-  links_from = λ p q h. let t = r.links_from p q h in let c = n.of_ports t.0 t.1 t.2 in (t.0, t.1, t.2, t.3 ∙ sym (port t.0 c.0), t.4 ∙ sym (port t.1 c.1));
+  links_to = λ p q h. let c = n.of_ports p q h in
+      subst (λ p. Linked M p (port_under m' q)) (sym (port p c.0))
+      (subst (λ q. Linked M (port_under m p) q) (sym (port q c.1)) (r.links_to p q h));
+  links_from = λ p q h. let t = r.links_from p q h in let c = n.of_ports t.0 t.1 t.2 in
+      (t.0, t.1, t.2, t.3 ∙ sym (port t.0 c.0), t.4 ∙ sym (port t.1 c.1));
   apart = λ x y k l i j h h' q. r.apart x y k l i j h h' (sym (e x k i h) ∙ q ∙ e y l j h');
 }
   where
@@ -100,14 +116,17 @@ agree {A} {B} m m' N M n e r = record {
 
 module _ {A B : Type 0} (m : A → B) (N : NamedNet A) (M : NamedNet B) (r : IsRenamed m N M) (is_net : IsNet N)
     (f g : A) (k : Kind) (i : ℕ) (l : Kind) (j : ℕ) (a : Action) (faces : Faces N f g k i l j)
-    (born : ℕ → A) (born' : ℕ → B) (fresh : IsFresh N born) (fresh' : IsFresh M born') (births : (n : ℕ) → m (born n) ≡ born' n) where
+    (born : ℕ → A) (born' : ℕ → B) (fresh : IsFresh N born) (fresh' : IsFresh M born')
+    (births : (n : ℕ) → m (born n) ≡ born' n) where
   abbrev pub Live : A → Type 0
   Live x = ((k : Kind) × (i : ℕ) × HasNode N x k i) ⊎ ((n : ℕ) × (x ≡ born n))
 
   one_name : (x y : A) → Live x → Live y → m x ≡ m y → x ≡ y
   one_name x y (inl h) (inl h') e = r.apart x y h.0 h'.0 h.1 h'.1 h.2 h'.2 e
-  one_name x y (inl h) (inr b) e = absurd (fresh'.unused (m x) h.0 h.1 b.0 (r.nodes_to x h.0 h.1 h.2) (e ∙ ap m b.1 ∙ births b.0))
-  one_name x y (inr b) (inl h) e = absurd (fresh'.unused (m y) h.0 h.1 b.0 (r.nodes_to y h.0 h.1 h.2) (sym e ∙ ap m b.1 ∙ births b.0))
+  one_name x y (inl h) (inr b) e = absurd
+      (fresh'.unused (m x) h.0 h.1 b.0 (r.nodes_to x h.0 h.1 h.2) (e ∙ ap m b.1 ∙ births b.0))
+  one_name x y (inr b) (inl h) e = absurd
+      (fresh'.unused (m y) h.0 h.1 b.0 (r.nodes_to y h.0 h.1 h.2) (sym e ∙ ap m b.1 ∙ births b.0))
   one_name x y (inr b) (inr b') e =
       let q = fresh'.apart b.0 b'.0 (sym (births b.0) ∙ ap m (sym b.1) ∙ e ∙ ap m b'.1 ∙ births b'.0) in
       b.1 ∙ ap born q ∙ sym b'.1
@@ -158,9 +177,11 @@ module _ {A B : Type 0} (m : A → B) (N : NamedNet A) (M : NamedNet B) (r : IsR
   at_born P n h = subst P (sym (births n)) h
 
   -- Some of the links, their images, and the joins where they count.
-  module _ (Some : NamedPort A → NamedPort A → Type 0) (Some' : NamedPort B → NamedPort B → Type 0) (some : (p q : NamedPort A) → Some p q → Linked N p q)
+  module _ (Some : NamedPort A → NamedPort A → Type 0) (Some' : NamedPort B → NamedPort B → Type 0)
+      (some : (p q : NamedPort A) → Some p q → Linked N p q)
       (some_to : (p q : NamedPort A) → Some p q → Some' (port_under m p) (port_under m q))
-      (some_from : (P Q : NamedPort B) → Some' P Q → (p : NamedPort A) × (q : NamedPort A) × Some p q × (P ≡ port_under m p) × (Q ≡ port_under m q))
+      (some_from : (P Q : NamedPort B) → Some' P Q →
+      (p : NamedPort A) × (q : NamedPort A) × Some p q × (P ≡ port_under m p) × (Q ≡ port_under m q))
       (Count : Type 0) where
     abbrev E : NamedPort A → NamedPort A → Type 0
     E = Edge Some (IsPrincipalOf f g) (λ p q. JoinOf born f g k l a p q × Count)
@@ -168,13 +189,17 @@ module _ {A B : Type 0} (m : A → B) (N : NamedNet A) (M : NamedNet B) (r : IsR
     abbrev E' : NamedPort B → NamedPort B → Type 0
     E' = Edge Some' (IsPrincipalOf (m f) (m g)) (λ P Q. JoinOf born' (m f) (m g) k l a P Q × Count)
 
-    join_to : (p q : NamedPort A) → JoinOf born f g k l a p q → JoinOf born' (m f) (m g) k l a (port_under m p) (port_under m q)
+    join_to : (p q : NamedPort A) → JoinOf born f g k l a p q →
+        JoinOf born' (m f) (m g) k l a (port_under m p) (port_under m q)
     join_to p q (meet e b) = meet e b
-    join_to p q (at_f {p = u} n e b) = at_born (λ y. JoinOf born' (m f) (m g) k l a (slot y 0) (slot (m f) (suc u))) (arity l + u) (at_f n e b)
-    join_to p q (at_g {q = u} n e b) = at_born (λ y. JoinOf born' (m f) (m g) k l a (slot y 0) (slot (m g) (suc u))) u (at_g n e b)
+    join_to p q (at_f {p = u} n e b) = at_born
+        (λ y. JoinOf born' (m f) (m g) k l a (slot y 0) (slot (m f) (suc u))) (arity l + u) (at_f n e b)
+    join_to p q (at_g {q = u} n e b) = at_born
+        (λ y. JoinOf born' (m f) (m g) k l a (slot y 0) (slot (m g) (suc u))) u (at_g n e b)
     join_to p q (between {p = u} {q = v} n e b b') =
         at_born (λ y. JoinOf born' (m f) (m g) k l a (slot y (suc u)) (slot (m (born (arity l + u))) (suc v))) v
-        (at_born (λ y. JoinOf born' (m f) (m g) k l a (slot (born' v) (suc u)) (slot y (suc v))) (arity l + u) (between n e b b'))
+        (at_born (λ y. JoinOf born' (m f) (m g) k l a (slot (born' v) (suc u)) (slot y (suc v)))
+        (arity l + u) (between n e b b'))
 
     -- an edge has real ends
     record Ends (p q : NamedPort A) : Type 0 where
@@ -182,7 +207,8 @@ module _ {A B : Type 0} (m : A → B) (N : NamedNet A) (M : NamedNet B) (r : IsR
       second : Real q
 
     edge_ends : (p q : NamedPort A) → E p q → Ends p q
-    edge_ends p q (inl h) = let c = is_net.of_ports p q (some p q h.0) in record { first = real_port p c.0; second = real_port q c.1 }
+    edge_ends p q (inl h) = let c = is_net.of_ports p q (some p q h.0) in
+        record { first = real_port p c.0; second = real_port q c.1 }
     edge_ends p q (inr h) = go p q h.0
       where
         go : (p q : NamedPort A) → JoinOf born f g k l a p q → Ends p q
@@ -194,7 +220,11 @@ module _ {A B : Type 0} (m : A → B) (N : NamedNet A) (M : NamedNet B) (r : IsR
     edge_to : (p q : NamedPort A) → E p q → E' (port_under m p) (port_under m q)
     edge_to p q (inl h) =
         let c = is_net.of_ports p q (some p q h.0) in
-        inl (some_to p q h.0, (λ z. h.1 (principal_of p (real_port p c.0) z)), (λ z. h.2 (principal_of q (real_port q c.1) z)))
+        inl (
+          some_to p q h.0,
+          (λ z. h.1 (principal_of p (real_port p c.0) z)),
+          (λ z. h.2 (principal_of q (real_port q c.1) z)),
+        )
     edge_to p q (inr h) = inr (join_to p q h.0, h.1)
 
     -- an edge under the other names comes from one
@@ -213,14 +243,38 @@ module _ {A B : Type 0} (m : A → B) (N : NamedNet A) (M : NamedNet B) (r : IsR
           to = t.1;
           from_is = t.3;
           to_is = t.4;
-          edge = inl (t.2, (λ z. h.1 (subst (λ P. IsPrincipalOf (m f) (m g) P) (sym t.3) (principal_to t.0 z))), (λ z. h.2 (subst (λ P. IsPrincipalOf (m f) (m g) P) (sym t.4) (principal_to t.1 z))));
+          edge = inl (
+            t.2,
+            (λ z. h.1 (subst (λ P. IsPrincipalOf (m f) (m g) P) (sym t.3)
+                (principal_to t.0 z))),
+            (λ z. h.2 (subst (λ P. IsPrincipalOf (m f) (m g) P) (sym t.4)
+                (principal_to t.1 z))),
+          );
         }
     lift P Q (inr h) = go P Q h.1 h.0
       where
         go : (P Q : NamedPort B) → Count → JoinOf born' (m f) (m g) k l a P Q → Lifted P Q
-        go P Q c (meet {s = s} e b) = record { from = slot f (suc s); to = slot g (suc s); edge = inr (meet e b, c); from_is = refl; to_is = refl }
-        go P Q c (at_f {p = u} n e b) = record { from = slot (born (arity l + u)) 0; to = slot f (suc u); edge = inr (at_f n e b, c); from_is = ap (λ y. slot y 0) (sym (births (arity l + u))); to_is = refl }
-        go P Q c (at_g {q = u} n e b) = record { from = slot (born u) 0; to = slot g (suc u); edge = inr (at_g n e b, c); from_is = ap (λ y. slot y 0) (sym (births u)); to_is = refl }
+        go P Q c (meet {s = s} e b) = record {
+          from = slot f (suc s);
+          to = slot g (suc s);
+          edge = inr (meet e b, c);
+          from_is = refl;
+          to_is = refl;
+        }
+        go P Q c (at_f {p = u} n e b) = record {
+          from = slot (born (arity l + u)) 0;
+          to = slot f (suc u);
+          edge = inr (at_f n e b, c);
+          from_is = ap (λ y. slot y 0) (sym (births (arity l + u)));
+          to_is = refl;
+        }
+        go P Q c (at_g {q = u} n e b) = record {
+          from = slot (born u) 0;
+          to = slot g (suc u);
+          edge = inr (at_g n e b, c);
+          from_is = ap (λ y. slot y 0) (sym (births u));
+          to_is = refl;
+        }
         go P Q c (between {p = u} {q = v} n e b b') = record {
           from = slot (born v) (suc u);
           to = slot (born (arity l + u)) (suc v);
@@ -239,10 +293,18 @@ module _ {A B : Type 0} (m : A → B) (N : NamedNet A) (M : NamedNet B) (r : IsR
     follows : Follows E' E NamedBy
     unfolding NamedBy
     follows = record {
-      forth = λ P Q w e h. let t = lift P Q e in let c = edge_ends t.from t.to t.edge in
-          (t.from, (c.first, t.from_is), subst (λ z. Joined E t.from z) (named_one Q t.to w (c.second, t.to_is) h) (on here t.edge));
-      back' = λ P Q w e h. let t = lift P Q e in let c = edge_ends t.from t.to t.edge in
-          (t.to, (c.second, t.to_is), subst (λ z. Joined E t.to z) (named_one P t.from w (c.first, t.from_is) h) (back here t.edge));
+      forth = λ P Q w e h. let t = lift P Q e in let c = edge_ends t.from t.to t.edge in (
+        t.from,
+        (c.first, t.from_is),
+        subst (λ z. Joined E t.from z)
+            (named_one Q t.to w (c.second, t.to_is) h) (on here t.edge),
+      );
+      back' = λ P Q w e h. let t = lift P Q e in let c = edge_ends t.from t.to t.edge in (
+        t.to,
+        (c.second, t.to_is),
+        subst (λ z. Joined E t.to z)
+            (named_one P t.from w (c.first, t.from_is) h) (back here t.edge),
+      );
     }
 
     real_end : (p q : NamedPort A) → Joined E p q → p ≢ q → Real p
@@ -260,7 +322,8 @@ module _ {A B : Type 0} (m : A → B) (N : NamedNet A) (M : NamedNet B) (r : IsR
         go Z (inl e) = let t = lift P Z e in (t.from, ((edge_ends t.from t.to t.edge).first, t.from_is))
         go Z (inr e) = let t = lift Z P e in (t.to, ((edge_ends t.from t.to t.edge).second, t.to_is))
 
-    pub contracted_to : (p q : NamedPort A) → Contracted E (IsSlotOf f g) p q → Contracted E' (IsSlotOf (m f) (m g)) (port_under m p) (port_under m q)
+    pub contracted_to : (p q : NamedPort A) → Contracted E (IsSlotOf f g) p q →
+        Contracted E' (IsSlotOf (m f) (m g)) (port_under m p) (port_under m q)
     contracted_to p q c =
         let u = real_end p q c.joined c.apart in
         let v = real_end q p (joined_sym c.joined) (λ e. c.apart (sym e)) in
@@ -271,7 +334,9 @@ module _ {A B : Type 0} (m : A → B) (N : NamedNet A) (M : NamedNet B) (r : IsR
           joined = joined_image (port_under m) (λ p q e. on here (edge_to p q e)) c.joined;
         }
 
-    pub contracted_from : (P Q : NamedPort B) → Contracted E' (IsSlotOf (m f) (m g)) P Q → (p : NamedPort A) × (q : NamedPort A) × Contracted E (IsSlotOf f g) p q × (P ≡ port_under m p) × (Q ≡ port_under m q)
+    pub contracted_from : (P Q : NamedPort B) → Contracted E' (IsSlotOf (m f) (m g)) P Q →
+        (p : NamedPort A) × (q : NamedPort A) × Contracted E (IsSlotOf f g) p q
+        × (P ≡ port_under m p) × (Q ≡ port_under m q)
     unfolding NamedBy
     contracted_from P Q c =
         let u = named_end P Q c.joined c.apart in
@@ -296,32 +361,49 @@ module _ {A B : Type 0} (m : A → B) (N : NamedNet A) (M : NamedNet B) (r : IsR
   abbrev All' : NamedPort B → NamedPort B → Type 0
   All' = Edge (Linked M) (IsPrincipalOf (m f) (m g)) (JoinOf born' (m f) (m g) k l a)
 
-  counted : {V : Type 0} (L J : V → V → Type 0) (P : V → Type 0) (u v : V) → Edge L P J u v → Edge L P (λ p q. J p q × Unit {0}) u v
+  counted : {V : Type 0} (L J : V → V → Type 0) (P : V → Type 0) (u v : V) → Edge L P J u v →
+      Edge L P (λ p q. J p q × Unit {0}) u v
   counted L J P u v (inl h) = inl h
   counted L J P u v (inr h) = inr (h, tt)
 
-  uncounted : {V : Type 0} (L J : V → V → Type 0) (P : V → Type 0) (u v : V) → Edge L P (λ p q. J p q × Unit {0}) u v → Edge L P J u v
+  uncounted : {V : Type 0} (L J : V → V → Type 0) (P : V → Type 0) (u v : V) →
+      Edge L P (λ p q. J p q × Unit {0}) u v → Edge L P J u v
   uncounted L J P u v (inl h) = inl h
   uncounted L J P u v (inr h) = inr h.0
 
-  to_all : (p q : NamedPort A) → Contracted All (IsSlotOf f g) p q → Contracted All' (IsSlotOf (m f) (m g)) (port_under m p) (port_under m q)
-  to_all p q c = contracted_map (uncounted (Linked M) (JoinOf born' (m f) (m g) k l a) (IsPrincipalOf (m f) (m g))) (λ u e s. s) (port_under m p) (port_under m q)
-      (contracted_to (Linked N) (Linked M) (λ p q h. h) r.links_to r.links_from (Unit {0}) p q (contracted_map (counted (Linked N) (JoinOf born f g k l a) (IsPrincipalOf f g)) (λ u e s. s) p q c))
+  to_all : (p q : NamedPort A) → Contracted All (IsSlotOf f g) p q →
+      Contracted All' (IsSlotOf (m f) (m g)) (port_under m p) (port_under m q)
+  to_all p q c = contracted_map (uncounted (Linked M) (JoinOf born' (m f) (m g) k l a)
+      (IsPrincipalOf (m f) (m g))) (λ u e s. s) (port_under m p) (port_under m q)
+      (contracted_to (Linked N) (Linked M) (λ p q h. h) r.links_to r.links_from (Unit {0}) p q
+      (contracted_map (counted (Linked N) (JoinOf born f g k l a) (IsPrincipalOf f g)) (λ u e s. s) p q c))
 
-  from_all : (P Q : NamedPort B) → Contracted All' (IsSlotOf (m f) (m g)) P Q → (p : NamedPort A) × (q : NamedPort A) × Contracted All (IsSlotOf f g) p q × (P ≡ port_under m p) × (Q ≡ port_under m q)
+  from_all : (P Q : NamedPort B) → Contracted All' (IsSlotOf (m f) (m g)) P Q →
+      (p : NamedPort A) × (q : NamedPort A) × Contracted All (IsSlotOf f g) p q
+      × (P ≡ port_under m p) × (Q ≡ port_under m q)
   from_all P Q c =
-      let t = contracted_from (Linked N) (Linked M) (λ p q h. h) r.links_to r.links_from (Unit {0}) P Q (contracted_map (counted (Linked M) (JoinOf born' (m f) (m g) k l a) (IsPrincipalOf (m f) (m g))) (λ u e s. s) P Q c) in
-      (t.0, t.1, contracted_map (uncounted (Linked N) (JoinOf born f g k l a) (IsPrincipalOf f g)) (λ u e s. s) t.0 t.1 t.2, t.3, t.4)
+      let t = contracted_from (Linked N) (Linked M) (λ p q h. h) r.links_to r.links_from
+      (Unit {0}) P Q (contracted_map (counted (Linked M) (JoinOf born' (m f) (m g) k l a)
+      (IsPrincipalOf (m f) (m g))) (λ u e s. s) P Q c) in (
+        t.0,
+        t.1,
+        contracted_map (uncounted (Linked N) (JoinOf born f g k l a) (IsPrincipalOf f g))
+            (λ u e s. s) t.0 t.1 t.2,
+        t.3,
+        t.4,
+      )
 
   -- After a step of each, the one is the other under other names.
-  pub renamed : (N' : NamedNet A) (M' : NamedNet B) → Rewrites born N f g k i l a N' → Rewrites born' M (m f) (m g) k i l a M' → IsRenamed m N' M'
+  pub renamed : (N' : NamedNet A) (M' : NamedNet B) → Rewrites born N f g k i l a N' →
+      Rewrites born' M (m f) (m g) k i l a M' → IsRenamed m N' M'
   renamed N' M' s s' = record {
     free_ports = s'.free_ports ∙ r.free_ports ∙ sym s.free_ports;
     nodes_to = λ x k' i' h. (s'.nodes (m x) k' i').1 (node_to x k' i' ((s.nodes x k' i').0 h));
     nodes_from = λ y k' i' h. node_from y k' i' ((s'.nodes y k' i').0 h);
     links_to = λ p q h. (s'.links (port_under m p) (port_under m q)).1 (to_all p q ((s.links p q).0 h));
     links_from = λ P Q h. let t = from_all P Q ((s'.links P Q).0 h) in (t.0, t.1, (s.links t.0 t.1).1 t.2, t.3, t.4);
-    apart = λ x y k' l' i' j' h h' e. one_name x y (live x k' i' ((s.nodes x k' i').0 h)) (live y l' j' ((s.nodes y l' j').0 h')) e;
+    apart = λ x y k' l' i' j' h h' e. one_name x y (live x k' i' ((s.nodes x k' i').0 h))
+        (live y l' j' ((s.nodes y l' j').0 h')) e;
   }
     where
       live : (x : A) (k' : Kind) (i' : ℕ) → NodeOf N born f g k i l a x k' i' → Live x
@@ -329,14 +411,22 @@ module _ {A B : Type 0} (m : A → B) (N : NamedNet A) (M : NamedNet B) (r : IsR
       live x k' i' (of_f {q = q} n e b) = inr (q, refl)
       live x k' i' (of_g {p = p} n e b) = inr (arity l + p, refl)
 
-      node_to : (x : A) (k' : Kind) (i' : ℕ) → NodeOf N born f g k i l a x k' i' → NodeOf M born' (m f) (m g) k i l a (m x) k' i'
-      node_to x k' i' (left h y z) = left (r.nodes_to x k' i' h) (λ e. y (r.apart x f k' k i' i h faces.first e)) (λ e. z (r.apart x g k' l i' j h faces.second e))
+      node_to : (x : A) (k' : Kind) (i' : ℕ) → NodeOf N born f g k i l a x k' i' →
+          NodeOf M born' (m f) (m g) k i l a (m x) k' i'
+      node_to x k' i' (left h y z) = left (r.nodes_to x k' i' h)
+          (λ e. y (r.apart x f k' k i' i h faces.first e)) (λ e. z (r.apart x g k' l i' j h faces.second e))
       node_to x k' i' (of_f {q = q} n e b) = at_born (λ y. NodeOf M born' (m f) (m g) k i l a y k i) q (of_f n e b)
-      node_to x k' i' (of_g {p = p} n e b) = at_born (λ y. NodeOf M born' (m f) (m g) k i l a y l n) (arity l + p) (of_g n e b)
+      node_to x k' i' (of_g {p = p} n e b) = at_born (λ y. NodeOf M born' (m f) (m g) k i l a y l n)
+          (arity l + p) (of_g n e b)
 
-      node_from : (y : B) (k' : Kind) (i' : ℕ) → NodeOf M born' (m f) (m g) k i l a y k' i' → (x : A) × HasNode N' x k' i' × (y ≡ m x)
+      node_from : (y : B) (k' : Kind) (i' : ℕ) → NodeOf M born' (m f) (m g) k i l a y k' i' →
+          (x : A) × HasNode N' x k' i' × (y ≡ m x)
       node_from y k' i' (left h u v) =
           let t = r.nodes_from y k' i' h in
           (t.0, (s.nodes t.0 k' i').1 (left t.1 (λ e. u (t.2 ∙ ap m e)) (λ e. v (t.2 ∙ ap m e))), t.2)
       node_from y k' i' (of_f {q = q} n e b) = (born q, (s.nodes (born q) k i).1 (of_f n e b), sym (births q))
-      node_from y k' i' (of_g {p = p} n e b) = (born (arity l + p), (s.nodes (born (arity l + p)) l n).1 (of_g n e b), sym (births (arity l + p)))
+      node_from y k' i' (of_g {p = p} n e b) = (
+        born (arity l + p),
+        (s.nodes (born (arity l + p)) l n).1 (of_g n e b),
+        sym (births (arity l + p)),
+      )

@@ -5,7 +5,8 @@ use Rattle.ol_edges.proofs.Joining.{joined_sym, joined_map}
 use Rattle.ol_edges.proofs.Composing.{HasEdge, edge_of_apart, contracted_map, contracted_twice}
 
 -- the edges left without those at P or P', and both places' joins
-abbrev pub Edge2 : {V : Type 0} → (V → V → Type 0) → (V → Type 0) → (V → Type 0) → (V → V → Type 0) → (V → V → Type 0) → V → V → Type 0
+abbrev pub Edge2 : {V : Type 0} → (V → V → Type 0) → (V → Type 0) → (V → Type 0) →
+    (V → V → Type 0) → (V → V → Type 0) → V → V → Type 0
 Edge2 E P P' J J' u v = ((E u v × ((P u → ⊥) × (P v → ⊥)) × ((P' u → ⊥) × (P' v → ⊥))) ⊎ J u v) ⊎ J' u v
 
 -- joins that end at no port of P, nor at one of G
@@ -14,7 +15,8 @@ pub record Clear {V : Type 0} (J : V → V → Type 0) (P G : V → Type 0) : Ty
   pub second : (u v : V) → J u v → (P v → ⊥) × (G v → ⊥)
 
 -- the second place (of P' and J') after the first (of P, G and J), whose edges are left
-module _ {V : Type 0} (decide : (u v : V) → (u ≡ v) ⊎ (u ≢ v)) (E E' : V → V → Type 0) (P P' G G' : V → Type 0) (J J' : V → V → Type 0)
+module _ {V : Type 0} (decide : (u v : V) → (u ≡ v) ⊎ (u ≢ v)) (E E' : V → V → Type 0)
+    (P P' G G' : V → Type 0) (J J' : V → V → Type 0)
     (left : (u v : V) → E' u v ↔ Contracted (Edge E P J) G u v)
     (inside' : (u : V) → P' u → G' u)
     (clear : Clear J P G') (clear' : Clear J' P' G)
@@ -58,7 +60,8 @@ module _ {V : Type 0} (decide : (u v : V) → (u ≡ v) ⊎ (u ≢ v)) (E E' : V
 
   -- the edges that the second step finds
   to_later : (u v : V) → Edge E' P' J' u v → Later u v
-  to_later u v (inl t) = let c = (left u v).0 t.0 in inl (record { first = c.first; second = c.second; apart = c.apart; joined = (keep t.1 c.joined).1 })
+  to_later u v (inl t) = let c = (left u v).0 t.0 in
+      inl (record { first = c.first; second = c.second; apart = c.apart; joined = (keep t.1 c.joined).1 })
   to_later u v (inr h) = inr h
 
   from_later : (u v : V) → Later u v → Edge E' P' J' u v
@@ -72,7 +75,8 @@ module _ {V : Type 0} (decide : (u v : V) → (u ≡ v) ⊎ (u ≢ v)) (E E' : V
   -- what is left after both, in no order
   pub left_after : (u v : V) → Contracted (Edge E' P' J') G' u v ↔ Contracted (Edge2 E P P' J J') (λ u. G u ⊎ G' u) u v
   left_after u v =
-      let t = contracted_twice decide Alone J' G G' (λ u v h. (clear'.first u v h).1) (λ u v h. (clear'.second u v h).1) u v in (
+      let t = contracted_twice decide Alone J' G G' (λ u v h. (clear'.first u v h).1)
+      (λ u v h. (clear'.second u v h).1) u v in (
         (λ c. t.0 (contracted_map to_later (λ u h g. g) u v c)),
         (λ c. contracted_map from_later (λ u h g. g) u v (t.1 c)),
       )

@@ -7,5 +7,13 @@ use Rattle.ol_diamond.specs.OneThread.{RunFromSame}
 
 pub run_from_same : RunFromSame
 run_from_same M N P ticket [] same IsRun.end = (N, IsRun.end, same)
-run_from_same M N P ticket (e ∷ es) same (IsRun.then {M = Q} step run) =
-    (P, IsRun.then (record { f = step.f; g = step.g; named = step.named; step = step_same M N same _ step.f step.g e.rule Q step.step }) run, same_refl P)
+run_from_same M N P ticket (e ∷ es) same (IsRun.then {M = Q} step run) = (
+  P,
+  IsRun.then (record {
+    f = step.f;
+    g = step.g;
+    named = step.named;
+    step = step_same M N same _ step.f step.g e.rule Q step.step;
+  }) run,
+  same_refl P,
+)

@@ -5,7 +5,8 @@ use Rattle.ol_net.specs.declared.parts.Rule.{Rule}
 use Rattle.ol_net.specs.Parts.{arity}
 use Rattle.ol_net.specs.Rules.{rule_of}
 use Rattle.ol_net.specs.Nets.{NamedPort, slot}
-use Rattle.ol_rules.specs.Rewriting.{Action, meeting, crossing, is_meeting, action_of, JoinOf, meet, at_f, at_g, between}
+use Rattle.ol_rules.specs.Rewriting.{Action, meeting, crossing, is_meeting, action_of, JoinOf, meet}
+use Rattle.ol_rules.specs.Rewriting.{at_f, at_g, between}
 use Rattle.ol_rules.proofs.BothWays.{BothWays, both_ways, IsPlain}
 
 module _ {A : Type 0} (f g : A) (k l : Kind) (a a' : Action) (born born' : ℕ → A) (plain : IsPlain a a' k l) where
@@ -27,7 +28,8 @@ module _ {A : Type 0} (f g : A) (k l : Kind) (a a' : Action) (born born' : ℕ �
   turn_join u v (at_g n e b) = let z = (no_ports n e).1 in absurd (omega arith)
   turn_join u v (between n e b b') = let z = (no_ports n e).0 in absurd (omega arith)
 
-pub plain_of : (k l : Kind) (i j : ℕ) (r s : Rule) → rule_of k i l j ≡ Some r → rule_of l j k i ≡ Some s → IsPlain (action_of r j) (action_of s i) k l
+pub plain_of : (k l : Kind) (i j : ℕ) (r s : Rule) → rule_of k i l j ≡ Some r →
+    rule_of l j k i ≡ Some s → IsPlain (action_of r j) (action_of s i) k l
 plain_of k l i j r s e e' = go (both_ways k l i j r s e e')
   where
     acts : (r : Rule) (n : ℕ) → is_meeting r ≡ true → action_of r n ≡ meeting

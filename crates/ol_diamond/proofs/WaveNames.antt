@@ -16,13 +16,16 @@ use Rattle.ol_diamond.proofs.Weighted.{State, StepsBy, LeftBy}
 module _ {A : Type 0} (m : A → BirthName) where
   -- what links within n join, under these names
   abbrev pub Image : WeightedNet A → ℕ → NamedPort BirthName → NamedPort BirthName → Type 0
-  Image N n U V = (p : NamedPort A) × (q : NamedPort A) × LinkedWithin N n p q × (U ≡ port_under m p) × (V ≡ port_under m q)
+  Image N n U V = (p : NamedPort A) × (q : NamedPort A) × LinkedWithin N n p q
+      × (U ≡ port_under m p) × (V ≡ port_under m q)
 
   unfoldable pub image : WeightedNet A → NamedNet BirthName → State
   image N B = record { net = B; within = Image N }
 
-  module _ (names : ℕ → A) (N : WeightedNet A) (f g : A) (r : Rule) (wave : ℕ) (M : WeightedNet A) (s : IsWaveStep names N f g r wave M)
-      (net : IsNet N.net) (fresh : IsFresh N.net names) (B : NamedNet BirthName) (birth : IsBirthNet B) (renames : IsRenamed m N.net B)
+  module _ (names : ℕ → A) (N : WeightedNet A) (f g : A) (r : Rule) (wave : ℕ) (M : WeightedNet A)
+      (s : IsWaveStep names N f g r wave M)
+      (net : IsNet N.net) (fresh : IsFresh N.net names) (B : NamedNet BirthName)
+      (birth : IsBirthNet B) (renames : IsRenamed m N.net B)
       (births : (n : ℕ) → m (names n) ≡ born (m f) (m g) n) where
     abbrev pub k : Kind
     k = s.step.active.k
@@ -50,7 +53,8 @@ module _ {A : Type 0} (m : A → BirthName) where
     }
 
     fresh' : IsFresh B (born (m f) (m g))
-    fresh' = fresh_of B birth (m f) (m g) k l i j (renames.nodes_to f k i s.step.active.faces.first) (renames.nodes_to g l j s.step.active.faces.second)
+    fresh' = fresh_of B birth (m f) (m g) k l i j (renames.nodes_to f k i s.step.active.faces.first)
+        (renames.nodes_to g l j s.step.active.faces.second)
 
     -- the step under the names
     pub record Named : Type 1 where
@@ -59,23 +63,38 @@ module _ {A : Type 0} (m : A → BirthName) where
       pub renames_after : IsRenamed m M.net after
       pub waved : StepsBy (image N B) (pair, wave) (image M after)
 
-    one : (p q : NamedPort A) → Linked N.net p q → port_under m p ≡ slot (m f) 0 → port_under m q ≡ slot (m g) 0 → (p ≡ slot f 0) × (q ≡ slot g 0)
+    one : (p q : NamedPort A) → Linked N.net p q → port_under m p ≡ slot (m f) 0 →
+        port_under m q ≡ slot (m g) 0 → (p ≡ slot f 0) × (q ≡ slot g 0)
     one p q h eu ev =
         let c = net.of_ports p q h in
         let d = net.of_ports (slot f 0) (slot g 0) s.step.active.faces.linked in (
-          one_port m N.net B renames net f g k i l j a s.step.active.faces names (born (m f) (m g)) fresh fresh' births p (slot f 0) (real_port m N.net B renames net f g k i l j a s.step.active.faces names (born (m f) (m g)) fresh fresh' births p c.0) (real_port m N.net B renames net f g k i l j a s.step.active.faces names (born (m f) (m g)) fresh fresh' births (slot f 0) d.0) eu,
-          one_port m N.net B renames net f g k i l j a s.step.active.faces names (born (m f) (m g)) fresh fresh' births q (slot g 0) (real_port m N.net B renames net f g k i l j a s.step.active.faces names (born (m f) (m g)) fresh fresh' births q c.1) (real_port m N.net B renames net f g k i l j a s.step.active.faces names (born (m f) (m g)) fresh fresh' births (slot g 0) d.1) ev,
+          one_port m N.net B renames net f g k i l j a s.step.active.faces names
+              (born (m f) (m g)) fresh fresh' births p (slot f 0)
+              (real_port m N.net B renames net f g k i l j a s.step.active.faces names
+              (born (m f) (m g)) fresh fresh' births p c.0)
+              (real_port m N.net B renames net f g k i l j a s.step.active.faces names
+              (born (m f) (m g)) fresh fresh' births (slot f 0) d.0) eu,
+          one_port m N.net B renames net f g k i l j a s.step.active.faces names
+              (born (m f) (m g)) fresh fresh' births q (slot g 0)
+              (real_port m N.net B renames net f g k i l j a s.step.active.faces names
+              (born (m f) (m g)) fresh fresh' births q c.1)
+              (real_port m N.net B renames net f g k i l j a s.step.active.faces names
+              (born (m f) (m g)) fresh fresh' births (slot g 0) d.1) ev,
         )
 
     to : (n : ℕ) (U V : NamedPort BirthName) → Image M n U V → LeftBy (Image N) pair k l j wave n U V
     to n U V (p, q, h, eu, ev) =
-        let c = contracted_to m N.net B renames net f g k i l j a s.step.active.faces names (born (m f) (m g)) fresh fresh' births
-        (LinkedWithin N n) (Image N n) (λ p q h. h.0) (λ p q h. (p, q, h, refl, refl)) (λ P Q h. h) (wave ≤ n) p q ((s.weights n p q).0 h) in
-        subst (λ U. LeftBy (Image N) pair k l j wave n U V) (sym eu) (subst (λ V. LeftBy (Image N) pair k l j wave n (port_under m p) V) (sym ev) c)
+        let c = contracted_to m N.net B renames net f g k i l j a s.step.active.faces names
+        (born (m f) (m g)) fresh fresh' births
+        (LinkedWithin N n) (Image N n) (λ p q h. h.0) (λ p q h. (p, q, h, refl, refl)) (λ P Q h. h)
+        (wave ≤ n) p q ((s.weights n p q).0 h) in
+        subst (λ U. LeftBy (Image N) pair k l j wave n U V) (sym eu)
+        (subst (λ V. LeftBy (Image N) pair k l j wave n (port_under m p) V) (sym ev) c)
 
     from : (n : ℕ) (U V : NamedPort BirthName) → LeftBy (Image N) pair k l j wave n U V → Image M n U V
     from n U V c =
-        let t = contracted_from m N.net B renames net f g k i l j a s.step.active.faces names (born (m f) (m g)) fresh fresh' births
+        let t = contracted_from m N.net B renames net f g k i l j a s.step.active.faces names
+        (born (m f) (m g)) fresh fresh' births
         (LinkedWithin N n) (Image N n) (λ p q h. h.0) (λ p q h. (p, q, h, refl, refl)) (λ P Q h. h) (wave ≤ n) U V c in
         (t.0, t.1, (s.weights n t.0 t.1).1 t.2, t.3, t.4)
 
@@ -91,7 +110,8 @@ module _ {A : Type 0} (m : A → BirthName) where
         record {
           after = t.after;
           step = t.step;
-          renames_after = renamed m N.net B renames net f g k i l j a s.step.active.faces names (born (m f) (m g)) fresh fresh' births M.net t.after s.step.rewrites t.rewrites;
+          renames_after = renamed m N.net B renames net f g k i l j a s.step.active.faces names
+              (born (m f) (m g)) fresh fresh' births M.net t.after s.step.rewrites t.rewrites;
           waved = record {
             k = k;
             i = i;

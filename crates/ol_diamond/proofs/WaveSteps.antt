@@ -1,5 +1,6 @@
 -- Each step of a net with weights has a wave, and leaves weights.
-use Rattle.std.proofs.Common.{◌≡◌, ℕ, suc, ◌+◌, ◌≤◌, max, List, [], ◌∷◌, ◌++◌, map, filter, Option, Some, None, Bool, ◌⊎◌, ◌↔◌, inl, inr, refl, sym, subst, arith}
+use Rattle.std.proofs.Common.{◌≡◌, ℕ, suc, ◌+◌, ◌≤◌, max, List, [], ◌∷◌, ◌++◌, map, filter, Option}
+use Rattle.std.proofs.Common.{Some, None, Bool, ◌⊎◌, ◌↔◌, inl, inr, refl, sym, subst, arith}
 use Rattle.ol_edges.specs.Edges.{IsIn, IsTest, Joined, here, on, back, Edge, Contracted}
 use Rattle.ol_edges.proofs.Contraction.{is_or_is_not}
 use Rattle.ol_edges.proofs.Joining.{joined_map}
@@ -60,12 +61,15 @@ module _ {A : Type 0} (names : ℕ → A) (f g : A) (k l : Kind) where
 
   in_joins : (a : Action) (u v : NamedPort A) → JoinOf names f g k l a u v → IsIn (u, v) (joins a)
   unfolding joins at_f_row at_g_row between_row meet_row betweens
-  in_joins a u v (meet {s = s} e b) = subst (λ a. IsIn (u, v) (joins a)) (sym e) (in_each (u, v) (arity k) meet_row s b (inl refl))
+  in_joins a u v (meet {s = s} e b) = subst (λ a. IsIn (u, v) (joins a)) (sym e)
+      (in_each (u, v) (arity k) meet_row s b (inl refl))
   in_joins a u v (at_f {p = p} j e b) = subst (λ a. IsIn (u, v) (joins a)) (sym e)
-      (in_left (u, v) (each (arity k) at_f_row) (each (arity l) at_g_row ++ each (arity k) betweens) (in_each (u, v) (arity k) at_f_row p b (inl refl)))
+      (in_left (u, v) (each (arity k) at_f_row) (each (arity l) at_g_row ++ each (arity k) betweens)
+      (in_each (u, v) (arity k) at_f_row p b (inl refl)))
   in_joins a u v (at_g {q = q} j e b) = subst (λ a. IsIn (u, v) (joins a)) (sym e)
       (in_right (u, v) (each (arity k) at_f_row) (each (arity l) at_g_row ++ each (arity k) betweens)
-      (in_left (u, v) (each (arity l) at_g_row) (each (arity k) betweens) (in_each (u, v) (arity l) at_g_row q b (inl refl))))
+      (in_left (u, v) (each (arity l) at_g_row) (each (arity k) betweens)
+      (in_each (u, v) (arity l) at_g_row q b (inl refl))))
   in_joins a u v (between {p = p} {q = q} j e b b') = subst (λ a. IsIn (u, v) (joins a)) (sym e)
       (in_right (u, v) (each (arity k) at_f_row) (each (arity l) at_g_row ++ each (arity k) betweens)
       (in_right (u, v) (each (arity l) at_g_row) (each (arity k) betweens)
@@ -79,25 +83,32 @@ module _ {A : Type 0} (names : ℕ → A) (f g : A) (k l : Kind) where
   of_joins meeting e h =
       let t = in_each_of e (arity k) meet_row h in
       subst (JoinAt meeting) (sym (only e (slot f (suc t.0), slot g (suc t.0)) t.2)) (meet refl t.1)
-  of_joins (crossing j) e h = go (in_cases e (each (arity k) at_f_row) (each (arity l) at_g_row ++ each (arity k) betweens) h)
+  of_joins (crossing j) e h = go (in_cases e (each (arity k) at_f_row)
+      (each (arity l) at_g_row ++ each (arity k) betweens) h)
     where
       last : IsIn e (each (arity k) betweens) → JoinAt (crossing j) e
       last h =
           let t = in_each_of e (arity k) betweens h in
           let s = in_each_of e (arity l) (between_row t.0) t.2 in
-          subst (JoinAt (crossing j)) (sym (only e (slot (names s.0) (suc t.0), slot (names (arity l + t.0)) (suc s.0)) s.2)) (between j refl t.1 s.1)
+          subst (JoinAt (crossing j)) (sym (only e
+          (slot (names s.0) (suc t.0), slot (names (arity l + t.0)) (suc s.0)) s.2)) (between j refl t.1 s.1)
 
       rest : IsIn e (each (arity l) at_g_row) ⊎ IsIn e (each (arity k) betweens) → JoinAt (crossing j) e
-      rest (inl h) = let t = in_each_of e (arity l) at_g_row h in subst (JoinAt (crossing j)) (sym (only e (slot (names t.0) 0, slot g (suc t.0)) t.2)) (at_g j refl t.1)
+      rest (inl h) = let t = in_each_of e (arity l) at_g_row h in
+          subst (JoinAt (crossing j)) (sym (only e (slot (names t.0) 0, slot g (suc t.0)) t.2)) (at_g j refl t.1)
       rest (inr h) = last h
 
-      go : IsIn e (each (arity k) at_f_row) ⊎ IsIn e (each (arity l) at_g_row ++ each (arity k) betweens) → JoinAt (crossing j) e
-      go (inl h) = let t = in_each_of e (arity k) at_f_row h in subst (JoinAt (crossing j)) (sym (only e (slot (names (arity l + t.0)) 0, slot f (suc t.0)) t.2)) (at_f j refl t.1)
+      go : IsIn e (each (arity k) at_f_row)
+          ⊎ IsIn e (each (arity l) at_g_row ++ each (arity k) betweens) → JoinAt (crossing j) e
+      go (inl h) = let t = in_each_of e (arity k) at_f_row h in
+          subst (JoinAt (crossing j)) (sym (only e
+          (slot (names (arity l + t.0)) 0, slot f (suc t.0)) t.2)) (at_f j refl t.1)
       go (inr h) = rest (in_cases e (each (arity l) at_g_row) (each (arity k) betweens) h)
 
 -- ---- the edges of a step, listed with their weights
 
-module _ {A : Type 0} (same : A → A → Bool) (test : IsTest same) (names : ℕ → A) (N : WeightedNet A) (f g : A) (k l : Kind) (a : Action) (wave : ℕ) where
+module _ {A : Type 0} (same : A → A → Bool) (test : IsTest same) (names : ℕ → A) (N : WeightedNet A)
+    (f g : A) (k l : Kind) (a : Action) (wave : ℕ) where
   abbrev Port : Type 0
   Port = NamedPort A
 
@@ -106,9 +117,11 @@ module _ {A : Type 0} (same : A → A → Bool) (test : IsTest same) (names : �
   Stays e = (IsPrincipalOf f g e.0 → ⊥) × (IsPrincipalOf f g e.1 → ⊥)
 
   principal_is : (u : Port) → IsPrincipalOf f g u ⊎ (IsPrincipalOf f g u → ⊥)
-  principal_is u = go (is_or_is_not (port_same same) (port_test same test) (slot f 0) u) (is_or_is_not (port_same same) (port_test same test) (slot g 0) u)
+  principal_is u = go (is_or_is_not (port_same same) (port_test same test) (slot f 0) u)
+      (is_or_is_not (port_same same) (port_test same test) (slot g 0) u)
     where
-      go : (u ≡ slot f 0) ⊎ (u ≡ slot f 0 → ⊥) → (u ≡ slot g 0) ⊎ (u ≡ slot g 0 → ⊥) → IsPrincipalOf f g u ⊎ (IsPrincipalOf f g u → ⊥)
+      go : (u ≡ slot f 0) ⊎ (u ≡ slot f 0 → ⊥) → (u ≡ slot g 0) ⊎ (u ≡ slot g 0 → ⊥) →
+          IsPrincipalOf f g u ⊎ (IsPrincipalOf f g u → ⊥)
       go (inl e) y = inl (inl e)
       go (inr n) (inl e) = inl (inr e)
       go (inr n) (inr m) = inr (neither n m)
@@ -120,7 +133,8 @@ module _ {A : Type 0} (same : A → A → Bool) (test : IsTest same) (names : �
   stays : (e : Port × Port) → Stays e ⊎ (Stays e → ⊥)
   stays e = go (principal_is e.0) (principal_is e.1)
     where
-      go : IsPrincipalOf f g e.0 ⊎ (IsPrincipalOf f g e.0 → ⊥) → IsPrincipalOf f g e.1 ⊎ (IsPrincipalOf f g e.1 → ⊥) → Stays e ⊎ (Stays e → ⊥)
+      go : IsPrincipalOf f g e.0 ⊎ (IsPrincipalOf f g e.0 → ⊥) →
+          IsPrincipalOf f g e.1 ⊎ (IsPrincipalOf f g e.1 → ⊥) → Stays e ⊎ (Stays e → ⊥)
       go (inl h) y = inr (λ s. s.0 h)
       go (inr n) (inl h) = inr (λ s. s.1 h)
       go (inr n) (inr m) = inl (n, m)
@@ -162,15 +176,24 @@ module _ {A : Type 0} (same : A → A → Bool) (test : IsTest same) (names : �
 
   to_listed : (n : ℕ) (u v : Port) → Within n u v → Listed n u v
   unfolding listed links as_join as_link as_back
-  to_listed n u v (inr h) = (wave, in_left (u, v, wave) (map as_join (joins names f g k l a)) links (in_map as_join (u, v) (joins names f g k l a) (in_joins names f g k l a u v h.0)), h.1)
+  to_listed n u v (inr h) = (
+    wave,
+    in_left (u, v, wave) (map as_join (joins names f g k l a)) links
+        (in_map as_join (u, v) (joins names f g k l a) (in_joins names f g k l a u v h.0)),
+    h.1,
+  )
   to_listed n u v (inl ((inl h, b), x, y)) = (
     N.weight u v,
-    in_right (u, v, N.weight u v) (map as_join (joins names f g k l a)) links (in_left (u, v, N.weight u v) (map as_link kept) (map as_back kept) (in_map as_link (u, v) kept (in_kept (u, v) h (x, y)))),
+    in_right (u, v, N.weight u v) (map as_join (joins names f g k l a)) links
+        (in_left (u, v, N.weight u v) (map as_link kept) (map as_back kept)
+        (in_map as_link (u, v) kept (in_kept (u, v) h (x, y)))),
     b,
   )
   to_listed n u v (inl ((inr h, b), x, y)) = (
     N.weight u v,
-    in_right (u, v, N.weight u v) (map as_join (joins names f g k l a)) links (in_right (u, v, N.weight u v) (map as_link kept) (map as_back kept) (in_map as_back (v, u) kept (in_kept (v, u) h (y, x)))),
+    in_right (u, v, N.weight u v) (map as_join (joins names f g k l a)) links
+        (in_right (u, v, N.weight u v) (map as_link kept) (map as_back kept)
+        (in_map as_back (v, u) kept (in_kept (v, u) h (y, x)))),
     b,
   )
 
@@ -182,11 +205,14 @@ module _ {A : Type 0} (same : A → A → Bool) (test : IsTest same) (names : �
   of_listed n t h = go (in_cases t (map as_join (joins names f g k l a)) links h)
     where
       rest : IsIn t (map as_link kept) ⊎ IsIn t (map as_back kept) → WithinAt n t
-      rest (inl h) = let x = in_map_of as_link t kept h in let c = of_kept x.0 x.1 in subst (WithinAt n) (sym x.2) (λ b. inl ((inl c.0, b), c.1.0, c.1.1))
-      rest (inr h) = let x = in_map_of as_back t kept h in let c = of_kept x.0 x.1 in subst (WithinAt n) (sym x.2) (λ b. inl ((inr c.0, b), c.1.1, c.1.0))
+      rest (inl h) = let x = in_map_of as_link t kept h in let c = of_kept x.0 x.1 in
+          subst (WithinAt n) (sym x.2) (λ b. inl ((inl c.0, b), c.1.0, c.1.1))
+      rest (inr h) = let x = in_map_of as_back t kept h in let c = of_kept x.0 x.1 in
+          subst (WithinAt n) (sym x.2) (λ b. inl ((inr c.0, b), c.1.1, c.1.0))
 
       go : IsIn t (map as_join (joins names f g k l a)) ⊎ IsIn t links → WithinAt n t
-      go (inl h) = let x = in_map_of as_join t (joins names f g k l a) h in subst (WithinAt n) (sym x.2) (λ b. inr (of_joins names f g k l a x.0 x.1, b))
+      go (inl h) = let x = in_map_of as_join t (joins names f g k l a) h in
+          subst (WithinAt n) (sym x.2) (λ b. inr (of_joins names f g k l a x.0 x.1, b))
       go (inr h) = rest (in_cases t (map as_link kept) (map as_back kept) h)
 
   from_listed : (n : ℕ) (u v : Port) → Listed n u v → Within n u v
@@ -220,7 +246,8 @@ module _ {A : Type 0} (same : A → A → Bool) (test : IsTest same) (names : �
   weight : Port → Port → ℕ
   weight u v = number (narrowest u v)
 
-  weighs : (M : NamedNet A) → ((u v : Port) → Linked M u v ↔ Contracted Plain (IsSlotOf f g) u v) → (n : ℕ) (u v : Port) →
+  weighs : (M : NamedNet A) → ((u v : Port) → Linked M u v ↔ Contracted Plain (IsSlotOf f g) u v) →
+      (n : ℕ) (u v : Port) →
       (Linked M u v × (weight u v ≤ n)) ↔ LeftWithin names f g k l a wave (LinkedWithin N) n u v
   unfolding weight narrowest
   weighs M left n u v = (to, from)
@@ -235,13 +262,15 @@ module _ {A : Type 0} (same : A → A → Bool) (test : IsTest same) (names : �
             first = c.first;
             second = c.second;
             apart = c.apart;
-            joined = joined_map (λ u v e. on here (from_listed n u v e)) (joined_of (port_same same) (port_test same test) listed n u v y);
+            joined = joined_map (λ u v e. on here (from_listed n u v e))
+                (joined_of (port_same same) (port_test same test) listed n u v y);
           }
 
       from : LeftWithin names f g k l a wave (LinkedWithin N) n u v → Linked M u v × (weight u v ≤ n)
       from c = (
         (left u v).1 (contracted_map (plain_of n) (λ u e s. s) u v c),
-        under_number (narrowest u v) n (under_of (port_same same) (port_test same test) listed n u v (joined_map (λ u v e. on here (to_listed n u v e)) c.joined)),
+        under_number (narrowest u v) n (under_of (port_same same) (port_test same test) listed n u v
+            (joined_map (λ u v e. on here (to_listed n u v e)) c.joined)),
       )
 
 pub step_has_wave : {A : Type 0} → StepHasWave A

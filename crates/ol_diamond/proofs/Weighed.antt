@@ -1,5 +1,7 @@
 -- A journal is replayed on a net whose ports have weights: what is so before each entry, and at the end.
-use Rattle.std.proofs.Common.{◌≡◌, ℕ, zero, suc, ◌+◌, ◌*◌, ◌<◌, ◌≤◌, max, true, List, [], ◌∷◌, ◌++◌, length, length-append, take, get_or, Some, slice_get, refl, sym, ap, subst, arith}
+use Rattle.std.proofs.Common.{◌≡◌, ℕ, zero, suc, ◌+◌, ◌*◌, ◌<◌, ◌≤◌, max, true, List, [], ◌∷◌, ◌++◌}
+use Rattle.std.proofs.Common.{length, length-append, take, get_or, Some, slice_get, refl, sym, ap}
+use Rattle.std.proofs.Common.{subst, arith}
 use Rattle.ol_net.specs.Graph.{Graph}
 use Rattle.ol_net.specs.Nets.{NamedPort, free, slot, NamedNet, IsNet, net_under}
 use Rattle.ol_net.specs.Numbered.{net_of}
@@ -21,7 +23,8 @@ use Rattle.ol_diamond.proofs.WeighedPorts.{name_weight}
 use Rattle.ol_diamond.proofs.WeighedEntries.{weighted_named, names_next, index_next, sized_next, wave_entry}
 
 -- the first k entries are replayed
-pub record UnderWay (old : Graph) (journal : List Entry) (g : Graph) (bases weights waves : List ℕ) (k : ℕ) : Type 0 where
+pub record UnderWay (old : Graph) (journal : List Entry) (g : Graph) (bases weights waves : List ℕ)
+    (k : ℕ) : Type 0 where
   pub m : ℕ → NodeName
   pub named : Names (length old.nodes) (length g.nodes) k m
   pub index : Index bases (length g.nodes) k m
@@ -29,10 +32,12 @@ pub record UnderWay (old : Graph) (journal : List Entry) (g : Graph) (bases weig
   pub few : length g.nodes ≤ length old.nodes + 4 * k
   pub count : length waves ≡ k
   pub below : k ≤ length journal
-  pub run : WavedRun (weightless (net_under Init (net_of old))) 0 (take k journal) waves (weighted_named m g bases weights)
+  pub run : WavedRun (weightless (net_under Init (net_of old))) 0 (take k journal) waves
+      (weighted_named m g bases weights)
 
 -- before the first entry
-pub begins : (old : Graph) (journal : List Entry) (weights : List ℕ) → IsNet (net_of old) → length weights ≡ old.free + 3 * length old.nodes → ((k : ℕ) → get_or weights k 0 ≡ 0) →
+pub begins : (old : Graph) (journal : List Entry) (weights : List ℕ) → IsNet (net_of old) →
+    length weights ≡ old.free + 3 * length old.nodes → ((k : ℕ) → get_or weights k 0 ≡ 0) →
     UnderWay old journal old (length old.nodes ∷ []) weights [] 0
 begins old journal weights net sized zeros = record {
   m = m;
@@ -49,22 +54,28 @@ begins old journal weights net sized zeros = record {
     m = names_after Init (length old.nodes) 0
 
     nets : net_under Init (net_of old) ≡ net_under (names_after Init (length old.nodes) 0) (net_of old)
-    nets = net_alike Init (names_after Init (length old.nodes) 0) (net_of old) net (λ x k i h. sym (names_after_old Init (length old.nodes) 0 x (node_below old x k i h)))
+    nets = net_alike Init (names_after Init (length old.nodes) 0) (net_of old) net
+        (λ x k i h. sym (names_after_old Init (length old.nodes) 0 x (node_below old x k i h)))
 
     nothing : (u : NamedPort NodeName) → name_weight old.free (length old.nodes ∷ []) weights u ≡ 0
     nothing (free k) = zeros k
     nothing (slot x s) = zeros _
 
-    light : (u v : NamedPort NodeName) → 0 ≡ max (name_weight old.free (length old.nodes ∷ []) weights u) (name_weight old.free (length old.nodes ∷ []) weights v)
+    light : (u v : NamedPort NodeName) →
+        0 ≡ max (name_weight old.free (length old.nodes ∷ []) weights u)
+        (name_weight old.free (length old.nodes ∷ []) weights v)
     light u v = let a = nothing u in let b = nothing v in omega arith
 
-    start : weightless (net_under Init (net_of old)) ≡ weighted_named (names_after Init (length old.nodes) 0) old (length old.nodes ∷ []) weights
+    start : weightless (net_under Init (net_of old)) ≡ weighted_named
+        (names_after Init (length old.nodes) 0) old (length old.nodes ∷ []) weights
     start = λ i. record { net = nets i; weight = λ u v. light u v i }
 
 -- an entry of a run names the smaller name first
-ordered_at : (N M : NamedNet NodeName) (t : ℕ) (es : List Entry) (k : ℕ) (e : Entry) → IsRun N t es M → slice_get es k ≡ Some e → comes_before e.first e.second ≡ true
+ordered_at : (N M : NamedNet NodeName) (t : ℕ) (es : List Entry) (k : ℕ) (e : Entry) →
+    IsRun N t es M → slice_get es k ≡ Some e → comes_before e.first e.second ≡ true
 ordered_at N M t [] k e r h = absurd (cc)
-ordered_at N M t (d ∷ es) zero e (runs.IsRun.then s r) h = let q : d ≡ e = cc in subst (λ e. comes_before e.first e.second ≡ true) q s.named.ordered
+ordered_at N M t (d ∷ es) zero e (runs.IsRun.then s r) h = let q : d ≡ e = cc in
+    subst (λ e. comes_before e.first e.second ≡ true) q s.named.ordered
 ordered_at N M t (d ∷ es) (suc k) e (runs.IsRun.then {M = K} s r) h = ordered_at K M (suc t) es k e r h
 
 taken_more : (es : List Entry) (k : ℕ) (e : Entry) → slice_get es k ≡ Some e → take (suc k) es ≡ take k es ++ e ∷ []
@@ -94,8 +105,11 @@ there_is (d ∷ es) zero h = (d, refl)
 there_is (d ∷ es) (suc k) h = there_is es k (omega arith)
 
 -- one entry more
-pub one_more : (old : Graph) (journal : List Entry) (M : NamedNet NodeName) → IsRun (net_under Init (net_of old)) 0 journal M → (g g' : Graph) (bases bases' weights weights' waves : List ℕ) (k : ℕ) (e : Entry) (wave : ℕ) →
-    UnderWay old journal g bases weights waves k → slice_get journal k ≡ Some e → WeighsEntry g g' bases bases' weights weights' e wave →
+pub one_more : (old : Graph) (journal : List Entry) (M : NamedNet NodeName) →
+    IsRun (net_under Init (net_of old)) 0 journal M →
+    (g g' : Graph) (bases bases' weights weights' waves : List ℕ) (k : ℕ) (e : Entry) (wave : ℕ) →
+    UnderWay old journal g bases weights waves k → slice_get journal k ≡ Some e →
+    WeighsEntry g g' bases bases' weights weights' e wave →
     UnderWay old journal g' bases' weights' (waves ++ wave ∷ []) (suc k)
 one_more old journal M r g g' bases bases' weights weights' waves k e wave u h x =
     let ordered = ordered_at (net_under Init (net_of old)) M 0 journal k e r h in
@@ -106,28 +120,42 @@ one_more old journal M r g g' bases bases' weights weights' waves k e wave u h x
     let size = taken_size journal k u.below in
     record {
       m = names_after u.m (length g'.nodes) (suc k);
-      named = names_next g g' bases bases' weights weights' e wave x ordered (length old.nodes) k u.m u.named u.index u.sized;
-      index = index_next g g' bases bases' weights weights' e wave x ordered (length old.nodes) k u.m u.named u.index u.sized;
-      sized = sized_next g g' bases bases' weights weights' e wave x ordered (length old.nodes) k u.m u.named u.index u.sized;
+      named = names_next g g' bases bases' weights weights' e wave x ordered
+          (length old.nodes) k u.m u.named u.index u.sized;
+      index = index_next g g' bases bases' weights weights' e wave x ordered
+          (length old.nodes) k u.m u.named u.index u.sized;
+      sized = sized_next g g' bases bases' weights weights' e wave x ordered
+          (length old.nodes) k u.m u.named u.index u.sized;
       few = omega arith;
       count = omega (arith, length-append waves (wave ∷ []));
       below = omega arith;
-      run = subst (λ es. WavedRun (weightless (net_under Init (net_of old))) 0 es (waves ++ wave ∷ []) (weighted_named (names_after u.m (length g'.nodes) (suc k)) g' bases' weights')) (sym (taken_more journal k e h))
-          (waved_on (weightless (net_under Init (net_of old))) (weighted_named u.m g bases weights) (weighted_named (names_after u.m (length g'.nodes) (suc k)) g' bases' weights') 0 k (take k journal) waves e wave (omega arith) u.run
-          (wave_entry g g' bases bases' weights weights' e wave x ordered (length old.nodes) k u.m u.named u.index u.sized));
+      run = subst (λ es. WavedRun (weightless (net_under Init (net_of old))) 0 es
+          (waves ++ wave ∷ []) (weighted_named
+          (names_after u.m (length g'.nodes) (suc k)) g' bases' weights')) (sym (taken_more journal k e h))
+          (waved_on (weightless (net_under Init (net_of old))) (weighted_named u.m g bases weights)
+          (weighted_named (names_after u.m (length g'.nodes) (suc k)) g' bases' weights') 0 k
+          (take k journal) waves e wave (omega arith) u.run
+          (wave_entry g g' bases bases' weights weights' e wave x ordered
+          (length old.nodes) k u.m u.named u.index u.sized));
     }
 
 -- after the last entry
-pub all_told : (old : Graph) (journal : List Entry) → IsNet (net_of old) → (g : Graph) (bases weights waves : List ℕ) (k : ℕ) → UnderWay old journal g bases weights waves k → k ≡ length journal → IsWavesOf old journal waves
+pub all_told : (old : Graph) (journal : List Entry) → IsNet (net_of old) →
+    (g : Graph) (bases weights waves : List ℕ) (k : ℕ) →
+    UnderWay old journal g bases weights waves k → k ≡ length journal → IsWavesOf old journal waves
 all_told old journal net g bases weights waves k u h =
     let N = net_under Init (net_of old) in
-    let r : WavedRun (weightless N) 0 journal waves (weighted_named u.m g bases weights) = subst (λ es. WavedRun (weightless N) 0 es waves (weighted_named u.m g bases weights)) (taken_all journal k h) u.run in
+    let r : WavedRun (weightless N) 0 journal waves (weighted_named u.m g bases weights) = subst
+    (λ es. WavedRun (weightless N) 0 es waves (weighted_named u.m g bases weights)) (taken_all journal k h) u.run in
     record {
       last = net_under u.m (net_of g);
       run = run_of (weightless N) (weighted_named u.m g bases weights) 0 journal waves r;
-      waves_are = waves_of_run N (weighted_named u.m g bases weights) journal waves (start_net (net_of old) net) (start_named (net_of old)) r;
+      waves_are = waves_of_run N (weighted_named u.m g bases weights) journal waves
+          (start_net (net_of old) net) (start_named (net_of old)) r;
     }
 
 -- where fewer entries were replayed than there are, the numbers stay small
-pub few_so_far : (old : Graph) (journal : List Entry) (g : Graph) (bases weights waves : List ℕ) (k : ℕ) → UnderWay old journal g bases weights waves k → length old.nodes + 4 * length journal ≤ 2000000000 → length g.nodes ≤ 2000000000
+pub few_so_far : (old : Graph) (journal : List Entry) (g : Graph) (bases weights waves : List ℕ)
+    (k : ℕ) → UnderWay old journal g bases weights waves k →
+    length old.nodes + 4 * length journal ≤ 2000000000 → length g.nodes ≤ 2000000000
 few_so_far old journal g bases weights waves k u h = let f = u.few in let b = u.below in omega arith

@@ -1,4 +1,5 @@
--- Strong confluence (Lafont, Interaction Nets, 1990): over birth names a step depends on its pair alone, and so the order of
+-- Strong confluence (Lafont, Interaction Nets, 1990): over birth names a step depends on its pair
+-- alone, and so the order of
 -- steps doesn't matter.
 use Rattle.std.specs.Prelude.{◌≡◌, ◌≢◌, ℕ, ◌≤◌, ◌↔◌, List, ◌∷◌, ◌++◌, length, count_by, Bool}
 use Rattle.ol_edges.specs.Edges.{IsIn}
@@ -27,28 +28,34 @@ RunKeepsBirthNet = (N M : NamedNet BirthName) (ps : List BirthPair) → IsBirthN
 
 -- No node of such a net has a name that a rewrite of two of its nodes would give.
 abbrev pub BornIsFresh : Type 0
-BornIsFresh = (N : NamedNet BirthName) (f g : BirthName) (k l : Kind) (i j : ℕ) → IsBirthNet N → HasNode N f k i → HasNode N g l j → IsFresh N (born f g)
+BornIsFresh = (N : NamedNet BirthName) (f g : BirthName) (k l : Kind) (i j : ℕ) → IsBirthNet N →
+    HasNode N f k i → HasNode N g l j → IsFresh N (born f g)
 
 -- Two different active pairs share no node, each is active after the other, and both orders leave one net.
 abbrev pub PairsCommute : Type 0
-PairsCommute = (N M P : NamedNet BirthName) (p q : BirthPair) → IsBirthNet N → IsPairStep N p M → IsPairStep N q P → (IsSamePair p q → ⊥) →
+PairsCommute = (N M P : NamedNet BirthName) (p q : BirthPair) → IsBirthNet N → IsPairStep N p M →
+    IsPairStep N q P → (IsSamePair p q → ⊥) →
     ((p.f ≢ q.f) × (p.f ≢ q.g) × (p.g ≢ q.f) × (p.g ≢ q.g))
     × ((M' : NamedNet BirthName) × (P' : NamedNet BirthName) × IsPairStep M q M' × IsPairStep P p P' × SameNet M' P')
 
 -- A net is complete exactly where it has no step.
 abbrev pub DoneMeansDone : Type 0
-DoneMeansDone = (N : NamedNet BirthName) → IsBirthNet N → IsComplete N ↔ ((p : BirthPair) (M : NamedNet BirthName) → IsPairStep N p M → ⊥)
+DoneMeansDone = (N : NamedNet BirthName) → IsBirthNet N →
+    IsComplete N ↔ ((p : BirthPair) (M : NamedNet BirthName) → IsPairStep N p M → ⊥)
 
--- A pair that is active now stands in each complete run, and the run with this pair moved to its front is complete and leaves the
+-- A pair that is active now stands in each complete run, and the run with this pair moved to its
+-- front is complete and leaves the
 -- same net.
 abbrev pub PairToFront : Type 0
-PairToFront = (N K M : NamedNet BirthName) (p : BirthPair) (ps : List BirthPair) → IsBirthNet N → IsPairStep N p K → IsPairRun N ps M → IsComplete M →
+PairToFront = (N K M : NamedNet BirthName) (p : BirthPair) (ps : List BirthPair) → IsBirthNet N →
+    IsPairStep N p K → IsPairRun N ps M → IsComplete M →
     (before : List BirthPair) × (q : BirthPair) × (after : List BirthPair) × (P : NamedNet BirthName) × IsSamePair p q
     × (ps ≡ before ++ (q ∷ after)) × IsPairRun N (p ∷ (before ++ after)) P × IsComplete P × SameNet M P
 
 -- Each pair of a run is among the pairs of a complete run,
 abbrev pub EachPairIsAmong : Type 0
-EachPairIsAmong = (N M P : NamedNet BirthName) (ps qs : List BirthPair) → IsBirthNet N → IsPairRun N ps M → IsComplete M →
+EachPairIsAmong = (N M P : NamedNet BirthName) (ps qs : List BirthPair) → IsBirthNet N →
+    IsPairRun N ps M → IsComplete M →
     IsPairRun N qs P →
     (q : BirthPair) → IsIn q qs → (p : BirthPair) × IsIn p ps × IsSamePair p q
 
@@ -65,19 +72,22 @@ NoRunIsLonger = (N M P : NamedNet BirthName) (ps qs : List BirthPair) → IsBirt
 
 -- Complete runs have the same pairs, each as often,
 abbrev pub CompleteRunsHaveOnePairs : Type 0
-CompleteRunsHaveOnePairs = (N M P : NamedNet BirthName) (ps qs : List BirthPair) → IsBirthNet N → IsPairRun N ps M → IsComplete M →
+CompleteRunsHaveOnePairs = (N M P : NamedNet BirthName) (ps qs : List BirthPair) → IsBirthNet N →
+    IsPairRun N ps M → IsComplete M →
     IsPairRun N qs P → IsComplete P →
     (test : BirthPair → Bool) → IsOfPairs test → count_by test ps ≡ count_by test qs
 
 -- so each rule as often,
 abbrev pub CompleteRunsHaveOneCounts : Type 0
-CompleteRunsHaveOneCounts = (N M P : NamedNet BirthName) (ps qs : List BirthPair) → IsBirthNet N → IsPairRun N ps M → IsComplete M →
+CompleteRunsHaveOneCounts = (N M P : NamedNet BirthName) (ps qs : List BirthPair) → IsBirthNet N →
+    IsPairRun N ps M → IsComplete M →
     IsPairRun N qs P → IsComplete P →
     (r : Rule) → count_by (λ (p : BirthPair). is_rule p.rule r) ps ≡ count_by (λ (p : BirthPair). is_rule p.rule r) qs
 
 -- and leave one net.
 abbrev pub CompleteRunsLeaveOneNet : Type 0
-CompleteRunsLeaveOneNet = (N M P : NamedNet BirthName) (ps qs : List BirthPair) → IsBirthNet N → IsPairRun N ps M → IsComplete M →
+CompleteRunsLeaveOneNet = (N M P : NamedNet BirthName) (ps qs : List BirthPair) → IsBirthNet N →
+    IsPairRun N ps M → IsComplete M →
     IsPairRun N qs P → IsComplete P → SameNet M P
 
 -- The run along a journal from N to M as a run by birth names.
@@ -92,17 +102,21 @@ pub record RunByBirths (N : NamedNet NodeName) (journal : List Entry) (M : Named
   pub same : SameNet after (net_under birth M)
   pub apart : (x y : NodeName) (k l : Kind) (i j : ℕ) → HasNode M x k i → HasNode M y l j → birth x ≡ birth y → x ≡ y
 
--- A run along a journal from a net of start nodes is, entry by entry, a run by birth names, and its net is that run's net under
+-- A run along a journal from a net of start nodes is, entry by entry, a run by birth names, and its
+-- net is that run's net under
 -- these names.
 abbrev pub BirthFollows : Type 0
-BirthFollows = (N M : NamedNet NodeName) (journal : List Entry) → IsNet N → AreNamedBefore N 0 → IsRun N 0 journal M → RunByBirths N journal M
+BirthFollows = (N M : NamedNet NodeName) (journal : List Entry) → IsNet N → AreNamedBefore N 0 →
+    IsRun N 0 journal M → RunByBirths N journal M
 
 -- The journal's net is complete exactly where the run's is.
 abbrev pub CompleteFollows : Type 0
-CompleteFollows = (N M : NamedNet NodeName) (journal : List Entry) → IsNet N → AreNamedBefore N 0 → IsRun N 0 journal M →
+CompleteFollows = (N M : NamedNet NodeName) (journal : List Entry) → IsNet N → AreNamedBefore N 0 →
+    IsRun N 0 journal M →
     (r : RunByBirths N journal M) → IsComplete M ↔ IsComplete r.after
 
 -- Two namings of one journal's run name each node of its net alike.
 abbrev pub BirthNamesAreOne : Type 0
-BirthNamesAreOne = (N M : NamedNet NodeName) (journal : List Entry) → IsNet N → AreNamedBefore N 0 → IsRun N 0 journal M →
+BirthNamesAreOne = (N M : NamedNet NodeName) (journal : List Entry) → IsNet N → AreNamedBefore N 0 →
+    IsRun N 0 journal M →
     (r s : RunByBirths N journal M) → (x : NodeName) (k : Kind) (i : ℕ) → HasNode M x k i → r.birth x ≡ s.birth x

@@ -29,13 +29,15 @@ IsPairStep N p M = IsStep (born p.f p.g) N p.f p.g p.rule M
 -- M is N after these pairs, in order
 pub data IsPairRun : NamedNet BirthName → List BirthPair → NamedNet BirthName → Type 0 where
   end : {N : NamedNet BirthName} → IsPairRun N [] N
-  then : {N M P : NamedNet BirthName} {p : BirthPair} {ps : List BirthPair} → IsPairStep N p M → IsPairRun M ps P → IsPairRun N (p ∷ ps) P
+  then : {N M P : NamedNet BirthName} {p : BirthPair} {ps : List BirthPair} → IsPairStep N p M →
+      IsPairRun M ps P → IsPairRun N (p ∷ ps) P
 
 -- the pair of an entry, its nodes under their birth names
 abbrev pub pair_under : (NodeName → BirthName) → Entry → BirthPair
 pair_under birth e = record { f = birth e.first; g = birth e.second; rule = e.rule }
 
--- These are the pairs of the entries from this ticket on, one for each and in order, and the nodes that each entry made are
+-- These are the pairs of the entries from this ticket on, one for each and in order, and the nodes
+-- that each entry made are
 -- named by its pair.
 abbrev pub AreBirths : (NodeName → BirthName) → ℕ → List Entry → List BirthPair → Type 0
 AreBirths birth ticket [] [] = Unit {0}

@@ -48,18 +48,21 @@ exchanged n one two x =
 
 -- birth names after a step: what was there keeps its name, and what came is named by the pair and its place
 abbrev pub names_after : {old new : Graph} {at : ℕ} {r : Rule} → (ℕ → BirthName) → StepsAt old new at r → ℕ → BirthName
-names_after {old} names s x = if nat_lt x (length old.nodes) then names x else born (names s.f) (names s.g) (x - length old.nodes)
+names_after {old} names s x = if nat_lt x (length old.nodes) then names x else born (names s.f)
+    (names s.g) (x - length old.nodes)
 
 -- birth names after two steps
 abbrev pub birth_names : {net after : Graph} {x y : ℕ} {r s : Rule} → InTurn net x y r s after → ℕ → BirthName
 birth_names turn = names_after (names_after init turn.first) turn.second
 
--- Both orders of the pairs of a and b. The two nets have one another's nodes and links, where the numbers of the nodes that came
+-- Both orders of the pairs of a and b. The two nets have one another's nodes and links, where the
+-- numbers of the nodes that came
 -- with the pair of a and those that came with the pair of b are exchanged; under birth names they are one net.
 pub record BothOrders (net : Graph) (a b : ℕ) (r s : Rule) (ab ba : Graph) : Type 0 where
   pub ab_turn : InTurn net a b r s ab
   pub ba_turn : InTurn net b a s r ba
-  pub exchange : SameNet (net_under (exchanged (length net.nodes) (born_between net ab_turn.middle) (born_between net ba_turn.middle)) (net_of ab)) (net_of ba)
+  pub exchange : SameNet (net_under (exchanged (length net.nodes) (born_between net ab_turn.middle)
+      (born_between net ba_turn.middle)) (net_of ab)) (net_of ba)
   pub births : SameNet (net_under (birth_names ab_turn) (net_of ab)) (net_under (birth_names ba_turn) (net_of ba))
 
 -- a square has both orders of the pairs of a and b

@@ -21,7 +21,8 @@ WavesAgree = (N : NamedNet BirthName) (M P : WeightedNet BirthName) (ps qs : Lis
 
 -- So each pair of the one is a pair of the other, with the same wave.
 abbrev pub EachPairHasItsWave : Type 0
-EachPairHasItsWave = (N : NamedNet BirthName) (M P : WeightedNet BirthName) (ps qs : List (BirthPair × ℕ)) → IsBirthNet N →
+EachPairHasItsWave = (N : NamedNet BirthName) (M P : WeightedNet BirthName)
+    (ps qs : List (BirthPair × ℕ)) → IsBirthNet N →
     IsWaveRun (weightless N) ps M → IsComplete M.net → IsWaveRun (weightless N) qs P → IsComplete P.net →
     (p : BirthPair × ℕ) → IsIn p ps → (q : BirthPair × ℕ) × IsIn q qs × IsSameWave p q
 
@@ -44,7 +45,8 @@ JournalHasOneWaves = (N M : NamedNet NodeName) (journal : List Entry) (ws vs : L
 
 -- Whatever its links weigh, each step of a net has a wave and leaves a net with weights.
 abbrev pub StepHasWave : Type 0 → Type 0
-StepHasWave A = (same : A → A → Bool) → IsTest same → (names : ℕ → A) (N : WeightedNet A) (f g : A) (r : Rule) (M : NamedNet A) →
+StepHasWave A = (same : A → A → Bool) → IsTest same →
+    (names : ℕ → A) (N : WeightedNet A) (f g : A) (r : Rule) (M : NamedNet A) →
     IsStep names N.net f g r M → (weight : NamedPort A → NamedPort A → ℕ) ×
     IsWaveStep names N f g r (suc (N.weight (slot f 0) (slot g 0))) (record { net = M; weight = weight })
 
@@ -56,5 +58,6 @@ RunHasWaves = (N M : NamedNet BirthName) (ps : List BirthPair) → IsPairRun N p
 
 -- and so does each journal.
 abbrev pub JournalHasWaves : Type 0
-JournalHasWaves = (N M : NamedNet NodeName) (journal : List Entry) → IsNet N → AreNamedBefore N 0 → IsRun N 0 journal M →
+JournalHasWaves = (N M : NamedNet NodeName) (journal : List Entry) → IsNet N → AreNamedBefore N 0 →
+    IsRun N 0 journal M →
     (waves : List ℕ) × AreWaves N journal M waves

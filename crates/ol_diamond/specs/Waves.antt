@@ -37,14 +37,18 @@ module _ {A : Type 0} (names : ℕ → A) (f g : A) (k l : Kind) (a : Action) (w
   abbrev pub LeftWithin : (ℕ → NamedPort A → NamedPort A → Type 0) → ℕ → NamedPort A → NamedPort A → Type 0
   LeftWithin within n = Contracted (Edge (within n) (IsPrincipalOf f g) (JoinWithin n)) (IsSlotOf f g)
 
--- The step of an active pair between nets with weights. Its wave is one more than the weight of the link of its two nodes. Of two
--- edges that become one the greater weight stays: a link weighs n at most exactly where its ports were joined by edges that weigh
+-- The step of an active pair between nets with weights. Its wave is one more than the weight of the
+-- link of its two nodes. Of two
+-- edges that become one the greater weight stays: a link weighs n at most exactly where its ports
+-- were joined by edges that weigh
 -- n at most.
-pub record IsWaveStep {A : Type 0} (names : ℕ → A) (N : WeightedNet A) (f g : A) (r : Rule) (wave : ℕ) (M : WeightedNet A) : Type 0 where
+pub record IsWaveStep {A : Type 0} (names : ℕ → A) (N : WeightedNet A) (f g : A) (r : Rule)
+    (wave : ℕ) (M : WeightedNet A) : Type 0 where
   pub step : IsStep names N.net f g r M.net
   pub wave_is : wave ≡ suc (N.weight (slot f 0) (slot g 0))
   pub weights : (n : ℕ) (u v : NamedPort A) →
-      LinkedWithin M n u v ↔ LeftWithin names f g step.active.k step.active.l (action_of r step.active.j) wave (LinkedWithin N) n u v
+      LinkedWithin M n u v ↔ LeftWithin names f g step.active.k step.active.l
+      (action_of r step.active.j) wave (LinkedWithin N) n u v
 
 -- M is N after the rewrite of the active pair p.0, in wave p.1
 abbrev pub IsPairWave : WeightedNet BirthName → BirthPair × ℕ → WeightedNet BirthName → Type 0
@@ -53,7 +57,8 @@ IsPairWave N p M = IsWaveStep (born p.0.f p.0.g) N p.0.f p.0.g p.0.rule p.1 M
 -- M is N after these pairs, in order, each with its wave
 pub data IsWaveRun : WeightedNet BirthName → List (BirthPair × ℕ) → WeightedNet BirthName → Type 0 where
   end : {N : WeightedNet BirthName} → IsWaveRun N [] N
-  then : {N M P : WeightedNet BirthName} {p : BirthPair × ℕ} {ps : List (BirthPair × ℕ)} → IsPairWave N p M → IsWaveRun M ps P → IsWaveRun N (p ∷ ps) P
+  then : {N M P : WeightedNet BirthName} {p : BirthPair × ℕ} {ps : List (BirthPair × ℕ)} →
+      IsPairWave N p M → IsWaveRun M ps P → IsWaveRun N (p ∷ ps) P
 
 -- one pair and one wave
 abbrev pub IsSameWave : BirthPair × ℕ → BirthPair × ℕ → Type 0
@@ -64,7 +69,8 @@ abbrev pub IsOfWaves : (BirthPair × ℕ → Bool) → Type 0
 IsOfWaves test = (p q : BirthPair × ℕ) → IsSameWave p q → test p ≡ test q
 
 -- these are the waves of the entries of a journal from N to M: those of their pairs, by birth names
-pub record AreWaves (N : NamedNet NodeName) (journal : List Entry) (M : NamedNet NodeName) (waves : List ℕ) : Type 0 where
+pub record AreWaves (N : NamedNet NodeName) (journal : List Entry) (M : NamedNet NodeName)
+    (waves : List ℕ) : Type 0 where
   pub births : RunByBirths N journal M
   pub pairs : List (BirthPair × ℕ)
   pub of_births : map (λ (p : BirthPair × ℕ). p.0) pairs ≡ births.pairs

@@ -31,4 +31,5 @@ HeaviestOnTheWay V = (es : List (V × V × ℕ)) (n : ℕ) (u v : V) →
 -- So it is for contraction: an edge of weight n at most is left exactly where the edges of weight n at most leave one.
 abbrev pub HeaviestIsLeft : Type 0 → Type 0
 HeaviestIsLeft V = (es : List (V × V × ℕ)) (ps : List V) (n : ℕ) (u v : V) →
-    Contracted (AtMost (WeightedEdgeOf es) n) (λ p. IsIn p ps) u v ↔ (w : ℕ) × ContractedBy (WeightedEdgeOf es) (λ p. IsIn p ps) u v w × (w ≤ n)
+    Contracted (AtMost (WeightedEdgeOf es) n) (λ p. IsIn p ps) u v ↔ (w : ℕ)
+    × ContractedBy (WeightedEdgeOf es) (λ p. IsIn p ps) u v w × (w ≤ n)

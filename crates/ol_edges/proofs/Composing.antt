@@ -29,16 +29,24 @@ edge_of_apart {E = E} {u = u} {v = v} j n = go (first_edge j)
     go (inr a) = a
 
 -- what each edge keeps, both ways, holds of all that is joined
-pub joined_keeps : {V : Type 0} {E : V → V → Type 0} {u v : V} → (Q : V → Type 0) → ((v w : V) → E v w → Q v → Q w) → ((v w : V) → E v w → Q w → Q v) → Joined E u v → Q u → Q v
+pub joined_keeps : {V : Type 0} {E : V → V → Type 0} {u v : V} → (Q : V → Type 0) →
+    ((v w : V) → E v w → Q v → Q w) → ((v w : V) → E v w → Q w → Q v) → Joined E u v → Q u → Q v
 joined_keeps Q f b here q = q
 joined_keeps Q f b (on {v = v} {w = w} j e) q = f v w e (joined_keeps Q f b j q)
 joined_keeps Q f b (back {v = v} {w = w} j e) q = b w v e (joined_keeps Q f b j q)
 
-pub contracted_swap : {V : Type 0} {K : V → V → Type 0} {G : V → Type 0} {u v : V} → Contracted K G u v → Contracted K G v u
-contracted_swap c = record { first = c.second; second = c.first; apart = λ q. c.apart (sym q); joined = joined_sym c.joined }
+pub contracted_swap : {V : Type 0} {K : V → V → Type 0} {G : V → Type 0} {u v : V} →
+    Contracted K G u v → Contracted K G v u
+contracted_swap c = record {
+  first = c.second;
+  second = c.first;
+  apart = λ q. c.apart (sym q);
+  joined = joined_sym c.joined;
+}
 
 -- other edges and vertices, where each edge is joined by the others, and no end of what is left goes
-pub contracted_map : {V : Type 0} {K K' : V → V → Type 0} {G G' : V → Type 0} → ((u v : V) → K u v → K' u v) → ((u : V) → HasEdge K u → G' u → G u) →
+pub contracted_map : {V : Type 0} {K K' : V → V → Type 0} {G G' : V → Type 0} →
+    ((u v : V) → K u v → K' u v) → ((u : V) → HasEdge K u → G' u → G u) →
     (u v : V) → Contracted K G u v → Contracted K' G' u v
 contracted_map {K = K} {G = G} f g u v c = record {
   first = λ h. c.first (g u (edge_of_apart c.joined c.apart) h);
@@ -49,7 +57,8 @@ contracted_map {K = K} {G = G} f g u v c = record {
 
 -- Edges K and J, of which J has no end in G: it is the same to take G out of K, to add J and then to take H out, as to
 -- take both out of both.
-module _ {V : Type 0} (decide : (u v : V) → (u ≡ v) ⊎ (u ≢ v)) (K J : V → V → Type 0) (G H : V → Type 0) (first_out : (u v : V) → J u v → G u → ⊥) (second_out : (u v : V) → J u v → G v → ⊥) where
+module _ {V : Type 0} (decide : (u v : V) → (u ≡ v) ⊎ (u ≢ v)) (K J : V → V → Type 0)
+    (G H : V → Type 0) (first_out : (u v : V) → J u v → G u → ⊥) (second_out : (u v : V) → J u v → G v → ⊥) where
   abbrev Once : V → V → Type 0
   Once u v = K u v ⊎ J u v
 
@@ -127,7 +136,8 @@ pub record IsImage {V W : Type 0} (name : V → W) (E : V → V → Type 0) (F :
   pub from : (p q : W) → F p q → (u : V) × (v : V) × (p ≡ name u) × (q ≡ name v) × E u v
 
 -- vertices of which no two have one name
-module _ {V W : Type 0} (name : V → W) (one_name : (u v : V) → name u ≡ name v → u ≡ v) (E : V → V → Type 0) (F : W → W → Type 0) (i : IsImage name E F) where
+module _ {V W : Type 0} (name : V → W) (one_name : (u v : V) → name u ≡ name v → u ≡ v)
+    (E : V → V → Type 0) (F : W → W → Type 0) (i : IsImage name E F) where
   abbrev Reaches : V → W → Type 0
   Reaches u q = (v : V) × (q ≡ name v) × Joined E u v
 
@@ -150,7 +160,8 @@ module _ {V W : Type 0} (name : V → W) (one_name : (u v : V) → name u ≡ na
       go (inr f) = let d = i.from a.0 p f in (d.1, d.3)
 
   -- contraction is of the edges, whatever the names
-  pub contracted_image : (G : V → Type 0) (H : W → Type 0) → ((u : V) → G u ↔ H (name u)) → IsImage name (Contracted E G) (Contracted F H)
+  pub contracted_image : (G : V → Type 0) (H : W → Type 0) → ((u : V) → G u ↔ H (name u)) →
+      IsImage name (Contracted E G) (Contracted F H)
   contracted_image G H gh = record {
     forth = λ u v c. record {
       first = λ h. c.first ((gh u).1 h);
@@ -175,7 +186,8 @@ module _ {V W : Type 0} (name : V → W) (one_name : (u v : V) → name u ≡ na
   }
 
 -- the edges left without those at P, and the joins, under names
-pub edge_image : {V W : Type 0} (name : V → W) (E J : V → V → Type 0) (P : V → Type 0) (F L : W → W → Type 0) (Q : W → Type 0) → IsImage name E F → IsImage name J L → ((u : V) → P u ↔ Q (name u)) →
+pub edge_image : {V W : Type 0} (name : V → W) (E J : V → V → Type 0) (P : V → Type 0)
+    (F L : W → W → Type 0) (Q : W → Type 0) → IsImage name E F → IsImage name J L → ((u : V) → P u ↔ Q (name u)) →
     IsImage name (Edge E P J) (Edge F Q L)
 edge_image {V} {W} name E J P F L Q i l pq = record { forth = to; from = back_to }
   where
@@ -185,17 +197,28 @@ edge_image {V} {W} name E J P F L Q i l pq = record { forth = to; from = back_to
 
     back_to : (p q : W) → Edge F Q L p q → (u : V) × (v : V) × (p ≡ name u) × (q ≡ name v) × Edge E P J u v
     back_to p q (inl f) =
-        let d = i.from p q f.0 in
-        (d.0, d.1, d.2, d.3, inl (d.4, (λ h. f.1 (subst Q (sym d.2) ((pq d.0).0 h))), λ h. f.2 (subst Q (sym d.3) ((pq d.1).0 h))))
+        let d = i.from p q f.0 in (
+          d.0,
+          d.1,
+          d.2,
+          d.3,
+          inl (
+            d.4,
+            (λ h. f.1 (subst Q (sym d.2) ((pq d.0).0 h))),
+            λ h. f.2 (subst Q (sym d.3) ((pq d.1).0 h)),
+          ),
+        )
     back_to p q (inr h) = let d = l.from p q h in (d.0, d.1, d.2, d.3, inr d.4)
 
 -- the same edges under the same names
-image_into : {V W : Type 0} (name : V → W) (E E' : V → V → Type 0) (F F' : W → W → Type 0) → IsImage name E F → IsImage name E' F' → ((u v : V) → E u v → E' u v) → (p q : W) → F p q → F' p q
+image_into : {V W : Type 0} (name : V → W) (E E' : V → V → Type 0) (F F' : W → W → Type 0) →
+    IsImage name E F → IsImage name E' F' → ((u v : V) → E u v → E' u v) → (p q : W) → F p q → F' p q
 image_into name E E' F F' i i' f p q h =
     let d = i.from p q h in
     subst (λ z. F' z q) (sym d.2) (subst (λ z. F' (name d.0) z) (sym d.3) (i'.forth d.0 d.1 (f d.0 d.1 d.4)))
 
-pub image_same : {V W : Type 0} (name : V → W) (E E' : V → V → Type 0) (F F' : W → W → Type 0) → IsImage name E F → IsImage name E' F' → ((u v : V) → E u v ↔ E' u v) → (p q : W) → F p q ↔ F' p q
+pub image_same : {V W : Type 0} (name : V → W) (E E' : V → V → Type 0) (F F' : W → W → Type 0) →
+    IsImage name E F → IsImage name E' F' → ((u v : V) → E u v ↔ E' u v) → (p q : W) → F p q ↔ F' p q
 image_same name E E' F F' i i' s p q = (
   image_into name E E' F F' i i' (λ u v. (s u v).0) p q,
   image_into name E' E F' F i' i (λ u v. (s u v).1) p q,

@@ -1,6 +1,9 @@
 -- Contraction keeps what is joined.
-use Rattle.std.proofs.Common.{◌≡◌, ◌≢◌, ℕ, ◌+◌, ◌≤◌, List, [], ◌∷◌, Bool, true, false, cond, Option, Some, None, ◌⊎◌, ◌↔◌, inl, inr, refl, sym, ap, ◌∙◌, subst, arith}
-use Rattle.ol_edges.specs.Edges.{IsIn, Joined, here, on, back, EdgeOf, IsTest, behind, taken, spliced, once_taken, contract, contract_all, bit, ends, Near, Ready}
+use Rattle.std.proofs.Common.{◌≡◌, ◌≢◌, ℕ, ◌+◌, ◌≤◌, List, [], ◌∷◌, Bool, true, false, cond, Option}
+use Rattle.std.proofs.Common.{Some, None, ◌⊎◌, ◌↔◌, inl, inr, refl, sym, ap, ◌∙◌, subst, arith}
+use Rattle.ol_edges.specs.Edges.{IsIn, Joined, here, on, back, EdgeOf, IsTest, behind, taken}
+use Rattle.ol_edges.specs.Edges.{spliced, once_taken, contract, contract_all, bit, ends, Near}
+use Rattle.ol_edges.specs.Edges.{Ready}
 use Rattle.ol_edges.proofs.Joining.{joined_trans, joined_sym, joined_map, Follows, follow}
 
 -- the list once_taken one edge between p and x
@@ -10,7 +13,8 @@ pub data Take {V : Type 0} (p x : V) : List (V × V) → List (V × V) → Type 
   later : {e : V × V} {es rest : List (V × V)} → Take p x es rest → Take p x (e ∷ es) (e ∷ rest)
 
 -- what holds of the edge taken, both ways, and of those left, holds of each edge
-take_elim : {V : Type 0} {p x : V} {es rest : List (V × V)} → Take p x es rest → (P : V → V → Type 0) → P p x → P x p → ((a b : V) → IsIn (a, b) rest → P a b) → (a b : V) → IsIn (a, b) es → P a b
+take_elim : {V : Type 0} {p x : V} {es rest : List (V × V)} → Take p x es rest →
+    (P : V → V → Type 0) → P p x → P x p → ((a b : V) → IsIn (a, b) rest → P a b) → (a b : V) → IsIn (a, b) es → P a b
 take_elim left P l r f a b (inl q) = subst (λ (d : _ × _). P d.0 d.1) (sym q) l
 take_elim left P l r f a b (inr h) = f a b h
 take_elim right P l r f a b (inl q) = subst (λ (d : _ × _). P d.0 d.1) (sym q) r
@@ -26,7 +30,8 @@ take_keeps (later k) d (inl q) = inl q
 take_keeps (later k) d (inr h) = inr (take_keeps k d h)
 
 -- the edge taken joins
-take_joins : {V : Type 0} {p x : V} {fs rest : List (V × V)} → Take p x fs rest → (es : List (V × V)) → ((d : V × V) → IsIn d fs → IsIn d es) → Joined (EdgeOf es) p x
+take_joins : {V : Type 0} {p x : V} {fs rest : List (V × V)} → Take p x fs rest →
+    (es : List (V × V)) → ((d : V × V) → IsIn d fs → IsIn d es) → Joined (EdgeOf es) p x
 take_joins {p = p} {x = x} left es f = on here (f (p, x) (inl refl))
 take_joins {p = p} {x = x} right es f = back here (f (x, p) (inl refl))
 take_joins (later k) es f = take_joins k es (λ d h. f d (inr h))
@@ -35,7 +40,8 @@ take_joins (later k) es f = take_joins k es (λ d h. f d (inr h))
 pub data Contracts {V : Type 0} (same : V → V → Bool) (p : V) : List (V × V) → List (V × V) → Type 0 where
   stays : {es : List (V × V)} → ends same p es ≤ 1 → Contracts same p es es
   loop : {es rest : List (V × V)} → Take p p es rest → Contracts same p es rest
-  splice : {x y : V} {es rest left : List (V × V)} → x ≢ p → Take p x es rest → Take p y rest left → Contracts same p es ((x, y) ∷ left)
+  splice : {x y : V} {es rest left : List (V × V)} → x ≢ p → Take p x es rest → Take p y rest left →
+      Contracts same p es ((x, y) ∷ left)
 
 -- each vertex stands for itself, and p for its neighbour
 data Image {V : Type 0} (p x : V) : V → V → Type 0 where
@@ -82,14 +88,16 @@ followed_second {V} p x y ls n = (
   λ w i. (y, kept n, subst (λ v. Joined (EdgeOf ((x, y) ∷ ls)) y v) (sym (image_of i refl)) (back here (inl refl))),
 )
 
-followed_other : {V : Type 0} (p x : V) (fs : List (V × V)) (a b : V) → a ≢ p → b ≢ p → IsIn (a, b) fs → Followed p x fs a b
+followed_other : {V : Type 0} (p x : V) (fs : List (V × V)) (a b : V) → a ≢ p → b ≢ p →
+    IsIn (a, b) fs → Followed p x fs a b
 unfolding Followed
 followed_other p x fs a b m n h = (
   λ w i. (a, kept m, subst (λ v. Joined (EdgeOf fs) a v) (sym (image_other i n)) (on here h)),
   λ w i. (b, kept n, subst (λ v. Joined (EdgeOf fs) b v) (sym (image_other i m)) (back here h)),
 )
 
-followed_all : {V : Type 0} (p x : V) (es fs : List (V × V)) → ((a b : V) → IsIn (a, b) es → Followed p x fs a b) → Follows (EdgeOf es) (EdgeOf fs) (Image p x)
+followed_all : {V : Type 0} (p x : V) (es fs : List (V × V)) →
+    ((a b : V) → IsIn (a, b) es → Followed p x fs a b) → Follows (EdgeOf es) (EdgeOf fs) (Image p x)
 unfolding Followed
 followed_all p x es fs f = record { forth = λ a b w e i. (f a b e).0 w i; back' = λ a b w e i. (f a b e).1 w i }
 
@@ -98,22 +106,31 @@ module _ {V : Type 0} (same : V → V → Bool) (t : IsTest same) where
   taken_take p [] r h = absurd (cc)
   taken_take p (e ∷ es) r h = first (taken_take p es) (same p e.0) refl h
     where
-      later_one : (o : Option (V × List (V × V))) → ((r : V × List (V × V)) → o ≡ Some r → Take p r.0 es r.1) → behind e o ≡ Some r → Take p r.0 (e ∷ es) r.1
+      later_one : (o : Option (V × List (V × V))) →
+          ((r : V × List (V × V)) → o ≡ Some r → Take p r.0 es r.1) → behind e o ≡ Some r → Take p r.0 (e ∷ es) r.1
       later_one None f h = absurd (cc)
-      later_one (Some q) f h = let k : ◌≡◌ {A = V × List (V × V)} (q.0, e ∷ q.1) r = cc in subst (λ (r : V × List (V × V)). Take p r.0 (e ∷ es) r.1) k (later (f q refl))
+      later_one (Some q) f h = let k : ◌≡◌ {A = V × List (V × V)} (q.0, e ∷ q.1) r = cc in
+          subst (λ (r : V × List (V × V)). Take p r.0 (e ∷ es) r.1) k (later (f q refl))
 
-      second : ((r : V × List (V × V)) → taken same p es ≡ Some r → Take p r.0 es r.1) → (b : Bool) → same p e.1 ≡ b → cond b (Some (e.0, es)) (behind e (taken same p es)) ≡ Some r → Take p r.0 (e ∷ es) r.1
+      second : ((r : V × List (V × V)) → taken same p es ≡ Some r → Take p r.0 es r.1) →
+          (b : Bool) → same p e.1 ≡ b → cond b (Some (e.0, es))
+          (behind e (taken same p es)) ≡ Some r → Take p r.0 (e ∷ es) r.1
       second ih true q h = let k : ◌≡◌ {A = V × List (V × V)} (e.0, es) r = cc in
-          subst (λ (r : V × List (V × V)). Take p r.0 (e ∷ es) r.1) k (subst (λ v. Take p e.0 ((e.0, v) ∷ es) es) (t.tells p e.1 q) right)
+          subst (λ (r : V × List (V × V)). Take p r.0 (e ∷ es) r.1) k
+          (subst (λ v. Take p e.0 ((e.0, v) ∷ es) es) (t.tells p e.1 q) right)
       second ih false q h = later_one (taken same p es) ih h
 
-      first : ((r : V × List (V × V)) → taken same p es ≡ Some r → Take p r.0 es r.1) → (b : Bool) → same p e.0 ≡ b → cond b (Some (e.1, es)) (cond (same p e.1) (Some (e.0, es)) (behind e (taken same p es))) ≡ Some r → Take p r.0 (e ∷ es) r.1
+      first : ((r : V × List (V × V)) → taken same p es ≡ Some r → Take p r.0 es r.1) → (b : Bool) →
+          same p e.0 ≡ b → cond b (Some (e.1, es))
+          (cond (same p e.1) (Some (e.0, es)) (behind e (taken same p es))) ≡ Some r → Take p r.0 (e ∷ es) r.1
       first ih true q h = let k : ◌≡◌ {A = V × List (V × V)} (e.1, es) r = cc in
-          subst (λ (r : V × List (V × V)). Take p r.0 (e ∷ es) r.1) k (subst (λ v. Take p e.1 ((v, e.1) ∷ es) es) (t.tells p e.0 q) left)
+          subst (λ (r : V × List (V × V)). Take p r.0 (e ∷ es) r.1) k
+          (subst (λ v. Take p e.1 ((v, e.1) ∷ es) es) (t.tells p e.0 q) left)
       first ih false q h = second ih (same p e.1) refl h
 
   -- the ends that an edge takes
-  take_ends : {p x : V} {es rest : List (V × V)} → Take p x es rest → (v : V) → ends same v es ≡ bit (same v p) + bit (same v x) + ends same v rest
+  take_ends : {p x : V} {es rest : List (V × V)} → Take p x es rest → (v : V) →
+      ends same v es ≡ bit (same v p) + bit (same v x) + ends same v rest
   take_ends left v = refl
   take_ends right v = omega arith
   take_ends (later k) v = omega (arith, take_ends k v)
@@ -122,7 +139,10 @@ module _ {V : Type 0} (same : V → V → Bool) (t : IsTest same) where
   none_at : (p : V) (es : List (V × V)) → ends same p es ≡ 0 → (a b : V) → IsIn (a, b) es → (a ≢ p) × (b ≢ p)
   none_at p [] h a b k = absurd k
   none_at p (e ∷ es) h a b (inr k) = none_at p es (omega arith) a b k
-  none_at p (e ∷ es) h a b (inl q) = (λ r. at_left (sym r ∙ ap (λ (d : V × V). d.0) q), λ r. at_right (sym r ∙ ap (λ (d : V × V). d.1) q))
+  none_at p (e ∷ es) h a b (inl q) = (
+    λ r. at_left (sym r ∙ ap (λ (d : V × V). d.0) q),
+    λ r. at_right (sym r ∙ ap (λ (d : V × V). d.1) q),
+  )
     where
       at_left : p ≡ e.0 → ⊥
       at_left r = let n : bit (same p e.0) ≡ 1 = ap bit (subst (λ w. same p w ≡ true) r (t.holds p)) in omega arith
@@ -163,7 +183,9 @@ module _ {V : Type 0} (same : V → V → Bool) (t : IsTest same) where
       later_one None h = refl
       later_one (Some q) h = absurd (cc)
 
-      second : (taken same p es ≡ None → ends same p es ≡ 0) → same p e.0 ≡ false → (b : Bool) → same p e.1 ≡ b → cond b (Some (e.0, es)) (behind e (taken same p es)) ≡ None → bit (same p e.0) + bit (same p e.1) + ends same p es ≡ 0
+      second : (taken same p es ≡ None → ends same p es ≡ 0) → same p e.0 ≡ false → (b : Bool) →
+          same p e.1 ≡ b → cond b (Some (e.0, es)) (behind e (taken same p es)) ≡ None →
+          bit (same p e.0) + bit (same p e.1) + ends same p es ≡ 0
       second ih a true q h = absurd (cc)
       second ih a false q h =
           let z = ih (later_one (taken same p es) h) in
@@ -171,7 +193,9 @@ module _ {V : Type 0} (same : V → V → Bool) (t : IsTest same) where
           let z1 : bit (same p e.1) ≡ 0 = ap bit q in
           omega arith
 
-      first : (taken same p es ≡ None → ends same p es ≡ 0) → (b : Bool) → same p e.0 ≡ b → cond b (Some (e.1, es)) (cond (same p e.1) (Some (e.0, es)) (behind e (taken same p es))) ≡ None → bit (same p e.0) + bit (same p e.1) + ends same p es ≡ 0
+      first : (taken same p es ≡ None → ends same p es ≡ 0) → (b : Bool) → same p e.0 ≡ b →
+          cond b (Some (e.1, es)) (cond (same p e.1) (Some (e.0, es))
+          (behind e (taken same p es))) ≡ None → bit (same p e.0) + bit (same p e.1) + ends same p es ≡ 0
       first ih true q h = absurd (cc)
       first ih false q h = second ih q (same p e.1) refl h
 
@@ -179,7 +203,8 @@ module _ {V : Type 0} (same : V → V → Bool) (t : IsTest same) where
   unfolding contract
   contract_contracts p es = go (taken same p es) refl
     where
-      two : (r : V × List (V × V)) → Take p r.0 es r.1 → r.0 ≢ p → (o : Option (V × List (V × V))) → taken same p r.1 ≡ o → Contracts same p es (spliced r.0 es o)
+      two : (r : V × List (V × V)) → Take p r.0 es r.1 → r.0 ≢ p → (o : Option (V × List (V × V))) →
+          taken same p r.1 ≡ o → Contracts same p es (spliced r.0 es o)
       two r k n None h =
           let z = taken_none p r.1 h in
           let i = is_same p in
@@ -188,7 +213,8 @@ module _ {V : Type 0} (same : V → V → Bool) (t : IsTest same) where
           stays (omega arith)
       two r k n (Some s) h = splice n k (taken_take p r.1 s h)
 
-      one : (r : V × List (V × V)) → Take p r.0 es r.1 → (b : Bool) → same p r.0 ≡ b → Contracts same p es (cond b r.1 (spliced r.0 es (taken same p r.1)))
+      one : (r : V × List (V × V)) → Take p r.0 es r.1 → (b : Bool) → same p r.0 ≡ b →
+          Contracts same p es (cond b r.1 (spliced r.0 es (taken same p r.1)))
       one r k true h = loop (subst (λ x. Take p x es r.1) (sym (t.tells p r.0 h)) k)
       one r k false h = two r k (not_same p r.0 h) (taken same p r.1) refl
 
@@ -197,7 +223,8 @@ module _ {V : Type 0} (same : V → V → Bool) (t : IsTest same) where
       go (Some r) h = one r (taken_take p es r h) (same p r.0) refl
 
   -- what is joined stays joined
-  pub contract_keeps : (p : V) {es fs : List (V × V)} → Contracts same p es fs → ends same p es ≤ 2 → (u v : V) → u ≢ p → v ≢ p → Joined (EdgeOf es) u v → Joined (EdgeOf fs) u v
+  pub contract_keeps : (p : V) {es fs : List (V × V)} → Contracts same p es fs →
+      ends same p es ≤ 2 → (u v : V) → u ≢ p → v ≢ p → Joined (EdgeOf es) u v → Joined (EdgeOf fs) u v
   contract_keeps p (stays l) n u v a b j = j
   contract_keeps p (loop {es = es} {rest = rest} k) n u v a b j =
       let n1 = take_ends k p in
@@ -205,7 +232,9 @@ module _ {V : Type 0} (same : V → V → Bool) (t : IsTest same) where
       let z : ends same p rest ≡ 0 = omega arith in
       let no = none_at p rest z in
       let same' = followed_loop p rest in
-      let t = follow (followed_all p p es rest (take_elim k (Followed p p rest) same' same' (λ a b h. followed_other p p rest a b (no a b h).0 (no a b h).1 h))) j v (kept b) in
+      let t = follow (followed_all p p es rest
+      (take_elim k (Followed p p rest) same' same'
+      (λ a b h. followed_other p p rest a b (no a b h).0 (no a b h).1 h))) j v (kept b) in
       subst (λ z. Joined (EdgeOf rest) z v) (image_other t.1 a) t.2
   contract_keeps p (splice {x = x} {y = y} {es = es} {rest = rest} {left = ls} m k k') n u v a b j =
       let n1 = take_ends k p in
@@ -219,11 +248,13 @@ module _ {V : Type 0} (same : V → V → Bool) (t : IsTest same) where
       let first = followed_first p x fs m in
       let second = followed_second p x y ls ny in
       let t = follow (followed_all p x es fs (take_elim k (Followed p x fs) first (followed_swap p x fs p x first)
-      (take_elim k' (Followed p x fs) second (followed_swap p x fs p y second) (λ a b h. followed_other p x fs a b (no a b h).0 (no a b h).1 (inr h))))) j v (kept b) in
+      (take_elim k' (Followed p x fs) second (followed_swap p x fs p y second)
+      (λ a b h. followed_other p x fs a b (no a b h).0 (no a b h).1 (inr h))))) j v (kept b) in
       subst (λ z. Joined (EdgeOf fs) z v) (image_other t.1 a) t.2
 
   -- and no more is joined
-  pub contract_adds : (p : V) {es fs : List (V × V)} → Contracts same p es fs → (u v : V) → Joined (EdgeOf fs) u v → Joined (EdgeOf es) u v
+  pub contract_adds : (p : V) {es fs : List (V × V)} → Contracts same p es fs → (u v : V) →
+      Joined (EdgeOf fs) u v → Joined (EdgeOf es) u v
   contract_adds p (stays l) u v j = j
   contract_adds p (loop k) u v j = joined_map (λ a b h. on here (take_keeps k (a, b) h)) j
   contract_adds p (splice {x = x} {y = y} {es = es} {rest = rest} {left = ls} m k k') u v j = joined_map edge j
@@ -232,11 +263,13 @@ module _ {V : Type 0} (same : V → V → Bool) (t : IsTest same) where
       near = take_joins k' es (take_keeps k)
 
       edge : (a b : V) → IsIn (a, b) ((x, y) ∷ ls) → Joined (EdgeOf es) a b
-      edge a b (inl q) = subst (λ (d : V × V). Joined (EdgeOf es) d.0 d.1) (sym q) (joined_trans (joined_sym (take_joins k es (λ d h. h))) near)
+      edge a b (inl q) = subst (λ (d : V × V). Joined (EdgeOf es) d.0 d.1) (sym q)
+          (joined_trans (joined_sym (take_joins k es (λ d h. h))) near)
       edge a b (inr h) = on here (take_keeps k (a, b) (take_keeps k' (a, b) h))
 
   -- the other ends stay
-  contract_ends : (p : V) {es fs : List (V × V)} → Contracts same p es fs → (v : V) → v ≢ p → ends same v fs ≡ ends same v es
+  contract_ends : (p : V) {es fs : List (V × V)} → Contracts same p es fs → (v : V) → v ≢ p →
+      ends same v fs ≡ ends same v es
   contract_ends p (stays l) v n = refl
   contract_ends p (loop k) v n =
       let e = take_ends k v in
@@ -249,7 +282,8 @@ module _ {V : Type 0} (same : V → V → Bool) (t : IsTest same) where
       omega arith
 
   -- and a vertex with two ends, or none, has none then
-  contract_gone : (p : V) {es fs : List (V × V)} → Contracts same p es fs → (ends same p es ≡ 2) ⊎ (ends same p es ≡ 0) → ends same p fs ≡ 0
+  contract_gone : (p : V) {es fs : List (V × V)} → Contracts same p es fs →
+      (ends same p es ≡ 2) ⊎ (ends same p es ≡ 0) → ends same p fs ≡ 0
   contract_gone p (stays l) d = omega arith
   contract_gone p (loop k) d =
       let e = take_ends k p in
@@ -281,8 +315,14 @@ module _ {V : Type 0} (same : V → V → Bool) (t : IsTest same) where
           no (inl e) = n e
           no (inr k) = i k
 
-  pub contracted : (ps : List V) (es : List (V × V)) → ((p : V) → IsIn p ps → (ends same p es ≡ 2) ⊎ (ends same p es ≡ 0)) → Done ps es (contract_all same ps es)
-  contracted [] es h = record { none = λ p k. absurd k; ends_stay = λ v k. refl; joins = λ u v a b j. j; joined = λ u v j. j }
+  pub contracted : (ps : List V) (es : List (V × V)) →
+      ((p : V) → IsIn p ps → (ends same p es ≡ 2) ⊎ (ends same p es ≡ 0)) → Done ps es (contract_all same ps es)
+  contracted [] es h = record {
+    none = λ p k. absurd k;
+    ends_stay = λ v k. refl;
+    joins = λ u v a b j. j;
+    joined = λ u v j. j;
+  }
   contracted (p ∷ ps) es h =
       let c = contract_contracts p es in
       let gone = contract_gone p c (h p (inl refl)) in
@@ -290,7 +330,8 @@ module _ {V : Type 0} (same : V → V → Bool) (t : IsTest same) where
       record {
         none = λ q k. none_left q gone d k (is_in q ps);
         ends_stay = λ v k. d.ends_stay v (λ q. k (inr q)) ∙ contract_ends p c v (λ q. k (inl q));
-        joins = λ u v a b j. d.joins u v (λ q. a (inr q)) (λ q. b (inr q)) (contract_keeps p c (two_at_most (h p (inl refl))) u v (λ q. a (inl q)) (λ q. b (inl q)) j);
+        joins = λ u v a b j. d.joins u v (λ q. a (inr q)) (λ q. b (inr q))
+            (contract_keeps p c (two_at_most (h p (inl refl))) u v (λ q. a (inl q)) (λ q. b (inl q)) j);
         joined = λ u v j. contract_adds p c u v (d.joined u v j);
       }
     where
@@ -298,21 +339,28 @@ module _ {V : Type 0} (same : V → V → Bool) (t : IsTest same) where
       two_at_most (inl e) = omega arith
       two_at_most (inr e) = omega arith
 
-      none_left : (q : V) → ends same p (contract same p es) ≡ 0 → Done ps (contract same p es) (contract_all same ps (contract same p es)) → IsIn q (p ∷ ps) → IsIn q ps ⊎ ¬ (IsIn q ps) → ends same q (contract_all same ps (contract same p es)) ≡ 0
+      none_left : (q : V) → ends same p (contract same p es) ≡ 0 →
+          Done ps (contract same p es) (contract_all same ps (contract same p es)) →
+          IsIn q (p ∷ ps) → IsIn q ps ⊎ ¬ (IsIn q ps) → ends same q (contract_all same ps (contract same p es)) ≡ 0
       none_left q g d k (inl i) = d.none q i
       none_left q g d (inr i) (inr n) = absurd (n i)
       none_left q g d (inl e) (inr n) = d.ends_stay q n ∙ subst (λ q. ends same q (contract same p es) ≡ 0) (sym e) g
 
-      still : (q : V) → (q ≡ p) ⊎ (q ≢ p) → IsIn q ps → (ends same q (contract same p es) ≡ 2) ⊎ (ends same q (contract same p es) ≡ 0)
-      still q (inl e) k = inr (subst (λ q. ends same q (contract same p es) ≡ 0) (sym e) (contract_gone p (contract_contracts p es) (h p (inl refl))))
-      still q (inr n) k = subst (λ z. (z ≡ 2) ⊎ (z ≡ 0)) (sym (contract_ends p (contract_contracts p es) q n)) (h q (inr k))
+      still : (q : V) → (q ≡ p) ⊎ (q ≢ p) → IsIn q ps →
+          (ends same q (contract same p es) ≡ 2) ⊎ (ends same q (contract same p es) ≡ 0)
+      still q (inl e) k = inr (subst (λ q. ends same q (contract same p es) ≡ 0) (sym e)
+          (contract_gone p (contract_contracts p es) (h p (inl refl))))
+      still q (inr n) k = subst (λ z. (z ≡ 2) ⊎ (z ≡ 0))
+          (sym (contract_ends p (contract_contracts p es) q n)) (h q (inr k))
 
   pub ends_in : (v w : V) (es : List (V × V)) → IsIn (v, w) es ⊎ IsIn (w, v) es → 1 ≤ ends same v es
   ends_in v w [] (inl k) = absurd k
   ends_in v w [] (inr k) = absurd k
-  ends_in v w (e ∷ es) (inl (inl q)) = let s : bit (same v e.0) ≡ 1 = ap bit (subst (λ z. same v z ≡ true) (ap (λ (d : V × V). d.0) q) (t.holds v)) in omega arith
+  ends_in v w (e ∷ es) (inl (inl q)) = let s : bit (same v e.0) ≡ 1 = ap bit
+      (subst (λ z. same v z ≡ true) (ap (λ (d : V × V). d.0) q) (t.holds v)) in omega arith
   ends_in v w (e ∷ es) (inl (inr k)) = let i = ends_in v w es (inl k) in omega arith
-  ends_in v w (e ∷ es) (inr (inl q)) = let s : bit (same v e.1) ≡ 1 = ap bit (subst (λ z. same v z ≡ true) (ap (λ (d : V × V). d.1) q) (t.holds v)) in omega arith
+  ends_in v w (e ∷ es) (inr (inl q)) = let s : bit (same v e.1) ≡ 1 = ap bit
+      (subst (λ z. same v z ≡ true) (ap (λ (d : V × V). d.1) q) (t.holds v)) in omega arith
   ends_in v w (e ∷ es) (inr (inr k)) = let i = ends_in v w es (inr k) in omega arith
 
   pub ends_loop : (v : V) (es : List (V × V)) → IsIn (v, v) es → 2 ≤ ends same v es
@@ -325,34 +373,53 @@ module _ {V : Type 0} (same : V → V → Bool) (t : IsTest same) where
 
   -- An edge at v, as its one end.
   end_left : (v w : V) (e : V × V) → ◌≡◌ {A = V × V} (v, w) e → (bit (same v e.0) ≡ 1) × (w ≡ e.1)
-  end_left v w e q = (ap bit (subst (λ z. same v z ≡ true) (ap (λ (d : V × V). d.0) q) (t.holds v)), ap (λ (d : V × V). d.1) q)
+  end_left v w e q = (
+    ap bit (subst (λ z. same v z ≡ true) (ap (λ (d : V × V). d.0) q) (t.holds v)),
+    ap (λ (d : V × V). d.1) q,
+  )
 
   end_right : (v w : V) (e : V × V) → ◌≡◌ {A = V × V} (w, v) e → (bit (same v e.1) ≡ 1) × (w ≡ e.0)
-  end_right v w e q = (ap bit (subst (λ z. same v z ≡ true) (ap (λ (d : V × V). d.1) q) (t.holds v)), ap (λ (d : V × V). d.0) q)
+  end_right v w e q = (
+    ap bit (subst (λ z. same v z ≡ true) (ap (λ (d : V × V). d.1) q)
+        (t.holds v)),
+    ap (λ (d : V × V). d.0) q,
+  )
 
   -- a vertex with one end at most has one neighbour at most
-  pub one_edge : (v u w : V) (es : List (V × V)) → ends same v es ≤ 1 → IsIn (v, u) es ⊎ IsIn (u, v) es → IsIn (v, w) es ⊎ IsIn (w, v) es → u ≡ w
+  pub one_edge : (v u w : V) (es : List (V × V)) → ends same v es ≤ 1 →
+      IsIn (v, u) es ⊎ IsIn (u, v) es → IsIn (v, w) es ⊎ IsIn (w, v) es → u ≡ w
   one_edge v u w [] h (inl k) l = absurd k
   one_edge v u w [] h (inr k) l = absurd k
   one_edge v u w (e ∷ es) h (inl (inl q)) (inl (inl r)) = (end_left v u e q).1 ∙ sym (end_left v w e r).1
-  one_edge v u w (e ∷ es) h (inl (inl q)) (inr (inl r)) = let a = (end_left v u e q).0 in let b = (end_right v w e r).0 in absurd (omega arith)
-  one_edge v u w (e ∷ es) h (inr (inl q)) (inl (inl r)) = let a = (end_right v u e q).0 in let b = (end_left v w e r).0 in absurd (omega arith)
+  one_edge v u w (e ∷ es) h (inl (inl q)) (inr (inl r)) = let a = (end_left v u e q).0 in
+      let b = (end_right v w e r).0 in absurd (omega arith)
+  one_edge v u w (e ∷ es) h (inr (inl q)) (inl (inl r)) = let a = (end_right v u e q).0 in
+      let b = (end_left v w e r).0 in absurd (omega arith)
   one_edge v u w (e ∷ es) h (inr (inl q)) (inr (inl r)) = (end_right v u e q).1 ∙ sym (end_right v w e r).1
-  one_edge v u w (e ∷ es) h (inl (inl q)) (inl (inr r)) = let a = (end_left v u e q).0 in let b = ends_in v w es (inl r) in absurd (omega arith)
-  one_edge v u w (e ∷ es) h (inl (inl q)) (inr (inr r)) = let a = (end_left v u e q).0 in let b = ends_in v w es (inr r) in absurd (omega arith)
-  one_edge v u w (e ∷ es) h (inr (inl q)) (inl (inr r)) = let a = (end_right v u e q).0 in let b = ends_in v w es (inl r) in absurd (omega arith)
-  one_edge v u w (e ∷ es) h (inr (inl q)) (inr (inr r)) = let a = (end_right v u e q).0 in let b = ends_in v w es (inr r) in absurd (omega arith)
-  one_edge v u w (e ∷ es) h (inl (inr q)) (inl (inl r)) = let a = (end_left v w e r).0 in let b = ends_in v u es (inl q) in absurd (omega arith)
-  one_edge v u w (e ∷ es) h (inr (inr q)) (inl (inl r)) = let a = (end_left v w e r).0 in let b = ends_in v u es (inr q) in absurd (omega arith)
-  one_edge v u w (e ∷ es) h (inl (inr q)) (inr (inl r)) = let a = (end_right v w e r).0 in let b = ends_in v u es (inl q) in absurd (omega arith)
-  one_edge v u w (e ∷ es) h (inr (inr q)) (inr (inl r)) = let a = (end_right v w e r).0 in let b = ends_in v u es (inr q) in absurd (omega arith)
+  one_edge v u w (e ∷ es) h (inl (inl q)) (inl (inr r)) = let a = (end_left v u e q).0 in
+      let b = ends_in v w es (inl r) in absurd (omega arith)
+  one_edge v u w (e ∷ es) h (inl (inl q)) (inr (inr r)) = let a = (end_left v u e q).0 in
+      let b = ends_in v w es (inr r) in absurd (omega arith)
+  one_edge v u w (e ∷ es) h (inr (inl q)) (inl (inr r)) = let a = (end_right v u e q).0 in
+      let b = ends_in v w es (inl r) in absurd (omega arith)
+  one_edge v u w (e ∷ es) h (inr (inl q)) (inr (inr r)) = let a = (end_right v u e q).0 in
+      let b = ends_in v w es (inr r) in absurd (omega arith)
+  one_edge v u w (e ∷ es) h (inl (inr q)) (inl (inl r)) = let a = (end_left v w e r).0 in
+      let b = ends_in v u es (inl q) in absurd (omega arith)
+  one_edge v u w (e ∷ es) h (inr (inr q)) (inl (inl r)) = let a = (end_left v w e r).0 in
+      let b = ends_in v u es (inr q) in absurd (omega arith)
+  one_edge v u w (e ∷ es) h (inl (inr q)) (inr (inl r)) = let a = (end_right v w e r).0 in
+      let b = ends_in v u es (inl q) in absurd (omega arith)
+  one_edge v u w (e ∷ es) h (inr (inr q)) (inr (inl r)) = let a = (end_right v w e r).0 in
+      let b = ends_in v u es (inr q) in absurd (omega arith)
   one_edge v u w (e ∷ es) h (inl (inr q)) (inl (inr r)) = one_edge v u w es (omega arith) (inl q) (inl r)
   one_edge v u w (e ∷ es) h (inl (inr q)) (inr (inr r)) = one_edge v u w es (omega arith) (inl q) (inr r)
   one_edge v u w (e ∷ es) h (inr (inr q)) (inl (inr r)) = one_edge v u w es (omega arith) (inr q) (inl r)
   one_edge v u w (e ∷ es) h (inr (inr q)) (inr (inr r)) = one_edge v u w es (omega arith) (inr q) (inr r)
 
   -- where each vertex has one end at most, what is joined is one edge
-  pub joined_once : (es : List (V × V)) → ((v : V) → ends same v es ≤ 1) → {u v : V} → Joined (EdgeOf es) u v → (u ≡ v) ⊎ Near es u v
+  pub joined_once : (es : List (V × V)) → ((v : V) → ends same v es ≤ 1) → {u v : V} →
+      Joined (EdgeOf es) u v → (u ≡ v) ⊎ Near es u v
   joined_once es h here = inl refl
   joined_once es h {u} (on {v = v} {w = w} j e) = go (joined_once es h j)
     where
@@ -383,13 +450,16 @@ module _ {V : Type 0} (same : V → V → Bool) (t : IsTest same) where
       all_at_most v = at_most v (is_in v ps)
 
       apart : Near (contract_all same ps es) u v → u ≢ v
-      apart (inl k) q = let l = ends_loop v (contract_all same ps es) (subst (λ z. IsIn (z, v) (contract_all same ps es)) q k) in let o = all_at_most v in omega arith
-      apart (inr k) q = let l = ends_loop v (contract_all same ps es) (subst (λ z. IsIn (v, z) (contract_all same ps es)) q k) in let o = all_at_most v in omega arith
+      apart (inl k) q = let l = ends_loop v (contract_all same ps es)
+          (subst (λ z. IsIn (z, v) (contract_all same ps es)) q k) in let o = all_at_most v in omega arith
+      apart (inr k) q = let l = ends_loop v (contract_all same ps es)
+          (subst (λ z. IsIn (v, z) (contract_all same ps es)) q k) in let o = all_at_most v in omega arith
 
       stands : (v w : V) → IsIn (v, w) (contract_all same ps es) ⊎ IsIn (w, v) (contract_all same ps es) → ¬ (IsIn v ps)
       stands v w k i = let l = ends_in v w (contract_all same ps es) k in let o = d.none v i in omega arith
 
-      other_way : Near (contract_all same ps es) u v → IsIn (v, u) (contract_all same ps es) ⊎ IsIn (u, v) (contract_all same ps es)
+      other_way : Near (contract_all same ps es) u v →
+          IsIn (v, u) (contract_all same ps es) ⊎ IsIn (u, v) (contract_all same ps es)
       other_way (inl k) = inr k
       other_way (inr k) = inl k
 
@@ -407,10 +477,14 @@ module _ {V : Type 0} (same : V → V → Bool) (t : IsTest same) where
       from : (u ≢ v) × ¬ (IsIn u ps) × ¬ (IsIn v ps) × Joined (EdgeOf es) u v → Near (contract_all same ps es) u v
       from h = once (joined_once (contract_all same ps es) all_at_most (d.joins u v h.1 h.2 h.3)) h.0
 
-  pub any_order : (ps qs : List V) (es : List (V × V)) → ((p : V) → IsIn p ps ↔ IsIn p qs) → Ready same ps es → (u v : V) →
+  pub any_order : (ps qs : List V) (es : List (V × V)) → ((p : V) → IsIn p ps ↔ IsIn p qs) →
+      Ready same ps es → (u v : V) →
       Near (contract_all same ps es) u v ↔ Near (contract_all same qs es) u v
   any_order ps qs es k r u v =
-      let r' : Ready same qs es = record { two = λ p i. r.two p ((k p).1 i); one = λ v n. r.one v (λ i. n ((k v).0 i)) } in
+      let r' : Ready same qs es = record {
+        two = λ p i. r.two p ((k p).1 i);
+        one = λ v n. r.one v (λ i. n ((k v).0 i));
+      } in
       let a = left_edges ps es r u v in
       let b = left_edges qs es r' u v in (
         λ n. let h = a.0 n in b.1 (h.0, (λ i. h.1 ((k u).1 i)), (λ i. h.2 ((k v).1 i)), h.3),

@@ -13,13 +13,15 @@ joined_sym (on a e) = joined_trans (back here e) (joined_sym a)
 joined_sym (back a e) = joined_trans (on here e) (joined_sym a)
 
 -- from edges each of which joins
-pub joined_map : {V : Type 0} {E F : V → V → Type 0} {u v : V} → ((u v : V) → E u v → Joined F u v) → Joined E u v → Joined F u v
+pub joined_map : {V : Type 0} {E F : V → V → Type 0} {u v : V} →
+    ((u v : V) → E u v → Joined F u v) → Joined E u v → Joined F u v
 joined_map f here = here
 joined_map f (on {v = v} {w = w} a e) = joined_trans (joined_map f a) (f v w e)
 joined_map f (back {v = v} {w = w} a e) = joined_trans (joined_map f a) (joined_sym (f w v e))
 
 -- from edges whose images join
-pub joined_image : {V W : Type 0} {E : V → V → Type 0} {F : W → W → Type 0} {u v : V} → (m : V → W) → ((u v : V) → E u v → Joined F (m u) (m v)) → Joined E u v → Joined F (m u) (m v)
+pub joined_image : {V W : Type 0} {E : V → V → Type 0} {F : W → W → Type 0} {u v : V} →
+    (m : V → W) → ((u v : V) → E u v → Joined F (m u) (m v)) → Joined E u v → Joined F (m u) (m v)
 joined_image m f here = here
 joined_image m f (on {v = v} {w = w} a e) = joined_trans (joined_image m f a) (f v w e)
 joined_image m f (back {v = v} {w = w} a e) = joined_trans (joined_image m f a) (joined_sym (f w v e))
@@ -30,7 +32,8 @@ pub record Follows {V W : Type 0} (E : V → V → Type 0) (F : W → W → Type
   pub forth : (u v : V) (w : W) → E u v → R v w → (x : W) × R u x × Joined F x w
   pub back' : (u v : V) (w : W) → E u v → R u w → (x : W) × R v x × Joined F x w
 
-pub follow : {V W : Type 0} {E : V → V → Type 0} {F : W → W → Type 0} {R : V → W → Type 0} → Follows E F R → {u v : V} → Joined E u v → (w : W) → R v w → (x : W) × R u x × Joined F x w
+pub follow : {V W : Type 0} {E : V → V → Type 0} {F : W → W → Type 0} {R : V → W → Type 0} →
+    Follows E F R → {u v : V} → Joined E u v → (w : W) → R v w → (x : W) × R u x × Joined F x w
 follow s here w r = (w, r, here)
 follow s (on {v = a} {w = b} j e) w r =
     let t = s.forth a b w e r in

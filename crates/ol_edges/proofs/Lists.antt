@@ -1,5 +1,6 @@
 -- What stands in lists, and where.
-use Rattle.std.proofs.Common.{◌≡◌, ℕ, zero, suc, ◌+◌, ◌<◌, ◌≤◌, List, [], ◌∷◌, ◌++◌, map, Some, ◌⊎◌, inl, inr, refl, sym, ap, arith, length, nat_lt, if◌then◌else◌}
+use Rattle.std.proofs.Common.{◌≡◌, ℕ, zero, suc, ◌+◌, ◌<◌, ◌≤◌, List, [], ◌∷◌, ◌++◌, map, Some, ◌⊎◌}
+use Rattle.std.proofs.Common.{inl, inr, refl, sym, ap, arith, length, nat_lt, if◌then◌else◌}
 use Rattle.std.proofs.lemmas.Bool.{cond_below, cond_above}
 use Rattle.std.specs.Prelude.{slice_get}
 use Rattle.ol_edges.specs.Edges.{IsIn}
@@ -50,7 +51,8 @@ got_append [] ys p y h = inr (p, omega arith, h)
 got_append (x ∷ xs) ys zero y h = inl h
 got_append {X} (x ∷ xs) ys (suc p) y h = go (got_append xs ys p y h)
   where
-    go : (slice_get xs p ≡ Some y) ⊎ ((q : ℕ) × (p ≡ length xs + q) × (slice_get ys q ≡ Some y)) → (slice_get xs p ≡ Some y) ⊎ ((q : ℕ) × (suc p ≡ suc (length xs) + q) × (slice_get ys q ≡ Some y))
+    go : (slice_get xs p ≡ Some y) ⊎ ((q : ℕ) × (p ≡ length xs + q) × (slice_get ys q ≡ Some y)) →
+        (slice_get xs p ≡ Some y) ⊎ ((q : ℕ) × (suc p ≡ suc (length xs) + q) × (slice_get ys q ≡ Some y))
     go (inl e) = inl e
     go (inr (q, e, k)) = inr (q, omega arith, k)
 

@@ -6,7 +6,8 @@ use Rattle.ol_edges.specs.Edges.{IsTest, IsIn, Ready, Near, contract_all, Joined
 -- most.
 abbrev pub ContractAnyOrder : Type 0 → Type 0
 ContractAnyOrder V =
-    (same : V → V → Bool) → IsTest same → (ps qs : List V) (es : List (V × V)) → ((p : V) → IsIn p ps ↔ IsIn p qs) → Ready same ps es →
+    (same : V → V → Bool) → IsTest same → (ps qs : List V) (es : List (V × V)) →
+    ((p : V) → IsIn p ps ↔ IsIn p qs) → Ready same ps es →
     (u v : V) → Near (contract_all same ps es) u v ↔ Near (contract_all same qs es) u v
 
 -- And what is left is what was joined by way of them.

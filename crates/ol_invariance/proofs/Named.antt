@@ -5,7 +5,8 @@ use Rattle.ol_context.specs.Paths.{Path}
 use Rattle.ol_edges.proofs.Contraction.{is_or_is_not}
 use Rattle.ol_edges.proofs.Joining.{joined_trans, joined_sym, joined_image, Follows, follow}
 use Rattle.ol_edges.specs.Edges.{IsTest, Joined, here, on, back}
-use Rattle.ol_invariance.proofs.Moves.{State, Move, link, node, Suits, After, wire, other_node, f_node, g_node, same_joined}
+use Rattle.ol_invariance.proofs.Moves.{State, Move, link, node, Suits, After, wire, other_node}
+use Rattle.ol_invariance.proofs.Moves.{f_node, g_node, same_joined}
 use Rattle.ol_invariance.proofs.Trails.{path_is_joined}
 use Rattle.ol_net.specs.Nets.{NamedPort, free, slot, NamedNet, Linked, IsNet, Faces}
 use Rattle.ol_net.specs.Parts.{arity}
@@ -25,10 +26,12 @@ module _ {A : Type 0} (N : NamedNet A) (f g : A) (k : Kind) (i : ℕ) (l : Kind)
   abbrev named : Vertex A → NamedPort A
   named u = ports.named N f g k i l j a born u
 
-  module _ (same : A → A → Bool) (t : IsTest same) (is_net : IsNet N) (faces : Faces N f g k i l j) (fresh : IsFresh N born) (M : NamedNet A) (rewrites : Rewrites born N f g k i l a M) where
+  module _ (same : A → A → Bool) (t : IsTest same) (is_net : IsNet N) (faces : Faces N f g k i l j)
+      (fresh : IsFresh N born) (M : NamedNet A) (rewrites : Rewrites born N f g k i l a M) where
     named_one : (u v : Vertex A) → IsLasting u → IsLasting v → named u ≡ named v → u ≡ v
     named_one u v h h' e = name_one N f g k i l j a born is_net faces fresh u v
-        (lasts_real N f g k i l j a born is_net faces fresh u h) (lasts_real N f g k i l j a born is_net faces fresh v h') e
+        (lasts_real N f g k i l j a born is_net faces fresh u h)
+        (lasts_real N f g k i l j a born is_net faces fresh v h') e
 
     links_after : (p q : NamedPort A) → Linked M p q ↔ LinkAfter N f g k i l j a born p q
     links_after p q =
@@ -43,9 +46,11 @@ module _ {A : Type 0} (N : NamedNet A) (f g : A) (k : Kind) (i : ℕ) (l : Kind)
     unfolding NamedAs
     named_as_one u w z a b =
         let e : ◌≡◌ {A = State (NamedPort A)} (named w.0, w.1) (named z.0, z.1) = sym a.1 ∙ b.1 in
-        ap (λ x. (x, w.1)) (named_one w.0 z.0 a.0 b.0 (ap (λ (u : State (NamedPort A)). u.0) e)) ∙ ap (λ c. (z.0, c)) (ap (λ (u : State (NamedPort A)). u.1) e)
+        ap (λ x. (x, w.1)) (named_one w.0 z.0 a.0 b.0 (ap (λ (u : State (NamedPort A)). u.0) e))
+        ∙ ap (λ c. (z.0, c)) (ap (λ (u : State (NamedPort A)). u.1) e)
 
-    wired_moves : {u v : Vertex A} (c : Context) → Joined (Wire N f g k i l j a) u v → Joined (After N f g k i l j a) (u, c) (v, c)
+    wired_moves : {u v : Vertex A} (c : Context) → Joined (Wire N f g k i l j a) u v →
+        Joined (After N f g k i l j a) (u, c) (v, c)
     wired_moves c w = joined_image (λ u. (u, c)) (λ u v e. on here (wire e)) w
 
     -- a move afterwards, between vertices
@@ -66,7 +71,8 @@ module _ {A : Type 0} (N : NamedNet A) (f g : A) (k : Kind) (i : ℕ) (l : Kind)
       joined = wired_moves c h.joined;
     }
 
-    lift_node : (x : A) (m : Kind) (n s : ℕ) (c d : Context) → NodeOf N born f g k i l a x m n → s < arity m → up m n s c ≡ d → Lifted (slot x 0, d) (slot x (suc s), c)
+    lift_node : (x : A) (m : Kind) (n s : ℕ) (c d : Context) → NodeOf N born f g k i l a x m n →
+        s < arity m → up m n s c ≡ d → Lifted (slot x 0, d) (slot x (suc s), c)
     unfolding NamedAs
     lift_node x m n s c d (left h x' x'') b e = record {
       from = (old (slot x 0), d);
@@ -92,28 +98,51 @@ module _ {A : Type 0} (N : NamedNet A) (f g : A) (k : Kind) (i : ℕ) (l : Kind)
 
     lift_move : (u v : State (NamedPort A)) → Move M u v → Lifted u v
     lift_move u v (link {p = p} {q = q} {c = c} h) = lift_link p q c ((links_after p q).0 h)
-    lift_move u v (node {x = x} {s = s} {c = c} {d = d} m n h b e) = lift_node x m n s c d ((rewrites.nodes x m n).0 h) b e
+    lift_move u v (node {x = x} {s = s} {c = c} {d = d} m n h b e) = lift_node x m n s c d
+        ((rewrites.nodes x m n).0 h) b e
 
     to_vertices : Follows (Move M) (After N f g k i l j a) NamedAs
     to_vertices = record {
-      forth = λ u v w m r. let t = lift_move u v m in (t.from, t.from_is, subst (λ z. Joined (After N f g k i l j a) t.from z) (named_as_one v t.to w t.to_is r) t.joined);
-      back' = λ u v w m r. let t = lift_move u v m in (t.to, t.to_is, joined_sym (subst (λ z. Joined (After N f g k i l j a) z t.to) (named_as_one u t.from w t.from_is r) t.joined));
+      forth = λ u v w m r. let t = lift_move u v m in (
+        t.from,
+        t.from_is,
+        subst (λ z. Joined (After N f g k i l j a) t.from z)
+            (named_as_one v t.to w t.to_is r) t.joined,
+      );
+      back' = λ u v w m r. let t = lift_move u v m in (
+        t.to,
+        t.to_is,
+        joined_sym (subst (λ z. Joined (After N f g k i l j a) z t.to)
+            (named_as_one u t.from w t.from_is r) t.joined),
+      );
     }
 
     -- joined afterwards, by names: joined by vertices
-    pub joined_vertices : (u v : State (Vertex A)) → IsLasting u.0 → IsLasting v.0 → Joined (Move M) (named u.0, u.1) (named v.0, v.1) → Joined (After N f g k i l j a) u v
+    pub joined_vertices : (u v : State (Vertex A)) → IsLasting u.0 → IsLasting v.0 →
+        Joined (Move M) (named u.0, u.1) (named v.0, v.1) → Joined (After N f g k i l j a) u v
     unfolding NamedAs
     joined_vertices u v h h' w =
         let t = follow to_vertices w v (h', refl) in
         subst (λ z. Joined (After N f g k i l j a) z v) (named_as_one (named u.0, u.1) t.0 u t.1 (h, refl)) t.2
 
     -- vertices that last and are joined by wires are linked afterwards
-    hop : (u v : Vertex A) (c : Context) → IsLasting u → IsLasting v → Joined (Wire N f g k i l j a) u v → Joined (Move M) (named u, c) (named v, c)
+    hop : (u v : Vertex A) (c : Context) → IsLasting u → IsLasting v →
+        Joined (Wire N f g k i l j a) u v → Joined (Move M) (named u, c) (named v, c)
     hop u v c h h' w = go (is_or_is_not (vertex_same same) (vertex_test same t) v u)
       where
         go : (u ≡ v) ⊎ (u ≢ v) → Joined (Move M) (named u, c) (named v, c)
         go (inl e) = subst (λ v. Joined (Move M) (named u, c) (named v, c)) e here
-        go (inr n) = on here (link ((links_after (named u) (named v)).1 (record { from = u; to = v; from_lasts = h; to_lasts = h'; apart = n; joined = w; from_is = refl; to_is = refl })))
+        go (inr n) = on here (link ((links_after (named u) (named v)).1
+            (record {
+              from = u;
+              to = v;
+              from_lasts = h;
+              to_lasts = h';
+              apart = n;
+              joined = w;
+              from_is = refl;
+              to_is = refl;
+            })))
 
     -- the port at the far end of a vertex's wires
     EndOf : State (Vertex A) → State (NamedPort A) → Type 0
@@ -126,10 +155,15 @@ module _ {A : Type 0} (N : NamedNet A) (f g : A) (k : Kind) (i : ℕ) (l : Kind)
     unfolding Followed EndOf
     followed_wire u v c w z t = (z, (t.0, t.1, joined_trans w t.2, t.3), here)
 
-    followed_move : (u v : Vertex A) (c d : Context) → IsLasting u → IsLasting v → Joined (Move M) (named u, c) (named v, d) → Followed (u, c) (v, d)
+    followed_move : (u v : Vertex A) (c d : Context) → IsLasting u → IsLasting v →
+        Joined (Move M) (named u, c) (named v, d) → Followed (u, c) (v, d)
     unfolding Followed EndOf
-    followed_move u v c d h h' m z t =
-        ((named u, c), (u, h, here, refl), subst (λ z. Joined (Move M) (named u, c) z) (sym t.3) (joined_trans m (hop v t.0 d h' t.1 t.2)))
+    followed_move u v c d h h' m z t = (
+      (named u, c),
+      (u, h, here, refl),
+      subst (λ z. Joined (Move M) (named u, c) z) (sym t.3)
+          (joined_trans m (hop v t.0 d h' t.1 t.2)),
+    )
 
     followed : (u v : State (Vertex A)) → After N f g k i l j a u v → Followed u v × Followed v u
     followed u v (wire {u = x} {v = y} {c = c} w) = (followed_wire x y c (on here w), followed_wire y x c (back here w))
@@ -155,7 +189,8 @@ module _ {A : Type 0} (N : NamedNet A) (f g : A) (k : Kind) (i : ℕ) (l : Kind)
     to_ports = record { forth = λ u v w m t. (followed u v m).0 w t; back' = λ u v w m t. (followed u v m).1 w t }
 
     -- joined by vertices: joined afterwards, by names
-    pub joined_ports : (u v : State (Vertex A)) → IsLasting u.0 → IsLasting v.0 → Joined (After N f g k i l j a) u v → Joined (Move M) (named u.0, u.1) (named v.0, v.1)
+    pub joined_ports : (u v : State (Vertex A)) → IsLasting u.0 → IsLasting v.0 →
+        Joined (After N f g k i l j a) u v → Joined (Move M) (named u.0, u.1) (named v.0, v.1)
     unfolding EndOf
     joined_ports u v h h' m =
         let t = follow to_ports m (named v.0, v.1) (v.0, h', here, refl) in
@@ -178,7 +213,8 @@ module _ {A : Type 0} (N : NamedNet A) (f g : A) (k : Kind) (i : ℕ) (l : Kind)
             (path_is_joined M n' p c q d).1 (
               h.0,
               joined_ports (old (free p), c) (old (free q), d) tt tt
-                  ((same_joined N f g k i l j is_net faces same_name a m (free p, c) (free q, d) (off p) (off q)).0 h.1),
+                  ((same_joined N f g k i l j is_net faces same_name a m (free p, c) (free q, d)
+                  (off p) (off q)).0 h.1),
             )
 
         back'' : Path M (free p) c q d → Path N (free p) c q d

@@ -20,7 +20,9 @@ pub step_keeps : {A : Type 0} → StepKeepsPaths A
 step_keeps same t born N M f g r n fresh s =
     let a = s.active in
     let n' = net_kept same t born N f g a.k a.i a.l a.j r n a.faces fresh a.fits M s.rewrites in
-    keeps_paths N f g a.k a.i a.l a.j (action_of r a.j) born same t n a.faces fresh M s.rewrites n' (rule_suits a.k a.i a.l a.j r a.fits)
+    keeps_paths N f g a.k a.i a.l a.j (action_of r a.j) born same t n a.faces fresh M s.rewrites n'
+    (rule_suits a.k a.i a.l a.j r a.fits)
 
 pub graph_step_keeps : GraphStepKeepsPaths
-graph_step_keeps old new at r n s = step_keeps nat_eq nat_test (λ place. length old.nodes + place) (net_of old) (net_of new) s.f s.g r n (fresh_numbers old) s.step
+graph_step_keeps old new at r n s = step_keeps nat_eq nat_test (λ place. length old.nodes + place)
+    (net_of old) (net_of new) s.f s.g r n (fresh_numbers old) s.step

@@ -25,15 +25,21 @@ module _ {A : Type 0} (N : NamedNet A) where
 
   pub path_joined : {p : NamedPort A} {c d : Context} {q : ℕ} → Path N p c q d → Joined (Move N) (p, c) (free q, d)
   path_joined (ends l) = edges.on here (link l)
-  path_joined (goes l h x r) = joined_trans (joined_trans (edges.on here (link l)) (through_joined (through h x))) (path_joined r)
+  path_joined (goes l h x r) = joined_trans
+      (joined_trans (edges.on here (link l)) (through_joined (through h x))) (path_joined r)
 
-  through_goes : {r s : NamedPort A} {c d : Context} → Through N r c s d → (p : NamedPort A) (q : ℕ) (e : Context) → Linked N p r → Path N s d q e → Path N p c q e
+  through_goes : {r s : NamedPort A} {c d : Context} → Through N r c s d →
+      (p : NamedPort A) (q : ℕ) (e : Context) → Linked N p r → Path N s d q e → Path N p c q e
   through_goes (through h x) p q e l r = goes l h x r
 
   trail_path : {u v : State (NamedPort A)} {b : Bool} → Trail u b v → (q : ℕ) (d : Context) →
-      (b ≡ true → Path N v.0 v.1 q d → Path N u.0 u.1 q d) × (b ≡ false → (r : NamedPort A) (e : Context) → Through N v.0 v.1 r e → Path N r e q d → Path N u.0 u.1 q d)
+      (b ≡ true → Path N v.0 v.1 q d → Path N u.0 u.1 q d)
+      × (b ≡ false → (r : NamedPort A) (e : Context) → Through N v.0 v.1 r e → Path N r e q d → Path N u.0 u.1 q d)
   trail_path none q d = (λ e r. r, λ e. absurd (cc))
-  trail_path (by_link {p = p} t l) q d = (λ e. absurd (cc), λ e s z x r. (trail_path t q d).0 refl (through_goes x p q d l r))
+  trail_path (by_link {p = p} t l) q d = (
+    λ e. absurd (cc),
+    λ e s z x r. (trail_path t q d).0 refl (through_goes x p q d l r),
+  )
   trail_path (by_node {q = s} {d = z} t x) q d = (λ e r. (trail_path t q d).1 refl s z x r, λ e. absurd (cc))
 
   through_not_free : {p q : NamedPort A} {c d : Context} → Through N p c q d → (n : ℕ) → p ≡ free n → ⊥
@@ -53,26 +59,46 @@ module _ {A : Type 0} (N : NamedNet A) where
     rest : Way N out after n u d
 
   first_of : (n : ℕ) {p u : NamedPort A} {c d : Context} → Way N p c (suc n) u d → First n p c u d
-  first_of zero (on {e = e} {x = x} {s = s} {t = t} start l h y) = record { port = slot x s; out = slot x t; after = e; linked = l; goes_through = through h y; rest = start }
+  first_of zero (on {e = e} {x = x} {s = s} {t = t} start l h y) = record {
+    port = slot x s;
+    out = slot x t;
+    after = e;
+    linked = l;
+    goes_through = through h y;
+    rest = start;
+  }
   first_of (suc n) (on {u = u} {x = x} {s = s} w l h y) =
       let r = first_of n w in
-      record { port = r.port; out = r.out; after = r.after; linked = r.linked; goes_through = r.goes_through; rest = way_on N r.rest l (through h y) }
+      record {
+        port = r.port;
+        out = r.out;
+        after = r.after;
+        linked = r.linked;
+        goes_through = r.goes_through;
+        rest = way_on N r.rest l (through h y);
+      }
 
   module _ (is_net : IsNet N) where
     -- one more move stays on the trail
-    trail_through : {n : ℕ} {c : Context} {b : Bool} {p q : NamedPort A} {d e : Context} → Trail (free n, c) b (p, d) → Through N p d q e → (b' : Bool) × Trail (free n, c) b' (q, e)
+    trail_through : {n : ℕ} {c : Context} {b : Bool} {p q : NamedPort A} {d e : Context} →
+        Trail (free n, c) b (p, d) → Through N p d q e → (b' : Bool) × Trail (free n, c) b' (q, e)
     trail_through {n} {c} none x = absurd (through_not_free x n refl)
     trail_through (by_link t l) x = (true, by_node (by_link t l) x)
     trail_through {n} {c} {q = q} {d = d} (by_node {p = r} {q = p} {c = z} t y) x =
         let o = through_one N is_net (through_back N r p z d y) x in
         (false, subst (λ z. Trail (free n, c) false (q, z)) o.1 (subst (λ r. Trail (free n, c) false (r, z)) o.0 t))
 
-    trail_link : {n : ℕ} {c : Context} {b : Bool} {p : NamedPort A} {d : Context} → Trail (free n, c) b (p, d) → (q : NamedPort A) → Linked N p q → (b' : Bool) × Trail (free n, c) b' (q, d)
+    trail_link : {n : ℕ} {c : Context} {b : Bool} {p : NamedPort A} {d : Context} →
+        Trail (free n, c) b (p, d) → (q : NamedPort A) → Linked N p q → (b' : Bool) × Trail (free n, c) b' (q, d)
     trail_link none q l = (false, by_link none l)
     trail_link (by_node t y) q l = (false, by_link (by_node t y) l)
-    trail_link {n} {c} (by_link {p = r} {q = p} {c = d} t l') q l = (true, subst (λ z. Trail (free n, c) true (z, d)) (is_net.one_link p r q (linked_sym N r p l') l) t)
+    trail_link {n} {c} (by_link {p = r} {q = p} {c = d} t l') q l = (
+      true,
+      subst (λ z. Trail (free n, c) true (z, d)) (is_net.one_link p r q (linked_sym N r p l') l) t,
+    )
 
-    joined_trail : {n : ℕ} {c : Context} {v : State (NamedPort A)} → Joined (Move N) (free n, c) v → (b : Bool) × Trail (free n, c) b v
+    joined_trail : {n : ℕ} {c : Context} {v : State (NamedPort A)} → Joined (Move N) (free n, c) v →
+        (b : Bool) × Trail (free n, c) b v
     joined_trail here = (true, none)
     joined_trail (edges.on j (link {q = q} l)) = trail_link (joined_trail j).1 q l
     joined_trail (edges.on j (node k i h b e)) = trail_through (joined_trail j).1 (through h (outward b e))
@@ -80,13 +106,18 @@ module _ {A : Type 0} (N : NamedNet A) where
     joined_trail (edges.back j (node k i h b e)) = trail_through (joined_trail j).1 (through h (inward b e))
 
     -- a trail to a free port ends in a link
-    last_link : {u v : State (NamedPort A)} {b : Bool} → Trail u b v → (q : ℕ) (d : Context) → v ≡ (free q, d) → (u ≡ (free q, d)) ⊎ Path N u.0 u.1 q d
+    last_link : {u v : State (NamedPort A)} {b : Bool} → Trail u b v → (q : ℕ) (d : Context) →
+        v ≡ (free q, d) → (u ≡ (free q, d)) ⊎ Path N u.0 u.1 q d
     last_link none q d e = inl e
-    last_link (by_node {p = p} {q = r} {c = c} {d = z} t y) q d e = absurd (through_not_free (through_back N p r c z y) q (ap (λ (u : State (NamedPort A)). u.0) e))
+    last_link (by_node {p = p} {q = r} {c = c} {d = z} t y) q d e = absurd
+        (through_not_free (through_back N p r c z y) q (ap (λ (u : State (NamedPort A)). u.0) e))
     last_link {u} (by_link {p = p} {q = r} {c = c} t l) q d e = inr ((trail_path t q d).0 refl
-        (subst (λ z. Path N p c q z) (ap (λ (u : State (NamedPort A)). u.1) e) (ends (subst (λ z. Linked N p z) (ap (λ (u : State (NamedPort A)). u.0) e) l))))
+        (subst (λ z. Path N p c q z) (ap (λ (u : State (NamedPort A)). u.1) e)
+        (ends (subst (λ z. Linked N p z) (ap (λ (u : State (NamedPort A)). u.0) e) l))))
 
-    pub joined_path : (p : ℕ) (c : Context) (q : ℕ) (d : Context) → Joined (Move N) (free p, c) (free q, d) → (◌≡◌ {A = State (NamedPort A)} (free p, c) (free q, d)) ⊎ Path N (free p) c q d
+    pub joined_path : (p : ℕ) (c : Context) (q : ℕ) (d : Context) →
+        Joined (Move N) (free p, c) (free q, d) →
+        (◌≡◌ {A = State (NamedPort A)} (free p, c) (free q, d)) ⊎ Path N (free p) c q d
     joined_path p c q d j = last_link (joined_trail j).1 q d refl
 
     -- no way comes back to the link that it left by
@@ -98,8 +129,11 @@ module _ {A : Type 0} (N : NamedNet A) where
     no_return (suc (suc n)) {p} {c = c} {d = z} (on {u = u} {d = d} {x = x} {s = s} {t = t} w l h y) m e =
         let r = first_of n w in
         let same : slot x t ≡ r.port = is_net.one_link p (slot x t) r.port m r.linked in
-        let away : Through N (slot x t) c r.out r.after = subst (λ v. Through N v c r.out r.after) (sym same) r.goes_through in
-        let home : Through N (slot x t) c (slot x s) d = subst (λ z. Through N (slot x t) z (slot x s) d) (sym e) (through_back N (slot x s) (slot x t) d z (through h y)) in
+        let away : Through N (slot x t) c r.out r.after = subst (λ v. Through N v c r.out r.after)
+        (sym same) r.goes_through in
+        let home : Through N (slot x t) c (slot x s) d = subst
+        (λ z. Through N (slot x t) z (slot x s) d) (sym e)
+        (through_back N (slot x s) (slot x t) d z (through h y)) in
         let meet = through_one N is_net home away in
         no_return n r.rest (subst (λ v. Linked N v u) meet.0 (linked_sym N u (slot x s) l)) (sym meet.1)
 
@@ -108,7 +142,8 @@ module _ {A : Type 0} (N : NamedNet A) where
 
     -- a path is a way of moves that ends elsewhere
     pub path_is_joined : (p : ℕ) (c : Context) (q : ℕ) (d : Context) →
-        Path N (free p) c q d ↔ ((◌≡◌ {A = State (NamedPort A)} (free p, c) (free q, d)) → ⊥) × Joined (Move N) (free p, c) (free q, d)
+        Path N (free p) c q d ↔ ((◌≡◌ {A = State (NamedPort A)} (free p, c) (free q, d)) → ⊥)
+        × Joined (Move N) (free p, c) (free q, d)
     path_is_joined p c q d = (λ r. (λ e. loops e r, path_joined r), λ h. choose (joined_path p c q d h.1) h.0)
       where
         loops : (◌≡◌ {A = State (NamedPort A)} (free p, c) (free q, d)) → Path N (free p) c q d → ⊥
@@ -118,6 +153,7 @@ module _ {A : Type 0} (N : NamedNet A) where
             let n : p ≡ q = cc in
             no_loop q d (subst (λ n. Path N (free n) d q d) n (subst (λ c. Path N (free p) c q d) e1 r))
 
-        choose : (◌≡◌ {A = State (NamedPort A)} (free p, c) (free q, d)) ⊎ Path N (free p) c q d → ((◌≡◌ {A = State (NamedPort A)} (free p, c) (free q, d)) → ⊥) → Path N (free p) c q d
+        choose : (◌≡◌ {A = State (NamedPort A)} (free p, c) (free q, d)) ⊎ Path N (free p) c q d →
+            ((◌≡◌ {A = State (NamedPort A)} (free p, c) (free q, d)) → ⊥) → Path N (free p) c q d
         choose (inl e) n = absurd (n e)
         choose (inr r) n = r

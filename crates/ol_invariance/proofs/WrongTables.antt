@@ -8,13 +8,17 @@ use Rattle.ol_net.specs.declared.parts.Kind.{Kind}
 use Rattle.ol_net.specs.declared.parts.Kind.TheVariants as kind
 use Rattle.ol_net.specs.declared.parts.Rule.TheVariants as rule
 use Rattle.ol_rules.specs.Rewriting.{index_after}
-use Rattle.ol_invariance.specs.Tables.{IndexesAgree, two_facing, turned_joins, TurnedJoinsLoseAPath, facing_fan, past_fan, IsOnlyIndexPast}
+use Rattle.ol_invariance.specs.Tables.{IndexesAgree, two_facing, turned_joins, TurnedJoinsLoseAPath}
+use Rattle.ol_invariance.specs.Tables.{facing_fan, past_fan, IsOnlyIndexPast}
 use Rattle.ol_context.proofs.LeafMoves.{marked_empty}
 
 pub indexes_agree : IndexesAgree
-indexes_agree kind.Fan r i n e = let q : rule.CrossFan ≡ r = cc in subst (λ r. index_after r (i + suc n) ≡ i + suc n) q refl
-indexes_agree kind.Croissant r i n e = let q : rule.CrossCroissant ≡ r = cc in subst (λ r. index_after r (i + suc n) ≡ i + n) q (omega arith)
-indexes_agree kind.Bracket r i n e = let q : rule.CrossBracket ≡ r = cc in subst (λ r. index_after r (i + suc n) ≡ i + suc (suc n)) q (omega arith)
+indexes_agree kind.Fan r i n e = let q : rule.CrossFan ≡ r = cc in
+    subst (λ r. index_after r (i + suc n) ≡ i + suc n) q refl
+indexes_agree kind.Croissant r i n e = let q : rule.CrossCroissant ≡ r = cc in
+    subst (λ r. index_after r (i + suc n) ≡ i + n) q (omega arith)
+indexes_agree kind.Bracket r i n e = let q : rule.CrossBracket ≡ r = cc in
+    subst (λ r. index_after r (i + suc n) ≡ i + suc (suc n)) q (omega arith)
 indexes_agree kind.Lam r i n e = absurd (cc)
 indexes_agree kind.App r i n e = absurd (cc)
 indexes_agree kind.Eraser r i n e = absurd (cc)
@@ -30,7 +34,8 @@ not_slot : {k x s : ℕ} → ◌≡◌ {A = NamedPort ℕ} (free k) (slot x s) �
 not_slot e = absurd (cc)
 
 -- from free port 0 to free port 2, by the slots 1 of the two
-straight : (k l : Kind) → 0 < arity k → 0 < arity l → (c : Context) → up l 0 0 c ≡ up k 0 0 c → Path (two_facing k l) (free 0) c 2 c
+straight : (k l : Kind) → 0 < arity k → 0 < arity l → (c : Context) → up l 0 0 c ≡ up k 0 0 c →
+    Path (two_facing k l) (free 0) c 2 c
 straight k l a b c same =
     goes {d = up k 0 0 c} {x = 0} {k = k} {i = 0} {s = 1} {t = 0} (inl (inr (inl refl))) (inl refl) (inward a refl)
     (goes {d = c} {x = 1} {k = l} {i = 0} {s = 0} {t = 1} (inl (inl refl)) (inr (inl refl)) (outward b same)
@@ -49,16 +54,20 @@ none_turned (ends l) = let f : free 2 ≡ free 3 = turned_from_0 (free 2) l in a
 none_turned (goes l h x r) = absurd h
 
 pub turned_fans : TurnedJoinsLoseAPath kind.Fan kind.Fan
-turned_fans same = none_turned ((same 0 (levels []) 2 (levels [])).0 (straight kind.Fan kind.Fan (omega arith) (omega arith) (levels []) refl))
+turned_fans same = none_turned ((same 0 (levels []) 2 (levels [])).0
+    (straight kind.Fan kind.Fan (omega arith) (omega arith) (levels []) refl))
 
 pub turned_beta : TurnedJoinsLoseAPath kind.App kind.Lam
-turned_beta same = none_turned ((same 0 (levels []) 2 (levels [])).0 (straight kind.App kind.Lam (omega arith) (omega arith) (levels []) refl))
+turned_beta same = none_turned ((same 0 (levels []) 2 (levels [])).0
+    (straight kind.App kind.Lam (omega arith) (omega arith) (levels []) refl))
 
 -- from free port 0 to the fan's free port 1
-by_the_fan : (k : Kind) → 0 < arity k → (c d : Context) → up kind.Fan 1 0 d ≡ up k 0 0 c → Path (facing_fan k) (free 0) c 1 d
+by_the_fan : (k : Kind) → 0 < arity k → (c d : Context) → up kind.Fan 1 0 d ≡ up k 0 0 c →
+    Path (facing_fan k) (free 0) c 1 d
 by_the_fan k a c d same =
     goes {d = up k 0 0 c} {x = 0} {k = k} {i = 0} {s = 1} {t = 0} (inl (inr (inl refl))) (inl refl) (inward a refl)
-    (goes {d = d} {x = 1} {k = kind.Fan} {i = 1} {s = 0} {t = 1} (inl (inl refl)) (inr (inl refl)) (outward (omega arith) same)
+    (goes {d = d} {x = 1} {k = kind.Fan} {i = 1} {s = 0} {t = 1} (inl (inl refl)) (inr (inl refl))
+    (outward (omega arith) same)
     (ends (inr (inr (inr (inl refl))))))
 
 past_from_0 : (k : Kind) (n : ℕ) (u : NamedPort ℕ) → Linked (past_fan k n) (free 0) u → u ≡ slot 2 0
@@ -104,7 +113,8 @@ marked_past k n {c = c} (goes {d = d} {x = x} {k = l} {i = i} {s = s} {t = t} l'
     let entry : s ≡ 0 = cc in
     let fan = is_fan k l n i (subst (λ x. HasNode (past_fan k n) x l i) node h) in
     let from = is_change entry y in
-    let changed : up kind.Fan n from.0 d ≡ c = subst (λ i. up kind.Fan i from.0 d ≡ c) fan.1 (subst (λ l. up l i from.0 d ≡ c) fan.0 from.1) in
+    let changed : up kind.Fan n from.0 d ≡ c = subst (λ i. up kind.Fan i from.0 d ≡ c) fan.1
+    (subst (λ l. up l i from.0 d ≡ c) fan.0 from.1) in
     (from.0, d n, sym (at_its_level n from.0 d) ∙ ap (λ (e : Context). e n) changed)
 
 bare : (c : Context) (n : ℕ) → c n ≡ empty → Marked c n → ⊥
@@ -112,7 +122,8 @@ bare c n e m = marked_empty m.0 m.1 (m.2 ∙ e)
 
 -- an o at level 0
 pub past_croissant : IsOnlyIndexPast kind.Croissant 0
-past_croissant n same = found n (marked_past kind.Croissant n ((same 0 c 1 (cons empty (levels []))).0 (by_the_fan kind.Croissant (omega arith) c (cons empty (levels [])) refl)))
+past_croissant n same = found n (marked_past kind.Croissant n
+    ((same 0 c 1 (cons empty (levels []))).0 (by_the_fan kind.Croissant (omega arith) c (cons empty (levels [])) refl)))
   where
     c : Context
     c = mark 0 (levels [])
@@ -123,7 +134,8 @@ past_croissant n same = found n (marked_past kind.Croissant n ((same 0 c 1 (cons
 
 -- an o at level 2
 pub past_bracket : IsOnlyIndexPast kind.Bracket 2
-past_bracket n same = found n (marked_past kind.Bracket n ((same 0 c 1 d).0 (by_the_fan kind.Bracket (omega arith) c d refl)))
+past_bracket n same = found n (marked_past kind.Bracket n
+    ((same 0 c 1 d).0 (by_the_fan kind.Bracket (omega arith) c d refl)))
   where
     c : Context
     c = cons empty (cons empty (mark 0 (levels [])))

@@ -20,7 +20,8 @@ StepKeepsPaths A = (same : A → A → Bool) → IsTest same → (born : ℕ →
 
 -- So does a step of a graph, whose born nodes take the next numbers.
 abbrev pub GraphStepKeepsPaths : Type 0
-GraphStepKeepsPaths = (old new : Graph) (at : ℕ) (r : Rule) → IsNet (net_of old) → StepsAt old new at r → HaveSamePaths (net_of old) (net_of new)
+GraphStepKeepsPaths = (old new : Graph) (at : ℕ) (r : Rule) → IsNet (net_of old) →
+    StepsAt old new at r → HaveSamePaths (net_of old) (net_of new)
 
 -- So does each run along a journal, from any ticket on.
 abbrev pub JournalKeepsPaths : Type 0

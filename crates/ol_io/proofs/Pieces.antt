@@ -1,5 +1,6 @@
 -- Pieces of bytes, one after the other.
-use Rattle.std.proofs.Common.{◌≡◌, ℕ, ◌≤◌, ◌+◌, ◌-◌, List, ◌++◌, length, take, drop, Option, None, Some, refl, ap, sym, ◌∙◌, append_assoc, arith}
+use Rattle.std.proofs.Common.{◌≡◌, ℕ, ◌≤◌, ◌+◌, ◌-◌, List, ◌++◌, length, take, drop, Option, None}
+use Rattle.std.proofs.Common.{Some, refl, ap, sym, ◌∙◌, append_assoc, arith}
 use Rattle.std.proofs.Math.Seq.{take-add}
 use Rattle.std.proofs.lemmas.List.{take-append-drop}
 use Rattle.std.proofs.lemmas.Grind.{common_steps}
@@ -21,7 +22,8 @@ Appended-on a b c text i n h k =
     rw (take-add i n text) (Appended-more a b c (take i text) (take n (drop i text)) h (rw rest at k))
 
 -- what a copy into the front of a buffer takes away
-pub Consumed-by_copy : (left buf new : List ℕ) (n : ℕ) → n ≤ length left → new ≡ take n left ++ drop n buf → Consumed (Some left) (take n new) (Some (drop n left))
+pub Consumed-by_copy : (left buf new : List ℕ) (n : ℕ) → n ≤ length left →
+    new ≡ take n left ++ drop n buf → Consumed (Some left) (take n new) (Some (drop n left))
 Consumed-by_copy left buf new n within e =
     let front : take n new ≡ take n left = rw e (grind (arith, common_steps)) in
     (drop n left, refl, sym (take-append-drop n left) ∙ ap (λ l. l ++ drop n left) (sym front))

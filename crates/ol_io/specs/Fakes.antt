@@ -1,5 +1,6 @@
 -- A source and a sink in memory: their states, what each call answers, and the state that it leaves.
-use Rattle.std.specs.Prelude.{ℕ, ◌+◌, ◌-◌, ◌==◌, ◌||◌, min, Bool, true, false, if◌then◌else◌, List, [], ◌∷◌, ◌++◌, length, take, drop, is_none, unwrap_or}
+use Rattle.std.specs.Prelude.{ℕ, ◌+◌, ◌-◌, ◌==◌, ◌||◌, min, Bool, true, false, if◌then◌else◌, List}
+use Rattle.std.specs.Prelude.{[], ◌∷◌, ◌++◌, length, take, drop, is_none, unwrap_or}
 use Rattle.std.specs.List.{list_any}
 use Rattle.ol_io.specs.Files.{File, contents_of}
 use Rattle.ol_io.specs.Outside.{next_count, byte_count}

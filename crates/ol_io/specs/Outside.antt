@@ -1,5 +1,6 @@
 -- What the calls of a source and of a sink do, and what they leave.
-use Rattle.std.specs.Prelude.{◌≡◌, ℕ, ◌+◌, ◌-◌, ◌^◌, ◌≤◌, ◌<◌, min, Bool, true, false, List, [], ◌++◌, length, take, Option, None, Some, ⊤}
+use Rattle.std.specs.Prelude.{◌≡◌, ℕ, ◌+◌, ◌-◌, ◌^◌, ◌≤◌, ◌<◌, min, Bool, true, false, List, []}
+use Rattle.std.specs.Prelude.{◌++◌, length, take, Option, None, Some, ⊤}
 use Rattle.ol_io.specs.declared.outside.Begun.{Begun}
 use Rattle.ol_io.specs.declared.outside.Begun.TheVariants.{Ready as BeginReady, Failed as BeginFailed}
 use Rattle.ol_io.specs.declared.outside.Got.{Got}

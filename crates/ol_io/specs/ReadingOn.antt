@@ -5,7 +5,8 @@ use Rattle.std.specs.declared.alloc.Global.{Global}
 use Rattle.ol_io.specs.Readings.{Reading, gave, closed, IsReadOf}
 
 -- The last reading grows by these bytes of what was left, to its end or not; and they are answered, if any are.
-pub record ReadsOn {E : Type 0} (left : Option (List ℕ)) (given : ℕ) (ended : Bool) (old new : List Reading) (result : Result (Vec ℕ Global) E) : Type 0 where
+pub record ReadsOn {E : Type 0} (left : Option (List ℕ)) (given : ℕ) (ended : Bool)
+    (old new : List Reading) (result : Result (Vec ℕ Global) E) : Type 0 where
   pub bytes : List ℕ
   pub grown : new ≡ closed ended (gave bytes old)
   pub counted : length bytes ≡ given

@@ -1,5 +1,6 @@
 -- What a source handed over: the readings of the names that were begun, the last one first.
-use Rattle.std.specs.Prelude.{◌≡◌, ℕ, Bool, true, false, List, [], ◌∷◌, ◌++◌, length, take, ◌==◌, ◌&&◌, if◌then◌else◌, Option, None, Some, ⊤, Result, IfOk}
+use Rattle.std.specs.Prelude.{◌≡◌, ℕ, Bool, true, false, List, [], ◌∷◌, ◌++◌, length, take, ◌==◌}
+use Rattle.std.specs.Prelude.{◌&&◌, if◌then◌else◌, Option, None, Some, ⊤, Result, IfOk}
 use Rattle.std.specs.Str.{bytes_eq}
 use Rattle.std.specs.declared.vec.Vec.{Vec}
 use Rattle.std.specs.declared.alloc.Global.{Global}
@@ -57,13 +58,15 @@ AreOf files (r ∷ rs) = IsReadOf (files (length rs) r.name) r.ended r.bytes × 
 abbrev pub AreOfSince : (files : ℕ → List ℕ → Option (List ℕ)) → (old new : List Reading) → Type 0
 AreOfSince files old new = (rs : List Reading) × (new ≡ rs ++ old) × AreOf files rs
 
--- The files that these readings make: at each reading the file of its name has the bytes that it gave. Nothing else has any.
+-- The files that these readings make: at each reading the file of its name has the bytes that it
+-- gave. Nothing else has any.
 abbrev pub handed : List Reading → ℕ → List ℕ → Option (List ℕ)
 handed [] n name = Some []
 handed (r ∷ rs) n name = if (n == length rs) && bytes_eq r.name name then Some r.bytes else handed rs n name
 
 -- One reading was made: of this name, of so many bytes, to its end or not; and these bytes are answered, if any are.
-pub record HandsOver {E : Type 0} (name : List ℕ) (given : ℕ) (ended : Bool) (old new : List Reading) (result : Result (Vec ℕ Global) E) : Type 0 where
+pub record HandsOver {E : Type 0} (name : List ℕ) (given : ℕ) (ended : Bool)
+    (old new : List Reading) (result : Result (Vec ℕ Global) E) : Type 0 where
   pub bytes : List ℕ
   pub grown : new ≡ reading name bytes ended ∷ old
   pub counted : length bytes ≡ given

@@ -1,5 +1,7 @@
 -- A source and a sink in memory that never fail: their states, what each call answers, and the state that it leaves.
-use Rattle.std.specs.Prelude.{ℕ, ◌+◌, ◌-◌, ◌==◌, nat_le, ◌&&◌, min, Bool, true, false, if◌then◌else◌, List, [], ◌∷◌, ◌++◌, length, take, drop, Option, None, Some, unwrap_or}
+use Rattle.std.specs.Prelude.{ℕ, ◌+◌, ◌-◌, ◌==◌, nat_le, ◌&&◌, min, Bool, true, false}
+use Rattle.std.specs.Prelude.{if◌then◌else◌, List, [], ◌∷◌, ◌++◌, length, take, drop, Option, None}
+use Rattle.std.specs.Prelude.{Some, unwrap_or}
 use Rattle.ol_io.specs.Files.{File, contents_of}
 use Rattle.ol_io.specs.Outside.{next_count, gave_bytes, at_end, byte_count}
 use Rattle.ol_io.specs.Readings.{Reading, begun, after_got}
@@ -26,7 +28,15 @@ pub record SureSourceState : Type 0 where
 
 -- a source of which no call was made
 abbrev pub fresh_sure_source : List File → SureSourceState
-fresh_sure_source files = record { files = files; left = []; begins = 0; given = 0; ready = false; ended = false; readings = [] }
+fresh_sure_source files = record {
+  files = files;
+  left = [];
+  begins = 0;
+  given = 0;
+  ready = false;
+  ended = false;
+  readings = [];
+}
 
 -- `begin` begins every name
 abbrev pub sure_begin_answer : Begun

@@ -15,7 +15,8 @@ use Rattle.ol_readback.specs.declared.answers.ReadNode.{ReadNode}
 use Rattle.ol_readback.specs.declared.answers.ReadNode.TheVariants as node
 use Rattle.ol_readback.proofs.Kept.{heads_are_kept, found_is_head}
 use Rattle.ol_levels.specs.Levels.{IsLevelled}
-use Rattle.ol_levels.specs.Asked.{HaveAskedHeadsOf, AskedHeadsAreHeads, AskedHeadsAreKept, TreeTellsAsked, LastTreeTellsAsked}
+use Rattle.ol_levels.specs.Asked.{HaveAskedHeadsOf, AskedHeadsAreHeads, AskedHeadsAreKept}
+use Rattle.ol_levels.specs.Asked.{TreeTellsAsked, LastTreeTellsAsked}
 use Rattle.ol_levels.specs.Asked as asked_of
 use Rattle.ol_levels.proofs.Budgets.{budget_is_no_head}
 use Rattle.ol_levels.proofs.Heads.{no_head_is}

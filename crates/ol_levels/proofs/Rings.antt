@@ -1,6 +1,7 @@
 -- A levelled net without an active pair, in which a walk goes round for ever.
 -- For `cut_example`.
-use Rattle.std.proofs.Common.{◌≡◌, ℕ, zero, suc, ◌*◌, ◌<◌, [], ◌∷◌, Bool, true, false, not, inl, inr, refl, sym, ap, subst, arith}
+use Rattle.std.proofs.Common.{◌≡◌, ℕ, zero, suc, ◌*◌, ◌<◌, [], ◌∷◌, Bool, true, false, not, inl}
+use Rattle.std.proofs.Common.{inr, refl, sym, ap, subst, arith}
 use Rattle.ol_context.specs.Paths.{inward}
 use Rattle.ol_context.specs.Short.{live}
 use Rattle.ol_context.specs.Ways.{start, on, WalkStands}

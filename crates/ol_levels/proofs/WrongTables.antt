@@ -11,7 +11,9 @@ use Rattle.ol_term.specs.declared.translations.Translation.TheVariants.{One}
 use Rattle.ol_translate.specs.Names.{HasNames}
 use Rattle.ol_translate.specs.Translation.{translation_of}
 use Rattle.ol_levels.specs.Levels.{CanStand, IsLevelled}
-use Rattle.ol_levels.specs.WrongTables.{application_net, RightIndexesAreLevelled, GreaterIndexesAreNot, MayHaveInPlace, LowerIndexesKeepLevels}
+use Rattle.ol_levels.specs.WrongTables.{application_net, RightIndexesAreLevelled}
+use Rattle.ol_levels.specs.WrongTables.{GreaterIndexesAreNot, MayHaveInPlace}
+use Rattle.ol_levels.specs.WrongTables.{LowerIndexesKeepLevels}
 use Rattle.ol_levels.proofs.Terms.{term_is_levelled}
 
 -- ---- the right ones

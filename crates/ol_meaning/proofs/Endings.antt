@@ -1,5 +1,6 @@
 -- Where a place of a tree has no head, leftmost reduction of the term that it shows doesn't end.
-use Rattle.std.proofs.Common.{◌≡◌, ℕ, zero, suc, ◌+◌, Bool, true, false, ◌⊎◌, inl, inr, List, [], ◌∷◌, ◌++◌, length, Option, Some, None, refl, sym, ap, ◌∙◌, subst}
+use Rattle.std.proofs.Common.{◌≡◌, ℕ, zero, suc, ◌+◌, Bool, true, false, ◌⊎◌, inl, inr, List, []}
+use Rattle.std.proofs.Common.{◌∷◌, ◌++◌, length, Option, Some, None, refl, sym, ap, ◌∙◌, subst}
 use Rattle.std.specs.Prelude.{IsSome}
 use Rattle.std.specs.Option.{option_map}
 use Rattle.ol_beta.specs.Beta.{contracted}
@@ -25,7 +26,8 @@ some_none at e = absurd (cc)
 pub step_or_none : (t : Tree) → (leftmost t ≡ None) ⊎ ((u : Tree) × StepsTo t u)
 step_or_none t = by (leftmost t) refl
   where
-    gives : (at : List ℕ) → leftmost t ≡ Some at → (o : Option Tree) → contracted t at ≡ o → IsSome o → (u : Tree) × StepsTo t u
+    gives : (at : List ℕ) → leftmost t ≡ Some at → (o : Option Tree) → contracted t at ≡ o →
+        IsSome o → (u : Tree) × StepsTo t u
     gives at e None f s = absurd (cc)
     gives at e (Some u) f s = (u, record { at = at; first = e; gives = f })
 
@@ -36,7 +38,8 @@ step_or_none t = by (leftmost t) refl
 -- ---- a reduction that ends, and steps that it begins with
 
 -- what leftmost reduction that ends leads to after a step
-pub rest_of : {t u v : Tree} {at : List ℕ} → leftmost t ≡ Some at → contracted t at ≡ Some u → LeftmostReduces t v → leftmost v ≡ None → LeftmostReduces u v
+pub rest_of : {t u v : Tree} {at : List ℕ} → leftmost t ≡ Some at → contracted t at ≡ Some u →
+    LeftmostReduces t v → leftmost v ≡ None → LeftmostReduces u v
 rest_of {at = at} e f ready n = absurd (some_none at (sym e ∙ n))
 rest_of {t = t} {v = v} e f (contract g h l) n = subst (λ u. LeftmostReduces u v) (same_step t g h e f) l
 
@@ -70,7 +73,8 @@ pub record Ended (P v : Tree) (f : Tree → Tree) : Type 0 where
   pub normal : leftmost last ≡ None
   pub rest : LeftmostReduces (f last) v
 
-pub within : (f : Tree → Tree) → ((t u : Tree) → StepsTo t u → StepsTo (f t) (f u)) → {t v : Tree} → LeftmostReduces t v → leftmost v ≡ None → (P : Tree) → t ≡ f P → Ended P v f
+pub within : (f : Tree → Tree) → ((t u : Tree) → StepsTo t u → StepsTo (f t) (f u)) → {t v : Tree} →
+    LeftmostReduces t v → leftmost v ≡ None → (P : Tree) → t ≡ f P → Ended P v f
 within f up {v = v} ready n P e = by (step_or_none P)
   where
     by : (leftmost P ≡ None) ⊎ ((u : Tree) × StepsTo P u) → Ended P v f
@@ -79,11 +83,21 @@ within f up {v = v} ready n P e = by (step_or_none P)
 within f up {t = t} {v = v} (contract {u = w} {at = at} g h l) n P e = by (λ Q k. within f up l n Q k) (step_or_none P)
   where
     by : ((Q : Tree) → w ≡ f Q → Ended Q v f) → (leftmost P ≡ None) ⊎ ((u : Tree) × StepsTo P u) → Ended P v f
-    by next (inl k) = record { last = P; leads = ready; normal = k; rest = subst (λ t. LeftmostReduces t v) e (contract {at = at} g h l) }
+    by next (inl k) = record {
+      last = P;
+      leads = ready;
+      normal = k;
+      rest = subst (λ t. LeftmostReduces t v) e (contract {at = at} g h l);
+    }
     by next (inr k) =
         let s = up P k.0 k.1 in
         let x = next k.0 (same_step t g h (ap leftmost e ∙ s.first) (ap (λ t. contracted t s.at) e ∙ s.gives)) in
-        record { last = x.last; leads = contract {at = k.1.at} k.1.first k.1.gives x.leads; normal = x.normal; rest = x.rest }
+        record {
+          last = x.last;
+          leads = contract {at = k.1.at} k.1.first k.1.gives x.leads;
+          normal = x.normal;
+          rest = x.rest;
+        }
 
 pub within_lam : (l : ℕ) (t u : Tree) → StepsTo t u → StepsTo (abstracted l t) (abstracted l u)
 within_lam zero t u s = s
@@ -91,8 +105,10 @@ within_lam (suc l) t u s =
     let r = within_lam l t u s in
     record { at = 0 ∷ r.at; first = ap (beta_steps.under 0) r.first; gives = ap (option_map lam) r.gives }
 
-pub within_arg : (f : Tree) → IsNeutral f → (Ps : List Tree) (t u : Tree) → StepsTo t u → StepsTo (applied (app f t) Ps) (applied (app f u) Ps)
-within_arg f n Ps t u s = step_before Ps (app f t) (app f u) refl (record { at = 2 ∷ s.at; first = arg_leftmost f t (Some s.at) n s.first; gives = ap (option_map (app f)) s.gives })
+pub within_arg : (f : Tree) → IsNeutral f → (Ps : List Tree) (t u : Tree) → StepsTo t u →
+    StepsTo (applied (app f t) Ps) (applied (app f u) Ps)
+within_arg f n Ps t u s = step_before Ps (app f t) (app f u) refl
+    (record { at = 2 ∷ s.at; first = arg_leftmost f t (Some s.at) n s.first; gives = ap (option_map (app f)) s.gives })
 
 -- ---- a whole tree
 
@@ -103,8 +119,10 @@ lacks_split (node.NoHead ∷ ns) ms h = inl tt
 lacks_split (node.Cut ∷ ns) ms h = lacks_split ns ms h
 
 abbrev Endless : {c : Bool} → Part c → Type 0
-Endless {c = true} t = (ss : List (ℕ × ℕ)) (i : ℕ) (P v : Tree) → LacksHead (preorder t) → Shows true ss i t P → LeftmostReduces P v → leftmost v ≡ None → ⊥
-Endless {c = false} ts = (ss : List (ℕ × ℕ)) (i : ℕ) (Ps : List Tree) (f v : Tree) → IsNeutral f → LacksHead (preorder ts) → Shows true ss i ts Ps → LeftmostReduces (applied f Ps) v → leftmost v ≡ None → ⊥
+Endless {c = true} t = (ss : List (ℕ × ℕ)) (i : ℕ) (P v : Tree) → LacksHead (preorder t) →
+    Shows true ss i t P → LeftmostReduces P v → leftmost v ≡ None → ⊥
+Endless {c = false} ts = (ss : List (ℕ × ℕ)) (i : ℕ) (Ps : List Tree) (f v : Tree) → IsNeutral f →
+    LacksHead (preorder ts) → Shows true ss i ts Ps → LeftmostReduces (applied f Ps) v → leftmost v ≡ None → ⊥
 
 endless_term : (l : ℕ) (x : HeadVar) (ts : Part false) → Endless ts → Endless (term l x ts)
 endless_term l x ts up ss i P v h g r n =
@@ -114,11 +132,13 @@ endless_term l x ts up ss i P v h g r n =
 
 endless_more : (t : Part true) (ts : Part false) → Endless t → Endless ts → Endless (more t ts)
 endless_more t ts up next_up ss i [] f v n h g r z = absurd g
-endless_more t ts up next_up ss i (P ∷ Ps) f v n h g r z = by (within (λ P. applied (app f P) Ps) (within_arg f n Ps) r z P refl) (lacks_split (preorder t) (preorder ts) h)
+endless_more t ts up next_up ss i (P ∷ Ps) f v n h g r z = by
+    (within (λ P. applied (app f P) Ps) (within_arg f n Ps) r z P refl) (lacks_split (preorder t) (preorder ts) h)
   where
     by : Ended P v (λ P. applied (app f P) Ps) → LacksHead (preorder t) ⊎ LacksHead (preorder ts) → ⊥
     by e (inl k) = up ss i P e.last k g.0 e.leads e.normal
-    by e (inr k) = next_up ss (i + length (preorder t)) Ps (app f e.last) v (record { plain = refl; none = arg_leftmost f e.last None n e.normal }) k g.1 e.rest z
+    by e (inr k) = next_up ss (i + length (preorder t)) Ps (app f e.last) v
+        (record { plain = refl; none = arg_leftmost f e.last None n e.normal }) k g.1 e.rest z
 
 endless : {c : Bool} (t : Part c) → Endless t
 endless (term l v ts) = endless_term l v ts (endless ts)
@@ -127,7 +147,8 @@ endless cut = λ ss i P v h g r n. h
 endless none = λ ss i Ps f v n h g r z. h
 endless (more t ts) = endless_more t ts (endless t) (endless ts)
 
-pub has_no_end : (t : Part true) (P v : Tree) → LacksHead (preorder t) → Shows true [] 0 t P → LeftmostReduces P v → leftmost v ≡ None → ⊥
+pub has_no_end : (t : Part true) (P v : Tree) → LacksHead (preorder t) → Shows true [] 0 t P →
+    LeftmostReduces P v → leftmost v ≡ None → ⊥
 has_no_end t P v h g r n = endless t [] 0 P v h g r n
 
 -- a normal form has no leftmost redex

@@ -39,14 +39,16 @@ forever t f (suc m) =
     let r = forever t f m in
     by r.0 r.1 (normal_or_step r.0)
   where
-    by : (u : Tree) → Steps t u m → ((q : Place) × (a : Level) × (j : ℕ) × Normal u q a j) ⊎ ((v : Tree) × HeadStep u v) → (v : Tree) × Steps t v (suc m)
+    by : (u : Tree) → Steps t u m → ((q : Place) × (a : Level) × (j : ℕ) × Normal u q a j)
+        ⊎ ((v : Tree) × HeadStep u v) → (v : Tree) × Steps t v (suc m)
     by u s (inl k) = absurd (f u (m, s) (normal_is k.3))
     by u s (inr k) = (k.0, last_step s k.1)
 
 -- so many steps, and one more
 goes_on : {t u w : Tree} {m : ℕ} → Steps t u m → Steps t w (suc m) → (v : Tree) × HeadStep u v
 goes_on done (step {t' = v} h s) = (v, h)
-goes_on (step {t' = a} g s) (step {t' = b} {u = w} {m = m} h r) = goes_on s (subst (λ a. Steps a w m) (sym (one_step g h)) r)
+goes_on (step {t' = a} g s) (step {t' = b} {u = w} {m = m} h r) = goes_on s
+    (subst (λ a. Steps a w m) (sym (one_step g h)) r)
 
 -- and what goes on comes to none
 pub comes_to_none : (t u : Tree) → HeadReducesForever t → HeadReduces t u → IsHeadNormal u → ⊥

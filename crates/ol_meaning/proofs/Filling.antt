@@ -41,8 +41,10 @@ applied_beta (P ∷ Ps) r = applied_beta Ps (fun_beta P r)
 module _ (b : Bool) where
   -- a term comes to what fills the tree; and so do arguments, whatever they are given to
   abbrev Fill : {c : Bool} → Part c → Type 0
-  Fill {c = true} t = (ss : List (ℕ × ℕ)) (i : ℕ) (P : Tree) → Shows b ss i t P → (Q : Tree) × BetaReduces P Q × Fills b ss i t Q
-  Fill {c = false} ts = (ss : List (ℕ × ℕ)) (i : ℕ) (Ps : List Tree) → Shows b ss i ts Ps → (Qs : List Tree) × ((f : Tree) → BetaReduces (applied f Ps) (applied f Qs)) × Fills b ss i ts Qs
+  Fill {c = true} t = (ss : List (ℕ × ℕ)) (i : ℕ) (P : Tree) → Shows b ss i t P →
+      (Q : Tree) × BetaReduces P Q × Fills b ss i t Q
+  Fill {c = false} ts = (ss : List (ℕ × ℕ)) (i : ℕ) (Ps : List Tree) → Shows b ss i ts Ps →
+      (Qs : List Tree) × ((f : Tree) → BetaReduces (applied f Ps) (applied f Qs)) × Fills b ss i ts Qs
 
   fill_term : (l : ℕ) (v : HeadVar) (ts : Part false) → Fill ts → Fill (term l v ts)
   fill_term l v ts up ss i P g =

@@ -1,11 +1,14 @@
 -- A head step is the leftmost beta step.
-use Rattle.std.proofs.Common.{◌≡◌, ◌≢◌, ℕ, zero, suc, ◌+◌, ◌-◌, ◌<◌, ◌≤◌, ◌==◌, nat_lt, Bool, true, false, if◌then◌else◌, List, [], ◌∷◌, Some, None, refl, sym, ap, ◌∙◌, subst, arith}
+use Rattle.std.proofs.Common.{◌≡◌, ◌≢◌, ℕ, zero, suc, ◌+◌, ◌-◌, ◌<◌, ◌≤◌, ◌==◌, nat_lt, Bool, true}
+use Rattle.std.proofs.Common.{false, if◌then◌else◌, List, [], ◌∷◌, Some, None, refl, sym, ap, ◌∙◌}
+use Rattle.std.proofs.Common.{subst, arith}
 use Rattle.std.proofs.lemmas.Bool.{eqb-true, eq-eqb, ltb-true, ltb-false}
 use Rattle.std.specs.Option.{option_map}
 use Rattle.ol_beta.specs.Beta.{shifted, substituted, contracted}
 use Rattle.ol_beta.specs.Leftmost.{leftmost, first_of_two}
 use Rattle.ol_beta.specs.Leftmost as beta_steps
-use Rattle.ol_meaning.specs.Spots.{Tree, var, free, lam, app, up_from, lift, suc_of, without, put, subst_for, HeadStep, beta, below, before}
+use Rattle.ol_meaning.specs.Spots.{Tree, var, free, lam, app, up_from, lift, suc_of, without, put}
+use Rattle.ol_meaning.specs.Spots.{subst_for, HeadStep, beta, below, before}
 use Rattle.ol_meaning.proofs.Addresses.{without_own}
 
 -- ---- under more abstractions
@@ -27,7 +30,8 @@ shift_var d i y false e = high d i y (ltb-false y d e)
 lift_shift : (t : Tree) (d i : ℕ) → lift d i t ≡ shifted i d t
 lift_shift (var y) d i = ap var (shift_var d i y (nat_lt y d) refl)
 lift_shift (free f) d i = refl
-lift_shift (lam t) d i = ap lam (lift_shift t (suc d) i ∙ ap (λ d. shifted i d t) (let e : suc d ≡ d + 1 = omega arith in e))
+lift_shift (lam t) d i = ap lam (lift_shift t (suc d) i
+    ∙ ap (λ d. shifted i d t) (let e : suc d ≡ d + 1 = omega arith in e))
 lift_shift (app t u) d i = ap (λ t. app t (lift d i u)) (lift_shift t d i) ∙ ap (app (shifted i d t)) (lift_shift u d i)
 
 -- ---- a term for a variable
@@ -41,11 +45,14 @@ lowered : (i y : ℕ) → i < y → without i y ≡ Some (y - 1)
 lowered zero zero h = absurd (omega arith)
 lowered zero (suc y) h = ap Some (let e : y ≡ suc y - 1 = omega arith in e)
 lowered (suc i) zero h = absurd (omega arith)
-lowered (suc i) (suc y) h = ap suc_of (lowered i y (omega arith)) ∙ ap Some (let e : suc (y - 1) ≡ suc y - 1 = omega arith in e)
+lowered (suc i) (suc y) h = ap suc_of (lowered i y (omega arith))
+    ∙ ap Some (let e : suc (y - 1) ≡ suc y - 1 = omega arith in e)
 
-put_var : (N : Tree) (i y : ℕ) (b c : Bool) → nat_lt y i ≡ b → (y == i) ≡ c → put i N (without i y) ≡ (if b then var y else if c then shifted i 0 N else var (y - 1))
+put_var : (N : Tree) (i y : ℕ) (b c : Bool) → nat_lt y i ≡ b → (y == i) ≡ c →
+    put i N (without i y) ≡ (if b then var y else if c then shifted i 0 N else var (y - 1))
 put_var N i y true c e f = ap (put i N) (kept i y (ltb-true y i e))
-put_var N i y false true e f = ap (put i N) (subst (λ j. without j y ≡ None) (eqb-true y i f) (without_own y)) ∙ lift_shift N 0 i
+put_var N i y false true e f = ap (put i N)
+    (subst (λ j. without j y ≡ None) (eqb-true y i f) (without_own y)) ∙ lift_shift N 0 i
 put_var N i y false false e f =
     let h : i ≤ y = ltb-false y i e in
     let n : y ≢ i = λ q. (let k : true ≡ false = sym (eq-eqb y i q) ∙ f in absurd (cc)) in
@@ -54,8 +61,10 @@ put_var N i y false false e f =
 pub subst_is : (t N : Tree) (i : ℕ) → subst_for i N t ≡ substituted N i t
 subst_is (var y) N i = put_var N i y (nat_lt y i) (y == i) refl refl
 subst_is (free f) N i = refl
-subst_is (lam t) N i = ap lam (subst_is t N (suc i) ∙ ap (λ i. substituted N i t) (let e : suc i ≡ i + 1 = omega arith in e))
-subst_is (app t u) N i = ap (λ t. app t (subst_for i N u)) (subst_is t N i) ∙ ap (app (substituted N i t)) (subst_is u N i)
+subst_is (lam t) N i = ap lam (subst_is t N (suc i)
+    ∙ ap (λ i. substituted N i t) (let e : suc i ≡ i + 1 = omega arith in e))
+subst_is (app t u) N i = ap (λ t. app t (subst_for i N u)) (subst_is t N i)
+    ∙ ap (app (substituted N i t)) (subst_is u N i)
 
 -- ---- the leftmost redex
 
@@ -65,7 +74,8 @@ leftmost_step (below h) = let r = leftmost_step h in (0 ∷ r.0, ap (beta_steps.
 leftmost_step (before {R = R} {P = P} e h) =
     let r = leftmost_step h in (
       1 ∷ r.0,
-      ap (λ b. if b then Some [] else first_of_two (beta_steps.under 1 (leftmost R)) (beta_steps.under 2 (leftmost P))) e
+      ap (λ b. if b then Some [] else first_of_two (beta_steps.under 1 (leftmost R))
+          (beta_steps.under 2 (leftmost P))) e
           ∙ ap (λ x. first_of_two (beta_steps.under 1 x) (beta_steps.under 2 (leftmost P))) r.1,
       ap (option_map (λ g. app g P)) r.2,
     )
@@ -75,5 +85,6 @@ leftmost_step (before {R = R} {P = P} e h) =
 some_one : {X : Type 0} (a b : X) → Some a ≡ Some b → a ≡ b
 some_one a b e = cc
 
-pub same_step : (t : Tree) {u w : Tree} {at bt : List ℕ} → leftmost t ≡ Some at → contracted t at ≡ Some u → leftmost t ≡ Some bt → contracted t bt ≡ Some w → u ≡ w
+pub same_step : (t : Tree) {u w : Tree} {at bt : List ℕ} → leftmost t ≡ Some at →
+    contracted t at ≡ Some u → leftmost t ≡ Some bt → contracted t bt ≡ Some w → u ≡ w
 same_step t {u} {w} {at} {bt} e f g h = some_one u w (sym f ∙ ap (contracted t) (some_one at bt (sym e ∙ g)) ∙ h)

@@ -14,7 +14,10 @@ identities : EndsIn (app identity identity) identity
 identities = record { leads = contract {at = []} refl refl ready; is_normal = no_leftmost identity refl }
 
 selves : EndsIn (app self identity) identity
-selves = record { leads = contract {at = []} refl refl (contract {at = []} refl refl ready); is_normal = no_leftmost identity refl }
+selves = record {
+  leads = contract {at = []} refl refl (contract {at = []} refl refl ready);
+  is_normal = no_leftmost identity refl;
+}
 
 both : EndsIn (app twice identity) identity
 both = record {
@@ -47,8 +50,14 @@ head_alone = record {
   is_head = record { abstractions = 1; head = var 0; arguments = loops ∷ []; variable = tt; is = refl };
   fills = (loops ∷ [], refl, ((λ e. forever), refl));
   shows = shown;
-  none = λ v r n. has_no_end (term 1 (head.Bound 0 1) (more lost none)) (lam (app (var 0) loops)) v tt shown r (no_redex v n);
+  none = λ v r n. has_no_end (term 1 (head.Bound 0 1) (more lost none))
+      (lam (app (var 0) loops)) v tt shown r (no_redex v n);
 }
 
 pub small : SmallTerms
-small = record { normal = record { identities = identities; selves = selves; both = both }; unused = unused; head_alone = head_alone; no_end = no_end }
+small = record {
+  normal = record { identities = identities; selves = selves; both = both };
+  unused = unused;
+  head_alone = head_alone;
+  no_end = no_end;
+}

@@ -40,7 +40,8 @@ abbrev pub WholeTermIsSeen : Type 0
 WholeTermIsSeen = (τ : Translation) (t : Tree) (names : ℕ) → HasNames t names →
     IsSeen τ (translation_of τ t names) [] 0 [] t WholeSeats
 
--- Where P is seen, head steps lead from it to a head normal form u, and the wire of u's head leaves by port q behind levels ms,
+-- Where P is seen, head steps lead from it to a head normal form u, and the wire of u's head leaves
+-- by port q behind levels ms,
 -- there argument i of u is seen: behind ms and the level of argument i, with P's frame round it.
 abbrev pub ArgIsSeen : Type 0
 ArgIsSeen = (τ : Translation) (N : NamedNet ℕ) (ch : Chain) (f : Frame) (t P : Tree)
@@ -57,7 +58,8 @@ pub record IsSeenAt (τ : Translation) {t P : Tree} (N : NamedNet ℕ) (F : List
   pub chain : IsChain F (length F) s.parent ch
   pub seen : IsSeen τ N ch s.port s.levels P (seats_of τ p)
 
--- A path that its frame has, asked for some number of abstractions, crosses at least as many applications as head steps lead from it
+-- A path that its frame has, asked for some number of abstractions, crosses at least as many
+-- applications as head steps lead from it
 -- to a head normal form.
 abbrev pub HeadIsReachedSoon : Type 0
 HeadIsReachedSoon = (τ : Translation) (N : NamedNet ℕ) (F : List Frame) (s : Subterm) (ch : Chain)
@@ -65,7 +67,8 @@ HeadIsReachedSoon = (τ : Translation) (N : NamedNet ℕ) (F : List Frame) (s : 
     (n q : ℕ) (X : Context) (r : Path N (free s.port) (asked s.levels n) q X) →
     (u : Tree) × (m : ℕ) × (m ≤ applications r) × Steps P u m × IsHeadNormal u
 
--- The head of its frame, by paths of any length, is that of a head normal form which head steps lead to: so many abstractions, this
+-- The head of its frame, by paths of any length, is that of a head normal form which head steps
+-- lead to: so many abstractions, this
 -- variable, and so many arguments.
 abbrev pub HeadIsReached : Type 0
 HeadIsReached = (τ : Translation) (N : NamedNet ℕ) (F : List Frame) (s : Subterm) (ch : Chain)
@@ -89,7 +92,8 @@ TreeShowsTerm = (τ : Translation) (t : Tree) (names : ℕ) → HasNames t names
     (lost_too : Bool) (T : Part true) →
     HasHeadsOf (translation_of τ t names) lost_too (preorder T) → Shows lost_too [] 0 T t
 
--- Where a tree shows a term, beta reduction leads from this to the tree's own term, with some term in the place of each hole.
+-- Where a tree shows a term, beta reduction leads from this to the tree's own term, with some term
+-- in the place of each hole.
 abbrev pub ShownIsReduct : Type 0
 ShownIsReduct = (t : Tree) (lost_too : Bool) (T : Part true) → Shows lost_too [] 0 T t →
     (u : Tree) × BetaReduces t u × Fills lost_too [] 0 T u
@@ -100,14 +104,17 @@ ShownIsNormalForm = (t : Tree) (lost_too : Bool) (T : Part true) → Shows lost_
     HasAllHeads (preorder T) →
     LeftmostReduces t (term_of T) × IsNormal (term_of T)
 
--- Where some place of the tree has no head, and the tree says that such places are endless, leftmost reduction of the term ends in no
+-- Where some place of the tree has no head, and the tree says that such places are endless,
+-- leftmost reduction of the term ends in no
 -- beta-normal form.
 abbrev pub ShownHasNoEnd : Type 0
 ShownHasNoEnd = (t : Tree) (T : Part true) → Shows true [] 0 T t → LacksHead (preorder T) →
     (v : Tree) → LeftmostReduces t v → IsNormal v → ⊥
 
--- What the places of a tree say of a term: it reduces to the tree's term, with some term in the place of each hole; and where each
--- place has a head, its leftmost reduction ends in the tree's term, which is a beta-normal form. Where lost_too is true and some
+-- What the places of a tree say of a term: it reduces to the tree's term, with some term in the
+-- place of each hole; and where each
+-- place has a head, its leftmost reduction ends in the tree's term, which is a beta-normal form.
+-- Where lost_too is true and some
 -- place has no head, its leftmost reduction ends in no beta-normal form.
 pub record SaysOf (t : Tree) (lost_too : Bool) (ns : List ReadNode) : Type 0 where
   pub tree : Part true

@@ -4,7 +4,8 @@ use Rattle.ol_net.specs.Nets.{NamedNet, free}
 use Rattle.ol_context.specs.Paths.{Path}
 use Rattle.ol_readback.specs.Frames.{Frame, frame_at}
 use Rattle.ol_spots_net.specs.Spots.{place, applications}
-use Rattle.ol_meaning.specs.Spots.{Translation, Tree, Level, star, Context, cons, Wire, bound, name, under, Place, root, wire, at, Leads}
+use Rattle.ol_meaning.specs.Spots.{Translation, Tree, Level, star, Context, cons, Wire, bound, name}
+use Rattle.ol_meaning.specs.Spots.{under, Place, root, wire, at, Leads}
 use Rattle.ol_meaning.specs.Heads.{os, Steps, SameAlong, Arg, StandsAt}
 use Rattle.ol_meaning.specs.Spots.{empty}
 
@@ -24,7 +25,8 @@ unders (suc l) z = unders l (under z)
 abbrev pub Chain : Type 0
 Chain = List (ℕ × Frame)
 
--- These are the frames from this parent outwards. Each number is less than the one before it, and the first one less than b.
+-- These are the frames from this parent outwards. Each number is less than the one before it, and
+-- the first one less than b.
 abbrev pub IsChain : List Frame → ℕ → Option ℕ → Chain → Type 0
 IsChain F b o [] = o ≡ None
 IsChain F b o (x ∷ xs) = (o ≡ Some x.0) × (x.0 < b) × (x.0 < length F) × (frame_at F x.0 ≡ x.1)
@@ -40,7 +42,8 @@ abbrev pub IsNotOf : Frame → ℕ → List Level → Type 0
 IsNotOf f q ls = (j : ℕ) (d : Level) (c c' : Context) → f.port ≡ q →
     ahead ls c ≡ ahead f.levels (cons (os j (star d)) c') → ⊥
 
--- Wire z of a subterm with these frames round it leaves by port q with these first levels: as binder j + 1 of the nearest frame, or,
+-- Wire z of a subterm with these frames round it leaves by port q with these first levels: as
+-- binder j + 1 of the nearest frame, or,
 -- none of its binders, as a wire from outside of that frame; and where no frame is left, as a free name.
 abbrev pub LeavesAs : Chain → Wire → ℕ → List Level → Type 0
 LeavesAs [] (bound y) q ls = ⊥
@@ -56,9 +59,12 @@ LeavesAs (x ∷ xs) z q ls =
 abbrev pub Seats : Type 1
 Seats = Place → Level → Context → ℕ → Context → Type 0
 
--- Subterm P, with these frames round it, is seen in the net at free port p behind these levels. Each spot of its root stands there, and
--- each of its wires stands where the binder's or the name's exits are; no two stand at the same, nor one at two. From where a spot
--- stands the paths lead to just those exits at which the spots stand that it leads to in P alone, where it crosses no more
+-- Subterm P, with these frames round it, is seen in the net at free port p behind these levels.
+-- Each spot of its root stands there, and
+-- each of its wires stands where the binder's or the name's exits are; no two stand at the same,
+-- nor one at two. From where a spot
+-- stands the paths lead to just those exits at which the spots stand that it leads to in P alone,
+-- where it crosses no more
 -- applications than the path.
 pub record IsSeen {A : Type 0} (τ : Translation) (N : NamedNet A) (ch : Chain) (p : ℕ)
     (ls : List Level) (P : Tree) (S : Seats) : Type 0 where
@@ -90,7 +96,8 @@ ArgSeats τ s k S x v c q X =
 
 -- ---- subterms of a term
 
--- How one comes from a term to what its tree's places show: to the term itself, and to an argument of a head normal form, to which
+-- How one comes from a term to what its tree's places show: to the term itself, and to an argument
+-- of a head normal form, to which
 -- head steps lead from one that one came to before.
 pub data Within (t : Tree) : Tree → Type 0 where
   whole : Within t t

@@ -1,4 +1,5 @@
--- What a printed tree says of a term, by head reduction, beta reduction and leftmost reduction (Barendregt, The Lambda Calculus,
+-- What a printed tree says of a term, by head reduction, beta reduction and leftmost reduction
+-- (Barendregt, The Lambda Calculus,
 -- 1984, chapters 3, 8 and 13).
 use Rattle.std.specs.Prelude.{◌≡◌, ℕ, suc, ◌+◌, Bool, true, false, List, [], ◌∷◌, length, Some}
 use Rattle.ol_beta.specs.Beta.{contracted}
@@ -12,7 +13,8 @@ use Rattle.ol_meaning.specs.Heads.{Steps}
 
 -- ---- reductions
 
--- Contraction of redexes, one after another, leads from one term to another. The addresses of the redexes are such as Chosen says.
+-- Contraction of redexes, one after another, leads from one term to another. The addresses of the
+-- redexes are such as Chosen says.
 pub data ReducesBy (Chosen : Tree → List ℕ → Type 0) : Tree → Tree → Type 0 where
   ready : {t : Tree} → ReducesBy Chosen t t
   contract : {t u v : Tree} {at : List ℕ} →
@@ -69,8 +71,10 @@ LacksHead (node.Head l v k ∷ ns) = LacksHead ns
 LacksHead (node.NoHead ∷ ns) = Unit {0}
 LacksHead (node.Cut ∷ ns) = LacksHead ns
 
--- The term is the tree's own, with some term in the place of each hole: where a place was cut, and where it has no head. Where
--- lost_too is true, head reduction of the term in the place of the latter has no end. The part begins at place i; ss are the
+-- The term is the tree's own, with some term in the place of each hole: where a place was cut, and
+-- where it has no head. Where
+-- lost_too is true, head reduction of the term in the place of the latter has no end. The part
+-- begins at place i; ss are the
 -- places round it, with their abstractions.
 abbrev pub Fills : {b : Bool} → Bool → List (ℕ × ℕ) → ℕ → Part b → Shown b → Type 0
 Fills lost_too ss i (term l v ts) t =
@@ -83,7 +87,8 @@ Fills lost_too ss i (more t ts) [] = ⊥
 Fills lost_too ss i (more t ts) (P ∷ Ps) = Fills lost_too ss i t P
     × Fills lost_too ss (i + length (preorder t)) ts Ps
 
--- The tree shows the term: the same with head reduction at each head in the place of equality, so that each head is that of a head
+-- The tree shows the term: the same with head reduction at each head in the place of equality, so
+-- that each head is that of a head
 -- normal form of the subterm at its place.
 abbrev pub Shows : {b : Bool} → Bool → List (ℕ × ℕ) → ℕ → Part b → Shown b → Type 0
 Shows lost_too ss i (term l v ts) t =

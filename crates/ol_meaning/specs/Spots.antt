@@ -1,10 +1,14 @@
--- What becomes of a term's spots when a term is put in for a variable: a redex, its cut and the new term; and head steps.
+-- What becomes of a term's spots when a term is put in for a variable: a redex, its cut and the new
+-- term; and head steps.
 use Rattle.std.specs.Prelude.{◌≡◌, ℕ, zero, suc, ◌+◌, true, false, Option, Some, None}
 pub use Rattle.ol_term.specs.declared.translations.Translation.{Translation}
 pub use Rattle.ol_term.specs.Trees.{Tree, var, free, lam, app}
 pub use Rattle.ol_context.specs.Contexts.{Level, empty, o, star, pair, Context, cons, tail}
-pub use Rattle.ol_spots_net.specs.Spots.{Wire, bound, name, under, occurs, left, is_bare, IsLevelOf, boxed, right, IsRight, Place, root, wire, Spot, at, body, fun, arg}
-pub use Rattle.ol_spots_net.specs.Spots.{Edge, var_wire, free_wire, lam_root, lam_own, lam_wire, app_root, app_arg, app_left, app_right}
+pub use Rattle.ol_spots_net.specs.Spots.{Wire, bound, name, under, occurs, left, is_bare, IsLevelOf}
+pub use Rattle.ol_spots_net.specs.Spots.{boxed, right, IsRight, Place, root, wire, Spot, at, body}
+pub use Rattle.ol_spots_net.specs.Spots.{fun, arg}
+pub use Rattle.ol_spots_net.specs.Spots.{Edge, var_wire, free_wire, lam_root, lam_own, lam_wire}
+pub use Rattle.ol_spots_net.specs.Spots.{app_root, app_arg, app_left, app_right}
 pub use Rattle.ol_beta.specs.Leftmost.{is_abstraction}
 pub use Rattle.ol_spots_net.specs.Spots.{in_body, in_fun, in_arg, Trail, here, on, back, Leads}
 
@@ -91,7 +95,8 @@ pub data Tag : Type 0 where
   ofM : Wire → Level → Tag
   ofN : Level → Wire → Level → Tag
 
--- Which wire of M[N], with which level 0, a wire of the cut is. An occurrence keeps the values of the boxes round it; marks of
+-- Which wire of M[N], with which level 0, a wire of the cut is. An occurrence keeps the values of
+-- the boxes round it; marks of
 -- fans, and what is packed, follow the new term.
 pub data WireOf (τ : Translation) (N : Tree) : Tree → ℕ → Tag → Wire → Level → Type 0 where
   same : {M : Tree} {i : ℕ} {y z : Wire} {a : Level} →
@@ -122,7 +127,8 @@ pub data WireOf (τ : Translation) (N : Tree) : Tree → ℕ → Tag → Wire �
       IsRight τ (subst_for i N M1) (subst_for i N M2) z a' v w' →
       WireOf τ N (app M1 M2) i (ofN w x b) z w'
 
--- Which spot of M[N] a spot of the cut is. Spots of M's parts and N's are those of the same parts in M[N], and of N's copies. The
+-- Which spot of M[N] a spot of the cut is. Spots of M's parts and N's are those of the same parts
+-- in M[N], and of N's copies. The
 -- root of a copy holds the whole wire of variable i in M; and a wire of M[N] holds N's wire, at whatever occurrence.
 pub data Held (τ : Translation) (N : Tree) : Tree → ℕ → Cut → Spot → Type 0 where
   at_root : {M : Tree} {i : ℕ} {v : Level} {c : Context} →
@@ -169,7 +175,8 @@ IsSpotOf τ N (body s) = Unit {0}
 IsSpotOf τ N (fun s) = Unit {0}
 IsSpotOf τ N (arg v s) = Unit {0}
 
--- Which spot of the cut of M with N at variable 0 a spot of the redex (lam M) N is: the two nodes of the redex fall away. Spots
+-- Which spot of the cut of M with N at variable 0 a spot of the redex (lam M) N is: the two nodes
+-- of the redex fall away. Spots
 -- of N are spoken of only where the variable occurs in M.
 pub data Opens (τ : Translation) (N M : Tree) : Spot → Cut → Type 0 where
   in_m : {s : Spot} → Opens τ N M (fun (body s)) (inM s)
@@ -189,7 +196,8 @@ pub data Opens (τ : Translation) (N M : Tree) : Spot → Cut → Type 0 where
       occurs (bound 0) M ≡ true → occurs y N ≡ true → IsRight τ (lam M) N y b v w →
       Opens τ N M (at (wire y) w c) (inN v (at (wire y) b c))
 
--- A head step: beta at the redex under the outer abstractions and left of all arguments. It is never made within a function that
+-- A head step: beta at the redex under the outer abstractions and left of all arguments. It is
+-- never made within a function that
 -- is an abstraction.
 pub data HeadStep : Tree → Tree → Type 0 where
   beta : {M N : Tree} → HeadStep (app (lam M) N) (subst_for 0 N M)

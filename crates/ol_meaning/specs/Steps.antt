@@ -1,4 +1,5 @@
--- What a head step keeps: which values of level 0, at a place of a term's interface, are the same before and after the step.
+-- What a head step keeps: which values of level 0, at a place of a term's interface, are the same
+-- before and after the step.
 use Rattle.std.specs.Prelude.{◌≡◌, true}
 use Rattle.ol_meaning.specs.Spots.{Tree, var, free, lam, app, Level, empty, o, star, pair, Wire}
 use Rattle.ol_meaning.specs.Spots.{Translation, bound, under, occurs, left, IsRight, Place, root, wire}
@@ -12,7 +13,8 @@ pub data SameRedex (τ : Translation) (M N : Tree) : Place → Level → Level �
   redex_n : {y : Wire} {b v w a' : Level} → IsRight τ (lam M) N y b v w →
       WireOf τ N M 0 (ofN v y b) y a' → SameRedex τ M N (wire y) w a'
 
--- under an abstraction, where S says it of the body: at the root, the body's root stands below an o, and the wire of the
+-- under an abstraction, where S says it of the body: at the root, the body's root stands below an
+-- o, and the wire of the
 -- abstraction's own variable below a star
 pub data SameBelow (S : Place → Level → Level → Type 0) : Place → Level → Level → Type 0 where
   below_o : {v v' : Level} → S root v v' → SameBelow S root (o v) (o v')

@@ -1,4 +1,5 @@
--- Lines of the tables of translation that would break the laws: an argument's bracket left out, and a fan's slots turned.
+-- Lines of the tables of translation that would break the laws: an argument's bracket left out, and
+-- a fan's slots turned.
 use Rattle.std.specs.Prelude.{◌≡◌, ℕ, [], ◌∷◌}
 use Rattle.ol_net.specs.declared.parts.Kind.TheVariants as kind
 use Rattle.ol_net.specs.Nets.{NamedNet, free, slot}
@@ -46,7 +47,8 @@ pub record BracketIsNeeded : Type 0 where
 abbrev pub doubled : Tree
 doubled = app (term.free 0) (term.free 0)
 
--- its net by translation 1, where slot s of the fan is joined to the occurrence in the function, and slot r to the bracket of that in
+-- its net by translation 1, where slot s of the fan is joined to the occurrence in the function,
+-- and slot r to the bracket of that in
 -- the argument
 abbrev pub net_of_doubled : (s r : ℕ) → NamedNet ℕ
 net_of_doubled s r = record {

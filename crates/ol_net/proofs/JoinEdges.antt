@@ -1,5 +1,6 @@
 -- Joins of a table's places contract edges
-use Rattle.std.proofs.Common.{◌≡◌, ◌≢◌, ℕ, ◌+◌, ◌≤◌, ◌==◌, false, List, [], ◌∷◌, length, refl, sym, ap, ◌∙◌, inl, inr, ◌⊎◌, ◌↔◌, arith, subst}
+use Rattle.std.proofs.Common.{◌≡◌, ◌≢◌, ℕ, ◌+◌, ◌≤◌, ◌==◌, false, List, [], ◌∷◌, length, refl, sym}
+use Rattle.std.proofs.Common.{ap, ◌∙◌, inl, inr, ◌⊎◌, ◌↔◌, arith, subst}
 use Rattle.std.proofs.lemmas.Bool.{cases_eq}
 use Rattle.std.proofs.lemmas.Bool.Decides.{nat_tests}
 use Rattle.ol_edges.specs.Edges.{Joined, here, on, IsIn, Contracted}
@@ -53,9 +54,11 @@ module _ (T S : ℕ → ℕ) (a b : ℕ) (j : JoinStep T S a b) where
       elim (cases_eq (T a) b) [
         | inl cl ↦ straight u v (grind (arith, nat_tests))
         | inr ch ↦ elim (cases_eq (T b) u) [
-          | inl y ↦ let q : T a ≡ v = grind (arith, nat_tests) in subst (λ z. Joined Added z v) y (subst (λ z. Joined Added (T b) z) q (joined_sym across))
+          | inl y ↦ let q : T a ≡ v = grind (arith, nat_tests) in
+              subst (λ z. Joined Added z v) y (subst (λ z. Joined Added (T b) z) q (joined_sym across))
           | inr y ↦ elim (cases_eq (T a) u) [
-            | inl x ↦ let q : T b ≡ v = grind (arith, nat_tests) in subst (λ z. Joined Added z v) x (subst (λ z. Joined Added (T a) z) q across)
+            | inl x ↦ let q : T b ≡ v = grind (arith, nat_tests) in
+                subst (λ z. Joined Added z v) x (subst (λ z. Joined Added (T a) z) q across)
             | inr x ↦ straight u v (grind (arith, nat_tests))
           ]
         ]
@@ -160,7 +163,8 @@ module _ (T S : ℕ → ℕ) (a b : ℕ) (j : JoinStep T S a b) where
       paired_with n (inr e) = partner_stays u n ∙ sym e
 
       go : OfEnd u ⊎ (OfEnd u → ⊥) → S u ≡ v
-      go (inl h) = both_ends u v c.first c.apart (partner_is_end u c.first h) (partner_is_end v c.second (joined_keeps OfEnd end_forth end_back c.joined h))
+      go (inl h) = both_ends u v c.first c.apart (partner_is_end u c.first h)
+          (partner_is_end v c.second (joined_keeps OfEnd end_forth end_back c.joined h))
       go (inr n) = paired_with n (joined_keeps (UOrPartner T u) (pair_forth u n) (pair_back u n) c.joined (inl refl))
 
   -- the edges after a join are what the edges before and the join's own become where its ends that had partners go
@@ -190,7 +194,12 @@ count_in (e ∷ es) u v (inr h) = let c = count_in es u v h in (omega (arith, c.
 
 no_joins : (T : ℕ → ℕ) → IsPaired T → (u v : ℕ) → PairOf T u v ↔ Contracted (With T []) (GoneOf T []) u v
 no_joins T p u v = (
-  λ h. record { first = λ g. absurd (omega (arith, g.0)); second = λ g. absurd (omega (arith, g.0)); apart = h.1; joined = on here (inl h) },
+  λ h. record {
+    first = λ g. absurd (omega (arith, g.0));
+    second = λ g. absurd (omega (arith, g.0));
+    apart = h.1;
+    joined = on here (inl h);
+  },
   λ c. (partner c.apart (joined_keeps (UOrPartner T u) over over_back c.joined (inl refl)), c.apart),
 )
   where
@@ -207,7 +216,8 @@ no_joins T p u v = (
     over_back v w (inr e) h = absurd e
 
 -- One join and then others, each place an end of one at most
-module _ (T S : ℕ → ℕ) (a b : ℕ) (es : List (ℕ × ℕ)) (j : JoinStep T S a b) (once : (k : ℕ) → bit (a == k) + (bit (b == k) + count k (vertices es)) ≤ 1) where
+module _ (T S : ℕ → ℕ) (a b : ℕ) (es : List (ℕ × ℕ)) (j : JoinStep T S a b)
+    (once : (k : ℕ) → bit (a == k) + (bit (b == k) + count k (vertices es)) ≤ 1) where
   end_once : (w : ℕ) → (w ≡ a) ⊎ (w ≡ b) → count w (vertices es) ≡ 0
   end_once w (inl e) = let c = once w in grind (arith, nat_tests)
   end_once w (inr e) = let c = once w in grind (arith, nat_tests)
@@ -262,20 +272,24 @@ module _ (T S : ℕ → ℕ) (a b : ℕ) (es : List (ℕ × ℕ)) (j : JoinStep 
   first_from u v (inl c) = inl ((one_join T S a b j u v).1 c)
   first_from u v (inr h) = inr h
 
-  pub join_and_more : (u v : ℕ) → Contracted (With S es) (GoneOf S es) u v ↔ Contracted (With T ((a, b) ∷ es)) (GoneOf T ((a, b) ∷ es)) u v
+  pub join_and_more : (u v : ℕ) → Contracted (With S es) (GoneOf S es) u v ↔ Contracted
+      (With T ((a, b) ∷ es)) (GoneOf T ((a, b) ∷ es)) u v
   join_and_more u v =
-      let t = contracted_twice cases_eq (Added T S a b j) (JoinAt es) (Gone T S a b j) (GoneOf S es) first_out second_out u v in (
+      let t = contracted_twice cases_eq (Added T S a b j) (JoinAt es) (Gone T S a b j)
+      (GoneOf S es) first_out second_out u v in (
         λ c. contracted_map edge_to (λ w _ g. gone_from w g) u v (t.0 (contracted_map first_to (λ w _ g. g) u v c)),
         λ c. contracted_map first_from (λ w _ g. g) u v (t.1 (contracted_map edge_from (λ w _ g. gone_to w g) u v c)),
       )
 
 -- the edges after joins are what the edges before and the joins become where the ends that had partners go
-pub several_joins : (xs : List ℕ) (es : List (ℕ × ℕ)) → IsPaired (other xs) → Within (length xs) es → AllTwo es → ((k : ℕ) → count k (vertices es) ≤ 1) → (u v : ℕ) →
+pub several_joins : (xs : List ℕ) (es : List (ℕ × ℕ)) → IsPaired (other xs) →
+    Within (length xs) es → AllTwo es → ((k : ℕ) → count k (vertices es) ≤ 1) → (u v : ℕ) →
     PairOf (other (joined_all xs es)) u v ↔ Contracted (With (other xs) es) (GoneOf (other xs) es) u v
 several_joins xs [] p w t once u v = no_joins (other xs) p u v
 several_joins xs (e ∷ es) p w t once u v =
     let ys = joined xs e.0 e.1 in
     let j = JoinStep-joined xs e.0 e.1 p w.0 w.1 t.0 in
-    let rest = several_joins ys es (IsPaired-joined (other xs) (other ys) e.0 e.1 j) (rw (length-joined xs e.0 e.1) w.2) t.1 (λ k. let c = once k in omega (arith, c)) u v in
+    let rest = several_joins ys es (IsPaired-joined (other xs) (other ys) e.0 e.1 j)
+    (rw (length-joined xs e.0 e.1) w.2) t.1 (λ k. let c = once k in omega (arith, c)) u v in
     let one = join_and_more (other xs) (other ys) e.0 e.1 es j once u v in
     (λ h. one.0 (rest.0 h), λ c. rest.1 (one.1 c))

@@ -1,5 +1,7 @@
 -- What the net of a graph's tables has
-use Rattle.std.proofs.Common.{◌≡◌, ◌≢◌, ℕ, ◌+◌, ◌<◌, ◌≤◌, ◌==◌, nat_lt, nat_eq, Bool, true, false, if◌then◌else◌, List, [], ◌∷◌, length, get_or, Option, Some, None, refl, sym, ap, ◌∙◌, inl, inr, ◌⊎◌, arith, subst, zero, suc}
+use Rattle.std.proofs.Common.{◌≡◌, ◌≢◌, ℕ, ◌+◌, ◌<◌, ◌≤◌, ◌==◌, nat_lt, nat_eq, Bool, true, false}
+use Rattle.std.proofs.Common.{if◌then◌else◌, List, [], ◌∷◌, length, get_or, Option, Some, None}
+use Rattle.std.proofs.Common.{refl, sym, ap, ◌∙◌, inl, inr, ◌⊎◌, arith, subst, zero, suc}
 use Rattle.std.specs.Prelude.{◌↔◌}
 use Rattle.std.proofs.lemmas.Bool.{cases_lt, cases_order, cases_Bool, false≢true}
 use Rattle.std.proofs.lemmas.Bool.Decides.{nat_tests}
@@ -17,7 +19,8 @@ use Rattle.ol_net.specs.declared.parts.Port.{Port}
 use Rattle.ol_net.specs.declared.parts.Port.TheVariants.{Free, Of}
 use Rattle.ol_net.specs.Parts.{arity}
 use Rattle.ol_net.specs.Pairing.{other}
-use Rattle.ol_net.specs.Graph.{Graph, IsTabled, kind_at, has_slot, has_port, place, port_at, partner_of, facing_between, facing_across, facing_at}
+use Rattle.ol_net.specs.Graph.{Graph, IsTabled, kind_at, has_slot, has_port, place, port_at}
+use Rattle.ol_net.specs.Graph.{partner_of, facing_between, facing_across, facing_at}
 use Rattle.ol_net.specs.Nets.{NamedPort, free, slot, HasNode, Linked, IsPort, IsNet, SameNet, Faces}
 use Rattle.ol_net.specs.Numbered.{numbered_port, nodes_from, links_from, net_of}
 use Rattle.ol_net.proofs.Tables.{other-past}
@@ -32,9 +35,11 @@ nodes_from-in [] n x k i h = absurd h
 nodes_from-in (None ∷ nodes) n x k i h = let r = nodes_from-in nodes (suc n) x k i h in (suc r.0, omega arith, r.2)
 nodes_from-in (Some f ∷ nodes) n x k i (inl e) =
     (0, omega (arith, ap (λ (t : ℕ × Kind × ℕ). t.0) e), ap (λ (t : ℕ × Kind × ℕ). Some (t.1, t.2)) (sym e))
-nodes_from-in (Some f ∷ nodes) n x k i (inr h) = let r = nodes_from-in nodes (suc n) x k i h in (suc r.0, omega arith, r.2)
+nodes_from-in (Some f ∷ nodes) n x k i (inr h) = let r = nodes_from-in nodes (suc n) x k i h in
+    (suc r.0, omega arith, r.2)
 
-nodes_from-has : (nodes : List (Option (Kind × ℕ))) (n x y : ℕ) (k : Kind) (i : ℕ) → x ≡ n + y → kind_at nodes y ≡ Some (k, i) →
+nodes_from-has : (nodes : List (Option (Kind × ℕ))) (n x y : ℕ) (k : Kind) (i : ℕ) → x ≡ n + y →
+    kind_at nodes y ≡ Some (k, i) →
     IsIn (x, k, i) (nodes_from n nodes)
 nodes_from-has [] n x y k i e h = absurd (let bad : None ≡ Some (k, i) = h in cc)
 nodes_from-has (None ∷ nodes) n x zero k i e h = absurd (let bad : None ≡ Some (k, i) = h in cc)
@@ -56,7 +61,8 @@ has_node g x k i = (
 pub same_kinds : (g h : Graph) → SameNet (net_of g) (net_of h) → (n : ℕ) → kind_at g.nodes n ≡ kind_at h.nodes n
 same_kinds g h same n = go (kind_at g.nodes n) (kind_at h.nodes n) refl refl
   where
-    go : (o p : Option (Kind × ℕ)) → kind_at g.nodes n ≡ o → kind_at h.nodes n ≡ p → kind_at g.nodes n ≡ kind_at h.nodes n
+    go : (o p : Option (Kind × ℕ)) → kind_at g.nodes n ≡ o → kind_at h.nodes n ≡ p →
+        kind_at g.nodes n ≡ kind_at h.nodes n
     go None None e f = e ∙ sym f
     go (Some k) p e f = e ∙ sym ((has_node h n k.0 k.1).0 ((same.nodes n k.0 k.1).0 ((has_node g n k.0 k.1).1 e)))
     go None (Some k) e f = (has_node g n k.0 k.1).0 ((same.nodes n k.0 k.1).1 ((has_node h n k.0 k.1).1 f)) ∙ sym f
@@ -70,10 +76,17 @@ record LinkAt (ports k : ℕ) (xs : List ℕ) (p q : NamedPort ℕ) : Type 0 whe
   first : p ≡ numbered_port (port_at ports (k + at))
   second : q ≡ numbered_port (port_at ports (get_or xs at 0))
 
-LinkAt-later : (ports k x : ℕ) (xs : List ℕ) (p q : NamedPort ℕ) → LinkAt ports (suc k) xs p q → LinkAt ports k (x ∷ xs) p q
+LinkAt-later : (ports k x : ℕ) (xs : List ℕ) (p q : NamedPort ℕ) → LinkAt ports (suc k) xs p q →
+    LinkAt ports k (x ∷ xs) p q
 LinkAt-later ports k x xs p q r =
     let e : suc k + r.at ≡ k + suc r.at = omega arith in
-    record { at = suc r.at; within = omega (arith, r.within); less = omega (arith, r.less); first = rw e at r.first; second = r.second }
+    record {
+      at = suc r.at;
+      within = omega (arith, r.within);
+      less = omega (arith, r.less);
+      first = rw e at r.first;
+      second = r.second;
+    }
 
 LinkAt-here : (ports k x : ℕ) (xs : List ℕ) (p q : NamedPort ℕ) → nat_lt k x ≡ true →
     ◌≡◌ {A = NamedPort ℕ × NamedPort ℕ} (p, q) (numbered_port (port_at ports k), numbered_port (port_at ports x)) →
@@ -88,12 +101,17 @@ LinkAt-here ports k x xs p q t e =
       second = ap (λ (w : NamedPort ℕ × NamedPort ℕ). w.1) e;
     }
 
-links_from-in : (ports k : ℕ) (xs : List ℕ) (p q : NamedPort ℕ) → IsIn (p, q) (links_from ports k xs) → LinkAt ports k xs p q
+links_from-in : (ports k : ℕ) (xs : List ℕ) (p q : NamedPort ℕ) →
+    IsIn (p, q) (links_from ports k xs) → LinkAt ports k xs p q
 links_from-in ports k [] p q h = absurd h
-links_from-in ports k (x ∷ xs) p q h = go (nat_lt k x) refl h (λ l. LinkAt-later ports k x xs p q (links_from-in ports (suc k) xs p q l))
+links_from-in ports k (x ∷ xs) p q h = go (nat_lt k x) refl h
+    (λ l. LinkAt-later ports k x xs p q (links_from-in ports (suc k) xs p q l))
   where
     go : (b : Bool) → nat_lt k x ≡ b →
-        IsIn (p, q) (if b then (numbered_port (port_at ports k), numbered_port (port_at ports x)) ∷ links_from ports (suc k) xs else links_from ports (suc k) xs) →
+        IsIn (p, q) (if b then (
+          numbered_port (port_at ports k),
+          numbered_port (port_at ports x),
+        ) ∷ links_from ports (suc k) xs else links_from ports (suc k) xs) →
         (IsIn (p, q) (links_from ports (suc k) xs) → LinkAt ports k (x ∷ xs) p q) → LinkAt ports k (x ∷ xs) p q
     go true t (inl e) later = LinkAt-here ports k x xs p q t e
     go true t (inr l) later = later l
@@ -137,15 +155,18 @@ Linked-at g a b t e ne = elim (cases_lt a b) [
   | inr le ↦ inr (Linked-places g b a t (ap (other g.partners) (sym e) ∙ t.paired a) (omega arith))
 ]
 
-pub port_at-there : (g : Graph) (a : ℕ) → IsTabled g.free g.nodes g.partners → other g.partners a ≢ a → has_port g.free g.nodes (port_at g.free a) ≡ true
+pub port_at-there : (g : Graph) (a : ℕ) → IsTabled g.free g.nodes g.partners →
+    other g.partners a ≢ a → has_port g.free g.nodes (port_at g.free a) ≡ true
 port_at-there g a t ne = let e = t.ports a in grind (arith, nat_tests)
 
 partner_of-at : (g : Graph) (a : ℕ) → IsTabled g.free g.nodes g.partners → other g.partners a ≢ a →
     partner_of g (port_at g.free a) ≡ Some (port_at g.free (other g.partners a))
 partner_of-at g a t ne =
-    partner_in-some g.free g.nodes g.partners (port_at g.free a) (port_at-there g a t ne) ∙ ap (λ k. Some (port_at g.free (other g.partners k))) (place-port_at g.free a)
+    partner_in-some g.free g.nodes g.partners (port_at g.free a) (port_at-there g a t ne)
+    ∙ ap (λ k. Some (port_at g.free (other g.partners k))) (place-port_at g.free a)
 
-LinkOf-at : (g : Graph) (a b : ℕ) (p q : NamedPort ℕ) → IsTabled g.free g.nodes g.partners → other g.partners a ≡ b → a ≢ b →
+LinkOf-at : (g : Graph) (a b : ℕ) (p q : NamedPort ℕ) → IsTabled g.free g.nodes g.partners →
+    other g.partners a ≡ b → a ≢ b →
     p ≡ numbered_port (port_at g.free a) → q ≡ numbered_port (port_at g.free b) → LinkOf g p q
 LinkOf-at g a b p q t e ne ep eq = record {
   from = port_at g.free a;
@@ -155,7 +176,9 @@ LinkOf-at g a b p q t e ne ep eq = record {
   partner = partner_of-at g a t (λ same. ne (sym same ∙ e)) ∙ ap (λ k. Some (port_at g.free k)) e;
 }
 
-LinkAt-other : (g : Graph) (p q : NamedPort ℕ) → (l : LinkAt g.free 0 g.partners p q) → (b : ℕ) × (other g.partners l.at ≡ b) × (l.at < b) × (p ≡ numbered_port (port_at g.free l.at)) × (q ≡ numbered_port (port_at g.free b))
+LinkAt-other : (g : Graph) (p q : NamedPort ℕ) → (l : LinkAt g.free 0 g.partners p q) →
+    (b : ℕ) × (other g.partners l.at ≡ b) × (l.at < b) × (p ≡ numbered_port (port_at g.free l.at))
+    × (q ≡ numbered_port (port_at g.free b))
 LinkAt-other g p q l =
     let e : 0 + l.at ≡ l.at = omega arith in (
       get_or g.partners l.at 0,
@@ -166,7 +189,8 @@ LinkAt-other g p q l =
     )
 
 -- what is linked are partners
-pub linked_back : (g : Graph) (p q : NamedPort ℕ) → IsTabled g.free g.nodes g.partners → Linked (net_of g) p q → LinkOf g p q
+pub linked_back : (g : Graph) (p q : NamedPort ℕ) → IsTabled g.free g.nodes g.partners →
+    Linked (net_of g) p q → LinkOf g p q
 linked_back g p q t (inl h) =
     let l = links_from-in g.free 0 g.partners p q h in
     let o = LinkAt-other g p q l in
@@ -181,11 +205,13 @@ some-if true p q e = (refl, cc)
 some-if false p q e = absurd (let bad : None ≡ Some q = e in cc)
 
 -- what the partner of a port is
-pub partner_of-parts : (g : Graph) (p q : Port) → partner_of g p ≡ Some q → (has_port g.free g.nodes p ≡ true) × (port_at g.free (other g.partners (place g.free p)) ≡ q)
+pub partner_of-parts : (g : Graph) (p q : Port) → partner_of g p ≡ Some q →
+    (has_port g.free g.nodes p ≡ true) × (port_at g.free (other g.partners (place g.free p)) ≡ q)
 partner_of-parts g p q e = some-if (has_port g.free g.nodes p) (port_at g.free (other g.partners (place g.free p))) q e
 
 -- partners are linked
-pub linked : (g : Graph) (p q : Port) → IsTabled g.free g.nodes g.partners → partner_of g p ≡ Some q → Linked (net_of g) (numbered_port p) (numbered_port q)
+pub linked : (g : Graph) (p q : Port) → IsTabled g.free g.nodes g.partners →
+    partner_of g p ≡ Some q → Linked (net_of g) (numbered_port p) (numbered_port q)
 linked g p q t e =
     let parts = partner_of-parts g p q e in
     let has = parts.0 in
@@ -195,7 +221,8 @@ linked g p q t e =
     let there : has_port g.free g.nodes (port_at g.free a) ≡ true = rw back has in
     let ne : a ≢ other g.partners a = λ same. grind (arith, nat_tests) in
     subst (λ (w : Port). Linked (net_of g) (numbered_port w) (numbered_port q)) back
-    (subst (λ (w : Port). Linked (net_of g) (numbered_port (port_at g.free a)) (numbered_port w)) parts.1 (Linked-at g a (other g.partners a) t refl ne))
+    (subst (λ (w : Port). Linked (net_of g) (numbered_port (port_at g.free a))
+    (numbered_port w)) parts.1 (Linked-at g a (other g.partners a) t refl ne))
 
 -- two ports of one name are one
 pub numbered_port-injective : (p q : Port) → numbered_port p ≡ numbered_port q → p ≡ q
@@ -227,11 +254,16 @@ port_named : (p : NamedPort ℕ) → (q : Port) × (p ≡ numbered_port q)
 port_named (free k) = (Free k, refl)
 port_named (slot x s) = (Of (record { 0 = x }) s, refl)
 
-pub partner_of-there : (g : Graph) (p : Port) → has_port g.free g.nodes p ≡ true → (q : Port) × (partner_of g p ≡ Some q)
-partner_of-there g p has = (port_at g.free (other g.partners (place g.free p)), partner_in-some g.free g.nodes g.partners p has)
+pub partner_of-there : (g : Graph) (p : Port) → has_port g.free g.nodes p ≡ true →
+    (q : Port) × (partner_of g p ≡ Some q)
+partner_of-there g p has = (
+  port_at g.free (other g.partners (place g.free p)),
+  partner_in-some g.free g.nodes g.partners p has,
+)
 
 -- a port is the partner of its partner, which is another
-pub partner_of-back : (g : Graph) (p q : Port) → IsTabled g.free g.nodes g.partners → partner_of g p ≡ Some q → (partner_of g q ≡ Some p) × (q ≢ p)
+pub partner_of-back : (g : Graph) (p q : Port) → IsTabled g.free g.nodes g.partners →
+    partner_of g p ≡ Some q → (partner_of g q ≡ Some p) × (q ≢ p)
 partner_of-back g p q t e = rw e at (partner-mutual g p t)
 
 same_node : (f f' : Kind × ℕ) → Some f ≡ Some f' → (f.0 ≡ f'.0) × (f.1 ≡ f'.1)
@@ -278,7 +310,8 @@ met-same kind.Croissant kind.Croissant r s h h' = cc
 met-same kind.Bracket kind.Bracket r s h h' = cc
 met-same k l r s h h' = absurd (let bad : None ≡ Some r = h in cc)
 
-by_index-same : (k : Kind) (i : ℕ) (l : Kind) (j : ℕ) (r s : Rule) → by_index k i l j ≡ Some r → by_index l j k i ≡ Some s → r ≡ s
+by_index-same : (k : Kind) (i : ℕ) (l : Kind) (j : ℕ) (r s : Rule) → by_index k i l j ≡ Some r →
+    by_index l j k i ≡ Some s → r ≡ s
 by_index-same k i l j r s h h' = elim (cases_order i j) [
   | inl e ↦
       let t : nat_eq i j ≡ true = grind (arith, nat_tests) in
@@ -295,22 +328,27 @@ by_index-same k i l j r s h h' = elim (cases_order i j) [
 ]
 
 -- two nodes that may both act have one rule
-pub rule_of-same : (k : Kind) (i : ℕ) (l : Kind) (j : ℕ) (r s : Rule) → rule_of k i l j ≡ Some r → rule_of l j k i ≡ Some s → r ≡ s
+pub rule_of-same : (k : Kind) (i : ℕ) (l : Kind) (j : ℕ) (r s : Rule) → rule_of k i l j ≡ Some r →
+    rule_of l j k i ≡ Some s → r ≡ s
 rule_of-same kind.Eraser i kind.Eraser j r s h h' = cc
 rule_of-same kind.Eraser i l j r s h h' = absurd (let bad : None ≡ Some s = h' in cc)
 rule_of-same k i kind.Eraser j r s h h' = absurd (let bad : None ≡ Some r = h in cc)
 rule_of-same k i l j r s h h' = by_index-same k i l j r s h h'
 
 -- what two facing nodes are to each other, by the rules of the two
-facing_of_pair-active : (k : Kind) (i : ℕ) (l : Kind) (j : ℕ) (r : Rule) → rule_of k i l j ≡ Some r → facing_of_pair (k, i) (l, j) ≡ Active r
+facing_of_pair-active : (k : Kind) (i : ℕ) (l : Kind) (j : ℕ) (r : Rule) →
+    rule_of k i l j ≡ Some r → facing_of_pair (k, i) (l, j) ≡ Active r
 facing_of_pair-active k i l j r h = rw h refl
 
-either-active : (o o' : Option Rule) (r : Rule) → o' ≡ Some r → ((s : Rule) → o ≡ Some s → r ≡ s) → either o o' ≡ Active r
+either-active : (o o' : Option Rule) (r : Rule) → o' ≡ Some r → ((s : Rule) → o ≡ Some s → r ≡ s) →
+    either o o' ≡ Active r
 either-active None o' r e same = rw e refl
 either-active (Some s) o' r e same = ap Active (sym (same s refl))
 
-facing_of_pair-active_back : (k : Kind) (i : ℕ) (l : Kind) (j : ℕ) (r : Rule) → rule_of k i l j ≡ Some r → facing_of_pair (l, j) (k, i) ≡ Active r
-facing_of_pair-active_back k i l j r h = either-active (rule_of l j k i) (rule_of k i l j) r h (λ s h'. rule_of-same k i l j r s h h')
+facing_of_pair-active_back : (k : Kind) (i : ℕ) (l : Kind) (j : ℕ) (r : Rule) →
+    rule_of k i l j ≡ Some r → facing_of_pair (l, j) (k, i) ≡ Active r
+facing_of_pair-active_back k i l j r h = either-active (rule_of l j k i) (rule_of k i l j) r h
+    (λ s h'. rule_of-same k i l j r s h h')
 
 either-is_active : (o o' : Option Rule) (r : Rule) → either o o' ≡ Active r → (o ≡ Some r) ⊎ (o' ≡ Some r)
 either-is_active (Some s) o' r e = inl (let same : s ≡ r = cc in ap (λ w. Some w) same)
@@ -327,9 +365,11 @@ either-faces (Some s) o' e = let bad : Active s ≡ facing.None = e in cc
 either-faces None (Some s) e = let bad : Active s ≡ facing.None = e in cc
 either-faces None None e = let bad : Stuck ≡ facing.None = e in cc
 
-facing_at-is : (g : Graph) (n : NodeId) (f : Option (Kind × ℕ)) (q : Option Port) → kind_at g.nodes n.0 ≡ f → partner_of g (Of n 0) ≡ q →
+facing_at-is : (g : Graph) (n : NodeId) (f : Option (Kind × ℕ)) (q : Option Port) →
+    kind_at g.nodes n.0 ≡ f → partner_of g (Of n 0) ≡ q →
     facing_at g n ≡ facing_across g.nodes f q
-facing_at-is g n f q e h = ap (λ (w : Option (Kind × ℕ)). facing_across g.nodes w (partner_of g (Of n 0))) e ∙ ap (facing_across g.nodes f) h
+facing_at-is g n f q e h = ap (λ (w : Option (Kind × ℕ)).
+    facing_across g.nodes w (partner_of g (Of n 0))) e ∙ ap (facing_across g.nodes f) h
 
 -- the node that n faces, and what the two are to each other
 pub record FacesFrom (g : Graph) (n : NodeId) : Type 0 where
@@ -342,7 +382,8 @@ pub record FacesFrom (g : Graph) (n : NodeId) : Type 0 where
   pub is : facing_at g n ≡ facing_of_pair (k, i) (l, j)
 
 -- what n is to the node that it faces
-pub facing_at-faces : (g : Graph) (n : NodeId) (m : ℕ) (k : Kind) (i : ℕ) (l : Kind) (j : ℕ) → IsTabled g.free g.nodes g.partners →
+pub facing_at-faces : (g : Graph) (n : NodeId) (m : ℕ) (k : Kind) (i : ℕ) (l : Kind) (j : ℕ) →
+    IsTabled g.free g.nodes g.partners →
     Faces (net_of g) n.0 m k i l j → facing_at g n ≡ facing_of_pair (k, i) (l, j)
 facing_at-faces g n m k i l j t f =
     let here = (has_node g n.0 k i).0 f.first in
@@ -350,22 +391,32 @@ facing_at-faces g n m k i l j t f =
     let p = linked_back g (slot n.0 0) (slot m 0) t f.linked in
     let from : Of n 0 ≡ p.from = numbered_port-injective (Of n 0) p.from p.first in
     let to : Of (record { 0 = m }) 0 ≡ p.to = numbered_port-injective (Of (record { 0 = m }) 0) p.to p.second in
-    let partner : partner_of g (Of n 0) ≡ Some (Of (record { 0 = m }) 0) = ap (partner_of g) from ∙ p.partner ∙ ap (λ q. Some q) (sym to) in
+    let partner : partner_of g (Of n 0) ≡ Some (Of (record { 0 = m }) 0) = ap (partner_of g) from
+    ∙ p.partner ∙ ap (λ q. Some q) (sym to) in
     facing_at-is g n (Some (k, i)) (Some (Of (record { 0 = m }) 0)) here partner ∙ ap (facing_between (k, i)) there
 
 -- the same pair, from the other node
-pub Faces-back : (g : Graph) (n m : ℕ) (k : Kind) (i : ℕ) (l : Kind) (j : ℕ) → Faces (net_of g) n m k i l j → Faces (net_of g) m n l j k i
-Faces-back g n m k i l j f = record { first = f.second; second = f.first; linked = elim f.linked [ inl h ↦ inr h | inr h ↦ inl h ] }
+pub Faces-back : (g : Graph) (n m : ℕ) (k : Kind) (i : ℕ) (l : Kind) (j : ℕ) →
+    Faces (net_of g) n m k i l j → Faces (net_of g) m n l j k i
+Faces-back g n m k i l j f = record {
+  first = f.second;
+  second = f.first;
+  linked = elim f.linked [ inl h ↦ inr h | inr h ↦ inl h ];
+}
 
 -- no node faces itself
-pub Faces-apart : (g : Graph) (n m : ℕ) (k : Kind) (i : ℕ) (l : Kind) (j : ℕ) → IsTabled g.free g.nodes g.partners → Faces (net_of g) n m k i l j → n ≢ m
-Faces-apart g n m k i l j t f e = (net_is_net g t).apart (slot n 0) (subst (λ w. Linked (net_of g) (slot n 0) (slot w 0)) (sym e) f.linked)
+pub Faces-apart : (g : Graph) (n m : ℕ) (k : Kind) (i : ℕ) (l : Kind) (j : ℕ) →
+    IsTabled g.free g.nodes g.partners → Faces (net_of g) n m k i l j → n ≢ m
+Faces-apart g n m k i l j t f e = (net_is_net g t).apart (slot n 0)
+    (subst (λ w. Linked (net_of g) (slot n 0) (slot w 0)) (sym e) f.linked)
 
 -- n faces a node, or none
-pub faces_or_none : (g : Graph) (n : NodeId) → IsTabled g.free g.nodes g.partners → FacesFrom g n ⊎ (facing_at g n ≡ facing.None)
+pub faces_or_none : (g : Graph) (n : NodeId) → IsTabled g.free g.nodes g.partners →
+    FacesFrom g n ⊎ (facing_at g n ≡ facing.None)
 faces_or_none g n t = go (kind_at g.nodes n.0) (partner_of g (Of n 0)) refl refl
   where
-    go : (f : Option (Kind × ℕ)) (q : Option Port) → kind_at g.nodes n.0 ≡ f → partner_of g (Of n 0) ≡ q → FacesFrom g n ⊎ (facing_at g n ≡ facing.None)
+    go : (f : Option (Kind × ℕ)) (q : Option Port) → kind_at g.nodes n.0 ≡ f →
+        partner_of g (Of n 0) ≡ q → FacesFrom g n ⊎ (facing_at g n ≡ facing.None)
     go None q e h = inr (facing_at-is g n None q e h)
     go (Some f) None e h = inr (facing_at-is g n (Some f) None e h)
     go (Some f) (Some (Free k)) e h = inr (facing_at-is g n (Some f) (Some (Free k)) e h)
@@ -379,10 +430,15 @@ faces_or_none g n t = go (kind_at g.nodes n.0) (partner_of g (Of n 0)) refl refl
           i = f.1;
           l = f'.0;
           j = f'.1;
-          faces = record { first = (has_node g n.0 f.0 f.1).1 e; second = (has_node g m.0 f'.0 f'.1).1 u; linked = linked g (Of n 0) (Of m 0) t h };
+          faces = record {
+            first = (has_node g n.0 f.0 f.1).1 e;
+            second = (has_node g m.0 f'.0 f'.1).1 u;
+            linked = linked g (Of n 0) (Of m 0) t h;
+          };
           is = facing_at-is g n (Some f) (Some (Of m 0)) e h ∙ ap (facing_between f) u;
         })
-    go (Some f) (Some (Of m (suc s))) e h = let t : (suc s == 0) ≡ false = grind (arith, nat_tests) in inr (facing_at-is g n (Some f) (Some (Of m (suc s))) e h ∙ rw t refl)
+    go (Some f) (Some (Of m (suc s))) e h = let t : (suc s == 0) ≡ false = grind
+        (arith, nat_tests) in inr (facing_at-is g n (Some f) (Some (Of m (suc s))) e h ∙ rw t refl)
 
 -- a node is in an active pair exactly where its answer is the pair's rule
 pub active_from : (g : Graph) (n : NodeId) (r : Rule) → IsTabled g.free g.nodes g.partners → facing_at g n ≡ Active r →
@@ -392,24 +448,37 @@ active_from g n r t e = elim (faces_or_none g n t) [
     f.node,
     elim (either-is_active (rule_of f.k f.i f.l f.j) (rule_of f.l f.j f.k f.i) r (sym f.is ∙ e)) [
       | inl h ↦ inl (record { k = f.k; i = f.i; l = f.l; j = f.j; faces = f.faces; fits = h })
-      | inr h ↦ inr (record { k = f.l; i = f.j; l = f.k; j = f.i; faces = Faces-back g n.0 f.node f.k f.i f.l f.j f.faces; fits = h })
+      | inr h ↦ inr (record {
+        k = f.l;
+        i = f.j;
+        l = f.k;
+        j = f.i;
+        faces = Faces-back g n.0 f.node f.k f.i f.l f.j f.faces;
+        fits = h;
+      })
     ],
   )
   | inr u ↦ absurd (let bad : facing.None ≡ Active r = sym u ∙ e in cc)
 ]
 
-pub active_first : (g : Graph) (n m : NodeId) (r : Rule) → IsTabled g.free g.nodes g.partners → IsActive (net_of g) n.0 m.0 r → facing_at g n ≡ Active r
-active_first g n m r t a = facing_at-faces g n m.0 a.k a.i a.l a.j t a.faces ∙ facing_of_pair-active a.k a.i a.l a.j r a.fits
+pub active_first : (g : Graph) (n m : NodeId) (r : Rule) → IsTabled g.free g.nodes g.partners →
+    IsActive (net_of g) n.0 m.0 r → facing_at g n ≡ Active r
+active_first g n m r t a = facing_at-faces g n m.0 a.k a.i a.l a.j t a.faces
+    ∙ facing_of_pair-active a.k a.i a.l a.j r a.fits
 
-pub active_second : (g : Graph) (n m : NodeId) (r : Rule) → IsTabled g.free g.nodes g.partners → IsActive (net_of g) n.0 m.0 r → facing_at g m ≡ Active r
+pub active_second : (g : Graph) (n m : NodeId) (r : Rule) → IsTabled g.free g.nodes g.partners →
+    IsActive (net_of g) n.0 m.0 r → facing_at g m ≡ Active r
 active_second g n m r t a =
-    facing_at-faces g m n.0 a.l a.j a.k a.i t (Faces-back g n.0 m.0 a.k a.i a.l a.j a.faces) ∙ facing_of_pair-active_back a.k a.i a.l a.j r a.fits
+    facing_at-faces g m n.0 a.l a.j a.k a.i t (Faces-back g n.0 m.0 a.k a.i a.l a.j a.faces)
+    ∙ facing_of_pair-active_back a.k a.i a.l a.j r a.fits
 
-pub active_apart : (g : Graph) (n m : ℕ) (r : Rule) → IsTabled g.free g.nodes g.partners → IsActive (net_of g) n m r → n ≢ m
+pub active_apart : (g : Graph) (n m : ℕ) (r : Rule) → IsTabled g.free g.nodes g.partners →
+    IsActive (net_of g) n m r → n ≢ m
 active_apart g n m r t a = Faces-apart g n m a.k a.i a.l a.j t a.faces
 
 -- a node is in a stuck pair exactly where its answer is Stuck
-pub stuck_from : (g : Graph) (n : NodeId) → IsTabled g.free g.nodes g.partners → facing_at g n ≡ Stuck → (m : ℕ) × IsStuck (net_of g) n.0 m
+pub stuck_from : (g : Graph) (n : NodeId) → IsTabled g.free g.nodes g.partners →
+    facing_at g n ≡ Stuck → (m : ℕ) × IsStuck (net_of g) n.0 m
 stuck_from g n t e = elim (faces_or_none g n t) [
   | inl f ↦
       let h = either-is_stuck (rule_of f.k f.i f.l f.j) (rule_of f.l f.j f.k f.i) (sym f.is ∙ e) in
@@ -417,11 +486,20 @@ stuck_from g n t e = elim (faces_or_none g n t) [
   | inr u ↦ absurd (let bad : facing.None ≡ Stuck = sym u ∙ e in cc)
 ]
 
-pub stuck_first : (g : Graph) (n m : NodeId) → IsTabled g.free g.nodes g.partners → IsStuck (net_of g) n.0 m.0 → facing_at g n ≡ Stuck
+pub stuck_first : (g : Graph) (n m : NodeId) → IsTabled g.free g.nodes g.partners →
+    IsStuck (net_of g) n.0 m.0 → facing_at g n ≡ Stuck
 stuck_first g n m t a = facing_at-faces g n m.0 a.k a.i a.l a.j t a.faces ∙ rw (a.first, a.second) refl
 
 pub IsStuck-back : (g : Graph) (n m : ℕ) → IsStuck (net_of g) n m → IsStuck (net_of g) m n
-IsStuck-back g n m a = record { k = a.l; i = a.j; l = a.k; j = a.i; faces = Faces-back g n m a.k a.i a.l a.j a.faces; first = a.second; second = a.first }
+IsStuck-back g n m a = record {
+  k = a.l;
+  i = a.j;
+  l = a.k;
+  j = a.i;
+  faces = Faces-back g n m a.k a.i a.l a.j a.faces;
+  first = a.second;
+  second = a.first;
+}
 
 pub stuck_apart : (g : Graph) (n m : ℕ) → IsTabled g.free g.nodes g.partners → IsStuck (net_of g) n m → n ≢ m
 stuck_apart g n m t a = Faces-apart g n m a.k a.i a.l a.j t a.faces
@@ -429,10 +507,12 @@ stuck_apart g n m t a = Faces-apart g n m a.k a.i a.l a.j t a.faces
 -- it faces no node exactly where its answer is None
 pub none_from : (g : Graph) (n : NodeId) → IsTabled g.free g.nodes g.partners → facing_at g n ≡ facing.None →
     (m : ℕ) (k : Kind) (i : ℕ) (l : Kind) (j : ℕ) → Faces (net_of g) n.0 m k i l j → ⊥
-none_from g n t e m k i l j f = either-faces (rule_of k i l j) (rule_of l j k i) (sym (facing_at-faces g n m k i l j t f) ∙ e)
+none_from g n t e m k i l j f = either-faces (rule_of k i l j) (rule_of l j k i)
+    (sym (facing_at-faces g n m k i l j t f) ∙ e)
 
 -- a node faces one node at most
-pub one_facing : (g : Graph) (n m m' : ℕ) (k : Kind) (i : ℕ) (l : Kind) (j : ℕ) (k' : Kind) (i' : ℕ) (l' : Kind) (j' : ℕ) → IsTabled g.free g.nodes g.partners →
+pub one_facing : (g : Graph) (n m m' : ℕ) (k : Kind) (i : ℕ) (l : Kind) (j : ℕ) (k' : Kind) (i' : ℕ)
+    (l' : Kind) (j' : ℕ) → IsTabled g.free g.nodes g.partners →
     Faces (net_of g) n m k i l j → Faces (net_of g) n m' k' i' l' j' → m ≡ m'
 one_facing g n m m' k i l j k' i' l' j' t f f' =
     let same : slot m 0 ≡ slot m' 0 = (net_is_net g t).one_link (slot n 0) (slot m 0) (slot m' 0) f.linked f'.linked in

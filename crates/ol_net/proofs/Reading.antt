@@ -1,5 +1,7 @@
 -- What the calls that read a net answer
-use Rattle.std.proofs.Common.{◌≡◌, ℕ, ◌+◌, ◌<◌, ◌≤◌, nat_lt, true, false, List, [], ◌∷◌, length, take, get_or, max, min, Option, Some, None, refl, sym, ap, ◌∙◌, inl, inr, arith, subst}
+use Rattle.std.proofs.Common.{◌≡◌, ℕ, ◌+◌, ◌<◌, ◌≤◌, nat_lt, true, false, List, [], ◌∷◌, length}
+use Rattle.std.proofs.Common.{take, get_or, max, min, Option, Some, None, refl, sym, ap, ◌∙◌, inl}
+use Rattle.std.proofs.Common.{inr, arith, subst}
 use Rattle.std.specs.Prelude.{◌↔◌, IfSome, IfNone}
 use Rattle.std.proofs.lemmas.Bool.{cases_lt, cases_eq, false≢true}
 use Rattle.std.proofs.lemmas.Bool.Decides.{nat_tests}
@@ -18,7 +20,10 @@ use Rattle.ol_net.specs.Nets.{HasNode, Linked, IsPort, Faces, slot, NamedNet}
 use Rattle.ol_net.specs.Numbered.{numbered_port, net_of}
 use Rattle.ol_net.specs.Pairs.{IsStuck, IsInActive, IsInStuck, FacesNone, HasPair, AreDifferent, HasStuck}
 use Rattle.ol_net.specs.Indexes.{top_index_of}
-use Rattle.ol_net.proofs.Numbered.{has_node, linked, linked_back, is_port, numbered_port-injective, faces_or_none, active_from, active_first, active_second, stuck_from, stuck_first, none_from, partner_of-there, stuck_apart, one_facing, IsStuck-back}
+use Rattle.ol_net.proofs.Numbered.{has_node, linked, linked_back, is_port, numbered_port-injective}
+use Rattle.ol_net.proofs.Numbered.{faces_or_none, active_from, active_first, active_second}
+use Rattle.ol_net.proofs.Numbered.{stuck_from, stuck_first, none_from, partner_of-there}
+use Rattle.ol_net.proofs.Numbered.{stuck_apart, one_facing, IsStuck-back}
 use Rattle.ol_net.proofs.Indexes.{top_index_of-append}
 
 pub kind_of-node : (g : Graph) (x : ℕ) → IfSome (kind_at g.nodes x) (λ k. HasNode (net_of g) x k.0 k.1)
@@ -35,7 +40,8 @@ kind_of-none g x = go (kind_at g.nodes x) refl
     go None e = λ k i h. none-some (k, i) (sym e ∙ (has_node g x k i).0 h)
     go (Some k) e = tt
 
-pub partner-linked : (g : Graph) (p : Port) → IsTabled g.free g.nodes g.partners → IfSome (partner_of g p) (λ q. Linked (net_of g) (numbered_port p) (numbered_port q))
+pub partner-linked : (g : Graph) (p : Port) → IsTabled g.free g.nodes g.partners →
+    IfSome (partner_of g p) (λ q. Linked (net_of g) (numbered_port p) (numbered_port q))
 partner-linked g p t = go (partner_of g p) refl
   where
     go : (o : Option Port) → partner_of g p ≡ o → IfSome o (λ q. Linked (net_of g) (numbered_port p) (numbered_port q))
@@ -51,16 +57,23 @@ partner-none g p = go (partner_of g p) refl
         none-some q.0 (sym e ∙ q.1)
     go (Some q) e = tt
 
-pub facing-active : (g : Graph) (n : NodeId) → IsTabled g.free g.nodes g.partners → (r : Rule) → (facing_at g n ≡ Active r) ↔ IsInActive (net_of g) n.0 r
+pub facing-active : (g : Graph) (n : NodeId) → IsTabled g.free g.nodes g.partners → (r : Rule) →
+    (facing_at g n ≡ Active r) ↔ IsInActive (net_of g) n.0 r
 facing-active g n t r = (
   λ e. active_from g n r t e,
-  λ h. elim h.1 [ inl a ↦ active_first g n (record { 0 = h.0 }) r t a | inr a ↦ active_second g (record { 0 = h.0 }) n r t a ],
+  λ h. elim h.1 [
+    | inl a ↦ active_first g n (record { 0 = h.0 }) r t a
+    | inr a ↦ active_second g
+        (record { 0 = h.0 }) n r t a
+  ],
 )
 
-pub facing-stuck : (g : Graph) (n : NodeId) → IsTabled g.free g.nodes g.partners → (facing_at g n ≡ Stuck) ↔ IsInStuck (net_of g) n.0
+pub facing-stuck : (g : Graph) (n : NodeId) → IsTabled g.free g.nodes g.partners →
+    (facing_at g n ≡ Stuck) ↔ IsInStuck (net_of g) n.0
 facing-stuck g n t = (λ e. stuck_from g n t e, λ h. stuck_first g n (record { 0 = h.0 }) t h.1)
 
-pub facing-none : (g : Graph) (n : NodeId) → IsTabled g.free g.nodes g.partners → (facing_at g n ≡ facing.None) ↔ FacesNone (net_of g) n.0
+pub facing-none : (g : Graph) (n : NodeId) → IsTabled g.free g.nodes g.partners →
+    (facing_at g n ≡ facing.None) ↔ FacesNone (net_of g) n.0
 facing-none g n t = (
   λ e. none_from g n t e,
   λ lacks. elim (faces_or_none g n t) [ inl f ↦ absurd (lacks f.node f.k f.i f.l f.j f.faces) | inr e ↦ e ],
@@ -68,7 +81,8 @@ facing-none g n t = (
 
 -- The greatest index among the nodes so far
 
-pub top_index_of-some : (nodes : List (Option (Kind × ℕ))) (i : ℕ) (k : Kind × ℕ) (top : ℕ) → i < length nodes → get_or nodes i None ≡ Some k →
+pub top_index_of-some : (nodes : List (Option (Kind × ℕ))) (i : ℕ) (k : Kind × ℕ) (top : ℕ) →
+    i < length nodes → get_or nodes i None ≡ Some k →
     top ≡ top_index_of (take i nodes) → max top k.1 ≡ top_index_of (take (i + 1) nodes)
 top_index_of-some nodes i k top lt e h =
     rw (take_more nodes i None lt, e) (omega (arith, h, top_index_of-append (take i nodes) (Some k ∷ [])))
@@ -81,14 +95,17 @@ top_index_of-none nodes i top lt e h =
 -- Stuck pairs
 
 -- the partner of the principal port of a node that faces another
-pub partner-faced : (g : Graph) (n m : NodeId) (k : Kind) (i : ℕ) (l : Kind) (j : ℕ) → IsTabled g.free g.nodes g.partners → Faces (net_of g) n.0 m.0 k i l j →
+pub partner-faced : (g : Graph) (n m : NodeId) (k : Kind) (i : ℕ) (l : Kind) (j : ℕ) →
+    IsTabled g.free g.nodes g.partners → Faces (net_of g) n.0 m.0 k i l j →
     partner_of g (Of n 0) ≡ Some (Of m 0)
 partner-faced g n m k i l j t f =
     let p = linked_back g (slot n.0 0) (slot m.0 0) t f.linked in
-    ap (partner_of g) (numbered_port-injective (Of n 0) p.from p.first) ∙ p.partner ∙ ap (λ q. Some q) (sym (numbered_port-injective (Of m 0) p.to p.second))
+    ap (partner_of g) (numbered_port-injective (Of n 0) p.from p.first) ∙ p.partner
+    ∙ ap (λ q. Some q) (sym (numbered_port-injective (Of m 0) p.to p.second))
 
 -- it is the lesser node of a stuck pair exactly where that partner has a greater number
-pub lesser-is : (g : Graph) (n m : NodeId) (s : ℕ) → IsTabled g.free g.nodes g.partners → facing_at g n ≡ Stuck → partner_of g (Of n 0) ≡ Some (Of m s) →
+pub lesser-is : (g : Graph) (n m : NodeId) (s : ℕ) → IsTabled g.free g.nodes g.partners →
+    facing_at g n ≡ Stuck → partner_of g (Of n 0) ≡ Some (Of m s) →
     (nat_lt n.0 m.0 ≡ true) ↔ ((y : ℕ) × (n.0 < y) × IsStuck (net_of g) n.0 y)
 lesser-is g n m s t e h =
     let there = stuck_from g n t e in
@@ -103,7 +120,8 @@ lesser-is g n m s t e h =
     )
 
 -- it is not where it is in no stuck pair
-pub lesser-none : (g : Graph) (n : NodeId) → (facing_at g n ≡ Stuck → ⊥) → IsTabled g.free g.nodes g.partners → (false ≡ true) ↔ ((y : ℕ) × (n.0 < y) × IsStuck (net_of g) n.0 y)
+pub lesser-none : (g : Graph) (n : NodeId) → (facing_at g n ≡ Stuck → ⊥) →
+    IsTabled g.free g.nodes g.partners → (false ≡ true) ↔ ((y : ℕ) × (n.0 < y) × IsStuck (net_of g) n.0 y)
 lesser-none g n ne t = (λ e. absurd (false≢true e), λ y. absurd (ne (stuck_first g n (record { 0 = y.0 }) t y.2)))
 
 -- the stuck pairs that have a number below n, each once
@@ -123,20 +141,23 @@ StuckBelow-none N = record {
   all = λ f g. (λ h. elim h [ inl a ↦ absurd a | inr a ↦ absurd a ], λ h. absurd (let lt = h.1 in omega arith));
 }
 
-lesser-only : (g : Graph) (n x y : ℕ) → IsTabled g.free g.nodes g.partners → (((m : ℕ) × (n < m) × IsStuck (net_of g) n m) → ⊥) → IsStuck (net_of g) x y → min x y < n + 1 → min x y < n
+lesser-only : (g : Graph) (n x y : ℕ) → IsTabled g.free g.nodes g.partners →
+    (((m : ℕ) × (n < m) × IsStuck (net_of g) n m) → ⊥) → IsStuck (net_of g) x y → min x y < n + 1 → min x y < n
 lesser-only g n x y t lacks a lt =
     let apart = stuck_apart g x y t a in
     elim (cases_lt (min x y) n) [
       | inl less ↦ less
       | inr le ↦ elim (cases_lt x y) [
-        | inl xy ↦ let e : x ≡ n = omega arith in absurd (lacks (y, omega arith, subst (λ w. IsStuck (net_of g) w y) e a))
+        | inl xy ↦ let e : x ≡ n = omega arith in
+            absurd (lacks (y, omega arith, subst (λ w. IsStuck (net_of g) w y) e a))
         | inr yx ↦
             let e : y ≡ n = omega (arith, apart) in
             absurd (lacks (x, omega (arith, apart), subst (λ w. IsStuck (net_of g) w x) e (IsStuck-back g x y a)))
       ]
     ]
 
-pub StuckBelow-same : (g : Graph) (n count : ℕ) → IsTabled g.free g.nodes g.partners → (((m : ℕ) × (n < m) × IsStuck (net_of g) n m) → ⊥) → StuckBelow (net_of g) n count →
+pub StuckBelow-same : (g : Graph) (n count : ℕ) → IsTabled g.free g.nodes g.partners →
+    (((m : ℕ) × (n < m) × IsStuck (net_of g) n m) → ⊥) → StuckBelow (net_of g) n count →
     StuckBelow (net_of g) (n + 1) count
 StuckBelow-same g n count t lacks b = record {
   pairs = b.pairs;
@@ -149,10 +170,12 @@ StuckBelow-same g n count t lacks b = record {
   );
 }
 
-one_stuck : (g : Graph) (n m m' : ℕ) → IsTabled g.free g.nodes g.partners → IsStuck (net_of g) n m → IsStuck (net_of g) n m' → m ≡ m'
+one_stuck : (g : Graph) (n m m' : ℕ) → IsTabled g.free g.nodes g.partners → IsStuck (net_of g) n m →
+    IsStuck (net_of g) n m' → m ≡ m'
 one_stuck g n m m' t a b = one_facing g n m m' a.k a.i a.l a.j b.k b.i b.l b.j t a.faces b.faces
 
-pub StuckBelow-more : (g : Graph) (n count : ℕ) → IsTabled g.free g.nodes g.partners → ((m : ℕ) × (n < m) × IsStuck (net_of g) n m) → StuckBelow (net_of g) n count →
+pub StuckBelow-more : (g : Graph) (n count : ℕ) → IsTabled g.free g.nodes g.partners →
+    ((m : ℕ) × (n < m) × IsStuck (net_of g) n m) → StuckBelow (net_of g) n count →
     StuckBelow (net_of g) (n + 1) (count + 1)
 StuckBelow-more g n count t p b = record {
   pairs = (n, p.0) ∷ b.pairs;
@@ -171,7 +194,8 @@ StuckBelow-more g n count t p b = record {
     into : (x y : ℕ) → HasPair ((n, p.0) ∷ b.pairs) x y → IsStuck (net_of g) x y × (min x y < n + 1)
     into x y (inl (inl e)) = let q = here x y e in let less = p.1 in rw (q.0, q.1) (p.2, omega arith)
     into x y (inl (inr h)) = earlier x y (inl h)
-    into x y (inr (inl e)) = let q = here y x e in let less = p.1 in rw (q.0, q.1) (IsStuck-back g n p.0 p.2, omega arith)
+    into x y (inr (inl e)) = let q = here y x e in let less = p.1 in
+        rw (q.0, q.1) (IsStuck-back g n p.0 p.2, omega arith)
     into x y (inr (inr h)) = earlier x y (inr h)
 
     out_of : (x y : ℕ) → IsStuck (net_of g) x y × (min x y < n + 1) → HasPair ((n, p.0) ∷ b.pairs) x y
@@ -181,7 +205,8 @@ StuckBelow-more g n count t p b = record {
           inl (inl (rw (xn, yp) refl))
       | inr xn ↦ elim (cases_eq y n) [
         | inl yn ↦
-            let xp : x ≡ p.0 = one_stuck g n x p.0 t (subst (λ w. IsStuck (net_of g) w x) yn (IsStuck-back g x y h.0)) p.2 in
+            let xp : x ≡ p.0 = one_stuck g n x p.0 t
+            (subst (λ w. IsStuck (net_of g) w x) yn (IsStuck-back g x y h.0)) p.2 in
             inr (inl (rw (yn, xp) refl))
         | inr yn ↦
             let lt : min x y < n = let less = h.1 in omega (arith, xn, yn) in
@@ -190,7 +215,8 @@ StuckBelow-more g n count t p b = record {
     ]
 
 -- when all numbers were seen, these are the stuck pairs
-pub HasStuck-all : (g : Graph) (n count : ℕ) → length g.nodes ≤ n → StuckBelow (net_of g) n count → HasStuck (net_of g) count
+pub HasStuck-all : (g : Graph) (n count : ℕ) → length g.nodes ≤ n → StuckBelow (net_of g) n count →
+    HasStuck (net_of g) count
 HasStuck-all g n count le b = record {
   pairs = b.pairs;
   count = b.size;

@@ -1,5 +1,7 @@
 -- The edges of a table after a replacement
-use Rattle.std.proofs.Common.{◌≡◌, ◌≢◌, ℕ, ◌+◌, ◌-◌, ◌*◌, ◌/◌, ◌%◌, ◌<◌, ◌≤◌, ◌==◌, nat_le, true, false, List, length, Option, refl, sym, ap, ◌∙◌, inl, inr, ◌⊎◌, ◌↔◌, arith}
+use Rattle.std.proofs.Common.{◌≡◌, ◌≢◌, ℕ, ◌+◌, ◌-◌, ◌*◌, ◌/◌, ◌%◌, ◌<◌, ◌≤◌, ◌==◌, nat_le, true}
+use Rattle.std.proofs.Common.{false, List, length, Option, refl, sym, ap, ◌∙◌, inl, inr, ◌⊎◌, ◌↔◌}
+use Rattle.std.proofs.Common.{arith}
 use Rattle.std.proofs.lemmas.Bool.{cases_eq, cases_lt, cases_Bool}
 use Rattle.std.proofs.lemmas.Bool.Decides.{nat_tests}
 use Rattle.ol_edges.specs.Edges.{Contracted, Edge}
@@ -12,7 +14,8 @@ use Rattle.ol_net.specs.Rewired.{joined, join_places, grown, rewired, Given}
 use Rattle.ol_net.proofs.Places.{kind_at-within}
 use Rattle.ol_net.proofs.Joining.{JoinStep, JoinStep-joined, other-grown}
 use Rattle.ol_net.proofs.Fitting.{bit, vertices, count, IsSlot}
-use Rattle.ol_net.proofs.Replacing.{all_joins, count-low, count-at, slot_of, has_port-slot, live-within, joined_once, joins-fit, ready, Ready}
+use Rattle.ol_net.proofs.Replacing.{all_joins, count-low, count-at, slot_of, has_port-slot}
+use Rattle.ol_net.proofs.Replacing.{live-within, joined_once, joins-fit, ready, Ready}
 use Rattle.ol_net.proofs.JoinEdges.{PairOf, JoinAt, GoneOf, With, count_in, several_joins}
 
 -- the join of two partners takes their edge out
@@ -46,7 +49,8 @@ module _ (R T S : ℕ → ℕ) (a b : ℕ) (j : JoinStep T S a b) (same : (k : �
   pub facing_in : (u v : ℕ) → PairOf R u v × (IsEither u → ⊥) × (IsEither v → ⊥) → PairOf S u v
   facing_in u v h = (same_elsewhere u (λ e. h.1 (inl e)) (λ e. h.1 (inr e)) ∙ h.0.0, h.0.1)
 
-module _ (free : ℕ) (nodes : List (Option (Kind × ℕ))) (xs : List ℕ) (first second : ℕ) (born : List (Kind × ℕ)) (joins : List (JoinEnd × JoinEnd)) (g : Given free nodes xs first second born joins) where
+module _ (free : ℕ) (nodes : List (Option (Kind × ℕ))) (xs : List ℕ) (first second : ℕ)
+    (born : List (Kind × ℕ)) (joins : List (JoinEnd × JoinEnd)) (g : Given free nodes xs first second born joins) where
   abbrev next : ℕ
   next = length nodes
 
@@ -75,11 +79,13 @@ module _ (free : ℕ) (nodes : List (Option (Kind × ℕ))) (xs : List ℕ) (fir
   abbrev pub Edges : ℕ → ℕ → Type 0
   Edges = Edge (PairOf (other xs)) IsPrincipalPlace (JoinAt (join_places free first second (length nodes) joins))
 
-  prepared : Ready (grown xs (3 * length born)) (free + 3 * first) (free + 3 * second) (join_places free first second (length nodes) joins)
+  prepared : Ready (grown xs (3 * length born)) (free + 3 * first) (free + 3 * second)
+      (join_places free first second (length nodes) joins)
   prepared = ready free nodes xs first second born joins g ys refl next refl
 
   facing_step : JoinStep (other ys) (other zs) a b
-  facing_step = JoinStep-joined ys a b prepared.paired prepared.first_in prepared.second_in (joins-fit free nodes xs first second born joins g).1.0
+  facing_step = JoinStep-joined ys a b prepared.paired prepared.first_in prepared.second_in
+      (joins-fit free nodes xs first second born joins g).1.0
 
   old_same : (k : ℕ) → other ys k ≡ other xs k
   old_same k = other-grown xs (3 * length born) k
@@ -93,7 +99,8 @@ module _ (free : ℕ) (nodes : List (Option (Kind × ℕ))) (xs : List ℕ) (fir
   not_principal w c (inr e) = let o = once w in grind (arith, nat_tests)
 
   after_facing : (w : ℕ) → (IsPrincipalPlace w → ⊥) → other zs w ≡ other xs w
-  after_facing w n = same_elsewhere (other xs) (other ys) (other zs) a b facing_step old_same g.facing.joined w (λ e. n (inl e)) (λ e. n (inr e))
+  after_facing w n = same_elsewhere (other xs) (other ys)
+      (other zs) a b facing_step old_same g.facing.joined w (λ e. n (inl e)) (λ e. n (inr e))
 
   is_port : (w : ℕ) → other xs w ≢ w → has_port free nodes (port_at free w) ≡ true
   is_port w n = let p = g.net.ports w in grind (arith, nat_tests)
@@ -101,7 +108,8 @@ module _ (free : ℕ) (nodes : List (Option (Kind × ℕ))) (xs : List ℕ) (fir
   has_partner : (w : ℕ) → has_port free nodes (port_at free w) ≡ true → other xs w ≢ w
   has_partner w h e = let p = g.net.ports w in grind (arith, nat_tests)
 
-  slot_of_first_or_second : (w n s : ℕ) → IsSlot free n s w → 1 ≤ count w (vertices added) → has_slot (kind_at nodes n) s ≡ true → IsSlotPlace w
+  slot_of_first_or_second : (w n s : ℕ) → IsSlot free n s w → 1 ≤ count w (vertices added) →
+      has_slot (kind_at nodes n) s ≡ true → IsSlotPlace w
   slot_of_first_or_second w n s at c h =
       let old : n < next = kind_at-within nodes n s h in
       let all = count-at free nodes xs first second next n s w born joins g at in
@@ -113,7 +121,8 @@ module _ (free : ℕ) (nodes : List (Option (Kind × ℕ))) (xs : List ℕ) (fir
           | inr ns ↦
               let u : (n == first) ≡ false = grind (arith, nat_tests) in
               let v : (n == second) ≡ false = grind (arith, nat_tests) in
-              let none : count w (vertices (all_joins free first second (join_places free first second next joins))) ≡ 0 = rw (u, v, z) at all in
+              let none : count w (vertices (all_joins free first second
+              (join_places free first second next joins))) ≡ 0 = rw (u, v, z) at all in
               absurd (omega (arith, none, c))
         ]
       ]
@@ -126,7 +135,8 @@ module _ (free : ℕ) (nodes : List (Option (Kind × ℕ))) (xs : List ℕ) (fir
         | inl lt ↦ let z = count-low free nodes xs first second next w born joins g lt in absurd (omega (arith, z, c))
         | inr le ↦
             let at = slot_of free w le in
-            slot_of_first_or_second w ((w - free) / 3) ((w - free) % 3) at c (sym (has_port-slot free nodes ((w - free) / 3) ((w - free) % 3) w at) ∙ port)
+            slot_of_first_or_second w ((w - free) / 3) ((w - free) % 3) at c
+            (sym (has_port-slot free nodes ((w - free) / 3) ((w - free) % 3) w at) ∙ port)
       ]
 
   two_live : (m : ℕ) → (m ≡ first) ⊎ (m ≡ second) → m < next
@@ -134,7 +144,9 @@ module _ (free : ℕ) (nodes : List (Option (Kind × ℕ))) (xs : List ℕ) (fir
   two_live m (inr e) = let l = live-within nodes second g.facing.second_live in omega arith
 
   -- a slot of the two nodes stands in a join or is principal
-  slot_joined : (w m s : ℕ) → (m ≡ first) ⊎ (m ≡ second) → IsSlot free m s w → count w (vertices (all_joins free first second (join_places free first second (length nodes) joins))) ≡ bit (has_slot (kind_at nodes m) s)
+  slot_joined : (w m s : ℕ) → (m ≡ first) ⊎ (m ≡ second) → IsSlot free m s w →
+      count w (vertices (all_joins free first second
+      (join_places free first second (length nodes) joins))) ≡ bit (has_slot (kind_at nodes m) s)
   slot_joined w m s (inl e) at =
       let all = count-at free nodes xs first second next m s w born joins g at in
       let lt = two_live m (inl e) in
@@ -162,10 +174,16 @@ module _ (free : ℕ) (nodes : List (Option (Kind × ℕ))) (xs : List ℕ) (fir
       go (inr (inl h)) = inr (λ q. h.0.1 (sym (g.net.paired e.0) ∙ ap (other xs) h.0.0 ∙ q), h.2)
       go (inr (inr h)) = inl (count_in added e.0 w h).1
 
-  slot_gone : (w m s : ℕ) → (m ≡ first) ⊎ (m ≡ second) → IsSlot free m s w → (1 ≤ count w (vertices added)) ⊎ ((other xs w ≢ w) × (IsPrincipalPlace w → ⊥)) → GoneOf (other zs) added w
+  slot_gone : (w m s : ℕ) → (m ≡ first) ⊎ (m ≡ second) → IsSlot free m s w →
+      (1 ≤ count w (vertices added)) ⊎ ((other xs w ≢ w) × (IsPrincipalPlace w → ⊥)) → GoneOf (other zs) added w
   slot_gone w m s which at (inl c) =
       let all = slot_joined w m s which at in
-      let has : has_slot (kind_at nodes m) s ≡ true = elim (cases_Bool (has_slot (kind_at nodes m) s)) [ inl t ↦ t | inr t ↦ absurd (let z = ap bit t in omega (arith, all, z, c)) ] in
+      let has : has_slot (kind_at nodes m) s ≡ true = elim
+      (cases_Bool (has_slot (kind_at nodes m) s)) [
+        | inl t ↦ t
+        | inr t ↦ absurd
+            (let z = ap bit t in omega (arith, all, z, c))
+      ] in
       let partner = has_partner w (has_port-slot free nodes m s w at ∙ has) in
       (c, λ e. partner (sym (after_facing w (not_principal w c)) ∙ e))
   slot_gone w m s which at (inr h) =
@@ -183,17 +201,21 @@ module _ (free : ℕ) (nodes : List (Option (Kind × ℕ))) (xs : List ℕ) (fir
   ]
 
   edges_to : (u v : ℕ) → With (other zs) added u v → Edges u v
-  edges_to u v (inl p) = inl (facing_out (other xs) (other ys) (other zs) a b facing_step old_same g.facing.joined u v p)
+  edges_to u v (inl p) = inl (facing_out (other xs) (other ys)
+      (other zs) a b facing_step old_same g.facing.joined u v p)
   edges_to u v (inr h) = inr h
 
   edges_from : (u v : ℕ) → Edges u v → With (other zs) added u v
-  edges_from u v (inl p) = inl (facing_in (other xs) (other ys) (other zs) a b facing_step old_same g.facing.joined u v p)
+  edges_from u v (inl p) = inl (facing_in (other xs) (other ys)
+      (other zs) a b facing_step old_same g.facing.joined u v p)
   edges_from u v (inr h) = inr h
 
   -- the new edges are what the old become without those at the principal ports, with the joins, where the slots go
-  pub rewired_edges : (u v : ℕ) → PairOf (other (rewired free (length nodes) xs first second born joins)) u v ↔ Contracted Edges IsSlotPlace u v
+  pub rewired_edges : (u v : ℕ) → PairOf
+      (other (rewired free (length nodes) xs first second born joins)) u v ↔ Contracted Edges IsSlotPlace u v
   rewired_edges u v =
-      let all = several_joins zs added prepared.paired_after prepared.within prepared.two (λ k. let c = once k in omega (arith, c)) u v in (
+      let all = several_joins zs added prepared.paired_after prepared.within prepared.two
+      (λ k. let c = once k in omega (arith, c)) u v in (
         λ p. contracted_map edges_to (λ w e s. slot_is_gone w (edge_map e) s) u v (all.0 p),
         λ c. all.1 (contracted_map edges_from (λ w e h. gone_is_slot w h) u v c),
       )

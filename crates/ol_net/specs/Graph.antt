@@ -1,5 +1,6 @@
 -- A net as plain data
-use Rattle.std.specs.Prelude.{◌≡◌, ℕ, ◌+◌, ◌-◌, ◌*◌, ◌/◌, ◌%◌, Bool, false, ◌==◌, nat_lt, not, if◌then◌else◌, List, length, Option, Some, None, slice_index_or}
+use Rattle.std.specs.Prelude.{◌≡◌, ℕ, ◌+◌, ◌-◌, ◌*◌, ◌/◌, ◌%◌, Bool, false, ◌==◌, nat_lt, not}
+use Rattle.std.specs.Prelude.{if◌then◌else◌, List, length, Option, Some, None, slice_index_or}
 use Rattle.ol_net.specs.declared.parts.Kind.{Kind}
 use Rattle.ol_net.specs.declared.parts.NodeId.{NodeId}
 use Rattle.ol_net.specs.declared.parts.Port.{Port}
@@ -42,7 +43,8 @@ port_at free k = if nat_lt k free then Free k else Of (record { 0 = (k - free) /
 
 -- the other port of its link, if there is such a port
 abbrev pub partner_in : ℕ → List (Option (Kind × ℕ)) → List ℕ → Port → Option Port
-partner_in free nodes partners p = if has_port free nodes p then Some (port_at free (other partners (place free p))) else None
+partner_in free nodes partners p = if has_port free nodes p then Some
+    (port_at free (other partners (place free p))) else None
 
 abbrev pub partner_of : Graph → Port → Option Port
 partner_of g p = partner_in g.free g.nodes g.partners p

@@ -1,5 +1,7 @@
 -- The ends that the joins of a replacement have.
-use Rattle.std.specs.Prelude.{◌≡◌, ℕ, zero, suc, ◌+◌, Bool, true, false, ◌==◌, ◌&&◌, not, if◌then◌else◌, List, [], ◌∷◌, ◌++◌, Option, Some, None, option_map, slice_get, ◌↔◌}
+use Rattle.std.specs.Prelude.{◌≡◌, ℕ, zero, suc, ◌+◌, Bool, true, false, ◌==◌, ◌&&◌, not}
+use Rattle.std.specs.Prelude.{if◌then◌else◌, List, [], ◌∷◌, ◌++◌, Option, Some, None, option_map}
+use Rattle.std.specs.Prelude.{slice_get, ◌↔◌}
 use Rattle.ol_net.specs.declared.parts.JoinEnd.{JoinEnd}
 use Rattle.ol_net.specs.declared.parts.JoinEnd.TheVariants.{First, Second, Born}
 use Rattle.ol_net.specs.declared.parts.Kind.{Kind}
@@ -30,7 +32,8 @@ abbrev pub born_ends : ℕ → List (Kind × ℕ) → List JoinEnd
 born_ends p [] = []
 born_ends p (k ∷ ks) = all_ends (Born p) k.0 ++ born_ends (p + 1) ks
 
--- the open ends of a replacement: the slots of the two nodes that go, but the principal ones, and all slots of those that
+-- the open ends of a replacement: the slots of the two nodes that go, but the principal ones, and
+-- all slots of those that
 -- come
 abbrev pub open_ends : Option (Kind × ℕ) → Option (Kind × ℕ) → List (Kind × ℕ) → List JoinEnd
 open_ends first second born = side_ends First first ++ side_ends Second second ++ born_ends 0 born
@@ -64,7 +67,8 @@ times_joined e (j ∷ js) = (if same_end e j.0 then 1 else 0) + (if same_end e j
 -- Each slot of at least 1 of the two nodes stands in exactly one join, so does each slot of each born node, and nothing
 -- else stands in a join.
 abbrev pub EachOpenEndOnce : Option (Kind × ℕ) → Option (Kind × ℕ) → List (Kind × ℕ) → List (JoinEnd × JoinEnd) → Type 0
-EachOpenEndOnce first second born joins = (e : JoinEnd) → times_joined e joins ≡ (if is_open first second born e then 1 else 0)
+EachOpenEndOnce first second born joins = (e : JoinEnd) →
+    times_joined e joins ≡ (if is_open first second born e then 1 else 0)
 
 -- this is what it says that joins use up the open ends
 abbrev pub FitIsOnce : Type 0

@@ -20,7 +20,10 @@ nodes_from n (Some k ∷ nodes) = (n, k.0, k.1) ∷ nodes_from (suc n) nodes
 abbrev pub links_from : ℕ → ℕ → List ℕ → List (NamedPort ℕ × NamedPort ℕ)
 links_from ports k [] = []
 links_from ports k (p ∷ partners) =
-    if nat_lt k p then (numbered_port (port_at ports k), numbered_port (port_at ports p)) ∷ links_from ports (suc k) partners
+    if nat_lt k p then (
+      numbered_port (port_at ports k),
+      numbered_port (port_at ports p),
+    ) ∷ links_from ports (suc k) partners
     else links_from ports (suc k) partners
 
 abbrev pub net_of : Graph → NamedNet ℕ

@@ -1,5 +1,6 @@
 -- Private: the tables of a net after a replacement, one join after another.
-use Rattle.std.specs.Prelude.{◌≡◌, ◌≢◌, ℕ, ◌+◌, ◌*◌, ◌<◌, ◌==◌, true, None, Option, if◌then◌else◌, List, [], ◌∷◌, ◌++◌, length, map, slice_set, zero, suc}
+use Rattle.std.specs.Prelude.{◌≡◌, ◌≢◌, ℕ, ◌+◌, ◌*◌, ◌<◌, ◌==◌, true, None, Option, if◌then◌else◌}
+use Rattle.std.specs.Prelude.{List, [], ◌∷◌, ◌++◌, length, map, slice_set, zero, suc}
 use Rattle.ol_net.specs.declared.parts.JoinEnd.{JoinEnd}
 use Rattle.ol_net.specs.declared.parts.JoinEnd.TheVariants.{First, Second, Born}
 use Rattle.ol_net.specs.declared.parts.Kind.{Kind}
@@ -60,14 +61,16 @@ joined_by free first second next xs joins = joined_all xs (join_places free firs
 -- the table of a net after a replacement: the link of the two principal ports goes as by a join of them
 abbrev pub rewired : ℕ → ℕ → List ℕ → ℕ → ℕ → List (Kind × ℕ) → List (JoinEnd × JoinEnd) → List ℕ
 rewired free next xs first second born joins =
-    joined_all (grown xs (3 * length born)) ((free + 3 * first, free + 3 * second) ∷ join_places free first second next joins)
+    joined_all (grown xs (3 * length born))
+    ((free + 3 * first, free + 3 * second) ∷ join_places free first second next joins)
 
 -- the nodes after it
 abbrev pub renewed : List (Option (Kind × ℕ)) → ℕ → ℕ → List (Kind × ℕ) → List (Option (Kind × ℕ))
 renewed nodes first second born = slice_set (slice_set (nodes ++ all_live born) first None) second None
 
 -- two live nodes whose principal ports are partners, by their places
-pub record FacingPlaces (free : ℕ) (nodes : List (Option (Kind × ℕ))) (partners : List ℕ) (first second : ℕ) : Type 0 where
+pub record FacingPlaces (free : ℕ) (nodes : List (Option (Kind × ℕ))) (partners : List ℕ)
+    (first second : ℕ) : Type 0 where
   pub two : first ≢ second
   pub first_live : has_slot (kind_at nodes first) 0 ≡ true
   pub second_live : has_slot (kind_at nodes second) 0 ≡ true

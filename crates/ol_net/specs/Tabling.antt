@@ -1,5 +1,7 @@
 -- Private: links by the places of their ports, and the table that they make
-use Rattle.std.specs.Prelude.{◌≡◌, ℕ, ◌+◌, ◌*◌, ◌<◌, Bool, true, false, ◌==◌, not, ◌&&◌, List, length, map, take, Option, Result, MatchOption, MatchResult, slice_index_or}
+use Rattle.std.specs.Prelude.{◌≡◌, ℕ, ◌+◌, ◌*◌, ◌<◌, Bool, true, false, ◌==◌, not, ◌&&◌, List}
+use Rattle.std.specs.Prelude.{length, map, take, Option, Result, MatchOption, MatchResult}
+use Rattle.std.specs.Prelude.{slice_index_or}
 use Rattle.std.specs.declared.vec.Vec.{Vec}
 use Rattle.std.specs.declared.alloc.Global.{Global}
 use Rattle.ol_net.specs.declared.parts.Kind.{Kind}
@@ -54,14 +56,16 @@ LinkFaultIs free nodes links (Loose p) = NoneOf (TwiceAt links) × IsFirstLoose 
 LinkFaultIs free nodes links NoMemory = Unit {0}
 
 -- a table with just these links, in which no port is alone
-pub record IsTable (free : ℕ) (nodes : List (Option (Kind × ℕ))) (links : List (Port × Port)) (partners : List ℕ) : Type 0 where
+pub record IsTable (free : ℕ) (nodes : List (Option (Kind × ℕ))) (links : List (Port × Port))
+    (partners : List ℕ) : Type 0 where
   pub once : NoneOf (TwiceAt links)
   pub linked : LinkedUp free nodes (places free links) partners
   pub none_alone : NoneOf (AloneAt free nodes partners)
 
 -- the answer to links whose ports exist: their table, or what is wrong with them
 abbrev pub GivesTable : ℕ → List (Option (Kind × ℕ)) → List (Port × Port) → Result (Vec ℕ Global) BuildFault → Type 0
-GivesTable free nodes links answer = MatchResult answer (λ v. IsTable free nodes links v.items) (LinkFaultIs free nodes links)
+GivesTable free nodes links answer = MatchResult answer (λ v. IsTable free nodes links v.items)
+    (LinkFaultIs free nodes links)
 
 -- good parts, and their tables
 pub record AreTables (top free : ℕ) (nodes : List (Kind × ℕ)) (links : List (Port × Port))

@@ -1,5 +1,7 @@
 -- The stuck pairs whose smaller numbers are below a number.
-use Rattle.std.proofs.Common.{◌≡◌, ℕ, suc, ◌+◌, ◌<◌, ◌≤◌, ◌↔◌, ◌⊎◌, List, [], ◌∷◌, ◌++◌, length, Option, Some, None, MatchOption, inl, inr, refl, sym, ap, ◌∙◌, subst, arith}
+use Rattle.std.proofs.Common.{◌≡◌, ℕ, suc, ◌+◌, ◌<◌, ◌≤◌, ◌↔◌, ◌⊎◌, List, [], ◌∷◌, ◌++◌, length}
+use Rattle.std.proofs.Common.{Option, Some, None, MatchOption, inl, inr, refl, sym, ap, ◌∙◌, subst}
+use Rattle.std.proofs.Common.{arith}
 use Rattle.std.specs.List.{flat_map}
 use Rattle.ol_edges.specs.Edges.{IsIn}
 use Rattle.ol_edges.proofs.Lists.{in_left, in_right, in_cases}
@@ -20,14 +22,18 @@ abbrev pub IsAbove : NamedNet ℕ → ℕ → Option ℕ → Type 0
 IsAbove N n r = MatchOption r ((b : ℕ) → n < b → IsStuck N n b → ⊥) (λ b. (n < b) × IsStuck N n b)
 
 -- a stuck node and the one that its principal port is linked to
-only-other : (g : Graph) (n : ℕ) (q : NodeId) (s : ℕ) → IsNet (net_of g) → PortsLinked g (Of (record { 0 = n }) 0) (Of q s) → (b : ℕ) → IsStuck (net_of g) n b → b ≡ q.0
+only-other : (g : Graph) (n : ℕ) (q : NodeId) (s : ℕ) → IsNet (net_of g) →
+    PortsLinked g (Of (record { 0 = n }) 0) (Of q s) → (b : ℕ) → IsStuck (net_of g) n b → b ≡ q.0
 only-other g n q s net linked b stuck =
     let one : slot b 0 ≡ slot q.0 s = net.one_link (slot n 0) (slot b 0) (slot q.0 s) stuck.faces.linked linked in cc
 
-pub above-is : (g : Graph) (n : ℕ) (q : NodeId) (s : ℕ) (r : Option ℕ) → IsNet (net_of g) → IsInStuck (net_of g) n → PortsLinked g (Of (record { 0 = n }) 0) (Of q s) →
+pub above-is : (g : Graph) (n : ℕ) (q : NodeId) (s : ℕ) (r : Option ℕ) → IsNet (net_of g) →
+    IsInStuck (net_of g) n → PortsLinked g (Of (record { 0 = n }) 0) (Of q s) →
     MatchOption r (q.0 ≤ n) (λ b. (b ≡ q.0) × (n < b)) → IsAbove (net_of g) n r
-above-is g n q s None net (y, stuck) linked le = λ b lt other. let e = only-other g n q s net linked b other in omega (arith, e, le, lt)
-above-is g n q s (Some b) net (y, stuck) linked (is, lt) = (lt, subst (IsStuck (net_of g) n) (only-other g n q s net linked y stuck ∙ sym is) stuck)
+above-is g n q s None net (y, stuck) linked le = λ b lt other.
+    let e = only-other g n q s net linked b other in omega (arith, e, le, lt)
+above-is g n q s (Some b) net (y, stuck) linked
+    (is, lt) = (lt, subst (IsStuck (net_of g) n) (only-other g n q s net linked y stuck ∙ sym is) stuck)
 
 -- ---- the pairs so far
 
@@ -38,7 +44,12 @@ pub record Below (N : NamedNet ℕ) (n : ℕ) (text : List ℕ) : Type 0 where
   pub written : text ≡ flat_map pair_line pairs
 
 pub none-below : (N : NamedNet ℕ) (text : List ℕ) → text ≡ [] → Below N 0 text
-none-below N text e = record { pairs = []; all = λ a b. (λ h. absurd h, λ h. absurd (omega (arith, h.0))); ascend = tt; written = e }
+none-below N text e = record {
+  pairs = [];
+  all = λ a b. (λ h. absurd h, λ h. absurd (omega (arith, h.0)));
+  ascend = tt;
+  written = e;
+}
 
 pub same-below : (N : NamedNet ℕ) (n : ℕ) (text : List ℕ) → IsAbove N n None → Below N n text → Below N (n + 1) text
 same-below N n text above w = record {
@@ -57,11 +68,17 @@ same-below N n text above w = record {
     which : (a n : ℕ) → a < n + 1 → (a < n) ⊎ (a ≡ n)
     which a n lt = grind (arith, lt)
 
-ascend-push : (least : ℕ) (ps : List (ℕ × ℕ)) (p : ℕ × ℕ) → Ascend least ps → ((x : ℕ × ℕ) → IsIn x ps → x.0 < p.0) → least ≤ p.0 → Ascend least (ps ++ p ∷ [])
+ascend-push : (least : ℕ) (ps : List (ℕ × ℕ)) (p : ℕ × ℕ) → Ascend least ps →
+    ((x : ℕ × ℕ) → IsIn x ps → x.0 < p.0) → least ≤ p.0 → Ascend least (ps ++ p ∷ [])
 ascend-push least [] p h below le = (le, tt)
-ascend-push least (x ∷ ps) p h below le = (h.0, ascend-push (suc x.0) ps p h.1 (λ y i. below y (inr i)) (let lt = below x (inl refl) in omega (arith, lt)))
+ascend-push least (x ∷ ps) p h below le = (
+  h.0,
+  ascend-push (suc x.0) ps p h.1 (λ y i. below y (inr i)) (let lt = below x (inl refl) in omega (arith, lt)),
+)
 
-pub more-below : (N : NamedNet ℕ) (n b : ℕ) (text text' : List ℕ) → ((c : ℕ) → IsStuck N n c → c ≡ b) → IsAbove N n (Some b) → Below N n text → text' ≡ text ++ pair_line (n, b) → Below N (n + 1) text'
+pub more-below : (N : NamedNet ℕ) (n b : ℕ) (text text' : List ℕ) →
+    ((c : ℕ) → IsStuck N n c → c ≡ b) → IsAbove N n (Some b) → Below N n text →
+    text' ≡ text ++ pair_line (n, b) → Below N (n + 1) text'
 more-below N n b text text' one above w e = record {
   pairs = w.pairs ++ (n, b) ∷ [];
   all = λ x y. (
@@ -69,8 +86,11 @@ more-below N n b text text' one above w e = record {
       | inl old ↦ (let r = (w.all x y).0 old in (omega (arith, r.0), r.1, r.2))
       | inr new ↦ elim new [
         | inl is ↦ (let ex : x ≡ n = ap (λ (p : ℕ × ℕ). p.0) is in
-            let ey : y ≡ b = ap (λ (p : ℕ × ℕ). p.1) is in
-            (omega (arith, ex), omega (arith, ex, ey, above.0), subst (λ x. IsStuck N x y) (sym ex) (subst (IsStuck N n) (sym ey) above.1)))
+            let ey : y ≡ b = ap (λ (p : ℕ × ℕ). p.1) is in (
+              omega (arith, ex),
+              omega (arith, ex, ey, above.0),
+              subst (λ x. IsStuck N x y) (sym ex) (subst (IsStuck N n) (sym ey) above.1),
+            ))
         | inr none ↦ absurd none
       ]
     ],
@@ -89,9 +109,11 @@ more-below N n b text text' one above w e = record {
 
 -- a net has one partner for each stuck node
 pub one-stuck : (g : Graph) → IsNet (net_of g) → (n b c : ℕ) → IsStuck (net_of g) n b → IsStuck (net_of g) n c → c ≡ b
-one-stuck g net n b c s t = let one : slot c 0 ≡ slot b 0 = net.one_link (slot n 0) (slot c 0) (slot b 0) t.faces.linked s.faces.linked in cc
+one-stuck g net n b c s t = let one : slot c 0 ≡ slot b 0 = net.one_link (slot n 0) (slot c 0)
+    (slot b 0) t.faces.linked s.faces.linked in cc
 
-pub all-below : (g : Graph) (n : ℕ) (text : List ℕ) → length g.nodes ≤ n → Below (net_of g) n text → IsPairsText (net_of g) text
+pub all-below : (g : Graph) (n : ℕ) (text : List ℕ) → length g.nodes ≤ n → Below (net_of g) n text →
+    IsPairsText (net_of g) text
 all-below g n text le w = record {
   pairs = w.pairs;
   stuck = record {

@@ -1,5 +1,7 @@
 -- Names that grow from the left are those of first occurrences.
-use Rattle.std.proofs.Common.{◌≡◌, ℕ, ◌+◌, List, [], ◌∷◌, ◌++◌, reverse, Bool, true, false, ◌||◌, cond, Option, Some, None, refl, sym, ap, ◌∙◌, append_assoc, append-nil}
+use Rattle.std.proofs.Common.{◌≡◌, ℕ, ◌+◌, List, [], ◌∷◌, ◌++◌, reverse, Bool, true, false, ◌||◌}
+use Rattle.std.proofs.Common.{cond, Option, Some, None, refl, sym, ap, ◌∙◌, append_assoc}
+use Rattle.std.proofs.Common.{append-nil}
 use Rattle.std.specs.List.{position_from}
 use Rattle.std.specs.Borrow.{Bor}
 use Rattle.std.specs.Str.{bytes_eq}
@@ -35,23 +37,29 @@ all_added : (t : Named) (binders names : List (List ℕ)) → names_from binders
 all_added (var x) binders names = one_added names x (position_of x binders)
 all_added (lam x t) binders names = all_added t (x ∷ binders) names
 all_added (app f t) binders names =
-    all_added t binders (names_from binders names f) ∙ ap (λ n. add_all n (free_in binders t)) (all_added f binders names) ∙ sym (add_both (free_in binders f) (free_in binders t) names)
+    all_added t binders (names_from binders names f)
+    ∙ ap (λ n. add_all n (free_in binders t)) (all_added f binders names)
+    ∙ sym (add_both (free_in binders f) (free_in binders t) names)
 
 -- ---- a name in a list
 
-at_some : (x : List ℕ) (names : List (List ℕ)) (i k : ℕ) → position_from (λ y. bytes_eq x y) i names ≡ Some k → has x names ≡ true
+at_some : (x : List ℕ) (names : List (List ℕ)) (i k : ℕ) →
+    position_from (λ y. bytes_eq x y) i names ≡ Some k → has x names ≡ true
 at_some x [] i k h = absurd (cc)
 at_some x (y ∷ ys) i k h = go (at_some x ys (i + 1) k) (bytes_eq x y) h
   where
-    go : (position_from (λ y. bytes_eq x y) (i + 1) ys ≡ Some k → has x ys ≡ true) → (b : Bool) → cond b (Some i) (position_from (λ y. bytes_eq x y) (i + 1) ys) ≡ Some k → (b || has x ys) ≡ true
+    go : (position_from (λ y. bytes_eq x y) (i + 1) ys ≡ Some k → has x ys ≡ true) → (b : Bool) →
+        cond b (Some i) (position_from (λ y. bytes_eq x y) (i + 1) ys) ≡ Some k → (b || has x ys) ≡ true
     go each true h = refl
     go each false h = each h
 
-at_none : (x : List ℕ) (names : List (List ℕ)) (i : ℕ) → position_from (λ y. bytes_eq x y) i names ≡ None → has x names ≡ false
+at_none : (x : List ℕ) (names : List (List ℕ)) (i : ℕ) →
+    position_from (λ y. bytes_eq x y) i names ≡ None → has x names ≡ false
 at_none x [] i h = refl
 at_none x (y ∷ ys) i h = go (at_none x ys (i + 1)) (bytes_eq x y) h
   where
-    go : (position_from (λ y. bytes_eq x y) (i + 1) ys ≡ None → has x ys ≡ false) → (b : Bool) → cond b (Some i) (position_from (λ y. bytes_eq x y) (i + 1) ys) ≡ None → (b || has x ys) ≡ false
+    go : (position_from (λ y. bytes_eq x y) (i + 1) ys ≡ None → has x ys ≡ false) → (b : Bool) →
+        cond b (Some i) (position_from (λ y. bytes_eq x y) (i + 1) ys) ≡ None → (b || has x ys) ≡ false
     go each true h = absurd (cc)
     go each false h = each h
 
@@ -65,7 +73,8 @@ or_false false = refl
 
 has_more : (y x : List ℕ) (names : List (List ℕ)) → has y (names ++ (x ∷ [])) ≡ (has y names || bytes_eq y x)
 has_more y x [] = or_false (bytes_eq y x)
-has_more y x (n ∷ names) = ap (λ b. bytes_eq y n || b) (has_more y x names) ∙ or_assoc (bytes_eq y n) (has y names) (bytes_eq y x)
+has_more y x (n ∷ names) = ap (λ b. bytes_eq y n || b) (has_more y x names)
+    ∙ or_assoc (bytes_eq y n) (has y names) (bytes_eq y x)
 
 -- ---- one more name
 
@@ -77,41 +86,56 @@ rest_known : (x : List ℕ) (names ys : List (List ℕ)) → has x names ≡ tru
 rest_known x names [] h = refl
 rest_known x names (y ∷ ys) h = go (bytes_eq x y) refl (rest_known x names ys h)
   where
-    go : (b : Bool) → bytes_eq x y ≡ b → rest names (without x ys) ≡ rest names ys → rest names (cond b (without x ys) (y ∷ without x ys)) ≡ cond (has y names) (rest names ys) (y ∷ rest names ys)
-    go true e each = each ∙ sym (ap (λ b. kept b y (rest names ys)) (ap (λ w. has w names) (sym ((bytes_eq-Decides x y).0 e)) ∙ h))
+    go : (b : Bool) → bytes_eq x y ≡ b → rest names (without x ys) ≡ rest names ys →
+        rest names (cond b (without x ys) (y ∷ without x ys)) ≡ cond (has y names) (rest names ys) (y ∷ rest names ys)
+    go true e each = each ∙ sym (ap (λ b. kept b y (rest names ys))
+        (ap (λ w. has w names) (sym ((bytes_eq-Decides x y).0 e)) ∙ h))
     go false e each = ap (kept (has y names) y) each
 
 rest_new : (x : List ℕ) (names ys : List (List ℕ)) → rest names (without x ys) ≡ rest (names ++ (x ∷ [])) ys
 rest_new x names [] = refl
-rest_new x names (y ∷ ys) = go (bytes_eq x y) refl (rest_new x names ys) ∙ ap (λ b. kept b y (rest (names ++ (x ∷ [])) ys)) (sym (has_more y x names))
+rest_new x names (y ∷ ys) = go (bytes_eq x y) refl (rest_new x names ys)
+    ∙ ap (λ b. kept b y (rest (names ++ (x ∷ [])) ys)) (sym (has_more y x names))
   where
     or_true : (a : Bool) → true ≡ (a || true)
     or_true true = refl
     or_true false = refl
 
     back : (b : Bool) → bytes_eq y x ≡ b → bytes_eq x y ≡ false → bytes_eq y x ≡ false
-    back true e h = let same = (bytes_eq-Decides y x).0 e in let one : bytes_eq x y ≡ true = ap (bytes_eq x) same ∙ (bytes_eq-Decides x x).1 refl in absurd (cc)
+    back true e h = let same = (bytes_eq-Decides y x).0 e in
+        let one : bytes_eq x y ≡ true = ap (bytes_eq x) same ∙ (bytes_eq-Decides x x).1 refl in absurd (cc)
     back false e h = e
 
-    go : (b : Bool) → bytes_eq x y ≡ b → rest names (without x ys) ≡ rest (names ++ (x ∷ [])) ys → rest names (cond b (without x ys) (y ∷ without x ys)) ≡ kept (has y names || bytes_eq y x) y (rest (names ++ (x ∷ [])) ys)
+    go : (b : Bool) → bytes_eq x y ≡ b → rest names (without x ys) ≡ rest (names ++ (x ∷ [])) ys →
+        rest names (cond b (without x ys) (y ∷ without x ys)) ≡ kept (has y names || bytes_eq y x) y
+        (rest (names ++ (x ∷ [])) ys)
     go true e each =
-        let other : bytes_eq y x ≡ true = ap (bytes_eq y) ((bytes_eq-Decides x y).0 e) ∙ (bytes_eq-Decides y y).1 refl in
-        each ∙ ap (λ b. kept b y (rest (names ++ (x ∷ [])) ys)) (or_true (has y names) ∙ ap (λ b. has y names || b) (sym other))
+        let other : bytes_eq y x ≡ true = ap (bytes_eq y) ((bytes_eq-Decides x y).0 e)
+        ∙ (bytes_eq-Decides y y).1 refl in
+        each ∙ ap (λ b. kept b y (rest (names ++ (x ∷ [])) ys))
+        (or_true (has y names) ∙ ap (λ b. has y names || b) (sym other))
     go false e each =
-        ap (kept (has y names) y) each ∙ ap (λ b. kept b y (rest (names ++ (x ∷ [])) ys)) (sym (or_false (has y names)) ∙ ap (λ b. has y names || b) (sym (back (bytes_eq y x) refl e)))
+        ap (kept (has y names) y) each ∙ ap (λ b. kept b y (rest (names ++ (x ∷ [])) ys))
+        (sym (or_false (has y names)) ∙ ap (λ b. has y names || b) (sym (back (bytes_eq y x) refl e)))
 
 behind : (xs names : List (List ℕ)) → add_all names xs ≡ names ++ rest names (once xs)
 behind [] names = sym (append-nil names)
 behind (x ∷ xs) names = go (position_of x names) refl (behind xs names) (behind xs (names ++ (x ∷ [])))
   where
-    go : (o : Option ℕ) → position_of x names ≡ o → add_all names xs ≡ names ++ rest names (once xs) → add_all (names ++ (x ∷ [])) xs ≡ (names ++ (x ∷ [])) ++ rest (names ++ (x ∷ [])) (once xs)
-        → add_all (add_unless names x o) xs ≡ names ++ cond (has x names) (rest names (without x (once xs))) (x ∷ rest names (without x (once xs)))
+    go : (o : Option ℕ) → position_of x names ≡ o →
+        add_all names xs ≡ names ++ rest names (once xs) →
+        add_all (names ++ (x ∷ [])) xs ≡ (names ++ (x ∷ [])) ++ rest (names ++ (x ∷ [])) (once xs)
+        → add_all (add_unless names x o) xs ≡ names ++ cond (has x names)
+        (rest names (without x (once xs))) (x ∷ rest names (without x (once xs)))
     go (Some k) e old new =
         let here = at_some x names 0 k e in
-        old ∙ ap (λ l. names ++ l) (sym (rest_known x names (once xs) here)) ∙ ap (λ b. names ++ kept b x (rest names (without x (once xs)))) (sym here)
+        old ∙ ap (λ l. names ++ l) (sym (rest_known x names (once xs) here))
+        ∙ ap (λ b. names ++ kept b x (rest names (without x (once xs)))) (sym here)
     go None e old new =
         let gone = at_none x names 0 e in
-        new ∙ append_assoc names (x ∷ []) (rest (names ++ (x ∷ [])) (once xs)) ∙ ap (λ l. names ++ (x ∷ l)) (sym (rest_new x names (once xs))) ∙ ap (λ b. names ++ kept b x (rest names (without x (once xs)))) (sym gone)
+        new ∙ append_assoc names (x ∷ []) (rest (names ++ (x ∷ [])) (once xs))
+        ∙ ap (λ l. names ++ (x ∷ l)) (sym (rest_new x names (once xs)))
+        ∙ ap (λ b. names ++ kept b x (rest names (without x (once xs)))) (sym gone)
 
 rest_none : (ys : List (List ℕ)) → rest [] ys ≡ ys
 rest_none [] = refl
@@ -120,7 +144,13 @@ rest_none (y ∷ ys) = ap (λ l. y ∷ l) (rest_none ys)
 pub names_once : (t : Named) → names_from [] [] t ≡ names_of t
 names_once t = all_added t [] [] ∙ behind (free_in [] t) [] ∙ rest_none (once (free_in [] t))
 
-pub whole_numbered : (t : Named) (binders : List (Bor (List ℕ))) (names names' : List (List ℕ)) (u : Tree) → binders ≡ [] → names ≡ [] → names' ≡ names_from (texts (reverse binders)) names t → IsNumbered names' (texts (reverse binders)) t u → (names' ≡ names_of t) × (u ≡ number t)
+pub whole_numbered : (t : Named) (binders : List (Bor (List ℕ))) (names names' : List (List ℕ))
+    (u : Tree) → binders ≡ [] → names ≡ [] → names' ≡ names_from (texts (reverse binders)) names t →
+    IsNumbered names' (texts (reverse binders)) t u → (names' ≡ names_of t) × (u ≡ number t)
 whole_numbered t binders names names' u e i n h =
-    let k : names' ≡ names_of t = n ∙ ap (λ l. names_from (texts (reverse l)) names t) e ∙ ap (λ l. names_from [] l t) i ∙ names_once t in
-    (k, sym (h []) ∙ ap (λ l. numbered l (texts (reverse binders)) t) (append-nil names' ∙ k) ∙ ap (λ l. numbered (names_of t) (texts (reverse l)) t) e)
+    let k : names' ≡ names_of t = n ∙ ap (λ l. names_from (texts (reverse l)) names t) e
+    ∙ ap (λ l. names_from [] l t) i ∙ names_once t in (
+      k,
+      sym (h []) ∙ ap (λ l. numbered l (texts (reverse binders)) t) (append-nil names' ∙ k)
+          ∙ ap (λ l. numbered (names_of t) (texts (reverse l)) t) e,
+    )

@@ -1,5 +1,8 @@
 -- Places of names.
-use Rattle.std.proofs.Common.{◌≡◌, ℕ, zero, suc, ◌+◌, ◌-◌, ◌<◌, ◌≤◌, inl, inr, List, [], ◌∷◌, ◌++◌, drop, get_or, length, reverse, Bool, true, false, cond, Option, Some, None, refl, sym, ap, ◌∙◌, append_assoc, append-nil, add-one, drop-cons, arith}
+use Rattle.std.proofs.Common.{◌≡◌, ℕ, zero, suc, ◌+◌, ◌-◌, ◌<◌, ◌≤◌, inl, inr, List, [], ◌∷◌, ◌++◌}
+use Rattle.std.proofs.Common.{drop, get_or, length, reverse, Bool, true, false, cond, Option, Some}
+use Rattle.std.proofs.Common.{None, refl, sym, ap, ◌∙◌, append_assoc, append-nil, add-one}
+use Rattle.std.proofs.Common.{drop-cons, arith}
 use Rattle.std.proofs.lemmas.List.{get_or-reverse}
 use Rattle.std.proofs.lemmas.Bool.{cases_lt}
 use Rattle.std.specs.Prelude.{◌≢◌, slice_get}
@@ -20,42 +23,62 @@ abbrev is : List ℕ → List ℕ → Bool
 is name = λ y. bytes_eq name y
 
 -- one turn of a search
-pub one_turn : (name : List ℕ) (xs : List (Bor (List ℕ))) (i : ℕ) (d : Bor (List ℕ)) (b : Bool) (r : Option ℕ) → i < length xs → position_from (λ y. bytes_eq name y) i (texts (drop i xs)) ≡ r → b ≡ bytes_eq name (get_or xs i d).now → cond b (Some i) (position_from (λ y. bytes_eq name y) (i + 1) (texts (drop (i + 1) xs))) ≡ r
+pub one_turn : (name : List ℕ) (xs : List (Bor (List ℕ))) (i : ℕ) (d : Bor (List ℕ)) (b : Bool)
+    (r : Option ℕ) → i < length xs → position_from (λ y. bytes_eq name y) i
+    (texts (drop i xs)) ≡ r → b ≡ bytes_eq name (get_or xs i d).now →
+    cond b (Some i) (position_from (λ y. bytes_eq name y) (i + 1) (texts (drop (i + 1) xs))) ≡ r
 one_turn name xs i d b r h e t =
     ap (λ k. cond b (Some i) (position_from (is name) (i + 1) (texts (drop k xs)))) (add-one i)
     ∙ ap (λ y. cond y (Some i) (position_from (is name) (i + 1) (texts (drop (suc i) xs)))) t
     ∙ ap (λ l. position_from (is name) i (texts l)) (sym (drop-cons xs i d h)) ∙ e
 
-pub turn_back : (name : List ℕ) (xs : List (Bor (List ℕ))) (i : ℕ) (d : Bor (List ℕ)) (b : Bool) (r : Option ℕ) → i < length (reverse xs) → i < length xs → position_from (λ y. bytes_eq name y) i (texts (drop i (reverse xs))) ≡ r → b ≡ bytes_eq name (get_or xs (length xs - 1 - i) d).now → cond b (Some i) (position_from (λ y. bytes_eq name y) (i + 1) (texts (drop (i + 1) (reverse xs)))) ≡ r
-turn_back name xs i d b r h k e t = one_turn name (reverse xs) i d b r h e (t ∙ ap (λ (y : Bor (List ℕ)). bytes_eq name y.now) (sym (get_or-reverse xs i d k)))
+pub turn_back : (name : List ℕ) (xs : List (Bor (List ℕ))) (i : ℕ) (d : Bor (List ℕ)) (b : Bool)
+    (r : Option ℕ) → i < length (reverse xs) → i < length xs →
+    position_from (λ y. bytes_eq name y) i (texts (drop i (reverse xs))) ≡ r →
+    b ≡ bytes_eq name (get_or xs (length xs - 1 - i) d).now →
+    cond b (Some i) (position_from (λ y. bytes_eq name y) (i + 1) (texts (drop (i + 1) (reverse xs)))) ≡ r
+turn_back name xs i d b r h k e t = one_turn name (reverse xs) i d b r h e
+    (t ∙ ap (λ (y : Bor (List ℕ)). bytes_eq name y.now) (sym (get_or-reverse xs i d k)))
 
-kept_at : (i k : ℕ) (p q : Option ℕ) (b : Bool) → (p ≡ Some k → q ≡ Some k) → cond b (Some i) p ≡ Some k → cond b (Some i) q ≡ Some k
+kept_at : (i k : ℕ) (p q : Option ℕ) (b : Bool) → (p ≡ Some k → q ≡ Some k) →
+    cond b (Some i) p ≡ Some k → cond b (Some i) q ≡ Some k
 kept_at i k p q true each h = h
 kept_at i k p q false each h = each h
 
-pub kept_from : (x : List ℕ) (more : List (List ℕ)) (k : ℕ) (xs : List (List ℕ)) (i : ℕ) → position_from (λ y. bytes_eq x y) i xs ≡ Some k → position_from (λ y. bytes_eq x y) i (xs ++ more) ≡ Some k
+pub kept_from : (x : List ℕ) (more : List (List ℕ)) (k : ℕ) (xs : List (List ℕ)) (i : ℕ) →
+    position_from (λ y. bytes_eq x y) i xs ≡ Some k → position_from (λ y. bytes_eq x y) i (xs ++ more) ≡ Some k
 kept_from x more k [] i h = absurd (cc)
-kept_from x more k (y ∷ xs) i h = kept_at i k (position_from (is x) (i + 1) xs) (position_from (is x) (i + 1) (xs ++ more)) (bytes_eq x y) (kept_from x more k xs (i + 1)) h
+kept_from x more k (y ∷ xs) i h = kept_at i k (position_from (is x) (i + 1) xs)
+    (position_from (is x) (i + 1) (xs ++ more)) (bytes_eq x y) (kept_from x more k xs (i + 1)) h
 
-new_at : (i k : ℕ) (p q : Option ℕ) (b : Bool) → (p ≡ None → q ≡ Some k) → cond b (Some i) p ≡ None → cond b (Some i) q ≡ Some k
+new_at : (i k : ℕ) (p q : Option ℕ) (b : Bool) → (p ≡ None → q ≡ Some k) →
+    cond b (Some i) p ≡ None → cond b (Some i) q ≡ Some k
 new_at i k p q true each h = absurd (cc)
 new_at i k p q false each h = each h
 
-pub new_from : (x : List ℕ) (more : List (List ℕ)) (k : ℕ) (xs : List (List ℕ)) (i : ℕ) → k ≡ i + length xs → position_from (λ y. bytes_eq x y) i xs ≡ None → position_from (λ y. bytes_eq x y) i (xs ++ (x ∷ more)) ≡ Some k
-new_from x more k [] i e h = let n : i ≡ k = omega arith in ap (λ b. cond b (Some i) (position_from (is x) (i + 1) more)) ((bytes_eq-Decides x x).1 refl) ∙ ap (λ (n : ℕ). Some n) n
+pub new_from : (x : List ℕ) (more : List (List ℕ)) (k : ℕ) (xs : List (List ℕ)) (i : ℕ) →
+    k ≡ i + length xs → position_from (λ y. bytes_eq x y) i xs ≡ None →
+    position_from (λ y. bytes_eq x y) i (xs ++ (x ∷ more)) ≡ Some k
+new_from x more k [] i e h = let n : i ≡ k = omega arith in
+    ap (λ b. cond b (Some i) (position_from (is x) (i + 1) more)) ((bytes_eq-Decides x x).1 refl)
+    ∙ ap (λ (n : ℕ). Some n) n
 new_from x more k (y ∷ xs) i e h =
     let n : k ≡ (i + 1) + length xs = omega arith in
-    new_at i k (position_from (is x) (i + 1) xs) (position_from (is x) (i + 1) (xs ++ (x ∷ more))) (bytes_eq x y) (new_from x more k xs (i + 1) n) h
+    new_at i k (position_from (is x) (i + 1) xs) (position_from (is x) (i + 1) (xs ++ (x ∷ more)))
+    (bytes_eq x y) (new_from x more k xs (i + 1) n) h
 
-add_grows : (names : List (List ℕ)) (x : List ℕ) (o : Option ℕ) → (rest : List (List ℕ)) × (add_unless names x o ≡ names ++ rest)
+add_grows : (names : List (List ℕ)) (x : List ℕ) (o : Option ℕ) →
+    (rest : List (List ℕ)) × (add_unless names x o ≡ names ++ rest)
 add_grows names x (Some k) = ([], sym (append-nil names))
 add_grows names x None = (x ∷ [], refl)
 
-free_grows : (names : List (List ℕ)) (x : List ℕ) (o : Option ℕ) → (rest : List (List ℕ)) × (free_unless names x o ≡ names ++ rest)
+free_grows : (names : List (List ℕ)) (x : List ℕ) (o : Option ℕ) →
+    (rest : List (List ℕ)) × (free_unless names x o ≡ names ++ rest)
 free_grows names x (Some k) = ([], sym (append-nil names))
 free_grows names x None = add_grows names x (position_of x names)
 
-pub grows : (t : Named) (binders names : List (List ℕ)) → (rest : List (List ℕ)) × (names_from binders names t ≡ names ++ rest)
+pub grows : (t : Named) (binders names : List (List ℕ)) →
+    (rest : List (List ℕ)) × (names_from binders names t ≡ names ++ rest)
 grows (var x) binders names = free_grows names x (position_of x binders)
 grows (lam x t) binders names = grows t (x ∷ binders) names
 grows (app f t) binders names =
@@ -65,21 +88,28 @@ grows (app f t) binders names =
 
 -- ---- first places
 
-first_from : (x : List ℕ) (names : List (List ℕ)) (i k n : ℕ) → n ≡ i + k → slice_get names k ≡ Some x → ((j : ℕ) → j < k → slice_get names j ≢ Some x) → position_from (λ y. bytes_eq x y) i names ≡ Some n
+first_from : (x : List ℕ) (names : List (List ℕ)) (i k n : ℕ) → n ≡ i + k →
+    slice_get names k ≡ Some x → ((j : ℕ) → j < k → slice_get names j ≢ Some x) →
+    position_from (λ y. bytes_eq x y) i names ≡ Some n
 first_from x [] i k n e h before = absurd (cc)
 first_from x (y ∷ ys) i zero n e h before =
     let same : x ≡ y = cc in
     let here : i ≡ n = omega arith in
-    ap (λ b. cond b (Some i) (position_from (is x) (i + 1) ys)) (ap (bytes_eq x) (sym same) ∙ (bytes_eq-Decides x x).1 refl) ∙ ap (λ (n : ℕ). Some n) here
+    ap (λ b. cond b (Some i) (position_from (is x) (i + 1) ys))
+    (ap (bytes_eq x) (sym same) ∙ (bytes_eq-Decides x x).1 refl) ∙ ap (λ (n : ℕ). Some n) here
 first_from x (y ∷ ys) i (suc k) n e h before =
-    let other : bytes_eq x y ≡ false = not_same x y (λ same. before 0 (omega arith) (ap (λ (l : List ℕ). Some l) (sym same))) in
+    let other : bytes_eq x y ≡ false = not_same x y
+    (λ same. before 0 (omega arith) (ap (λ (l : List ℕ). Some l) (sym same))) in
     let further : n ≡ (i + 1) + k = omega arith in
-    ap (λ b. cond b (Some i) (position_from (is x) (i + 1) ys)) other ∙ first_from x ys (i + 1) k n further h (λ j l. before (suc j) (omega arith))
+    ap (λ b. cond b (Some i) (position_from (is x) (i + 1) ys)) other
+    ∙ first_from x ys (i + 1) k n further h (λ j l. before (suc j) (omega arith))
 
-none_from : (x : List ℕ) (names : List (List ℕ)) (i : ℕ) → ((j : ℕ) → j < length names → slice_get names j ≢ Some x) → position_from (λ y. bytes_eq x y) i names ≡ None
+none_from : (x : List ℕ) (names : List (List ℕ)) (i : ℕ) →
+    ((j : ℕ) → j < length names → slice_get names j ≢ Some x) → position_from (λ y. bytes_eq x y) i names ≡ None
 none_from x [] i each = refl
 none_from x (y ∷ ys) i each =
-    ap (λ b. cond b (Some i) (position_from (is x) (i + 1) ys)) (not_same x y (λ same. each 0 (omega arith) (ap (λ (l : List ℕ). Some l) (sym same))))
+    ap (λ b. cond b (Some i) (position_from (is x) (i + 1) ys))
+    (not_same x y (λ same. each 0 (omega arith) (ap (λ (l : List ℕ). Some l) (sym same))))
     ∙ none_from x ys (i + 1) (λ j l. each (suc j) (omega arith))
 
 first_place : (x : List ℕ) (names : List (List ℕ)) (k : ℕ) → IsFirstPlace names x k → position_of x names ≡ Some k
@@ -88,7 +118,9 @@ first_place x names k f = let e : k ≡ 0 + k = omega arith in first_from x name
 -- ---- a free name
 
 -- the names behind it
-pub free_named : (t : Named) (x : List ℕ) (binders old new : List (List ℕ)) (k : ℕ) → t ≡ var x → position_of x binders ≡ None → IsFirstPlace new x k → (k < length old → new ≡ old) → (length old ≤ k → new ≡ old ++ (x ∷ [])) → new ≡ names_from binders old t
+pub free_named : (t : Named) (x : List ℕ) (binders old new : List (List ℕ)) (k : ℕ) → t ≡ var x →
+    position_of x binders ≡ None → IsFirstPlace new x k → (k < length old → new ≡ old) →
+    (length old ≤ k → new ≡ old ++ (x ∷ [])) → new ≡ names_from binders old t
 free_named t x binders old new k e b f known last =
     sym (ap (names_from binders old) e ∙ ap (free_unless old x) b ∙ elim (cases_lt k (length old)) [
       | inl low ↦ (
@@ -98,19 +130,27 @@ free_named t x binders old new k e b f known last =
           )
       | inr past ↦ (
           let more : new ≡ old ++ (x ∷ []) = last (omega arith) in
-          let gone : position_of x old ≡ None = none_from x old 0 (λ j l same. f.before j (omega arith) (ap (λ l. slice_get l j) more ∙ below_added old (x ∷ []) j l ∙ same)) in
+          let gone : position_of x old ≡ None = none_from x old 0
+          (λ j l same. f.before j (omega arith)
+          (ap (λ l. slice_get l j) more ∙ below_added old (x ∷ []) j l ∙ same)) in
           ap (add_unless old x) gone ∙ sym more
           )
     ])
 
 -- its number
-pub free_numbered : (t : Named) (x : List ℕ) (binders names : List (List ℕ)) (k : ℕ) → t ≡ var x → position_of x binders ≡ None → IsFirstPlace names x k → (more : List (List ℕ)) → numbered (names ++ more) binders t ≡ tree.free k
+pub free_numbered : (t : Named) (x : List ℕ) (binders names : List (List ℕ)) (k : ℕ) → t ≡ var x →
+    position_of x binders ≡ None → IsFirstPlace names x k → (more : List (List ℕ)) →
+    numbered (names ++ more) binders t ≡ tree.free k
 free_numbered t x binders names k e b f more =
-    ap (numbered (names ++ more) binders) e ∙ ap (λ o. var_at o (position_of x (names ++ more))) b ∙ ap free_at (kept_from x more k names 0 (first_place x names k f))
+    ap (numbered (names ++ more) binders) e ∙ ap (λ o. var_at o (position_of x (names ++ more))) b
+    ∙ ap free_at (kept_from x more k names 0 (first_place x names k f))
 
 -- ---- an application, and a whole term
 
-pub both_numbered : (t f a : Named) (binders names mid last : List (List ℕ)) (g b : Tree) → t ≡ app f a → mid ≡ names_from binders names f → last ≡ names_from binders mid a → IsNumbered mid binders f g → IsNumbered last binders a b → (more : List (List ℕ)) → numbered (last ++ more) binders t ≡ tree.app g b
+pub both_numbered : (t f a : Named) (binders names mid last : List (List ℕ)) (g b : Tree) →
+    t ≡ app f a → mid ≡ names_from binders names f → last ≡ names_from binders mid a →
+    IsNumbered mid binders f g → IsNumbered last binders a b → (more : List (List ℕ)) →
+    numbered (last ++ more) binders t ≡ tree.app g b
 both_numbered t f a binders names mid last g b e m l p q more =
     let (rest, h) = grows a binders mid in
     let w : last ++ more ≡ mid ++ (rest ++ more) = ap (λ x. x ++ more) (l ∙ h) ∙ append_assoc mid rest more in

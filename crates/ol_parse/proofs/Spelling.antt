@@ -1,7 +1,12 @@
 -- Bytes that the machine takes spell tokens that the machine accepts.
-use Rattle.std.proofs.Common.{◌≡◌, ℕ, List, [], ◌∷◌, ◌++◌, Bool, true, false, cond, nat_eq, eqb-true, Option, Some, None, option_and_then, option_map, ◌⊎◌, inl, inr, refl, sym, ap, ◌∙◌, subst, append_assoc, append-nil}
+use Rattle.std.proofs.Common.{◌≡◌, ℕ, List, [], ◌∷◌, ◌++◌, Bool, true, false, cond, nat_eq}
+use Rattle.std.proofs.Common.{eqb-true, Option, Some, None, option_and_then, option_map, ◌⊎◌, inl}
+use Rattle.std.proofs.Common.{inr, refl, sym, ap, ◌∙◌, subst, append_assoc, append-nil}
 use Rattle.ol_parse.specs.Grammar.{Named, Token, lambda}
-use Rattle.ol_parse.specs.Texts.{Class, blank, hash, letter, sign, lead, first_class, classes, class_of, in_word, token_of, is_word, IsLine, gap_none, gap_blank, gap_comment, last_gap, last_comment, AreInWord, token_sign, token_letter, token_word, Spells, spells_none, spells_one}
+use Rattle.ol_parse.specs.Texts.{Class, blank, hash, letter, sign, lead, first_class, classes}
+use Rattle.ol_parse.specs.Texts.{class_of, in_word, token_of, is_word, IsLine, gap_none, gap_blank}
+use Rattle.ol_parse.specs.Texts.{gap_comment, last_gap, last_comment, AreInWord, token_sign}
+use Rattle.ol_parse.specs.Texts.{token_letter, token_word, Spells, spells_none, spells_one}
 use Rattle.ol_parse.specs.Machine.{State, step, final, accepts}
 use Rattle.ol_parse.specs.Reading.{Reading, gap, comment, word, half, takes_name, gap_step, takes}
 use Rattle.ol_parse.proofs.Spelled.{IsApart, then_take, word_token}
@@ -63,54 +68,88 @@ no_word b = first_no_word (classes b) (tt, (tt, (tt, (tt, (refl, (refl, (refl, (
 pub sign_no_word : (b : ℕ) (k : Token) → class_of b ≡ sign k → is_word k ≡ false
 sign_no_word b k e = subst IsNoWord e (no_word b)
 
-put_blank : {ks : List Token} {bs : List ℕ} {b : ℕ} → class_of b ≡ blank → Spells false ks bs → (after : Bool) → Spells after ks (b ∷ bs)
+put_blank : {ks : List Token} {bs : List ℕ} {b : ℕ} → class_of b ≡ blank → Spells false ks bs →
+    (after : Bool) → Spells after ks (b ∷ bs)
 put_blank e (spells_none (last_gap i)) after = spells_none (last_gap (gap_blank e i))
 put_blank e (spells_none (last_comment i h q c l)) after = spells_none (last_comment (gap_blank e i) h q c l)
 put_blank e (spells_one i n k s) after = spells_one (gap_blank e i) (λ _ _ q. cc) k s
 
-put_comment : {ks : List Token} {bs : List ℕ} {b : ℕ} → class_of b ≡ hash → (c : List ℕ) → IsLine c → Spells false ks bs → (after : Bool) → Spells after ks (b ∷ c ++ (10 ∷ bs))
+put_comment : {ks : List Token} {bs : List ℕ} {b : ℕ} → class_of b ≡ hash → (c : List ℕ) →
+    IsLine c → Spells false ks bs → (after : Bool) → Spells after ks (b ∷ c ++ (10 ∷ bs))
 put_comment e c l (spells_none (last_gap i)) after = spells_none (last_gap (gap_comment e c l i))
 put_comment {ks = ks} {b = b} e c l (spells_none (last_comment {g = g} i h q d m)) after =
-    subst (Spells after []) (ap (λ k. b ∷ k) (append_assoc c (10 ∷ g) (h ∷ d))) (spells_none (last_comment (gap_comment e c l i) h q d m))
+    subst (Spells after []) (ap (λ k. b ∷ k) (append_assoc c (10 ∷ g) (h ∷ d)))
+    (spells_none (last_comment (gap_comment e c l i) h q d m))
 put_comment {ks = ks} {b = b} e c l (spells_one {k = k} {ks = js} {g = g} {a = a} {bs = rest} i n t s) after =
-    subst (Spells after (k ∷ js)) (ap (λ k. b ∷ k) (append_assoc c (10 ∷ g) (a ++ rest))) (spells_one (gap_comment e c l i) (λ _ _ q. cc) t s)
+    subst (Spells after (k ∷ js)) (ap (λ k. b ∷ k) (append_assoc c (10 ∷ g) (a ++ rest)))
+    (spells_one (gap_comment e c l i) (λ _ _ q. cc) t s)
 
 abbrev Each : Named → List ℕ → Type 0
 Each t bs = (s : Reading) → takes s bs ≡ Some t → Left s t bs
 
-left_sign : (p : State) (t : Named) (k : Token) (b : ℕ) (bs : List ℕ) → Each t bs → class_of b ≡ sign k → (o : Option State) → step p k ≡ o → then_take bs (option_map gap o) ≡ Some t → (after : Bool) → Spelling after p t (b ∷ bs)
+left_sign : (p : State) (t : Named) (k : Token) (b : ℕ) (bs : List ℕ) → Each t bs →
+    class_of b ≡ sign k → (o : Option State) → step p k ≡ o →
+    then_take bs (option_map gap o) ≡ Some t → (after : Bool) → Spelling after p t (b ∷ bs)
 left_sign p t k b bs each e None h g after = absurd (cc)
 left_sign p t k b bs each e (Some q) h g after =
     let no = sign_no_word b k e in
     let r = each (gap q) g (is_word k) (λ y. false_true (sym no ∙ y)) in
-    record { tokens = k ∷ r.tokens; spells = spells_one gap_none (λ _ y. false_true (sym no ∙ y)) (token_sign e) r.spells; accepted = ap (option_and_then (λ s. accepts s r.tokens)) h ∙ r.accepted }
+    record {
+      tokens = k ∷ r.tokens;
+      spells = spells_one gap_none (λ _ y. false_true (sym no ∙ y))
+          (token_sign e) r.spells;
+      accepted = ap (option_and_then (λ s. accepts s r.tokens)) h ∙ r.accepted;
+    }
 
-left_lead : (p : State) (t : Named) (b : ℕ) (bs : List ℕ) → Each t bs → class_of b ≡ lead → (o : Option State) → step p lambda ≡ o → then_take bs (option_map half o) ≡ Some t → (after : Bool) → Spelling after p t (b ∷ bs)
+left_lead : (p : State) (t : Named) (b : ℕ) (bs : List ℕ) → Each t bs → class_of b ≡ lead →
+    (o : Option State) → step p lambda ≡ o → then_take bs (option_map half o) ≡ Some t →
+    (after : Bool) → Spelling after p t (b ∷ bs)
 left_lead p t b bs each e None h g after = absurd (cc)
 left_lead p t b bs each e (Some q) h g after =
     let (rest, parts, r) = each (half q) g in
-    let s : Spells after (lambda ∷ r.tokens) (b ∷ 187 ∷ rest) = spells_one gap_none (λ _ y. false_true y) (token_letter e) r.spells in
-    record { tokens = lambda ∷ r.tokens; spells = subst (Spells after (lambda ∷ r.tokens)) (sym (ap (λ k. b ∷ k) parts)) s; accepted = ap (option_and_then (λ s. accepts s r.tokens)) h ∙ r.accepted }
+    let s : Spells after (lambda ∷ r.tokens) (b ∷ 187 ∷ rest) = spells_one gap_none
+    (λ _ y. false_true y) (token_letter e) r.spells in
+    record {
+      tokens = lambda ∷ r.tokens;
+      spells = subst (Spells after (lambda ∷ r.tokens)) (sym (ap (λ k. b ∷ k) parts)) s;
+      accepted = ap (option_and_then (λ s. accepts s r.tokens)) h ∙ r.accepted;
+    }
 
-left_letter : (p : State) (t : Named) (b : ℕ) (bs : List ℕ) → Each t bs → class_of b ≡ letter → (y : Bool) → takes_name p ≡ y → then_take bs (cond y (Some (word (b ∷ []) p)) None) ≡ Some t → (after : Bool) → (after ≡ true → IsApart (b ∷ bs)) → Spelling after p t (b ∷ bs)
+left_letter : (p : State) (t : Named) (b : ℕ) (bs : List ℕ) → Each t bs → class_of b ≡ letter →
+    (y : Bool) → takes_name p ≡ y → then_take bs (cond y (Some (word (b ∷ []) p)) None) ≡ Some t →
+    (after : Bool) → (after ≡ true → IsApart (b ∷ bs)) → Spelling after p t (b ∷ bs)
 left_letter p t b bs each e false h g after a = absurd (cc)
 left_letter p t b bs each e true h g after a =
     let r = each (word (b ∷ []) p) g in
     let w = b ∷ r.more in
     let k = token_of w in
-    let s : Spells (is_word k) r.spelling.tokens r.rest = subst (λ y. Spells y r.spelling.tokens r.rest) (sym (word_token w)) r.spelling.spells in
-    let z : Spells after (k ∷ r.spelling.tokens) (w ++ r.rest) = spells_one gap_none (λ y _. false_true (sym (a y) ∙ ap in_word e)) (token_word e r.in_it) s in
-    record { tokens = k ∷ r.spelling.tokens; spells = subst (Spells after (k ∷ r.spelling.tokens)) (sym (ap (λ k. b ∷ k) r.parts)) z; accepted = ap (option_and_then (λ s. accepts s r.spelling.tokens)) r.stepped ∙ r.spelling.accepted }
+    let s : Spells (is_word k) r.spelling.tokens r.rest = subst
+    (λ y. Spells y r.spelling.tokens r.rest) (sym (word_token w)) r.spelling.spells in
+    let z : Spells after (k ∷ r.spelling.tokens) (w ++ r.rest) = spells_one gap_none
+    (λ y _. false_true (sym (a y) ∙ ap in_word e)) (token_word e r.in_it) s in
+    record {
+      tokens = k ∷ r.spelling.tokens;
+      spells = subst (Spells after (k ∷ r.spelling.tokens)) (sym (ap (λ k. b ∷ k) r.parts)) z;
+      accepted = ap (option_and_then (λ s. accepts s r.spelling.tokens)) r.stepped ∙ r.spelling.accepted;
+    }
 
-left_hash : (p : State) (t : Named) (b : ℕ) (bs : List ℕ) → class_of b ≡ hash → Left (comment p) t bs → (after : Bool) → Spelling after p t (b ∷ bs)
-left_hash p t b bs e (inl (l, h)) after = record { tokens = []; spells = spells_none (last_comment gap_none b e bs l); accepted = h }
+left_hash : (p : State) (t : Named) (b : ℕ) (bs : List ℕ) → class_of b ≡ hash →
+    Left (comment p) t bs → (after : Bool) → Spelling after p t (b ∷ bs)
+left_hash p t b bs e (inl (l, h)) after = record {
+  tokens = [];
+  spells = spells_none (last_comment gap_none b e bs l);
+  accepted = h;
+}
 left_hash p t b bs e (inr r) after = record {
   tokens = r.spelling.tokens;
-  spells = subst (Spells after r.spelling.tokens) (sym (ap (λ k. b ∷ k) r.parts)) (put_comment e r.comment_text r.line r.spelling.spells after);
+  spells = subst (Spells after r.spelling.tokens) (sym (ap (λ k. b ∷ k) r.parts))
+      (put_comment e r.comment_text r.line r.spelling.spells after);
   accepted = r.spelling.accepted;
 }
 
-left_gap : (p : State) (t : Named) (b : ℕ) (bs : List ℕ) → Each t bs → (c : Class) → class_of b ≡ c → then_take bs (gap_step p b c) ≡ Some t → (after : Bool) → (after ≡ true → IsApart (b ∷ bs)) → Spelling after p t (b ∷ bs)
+left_gap : (p : State) (t : Named) (b : ℕ) (bs : List ℕ) → Each t bs → (c : Class) →
+    class_of b ≡ c → then_take bs (gap_step p b c) ≡ Some t → (after : Bool) →
+    (after ≡ true → IsApart (b ∷ bs)) → Spelling after p t (b ∷ bs)
 left_gap p t b bs each blank e h after a =
     let r = each (gap p) h false false_true in
     record { tokens = r.tokens; spells = put_blank e r.spells after; accepted = r.accepted }
@@ -120,15 +159,31 @@ left_gap p t b bs each (sign k) e h after a = left_sign p t k b bs each e (step 
 left_gap p t b bs each lead e h after a = left_lead p t b bs each e (step p lambda) refl h after
 left_gap p t b bs each _ e h after a = absurd (cc)
 
-left_comment : (p : State) (t : Named) (b : ℕ) (bs : List ℕ) → Each t bs → (y : Bool) → nat_eq b 10 ≡ y → takes (cond y (gap p) (comment p)) bs ≡ Some t → Left (comment p) t (b ∷ bs)
-left_comment p t b bs each true e h = inr (record { comment_text = []; rest = bs; line = tt; parts = ap (λ b. b ∷ bs) (eqb-true b 10 e); spelling = each (gap p) h false false_true })
+left_comment : (p : State) (t : Named) (b : ℕ) (bs : List ℕ) → Each t bs → (y : Bool) →
+    nat_eq b 10 ≡ y → takes (cond y (gap p) (comment p)) bs ≡ Some t → Left (comment p) t (b ∷ bs)
+left_comment p t b bs each true e h = inr
+    (record {
+      comment_text = [];
+      rest = bs;
+      line = tt;
+      parts = ap (λ b. b ∷ bs) (eqb-true b 10 e);
+      spelling = each (gap p) h false false_true;
+    })
 left_comment p t b bs each false e h = go (each (comment p) h)
   where
     go : Left (comment p) t bs → Left (comment p) t (b ∷ bs)
     go (inl (l, f)) = inl ((e, l), f)
-    go (inr r) = inr (record { comment_text = b ∷ r.comment_text; rest = r.rest; line = (e, r.line); parts = ap (λ k. b ∷ k) r.parts; spelling = r.spelling })
+    go (inr r) = inr (record {
+      comment_text = b ∷ r.comment_text;
+      rest = r.rest;
+      line = (e, r.line);
+      parts = ap (λ k. b ∷ k) r.parts;
+      spelling = r.spelling;
+    })
 
-left_after : (w : List ℕ) (p : State) (t : Named) (b : ℕ) (bs : List ℕ) → Each t bs → in_word (class_of b) ≡ false → (o : Option State) → step p (token_of w) ≡ o → then_take bs (option_and_then (λ q. gap_step q b (class_of b)) o) ≡ Some t → InWord w p t (b ∷ bs)
+left_after : (w : List ℕ) (p : State) (t : Named) (b : ℕ) (bs : List ℕ) → Each t bs →
+    in_word (class_of b) ≡ false → (o : Option State) → step p (token_of w) ≡ o →
+    then_take bs (option_and_then (λ q. gap_step q b (class_of b)) o) ≡ Some t → InWord w p t (b ∷ bs)
 left_after w p t b bs each e None h g = absurd (cc)
 left_after w p t b bs each e (Some q) h g = record {
   more = [];
@@ -140,7 +195,10 @@ left_after w p t b bs each e (Some q) h g = record {
   spelling = left_gap q t b bs each (class_of b) refl g true (λ _. e);
 }
 
-left_word : (w : List ℕ) (p : State) (t : Named) (b : ℕ) (bs : List ℕ) → Each t bs → (y : Bool) → in_word (class_of b) ≡ y → then_take bs (cond y (Some (word (w ++ (b ∷ [])) p)) (option_and_then (λ q. gap_step q b (class_of b)) (step p (token_of w)))) ≡ Some t → InWord w p t (b ∷ bs)
+left_word : (w : List ℕ) (p : State) (t : Named) (b : ℕ) (bs : List ℕ) → Each t bs → (y : Bool) →
+    in_word (class_of b) ≡ y → then_take bs
+    (cond y (Some (word (w ++ (b ∷ [])) p))
+    (option_and_then (λ q. gap_step q b (class_of b)) (step p (token_of w)))) ≡ Some t → InWord w p t (b ∷ bs)
 left_word w p t b bs each true e h =
     let r = each (word (w ++ (b ∷ [])) p) h in
     record {
@@ -154,7 +212,8 @@ left_word w p t b bs each true e h =
     }
 left_word w p t b bs each false e h = left_after w p t b bs each e (step p (token_of w)) refl h
 
-left_half : (p : State) (t : Named) (b : ℕ) (bs : List ℕ) → Each t bs → (y : Bool) → nat_eq b 187 ≡ y → then_take bs (cond y (Some (gap p)) None) ≡ Some t → Left (half p) t (b ∷ bs)
+left_half : (p : State) (t : Named) (b : ℕ) (bs : List ℕ) → Each t bs → (y : Bool) →
+    nat_eq b 187 ≡ y → then_take bs (cond y (Some (gap p)) None) ≡ Some t → Left (half p) t (b ∷ bs)
 left_half p t b bs each true e h = (bs, ap (λ b. b ∷ bs) (eqb-true b 187 e), each (gap p) h false false_true)
 left_half p t b bs each false e h = absurd (cc)
 
@@ -164,7 +223,8 @@ left_step t b bs each (comment p) h = left_comment p t b bs each (nat_eq b 10) r
 left_step t b bs each (word w p) h = left_word w p t b bs each (in_word (class_of b)) refl h
 left_step t b bs each (half p) h = left_half p t b bs each (nat_eq b 187) refl h
 
-left_word_end : (w : List ℕ) (p : State) (t : Named) (o : Option State) → step p (token_of w) ≡ o → option_and_then final o ≡ Some t → InWord w p t []
+left_word_end : (w : List ℕ) (p : State) (t : Named) (o : Option State) → step p (token_of w) ≡ o →
+    option_and_then final o ≡ Some t → InWord w p t []
 left_word_end w p t None e g = absurd (cc)
 left_word_end w p t (Some q) e g = record {
   more = [];

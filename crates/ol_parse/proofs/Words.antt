@@ -1,8 +1,13 @@
 -- The free names of a text are names of the grammar.
-use Rattle.std.proofs.Common.{◌≡◌, ℕ, List, [], ◌∷◌, ◌++◌, map, Bool, true, false, cond, Option, Some, None, refl, subst}
+use Rattle.std.proofs.Common.{◌≡◌, ℕ, List, [], ◌∷◌, ◌++◌, map, Bool, true, false, cond, Option}
+use Rattle.std.proofs.Common.{Some, None, refl, subst}
 use Rattle.std.specs.Str.{bytes_eq}
-use Rattle.ol_parse.specs.Grammar.{Named, var, lam, app, Token, name, let_key, in_key, lambda, dot, equals, open_bracket, close_bracket, lams, IsTerm, term_body, term_spine, term_both, IsSpine, spine_one, spine_more, IsAtom, atom_name, atom_brackets, IsBody, body_lambda, body_let}
-use Rattle.ol_parse.specs.Texts.{token_of, is_word, IsToken, token_sign, token_letter, token_word, IsName, Spells, spells_none, spells_one, IsText}
+use Rattle.ol_parse.specs.Grammar.{Named, var, lam, app, Token, name, let_key, in_key, lambda, dot}
+use Rattle.ol_parse.specs.Grammar.{equals, open_bracket, close_bracket, lams, IsTerm, term_body}
+use Rattle.ol_parse.specs.Grammar.{term_spine, term_both, IsSpine, spine_one, spine_more, IsAtom}
+use Rattle.ol_parse.specs.Grammar.{atom_name, atom_brackets, IsBody, body_lambda, body_let}
+use Rattle.ol_parse.specs.Texts.{token_of, is_word, IsToken, token_sign, token_letter, token_word}
+use Rattle.ol_parse.specs.Texts.{IsName, Spells, spells_none, spells_one, IsText}
 use Rattle.ol_parse.specs.Numbered.{position_of, unbound, free_in, once, names_of}
 use Rattle.ol_parse.specs.Parsed.{AreNames}
 use Rattle.ol_parse.proofs.Spelling.{sign_no_word}
@@ -90,8 +95,12 @@ mutual
   of_atom (atom_brackets {a = a} i) h = of_term i (left a (close_bracket ∷ []) h.1)
 
   of_body : {a : List Token} {t : Named} → IsBody a t → AreGood a → HasNames t
-  of_body (body_lambda x xs {a = a} {t = t} i) h = under (x ∷ xs) t (of_term i (right (map name (x ∷ xs)) (dot ∷ a) h.1).1)
-  of_body (body_let x {a = a} {b = b} i j) h = (of_term j (right a (in_key ∷ b) h.1.1.1).1, of_term i (left a (in_key ∷ b) h.1.1.1))
+  of_body (body_lambda x xs {a = a} {t = t} i) h = under (x ∷ xs) t
+      (of_term i (right (map name (x ∷ xs)) (dot ∷ a) h.1).1)
+  of_body (body_let x {a = a} {b = b} i j) h = (
+    of_term j (right a (in_key ∷ b) h.1.1.1).1,
+    of_term i (left a (in_key ∷ b) h.1.1.1),
+  )
 
 -- ---- free names
 
@@ -106,7 +115,8 @@ maybe_free x None h = (h, tt)
 free_good : (t : Named) (binders : List (List ℕ)) → HasNames t → AreNames (free_in binders t)
 free_good (var x) binders h = maybe_free x (position_of x binders) h
 free_good (lam x t) binders h = free_good t (x ∷ binders) h
-free_good (app f t) binders h = both (free_in binders f) (free_in binders t) (free_good f binders h.0) (free_good t binders h.1)
+free_good (app f t) binders h = both (free_in binders f) (free_in binders t)
+    (free_good f binders h.0) (free_good t binders h.1)
 
 without_good : (x : List ℕ) (ys : List (List ℕ)) → AreNames ys → AreNames (without x ys)
 without_good x [] h = tt

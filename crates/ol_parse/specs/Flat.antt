@@ -1,5 +1,6 @@
 -- Private: the flat form: what a row of steps builds, and what the flat state of the reader stands for.
-use Rattle.std.specs.Prelude.{◌≡◌, ℕ, List, [], ◌∷◌, ◌++◌, map, Bool, true, false, Option, Some, None, option_and_then, is_some}
+use Rattle.std.specs.Prelude.{◌≡◌, ℕ, List, [], ◌∷◌, ◌++◌, map, Bool, true, false, Option, Some}
+use Rattle.std.specs.Prelude.{None, option_and_then, is_some}
 use Rattle.ol_parse.specs.Grammar.{Named, var, lam, app, Token}
 use Rattle.ol_parse.specs.Machine.{Frame, applied, abstracted, bound, bracket, defining, State}
 use Rattle.ol_parse.specs.Machine.{at, first_name, more_names, let_name, let_equals, join, finish, step}

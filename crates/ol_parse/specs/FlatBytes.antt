@@ -1,6 +1,8 @@
 -- Private: the flat state of the reader over bytes.
-use Rattle.std.specs.Prelude.{◌≡◌, ℕ, ◌+◌, List, [], ◌∷◌, length, Bool, true, false, Option, Some, None, slice_index, slice_range}
-use Rattle.ol_parse.specs.Grammar.{Named, Token, name, let_key, in_key, lambda, dot, equals, open_bracket, close_bracket}
+use Rattle.std.specs.Prelude.{◌≡◌, ℕ, ◌+◌, List, [], ◌∷◌, length, Bool, true, false, Option, Some}
+use Rattle.std.specs.Prelude.{None, slice_index, slice_range}
+use Rattle.ol_parse.specs.Grammar.{Named, Token, name, let_key, in_key, lambda, dot, equals}
+use Rattle.ol_parse.specs.Grammar.{open_bracket, close_bracket}
 use Rattle.ol_parse.specs.Texts.{IsText, IsRefusedAt, class_of, Class, blank, hash, letter, digit, sign, lead, other}
 use Rattle.ol_parse.specs.Reading.{Reading, gap, comment, word, half, gap_step, byte_step, byte_final}
 use Rattle.ol_parse.specs.Machine.{State, final}
@@ -8,7 +10,9 @@ use Rattle.ol_parse.specs.Flat.{built, Holds}
 use Rattle.ol_parse.specs.declared.flat.Op.{Op}
 use Rattle.ol_parse.specs.declared.flat.Open.{Open}
 use Rattle.ol_parse.specs.declared.flat.Mode.{Mode}
-use Rattle.ol_parse.specs.declared.bytes.Class.TheVariants.{Blank, Hash, Letter, Digit, Slash, Dot, Equals, OpenBracket, CloseBracket, Lead, Other}
+use Rattle.ol_parse.specs.declared.bytes.Class.TheVariants.{Blank, Hash, Letter, Digit, Slash, Dot}
+use Rattle.ol_parse.specs.declared.bytes.Class.TheVariants.{Equals, OpenBracket, CloseBracket, Lead}
+use Rattle.ol_parse.specs.declared.bytes.Class.TheVariants.{Other}
 use Rattle.ol_parse.specs.declared.bytes.Class as code
 use Rattle.ol_parse.specs.declared.bytes.Place.{Place}
 use Rattle.ol_parse.specs.declared.bytes.Place.TheVariants.{Gap, Comment, Word, Half}

@@ -1,6 +1,7 @@
 -- Private: a machine that reads tokens, with a row of what is open.
 use Rattle.std.proofs.Common.{ℕ, List, [], ◌∷◌, Option, Some, None, option_and_then}
-use Rattle.ol_parse.specs.Grammar.{Named, var, lam, app, Token, name, let_key, in_key, lambda, dot, equals, open_bracket, close_bracket}
+use Rattle.ol_parse.specs.Grammar.{Named, var, lam, app, Token, name, let_key, in_key, lambda, dot}
+use Rattle.ol_parse.specs.Grammar.{equals, open_bracket, close_bracket}
 
 -- what is open round the place: a spine that the body is for, an abstraction, a let behind its `in`, a bracket, a let
 -- before it

@@ -1,5 +1,6 @@
 -- Private: a machine that reads bytes, over the one that reads tokens.
-use Rattle.std.specs.Prelude.{ℕ, List, [], ◌∷◌, ◌++◌, Bool, true, false, cond, nat_eq, Option, Some, None, option_and_then, option_map}
+use Rattle.std.specs.Prelude.{ℕ, List, [], ◌∷◌, ◌++◌, Bool, true, false, cond, nat_eq, Option, Some}
+use Rattle.std.specs.Prelude.{None, option_and_then, option_map}
 use Rattle.ol_parse.specs.Grammar.{Named, lambda}
 use Rattle.ol_parse.specs.Texts.{Class, blank, hash, letter, digit, sign, lead, other, class_of, in_word, token_of}
 use Rattle.ol_parse.specs.Machine.{State, at, let_equals, step, final}

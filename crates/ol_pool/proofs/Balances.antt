@@ -1,19 +1,23 @@
 -- Each step of a deque keeps its rule.
-use Rattle.std.proofs.Common.{◌≡◌, ◌≢◌, ◌∙◌, ℕ, zero, suc, ◌+◌, ◌<◌, inl, inr, ⊎_elim, List, [], ◌∷◌, ◌++◌, length, All, Option, None, Some, MatchOption, slice_index, set, sym, refl, ap, subst, arith}
+use Rattle.std.proofs.Common.{◌≡◌, ◌≢◌, ◌∙◌, ℕ, zero, suc, ◌+◌, ◌<◌, inl, inr, ⊎_elim, List, []}
+use Rattle.std.proofs.Common.{◌∷◌, ◌++◌, length, All, Option, None, Some, MatchOption, slice_index}
+use Rattle.std.proofs.Common.{set, sym, refl, ap, subst, arith}
 use Rattle.std.proofs.lemmas.List.Elements.{All-append, All-cons, All-nil, All-head, All-tail, All-set, All-push}
 use mathlib.Core.Option.{some, some-ne-none, some-injective}
 use lib.ListN.{get_elem?}
 use Rattle.crossbeam_deque.specs.Tasks.{Pushes, Takes, Finds, Forks}
 use Rattle.ol_pool.specs.declared.deques.Log.{Log}
 use Rattle.ol_pool.specs.Weights.{weigh}
-use Rattle.ol_pool.specs.Deques.{untold, told, opened, spent, puts, gets, lends, lent, total, AllBelow, Fits, Runs, Kept}
+use Rattle.ol_pool.specs.Deques.{untold, told, opened, spent, puts, gets, lends, lent, total}
+use Rattle.ol_pool.specs.Deques.{AllBelow, Fits, Runs, Kept}
 
 pub weigh_append : (h : ℕ → ℕ) (xs ys : List ℕ) → weigh h (xs ++ ys) ≡ weigh h xs + weigh h ys
 weigh_append h [] ys = omega arith
 weigh_append h (x ∷ xs) ys = let e = weigh_append h xs ys in omega arith
 
 -- the total after a change of one view
-pub total_set : (f : Log → ℕ) (views : List Log) (port : ℕ) (v w : Log) → get_elem? views port ≡ some v → total f (set views port w) + f v ≡ total f views + f w
+pub total_set : (f : Log → ℕ) (views : List Log) (port : ℕ) (v w : Log) →
+    get_elem? views port ≡ some v → total f (set views port w) + f v ≡ total f views + f w
 total_set f [] port v w at = absurd (some-ne-none v (sym at))
 total_set f (u ∷ views) zero v w at = let e = ap f (some-injective u v at) in omega arith
 total_set f (u ∷ views) (suc port) v w at = let e = total_set f views port v w at in omega arith
@@ -42,7 +46,8 @@ apart : (a b : ℕ) (u v : Log) → u ≡ v → u.stage ≡ a → v.stage ≡ b 
 apart a b u v e s t n = n (sym s ∙ ap (λ l. l.stage) e ∙ t)
 
 -- a pass that knows an ready deque stands at an ready deque
-running : (waiting : List ℕ) (views : List Log) (port : ℕ) (v : Log) → v.stage ≡ 2 → Kept waiting views → get_elem? views port ≡ some v
+running : (waiting : List ℕ) (views : List Log) (port : ℕ) (v : Log) → v.stage ≡ 2 →
+    Kept waiting views → get_elem? views port ≡ some v
     → Runs v.bound waiting views × (0 < v.parts)
 running waiting views port v ready rule at = ⊎_elim
     (λ s. absurd (apart 0 2 untold v (lone_in untold v views port s.1 at) refl ready (λ e. absurd (cc))))
@@ -57,12 +62,19 @@ running waiting views port v ready rule at = ⊎_elim
 
 all_rest : (P : ℕ → Type 0) (xs ys : List ℕ) → All P (xs ++ ys) → All P xs × All P ys
 all_rest P [] ys all = (All-nil P, all)
-all_rest P (x ∷ xs) ys all = let r = all_rest P xs ys (All-tail P x (xs ++ ys) all) in (All-cons P x xs (All-head P x (xs ++ ys) all) r.0, r.1)
+all_rest P (x ∷ xs) ys all = let r = all_rest P xs ys (All-tail P x (xs ++ ys) all) in
+    (All-cons P x xs (All-head P x (xs ++ ys) all) r.0, r.1)
 
 -- what the owner's pop tells
-pub gave : (E : Type 0) (r : Option ℕ) (v w : Log) → MatchOption r ((w ≡ v) × E) (λ x. (w ≡ gets v (x ∷ [])) × AllBelow v.bound (x ∷ [])) → v.stage ≡ 2 → AllBelow v.bound v.given
+pub gave : (E : Type 0) (r : Option ℕ) (v w : Log) →
+    MatchOption r ((w ≡ v) × E) (λ x. (w ≡ gets v (x ∷ [])) × AllBelow v.bound (x ∷ [])) →
+    v.stage ≡ 2 → AllBelow v.bound v.given
     → (w.stage ≡ 2) × AllBelow w.bound w.given × (w.sent ≡ v.sent)
-gave E None v w e s b = (ap (λ l. l.stage) e.0 ∙ s, subst (λ (u : Log). AllBelow u.bound u.given) (sym e.0) b, ap (λ l. l.sent) e.0)
+gave E None v w e s b = (
+  ap (λ l. l.stage) e.0 ∙ s,
+  subst (λ (u : Log). AllBelow u.bound u.given) (sym e.0) b,
+  ap (λ l. l.sent) e.0,
+)
 gave E (Some x) v w e s b = (
   ap (λ l. l.stage) e.0 ∙ s,
   subst (λ (u : Log). AllBelow u.bound u.given) (sym e.0) (All-append (λ c. c < v.bound) v.given (x ∷ []) b e.1),
@@ -73,17 +85,20 @@ pub begins : Kept [] (untold ∷ [])
 begins = inl (refl, refl)
 
 -- the bound is put into a new deque
-pub tells : (port : ℕ) (v : Log) (bound : ℕ) → v ≡ untold → Pushes Kept port v (bound ∷ []) (λ w. w ≡ told (slice_index (bound ∷ []) 0))
+pub tells : (port : ℕ) (v : Log) (bound : ℕ) → v ≡ untold →
+    Pushes Kept port v (bound ∷ []) (λ w. w ≡ told (slice_index (bound ∷ []) 0))
 tells port v bound new waiting views rule at = (
   told bound,
   ⊎_elim
       (λ s. inr (inl (
         bound,
         ap (λ l. l ++ bound ∷ []) s.0,
-        subst (λ l. set l port (told bound) ≡ told bound ∷ []) (sym s.1) (set_lone untold (told bound) port v (subst (λ l. get_elem? l port ≡ some v) s.1 at)),
+        subst (λ l. set l port (told bound) ≡ told bound ∷ []) (sym s.1)
+            (set_lone untold (told bound) port v (subst (λ l. get_elem? l port ≡ some v) s.1 at)),
       )))
       (λ r. absurd (⊎_elim
-      (λ t. apart 1 0 (told t.0) v (lone_in (told t.0) v views port t.2 at) refl (ap (λ l. l.stage) new) (λ e. absurd (cc)))
+      (λ t. apart 1 0 (told t.0) v (lone_in (told t.0) v views port t.2 at) refl
+      (ap (λ l. l.stage) new) (λ e. absurd (cc)))
       (λ u. ⊎_elim
       (λ gone. apart 0 3 v spent gone (ap (λ l. l.stage) new) refl (λ e. absurd (cc)))
       (λ fits. absurd (differs (sym (ap (λ l. l.stage) new) ∙ fits.1)))
@@ -101,15 +116,23 @@ one_left (x ∷ []) items bound any e = cc
 one_left (x ∷ y ∷ xs) items bound any e = absurd (cc)
 
 runs_new : (bound : ℕ) → Runs bound [] (opened bound ∷ [])
-runs_new bound = (All-cons (Fits bound) (opened bound) [] (inr (omega arith, refl, refl)) (All-nil (Fits bound)), All-nil (λ c. c < bound), refl, λ h. refl)
+runs_new bound = (
+  All-cons (Fits bound) (opened bound) [] (inr (omega arith, refl, refl))
+      (All-nil (Fits bound)),
+  All-nil (λ c. c < bound),
+  refl,
+  λ h. refl,
+)
 
 -- a pass that knows that the bound waits stands at such a deque
-waits : (waiting : List ℕ) (views : List Log) (port : ℕ) (v : Log) → v.stage ≡ 1 → Kept waiting views → get_elem? views port ≡ some v
+waits : (waiting : List ℕ) (views : List Log) (port : ℕ) (v : Log) → v.stage ≡ 1 →
+    Kept waiting views → get_elem? views port ≡ some v
     → (waiting ≡ v.bound ∷ []) × (views ≡ told v.bound ∷ [])
 waits waiting views port v one rule at = ⊎_elim
     (λ s. absurd (apart 0 1 untold v (lone_in untold v views port s.1 at) refl one (λ e. absurd (cc))))
     (λ r. ⊎_elim
-    (λ t. let e = ap (λ l. l.bound) (lone_in (told t.0) v views port t.2 at) in (subst (λ b. waiting ≡ b ∷ []) e t.1, subst (λ b. views ≡ told b ∷ []) e t.2))
+    (λ t. let e = ap (λ l. l.bound) (lone_in (told t.0) v views port t.2 at) in
+    (subst (λ b. waiting ≡ b ∷ []) e t.1, subst (λ b. views ≡ told b ∷ []) e t.2))
     (λ u. ⊎_elim
     (λ gone. absurd (apart 1 3 v spent gone one refl (λ e. absurd (cc))))
     (λ fits. absurd (apart 2 1 v v refl fits.1 one (λ e. absurd (cc))))
@@ -125,7 +148,11 @@ opens port v one xs items views any few rule at =
     let alone = set_lone (told v.bound) (opened v.bound) port v (subst (λ l. get_elem? l port ≡ some v) w.1 at) in
     let now = subst (λ l. set l port (opened v.bound) ≡ opened v.bound ∷ []) (sym w.1) alone in (
       opened v.bound,
-      inr (inr (v.bound, subst (λ l. Runs v.bound l (set views port (opened v.bound))) (sym none) (subst (λ l. Runs v.bound [] l) (sym now) (runs_new v.bound)))),
+      inr (inr (
+        v.bound,
+        subst (λ l. Runs v.bound l (set views port (opened v.bound))) (sym none)
+            (subst (λ l. Runs v.bound [] l) (sym now) (runs_new v.bound)),
+      )),
       refl,
     )
 
@@ -135,13 +162,15 @@ never_empty port v views rule at one = absurd (nothing (waits [] views port v on
   nothing e = absurd (cc)
 
 -- one view becomes another of the same parts and bound
-changes : (bound : ℕ) (views : List Log) (port : ℕ) (v w : Log) → get_elem? views port ≡ some v → Fits bound w → w.parts ≡ v.parts → All (Fits bound) views → total (λ u. u.parts) views ≡ 128
+changes : (bound : ℕ) (views : List Log) (port : ℕ) (v w : Log) → get_elem? views port ≡ some v →
+    Fits bound w → w.parts ≡ v.parts → All (Fits bound) views → total (λ u. u.parts) views ≡ 128
     → All (Fits bound) (set views port w) × (total (λ u. u.parts) (set views port w) ≡ 128)
 changes bound views port v w at fits same all whole =
     let s = total_set (λ u. u.parts) views port v w at in
     (All-set (Fits bound) views port w fits all, omega arith)
 
-pub pushes : (port : ℕ) (v : Log) (cell : ℕ) → v.stage ≡ 2 → cell < v.bound → Pushes Kept port v (cell ∷ []) (λ w. w ≡ puts v (cell ∷ []))
+pub pushes : (port : ℕ) (v : Log) (cell : ℕ) → v.stage ≡ 2 → cell < v.bound →
+    Pushes Kept port v (cell ∷ []) (λ w. w ≡ puts v (cell ∷ []))
 pushes port v cell ready below waiting views rule at =
     let w : Log = puts v (cell ∷ []) in
     let r = running waiting views port v ready rule at in
@@ -200,9 +229,11 @@ forks port v ready any waiting views rule at =
     inr (inr (
       v.bound,
       (
-        All-push (Fits v.bound) l n (All-set (Fits v.bound) views port w (inr (less, ready, refl)) r.0.0) (inr (omega arith, refl, refl)),
+        All-push (Fits v.bound) l n (All-set (Fits v.bound) views port w
+            (inr (less, ready, refl)) r.0.0) (inr (omega arith, refl, refl)),
         r.0.1,
-        (let s = total_set (λ u. u.parts) views port v w at in let t = total_snoc (λ u. u.parts) l n in let p = r.0.2 in omega arith),
+        (let s = total_set (λ u. u.parts) views port v w at in
+            let t = total_snoc (λ u. u.parts) l n in let p = r.0.2 in omega arith),
         (λ h.
             let s = total_set (λ u. weigh h u.sent) views port v w at in
             let t = total_set (λ u. weigh h u.given) views port v w at in

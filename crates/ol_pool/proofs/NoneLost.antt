@@ -9,7 +9,8 @@ of_new : (waiting : List ℕ) (views : List Log) → waiting ≡ [] → views �
 of_new waiting views w v cell = rw (w, v) refl
 
 is_told : (views : List Log) (bound : ℕ) → views ≡ told bound ∷ [] → All IsTold views
-is_told views bound v = subst (λ (vs : List Log). All IsTold vs) (sym v) (All-cons IsTold (told bound) [] (refl, refl, refl) (All-nil IsTold))
+is_told views bound v = subst (λ (vs : List Log). All IsTold vs) (sym v)
+    (All-cons IsTold (told bound) [] (refl, refl, refl) (All-nil IsTold))
 
 pub none_lost : NoCellIsLost Kept
 none_lost waiting views (inl (w, v)) = inr (of_new waiting views w v)

@@ -74,7 +74,8 @@ times cell cells = weigh (λ other. if other == cell then 1 else 0) cells
 abbrev pub IsTold : Log → Type 0
 IsTold v = (v.stage ≡ 1) × (v.sent ≡ []) × (v.given ≡ [])
 
--- Wherever such a rule holds of the cells that wait and of the passes: each cell waits or was given to one of them just as often as
+-- Wherever such a rule holds of the cells that wait and of the passes: each cell waits or was given
+-- to one of them just as often as
 -- one of them put it. Else the bound of all cells waits, while the pool is made, and there is no cell yet.
 abbrev pub NoCellIsLost : (List ℕ → List Log → Type 0) → Type 0
 NoCellIsLost Holds =

@@ -15,7 +15,8 @@ pub record PoolState : Type 0 where
   pub deques : List DequeId
 
 -- a hand by its number, its pool, the cells that it put, what it knows of each part of the pool, the number of its puts
--- that were refused, how far its own deque has been made ready (2 where it is open), and whether its last `take` answered
+-- that were refused, how far its own deque has been made ready (2 where it is open), and whether
+-- its last `take` answered
 -- None
 pub record HandState : Type 0 where
   pub number : ℕ
@@ -34,7 +35,8 @@ IsHandOf hand pool = hand.pool ≡ pool
 abbrev pub part_of : HandState → ℕ → Part
 part_of hand p = part_at hand.parts p
 
--- the hand was given this cell, and each part of the pool before the one that gave it was missed, from the hand's own on
+-- the hand was given this cell, and each part of the pool before the one that gave it was missed,
+-- from the hand's own on
 abbrev pub TookFirst : HandState → HandState → ℕ → Type 0
 TookFirst old new cell = FirstGave old.number old.pool.hands (part_of old) (part_of new) cell
 

@@ -1,5 +1,6 @@
 -- In a net without facing pairs few abstractions are enough.
-use Rattle.std.proofs.Common.{◌≡◌, ℕ, zero, suc, ◌≤◌, ◌⊎◌, List, [], ◌∷◌, ◌++◌, map, length, inl, inr, refl, sym, ap, ◌∙◌, subst, arith}
+use Rattle.std.proofs.Common.{◌≡◌, ℕ, zero, suc, ◌≤◌, ◌⊎◌, List, [], ◌∷◌, ◌++◌, map, length, inl}
+use Rattle.std.proofs.Common.{inr, refl, sym, ap, ◌∙◌, subst, arith}
 use Rattle.std.proofs.lemmas.List.{length-map}
 use Rattle.ol_edges.specs.Edges.{IsIn}
 use Rattle.ol_net.specs.declared.parts.Kind.{Kind}
@@ -17,14 +18,17 @@ use Rattle.ol_edges.proofs.Lists.{in_map}
 -- what is asked, as a level that is filled
 pub asked_filled : (ls : List Level) → (b : Context) × ((n : ℕ) → asked ls n ≡ fill (length ls) (os n empty) b)
 asked_filled [] = (levels [], λ n. levels_cons (os n empty) [])
-asked_filled (v ∷ ls) = let t = asked_filled ls in (cons v t.0, λ n. levels_cons v (ls ++ os n empty ∷ []) ∙ ap (cons v) (t.1 n))
+asked_filled (v ∷ ls) = let t = asked_filled ls in
+    (cons v t.0, λ n. levels_cons v (ls ++ os n empty ∷ []) ∙ ap (cons v) (t.1 n))
 
 module _ {A : Type 0} (N : NamedNet A) (is_net : IsNet N) (no_facing : HasNoFacing N) where
   -- from slot 0 a path is there with any context
-  any : (x : A) {c d : Context} {q : ℕ} → Path N (slot x 0) c q d → (c' : Context) → (d' : Context) × Path N (slot x 0) c' q d'
+  any : (x : A) {c d : Context} {q : ℕ} → Path N (slot x 0) c q d → (c' : Context) →
+      (d' : Context) × Path N (slot x 0) c' q d'
   any x (ends l) c' = (c', ends l)
   any x (goes {x = y} l h (outward b e) r) c' = absurd (no_facing x y l)
-  any x (goes {x = y} {k = k} {i = i} l h (inward {s = s} b e) r) c' = let t = any y r (up k i s c') in (t.0, goes l h (inward b refl) t.1)
+  any x (goes {x = y} {k = k} {i = i} l h (inward {s = s} b e) r) c' = let t = any y r
+      (up k i s c') in (t.0, goes l h (inward b refl) t.1)
 
   -- how many nodes are entered by slot 0
   abbrev downs : {p : NamedPort A} {c d : Context} {q : ℕ} → Path N p c q d → ℕ
@@ -38,22 +42,32 @@ module _ {A : Type 0} (N : NamedNet A) (is_net : IsNet N) (no_facing : HasNoFaci
     same : downs path ≡ m
 
   -- with one o less, where there are more than nodes entered by slot 0
-  less : (p : NamedPort A) {c d : Context} {q : ℕ} (r : Path N p c q d) (j n : ℕ) (b : Context) → c ≡ fill j (os (suc n) empty) b → downs r ≤ n → Other p (fill j (os n empty) b) q (downs r)
+  less : (p : NamedPort A) {c d : Context} {q : ℕ} (r : Path N p c q d) (j n : ℕ) (b : Context) →
+      c ≡ fill j (os (suc n) empty) b → downs r ≤ n → Other p (fill j (os n empty) b) q (downs r)
   less p (ends l) j n b e z = record { d = fill j (os n empty) b; path = ends l; same = refl }
   less p (goes {x = y} {k = k} {i = i} l h (inward {s = s} z' e') r) j n b e z =
       let t = any y r (up k i s (fill j (os n empty) b)) in
       record { d = t.0; path = goes l h (inward z' refl) t.1; same = refl }
-  less p (goes {x = y} {k = k} {i = i} {q = q0} l h (outward {s = s} {c = d} z' e') r) j n b e z = go (before k i s z' d j (os n empty) b (e' ∙ e)) (λ j b q w. less (slot y (suc s)) r j n b q w) (λ m j b q w. less (slot y (suc s)) r j m b q w) n refl
+  less p (goes {x = y} {k = k} {i = i} {q = q0} l h
+      (outward {s = s} {c = d} z' e') r) j n b e z = go
+      (before k i s z' d j (os n empty) b (e' ∙ e)) (λ j b q w. less (slot y (suc s)) r j n b q w)
+      (λ m j b q w. less (slot y (suc s)) r j m b q w) n refl
     where
-      back : (j' : ℕ) (w : Level) (b' : Context) → up k i s (fill j' w b') ≡ fill j (os n empty) b → Other (slot y (suc s)) (fill j' w b') q0 (downs r) → Other p (fill j (os n empty) b) q0 (suc (downs r))
+      back : (j' : ℕ) (w : Level) (b' : Context) → up k i s (fill j' w b') ≡ fill j (os n empty) b →
+          Other (slot y (suc s)) (fill j' w b') q0 (downs r) → Other p (fill j (os n empty) b) q0 (suc (downs r))
       back j' w b' q t = record { d = t.d; path = goes l h (outward z' q) t.path; same = ap suc t.same }
 
-      go : Before k i s d j (os n empty) b → ((j' : ℕ) (b' : Context) → d ≡ fill j' (os (suc n) empty) b' → downs r ≤ n → Other (slot y (suc s)) (fill j' (os n empty) b') q0 (downs r)) →
-          ((m j' : ℕ) (b' : Context) → d ≡ fill j' (os (suc m) empty) b' → downs r ≤ m → Other (slot y (suc s)) (fill j' (os m empty) b') q0 (downs r)) →
+      go : Before k i s d j (os n empty) b →
+          ((j' : ℕ) (b' : Context) → d ≡ fill j' (os (suc n) empty) b' → downs r ≤ n →
+          Other (slot y (suc s)) (fill j' (os n empty) b') q0 (downs r)) →
+          ((m j' : ℕ) (b' : Context) → d ≡ fill j' (os (suc m) empty) b' → downs r ≤ m →
+          Other (slot y (suc s)) (fill j' (os m empty) b') q0 (downs r)) →
           (m : ℕ) → m ≡ n → Other p (fill j (os n empty) b) q0 (suc (downs r))
       go (moved j' b' x y) ih ih' m q = back j' (os n empty) b' (y (os n empty)) (ih j' b' x (omega arith))
       go (stripped j' b' x y bars) ih ih' zero q = absurd (omega arith)
-      go (stripped j' b' x y bars) ih ih' (suc m) q = back j' (os m empty) b' (y (os m empty) ∙ ap (λ n. fill j (os n empty) b) q) (ih' m j' b' (x ∙ ap (λ n. fill j' (os n empty) b') (sym q)) (omega arith))
+      go (stripped j' b' x y bars) ih ih' (suc m) q = back j' (os m empty) b'
+          (y (os m empty) ∙ ap (λ n. fill j (os n empty) b) q)
+          (ih' m j' b' (x ∙ ap (λ n. fill j' (os n empty) b') (sym q)) (omega arith))
 
   module _ (p : ℕ) where
     record Later (i : ℕ) (z : A) : Type 0 where
@@ -72,11 +86,19 @@ module _ {A : Type 0} (N : NamedNet A) (is_net : IsNet N) (no_facing : HasNoFaci
     nothing : (i : ℕ) → Chain i 0
     nothing i = record { xs = []; long = refl; once = tt; live = λ z k. absurd k; late = λ z k. absurd k }
 
-    one_more : (i n : ℕ) (y : A) → Down N is_net no_facing p i y → IsLive N is_net no_facing y → Chain (suc i) n → Chain i (suc n)
-    one_more i n y d h r = record { xs = y ∷ r.xs; long = ap suc r.long; once = (fresh, r.once); live = live; late = late }
+    one_more : (i n : ℕ) (y : A) → Down N is_net no_facing p i y → IsLive N is_net no_facing y →
+        Chain (suc i) n → Chain i (suc n)
+    one_more i n y d h r = record {
+      xs = y ∷ r.xs;
+      long = ap suc r.long;
+      once = (fresh, r.once);
+      live = live;
+      late = late;
+    }
       where
         fresh : IsIn y r.xs → ⊥
-        fresh k = let a = r.late y k in let b = a.more in let e = down_one N is_net no_facing p d a.down refl in omega arith
+        fresh k = let a = r.late y k in let b = a.more in
+            let e = down_one N is_net no_facing p d a.down refl in omega arith
 
         live : (z : A) → IsIn z (y ∷ r.xs) → IsLive N is_net no_facing z
         live z (inl w) = subst (IsLive N is_net no_facing) (sym w) h
@@ -89,20 +111,25 @@ module _ {A : Type 0} (N : NamedNet A) (is_net : IsNet N) (no_facing : HasNoFaci
     is_live : (y : A) (k : Kind) (i : ℕ) → HasNode N y k i → IsLive N is_net no_facing y
     is_live y k i h = (k, i, h)
 
-    chain : (i : ℕ) (x : A) (s : ℕ) → Down N is_net no_facing p i x → {c d : Context} {q : ℕ} (r : Path N (slot x (suc s)) c q d) → Chain (suc i) (downs r)
+    chain : (i : ℕ) (x : A) (s : ℕ) → Down N is_net no_facing p i x →
+        {c d : Context} {q : ℕ} (r : Path N (slot x (suc s)) c q d) → Chain (suc i) (downs r)
     chain i x s w (ends l) = nothing (suc i)
     chain i x s w (goes l h (inward b e) r) = nothing (suc i)
-    chain i x s w (goes {x = y} {k = k} {i = j} l h (outward {s = u} b e) r) = one_more (suc i) (downs r) y (next s w l) (is_live y k j h) (chain (suc i) y u (next s w l) r)
+    chain i x s w (goes {x = y} {k = k} {i = j} l h (outward {s = u} b e) r) = one_more (suc i)
+        (downs r) y (next s w l) (is_live y k j h) (chain (suc i) y u (next s w l) r)
 
     from_free : {c d : Context} {q : ℕ} (r : Path N (free p) c q d) → Chain 0 (downs r)
     from_free (ends l) = nothing 0
     from_free (goes l h (inward b e) r) = nothing 0
-    from_free (goes {x = y} {k = k} {i = j} l h (outward {s = u} b e) r) = one_more 0 (downs r) y (first l) (is_live y k j h) (chain 0 y u (first l) r)
+    from_free (goes {x = y} {k = k} {i = j} l h (outward {s = u} b e) r) = one_more 0 (downs r) y
+        (first l) (is_live y k j h) (chain 0 y u (first l) r)
 
     few_downs : {c d : Context} {q : ℕ} (r : Path N (free p) c q d) → downs r ≤ live N
     few_downs r =
         let t = from_free r in
-        let inside : (z : A) → IsLive N is_net no_facing z → IsIn z (map (λ (n : A × Kind × ℕ). n.0) N.nodes) = λ z h. in_map (λ (n : A × Kind × ℕ). n.0) (z, h.0, h.1) N.nodes h.2 in
+        let inside : (z : A) → IsLive N is_net no_facing z →
+        IsIn z (map (λ (n : A × Kind × ℕ). n.0) N.nodes) = λ z h.
+        in_map (λ (n : A × Kind × ℕ). n.0) (z, h.0, h.1) N.nodes h.2 in
         let a = few t.xs (map (λ (n : A × Kind × ℕ). n.0) N.nodes) t.once (λ z k. inside z (t.live z k)) in
         let l = t.long in
         let m = length-map N.nodes (λ (n : A × Kind × ℕ). n.0) in
@@ -123,8 +150,10 @@ module _ {A : Type 0} (N : NamedNet A) (is_net : IsNet N) (no_facing : HasNoFaci
         cases : (n m : ℕ) → (suc n ≤ m) ⊎ (m ≤ n)
         cases n m = grind arith
 
-        go : (suc n ≤ downs r) ⊎ (downs r ≤ n) → ((q : ℕ) (X : Context) → Path N (free p) (asked ls n) q X → Some ls n) → Some ls (suc n)
-        go (inl b) ih = let a = few_downs r in record { m = suc n; q = q; X = X; few = omega arith; below = omega arith; path = r }
+        go : (suc n ≤ downs r) ⊎ (downs r ≤ n) →
+            ((q : ℕ) (X : Context) → Path N (free p) (asked ls n) q X → Some ls n) → Some ls (suc n)
+        go (inl b) ih = let a = few_downs r in
+            record { m = suc n; q = q; X = X; few = omega arith; below = omega arith; path = r }
         go (inr b) ih =
             let t = asked_filled ls in
             let z = less (free p) r (length ls) n t.0 (t.1 (suc n)) b in
@@ -134,4 +163,5 @@ module _ {A : Type 0} (N : NamedNet A) (is_net : IsNet N) (no_facing : HasNoFaci
 
 module _ {A : Type 0} where
   pub few_are_enough : FewAreEnough A
-  few_are_enough N is_net no_facing p ls n q X r = let t = enough N is_net no_facing p ls n r in (t.m, t.q, t.X, t.few, t.below, t.path)
+  few_are_enough N is_net no_facing p ls n q X r = let t = enough N is_net no_facing p ls n r in
+      (t.m, t.q, t.X, t.few, t.below, t.path)

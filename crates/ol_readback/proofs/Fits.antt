@@ -1,5 +1,6 @@
 -- An exit against one frame, level by level.
-use Rattle.std.proofs.Common.{◌≡◌, ℕ, zero, suc, ◌+◌, ◌<◌, ◌≤◌, ◌⊎◌, inl, inr, List, [], ◌∷◌, ◌++◌, length, map, get_or, Option, Some, None, refl, sym, ap, ◌∙◌, arith}
+use Rattle.std.proofs.Common.{◌≡◌, ℕ, zero, suc, ◌+◌, ◌<◌, ◌≤◌, ◌⊎◌, inl, inr, List, [], ◌∷◌, ◌++◌}
+use Rattle.std.proofs.Common.{length, map, get_or, Option, Some, None, refl, sym, ap, ◌∙◌, arith}
 use Rattle.std.proofs.Math.Path.{fun_ext}
 use Rattle.std.proofs.lemmas.List.{get_or-map}
 use Rattle.ol_context.specs.Contexts.{Level, empty, o, star, pair, Context, levels, tail}
@@ -8,7 +9,8 @@ use Rattle.ol_context.proofs.Contexts.{eta, cons_eq}
 use Rattle.ol_context.proofs.LevelLists.{levels_cons}
 use Rattle.ol_readback.specs.Frames.{os}
 use Rattle.ol_readback.specs.Matching.{Fits}
-use Rattle.ol_readback.specs.Fitting.{IsNoO, IsNoStar, IsFit, BeginsWith, BeginsNotWith, IsMark, IsCount, IsLastCount, IsNameOf}
+use Rattle.ol_readback.specs.Fitting.{IsNoO, IsNoStar, IsFit, BeginsWith, BeginsNotWith, IsMark}
+use Rattle.ol_readback.specs.Fitting.{IsCount, IsLastCount, IsNameOf}
 
 pub os_o : (n : ℕ) (v : Level) → os n (o v) ≡ os (n + 1) v
 os_o zero v = refl
@@ -39,12 +41,14 @@ no_mark v w n e a s j d f = let t = os_one n j w (star d) a (star_no_o d) (sym e
 pub no_count : (v w : Level) (n : ℕ) → v ≡ os n w → IsNoO w → (w ≡ empty → ⊥) → IsCount v None
 no_count v w n e a s k f = let t = os_one n k w empty a empty_no_o (sym e ∙ f) in s t.1
 
-pub last_count : (m : ℕ) (X : Context) (v : Level) (r : Option ℕ) → v ≡ X m → IsCount v r → ((i : ℕ) → m + 1 ≤ i → X i ≡ empty) → IsLastCount m X r
+pub last_count : (m : ℕ) (X : Context) (v : Level) (r : Option ℕ) → v ≡ X m → IsCount v r →
+    ((i : ℕ) → m + 1 ≤ i → X i ≡ empty) → IsLastCount m X r
 last_count m X v None e n h = λ k f g. n k (e ∙ f)
 last_count m X v (Some k) e n h = (sym e ∙ n, λ i b. h i (omega arith))
 
 -- a context that is a list, level by level
-pub from_levels : (ls : List Level) (a b : Level) (X : Context) → ((i : ℕ) → i < length ls → X i ≡ get_or ls i empty) → X (length ls) ≡ a → X (suc (length ls)) ≡ b →
+pub from_levels : (ls : List Level) (a b : Level) (X : Context) →
+    ((i : ℕ) → i < length ls → X i ≡ get_or ls i empty) → X (length ls) ≡ a → X (suc (length ls)) ≡ b →
     ((i : ℕ) → suc (length ls) < i → X i ≡ empty) → X ≡ levels (ls ++ (a ∷ (b ∷ [])))
 from_levels [] a b X h p q r = fun_ext go
   where
@@ -53,10 +57,12 @@ from_levels [] a b X h p q r = fun_ext go
     go (suc zero) = q
     go (suc (suc n)) = r (suc (suc n)) (omega arith)
 from_levels (v ∷ ls) a b X h p q r =
-    sym (eta X) ∙ cons_eq (X 0) v (tail X) (levels (ls ++ (a ∷ (b ∷ [])))) (h 0 (omega arith)) (from_levels ls a b (tail X) (λ i z. h (suc i) (omega arith)) p q (λ i z. r (suc i) (omega arith)))
+    sym (eta X) ∙ cons_eq (X 0) v (tail X) (levels (ls ++ (a ∷ (b ∷ [])))) (h 0 (omega arith))
+    (from_levels ls a b (tail X) (λ i z. h (suc i) (omega arith)) p q (λ i z. r (suc i) (omega arith)))
     ∙ sym (levels_cons v (ls ++ (a ∷ (b ∷ []))))
 
-pub level_before : (ls : List Level) (a b : Level) (i : ℕ) → i < length ls → levels (ls ++ (a ∷ (b ∷ []))) i ≡ get_or ls i empty
+pub level_before : (ls : List Level) (a b : Level) (i : ℕ) → i < length ls →
+    levels (ls ++ (a ∷ (b ∷ []))) i ≡ get_or ls i empty
 level_before [] a b i z = absurd (omega arith)
 level_before (v ∷ ls) a b zero z = refl
 level_before (v ∷ ls) a b (suc i) z = level_before ls a b i (omega arith)
@@ -69,7 +75,8 @@ pub level_second : (ls : List Level) (a b : Level) → levels (ls ++ (a ∷ (b �
 level_second [] a b = refl
 level_second (v ∷ ls) a b = level_second ls a b
 
-pub level_after : (ls : List Level) (a b : Level) (i : ℕ) → suc (length ls) < i → levels (ls ++ (a ∷ (b ∷ []))) i ≡ empty
+pub level_after : (ls : List Level) (a b : Level) (i : ℕ) → suc (length ls) < i →
+    levels (ls ++ (a ∷ (b ∷ []))) i ≡ empty
 level_after [] a b zero z = absurd (omega arith)
 level_after [] a b (suc zero) z = absurd (omega arith)
 level_after [] a b (suc (suc i)) z = refl
@@ -99,10 +106,15 @@ module _ (ls : List Level) (l : ℕ) (X : Context) where
   counts_not m q n j k d f = n k (ap X q ∙ at (suc (length ls)) f ∙ level_second ls (os j (star d)) (os k empty))
       (λ i b. at i f ∙ level_after ls (os j (star d)) (os k empty) i (omega arith))
 
-  pub fit : (m m' j k : ℕ) (v : Level) → BeginsWith ls X → m ≡ length ls → v ≡ X m → IsMark v (Some j) → j < l → m' ≡ suc (length ls) → IsLastCount m' X (Some k) → IsFit ls l X (Some (j, k))
+  pub fit : (m m' j k : ℕ) (v : Level) → BeginsWith ls X → m ≡ length ls → v ≡ X m →
+      IsMark v (Some j) → j < l → m' ≡ suc (length ls) → IsLastCount m' X (Some k) → IsFit ls l X (Some (j, k))
   fit m m' j k v h q e s b q' t = (
     s.0,
-    record { below = b; is = from_levels ls (os j (star s.0)) (os k empty) X h (sym (ap X q) ∙ sym e ∙ s.1) (sym (ap X q') ∙ t.0) (λ i z. t.1 i (omega arith)) },
+    record {
+      below = b;
+      is = from_levels ls (os j (star s.0)) (os k empty) X h
+          (sym (ap X q) ∙ sym e ∙ s.1) (sym (ap X q') ∙ t.0) (λ i z. t.1 i (omega arith));
+    },
   )
 
 -- a free name
@@ -126,7 +138,8 @@ module _ (vs : List Level) (ms : List ℕ) (X : Context) where
   pub wanted_is : (i y : ℕ) → i < length ms → y ≡ get_or ms i y → get_or (map (value vs) ms) i empty ≡ value vs y
   wanted_is i y b g = get_or-map (value vs) ms i y empty b ∙ ap (value vs) (sym g)
 
-  pub level_more : (n x y : ℕ) → ((k : ℕ) → k < n → X k ≡ get_or (map (value vs) ms) k empty) → n < length ms → value vs x ≡ X n → y ≡ get_or ms n y → value vs x ≡ value vs y →
+  pub level_more : (n x y : ℕ) → ((k : ℕ) → k < n → X k ≡ get_or (map (value vs) ms) k empty) →
+      n < length ms → value vs x ≡ X n → y ≡ get_or ms n y → value vs x ≡ value vs y →
       (k : ℕ) → k < n + 1 → X k ≡ get_or (map (value vs) ms) k empty
   level_more n x y h b e g q k z = go (cases k n z)
     where

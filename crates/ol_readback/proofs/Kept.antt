@@ -13,8 +13,11 @@ use Rattle.ol_readback.specs.declared.answers.HeadVar.{HeadVar}
 module _ {A B : Type 0} where
   pub heads_are_kept : HeadsKept A B
   heads_are_kept N M s F i a (heads.leaves {n = n} {q = q} {X = X} h p m) =
-      heads.leaves (λ k b q' d r. h k b q' d ((s (frame_at F i).port (asked (frame_at F i).levels k) q' d).1 r)) ((s (frame_at F i).port (asked (frame_at F i).levels n) q X).0 p) m
-  heads_are_kept N M s F i a (heads.never z) = heads.never (λ n q d r. z n q d ((s (frame_at F i).port (asked (frame_at F i).levels n) q d).1 r))
+      heads.leaves (λ k b q' d r. h k b q' d
+      ((s (frame_at F i).port (asked (frame_at F i).levels k) q' d).1 r))
+      ((s (frame_at F i).port (asked (frame_at F i).levels n) q X).0 p) m
+  heads_are_kept N M s F i a (heads.never z) = heads.never
+      (λ n q d r. z n q d ((s (frame_at F i).port (asked (frame_at F i).levels n) q d).1 r))
 
 cases : (m n : ℕ) → (m ≤ n) ⊎ (n < m)
 cases m n = grind arith
@@ -27,7 +30,8 @@ no_path N p c e f q d r = go (cases (crossings r) e)
     go (inl s) = f.stays q d (crossings r, record { path = r; long = refl; within = s })
     go (inr s) = let w = path_way N r in f.breaks_off ((way_passes N e w.1 s).stands)
 
-is_found : {A : Type 0} (N : NamedNet A) (F : List Frame) (i e : ℕ) (a : Answer) → IsHeadWithin N F i e a → (n k : ℕ) (v : HeadVar) (ls : List Level) → a ≡ head n v k ls → IsHead N F i a
+is_found : {A : Type 0} (N : NamedNet A) (F : List Frame) (i e : ℕ) (a : Answer) →
+    IsHeadWithin N F i e a → (n k : ℕ) (v : HeadVar) (ls : List Level) → a ≡ head n v k ls → IsHead N F i a
 is_found N F i e a (heads.leaves {n = m} {q = q} {X = X} b h w x) n k v ls z =
     heads.leaves (λ j c. no_path N (frame_at F i).port (asked (frame_at F i).levels j) e (h j c)) w.1.path x
 is_found N F i e a (spends b h s) n k v ls z = absurd (cc)

@@ -28,16 +28,19 @@ no_let b [] h = and_right (nat_eq b 108) false refl
 no_let b (c ∷ w) h =
     let low = h.0 in
     let high = h.1 in
-    and_right (nat_eq b 108) (bytes_eq (c ∷ w) (101 ∷ 116 ∷ [])) (and_left (nat_eq c 101) (bytes_eq w (116 ∷ [])) (ne_eqb c 101 (λ e. absurd (omega arith))))
+    and_right (nat_eq b 108) (bytes_eq (c ∷ w) (101 ∷ 116 ∷ []))
+    (and_left (nat_eq c 101) (bytes_eq w (116 ∷ [])) (ne_eqb c 101 (λ e. absurd (omega arith))))
 
 no_in : (b : ℕ) (w : List ℕ) → AreDigits w → bytes_eq (b ∷ w) (105 ∷ 110 ∷ []) ≡ false
 no_in b [] h = and_right (nat_eq b 105) false refl
 no_in b (c ∷ w) h =
     let low = h.0 in
     let high = h.1 in
-    and_right (nat_eq b 105) (bytes_eq (c ∷ w) (110 ∷ [])) (and_left (nat_eq c 110) (bytes_eq w []) (ne_eqb c 110 (λ e. absurd (omega arith))))
+    and_right (nat_eq b 105) (bytes_eq (c ∷ w) (110 ∷ []))
+    (and_left (nat_eq c 110) (bytes_eq w []) (ne_eqb c 110 (λ e. absurd (omega arith))))
 
-no_keyword : (w : List ℕ) → bytes_eq w (108 ∷ 101 ∷ 116 ∷ []) ≡ false → bytes_eq w (105 ∷ 110 ∷ []) ≡ false → token_of w ≡ name w
+no_keyword : (w : List ℕ) → bytes_eq w (108 ∷ 101 ∷ 116 ∷ []) ≡ false →
+    bytes_eq w (105 ∷ 110 ∷ []) ≡ false → token_of w ≡ name w
 unfolding token_of
 no_keyword w h k =
     ap (λ (b : Bool). cond {A = Token} b let_key (cond {A = Token} (bytes_eq w (105 ∷ 110 ∷ [])) in_key (name w))) h

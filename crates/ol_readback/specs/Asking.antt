@@ -1,4 +1,5 @@
--- What asking a frame answers. The net is that of graph g, and old are the values of the frames fs before the call, new those
+-- What asking a frame answers. The net is that of graph g, and old are the values of the frames fs
+-- before the call, new those
 -- after it.
 use Rattle.std.specs.Prelude.{◌≡◌, ◌≢◌, ◌↔◌, ℕ, ◌*◌, ◌≤◌, List}
 use Rattle.ol_net.specs.Graph.{Graph}
@@ -14,11 +15,13 @@ use Rattle.ol_readback.specs.declared.frames.Frame.{Frame}
 
 -- each answer comes exactly where frame i has it within so many crossings
 abbrev pub IsAnswerOfAsking : Graph → List Level → List Frame → ℕ → ℕ → List Level → Head → Type 0
-IsAnswerOfAsking g old fs i edges new h = (a : Answer) → (answer_of new h ≡ a) ↔ IsHeadWithin (net_of g) (frames_of old fs) i edges a
+IsAnswerOfAsking g old fs i edges new h = (a : Answer) →
+    (answer_of new h ≡ a) ↔ IsHeadWithin (net_of g) (frames_of old fs) i edges a
 
 -- a head that was found is the head by paths of any length
 abbrev pub IsHeadIfFound : Graph → List Level → List Frame → ℕ → List Level → Head → Type 0
-IsHeadIfFound g old fs i new h = h ≢ head.Budget → h ≢ head.NoHead → IsHead (net_of g) (frames_of old fs) i (answer_of new h)
+IsHeadIfFound g old fs i new h = h ≢ head.Budget → h ≢ head.NoHead →
+    IsHead (net_of g) (frames_of old fs) i (answer_of new h)
 
 -- where no two principal ports are linked, a frame that was found to have no head has none by paths of any length
 abbrev pub IsLostIfNoHead : Graph → List Level → List Frame → ℕ → Head → Type 0
@@ -27,7 +30,8 @@ IsLostIfNoHead g old fs i h = h ≡ head.NoHead → HasNoFacing (net_of g) → I
 -- and with a budget of twice as many crossings as there are nodes, the budget is met only where a walk goes on for ever
 abbrev pub IsRingIfBudget : Graph → List Level → List Frame → ℕ → ℕ → Head → Type 0
 IsRingIfBudget g old fs i edges h =
-    h ≡ head.Budget → HasNoFacing (net_of g) → 2 * live (net_of g) ≤ edges → MeetsRing (net_of g) (frame_at (frames_of old fs) i) edges
+    h ≡ head.Budget → HasNoFacing (net_of g) → 2 * live (net_of g) ≤ edges →
+    MeetsRing (net_of g) (frame_at (frames_of old fs) i) edges
 
 -- where no head was found there are no new values
 abbrev pub IsUnchangedUnlessFound : List Level → List Level → Head → Type 0

@@ -1,5 +1,6 @@
 -- Private: what an exit says against one frame.
-use Rattle.std.specs.Prelude.{◌≡◌, ℕ, ◌<◌, ◌≤◌, List, [], ◌∷◌, length, Bool, Option, Some, None, slice_index_or, MatchBool}
+use Rattle.std.specs.Prelude.{◌≡◌, ℕ, ◌<◌, ◌≤◌, List, [], ◌∷◌, length, Bool, Option, Some, None}
+use Rattle.std.specs.Prelude.{slice_index_or, MatchBool}
 use Rattle.ol_context.specs.Contexts.{Level, empty, o, star, Context}
 use Rattle.ol_context.specs.Shapes.{value}
 use Rattle.ol_readback.specs.Frames.{os, Frame}

@@ -67,7 +67,8 @@ NoneLeft vs gs = pending_of vs gs ≡ []
 pub record IsNext (old new : List Level) (gs hs : List Group) (f : Frame) : Type 0 where
   pub first : pending_of old gs ≡ subterm_of new f ∷ pending_of new hs
   pub held : AreHeldGroups new hs
-  pub placed : (free count : ℕ) → ArePlacedGroups free count gs → ArePlacedGroups free count hs × IsNextFrame free count new f
+  pub placed : (free count : ℕ) → ArePlacedGroups free count gs →
+      ArePlacedGroups free count hs × IsNextFrame free count new f
 
 -- the frame of the next argument was taken off, or no argument is left
 abbrev pub HasTaken : List Level → List Level → List Group → List Group → Option Frame → Type 0

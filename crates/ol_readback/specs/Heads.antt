@@ -12,16 +12,19 @@ use Rattle.ol_readback.specs.declared.answers.HeadVar.{HeadVar}
 use Rattle.ol_readback.specs.declared.answers.Head.{Head}
 use Rattle.ol_readback.specs.declared.answers.Head.TheVariants as code
 
--- What a frame is asked for: abstractions, variable, number of arguments, and the levels that the arguments' frames begin
+-- What a frame is asked for: abstractions, variable, number of arguments, and the levels that the
+-- arguments' frames begin
 -- with; or no head; or a walk used up its budget.
 pub data Answer : Type 0 where
   head : ℕ → HeadVar → ℕ → List Level → Answer
   no_head : Answer
   budget : Answer
 
--- The exit by port q with context X of the walk that asked frame i for n abstractions: its head by what matches, or none.
+-- The exit by port q with context X of the walk that asked frame i for n abstractions: its head by
+-- what matches, or none.
 pub data IsMatched (frames : List Frame) (i n q : ℕ) (X : Context) : Answer → Type 0 where
-  matched : {v : HeadVar} {k : ℕ} {ls : List Level} → Matches frames q X i n v k ls → IsMatched frames i n q X (head n v k ls)
+  matched : {v : HeadVar} {k : ℕ} {ls : List Level} → Matches frames q X i n v k ls →
+      IsMatched frames i n q X (head n v k ls)
   unmatched : MatchesNothing frames q X i n → IsMatched frames i n q X no_head
 
 abbrev pub NoPath : {A : Type 0} → NamedNet A → ℕ → Context → Type 0
@@ -48,14 +51,16 @@ pub record Fails {A : Type 0} (N : NamedNet A) (p : ℕ) (c : Context) (edges : 
 abbrev pub FailsBelow : {A : Type 0} → NamedNet A → Frame → ℕ → ℕ → Type 0
 FailsBelow N f edges n = (m : ℕ) → m < n → Fails N f.port (asked f.levels m) edges
 
--- The head of frame i by the tries 0, 1 and so on to the number of live nodes, each of no more than edges crossings, up to
+-- The head of frame i by the tries 0, 1 and so on to the number of live nodes, each of no more than
+-- edges crossings, up to
 -- the first that doesn't fail. It is the budget where that one makes all its crossings and stands at a node.
 pub data IsHeadWithin {A : Type 0} (N : NamedNet A) (frames : List Frame) (i edges : ℕ) : Answer → Type 0 where
   leaves : {n q : ℕ} {X : Context} {a : Answer} → n ≤ live N → FailsBelow N (frame_at frames i) edges n →
       LeavesWithin N (frame_at frames i).port (asked (frame_at frames i).levels n) edges q X →
       IsMatched frames i n q X a → IsHeadWithin N frames i edges a
   spends : {n : ℕ} → n ≤ live N → FailsBelow N (frame_at frames i) edges n →
-      WalkStands N (free (frame_at frames i).port) (asked (frame_at frames i).levels n) edges → IsHeadWithin N frames i edges budget
+      WalkStands N (free (frame_at frames i).port) (asked (frame_at frames i).levels n) edges →
+      IsHeadWithin N frames i edges budget
   never : FailsBelow N (frame_at frames i) edges (suc (live N)) → IsHeadWithin N frames i edges no_head
 
 -- what the code answers, its level values read from their holder

@@ -17,23 +17,31 @@ pub record IsReader (free : ℕ) (vs : List Level) (fs : List Frame) (skips : Li
   pub skipped : AreSkipsOf fs skips
   pub each : length skips ≡ length fs
 
--- Whatever reading it is that came so far with s and n, if frame f is that of the first subterm that is left, after the frames
+-- Whatever reading it is that came so far with s and n, if frame f is that of the first subterm
+-- that is left, after the frames
 -- fs, P holds of what it began with, of the number of places that are asked, of the places and of the later subterms.
-abbrev pub WhateverNext : {S N : Type 0} → (S → N → S → N → ℕ → Reading → Type 0) → S → N → List Level → List Frame → Frame → (S → N → ℕ → List ReadNode → List Subterm → Type 0) → Type 0
+abbrev pub WhateverNext : {S N : Type 0} → (S → N → S → N → ℕ → Reading → Type 0) → S → N →
+    List Level → List Frame → Frame → (S → N → ℕ → List ReadNode → List Subterm → Type 0) → Type 0
 WhateverNext {S} {N} reads s n vs fs f P =
     (s0 : S) (n0 : N) (heads : ℕ) (places : List ReadNode) (ss : List Subterm) → length fs < heads →
     reads s0 n0 s n heads (so_far (frames_of vs fs) (subterm_of vs f ∷ ss) places) → P s0 n0 heads places ss
 
--- the place was found, and what is left to be read are its arguments and then the later subterms; or the reading ends here
-abbrev pub IsReadNext : {S N : Type 0} → (S → N → S → N → ℕ → Reading → Type 0) → (S → N → S → N → ℕ → Type 0) → S → N → S → N →
+-- the place was found, and what is left to be read are its arguments and then the later subterms;
+-- or the reading ends here
+abbrev pub IsReadNext : {S N : Type 0} → (S → N → S → N → ℕ → Reading → Type 0) →
+    (S → N → S → N → ℕ → Type 0) → S → N → S → N →
     List Level → List Level → List Frame → Frame → List Frame → Option (ReadNode × Option Group) → Type 0
 IsReadNext reads ends s n s' n' vs ws fs f gs (Some r) =
-    WhateverNext reads s n vs fs f (λ s0 n0 heads places ss. reads s0 n0 s' n' heads (so_far (frames_of ws gs) (subterms_in ws r.1 ++ ss) (places ++ r.0 ∷ [])))
-IsReadNext reads ends s n s' n' vs ws fs f gs None = WhateverNext reads s n vs fs f (λ s0 n0 heads places ss. ends s0 n0 s' n' heads)
+    WhateverNext reads s n vs fs f (λ s0 n0 heads places ss.
+    reads s0 n0 s' n' heads (so_far (frames_of ws gs) (subterms_in ws r.1 ++ ss) (places ++ r.0 ∷ [])))
+IsReadNext reads ends s n s' n' vs ws fs f gs None = WhateverNext reads s n vs fs f
+    (λ s0 n0 heads places ss. ends s0 n0 s' n' heads)
 
 -- no memory was found on the way
-abbrev pub StopsNext : {S N : Type 0} → (S → N → S → N → ℕ → Reading → Type 0) → (S → N → S → N → ℕ → Type 0) → S → N → S → N → List Level → List Frame → Frame → Type 0
-StopsNext reads stops s n s' n' vs fs f = WhateverNext reads s n vs fs f (λ s0 n0 heads places ss. stops s0 n0 s' n' heads)
+abbrev pub StopsNext : {S N : Type 0} → (S → N → S → N → ℕ → Reading → Type 0) →
+    (S → N → S → N → ℕ → Type 0) → S → N → S → N → List Level → List Frame → Frame → Type 0
+StopsNext reads stops s n s' n' vs fs f = WhateverNext reads s n vs fs f
+    (λ s0 n0 heads places ss. stops s0 n0 s' n' heads)
 
 abbrev pub AreHeldIfSome : List Level → Option (ReadNode × Option Group) → Type 0
 AreHeldIfSome vs (Some r) = AreHeldIn vs r.1

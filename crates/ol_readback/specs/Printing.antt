@@ -42,7 +42,8 @@ place_text names rs t node.Cut = 46 ∷ (46 ∷ (46 ∷ []))
 
 -- what is printed at once: all of it, where it has no arguments
 abbrev pub printed : List (List ℕ) → List ℕ → ℕ → Bool → ReadNode → List ℕ
-printed names rs t b (node.Head l v zero) = left_bracket b ++ (place_text names rs t (node.Head l v zero) ++ right_bracket b)
+printed names rs t b (node.Head l v zero) = left_bracket b ++
+    (place_text names rs t (node.Head l v zero) ++ right_bracket b)
 printed names rs t b (node.Head l v (suc k)) = left_bracket b ++ place_text names rs t (node.Head l v (suc k))
 printed names rs t b node.NoHead = place_text names rs t node.NoHead
 printed names rs t b node.Cut = place_text names rs t node.Cut
@@ -54,8 +55,12 @@ opened t b (node.Head l v (suc k)) = record { left = suc k; binders = t + l; bra
 opened t b node.NoHead = []
 opened t b node.Cut = []
 
--- The next argument has so many binders round it, and heads whose arguments are all printed are closed. Or no argument is left.
+-- The next argument has so many binders round it, and heads whose arguments are all printed are
+-- closed. Or no argument is left.
 pub data Takes : List ℕ → List Open → Option ℕ → List ℕ → List Open → Type 0 where
   done : (x : List ℕ) → Takes x [] None x []
-  takes : (x : List ℕ) (os : List Open) (h : Open) (n : ℕ) → h.left ≡ suc n → Takes x (os ++ h ∷ []) (Some h.binders) x (os ++ record { left = n; binders = h.binders; bracket = h.bracket } ∷ [])
-  closes : (x : List ℕ) (os : List Open) (h : Open) {y : List ℕ} {qs : List Open} {r : Option ℕ} → h.left ≡ 0 → Takes (x ++ right_bracket h.bracket) os r y qs → Takes x (os ++ h ∷ []) r y qs
+  takes : (x : List ℕ) (os : List Open) (h : Open) (n : ℕ) → h.left ≡ suc n →
+      Takes x (os ++ h ∷ []) (Some h.binders) x
+      (os ++ record { left = n; binders = h.binders; bracket = h.bracket } ∷ [])
+  closes : (x : List ℕ) (os : List Open) (h : Open) {y : List ℕ} {qs : List Open} {r : Option ℕ} →
+      h.left ≡ 0 → Takes (x ++ right_bracket h.bracket) os r y qs → Takes x (os ++ h ∷ []) r y qs

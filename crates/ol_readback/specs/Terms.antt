@@ -1,5 +1,6 @@
 -- The term that a tree without NoHead and Cut stands for, and what a printed text is read as.
-use Rattle.std.specs.Prelude.{◌≡◌, ℕ, zero, suc, ◌+◌, ◌-◌, ◌==◌, Bool, true, false, if◌then◌else◌, List, [], ◌∷◌, length, IsSome}
+use Rattle.std.specs.Prelude.{◌≡◌, ℕ, zero, suc, ◌+◌, ◌-◌, ◌==◌, Bool, true, false, if◌then◌else◌}
+use Rattle.std.specs.Prelude.{List, [], ◌∷◌, length, IsSome}
 use Rattle.ol_term.specs.Trees as tree
 use Rattle.ol_term.specs.Trees.{Tree}
 use Rattle.ol_parse.specs.Grammar.{Named}
@@ -23,7 +24,8 @@ abbrev pub abstracted : ℕ → Tree → Tree
 abstracted zero t = t
 abstracted (suc l) t = tree.lam (abstracted l t)
 
--- The number of binder j of place i, counted from the innermost as 0. These places stand round, the nearest first, each with its
+-- The number of binder j of place i, counted from the innermost as 0. These places stand round, the
+-- nearest first, each with its
 -- number of abstractions, whose first is the outermost.
 abbrev pub index_of : List (ℕ × ℕ) → ℕ → ℕ → ℕ
 index_of [] i j = 0
@@ -69,7 +71,8 @@ abbrev pub AreAmong : List (List ℕ) → List (List ℕ) → Type 0
 AreAmong names [] = Unit {0}
 AreAmong names (x ∷ xs) = IsSome (position_of x names) × AreAmong names xs
 
--- the bytes are a text of the grammar, its free names are among these, and by their places in this list its term is this one
+-- the bytes are a text of the grammar, its free names are among these, and by their places in this
+-- list its term is this one
 pub record IsReadAs (names : List (List ℕ)) (bytes : List ℕ) (t : Tree) : Type 0 where
   pub named : Named
   pub text : IsText bytes named

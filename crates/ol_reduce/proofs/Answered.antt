@@ -21,32 +21,43 @@ pub steps_in : (z : Parts) (words : List ℕ) → length (journal_in z words) �
 steps_in z words = length_each (λ t. entry_of z (event_at z words t)) (events_in z words)
 
 -- a run of the words is one of the net that the table was made from
-pub from_net : (net : Graph) (w : ClosedTable) → w.plan.start.value ≡ net → (M : NamedNet NodeName) → IsAfter w M → IsRun (net_under Init (net_of net)) 0 (journal_in w.plan.parts w.words) M
-from_net net w e M r = subst (λ (g : Graph). IsRun (net_under Init (net_of g)) 0 (journal_in w.plan.parts w.words) M) e r
+pub from_net : (net : Graph) (w : ClosedTable) → w.plan.start.value ≡ net →
+    (M : NamedNet NodeName) → IsAfter w M → IsRun (net_under Init (net_of net)) 0 (journal_in w.plan.parts w.words) M
+from_net net w e M r = subst (λ (g : Graph).
+    IsRun (net_under Init (net_of g)) 0 (journal_in w.plan.parts w.words) M) e r
 
-pub few_steps : (w : ClosedTable) (fuel : ℕ) → w.plan.parts.fuel ≡ fuel → events_in w.plan.parts w.words ≤ w.plan.parts.fuel → length (journal_in w.plan.parts w.words) ≤ fuel
+pub few_steps : (w : ClosedTable) (fuel : ℕ) → w.plan.parts.fuel ≡ fuel →
+    events_in w.plan.parts w.words ≤ w.plan.parts.fuel → length (journal_in w.plan.parts w.words) ≤ fuel
 few_steps w fuel e few = omega (arith, steps_in w.plan.parts w.words, e, few)
 
 -- where the net after the journal is complete, the one-thread run ends, and has as many steps
-pub ends : DoneTells → (net : Graph) (w : ClosedTable) (fuel : ℕ) → IsNet (net_of net) → w.plan.start.value ≡ net → length (journal_in w.plan.parts w.words) ≤ fuel
-    → (M : NamedNet NodeName) → IsAfter w M → IsComplete M → EndsWithin net fuel × IsAsLong net fuel (journal_in w.plan.parts w.words)
+pub ends : DoneTells → (net : Graph) (w : ClosedTable) (fuel : ℕ) → IsNet (net_of net) →
+    w.plan.start.value ≡ net → length (journal_in w.plan.parts w.words) ≤ fuel
+    → (M : NamedNet NodeName) → IsAfter w M → IsComplete M →
+    EndsWithin net fuel × IsAsLong net fuel (journal_in w.plan.parts w.words)
 ends done net w fuel is_net e few M r complete =
-    let agrees : (one_thread : List Entry) (P : NamedNet NodeName) → IsOneThread (net_under Init (net_of net)) fuel one_thread P
+    let agrees : (one_thread : List Entry) (P : NamedNet NodeName) →
+    IsOneThread (net_under Init (net_of net)) fuel one_thread P
     → IsComplete P × RunsAgree (net_under Init (net_of net)) (journal_in w.plan.parts w.words) M one_thread P
-    = λ one_thread P one. done (net_under Init (net_of net)) M P fuel (journal_in w.plan.parts w.words) one_thread (start_net (net_of net) is_net) (start_named (net_of net)) (from_net net w e M r) complete few one in (
+    = λ one_thread P one. done (net_under Init (net_of net)) M P fuel
+    (journal_in w.plan.parts w.words) one_thread (start_net (net_of net) is_net)
+    (start_named (net_of net)) (from_net net w e M r) complete few one in (
       (λ one_thread P one. (agrees one_thread P one).0),
       (λ one_thread P one. (agrees one_thread P one).1.steps),
     )
 
 -- a journal that was read from the words is one of them
-pub as_long : (net : Graph) (fuel : ℕ) (journal read : List Entry) → read ≡ journal → IsAsLong net fuel journal → IsAsLong net fuel read
+pub as_long : (net : Graph) (fuel : ℕ) (journal read : List Entry) → read ≡ journal →
+    IsAsLong net fuel journal → IsAsLong net fuel read
 as_long net fuel journal read e long = subst (λ j. IsAsLong net fuel j) (sym e) long
 
 -- where the fuel is used up and a pair is active, it doesn't end
-pub goes_on : SpentTells → OneThreadExists → (net : Graph) (w : ClosedTable) (fuel : ℕ) → IsNet (net_of net) → w.plan.start.value ≡ net → length (journal_in w.plan.parts w.words) ≡ fuel
+pub goes_on : SpentTells → OneThreadExists → (net : Graph) (w : ClosedTable) (fuel : ℕ) →
+    IsNet (net_of net) → w.plan.start.value ≡ net → length (journal_in w.plan.parts w.words) ≡ fuel
     → (M : NamedNet NodeName) → IsAfter w M → HasActive M → EndsWithin net fuel → ⊥
 goes_on spent exists net w fuel is_net e all M r active within =
     let N = net_under Init (net_of net) in
     let one = exists N fuel (start_net (net_of net) is_net) (start_named (net_of net)) in
-    let on = spent N M one.1 fuel (journal_in w.plan.parts w.words) one.0 (start_net (net_of net) is_net) (start_named (net_of net)) (from_net net w e M r) active all one.2 in
+    let on = spent N M one.1 fuel (journal_in w.plan.parts w.words) one.0
+    (start_net (net_of net) is_net) (start_named (net_of net)) (from_net net w e M r) active all one.2 in
     within one.0 one.1 one.2 on.0.0 on.0.1 on.0.2 on.0.3

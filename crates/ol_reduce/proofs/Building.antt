@@ -1,5 +1,7 @@
 -- A table in which each port has a partner makes links that fit a net.
-use Rattle.std.proofs.Common.{◌≡◌, ◌≢◌, ℕ, zero, suc, ◌+◌, ◌<◌, ◌≤◌, ◌==◌, Bool, true, false, not, nat_lt, eq-eqb, lt-ltb, if◌then◌else◌, List, [], ◌∷◌, ◌++◌, length, get_or, Option, ◌⊎◌, inl, inr, refl, sym, ap, ◌∙◌, subst, arith}
+use Rattle.std.proofs.Common.{◌≡◌, ◌≢◌, ℕ, zero, suc, ◌+◌, ◌<◌, ◌≤◌, ◌==◌, Bool, true, false, not}
+use Rattle.std.proofs.Common.{nat_lt, eq-eqb, lt-ltb, if◌then◌else◌, List, [], ◌∷◌, ◌++◌, length}
+use Rattle.std.proofs.Common.{get_or, Option, ◌⊎◌, inl, inr, refl, sym, ap, ◌∙◌, subst, arith}
 use Rattle.std.proofs.lemmas.Bool.{cases_eq, cases_lt, false≢true}
 use Rattle.std.proofs.lemmas.Bool.Decides.{nat_tests}
 use Rattle.std.proofs.lemmas.List.{length-append, get_or_default}
@@ -43,7 +45,8 @@ module _ (free : ℕ) (partners : List ℕ) where
   row_yes k lt = ap (λ b. if b then link_of k ∷ [] else []) (lt-ltb k (other partners k) lt)
 
   row_no : (k : ℕ) → other partners k ≤ k → link_row free partners k ≡ []
-  row_no k ge = let e : nat_lt k (other partners k) ≡ false = grind (arith, nat_tests) in ap (λ b. if b then link_of k ∷ [] else []) e
+  row_no k ge = let e : nat_lt k (other partners k) ≡ false = grind (arith, nat_tests) in
+      ap (λ b. if b then link_of k ∷ [] else []) e
 
   -- the place that link j is of
   pub record LinkAt (n j : ℕ) : Type 0 where
@@ -53,12 +56,23 @@ module _ (free : ℕ) (partners : List ℕ) where
     pub is : link_at (links n) j ≡ link_of k
 
   abbrev later : (n j : ℕ) → j < length (links n) → LinkAt n j → LinkAt (suc n) j
-  later n j lt l = record { k = l.k; below = omega (arith, l.below); lower = l.lower; is = at_left (links n) (link_row free partners n) j lt ∙ l.is }
+  later n j lt l = record {
+    k = l.k;
+    below = omega (arith, l.below);
+    lower = l.lower;
+    is = at_left (links n) (link_row free partners n) j lt ∙ l.is;
+  }
 
-  newest : (n j : ℕ) → length (links n) ≤ j → j < length (links (suc n)) → (j ≡ length (links n)) × (n < other partners n)
+  newest : (n j : ℕ) → length (links n) ≤ j → j < length (links (suc n)) →
+      (j ≡ length (links n)) × (n < other partners n)
   newest n j ge lt = elim (cases_lt n (other partners n)) [
-    | inl a ↦ (let e = ap length (row_yes n a) in omega (arith, ge, lt, length-append (links n) (link_row free partners n), e), a)
-    | inr a ↦ let e = ap length (row_no n a) in absurd (omega (arith, ge, lt, length-append (links n) (link_row free partners n), e))
+    | inl a ↦ (
+      let e = ap length (row_yes n a) in
+          omega (arith, ge, lt, length-append (links n) (link_row free partners n), e),
+      a,
+    )
+    | inr a ↦ let e = ap length (row_no n a) in
+        absurd (omega (arith, ge, lt, length-append (links n) (link_row free partners n), e))
   ]
 
   abbrev at_new : (n j : ℕ) → j ≡ length (links n) → n < other partners n → LinkAt (suc n) j
@@ -90,14 +104,18 @@ module _ (free : ℕ) (partners : List ℕ) where
   pub count_links : (n : ℕ) → length (links n) ≤ n
   count_links zero = omega arith
   count_links (suc n) = elim (cases_lt n (other partners n)) [
-    | inl a ↦ let e = ap length (row_yes n a) in omega (arith, count_links n, length-append (links n) (link_row free partners n), e)
-    | inr a ↦ let e = ap length (row_no n a) in omega (arith, count_links n, length-append (links n) (link_row free partners n), e)
+    | inl a ↦ let e = ap length (row_yes n a) in
+        omega (arith, count_links n, length-append (links n) (link_row free partners n), e)
+    | inr a ↦ let e = ap length (row_no n a) in
+        omega (arith, count_links n, length-append (links n) (link_row free partners n), e)
   ]
 
   pub link_in : (n k : ℕ) → k < n → k < other partners k → IsIn (link_of k) (links n)
   link_in zero k lt low = absurd (omega arith)
   link_in (suc n) k lt low = elim (cases_eq k n) [
-    | inl e ↦ right (links n) (link_row free partners n) (subst (λ m. IsIn (link_of k) (link_row free partners m)) e (subst (λ ys. IsIn (link_of k) ys) (sym (row_yes k low)) (inl refl)))
+    | inl e ↦ right (links n) (link_row free partners n)
+        (subst (λ m. IsIn (link_of k) (link_row free partners m)) e
+        (subst (λ ys. IsIn (link_of k) ys) (sym (row_yes k low)) (inl refl)))
     | inr d ↦ left (links n) (link_row free partners n) (link_in n k (omega (arith, lt, d)) low)
   ]
     where
@@ -127,7 +145,8 @@ module _ (free : ℕ) (partners : List ℕ) where
     back k = t.paired k
 
     pub there : (k : ℕ) → k ≢ other partners k → has_port free live (port_at free k) ≡ true
-    there k d = let e = t.ports k in let f : (other partners k == k) ≡ false = grind (arith, nat_tests) in go (has_port free live (port_at free k)) (sym f ∙ e)
+    there k d = let e = t.ports k in let f : (other partners k == k) ≡ false = grind
+        (arith, nat_tests) in go (has_port free live (port_at free k)) (sym f ∙ e)
       where
         go : (b : Bool) → false ≡ not b → b ≡ true
         go true h = refl
@@ -136,7 +155,8 @@ module _ (free : ℕ) (partners : List ℕ) where
     no_bad_port : (j : ℕ) → BadPortAt free live (links size) j → ⊥
     no_bad_port j h = go (located size j h.0) h.1
       where
-        go : (l : LinkAt size j) → (has_port free live (link_at (links size) j).0 ≡ false) ⊎ (has_port free live (link_at (links size) j).1 ≡ false) → ⊥
+        go : (l : LinkAt size j) → (has_port free live (link_at (links size) j).0 ≡ false)
+            ⊎ (has_port free live (link_at (links size) j).1 ≡ false) → ⊥
         go l (inl f) =
             let q = ap (λ (p : Port × Port). has_port free live p.0) l.is in
             let y = there l.k (omega (arith, l.lower)) in
@@ -146,34 +166,54 @@ module _ (free : ℕ) (partners : List ℕ) where
             let y = there (other partners l.k) (λ e. omega (arith, e, back l.k, l.lower)) in
             false≢true (sym f ∙ q ∙ y)
 
-    end_of : (n j : ℕ) (l : LinkAt n j) (p : Port) → HasEnd (link_at (links n) j) p → (p ≡ port_at free l.k) ⊎ (p ≡ port_at free (other partners l.k))
+    end_of : (n j : ℕ) (l : LinkAt n j) (p : Port) → HasEnd (link_at (links n) j) p →
+        (p ≡ port_at free l.k) ⊎ (p ≡ port_at free (other partners l.k))
     end_of n j l p (inl e) = inl (sym e ∙ ap (λ (p : Port × Port). p.0) l.is)
     end_of n j l p (inr e) = inr (sym e ∙ ap (λ (p : Port × Port). p.1) l.is)
 
     no_twice : (j : ℕ) → TwiceAt (links size) j → ⊥
     no_twice j h = go h.1
       where
-        two : (i : ℕ) (p : Port) (a : LinkAt size i) (b : LinkAt size j) → a.k < b.k → (p ≡ port_at free a.k) ⊎ (p ≡ port_at free (other partners a.k)) → (p ≡ port_at free b.k) ⊎ (p ≡ port_at free (other partners b.k)) → ⊥
+        two : (i : ℕ) (p : Port) (a : LinkAt size i) (b : LinkAt size j) → a.k < b.k →
+            (p ≡ port_at free a.k) ⊎ (p ≡ port_at free (other partners a.k)) →
+            (p ≡ port_at free b.k) ⊎ (p ≡ port_at free (other partners b.k)) → ⊥
         two i p a b lt (inl x) (inl y) = omega (arith, lt, same_place a.k b.k (sym x ∙ y))
         two i p a b lt (inl x) (inr y) = omega (arith, lt, b.lower, same_place a.k (other partners b.k) (sym x ∙ y))
-        two i p a b lt (inr x) (inl y) = omega (arith, lt, b.lower, back a.k, ap (other partners) (same_place (other partners a.k) b.k (sym x ∙ y)))
-        two i p a b lt (inr x) (inr y) = omega (arith, lt, back a.k, back b.k, ap (other partners) (same_place (other partners a.k) (other partners b.k) (sym x ∙ y)))
+        two i p a b lt (inr x) (inl y) = omega
+            (arith, lt, b.lower, back a.k, ap (other partners) (same_place (other partners a.k) b.k (sym x ∙ y)))
+        two i p a b lt (inr x) (inr y) = omega (
+          arith,
+          lt,
+          back a.k,
+          back b.k,
+          ap (other partners)
+              (same_place (other partners a.k) (other partners b.k) (sym x ∙ y)),
+        )
 
-        go : ((link_at (links size) j).0 ≡ (link_at (links size) j).1) ⊎ ((i : ℕ) × (p : Port) × (i < j) × HasEnd (link_at (links size) i) p × HasEnd (link_at (links size) j) p) → ⊥
+        go : ((link_at (links size) j).0 ≡ (link_at (links size) j).1)
+            ⊎ ((i : ℕ) × (p : Port) × (i < j) × HasEnd (link_at (links size) i) p
+            × HasEnd (link_at (links size) j) p) → ⊥
         go (inl e) =
             let l = located size j h.0 in
-            omega (arith, l.lower, same_place l.k (other partners l.k) (ap (λ (p : Port × Port). p.0) (sym l.is) ∙ e ∙ ap (λ (p : Port × Port). p.1) l.is))
+            omega (
+              arith,
+              l.lower,
+              same_place l.k (other partners l.k)
+                  (ap (λ (p : Port × Port). p.0) (sym l.is) ∙ e ∙ ap (λ (p : Port × Port). p.1) l.is),
+            )
         go (inr u) =
             let l = two_located size u.0 j u.2 h.0 in
             two u.0 u.1 l.0 l.1 l.2 (end_of size u.0 l.0 u.1 u.3) (end_of size j l.1 u.1 u.4)
 
     no_loose : (p : Port) → IsLoose free live (links size) p → ⊥
     no_loose p h = elim (cases_lt k (other partners k)) [
-      | inl a ↦ let i = in_at (links size) (link_of k) (link_in size k within a) in h.1 i.0 i.1 (inl (ap (λ (p : Port × Port). p.0) i.2 ∙ at_k))
+      | inl a ↦ let i = in_at (links size) (link_of k) (link_in size k within a) in
+          h.1 i.0 i.1 (inl (ap (λ (p : Port × Port). p.0) i.2 ∙ at_k))
       | inr a ↦
           let below : other partners k < k = omega (arith, a, moved) in
           let up : other partners k < other partners (other partners k) = omega (arith, back k, below) in
-          let i = in_at (links size) (link_of (other partners k)) (link_in size (other partners k) (omega (arith, below, within)) up) in
+          let i = in_at (links size) (link_of (other partners k))
+          (link_in size (other partners k) (omega (arith, below, within)) up) in
           h.1 i.0 i.1 (inr (ap (λ (p : Port × Port). p.1) i.2 ∙ ap (port_at free) (back k) ∙ at_k))
     ]
       where
@@ -184,7 +224,10 @@ module _ (free : ℕ) (partners : List ℕ) where
         at_k = port_at-place free live p h.0
 
         moved : other partners (place free p) ≢ place free p
-        moved e = go (has_port free live (port_at free (place free p))) (ap (has_port free live) at_k ∙ h.0) (let f : (other partners (place free p) == place free p) ≡ true = eq-eqb (other partners (place free p)) (place free p) e in sym f ∙ t.ports (place free p))
+        moved e = go (has_port free live (port_at free (place free p)))
+            (ap (has_port free live) at_k ∙ h.0)
+            (let f : (other partners (place free p) == place free p) ≡ true = eq-eqb
+            (other partners (place free p)) (place free p) e in sym f ∙ t.ports (place free p))
           where
             go : (b : Bool) → b ≡ true → true ≡ not b → ⊥
             go true a b = false≢true (sym b)

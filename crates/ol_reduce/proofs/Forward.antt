@@ -1,5 +1,7 @@
--- Chains in the words of a closed table: from each end that owns a word they are followed forward, and lead to the port that the net links it with.
-use Rattle.std.proofs.Common.{◌≡◌, ◌≢◌, ℕ, suc, ◌+◌, ◌<◌, ◌≤◌, Bool, nat_eq, List, [], ◌∷◌, ◌++◌, slice_index, ◌⊎◌, inl, inr, refl, sym, ap, ◌∙◌, subst, arith}
+-- Chains in the words of a closed table: from each end that owns a word they are followed forward,
+-- and lead to the port that the net links it with.
+use Rattle.std.proofs.Common.{◌≡◌, ◌≢◌, ℕ, suc, ◌+◌, ◌<◌, ◌≤◌, Bool, nat_eq, List, [], ◌∷◌, ◌++◌}
+use Rattle.std.proofs.Common.{slice_index, ◌⊎◌, inl, inr, refl, sym, ap, ◌∙◌, subst, arith}
 use Rattle.ol_edges.specs.Edges.{IsIn, EdgeOf, Joined, here, on, back, ends, bit, Contracted}
 use Rattle.ol_edges.proofs.Joining.{joined_trans, joined_sym}
 use Rattle.ol_net.specs.Nets.{NamedPort, NamedNet, Linked}
@@ -90,9 +92,12 @@ module _ (w : ClosedTable) (N : NamedNet NodeName) (reached : ℕ → Bool) (s :
       let t = edge_found z N reached w.words (table_size z) (a, b) h in
       go t.0 t.1 t.2 (edge_at N (reached t.0) (part_of_word z t.0) t.0 (word t.0) (word (suc t.0)) a b t.2)
     where
-      go : (n : ℕ) → n < table_size z → IsIn {X = ℕ × ℕ} (a, b) (row n) → EdgeAt (part_of_word z n) n (word n) (word (suc n)) a b → EdgeIs a b
-      go n lt i (at_wire p l e q f) = owned n (record { within = lt; filled = f; end = inl e; edge = subst (λ y. IsIn {X = ℕ × ℕ} (a, y) (row n)) q i }) q
-      go n lt i (at_field x c p e q f) = owned n (record { within = lt; filled = f; end = inr e; edge = subst (λ y. IsIn {X = ℕ × ℕ} (a, y) (row n)) q i }) q
+      go : (n : ℕ) → n < table_size z → IsIn {X = ℕ × ℕ} (a, b) (row n) →
+          EdgeAt (part_of_word z n) n (word n) (word (suc n)) a b → EdgeIs a b
+      go n lt i (at_wire p l e q f) = owned n
+          (record { within = lt; filled = f; end = inl e; edge = subst (λ y. IsIn {X = ℕ × ℕ} (a, y) (row n)) q i }) q
+      go n lt i (at_field x c p e q f) = owned n
+          (record { within = lt; filled = f; end = inr e; edge = subst (λ y. IsIn {X = ℕ × ℕ} (a, y) (row n)) q i }) q
       go n lt i (at_cell p e q f) = celled n p f e q
 
   pub goes_on : (e u t : ℕ) → Goes e u → (n : ℕ) → Owns n u → word n ≡ t → Goes e t
@@ -141,17 +146,20 @@ module _ (w : ClosedTable) (N : NamedNet NodeName) (reached : ℕ → Bool) (s :
   -- a chain has one end
   pub one_sink : (e t u : ℕ) → IsSink t → IsSink u → Goes e t → Goes e u → t ≡ u
   one_sink e t u k l (last n o q) (last m p r) = sym q ∙ ap word (one_owned n m e o p) ∙ r
-  one_sink e t u k l (last n o q) (more m p g) = absurd (starts (subst (λ v. Goes v u) (sym (ap word (one_owned n m e o p)) ∙ q) g))
+  one_sink e t u k l (last n o q) (more m p g) = absurd
+      (starts (subst (λ v. Goes v u) (sym (ap word (one_owned n m e o p)) ∙ q) g))
     where
       starts : Goes t u → ⊥
       starts (last i a b) = k.owns_none i a
       starts (more i a b) = k.owns_none i a
-  one_sink e t u k l (more n o g) (last m p r) = absurd (starts (subst (λ v. Goes v t) (ap word (one_owned n m e o p) ∙ r) g))
+  one_sink e t u k l (more n o g) (last m p r) = absurd
+      (starts (subst (λ v. Goes v t) (ap word (one_owned n m e o p) ∙ r) g))
     where
       starts : Goes u t → ⊥
       starts (last i a b) = l.owns_none i a
       starts (more i a b) = l.owns_none i a
-  one_sink e t u k l (more n o g) (more m p h) = one_sink (word n) t u k l g (subst (λ v. Goes v u) (sym (ap word (one_owned n m e o p))) h)
+  one_sink e t u k l (more n o g) (more m p h) = one_sink (word n) t u k l g
+      (subst (λ v. Goes v u) (sym (ap word (one_owned n m e o p))) h)
 
   -- ---- ends of ports
 
@@ -160,7 +168,13 @@ module _ (w : ClosedTable) (N : NamedNet NodeName) (reached : ℕ → Bool) (s :
 
   -- a port's own edge is its only one
   pub nothing_leads : (p : NamedPort NodeName) (e n a : ℕ) → IsEnd z N p e → Owns n e → IsIn {X = ℕ × ℕ} (a, e) es → ⊥
-  nothing_leads p e n a h o i = omega (arith, s.stands.ports p e h, ends_split e es, first_counts e (word n) es (own_edge n e o), second_counts e a es i)
+  nothing_leads p e n a h o i = omega (
+    arith,
+    s.stands.ports p e h,
+    ends_split e es,
+    first_counts e (word n) es (own_edge n e o),
+    second_counts e a es i,
+  )
 
   last_edge : (e t : ℕ) → Goes e t → (a : ℕ) × IsIn {X = ℕ × ℕ} (a, t) es
   last_edge e t (last n o q) = (e, subst (λ t. IsIn {X = ℕ × ℕ} (e, t) es) q (own_edge n e o))
@@ -183,7 +197,8 @@ module _ (w : ClosedTable) (N : NamedNet NodeName) (reached : ℕ → Bool) (s :
   })
 
   -- where two chains meet, the net links the two
-  pub meet_linked : (p q : NamedPort NodeName) (d e u : ℕ) → IsEnd z N p d → IsEnd z N q e → d ≢ e → Goes d u → Goes e u → Linked N p q
+  pub meet_linked : (p q : NamedPort NodeName) (d e u : ℕ) → IsEnd z N p d → IsEnd z N q e → d ≢ e →
+      Goes d u → Goes e u → Linked N p q
   meet_linked p q d e u hp hq ne g f = (s.stands.links p q d e hp hq).1 (record {
     first = port_no_wire p d hp;
     second = port_no_wire q e hq;
@@ -192,7 +207,8 @@ module _ (w : ClosedTable) (N : NamedNet NodeName) (reached : ℕ → Bool) (s :
   })
 
   -- the port that is linked to one without a word leads to it
-  pub linked_goes : (p q : NamedPort NodeName) (d e : ℕ) → IsEnd z N p d → IsEnd z N q e → Linked N p q → IsSink d → Goes e d
+  pub linked_goes : (p q : NamedPort NodeName) (d e : ℕ) → IsEnd z N p d → IsEnd z N q e →
+      Linked N p q → IsSink d → Goes e d
   linked_goes p q d e hp hq l k = go (basin d e k t.joined)
     where
       t : Contracted (EdgeOf es) (IsWireEnd reached) d e
@@ -203,7 +219,8 @@ module _ (w : ClosedTable) (N : NamedNet NodeName) (reached : ℕ → Bool) (s :
       go (inr g) = g
 
   -- the port that is linked to one whose chain leads to an empty wire leads there too
-  pub linked_meets : (p q : NamedPort NodeName) (d e u : ℕ) → IsEnd z N p d → IsEnd z N q e → Linked N p q → IsSink u → IsWireEnd reached u → Goes d u → Goes e u
+  pub linked_meets : (p q : NamedPort NodeName) (d e u : ℕ) → IsEnd z N p d → IsEnd z N q e →
+      Linked N p q → IsSink u → IsWireEnd reached u → Goes d u → Goes e u
   linked_meets p q d e u hp hq l k is_wire g = go (basin u e k (joined_trans (joined_sym (goes_joined d u g)) t.joined))
     where
       t : Contracted (EdgeOf es) (IsWireEnd reached) d e

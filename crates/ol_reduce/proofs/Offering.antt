@@ -1,5 +1,6 @@
 -- What a worker's seat and hand tell of each other, turn by turn.
-use Rattle.std.proofs.Common.{◌≡◌, ◌≢◌, ◌∙◌, ℕ, ◌+◌, ◌≤◌, ⊎_elim, List, [], ◌∷◌, ◌++◌, Result, Ok, Err, OnOk, OnErr, refl, sym, ap, arith}
+use Rattle.std.proofs.Common.{◌≡◌, ◌≢◌, ◌∙◌, ℕ, ◌+◌, ◌≤◌, ⊎_elim, List, [], ◌∷◌, ◌++◌, Result, Ok}
+use Rattle.std.proofs.Common.{Err, OnOk, OnErr, refl, sym, ap, arith}
 use Rattle.std.proofs.lemmas.List.{append-nil, append_assoc, length-append}
 use Rattle.ol_pool.specs.Looks.{CountsOne}
 use Rattle.ol_pool.specs.Pools.{HandState}
@@ -19,7 +20,13 @@ put_none : (v n : HandState) → n.sent ≡ v.sent → n.refused ≡ v.refused �
 put_none v n sent refused = ([], [], sent ∙ sym (append-nil v.sent), (let e = refused in omega arith), λ h. refl)
 
 pub offered_none : (v : HandState) → HasOffered v [] v
-offered_none v = record { pool = refl; parts = refl; missed = refl; refused = omega arith; put = λ _. put_none v v refl refl }
+offered_none v = record {
+  pool = refl;
+  parts = refl;
+  missed = refl;
+  refused = omega arith;
+  put = λ _. put_none v v refl refl;
+}
 
 put_more : (u v n : HandState) (xs ys : List ℕ) → HasPut u xs v → HasPut v ys n → HasPut u (xs ++ ys) n
 put_more u v n xs ys (a, b, s, r, w) (c, d, t, q, z) = (
@@ -30,7 +37,8 @@ put_more u v n xs ys (a, b, s, r, w) (c, d, t, q, z) = (
   λ h. omega (arith, w h, z h, weigh_append h xs ys, weigh_append h a c, weigh_append h b d),
 )
 
-pub offered_more : (u v n : HandState) (xs ys : List ℕ) → HasOffered u xs v → HasOffered v ys n → HasOffered u (xs ++ ys) n
+pub offered_more : (u v n : HandState) (xs ys : List ℕ) → HasOffered u xs v → HasOffered v ys n →
+    HasOffered u (xs ++ ys) n
 offered_more u v n xs ys a b = record {
   pool = b.pool ∙ a.pool;
   parts = b.parts ∙ a.parts;
@@ -40,14 +48,22 @@ offered_more u v n xs ys a b = record {
 }
 
 -- one put, by its answer
-pub offered_one : {A : Type 0} (r : Result A ℕ) (v n : HandState) (cell : ℕ) → OnOk r (n ≡ record v { sent = v.sent ++ cell ∷ [] }) → OnErr r (n ≡ record v { refused = n.refused }) → OnErr r (CountsOne v.refused n.refused)
+pub offered_one : {A : Type 0} (r : Result A ℕ) (v n : HandState) (cell : ℕ) →
+    OnOk r (n ≡ record v { sent = v.sent ++ cell ∷ [] }) →
+    OnErr r (n ≡ record v { refused = n.refused }) → OnErr r (CountsOne v.refused n.refused)
     → HasOffered v (cell ∷ []) n
 offered_one (Ok x) v n cell sent same counts = record {
   pool = ap (λ (s : HandState). s.pool) sent;
   parts = ap (λ (s : HandState). s.parts) sent;
   missed = ap (λ (s : HandState). s.missed) sent;
   refused = (let e = ap (λ (s : HandState). s.refused) sent in omega arith);
-  put = λ _. (cell ∷ [], [], ap (λ (s : HandState). s.sent) sent, (let e = ap (λ (s : HandState). s.refused) sent in omega arith), λ h. omega arith);
+  put = λ _. (
+    cell ∷ [],
+    [],
+    ap (λ (s : HandState). s.sent) sent,
+    (let e = ap (λ (s : HandState). s.refused) sent in omega arith),
+    λ h. omega arith,
+  );
 }
 offered_one (Err x) v n cell sent same counts = record {
   pool = ap (λ (s : HandState). s.pool) same;
@@ -76,7 +92,8 @@ nothing Stuck a b = refl
 nothing Spent a b = refl
 nothing (Rewrote t r c m) a b = absurd (b t r c m refl)
 
-pub published_by : (z : Parts) (v : View) (c : ℕ) (t : Turn) (n : View) → Leaves z v c t n → n.published ≡ v.published ++ published_of t
+pub published_by : (z : Parts) (v : View) (c : ℕ) (t : Turn) (n : View) → Leaves z v c t n →
+    n.published ≡ v.published ++ published_of t
 published_by z v c Gone n l = ap (λ (u : View). u.published) l ∙ sym (append-nil v.published)
 published_by z v c Stuck n l = ap (λ (u : View). u.published) l ∙ sym (append-nil v.published)
 published_by z v c Spent n l = ap (λ (u : View). u.published) l ∙ sym (append-nil v.published)
@@ -89,10 +106,12 @@ pub puts_first : (s : SeatState) (v : HandState) → PutsPublished s v s v
 puts_first s v = λ _. ([], sym (append-nil s.view.published), put_none v v refl refl)
 
 -- a take that missed; a turn on a cell that was given
-pub claims_still : (s t : SeatState) (v m b : HandState) → ClaimsGiven s v t m → ((h : ℕ → ℕ) → weigh_given h b ≡ weigh_given h m) → ClaimsGiven s v t b
+pub claims_still : (s t : SeatState) (v m b : HandState) → ClaimsGiven s v t m →
+    ((h : ℕ → ℕ) → weigh_given h b ≡ weigh_given h m) → ClaimsGiven s v t b
 claims_still s t v m b (cells, e, less) same = (cells, e, λ h. omega (arith, less h, same h))
 
-pub claims_more : (s t u : SeatState) (v m b : HandState) (cell : ℕ) → ClaimsGiven s v t m → u.view.claimed ≡ t.view.claimed ++ cell ∷ [] → ((h : ℕ → ℕ) → weigh_given h b ≤ weigh_given h m + h cell)
+pub claims_more : (s t u : SeatState) (v m b : HandState) (cell : ℕ) → ClaimsGiven s v t m →
+    u.view.claimed ≡ t.view.claimed ++ cell ∷ [] → ((h : ℕ → ℕ) → weigh_given h b ≤ weigh_given h m + h cell)
     → ClaimsGiven s v u b
 claims_more s t u v m b cell (cells, e, less) claimed one = (
   cells ++ cell ∷ [],
@@ -101,7 +120,8 @@ claims_more s t u v m b cell (cells, e, less) claimed one = (
 )
 
 -- cells were published, and offered to the pool
-pub puts_more : (s t u : SeatState) (v m b n : HandState) (cells : List ℕ) → PutsPublished s v t m → b.sent ≡ m.sent → b.refused ≡ m.refused → u.view.published ≡ t.view.published ++ cells
+pub puts_more : (s t u : SeatState) (v m b n : HandState) (cells : List ℕ) → PutsPublished s v t m →
+    b.sent ≡ m.sent → b.refused ≡ m.refused → u.view.published ≡ t.view.published ++ cells
     → HasOffered b cells n → PutsPublished s v u n
 puts_more s t u v m b n cells before sent refused published offered few =
     let less = offered.refused in
@@ -113,14 +133,16 @@ puts_more s t u v m b n cells before sent refused published offered few =
     )
 
 -- one part of a worker's work after another
-pub claims_on : (s t u : SeatState) (v m n : HandState) → ClaimsGiven s v t m → ClaimsGiven t m u n → ClaimsGiven s v u n
+pub claims_on : (s t u : SeatState) (v m n : HandState) → ClaimsGiven s v t m →
+    ClaimsGiven t m u n → ClaimsGiven s v u n
 claims_on s t u v m n (xs, e, less) (ys, d, more) = (
   xs ++ ys,
   d ∙ ap (λ l. l ++ ys) e ∙ append_assoc s.view.claimed xs ys,
   λ h. omega (arith, less h, more h, weigh_append h xs ys),
 )
 
-pub puts_on : (s t u : SeatState) (v m n : HandState) → m.refused ≤ n.refused → PutsPublished s v t m → PutsPublished t m u n → PutsPublished s v u n
+pub puts_on : (s t u : SeatState) (v m n : HandState) → m.refused ≤ n.refused →
+    PutsPublished s v t m → PutsPublished t m u n → PutsPublished s v u n
 puts_on s t u v m n le before after few =
     let p = before (omega (arith, few, le)) in
     let q = after few in (

@@ -1,5 +1,7 @@
 -- Places of the table of partners, and the ports of the net that they stand for.
-use Rattle.std.proofs.Common.{◌≡◌, ℕ, zero, suc, ◌+◌, ◌-◌, ◌*◌, ◌/◌, ◌%◌, ◌<◌, ◌≤◌, Bool, true, false, nat_lt, lt-ltb, if◌then◌else◌, List, length, slice_index, inl, inr, refl, sym, ap, ◌∙◌, subst, arith}
+use Rattle.std.proofs.Common.{◌≡◌, ℕ, zero, suc, ◌+◌, ◌-◌, ◌*◌, ◌/◌, ◌%◌, ◌<◌, ◌≤◌, Bool, true}
+use Rattle.std.proofs.Common.{false, nat_lt, lt-ltb, if◌then◌else◌, List, length, slice_index, inl}
+use Rattle.std.proofs.Common.{inr, refl, sym, ap, ◌∙◌, subst, arith}
 use Rattle.std.proofs.lemmas.Bool.{cases_lt}
 use Rattle.std.proofs.lemmas.Bool.Decides.{nat_tests}
 use Rattle.ol_net.specs.declared.parts.Kind.{Kind}
@@ -33,7 +35,8 @@ port_high m a n s lt e =
     let f : nat_lt a m ≡ false = grind (arith, nat_tests) in
     let q : (a - m) / 3 ≡ n = omega (arith, e, lt) in
     let r : (a - m) % 3 ≡ s = omega (arith, e, lt) in
-    ap (λ b. if b then Free a else Of (record { 0 = (a - m) / 3 }) ((a - m) % 3)) f ∙ (λ j. Of (record { 0 = q j }) (r j))
+    ap (λ b. if b then Free a else Of (record { 0 = (a - m) / 3 }) ((a - m) % 3)) f
+    ∙ (λ j. Of (record { 0 = q j }) (r j))
 
 module _ (w : ClosedTable) (places numbers : List ℕ) (left : AreLeft w (ranks_in w) places numbers) where
   abbrev z : Parts
@@ -55,31 +58,55 @@ module _ (w : ClosedTable) (places numbers : List ℕ) (left : AreLeft w (ranks_
   numbered n lt =
       let t = left.each n lt in
       let p = name_placed z (events_in z w.words) t.0 t.1 in
-      let q : name n ≡ name_of_rank z t.0 = ap (name_at z) t.3 ∙ name_of_place z (name_of_rank z t.0) (wider z (name_of_rank z t.0) (events_in z w.words) z.fuel (events_few z w.words) p) in
-      record { placed = subst (IsPlaced z (events_in z w.words)) (sym q) p; is_left = subst (IsLeft w) (sym q) t.2; place = t.3 ∙ ap (place_of z) (sym q) }
+      let q : name n ≡ name_of_rank z t.0 = ap (name_at z) t.3
+      ∙ name_of_place z (name_of_rank z t.0)
+      (wider z (name_of_rank z t.0) (events_in z w.words) z.fuel (events_few z w.words) p) in
+      record {
+        placed = subst (IsPlaced z (events_in z w.words)) (sym q) p;
+        is_left = subst (IsLeft w) (sym q) t.2;
+        place = t.3 ∙ ap (place_of z) (sym q);
+      }
 
   pub names_rise : (j k : ℕ) → j < k → k < length places → comes_before (name j) (name k) ≡ true
   names_rise j k lt ltk =
       let a = numbered j (omega arith) in
       let b = numbered k ltk in
-      (place_order z (name j) (name k) (events_in z w.words) a.placed b.placed).1 (omega (arith, left.rising j k lt ltk, a.place, b.place))
+      (place_order z (name j) (name k) (events_in z w.words) a.placed b.placed).1
+      (omega (arith, left.rising j k lt ltk, a.place, b.place))
 
   pub one_name : (j k : ℕ) → j < length places → k < length places → name j ≡ name k → j ≡ k
   one_name j k ltj ltk e = elim (cases_lt j k) [
-    | inl a ↦ absurd (omega (arith, left.rising j k a ltk, (numbered j ltj).place, (numbered k ltk).place, ap (place_of z) e))
+    | inl a ↦ absurd (omega (
+      arith,
+      left.rising j k a ltk,
+      (numbered j ltj).place,
+      (numbered k ltk).place,
+      ap (place_of z) e,
+    ))
     | inr a ↦ elim (cases_lt k j) [
-      | inl b ↦ absurd (omega (arith, left.rising k j b ltj, (numbered j ltj).place, (numbered k ltk).place, ap (place_of z) e))
+      | inl b ↦ absurd (omega (
+        arith,
+        left.rising k j b ltj,
+        (numbered j ltj).place,
+        (numbered k ltk).place,
+        ap (place_of z) e,
+      ))
       | inr b ↦ omega (arith, a, b)
     ]
   ]
 
   -- a node that is left has a number
-  pub number_of : (x : NodeName) → IsPlaced z (events_in z w.words) x → IsLeft w x → (n : ℕ) × (n < length places) × (name n ≡ x)
+  pub number_of : (x : NodeName) → IsPlaced z (events_in z w.words) x → IsLeft w x →
+      (n : ℕ) × (n < length places) × (name n ≡ x)
   number_of x p l =
       let back = name_back z x (events_in z w.words) p in
       let t = left.found (rank_of z x) (rank_low z x (events_in z w.words) p) (subst (IsLeft w) (sym back) l) in
-      let n = slice_index numbers (rank_of z x) - 1 in
-      (n, omega (arith, t.0, t.1), ap (name_at z) (t.2 ∙ ap (place_of z) back) ∙ name_of_place z x (wider z x (events_in z w.words) z.fuel (events_few z w.words) p))
+      let n = slice_index numbers (rank_of z x) - 1 in (
+        n,
+        omega (arith, t.0, t.1),
+        ap (name_at z) (t.2 ∙ ap (place_of z) back)
+            ∙ name_of_place z x (wider z x (events_in z w.words) z.fuel (events_few z w.words) p),
+      )
 
   -- ---- the port at a place
 
@@ -96,7 +123,8 @@ module _ (w : ClosedTable) (places numbers : List ℕ) (left : AreLeft w (ranks_
   pub site : (a : ℕ) → a < z.free + 3 * length places → IsSite a
   site a lt = elim (cases_lt a z.free) [
     | inl b ↦ of_free b (port_free a b)
-    | inr b ↦ of_slot ((a - z.free) / 3) ((a - z.free) % 3) (omega (arith, lt, b)) (omega arith) (omega (arith, b)) (port_slot a ((a - z.free) / 3) ((a - z.free) % 3) (omega arith) (omega (arith, b)))
+    | inr b ↦ of_slot ((a - z.free) / 3) ((a - z.free) % 3) (omega (arith, lt, b)) (omega arith)
+        (omega (arith, b)) (port_slot a ((a - z.free) / 3) ((a - z.free) % 3) (omega arith) (omega (arith, b)))
   ]
 
   pub one_site : (a b : ℕ) → a < z.free + 3 * length places → b < z.free + 3 * length places → port a ≡ port b → a ≡ b
@@ -115,10 +143,16 @@ module _ (w : ClosedTable) (places numbers : List ℕ) (left : AreLeft w (ranks_
   -- ---- ports of the net
 
   module _ (N : NamedNet NodeName) (reached : ℕ → Bool) (s : WordsStandFor w N reached) where
-    pub site_of_node : (x : NodeName) (k : Kind) (i c : ℕ) → HasNode N x k i → c ≤ arity k → (n : ℕ) × (n < length places) × (name n ≡ x) × (port (z.free + 3 * n + c) ≡ slot x c)
+    pub site_of_node : (x : NodeName) (k : Kind) (i c : ℕ) → HasNode N x k i → c ≤ arity k →
+        (n : ℕ) × (n < length places) × (name n ≡ x) × (port (z.free + 3 * n + c) ≡ slot x c)
     site_of_node x k i c h le =
-        let t = number_of x (s.names x k i h) ((s.live x).0 (k, i, h)) in
-        (t.0, t.1, t.2, port_slot (z.free + 3 * t.0 + c) t.0 c (omega (arith, le, at_most_two k)) refl ∙ ap (λ y. slot y c) t.2)
+        let t = number_of x (s.names x k i h) ((s.live x).0 (k, i, h)) in (
+          t.0,
+          t.1,
+          t.2,
+          port_slot (z.free + 3 * t.0 + c) t.0 c
+              (omega (arith, le, at_most_two k)) refl ∙ ap (λ y. slot y c) t.2,
+        )
 
     -- each port of the net has a place
     pub site_of_port : (p : NamedPort NodeName) → IsPort N p → (a : ℕ) × (a < z.free + 3 * length places) × (port a ≡ p)

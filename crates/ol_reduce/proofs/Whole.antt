@@ -20,7 +20,10 @@ use Rattle.ol_reduce.proofs.TheNet.{is_frozen, frozen_same}
 use Rattle.ol_reduce.proofs.Bounded.{events_few}
 
 -- nothing is known at first
-pub fresh_partly : (w : ClosedTable) (places : List ℕ) (kinds : List (Kind × ℕ)) (partners : List ℕ) → length kinds ≡ length places → length partners ≡ w.plan.parts.free + 3 * length places → ((k : ℕ) → other partners k ≡ k) → IsPartly w places kinds partners
+pub fresh_partly : (w : ClosedTable) (places : List ℕ) (kinds : List (Kind × ℕ))
+    (partners : List ℕ) → length kinds ≡ length places →
+    length partners ≡ w.plan.parts.free + 3 * length places → ((k : ℕ) → other partners k ≡ k) →
+    IsPartly w places kinds partners
 fresh_partly w places kinds partners k p alone N reached s = record {
   kinds_long = k;
   partners_long = p;
@@ -29,8 +32,12 @@ fresh_partly w places kinds partners k p alone N reached s = record {
   known = λ a d. absurd (d (alone a));
 }
 
-module _ (w : ClosedTable) (places numbers : List ℕ) (left_are : AreLeft w (ranks_in w) places numbers) (told : Told w) (kinds : List (Kind × ℕ)) (partners : List ℕ)
-    (whole : IsPartly w places kinds partners) (cells : AreCelledTo w places partners (cells_of w.plan.parts)) (walked : (met : List ℕ) × AreMetTo w places partners met (length partners)) (free : ℕ) (same : free ≡ w.plan.parts.free) where
+module _ (w : ClosedTable) (places numbers : List ℕ)
+    (left_are : AreLeft w (ranks_in w) places numbers) (told : Told w) (kinds : List (Kind × ℕ)) (partners : List ℕ)
+    (whole : IsPartly w places kinds partners)
+    (cells : AreCelledTo w places partners (cells_of w.plan.parts))
+    (walked : (met : List ℕ) × AreMetTo w places partners met (length partners)) (free : ℕ)
+    (same : free ≡ w.plan.parts.free) where
   pub few : (length kinds ≤ 40000000) × (length partners < 400000000)
   few =
       let t = table_long w places numbers left_are told kinds partners whole in
@@ -39,13 +46,19 @@ module _ (w : ClosedTable) (places numbers : List ℕ) (left_are : AreLeft w (ra
   pub completed : IsFullDraft free kinds partners
   completed =
       subst (λ f. IsFullDraft f kinds partners) (sym same)
-      (is_complete w places numbers left_are told.0 (is_reached_in w) told.2 kinds partners walked.0 (whole told.0 (is_reached_in w) told.2) (walked.1 told.0 (is_reached_in w) told.2) (cells told.0 (is_reached_in w) told.2))
+      (is_complete w places numbers left_are told.0 (is_reached_in w) told.2 kinds partners walked.0
+      (whole told.0 (is_reached_in w) told.2) (walked.1 told.0 (is_reached_in w) told.2)
+      (cells told.0 (is_reached_in w) told.2))
 
-  pub built : (one : (M N : NamedNet NodeName) → IsAfter w M → IsAfter w N → SameNet M N) → (g : Graph) → Builds frozen_top free kinds (links_below free partners (length partners)) g → (net : NamedNet NodeName) → IsAfter w net → IsFrozen net g
+  pub built : (one : (M N : NamedNet NodeName) → IsAfter w M → IsAfter w N → SameNet M N) →
+      (g : Graph) → Builds frozen_top free kinds (links_below free partners (length partners)) g →
+      (net : NamedNet NodeName) → IsAfter w net → IsFrozen net g
   built one g b net h =
       let b' = subst (λ f. Builds frozen_top f kinds (links_below f partners (length partners)) g) same b in
       frozen_same told.0 net g (one told.0 net told.1 h)
-      (is_frozen w places numbers left_are told.0 (is_reached_in w) told.2 kinds partners walked.0 (whole told.0 (is_reached_in w) told.2) (walked.1 told.0 (is_reached_in w) told.2) (cells told.0 (is_reached_in w) told.2) g b')
+      (is_frozen w places numbers left_are told.0 (is_reached_in w) told.2 kinds partners walked.0
+      (whole told.0 (is_reached_in w) told.2) (walked.1 told.0 (is_reached_in w) told.2)
+      (cells told.0 (is_reached_in w) told.2) g b')
 
 pub map_ok : {A E : Type 0} (P Q : A → Type 0) (r : Result A E) → ((x : A) → P x → Q x) → IfOk r P → IfOk r Q
 map_ok P Q (Ok x) f h = f x h

@@ -3,7 +3,8 @@ use Rattle.std.proofs.Common.{◌≡◌, ℕ, ◌+◌, ◌-◌, ◌*◌, ◌/◌
 use Rattle.std.proofs.lemmas.Bool.{cases_lt}
 use Rattle.ol_edges.proofs.Lists.{if_below, if_above}
 use Rattle.ol_wire.specs.declared.layout.Parts.{Parts}
-use Rattle.ol_wire.specs.Layout.{WordPart, ticket, live_word, port, field, wire, between, left, right, entry, past, part_of_word, start_wire, start_cell, block}
+use Rattle.ol_wire.specs.Layout.{WordPart, ticket, live_word, port, field, wire, between, left}
+use Rattle.ol_wire.specs.Layout.{right, entry, past, part_of_word, start_wire, start_cell, block}
 use Rattle.ol_wire.specs.Standing.{IsWirePart}
 use Rattle.ol_wire.proofs.InWords.Places.{is_wire, is_between}
 use Rattle.ol_reduce.specs.Found.{wire_word, IsStartWire, IsBornWire}
@@ -37,17 +38,26 @@ module _ (z : Parts) where
 
   -- the number of a word, as the code finds it
   pub start_number : (n : ℕ) → start_wire z 0 ≤ n → n < start_cell z 0 → wire_word z (n - start_wire z 0) ≡ n
-  start_number n ge lt = low_word (n - start_wire z 0) (omega (arith, ge, lt)) ∙ (let e : start_wire z (n - start_wire z 0) ≡ n = omega (arith, ge) in e)
+  start_number n ge lt = low_word (n - start_wire z 0) (omega (arith, ge, lt))
+      ∙ (let e : start_wire z (n - start_wire z 0) ≡ n = omega (arith, ge) in e)
 
-  pub born_number : (n : ℕ) → IsBornWire z n → wire_word z (z.wires + 4 * ((n - block z 0) / 22) + ((n - block z 0) % 22 - 10)) ≡ n
+  pub born_number : (n : ℕ) → IsBornWire z n →
+      wire_word z (z.wires + 4 * ((n - block z 0) / 22) + ((n - block z 0) % 22 - 10)) ≡ n
   born_number n h =
       let k = z.wires + 4 * ((n - block z 0) / 22) + ((n - block z 0) % 22 - 10) in
-      high_word k (omega arith) ∙ (let e : block z ((k - z.wires) / 4) + 10 + (k - z.wires) % 4 ≡ n = omega (arith, h.0, h.2, h.3) in e)
+      high_word k (omega arith) ∙ (let e : block z ((k - z.wires) / 4) + 10 +
+      (k - z.wires) % 4 ≡ n = omega (arith, h.0, h.2, h.3) in e)
 
   -- where a wire's word stands
   pub wire_spot : (n : ℕ) (p : WordPart) → part_of_word z n ≡ p → IsWirePart p → IsStartWire z n ⊎ IsBornWire z n
   wire_spot n (wire j) e h = let t = is_wire z n j e in inl (omega (arith, t.1), omega (arith, t.0, t.1))
-  wire_spot n (between t q p) e h = let d = is_between z n t q p e in inr (omega (arith, d.3), omega (arith, d.0, d.1, d.2, d.3), omega (arith, d.1, d.2, d.3), omega (arith, d.1, d.2, d.3))
+  wire_spot n (between t q p) e h = let d = is_between z n t q p e in
+      inr (
+        omega (arith, d.3),
+        omega (arith, d.0, d.1, d.2, d.3),
+        omega (arith, d.1, d.2, d.3),
+        omega (arith, d.1, d.2, d.3),
+      )
   wire_spot n ticket e h = absurd h
   wire_spot n live_word e h = absurd h
   wire_spot n (port k) e h = absurd h

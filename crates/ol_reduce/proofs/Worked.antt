@@ -1,5 +1,6 @@
 -- The parts of a worker's work, one after the other.
-use Rattle.std.proofs.Common.{◌≡◌, ℕ, ◌+◌, ◌≤◌, [], ◌∷◌, ◌++◌, Bool, true, false, ◌||◌, Option, None, Some, refl, sym, ap, ◌∙◌, subst, arith}
+use Rattle.std.proofs.Common.{◌≡◌, ℕ, ◌+◌, ◌≤◌, [], ◌∷◌, ◌++◌, Bool, true, false, ◌||◌, Option}
+use Rattle.std.proofs.Common.{None, Some, refl, sym, ap, ◌∙◌, subst, arith}
 use Rattle.std.proofs.lemmas.List.{append-nil}
 use Rattle.ol_pool.specs.Pools.{HandState, PoolState, IsHandOf as IsOfPool}
 use Rattle.ol_pool.specs.Weights.{weigh_given, weigh_parts}
@@ -14,7 +15,8 @@ use Rattle.ol_reduce.specs.Worked.{HasWorked, rested, turned, looked}
 use Rattle.ol_reduce.specs.Working.{ClaimsGiven, PutsPublished}
 use Rattle.ol_reduce.specs.Offered.{HasOffered}
 use Rattle.ol_reduce.specs.Works.{HasTurnedOn, HasKept, HasAsked, GoesOn}
-use Rattle.ol_reduce.proofs.Offering.{offered_none, claims_first, puts_first, claims_still, claims_more, puts_more, claims_on, puts_on}
+use Rattle.ol_reduce.proofs.Offering.{offered_none, claims_first, puts_first, claims_still}
+use Rattle.ol_reduce.proofs.Offering.{claims_more, puts_more, claims_on, puts_on}
 
 -- ---- turns and looks
 
@@ -24,13 +26,15 @@ worked_on z u v n a (turned {m = m} c t w turn other) = turned {m = m} c t (work
 worked_on z u v n a (looked {m = m} word w listened) = looked {m = m} word (worked_on z u v m a w) listened
 
 -- work after work
-pub ended_on : (b : TableState) (u v : SeatState) (n : Worker) (r : Option End) → HasWorked b.plan.parts u.view v.view → GoesOn b v r n → GoesOn b u r n
+pub ended_on : (b : TableState) (u v : SeatState) (n : Worker) (r : Option End) →
+    HasWorked b.plan.parts u.view v.view → GoesOn b v r n → GoesOn b u r n
 ended_on b u v n None w g = worked_on b.plan.parts u.view v.view n.seat.view w g
 ended_on b u v n (Some Quiet) w (q, missed) = ((q.0, q.1, worked_on b.plan.parts u.view v.view q.0 w q.2, q.3), missed)
 ended_on b u v n (Some Spent) w g = (g.0, g.1, worked_on b.plan.parts u.view v.view g.0 w g.2, g.3)
 
 -- a look, after such work
-pub asked_on : (b : TableState) (u v : SeatState) (n : Worker) (r : Option End) → HasWorked b.plan.parts u.view v.view → HasAsked v r n.seat → n.hand.missed ≡ true → GoesOn b u r n
+pub asked_on : (b : TableState) (u v : SeatState) (n : Worker) (r : Option End) →
+    HasWorked b.plan.parts u.view v.view → HasAsked v r n.seat → n.hand.missed ≡ true → GoesOn b u r n
 asked_on b u v n None w a missed = looked {m = v.view} a.0 w a.1
 asked_on b u v n (Some Quiet) w a missed = ((v.view, a.0, w, a.1), missed)
 asked_on b u v n (Some Spent) w a missed = absurd a
@@ -60,7 +64,8 @@ kept_on b p u v n k l = record {
 }
 
 -- a turn on a cell that the hand was given
-pub kept_turn : (b : TableState) (p : PoolState) (u v n : Worker) (c : ℕ) → v.seat ≡ u.seat → v.number ≡ u.number → IsOfPool v.hand p → v.hand.sent ≡ u.hand.sent → v.hand.refused ≡ u.hand.refused
+pub kept_turn : (b : TableState) (p : PoolState) (u v n : Worker) (c : ℕ) → v.seat ≡ u.seat →
+    v.number ≡ u.number → IsOfPool v.hand p → v.hand.sent ≡ u.hand.sent → v.hand.refused ≡ u.hand.refused
     → ((h : ℕ → ℕ) → weigh_given h v.hand ≤ weigh_given h u.hand + h c) → HasTurnedOn b v c n → HasKept b p u n
 kept_turn b p u v n c seat number hand sent refused weighs t =
     let parts = t.offered.parts in record {
@@ -69,17 +74,23 @@ kept_turn b p u v n c seat number hand sent refused weighs t =
       number = t.number ∙ number;
       holds = t.holds ∙ ap (λ (s : SeatState). s.view.holds) seat;
       refused = let r = t.offered.refused in omega (arith, r, refused);
-      claimed = claims_more u.seat u.seat n.seat u.hand u.hand n.hand c (claims_first u.seat u.hand) (t.claimed ∙ ap (λ (s : SeatState). s.view.claimed ++ c ∷ []) seat)
+      claimed = claims_more u.seat u.seat n.seat u.hand u.hand n.hand c (claims_first u.seat u.hand)
+          (t.claimed ∙ ap (λ (s : SeatState). s.view.claimed ++ c ∷ []) seat)
           (λ h. let f = ap (λ l. weigh_parts h l) parts in let w = weighs h in omega (arith, f, w));
-      put = puts_more u.seat u.seat n.seat u.hand u.hand v.hand n.hand t.cells (puts_first u.seat u.hand) sent refused (t.published ∙ ap (λ (s : SeatState). s.view.published ++ t.cells) seat) t.offered;
+      put = puts_more u.seat u.seat n.seat u.hand u.hand v.hand n.hand t.cells
+          (puts_first u.seat u.hand) sent refused
+          (t.published ∙ ap (λ (s : SeatState). s.view.published ++ t.cells) seat) t.offered;
     }
 
 -- a turn on a cell of the round
-pub kept_own_turn : (b : TableState) (p : PoolState) (v n : Worker) (c : ℕ) → IsOfPool v.hand p → HasTurnedOn b v c n → HasKept b p v n
+pub kept_own_turn : (b : TableState) (p : PoolState) (v n : Worker) (c : ℕ) → IsOfPool v.hand p →
+    HasTurnedOn b v c n → HasKept b p v n
 kept_own_turn b p v n c hand t = kept_turn b p v v n c refl refl hand refl refl (λ h. omega arith) t
 
 -- a take that gave no cell
-pub kept_missed : (b : TableState) (p : PoolState) (u v : Worker) → v.seat ≡ u.seat → v.number ≡ u.number → IsSeatOf b v.seat → IsOfPool v.hand p → v.hand.sent ≡ u.hand.sent → v.hand.refused ≡ u.hand.refused
+pub kept_missed : (b : TableState) (p : PoolState) (u v : Worker) → v.seat ≡ u.seat →
+    v.number ≡ u.number → IsSeatOf b v.seat → IsOfPool v.hand p → v.hand.sent ≡ u.hand.sent →
+    v.hand.refused ≡ u.hand.refused
     → ((h : ℕ → ℕ) → weigh_given h v.hand ≡ weigh_given h u.hand) → HasKept b p u v
 kept_missed b p u v seat number of hand sent refused weighs = record {
   seat = of;
@@ -87,9 +98,11 @@ kept_missed b p u v seat number of hand sent refused weighs = record {
   number = number;
   holds = ap (λ (s : SeatState). s.view.holds) seat;
   refused = omega (arith, refused);
-  claimed = subst (λ (s : SeatState). ClaimsGiven u.seat u.hand s v.hand) (sym seat) (claims_still u.seat u.seat u.hand u.hand v.hand (claims_first u.seat u.hand) weighs);
+  claimed = subst (λ (s : SeatState). ClaimsGiven u.seat u.hand s v.hand) (sym seat)
+      (claims_still u.seat u.seat u.hand u.hand v.hand (claims_first u.seat u.hand) weighs);
   put = subst (λ (s : SeatState). PutsPublished u.seat u.hand s v.hand) (sym seat)
-      (puts_more u.seat u.seat u.seat u.hand u.hand v.hand v.hand [] (puts_first u.seat u.hand) sent refused (sym (append-nil u.seat.view.published)) (offered_none v.hand));
+      (puts_more u.seat u.seat u.seat u.hand u.hand v.hand v.hand []
+      (puts_first u.seat u.hand) sent refused (sym (append-nil u.seat.view.published)) (offered_none v.hand));
 }
 
 -- a look
@@ -98,7 +111,9 @@ seen v n None a = (a.0, a.1.0)
 seen v n (Some Quiet) a = (a.0, a.1.0)
 seen v n (Some Spent) a = absurd a
 
-pub kept_asked : (b : TableState) (p : PoolState) (v n : Worker) (r : Option End) → IsSeatOf b n.seat → IsOfPool v.hand p → n.hand ≡ v.hand → n.number ≡ v.number → HasAsked v.seat r n.seat → HasKept b p v n
+pub kept_asked : (b : TableState) (p : PoolState) (v n : Worker) (r : Option End) →
+    IsSeatOf b n.seat → IsOfPool v.hand p → n.hand ≡ v.hand → n.number ≡ v.number →
+    HasAsked v.seat r n.seat → HasKept b p v n
 kept_asked b p v n r of hand same number a =
     let view = (seen v.seat n.seat r a).1 in
     let claimed = ap (λ (x : View). x.claimed) view in
@@ -108,8 +123,10 @@ kept_asked b p v n r of hand same number a =
       number = number;
       holds = ap (λ (x : View). x.holds) view;
       refused = let e = ap (λ (h : HandState). h.refused) same in omega (arith, e);
-      claimed = subst (λ (h : HandState). ClaimsGiven v.seat v.hand n.seat h) (sym same) ([], claimed ∙ sym (append-nil v.seat.view.claimed), λ h. omega arith);
-      put = puts_more v.seat v.seat n.seat v.hand v.hand v.hand n.hand [] (puts_first v.seat v.hand) refl refl (published ∙ sym (append-nil v.seat.view.published))
+      claimed = subst (λ (h : HandState). ClaimsGiven v.seat v.hand n.seat h) (sym same)
+          ([], claimed ∙ sym (append-nil v.seat.view.claimed), λ h. omega arith);
+      put = puts_more v.seat v.seat n.seat v.hand v.hand v.hand n.hand []
+          (puts_first v.seat v.hand) refl refl (published ∙ sym (append-nil v.seat.view.published))
           (subst (λ (h : HandState). HasOffered v.hand [] h) (sym same) (offered_none v.hand));
     }
 
@@ -119,10 +136,13 @@ or_true : (b : Bool) → (b || true) ≡ true
 or_true true = refl
 or_true false = refl
 
-pub any_settled : (a b : Bool) (v w n : View) → n ≡ joined v w → (a ≡ true → v.settled ≡ true) → (b ≡ true → w.settled ≡ true) → (a || b) ≡ true → n.settled ≡ true
+pub any_settled : (a b : Bool) (v w n : View) → n ≡ joined v w → (a ≡ true → v.settled ≡ true) →
+    (b ≡ true → w.settled ≡ true) → (a || b) ≡ true → n.settled ≡ true
 any_settled true b v w n e one other h = ap (λ (x : View). x.settled) e ∙ ap (λ x. x || w.settled) (one refl)
-any_settled false b v w n e one other h = ap (λ (x : View). x.settled) e ∙ ap (λ x. v.settled || x) (other h) ∙ or_true v.settled
+any_settled false b v w n e one other h = ap (λ (x : View). x.settled) e
+    ∙ ap (λ x. v.settled || x) (other h) ∙ or_true v.settled
 
-pub all_over : (a b : Bool) (v w n : View) → n ≡ joined v w → (a ≡ false → v.over ≡ true) → (b ≡ false → w.over ≡ true) → (a || b) ≡ false → n.over ≡ true
+pub all_over : (a b : Bool) (v w n : View) → n ≡ joined v w → (a ≡ false → v.over ≡ true) →
+    (b ≡ false → w.over ≡ true) → (a || b) ≡ false → n.over ≡ true
 all_over true b v w n e one other h = absurd (cc)
 all_over false b v w n e one other h = ap (λ (x : View). x.over) e ∙ ap (λ x. x || w.over) (one refl)

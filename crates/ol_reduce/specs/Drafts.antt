@@ -14,7 +14,8 @@ frozen_top = 100000000
 
 -- the link of place k and its partner, where k is the lower one
 abbrev pub link_row : ℕ → List ℕ → ℕ → List (Port × Port)
-link_row free partners k = if nat_lt k (other partners k) then (port_at free k, port_at free (other partners k)) ∷ [] else []
+link_row free partners k = if nat_lt k (other partners k) then
+    (port_at free k, port_at free (other partners k)) ∷ [] else []
 
 abbrev pub links_below : ℕ → List ℕ → ℕ → List (Port × Port)
 links_below free partners n = each n (link_row free partners)

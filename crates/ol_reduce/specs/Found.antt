@@ -1,5 +1,7 @@
 -- Private: what is known of a net while its links are found in the words of a closed table.
-use Rattle.std.specs.Prelude.{◌≡◌, ◌≢◌, ℕ, suc, ◌+◌, ◌-◌, ◌*◌, ◌/◌, ◌%◌, ◌<◌, ◌≤◌, nat_lt, if◌then◌else◌, Bool, true, List, length, slice_index, slice_index_or, ◌⊎◌}
+use Rattle.std.specs.Prelude.{◌≡◌, ◌≢◌, ℕ, suc, ◌+◌, ◌-◌, ◌*◌, ◌/◌, ◌%◌, ◌<◌, ◌≤◌, nat_lt}
+use Rattle.std.specs.Prelude.{if◌then◌else◌, Bool, true, List, length, slice_index, slice_index_or}
+use Rattle.std.specs.Prelude.{◌⊎◌}
 use Rattle.ol_net.specs.declared.parts.Kind.{Kind}
 use Rattle.ol_net.specs.declared.parts.Kind.TheVariants.{Eraser}
 use Rattle.ol_net.specs.Nets.{NamedPort, slot, NamedNet, HasNode, Linked, port_under}
@@ -33,7 +35,8 @@ IsKnown w net places kinds a = (n : ℕ) → n < length places → a ≡ w.plan.
     → HasNode net (name_of w.plan.parts places n) (kind_of kinds n).0 (kind_of kinds n).1
 
 -- What partners are known are linked in the net, and of slots 0 that have one the kind is known.
-pub record IsPartial (w : ClosedTable) (net : NamedNet NodeName) (places : List ℕ) (kinds : List (Kind × ℕ)) (partners : List ℕ) : Type 0 where
+pub record IsPartial (w : ClosedTable) (net : NamedNet NodeName) (places : List ℕ)
+    (kinds : List (Kind × ℕ)) (partners : List ℕ) : Type 0 where
   pub kinds_long : length kinds ≡ length places
   pub partners_long : length partners ≡ w.plan.parts.free + 3 * length places
   pub paired : IsPaired (other partners)
@@ -58,8 +61,10 @@ WaitsAt w net reached met a e = (k : ℕ) × (reached (wire_word w.plan.parts k)
     × (slice_index w.words (wire_word w.plan.parts k) ≡ 0)
     × LeadsTo w net reached e (wire_ref (wire_word w.plan.parts k)) × (slice_index met k ≡ a + 1)
 
--- `met` has a place for each wire. Of the ports at places below n, each that owns a word has a partner or waits for one.
-pub record AreMet (w : ClosedTable) (net : NamedNet NodeName) (reached : ℕ → Bool) (places partners met : List ℕ) (n : ℕ) : Type 0 where
+-- `met` has a place for each wire. Of the ports at places below n, each that owns a word has a
+-- partner or waits for one.
+pub record AreMet (w : ClosedTable) (net : NamedNet NodeName) (reached : ℕ → Bool)
+    (places partners met : List ℕ) (n : ℕ) : Type 0 where
   pub came : (k : ℕ) → slice_index met k ≢ 0
       → (a : ℕ) × (e : ℕ) × (slice_index met k ≡ a + 1) × (a < n)
       × IsEnd w.plan.parts net (port_of w.plan.parts places a) e
@@ -68,7 +73,8 @@ pub record AreMet (w : ClosedTable) (net : NamedNet NodeName) (reached : ℕ →
       → OwnsWord w net reached m e → (other partners a ≢ a) ⊎ WaitsAt w net reached met a e
 
 -- the word of the port at place a, if it has one
-pub record IsWordOf (w : ClosedTable) (net : NamedNet NodeName) (reached : ℕ → Bool) (places : List ℕ) (a n : ℕ) : Type 0 where
+pub record IsWordOf (w : ClosedTable) (net : NamedNet NodeName) (reached : ℕ → Bool)
+    (places : List ℕ) (a n : ℕ) : Type 0 where
   pub only : (e m : ℕ) → IsEnd w.plan.parts net (port_of w.plan.parts places a) e → OwnsWord w net reached m e → m ≡ n
   pub owned : slice_index w.words n ≢ 0
       → (e : ℕ) × IsEnd w.plan.parts net (port_of w.plan.parts places a) e

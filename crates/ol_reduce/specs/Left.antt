@@ -1,5 +1,7 @@
--- Private: the nodes that are left, and their numbers. Ranks have the order of places: first the start nodes, and then four for each ticket.
-use Rattle.std.specs.Prelude.{◌≡◌, ℕ, ◌+◌, ◌-◌, ◌*◌, ◌/◌, ◌%◌, ◌<◌, ◌≤◌, nat_lt, if◌then◌else◌, Bool, true, List, length, slice_index, slice_get, Some, ◌⊎◌, ◌↔◌}
+-- Private: the nodes that are left, and their numbers. Ranks have the order of places: first the
+-- start nodes, and then four for each ticket.
+use Rattle.std.specs.Prelude.{◌≡◌, ℕ, ◌+◌, ◌-◌, ◌*◌, ◌/◌, ◌%◌, ◌<◌, ◌≤◌, nat_lt, if◌then◌else◌}
+use Rattle.std.specs.Prelude.{Bool, true, List, length, slice_index, slice_get, Some, ◌⊎◌, ◌↔◌}
 use Rattle.ol_rules.specs.declared.journal.NodeName.{NodeName}
 use Rattle.ol_rules.specs.declared.journal.NodeName.TheVariants.{Init, Born}
 use Rattle.ol_rules.specs.declared.journal.Entry.{Entry}
@@ -34,7 +36,8 @@ pub record AreMarked (w : ClosedTable) (t : ℕ) (marks : List Bool) : Type 0 wh
   pub marked : (x : NodeName) → IsPlaced w.plan.parts (events_in w.plan.parts w.words) x
       → (slice_get marks (rank_of w.plan.parts x) ≡ Some true) ↔ IsNamedBefore w t x
 
--- The places of the nodes that are left, of those of the first n ranks, in order. `numbers` has a place for each rank: there 1 more than the
+-- The places of the nodes that are left, of those of the first n ranks, in order. `numbers` has a
+-- place for each rank: there 1 more than the
 -- number of the node, where it is left.
 pub record AreLeft (w : ClosedTable) (n : ℕ) (places numbers : List ℕ) : Type 0 where
   pub long : length numbers ≡ ranks_in w

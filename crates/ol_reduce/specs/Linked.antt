@@ -1,5 +1,7 @@
--- Private: what the steps that find a net's links ask and leave: of the words, the nodes that are left, and the net so far.
-use Rattle.std.specs.Prelude.{◌≡◌, ◌≢◌, ℕ, ◌+◌, ◌-◌, ◌*◌, ◌<◌, List, length, slice_index, slice_set, Bool, if◌then◌else◌, ◌++◌, [], ◌∷◌}
+-- Private: what the steps that find a net's links ask and leave: of the words, the nodes that are
+-- left, and the net so far.
+use Rattle.std.specs.Prelude.{◌≡◌, ◌≢◌, ℕ, ◌+◌, ◌-◌, ◌*◌, ◌<◌, List, length, slice_index, slice_set}
+use Rattle.std.specs.Prelude.{Bool, if◌then◌else◌, ◌++◌, [], ◌∷◌}
 use Rattle.ol_net.specs.Linking.{linked}
 use Rattle.ol_wire.specs.Layout.{cells_of}
 use Rattle.ol_wire.specs.Closed.{ClosedTable}
@@ -18,10 +20,12 @@ AreLeftTo w t live = AreLeft w (w.plan.parts.nodes + 4 * t) live.places.items li
 
 -- one rank more, whose node has this place if it is left
 abbrev pub AddsPlace : Live → Bool → ℕ → Live → Type 0
-AddsPlace old is_left place new = new.places.items ≡ (if is_left then old.places.items ++ place ∷ [] else old.places.items)
+AddsPlace old is_left place new = new.places.items ≡
+    (if is_left then old.places.items ++ place ∷ [] else old.places.items)
 
 abbrev pub AddsNumber : Live → Bool → ℕ → Live → Type 0
-AddsNumber old is_left rank new = new.numbers.items ≡ (if is_left then slice_set old.numbers.items rank (length old.places.items + 1) else old.numbers.items)
+AddsNumber old is_left rank new = new.numbers.items ≡
+    (if is_left then slice_set old.numbers.items rank (length old.places.items + 1) else old.numbers.items)
 
 -- what is known of the net is right
 abbrev pub IsRight : ClosedTable → Live → Draft → Type 0

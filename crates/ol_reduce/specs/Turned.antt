@@ -13,7 +13,8 @@ use Rattle.ol_wire.specs.Stand.{TableState}
 abbrev pub cells_below : ℕ → List ℕ
 cells_below n = each n (λ c. c ∷ [])
 
--- One turn on cell c of a table with these parts led from v to n and answered t: n shows the cause of this answer, and is what it leaves of v.
+-- One turn on cell c of a table with these parts led from v to n and answered t: n shows the cause
+-- of this answer, and is what it leaves of v.
 pub record IsTurn (z : Parts) (v : View) (c : ℕ) (t : Turn) (n : View) : Type 0 where
   pub within : c < cells_of z
   pub cause : HasCause t n

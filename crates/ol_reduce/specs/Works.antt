@@ -27,7 +27,8 @@ IsPadded Is padded = Is (padded_value padded)
 
 -- its work is done: it found that no active pair is left, or that the fuel is used up
 abbrev pub IsEnded : TableState → Worker → Type 0
-IsEnded b w = IsSeated b w × (w.is_quiet ≡ true → w.seat.view.settled ≡ true) × (w.is_quiet ≡ false → w.seat.view.over ≡ true)
+IsEnded b w = IsSeated b w × (w.is_quiet ≡ true → w.seat.view.settled ≡ true)
+    × (w.is_quiet ≡ false → w.seat.view.over ≡ true)
 
 -- its seat is of this table and its hand of this pool, which is for the cells of the table
 abbrev pub IsAtWork : TableState → PoolState → Worker → Type 0

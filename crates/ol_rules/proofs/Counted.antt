@@ -1,5 +1,6 @@
 -- The counts of a journal, entry by entry.
-use Rattle.std.proofs.Common.{◌≡◌, ℕ, suc, ◌+◌, ◌<◌, ◌≤◌, Bool, true, false, List, length, get_or, sym, ap, ◌∙◌, refl, arith}
+use Rattle.std.proofs.Common.{◌≡◌, ℕ, suc, ◌+◌, ◌<◌, ◌≤◌, Bool, true, false, List, length, get_or}
+use Rattle.std.proofs.Common.{sym, ap, ◌∙◌, refl, arith}
 use Rattle.std.specs.Prelude.{take, count_by}
 use Rattle.std.proofs.lemmas.List.{length-take-le}
 use Rattle.std.proofs.lemmas.List.Sums.{count_by-le-length, count_by_more_yes, count_by_more_no}
@@ -11,14 +12,24 @@ use Rattle.ol_rules.specs.Counting.{is_rule, times_applied, counts_of}
 use Rattle.ol_rules.specs.Counted.{one_if, counted, HaveRoom}
 
 module _ (j : List Entry) (k : ℕ) where
-  one_more : (e : Entry) (r : Rule) → k < length j → e ≡ get_or j k e → times_applied r (take (k + 1) j) ≡ times_applied r (take k j) + one_if (is_rule e.rule r)
+  one_more : (e : Entry) (r : Rule) → k < length j → e ≡ get_or j k e →
+      times_applied r (take (k + 1) j) ≡ times_applied r (take k j) + one_if (is_rule e.rule r)
   one_more e r lt got = go (is_rule e.rule r) refl
     where
-      go : (b : Bool) → is_rule e.rule r ≡ b → times_applied r (take (k + 1) j) ≡ times_applied r (take k j) + one_if (is_rule e.rule r)
-      go true q = count_by_more_yes (λ (e : Entry). is_rule e.rule r) j k e lt (ap (λ (e : Entry). is_rule e.rule r) (sym got) ∙ q) ∙ ap (λ b. times_applied r (take k j) + one_if b) (sym q)
-      go false q = (let same : times_applied r (take (k + 1) j) ≡ times_applied r (take k j) + one_if false = omega (arith, count_by_more_no (λ (e : Entry). is_rule e.rule r) j k e lt (ap (λ (e : Entry). is_rule e.rule r) (sym got) ∙ q)) in same) ∙ ap (λ b. times_applied r (take k j) + one_if b) (sym q)
+      go : (b : Bool) → is_rule e.rule r ≡ b →
+          times_applied r (take (k + 1) j) ≡ times_applied r (take k j) + one_if (is_rule e.rule r)
+      go true q = count_by_more_yes (λ (e : Entry). is_rule e.rule r) j k e lt
+          (ap (λ (e : Entry). is_rule e.rule r) (sym got) ∙ q) ∙ ap (λ b. times_applied r (take k j) + one_if b) (sym q)
+      go false q = (let same : times_applied r (take (k + 1) j) ≡ times_applied r
+          (take k j) + one_if false = omega (
+            arith,
+            count_by_more_no (λ (e : Entry). is_rule e.rule r) j k e lt
+                (ap (λ (e : Entry). is_rule e.rule r) (sym got) ∙ q),
+          ) in same)
+          ∙ ap (λ b. times_applied r (take k j) + one_if b) (sym q)
 
-  pub more_counted : (e : Entry) (told : Counts) → k < length j → e ≡ get_or j k e → told ≡ counts_of (take k j) → counted told e.rule ≡ counts_of (take (k + 1) j)
+  pub more_counted : (e : Entry) (told : Counts) → k < length j → e ≡ get_or j k e →
+      told ≡ counts_of (take k j) → counted told e.rule ≡ counts_of (take (k + 1) j)
   more_counted e told lt got is = ap (λ c. counted c e.rule) is ∙ sym (λ i. record {
     beta = one_more e rule.Beta lt got i;
     fan = one_more e rule.Fan lt got i;
@@ -43,4 +54,8 @@ module _ (j : List Entry) (k : ℕ) where
   )
     where
       few : (r : Rule) → times_applied r (take k j) ≤ k
-      few r = omega (arith, count_by-le-length (λ (e : Entry). is_rule e.rule r) (take k j), length-take-le k j (omega (arith, lt)))
+      few r = omega (
+        arith,
+        count_by-le-length (λ (e : Entry). is_rule e.rule r) (take k j),
+        length-take-le k j (omega (arith, lt)),
+      )

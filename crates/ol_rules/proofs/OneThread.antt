@@ -1,5 +1,7 @@
 -- A run on its way is a one-thread run where it ends.
-use Rattle.std.proofs.Common.{◌≡◌, ◌≢◌, ℕ, ◌+◌, ◌-◌, ◌<◌, ◌≤◌, List, [], ◌∷◌, ◌++◌, length, length-append, Option, Some, None, ◌⊎◌, inl, inr, sym, subst, arith, MatchOption, Result, Ok, Err, OnErr, IsSome, ◌↔◌}
+use Rattle.std.proofs.Common.{◌≡◌, ◌≢◌, ℕ, ◌+◌, ◌-◌, ◌<◌, ◌≤◌, List, [], ◌∷◌, ◌++◌, length}
+use Rattle.std.proofs.Common.{length-append, Option, Some, None, ◌⊎◌, inl, inr, sym, subst, arith}
+use Rattle.std.proofs.Common.{MatchOption, Result, Ok, Err, OnErr, IsSome, ◌↔◌}
 use Rattle.ol_net.specs.declared.parts.Rule.{Rule}
 use Rattle.ol_net.specs.declared.parts.NodeId.{NodeId}
 use Rattle.ol_net.specs.Graph.{Graph}
@@ -34,36 +36,57 @@ some_active g at partner l = go l.active
     go (y, inr a) = (y, at, l.rule, a)
 
 pub partner_below : (g : Graph) → IsNet (net_of g) → (at partner : ℕ) → IsLeast g at partner → partner < length g.nodes
-partner_below g n at partner l = let p = (n.of_ports (slot at 0) (slot partner 0) l.linked).1 in node_below g partner p.0 p.1 p.2
+partner_below g n at partner l = let p = (n.of_ports (slot at 0) (slot partner 0) l.linked).1 in
+    node_below g partner p.0 p.1 p.2
 
 pub step_few : (g g' : Graph) (at : ℕ) (r : Rule) → StepsAt g g' at r → length g'.nodes ≤ length g.nodes + 4
 step_few g g' at r s = let q = s.numbers in let b = births_few r s.step.active.k s.step.active.l in omega arith
 
 -- what a node's principal port is joined to is its partner, where it has one
-pub partner_of_active : (g : Graph) → IsNet (net_of g) → (at : ℕ) (r : Rule) → IsInActive (net_of g) at r → (o : Option NodeId) →
-    MatchOption o ((x : ℕ) → Linked (net_of g) (slot x 0) (slot at 0) → ⊥) (λ n. (x : ℕ) → Linked (net_of g) (slot x 0) (slot at 0) → x ≡ n.0) →
+pub partner_of_active : (g : Graph) → IsNet (net_of g) → (at : ℕ) (r : Rule) →
+    IsInActive (net_of g) at r → (o : Option NodeId) →
+    MatchOption o ((x : ℕ) → Linked (net_of g) (slot x 0) (slot at 0) → ⊥)
+    (λ n. (x : ℕ) → Linked (net_of g) (slot x 0) (slot at 0) → x ≡ n.0) →
     MatchOption o ((r : Rule) → IsInActive (net_of g) at r → ⊥) (λ n. HasPartner g at n.0)
-partner_of_active g n at r (y, inl a) None h = absurd (h y (linked_sym (net_of g) (slot at 0) (slot y 0) a.faces.linked))
+partner_of_active g n at r (y, inl a) None h = absurd
+    (h y (linked_sym (net_of g) (slot at 0) (slot y 0) a.faces.linked))
 partner_of_active g n at r (y, inr a) None h = absurd (h y a.faces.linked)
 partner_of_active g n at r (y, inl a) (Some m) h =
     let e = h y (linked_sym (net_of g) (slot at 0) (slot y 0) a.faces.linked) in
-    record { rule = r; active = (y, inl a); linked = subst (λ z. Linked (net_of g) (slot at 0) (slot z 0)) e a.faces.linked }
+    record {
+      rule = r;
+      active = (y, inl a);
+      linked = subst (λ z. Linked (net_of g) (slot at 0) (slot z 0)) e a.faces.linked;
+    }
 partner_of_active g n at r (y, inr a) (Some m) h =
     let e = h y a.faces.linked in
-    record { rule = r; active = (y, inr a); linked = subst (λ z. Linked (net_of g) (slot at 0) (slot z 0)) e (linked_sym (net_of g) (slot y 0) (slot at 0) a.faces.linked) }
+    record {
+      rule = r;
+      active = (y, inr a);
+      linked = subst (λ z. Linked (net_of g) (slot at 0) (slot z 0)) e
+          (linked_sym (net_of g) (slot y 0) (slot at 0) a.faces.linked);
+    }
 
-module _ (old g : Graph) (fuel start : ℕ) (names : List NodeName) (journal : List Entry) (u : UnderWay old g start names journal) (within : length journal ≤ fuel) where
+module _ (old g : Graph) (fuel start : ℕ) (names : List NodeName) (journal : List Entry)
+    (u : UnderWay old g start names journal) (within : length journal ≤ fuel) where
   leads_here : LeadsTo old journal g
-  leads_here = let c = u.count in let s = u.start_is in leads_to old g names journal (length g.nodes) (length journal) u.m u.named (omega arith) u.from u.led
+  leads_here = let c = u.count in let s = u.start_is in
+      leads_to old g names journal (length g.nodes) (length journal) u.m u.named (omega arith) u.from u.led
 
   complete_named : IsComplete (net_of g) → IsComplete (net_under u.m (net_of g))
-  complete_named c F G r a = let t = active_from u.m (names_apart (length old.nodes) (length g.nodes) (length journal) u.m u.named) (net_of g) F G r a in c t.0 t.1 r t.4
+  complete_named c F G r a = let t = active_from u.m
+      (names_apart (length old.nodes) (length g.nodes) (length journal) u.m u.named)
+      (net_of g) F G r a in c t.0 t.1 r t.4
 
   pub runs_to : IsComplete (net_of g) ⊎ (length journal ≡ fuel) → RunsTo old fuel journal g
   unfolding leads_here leads_to
-  runs_to e = record { leads = leads_here; one_thread = record { leads = leads_here.run; within = within; ended = go e } }
+  runs_to e = record {
+    leads = leads_here;
+    one_thread = record { leads = leads_here.run; within = within; ended = go e };
+  }
     where
-      go : IsComplete (net_of g) ⊎ (length journal ≡ fuel) → IsComplete (net_under u.m (net_of g)) ⊎ (length journal ≡ fuel)
+      go : IsComplete (net_of g) ⊎ (length journal ≡ fuel) →
+          IsComplete (net_under u.m (net_of g)) ⊎ (length journal ≡ fuel)
       go (inl c) = inl (complete_named c)
       go (inr q) = inr q
 
@@ -71,7 +94,8 @@ module _ (old g : Graph) (fuel start : ℕ) (names : List NodeName) (journal : L
   stops_here = record { journal = journal; within = within; leads = leads_here }
 
   -- one step on, written down or not
-  pub stops_after : (g' : Graph) → IsNet (net_of g) → length journal ≢ fuel → (at partner : ℕ) → IsLeast g at partner → AtMostOneStep g g' at → StopsWithin old fuel g'
+  pub stops_after : (g' : Graph) → IsNet (net_of g) → length journal ≢ fuel → (at partner : ℕ) →
+      IsLeast g at partner → AtMostOneStep g g' at → StopsWithin old fuel g'
   stops_after g' n more at partner l (inl e) = subst (λ h. StopsWithin old fuel h) (sym e) stops_here
   stops_after g' n more at partner l (inr (r, s)) =
       let e : Entry = record { rule = r; first = u.m at; second = u.m partner } in
@@ -82,17 +106,26 @@ module _ (old g : Graph) (fuel start : ℕ) (names : List NodeName) (journal : L
       }
 
 -- after a step that was written down
-pub advanced : (old g g' : Graph) (r r' : Running) → UnderWay old g r.start r.names.items r.journal → IsNet (net_of g) → (at partner : ℕ) → IsLeast g at partner → Advances r r' g g' at partner →
+pub advanced : (old g g' : Graph) (r r' : Running) →
+    UnderWay old g r.start r.names.items r.journal → IsNet (net_of g) → (at partner : ℕ) →
+    IsLeast g at partner → Advances r r' g g' at partner →
     UnderWay old g' r'.start r'.names.items r'.journal
 advanced old g g' r r' u n at partner l a =
     let first = listed old g r.start r.names.items r.journal u at (active_below g at l.rule l.active) in
     let second = listed old g r.start r.names.items r.journal u partner (partner_below g n at partner l) in
     let v = one_on old g g' r.start r.names.items r.journal u n at partner a.rule a.step l a.is_net in
     let U : ℕ → List NodeName → List Entry → Type 0 = λ s ns es. UnderWay old g' s ns es in
-    let V : NodeName → NodeName → Type 0 = λ x y. UnderWay old g' r.start (r.names.items ++ names_born (length r.journal) (length g'.nodes - length g.nodes)) (r.journal ++ record { rule = a.rule; first = x; second = y } ∷ []) in
+    let V : NodeName → NodeName → Type 0 = λ x y.
+    UnderWay old g' r.start (r.names.items ++ names_born (length r.journal)
+    (length g'.nodes - length g.nodes)) (r.journal ++ record { rule = a.rule; first = x; second = y } ∷ []) in
     let v1 : V (name_in r.start r.names.items at) (u.m partner) = subst (λ x. V x (u.m partner)) (sym first) v in
-    let v2 : V (name_in r.start r.names.items at) (name_in r.start r.names.items partner) = subst (λ y. V (name_in r.start r.names.items at) y) (sym second) v1 in
-    subst (λ s. U s r'.names.items r'.journal) (sym a.start) (subst (λ ns. U r.start ns r'.journal) (sym a.names) (subst (λ es. U r.start (r.names.items ++ names_born (length r.journal) (length g'.nodes - length g.nodes)) es) (sym a.journal) v2))
+    let v2 : V (name_in r.start r.names.items at) (name_in r.start r.names.items partner) = subst
+    (λ y. V (name_in r.start r.names.items at) y) (sym second) v1 in
+    subst (λ s. U s r'.names.items r'.journal) (sym a.start)
+    (subst (λ ns. U r.start ns r'.journal) (sym a.names)
+    (subst (λ es. U r.start (r.names.items ++ names_born (length r.journal)
+    (length g'.nodes - length g.nodes)) es) (sym a.journal) v2))
 
-pub within_on : (journal : List Entry) (e : Entry) (fuel : ℕ) → length journal ≤ fuel → length journal ≢ fuel → length (journal ++ e ∷ []) ≤ fuel
+pub within_on : (journal : List Entry) (e : Entry) (fuel : ℕ) → length journal ≤ fuel →
+    length journal ≢ fuel → length (journal ++ e ∷ []) ≤ fuel
 within_on journal e fuel h n = omega (arith, length-append journal (e ∷ []))

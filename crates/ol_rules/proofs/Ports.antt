@@ -2,7 +2,8 @@
 use Rattle.std.proofs.Common.{◌≡◌, ◌≢◌, ℕ, suc, ◌+◌, ◌<◌, ◌⊎◌, ◌↔◌, inl, inr, refl, sym, ap, ◌∙◌, subst, arith}
 use Rattle.ol_edges.proofs.Joining.{joined_sym, joined_image, Follows, follow}
 use Rattle.ol_edges.specs.Edges.{Joined, here, on, back, Edge, Contracted}
-use Rattle.ol_net.specs.Nets.{NamedPort, free, slot, NamedNet, HasNode, Linked, IsPort, IsNet, Faces, IsPrincipalOf, IsSlotOf}
+use Rattle.ol_net.specs.Nets.{NamedPort, free, slot, NamedNet, HasNode, Linked, IsPort, IsNet}
+use Rattle.ol_net.specs.Nets.{Faces, IsPrincipalOf, IsSlotOf}
 use Rattle.ol_net.specs.Parts.{arity}
 use Rattle.ol_net.specs.declared.parts.Kind.{Kind}
 use Rattle.ol_rules.specs.Contracting.{Vertex, old, f_copy, g_copy, name}
@@ -131,7 +132,8 @@ module _ {A : Type 0} (N : NamedNet A) (f g : A) (k : Kind) (i : ℕ) (l : Kind)
       to = old (slot g (suc s));
       from_is = (real_f (suc s), refl);
       to_is = (real_g (suc s), refl);
-      wire = join (subst (λ a. Join N f g k i l j a (old (slot f (suc s))) (old (slot g (suc s)))) (sym e) (wires.Join.meet b));
+      wire = join (subst (λ a. Join N f g k i l j a (old (slot f (suc s))) (old (slot g (suc s))))
+          (sym e) (wires.Join.meet b));
     }
     lift_join p q (at_f {p = m} j' e b) = record {
       from = g_copy m 0;
@@ -152,7 +154,8 @@ module _ {A : Type 0} (N : NamedNet A) (f g : A) (k : Kind) (i : ℕ) (l : Kind)
       to = g_copy m (suc n);
       from_is = (b', refl);
       to_is = (tt, refl);
-      wire = join (subst (λ a. Join N f g k i l j a (f_copy n (suc m)) (g_copy m (suc n))) (sym e) (wires.Join.between b b'));
+      wire = join (subst (λ a. Join N f g k i l j a (f_copy n (suc m)) (g_copy m (suc n))) (sym e)
+          (wires.Join.between b b'));
     }
 
     lift_edge : (p q : NamedPort A) → E p q → Lifted p q
@@ -168,8 +171,10 @@ module _ {A : Type 0} (N : NamedNet A) (f g : A) (k : Kind) (i : ℕ) (l : Kind)
 
     to_vertices : Follows E W NamedBy
     to_vertices = record {
-      forth = λ p q w e r. let t = lift_edge p q e in (t.from, t.from_is, subst (λ z. Joined W t.from z) (named_by_one q t.to w t.to_is r) (on here t.wire));
-      back' = λ p q w e r. let t = lift_edge p q e in (t.to, t.to_is, subst (λ z. Joined W t.to z) (named_by_one p t.from w t.from_is r) (back here t.wire));
+      forth = λ p q w e r. let t = lift_edge p q e in
+          (t.from, t.from_is, subst (λ z. Joined W t.from z) (named_by_one q t.to w t.to_is r) (on here t.wire));
+      back' = λ p q w e r. let t = lift_edge p q e in
+          (t.to, t.to_is, subst (λ z. Joined W t.to z) (named_by_one p t.from w t.from_is r) (back here t.wire));
     }
 
     to_edge : (u v : Vertex A) → W u v → Joined E (name_of u) (name_of v)
@@ -180,7 +185,8 @@ module _ {A : Type 0} (N : NamedNet A) (f g : A) (k : Kind) (i : ℕ) (l : Kind)
         principal o (inr e) = o.second e
     to_edge u v (join h) = on here (inr (go a refl u v h))
       where
-        go : (b : Action) → b ≡ a → (u v : Vertex A) → Join N f g k i l j b u v → JoinOf born f g k l a (name_of u) (name_of v)
+        go : (b : Action) → b ≡ a → (u v : Vertex A) → Join N f g k i l j b u v →
+            JoinOf born f g k l a (name_of u) (name_of v)
         go b e u v (wires.Join.meet h) = meet (sym e) h
         go b e u v (wires.Join.at_f {j' = j'} h) = at_f j' (sym e) h
         go b e u v (wires.Join.at_g {j' = j'} h) = at_g j' (sym e) h
@@ -220,8 +226,10 @@ module _ {A : Type 0} (N : NamedNet A) (f g : A) (k : Kind) (i : ℕ) (l : Kind)
         to h = record {
           first = λ s. not_slot h.from h.from_lasts (subst (λ p. IsSlotOf f g p) h.from_is s);
           second = λ s. not_slot h.to h.to_lasts (subst (λ p. IsSlotOf f g p) h.to_is s);
-          apart = λ e. h.apart (name_one h.from h.to (lasts_real h.from h.from_lasts) (lasts_real h.to h.to_lasts) (sym h.from_is ∙ e ∙ h.to_is));
-          joined = subst (λ p. Joined E p q) (sym h.from_is) (subst (λ q. Joined E (name_of h.from) q) (sym h.to_is) (joined_image name_of to_edge h.joined));
+          apart = λ e. h.apart (name_one h.from h.to (lasts_real h.from h.from_lasts)
+              (lasts_real h.to h.to_lasts) (sym h.from_is ∙ e ∙ h.to_is));
+          joined = subst (λ p. Joined E p q) (sym h.from_is)
+              (subst (λ q. Joined E (name_of h.from) q) (sym h.to_is) (joined_image name_of to_edge h.joined));
         }
 
         one : (p q : NamedPort A) → Joined E p q → p ≢ q → (u : Vertex A) × NamedBy p u

@@ -1,5 +1,6 @@
 -- A net whose links are listed more than once is the same as one where each stands once.
-use Rattle.std.proofs.Common.{◌≡◌, ◌≢◌, ℕ, ◌<◌, ◌≤◌, List, [], ◌∷◌, Bool, true, false, ◌⊎◌, inl, inr, refl, sym, ap, ◌∙◌, subst, arith}
+use Rattle.std.proofs.Common.{◌≡◌, ◌≢◌, ℕ, ◌<◌, ◌≤◌, List, [], ◌∷◌, Bool, true, false, ◌⊎◌, inl}
+use Rattle.std.proofs.Common.{inr, refl, sym, ap, ◌∙◌, subst, arith}
 use Rattle.ol_edges.proofs.Contraction.{is_or_is_not, is_other, ends_in}
 use Rattle.ol_edges.specs.Edges.{Near, ends, bit, IsTest}
 use Rattle.ol_net.specs.Nets.{NamedPort, free, slot, NamedNet, IsPort, IsNet, SameNet}
@@ -19,7 +20,8 @@ module _ {V : Type 0} (same : V → V → Bool) (t : IsTest same) where
       none : Near {V = V} [] u v → ⊥
       none (inl h) = h
       none (inr h) = h
-  near_is u v (e ∷ es) = go (is_or_is_not same t u e.0) (is_or_is_not same t v e.1) (is_or_is_not same t v e.0) (is_or_is_not same t u e.1) (near_is u v es)
+  near_is u v (e ∷ es) = go (is_or_is_not same t u e.0) (is_or_is_not same t v e.1)
+      (is_or_is_not same t v e.0) (is_or_is_not same t u e.1) (near_is u v es)
     where
       more : Near es u v → Near (e ∷ es) u v
       more (inl h) = inl (inr h)
@@ -33,13 +35,15 @@ module _ {V : Type 0} (same : V → V → Bool) (t : IsTest same) where
       none a (inr n) k (inr (inl q)) = n (sym (ap (λ (d : V × V). d.1) q))
       none a b k (inr (inr h)) = k (inr h)
 
-      second : (e.0 ≢ u) ⊎ (e.1 ≢ v) → (e.0 ≡ v) ⊎ (e.0 ≢ v) → (e.1 ≡ u) ⊎ (e.1 ≢ u) → Near es u v ⊎ (Near es u v → ⊥) → Near (e ∷ es) u v ⊎ (Near (e ∷ es) u v → ⊥)
+      second : (e.0 ≢ u) ⊎ (e.1 ≢ v) → (e.0 ≡ v) ⊎ (e.0 ≢ v) → (e.1 ≡ u) ⊎ (e.1 ≢ u) →
+          Near es u v ⊎ (Near es u v → ⊥) → Near (e ∷ es) u v ⊎ (Near (e ∷ es) u v → ⊥)
       second a b c (inl h) = inl (more h)
       second a (inl q) (inl q') (inr k) = inl (inr (inl (ap (λ x. (x, u)) (sym q) ∙ ap (λ x. (e.0, x)) (sym q'))))
       second a (inr n) c (inr k) = inr (none a (inl n) k)
       second a (inl q) (inr n) (inr k) = inr (none a (inr n) k)
 
-      go : (e.0 ≡ u) ⊎ (e.0 ≢ u) → (e.1 ≡ v) ⊎ (e.1 ≢ v) → (e.0 ≡ v) ⊎ (e.0 ≢ v) → (e.1 ≡ u) ⊎ (e.1 ≢ u) → Near es u v ⊎ (Near es u v → ⊥) → Near (e ∷ es) u v ⊎ (Near (e ∷ es) u v → ⊥)
+      go : (e.0 ≡ u) ⊎ (e.0 ≢ u) → (e.1 ≡ v) ⊎ (e.1 ≢ v) → (e.0 ≡ v) ⊎ (e.0 ≢ v) →
+          (e.1 ≡ u) ⊎ (e.1 ≢ u) → Near es u v ⊎ (Near es u v → ⊥) → Near (e ∷ es) u v ⊎ (Near (e ∷ es) u v → ⊥)
       go (inl q) (inl q') b c d = inl (inl (inl (ap (λ x. (x, v)) (sym q) ∙ ap (λ x. (e.0, x)) (sym q'))))
       go (inr n) a' b c d = second (inl n) b c d
       go (inl q) (inr n) b c d = second (inr n) b c d
@@ -50,9 +54,11 @@ module _ {V : Type 0} (same : V → V → Bool) (t : IsTest same) where
     back : (u v : V) → Near fs u v → Near es u v
     once : (v : V) → ends same v fs ≤ 1
 
-  single : (es : List (V × V)) → ((u v w : V) → Near es u v → Near es u w → v ≡ w) → ((u : V) → Near es u u → ⊥) → (fs : List (V × V)) × Single es fs
+  single : (es : List (V × V)) → ((u v w : V) → Near es u v → Near es u w → v ≡ w) →
+      ((u : V) → Near es u u → ⊥) → (fs : List (V × V)) × Single es fs
   single [] one apart = ([], record { there = λ u v h. h; back = λ u v h. h; once = λ v. omega arith })
-  single (e ∷ es) one apart = go (single es (λ u v w h h'. one u v w (ahead es u v h) (ahead es u w h')) (λ u h. apart u (ahead es u u h)))
+  single (e ∷ es) one apart = go (single es
+      (λ u v w h h'. one u v w (ahead es u v h) (ahead es u w h')) (λ u h. apart u (ahead es u u h)))
     where
       ahead : (fs : List (V × V)) (u v : V) → Near fs u v → Near (e ∷ fs) u v
       ahead fs u v (inl h) = inl (inr h)
@@ -64,7 +70,8 @@ module _ {V : Type 0} (same : V → V → Bool) (t : IsTest same) where
       go : ((fs : List (V × V)) × Single es fs) → (fs : List (V × V)) × Single (e ∷ es) fs
       go (fs, s) = pick (near_is e.0 e.1 fs)
         where
-          at_edge : (P : V → V → Type 0) → P e.0 e.1 → P e.1 e.0 → (u v : V) → (◌≡◌ {A = V × V} (u, v) e) ⊎ (◌≡◌ {A = V × V} (v, u) e) → P u v
+          at_edge : (P : V → V → Type 0) → P e.0 e.1 → P e.1 e.0 → (u v : V) →
+              (◌≡◌ {A = V × V} (u, v) e) ⊎ (◌≡◌ {A = V × V} (v, u) e) → P u v
           at_edge P h h' u v (inl q) = subst (λ (d : V × V). P d.0 d.1) (sym q) h
           at_edge P h h' u v (inr q) = subst (λ (d : V × V). P d.1 d.0) (sym q) h'
 
@@ -110,7 +117,8 @@ module _ {V : Type 0} (same : V → V → Bool) (t : IsTest same) where
                   check (inl z) = z
                   check (inr b) =
                       let r = ends_near same t e.1 fs b in
-                      let q = one e.1 r.0 e.0 (ahead es e.1 r.0 (s.back e.1 r.0 r.1)) (near_flip (e ∷ es) e.0 e.1 here) in
+                      let q = one e.1 r.0 e.0 (ahead es e.1 r.0 (s.back e.1 r.0 r.1))
+                      (near_flip (e ∷ es) e.0 e.1 here) in
                       absurd (n (near_flip fs e.1 e.0 (subst (λ z. Near fs e.1 z) q r.1)))
 
               one_bit : (b : Bool) → bit b ≤ 1
@@ -142,7 +150,8 @@ module _ {A : Type 0} (same : A → A → Bool) (t : IsTest same) where
   pub recount : (N : NamedNet A) → IsNet N → (M : NamedNet A) × IsCounted same M × SameNet N M
   recount N n = go (single (port_same same) (port_test same t) N.links n.one_link n.apart)
     where
-      go : ((fs : List (NamedPort A × NamedPort A)) × Single (port_same same) (port_test same t) N.links fs) → (M : NamedNet A) × IsCounted same M × SameNet N M
+      go : ((fs : List (NamedPort A × NamedPort A))
+          × Single (port_same same) (port_test same t) N.links fs) → (M : NamedNet A) × IsCounted same M × SameNet N M
       go (fs, s) = (
         record N { links = fs },
         record { one_node = n.one_node; of_ports = λ p q h. port p (n.of_ports p q (s.back p q h)).0; once = once },

@@ -11,14 +11,32 @@ use Rattle.ol_rules.proofs.Relation.{same_refl, same_sym, faces_same, rewrites_s
 
 module _ {A : Type 0} (M N : NamedNet A) (s : SameNet M N) where
   pub active_same : (f g : A) (r : Rule) → IsActive M f g r → IsActive N f g r
-  active_same f g r a = record { k = a.k; i = a.i; l = a.l; j = a.j; faces = faces_same M N f g a.k a.l a.i a.j s a.faces; fits = a.fits }
+  active_same f g r a = record {
+    k = a.k;
+    i = a.i;
+    l = a.l;
+    j = a.j;
+    faces = faces_same M N f g a.k a.l a.i a.j s a.faces;
+    fits = a.fits;
+  }
 
   pub stuck_same : (f g : A) → IsStuck M f g → IsStuck N f g
-  stuck_same f g a = record { k = a.k; i = a.i; l = a.l; j = a.j; faces = faces_same M N f g a.k a.l a.i a.j s a.faces; first = a.first; second = a.second }
+  stuck_same f g a = record {
+    k = a.k;
+    i = a.i;
+    l = a.l;
+    j = a.j;
+    faces = faces_same M N f g a.k a.l a.i a.j s a.faces;
+    first = a.first;
+    second = a.second;
+  }
 
   pub step_same : (born : ℕ → A) (f g : A) (r : Rule) (P : NamedNet A) → IsStep born M f g r P → IsStep born N f g r P
   unfolding active_same
-  step_same born f g r P t = record { active = active_same f g r t.active; rewrites = rewrites_same born f g t.active.k t.active.i t.active.l (action_of r t.active.j) M N P s t.rewrites }
+  step_same born f g r P t = record {
+    active = active_same f g r t.active;
+    rewrites = rewrites_same born f g t.active.k t.active.i t.active.l (action_of r t.active.j) M N P s t.rewrites;
+  }
 
 pub complete_same : {A : Type 0} (M N : NamedNet A) → SameNet M N → IsComplete M → IsComplete N
 complete_same M N s c = λ f g r a. c f g r (active_same N M (same_sym M N s) f g r a)
@@ -28,7 +46,10 @@ has_stuck_same M N n s h = record {
   pairs = h.pairs;
   count = h.count;
   different = h.different;
-  all = λ f g. ((λ p. stuck_same M N s f g ((h.all f g).0 p)), (λ p. (h.all f g).1 (stuck_same N M (same_sym M N s) f g p)));
+  all = λ f g. (
+    (λ p. stuck_same M N s f g ((h.all f g).0 p)),
+    (λ p. (h.all f g).1 (stuck_same N M (same_sym M N s) f g p)),
+  );
 }
 
 pub lead_same : (M N : NamedNet NodeName) (e : Entry) → SameNet M N → IsLead M e → IsLead N e
@@ -46,25 +67,37 @@ pub record LeadsAlike (N : NamedNet NodeName) (t : ℕ) (es : List Entry) (P : N
   pub run : IsLeadRun N t es net
   pub same : SameNet P net
 
-pub leads_same : (M N P : NamedNet NodeName) (t : ℕ) (es : List Entry) → SameNet M N → IsLeadRun M t es P → LeadsAlike N t es P
+pub leads_same : (M N P : NamedNet NodeName) (t : ℕ) (es : List Entry) → SameNet M N →
+    IsLeadRun M t es P → LeadsAlike N t es P
 leads_same M N P t [] s end = record { net = N; run = end; same = s }
 leads_same M N P t (e ∷ es) s (then {M = Q} d st run) = record {
   net = P;
-  run = then (lead_same M N e s d) (record { f = st.f; g = st.g; named = st.named; step = step_same M N s _ st.f st.g e.rule Q st.step }) run;
+  run = then (lead_same M N e s d) (record {
+    f = st.f;
+    g = st.g;
+    named = st.named;
+    step = step_same M N s _ st.f st.g e.rule Q st.step;
+  }) run;
   same = same_refl P;
 }
 
-pub record OneThreadAlike (N : NamedNet NodeName) (fuel : ℕ) (journal : List Entry) (P : NamedNet NodeName) : Type 0 where
+pub record OneThreadAlike (N : NamedNet NodeName) (fuel : ℕ) (journal : List Entry)
+    (P : NamedNet NodeName) : Type 0 where
   pub net : NamedNet NodeName
   pub run : IsOneThread N fuel journal net
   pub same : SameNet P net
 
 -- the one-thread run from a net is that from the same net, and leads to the same
-pub one_thread_same : (M N P : NamedNet NodeName) (fuel : ℕ) (journal : List Entry) → SameNet M N → IsOneThread M fuel journal P → OneThreadAlike N fuel journal P
+pub one_thread_same : (M N P : NamedNet NodeName) (fuel : ℕ) (journal : List Entry) → SameNet M N →
+    IsOneThread M fuel journal P → OneThreadAlike N fuel journal P
 one_thread_same M N P fuel journal s o =
     let k = leads_same M N P 0 journal s o.leads in
     record {
       net = k.net;
-      run = record { leads = k.run; within = o.within; ended = elim o.ended [ inl c ↦ inl (complete_same P k.net k.same c) | inr e ↦ inr e ] };
+      run = record {
+        leads = k.run;
+        within = o.within;
+        ended = elim o.ended [ inl c ↦ inl (complete_same P k.net k.same c) | inr e ↦ inr e ];
+      };
       same = k.same;
     }

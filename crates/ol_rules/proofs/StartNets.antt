@@ -13,7 +13,8 @@ module _ {A B : Type 0} (m : A → B) (one_name : (x y : A) → m x ≡ m y → 
 
   port_from : (P : NamedPort B) → IsPort (net_under m N) P → (p : NamedPort A) × (P ≡ port_under m p) × IsPort N p
   port_from (free n) h = (free n, refl, h)
-  port_from (slot y s) (k, i, h, b) = let t = node_from m N y k i h in (slot t.0 s, ap (λ y. slot y s) t.2, (k, i, t.1, b))
+  port_from (slot y s) (k, i, h, b) = let t = node_from m N y k i h in
+      (slot t.0 s, ap (λ y. slot y s) t.2, (k, i, t.1, b))
 
   pub net_to : IsNet (net_under m N)
   net_to = record {
@@ -37,8 +38,11 @@ module _ {A B : Type 0} (m : A → B) (one_name : (x y : A) → m x ≡ m y → 
         is_net.apart t.0 (subst (λ q. Linked N t.0 q) (one_port m one_name t.1 t.0 (sym t.3 ∙ t.2)) t.4);
     some_link = λ P h.
         let t = port_from P h in
-        let l = is_net.some_link t.0 t.2 in
-        (port_under m l.0, subst (λ P. Linked (net_under m N) P (port_under m l.0)) (sym t.1) (link_to m N t.0 l.0 l.1));
+        let l = is_net.some_link t.0 t.2 in (
+          port_under m l.0,
+          subst (λ P. Linked (net_under m N) P (port_under m l.0)) (sym t.1)
+              (link_to m N t.0 l.0 l.1),
+        );
   }
 
 pub one_start : (x y : ℕ) → Init x ≡ Init y → x ≡ y

@@ -35,4 +35,5 @@ action_in pair = action_of pair.rule pair.of_g.1
 -- the net after the two nodes went, and came what this action makes of them
 abbrev pub IsRewritten : Action → Pair → Graph → Graph → Type 0
 IsRewritten action pair old new =
-    Replaces old new pair.f pair.g (born_of action pair.of_f pair.of_g) (joins_of action (arity pair.of_f.0) (arity pair.of_g.0))
+    Replaces old new pair.f pair.g (born_of action pair.of_f pair.of_g)
+    (joins_of action (arity pair.of_f.0) (arity pair.of_g.0))

@@ -1,5 +1,7 @@
--- A step by contraction: the edges between vertices, which get their names afterwards, and what is left once slots are taken out.
-use Rattle.std.specs.Prelude.{◌≡◌, ℕ, zero, suc, ◌+◌, List, [], ◌∷◌, ◌++◌, map, filter, Bool, false, cond, not, ◌||◌, ◌&&◌, nat_eq, ◌↔◌}
+-- A step by contraction: the edges between vertices, which get their names afterwards, and what is
+-- left once slots are taken out.
+use Rattle.std.specs.Prelude.{◌≡◌, ℕ, zero, suc, ◌+◌, List, [], ◌∷◌, ◌++◌, map, filter, Bool, false}
+use Rattle.std.specs.Prelude.{cond, not, ◌||◌, ◌&&◌, nat_eq, ◌↔◌}
 use Rattle.ol_edges.specs.Edges.{Near, Ready, ends, contract_all}
 use Rattle.ol_net.specs.Nets.{NamedPort, free, slot, NamedNet, HasNode, Linked, IsPort}
 use Rattle.ol_net.specs.Parts.{arity}
@@ -20,7 +22,8 @@ pub record IsCounted {A : Type 0} (same : A → A → Bool) (N : NamedNet A) : T
   pub of_ports : (p q : NamedPort A) → Linked N p q → IsPort N p
   pub once : (p : NamedPort A) → IsPort N p → ends (port_same same) p N.links ≡ 1
 
--- Where edges end in a step: at a port of the net before it, or at a slot of a copy. The copy of f at slot q + 1 of g is
+-- Where edges end in a step: at a port of the net before it, or at a slot of a copy. The copy of f
+-- at slot q + 1 of g is
 -- f_copy q, the copy of g at slot p + 1 of f is g_copy p.
 pub data Vertex (A : Type 0) : Type 0 where
   old : NamedPort A → Vertex A
@@ -80,7 +83,8 @@ module _ {A : Type 0} (f g : A) where
     rewritten nodes joins m n = record {
       nodes = nodes_left ++ nodes;
       free_ports = N.free_ports;
-      links = map (λ e. (name n born e.0, name n born e.1)) (contract_all (vertex_same same) (gone m n) (joins ++ links_left));
+      links = map (λ e. (name n born e.0, name n born e.1))
+          (contract_all (vertex_same same) (gone m n) (joins ++ links_left));
     }
 
     -- f of kind k and index i against g of kind l and index j
@@ -89,8 +93,10 @@ module _ {A : Type 0} (f g : A) where
         (rewritten [] (meeting_joins (arity k)) (arity k) (arity l))
         (rewritten (born_nodes born k i l (index_after r j)) (crossing_joins (arity k) (arity l)) (arity k) (arity l))
 
--- The links of M are what is left of the edges, which are the joins and the links of N that stay, once the slots of f and g
--- were taken out one by one. Each slot that goes has two ends of edges, and each other vertex one at most: so the slots can be
+-- The links of M are what is left of the edges, which are the joins and the links of N that stay,
+-- once the slots of f and g
+-- were taken out one by one. Each slot that goes has two ends of edges, and each other vertex one
+-- at most: so the slots can be
 -- taken out in any order.
 pub record IsContracted {A : Type 0} (same : A → A → Bool) (born : ℕ → A) (N : NamedNet A) (f g : A) (k l : Kind)
     (joins : List (Vertex A × Vertex A)) (M : NamedNet A) : Type 0 where

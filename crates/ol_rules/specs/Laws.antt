@@ -38,7 +38,8 @@ abbrev pub StepKeepsNet : Type 0 → Type 0
 StepKeepsNet A = (same : A → A → Bool) → IsTest same → (born : ℕ → A) (N M : NamedNet A) (f g : A) (r : Rule) →
     IsNet N → IsFresh N born → IsStep born N f g r M → IsNet M
 
--- What a step links is what is left where the slots of its two nodes are taken out, one by one, in a net whose list has each
+-- What a step links is what is left where the slots of its two nodes are taken out, one by one, in
+-- a net whose list has each
 -- link once.
 abbrev pub StepIsContraction : Type 0 → Type 0
 StepIsContraction A = (same : A → A → Bool) → IsTest same → (born : ℕ → A) (N M : NamedNet A) (f g : A) (r : Rule) →
@@ -47,7 +48,8 @@ StepIsContraction A = (same : A → A → Bool) → IsTest same → (born : ℕ 
 
 -- Each net is the same as one whose list has each link once.
 abbrev pub EachIsListed : Type 0 → Type 0
-EachIsListed A = (same : A → A → Bool) → IsTest same → (N : NamedNet A) → IsNet N → (L : NamedNet A) × IsCounted same L × SameNet N L
+EachIsListed A = (same : A → A → Bool) → IsTest same → (N : NamedNet A) → IsNet N →
+    (L : NamedNet A) × IsCounted same L × SameNet N L
 
 -- There is a net after a step of each active pair.
 abbrev pub StepExists : Type 0 → Type 0
@@ -58,12 +60,15 @@ StepExists A = (same : A → A → Bool) → IsTest same → (born : ℕ → A) 
 abbrev pub AreNamedBefore : NamedNet NodeName → ℕ → Type 0
 AreNamedBefore N ticket = (x : NodeName) (k : Kind) (i : ℕ) → HasNode N x k i → comes_before x (Born ticket 0) ≡ true
 
--- A net of start nodes has one one-thread run for each fuel, however its lists are ordered: one journal, which leads to one net.
+-- A net of start nodes has one one-thread run for each fuel, however its lists are ordered: one
+-- journal, which leads to one net.
 abbrev pub OneThreadIsOne : Type 0
 OneThreadIsOne = (M N P Q : NamedNet NodeName) (fuel : ℕ) (journal journal' : List Entry) →
-    IsNet M → AreNamedBefore M 0 → SameNet M N → IsOneThread M fuel journal P → IsOneThread N fuel journal' Q → (journal ≡ journal') × SameNet P Q
+    IsNet M → AreNamedBefore M 0 → SameNet M N → IsOneThread M fuel journal P →
+    IsOneThread N fuel journal' Q → (journal ≡ journal') × SameNet P Q
 
 -- So it doesn't both end and go on.
 abbrev pub EndsOrGoesOn : Type 0
 EndsOrGoesOn = (M N P Q : NamedNet NodeName) (fuel : ℕ) (journal journal' : List Entry) →
-    IsNet M → AreNamedBefore M 0 → SameNet M N → IsOneThread M fuel journal P → IsOneThread N fuel journal' Q → IsComplete P → HasActive Q → ⊥
+    IsNet M → AreNamedBefore M 0 → SameNet M N → IsOneThread M fuel journal P →
+    IsOneThread N fuel journal' Q → IsComplete P → HasActive Q → ⊥

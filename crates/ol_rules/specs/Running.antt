@@ -1,5 +1,6 @@
 -- Private: what a run keeps on its way.
-use Rattle.std.specs.Prelude.{◌≡◌, ℕ, ◌-◌, ◌≤◌, true, nat_lt, if◌then◌else◌, ◌+◌, ◌<◌, List, [], ◌∷◌, ◌++◌, length, Option, MatchOption, slice_index_or, ◌⊎◌}
+use Rattle.std.specs.Prelude.{◌≡◌, ℕ, ◌-◌, ◌≤◌, true, nat_lt, if◌then◌else◌, ◌+◌, ◌<◌, List, []}
+use Rattle.std.specs.Prelude.{◌∷◌, ◌++◌, length, Option, MatchOption, slice_index_or, ◌⊎◌}
 use Rattle.std.specs.Ordering.{nat_cmp}
 use Rattle.std.specs.BTreeSet.{BTreeSet, contains}
 use Rattle.ol_net.specs.declared.parts.Rule.{Rule}
@@ -26,7 +27,8 @@ AllWait g waiting = (x : ℕ) (r : Rule) → IsInActive (net_of g) x r → conta
 
 -- each but this one
 abbrev pub OthersWait : Graph → ℕ → BTreeSet ℕ → Type 0
-OthersWait g at waiting = (x : ℕ) (r : Rule) → IsInActive (net_of g) x r → (x ≡ at → ⊥) → contains nat_cmp waiting x ≡ true
+OthersWait g at waiting = (x : ℕ) (r : Rule) → IsInActive (net_of g) x r → (x ≡ at → ⊥) →
+    contains nat_cmp waiting x ≡ true
 
 -- what waits in old waits in new
 abbrev pub StillWait : BTreeSet ℕ → BTreeSet ℕ → Type 0
@@ -34,11 +36,13 @@ StillWait old new = (x : ℕ) → contains nat_cmp old x ≡ true → contains n
 
 -- those of them whose numbers are in this range
 abbrev pub RangeWaits : Graph → (from to : ℕ) → BTreeSet ℕ → Type 0
-RangeWaits g from to waiting = (x : ℕ) (r : Rule) → from ≤ x → x < to → IsInActive (net_of g) x r → contains nat_cmp waiting x ≡ true
+RangeWaits g from to waiting = (x : ℕ) (r : Rule) → from ≤ x → x < to → IsInActive (net_of g) x r →
+    contains nat_cmp waiting x ≡ true
 
 -- each node waits whose principal port is joined to an auxiliary port of this one
 abbrev pub BesideWaits : Graph → ℕ → BTreeSet ℕ → Type 0
-BesideWaits g at waiting = (x s : ℕ) → Linked (net_of g) (slot x 0) (slot at (s + 1)) → contains nat_cmp waiting x ≡ true
+BesideWaits g at waiting = (x s : ℕ) → Linked (net_of g) (slot x 0) (slot at (s + 1)) →
+    contains nat_cmp waiting x ≡ true
 
 -- of all nodes of active pairs `at` has the least number, and it faces its partner
 pub record IsLeast (g : Graph) (at partner : ℕ) : Type 0 where
@@ -63,7 +67,8 @@ AllWaitBut g found waiting = MatchOption found (AllWait g waiting) (λ pair. Oth
 
 -- the other node of this one's active pair, or None where it is in none
 abbrev pub FindsPartner : Graph → ℕ → Option NodeId → Type 0
-FindsPartner g at found = MatchOption found ((r : Rule) → IsInActive (net_of g) at r → ⊥) (λ partner. HasPartner g at partner.0)
+FindsPartner g at found = MatchOption found ((r : Rule) → IsInActive (net_of g) at r → ⊥)
+    (λ partner. HasPartner g at partner.0)
 
 -- the node whose principal port is joined to this port, or None where there is none
 abbrev pub FindsNode : Graph → Port → Option NodeId → Type 0
@@ -78,7 +83,11 @@ AtMostOneStep old new at = (new ≡ old) ⊎ ((r : Rule) × StepsAt old new at r
 -- what a run writes down of a step by this rule, by the names of its two nodes
 abbrev pub entry_for : Running → Rule → (at partner : ℕ) → Entry
 entry_for run rule at partner =
-    record { rule = rule; first = name_in run.start run.names.items at; second = name_in run.start run.names.items partner }
+    record {
+      rule = rule;
+      first = name_in run.start run.names.items at;
+      second = name_in run.start run.names.items partner;
+    }
 
 -- Two runs, where the second is the first after the step of `at` and its partner.
 pub record Advances (old new : Running) (g g' : Graph) (at partner : ℕ) : Type 0 where

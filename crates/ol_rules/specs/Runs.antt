@@ -1,5 +1,6 @@
 -- Runs along a journal, and the one-thread run, which always rewrites the lead.
-use Rattle.std.specs.Prelude.{◌≡◌, ℕ, zero, suc, ◌+◌, ◌≤◌, ◌<◌, true, false, Some, List, [], ◌∷◌, ◌++◌, length, slice_get, ◌⊎◌}
+use Rattle.std.specs.Prelude.{◌≡◌, ℕ, zero, suc, ◌+◌, ◌≤◌, ◌<◌, true, false, Some, List, [], ◌∷◌}
+use Rattle.std.specs.Prelude.{◌++◌, length, slice_get, ◌⊎◌}
 use Rattle.ol_net.specs.Graph.{Graph}
 use Rattle.ol_net.specs.Nets.{NamedNet, net_under}
 use Rattle.ol_net.specs.Numbered.{net_of}
@@ -22,7 +23,8 @@ pub record IsEntryStep (N : NamedNet NodeName) (ticket : ℕ) (e : Entry) (M : N
 -- M is N after these entries in order, the first of which has this ticket
 pub data IsRun : NamedNet NodeName → ℕ → List Entry → NamedNet NodeName → Type 0 where
   end : {N : NamedNet NodeName} {t : ℕ} → IsRun N t [] N
-  then : {N M P : NamedNet NodeName} {t : ℕ} {e : Entry} {es : List Entry} → IsEntryStep N t e M → IsRun M (suc t) es P → IsRun N t (e ∷ es) P
+  then : {N M P : NamedNet NodeName} {t : ℕ} {e : Entry} {es : List Entry} → IsEntryStep N t e M →
+      IsRun M (suc t) es P → IsRun N t (e ∷ es) P
 
 -- all fuel was used up, and an active pair is left
 abbrev pub RanOut : ℕ → List Entry → Graph → Type 0
@@ -34,7 +36,8 @@ pub record IsLead (N : NamedNet NodeName) (e : Entry) : Type 0 where
   pub g : NodeName
   pub named : IsNamed e f g
   pub active : IsActive N f g e.rule
-  pub least : (f' g' : NodeName) (r : Rule) → IsActive N f' g' r → (comes_before f' e.first ≡ false) × (comes_before g' e.first ≡ false)
+  pub least : (f' g' : NodeName) (r : Rule) → IsActive N f' g' r →
+      (comes_before f' e.first ≡ false) × (comes_before g' e.first ≡ false)
 
 -- a run, each entry of which is the lead of its turn
 pub data IsLeadRun : NamedNet NodeName → ℕ → List Entry → NamedNet NodeName → Type 0 where
@@ -50,9 +53,11 @@ names_born ticket (suc n) = names_born ticket n ++ Born ticket n ∷ []
 -- the names of the nodes that a run made, in the order in which they came
 abbrev pub names_made : {N M : NamedNet NodeName} {t : ℕ} {es : List Entry} → IsLeadRun N t es M → List NodeName
 names_made end = []
-names_made (then {t = t} {e = e} lead entry run) = names_born t (births e.rule entry.step.active.k entry.step.active.l) ++ names_made run
+names_made (then {t = t} {e = e} lead entry run) = names_born t
+    (births e.rule entry.step.active.k entry.step.active.l) ++ names_made run
 
--- The one-thread run from N: leads, up to the first net without an active pair or until the fuel is used up. M is its net.
+-- The one-thread run from N: leads, up to the first net without an active pair or until the fuel is
+-- used up. M is its net.
 pub record IsOneThread (N : NamedNet NodeName) (fuel : ℕ) (journal : List Entry) (M : NamedNet NodeName) : Type 0 where
   pub leads : IsLeadRun N 0 journal M
   pub within : length journal ≤ fuel
@@ -65,7 +70,8 @@ pub record IsNaming (start : ℕ) (made : List NodeName) (names : ℕ → NodeNa
   pub later : (p : ℕ) (x : NodeName) → slice_get made p ≡ Some x → names (start + p) ≡ x
   pub rising : (j k : ℕ) → j < k → k < start + length made → comes_before (names j) (names k) ≡ true
 
--- New is old after these leads. The nodes that they made took the next numbers, in the order in which they came, and no other
+-- New is old after these leads. The nodes that they made took the next numbers, in the order in
+-- which they came, and no other
 -- number was given out.
 pub record LeadsTo (old : Graph) (journal : List Entry) (new : Graph) : Type 0 where
   pub names : ℕ → NodeName

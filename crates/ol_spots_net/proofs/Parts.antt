@@ -1,5 +1,7 @@
 -- The nodes and links of a part's parts, and which wires it has.
-use Rattle.std.proofs.Common.{◌≡◌, ℕ, suc, ◌≤◌, ◌<◌, ◌+◌, List, [], ◌∷◌, ◌++◌, length, true, false, Bool, nat_eq, Option, None, Some, refl, sym, ap, ◌∙◌, arith, subst, length-append, ◌||◌, if◌then◌else◌}
+use Rattle.std.proofs.Common.{◌≡◌, ℕ, suc, ◌≤◌, ◌<◌, ◌+◌, List, [], ◌∷◌, ◌++◌, length, true, false}
+use Rattle.std.proofs.Common.{Bool, nat_eq, Option, None, Some, refl, sym, ap, ◌∙◌, arith, subst}
+use Rattle.std.proofs.Common.{length-append, ◌||◌, if◌then◌else◌}
 use Rattle.std.proofs.lemmas.Bool.Decides.{nat_tests}
 use Rattle.std.proofs.lemmas.Bool.{and_parts}
 use Rattle.ol_term.specs.declared.translations.Translation.{Translation}
@@ -7,12 +9,16 @@ use Rattle.ol_term.specs.Trees.{Tree, var, free, lam, app, is_below}
 use Rattle.ol_net.specs.declared.parts.Kind.{Kind}
 use Rattle.ol_net.specs.declared.parts.Kind.TheVariants as kind
 use Rattle.ol_net.specs.declared.parts.Port.{Port}
-use Rattle.ol_translate.specs.Translation.{Subnet, subnet_of, abstraction, application, application_to, applied, bare_variable, erasers, bound_port, bracket_nodes, bracket_links, past_brackets, fans, wire_of, slot_port}
+use Rattle.ol_translate.specs.Translation.{Subnet, subnet_of, abstraction, application}
+use Rattle.ol_translate.specs.Translation.{application_to, applied, bare_variable, erasers}
+use Rattle.ol_translate.specs.Translation.{bound_port, bracket_nodes, bracket_links, past_brackets}
+use Rattle.ol_translate.specs.Translation.{fans, wire_of, slot_port}
 use Rattle.ol_translate.proofs.Counts.{times}
 use Rattle.ol_translate.proofs.Joints.{HasOnly, bare_part, few_wires, times-bracketed}
 use Rattle.ol_translate.proofs.Walks.{length-bracket_nodes}
 use Rattle.ol_spots_net.specs.Spots.{Wire, bound, name, under, occurs}
-use Rattle.ol_spots_net.proofs.Fans.{Holds, Links, holds_append, links_append, Merges, fans_merge, Brackets, brackets_wire, outside_wire}
+use Rattle.ol_spots_net.proofs.Fans.{Holds, Links, holds_append, links_append, Merges, fans_merge}
+use Rattle.ol_spots_net.proofs.Fans.{Brackets, brackets_wire, outside_wire}
 
 -- a part's nodes, from number k on, and its links
 pub record Has (H : ℕ → Kind → ℕ → Type 0) (L : Port → Port → Type 0) (k : ℕ) (P : Subnet) : Type 0 where
@@ -36,16 +42,25 @@ module _ (H : ℕ → Kind → ℕ → Type 0) (L : Port → Port → Type 0) wh
 
   pub has_lam : (n k : ℕ) (M : Subnet) → Has H L k (abstraction n k M) → HasLam n k M
   has_lam n k M h =
-      let nodes = holds_append H k (k + 1 + length M.nodes) ((kind.Lam, n) ∷ M.nodes) (erasers (wire_of 0 M.wires)) (omega arith) h.nodes in
-      let links = links_append L M.links ((slot_port k 1, M.root) ∷ (slot_port k 2, bound_port (wire_of 0 M.wires) (k + 1 + length M.nodes)) ∷ []) h.links in
-      record { node = nodes.0.0; part = record { nodes = nodes.0.1; links = links.0 }; link = links.1.0; var_link = links.1.1.0; eraser = nodes.1 }
+      let nodes = holds_append H k (k + 1 + length M.nodes) ((kind.Lam, n) ∷ M.nodes)
+      (erasers (wire_of 0 M.wires)) (omega arith) h.nodes in
+      let links = links_append L M.links ((slot_port k 1, M.root) ∷
+      (slot_port k 2, bound_port (wire_of 0 M.wires) (k + 1 + length M.nodes)) ∷ []) h.links in
+      record {
+        node = nodes.0.0;
+        part = record { nodes = nodes.0.1; links = links.0 };
+        link = links.1.0;
+        var_link = links.1.1.0;
+        eraser = nodes.1;
+      }
 
   -- a wire of an application, by those of its parts
   abbrev pub Wires : ℕ → Option Port → Option Port → Option Port → Type 0
   Wires n None None r = r ≡ None
   Wires n None (Some q) r = (x : ℕ) × (r ≡ Some (slot_port x 0)) × H x kind.Bracket n × L (slot_port x 1) q
   Wires n (Some p) None r = r ≡ Some p
-  Wires n (Some p) (Some q) r = (x y : ℕ) × (r ≡ Some (slot_port y 0)) × H x kind.Bracket n × L (slot_port x 1) q × H y kind.Fan n × L (slot_port y 1) p × L (slot_port y 2) (slot_port x 0)
+  Wires n (Some p) (Some q) r = (x y : ℕ) × (r ≡ Some (slot_port y 0)) × H x kind.Bracket n
+      × L (slot_port x 1) q × H y kind.Fan n × L (slot_port y 1) p × L (slot_port y 2) (slot_port x 0)
 
   pub record HasApp (n k : ℕ) (M N : Subnet) : Type 0 where
     pub node : H k kind.App n
@@ -53,14 +68,16 @@ module _ (H : ℕ → Kind → ℕ → Type 0) (L : Port → Port → Type 0) wh
     pub argument : Has H L (k + 1 + length M.nodes) N
     pub link : L (slot_port k 0) M.root
     pub arg_link : L (slot_port k 2) N.root
-    pub wires : (v : ℕ) → times v N.wires ≤ 1 → Wires n (wire_of v M.wires) (wire_of v N.wires) (wire_of v (application n k M N).wires)
+    pub wires : (v : ℕ) → times v N.wires ≤ 1 →
+        Wires n (wire_of v M.wires) (wire_of v N.wires) (wire_of v (application n k M N).wires)
 
   -- of an application to a variable
   pub record HasAppTo (n k x : ℕ) (M : Subnet) : Type 0 where
     pub node : H k kind.App n
     pub function : Has H L (k + 1) M
     pub link : L (slot_port k 0) M.root
-    pub wires : (v : ℕ) → Merges H L n (wire_of v M.wires) (wire_of v ((x, slot_port k 2) ∷ [])) (wire_of v (application_to n k x M).wires)
+    pub wires : (v : ℕ) → Merges H L n (wire_of v M.wires) (wire_of v ((x, slot_port k 2) ∷ []))
+        (wire_of v (application_to n k x M).wires)
 
   pub has_app_to : (n k x : ℕ) (M : Subnet) → Has H L k (application_to n k x M) → HasAppTo n k x M
   has_app_to n k x M h =
@@ -71,7 +88,8 @@ module _ (H : ℕ → Kind → ℕ → Type 0) (L : Port → Port → Type 0) wh
         node = nodes.0.0;
         function = record { nodes = nodes.0.1; links = links.0 };
         link = links.1.0;
-        wires = λ v. fans_merge H L v n (k + 1 + length M.nodes) M.wires ((x, slot_port k 2) ∷ []) (one_time v x (slot_port k 2)) nodes.1 links.1.1;
+        wires = λ v. fans_merge H L v n (k + 1 + length M.nodes) M.wires ((x, slot_port k 2) ∷ [])
+            (one_time v x (slot_port k 2)) nodes.1 links.1.1;
       }
 
   both_wires : (n : ℕ) (p q m r : Option Port) → Brackets H L n q m → Merges H L n p m r → Wires n p q r
@@ -89,22 +107,32 @@ module _ (H : ℕ → Kind → ℕ → Type 0) (L : Port → Port → Type 0) wh
   pub has_app : (n k : ℕ) (M N : Subnet) → Has H L k (application n k M N) → HasApp n k M N
   has_app n k M N h =
       let b : ℕ = k + 1 + length M.nodes + length N.nodes in
-      let F = fans n (k + 1 + length M.nodes + length N.nodes + length N.wires) M.wires (past_brackets (k + 1 + length M.nodes + length N.nodes) N.wires) in
-      let nodes1 = holds_append H k (k + 1 + length M.nodes + length N.nodes) (((kind.App, n) ∷ M.nodes) ++ N.nodes) (bracket_nodes n N.wires ++ F.nodes) (omega (arith, length-append M.nodes N.nodes)) h.nodes in
+      let F = fans n (k + 1 + length M.nodes + length N.nodes + length N.wires) M.wires
+      (past_brackets (k + 1 + length M.nodes + length N.nodes) N.wires) in
+      let nodes1 = holds_append H k (k + 1 + length M.nodes + length N.nodes)
+      (((kind.App, n) ∷ M.nodes) ++ N.nodes) (bracket_nodes n N.wires ++ F.nodes)
+      (omega (arith, length-append M.nodes N.nodes)) h.nodes in
       let nodes2 = holds_append H k (k + 1 + length M.nodes) ((kind.App, n) ∷ M.nodes) N.nodes (omega arith) nodes1.0 in
-      let nodes3 = holds_append H (k + 1 + length M.nodes + length N.nodes) (k + 1 + length M.nodes + length N.nodes + length N.wires) (bracket_nodes n N.wires) F.nodes (omega (arith, length-bracket_nodes n N.wires)) nodes1.1 in
-      let links1 = links_append L (M.links ++ N.links) (((slot_port k 0, M.root) ∷ (slot_port k 2, N.root) ∷ []) ++ (bracket_links (k + 1 + length M.nodes + length N.nodes) N.wires ++ F.links)) h.links in
+      let nodes3 = holds_append H (k + 1 + length M.nodes + length N.nodes)
+      (k + 1 + length M.nodes + length N.nodes + length N.wires)
+      (bracket_nodes n N.wires) F.nodes (omega (arith, length-bracket_nodes n N.wires)) nodes1.1 in
+      let links1 = links_append L (M.links ++ N.links)
+      (((slot_port k 0, M.root) ∷ (slot_port k 2, N.root) ∷ []) ++
+      (bracket_links (k + 1 + length M.nodes + length N.nodes) N.wires ++ F.links)) h.links in
       let links2 = links_append L M.links N.links links1.0 in
-      let links3 = links_append L (bracket_links (k + 1 + length M.nodes + length N.nodes) N.wires) F.links links1.1.1.1 in
+      let links3 = links_append L (bracket_links
+      (k + 1 + length M.nodes + length N.nodes) N.wires) F.links links1.1.1.1 in
       record {
         node = nodes2.0.0;
         function = record { nodes = nodes2.0.1; links = links2.0 };
         argument = record { nodes = nodes2.1; links = links2.1 };
         link = links1.1.0;
         arg_link = links1.1.1.0;
-        wires = λ v few. both_wires n (wire_of v M.wires) (wire_of v N.wires) (wire_of v (past_brackets (k + 1 + length M.nodes + length N.nodes) N.wires)) (wire_of v F.wires)
+        wires = λ v few. both_wires n (wire_of v M.wires) (wire_of v N.wires)
+            (wire_of v (past_brackets (k + 1 + length M.nodes + length N.nodes) N.wires)) (wire_of v F.wires)
             (brackets_wire H L v n (k + 1 + length M.nodes + length N.nodes) N.wires nodes3.0 links3.0)
-            (fans_merge H L v n (k + 1 + length M.nodes + length N.nodes + length N.wires) M.wires (past_brackets (k + 1 + length M.nodes + length N.nodes) N.wires)
+            (fans_merge H L v n (k + 1 + length M.nodes + length N.nodes + length N.wires) M.wires
+            (past_brackets (k + 1 + length M.nodes + length N.nodes) N.wires)
             (rw (times-bracketed v (k + 1 + length M.nodes + length N.nodes) N.wires) few) nodes3.1 links3.1);
       }
 
@@ -116,7 +144,8 @@ module _ (H : ℕ → Kind → ℕ → Type 0) (L : Port → Port → Type 0) wh
 
   pub has_head : (n k : ℕ) (o : Option ℕ) (M N : Subnet) → Has H L k (applied n k o M N) → HasHead n k M
   has_head n k None M N h = let A = has_app n k M N h in record { node = A.node; function = A.function; link = A.link }
-  has_head n k (Some x) M N h = let A = has_app_to n k x M h in record { node = A.node; function = A.function; link = A.link }
+  has_head n k (Some x) M N h = let A = has_app_to n k x M h in
+      record { node = A.node; function = A.function; link = A.link }
 
 pub applied_root : (n k : ℕ) (o : Option ℕ) (M N : Subnet) → (applied n k o M N).root ≡ slot_port k 1
 applied_root n k None M N = refl
@@ -174,7 +203,12 @@ occurs_app (bound y) t u = refl
 occurs_app (name f) t u = refl
 
 one_wire : (v u : ℕ) (p : Port) → some (wire_of v ((u, p) ∷ [])) ≡ nat_eq u v
-one_wire v u p = elim (nat_eq u v) as (λ b. nat_eq u v ≡ b → some (wire_of v ((u, p) ∷ [])) ≡ b) [ true ↦ (λ t. rw t refl) | false ↦ (λ t. rw t refl) ] refl
+one_wire v u p = elim (nat_eq u v) as
+    (λ b. nat_eq u v ≡ b → some (wire_of v ((u, p) ∷ [])) ≡ b) [
+      | true ↦ (λ t. rw t refl)
+      | false ↦
+          (λ t. rw t refl)
+    ] refl
 
 some_merges : (n : ℕ) (p q r : Option Port) → Merges Any AnyLink n p q r → some r ≡ some p || some q
 some_merges n None None r h = ap some h
@@ -183,29 +217,46 @@ some_merges n (Some p) None r h = ap some h
 some_merges n (Some p) (Some q) r h = ap some h.1
 
 -- an application has the wires of the function and of the argument
-wires_of_both : (v n k : ℕ) (o : Option ℕ) (P Q : Subnet) → HasOnly o Q.wires → times v Q.wires ≤ 1 → some (wire_of v (applied n k o P Q).wires) ≡ some (wire_of v P.wires) || some (wire_of v Q.wires)
+wires_of_both : (v n k : ℕ) (o : Option ℕ) (P Q : Subnet) → HasOnly o Q.wires →
+    times v Q.wires ≤ 1 → some (wire_of v (applied n k o P Q).wires) ≡ some
+    (wire_of v P.wires) || some (wire_of v Q.wires)
 wires_of_both v n k None P Q only few =
-    let A = has_app Any AnyLink n k P Q (record { nodes = any_nodes k (application n k P Q).nodes; links = any_links (application n k P Q).links }) in
+    let A = has_app Any AnyLink n k P Q (record {
+      nodes = any_nodes k (application n k P Q).nodes;
+      links = any_links (application n k P Q).links;
+    }) in
     some_wires n (wire_of v P.wires) (wire_of v Q.wires) (wire_of v (application n k P Q).wires) (A.wires v few)
 wires_of_both v n k (Some x) P Q (q, only) few =
-    let A = has_app_to Any AnyLink n k x P (record { nodes = any_nodes k (application_to n k x P).nodes; links = any_links (application_to n k x P).links }) in
-    some_merges n (wire_of v P.wires) (wire_of v ((x, slot_port k 2) ∷ [])) (wire_of v (application_to n k x P).wires) (A.wires v)
-    ∙ ap (λ b. some (wire_of v P.wires) || b) (one_wire v x (slot_port k 2) ∙ sym (one_wire v x q) ∙ ap (λ wires. some (wire_of v wires)) (sym only))
+    let A = has_app_to Any AnyLink n k x P
+    (record {
+      nodes = any_nodes k (application_to n k x P).nodes;
+      links = any_links (application_to n k x P).links;
+    }) in
+    some_merges n (wire_of v P.wires) (wire_of v ((x, slot_port k 2) ∷ []))
+    (wire_of v (application_to n k x P).wires) (A.wires v)
+    ∙ ap (λ b. some (wire_of v P.wires) || b)
+    (one_wire v x (slot_port k 2) ∙ sym (one_wire v x q) ∙ ap (λ wires. some (wire_of v wires)) (sym only))
 
-pub has_wire : (τ : Translation) (t : Tree) (y : Wire) (d n k : ℕ) → is_below d t ≡ true → IsInside d y → some (wire_of (key d y) (subnet_of τ t d n k).wires) ≡ occurs y t
+pub has_wire : (τ : Translation) (t : Tree) (y : Wire) (d n k : ℕ) → is_below d t ≡ true →
+    IsInside d y → some (wire_of (key d y) (subnet_of τ t d n k).wires) ≡ occurs y t
 has_wire τ (var v) (bound y) d n k h i = one_wire y v (slot_port k 0)
-has_wire τ (var v) (name f) d n k h i = let off : nat_eq v (d + f) ≡ false = grind (arith, nat_tests, h) in one_wire (d + f) v (slot_port k 0) ∙ off
-has_wire τ (free g) (bound y) d n k h i = let off : nat_eq (d + g) y ≡ false = grind (arith, nat_tests, i) in one_wire y (d + g) (slot_port k 0) ∙ off
-has_wire τ (free g) (name f) d n k h i = let same : nat_eq (d + g) (d + f) ≡ nat_eq g f = grind (arith, nat_tests) in one_wire (d + f) (d + g) (slot_port k 0) ∙ same
+has_wire τ (var v) (name f) d n k h i = let off : nat_eq v (d + f) ≡ false = grind
+    (arith, nat_tests, h) in one_wire (d + f) v (slot_port k 0) ∙ off
+has_wire τ (free g) (bound y) d n k h i = let off : nat_eq (d + g) y ≡ false = grind
+    (arith, nat_tests, i) in one_wire y (d + g) (slot_port k 0) ∙ off
+has_wire τ (free g) (name f) d n k h i = let same : nat_eq (d + g) (d + f) ≡ nat_eq g f = grind
+    (arith, nat_tests) in one_wire (d + f) (d + g) (slot_port k 0) ∙ same
 has_wire τ (lam M) y d n k h i =
     ap some (outside_wire (key d y) (subnet_of τ M (d + 1) n (k + 1)).wires)
-    ∙ subst (λ v. some (wire_of v (subnet_of τ M (d + 1) n (k + 1)).wires) ≡ occurs (under y) M) (key_under d y) (has_wire τ M (under y) (d + 1) n (k + 1) h (inside_under d y i))
+    ∙ subst (λ v. some (wire_of v (subnet_of τ M (d + 1) n (k + 1)).wires) ≡ occurs (under y) M)
+    (key_under d y) (has_wire τ M (under y) (d + 1) n (k + 1) h (inside_under d y i))
     ∙ sym (occurs_lam y M)
 has_wire τ (app M N) y d n k h i =
     let b = and_parts (is_below d M) (is_below d N) h in
     let P = subnet_of τ M d n (k + 1) in
     let Q = argument τ M N d n k in
-    wires_of_both (key d y) n k (bare_variable τ d N) P Q (bare_part τ N d (n + 1) (k + 1 + length P.nodes)) (few_wires τ (key d y) N d (n + 1) (k + 1 + length P.nodes))
+    wires_of_both (key d y) n k (bare_variable τ d N) P Q
+    (bare_part τ N d (n + 1) (k + 1 + length P.nodes)) (few_wires τ (key d y) N d (n + 1) (k + 1 + length P.nodes))
     ∙ ap (λ b. b || some (wire_of (key d y) Q.wires)) (has_wire τ M y d n (k + 1) b.0 i)
     ∙ ap (λ b. occurs y M || b) (has_wire τ N y d (n + 1) (k + 1 + length P.nodes) b.1 i)
     ∙ sym (occurs_app y M N)
@@ -219,10 +270,12 @@ pub occurs_inside : (t : Tree) (y : Wire) (d : ℕ) → is_below d t ≡ true �
 occurs_inside t (name f) d h o = tt
 occurs_inside (var v) (bound y) d h o = grind (arith, nat_tests, h, o)
 occurs_inside (free g) (bound y) d h o = absurd (cc)
-occurs_inside (lam M) (bound y) d h o = let r : suc y < d + 1 = occurs_inside M (bound (suc y)) (d + 1) h o in omega arith
+occurs_inside (lam M) (bound y) d h o = let r : suc y < d + 1 = occurs_inside M (bound (suc y))
+    (d + 1) h o in omega arith
 occurs_inside (app M N) (bound y) d h o =
     let b = and_parts (is_below d M) (is_below d N) h in
-    or_parts (occurs (bound y) M) (occurs (bound y) N) o (y < d) (occurs_inside M (bound y) d b.0) (occurs_inside N (bound y) d b.1)
+    or_parts (occurs (bound y) M) (occurs (bound y) N) o (y < d) (occurs_inside M (bound y) d b.0)
+    (occurs_inside N (bound y) d b.1)
 
 some_is : (x : Option Port) → some x ≡ true → (p : Port) × (x ≡ Some p)
 some_is None e = absurd (cc)
@@ -232,28 +285,39 @@ none_is : (x : Option Port) → some x ≡ false → x ≡ None
 none_is None e = refl
 none_is (Some p) e = absurd (cc)
 
-pub wire_there : (τ : Translation) (t : Tree) (y : Wire) (d n k : ℕ) → is_below d t ≡ true → occurs y t ≡ true → (p : Port) × (wire_of (key d y) (subnet_of τ t d n k).wires ≡ Some p)
-wire_there τ t y d n k h o = some_is (wire_of (key d y) (subnet_of τ t d n k).wires) (has_wire τ t y d n k h (occurs_inside t y d h o) ∙ o)
+pub wire_there : (τ : Translation) (t : Tree) (y : Wire) (d n k : ℕ) → is_below d t ≡ true →
+    occurs y t ≡ true → (p : Port) × (wire_of (key d y) (subnet_of τ t d n k).wires ≡ Some p)
+wire_there τ t y d n k h o = some_is (wire_of (key d y) (subnet_of τ t d n k).wires)
+    (has_wire τ t y d n k h (occurs_inside t y d h o) ∙ o)
 
-pub wire_not : (τ : Translation) (t : Tree) (y : Wire) (d n k : ℕ) → is_below d t ≡ true → IsInside d y → occurs y t ≡ false → wire_of (key d y) (subnet_of τ t d n k).wires ≡ None
+pub wire_not : (τ : Translation) (t : Tree) (y : Wire) (d n k : ℕ) → is_below d t ≡ true →
+    IsInside d y → occurs y t ≡ false → wire_of (key d y) (subnet_of τ t d n k).wires ≡ None
 wire_not τ t y d n k h i o = none_is (wire_of (key d y) (subnet_of τ t d n k).wires) (has_wire τ t y d n k h i ∙ o)
 
 -- ---- the wire of an argument that is one
 
-same_key : (τ : Translation) (d x : ℕ) (Q : Tree) (y : Wire) → bare_variable τ d Q ≡ Some x → is_below d Q ≡ true → IsInside d y → nat_eq x (key d y) ≡ occurs y Q
+same_key : (τ : Translation) (d x : ℕ) (Q : Tree) (y : Wire) → bare_variable τ d Q ≡ Some x →
+    is_below d Q ≡ true → IsInside d y → nat_eq x (key d y) ≡ occurs y Q
 same_key τ d x Q y e h i =
-    let w : HasOnly (Some x) (subnet_of τ Q d 0 0).wires = subst (λ o. HasOnly o (subnet_of τ Q d 0 0).wires) e (bare_part τ Q d 0 0) in
+    let w : HasOnly (Some x) (subnet_of τ Q d 0 0).wires = subst
+    (λ o. HasOnly o (subnet_of τ Q d 0 0).wires) e (bare_part τ Q d 0 0) in
     sym (one_wire (key d y) x w.0) ∙ ap (λ wires. some (wire_of (key d y) wires)) (sym w.1) ∙ has_wire τ Q y d 0 0 h i
 
-pub bare_there : (τ : Translation) (d x : ℕ) (Q : Tree) (y : Wire) (p : Port) → bare_variable τ d Q ≡ Some x → is_below d Q ≡ true → IsInside d y → occurs y Q ≡ true → wire_of (key d y) ((x, p) ∷ []) ≡ Some p
+pub bare_there : (τ : Translation) (d x : ℕ) (Q : Tree) (y : Wire) (p : Port) →
+    bare_variable τ d Q ≡ Some x → is_below d Q ≡ true → IsInside d y → occurs y Q ≡ true →
+    wire_of (key d y) ((x, p) ∷ []) ≡ Some p
 bare_there τ d x Q y p e h i o = let t : nat_eq x (key d y) ≡ true = same_key τ d x Q y e h i ∙ o in rw t refl
 
 -- which of both it is
-pub bare_occurs : (τ : Translation) (d x : ℕ) (Q : Tree) (y : Wire) (p q : Port) → bare_variable τ d Q ≡ Some x → is_below d Q ≡ true → IsInside d y → wire_of (key d y) ((x, p) ∷ []) ≡ Some q → (occurs y Q ≡ true) × (q ≡ p)
+pub bare_occurs : (τ : Translation) (d x : ℕ) (Q : Tree) (y : Wire) (p q : Port) →
+    bare_variable τ d Q ≡ Some x → is_below d Q ≡ true → IsInside d y →
+    wire_of (key d y) ((x, p) ∷ []) ≡ Some q → (occurs y Q ≡ true) × (q ≡ p)
 bare_occurs τ d x Q y p q e h i f =
     let t : nat_eq x (key d y) ≡ true = sym (one_wire (key d y) x p) ∙ ap some f in
     let g : ◌≡◌ {A = Option Port} (Some p) (Some q) = rw t at f in
     (sym (same_key τ d x Q y e h i) ∙ t, let same : p ≡ q = cc in sym same)
 
-pub bare_lacks : (τ : Translation) (d x : ℕ) (Q : Tree) (y : Wire) (p : Port) → bare_variable τ d Q ≡ Some x → is_below d Q ≡ true → IsInside d y → wire_of (key d y) ((x, p) ∷ []) ≡ None → occurs y Q ≡ false
+pub bare_lacks : (τ : Translation) (d x : ℕ) (Q : Tree) (y : Wire) (p : Port) →
+    bare_variable τ d Q ≡ Some x → is_below d Q ≡ true → IsInside d y →
+    wire_of (key d y) ((x, p) ∷ []) ≡ None → occurs y Q ≡ false
 bare_lacks τ d x Q y p e h i f = sym (same_key τ d x Q y e h i) ∙ sym (one_wire (key d y) x p) ∙ ap some f

@@ -1,4 +1,5 @@
--- The laws of a term's net, by either translation, and its spots: a path of the net is a trail of the spots, and the other way round.
+-- The laws of a term's net, by either translation, and its spots: a path of the net is a trail of
+-- the spots, and the other way round.
 use Rattle.std.specs.Prelude.{ℕ, ◌↔◌}
 use Rattle.ol_term.specs.declared.translations.Translation.{Translation}
 use Rattle.ol_term.specs.Trees.{Tree}
@@ -13,7 +14,8 @@ use Rattle.ol_spots_net.specs.Spots.{at, Leads, place, applications}
 abbrev pub LeadsOut : Translation → Tree → ℕ → Context → ℕ → Context → ℕ → Type 0
 LeadsOut τ t p c q d n = Leads τ t (at (place p) (c 0) (tail c)) (at (place q) (d 0) (tail d)) n
 
--- a path of the term's net leads from one free port to another, with these contexts, exactly where a trail of its spots does
+-- a path of the term's net leads from one free port to another, with these contexts, exactly where
+-- a trail of its spots does
 abbrev pub NetAndSpots : Type 0
 NetAndSpots = (τ : Translation) (t : Tree) (names : ℕ) → HasNames t names →
     (p q : ℕ) (c d : Context) →

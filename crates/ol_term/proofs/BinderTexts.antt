@@ -1,5 +1,7 @@
 -- Names of binders.
-use Rattle.std.proofs.Common.{◌≡◌, ℕ, zero, suc, ◌<◌, ◌≤◌, ◌⊎◌, inl, inr, true, false, ◌||◌, cond, List, [], ◌∷◌, ◌++◌, length, get_or, Some, None, refl, sym, ap, ◌∙◌, arith}
+use Rattle.std.proofs.Common.{◌≡◌, ℕ, zero, suc, ◌<◌, ◌≤◌, ◌⊎◌, inl, inr, true, false, ◌||◌, cond}
+use Rattle.std.proofs.Common.{List, [], ◌∷◌, ◌++◌, length, get_or, Some, None, refl, sym, ap, ◌∙◌}
+use Rattle.std.proofs.Common.{arith}
 use Rattle.std.specs.Prelude.{◌≢◌, slice_get}
 use Rattle.std.specs.Str.{bytes_eq}
 use Rattle.std.proofs.lemmas.Bool.{cases_Bool, or_right}
@@ -23,30 +25,36 @@ among_at (m ∷ names) zero t e =
     ap (λ b. b || is_among names t) ((bytes_eq-Decides m t).1 y)
 among_at (m ∷ names) (suc k) t e = or_right (bytes_eq m t) (is_among names t) (among_at names k t e)
 
-pub among_nowhere : (names : List (List ℕ)) (t : List ℕ) → ((j : ℕ) → slice_get names j ≢ Some t) → is_among names t ≡ false
+pub among_nowhere : (names : List (List ℕ)) (t : List ℕ) → ((j : ℕ) → slice_get names j ≢ Some t) →
+    is_among names t ≡ false
 among_nowhere [] t h = refl
 among_nowhere (m ∷ names) t h =
     ap (λ b. b || is_among names t) (not_same m t (λ e. h 0 (ap Some e)))
     ∙ among_nowhere names t (λ j. h (suc j))
 
 -- passing over a name
-pub fresh_taken : (names : List (List ℕ)) (n k m : ℕ) → n ≡ suc k → is_among names (candidate m) ≡ true → fresh_from names n m ≡ fresh_from names k (suc m)
+pub fresh_taken : (names : List (List ℕ)) (n k m : ℕ) → n ≡ suc k →
+    is_among names (candidate m) ≡ true → fresh_from names n m ≡ fresh_from names k (suc m)
 fresh_taken names n k m e h = ap (λ n. fresh_from names n m) e ∙ ap (λ b. cond b (fresh_from names k (suc m)) m) h
 
-pub fresh_found : (names : List (List ℕ)) (n k m : ℕ) → n ≡ suc k → is_among names (candidate m) ≡ false → fresh_from names n m ≡ m
+pub fresh_found : (names : List (List ℕ)) (n k m : ℕ) → n ≡ suc k →
+    is_among names (candidate m) ≡ false → fresh_from names n m ≡ m
 fresh_found names n k m e h = ap (λ n. fresh_from names n m) e ∙ ap (λ b. cond b (fresh_from names k (suc m)) m) h
 
 pub fresh_last : (names : List (List ℕ)) (n m : ℕ) → n ≡ 0 → fresh_from names n m ≡ m
 fresh_last names n m e = ap (λ n. fresh_from names n m) e
 
 -- one number more
-start_is : (names : List (List ℕ)) (ns : List ℕ) (m : ℕ) → AreNumbers names ns → IsStart ns m → binder_number names (length ns) ≡ fresh_from names (length names) m
+start_is : (names : List (List ℕ)) (ns : List ℕ) (m : ℕ) → AreNumbers names ns → IsStart ns m →
+    binder_number names (length ns) ≡ fresh_from names (length names) m
 start_is names ns m h (inl s) = ap (binder_number names) s.0 ∙ ap (fresh_from names (length names)) (sym s.1)
 start_is names ns m h (inr s) =
     let l = s.1 in
-    ap (binder_number names) s.1 ∙ ap (λ n. fresh_from names (length names) (suc n)) (sym (h s.0 0 (omega arith))) ∙ ap (fresh_from names (length names)) (sym s.2)
+    ap (binder_number names) s.1 ∙ ap (λ n. fresh_from names (length names) (suc n))
+    (sym (h s.0 0 (omega arith))) ∙ ap (fresh_from names (length names)) (sym s.2)
 
-pub numbers_push : (names : List (List ℕ)) (ns : List ℕ) (m n : ℕ) → AreNumbers names ns → IsStart ns m → n ≡ fresh_from names (length names) m → AreNumbers names (ns ++ n ∷ [])
+pub numbers_push : (names : List (List ℕ)) (ns : List ℕ) (m n : ℕ) → AreNumbers names ns →
+    IsStart ns m → n ≡ fresh_from names (length names) m → AreNumbers names (ns ++ n ∷ [])
 numbers_push names ns m n h s e t d b = go (cases t (length ns))
   where
     cases : (t k : ℕ) → (t < k) ⊎ (k ≤ t)

@@ -1,5 +1,7 @@
 -- The names of binders.
-use Rattle.std.proofs.Common.{◌≡◌, ℕ, zero, suc, ◌+◌, ◌*◌, ◌/◌, ◌%◌, ◌==◌, ◌<◌, ◌≤◌, ◌^◌, inl, inr, List, [], ◌∷◌, length, Bool, true, false, ◌||◌, cond, refl, sym, ap, ◌∙◌, arith}
+use Rattle.std.proofs.Common.{◌≡◌, ℕ, zero, suc, ◌+◌, ◌*◌, ◌/◌, ◌%◌, ◌==◌, ◌<◌, ◌≤◌, ◌^◌, inl, inr}
+use Rattle.std.proofs.Common.{List, [], ◌∷◌, length, Bool, true, false, ◌||◌, cond, refl, sym, ap}
+use Rattle.std.proofs.Common.{◌∙◌, arith}
 use Rattle.std.specs.Fmt.{decimal}
 use Rattle.std.specs.Str.Parse.{AllDigits, digits_value}
 use Rattle.std.proofs.Math.Nat.{div-add-mod, mul-le-mul}
@@ -10,7 +12,8 @@ use Rattle.std.proofs.lemmas.Fmt.{decimal_is_IsNumeral_wide}
 use Rattle.std.proofs.lemmas.Str.Parse.{digit_from_value}
 use Rattle.ol_term.specs.BinderNames.{candidate, is_among, fresh_from, binder_number, binder_name}
 use Rattle.ol_term.specs.NameLists.{without}
-use Rattle.ol_term.specs.BinderLaws.{AreDigits, IsLetterWithDigits, BinderIsLetterWithDigits, BinderIsNotFree, BindersDiffer}
+use Rattle.ol_term.specs.BinderLaws.{AreDigits, IsLetterWithDigits, BinderIsLetterWithDigits}
+use Rattle.ol_term.specs.BinderLaws.{BinderIsNotFree, BindersDiffer}
 use Rattle.ol_term.proofs.BinderTexts.{not_same, among_at}
 
 -- ---- one name of the sequence
@@ -36,7 +39,8 @@ tail_same p q h k e = go (p == 0) refl (q == 0) refl e
     value n l = (decimal_is_IsNumeral_wide n l).1
 
     some : (n : ℕ) → n < 10 ^ 64 → [] ≡ decimal n → ⊥
-    some n l z = let h : 0 < length (decimal n) = (decimal_is_IsNumeral_wide n l).0.0 in let k = ap length z in absurd (omega arith)
+    some n l z = let h : 0 < length (decimal n) = (decimal_is_IsNumeral_wide n l).0.0 in
+        let k = ap length z in absurd (omega arith)
 
     go : (a : Bool) → (p == 0) ≡ a → (b : Bool) → (q == 0) ≡ b → cond a [] (decimal p) ≡ cond b [] (decimal q) → p ≡ q
     go true x true y z = eqb-true p 0 x ∙ sym (eqb-true q 0 y)
@@ -64,7 +68,8 @@ without_short : (x : List ℕ) (ns : List (List ℕ)) → length (without x ns) 
 without_short x [] = omega arith
 without_short x (n ∷ ns) = go (bytes_eq x n) (without_short x ns)
   where
-    go : (b : Bool) → length (without x ns) ≤ length ns → length (cond b (without x ns) (n ∷ without x ns)) ≤ length (n ∷ ns)
+    go : (b : Bool) → length (without x ns) ≤ length ns →
+        length (cond b (without x ns) (n ∷ without x ns)) ≤ length (n ∷ ns)
     go true h = omega arith
     go false h = omega arith
 
@@ -82,7 +87,8 @@ without_other : (x y : List ℕ) (ns : List (List ℕ)) → (x ≡ y → ⊥) �
 without_other x y [] h = refl
 without_other x y (n ∷ ns) h = go (bytes_eq x n) refl (without_other x y ns h)
   where
-    go : (b : Bool) → bytes_eq x n ≡ b → is_among ns y ≡ is_among (without x ns) y → (bytes_eq n y || is_among ns y) ≡ is_among (cond b (without x ns) (n ∷ without x ns)) y
+    go : (b : Bool) → bytes_eq x n ≡ b → is_among ns y ≡ is_among (without x ns) y →
+        (bytes_eq n y || is_among ns y) ≡ is_among (cond b (without x ns) (n ∷ without x ns)) y
     go true e each = ap (λ b. b || is_among ns y) (not_same n y (λ s. h ((bytes_eq-Decides x n).0 e ∙ s))) ∙ each
     go false e each = ap (λ b. bytes_eq n y || b) each
 
@@ -104,28 +110,38 @@ fresh_high names (suc n) m = go (is_among names (candidate m)) (fresh_high names
     go true h = omega arith
     go false h = omega arith
 
-fresh_same : (ms ns : List (List ℕ)) (n m : ℕ) → ((k : ℕ) → m ≤ k → k < m + n → is_among ms (candidate k) ≡ is_among ns (candidate k)) → fresh_from ms n m ≡ fresh_from ns n m
+fresh_same : (ms ns : List (List ℕ)) (n m : ℕ) →
+    ((k : ℕ) → m ≤ k → k < m + n → is_among ms (candidate k) ≡ is_among ns (candidate k)) →
+    fresh_from ms n m ≡ fresh_from ns n m
 fresh_same ms ns zero m h = refl
 fresh_same ms ns (suc n) m h =
     ap (λ b. cond b (fresh_from ms n (suc m)) m) (h m (omega arith) (omega arith))
-    ∙ ap (λ r. cond (is_among ns (candidate m)) r m) (fresh_same ms ns n (suc m) (λ k a b. h k (omega arith) (omega arith)))
+    ∙ ap (λ r. cond (is_among ns (candidate m)) r m)
+    (fresh_same ms ns n (suc m) (λ k a b. h k (omega arith) (omega arith)))
 
 -- of one name more than there are free names, one is fresh
-fresh_is_new : (n : ℕ) (names : List (List ℕ)) (m : ℕ) → length names ≤ n → m + n < 10 ^ 64 → is_among names (candidate (fresh_from names n m)) ≡ false
+fresh_is_new : (n : ℕ) (names : List (List ℕ)) (m : ℕ) → length names ≤ n → m + n < 10 ^ 64 →
+    is_among names (candidate (fresh_from names n m)) ≡ false
 fresh_is_new zero [] m h l = refl
 fresh_is_new zero (x ∷ names) m h l = absurd (omega arith)
-fresh_is_new (suc n) names m h l = go (is_among names (candidate m)) refl (λ b. fresh_is_new n (without (candidate m) names) (suc m) b (omega arith))
+fresh_is_new (suc n) names m h l = go (is_among names (candidate m)) refl
+    (λ b. fresh_is_new n (without (candidate m) names) (suc m) b (omega arith))
   where
-    same : (k : ℕ) → suc m ≤ k → k < 10 ^ 64 → is_among names (candidate k) ≡ is_among (without (candidate m) names) (candidate k)
-    same k a b = without_other (candidate m) (candidate k) names (λ e. let z = same_candidate m k (omega arith) b e in absurd (omega arith))
+    same : (k : ℕ) → suc m ≤ k → k < 10 ^ 64 →
+        is_among names (candidate k) ≡ is_among (without (candidate m) names) (candidate k)
+    same k a b = without_other (candidate m) (candidate k) names
+        (λ e. let z = same_candidate m k (omega arith) b e in absurd (omega arith))
 
-    go : (b : Bool) → is_among names (candidate m) ≡ b → (length (without (candidate m) names) ≤ n → is_among (without (candidate m) names) (candidate (fresh_from (without (candidate m) names) n (suc m))) ≡ false)
+    go : (b : Bool) → is_among names (candidate m) ≡ b →
+        (length (without (candidate m) names) ≤ n →
+        is_among (without (candidate m) names) (candidate (fresh_from (without (candidate m) names) n (suc m))) ≡ false)
         → is_among names (candidate (cond b (fresh_from names n (suc m)) m)) ≡ false
     go true e each =
         let less = without_less (candidate m) names e in
         let low = fresh_low (without (candidate m) names) n (suc m) in
         let high = fresh_high (without (candidate m) names) n (suc m) in
-        ap (λ r. is_among names (candidate r)) (fresh_same names (without (candidate m) names) n (suc m) (λ k a b. same k a (omega arith)))
+        ap (λ r. is_among names (candidate r))
+        (fresh_same names (without (candidate m) names) n (suc m) (λ k a b. same k a (omega arith)))
         ∙ same (fresh_from (without (candidate m) names) n (suc m)) low (omega arith)
         ∙ each (omega arith)
     go false e each = e
@@ -134,17 +150,22 @@ fresh_is_new (suc n) names m h l = go (is_among names (candidate m)) refl (λ b.
 
 number_high : (names : List (List ℕ)) (t : ℕ) → binder_number names t ≤ t + (t + 1) * length names
 number_high names zero = let h = fresh_high names (length names) 0 in omega arith
-number_high names (suc t) = let h = fresh_high names (length names) (suc (binder_number names t)) in let k = number_high names t in omega arith
+number_high names (suc t) = let h = fresh_high names (length names) (suc (binder_number names t)) in
+    let k = number_high names t in omega arith
 
-number_written : (names : List (List ℕ)) (t : ℕ) → length names < 2 ^ 32 → t < 2 ^ 64 → binder_number names t + length names + 1 < 10 ^ 64
+number_written : (names : List (List ℕ)) (t : ℕ) → length names < 2 ^ 32 → t < 2 ^ 64 →
+    binder_number names t + length names + 1 < 10 ^ 64
 number_written names t h k =
     let l = number_high names t in
-    let m : (t + 1) * length names ≤ 2 ^ 64 * 2 ^ 32 = mul-le-mul {n₁ = t + 1} {m₁ = length names} {n₂ = 2 ^ 64} {m₂ = 2 ^ 32} (omega arith) (omega arith) in
+    let m : (t + 1) * length names ≤ 2 ^ 64 * 2 ^ 32 = mul-le-mul {n₁ = t + 1} {m₁ = length names}
+    {n₂ = 2 ^ 64} {m₂ = 2 ^ 32} (omega arith) (omega arith) in
     omega arith
 
-number_is_new : (names : List (List ℕ)) (t : ℕ) → length names < 2 ^ 32 → t < 2 ^ 64 → is_among names (candidate (binder_number names t)) ≡ false
+number_is_new : (names : List (List ℕ)) (t : ℕ) → length names < 2 ^ 32 → t < 2 ^ 64 →
+    is_among names (candidate (binder_number names t)) ≡ false
 number_is_new names zero h k = fresh_is_new (length names) names 0 (omega arith) (omega arith)
-number_is_new names (suc t) h k = let l = number_written names t h (omega arith) in fresh_is_new (length names) names (suc (binder_number names t)) (omega arith) (omega arith)
+number_is_new names (suc t) h k = let l = number_written names t h (omega arith) in
+    fresh_is_new (length names) names (suc (binder_number names t)) (omega arith) (omega arith)
 
 rising : (names : List (List ℕ)) (s t : ℕ) → s < t → binder_number names s < binder_number names t
 rising names s zero h = absurd (omega arith)
@@ -158,7 +179,8 @@ rising names s (suc t) h =
 -- ---- the laws
 
 pub binder_is_letter_with_digits : BinderIsLetterWithDigits
-binder_is_letter_with_digits names t h k = let l = number_written names t h k in letter_with_digits (binder_number names t) (omega arith)
+binder_is_letter_with_digits names t h k = let l = number_written names t h k in
+    letter_with_digits (binder_number names t) (omega arith)
 
 pub binder_is_not_free : BinderIsNotFree
 binder_is_not_free names t h k j e =

@@ -65,7 +65,8 @@ pub record IsStep
 
 -- a tree was printed, or a part of it, with n binders round it
 abbrev pub PrintsTree : List (List ℕ) → Bool → ℕ → Tree → List ℕ → List Todo → List ℕ → List Todo → Type 0
-PrintsTree names body n t x items x' items' = IsStep names x items (term_text_under names body n t) (4 * term_size t) x' items'
+PrintsTree names body n t x items x' items' = IsStep names x items (term_text_under names body n t)
+    (4 * term_size t) x' items'
 
 -- an item was printed, or a part of it
 abbrev pub Prints : List (List ℕ) → Todo → List ℕ → List Todo → List ℕ → List Todo → Type 0

@@ -33,7 +33,8 @@ in_brackets text = 40 ∷ (text ++ 41 ∷ [])
 abbrev pub term_text_under : List (List ℕ) → Bool → ℕ → Tree → List ℕ
 term_text_under names body t (var k) = before_body body ++ binder_name names (t - (k + 1))
 term_text_under names body t (free k) = before_body body ++ slice_index_or names k []
-term_text_under names body t (lam u) = before_binder body ++ (binder_name names t ++ term_text_under names true (t + 1) u)
+term_text_under names body t (lam u) = before_binder body ++
+    (binder_name names t ++ term_text_under names true (t + 1) u)
 term_text_under names body t (app f a) =
     before_body body
     ++ ((if is_abstraction f then in_brackets (term_text_under names false t f) else term_text_under names false t f)

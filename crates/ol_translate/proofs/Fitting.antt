@@ -1,5 +1,6 @@
 -- The parts of a term are those of a net: nothing is refused but for want of memory.
-use Rattle.std.proofs.Common.{◌≡◌, ◌≢◌, ℕ, zero, suc, ◌<◌, ◌≤◌, ◌+◌, List, [], ◌∷◌, length, true, false, Bool, inl, inr, refl, ap, arith, subst, eq-eqb}
+use Rattle.std.proofs.Common.{◌≡◌, ◌≢◌, ℕ, zero, suc, ◌<◌, ◌≤◌, ◌+◌, List, [], ◌∷◌, length, true}
+use Rattle.std.proofs.Common.{false, Bool, inl, inr, refl, ap, arith, subst, eq-eqb}
 use Rattle.std.proofs.lemmas.Bool.Decides.{nat_tests}
 use Rattle.ol_term.specs.declared.translations.Translation.{Translation}
 use Rattle.ol_term.specs.Trees.{Tree}
@@ -52,13 +53,15 @@ uses-at p [] j h = absurd (omega arith)
 uses-at p (l ∷ links) zero h = omega arith
 uses-at p (l ∷ links) (suc j) h = omega (arith, uses-at p links j (omega arith))
 
-uses-two : (p : Port) (links : List (Port × Port)) (i j : ℕ) → i < j → j < length links → ends p (link_at links i) + ends p (link_at links j) ≤ uses p links
+uses-two : (p : Port) (links : List (Port × Port)) (i j : ℕ) → i < j → j < length links →
+    ends p (link_at links i) + ends p (link_at links j) ≤ uses p links
 uses-two p [] i j o h = absurd (omega arith)
 uses-two p (l ∷ links) i zero o h = absurd (omega arith)
 uses-two p (l ∷ links) zero (suc j) o h = omega (arith, uses-at p links j (omega arith))
 uses-two p (l ∷ links) (suc i) (suc j) o h = omega (arith, uses-two p links i j (omega arith) (omega arith))
 
-uses-none : (p : Port) (links : List (Port × Port)) → ((j : ℕ) → j < length links → HasEnd (link_at links j) p → ⊥) → uses p links ≡ 0
+uses-none : (p : Port) (links : List (Port × Port)) →
+    ((j : ℕ) → j < length links → HasEnd (link_at links j) p → ⊥) → uses p links ≡ 0
 uses-none p [] h = refl
 uses-none p (l ∷ links) h =
     omega (
@@ -78,13 +81,15 @@ bit-le : (b : Bool) → bit b ≤ 1
 bit-le true = omega arith
 bit-le false = omega arith
 
-used_exists : (free : ℕ) (nodes : List (Kind × ℕ)) (links : List (Port × Port)) (p : Port) (j : ℕ) → EachOnce free nodes links → j < length links
+used_exists : (free : ℕ) (nodes : List (Kind × ℕ)) (links : List (Port × Port)) (p : Port) (j : ℕ) →
+    EachOnce free nodes links → j < length links
     → HasEnd (link_at links j) p → has_port free (all_live nodes) p ≡ false → ⊥
 used_exists free nodes links p j once h e gone =
     let count = rw gone at (once p) in
     absurd (omega (arith, count, uses-at p links j h, ends_of_end p (link_at links j) e))
 
-used_once : (free : ℕ) (nodes : List (Kind × ℕ)) (links : List (Port × Port)) (p : Port) (i j : ℕ) → EachOnce free nodes links → i < j → j < length links
+used_once : (free : ℕ) (nodes : List (Kind × ℕ)) (links : List (Port × Port)) (p : Port) (i j : ℕ) →
+    EachOnce free nodes links → i < j → j < length links
     → HasEnd (link_at links i) p → HasEnd (link_at links j) p → ⊥
 used_once free nodes links p i j once o h e f =
     absurd (omega (
@@ -96,7 +101,8 @@ used_once free nodes links p i j once o h e f =
       ends_of_end p (link_at links j) f,
     ))
 
-used_apart : (free : ℕ) (nodes : List (Kind × ℕ)) (links : List (Port × Port)) (j : ℕ) → EachOnce free nodes links → j < length links
+used_apart : (free : ℕ) (nodes : List (Kind × ℕ)) (links : List (Port × Port)) (j : ℕ) →
+    EachOnce free nodes links → j < length links
     → (link_at links j).0 ≡ (link_at links j).1 → ⊥
 used_apart free nodes links j once h e =
     let p = (link_at links j).0 in
@@ -110,29 +116,37 @@ used_apart free nodes links j once h e =
       second,
     ))
 
-used_somewhere : (free : ℕ) (nodes : List (Kind × ℕ)) (links : List (Port × Port)) (p : Port) → EachOnce free nodes links
+used_somewhere : (free : ℕ) (nodes : List (Kind × ℕ)) (links : List (Port × Port)) (p : Port) →
+    EachOnce free nodes links
     → has_port free (all_live nodes) p ≡ true → ((j : ℕ) → j < length links → HasEnd (link_at links j) p → ⊥) → ⊥
 used_somewhere free nodes links p once there loose =
     let count = rw there at (once p) in
     absurd (omega (arith, count, uses-none p links loose))
 
-only_memory : (w : Translation) (t : Tree) (names : ℕ) (fault : BuildFault) → HasNames t names → length (nodes_of w t) ≤ 200000
+only_memory : (w : Translation) (t : Tree) (names : ℕ) (fault : BuildFault) → HasNames t names →
+    length (nodes_of w t) ≤ 200000
     → FaultIs build_top (1 + names) (nodes_of w t) (links_of w t) fault → fault ≢ NoMemory → ⊥
 only_memory w t names (BadIndex n) h few is ne = good_indexes w t few n is.0
 only_memory w t names (BadPort j) h few is ne = elim (is.1.0.1) [
-  | inl gone ↦ used_exists (1 + names) (nodes_of w t) (links_of w t) (link_at (links_of w t) j).0 j (each_port_once w t names h) is.1.0.0 (inl refl) gone
-  | inr gone ↦ used_exists (1 + names) (nodes_of w t) (links_of w t) (link_at (links_of w t) j).1 j (each_port_once w t names h) is.1.0.0 (inr refl) gone
+  | inl gone ↦ used_exists (1 + names) (nodes_of w t) (links_of w t) (link_at (links_of w t) j).0 j
+      (each_port_once w t names h) is.1.0.0 (inl refl) gone
+  | inr gone ↦ used_exists (1 + names) (nodes_of w t) (links_of w t) (link_at (links_of w t) j).1 j
+      (each_port_once w t names h) is.1.0.0 (inr refl) gone
 ]
 only_memory w t names (Twice j) h few is ne = elim (is.2.0.1) [
   | inl same ↦ used_apart (1 + names) (nodes_of w t) (links_of w t) j (each_port_once w t names h) is.2.0.0 same
-  | inr again ↦ used_once (1 + names) (nodes_of w t) (links_of w t) again.1 again.0 j (each_port_once w t names h) again.2 is.2.0.0 again.3 again.4
+  | inr again ↦ used_once (1 + names) (nodes_of w t) (links_of w t) again.1 again.0 j
+      (each_port_once w t names h) again.2 is.2.0.0 again.3 again.4
 ]
-only_memory w t names (Loose p) h few is ne = used_somewhere (1 + names) (nodes_of w t) (links_of w t) p (each_port_once w t names h) is.3.0.0 is.3.0.1
+only_memory w t names (Loose p) h few is ne = used_somewhere (1 + names) (nodes_of w t)
+    (links_of w t) p (each_port_once w t names h) is.3.0.0 is.3.0.1
 only_memory w t names NoMemory h few is ne = ne refl
 
 -- the same of parts that were laid down
-pub never_refused : (w : Translation) (t : Tree) (names free : ℕ) (nodes : List (Kind × ℕ)) (links : List (Port × Port)) (fault : BuildFault) → HasNames t names
-    → free ≡ 1 + names → nodes ≡ nodes_of w t → links ≡ links_of w t → length nodes ≤ 200000 → FaultIs build_top free nodes links fault → fault ≢ NoMemory → ⊥
+pub never_refused : (w : Translation) (t : Tree) (names free : ℕ) (nodes : List (Kind × ℕ))
+    (links : List (Port × Port)) (fault : BuildFault) → HasNames t names
+    → free ≡ 1 + names → nodes ≡ nodes_of w t → links ≡ links_of w t → length nodes ≤ 200000 →
+    FaultIs build_top free nodes links fault → fault ≢ NoMemory → ⊥
 never_refused w t names free nodes links fault h f n l few is ne =
     let few' : length (nodes_of w t) ≤ 200000 = omega (arith, ap length n) in
     let F : ℕ → Type 0 = λ m. FaultIs build_top m nodes links fault in
@@ -141,8 +155,10 @@ never_refused w t names free nodes links fault h f n l few is ne =
     only_memory w t names fault h few' (subst L l (subst N n (subst F f is))) ne
 
 -- a net of the parts that were laid down is the translation
-pub same_translation : (w : Translation) (t : Tree) (names free : ℕ) (nodes : List (Kind × ℕ)) (links : List (Port × Port)) (N : NamedNet ℕ)
-    → free ≡ 1 + names → nodes ≡ nodes_of w t → links ≡ links_of w t → SameNet N (net_of_parts free nodes links) → SameNet N (translation_of w t names)
+pub same_translation : (w : Translation) (t : Tree) (names free : ℕ) (nodes : List (Kind × ℕ))
+    (links : List (Port × Port)) (N : NamedNet ℕ)
+    → free ≡ 1 + names → nodes ≡ nodes_of w t → links ≡ links_of w t →
+    SameNet N (net_of_parts free nodes links) → SameNet N (translation_of w t names)
 same_translation w t names free nodes links N f n l same =
     let F : ℕ → Type 0 = λ m. SameNet N (net_of_parts m nodes links) in
     let M : List (Kind × ℕ) → Type 0 = λ m. SameNet N (net_of_parts (1 + names) m links) in

@@ -1,5 +1,7 @@
 -- A port of the whole net stands in one link, and no other port does.
-use Rattle.std.proofs.Common.{◌≡◌, ◌≢◌, ℕ, zero, suc, ◌<◌, ◌≤◌, ◌+◌, List, [], ◌∷◌, true, false, Bool, nat_eq, nat_lt, refl, ap, arith, ne_eqb, eq-eqb, if◌then◌else◌, zero-add}
+use Rattle.std.proofs.Common.{◌≡◌, ◌≢◌, ℕ, zero, suc, ◌<◌, ◌≤◌, ◌+◌, List, [], ◌∷◌, true, false}
+use Rattle.std.proofs.Common.{Bool, nat_eq, nat_lt, refl, ap, arith, ne_eqb, eq-eqb, if◌then◌else◌}
+use Rattle.std.proofs.Common.{zero-add}
 use Rattle.std.proofs.lemmas.Bool.Decides.{nat_tests}
 use Rattle.ol_term.specs.declared.translations.Translation.{Translation}
 use Rattle.ol_term.specs.Trees.{Tree}
@@ -72,7 +74,8 @@ slots_before k s j (K ∷ nodes) h =
     omega (arith, other_slots k s j K.0 apart, slots_before k s (j + 1) nodes (omega arith))
 
 -- k is i places after j
-slots_at : (k s j i : ℕ) (nodes : List (Kind × ℕ)) → k ≡ j + i → slots (slot_port k s) j nodes ≡ bit (has_slot (kind_at (all_live nodes) i) s)
+slots_at : (k s j i : ℕ) (nodes : List (Kind × ℕ)) → k ≡ j + i →
+    slots (slot_port k s) j nodes ≡ bit (has_slot (kind_at (all_live nodes) i) s)
 slots_at k s j i [] e = refl
 slots_at k s j zero (K ∷ nodes) e =
     let same : j ≡ k = omega arith in
@@ -96,7 +99,8 @@ no_free_ends k s (w ∷ wires) = rw zero-add (no_free_ends k s wires)
 root_free_ends : (wires : List (ℕ × Port)) → free_ends (Free 0) wires ≡ 0
 unfolding hit
 root_free_ends [] = refl
-root_free_ends (w ∷ wires) = let other : nat_eq 0 (w.0 + 1) ≡ false = ne_eqb 0 (w.0 + 1) (λ e. omega arith) in rw (other, zero-add) (root_free_ends wires)
+root_free_ends (w ∷ wires) = let other : nat_eq 0 (w.0 + 1) ≡ false = ne_eqb 0 (w.0 + 1)
+    (λ e. omega arith) in rw (other, zero-add) (root_free_ends wires)
 
 name_free_ends : (f : ℕ) (wires : List (ℕ × Port)) → free_ends (Free (f + 1)) wires ≡ times f wires
 unfolding hit
@@ -107,26 +111,47 @@ name_free_ends f (w ∷ wires) =
 
 -- ---- the whole term
 
-name_wires : (w : Translation) (t : Tree) (names f : ℕ) → HasNames t names → times f (subnet_of w t 0 0 0).wires ≡ bit (nat_lt f names)
+name_wires : (w : Translation) (t : Tree) (names f : ℕ) → HasNames t names →
+    times f (subnet_of w t 0 0 0).wires ≡ bit (nat_lt f names)
 name_wires w t names f h =
     elim (nat_lt f names) as (λ b. nat_lt f names ≡ b → times f (subnet_of w t 0 0 0).wires ≡ bit b) [
       | true ↦ (λ u. let low : f < names = grind (arith, nat_tests, u) in
-          let some : 1 ≤ times f (subnet_of w t 0 0 0).wires = rw zero-add at (name_has_wire w f t 0 0 0 (h.each f low)) in
+          let some : 1 ≤ times f (subnet_of w t 0 0 0).wires = rw zero-add at
+          (name_has_wire w f t 0 0 0 (h.each f low)) in
           omega (arith, some, few_wires w f t 0 0 0))
-      | false ↦ (λ u. let high : names ≤ f = grind (arith, nat_tests, u) in none_past w f names t 0 0 0 h.bound h.named (omega arith))
+      | false ↦ (λ u. let high : names ≤ f = grind (arith, nat_tests, u) in
+          none_past w f names t 0 0 0 h.bound h.named (omega arith))
     ] refl
 
 -- each port stands in one link
-pub each_port_once : (w : Translation) (t : Tree) (names : ℕ) → HasNames t names → (p : Port) → uses p (links_of w t) ≡ bit (has_port (1 + names) (all_live (nodes_of w t)) p)
+pub each_port_once : (w : Translation) (t : Tree) (names : ℕ) → HasNames t names → (p : Port) →
+    uses p (links_of w t) ≡ bit (has_port (1 + names) (all_live (nodes_of w t)) p)
 unfolding hit
 each_port_once w t names h (Of n s) =
-    omega (arith, whole_balance w (Of n s) t, slots_at n.0 s 0 n.0 (nodes_of w t) (omega arith), no_free_ends n.0 s (subnet_of w t 0 0 0).wires)
+    omega (
+      arith,
+      whole_balance w (Of n s) t,
+      slots_at n.0 s 0 n.0 (nodes_of w t) (omega arith),
+      no_free_ends n.0 s (subnet_of w t 0 0 0).wires,
+    )
 each_port_once w t names h (Free zero) =
     let there : nat_lt 0 (1 + names) ≡ true = grind (arith, nat_tests) in
-    rw there (omega (arith, whole_balance w (Free 0) t, free_slots 0 0 (nodes_of w t), root_free_ends (subnet_of w t 0 0 0).wires))
+    rw there (omega (
+      arith,
+      whole_balance w (Free 0) t,
+      free_slots 0 0 (nodes_of w t),
+      root_free_ends (subnet_of w t 0 0 0).wires,
+    ))
 each_port_once w t names h (Free (suc f)) =
     let next : suc f ≡ f + 1 = omega arith in
     let same : nat_lt (f + 1) (1 + names) ≡ nat_lt f names = grind (arith, nat_tests) in
     let other : nat_eq (f + 1) 0 ≡ false = ne_eqb (f + 1) 0 (λ e. omega arith) in
     let not_root : hit (Free (f + 1)) (Free 0) ≡ 0 = rw other refl in
-    rw (next, same) (omega (arith, whole_balance w (Free (f + 1)) t, free_slots (f + 1) 0 (nodes_of w t), name_free_ends f (subnet_of w t 0 0 0).wires, name_wires w t names f h, not_root))
+    rw (next, same) (omega (
+      arith,
+      whole_balance w (Free (f + 1)) t,
+      free_slots (f + 1) 0 (nodes_of w t),
+      name_free_ends f (subnet_of w t 0 0 0).wires,
+      name_wires w t names f h,
+      not_root,
+    ))

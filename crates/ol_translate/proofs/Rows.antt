@@ -12,11 +12,13 @@ abbrev self_application : Tree
 self_application = app (lam (app (var 0) (var 0))) (lam (var 0))
 
 nodes_of_self_application : nodes_of One self_application
-    ≡ (App, 0) ∷ (Lam, 0) ∷ (App, 0) ∷ (Croissant, 0) ∷ (Croissant, 1) ∷ (Bracket, 0) ∷ (Fan, 0) ∷ (Lam, 1) ∷ (Croissant, 1) ∷ []
+    ≡ (App, 0) ∷ (Lam, 0) ∷ (App, 0) ∷ (Croissant, 0) ∷ (Croissant, 1) ∷ (Bracket, 0) ∷ (Fan, 0) ∷
+    (Lam, 1) ∷ (Croissant, 1) ∷ []
 nodes_of_self_application = refl
 
 links_of_self_application : links_of One self_application
-    ≡ (slot_port 2 0, slot_port 3 1) ∷ (slot_port 2 2, slot_port 4 1) ∷ (slot_port 5 1, slot_port 4 0) ∷ (slot_port 6 1, slot_port 3 0) ∷ (slot_port 6 2, slot_port 5 0)
+    ≡ (slot_port 2 0, slot_port 3 1) ∷ (slot_port 2 2, slot_port 4 1) ∷
+    (slot_port 5 1, slot_port 4 0) ∷ (slot_port 6 1, slot_port 3 0) ∷ (slot_port 6 2, slot_port 5 0)
     ∷ (slot_port 1 1, slot_port 2 1) ∷ (slot_port 1 2, slot_port 6 0)
     ∷ (slot_port 7 1, slot_port 8 1) ∷ (slot_port 7 2, slot_port 8 0)
     ∷ (slot_port 0 0, slot_port 1 0) ∷ (slot_port 0 2, slot_port 7 0) ∷ (Free 0, slot_port 0 1) ∷ []
@@ -33,7 +35,8 @@ nodes_of_first : nodes_of One first ≡ (Lam, 0) ∷ (Lam, 0) ∷ (Croissant, 0)
 nodes_of_first = refl
 
 links_of_first : links_of One first
-    ≡ (slot_port 1 1, slot_port 2 1) ∷ (slot_port 1 2, slot_port 3 0) ∷ (slot_port 0 1, slot_port 1 0) ∷ (slot_port 0 2, slot_port 2 0) ∷ (Free 0, slot_port 0 0) ∷ []
+    ≡ (slot_port 1 1, slot_port 2 1) ∷ (slot_port 1 2, slot_port 3 0) ∷
+    (slot_port 0 1, slot_port 1 0) ∷ (slot_port 0 2, slot_port 2 0) ∷ (Free 0, slot_port 0 0) ∷ []
 links_of_first = refl
 
 -- \x. f (g f), of names f and g: both are counted, f before g, and f, which is free in both, has a fan
@@ -41,12 +44,15 @@ abbrev with_names : Tree
 with_names = lam (app (free 0) (app (free 1) (free 0)))
 
 nodes_of_with_names : nodes_of One with_names
-    ≡ (Lam, 0) ∷ (App, 0) ∷ (Croissant, 0) ∷ (App, 1) ∷ (Croissant, 1) ∷ (Croissant, 2) ∷ (Bracket, 1) ∷ (Bracket, 0) ∷ (Bracket, 0) ∷ (Fan, 0) ∷ (Eraser, 0) ∷ []
+    ≡ (Lam, 0) ∷ (App, 0) ∷ (Croissant, 0) ∷ (App, 1) ∷ (Croissant, 1) ∷ (Croissant, 2) ∷
+    (Bracket, 1) ∷ (Bracket, 0) ∷ (Bracket, 0) ∷ (Fan, 0) ∷ (Eraser, 0) ∷ []
 nodes_of_with_names = refl
 
 links_of_with_names : links_of One with_names
     ≡ (slot_port 3 0, slot_port 4 1) ∷ (slot_port 3 2, slot_port 5 1) ∷ (slot_port 6 1, slot_port 5 0)
-    ∷ (slot_port 1 0, slot_port 2 1) ∷ (slot_port 1 2, slot_port 3 1) ∷ (slot_port 7 1, slot_port 4 0) ∷ (slot_port 8 1, slot_port 6 0) ∷ (slot_port 9 1, slot_port 2 0) ∷ (slot_port 9 2, slot_port 8 0)
+    ∷ (slot_port 1 0, slot_port 2 1) ∷ (slot_port 1 2, slot_port 3 1) ∷
+    (slot_port 7 1, slot_port 4 0) ∷ (slot_port 8 1, slot_port 6 0) ∷
+    (slot_port 9 1, slot_port 2 0) ∷ (slot_port 9 2, slot_port 8 0)
     ∷ (slot_port 0 1, slot_port 1 1) ∷ (slot_port 0 2, slot_port 10 0)
     ∷ (Free 0, slot_port 0 0) ∷ (Free 1, slot_port 9 0) ∷ (Free 2, slot_port 7 0) ∷ []
 links_of_with_names = refl
@@ -54,8 +60,10 @@ links_of_with_names = refl
 size_of_with_names : size_of_translation One with_names ≡ 11
 size_of_with_names = refl
 
--- In translation 2 the wire of the second x is slot 2 of the application itself, which has number 2 and is joined to the fan.
-nodes_of_self_application_2 : nodes_of Two self_application ≡ (App, 0) ∷ (Lam, 0) ∷ (App, 0) ∷ (Croissant, 0) ∷ (Fan, 0) ∷ (Lam, 1) ∷ (Croissant, 1) ∷ []
+-- In translation 2 the wire of the second x is slot 2 of the application itself, which has number 2
+-- and is joined to the fan.
+nodes_of_self_application_2 : nodes_of Two self_application ≡ (App, 0) ∷ (Lam, 0) ∷ (App, 0) ∷
+    (Croissant, 0) ∷ (Fan, 0) ∷ (Lam, 1) ∷ (Croissant, 1) ∷ []
 nodes_of_self_application_2 = refl
 
 links_of_self_application_2 : links_of Two self_application
@@ -70,12 +78,15 @@ size_of_self_application_2 = refl
 
 -- f isn't free in g: its wire is slot 2 of the inner application, and has a bracket of the outer one
 nodes_of_with_names_2 : nodes_of Two with_names
-    ≡ (Lam, 0) ∷ (App, 0) ∷ (Croissant, 0) ∷ (App, 1) ∷ (Croissant, 1) ∷ (Bracket, 0) ∷ (Bracket, 0) ∷ (Fan, 0) ∷ (Eraser, 0) ∷ []
+    ≡ (Lam, 0) ∷ (App, 0) ∷ (Croissant, 0) ∷ (App, 1) ∷ (Croissant, 1) ∷ (Bracket, 0) ∷
+    (Bracket, 0) ∷ (Fan, 0) ∷ (Eraser, 0) ∷ []
 nodes_of_with_names_2 = refl
 
 links_of_with_names_2 : links_of Two with_names
     ≡ (slot_port 3 0, slot_port 4 1)
-    ∷ (slot_port 1 0, slot_port 2 1) ∷ (slot_port 1 2, slot_port 3 1) ∷ (slot_port 5 1, slot_port 4 0) ∷ (slot_port 6 1, slot_port 3 2) ∷ (slot_port 7 1, slot_port 2 0) ∷ (slot_port 7 2, slot_port 6 0)
+    ∷ (slot_port 1 0, slot_port 2 1) ∷ (slot_port 1 2, slot_port 3 1) ∷
+    (slot_port 5 1, slot_port 4 0) ∷ (slot_port 6 1, slot_port 3 2) ∷
+    (slot_port 7 1, slot_port 2 0) ∷ (slot_port 7 2, slot_port 6 0)
     ∷ (slot_port 0 1, slot_port 1 1) ∷ (slot_port 0 2, slot_port 8 0)
     ∷ (Free 0, slot_port 0 0) ∷ (Free 1, slot_port 7 0) ∷ (Free 2, slot_port 5 0) ∷ []
 links_of_with_names_2 = refl

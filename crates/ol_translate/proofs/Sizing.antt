@@ -1,12 +1,18 @@
 -- A term's part has as many nodes as its size, and its wires are those of its variables.
-use Rattle.std.proofs.Common.{◌≡◌, ℕ, suc, ◌≤◌, ◌+◌, ◌-◌, List, [], ◌∷◌, ◌++◌, length, map, filter, true, false, Bool, not, ◌||◌, cond, nat_eq, nat_lt, Option, None, Some, is_some, refl, ap, sym, ◌∙◌, arith, length-append, zero-add, eq-eqb, append_assoc, append-nil, if◌then◌else◌}
+use Rattle.std.proofs.Common.{◌≡◌, ℕ, suc, ◌≤◌, ◌+◌, ◌-◌, List, [], ◌∷◌, ◌++◌, length, map, filter}
+use Rattle.std.proofs.Common.{true, false, Bool, not, ◌||◌, cond, nat_eq, nat_lt, Option, None}
+use Rattle.std.proofs.Common.{Some, is_some, refl, ap, sym, ◌∙◌, arith, length-append, zero-add}
+use Rattle.std.proofs.Common.{eq-eqb, append_assoc, append-nil, if◌then◌else◌}
 use Rattle.std.proofs.lemmas.Bool.Decides.{nat_tests}
 use Rattle.std.proofs.lemmas.List.Folds.{list_any-append}
 use Rattle.ol_term.specs.declared.translations.Translation.{Translation}
 use Rattle.ol_term.specs.Trees.{Tree, var, free, lam, app}
 use Rattle.ol_net.specs.declared.parts.Kind.TheVariants as kind
 use Rattle.ol_net.specs.declared.parts.Port.{Port}
-use Rattle.ol_translate.specs.Translation.{Subnet, Wires, subnet_of, application, applied, bare_variable, outside, erasers, bracket_nodes, past_brackets, fans, fan_nodes, merged, wire_of, reconnected, slot_port, nodes_of}
+use Rattle.ol_translate.specs.Translation.{Subnet, Wires, subnet_of, application, applied}
+use Rattle.ol_translate.specs.Translation.{bare_variable, outside, erasers, bracket_nodes}
+use Rattle.ol_translate.specs.Translation.{past_brackets, fans, fan_nodes, merged, wire_of}
+use Rattle.ol_translate.specs.Translation.{reconnected, slot_port, nodes_of}
 use Rattle.ol_translate.specs.Sizes.{is_listed, variables, size_of_argument, size_under, size_of_translation}
 use Rattle.ol_translate.proofs.Counts.{times}
 use Rattle.ol_translate.proofs.Joints.{few_wires, times-bracketed, HasOnly, bare_part}
@@ -39,7 +45,8 @@ keys-rewired v p (w ∷ wires) =
 keys-outside : (wires : Wires) → keys (outside wires) ≡ map (λ v. v - 1) (filter (λ v. nat_lt 0 v) (keys wires))
 keys-outside [] = refl
 keys-outside (w ∷ wires) =
-    elim (nat_lt 0 w.0) as (λ b. nat_lt 0 w.0 ≡ b → keys (outside (w ∷ wires)) ≡ map (λ v. v - 1) (filter (λ v. nat_lt 0 v) (keys (w ∷ wires)))) [
+    elim (nat_lt 0 w.0) as (λ b. nat_lt 0 w.0 ≡ b →
+    keys (outside (w ∷ wires)) ≡ map (λ v. v - 1) (filter (λ v. nat_lt 0 v) (keys (w ∷ wires)))) [
       | true ↦ (λ t. rw t (ap (λ l. (w.0 - 1) ∷ l) (keys-outside wires)))
       | false ↦ (λ t. rw t (keys-outside wires))
     ] refl
@@ -76,13 +83,16 @@ filter_past : (f : Bool → Bool) (u : ℕ) (vs : List ℕ) (more : Wires) → t
     → filter (λ v. f (is_listed v (vs ++ u ∷ []))) (keys more) ≡ filter (λ v. f (is_listed v vs)) (keys more)
 filter_past f u vs [] h = refl
 filter_past f u vs (w ∷ more) h =
-    elim (nat_eq w.0 u) as (λ b. nat_eq w.0 u ≡ b → filter (λ v. f (is_listed v (vs ++ u ∷ []))) (keys (w ∷ more)) ≡ filter (λ v. f (is_listed v vs)) (keys (w ∷ more))) [
+    elim (nat_eq w.0 u) as (λ b. nat_eq w.0 u ≡ b →
+    filter (λ v. f (is_listed v (vs ++ u ∷ []))) (keys (w ∷ more)) ≡ filter
+    (λ v. f (is_listed v vs)) (keys (w ∷ more))) [
       | true ↦ (λ t. let some = rw t at h in absurd (omega arith))
       | false ↦ (λ t.
           let apart : nat_eq u w.0 ≡ false = grind (arith, nat_tests, t) in
           let rest = filter_past f u vs more (rw (t, zero-add) at h) in
           let same : is_listed w.0 (vs ++ u ∷ []) ≡ is_listed w.0 vs = among_past w.0 u vs apart in
-          ap (λ b. cond (f b) (w.0 ∷ filter (λ v. f (is_listed v (vs ++ u ∷ []))) (keys more)) (filter (λ v. f (is_listed v (vs ++ u ∷ []))) (keys more))) same
+          ap (λ b. cond (f b) (w.0 ∷ filter (λ v. f (is_listed v (vs ++ u ∷ []))) (keys more))
+          (filter (λ v. f (is_listed v (vs ++ u ∷ []))) (keys more))) same
           ∙ ap (λ l. cond (f (is_listed w.0 vs)) (w.0 ∷ l) l) rest)
     ] refl
 
@@ -97,7 +107,8 @@ differ-tail : (w : ℕ × Port) (more : Wires) → Differ (w ∷ more) → Diffe
 differ-tail w more h = λ v. let here = h v in
     let some : times v more ≤ (if nat_eq w.0 v then 1 else 0) + times v more = omega arith in omega arith
 
-merged_keys : (f : ℕ) (w : ℕ × Port) (wires : Wires) (x : Option Port) → keys (merged f x w wires) ≡ (if is_some x then keys wires else keys wires ++ w.0 ∷ [])
+merged_keys : (f : ℕ) (w : ℕ × Port) (wires : Wires) (x : Option Port) →
+    keys (merged f x w wires) ≡ (if is_some x then keys wires else keys wires ++ w.0 ∷ [])
 merged_keys f w wires None = keys-append wires (w ∷ [])
 merged_keys f w wires (Some q) = keys-rewired w.0 (slot_port f 0) wires
 
@@ -111,11 +122,14 @@ keys-fans n f wires [] h = sym (append-nil (keys wires))
 keys-fans n f wires (w ∷ more) h =
     let f' = f + length (fan_nodes n (wire_of w.0 wires)) in
     let W = merged f (wire_of w.0 wires) w wires in
-    let rest : keys (fans n f' W more).wires ≡ keys W ++ filter (λ v. not (is_listed v (keys W))) (keys more) = keys-fans n f' W more (differ-tail w more h) in
+    let rest : keys (fans n f' W more).wires ≡ keys W ++ filter (λ v. not (is_listed v (keys W)))
+    (keys more) = keys-fans n f' W more (differ-tail w more h) in
     let keys_are : keys W ≡ (if is_listed w.0 (keys wires) then keys wires else keys wires ++ w.0 ∷ []) =
-    merged_keys f w wires (wire_of w.0 wires) ∙ ap (λ b. if b then keys wires else keys wires ++ w.0 ∷ []) (sym (among_keys w.0 wires)) in
+    merged_keys f w wires (wire_of w.0 wires)
+    ∙ ap (λ b. if b then keys wires else keys wires ++ w.0 ∷ []) (sym (among_keys w.0 wires)) in
     elim (is_listed w.0 (keys wires)) as (λ b. is_listed w.0 (keys wires) ≡ b → keys (fans n f' W more).wires
-    ≡ keys wires ++ cond (not b) (w.0 ∷ filter (λ v. not (is_listed v (keys wires))) (keys more)) (filter (λ v. not (is_listed v (keys wires))) (keys more))) [
+    ≡ keys wires ++ cond (not b) (w.0 ∷ filter (λ v. not (is_listed v (keys wires))) (keys more))
+    (filter (λ v. not (is_listed v (keys wires))) (keys more))) [
       | true ↦ (λ t. let same : keys W ≡ keys wires = rw t at keys_are in
           rest ∙ ap (λ l. l ++ filter (λ v. not (is_listed v l)) (keys more)) same)
       | false ↦ (λ t. let same : keys W ≡ keys wires ++ w.0 ∷ [] = rw t at keys_are in
@@ -130,14 +144,18 @@ length-fans n f wires [] h = refl
 length-fans n f wires (w ∷ more) h =
     let f' = f + length (fan_nodes n (wire_of w.0 wires)) in
     let W = merged f (wire_of w.0 wires) w wires in
-    let rest : length (fans n f' W more).nodes ≡ length (filter (λ v. is_listed v (keys W)) (keys more)) = length-fans n f' W more (differ-tail w more h) in
+    let rest : length (fans n f' W more).nodes ≡ length
+    (filter (λ v. is_listed v (keys W)) (keys more)) = length-fans n f' W more (differ-tail w more h) in
     let keys_are : keys W ≡ (if is_listed w.0 (keys wires) then keys wires else keys wires ++ w.0 ∷ []) =
-    merged_keys f w wires (wire_of w.0 wires) ∙ ap (λ b. if b then keys wires else keys wires ++ w.0 ∷ []) (sym (among_keys w.0 wires)) in
+    merged_keys f w wires (wire_of w.0 wires)
+    ∙ ap (λ b. if b then keys wires else keys wires ++ w.0 ∷ []) (sym (among_keys w.0 wires)) in
     let one : length (fan_nodes n (wire_of w.0 wires)) ≡ (if is_listed w.0 (keys wires) then 1 else 0) =
     fan_count n (wire_of w.0 wires) ∙ ap (λ b. if b then 1 else 0) (sym (among_keys w.0 wires)) in
     let both = length-append (fan_nodes n (wire_of w.0 wires)) (fans n f' W more).nodes in
-    elim (is_listed w.0 (keys wires)) as (λ b. is_listed w.0 (keys wires) ≡ b → length (fan_nodes n (wire_of w.0 wires) ++ (fans n f' W more).nodes)
-    ≡ length (cond b (w.0 ∷ filter (λ v. is_listed v (keys wires)) (keys more)) (filter (λ v. is_listed v (keys wires)) (keys more)))) [
+    elim (is_listed w.0 (keys wires)) as
+    (λ b. is_listed w.0 (keys wires) ≡ b → length (fan_nodes n (wire_of w.0 wires) ++ (fans n f' W more).nodes)
+    ≡ length (cond b (w.0 ∷ filter (λ v. is_listed v (keys wires)) (keys more))
+    (filter (λ v. is_listed v (keys wires)) (keys more)))) [
       | true ↦ (λ t. let same : keys W ≡ keys wires = rw t at keys_are in
           let single : length (fan_nodes n (wire_of w.0 wires)) ≡ 1 = rw t at one in
           let others : length (fans n f' W more).nodes ≡ length (filter (λ v. is_listed v (keys wires)) (keys more)) =
@@ -158,18 +176,24 @@ keys-application : (n k : ℕ) (M N : Subnet) → Differ N.wires
     → keys (application n k M N).wires ≡ keys M.wires ++ filter (λ v. not (is_listed v (keys M.wires))) (keys N.wires)
 keys-application n k M N h =
     let b = k + 1 + length M.nodes + length N.nodes in
-    keys-fans n (k + 1 + length M.nodes + length N.nodes + length N.wires) M.wires (past_brackets (k + 1 + length M.nodes + length N.nodes) N.wires)
+    keys-fans n (k + 1 + length M.nodes + length N.nodes + length N.wires) M.wires
+    (past_brackets (k + 1 + length M.nodes + length N.nodes) N.wires)
     (differ-bracketed (k + 1 + length M.nodes + length N.nodes) N.wires h)
-    ∙ ap (λ l. keys M.wires ++ filter (λ v. not (is_listed v (keys M.wires))) l) (keys-bracketed (k + 1 + length M.nodes + length N.nodes) N.wires)
+    ∙ ap (λ l. keys M.wires ++ filter (λ v. not (is_listed v (keys M.wires))) l)
+    (keys-bracketed (k + 1 + length M.nodes + length N.nodes) N.wires)
 
 length-application : (n k : ℕ) (M N : Subnet) → Differ N.wires
-    → length (application n k M N).nodes ≡ 1 + length M.nodes + length N.nodes + length (keys N.wires) + length (filter (λ v. is_listed v (keys M.wires)) (keys N.wires))
+    → length (application n k M N).nodes ≡ 1 + length M.nodes + length N.nodes + length
+    (keys N.wires) + length (filter (λ v. is_listed v (keys M.wires)) (keys N.wires))
 length-application n k M N h =
-    let F = fans n (k + 1 + length M.nodes + length N.nodes + length N.wires) M.wires (past_brackets (k + 1 + length M.nodes + length N.nodes) N.wires) in
+    let F = fans n (k + 1 + length M.nodes + length N.nodes + length N.wires) M.wires
+    (past_brackets (k + 1 + length M.nodes + length N.nodes) N.wires) in
     let fan_nodes : length F.nodes ≡ length (filter (λ v. is_listed v (keys M.wires)) (keys N.wires)) =
-    length-fans n (k + 1 + length M.nodes + length N.nodes + length N.wires) M.wires (past_brackets (k + 1 + length M.nodes + length N.nodes) N.wires)
+    length-fans n (k + 1 + length M.nodes + length N.nodes + length N.wires) M.wires
+    (past_brackets (k + 1 + length M.nodes + length N.nodes) N.wires)
     (differ-bracketed (k + 1 + length M.nodes + length N.nodes) N.wires h)
-    ∙ ap (λ l. length (filter (λ v. is_listed v (keys M.wires)) l)) (keys-bracketed (k + 1 + length M.nodes + length N.nodes) N.wires) in
+    ∙ ap (λ l. length (filter (λ v. is_listed v (keys M.wires)) l))
+    (keys-bracketed (k + 1 + length M.nodes + length N.nodes) N.wires) in
     omega (
       arith,
       fan_nodes,
@@ -183,7 +207,8 @@ length-application n k M N h =
 -- ---- an application to a variable
 
 differ-single : (v : ℕ) (p : Port) → Differ ((v, p) ∷ [])
-differ-single v p u = elim (nat_eq v u) as (λ b. (if b then 1 else 0) + 0 ≤ 1) [ true ↦ omega arith | false ↦ omega arith ]
+differ-single v p u = elim (nat_eq v u) as
+    (λ b. (if b then 1 else 0) + 0 ≤ 1) [ true ↦ omega arith | false ↦ omega arith ]
 
 keys-applied : (n k : ℕ) (o : Option ℕ) (M N : Subnet) → HasOnly o N.wires → Differ N.wires
     → keys (applied n k o M N).wires ≡ keys M.wires ++ filter (λ v. not (is_listed v (keys M.wires))) (keys N.wires)
@@ -192,11 +217,14 @@ keys-applied n k (Some y) M N (q, only) h =
     keys-fans n (k + 1 + length M.nodes) M.wires ((y, slot_port k 2) ∷ []) (differ-single y (slot_port k 2))
     ∙ sym (ap (λ (l : Wires). keys M.wires ++ filter (λ v. not (is_listed v (keys M.wires))) (keys l)) only)
 
-length-single : (y : ℕ) (vs : List ℕ) → length (filter (λ v. is_listed v vs) (y ∷ [])) ≡ (if is_listed y vs then 1 else 0)
-length-single y vs = elim (is_listed y vs) as (λ b. length (cond b (y ∷ []) []) ≡ (if b then 1 else 0)) [ true ↦ refl | false ↦ refl ]
+length-single : (y : ℕ) (vs : List ℕ) →
+    length (filter (λ v. is_listed v vs) (y ∷ [])) ≡ (if is_listed y vs then 1 else 0)
+length-single y vs = elim (is_listed y vs) as
+    (λ b. length (cond b (y ∷ []) []) ≡ (if b then 1 else 0)) [ true ↦ refl | false ↦ refl ]
 
 length-applied : (n k : ℕ) (o : Option ℕ) (M N : Subnet) → Differ N.wires
-    → length (applied n k o M N).nodes ≡ 1 + length M.nodes + size_of_argument o (length N.nodes) (keys M.wires) (keys N.wires)
+    → length (applied n k o M N).nodes ≡ 1 + length M.nodes + size_of_argument o (length N.nodes)
+    (keys M.wires) (keys N.wires)
 length-applied n k None M N h = omega (arith, length-application n k M N h)
 length-applied n k (Some y) M N h =
     let F = fans n (k + 1 + length M.nodes) M.wires ((y, slot_port k 2) ∷ []) in
@@ -217,10 +245,12 @@ wires_of_variables w (lam M) d n k =
     ∙ ap (λ l. map (λ v. v - 1) (filter (λ v. nat_lt 0 v) l)) (wires_of_variables w M (d + 1) n (k + 1))
 wires_of_variables w (app M N) d n k =
     let k' = k + 1 + length (subnet_of w M d n (k + 1)).nodes in
-    keys-applied n k (bare_variable w d N) (subnet_of w M d n (k + 1)) (subnet_of w N d (n + 1) (k + 1 + length (subnet_of w M d n (k + 1)).nodes))
+    keys-applied n k (bare_variable w d N) (subnet_of w M d n (k + 1))
+    (subnet_of w N d (n + 1) (k + 1 + length (subnet_of w M d n (k + 1)).nodes))
     (bare_part w N d (n + 1) (k + 1 + length (subnet_of w M d n (k + 1)).nodes))
     (λ v. few_wires w v N d (n + 1) (k + 1 + length (subnet_of w M d n (k + 1)).nodes))
-    ∙ ap (λ l. l ++ filter (λ v. not (is_listed v l)) (keys (subnet_of w N d (n + 1) k').wires)) (wires_of_variables w M d n (k + 1))
+    ∙ ap (λ l. l ++ filter (λ v. not (is_listed v l)) (keys (subnet_of w N d (n + 1) k').wires))
+    (wires_of_variables w M d n (k + 1))
     ∙ ap (λ l. variables d M ++ filter (λ v. not (is_listed v (variables d M))) l) (wires_of_variables w N d (n + 1) k')
 
 pub size_of_part : (w : Translation) (t : Tree) (d n k : ℕ) → length (subnet_of w t d n k).nodes ≡ size_under w d t
@@ -228,11 +258,18 @@ size_of_part w (var v) d n k = refl
 size_of_part w (free f) d n k = refl
 size_of_part w (lam M) d n k =
     let size = size_of_part w M (d + 1) n (k + 1) in
-    let bound : length (erasers (wire_of 0 (subnet_of w M (d + 1) n (k + 1)).wires)) ≡ (if is_listed 0 (variables (d + 1) M) then 0 else 1) =
+    let bound : length (erasers (wire_of 0 (subnet_of w M (d + 1) n (k + 1)).wires)) ≡
+    (if is_listed 0 (variables (d + 1) M) then 0 else 1) =
     length-erasers (wire_of 0 (subnet_of w M (d + 1) n (k + 1)).wires)
     ∙ ap (λ b. if b then 0 else 1) (sym (among_keys 0 (subnet_of w M (d + 1) n (k + 1)).wires))
     ∙ ap (λ l. if is_listed 0 l then 0 else 1) (wires_of_variables w M (d + 1) n (k + 1)) in
-    omega (arith, size, bound, length-append (subnet_of w M (d + 1) n (k + 1)).nodes (erasers (wire_of 0 (subnet_of w M (d + 1) n (k + 1)).wires)))
+    omega (
+      arith,
+      size,
+      bound,
+      length-append (subnet_of w M (d + 1) n (k + 1)).nodes
+          (erasers (wire_of 0 (subnet_of w M (d + 1) n (k + 1)).wires)),
+    )
 size_of_part w (app M N) d n k =
     let o = bare_variable w d N in
     let k' = k + 1 + length (subnet_of w M d n (k + 1)).nodes in
@@ -240,7 +277,8 @@ size_of_part w (app M N) d n k =
     let N' = subnet_of w N d (n + 1) k' in
     let sizes = length-applied n k o M' N' (λ v. few_wires w v N d (n + 1) k') in
     let left = size_of_part w M d n (k + 1) in
-    let argument : size_of_argument o (length N'.nodes) (keys M'.wires) (keys N'.wires) ≡ size_of_argument o (size_under w d N) (variables d M) (variables d N) =
+    let argument : size_of_argument o (length N'.nodes) (keys M'.wires)
+    (keys N'.wires) ≡ size_of_argument o (size_under w d N) (variables d M) (variables d N) =
     ap (λ m. size_of_argument o m (keys M'.wires) (keys N'.wires)) (size_of_part w N d (n + 1) k')
     ∙ ap (λ l. size_of_argument o (size_under w d N) l (keys N'.wires)) (wires_of_variables w M d n (k + 1))
     ∙ ap (λ l. size_of_argument o (size_under w d N) (variables d M) l) (wires_of_variables w N d (n + 1) k') in

@@ -1,7 +1,8 @@
 -- The two translations of a term, case by case: nodes in order of their numbers, and links of ports
 -- (Gonthier, Abadi and Lévy, The geometry of optimal lambda reduction, 1992). Translation 2 has one case more, for an
 -- application to a variable.
-use Rattle.std.specs.Prelude.{ℕ, ◌+◌, ◌-◌, List, [], ◌∷◌, ◌++◌, length, map, filter, find, nat_lt, ◌==◌, Option, None, Some, if◌then◌else◌}
+use Rattle.std.specs.Prelude.{ℕ, ◌+◌, ◌-◌, List, [], ◌∷◌, ◌++◌, length, map, filter, find, nat_lt}
+use Rattle.std.specs.Prelude.{◌==◌, Option, None, Some, if◌then◌else◌}
 use Rattle.std.specs.Option.{option_map}
 use Rattle.ol_term.specs.declared.translations.Translation.{Translation}
 use Rattle.ol_term.specs.declared.translations.Translation.TheVariants.{One, Two}
@@ -42,7 +43,12 @@ reconnected v p (w ∷ wires) = if w.0 == v then (w.0, p) ∷ wires else w ∷ r
 
 -- croissant n: slot_port 1 is the root, slot_port 0 towards the binder
 abbrev pub occurrence : (v n k : ℕ) → Subnet
-occurrence v n k = record { nodes = (kind.Croissant, n) ∷ []; links = []; root = slot_port k 1; wires = (v, slot_port k 0) ∷ [] }
+occurrence v n k = record {
+  nodes = (kind.Croissant, n) ∷ [];
+  links = [];
+  root = slot_port k 1;
+  wires = (v, slot_port k 0) ∷ [];
+}
 
 -- ---- an abstraction
 
@@ -83,7 +89,8 @@ abbrev pub past_brackets : (b : ℕ) → Wires → Wires
 past_brackets b [] = []
 past_brackets b (w ∷ wires) = (w.0, slot_port b 0) ∷ past_brackets (b + 1) wires
 
--- a fan n for a variable that is free in both: slot_port 1 with its wire from M, slot_port 2 with its bracket, slot_port 0 towards the
+-- a fan n for a variable that is free in both: slot_port 1 with its wire from M, slot_port 2 with
+-- its bracket, slot_port 0 towards the
 -- binder
 abbrev pub fan_nodes : (n : ℕ) → Option Port → List (Kind × ℕ)
 fan_nodes n None = []
@@ -134,7 +141,8 @@ bare_variable Two d (free f) = Some (d + f)
 bare_variable Two d (lam M) = None
 bare_variable Two d (app M N) = None
 
--- application n; the nodes of M at level n; a fan n where y is free in M. The wire of y is slot_port 2 of the application:
+-- application n; the nodes of M at level n; a fan n where y is free in M. The wire of y is
+-- slot_port 2 of the application:
 -- it is slot_port 2 of the fan, or stands towards the binder itself.
 abbrev pub application_to : (n k y : ℕ) → Subnet → Subnet
 application_to n k y M =

@@ -1,5 +1,7 @@
 -- A line of either form that is read stands there, and one that stands there is read.
-use Rattle.std.proofs.Common.{◌≡◌, ℕ, ◌≤◌, Bool, true, false, if◌then◌else◌, eqb, List, [], ◌∷◌, ◌++◌, append_assoc, length, drop, Option, None, Some, refl, sym, ap, ◌∙◌, subst}
+use Rattle.std.proofs.Common.{◌≡◌, ℕ, ◌≤◌, Bool, true, false, if◌then◌else◌, eqb, List, [], ◌∷◌}
+use Rattle.std.proofs.Common.{◌++◌, append_assoc, length, drop, Option, None, Some, refl, sym, ap}
+use Rattle.std.proofs.Common.{◌∙◌, subst}
 use Rattle.std.specs.List.{starts_with}
 use Rattle.std.specs.Prelude.{option_and_then, option_map}
 use Rattle.std.specs.Fmt.{decimal}
@@ -15,7 +17,9 @@ use Rattle.ol_view.specs.TraceTexts.{line_text, BeginsWithLine}
 use Rattle.ol_view.specs.WaveTexts.{rule_text, BeginsWithWaveLine}
 use Rattle.ol_view.specs.Forms.{BeginsWithEntry}
 use Rattle.ol_view.specs.Checks.{HasNoLine}
-use Rattle.ol_view.specs.LineReading.{front_number, behind, front_line, word_behind, first_of, front_rule_of, all_rules, front_rule, told_end, told_on, front_told, told_with, front_entry, TellsOf}
+use Rattle.ol_view.specs.LineReading.{front_number, behind, front_line, word_behind, first_of}
+use Rattle.ol_view.specs.LineReading.{front_rule_of, all_rules, front_rule, told_end, told_on}
+use Rattle.ol_view.specs.LineReading.{front_told, told_with, front_entry, TellsOf}
 use Rattle.ol_view.proofs.Numerals.{number_complete, front_sound, behind_sound, line_sound, line_complete}
 
 abbrev pub Read : Type 0
@@ -31,15 +35,20 @@ told_of Two e wave = Some (e.rule, wave)
 word_sound : (word bs rest : List ℕ) → word_behind word bs ≡ Some rest → bs ≡ word ++ rest
 word_sound word bs rest e = go (starts_with eqb bs word) refl e
   where
-    go : (v : Bool) → v ≡ starts_with eqb bs word → (if v then Some (drop (length word) bs) else None) ≡ Some rest → bs ≡ word ++ rest
-    go true i e = let z : drop (length word) bs ≡ rest = cc in (starts_is Decides-eqb bs word true i).0 refl ∙ ap (λ rest. word ++ rest) z
+    go : (v : Bool) → v ≡ starts_with eqb bs word →
+        (if v then Some (drop (length word) bs) else None) ≡ Some rest → bs ≡ word ++ rest
+    go true i e = let z : drop (length word) bs ≡ rest = cc in
+        (starts_is Decides-eqb bs word true i).0 refl ∙ ap (λ rest. word ++ rest) z
     go false i e = absurd (cc)
 
-rule_sound : (rs : List Rule) (bs : List ℕ) (r : Rule) (rest : List ℕ) → front_rule_of rs bs ≡ Some (r, rest) → bs ≡ rule_text r ++ rest
+rule_sound : (rs : List Rule) (bs : List ℕ) (r : Rule) (rest : List ℕ) →
+    front_rule_of rs bs ≡ Some (r, rest) → bs ≡ rule_text r ++ rest
 rule_sound [] bs r rest e = absurd (cc)
 rule_sound (q ∷ rs) bs r rest e = go (λ e. rule_sound rs bs r rest e) (word_behind (rule_text q) bs) refl e
   where
-    go : (front_rule_of rs bs ≡ Some (r, rest) → bs ≡ rule_text r ++ rest) → (o : Option (List ℕ)) → word_behind (rule_text q) bs ≡ o → first_of (option_map (λ (rest : List ℕ). (q, rest)) o) (front_rule_of rs bs) ≡ Some (r, rest) → bs ≡ rule_text r ++ rest
+    go : (front_rule_of rs bs ≡ Some (r, rest) → bs ≡ rule_text r ++ rest) → (o : Option (List ℕ)) →
+        word_behind (rule_text q) bs ≡ o → first_of (option_map (λ (rest : List ℕ). (q, rest)) o)
+        (front_rule_of rs bs) ≡ Some (r, rest) → bs ≡ rule_text r ++ rest
     go ih None i e = ih e
     go ih (Some bs') i e =
         let z : ◌≡◌ {A = Rule × List ℕ} (q, bs') (r, rest) = cc in
@@ -64,11 +73,14 @@ record IsToldRead (text : List ℕ) (t : Option (Rule × ℕ)) (rest : List ℕ)
   begins : text ≡ rule_text rule ++ (32 ∷ decimal wave ++ 32 ∷ rest)
   may : wave ≤ 4294967295
 
-told_sound : (text : List ℕ) (t : Option (Rule × ℕ)) (rest : List ℕ) → front_told Two text ≡ Some (t, rest) → IsToldRead text t rest
+told_sound : (text : List ℕ) (t : Option (Rule × ℕ)) (rest : List ℕ) →
+    front_told Two text ≡ Some (t, rest) → IsToldRead text t rest
 told_sound text t rest e = first (front_rule text) refl e
   where
-    third : (r : Rule) (bs : List ℕ) (w : ℕ × List ℕ) → text ≡ rule_text r ++ 32 ∷ bs → (bs ≡ decimal w.0 ++ w.1) × (w.0 ≤ 4294967295) → (o : Option (List ℕ)) → behind 32 w.1 ≡ o →
-        option_map {U = Option (Rule × ℕ) × List ℕ} (λ (bs : List ℕ). (Some (r, w.0), bs)) o ≡ Some (t, rest) → IsToldRead text t rest
+    third : (r : Rule) (bs : List ℕ) (w : ℕ × List ℕ) → text ≡ rule_text r ++ 32 ∷ bs →
+        (bs ≡ decimal w.0 ++ w.1) × (w.0 ≤ 4294967295) → (o : Option (List ℕ)) → behind 32 w.1 ≡ o →
+        option_map {U = Option (Rule × ℕ) × List ℕ} (λ (bs : List ℕ). (Some (r, w.0), bs)) o ≡ Some
+        (t, rest) → IsToldRead text t rest
     third r bs w h n None i e = absurd (cc)
     third r bs w h n (Some cs) i e =
         let z : ◌≡◌ {A = Option (Rule × ℕ) × List ℕ} (Some (r, w.0), cs) (t, rest) = cc in
@@ -76,23 +88,31 @@ told_sound text t rest e = first (front_rule text) refl e
           rule = r;
           wave = w.0;
           told = sym (ap (λ (p : Option (Rule × ℕ) × List ℕ). p.0) z);
-          begins = h ∙ ap (λ bs. rule_text r ++ 32 ∷ bs) (n.0 ∙ ap (λ bs. decimal w.0 ++ bs) (behind_sound 32 w.1 cs i ∙ ap (λ (p : Option (Rule × ℕ) × List ℕ). 32 ∷ p.1) z));
+          begins = h ∙ ap (λ bs. rule_text r ++ 32 ∷ bs)
+              (n.0 ∙ ap (λ bs. decimal w.0 ++ bs) (behind_sound 32 w.1 cs i
+              ∙ ap (λ (p : Option (Rule × ℕ) × List ℕ). 32 ∷ p.1) z));
           may = n.1;
         }
 
-    second : (r : Rule) (bs : List ℕ) → text ≡ rule_text r ++ 32 ∷ bs → (o : Option (ℕ × List ℕ)) → front_number bs ≡ o → option_and_then (told_end r) o ≡ Some (t, rest) → IsToldRead text t rest
+    second : (r : Rule) (bs : List ℕ) → text ≡ rule_text r ++ 32 ∷ bs → (o : Option (ℕ × List ℕ)) →
+        front_number bs ≡ o → option_and_then (told_end r) o ≡ Some (t, rest) → IsToldRead text t rest
     second r bs h None i e = absurd (cc)
     second r bs h (Some w) i e = third r bs w h (front_sound bs w.0 w.1 i) (behind 32 w.1) refl e
 
-    space : (r : Rule) (es : List ℕ) → text ≡ rule_text r ++ es → (o : Option (List ℕ)) → behind 32 es ≡ o → option_and_then (λ (bs : List ℕ). option_and_then (told_end r) (front_number bs)) o ≡ Some (t, rest) → IsToldRead text t rest
+    space : (r : Rule) (es : List ℕ) → text ≡ rule_text r ++ es → (o : Option (List ℕ)) →
+        behind 32 es ≡ o → option_and_then (λ (bs : List ℕ).
+        option_and_then (told_end r) (front_number bs)) o ≡ Some (t, rest) → IsToldRead text t rest
     space r es h None i e = absurd (cc)
-    space r es h (Some bs) i e = second r bs (h ∙ ap (λ es. rule_text r ++ es) (behind_sound 32 es bs i)) (front_number bs) refl e
+    space r es h (Some bs) i e = second r bs
+        (h ∙ ap (λ es. rule_text r ++ es) (behind_sound 32 es bs i)) (front_number bs) refl e
 
-    first : (o : Option (Rule × List ℕ)) → front_rule text ≡ o → option_and_then told_on o ≡ Some (t, rest) → IsToldRead text t rest
+    first : (o : Option (Rule × List ℕ)) → front_rule text ≡ o →
+        option_and_then told_on o ≡ Some (t, rest) → IsToldRead text t rest
     first None i e = absurd (cc)
     first (Some r) i e = space r.0 r.1 (rule_sound all_rules text r.0 r.1 i) (behind 32 r.1) refl e
 
-told_complete : (r : Rule) (wave : ℕ) (rest : List ℕ) → wave ≤ 4294967295 → front_told Two (rule_text r ++ (32 ∷ decimal wave ++ 32 ∷ rest)) ≡ Some (Some (r, wave), rest)
+told_complete : (r : Rule) (wave : ℕ) (rest : List ℕ) → wave ≤ 4294967295 →
+    front_told Two (rule_text r ++ (32 ∷ decimal wave ++ 32 ∷ rest)) ≡ Some (Some (r, wave), rest)
 told_complete r wave rest h =
     ap (λ o. option_and_then told_on o) (rule_complete r (decimal wave ++ 32 ∷ rest))
     ∙ ap (λ o. option_and_then (told_end r) o) (number_complete wave 32 rest h refl)
@@ -105,11 +125,14 @@ record IsLineRead (form : Form) (text : List ℕ) (t : Option (Rule × ℕ)) (a 
   told : front_told form text ≡ Some (t, names)
   line : BeginsWithLine names a b rest
 
-line_read : (form : Form) (text : List ℕ) (t : Option (Rule × ℕ)) (a b : NodeName) (rest : List ℕ) → ◌≡◌ {A = Read} (front_entry form text) (Some (t, a, b, rest)) → IsLineRead form text t a b rest
+line_read : (form : Form) (text : List ℕ) (t : Option (Rule × ℕ)) (a b : NodeName) (rest : List ℕ) →
+    ◌≡◌ {A = Read} (front_entry form text) (Some (t, a, b, rest)) → IsLineRead form text t a b rest
 line_read form text t a b rest e = first (front_told form text) refl e
   where
-    second : (s : Option (Rule × ℕ)) (names : List ℕ) → front_told form text ≡ Some (s, names) → (o : Option (NodeName × NodeName × List ℕ)) → front_line names ≡ o →
-        ◌≡◌ {A = Read} (option_map (λ (l : NodeName × NodeName × List ℕ). (s, l.0, l.1, l.2)) o) (Some (t, a, b, rest)) → IsLineRead form text t a b rest
+    second : (s : Option (Rule × ℕ)) (names : List ℕ) → front_told form text ≡ Some (s, names) →
+        (o : Option (NodeName × NodeName × List ℕ)) → front_line names ≡ o →
+        ◌≡◌ {A = Read} (option_map (λ (l : NodeName × NodeName × List ℕ). (s, l.0, l.1, l.2)) o)
+        (Some (t, a, b, rest)) → IsLineRead form text t a b rest
     second s names h None i e = absurd (cc)
     second s names h (Some l) i e =
         let z : ◌≡◌ {A = Option (Rule × ℕ) × NodeName × NodeName × List ℕ} (s, l.0, l.1, l.2) (t, a, b, rest) = cc in
@@ -120,10 +143,12 @@ line_read form text t a b rest e = first (front_told form text) refl e
         record {
           names = names;
           told = h ∙ ap (λ s. Some (s, names)) es;
-          line = line_sound names a b rest (i ∙ ap (λ a. Some (a, l.1, l.2)) ea ∙ ap (λ b. Some (a, b, l.2)) eb ∙ ap (λ rest. Some (a, b, rest)) er);
+          line = line_sound names a b rest (i ∙ ap (λ a. Some (a, l.1, l.2)) ea
+              ∙ ap (λ b. Some (a, b, l.2)) eb ∙ ap (λ rest. Some (a, b, rest)) er);
         }
 
-    first : (o : Option (Option (Rule × ℕ) × List ℕ)) → front_told form text ≡ o → ◌≡◌ {A = Read} (option_and_then told_with o) (Some (t, a, b, rest)) → IsLineRead form text t a b rest
+    first : (o : Option (Option (Rule × ℕ) × List ℕ)) → front_told form text ≡ o →
+        ◌≡◌ {A = Read} (option_and_then told_with o) (Some (t, a, b, rest)) → IsLineRead form text t a b rest
     first None i e = absurd (cc)
     first (Some s) i e = second s.0 s.1 i (front_line s.1) refl e
 
@@ -131,7 +156,9 @@ abbrev entry : Rule → NodeName → NodeName → Entry
 entry r a b = record { rule = r; first = a; second = b }
 
 -- a line that is read, of a rule and a wave that it tells or doesn't tell
-pub entry_sound : (form : Form) (text : List ℕ) (t : Option (Rule × ℕ)) (a b : NodeName) (rest : List ℕ) → ◌≡◌ {A = Read} (front_entry form text) (Some (t, a, b, rest)) → (r : Rule) (wave : ℕ) → TellsOf t r wave →
+pub entry_sound : (form : Form) (text : List ℕ) (t : Option (Rule × ℕ)) (a b : NodeName)
+    (rest : List ℕ) → ◌≡◌ {A = Read} (front_entry form text) (Some (t, a, b, rest)) →
+    (r : Rule) (wave : ℕ) → TellsOf t r wave →
     BeginsWithEntry form text (entry r a b) wave rest
 entry_sound One text t a b rest e r wave h = one (line_read One text t a b rest e)
   where
@@ -146,9 +173,11 @@ entry_sound Two text t a b rest e r wave h = two (line_read Two text t a b rest 
         let d = told_sound text t l.names l.told in
         let i : (d.rule ≡ r) × (d.wave ≡ wave) = subst (λ t. TellsOf t r wave) d.told h in
         record {
-          begins = d.begins ∙ ap (λ r. rule_text r ++ (32 ∷ decimal d.wave ++ 32 ∷ l.names)) i.0 ∙ ap (λ wave. rule_text r ++ (32 ∷ decimal wave ++ 32 ∷ l.names)) i.1
+          begins = d.begins ∙ ap (λ r. rule_text r ++ (32 ∷ decimal d.wave ++ 32 ∷ l.names)) i.0
+              ∙ ap (λ wave. rule_text r ++ (32 ∷ decimal wave ++ 32 ∷ l.names)) i.1
               ∙ ap (λ names. rule_text r ++ (32 ∷ decimal wave ++ 32 ∷ names)) l.line.begins
-              ∙ sym (append_assoc (rule_text r) (32 ∷ decimal wave ++ (32 ∷ line_text a b)) rest ∙ ap (λ bs. rule_text r ++ 32 ∷ bs) (append_assoc (decimal wave) (32 ∷ line_text a b) rest));
+              ∙ sym (append_assoc (rule_text r) (32 ∷ decimal wave ++ (32 ∷ line_text a b)) rest
+              ∙ ap (λ bs. rule_text r ++ 32 ∷ bs) (append_assoc (decimal wave) (32 ∷ line_text a b) rest));
           wave_may = subst (λ wave. wave ≤ 4294967295) i.1 d.may;
           first_may = l.line.first_may;
           second_may = l.line.second_may;
@@ -156,38 +185,62 @@ entry_sound Two text t a b rest e r wave h = two (line_read Two text t a b rest 
         }
 
 -- a line that stands here is read
-pub entry_complete : (form : Form) (text : List ℕ) (e : Entry) (wave : ℕ) (rest : List ℕ) → BeginsWithEntry form text e wave rest → ◌≡◌ {A = Read} (front_entry form text) (Some (told_of form e wave, e.first, e.second, rest))
-entry_complete One text e wave rest h = ap (λ o. option_map (λ (l : NodeName × NodeName × List ℕ). (None, l.0, l.1, l.2)) o) (line_complete text e.first e.second rest h)
+pub entry_complete : (form : Form) (text : List ℕ) (e : Entry) (wave : ℕ) (rest : List ℕ) →
+    BeginsWithEntry form text e wave rest →
+    ◌≡◌ {A = Read} (front_entry form text) (Some (told_of form e wave, e.first, e.second, rest))
+entry_complete One text e wave rest h = ap
+    (λ o. option_map (λ (l : NodeName × NodeName × List ℕ). (None, l.0, l.1, l.2)) o)
+    (line_complete text e.first e.second rest h)
 entry_complete Two text e wave rest h =
-    ap (λ text. front_entry Two text) (h.begins ∙ append_assoc (rule_text e.rule) (32 ∷ decimal wave ++ (32 ∷ line_text e.first e.second)) rest ∙ ap (λ bs. rule_text e.rule ++ 32 ∷ bs) (append_assoc (decimal wave) (32 ∷ line_text e.first e.second) rest))
+    ap (λ text. front_entry Two text) (h.begins
+    ∙ append_assoc (rule_text e.rule) (32 ∷ decimal wave ++
+    (32 ∷ line_text e.first e.second)) rest
+    ∙ ap (λ bs. rule_text e.rule ++ 32 ∷ bs) (append_assoc (decimal wave) (32 ∷ line_text e.first e.second) rest))
     ∙ ap (λ o. option_and_then told_with o) (told_complete e.rule wave (line_text e.first e.second ++ rest) h.wave_may)
     ∙ ap (λ o. option_map (λ (l : NodeName × NodeName × List ℕ). (Some (e.rule, wave), l.0, l.1, l.2)) o)
-    (line_complete (line_text e.first e.second ++ rest) e.first e.second rest (record { begins = refl; first_may = h.first_may; second_may = h.second_may; ordered = h.ordered }))
+    (line_complete (line_text e.first e.second ++ rest) e.first e.second rest
+    (record { begins = refl; first_may = h.first_may; second_may = h.second_may; ordered = h.ordered }))
 
 -- each line that is read is one of an entry and a wave
-pub record IsOfEntry (form : Form) (text : List ℕ) (t : Option (Rule × ℕ)) (a b : NodeName) (rest : List ℕ) : Type 0 where
+pub record IsOfEntry (form : Form) (text : List ℕ) (t : Option (Rule × ℕ)) (a b : NodeName)
+    (rest : List ℕ) : Type 0 where
   pub rule : Rule
   pub wave : ℕ
   pub tells : TellsOf t rule wave
   pub begins : BeginsWithEntry form text (entry rule a b) wave rest
 
-pub of_entry : (form : Form) (text : List ℕ) (t : Option (Rule × ℕ)) (a b : NodeName) (rest : List ℕ) → ◌≡◌ {A = Read} (front_entry form text) (Some (t, a, b, rest)) → IsOfEntry form text t a b rest
-of_entry form text None a b rest e = record { rule = rule.Beta; wave = 0; tells = tt; begins = entry_sound form text None a b rest e rule.Beta 0 tt }
-of_entry form text (Some s) a b rest e = record { rule = s.0; wave = s.1; tells = (refl, refl); begins = entry_sound form text (Some s) a b rest e s.0 s.1 (refl, refl) }
+pub of_entry : (form : Form) (text : List ℕ) (t : Option (Rule × ℕ)) (a b : NodeName)
+    (rest : List ℕ) → ◌≡◌ {A = Read} (front_entry form text) (Some (t, a, b, rest)) → IsOfEntry form text t a b rest
+of_entry form text None a b rest e = record {
+  rule = rule.Beta;
+  wave = 0;
+  tells = tt;
+  begins = entry_sound form text None a b rest e rule.Beta 0 tt;
+}
+of_entry form text (Some s) a b rest e = record {
+  rule = s.0;
+  wave = s.1;
+  tells = (refl, refl);
+  begins = entry_sound form text (Some s) a b rest e s.0 s.1 (refl, refl);
+}
 
 -- no line, as it is read
 pub none_read : (form : Form) (text : List ℕ) → HasNoLine form text → ◌≡◌ {A = Read} (front_entry form text) None
 none_read form text h = go (front_entry form text) refl
   where
-    go : (o : Option (Option (Rule × ℕ) × NodeName × NodeName × List ℕ)) → ◌≡◌ {A = Read} (front_entry form text) o → ◌≡◌ {A = Read} o None
+    go : (o : Option (Option (Rule × ℕ) × NodeName × NodeName × List ℕ)) →
+        ◌≡◌ {A = Read} (front_entry form text) o → ◌≡◌ {A = Read} o None
     go None e = refl
-    go (Some l) e = let of = of_entry form text l.0 l.1 l.2 l.3 e in absurd (h (entry of.rule l.1 l.2) of.wave l.3 of.begins)
+    go (Some l) e = let of = of_entry form text l.0 l.1 l.2 l.3 e in
+        absurd (h (entry of.rule l.1 l.2) of.wave l.3 of.begins)
 
 pub none_there : (form : Form) (text : List ℕ) → ◌≡◌ {A = Read} (front_entry form text) None → HasNoLine form text
-none_there form text e d wave rest h = let z : ◌≡◌ {A = Read} None (Some (told_of form d wave, d.first, d.second, rest)) = sym e ∙ entry_complete form text d wave rest h in cc
+none_there form text e d wave rest h = let z : ◌≡◌ {A = Read} None
+    (Some (told_of form d wave, d.first, d.second, rest)) = sym e ∙ entry_complete form text d wave rest h in cc
 
 -- the first form tells neither rule nor wave
-pub first_tells_nothing : (text : List ℕ) (t : Option (Rule × ℕ)) (a b : NodeName) (rest : List ℕ) → ◌≡◌ {A = Read} (front_entry One text) (Some (t, a, b, rest)) → (r : Rule) (wave : ℕ) → TellsOf t r wave
+pub first_tells_nothing : (text : List ℕ) (t : Option (Rule × ℕ)) (a b : NodeName) (rest : List ℕ) →
+    ◌≡◌ {A = Read} (front_entry One text) (Some (t, a, b, rest)) → (r : Rule) (wave : ℕ) → TellsOf t r wave
 first_tells_nothing text t a b rest e r wave =
     let l = line_read One text t a b rest e in
     let z : ◌≡◌ {A = Option (Rule × ℕ) × List ℕ} (None, text) (t, l.names) = (let y = l.told in cc) in

@@ -23,7 +23,8 @@ pub no_lines : (form : Form) → lines_of form [] [] ≡ []
 no_lines One = refl
 no_lines Two = refl
 
-pub lines_cons : (form : Form) (e : Entry) (es : List Entry) (wave : ℕ) (ws : List ℕ) → lines_of form (e ∷ es) (wave ∷ ws) ≡ line_of form e wave ++ lines_of form es ws
+pub lines_cons : (form : Form) (e : Entry) (es : List Entry) (wave : ℕ) (ws : List ℕ) →
+    lines_of form (e ∷ es) (wave ∷ ws) ≡ line_of form e wave ++ lines_of form es ws
 lines_cons One e es wave ws = refl
 lines_cons Two e es wave ws = refl
 
@@ -31,22 +32,30 @@ pub text_is : (form : Form) (es : List Entry) (ws : List ℕ) → text_of form e
 text_is One es ws = refl
 text_is Two es ws = refl
 
-wave_lines_append : (es : List Entry) (ws : List ℕ) (e : Entry) (wave : ℕ) → length ws ≡ length es → wave_lines_text (es ++ e ∷ []) (ws ++ wave ∷ []) ≡ wave_lines_text es ws ++ wave_line_text e wave
+wave_lines_append : (es : List Entry) (ws : List ℕ) (e : Entry) (wave : ℕ) → length ws ≡ length es →
+    wave_lines_text (es ++ e ∷ []) (ws ++ wave ∷ []) ≡ wave_lines_text es ws ++ wave_line_text e wave
 wave_lines_append [] [] e wave q = append-nil (wave_line_text e wave)
 wave_lines_append [] (w ∷ ws) e wave q = absurd (omega arith)
 wave_lines_append (d ∷ es) [] e wave q = absurd (omega arith)
-wave_lines_append (d ∷ es) (w ∷ ws) e wave q = ap (λ bs. wave_line_text d w ++ bs) (wave_lines_append es ws e wave (omega arith)) ∙ sym (append_assoc (wave_line_text d w) (wave_lines_text es ws) (wave_line_text e wave))
+wave_lines_append (d ∷ es) (w ∷ ws) e wave q = ap (λ bs. wave_line_text d w ++ bs)
+    (wave_lines_append es ws e wave (omega arith))
+    ∙ sym (append_assoc (wave_line_text d w) (wave_lines_text es ws) (wave_line_text e wave))
 
 -- one line more
-pub text_on : (form : Form) (es : List Entry) (ws : List ℕ) (e : Entry) (wave : ℕ) → length ws ≡ length es → text_of form (es ++ e ∷ []) (ws ++ wave ∷ []) ≡ text_of form es ws ++ line_of form e wave
-text_on One es ws e wave q = ap (λ bs. header ++ bs) (lines_append es e) ∙ sym (append_assoc header (lines_text es) (line_text e.first e.second))
-text_on Two es ws e wave q = ap (λ bs. wave_header ++ bs) (wave_lines_append es ws e wave q) ∙ sym (append_assoc wave_header (wave_lines_text es ws) (wave_line_text e wave))
+pub text_on : (form : Form) (es : List Entry) (ws : List ℕ) (e : Entry) (wave : ℕ) →
+    length ws ≡ length es → text_of form (es ++ e ∷ []) (ws ++ wave ∷ []) ≡ text_of form es ws ++ line_of form e wave
+text_on One es ws e wave q = ap (λ bs. header ++ bs) (lines_append es e)
+    ∙ sym (append_assoc header (lines_text es) (line_text e.first e.second))
+text_on Two es ws e wave q = ap (λ bs. wave_header ++ bs) (wave_lines_append es ws e wave q)
+    ∙ sym (append_assoc wave_header (wave_lines_text es ws) (wave_line_text e wave))
 
 -- a line that stands here names the smaller name first
-pub stands : (form : Form) (text : List ℕ) (e : Entry) (wave : ℕ) (rest : List ℕ) → BeginsWithEntry form text e wave rest → comes_before e.first e.second ≡ true
+pub stands : (form : Form) (text : List ℕ) (e : Entry) (wave : ℕ) (rest : List ℕ) →
+    BeginsWithEntry form text e wave rest → comes_before e.first e.second ≡ true
 stands One text e wave rest h = h.ordered
 stands Two text e wave rest h = h.ordered
 
-pub begun : (form : Form) (text : List ℕ) (e : Entry) (wave : ℕ) (rest : List ℕ) → BeginsWithEntry form text e wave rest → text ≡ line_of form e wave ++ rest
+pub begun : (form : Form) (text : List ℕ) (e : Entry) (wave : ℕ) (rest : List ℕ) →
+    BeginsWithEntry form text e wave rest → text ≡ line_of form e wave ++ rest
 begun One text e wave rest h = h.begins
 begun Two text e wave rest h = h.begins

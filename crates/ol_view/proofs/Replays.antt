@@ -13,7 +13,8 @@ use Rattle.ol_diamond.proofs.Replays.{Index}
 use Rattle.ol_diamond.specs.Replaying.{AreIdleNumbers}
 
 -- the pair of two names that have no active numbers
-pub idle_names : (g : Graph) (bases : List ℕ) (start ticket : ℕ) (m : ℕ → NodeName) (a b : NodeName) → Names start (length g.nodes) ticket m → Index bases (length g.nodes) ticket m →
+pub idle_names : (g : Graph) (bases : List ℕ) (start ticket : ℕ) (m : ℕ → NodeName)
+    (a b : NodeName) → Names start (length g.nodes) ticket m → Index bases (length g.nodes) ticket m →
     AreIdleNumbers g bases a b → AreIdle (net_under m (net_of g)) a b
 idle_names g bases start ticket m a b n i idle r = ((λ x. one a b x idle), (λ x. other a b x idle))
   where

@@ -1,5 +1,7 @@
 -- Equal nets are shown alike.
-use Rattle.std.proofs.Common.{◌≡◌, ℕ, zero, suc, ◌+◌, ◌≤◌, nat_lt, true, cond, List, [], ◌∷◌, ◌++◌, length, Option, Some, None, count_by, is_some, codes, inl, inr, refl, sym, ap, ◌∙◌, arith}
+use Rattle.std.proofs.Common.{◌≡◌, ℕ, zero, suc, ◌+◌, ◌≤◌, nat_lt, true, cond, List, [], ◌∷◌, ◌++◌}
+use Rattle.std.proofs.Common.{length, Option, Some, None, count_by, is_some, codes, inl, inr, refl}
+use Rattle.std.proofs.Common.{sym, ap, ◌∙◌, arith}
 use Rattle.std.specs.Fmt.{decimal}
 use Rattle.std.proofs.lemmas.Bool.{cases_lt}
 use Rattle.std.proofs.lemmas.List.{append-nil, get_or_past}
@@ -11,7 +13,8 @@ use Rattle.ol_net.specs.Parts.{slots_of}
 use Rattle.ol_net.specs.Graph.{Graph, kind_at, has_slot, has_port, partner_of}
 use Rattle.ol_net.specs.Nets.{SameNet}
 use Rattle.ol_net.specs.Numbered.{numbered_port, net_of}
-use Rattle.ol_net.proofs.Numbered.{same_kinds, linked, net_is_net, numbered_port-injective, partner_of-parts, partner_of-there}
+use Rattle.ol_net.proofs.Numbered.{same_kinds, linked, net_is_net, numbered_port-injective}
+use Rattle.ol_net.proofs.Numbered.{partner_of-parts, partner_of-there}
 use Rattle.ol_rules.proofs.Relation.{same_sym}
 use Rattle.ol_view.specs.Laws.{IsTable, EqualNetsAreShownAlike}
 use Rattle.ol_view.specs.ShowTexts.{partner_text, free_lines, partners_text, node_line, node_lines}
@@ -19,18 +22,22 @@ use Rattle.ol_net.specs.PartTexts.{kind_text, index_text, port_text}
 
 -- ---- equal nets have the same nodes under the same numbers, and the same partners
 
-ports : (g h : Graph) → SameNet (net_of g) (net_of h) → (p : Port) → has_port g.free g.nodes p ≡ has_port h.free h.nodes p
+ports : (g h : Graph) → SameNet (net_of g) (net_of h) → (p : Port) →
+    has_port g.free g.nodes p ≡ has_port h.free h.nodes p
 ports g h same (Free k) = ap (λ free. nat_lt k free) same.free_ports
 ports g h same (Of n s) = ap (λ o. has_slot o s) (same_kinds g h same n.0)
 
-partner_kept : (g h : Graph) → IsTable g → IsTable h → SameNet (net_of g) (net_of h) → (p q : Port) → partner_of g p ≡ Some q → partner_of h p ≡ Some q
+partner_kept : (g h : Graph) → IsTable g → IsTable h → SameNet (net_of g) (net_of h) →
+    (p q : Port) → partner_of g p ≡ Some q → partner_of h p ≡ Some q
 partner_kept g h t u same p q e =
     let has : has_port h.free h.nodes p ≡ true = sym (ports g h same p) ∙ (partner_of-parts g p q e).0 in
     let there = partner_of-there h p has in
-    let one = (net_is_net h u).one_link (numbered_port p) (numbered_port there.0) (numbered_port q) (linked h p there.0 u there.1) ((same.links (numbered_port p) (numbered_port q)).0 (linked g p q t e)) in
+    let one = (net_is_net h u).one_link (numbered_port p) (numbered_port there.0) (numbered_port q)
+    (linked h p there.0 u there.1) ((same.links (numbered_port p) (numbered_port q)).0 (linked g p q t e)) in
     there.1 ∙ ap (λ q. Some q) (numbered_port-injective there.0 q one)
 
-partners : (g h : Graph) → IsTable g → IsTable h → SameNet (net_of g) (net_of h) → (p : Port) → partner_of g p ≡ partner_of h p
+partners : (g h : Graph) → IsTable g → IsTable h → SameNet (net_of g) (net_of h) → (p : Port) →
+    partner_of g p ≡ partner_of h p
 partners g h t u same p = go (partner_of g p) (partner_of h p) refl refl
   where
     go : (o q : Option Port) → partner_of g p ≡ o → partner_of h p ≡ q → partner_of g p ≡ partner_of h p
@@ -40,10 +47,12 @@ partners g h t u same p = go (partner_of g p) (partner_of h p) refl refl
 
 -- ---- as many nodes are live
 
-count_one : (o : Option (Kind × ℕ)) (nodes : List (Option (Kind × ℕ))) → count_by is_some (o ∷ nodes) ≡ cond (is_some o) 1 0 + count_by is_some nodes
+count_one : (o : Option (Kind × ℕ)) (nodes : List (Option (Kind × ℕ))) →
+    count_by is_some (o ∷ nodes) ≡ cond (is_some o) 1 0 + count_by is_some nodes
 count_one o nodes = sum_by-cons (λ (x : Option (Kind × ℕ)). cond (is_some x) 1 0) o nodes
 
-counts : (xs ys : List (Option (Kind × ℕ))) → ((n : ℕ) → kind_at xs n ≡ kind_at ys n) → count_by is_some xs ≡ count_by is_some ys
+counts : (xs ys : List (Option (Kind × ℕ))) → ((n : ℕ) → kind_at xs n ≡ kind_at ys n) →
+    count_by is_some xs ≡ count_by is_some ys
 counts [] [] e = refl
 counts (x ∷ xs) [] e =
     let none : x ≡ None = e 0 in
@@ -55,14 +64,16 @@ counts [] (y ∷ ys) e =
     omega (arith, count_one y ys, not_one, counts [] ys (λ n. e (suc n)))
 counts (x ∷ xs) (y ∷ ys) e =
     let one : x ≡ y = e 0 in
-    count_one x xs ∙ ap (λ x. cond (is_some x) 1 0 + count_by is_some xs) one ∙ ap (λ n. cond (is_some y) 1 0 + n) (counts xs ys (λ n. e (suc n))) ∙ sym (count_one y ys)
+    count_one x xs ∙ ap (λ x. cond (is_some x) 1 0 + count_by is_some xs) one
+    ∙ ap (λ n. cond (is_some y) 1 0 + n) (counts xs ys (λ n. e (suc n))) ∙ sym (count_one y ys)
 
 pub live_alike : (g h : Graph) → SameNet (net_of g) (net_of h) → count_by is_some g.nodes ≡ count_by is_some h.nodes
 live_alike g h same = counts g.nodes h.nodes (same_kinds g h same)
 
 -- ---- so their lines are the same
 
-module _ (g h : Graph) (same_kinds : (n : ℕ) → kind_at g.nodes n ≡ kind_at h.nodes n) (same_partners : (p : Port) → partner_of g p ≡ partner_of h p) where
+module _ (g h : Graph) (same_kinds : (n : ℕ) → kind_at g.nodes n ≡ kind_at h.nodes n)
+    (same_partners : (p : Port) → partner_of g p ≡ partner_of h p) where
   free_same : (n : ℕ) → free_lines g n ≡ free_lines h n
   free_same zero = refl
   free_same (suc n) =
@@ -77,7 +88,8 @@ module _ (g h : Graph) (same_kinds : (n : ℕ) → kind_at g.nodes n ≡ kind_at
 
   line_same : (n : ℕ) (o : Option (Kind × ℕ)) → node_line g n o ≡ node_line h n o
   line_same n None = refl
-  line_same n (Some k) = ap (λ l. decimal n ++ (32 ∷ kind_text k.0 ++ (32 ∷ index_text k.0 k.1 ++ (l ++ 10 ∷ [])))) (slots_same n (slots_of k.0))
+  line_same n (Some k) = ap (λ l. decimal n ++
+      (32 ∷ kind_text k.0 ++ (32 ∷ index_text k.0 k.1 ++ (l ++ 10 ∷ [])))) (slots_same n (slots_of k.0))
 
   lines_same : (n : ℕ) → node_lines g n ≡ node_lines h n
   lines_same zero = refl
@@ -105,5 +117,6 @@ shown_alike g h t u same =
     let frees = free_same g h k p g.free ∙ ap (λ n. free_lines h n) same.free_ports in
     let nodes = sym (lines_past g all (omega arith)) ∙ lines_same g h k p all ∙ lines_past h all (omega arith) in
     ap (λ n. codes "nodes " ++ (decimal n ++ 10 ∷ []) ++ free_lines g g.free ++ node_lines g (length g.nodes)) count
-    ∙ ap (λ l. codes "nodes " ++ (decimal (count_by is_some h.nodes) ++ 10 ∷ []) ++ l ++ node_lines g (length g.nodes)) frees
+    ∙ ap (λ l. codes "nodes " ++ (decimal
+    (count_by is_some h.nodes) ++ 10 ∷ []) ++ l ++ node_lines g (length g.nodes)) frees
     ∙ ap (λ l. codes "nodes " ++ (decimal (count_by is_some h.nodes) ++ 10 ∷ []) ++ free_lines h h.free ++ l) nodes

@@ -1,4 +1,5 @@
--- What the seat that draws a ticket writes into its block, and the links that it has to make. In a crossing of f and g the copy of f at slot
+-- What the seat that draws a ticket writes into its block, and the links that it has to make. In a
+-- crossing of f and g the copy of f at slot
 -- q + 1 of g is born at place q, and the copy of g at slot p + 1 of f behind these.
 use Rattle.std.specs.Prelude.{ℕ, ◌+◌, ◌-◌, nat_lt, if◌then◌else◌, List, [], ◌∷◌}
 use Rattle.ol_net.specs.Parts.{arity}
@@ -19,7 +20,8 @@ copies_of_g e = if is_meeting e.rule then 0 else arity (kind_in e.f)
 abbrev pub born_field : Parts → Event → ℕ → ℕ → ℕ → ℕ
 born_field z e t i s =
     if nat_lt i (copies_of_f e) then (if nat_lt s (copies_of_g e) then wire_ref (born_wire z t i s) else 0)
-    else if nat_lt i (copies_of_f e + copies_of_g e) then (if nat_lt s (copies_of_f e) then wire_ref (born_wire z t s (i - copies_of_f e)) else 0)
+    else if nat_lt i (copies_of_f e + copies_of_g e) then
+    (if nat_lt s (copies_of_f e) then wire_ref (born_wire z t s (i - copies_of_f e)) else 0)
     else 0
 
 -- the first ten words of the block

@@ -1,5 +1,6 @@
 -- A table that no thread shares any more, the journal that its words tell, and the net after it.
-use Rattle.std.specs.Prelude.{◌≡◌, ℕ, ◌+◌, ◌*◌, ◌⊎◌, nat_eq, nat_lt, if◌then◌else◌, true, List, [], ◌∷◌, Some, slice_index, slice_get, ◌<◌, ◌≤◌, length}
+use Rattle.std.specs.Prelude.{◌≡◌, ℕ, ◌+◌, ◌*◌, ◌⊎◌, nat_eq, nat_lt, if◌then◌else◌, true, List, []}
+use Rattle.std.specs.Prelude.{◌∷◌, Some, slice_index, slice_get, ◌<◌, ◌≤◌, length}
 use Rattle.ol_net.specs.declared.parts.Kind.{Kind}
 use Rattle.ol_net.specs.Nets.{NamedNet, HasNode, SameNet}
 use Rattle.ol_rules.specs.declared.journal.NodeName.{NodeName}
@@ -56,7 +57,8 @@ IsOfEntry x e = (e.first ≡ x) ⊎ (e.second ≡ x)
 
 -- no two entries name one node
 abbrev pub NoNodeTwice : List Entry → Type 0
-NoNodeTwice journal = (t u : ℕ) (d e : Entry) (x : NodeName) → slice_get journal t ≡ Some d → slice_get journal u ≡ Some e
+NoNodeTwice journal = (t u : ℕ) (d e : Entry) (x : NodeName) → slice_get journal t ≡ Some d →
+    slice_get journal u ≡ Some e
     → IsOfEntry x d → IsOfEntry x e → t ≡ u
 
 -- all events, and their journal

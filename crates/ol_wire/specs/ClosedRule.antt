@@ -28,5 +28,6 @@ pub record IsClosed (w : ClosedTable) : Type 0 where
 
 -- each word is there, as many as the parts say
 abbrev pub IsClosedOf : Closed (Unit {0}) Global → Plan → Parts → View → Type 0
-IsClosedOf c p z v = IsFull c.words × (p.parts ≡ z) × (slots_len c.words ≡ table_size z) × (slots_len c.slots ≡ 0) × IsSmall z
+IsClosedOf c p z v = IsFull c.words × (p.parts ≡ z) × (slots_len c.words ≡ table_size z)
+    × (slots_len c.slots ≡ 0) × IsSmall z
     × IsClosed (closed_of c p v)

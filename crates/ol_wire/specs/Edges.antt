@@ -1,5 +1,7 @@
 -- The edges that words and views stand for.
-use Rattle.std.specs.Prelude.{ℕ, zero, suc, ◌==◌, nat_eq, nat_lt, if◌then◌else◌, Bool, true, false, not, ◌&&◌, ◌||◌, List, [], ◌∷◌, ◌++◌, map, Option, Some, None, slice_index, slice_get}
+use Rattle.std.specs.Prelude.{ℕ, zero, suc, ◌==◌, nat_eq, nat_lt, if◌then◌else◌, Bool, true, false}
+use Rattle.std.specs.Prelude.{not, ◌&&◌, ◌||◌, List, [], ◌∷◌, ◌++◌, map, Option, Some, None}
+use Rattle.std.specs.Prelude.{slice_index, slice_get}
 use Rattle.ol_net.specs.declared.parts.Kind.{Kind}
 use Rattle.ol_net.specs.Parts.{arity}
 use Rattle.ol_net.specs.Nets.{NamedNet}
@@ -10,7 +12,8 @@ use Rattle.ol_wire.specs.declared.layout.Parts.{Parts}
 use Rattle.ol_wire.specs.declared.view.Link.{Link}
 use Rattle.ol_wire.specs.declared.view.View.{View}
 use Rattle.ol_wire.specs.References.{kind_in, wire_ref, slot_ref}
-use Rattle.ol_wire.specs.Layout.{WordPart, ticket, live_word, port, field, wire, between, left, right, entry, past, part_of_word, table_size}
+use Rattle.ol_wire.specs.Layout.{WordPart, ticket, live_word, port, field, wire, between, left}
+use Rattle.ol_wire.specs.Layout.{right, entry, past, part_of_word, table_size}
 use Rattle.ol_wire.specs.Events.{Event}
 use Rattle.ol_wire.specs.Weights.{total}
 
@@ -70,7 +73,8 @@ edge_in net reached ticket w word next = []
 edge_in net reached live_word w word next = []
 edge_in net reached past w word next = []
 
--- The edges of the first n words: of each free port, each field of a live node, each reached wire and each cell that isn't empty.
+-- The edges of the first n words: of each free port, each field of a live node, each reached wire
+-- and each cell that isn't empty.
 abbrev pub edges_in : Parts → NamedNet NodeName → (ℕ → Bool) → List ℕ → ℕ → List (ℕ × ℕ)
 edges_in z net reached words zero = []
 edges_in z net reached words (suc n) =
@@ -85,6 +89,7 @@ abbrev pub pending_in : List View → List (ℕ × ℕ)
 pending_in [] = []
 pending_in (v ∷ views) = links_in v.pending ++ pending_in views
 
--- All edges. In `words` each view's words are written already, and the pairs that the views have claimed stand in their cells again.
+-- All edges. In `words` each view's words are written already, and the pairs that the views have
+-- claimed stand in their cells again.
 abbrev pub edges_of : Parts → NamedNet NodeName → List Event → List ℕ → List View → List (ℕ × ℕ)
 edges_of z net log words views = edges_in z net (is_reached z log views) words (table_size z) ++ pending_in views

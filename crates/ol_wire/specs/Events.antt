@@ -39,7 +39,11 @@ later f g = if nat_lt (place_in f) (place_in g) then g else f
 
 -- places have the order of names
 abbrev pub entry_of : Parts → Event → Entry
-entry_of z e = record { rule = e.rule; first = name_at z (place_in (earlier e.f e.g)); second = name_at z (place_in (later e.f e.g)) }
+entry_of z e = record {
+  rule = e.rule;
+  first = name_at z (place_in (earlier e.f e.g));
+  second = name_at z (place_in (later e.f e.g));
+}
 
 -- what two nodes that face each other are rewritten by, whichever of them acts; for a stuck pair it has no meaning
 abbrev pub acting : Option Rule → Option Rule → ℕ → ℕ → Event
@@ -57,7 +61,8 @@ IsStuckPair left right = (rule_between left right ≡ None) × (rule_between rig
 -- M is N after these events in order, the first of which has this ticket. The references are those of the two nodes.
 pub data IsPlayed (z : Parts) : NamedNet NodeName → ℕ → List Event → NamedNet NodeName → Type 0 where
   end : {N : NamedNet NodeName} {t : ℕ} → IsPlayed z N t [] N
-  then : {N M P : NamedNet NodeName} {t : ℕ} {e : Event} {es : List Event} (x y : NodeName) (step : IsStep (λ place. Born t place) N x y e.rule M)
+  then : {N M P : NamedNet NodeName} {t : ℕ} {e : Event} {es : List Event} (x y : NodeName)
+      (step : IsStep (λ place. Born t place) N x y e.rule M)
       → e.f ≡ node_ref step.active.k step.active.i (place_of z x)
       → e.g ≡ node_ref step.active.l step.active.j (place_of z y) → IsPlayed z M (suc t) es P
       → IsPlayed z N t (e ∷ es) P

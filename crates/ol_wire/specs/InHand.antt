@@ -1,5 +1,6 @@
 -- Private: what a seat has in hand in the midst of a turn, and what it has read of its nodes.
-use Rattle.std.specs.Prelude.{◌≡◌, ℕ, zero, suc, ◌+◌, ◌<◌, List, [], ◌∷◌, ◌++◌, ◌⊎◌, slice_index, MatchOption, Option, false, ◌≢◌}
+use Rattle.std.specs.Prelude.{◌≡◌, ℕ, zero, suc, ◌+◌, ◌<◌, List, [], ◌∷◌, ◌++◌, ◌⊎◌, slice_index}
+use Rattle.std.specs.Prelude.{MatchOption, Option, false, ◌≢◌}
 use Rattle.ol_edges.specs.Edges.{IsIn}
 use Rattle.ol_net.specs.Parts.{arity}
 use Rattle.ol_wire.specs.declared.layout.Parts.{Parts}
@@ -61,7 +62,8 @@ AreFields known node found = (s : ℕ) → s < arity (kind_in node) → IsSure k
 abbrev pub AreRefs : Parts → ℕ → List ℕ → Type 0
 AreRefs z node found = (s : ℕ) → s < arity (kind_in node) → IsRefOf z (slice_index found s)
 
--- The pair in hand has become ticket t: its words are written, and its links are pending, by what the fields of the two nodes held.
+-- The pair in hand has become ticket t: its words are written, and its links are pending, by what
+-- the fields of the two nodes held.
 pub record Rewrote (v : View) (t : ℕ) (of_f of_g : List ℕ) (n : View) : Type 0 where
   pub view : n ≡ record v {
     taken = [];
@@ -75,7 +77,8 @@ pub record Rewrote (v : View) (t : ℕ) (of_f of_g : List ℕ) (n : View) : Type
 
 -- a pair was taken from cell c, or the cell was empty
 abbrev pub HasTaken : TableState → View → ℕ → Option (ℕ × ℕ) → View → Type 0
-HasTaken b v c found n = MatchOption found (n ≡ missed v c) (λ (pair : ℕ × ℕ). (pair.0 ≢ 0) × (n ≡ in_hand v (left_word b.plan.parts c) c pair))
+HasTaken b v c found n = MatchOption found (n ≡ missed v c)
+    (λ (pair : ℕ × ℕ). (pair.0 ≢ 0) × (n ≡ in_hand v (left_word b.plan.parts c) c pair))
 
 abbrev pub AreNodesOf : Parts → ℕ × ℕ → Type 0
 AreNodesOf z pair = IsNodeOf z pair.0 × IsNodeOf z pair.1

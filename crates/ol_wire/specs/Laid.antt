@@ -30,7 +30,8 @@ wire_number net n s m u = if comes_first n (suc s) m u then wires_before net n s
 abbrev pub field_to : Graph → Parts → ℕ → ℕ → Option Port → ℕ
 field_to net z n s None = 0
 field_to net z n s (Some (Free m)) = wire_ref (port_word m)
-field_to net z n s (Some (Of m u)) = if u == 0 then node_word net z m.0 else wire_ref (start_wire z (wire_number net n s m.0 u))
+field_to net z n s (Some (Of m u)) = if u == 0 then node_word net z m.0 else wire_ref
+    (start_wire z (wire_number net n s m.0 u))
 
 abbrev pub field_of : Graph → Parts → ℕ → ℕ → ℕ
 field_of net z n s = field_to net z n s (partner_of net (Of (record { 0 = n }) (suc s)))

@@ -1,5 +1,6 @@
 -- Private: the words of the start, row by row, as they are laid out.
-use Rattle.std.specs.Prelude.{◌≡◌, ℕ, suc, ◌+◌, ◌*◌, ◌<◌, ◌≤◌, ◌==◌, nat_lt, if◌then◌else◌, List, [], ◌∷◌, length, Option, Some, None, slice_index, slice_get, ◌++◌}
+use Rattle.std.specs.Prelude.{◌≡◌, ℕ, suc, ◌+◌, ◌*◌, ◌<◌, ◌≤◌, ◌==◌, nat_lt, if◌then◌else◌, List}
+use Rattle.std.specs.Prelude.{[], ◌∷◌, length, Option, Some, None, slice_index, slice_get, ◌++◌}
 use Rattle.ol_net.specs.declared.parts.Port.{Port}
 use Rattle.ol_net.specs.declared.parts.Port.TheVariants.{Free, Of}
 use Rattle.ol_net.specs.Graph.{Graph, partner_of}
@@ -12,7 +13,8 @@ use Rattle.std.specs.declared.vec.Vec.{Vec}
 use Rattle.std.specs.declared.alloc.Global.{Global}
 use Rattle.ol_wire.specs.Laid.{field_of, node_word}
 
--- The word of free port n, by its partner. Of two free ports that of the smaller number names the other; an auxiliary slot names the port in
+-- The word of free port n, by its partner. Of two free ports that of the smaller number names the
+-- other; an auxiliary slot names the port in
 -- its own field.
 abbrev pub word_to : Graph → Parts → ℕ → Option Port → ℕ
 word_to net z n None = 0

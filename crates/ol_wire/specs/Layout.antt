@@ -1,4 +1,5 @@
--- Which part of the table each word is. A node's place is the number of the word of the field of its slot 1, also where it has no such slot; the
+-- Which part of the table each word is. A node's place is the number of the word of the field of
+-- its slot 1, also where it has no such slot; the
 -- field of its slot 2 is the next word.
 use Rattle.std.specs.Prelude.{ℕ, ◌+◌, ◌-◌, ◌*◌, ◌/◌, ◌%◌, ◌==◌, ◌<◌, ◌≤◌, nat_lt, if◌then◌else◌}
 use Rattle.ol_rules.specs.declared.journal.NodeName.{NodeName}
@@ -19,7 +20,8 @@ start_wire z j = 2 + z.free + 2 * z.nodes + j
 abbrev pub start_cell : Parts → ℕ → ℕ
 start_cell z c = 2 + z.free + 2 * z.nodes + z.wires + 2 * c
 
--- The 22 words of a ticket: the two nodes of its entry, two fields for each of four nodes, four wires, and the left and right words of four cells.
+-- The 22 words of a ticket: the two nodes of its entry, two fields for each of four nodes, four
+-- wires, and the left and right words of four cells.
 abbrev pub block : Parts → ℕ → ℕ
 block z t = 2 + z.free + 2 * z.nodes + z.wires + 2 * z.cells + 22 * t
 

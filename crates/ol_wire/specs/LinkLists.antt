@@ -22,7 +22,8 @@ abbrev pub to_write : ℕ → List ℕ → List (ℕ × ℕ)
 to_write w [] = []
 to_write w (x ∷ xs) = if x == 0 then to_write (suc w) xs else (w, x) ∷ to_write (suc w) xs
 
--- the number of joins, and the link of join j, with the left word of its cell: `a` and `b` are what the fields of f and of g hold, by slot - 1
+-- the number of joins, and the link of join j, with the left word of its cell: `a` and `b` are what
+-- the fields of f and of g hold, by slot - 1
 abbrev pub joins_in : Event → ℕ
 joins_in e = if is_meeting e.rule then arity (kind_in e.f) else copies_of_f e + copies_of_g e
 

@@ -19,7 +19,8 @@ abbrev pub spread : ℕ → List ℕ → ℕ
 spread zero xs = 0
 spread (suc n) xs = spread n xs + times_in n xs
 
--- An exchange of one end of the first pending link into the word of the wire or free port at its other end. The word was empty, or the link
+-- An exchange of one end of the first pending link into the word of the wire or free port at its
+-- other end. The word was empty, or the link
 -- goes on between the two ends, and one wire more is dead: of these there are no more than words.
 abbrev pub links : Play
 links s m r n = (n.1 ≡ m.1) × (r ≡ 0 → n.0 ≡ linked m.0)
@@ -37,7 +38,8 @@ publishes s m r n = (n.1 ≡ m.1) × (n.0 ≡ publishing m.0 s.word)
 
 -- a look at the ticket word, which tells that no seat stands for more than there are, and has no ticket twice
 abbrev pub reads_tickets_joined : Play
-reads_tickets_joined s m r n = (n.1 ≡ m.1) × (n.0 ≡ m.0) × (m.0.holds ≤ m.0.seats) × ((t : ℕ) → times_drawn t m.0.made ≤ 1)
+reads_tickets_joined s m r n = (n.1 ≡ m.1) × (n.0 ≡ m.0) × (m.0.holds ≤ m.0.seats)
+    × ((t : ℕ) → times_drawn t m.0.made ≤ 1)
 
 -- what a seat is left with that was joined to another: nothing, of no table
 abbrev pub no_parts : Parts

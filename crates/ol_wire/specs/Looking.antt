@@ -20,6 +20,7 @@ MomentLive p v word = (m : Moment p v) × (slice_index m.table.words 1 ≡ word)
 abbrev pub reads_live : Play
 reads_live s m r n = (n.1 ≡ m.1) × (n.0 ≡ live_read m.0 r) × ((p : Plan) → KnowsPlan p m.0 → MomentLive p n.0 r)
 
--- A look at the ticket word. A step can't read the plan, so that the moment is told for each plan that the view knows, and there is one.
+-- A look at the ticket word. A step can't read the plan, so that the moment is told for each plan
+-- that the view knows, and there is one.
 abbrev pub reads_tickets : Play
 reads_tickets s m r n = (n.1 ≡ m.1) × (n.0 ≡ m.0) × ((p : Plan) → KnowsPlan p m.0 → MomentWith p m.0 r)

@@ -26,7 +26,8 @@ pub record Recalls (p : Plan) (s : Table) (c : ℕ) (last : ℕ × ℕ) (taken :
   pub low : c < cells_of p.parts
   pub pair : IsRead s last (left_word p.parts c) ⊎ IsUnread last taken (left_word p.parts c)
 
--- Each view tells the truth of its last claim, where this found a pair; and a pair that a view has claimed is that of its last claim.
+-- Each view tells the truth of its last claim, where this found a pair; and a pair that a view has
+-- claimed is that of its last claim.
 pub record Remembered (p : Plan) (s : Table) : Type 0 where
   pub last : (v : View) → IsView s v → v.last.0 ≢ 0 → Recalls p s v.cell v.last v.taken
   pub taken : (v : View) (w y : ℕ) → IsView s v → IsIn (w, y) v.taken → (w ≡ left_word p.parts v.cell) × (y ≡ v.last.0)

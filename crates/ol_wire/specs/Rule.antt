@@ -1,5 +1,7 @@
 -- What holds of the words and the views between any two steps.
-use Rattle.std.specs.Prelude.{◌≡◌, ◌≢◌, ℕ, suc, ◌+◌, ◌<◌, ◌≤◌, ◌==◌, ◌⊎◌, true, nat_eq, if◌then◌else◌, List, [], length, map, is_some, count_by, Some, slice_index, slice_get}
+use Rattle.std.specs.Prelude.{◌≡◌, ◌≢◌, ℕ, suc, ◌+◌, ◌<◌, ◌≤◌, ◌==◌, ◌⊎◌, true, nat_eq}
+use Rattle.std.specs.Prelude.{if◌then◌else◌, List, [], length, map, is_some, count_by, Some}
+use Rattle.std.specs.Prelude.{slice_index, slice_get}
 use mathlib.Core.Option.{some}
 use lib.ListN.{get_elem?}
 use Rattle.atomic_table.specs.Table.{State}
@@ -20,7 +22,9 @@ use Rattle.ol_wire.specs.declared.view.View.{View}
 use Rattle.ol_wire.specs.References.{node_ref, place_in, IsNodeRef, IsRef, IsWholeRef}
 use Rattle.ol_wire.specs.Starts.{facing_pairs, start_net_of_plan, AreParts}
 use Rattle.ol_wire.specs.Laid.{field_of, node_word}
-use Rattle.ol_wire.specs.Layout.{WordPart, field, left, right, entry, part_of_word, place_of, start_node, start_cell, left_word, block, table_size, IsInBlock, IsPlaced}
+use Rattle.ol_wire.specs.Layout.{WordPart, field, left, right, entry, part_of_word, place_of}
+use Rattle.ol_wire.specs.Layout.{start_node, start_cell, left_word, block, table_size, IsInBlock}
+use Rattle.ol_wire.specs.Layout.{IsPlaced}
 use Rattle.ol_wire.specs.Weights.{total, pairs, weighed_by_place, weigh, Empties}
 use Rattle.ol_wire.specs.Events.{Event, rule_between, entry_of, IsStuckPair, IsPlayed}
 use Rattle.ol_wire.specs.Blocks.{block_words}
@@ -111,12 +115,14 @@ IsRightOf v l word = (word ≡ 0) ⊎ (IsNodeRef l.one × IsNodeRef l.two × (wo
 abbrev pub HoldsStart : List ℕ → ℕ → ℕ → ℕ → Type 0
 HoldsStart full w l r = ((slice_index full w ≡ 0) ⊎ (slice_index full w ≡ l)) × (slice_index full (suc w) ≡ r)
 
--- The words, once each view has written what it holds, are `full`. A word that a view holds is empty, and no other view holds it.
+-- The words, once each view has written what it holds, are `full`. A word that a view holds is
+-- empty, and no other view holds it.
 pub record WordsKeep (p : Plan) (s : Table) (log : List Event) (full : List ℕ) : Type 0 where
   pub wide : length s.words ≡ table_size p.parts
   pub full_wide : length full ≡ table_size p.parts
   pub written : (h : ℕ → ℕ → ℕ) → Empties h
-      → weigh h s.words (table_size p.parts) + total (λ (v : View). pairs h v.due + pairs h v.taken) s.views ≡ weigh h full (table_size p.parts)
+      → weigh h s.words (table_size p.parts) + total
+      (λ (v : View). pairs h v.due + pairs h v.taken) s.views ≡ weigh h full (table_size p.parts)
   -- each word behind the ticket word and the live word holds a reference, and the words of a cell hold nodes
   pub refs : (w : ℕ) → 1 < w → slice_index full w ≢ 0 → IsMadeRef p.parts log (slice_index full w)
   pub cells : (w : ℕ) → part_of_word p.parts w ≡ left → slice_index full w ≢ 0
@@ -125,7 +131,8 @@ pub record WordsKeep (p : Plan) (s : Table) (log : List Event) (full : List ℕ)
   pub fields : (n c : ℕ) → n < p.parts.nodes → c < 2
       → slice_index full (start_node p.parts n + c) ≡ field_of p.start.value p.parts n c
   pub starts : (c : ℕ) (n : ℕ × ℕ) → slice_get (facing_pairs p.start.value) c ≡ Some n
-      → HoldsStart full (start_cell p.parts c) (node_word p.start.value p.parts n.0) (node_word p.start.value p.parts n.1)
+      → HoldsStart full (start_cell p.parts c) (node_word p.start.value p.parts n.0)
+      (node_word p.start.value p.parts n.1)
   -- the blocks of tickets that weren't drawn are empty
   pub fresh : (w : ℕ) → block p.parts (length log) ≤ w → slice_index full w ≡ 0
   -- each other block begins with the nodes of its entry and the fields of the nodes that it made
@@ -153,7 +160,8 @@ abbrev pub IsUnpublished : Plan → List ℕ → List ℕ → View → Link → 
 IsUnpublished p from full v l = (part_of_word p.parts l.cell ≡ left) × (slice_index full l.cell ≡ 0)
     × IsRightOf v l (slice_index full (suc l.cell)) × ((t w : ℕ) → slice_get from t ≡ Some w → w ≢ l.cell)
 
--- The cells. `from` has, for each ticket, the left word of the cell whose pair it rewrote; that word stays empty, and the right word stays one of
+-- The cells. `from` has, for each ticket, the left word of the cell whose pair it rewrote; that
+-- word stays empty, and the right word stays one of
 -- the two nodes.
 pub record CellsKeep (p : Plan) (s : Table) (log : List Event) (from full : List ℕ) : Type 0 where
   pub tickets : length from ≡ length log
@@ -167,7 +175,8 @@ pub record CellsKeep (p : Plan) (s : Table) (log : List Event) (from full : List
   pub swept : (v : View) (c : ℕ) → IsView s v → c < v.swept
       → (v.holds ≡ p.seats) × HoldsNoActive full (left_word p.parts c)
       × ((l : Link) → IsIn l v.pending → l.cell ≢ left_word p.parts c)
-  -- a pair stands in the cell of a block, or was rewritten, as often as the cell is in a view's list of those that it published
+  -- a pair stands in the cell of a block, or was rewritten, as often as the cell is in a view's
+  -- list of those that it published
   pub published : (w : ℕ) → part_of_word p.parts w ≡ left → block p.parts 0 ≤ w
       → times_published p.parts w s.views ≡ filled (slice_index full w) + times_in w from
 
@@ -194,11 +203,13 @@ pub record SeatsKeep (p : Plan) (s : Table) (log : List Event) (net : NamedNet N
   pub due : (v : View) (w y : ℕ) → IsView s v → IsIn (w, y) v.due
       → (y ≢ 0) × IsOwn (part_of_word p.parts w) × IsInOwnBlock p.parts v w
   pub links : (v : View) (l : Link) → IsView s v → IsIn l v.pending → IsInOwnBlock p.parts v l.cell
-  -- a field that a view has to write is that of a live node, and the one edge at this node's slot 0 is that of one of the view's own links
+  -- a field that a view has to write is that of a live node, and the one edge at this node's slot 0
+  -- is that of one of the view's own links
   pub due_fields : (v : View) (w y : ℕ) (x : NodeName) (c : ℕ) → IsView s v → IsIn (w, y) v.due
       → part_of_word p.parts w ≡ field x c → IsLinkedField p.parts net v.pending x c
   -- each ticket below the fuel is one view's
-  pub made : (h : ℕ → Entry → ℕ) → total (λ (v : View). pairs h v.made) s.views ≡ weighed_by_place h 0 (entries_of p.parts log)
+  pub made : (h : ℕ → Entry → ℕ) → total
+      (λ (v : View). pairs h v.made) s.views ≡ weighed_by_place h 0 (entries_of p.parts log)
   -- a wire is dead in one view at most, and only where it was made
   pub dead : (w : ℕ) → deaths w s.views ≤ bit (is_made p.parts log w)
 

@@ -1,5 +1,6 @@
 -- What the words of a closed table stand for.
-use Rattle.std.specs.Prelude.{◌&&◌, nat_eq, ◌≡◌, ◌≢◌, ℕ, suc, ◌+◌, ◌<◌, ◌≤◌, Bool, true, List, Some, length, slice_index, slice_get, ◌↔◌}
+use Rattle.std.specs.Prelude.{◌&&◌, nat_eq, ◌≡◌, ◌≢◌, ℕ, suc, ◌+◌, ◌<◌, ◌≤◌, Bool, true, List, Some}
+use Rattle.std.specs.Prelude.{length, slice_index, slice_get, ◌↔◌}
 use Rattle.ol_net.specs.declared.parts.Kind.{Kind}
 use Rattle.ol_net.specs.Nets.{NamedNet, HasNode, IsNet}
 use Rattle.ol_net.specs.Parts.{is_eraser}
@@ -42,12 +43,14 @@ pub record WordsStandFor (w : ClosedTable) (net : NamedNet NodeName) (reached : 
   pub small : IsSmall w.plan.parts
   pub is_net : IsNet net
   pub ports : net.free_ports ≡ w.plan.parts.free
-  pub live : (x : NodeName) → ((k : Kind) × (i : ℕ) × HasNode net x k i) ↔ (IsMadeNode w.plan.parts w.words x × IsUntouched w.plan.parts w.words x)
+  pub live : (x : NodeName) → ((k : Kind) × (i : ℕ) × HasNode net x k i) ↔
+      (IsMadeNode w.plan.parts w.words x × IsUntouched w.plan.parts w.words x)
   pub names : (x : NodeName) (k : Kind) (i : ℕ) → HasNode net x k i
       → IsPlaced w.plan.parts (events_in w.plan.parts w.words) x
   pub indexes : (x : NodeName) (k : Kind) (i : ℕ) → HasNode net x k i → i ≤ 1000000 + events_in w.plan.parts w.words
   pub erasers : (x : NodeName) (k : Kind) (i : ℕ) → HasNode net x k i → is_eraser k ≡ true → i ≡ 0
-  -- each word behind the ticket word and the live word holds a whole reference of something that was made, or nothing; the words of a cell hold
+  -- each word behind the ticket word and the live word holds a whole reference of something that
+  -- was made, or nothing; the words of a cell hold
   -- nodes
   pub refs : (n : ℕ) → 1 < n → slice_index w.words n ≢ 0
       → IsRef (slice_index w.words n) × IsWholeRef (slice_index w.words n)
@@ -55,7 +58,8 @@ pub record WordsStandFor (w : ClosedTable) (net : NamedNet NodeName) (reached : 
   pub cells : (n : ℕ) → part_of_word w.plan.parts n ≡ left → slice_index w.words n ≢ 0
       → IsNodeRef (slice_index w.words n) × IsNodeRef (slice_index w.words (suc n))
   pub wires : (n : ℕ) → reached n ≡ true → IsWirePart (part_of_word w.plan.parts n)
-  pub stands : StandsForNet w.plan.parts net reached (edges_in w.plan.parts net reached w.words (table_size w.plan.parts))
+  pub stands : StandsForNet w.plan.parts net reached
+      (edges_in w.plan.parts net reached w.words (table_size w.plan.parts))
 
 -- they stand for a net after their journal
 abbrev pub StandForNet : ClosedTable → Type 0

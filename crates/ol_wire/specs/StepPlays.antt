@@ -1,5 +1,6 @@
 -- Private: what each step on a word tells the seat that makes it.
-use Rattle.std.specs.Prelude.{◌≡◌, ◌≢◌, ℕ, suc, ◌+◌, ◌-◌, ◌<◌, ◌≤◌, nat_eq, if◌then◌else◌, List, [], ◌∷◌, ◌++◌, Bool, true, false, Option, Some, None, ◌⊎◌}
+use Rattle.std.specs.Prelude.{◌≡◌, ◌≢◌, ℕ, suc, ◌+◌, ◌-◌, ◌<◌, ◌≤◌, nat_eq, if◌then◌else◌, List, []}
+use Rattle.std.specs.Prelude.{◌∷◌, ◌++◌, Bool, true, false, Option, Some, None, ◌⊎◌}
 use Rattle.atomic_table.specs.Table.{Me, Step}
 use Rattle.ol_edges.specs.Edges.{IsIn}
 use Rattle.ol_net.specs.declared.parts.Rule.{Rule}
@@ -35,10 +36,20 @@ rest (x ∷ xs) = xs
 
 -- a claim of the cell with left word w, where x stood
 abbrev pub missing : View → ℕ → View
-missing v w = record v { claimed = v.claimed ++ cell_at v.parts w ∷ []; last = (0, 0); cell = cell_at v.parts w; swept = swept_on v (cell_at v.parts w) }
+missing v w = record v {
+  claimed = v.claimed ++ cell_at v.parts w ∷ [];
+  last = (0, 0);
+  cell = cell_at v.parts w;
+  swept = swept_on v (cell_at v.parts w);
+}
 
 abbrev pub holding : View → ℕ → ℕ → View
-holding v w x = record v { claimed = v.claimed ++ cell_at v.parts w ∷ []; last = (x, 0); cell = cell_at v.parts w; taken = (w, x) ∷ v.taken }
+holding v w x = record v {
+  claimed = v.claimed ++ cell_at v.parts w ∷ [];
+  last = (x, 0);
+  cell = cell_at v.parts w;
+  taken = (w, x) ∷ v.taken;
+}
 
 -- a look at the right word of the cell that was claimed, and at a field
 abbrev pub paired : View → ℕ → ℕ → View
@@ -57,7 +68,8 @@ abbrev pub cell_in_hand : List (ℕ × ℕ) → ℕ
 cell_in_hand [] = 0
 cell_in_hand (x ∷ xs) = x.0
 
--- The seat has claimed the pair of the cell with left word w, has looked at its right word and at the fields of its two nodes, and the pair is
+-- The seat has claimed the pair of the cell with left word w, has looked at its right word and at
+-- the fields of its two nodes, and the pair is
 -- active: this is what it needs before it draws a ticket.
 pub record IsLookedUp (v : View) (w : ℕ) : Type 0 where
   pub held : 0 < v.holds
@@ -90,7 +102,8 @@ ticketed v t = record v {
   owed = suc v.owed;
   made = v.made ++ (t, entry_of v.parts (event_in v)) ∷ [];
   due = to_write (block v.parts t) (block_words v.parts (event_in v) t);
-  pending = links_of v.parts (event_in v) t (λ s. known_at v.known (place_in (event_in v).f + s)) (λ s. known_at v.known (place_in (event_in v).g + s));
+  pending = links_of v.parts (event_in v) t (λ s. known_at v.known (place_in (event_in v).f + s))
+      (λ s. known_at v.known (place_in (event_in v).g + s));
 }
 
 -- and one at or above it
@@ -105,10 +118,12 @@ abbrev pub returned : View → View
 returned v = record v {
   taken = rest v.taken;
   known = [];
-  swept = if is_stuck (rule_between v.last.0 v.last.1) (rule_between v.last.1 v.last.0) then swept_on v (cell_at v.parts (cell_in_hand v.taken)) else v.swept;
+  swept = if is_stuck (rule_between v.last.0 v.last.1)
+      (rule_between v.last.1 v.last.0) then swept_on v (cell_at v.parts (cell_in_hand v.taken)) else v.swept;
 }
 
--- An exchange with the word of a wire or of a free port for the first pending link: the word was empty, or c stood in word w, where b was put in.
+-- An exchange with the word of a wire or of a free port for the first pending link: the word was
+-- empty, or c stood in word w, where b was put in.
 abbrev pub linked : View → View
 linked v = record v { pending = rest v.pending }
 
@@ -124,9 +139,15 @@ abbrev pub first_active : List Link → ℕ
 first_active [] = 0
 first_active (l ∷ ls) = active_in l.one l.two
 
--- the left word of the cell of the first pending link is written, after its right word; where its pair is active it isn't owed any more
+-- the left word of the cell of the first pending link is written, after its right word; where its
+-- pair is active it isn't owed any more
 abbrev pub publishing : View → ℕ → View
-publishing v w = record v { pending = rest v.pending; known = []; published = v.published ++ cell_at v.parts w ∷ []; owed = v.owed - first_active v.pending }
+publishing v w = record v {
+  pending = rest v.pending;
+  known = [];
+  published = v.published ++ cell_at v.parts w ∷ [];
+  owed = v.owed - first_active v.pending;
+}
 
 -- one seat is cut off
 abbrev pub one_seat : View → View
@@ -144,10 +165,12 @@ IsNodeOf z r = IsNodeRef r × (r ≡ node_ref (kind_in r) (index_in r) (place_in
 abbrev pub IsRefOf : Parts → ℕ → Type 0
 IsRefOf z r = IsNodeOf z r ⊎ (IsWireRef r × (0 < place_in r) × (place_in r < table_size z))
 
--- The cell was empty, at a moment, or a node of its pair stood there. A step can't read the plan, so that the moment is told for each plan that the
+-- The cell was empty, at a moment, or a node of its pair stood there. A step can't read the plan,
+-- so that the moment is told for each plan that the
 -- view knows, and there is one.
 abbrev pub claims : Play
-claims s m r n = (n.1 ≡ m.1) × (r ≡ 0 → (n.0 ≡ missing m.0 s.word) × ((p : Plan) → KnowsPlan p m.0 → MomentEmpty p s.word n.0))
+claims s m r n = (n.1 ≡ m.1) × (r ≡ 0 →
+    (n.0 ≡ missing m.0 s.word) × ((p : Plan) → KnowsPlan p m.0 → MomentEmpty p s.word n.0))
     × (r ≢ 0 → (n.0 ≡ holding m.0 s.word r) × IsNodeOf m.0.parts r)
 
 -- of the right word of the cell whose pair is in hand
@@ -160,7 +183,8 @@ abbrev pub reads_reference : Play
 reads_reference s m r n = (n.1 ≡ m.1) × (n.0 ≡ knowing m.0 s.word r) × IsRefOf m.0.parts r
 
 abbrev pub draws : Play
-draws s m r n = (n.1 ≡ m.1) × (r < m.0.parts.fuel → (n.0 ≡ ticketed m.0 r) × ((p : Plan) → KnowsPlan p m.0 → Moment p n.0)) × (m.0.parts.fuel ≤ r → n.0 ≡ late m.0)
+draws s m r n = (n.1 ≡ m.1) × (r < m.0.parts.fuel →
+    (n.0 ≡ ticketed m.0 r) × ((p : Plan) → KnowsPlan p m.0 → Moment p n.0)) × (m.0.parts.fuel ≤ r → n.0 ≡ late m.0)
 
 -- the operand is added to the live word, or taken from it
 abbrev pub owes : Play

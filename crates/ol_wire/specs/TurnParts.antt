@@ -1,5 +1,6 @@
 -- Private: what the parts of a turn ask and leave: the claim with the ticket, and the links.
-use Rattle.std.specs.Prelude.{◌≡◌, ℕ, suc, ◌+◌, ◌*◌, ◌^◌, ◌<◌, List, [], ◌++◌, true, false, Some, slice_index, MatchOption, Option}
+use Rattle.std.specs.Prelude.{◌≡◌, ℕ, suc, ◌+◌, ◌*◌, ◌^◌, ◌<◌, List, [], ◌++◌, true, false, Some}
+use Rattle.std.specs.Prelude.{slice_index, MatchOption, Option}
 use Rattle.ol_wire.specs.declared.layout.Parts.{Parts}
 use Rattle.ol_wire.specs.declared.view.View.{View}
 use Rattle.ol_wire.specs.declared.begun.Begun.{Begun}
@@ -29,7 +30,8 @@ pub record TurnBegins (z : Parts) (v : View) (c : ℕ) (b : Begun) (n : View) : 
 -- The links of the rewrite are pending, all of them.
 pub record IsBegun (z : Parts) (v : View) (b : Begun) : Type 0 where
   pub due : v.due ≡ []
-  pub pending : v.pending ≡ links_of z (event_for b.rewrite) b.ticket (λ s. slice_index b.of_f s) (λ s. slice_index b.of_g s)
+  pub pending : v.pending ≡ links_of z (event_for b.rewrite) b.ticket (λ s. slice_index b.of_f s)
+      (λ s. slice_index b.of_g s)
   pub owed : v.owed ≡ suc (joins_in (event_for b.rewrite))
   pub ticket : b.ticket < z.fuel
   pub rule : rule_between b.rewrite.f b.rewrite.g ≡ Some b.rewrite.rule
@@ -41,7 +43,13 @@ pub record AreLinked (z : Parts) (v : View) (b : Begun) (m : ℕ) (n : View) : T
   pub mask : m < 16
   pub joins : m < 2 ^ joins_in (event_for b.rewrite)
   pub dead : (ws : List ℕ) × (n.dead ≡ v.dead ++ ws)
-  pub view : n ≡ record v { pending = []; known = n.known; published = v.published ++ masked (z.cells + 4 * b.ticket) m; dead = n.dead; owed = 0 }
+  pub view : n ≡ record v {
+    pending = [];
+    known = n.known;
+    published = v.published ++ masked (z.cells + 4 * b.ticket) m;
+    dead = n.dead;
+    owed = 0;
+  }
 
 -- the first part of a turn on cell c has begun a rewrite, or the turn has ended
 abbrev pub HasBegun : TableState → View → ℕ → View → Begun → Type 0
@@ -56,7 +64,8 @@ IsRewriteInHand v w = (event_for w ≡ event_in v) × (rule_between w.f w.g ≡ 
 
 -- the fuel was used up, and the links are owed, or the rewrite has a ticket and its words are written
 abbrev pub HasBegunOrLate : TableState → View → Rewrite → Option Begun → View → Type 0
-HasBegunOrLate b v w found n = MatchOption found (n ≡ record v { known = n.known; over = true; owed = joins_in (event_for w) })
+HasBegunOrLate b v w found n = MatchOption found
+    (n ≡ record v { known = n.known; over = true; owed = joins_in (event_for w) })
     (λ (x : Begun). (x.ticket < b.plan.parts.fuel) × (x.rewrite ≡ w) × hands.Rewrote v x.ticket x.of_f x.of_g n)
 
 -- what was read of the fields of the two nodes

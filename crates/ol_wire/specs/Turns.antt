@@ -1,5 +1,6 @@
 -- What a turn answers, by its cause, and what it leaves in the seat's view.
-use Rattle.std.specs.Prelude.{◌≡◌, ◌≢◌, ℕ, ◌+◌, ◌*◌, ◌/◌, ◌%◌, ◌^◌, ◌==◌, ◌<◌, if◌then◌else◌, Bool, ◌↔◌, List, [], ◌∷◌, ◌++◌, true, false}
+use Rattle.std.specs.Prelude.{◌≡◌, ◌≢◌, ℕ, ◌+◌, ◌*◌, ◌/◌, ◌%◌, ◌^◌, ◌==◌, ◌<◌, if◌then◌else◌, Bool}
+use Rattle.std.specs.Prelude.{◌↔◌, List, [], ◌∷◌, ◌++◌, true, false}
 use Rattle.ol_net.specs.declared.parts.Rule.{Rule}
 use Rattle.ol_rules.specs.Listed.{each}
 use Rattle.ol_wire.specs.declared.layout.Parts.{Parts}
@@ -77,8 +78,10 @@ IsMomentOf p c Stuck n = MomentHolding p (left_word p.parts c) n
 IsMomentOf p c Spent n = MomentHolding p (left_word p.parts c) n
 IsMomentOf p c (Rewrote t r b m) n = Unit {0}
 
--- Which cell is which join's. Once the ticket was drawn the seat had a link to make for each join, by what the fields of the two nodes held; the cell
--- of the link of join j is that of number b + j. Bit j of the mask is set exactly where this link ended with two nodes face to face, and the pair
+-- Which cell is which join's. Once the ticket was drawn the seat had a link to make for each join,
+-- by what the fields of the two nodes held; the cell
+-- of the link of join j is that of number b + j. Bit j of the mask is set exactly where this link
+-- ended with two nodes face to face, and the pair
 -- was published in this cell.
 pub record LinksJoins (p : Plan) (v : View) (t b m : ℕ) (n : View) : Type 0 where
   pub of_f : ℕ → ℕ
@@ -86,7 +89,8 @@ pub record LinksJoins (p : Plan) (v : View) (t b m : ℕ) (n : View) : Type 0 wh
   pub drawn : View
   pub moment : Moment p drawn
   pub links : drawn.pending ≡ links_of p.parts (event_in n) t of_f of_g
-  pub cells : (j : ℕ) → j < joins_in (event_in n) → cell_at p.parts (link_of p.parts (event_in n) t of_f of_g j).cell ≡ b + j
+  pub cells : (j : ℕ) → j < joins_in (event_in n) →
+      cell_at p.parts (link_of p.parts (event_in n) t of_f of_g j).cell ≡ b + j
   pub bits : m < 2 ^ joins_in (event_in n)
   pub published : n.published ≡ v.published ++ masked b m
 

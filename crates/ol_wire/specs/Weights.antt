@@ -1,4 +1,5 @@
--- Things that stand in several places are compared by weight: two lists have the same members, each as often, where they weigh the same by every h.
+-- Things that stand in several places are compared by weight: two lists have the same members, each
+-- as often, where they weigh the same by every h.
 use Rattle.std.specs.Prelude.{◌≡◌, ℕ, zero, suc, ◌+◌, List, [], ◌∷◌, slice_index}
 
 abbrev pub total : {A : Type 0} → (A → ℕ) → List A → ℕ

@@ -1,5 +1,7 @@
 -- The job of the words, by what clap finds in them.
-use Rattle.std.proofs.Common.{ℕ, ◌≡◌, ◌∙◌, sym, ap, refl, true, false, true≢false, ◌&&◌, List, [], ◌∷◌, Option, Some, None, option_map, if◌then◌else◌, inl, inr, length, map, nat_lt, nat_eq, subst}
+use Rattle.std.proofs.Common.{ℕ, ◌≡◌, ◌∙◌, sym, ap, refl, true, false, true≢false, ◌&&◌, List, []}
+use Rattle.std.proofs.Common.{◌∷◌, Option, Some, None, option_map, if◌then◌else◌, inl, inr, length}
+use Rattle.std.proofs.Common.{map, nat_lt, nat_eq, subst}
 use Rattle.std.specs.Prelude.{option_and_then}
 use Rattle.std.specs.Option.{option_map_or}
 use Rattle.std.specs.List.{list_all}
@@ -19,7 +21,8 @@ use Rattle.ol_words.specs.Texts.{Text}
 use Rattle.ol_words.specs.Lines.{Line, line_of}
 use Rattle.ol_words.specs.Numbers.{Limits, setting}
 use Rattle.ol_words.specs.Asked.{Asked, Verb, asks}
-use Rattle.ol_words.specs.Jobs.{Setting, setting_row, verb_row, options_of, known_of, verb_named, values_of, number_on, numbers, job_on, job_behind, job_of}
+use Rattle.ol_words.specs.Jobs.{Setting, setting_row, verb_row, options_of, known_of, verb_named}
+use Rattle.ol_words.specs.Jobs.{values_of, number_on, numbers, job_on, job_behind, job_of}
 use Rattle.ol_words.specs.Once.{is_given_once, is_told_once, is_agreed, agreed_verb}
 use Rattle.ol_words.specs.Found.{job_by}
 use Rattle.ol_words.specs.Command.{app, ids_of}
@@ -39,28 +42,41 @@ none_added : (x : Option ℕ) → option_and_then (λ n. option_map (λ more. n 
 none_added None = refl
 none_added (Some n) = refl
 
-numbers_twice : (line : Line) (ss : List Setting) → list_all (is_given_once line) (map (λ s. (setting_row s).option) ss) ≡ false → numbers (number_on line) ss ≡ None
+numbers_twice : (line : Line) (ss : List Setting) →
+    list_all (is_given_once line) (map (λ s. (setting_row s).option) ss) ≡ false → numbers (number_on line) ss ≡ None
 numbers_twice line [] e = absurd (true≢false e)
 numbers_twice line (s ∷ rest) e = elim (cases_Bool (is_given_once line (setting_row s).option)) [
-  | inr twice ↦ ap (λ (number : Option ℕ). option_and_then (λ n. option_map (λ more. n ∷ more) (numbers (number_on line) rest)) number) (again (setting_row s).limits (values_of (setting_row s).option line.options) twice)
+  | inr twice ↦ ap (λ (number : Option ℕ).
+      option_and_then (λ n. option_map (λ more. n ∷ more) (numbers (number_on line) rest)) number)
+      (again (setting_row s).limits (values_of (setting_row s).option line.options) twice)
   | inl once ↦
-      let later = numbers_twice line rest (sym (ap (λ b. b && list_all (is_given_once line) (map (λ (s : Setting). (setting_row s).option) rest)) once) ∙ e) in
-      ap (λ (ns : Option (List ℕ)). option_and_then (λ n. option_map (λ more. n ∷ more) ns) (number_on line s)) later ∙ none_added (number_on line s)
+      let later = numbers_twice line rest (sym
+      (ap (λ b. b && list_all (is_given_once line)
+      (map (λ (s : Setting). (setting_row s).option) rest)) once) ∙ e) in
+      ap (λ (ns : Option (List ℕ)). option_and_then (λ n. option_map (λ more. n ∷ more) ns)
+      (number_on line s)) later ∙ none_added (number_on line s)
 ]
 
-none_each : (asks : List ℕ → Option Asked) → ((ns : List ℕ) → asks ns ≡ None) → (x : Option (List ℕ)) → option_and_then asks x ≡ None
+none_each : (asks : List ℕ → Option Asked) → ((ns : List ℕ) → asks ns ≡ None) →
+    (x : Option (List ℕ)) → option_and_then asks x ≡ None
 none_each asks none None = refl
 none_each asks none (Some ns) = none ns
 
-not_told : (v : Verb) (line : Line) → is_told_once (options_of v) (length (ids_of v)) line ≡ false → job_on v line ≡ None
+not_told : (v : Verb) (line : Line) → is_told_once (options_of v) (length (ids_of v)) line ≡ false →
+    job_on v line ≡ None
 not_told v line e = elim (cases_Bool (list_all (is_given_once line) (options_of v))) [
-  | inr twice ↦ ap (λ (ns : Option (List ℕ)). option_and_then (λ ns. asks v ns line.names) ns) (numbers_twice line (verb_row v).settings twice)
+  | inr twice ↦ ap (λ (ns : Option (List ℕ)). option_and_then (λ ns. asks v ns line.names) ns)
+      (numbers_twice line (verb_row v).settings twice)
   | inl once ↦
-      let others : nat_eq (length line.names) (length (ids_of v)) ≡ false = sym (ap (λ b. b && nat_eq (length line.names) (length (ids_of v))) once) ∙ e in
-      none_each (λ ns. asks v ns line.names) (λ ns. no_job v ns line.names others) (numbers (number_on line) (verb_row v).settings)
+      let others : nat_eq (length line.names) (length (ids_of v)) ≡ false = sym
+      (ap (λ b. b && nat_eq (length line.names) (length (ids_of v))) once) ∙ e in
+      none_each (λ ns. asks v ns line.names) (λ ns. no_job v ns line.names others)
+      (numbers (number_on line) (verb_row v).settings)
 ]
 
-line_not_told : (v : Verb) (line : Option Line) → option_map_or (is_told_once (options_of v) (length (ids_of v))) line false ≡ false → option_and_then (job_on v) line ≡ None
+line_not_told : (v : Verb) (line : Option Line) →
+    option_map_or (is_told_once (options_of v) (length (ids_of v))) line false ≡ false →
+    option_and_then (job_on v) line ≡ None
 line_not_told v None e = refl
 line_not_told v (Some line) e = not_told v line e
 
@@ -68,7 +84,8 @@ some_verb : (v : Verb) → ◌≡◌ {A = Option Verb} (Some v) None → ⊥
 some_verb v e = cc
 
 behind_not_agreed : (word : Text) (rest : List Text) (r : Option Verb) → verb_named word ≡ r
-    → option_and_then (λ v. if is_agreed v rest then Some v else None) r ≡ None → option_and_then (job_behind rest) r ≡ None
+    → option_and_then (λ v. if is_agreed v rest then Some v else None) r ≡ None →
+    option_and_then (job_behind rest) r ≡ None
 behind_not_agreed word rest None is e = refl
 behind_not_agreed word rest (Some v) is e = elim (cases_Bool (is_agreed v rest)) [
   | inl agreed ↦ absurd (some_verb v (sym (ap (λ b. if b then Some v else None) agreed) ∙ e))
@@ -87,8 +104,11 @@ pub record Read (words : List Text) (v : Verb) : Type 0 where
   pub job : job_of words ≡ job_by v (λ id. first_of id rows)
   pub taken : takes app words ≡ true
 
-line_reads : (v : Verb) (is : IsVerb v) (rest : List Text) (line : Option Line) → line_of (known_of v) rest ≡ line → option_map_or (is_told_once (options_of v) (length (ids_of v))) line false ≡ true
-    → (option_and_then (job_on v) line ≡ job_by v (λ id. first_of id (rows_after (rules_of v) [] rest))) × (level_passes (shape_with (verb_row v).word (rules_of v)) [] nothing_held rest false ≡ true)
+line_reads : (v : Verb) (is : IsVerb v) (rest : List Text) (line : Option Line) →
+    line_of (known_of v) rest ≡ line → option_map_or (is_told_once (options_of v) (length (ids_of v))) line false ≡ true
+    → (option_and_then (job_on v) line ≡ job_by v
+    (λ id. first_of id (rows_after (rules_of v) [] rest)))
+    × (level_passes (shape_with (verb_row v).word (rules_of v)) [] nothing_held rest false ≡ true)
 line_reads v is rest None line_is e = absurd (true≢false (sym e))
 line_reads v is rest (Some line) line_is e = is.reads rest line line_is e
 
@@ -118,14 +138,16 @@ read [] v e = absurd (some_verb v (sym e))
 read (program ∷ []) v e = absurd (some_verb v (sym e))
 read (program ∷ word ∷ rest) v e = read_behind program word rest v (verb_named word) refl e
 
-pub job_found : (words : List Text) (v : Verb) (r : Option (Text × List Row)) (rows : List Row) → agreed_verb words ≡ Some v → r ≡ subcommand_of app words
+pub job_found : (words : List Text) (v : Verb) (r : Option (Text × List Row)) (rows : List Row) →
+    agreed_verb words ≡ Some v → r ≡ subcommand_of app words
     → Some rows ≡ option_map (λ (p : Text × List Row). p.1) r → job_of words ≡ job_by v (λ id. first_of id rows)
 job_found words v r rows e is found =
     let all = read words v e in
     let same : Some rows ≡ Some all.rows = found ∙ ap (option_map (λ (p : Text × List Row). p.1)) (is ∙ all.found) in
     all.job ∙ ap (λ (x : Option (List Row)). job_by v (λ id. option_map_or (first_of id) x None)) (sym same)
 
-pub none_found : (words : List Text) (v : Verb) (r : Option (Text × List Row)) → agreed_verb words ≡ Some v → r ≡ subcommand_of app words
+pub none_found : (words : List Text) (v : Verb) (r : Option (Text × List Row)) →
+    agreed_verb words ≡ Some v → r ≡ subcommand_of app words
     → None ≡ option_map (λ (p : Text × List Row). p.1) r → ⊥
 none_found words v r e is found =
     let all = read words v e in
@@ -139,7 +161,8 @@ pub by_values : (v : Verb) (f : Found) → job_by v (λ id. first_of id (rows_of
 by_values v f = ap (job_by v) (sym (λ i id. first_value-rows f id i))
 
 -- a failure of clap on agreed words is want of memory, and isn't told as a refusal
-pub not_refused : (words : List Text) (v : Verb) (kind : ErrorKind) (r : Result Job UsageFault) → agreed_verb words ≡ Some v → (takes app words ≡ true → kind ≡ OutOfMemory)
+pub not_refused : (words : List Text) (v : Verb) (kind : ErrorKind) (r : Result Job UsageFault) →
+    agreed_verb words ≡ Some v → (takes app words ≡ true → kind ≡ OutOfMemory)
     → IsErrAnd r (λ e. (e ≡ NoMemory) ↔ (kind ≡ OutOfMemory)) → r ≡ Err Refused → ⊥
 not_refused words v kind (Ok job) e taken told is = absurd (told)
 not_refused words v kind (Err fault) e taken told is =

@@ -1,12 +1,18 @@
 -- The walk over words, step by step, where a subcommand has any rules.
-use Rattle.std.proofs.Common.{ℕ, ◌≡◌, ◌∙◌, sym, ap, refl, true, false, Bool, ◌&&◌, List, [], ◌∷◌, Option, None, fold, if◌then◌else◌, codes}
+use Rattle.std.proofs.Common.{ℕ, ◌≡◌, ◌∙◌, sym, ap, refl, true, false, Bool, ◌&&◌, List, [], ◌∷◌}
+use Rattle.std.proofs.Common.{Option, None, fold, if◌then◌else◌, codes}
 use Rattle.std.specs.List.{list_all}
 use Rattle.std.specs.Option.{option_map_or}
 use Rattle.std.proofs.lemmas.Bool.{and_from, or_right}
 use Rattle.clap.specs.Lexer.{long_of}
-use Rattle.clap.specs.Walk.{Held, Rule, Step, Walk, after_step, arg_by_index, finished, first_of, idle, long_or_other, nothing_held, option, plain_word, rows_after, short_or_plain, to_positional, trailing, value, walk_from, walked, word_met}
+use Rattle.clap.specs.Walk.{Held, Rule, Step, Walk, after_step, arg_by_index, finished, first_of}
+use Rattle.clap.specs.Walk.{idle, long_or_other, nothing_held, option, plain_word, rows_after}
+use Rattle.clap.specs.Walk.{short_or_plain, to_positional, trailing, value, walk_from, walked}
+use Rattle.clap.specs.Walk.{word_met}
 use Rattle.clap.specs.Simple.{Shape, new_shape}
-use Rattle.clap.specs.Takes.{bundle_passes, default_passes, flag_word_passes, is_valid, level_passes, other_passes, settle_passes, step_passes, turn_passes, walk_passes}
+use Rattle.clap.specs.Takes.{bundle_passes, default_passes, flag_word_passes, is_valid}
+use Rattle.clap.specs.Takes.{level_passes, other_passes, settle_passes, step_passes, turn_passes}
+use Rattle.clap.specs.Takes.{walk_passes}
 use Rattle.ol_words.specs.Texts.{Text}
 use Rattle.ol_words.specs.Lines.{Line, is_dashed}
 use Rattle.ol_words.specs.Asked.{Verb}
@@ -43,7 +49,8 @@ pub stays : (shape : Shape) (walk : Walk) → Goes shape walk [] walk
 unfolding walk_passes
 stays shape walk = record { walks = refl; passes = refl }
 
-pub goes_on : (shape : Shape) (walk next end : Walk) (word : Text) (rest : List Text) → walked shape.rules [] walk word ≡ next
+pub goes_on : (shape : Shape) (walk next end : Walk) (word : Text) (rest : List Text) →
+    walked shape.rules [] walk word ≡ next
     → turn_passes shape [] walk word ≡ true → Goes shape next rest end → Goes shape walk (word ∷ rest) end
 unfolding walk_passes
 goes_on shape walk next end word rest step turn g = record {
@@ -53,38 +60,48 @@ goes_on shape walk next end word rest step turn g = record {
 
 module _ (rules : List Rule) (verb : Text) (h : Held) (position : ℕ) (word : Text) where
   met_plain : is_dashed word ≡ false → word_met rules [] false idle position word h ≡ (h, value)
-  met_plain plain = ap (λ b. if b then (h, trailing position) else long_or_other rules idle word (long_of word) h) (not_end word plain)
+  met_plain plain = ap (λ b. if b then (h, trailing position) else long_or_other rules idle word
+      (long_of word) h) (not_end word plain)
       ∙ ap (λ l. long_or_other rules idle word l h) (plain_long word plain)
       ∙ ap (λ s. short_or_plain rules idle word s h) (plain_short word plain)
 
   -- a word that is no option goes to the next positional
   pub step_plain : is_dashed word ≡ false
-      → walked rules [] (idle_at h position false) word ≡ to_positional rules (arg_by_index rules position) word (idle_at h position false) h
+      → walked rules [] (idle_at h position false) word ≡ to_positional rules
+      (arg_by_index rules position) word (idle_at h position false) h
   unfolding walked
-  step_plain plain = ap (λ (m : Held × Step). after_step rules word (idle_at h position false) m.0 m.1) (met_plain plain)
+  step_plain plain = ap (λ (m : Held × Step).
+      after_step rules word (idle_at h position false) m.0 m.1) (met_plain plain)
 
   pub other_plain : is_dashed word ≡ false → other_passes (shape_with verb rules) None word h ≡ true
   other_plain plain =
-      or_right _ _ (ap (λ (l : Option (Text × Option Text)). flag_word_passes rules false l word h) (plain_long word plain)
-      ∙ ap (λ (s : Option Text). option_map_or (λ flags. bundle_passes rules false flags h) s true) (plain_short word plain))
+      or_right _ _ (ap (λ (l : Option (Text × Option Text)). flag_word_passes rules false l word h)
+      (plain_long word plain)
+      ∙ ap (λ (s : Option Text). option_map_or (λ flags. bundle_passes rules false flags h) s true)
+      (plain_short word plain))
 
   pub pass_plain : is_dashed word ≡ false → step_passes (shape_with verb rules) position h value ≡ true
       → turn_passes (shape_with verb rules) [] (idle_at h position false) word ≡ true
   pass_plain plain ok =
-      and_from _ _ (other_plain plain) (ap (λ (m : Held × Step). step_passes (shape_with verb rules) position m.0 m.1) (met_plain plain) ∙ ok)
+      and_from _ _ (other_plain plain) (ap
+      (λ (m : Held × Step). step_passes (shape_with verb rules) position m.0 m.1) (met_plain plain) ∙ ok)
 
   -- and so does each word behind `--`
-  pub step_trailing : walked rules [] (idle_at h position true) word ≡ to_positional rules (arg_by_index rules position) word (idle_at h position true) h
+  pub step_trailing : walked rules [] (idle_at h position true) word ≡ to_positional rules
+      (arg_by_index rules position) word (idle_at h position true) h
   unfolding walked
   step_trailing = refl
 
-  pub pass_trailing : step_passes (shape_with verb rules) position h value ≡ true → turn_passes (shape_with verb rules) [] (idle_at h position true) word ≡ true
+  pub pass_trailing : step_passes (shape_with verb rules) position h value ≡ true →
+      turn_passes (shape_with verb rules) [] (idle_at h position true) word ≡ true
   pass_trailing ok = ok
 
 -- a word that is no option is the value of the one that waits
 pub met_waiting : (rules : List Rule) (h : Held) (position : ℕ) (word o : Text) → is_dashed word ≡ false
     → word_met rules [] false (option o) position word h ≡ plain_word rules (option o) word h
-met_waiting rules h position word o plain = ap (λ b. if b then (h, trailing position) else long_or_other rules (option o) word (long_of word) h) (not_end word plain)
+met_waiting rules h position word o plain = ap
+    (λ b. if b then (h, trailing position) else long_or_other rules (option o) word
+    (long_of word) h) (not_end word plain)
     ∙ ap (λ l. long_or_other rules (option o) word l h) (plain_long word plain)
     ∙ ap (λ s. short_or_plain rules (option o) word s h) (plain_short word plain)
 
@@ -106,8 +123,10 @@ abbrev pub settles_at : Verb → List Rule → Held → Bool
 settles_at v rules h = settle_passes rules false h
     && (list_all default_passes rules && is_valid (shape_with (verb_row v).word rules) (finished rules h) false)
 
-pub lands : (v : Verb) (rules : List Rule) (rest : List Text) (line : Line) (end : Walk) → Goes (shape_with (verb_row v).word rules) (walk_from nothing_held) rest end
-    → job_on v line ≡ job_by v (λ id. first_of id (finished rules end.held)) → settles_at v rules end.held ≡ true → Reads v rules rest line
+pub lands : (v : Verb) (rules : List Rule) (rest : List Text) (line : Line) (end : Walk) →
+    Goes (shape_with (verb_row v).word rules) (walk_from nothing_held) rest end
+    → job_on v line ≡ job_by v (λ id. first_of id (finished rules end.held)) →
+    settles_at v rules end.held ≡ true → Reads v rules rest line
 lands v rules rest line end g job ok = (
   job ∙ ap (λ (w : Walk). job_by v (λ id. first_of id (finished rules w.held))) (sym g.walks),
   and_from _ _ g.passes (ap (λ (w : Walk). settles_at v rules w.held) g.walks ∙ ok),

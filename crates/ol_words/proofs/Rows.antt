@@ -1,5 +1,6 @@
 -- The rows of what was found, by their ids.
-use Rattle.std.proofs.Common.{◌≡◌, ◌∙◌, sym, ap, refl, true, false, true≢false, List, [], ◌∷◌, Option, Some, None, if◌then◌else◌, inl, inr}
+use Rattle.std.proofs.Common.{◌≡◌, ◌∙◌, sym, ap, refl, true, false, true≢false, List, [], ◌∷◌}
+use Rattle.std.proofs.Common.{Option, Some, None, if◌then◌else◌, inl, inr}
 use Rattle.std.specs.Prelude.{find, is_some, option_and_then, slice_get}
 use Rattle.std.specs.Str.{bytes_eq}
 use Rattle.std.proofs.lemmas.Bool.{cases_Bool}
@@ -30,7 +31,8 @@ module _ (id other : Text) (apart : bytes_eq id other ≡ false) where
         | inr differs ↦ rw differs (ap (λ (x : Option Row). if bytes_eq r.id other then Some r else x) before)
       ]
 
-  pub with_values_other : (how : Reading) (source : ValueSource) (values : List Text) (rows : List Row) → found_in other (with_values id how source values rows) ≡ found_in other rows
+  pub with_values_other : (how : Reading) (source : ValueSource) (values : List Text)
+      (rows : List Row) → found_in other (with_values id how source values rows) ≡ found_in other rows
   with_values_other how source values [] = rw apart refl
   with_values_other how source values (r ∷ rs) =
       let before = with_values_other how source values rs in

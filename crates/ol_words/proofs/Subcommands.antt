@@ -1,5 +1,7 @@
 -- The verbs, as clap is told of them.
-use Rattle.std.proofs.Common.{ℕ, ◌≡◌, ◌∙◌, ap, append-nil, append_assoc, refl, true, false, List, [], ◌∷◌, ◌++◌, Option, Some, None, if◌then◌else◌, inl, inr, true≢false, sym, fold, find}
+use Rattle.std.proofs.Common.{ℕ, ◌≡◌, ◌∙◌, ap, append-nil, append_assoc, refl, true, false, List}
+use Rattle.std.proofs.Common.{[], ◌∷◌, ◌++◌, Option, Some, None, if◌then◌else◌, inl, inr}
+use Rattle.std.proofs.Common.{true≢false, sym, fold, find}
 use Rattle.std.specs.Option.{option_map_or}
 use Rattle.std.specs.Prelude.{option_map, nat_eq, length}
 use Rattle.std.specs.Str.{bytes_eq}
@@ -10,7 +12,8 @@ use Rattle.clap.specs.Simple.{Shape, names_of, entered, label_of, rows_at}
 use Rattle.clap.specs.Words.{is_simple, built, subcommand_of, takes}
 use Rattle.ol_words.specs.Texts.{Text}
 use Rattle.ol_words.specs.Lines.{Line, line_of}
-use Rattle.ol_words.specs.Asked.{Verb, asks, certify_verb, check_verb, demand_verb, equal_verb, gen_verb, net_verb, run_verb, trace_verb, view_verb, walk_verb}
+use Rattle.ol_words.specs.Asked.{Verb, asks, certify_verb, check_verb, demand_verb, equal_verb}
+use Rattle.ol_words.specs.Asked.{gen_verb, net_verb, run_verb, trace_verb, view_verb, walk_verb}
 use Rattle.ol_words.specs.Jobs.{known_of, options_of, verb_named, verb_row, verbs}
 use Rattle.ol_words.specs.Once.{is_told_once}
 use Rattle.ol_words.specs.Command.{app, ids_of}
@@ -24,14 +27,19 @@ is_simple_app = refl
 -- what a verb is to the command line
 pub record IsVerb (v : Verb) : Type 0 where
   -- clap leaves the words behind the verb to its subcommand
-  pub rows : (program : Text) (rest : List Text) → subcommand_of app (program ∷ (verb_row v).word ∷ rest) ≡ Some ((verb_row v).word, rows_after (rules_of v) [] rest)
+  pub rows : (program : Text) (rest : List Text) →
+      subcommand_of app (program ∷ (verb_row v).word ∷ rest) ≡ Some ((verb_row v).word, rows_after (rules_of v) [] rest)
   -- clap takes the words where the subcommand takes those behind the verb
-  pub taken : (program : Text) (rest : List Text) → level_passes (shape_with (verb_row v).word (rules_of v)) [] nothing_held rest false ≡ true → takes app (program ∷ (verb_row v).word ∷ rest) ≡ true
+  pub taken : (program : Text) (rest : List Text) →
+      level_passes (shape_with (verb_row v).word (rules_of v)) [] nothing_held rest false ≡ true →
+      takes app (program ∷ (verb_row v).word ∷ rest) ≡ true
   -- clap finds in agreed words what they say
-  pub reads : (rest : List Text) (line : Line) → line_of (known_of v) rest ≡ Some line → is_told_once (options_of v) (length (ids_of v)) line ≡ true → Reads v (rules_of v) rest line
+  pub reads : (rest : List Text) (line : Line) → line_of (known_of v) rest ≡ Some line →
+      is_told_once (options_of v) (length (ids_of v)) line ≡ true → Reads v (rules_of v) rest line
 
 -- there is a job only for as many names as a verb has
-pub no_job : (v : Verb) (ns : List ℕ) (names : List Text) → nat_eq (length names) (length (ids_of v)) ≡ false → asks v ns names ≡ None
+pub no_job : (v : Verb) (ns : List ℕ) (names : List Text) →
+    nat_eq (length names) (length (ids_of v)) ≡ false → asks v ns names ≡ None
 no_job run_verb (t ∷ workers ∷ fuel ∷ heads ∷ []) (name ∷ []) e = absurd (true≢false e)
 no_job walk_verb (t ∷ edges ∷ heads ∷ []) (name ∷ []) e = absurd (true≢false e)
 no_job view_verb (t ∷ after ∷ []) (name ∷ []) e = absurd (true≢false e)
@@ -49,7 +57,8 @@ left_to_it : (c : List Rule) (names : Names) (w : Walk) (name : Text) (seen word
     → (fold (walked c names) (record w { stopped = Some (name, seen) }) words).stopped ≡ Some (name, seen ++ words)
 unfolding walked
 left_to_it c names w name seen [] = ap (λ xs. Some (name, xs)) (sym (append-nil seen))
-left_to_it c names w name seen (x ∷ xs) = left_to_it c names w name (seen ++ x ∷ []) xs ∙ ap (λ ys. Some (name, ys)) (append_assoc seen (x ∷ []) xs)
+left_to_it c names w name seen (x ∷ xs) = left_to_it c names w name (seen ++ x ∷ []) xs
+    ∙ ap (λ ys. Some (name, ys)) (append_assoc seen (x ∷ []) xs)
 
 -- and what was held before stays
 held_before : (c : List Rule) (names : Names) (w : Walk) (name : Text) (seen words : List Text)
@@ -61,7 +70,8 @@ held_before c names w name seen (x ∷ xs) = held_before c names w name (seen ++
 top_shape : Shape
 top_shape = (built app).top
 
-stopped_passes : (s : Shape) (names : Names) (w : Walk) (name : Text) (seen words : List Text) → walk_passes s names (record w { stopped = Some (name, seen) }) words ≡ true
+stopped_passes : (s : Shape) (names : Names) (w : Walk) (name : Text) (seen words : List Text) →
+    walk_passes s names (record w { stopped = Some (name, seen) }) words ≡ true
 unfolding walk_passes walked
 stopped_passes s names w name seen [] = refl
 stopped_passes s names w name seen (x ∷ xs) = stopped_passes s names w name (seen ++ x ∷ []) xs
@@ -71,38 +81,49 @@ top_settles h is = ap (settle_passes top_shape.rules false) is
 
 -- a word that clap takes for a subcommand, as the first of the words
 module _ (word : Text) (rules : List Rule)
-    (starts : walked top_shape.rules (names_of (built app)) (walk_from nothing_held) word ≡ record (walk_from nothing_held) { stopped = Some (word, []) })
+    (starts : walked top_shape.rules (names_of (built app)) (walk_from nothing_held) word ≡ record
+    (walk_from nothing_held) { stopped = Some (word, []) })
     (passes : turn_passes top_shape (names_of (built app)) (walk_from nothing_held) word ≡ true)
     (finds : find (λ s. answers_to word (label_of s)) (built app).subs ≡ Some (shape_with word rules)) where
-  stops : (rest : List Text) → (fold (walked top_shape.rules (names_of (built app))) (walk_from nothing_held) (word ∷ rest)).stopped ≡ Some (word, rest)
+  stops : (rest : List Text) → (fold (walked top_shape.rules (names_of (built app)))
+      (walk_from nothing_held) (word ∷ rest)).stopped ≡ Some (word, rest)
   stops rest = ap (λ (w : Walk). (fold (walked top_shape.rules (names_of (built app))) w rest).stopped) starts
       ∙ left_to_it top_shape.rules (names_of (built app)) (walk_from nothing_held) word [] rest
 
-  holds : (rest : List Text) → (fold (walked top_shape.rules (names_of (built app))) (walk_from nothing_held) (word ∷ rest)).held ≡ nothing_held
+  holds : (rest : List Text) → (fold (walked top_shape.rules (names_of (built app)))
+      (walk_from nothing_held) (word ∷ rest)).held ≡ nothing_held
   holds rest = ap (λ (w : Walk). (fold (walked top_shape.rules (names_of (built app))) w rest).held) starts
       ∙ held_before top_shape.rules (names_of (built app)) (walk_from nothing_held) word [] rest
 
-  rows_behind : (program : Text) (rest : List Text) → subcommand_of app (program ∷ word ∷ rest) ≡ Some (word, rows_after rules [] rest)
+  rows_behind : (program : Text) (rest : List Text) →
+      subcommand_of app (program ∷ word ∷ rest) ≡ Some (word, rows_after rules [] rest)
   unfolding top_shape
-  rows_behind program rest = ap (entered (built app)) (stops rest) ∙ ap (option_map (λ (s : Shape). rows_at s rest)) finds
+  rows_behind program rest = ap (entered (built app)) (stops rest)
+      ∙ ap (option_map (λ (s : Shape). rows_at s rest)) finds
 
-  walk_on_passes : (rest : List Text) → walk_passes top_shape (names_of (built app)) (walk_from nothing_held) (word ∷ rest) ≡ true
+  walk_on_passes : (rest : List Text) →
+      walk_passes top_shape (names_of (built app)) (walk_from nothing_held) (word ∷ rest) ≡ true
   unfolding walk_passes
-  walk_on_passes rest = and_from _ _ passes (ap (λ (w : Walk). walk_passes top_shape (names_of (built app)) w rest) starts
+  walk_on_passes rest = and_from _ _ passes
+      (ap (λ (w : Walk). walk_passes top_shape (names_of (built app)) w rest) starts
       ∙ stopped_passes top_shape (names_of (built app)) (walk_from nothing_held) word [] rest)
 
-  taken_behind : (program : Text) (rest : List Text) → level_passes (shape_with word rules) [] nothing_held rest false ≡ true → takes app (program ∷ word ∷ rest) ≡ true
+  taken_behind : (program : Text) (rest : List Text) →
+      level_passes (shape_with word rules) [] nothing_held rest false ≡ true → takes app (program ∷ word ∷ rest) ≡ true
   unfolding top_shape
   taken_behind program rest below =
       let above = and_from _ _ (walk_on_passes rest) (and_from _ _ (top_settles _ (holds rest)) refl) in
-      and_from _ _ (ap (entered_passes (built app)) (stops rest) ∙ ap (λ (s : Option Shape). option_map_or (λ s. level_passes s [] nothing_held rest false) s true) finds ∙ below) above
+      and_from _ _ (ap (entered_passes (built app)) (stops rest)
+      ∙ ap (λ (s : Option Shape). option_map_or
+      (λ s. level_passes s [] nothing_held rest false) s true) finds ∙ below) above
 
 is_run : IsVerb run_verb
 unfolding walked top_shape
 is_run = record {
   rows = rows_behind (verb_row run_verb).word (rules_of run_verb) refl refl refl;
   taken = taken_behind (verb_row run_verb).word (rules_of run_verb) refl refl refl;
-  reads = verb_reads run_verb (refl, refl, refl, tt, refl, tt) refl (without_flags (verb_row run_verb).settings) (λ rows. refl);
+  reads = verb_reads run_verb (refl, refl, refl, tt, refl, tt) refl
+      (without_flags (verb_row run_verb).settings) (λ rows. refl);
 }
 
 is_walk : IsVerb walk_verb
@@ -110,7 +131,8 @@ unfolding walked top_shape
 is_walk = record {
   rows = rows_behind (verb_row walk_verb).word (rules_of walk_verb) refl refl refl;
   taken = taken_behind (verb_row walk_verb).word (rules_of walk_verb) refl refl refl;
-  reads = verb_reads walk_verb (refl, refl, refl, tt, refl, tt) refl (without_flags (verb_row walk_verb).settings) (λ rows. refl);
+  reads = verb_reads walk_verb (refl, refl, refl, tt, refl, tt) refl
+      (without_flags (verb_row walk_verb).settings) (λ rows. refl);
 }
 
 is_view : IsVerb view_verb
@@ -118,7 +140,8 @@ unfolding walked top_shape
 is_view = record {
   rows = rows_behind (verb_row view_verb).word (rules_of view_verb) refl refl refl;
   taken = taken_behind (verb_row view_verb).word (rules_of view_verb) refl refl refl;
-  reads = verb_reads view_verb (refl, refl, refl, tt, refl, tt) refl (without_flags (verb_row view_verb).settings) (λ rows. refl);
+  reads = verb_reads view_verb (refl, refl, refl, tt, refl, tt) refl
+      (without_flags (verb_row view_verb).settings) (λ rows. refl);
 }
 
 is_trace : IsVerb trace_verb
@@ -126,7 +149,8 @@ unfolding walked top_shape
 is_trace = record {
   rows = rows_behind (verb_row trace_verb).word (rules_of trace_verb) refl refl refl;
   taken = taken_behind (verb_row trace_verb).word (rules_of trace_verb) refl refl refl;
-  reads = verb_reads trace_verb (refl, refl, refl, tt, refl, tt) refl (without_flags (verb_row trace_verb).settings) (λ rows. refl);
+  reads = verb_reads trace_verb (refl, refl, refl, tt, refl, tt) refl
+      (without_flags (verb_row trace_verb).settings) (λ rows. refl);
 }
 
 is_check : IsVerb check_verb
@@ -134,7 +158,14 @@ unfolding walked top_shape
 is_check = record {
   rows = rows_behind (verb_row check_verb).word (rules_of check_verb) refl refl refl;
   taken = taken_behind (verb_row check_verb).word (rules_of check_verb) refl refl refl;
-  reads = verb_reads check_verb (refl, refl, refl, (refl, tt), refl, (refl, refl, refl, tt, refl, tt)) refl (without_flags (verb_row check_verb).settings) (λ rows. refl);
+  reads = verb_reads check_verb (
+    refl,
+    refl,
+    refl,
+    (refl, tt),
+    refl,
+    (refl, refl, refl, tt, refl, tt),
+  ) refl (without_flags (verb_row check_verb).settings) (λ rows. refl);
 }
 
 is_gen : IsVerb gen_verb
@@ -150,7 +181,8 @@ unfolding walked top_shape
 is_demand = record {
   rows = rows_behind (verb_row demand_verb).word (rules_of demand_verb) refl refl refl;
   taken = taken_behind (verb_row demand_verb).word (rules_of demand_verb) refl refl refl;
-  reads = verb_reads demand_verb (refl, refl, refl, tt, refl, tt) refl (without_flags (verb_row demand_verb).settings) (λ rows. refl);
+  reads = verb_reads demand_verb (refl, refl, refl, tt, refl, tt) refl
+      (without_flags (verb_row demand_verb).settings) (λ rows. refl);
 }
 
 is_certify : IsVerb certify_verb
@@ -158,7 +190,8 @@ unfolding walked top_shape
 is_certify = record {
   rows = rows_behind (verb_row certify_verb).word (rules_of certify_verb) refl refl refl;
   taken = taken_behind (verb_row certify_verb).word (rules_of certify_verb) refl refl refl;
-  reads = verb_reads certify_verb (refl, refl, refl, tt, refl, tt) refl (without_flags (verb_row certify_verb).settings) (λ rows. refl);
+  reads = verb_reads certify_verb (refl, refl, refl, tt, refl, tt) refl
+      (without_flags (verb_row certify_verb).settings) (λ rows. refl);
 }
 
 is_net : IsVerb net_verb
@@ -166,7 +199,8 @@ unfolding walked top_shape
 is_net = record {
   rows = rows_behind (verb_row net_verb).word (rules_of net_verb) refl refl refl;
   taken = taken_behind (verb_row net_verb).word (rules_of net_verb) refl refl refl;
-  reads = verb_reads net_verb (refl, refl, refl, tt, refl, tt) refl (inl refl, (inr (refl, refl), (inl refl, (inl refl, tt)))) (λ rows. refl);
+  reads = verb_reads net_verb (refl, refl, refl, tt, refl, tt) refl
+      (inl refl, (inr (refl, refl), (inl refl, (inl refl, tt)))) (λ rows. refl);
 }
 
 is_equal : IsVerb equal_verb
@@ -174,7 +208,14 @@ unfolding walked top_shape
 is_equal = record {
   rows = rows_behind (verb_row equal_verb).word (rules_of equal_verb) refl refl refl;
   taken = taken_behind (verb_row equal_verb).word (rules_of equal_verb) refl refl refl;
-  reads = verb_reads equal_verb (refl, refl, refl, (refl, tt), refl, (refl, refl, refl, tt, refl, tt)) refl (without_flags (verb_row equal_verb).settings) (λ rows. refl);
+  reads = verb_reads equal_verb (
+    refl,
+    refl,
+    refl,
+    (refl, tt),
+    refl,
+    (refl, refl, refl, tt, refl, tt),
+  ) refl (without_flags (verb_row equal_verb).settings) (λ rows. refl);
 }
 
 is_verb : (v : Verb) → IsVerb v
@@ -190,13 +231,16 @@ is_verb net_verb = is_net
 is_verb equal_verb = is_equal
 
 -- a verb that is found among some by a word is written so
-found_word : (word : Text) (v : Verb) (vs : List Verb) → find (λ x. bytes_eq (verb_row x).word word) vs ≡ Some v → word ≡ (verb_row v).word
+found_word : (word : Text) (v : Verb) (vs : List Verb) →
+    find (λ x. bytes_eq (verb_row x).word word) vs ≡ Some v → word ≡ (verb_row v).word
 found_word word v [] e = absurd (cc)
 found_word word v (x ∷ vs) e = elim (cases_Bool (bytes_eq (verb_row x).word word)) [
   | inl same ↦
-      let is : x ≡ v = the x (sym (ap (λ b. if b then Some x else find (λ y. bytes_eq (verb_row y).word word) vs) same) ∙ e) in
+      let is : x ≡ v = the x (sym (ap (λ b.
+      if b then Some x else find (λ y. bytes_eq (verb_row y).word word) vs) same) ∙ e) in
       sym ((bytes_eq-Decides (verb_row x).word word).0 same) ∙ ap (λ y. (verb_row y).word) is
-  | inr other ↦ found_word word v vs (sym (ap (λ b. if b then Some x else find (λ y. bytes_eq (verb_row y).word word) vs) other) ∙ e)
+  | inr other ↦ found_word word v vs (sym
+      (ap (λ b. if b then Some x else find (λ y. bytes_eq (verb_row y).word word) vs) other) ∙ e)
 ]
   where
     the : (x : Verb) → ◌≡◌ {A = Option Verb} (Some x) (Some v) → x ≡ v

@@ -19,7 +19,8 @@ pub data Asked : Type 0 where
   demand : (translation : Translation) → (fuel : ℕ) → (heads : ℕ) → (name : Text) → Asked
   certify : (translation : Translation) → (steps : ℕ) → (workers : ℕ) → (fuel : ℕ) → (heads : ℕ) → (name : Text) → Asked
   net : (translation : Translation) → (from_term : Bool) → (workers : ℕ) → (fuel : ℕ) → (name : Text) → Asked
-  equal : (translation : Translation) → (workers : ℕ) → (fuel : ℕ) → (heads : ℕ) → (first : Text) → (second : Text) → Asked
+  equal : (translation : Translation) → (workers : ℕ) → (fuel : ℕ) → (heads : ℕ) → (first : Text) →
+      (second : Text) → Asked
 
 -- the word behind the program's name is one of these
 pub data Verb : Type 0 where
@@ -51,9 +52,12 @@ asks trace_verb (t ∷ workers ∷ fuel ∷ []) (name ∷ []) = Some (trace (num
 asks check_verb (t ∷ []) (term ∷ journal ∷ []) = of_two (check (numbered t)) term journal
 asks gen_verb (t ∷ runs ∷ []) (number ∷ []) = option_map (gen (numbered t) (runs == 1)) (number_within doublings number)
 asks demand_verb (t ∷ fuel ∷ heads ∷ []) (name ∷ []) = Some (demand (numbered t) fuel heads name)
-asks certify_verb (t ∷ steps ∷ workers ∷ fuel ∷ heads ∷ []) (name ∷ []) = Some (certify (numbered t) steps workers fuel heads name)
-asks net_verb (t ∷ from_term ∷ workers ∷ fuel ∷ []) (name ∷ []) = Some (net (numbered t) (from_term == 1) workers fuel name)
-asks equal_verb (t ∷ workers ∷ fuel ∷ heads ∷ []) (first ∷ second ∷ []) = of_two (equal (numbered t) workers fuel heads) first second
+asks certify_verb (t ∷ steps ∷ workers ∷ fuel ∷ heads ∷ []) (name ∷ []) = Some
+    (certify (numbered t) steps workers fuel heads name)
+asks net_verb (t ∷ from_term ∷ workers ∷ fuel ∷ []) (name ∷ []) = Some
+    (net (numbered t) (from_term == 1) workers fuel name)
+asks equal_verb (t ∷ workers ∷ fuel ∷ heads ∷ []) (first ∷ second ∷ []) = of_two
+    (equal (numbered t) workers fuel heads) first second
 asks _ _ _ = None
 
 abbrev pub asked_by : Job → Asked

@@ -36,7 +36,8 @@ ids_of _ = codes "name" ∷ []
 
 -- the subcommand of a verb: its options, and then its names
 abbrev pub sub_app : Verb → App
-sub_app v = fold with_name_rule (fold (with_option_rule (flags_of v)) (new_app (verb_row v).word) (options_of v)) (ids_of v)
+sub_app v = fold with_name_rule (fold (with_option_rule (flags_of v)) (new_app (verb_row v).word)
+    (options_of v)) (ids_of v)
 
 -- the command above, without help and version
 abbrev pub quiet_app : App

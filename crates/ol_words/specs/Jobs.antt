@@ -1,8 +1,11 @@
 -- The job of a list of words: the tables of settings and of verbs, and how a line is read by them.
-use Rattle.std.specs.Prelude.{ℕ, List, [], ◌∷◌, Option, None, Some, Bool, true, false, map, codes, filter, find, option_map, option_and_then}
+use Rattle.std.specs.Prelude.{ℕ, List, [], ◌∷◌, Option, None, Some, Bool, true, false, map, codes}
+use Rattle.std.specs.Prelude.{filter, find, option_map, option_and_then}
 use Rattle.std.specs.Str.{bytes_eq}
 use Rattle.ol_words.specs.Texts.{Text}
-use Rattle.ol_words.specs.Asked.{Asked, Verb, run_verb, walk_verb, view_verb, trace_verb, check_verb, gen_verb, demand_verb, certify_verb, net_verb, equal_verb, asks}
+use Rattle.ol_words.specs.Asked.{Asked, Verb, run_verb, walk_verb, view_verb, trace_verb}
+use Rattle.ol_words.specs.Asked.{check_verb, gen_verb, demand_verb, certify_verb, net_verb}
+use Rattle.ol_words.specs.Asked.{equal_verb, asks}
 use Rattle.ol_words.specs.Lines.{Line, Known, line_of}
 use Rattle.ol_words.specs.Numbers.{Limits, from_to, setting}
 

@@ -1,5 +1,6 @@
 -- Numbers of a command line, and the limits that they keep.
-use Rattle.std.specs.Prelude.{ℕ, ◌+◌, ◌*◌, ◌-◌, ◌&&◌, List, [], ◌∷◌, Option, None, Some, if◌then◌else◌, length, nat_le, Bool}
+use Rattle.std.specs.Prelude.{ℕ, ◌+◌, ◌*◌, ◌-◌, ◌&&◌, List, [], ◌∷◌, Option, None, Some}
+use Rattle.std.specs.Prelude.{if◌then◌else◌, length, nat_le, Bool}
 use Rattle.std.specs.Str.{all_ascii_digits}
 use Rattle.ol_words.specs.Texts.{Text}
 

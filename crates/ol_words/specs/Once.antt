@@ -1,5 +1,7 @@
--- Private: the words that are left to clap: those that give each option once at most, and as many names as the verb has.
-use Rattle.std.specs.Prelude.{ℕ, ◌&&◌, List, ◌∷◌, Option, None, Some, if◌then◌else◌, length, nat_lt, nat_eq, Bool, false, option_and_then}
+-- Private: the words that are left to clap: those that give each option once at most, and as many
+-- names as the verb has.
+use Rattle.std.specs.Prelude.{ℕ, ◌&&◌, List, ◌∷◌, Option, None, Some, if◌then◌else◌, length, nat_lt}
+use Rattle.std.specs.Prelude.{nat_eq, Bool, false, option_and_then}
 use Rattle.std.specs.Option.{option_map_or}
 use Rattle.std.specs.List.{list_all}
 use Rattle.ol_words.specs.Texts.{Text}

@@ -4,7 +4,8 @@ use Rattle.std.specs.Borrow.{Bor}
 use Rattle.ol_words.specs.Texts.{Text}
 use Rattle.ol_words.specs.Lines.{Known}
 use Rattle.ol_words.specs.Numbers.{Limits}
-use Rattle.ol_words.specs.Asked.{Verb, run_verb, walk_verb, view_verb, trace_verb, check_verb, gen_verb, demand_verb, certify_verb, net_verb, equal_verb}
+use Rattle.ol_words.specs.Asked.{Verb, run_verb, walk_verb, view_verb, trace_verb, check_verb}
+use Rattle.ol_words.specs.Asked.{gen_verb, demand_verb, certify_verb, net_verb, equal_verb}
 use Rattle.ol_words.specs.declared.numbers.Limits.{Limits as RustLimits}
 use Rattle.ol_words.specs.declared.verbs.Verb.{Verb as RustVerb}
 use Rattle.ol_words.specs.declared.verbs.Verb.TheVariants as verb

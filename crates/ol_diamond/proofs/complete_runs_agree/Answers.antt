@@ -11,4 +11,6 @@ pub returns-clause-net : goal.returns-clause-net
 returns-clause-net c = laws.complete_runs_leave_one_net
 
 pub returns-clause-counts : goal.returns-clause-counts
-returns-clause-counts c = λ N M P ps qs b r d r' d' rule. laws.complete_runs_have_one_pairs N M P ps qs b r d r' d' (λ (p : BirthPair). is_rule p.rule rule) (λ p q same. ap (λ x. is_rule x rule) same.0)
+returns-clause-counts c = λ N M P ps qs b r d r' d' rule.
+    laws.complete_runs_have_one_pairs N M P ps qs b r d r' d'
+    (λ (p : BirthPair). is_rule p.rule rule) (λ p q same. ap (λ x. is_rule x rule) same.0)

@@ -9,7 +9,8 @@ pub returns-clause-exit : goal.returns-clause-exit
 returns-clause-exit g = λ τ t u m s p q v a j c d n w k l. exit_is s p q v a j c d n w k l
 
 pub returns-clause-reached : goal.returns-clause-reached
-returns-clause-reached g = λ τ t u m s q a j c k. (is_found s q a j c k, λ n w p v d h l. none_less s q a j c k n w p v d h l)
+returns-clause-reached g = λ τ t u m s q a j c k.
+    (is_found s q a j c k, λ n w p v d h l. none_less s q a j c k n w p v d h l)
 
 pub returns-clause-least : goal.returns-clause-least
 returns-clause-least g = λ τ t p v c d n w l f. least t p v c d n w l f

@@ -4,7 +4,8 @@ use Rattle.ol_meaning.proofs.seating.Goals as goal
 use Rattle.ol_meaning.proofs.Seats.{seated, hat_one, up_to, down_to, root_stands, args_there}
 
 pub returns-clause-below : goal.returns-clause-below
-returns-clause-below g = λ τ u P i k w p q v b c d h. (λ p' v' c' n l. up_to k w p q v b c d h p' v' c' n l, λ q' b' d' n l. down_to k w p q v b c d h q' b' d' n l)
+returns-clause-below g = λ τ u P i k w p q v b c d h.
+    (λ p' v' c' n l. up_to k w p q v b c d h p' v' c' n l, λ q' b' d' n l. down_to k w p q v b c d h q' b' d' n l)
 
 pub returns-clause-one : goal.returns-clause-one
 returns-clause-one g = λ τ u P i k w. (

@@ -15,4 +15,5 @@ pub returns-clause-root : goal.returns-clause-root
 returns-clause-root g = λ τ t t' h u. root_same τ h u
 
 pub returns-clause-stuck : goal.returns-clause-stuck
-returns-clause-stuck g = λ τ t t' h q v w c d n k. (λ l. stuck t q v w c d n k l, λ l. stuck t' q v w c d n (stays_short h v k) l)
+returns-clause-stuck g = λ τ t t' h q v w c d n k.
+    (λ l. stuck t q v w c d n k l, λ l. stuck t' q v w c d n (stays_short h v k) l)

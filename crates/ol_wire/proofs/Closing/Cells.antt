@@ -1,12 +1,17 @@
 -- Each left word is that of a cell, by its number.
 -- Used in NothingLeft, Stands, Credit.Quiet, Credit.Words and ol_reduce.
-use Rattle.std.proofs.Common.{◌≡◌, ℕ, suc, ◌+◌, ◌-◌, ◌*◌, ◌/◌, ◌%◌, ◌<◌, nat_lt, lt-ltb, if◌then◌else◌, false, inl, inr, sym, ap, ◌∙◌, arith}
+use Rattle.std.proofs.Common.{◌≡◌, ℕ, suc, ◌+◌, ◌-◌, ◌*◌, ◌/◌, ◌%◌, ◌<◌, nat_lt, lt-ltb}
+use Rattle.std.proofs.Common.{if◌then◌else◌, false, inl, inr, sym, ap, ◌∙◌, arith}
 use Rattle.std.proofs.lemmas.Bool.{cases_eq, cases_lt}
 use Rattle.std.proofs.lemmas.Bool.Decides.{nat_tests}
 use Rattle.ol_rules.specs.declared.journal.NodeName.TheVariants.{Init, Born}
 use Rattle.ol_wire.specs.declared.layout.Parts.{Parts}
-use Rattle.ol_wire.specs.Layout.{WordPart, ticket, live_word, port, field, wire, between, left, right, entry, part_of_word, port_word, start_node, start_wire, start_cell, block, table_size, place_of, born_wire, born_cell, left_word, cells_of}
-use Rattle.ol_wire.proofs.InWords.Places.{part_port, part_field, part_wire, part_between, part_entry, part_start_cell, part_born_cell, is_left}
+use Rattle.ol_wire.specs.Layout.{WordPart, ticket, live_word, port, field, wire, between, left}
+use Rattle.ol_wire.specs.Layout.{right, entry, part_of_word, port_word, start_node, start_wire}
+use Rattle.ol_wire.specs.Layout.{start_cell, block, table_size, place_of, born_wire, born_cell}
+use Rattle.ol_wire.specs.Layout.{left_word, cells_of}
+use Rattle.ol_wire.proofs.InWords.Places.{part_port, part_field, part_wire, part_between}
+use Rattle.ol_wire.proofs.InWords.Places.{part_entry, part_start_cell, part_born_cell, is_left}
 
 module _ (z : Parts) where
   abbrev pub IsCellWord : ℕ → Type 0
@@ -16,7 +21,8 @@ module _ (z : Parts) where
   other n q e d h = absurd (d (sym e ∙ h))
 
   start_word : (c : ℕ) → c < z.cells → left_word z c ≡ start_cell z c
-  start_word c lt = ap (λ b. if b then start_cell z c else born_cell z ((c - z.cells) / 4) ((c - z.cells) % 4)) (lt-ltb c z.cells lt)
+  start_word c lt = ap (λ b. if b then start_cell z c else born_cell z ((c - z.cells) / 4)
+      ((c - z.cells) % 4)) (lt-ltb c z.cells lt)
 
   born_word : (t j : ℕ) → j < 4 → left_word z (z.cells + 4 * t + j) ≡ born_cell z t j
   born_word t j lt =
@@ -24,7 +30,8 @@ module _ (z : Parts) where
       let high : nat_lt c z.cells ≡ false = grind (arith, nat_tests) in
       let d : (c - z.cells) / 4 ≡ t = omega arith in
       let m : (c - z.cells) % 4 ≡ j = omega arith in
-      ap (λ b. if b then start_cell z c else born_cell z ((c - z.cells) / 4) ((c - z.cells) % 4)) high ∙ ap (λ t. born_cell z t ((c - z.cells) % 4)) d ∙ ap (born_cell z t) m
+      ap (λ b. if b then start_cell z c else born_cell z ((c - z.cells) / 4)
+      ((c - z.cells) % 4)) high ∙ ap (λ t. born_cell z t ((c - z.cells) % 4)) d ∙ ap (born_cell z t) m
 
   in_block : (n t j : ℕ) → t < z.fuel → j < 22 → n ≡ block z t + j → part_of_word z n ≡ left → IsCellWord n
   in_block n t j lt small e h = elim (cases_lt j 2) [
@@ -34,13 +41,15 @@ module _ (z : Parts) where
           let i : ℕ = (j - 2) / 2 in
           let s : ℕ = (j - 2) % 2 in
           let q : n ≡ place_of z (Born t i) + s = omega (arith, e) in
-          other n (field (Born t i) s) (ap (part_of_word z) q ∙ part_field z (Born t i) s (lt, omega arith) (omega arith)) (λ q. absurd (cc)) h
+          other n (field (Born t i) s) (ap (part_of_word z) q
+          ∙ part_field z (Born t i) s (lt, omega arith) (omega arith)) (λ q. absurd (cc)) h
       | inr b ↦ elim (cases_lt j 14) [
         | inl d ↦
             let u : ℕ = (j - 10) / 2 in
             let v : ℕ = (j - 10) % 2 in
             let q : n ≡ born_wire z t u v = omega (arith, e) in
-            other n (between t u v) (ap (part_of_word z) q ∙ part_between z t u v lt (omega arith) (omega arith)) (λ q. absurd (cc)) h
+            other n (between t u v) (ap (part_of_word z) q
+            ∙ part_between z t u v lt (omega arith) (omega arith)) (λ q. absurd (cc)) h
         | inr d ↦ elim (cases_eq (j % 2) 0) [
           | inl even ↦
               let i : ℕ = (j - 14) / 2 in
@@ -61,15 +70,20 @@ module _ (z : Parts) where
     | inr some ↦ elim (cases_eq n 1) [
       | inl e ↦ other n live_word (ap (part_of_word z) e) (λ q. absurd (cc)) h
       | inr more ↦ elim (cases_lt n (start_node z 0)) [
-        | inl a ↦ let q : n ≡ port_word (n - 2) = omega (arith, some, more) in other n (port (n - 2)) (ap (part_of_word z) q ∙ part_port z (n - 2) (omega (arith, some, more))) (λ q. absurd (cc)) h
+        | inl a ↦ let q : n ≡ port_word (n - 2) = omega (arith, some, more) in
+            other n (port (n - 2)) (ap (part_of_word z) q
+            ∙ part_port z (n - 2) (omega (arith, some, more))) (λ q. absurd (cc)) h
         | inr a ↦ elim (cases_lt n (start_wire z 0)) [
           | inl b ↦
               let i : ℕ = (n - start_node z 0) / 2 in
               let s : ℕ = (n - start_node z 0) % 2 in
               let q : n ≡ place_of z (Init i) + s = omega arith in
-              other n (field (Init i) s) (ap (part_of_word z) q ∙ part_field z (Init i) s (omega arith) (omega arith)) (λ q. absurd (cc)) h
+              other n (field (Init i) s) (ap (part_of_word z) q
+              ∙ part_field z (Init i) s (omega arith) (omega arith)) (λ q. absurd (cc)) h
           | inr b ↦ elim (cases_lt n (start_cell z 0)) [
-            | inl d ↦ let q : n ≡ start_wire z (n - start_wire z 0) = omega arith in other n (wire (n - start_wire z 0)) (ap (part_of_word z) q ∙ part_wire z (n - start_wire z 0) (omega arith)) (λ q. absurd (cc)) h
+            | inl d ↦ let q : n ≡ start_wire z (n - start_wire z 0) = omega arith in
+                other n (wire (n - start_wire z 0)) (ap (part_of_word z) q
+                ∙ part_wire z (n - start_wire z 0) (omega arith)) (λ q. absurd (cc)) h
             | inr d ↦ elim (cases_lt n (block z 0)) [
               | inl f ↦ elim (cases_eq ((n - start_cell z 0) % 2) 0) [
                 | inl even ↦
@@ -83,7 +97,8 @@ module _ (z : Parts) where
               ]
               | inr f ↦
                   let b : suc n < table_size z = (is_left z n h).1 in
-                  in_block n ((n - block z 0) / 22) ((n - block z 0) % 22) (omega (arith, b)) (omega arith) (omega arith) h
+                  in_block n ((n - block z 0) / 22) ((n - block z 0) % 22) (omega (arith, b))
+                  (omega arith) (omega arith) h
             ]
           ]
         ]

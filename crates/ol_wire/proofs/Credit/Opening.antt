@@ -1,6 +1,8 @@
 -- At the start the live word is the number of start cells whose pair is active.
 -- Used in `lay_out`.
-use Rattle.std.proofs.Common.{◌≡◌, ℕ, zero, suc, ◌+◌, ◌-◌, ◌/◌, ◌%◌, ◌<◌, ◌≤◌, List, get_or, set, refl, sym, ap, ◌∙◌, arith, inl, inr, length-set, get_or-set_other, get_or-set_same}
+use Rattle.std.proofs.Common.{◌≡◌, ℕ, zero, suc, ◌+◌, ◌-◌, ◌/◌, ◌%◌, ◌<◌, ◌≤◌, List, get_or, set}
+use Rattle.std.proofs.Common.{refl, sym, ap, ◌∙◌, arith, inl, inr, length-set, get_or-set_other}
+use Rattle.std.proofs.Common.{get_or-set_same}
 use Rattle.std.proofs.lemmas.Bool.{cases_eq}
 use Rattle.ol_net.specs.Graph.{Graph}
 use Rattle.ol_wire.specs.declared.layout.Parts.{Parts}
@@ -23,12 +25,15 @@ sum_beyond m (suc n) f le none = elim (cases_eq m (suc n)) [
 module _ (net : Graph) (z : Parts) (ws : List ℕ) (laid : IsLaid net z ws) where
   -- the cells of blocks are empty
   start_alone : active_cells z ws ≡ sum_below z.cells (λ c. active_at ws (start_cell z c))
-  start_alone = sum_beyond z.cells (cells_of z) (λ c. active_at ws (left_word z c)) (omega arith) none ∙ sum_same z.cells (λ c. active_at ws (left_word z c)) (λ c. active_at ws (start_cell z c)) (λ c lt. ap (active_at ws) (if_below c z.cells _ _ lt))
+  start_alone = sum_beyond z.cells (cells_of z) (λ c. active_at ws (left_word z c))
+      (omega arith) none ∙ sum_same z.cells (λ c. active_at ws (left_word z c))
+      (λ c. active_at ws (start_cell z c)) (λ c lt. ap (active_at ws) (if_below c z.cells _ _ lt))
     where
       none : (c : ℕ) → z.cells ≤ c → active_at ws (left_word z c) ≡ 0
       none c le =
           let at : left_word z c ≡ born_cell z ((c - z.cells) / 4) ((c - z.cells) % 4) = if_above c z.cells _ _ le in
-          active_empty (get_or ws (left_word z c) 0) (get_or ws (suc (left_word z c)) 0) (laid.blocks (left_word z c) (omega (arith, at)))
+          active_empty (get_or ws (left_word z c) 0) (get_or ws (suc (left_word z c)) 0)
+          (laid.blocks (left_word z c) (omega (arith, at)))
 
   module _ (x : ℕ) where
     apart : (u : ℕ) → 1 < u → get_or (set ws 1 x) u 0 ≡ get_or ws u 0
@@ -42,9 +47,12 @@ module _ (net : Graph) (z : Parts) (ws : List ℕ) (laid : IsLaid net z ws) wher
       ports = λ n lt. apart (port_word n) (omega arith) ∙ laid.ports n lt;
       fields = λ n s lt small. apart (start_node z n + s) (omega arith) ∙ laid.fields n s lt small;
       wires = λ j lt. apart (start_wire z j) (omega arith) ∙ laid.wires j lt;
-      cells = λ c p e. let h = laid.cells c p e in (apart (start_cell z c) (omega arith) ∙ h.0, apart (suc (start_cell z c)) (omega arith) ∙ h.1);
+      cells = λ c p e. let h = laid.cells c p e in
+          (apart (start_cell z c) (omega arith) ∙ h.0, apart (suc (start_cell z c)) (omega arith) ∙ h.1);
       blocks = λ w le. apart w (omega (arith, le)) ∙ laid.blocks w le;
     }
 
-    pub live_with : x ≡ sum_below z.cells (λ c. active_at ws (start_cell z c)) → get_or (set ws 1 x) 1 0 ≡ active_cells z (set ws 1 x)
-    live_with is = get_or-set_same ws 1 x 0 (omega (arith, laid.wide)) ∙ is ∙ sym start_alone ∙ sym (cells_off z ws 1 x (λ q. cc) (λ q. cc))
+    pub live_with : x ≡ sum_below z.cells (λ c. active_at ws (start_cell z c)) →
+        get_or (set ws 1 x) 1 0 ≡ active_cells z (set ws 1 x)
+    live_with is = get_or-set_same ws 1 x 0 (omega (arith, laid.wide)) ∙ is ∙ sym start_alone
+        ∙ sym (cells_off z ws 1 x (λ q. cc) (λ q. cc))

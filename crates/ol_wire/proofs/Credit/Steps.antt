@@ -1,6 +1,8 @@
 -- Each kind of step keeps the credit.
 -- Used in LinkSteps.Allowed, Steps.Allowed and Steps.LiveAllowed.
-use Rattle.std.proofs.Common.{◌≡◌, ◌≢◌, ℕ, zero, suc, ◌+◌, ◌-◌, ◌<◌, ◌≤◌, List, [], ◌∷◌, length, get_or, set, refl, sym, ap, ◌∙◌, subst, arith, inl, inr, get_or-set_other, get_or-set_same, length-append}
+use Rattle.std.proofs.Common.{◌≡◌, ◌≢◌, ℕ, zero, suc, ◌+◌, ◌-◌, ◌<◌, ◌≤◌, List, [], ◌∷◌, length}
+use Rattle.std.proofs.Common.{get_or, set, refl, sym, ap, ◌∙◌, subst, arith, inl, inr}
+use Rattle.std.proofs.Common.{get_or-set_other, get_or-set_same, length-append}
 use Rattle.std.proofs.lemmas.Bool.{cases_eq}
 use mathlib.Core.Option.{some}
 use lib.ListN.{get_elem?}
@@ -15,7 +17,9 @@ use Rattle.ol_wire.specs.Idle.{IsIdle}
 use Rattle.ol_wire.specs.LinkLists.{joins_in, link_of}
 use Rattle.ol_wire.specs.Events.{entry_of}
 use Rattle.ol_wire.specs.Plays.{event_in}
-use Rattle.ol_wire.specs.StepPlays.{known_at, missing, holding, ticketed, late, wrote, returned, linked, moved, relinked, knowing, publishing, owing, repaid, rest, first_active}
+use Rattle.ol_wire.specs.StepPlays.{known_at, missing, holding, ticketed, late, wrote, returned}
+use Rattle.ol_wire.specs.StepPlays.{linked, moved, relinked, knowing, publishing, owing, repaid}
+use Rattle.ol_wire.specs.StepPlays.{rest, first_active}
 use Rattle.ol_wire.specs.Credit.{active_in, active_claims, Credited}
 use Rattle.ol_wire.specs.Hands.{IsActiveLast}
 use Rattle.ol_wire.specs.Rule.{Table, Kept, IsView, IsOwn}
@@ -53,7 +57,8 @@ linked_not_left q o e = subst IsLinked e o
 pub linked_not_right : (q : WordPart) → IsLinked q → q ≢ right
 linked_not_right q o e = subst IsLinked e o
 
-module _ (p : Plan) (s : Table) (k : Kept p s) (c : Credited p s) (id : ℕ) (v : View) (here : get_elem? s.views id ≡ some v) where
+module _ (p : Plan) (s : Table) (k : Kept p s) (c : Credited p s) (id : ℕ) (v : View)
+    (here : get_elem? s.views id ≡ some v) where
   seen : IsView s v
   seen = (id, here)
 
@@ -75,7 +80,8 @@ module _ (p : Plan) (s : Table) (k : Kept p s) (c : Credited p s) (id : ℕ) (v 
     right_stays x = get_or-set_other s.words w (suc w) x 0 (λ e. omega (arith, e))
 
     claims_stay : (x : ℕ) → active_claims (set s.words w x) v ≡ active_claims s.words v
-    claims_stay x = claims_same (set s.words w x) s.words v (λ a y m. get_or-set_other s.words w (suc a) x 0 (no_claim p s k w not_right v a y seen m))
+    claims_stay x = claims_same (set s.words w x) s.words v
+        (λ a y m. get_or-set_other s.words w (suc a) x 0 (no_claim p s k w not_right v a y seen m))
 
     -- the cell was empty
     pub miss_pays : get_or s.words w 0 ≡ 0 → Credited p (after s w 0 id (missing v w))
@@ -127,7 +133,8 @@ module _ (p : Plan) (s : Table) (k : Kept p s) (c : Credited p s) (id : ℕ) (v 
         empty = held_empty p s k v w v.last.0 seen (inr mine)
 
     -- what is known of the right word of the pair in hand
-    module _ (taken : v.taken ≡ (w, v.last.0) ∷ []) (known : IsIn (suc w, v.last.1) v.known) (active : IsActiveLast v) where
+    module _ (taken : v.taken ≡ (w, v.last.0) ∷ []) (known : IsIn (suc w, v.last.1) v.known)
+        (active : IsActiveLast v) where
       in_taken : IsIn {X = ℕ × ℕ} (w, v.last.0) v.taken
       in_taken = subst (λ (l : List (ℕ × ℕ)). IsIn {X = ℕ × ℕ} (w, v.last.0) l) (sym taken) (inl refl)
 
@@ -147,7 +154,8 @@ module _ (p : Plan) (s : Table) (k : Kept p s) (c : Credited p s) (id : ℕ) (v 
       some_live = omega (arith, c.live, one_claim, total_at (active_claims s.words) s.views id v here)
 
       -- its links are owed
-      pub owe_pays : (n : ℕ) → n ≤ 4 → v.owed ≡ 0 → v.pending ≡ [] → 0 < v.holds → Credited p (after s 1 (get_or s.words 1 0 + n) id (owing v n))
+      pub owe_pays : (n : ℕ) → n ≤ 4 → v.owed ≡ 0 → v.pending ≡ [] → 0 < v.holds →
+          Credited p (after s 1 (get_or s.words 1 0 + n) id (owing v n))
       owe_pays n few owed pending held = pays_keeps p s c id v (owing v n) 1 (get_or s.words 1 0 + n) here record {
         off = no_claim p s k 1 (λ q. cc);
         balance = omega (arith, now, cells_off p.parts s.words 1 (get_or s.words 1 0 + n) (λ q. cc) (λ q. cc), claims);
@@ -162,7 +170,9 @@ module _ (p : Plan) (s : Table) (k : Kept p s) (c : Credited p s) (id : ℕ) (v 
           now = get_or-set_same s.words 1 (get_or s.words 1 0 + n) 0 (omega (arith, k.words.wide))
 
           claims : active_claims (set s.words 1 (get_or s.words 1 0 + n)) v ≡ active_claims s.words v
-          claims = claims_same (set s.words 1 (get_or s.words 1 0 + n)) s.words v (λ a y m. get_or-set_other s.words 1 (suc a) (get_or s.words 1 0 + n) 0 (no_claim p s k 1 (λ q. cc) v a y seen m))
+          claims = claims_same (set s.words 1 (get_or s.words 1 0 + n)) s.words v
+              (λ a y m. get_or-set_other s.words 1 (suc a) (get_or s.words 1 0 + n) 0
+              (no_claim p s k 1 (λ q. cc) v a y seen m))
 
       -- a ticket below the fuel: the pair isn't claimed any more, and it is owed with its links
       pub ticket_pays : (t : ℕ) → v.owed ≡ joins_in (event_in v) → Credited p (after s 0 (t + 1) id (ticketed v t))
@@ -175,8 +185,20 @@ module _ (p : Plan) (s : Table) (k : Kept p s) (c : Credited p s) (id : ℕ) (v 
           one_claim,
           ap (λ (l : List (ℕ × ℕ)). active_claims (set s.words 0 (t + 1)) (record v { taken = rest l })) taken,
         );
-        links = omega (arith, owed, each_length (joins_in (event_in v)) (λ j. link_of v.parts (event_in v) t (λ q. known_at v.known (place_in (event_in v).f + q)) (λ q. known_at v.known (place_in (event_in v).g + q)) j));
-        owes = omega (arith, owed, joins_few (event_in v), length-append v.made ((t, entry_of v.parts (event_in v)) ∷ []));
+        links = omega (
+          arith,
+          owed,
+          each_length (joins_in (event_in v))
+              (λ j. link_of v.parts (event_in v) t
+              (λ q. known_at v.known (place_in (event_in v).f + q))
+              (λ q. known_at v.known (place_in (event_in v).g + q)) j),
+        );
+        owes = omega (
+          arith,
+          owed,
+          joins_few (event_in v),
+          length-append v.made ((t, entry_of v.parts (event_in v)) ∷ []),
+        );
         few = omega (arith, c.few v seen, ap length taken, ap (λ (l : List (ℕ × ℕ)). length (rest l)) taken);
         settled = λ e. inl e;
         stays = λ e. get_or-set_other s.words 0 1 (t + 1) 0 (λ q. omega (arith, q)) ∙ e;
@@ -184,13 +206,20 @@ module _ (p : Plan) (s : Table) (k : Kept p s) (c : Credited p s) (id : ℕ) (v 
 
   -- a ticket at or above it
   pub late_pays : (x : ℕ) → Credited p (after s 0 x id (late v))
-  late_pays x = plain_keeps p s k c 0 x id v (late v) here (λ q. cc) (λ q. cc) (λ e. omega (arith, e)) (cells_off p.parts s.words 0 x (λ q. cc) (λ q. cc)) refl refl (omega arith) refl refl refl
+  late_pays x = plain_keeps p s k c 0 x id v (late v) here (λ q. cc) (λ q. cc)
+      (λ e. omega (arith, e)) (cells_off p.parts s.words 0 x (λ q. cc) (λ q. cc)) refl refl (omega arith) refl refl refl
 
   -- what is left is taken from the word
   pub repay_pays : v.pending ≡ [] → Credited p (after s 1 (get_or s.words 1 0 - v.owed) id (repaid v v.owed))
   repay_pays pending = pays_keeps p s c id v (repaid v v.owed) 1 (get_or s.words 1 0 - v.owed) here record {
     off = no_claim p s k 1 (λ q. cc);
-    balance = omega (arith, enough, now, cells_off p.parts s.words 1 (get_or s.words 1 0 - v.owed) (λ q. cc) (λ q. cc), claims);
+    balance = omega (
+      arith,
+      enough,
+      now,
+      cells_off p.parts s.words 1 (get_or s.words 1 0 - v.owed) (λ q. cc) (λ q. cc),
+      claims,
+    );
     links = omega (arith, ap length pending);
     owes = omega arith;
     few = omega (arith, c.few v seen);
@@ -205,14 +234,18 @@ module _ (p : Plan) (s : Table) (k : Kept p s) (c : Credited p s) (id : ℕ) (v 
       now = get_or-set_same s.words 1 (get_or s.words 1 0 - v.owed) 0 (omega (arith, k.words.wide))
 
       claims : active_claims (set s.words 1 (get_or s.words 1 0 - v.owed)) v ≡ active_claims s.words v
-      claims = claims_same (set s.words 1 (get_or s.words 1 0 - v.owed)) s.words v (λ a y m. get_or-set_other s.words 1 (suc a) (get_or s.words 1 0 - v.owed) 0 (no_claim p s k 1 (λ q. cc) v a y seen m))
+      claims = claims_same (set s.words 1 (get_or s.words 1 0 - v.owed)) s.words v
+          (λ a y m. get_or-set_other s.words 1 (suc a) (get_or s.words 1 0 - v.owed) 0
+          (no_claim p s k 1 (λ q. cc) v a y seen m))
 
   pub owed_below : v.owed ≤ get_or s.words 1 0
   owed_below = omega (arith, c.live, total_at (λ (u : View). u.owed) s.views id v here)
 
   -- a word that is due is a field or a word of an entry
   pub write_pays : (i x : ℕ) (ds : List (ℕ × ℕ)) → v.due ≡ (i, x) ∷ ds → Credited p (after s i x id (wrote v))
-  write_pays i x ds due = plain_keeps p s k c i x id v (wrote v) here not_left not_right (λ e. live_own (subst (λ (n : ℕ). IsOwn (part_of_word p.parts n)) e own)) (cells_off p.parts s.words i x not_left not_right) refl refl (omega arith) refl refl refl
+  write_pays i x ds due = plain_keeps p s k c i x id v (wrote v) here not_left not_right
+      (λ e. live_own (subst (λ (n : ℕ). IsOwn (part_of_word p.parts n)) e own))
+      (cells_off p.parts s.words i x not_left not_right) refl refl (omega arith) refl refl refl
     where
       own : IsOwn (part_of_word p.parts i)
       own = (k.seats.due v i x seen (subst (λ (l : List (ℕ × ℕ)). IsIn {X = ℕ × ℕ} (i, x) l) (sym due) (inl refl))).1
@@ -241,10 +274,13 @@ module _ (p : Plan) (s : Table) (k : Kept p s) (c : Credited p s) (id : ℕ) (v 
         no l = l
 
     pub linked_pays : Credited p (after s i x id (linked v))
-    linked_pays = plain_keeps p s k c i x id v (linked v) here off_left off_right off_live (cells_off p.parts s.words i x off_left off_right) refl refl (rest_length v.pending) refl refl refl
+    linked_pays = plain_keeps p s k c i x id v (linked v) here off_left off_right off_live
+        (cells_off p.parts s.words i x off_left off_right) refl refl (rest_length v.pending) refl refl refl
 
     pub moved_pays : (b d : ℕ) → Credited p (after s i x id (moved v i b d))
-    moved_pays b d = plain_keeps p s k c i x id v (moved v i b d) here off_left off_right off_live (cells_off p.parts s.words i x off_left off_right) refl refl (omega (arith, relinked_length v.pending b d)) refl refl refl
+    moved_pays b d = plain_keeps p s k c i x id v (moved v i b d) here off_left off_right off_live
+        (cells_off p.parts s.words i x off_left off_right) refl refl
+        (omega (arith, relinked_length v.pending b d)) refl refl refl
 
   -- the first pending link is published
   module _ (l : Link) (ls : List Link) (pending : v.pending ≡ l ∷ ls) where
@@ -260,7 +296,8 @@ module _ (p : Plan) (s : Table) (k : Kept p s) (c : Credited p s) (id : ℕ) (v 
     pub cell_empty : get_or s.words l.cell 0 ≡ 0
     cell_empty = elim (cases_eq (get_or s.words l.cell 0) 0) [
       | inl e ↦ e
-      | inr d ↦ absurd (d (sym (word_full p s k l.cell (omega (arith, (is_left p.parts l.cell cell_is).1)) d) ∙ cell_full))
+      | inr d ↦ absurd (d (sym (word_full p s k l.cell
+          (omega (arith, (is_left p.parts l.cell cell_is).1)) d) ∙ cell_full))
     ]
 
     right_is : part_of_word p.parts (suc l.cell) ≡ right
@@ -280,10 +317,16 @@ module _ (p : Plan) (s : Table) (k : Kept p s) (c : Credited p s) (id : ℕ) (v 
         arith,
         live,
         cells_right p.parts s.words (suc l.cell) l.two l.cell cell_is refl cell_empty,
-        claims_same (set s.words (suc l.cell) l.two) s.words v (λ a y m. get_or-set_other s.words (suc l.cell) (suc a) l.two 0 (right_free v a y seen m)),
+        claims_same (set s.words (suc l.cell) l.two) s.words v
+            (λ a y m. get_or-set_other s.words (suc l.cell) (suc a) l.two 0 (right_free v a y seen m)),
       );
       links = c.links v seen;
-      owes = omega (arith, c.owes v seen, claims_same (set s.words (suc l.cell) l.two) s.words v (λ a y m. get_or-set_other s.words (suc l.cell) (suc a) l.two 0 (right_free v a y seen m)));
+      owes = omega (
+        arith,
+        c.owes v seen,
+        claims_same (set s.words (suc l.cell) l.two) s.words v
+            (λ a y m. get_or-set_other s.words (suc l.cell) (suc a) l.two 0 (right_free v a y seen m)),
+      );
       few = c.few v seen;
       settled = λ e. inl e;
       stays = λ e. live ∙ e;
@@ -307,7 +350,14 @@ module _ (p : Plan) (s : Table) (k : Kept p s) (c : Credited p s) (id : ℕ) (v 
         c.links v seen,
         ap length pending,
       );
-      links = omega (arith, c.links v seen, ap length pending, ap (λ (ks : List Link). length (rest ks)) pending, paid, one);
+      links = omega (
+        arith,
+        c.links v seen,
+        ap length pending,
+        ap (λ (ks : List Link). length (rest ks)) pending,
+        paid,
+        one,
+      );
       owes = omega (arith, c.owes v seen, claims_stay l.cell cell_is l.one, paid, one);
       few = omega (arith, c.few v seen);
       settled = λ e. inl e;

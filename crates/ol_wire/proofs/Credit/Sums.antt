@@ -1,6 +1,8 @@
 -- Numbers below a bound, added up, and which pairs are active.
 -- Used in Keep, Opening, Owed, Quiet, Seats, Steps, Words and Steps.Remembering.
-use Rattle.std.proofs.Common.{◌≡◌, ◌≢◌, ℕ, zero, suc, ◌+◌, ◌<◌, ◌≤◌, ◌==◌, true, false, if◌then◌else◌, Option, Some, None, List, [], ◌∷◌, refl, sym, ap, ◌∙◌, arith, inl, inr, ne_eqb}
+use Rattle.std.proofs.Common.{◌≡◌, ◌≢◌, ℕ, zero, suc, ◌+◌, ◌<◌, ◌≤◌, ◌==◌, true, false}
+use Rattle.std.proofs.Common.{if◌then◌else◌, Option, Some, None, List, [], ◌∷◌, refl, sym, ap, ◌∙◌}
+use Rattle.std.proofs.Common.{arith, inl, inr, ne_eqb}
 use Rattle.std.proofs.lemmas.Bool.{cases_eq}
 use mathlib.Core.Option.{some}
 use lib.ListN.{get_elem?}
@@ -16,11 +18,23 @@ sum_same zero f g h = refl
 sum_same (suc n) f g h = omega (arith, sum_same n f g (λ c lt. h c (omega (arith, lt))), h n (omega arith))
 
 -- two sums that differ at one number
-pub sum_but : (n j : ℕ) (f g : ℕ → ℕ) → j < n → ((c : ℕ) → c < n → c ≢ j → f c ≡ g c) → sum_below n f + g j ≡ sum_below n g + f j
+pub sum_but : (n j : ℕ) (f g : ℕ → ℕ) → j < n → ((c : ℕ) → c < n → c ≢ j → f c ≡ g c) →
+    sum_below n f + g j ≡ sum_below n g + f j
 sum_but zero j f g lt h = absurd (omega (arith, lt))
 sum_but (suc n) j f g lt h = elim (cases_eq n j) [
-  | inl e ↦ omega (arith, sum_same n f g (λ c low. h c (omega (arith, low)) (λ q. omega (arith, q, e, low))), ap f e, ap g e)
-  | inr d ↦ omega (arith, sum_but n j f g (omega (arith, lt, d)) (λ c low. h c (omega (arith, low))), h n (omega arith) d)
+  | inl e ↦ omega (
+    arith,
+    sum_same n f g
+        (λ c low. h c (omega (arith, low)) (λ q. omega (arith, q, e, low))),
+    ap f e,
+    ap g e,
+  )
+  | inr d ↦ omega (
+    arith,
+    sum_but n j f g (omega (arith, lt, d))
+        (λ c low. h c (omega (arith, low))),
+    h n (omega arith) d,
+  )
 ]
 
 pub sum_some : (n j : ℕ) (f : ℕ → ℕ) → j < n → f j ≤ sum_below n f
@@ -83,10 +97,12 @@ pub not_active : (x y : ℕ) → x ≢ 0 → active_in x y ≡ 0 → IsStuckPair
 not_active x y n e = ruled_none (rule_between x y) (rule_between y x) (sym (active_some x y n) ∙ e)
 
 -- a pair with a rule is active
-ruled_acting : (a b : Option Rule) (l r : ℕ) → rule_between l r ≡ a → rule_between r l ≡ b → rule_between (acting a b l r).f (acting a b l r).g ≡ Some (acting a b l r).rule → ruled a b ≡ 1
+ruled_acting : (a b : Option Rule) (l r : ℕ) → rule_between l r ≡ a → rule_between r l ≡ b →
+    rule_between (acting a b l r).f (acting a b l r).g ≡ Some (acting a b l r).rule → ruled a b ≡ 1
 ruled_acting None None l r ea eb h = absurd (let bad : ◌≡◌ {A = Option Rule} None (Some rule.Erase) = sym ea ∙ h in cc)
 ruled_acting None (Some x) l r ea eb h = refl
 ruled_acting (Some x) b l r ea eb h = refl
 
-pub is_active : (l r : ℕ) → l ≢ 0 → rule_between (event_of l r).f (event_of l r).g ≡ Some (event_of l r).rule → active_in l r ≡ 1
+pub is_active : (l r : ℕ) → l ≢ 0 → rule_between (event_of l r).f (event_of l r).g ≡ Some
+    (event_of l r).rule → active_in l r ≡ 1
 is_active l r n h = active_some l r n ∙ ruled_acting (rule_between l r) (rule_between r l) l r refl refl h

@@ -7,8 +7,10 @@ use Rattle.ol_rules.specs.declared.journal.NodeName.TheVariants.{Born}
 use Rattle.ol_wire.specs.declared.layout.Parts.{Parts}
 use Rattle.ol_wire.specs.References.{node_ref, wire_ref, slot_ref}
 use Rattle.ol_wire.specs.Layout.{block, place_of, born_wire}
-use Rattle.ol_wire.proofs.InWords.References.{node_same, slot_same, wire_same, node_not_wire, node_not_slot, wire_not_slot}
-use Rattle.ol_wire.proofs.Degrees.Sums.{among, among_none, among_one, among_some, within, within_none, within_one, within_some}
+use Rattle.ol_wire.proofs.InWords.References.{node_same, slot_same, wire_same, node_not_wire}
+use Rattle.ol_wire.proofs.InWords.References.{node_not_slot, wire_not_slot}
+use Rattle.ol_wire.proofs.Degrees.Sums.{among, among_none, among_one, among_some, within}
+use Rattle.ol_wire.proofs.Degrees.Sums.{within_none, within_one, within_some}
 use Rattle.ol_wire.proofs.Degrees.Counts.{born}
 
 -- indexes that a reference has room for, and at most two copies of each
@@ -39,19 +41,29 @@ module _ (z : Parts) (t : ℕ) (k l : Kind) (i j n m : ℕ) (few : Few i j n m) 
   pub born_f : (q : ℕ) → q < n → born z t k i l j n m (f_copy q) ≡ 1
   born_f q b =
       let u = f_copy q in
-      let c = among_one n q f_copy u b refl (λ r h e. let s = node_same k k i i (place_of z (Born t q)) (place_of z (Born t r)) few.index_f few.index_f e in omega (arith, s.2)) in
-      let d = among_none m g_copy u (λ p h e. let s = node_same k l i j (place_of z (Born t q)) (place_of z (Born t (n + p))) few.index_f few.index_g e in omega (arith, s.2, b)) in
-      let f = within_none n m f_slot u (λ r p h v e. node_not_slot k i (place_of z (Born t q)) (place_of z (Born t r) + p) e) in
-      let g = within_none n m g_slot u (λ r p h v e. node_not_slot k i (place_of z (Born t q)) (place_of z (Born t (n + p)) + r) e) in
-      let w = within_none n m wire_of u (λ r p h v e. node_not_wire k i (place_of z (Born t q)) (born_wire z t r p) e) in
+      let c = among_one n q f_copy u b refl
+      (λ r h e. let s = node_same k k i i (place_of z (Born t q))
+      (place_of z (Born t r)) few.index_f few.index_f e in omega (arith, s.2)) in
+      let d = among_none m g_copy u (λ p h e.
+      let s = node_same k l i j (place_of z (Born t q))
+      (place_of z (Born t (n + p))) few.index_f few.index_g e in omega (arith, s.2, b)) in
+      let f = within_none n m f_slot u (λ r p h v e.
+      node_not_slot k i (place_of z (Born t q)) (place_of z (Born t r) + p) e) in
+      let g = within_none n m g_slot u (λ r p h v e.
+      node_not_slot k i (place_of z (Born t q)) (place_of z (Born t (n + p)) + r) e) in
+      let w = within_none n m wire_of u (λ r p h v e.
+      node_not_wire k i (place_of z (Born t q)) (born_wire z t r p) e) in
       omega (arith, c, d, f, g, w)
 
   pub born_g : (p : ℕ) → p < m → born z t k i l j n m (g_copy p) ≡ 1
   born_g p b =
       let u = g_copy p in
       let at = place_of z (Born t (n + p)) in
-      let c = among_none n f_copy u (λ r h e. let s = node_same l k j i at (place_of z (Born t r)) few.index_g few.index_f e in omega (arith, s.2, h)) in
-      let d = among_one m p g_copy u b refl (λ r h e. let s = node_same l l j j at (place_of z (Born t (n + r))) few.index_g few.index_g e in omega (arith, s.2)) in
+      let c = among_none n f_copy u (λ r h e.
+      let s = node_same l k j i at (place_of z (Born t r)) few.index_g few.index_f e in omega (arith, s.2, h)) in
+      let d = among_one m p g_copy u b refl
+      (λ r h e. let s = node_same l l j j at
+      (place_of z (Born t (n + r))) few.index_g few.index_g e in omega (arith, s.2)) in
       let f = within_none n m f_slot u (λ r p h v e. node_not_slot l j at (place_of z (Born t r) + p) e) in
       let g = within_none n m g_slot u (λ r p h v e. node_not_slot l j at (place_of z (Born t (n + p)) + r) e) in
       let w = within_none n m wire_of u (λ r p h v e. node_not_wire l j at (born_wire z t r p) e) in
@@ -64,8 +76,11 @@ module _ (z : Parts) (t : ℕ) (k l : Kind) (i j n m : ℕ) (few : Few i j n m) 
       let at = place_of z (Born t q) + p in
       let c = among_none n f_copy u (λ r h e. node_not_slot k i (place_of z (Born t r)) at (sym e)) in
       let d = among_none m g_copy u (λ r h e. node_not_slot l j (place_of z (Born t (n + r))) at (sym e)) in
-      let f = within_one n m q p f_slot u b a refl (λ r s h v e. let o = slot_same at (place_of z (Born t r) + s) e in (omega (arith, o, a, v), omega (arith, o, a, v))) in
-      let g = within_none n m g_slot u (λ r s h v e. let o = slot_same at (place_of z (Born t (n + s)) + r) e in omega (arith, o, a, b, h)) in
+      let f = within_one n m q p f_slot u b a refl
+      (λ r s h v e. let o = slot_same at (place_of z (Born t r) + s) e in
+      (omega (arith, o, a, v), omega (arith, o, a, v))) in
+      let g = within_none n m g_slot u (λ r s h v e.
+      let o = slot_same at (place_of z (Born t (n + s)) + r) e in omega (arith, o, a, b, h)) in
       let w = within_none n m wire_of u (λ r s h v e. wire_not_slot (born_wire z t r s) at (sym e)) in
       omega (arith, c, d, f, g, w)
 
@@ -75,8 +90,11 @@ module _ (z : Parts) (t : ℕ) (k l : Kind) (i j n m : ℕ) (few : Few i j n m) 
       let at = place_of z (Born t (n + p)) + q in
       let c = among_none n f_copy u (λ r h e. node_not_slot k i (place_of z (Born t r)) at (sym e)) in
       let d = among_none m g_copy u (λ r h e. node_not_slot l j (place_of z (Born t (n + r))) at (sym e)) in
-      let f = within_none n m f_slot u (λ r s h v e. let o = slot_same at (place_of z (Born t r) + s) e in omega (arith, o, v, b, h)) in
-      let g = within_one n m q p g_slot u b a refl (λ r s h v e. let o = slot_same at (place_of z (Born t (n + s)) + r) e in (omega (arith, o, b, h), omega (arith, o, b, h))) in
+      let f = within_none n m f_slot u (λ r s h v e.
+      let o = slot_same at (place_of z (Born t r) + s) e in omega (arith, o, v, b, h)) in
+      let g = within_one n m q p g_slot u b a refl
+      (λ r s h v e. let o = slot_same at (place_of z (Born t (n + s)) + r) e in
+      (omega (arith, o, b, h), omega (arith, o, b, h))) in
       let w = within_none n m wire_of u (λ r s h v e. wire_not_slot (born_wire z t r s) at (sym e)) in
       omega (arith, c, d, f, g, w)
 
@@ -89,15 +107,19 @@ module _ (z : Parts) (t : ℕ) (k l : Kind) (i j n m : ℕ) (few : Few i j n m) 
       let d = among_none m g_copy u (λ r h e. node_not_wire l j (place_of z (Born t (n + r))) at (sym e)) in
       let f = within_none n m f_slot u (λ r s h v e. wire_not_slot at (place_of z (Born t r) + s) e) in
       let g = within_none n m g_slot u (λ r s h v e. wire_not_slot at (place_of z (Born t (n + s)) + r) e) in
-      let w = within_one n m q p wire_of u b a refl (λ r s h v e. let o = wire_same at (born_wire z t r s) e in (omega (arith, o, a, v), omega (arith, o, a, v))) in
+      let w = within_one n m q p wire_of u b a refl
+      (λ r s h v e. let o = wire_same at (born_wire z t r s) e in
+      (omega (arith, o, a, v), omega (arith, o, a, v))) in
       omega (arith, c, d, f, g, w)
 
   -- ends of what was there before the ticket
   pub node_unborn : (o : Kind) (h at : ℕ) → h < 16777216 → at < block z t → born z t k i l j n m (node_ref o h at) ≡ 0
   node_unborn o h at sh lt =
       let u = node_ref o h at in
-      let c = among_none n f_copy u (λ r b e. let s = node_same o k h i at (place_of z (Born t r)) sh few.index_f e in omega (arith, s.2, lt)) in
-      let d = among_none m g_copy u (λ r b e. let s = node_same o l h j at (place_of z (Born t (n + r))) sh few.index_g e in omega (arith, s.2, lt)) in
+      let c = among_none n f_copy u (λ r b e.
+      let s = node_same o k h i at (place_of z (Born t r)) sh few.index_f e in omega (arith, s.2, lt)) in
+      let d = among_none m g_copy u (λ r b e.
+      let s = node_same o l h j at (place_of z (Born t (n + r))) sh few.index_g e in omega (arith, s.2, lt)) in
       let f = within_none n m f_slot u (λ r s b v e. node_not_slot o h at (place_of z (Born t r) + s) e) in
       let g = within_none n m g_slot u (λ r s b v e. node_not_slot o h at (place_of z (Born t (n + s)) + r) e) in
       let w = within_none n m wire_of u (λ r s b v e. node_not_wire o h at (born_wire z t r s) e) in
@@ -108,8 +130,10 @@ module _ (z : Parts) (t : ℕ) (k l : Kind) (i j n m : ℕ) (few : Few i j n m) 
       let u = slot_ref at in
       let c = among_none n f_copy u (λ r h e. node_not_slot k i (place_of z (Born t r)) at (sym e)) in
       let d = among_none m g_copy u (λ r h e. node_not_slot l j (place_of z (Born t (n + r))) at (sym e)) in
-      let f = within_none n m f_slot u (λ r s h v e. let o = slot_same at (place_of z (Born t r) + s) e in omega (arith, o, lt)) in
-      let g = within_none n m g_slot u (λ r s h v e. let o = slot_same at (place_of z (Born t (n + s)) + r) e in omega (arith, o, lt)) in
+      let f = within_none n m f_slot u (λ r s h v e.
+      let o = slot_same at (place_of z (Born t r) + s) e in omega (arith, o, lt)) in
+      let g = within_none n m g_slot u (λ r s h v e.
+      let o = slot_same at (place_of z (Born t (n + s)) + r) e in omega (arith, o, lt)) in
       let w = within_none n m wire_of u (λ r s h v e. wire_not_slot (born_wire z t r s) at (sym e)) in
       omega (arith, c, d, f, g, w)
 
@@ -120,7 +144,8 @@ module _ (z : Parts) (t : ℕ) (k l : Kind) (i j n m : ℕ) (few : Few i j n m) 
       let d = among_none m g_copy u (λ r h e. node_not_wire l j (place_of z (Born t (n + r))) at (sym e)) in
       let f = within_none n m f_slot u (λ r s h v e. wire_not_slot at (place_of z (Born t r) + s) e) in
       let g = within_none n m g_slot u (λ r s h v e. wire_not_slot at (place_of z (Born t (n + s)) + r) e) in
-      let w = within_none n m wire_of u (λ r s h v e. let o = wire_same at (born_wire z t r s) e in omega (arith, o, lt)) in
+      let w = within_none n m wire_of u (λ r s h v e. let o = wire_same at (born_wire z t r s) e in
+      omega (arith, o, lt)) in
       omega (arith, c, d, f, g, w)
 
   -- what an end is that comes

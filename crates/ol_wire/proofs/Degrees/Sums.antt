@@ -1,6 +1,7 @@
 -- Sums over the numbers below n, and how often a number stands among those that a function gives.
 -- Used in After, Born, Counts and Weights.
-use Rattle.std.proofs.Common.{◌≡◌, ◌≢◌, ℕ, zero, suc, ◌+◌, ◌*◌, ◌<◌, nat_eq, eq-eqb, ne_eqb, List, inl, inr, refl, sym, ap, ◌∙◌, arith}
+use Rattle.std.proofs.Common.{◌≡◌, ◌≢◌, ℕ, zero, suc, ◌+◌, ◌*◌, ◌<◌, nat_eq, eq-eqb, ne_eqb, List}
+use Rattle.std.proofs.Common.{inl, inr, refl, sym, ap, ◌∙◌, arith}
 use Rattle.std.proofs.lemmas.Bool.{cases_eq}
 use Rattle.ol_edges.specs.Edges.{bit}
 use Rattle.ol_rules.specs.Listed.{each}
@@ -12,7 +13,8 @@ abbrev pub sum_to : ℕ → (ℕ → ℕ) → ℕ
 sum_to zero f = 0
 sum_to (suc n) f = sum_to n f + f n
 
-pub pairs_each : {A B : Type 0} (h : A → B → ℕ) (n : ℕ) (rows : ℕ → List (A × B)) → pairs h (each n rows) ≡ sum_to n (λ s. pairs h (rows s))
+pub pairs_each : {A B : Type 0} (h : A → B → ℕ) (n : ℕ) (rows : ℕ → List (A × B)) →
+    pairs h (each n rows) ≡ sum_to n (λ s. pairs h (rows s))
 pairs_each h zero rows = refl
 pairs_each h (suc n) rows = pairs_append h (each n rows) (rows n) ∙ ap (λ m. m + pairs h (rows n)) (pairs_each h n rows)
 
@@ -27,7 +29,8 @@ sum_add (suc n) f g = let a = sum_add n f g in omega arith
 -- the first m, and the n behind them
 pub sum_split : (m n : ℕ) (f : ℕ → ℕ) → sum_to (m + n) f ≡ sum_to m f + sum_to n (λ s. f (m + s))
 sum_split m zero f = let e : m + 0 ≡ m = omega arith in ap (λ k. sum_to k f) e ∙ (omega arith)
-sum_split m (suc n) f = let e : m + suc n ≡ suc (m + n) = omega arith in let a = sum_split m n f in ap (λ k. sum_to k f) e ∙ (omega arith)
+sum_split m (suc n) f = let e : m + suc n ≡ suc (m + n) = omega arith in let a = sum_split m n f in
+    ap (λ k. sum_to k f) e ∙ (omega arith)
 
 pub sum_none : (n : ℕ) (f : ℕ → ℕ) → ((s : ℕ) → s < n → f s ≡ 0) → sum_to n f ≡ 0
 sum_none zero f h = refl
@@ -77,7 +80,8 @@ pub among_none : (n : ℕ) (f : ℕ → ℕ) (u : ℕ) → ((s : ℕ) → s < n 
 among_none n f u h = sum_none n (λ s. is_at u (f s)) (λ s b. at_other u (f s) (h s b))
 
 pub among_one : (n s : ℕ) (f : ℕ → ℕ) (u : ℕ) → s < n → u ≡ f s → ((t : ℕ) → t < n → u ≡ f t → t ≡ s) → among n f u ≡ 1
-among_one n s f u b e h = sum_one n s (λ t. is_at u (f t)) b (λ t l d. at_other u (f t) (λ q. d (h t l q))) ∙ at_same u (f s) e
+among_one n s f u b e h = sum_one n s (λ t. is_at u (f t)) b
+    (λ t l d. at_other u (f t) (λ q. d (h t l q))) ∙ at_same u (f s) e
 
 pub among_some : (n : ℕ) (f : ℕ → ℕ) (u : ℕ) → 0 < among n f u → (s : ℕ) × (s < n) × (u ≡ f s)
 among_some n f u h = let t = sum_some n (λ s. is_at u (f s)) h in (t.0, t.1, at_some u (f t.0) t.2)
@@ -96,22 +100,28 @@ within n m f u = sum_to n (λ q. among m (f q) u)
 pub within_none : (n m : ℕ) (f : ℕ → ℕ → ℕ) (u : ℕ) → ((q p : ℕ) → q < n → p < m → u ≢ f q p) → within n m f u ≡ 0
 within_none n m f u h = sum_none n (λ q. among m (f q) u) (λ q b. among_none m (f q) u (λ p c. h q p b c))
 
-pub within_one : (n m q p : ℕ) (f : ℕ → ℕ → ℕ) (u : ℕ) → q < n → p < m → u ≡ f q p → ((r s : ℕ) → r < n → s < m → u ≡ f r s → (r ≡ q) × (s ≡ p)) → within n m f u ≡ 1
+pub within_one : (n m q p : ℕ) (f : ℕ → ℕ → ℕ) (u : ℕ) → q < n → p < m → u ≡ f q p →
+    ((r s : ℕ) → r < n → s < m → u ≡ f r s → (r ≡ q) × (s ≡ p)) → within n m f u ≡ 1
 within_one n m q p f u b c e h =
     sum_one n q (λ r. among m (f r) u) b (λ r l d. among_none m (f r) u (λ s k w. d (h r s l k w).0))
     ∙ among_one m p (f q) u c e (λ s k w. (h q s b k w).1)
 
-pub within_some : (n m : ℕ) (f : ℕ → ℕ → ℕ) (u : ℕ) → 0 < within n m f u → (q : ℕ) × (p : ℕ) × (q < n) × (p < m) × (u ≡ f q p)
+pub within_some : (n m : ℕ) (f : ℕ → ℕ → ℕ) (u : ℕ) → 0 < within n m f u →
+    (q : ℕ) × (p : ℕ) × (q < n) × (p < m) × (u ≡ f q p)
 within_some n m f u h =
     let t = sum_some n (λ q. among m (f q) u) h in
     let v = among_some m (f t.0) u t.2 in
     (t.0, v.0, t.1, v.1, v.2)
 
 -- the ends at u of edges {f q p, w q p} and {g q p, w q p}
-ends_in_row : (m : ℕ) (f g w : ℕ → ℕ) (u : ℕ) → sum_to m (λ p. is_at u (f p) + is_at u (w p) + (is_at u (g p) + is_at u (w p))) ≡ among m f u + among m g u + 2 * among m w u
+ends_in_row : (m : ℕ) (f g w : ℕ → ℕ) (u : ℕ) →
+    sum_to m (λ p. is_at u (f p) + is_at u (w p) +
+    (is_at u (g p) + is_at u (w p))) ≡ among m f u + among m g u + 2 * among m w u
 ends_in_row zero f g w u = omega arith
 ends_in_row (suc m) f g w u = omega (arith, ends_in_row m f g w u)
 
-pub ends_in_grid : (n m : ℕ) (f g w : ℕ → ℕ → ℕ) (u : ℕ) → sum_to n (λ q. sum_to m (λ p. is_at u (f q p) + is_at u (w q p) + (is_at u (g q p) + is_at u (w q p)))) ≡ within n m f u + within n m g u + 2 * within n m w u
+pub ends_in_grid : (n m : ℕ) (f g w : ℕ → ℕ → ℕ) (u : ℕ) →
+    sum_to n (λ q. sum_to m (λ p. is_at u (f q p) + is_at u (w q p) +
+    (is_at u (g q p) + is_at u (w q p)))) ≡ within n m f u + within n m g u + 2 * within n m w u
 ends_in_grid zero m f g w u = omega arith
 ends_in_grid (suc n) m f g w u = omega (arith, ends_in_grid n m f g w u, ends_in_row m (f n) (g n) (w n) u)

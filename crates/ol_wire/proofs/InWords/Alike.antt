@@ -1,6 +1,7 @@
 -- Lists of edges with the same weights have the same edges, the same ends, and join the same.
 -- Used in Degrees, InWords, LinkSteps, Links, Steps and Ticket.
-use Rattle.std.proofs.Common.{◌≡◌, ℕ, ◌+◌, ◌<◌, Bool, true, false, ◌&&◌, nat_eq, eq-eqb, eqb-true, List, [], ◌∷◌, ◌++◌, ◌⊎◌, inl, inr, refl, sym, ap, ◌∙◌, arith}
+use Rattle.std.proofs.Common.{◌≡◌, ℕ, ◌+◌, ◌<◌, Bool, true, false, ◌&&◌, nat_eq, eq-eqb, eqb-true}
+use Rattle.std.proofs.Common.{List, [], ◌∷◌, ◌++◌, ◌⊎◌, inl, inr, refl, sym, ap, ◌∙◌, arith}
 use Rattle.std.proofs.lemmas.Bool.{cases_eq}
 use Rattle.ol_edges.specs.Edges.{IsIn, Near, Joined, here, on, back, EdgeOf, ends, bit}
 use Rattle.ol_wire.specs.Weights.{total, pairs}
@@ -45,7 +46,8 @@ touch_even u v x y = omega (arith, and_turned (nat_eq u x) (nat_eq v y), and_tur
 
 touched : (u v : ℕ) → touch u v u v ≡ 0 → ⊥
 touched u v z =
-    let e : bit (nat_eq u u && nat_eq v v) ≡ 1 = ap (λ b. bit (b && nat_eq v v)) (eq-eqb u u refl) ∙ ap (λ b. bit b) (eq-eqb v v refl) in
+    let e : bit (nat_eq u u && nat_eq v v) ≡ 1 = ap (λ b. bit (b && nat_eq v v)) (eq-eqb u u refl)
+    ∙ ap (λ b. bit b) (eq-eqb v v refl) in
     omega (arith, e, z)
 
 in_touch : (es : List (ℕ × ℕ)) (u v : ℕ) → IsIn (u, v) es → 0 < pairs (touch u v) es
@@ -98,7 +100,8 @@ touch_near (e ∷ es) u v h = elim (cases_eq (touch u v e.0 e.1) 0) [
 
 pub alike_near : (es fs : List (ℕ × ℕ)) → Alike es fs → (u v : ℕ) → Near es u v → Near fs u v
 alike_near es fs a u v (inl i) = touch_near fs u v (omega (arith, in_touch es u v i, a (touch u v) (touch_even u v)))
-alike_near es fs a u v (inr i) = turned (touch_near fs v u (omega (arith, in_touch es v u i, a (touch v u) (touch_even v u))))
+alike_near es fs a u v (inr i) = turned
+    (touch_near fs v u (omega (arith, in_touch es v u i, a (touch v u) (touch_even v u))))
   where
     turned : Near fs v u → Near fs u v
     turned (inl h) = inr h
@@ -110,8 +113,10 @@ near_joined fs u v w j (inr h) = back j h
 
 pub alike_joined : (es fs : List (ℕ × ℕ)) → Alike es fs → (u v : ℕ) → Joined (EdgeOf es) u v → Joined (EdgeOf fs) u v
 alike_joined es fs a u v here = here
-alike_joined es fs a u v (on {v = w} j e) = near_joined fs u w v (alike_joined es fs a u w j) (alike_near es fs a w v (inl e))
-alike_joined es fs a u v (back {v = w} j e) = near_joined fs u w v (alike_joined es fs a u w j) (alike_near es fs a w v (inr e))
+alike_joined es fs a u v (on {v = w} j e) = near_joined fs u w v (alike_joined es fs a u w j)
+    (alike_near es fs a w v (inl e))
+alike_joined es fs a u v (back {v = w} j e) = near_joined fs u w v (alike_joined es fs a u w j)
+    (alike_near es fs a w v (inr e))
 
 pub alike_sym : (es fs : List (ℕ × ℕ)) → Alike es fs → Alike fs es
 alike_sym es fs a h ev = sym (a h ev)

@@ -1,6 +1,9 @@
--- One exchange that finds a reference takes one wire out: the two edges at it become one, and the edges stand for the same net.
+-- One exchange that finds a reference takes one wire out: the two edges at it become one, and the
+-- edges stand for the same net.
 -- Used in LinkSteps.Exchange.
-use Rattle.std.proofs.Common.{◌≡◌, ◌≢◌, ℕ, ◌<◌, ◌≤◌, ◌==◌, Bool, true, if◌then◌else◌, nat_eq, eq-eqb, ne_eqb, List, ◌∷◌, ◌⊎◌, inl, inr, ◌↔◌, refl, sym, ap, ◌∙◌, subst, arith}
+use Rattle.std.proofs.Common.{◌≡◌, ◌≢◌, ℕ, ◌<◌, ◌≤◌, ◌==◌, Bool, true, if◌then◌else◌, nat_eq}
+use Rattle.std.proofs.Common.{eq-eqb, ne_eqb, List, ◌∷◌, ◌⊎◌, inl, inr, ◌↔◌, refl, sym, ap, ◌∙◌}
+use Rattle.std.proofs.Common.{subst, arith}
 use Rattle.std.proofs.lemmas.Bool.{cases_eq}
 use Rattle.ol_edges.specs.Edges.{IsIn, EdgeOf, Joined, here, on, back, ends}
 use Rattle.ol_edges.proofs.Joining.{joined_map, joined_image}
@@ -16,7 +19,8 @@ use Rattle.ol_wire.proofs.InWords.Claimed.{ends_first, ends_second, same_bit, ot
 module _ (z : Parts) (N : NamedNet NodeName) (reached reached' : ℕ → Bool) (es fs rest : List (ℕ × ℕ)) (w b c : ℕ)
     (before : StandsForNet z N reached es) (is_wire : reached w ≡ true)
     (from : Alike es ((wire_ref w, b) ∷ (wire_ref w, c) ∷ rest)) (to : Alike fs ((b, c) ∷ rest))
-    (still : (v : ℕ) → reached v ≡ true → v ≢ w → reached' v ≡ true) (only : (v : ℕ) → reached' v ≡ true → (reached v ≡ true) × (v ≢ w)) where
+    (still : (v : ℕ) → reached v ≡ true → v ≢ w → reached' v ≡ true)
+    (only : (v : ℕ) → reached' v ≡ true → (reached v ≡ true) × (v ≢ w)) where
   abbrev e0 : ℕ
   e0 = wire_ref w
 
@@ -72,20 +76,26 @@ module _ (z : Parts) (N : NamedNet NodeName) (reached reached' : ℕ → Bool) (
       let j : Joined (EdgeOf one) b c = on here (inl refl) in
       subst (λ x. Joined (EdgeOf one) x (moved v)) (sym a) (subst (λ y. Joined (EdgeOf one) b y) (sym d) j)
   across u v (inr (inr i)) =
-      let a : moved u ≡ u = moved_else u (λ e. omega (arith, none_left, subst (λ x. 1 ≤ ends nat_eq x rest) e (ends_first u v rest i))) in
-      let d : moved v ≡ v = moved_else v (λ e. omega (arith, none_left, subst (λ x. 1 ≤ ends nat_eq x rest) e (ends_second v u rest i))) in
+      let a : moved u ≡ u = moved_else u (λ e.
+      omega (arith, none_left, subst (λ x. 1 ≤ ends nat_eq x rest) e (ends_first u v rest i))) in
+      let d : moved v ≡ v = moved_else v (λ e.
+      omega (arith, none_left, subst (λ x. 1 ≤ ends nat_eq x rest) e (ends_second v u rest i))) in
       let j : Joined (EdgeOf one) u v = on here (inr i) in
       subst (λ x. Joined (EdgeOf one) x (moved v)) (sym a) (subst (λ y. Joined (EdgeOf one) u y) (sym d) j)
 
   return : (u v : ℕ) → IsIn (u, v) one → Joined (EdgeOf split) u v
   return u v (inl q) =
       let j : Joined (EdgeOf split) b c = on (back here (inl refl)) (inr (inl refl)) in
-      subst (λ x. Joined (EdgeOf split) x v) (sym (ap (λ (x : ℕ × ℕ). x.0) q)) (subst (λ y. Joined (EdgeOf split) b y) (sym (ap (λ (x : ℕ × ℕ). x.1) q)) j)
+      subst (λ x. Joined (EdgeOf split) x v) (sym (ap (λ (x : ℕ × ℕ). x.0) q))
+      (subst (λ y. Joined (EdgeOf split) b y) (sym (ap (λ (x : ℕ × ℕ). x.1) q)) j)
   return u v (inr i) = on here (inr (inr i))
 
   pub joined_after : (d e : ℕ) → d ≢ e0 → e ≢ e0 → Joined (EdgeOf es) d e ↔ Joined (EdgeOf fs) d e
   joined_after d e nd ne = (
-    (λ j. alike_joined one fs (alike_sym fs one to) d e (subst (λ x. Joined (EdgeOf one) x e) (moved_else d nd) (subst (λ y. Joined (EdgeOf one) (moved d) y) (moved_else e ne) (joined_image moved across (alike_joined es split from d e j))))),
+    (λ j. alike_joined one fs (alike_sym fs one to) d e
+        (subst (λ x. Joined (EdgeOf one) x e) (moved_else d nd)
+        (subst (λ y. Joined (EdgeOf one) (moved d) y) (moved_else e ne)
+        (joined_image moved across (alike_joined es split from d e j))))),
     (λ j. alike_joined split es (alike_sym es split from) d e (joined_map return (alike_joined fs one to d e j))),
   )
 
@@ -95,15 +105,28 @@ module _ (z : Parts) (N : NamedNet NodeName) (reached reached' : ℕ → Bool) (
     wires = λ e h. same_ends e (wire_other e h) ∙ before.wires e (kept e h);
     others = λ e some_end. other_end e some_end;
     links = λ p q d e hd he. (
-      (λ l. let t = (before.links p q d e hd he).0 l in record { first = λ h. t.first (kept d h); second = λ h. t.second (kept e h); apart = t.apart; joined = (joined_after d e (port_other p d hd) (port_other q e he)).0 t.joined }),
-      (λ t. (before.links p q d e hd he).1 (record { first = port_no_wire p d hd; second = port_no_wire q e he; apart = t.apart; joined = (joined_after d e (port_other p d hd) (port_other q e he)).1 t.joined })),
+      (λ l. let t = (before.links p q d e hd he).0 l in
+          record {
+            first = λ h. t.first (kept d h);
+            second = λ h. t.second (kept e h);
+            apart = t.apart;
+            joined = (joined_after d e (port_other p d hd) (port_other q e he)).0 t.joined;
+          }),
+      (λ t. (before.links p q d e hd he).1
+          (record {
+            first = port_no_wire p d hd;
+            second = port_no_wire q e he;
+            apart = t.apart;
+            joined = (joined_after d e (port_other p d hd) (port_other q e he)).1 t.joined;
+          })),
     );
   }
     where
       port_no_wire : (p : NamedPort NodeName) (e : ℕ) → IsEnd z N p e → IsWireEnd reached e → ⊥
       port_no_wire p e h t = omega (arith, before.ports p e h, before.wires e t)
 
-      still_end : (e : ℕ) → e ≢ e0 → ((p : NamedPort NodeName) × IsEnd z N p e) ⊎ IsWireEnd reached e → ((p : NamedPort NodeName) × IsEnd z N p e) ⊎ IsWireEnd reached' e
+      still_end : (e : ℕ) → e ≢ e0 → ((p : NamedPort NodeName) × IsEnd z N p e)
+          ⊎ IsWireEnd reached e → ((p : NamedPort NodeName) × IsEnd z N p e) ⊎ IsWireEnd reached' e
       still_end e d (inl t) = inl t
       still_end e d (inr t) = inr (t.0, still t.0 t.1 (λ q. d (t.2 ∙ ap wire_ref q)), t.2)
 

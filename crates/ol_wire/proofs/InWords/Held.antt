@@ -1,6 +1,8 @@
 -- A word that a view holds is empty and becomes what the view holds; a word that isn't empty stays as it is.
 -- Used in Closing, Credit, InWords, LinkSteps, Steps and Ticket.
-use Rattle.std.proofs.Common.{◌≡◌, ◌≢◌, ℕ, zero, suc, ◌+◌, ◌<◌, ◌≤◌, ◌==◌, if◌then◌else◌, nat_eq, eq-eqb, ne_eqb, List, [], ◌∷◌, get_or, ◌⊎◌, inl, inr, refl, sym, ap, ◌∙◌, subst, arith}
+use Rattle.std.proofs.Common.{◌≡◌, ◌≢◌, ℕ, zero, suc, ◌+◌, ◌<◌, ◌≤◌, ◌==◌, if◌then◌else◌, nat_eq}
+use Rattle.std.proofs.Common.{eq-eqb, ne_eqb, List, [], ◌∷◌, get_or, ◌⊎◌, inl, inr, refl, sym, ap}
+use Rattle.std.proofs.Common.{◌∙◌, subst, arith}
 use Rattle.std.proofs.lemmas.Bool.{cases_eq, cases_lt}
 use mathlib.Core.Option.{some}
 use lib.ListN.{get_elem?}
@@ -54,13 +56,15 @@ spot_empties w g z k = elim (cases_eq k w) [
 
 pub weigh_past : (w n : ℕ) (g : ℕ → ℕ) (words : List ℕ) → n ≤ w → weigh (spot w g) words n ≡ 0
 weigh_past w zero g words le = refl
-weigh_past w (suc n) g words le = omega (arith, weigh_past w n g words (omega arith), spot_else w n (get_or words n 0) g (λ e. omega arith))
+weigh_past w (suc n) g words le = omega
+    (arith, weigh_past w n g words (omega arith), spot_else w n (get_or words n 0) g (λ e. omega arith))
 
 pub weigh_spot : (w n : ℕ) (g : ℕ → ℕ) (words : List ℕ) → w < n → weigh (spot w g) words n ≡ g (get_or words w 0)
 weigh_spot w zero g words lt = absurd (omega arith)
 weigh_spot w (suc n) g words lt = elim (cases_eq n w) [
   | inl e ↦
-      let q : spot w g n (get_or words n 0) ≡ g (get_or words w 0) = ap (λ b. if b then g (get_or words n 0) else 0) (eq-eqb n w e) ∙ ap (λ v. g (get_or words v 0)) e in
+      let q : spot w g n (get_or words n 0) ≡ g (get_or words w 0) = ap
+      (λ b. if b then g (get_or words n 0) else 0) (eq-eqb n w e) ∙ ap (λ v. g (get_or words v 0)) e in
       omega (arith, weigh_past w n g words (omega (arith, e)), q)
   | inr d ↦ omega (arith, weigh_spot w n g words (omega arith), spot_else w n (get_or words n 0) g d)
 ]
@@ -74,7 +78,8 @@ pairs_spot_in w y g (e ∷ l) (inl q) =
     omega (arith, r, b)
 pairs_spot_in w y g (e ∷ l) (inr h) = omega (arith, pairs_spot_in w y g l h)
 
-pub pairs_spot_from : (w : ℕ) (g : ℕ → ℕ) (l : List (ℕ × ℕ)) → 0 < pairs (spot w g) l → (y : ℕ) × IsIn (w, y) l × (0 < g y)
+pub pairs_spot_from : (w : ℕ) (g : ℕ → ℕ) (l : List (ℕ × ℕ)) → 0 < pairs (spot w g) l →
+    (y : ℕ) × IsIn (w, y) l × (0 < g y)
 pairs_spot_from w g [] h = absurd (omega (arith, h))
 pairs_spot_from w g (e ∷ l) h = elim (cases_eq (spot w g e.0 e.1) 0) [
   | inl z ↦ let t = pairs_spot_from w g l (omega (arith, h, z)) in (t.0, inr t.1, t.2)
@@ -101,7 +106,8 @@ module _ {A : Type 0} (f : A → ℕ) where
   ]
 
   -- two members of a list weigh at most what all do
-  pub two_at : (xs : List A) (i j : ℕ) (x y : A) → i ≢ j → get_elem? xs i ≡ some x → get_elem? xs j ≡ some y → f x + f y ≤ total f xs
+  pub two_at : (xs : List A) (i j : ℕ) (x y : A) → i ≢ j → get_elem? xs i ≡ some x →
+      get_elem? xs j ≡ some y → f x + f y ≤ total f xs
   two_at [] i j x y d h q = absurd (cc)
   two_at (z ∷ xs) zero zero x y d h q = absurd (d refl)
   two_at (z ∷ xs) zero (suc j) x y d h q = let e : z ≡ x = cc in omega (arith, ap f e, total_at xs j y q)
@@ -146,7 +152,9 @@ module _ (p : Plan) (s : Table) (k : Kept p s) where
       let some_y = held_some v w y is h in
       value_of y (get_or k.full w 0) (omega (
         arith,
-        k.words.written (spot w (is_value y)) (spot_empties w (is_value y) (let q : is_value y 0 ≡ 0 = ap (λ b. if b then 1 else 0) (ne_eqb 0 y (λ e. some_y (sym e))) in q)),
+        k.words.written (spot w (is_value y))
+            (spot_empties w (is_value y) (let q : is_value y 0 ≡ 0 = ap (λ b. if b then 1 else 0)
+            (ne_eqb 0 y (λ e. some_y (sym e))) in q)),
         weigh_spot w (table_size p.parts) (is_value y) k.full (held_within v w y is h),
         total_at (held (spot w (is_value y))) s.views is.0 v is.1,
         held_one v w y (is_value y) h,
@@ -176,24 +184,38 @@ module _ (p : Plan) (s : Table) (k : Kept p s) where
       let y : ℕ = get_or s.words w 0 in
       value_of y (get_or k.full w 0) (omega (
         arith,
-        k.words.written (spot w (is_value y)) (spot_empties w (is_value y) (let q : is_value y 0 ≡ 0 = ap (λ b. if b then 1 else 0) (ne_eqb 0 y (λ e. n (sym e))) in q)),
+        k.words.written (spot w (is_value y))
+            (spot_empties w (is_value y) (let q : is_value y 0 ≡ 0 = ap (λ b. if b then 1 else 0)
+            (ne_eqb 0 y (λ e. n (sym e))) in q)),
         weigh_spot w (table_size p.parts) (is_value y) s.words lt,
         weigh_spot w (table_size p.parts) (is_value y) k.full lt,
         value_same y,
       ))
 
   -- a word that will not be empty is written already, or some view holds it
-  pub owner : (w : ℕ) → w < table_size p.parts → get_or k.full w 0 ≢ 0 → (get_or s.words w 0 ≡ get_or k.full w 0) ⊎ ((v : View) × IsView s v × Holds v w (get_or k.full w 0))
+  pub owner : (w : ℕ) → w < table_size p.parts → get_or k.full w 0 ≢ 0 →
+      (get_or s.words w 0 ≡ get_or k.full w 0) ⊎ ((v : View) × IsView s v × Holds v w (get_or k.full w 0))
   owner w lt n = elim (cases_eq (get_or s.words w 0) y) [
     | inl e ↦ inl e
-    | inr d ↦ inr (of_view (total_from (held (spot w (is_value y))) s.views (omega (arith, eq, weigh_spot w (table_size p.parts) (is_value y) s.words lt, weigh_spot w (table_size p.parts) (is_value y) k.full lt, value_same y, no_value d))))
+    | inr d ↦ inr (of_view (total_from (held (spot w (is_value y))) s.views
+        (omega (
+          arith,
+          eq,
+          weigh_spot w (table_size p.parts) (is_value y) s.words lt,
+          weigh_spot w (table_size p.parts) (is_value y) k.full lt,
+          value_same y,
+          no_value d,
+        ))))
   ]
     where
       y : ℕ
       y = get_or k.full w 0
 
-      eq : weigh (spot w (is_value y)) s.words (table_size p.parts) + total (held (spot w (is_value y))) s.views ≡ weigh (spot w (is_value y)) k.full (table_size p.parts)
-      eq = k.words.written (spot w (is_value y)) (spot_empties w (is_value y) (let q : is_value y 0 ≡ 0 = ap (λ b. if b then 1 else 0) (ne_eqb 0 y (λ e. n (sym e))) in q))
+      eq : weigh (spot w (is_value y)) s.words (table_size p.parts) + total
+          (held (spot w (is_value y))) s.views ≡ weigh (spot w (is_value y)) k.full (table_size p.parts)
+      eq = k.words.written (spot w (is_value y))
+          (spot_empties w (is_value y) (let q : is_value y 0 ≡ 0 = ap (λ b. if b then 1 else 0)
+          (ne_eqb 0 y (λ e. n (sym e))) in q))
 
       no_value : get_or s.words w 0 ≢ y → is_value y (get_or s.words w 0) ≡ 0
       no_value d = ap (λ b. if b then 1 else 0) (ne_eqb (get_or s.words w 0) y d)
@@ -201,8 +223,11 @@ module _ (p : Plan) (s : Table) (k : Kept p s) where
       is_held : (v : View) (x : ℕ) → (IsIn (w, x) v.due ⊎ IsIn (w, x) v.taken) → 0 < is_value y x → Holds v w y
       is_held v x h g = subst (λ x. Holds v w x) (value_of y x g) h
 
-      of_view : (i : ℕ) × (v : View) × (get_elem? s.views i ≡ some v) × (0 < held (spot w (is_value y)) v) → (v : View) × IsView s v × Holds v w y
+      of_view : (i : ℕ) × (v : View) × (get_elem? s.views i ≡ some v)
+          × (0 < held (spot w (is_value y)) v) → (v : View) × IsView s v × Holds v w y
       of_view t = elim (cases_eq (pairs (spot w (is_value y)) t.1.due) 0) [
-        | inl z ↦ let u = pairs_spot_from w (is_value y) t.1.taken (omega (arith, t.3, z)) in (t.1, (t.0, t.2), is_held t.1 u.0 (inr u.1) u.2)
-        | inr m ↦ let u = pairs_spot_from w (is_value y) t.1.due (omega (arith, m)) in (t.1, (t.0, t.2), is_held t.1 u.0 (inl u.1) u.2)
+        | inl z ↦ let u = pairs_spot_from w (is_value y) t.1.taken (omega (arith, t.3, z)) in
+            (t.1, (t.0, t.2), is_held t.1 u.0 (inr u.1) u.2)
+        | inr m ↦ let u = pairs_spot_from w (is_value y) t.1.due (omega (arith, m)) in
+            (t.1, (t.0, t.2), is_held t.1 u.0 (inl u.1) u.2)
       ]

@@ -3,7 +3,8 @@
 use Rattle.std.proofs.Common.{◌≡◌, ◌≢◌, ℕ, ◌+◌, ◌*◌, ◌/◌, ◌%◌, ◌<◌, refl, ap, ◌∙◌, sym, arith}
 use Rattle.ol_net.specs.declared.parts.Kind.{Kind}
 use Rattle.ol_net.specs.declared.parts.Kind.TheVariants as kind
-use Rattle.ol_wire.specs.References.{kind_number, kind_numbered, node_ref, wire_ref, slot_ref, kind_in, index_in, place_in}
+use Rattle.ol_wire.specs.References.{kind_number, kind_numbered, node_ref, wire_ref, slot_ref}
+use Rattle.ol_wire.specs.References.{kind_in, index_in, place_in}
 
 kind_read : (k : Kind) → kind_numbered (kind_number k) ≡ k
 kind_read kind.Lam = refl
@@ -31,7 +32,8 @@ high_digits : (n i place : ℕ) → n < 8 → i < 16777216 → (1 + 4 * n + 32 *
 high_digits n i place lt small = omega arith
 
 pub kind_of_ref : (k : Kind) (i place : ℕ) → kind_in (node_ref k i place) ≡ k
-kind_of_ref k i place = ap kind_numbered (low_digits (kind_number k) i place (omega (arith, kind_small k))) ∙ kind_read k
+kind_of_ref k i place = ap kind_numbered
+    (low_digits (kind_number k) i place (omega (arith, kind_small k))) ∙ kind_read k
 
 pub index_of_ref : (k : Kind) (i place : ℕ) → i < 16777216 → index_in (node_ref k i place) ≡ i
 index_of_ref k i place small = middle_digits (kind_number k) i place (omega (arith, kind_small k)) small
@@ -51,9 +53,14 @@ wire_sort place = omega arith
 pub slot_sort : (place : ℕ) → slot_ref place % 4 ≡ 3
 slot_sort place = omega arith
 
-pub node_same : (k l : Kind) (i j p q : ℕ) → i < 16777216 → j < 16777216 → node_ref k i p ≡ node_ref l j q → (k ≡ l) × (i ≡ j) × (p ≡ q)
-node_same k l i j p q si sj e =
-    (sym (kind_of_ref k i p) ∙ ap kind_in e ∙ kind_of_ref l j q, sym (index_of_ref k i p si) ∙ ap index_in e ∙ index_of_ref l j q sj, sym (place_of_ref k i p si) ∙ ap place_in e ∙ place_of_ref l j q sj)
+pub node_same : (k l : Kind) (i j p q : ℕ) → i < 16777216 → j < 16777216 →
+    node_ref k i p ≡ node_ref l j q → (k ≡ l) × (i ≡ j) × (p ≡ q)
+node_same k l i j p q si sj e = (
+  sym (kind_of_ref k i p) ∙ ap kind_in e ∙ kind_of_ref l j q,
+  sym (index_of_ref k i p si)
+      ∙ ap index_in e ∙ index_of_ref l j q sj,
+  sym (place_of_ref k i p si) ∙ ap place_in e ∙ place_of_ref l j q sj,
+)
 
 pub wire_same : (p q : ℕ) → wire_ref p ≡ wire_ref q → p ≡ q
 wire_same p q e = omega arith

@@ -1,6 +1,8 @@
 -- Sums over views and over pending links of which one changes, by place.
 -- Used in Cells, Keep and Steps.Join.
-use Rattle.std.proofs.Common.{◌≡◌, ◌≢◌, ℕ, suc, ◌+◌, ◌<◌, ◌≤◌, ◌⊎◌, nat_eq, eq-eqb, ne_eqb, if◌then◌else◌, List, [], ◌∷◌, length, set, sym, refl, ap, ◌∙◌, subst, inl, inr, arith}
+use Rattle.std.proofs.Common.{◌≡◌, ◌≢◌, ℕ, suc, ◌+◌, ◌<◌, ◌≤◌, ◌⊎◌, nat_eq, eq-eqb, ne_eqb}
+use Rattle.std.proofs.Common.{if◌then◌else◌, List, [], ◌∷◌, length, set, sym, refl, ap, ◌∙◌, subst}
+use Rattle.std.proofs.Common.{inl, inr, arith}
 use Rattle.std.proofs.lemmas.Bool.{cases_eq}
 use mathlib.Core.Option.{some}
 use lib.ListN.{get_elem?}
@@ -11,7 +13,9 @@ use Rattle.ol_wire.specs.Weights.{weighed_by_place, pairs}
 use Rattle.ol_wire.specs.Rule.{links_at}
 
 -- what holds of the new one, and of each other by its place, holds of each
-pub each_else : {A : Type 0} (P : A → Type 0) (l : List A) (id : ℕ) (w : A) → P w → ((j : ℕ) (u : A) → j ≢ id → get_elem? l j ≡ some u → P u) → (j : ℕ) (u : A) → get_elem? (set l id w) j ≡ some u → P u
+pub each_else : {A : Type 0} (P : A → Type 0) (l : List A) (id : ℕ) (w : A) → P w →
+    ((j : ℕ) (u : A) → j ≢ id → get_elem? l j ≡ some u → P u) → (j : ℕ) (u : A) →
+    get_elem? (set l id w) j ≡ some u → P u
 each_else {A} P l id w new old j u e = of (at_set l id j w u e)
   where
     of : ((j ≡ id) × (w ≡ u)) ⊎ ((j ≢ id) × (get_elem? l j ≡ some u)) → P u
@@ -40,7 +44,8 @@ at_number n k x = if nat_eq k n then 1 else 0
 
 pub number_in : {A : Type 0} (n : ℕ) (x : A) (xs : List (ℕ × A)) → IsIn (n, x) xs → 1 ≤ pairs (at_number n) xs
 number_in n x [] h = elim h [ ]
-number_in {A} n x (y ∷ xs) (inl q) = let e : at_number n y.0 y.1 ≡ 1 = ap (λ b. if b then 1 else 0) (eq-eqb y.0 n (sym (ap (λ (m : ℕ × A). m.0) q))) in omega (arith, e)
+number_in {A} n x (y ∷ xs) (inl q) = let e : at_number n y.0 y.1 ≡ 1 = ap (λ b. if b then 1 else 0)
+    (eq-eqb y.0 n (sym (ap (λ (m : ℕ × A). m.0) q))) in omega (arith, e)
 number_in n x (y ∷ xs) (inr h) = omega (arith, number_in n x xs h)
 
 pub number_below : {A : Type 0} (n k : ℕ) (xs : List A) → 1 ≤ weighed_by_place (at_number n) k xs → n < k + length xs

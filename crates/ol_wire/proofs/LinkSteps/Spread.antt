@@ -1,6 +1,7 @@
 -- How often the words of dead wires stand in a list.
 -- Used in Exchange.
-use Rattle.std.proofs.Common.{◌≡◌, ◌≢◌, ℕ, zero, suc, ◌+◌, ◌<◌, ◌≤◌, nat_eq, eq-eqb, ne_eqb, if◌then◌else◌, List, [], ◌∷◌, ◌++◌, refl, ap, inl, inr, arith}
+use Rattle.std.proofs.Common.{◌≡◌, ◌≢◌, ℕ, zero, suc, ◌+◌, ◌<◌, ◌≤◌, nat_eq, eq-eqb, ne_eqb}
+use Rattle.std.proofs.Common.{if◌then◌else◌, List, [], ◌∷◌, ◌++◌, refl, ap, inl, inr, arith}
 use Rattle.std.proofs.lemmas.Bool.{cases_eq}
 use Rattle.ol_wire.specs.Edges.{times_in}
 use Rattle.ol_wire.specs.LinkSteps.{spread}
@@ -21,7 +22,12 @@ times_more a xs u = omega (arith, total_append (λ y. if nat_eq y a then 1 else 
 
 spread_past : (n : ℕ) (xs : List ℕ) (u : ℕ) → n ≤ u → spread n (xs ++ u ∷ []) ≡ spread n xs
 spread_past zero xs u le = refl
-spread_past (suc n) xs u le = omega (arith, spread_past n xs u (omega arith), times_more n xs u, one_other u n (λ e. omega arith))
+spread_past (suc n) xs u le = omega (
+  arith,
+  spread_past n xs u (omega arith),
+  times_more n xs u,
+  one_other u n (λ e. omega arith),
+)
 
 pub spread_more : (n : ℕ) (xs : List ℕ) (u : ℕ) → u < n → spread n (xs ++ u ∷ []) ≡ spread n xs + 1
 spread_more zero xs u lt = absurd (omega arith)

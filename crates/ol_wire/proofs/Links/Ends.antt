@@ -1,6 +1,8 @@
 -- The ends of the ports of the nets before and after a ticket: a port has one end, an end one port.
 -- Used in After, Joins and Moved.
-use Rattle.std.proofs.Common.{◌≡◌, ◌≢◌, ℕ, zero, suc, ◌+◌, ◌<◌, ◌≤◌, Bool, true, false, if◌then◌else◌, nat_eq, ◌⊎◌, inl, inr, List, refl, sym, ap, ◌∙◌, subst, arith}
+use Rattle.std.proofs.Common.{◌≡◌, ◌≢◌, ℕ, zero, suc, ◌+◌, ◌<◌, ◌≤◌, Bool, true, false}
+use Rattle.std.proofs.Common.{if◌then◌else◌, nat_eq, ◌⊎◌, inl, inr, List, refl, sym, ap, ◌∙◌, subst}
+use Rattle.std.proofs.Common.{arith}
 use Rattle.std.proofs.lemmas.Bool.{cases_eq}
 use Rattle.ol_edges.specs.Edges.{Joined, EdgeOf, ends}
 use Rattle.ol_edges.proofs.Contraction.{ends_in}
@@ -12,7 +14,8 @@ use Rattle.ol_net.specs.Parts.{arity}
 use Rattle.ol_net.specs.Nets.{NamedNet, NamedPort, free, slot, HasNode, Linked, IsPort, IsSlotOf}
 use Rattle.ol_rules.specs.declared.journal.NodeName.{NodeName}
 use Rattle.ol_rules.specs.declared.journal.NodeName.TheVariants.{Init, Born}
-use Rattle.ol_rules.specs.Rewriting.{meeting, crossing, is_meeting, index_after, action_of, NodeOf, left, of_f, of_g, Rewrites}
+use Rattle.ol_rules.specs.Rewriting.{meeting, crossing, is_meeting, index_after, action_of, NodeOf}
+use Rattle.ol_rules.specs.Rewriting.{left, of_f, of_g, Rewrites}
 use Rattle.ol_rules.proofs.Tests.{nat_test}
 use Rattle.ol_wire.specs.declared.layout.Parts.{Parts}
 use Rattle.ol_wire.specs.References.{node_ref, wire_ref, slot_ref}
@@ -37,11 +40,13 @@ placed_later : (z : Parts) (t : ℕ) (u : NodeName) → IsPlaced z t u → IsPla
 placed_later z t (Init n) h = h
 placed_later z t (Born s q) h = (omega (arith, h.0), h.1)
 
-module _ {z : Parts} {N M : NamedNet NodeName} {x y : NodeName} {k l : Kind} {i j t : ℕ} {r : Rule} {a b : ℕ → ℕ} {es fs rest : List (ℕ × ℕ)} {reached reached' : ℕ → Bool}
+module _ {z : Parts} {N M : NamedNet NodeName} {x y : NodeName} {k l : Kind} {i j t : ℕ} {r : Rule}
+    {a b : ℕ → ℕ} {es fs rest : List (ℕ × ℕ)} {reached reached' : ℕ → Bool}
     (c : Rewritten z N M x y k l i j t r a b es fs rest reached reached') where
   -- the copies of x, and behind them those of y
   abbrev pub IsCopy : ℕ → Kind → ℕ → Type 0
-  IsCopy q m n = ((q < arity l) × (m ≡ k) × (n ≡ i)) ⊎ ((arity l ≤ q) × (q < arity l + arity k) × (m ≡ l) × (n ≡ index_after r j))
+  IsCopy q m n = ((q < arity l) × (m ≡ k) × (n ≡ i))
+      ⊎ ((arity l ≤ q) × (q < arity l + arity k) × (m ≡ l) × (n ≡ index_after r j))
 
   abbrev pub IsBornNode : NodeName → Kind → ℕ → Type 0
   IsBornNode u m n = (q : ℕ) × (u ≡ Born t q) × (is_meeting r ≡ false) × IsCopy q m n
@@ -57,7 +62,8 @@ module _ {z : Parts} {N M : NamedNet NodeName} {x y : NodeName} {k l : Kind} {i 
   StandsAt (slot u (suc s)) e = (m : Kind) × (n : ℕ) × IsKnown u m n × (s < arity m) × (e ≡ slot_ref (place_of z u + s))
 
   not_born : (u : NodeName) (m : Kind) (n q : ℕ) → HasNode N u m n → u ≡ Born t q → ⊥
-  not_born u m n q h e = let p : IsPlaced z t (Born t q) = subst (IsPlaced z t) e (c.names u m n h) in omega (arith, p.0)
+  not_born u m n q h e = let p : IsPlaced z t (Born t q) = subst (IsPlaced z t) e
+      (c.names u m n h) in omega (arith, p.0)
 
   same_copy : (p q : ℕ) (m m' : Kind) (n n' : ℕ) → p ≡ q → IsCopy p m n → IsCopy q m' n' → (m ≡ m') × (n ≡ n')
   same_copy p q m m' n n' e (inl u) (inl v) = (u.1 ∙ sym v.1, u.2 ∙ sym v.2)
@@ -99,8 +105,10 @@ module _ {z : Parts} {N M : NamedNet NodeName} {x y : NodeName} {k l : Kind} {i 
       q ∙ ap (λ m. node_ref m n (place_of z u)) s.0 ∙ ap (λ n. node_ref m' n (place_of z u)) s.1 ∙ sym q'
   one_end (slot u (suc s)) d e (m, n, h, lt, q) (m', n', h', lt', q') = q ∙ sym q'
 
-  same_place : (u u' : NodeName) (m m' : Kind) (n n' s s' : ℕ) → IsKnown u m n → IsKnown u' m' n' → s < 2 → s' < 2 → place_of z u + s ≡ place_of z u' + s' → (u ≡ u') × (s ≡ s')
-  same_place u u' m m' n n' s s' h h' lt lt' e = place_same z u u' s s' (suc t) (known_placed u m n h) (known_placed u' m' n' h') lt lt' e
+  same_place : (u u' : NodeName) (m m' : Kind) (n n' s s' : ℕ) → IsKnown u m n → IsKnown u' m' n' →
+      s < 2 → s' < 2 → place_of z u + s ≡ place_of z u' + s' → (u ≡ u') × (s ≡ s')
+  same_place u u' m m' n n' s s' h h' lt lt' e = place_same z u u' s s' (suc t)
+      (known_placed u m n h) (known_placed u' m' n' h') lt lt' e
 
   pub one_port : (p q : NamedPort NodeName) (e : ℕ) → StandsAt p e → StandsAt q e → p ≡ q
   one_port (free n) (free n') e h h' = let d : n ≡ n' = omega (arith, h.1, h'.1) in ap (λ n. free n) d
@@ -111,12 +119,14 @@ module _ {z : Parts} {N M : NamedNet NodeName} {x y : NodeName} {k l : Kind} {i 
   one_port (slot u zero) (slot u' (suc s)) e (m, o, w, q) (m', o', w', lt, q') = absurd (omega (arith, q, q'))
   one_port (slot u (suc s)) (slot u' zero) e (m, o, w, lt, q) (m', o', w', q') = absurd (omega (arith, q, q'))
   one_port (slot u zero) (slot u' zero) e (m, o, w, q) (m', o', w', q') =
-      let p = (node_same m m' o o' (place_of z u) (place_of z u') (known_small u m o w) (known_small u' m' o' w') (sym q ∙ q')).2 in
+      let p = (node_same m m' o o' (place_of z u) (place_of z u') (known_small u m o w)
+      (known_small u' m' o' w') (sym q ∙ q')).2 in
       let d = (same_place u u' m m' o o' 0 0 w w' (omega arith) (omega arith) (omega (arith, p))).0 in
       ap (λ u. slot u 0) d
   one_port (slot u (suc s)) (slot u' (suc s')) e (m, o, w, lt, q) (m', o', w', lt', q') =
       let p = slot_same (place_of z u + s) (place_of z u' + s') (sym q ∙ q') in
-      let d = same_place u u' m m' o o' s s' w w' (omega (arith, lt, at_most_two m)) (omega (arith, lt', at_most_two m')) p in
+      let d = same_place u u' m m' o o' s s' w w' (omega (arith, lt, at_most_two m))
+      (omega (arith, lt', at_most_two m')) p in
       ap (λ u. slot u (suc s)) d.0 ∙ ap (λ s. slot u' (suc s)) d.1
 
   -- no port has the end of a word behind the free ports
@@ -156,8 +166,10 @@ module _ {z : Parts} {N M : NamedNet NodeName} {x y : NodeName} {k l : Kind} {i 
 
   known_after : (u : NodeName) (m : Kind) (n : ℕ) → IsNodeAfter u m n → IsKnown u m n
   known_after u m n (left h d d') = inl h
-  known_after u m n (of_f {q = q} o e lt) = let s = crosses (is_meeting r) (index_after r j) o e in inr (q, refl, s.0, inl (lt, refl, refl))
-  known_after u m n (of_g {p = p} o e lt) = let s = crosses (is_meeting r) (index_after r j) o e in inr (arity l + p, refl, s.0, inr (omega arith, omega (arith, lt), refl, s.1))
+  known_after u m n (of_f {q = q} o e lt) = let s = crosses (is_meeting r) (index_after r j) o e in
+      inr (q, refl, s.0, inl (lt, refl, refl))
+  known_after u m n (of_g {p = p} o e lt) = let s = crosses (is_meeting r) (index_after r j) o e in
+      inr (arity l + p, refl, s.0, inr (omega arith, omega (arith, lt), refl, s.1))
 
   pub born_not_x : (q : ℕ) → Born t q ≢ x
   born_not_x q e = not_born x k i q c.faces.first (sym e)
@@ -187,7 +199,8 @@ module _ {z : Parts} {N M : NamedNet NodeName} {x y : NodeName} {k l : Kind} {i 
   apart_after p e (of_port {n = n} lt) (s, inl h) = absurd (cc)
   apart_after p e (of_port {n = n} lt) (s, inr h) = absurd (cc)
   apart_after p e (principal {x = u} m n h) s = let d = gone u m n (node_after u m n h) in slot_apart u 0 d.0 d.1 s
-  apart_after p e (auxiliary {x = u} {s = o} m n h lt) s = let d = gone u m n (node_after u m n h) in slot_apart u (suc o) d.0 d.1 s
+  apart_after p e (auxiliary {x = u} {s = o} m n h lt) s = let d = gone u m n
+      (node_after u m n h) in slot_apart u (suc o) d.0 d.1 s
 
   pub x_not_y : x ≢ y
   x_not_y e = c.is_net.apart (slot x 0) (subst (λ u. Linked N (slot x 0) (slot u 0)) (sym e) c.faces.linked)
@@ -210,17 +223,20 @@ module _ {z : Parts} {N M : NamedNet NodeName} {x y : NodeName} {k l : Kind} {i 
   ]
 
   -- what the edges join is linked
-  pub met : (p q : NamedPort NodeName) (d e : ℕ) → StandsAt p d → StandsAt q e → Joined (EdgeOf es) d e → (p ≡ q) ⊎ Linked N p q
+  pub met : (p q : NamedPort NodeName) (d e : ℕ) → StandsAt p d → StandsAt q e →
+      Joined (EdgeOf es) d e → (p ≡ q) ⊎ Linked N p q
   met p q d e h h' joins = go (stood p d h) (stood q e h') (cases_eq d e)
     where
       same : d ≡ e → p ≡ q
       same o = one_port p q e (subst (StandsAt p) o h) h'
 
-      go : IsEnd z N p d ⊎ (ends nat_eq d es ≡ 0) → IsEnd z N q e ⊎ (ends nat_eq e es ≡ 0) → (d ≡ e) ⊎ (d ≢ e) → (p ≡ q) ⊎ Linked N p q
+      go : IsEnd z N p d ⊎ (ends nat_eq d es ≡ 0) → IsEnd z N q e ⊎ (ends nat_eq e es ≡ 0) →
+          (d ≡ e) ⊎ (d ≢ e) → (p ≡ q) ⊎ Linked N p q
       go f g (inl o) = inl (same o)
       go (inr none) g (inr o) = inl (same (alone d e none joins))
       go f (inr none) (inr o) = inl (same (sym (alone e d none (joined_sym joins))))
-      go (inl f) (inl g) (inr o) = inr ((c.before.links p q d e f g).1 (record { first = not_wire_before p d h; second = not_wire_before q e h'; apart = o; joined = joins }))
+      go (inl f) (inl g) (inr o) = inr ((c.before.links p q d e f g).1
+          (record { first = not_wire_before p d h; second = not_wire_before q e h'; apart = o; joined = joins }))
 
   end_of : (p : NamedPort NodeName) → IsPort N p → (e : ℕ) × IsEnd z N p e
   end_of (free n) lt = (wire_ref (port_word n), of_port lt)
@@ -235,10 +251,12 @@ module _ {z : Parts} {N M : NamedNet NodeName} {x y : NodeName} {k l : Kind} {i 
       let g = end_of q s.1 in
       ((f.0, stands_before p f.0 f.1), (g.0, stands_before q g.0 g.1))
 
-  pub linked : (p q : NamedPort NodeName) (d e : ℕ) → Linked N p q → StandsAt p d → StandsAt q e → Joined (EdgeOf es) d e
+  pub linked : (p q : NamedPort NodeName) (d e : ℕ) → Linked N p q → StandsAt p d → StandsAt q e →
+      Joined (EdgeOf es) d e
   linked p q d e h h' h'' =
       let s = c.is_net.of_ports p q h in
       let f = end_of p s.0 in
       let g = end_of q s.1 in
       let o = (c.before.links p q f.0 g.0 f.1 g.1).0 h in
-      subst (λ d. Joined (EdgeOf es) d e) (one_end p f.0 d (stands_before p f.0 f.1) h') (subst (λ e. Joined (EdgeOf es) f.0 e) (one_end q g.0 e (stands_before q g.0 g.1) h'') o.joined)
+      subst (λ d. Joined (EdgeOf es) d e) (one_end p f.0 d (stands_before p f.0 f.1) h')
+      (subst (λ e. Joined (EdgeOf es) f.0 e) (one_end q g.0 e (stands_before q g.0 g.1) h'') o.joined)

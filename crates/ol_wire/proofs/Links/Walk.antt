@@ -5,7 +5,8 @@ use Rattle.ol_edges.specs.Edges.{Joined, here, on, back, Edge}
 use Rattle.ol_edges.proofs.Joining.{joined_sym, joined_map, Follows, follow}
 
 -- Ports stand at ends. Links L of ports are what the edges E join; the joins J are the edges K.
-module _ {V W : Type 0} (At : V → W → Type 0) (L : V → V → Type 0) (P : V → Type 0) (J : V → V → Type 0) (E K : W → W → Type 0)
+module _ {V W : Type 0} (At : V → W → Type 0) (L : V → V → Type 0) (P : V → Type 0)
+    (J : V → V → Type 0) (E K : W → W → Type 0)
     (one_end : (p : V) (d e : W) → At p d → At p e → d ≡ e)
     (ended : (p q : V) → L p q → ((d : W) × At p d) × ((e : W) × At q e))
     (linked : (p q : V) (d e : W) → L p q → At p d → At q e → Joined E d e)
@@ -24,11 +25,14 @@ module _ {V W : Type 0} (At : V → W → Type 0) (L : V → V → Type 0) (P : 
 
   forth : (u v : V) (w : W) → Ports u v → At v w → (x : W) × At u x × Joined Ends x w
   forth u v w (inl h) r = let a = (ended u v h.0).0 in (a.0, a.1, by_edges (linked u v a.0 w h.0 a.1 r))
-  forth u v w (inr h) r = let j = join_ends u v h in (j.0, j.2, subst (λ w. Joined Ends j.0 w) (one_end v j.1 w j.3 r) (on here (inr j.4)))
+  forth u v w (inr h) r = let j = join_ends u v h in
+      (j.0, j.2, subst (λ w. Joined Ends j.0 w) (one_end v j.1 w j.3 r) (on here (inr j.4)))
 
   other_way : (u v : V) (w : W) → Ports u v → At u w → (x : W) × At v x × Joined Ends x w
-  other_way u v w (inl h) r = let a = (ended u v h.0).1 in (a.0, a.1, joined_sym (by_edges (linked u v w a.0 h.0 r a.1)))
-  other_way u v w (inr h) r = let j = join_ends u v h in (j.1, j.3, subst (λ w. Joined Ends j.1 w) (one_end u j.0 w j.2 r) (back here (inr j.4)))
+  other_way u v w (inl h) r = let a = (ended u v h.0).1 in
+      (a.0, a.1, joined_sym (by_edges (linked u v w a.0 h.0 r a.1)))
+  other_way u v w (inr h) r = let j = join_ends u v h in
+      (j.1, j.3, subst (λ w. Joined Ends j.1 w) (one_end u j.0 w j.2 r) (back here (inr j.4)))
 
   follows : Follows Ports Ends At
   follows = record { forth = forth; back' = other_way }

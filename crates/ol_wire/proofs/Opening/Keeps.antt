@@ -1,6 +1,8 @@
 -- The words of a start net meet the rule.
 -- Used in `lay`.
-use Rattle.std.proofs.Common.{is_some, count_by, length, ◌≡◌, ℕ, zero, suc, ◌+◌, ◌<◌, ◌≤◌, ◌&&◌, nat_eq, true, false, Bool, List, [], ◌∷◌, ◌++◌, slice_index, refl, sym, ap, ◌∙◌, subst, arith, inr}
+use Rattle.std.proofs.Common.{is_some, count_by, length, ◌≡◌, ℕ, zero, suc, ◌+◌, ◌<◌, ◌≤◌, ◌&&◌}
+use Rattle.std.proofs.Common.{nat_eq, true, false, Bool, List, [], ◌∷◌, ◌++◌, slice_index, refl}
+use Rattle.std.proofs.Common.{sym, ap, ◌∙◌, subst, arith, inr}
 use Rattle.std.proofs.lemmas.List.{append-nil}
 use mathlib.Core.Option as option
 use lib.ListN.{get_elem?}
@@ -47,12 +49,17 @@ only_view : {A : Type 0} (a b : A) (id : ℕ) → get_elem? (a ∷ []) id ≡ op
 only_view a b zero e = cc
 only_view a b (suc id) e = absurd (let bad : option.none ≡ option.some b = e in cc)
 
-edges_each : (z : Parts) (N : NamedNet NodeName) (reached : ℕ → Bool) (words : List ℕ) (n : ℕ) → edges_in z N reached words n ≡ each n (λ w. edge_in N (reached w) (part_of_word z w) w (slice_index words w) (slice_index words (suc w)))
+edges_each : (z : Parts) (N : NamedNet NodeName) (reached : ℕ → Bool) (words : List ℕ) (n : ℕ) →
+    edges_in z N reached words n ≡ each n
+    (λ w. edge_in N (reached w) (part_of_word z w) w (slice_index words w) (slice_index words (suc w)))
 edges_each z N reached words zero = refl
-edges_each z N reached words (suc n) = ap (λ es. es ++ edge_in N (reached n) (part_of_word z n) n (slice_index words n) (slice_index words (suc n))) (edges_each z N reached words n)
+edges_each z N reached words (suc n) = ap
+    (λ es. es ++ edge_in N (reached n) (part_of_word z n) n (slice_index words n)
+    (slice_index words (suc n))) (edges_each z N reached words n)
 
 -- a wire is made where it is one of the start
-wire_made : (z : Parts) (w : ℕ) (p : WordPart) → part_of_word z w ≡ p → is_wire_made [] p ≡ true → (j : ℕ) × (j < z.wires) × (w ≡ start_wire z j)
+wire_made : (z : Parts) (w : ℕ) (p : WordPart) → part_of_word z w ≡ p → is_wire_made [] p ≡ true →
+    (j : ℕ) × (j < z.wires) × (w ≡ start_wire z j)
 wire_made z w (part.wire j) e h = let t = is_wire z w j e in (j, t.0, t.1)
 wire_made z w (part.between t q p) e h = absurd (let bad : false ≡ true = h in cc)
 wire_made z w part.ticket e h = absurd (let bad : false ≡ true = h in cc)
@@ -76,7 +83,8 @@ pub record IsStart (net : Graph) (fuel : ℕ) (z : Parts) (words : List ℕ) : T
   pub tabled : IsTabled net.free net.nodes net.partners
   pub indexes : HasIndexes net.nodes
 
-module _ (p : Plan) (fuel : ℕ) (words : List ℕ) (is : IsStart p.start.value fuel p.parts words) (some_seat : 0 < p.seats) (few_seats : p.seats ≤ 64) where
+module _ (p : Plan) (fuel : ℕ) (words : List ℕ) (is : IsStart p.start.value fuel p.parts words)
+    (some_seat : 0 < p.seats) (few_seats : p.seats ≤ 64) where
   abbrev g : Graph
   g = p.start.value
 
@@ -99,12 +107,16 @@ module _ (p : Plan) (fuel : ℕ) (words : List ℕ) (is : IsStart p.start.value 
     tabled = is.tabled;
     laid = is.laid;
     live = live_start g;
-    reaches = λ j lt. ap (λ pt. is_wire_made [] pt && nat_eq (deaths (start_wire z j) (opener p ∷ [])) 0) (part_wire z j lt);
-    only = λ w h. wire_made z w (part_of_word z w) refl (and_parts (is_made z [] w) (nat_eq (deaths w (opener p ∷ [])) 0) h).0;
+    reaches = λ j lt. ap (λ pt. is_wire_made [] pt && nat_eq
+        (deaths (start_wire z j) (opener p ∷ [])) 0) (part_wire z j lt);
+    only = λ w h. wire_made z w (part_of_word z w) refl
+        (and_parts (is_made z [] w) (nat_eq (deaths w (opener p ∷ [])) 0) h).0;
   }
 
   stands : StandsForNet z N reached (edges_of z N [] words (opener p ∷ []))
-  stands = subst (λ es. StandsForNet z N reached es) (sym (append-nil (edges_in z N reached words (table_size z)) ∙ edges_each z N reached words (table_size z))) (start_stands g z words reached given)
+  stands = subst (λ es. StandsForNet z N reached es)
+      (sym (append-nil (edges_in z N reached words (table_size z))
+      ∙ edges_each z N reached words (table_size z))) (start_stands g z words reached given)
 
   journal : JournalKeeps p [] N
   journal = record {
@@ -121,7 +133,8 @@ module _ (p : Plan) (fuel : ℕ) (words : List ℕ) (is : IsStart p.start.value 
         let t = node_from Init (net_of g) x k i h in
         let b = top_is_top g.nodes t.0 (k, i) ((has_node g t.0 k i).0 t.1) in
         omega (arith, b, is.low);
-    erasers = λ x k i h e. let t = node_from Init (net_of g) x k i h in is.indexes.erasers t.0 (k, i) ((has_node g t.0 k i).0 t.1) e;
+    erasers = λ x k i h e. let t = node_from Init (net_of g) x k i h in
+        is.indexes.erasers t.0 (k, i) ((has_node g t.0 k i).0 t.1) e;
     rules = λ t e h. absurd (none-some e h);
   }
 
@@ -174,8 +187,13 @@ module _ (p : Plan) (fuel : ℕ) (words : List ℕ) (is : IsStart p.start.value 
     all = omega arith;
     calm = omega (arith, is.laid.ticket);
     over = λ v h e. absurd (let bad : false ≡ true = sym (ap (λ (u : View). u.over) (view_is v h)) ∙ e in cc);
-    plans = λ v h held. (ap (λ (u : View). u.parts) (view_is v h), ap (λ (u : View). u.seats) (view_is v h), ap (λ (u : View). u.start) (view_is v h));
-    spent = λ v h e. absurd (let q : v.holds ≡ p.seats = ap (λ (u : View). u.holds) (view_is v h) in omega (arith, q, e, some_seat));
+    plans = λ v h held. (
+      ap (λ (u : View). u.parts) (view_is v h),
+      ap (λ (u : View). u.seats) (view_is v h),
+      ap (λ (u : View). u.start) (view_is v h),
+    );
+    spent = λ v h e. absurd (let q : v.holds ≡ p.seats = ap (λ (u : View). u.holds) (view_is v h) in
+        omega (arith, q, e, some_seat));
     taken = λ v w y h i. absurd (none_taken v (w, y) h i);
     due = λ v w y h i. absurd (none_due v (w, y) h i);
     links = λ v l h i. absurd (none_pending v l h i);
@@ -187,7 +205,13 @@ module _ (p : Plan) (fuel : ℕ) (words : List ℕ) (is : IsStart p.start.value 
   plan_keeps : PlanKeeps p
   plan_keeps = record {
     started = record { net = is.is_net; whole = is.whole; low = is.low };
-    parts = record { free = is.parts.free; nodes = is.parts.nodes; wires = is.parts.wires; cells = is.parts.cells; fuel = refl };
+    parts = record {
+      free = is.parts.free;
+      nodes = is.parts.nodes;
+      wires = is.parts.wires;
+      cells = is.parts.cells;
+      fuel = refl;
+    };
     small = is.small;
     seats = (some_seat, few_seats);
   }
@@ -199,7 +223,11 @@ module _ (p : Plan) (fuel : ℕ) (words : List ℕ) (is : IsStart p.start.value 
     full = words;
     from = [];
     plan = plan_keeps;
-    tickets = record { few = omega arith; below = λ lt. sym is.laid.ticket; above = λ le. omega (arith, le, is.laid.ticket) };
+    tickets = record {
+      few = omega arith;
+      below = λ lt. sym is.laid.ticket;
+      above = λ le. omega (arith, le, is.laid.ticket);
+    };
     journal = journal;
     words = words_keep;
     cells = cells_keep;
@@ -219,11 +247,16 @@ module _ (p : Plan) (fuel : ℕ) (words : List ℕ) (is : IsStart p.start.value 
   remembered : Remembered p start
   remembered = record {
     last = λ v h found. absurd (found (ap (λ (u : View). u.last.0) (view_is v h)));
-    taken = λ v w y h m. absurd (subst (λ (l : List (ℕ × ℕ)). IsIn {X = ℕ × ℕ} (w, y) l) (ap (λ (u : View). u.taken) (view_is v h)) m);
+    taken = λ v w y h m. absurd (subst (λ (l : List (ℕ × ℕ)). IsIn {X = ℕ × ℕ} (w, y) l)
+        (ap (λ (u : View). u.taken) (view_is v h)) m);
   }
 
   opens_ruled : IsRuled p start
   opens_ruled = (opens, credited, remembered)
 
-pub opens_as : (p : Plan) (net : Graph) (fuel : ℕ) (z : Parts) (words : List ℕ) → IsStart net fuel z words → p.parts ≡ z → p.start.value ≡ net → 0 < p.seats → p.seats ≤ 64 → IsRuled p (opening words [] (opener p))
-opens_as p net fuel z words is is_z is_net = opens_ruled p fuel words (subst (λ (n : Graph). IsStart n fuel p.parts words) (sym is_net) (subst (λ (y : Parts). IsStart net fuel y words) (sym is_z) is))
+pub opens_as : (p : Plan) (net : Graph) (fuel : ℕ) (z : Parts) (words : List ℕ) →
+    IsStart net fuel z words → p.parts ≡ z → p.start.value ≡ net → 0 < p.seats → p.seats ≤ 64 →
+    IsRuled p (opening words [] (opener p))
+opens_as p net fuel z words is is_z is_net = opens_ruled p fuel words
+    (subst (λ (n : Graph). IsStart n fuel p.parts words) (sym is_net)
+    (subst (λ (y : Parts). IsStart net fuel y words) (sym is_z) is))

@@ -1,6 +1,8 @@
 -- Steps on the live word keep the rule of the other words.
 -- Used in LinkSteps.Publish, Allowed, LiveAllowed and Remembering.
-use Rattle.std.proofs.Common.{◌≡◌, ℕ, zero, suc, ◌<◌, ◌⊎◌, Bool, List, [], ◌∷◌, length, get_or, set, refl, sym, ap, ◌∙◌, subst, arith, inl, inr, length-set, get_or-set_other}
+use Rattle.std.proofs.Common.{◌≡◌, ℕ, zero, suc, ◌<◌, ◌⊎◌, Bool, List, [], ◌∷◌, length, get_or, set}
+use Rattle.std.proofs.Common.{refl, sym, ap, ◌∙◌, subst, arith, inl, inr, length-set}
+use Rattle.std.proofs.Common.{get_or-set_other}
 use Rattle.std.proofs.lemmas.Bool.{cases_eq}
 use mathlib.Core.Option.{some, some-ne-none}
 use Rattle.std.proofs.lemmas.List.{set-get_or}
@@ -26,12 +28,15 @@ module _ (p : Plan) (s : Table) (k : Kept p s) where
     | inr n ↦ word_full p s k 1 (omega arith) n
   ]
     where
-      owned : (get_or s.words 1 0 ≡ get_or k.full 1 0) ⊎ ((v : View) × IsView s v × Holds v 1 (get_or k.full 1 0)) → get_or k.full 1 0 ≡ get_or s.words 1 0
+      owned : (get_or s.words 1 0 ≡ get_or k.full 1 0)
+          ⊎ ((v : View) × IsView s v × Holds v 1 (get_or k.full 1 0)) → get_or k.full 1 0 ≡ get_or s.words 1 0
       owned (inl e) = sym e
       owned (inr (v, is, inl due)) = absurd (k.seats.due v 1 (get_or k.full 1 0) is due).1
-      owned (inr (v, is, inr taken)) = let e : live_word ≡ left = (k.seats.taken v 1 (get_or k.full 1 0) is taken).0 in absurd (cc)
+      owned (inr (v, is, inr taken)) = let e : live_word ≡ left = (k.seats.taken v 1
+          (get_or k.full 1 0) is taken).0 in absurd (cc)
 
-  module _ (id : ℕ) (v : View) (here : get_elem? s.views id ≡ some v) (held : 0 < v.holds) (x owed : ℕ) (settled : Bool) (looked : List ℕ) where
+  module _ (id : ℕ) (v : View) (here : get_elem? s.views id ≡ some v) (held : 0 < v.holds)
+      (x owed : ℕ) (settled : Bool) (looked : List ℕ) where
     abbrev next : View
     next = record v { owed = owed; settled = settled; looked = looked }
 
@@ -79,8 +84,18 @@ set_over (x ∷ l) zero a b = refl
 set_over (x ∷ l) (suc i) a b = ap (λ xs. x ∷ xs) (set_over l i a b)
 
 -- what a view owes is nothing to the rule of the other words
-pub owed_keeps : (p : Plan) (s : Table) (i x id : ℕ) (w : View) → Kept p (after s i x id w) → id < length s.views → 0 < w.holds → (n : ℕ) → Kept p (after s i x id (record w { owed = n }))
+pub owed_keeps : (p : Plan) (s : Table) (i x id : ℕ) (w : View) → Kept p (after s i x id w) →
+    id < length s.views → 0 < w.holds → (n : ℕ) → Kept p (after s i x id (record w { owed = n }))
 owed_keeps p s i x id w k within held n =
-    let step = live_keeps p (after s i x id w) k id w (set_here s.views id w within) held (get_or (set s.words i x) 1 0) n w.settled w.looked in
-    subst (λ (us : List View). Kept p record { words = set s.words i x; homes = s.homes; views = us }) (set_over s.views id w (record w { owed = n }))
-    (subst (λ (us : List ℕ). Kept p record { words = us; homes = s.homes; views = set (set s.views id w) id (record w { owed = n }) }) (set-get_or (set s.words i x) 1 0) step)
+    let step = live_keeps p (after s i x id w) k id w (set_here s.views id w within) held
+    (get_or (set s.words i x) 1 0) n w.settled w.looked in
+    subst (λ (us : List View). Kept p record {
+      words = set s.words i x;
+      homes = s.homes;
+      views = us;
+    }) (set_over s.views id w (record w { owed = n }))
+    (subst (λ (us : List ℕ). Kept p record {
+      words = us;
+      homes = s.homes;
+      views = set (set s.views id w) id (record w { owed = n });
+    }) (set-get_or (set s.words i x) 1 0) step)

@@ -1,6 +1,7 @@
 -- What each kind of step on the live word asks of its seat.
 -- Used in `owe`, `read_live` and `repay`.
-use Rattle.std.proofs.Common.{◌≡◌, ℕ, ◌+◌, ◌-◌, ◌%◌, ◌^◌, ◌<◌, ◌≤◌, ◌||◌, nat_eq, List, [], ◌∷◌, ◌++◌, get_or, sym, refl, ap, ◌∙◌, subst, inl, arith}
+use Rattle.std.proofs.Common.{◌≡◌, ℕ, ◌+◌, ◌-◌, ◌%◌, ◌^◌, ◌<◌, ◌≤◌, ◌||◌, nat_eq, List, [], ◌∷◌}
+use Rattle.std.proofs.Common.{◌++◌, get_or, sym, refl, ap, ◌∙◌, subst, inl, arith}
 use Rattle.std.proofs.lemmas.List.{set-get_or}
 use native.Mathlib.Nat.{mod-eq_of_lt}
 use mathlib.Core.Option.{none, some}
@@ -27,24 +28,35 @@ use Rattle.ol_wire.proofs.Steps.Remembering.{plain_recalls, read_recalls}
 use Rattle.ol_wire.proofs.Steps.Sight.{one_plan}
 
 module _ (p : Plan) (slots id : ℕ) (m : Seated) (held : 0 < m.0.holds) where
-  pub owes_allowed : (w n : ℕ) → n ≤ 4 → IsInHand m.0 w → IsActiveLast m.0 → m.0.owed ≡ 0 → m.0.pending ≡ [] → Allows (IsRuled p) slots id m 1 (λ y. (y + n) % 2 ^ 64) (owes (step slots 1 n 0 none) m)
+  pub owes_allowed : (w n : ℕ) → n ≤ 4 → IsInHand m.0 w → IsActiveLast m.0 → m.0.owed ≡ 0 →
+      m.0.pending ≡ [] → Allows (IsRuled p) slots id m 1 (λ y. (y + n) % 2 ^ 64) (owes (step slots 1 n 0 none) m)
   owes_allowed w n few hand active owed pending s (k, c, r) homes here small =
       let y : ℕ = get_or s.words 1 0 in
-      let fits : y + n < 18446744073709551616 = omega (arith, live_small p s k c, few, k.plan.small.fuel, k.plan.small.cells, k.plan.seats.1) in
+      let fits : y + n < 18446744073709551616 = omega
+      (arith, live_small p s k c, few, k.plan.small.fuel, k.plan.small.cells, k.plan.seats.1) in
       let next : (y + n) % 2 ^ 64 ≡ y + n = mod-eq_of_lt fits in
-      let is = (k.seats.taken m.0 w m.0.last.0 (id, here) (subst (λ (l : List (ℕ × ℕ)). IsIn {X = ℕ × ℕ} (w, m.0.last.0) l) (sym hand.taken) (inl refl))).0 in
-      let P : ℕ → Type 0 = λ q. (u : View) × (a : Act (Unit {0})) × Valid s.homes m.1 a × IsRuled p (stepped s 1 q id m.1 u a) × owes (step slots 1 n 0 none) m y (u, carried_after m.1 a) in
+      let is = (k.seats.taken m.0 w m.0.last.0 (id, here)
+      (subst (λ (l : List (ℕ × ℕ)). IsIn {X = ℕ × ℕ} (w, m.0.last.0) l) (sym hand.taken) (inl refl))).0 in
+      let P : ℕ → Type 0 = λ q. (u : View) × (a : Act (Unit {0})) × Valid s.homes m.1 a
+      × IsRuled p (stepped s 1 q id m.1 u a) × owes (step slots 1 n 0 none) m y (u, carried_after m.1 a) in
       subst P (sym next) (
         owing m.0 n,
         keeps,
         tt,
-        (live_keeps p s k id m.0 here held (y + n) (m.0.owed + n) m.0.settled m.0.looked, owe_pays p s k c id m.0 here w is hand.taken hand.right active n few owed pending held, plain_recalls p s r id m.0 (owing m.0 n) 1 (y + n) here (λ q. cc) (λ q. cc) refl refl refl),
+        (
+          live_keeps p s k id m.0 here held (y + n) (m.0.owed + n) m.0.settled m.0.looked,
+          owe_pays p s k c id m.0 here w is hand.taken hand.right active n few owed pending held,
+          plain_recalls p s r id m.0 (owing m.0 n) 1 (y + n) here (λ q. cc) (λ q. cc) refl refl refl,
+        ),
         (refl, refl),
       )
 
-  pub repays_allowed : (n : ℕ) → m.0.owed ≡ n → m.0.pending ≡ [] → Allows (IsRuled p) slots id m 1 (λ y. (y + (2 ^ 64 - n)) % 2 ^ 64) (repays (step slots 1 n 0 none) m)
+  pub repays_allowed : (n : ℕ) → m.0.owed ≡ n → m.0.pending ≡ [] →
+      Allows (IsRuled p) slots id m 1 (λ y. (y + (2 ^ 64 - n)) % 2 ^ 64) (repays (step slots 1 n 0 none) m)
   repays_allowed n owed pending s (k, c, r) homes here small =
-      subst (λ (q : ℕ). (u : View) × (a : Act (Unit {0})) × Valid s.homes m.1 a × IsRuled p (stepped s 1 ((get_or s.words 1 0 + (2 ^ 64 - q)) % 2 ^ 64) id m.1 u a) × repays (step slots 1 q 0 none) m (get_or s.words 1 0) (u, carried_after m.1 a)) owed there
+      subst (λ (q : ℕ). (u : View) × (a : Act (Unit {0})) × Valid s.homes m.1 a
+      × IsRuled p (stepped s 1 ((get_or s.words 1 0 + (2 ^ 64 - q)) % 2 ^ 64) id m.1 u a)
+      × repays (step slots 1 q 0 none) m (get_or s.words 1 0) (u, carried_after m.1 a)) owed there
     where
       y : ℕ
       y = get_or s.words 1 0
@@ -55,17 +67,27 @@ module _ (p : Plan) (slots id : ℕ) (m : Seated) (held : 0 < m.0.holds) where
       next : (y + (2 ^ 64 - m.0.owed)) % 2 ^ 64 ≡ y - m.0.owed
       next = omega (arith, low, small)
 
-      there : (u : View) × (a : Act (Unit {0})) × Valid s.homes m.1 a × IsRuled p (stepped s 1 ((y + (2 ^ 64 - m.0.owed)) % 2 ^ 64) id m.1 u a) × repays (step slots 1 m.0.owed 0 none) m y (u, carried_after m.1 a)
-      there = subst (λ (q : ℕ). (u : View) × (a : Act (Unit {0})) × Valid s.homes m.1 a × IsRuled p (stepped s 1 q id m.1 u a) × repays (step slots 1 m.0.owed 0 none) m y (u, carried_after m.1 a)) (sym next) (
-        repaid m.0 m.0.owed,
-        keeps,
-        tt,
-        (live_keeps p s k id m.0 here held (y - m.0.owed) (m.0.owed - m.0.owed) m.0.settled m.0.looked, repay_pays p s k c id m.0 here pending, plain_recalls p s r id m.0 (repaid m.0 m.0.owed) 1 (y - m.0.owed) here (λ q. cc) (λ q. cc) refl refl refl),
-        (refl, refl),
-      )
+      there : (u : View) × (a : Act (Unit {0})) × Valid s.homes m.1 a
+          × IsRuled p (stepped s 1 ((y + (2 ^ 64 - m.0.owed)) % 2 ^ 64) id m.1 u a)
+          × repays (step slots 1 m.0.owed 0 none) m y (u, carried_after m.1 a)
+      there = subst (λ (q : ℕ). (u : View) × (a : Act (Unit {0})) × Valid s.homes m.1 a
+          × IsRuled p (stepped s 1 q id m.1 u a)
+          × repays (step slots 1 m.0.owed 0 none) m y (u, carried_after m.1 a)) (sym next) (
+            repaid m.0 m.0.owed,
+            keeps,
+            tt,
+            (
+              live_keeps p s k id m.0 here held (y - m.0.owed)
+                  (m.0.owed - m.0.owed) m.0.settled m.0.looked,
+              repay_pays p s k c id m.0 here pending,
+              plain_recalls p s r id m.0 (repaid m.0 m.0.owed) 1 (y - m.0.owed) here (λ q. cc) (λ q. cc) refl refl refl,
+            ),
+            (refl, refl),
+          )
 
 -- a look at the live word: the moment after it
-module _ (p : Plan) (id : ℕ) (v : View) (held : 0 < v.holds) (s : Table) (k : Kept p s) (c : Credited p s) (r : Remembered p s) (here : get_elem? s.views id ≡ some v) where
+module _ (p : Plan) (id : ℕ) (v : View) (held : 0 < v.holds) (s : Table) (k : Kept p s)
+    (c : Credited p s) (r : Remembered p s) (here : get_elem? s.views id ≡ some v) where
   abbrev y : ℕ
   y = get_or s.words 1 0
 
@@ -93,7 +115,23 @@ module _ (p : Plan) (id : ℕ) (v : View) (held : 0 < v.holds) (s : Table) (k : 
   told : (q : Plan) → KnowsPlan q v → MomentLive q (live_read v y) y
   told q knows =
       let same : p ≡ q = one_plan p q v (k.seats.plans v (id, here) held) knows in
-      subst (λ (t : Plan). MomentLive t (live_read v y) y) same (record { table = next; kept = kept; credit = credit; told = recalls; seen = seen }, stands, (λ e. quiet_complete p next kept credit (empty e)))
+      subst (λ (t : Plan). MomentLive t (live_read v y) y) same (
+        record { table = next; kept = kept; credit = credit; told = recalls; seen = seen },
+        stands,
+        (λ e. quiet_complete p next kept credit (empty e)),
+      )
 
-pub reads_live_allowed : (p : Plan) (slots id : ℕ) (m : Seated) → 0 < m.0.holds → Allows (IsRuled p) slots id m 1 (λ n. n) (reads_live (step slots 1 0 0 none) m)
-reads_live_allowed p slots id m held s (k, c, r) homes here small = (live_read m.0 (get_or s.words 1 0), keeps, tt, (kept p id m.0 held s k c r here, credit p id m.0 held s k c r here, recalls p id m.0 held s k c r here), (refl, refl, told p id m.0 held s k c r here))
+pub reads_live_allowed : (p : Plan) (slots id : ℕ) (m : Seated) → 0 < m.0.holds →
+    Allows (IsRuled p) slots id m 1 (λ n. n) (reads_live (step slots 1 0 0 none) m)
+reads_live_allowed p slots id m held s
+    (k, c, r) homes here small = (
+      live_read m.0 (get_or s.words 1 0),
+      keeps,
+      tt,
+      (
+        kept p id m.0 held s k c r here,
+        credit p id m.0 held s k c r here,
+        recalls p id m.0 held s k c r here,
+      ),
+      (refl, refl, told p id m.0 held s k c r here),
+    )

@@ -1,6 +1,7 @@
 -- Putting a claimed pair back keeps the rule.
 -- Used in Allowed.
-use Rattle.std.proofs.Common.{◌≡◌, ◌≢◌, ℕ, suc, ◌<◌, ◌⊎◌, None, List, [], ◌∷◌, length, get_or, set, sym, refl, ap, subst, inl, inr, arith, get_or-set_other}
+use Rattle.std.proofs.Common.{◌≡◌, ◌≢◌, ℕ, suc, ◌<◌, ◌⊎◌, None, List, [], ◌∷◌, length, get_or, set}
+use Rattle.std.proofs.Common.{sym, refl, ap, subst, inl, inr, arith, get_or-set_other}
 use mathlib.Core.Option.{some}
 use lib.ListN.{get_elem?}
 use Rattle.ol_edges.specs.Edges.{IsIn}
@@ -19,8 +20,10 @@ use Rattle.ol_wire.proofs.Steps.Plain.{left_past, left_passes}
 use Rattle.ol_wire.proofs.Steps.Pair.{full_of_claimed, right_of_claimed}
 use Rattle.ol_wire.proofs.Steps.Swept.{swept_stuck, swept_pair}
 
-module _ (p : Plan) (s : Table) (k : Kept p s) (id : ℕ) (v : View) (here : get_elem? s.views id ≡ some v) (held : 0 < v.holds) where
-  module _ (c w : ℕ) (low : c < cells_of p.parts) (at : w ≡ left_word p.parts c) (in_hand : v.taken ≡ (w, v.last.0) ∷ []) (right_known : IsIn (suc w, v.last.1) v.known) where
+module _ (p : Plan) (s : Table) (k : Kept p s) (id : ℕ) (v : View)
+    (here : get_elem? s.views id ≡ some v) (held : 0 < v.holds) where
+  module _ (c w : ℕ) (low : c < cells_of p.parts) (at : w ≡ left_word p.parts c)
+      (in_hand : v.taken ≡ (w, v.last.0) ∷ []) (right_known : IsIn (suc w, v.last.1) v.known) where
     abbrev x : ℕ
     x = v.last.0
 
@@ -45,9 +48,13 @@ module _ (p : Plan) (s : Table) (k : Kept p s) (id : ℕ) (v : View) (here : get
         cell : swept_on v (cell_at v.parts (cell_in_hand v.taken)) ≡ swept_on v (cell_at v.parts w)
         cell = ap (λ (l : List (ℕ × ℕ)). swept_on v (cell_at v.parts (cell_in_hand l))) in_hand
 
-        of : (n < v.swept) ⊎ ((rule_between v.last.0 v.last.1 ≡ None) × (rule_between v.last.1 v.last.0 ≡ None) × (n < swept_on v (cell_at v.parts (cell_in_hand v.taken)))) → (n < v.swept) ⊎ IsSwept p k.full v n
+        of : (n < v.swept) ⊎ ((rule_between v.last.0 v.last.1 ≡ None)
+            × (rule_between v.last.1 v.last.0 ≡ None)
+            × (n < swept_on v (cell_at v.parts (cell_in_hand v.taken)))) → (n < v.swept) ⊎ IsSwept p k.full v n
         of (inl lt') = inl lt'
-        of (inr h) = swept_pair p s k id v here held c w low at v.last.0 v.last.1 claimed.1 (right_of_claimed p s k v w v.last.0 v.last.1 (id, here) taken right_known) claimed.2 (h.0, h.1) n (omega (arith, h.2, cell))
+        of (inr h) = swept_pair p s k id v here held c w low at v.last.0 v.last.1 claimed.1
+            (right_of_claimed p s k v w v.last.0 v.last.1 (id, here) taken right_known) claimed.2
+            (h.0, h.1) n (omega (arith, h.2, cell))
 
     return : Change p s k v (returned v) w x k.full
     return = record {
@@ -61,7 +68,8 @@ module _ (p : Plan) (s : Table) (k : Kept p s) (id : ℕ) (v : View) (here : get
       same = λ u lt. refl;
       written = λ h z. omega (
         arith,
-        weigh_set h s.words (table_size p.parts) w x (held_within p s k v w x (id, here) (inr taken)) (omega (arith, k.words.wide)),
+        weigh_set h s.words (table_size p.parts) w x
+            (held_within p s k v w x (id, here) (inr taken)) (omega (arith, k.words.wide)),
         ap (h w) (held_empty p s k v w x (id, here) (inr taken)),
         z w,
         ap (pairs h) in_hand,

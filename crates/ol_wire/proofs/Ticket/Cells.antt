@@ -1,6 +1,10 @@
--- The cells after a ticket below the fuel: that of its pair stays empty, and its links are those of the cells in its own block.
+-- The cells after a ticket below the fuel: that of its pair stays empty, and its links are those of
+-- the cells in its own block.
 -- Used in Keeps and Seats.
-use Rattle.std.proofs.Common.{◌≡◌, ◌≢◌, ℕ, zero, suc, ◌+◌, ◌*◌, ◌<◌, ◌≤◌, if◌then◌else◌, nat_eq, eq-eqb, ne_eqb, ◌⊎◌, inl, inr, Option, Some, None, List, [], ◌∷◌, ◌++◌, length, slice_get, slice_index, sym, refl, ap, ◌∙◌, subst, arith}
+use Rattle.std.proofs.Common.{◌≡◌, ◌≢◌, ℕ, zero, suc, ◌+◌, ◌*◌, ◌<◌, ◌≤◌, if◌then◌else◌, nat_eq}
+use Rattle.std.proofs.Common.{eq-eqb, ne_eqb, ◌⊎◌, inl, inr, Option, Some, None, List, [], ◌∷◌}
+use Rattle.std.proofs.Common.{◌++◌, length, slice_get, slice_index, sym, refl, ap, ◌∙◌, subst}
+use Rattle.std.proofs.Common.{arith}
 use Rattle.std.proofs.lemmas.Bool.{cases_eq, cases_lt}
 use Rattle.std.proofs.lemmas.Option.{slice_get_within}
 use mathlib.Core.Option.{some}
@@ -40,8 +44,13 @@ module _ (row : ℕ → Link) (c : ℕ) (at : (j : ℕ) → (row j).cell ≡ c +
   row_links : ℕ → List Link
   row_links n = each n (λ j. row j ∷ [])
 
-  last_at : (u n : ℕ) → links_at u (each (suc n) (λ j. row j ∷ [])) ≡ links_at u (each n (λ j. row j ∷ [])) + one_if (nat_eq (row n).cell u)
-  last_at u n = omega (arith, total_append (λ (l : Link). if nat_eq l.cell u then 1 else 0) (each n (λ j. row j ∷ [])) (row n ∷ []))
+  last_at : (u n : ℕ) → links_at u (each (suc n) (λ j. row j ∷ [])) ≡ links_at u
+      (each n (λ j. row j ∷ [])) + one_if (nat_eq (row n).cell u)
+  last_at u n = omega (
+    arith,
+    total_append (λ (l : Link). if nat_eq l.cell u then 1 else 0)
+        (each n (λ j. row j ∷ [])) (row n ∷ []),
+  )
 
   pub cell_from : (n u : ℕ) → 0 < links_at u (each n (λ j. row j ∷ [])) → (j : ℕ) × (j < n) × (u ≡ c + 2 * j)
   cell_from zero u h = absurd (omega (arith, h))
@@ -61,7 +70,8 @@ module _ (row : ℕ → Link) (c : ℕ) (at : (j : ℕ) → (row j).cell ≡ c +
         let one : one_if (nat_eq (row n).cell u) ≡ 1 = ap one_if (eq-eqb (row n).cell u q) in
         elim (cases_eq (links_at u (each n (λ j. row j ∷ []))) 0) [
           | inl empty ↦ omega (arith, last_at u n, one, empty)
-          | inr more ↦ let t = cell_from n u (omega (arith, more)) in absurd (let lt = t.1 in let e = t.2 in omega (arith, at n, q))
+          | inr more ↦ let t = cell_from n u (omega (arith, more)) in
+              absurd (let lt = t.1 in let e = t.2 in omega (arith, at n, q))
         ]
     | inr d ↦
         let z : one_if (nat_eq (row n).cell u) ≡ 0 = ap one_if (ne_eqb (row n).cell u d) in
@@ -91,10 +101,13 @@ right_side l r = go (rule_between l r) (rule_between r l)
 -- two nodes of which neither acts are no event
 no_event : (l r : ℕ) → IsStuckPair l r → rule_between (event_of l r).f (event_of l r).g ≡ None
 no_event l r h =
-    let q : event_of l r ≡ acting None None l r = ap (λ o. acting o (rule_between r l) l r) h.0 ∙ ap (λ o. acting None o l r) h.1 in
+    let q : event_of l r ≡ acting None None l r = ap (λ o. acting o (rule_between r l) l r) h.0
+    ∙ ap (λ o. acting None o l r) h.1 in
     ap (λ (x : Event). rule_between x.f x.g) q ∙ h.0
 
-module _ (p : Plan) (s : Table) (k : Kept p s) (id : ℕ) (v : View) (here : get_elem? s.views id ≡ some v) (w : ℕ) (ready : IsLookedUp v w) (low : slice_index s.words 0 < p.parts.fuel) where
+module _ (p : Plan) (s : Table) (k : Kept p s) (id : ℕ) (v : View)
+    (here : get_elem? s.views id ≡ some v) (w : ℕ) (ready : IsLookedUp v w)
+    (low : slice_index s.words 0 < p.parts.fuel) where
   abbrev z : Parts
   z = p.parts
 
@@ -168,10 +181,13 @@ module _ (p : Plan) (s : Table) (k : Kept p s) (id : ℕ) (v : View) (here : get
 
   -- the right word of the pair is one of the two nodes, and stays
   right_node : (slice_index full' (suc w) ≡ e.f) ⊎ (slice_index full' (suc w) ≡ e.g)
-  right_node = subst (λ y. (y ≡ e.f) ⊎ (y ≡ e.g)) (sym (right_word_still w is_left_word ∙ right_full)) (right_side v.last.0 v.last.1)
+  right_node = subst (λ y. (y ≡ e.f) ⊎ (y ≡ e.g))
+      (sym (right_word_still w is_left_word ∙ right_full)) (right_side v.last.0 v.last.1)
 
   abbrev IsUsed : ℕ → ℕ → Type 0
-  IsUsed n u = (part_of_word z u ≡ left) × (u < block z n) × (slice_index full' u ≡ 0) × ((d : Event) → slice_get log' n ≡ Some d → (slice_index full' (suc u) ≡ d.f) ⊎ (slice_index full' (suc u) ≡ d.g))
+  IsUsed n u = (part_of_word z u ≡ left) × (u < block z n) × (slice_index full' u ≡ 0)
+      × ((d : Event) → slice_get log' n ≡ Some d →
+      (slice_index full' (suc u) ≡ d.f) ⊎ (slice_index full' (suc u) ≡ d.g))
 
   used : (n u : ℕ) → slice_get from' n ≡ Some u → IsUsed n u
   used n u q = go (got_one_more k.from w u n q)
@@ -179,16 +195,30 @@ module _ (p : Plan) (s : Table) (k : Kept p s) (id : ℕ) (v : View) (here : get
       go : (slice_get k.from n ≡ Some u) ⊎ ((n ≡ length k.from) × (u ≡ w)) → IsUsed n u
       go (inl old) =
           let h = k.cells.used n u old in
-          let lt : n < length k.log = omega (arith, slice_get_within k.from n u old, k.cells.tickets) in
-          (h.0, h.1, still_empty u h.0 h.2, (λ d is. subst (λ y. (y ≡ d.f) ⊎ (y ≡ d.g)) (sym (right_word_still u h.0)) (h.3 d (sym (got_before k.log (e ∷ []) n lt) ∙ is))))
+          let lt : n < length k.log = omega (arith, slice_get_within k.from n u old, k.cells.tickets) in (
+            h.0,
+            h.1,
+            still_empty u h.0 h.2,
+            (λ d is.
+                subst (λ y. (y ≡ d.f) ⊎ (y ≡ d.g)) (sym (right_word_still u h.0))
+                (h.3 d (sym (got_before k.log (e ∷ []) n lt) ∙ is))),
+          )
       go (inr new) =
           let is_last : n ≡ length k.from = new.0 in
-          let is_w : u ≡ w = new.1 in
-          (ap (part_of_word z) is_w ∙ is_left_word, omega (arith, is_w, is_last, k.cells.tickets, drawn_is, cell_below), ap (slice_index full') is_w ∙ cell_gone, (λ d is. of d (got_one_more k.log e d n is) is_last is_w))
+          let is_w : u ≡ w = new.1 in (
+            ap (part_of_word z) is_w ∙ is_left_word,
+            omega (arith, is_w, is_last, k.cells.tickets, drawn_is, cell_below),
+            ap (slice_index full') is_w ∙ cell_gone,
+            (λ d is. of d (got_one_more k.log e d n is) is_last is_w),
+          )
         where
-          of : (d : Event) → (slice_get k.log n ≡ Some d) ⊎ ((n ≡ length k.log) × (d ≡ e)) → n ≡ length k.from → u ≡ w → (slice_index full' (suc u) ≡ d.f) ⊎ (slice_index full' (suc u) ≡ d.g)
+          of : (d : Event) → (slice_get k.log n ≡ Some d) ⊎ ((n ≡ length k.log) × (d ≡ e)) →
+              n ≡ length k.from → u ≡ w → (slice_index full' (suc u) ≡ d.f) ⊎ (slice_index full' (suc u) ≡ d.g)
           of d (inl old) is_last is_w = absurd (omega (arith, slice_get_within k.log n d old, k.cells.tickets, is_last))
-          of d (inr last) is_last is_w = subst (λ (x : Event). (slice_index full' (suc u) ≡ x.f) ⊎ (slice_index full' (suc u) ≡ x.g)) (sym last.1) (subst (λ a. (slice_index full' (suc a) ≡ e.f) ⊎ (slice_index full' (suc a) ≡ e.g)) (sym is_w) right_node)
+          of d (inr last) is_last is_w = subst
+              (λ (x : Event). (slice_index full' (suc u) ≡ x.f) ⊎ (slice_index full' (suc u) ≡ x.g))
+              (sym last.1) (subst (λ a. (slice_index full' (suc a) ≡ e.f)
+              ⊎ (slice_index full' (suc a) ≡ e.g)) (sym is_w) right_node)
 
   used_below : (n u : ℕ) → slice_get from' n ≡ Some u → u < block z t
   used_below n u q =
@@ -197,21 +227,26 @@ module _ (p : Plan) (s : Table) (k : Kept p s) (id : ℕ) (v : View) (here : get
 
   -- the links of the ticket
   pub link_found : (l : Link) → IsIn l (ticketed v t).pending → (j : ℕ) × (j < joins_in e) × (l ≡ link_of z e t a b j)
-  link_found l i = of_row (in_each_of l (joins_in e) (λ j. link_of z e t a b j ∷ []) (subst (λ ls. IsIn l ls) (words.pending_is p s k id v here w ready low) i))
+  link_found l i = of_row (in_each_of l (joins_in e) (λ j. link_of z e t a b j ∷ [])
+      (subst (λ ls. IsIn l ls) (words.pending_is p s k id v here w ready low) i))
     where
       one : (j : ℕ) → IsIn l (link_of z e t a b j ∷ []) → l ≡ link_of z e t a b j
       one j (inl q) = q
       one j (inr h) = absurd h
 
-      of_row : (j : ℕ) × (j < joins_in e) × IsIn l (link_of z e t a b j ∷ []) → (j : ℕ) × (j < joins_in e) × (l ≡ link_of z e t a b j)
+      of_row : (j : ℕ) × (j < joins_in e) × IsIn l (link_of z e t a b j ∷ []) →
+          (j : ℕ) × (j < joins_in e) × (l ≡ link_of z e t a b j)
       of_row r = (r.0, r.1, one r.0 r.2)
 
   -- their cells are in the ticket's block
   pub new_cell : (l : Link) → IsIn l (ticketed v t).pending → (j : ℕ) × (j < 4) × (l.cell ≡ born_cell z t j)
-  new_cell l i = let h = link_found l i in let lt = h.1 in (h.0, omega (arith, joins_few e), ap (λ (l : Link). l.cell) h.2)
+  new_cell l i = let h = link_found l i in let lt = h.1 in
+      (h.0, omega (arith, joins_few e), ap (λ (l : Link). l.cell) h.2)
 
   abbrev Unpublished : View → Type 0
-  Unpublished u = (l : Link) → IsIn l u.pending → (part_of_word z l.cell ≡ left) × (slice_index full' l.cell ≡ 0) × IsRightOf u l (slice_index full' (suc l.cell)) × ((n y : ℕ) → slice_get from' n ≡ Some y → y ≢ l.cell)
+  Unpublished u = (l : Link) → IsIn l u.pending →
+      (part_of_word z l.cell ≡ left) × (slice_index full' l.cell ≡ 0)
+      × IsRightOf u l (slice_index full' (suc l.cell)) × ((n y : ℕ) → slice_get from' n ≡ Some y → y ≢ l.cell)
 
   unpublished_new : Unpublished (ticketed v t)
   unpublished_new l i =
@@ -219,29 +254,50 @@ module _ (p : Plan) (s : Table) (k : Kept p s) (id : ℕ) (v : View) (here : get
       let c : l.cell ≡ born_cell z t h.0 = h.2 in
       let r = part_born_cell z t h.0 low h.1 in
       let is : part_of_word z l.cell ≡ left = ap (part_of_word z) c ∙ r.0 in
-      let empty : (u : ℕ) → block z t ≤ u → slice_index k.full u ≡ 0 = λ u le. k.words.fresh u (omega (arith, le, drawn_is)) in
-      (is, still_empty l.cell is (empty l.cell (omega (arith, c))), inl (right_word_still l.cell is ∙ empty (suc l.cell) (omega (arith, c))), λ n y q same. omega (arith, used_below n y q, same, c))
+      let empty : (u : ℕ) → block z t ≤ u →
+      slice_index k.full u ≡ 0 = λ u le. k.words.fresh u (omega (arith, le, drawn_is)) in (
+        is,
+        still_empty l.cell is (empty l.cell (omega (arith, c))),
+        inl (right_word_still l.cell is ∙ empty (suc l.cell) (omega (arith, c))),
+        λ n y q same. omega (arith, used_below n y q, same, c),
+      )
 
   unpublished_old : (u : View) → IsView s u → Unpublished u
   unpublished_old u is l i =
-      let h = k.cells.unpublished u l is i in
-      (h.0, still_empty l.cell h.0 h.1, subst (IsRightOf u l) (sym (right_word_still l.cell h.0)) h.2, λ n y q. unused h.3 n y (got_one_more k.from w y n q))
+      let h = k.cells.unpublished u l is i in (
+        h.0,
+        still_empty l.cell h.0 h.1,
+        subst (IsRightOf u l)
+            (sym (right_word_still l.cell h.0)) h.2,
+        λ n y q. unused h.3 n y (got_one_more k.from w y n q),
+      )
     where
-      unused : ((n y : ℕ) → slice_get k.from n ≡ Some y → y ≢ l.cell) → (n y : ℕ) → (slice_get k.from n ≡ Some y) ⊎ ((n ≡ length k.from) × (y ≡ w)) → y ≢ l.cell
+      unused : ((n y : ℕ) → slice_get k.from n ≡ Some y → y ≢ l.cell) → (n y : ℕ) →
+          (slice_get k.from n ≡ Some y) ⊎ ((n ≡ length k.from) × (y ≡ w)) → y ≢ l.cell
       unused old n y (inl q) = old n y q
-      unused old n y (inr new) = λ same. left_some (ap (slice_index k.full) (sym new.1 ∙ same) ∙ (k.cells.unpublished u l is i).1)
+      unused old n y (inr new) = λ same. left_some
+          (ap (slice_index k.full) (sym new.1 ∙ same) ∙ (k.cells.unpublished u l is i).1)
 
   one_link : (u : ℕ) → total (λ (x : View). links_at u x.pending) s'.views ≤ 1
   one_link u =
       let change = total_set (λ (x : View). links_at u x.pending) s.views id v (ticketed v t) here in
       let gone : links_at u v.pending ≡ 0 = ap (links_at u) ready.nothing_pending in
-      let come : links_at u (ticketed v t).pending ≡ links_at u (links_of z e t a b) = ap (links_at u) (words.pending_is p s k id v here w ready low) in
+      let come : links_at u (ticketed v t).pending ≡ links_at u (links_of z e t a b) = ap
+      (links_at u) (words.pending_is p s k id v here w ready low) in
       elim (cases_eq (links_at u (links_of z e t a b)) 0) [
         | inl nothing ↦ omega (arith, change, gone, come, nothing, k.cells.one_link u)
         | inr some_new ↦ elim (cases_eq (total (λ (x : View). links_at u x.pending) s.views) 0) [
-          | inl nothing ↦ omega (arith, change, gone, come, nothing, cell_once (link_of z e t a b) (block z t + 14) (λ j. refl) (joins_in e) u)
+          | inl nothing ↦ omega (
+            arith,
+            change,
+            gone,
+            come,
+            nothing,
+            cell_once (link_of z e t a b) (block z t + 14) (λ j. refl) (joins_in e) u,
+          )
           | inr some_old ↦
-              let at = cell_from (link_of z e t a b) (block z t + 14) (λ j. refl) (joins_in e) u (omega (arith, some_new)) in
+              let at = cell_from (link_of z e t a b) (block z t + 14) (λ j. refl) (joins_in e) u
+              (omega (arith, some_new)) in
               absurd (omega (arith, at.2, linked_before u (omega (arith, some_old))))
         ]
       ]
@@ -257,12 +313,22 @@ module _ (p : Plan) (s : Table) (k : Kept p s) (id : ℕ) (v : View) (here : get
   node_small : (r : ℕ) → IsNodeAt z k.net r → index_in r < 16000000
   node_small r n =
       let few = k.journal.indexes n.x n.k n.i n.has in
-      omega (arith, few, ap index_in n.is, index_of_ref n.k n.i (place_of z n.x) (omega (arith, few, k.tickets.few, k.plan.small.fuel)), k.tickets.few, k.plan.small.fuel)
+      omega (
+        arith,
+        few,
+        ap index_in n.is,
+        index_of_ref n.k n.i (place_of z n.x)
+            (omega (arith, few, k.tickets.few, k.plan.small.fuel)),
+        k.tickets.few,
+        k.plan.small.fuel,
+      )
 
   small : index_in e.g < 16000000
   small =
       let cell : IsCellPair p s k w = cell_pair p s k w is_left_word left_some in
-      (event_of_pair (λ r. index_in r < 16000000) v.last.0 v.last.1 (subst (λ r. index_in r < 16000000) left_full (node_small (slice_index k.full w) cell.f)) (subst (λ r. index_in r < 16000000) right_full (node_small (slice_index k.full (suc w)) cell.g))).1
+      (event_of_pair (λ r. index_in r < 16000000) v.last.0 v.last.1
+      (subst (λ r. index_in r < 16000000) left_full (node_small (slice_index k.full w) cell.f))
+      (subst (λ r. index_in r < 16000000) right_full (node_small (slice_index k.full (suc w)) cell.g))).1
 
   longer : (r : ℕ) → IsMadeRef z k.log r → IsMadeRef z log' r
   longer = words.made_longer p s k id v here w ready low
@@ -273,7 +339,10 @@ module _ (p : Plan) (s : Table) (k : Kept p s) (id : ℕ) (v : View) (here : get
   link_refs_new : LinkRefs (ticketed v t)
   link_refs_new l i =
       let h = link_found l i in
-      let r = link_ends z e t (block z (length log')) (omega (arith, length_one_more k.log e, drawn_is)) a b ready.rule small (λ n lt. longer (a n) (words.f_field p s k id v here w ready low n lt).2) (λ n lt. longer (b n) (words.g_field p s k id v here w ready low n lt).2) h.0 h.1 in
+      let r = link_ends z e t (block z (length log'))
+      (omega (arith, length_one_more k.log e, drawn_is)) a b ready.rule small
+      (λ n lt. longer (a n) (words.f_field p s k id v here w ready low n lt).2)
+      (λ n lt. longer (b n) (words.g_field p s k id v here w ready low n lt).2) h.0 h.1 in
       subst (λ (l : Link). IsMadeRef z log' l.one × IsMadeRef z log' l.two) (sym h.2) r
 
   link_refs_old : (u : View) → IsView s u → LinkRefs u
@@ -296,20 +365,30 @@ module _ (p : Plan) (s : Table) (k : Kept p s) (id : ℕ) (v : View) (here : get
     | inr ge ↦ ge
   ]
     where
-      go : (slice_index k.full (left_word z number) ≡ 0) ⊎ IsStuckPair (slice_index k.full (left_word z number)) (slice_index k.full (suc (left_word z number))) → ⊥
+      go : (slice_index k.full (left_word z number) ≡ 0)
+          ⊎ IsStuckPair (slice_index k.full (left_word z number)) (slice_index k.full (suc (left_word z number))) → ⊥
       go (inl h) = left_some (ap (slice_index k.full) (sym number_back) ∙ h)
       go (inr h) =
-          let stuck : IsStuckPair v.last.0 v.last.1 = subst (λ r. IsStuckPair v.last.0 r) right_full (subst (λ l. IsStuckPair l (slice_index k.full (suc w))) left_full (subst (λ u. IsStuckPair (slice_index k.full u) (slice_index k.full (suc u))) number_back h)) in
+          let stuck : IsStuckPair v.last.0 v.last.1 = subst (λ r. IsStuckPair v.last.0 r) right_full
+          (subst (λ l. IsStuckPair l (slice_index k.full (suc w))) left_full
+          (subst (λ u. IsStuckPair (slice_index k.full u) (slice_index k.full (suc u))) number_back h)) in
           let bad : None ≡ Some e.rule = sym (no_event v.last.0 v.last.1 stuck) ∙ ready.rule in
           cc
 
   abbrev Swept : View → Type 0
-  Swept u = (c : ℕ) → c < u.swept → (u.holds ≡ p.seats) × ((slice_index full' (left_word z c) ≡ 0) ⊎ IsStuckPair (slice_index full' (left_word z c)) (slice_index full' (suc (left_word z c)))) × ((l : Link) → IsIn l u.pending → l.cell ≢ left_word z c)
+  Swept u = (c : ℕ) → c < u.swept → (u.holds ≡ p.seats)
+      × ((slice_index full' (left_word z c) ≡ 0)
+      ⊎ IsStuckPair (slice_index full' (left_word z c)) (slice_index full' (suc (left_word z c))))
+      × ((l : Link) → IsIn l u.pending → l.cell ≢ left_word z c)
 
-  idle_still : (u : ℕ) → part_of_word z u ≡ left → (slice_index k.full u ≡ 0) ⊎ IsStuckPair (slice_index k.full u) (slice_index k.full (suc u)) → (u ≡ w) ⊎ (u ≢ w) → (slice_index full' u ≡ 0) ⊎ IsStuckPair (slice_index full' u) (slice_index full' (suc u))
+  idle_still : (u : ℕ) → part_of_word z u ≡ left →
+      (slice_index k.full u ≡ 0) ⊎ IsStuckPair (slice_index k.full u) (slice_index k.full (suc u)) →
+      (u ≡ w) ⊎ (u ≢ w) → (slice_index full' u ≡ 0) ⊎ IsStuckPair (slice_index full' u) (slice_index full' (suc u))
   idle_still u is h (inl q) = inl (ap (slice_index full') q ∙ cell_gone)
   idle_still u is (inl h) (inr d) = inl (still_empty u is h)
-  idle_still u is (inr h) (inr d) = inr (subst (λ l. IsStuckPair l (slice_index full' (suc u))) (sym (left_word_still u is d)) (subst (IsStuckPair (slice_index k.full u)) (sym (right_word_still u is)) h))
+  idle_still u is (inr h) (inr d) = inr
+      (subst (λ l. IsStuckPair l (slice_index full' (suc u))) (sym (left_word_still u is d))
+      (subst (IsStuckPair (slice_index k.full u)) (sym (right_word_still u is)) h))
 
   -- a new link's cell comes after those that were there
   new_unswept : (c : ℕ) → c ≤ number → (l : Link) → IsIn l (ticketed v t).pending → l.cell ≢ left_word z c
@@ -320,30 +399,51 @@ module _ (p : Plan) (s : Table) (k : Kept p s) (id : ℕ) (v : View) (here : get
 
   swept_new : Swept (ticketed v t)
   swept_new c lt =
-      let same : cell_at v.parts (cell_in_hand v.taken) ≡ number = ap (λ x. cell_at x (cell_in_hand v.taken)) (words.parts_are p s k id v here w ready low) ∙ ap (λ l. cell_at z (cell_in_hand l)) ready.taken in
+      let same : cell_at v.parts (cell_in_hand v.taken) ≡ number = ap
+      (λ x. cell_at x (cell_in_hand v.taken)) (words.parts_are p s k id v here w ready low)
+      ∙ ap (λ l. cell_at z (cell_in_hand l)) ready.taken in
       go (swept_more v number c (subst (λ m. c < swept_on v m) same lt))
     where
-      go : (c < v.swept) ⊎ ((v.holds ≡ v.seats) × (c ≡ number)) → (v.holds ≡ p.seats) × ((slice_index full' (left_word z c) ≡ 0) ⊎ IsStuckPair (slice_index full' (left_word z c)) (slice_index full' (suc (left_word z c)))) × ((l : Link) → IsIn l (ticketed v t).pending → l.cell ≢ left_word z c)
+      go : (c < v.swept) ⊎ ((v.holds ≡ v.seats) × (c ≡ number)) →
+          (v.holds ≡ p.seats) × ((slice_index full' (left_word z c) ≡ 0)
+          ⊎ IsStuckPair (slice_index full' (left_word z c))
+          (slice_index full' (suc (left_word z c))))
+          × ((l : Link) → IsIn l (ticketed v t).pending → l.cell ≢ left_word z c)
       go (inl old) =
           let h = k.cells.swept v c seen old in
-          let below : c < cells_of z = omega (arith, old, unswept, number_below, low) in
-          (h.0, idle_still (left_word z c) (part_cell z c below).0 h.1 (cases_eq (left_word z c) w), new_unswept c (omega (arith, old, unswept)))
+          let below : c < cells_of z = omega (arith, old, unswept, number_below, low) in (
+            h.0,
+            idle_still (left_word z c) (part_cell z c below).0 h.1 (cases_eq (left_word z c) w),
+            new_unswept c (omega (arith, old, unswept)),
+          )
       go (inr new) =
-          let is_number : c ≡ number = new.1 in
-          (new.0 ∙ (k.seats.plans v seen ready.held).1, inl (ap (λ c. slice_index full' (left_word z c)) is_number ∙ ap (slice_index full') number_back ∙ cell_gone), new_unswept c (omega (arith, is_number)))
+          let is_number : c ≡ number = new.1 in (
+            new.0 ∙ (k.seats.plans v seen ready.held).1,
+            inl (ap (λ c. slice_index full' (left_word z c)) is_number
+                ∙ ap (slice_index full') number_back ∙ cell_gone),
+            new_unswept c (omega (arith, is_number)),
+          )
 
   -- another view that had swept cells would hold all seats
   swept_old : (j : ℕ) (u : View) → j ≢ id → get_elem? s.views j ≡ some u → Swept u
   swept_old j u d at c lt =
       let all_held = (k.cells.swept u c (j, at) lt).0 in
-      absurd (omega (arith, all_held, two_at (λ (x : View). x.holds) s.views j id u v d at here, k.seats.all, ready.held))
+      absurd (omega (
+        arith,
+        all_held,
+        two_at (λ (x : View). x.holds) s.views j id u v d at here,
+        k.seats.all,
+        ready.held,
+      ))
 
   -- the cell is empty where its pair was, and is among those that were used once more
-  published : (u : ℕ) → part_of_word z u ≡ left → block z 0 ≤ u → times_published z u s'.views ≡ filled (slice_index full' u) + times_in u from'
+  published : (u : ℕ) → part_of_word z u ≡ left → block z 0 ≤ u →
+      times_published z u s'.views ≡ filled (slice_index full' u) + times_in u from'
   published u is le = elim (cases_eq u w) [
     | inl q ↦
         let one : one_if (nat_eq w u) ≡ 1 = ap one_if (eq-eqb w u (sym q)) in
-        let was : filled (slice_index k.full u) ≡ 1 = ap (λ b. if b then 0 else 1) (ne_eqb (slice_index k.full u) 0 (λ o. left_some (ap (slice_index k.full) (sym q) ∙ o))) in
+        let was : filled (slice_index k.full u) ≡ 1 = ap (λ b. if b then 0 else 1)
+        (ne_eqb (slice_index k.full u) 0 (λ o. left_some (ap (slice_index k.full) (sym q) ∙ o))) in
         let now : filled (slice_index full' u) ≡ 0 = ap filled (ap (slice_index full') q ∙ cell_gone) in
         omega (arith, same_views, k.cells.published u is le, more, one, was, now)
     | inr d ↦
@@ -352,7 +452,11 @@ module _ (p : Plan) (s : Table) (k : Kept p s) (id : ℕ) (v : View) (here : get
   ]
     where
       same_views : times_published z u s'.views ≡ times_published z u s.views
-      same_views = omega (arith, total_set (λ (v : View). times_in (cell_at z u) v.published) s.views id v (ticketed v t) here)
+      same_views = omega (
+        arith,
+        total_set
+            (λ (v : View). times_in (cell_at z u) v.published) s.views id v (ticketed v t) here,
+      )
 
       more : times_in u from' ≡ times_in u k.from + one_if (nat_eq w u)
       more = omega (arith, total_append (λ x. if nat_eq x u then 1 else 0) k.from (w ∷ []))

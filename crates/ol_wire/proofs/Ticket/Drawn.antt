@@ -1,6 +1,7 @@
 -- The tickets that the views have drawn, and the words of their own blocks.
 -- Used in Cells and Seats.
-use Rattle.std.proofs.Common.{◌≡◌, ℕ, suc, ◌+◌, ◌<◌, ◌≤◌, if◌then◌else◌, nat_eq, eq-eqb, ne_eqb, inl, inr, Bool, List, [], ◌∷◌, length, sym, refl, ap, arith}
+use Rattle.std.proofs.Common.{◌≡◌, ℕ, suc, ◌+◌, ◌<◌, ◌≤◌, if◌then◌else◌, nat_eq, eq-eqb, ne_eqb}
+use Rattle.std.proofs.Common.{inl, inr, Bool, List, [], ◌∷◌, length, sym, refl, ap, arith}
 use Rattle.std.proofs.lemmas.Bool.{cases_eq}
 use Rattle.ol_edges.specs.Edges.{IsIn}
 use Rattle.ol_rules.specs.declared.journal.Entry.{Entry}
@@ -22,7 +23,8 @@ of_ticket n m x = one_if (nat_eq m n)
 
 ticket_there : (n : ℕ) (x : Entry) (l : List (ℕ × Entry)) → IsIn (n, x) l → 1 ≤ pairs (of_ticket n) l
 ticket_there n x [] h = absurd h
-ticket_there n x (y ∷ l) (inl q) = let one : of_ticket n y.0 y.1 ≡ 1 = ap one_if (eq-eqb y.0 n (sym (ap (λ (a : ℕ × Entry). a.0) q))) in omega (arith, one)
+ticket_there n x (y ∷ l) (inl q) = let one : of_ticket n y.0 y.1 ≡ 1 = ap one_if
+    (eq-eqb y.0 n (sym (ap (λ (a : ℕ × Entry). a.0) q))) in omega (arith, one)
 ticket_there n x (y ∷ l) (inr h) = omega (arith, ticket_there n x l h)
 
 ticket_within : (n m : ℕ) (l : List Entry) → 1 ≤ weighed_by_place (of_ticket n) m l → n < m + length l
@@ -44,7 +46,8 @@ module _ (p : Plan) (s : Table) (k : Kept p s) where
   pub drawn : (u : View) (n : ℕ) (x : Entry) → IsView s u → IsIn (n, x) u.made → n < length k.log
   drawn u n x is i =
       let some_made = total_at (λ (u : View). pairs (of_ticket n) u.made) s.views is.0 u is.1 in
-      let lt = ticket_within n 0 (entries_of p.parts k.log) (omega (arith, some_made, k.seats.made (of_ticket n), ticket_there n x u.made i)) in
+      let lt = ticket_within n 0 (entries_of p.parts k.log)
+      (omega (arith, some_made, k.seats.made (of_ticket n), ticket_there n x u.made i)) in
       omega (arith, lt, entries_length p.parts k.log)
 
   -- so a word of a view's own block comes before the blocks that are to come

@@ -1,6 +1,8 @@
 -- A ticket below the fuel keeps the rule: the seat's pair is rewritten, in the words as in the net.
 -- Used in Steps.Allowed.
-use Rattle.std.proofs.Common.{◌≡◌, ◌≢◌, ℕ, suc, ◌+◌, ◌<◌, ◌≤◌, Bool, true, false, if◌then◌else◌, List, [], ◌∷◌, ◌++◌, length, Some, ◌⊎◌, ◌↔◌, inl, inr, sym, ap, ◌∙◌, subst, arith}
+use Rattle.std.proofs.Common.{◌≡◌, ◌≢◌, ℕ, suc, ◌+◌, ◌<◌, ◌≤◌, Bool, true, false, if◌then◌else◌}
+use Rattle.std.proofs.Common.{List, [], ◌∷◌, ◌++◌, length, Some, ◌⊎◌, ◌↔◌, inl, inr, sym, ap, ◌∙◌}
+use Rattle.std.proofs.Common.{subst, arith}
 use mathlib.Core.Option.{some}
 use lib.ListN.{get_elem?}
 use Rattle.std.specs.Prelude.{slice_index, slice_set}
@@ -55,7 +57,9 @@ record Actors (z : Parts) (N : NamedNet NodeName) (e : Event) (left right : ℕ)
 abbrev as_node : (z : Parts) (N : NamedNet NodeName) (r q : ℕ) → q ≡ r → IsNodeAt z N r → IsNodeAt z N q
 as_node z N r q e n = record { x = n.x; k = n.k; i = n.i; has = n.has; is = e ∙ n.is }
 
-module _ (p : Plan) (s : Table) (k : Kept p s) (id : ℕ) (v : View) (here : get_elem? s.views id ≡ some v) (w : ℕ) (ready : IsLookedUp v w) (low : slice_index s.words 0 < p.parts.fuel) where
+module _ (p : Plan) (s : Table) (k : Kept p s) (id : ℕ) (v : View)
+    (here : get_elem? s.views id ≡ some v) (w : ℕ) (ready : IsLookedUp v w)
+    (low : slice_index s.words 0 < p.parts.fuel) where
   abbrev z : Parts
   z = p.parts
 
@@ -93,9 +97,11 @@ module _ (p : Plan) (s : Table) (k : Kept p s) (id : ℕ) (v : View) (here : get
   actors = of (event_sides v.last.0 v.last.1)
     where
       cell : IsCellPair p s k w
-      cell = cell_pair p s k w (words.is_left_word p s k id v here w ready low) (λ q. words.left_some p s k id v here w ready low (sym left_full ∙ q))
+      cell = cell_pair p s k w (words.is_left_word p s k id v here w ready low)
+          (λ q. words.left_some p s k id v here w ready low (sym left_full ∙ q))
 
-      of : ((e.f ≡ v.last.0) × (e.g ≡ v.last.1)) ⊎ ((e.f ≡ v.last.1) × (e.g ≡ v.last.0)) → Actors z k.net e (slice_index k.full w) (slice_index k.full (suc w))
+      of : ((e.f ≡ v.last.0) × (e.g ≡ v.last.1)) ⊎ ((e.f ≡ v.last.1) × (e.g ≡ v.last.0)) →
+          Actors z k.net e (slice_index k.full w) (slice_index k.full (suc w))
       of (inl h) = record {
         f = as_node z k.net _ e.f (h.0 ∙ sym left_full) cell.f;
         g = as_node z k.net _ e.g (h.1 ∙ sym right_full) cell.g;
@@ -151,14 +157,18 @@ module _ (p : Plan) (s : Table) (k : Kept p s) (id : ℕ) (v : View) (here : get
 
     rule : rule_of kf i kg j ≡ Some e.rule
     rule =
-        sym (ap (λ k. rule_of k (index_in e.f) (kind_in e.g) (index_in e.g)) kind_f ∙ ap (λ n. rule_of kf n (kind_in e.g) (index_in e.g)) (ap index_in c.f.is ∙ index_of_ref kf i (place_of z x) small_f)
-        ∙ ap (λ k. rule_of kf i k (index_in e.g)) kind_g ∙ ap (rule_of kf i kg) (ap index_in c.g.is ∙ index_of_ref kg j (place_of z y) small_g)) ∙ ready.rule
+        sym (ap (λ k. rule_of k (index_in e.f) (kind_in e.g) (index_in e.g)) kind_f
+        ∙ ap (λ n. rule_of kf n (kind_in e.g) (index_in e.g))
+        (ap index_in c.f.is ∙ index_of_ref kf i (place_of z x) small_f)
+        ∙ ap (λ k. rule_of kf i k (index_in e.g)) kind_g
+        ∙ ap (rule_of kf i kg) (ap index_in c.g.is ∙ index_of_ref kg j (place_of z y) small_g)) ∙ ready.rule
 
     low_log : length k.log < p.parts.fuel
     low_log = omega (arith, drawn_is, low)
 
     abbrev follows : (M : NamedNet NodeName) × journals.Follows p k.log k.net x y kf kg i j e M
-    follows = journals.ticket_follows p k.log k.net k.journal x y kf kg i j e faces rule c.f.is c.g.is low_log k.plan.small.fuel
+    follows = journals.ticket_follows p k.log k.net k.journal x y kf kg i j e faces rule c.f.is
+        c.g.is low_log k.plan.small.fuel
 
     abbrev M : NamedNet NodeName
     M = follows.0
@@ -167,8 +177,10 @@ module _ (p : Plan) (s : Table) (k : Kept p s) (id : ℕ) (v : View) (here : get
     abbrev n : ℕ
     n = length k.log
 
-    nodes : (u : NodeName) (m : Kind) (c' : ℕ) → HasNode M u m c' ↔ NodeOf k.net (λ place. Born t place) x y kf i kg (action_of e.rule j) u m c'
-    nodes u m c' = subst (λ n. HasNode M u m c' ↔ NodeOf k.net (λ place. Born n place) x y kf i kg (action_of e.rule j) u m c') drawn_is (follows.1.rewrites.nodes u m c')
+    nodes : (u : NodeName) (m : Kind) (c' : ℕ) →
+        HasNode M u m c' ↔ NodeOf k.net (λ place. Born t place) x y kf i kg (action_of e.rule j) u m c'
+    nodes u m c' = subst (λ n. HasNode M u m c' ↔ NodeOf k.net (λ place. Born n place) x y kf i kg
+        (action_of e.rule j) u m c') drawn_is (follows.1.rewrites.nodes u m c')
 
     abbrev event : Event
     event = pair_event z e.rule x y kf kg i j
@@ -192,15 +204,25 @@ module _ (p : Plan) (s : Table) (k : Kept p s) (id : ℕ) (v : View) (here : get
     g_slot q lt = omega (arith, lt, ap arity kind_g)
 
     f_field : (q : ℕ) → q < arity kf → (slice_index k.full (place_of z x + q) ≡ a q) × (a q ≢ 0) × IsRef (a q)
-    f_field q lt = let h = words.f_field p s k id v here w ready low q (f_slot q lt) in (ap (λ place. slice_index k.full (place + q)) (sym place_f) ∙ h.0, h.1, h.2.0)
+    f_field q lt = let h = words.f_field p s k id v here w ready low q (f_slot q lt) in
+        (ap (λ place. slice_index k.full (place + q)) (sym place_f) ∙ h.0, h.1, h.2.0)
 
     g_field : (q : ℕ) → q < arity kg → (slice_index k.full (place_of z y + q) ≡ b q) × (b q ≢ 0) × IsRef (b q)
-    g_field q lt = let h = words.g_field p s k id v here w ready low q (g_slot q lt) in (ap (λ place. slice_index k.full (place + q)) (sym place_g) ∙ h.0, h.1, h.2.0)
+    g_field q lt = let h = words.g_field p s k id v here w ready low q (g_slot q lt) in
+        (ap (λ place. slice_index k.full (place + q)) (sym place_g) ∙ h.0, h.1, h.2.0)
 
-    pair_is : ((slice_index k.full w ≡ node_ref kf i (place_of z x)) × (slice_index k.full (suc w) ≡ node_ref kg j (place_of z y))) ⊎ ((slice_index k.full w ≡ node_ref kg j (place_of z y)) × (slice_index k.full (suc w) ≡ node_ref kf i (place_of z x)))
+    pair_is : ((slice_index k.full w ≡ node_ref kf i (place_of z x))
+        × (slice_index k.full (suc w) ≡ node_ref kg j (place_of z y)))
+        ⊎ ((slice_index k.full w ≡ node_ref kg j (place_of z y))
+        × (slice_index k.full (suc w) ≡ node_ref kf i (place_of z x)))
     pair_is = of c.pair
       where
-        of : ((slice_index k.full w ≡ e.f) × (slice_index k.full (suc w) ≡ e.g)) ⊎ ((slice_index k.full w ≡ e.g) × (slice_index k.full (suc w) ≡ e.f)) → ((slice_index k.full w ≡ node_ref kf i (place_of z x)) × (slice_index k.full (suc w) ≡ node_ref kg j (place_of z y))) ⊎ ((slice_index k.full w ≡ node_ref kg j (place_of z y)) × (slice_index k.full (suc w) ≡ node_ref kf i (place_of z x)))
+        of : ((slice_index k.full w ≡ e.f) × (slice_index k.full (suc w) ≡ e.g))
+            ⊎ ((slice_index k.full w ≡ e.g) × (slice_index k.full (suc w) ≡ e.f)) →
+            ((slice_index k.full w ≡ node_ref kf i (place_of z x))
+            × (slice_index k.full (suc w) ≡ node_ref kg j (place_of z y)))
+            ⊎ ((slice_index k.full w ≡ node_ref kg j (place_of z y))
+            × (slice_index k.full (suc w) ≡ node_ref kf i (place_of z x)))
         of (inl h) = inl (h.0 ∙ c.f.is, h.1 ∙ c.g.is)
         of (inr h) = inr (h.0 ∙ c.g.is, h.1 ∙ c.f.is)
 
@@ -227,11 +249,16 @@ module _ (p : Plan) (s : Table) (k : Kept p s) (id : ℕ) (v : View) (here : get
 
     filled : (q : ℕ) → q < 10 → slice_index full' (block z n + q) ≡ slice_index (block_words z event n) q
     filled q lt =
-        ap (λ n. slice_index full' (block z n + q)) drawn_is ∙ words.full_there z e t w k.full q lt low k.words.full_wide
+        ap (λ n. slice_index full' (block z n + q)) drawn_is
+        ∙ words.full_there z e t w k.full q lt low k.words.full_wide
         ∙ ap (λ t. slice_index (block_words z e t) q) (sym drawn_is) ∙ ap (λ e. slice_index (block_words z e n) q) e_is
 
-    only : (u : ℕ) → reached' u ≡ true → (reached u ≡ true) ⊎ ((q : ℕ) × (q' : ℕ) × (q < copies_of_f event) × (q' < copies_of_g event) × (u ≡ born_wire z n q q'))
-    only u h = subst (λ e. (reached u ≡ true) ⊎ ((q : ℕ) × (q' : ℕ) × (q < copies_of_f e) × (q' < copies_of_g e) × (u ≡ born_wire z n q q'))) e_is (reaching.only z k.log e low_log s.views s'.views same_deaths u h)
+    only : (u : ℕ) → reached' u ≡ true →
+        (reached u ≡ true) ⊎ ((q : ℕ) × (q' : ℕ) × (q < copies_of_f event)
+        × (q' < copies_of_g event) × (u ≡ born_wire z n q q'))
+    only u h = subst (λ e. (reached u ≡ true)
+        ⊎ ((q : ℕ) × (q' : ℕ) × (q < copies_of_f e) × (q' < copies_of_g e)
+        × (u ≡ born_wire z n q q'))) e_is (reaching.only z k.log e low_log s.views s'.views same_deaths u h)
 
     still : (u : ℕ) → reached u ≡ true → reached' u ≡ true
     still = reaching.still z k.log e low_log s.views s'.views same_deaths
@@ -253,9 +280,12 @@ module _ (p : Plan) (s : Table) (k : Kept p s) (id : ℕ) (v : View) (here : get
     abbrev rest : List (ℕ × ℕ)
     rest = edges_in z (net_but x y k.net) reached less (table_size z) ++ pending_in s.views
 
-    from : Alike (edges_of z k.net k.log k.full s.views) (old_edges (node_ref kf i (place_of z x)) (node_ref kg j (place_of z y)) (place_of z x) (place_of z y) (arity kf) (arity kg) a b ++ rest)
+    from : Alike (edges_of z k.net k.log k.full s.views)
+        (old_edges (node_ref kf i (place_of z x)) (node_ref kg j (place_of z y)) (place_of z x)
+        (place_of z y) (arity kf) (arity kg) a b ++ rest)
     from h ev =
-        let olds = old_edges (node_ref kf i (place_of z x)) (node_ref kg j (place_of z y)) (place_of z x) (place_of z y) (arity kf) (arity kg) a b in
+        let olds = old_edges (node_ref kf i (place_of z x)) (node_ref kg j (place_of z y))
+        (place_of z x) (place_of z y) (arity kf) (arity kg) a b in
         let left_words = edges_in z (net_but x y k.net) reached less (table_size z) in
         omega (
           arith,
@@ -267,7 +297,8 @@ module _ (p : Plan) (s : Table) (k : Kept p s) (id : ℕ) (v : View) (here : get
         )
 
     links_are : (ticketed v t).pending ≡ links_of z event n a b
-    links_are = words.pending_is p s k id v here w ready low ∙ ap (λ t. links_of z e t a b) (sym drawn_is) ∙ ap (λ e. links_of z e n a b) e_is
+    links_are = words.pending_is p s k id v here w ready low
+        ∙ ap (λ t. links_of z e t a b) (sym drawn_is) ∙ ap (λ e. links_of z e n a b) e_is
 
     to : Alike (edges_of z M log' full' s'.views) (new_edges z event n a b ++ rest)
     to h ev =
@@ -287,7 +318,8 @@ module _ (p : Plan) (s : Table) (k : Kept p s) (id : ℕ) (v : View) (here : get
           pairs_append h left_words (pending_in s.views),
         )
 
-    rewritten : Rewritten z k.net M x y kf kg i j n e.rule a b (edges_of z k.net k.log k.full s.views) (edges_of z M log' full' s'.views) rest reached reached'
+    rewritten : Rewritten z k.net M x y kf kg i j n e.rule a b
+        (edges_of z k.net k.log k.full s.views) (edges_of z M log' full' s'.views) rest reached reached'
     rewritten = record {
       is_net = k.journal.is_net;
       faces = faces;
@@ -312,7 +344,8 @@ module _ (p : Plan) (s : Table) (k : Kept p s) (id : ℕ) (v : View) (here : get
         come q q' hq hp =
             let fq : q < copies_of_f e = subst (λ e. q < copies_of_f e) (sym e_is) hq in
             let gq : q' < copies_of_g e = subst (λ e. q' < copies_of_g e) (sym e_is) hp in
-            reaching.come z k.log e low_log s.views s'.views same_deaths k.seats.dead q q' fq gq (copies_few q fq) (copies_few' q' gq)
+            reaching.come z k.log e low_log s.views s'.views same_deaths k.seats.dead q q' fq gq
+            (copies_few q fq) (copies_few' q' gq)
           where
             few : (m : Bool) (k : Kind) → (if m then 0 else arity k) ≤ 2
             few true k = omega arith

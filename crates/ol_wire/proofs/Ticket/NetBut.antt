@@ -1,6 +1,7 @@
 -- A net without two of its nodes.
 -- Used in InWords.Edges, Edges and Keeps.
-use Rattle.std.proofs.Common.{◌≡◌, ◌≢◌, ℕ, Bool, true, false, ◌||◌, if◌then◌else◌, List, [], ◌∷◌, ◌⊎◌, inl, inr, refl, sym, ap, ◌∙◌}
+use Rattle.std.proofs.Common.{◌≡◌, ◌≢◌, ℕ, Bool, true, false, ◌||◌, if◌then◌else◌, List, [], ◌∷◌}
+use Rattle.std.proofs.Common.{◌⊎◌, inl, inr, refl, sym, ap, ◌∙◌}
 use Rattle.std.proofs.lemmas.Bool.{cases_Bool, or_parts, or_from}
 use Rattle.ol_net.specs.declared.parts.Kind.{Kind}
 use Rattle.ol_net.specs.Nets.{NamedNet}
@@ -18,7 +19,8 @@ net_but x y N = record { nodes = nodes_but x y N.nodes; free_ports = N.free_port
 
 module _ (x y : NodeName) where
   -- the two are gone
-  listed_gone : (u : NodeName) (nodes : List (NodeName × Kind × ℕ)) → (u ≡ x) ⊎ (u ≡ y) → is_listed u (nodes_but x y nodes) ≡ false
+  listed_gone : (u : NodeName) (nodes : List (NodeName × Kind × ℕ)) → (u ≡ x) ⊎ (u ≡ y) →
+      is_listed u (nodes_but x y nodes) ≡ false
   listed_gone u [] e = refl
   listed_gone u (n ∷ nodes) e = go (cases_Bool (same_name n.0 x || same_name n.0 y)) (listed_gone u nodes e)
     where
@@ -32,12 +34,17 @@ module _ (x y : NodeName) where
           told : n.0 ≡ y → same_name n.0 y ≡ false → ⊥
           told d f = let t : same_name n.0 y ≡ true = ap (same_name n.0) (sym d) ∙ same_name_true n.0 in absurd (cc)
 
-      go : ((same_name n.0 x || same_name n.0 y) ≡ true) ⊎ ((same_name n.0 x || same_name n.0 y) ≡ false) → is_listed u (nodes_but x y nodes) ≡ false → is_listed u (nodes_but x y (n ∷ nodes)) ≡ false
+      go : ((same_name n.0 x || same_name n.0 y) ≡ true)
+          ⊎ ((same_name n.0 x || same_name n.0 y) ≡ false) →
+          is_listed u (nodes_but x y nodes) ≡ false → is_listed u (nodes_but x y (n ∷ nodes)) ≡ false
       go (inl q) ih = ap (λ b. is_listed u (if b then nodes_but x y nodes else n ∷ nodes_but x y nodes)) q ∙ ih
-      go (inr q) ih = ap (λ b. is_listed u (if b then nodes_but x y nodes else n ∷ nodes_but x y nodes)) q ∙ or_from (same_name u n.0) (is_listed u (nodes_but x y nodes)) (differs e q) ih
+      go (inr q) ih = ap (λ b. is_listed u
+          (if b then nodes_but x y nodes else n ∷ nodes_but x y nodes)) q
+          ∙ or_from (same_name u n.0) (is_listed u (nodes_but x y nodes)) (differs e q) ih
 
   -- the others stay
-  listed_still : (u : NodeName) (nodes : List (NodeName × Kind × ℕ)) → u ≢ x → u ≢ y → is_listed u (nodes_but x y nodes) ≡ is_listed u nodes
+  listed_still : (u : NodeName) (nodes : List (NodeName × Kind × ℕ)) → u ≢ x → u ≢ y →
+      is_listed u (nodes_but x y nodes) ≡ is_listed u nodes
   listed_still u [] d e = refl
   listed_still u (n ∷ nodes) d e = go (cases_Bool (same_name n.0 x || same_name n.0 y)) (listed_still u nodes d e)
     where
@@ -52,11 +59,16 @@ module _ (x y : NodeName) where
       differs (inl q) = name_apart u n.0 (λ h. d (h ∙ same_name_tells n.0 x q))
       differs (inr q) = name_apart u n.0 (λ h. e (h ∙ same_name_tells n.0 y q))
 
-      go : ((same_name n.0 x || same_name n.0 y) ≡ true) ⊎ ((same_name n.0 x || same_name n.0 y) ≡ false) → is_listed u (nodes_but x y nodes) ≡ is_listed u nodes → is_listed u (nodes_but x y (n ∷ nodes)) ≡ is_listed u (n ∷ nodes)
+      go : ((same_name n.0 x || same_name n.0 y) ≡ true)
+          ⊎ ((same_name n.0 x || same_name n.0 y) ≡ false) →
+          is_listed u (nodes_but x y nodes) ≡ is_listed u nodes →
+          is_listed u (nodes_but x y (n ∷ nodes)) ≡ is_listed u (n ∷ nodes)
       go (inl q) ih =
           ap (λ b. is_listed u (if b then nodes_but x y nodes else n ∷ nodes_but x y nodes)) q ∙ ih
-          ∙ sym (of_false (same_name u n.0) (is_listed u nodes) (differs (one_of (same_name n.0 x) (same_name n.0 y) q)))
-      go (inr q) ih = ap (λ b. is_listed u (if b then nodes_but x y nodes else n ∷ nodes_but x y nodes)) q ∙ ap (λ b. same_name u n.0 || b) ih
+          ∙ sym (of_false (same_name u n.0) (is_listed u nodes)
+          (differs (one_of (same_name n.0 x) (same_name n.0 y) q)))
+      go (inr q) ih = ap (λ b. is_listed u
+          (if b then nodes_but x y nodes else n ∷ nodes_but x y nodes)) q ∙ ap (λ b. same_name u n.0 || b) ih
 
   module _ (N : NamedNet NodeName) where
     pub first_gone : is_live (net_but x y N) x ≡ false

@@ -14,4 +14,5 @@ pub returns-in-Croissant-clause-ok : goal.returns-in-Croissant-clause-ok
 returns-in-Croissant-clause-ok c = rw c.in-Croissant.is (fallen_croissant _ _ _ _ _ c.croissant_down.ensures)
 
 pub returns-in_ok-fallen-in-Bracket-clause-ok : goal.returns-in_ok-fallen-in-Bracket-clause-ok
-returns-in_ok-fallen-in-Bracket-clause-ok c = rw c.in-Bracket.is (fallen_bracket _ _ _ _ _ c.in_ok-fallen-in-Bracket.ensures.ok)
+returns-in_ok-fallen-in-Bracket-clause-ok c = rw c.in-Bracket.is
+    (fallen_bracket _ _ _ _ _ c.in_ok-fallen-in-Bracket.ensures.ok)

@@ -4,7 +4,8 @@ use Rattle.ol_context.proofs.Walked.{Walking}
 use Rattle.ol_context.proofs.walking.walk.Given as goal
 
 abbrev pub invariant-loop-next : goal.invariant-loop-next
-invariant-loop-next l = Walking l.net l.from (context_of l.initial.values l.fn.context) l.initial.values l.values l.context l.at l.made l.edges
+invariant-loop-next l = Walking l.net l.from
+    (context_of l.initial.values l.fn.context) l.initial.values l.values l.context l.at l.made l.edges
 
 abbrev pub decreases-loop-next : goal.decreases-loop-next
 decreases-loop-next l = l.edges - l.made

@@ -1,4 +1,5 @@
-use Rattle.std.proofs.Common.{◌≡◌, ◌≢◌, ◌+◌, ◌-◌, ◌^◌, ◌<◌, List, ◌∷◌, length, refl, sym, ap, ◌∙◌, subst, arith, add-one}
+use Rattle.std.proofs.Common.{◌≡◌, ◌≢◌, ◌+◌, ◌-◌, ◌^◌, ◌<◌, List, ◌∷◌, length, refl, sym, ap, ◌∙◌}
+use Rattle.std.proofs.Common.{subst, arith, add-one}
 use Rattle.ol_context.specs.Contexts.{Level, empty, o}
 use Rattle.ol_context.specs.Asked.{os}
 use Rattle.ol_context.specs.Shapes.{value, IsNumberOf, context_of}
@@ -11,7 +12,8 @@ use Rattle.ol_demand.specs.Chaining.{IsEndOf, IsUnchangedUnlessLeft}
 use Rattle.ol_demand.specs.Demands.{asks}
 use Rattle.ol_demand.specs.declared.answers.End.TheVariants as answer
 use Rattle.ol_demand.proofs.UnderWays.{left_off, found_left, found_lost, found_spent, asked_more, under_stops}
-use Rattle.ol_demand.proofs.Questions.{end_is, matched_last, known_head, running_on, free_on, journal_on, met_on, met_stopped}
+use Rattle.ol_demand.proofs.Questions.{end_is, matched_last, known_head, running_on, free_on}
+use Rattle.ol_demand.proofs.Questions.{journal_on, met_on, met_stopped}
 use Rattle.ol_demand.proofs.asking.ask.Goals as goal
 
 pub loop-end-init : goal.loop-end-init
@@ -25,28 +27,42 @@ loop-end-init c = record {
 
 pub ask_once-requires-clause-port : goal.ask_once-requires-clause-port
 ask_once-requires-clause-port c =
-    let p = port_this c.args.net.now.free c.args.asked.now.frames.now.items c.args.asked.now.at c.index-frame.result.now c.requires.ports (omega (arith, c.requires.last)) c.index-frame.ensures in
+    let p = port_this c.args.net.now.free c.args.asked.now.frames.now.items c.args.asked.now.at
+    c.index-frame.result.now c.requires.ports (omega (arith, c.requires.last)) c.index-frame.ensures in
     omega (arith, p, c.loop-end.invariant.free)
 
 pub ask_once-requires-clause-levels : goal.ask_once-requires-clause-levels
 ask_once-requires-clause-levels c =
     held_more c.args.values.now c.loop-end.values c.index-frame.result.now.levels c.loop-end.invariant.extends
-    (held_this c.args.values.now c.args.asked.now.frames.now.items c.args.asked.now.at c.index-frame.result.now c.requires.frames (omega (arith, c.requires.last)) c.index-frame.ensures)
+    (held_this c.args.values.now c.args.asked.now.frames.now.items c.args.asked.now.at
+    c.index-frame.result.now c.requires.frames (omega (arith, c.requires.last)) c.index-frame.ensures)
 
 pub returns-in_err-end-clause-stopped : goal.returns-in_err-end-clause-stopped
-returns-in_err-end-clause-stopped c = on_err c.from_residual.result (λ old heads places front s ss z b u. under_stops old c.loop-end.net c.loop-end.run heads c.args.fuel places (asks front (s ∷ ss) c.loop-end.lams) (c.loop-end.invariant.under old heads places front s ss z b u) c.loop-end.invariant.running.within)
+returns-in_err-end-clause-stopped c = on_err c.from_residual.result
+    (λ old heads places front s ss z b u.
+    under_stops old c.loop-end.net c.loop-end.run heads c.args.fuel places
+    (asks front (s ∷ ss) c.loop-end.lams)
+    (c.loop-end.invariant.under old heads places front s ss z b u) c.loop-end.invariant.running.within)
 
 pub returns-then-len-fuel-clause-answered : goal.returns-then-len-fuel-clause-answered
 returns-then-len-fuel-clause-answered c = λ old heads places front s ss z b u.
-    let e = end_is c.args.values.now c.args.asked.now.frames.now.items c.args.asked.now.at c.index-frame.result.now c.requires.last c.index-frame.ensures front s z c.loop-end.values c.loop-end.mark c.loop-end.lams c.loop-end.invariant.extends c.requires.frames c.loop-end.invariant.mark.is c.loop-end.net c.ask_once.new.values c.in_ok-end.end (answer.Met c.in-Met.first c.in-Met.second) c.in_ok-end.ensures.ends c.in-Met.is in
-    left_off old c.loop-end.net c.loop-end.run heads places front s ss c.loop-end.lams b (c.loop-end.invariant.under old heads places front s ss z b u) c.in-Met.first.0 c.in-Met.second.0 e c.is_net.ensures.net
+    let e = end_is c.args.values.now c.args.asked.now.frames.now.items c.args.asked.now.at
+    c.index-frame.result.now c.requires.last c.index-frame.ensures front s z c.loop-end.values
+    c.loop-end.mark c.loop-end.lams c.loop-end.invariant.extends c.requires.frames
+    c.loop-end.invariant.mark.is c.loop-end.net c.ask_once.new.values c.in_ok-end.end
+    (answer.Met c.in-Met.first c.in-Met.second) c.in_ok-end.ensures.ends c.in-Met.is in
+    left_off old c.loop-end.net c.loop-end.run heads places front s ss c.loop-end.lams b
+    (c.loop-end.invariant.under old heads places front s ss z b u) c.in-Met.first.0
+    c.in-Met.second.0 e c.is_net.ensures.net
 
 pub loop-end-smaller-in-Continue-branch-2 : goal.loop-end-smaller-in-Continue-branch-2
 loop-end-smaller-in-Continue-branch-2 c =
-    let j = journal_on c.loop-end.net c.rewrite_pair.new.net c.loop-end.run c.rewrite_pair.new.self c.in-Met.first.0 c.in-Met.second.0 c.in_ok-rewrite_pair-in-Met.ensures.ok in
+    let j = journal_on c.loop-end.net c.rewrite_pair.new.net c.loop-end.run c.rewrite_pair.new.self
+    c.in-Met.first.0 c.in-Met.second.0 c.in_ok-rewrite_pair-in-Met.ensures.ok in
     let more : length c.loop-end.run.journal ≢ c.args.fuel = λ q. c.if-len-fuel.false (c.len.ensures ∙ q) in
     let i = c.loop-end.invariant.running.within in
-    let r : (c.args.fuel - length c.rewrite_pair.new.self.journal) + (2 ^ 32 - c.loop-end.lams) < (c.args.fuel - length c.loop-end.run.journal) + (2 ^ 32 - c.loop-end.lams) = omega arith in
+    let r : (c.args.fuel - length c.rewrite_pair.new.self.journal) + (2 ^ 32 - c.loop-end.lams) <
+    (c.args.fuel - length c.loop-end.run.journal) + (2 ^ 32 - c.loop-end.lams) = omega arith in
     r
 
 pub loop-end-preserved-in-Continue-branch-2 : goal.loop-end-preserved-in-Continue-branch-2
@@ -54,15 +70,27 @@ loop-end-preserved-in-Continue-branch-2 c =
     let i = c.loop-end.invariant in
     let a = c.in_ok-rewrite_pair-in-Met.ensures.ok in
     let more : length c.loop-end.run.journal ≢ c.args.fuel = λ q. c.if-len-fuel.false (c.len.ensures ∙ q) in
-    let kept : c.ask_once.new.values ≡ c.loop-end.values = subst (λ end. IsUnchangedUnlessLeft c.loop-end.values c.ask_once.new.values end) c.in-Met.is c.in_ok-end.ensures.unchanged in
+    let kept : c.ask_once.new.values ≡ c.loop-end.values = subst
+    (λ end. IsUnchangedUnlessLeft c.loop-end.values c.ask_once.new.values end) c.in-Met.is
+    c.in_ok-end.ensures.unchanged in
     record {
-      extends = extends_trans c.args.values.now c.loop-end.values c.ask_once.new.values i.extends c.ask_once.ensures.extends;
+      extends = extends_trans c.args.values.now c.loop-end.values c.ask_once.new.values i.extends
+          c.ask_once.ensures.extends;
       mark = subst (λ (vs : List Level). IsNumberOf vs c.loop-end.mark (os c.loop-end.lams empty)) (sym kept) i.mark;
-      running = running_on c.loop-end.net c.rewrite_pair.new.net c.loop-end.run c.rewrite_pair.new.self c.args.fuel c.in-Met.first.0 c.in-Met.second.0 i.running more a;
-      free = free_on c.loop-end.net c.rewrite_pair.new.net c.loop-end.run c.rewrite_pair.new.self c.in-Met.first.0 c.in-Met.second.0 a ∙ i.free;
+      running = running_on c.loop-end.net c.rewrite_pair.new.net c.loop-end.run
+          c.rewrite_pair.new.self c.args.fuel c.in-Met.first.0 c.in-Met.second.0 i.running more a;
+      free = free_on c.loop-end.net c.rewrite_pair.new.net c.loop-end.run c.rewrite_pair.new.self
+          c.in-Met.first.0 c.in-Met.second.0 a ∙ i.free;
       under = λ old heads places front s ss z b u.
-          let e = end_is c.args.values.now c.args.asked.now.frames.now.items c.args.asked.now.at c.index-frame.result.now c.requires.last c.index-frame.ensures front s z c.loop-end.values c.loop-end.mark c.loop-end.lams c.loop-end.invariant.extends c.requires.frames c.loop-end.invariant.mark.is c.loop-end.net c.ask_once.new.values c.in_ok-end.end (answer.Met c.in-Met.first c.in-Met.second) c.in_ok-end.ensures.ends c.in-Met.is in
-          met_on old c.loop-end.net c.rewrite_pair.new.net c.loop-end.run heads places front s ss c.loop-end.lams c.in-Met.first.0 c.in-Met.second.0 b (c.loop-end.invariant.under old heads places front s ss z b u) c.is_net.ensures.net e c.rewrite_pair.new.self i.running.names a;
+          let e = end_is c.args.values.now c.args.asked.now.frames.now.items c.args.asked.now.at
+          c.index-frame.result.now c.requires.last c.index-frame.ensures front s z
+          c.loop-end.values c.loop-end.mark c.loop-end.lams c.loop-end.invariant.extends
+          c.requires.frames c.loop-end.invariant.mark.is c.loop-end.net c.ask_once.new.values
+          c.in_ok-end.end (answer.Met c.in-Met.first c.in-Met.second) c.in_ok-end.ensures.ends c.in-Met.is in
+          met_on old c.loop-end.net c.rewrite_pair.new.net c.loop-end.run heads places front s ss
+          c.loop-end.lams c.in-Met.first.0 c.in-Met.second.0 b
+          (c.loop-end.invariant.under old heads places front s ss z b u) c.is_net.ensures.net e
+          c.rewrite_pair.new.self i.running.names a;
     }
 
 pub returns-in_err-rewrite_pair-in-Met-clause-stopped : goal.returns-in_err-rewrite_pair-in-Met-clause-stopped
@@ -70,68 +98,132 @@ returns-in_err-rewrite_pair-in-Met-clause-stopped c =
     let more : length c.loop-end.run.journal ≢ c.args.fuel = λ q. c.if-len-fuel.false (c.len.ensures ∙ q) in
     let i = c.loop-end.invariant.running.within in
     on_err c.from_residual-in_err-rewrite_pair-in-Met.result (λ old heads places front s ss z b u.
-    let e = end_is c.args.values.now c.args.asked.now.frames.now.items c.args.asked.now.at c.index-frame.result.now c.requires.last c.index-frame.ensures front s z c.loop-end.values c.loop-end.mark c.loop-end.lams c.loop-end.invariant.extends c.requires.frames c.loop-end.invariant.mark.is c.loop-end.net c.ask_once.new.values c.in_ok-end.end (answer.Met c.in-Met.first c.in-Met.second) c.in_ok-end.ensures.ends c.in-Met.is in
-    met_stopped old c.loop-end.net c.rewrite_pair.new.net c.loop-end.run heads places front s ss c.loop-end.lams c.in-Met.first.0 c.in-Met.second.0 b (c.loop-end.invariant.under old heads places front s ss z b u) c.is_net.ensures.net e c.args.fuel (omega arith) c.in_err-rewrite_pair-in-Met.ensures.err)
+    let e = end_is c.args.values.now c.args.asked.now.frames.now.items c.args.asked.now.at
+    c.index-frame.result.now c.requires.last c.index-frame.ensures front s z c.loop-end.values
+    c.loop-end.mark c.loop-end.lams c.loop-end.invariant.extends c.requires.frames
+    c.loop-end.invariant.mark.is c.loop-end.net c.ask_once.new.values c.in_ok-end.end
+    (answer.Met c.in-Met.first c.in-Met.second) c.in_ok-end.ensures.ends c.in-Met.is in
+    met_stopped old c.loop-end.net c.rewrite_pair.new.net c.loop-end.run heads places front s ss
+    c.loop-end.lams c.in-Met.first.0 c.in-Met.second.0 b
+    (c.loop-end.invariant.under old heads places front s ss z b u) c.is_net.ensures.net e
+    c.args.fuel (omega arith) c.in_err-rewrite_pair-in-Met.ensures.err)
 
 pub rewrite_pair-requires-clause-pair : goal.rewrite_pair-requires-clause-pair
-rewrite_pair-requires-clause-pair c = let e = subst (IsEndOf c.loop-end.net c.index-frame.result.now.port _ c.ask_once.new.values) c.in-Met.is c.in_ok-end.ensures.ends in (e.rule, e.pair)
+rewrite_pair-requires-clause-pair c = let e = subst
+    (IsEndOf c.loop-end.net c.index-frame.result.now.port _ c.ask_once.new.values) c.in-Met.is
+    c.in_ok-end.ensures.ends in (e.rule, e.pair)
 
 pub leave_by-requires-clause-parents : goal.leave_by-requires-clause-parents
 leave_by-requires-clause-parents c =
-    let x = extends_trans c.args.values.now c.loop-end.values c.ask_once.new.values c.loop-end.invariant.extends c.ask_once.ensures.extends in
-    subst ParentsFirst (sym (frames_more c.args.values.now c.ask_once.new.values c.args.asked.now.frames.now.items x c.requires.frames)) c.requires.parents
+    let x = extends_trans c.args.values.now c.loop-end.values c.ask_once.new.values
+    c.loop-end.invariant.extends c.ask_once.ensures.extends in
+    subst ParentsFirst (sym (frames_more c.args.values.now c.ask_once.new.values
+    c.args.asked.now.frames.now.items x c.requires.frames)) c.requires.parents
 
 pub leave_by-requires-clause-frames : goal.leave_by-requires-clause-frames
 leave_by-requires-clause-frames c =
-    let x = extends_trans c.args.values.now c.loop-end.values c.ask_once.new.values c.loop-end.invariant.extends c.ask_once.ensures.extends in
+    let x = extends_trans c.args.values.now c.loop-end.values c.ask_once.new.values
+    c.loop-end.invariant.extends c.ask_once.ensures.extends in
     held_frames_more c.args.values.now c.ask_once.new.values c.args.asked.now.frames.now.items x c.requires.frames
 
 pub returns-in_err-left-in-Left-clause-stopped : goal.returns-in_err-left-in-Left-clause-stopped
-returns-in_err-left-in-Left-clause-stopped c = on_err c.from_residual-in_err-left-in-Left.result (λ old heads places front s ss z b u. under_stops old c.loop-end.net c.loop-end.run heads c.args.fuel places (asks front (s ∷ ss) c.loop-end.lams) (c.loop-end.invariant.under old heads places front s ss z b u) c.loop-end.invariant.running.within)
+returns-in_err-left-in-Left-clause-stopped c = on_err c.from_residual-in_err-left-in-Left.result
+    (λ old heads places front s ss z b u.
+    under_stops old c.loop-end.net c.loop-end.run heads c.args.fuel places
+    (asks front (s ∷ ss) c.loop-end.lams)
+    (c.loop-end.invariant.under old heads places front s ss z b u) c.loop-end.invariant.running.within)
 
 pub returns-in-Left-clause-answered : goal.returns-in-Left-clause-answered
 returns-in-Left-clause-answered c = λ old heads places front s ss z b u.
-    let e = end_is c.args.values.now c.args.asked.now.frames.now.items c.args.asked.now.at c.index-frame.result.now c.requires.last c.index-frame.ensures front s z c.loop-end.values c.loop-end.mark c.loop-end.lams c.loop-end.invariant.extends c.requires.frames c.loop-end.invariant.mark.is c.loop-end.net c.ask_once.new.values c.in_ok-end.end (answer.Left c.in-Left.port c.in-Left.context) c.in_ok-end.ensures.ends c.in-Left.is in
-    let x = extends_trans c.args.values.now c.loop-end.values c.ask_once.new.values c.loop-end.invariant.extends c.ask_once.ensures.extends in
+    let e = end_is c.args.values.now c.args.asked.now.frames.now.items c.args.asked.now.at
+    c.index-frame.result.now c.requires.last c.index-frame.ensures front s z c.loop-end.values
+    c.loop-end.mark c.loop-end.lams c.loop-end.invariant.extends c.requires.frames
+    c.loop-end.invariant.mark.is c.loop-end.net c.ask_once.new.values c.in_ok-end.end
+    (answer.Left c.in-Left.port c.in-Left.context) c.in_ok-end.ensures.ends c.in-Left.is in
+    let x = extends_trans c.args.values.now c.loop-end.values c.ask_once.new.values
+    c.loop-end.invariant.extends c.ask_once.ensures.extends in
     let a = answer_of c.ask_once.new.values c.in_ok-left-in-Left.left in
-    let m = subst (λ (F : List Frame). IsMatched F c.args.asked.now.at c.loop-end.lams c.in-Left.port (context_of c.ask_once.new.values c.in-Left.context) a)
-    (frames_more c.args.values.now c.ask_once.new.values c.args.asked.now.frames.now.items x c.requires.frames) c.in_ok-left-in-Left.ensures.answer in
-    found_left old c.loop-end.net c.loop-end.run heads places front s ss c.loop-end.lams b (c.loop-end.invariant.under old heads places front s ss z b u) c.in-Left.port (context_of c.ask_once.new.values c.in-Left.context) a e
-    (matched_last c.args.values.now c.args.asked.now.frames.now.items c.args.asked.now.at c.index-frame.result.now c.requires.last c.index-frame.ensures front s z c.loop-end.lams c.in-Left.port (context_of c.ask_once.new.values c.in-Left.context) a m)
+    let m = subst (λ (F : List Frame). IsMatched F c.args.asked.now.at c.loop-end.lams
+    c.in-Left.port (context_of c.ask_once.new.values c.in-Left.context) a)
+    (frames_more c.args.values.now c.ask_once.new.values c.args.asked.now.frames.now.items x
+    c.requires.frames) c.in_ok-left-in-Left.ensures.answer in
+    found_left old c.loop-end.net c.loop-end.run heads places front s ss c.loop-end.lams b
+    (c.loop-end.invariant.under old heads places front s ss z b u) c.in-Left.port
+    (context_of c.ask_once.new.values c.in-Left.context) a e
+    (matched_last c.args.values.now c.args.asked.now.frames.now.items c.args.asked.now.at
+    c.index-frame.result.now c.requires.last c.index-frame.ensures front s z c.loop-end.lams
+    c.in-Left.port (context_of c.ask_once.new.values c.in-Left.context) a m)
 
 pub returns-in-Left-clause-known : goal.returns-in-Left-clause-known
 returns-in-Left-clause-known c =
-    let e = subst (IsEndOf c.loop-end.net c.index-frame.result.now.port _ c.ask_once.new.values) c.in-Left.is c.in_ok-end.ensures.ends in
-    let x = extends_trans c.args.values.now c.loop-end.values c.ask_once.new.values c.loop-end.invariant.extends c.ask_once.ensures.extends in
-    let m = subst (λ (F : List Frame). IsMatched F c.args.asked.now.at c.loop-end.lams c.in-Left.port (context_of c.ask_once.new.values c.in-Left.context) (answer_of c.ask_once.new.values c.in_ok-left-in-Left.left))
-    (frames_more c.args.values.now c.ask_once.new.values c.args.asked.now.frames.now.items x c.requires.frames) c.in_ok-left-in-Left.ensures.answer in
+    let e = subst (IsEndOf c.loop-end.net c.index-frame.result.now.port _ c.ask_once.new.values)
+    c.in-Left.is c.in_ok-end.ensures.ends in
+    let x = extends_trans c.args.values.now c.loop-end.values c.ask_once.new.values
+    c.loop-end.invariant.extends c.ask_once.ensures.extends in
+    let m = subst (λ (F : List Frame). IsMatched F c.args.asked.now.at c.loop-end.lams
+    c.in-Left.port (context_of c.ask_once.new.values c.in-Left.context)
+    (answer_of c.ask_once.new.values c.in_ok-left-in-Left.left))
+    (frames_more c.args.values.now c.ask_once.new.values c.args.asked.now.frames.now.items x
+    c.requires.frames) c.in_ok-left-in-Left.ensures.answer in
     let n = count_frames c.args.values.now c.args.asked.now.frames.now.items in
-    known_head c.loop-end.net c.is_net.ensures.net (frames_of c.args.values.now c.args.asked.now.frames.now.items) c.args.asked.now.at c.loop-end.lams c.in-Left.port (context_of c.ask_once.new.values c.in-Left.context) c.index-frame.result.now.port _ c.ask_once.new.values c.in_ok-left-in-Left.left
+    known_head c.loop-end.net c.is_net.ensures.net
+    (frames_of c.args.values.now c.args.asked.now.frames.now.items) c.args.asked.now.at
+    c.loop-end.lams c.in-Left.port (context_of c.ask_once.new.values c.in-Left.context)
+    c.index-frame.result.now.port _ c.ask_once.new.values c.in_ok-left-in-Left.left
     c.requires.parents (omega (arith, c.requires.last)) e m
 
 pub returns-then-lams-nodes-clause-answered : goal.returns-then-lams-nodes-clause-answered
 returns-then-lams-nodes-clause-answered c = λ old heads places front s ss z b u.
-    let e = end_is c.args.values.now c.args.asked.now.frames.now.items c.args.asked.now.at c.index-frame.result.now c.requires.last c.index-frame.ensures front s z c.loop-end.values c.loop-end.mark c.loop-end.lams c.loop-end.invariant.extends c.requires.frames c.loop-end.invariant.mark.is c.loop-end.net c.ask_once.new.values c.in_ok-end.end (answer.Undefined) c.in_ok-end.ensures.ends c.in-Undefined.is in
-    found_lost old c.loop-end.net c.loop-end.run heads places front s ss c.loop-end.lams b (c.loop-end.invariant.under old heads places front s ss z b u) e (omega (arith, c.if-lams-nodes.true, c.nodes.ensures.nodes))
+    let e = end_is c.args.values.now c.args.asked.now.frames.now.items c.args.asked.now.at
+    c.index-frame.result.now c.requires.last c.index-frame.ensures front s z c.loop-end.values
+    c.loop-end.mark c.loop-end.lams c.loop-end.invariant.extends c.requires.frames
+    c.loop-end.invariant.mark.is c.loop-end.net c.ask_once.new.values c.in_ok-end.end
+    (answer.Undefined) c.in_ok-end.ensures.ends c.in-Undefined.is in
+    found_lost old c.loop-end.net c.loop-end.run heads places front s ss c.loop-end.lams b
+    (c.loop-end.invariant.under old heads places front s ss z b u) e
+    (omega (arith, c.if-lams-nodes.true, c.nodes.ensures.nodes))
 
 pub returns-in_err-mark-in-Undefined-clause-stopped : goal.returns-in_err-mark-in-Undefined-clause-stopped
-returns-in_err-mark-in-Undefined-clause-stopped c = on_err c.from_residual-in_err-mark-in-Undefined.result (λ old heads places front s ss z b u. under_stops old c.loop-end.net c.loop-end.run heads c.args.fuel places (asks front (s ∷ ss) c.loop-end.lams) (c.loop-end.invariant.under old heads places front s ss z b u) c.loop-end.invariant.running.within)
+returns-in_err-mark-in-Undefined-clause-stopped c = on_err
+    c.from_residual-in_err-mark-in-Undefined.result
+    (λ old heads places front s ss z b u.
+    under_stops old c.loop-end.net c.loop-end.run heads c.args.fuel places
+    (asks front (s ∷ ss) c.loop-end.lams)
+    (c.loop-end.invariant.under old heads places front s ss z b u) c.loop-end.invariant.running.within)
 
 pub loop-end-preserved : goal.loop-end-preserved
 loop-end-preserved c =
     let i = c.loop-end.invariant in
-    let kept : c.ask_once.new.values ≡ c.loop-end.values = subst (λ end. IsUnchangedUnlessLeft c.loop-end.values c.ask_once.new.values end) c.in-Undefined.is c.in_ok-end.ensures.unchanged in
-    let v : value c.ask_once.new.values c.loop-end.mark ≡ os c.loop-end.lams empty = ap (λ (vs : List Level). value vs c.loop-end.mark) kept ∙ i.mark.is in
+    let kept : c.ask_once.new.values ≡ c.loop-end.values = subst
+    (λ end. IsUnchangedUnlessLeft c.loop-end.values c.ask_once.new.values end) c.in-Undefined.is
+    c.in_ok-end.ensures.unchanged in
+    let v : value c.ask_once.new.values c.loop-end.mark ≡ os c.loop-end.lams empty = ap
+    (λ (vs : List Level). value vs c.loop-end.mark) kept ∙ i.mark.is in
     let r = c.in_ok-mark-in-Undefined.ensures.new in
     record {
-      extends = extends_trans c.args.values.now c.ask_once.new.values c.put_o.new.self (extends_trans c.args.values.now c.loop-end.values c.ask_once.new.values i.extends c.ask_once.ensures.extends) c.put_o.ensures.extends;
+      extends = extends_trans c.args.values.now c.ask_once.new.values c.put_o.new.self
+          (extends_trans c.args.values.now c.loop-end.values c.ask_once.new.values i.extends
+          c.ask_once.ensures.extends) c.put_o.ensures.extends;
       mark = rw add-one (record { held = r.held; is = r.is ∙ ap o v });
       running = i.running;
       free = i.free;
-      under = λ old heads places front s ss z b u. let e = end_is c.args.values.now c.args.asked.now.frames.now.items c.args.asked.now.at c.index-frame.result.now c.requires.last c.index-frame.ensures front s z c.loop-end.values c.loop-end.mark c.loop-end.lams c.loop-end.invariant.extends c.requires.frames c.loop-end.invariant.mark.is c.loop-end.net c.ask_once.new.values c.in_ok-end.end (answer.Undefined) c.in_ok-end.ensures.ends c.in-Undefined.is in rw add-one (asked_more old c.loop-end.net c.loop-end.run heads places front s ss c.loop-end.lams b (c.loop-end.invariant.under old heads places front s ss z b u) e (omega (arith, c.if-lams-nodes.false, c.nodes.ensures.nodes)));
+      under = λ old heads places front s ss z b u.
+          let e = end_is c.args.values.now c.args.asked.now.frames.now.items c.args.asked.now.at
+          c.index-frame.result.now c.requires.last c.index-frame.ensures front s z c.loop-end.values
+          c.loop-end.mark c.loop-end.lams c.loop-end.invariant.extends c.requires.frames
+          c.loop-end.invariant.mark.is c.loop-end.net c.ask_once.new.values c.in_ok-end.end
+          (answer.Undefined) c.in_ok-end.ensures.ends c.in-Undefined.is in
+          rw add-one (asked_more old c.loop-end.net c.loop-end.run heads places front s ss
+          c.loop-end.lams b (c.loop-end.invariant.under old heads places front s ss z b u) e
+          (omega (arith, c.if-lams-nodes.false, c.nodes.ensures.nodes)));
     }
 
 pub returns-in-Budget-clause-answered : goal.returns-in-Budget-clause-answered
 returns-in-Budget-clause-answered c = λ old heads places front s ss z b u.
-    let e = end_is c.args.values.now c.args.asked.now.frames.now.items c.args.asked.now.at c.index-frame.result.now c.requires.last c.index-frame.ensures front s z c.loop-end.values c.loop-end.mark c.loop-end.lams c.loop-end.invariant.extends c.requires.frames c.loop-end.invariant.mark.is c.loop-end.net c.ask_once.new.values c.in_ok-end.end (answer.Budget) c.in_ok-end.ensures.ends c.in-Budget.is in
-    found_spent old c.loop-end.net c.loop-end.run heads places front s ss c.loop-end.lams b (c.loop-end.invariant.under old heads places front s ss z b u) e
+    let e = end_is c.args.values.now c.args.asked.now.frames.now.items c.args.asked.now.at
+    c.index-frame.result.now c.requires.last c.index-frame.ensures front s z c.loop-end.values
+    c.loop-end.mark c.loop-end.lams c.loop-end.invariant.extends c.requires.frames
+    c.loop-end.invariant.mark.is c.loop-end.net c.ask_once.new.values c.in_ok-end.end
+    (answer.Budget) c.in_ok-end.ensures.ends c.in-Budget.is in
+    found_spent old c.loop-end.net c.loop-end.run heads places front s ss c.loop-end.lams b
+    (c.loop-end.invariant.under old heads places front s ss z b u) e

@@ -13,7 +13,8 @@ invariant-loop-end l = record {
   mark : IsNumberOf l.values l.mark (os l.lams empty);
   running : IsRunning l.net l.run l.fuel;
   free : l.net.free ≡ l.initial.net.free;
-  under : Whatever l.initial.net l.initial.run (frames_of l.initial.values l.asked.frames.now.items) (λ old heads places front s ss. IsUnderWay old l.net l.run heads places (asks front (s ∷ ss) l.lams));
+  under : Whatever l.initial.net l.initial.run (frames_of l.initial.values l.asked.frames.now.items)
+      (λ old heads places front s ss. IsUnderWay old l.net l.run heads places (asks front (s ∷ ss) l.lams));
 }
 
 abbrev pub decreases-loop-end : goal.decreases-loop-end

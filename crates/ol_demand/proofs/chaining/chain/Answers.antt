@@ -12,42 +12,66 @@ use Rattle.ol_demand.proofs.OnChains.{begins, meets, leaves, goes_on, stops, spe
 use Rattle.ol_demand.proofs.chaining.chain.Goals as goal
 
 pub loop-next-init : goal.loop-next-init
-loop-next-init c = begins c.args.net.now c.args.from (context_of c.args.values.now c.args.context) c.args.values.now (2 * c.nodes.result) c.args.context c.requires.held c.requires.port (ap (λ n. 2 * n) c.nodes.ensures.nodes)
+loop-next-init c = begins c.args.net.now c.args.from
+    (context_of c.args.values.now c.args.context) c.args.values.now
+    (2 * c.nodes.result) c.args.context c.requires.held c.requires.port (ap (λ n. 2 * n) c.nodes.ensures.nodes)
 
 pub returns-in-Some-pair_at-clause-ends : goal.returns-in-Some-pair_at-clause-ends
 returns-in-Some-pair_at-clause-ends c =
-    let f = subst (λ (o : Option (NodeId × NodeId)). FindsPair c.args.net.now c.loop-next.at o) c.in-Some-pair_at.is c.pair_at.ensures in
-    meets c.args.net.now c.args.from (context_of c.args.values.now c.args.context) c.args.values.now (2 * c.nodes.result) c.loop-next.values c.loop-next.context c.loop-next.at c.loop-next.made c.loop-next.invariant
+    let f = subst (λ (o : Option (NodeId × NodeId)).
+    FindsPair c.args.net.now c.loop-next.at o) c.in-Some-pair_at.is c.pair_at.ensures in
+    meets c.args.net.now c.args.from (context_of c.args.values.now c.args.context) c.args.values.now
+    (2 * c.nodes.result) c.loop-next.values c.loop-next.context c.loop-next.at c.loop-next.made
+    c.loop-next.invariant
     c.in-Some-pair_at.first.0 c.in-Some-pair_at.second.0 f.1.0 f.0 f.1.1
 
 pub returns-in-Free-clause-ends : goal.returns-in-Free-clause-ends
 returns-in-Free-clause-ends c =
-    leaves c.args.net.now c.args.from (context_of c.args.values.now c.args.context) c.args.values.now (2 * c.nodes.result) c.loop-next.values c.loop-next.context c.loop-next.at c.loop-next.made c.loop-next.invariant
+    leaves c.args.net.now c.args.from (context_of c.args.values.now c.args.context)
+    c.args.values.now (2 * c.nodes.result) c.loop-next.values c.loop-next.context c.loop-next.at
+    c.loop-next.made c.loop-next.invariant
     c.in-Some.next c.in-Some.ensures.linked c.in-Free.port c.in-Free.is
 
 pub cross-requires-clause-port : goal.cross-requires-clause-port
-cross-requires-clause-port c = node_port c.args.net.now c.is_net.ensures.net c.loop-next.at c.in-Some.next c.in-Some.ensures.linked c.in_default-next.not-Free
+cross-requires-clause-port c = node_port c.args.net.now c.is_net.ensures.net c.loop-next.at
+    c.in-Some.next c.in-Some.ensures.linked c.in_default-next.not-Free
 
 pub returns-in-Undefined-clause-ends : goal.returns-in-Undefined-clause-ends
 returns-in-Undefined-clause-ends c =
-    let f = subst (λ (o : Option (NodeId × NodeId)). FindsPair c.args.net.now c.loop-next.at o) c.in_default-pair_at.is c.pair_at.ensures in
-    stops c.args.net.now c.args.from (context_of c.args.values.now c.args.context) c.args.values.now (2 * c.nodes.result) c.loop-next.values c.loop-next.context c.loop-next.at c.loop-next.made c.loop-next.invariant
-    c.in-Some.next c.in-Some.ensures.linked f c.in-Some.next refl c.in_default-next.not-Free (c.in_ok-crossed.ensures.undefined.0 c.in-Undefined.is)
+    let f = subst (λ (o : Option (NodeId × NodeId)).
+    FindsPair c.args.net.now c.loop-next.at o) c.in_default-pair_at.is c.pair_at.ensures in
+    stops c.args.net.now c.args.from (context_of c.args.values.now c.args.context) c.args.values.now
+    (2 * c.nodes.result) c.loop-next.values c.loop-next.context c.loop-next.at c.loop-next.made
+    c.loop-next.invariant
+    c.in-Some.next c.in-Some.ensures.linked f c.in-Some.next refl c.in_default-next.not-Free
+    (c.in_ok-crossed.ensures.undefined.0 c.in-Undefined.is)
 
 pub returns-then-made-most-clause-ends : goal.returns-then-made-most-clause-ends
 returns-then-made-most-clause-ends c =
-    let f = subst (λ (o : Option (NodeId × NodeId)). FindsPair c.args.net.now c.loop-next.at o) c.in_default-pair_at.is c.pair_at.ensures in
-    spends c.args.net.now c.args.from (context_of c.args.values.now c.args.context) c.args.values.now (2 * c.nodes.result) c.loop-next.values c.loop-next.context c.loop-next.at c.loop-next.made c.loop-next.invariant
-    c.in-Some.next c.in-Some.ensures.linked f c.cross.new.values c.cross.new.context c.in-Out.port c.in-Some.next refl c.in_default-next.not-Free c.if-made-most.true
+    let f = subst (λ (o : Option (NodeId × NodeId)).
+    FindsPair c.args.net.now c.loop-next.at o) c.in_default-pair_at.is c.pair_at.ensures in
+    spends c.args.net.now c.args.from (context_of c.args.values.now c.args.context)
+    c.args.values.now (2 * c.nodes.result) c.loop-next.values c.loop-next.context c.loop-next.at
+    c.loop-next.made c.loop-next.invariant
+    c.in-Some.next c.in-Some.ensures.linked f c.cross.new.values c.cross.new.context c.in-Out.port
+    c.in-Some.next refl c.in_default-next.not-Free c.if-made-most.true
     (subst
-    (λ (r : Cross). IfOut r (λ q. Through (net_of c.args.net.now) (numbered_port c.in-Some.next) (context_of c.loop-next.values c.loop-next.context) (numbered_port q) (context_of c.cross.new.values c.cross.new.context)))
+    (λ (r : Cross). IfOut r (λ q. Through (net_of c.args.net.now) (numbered_port c.in-Some.next)
+    (context_of c.loop-next.values c.loop-next.context) (numbered_port q)
+    (context_of c.cross.new.values c.cross.new.context)))
     c.in-Out.is c.in_ok-crossed.ensures.out)
 
 pub loop-next-preserved : goal.loop-next-preserved
 loop-next-preserved c =
-    let f = subst (λ (o : Option (NodeId × NodeId)). FindsPair c.args.net.now c.loop-next.at o) c.in_default-pair_at.is c.pair_at.ensures in
-    goes_on c.args.net.now c.args.from (context_of c.args.values.now c.args.context) c.args.values.now (2 * c.nodes.result) c.loop-next.values c.loop-next.context c.loop-next.at c.loop-next.made c.loop-next.invariant
-    c.in-Some.next c.in-Some.ensures.linked f c.cross.new.values c.cross.new.context c.in-Out.port c.if-made-most.false c.cross.ensures.extends c.cross.ensures.held
+    let f = subst (λ (o : Option (NodeId × NodeId)).
+    FindsPair c.args.net.now c.loop-next.at o) c.in_default-pair_at.is c.pair_at.ensures in
+    goes_on c.args.net.now c.args.from (context_of c.args.values.now c.args.context)
+    c.args.values.now (2 * c.nodes.result) c.loop-next.values c.loop-next.context c.loop-next.at
+    c.loop-next.made c.loop-next.invariant
+    c.in-Some.next c.in-Some.ensures.linked f c.cross.new.values c.cross.new.context c.in-Out.port
+    c.if-made-most.false c.cross.ensures.extends c.cross.ensures.held
     (subst
-    (λ (r : Cross). IfOut r (λ q. Through (net_of c.args.net.now) (numbered_port c.in-Some.next) (context_of c.loop-next.values c.loop-next.context) (numbered_port q) (context_of c.cross.new.values c.cross.new.context)))
+    (λ (r : Cross). IfOut r (λ q. Through (net_of c.args.net.now) (numbered_port c.in-Some.next)
+    (context_of c.loop-next.values c.loop-next.context) (numbered_port q)
+    (context_of c.cross.new.values c.cross.new.context)))
     c.in-Out.is c.in_ok-crossed.ensures.out)

@@ -4,14 +4,19 @@ use Rattle.ol_readback.specs.declared.answers.ReadNode.{ReadNode}
 use Rattle.ol_readback.proofs.Results.{none_told, some_told}
 use Rattle.ol_demand.specs.Answers.{IsAnswer}
 use Rattle.ol_demand.specs.declared.answers.Demanded.TheVariants as answer
-use Rattle.ol_demand.proofs.Onward.{first_running, first_reading, done_answer, done_heads, done_whole, done_names, done_needed, done_no_more, spent_answer, spent_needed, spent_more}
+use Rattle.ol_demand.proofs.Onward.{first_running, first_reading, done_answer, done_heads}
+use Rattle.ol_demand.proofs.Onward.{done_whole, done_names, done_needed, done_no_more, spent_answer}
+use Rattle.ol_demand.proofs.Onward.{spent_needed, spent_more}
 use Rattle.ol_demand.proofs.demanding.demand.Goals as goal
 
 pub read-requires-clause-ready : goal.read-requires-clause-ready
-read-requires-clause-ready c = first_running c.args.net.now c.new-run.result c.args.heads c.args.fuel c.is_net.ensures.net c.new-run.ensures.start c.new-run.ensures.names c.new-run.ensures.journal c.requires.few
+read-requires-clause-ready c = first_running c.args.net.now c.new-run.result c.args.heads
+    c.args.fuel c.is_net.ensures.net c.new-run.ensures.start c.new-run.ensures.names
+    c.new-run.ensures.journal c.requires.few
 
 pub read-requires-clause-begins : goal.read-requires-clause-begins
-read-requires-clause-begins c = first_reading c.args.net.now c.new-run.result c.args.heads c.args.fuel c.is_net.ensures.net c.new-run.ensures.start c.new-run.ensures.names c.new-run.ensures.journal
+read-requires-clause-begins c = first_reading c.args.net.now c.new-run.result c.args.heads
+    c.args.fuel c.is_net.ensures.net c.new-run.ensures.start c.new-run.ensures.names c.new-run.ensures.journal
 
 pub returns-in_err-nodes-clause-no_memory : goal.returns-in_err-nodes-clause-no_memory
 returns-in_err-nodes-clause-no_memory c = on_err c.from_residual.result c.in_err-nodes.ensures.stopped
@@ -19,7 +24,8 @@ returns-in_err-nodes-clause-no_memory c = on_err c.from_residual.result c.in_err
 pub returns-in_default-clause-answer : goal.returns-in_default-clause-answer
 returns-in_default-clause-answer c =
     let h = none_told _ _ c.in_ok-nodes.field-0 c.in_ok-nodes.ensures.read c.in_default.is in
-    spent_answer c.args.net.now c.read.new.net c.is_net.ensures.net c.read.new.asker.run c.args.heads c.args.fuel h.0 h.1
+    spent_answer c.args.net.now c.read.new.net c.is_net.ensures.net c.read.new.asker.run
+    c.args.heads c.args.fuel h.0 h.1
 
 pub returns-in_default-clause-spent : goal.returns-in_default-clause-spent
 returns-in_default-clause-spent c =
@@ -29,28 +35,37 @@ returns-in_default-clause-spent c =
 pub returns-in_default-clause-needed : goal.returns-in_default-clause-needed
 returns-in_default-clause-needed c =
     let h = none_told _ _ c.in_ok-nodes.field-0 c.in_ok-nodes.ensures.read c.in_default.is in
-    spent_needed c.args.net.now c.read.new.net c.is_net.ensures.net c.read.new.asker.run c.args.heads c.args.fuel h.0 h.1
+    spent_needed c.args.net.now c.read.new.net c.is_net.ensures.net c.read.new.asker.run
+    c.args.heads c.args.fuel h.0 h.1
 
 pub of-requires-clause-whole : goal.of-requires-clause-whole
 of-requires-clause-whole c =
     let w = some_told _ _ c.in_ok-nodes.field-0 c.in-Some.nodes c.in_ok-nodes.ensures.read c.in-Some.is in
-    done_whole c.args.net.now c.read.new.net c.is_net.ensures.net c.args.heads c.args.fuel c.in-Some.nodes.items c.read.new.asker.run.journal
-    (done_answer c.args.net.now c.args.fuel c.read.new.net c.read.new.asker.run c.read.new.asker.fuel c.args.heads w.0 c.in-Some.nodes.items w.1 w.2)
+    done_whole c.args.net.now c.read.new.net c.is_net.ensures.net c.args.heads c.args.fuel
+    c.in-Some.nodes.items c.read.new.asker.run.journal
+    (done_answer c.args.net.now c.args.fuel c.read.new.net c.read.new.asker.run
+    c.read.new.asker.fuel c.args.heads w.0 c.in-Some.nodes.items w.1 w.2)
 
 pub returns-clause-answer : goal.returns-clause-answer
 returns-clause-answer c =
     let w = some_told _ _ c.in_ok-nodes.field-0 c.in-Some.nodes c.in_ok-nodes.ensures.read c.in-Some.is in
-    subst (λ (ns : List ReadNode). IsAnswer c.args.net.now c.args.heads c.args.fuel c.read.new.net (answer.Done ns c.read.new.asker.run.journal)) (sym c.of.ensures)
-    (done_answer c.args.net.now c.args.fuel c.read.new.net c.read.new.asker.run c.read.new.asker.fuel c.args.heads w.0 c.in-Some.nodes.items w.1 w.2)
+    subst (λ (ns : List ReadNode). IsAnswer c.args.net.now c.args.heads c.args.fuel c.read.new.net
+    (answer.Done ns c.read.new.asker.run.journal)) (sym c.of.ensures)
+    (done_answer c.args.net.now c.args.fuel c.read.new.net c.read.new.asker.run
+    c.read.new.asker.fuel c.args.heads w.0 c.in-Some.nodes.items w.1 w.2)
 
 pub returns-clause-spent : goal.returns-clause-spent
-returns-clause-spent c = done_no_more c.args.net.now c.read.new.net c.is_net.ensures.net c.args.heads c.args.fuel c.of.result c.read.new.asker.run.journal (returns-clause-answer c)
+returns-clause-spent c = done_no_more c.args.net.now c.read.new.net c.is_net.ensures.net
+    c.args.heads c.args.fuel c.of.result c.read.new.asker.run.journal (returns-clause-answer c)
 
 pub returns-clause-needed : goal.returns-clause-needed
-returns-clause-needed c = done_needed c.args.net.now c.read.new.net c.is_net.ensures.net c.args.heads c.args.fuel c.of.result c.read.new.asker.run.journal (returns-clause-answer c)
+returns-clause-needed c = done_needed c.args.net.now c.read.new.net c.is_net.ensures.net
+    c.args.heads c.args.fuel c.of.result c.read.new.asker.run.journal (returns-clause-answer c)
 
 pub returns-clause-heads : goal.returns-clause-heads
-returns-clause-heads c = done_heads c.args.net.now c.read.new.net c.is_net.ensures.net c.args.heads c.args.fuel c.of.result c.read.new.asker.run.journal (returns-clause-answer c)
+returns-clause-heads c = done_heads c.args.net.now c.read.new.net c.is_net.ensures.net c.args.heads
+    c.args.fuel c.of.result c.read.new.asker.run.journal (returns-clause-answer c)
 
 pub returns-clause-names : goal.returns-clause-names
-returns-clause-names c = done_names c.args.net.now c.read.new.net c.is_net.ensures.net c.args.heads c.args.fuel c.of.result c.read.new.asker.run.journal (returns-clause-answer c)
+returns-clause-names c = done_names c.args.net.now c.read.new.net c.is_net.ensures.net c.args.heads
+    c.args.fuel c.of.result c.read.new.asker.run.journal (returns-clause-answer c)

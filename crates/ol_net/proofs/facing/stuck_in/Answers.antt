@@ -14,14 +14,26 @@ pub loop-n-preserved : goal.loop-n-preserved
 loop-n-preserved c = elim c.if-is_lesser_of_stuck.branch [
   | then-is_lesser_of_stuck w ↦
       rw w.pairs-is
-      (StuckBelow-more (record { free = c.args.free; nodes = c.args.nodes.now; partners = c.args.partners.now }) c.loop-n.n c.loop-n.pairs c.requires.net
+      (StuckBelow-more (record {
+        free = c.args.free;
+        nodes = c.args.nodes.now;
+        partners = c.args.partners.now;
+      }) c.loop-n.n c.loop-n.pairs c.requires.net
       (c.is_lesser_of_stuck.ensures.0 w.if-is_lesser_of_stuck.true) c.loop-n.invariant)
   | else-is_lesser_of_stuck w ↦
       rw w.pairs-is
-      (StuckBelow-same (record { free = c.args.free; nodes = c.args.nodes.now; partners = c.args.partners.now }) c.loop-n.n c.loop-n.pairs c.requires.net
+      (StuckBelow-same (record {
+        free = c.args.free;
+        nodes = c.args.nodes.now;
+        partners = c.args.partners.now;
+      }) c.loop-n.n c.loop-n.pairs c.requires.net
       (λ h. false≢true (sym w.if-is_lesser_of_stuck.false ∙ c.is_lesser_of_stuck.ensures.1 h)) c.loop-n.invariant)
 ]
 
 pub returns : goal.returns
 returns c =
-    HasStuck-all (record { free = c.args.free; nodes = c.args.nodes.now; partners = c.args.partners.now }) c.loop-n.n c.loop-n.pairs c.loop-n-test.false c.loop-n.invariant
+    HasStuck-all (record {
+      free = c.args.free;
+      nodes = c.args.nodes.now;
+      partners = c.args.partners.now;
+    }) c.loop-n.n c.loop-n.pairs c.loop-n-test.false c.loop-n.invariant

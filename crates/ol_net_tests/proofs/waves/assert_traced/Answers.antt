@@ -10,6 +10,7 @@ use Rattle.ol_net_tests.proofs.waves.assert_traced.Goals as goal
 -- a run of leads is a run
 pub trace_text_2-requires-clause-run : goal.trace_text_2-requires-clause-run
 trace_text_2-requires-clause-run g c =
-    let runs = subst (λ (h : Graph). RunsTo h 100 c.in_ok-ran.ran.journal c.run.new.net) c.in_ok-last.ensures.copy c.in_ok-ran.ensures.runs in
+    let runs = subst (λ (h : Graph). RunsTo h 100 c.in_ok-ran.ran.journal c.run.new.net)
+    c.in_ok-last.ensures.copy c.in_ok-ran.ensures.runs in
     let last = net_under runs.leads.names (net_of c.run.new.net) in
     (last, as_run (net_under Init (net_of c.args.net.now)) last 0 c.in_ok-ran.ran.journal runs.one_thread.leads)

@@ -7,22 +7,35 @@ use Rattle.ol_parse.proofs.Files.{whole_bound, whole_named, same_depth}
 use Rattle.ol_parse.proofs.numbers.number_term.Goals as goal
 
 pub returns-clause-tree : goal.returns-clause-tree
-returns-clause-tree c = (whole_numbered (named c.args.term.now) c.new-binders.result.items c.new-names.result c.resolve.new.names (tree_of c.in_ok-term.term) c.new-binders.ensures.items c.new-names.ensures c.in_ok-term.ensures.names c.in_ok-term.ensures.numbered).1
+returns-clause-tree c = (whole_numbered
+    (named c.args.term.now) c.new-binders.result.items c.new-names.result c.resolve.new.names
+    (tree_of c.in_ok-term.term) c.new-binders.ensures.items c.new-names.ensures
+    c.in_ok-term.ensures.names c.in_ok-term.ensures.numbered).1
 
 pub invariant_of-result : goal.invariant_of-result
 invariant_of-result c =
-    let (n, e) = whole_numbered (named c.args.term.now) c.new-binders.result.items c.new-names.result c.resolve.new.names (tree_of c.in_ok-term.term) c.new-binders.ensures.items c.new-names.ensures c.in_ok-term.ensures.names c.in_ok-term.ensures.numbered in
+    let (n, e) = whole_numbered (named c.args.term.now) c.new-binders.result.items
+    c.new-names.result c.resolve.new.names
+    (tree_of c.in_ok-term.term) c.new-binders.ensures.items c.new-names.ensures
+    c.in_ok-term.ensures.names c.in_ok-term.ensures.numbered in
     record {
       bound = ap (is_below 0) e ∙ whole_bound (named c.args.term.now);
-      named = ap (λ l. is_named_below (length l) (tree_of c.in_ok-term.term)) n ∙ ap (is_named_below (length (names_of (named c.args.term.now)))) e ∙ whole_named (named c.args.term.now);
+      named = ap (λ l. is_named_below (length l) (tree_of c.in_ok-term.term)) n
+          ∙ ap (is_named_below (length (names_of (named c.args.term.now)))) e ∙ whole_named (named c.args.term.now);
     }
 
 pub returns-clause-shallow : goal.returns-clause-shallow
 returns-clause-shallow c =
-    let (n, e) = whole_numbered (named c.args.term.now) c.new-binders.result.items c.new-names.result c.resolve.new.names (tree_of c.in_ok-term.term) c.new-binders.ensures.items c.new-names.ensures c.in_ok-term.ensures.names c.in_ok-term.ensures.numbered in
+    let (n, e) = whole_numbered (named c.args.term.now) c.new-binders.result.items
+    c.new-names.result c.resolve.new.names
+    (tree_of c.in_ok-term.term) c.new-binders.ensures.items c.new-names.ensures
+    c.in_ok-term.ensures.names c.in_ok-term.ensures.numbered in
     let d = ap depth e ∙ same_depth (named c.args.term.now) (names_of (named c.args.term.now)) [] in
     let h = c.requires.shallow in
     omega arith
 
 pub returns-clause-names : goal.returns-clause-names
-returns-clause-names c = (whole_numbered (named c.args.term.now) c.new-binders.result.items c.new-names.result c.resolve.new.names (tree_of c.in_ok-term.term) c.new-binders.ensures.items c.new-names.ensures c.in_ok-term.ensures.names c.in_ok-term.ensures.numbered).0
+returns-clause-names c = (whole_numbered
+    (named c.args.term.now) c.new-binders.result.items c.new-names.result c.resolve.new.names
+    (tree_of c.in_ok-term.term) c.new-binders.ensures.items c.new-names.ensures
+    c.in_ok-term.ensures.names c.in_ok-term.ensures.numbered).0

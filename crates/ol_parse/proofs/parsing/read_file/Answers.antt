@@ -11,4 +11,5 @@ returns-then-depth-gt-MOST_DEPTH-clause-refused c =
 pub number_term-requires-clause-few : goal.number_term-requires-clause-few
 number_term-requires-clause-few c =
     let (t, i, b) = c.in_ok-steps.ensures.found in
-    few_in_text c.args.text.now c.in_ok-steps.steps.items c.deref-2.result.now t (named c.in_ok-tree.tree) i b c.deref-2.ensures.value c.in_ok-tree.ensures c.requires
+    few_in_text c.args.text.now c.in_ok-steps.steps.items c.deref-2.result.now t
+    (named c.in_ok-tree.tree) i b c.deref-2.ensures.value c.in_ok-tree.ensures c.requires

@@ -6,7 +6,8 @@ use Rattle.ol_parse.proofs.FlatSteps.{Going}
 use Rattle.ol_parse.proofs.tokens.finish.Given as goal
 
 abbrev pub invariant-loop-innermost : goal.invariant-loop-innermost
-invariant-loop-innermost l = (u : Named) → (fs : List Frame) → Shows fs l.fn.opens.items → built l.fn.out.items ≡ Some (u ∷ waiting fs) → Going u fs l.opens.items l.out.items
+invariant-loop-innermost l = (u : Named) → (fs : List Frame) → Shows fs l.fn.opens.items →
+    built l.fn.out.items ≡ Some (u ∷ waiting fs) → Going u fs l.opens.items l.out.items
 
 abbrev pub decreases-loop-innermost : goal.decreases-loop-innermost
 decreases-loop-innermost l = goal.left-loop-innermost l

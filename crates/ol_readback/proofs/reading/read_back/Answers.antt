@@ -15,20 +15,25 @@ read-requires-clause-begins c = record { graph = refl; budget = refl; tree = λ 
 pub of-requires-clause-whole : goal.of-requires-clause-whole
 of-requires-clause-whole c =
     let w = some_told _ _ c.in_ok-nodes.field-0 c.in-Some.nodes c.in_ok-nodes.ensures.read c.in-Some.is in
-    let t = walked_tree c.args.net.now c.args.edges c.read.new.net.now c.read.new.asker.edges c.args.heads w.0 c.in-Some.nodes.items w.1 w.2 in
+    let t = walked_tree c.args.net.now c.args.edges c.read.new.net.now c.read.new.asker.edges
+    c.args.heads w.0 c.in-Some.nodes.items w.1 w.2 in
     tree_is_whole (net_of c.args.net.now) c.args.heads c.args.edges c.in-Some.nodes.items t
 
 pub returns-clause-tree : goal.returns-clause-tree
 returns-clause-tree c =
     let w = some_told _ _ c.in_ok-nodes.field-0 c.in-Some.nodes c.in_ok-nodes.ensures.read c.in-Some.is in
-    let t = walked_tree c.args.net.now c.args.edges c.read.new.net.now c.read.new.asker.edges c.args.heads w.0 c.in-Some.nodes.items w.1 w.2 in
+    let t = walked_tree c.args.net.now c.args.edges c.read.new.net.now c.read.new.asker.edges
+    c.args.heads w.0 c.in-Some.nodes.items w.1 w.2 in
     subst (λ (ns : List ReadNode). IsTree (net_of c.args.net.now) c.args.heads c.args.edges ns) (sym c.of.ensures) t
 
 pub returns-clause-names : goal.returns-clause-names
-returns-clause-names c = tree_is_named (net_of c.args.net.now) c.args.heads c.args.edges c.of.result c.is_net.ensures.net (returns-clause-tree c)
+returns-clause-names c = tree_is_named
+    (net_of c.args.net.now) c.args.heads c.args.edges c.of.result c.is_net.ensures.net (returns-clause-tree c)
 
 pub returns-clause-heads : goal.returns-clause-heads
-returns-clause-heads c = (own_heads (net_of c.args.net.now) c.is_net.ensures.net c.args.heads c.args.edges c.of.result (returns-clause-tree c)).0
+returns-clause-heads c = (own_heads (net_of c.args.net.now) c.is_net.ensures.net c.args.heads
+    c.args.edges c.of.result (returns-clause-tree c)).0
 
 pub returns-clause-lost : goal.returns-clause-lost
-returns-clause-lost c = (own_heads (net_of c.args.net.now) c.is_net.ensures.net c.args.heads c.args.edges c.of.result (returns-clause-tree c)).1
+returns-clause-lost c = (own_heads (net_of c.args.net.now) c.is_net.ensures.net c.args.heads
+    c.args.edges c.of.result (returns-clause-tree c)).1

@@ -9,10 +9,13 @@ pub returns-then-k-len : goal.returns-then-k-len
 returns-then-k-len c vs =
     let l = c.len.ensures in
     let t = c.if-k-len.true in
-    c.requires.skips vs c.args.i c.index.result.now (slice_get_read c.args.skips.now.items (length c.args.skips.now.items) c.args.i c.index.result.now refl (omega arith) c.index.ensures)
+    c.requires.skips vs c.args.i c.index.result.now
+    (slice_get_read c.args.skips.now.items
+    (length c.args.skips.now.items) c.args.i c.index.result.now refl (omega arith) c.index.ensures)
 
 pub returns : goal.returns
 returns c vs =
     let fs = c.args.frames.now.items in
     let e = frame_is vs fs c.args.i c.index-2.result.now c.requires.at c.index-2.ensures in
-    subst (λ (o : Option ℕ). SkipsTo (frames_of vs fs) (frame_at (frames_of vs fs) c.args.i).parent o) (ap (λ (f : Frame). f.parent) e) stays
+    subst (λ (o : Option ℕ). SkipsTo (frames_of vs fs)
+    (frame_at (frames_of vs fs) c.args.i).parent o) (ap (λ (f : Frame). f.parent) e) stays

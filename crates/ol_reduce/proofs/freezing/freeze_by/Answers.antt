@@ -11,26 +11,46 @@ use Rattle.ol_reduce.proofs.freezing.freeze_by.Goals as goal
 
 pub link_cells-requires-clause-before : goal.link_cells-requires-clause-before
 link_cells-requires-clause-before c =
-    fresh_partly c.args.words.now c.in_ok-live.live.places.items c.in_ok-draft.draft.kinds.items c.in_ok-draft.draft.partners.items (c.in_ok-draft.ensures.kinds ∙ c.count.ensures)
-    (omega (arith, c.in_ok-draft.ensures.places, c.count.ensures, ap (λ (z : Parts). z.free) c.parts.ensures)) c.in_ok-draft.ensures.alone
+    fresh_partly c.args.words.now c.in_ok-live.live.places.items c.in_ok-draft.draft.kinds.items
+    c.in_ok-draft.draft.partners.items (c.in_ok-draft.ensures.kinds ∙ c.count.ensures)
+    (omega (
+      arith,
+      c.in_ok-draft.ensures.places,
+      c.count.ensures,
+      ap (λ (z : Parts). z.free) c.parts.ensures,
+    )) c.in_ok-draft.ensures.alone
 
 pub build-requires-clause-few : goal.build-requires-clause-few
 build-requires-clause-few c =
-    few c.args.words.now c.in_ok-live.live.places.items c.in_ok-live.live.numbers.items c.in_ok-live.ensures c.stands.ensures.stands c.link_chains.new.draft.kinds.items c.link_chains.new.draft.partners.items
-    c.in_ok-link_chains.ensures.after c.in_ok-link_chains.ensures.celled c.in_ok-link_chains.ensures.walked c.link_chains.new.draft.free
-    (c.in_ok-link_chains.ensures.free ∙ c.link_cells.ensures.free ∙ c.in_ok-draft.ensures.free ∙ ap (λ (z : Parts). z.free) c.parts.ensures)
+    few c.args.words.now c.in_ok-live.live.places.items c.in_ok-live.live.numbers.items
+    c.in_ok-live.ensures c.stands.ensures.stands c.link_chains.new.draft.kinds.items
+    c.link_chains.new.draft.partners.items
+    c.in_ok-link_chains.ensures.after c.in_ok-link_chains.ensures.celled
+    c.in_ok-link_chains.ensures.walked c.link_chains.new.draft.free
+    (c.in_ok-link_chains.ensures.free ∙ c.link_cells.ensures.free ∙ c.in_ok-draft.ensures.free
+    ∙ ap (λ (z : Parts). z.free) c.parts.ensures)
 
 pub build-requires-clause-complete : goal.build-requires-clause-complete
 build-requires-clause-complete c =
-    completed c.args.words.now c.in_ok-live.live.places.items c.in_ok-live.live.numbers.items c.in_ok-live.ensures c.stands.ensures.stands c.link_chains.new.draft.kinds.items c.link_chains.new.draft.partners.items
-    c.in_ok-link_chains.ensures.after c.in_ok-link_chains.ensures.celled c.in_ok-link_chains.ensures.walked c.link_chains.new.draft.free
-    (c.in_ok-link_chains.ensures.free ∙ c.link_cells.ensures.free ∙ c.in_ok-draft.ensures.free ∙ ap (λ (z : Parts). z.free) c.parts.ensures)
+    completed c.args.words.now c.in_ok-live.live.places.items c.in_ok-live.live.numbers.items
+    c.in_ok-live.ensures c.stands.ensures.stands c.link_chains.new.draft.kinds.items
+    c.link_chains.new.draft.partners.items
+    c.in_ok-link_chains.ensures.after c.in_ok-link_chains.ensures.celled
+    c.in_ok-link_chains.ensures.walked c.link_chains.new.draft.free
+    (c.in_ok-link_chains.ensures.free ∙ c.link_cells.ensures.free ∙ c.in_ok-draft.ensures.free
+    ∙ ap (λ (z : Parts). z.free) c.parts.ensures)
 
 pub returns : goal.returns
 returns c = record {
-  frozen = map_ok (Builds frozen_top c.link_chains.new.draft.free c.link_chains.new.draft.kinds.items (links_below c.link_chains.new.draft.free c.link_chains.new.draft.partners.items (length c.link_chains.new.draft.partners.items)))
+  frozen = map_ok (Builds frozen_top c.link_chains.new.draft.free
+      c.link_chains.new.draft.kinds.items (links_below c.link_chains.new.draft.free
+      c.link_chains.new.draft.partners.items (length c.link_chains.new.draft.partners.items)))
       (λ g. (net : NamedNet NodeName) → IsAfter c.args.words.now net → IsFrozen net g) c.build.result
-      (λ g b. built c.args.words.now c.in_ok-live.live.places.items c.in_ok-live.live.numbers.items c.in_ok-live.ensures c.stands.ensures.stands c.link_chains.new.draft.kinds.items c.link_chains.new.draft.partners.items
-      c.in_ok-link_chains.ensures.after c.in_ok-link_chains.ensures.celled c.in_ok-link_chains.ensures.walked c.link_chains.new.draft.free
-      (c.in_ok-link_chains.ensures.free ∙ c.link_cells.ensures.free ∙ c.in_ok-draft.ensures.free ∙ ap (λ (z : Parts). z.free) c.parts.ensures) c.runs.ensures.one g b) c.build.ensures;
+      (λ g b. built c.args.words.now c.in_ok-live.live.places.items c.in_ok-live.live.numbers.items
+      c.in_ok-live.ensures c.stands.ensures.stands c.link_chains.new.draft.kinds.items
+      c.link_chains.new.draft.partners.items
+      c.in_ok-link_chains.ensures.after c.in_ok-link_chains.ensures.celled
+      c.in_ok-link_chains.ensures.walked c.link_chains.new.draft.free
+      (c.in_ok-link_chains.ensures.free ∙ c.link_cells.ensures.free ∙ c.in_ok-draft.ensures.free
+      ∙ ap (λ (z : Parts). z.free) c.parts.ensures) c.runs.ensures.one g b) c.build.ensures;
 }

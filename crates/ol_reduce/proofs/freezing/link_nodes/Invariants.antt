@@ -9,5 +9,6 @@ invariant-loop-node l = record {
   keeps : KeepsPartners l.initial.draft.partners.items l.draft.partners.items;
   long : length l.draft.partners.items ≡ length l.initial.draft.partners.items;
   partly : IsPartly l.words l.live.places.items l.draft.kinds.items l.draft.partners.items;
-  walked : AreMetTo l.words l.live.places.items l.draft.partners.items l.met.items (l.words.plan.parts.free + 3 * l.node);
+  walked : AreMetTo l.words l.live.places.items l.draft.partners.items l.met.items
+      (l.words.plan.parts.free + 3 * l.node);
 }

@@ -13,16 +13,23 @@ loop-seat-preserved c =
     let p = c.args.pool.now in
     let h = c.loop-seat.invariant in
     let s = All-pop (IsNewSeat b) c.loop-seat.seats.items c.pop.new.self.items c.pop.result c.pop.ensures.items h.0 in
-    let t = All-pop (λ (x : HandState). IsOfPool x p) c.loop-seat.hands.items c.pop-in-Some.new.self.items c.pop-in-Some.result c.pop-in-Some.ensures.items h.1 in
+    let t = All-pop (λ (x : HandState). IsOfPool x p) c.loop-seat.hands.items
+    c.pop-in-Some.new.self.items c.pop-in-Some.result c.pop-in-Some.ensures.items h.1 in
     let seat : IsNewSeat b c.in-Some.seat = subst (λ (r : Option SeatState). IfSome r (IsNewSeat b)) c.in-Some.is s.1 in
-    let hand : IsOfPool c.unwrap-hand.result p = subst (λ (r : Option HandState). IfSome r (λ x. IsOfPool x p)) c.unwrap-hand.ensures t.1 in
-    let taken : length (option_to_list c.pop-in-Some.result) ≡ 1 = subst (λ (r : Option HandState). length (option_to_list r) ≡ 1) (sym c.unwrap-hand.ensures) refl in
+    let hand : IsOfPool c.unwrap-hand.result p = subst
+    (λ (r : Option HandState). IfSome r (λ x. IsOfPool x p)) c.unwrap-hand.ensures t.1 in
+    let taken : length (option_to_list c.pop-in-Some.result) ≡ 1 = subst
+    (λ (r : Option HandState). length (option_to_list r) ≡ 1) (sym c.unwrap-hand.ensures) refl in
     let made = c.new-worker in
-    let one : IsWorker b p made.result = worker_of_fresh b p made.result (subst (λ (x : SeatState). IsNewSeat b x) (sym made.ensures.seat) seat) (subst (λ (x : HandState). IsOfPool x p) (sym made.ensures.hand) hand) in
+    let one : IsWorker b p made.result = worker_of_fresh b p made.result
+    (subst (λ (x : SeatState). IsNewSeat b x) (sym made.ensures.seat) seat)
+    (subst (λ (x : HandState). IsOfPool x p) (sym made.ensures.hand) hand) in
     let padded : IsPadded (IsWorker b p) c.new-padded.result = subst (IsWorker b p) (sym c.new-padded.ensures) one in (
       s.0,
       t.0,
-      All-same (IsPadded (IsWorker b p)) c.push.new.self.items (c.loop-seat.workers.items ++ c.new-padded.result ∷ []) c.in_ok-push.ensures.items (All-push (IsPadded (IsWorker b p)) c.loop-seat.workers.items c.new-padded.result h.2 padded),
+      All-same (IsPadded (IsWorker b p)) c.push.new.self.items
+          (c.loop-seat.workers.items ++ c.new-padded.result ∷ []) c.in_ok-push.ensures.items
+          (All-push (IsPadded (IsWorker b p)) c.loop-seat.workers.items c.new-padded.result h.2 padded),
       omega (arith, h.3, taken, c.in-Some.ensures.len, c.pop-in-Some.ensures.len),
       omega (arith, h.4, c.in-Some.ensures.len, c.in_ok-push.ensures.len),
     )

@@ -10,7 +10,8 @@ returns-in-Quiet-clause-reduced g c =
     let after = c.runs.ensures.some.1 in
     let complete = c.settled.ensures.complete (c.in_ok-words.ensures.quiet c.in-Quiet.is) M after in
     let few = few_steps w c.args.fuel c.in_ok-words.ensures.parts.fuel (events_few w.plan.parts w.words) in
-    let told = ends c.one_thread_agrees.ensures.done c.args.net.now w c.args.fuel c.is_net.ensures.net c.in_ok-words.ensures.start few M after complete in
+    let told = ends c.one_thread_agrees.ensures.done c.args.net.now w c.args.fuel
+    c.is_net.ensures.net c.in_ok-words.ensures.start few M after complete in
     record {
       table = (c.in_ok-words.ensures.parts, c.in_ok-words.ensures.start, c.in_ok-words.ensures.seats);
       read = c.in_ok-journal.ensures;
@@ -26,8 +27,10 @@ pub returns-in-Quiet-clause-done : goal.returns-in-Quiet-clause-done
 returns-in-Quiet-clause-done g c =
     let w = c.in_ok-words.words in
     let few = few_steps w c.args.fuel c.in_ok-words.ensures.parts.fuel (events_few w.plan.parts w.words) in (
-      (λ _. (ends c.one_thread_agrees.ensures.done c.args.net.now w c.args.fuel c.is_net.ensures.net c.in_ok-words.ensures.start few c.runs.ensures.some.0 c.runs.ensures.some.1
-          (c.settled.ensures.complete (c.in_ok-words.ensures.quiet c.in-Quiet.is) c.runs.ensures.some.0 c.runs.ensures.some.1)).0),
+      (λ _. (ends c.one_thread_agrees.ensures.done c.args.net.now w c.args.fuel c.is_net.ensures.net
+          c.in_ok-words.ensures.start few c.runs.ensures.some.0 c.runs.ensures.some.1
+          (c.settled.ensures.complete (c.in_ok-words.ensures.quiet c.in-Quiet.is)
+          c.runs.ensures.some.0 c.runs.ensures.some.1)).0),
       (λ _. tt),
     )
 
@@ -37,8 +40,11 @@ returns-clause-reduced g c = record {
   read = c.in_ok-journal.ensures;
   last_net = c.runs.ensures.some.0;
   after = c.runs.ensures.some.1;
-  active = c.over.ensures.active (c.in_ok-words.ensures.spent c.in-Spent.is) c.runs.ensures.some.0 c.runs.ensures.some.1;
-  steps = ap length c.in_ok-journal.ensures ∙ steps_in c.in_ok-words.words.plan.parts c.in_ok-words.words.words ∙ c.over.ensures.fuel (c.in_ok-words.ensures.spent c.in-Spent.is) ∙ c.in_ok-words.ensures.parts.fuel;
+  active = c.over.ensures.active (c.in_ok-words.ensures.spent c.in-Spent.is) c.runs.ensures.some.0
+      c.runs.ensures.some.1;
+  steps = ap length c.in_ok-journal.ensures
+      ∙ steps_in c.in_ok-words.words.plan.parts c.in_ok-words.words.words
+      ∙ c.over.ensures.fuel (c.in_ok-words.ensures.spent c.in-Spent.is) ∙ c.in_ok-words.ensures.parts.fuel;
 }
 
 pub returns-clause-done : goal.returns-clause-done
@@ -47,6 +53,7 @@ returns-clause-done g c =
     let over = c.in_ok-words.ensures.spent c.in-Spent.is in
     let all = steps_in w.plan.parts w.words ∙ c.over.ensures.fuel over ∙ c.in_ok-words.ensures.parts.fuel in (
       (λ b. absurd b),
-      goes_on c.one_thread_agrees.ensures.spent c.one_thread_agrees.ensures.exists c.args.net.now w c.args.fuel c.is_net.ensures.net c.in_ok-words.ensures.start all c.runs.ensures.some.0 c.runs.ensures.some.1
+      goes_on c.one_thread_agrees.ensures.spent c.one_thread_agrees.ensures.exists c.args.net.now w
+          c.args.fuel c.is_net.ensures.net c.in_ok-words.ensures.start all c.runs.ensures.some.0 c.runs.ensures.some.1
           (c.over.ensures.active over c.runs.ensures.some.0 c.runs.ensures.some.1),
     )

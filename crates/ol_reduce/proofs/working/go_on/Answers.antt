@@ -10,25 +10,37 @@ returns-in_default-clause-kept g c =
     let p = c.args.pool.now in
     let own = c.args.own.now in
     kept_on b p own (record own { hand = c.take.new.hand }) c.wait_on.new.own
-    (kept_missed b p own (record own { hand = c.take.new.hand }) refl refl c.requires.work.0 c.take.ensures.hand c.take.ensures.sent c.take.ensures.refused
+    (kept_missed b p own (record own { hand = c.take.new.hand }) refl refl c.requires.work.0
+    c.take.ensures.hand c.take.ensures.sent c.take.ensures.refused
     (λ h. missed_weighs h own.hand.parts c.take.new.hand.parts c.in_default.ensures.stay))
     c.wait_on.ensures.kept
 
 pub returns-then-turn_on-clause-kept : goal.returns-then-turn_on-clause-kept
 returns-then-turn_on-clause-kept g c =
     let own = c.args.own.now in
-    kept_turn c.args.shared.now c.args.pool.now own (record own { hand = c.take.new.hand }) c.turn_on.new.own c.in-Some.cell refl refl c.take.ensures.hand c.take.ensures.sent c.take.ensures.refused
-    (λ h. let e = taken_weighs h own.hand.parts c.take.new.hand.parts c.args.pool.now.hands c.in-Some.cell c.in-Some.ensures.one in omega arith)
+    kept_turn c.args.shared.now c.args.pool.now own
+    (record own { hand = c.take.new.hand }) c.turn_on.new.own c.in-Some.cell refl refl
+    c.take.ensures.hand c.take.ensures.sent c.take.ensures.refused
+    (λ h. let e = taken_weighs h own.hand.parts c.take.new.hand.parts c.args.pool.now.hands
+    c.in-Some.cell c.in-Some.ensures.one in omega arith)
     c.turn_on.ensures.turned
 
 pub returns-then-turn_on-clause-goes : goal.returns-then-turn_on-clause-goes
-returns-then-turn_on-clause-goes g c = (c.args.own.now.seat.view, c.in-Some.cell, rested refl, c.turn_on.ensures.yes c.if-turn_on.true)
+returns-then-turn_on-clause-goes g c = (
+  c.args.own.now.seat.view,
+  c.in-Some.cell,
+  rested refl,
+  c.turn_on.ensures.yes c.if-turn_on.true,
+)
 
 pub returns-clause-kept : goal.returns-clause-kept
 returns-clause-kept g c =
     let own = c.args.own.now in
-    kept_turn c.args.shared.now c.args.pool.now own (record own { hand = c.take.new.hand }) c.turn_on.new.own c.in-Some.cell refl refl c.take.ensures.hand c.take.ensures.sent c.take.ensures.refused
-    (λ h. let e = taken_weighs h own.hand.parts c.take.new.hand.parts c.args.pool.now.hands c.in-Some.cell c.in-Some.ensures.one in omega arith)
+    kept_turn c.args.shared.now c.args.pool.now own
+    (record own { hand = c.take.new.hand }) c.turn_on.new.own c.in-Some.cell refl refl
+    c.take.ensures.hand c.take.ensures.sent c.take.ensures.refused
+    (λ h. let e = taken_weighs h own.hand.parts c.take.new.hand.parts c.args.pool.now.hands
+    c.in-Some.cell c.in-Some.ensures.one in omega arith)
     c.turn_on.ensures.turned
 
 pub returns-clause-goes : goal.returns-clause-goes

@@ -4,4 +4,5 @@ use Rattle.ol_reduce.specs.Offered.{HasOffered}
 use Rattle.ol_reduce.proofs.working.offer_published.Given as goal
 
 abbrev pub invariant-loop-bit : goal.invariant-loop-bit
-invariant-loop-bit l = HasOffered l.fn.hand (each l.bit (λ j. if l.fn.mask / 2 ^ j % 2 == 1 then (l.fn.first_cell + j) ∷ [] else [])) l.hand
+invariant-loop-bit l = HasOffered l.fn.hand
+    (each l.bit (λ j. if l.fn.mask / 2 ^ j % 2 == 1 then (l.fn.first_cell + j) ∷ [] else [])) l.hand

@@ -32,7 +32,12 @@ returns-in-Rewrote-clause-no g c = λ _.
     let e = c.turn-turn.ensures in
     let r = c.in-Rewrote in (
       t,
-      record { within = c.requires.cell; cause = cause_of t n e.gone.0 e.stuck.0 e.spent.0 e.rewrote.0; leaves = e.view },
+      record {
+        within = c.requires.cell;
+        cause = cause_of t n e.gone.0 e.stuck.0 e.spent.0
+            e.rewrote.0;
+        leaves = e.view;
+      },
       (λ q. let bad : Rewrote r.ticket r.rule r.first_cell r.mask ≡ Spent = sym r.is ∙ q in absurd (cc)),
     )
 
@@ -51,5 +56,6 @@ returns-in_default-clause-turned g c =
       claimed = e.claimed;
       cells = published_of t;
       published = published_by z v c.args.cell t n e.view;
-      offered = subst (λ (l : List ℕ). HasOffered hand l hand) (sym (nothing t c.in_default.not-Spent c.in_default.not-Rewrote)) (offered_none hand);
+      offered = subst (λ (l : List ℕ). HasOffered hand l hand)
+          (sym (nothing t c.in_default.not-Spent c.in_default.not-Rewrote)) (offered_none hand);
     }

@@ -8,4 +8,5 @@ use Rattle.ol_rules.specs.Running.{StillWait}
 use Rattle.ol_rules.proofs.one_thread.await_active.Given as goal
 
 abbrev pub invariant-loop-n : goal.invariant-loop-n
-invariant-loop-n l = StillWait l.initial.waiting l.waiting × ((x : ℕ) (r : Rule) → l.from ≤ x → x < l.n → IsInActive (net_of l.net) x r → contains nat_cmp l.waiting x ≡ true)
+invariant-loop-n l = StillWait l.initial.waiting l.waiting
+    × ((x : ℕ) (r : Rule) → l.from ≤ x → x < l.n → IsInActive (net_of l.net) x r → contains nat_cmp l.waiting x ≡ true)

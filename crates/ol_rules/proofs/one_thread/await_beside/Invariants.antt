@@ -7,4 +7,6 @@ use Rattle.ol_rules.specs.Running.{StillWait}
 use Rattle.ol_rules.proofs.one_thread.await_beside.Given as goal
 
 abbrev pub invariant-loop-slot : goal.invariant-loop-slot
-invariant-loop-slot l = StillWait l.initial.waiting l.waiting × ((x s : ℕ) → s + 1 < l.slot → Linked (net_of l.net) (slot x 0) (slot l.at.0 (s + 1)) → contains nat_cmp l.waiting x ≡ true)
+invariant-loop-slot l = StillWait l.initial.waiting l.waiting
+    × ((x s : ℕ) → s + 1 < l.slot → Linked (net_of l.net) (slot x 0) (slot l.at.0 (s + 1)) →
+    contains nat_cmp l.waiting x ≡ true)

@@ -4,16 +4,20 @@ use Rattle.ol_rules.proofs.Born.{may_all}
 use Rattle.ol_rules.proofs.steps.rewrite.Goals as goal
 
 pub cross_with_none-requires-clause-indexes : goal.cross_with_none-requires-clause-indexes
-cross_with_none-requires-clause-indexes c = may_all _ _ _ _ _ _ _ c.is_tabled.ensures.indexes c.requires.pair.is_f c.requires.pair.is_g c.requires.fits (omega arith)
+cross_with_none-requires-clause-indexes c = may_all _ _ _ _ _ _ _ c.is_tabled.ensures.indexes
+    c.requires.pair.is_f c.requires.pair.is_g c.requires.fits (omega arith)
 
 pub cross_with_two-requires-clause-indexes : goal.cross_with_two-requires-clause-indexes
-cross_with_two-requires-clause-indexes c = may_all _ _ _ _ _ _ _ c.is_tabled.ensures.indexes c.requires.pair.is_f c.requires.pair.is_g c.requires.fits (omega arith)
+cross_with_two-requires-clause-indexes c = may_all _ _ _ _ _ _ _ c.is_tabled.ensures.indexes
+    c.requires.pair.is_f c.requires.pair.is_g c.requires.fits (omega arith)
 
 pub cross_with_one-requires-clause-indexes : goal.cross_with_one-requires-clause-indexes
-cross_with_one-requires-clause-indexes c = may_all _ _ _ _ _ _ _ c.is_tabled.ensures.indexes c.requires.pair.is_f c.requires.pair.is_g c.requires.fits (omega arith)
+cross_with_one-requires-clause-indexes c = may_all _ _ _ _ _ _ _ c.is_tabled.ensures.indexes
+    c.requires.pair.is_f c.requires.pair.is_g c.requires.fits (omega arith)
 
 pub cross_with_one-requires-in-CrossBracket-clause-indexes : goal.cross_with_one-requires-in-CrossBracket-clause-indexes
-cross_with_one-requires-in-CrossBracket-clause-indexes c = may_all _ _ _ _ _ _ _ c.is_tabled.ensures.indexes c.requires.pair.is_f c.requires.pair.is_g c.requires.fits (omega arith)
+cross_with_one-requires-in-CrossBracket-clause-indexes c = may_all _ _ _ _ _ _ _
+    c.is_tabled.ensures.indexes c.requires.pair.is_f c.requires.pair.is_g c.requires.fits (omega arith)
 
 pub overflow_add-pair : goal.overflow_add-pair
 overflow_add-pair c =

@@ -8,5 +8,6 @@ loop-passed-preserved c =
     let n = length c.args.names.now - c.loop-passed.passed in
     let k = length c.args.names.now - (c.loop-passed.passed + 1) in
     let e : n ≡ suc k = omega (arith, c.len-passed-end.ensures, c.loop-passed-test.true) in
-    c.loop-passed.invariant ∙ fresh_taken c.args.names.now n k c.loop-passed.m e (sym c.in_ok-taken.ensures ∙ c.if-not-taken.false)
+    c.loop-passed.invariant ∙ fresh_taken c.args.names.now n k c.loop-passed.m e
+    (sym c.in_ok-taken.ensures ∙ c.if-not-taken.false)
     ∙ ap (fresh_from c.args.names.now k) (sym (add-one c.loop-passed.m))

@@ -9,7 +9,8 @@ use Rattle.ol_net.specs.PartTexts.{kind_text, index_text}
 use Rattle.ol_view.specs.ShowTexts.{node_line, partners_text}
 use Rattle.ol_view.proofs.showing.put_node.Goals as goal
 
-joined : (b0 b1 b2 b3 b4 b5 b6 b7 n k i p : List ℕ) → b1 ≡ b0 ++ n → b2 ≡ b1 ++ 32 ∷ [] → b3 ≡ b2 ++ k → b4 ≡ b3 ++ 32 ∷ [] → b5 ≡ b4 ++ i → b6 ≡ b5 ++ p → b7 ≡ b6 ++ 10 ∷ []
+joined : (b0 b1 b2 b3 b4 b5 b6 b7 n k i p : List ℕ) → b1 ≡ b0 ++ n → b2 ≡ b1 ++ 32 ∷ [] →
+    b3 ≡ b2 ++ k → b4 ≡ b3 ++ 32 ∷ [] → b5 ≡ b4 ++ i → b6 ≡ b5 ++ p → b7 ≡ b6 ++ 10 ∷ []
     → b7 ≡ b0 ++ (n ++ (32 ∷ k ++ (32 ∷ i ++ (p ++ 10 ∷ []))))
 joined b0 b1 b2 b3 b4 b5 b6 b7 n k i p e1 e2 e3 e4 e5 e6 e7 = search (rules, append_assoc)
 
@@ -22,8 +23,12 @@ returns c =
     let b7 = string_bytes c.put-3.new.text in
     let kind = c.in-Some.kind in
     let index = c.in-Some.index in
-    let partners = subst (λ s. b6 ≡ b5 ++ partners_text g c.args.node.0 s) c.slots.ensures c.in_ok-put_partners.ensures in
-    let line = joined b0 (string_bytes c.put_number.new.text) (string_bytes c.put.new.text) (string_bytes c.put_shown.new.text) (string_bytes c.put-2.new.text) b5 b6 b7
+    let partners = subst (λ s. b6 ≡ b5 ++ partners_text g c.args.node.0 s) c.slots.ensures
+    c.in_ok-put_partners.ensures in
+    let line = joined b0 (string_bytes c.put_number.new.text) (string_bytes c.put.new.text)
+    (string_bytes c.put_shown.new.text) (string_bytes c.put-2.new.text) b5 b6 b7
     (decimal c.args.node.0) (kind_text kind) (index_text kind index) (partners_text g c.args.node.0 (slots_of kind))
-    c.in_ok-put_number.ensures c.in_ok-put.ensures c.in_ok-put_shown.ensures c.in_ok-put-2.ensures c.in_ok-put_shown-2.ensures partners c.in_ok-put-3.ensures in
-    subst (λ (k : Option (Kind × ℕ)). b7 ≡ b0 ++ node_line g c.args.node.0 k) (sym c.in-Some.is ∙ c.kind_of.ensures.table) line
+    c.in_ok-put_number.ensures c.in_ok-put.ensures c.in_ok-put_shown.ensures c.in_ok-put-2.ensures
+    c.in_ok-put_shown-2.ensures partners c.in_ok-put-3.ensures in
+    subst (λ (k : Option (Kind × ℕ)). b7 ≡ b0 ++ node_line g c.args.node.0 k)
+    (sym c.in-Some.is ∙ c.kind_of.ensures.table) line

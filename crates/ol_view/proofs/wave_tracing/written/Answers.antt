@@ -15,9 +15,12 @@ pub loop-k-preserved : goal.loop-k-preserved
 loop-k-preserved c =
     let e = c.in-Some.entry in
     let w = c.in-Some-get.wave in
-    let t = wave_lines_on c.args.journal.now c.args.waves.now c.loop-k.k e w (sym c.get.ensures ∙ c.in-Some.is) (sym c.get-in-loop-k.ensures.wave ∙ c.in-Some-get.is) in
+    let t = wave_lines_on c.args.journal.now c.args.waves.now c.loop-k.k e w
+    (sym c.get.ensures ∙ c.in-Some.is) (sym c.get-in-loop-k.ensures.wave ∙ c.in-Some-get.is) in
     c.in_ok-put_wave_line.ensures
     ∙ ap (λ bs. bs ++ wave_line_text e w) c.loop-k.invariant
-    ∙ append_assoc wave_header (wave_lines_text (take c.loop-k.k c.args.journal.now) (take c.loop-k.k c.args.waves.now)) (wave_line_text e w)
+    ∙ append_assoc wave_header (wave_lines_text (take c.loop-k.k c.args.journal.now)
+    (take c.loop-k.k c.args.waves.now)) (wave_line_text e w)
     ∙ ap (λ bs. wave_header ++ bs) (sym t)
-    ∙ ap (λ k. wave_header ++ wave_lines_text (take k c.args.journal.now) (take k c.args.waves.now)) (let q : suc c.loop-k.k ≡ c.loop-k.k + 1 = omega arith in q)
+    ∙ ap (λ k. wave_header ++ wave_lines_text (take k c.args.journal.now) (take k c.args.waves.now))
+    (let q : suc c.loop-k.k ≡ c.loop-k.k + 1 = omega arith in q)

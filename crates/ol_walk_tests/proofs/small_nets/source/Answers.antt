@@ -5,4 +5,5 @@ use Rattle.ol_beta.proofs.Counted.{size_small}
 use Rattle.ol_walk_tests.proofs.small_nets.source.Goals as goal
 
 pub returns-clause-few : goal.returns-clause-few
-returns-clause-few c = let h = size_small (tree_of c.in_ok-file.file.term) 0 in omega (arith, h, c.in-Ok.ensures.size, c.born.ensures)
+returns-clause-few c = let h = size_small (tree_of c.in_ok-file.file.term) 0 in
+    omega (arith, h, c.in-Ok.ensures.size, c.born.ensures)

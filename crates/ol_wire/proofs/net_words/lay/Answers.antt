@@ -18,4 +18,6 @@ returns-clause-kept c =
       tabled = c.is_tabled.ensures.tables;
       indexes = c.is_tabled.ensures.indexes;
     } in
-    λ p is_parts is_net some_seat few_seats. opens_as p c.args.net.now c.args.fuel c.in_ok-parts.parts c.in_ok-parts.words.items is is_parts is_net some_seat few_seats
+    λ p is_parts is_net some_seat few_seats.
+    opens_as p c.args.net.now c.args.fuel c.in_ok-parts.parts c.in_ok-parts.words.items is
+    is_parts is_net some_seat few_seats

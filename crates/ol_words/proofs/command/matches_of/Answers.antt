@@ -11,7 +11,8 @@ returns-clause-rows c =
     let app_is : app_of c.in_ok-command.command ≡ app = c.in_ok-command.ensures.app in
     let words_are : texts_of c.as_slice.result.now ≡ texts_of c.args.words.now.items = search rules in
     let parse = c.try_get_matches_from in
-    IfOk-weaker parse.result _ _ (λ m h. (h (ap is_simple app_is ∙ is_simple_app)).1 ∙ ap₂ subcommand_of app_is words_are) parse.ensures.matches
+    IfOk-weaker parse.result _ _ (λ m h. (h (ap is_simple app_is ∙ is_simple_app)).1
+    ∙ ap₂ subcommand_of app_is words_are) parse.ensures.matches
 
 pub returns-clause-taken : goal.returns-clause-taken
 returns-clause-taken c =

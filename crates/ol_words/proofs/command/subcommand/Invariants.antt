@@ -9,10 +9,14 @@ use Rattle.ol_words.proofs.command.subcommand.Given as goal
 
 -- the options so far
 abbrev pub invariant-loop-option : goal.invariant-loop-option
-invariant-loop-option l = (app_of l.command ≡ fold (with_option_rule (flags_of (verb_of l.fn.verb))) (new_app (verb_row (verb_of l.fn.verb)).word) (texts (take l.option-index l.option-items)))
+invariant-loop-option l = (app_of l.command ≡ fold (with_option_rule (flags_of (verb_of l.fn.verb)))
+    (new_app (verb_row (verb_of l.fn.verb)).word) (texts (take l.option-index l.option-items)))
     × ((out-Command l.command).has_globals ≡ false)
 
 -- all options, and the names so far
 abbrev pub invariant-loop-name : goal.invariant-loop-name
-invariant-loop-name l = (app_of l.command ≡ fold with_name_rule (fold (with_option_rule (flags_of (verb_of l.fn.verb))) (new_app (verb_row (verb_of l.fn.verb)).word) (options_of (verb_of l.fn.verb))) (texts (take l.name-index l.name-items)))
+invariant-loop-name l = (app_of l.command ≡ fold with_name_rule
+    (fold (with_option_rule (flags_of (verb_of l.fn.verb)))
+    (new_app (verb_row (verb_of l.fn.verb)).word) (options_of (verb_of l.fn.verb)))
+    (texts (take l.name-index l.name-items)))
     × ((out-Command l.command).has_globals ≡ false)

@@ -6,4 +6,6 @@ use Rattle.ol_words.proofs.SoFar.{so_far, seen}
 use Rattle.ol_words.proofs.lines.line_of.Given as goal
 
 abbrev pub invariant-loop-place : goal.invariant-loop-place
-invariant-loop-place l = so_far (known_by l.known l.flags) (seen l.options.items) (map (λ n. n.now) l.names.items) (option_map (λ o. o.now) l.waiting) (texts_of (drop l.place l.words)) ≡ line_of (known_by l.known l.flags) (texts_of l.words)
+invariant-loop-place l = so_far (known_by l.known l.flags) (seen l.options.items)
+    (map (λ n. n.now) l.names.items) (option_map (λ o. o.now) l.waiting)
+    (texts_of (drop l.place l.words)) ≡ line_of (known_by l.known l.flags) (texts_of l.words)

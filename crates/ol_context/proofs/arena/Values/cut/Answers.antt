@@ -20,4 +20,5 @@ pub returns : goal.returns
 returns c =
     let ss = c.self.inside.shapes.keys in
     let b = c.requires in
-    rw (← c.self.view_is) (ap trees c.truncate.ensures.keys ∙ trees_take ss (c.args.count - 1) c.args.count (omega arith))
+    rw (← c.self.view_is) (ap trees c.truncate.ensures.keys
+    ∙ trees_take ss (c.args.count - 1) c.args.count (omega arith))

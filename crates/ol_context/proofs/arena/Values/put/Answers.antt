@@ -16,11 +16,13 @@ invariant_of-self-2 c =
     )
 
 pub returns-clause-extends : goal.returns-clause-extends
-returns-clause-extends c = rw (← c.self.view_is) (extends_put c.self.inside.shapes.keys c.insert_full.new.self.keys c.args.shape c.in_ok-at.ensures.keys)
+returns-clause-extends c = rw (← c.self.view_is)
+    (extends_put c.self.inside.shapes.keys c.insert_full.new.self.keys c.args.shape c.in_ok-at.ensures.keys)
 
 pub returns-clause-new : goal.returns-clause-new
 returns-clause-new c =
     let ks = c.self.inside.shapes.keys in
     let b = subst (λ m. IsBelow m c.args.shape) (ap length (sym c.self.view_is) ∙ trees_length ks) c.requires.below in
     let t = c.in_ok-at.ensures.stored in
-    rw (← c.self.view_is) (new_put ks c.insert_full.new.self.keys c.args.shape t.0 c.in_ok-at.at c.self.invariant.0 b c.in_ok-at.ensures.keys t.1 t.2)
+    rw (← c.self.view_is) (new_put ks c.insert_full.new.self.keys c.args.shape t.0 c.in_ok-at.at
+    c.self.invariant.0 b c.in_ok-at.ensures.keys t.1 t.2)

@@ -6,8 +6,15 @@ use Rattle.ol_demand.proofs.asking.ChainsAsksNet.ask.Goals as goal
 
 pub returns-clause-answered : goal.returns-clause-answered
 returns-clause-answered c =
-    answered_by c.args.self.now c.args.net.now (record { run = c.ask.new.run; fuel = c.args.self.now.fuel }) c.ask.new.net (frames_of c.args.values.now c.args.asked.now.frames.now.items) c.ask.new.values c.in_ok-answer.answer refl c.in_ok-answer.ensures.answered c.in_ok-answer.ensures.spent c.in_ok-answer.ensures.running.within
+    answered_by c.args.self.now c.args.net.now
+    (record { run = c.ask.new.run; fuel = c.args.self.now.fuel }) c.ask.new.net
+    (frames_of c.args.values.now c.args.asked.now.frames.now.items) c.ask.new.values
+    c.in_ok-answer.answer refl c.in_ok-answer.ensures.answered c.in_ok-answer.ensures.spent
+    c.in_ok-answer.ensures.running.within
 
 pub returns-in_err-answer-clause-stopped : goal.returns-in_err-answer-clause-stopped
 returns-in_err-answer-clause-stopped c =
-    on_err c.from_residual.result (stopped_by c.args.self.now c.args.net.now (record { run = c.ask.new.run; fuel = c.args.self.now.fuel }) c.ask.new.net (frames_of c.args.values.now c.args.asked.now.frames.now.items) c.args.self.now.fuel refl c.in_err-answer.ensures.stopped)
+    on_err c.from_residual.result (stopped_by c.args.self.now c.args.net.now
+    (record { run = c.ask.new.run; fuel = c.args.self.now.fuel }) c.ask.new.net
+    (frames_of c.args.values.now c.args.asked.now.frames.now.items) c.args.self.now.fuel refl
+    c.in_err-answer.ensures.stopped)

@@ -9,10 +9,12 @@ use Rattle.ol_rules.specs.Steps.{StepsAt}
 use Rattle.ol_diamond.specs.Replaying.{node_number, AreIdle, AreIdleNumbers}
 use Rattle.ol_diamond.proofs.weighing.Weighing.rewrite.Goals as goal
 
-one_rule : (g g' : Graph) (at : NodeId) (r s : Rule) → g ≡ g' → facing_at g at ≡ Active r → facing_at g' at ≡ Active s → r ≡ s
+one_rule : (g g' : Graph) (at : NodeId) (r s : Rule) → g ≡ g' → facing_at g at ≡ Active r →
+    facing_at g' at ≡ Active s → r ≡ s
 one_rule g g' at r s e h h' = let z : Active r ≡ Active s = sym h ∙ ap (λ g. facing_at g at) e ∙ h' in cc
 
-idle_numbers : (g : Graph) (bases : List ℕ) (a b : NodeName) (f h : ℕ) → Some f ≡ node_number bases a → Some h ≡ node_number bases b → AreIdle (net_of g) f h → AreIdleNumbers g bases a b
+idle_numbers : (g : Graph) (bases : List ℕ) (a b : NodeName) (f h : ℕ) →
+    Some f ≡ node_number bases a → Some h ≡ node_number bases b → AreIdle (net_of g) f h → AreIdleNumbers g bases a b
 idle_numbers g bases a b f h e e' idle x y p q =
     let i : f ≡ x = (let z : Some f ≡ Some x = e ∙ p in cc) in
     let j : h ≡ y = (let z : Some h ≡ Some y = e' ∙ q in cc) in
@@ -20,7 +22,9 @@ idle_numbers g bases a b f h e e' idle x y p q =
 
 pub returns-in_default-rule_between-clause-idle : goal.returns-in_default-rule_between-clause-idle
 returns-in_default-rule_between-clause-idle c =
-    idle_numbers c.args.self.now.net c.args.self.now.bases.items c.args.first c.args.second c.in-Some.a.0 c.in-Some-node_of.b.0 (c.in-Some.ensures) (c.in-Some-node_of.ensures) c.in_default-rule_between.ensures.idle
+    idle_numbers c.args.self.now.net c.args.self.now.bases.items c.args.first c.args.second
+    c.in-Some.a.0 c.in-Some-node_of.b.0 (c.in-Some.ensures)
+    (c.in-Some-node_of.ensures) c.in_default-rule_between.ensures.idle
 
 pub returns-clause-made : goal.returns-clause-made
 returns-clause-made c = record {
@@ -32,13 +36,15 @@ returns-clause-made c = record {
     first = sym c.in-Some.ensures;
     second = sym c.in-Some-node_of.ensures;
     linked = c.in-Some-rule_between.ensures.linked;
-    steps = subst (λ (g : Graph). StepsAt g c.step.new.net c.in-Some.a.0 c.in-Ok.field-0) c.weigh.ensures.net c.in-Ok.ensures.steps;
+    steps = subst (λ (g : Graph). StepsAt g c.step.new.net c.in-Some.a.0 c.in-Ok.field-0)
+        c.weigh.ensures.net c.in-Ok.ensures.steps;
     old_net = c.is_net.ensures.net;
     new_net = c.is_net-2.ensures.net;
     bases_on = c.in_ok-push.ensures.items ∙ ap (λ n. c.weigh.new.self.bases.items ++ n ∷ []) c.born.ensures.born
         ∙ ap (λ (v : Vec ℕ Global). v.items ++ length c.step.new.net.nodes ∷ []) c.weigh.ensures.bases;
   };
-  rule = one_rule c.weigh.new.self.net c.args.self.now.net c.in-Some.a c.in-Ok.field-0 c.in-Some-rule_between.rule c.weigh.ensures.net c.in-Ok.ensures.active c.in-Some-rule_between.ensures.active;
+  rule = one_rule c.weigh.new.self.net c.args.self.now.net c.in-Some.a c.in-Ok.field-0
+      c.in-Some-rule_between.rule c.weigh.ensures.net c.in-Ok.ensures.active c.in-Some-rule_between.ensures.active;
   wave_is = c.in-Some-wave_of.ensures;
   weights_are = c.in_ok-weigh.ensures.weights;
 }

@@ -15,5 +15,7 @@ returns c =
     let i = c.self.invariant.0 in
     let bound = h.home.own.log.bound in
     subst (λ (s : HandState). (p : ℕ) → AreBelow s.pool.cells (part_of s p)) c.self.view_is
-    (parts_hold (AreBelow bound) h.number h.home.own h.home.empties h.others.items (number_within h.number h.home.own h.others.items i.deque) (All-nil (λ cell. cell < bound)) c.gave_below.ensures
-    (All-weaker (IsReach bound) (λ (r : ReachState). AreBelow bound (reach_part r)) (λ r is. is.3) h.others.items i.others))
+    (parts_hold (AreBelow bound) h.number h.home.own h.home.empties h.others.items
+    (number_within h.number h.home.own h.others.items i.deque) (All-nil (λ cell. cell < bound)) c.gave_below.ensures
+    (All-weaker (IsReach bound) (λ (r : ReachState). AreBelow bound (reach_part r))
+    (λ r is. is.3) h.others.items i.others))

@@ -10,7 +10,8 @@ pub invariant_of-self : goal.invariant_of-self
 invariant_of-self c =
     let i = c.self.invariant in
     let s = c.take.ensures.same in
-    let g = gave _ c.take.result (worker_view c.self.inside.deque) (worker_view c.take.new.deque) c.take.ensures.rule i.3 i.4 in
+    let g = gave _ c.take.result (worker_view c.self.inside.deque)
+    (worker_view c.take.new.deque) c.take.ensures.rule i.3 i.4 in
     let room = i.1 in
     let more = s.0.3 in
     let index = i.2 in

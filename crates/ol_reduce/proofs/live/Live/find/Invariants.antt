@@ -6,4 +6,5 @@ abbrev pub invariant-loop-node : goal.invariant-loop-node
 invariant-loop-node l = AreLeft l.words l.node l.live.places.items l.live.numbers.items
 
 abbrev pub invariant-loop-ticket : goal.invariant-loop-ticket
-invariant-loop-ticket l = AreLeft l.words (l.words.plan.parts.nodes + 4 * l.ticket) l.live.places.items l.live.numbers.items
+invariant-loop-ticket l = AreLeft l.words
+    (l.words.plan.parts.nodes + 4 * l.ticket) l.live.places.items l.live.numbers.items

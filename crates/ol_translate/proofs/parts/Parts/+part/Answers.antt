@@ -7,7 +7,8 @@ pub application-requires : goal.application-requires
 application-requires t c =
     let laid = c.in_ok-function-in-App.ensures.lays in
     record {
-      one_each = part_has_one_each c.args.translation (tree_of c.deref-in-App-2.result.now) c.args.depth c.args.level (length c.add-in-App.new.self.nodes.items)
+      one_each = part_has_one_each c.args.translation
+          (tree_of c.deref-in-App-2.result.now) c.args.depth c.args.level (length c.add-in-App.new.self.nodes.items)
           c.in_ok-function-in-App.function.wires.items laid.wires_are;
     }
 
@@ -15,6 +16,7 @@ pub application_to-requires : goal.application_to-requires
 application_to-requires t c =
     let laid = c.in_ok-function-in-App.ensures.lays in
     record {
-      one_each = part_has_one_each c.args.translation (tree_of c.deref-in-App-2.result.now) c.args.depth c.args.level (length c.add-in-App.new.self.nodes.items)
+      one_each = part_has_one_each c.args.translation
+          (tree_of c.deref-in-App-2.result.now) c.args.depth c.args.level (length c.add-in-App.new.self.nodes.items)
           c.in_ok-function-in-App.function.wires.items laid.wires_are;
     }

@@ -5,6 +5,8 @@ use Rattle.ol_translate.proofs.parts.Parts.brackets.Goals as goal
 
 pub returns-in_err-number-clause-too_many : goal.returns-in_err-number-clause-too_many
 returns-in_err-number-clause-too_many c =
-    let left = brackets_left c.loop-wire.self.nodes.items c.args.self.now.nodes.items c.args.level c.loop-wire.wire-index c.deref-wire-items.result.now c.loop-wire-test.true c.loop-wire.invariant.nodes in
+    let left = brackets_left c.loop-wire.self.nodes.items c.args.self.now.nodes.items c.args.level
+    c.loop-wire.wire-index c.deref-wire-items.result.now c.loop-wire-test.true c.loop-wire.invariant.nodes in
     let p = err_from_is_err_and c.from_residual.result c.from_residual.ensures.1 in
-    rw (p.1, p.2) (λ is. let full = c.in_err-number.ensures.too_many is in rw (← c.deref-wire-items.ensures.value) (omega arith))
+    rw (p.1, p.2) (λ is. let full = c.in_err-number.ensures.too_many is in
+    rw (← c.deref-wire-items.ensures.value) (omega arith))

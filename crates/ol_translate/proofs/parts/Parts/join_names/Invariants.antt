@@ -6,5 +6,6 @@ use Rattle.ol_translate.proofs.parts.Parts.join_names.Given as goal
 abbrev pub invariant-loop-wire : goal.invariant-loop-wire
 invariant-loop-wire l = record {
   nodes : l.self.nodes.items ≡ l.fn.self.nodes.items;
-  links : l.self.links.items ++ name_links (drop l.wire-index l.wire-items) ≡ l.fn.self.links.items ++ name_links l.wire-items;
+  links : l.self.links.items ++ name_links
+      (drop l.wire-index l.wire-items) ≡ l.fn.self.links.items ++ name_links l.wire-items;
 }

@@ -4,4 +4,5 @@ use Rattle.ol_wire.proofs.Closing.Stands as stands
 use Rattle.ol_wire.proofs.closed.Words.undrawn.Goals as goal
 
 pub returns : goal.returns
-returns c = let closed : IsClosed c.args.self.now = subst IsClosed c.self.view_is c.self.invariant.5 in record { empty = stands.undrawn c.args.self.now closed }
+returns c = let closed : IsClosed c.args.self.now = subst IsClosed c.self.view_is c.self.invariant.5
+    in record { empty = stands.undrawn c.args.self.now closed }

@@ -6,5 +6,7 @@ use Rattle.ol_wire.proofs.layout.Parts.entry.Goals as goal
 
 pub entry_by-requires-clause-places : goal.entry_by-requires-clause-places
 entry_by-requires-clause-places c =
-    let small = event_small c.args.left c.args.right 4294967296 c.requires.places.0 c.requires.places.1 in
-    (subst (λ (e : Event). place_in e.f < 4294967296) (sym c.in-Some.ensures.0) small.0, subst (λ (e : Event). place_in e.g < 4294967296) (sym c.in-Some.ensures.0) small.1)
+    let small = event_small c.args.left c.args.right 4294967296 c.requires.places.0 c.requires.places.1 in (
+      subst (λ (e : Event). place_in e.f < 4294967296) (sym c.in-Some.ensures.0) small.0,
+      subst (λ (e : Event). place_in e.g < 4294967296) (sym c.in-Some.ensures.0) small.1,
+    )

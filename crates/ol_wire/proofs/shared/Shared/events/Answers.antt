@@ -11,11 +11,15 @@ pub returns-clause-moment : goal.returns-clause-moment
 returns-clause-moment c =
     let p = c.args.self.now.plan in
     let v : View = c.seat.inside.token.me.0 in
-    let parts : c.self.inside.parts ≡ p.parts = sym c.self.invariant.0 ∙ ap (λ (b : TableState). b.plan.parts) c.self.view_is in
+    let parts : c.self.inside.parts ≡ p.parts = sym c.self.invariant.0
+    ∙ ap (λ (b : TableState). b.plan.parts) c.self.view_is in
     let fuel : c.self.inside.parts.fuel ≡ p.parts.fuel = ap (λ (z : Parts). z.fuel) parts in
     let m = c.read_tickets-drawn.ensures.moment in
     let all : length m.0.kept.log ≡ c.if-drawn-self.result = elim c.if-drawn-self.branch [
-      | then-drawn-self w ↦ entries_below p v c.read_tickets-drawn.result m.0 m.1 (omega (arith, w.if-drawn-self.true, fuel)) ∙ sym w.result-is
-      | else-drawn-self w ↦ entries_above p v c.read_tickets-drawn.result m.0 m.1 (omega (arith, w.if-drawn-self.false, fuel)) ∙ sym fuel ∙ sym w.result-is
+      | then-drawn-self w ↦ entries_below p v c.read_tickets-drawn.result m.0 m.1
+          (omega (arith, w.if-drawn-self.true, fuel)) ∙ sym w.result-is
+      | else-drawn-self w ↦ entries_above p v c.read_tickets-drawn.result m.0 m.1
+          (omega (arith, w.if-drawn-self.false, fuel)) ∙ sym fuel ∙ sym w.result-is
     ] in
-    subst (λ (u : View). (n : Moment p u) × (length n.kept.log ≡ c.if-drawn-self.result)) (ap (λ (s : SeatState). s.view) c.seat.view_is) (m.0, all)
+    subst (λ (u : View). (n : Moment p u) × (length n.kept.log ≡ c.if-drawn-self.result))
+    (ap (λ (s : SeatState). s.view) c.seat.view_is) (m.0, all)

@@ -19,20 +19,33 @@ returns-then-slots-eq2-clause-found c =
     let k = kind_in c.args.node in
     let e : c.kind_in.result ≡ k = c.kind_in.ensures in
     let n : arity k ≤ 1 = omega (arith, c.slots-slots.ensures, ap arity e, c.if-slots-eq2.true) in
-    one_field c.args.token.now.me.0.known c.read_field-first.new.token.me.0.known c.args.node c.read_field-first.result n (ap (λ (v : View). v.known) c.read_field-first.ensures.view) c.read_field-first.ensures.same
+    one_field c.args.token.now.me.0.known c.read_field-first.new.token.me.0.known c.args.node
+    c.read_field-first.result n (ap (λ (v : View).
+    v.known) c.read_field-first.ensures.view) c.read_field-first.ensures.same
 
 pub returns-then-slots-eq2-clause-keeps : goal.returns-then-slots-eq2-clause-keeps
-returns-then-slots-eq2-clause-keeps c = keeps_sure c.args.token.now.me.0.known c.read_field-first.new.token.me.0.known (place_in c.args.node + 0) c.read_field-first.result (ap (λ (v : View). v.known) c.read_field-first.ensures.view) c.read_field-first.ensures.same
+returns-then-slots-eq2-clause-keeps c = keeps_sure c.args.token.now.me.0.known
+    c.read_field-first.new.token.me.0.known (place_in c.args.node + 0) c.read_field-first.result
+    (ap (λ (v : View). v.known) c.read_field-first.ensures.view) c.read_field-first.ensures.same
 
 pub returns-clause-found : goal.returns-clause-found
 returns-clause-found c =
-    two_fields c.args.token.now.me.0.known c.read_field-first.new.token.me.0.known c.read_field-second.new.token.me.0.known c.args.node c.read_field-first.result c.read_field-second.result (ap (λ (v : View). v.known) c.read_field-first.ensures.view) c.read_field-first.ensures.same
+    two_fields c.args.token.now.me.0.known c.read_field-first.new.token.me.0.known
+    c.read_field-second.new.token.me.0.known c.args.node c.read_field-first.result
+    c.read_field-second.result (ap (λ (v : View).
+    v.known) c.read_field-first.ensures.view) c.read_field-first.ensures.same
     (ap (λ (v : View). v.known) c.read_field-second.ensures.view) c.read_field-second.ensures.same
 
 pub returns-clause-keeps : goal.returns-clause-keeps
 returns-clause-keeps c =
-    let first = keeps_sure c.args.token.now.me.0.known c.read_field-first.new.token.me.0.known (place_in c.args.node + 0) c.read_field-first.result (ap (λ (v : View). v.known) c.read_field-first.ensures.view) c.read_field-first.ensures.same in
-    λ w y sure. keeps_sure c.read_field-first.new.token.me.0.known c.read_field-second.new.token.me.0.known (place_in c.args.node + 1) c.read_field-second.result (ap (λ (v : View). v.known) c.read_field-second.ensures.view) c.read_field-second.ensures.same w y (first w y sure)
+    let first = keeps_sure c.args.token.now.me.0.known c.read_field-first.new.token.me.0.known
+    (place_in c.args.node + 0) c.read_field-first.result
+    (ap (λ (v : View). v.known) c.read_field-first.ensures.view) c.read_field-first.ensures.same in
+    λ w y sure. keeps_sure c.read_field-first.new.token.me.0.known
+    c.read_field-second.new.token.me.0.known
+    (place_in c.args.node + 1) c.read_field-second.result
+    (ap (λ (v : View). v.known) c.read_field-second.ensures.view)
+    c.read_field-second.ensures.same w y (first w y sure)
 
 pub returns-then-slots-eq2-clause-refs : goal.returns-then-slots-eq2-clause-refs
 returns-then-slots-eq2-clause-refs c =
@@ -41,4 +54,5 @@ returns-then-slots-eq2-clause-refs c =
     one_ref c.args.self.now.plan.parts c.args.node c.read_field-first.result n c.read_field-first.ensures.found
 
 pub returns-clause-refs : goal.returns-clause-refs
-returns-clause-refs c = two_refs c.args.self.now.plan.parts c.args.node c.read_field-first.result c.read_field-second.result c.read_field-first.ensures.found c.read_field-second.ensures.found
+returns-clause-refs c = two_refs c.args.self.now.plan.parts c.args.node c.read_field-first.result
+    c.read_field-second.result c.read_field-first.ensures.found c.read_field-second.ensures.found

@@ -14,15 +14,30 @@ store-requires c =
     let me = c.args.token.now in
     let of : me.table_id ≡ t.table_id = c.requires.token.0 ∙ sym (ap (λ (b : TableState). b.table) c.self.view_is) in
     let parts : t.key.parts ≡ c.args.self.now.plan.parts = ap (λ (b : TableState). b.plan.parts) c.self.view_is in
-    let cell : c.args.cell < cells_of t.key.parts = subst (λ (z : Parts). c.args.cell < cells_of z) (sym parts) c.requires.cell in
+    let cell : c.args.cell < cells_of t.key.parts = subst (λ (z : Parts). c.args.cell < cells_of z)
+    (sym parts) c.requires.cell in
     let w : ℕ = left_word t.key.parts c.args.cell in
-    let word : c.left_word-word.result ≡ w = c.left_word-word.ensures ∙ ap (λ (z : Parts). left_word z c.args.cell) (sym c.self.invariant.0) in
-    let hand : IsInHand me.me.0 w = subst (λ (z : Parts). IsInHand me.me.0 (left_word z c.args.cell)) (sym parts) c.requires.pair in
-    (of, omega (arith, word, (part_cell t.key.parts c.args.cell cell).2, c.self.invariant.2, ap (λ (z : Parts). table_size z) c.self.invariant.0), returns_allowed t.key t.table_id.slots me.id me.me c.requires.token.1.2 c.args.cell w c.args.left c.left_word-word.result cell refl word c.requires.left hand.taken hand.right c.requires.nothing)
+    let word : c.left_word-word.result ≡ w = c.left_word-word.ensures
+    ∙ ap (λ (z : Parts). left_word z c.args.cell) (sym c.self.invariant.0) in
+    let hand : IsInHand me.me.0 w = subst
+    (λ (z : Parts). IsInHand me.me.0 (left_word z c.args.cell)) (sym parts) c.requires.pair in (
+      of,
+      omega (
+        arith,
+        word,
+        (part_cell t.key.parts c.args.cell cell).2,
+        c.self.invariant.2,
+        ap (λ (z : Parts). table_size z) c.self.invariant.0,
+      ),
+      returns_allowed t.key t.table_id.slots me.id me.me c.requires.token.1.2 c.args.cell w
+          c.args.left c.left_word-word.result cell refl word c.requires.left hand.taken hand.right c.requires.nothing,
+    )
 
 pub returns-clause-moment : goal.returns-clause-moment
 returns-clause-moment c =
     let p = c.args.self.now.plan in
-    let word : c.left_word-word.result ≡ left_word p.parts c.args.cell = c.left_word-word.ensures ∙ ap (λ (z : Parts). left_word z c.args.cell) (sym c.self.invariant.0 ∙ ap (λ (b : TableState). b.plan.parts) c.self.view_is) in
+    let word : c.left_word-word.result ≡ left_word p.parts c.args.cell = c.left_word-word.ensures
+    ∙ ap (λ (z : Parts). left_word z c.args.cell)
+    (sym c.self.invariant.0 ∙ ap (λ (b : TableState). b.plan.parts) c.self.view_is) in
     let u = c.requires.token.1 in
     subst (λ (w : ℕ). MomentHolding p w c.store.new.seat.me.0) word (c.store.ensures.2.2 p (u.0, u.1, u.3))

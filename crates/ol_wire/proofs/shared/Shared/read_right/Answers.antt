@@ -12,7 +12,19 @@ load-requires c =
     let me = c.args.token.now in
     let of : me.table_id ≡ t.table_id = c.requires.token.0 ∙ sym (ap (λ (b : TableState). b.table) c.self.view_is) in
     let z : Parts = c.args.self.now.plan.parts in
-    let parts : c.self.inside.parts ≡ z = sym c.self.invariant.0 ∙ ap (λ (b : TableState). b.plan.parts) c.self.view_is in
+    let parts : c.self.inside.parts ≡ z = sym c.self.invariant.0
+    ∙ ap (λ (b : TableState). b.plan.parts) c.self.view_is in
     let w : ℕ = left_word z c.args.cell in
-    let word : c.left_word-word.result ≡ w = c.left_word-word.ensures ∙ ap (λ (z : Parts). left_word z c.args.cell) parts in
-    (of, omega (arith, word, (part_cell z c.args.cell c.requires.cell).2, c.self.invariant.2, ap (λ (z : Parts). table_size z) parts), reads_right_allowed_at t.key t.table_id.slots me.id me.me c.requires.token.1.2 w me.me.0.last.0 c.requires.taken (c.left_word-word.result + 1) (omega (arith, word)))
+    let word : c.left_word-word.result ≡ w = c.left_word-word.ensures
+    ∙ ap (λ (z : Parts). left_word z c.args.cell) parts in (
+      of,
+      omega (
+        arith,
+        word,
+        (part_cell z c.args.cell c.requires.cell).2,
+        c.self.invariant.2,
+        ap (λ (z : Parts). table_size z) parts,
+      ),
+      reads_right_allowed_at t.key t.table_id.slots me.id me.me c.requires.token.1.2 w
+          me.me.0.last.0 c.requires.taken (c.left_word-word.result + 1) (omega (arith, word)),
+    )
