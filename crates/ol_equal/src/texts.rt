@@ -28,18 +28,14 @@ pub fn compared_text(alloc: Global, compared: &Compared) -> Result<Vec<u8>, NoMe
 fn put(text: &mut Vec<u8>, bytes: &[u8]) -> Result<(), NoMemory>
     ensures { OnOk result (text.new.items ≡ text.old.items ++ bytes.now) }
 {
-    let Ok(()) = text.extend_from_slice(bytes) else {
-        return Err(NoMemory);
-    };
+    text.extend_from_slice(bytes)?;
     Ok(())
 }
 
 fn put_number(alloc: Global, text: &mut Vec<u8>, number: u32) -> Result<(), NoMemory>
     ensures { OnOk result (text.new.items ≡ text.old.items ++ decimal number) }
 {
-    let Ok(digits) = number.to_string(alloc) else {
-        return Err(NoMemory);
-    };
+    let digits = number.to_string(alloc)?;
     put(text, digits.as_bytes())?;
     Ok(())
 }
