@@ -13,7 +13,8 @@ pub struct Frame {
     pub lams: u32,
 }
 
-/// A frame that is asked, number `at` of a list of frames, and the skips of that list.
+/// A frame that is asked, number `at` of a list of frames, and the skips of that list: an entry is
+/// the number of a frame round that of its place, where no frame between the two binds anything.
 #[derive(Drop)]
 pub struct Asked<'a> {
     pub frames: &'a Vec<Frame>,

@@ -80,9 +80,7 @@ pub fn next(
             }
             group.done = done;
             group.mark = values.put_o(group.mark)?;
-            let Ok(()) = pending.push(group) else {
-                return Err(NoMemory);
-            };
+            pending.push(group)?;
             Ok(Some(frame))
         }
     }

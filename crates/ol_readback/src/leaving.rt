@@ -51,9 +51,7 @@ fn with_last(alloc: Global, levels: &[Val], last: Val) -> Result<Vec<Val>, Alloc
 pub fn push_level(alloc: Global, levels: &Levels, last: Val) -> Result<Levels, NoMemory>
     ensures { IfOk result (λ r. r ≡ levels.now ++ last ∷ []) }
 {
-    let Ok(longer) = with_last(alloc, levels.levels.as_slice(), last) else {
-        return Err(NoMemory);
-    };
+    let longer = with_last(alloc, levels.levels.as_slice(), last)?;
     Ok(Levels::of(longer))
 }
 

@@ -40,9 +40,7 @@ impl Levels {
     pub fn copied(&self, alloc: Global) -> Result<Vec<Val>, NoMemory>
         ensures { IfOk result (λ r. r.items ≡ self.now) }
     {
-        let Ok(copy) = Vec::from_slice(alloc, self.levels.as_slice()) else {
-            return Err(NoMemory);
-        };
+        let copy = Vec::from_slice(alloc, self.levels.as_slice())?;
         Ok(copy)
     }
 

@@ -25,18 +25,14 @@ pub struct Open {
 fn put(text: &mut Vec<u8>, byte: u8) -> Result<(), NoMemory>
     ensures { OnOk result (text.new.items ≡ text.old.items ++ byte ∷ []) }
 {
-    let Ok(()) = text.push(byte) else {
-        return Err(NoMemory);
-    };
+    text.push(byte)?;
     Ok(())
 }
 
 fn put_all(text: &mut Vec<u8>, bytes: &[u8]) -> Result<(), NoMemory>
     ensures { OnOk result (text.new.items ≡ text.old.items ++ bytes.now) }
 {
-    let Ok(()) = text.extend_from_slice(bytes) else {
-        return Err(NoMemory);
-    };
+    text.extend_from_slice(bytes)?;
     Ok(())
 }
 
@@ -185,13 +181,11 @@ fn put_place(
                 return Ok(());
             }
             let inside = sum(t, lams)?;
-            let Ok(()) = pending.push(Open {
+            pending.push(Open {
                 left: args,
                 binders: inside,
                 bracket,
-            }) else {
-                return Err(NoMemory);
-            };
+            })?;
             Ok(())
         }
     }
@@ -208,13 +202,11 @@ fn take(text: &mut Vec<u8>, pending: &mut Vec<Open>) -> Result<Option<usize>, No
             None => return Ok(None),
             Some(head) => {
                 if head.left > 0 {
-                    let Ok(()) = pending.push(Open {
+                    pending.push(Open {
                         left: head.left - 1,
                         binders: head.binders,
                         bracket: head.bracket,
-                    }) else {
-                        return Err(NoMemory);
-                    };
+                    })?;
                     return Ok(Some(head.binders));
                 }
                 put_right(text, head.bracket)?;
@@ -227,9 +219,7 @@ fn take(text: &mut Vec<u8>, pending: &mut Vec<Open>) -> Result<Option<usize>, No
 fn add_round(rounds: &mut Vec<usize>, t: usize) -> Result<(), NoMemory>
     ensures { OnOk result (rounds.new.items ≡ rounds.old.items ++ t ∷ []) }
 {
-    let Ok(()) = rounds.push(t) else {
-        return Err(NoMemory);
-    };
+    rounds.push(t)?;
     Ok(())
 }
 

@@ -56,12 +56,8 @@ fn add_frame(
     ensures each { OnOk result (length skips.new.items ≡ length frames.new.items) }
 {
     let skip = skip_from(frames, skips, frame.parent);
-    let Ok(()) = skips.push(skip) else {
-        return Err(NoMemory);
-    };
-    let Ok(()) = frames.push(frame) else {
-        return Err(NoMemory);
-    };
+    skips.push(skip)?;
+    frames.push(frame)?;
     Ok(())
 }
 
@@ -156,9 +152,7 @@ fn put(nodes: &mut Vec<ReadNode>, node: ReadNode) -> Result<(), NoMemory>
     if nodes.len() >= 4294967295 {
         return Err(NoMemory);
     }
-    let Ok(()) = nodes.push(node) else {
-        return Err(NoMemory);
-    };
+    nodes.push(node)?;
     Ok(())
 }
 
@@ -169,9 +163,7 @@ fn add(pending: &mut Vec<Group>, group: Option<Group>) -> Result<(), NoMemory>
     match group {
         None => Ok(()),
         Some(group) => {
-            let Ok(()) = pending.push(group) else {
-                return Err(NoMemory);
-            };
+            pending.push(group)?;
             Ok(())
         }
     }

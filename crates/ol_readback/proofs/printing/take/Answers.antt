@@ -13,7 +13,8 @@ pub returns-then-head-gt0 : goal.returns-then-head-gt0
 returns-then-head-gt0 c =
     c.loop-head.invariant (Some c.in-Some.head.binders) c.loop-head.text.items c.push.new.self.items
     (takes_more c.loop-head.text.items c.loop-head.pending.items c.pop.new.self.items
-    c.push.new.self.items c.in-Some.head c.in-Some.ensures.items c.if-head-gt0.true c.in-Ok.ensures.items)
+    c.push.new.self.items c.in-Some.head c.in-Some.ensures.items c.if-head-gt0.true
+    c.in_ok-push-in-Some.ensures.items)
 
 pub loop-head-preserved : goal.loop-head-preserved
 loop-head-preserved c = λ r x os t.
