@@ -1,3 +1,4 @@
+mod Causes
 mod Exact
 mod Evaluated
 mod OneAnswer

@@ -1,6 +1,5 @@
 -- What the bytes of a file with a net are answered, and that this is one status, and one text but for the net that is left.
-use Rattle.std.proofs.Common.{◌≡◌, ◌≢◌, ℕ, suc, ◌≤◌, List, [], ◌∷◌, ◌++◌, length, false, Option, Some, None, count_by, is_some, inl, inr, ◌⊎◌, refl, sym, ap, ◌∙◌, subst, arith}
-use Rattle.ol_io.specs.Outside.{Rose}
+use Rattle.std.proofs.Common.{◌≡◌, ◌≢◌, ℕ, suc, ◌≤◌, List, [], ◌∷◌, ◌++◌, length, false, Option, Some, None, count_by, is_some, refl, sym, ap, ◌∙◌, subst, arith}
 use Rattle.ol_net.specs.declared.parts.Kind.{Kind}
 use Rattle.ol_net.specs.Graph.{Graph}
 use Rattle.ol_net.specs.Indexes.{top_index_of}
@@ -27,7 +26,6 @@ use Rattle.ol_cli.specs.declared.status.Status.TheVariants.{Done, Usage, Syntax,
 use Rattle.ol_cli.specs.Laws.{HaveOneText}
 use Rattle.ol_cli.specs.Texts.{line, nodes_text, spent_text, counts_text}
 use Rattle.ol_cli.specs.Net.{long, NetRunsOut, NetRunEnds, IsPastNodes, PrintsNet, NetAnswer, IsNetFile, NetFileAnswer, bad, of_net}
-use Rattle.ol_cli.specs.Answers.{Seen, NetCause, failed, past, given}
 use Rattle.ol_cli.proofs.Handing.{whole_net}
 use Rattle.ol_cli.proofs.NetRuns.{one_left, left_or_runs_out}
 
@@ -96,13 +94,6 @@ pub net_file_status : (fuel : ℕ) (bytes : List ℕ) (st : Status) (text : List
 net_file_status fuel bytes st text (long l e x) = subst IsOfNet (sym e) tt
 net_file_status fuel bytes st text (bad l d f isnt e x) = subst IsOfNet (sym e) tt
 net_file_status fuel bytes st text (of_net {net = net} i h) = net_status net fuel st text h
-
--- a fault that rose, or a status of a net
-pub net_cause_status : (s : Seen) (name : Text) (fuel : ℕ) (st : Status) (text : List ℕ) → NetCause s name fuel st text →
-    ((st ≡ ReadFault) × Rose s.faults s.faults') ⊎ ((s.faults' ≡ s.faults) × IsOfNet st)
-net_cause_status s name fuel st text (failed rose e x) = inl (e, rose)
-net_cause_status s name fuel st text (past same gave e x) = inr (same, subst IsOfNet (sym e) tt)
-net_cause_status s name fuel st text (given same {bytes = bytes} gave h) = inr (same, net_file_status fuel bytes st text h)
 
 -- ---- one answer
 
@@ -192,8 +183,3 @@ done_net_file fuel bytes net counts stuck nodes i ends few s x (bad l d f isnt e
 done_net_file fuel bytes net counts stuck nodes i ends few s x (of_net {net = g} j h) =
     let h' = subst (λ n. NetAnswer n fuel s x) (one_net bytes g net j i) h in
     done_of_net net (net_is_net net i.tabled) fuel s x counts stuck nodes ends few (of_net_answer net fuel s x h')
-
--- ---- what the call makes
-
-pub large_answer : (net : Graph) (fuel : ℕ) (st : Status) (text : List ℕ) → st ≡ Limit → text ≡ nodes_text → IsPastNodes net fuel → NetAnswer net fuel st text
-large_answer net fuel st text is e l = subst (λ st. NetAnswer net fuel st text) (sym is) (l, e)

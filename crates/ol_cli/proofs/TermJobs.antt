@@ -1,5 +1,5 @@
 -- What a job on a term file comes to, by what comes of that file, and by what is answered to its term. Used by each command.
-use Rattle.std.proofs.Common.{◌≡◌, ℕ, List, Option, None, true, false, ◌∙◌}
+use Rattle.std.proofs.Common.{sym, subst, ◌≡◌, ℕ, List, Option, None, true, false, ◌∙◌}
 use Rattle.ol_term.specs.Trees.{tree_of}
 use Rattle.ol_term.specs.declared.term_file.TermFile.{TermFile}
 use Rattle.ol_term.specs.declared.translations.Translation.{Translation}
@@ -11,60 +11,48 @@ use Rattle.ol_words.specs.Asked as jobs
 use Rattle.ol_cli.specs.declared.answer.Answer.{Answer}
 use Rattle.ol_cli.specs.declared.ready.Ready.TheVariants as ready
 use Rattle.ol_cli.specs.declared.status.Status.{Status}
-use Rattle.ol_cli.specs.declared.status.Status.TheVariants.{Done, Usage, Syntax, Spent, ReadFault, WriteFault, NoMemory, Limit, BadNet}
+use Rattle.ol_cli.specs.declared.status.Status.TheVariants.{Done, ReadFault, Limit}
 use Rattle.ol_cli.specs.Jobs.{HasTermFile, file_name, translation_in}
-use Rattle.ol_cli.specs.Answers.{Seen, FileCause, NetCause, by_file, by_net_file}
+use Rattle.ol_cli.specs.Answers.{Seen, FileCause, by_file, by_net_file, CauseOf, failed, past, given}
+use Rattle.ol_cli.specs.TermFiles.{FileAnswer}
+use Rattle.ol_cli.specs.Net.{NetFileAnswer}
+use Rattle.ol_cli.specs.Limits.{most_net_bytes}
+use Rattle.ol_cli.specs.Texts.{net_bytes_text}
 use Rattle.ol_cli.specs.TermFiles.{TermAnswer}
 use Rattle.ol_cli.specs.TermFiles.{TermHands}
 use Rattle.ol_cli.specs.Handed.{ReadHands, JobHands, WhereEnded}
 use Rattle.ol_cli.specs.Inside.{ComesOf}
 use Rattle.ol_cli.specs.ReadAgain.{AnswerIsReadAgain}
-use Rattle.ol_cli.specs.Ready.{RefusesTerm, ComesOfTerm}
-use Rattle.ol_cli.proofs.Exact.{read_cause}
+use Rattle.ol_cli.specs.Ready.{Refuses, RefusesTerm, ComesOfTerm}
+use Rattle.ol_cli.proofs.Causes.{cause_map}
 use Rattle.ol_cli.proofs.Handing.{file_hands, none_ended, read_hands, where_ended}
 use Rattle.ol_cli.proofs.ReadAgain.{file_bytes, file_read, told_read}
-use Rattle.ol_cli.proofs.Readied.{term_answer}
+use Rattle.ol_cli.proofs.Readied.{refuses_answer, refuses_hands, term_answer}
 
 -- ---- a file that is refused
 
 -- a refusal is the cause of an answer, whatever the job
 pub refused_cause : (asked : Asked) (s : Seen) (st : Status) (text : List ℕ) →
     RefusesTerm (translation_in asked) s (file_name asked) st text → FileCause asked s st text
-refused_cause asked s ReadFault text r = r
-refused_cause asked s Limit text r = r
-refused_cause asked s Syntax text r = r
-refused_cause asked s Done text r = absurd r.1.2
-refused_cause asked s Spent text r = absurd r.1.2
-refused_cause asked s Usage text r = absurd r.1.2
-refused_cause asked s WriteFault text r = absurd r.1.2
-refused_cause asked s NoMemory text r = absurd r.1.2
-refused_cause asked s BadNet text r = absurd r.1.2
+refused_cause asked s st text r =
+    cause_map s _ _ (file_name asked) (Refuses (translation_in asked)) (FileAnswer asked) st text
+    (λ bytes h. refuses_answer asked bytes st text h) r
 
 module _ (tr : Translation) (s : Seen) (name : Text) (text : List ℕ) where
   -- nothing is done with it,
   pub refused_undone : (st : Status) → RefusesTerm tr s name st text → st ≡ Done → ⊥
-  refused_undone Done r e = r.1.2
-  refused_undone ReadFault r e = absurd (cc)
-  refused_undone Limit r e = absurd (cc)
-  refused_undone Syntax r e = absurd (cc)
-  refused_undone Spent r e = absurd (cc)
-  refused_undone Usage r e = absurd (cc)
-  refused_undone WriteFault r e = absurd (cc)
-  refused_undone NoMemory r e = absurd (cc)
-  refused_undone BadNet r e = absurd (cc)
+  refused_undone st (failed rose is e) done = let k : ReadFault ≡ Done = sym is ∙ done in cc
+  refused_undone st (past same gave is e) done = let k : Limit ≡ Done = sym is ∙ done in cc
+  refused_undone st (given same {bytes = bytes} gave h) done =
+      subst (λ st. Refuses tr bytes st text) done h
 
   -- and nothing is handed back
   refused_closed : (st : Status) (closed : Option ClosedTable) (P : Type 0) →
       RefusesTerm tr s name st text → closed ≡ None → WhereEnded st closed P
-  refused_closed Done closed P r e = absurd r.1.2
-  refused_closed Spent closed P r e = absurd r.1.2
-  refused_closed ReadFault closed P r e = e
-  refused_closed Limit closed P r e = e
-  refused_closed Syntax closed P r e = e
-  refused_closed Usage closed P r e = e
-  refused_closed WriteFault closed P r e = e
-  refused_closed NoMemory closed P r e = e
-  refused_closed BadNet closed P r e = e
+  refused_closed st closed P (failed rose is e) none = subst (λ st. WhereEnded st closed P) (sym is) none
+  refused_closed st closed P (past same gave is e) none = subst (λ st. WhereEnded st closed P) (sym is) none
+  refused_closed st closed P (given same {bytes = bytes} gave h) none =
+      refuses_hands tr bytes st text closed P h none
 
 pub refused_comes : (asked : Asked) → HasTermFile asked → (s : Seen) (a : Answer) →
     ComesOfTerm (translation_in asked) s (file_name asked) (ready.Refused a) → ComesOf asked s a
@@ -107,8 +95,7 @@ term_comes asked has s net file (same, (bytes, gave, i)) a h read closed =
     let text = a.text.items in record {
       caused =
           by_file has
-          (read_cause asked s st text same
-          (bytes, gave, term_answer asked bytes t names i.term st text h));
+          (given same gave (term_answer asked bytes t names i.term st text h));
       read =
           λ told e.
           told_read asked (s.contents 0 (file_name asked)) bytes told st text gave.whole
@@ -124,7 +111,8 @@ term_comes asked has s net file (same, (bytes, gave, i)) a h read closed =
 -- ---- the file of a net
 
 pub net_comes : (tr : Translation) (workers fuel : ℕ) (name : Text) (s : Seen) (a : Answer) →
-    NetCause s name fuel a.status a.text.items → a.closed ≡ None →
+    CauseOf s most_net_bytes net_bytes_text name (NetFileAnswer fuel) a.status a.text.items →
+    a.closed ≡ None →
     ComesOf (jobs.net tr false workers fuel name) s a
 net_comes tr workers fuel name s a cause e = record {
   caused = by_net_file cause;

@@ -1,6 +1,6 @@
 -- The answer to a list of words and to the bytes of the files that they name: a text and a status, by the order of refusals; and what
 -- a call does, by what its source and its sink did.
-use Rattle.std.specs.Prelude.{Bool, List, Option, Some, String, false, length, take, true, ℕ, ◌+◌, ◌<◌, ◌≡◌, ◌≢◌, ◌≤◌, ◌⊎◌}
+use Rattle.std.specs.Prelude.{Bool, List, Option, Some, String, false, length, take, true, ℕ, ◌+◌, ◌<◌, ◌≡◌, ◌≢◌, ◌≤◌}
 use Rattle.std.specs.declared.alloc.Global.{Global}
 use Rattle.ol_io.specs.Outside.{Appended, IsAllOf, IsLonger, Rose}
 use Rattle.ol_term.specs.Trees.{Tree}
@@ -106,44 +106,28 @@ pub record GavePast (s : Seen) (most : ℕ) (name : Text) : Type 0 where
 abbrev pub GaveAll : Seen → Text → List ℕ → Type 0
 GaveAll s name bytes = GaveWithin s most_term_bytes name bytes
 
-abbrev pub GaveTooMany : Seen → Text → Type 0
-GaveTooMany s name = GavePast s most_term_bytes name
+-- What comes of a file, of which at most so many bytes are read: the source failed, it gave more, or this is answered to all its bytes.
+pub data CauseOf (s : Seen) (most : ℕ) (past_text : List ℕ) (name : Text) (Answers : List ℕ → Status → List ℕ → Type 0)
+    (st : Status) (text : List ℕ) : Type 0 where
+  failed : Rose s.faults s.faults' → st ≡ status.ReadFault → text ≡ fault_text → CauseOf s most past_text name Answers st text
+  past : s.faults' ≡ s.faults → GavePast s most name → st ≡ status.Limit → text ≡ past_text → CauseOf s most past_text name Answers st text
+  given : s.faults' ≡ s.faults → {bytes : List ℕ} → GaveWithin s most name bytes → Answers bytes st text →
+      CauseOf s most past_text name Answers st text
 
--- all bytes that the source gave, and what they are answered
-abbrev pub Read : Asked → Seen → Status → List ℕ → Type 0
-Read asked s st text = (bytes : List ℕ) × GaveAll s (file_name asked) bytes × FileAnswer asked bytes st text
-
--- Each status of a job with a term file, where it comes of this file or of a fault, and its text.
+-- what comes of a job's term file
 abbrev pub FileCause : Asked → Seen → Status → List ℕ → Type 0
-FileCause asked s status.ReadFault text = Rose s.faults s.faults' × (text ≡ fault_text)
-FileCause asked s status.Limit text =
-    (s.faults' ≡ s.faults) × ((GaveTooMany s (file_name asked) × (text ≡ bytes_text)) ⊎ Read asked s status.Limit text)
-FileCause asked s st text = (s.faults' ≡ s.faults) × Read asked s st text
-
--- What comes of a journal file, against a term.
-abbrev pub JournalCause : Seen → Text → Translation → Tree → List (List ℕ) → Status → List ℕ → Type 0
-JournalCause s journal translation t names status.Limit text = GavePast s most_journal_bytes journal × (text ≡ journal_text)
-JournalCause s journal translation t names status.Done text =
-    (trace : List ℕ) × GaveWithin s most_journal_bytes journal trace × JournalAnswer translation t names trace status.Done text
-JournalCause s journal translation t names _ text = ⊥
-
--- What comes of the file of a net: a fault, a limit that was passed, or what all its bytes are answered.
-pub data NetCause (s : Seen) (name : Text) (fuel : ℕ) (st : Status) (text : List ℕ) : Type 0 where
-  failed : Rose s.faults s.faults' → st ≡ status.ReadFault → text ≡ fault_text → NetCause s name fuel st text
-  past : s.faults' ≡ s.faults → GavePast s most_net_bytes name → st ≡ status.Limit → text ≡ net_bytes_text → NetCause s name fuel st text
-  given : s.faults' ≡ s.faults → {bytes : List ℕ} → GaveWithin s most_net_bytes name bytes → NetFileAnswer fuel bytes st text →
-      NetCause s name fuel st text
+FileCause asked s = CauseOf s most_term_bytes bytes_text (file_name asked) (FileAnswer asked)
 
 -- Each status of a job, where it comes, and its text: of its term file; of its journal file, once the term file was read and is no
 -- refusal; of a text that is made; of the file of a net; or of two term files, of which the second is begun once the first was read
 -- and is no refusal.
 pub data JobCause (s : Seen) (st : Status) (text : List ℕ) : Asked → Type 0 where
   by_file : {asked : Asked} → HasTermFile asked → FileCause asked s st text → JobCause s st text asked
-  by_journal : {translation : Translation} {term journal : Text} {bytes : List ℕ} {t : Tree} {names : List (List ℕ)} → s.faults' ≡ s.faults →
-      IsAllOf (s.contents 0 term) bytes → IsTermFile translation bytes t names → JournalCause (on_second s) journal translation t names st text →
+  by_journal : {translation : Translation} {term journal : Text} {bytes : List ℕ} {t : Tree} {names : List (List ℕ)} → IsAllOf (s.contents 0 term) bytes →
+      IsTermFile translation bytes t names → CauseOf (on_second s) most_journal_bytes journal_text journal (JournalAnswer translation t names) st text →
       JobCause s st text (check translation term journal)
   by_making : {translation : Translation} {runs : Bool} {k : ℕ} → s.faults' ≡ s.faults → Makes translation runs k st text → JobCause s st text (gen translation runs k)
-  by_net_file : {translation : Translation} {workers fuel : ℕ} {name : Text} → NetCause s name fuel st text →
+  by_net_file : {translation : Translation} {workers fuel : ℕ} {name : Text} → CauseOf s most_net_bytes net_bytes_text name (NetFileAnswer fuel) st text →
       JobCause s st text (net translation false workers fuel name)
   by_first : {translation : Translation} {workers fuel heads : ℕ} {a b : Text} → st ≢ status.Done →
       FileCause (run translation workers fuel heads a) s st text → JobCause s st text (equal translation workers fuel heads a b)

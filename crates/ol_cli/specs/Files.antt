@@ -1,15 +1,13 @@
 -- Private: words of private contracts alone: what comes of one file that is read to its end.
 use Rattle.std.specs.Prelude.{◌≡◌, ℕ, ◌≤◌, List, length, None}
-use Rattle.ol_io.specs.Outside.{Rose}
 use Rattle.ol_words.specs.Texts.{Text}
 use Rattle.ol_cli.specs.declared.files.FileKind.{FileKind}
 use Rattle.ol_cli.specs.declared.files.FileKind.TheVariants as kind
 use Rattle.ol_cli.specs.declared.files.File.{File}
 use Rattle.ol_cli.specs.declared.files.File.TheVariants.{Bytes, Refused}
 use Rattle.ol_cli.specs.declared.status.Status.{Status}
-use Rattle.ol_cli.specs.declared.status.Status.TheVariants as status
-use Rattle.ol_cli.specs.Answers.{Seen, GaveWithin, GavePast}
-use Rattle.ol_cli.specs.Texts.{fault_text, bytes_text, journal_text, net_bytes_text}
+use Rattle.ol_cli.specs.Answers.{Seen, GaveWithin, CauseOf}
+use Rattle.ol_cli.specs.Texts.{bytes_text, journal_text, net_bytes_text}
 use Rattle.ol_cli.specs.Limits.{most_term_bytes, most_journal_bytes, most_net_bytes}
 
 -- how many bytes a file may have, and the line that refuses one with more
@@ -25,10 +23,7 @@ limit_text kind.Net = net_bytes_text
 
 -- the file is refused so: the source failed, or gave too many bytes
 abbrev pub RefusesFile : FileKind → Seen → Text → Status → List ℕ → Type 0
-RefusesFile k s name status.ReadFault text = Rose s.faults s.faults' × (text ≡ fault_text)
-RefusesFile k s name status.Limit text =
-    (s.faults' ≡ s.faults) × GavePast s (most_bytes k) name × (text ≡ limit_text k)
-RefusesFile k s name _ text = ⊥
+RefusesFile k s name = CauseOf s (most_bytes k) (limit_text k) name (λ bytes st text. ⊥)
 
 -- what comes of the file: all its bytes, or the answer that refuses it
 abbrev pub ComesOfFile : FileKind → Seen → Text → File → Type 0

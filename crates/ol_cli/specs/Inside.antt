@@ -18,11 +18,10 @@ use Rattle.ol_cli.specs.declared.status.Status.{Status}
 use Rattle.ol_cli.specs.declared.status.Status.TheVariants as status
 use Rattle.ol_cli.specs.Jobs.{term_bytes}
 use Rattle.ol_cli.specs.Run.{RunsOut, ReadsLast}
-use Rattle.ol_cli.specs.Answers.{Seen, JournalCause, JobCause, Cause}
+use Rattle.ol_cli.specs.Answers.{Seen, JobCause, Cause}
 use Rattle.ol_cli.specs.TermFiles.{TermAnswer}
 use Rattle.ol_cli.specs.TermFiles.{TermHands}
 use Rattle.ol_cli.specs.Handed.{JobHands, WhereEnded, WordsHand}
-use Rattle.ol_cli.specs.Texts.{fault_text}
 use Rattle.ol_cli.specs.ReadAgain.{AnswerIsReadAgain, FileIsReadAgain, WordsAreReadAgain}
 use Rattle.ol_cli.specs.Limits.{most_fuel, most_workers}
 
@@ -82,11 +81,6 @@ ReadsOrRunsOut translation t names fuel heads (Some tree) = ReadsLast translatio
 -- where the bytes of the job's term are told, the text is read again by the names of that term
 abbrev pub IsReadWhereTold : Asked → (Text → Option (List ℕ)) → Status → List ℕ → Type 0
 IsReadWhereTold asked contents st text = (bytes : List ℕ) → term_bytes contents asked ≡ Some bytes → FileIsReadAgain asked bytes st text
-
--- What comes of a journal file, against a term, where the read of it may fail.
-abbrev pub EndsJournal : Seen → Text → Translation → Tree → List (List ℕ) → Status → List ℕ → Type 0
-EndsJournal s journal translation t names status.ReadFault text = Rose s.faults s.faults' × (text ≡ fault_text)
-EndsJournal s journal translation t names st text = (s.faults' ≡ s.faults) × JournalCause s journal translation t names st text
 
 -- ---- what a job comes to
 

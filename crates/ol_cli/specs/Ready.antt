@@ -1,6 +1,5 @@
 -- Private: words of private contracts alone: a term file made ready, which is the net of its term, or the answer that refuses it, whatever the job.
-use Rattle.std.specs.Prelude.{◌≡◌, ℕ, ◌≤◌, ◌<◌, ◌^◌, ◌⊎◌, true, List, length, None, count_by, is_some}
-use Rattle.ol_io.specs.Outside.{Rose}
+use Rattle.std.specs.Prelude.{◌≡◌, ℕ, ◌≤◌, ◌<◌, ◌^◌, true, List, length, None, count_by, is_some}
 use Rattle.ol_term.specs.declared.translations.Translation.{Translation}
 use Rattle.ol_term.specs.Trees.{Tree, tree_of, is_below, depth, term_size}
 use Rattle.ol_parse.specs.Texts.{IsRefusedAt}
@@ -15,9 +14,9 @@ use Rattle.ol_cli.specs.declared.status.Status.TheVariants as status
 use Rattle.ol_cli.specs.declared.ready.Ready.{Ready}
 use Rattle.ol_cli.specs.declared.ready.Ready.TheVariants as ready
 use Rattle.ol_words.specs.Texts.{Text}
-use Rattle.ol_cli.specs.Texts.{syntax_text, fault_text, bytes_text}
+use Rattle.ol_cli.specs.Texts.{syntax_text, bytes_text}
 use Rattle.ol_cli.specs.TermFiles.{IsTermFile, IsPastLimit}
-use Rattle.ol_cli.specs.Answers.{Seen, GaveAll, GaveTooMany}
+use Rattle.ol_cli.specs.Answers.{Seen, GaveAll, CauseOf}
 use Rattle.ol_cli.specs.Limits.{most_term_bytes, most_depth, most_nodes}
 
 -- the bytes are refused so
@@ -64,12 +63,8 @@ IsNetReady translation (ready.Refused answer) = Unit {0}
 
 -- the term file is refused so: the source failed, or gave too many bytes, or its bytes are refused
 abbrev pub RefusesTerm : Translation → Seen → Text → Status → List ℕ → Type 0
-RefusesTerm translation s name status.ReadFault text = Rose s.faults s.faults' × (text ≡ fault_text)
-RefusesTerm translation s name status.Limit text =
-    (s.faults' ≡ s.faults) × ((GaveTooMany s name × (text ≡ bytes_text))
-    ⊎ ((bytes : List ℕ) × GaveAll s name bytes × Refuses translation bytes status.Limit text))
-RefusesTerm translation s name st text =
-    (s.faults' ≡ s.faults) × ((bytes : List ℕ) × GaveAll s name bytes × Refuses translation bytes st text)
+RefusesTerm translation s name =
+    CauseOf s most_term_bytes bytes_text name (Refuses translation)
 
 -- what comes of a term file
 abbrev pub ComesOfTerm : Translation → Seen → Text → Ready → Type 0

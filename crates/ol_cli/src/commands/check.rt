@@ -4,8 +4,11 @@ ghost use Rattle.ol_io.specs.Readings.{AreOfSince};
 ghost use Rattle.ol_wire.specs.Sizes.{IsSmallNet};
 ghost use Rattle.ol_words.specs.Asked.{check};
 ghost use Rattle.ol_cli.specs.Jobs.{OfReadFiles};
-ghost use Rattle.ol_cli.specs.Answers.{RefusesFirst, seen_of};
-ghost use Rattle.ol_cli.specs.Inside.{ComesOf, EndsJournal};
+ghost use Rattle.ol_cli.specs.Answers.{CauseOf, RefusesFirst, seen_of};
+ghost use Rattle.ol_cli.specs.Inside.{ComesOf};
+ghost use Rattle.ol_cli.specs.Check.{JournalAnswer};
+ghost use Rattle.ol_cli.specs.Limits.{most_journal_bytes};
+ghost use Rattle.ol_cli.specs.Texts.{journal_text};
 ghost use Rattle.ol_cli.specs.Ready.{HoldsOfTerms};
 
 use crate::answer::Answer;
@@ -62,8 +65,9 @@ fn answer_journal<S: Source>(
     requires small { IsSmallNet net.now }
     ensures caused { OfReadFiles (S.readings src.old) (S.readings src.new) (λ files.
         IfOk result (λ a. HoldsOfTerms net.now (λ translation t names.
-        EndsJournal (seen_of S.faults files S.given S.ended src.old src.new)
-        name.now translation t names a.status a.text.items))) }
+        CauseOf (seen_of S.faults files S.given S.ended src.old src.new)
+        most_journal_bytes journal_text name.now (JournalAnswer translation t names)
+        a.status a.text.items))) }
     ensures closed { IfOk result (λ a. a.closed ≡ None) }
     ensures begins { S.begins src.new ≤ S.begins src.old + 1 }
     ensures knows { S.knows src.new ≡ S.knows src.old }

@@ -1,11 +1,13 @@
-use Rattle.ol_cli.proofs.FilesRead.{made_net, made_ready, refused_term}
+use Rattle.ol_cli.specs.declared.files.FileKind.TheVariants as kind
+use Rattle.ol_cli.specs.Ready.{Refuses}
+use Rattle.ol_cli.proofs.FilesRead.{made_net, made_ready, refused_file}
 use Rattle.ol_cli.proofs.ready.read_term.Goals as goal
 
 pub returns-in-Refused-clause-comes : goal.returns-in-Refused-clause-comes
 returns-in-Refused-clause-comes g c = λ files of.
     let r = rw c.in-Refused.is at (c.in_ok-file.ensures.comes files of) in
     let a = c.in-Refused.answer in
-    (refused_term _ c.args.name.now a.text.items c.args.translation a.status r.0, r.1)
+    (refused_file kind.Term _ c.args.name.now (Refuses c.args.translation) a.status a.text.items r.0, r.1)
 
 pub returns-in_ok-ready-in-Bytes-clause-comes : goal.returns-in_ok-ready-in-Bytes-clause-comes
 returns-in_ok-ready-in-Bytes-clause-comes g c = λ files of.

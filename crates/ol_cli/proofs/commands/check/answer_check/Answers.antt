@@ -1,10 +1,11 @@
 -- The journal file is read after the term file, so what comes of both is what comes of the second after the first.
-use Rattle.std.proofs.Common.{◌+◌, refl}
+use Rattle.std.proofs.Common.{◌+◌}
 use Rattle.ol_term.specs.Trees.{tree_of}
 use Rattle.ol_words.specs.Asked.{check}
-use Rattle.ol_cli.specs.Answers.{Seen, seen}
+use Rattle.ol_cli.specs.Answers.{Seen, by_journal, seen}
+use Rattle.ol_cli.specs.Check.{JournalAnswer}
 use Rattle.ol_io.proofs.Readings.{AreOfSince-parts, AreOfSince-then}
-use Rattle.ol_cli.proofs.Exact.{after_term, checked_cause}
+use Rattle.ol_cli.proofs.Exact.{after_term}
 use Rattle.ol_cli.proofs.FirstAlone.{term_first}
 use Rattle.ol_cli.proofs.TermJobs.{refused_comes}
 use Rattle.ol_cli.proofs.TwoFiles.{check_comes}
@@ -22,10 +23,9 @@ returns-clause-comes g c = λ files of.
     let names = c.in-Net.file.names in
     let both = AreOfSince-parts files (g.S.Source.contents c.read_term.new.src) c.in_ok-ready.ensures.one.0 (g.S.Source.readings c.args.src.now) (g.S.Source.readings c.read_term.new.src) (g.S.Source.readings c.answer_journal.new.src) c.in_ok-ready.ensures.one.1 c.answer_journal.ensures.told of in
     let r = rw c.in-Net.is at (c.in_ok-ready.ensures.comes files both.0) in
-    let ended = after_term s.faults (g.S.Source.faults c.read_term.new.src) s.faults' s.given (λ n. files (n + 1)) (λ n. files (n + 1)) s.ended c.args.journal.now c.args.translation t names a.status a.text.items
-    r.0 refl (c.in_ok-answer-in-Net.ensures.caused (λ n. files (n + 1)) both.1 c.args.translation t names r.1.2.ready) in
-    check_comes c.args.translation c.args.term.now c.args.journal.now s a
-    (checked_cause c.args.translation s c.args.term.now c.args.journal.now r.1.0 t names r.1.1.whole r.1.2.term a.status a.text.items ended) c.in_ok-answer-in-Net.ensures.closed
+    let ended = after_term s.faults (g.S.Source.faults c.read_term.new.src) s.faults' s.given (λ n. files (n + 1)) s.ended _ _ c.args.journal.now (JournalAnswer c.args.translation t names) a.status a.text.items
+    r.0 (c.in_ok-answer-in-Net.ensures.caused (λ n. files (n + 1)) both.1 c.args.translation t names r.1.2.ready) in
+    check_comes c.args.translation c.args.term.now c.args.journal.now s a (by_journal r.1.1.whole r.1.2.term ended) c.in_ok-answer-in-Net.ensures.closed
 
 pub returns-clause-first_alone : goal.returns-clause-first_alone
 returns-clause-first_alone g c = λ files of refused.

@@ -1,5 +1,8 @@
+use Rattle.ol_cli.specs.declared.files.FileKind.TheVariants as kind
+use Rattle.ol_cli.specs.Answers.{given}
+use Rattle.ol_cli.specs.Check.{JournalAnswer}
 use Rattle.std.proofs.Common.{◌≤◌, length, arith}
-use Rattle.ol_cli.proofs.FilesRead.{refused_journal}
+use Rattle.ol_cli.proofs.FilesRead.{refused_file}
 use Rattle.ol_cli.proofs.JournalFound.{own_found}
 use Rattle.ol_cli.proofs.commands.check.answer_journal.Goals as goal
 
@@ -7,7 +10,7 @@ pub returns-in-Refused-clause-caused : goal.returns-in-Refused-clause-caused
 returns-in-Refused-clause-caused g c = λ files of tr t names n.
     let r = rw c.in-Refused.is at (c.in_ok-file.ensures.comes files of) in
     let a = c.in-Refused.answer in
-    refused_journal _ c.args.name.now a.text.items tr t names a.status r.0
+    refused_file kind.Journal _ c.args.name.now (JournalAnswer tr t names) a.status a.text.items r.0
 
 pub returns-in-Refused-clause-closed : goal.returns-in-Refused-clause-closed
 returns-in-Refused-clause-closed g c =
@@ -20,4 +23,4 @@ returns-in_ok-text-in-Bytes-clause-caused g c = λ files of tr t names n.
     let bytes = c.in-Bytes.bytes.items in
     let few : length bytes ≤ 402653184 = let e = r.1.counted in let within = r.1.within in omega (arith, e, within) in
     let only = own_found tr t names c.args.net.now n.same bytes c.in_ok-found-in-Bytes.found (rw c.deref.ensures.value at c.in_ok-found-in-Bytes.ensures.exact) in
-    rw c.without_words.ensures (r.0, (bytes, r.1, (few, (c.in_ok-found-in-Bytes.found, only, c.in_ok-text-in-Bytes.ensures))))
+    rw c.without_words.ensures (given r.0 r.1 (few, (c.in_ok-found-in-Bytes.found, only, c.in_ok-text-in-Bytes.ensures)))

@@ -1,6 +1,7 @@
 use Rattle.std.proofs.Common.{◌≡◌, ◌-◌, length, refl, subst, arith}
 use Rattle.ol_term.specs.Trees.{tree_of}
 use Rattle.ol_readback.specs.Texts.{AreNamed}
+use Rattle.ol_cli.specs.Answers.{given}
 use Rattle.ol_cli.specs.Inside.{run_on}
 use Rattle.ol_cli.proofs.TermJobs.{refused_cause, refused_undone}
 use Rattle.ol_cli.proofs.commands.equal.read_side.Goals as goal
@@ -17,7 +18,7 @@ returns-in-None-clause-comes g c = λ files of.
     let t = tree_of c.in-Net.file.term in
     let names = c.in-Net.file.names in
     let reads = rw c.in-None.is at c.in_ok-last_tree-in-Net.ensures.reads in
-    rw c.without_words.ensures ((λ e. cc), (r.0, (r.1.0, r.1.1, (t, names, r.1.2.term, (reads c.args.numbers.translation t names r.1.2.ready, c.in_ok-text-in-None.ensures)))), refl)
+    rw c.without_words.ensures ((λ e. cc), given r.0 r.1.1 (t, names, r.1.2.term, (reads c.args.numbers.translation t names r.1.2.ready, c.in_ok-text-in-None.ensures)), refl)
 
 pub returns-clause-comes : goal.returns-clause-comes
 returns-clause-comes g c = λ files of.
