@@ -3,6 +3,8 @@
 //! Each function here is a law: it has no code.
 #![tactic(auto)]
 
+ghost use Rattle.ol_frugal.specs.Leftmost.{NeverMoreThanLeftmost, NeverMoreOnTheWay};
+ghost use Rattle.ol_frugal.specs.Leftmost.{NeverMoreThanHead};
 ghost use Rattle.ol_frugal.specs.Met.{NoMoreThanHeadSteps, SeenIsFew};
 
 /// The applications of redexes that the walks from a term's root meet, each with the levels round
@@ -15,4 +17,14 @@ pub fn met_are_few()
 /// at most as many as the head steps that lead from the term to a head normal form.
 pub fn seen_are_few()
     ensures { SeenIsFew }
+{}
+
+/// Where leftmost reduction of a term ends in a normal form, no demand run of the term's net, by
+/// either translation and for whatever number of heads, makes more beta steps than leftmost
+/// reduction, whether it ends or is stopped on the way. Asked for one head, it makes no more than
+/// head reduction to a head normal form.
+pub fn never_more_than_leftmost()
+    ensures leftmost { NeverMoreThanLeftmost }
+    ensures front { NeverMoreOnTheWay }
+    ensures head { NeverMoreThanHead }
 {}
