@@ -1,15 +1,27 @@
 -- Leftmost reduction to a normal form: head steps first, and then the arguments, from the first to
 -- the last.
-use Rattle.std.proofs.Common.{◌≡◌, ℕ, zero, suc, ◌+◌, ◌<◌, ◌≤◌, Bool, true, false, ◌⊎◌, inl, inr, [], ◌∷◌, None, refl, sym, ap, ◌∙◌, subst, arith}
+use Rattle.std.proofs.Common.{◌≡◌, ℕ, zero, suc, ◌+◌, ◌<◌, ◌≤◌, Bool, true, false, ◌⊎◌, inl, inr, List, [], ◌∷◌, Some, None, refl, sym, ap, ◌∙◌, subst, arith}
 use Rattle.ol_beta.specs.Beta.{contracted}
 use Rattle.ol_beta.specs.Leftmost.{leftmost, is_abstraction}
 use Rattle.ol_meaning.specs.Spots.{Tree, var, free, lam, app, Level, Wire, Place, HeadStep}
 use Rattle.ol_meaning.specs.Heads.{Spine, head_var, head_free, head_app, Normal, flat, layer}
+use Rattle.ol_meaning.specs.Shows.{LeftmostReduces}
+use Rattle.ol_meaning.specs.Shows as shows
 use Rattle.ol_meaning.proofs.Walking.{normal_or_step}
 use Rattle.ol_meaning.proofs.LeftmostSteps.{leftmost_step, same_step}
 use Rattle.ol_meaning.proofs.LeftmostRoads.{IsNeutral, arg_leftmost, StepsTo, step_before}
 use Rattle.ol_meaning.proofs.Endings.{some_none, step_or_none, within_lam, within_arg}
-use Rattle.ol_frugal.specs.Leftmost.{LeftmostSteps, ready, contract}
+use Rattle.ol_frugal.specs.Leftmost.{steps_of}
+
+-- contraction of the leftmost redex, so many times
+data LeftmostSteps : Tree → Tree → ℕ → Type 0 where
+  ready : {t : Tree} → LeftmostSteps t t 0
+  contract : {t u v : Tree} {at : List ℕ} {m : ℕ} →
+      leftmost t ≡ Some at → contracted t at ≡ Some u → LeftmostSteps u v m → LeftmostSteps t v (suc m)
+
+counted : {t v : Tree} (r : LeftmostReduces t v) → LeftmostSteps t v (steps_of r)
+counted shows.ready = ready
+counted (shows.contract {at = at} e f r) = contract {at = at} e f (counted r)
 
 -- So many leftmost steps bring the term to a normal form; or, where it is a head normal form, its
 -- arguments.
@@ -215,5 +227,5 @@ costs_within : (most : ℕ) (t v : Tree) (m : ℕ) → m < most → LeftmostStep
 costs_within zero t v m b l n = absurd (omega arith)
 costs_within (suc most) t v m b l n = (both most (costs_within most) t).0 v m (omega arith) l n
 
-pub costs : {t v : Tree} {m : ℕ} → LeftmostSteps t v m → leftmost v ≡ None → Costs true t m
-costs {t = t} {v = v} {m = m} l n = costs_within (suc m) t v m (omega arith) l n
+pub costs : {t v : Tree} (r : LeftmostReduces t v) → leftmost v ≡ None → Costs true t (steps_of r)
+costs {t = t} {v = v} r n = costs_within (suc (steps_of r)) t v (steps_of r) (omega arith) (counted r) n

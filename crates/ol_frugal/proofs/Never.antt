@@ -1,5 +1,5 @@
 -- Demand order makes no more beta steps than leftmost reduction.
-use Rattle.std.proofs.Common.{◌≡◌, ℕ, ◌<◌, ◌≤◌, List, [], ◌∷◌, ◌++◌, length, None, refl, ap, ◌∙◌, subst, arith}
+use Rattle.std.proofs.Common.{◌≡◌, ℕ, ◌<◌, ◌≤◌, List, [], ◌∷◌, ◌++◌, length, None, true, refl, sym, ap, ◌∙◌, subst, arith}
 use Rattle.std.proofs.lemmas.List.{length_push}
 use Rattle.ol_beta.specs.Leftmost.{leftmost}
 use Rattle.ol_context.specs.Asked.{asked}
@@ -11,6 +11,8 @@ use Rattle.ol_demand.proofs.Onward.{is_start}
 use Rattle.ol_edges.specs.Edges.{IsIn}
 use Rattle.ol_invariance.proofs.Renamed.{renamed}
 use Rattle.ol_meaning.specs.Spots.{Tree}
+use Rattle.ol_meaning.specs.Shows.{LeftmostReduces}
+use Rattle.ol_meaning.proofs.Based.{tree_shows, shown_normal}
 use Rattle.ol_meaning.proofs.Endings.{no_redex}
 use Rattle.ol_meaning.proofs.Shapes.{normal_of}
 use Rattle.ol_net.specs.Graph.{Graph}
@@ -26,7 +28,15 @@ use Rattle.ol_readback.specs.Frames.{Frame}
 use Rattle.ol_readback.specs.Heads.{Answer, head, no_head}
 use Rattle.ol_readback.specs.Heads as heads
 use Rattle.ol_readback.specs.ReadTrees.{Subterm, whole_term, framed}
+use Rattle.ol_readback.specs.Sources.{HaveHeadsOf, HasHeadsOf}
+use Rattle.ol_readback.specs.Sources as sources
+use Rattle.ol_readback.specs.Terms.{HasAllHeads, term_of}
 use Rattle.ol_readback.specs.declared.answers.ReadNode.{ReadNode}
+use Rattle.ol_readback.proofs.Forests.{heads_are_whole}
+use Rattle.ol_readback.proofs.Kept.{heads_are_kept}
+use Rattle.ol_levels.proofs.DemandPlaces.{demand_places}
+use Rattle.ol_levels.proofs.Runs.{same_levelled, start_levelled}
+use Rattle.ol_levels.proofs.Terms.{term_is_levelled}
 use Rattle.ol_rules.specs.Counting.{times_applied}
 use Rattle.ol_rules.specs.declared.journal.Entry.{Entry}
 use Rattle.ol_rules.specs.declared.journal.NodeName.{NodeName}
@@ -38,7 +48,7 @@ use Rattle.ol_spots_net.specs.Spots.{at, place}
 use Rattle.ol_term.specs.declared.translations.Translation.{Translation}
 use Rattle.ol_translate.specs.Names.{HasNames}
 use Rattle.ol_translate.specs.Translation.{translation_of}
-use Rattle.ol_frugal.specs.Leftmost.{LeftmostSteps, NeverMoreThanLeftmost, NeverMoreOnTheWay, NeverMoreThanHead}
+use Rattle.ol_frugal.specs.Leftmost.{steps_of, NeverMoreThanLeftmost, NeverMoreOnTheWay, NeverMoreWherePrinted, NeverMoreThanHead}
 use Rattle.ol_frugal.proofs.Counted.{costs}
 use Rattle.ol_frugal.proofs.Counting.{wanted_few}
 use Rattle.ol_frugal.proofs.Few.{named, sites_of, seen_is_few}
@@ -91,8 +101,8 @@ module _ (τ : Translation) (t : Tree) (names : ℕ) (h : HasNames t names) (g :
     comes = m;
   }
 
-  never_more : {v : Tree} {m : ℕ} → LeftmostSteps t v m → leftmost v ≡ None →
-      {many turns : ℕ} {journal : List Entry} {places : List ReadNode} {M : NamedNet NodeName} {a : Asking} → Turns R many turns journal places M a → times_applied rule.Beta journal ≤ m
+  never_more : {v : Tree} (l : LeftmostReduces t v) → leftmost v ≡ None →
+      {many turns : ℕ} {journal : List Entry} {places : List ReadNode} {M : NamedNet NodeName} {a : Asking} → Turns R many turns journal places M a → times_applied rule.Beta journal ≤ steps_of l
   never_more l z {many = many} r =
       let k = contracted r in
       let x = sites_of τ t names h R (start_net (net_of g) n) (named g (translation_of τ t names) same) (IsQuestion R many) (IsWanted τ t) (wanted many) k.redexes k.different k.seen in
@@ -102,10 +112,32 @@ module _ (τ : Translation) (t : Tree) (names : ℕ) (h : HasNames t names) (g :
       omega arith
 
 pub never_more_on_the_way : NeverMoreOnTheWay
-never_more_on_the_way τ t v m l z names h g n same many turns journal places M a r = never_more τ t names h g n same l (no_redex v z) r
+never_more_on_the_way τ t v l z names h g n same many turns journal places M a r = never_more τ t names h g n same l (no_redex v z) r
 
 pub never_more_than_leftmost : NeverMoreThanLeftmost
-never_more_than_leftmost τ t v m l z names h g n same many journal places M d = never_more τ t names h g n same l (no_redex v z) d.run
+never_more_than_leftmost τ t v l z names h g n same many journal places M d = never_more τ t names h g n same l (no_redex v z) d.run
+
+-- ---- where each place has a head
+
+-- places of a net with the same paths
+places_moved : {A B : Type 0} (N : NamedNet A) (M : NamedNet B) → HaveSamePaths N M →
+    {F : List Frame} {ss : List Subterm} {ns : List ReadNode} → HaveHeadsOf N true F ss ns → HaveHeadsOf M true F ss ns
+places_moved N M p sources.end = sources.end
+places_moved N M p (sources.cut r) = sources.cut (places_moved N M p r)
+places_moved N M p (sources.lost {frames = F} {s = s} h r) =
+    sources.lost (λ e. heads_are_kept N M p (F ++ framed s 0 ∷ []) (length F) _ (h e)) (places_moved N M p r)
+places_moved N M p (sources.found {frames = F} {s = s} h r) =
+    sources.found (heads_are_kept N M p (F ++ framed s 0 ∷ []) (length F) _ h) (places_moved N M p r)
+
+pub never_more_where_printed : NeverMoreWherePrinted
+never_more_where_printed τ t names h g n same many journal places M d all =
+    let p = paths τ t names h g n same in
+    let levels = start_levelled (net_of g) (same_levelled (translation_of τ t names) (net_of g) (same_sym (net_of g) (translation_of τ t names) same) (term_is_levelled τ t names h)) in
+    let w = places_moved (start_of g) (translation_of τ t names) (λ q c r X. ((p q c r X).1, (p q c r X).0)) (demand_places (start_of g) M many journal places (is_start g n) levels d) in
+    let T = heads_are_whole (translation_of τ t names) true places w in
+    let shown = tree_shows τ t names h true T.tree (subst (λ ns. HasHeadsOf (translation_of τ t names) true ns) (sym T.is_list) w) in
+    let r = shown_normal t true T.tree shown (subst HasAllHeads (sym T.is_list) all) in
+    (T.tree, T.is_list, r.0, r.1, never_more_than_leftmost τ t (term_of T.tree) r.0 r.1 names h g n same many journal places M d)
 
 -- ---- one head
 

@@ -4,7 +4,7 @@
 #![tactic(auto)]
 
 ghost use Rattle.ol_frugal.specs.Leftmost.{NeverMoreThanLeftmost, NeverMoreOnTheWay};
-ghost use Rattle.ol_frugal.specs.Leftmost.{NeverMoreThanHead};
+ghost use Rattle.ol_frugal.specs.Leftmost.{NeverMoreWherePrinted, NeverMoreThanHead};
 ghost use Rattle.ol_frugal.specs.Met.{NoMoreThanHeadSteps, SeenIsFew};
 
 /// The applications of redexes that the walks from a term's root meet, each with the levels round
@@ -21,10 +21,12 @@ pub fn seen_are_few()
 
 /// Where leftmost reduction of a term ends in a normal form, no demand run of the term's net, by
 /// either translation and for whatever number of heads, makes more beta steps than leftmost
-/// reduction, whether it ends or is stopped on the way. Asked for one head, it makes no more than
-/// head reduction to a head normal form.
+/// reduction, whether the run ends or is stopped on the way. Where a demand run has a head at each
+/// place, leftmost reduction does end, in the term that is printed. Asked for one head, a demand
+/// run makes no more beta steps than head reduction to a head normal form.
 pub fn never_more_than_leftmost()
     ensures leftmost { NeverMoreThanLeftmost }
     ensures front { NeverMoreOnTheWay }
+    ensures printed { NeverMoreWherePrinted }
     ensures head { NeverMoreThanHead }
 {}

@@ -10,3 +10,6 @@ returns-clause-front c = never.never_more_on_the_way
 
 pub returns-clause-head : goal.returns-clause-head
 returns-clause-head c = never.never_more_than_head
+
+pub returns-clause-printed : goal.returns-clause-printed
+returns-clause-printed c = never.never_more_where_printed
