@@ -1,5 +1,6 @@
 -- Rows of crossings: parts of one, and one the other way round.
-use Rattle.std.proofs.Common.{◌≡◌, ℕ, suc, ◌<◌, List, [], ◌∷◌, ◌++◌, refl, ap, ◌∙◌, arith}
+use Rattle.std.proofs.Common.{◌≡◌, ℕ, suc, ◌<◌, List, [], ◌∷◌, ◌++◌, refl, sym, ap, ◌∙◌, arith, append-nil}
+use Rattle.std.proofs.lemmas.List.{append_assoc}
 use Rattle.ol_net.specs.Nets.{NamedPort, slot, NamedNet, HasNode, Linked, IsNet}
 use Rattle.ol_net.specs.Parts.{arity}
 use Rattle.ol_net.specs.declared.parts.Kind.{Kind}
@@ -85,3 +86,8 @@ module _ {A : Type 0} (N : NamedNet A) (n : IsNet N) where
   one_end {p} {q} {r} (along l) (along m) = n.one_link p q r l m
   one_end (rises k i l h b r) (rises k' i' l' h' b' r') = one_end r r'
   one_end (falls k i l h b r) (falls k' i' l' h' b' r') = one_end r r'
+
+pub turned_append : {A : Type 0} (v w : List (Crossing A)) → turned (v ++ w) ≡ turned w ++ turned v
+turned_append [] w = sym (append-nil (turned w))
+turned_append (rise x s ∷ v) w = ap (λ u. u ++ fall x s ∷ []) (turned_append v w) ∙ append_assoc (turned w) (turned v) (fall x s ∷ [])
+turned_append (fall x s ∷ v) w = ap (λ u. u ++ rise x s ∷ []) (turned_append v w) ∙ append_assoc (turned w) (turned v) (rise x s ∷ [])

@@ -1,11 +1,15 @@
 -- Different routes have different words.
-use Rattle.std.proofs.Common.{◌≡◌, ℕ, suc, List, ◌∷◌, ◌++◌, refl, sym, ap, ◌∙◌, subst, arith}
+use Rattle.std.proofs.Common.{◌≡◌, ℕ, zero, suc, List, ◌∷◌, ◌++◌, refl, sym, ap, ◌∙◌, subst, arith}
 use Rattle.ol_net.specs.Nets.{NamedPort, slot, NamedNet, HasNode, IsNet}
 use Rattle.ol_net.specs.declared.parts.Kind.{Kind}
 use Rattle.ol_net.specs.declared.parts.Kind.TheVariants as kind
 use Rattle.ol_optimal.specs.Labels.{Label, atom, over, under}
-use Rattle.ol_optimal.specs.Routes.{Crossing, rise, fall, Row, rises}
-use Rattle.ol_families.specs.Words.{turned, Is, IsWire, at_binder, through, Reads, ends, body, argument, AreAtoms, WordsTellRoutes}
+use Rattle.ol_optimal.specs.Routes.{Crossing, rise, fall, Row, rises, Route, HasRoute, IsBetaOf}
+use Rattle.ol_optimal.proofs.Runs.{no_redex_is_copied}
+use Rattle.ol_rules.specs.Runs.{IsRun}
+use Rattle.ol_rules.specs.declared.journal.Entry.{Entry}
+use Rattle.ol_rules.specs.declared.journal.NodeName.{NodeName}
+use Rattle.ol_families.specs.Words.{turned, Is, IsWire, at_binder, through, Reads, ends, body, argument, AreAtoms, WordsTellRoutes, BetasHaveTheirWords}
 use Rattle.ol_families.proofs.Rows.{at_fall, at_rise, back_row, turned_back, one_end}
 
 module _ {A : Type 0} (N : NamedNet A) (n : IsNet N) where
@@ -94,3 +98,13 @@ module _ {A : Type 0} where
       let to : s.to ≡ t.to = cc in
       ap (λ x. record { from = x; row = s.row; to = s.to }) from ∙ ap (λ r. record { from = t.from; row = r; to = s.to }) row
       ∙ ap (λ y. record { from = t.from; row = t.row; to = y }) to
+
+has_route : {N M : NamedNet NodeName} {t : ℕ} {es : List Entry} (r : IsRun N t es M) (m : ℕ) (s : Route NodeName) → IsBetaOf r m s → HasRoute N s
+has_route IsRun.end m s b = absurd b
+has_route (IsRun.then h r) zero s b = b.1
+has_route (IsRun.then h r) (suc m) s b = b.0
+
+pub betas_have_words : BetasHaveTheirWords
+betas_have_words N M t es n named r letter atoms m k s u b c w x y =
+    let e = words_tell_routes N n letter atoms s u (has_route r m s b) (has_route r k u c) w x y in
+    no_redex_is_copied N M t es n named r m k s b (subst (λ u. IsBetaOf r k u) (sym e) c)

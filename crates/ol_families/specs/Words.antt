@@ -6,7 +6,11 @@ use Rattle.ol_net.specs.Nets.{NamedNet, IsNet, HasNode}
 use Rattle.ol_net.specs.declared.parts.Kind.{Kind}
 use Rattle.ol_net.specs.declared.parts.Kind.TheVariants as kind
 use Rattle.ol_optimal.specs.Labels.{Label, none, atom, over, under}
-use Rattle.ol_optimal.specs.Routes.{Crossing, rise, fall, Route, HasRoute}
+use Rattle.ol_optimal.specs.Routes.{Crossing, rise, fall, Route, HasRoute, IsBetaOf}
+use Rattle.ol_rules.specs.Laws.{AreNamedBefore}
+use Rattle.ol_rules.specs.Runs.{IsRun}
+use Rattle.ol_rules.specs.declared.journal.Entry.{Entry}
+use Rattle.ol_rules.specs.declared.journal.NodeName.{NodeName}
 
 -- the same crossings from the last to the first, each the other way
 abbrev pub turned : {A : Type 0} → List (Crossing A) → List (Crossing A)
@@ -54,3 +58,16 @@ abbrev pub WordsTellRoutes : Type 0 → Type 0
 WordsTellRoutes A = (N : NamedNet A) → IsNet N → (letter : A → ℕ → ℕ) → AreAtoms letter →
     (s t : Route A) → HasRoute N s → HasRoute N t → (w : Label) → IsWordOf N letter s w →
     IsWordOf N letter t w → s ≡ t
+
+-- And a route has one word at most.
+abbrev pub WordIsOne : Type 0 → Type 0
+WordIsOne A = (N : NamedNet A) → IsNet N → (letter : A → ℕ → ℕ) → (s : Route A) → (w v : Label) →
+    IsWordOf N letter s w → IsWordOf N letter s v → w ≡ v
+
+-- So no two beta steps of a run come from routes with one word.
+abbrev pub BetasHaveTheirWords : Type 0
+BetasHaveTheirWords = (N M : NamedNet NodeName) (t : ℕ) (es : List Entry) →
+    IsNet N → AreNamedBefore N t → (r : IsRun N t es M) →
+    (letter : NodeName → ℕ → ℕ) → AreAtoms letter →
+    (m n : ℕ) (s u : Route NodeName) → IsBetaOf r m s → IsBetaOf r n u →
+    (w : Label) → IsWordOf N letter s w → IsWordOf N letter u w → m ≡ n

@@ -3,9 +3,19 @@
 //! Each function here is a law: it has no code.
 #![tactic(auto)]
 
-ghost use Rattle.ol_families.specs.Words.{WordsTellRoutes};
+ghost use Rattle.ol_families.specs.Words.{WordsTellRoutes, WordIsOne, BetasHaveTheirWords};
 
 /// Different routes of a net have different words, where the letters of its edges are different.
 pub fn words_tell_routes<A>()
     ensures { WordsTellRoutes A }
+{}
+
+/// A route has one word at most.
+pub fn word_is_one<A>()
+    ensures { WordIsOne A }
+{}
+
+/// No two beta steps of a run come from routes with one word.
+pub fn betas_have_their_words()
+    ensures { BetasHaveTheirWords }
 {}
