@@ -3,9 +3,8 @@ use Rattle.std.proofs.Common.{◌≡◌, ℕ, suc, inl, inr, List, [], ◌∷◌
 use Rattle.ol_context.specs.Asked.{asked}
 use Rattle.ol_context.specs.Contexts.{Context, tail}
 use Rattle.ol_edges.specs.Edges.{IsIn}
-use Rattle.ol_net.specs.Graph.{Graph}
 use Rattle.ol_net.specs.Numbered.{net_of}
-use Rattle.ol_net.specs.Nets.{NamedNet, IsNet, SameNet}
+use Rattle.ol_net.specs.Nets.{NamedNet, IsNet, SameNet, net_under}
 use Rattle.ol_demand.specs.Answers.{start_of}
 use Rattle.ol_rules.proofs.Renaming.{node_from, link_from}
 use Rattle.ol_rules.proofs.StartNets.{one_start, start_net}
@@ -26,11 +25,11 @@ use Rattle.ol_frugal.proofs.Counting.{met_few}
 use Rattle.ol_frugal.proofs.Meeting.{Comes}
 use Rattle.ol_frugal.proofs.Seeing.{IsNamed, MetAt, met_at, one_route}
 
-pub named : (g : Graph) (N : NamedNet ℕ) → SameNet (net_of g) N → IsNamed Init N (start_of g)
-named g N same = record {
+pub named : (K N : NamedNet ℕ) → SameNet K N → IsNamed Init N (net_under Init K)
+named K N same = record {
   one = one_start;
-  nodes = λ y k i h. (let r = node_from Init (net_of g) y k i h in (r.0, (same.nodes r.0 k i).0 r.1, r.2));
-  links = λ P Q l. (let r = link_from Init (net_of g) P Q l in (r.0, r.1, r.2, r.3, (same.links r.0 r.1).0 r.4));
+  nodes = λ y k i h. (let r = node_from Init K y k i h in (r.0, (same.nodes r.0 k i).0 r.1, r.2));
+  links = λ P Q l. (let r = link_from Init K P Q l in (r.0, r.1, r.2, r.3, (same.links r.0 r.1).0 r.4));
 }
 
 module _ (τ : Translation) (t : Tree) (names : ℕ) (h : HasNames t names) (M : NamedNet NodeName) (n : IsNet M) (I : IsNamed Init (translation_of τ t names) M) where
@@ -85,7 +84,7 @@ module _ (τ : Translation) (t : Tree) where
 
 pub seen_is_few : SeenIsFew
 seen_is_few τ t u names h g n same m s q a j k ss d f =
-    let r = sites_of τ t names h (start_of g) (start_net (net_of g) n) (named g (translation_of τ t names) same) IsRootAsked (IsMet τ t) (root_met τ t) ss d
+    let r = sites_of τ t names h (start_of g) (start_net (net_of g) n) (named (net_of g) (translation_of τ t names) same) IsRootAsked (IsMet τ t) (root_met τ t) ss d
     (λ s i. (0, asked [] (f s i).0, (refl, ((f s i).0, refl)), (f s i).1)) in
     let x = met_few τ s q a j k r.sites r.different r.met in
     let y = r.count in

@@ -7,6 +7,7 @@ use Rattle.ol_context.specs.Contexts.{Context, tail}
 use Rattle.ol_context.specs.Paths.{Path, ends, goes, HaveSamePaths}
 use Rattle.ol_demand.specs.Answers.{start_of}
 use Rattle.ol_demand.specs.Demands.{Asking, Turn, rewrites, one_more, finds, Turns, begins, and_then, next}
+use Rattle.ol_demand.specs.Laws.{IsStart}
 use Rattle.ol_demand.proofs.Onward.{is_start}
 use Rattle.ol_edges.specs.Edges.{IsIn}
 use Rattle.ol_invariance.proofs.Renamed.{renamed}
@@ -15,8 +16,7 @@ use Rattle.ol_meaning.specs.Shows.{LeftmostReduces}
 use Rattle.ol_meaning.proofs.Based.{tree_shows, shown_normal}
 use Rattle.ol_meaning.proofs.Endings.{no_redex}
 use Rattle.ol_meaning.proofs.Shapes.{normal_of}
-use Rattle.ol_net.specs.Graph.{Graph}
-use Rattle.ol_net.specs.Nets.{NamedNet, NamedPort, IsNet, SameNet}
+use Rattle.ol_net.specs.Nets.{NamedNet, NamedPort, IsNet, SameNet, net_under}
 use Rattle.ol_net.specs.Numbered.{net_of}
 use Rattle.ol_net.specs.declared.parts.Rule.TheVariants as rule
 use Rattle.ol_optimal.specs.Laws as routes
@@ -42,7 +42,7 @@ use Rattle.ol_rules.specs.declared.journal.Entry.{Entry}
 use Rattle.ol_rules.specs.declared.journal.NodeName.{NodeName}
 use Rattle.ol_rules.specs.declared.journal.NodeName.TheVariants.{Init}
 use Rattle.ol_rules.proofs.Relation.{same_sym}
-use Rattle.ol_rules.proofs.StartNets.{one_start, start_net}
+use Rattle.ol_rules.proofs.StartNets.{one_start}
 use Rattle.ol_spots_net.specs.Sites.{Site}
 use Rattle.ol_spots_net.specs.Spots.{at, place}
 use Rattle.ol_term.specs.declared.translations.Translation.{Translation}
@@ -62,15 +62,16 @@ same_path : {A : Type 0} (M N : NamedNet A) → SameNet M N →
 same_path M N s (ends l) = ends ((s.links _ _).0 l)
 same_path M N s (goes l h x r) = goes ((s.links _ _).0 l) ((s.nodes _ _ _).0 h) x (same_path M N s r)
 
-module _ (τ : Translation) (t : Tree) (names : ℕ) (h : HasNames t names) (g : Graph) (n : IsNet (net_of g)) (same : SameNet (net_of g) (translation_of τ t names)) where
+-- K has the term's own nodes and links, in whatever order its lists have them.
+module _ (τ : Translation) (t : Tree) (names : ℕ) (h : HasNames t names) (K : NamedNet ℕ) (n : IsNet K) (same : SameNet K (translation_of τ t names)) (start : IsStart (net_under Init K)) where
   abbrev R : NamedNet NodeName
-  R = start_of g
+  R = net_under Init K
 
   paths : HaveSamePaths (translation_of τ t names) R
   paths p c q d =
-      let z = renamed Init (net_of g) n (λ x y k l i j h h' e. one_start x y e) p c q d in (
-        λ r. z.0 (same_path (translation_of τ t names) (net_of g) (same_sym (net_of g) (translation_of τ t names) same) r),
-        λ r. same_path (net_of g) (translation_of τ t names) same (z.1 r),
+      let z = renamed Init K n (λ x y k l i j h h' e. one_start x y e) p c q d in (
+        λ r. z.0 (same_path (translation_of τ t names) K (same_sym K (translation_of τ t names) same) r),
+        λ r. same_path K (translation_of τ t names) same (z.1 r),
       )
 
   -- different routes for the beta steps, each seen from a question
@@ -82,9 +83,8 @@ module _ (τ : Translation) (t : Tree) (names : ℕ) (h : HasNames t names) (g :
 
   contracted : {many turns : ℕ} {journal : List Entry} {places : List ReadNode} {M : NamedNet NodeName} {a : Asking} → Turns R many turns journal places M a → Contracted many journal
   contracted {many} {turns} {journal} {places} {M} {a} r =
-      let s = is_start g n in
-      let d = demand_contracts_the_seen R M many turns journal places a s r in
-      let b = betas_are_routes R M 0 journal s.net s.named d.0 in
+      let d = demand_contracts_the_seen R M many turns journal places a start r in
+      let b = betas_are_routes R M 0 journal start.net start.named d.0 in
       record {
         redexes = b.0;
         different = b.1;
@@ -97,25 +97,25 @@ module _ (τ : Translation) (t : Tree) (names : ℕ) (h : HasNames t names) (g :
     place = place p;
     first = c 0;
     rest = tail c;
-    asks = question_asks τ t names h R (is_start g n) paths many p c k;
+    asks = question_asks τ t names h R start paths many p c k;
     comes = m;
   }
 
-  never_more : {v : Tree} (l : LeftmostReduces t v) → leftmost v ≡ None →
+  pub never_more : {v : Tree} (l : LeftmostReduces t v) → leftmost v ≡ None →
       {many turns : ℕ} {journal : List Entry} {places : List ReadNode} {M : NamedNet NodeName} {a : Asking} → Turns R many turns journal places M a → times_applied rule.Beta journal ≤ steps_of l
   never_more l z {many = many} r =
       let k = contracted r in
-      let x = sites_of τ t names h R (start_net (net_of g) n) (named g (translation_of τ t names) same) (IsQuestion R many) (IsWanted τ t) (wanted many) k.redexes k.different k.seen in
+      let x = sites_of τ t names h R start.net (named K (translation_of τ t names) same) (IsQuestion R many) (IsWanted τ t) (wanted many) k.redexes k.different k.seen in
       let f = wanted_few τ (costs l z) x.sites x.different x.met in
       let c = x.count in
       let d = k.count in
       omega arith
 
 pub never_more_on_the_way : NeverMoreOnTheWay
-never_more_on_the_way τ t v l z names h g n same many turns journal places M a r = never_more τ t names h g n same l (no_redex v z) r
+never_more_on_the_way τ t v l z names h g n same many turns journal places M a r = never_more τ t names h (net_of g) n same (is_start g n) l (no_redex v z) r
 
 pub never_more_than_leftmost : NeverMoreThanLeftmost
-never_more_than_leftmost τ t v l z names h g n same many journal places M d = never_more τ t names h g n same l (no_redex v z) d.run
+never_more_than_leftmost τ t v l z names h g n same many journal places M d = never_more τ t names h (net_of g) n same (is_start g n) l (no_redex v z) d.run
 
 -- ---- where each place has a head
 
@@ -131,7 +131,7 @@ places_moved N M p (sources.found {frames = F} {s = s} h r) =
 
 pub never_more_where_printed : NeverMoreWherePrinted
 never_more_where_printed τ t names h g n same many journal places M d all =
-    let p = paths τ t names h g n same in
+    let p = paths τ t names h (net_of g) n same (is_start g n) in
     let levels = start_levelled (net_of g) (same_levelled (translation_of τ t names) (net_of g) (same_sym (net_of g) (translation_of τ t names) same) (term_is_levelled τ t names h)) in
     let w = places_moved (start_of g) (translation_of τ t names) (λ q c r X. ((p q c r X).1, (p q c r X).0)) (demand_places (start_of g) M many journal places (is_start g n) levels d) in
     let T = heads_are_whole (translation_of τ t names) true places w in
@@ -170,7 +170,7 @@ head_question q =
 
 pub never_more_than_head : NeverMoreThanHead
 never_more_than_head τ t u m s z names h g n same turns journal places M a r =
-    let k = contracted τ t names h g n same r in
+    let k = contracted τ t names h (net_of g) n same (is_start g n) r in
     let y = normal_of z in
     let f = seen_is_few τ t u names h g n same m s y.0 y.1 y.2 y.3 k.redexes k.different (λ s i.
     let x = k.seen s i in
