@@ -48,7 +48,7 @@ use Rattle.ol_spots_net.specs.Spots.{at, place}
 use Rattle.ol_term.specs.declared.translations.Translation.{Translation}
 use Rattle.ol_translate.specs.Names.{HasNames}
 use Rattle.ol_translate.specs.Translation.{translation_of}
-use Rattle.ol_frugal.specs.Leftmost.{steps_of, NeverMoreThanLeftmost, NeverMoreOnTheWay, NeverMoreWherePrinted, NeverMoreThanHead}
+use Rattle.ol_frugal.specs.Leftmost.{steps_of, IsSeenFromPlace, SeenOnPlacesIsFew, NeverMoreThanLeftmost, NeverMoreOnTheWay, NeverMoreWherePrinted, NeverMoreThanHead}
 use Rattle.ol_frugal.proofs.Counted.{costs}
 use Rattle.ol_frugal.proofs.Counting.{wanted_few}
 use Rattle.ol_frugal.proofs.Few.{named, sites_of, seen_is_few}
@@ -79,7 +79,7 @@ module _ (τ : Translation) (t : Tree) (names : ℕ) (h : HasNames t names) (K :
     redexes : List (Route NodeName)
     different : routes.AreDifferent redexes
     count : length redexes ≡ times_applied rule.Beta journal
-    seen : (s : Route NodeName) → IsIn s redexes → (p : ℕ) × (c : Context) × IsQuestion R many p c × IsSeen R p c s
+    seen : (s : Route NodeName) → IsIn s redexes → IsSeenFromPlace R many s
 
   contracted : {many turns : ℕ} {journal : List Entry} {places : List ReadNode} {M : NamedNet NodeName} {a : Asking} → Turns R many turns journal places M a → Contracted many journal
   contracted {many} {turns} {journal} {places} {M} {a} r =
@@ -101,15 +101,24 @@ module _ (τ : Translation) (t : Tree) (names : ℕ) (h : HasNames t names) (K :
     comes = m;
   }
 
+  pub seen_few : {v : Tree} (l : LeftmostReduces t v) → leftmost v ≡ None → (many : ℕ) (ss : List (Route NodeName)) → routes.AreDifferent ss →
+      ((s : Route NodeName) → IsIn s ss → IsSeenFromPlace R many s) → length ss ≤ steps_of l
+  seen_few l z many ss d f =
+      let x = sites_of τ t names h R start.net (named K (translation_of τ t names) same) (IsQuestion R many) (IsWanted τ t) (wanted many) ss d f in
+      let k = wanted_few τ (costs l z) x.sites x.different x.met in
+      let c = x.count in
+      omega arith
+
   pub never_more : {v : Tree} (l : LeftmostReduces t v) → leftmost v ≡ None →
       {many turns : ℕ} {journal : List Entry} {places : List ReadNode} {M : NamedNet NodeName} {a : Asking} → Turns R many turns journal places M a → times_applied rule.Beta journal ≤ steps_of l
   never_more l z {many = many} r =
       let k = contracted r in
-      let x = sites_of τ t names h R start.net (named K (translation_of τ t names) same) (IsQuestion R many) (IsWanted τ t) (wanted many) k.redexes k.different k.seen in
-      let f = wanted_few τ (costs l z) x.sites x.different x.met in
-      let c = x.count in
+      let f = seen_few l z many k.redexes k.different k.seen in
       let d = k.count in
       omega arith
+
+pub seen_on_places_is_few : SeenOnPlacesIsFew
+seen_on_places_is_few τ t v l z names h g n same many ss d f = seen_few τ t names h (net_of g) n same (is_start g n) l (no_redex v z) many ss d f
 
 pub never_more_on_the_way : NeverMoreOnTheWay
 never_more_on_the_way τ t v l z names h g n same many turns journal places M a r = never_more τ t names h (net_of g) n same (is_start g n) l (no_redex v z) r

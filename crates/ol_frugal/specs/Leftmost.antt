@@ -1,15 +1,20 @@
 -- Demand order makes no more beta steps than leftmost reduction, and no more for the head than head
 -- reduction: the laws.
-use Rattle.std.specs.Prelude.{◌≡◌, ℕ, suc, ◌≤◌, true, List}
+use Rattle.std.specs.Prelude.{◌≡◌, ℕ, suc, ◌≤◌, true, List, length}
 use Rattle.ol_beta.specs.Leftmost.{IsNormal}
+use Rattle.ol_context.specs.Contexts.{Context}
 use Rattle.ol_demand.specs.Answers.{start_of}
 use Rattle.ol_demand.specs.Demands.{Asking, Turns, IsDemandRun}
+use Rattle.ol_edges.specs.Edges.{IsIn}
 use Rattle.ol_meaning.specs.Heads.{Steps}
 use Rattle.ol_meaning.specs.Shows.{ReducesBy, ready, contract, LeftmostReduces, IsHeadNormal}
 use Rattle.ol_net.specs.Graph.{Graph}
 use Rattle.ol_net.specs.Nets.{NamedNet, IsNet, SameNet}
 use Rattle.ol_net.specs.Numbered.{net_of}
 use Rattle.ol_net.specs.declared.parts.Rule.TheVariants as rule
+use Rattle.ol_optimal.specs.Laws as routes
+use Rattle.ol_optimal.specs.Routes.{Route}
+use Rattle.ol_optimal.specs.Seen.{IsSeen, IsQuestion}
 use Rattle.ol_readback.specs.Terms.{HasAllHeads, term_of}
 use Rattle.ol_readback.specs.Whole.{Part, preorder}
 use Rattle.ol_readback.specs.declared.answers.ReadNode.{ReadNode}
@@ -25,6 +30,10 @@ use Rattle.ol_translate.specs.Translation.{translation_of}
 abbrev pub steps_of : {Chosen : Tree → List ℕ → Type 0} {t v : Tree} → ReducesBy Chosen t v → ℕ
 steps_of ready = 0
 steps_of (contract c e r) = suc (steps_of r)
+
+-- the virtual redex is on the walk of a question that turns ask
+abbrev pub IsSeenFromPlace : NamedNet NodeName → ℕ → Route NodeName → Type 0
+IsSeenFromPlace N heads s = (p : ℕ) × (c : Context) × IsQuestion N heads p c × IsSeen N p c s
 
 -- Where leftmost reduction leads from a term to a normal form, no demand run of the term's net, by
 -- either translation, makes more beta steps, whatever number of heads is asked for.
@@ -44,6 +53,15 @@ NeverMoreOnTheWay = (τ : Translation) (t v : Tree) (r : LeftmostReduces t v) �
     (a : Asking) →
     Turns (start_of g) heads turns journal places M a →
     times_applied rule.Beta journal ≤ steps_of r
+
+-- So it is with all virtual redexes on the walks of the questions of demand runs, contracted or not.
+abbrev pub SeenOnPlacesIsFew : Type 0
+SeenOnPlacesIsFew = (τ : Translation) (t v : Tree) (r : LeftmostReduces t v) → IsNormal v →
+    (names : ℕ) → HasNames t names →
+    (g : Graph) → IsNet (net_of g) → SameNet (net_of g) (translation_of τ t names) →
+    (heads : ℕ) (ss : List (Route NodeName)) → routes.AreDifferent ss →
+    ((s : Route NodeName) → IsIn s ss → IsSeenFromPlace (start_of g) heads s) →
+    length ss ≤ steps_of r
 
 -- Where a demand run has a head at each place, and so prints a term, leftmost reduction ends in this
 -- term, which is a normal form, and contracts at least as many redexes.

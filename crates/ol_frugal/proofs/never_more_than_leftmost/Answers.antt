@@ -13,3 +13,6 @@ returns-clause-head c = never.never_more_than_head
 
 pub returns-clause-printed : goal.returns-clause-printed
 returns-clause-printed c = never.never_more_where_printed
+
+pub returns-clause-seen : goal.returns-clause-seen
+returns-clause-seen c = never.seen_on_places_is_few
