@@ -63,11 +63,11 @@ pub data Signed {A : Type 0} (N : NamedNet A) (letter : A → ℕ → ℕ) : Lis
   to_variable : {z : A} {w : List (Crossing A)} {a : Signs} → Is N z kind.Lam →
       Signed N letter w a → Signed N letter (fall z 1 ∷ w) (backward begins_under ∷ a)
   to_argument : {y : A} {w : List (Crossing A)} {a : Signs} → Is N y kind.App →
-      Signed N letter w a → Signed N letter (fall y 1 ∷ w)
-      (backward (letter_of (letter y 0)) ∷ (onward ends_under ∷ (onward (letter_of (letter y 2)) ∷ a)))
+      Signed N letter w a → Signed N letter (fall y 1 ∷ w) (backward (letter_of (letter y 0))
+      ∷ (onward ends_under ∷ (onward (letter_of (letter y 2)) ∷ a)))
   from_argument : {y : A} {w : List (Crossing A)} {a : Signs} → Is N y kind.App →
-      Signed N letter w a → Signed N letter (rise y 1 ∷ w)
-      (backward (letter_of (letter y 2)) ∷ (backward ends_under ∷ (onward (letter_of (letter y 0)) ∷ a)))
+      Signed N letter w a → Signed N letter (rise y 1 ∷ w) (backward (letter_of (letter y 2))
+      ∷ (backward ends_under ∷ (onward (letter_of (letter y 0)) ∷ a)))
 
 -- What is read along a row that has a word is this word, sign by sign.
 abbrev pub WordsAreSigned : Type 0 → Type 0

@@ -1,6 +1,7 @@
 -- The word that is read along a route: the label that Lévy's labelled reduction gives to the redex
 -- to which it leads (Asperti and Laneve, Paths, computations and labels in the lambda-calculus,
--- 1995; Asperti and Guerrini, The Optimal Implementation of Functional Programming Languages, 1998).
+-- 1995; Asperti and Guerrini, The Optimal Implementation of Functional Programming Languages,
+-- 1998).
 use Rattle.std.specs.Prelude.{◌≡◌, ◌≢◌, ℕ, List, [], ◌∷◌, ◌++◌}
 use Rattle.ol_net.specs.Nets.{NamedNet, IsNet, HasNode}
 use Rattle.ol_net.specs.declared.parts.Kind.{Kind}
@@ -29,8 +30,8 @@ pub data IsWire {A : Type 0} (N : NamedNet A) : List (Crossing A) → Type 0 whe
       k ≢ kind.Lam → IsWire N w → IsWire N (rise x s ∷ w)
 
 -- Each edge of the first term has a letter: `letter x 0` is that of the function of application x,
--- `letter x 2` that of its argument, and `letter y 1` that of the body of abstraction y. The word of
--- what comes after an edge. The edge ends at an application, whose function comes to an
+-- `letter x 2` that of its argument, and `letter y 1` that of the body of abstraction y. The word
+-- of what comes after an edge. The edge ends at an application, whose function comes to an
 -- abstraction, and then its body follows; or at a variable, whose abstraction is that to which the
 -- function of an application comes, and then the argument follows.
 pub data Reads {A : Type 0} (N : NamedNet A) (letter : A → ℕ → ℕ) : List (Crossing A) → Label →

@@ -54,7 +54,7 @@ NeverMoreOnTheWay = (τ : Translation) (t v : Tree) (r : LeftmostReduces t v) �
     Turns (start_of g) heads turns journal places M a →
     times_applied rule.Beta journal ≤ steps_of r
 
--- So it is with all virtual redexes on the walks of the questions of demand runs, contracted or not.
+-- So it is with all virtual redexes on the walks of such questions, whether contracted or not.
 abbrev pub SeenOnPlacesIsFew : Type 0
 SeenOnPlacesIsFew = (τ : Translation) (t v : Tree) (r : LeftmostReduces t v) → IsNormal v →
     (names : ℕ) → HasNames t names →
@@ -63,8 +63,8 @@ SeenOnPlacesIsFew = (τ : Translation) (t v : Tree) (r : LeftmostReduces t v) �
     ((s : Route NodeName) → IsIn s ss → IsSeenFromPlace (start_of g) heads s) →
     length ss ≤ steps_of r
 
--- Where a demand run has a head at each place, and so prints a term, leftmost reduction ends in this
--- term, which is a normal form, and contracts at least as many redexes.
+-- Where a demand run has a head at each place, and so prints a term, leftmost reduction ends in
+-- this term, which is a normal form, and contracts at least as many redexes.
 abbrev pub NeverMoreWherePrinted : Type 0
 NeverMoreWherePrinted = (τ : Translation) (t : Tree) (names : ℕ) → HasNames t names →
     (g : Graph) → IsNet (net_of g) → SameNet (net_of g) (translation_of τ t names) →
