@@ -11,7 +11,7 @@ use Rattle.ol_meaning.proofs.Walking.{normal_or_step}
 use Rattle.ol_meaning.proofs.LeftmostSteps.{leftmost_step, same_step}
 use Rattle.ol_meaning.proofs.LeftmostRoads.{IsNeutral, arg_leftmost, StepsTo, step_before}
 use Rattle.ol_meaning.proofs.Endings.{some_none, step_or_none, within_lam, within_arg}
-use Rattle.ol_frugal.specs.Leftmost.{steps_of}
+use Rattle.ol_frugal.specs.Steps.{steps_of}
 
 -- contraction of the leftmost redex, so many times
 data LeftmostSteps : Tree → Tree → ℕ → Type 0 where

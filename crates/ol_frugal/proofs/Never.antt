@@ -48,7 +48,8 @@ use Rattle.ol_spots_net.specs.Spots.{at, place}
 use Rattle.ol_term.specs.declared.translations.Translation.{Translation}
 use Rattle.ol_translate.specs.Names.{HasNames}
 use Rattle.ol_translate.specs.Translation.{translation_of}
-use Rattle.ol_frugal.specs.Leftmost.{steps_of, IsSeenFromPlace, SeenOnPlacesIsFew, NeverMoreThanLeftmost, NeverMoreOnTheWay, NeverMoreWherePrinted, NeverMoreThanHead}
+use Rattle.ol_frugal.specs.Steps.{steps_of}
+use Rattle.ol_frugal.specs.Leftmost.{IsSeenFromPlace, SeenOnPlacesIsFew, NeverMoreThanLeftmost, NeverMoreOnTheWay, NeverMoreWherePrinted, NeverMoreThanHead}
 use Rattle.ol_frugal.proofs.Counted.{costs}
 use Rattle.ol_frugal.proofs.Counting.{wanted_few}
 use Rattle.ol_frugal.proofs.Few.{named, sites_of, seen_is_few}

@@ -1,13 +1,13 @@
 -- Demand order makes no more beta steps than leftmost reduction, and no more for the head than head
 -- reduction: the laws.
-use Rattle.std.specs.Prelude.{◌≡◌, ℕ, suc, ◌≤◌, true, List, length}
+use Rattle.std.specs.Prelude.{◌≡◌, ℕ, ◌≤◌, true, List, length}
 use Rattle.ol_beta.specs.Leftmost.{IsNormal}
 use Rattle.ol_context.specs.Contexts.{Context}
 use Rattle.ol_demand.specs.Answers.{start_of}
 use Rattle.ol_demand.specs.Demands.{Asking, Turns, IsDemandRun}
 use Rattle.ol_edges.specs.Edges.{IsIn}
 use Rattle.ol_meaning.specs.Heads.{Steps}
-use Rattle.ol_meaning.specs.Shows.{ReducesBy, ready, contract, LeftmostReduces, IsHeadNormal}
+use Rattle.ol_meaning.specs.Shows.{LeftmostReduces, IsHeadNormal}
 use Rattle.ol_net.specs.Graph.{Graph}
 use Rattle.ol_net.specs.Nets.{NamedNet, IsNet, SameNet}
 use Rattle.ol_net.specs.Numbered.{net_of}
@@ -25,11 +25,7 @@ use Rattle.ol_term.specs.Trees.{Tree}
 use Rattle.ol_term.specs.declared.translations.Translation.{Translation}
 use Rattle.ol_translate.specs.Names.{HasNames}
 use Rattle.ol_translate.specs.Translation.{translation_of}
-
--- how many redexes a reduction contracts
-abbrev pub steps_of : {Chosen : Tree → List ℕ → Type 0} {t v : Tree} → ReducesBy Chosen t v → ℕ
-steps_of ready = 0
-steps_of (contract c e r) = suc (steps_of r)
+use Rattle.ol_frugal.specs.Steps.{steps_of}
 
 -- the virtual redex is on the walk of a question that turns ask
 abbrev pub IsSeenFromPlace : NamedNet NodeName → ℕ → Route NodeName → Type 0
