@@ -1,24 +1,26 @@
 -- A walk over a term's net that comes to an application or an abstraction is at its site.
-use Rattle.std.proofs.Common.{◌≡◌, ℕ, ◌+◌, ◌⊎◌, inl, inr, refl, sym, ap, ◌∙◌, arith, subst}
+use Rattle.std.proofs.Common.{◌≡◌, ℕ, zero, suc, ◌+◌, ◌<◌, true, ◌⊎◌, inl, inr, refl, sym, ◌∙◌, arith, subst}
 use Rattle.ol_term.specs.declared.translations.Translation.{Translation}
-use Rattle.ol_term.specs.Trees.{Tree, lam, app}
+use Rattle.ol_term.specs.Trees.{Tree, var, lam, app, has_name}
+use Rattle.ol_term.specs.Trees as trees
 use Rattle.ol_net.specs.declared.parts.Kind.{Kind}
 use Rattle.ol_net.specs.declared.parts.Kind.TheVariants as kind
-use Rattle.ol_net.specs.Nets.{NamedPort, NamedNet, HasNode, Linked, IsNet, free, slot}
+use Rattle.ol_net.specs.Nets.{NamedPort, NamedNet, HasNode, Linked, free, slot}
 use Rattle.ol_net.specs.Numbered.{numbered_port}
 use Rattle.ol_context.specs.Contexts.{Level, Context, cons, tail}
 use Rattle.ol_context.specs.Ways.{Way, start, on}
 use Rattle.ol_rules.proofs.FreshPairs.{linked_sym}
 use Rattle.ol_translate.specs.Translation.{subnet_of, translation_of}
 use Rattle.ol_translate.specs.Names.{HasNames}
-use Rattle.ol_spots_net.specs.Sites.{Site, PartAt, function_at, abstraction_at, depth, context_at}
-use Rattle.ol_spots_net.specs.Spots.{root, Spot, at, Edge, Trail, here}
-use Rattle.ol_spots_net.proofs.Down.{at_root}
+use Rattle.ol_spots_net.specs.Sites.{Site, PartAt, function_at, depth, context_at}
+use Rattle.ol_spots_net.specs.Spots.{name, occurs, Spot, at, place, Edge, Trail, here}
+use Rattle.ol_spots_net.proofs.Down.{at_root, at_wire}
 use Rattle.ol_spots_net.proofs.Followed.{St, Rests, net, goes_up, at_end, next_of}
-use Rattle.ol_spots_net.proofs.States.{S}
+use Rattle.ol_spots_net.proofs.Parts.{wire_there}
+use Rattle.ol_spots_net.proofs.States.{L}
 use Rattle.ol_spots_net.proofs.Trails.{tr_trans}
 use Rattle.ol_spots_net.proofs.Up.{AtFunction}
-use Rattle.ol_spots_net.proofs.Whole.{has_part, end_links}
+use Rattle.ol_spots_net.proofs.Whole.{has_part, end_links, name_link}
 use Rattle.ol_frugal.proofs.Principals.{AtAbstraction, Principal, principal}
 
 -- the application node x, with context d at its principal port, is at a site
@@ -131,10 +133,36 @@ module _ (τ : Translation) (t : Tree) (names : ℕ) (h : HasNames t names) wher
       by (inr k) = k
   arrives_at_lam z p c y j (inr (q, l', T, f, g)) a l = absurd (no_lam_control y j a (g y ((net τ t names h).one_link p q (slot y 0) l' l)))
 
-  -- from the root
-  pub from_root : {n : ℕ} {c d : Context} {u : NamedPort ℕ} (x i : ℕ) → Way N (free 0) c n u d → HasNode N x kind.App i → Linked N u (slot x 0) ⊎ (u ≡ slot x 0) → Come (at root (c 0) (tail c)) x d
-  from_root {c = c} {d = d} {u = u} x i w a e =
-      let r = follow_way w (at root (c 0) (tail c)) (inl (inr (numbered_port (subnet_of τ t 0 0 0).root, (end_links τ t names h).0, at_root τ N t 0 0 0 (λ c. c) c))) in
+  -- from a free port
+  name_occurs : (f : ℕ) (u : Tree) → has_name f u ≡ occurs (name f) u
+  name_occurs f (var v) = refl
+  name_occurs f (trees.free g) = refl
+  name_occurs f (lam u) = name_occurs f u
+  name_occurs f (app u v) = rw (name_occurs f u, name_occurs f v) refl
+
+  begins_at : (p : ℕ) (c : Context) (q : NamedPort ℕ) → Linked N (free p) q → Rests τ t names h (at (place p) (c 0) (tail c)) (free p, c)
+  begins_at zero c q l = inl (inr (numbered_port (subnet_of τ t 0 0 0).root, (end_links τ t names h).0, at_root τ N t 0 0 0 (λ c. c) c))
+  begins_at (suc f) c q l =
+      let b : suc f < 1 + names = ((net τ t names h).of_ports (free (suc f)) q l).0 in
+      let there : occurs (name f) t ≡ true = sym (name_occurs f t) ∙ h.each f (omega arith) in
+      let W = wire_there τ t (name f) 0 0 0 h.bound there in
+      let k = name_link (L N) (0 + f) W.0 (subnet_of τ t 0 0 0).wires W.1 (end_links τ t names h).1 in
+      let n : 0 + f + 1 ≡ suc f = omega arith in
+      inl (inr (numbered_port W.0, subst (λ n. Linked N (free n) (numbered_port W.0)) n k, at_wire τ N t (name f) 0 0 0 (λ c. c) c W.0 W.1 there))
+
+  linked_first : {p : ℕ} {c : Context} {n : ℕ} {u : NamedPort ℕ} {d : Context} (v : NamedPort ℕ) → Way N (free p) c n u d → Linked N u v → (q : NamedPort ℕ) × Linked N (free p) q
+  linked_first v start l = (v, l)
+  linked_first v (on {x = y} {s = s} w k hn z) l = linked_first (slot y s) w k
+
+  first_link : {p n x : ℕ} {c d : Context} {u : NamedPort ℕ} → Way N (free p) c n u d → Linked N u (slot x 0) ⊎ (u ≡ slot x 0) → (q : NamedPort ℕ) × Linked N (free p) q
+  first_link {x = x} w (inl l) = linked_first (slot x 0) w l
+  first_link start (inr e) = absurd (no_free e)
+  first_link (on {x = y} {s = s} w l hn z) (inr e) = linked_first (slot y s) w l
+
+  pub from_port : {p n : ℕ} {c d : Context} {u : NamedPort ℕ} (x i : ℕ) → Way N (free p) c n u d → HasNode N x kind.App i → Linked N u (slot x 0) ⊎ (u ≡ slot x 0) → Come (at (place p) (c 0) (tail c)) x d
+  from_port {p = p} {c = c} {d = d} {u = u} x i w a e =
+      let l = first_link {x = x} w e in
+      let r = follow_way w (at (place p) (c 0) (tail c)) (begins_at p c l.0 l.1) in
       let k = arrives r.0 u d x i r.3 a e in
       record { at_site = k.at_site; weight = r.1 + k.weight; trail = tr_trans r.2 k.trail refl; stands = k.stands }
 

@@ -1,15 +1,15 @@
 -- A virtual redex is told by its application and by the levels before that one's own.
-use Rattle.std.proofs.Common.{◌≡◌, ℕ, zero, suc, ◌+◌, ◌<◌, List, [], ◌∷◌, length, refl, sym, ap, ◌∙◌, arith, subst}
+use Rattle.std.proofs.Common.{◌≡◌, ℕ, suc, ◌<◌, List, [], ◌∷◌, length, refl, sym, ap, ◌∙◌, arith, subst}
 use Rattle.ol_context.proofs.Contexts.{head_eq, tail_eq, injective}
-use Rattle.ol_context.specs.Contexts.{Level, empty, Context, cons, tail, up}
-use Rattle.ol_net.specs.Nets.{NamedPort, slot, NamedNet, HasNode, Linked, IsNet}
+use Rattle.ol_context.specs.Contexts.{Level, Context, cons, up}
+use Rattle.ol_net.specs.Nets.{NamedPort, slot, NamedNet, HasNode, IsNet}
 use Rattle.ol_net.specs.Parts.{arity}
 use Rattle.ol_net.specs.declared.parts.Kind.{Kind}
 use Rattle.ol_net.specs.declared.parts.Kind.TheVariants as kind
 use Rattle.ol_spots_net.specs.Sites.{Site, self, in_lam, in_function, in_argument, depth, context_at}
 use Rattle.ol_frugal.specs.Met.{blank}
 use Rattle.ol_optimal.specs.Redexes.{Carries, put, IsVirtualRedex}
-use Rattle.ol_optimal.specs.Routes.{Crossing, rise, fall, Row, along, rises, falls, Route, HasRoute}
+use Rattle.ol_optimal.specs.Routes.{Crossing, rise, fall, Row, along, rises, falls, Route}
 use Rattle.ol_optimal.proofs.Carrying.{rise_at, fall_at}
 use Rattle.ol_invariance.proofs.WrongTables.{at_its_level}
 use Rattle.ol_optimal.proofs.Puts.{above, no_mark}

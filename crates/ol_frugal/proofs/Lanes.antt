@@ -6,7 +6,7 @@ use Rattle.ol_meaning.proofs.Addresses.{left_one, sides_apart}
 use Rattle.ol_meaning.proofs.Channels.{Channel, along, Ends, is_e, is_x, Fun, fun_e, fun_x, fun_in, channel_app, app_in, channel_var, var_in, channel_free, free_in, In, in_e, in_x, in_in, channel_lam, lam_in, inside, up_from_one, up_to_one}
 use Rattle.ol_meaning.proofs.Walking.{os_o, spine_occurs, spine_outer, passing, least_or, opened_os}
 use Rattle.ol_term.specs.declared.translations.Translation.{Translation}
-use Rattle.ol_frugal.specs.Met.{IsMet, blank}
+use Rattle.ol_frugal.specs.Met.{IsMatched, IsMet, blank}
 use Rattle.ol_spots_net.specs.Sites.{Site, self, in_lam, in_function, in_argument, spot_in, whole, of_lam, of_function, of_argument, function_at}
 use Rattle.ol_frugal.proofs.Sites.{base, Stands, no_root}
 use Rattle.ol_frugal.proofs.Meeting.{too_few}
@@ -97,7 +97,7 @@ module _ {τ : Translation} where
       none = λ e. absurd (cc);
     }
 
-  lined_spine : {t : Tree} {y : Wire} {a : Level} {j : ℕ} → Spine t y a j → (v : Level) (c : Context) → Lined τ t true (at root v c) (at (wire y) a (cons (os j v) c))
+  pub lined_spine : {t : Tree} {y : Wire} {a : Level} {j : ℕ} → Spine t y a j → (v : Level) (c : Context) → Lined τ t true (at root v c) (at (wire y) a (cons (os j v) c))
   lined_spine (head_var {y = y}) v c = lined_var y v c
   lined_spine (head_free {f = f}) v c = lined_free f v c
   lined_spine (head_app {R = R} {P = P} {y = y} {a = a} {w = w} {j = j} s e) v c =
@@ -306,9 +306,12 @@ module _ {τ : Translation} where
       let l = lam_lane M h r.1 (function_at p empty c) r.2 in
       (r.0, l.0, l.1)
 
-  -- so nothing is met
-  pub none_met : {t : Tree} {q : Place} {a : Level} {j : ℕ} → Normal t q a j → (p : Site) → IsMet τ t p → ⊥
-  none_met k p m =
-      let r = normal_lane k (met_on_spine k p m) blank in
-      let f = m.matched in
+  -- so it leads to no abstraction
+  pub unmatched : {t : Tree} {q : Place} {a : Level} {j : ℕ} → Normal t q a j → (p : Site) → OnSpine t p → IsMatched τ t p → ⊥
+  unmatched k p i f =
+      let r = normal_lane k i blank in
       r.1.none f.other blank (lam f.inner, f.is_other, tt) (on_lane r.1 f.trail r.2)
+
+  -- and nothing is met
+  pub none_met : {t : Tree} {q : Place} {a : Level} {j : ℕ} → Normal t q a j → (p : Site) → IsMet τ t p → ⊥
+  none_met k p m = unmatched k p (met_on_spine k p m) m.matched

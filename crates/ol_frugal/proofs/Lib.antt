@@ -3,9 +3,14 @@ pub mod Cuts
 pub mod Heads
 pub mod Meeting
 pub mod Lanes
+pub mod Inside
+pub mod Wanted
+pub mod Counted
 pub mod Counting
 pub mod Principals
 pub mod Arrived
 pub mod Keys
 pub mod Seeing
 pub mod Few
+pub mod Questions
+pub mod Never

@@ -1,7 +1,8 @@
 -- A head step keeps the sites that the root's walks meet, one for each, but its own redex's.
-use Rattle.std.proofs.Common.{◌≡◌, ℕ, ◌<◌, ◌≤◌, true, false, ◌⊎◌, inl, inr, refl, subst}
-use Rattle.ol_meaning.specs.Spots.{Tree, var, free, lam, app, Level, empty, Context, root, Spot, at, Edge, Trail, HeadStep}
+use Rattle.std.proofs.Common.{◌≡◌, ℕ, ◌<◌, true, false, ◌⊎◌, inl, inr, refl, subst}
+use Rattle.ol_meaning.specs.Spots.{Tree, var, free, lam, app, Level, empty, Context, Place, root, Spot, at, Edge, Trail, HeadStep}
 use Rattle.ol_meaning.specs.Heads.{os, outer}
+use Rattle.ol_meaning.specs.Steps.{Same}
 use Rattle.ol_meaning.proofs.Ways.{Next, follow}
 use Rattle.ol_meaning.proofs.Mains.{Chain, top, down, chain_trail}
 use Rattle.ol_meaning.proofs.Walking.{short_os, passing, least_or, root_stays}
@@ -12,17 +13,25 @@ use Rattle.ol_frugal.proofs.Sites.{base, Is, Stands, no_root, same_site}
 use Rattle.ol_frugal.proofs.Heads.{Goes, step_of}
 
 -- the part is what stands there
-lam_is : (u : Tree) → Is false u → (M : Tree) × (u ≡ lam M)
+pub lam_is : (u : Tree) → Is false u → (M : Tree) × (u ≡ lam M)
 lam_is (lam M) h = (M, refl)
 lam_is (var _) h = elim h [ ]
 lam_is (free _) h = elim h [ ]
 lam_is (app _ _) h = elim h [ ]
 
-app_is : (u : Tree) → Is true u → (F : Tree) × (A : Tree) × (u ≡ app F A)
+pub app_is : (u : Tree) → Is true u → (F : Tree) × (A : Tree) × (u ≡ app F A)
 app_is (app F A) h = (F, A, refl)
 app_is (var _) h = elim h [ ]
 app_is (free _) h = elim h [ ]
 app_is (lam _) h = elim h [ ]
+
+-- a walk comes to the application of a redex at this site
+pub record Comes (τ : Translation) (t : Tree) (s : Spot) (p : Site) : Type 0 where
+  pub matched : IsMatched τ t p
+  pub level : Level
+  pub later : Context
+  pub steps : ℕ
+  pub way : Trail (Edge τ t) s (function_at p level later) steps
 
 -- ---- with too few marks, no application is met
 
@@ -52,7 +61,7 @@ module _ (τ : Translation) {t t' : Tree} (h : HeadStep t t') where
   pub becomes_one : (p q r : Site) → Becomes τ h p r → Becomes τ h q r → p ≡ q
   becomes_one p q r a b = (step_of τ h).one p q empty blank (function_at r empty blank) a.stands b.stands a.other b.other (a.all empty blank) (b.all empty blank)
 
-  matched_goes : (p q : Site) → Becomes τ h p q → Stands true t' q → IsMatched τ t p → IsMatched τ t' q
+  pub matched_goes : (p q : Site) → Becomes τ h p q → Stands true t' q → IsMatched τ t p → IsMatched τ t' q
   matched_goes p q b s m =
       let w = (step_of τ h).way in
       let k = follow w m.trail (b.all empty blank) in
@@ -70,41 +79,45 @@ module _ (τ : Translation) {t t' : Tree} (h : HeadStep t t') where
         trail = subst (λ z. Trail (Edge τ t') (function_at q empty blank) z k.weight) g.is k.trail;
       }
 
-  not_redex : (p : Site) → ((p ≡ (step_of τ h).redex) ⊎ ((p ≡ (step_of τ h).redex) → ⊥))
-  not_redex p = same_site p (step_of τ h).redex
+  -- a walk comes to it after the step too, from where its place stands then
+  pub goes_on : (p : Site) (y : Place) (v v' : Level) (c : Context) → Same τ h y v v' → Comes τ t (at y v c) p → (p ≡ (step_of τ h).redex → ⊥) →
+      (q : Site) × Comes τ t' (at y v' c) q × Becomes τ h p q
+  goes_on p y v v' c e m f =
+      let w = (step_of τ h).way in
+      let k = follow w m.way (w.start y v v' c e) in
+      by k (let a = m.matched in (step_of τ h).goes p m.level m.later k.spot (app a.function a.argument, a.is, tt) k.rel)
+    where
+      by : (k : Next τ t' (step_of τ h).way.R true (function_at p m.level m.later) (at y v' c) m.steps) →
+          (p ≡ (step_of τ h).redex) ⊎ Goes t' (step_of τ h).way.R p m.level m.later k.spot →
+          (q : Site) × Comes τ t' (at y v' c) q × Becomes τ h p q
+      by k (inl e) = absurd (f e)
+      by k (inr g) =
+          let a = m.matched in
+          let b : Becomes τ h p g.site = record { stands = (app a.function a.argument, a.is, tt); other = f; all = g.all } in (
+            g.site,
+            record {
+              matched = matched_goes p g.site b g.there a;
+              level = m.level;
+              later = m.later;
+              steps = k.weight;
+              way = subst (λ z. Trail (Edge τ t') (at y v' c) z k.weight) g.is k.trail;
+            },
+            b,
+          )
+
+  -- and from the root, asked for some number of abstractions
+  pub root_goes : (p : Site) (n : ℕ) (c : Context) → Comes τ t (at root (os n empty) c) p → (p ≡ (step_of τ h).redex → ⊥) →
+      (q : Site) × Comes τ t' (at root (os n empty) c) q × Becomes τ h p q
+  root_goes p n c m f = elim (least_or (outer t) n) [
+    | inl few ↦ absurd (too_few p n m.steps c m.later m.level few m.way)
+    | inr enough ↦ goes_on p root (os n empty) (os n empty) c (root_stays τ h n (passing t n enough)) m f
+  ]
 
   pub met_goes : (p : Site) → IsMet τ t p → (p ≡ (step_of τ h).redex) ⊎ ((q : Site) × IsMet τ t' q × Becomes τ h p q)
   met_goes p m = elim (same_site p (step_of τ h).redex) [
     | inl e ↦ inl e
-    | inr f ↦ elim (least_or (outer t) m.lams) [
-      | inl few ↦ absurd (too_few p m.lams m.steps m.first m.later m.level few m.way)
-      | inr enough ↦ inr (on f enough)
-    ]
+    | inr f ↦ (
+        let x = root_goes p m.lams m.first (record { matched = m.matched; level = m.level; later = m.later; steps = m.steps; way = m.way }) f in
+        let y = x.1 in
+        inr (x.0, record { matched = y.matched; lams = m.lams; first = m.first; level = y.level; later = y.later; steps = y.steps; way = y.way }, x.2))
   ]
-    where
-      on : (p ≡ (step_of τ h).redex → ⊥) → outer t ≤ m.lams → (q : Site) × IsMet τ t' q × Becomes τ h p q
-      on f enough =
-          let w = (step_of τ h).way in
-          let v = os m.lams empty in
-          let k = follow w m.way (w.start root v v m.first (root_stays τ h m.lams (passing t m.lams enough))) in
-          by k (let a = m.matched in (step_of τ h).goes p m.level m.later k.spot (app a.function a.argument, a.is, tt) k.rel)
-        where
-          by : (k : Next τ t' (step_of τ h).way.R true (function_at p m.level m.later) (at root (os m.lams empty) m.first) m.steps) →
-              (p ≡ (step_of τ h).redex) ⊎ Goes t' (step_of τ h).way.R p m.level m.later k.spot →
-              (q : Site) × IsMet τ t' q × Becomes τ h p q
-          by k (inl e) = absurd (f e)
-          by k (inr g) =
-              let a = m.matched in
-              let b : Becomes τ h p g.site = record { stands = (app a.function a.argument, a.is, tt); other = f; all = g.all } in (
-                g.site,
-                record {
-                  matched = matched_goes p g.site b g.there a;
-                  lams = m.lams;
-                  first = m.first;
-                  level = m.level;
-                  later = m.later;
-                  steps = k.weight;
-                  way = subst (λ z. Trail (Edge τ t') (at root (os m.lams empty) m.first) z k.weight) g.is k.trail;
-                },
-                b,
-              )

@@ -1,5 +1,5 @@
 -- At which principal ports of a term's net spots stand: at those of nodes of sharing and of abstractions.
-use Rattle.std.proofs.Common.{◌≡◌, ℕ, suc, ◌+◌, [], ◌∷◌, length, true, false, nat_eq, Option, None, Some, ◌⊎◌, inl, inr, refl, sym, ap, ◌∙◌, arith, subst}
+use Rattle.std.proofs.Common.{◌≡◌, ℕ, suc, ◌+◌, [], ◌∷◌, length, true, Option, None, Some, ◌⊎◌, inl, inr, refl, sym, ap, ◌∙◌, arith, subst}
 use Rattle.std.proofs.lemmas.Bool.{and_parts}
 use Rattle.ol_term.specs.declared.translations.Translation.{Translation}
 use Rattle.ol_term.specs.Trees.{Tree, var, free, lam, app, is_below}
@@ -10,14 +10,14 @@ use Rattle.ol_net.specs.Nets.{NamedPort, NamedNet, HasNode}
 use Rattle.ol_net.specs.Nets as nets
 use Rattle.ol_net.specs.Numbered.{numbered_port}
 use Rattle.ol_context.specs.Contexts.{Level, empty, o, star, pair, Context, cons}
-use Rattle.ol_translate.specs.Translation.{Subnet, subnet_of, applied, bare_variable, wire_of, slot_port}
+use Rattle.ol_translate.specs.Translation.{subnet_of, applied, bare_variable, wire_of, slot_port}
 use Rattle.ol_translate.proofs.Joints.{few_wires}
 use Rattle.ol_spots_net.specs.Sites.{Site, self, in_lam, in_function, in_argument, PartAt, whole, of_lam, of_function, of_argument, abstraction_at, depth, context_at}
 use Rattle.ol_spots_net.specs.Spots.{root, wire, Spot, at, body, fun, arg}
 use Rattle.ol_spots_net.proofs.Fans.{Merges, outside_wire, by_wire, wire_here, wire_later}
 use Rattle.ol_spots_net.proofs.Parts.{Has, argument, has_lam, Wires, has_app, has_app_to, has_head, key, applied_root, wire_there}
 use Rattle.ol_spots_net.proofs.States.{S, H, L, arg_state, bare_state, state}
-use Rattle.ol_spots_net.proofs.Turns.{IsControl, no_principal, of_control, Fits, Stands, stands_port}
+use Rattle.ol_spots_net.proofs.Turns.{IsControl, no_principal, of_control, Stands, stands_port}
 
 module _ (τ : Translation) (N : NamedNet ℕ) where
   -- ---- wires

@@ -1,32 +1,31 @@
--- The virtual redexes on the root's walks of a term's net are met, each at its own site.
-use Rattle.std.proofs.Common.{◌≡◌, ℕ, suc, ◌+◌, ◌⊎◌, inl, inr, List, [], ◌∷◌, length, Some, Option, refl, sym, ap, ◌∙◌, arith, subst}
+-- The virtual redexes on the walks of a term's net are met, each at its own site.
+use Rattle.std.proofs.Common.{◌≡◌, ℕ, suc, ◌+◌, ◌⊎◌, inl, inr, List, ◌∷◌, length, Some, Option, refl, sym, ap, ◌∙◌, arith, subst}
 use Rattle.ol_context.proofs.Contexts.{eta, head_eq, tail_eq}
 use Rattle.ol_context.proofs.Ways.{through_back, through_one}
-use Rattle.ol_context.specs.Asked.{os, asked}
-use Rattle.ol_context.specs.Contexts.{Level, empty, Context, cons, tail, up}
-use Rattle.ol_context.specs.Paths.{Crosses, inward, outward, Through, through}
+use Rattle.ol_context.specs.Contexts.{Level, empty, Context, cons, tail}
+use Rattle.ol_context.specs.Paths.{inward, outward, Through, through}
 use Rattle.ol_context.specs.Ways.{Way, start, on}
 use Rattle.ol_edges.specs.Edges.{Joined}
 use Rattle.ol_edges.specs.Edges as edges
 use Rattle.ol_net.specs.Nets.{NamedPort, free, slot, NamedNet, HasNode, Linked, IsNet, port_under}
-use Rattle.ol_net.specs.Parts.{arity}
 use Rattle.ol_net.specs.declared.parts.Kind.{Kind}
 use Rattle.ol_net.specs.declared.parts.Kind.TheVariants as kind
 use Rattle.ol_rules.proofs.FreshPairs.{linked_sym}
 use Rattle.ol_rules.proofs.Renaming.{one_port}
 use Rattle.ol_spots_net.proofs.Followed.{St, net}
-use Rattle.ol_spots_net.specs.Sites.{Site, depth, context_at, function_at, abstraction_at}
-use Rattle.ol_spots_net.specs.Spots.{root, at, Edge, Trail}
+use Rattle.ol_spots_net.specs.Sites.{depth, context_at, function_at, abstraction_at}
+use Rattle.ol_spots_net.specs.Spots.{at, place, Edge, Trail}
 use Rattle.ol_term.specs.Trees.{Tree}
 use Rattle.ol_term.specs.declared.translations.Translation.{Translation}
 use Rattle.ol_translate.specs.Names.{HasNames}
 use Rattle.ol_translate.specs.Translation.{translation_of}
 use Rattle.ol_optimal.specs.Redexes.{Carries, put, IsVirtualRedex}
-use Rattle.ol_optimal.specs.Routes.{Crossing, rise, fall, Row, along, rises, falls, Route, HasRoute}
-use Rattle.ol_optimal.specs.Seen.{Move, link, node, IsOnWalk, IsSeen}
+use Rattle.ol_optimal.specs.Routes.{Crossing, rise, fall, Row, along, rises, falls, Route}
+use Rattle.ol_optimal.specs.Seen.{Move, link, node, IsSeen}
 use Rattle.ol_optimal.proofs.Carrying.{rise_at, fall_at}
-use Rattle.ol_frugal.specs.Met.{IsMet, blank}
-use Rattle.ol_frugal.proofs.Arrived.{Application, Come, from_root, from_function}
+use Rattle.ol_frugal.specs.Met.{blank}
+use Rattle.ol_frugal.proofs.Arrived.{Application, from_port, from_function}
+use Rattle.ol_frugal.proofs.Meeting.{Comes}
 use Rattle.ol_frugal.proofs.Keys.{one_redex, put_one, levels_of, as_put, as_long}
 
 -- ---- what moves from a free port lead to is on one way
@@ -110,40 +109,37 @@ module _ {B : Type 0} (m : ℕ → B) (M : NamedNet B) (n : IsNet M) (τ : Trans
   abbrev N : NamedNet ℕ
   N = translation_of τ t names
 
-  -- the site at which a virtual redex is met
-  pub record MetAt (s : Route B) (V : IsVirtualRedex M s) : Type 0 where
+  -- the site at which a walk comes to a virtual redex
+  pub record MetAt (s : Route B) (V : IsVirtualRedex M s) (p : ℕ) (c : Context) : Type 0 where
     pub node : ℕ
     pub from_is : s.from ≡ m node
     pub context : Context
     pub at_site : Application τ t names node context
     pub begin_is : V.begin ≡ levels_of at_site.site
-    pub met : IsMet τ t at_site.site
+    pub comes : Comes τ t (at (place p) (c 0) (tail c)) at_site.site
     pub stands : (w : Level) (e : Context) → St τ t names h (function_at at_site.site w e) (at_site.port, context_at at_site.site (cons w e))
 
   one_index : (x i j : ℕ) (K : Kind) → HasNode N x K i → HasNode N x K j → i ≡ j
   one_index x i j K a b = ((net τ t names h).one_node x K K i j a b).1
 
-  module _ (s : Route B) (lams : ℕ) (S : IsSeen M 0 (asked [] lams) s) where
-    V : IsVirtualRedex M s
-    V = S.redex
-
-    pub met_at : MetAt s S.redex
-    met_at = go (I.nodes s.from kind.App S.redex.route.i S.redex.route.application) (I.nodes s.to kind.Lam S.redex.route.j S.redex.route.abstraction) (is_along M n 0 (asked [] lams) S.on_walk)
+  module _ (s : Route B) (p : ℕ) (c : Context) (S : IsSeen M p c s) where
+    pub met_at : MetAt s S.redex p c
+    met_at = go (I.nodes s.from kind.App S.redex.route.i S.redex.route.application) (I.nodes s.to kind.Lam S.redex.route.j S.redex.route.abstraction) (is_along M n p c S.on_walk)
       where
         ahead : (x : ℕ) (u : NamedPort ℕ) (U : NamedPort B) → U ≡ port_under m u → s.from ≡ m x → Linked M U (slot s.from 0) ⊎ (U ≡ slot s.from 0) → Linked N u (slot x 0) ⊎ (u ≡ slot x 0)
         ahead x u U e f (inl l) = inl (link_named m N M I U u (slot x 0) (slot s.from 0) e (ap (λ x. slot x 0) f) l)
         ahead x u U e f (inr q) = inr (one_port m I.one u (slot x 0) (sym e ∙ q ∙ ap (λ x. slot x 0) f))
 
         go : (x : ℕ) × HasNode N x kind.App S.redex.route.i × (s.from ≡ m x) → (y : ℕ) × HasNode N y kind.Lam S.redex.route.j × (s.to ≡ m y) →
-            IsAlong M n 0 (asked [] lams) (slot s.from 0) (put S.redex.begin S.rest) → MetAt s S.redex
+            IsAlong M n p c (slot s.from 0) (put S.redex.begin S.rest) → MetAt s S.redex p c
         go (x, a, f) (y, b, g) w =
-            let W = way_named m N M I w.way (free 0) refl in
-            let k = from_root τ t names h x S.redex.route.i W.2 a (ahead x W.0 w.port W.1 f w.there) in
-            let p = k.at_site.site in
-            let long : length S.redex.begin ≡ length (levels_of p) = S.redex.begin_is ∙ one_index x S.redex.route.i (depth p) kind.App a k.at_site.index ∙ sym (as_long p) in
-            let same : put S.redex.begin S.rest ≡ put (levels_of p) (cons k.at_site.level k.at_site.later) = k.at_site.same ∙ as_put p (cons k.at_site.level k.at_site.later) in
-            let begin = (put_one S.redex.begin (levels_of p) S.rest (cons k.at_site.level k.at_site.later) long same).0 in
-            let first : put S.redex.begin blank ≡ context_at p (cons empty blank) = ap (λ vs. put vs blank) begin ∙ sym (as_put p blank) ∙ ap (context_at p) (sym (eta blank)) in
+            let W = way_named m N M I w.way (free p) refl in
+            let k = from_port τ t names h x S.redex.route.i W.2 a (ahead x W.0 w.port W.1 f w.there) in
+            let site = k.at_site.site in
+            let long : length S.redex.begin ≡ length (levels_of site) = S.redex.begin_is ∙ one_index x S.redex.route.i (depth site) kind.App a k.at_site.index ∙ sym (as_long site) in
+            let same : put S.redex.begin S.rest ≡ put (levels_of site) (cons k.at_site.level k.at_site.later) = k.at_site.same ∙ as_put site (cons k.at_site.level k.at_site.later) in
+            let begin = (put_one S.redex.begin (levels_of site) S.rest (cons k.at_site.level k.at_site.later) long same).0 in
+            let first : put S.redex.begin blank ≡ context_at site (cons empty blank) = ap (λ vs. put vs blank) begin ∙ sym (as_put site blank) ∙ ap (context_at site) (sym (eta blank)) in
             let r = row_way M n {r = slot s.from 0} {b = put S.redex.begin blank} start S.redex.route.row (S.redex.carries blank) in
             let R = way_named m N M I r.2 (slot x 0) (ap (λ x. slot x 0) f) in
             let R' = subst (λ c. Way N (slot x 0) c r.0 R.0 (put S.redex.last blank)) first R.2 in
@@ -162,7 +158,7 @@ module _ {B : Type 0} (m : ℕ → B) (M : NamedNet B) (n : IsNet M) (τ : Trans
               at_site = k.at_site;
               begin_is = begin;
               stands = k.stands;
-              met = record {
+              comes = record {
                 matched = record {
                   function = k.at_site.function;
                   argument = k.at_site.argument;
@@ -171,10 +167,8 @@ module _ {B : Type 0} (m : ℕ → B) (M : NamedNet B) (n : IsNet M) (τ : Trans
                   inner = z.3.inner;
                   is_other = z.3.is;
                   weight = z.1;
-                  trail = subst (λ s. Trail (Edge τ t) (function_at p empty blank) s z.1) at_end z.2;
+                  trail = subst (λ s. Trail (Edge τ t) (function_at site empty blank) s z.1) at_end z.2;
                 };
-                lams = lams;
-                first = tail (asked [] lams);
                 level = k.at_site.level;
                 later = k.at_site.later;
                 steps = k.weight;
@@ -183,13 +177,13 @@ module _ {B : Type 0} (m : ℕ → B) (M : NamedNet B) (n : IsNet M) (τ : Trans
             }
 
   -- no two of them at one site
-  pub one_route : (s s' : Route B) (V : IsVirtualRedex M s) (V' : IsVirtualRedex M s') (a : MetAt s V) (b : MetAt s' V') → a.at_site.site ≡ b.at_site.site → s ≡ s'
-  one_route s s' V V' a b e =
-      let p = a.at_site.site in
+  pub one_route : (s s' : Route B) (V : IsVirtualRedex M s) (V' : IsVirtualRedex M s') (p p' : ℕ) (c c' : Context) (a : MetAt s V p c) (b : MetAt s' V' p' c') → a.at_site.site ≡ b.at_site.site → s ≡ s'
+  one_route s s' V V' p p' c c' a b e =
+      let site = a.at_site.site in
       let x = a.stands empty blank in
-      let y : St τ t names h (function_at p empty blank) (b.at_site.port, context_at p (cons empty blank)) = subst (λ q. St τ t names h (function_at q empty blank) (b.at_site.port, context_at q (cons empty blank))) (sym e) (b.stands empty blank) in
-      let one : ◌≡◌ {A = Option (NamedPort ℕ × Context)} (Some (a.at_site.port, context_at p (cons empty blank))) (Some (b.at_site.port, context_at p (cons empty blank))) = sym x.is ∙ y.is in
-      let pair : ◌≡◌ {A = NamedPort ℕ × Context} (a.at_site.port, context_at p (cons empty blank)) (b.at_site.port, context_at p (cons empty blank)) = cc in
+      let y : St τ t names h (function_at site empty blank) (b.at_site.port, context_at site (cons empty blank)) = subst (λ q. St τ t names h (function_at q empty blank) (b.at_site.port, context_at q (cons empty blank))) (sym e) (b.stands empty blank) in
+      let one : ◌≡◌ {A = Option (NamedPort ℕ × Context)} (Some (a.at_site.port, context_at site (cons empty blank))) (Some (b.at_site.port, context_at site (cons empty blank))) = sym x.is ∙ y.is in
+      let pair : ◌≡◌ {A = NamedPort ℕ × Context} (a.at_site.port, context_at site (cons empty blank)) (b.at_site.port, context_at site (cons empty blank)) = cc in
       let port = ap (λ (u : NamedPort ℕ × Context). u.0) pair in
       let l = linked_sym N (slot a.node 0) a.at_site.port a.at_site.linked in
       let l' : Linked N a.at_site.port (slot b.node 0) = subst (λ q. Linked N q (slot b.node 0)) (sym port) (linked_sym N (slot b.node 0) b.at_site.port b.at_site.linked) in

@@ -1,2 +1,4 @@
 -- What clauses of public functions rest on.
 pub mod Met
+pub mod Steps
+pub mod Leftmost

@@ -1,5 +1,5 @@
--- Applications and abstractions of a term as walks over its net come to them, and which of them a walk
--- from the term's root sees, said by the term's spots alone.
+-- Applications and abstractions of a term as walks over its net come to them, and which of them a
+-- walk from the term's root sees, said by the term's spots alone.
 use Rattle.std.specs.Prelude.{ℕ, ◌≤◌, List, [], ◌∷◌, length}
 use Rattle.ol_edges.specs.Edges.{IsIn}
 use Rattle.ol_net.specs.Graph.{Graph}

@@ -1,0 +1,4 @@
+pub mod Rows
+pub mod Telling
+pub mod Balance
+pub mod Signing
