@@ -9,7 +9,8 @@ ghost use Rattle.ol_lines.specs.NormalForms.{BeginsReduced};
 ghost use Rattle.ol_cli.specs.Jobs.{OfReadFiles, TellsTerm, TellsFiles, files_of};
 ghost use Rattle.ol_cli.specs.NormalForms.{LineSays, IsItsNormalForm, TellsOfNone};
 ghost use Rattle.ol_cli.specs.NormalForms.{IsFoundOnDemand, LineSaysOfTwo};
-ghost use Rattle.ol_cli.specs.NormalForms.{ArePlain, PlainDemandFinds, PlainEqualSays, PlainLineSays};
+ghost use Rattle.ol_cli.specs.NormalForms.{ArePlain, PlainDemandFinds, PlainDemandIsFrugal};
+ghost use Rattle.ol_cli.specs.NormalForms.{PlainEqualSays, PlainLineSays};
 ghost use Rattle.ol_cli.specs.Answers.{IsAnswer};
 ghost use Rattle.ol_cli.specs.Completeness.{AskForWhatCanBeDone, IsDoneOrNothing};
 ghost use Rattle.ol_cli.specs.Sources.{EveryRunTells, WritesTree};
@@ -60,11 +61,16 @@ fn run<'a, R: Files + Input + Print + Threads + Wait + Sync>(
         (⟦<StdSink<'a, R> as Sink>⟧.taken result.out)) }
 
     // After `ol demand NAME` it is a text of the normal form, where there is one and variables
-    // stand in at most 4,096 places of it. After `ol equal A B` the line is `equal` only where the
+    // stand in at most 4,096 places of it, and the `beta` is no more than the redexes that leftmost
+    // reduction contracts on its way to it. After `ol equal A B` the line is `equal` only where the
     // two terms are convertible, and begins with `different` only where they aren't.
     ensures plain_demand { result.status ≡ Status.Done
         → OfReadFiles [] (⟦<StdSource<'a, R> as Source>⟧.readings result.src) (λ files.
         PlainDemandFinds words.now.items files (Some [])
+        (⟦<StdSink<'a, R> as Sink>⟧.taken result.out)) }
+    ensures plain_frugal { result.status ≡ Status.Done
+        → OfReadFiles [] (⟦<StdSource<'a, R> as Source>⟧.readings result.src) (λ files.
+        PlainDemandIsFrugal words.now.items files (Some [])
         (⟦<StdSink<'a, R> as Sink>⟧.taken result.out)) }
     ensures plain_equal { result.status ≡ Status.Done
         → OfReadFiles [] (⟦<StdSource<'a, R> as Source>⟧.readings result.src) (λ files.

@@ -18,9 +18,20 @@ use Rattle.ol_cli.specs.Jobs.{AskFor, AreTold, TellsFiles, TellsTerm, term_bytes
 use Rattle.ol_cli.specs.Sources.{WritesTree}
 use Rattle.ol_cli.specs.NormalForms.{ArePlain, LineIsOf, PlainLineSays}
 use Rattle.ol_cli.specs.NormalForms.{ArePlainTwo, PlainEqualSays, PlainDemandFinds, LineSaysOfTwo}
+use Rattle.ol_cli.specs.NormalForms.{PlainDemandIsFrugal}
+use Rattle.ol_cli.proofs.DemandRuns.{is_start}
+use Rattle.ol_cli.proofs.OneAnswer.{file_names}
+use Rattle.ol_frugal.proofs.Never.{never_more}
+use Rattle.ol_io.specs.Outside.{Appended}
+use Rattle.ol_meaning.proofs.Endings.{no_redex}
+use Rattle.ol_rules.proofs.Relation.{same_refl}
+use Rattle.ol_rules.specs.Counting.{counts_of}
+use Rattle.ol_translate.specs.Translation.{translation_of}
+use Rattle.ol_translate.proofs.Whole.{translation_net}
 use Rattle.ol_cli.proofs.OneAnswer.{one_job}
 use Rattle.ol_cli.proofs.NormalLines.{run_printed, walk_printed, demand_printed, first_line}
 use Rattle.ol_cli.proofs.NormalLines.{file_of}
+use Rattle.ol_lines.proofs.Read.{one_line}
 use Rattle.ol_cli.proofs.DemandedLines.{writes_demanded}
 
 -- ---- one name
@@ -163,6 +174,31 @@ plain_demand words files old new w name p bytes has source is =
     let j = asks_demand p refl in
     let told = tells_of words (files 0) (demand Two 200000 4096 name) bytes j has in
     writes_demanded words bytes old new (w bytes told) (demand Two 200000 4096 name) j tt source is
+
+-- the counts of `demand`
+pub plain_frugal : (words : List (String Global)) (files : Files) (old new : Option (List ℕ)) →
+    Writes words files old new → PlainDemandIsFrugal words files old new
+unfolding demand_printed
+plain_frugal words files old new w name p bytes has source is =
+    let j = asks_demand p refl in
+    let told = tells_of words (files 0) (demand Two 200000 4096 name) bytes j has in
+    let r =
+    w bytes told (demand Two 200000 4096 name) (number source) (names_of source) j (file_of is) in
+    let d = r.1.demands in
+    let names = names_of source in
+    let N = translation_of Two (number source) (length names) in
+    let has_names = file_names bytes (number source) names (file_of is) in
+    let is_net = translation_net Two (number source) (length names) has_names in
+    record {
+      line = d.term;
+      counts = counts_of d.ends.journal;
+      stuck = d.stuck;
+      one = one_line is (demand_printed r.1);
+      written = subst (λ t. Appended old t new) d.written r.2;
+      says = λ v l n.
+          never_more Two (number source) (length names) has_names N is_net (same_refl N)
+          (is_start Two (number source) names is_net) l (no_redex v n) d.ends.run.run;
+    }
 
 -- the bytes of two files are those of the job's files
 two_told : (files : Files) (a b : Text) (m n : List ℕ) → files 0 a ≡ Some m → files 1 b ≡ Some n →

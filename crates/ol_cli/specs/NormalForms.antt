@@ -8,13 +8,16 @@ use Rattle.ol_term.specs.Trees.{Tree, var, free, lam, app}
 use Rattle.ol_parse.specs.Grammar.{Named}
 use Rattle.ol_parse.specs.Texts.{IsLine, IsText}
 use Rattle.ol_beta.specs.Leftmost.{IsNormal}
-use Rattle.ol_meaning.specs.Shows.{BetaReduces}
+use Rattle.ol_meaning.specs.Shows.{BetaReduces, LeftmostReduces}
+use Rattle.ol_frugal.specs.Steps.{steps_of}
+use Rattle.ol_rules.specs.declared.journal.Counts.{Counts}
 use Rattle.ol_lines.specs.NormalForms.{by_names_of, IsNormalFormOf, HasNoNormalForm}
 use Rattle.ol_lines.specs.NormalForms.{AreConvertible}
 use Rattle.ol_words.specs.Texts.{Text, texts_of}
 use Rattle.ol_words.specs.Lines.{is_dashed}
 use Rattle.ol_words.specs.Asked.{Asked, run, walk, gen, demand, equal}
 use Rattle.ol_cli.specs.Jobs.{AskFor, Files}
+use Rattle.ol_cli.specs.Texts.{answer_text}
 
 -- these jobs write a term, and it stands on the first line
 abbrev pub PrintsTerm : Asked → Type 0
@@ -114,6 +117,30 @@ abbrev pub PlainDemandFinds : List (String Global) → Files → Option (List �
 PlainDemandFinds words files old new = (name : Text) → ArePlain words (codes "demand") name →
     (bytes : List ℕ) → files 0 name ≡ Some bytes → (source : Named) → IsText bytes source →
     FirstLine (IsFoundWithin 4096 source) old new
+
+-- Leftmost reduction of the source to a normal form, where there is one, contracts at least so many
+-- redexes.
+abbrev pub IsNoMoreThanLeftmost : Named → ℕ → Type 0
+IsNoMoreThanLeftmost source beta =
+    (v : Tree) (r : LeftmostReduces (by_names_of source source) v) → IsNormal v →
+    beta ≤ steps_of r
+
+-- What was appended, where the sink tells it, is a line and the nine lines of counts; of the number
+-- of beta steps this is said.
+pub record CountsSay (Says : ℕ → Type 0) (old new : Option (List ℕ)) : Type 0 where
+  pub line : List ℕ
+  pub counts : Counts
+  pub stuck : ℕ
+  pub one : IsLine line
+  pub written : Appended old (answer_text line counts stuck) new
+  pub says : Says counts.beta
+
+-- the `beta` of `demand` is no more than the steps of leftmost reduction
+abbrev pub PlainDemandIsFrugal : List (String Global) → Files → Option (List ℕ) →
+    Option (List ℕ) → Type 0
+PlainDemandIsFrugal words files old new = (name : Text) → ArePlain words (codes "demand") name →
+    (bytes : List ℕ) → files 0 name ≡ Some bytes → (source : Named) → IsText bytes source →
+    CountsSay (IsNoMoreThanLeftmost source) old new
 
 -- the words are the program's name, `equal` and the names of two files: no options, and not
 -- standard input for both

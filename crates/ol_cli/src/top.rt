@@ -9,7 +9,8 @@ ghost use Rattle.ol_cli.specs.Answers.{IfNoneFailed, seen_of, Ends, IsAnswer, Re
 ghost use Rattle.ol_cli.specs.Completeness.{AskForWhatCanBeDone, IsDoneOrNothing};
 ghost use Rattle.ol_cli.specs.Sources.{EveryRunTells, WritesTree};
 ghost use Rattle.ol_cli.specs.NormalForms.{LineSays, IsItsNormalForm, TellsOfNone, IsFoundOnDemand, LineSaysOfTwo};
-ghost use Rattle.ol_cli.specs.NormalForms.{PlainDemandFinds, PlainEqualSays, PlainLineSays};
+ghost use Rattle.ol_cli.specs.NormalForms.{PlainDemandFinds, PlainDemandIsFrugal, PlainEqualSays};
+ghost use Rattle.ol_cli.specs.NormalForms.{PlainLineSays};
 ghost use Rattle.ol_cli.specs.SourceLaws.{WritesOfSources};
 ghost use Rattle.ol_cli.specs.Handed.{Hands};
 
@@ -166,6 +167,13 @@ pub fn ol<R: Threads + Wait + Sync, S: Source, W: Sink, G: Gate + Sync>(
         IfNoneFailed (S.faults src.old) (S.faults src.new) (W.faults out.old) (W.faults out.new)
         (result.status ≡ Status.Done
         → PlainDemandFinds words.now.items files (W.taken out.old) (W.taken out.new))) }
+
+    // And its `beta` is no more than the number of redexes that leftmost reduction of the term in
+    // the file contracts on its way to a normal form.
+    ensures plain_frugal { OfReadFiles (S.readings src.old) (S.readings src.new) (λ files.
+        IfNoneFailed (S.faults src.old) (S.faults src.new) (W.faults out.old) (W.faults out.new)
+        (result.status ≡ Status.Done
+        → PlainDemandIsFrugal words.now.items files (W.taken out.old) (W.taken out.new))) }
 
     // After `ol equal A B` the line is `equal` only where the terms in the two files are
     // convertible, and begins with `different` only where they aren't. Beta reduction alone counts,

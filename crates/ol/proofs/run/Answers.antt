@@ -2,7 +2,7 @@
 use Rattle.std.proofs.Common.{Some, subst}
 use Rattle.ol_cli.specs.Jobs.{files_of}
 use Rattle.ol_cli.specs.NormalForms.{LineSays, IsItsNormalForm, TellsOfNone, IsFoundOnDemand}
-use Rattle.ol_cli.specs.NormalForms.{LineSaysOfTwo, PlainDemandFinds, PlainEqualSays, PlainLineSays}
+use Rattle.ol_cli.specs.NormalForms.{LineSaysOfTwo, PlainDemandFinds, PlainDemandIsFrugal, PlainEqualSays, PlainLineSays}
 use Rattle.ol_cli.specs.Sources.{EveryRunTells, WritesTree}
 use Rattle.ol_cli.specs.Completeness.{IsDoneOrNothing}
 use Rattle.ol.proofs.Passing.{all_taken, begun_at_most, none_in, none_out, passing, no_rise, of_none, of_one_reading}
@@ -34,6 +34,21 @@ returns-clause-plain_demand g c = λ done files of.
     subst (λ before. PlainDemandFinds c.args.words.now.items files before (Some c.ol-outcome.new.out.log.passed.taken))
     c.new-out.ensures.taken
     (c.ol-outcome.ensures.plain_demand files
+    (of_none files c.new-src.result.log.passed.readings c.ol-outcome.new.src.log.passed.readings
+    c.new-src.ensures.readings of)
+    (no_rise c.new-src.result.faults c.ol-outcome.new.src.faults c.new-src.ensures.faults (none_in c.ol-outcome.result.status c.new-src.result.faults c.ol-outcome.new.src.faults
+    c.new-src.ensures.faults done
+    (no_rise c.new-out.result.faults c.ol-outcome.new.out.faults c.new-out.ensures.faults
+    (none_out c.ol-outcome.result.status c.new-out.result.faults c.ol-outcome.new.out.faults
+    c.new-out.ensures.faults done c.ol-outcome.ensures.write_told)) c.ol-outcome.ensures.read_told))
+    (no_rise c.new-out.result.faults c.ol-outcome.new.out.faults c.new-out.ensures.faults (none_out c.ol-outcome.result.status c.new-out.result.faults c.ol-outcome.new.out.faults
+    c.new-out.ensures.faults done c.ol-outcome.ensures.write_told)) done)
+
+pub returns-clause-plain_frugal : goal.returns-clause-plain_frugal
+returns-clause-plain_frugal g c = λ done files of.
+    subst (λ before. PlainDemandIsFrugal c.args.words.now.items files before (Some c.ol-outcome.new.out.log.passed.taken))
+    c.new-out.ensures.taken
+    (c.ol-outcome.ensures.plain_frugal files
     (of_none files c.new-src.result.log.passed.readings c.ol-outcome.new.src.log.passed.readings
     c.new-src.ensures.readings of)
     (no_rise c.new-src.result.faults c.ol-outcome.new.src.faults c.new-src.ensures.faults (none_in c.ol-outcome.result.status c.new-src.result.faults c.ol-outcome.new.src.faults
