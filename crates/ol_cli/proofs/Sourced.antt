@@ -20,8 +20,9 @@ use Rattle.ol_readback.specs.Heads.{live}
 use Rattle.ol_readback.specs.Terms.{HasAllHeads, IsReadBack}
 use Rattle.ol_readback.proofs.Sources.{own_heads}
 use Rattle.ol_readback.proofs.Forests.{tree_is_whole, heads_are_whole}
-use Rattle.ol_completeness.proofs.CompleteRuns.{complete_is_enough, demanded_is_least}
+use Rattle.ol_completeness.proofs.CompleteRuns.{complete_is_enough}
 use Rattle.ol_completeness.proofs.Levelled.{stays_clear}
+use Rattle.ol_completeness.proofs.TheLeast.{demand_is_the_least}
 use Rattle.ol_levels.proofs.AskedTrees.{asked_heads, asked_kept, last_tree_tells}
 use Rattle.ol_levels.proofs.DemandPlaces.{demand_tells as places_told}
 use Rattle.ol_levels.proofs.Runs.{start_levelled}
@@ -103,7 +104,7 @@ demands_tree tr t names fuel heads text has d read =
       says = says;
       always = says_always says;
       read_again = read;
-      least = demanded_is_least start d.ends.net heads d.ends.run.turns d.ends.journal d.ends.run.asked_places d.ends.run.last s levels d.ends.run.run;
+      least = demand_is_the_least start d.ends.net heads d.ends.journal d.ends.tree s (stays_clear start s levels) d.ends.run;
       complete = complete_is_enough start d.ends.net heads d.ends.journal d.ends.tree s (stays_clear start s levels) d.ends.run;
     }
 

@@ -14,7 +14,8 @@ use Rattle.ol_translate.specs.Translation.{translation_of}
 use Rattle.ol_readback.specs.Sources.{HasHeadsOf}
 use Rattle.ol_levels.specs.Asked.{HasAskedHeadsOf}
 use Rattle.ol_readback.specs.Terms.{HasAllHeads, IsReadBack}
-use Rattle.ol_completeness.specs.Least.{IsLeast, CompleteRunsAreEnough}
+use Rattle.ol_completeness.specs.Least.{CompleteRunsAreEnough}
+use Rattle.ol_completeness.specs.TheLeast.{IsTheLeast}
 use Rattle.ol_meaning.specs.Meaning.{SaysOf}
 use Rattle.ol_confluence.specs.Printed.{SaysAlways}
 use Rattle.ol_words.specs.Asked.{Asked, run, walk, gen, demand}
@@ -53,15 +54,16 @@ pub record WalksTree (translation : Translation) (t : Tree) (names : List (List 
   pub always : SaysAlways says
   pub read_again : HasAllHeads walks.tree → IsReadBack names walks.tree walks.term
 
--- The same of `demand`. Each run from the term's net, of any pairs in any order, that leads to a net from which the asked places can be
--- read as it is has rewritten each pair that `demand` rewrites, by birth names, and is no shorter; and each complete run leads to one.
+-- The same of `demand`. The net that it leaves is one from which the asked places can be read as it is. A run from the term's net, of any
+-- pairs in any order, leads to such a net exactly where it has rewritten each pair that `demand` rewrites, by birth names, and then it is
+-- no shorter; and each complete run leads to one.
 pub record DemandsTree (translation : Translation) (t : Tree) (names : List (List ℕ)) (fuel heads : ℕ) (text : List ℕ) : Type 0 where
   pub demands : Demands translation t names fuel heads text
   pub own_heads : HasAskedHeadsOf (translation_of translation t (length names)) heads demands.ends.tree
   pub says : SaysOf t true demands.ends.tree
   pub always : SaysAlways says
   pub read_again : HasAllHeads demands.ends.tree → IsReadBack names demands.ends.tree demands.term
-  pub least : IsLeast (start_net_of_term translation t names) heads demands.ends.journal
+  pub least : IsTheLeast (start_net_of_term translation t names) heads demands.ends.journal
   pub complete : CompleteRunsAreEnough (start_net_of_term translation t names) heads
 
 -- What a job prints of a term, with the facts of its tree, if it prints one. `gen --run` does with the term that it makes what `run`

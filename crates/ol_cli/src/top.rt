@@ -261,9 +261,9 @@ pub fn ol<R: Threads + Wait + Sync, S: Source, W: Sink, G: Gate + Sync>(
     // - Where `run`, `demand` or `gen --run` prints a `?`, whatever pairs are stuck, paths of any
     //   length give no head in the untouched net in its place, head reduction of the term there has
     //   no end, and the whole term has no normal form. Of a `?` of `walk` nothing more is said.
-    // - Each run, of any pairs in any order, that leads to a net from which the asked places can be
-    //   read as it is has rewritten each pair that `demand` rewrites, by birth names, and is no
-    //   shorter. Each complete run leads to such a net.
+    // - The asked places can be read as it is from the net that `demand` leaves. A run, of any pairs
+    //   in any order, leads to such a net exactly where it has rewritten each pair that `demand`
+    //   rewrites, by birth names, and then it is no shorter. Each complete run leads to one.
     ensures tree { OfReadFiles (S.readings src.old) (S.readings src.new) (λ files.
         (bytes : List ℕ) → TellsTerm (files 0) words.now.items bytes
         → IfNoneFailed (S.faults src.old) (S.faults src.new) (W.faults out.old) (W.faults out.new)
