@@ -1,5 +1,6 @@
 -- What an answer says of the job's own term.
-use Rattle.std.proofs.Common.{◌≡◌, ◌≢◌, ℕ, ◌*◌, Bool, true, false, zero, suc, List, [], ◌∷◌, codes, slice_get, length, Option, Some, String, Global, sym, ap, ◌∙◌, subst, arith}
+use Rattle.std.proofs.Common.{◌≡◌, ◌≢◌, ℕ, ◌*◌, Bool, true, false, zero, suc, List, [], ◌∷◌, codes, slice_get, length, Option, Some, String, Global, ◌<◌, ◌≤◌, ◌⊎◌, inl, inr, sym, ap, ◌∙◌, subst, arith}
+use Rattle.std.proofs.lemmas.Bool.{cases_lt}
 use Rattle.ol_io.specs.Outside.{Appended, Rose}
 use Rattle.ol_term.specs.declared.translations.Translation.{Translation}
 use Rattle.ol_term.specs.Trees.{Tree}
@@ -22,7 +23,8 @@ use Rattle.ol_readback.proofs.Sources.{own_heads}
 use Rattle.ol_readback.proofs.Forests.{tree_is_whole, heads_are_whole}
 use Rattle.ol_completeness.proofs.CompleteRuns.{complete_is_enough}
 use Rattle.ol_completeness.proofs.Levelled.{stays_clear}
-use Rattle.ol_completeness.proofs.TheLeast.{demand_is_the_least}
+use Rattle.ol_completeness.specs.Least.{CanBeRead}
+use Rattle.ol_completeness.proofs.TheLeast.{demand_is_the_least, stopped_is_not_enough}
 use Rattle.ol_levels.proofs.AskedTrees.{asked_heads, asked_kept, last_tree_tells}
 use Rattle.ol_levels.proofs.DemandPlaces.{demand_tells as places_told}
 use Rattle.ol_levels.proofs.Runs.{start_levelled}
@@ -37,11 +39,11 @@ use Rattle.ol_cli.specs.declared.status.Status.TheVariants as status
 use Rattle.ol_cli.specs.Jobs.{AskFor, Files, AreTold, TellsTerm, TellsFiles, term_bytes, translation_in}
 use Rattle.ol_cli.specs.Run.{start_net_of_term, Prints}
 use Rattle.ol_cli.specs.Walk.{Walks}
-use Rattle.ol_cli.specs.Demand.{Demands}
+use Rattle.ol_cli.specs.Demand.{Demands, DemandRunsOut}
 use Rattle.ol_cli.specs.Answers.{Ends, JobAnswer, of_file, made, IsAnswer}
 use Rattle.ol_cli.specs.TermFiles.{IsTermFile, TermAnswer, FileAnswer}
 use Rattle.ol_cli.specs.Generate.{plain_run}
-use Rattle.ol_cli.specs.Sources.{PrintsTree, WalksTree, DemandsTree, TellsTree, WritesTree, RunTells, DemandTells, JobTells, EveryRunTells}
+use Rattle.ol_cli.specs.Sources.{PrintsTree, WalksTree, DemandsTree, TellsTree, WritesTree, RunTells, DemandTells, JobTells, IsLast, EveryRunTells}
 use Rattle.ol_cli.specs.ReadAgain.{TextIsReadAgain, WritesReadable}
 use Rattle.ol_rules.proofs.LeadRuns.{as_run}
 use Rattle.ol_cli.proofs.DemandRuns.{is_start, demand_is_longer}
@@ -151,50 +153,66 @@ module _ (tr : Translation) (bytes : List ℕ) (workers fuel heads : ℕ) (name 
 
 -- so is that of `demand`
 module _ (tr : Translation) (bytes : List ℕ) (fuel heads : ℕ) (name : Text) (t : Tree) (names : List (List ℕ)) (f : IsFileOf bytes t names) (journal : List Entry) (net : NamedNet NodeName)
-    (ran : IsRun (start_net_of_term tr t names) 0 journal net) (complete : IsComplete net) where
-  demand_tells : (st : Status) (text : List ℕ) → FileAnswer (demand tr fuel heads name) bytes st text → DemandTells fuel journal st
-  demand_tells status.Spent text h =
+    (ran : IsRun (start_net_of_term tr t names) 0 journal net) where
+  -- a run from whose net the places can be read is longer than a front part of the demand run, which goes on
+  serving_is_longer : DemandRunsOut tr t names fuel heads → CanBeRead net heads → fuel < length journal
+  serving_is_longer (own, M, g, full) enough = by (cases_lt fuel (length journal))
+    where
+      by : (fuel < length journal) ⊎ (length journal ≤ fuel) → fuel < length journal
+      by (inl b) = b
+      by (inr b) =
+          let N = start_net_of_term tr t names in
+          let s = is_start tr t names (file_net tr bytes t names f) in
+          let levels = start_levelled (translation_of tr t (length names)) (term_is_levelled tr t (length names) (file_names bytes t names f)) in
+          absurd (stopped_is_not_enough N M net heads own journal s (stays_clear N s levels) g ran (omega arith) enough)
+
+  last_is_longer : DemandRunsOut tr t names fuel heads → IsComplete net ⊎ CanBeRead net heads → fuel < length journal
+  last_is_longer own (inl complete) = demand_is_longer tr t names (file_net tr bytes t names f) fuel heads own journal net ran complete
+  last_is_longer own (inr enough) = serving_is_longer own enough
+
+  demand_tells : (st : Status) (text : List ℕ) → FileAnswer (demand tr fuel heads name) bytes st text → IsComplete net ⊎ CanBeRead net heads → DemandTells fuel journal st
+  demand_tells status.Spent text h last =
       let same = one_file bytes h.0 t h.1 names h.2.file f in
       let own = subst (λ t. TermAnswer (demand tr fuel heads name) t names status.Spent text) same.0 (subst (λ names. TermAnswer (demand tr fuel heads name) h.0 names status.Spent text) same.1 h.3) in
-      demand_is_longer tr t names (file_net tr bytes t names f) fuel heads own.0 journal net ran complete
-  demand_tells status.Done text h = tt
-  demand_tells status.Usage text h = tt
-  demand_tells status.Syntax text h = tt
-  demand_tells status.ReadFault text h = tt
-  demand_tells status.WriteFault text h = tt
-  demand_tells status.NoMemory text h = tt
-  demand_tells status.Limit text h = tt
-  demand_tells status.BadNet text h = tt
+      last_is_longer own.0 last
+  demand_tells status.Done text h last = tt
+  demand_tells status.Usage text h last = tt
+  demand_tells status.Syntax text h last = tt
+  demand_tells status.ReadFault text h last = tt
+  demand_tells status.WriteFault text h last = tt
+  demand_tells status.NoMemory text h last = tt
+  demand_tells status.Limit text h last = tt
+  demand_tells status.BadNet text h last = tt
 
 same_bytes : (a b : List ℕ) → Some a ≡ Some b → a ≡ b
 same_bytes a b e = cc
 
 module _ (files : Files) (bytes : List ℕ) (st : Status) (text : List ℕ) (old new : Option (List ℕ)) (written : Appended old text new) (t : Tree) (names : List (List ℕ)) (f : IsFileOf bytes t names)
-    (journal : List Entry) (net : NamedNet NodeName) (complete : IsComplete net) where
-  answer_tells : (asked : Asked) → IsRun (start_net_of_term (translation_in asked) t names) 0 journal net → term_bytes (files 0) asked ≡ Some bytes → JobAnswer files st text asked → JobTells asked names journal net st old new
-  answer_tells (run tr workers fuel heads name) ran told (of_file {bytes = other} has e h) =
+    (journal : List Entry) (net : NamedNet NodeName) where
+  answer_tells : (asked : Asked) → IsLast asked net → IsRun (start_net_of_term (translation_in asked) t names) 0 journal net → term_bytes (files 0) asked ≡ Some bytes → JobAnswer files st text asked → JobTells asked names journal net st old new
+  answer_tells (run tr workers fuel heads name) last ran told (of_file {bytes = other} has e h) =
       let own = subst (λ b. FileAnswer (run tr workers fuel heads name) b st text) (same_bytes other bytes (sym e ∙ told)) h in
-      runs_tell tr bytes workers fuel heads name t names f st text old new own written journal net ran complete
-  answer_tells (gen tr true k) ran told (made m) =
+      runs_tell tr bytes workers fuel heads name t names f st text old new own written journal net ran last
+  answer_tells (gen tr true k) last ran told (made m) =
       let own = subst (λ b. FileAnswer (plain_run tr) b st text) (same_bytes (doubled_text k) bytes told) m in
-      runs_tell tr bytes 4 200000 4096 (codes "-") t names f st text old new own written journal net ran complete
-  answer_tells (gen tr true k) ran told (of_file has e h) = absurd has
-  answer_tells (gen tr false k) ran told a = tt
-  answer_tells (walk tr edges heads name) ran told a = tt
-  answer_tells (view tr after name) ran told a = tt
-  answer_tells (trace tr w f name) ran told a = tt
-  answer_tells (check tr term journal) ran told a = tt
-  answer_tells (demand tr fuel heads name) ran told (of_file {bytes = other} has e h) =
+      runs_tell tr bytes 4 200000 4096 (codes "-") t names f st text old new own written journal net ran last
+  answer_tells (gen tr true k) last ran told (of_file has e h) = absurd has
+  answer_tells (gen tr false k) last ran told a = tt
+  answer_tells (walk tr edges heads name) last ran told a = tt
+  answer_tells (view tr after name) last ran told a = tt
+  answer_tells (trace tr w f name) last ran told a = tt
+  answer_tells (check tr term journal) last ran told a = tt
+  answer_tells (demand tr fuel heads name) last ran told (of_file {bytes = other} has e h) =
       let own = subst (λ b. FileAnswer (demand tr fuel heads name) b st text) (same_bytes other bytes (sym e ∙ told)) h in
-      demand_tells tr bytes fuel heads name t names f journal net ran complete st text own
-  answer_tells (certify tr b w f q name) ran told a = tt
-  answer_tells (jobs.net tr from w f name) ran told a = tt
-  answer_tells (jobs.equal tr w f q first second) ran told a = tt
+      demand_tells tr bytes fuel heads name t names f journal net ran st text own last
+  answer_tells (certify tr b w f q name) last ran told a = tt
+  answer_tells (jobs.net tr from w f name) last ran told a = tt
+  answer_tells (jobs.equal tr w f q first second) last ran told a = tt
 
 pub answer_runs : (words : List (String Global)) (files : Files) (bytes : List ℕ) → TellsTerm (files 0) words bytes → (st : Status) (text : List ℕ) (old new : Option (List ℕ)) →
     IsAnswer words files st text → Appended old text new → EveryRunTells words bytes st old new
-answer_runs words files bytes tells st text old new a written asked t names j f journal net ran complete =
-    answer_tells files bytes st text old new written t names f journal net complete asked ran (tells asked j) (own_job words files asked j st text a)
+answer_runs words files bytes tells st text old new a written asked t names j f journal net ran last =
+    answer_tells files bytes st text old new written t names f journal net asked last ran (tells asked j) (own_job words files asked j st text a)
 
 -- ---- the call
 
@@ -207,27 +225,27 @@ one_name contents bytes name told (suc k) n is = absurd (cc)
 pub ends_run : (words : List (String Global)) (f f' given : ℕ) (contents : Files) (ended : Bool) → (Rose f f' → ⊥) → (bytes : List ℕ) → TellsTerm (contents 0) words bytes →
     (r : Status) (g g' : ℕ) (old new : Option (List ℕ)) → (Rose g g' → ⊥) → r ≢ status.NoMemory →
     Ends words (record { faults = f; faults' = f'; contents = contents; given = given; ended = ended }) r g g' old new → EveryRunTells words bytes r old new
-ends_run words f f' given contents ended quiet bytes tells r g g' old new calm has e asked t names j file journal net ran complete = go asked j ran
+ends_run words f f' given contents ended quiet bytes tells r g g' old new calm has e asked t names j file journal net ran last = go asked j last ran
   where
-    call : (asked : Asked) → AskFor words asked → IsRun (start_net_of_term (translation_in asked) t names) 0 journal net → AreTold contents asked → JobTells asked names journal net r old new
-    call here j ran told =
+    call : (asked : Asked) → AskFor words asked → IsLast asked net → IsRun (start_net_of_term (translation_in asked) t names) 0 journal net → AreTold contents asked → JobTells asked names journal net r old new
+    call here j last ran told =
         let all : TellsFiles contents words = λ asked j'. subst (AreTold contents) (one_job words here asked j j') told in
         let x = ends_exact words f f' given contents ended quiet all r g g' old new calm has e in
-        answer_runs words contents bytes tells r x.0 old new x.1 x.2 here t names j file journal net ran complete
+        answer_runs words contents bytes tells r x.0 old new x.1 x.2 here t names j file journal net ran last
 
     no_name : (tr : Translation) (k : ℕ) → AreTold contents (gen tr true k)
     no_name tr k zero n is = absurd (cc)
     no_name tr k (suc place) n is = absurd (cc)
 
-    go : (asked : Asked) → AskFor words asked → IsRun (start_net_of_term (translation_in asked) t names) 0 journal net → JobTells asked names journal net r old new
-    go (run tr workers fuel heads name) j ran = call (run tr workers fuel heads name) j ran (one_name contents bytes name (tells (run tr workers fuel heads name) j))
-    go (gen tr true k) j ran = call (gen tr true k) j ran (no_name tr k)
-    go (gen tr false k) j ran = tt
-    go (walk tr edges heads name) j ran = tt
-    go (view tr after name) j ran = tt
-    go (trace tr w f name) j ran = tt
-    go (check tr term journal) j ran = tt
-    go (demand tr fuel heads name) j ran = call (demand tr fuel heads name) j ran (one_name contents bytes name (tells (demand tr fuel heads name) j))
-    go (certify tr b w f q name) j ran = tt
-    go (jobs.net tr from w f name) j ran = tt
-    go (jobs.equal tr w f q first second) j ran = tt
+    go : (asked : Asked) → AskFor words asked → IsLast asked net → IsRun (start_net_of_term (translation_in asked) t names) 0 journal net → JobTells asked names journal net r old new
+    go (run tr workers fuel heads name) j last ran = call (run tr workers fuel heads name) j last ran (one_name contents bytes name (tells (run tr workers fuel heads name) j))
+    go (gen tr true k) j last ran = call (gen tr true k) j last ran (no_name tr k)
+    go (gen tr false k) j last ran = tt
+    go (walk tr edges heads name) j last ran = tt
+    go (view tr after name) j last ran = tt
+    go (trace tr w f name) j last ran = tt
+    go (check tr term journal) j last ran = tt
+    go (demand tr fuel heads name) j last ran = call (demand tr fuel heads name) j last ran (one_name contents bytes name (tells (demand tr fuel heads name) j))
+    go (certify tr b w f q name) j last ran = tt
+    go (jobs.net tr from w f name) j last ran = tt
+    go (jobs.equal tr w f q first second) j last ran = tt

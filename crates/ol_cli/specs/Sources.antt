@@ -1,5 +1,5 @@
 -- What is written for a job's own term, where its bytes are told: that of its file, or the one that `gen --run` makes.
-use Rattle.std.specs.Prelude.{ℕ, ◌<◌, true, false, List, length, Option, String}
+use Rattle.std.specs.Prelude.{ℕ, ◌<◌, ◌⊎◌, true, false, List, length, Option, String}
 use Rattle.std.specs.declared.alloc.Global.{Global}
 use Rattle.ol_io.specs.Outside.{Appended}
 use Rattle.ol_term.specs.declared.translations.Translation.{Translation}
@@ -14,7 +14,7 @@ use Rattle.ol_translate.specs.Translation.{translation_of}
 use Rattle.ol_readback.specs.Sources.{HasHeadsOf}
 use Rattle.ol_levels.specs.Asked.{HasAskedHeadsOf}
 use Rattle.ol_readback.specs.Terms.{HasAllHeads, IsReadBack}
-use Rattle.ol_completeness.specs.Least.{CompleteRunsAreEnough}
+use Rattle.ol_completeness.specs.Least.{CanBeRead, CompleteRunsAreEnough}
 use Rattle.ol_completeness.specs.TheLeast.{IsTheLeast}
 use Rattle.ol_meaning.specs.Meaning.{SaysOf}
 use Rattle.ol_confluence.specs.Printed.{SaysAlways}
@@ -90,7 +90,8 @@ RunTells names fuel heads journal net status.Done old new =
 RunTells names fuel heads journal net status.Spent old new = fuel < length journal
 RunTells names fuel heads journal net _ old new = Unit {0}
 
--- what it tells of the status of `demand`: where the demand run is longer than the fuel, so is each complete run
+-- what a run tells of the status of `demand`: where the demand run is longer than the fuel, so is each complete run, and each that leads
+-- to a net from which the asked places can be read as it is
 abbrev pub DemandTells : (fuel : ℕ) → List Entry → Status → Type 0
 DemandTells fuel journal status.Spent = fuel < length journal
 DemandTells fuel journal _ = Unit {0}
@@ -102,8 +103,13 @@ JobTells (gen translation true k) names journal net st old new = RunTells names 
 JobTells (demand translation fuel heads name) names journal net st old new = DemandTells fuel journal st
 JobTells _ names journal net st old new = Unit {0}
 
--- each complete run from the net of the job's own term tells this, whatever pairs it takes first
+-- A run may end with a complete net, and for `demand` also with one from which the asked places can be read as it is.
+abbrev pub IsLast : Asked → NamedNet NodeName → Type 0
+IsLast (demand translation fuel heads name) net = IsComplete net ⊎ CanBeRead net heads
+IsLast _ net = IsComplete net
+
+-- each such run from the net of the job's own term tells this, whatever pairs it takes first
 abbrev pub EveryRunTells : List (String Global) → List ℕ → Status → Option (List ℕ) → Option (List ℕ) → Type 0
 EveryRunTells words bytes st old new = (asked : Asked) (t : Tree) (names : List (List ℕ)) → AskFor words asked → IsFileOf bytes t names →
-    (journal : List Entry) (net : NamedNet NodeName) → IsRun (start_net_of_term (translation_in asked) t names) 0 journal net → IsComplete net →
+    (journal : List Entry) (net : NamedNet NodeName) → IsRun (start_net_of_term (translation_in asked) t names) 0 journal net → IsLast asked net →
     JobTells asked names journal net st old new

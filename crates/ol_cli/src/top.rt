@@ -281,8 +281,9 @@ pub fn ol<R: Threads + Wait + Sync, S: Source, W: Sink, G: Gate + Sync>(
         → WritesOfSources words.now.items files (W.taken out.old) (W.taken out.new))) }
 
     // And each complete run of the own term of `run` or `gen --run`, whatever pairs it takes first,
-    // prints what is written, or is longer than the fuel where that is spent. It is so too where
-    // the fuel of `demand` is spent.
+    // prints what is written, or is longer than the fuel where that is spent. It is longer too
+    // where the fuel of `demand` is spent, and so is each run that leads to a net from which the
+    // asked places can be read as it is.
     ensures every_run { OfReadFiles (S.readings src.old) (S.readings src.new) (λ files.
         (bytes : List ℕ) → TellsTerm (files 0) words.now.items bytes
         → IfNoneFailed (S.faults src.old) (S.faults src.new) (W.faults out.old) (W.faults out.new)
