@@ -23,6 +23,7 @@ use Rattle.ol_cli.specs.Net.{NetFileAnswer}
 use Rattle.ol_cli.specs.Net as net_answers
 use Rattle.ol_cli.proofs.NetFiles.{IsOfNet, net_file_status}
 use Rattle.ol_cli.proofs.Causes.{IsTold, cause_ended, cause_risen, cause_rose, cause_told, same_read, told_answer}
+use Rattle.ol_cli.specs.Shapes.{OnlyDone, DoneOrSpent}
 
 -- where all bytes were given, they are within the limit
 pub within_ok : (bytes : Vec ℕ Global) (most given : ℕ) → IsErrOf {T = Vec ℕ Global} {E = ReadAll} (Ok bytes) TooLong ↔ (most < given) → given ≤ most
@@ -40,74 +41,37 @@ IsOfTerm Done = Unit {0}
 IsOfTerm Spent = Unit {0}
 IsOfTerm _ = ⊥
 
+done_status : (P : List ℕ → Type 0) (st : Status) (text : List ℕ) → OnlyDone P st text → IsOfTerm st
+done_status P Done text h = tt
+done_status P Spent text h = absurd h
+done_status P Usage text h = h
+done_status P Syntax text h = h
+done_status P ReadFault text h = h
+done_status P WriteFault text h = h
+done_status P NoMemory text h = h
+done_status P Limit text h = h
+done_status P BadNet text h = h
+
+spent_status : (P R : List ℕ → Type 0) (st : Status) (text : List ℕ) → DoneOrSpent P R st text → IsOfTerm st
+spent_status P R Spent text h = tt
+spent_status P R Done text h = tt
+spent_status P R Usage text h = h
+spent_status P R Syntax text h = h
+spent_status P R ReadFault text h = h
+spent_status P R WriteFault text h = h
+spent_status P R NoMemory text h = h
+spent_status P R Limit text h = h
+spent_status P R BadNet text h = h
+
 pub term_status : (asked : Asked) (t : Tree) (names : List (List ℕ)) (st : Status) (text : List ℕ) → TermAnswer asked t names st text → IsOfTerm st
-term_status (run tr w f q name) t names Done text h = tt
-term_status (run tr w f q name) t names Spent text h = tt
-term_status (run tr w f q name) t names Usage text h = h
-term_status (run tr w f q name) t names Syntax text h = h
-term_status (run tr w f q name) t names ReadFault text h = h
-term_status (run tr w f q name) t names WriteFault text h = h
-term_status (run tr w f q name) t names NoMemory text h = h
-term_status (run tr w f q name) t names Limit text h = h
-term_status (run tr w f q name) t names BadNet text h = h
-term_status (walk tr e q name) t names Done text h = tt
-term_status (walk tr e q name) t names Spent text h = absurd h
-term_status (walk tr e q name) t names Usage text h = h
-term_status (walk tr e q name) t names Syntax text h = h
-term_status (walk tr e q name) t names ReadFault text h = h
-term_status (walk tr e q name) t names WriteFault text h = h
-term_status (walk tr e q name) t names NoMemory text h = h
-term_status (walk tr e q name) t names Limit text h = h
-term_status (walk tr e q name) t names BadNet text h = h
-term_status (view tr k name) t names Done text h = tt
-term_status (view tr k name) t names Spent text h = absurd h
-term_status (view tr k name) t names Usage text h = h
-term_status (view tr k name) t names Syntax text h = h
-term_status (view tr k name) t names ReadFault text h = h
-term_status (view tr k name) t names WriteFault text h = h
-term_status (view tr k name) t names NoMemory text h = h
-term_status (view tr k name) t names Limit text h = h
-term_status (view tr k name) t names BadNet text h = h
-term_status (trace tr w f name) t names Done text h = tt
-term_status (trace tr w f name) t names Spent text h = tt
-term_status (trace tr w f name) t names Usage text h = h
-term_status (trace tr w f name) t names Syntax text h = h
-term_status (trace tr w f name) t names ReadFault text h = h
-term_status (trace tr w f name) t names WriteFault text h = h
-term_status (trace tr w f name) t names NoMemory text h = h
-term_status (trace tr w f name) t names Limit text h = h
-term_status (trace tr w f name) t names BadNet text h = h
-term_status (check tr term journal) t names st text h = absurd h
-term_status (gen tr runs k) t names st text h = absurd h
-term_status (demand tr f q name) t names Done text h = tt
-term_status (demand tr f q name) t names Spent text h = tt
-term_status (demand tr f q name) t names Usage text h = h
-term_status (demand tr f q name) t names Syntax text h = h
-term_status (demand tr f q name) t names ReadFault text h = h
-term_status (demand tr f q name) t names WriteFault text h = h
-term_status (demand tr f q name) t names NoMemory text h = h
-term_status (demand tr f q name) t names Limit text h = h
-term_status (demand tr f q name) t names BadNet text h = h
-term_status (certify tr b w f q name) t names Done text h = tt
-term_status (certify tr b w f q name) t names Spent text h = tt
-term_status (certify tr b w f q name) t names Usage text h = h
-term_status (certify tr b w f q name) t names Syntax text h = h
-term_status (certify tr b w f q name) t names ReadFault text h = h
-term_status (certify tr b w f q name) t names WriteFault text h = h
-term_status (certify tr b w f q name) t names NoMemory text h = h
-term_status (certify tr b w f q name) t names Limit text h = h
-term_status (certify tr b w f q name) t names BadNet text h = h
-term_status (jobs.net tr true w f name) t names Done text h = tt
-term_status (jobs.net tr true w f name) t names Spent text h = absurd h
-term_status (jobs.net tr true w f name) t names Usage text h = h
-term_status (jobs.net tr true w f name) t names Syntax text h = h
-term_status (jobs.net tr true w f name) t names ReadFault text h = h
-term_status (jobs.net tr true w f name) t names WriteFault text h = h
-term_status (jobs.net tr true w f name) t names NoMemory text h = h
-term_status (jobs.net tr true w f name) t names Limit text h = h
-term_status (jobs.net tr true w f name) t names BadNet text h = h
-term_status (jobs.net tr false w f name) t names st text h = absurd h
-term_status (jobs.equal tr w f q first second) t names st text h = absurd h
+term_status (run tr w f q name) t names st text h = spent_status _ _ st text h
+term_status (walk tr e q name) t names st text h = done_status _ st text h
+term_status (view tr k name) t names st text h = done_status _ st text h
+term_status (trace tr w f name) t names st text h = spent_status _ _ st text h
+term_status (demand tr f q name) t names st text h = spent_status _ _ st text h
+term_status (certify tr b w f q name) t names st text h = spent_status _ _ st text h
+term_status (jobs.net tr true w f name) t names st text h = done_status _ st text h
+term_status _ t names st text h = absurd h
 
 -- the statuses of what is answered to the bytes of a term file, of a journal file and of a net file
 file_told : (asked : Asked) (bytes : List ℕ) (st : Status) (text : List ℕ) → FileAnswer asked bytes st text → IsTold st
@@ -177,17 +141,10 @@ job_cause words s asked Usage text j c = absurd (job_told s Usage text asked c)
 
 -- the bytes of the term file are told
 told_first : (contents : Files) (asked : Asked) → HasTermFile asked → AreTold contents asked → (bytes : List ℕ) × (contents 0 (file_name asked) ≡ Some bytes)
-told_first contents (run tr w f q name) has e = e 0 name refl
-told_first contents (walk tr g q name) has e = e 0 name refl
-told_first contents (view tr k name) has e = e 0 name refl
-told_first contents (trace tr w f name) has e = e 0 name refl
-told_first contents (check tr term journal) has e = e 0 term refl
 told_first contents (gen tr runs k) has e = absurd has
-told_first contents (demand tr f q name) has e = e 0 name refl
-told_first contents (certify tr b w f q name) has e = e 0 name refl
-told_first contents (jobs.net tr true w f name) has e = e 0 name refl
 told_first contents (jobs.net tr false w f name) has e = absurd has
 told_first contents (jobs.equal tr w f q first second) has e = absurd has
+told_first contents _ has e = e 0 _ refl
 
 -- and those of the journal file
 told_second : (tr : Translation) (contents : Files) (term journal : Text) → AreTold contents (check tr term journal) → (bytes : List ℕ) × (contents 1 journal ≡ Some bytes)

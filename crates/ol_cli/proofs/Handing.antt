@@ -7,8 +7,7 @@ use Rattle.ol_net.specs.Numbered.{all_live}
 use Rattle.ol_net.specs.Graph.{Graph}
 use Rattle.ol_net.proofs.Linking.{length-all_live, count_by-all_live}
 use Rattle.ol_wire.specs.Closed.{ClosedTable}
-use Rattle.ol_words.specs.Asked.{Asked, run, walk, view, trace, check, gen, demand, certify}
-use Rattle.ol_words.specs.Asked as jobs
+use Rattle.ol_words.specs.Asked.{Asked, run, trace}
 use Rattle.ol_cli.specs.declared.status.Status.{Status}
 use Rattle.ol_cli.specs.declared.status.Status.TheVariants as status
 use Rattle.ol_cli.specs.Jobs.{AskFor, file_name, translation_in}
@@ -39,87 +38,38 @@ where_ended status.BadNet closed P Q f h = h
 module _ (t : Tree) (names : List (List ℕ)) (text : List ℕ) (closed : Option ClosedTable) where
   none_at_usage : (asked : Asked) → TermHands asked t names status.Usage text closed → closed ≡ None
   none_at_usage (run tr workers fuel heads name) h = absurd h.4
-  none_at_usage (walk tr edges heads name) h = h
-  none_at_usage (view tr after name) h = h
   none_at_usage (trace tr workers fuel name) h = absurd h.4
-  none_at_usage (check tr term journal) h = h
-  none_at_usage (gen tr runs k) h = h
-  none_at_usage (demand tr fuel heads name) h = h
-  none_at_usage (certify tr b workers fuel heads name) h = h
-  none_at_usage (jobs.net tr from workers fuel name) h = h
-  none_at_usage (jobs.equal tr workers fuel heads first second) h = h
+  none_at_usage _ h = h
 
   none_at_syntax : (asked : Asked) → TermHands asked t names status.Syntax text closed → closed ≡ None
   none_at_syntax (run tr workers fuel heads name) h = absurd h.4
-  none_at_syntax (walk tr edges heads name) h = h
-  none_at_syntax (view tr after name) h = h
   none_at_syntax (trace tr workers fuel name) h = absurd h.4
-  none_at_syntax (check tr term journal) h = h
-  none_at_syntax (gen tr runs k) h = h
-  none_at_syntax (demand tr fuel heads name) h = h
-  none_at_syntax (certify tr b workers fuel heads name) h = h
-  none_at_syntax (jobs.net tr from workers fuel name) h = h
-  none_at_syntax (jobs.equal tr workers fuel heads first second) h = h
+  none_at_syntax _ h = h
 
   none_at_read_fault : (asked : Asked) → TermHands asked t names status.ReadFault text closed → closed ≡ None
   none_at_read_fault (run tr workers fuel heads name) h = absurd h.4
-  none_at_read_fault (walk tr edges heads name) h = h
-  none_at_read_fault (view tr after name) h = h
   none_at_read_fault (trace tr workers fuel name) h = absurd h.4
-  none_at_read_fault (check tr term journal) h = h
-  none_at_read_fault (gen tr runs k) h = h
-  none_at_read_fault (demand tr fuel heads name) h = h
-  none_at_read_fault (certify tr b workers fuel heads name) h = h
-  none_at_read_fault (jobs.net tr from workers fuel name) h = h
-  none_at_read_fault (jobs.equal tr workers fuel heads first second) h = h
+  none_at_read_fault _ h = h
 
   none_at_write_fault : (asked : Asked) → TermHands asked t names status.WriteFault text closed → closed ≡ None
   none_at_write_fault (run tr workers fuel heads name) h = absurd h.4
-  none_at_write_fault (walk tr edges heads name) h = h
-  none_at_write_fault (view tr after name) h = h
   none_at_write_fault (trace tr workers fuel name) h = absurd h.4
-  none_at_write_fault (check tr term journal) h = h
-  none_at_write_fault (gen tr runs k) h = h
-  none_at_write_fault (demand tr fuel heads name) h = h
-  none_at_write_fault (certify tr b workers fuel heads name) h = h
-  none_at_write_fault (jobs.net tr from workers fuel name) h = h
-  none_at_write_fault (jobs.equal tr workers fuel heads first second) h = h
+  none_at_write_fault _ h = h
 
   none_at_no_memory : (asked : Asked) → TermHands asked t names status.NoMemory text closed → closed ≡ None
   none_at_no_memory (run tr workers fuel heads name) h = absurd h.4
-  none_at_no_memory (walk tr edges heads name) h = h
-  none_at_no_memory (view tr after name) h = h
   none_at_no_memory (trace tr workers fuel name) h = absurd h.4
-  none_at_no_memory (check tr term journal) h = h
-  none_at_no_memory (gen tr runs k) h = h
-  none_at_no_memory (demand tr fuel heads name) h = h
-  none_at_no_memory (certify tr b workers fuel heads name) h = h
-  none_at_no_memory (jobs.net tr from workers fuel name) h = h
-  none_at_no_memory (jobs.equal tr workers fuel heads first second) h = h
+  none_at_no_memory _ h = h
 
   none_at_limit : (asked : Asked) → TermHands asked t names status.Limit text closed → closed ≡ None
   none_at_limit (run tr workers fuel heads name) h = absurd h.4
-  none_at_limit (walk tr edges heads name) h = h
-  none_at_limit (view tr after name) h = h
   none_at_limit (trace tr workers fuel name) h = absurd h.4
-  none_at_limit (check tr term journal) h = h
-  none_at_limit (gen tr runs k) h = h
-  none_at_limit (demand tr fuel heads name) h = h
-  none_at_limit (certify tr b workers fuel heads name) h = h
-  none_at_limit (jobs.net tr from workers fuel name) h = h
-  none_at_limit (jobs.equal tr workers fuel heads first second) h = h
+  none_at_limit _ h = h
 
   none_at_bad_net : (asked : Asked) → TermHands asked t names status.BadNet text closed → closed ≡ None
   none_at_bad_net (run tr workers fuel heads name) h = absurd h.4
-  none_at_bad_net (walk tr edges heads name) h = h
-  none_at_bad_net (view tr after name) h = h
   none_at_bad_net (trace tr workers fuel name) h = absurd h.4
-  none_at_bad_net (check tr term journal) h = h
-  none_at_bad_net (gen tr runs k) h = h
-  none_at_bad_net (demand tr fuel heads name) h = h
-  none_at_bad_net (certify tr b workers fuel heads name) h = h
-  none_at_bad_net (jobs.net tr from workers fuel name) h = h
-  none_at_bad_net (jobs.equal tr workers fuel heads first second) h = h
+  none_at_bad_net _ h = h
 
 -- what is handed back of a term is handed back of its file
 pub file_hands : (asked : Asked) (bytes : List ℕ) (t : Tree) (names : List (List ℕ)) → IsTermFile (translation_in asked) bytes t names → (st : Status) (text : List ℕ) (closed : Option ClosedTable) →

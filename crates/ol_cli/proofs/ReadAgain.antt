@@ -1,5 +1,5 @@
 -- What is written is read again.
-use Rattle.std.proofs.Common.{◌≡◌, ℕ, Bool, List, [], Option, Some, refl, subst, String, Global, true, false}
+use Rattle.std.proofs.Common.{◌≡◌, ℕ, Bool, List, [], Option, Some, refl, subst, String, Global, false}
 use Rattle.ol_io.specs.Outside.{Appended, IsAllOf}
 use Rattle.ol_term.specs.declared.translations.Translation.{Translation}
 use Rattle.ol_term.specs.Trees.{Tree}
@@ -49,17 +49,10 @@ told_read asked contents read told st text w h e =
 
 -- a job on a file has the bytes of its file
 pub file_bytes : (contents : Text → Option (List ℕ)) (asked : Asked) → HasTermFile asked → contents (file_name asked) ≡ term_bytes contents asked
-file_bytes contents (run tr w f q name) on = refl
-file_bytes contents (walk tr e q name) on = refl
-file_bytes contents (view tr k name) on = refl
-file_bytes contents (trace tr w f name) on = refl
-file_bytes contents (check tr term journal) on = refl
 file_bytes contents (gen tr runs k) on = absurd on
-file_bytes contents (demand tr f q name) on = refl
-file_bytes contents (certify tr b w f q name) on = refl
-file_bytes contents (jobs.net tr true w f name) on = refl
 file_bytes contents (jobs.net tr false w f name) on = absurd on
 file_bytes contents (jobs.equal tr w f q first second) on = absurd on
+file_bytes contents _ on = refl
 
 -- by the bytes that are made
 pub made_read : (tr : Translation) (contents : Text → Option (List ℕ)) (runs : Bool) (k : ℕ) (st : Status) (text : List ℕ) → FileIsReadAgain (gen tr runs k) (doubled_text k) st text → IsReadWhereTold (gen tr runs k) contents st text

@@ -180,16 +180,9 @@ by_job : (files : Files) (old new : Option (List ℕ)) (s : Status) (text : List
     TellsSources asked files old new
 by_job files old new s text done ap (jobs.equal tr w fuel heads a b) h =
     compares files tr w fuel heads a b old new s text done ap h
-by_job files old new s text done ap (jobs.run tr w f q name) h = tt
-by_job files old new s text done ap (jobs.walk tr g q name) h = tt
-by_job files old new s text done ap (jobs.view tr k name) h = tt
-by_job files old new s text done ap (jobs.trace tr w f name) h = tt
-by_job files old new s text done ap (jobs.check tr term journal) h = tt
-by_job files old new s text done ap (jobs.gen tr runs k) h = tt
-by_job files old new s text done ap (jobs.demand tr f q name) h = tt
 by_job files old new s text done ap (jobs.certify tr b w f q name) h =
     certifies files tr b w f q name old new s text done ap h
-by_job files old new s text done ap (jobs.net tr from w f name) h = tt
+by_job files old new s text done ap _ h = tt
 
 pub writes_of_sources : (words : List (String Global)) (files : Files)
     (old new : Option (List ℕ)) (s : Status) → s ≡ Done →

@@ -32,8 +32,7 @@ use Rattle.ol_levels.proofs.Terms.{term_is_levelled}
 use Rattle.ol_meaning.proofs.Based.{places_say}
 use Rattle.ol_confluence.proofs.PrintedTrees.{says_always}
 use Rattle.ol_words.specs.Texts.{Text}
-use Rattle.ol_words.specs.Asked.{Asked, run, walk, view, trace, check, gen, demand, certify}
-use Rattle.ol_words.specs.Asked as jobs
+use Rattle.ol_words.specs.Asked.{Asked, run, walk, gen, demand}
 use Rattle.ol_cli.specs.declared.status.Status.{Status}
 use Rattle.ol_cli.specs.declared.status.Status.TheVariants as status
 use Rattle.ol_cli.specs.Jobs.{AskFor, Files, AreTold, TellsTerm, TellsFiles, term_bytes, translation_in}
@@ -50,6 +49,7 @@ use Rattle.ol_cli.proofs.DemandRuns.{is_start, demand_is_longer}
 use Rattle.ol_cli.proofs.EveryRun.{every_run_prints, every_run_is_longer}
 use Rattle.ol_cli.proofs.OneAnswer.{file_net, file_names, one_job, own_job}
 use Rattle.ol_cli.proofs.Exact.{ends_exact}
+use Rattle.ol_cli.specs.Limits.{plain_fuel, plain_heads}
 
 -- ---- the tree that is written
 
@@ -112,16 +112,10 @@ demands_tree tr t names fuel heads text has d read =
 
 tells_tree : (asked : Asked) (t : Tree) (names : List (List ℕ)) (text : List ℕ) → HasNames t (length names) → TextIsReadAgain asked t names text → TellsTree asked t names text
 tells_tree (run tr workers fuel heads name) t names text has h = prints_tree tr t names fuel heads text has h.0 h.1
-tells_tree (view tr k name) t names text has h = tt
-tells_tree (trace tr w f name) t names text has h = tt
-tells_tree (check tr term journal) t names text has h = tt
-tells_tree (demand tr f q name) t names text has h = demands_tree tr t names f q text has h.0 h.1
-tells_tree (certify tr b w f q name) t names text has h = tt
-tells_tree (jobs.net tr from w f name) t names text has h = tt
-tells_tree (jobs.equal tr w f q first second) t names text has h = tt
-tells_tree (gen tr true k) t names text has h = prints_tree tr t names 200000 4096 text has h.0 h.1
-tells_tree (gen tr false k) t names text has h = tt
 tells_tree (walk tr edges heads name) t names text has h = walks_tree tr t names edges heads text has h.0 h.1
+tells_tree (gen tr true k) t names text has h = prints_tree tr t names plain_fuel plain_heads text has h.0 h.1
+tells_tree (demand tr f q name) t names text has h = demands_tree tr t names f q text has h.0 h.1
+tells_tree _ t names text has h = tt
 
 pub writes_tree : (words : List (String Global)) (bytes : List ℕ) (old new : Option (List ℕ)) → WritesReadable words bytes old new → WritesTree words bytes old new
 writes_tree words bytes old new h asked t names j f =
@@ -197,17 +191,10 @@ module _ (files : Files) (bytes : List ℕ) (st : Status) (text : List ℕ) (old
       let own = subst (λ b. FileAnswer (plain_run tr) b st text) (same_bytes (doubled_text k) bytes told) m in
       runs_tell tr bytes 4 200000 4096 (codes "-") t names f st text old new own written journal net ran last
   answer_tells (gen tr true k) last ran told (of_file has e h) = absurd has
-  answer_tells (gen tr false k) last ran told a = tt
-  answer_tells (walk tr edges heads name) last ran told a = tt
-  answer_tells (view tr after name) last ran told a = tt
-  answer_tells (trace tr w f name) last ran told a = tt
-  answer_tells (check tr term journal) last ran told a = tt
   answer_tells (demand tr fuel heads name) last ran told (of_file {bytes = other} has e h) =
       let own = subst (λ b. FileAnswer (demand tr fuel heads name) b st text) (same_bytes other bytes (sym e ∙ told)) h in
       demand_tells tr bytes fuel heads name t names f journal net ran st text own last
-  answer_tells (certify tr b w f q name) last ran told a = tt
-  answer_tells (jobs.net tr from w f name) last ran told a = tt
-  answer_tells (jobs.equal tr w f q first second) last ran told a = tt
+  answer_tells _ last ran told a = tt
 
 pub answer_runs : (words : List (String Global)) (files : Files) (bytes : List ℕ) → TellsTerm (files 0) words bytes → (st : Status) (text : List ℕ) (old new : Option (List ℕ)) →
     IsAnswer words files st text → Appended old text new → EveryRunTells words bytes st old new
@@ -240,12 +227,5 @@ ends_run words f f' given contents ended quiet bytes tells r g g' old new calm h
     go : (asked : Asked) → AskFor words asked → IsLast asked net → IsRun (start_net_of_term (translation_in asked) t names) 0 journal net → JobTells asked names journal net r old new
     go (run tr workers fuel heads name) j last ran = call (run tr workers fuel heads name) j last ran (one_name contents bytes name (tells (run tr workers fuel heads name) j))
     go (gen tr true k) j last ran = call (gen tr true k) j last ran (no_name tr k)
-    go (gen tr false k) j last ran = tt
-    go (walk tr edges heads name) j last ran = tt
-    go (view tr after name) j last ran = tt
-    go (trace tr w f name) j last ran = tt
-    go (check tr term journal) j last ran = tt
     go (demand tr fuel heads name) j last ran = call (demand tr fuel heads name) j last ran (one_name contents bytes name (tells (demand tr fuel heads name) j))
-    go (certify tr b w f q name) j last ran = tt
-    go (jobs.net tr from w f name) j last ran = tt
-    go (jobs.equal tr w f q first second) j last ran = tt
+    go _ j last ran = tt

@@ -1,5 +1,5 @@
 -- What a job on a term file comes to, by what comes of that file, and by what is answered to its term. Used by each command.
-use Rattle.std.proofs.Common.{sym, subst, ◌≡◌, ℕ, List, Option, None, true, false, ◌∙◌}
+use Rattle.std.proofs.Common.{sym, subst, ◌≡◌, ℕ, List, Option, None, false, ◌∙◌}
 use Rattle.ol_term.specs.Trees.{tree_of}
 use Rattle.ol_term.specs.declared.term_file.TermFile.{TermFile}
 use Rattle.ol_term.specs.declared.translations.Translation.{Translation}
@@ -71,17 +71,11 @@ refused_comes asked has s a r = record {
 -- what is handed back of a job's term file is what the job hands back
 job_hands : (asked : Asked) → HasTermFile asked → (s : Seen) (st : Status) (text : List ℕ)
     (closed : Option ClosedTable) → ReadHands asked s st text closed → JobHands asked s st text closed
-job_hands (run tr w f q name) has s st text closed h = h
-job_hands (walk tr e q name) has s st text closed h = h
-job_hands (view tr k name) has s st text closed h = h
-job_hands (trace tr w f name) has s st text closed h = h
 job_hands (check tr term journal) has s st text closed h = h.2.3
 job_hands (gen tr runs k) has s st text closed h = absurd has
-job_hands (demand tr f q name) has s st text closed h = h
-job_hands (certify tr b w f q name) has s st text closed h = h
-job_hands (jobs.net tr true w f name) has s st text closed h = h
 job_hands (jobs.net tr false w f name) has s st text closed h = absurd has
 job_hands (jobs.equal tr w f q first second) has s st text closed h = absurd has
+job_hands _ has s st text closed h = h
 
 pub term_comes : (asked : Asked) → HasTermFile asked → (s : Seen) (net : Graph) (file : TermFile) →
     ComesOfTerm (translation_in asked) s (file_name asked) (ready.Net net file) → (a : Answer) →

@@ -23,7 +23,7 @@ use Rattle.ol_reduce.specs.Reduced.{IsDone, IsSpent}
 use Rattle.ol_view.specs.WaveTexts.{wave_trace_text}
 use Rattle.ol_cli.specs.declared.status.Status.TheVariants as status
 use Rattle.ol_cli.specs.Run.{start_net_of_term, RunEnds}
-use Rattle.ol_cli.specs.Trace.{TracesWhole, TracesFuel, IsTraceOf}
+use Rattle.ol_cli.specs.Trace.{Traces, IsTraceOf}
 use Rattle.ol_cli.specs.Run.{journal_of}
 use Rattle.ol_cli.specs.Trace.{TraceHands}
 use Rattle.ol_cli.proofs.AnyRun.{any_run_ends}
@@ -44,15 +44,14 @@ module _ (tr : Translation) (t : Tree) (names : List (List ℕ)) (start : Graph)
       let here = same_under Init (net_of start) (translation_of tr t (length names)) same in
       (x.0, waves_kept N (start_net_of_term tr t names) x.1.last P (journal_of w) x.0 here (same_trans x.1.last M P end last) x.1.waves_are, x.2)
 
-  pub spent_traces : IsSpent start fuel seats journal w → TracesFuel tr t names fuel text
+  pub spent_traces : IsSpent start fuel seats journal w → Traces tr t names fuel status.Spent text
   spent_traces d =
       let r = own_run tr t names start same fuel seats w d.table d.last_net d.after in
       let a = d.active in record {
         journal = journal_of w;
         net = r.0;
         run = r.1;
-        left = (a.0, a.1, a.2, active_same d.last_net r.0 r.2 a.0 a.1 a.2 a.3);
-        full = sym (ap length d.read) ∙ d.steps;
+        ends = ((a.0, a.1, a.2, active_same d.last_net r.0 r.2 a.0 a.1 a.2 a.3), sym (ap length d.read) ∙ d.steps);
         written = trace_of d.read d.last_net (words_run tr t names start same fuel seats w d.table d.last_net d.after) r.0 r.2;
       }
 
@@ -66,14 +65,13 @@ module _ (tr : Translation) (t : Tree) (names : List (List ℕ)) (start : Graph)
     trace_of d.read d.last_net (words_run tr t names start same fuel seats w d.table d.last_net d.after) d.last_net (same_refl d.last_net),
   )
 
-  pub done_traces : (last : Graph) → IsDone start fuel seats last journal w → TracesWhole tr t names fuel text
+  pub done_traces : (last : Graph) → IsDone start fuel seats last journal w → Traces tr t names fuel status.Done text
   done_traces last d =
       let r = own_run tr t names start same fuel seats w d.table d.last_net d.after in record {
         journal = journal_of w;
         net = r.0;
         run = r.1;
-        complete = complete_same d.last_net r.0 r.2 d.complete;
-        within = subst (λ (j : List Entry). length j ≤ fuel) d.read d.within;
+        ends = (complete_same d.last_net r.0 r.2 d.complete, subst (λ (j : List Entry). length j ≤ fuel) d.read d.within);
         written = trace_of d.read d.last_net (words_run tr t names start same fuel seats w d.table d.last_net d.after) r.0 r.2;
       }
 
@@ -82,7 +80,7 @@ module _ (tr : Translation) (t : Tree) (names : List (List ℕ)) (start : Graph)
   done_ends last d =
       let T = translation_of tr t (length names) in
       let c = done_traces last d in
-      any_run_ends tr t names fuel (net_same (net_of start) T same n) c.journal c.net c.run c.complete c.within
+      any_run_ends tr t names fuel (net_same (net_of start) T same n) c.journal c.net c.run c.ends.0 c.ends.1
 
   pub done_trace_hands : (last : Graph) → IsDone start fuel seats last journal w → NoNodeTwice (journal_of w) → TraceHands tr t names seats fuel status.Done text (Some w)
   done_trace_hands last d once = (

@@ -76,11 +76,7 @@ file_unseen n asked bytes st text h = go asked st h
     go (jobs.equal tr w f q a b) status.WriteFault h = absurd h.3
     go (jobs.equal tr w f q a b) status.NoMemory h = absurd h.3
     go (jobs.equal tr w f q a b) status.BadNet h = absurd h.3
-    go (jobs.walk tr e q name) st h = h
-    go (jobs.view tr k name) st h = h
-    go (jobs.check tr term journal) st h = h
-    go (jobs.gen tr runs k) st h = h
-    go (jobs.demand tr f q name) st h = h
+    go _ st h = h
 
 pub workers_unseen : WorkersAreNotSeen
 workers_unseen n (jobs.run tr w f q name) files st text (of_file {bytes = m} has e h) =
@@ -100,11 +96,7 @@ workers_unseen n (jobs.equal tr w f q a b) files st text (of_second {bytes' = m}
     of_second e t d isnt (file_unseen n (jobs.run tr w f q b) m st text h)
 workers_unseen n (jobs.equal tr w f q a b) files st text (of_both e t d u is h) =
     of_both e t d u is h
-workers_unseen n (jobs.walk tr e q name) files st text h = h
-workers_unseen n (jobs.view tr k name) files st text h = h
-workers_unseen n (jobs.check tr term journal) files st text h = h
-workers_unseen n (jobs.gen tr runs k) files st text h = h
-workers_unseen n (jobs.demand tr f q name) files st text h = h
+workers_unseen n _ files st text h = h
 
 -- ---- two lists of words
 

@@ -10,7 +10,7 @@ use Rattle.ol_cli.specs.Run.{ReadsLast, RunsOut}
 use Rattle.ol_cli.specs.Texts.{count_line, line}
 use Rattle.ol_cli.specs.declared.status.Status.{Status}
 use Rattle.ol_beta.specs.declared.certifying.Verdict.TheVariants as verdict
-use Rattle.ol_cli.specs.Shapes.{DoneOrSpent}
+use Rattle.ol_cli.specs.Shapes.{DoneOrSpent, TellsFuel}
 
 -- moves, one digit each: 0 into the body of an abstraction, 1 into a function, 2 into an argument
 abbrev pub moves_text : List ℕ → List ℕ
@@ -52,4 +52,4 @@ pub record Certifies (translation : Translation) (t : Tree) (names : List (List 
 -- What `certify` answers to a term: its one-thread run is longer than the fuel, or ends, and the verdict is told.
 abbrev pub CertifyAnswer : Translation → Tree → List (List ℕ) → (steps fuel heads : ℕ) → Status → List ℕ → Type 0
 CertifyAnswer translation t names steps fuel heads =
-    DoneOrSpent (Certifies translation t names steps fuel heads) (RunsOut translation t names fuel) fuel
+    DoneOrSpent (Certifies translation t names steps fuel heads) (TellsFuel (RunsOut translation t names fuel) fuel)

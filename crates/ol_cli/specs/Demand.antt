@@ -13,7 +13,7 @@ use Rattle.ol_term.specs.declared.translations.Translation.{Translation}
 use Rattle.ol_cli.specs.Run.{start_net_of_term}
 use Rattle.ol_cli.specs.Texts.{answer_text}
 use Rattle.ol_cli.specs.declared.status.Status.{Status}
-use Rattle.ol_cli.specs.Shapes.{DoneOrSpent}
+use Rattle.ol_cli.specs.Shapes.{DoneOrSpent, TellsFuel}
 
 -- The demand run from the term's net, of which the first `heads` subterms are asked, ends within `fuel` steps: it rewrites the pairs
 -- of this journal, reads this tree and leaves this net.
@@ -41,4 +41,4 @@ DemandRunsOut translation t names fuel heads = HasMoreSteps (start_net_of_term t
 -- What `demand` answers to a term: its demand run is longer than the fuel, or ends and is printed.
 abbrev pub DemandAnswer : Translation → Tree → List (List ℕ) → (fuel heads : ℕ) → Status → List ℕ → Type 0
 DemandAnswer translation t names fuel heads =
-    DoneOrSpent (Demands translation t names fuel heads) (DemandRunsOut translation t names fuel heads) fuel
+    DoneOrSpent (Demands translation t names fuel heads) (TellsFuel (DemandRunsOut translation t names fuel heads) fuel)

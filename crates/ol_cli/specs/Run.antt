@@ -24,7 +24,7 @@ use Rattle.ol_cli.specs.Listing.{ListsOnce}
 use Rattle.ol_cli.specs.Texts.{answer_text, spent_text}
 use Rattle.ol_cli.specs.declared.status.Status.{Status}
 use Rattle.ol_cli.specs.declared.status.Status.TheVariants as status
-use Rattle.ol_cli.specs.Shapes.{DoneOrSpent}
+use Rattle.ol_cli.specs.Shapes.{DoneOrSpent, TellsFuel}
 
 -- the net of a term with these free names by this translation, its nodes named by their numbers
 abbrev pub start_net_of_term : Translation → Tree → List (List ℕ) → NamedNet NodeName
@@ -81,7 +81,7 @@ pub record ReadsLast (translation : Translation) (t : Tree) (names : List (List 
 -- What `run` answers to a term: its one-thread run is longer than the fuel, or ends and is printed.
 abbrev pub RunAnswer : Translation → Tree → List (List ℕ) → (fuel heads : ℕ) → Status → List ℕ → Type 0
 RunAnswer translation t names fuel heads =
-    DoneOrSpent (Prints translation t names fuel heads) (RunsOut translation t names fuel) fuel
+    DoneOrSpent (Prints translation t names fuel heads) (TellsFuel (RunsOut translation t names fuel) fuel)
 
 -- ---- the closed words
 

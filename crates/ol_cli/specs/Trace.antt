@@ -13,42 +13,33 @@ use Rattle.ol_wire.specs.Closed.{ClosedTable}
 use Rattle.ol_cli.specs.Run.{IsWorkOn, RunEnds, RunsOut, journal_of, start_net_of_term}
 use Rattle.ol_cli.specs.declared.status.Status.{Status}
 use Rattle.ol_cli.specs.declared.status.Status.TheVariants as status
+use Rattle.ol_cli.specs.Shapes.{DoneOrSpent}
 
 -- The text tells each entry of this journal, which leads from the term's net to this one, with its rule and its wave.
 abbrev pub IsTraceOf : Translation → Tree → List (List ℕ) → List Entry → NamedNet NodeName → List ℕ → Type 0
 IsTraceOf translation t names journal net text =
     (waves : List ℕ) × AreWaves (start_net_of_term translation t names) journal net waves × (text ≡ wave_trace_text journal waves)
 
--- The text is the trace of a run of the term, after which no pair is active, with at most `fuel` entries.
-pub record TracesWhole (translation : Translation) (t : Tree) (names : List (List ℕ)) (fuel : ℕ) (text : List ℕ) : Type 0 where
-  pub journal : List Entry
-  pub net : NamedNet NodeName
-  pub run : IsRun (start_net_of_term translation t names) 0 journal net
-  pub complete : IsComplete net
-  pub within : length journal ≤ fuel
-  pub written : IsTraceOf translation t names journal net text
+-- how a run ended whose trace is written: no pair is active, within the fuel; or some pair is, with as many entries as the fuel
+abbrev pub EndsTrace : (fuel : ℕ) → List Entry → NamedNet NodeName → Status → Type 0
+EndsTrace fuel journal net status.Done = IsComplete net × (length journal ≤ fuel)
+EndsTrace fuel journal net status.Spent = HasActive net × (length journal ≡ fuel)
+EndsTrace fuel journal net _ = ⊥
 
--- The text is the trace of a run of the term with `fuel` entries, after which some pair is active.
-pub record TracesFuel (translation : Translation) (t : Tree) (names : List (List ℕ)) (fuel : ℕ) (text : List ℕ) : Type 0 where
+-- The text is the trace of a run of the term that ended so.
+pub record Traces (translation : Translation) (t : Tree) (names : List (List ℕ)) (fuel : ℕ) (st : Status) (text : List ℕ) : Type 0 where
   pub journal : List Entry
   pub net : NamedNet NodeName
   pub run : IsRun (start_net_of_term translation t names) 0 journal net
-  pub left : HasActive net
-  pub full : length journal ≡ fuel
+  pub ends : EndsTrace fuel journal net st
   pub written : IsTraceOf translation t names journal net text
 
 -- What `trace` answers to a term: where its one-thread run ends within the fuel, the trace of any run of it that is complete; where
 -- that run is longer, the trace of any run that has as many entries as the fuel and goes on.
 abbrev pub TraceAnswer : Translation → Tree → List (List ℕ) → (fuel : ℕ) → Status → List ℕ → Type 0
-TraceAnswer translation t names fuel status.Done text = RunEnds translation t names fuel × TracesWhole translation t names fuel text
-TraceAnswer translation t names fuel status.Spent text = RunsOut translation t names fuel × TracesFuel translation t names fuel text
-TraceAnswer translation t names fuel _ text = ⊥
-
--- how the work ended whose trace is written
-abbrev pub EndsTrace : (fuel : ℕ) → List Entry → NamedNet NodeName → Status → Type 0
-EndsTrace fuel journal net status.Done = IsComplete net × (length journal ≤ fuel)
-EndsTrace fuel journal net status.Spent = HasActive net × (length journal ≡ fuel)
-EndsTrace fuel journal net _ = ⊥
+TraceAnswer translation t names fuel =
+    DoneOrSpent (λ text. RunEnds translation t names fuel × Traces translation t names fuel status.Done text)
+    (λ text. RunsOut translation t names fuel × Traces translation t names fuel status.Spent text)
 
 -- the closed words of a term's work that ended so, and the text is the trace of their journal, with its waves
 abbrev pub TraceHands : Translation → Tree → List (List ℕ) → (workers fuel : ℕ) → Status → List ℕ → Option ClosedTable → Type 0
