@@ -1,5 +1,5 @@
 -- The net that a demand run leaves is enough for the places that it was asked for: what it read
--- while it rewrote can be read again from its last net, as that is.
+-- while it rewrote can be read again from its last net, by walks that meet no active pair.
 use Rattle.std.proofs.Common.{◌≡◌, ℕ, ◌<◌, ◌≤◌, ◌⊎◌, inl, inr, List, [], ◌∷◌, ◌++◌, length, refl}
 use Rattle.std.proofs.Common.{sym, subst, arith}
 use Rattle.ol_net.specs.Nets.{NamedNet}

@@ -1,5 +1,6 @@
 -- A chain that meets no pair meets none after a step, whatever pair was rewritten. So what can be
--- read from a net as it is can be read as it is from each net that it is rewritten to.
+-- read from a net by walks that meet no active pair can be read so from each net that it is
+-- rewritten to.
 use Rattle.std.proofs.Common.{◌≡◌, ℕ, zero, suc, ◌<◌, List, [], ◌∷◌, inl, inr, refl}
 use Rattle.std.proofs.Common.{ap, subst, arith}
 use Rattle.ol_invariance.proofs.Runs.{run_keeps as paths_kept}

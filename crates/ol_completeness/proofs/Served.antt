@@ -40,7 +40,7 @@ use Rattle.ol_completeness.proofs.Listing.{step_turn}
 
 -- ---- the ports of what is left to be read
 
-abbrev AllAtPorts : ℕ → List Subterm → Type 0
+abbrev pub AllAtPorts : ℕ → List Subterm → Type 0
 AllAtPorts m [] = Unit {0}
 AllAtPorts m (s ∷ ss) = (s.port < m) × AllAtPorts m ss
 
@@ -65,7 +65,7 @@ ports_kept N M t [] IsRun.end = refl
 ports_kept N M t (e ∷ es) (IsRun.then {M = K} s r) =
     ports_kept K M (suc t) es r ∙ s.step.rewrites.free_ports
 
-found_ports : (M : NamedNet NodeName) (m : ℕ) → IsNet M → M.free_ports ≡ m → (F : List Frame)
+pub found_ports : (M : NamedNet NodeName) (m : ℕ) → IsNet M → M.free_ports ≡ m → (F : List Frame)
     (s : Subterm) (ss : List Subterm) (n : ℕ) {end : chain.End NodeName} {a : Answer} →
     Ends M s.port (asked s.levels n) end → IsFound M F s n end a → AllAtPorts m ss →
     AllAtPorts m (next F s ss a).waiting

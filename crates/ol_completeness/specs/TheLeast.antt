@@ -14,23 +14,25 @@ use Rattle.ol_demand.specs.Laws.{IsStart, ArePairsOf}
 use Rattle.ol_completeness.specs.Complete.{StaysClear}
 use Rattle.ol_completeness.specs.Least.{CanBeRead, IsLeast}
 
--- What can be read from a net as it is can be read so from each net that it is rewritten to,
--- whatever pairs are rewritten.
+-- What can be read from a net by walks that meet no active pair can be read so from each net that
+-- it is rewritten to, whatever pairs are rewritten.
 abbrev pub EnoughIsKept : Type 0
 EnoughIsKept = (N M P : NamedNet NodeName) (heads : ℕ) (journal more : List Entry) → IsStart N →
     StaysClear N → IsRun N 0 journal M → IsRun M (length journal) more P → CanBeRead M heads →
     CanBeRead P heads
 
--- The places that a demand run was asked for can be read as it is from the net that it leaves.
+-- The places that a demand run was asked for can be read from the net that it leaves, by walks that
+-- meet no active pair.
 abbrev pub DemandedIsEnough : Type 0
 DemandedIsEnough = (N M : NamedNet NodeName) (heads : ℕ) (journal : List Entry)
     (places : List ReadNode) → IsStart N → StaysClear N → IsDemandRun N heads journal places M →
     CanBeRead M heads
 
--- The journal of a run from net N is the least for so many places. These places can be read as it
--- is from the net that the run leaves. Each run from net N, of any pairs in any order, that leads
--- to such a net has rewritten, by birth names, each pair of the journal, and is no shorter. And
--- each run that has rewritten these pairs, and maybe more, leads to such a net.
+-- The journal of a run from net N is the least for so many places. These places can be read from
+-- the net that the run leaves, by walks that meet no active pair. Each run from net N, of any pairs
+-- in any order, that leads to such a net has rewritten, by birth names, each pair of the journal,
+-- and is no shorter. And each run that has rewritten these pairs, and maybe more, leads to such a
+-- net.
 pub record IsTheLeast (N : NamedNet NodeName) (heads : ℕ) (journal : List Entry) : Type 0 where
   pub least : IsLeast N heads journal
   pub enough : CanBeRead least.net heads
@@ -73,7 +75,7 @@ EndsWhereOneServes = (N P : NamedNet NodeName) (heads : ℕ) (other : List Entry
 -- ---- wrong demands
 
 -- A run that rewrites one pair more than the demand run leads to a net from which the places can be
--- read as it is, but its journal isn't least.
+-- read by walks that meet no active pair, but its journal isn't least.
 abbrev pub OneMoreIsNotLeast : Type 0
 OneMoreIsNotLeast = (N M P : NamedNet NodeName) (heads : ℕ) (journal : List Entry)
     (places : List ReadNode) (e : Entry) → IsStart N → StaysClear N →
@@ -87,7 +89,7 @@ LongerIsNotLeast = (N M : NamedNet NodeName) (heads : ℕ) (journal other : List
     length journal < length other → IsLeast N heads other → ⊥
 
 -- A run that stops where demand order would meet one pair more, or any other that is no longer,
--- leads to a net from which the places can't be read as it is.
+-- leads to a net from which the places can't be read by walks that meet no active pair.
 abbrev pub StoppedIsNotEnough : Type 0
 StoppedIsNotEnough = (N M P : NamedNet NodeName) (heads : ℕ) (journal other : List Entry) →
     IsStart N → StaysClear N → GoesOn N heads journal M → IsRun N 0 other P →
