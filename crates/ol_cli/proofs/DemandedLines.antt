@@ -1,5 +1,5 @@
 -- Demand order writes the normal form, where there is one.
-use Rattle.std.proofs.Common.{◌≡◌, ◌≤◌, ◌<◌, ℕ, suc, zero, ◌+◌, length, List, [], ◌∷◌, ◌++◌}
+use Rattle.std.proofs.Common.{◌≡◌, ◌≤◌, ℕ, suc, zero, ◌+◌, length, List, [], ◌∷◌, ◌++◌}
 use Rattle.std.proofs.Common.{true, false, Option, String, Global, refl, sym, ap, ◌∙◌, subst, arith}
 use Rattle.ol_io.specs.Outside.{Appended}
 use Rattle.ol_term.specs.declared.translations.Translation.{Translation}
@@ -50,7 +50,7 @@ pub record IsDemanded (tr : Translation) (t : Tree) (names : List (List ℕ)) (v
     pub ends : (fuel heads : ℕ) → steps ≤ fuel → DemandEnds tr t names fuel heads
     pub reads : (fuel heads : ℕ) → length (preorder tree) ≤ heads →
         (d : DemandEnds tr t names fuel heads) → d.tree ≡ preorder tree
-    pub no_more : (fuel heads : ℕ) → steps < fuel → DemandRunsOut tr t names fuel heads → ⊥
+    pub no_more : (fuel heads : ℕ) → steps ≤ fuel → DemandRunsOut tr t names fuel heads → ⊥
 
 pub is_demanded : (tr : Translation) (t : Tree) (names : List (List ℕ)) →
     HasNames t (length names) →
