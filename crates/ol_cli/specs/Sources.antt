@@ -54,7 +54,7 @@ pub record WalksTree (translation : Translation) (t : Tree) (names : List (List 
   pub always : SaysAlways says
   pub read_again : HasAllHeads walks.tree → IsReadBack names walks.tree walks.term
 
--- The same of `demand`. The net that it leaves is one from which the asked places can be read as it is. A run from the term's net, of any
+-- The same of `demand`. The net that it leaves is one from which the asked places can be read by walks that meet no active pair. A run from the term's net, of any
 -- pairs in any order, leads to such a net exactly where it has rewritten each pair that `demand` rewrites, by birth names, and then it is
 -- no shorter; and each complete run leads to one.
 pub record DemandsTree (translation : Translation) (t : Tree) (names : List (List ℕ)) (fuel heads : ℕ) (text : List ℕ) : Type 0 where
@@ -91,7 +91,7 @@ RunTells names fuel heads journal net status.Spent old new = fuel < length journ
 RunTells names fuel heads journal net _ old new = Unit {0}
 
 -- what a run tells of the status of `demand`: where the demand run is longer than the fuel, so is each complete run, and each that leads
--- to a net from which the asked places can be read as it is
+-- to a net from which the asked places can be read by walks that meet no active pair
 abbrev pub DemandTells : (fuel : ℕ) → List Entry → Status → Type 0
 DemandTells fuel journal status.Spent = fuel < length journal
 DemandTells fuel journal _ = Unit {0}
@@ -103,7 +103,7 @@ JobTells (gen translation true k) names journal net st old new = RunTells names 
 JobTells (demand translation fuel heads name) names journal net st old new = DemandTells fuel journal st
 JobTells _ names journal net st old new = Unit {0}
 
--- A run may end with a complete net, and for `demand` also with one from which the asked places can be read as it is.
+-- A run may end with a complete net, and for `demand` also with one from which the asked places can be read by walks that meet no active pair.
 abbrev pub IsLast : Asked → NamedNet NodeName → Type 0
 IsLast (demand translation fuel heads name) net = IsComplete net ⊎ CanBeRead net heads
 IsLast _ net = IsComplete net

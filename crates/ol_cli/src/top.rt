@@ -107,9 +107,9 @@ pub struct Outcome {
 /// a `?`, whatever pairs are stuck, walks of any length give no head in its place: head reduction of
 /// the term there has no end, and the source has no normal form (Barendregt, The Lambda Calculus,
 /// 1984). A `?` of `walk` says only that none of the walks that were tried gave a head. Whatever run
-/// leads to a net from which the same places can be read as it is rewrites, by birth names, each
-/// pair that `demand` rewrites, and is no shorter; so is each complete run, and where `demand` needs
-/// more than F interactions, each complete run does. Where the term has a normal form, `demand` ends
+/// leads to a net from which the same places can be read by walks that meet no active pair rewrites,
+/// by birth names, each pair that `demand` rewrites, and is no shorter; so is each complete run, and
+/// where `demand` needs more than F interactions, each complete run does. Where the term has a normal form, `demand` ends
 /// within some number of interactions, and writes it if as many heads are asked for as it has
 /// places.
 ///
@@ -261,9 +261,10 @@ pub fn ol<R: Threads + Wait + Sync, S: Source, W: Sink, G: Gate + Sync>(
     // - Where `run`, `demand` or `gen --run` prints a `?`, whatever pairs are stuck, paths of any
     //   length give no head in the untouched net in its place, head reduction of the term there has
     //   no end, and the whole term has no normal form. Of a `?` of `walk` nothing more is said.
-    // - The asked places can be read as it is from the net that `demand` leaves. A run, of any pairs
-    //   in any order, leads to such a net exactly where it has rewritten each pair that `demand`
-    //   rewrites, by birth names, and then it is no shorter. Each complete run leads to one.
+    // - From the net that `demand` leaves the asked places can be read by walks that meet no active
+    //   pair. A run, of any pairs in any order, leads to such a net exactly where it has rewritten
+    //   each pair that `demand` rewrites, by birth names, and then it is no shorter. Each complete
+    //   run leads to one.
     ensures tree { OfReadFiles (S.readings src.old) (S.readings src.new) (λ files.
         (bytes : List ℕ) → TellsTerm (files 0) words.now.items bytes
         → IfNoneFailed (S.faults src.old) (S.faults src.new) (W.faults out.old) (W.faults out.new)
@@ -283,7 +284,7 @@ pub fn ol<R: Threads + Wait + Sync, S: Source, W: Sink, G: Gate + Sync>(
     // And each complete run of the own term of `run` or `gen --run`, whatever pairs it takes first,
     // prints what is written, or is longer than the fuel where that is spent. It is longer too
     // where the fuel of `demand` is spent, and so is each run that leads to a net from which the
-    // asked places can be read as it is.
+    // asked places can be read by walks that meet no active pair.
     ensures every_run { OfReadFiles (S.readings src.old) (S.readings src.new) (λ files.
         (bytes : List ℕ) → TellsTerm (files 0) words.now.items bytes
         → IfNoneFailed (S.faults src.old) (S.faults src.new) (W.faults out.old) (W.faults out.new)
