@@ -1,6 +1,7 @@
 -- Leftmost reduction to a normal form: head steps first, and then the arguments, from the first to
 -- the last.
-use Rattle.std.proofs.Common.{◌≡◌, ℕ, zero, suc, ◌+◌, ◌<◌, ◌≤◌, Bool, true, false, ◌⊎◌, inl, inr, List, [], ◌∷◌, Some, None, refl, sym, ap, ◌∙◌, subst, arith}
+use Rattle.std.proofs.Common.{◌≡◌, ℕ, zero, suc, ◌+◌, ◌<◌, ◌≤◌, Bool, true, false, ◌⊎◌, inl, inr}
+use Rattle.std.proofs.Common.{List, [], ◌∷◌, Some, None, refl, sym, ap, ◌∙◌, subst, arith}
 use Rattle.ol_beta.specs.Beta.{contracted}
 use Rattle.ol_beta.specs.Leftmost.{leftmost, is_abstraction}
 use Rattle.ol_meaning.specs.Spots.{Tree, var, free, lam, app, Level, Wire, Place, HeadStep}
@@ -84,7 +85,8 @@ stays (head_app {R = R} {P = P} s e) R' z = by (λ Q r. stays s Q r) (steppy P R
   where
     by : ((Q : Tree) → StepsTo R Q → Spined Q) → Steppy R P R' → Spined R'
     by up (in_function Q r f) = subst Spined (sym f) (with_argument P (up Q r))
-    by up (in_argument Q n r f) = subst Spined (sym f) (record { wire = _; level = _; args = _; spine = head_app s refl })
+    by up (in_argument Q n r f) = subst Spined (sym f)
+        (record { wire = _; level = _; args = _; spine = head_app s refl })
 
 -- ---- an application's steps are those of its function, and then those of its argument
 
@@ -99,15 +101,18 @@ record Parted (R P : Tree) (m : ℕ) : Type 0 where
   argument_none : leftmost argument ≡ None
   sum : m ≡ function_steps + argument_steps
 
-parted : {t v : Tree} {m : ℕ} → LeftmostSteps t v m → leftmost v ≡ None → (R P : Tree) → Spined R → t ≡ app R P → Parted R P m
+parted : {t v : Tree} {m : ℕ} → LeftmostSteps t v m → leftmost v ≡ None → (R P : Tree) → Spined R →
+    t ≡ app R P → Parted R P m
 parted {t = t} ready n R P s e = by (step_or_none R) (step_or_none P)
   where
     none : leftmost (app R P) ≡ None
     none = ap leftmost (sym e) ∙ n
 
-    by : (leftmost R ≡ None) ⊎ ((R' : Tree) × StepsTo R R') → (leftmost P ≡ None) ⊎ ((P' : Tree) × StepsTo P P') → Parted R P 0
+    by : (leftmost R ≡ None) ⊎ ((R' : Tree) × StepsTo R R') →
+        (leftmost P ≡ None) ⊎ ((P' : Tree) × StepsTo P P') → Parted R P 0
     by (inr (R', r)) k = let f = step_fun R R' P (spine_plain s.spine) r in absurd (some_none f.at (sym f.first ∙ none))
-    by (inl a) (inr (P', r)) = let f = within_arg R (neutral s.spine a) [] P P' r in absurd (some_none f.at (sym f.first ∙ none))
+    by (inl a) (inr (P', r)) = let f = within_arg R (neutral s.spine a) [] P P' r in
+        absurd (some_none f.at (sym f.first ∙ none))
     by (inl a) (inl b) = record {
       function = R;
       function_steps = 0;
@@ -120,7 +125,12 @@ parted {t = t} ready n R P s e = by (step_or_none R) (step_or_none P)
       sum = refl;
     }
 parted {t = t} (contract {u = u} {at = at} {m = m} g h l) n R P s e =
-    by (λ R' P' s' e'. parted l n R' P' s' e') (steppy P u s.spine (record { at = at; first = ap leftmost (sym e) ∙ g; gives = ap (λ t. contracted t at) (sym e) ∙ h }))
+    by (λ R' P' s' e'. parted l n R' P' s' e')
+    (steppy P u s.spine (record {
+      at = at;
+      first = ap leftmost (sym e) ∙ g;
+      gives = ap (λ t. contracted t at) (sym e) ∙ h;
+    }))
   where
     by : ((R' P' : Tree) → Spined R' → u ≡ app R' P' → Parted R' P' m) → Steppy R P u → Parted R P (suc m)
     by next (in_function R' r f) =
@@ -176,18 +186,21 @@ body {t = t} {v = v} (contract {u = u} {at = at} {m = m} g h l) n M e = by (λ M
 
 -- ---- head steps first, and then the arguments
 
-module _ (most : ℕ) (fewer : (t v : Tree) (m : ℕ) → m < most → LeftmostSteps t v m → leftmost v ≡ None → Costs true t m) where
+module _ (most : ℕ) (fewer : (t v : Tree) (m : ℕ) → m < most → LeftmostSteps t v m →
+    leftmost v ≡ None → Costs true t m) where
   abbrev Whole : Tree → Type 0
   Whole t = (v : Tree) (m : ℕ) → m ≤ most → LeftmostSteps t v m → leftmost v ≡ None → Costs true t m
 
   abbrev Args : Tree → Type 0
-  Args t = (q : Place) (a : Level) (j : ℕ) → Normal t q a j → (v : Tree) (m : ℕ) → m ≤ most → LeftmostSteps t v m → leftmost v ≡ None → Costs false t m
+  Args t = (q : Place) (a : Level) (j : ℕ) → Normal t q a j → (v : Tree) (m : ℕ) → m ≤ most →
+      LeftmostSteps t v m → leftmost v ≡ None → Costs false t m
 
   no_steps : {t v : Tree} {m : ℕ} → LeftmostSteps t v m → leftmost t ≡ None → m ≡ 0
   no_steps ready n = refl
   no_steps (contract {at = at} e f l) n = absurd (some_none at (sym e ∙ n))
 
-  head_first : {t t' v : Tree} {m : ℕ} → HeadStep t t' → m ≤ most → LeftmostSteps t v m → leftmost v ≡ None → Costs true t m
+  head_first : {t t' v : Tree} {m : ℕ} → HeadStep t t' → m ≤ most → LeftmostSteps t v m →
+      leftmost v ≡ None → Costs true t m
   head_first h b ready n = let r = leftmost_step h in absurd (some_none r.0 (sym r.1 ∙ n))
   head_first {t = t} {v = v} h b (contract {u = u} {m = m} e f l) n =
       let r = leftmost_step h in

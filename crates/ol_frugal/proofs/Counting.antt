@@ -1,6 +1,7 @@
 -- The applications of redexes that the root's walks meet are at most as many as head steps, and
 -- those that all questions come to are at most as many as the leftmost steps to a normal form.
-use Rattle.std.proofs.Common.{◌≡◌, ℕ, suc, ◌+◌, ◌≤◌, Bool, true, false, ◌⊎◌, inl, inr, List, [], ◌∷◌, length, refl, sym, ap, ◌∙◌, subst, arith}
+use Rattle.std.proofs.Common.{◌≡◌, ℕ, suc, ◌+◌, ◌≤◌, Bool, true, false, ◌⊎◌, inl, inr, List, []}
+use Rattle.std.proofs.Common.{◌∷◌, length, refl, sym, ap, ◌∙◌, subst, arith}
 use Rattle.ol_edges.specs.Edges.{IsIn}
 use Rattle.ol_meaning.specs.Spots.{Tree, lam, app, empty, HeadStep, Place, Level}
 use Rattle.ol_meaning.specs.Heads.{Normal, Steps, done, step}
@@ -113,7 +114,8 @@ module _ (τ : Translation) where
     arguments_are : (p : Site) → IsIn p arguments → IsIn (in_argument empty p) ps
     count : length ps ≡ length functions + length arguments
 
-  function_more : {R P : Tree} (p : Site) (ps : List Site) → (IsIn (in_function p) ps → ⊥) → ArgWanted τ R p → Halves R P ps → Halves R P (in_function p ∷ ps)
+  function_more : {R P : Tree} (p : Site) (ps : List Site) → (IsIn (in_function p) ps → ⊥) →
+      ArgWanted τ R p → Halves R P ps → Halves R P (in_function p ∷ ps)
   function_more {R = R} p ps d w r = record {
     functions = p ∷ r.functions;
     arguments = r.arguments;
@@ -134,7 +136,8 @@ module _ (τ : Translation) where
       are q (inl e) = inl (ap in_function e)
       are q (inr i) = inr (r.functions_are q i)
 
-  argument_more : {R P : Tree} (p : Site) (ps : List Site) → (IsIn (in_argument empty p) ps → ⊥) → IsWanted τ P p → Halves R P ps → Halves R P (in_argument empty p ∷ ps)
+  argument_more : {R P : Tree} (p : Site) (ps : List Site) → (IsIn (in_argument empty p) ps → ⊥) →
+      IsWanted τ P p → Halves R P ps → Halves R P (in_argument empty p ∷ ps)
   argument_more {P = P} p ps d w r = record {
     functions = r.functions;
     arguments = p ∷ r.arguments;
@@ -180,7 +183,8 @@ module _ (τ : Translation) where
     are : (p : Site) → IsIn p sites → IsIn (in_lam p) ps
     count : length ps ≡ length sites
 
-  body_more : {M : Tree} (p : Site) (ps : List Site) → (IsIn (in_lam p) ps → ⊥) → ArgWanted τ M p → Bodies M ps → Bodies M (in_lam p ∷ ps)
+  body_more : {M : Tree} (p : Site) (ps : List Site) → (IsIn (in_lam p) ps → ⊥) → ArgWanted τ M p →
+      Bodies M ps → Bodies M (in_lam p ∷ ps)
   body_more {M = M} p ps d w r = record {
     sites = p ∷ r.sites;
     differ = ((λ i. d (r.are p i)), r.differ);
@@ -210,7 +214,8 @@ module _ (τ : Translation) where
   Claim true t p = IsWanted τ t p
   Claim false t p = ArgWanted τ t p
 
-  few : {b : Bool} {t : Tree} {m : ℕ} → Costs b t m → (ps : List Site) → AreDifferent ps → Are (Claim b t) ps → length ps ≤ m
+  few : {b : Bool} {t : Tree} {m : ℕ} → Costs b t m → (ps : List Site) → AreDifferent ps →
+      Are (Claim b t) ps → length ps ≤ m
   few (head {t = t} {t' = t'} h k) ps d f =
       let r = one_fewer τ h (IsWanted τ t) (IsWanted τ t') (wanted_goes τ h) ps d f in
       let x = few k r.0 r.1 r.2 in
@@ -233,5 +238,6 @@ module _ (τ : Translation) where
       let y = r.count in
       omega arith
 
-  pub wanted_few : {t : Tree} {m : ℕ} → Costs true t m → (ps : List Site) → AreDifferent ps → Are (IsWanted τ t) ps → length ps ≤ m
+  pub wanted_few : {t : Tree} {m : ℕ} → Costs true t m → (ps : List Site) → AreDifferent ps →
+      Are (IsWanted τ t) ps → length ps ≤ m
   wanted_few k ps d f = few k ps d f

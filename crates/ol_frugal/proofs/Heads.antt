@@ -1,12 +1,17 @@
 -- A head step takes the sites of a term's applications, but its own redex's, to those of the next term.
 use Rattle.std.proofs.Common.{◌≡◌, Bool, true, false, ◌⊎◌, inl, inr, refl, sym, ap, ◌∙◌}
-use Rattle.ol_meaning.specs.Spots.{Tree, lam, app, Level, empty, Context, Place, root, Spot, at, body, fun, arg, subst_for, Cut, inM, inN, Held, Opens, in_m, in_n, top, IsSpotOf, is_abstraction, HeadStep, beta, below, before}
+use Rattle.ol_meaning.specs.Spots.{Tree, lam, app, Level, empty, Context, Place, root, Spot, at}
+use Rattle.ol_meaning.specs.Spots.{body, fun, arg, subst_for, Cut, inM, inN, Held, Opens, in_m}
+use Rattle.ol_meaning.specs.Spots.{in_n, top, IsSpotOf, is_abstraction, HeadStep, beta, below}
+use Rattle.ol_meaning.specs.Spots.{before}
 use Rattle.ol_meaning.specs.Steps.{SameRedex, redex_root, SameBelow, SameBefore, before_root, Same}
 use Rattle.ol_meaning.proofs.There.{root_is}
-use Rattle.ol_meaning.proofs.Ways.{Way, way_below, below_is, is_below, way_before, before_is, is_before, Below, parts, sides, Before, funs, args, edges}
+use Rattle.ol_meaning.proofs.Ways.{Way, way_below, below_is, is_below, way_before, before_is}
+use Rattle.ol_meaning.proofs.Ways.{is_before, Below, parts, sides, Before, funs, args, edges}
 use Rattle.ol_meaning.proofs.Betas.{Through, way_there, there_is, is_there}
 use Rattle.ol_term.specs.declared.translations.Translation.{Translation}
-use Rattle.ol_spots_net.specs.Sites.{Site, self, in_lam, in_function, in_argument, spot_in, PartAt, whole, of_lam, of_function, of_argument}
+use Rattle.ol_spots_net.specs.Sites.{Site, self, in_lam, in_function, in_argument, spot_in, PartAt}
+use Rattle.ol_spots_net.specs.Sites.{whole, of_lam, of_function, of_argument}
 use Rattle.ol_frugal.proofs.Sites.{base, Is, Stands, no_root, one_site}
 use Rattle.ol_frugal.proofs.Cuts.{m_moves, n_moves, m_n_apart, n_n_one}
 
@@ -37,7 +42,8 @@ pub record Step (τ : Translation) (t t' : Tree) (S : Place → Level → Level 
 
 -- ---- at the redex
 
-spot_fits : (τ : Translation) (N : Tree) (b : Bool) (p : Site) (v : Level) (c : Context) → IsSpotOf τ N (spot_in p (base b v c))
+spot_fits : (τ : Translation) (N : Tree) (b : Bool) (p : Site) (v : Level) (c : Context) →
+    IsSpotOf τ N (spot_in p (base b v c))
 spot_fits τ N true self v c = tt
 spot_fits τ N false self v c = tt
 spot_fits τ N b (in_lam p) v c = tt
@@ -117,7 +123,8 @@ module _ (τ : Translation) (M N : Tree) where
       by k e = elim e [ ]
   beta_comes p c z (at_m {p = q} (u, m, h)) r = by r.cut r.opens r.held
     where
-      by : (k : Cut) → Opens τ N M (fun (body (spot_in q (base false empty c)))) k → Held τ N M 0 k z → Comes new_term c z
+      by : (k : Cut) → Opens τ N M (fun (body (spot_in q (base false empty c)))) k →
+          Held τ N M 0 k z → Comes new_term c z
       by k in_m e =
           let x = (m_moves false 0 empty c z m h e).0 in
           record { site = x.site; is = x.is; there = x.there }
@@ -178,7 +185,8 @@ module _ (τ : Translation) (M N : Tree) where
     redex = self;
     goes = λ p v c z h r. goes (beta_goes p v c z (where_is true p h) (there_is τ M N r));
     comes = λ p c z h r. beta_comes p c z (where_is false p h) (there_is τ M N r);
-    one = λ p q v c z h k f g r s. beta_one p q v c z (where_is true p h) (where_is true q k) f g (there_is τ M N r) (there_is τ M N s);
+    one = λ p q v c z h k f g r s. beta_one p q v c z (where_is true p h) (where_is true q k) f g
+        (there_is τ M N r) (there_is τ M N s);
     top = λ v c z e r. beta_top v c z (there_is τ M N r);
   }
     where
@@ -198,7 +206,8 @@ module _ {τ : Translation} (M M' : Tree) (S : Place → Level → Level → Typ
   lam_goes self v c z (u, whole, h) r = absurd h
   lam_goes (in_lam p) v c z (u, of_lam m, h) (parts {z = y} r) = by (k.goes p v c y (u, m, h) r)
     where
-      by : (p ≡ k.redex) ⊎ Goes M' k.way.R p v c y → (in_lam p ≡ in_lam k.redex) ⊎ Goes (lam M') B (in_lam p) v c (body y)
+      by : (p ≡ k.redex) ⊎ Goes M' k.way.R p v c y →
+          (in_lam p ≡ in_lam k.redex) ⊎ Goes (lam M') B (in_lam p) v c (body y)
       by (inl e) = inl (ap in_lam e)
       by (inr g) = inr (record {
         site = in_lam g.site;
@@ -219,7 +228,8 @@ module _ {τ : Translation} (M M' : Tree) (S : Place → Level → Level → Typ
   lam_comes (in_argument _ _) c z h x = elim x [ ]
 
   lam_one : (p q : Site) (v : Level) (c : Context) (z : Spot) → Stands true (lam M) p → Stands true (lam M) q →
-      (p ≡ in_lam k.redex → ⊥) → (q ≡ in_lam k.redex → ⊥) → B (spot_in p (base true v c)) z → B (spot_in q (base true v c)) z → p ≡ q
+      (p ≡ in_lam k.redex → ⊥) → (q ≡ in_lam k.redex → ⊥) → B (spot_in p (base true v c)) z →
+      B (spot_in q (base true v c)) z → p ≡ q
   lam_one self q v c z (u, whole, h) h' f g r s = absurd h
   lam_one (in_lam p) self v c z h (u, whole, h') f g r s = absurd h'
   lam_one (in_lam p) (in_lam q) v c z (u, of_lam m, h) (u', of_lam m', h') f g (parts {z = y} r) (parts s) =
@@ -235,18 +245,25 @@ module _ {τ : Translation} (M M' : Tree) (S : Place → Level → Level → Typ
     redex = in_lam k.redex;
     goes = λ p v c z h r. goes (lam_goes p v c z h (below_is M M' S true k.way r));
     comes = λ p c z h r. lam_comes p c z h (below_is M M' S true k.way r);
-    one = λ p q v c z h h' f g r s. lam_one p q v c z h h' f g (below_is M M' S true k.way r) (below_is M M' S true k.way s);
+    one = λ p q v c z h h' f g r s. lam_one p q v c z h h' f g (below_is M M' S true k.way r)
+        (below_is M M' S true k.way s);
     top = λ v c z e r. absurd (cc);
   }
     where
       goes : {p : Site} {v : Level} {c : Context} {z : Spot} → (p ≡ in_lam k.redex) ⊎ Goes (lam M') B p v c z →
           (p ≡ in_lam k.redex) ⊎ Goes (lam M') (way_below M M' S true k.way).R p v c z
       goes (inl e) = inl e
-      goes (inr g) = inr (record { site = g.site; is = g.is; there = g.there; all = λ w d. is_below M M' S true k.way (g.all w d) })
+      goes (inr g) = inr (record {
+        site = g.site;
+        is = g.is;
+        there = g.there;
+        all = λ w d. is_below M M' S true k.way (g.all w d);
+      })
 
 -- ---- before an argument
 
-module _ {τ : Translation} (R R' P : Tree) (S : Place → Level → Level → Type 0) (k : Step τ R R' S) (flat : is_abstraction R ≡ false)
+module _ {τ : Translation} (R R' P : Tree) (S : Place → Level → Level → Type 0) (k : Step τ R R' S)
+    (flat : is_abstraction R ≡ false)
     (is : (v v' : Level) → S root v v' → v ≡ v') (keeps : (v : Level) → S root v v) where
   abbrev Q : Spot → Spot → Type 0
   Q = Before k.way.R (SameBefore τ R R' P S)
@@ -261,7 +278,8 @@ module _ {τ : Translation} (R R' P : Tree) (S : Place → Level → Level → T
   })
   app_goes (in_function p) v c z (u, of_function m, h) (funs {z = y} r) = by (k.goes p v c y (u, m, h) r)
     where
-      by : (p ≡ k.redex) ⊎ Goes R' k.way.R p v c y → (in_function p ≡ in_function k.redex) ⊎ Goes (app R' P) Q (in_function p) v c (fun y)
+      by : (p ≡ k.redex) ⊎ Goes R' k.way.R p v c y →
+          (in_function p ≡ in_function k.redex) ⊎ Goes (app R' P) Q (in_function p) v c (fun y)
       by (inl e) = inl (ap in_function e)
       by (inr g) = inr (record {
         site = in_function g.site;
@@ -293,21 +311,26 @@ module _ {τ : Translation} (R R' P : Tree) (S : Place → Level → Level → T
       by (inr g) = no_root g.site v v c c root (sym (k.top v c y flat s) ∙ g.is)
 
   app_one : (p q : Site) (v : Level) (c : Context) (z : Spot) → Stands true (app R P) p → Stands true (app R P) q →
-      (p ≡ in_function k.redex → ⊥) → (q ≡ in_function k.redex → ⊥) → Q (spot_in p (base true v c)) z → Q (spot_in q (base true v c)) z → p ≡ q
+      (p ≡ in_function k.redex → ⊥) → (q ≡ in_function k.redex → ⊥) →
+      Q (spot_in p (base true v c)) z → Q (spot_in q (base true v c)) z → p ≡ q
   app_one self self v c z h h' f g r s = refl
   app_one self (in_function q) v c z h (u, of_function m, h') f g (funs {z = y} r) (funs s) =
       absurd (apart q v c y (u, m, h') (λ e. g (ap in_function e)) s r)
   app_one (in_function p) self v c z (u, of_function m, h) h' f g (funs {z = y} r) (funs s) =
       absurd (apart p v c y (u, m, h) (λ e. f (ap in_function e)) r s)
-  app_one (in_function p) (in_function q) v c z (u, of_function m, h) (u', of_function m', h') f g (funs {z = y} r) (funs s) =
-      ap in_function (k.one p q v c y (u, m, h) (u', m', h') (λ e. f (ap in_function e)) (λ e. g (ap in_function e)) r s)
+  app_one (in_function p) (in_function q) v c z (u, of_function m, h) (u', of_function m', h') f g
+      (funs {z = y} r) (funs s) =
+      ap in_function (k.one p q v c y (u, m, h) (u', m', h') (λ e. f (ap in_function e))
+      (λ e. g (ap in_function e)) r s)
   app_one (in_argument a p) (in_argument l q) v c z h h' f g args s = by s refl refl
     where
-      by : {w z : Spot} → Q w z → w ≡ arg l (spot_in q (base true v c)) → z ≡ arg a (spot_in p (base true v c)) → in_argument a p ≡ in_argument l q
+      by : {w z : Spot} → Q w z → w ≡ arg l (spot_in q (base true v c)) →
+          z ≡ arg a (spot_in p (base true v c)) → in_argument a p ≡ in_argument l q
       by args e e' =
           let x : arg a (spot_in p (base true v c)) ≡ arg l (spot_in q (base true v c)) = sym e' ∙ e in
           let i : a ≡ l = cc in
-          ap (λ a. in_argument a p) i ∙ ap (in_argument l) (one_site p q v v c c (let j : spot_in p (base true v c) ≡ spot_in q (base true v c) = cc in j))
+          ap (λ a. in_argument a p) i ∙ ap (in_argument l)
+          (one_site p q v v c c (let j : spot_in p (base true v c) ≡ spot_in q (base true v c) = cc in j))
       by (funs r) e e' = absurd (cc)
       by (edges r) e e' = absurd (cc)
   app_one self (in_argument l q) v c z h h' f g (funs r) s = elim s [ ]
@@ -326,14 +349,20 @@ module _ {τ : Translation} (R R' P : Tree) (S : Place → Level → Level → T
     goes = λ p v c z h r. goes (app_goes p v c z h (before_is R R' P S true k.way is keeps r));
     comes = λ p c z h r. app_comes p c z h (before_is R R' P S true k.way is keeps r);
     one = λ p q v c z h h' f g r s.
-        app_one p q v c z h h' f g (before_is R R' P S true k.way is keeps r) (before_is R R' P S true k.way is keeps s);
+        app_one p q v c z h h' f g (before_is R R' P S true k.way is keeps r)
+        (before_is R R' P S true k.way is keeps s);
     top = λ v c z e r. top v c z (before_is R R' P S true k.way is keeps r);
   }
     where
       goes : {p : Site} {v : Level} {c : Context} {z : Spot} → (p ≡ in_function k.redex) ⊎ Goes (app R' P) Q p v c z →
           (p ≡ in_function k.redex) ⊎ Goes (app R' P) (way_before R R' P S true k.way is keeps).R p v c z
       goes (inl e) = inl e
-      goes (inr g) = inr (record { site = g.site; is = g.is; there = g.there; all = λ w d. is_before R R' P S true k.way is keeps (g.all w d) })
+      goes (inr g) = inr (record {
+        site = g.site;
+        is = g.is;
+        there = g.there;
+        all = λ w d. is_before R R' P S true k.way is keeps (g.all w d);
+      })
 
       top : (v : Level) (c : Context) (z : Spot) → Q (at root v c) z → z ≡ at root v c
       top v c z (edges before_root) = refl
@@ -341,7 +370,8 @@ module _ {τ : Translation} (R R' P : Tree) (S : Place → Level → Level → T
 -- ---- any head step
 
 module _ (τ : Translation) where
-  root_is_kept : {R R' : Tree} (h : HeadStep R R') → is_abstraction R ≡ false → (v v' : Level) → Same τ h root v v' → v ≡ v'
+  root_is_kept : {R R' : Tree} (h : HeadStep R R') → is_abstraction R ≡ false → (v v' : Level) →
+      Same τ h root v v' → v ≡ v'
   root_is_kept beta e v v' redex_root = refl
   root_is_kept (below h) e v v' r = absurd (cc)
   root_is_kept (before f h) e v v' before_root = refl
@@ -354,4 +384,5 @@ module _ (τ : Translation) where
   pub step_of : {t t' : Tree} (h : HeadStep t t') → Step τ t t' (Same τ h)
   step_of (beta {M = M} {N = N}) = beta_step τ M N
   step_of (below {M = M} {M' = M'} h) = lam_step M M' (Same τ h) (step_of h)
-  step_of (before {R = R} {R' = R'} {P = P} e h) = app_step R R' P (Same τ h) (step_of h) e (root_is_kept h e) (root_keeps h e)
+  step_of (before {R = R} {R' = R'} {P = P} e h) = app_step R R' P (Same τ h) (step_of h) e
+      (root_is_kept h e) (root_keeps h e)

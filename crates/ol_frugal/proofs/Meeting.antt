@@ -1,6 +1,7 @@
 -- A head step keeps the sites that the root's walks meet, one for each, but its own redex's.
 use Rattle.std.proofs.Common.{◌≡◌, ℕ, ◌<◌, true, false, ◌⊎◌, inl, inr, refl, subst}
-use Rattle.ol_meaning.specs.Spots.{Tree, var, free, lam, app, Level, empty, Context, Place, root, Spot, at, Edge, Trail, HeadStep}
+use Rattle.ol_meaning.specs.Spots.{Tree, var, free, lam, app, Level, empty, Context, Place, root}
+use Rattle.ol_meaning.specs.Spots.{Spot, at, Edge, Trail, HeadStep}
 use Rattle.ol_meaning.specs.Heads.{os, outer}
 use Rattle.ol_meaning.specs.Steps.{Same}
 use Rattle.ol_meaning.proofs.Ways.{Next, follow}
@@ -59,7 +60,8 @@ pub record Becomes (τ : Translation) {t t' : Tree} (h : HeadStep t t') (p q : S
 module _ (τ : Translation) {t t' : Tree} (h : HeadStep t t') where
   -- two sites don't become one
   pub becomes_one : (p q r : Site) → Becomes τ h p r → Becomes τ h q r → p ≡ q
-  becomes_one p q r a b = (step_of τ h).one p q empty blank (function_at r empty blank) a.stands b.stands a.other b.other (a.all empty blank) (b.all empty blank)
+  becomes_one p q r a b = (step_of τ h).one p q empty blank
+      (function_at r empty blank) a.stands b.stands a.other b.other (a.all empty blank) (b.all empty blank)
 
   pub matched_goes : (p q : Site) → Becomes τ h p q → Stands true t' q → IsMatched τ t p → IsMatched τ t' q
   matched_goes p q b s m =
@@ -80,12 +82,14 @@ module _ (τ : Translation) {t t' : Tree} (h : HeadStep t t') where
       }
 
   -- a walk comes to it after the step too, from where its place stands then
-  pub goes_on : (p : Site) (y : Place) (v v' : Level) (c : Context) → Same τ h y v v' → Comes τ t (at y v c) p → (p ≡ (step_of τ h).redex → ⊥) →
+  pub goes_on : (p : Site) (y : Place) (v v' : Level) (c : Context) → Same τ h y v v' →
+      Comes τ t (at y v c) p → (p ≡ (step_of τ h).redex → ⊥) →
       (q : Site) × Comes τ t' (at y v' c) q × Becomes τ h p q
   goes_on p y v v' c e m f =
       let w = (step_of τ h).way in
       let k = follow w m.way (w.start y v v' c e) in
-      by k (let a = m.matched in (step_of τ h).goes p m.level m.later k.spot (app a.function a.argument, a.is, tt) k.rel)
+      by k (let a = m.matched in (step_of τ h).goes p m.level m.later k.spot
+      (app a.function a.argument, a.is, tt) k.rel)
     where
       by : (k : Next τ t' (step_of τ h).way.R true (function_at p m.level m.later) (at y v' c) m.steps) →
           (p ≡ (step_of τ h).redex) ⊎ Goes t' (step_of τ h).way.R p m.level m.later k.spot →
@@ -93,7 +97,11 @@ module _ (τ : Translation) {t t' : Tree} (h : HeadStep t t') where
       by k (inl e) = absurd (f e)
       by k (inr g) =
           let a = m.matched in
-          let b : Becomes τ h p g.site = record { stands = (app a.function a.argument, a.is, tt); other = f; all = g.all } in (
+          let b : Becomes τ h p g.site = record {
+            stands = (app a.function a.argument, a.is, tt);
+            other = f;
+            all = g.all;
+          } in (
             g.site,
             record {
               matched = matched_goes p g.site b g.there a;
@@ -106,7 +114,8 @@ module _ (τ : Translation) {t t' : Tree} (h : HeadStep t t') where
           )
 
   -- and from the root, asked for some number of abstractions
-  pub root_goes : (p : Site) (n : ℕ) (c : Context) → Comes τ t (at root (os n empty) c) p → (p ≡ (step_of τ h).redex → ⊥) →
+  pub root_goes : (p : Site) (n : ℕ) (c : Context) → Comes τ t (at root (os n empty) c) p →
+      (p ≡ (step_of τ h).redex → ⊥) →
       (q : Site) × Comes τ t' (at root (os n empty) c) q × Becomes τ h p q
   root_goes p n c m f = elim (least_or (outer t) n) [
     | inl few ↦ absurd (too_few p n m.steps c m.later m.level few m.way)
@@ -117,7 +126,25 @@ module _ (τ : Translation) {t t' : Tree} (h : HeadStep t t') where
   met_goes p m = elim (same_site p (step_of τ h).redex) [
     | inl e ↦ inl e
     | inr f ↦ (
-        let x = root_goes p m.lams m.first (record { matched = m.matched; level = m.level; later = m.later; steps = m.steps; way = m.way }) f in
+        let x = root_goes p m.lams m.first (record {
+          matched = m.matched;
+          level = m.level;
+          later = m.later;
+          steps = m.steps;
+          way = m.way;
+        }) f in
         let y = x.1 in
-        inr (x.0, record { matched = y.matched; lams = m.lams; first = m.first; level = y.level; later = y.later; steps = y.steps; way = y.way }, x.2))
+        inr (
+          x.0,
+          record {
+            matched = y.matched;
+            lams = m.lams;
+            first = m.first;
+            level = y.level;
+            later = y.later;
+            steps = y.steps;
+            way = y.way;
+          },
+          x.2,
+        ))
   ]

@@ -1,5 +1,6 @@
 -- Demand order makes no more beta steps than leftmost reduction.
-use Rattle.std.proofs.Common.{◌≡◌, ℕ, ◌<◌, ◌≤◌, List, [], ◌∷◌, ◌++◌, length, None, true, refl, sym, ap, ◌∙◌, subst, arith}
+use Rattle.std.proofs.Common.{◌≡◌, ℕ, ◌<◌, ◌≤◌, List, [], ◌∷◌, ◌++◌, length, None, true, refl, sym}
+use Rattle.std.proofs.Common.{ap, ◌∙◌, subst, arith}
 use Rattle.std.proofs.lemmas.List.{length_push}
 use Rattle.ol_beta.specs.Leftmost.{leftmost}
 use Rattle.ol_context.specs.Asked.{asked}
@@ -49,7 +50,8 @@ use Rattle.ol_term.specs.declared.translations.Translation.{Translation}
 use Rattle.ol_translate.specs.Names.{HasNames}
 use Rattle.ol_translate.specs.Translation.{translation_of}
 use Rattle.ol_frugal.specs.Steps.{steps_of}
-use Rattle.ol_frugal.specs.Leftmost.{IsSeenFromPlace, SeenOnPlacesIsFew, NeverMoreThanLeftmost, NeverMoreOnTheWay, NeverMoreWherePrinted, NeverMoreThanHead}
+use Rattle.ol_frugal.specs.Leftmost.{IsSeenFromPlace, SeenOnPlacesIsFew, NeverMoreThanLeftmost}
+use Rattle.ol_frugal.specs.Leftmost.{NeverMoreOnTheWay, NeverMoreWherePrinted, NeverMoreThanHead}
 use Rattle.ol_frugal.proofs.Counted.{costs}
 use Rattle.ol_frugal.proofs.Counting.{wanted_few}
 use Rattle.ol_frugal.proofs.Few.{named, sites_of, seen_is_few}
@@ -64,7 +66,8 @@ same_path M N s (ends l) = ends ((s.links _ _).0 l)
 same_path M N s (goes l h x r) = goes ((s.links _ _).0 l) ((s.nodes _ _ _).0 h) x (same_path M N s r)
 
 -- K has the term's own nodes and links, in whatever order its lists have them.
-module _ (τ : Translation) (t : Tree) (names : ℕ) (h : HasNames t names) (K : NamedNet ℕ) (n : IsNet K) (same : SameNet K (translation_of τ t names)) (start : IsStart (net_under Init K)) where
+module _ (τ : Translation) (t : Tree) (names : ℕ) (h : HasNames t names) (K : NamedNet ℕ)
+    (n : IsNet K) (same : SameNet K (translation_of τ t names)) (start : IsStart (net_under Init K)) where
   abbrev R : NamedNet NodeName
   R = net_under Init K
 
@@ -82,7 +85,8 @@ module _ (τ : Translation) (t : Tree) (names : ℕ) (h : HasNames t names) (K :
     count : length redexes ≡ times_applied rule.Beta journal
     seen : (s : Route NodeName) → IsIn s redexes → IsSeenFromPlace R many s
 
-  contracted : {many turns : ℕ} {journal : List Entry} {places : List ReadNode} {M : NamedNet NodeName} {a : Asking} → Turns R many turns journal places M a → Contracted many journal
+  contracted : {many turns : ℕ} {journal : List Entry} {places : List ReadNode}
+      {M : NamedNet NodeName} {a : Asking} → Turns R many turns journal places M a → Contracted many journal
   contracted {many} {turns} {journal} {places} {M} {a} r =
       let d = demand_contracts_the_seen R M many turns journal places a start r in
       let b = betas_are_routes R M 0 journal start.net start.named d.0 in
@@ -93,7 +97,8 @@ module _ (τ : Translation) (t : Tree) (names : ℕ) (h : HasNames t names) (K :
         seen = λ u i. (let x = b.3 u i in d.1 x.1.0 u x.1.1);
       }
 
-  wanted : (many p : ℕ) (c : Context) (q : Site) → IsQuestion R many p c → Comes τ t (at (place p) (c 0) (tail c)) q → IsWanted τ t q
+  wanted : (many p : ℕ) (c : Context) (q : Site) → IsQuestion R many p c →
+      Comes τ t (at (place p) (c 0) (tail c)) q → IsWanted τ t q
   wanted many p c q k m = record {
     place = place p;
     first = c 0;
@@ -102,16 +107,19 @@ module _ (τ : Translation) (t : Tree) (names : ℕ) (h : HasNames t names) (K :
     comes = m;
   }
 
-  pub seen_few : {v : Tree} (l : LeftmostReduces t v) → leftmost v ≡ None → (many : ℕ) (ss : List (Route NodeName)) → routes.AreDifferent ss →
+  pub seen_few : {v : Tree} (l : LeftmostReduces t v) → leftmost v ≡ None →
+      (many : ℕ) (ss : List (Route NodeName)) → routes.AreDifferent ss →
       ((s : Route NodeName) → IsIn s ss → IsSeenFromPlace R many s) → length ss ≤ steps_of l
   seen_few l z many ss d f =
-      let x = sites_of τ t names h R start.net (named K (translation_of τ t names) same) (IsQuestion R many) (IsWanted τ t) (wanted many) ss d f in
+      let x = sites_of τ t names h R start.net (named K (translation_of τ t names) same)
+      (IsQuestion R many) (IsWanted τ t) (wanted many) ss d f in
       let k = wanted_few τ (costs l z) x.sites x.different x.met in
       let c = x.count in
       omega arith
 
   pub never_more : {v : Tree} (l : LeftmostReduces t v) → leftmost v ≡ None →
-      {many turns : ℕ} {journal : List Entry} {places : List ReadNode} {M : NamedNet NodeName} {a : Asking} → Turns R many turns journal places M a → times_applied rule.Beta journal ≤ steps_of l
+      {many turns : ℕ} {journal : List Entry} {places : List ReadNode} {M : NamedNet NodeName}
+      {a : Asking} → Turns R many turns journal places M a → times_applied rule.Beta journal ≤ steps_of l
   never_more l z {many = many} r =
       let k = contracted r in
       let f = seen_few l z many k.redexes k.different k.seen in
@@ -119,13 +127,16 @@ module _ (τ : Translation) (t : Tree) (names : ℕ) (h : HasNames t names) (K :
       omega arith
 
 pub seen_on_places_is_few : SeenOnPlacesIsFew
-seen_on_places_is_few τ t v l z names h g n same many ss d f = seen_few τ t names h (net_of g) n same (is_start g n) l (no_redex v z) many ss d f
+seen_on_places_is_few τ t v l z names h g n same many ss d f = seen_few τ t names h
+    (net_of g) n same (is_start g n) l (no_redex v z) many ss d f
 
 pub never_more_on_the_way : NeverMoreOnTheWay
-never_more_on_the_way τ t v l z names h g n same many turns journal places M a r = never_more τ t names h (net_of g) n same (is_start g n) l (no_redex v z) r
+never_more_on_the_way τ t v l z names h g n same many turns journal places M a r = never_more τ t
+    names h (net_of g) n same (is_start g n) l (no_redex v z) r
 
 pub never_more_than_leftmost : NeverMoreThanLeftmost
-never_more_than_leftmost τ t v l z names h g n same many journal places M d = never_more τ t names h (net_of g) n same (is_start g n) l (no_redex v z) d.run
+never_more_than_leftmost τ t v l z names h g n same many journal places M d = never_more τ t names h
+    (net_of g) n same (is_start g n) l (no_redex v z) d.run
 
 -- ---- where each place has a head
 
@@ -142,12 +153,23 @@ places_moved N M p (sources.found {frames = F} {s = s} h r) =
 pub never_more_where_printed : NeverMoreWherePrinted
 never_more_where_printed τ t names h g n same many journal places M d all =
     let p = paths τ t names h (net_of g) n same (is_start g n) in
-    let levels = start_levelled (net_of g) (same_levelled (translation_of τ t names) (net_of g) (same_sym (net_of g) (translation_of τ t names) same) (term_is_levelled τ t names h)) in
-    let w = places_moved (start_of g) (translation_of τ t names) (λ q c r X. ((p q c r X).1, (p q c r X).0)) (demand_places (start_of g) M many journal places (is_start g n) levels d) in
+    let levels = start_levelled (net_of g)
+    (same_levelled (translation_of τ t names) (net_of g)
+    (same_sym (net_of g) (translation_of τ t names) same) (term_is_levelled τ t names h)) in
+    let w = places_moved (start_of g) (translation_of τ t names)
+    (λ q c r X. ((p q c r X).1, (p q c r X).0))
+    (demand_places (start_of g) M many journal places (is_start g n) levels d) in
     let T = heads_are_whole (translation_of τ t names) true places w in
-    let shown = tree_shows τ t names h true T.tree (subst (λ ns. HasHeadsOf (translation_of τ t names) true ns) (sym T.is_list) w) in
-    let r = shown_normal t true T.tree shown (subst HasAllHeads (sym T.is_list) all) in
-    (T.tree, T.is_list, r.0, r.1, never_more_than_leftmost τ t (term_of T.tree) r.0 r.1 names h g n same many journal places M d)
+    let shown = tree_shows τ t names h true T.tree
+    (subst (λ ns. HasHeadsOf (translation_of τ t names) true ns) (sym T.is_list) w) in
+    let r = shown_normal t true T.tree shown (subst HasAllHeads (sym T.is_list) all) in (
+      T.tree,
+      T.is_list,
+      r.0,
+      r.1,
+      never_more_than_leftmost τ t
+          (term_of T.tree) r.0 r.1 names h g n same many journal places M d,
+    )
 
 -- ---- one head
 
@@ -155,7 +177,8 @@ never_more_where_printed τ t names h g n same many journal places M d all =
 abbrev IsFirst : Asking → Type 0
 IsFirst a = length a.frames < 1 → a.waiting ≡ whole_term ∷ []
 
-turn_first : {many ticket : ℕ} {M P : NamedNet NodeName} {a b : Asking} {es : List Entry} {ns : List ReadNode} → Turn many M ticket a es ns P b → IsFirst a → IsFirst b
+turn_first : {many ticket : ℕ} {M P : NamedNet NodeName} {a b : Asking} {es : List Entry}
+    {ns : List ReadNode} → Turn many M ticket a es ns P b → IsFirst a → IsFirst b
 turn_first (rewrites m) f = f
 turn_first (one_more h l) f = f
 turn_first (finds {F = F} {s = s} {ss = ss} {n = n} {a = a} h x) f = by a
@@ -168,11 +191,13 @@ turn_first (finds {F = F} {s = s} {ss = ss} {n = n} {a = a} h x) f = by a
     by no_head b = absurd (no_more (framed s 0) b)
     by heads.budget b = absurd (no_more (framed s 0) b)
 
-turns_first : {N : NamedNet NodeName} {many turns : ℕ} {journal : List Entry} {places : List ReadNode} {M : NamedNet NodeName} {a : Asking} → Turns N many turns journal places M a → IsFirst a
+turns_first : {N : NamedNet NodeName} {many turns : ℕ} {journal : List Entry}
+    {places : List ReadNode} {M : NamedNet NodeName} {a : Asking} → Turns N many turns journal places M a → IsFirst a
 turns_first begins b = refl
 turns_first (and_then r t) b = turn_first t (turns_first r) b
 
-head_question : {N : NamedNet NodeName} {p : ℕ} {c : Context} → IsQuestion N 1 p c → (p ≡ 0) × ((lams : ℕ) × (c ≡ asked [] lams))
+head_question : {N : NamedNet NodeName} {p : ℕ} {c : Context} → IsQuestion N 1 p c →
+    (p ≡ 0) × ((lams : ℕ) × (c ≡ asked [] lams))
 head_question q =
     let e = turns_first q.made q.below in
     let s : q.subterm ≡ whole_term = cc in

@@ -1,7 +1,9 @@
 -- Sites and their spots: one spot is at one site.
 use Rattle.std.proofs.Common.{◌≡◌, ℕ, suc, Bool, true, false, ◌⊎◌, inl, inr, refl, ap, ◌∙◌}
-use Rattle.ol_meaning.specs.Spots.{Tree, var, free, lam, app, Level, empty, o, star, pair, Context, Wire, Place, root, wire, Spot, at, body, fun, arg, lift, lifted}
-use Rattle.ol_spots_net.specs.Sites.{Site, self, in_lam, in_function, in_argument, spot_in, PartAt, whole, of_lam, of_function, of_argument}
+use Rattle.ol_meaning.specs.Spots.{Tree, var, free, lam, app, Level, empty, o, star, pair, Context}
+use Rattle.ol_meaning.specs.Spots.{Wire, Place, root, wire, Spot, at, body, fun, arg, lift, lifted}
+use Rattle.ol_spots_net.specs.Sites.{Site, self, in_lam, in_function, in_argument, spot_in, PartAt}
+use Rattle.ol_spots_net.specs.Sites.{whole, of_lam, of_function, of_argument}
 
 -- the root of an application's function, and that of an abstraction
 abbrev pub base : Bool → Level → Context → Spot
@@ -62,7 +64,8 @@ one_site (in_argument a p) (in_lam q) v w c d e = absurd (cc)
 one_site (in_argument a p) (in_function q) v w c d e = absurd (cc)
 one_site (in_argument a p) (in_argument u q) v w c d e =
     let k : a ≡ u = cc in
-    ap (λ a. in_argument a p) k ∙ ap (in_argument u) (one_site p q v w c d (let j : spot_in p (base true v c) ≡ spot_in q (base true w d) = cc in j))
+    ap (λ a. in_argument a p) k ∙ ap (in_argument u)
+    (one_site p q v w c d (let j : spot_in p (base true v c) ≡ spot_in q (base true w d) = cc in j))
 
 -- such a spot holds no wire, so lifting leaves it
 pub lifted_spot : (b : Bool) (p : Site) (v : Level) (c : Context) (d i : ℕ) →
@@ -123,12 +126,17 @@ same_site (in_lam p) (in_function q) = inr (λ e. absurd (cc))
 same_site (in_lam p) (in_argument b q) = inr (λ e. absurd (cc))
 same_site (in_function p) self = inr (λ e. absurd (cc))
 same_site (in_function p) (in_lam q) = inr (λ e. absurd (cc))
-same_site (in_function p) (in_function q) = elim (same_site p q) [ inl e ↦ inl (ap in_function e) | inr f ↦ inr (λ e. f (cc)) ]
+same_site (in_function p) (in_function q) = elim
+    (same_site p q) [ inl e ↦ inl (ap in_function e) | inr f ↦ inr (λ e. f (cc)) ]
 same_site (in_function p) (in_argument b q) = inr (λ e. absurd (cc))
 same_site (in_argument a p) self = inr (λ e. absurd (cc))
 same_site (in_argument a p) (in_lam q) = inr (λ e. absurd (cc))
 same_site (in_argument a p) (in_function q) = inr (λ e. absurd (cc))
 same_site (in_argument a p) (in_argument b q) = elim (level_test a b) [
-  | inl e ↦ elim (same_site p q) [ inl e' ↦ inl (ap (λ a. in_argument a p) e ∙ ap (in_argument b) e') | inr f ↦ inr (λ e. f (cc)) ]
+  | inl e ↦ elim (same_site p q) [
+    | inl e' ↦ inl
+        (ap (λ a. in_argument a p) e ∙ ap (in_argument b) e')
+    | inr f ↦ inr (λ e. f (cc))
+  ]
   | inr f ↦ inr (λ e. f (cc))
 ]

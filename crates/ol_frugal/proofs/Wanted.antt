@@ -1,9 +1,13 @@
 -- Applications of redexes that the questions after a term's places come to: a head step keeps them,
 -- but its own redex's, and those of a head normal form are its arguments'.
 use Rattle.std.proofs.Common.{◌≡◌, ℕ, true, ◌⊎◌, inl, inr, refl, sym, ap, subst}
-use Rattle.ol_meaning.specs.Spots.{Tree, lam, app, Level, empty, Context, bound, under, Place, root, wire, at, Edge, Trail, IsRight, HeadStep, beta, below, before}
-use Rattle.ol_meaning.specs.Steps.{SameBelow, below_o, below_star, below_wire, SameBefore, before_root, before_left, before_right, Same}
-use Rattle.ol_meaning.specs.Heads.{os, Spine, head_var, head_free, head_app, Normal, flat, layer, Steps, done, step, SameAlong, Arg, last, earlier, inner, StandsAt}
+use Rattle.ol_meaning.specs.Spots.{Tree, lam, app, Level, empty, Context, bound, under, Place, root}
+use Rattle.ol_meaning.specs.Spots.{wire, at, Edge, Trail, IsRight, HeadStep, beta, below, before}
+use Rattle.ol_meaning.specs.Steps.{SameBelow, below_o, below_star, below_wire, SameBefore}
+use Rattle.ol_meaning.specs.Steps.{before_root, before_left, before_right, Same}
+use Rattle.ol_meaning.specs.Heads.{os, Spine, head_var, head_free, head_app, Normal, flat, layer}
+use Rattle.ol_meaning.specs.Heads.{Steps, done, step, SameAlong, Arg, last, earlier, inner}
+use Rattle.ol_meaning.specs.Heads.{StandsAt}
 use Rattle.ol_term.specs.declared.translations.Translation.{Translation}
 use Rattle.ol_spots_net.specs.Sites.{Site, in_lam, in_function, in_argument, PartAt, function_at}
 use Rattle.ol_frugal.specs.Met.{IsMatched, blank}
@@ -42,10 +46,12 @@ below_keeps f (below_star {a = a} {a' = b} r) = below_star (f (wire (bound 0)) a
 below_keeps f (below_wire {y = y} {a = a} {a' = b} r) = below_wire (f (wire (under y)) a b r)
 
 before_keeps : {τ : Translation} {R R' R'' P : Tree} {S S' : Place → Level → Level → Type 0} → R'' ≡ R' →
-    ((y : Place) (w l : Level) → S y w l → S' y w l) → {y : Place} {w l : Level} → SameBefore τ R R'' P S y w l → SameBefore τ R R' P S' y w l
+    ((y : Place) (w l : Level) → S y w l → S' y w l) → {y : Place} {w l : Level} →
+    SameBefore τ R R'' P S y w l → SameBefore τ R R' P S' y w l
 before_keeps e f before_root = before_root
 before_keeps e f (before_left {y = y} {a = a} {a' = b} g g' r) = before_left g g' (f (wire y) a b r)
-before_keeps {τ} {P = P} e f (before_right {y = y} {w' = l} b v m g g') = before_right b v m g (subst (λ R. IsRight τ R P y b v l) e g')
+before_keeps {τ} {P = P} e f (before_right {y = y} {w' = l} b v m g g') = before_right b v m g
+    (subst (λ R. IsRight τ R P y b v l) e g')
 
 one_step : {t t' t'' : Tree} (h : HeadStep t t') (g : HeadStep t t'') → OneStep h g
 one_step beta beta = record { is = refl; same = λ τ y w l r. r }
@@ -91,7 +97,8 @@ module _ (τ : Translation) {t t' : Tree} (h : HeadStep t t') where
       (l : Level) → Same τ h y w l → SameAlong τ s y l b → After y w d) (sym e)
       (λ s k a g l f f'. record { level = l; same = f; asks = part b s k a g f' })
 
-  wanted_goes_by : (p : Site) (y : Place) (v : Level) (c : Context) → Asks τ t y v c → Comes τ t (at y v c) p → (p ≡ (step_of τ h).redex → ⊥) →
+  wanted_goes_by : (p : Site) (y : Place) (v : Level) (c : Context) → Asks τ t y v c →
+      Comes τ t (at y v c) p → (p ≡ (step_of τ h).redex → ⊥) →
       (q : Site) × IsWanted τ t' q × Becomes τ h p q
   wanted_goes_by p y v c (whole n e) m f =
       let x = root_goes τ h p n c (subst (λ v. Comes τ t (at root v c) p) e m) f in
@@ -103,7 +110,8 @@ module _ (τ : Translation) {t t' : Tree} (h : HeadStep t t') where
       let x = goes_on τ h p y v f'.level c f'.same m f in
       (x.0, record { place = y; first = f'.level; rest = c; asks = f'.asks; comes = x.1 }, x.2)
 
-  pub wanted_goes : (p : Site) → IsWanted τ t p → (p ≡ (step_of τ h).redex) ⊎ ((q : Site) × IsWanted τ t' q × Becomes τ h p q)
+  pub wanted_goes : (p : Site) → IsWanted τ t p →
+      (p ≡ (step_of τ h).redex) ⊎ ((q : Site) × IsWanted τ t' q × Becomes τ h p q)
   wanted_goes p m = elim (same_site p (step_of τ h).redex) [
     | inl e ↦ inl e
     | inr f ↦ inr (wanted_goes_by p m.place m.first m.rest m.asks m.comes f)
@@ -145,13 +153,15 @@ module _ (τ : Translation) where
           trail = subst (λ z. Trail (Edge τ Q) (function_at p empty blank) z r.weight) l.is r.trail;
         }
 
-    at_argument : {q : Place} {a : Level} {j : ℕ} → Normal t q a j → (p : Site) (x y : Place) (v b : Level) (c d : Context) →
+    at_argument : {q : Place} {a : Level} {j : ℕ} → Normal t q a j →
+        (p : Site) (x y : Place) (v b : Level) (c d : Context) →
         Asks τ Q x v c → StandsAt τ k empty x v c y b d → Comes τ t (at y b d) p → ArgWanted τ t p
     at_argument n p x y v b c d a g m =
         let r = follow_in S m.way (S.start x y v b c d g) in
         by r (let i = m.matched in S.goes r.spot p m.level m.later (app i.function i.argument, i.is, tt) r.sit)
       where
-        by : (r : To τ Q S.Sit (at x v c) (function_at p m.level m.later)) → OnSpine t p ⊎ Placed Q (put_in k empty) r.spot p m.level m.later → ArgWanted τ t p
+        by : (r : To τ Q S.Sit (at x v c) (function_at p m.level m.later)) →
+            OnSpine t p ⊎ Placed Q (put_in k empty) r.spot p m.level m.later → ArgWanted τ t p
         by r (inl o) = absurd (unmatched n p o m.matched)
         by r (inr l) = subst (ArgWanted τ t) (sym l.put_is) (put_wanted k l.site (record {
           place = x;
@@ -167,7 +177,8 @@ module _ (τ : Translation) where
           };
         }))
 
-  arg_wanted_by : {t : Tree} {q : Place} {a : Level} {j : ℕ} → Normal t q a j → (p : Site) (y : Place) (v : Level) (c : Context) →
+  arg_wanted_by : {t : Tree} {q : Place} {a : Level} {j : ℕ} → Normal t q a j →
+      (p : Site) (y : Place) (v : Level) (c : Context) →
       Asks τ t y v c → Comes τ t (at y v c) p → ArgWanted τ t p
   arg_wanted_by {t = t} n p y v c (whole l e) m = absurd (none_met n p (record {
     matched = m.matched;
@@ -182,5 +193,6 @@ module _ (τ : Translation) where
       at_argument k n p x y u b l c a g (subst (λ v. Comes τ t (at y v c) p) e m)
   arg_wanted_by n p y v c (part b (step h s) k a g e) m = absurd (normal_stops n h)
 
-  pub arg_wanted : {t : Tree} {q : Place} {a : Level} {j : ℕ} → Normal t q a j → (p : Site) → IsWanted τ t p → ArgWanted τ t p
+  pub arg_wanted : {t : Tree} {q : Place} {a : Level} {j : ℕ} → Normal t q a j → (p : Site) →
+      IsWanted τ t p → ArgWanted τ t p
   arg_wanted n p m = arg_wanted_by n p m.place m.first m.rest m.asks m.comes
