@@ -1,0 +1,10 @@
+//! The bench: answers for those who look closer at a term, a net or a journal. Each command is a
+//! function from bytes to an answer; `bench` reads the files of a command and writes its answer.
+#![tactic(auto)]
+
+mod answers;
+mod placing;
+mod texts;
+
+pub use answers::{Answer, End};
+pub use placing::whereabouts;
