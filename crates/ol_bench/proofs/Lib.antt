@@ -1,1 +1,5 @@
 pub mod Blanks
+pub mod TermSizes
+pub mod Named
+pub mod Moves
+pub mod Walks

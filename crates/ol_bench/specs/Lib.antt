@@ -1,2 +1,6 @@
 -- What clauses of public functions rest on.
 pub mod Places
+pub mod Subjects
+pub mod Steps
+-- What only contracts of private functions and proofs cite.
+pub mod Readied

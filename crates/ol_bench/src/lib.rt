@@ -4,7 +4,11 @@
 
 mod answers;
 mod placing;
+mod stepping;
+mod subjects;
 mod texts;
 
 pub use answers::{Answer, End};
 pub use placing::whereabouts;
+pub use stepping::steps;
+pub use subjects::Subject;
