@@ -3,3 +3,4 @@ pub mod TermSizes
 pub mod Named
 pub mod Moves
 pub mod Walks
+pub mod OneSubject

@@ -2,5 +2,7 @@
 pub mod Places
 pub mod Subjects
 pub mod Steps
+pub mod Tables
 -- What only contracts of private functions and proofs cite.
 pub mod Readied
+pub mod Counted

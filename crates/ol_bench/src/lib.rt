@@ -3,12 +3,14 @@
 #![tactic(auto)]
 
 mod answers;
+mod counting;
 mod placing;
 mod stepping;
 mod subjects;
 mod texts;
 
 pub use answers::{Answer, End};
+pub use counting::{Bounds, Column, Row, counted};
 pub use placing::whereabouts;
 pub use stepping::steps;
 pub use subjects::Subject;
