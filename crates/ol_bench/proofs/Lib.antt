@@ -4,3 +4,4 @@ pub mod Named
 pub mod Moves
 pub mod Walks
 pub mod OneSubject
+pub mod Traced

@@ -4,13 +4,17 @@
 
 mod answers;
 mod counting;
+mod ordering;
 mod placing;
 mod stepping;
 mod subjects;
 mod texts;
+mod top;
 
 pub use answers::{Answer, End};
 pub use counting::{Bounds, Column, Row, counted};
+pub use ordering::{Order, journal};
 pub use placing::whereabouts;
 pub use stepping::steps;
 pub use subjects::Subject;
+pub use top::{Asked, Status, bench};
