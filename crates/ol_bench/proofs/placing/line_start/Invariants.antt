@@ -1,0 +1,10 @@
+use Rattle.std.proofs.Common.{◌≢◌, ℕ, ◌<◌, ◌≤◌}
+use Rattle.std.specs.Prelude.{slice_index}
+use Rattle.ol_bench.proofs.placing.line_start.Given as goal
+
+abbrev pub invariant-loop-start : goal.invariant-loop-start
+invariant-loop-start l =
+    (l.start ≤ l.at) × ((k : ℕ) → l.start ≤ k → k < l.at → slice_index l.bytes k ≢ 10)
+
+abbrev pub decreases-loop-start : goal.decreases-loop-start
+decreases-loop-start l = l.start

@@ -1,0 +1,19 @@
+//! What the commands answer.
+
+/// How a command ended.
+#[derive(Clone, Copy, Debug, PartialEq, Eq)]
+pub enum End {
+    /// The answer is yes, or there was no question of yes and no.
+    Yes,
+    /// The answer is no.
+    No,
+    /// A file was refused: the text says why.
+    Refused,
+}
+
+/// A text, and how the command ended.
+#[derive(Drop)]
+pub struct Answer {
+    pub text: Vec<u8>,
+    pub end: End,
+}

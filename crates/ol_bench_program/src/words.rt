@@ -1,0 +1,251 @@
+//! The words of a command line, read by clap.
+
+ghost use Rattle.std.specs.Prelude.{◌≤◌, IfOk};
+ghost use Rattle.ol_bench.specs.Commands.{IsWithinBounds};
+
+use clap::{Arg, ArgAction, ArgMatches, Command, Error};
+use ol_bench::{Asked, Bounds, Order, Subject};
+use ol_term::Translation;
+use std::alloc::{AllocError, Global};
+
+const OF_TERM: &str = "the file with the term, `-` for standard input";
+
+const OF_TERM_OR_NET: &str = "the file with the term or the net, `-` for standard input";
+
+// The name of a file.
+fn file<'a>(alloc: Global, help: &'a str) -> Arg<'a> {
+    Arg::new(alloc, "name")
+        .required(true)
+        .action(ArgAction::Set)
+        .help(help)
+}
+
+// An option with a number.
+fn number<'a>(alloc: Global, id: &'a str, least: i64, most: i64, help: &'a str) -> Arg<'a> {
+    Arg::new(alloc, id)
+        .long(id)
+        .action(ArgAction::Set)
+        .value_parser(clap::value_parser!(u32).range(least..=most))
+        .help(help)
+}
+
+// An option without a value.
+fn flag<'a>(alloc: Global, id: &'a str, help: &'a str) -> Arg<'a> {
+    Arg::new(alloc, id)
+        .long(id)
+        .action(ArgAction::SetTrue)
+        .help(help)
+}
+
+// A command that reads a term or a net.
+fn on_net<'a>(alloc: Global, name: &'a str, about: &'a str) -> Result<Command<'a>, AllocError> {
+    let translation = "how the term becomes a net, 1 or 2; by itself 2";
+    let command = Command::new(alloc, name).about(about);
+    command
+        .arg(flag(alloc, "net", "the file has a net, as `ol net` writes one"))?
+        .arg(number(alloc, "translation", 1, 2, translation))?
+        .arg(number(
+            alloc,
+            "fuel",
+            0,
+            8_000_000,
+            "the most interactions, by itself 200000",
+        ))?
+        .arg(number(
+            alloc,
+            "heads",
+            1,
+            100_000,
+            "the most places that `demand` asks, by itself 4096",
+        ))
+}
+
+fn journal<'a>(alloc: Global) -> Result<Command<'a>, AllocError> {
+    let order = Arg::new(alloc, "order")
+        .long("order")
+        .required(true)
+        .action(ArgAction::Set)
+        .value_parser(["least", "demand"].as_slice())
+        .help("which pairs come first");
+    on_net(
+        alloc,
+        "journal",
+        "The journal of a run in one of two orders",
+    )?
+    .arg(order)?
+    .arg(file(alloc, OF_TERM_OR_NET))
+}
+
+fn steps<'a>(alloc: Global) -> Result<Command<'a>, AllocError> {
+    Command::new(alloc, "steps")
+        .about("The terms of leftmost reduction, one under another, with the address of each redex")
+        .arg(flag(
+            alloc,
+            "leftmost",
+            "the leftmost redex comes first, as it does by itself",
+        ))?
+        .arg(number(alloc, "most", 0, 10_000, "the most steps, by itself 100"))?
+        .arg(file(alloc, OF_TERM))
+}
+
+fn counts<'a>(alloc: Global) -> Result<Command<'a>, AllocError> {
+    let about = "Interactions and beta steps of a run, a run on demand and leftmost reduction";
+    on_net(alloc, "counts", about)?
+        .arg(number(
+            alloc,
+            "most",
+            0,
+            10_000,
+            "the most leftmost steps, by itself 1000",
+        ))?
+        .arg(file(alloc, OF_TERM_OR_NET))
+}
+
+fn places<'a>(alloc: Global) -> Result<Command<'a>, AllocError> {
+    let byte = Arg::new(alloc, "byte")
+        .required(true)
+        .action(ArgAction::Set)
+        .value_parser(clap::value_parser!(u32).range(0..=402_653_184))
+        .help("the place of the byte, counted from 0");
+    Command::new(alloc, "where")
+        .about("Line and column of a byte of a file, the line and a caret")
+        .arg(file(alloc, "the file, `-` for standard input"))?
+        .arg(byte)
+}
+
+fn command<'a>(alloc: Global) -> Result<Command<'a>, AllocError> {
+    Command::new(alloc, "ol-bench")
+        .bin_name("ol-bench")?
+        .about("Answers for those who look closer at a term, a net or a journal of `ol`")
+        .subcommand_required(true)
+        .subcommand(journal(alloc)?)?
+        .subcommand(steps(alloc)?)?
+        .subcommand(counts(alloc)?)?
+        .subcommand(places(alloc)?)
+}
+
+// The number of an option: what it is by itself where it isn't given, and one of its ends where it
+// is beyond that.
+fn number_of(found: &ArgMatches, id: &str, least: u32, most: u32, default: u32) -> u32
+    requires ends { least ≤ most }
+    requires default { (least ≤ default) × (default ≤ most) }
+    ensures least { least ≤ result }
+    ensures most { result ≤ most }
+{
+    match found.get_one::<u32>(id) {
+        None => default,
+        Some(number) => {
+            if number < least {
+                least
+            } else if number > most {
+                most
+            } else {
+                number
+            }
+        }
+    }
+}
+
+fn subject_of(found: &ArgMatches) -> Subject {
+    if found.get_flag("net") {
+        return Subject::Net;
+    }
+    if number_of(found, "translation", 1, 2, 2) == 1 {
+        Subject::Term(Translation::One)
+    } else {
+        Subject::Term(Translation::Two)
+    }
+}
+
+fn name_of(alloc: Global, found: &ArgMatches) -> Result<String, Error> {
+    match found.get_str("name") {
+        Some(text) => Ok(String::from_str(alloc, text)?),
+        None => Ok(String::new(alloc)),
+    }
+}
+
+fn order_of(found: &ArgMatches) -> Order {
+    match found.get_str("order") {
+        Some("demand") => Order::Demand,
+        _ => Order::Least,
+    }
+}
+
+fn steps_asked(alloc: Global, found: &ArgMatches) -> Result<Asked, Error>
+    ensures { IfOk result IsWithinBounds }
+{
+    let most = number_of(found, "most", 0, 10_000, 100);
+    let name = name_of(alloc, found)?;
+    Ok(Asked::Steps { most, name })
+}
+
+fn counts_asked(alloc: Global, found: &ArgMatches) -> Result<Asked, Error>
+    ensures { IfOk result IsWithinBounds }
+{
+    let bounds = Bounds {
+        fuel: number_of(found, "fuel", 0, 8_000_000, 200_000),
+        heads: number_of(found, "heads", 1, 100_000, 4_096),
+        steps: number_of(found, "most", 0, 10_000, 1_000),
+    };
+    let subject = subject_of(found);
+    let name = name_of(alloc, found)?;
+    Ok(Asked::Counts {
+        subject,
+        bounds,
+        name,
+    })
+}
+
+fn journal_asked(alloc: Global, found: &ArgMatches) -> Result<Asked, Error>
+    ensures { IfOk result IsWithinBounds }
+{
+    let fuel = number_of(found, "fuel", 0, 8_000_000, 200_000);
+    let heads = number_of(found, "heads", 1, 100_000, 4_096);
+    let subject = subject_of(found);
+    let order = order_of(found);
+    let name = name_of(alloc, found)?;
+    Ok(Asked::Journal {
+        subject,
+        order,
+        fuel,
+        heads,
+        name,
+    })
+}
+
+fn place_asked(alloc: Global, found: &ArgMatches) -> Result<Asked, Error>
+    ensures { IfOk result IsWithinBounds }
+{
+    let byte = number_of(found, "byte", 0, 402_653_184, 0);
+    let name = name_of(alloc, found)?;
+    Ok(Asked::Where { byte, name })
+}
+
+// What is asked by what was given behind the name of a command.
+fn asked_of(alloc: Global, name: &str, found: &ArgMatches) -> Result<Asked, Error>
+    ensures { IfOk result IsWithinBounds }
+{
+    match name {
+        "steps" => steps_asked(alloc, found),
+        "counts" => counts_asked(alloc, found),
+        "journal" => journal_asked(alloc, found),
+        _ => place_asked(alloc, found),
+    }
+}
+
+/// What the words ask, with numbers that are within their bounds. An error is what clap says of the
+/// words, or the help that they ask for.
+pub fn asked_by(alloc: Global, words: &Vec<String>) -> Result<Asked, Error>
+    ensures { IfOk result IsWithinBounds }
+{
+    let matches = command(alloc)?.try_get_matches_from(words.as_slice())?;
+    match matches.subcommand() {
+        Some((name, found)) => asked_of(alloc, name, found),
+        // clap takes no words without a command.
+        None => {
+            let byte = 0;
+            let name = String::new(alloc);
+            Ok(Asked::Where { byte, name })
+        }
+    }
+}

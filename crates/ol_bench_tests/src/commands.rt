@@ -1,0 +1,204 @@
+//! Rows of each command over the fakes.
+ghost use Rattle.std.specs.Prelude.{◌≤◌, IfOk};
+ghost use Rattle.ol_bench.specs.Commands.{IsWithinBounds};
+
+use ol_bench::{Asked, Bounds, Order, Status, Subject, bench};
+use ol_io::{MemFile, MemSink, MemSource};
+use ol_term::Translation;
+use std::alloc::{AllocError, Global};
+use std::process::Abort;
+use std::test::Fail;
+
+const ONCE: &[u8] = b"(\\x. x x) (\\y. y)";
+
+const NET: &[u8] = b"ol net 1\nfree 2\nnode eraser -\nnode eraser -\nlink f0 f1\nlink 0.0 1.0\n";
+
+fn counts(subject: Subject, fuel: u32, name: String) -> Asked
+    requires { fuel ≤ 8000000 }
+    ensures { IsWithinBounds result }
+{
+    let bounds = Bounds {
+        fuel,
+        heads: 10,
+        steps: 2,
+    };
+    Asked::Counts {
+        subject,
+        bounds,
+        name,
+    }
+}
+
+fn journal(order: Order, fuel: u32, name: String) -> Asked
+    requires { fuel ≤ 8000000 }
+    ensures { IsWithinBounds result }
+{
+    Asked::Journal {
+        subject: Subject::Term(Translation::Two),
+        order,
+        fuel,
+        heads: 10,
+        name,
+    }
+}
+
+// What a command asks of standard input, with one number.
+fn asked(alloc: Global, command: &str, number: u32) -> Result<Asked, AllocError>
+    requires { number ≤ 8000000 }
+    ensures { IfOk result IsWithinBounds }
+{
+    let name = String::from_str(alloc, "-")?;
+    match command {
+        "where" => Ok(Asked::Where { byte: number, name }),
+        "steps" => Ok(Asked::Steps { most: number, name }),
+        "counts" => Ok(counts(Subject::Term(Translation::Two), number, name)),
+        "counts --net" => Ok(counts(Subject::Net, number, name)),
+        "least" => Ok(journal(Order::Least, number, name)),
+        _ => Ok(journal(Order::Demand, number, name)),
+    }
+}
+
+// Asserts of a row the status, and what is written to the one sink and to the other.
+fn assert_row(
+    rt: &impl Abort,
+    alloc: Global,
+    row: (&str, u32, &[u8], Status, &str),
+) -> Result<(), Fail>
+    requires { row.1 ≤ 8000000 }
+{
+    let (command, number, bytes, status, wanted) = row;
+    let asked = asked(alloc, command, number)?;
+    let mut files = Vec::new(alloc);
+    files.push(MemFile {
+        name: String::from_str(alloc, "-")?,
+        bytes: Vec::from_slice(alloc, bytes)?,
+    })?;
+    let mut src = MemSource::new(files, 65_536, Vec::new(alloc));
+    let mut out = MemSink::new(alloc, 1_048_576, 65_536, Vec::new(alloc))
+        .ok()
+        .ok_or("no memory")?;
+    let mut errors = MemSink::new(alloc, 1_048_576, 65_536, Vec::new(alloc))
+        .ok()
+        .ok_or("no memory")?;
+    let ended = bench(alloc, &asked, &mut src, &mut out, &mut errors);
+    assert_eq!(rt; ended, status, "{command} {number}");
+    let (written, empty) = match status {
+        Status::Refused => (errors.bytes(), out.bytes()),
+        _ => (out.bytes(), errors.bytes()),
+    };
+    assert!(rt; written == wanted.as_bytes(), "{command} {number}");
+    assert!(rt; empty.is_empty(), "{command} {number}");
+    Ok(())
+}
+
+#[test]
+fn places_are_told(rt: HostRuntime) -> Result<(), Fail> {
+    let text = b"a b\n\tx \xce\xbb y)\n".as_slice();
+    let rows: [(&str, u32, &[u8], Status, &str); 5] = [
+        ("where", 0, text, Status::Yes, "line 1, column 1\na b\n^\n"),
+        (
+            "where",
+            3,
+            text,
+            Status::Yes,
+            "line 1, column 4\na b\n   ^\n",
+        ),
+        (
+            "where",
+            11,
+            text,
+            Status::Yes,
+            "line 2, column 8\n\tx λ y)\n\t     ^\n",
+        ),
+        ("where", 13, text, Status::Yes, "line 3, column 1\n\n^\n"),
+        ("where", 14, text, Status::No, "past the end at byte 13\n"),
+    ];
+    for row in rows {
+        assert_row(&rt, rt.alloc(), row)?;
+    }
+    Ok(())
+}
+
+#[test]
+fn steps_are_told(rt: HostRuntime) -> Result<(), Fail> {
+    let first = "(\\a. a a) (\\a. a)\n  at .\n";
+    let two =
+        "(\\a. a a) (\\a. a)\n  at .\n(\\a. a) (\\a. a)\n  at .\n\\a. a\nnormal after 2 steps\n";
+    let left =
+        "(\\a. a a) (\\a. a)\n  at .\n(\\a. a) (\\a. a)\n  at .\na redex is left after 1 steps\n";
+    assert!(rt; two.as_bytes().starts_with(first.as_bytes()));
+    let inner = "f (g ((\\a. a) x))\n  at 22\nf (g x)\nnormal after 1 steps\n";
+    let rows: [(&str, u32, &[u8], Status, &str); 4] = [
+        ("steps", 2, ONCE, Status::Yes, two),
+        ("steps", 1, ONCE, Status::No, left),
+        ("steps", 9, b"f (g ((\\z. z) x))", Status::Yes, inner),
+        ("steps", 9, b"(x", Status::Refused, "syntax at byte 2\n"),
+    ];
+    for row in rows {
+        assert_row(&rt, rt.alloc(), row)?;
+    }
+    Ok(())
+}
+
+#[test]
+fn ways_are_counted(rt: HostRuntime) -> Result<(), Fail> {
+    let once = "                         run      demand    leftmost
+beta                       2           2           2
+fan                        1           1           -
+croissant                  2           2           -
+bracket                    0           0           -
+cross-fan                  2           2           -
+cross-croissant            4           4           -
+cross-bracket              0           0           -
+erase                      0           0           -
+interactions              11          11           -
+stuck                      0           0           -
+";
+    let net = "                         run      demand    leftmost
+beta                       0           0           -
+fan                        0           0           -
+croissant                  0           0           -
+bracket                    0           0           -
+cross-fan                  0           0           -
+cross-croissant            0           0           -
+cross-bracket              0           0           -
+erase                      1           0           -
+interactions               1           0           -
+stuck                      0           0           -
+";
+    let rows: [(&str, u32, &[u8], Status, &str); 3] = [
+        ("counts", 11, ONCE, Status::Yes, once),
+        ("counts --net", 9, NET, Status::Yes, net),
+        (
+            "counts --net",
+            9,
+            b"x",
+            Status::Refused,
+            "bad net at line 1\n",
+        ),
+    ];
+    for row in rows {
+        assert_row(&rt, rt.alloc(), row)?;
+    }
+    Ok(())
+}
+
+#[test]
+fn orders_are_traced(rt: HostRuntime) -> Result<(), Fail> {
+    let small = b"(\\x. x) (\\y. y)".as_slice();
+    let all =
+        "ol trace 2\nbeta 1 0 1\ncross-croissant 2 2 3\ncross-croissant 3 4 1.1\ncroissant 4 1.0 2.0\n";
+    let begun = "ol trace 2\nbeta 1 0 1\ncross-croissant 2 2 3\n";
+    let unused = b"(\\x. y) ((\\x. x) z)".as_slice();
+    let one = "ol trace 2\nbeta 1 0 1\n";
+    let rows: [(&str, u32, &[u8], Status, &str); 4] = [
+        ("least", 9, small, Status::Yes, all),
+        ("least", 2, small, Status::No, begun),
+        ("demand", 9, unused, Status::Yes, one),
+        ("demand", 9, b"", Status::Refused, "syntax at byte 0\n"),
+    ];
+    for row in rows {
+        assert_row(&rt, rt.alloc(), row)?;
+    }
+    Ok(())
+}
