@@ -1,6 +1,6 @@
 -- Two wrong comparisons answer what isn't so: for the law `wrong_comparisons_mislead`.
-use Rattle.std.proofs.Common.{◌≡◌, ℕ, true, List, [], ◌∷◌, refl, sym, ◌∙◌}
-use Rattle.std.specs.Prelude.{codes}
+use Rattle.std.proofs.Common.{◌≡◌, ℕ, true, List, [], ◌∷◌, refl, sym, ap, ◌∙◌, arith}
+use Rattle.std.specs.Prelude.{codes, slice_index_or}
 use Rattle.ol_beta.proofs.Redexes.{no_leftmost}
 use Rattle.ol_readback.specs.Whole.{term, cut, none, more, IsWholeTree}
 use Rattle.ol_readback.specs.declared.answers.HeadVar.TheVariants as var
@@ -34,8 +34,8 @@ says_front = record {
   reduct = app (free 0) (free 0);
   reduces = ready;
   fills = (free 0 ∷ [], refl, (tt, refl));
-  leftmost = λ h. absurd (h.1);
-  normal = λ h. absurd (h.1);
+  leftmost = λ h. absurd h;
+  normal = λ h. absurd h;
   endless = λ e h v r n. absurd h;
 }
 
@@ -55,6 +55,11 @@ one_name n m s =
 one_number : (n m : ℕ) → free n ≡ free m → n ≡ m
 one_number n m e = cc
 
+pub letters_apart : codes "a" ≡ codes "b" → ⊥
+letters_apart e =
+    let f : 97 ≡ 98 = ap (λ (bytes : List ℕ). slice_index_or bytes 0 0) e in
+    absurd (omega (arith, f))
+
 pub numbers_mislead : NumbersMislead
 numbers_mislead = record {
   printed = record {
@@ -67,7 +72,7 @@ numbers_mislead = record {
       λ s. let e : codes "a" ≡ codes "b" = number_of_one (codes "a") (codes "b")
       (one_number (number_of (codes "a")) (number_of (codes "b"))
       (one_name (number_of (codes "a")) (number_of (codes "b")) s)) in
-      absurd (cc);
+      letters_apart e;
 }
 
 pub cut_misleads : CutMisleads

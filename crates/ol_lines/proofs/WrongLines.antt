@@ -1,6 +1,6 @@
 -- Two lines that aren't the normal form of their source: for the law `wrong_lines_mislead`.
 use Rattle.std.proofs.Common.{◌≡◌, ℕ, List, [], ◌∷◌, Some, None, refl, sym, subst, ◌∙◌}
-use Rattle.std.specs.Prelude.{codes}
+use Rattle.std.specs.Prelude.{codes, true, false}
 use Rattle.ol_beta.specs.Beta.{contracted}
 use Rattle.ol_beta.proofs.Redexes.{no_leftmost}
 use Rattle.ol_term.specs.Trees as tree
@@ -11,6 +11,7 @@ use Rattle.ol_confluence.specs.Reductions.{Convertible}
 use Rattle.ol_confluence.specs.Compared.{number_of}
 use Rattle.ol_confluence.proofs.Meetings.{convertible_normal}
 use Rattle.ol_confluence.proofs.Renamings.{number_of_one}
+use Rattle.ol_confluence.proofs.WrongComparisons.{letters_apart}
 use Rattle.ol_lines.specs.NormalForms.{IsNormalFormOf, IsNormalForm}
 use Rattle.ol_lines.specs.WrongLines.{a, b, redex, two_redexes, OtherTermMisleads, ReductMisleads, NamesAreApart}
 
@@ -51,7 +52,12 @@ not_inner n =
     absurd (cc)
 
 pub other_term : OtherTermMisleads
-other_term = (((tt, tt), own), (λ h. absurd (h.0.0)), (tt, own_inner), λ h. not_inner h.1)
+other_term = (
+  ((refl, tt), own),
+  (λ h. let f : false ≡ true = h.0.0 in absurd (cc)),
+  (tt, own_inner),
+  λ h. not_inner h.1,
+)
 
 one_name : (n m : ℕ) → Convertible (tree.free n) (tree.free m) → n ≡ m
 one_name n m c =
@@ -63,7 +69,7 @@ pub names_apart : NamesAreApart
 names_apart c =
     let e : codes "a" ≡ codes "b" = number_of_one (codes "a") (codes "b")
     (one_name (number_of (codes "a")) (number_of (codes "b")) c) in
-    absurd (cc)
+    letters_apart e
 
 pub reduct : ReductMisleads
 reduct = (
