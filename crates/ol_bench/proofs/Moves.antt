@@ -6,7 +6,9 @@ use Rattle.std.specs.Fmt.{decimal}
 use Rattle.ol_bench.specs.Steps.{moves_text}
 
 -- one move more
-pub moves_on : (ms : List ℕ) (k m : ℕ) → slice_get ms k ≡ Some m → moves_text (take (suc k) ms) ≡ moves_text (take k ms) ++ decimal m
+pub moves_on : (ms : List ℕ) (k m : ℕ) → slice_get ms k ≡ Some m →
+    moves_text (take (suc k) ms) ≡ moves_text (take k ms) ++ decimal m
 moves_on [] k m h = absurd (cc)
 moves_on (d ∷ ms) zero m h = let is : d ≡ m = cc in append-nil (decimal d) ∙ ap decimal is
-moves_on (d ∷ ms) (suc k) m h = ap (λ bs. decimal d ++ bs) (moves_on ms k m h) ∙ sym (append_assoc (decimal d) (moves_text (take k ms)) (decimal m))
+moves_on (d ∷ ms) (suc k) m h = ap (λ bs. decimal d ++ bs) (moves_on ms k m h)
+    ∙ sym (append_assoc (decimal d) (moves_text (take k ms)) (decimal m))

@@ -19,7 +19,8 @@ wire_is_small Two d y (lam M) e = absurd (cc)
 wire_is_small Two d y (app M N) e = absurd (cc)
 
 -- an application, by its two parts
-app_bound : (w : Translation) (d : ℕ) (M N : Tree) → term_size M ≤ 2 * size_under w d M → term_size N ≤ 2 * size_under w d N → term_size (app M N) ≤ 2 * size_under w d (app M N)
+app_bound : (w : Translation) (d : ℕ) (M N : Tree) → term_size M ≤ 2 * size_under w d M →
+    term_size N ≤ 2 * size_under w d N → term_size (app M N) ≤ 2 * size_under w d (app M N)
 app_bound w d M N h k = go (bare_variable w d N) refl
   where
     sum : (m n a b c : ℕ) → m ≤ 2 * a → n ≤ 2 * b → b ≤ c → 1 + m + n ≤ 2 * (1 + a + c)
@@ -28,8 +29,11 @@ app_bound w d M N h k = go (bare_variable w d N) refl
     wire : (m n a c : ℕ) → m ≤ 2 * a → n ≡ 1 → 1 + m + n ≤ 2 * (1 + a + c)
     wire m n a c h k = omega arith
 
-    go : (o : Option ℕ) → bare_variable w d N ≡ o → 1 + term_size M + term_size N ≤ 2 * (1 + size_under w d M + size_of_argument o (size_under w d N) (variables d M) (variables d N))
-    go None e = sum (term_size M) (term_size N) (size_under w d M) (size_under w d N) _ h k (own_nodes (size_under w d N) (variables d M) (variables d N))
+    go : (o : Option ℕ) → bare_variable w d N ≡ o →
+        1 + term_size M + term_size N ≤ 2 * (1 + size_under w d M + size_of_argument o
+        (size_under w d N) (variables d M) (variables d N))
+    go None e = sum (term_size M) (term_size N) (size_under w d M) (size_under w d N) _ h k
+        (own_nodes (size_under w d N) (variables d M) (variables d N))
     go (Some y) e = wire (term_size M) (term_size N) (size_under w d M) _ h (wire_is_small w d y N e)
 
 size_bound : (w : Translation) (d : ℕ) (t : Tree) → term_size t ≤ 2 * size_under w d t

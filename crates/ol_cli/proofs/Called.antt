@@ -1,5 +1,6 @@
 -- What a call comes to, by what its answer comes to and by what is written of it.
-use Rattle.std.proofs.Common.{◌≡◌, ◌∙◌, ap, ℕ, List, Option, None, String, Global, Result, Ok, Err, IfOk, inl, inr, refl, sym, subst}
+use Rattle.std.proofs.Common.{◌≡◌, ◌∙◌, ap, ℕ, List, Option, None, String, Global, Result, Ok, Err}
+use Rattle.std.proofs.Common.{IfOk, inl, inr, refl, sym, subst}
 use Rattle.ol_io.specs.declared.outside.NoMemory as no_memory
 use Rattle.ol_words.specs.Asked.{Asked}
 use Rattle.ol_cli.specs.declared.answer.Answer.{Answer}
@@ -19,15 +20,18 @@ module _ (words : List (String Global)) (s : Seen) (g g' : ℕ) (old new : Optio
       Writes made o g g' old new → IfOk made (ComesOfWords words s) → Ends words s o.status g g' old new
   call_ends (Err e) o w h = subst (λ (o : Outcome). Ends words s o.status g g' old new) (sym w.0) (w.2, w.1)
   call_ends (Ok a) o w h = elim w [
-    | inl k ↦ subst (λ (o : Outcome). Ends words s o.status g g' old new) (sym k.0) (written_ends words s a.status a.text.items g g' old new h.caused k.1 k.2)
-    | inr k ↦ subst (λ (o : Outcome). Ends words s o.status g g' old new) (sym k.0) (a.status, a.text.items, h.caused, (k.1, k.2))
+    | inl k ↦ subst (λ (o : Outcome). Ends words s o.status g g' old new) (sym k.0)
+        (written_ends words s a.status a.text.items g g' old new h.caused k.1 k.2)
+    | inr k ↦ subst (λ (o : Outcome). Ends words s o.status g g' old new) (sym k.0)
+        (a.status, a.text.items, h.caused, (k.1, k.2))
   ]
 
   pub call_hands : (made : Result Answer no_memory.NoMemory) (o : Outcome) →
       Writes made o g g' old new → IfOk made (ComesOfWords words s) → Hands words s o.status o.closed old new
   call_hands (Err e) o w h = subst (λ (o : Outcome). Hands words s o.status o.closed old new) (sym w.0) refl
   call_hands (Ok a) o w h = elim w [
-    | inl k ↦ subst (λ (o : Outcome). Hands words s o.status o.closed old new) (sym k.0) (text_hands words s a.status a.text.items a.closed old new k.2 h.closed)
+    | inl k ↦ subst (λ (o : Outcome). Hands words s o.status o.closed old new) (sym k.0)
+        (text_hands words s a.status a.text.items a.closed old new k.2 h.closed)
     | inr k ↦ subst (λ (o : Outcome). Hands words s o.status o.closed old new) (sym k.0) refl
   ]
 
@@ -39,7 +43,8 @@ module _ (words : List (String Global)) (s : Seen) (g g' : ℕ) (old new : Optio
       none : (o : Outcome) → o ≡ record { status = NoMemory; closed = None } → o.status ≡ Done → ⊥
       none o e is = let k : NoMemory ≡ Done = sym (ap (λ (o : Outcome). o.status) e) ∙ is in cc
   call_reads (Ok a) o w h bytes tells is = elim w [
-    | inl k ↦ written_read words (s.contents 0) a.status a.text.items old new h.read k.2 bytes tells (sym (ap (λ (o : Outcome). o.status) k.0) ∙ is)
+    | inl k ↦ written_read words (s.contents 0) a.status a.text.items old new h.read k.2 bytes tells
+        (sym (ap (λ (o : Outcome). o.status) k.0) ∙ is)
     | inr k ↦ (let x : WriteFault ≡ Done = sym (ap (λ (o : Outcome). o.status) k.0) ∙ is in absurd (cc))
   ]
 

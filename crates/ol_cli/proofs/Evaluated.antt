@@ -1,5 +1,6 @@
 -- From the workers' net to what is printed of the term.
-use Rattle.std.proofs.Common.{◌≡◌, ℕ, ◌+◌, ◌*◌, ◌<◌, ◌≤◌, Vec, Global, Result, Ok, Err, IfOk, true, false, List, length, sym, ◌∙◌, subst, inl, inr, ◌⊎◌, arith}
+use Rattle.std.proofs.Common.{◌≡◌, ℕ, ◌+◌, ◌*◌, ◌<◌, ◌≤◌, Vec, Global, Result, Ok, Err, IfOk, true}
+use Rattle.std.proofs.Common.{false, List, length, sym, ◌∙◌, subst, inl, inr, ◌⊎◌, arith}
 use Rattle.std.proofs.lemmas.List.{length-map}
 use Rattle.ol_io.specs.declared.outside.NoMemory.{NoMemory}
 use Rattle.ol_term.specs.declared.translations.Translation.{Translation}
@@ -42,7 +43,9 @@ use Rattle.ol_cli.proofs.KeptPorts.{same_ports}
 use Rattle.ol_cli.proofs.AnyRun.{any_run_with, any_run_runs_out}
 
 -- names that rise with their numbers give two numbers two names
-pub rising_apart : (names : ℕ → NodeName) (n : ℕ) → ((j k : ℕ) → j < k → k < n → comes_before (names j) (names k) ≡ true) → (j k : ℕ) → j < n → k < n → names j ≡ names k → j ≡ k
+pub rising_apart : (names : ℕ → NodeName) (n : ℕ) →
+    ((j k : ℕ) → j < k → k < n → comes_before (names j) (names k) ≡ true) → (j k : ℕ) → j < n →
+    k < n → names j ≡ names k → j ≡ k
 rising_apart names n rising j k bj bk e = elim (which j k) [
   | inl r ↦ elim r [
     | inl lt ↦ absurd (clash j k (rising j k lt bk) e)
@@ -61,22 +64,26 @@ rising_apart names n rising j k bj bk e = elim (which j k) [
         (let z : true ≡ false = sym itself ∙ no in cc)
 
 -- what was read, counted and written of a last net
-pub record Told (names : List (List ℕ)) (heads stuck : ℕ) (journal : List Entry) (last : Graph) (tree : List ReadNode) (term text : List ℕ) : Type 0 where
+pub record Told (names : List (List ℕ)) (heads stuck : ℕ) (journal : List Entry) (last : Graph)
+    (tree : List ReadNode) (term text : List ℕ) : Type 0 where
   pub is_net : IsNet (net_of last)
   pub counted : HasStuck (net_of last) stuck
   pub read : IsTree (net_of last) heads (2 * live (net_of last)) tree
   pub shown : IsTextOf names tree term
   pub written : text ≡ answer_text term (counts_of journal) stuck
 
-module _ (tr : Translation) (t : Tree) (names : List (List ℕ)) (start : Graph) (same : SameNet (net_of start) (translation_of tr t (length names)))
-    (fuel seats : ℕ) (w : ClosedTable) (table : IsTableOf start fuel seats w) (net : NamedNet NodeName) (after : IsAfter w net)
+module _ (tr : Translation) (t : Tree) (names : List (List ℕ)) (start : Graph)
+    (same : SameNet (net_of start) (translation_of tr t (length names)))
+    (fuel seats : ℕ) (w : ClosedTable) (table : IsTableOf start fuel seats w)
+    (net : NamedNet NodeName) (after : IsAfter w net)
   where
     pub words_run : IsRun (net_under Init (net_of start)) 0 (journal_of w) net
     words_run = subst (λ (g : Graph). IsRun (net_under Init (net_of g)) 0 (journal_of w) net) table.1 after
 
     -- the run of the words is one from the term's own net
     pub own_run : (M : NamedNet NodeName) × IsRun (start_net_of_term tr t names) 0 (journal_of w) M × SameNet net M
-    own_run = run_from_same _ (start_net_of_term tr t names) net 0 (journal_of w) (same_under Init (net_of start) (translation_of tr t (length names)) same) words_run
+    own_run = run_from_same _ (start_net_of_term tr t names) net 0 (journal_of w)
+        (same_under Init (net_of start) (translation_of tr t (length names)) same) words_run
 
     pub own_net : IsNet (net_of start) → IsNet (translation_of tr t (length names))
     own_net n = net_same (net_of start) (translation_of tr t (length names)) same n
@@ -84,23 +91,29 @@ module _ (tr : Translation) (t : Tree) (names : List (List ℕ)) (start : Graph)
     pub runs_out : IsNet (net_of start) → HasActive net → length (journal_of w) ≡ fuel → RunsOut tr t names fuel
     runs_out n a full =
         let r = own_run in
-        any_run_runs_out tr t names fuel (own_net n) (journal_of w) r.0 r.1 (inr (full, (a.0, a.1, a.2, active_same net r.0 r.2 a.0 a.1 a.2 a.3)))
+        any_run_runs_out tr t names fuel (own_net n) (journal_of w) r.0 r.1
+        (inr (full, (a.0, a.1, a.2, active_same net r.0 r.2 a.0 a.1 a.2 a.3)))
 
     module _ (last : Graph) (f : IsFrozen net last) where
-      pub one_name : (x y : ℕ) (k l : Kind) (i j : ℕ) → HasNode (net_of last) x k i → HasNode (net_of last) y l j → f.names x ≡ f.names y → x ≡ y
-      one_name x y k l i j h h' e = rising_apart f.names (length last.nodes) f.rising x y (node_below last x k i h) (node_below last y l j h') e
+      pub one_name : (x y : ℕ) (k l : Kind) (i j : ℕ) → HasNode (net_of last) x k i →
+          HasNode (net_of last) y l j → f.names x ≡ f.names y → x ≡ y
+      one_name x y k l i j h h' e = rising_apart f.names (length last.nodes) f.rising x y
+          (node_below last x k i h) (node_below last y l j h') e
 
       -- the run keeps the free ports
       pub ports_kept : last.free ≡ 1 + length names
       ports_kept = f.same.free_ports ∙ same_ports _ net 0 (journal_of w) words_run ∙ same.free_ports
 
-      module _ (heads stuck : ℕ) (tree : List ReadNode) (term text : List ℕ) (told : Told names heads stuck (journal_of w) last tree term text) (within : length (journal_of w) ≤ fuel) (complete : IsComplete net) where
+      module _ (heads stuck : ℕ) (tree : List ReadNode) (term text : List ℕ)
+          (told : Told names heads stuck (journal_of w) last tree term text)
+          (within : length (journal_of w) ≤ fuel) (complete : IsComplete net) where
         abbrev named : NamedNet NodeName
         named = net_under f.names (net_of last)
 
         shows : Shows names heads (journal_of w) named text
         shows =
-            let size : live (net_of last) ≡ live named = sym (length-map (net_of last).nodes (λ (n : ℕ × Kind × ℕ). (f.names n.0, n.1, n.2))) in
+            let size : live (net_of last) ≡ live named = sym
+            (length-map (net_of last).nodes (λ (n : ℕ × Kind × ℕ). (f.names n.0, n.1, n.2))) in
             record {
               stuck = stuck;
               tree = tree;
@@ -108,7 +121,8 @@ module _ (tr : Translation) (t : Tree) (names : List (List ℕ)) (start : Graph)
               is_net = named_net f.names (net_of last) told.is_net one_name;
               once = net_under_once f.names (net_of last) one_name (net_of_once last);
               counted = has_stuck_under f.names (net_of last) told.is_net one_name stuck told.counted;
-              read = subst (λ n. IsTree named heads (2 * n) tree) size (tree_under f.names (net_of last) told.is_net one_name heads (2 * live (net_of last)) tree told.read);
+              read = subst (λ n. IsTree named heads (2 * n) tree) size
+                  (tree_under f.names (net_of last) told.is_net one_name heads (2 * live (net_of last)) tree told.read);
               shown = told.shown;
               written = told.written;
             }
@@ -116,22 +130,42 @@ module _ (tr : Translation) (t : Tree) (names : List (List ℕ)) (start : Graph)
         pub prints_work : PrintsWork names fuel heads (journal_of w) net text
         prints_work = record { complete = complete; within = within; last = last; frozen = f; shows = shows }
 
-        -- what is printed of the workers' net is printed of the one-thread run, and what holds of its tree and term holds of those
-        pub prints_with : (P : List ReadNode → List ℕ → Type 0) → IsNet (net_of start) → P tree term → (p : Prints tr t names fuel heads text) × P p.shows.tree p.shows.term
+        -- what is printed of the workers' net is printed of the one-thread run, and what holds of
+        -- its tree and term holds of those
+        pub prints_with : (P : List ReadNode → List ℕ → Type 0) → IsNet (net_of start) →
+            P tree term → (p : Prints tr t names fuel heads text) × P p.shows.tree p.shows.term
         unfolding shows
         prints_with P n h =
             let r = own_run in
-            let listed : SameNet r.0 named = same_trans r.0 net named (same_sym net r.0 r.2) (same_sym named net f.same) in
-            any_run_with P tr t names fuel heads text (own_net n) (journal_of w) r.0 r.1 (complete_same net r.0 r.2 complete) (record { within = within; listed = named; same = listed; shows = shows }) h
+            let listed : SameNet r.0 named = same_trans r.0 net named (same_sym net r.0 r.2)
+            (same_sym named net f.same) in
+            any_run_with P tr t names fuel heads text (own_net n) (journal_of w) r.0 r.1
+            (complete_same net r.0 r.2 complete)
+            (record { within = within; listed = named; same = listed; shows = shows }) h
 
 -- the tree of the untouched net is that of the translation, and what holds of its tree and term holds of those
-pub walks_with : (P : List ReadNode → List ℕ → Type 0) (tr : Translation) (t : Tree) (names : List (List ℕ)) (net : Graph) → SameNet (net_of net) (translation_of tr t (length names)) → (edges heads : ℕ) (tree : List ReadNode) (term text : List ℕ) →
-    IsTree (net_of net) heads edges tree → IsTextOf names tree term → text ≡ line term → P tree term → (w : Walks tr t names edges heads text) × P w.tree w.term
+pub walks_with : (P : List ReadNode → List ℕ → Type 0) (tr : Translation) (t : Tree)
+    (names : List (List ℕ)) (net : Graph) →
+    SameNet (net_of net) (translation_of tr t (length names)) →
+    (edges heads : ℕ) (tree : List ReadNode) (term text : List ℕ) →
+    IsTree (net_of net) heads edges tree → IsTextOf names tree term → text ≡ line term →
+    P tree term → (w : Walks tr t names edges heads text) × P w.tree w.term
 walks_with P tr t names net start edges heads tree term text r sh w h =
-    let size = same_length (net_of net) (translation_of tr t (length names)) start (net_of_once net) (net_of_parts_once (1 + length names) (nodes_of tr t) (links_of tr t)) in
-    (record { tree = tree; term = term; read = tree_same (net_of net) (translation_of tr t (length names)) start size heads edges tree r; shown = sh; written = w }, h)
+    let size = same_length (net_of net) (translation_of tr t (length names)) start (net_of_once net)
+    (net_of_parts_once (1 + length names) (nodes_of tr t) (links_of tr t)) in (
+      record {
+        tree = tree;
+        term = term;
+        read = tree_same (net_of net)
+            (translation_of tr t (length names)) start size heads edges tree r;
+        shown = sh;
+        written = w;
+      },
+      h,
+    )
 
 -- a text that was made, if one was
-pub reads_text : (P : List ℕ → Type 0) (r : Result (Vec ℕ Global) NoMemory) (text : List ℕ) → IfOk r (λ v. v.items ≡ text) → ((x : List ℕ) → x ≡ text → P x) → IfOk r (λ v. P v.items)
+pub reads_text : (P : List ℕ → Type 0) (r : Result (Vec ℕ Global) NoMemory) (text : List ℕ) →
+    IfOk r (λ v. v.items ≡ text) → ((x : List ℕ) → x ≡ text → P x) → IfOk r (λ v. P v.items)
 reads_text P (Ok v) text h p = p v.items h
 reads_text P (Err e) text h p = tt

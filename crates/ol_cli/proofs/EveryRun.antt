@@ -21,10 +21,13 @@ use Rattle.ol_cli.proofs.TreeTransport.{tree_under}
 use Rattle.ol_cli.proofs.OnePrint.{start_is_net, start_is_named}
 
 -- a net under other names shows the same text, with another journal of the same counts
-unfoldable pub shows_under : (names : List (List ℕ)) (heads : ℕ) (es fs : List Entry) (m : NodeName → NodeName) (N : NamedNet NodeName) (text : List ℕ) →
-    ((x y : NodeName) (k l : Kind) (i j : ℕ) → HasNode N x k i → HasNode N y l j → m x ≡ m y → x ≡ y) → counts_of es ≡ counts_of fs → Shows names heads es N text → Shows names heads fs (net_under m N) text
+unfoldable pub shows_under : (names : List (List ℕ)) (heads : ℕ) (es fs : List Entry)
+    (m : NodeName → NodeName) (N : NamedNet NodeName) (text : List ℕ) →
+    ((x y : NodeName) (k l : Kind) (i j : ℕ) → HasNode N x k i → HasNode N y l j → m x ≡ m y →
+    x ≡ y) → counts_of es ≡ counts_of fs → Shows names heads es N text → Shows names heads fs (net_under m N) text
 shows_under names heads es fs m N text apart counts s =
-    let size : live N ≡ live (net_under m N) = sym (length-map N.nodes (λ (n : NodeName × Kind × ℕ). (m n.0, n.1, n.2))) in
+    let size : live N ≡ live (net_under m N) = sym
+    (length-map N.nodes (λ (n : NodeName × Kind × ℕ). (m n.0, n.1, n.2))) in
     record {
       stuck = s.stuck;
       tree = s.tree;
@@ -32,7 +35,8 @@ shows_under names heads es fs m N text apart counts s =
       is_net = named_net m N s.is_net apart;
       once = net_under_once m N apart s.once;
       counted = has_stuck_under m N s.is_net apart s.stuck s.counted;
-      read = subst (λ n. IsTree (net_under m N) heads (2 * n) s.tree) size (tree_under m N s.is_net apart heads (2 * live N) s.tree s.read);
+      read = subst (λ n. IsTree (net_under m N) heads (2 * n) s.tree) size
+          (tree_under m N s.is_net apart heads (2 * live N) s.tree s.read);
       shown = s.shown;
       written = s.written ∙ ap (λ c. answer_text s.term c s.stuck) counts;
     }
@@ -43,7 +47,9 @@ within m n fuel e b = omega arith
 pub every_run_prints : EveryRunPrints
 every_run_prints tr t names fuel heads text is_net p journal net run complete =
     let N = start_net_of_term tr t names in
-    let a = runs_agree N (start_is_net tr t names is_net) (start_is_named tr t names is_net) p.net net p.journal journal (as_run N p.net 0 p.journal p.run.leads) run p.complete complete in
+    let a = runs_agree N (start_is_net tr t names is_net)
+    (start_is_named tr t names is_net) p.net net p.journal journal
+    (as_run N p.net 0 p.journal p.run.leads) run p.complete complete in
     record {
       within = within (length p.journal) (length journal) fuel a.steps p.run.within;
       listed = net_under a.names p.net;
@@ -54,5 +60,7 @@ every_run_prints tr t names fuel heads text is_net p journal net run complete =
 pub every_run_is_longer : EveryRunIsLonger
 every_run_is_longer tr t names fuel is_net o journal net run complete =
     let N = start_net_of_term tr t names in
-    let shorter = goes_on_shorter N (start_is_net tr t names is_net) (start_is_named tr t names is_net) o.net net o.journal journal (as_run N o.net 0 o.journal o.run.leads) run o.left complete in
+    let shorter = goes_on_shorter N (start_is_net tr t names is_net)
+    (start_is_named tr t names is_net) o.net net o.journal journal
+    (as_run N o.net 0 o.journal o.run.leads) run o.left complete in
     omega (arith, o.full, shorter)

@@ -21,15 +21,20 @@ all_of : (told : Option (List ℕ)) (all bytes : List ℕ) → told ≡ Some all
 all_of told all bytes e whole = sym (rw e at whole)
 
 -- the first file of `equal` is read back, so it isn't refused
-pub read_first : (n : RunNumbers) (first second : Text) (files : Text → Option (List ℕ)) (bytes : List ℕ) (names : List (List ℕ)) (tree : List ReadNode) → IsAllOf (files first) bytes → IsReadOf n bytes names tree →
+pub read_first : (n : RunNumbers) (first second : Text) (files : Text → Option (List ℕ))
+    (bytes : List ℕ) (names : List (List ℕ)) (tree : List ReadNode) → IsAllOf (files first) bytes →
+    IsReadOf n bytes names tree →
     RefusesFirst files (equal n.translation n.workers n.fuel n.heads first second) → ⊥
 read_first n first second files bytes names tree whole r (all, told, (st, text, isnt, h)) =
     let same = all_of (files first) all bytes told whole in
     let h' = subst (λ b. FileAnswer (run n.translation n.workers n.fuel n.heads first) b st text) same h in
-    isnt (read_file n.translation n.workers n.fuel n.heads first bytes (has_tree n bytes names tree r) st text (of_file_answer (run n.translation n.workers n.fuel n.heads first) bytes st text h'))
+    isnt (read_file n.translation n.workers n.fuel n.heads first bytes
+    (has_tree n bytes names tree r) st text
+    (of_file_answer (run n.translation n.workers n.fuel n.heads first) bytes st text h'))
 
 -- the first file of `check` is a term file, so it isn't refused
-pub term_first : (tr : Translation) (term journal : Text) (files : Text → Option (List ℕ)) (bytes : List ℕ) (t : Tree) (names : List (List ℕ)) → IsAllOf (files term) bytes → IsTermFile tr bytes t names →
+pub term_first : (tr : Translation) (term journal : Text) (files : Text → Option (List ℕ))
+    (bytes : List ℕ) (t : Tree) (names : List (List ℕ)) → IsAllOf (files term) bytes → IsTermFile tr bytes t names →
     RefusesFirst files (check tr term journal) → ⊥
 term_first tr term journal files bytes t names whole i (all, told, (st, text, h)) =
     let same = all_of (files term) all bytes told whole in
@@ -37,5 +42,7 @@ term_first tr term journal files bytes t names whole i (all, told, (st, text, h)
     not_refused tr term journal bytes t names st text (of_file_answer (check tr term journal) bytes st text h') i
 
 -- what words ask for is their one job
-pub of_own_job : (words : List (String Global)) (own asked : Asked) (files : Text → Option (List ℕ)) → AskFor words own → AskFor words asked → RefusesFirst files asked → RefusesFirst files own
+pub of_own_job : (words : List (String Global)) (own asked : Asked)
+    (files : Text → Option (List ℕ)) → AskFor words own → AskFor words asked →
+    RefusesFirst files asked → RefusesFirst files own
 of_own_job words own asked files j j' h = subst (λ a. RefusesFirst files a) (one_job words asked own j' j) h

@@ -18,12 +18,15 @@ use Rattle.ol_cli.specs.Handed.{ReadHands, JobHands, WordsHand, WhereEnded}
 
 -- ---- the net that is handed to the workers
 
-pub whole_net : (net : Graph) (parts : List (Kind × ℕ)) → net.nodes ≡ all_live parts → count_by is_some net.nodes ≡ length net.nodes
-whole_net net parts e = ap (count_by is_some) e ∙ count_by-all_live parts ∙ sym (length-all_live parts) ∙ sym (ap length e)
+pub whole_net : (net : Graph) (parts : List (Kind × ℕ)) → net.nodes ≡ all_live parts →
+    count_by is_some net.nodes ≡ length net.nodes
+whole_net net parts e = ap (count_by is_some) e ∙ count_by-all_live parts
+    ∙ sym (length-all_live parts) ∙ sym (ap length e)
 
 -- ---- what is handed back
 
-pub where_ended : (st : Status) (closed : Option ClosedTable) (P Q : Type 0) → (P → Q) → WhereEnded st closed P → WhereEnded st closed Q
+pub where_ended : (st : Status) (closed : Option ClosedTable) (P Q : Type 0) → (P → Q) →
+    WhereEnded st closed P → WhereEnded st closed Q
 where_ended status.Done closed P Q f h = f h
 where_ended status.Spent closed P Q f h = f h
 where_ended status.Usage closed P Q f h = h
@@ -72,7 +75,8 @@ module _ (t : Tree) (names : List (List ℕ)) (text : List ℕ) (closed : Option
   none_at_bad_net _ h = h
 
 -- what is handed back of a term is handed back of its file
-pub file_hands : (asked : Asked) (bytes : List ℕ) (t : Tree) (names : List (List ℕ)) → IsTermFile (translation_in asked) bytes t names → (st : Status) (text : List ℕ) (closed : Option ClosedTable) →
+pub file_hands : (asked : Asked) (bytes : List ℕ) (t : Tree) (names : List (List ℕ)) →
+    IsTermFile (translation_in asked) bytes t names → (st : Status) (text : List ℕ) (closed : Option ClosedTable) →
     TermHands asked t names st text closed → WhereEnded st closed (FileHands asked bytes st text closed)
 file_hands asked bytes t names i status.Done text closed h = (t, names, i, h)
 file_hands asked bytes t names i status.Spent text closed h = (t, names, i, h)
@@ -96,15 +100,23 @@ none_ended status.NoMemory closed h = h
 none_ended status.Limit closed h = h
 none_ended status.BadNet closed h = h
 
-pub read_hands : (asked : Asked) (s : Seen) (bytes : List ℕ) (st : Status) (text : List ℕ) (closed : Option ClosedTable) → GaveAll s (file_name asked) bytes →
-    WhereEnded st closed (FileHands asked bytes st text closed) → WhereEnded st closed (ReadHands asked s st text closed)
-read_hands asked s bytes st text closed gave h = where_ended st closed (FileHands asked bytes st text closed) (ReadHands asked s st text closed) (λ h. (bytes, gave, h)) h
+pub read_hands : (asked : Asked) (s : Seen) (bytes : List ℕ) (st : Status) (text : List ℕ)
+    (closed : Option ClosedTable) → GaveAll s (file_name asked) bytes →
+    WhereEnded st closed (FileHands asked bytes st text closed) →
+    WhereEnded st closed (ReadHands asked s st text closed)
+read_hands asked s bytes st text closed gave h = where_ended st closed
+    (FileHands asked bytes st text closed) (ReadHands asked s st text closed) (λ h. (bytes, gave, h)) h
 
-pub words_hand : (words : List (String Global)) (asked : Asked) (s : Seen) (st : Status) (text : List ℕ) (closed : Option ClosedTable) → AskFor words asked →
+pub words_hand : (words : List (String Global)) (asked : Asked) (s : Seen) (st : Status)
+    (text : List ℕ) (closed : Option ClosedTable) → AskFor words asked →
     WhereEnded st closed (JobHands asked s st text closed) → WhereEnded st closed (WordsHand words s st text closed)
-words_hand words asked s st text closed j h = where_ended st closed (JobHands asked s st text closed) (WordsHand words s st text closed) (λ h. (asked, j, h)) h
+words_hand words asked s st text closed j h = where_ended st closed
+    (JobHands asked s st text closed) (WordsHand words s st text closed) (λ h. (asked, j, h)) h
 
-pub text_hands : (words : List (String Global)) (s : Seen) (st : Status) (text : List ℕ) (closed : Option ClosedTable) (old new : Option (List ℕ)) → Appended old text new →
-    WhereEnded st closed (WordsHand words s st text closed) → WhereEnded st closed ((text : List ℕ) × WordsHand words s st text closed × Appended old text new)
+pub text_hands : (words : List (String Global)) (s : Seen) (st : Status) (text : List ℕ)
+    (closed : Option ClosedTable) (old new : Option (List ℕ)) → Appended old text new →
+    WhereEnded st closed (WordsHand words s st text closed) →
+    WhereEnded st closed ((text : List ℕ) × WordsHand words s st text closed × Appended old text new)
 text_hands words s st text closed old new written h =
-    where_ended st closed (WordsHand words s st text closed) ((text : List ℕ) × WordsHand words s st text closed × Appended old text new) (λ h. (text, h, written)) h
+    where_ended st closed (WordsHand words s st text closed)
+    ((text : List ℕ) × WordsHand words s st text closed × Appended old text new) (λ h. (text, h, written)) h

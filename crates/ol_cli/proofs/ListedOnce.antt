@@ -1,5 +1,6 @@
 -- Nets that list each node once.
-use Rattle.std.proofs.Common.{◌≡◌, ℕ, suc, ◌≤◌, ◌⊎◌, List, [], ◌∷◌, length, map, Option, Some, None, inl, inr, refl, sym, ap, ◌∙◌, subst, arith}
+use Rattle.std.proofs.Common.{◌≡◌, ℕ, suc, ◌≤◌, ◌⊎◌, List, [], ◌∷◌, length, map, Option, Some, None}
+use Rattle.std.proofs.Common.{inl, inr, refl, sym, ap, ◌∙◌, subst, arith}
 use Rattle.ol_edges.specs.Edges.{IsIn}
 use Rattle.ol_net.specs.declared.parts.Kind.{Kind}
 use Rattle.ol_net.specs.declared.parts.Port.{Port}
@@ -10,7 +11,8 @@ use Rattle.ol_net.specs.Numbered.{nodes_from, net_of, numbered_from, net_of_part
 
 -- ---- numbers
 
-from_later : (nodes : List (Option (Kind × ℕ))) (n x : ℕ) (k : Kind) (i : ℕ) → IsIn (x, k, i) (nodes_from n nodes) → n ≤ x
+from_later : (nodes : List (Option (Kind × ℕ))) (n x : ℕ) (k : Kind) (i : ℕ) →
+    IsIn (x, k, i) (nodes_from n nodes) → n ≤ x
 from_later [] n x k i h = absurd h
 from_later (None ∷ nodes) n x k i h = let b = from_later nodes (suc n) x k i h in omega arith
 from_later (Some f ∷ nodes) n x k i (inl e) = let q : x ≡ n = ap (λ (t : ℕ × Kind × ℕ). t.0) e in omega arith
@@ -19,7 +21,11 @@ from_later (Some f ∷ nodes) n x k i (inr h) = let b = from_later nodes (suc n)
 from_once : (nodes : List (Option (Kind × ℕ))) (n : ℕ) → AreNamedOnce (nodes_from n nodes)
 from_once [] n = tt
 from_once (None ∷ nodes) n = from_once nodes (suc n)
-from_once (Some f ∷ nodes) n = ((λ k i h. let b = from_later nodes (suc n) n k i h in absurd (omega arith)), from_once nodes (suc n))
+from_once (Some f ∷ nodes) n = (
+  (λ k i h. let b = from_later nodes (suc n) n k i h in
+      absurd (omega arith)),
+  from_once nodes (suc n),
+)
 
 pub net_of_once : (g : Graph) → ListsOnce (net_of g)
 net_of_once g = from_once g.nodes 0
@@ -31,9 +37,14 @@ numbered_later (f ∷ nodes) n x k i (inr h) = let b = numbered_later nodes (suc
 
 numbered_once : (nodes : List (Kind × ℕ)) (n : ℕ) → AreNamedOnce (numbered_from n nodes)
 numbered_once [] n = tt
-numbered_once (f ∷ nodes) n = ((λ k i h. let b = numbered_later nodes (suc n) n k i h in absurd (omega arith)), numbered_once nodes (suc n))
+numbered_once (f ∷ nodes) n = (
+  (λ k i h. let b = numbered_later nodes (suc n) n k i h in
+      absurd (omega arith)),
+  numbered_once nodes (suc n),
+)
 
-pub net_of_parts_once : (ports : ℕ) (nodes : List (Kind × ℕ)) (links : List (Port × Port)) → ListsOnce (net_of_parts ports nodes links)
+pub net_of_parts_once : (ports : ℕ) (nodes : List (Kind × ℕ)) (links : List (Port × Port)) →
+    ListsOnce (net_of_parts ports nodes links)
 net_of_parts_once ports nodes links = numbered_once nodes 0
 
 -- ---- other names
@@ -42,7 +53,8 @@ module _ {A B : Type 0} (m : A → B) where
   abbrev node_under : A × Kind × ℕ → B × Kind × ℕ
   node_under n = (m n.0, n.1, n.2)
 
-  node_behind : (y : B) (k : Kind) (i : ℕ) (nodes : List (A × Kind × ℕ)) → IsIn (y, k, i) (map node_under nodes) → (n : A × Kind × ℕ) × IsIn n nodes × (y ≡ m n.0)
+  node_behind : (y : B) (k : Kind) (i : ℕ) (nodes : List (A × Kind × ℕ)) →
+      IsIn (y, k, i) (map node_under nodes) → (n : A × Kind × ℕ) × IsIn n nodes × (y ≡ m n.0)
   node_behind y k i [] h = absurd h
   node_behind y k i (n ∷ nodes) (inl e) = (n, inl refl, ap (λ (t : B × Kind × ℕ). t.0) e)
   node_behind y k i (n ∷ nodes) (inr h) = let t = node_behind y k i nodes h in (t.0, inr t.1, t.2)
@@ -61,7 +73,9 @@ module _ {A B : Type 0} (m : A → B) where
           let q : n.0 ≡ t.0.0 = apart n.0 t.0.0 n.1 t.0.1 n.2 t.0.2 (inl refl) (inr t.1) t.2 in
           h.0 t.0.1 t.0.2 (subst (λ x. IsIn (x, t.0.1, t.0.2) nodes) (sym q) t.1)
 
-  pub net_under_once : (N : NamedNet A) → ((x y : A) (k l : Kind) (i j : ℕ) → HasNode N x k i → HasNode N y l j → m x ≡ m y → x ≡ y) → ListsOnce N → ListsOnce (net_under m N)
+  pub net_under_once : (N : NamedNet A) →
+      ((x y : A) (k l : Kind) (i j : ℕ) → HasNode N x k i → HasNode N y l j → m x ≡ m y → x ≡ y) →
+      ListsOnce N → ListsOnce (net_under m N)
   net_under_once N apart h = under_once N.nodes apart h
 
 -- ---- how many
@@ -85,11 +99,16 @@ module _ {A : Type 0} where
       record {
         rest = m ∷ w.rest;
         shorter = ap suc w.shorter;
-        others = λ r k. elim k [ inl e ↦ inr (inl e) | inr k ↦ elim (w.others r k) [ inl e ↦ inl e | inr t ↦ inr (inr t) ] ];
+        others = λ r k. elim k [
+          | inl e ↦ inr (inl e)
+          | inr k ↦ elim
+              (w.others r k) [ inl e ↦ inl e | inr t ↦ inr (inr t) ]
+        ];
       }
 
   -- nodes named once that all stand in a list are no more than its own
-  no_more : (ms ns : List (A × Kind × ℕ)) → AreNamedOnce ms → ((n : A × Kind × ℕ) → IsIn n ms → IsIn n ns) → length ms ≤ length ns
+  no_more : (ms ns : List (A × Kind × ℕ)) → AreNamedOnce ms →
+      ((n : A × Kind × ℕ) → IsIn n ms → IsIn n ns) → length ms ≤ length ns
   no_more [] ns once h = omega arith
   no_more (m ∷ ms) ns once h =
       let w = without m ns (h m (inl refl)) in

@@ -4,7 +4,8 @@ use Rattle.ol_net.specs.declared.parts.Kind.{Kind}
 use Rattle.ol_net.specs.Nets.{NamedPort, free, slot, NamedNet, HasNode, Linked, IsPort, IsNet, port_under, net_under}
 use Rattle.ol_rules.proofs.Renaming.{node_to, node_from, link_to, link_from}
 
-module _ {A B : Type 0} (m : A → B) (N : NamedNet A) (is_net : IsNet N) (one_name : (x y : A) (k l : Kind) (i j : ℕ) → HasNode N x k i → HasNode N y l j → m x ≡ m y → x ≡ y) where
+module _ {A B : Type 0} (m : A → B) (N : NamedNet A) (is_net : IsNet N)
+    (one_name : (x y : A) (k l : Kind) (i j : ℕ) → HasNode N x k i → HasNode N y l j → m x ≡ m y → x ≡ y) where
   one_port : (p q : NamedPort A) → IsPort N p → IsPort N q → port_under m p ≡ port_under m q → p ≡ q
   one_port (free u) (free v) b b' e = let z : u ≡ v = cc in ap free z
   one_port (free u) (slot y t) b b' e = absurd (cc)
@@ -20,14 +21,16 @@ module _ {A B : Type 0} (m : A → B) (N : NamedNet A) (is_net : IsNet N) (one_n
 
   port_from : (P : NamedPort B) → IsPort (net_under m N) P → (p : NamedPort A) × (P ≡ port_under m p) × IsPort N p
   port_from (free n) h = (free n, refl, h)
-  port_from (slot y s) (k, i, h, b) = let t = node_from m N y k i h in (slot t.0 s, ap (λ y. slot y s) t.2, (k, i, t.1, b))
+  port_from (slot y s) (k, i, h, b) = let t = node_from m N y k i h in
+      (slot t.0 s, ap (λ y. slot y s) t.2, (k, i, t.1, b))
 
   pub named_net : IsNet (net_under m N)
   named_net = record {
     one_node = λ y k l i j h h'.
         let t = node_from m N y k i h in
         let u = node_from m N y l j h' in
-        is_net.one_node t.0 k l i j t.1 (subst (λ x. HasNode N x l j) (one_name u.0 t.0 l k j i u.1 t.1 (sym u.2 ∙ t.2)) u.1);
+        is_net.one_node t.0 k l i j t.1 (subst (λ x. HasNode N x l j)
+        (one_name u.0 t.0 l k j i u.1 t.1 (sym u.2 ∙ t.2)) u.1);
     of_ports = λ P Q h.
         let t = link_from m N P Q h in
         let b = is_net.of_ports t.0 t.1 t.4 in (
@@ -47,6 +50,9 @@ module _ {A B : Type 0} (m : A → B) (N : NamedNet A) (is_net : IsNet N) (one_n
         is_net.apart t.0 (subst (λ q. Linked N t.0 q) (one_port t.1 t.0 a.1 a.0 (sym t.3 ∙ t.2)) t.4);
     some_link = λ P h.
         let t = port_from P h in
-        let l = is_net.some_link t.0 t.2 in
-        (port_under m l.0, subst (λ P. Linked (net_under m N) P (port_under m l.0)) (sym t.1) (link_to m N t.0 l.0 l.1));
+        let l = is_net.some_link t.0 t.2 in (
+          port_under m l.0,
+          subst (λ P. Linked (net_under m N) P (port_under m l.0)) (sym t.1)
+              (link_to m N t.0 l.0 l.1),
+        );
   }

@@ -1,5 +1,7 @@
--- What the bytes of a file with a net are answered, and that this is one status, and one text but for the net that is left.
-use Rattle.std.proofs.Common.{◌≡◌, ◌≢◌, ℕ, suc, ◌≤◌, List, [], ◌∷◌, ◌++◌, length, false, Option, Some, None, count_by, is_some, refl, sym, ap, ◌∙◌, subst, arith}
+-- What the bytes of a file with a net are answered, and that this is one status, and one text but
+-- for the net that is left.
+use Rattle.std.proofs.Common.{◌≡◌, ◌≢◌, ℕ, suc, ◌≤◌, List, [], ◌∷◌, ◌++◌, length, false, Option}
+use Rattle.std.proofs.Common.{Some, None, count_by, is_some, refl, sym, ap, ◌∙◌, subst, arith}
 use Rattle.ol_net.specs.declared.parts.Kind.{Kind}
 use Rattle.ol_net.specs.Graph.{Graph}
 use Rattle.ol_net.specs.Indexes.{top_index_of}
@@ -9,7 +11,8 @@ use Rattle.ol_net.proofs.Linking.{length-all_live}
 use Rattle.ol_net.proofs.Numbered.{net_is_net}
 use Rattle.ol_netfile.specs.declared.faults.NetFault.{NetFault}
 use Rattle.ol_netfile.specs.declared.faults.NetFault.TheVariants as fault
-use Rattle.ol_netfile.specs.NetTexts.{Front, nothing, titled, so_far, Adds, title, free, node, link, Lines, none, more, IsNetRead, IsNetFault}
+use Rattle.ol_netfile.specs.NetTexts.{Front, nothing, titled, so_far, Adds, title, free, node, link}
+use Rattle.ol_netfile.specs.NetTexts.{Lines, none, more, IsNetRead, IsNetFault}
 use Rattle.ol_netfile.proofs.SameNets.{net_is_one}
 use Rattle.ol_netfile.proofs.Unique.{text-few}
 use Rattle.ol_netfile.specs.FaultTexts.{fault_text}
@@ -22,10 +25,12 @@ use Rattle.ol_words.specs.Texts.{Text}
 use Rattle.ol_words.specs.Asked.{Asked}
 use Rattle.ol_words.specs.Asked as jobs
 use Rattle.ol_cli.specs.declared.status.Status.{Status}
-use Rattle.ol_cli.specs.declared.status.Status.TheVariants.{Done, Usage, Syntax, Spent, ReadFault, WriteFault, NoMemory, Limit, BadNet}
+use Rattle.ol_cli.specs.declared.status.Status.TheVariants.{Done, Usage, Syntax, Spent, ReadFault}
+use Rattle.ol_cli.specs.declared.status.Status.TheVariants.{WriteFault, NoMemory, Limit, BadNet}
 use Rattle.ol_cli.specs.Laws.{HaveOneText}
 use Rattle.ol_cli.specs.Texts.{line, nodes_text, spent_text, counts_text}
-use Rattle.ol_cli.specs.Net.{long, NetRunsOut, NetRunEnds, IsPastNodes, PrintsNet, NetAnswer, IsNetFile, NetFileAnswer, bad, of_net}
+use Rattle.ol_cli.specs.Net.{long, NetRunsOut, NetRunEnds, IsPastNodes, PrintsNet, NetAnswer}
+use Rattle.ol_cli.specs.Net.{IsNetFile, NetFileAnswer, bad, of_net}
 use Rattle.ol_cli.proofs.Handing.{whole_net}
 use Rattle.ol_cli.proofs.NetRuns.{one_left, left_or_runs_out}
 
@@ -90,7 +95,8 @@ net_status net fuel ReadFault text h = h
 net_status net fuel WriteFault text h = h
 net_status net fuel NoMemory text h = h
 
-pub net_file_status : (fuel : ℕ) (bytes : List ℕ) (st : Status) (text : List ℕ) → NetFileAnswer fuel bytes st text → IsOfNet st
+pub net_file_status : (fuel : ℕ) (bytes : List ℕ) (st : Status) (text : List ℕ) →
+    NetFileAnswer fuel bytes st text → IsOfNet st
 net_file_status fuel bytes st text (long l e x) = subst IsOfNet (sym e) tt
 net_file_status fuel bytes st text (bad l d f isnt e x) = subst IsOfNet (sym e) tt
 net_file_status fuel bytes st text (of_net {net = net} i h) = net_status net fuel st text h
@@ -102,7 +108,8 @@ abbrev pub Alike : Asked → Status → Status → List ℕ → List ℕ → Typ
 Alike asked s s' x x' = (s ≡ s') × HaveOneText asked s x x'
 
 -- two answers of one status
-pub alike_by : (asked : Asked) (s s' u : Status) (x x' : List ℕ) → s ≡ u → s' ≡ u → HaveOneText asked u x x' → Alike asked s s' x x'
+pub alike_by : (asked : Asked) (s s' u : Status) (x x' : List ℕ) → s ≡ u → s' ≡ u →
+    HaveOneText asked u x x' → Alike asked s s' x x'
 alike_by asked s s' u x x' e e' h = (e ∙ sym e', subst (λ s. HaveOneText asked s x x') (sym e) h)
 
 -- what a net is answered, by cases
@@ -111,7 +118,8 @@ data OfNet (net : Graph) (fuel : ℕ) : Status → List ℕ → Type 0 where
   large : {text : List ℕ} → IsPastNodes net fuel → text ≡ nodes_text → OfNet net fuel Limit text
   printed : {text : List ℕ} → PrintsNet net fuel text → OfNet net fuel Done text
 
-of_net_answer : (net : Graph) (fuel : ℕ) (st : Status) (text : List ℕ) → NetAnswer net fuel st text → OfNet net fuel st text
+of_net_answer : (net : Graph) (fuel : ℕ) (st : Status) (text : List ℕ) →
+    NetAnswer net fuel st text → OfNet net fuel st text
 of_net_answer net fuel Spent text h = runs_out h.0 h.1
 of_net_answer net fuel Limit text h = large h.0 h.1
 of_net_answer net fuel Done text h = printed h
@@ -130,14 +138,19 @@ module _ (net : Graph) (is_net : IsNet (net_of net)) (fuel : ℕ) where
       let many = l.many in let few = p.few in omega (arith, e, many, few)
 
   module _ (tr : Translation) (w : ℕ) (name : Text) where
-    one_of_net : (s s' : Status) (x x' : List ℕ) → OfNet net fuel s x → OfNet net fuel s' x' → Alike (jobs.net tr false w fuel name) s s' x x'
+    one_of_net : (s s' : Status) (x x' : List ℕ) → OfNet net fuel s x → OfNet net fuel s' x' →
+        Alike (jobs.net tr false w fuel name) s s' x x'
     one_of_net s s' x x' (runs_out r t) (runs_out r' t') = (refl, t ∙ sym t')
-    one_of_net s s' x x' (runs_out r t) (large l t') = absurd (left_or_runs_out net is_net fuel l.counts l.stuck l.nodes r l.ends)
-    one_of_net s s' x x' (runs_out r t) (printed p) = absurd (left_or_runs_out net is_net fuel p.counts p.stuck p.nodes r p.ends)
-    one_of_net s s' x x' (large l t) (runs_out r t') = absurd (left_or_runs_out net is_net fuel l.counts l.stuck l.nodes r l.ends)
+    one_of_net s s' x x' (runs_out r t) (large l t') = absurd
+        (left_or_runs_out net is_net fuel l.counts l.stuck l.nodes r l.ends)
+    one_of_net s s' x x' (runs_out r t) (printed p) = absurd
+        (left_or_runs_out net is_net fuel p.counts p.stuck p.nodes r p.ends)
+    one_of_net s s' x x' (large l t) (runs_out r t') = absurd
+        (left_or_runs_out net is_net fuel l.counts l.stuck l.nodes r l.ends)
     one_of_net s s' x x' (large l t) (large l' t') = (refl, t ∙ sym t')
     one_of_net s s' x x' (large l t) (printed p) = absurd (not_both l p)
-    one_of_net s s' x x' (printed p) (runs_out r t) = absurd (left_or_runs_out net is_net fuel p.counts p.stuck p.nodes r p.ends)
+    one_of_net s s' x x' (printed p) (runs_out r t) = absurd
+        (left_or_runs_out net is_net fuel p.counts p.stuck p.nodes r p.ends)
     one_of_net s s' x x' (printed p) (large l t) = absurd (not_both l p)
     one_of_net s s' x x' (printed p) (printed p') =
         let e = one_left net is_net fuel p'.counts p.counts p'.stuck p.stuck p'.nodes p.nodes p'.ends p.ends in
@@ -145,14 +158,17 @@ module _ (net : Graph) (is_net : IsNet (net_of net)) (fuel : ℕ) where
         (refl, (p.counts, p.stuck, p.rest, p'.rest, p.written, p'.written ∙ same))
 
   -- where the run ends within the fuel and few nodes are left, the net is printed
-  done_of_net : (s : Status) (x : List ℕ) → (counts : Counts) (stuck nodes : ℕ) → NetRunEnds net fuel counts stuck nodes → nodes ≤ 200000 → OfNet net fuel s x → s ≡ Done
-  done_of_net s x counts stuck nodes ends few (runs_out r t) = absurd (left_or_runs_out net is_net fuel counts stuck nodes r ends)
+  done_of_net : (s : Status) (x : List ℕ) → (counts : Counts) (stuck nodes : ℕ) →
+      NetRunEnds net fuel counts stuck nodes → nodes ≤ 200000 → OfNet net fuel s x → s ≡ Done
+  done_of_net s x counts stuck nodes ends few (runs_out r t) = absurd
+      (left_or_runs_out net is_net fuel counts stuck nodes r ends)
   done_of_net s x counts stuck nodes ends few (large l t) =
       let e = (one_left net is_net fuel l.counts counts l.stuck stuck l.nodes nodes l.ends ends).2 in
       let many = l.many in absurd (omega (arith, e, many, few))
   done_of_net s x counts stuck nodes ends few (printed p) = refl
 
-is_not_bad : (bytes : List ℕ) (net : Graph) (f : NetFault) → IsNetFile bytes net → IsNetFault bytes f → f ≢ fault.NoMemory → ⊥
+is_not_bad : (bytes : List ℕ) (net : Graph) (f : NetFault) → IsNetFile bytes net →
+    IsNetFault bytes f → f ≢ fault.NoMemory → ⊥
 is_not_bad bytes net f i h isnt = isnt (net_has_no_fault bytes net f i.read h)
 
 -- the net of a file is one
@@ -160,26 +176,34 @@ one_net : (bytes : List ℕ) (g h : Graph) → IsNetFile bytes g → IsNetFile b
 one_net bytes g h i j = net_is_one bytes g h i.tabled j.tabled i.read j.read
 
 module _ (tr : Translation) (w : ℕ) (name : Text) where
-  pub one_net_file : (fuel : ℕ) (bytes : List ℕ) (s s' : Status) (x x' : List ℕ) → NetFileAnswer fuel bytes s x → NetFileAnswer fuel bytes s' x' → Alike (jobs.net tr false w fuel name) s s' x x'
-  one_net_file fuel bytes s s' x x' (long l e t) (long l' e' t') = alike_by (jobs.net tr false w fuel name) s s' Limit x x' e e' (t ∙ sym t')
+  pub one_net_file : (fuel : ℕ) (bytes : List ℕ) (s s' : Status) (x x' : List ℕ) →
+      NetFileAnswer fuel bytes s x → NetFileAnswer fuel bytes s' x' → Alike (jobs.net tr false w fuel name) s s' x x'
+  one_net_file fuel bytes s s' x x' (long l e t) (long l' e' t') = alike_by
+      (jobs.net tr false w fuel name) s s' Limit x x' e e' (t ∙ sym t')
   one_net_file fuel bytes s s' x x' (long l e t) (bad l' d f isnt e' t') = absurd (omega arith)
   one_net_file fuel bytes s s' x x' (long l e t) (of_net i h) = absurd (let short = i.short in omega arith)
   one_net_file fuel bytes s s' x x' (bad l d f isnt e t) (long l' e' t') = absurd (omega arith)
   one_net_file fuel bytes s s' x x' (bad l d f isnt e t) (bad l' d' f' isnt' e' t') =
       let same = ap (λ d. line (fault_text d)) (fault_is_one bytes d d' f f' isnt isnt') in
       alike_by (jobs.net tr false w fuel name) s s' BadNet x x' e e' (t ∙ same ∙ sym t')
-  one_net_file fuel bytes s s' x x' (bad l d f isnt e t) (of_net {net = net} i h) = absurd (is_not_bad bytes net d i f isnt)
+  one_net_file fuel bytes s s' x x' (bad l d f isnt e t) (of_net {net = net} i h) = absurd
+      (is_not_bad bytes net d i f isnt)
   one_net_file fuel bytes s s' x x' (of_net i h) (long l' e' t') = absurd (let short = i.short in omega arith)
-  one_net_file fuel bytes s s' x x' (of_net {net = net} i h) (bad l' d f' isnt' e' t') = absurd (is_not_bad bytes net d i f' isnt')
+  one_net_file fuel bytes s s' x x' (of_net {net = net} i h) (bad l' d f' isnt' e' t') = absurd
+      (is_not_bad bytes net d i f' isnt')
   one_net_file fuel bytes s s' x x' (of_net {net = g} i h) (of_net {net = k} i' h') =
       let h'' = subst (λ n. NetAnswer n fuel s' x') (one_net bytes k g i' i) h' in
-      one_of_net g (net_is_net g i.tabled) fuel tr w name s s' x x' (of_net_answer g fuel s x h) (of_net_answer g fuel s' x' h'')
+      one_of_net g (net_is_net g i.tabled) fuel tr w name s s' x x' (of_net_answer g fuel s x h)
+      (of_net_answer g fuel s' x' h'')
 
 -- a file whose net is left small within the fuel is printed
-pub done_net_file : (fuel : ℕ) (bytes : List ℕ) (net : Graph) (counts : Counts) (stuck nodes : ℕ) → IsNetFile bytes net → NetRunEnds net fuel counts stuck nodes → nodes ≤ 200000 →
+pub done_net_file : (fuel : ℕ) (bytes : List ℕ) (net : Graph) (counts : Counts) (stuck nodes : ℕ) →
+    IsNetFile bytes net → NetRunEnds net fuel counts stuck nodes → nodes ≤ 200000 →
     (s : Status) (x : List ℕ) → NetFileAnswer fuel bytes s x → s ≡ Done
-done_net_file fuel bytes net counts stuck nodes i ends few s x (long l e t) = absurd (let short = i.short in omega arith)
-done_net_file fuel bytes net counts stuck nodes i ends few s x (bad l d f isnt e t) = absurd (is_not_bad bytes net d i f isnt)
+done_net_file fuel bytes net counts stuck nodes i ends few s x (long l e t) = absurd
+    (let short = i.short in omega arith)
+done_net_file fuel bytes net counts stuck nodes i ends few s x (bad l d f isnt e t) = absurd
+    (is_not_bad bytes net d i f isnt)
 done_net_file fuel bytes net counts stuck nodes i ends few s x (of_net {net = g} j h) =
     let h' = subst (λ n. NetAnswer n fuel s x) (one_net bytes g net j i) h in
     done_of_net net (net_is_net net i.tabled) fuel s x counts stuck nodes ends few (of_net_answer net fuel s x h')

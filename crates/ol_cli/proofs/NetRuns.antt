@@ -48,35 +48,47 @@ module _ (net : Graph) (is_net : IsNet (net_of net)) where
   start_once : ListsOnce (start_net net)
   start_once = net_under_once Init (net_of net) (λ x y k l i j h h' e. cc) (net_of_once net)
 
-  pub one_left : (fuel : ℕ) (counts counts' : Counts) (stuck stuck' nodes nodes' : ℕ) → NetRunEnds net fuel counts stuck nodes → NetRunEnds net fuel counts' stuck' nodes' →
+  pub one_left : (fuel : ℕ) (counts counts' : Counts) (stuck stuck' nodes nodes' : ℕ) →
+      NetRunEnds net fuel counts stuck nodes → NetRunEnds net fuel counts' stuck' nodes' →
       (counts ≡ counts') × (stuck ≡ stuck') × (nodes ≡ nodes')
   one_left fuel counts counts' stuck stuck' nodes nodes' e e' =
-      let o = one_thread_one (start_net net) (start_net net) e.last e'.last fuel e.journal e'.journal start_is_net start_is_named (same_refl (start_net net)) e.run e'.run in (
+      let o = one_thread_one (start_net net)
+      (start_net net) e.last e'.last fuel e.journal e'.journal start_is_net start_is_named
+      (same_refl (start_net net)) e.run e'.run in (
         e.counted ∙ ap counts_of o.0 ∙ sym e'.counted,
         one_stuck_count e'.last stuck stuck' (has_stuck_same e.last e'.last stuck o.1 e.has_stuck) e'.has_stuck,
         e.size ∙ same_length e.last e'.last o.1 e.once e'.once ∙ sym e'.size,
       )
 
   -- the one-thread run doesn't both end and go on
-  pub left_or_runs_out : (fuel : ℕ) (counts : Counts) (stuck nodes : ℕ) → NetRunsOut net fuel → NetRunEnds net fuel counts stuck nodes → ⊥
+  pub left_or_runs_out : (fuel : ℕ) (counts : Counts) (stuck nodes : ℕ) → NetRunsOut net fuel →
+      NetRunEnds net fuel counts stuck nodes → ⊥
   left_or_runs_out fuel counts stuck nodes r e =
-      complete_or_active (start_net net) (start_net net) e.last r.last fuel e.journal r.journal start_is_net start_is_named (same_refl (start_net net)) e.run r.run e.complete r.left
+      complete_or_active (start_net net) (start_net net) e.last r.last fuel e.journal r.journal
+      start_is_net start_is_named (same_refl (start_net net)) e.run r.run e.complete r.left
 
   -- a complete run within the fuel tells what the one-thread run leaves
-  any_run_leaves : (fuel stuck : ℕ) (journal : List Entry) (last listed : NamedNet NodeName) → IsRun (start_net net) 0 journal last → IsComplete last → length journal ≤ fuel →
-      SameNet last listed → IsNet listed → ListsOnce listed → HasStuck listed stuck → NetRunEnds net fuel (counts_of journal) stuck (live listed)
+  any_run_leaves : (fuel stuck : ℕ) (journal : List Entry) (last listed : NamedNet NodeName) →
+      IsRun (start_net net) 0 journal last → IsComplete last → length journal ≤ fuel →
+      SameNet last listed → IsNet listed → ListsOnce listed → HasStuck listed stuck →
+      NetRunEnds net fuel (counts_of journal) stuck (live listed)
   any_run_leaves fuel stuck journal last other run complete within alike other_net other_once counted =
       let N = start_net net in
       let o = one_thread_exists N fuel start_is_net start_is_named in
       let d = done_tells N last o.1 fuel journal o.0 start_is_net start_is_named run complete within o.2 in
       let a = d.1 in
       let listed = net_under a.names other in
-      let apart : (x y : NodeName) (k l : Kind) (i j : ℕ) → HasNode other x k i → HasNode other y l j → a.names x ≡ a.names y → x ≡ y = λ x y k l i j h h' e. a.written.apart x y k l i j ((alike.nodes x k i).1 h) ((alike.nodes y l j).1 h') e in
+      let apart : (x y : NodeName) (k l : Kind) (i j : ℕ) → HasNode other x k i →
+      HasNode other y l j → a.names x ≡ a.names y →
+      x ≡ y = λ x y k l i j h h' e. a.written.apart x y k l i j ((alike.nodes x k i).1 h)
+      ((alike.nodes y l j).1 h') e in
       let once = net_under_once a.names other apart other_once in
-      let same : SameNet o.1 listed = same_trans o.1 (net_under a.names last) listed (same_sym (net_under a.names last) o.1 a.written.same) (same_under a.names last other alike) in
+      let same : SameNet o.1 listed = same_trans o.1 (net_under a.names last) listed
+      (same_sym (net_under a.names last) o.1 a.written.same) (same_under a.names last other alike) in
       let e = ends_once N o.1 listed 0 o.0 same start_once once o.2.leads in
       let c = complete_same o.1 e.net (same_trans o.1 listed e.net same e.same) d.0 in
-      let size : live other ≡ live listed = sym (length-map other.nodes (λ (n : NodeName × Kind × ℕ). (a.names n.0, n.1, n.2))) in
+      let size : live other ≡ live listed = sym
+      (length-map other.nodes (λ (n : NodeName × Kind × ℕ). (a.names n.0, n.1, n.2))) in
       record {
         journal = o.0;
         last = e.net;
@@ -84,11 +96,13 @@ module _ (net : Graph) (is_net : IsNet (net_of net)) where
         complete = c;
         once = e.once;
         counted = sym a.counts;
-        has_stuck = has_stuck_same listed e.net stuck e.same (has_stuck_under a.names other other_net apart stuck counted);
+        has_stuck = has_stuck_same listed e.net stuck e.same
+            (has_stuck_under a.names other other_net apart stuck counted);
         size = size ∙ same_length listed e.net e.same once e.once;
       }
 
-  any_run_goes_on : (fuel : ℕ) (journal : List Entry) (last : NamedNet NodeName) → IsRun (start_net net) 0 journal last → HasActive last → length journal ≡ fuel → NetRunsOut net fuel
+  any_run_goes_on : (fuel : ℕ) (journal : List Entry) (last : NamedNet NodeName) →
+      IsRun (start_net net) 0 journal last → HasActive last → length journal ≡ fuel → NetRunsOut net fuel
   any_run_goes_on fuel journal last run active full =
       let N = start_net net in
       let o = one_thread_exists N fuel start_is_net start_is_named in
@@ -100,26 +114,35 @@ module _ (net : Graph) (is_net : IsNet (net_of net)) where
   module _ (fuel seats : ℕ) (journal : List Entry) (w : ClosedTable) where
     pub spent_goes_on : IsSpent net fuel seats journal w → NetRunsOut net fuel
     spent_goes_on d =
-        let run : IsRun (start_net net) 0 (journal_of w) d.last_net = subst (λ (g : Graph). IsRun (start_net g) 0 (journal_of w) d.last_net) d.table.1 d.after in
+        let run : IsRun (start_net net) 0 (journal_of w) d.last_net = subst
+        (λ (g : Graph). IsRun (start_net g) 0 (journal_of w) d.last_net) d.table.1 d.after in
         any_run_goes_on fuel (journal_of w) d.last_net run d.active (sym (ap length d.read) ∙ d.steps)
 
     module _ (last : Graph) (d : IsDone net fuel seats last journal w) where
-      apart : (x y : ℕ) (k l : Kind) (i j : ℕ) → HasNode (net_of last) x k i → HasNode (net_of last) y l j → d.frozen.names x ≡ d.frozen.names y → x ≡ y
-      apart x y k l i j h h' e = rising_apart d.frozen.names (length last.nodes) d.frozen.rising x y (node_below last x k i h) (node_below last y l j h') e
+      apart : (x y : ℕ) (k l : Kind) (i j : ℕ) → HasNode (net_of last) x k i →
+          HasNode (net_of last) y l j → d.frozen.names x ≡ d.frozen.names y → x ≡ y
+      apart x y k l i j h h' e = rising_apart d.frozen.names (length last.nodes) d.frozen.rising x y
+          (node_below last x k i h) (node_below last y l j h') e
 
       run : IsRun (start_net net) 0 journal d.last_net
-      run = subst (λ (es : List Entry). IsRun (start_net net) 0 es d.last_net) (sym d.read) (subst (λ (g : Graph). IsRun (start_net g) 0 (journal_of w) d.last_net) d.table.1 d.after)
+      run = subst (λ (es : List Entry). IsRun (start_net net) 0 es d.last_net) (sym d.read)
+          (subst (λ (g : Graph). IsRun (start_net g) 0 (journal_of w) d.last_net) d.table.1 d.after)
 
-      pub done_leaves : (stuck : ℕ) → IsNet (net_of last) → HasStuck (net_of last) stuck → NetRunEnds net fuel (counts_of journal) stuck (live (net_of last))
+      pub done_leaves : (stuck : ℕ) → IsNet (net_of last) → HasStuck (net_of last) stuck →
+          NetRunEnds net fuel (counts_of journal) stuck (live (net_of last))
       done_leaves stuck n counted =
           let f = d.frozen in
           let named = net_under f.names (net_of last) in
-          let size : live named ≡ live (net_of last) = length-map (net_of last).nodes (λ (n : ℕ × Kind × ℕ). (f.names n.0, n.1, n.2)) in
+          let size : live named ≡ live (net_of last) = length-map (net_of last).nodes
+          (λ (n : ℕ × Kind × ℕ). (f.names n.0, n.1, n.2)) in
           subst (λ n. NetRunEnds net fuel (counts_of journal) stuck n) size
-          (any_run_leaves fuel stuck journal d.last_net named run d.complete d.within (same_sym named d.last_net f.same) (named_net f.names (net_of last) n apart)
-          (net_under_once f.names (net_of last) apart (net_of_once last)) (has_stuck_under f.names (net_of last) n apart stuck counted))
+          (any_run_leaves fuel stuck journal d.last_net named run d.complete d.within
+          (same_sym named d.last_net f.same) (named_net f.names (net_of last) n apart)
+          (net_under_once f.names (net_of last) apart (net_of_once last))
+          (has_stuck_under f.names (net_of last) n apart stuck counted))
 
-      pub done_tells_last : IsTable last → (pairs : List ℕ) → IsPairsText (net_of last) pairs → TellsLast net (pairs ++ net_text last)
+      pub done_tells_last : IsTable last → (pairs : List ℕ) → IsPairsText (net_of last) pairs →
+          TellsLast net (pairs ++ net_text last)
       done_tells_last table pairs told = record {
         journal = journal;
         last = d.last_net;
@@ -133,7 +156,9 @@ module _ (net : Graph) (is_net : IsNet (net_of net)) where
         written = refl;
       }
 
-      pub done_prints : (stuck : ℕ) → IsNet (net_of last) → HasStuck (net_of last) stuck → IsTable last → live (net_of last) ≤ 200000 → (text : List ℕ) → AreLinesOf last (counts_of journal) stuck text → PrintsNet net fuel text
+      pub done_prints : (stuck : ℕ) → IsNet (net_of last) → HasStuck (net_of last) stuck →
+          IsTable last → live (net_of last) ≤ 200000 → (text : List ℕ) →
+          AreLinesOf last (counts_of journal) stuck text → PrintsNet net fuel text
       done_prints stuck n counted table few text lines = record {
         counts = counts_of journal;
         stuck = stuck;
@@ -145,8 +170,16 @@ module _ (net : Graph) (is_net : IsNet (net_of net)) where
         written = lines.written ∙ append_assoc (counts_text (counts_of journal) stuck) lines.pairs (net_text last);
       }
 
-      pub done_is_large : (stuck : ℕ) → IsNet (net_of last) → HasStuck (net_of last) stuck → 200000 < live (net_of last) → IsPastNodes net fuel
-      done_is_large stuck n counted many = record { counts = counts_of journal; stuck = stuck; nodes = live (net_of last); ends = done_leaves stuck n counted; many = many }
+      pub done_is_large : (stuck : ℕ) → IsNet (net_of last) → HasStuck (net_of last) stuck →
+          200000 < live (net_of last) → IsPastNodes net fuel
+      done_is_large stuck n counted many = record {
+        counts = counts_of journal;
+        stuck = stuck;
+        nodes = live (net_of last);
+        ends = done_leaves stuck n counted;
+        many = many;
+      }
 
 pub one_net_is_left : OneNetIsLeft
-one_net_is_left net fuel counts counts' stuck stuck' nodes nodes' is_net e e' = one_left net is_net fuel counts counts' stuck stuck' nodes nodes' e e'
+one_net_is_left net fuel counts counts' stuck stuck' nodes nodes' is_net e e' = one_left net is_net
+    fuel counts counts' stuck stuck' nodes nodes' e e'

@@ -1,5 +1,6 @@
 -- The same words and files have one status, and one text as far as the job tells one.
-use Rattle.std.proofs.Common.{◌≡◌, ◌≢◌, ℕ, ◌<◌, ◌≤◌, Bool, true, false, List, length, Option, Some, refl, sym, ap, ◌∙◌, subst, arith, String, Global}
+use Rattle.std.proofs.Common.{◌≡◌, ◌≢◌, ℕ, ◌<◌, ◌≤◌, Bool, true, false, List, length, Option, Some}
+use Rattle.std.proofs.Common.{refl, sym, ap, ◌∙◌, subst, arith, String, Global}
 use Rattle.ol_term.specs.declared.translations.Translation.{Translation}
 use Rattle.ol_term.specs.Trees.{Tree, depth}
 use Rattle.ol_term.specs.Generated.{doubled_text}
@@ -29,10 +30,12 @@ use Rattle.ol_words.specs.Texts.{Text}
 use Rattle.ol_words.specs.Asked.{Asked, run, walk, view, trace, check, gen, demand, certify}
 use Rattle.ol_words.specs.Asked as jobs
 use Rattle.ol_cli.specs.declared.status.Status.{Status}
-use Rattle.ol_cli.specs.declared.status.Status.TheVariants.{Done, Usage, Syntax, Spent, ReadFault, WriteFault, NoMemory, Limit, BadNet}
+use Rattle.ol_cli.specs.declared.status.Status.TheVariants.{Done, Usage, Syntax, Spent, ReadFault}
+use Rattle.ol_cli.specs.declared.status.Status.TheVariants.{WriteFault, NoMemory, Limit, BadNet}
 use Rattle.ol_cli.specs.Jobs.{Files, AskFor, AskForNothing, file_name, translation_in}
 use Rattle.ol_cli.specs.Laws.{HaveOneText}
-use Rattle.ol_cli.specs.Texts.{line, usage_text, bytes_text, depth_text, nodes_text, journal_text, syntax_text, spent_text}
+use Rattle.ol_cli.specs.Texts.{line, usage_text, bytes_text, depth_text, nodes_text, journal_text}
+use Rattle.ol_cli.specs.Texts.{syntax_text, spent_text}
 use Rattle.ol_cli.specs.Check.{found_text}
 use Rattle.ol_cli.specs.Run.{start_net_of_term, RunsOut, RunEnds, Prints, ReadsLast}
 use Rattle.ol_cli.specs.Walk.{Walks}
@@ -42,10 +45,12 @@ use Rattle.ol_cli.specs.Demand.{Demands, DemandRunsOut}
 use Rattle.ol_cli.specs.Net.{WritesNet, NetFileAnswer}
 use Rattle.ol_cli.specs.TermFiles.{long, deep, large, IsTermFile, TermAnswer, FileAnswer}
 use Rattle.ol_cli.specs.Check.{JournalAnswer}
-use Rattle.ol_cli.specs.Answers.{JobAnswer, of_file, of_journal, made, of_net_file, of_first, of_second, of_both, IsAnswer}
+use Rattle.ol_cli.specs.Answers.{JobAnswer, of_file, of_journal, made, of_net_file, of_first}
+use Rattle.ol_cli.specs.Answers.{of_second, of_both, IsAnswer}
 use Rattle.ol_cli.specs.Equal.{HasTree, Compares}
 use Rattle.ol_cli.specs.Generate.{Makes, plain_run}
-use Rattle.ol_cli.proofs.OnePrint.{ends_or_not, ends_or_runs_out, reads_or_runs_out, one_last_tree, one_print, one_walk, one_view, one_certified}
+use Rattle.ol_cli.proofs.OnePrint.{ends_or_not, ends_or_runs_out, reads_or_runs_out, one_last_tree}
+use Rattle.ol_cli.proofs.OnePrint.{one_print, one_walk, one_view, one_certified}
 use Rattle.ol_cli.proofs.DemandRuns.{one_demanded, demand_ends_or_not}
 use Rattle.ol_cli.proofs.NetFiles.{Alike, alike_by, one_net_file}
 
@@ -71,36 +76,52 @@ refused_texts (jobs.net tr false w f name) x x' e = (e, e)
 refused_texts (jobs.equal tr w f q first second) x x' e = (e, e)
 
 -- two answers of a job that are each this limit
-alike_as : (asked : Asked) (s s' : Status) (x x' y : List ℕ) → Same s Limit x y → Same s' Limit x' y → Alike asked s s' x x'
+alike_as : (asked : Asked) (s s' : Status) (x x' y : List ℕ) → Same s Limit x y →
+    Same s' Limit x' y → Alike asked s s' x x'
 alike_as asked s s' x x' y h h' = alike_by asked s s' Limit x x' h.0 h'.0 (refused_texts asked x x' (h.1 ∙ sym h'.1)).0
 
 -- ---- a term
 
 -- the translation of a file's term is a net
-pub file_names : (bytes : List ℕ) (t : Tree) (names : List (List ℕ)) → IsFileOf bytes t names → HasNames t (length names)
+pub file_names : (bytes : List ℕ) (t : Tree) (names : List (List ℕ)) → IsFileOf bytes t names →
+    HasNames t (length names)
 file_names bytes t names f =
     let has_names : HasNames (number f.named) (length (names_of f.named)) =
     record { bound = whole_bound f.named; named = whole_named f.named; each = λ k b. whole_occurs f.named k b } in
-    subst (λ t. HasNames t (length names)) (sym f.tree) (subst (λ names. HasNames (number f.named) (length names)) (sym f.free_names) has_names)
+    subst (λ t. HasNames t (length names)) (sym f.tree)
+    (subst (λ names. HasNames (number f.named) (length names)) (sym f.free_names) has_names)
 
-pub file_net : (tr : Translation) (bytes : List ℕ) (t : Tree) (names : List (List ℕ)) → IsFileOf bytes t names → IsNet (translation_of tr t (length names))
+pub file_net : (tr : Translation) (bytes : List ℕ) (t : Tree) (names : List (List ℕ)) →
+    IsFileOf bytes t names → IsNet (translation_of tr t (length names))
 file_net tr bytes t names f = translation_net tr t (length names) (file_names bytes t names f)
 
 -- what a job answers to a term, by cases
 pub data OfTerm (t : Tree) (names : List (List ℕ)) : Asked → Status → List ℕ → Type 0 where
-  spent : {tr : Translation} {w fuel heads : ℕ} {name x : List ℕ} → RunsOut tr t names fuel → x ≡ spent_text fuel → OfTerm t names (run tr w fuel heads name) Spent x
-  printed : {tr : Translation} {w fuel heads : ℕ} {name x : List ℕ} → Prints tr t names fuel heads x → OfTerm t names (run tr w fuel heads name) Done x
-  walked : {tr : Translation} {edges heads : ℕ} {name x : List ℕ} → Walks tr t names edges heads x → OfTerm t names (walk tr edges heads name) Done x
-  viewed : {tr : Translation} {after : ℕ} {name x : List ℕ} → Views tr t names after x → OfTerm t names (view tr after name) Done x
-  traced : {tr : Translation} {w fuel : ℕ} {name x : List ℕ} → RunEnds tr t names fuel → OfTerm t names (trace tr w fuel name) Done x
-  demanded : {tr : Translation} {fuel heads : ℕ} {name x : List ℕ} → Demands tr t names fuel heads x → OfTerm t names (demand tr fuel heads name) Done x
-  undemanded : {tr : Translation} {fuel heads : ℕ} {name x : List ℕ} → DemandRunsOut tr t names fuel heads → x ≡ spent_text fuel → OfTerm t names (demand tr fuel heads name) Spent x
-  certified : {tr : Translation} {b w fuel heads : ℕ} {name x : List ℕ} → Certifies tr t names b fuel heads x → OfTerm t names (certify tr b w fuel heads name) Done x
-  uncertified : {tr : Translation} {b w fuel heads : ℕ} {name x : List ℕ} → RunsOut tr t names fuel → x ≡ spent_text fuel → OfTerm t names (certify tr b w fuel heads name) Spent x
-  stopped : {tr : Translation} {w fuel : ℕ} {name x : List ℕ} → RunsOut tr t names fuel → OfTerm t names (trace tr w fuel name) Spent x
-  netted : {tr : Translation} {w fuel : ℕ} {name x : List ℕ} → WritesNet tr t names x → OfTerm t names (jobs.net tr true w fuel name) Done x
+  spent : {tr : Translation} {w fuel heads : ℕ} {name x : List ℕ} → RunsOut tr t names fuel →
+      x ≡ spent_text fuel → OfTerm t names (run tr w fuel heads name) Spent x
+  printed : {tr : Translation} {w fuel heads : ℕ} {name x : List ℕ} →
+      Prints tr t names fuel heads x → OfTerm t names (run tr w fuel heads name) Done x
+  walked : {tr : Translation} {edges heads : ℕ} {name x : List ℕ} → Walks tr t names edges heads x →
+      OfTerm t names (walk tr edges heads name) Done x
+  viewed : {tr : Translation} {after : ℕ} {name x : List ℕ} → Views tr t names after x →
+      OfTerm t names (view tr after name) Done x
+  traced : {tr : Translation} {w fuel : ℕ} {name x : List ℕ} → RunEnds tr t names fuel →
+      OfTerm t names (trace tr w fuel name) Done x
+  demanded : {tr : Translation} {fuel heads : ℕ} {name x : List ℕ} →
+      Demands tr t names fuel heads x → OfTerm t names (demand tr fuel heads name) Done x
+  undemanded : {tr : Translation} {fuel heads : ℕ} {name x : List ℕ} →
+      DemandRunsOut tr t names fuel heads → x ≡ spent_text fuel → OfTerm t names (demand tr fuel heads name) Spent x
+  certified : {tr : Translation} {b w fuel heads : ℕ} {name x : List ℕ} →
+      Certifies tr t names b fuel heads x → OfTerm t names (certify tr b w fuel heads name) Done x
+  uncertified : {tr : Translation} {b w fuel heads : ℕ} {name x : List ℕ} →
+      RunsOut tr t names fuel → x ≡ spent_text fuel → OfTerm t names (certify tr b w fuel heads name) Spent x
+  stopped : {tr : Translation} {w fuel : ℕ} {name x : List ℕ} → RunsOut tr t names fuel →
+      OfTerm t names (trace tr w fuel name) Spent x
+  netted : {tr : Translation} {w fuel : ℕ} {name x : List ℕ} → WritesNet tr t names x →
+      OfTerm t names (jobs.net tr true w fuel name) Done x
 
-pub of_term : (t : Tree) (names : List (List ℕ)) (a : Asked) (s : Status) (x : List ℕ) → TermAnswer a t names s x → OfTerm t names a s x
+pub of_term : (t : Tree) (names : List (List ℕ)) (a : Asked) (s : Status) (x : List ℕ) →
+    TermAnswer a t names s x → OfTerm t names a s x
 of_term t names (run tr w fuel heads name) Spent x h = spent h.0 h.1
 of_term t names (run tr w fuel heads name) Done x h = printed h
 of_term t names (run tr w fuel heads name) Usage x h = absurd h
@@ -170,41 +191,61 @@ of_term t names (jobs.net tr false w f name) s x h = absurd h
 of_term t names (jobs.equal tr w f q first second) s x h = absurd h
 
 -- the net of a term has one text
-one_net_text : (tr : Translation) (t : Tree) (names : List (List ℕ)) (x x' : List ℕ) → WritesNet tr t names x → WritesNet tr t names x' → x ≡ x'
+one_net_text : (tr : Translation) (t : Tree) (names : List (List ℕ)) (x x' : List ℕ) →
+    WritesNet tr t names x → WritesNet tr t names x' → x ≡ x'
 one_net_text tr t names x x' w w' =
     let N = translation_of tr t (length names) in
     let same = same_trans (net_of w.net) N (net_of w'.net) w.same (same_sym (net_of w'.net) N w'.same) in
     let size : length w.net.nodes ≡ length w'.net.nodes = sym w.whole ∙ live_alike w.net w'.net same ∙ w'.whole in
     w.written ∙ ap net_text (one_graph w.net w'.net w.tabled w'.tabled same size) ∙ sym w'.written
 
-one_of_term : (t : Tree) (names : List (List ℕ)) → (a : Asked) → IsNet (translation_of (translation_in a) t (length names)) → (s s' : Status) (x x' : List ℕ) → OfTerm t names a s x → OfTerm t names a s' x' → Alike a s s' x x'
+one_of_term : (t : Tree) (names : List (List ℕ)) → (a : Asked) →
+    IsNet (translation_of (translation_in a) t (length names)) → (s s' : Status) (x x' : List ℕ) →
+    OfTerm t names a s x → OfTerm t names a s' x' → Alike a s s' x x'
 one_of_term t names a n s s' x x' (spent r e) (spent r' e') = (refl, e ∙ sym e')
-one_of_term t names a n s s' x x' (spent {tr = tr} {fuel = fuel} {heads = heads} r e) (printed p) = absurd (ends_or_not tr t names n fuel heads x' r p)
-one_of_term t names a n s s' x x' (printed {tr = tr} {fuel = fuel} {heads = heads} p) (spent r e) = absurd (ends_or_not tr t names n fuel heads x r p)
-one_of_term t names a n s s' x x' (printed {tr = tr} {fuel = fuel} {heads = heads} p) (printed p') = (refl, one_print tr t names n fuel heads x x' p p')
-one_of_term t names a n s s' x x' (walked {tr = tr} {edges = edges} {heads = heads} w) (walked w') = (refl, one_walk tr t names n edges heads x x' w w')
+one_of_term t names a n s s' x x' (spent {tr = tr} {fuel = fuel} {heads = heads} r e)
+    (printed p) = absurd (ends_or_not tr t names n fuel heads x' r p)
+one_of_term t names a n s s' x x' (printed {tr = tr} {fuel = fuel} {heads = heads} p)
+    (spent r e) = absurd (ends_or_not tr t names n fuel heads x r p)
+one_of_term t names a n s s' x x' (printed {tr = tr} {fuel = fuel} {heads = heads} p)
+    (printed p') = (refl, one_print tr t names n fuel heads x x' p p')
+one_of_term t names a n s s' x x' (walked {tr = tr} {edges = edges} {heads = heads} w)
+    (walked w') = (refl, one_walk tr t names n edges heads x x' w w')
 one_of_term t names a n s s' x x' (traced e) (traced e') = (refl, tt)
-one_of_term t names a n s s' x x' (traced {tr = tr} {fuel = fuel} e) (stopped r) = absurd (ends_or_runs_out tr t names n fuel r e)
-one_of_term t names a n s s' x x' (stopped {tr = tr} {fuel = fuel} r) (traced e) = absurd (ends_or_runs_out tr t names n fuel r e)
+one_of_term t names a n s s' x x' (traced {tr = tr} {fuel = fuel} e) (stopped r) = absurd
+    (ends_or_runs_out tr t names n fuel r e)
+one_of_term t names a n s s' x x' (stopped {tr = tr} {fuel = fuel} r) (traced e) = absurd
+    (ends_or_runs_out tr t names n fuel r e)
 one_of_term t names a n s s' x x' (stopped r) (stopped r') = (refl, tt)
 one_of_term t names a n s s' x x' (netted {tr = tr} w) (netted w') = (refl, one_net_text tr t names x x' w w')
 one_of_term t names a n s s' x x' (undemanded r e) (undemanded r' e') = (refl, e ∙ sym e')
-one_of_term t names a n s s' x x' (undemanded {tr = tr} {fuel = fuel} {heads = heads} r e) (demanded d) = absurd (demand_ends_or_not tr t names n fuel heads r d.ends)
-one_of_term t names a n s s' x x' (demanded {tr = tr} {fuel = fuel} {heads = heads} d) (undemanded r e) = absurd (demand_ends_or_not tr t names n fuel heads r d.ends)
-one_of_term t names a n s s' x x' (demanded {tr = tr} {fuel = fuel} {heads = heads} d) (demanded d') = (refl, one_demanded tr t names n fuel heads x x' d d')
+one_of_term t names a n s s' x x' (undemanded {tr = tr} {fuel = fuel} {heads = heads} r e)
+    (demanded d) = absurd (demand_ends_or_not tr t names n fuel heads r d.ends)
+one_of_term t names a n s s' x x' (demanded {tr = tr} {fuel = fuel} {heads = heads} d)
+    (undemanded r e) = absurd (demand_ends_or_not tr t names n fuel heads r d.ends)
+one_of_term t names a n s s' x x' (demanded {tr = tr} {fuel = fuel} {heads = heads} d)
+    (demanded d') = (refl, one_demanded tr t names n fuel heads x x' d d')
 one_of_term t names a n s s' x x' (uncertified r e) (uncertified r' e') = (refl, e ∙ sym e')
-one_of_term t names a n s s' x x' (uncertified {tr = tr} {fuel = fuel} {heads = heads} r e) (certified c) = absurd (reads_or_runs_out tr t names n fuel heads c.tree r c.last)
-one_of_term t names a n s s' x x' (certified {tr = tr} {fuel = fuel} {heads = heads} c) (uncertified r e) = absurd (reads_or_runs_out tr t names n fuel heads c.tree r c.last)
-one_of_term t names a n s s' x x' (certified {tr = tr} {b = b} {fuel = fuel} {heads = heads} c) (certified c') = (refl, one_certified tr t names n b fuel heads x x' c c')
-one_of_term t names a n s s' x x' (viewed {tr = tr} {after = after} v) (viewed v') = (refl, one_view tr t names n after x x' v v')
+one_of_term t names a n s s' x x' (uncertified {tr = tr} {fuel = fuel} {heads = heads} r e)
+    (certified c) = absurd (reads_or_runs_out tr t names n fuel heads c.tree r c.last)
+one_of_term t names a n s s' x x' (certified {tr = tr} {fuel = fuel} {heads = heads} c)
+    (uncertified r e) = absurd (reads_or_runs_out tr t names n fuel heads c.tree r c.last)
+one_of_term t names a n s s' x x' (certified {tr = tr} {b = b} {fuel = fuel} {heads = heads} c)
+    (certified c') = (refl, one_certified tr t names n b fuel heads x x' c c')
+one_of_term t names a n s s' x x' (viewed {tr = tr} {after = after} v)
+    (viewed v') = (refl, one_view tr t names n after x x' v v')
 
 -- what a job answers to a tree, by the order of refusals
 pub data OfTree (asked : Asked) (t : Tree) (names : List (List ℕ)) (s : Status) (x : List ℕ) : Type 0 where
   too_deep : 1000 < depth t → Same s Limit x depth_text → OfTree asked t names s x
-  too_large : depth t ≤ 1000 → 200000 < size_of_translation (translation_in asked) t → Same s Limit x nodes_text → OfTree asked t names s x
-  done : depth t ≤ 1000 → size_of_translation (translation_in asked) t ≤ 200000 → TermAnswer asked t names s x → OfTree asked t names s x
+  too_large : depth t ≤ 1000 → 200000 < size_of_translation (translation_in asked) t →
+      Same s Limit x nodes_text → OfTree asked t names s x
+  done : depth t ≤ 1000 → size_of_translation (translation_in asked) t ≤ 200000 →
+      TermAnswer asked t names s x → OfTree asked t names s x
 
-one_of_tree : (asked : Asked) (t : Tree) (names : List (List ℕ)) → IsNet (translation_of (translation_in asked) t (length names)) → (s s' : Status) (x x' : List ℕ) → OfTree asked t names s x → OfTree asked t names s' x' → Alike asked s s' x x'
+one_of_tree : (asked : Asked) (t : Tree) (names : List (List ℕ)) →
+    IsNet (translation_of (translation_in asked) t (length names)) →
+    (s s' : Status) (x x' : List ℕ) → OfTree asked t names s x → OfTree asked t names s' x' → Alike asked s s' x x'
 one_of_tree asked t names n s s' x x' (too_deep d h) (too_deep d' h') = alike_as asked s s' x x' depth_text h h'
 one_of_tree asked t names n s s' x x' (too_deep d h) (too_large d' z' h') = absurd (omega arith)
 one_of_tree asked t names n s s' x x' (too_deep d h) (done d' z' h') = absurd (omega arith)
@@ -213,20 +254,26 @@ one_of_tree asked t names n s s' x x' (too_large d z h) (too_large d' z' h') = a
 one_of_tree asked t names n s s' x x' (too_large d z h) (done d' z' h') = absurd (omega arith)
 one_of_tree asked t names n s s' x x' (done d z h) (too_deep d' h') = absurd (omega arith)
 one_of_tree asked t names n s s' x x' (done d z h) (too_large d' z' h') = absurd (omega arith)
-one_of_tree asked t names n s s' x x' (done d z h) (done d' z' h') = one_of_term t names asked n s s' x x' (of_term t names asked s x h) (of_term t names asked s' x' h')
+one_of_tree asked t names n s s' x x' (done d z h)
+    (done d' z' h') = one_of_term t names asked n s s' x x' (of_term t names asked s x h)
+    (of_term t names asked s' x' h')
 
 -- ---- a file
 
 -- what a job answers to a file, by the order of refusals
 pub data OfFile (asked : Asked) (bytes : List ℕ) (s : Status) (x : List ℕ) : Type 0 where
   too_long : 1048576 < length bytes → Same s Limit x bytes_text → OfFile asked bytes s x
-  refused : length bytes ≤ 1048576 → (at : ℕ) → IsRefusedAt bytes at → Same s Syntax x (syntax_text at) → OfFile asked bytes s x
-  has_term : length bytes ≤ 1048576 → (t : Tree) (names : List (List ℕ)) → IsFileOf bytes t names → OfTree asked t names s x → OfFile asked bytes s x
+  refused : length bytes ≤ 1048576 → (at : ℕ) → IsRefusedAt bytes at →
+      Same s Syntax x (syntax_text at) → OfFile asked bytes s x
+  has_term : length bytes ≤ 1048576 → (t : Tree) (names : List (List ℕ)) → IsFileOf bytes t names →
+      OfTree asked t names s x → OfFile asked bytes s x
 
-pub of_file_answer : (asked : Asked) (bytes : List ℕ) (s : Status) (x : List ℕ) → FileAnswer asked bytes s x → OfFile asked bytes s x
+pub of_file_answer : (asked : Asked) (bytes : List ℕ) (s : Status) (x : List ℕ) →
+    FileAnswer asked bytes s x → OfFile asked bytes s x
 of_file_answer asked bytes Limit x (long l e) = too_long l (refl, e)
 of_file_answer asked bytes Limit x (deep l {t = t} {names = names} f d e) = has_term l t names f (too_deep d (refl, e))
-of_file_answer asked bytes Limit x (large l {t = t} {names = names} f d z e) = has_term l t names f (too_large d z (refl, e))
+of_file_answer asked bytes Limit x (large l {t = t} {names = names} f d z e) = has_term l t names f
+    (too_large d z (refl, e))
 of_file_answer asked bytes Syntax x (at, l, r, e) = refused l at r (refl, e)
 of_file_answer asked bytes Done x (t, names, i, h) = has_term i.short t names i.file (done i.shallow i.small h)
 of_file_answer asked bytes Usage x (t, names, i, h) = has_term i.short t names i.file (done i.shallow i.small h)
@@ -236,7 +283,8 @@ of_file_answer asked bytes WriteFault x (t, names, i, h) = has_term i.short t na
 of_file_answer asked bytes BadNet x (t, names, i, h) = has_term i.short t names i.file (done i.shallow i.small h)
 of_file_answer asked bytes NoMemory x (t, names, i, h) = has_term i.short t names i.file (done i.shallow i.small h)
 
-one_of_file : (asked : Asked) (bytes : List ℕ) → (s s' : Status) (x x' : List ℕ) → OfFile asked bytes s x → OfFile asked bytes s' x' → Alike asked s s' x x'
+one_of_file : (asked : Asked) (bytes : List ℕ) → (s s' : Status) (x x' : List ℕ) →
+    OfFile asked bytes s x → OfFile asked bytes s' x' → Alike asked s s' x x'
 one_of_file asked bytes s s' x x' (too_long l h) (too_long l' h') = alike_as asked s s' x x' bytes_text h h'
 one_of_file asked bytes s s' x x' (too_long l h) (refused l' at' r' h') = absurd (omega arith)
 one_of_file asked bytes s s' x x' (too_long l h) (has_term l' t' names' f' h') = absurd (omega arith)
@@ -249,54 +297,76 @@ one_of_file asked bytes s s' x x' (has_term l t names f h) (too_long l' h') = ab
 one_of_file asked bytes s s' x x' (has_term l t names f h) (refused l' at' r' h') = absurd (r'.0 f.named f.text)
 one_of_file asked bytes s s' x x' (has_term l t names f h) (has_term l' t' names' f' h') =
     let e = one_file bytes t' t names' names f' f in
-    one_of_tree asked t names (file_net (translation_in asked) bytes t names f) s s' x x' h (subst (λ t. OfTree asked t names s' x') e.0 (subst (λ names. OfTree asked t' names s' x') e.1 h'))
+    one_of_tree asked t names (file_net (translation_in asked) bytes t names f) s s' x x' h
+    (subst (λ t. OfTree asked t names s' x') e.0 (subst (λ names. OfTree asked t' names s' x') e.1 h'))
 
-one_file_answer : (asked : Asked) (bytes : List ℕ) → (s s' : Status) (x x' : List ℕ) → FileAnswer asked bytes s x → FileAnswer asked bytes s' x' → Alike asked s s' x x'
-one_file_answer asked bytes s s' x x' h h' = one_of_file asked bytes s s' x x' (of_file_answer asked bytes s x h) (of_file_answer asked bytes s' x' h')
+one_file_answer : (asked : Asked) (bytes : List ℕ) → (s s' : Status) (x x' : List ℕ) →
+    FileAnswer asked bytes s x → FileAnswer asked bytes s' x' → Alike asked s s' x x'
+one_file_answer asked bytes s s' x x' h h' = one_of_file asked bytes s s' x x'
+    (of_file_answer asked bytes s x h) (of_file_answer asked bytes s' x' h')
 
 -- ---- two files
 
 -- what `run` answers to a file whose term is read back is Done
-read_term : (tr : Translation) (w fuel heads : ℕ) (name : Text) (t : Tree) (names : List (List ℕ)) (tree : List ReadNode) → IsNet (translation_of tr t (length names)) → ReadsLast tr t names fuel heads tree →
+read_term : (tr : Translation) (w fuel heads : ℕ) (name : Text) (t : Tree) (names : List (List ℕ))
+    (tree : List ReadNode) → IsNet (translation_of tr t (length names)) → ReadsLast tr t names fuel heads tree →
     (s : Status) (x : List ℕ) → OfTerm t names (run tr w fuel heads name) s x → s ≡ Done
-read_term tr w fuel heads name t names tree n last s x (spent r e) = absurd (reads_or_runs_out tr t names n fuel heads tree r last)
+read_term tr w fuel heads name t names tree n last s x (spent r e) = absurd
+    (reads_or_runs_out tr t names n fuel heads tree r last)
 read_term tr w fuel heads name t names tree n last s x (printed p) = refl
 
-read_tree : (tr : Translation) (w fuel heads : ℕ) (name : Text) (bytes : List ℕ) (h : HasTree tr bytes fuel heads) (u : Tree) (others : List (List ℕ)) → IsFileOf bytes u others →
+read_tree : (tr : Translation) (w fuel heads : ℕ) (name : Text) (bytes : List ℕ)
+    (h : HasTree tr bytes fuel heads) (u : Tree) (others : List (List ℕ)) → IsFileOf bytes u others →
     (s : Status) (x : List ℕ) → OfTree (run tr w fuel heads name) u others s x → s ≡ Done
 read_tree tr w fuel heads name bytes h u others f s x (too_deep d e) =
-    let b = h.file.shallow in let is = ap depth (one_file bytes h.term u h.names others h.file.file f).0 in absurd (omega arith)
+    let b = h.file.shallow in let is = ap depth
+    (one_file bytes h.term u h.names others h.file.file f).0 in absurd (omega arith)
 read_tree tr w fuel heads name bytes h u others f s x (too_large d z e) =
-    let b = h.file.small in let is = ap (size_of_translation tr) (one_file bytes h.term u h.names others h.file.file f).0 in absurd (omega arith)
+    let b = h.file.small in let is = ap (size_of_translation tr)
+    (one_file bytes h.term u h.names others h.file.file f).0 in absurd (omega arith)
 read_tree tr w fuel heads name bytes h u others f s x (done d z a) =
     let same = one_file bytes h.term u h.names others h.file.file f in
-    let last = subst (λ t. ReadsLast tr t others fuel heads h.tree) same.0 (subst (λ names. ReadsLast tr h.term names fuel heads h.tree) same.1 h.read) in
-    read_term tr w fuel heads name u others h.tree (file_net tr bytes u others f) last s x (of_term u others (run tr w fuel heads name) s x a)
+    let last = subst (λ t. ReadsLast tr t others fuel heads h.tree) same.0
+    (subst (λ names. ReadsLast tr h.term names fuel heads h.tree) same.1 h.read) in
+    read_term tr w fuel heads name u others h.tree (file_net tr bytes u others f) last s x
+    (of_term u others (run tr w fuel heads name) s x a)
 
-pub read_file : (tr : Translation) (w fuel heads : ℕ) (name : Text) (bytes : List ℕ) → HasTree tr bytes fuel heads → (s : Status) (x : List ℕ) → OfFile (run tr w fuel heads name) bytes s x → s ≡ Done
+pub read_file : (tr : Translation) (w fuel heads : ℕ) (name : Text) (bytes : List ℕ) →
+    HasTree tr bytes fuel heads → (s : Status) (x : List ℕ) → OfFile (run tr w fuel heads name) bytes s x → s ≡ Done
 read_file tr w fuel heads name bytes h s x (too_long l e) = let b = h.file.short in absurd (omega arith)
 read_file tr w fuel heads name bytes h s x (refused l at r e) = absurd (r.0 h.file.file.named h.file.file.text)
-read_file tr w fuel heads name bytes h s x (has_term l u others f e) = read_tree tr w fuel heads name bytes h u others f s x e
+read_file tr w fuel heads name bytes h s x
+    (has_term l u others f e) = read_tree tr w fuel heads name bytes h u others f s x e
 
 -- one tree is read back of a file, with the same names
-one_read : (tr : Translation) (a b : List ℕ) (fuel heads : ℕ) → a ≡ b → (h : HasTree tr a fuel heads) (h' : HasTree tr b fuel heads) → (h.names ≡ h'.names) × (h.tree ≡ h'.tree)
+one_read : (tr : Translation) (a b : List ℕ) (fuel heads : ℕ) → a ≡ b →
+    (h : HasTree tr a fuel heads) (h' : HasTree tr b fuel heads) → (h.names ≡ h'.names) × (h.tree ≡ h'.tree)
 one_read tr a b fuel heads e h h' =
     let file' = subst (λ b. IsTermFile tr b h'.term h'.names) (sym e) h'.file in
     let same = one_file a h.term h'.term h.names h'.names h.file.file file'.file in
-    let last = subst (λ t. ReadsLast tr t h'.names fuel heads h.tree) same.0 (subst (λ names. ReadsLast tr h.term names fuel heads h.tree) same.1 h.read) in
-    (same.1, one_last_tree tr h'.term h'.names (file_net tr a h'.term h'.names file'.file) fuel heads h.tree h'.tree last h'.read)
+    let last = subst (λ t. ReadsLast tr t h'.names fuel heads h.tree) same.0
+    (subst (λ names. ReadsLast tr h.term names fuel heads h.tree) same.1 h.read) in (
+      same.1,
+      one_last_tree tr h'.term h'.names
+          (file_net tr a h'.term h'.names file'.file) fuel heads h.tree h'.tree last h'.read,
+    )
 
 -- two files have one comparison
-one_compared : (tr : Translation) (a a' b b' : List ℕ) (fuel heads : ℕ) → a ≡ a' → b ≡ b' → (x : HasTree tr a fuel heads) (x' : HasTree tr a' fuel heads) (y : HasTree tr b fuel heads) (y' : HasTree tr b' fuel heads) →
+one_compared : (tr : Translation) (a a' b b' : List ℕ) (fuel heads : ℕ) → a ≡ a' → b ≡ b' →
+    (x : HasTree tr a fuel heads) (x' : HasTree tr a' fuel heads) (y : HasTree tr b fuel heads)
+    (y' : HasTree tr b' fuel heads) →
     (text text' : List ℕ) → Compares x y text → Compares x' y' text' → text ≡ text'
 one_compared tr a a' b b' fuel heads e f x x' y y' text text' (c, h, is) (c', h', is') =
     let u = one_read tr a a' fuel heads e x x' in
     let v = one_read tr b b' fuel heads f y y' in
     let names : ◌≡◌ {A = TreeWithNames} (record { a = x.names; b = y.names }) (record { a = x'.names; b = y'.names }) =
-    ap (λ (ns : List (List ℕ)). record { a = ns; b = y.names }) u.0 ∙ ap (λ (ns : List (List ℕ)). record { a = x'.names; b = ns }) v.0 in
+    ap (λ (ns : List (List ℕ)). record { a = ns; b = y.names }) u.0
+    ∙ ap (λ (ns : List (List ℕ)). record { a = x'.names; b = ns }) v.0 in
     let moved = subst (λ n. IsComparison n x'.tree y'.tree c) names
-    (subst (λ t. IsComparison (record { a = x.names; b = y.names }) x'.tree t c) v.1 (subst (λ t. IsComparison (record { a = x.names; b = y.names }) t y.tree c) u.1 h)) in
-    is ∙ ap (λ c. line (compared_text c)) (comparison_is_one (record { a = x'.names; b = y'.names }) x'.tree y'.tree c c' moved h') ∙ sym is'
+    (subst (λ t. IsComparison (record { a = x.names; b = y.names }) x'.tree t c) v.1
+    (subst (λ t. IsComparison (record { a = x.names; b = y.names }) t y.tree c) u.1 h)) in
+    is ∙ ap (λ c. line (compared_text c))
+    (comparison_is_one (record { a = x'.names; b = y'.names }) x'.tree y'.tree c c' moved h') ∙ sym is'
 
 -- ---- a job
 
@@ -309,7 +379,9 @@ IsOnTerm (jobs.equal translation workers fuel heads first second) = ⊥
 IsOnTerm _ = Unit {0}
 
 -- a file that is refused has no term within the limits
-pub not_refused : (tr : Translation) (term journal : Text) (bytes : List ℕ) (t : Tree) (names : List (List ℕ)) (s : Status) (x : List ℕ) → OfFile (check tr term journal) bytes s x → IsTermFile tr bytes t names → ⊥
+pub not_refused : (tr : Translation) (term journal : Text) (bytes : List ℕ) (t : Tree)
+    (names : List (List ℕ)) (s : Status) (x : List ℕ) → OfFile (check tr term journal) bytes s x →
+    IsTermFile tr bytes t names → ⊥
 not_refused tr term journal bytes t names s x (too_long l h) i = let b = i.short in omega arith
 not_refused tr term journal bytes t names s x (refused l at r h) i = r.0 i.file.named i.file.text
 not_refused tr term journal bytes t names s x (has_term l u others f h) i = go h
@@ -323,11 +395,15 @@ not_refused tr term journal bytes t names s x (has_term l u others f h) i = go h
     go (done d z h) = h
 
 -- what is found of a journal, by cases
-pub data OfJournal (tr : Translation) (t : Tree) (names : List (List ℕ)) (journal : List ℕ) (s : Status) (x : List ℕ) : Type 0 where
+pub data OfJournal (tr : Translation) (t : Tree) (names : List (List ℕ)) (journal : List ℕ)
+    (s : Status) (x : List ℕ) : Type 0 where
   past : 402653184 < length journal → Same s Limit x journal_text → OfJournal tr t names journal s x
-  found : length journal ≤ 402653184 → (v : Check) → OnlyIsFound (start_net_of_term tr t names) journal v → Same s Done x (found_text v) → OfJournal tr t names journal s x
+  found : length journal ≤ 402653184 → (v : Check) →
+      OnlyIsFound (start_net_of_term tr t names) journal v → Same s Done x (found_text v) →
+      OfJournal tr t names journal s x
 
-pub of_journal_answer : (tr : Translation) (t : Tree) (names : List (List ℕ)) (journal : List ℕ) (s : Status) (x : List ℕ) → JournalAnswer tr t names journal s x → OfJournal tr t names journal s x
+pub of_journal_answer : (tr : Translation) (t : Tree) (names : List (List ℕ)) (journal : List ℕ)
+    (s : Status) (x : List ℕ) → JournalAnswer tr t names journal s x → OfJournal tr t names journal s x
 of_journal_answer tr t names journal Limit x h = past h.0 (refl, h.1)
 of_journal_answer tr t names journal Done x h = found h.0 h.1.0 h.1.1 (refl, h.1.2)
 of_journal_answer tr t names journal Spent x h = absurd h
@@ -338,7 +414,9 @@ of_journal_answer tr t names journal WriteFault x h = absurd h
 of_journal_answer tr t names journal NoMemory x h = absurd h
 of_journal_answer tr t names journal BadNet x h = absurd h
 
-one_journal : (tr : Translation) (t : Tree) (names : List (List ℕ)) (journal : List ℕ) (s s' : Status) (x x' : List ℕ) → OfJournal tr t names journal s x → OfJournal tr t names journal s' x' → Same s s' x x'
+one_journal : (tr : Translation) (t : Tree) (names : List (List ℕ)) (journal : List ℕ)
+    (s s' : Status) (x x' : List ℕ) → OfJournal tr t names journal s x →
+    OfJournal tr t names journal s' x' → Same s s' x x'
 one_journal tr t names journal s s' x x' (past l h) (past l' h') = same_as s s' Limit x x' journal_text h h'
 one_journal tr t names journal s s' x x' (past l h) (found l' v f h') = absurd (omega arith)
 one_journal tr t names journal s s' x x' (found l v f h) (past l' h') = absurd (omega arith)
@@ -346,7 +424,8 @@ one_journal tr t names journal s s' x x' (found l v f h) (found l' w g h') =
     let e : v ≡ w = (f w).1 ((g w).0 refl) in
     (h.0 ∙ sym h'.0, h.1 ∙ ap found_text e ∙ sym h'.1)
 
-one_making : (tr : Translation) (runs : Bool) (k : ℕ) (s s' : Status) (x x' : List ℕ) → Makes tr runs k s x → Makes tr runs k s' x' → Same s s' x x'
+one_making : (tr : Translation) (runs : Bool) (k : ℕ) (s s' : Status) (x x' : List ℕ) →
+    Makes tr runs k s x → Makes tr runs k s' x' → Same s s' x x'
 one_making tr false k s s' x x' m m' = (m.0 ∙ sym m'.0, m.1 ∙ sym m'.1)
 one_making tr true k s s' x x' m m' =
     let e = one_file_answer (plain_run tr) (doubled_text k) s s' x x' m m' in
@@ -356,24 +435,39 @@ pub one_bytes : (told : Option (List ℕ)) (a b : List ℕ) → told ≡ Some a 
 one_bytes told a b e f = let z : Some a ≡ Some b = sym e ∙ f in cc
 
 module _ (files : Files) where
-  one_checked : (tr : Translation) (term journal : Text) (s s' : Status) (x x' : List ℕ) → JobAnswer files s x (check tr term journal) → JobAnswer files s' x' (check tr term journal) → Same s s' x x'
+  one_checked : (tr : Translation) (term journal : Text) (s s' : Status) (x x' : List ℕ) →
+      JobAnswer files s x (check tr term journal) → JobAnswer files s' x' (check tr term journal) → Same s s' x x'
   one_checked tr term journal s s' x x' (of_file {bytes = a} has e h) (of_file {bytes = b} has' e' h') =
-      let k = one_file_answer (check tr term journal) b s s' x x' (subst (λ a. FileAnswer (check tr term journal) a s x) (one_bytes (files 0 term) a b e e') h) h' in
+      let k = one_file_answer (check tr term journal) b s s' x x'
+      (subst (λ a. FileAnswer (check tr term journal) a s x) (one_bytes (files 0 term) a b e e') h) h' in
       (k.0, k.1)
-  one_checked tr term journal s s' x x' (of_file {bytes = a} has e h) (of_journal {bytes = b} {t = t} {names = names} e' i f' h') =
-      absurd (not_refused tr term journal b t names s x (of_file_answer (check tr term journal) b s x (subst (λ a. FileAnswer (check tr term journal) a s x) (one_bytes (files 0 term) a b e e') h)) i)
-  one_checked tr term journal s s' x x' (of_journal {bytes = b} {t = t} {names = names} e i f h) (of_file {bytes = a} has' e' h') =
-      absurd (not_refused tr term journal b t names s' x' (of_file_answer (check tr term journal) b s' x' (subst (λ a. FileAnswer (check tr term journal) a s' x') (one_bytes (files 0 term) a b e' e) h')) i)
-  one_checked tr term journal s s' x x' (of_journal {bytes = a} {trace = u} {t = t} {names = names} e i f h) (of_journal {bytes = b} {trace = v} {t = t'} {names = names'} e' i' f' h') =
+  one_checked tr term journal s s' x x' (of_file {bytes = a} has e h)
+      (of_journal {bytes = b} {t = t} {names = names} e' i f' h') =
+      absurd (not_refused tr term journal b t names s x
+      (of_file_answer (check tr term journal) b s x
+      (subst (λ a. FileAnswer (check tr term journal) a s x) (one_bytes (files 0 term) a b e e') h)) i)
+  one_checked tr term journal s s' x x' (of_journal {bytes = b} {t = t} {names = names} e i f h)
+      (of_file {bytes = a} has' e' h') =
+      absurd (not_refused tr term journal b t names s' x'
+      (of_file_answer (check tr term journal) b s' x'
+      (subst (λ a. FileAnswer (check tr term journal) a s' x') (one_bytes (files 0 term) a b e' e) h')) i)
+  one_checked tr term journal s s' x x'
+      (of_journal {bytes = a} {trace = u} {t = t} {names = names} e i f h)
+      (of_journal {bytes = b} {trace = v} {t = t'} {names = names'} e' i' f' h') =
       let same_file = subst (λ b. IsTermFile tr b t' names') (one_bytes (files 0 term) b a e' e) i' in
       let term_is = one_file a t' t names' names same_file.file i.file in
       let trace_is = one_bytes (files 1 journal) v u f' f in
-      let h'' = subst (λ t. JournalAnswer tr t names u s' x') term_is.0 (subst (λ names. JournalAnswer tr t' names u s' x') term_is.1 (subst (λ v. JournalAnswer tr t' names' v s' x') trace_is h')) in
-      one_journal tr t names u s s' x x' (of_journal_answer tr t names u s x h) (of_journal_answer tr t names u s' x' h'')
+      let h'' = subst (λ t. JournalAnswer tr t names u s' x') term_is.0
+      (subst (λ names. JournalAnswer tr t' names u s' x') term_is.1
+      (subst (λ v. JournalAnswer tr t' names' v s' x') trace_is h')) in
+      one_journal tr t names u s s' x x' (of_journal_answer tr t names u s x h)
+      (of_journal_answer tr t names u s' x' h'')
 
-  one_on_file : (asked : Asked) → IsOnTerm asked → (s s' : Status) (x x' : List ℕ) → JobAnswer files s x asked → JobAnswer files s' x' asked → Alike asked s s' x x'
+  one_on_file : (asked : Asked) → IsOnTerm asked → (s s' : Status) (x x' : List ℕ) →
+      JobAnswer files s x asked → JobAnswer files s' x' asked → Alike asked s s' x x'
   one_on_file asked on s s' x x' (of_file {bytes = a} has e h) (of_file {bytes = b} has' e' h') =
-      one_file_answer asked b s s' x x' (subst (λ a. FileAnswer asked a s x) (one_bytes (files 0 (file_name asked)) a b e e') h) h'
+      one_file_answer asked b s s' x x' (subst (λ a. FileAnswer asked a s x)
+      (one_bytes (files 0 (file_name asked)) a b e e') h) h'
   one_on_file asked on s s' x x' (of_file has e h) (of_journal e' i f' h') = absurd on
   one_on_file asked on s s' x x' (of_file has e h) (made m) = absurd on
   one_on_file asked on s s' x x' (of_journal e' i f' h') k = absurd on
@@ -388,46 +482,70 @@ module _ (files : Files) where
   one_on_file asked on s s' x x' (of_both e t f u is h) k = absurd on
 
   -- what `run` answers to bytes that another file's name has is one answer
-  one_of_run : (tr : Translation) (w fuel heads : ℕ) (name : Text) (told : Option (List ℕ)) (a b : List ℕ) → told ≡ Some a → told ≡ Some b → (s s' : Status) (x x' : List ℕ) →
+  one_of_run : (tr : Translation) (w fuel heads : ℕ) (name : Text) (told : Option (List ℕ))
+      (a b : List ℕ) → told ≡ Some a → told ≡ Some b → (s s' : Status) (x x' : List ℕ) →
       FileAnswer (run tr w fuel heads name) a s x → FileAnswer (run tr w fuel heads name) b s' x' → Same s s' x x'
   one_of_run tr w fuel heads name told a b e e' s s' x x' h h' =
-      let k = one_file_answer (run tr w fuel heads name) b s s' x x' (subst (λ a. FileAnswer (run tr w fuel heads name) a s x) (one_bytes told a b e e') h) h' in
+      let k = one_file_answer (run tr w fuel heads name) b s s' x x'
+      (subst (λ a. FileAnswer (run tr w fuel heads name) a s x) (one_bytes told a b e e') h) h' in
       (k.0, k.1)
 
   -- a file whose term is read back is no refusal
-  not_read : (tr : Translation) (w fuel heads : ℕ) (name : Text) (told : Option (List ℕ)) (a b : List ℕ) → told ≡ Some a → told ≡ Some b → HasTree tr a fuel heads → (s : Status) (x : List ℕ) → s ≢ Done →
+  not_read : (tr : Translation) (w fuel heads : ℕ) (name : Text) (told : Option (List ℕ))
+      (a b : List ℕ) → told ≡ Some a → told ≡ Some b → HasTree tr a fuel heads → (s : Status) (x : List ℕ) → s ≢ Done →
       FileAnswer (run tr w fuel heads name) b s x → ⊥
   not_read tr w fuel heads name told a b e e' t s x isnt h =
-      isnt (read_file tr w fuel heads name b (subst (λ a. HasTree tr a fuel heads) (one_bytes told a b e e') t) s x (of_file_answer (run tr w fuel heads name) b s x h))
+      isnt (read_file tr w fuel heads name b
+      (subst (λ a. HasTree tr a fuel heads) (one_bytes told a b e e') t) s x
+      (of_file_answer (run tr w fuel heads name) b s x h))
 
-  one_equal : (tr : Translation) (w fuel heads : ℕ) (a b : Text) (s s' : Status) (x x' : List ℕ) → JobAnswer files s x (jobs.equal tr w fuel heads a b) → JobAnswer files s' x' (jobs.equal tr w fuel heads a b) → Same s s' x x'
+  one_equal : (tr : Translation) (w fuel heads : ℕ) (a b : Text) (s s' : Status) (x x' : List ℕ) →
+      JobAnswer files s x (jobs.equal tr w fuel heads a b) →
+      JobAnswer files s' x' (jobs.equal tr w fuel heads a b) → Same s s' x x'
   one_equal tr w f q a b s s' x x' (of_file has e h) k = absurd has
   one_equal tr w f q a b s s' x x' (of_first e isnt h) (of_file has e' h') = absurd has
-  one_equal tr w f q a b s s' x x' (of_first {bytes = m} e isnt h) (of_first {bytes = n} e' isnt' h') = one_of_run tr w f q a (files 0 a) m n e e' s s' x x' h h'
-  one_equal tr w f q a b s s' x x' (of_first {bytes = m} e isnt h) (of_second {bytes = n} e' t' f' isnt' h') = absurd (not_read tr w f q a (files 0 a) n m e' e t' s x isnt h)
-  one_equal tr w f q a b s s' x x' (of_first {bytes = m} e isnt h) (of_both {bytes = n} e' t' f' u' is' h') = absurd (not_read tr w f q a (files 0 a) n m e' e t' s x isnt h)
+  one_equal tr w f q a b s s' x x' (of_first {bytes = m} e isnt h)
+      (of_first {bytes = n} e' isnt' h') = one_of_run tr w f q a (files 0 a) m n e e' s s' x x' h h'
+  one_equal tr w f q a b s s' x x' (of_first {bytes = m} e isnt h)
+      (of_second {bytes = n} e' t' f' isnt' h') = absurd (not_read tr w f q a (files 0 a) n m e' e t' s x isnt h)
+  one_equal tr w f q a b s s' x x' (of_first {bytes = m} e isnt h)
+      (of_both {bytes = n} e' t' f' u' is' h') = absurd (not_read tr w f q a (files 0 a) n m e' e t' s x isnt h)
   one_equal tr w f q a b s s' x x' (of_second e t d isnt h) (of_file has e' h') = absurd has
-  one_equal tr w f q a b s s' x x' (of_second {bytes = m} e t d isnt h) (of_first {bytes = n} e' isnt' h') = absurd (not_read tr w f q a (files 0 a) m n e e' t s' x' isnt' h')
-  one_equal tr w f q a b s s' x x' (of_second {bytes' = m} e t d isnt h) (of_second {bytes' = n} e' t' d' isnt' h') = one_of_run tr w f q b (files 1 b) m n d d' s s' x x' h h'
-  one_equal tr w f q a b s s' x x' (of_second {bytes' = m} e t d isnt h) (of_both {bytes' = n} e' t' d' u' is' h') = absurd (not_read tr w f q b (files 1 b) n m d' d u' s x isnt h)
+  one_equal tr w f q a b s s' x x' (of_second {bytes = m} e t d isnt h)
+      (of_first {bytes = n} e' isnt' h') = absurd (not_read tr w f q a (files 0 a) m n e e' t s' x' isnt' h')
+  one_equal tr w f q a b s s' x x' (of_second {bytes' = m} e t d isnt h)
+      (of_second {bytes' = n} e' t' d' isnt' h') = one_of_run tr w f q b (files 1 b) m n d d' s s' x x' h h'
+  one_equal tr w f q a b s s' x x' (of_second {bytes' = m} e t d isnt h)
+      (of_both {bytes' = n} e' t' d' u' is' h') = absurd (not_read tr w f q b (files 1 b) n m d' d u' s x isnt h)
   one_equal tr w f q a b s s' x x' (of_both e t d u is h) (of_file has e' h') = absurd has
-  one_equal tr w f q a b s s' x x' (of_both {bytes = m} e t d u is h) (of_first {bytes = n} e' isnt' h') = absurd (not_read tr w f q a (files 0 a) m n e e' t s' x' isnt' h')
-  one_equal tr w f q a b s s' x x' (of_both {bytes' = m} e t d u is h) (of_second {bytes' = n} e' t' d' isnt' h') = absurd (not_read tr w f q b (files 1 b) m n d d' u s' x' isnt' h')
-  one_equal tr w f q a b s s' x x' (of_both {bytes = m} {bytes' = n} e t d u is h) (of_both {bytes = m'} {bytes' = n'} e' t' d' u' is' h') =
-      (is ∙ sym is', one_compared tr m m' n n' f q (one_bytes (files 0 a) m m' e e') (one_bytes (files 1 b) n n' d d') t t' u u' x x' h h')
+  one_equal tr w f q a b s s' x x' (of_both {bytes = m} e t d u is h)
+      (of_first {bytes = n} e' isnt' h') = absurd (not_read tr w f q a (files 0 a) m n e e' t s' x' isnt' h')
+  one_equal tr w f q a b s s' x x' (of_both {bytes' = m} e t d u is h)
+      (of_second {bytes' = n} e' t' d' isnt' h') = absurd (not_read tr w f q b (files 1 b) m n d d' u s' x' isnt' h')
+  one_equal tr w f q a b s s' x x' (of_both {bytes = m} {bytes' = n} e t d u is h)
+      (of_both {bytes = m'} {bytes' = n'} e' t' d' u' is' h') = (
+        is ∙ sym is',
+        one_compared tr m m' n n' f q (one_bytes (files 0 a) m m' e e')
+            (one_bytes (files 1 b) n n' d d') t t' u u' x x' h h',
+      )
 
-  one_of_net_job : (tr : Translation) (w fuel : ℕ) (name : Text) (s s' : Status) (x x' : List ℕ) → JobAnswer files s x (jobs.net tr false w fuel name) → JobAnswer files s' x' (jobs.net tr false w fuel name) → Alike (jobs.net tr false w fuel name) s s' x x'
+  one_of_net_job : (tr : Translation) (w fuel : ℕ) (name : Text) (s s' : Status) (x x' : List ℕ) →
+      JobAnswer files s x (jobs.net tr false w fuel name) →
+      JobAnswer files s' x' (jobs.net tr false w fuel name) → Alike (jobs.net tr false w fuel name) s s' x x'
   one_of_net_job tr w fuel name s s' x x' (of_file has e h) k = absurd has
   one_of_net_job tr w fuel name s s' x x' (of_net_file e h) (of_file has e' h') = absurd has
   one_of_net_job tr w fuel name s s' x x' (of_net_file {bytes = a} e h) (of_net_file {bytes = b} e' h') =
-      one_net_file tr w name fuel b s s' x x' (subst (λ a. NetFileAnswer fuel a s x) (one_bytes (files 0 name) a b e e') h) h'
+      one_net_file tr w name fuel b s s' x x'
+      (subst (λ a. NetFileAnswer fuel a s x) (one_bytes (files 0 name) a b e e') h) h'
 
-  one_made : (tr : Translation) (runs : Bool) (k : ℕ) (s s' : Status) (x x' : List ℕ) → JobAnswer files s x (gen tr runs k) → JobAnswer files s' x' (gen tr runs k) → Same s s' x x'
+  one_made : (tr : Translation) (runs : Bool) (k : ℕ) (s s' : Status) (x x' : List ℕ) →
+      JobAnswer files s x (gen tr runs k) → JobAnswer files s' x' (gen tr runs k) → Same s s' x x'
   one_made tr runs k s s' x x' (of_file has e h) a = absurd has
   one_made tr runs k s s' x x' (made m) (of_file has e h) = absurd has
   one_made tr runs k s s' x x' (made m) (made m') = one_making tr runs k s s' x x' m m'
 
-  pub one_of_job : (asked : Asked) → (s s' : Status) (x x' : List ℕ) → JobAnswer files s x asked → JobAnswer files s' x' asked → Alike asked s s' x x'
+  pub one_of_job : (asked : Asked) → (s s' : Status) (x x' : List ℕ) → JobAnswer files s x asked →
+      JobAnswer files s' x' asked → Alike asked s s' x x'
   one_of_job (run tr w f q name) s s' x x' a a' = one_on_file (run tr w f q name) tt s s' x x' a a'
   one_of_job (walk tr g q name) s s' x x' a a' = one_on_file (walk tr g q name) tt s s' x x' a a'
   one_of_job (view tr k name) s s' x x' a a' = one_on_file (view tr k name) tt s s' x x' a a'
@@ -446,7 +564,8 @@ pub data OfWords (words : List (String Global)) (files : Files) (s : Status) (x 
   no_job : AskForNothing words → Same s Usage x usage_text → OfWords words files s x
   job : (asked : Asked) → AskFor words asked → JobAnswer files s x asked → OfWords words files s x
 
-pub of_words : (words : List (String Global)) (files : Files) (s : Status) (x : List ℕ) → IsAnswer words files s x → OfWords words files s x
+pub of_words : (words : List (String Global)) (files : Files) (s : Status) (x : List ℕ) →
+    IsAnswer words files s x → OfWords words files s x
 of_words words files Usage x a = no_job a.0 (refl, a.1)
 of_words words files Syntax x a = job a.0 a.1 a.2
 of_words words files Spent x a = job a.0 a.1 a.2
@@ -462,7 +581,8 @@ pub one_job : (words : List (String Global)) (a b : Asked) → AskFor words a �
 one_job words a b h h' = let e : Some a ≡ Some b = sym h ∙ h' in cc
 
 -- the answer to words that ask for a job is that to the job
-pub own_job : (words : List (String Global)) (files : Files) (asked : Asked) → AskFor words asked → (s : Status) (x : List ℕ) → IsAnswer words files s x → JobAnswer files s x asked
+pub own_job : (words : List (String Global)) (files : Files) (asked : Asked) → AskFor words asked →
+    (s : Status) (x : List ℕ) → IsAnswer words files s x → JobAnswer files s x asked
 own_job words files asked j s x a = go (of_words words files s x a)
   where
     go : OfWords words files s x → JobAnswer files s x asked

@@ -11,7 +11,8 @@ use Rattle.ol_parse.specs.Numbered.{names_of, number}
 use Rattle.ol_words.specs.Texts.{Text}
 use Rattle.ol_words.specs.Lines.{Line, Known, line_from, line_of, is_dashed, is_end, after_option}
 use Rattle.ol_words.specs.Lines.{option_of, with_name}
-use Rattle.ol_words.specs.Asked.{Asked, run, walk, demand, equal, run_verb, walk_verb, demand_verb, equal_verb, is_input}
+use Rattle.ol_words.specs.Asked.{Asked, run, walk, demand, equal, run_verb, walk_verb, demand_verb}
+use Rattle.ol_words.specs.Asked.{equal_verb, is_input}
 use Rattle.ol_words.specs.Jobs.{job_of, job_on}
 use Rattle.ol_lines.proofs.Read.{line_is_normal_form, lost_has_no_normal_form}
 use Rattle.ol_cli.specs.Jobs.{AskFor, AreTold, TellsFiles, TellsTerm, term_bytes, Files}
@@ -204,7 +205,11 @@ plain_frugal words files old new w name p bytes has source is =
 two_told : (files : Files) (a b : Text) (m n : List ℕ) → files 0 a ≡ Some m → files 1 b ≡ Some n →
     AreTold files (equal Two 4 200000 4096 a b)
 two_told files a b m n e f zero name i = (m, let same : a ≡ name = cc in subst (λ name. files 0 name ≡ Some m) same e)
-two_told files a b m n e f (suc zero) name i = (n, let same : b ≡ name = cc in subst (λ name. files 1 name ≡ Some n) same f)
+two_told files a b m n e f (suc zero) name i = (
+  n,
+  let same : b ≡ name = cc in
+      subst (λ name. files 1 name ≡ Some n) same f,
+)
 two_told files a b m n e f (suc (suc place)) name i = absurd (cc)
 
 -- what is said of `equal` with any options, without options

@@ -18,7 +18,8 @@ use Rattle.ol_cli.specs.Jobs.{AskFor, HasTermFile, TellsTerm, file_name, term_by
 use Rattle.ol_cli.specs.Run.{Prints}
 use Rattle.ol_cli.specs.Walk.{Walks}
 use Rattle.ol_cli.specs.Demand.{Demands}
-use Rattle.ol_cli.specs.ReadAgain.{TextIsReadAgain, AnswerIsReadAgain, FileIsReadAgain, WordsAreReadAgain, WritesReadable}
+use Rattle.ol_cli.specs.ReadAgain.{TextIsReadAgain, AnswerIsReadAgain, FileIsReadAgain}
+use Rattle.ol_cli.specs.ReadAgain.{WordsAreReadAgain, WritesReadable}
 use Rattle.ol_cli.proofs.OneAnswer.{one_job}
 
 -- where the names are names of the grammar, the text of a tree whose places have heads is read again
@@ -26,44 +27,63 @@ abbrev pub IsReadWhereNamed : List (List ℕ) → List ReadNode → List ℕ →
 IsReadWhereNamed names tree term = AreNames names → HasAllHeads tree → IsReadBack names tree term
 
 module _ (tr : Translation) (t : Tree) (names : List (List ℕ)) (text : List ℕ) where
-  pub run_read : (fuel heads : ℕ) (p : Prints tr t names fuel heads text) → IsReadWhereNamed names p.shows.tree p.shows.term → (workers : ℕ) → AnswerIsReadAgain (run tr workers fuel heads []) t names status.Done text
+  pub run_read : (fuel heads : ℕ) (p : Prints tr t names fuel heads text) →
+      IsReadWhereNamed names p.shows.tree p.shows.term → (workers : ℕ) →
+      AnswerIsReadAgain (run tr workers fuel heads []) t names status.Done text
   run_read fuel heads p read workers words e = (p, read words)
 
-  pub walk_read : (edges heads : ℕ) (w : Walks tr t names edges heads text) → IsReadWhereNamed names w.tree w.term → AnswerIsReadAgain (walk tr edges heads []) t names status.Done text
+  pub walk_read : (edges heads : ℕ) (w : Walks tr t names edges heads text) →
+      IsReadWhereNamed names w.tree w.term → AnswerIsReadAgain (walk tr edges heads []) t names status.Done text
   walk_read edges heads w read words e = (w, read words)
 
-  pub demand_read : (fuel heads : ℕ) (d : Demands tr t names fuel heads text) → IsReadWhereNamed names d.ends.tree d.term → AnswerIsReadAgain (demand tr fuel heads []) t names status.Done text
+  pub demand_read : (fuel heads : ℕ) (d : Demands tr t names fuel heads text) →
+      IsReadWhereNamed names d.ends.tree d.term → AnswerIsReadAgain (demand tr fuel heads []) t names status.Done text
   demand_read fuel heads d read words e = (d, read words)
 
 -- by the names of the file's own term
-pub file_read : (asked : Asked) (bytes : List ℕ) (t : Tree) (names : List (List ℕ)) (st : Status) (text : List ℕ) → IsFileOf bytes t names → AreNames names → AnswerIsReadAgain asked t names st text → FileIsReadAgain asked bytes st text
+pub file_read : (asked : Asked) (bytes : List ℕ) (t : Tree) (names : List (List ℕ)) (st : Status)
+    (text : List ℕ) → IsFileOf bytes t names → AreNames names →
+    AnswerIsReadAgain asked t names st text → FileIsReadAgain asked bytes st text
 file_read asked bytes t names st text f words h u others g e =
     let same = one_file bytes t u names others f g in
-    subst (λ n. TextIsReadAgain asked u n text) same.1 (subst (λ u. TextIsReadAgain asked u names text) same.0 (h words e))
+    subst (λ n. TextIsReadAgain asked u n text) same.1
+    (subst (λ u. TextIsReadAgain asked u names text) same.0 (h words e))
 
 -- by the bytes that the source tells
-pub told_read : (asked : Asked) (contents : Option (List ℕ)) (read told : List ℕ) (st : Status) (text : List ℕ) → IsAllOf contents read → FileIsReadAgain asked read st text → contents ≡ Some told → FileIsReadAgain asked told st text
+pub told_read : (asked : Asked) (contents : Option (List ℕ)) (read told : List ℕ) (st : Status)
+    (text : List ℕ) → IsAllOf contents read → FileIsReadAgain asked read st text →
+    contents ≡ Some told → FileIsReadAgain asked told st text
 told_read asked contents read told st text w h e =
     let whole : IsAllOf (Some told) read = subst (λ k. IsAllOf k read) e w in
     subst (λ b. FileIsReadAgain asked b st text) whole h
 
 -- a job on a file has the bytes of its file
-pub file_bytes : (contents : Text → Option (List ℕ)) (asked : Asked) → HasTermFile asked → contents (file_name asked) ≡ term_bytes contents asked
+pub file_bytes : (contents : Text → Option (List ℕ)) (asked : Asked) → HasTermFile asked →
+    contents (file_name asked) ≡ term_bytes contents asked
 file_bytes contents (gen tr runs k) on = absurd on
 file_bytes contents (jobs.net tr false w f name) on = absurd on
 file_bytes contents (jobs.equal tr w f q first second) on = absurd on
 file_bytes contents _ on = refl
 
 -- by the bytes that are made
-pub made_read : (tr : Translation) (contents : Text → Option (List ℕ)) (runs : Bool) (k : ℕ) (st : Status) (text : List ℕ) → FileIsReadAgain (gen tr runs k) (doubled_text k) st text → IsReadWhereTold (gen tr runs k) contents st text
-made_read tr contents runs k st text h bytes e = let same : doubled_text k ≡ bytes = cc in subst (λ b. FileIsReadAgain (gen tr runs k) b st text) same h
+pub made_read : (tr : Translation) (contents : Text → Option (List ℕ)) (runs : Bool) (k : ℕ)
+    (st : Status) (text : List ℕ) → FileIsReadAgain (gen tr runs k) (doubled_text k) st text →
+    IsReadWhereTold (gen tr runs k) contents st text
+made_read tr contents runs k st text h bytes e = let same : doubled_text k ≡ bytes = cc in
+    subst (λ b. FileIsReadAgain (gen tr runs k) b st text) same h
 
-pub words_read : (words : List (String Global)) (contents : Text → Option (List ℕ)) (asked : Asked) (st : Status) (text : List ℕ) → AskFor words asked →
+pub words_read : (words : List (String Global)) (contents : Text → Option (List ℕ)) (asked : Asked)
+    (st : Status) (text : List ℕ) → AskFor words asked →
     IsReadWhereTold asked contents st text → WordsAreReadAgain words contents st text
 words_read words contents asked st text j h other bytes j' e =
     let all = subst (λ a. IsReadWhereTold a contents st text) (one_job words asked other j j') h in
     all bytes e
 
-pub written_read : (words : List (String Global)) (contents : Text → Option (List ℕ)) (st : Status) (text : List ℕ) (old new : Option (List ℕ)) → WordsAreReadAgain words contents st text → Appended old text new →
+pub written_read : (words : List (String Global)) (contents : Text → Option (List ℕ)) (st : Status)
+    (text : List ℕ) (old new : Option (List ℕ)) → WordsAreReadAgain words contents st text → Appended old text new →
     (bytes : List ℕ) → TellsTerm contents words bytes → st ≡ status.Done → WritesReadable words bytes old new
-written_read words contents st text old new h written bytes tells e asked t names j f = (text, h asked bytes j (tells asked j) t names f e, written)
+written_read words contents st text old new h written bytes tells e asked t names j f = (
+  text,
+  h asked bytes j (tells asked j) t names f e,
+  written,
+)

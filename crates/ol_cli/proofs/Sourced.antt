@@ -1,5 +1,7 @@
 -- What an answer says of the job's own term.
-use Rattle.std.proofs.Common.{◌≡◌, ◌≢◌, ℕ, ◌*◌, Bool, true, false, zero, suc, List, [], ◌∷◌, codes, slice_get, length, Option, Some, String, Global, ◌<◌, ◌≤◌, ◌⊎◌, inl, inr, sym, ap, ◌∙◌, subst, arith}
+use Rattle.std.proofs.Common.{◌≡◌, ◌≢◌, ℕ, ◌*◌, Bool, true, false, zero, suc, List, [], ◌∷◌, codes}
+use Rattle.std.proofs.Common.{slice_get, length, Option, Some, String, Global, ◌<◌, ◌≤◌, ◌⊎◌, inl}
+use Rattle.std.proofs.Common.{inr, sym, ap, ◌∙◌, subst, arith}
 use Rattle.std.proofs.lemmas.Bool.{cases_lt}
 use Rattle.ol_io.specs.Outside.{Appended, Rose}
 use Rattle.ol_term.specs.declared.translations.Translation.{Translation}
@@ -42,7 +44,8 @@ use Rattle.ol_cli.specs.Demand.{Demands, DemandRunsOut}
 use Rattle.ol_cli.specs.Answers.{Ends, JobAnswer, of_file, made, IsAnswer}
 use Rattle.ol_cli.specs.TermFiles.{IsTermFile, TermAnswer, FileAnswer}
 use Rattle.ol_cli.specs.Generate.{plain_run}
-use Rattle.ol_cli.specs.Sources.{PrintsTree, WalksTree, DemandsTree, TellsTree, WritesTree, RunTells, DemandTells, JobTells, IsLast, EveryRunTells}
+use Rattle.ol_cli.specs.Sources.{PrintsTree, WalksTree, DemandsTree, TellsTree, WritesTree}
+use Rattle.ol_cli.specs.Sources.{RunTells, DemandTells, JobTells, IsLast, EveryRunTells}
 use Rattle.ol_cli.specs.ReadAgain.{TextIsReadAgain, WritesReadable}
 use Rattle.ol_rules.proofs.LeadRuns.{as_run}
 use Rattle.ol_cli.proofs.DemandRuns.{is_start, demand_is_longer}
@@ -53,13 +56,15 @@ use Rattle.ol_cli.specs.Limits.{plain_fuel, plain_heads}
 
 -- ---- the tree that is written
 
-prints_tree : (tr : Translation) (t : Tree) (names : List (List ℕ)) (fuel heads : ℕ) (text : List ℕ) → HasNames t (length names) → (p : Prints tr t names fuel heads text) →
+prints_tree : (tr : Translation) (t : Tree) (names : List (List ℕ)) (fuel heads : ℕ)
+    (text : List ℕ) → HasNames t (length names) → (p : Prints tr t names fuel heads text) →
     (HasAllHeads p.shows.tree → IsReadBack names p.shows.tree p.shows.term) → PrintsTree tr t names fuel heads text
 prints_tree tr t names fuel heads text has p read =
     let s = p.shows in
     let N = translation_of tr t (length names) in
     let ran = as_run (start_net_of_term tr t names) p.net 0 p.journal p.run.leads in
-    let asked = last_tree_tells tr t (length names) has p.journal p.net ran p.complete heads (2 * live p.net) s.tree (omega arith) s.read in
+    let asked = last_tree_tells tr t (length names) has p.journal p.net ran p.complete heads
+    (2 * live p.net) s.tree (omega arith) s.read in
     let own = asked_heads N heads s.tree asked in
     let whole = tree_is_whole p.net heads (2 * live p.net) s.tree s.read in
     let says = places_say tr t (length names) has true whole.tree s.tree whole.is_list own
@@ -72,7 +77,8 @@ prints_tree tr t names fuel heads text has p read =
       read_again = read;
     }
 
-walks_tree : (tr : Translation) (t : Tree) (names : List (List ℕ)) (edges heads : ℕ) (text : List ℕ) → HasNames t (length names) → (w : Walks tr t names edges heads text) →
+walks_tree : (tr : Translation) (t : Tree) (names : List (List ℕ)) (edges heads : ℕ)
+    (text : List ℕ) → HasNames t (length names) → (w : Walks tr t names edges heads text) →
     (HasAllHeads w.tree → IsReadBack names w.tree w.term) → WalksTree tr t names edges heads text
 walks_tree tr t names edges heads text has w read =
     let N = translation_of tr t (length names) in
@@ -87,7 +93,8 @@ walks_tree tr t names edges heads text has w read =
       read_again = read;
     }
 
-demands_tree : (tr : Translation) (t : Tree) (names : List (List ℕ)) (fuel heads : ℕ) (text : List ℕ) → HasNames t (length names) → (d : Demands tr t names fuel heads text) →
+demands_tree : (tr : Translation) (t : Tree) (names : List (List ℕ)) (fuel heads : ℕ)
+    (text : List ℕ) → HasNames t (length names) → (d : Demands tr t names fuel heads text) →
     (HasAllHeads d.ends.tree → IsReadBack names d.ends.tree d.term) → DemandsTree tr t names fuel heads text
 demands_tree tr t names fuel heads text has d read =
     let N = translation_of tr t (length names) in
@@ -96,7 +103,9 @@ demands_tree tr t names fuel heads text has d read =
     let s = is_start tr t names is_net in
     let there = renamed Init N is_net (λ x y k l i j h h' e. cc) in
     let levels = start_levelled N (term_is_levelled tr t (length names) has) in
-    let asked = asked_kept start N (λ p c q e. ((there p c q e).1, (there p c q e).0)) heads d.ends.tree (places_told start d.ends.net heads d.ends.journal d.ends.tree s levels d.ends.run) in
+    let asked = asked_kept start N (λ p c q e.
+    ((there p c q e).1, (there p c q e).0)) heads d.ends.tree
+    (places_told start d.ends.net heads d.ends.journal d.ends.tree s levels d.ends.run) in
     let own = asked_heads N heads d.ends.tree asked in
     let whole = heads_are_whole N true d.ends.tree own in
     let says = places_say tr t (length names) has true whole.tree d.ends.tree whole.is_list own in
@@ -106,18 +115,22 @@ demands_tree tr t names fuel heads text has d read =
       says = says;
       always = says_always says;
       read_again = read;
-      least = demand_is_the_least start d.ends.net heads d.ends.journal d.ends.tree s (stays_clear start s levels) d.ends.run;
-      complete = complete_is_enough start d.ends.net heads d.ends.journal d.ends.tree s (stays_clear start s levels) d.ends.run;
+      least = demand_is_the_least start d.ends.net heads d.ends.journal d.ends.tree s
+          (stays_clear start s levels) d.ends.run;
+      complete = complete_is_enough start d.ends.net heads d.ends.journal d.ends.tree s
+          (stays_clear start s levels) d.ends.run;
     }
 
-tells_tree : (asked : Asked) (t : Tree) (names : List (List ℕ)) (text : List ℕ) → HasNames t (length names) → TextIsReadAgain asked t names text → TellsTree asked t names text
+tells_tree : (asked : Asked) (t : Tree) (names : List (List ℕ)) (text : List ℕ) →
+    HasNames t (length names) → TextIsReadAgain asked t names text → TellsTree asked t names text
 tells_tree (run tr workers fuel heads name) t names text has h = prints_tree tr t names fuel heads text has h.0 h.1
 tells_tree (walk tr edges heads name) t names text has h = walks_tree tr t names edges heads text has h.0 h.1
 tells_tree (gen tr true k) t names text has h = prints_tree tr t names plain_fuel plain_heads text has h.0 h.1
 tells_tree (demand tr f q name) t names text has h = demands_tree tr t names f q text has h.0 h.1
 tells_tree _ t names text has h = tt
 
-pub writes_tree : (words : List (String Global)) (bytes : List ℕ) (old new : Option (List ℕ)) → WritesReadable words bytes old new → WritesTree words bytes old new
+pub writes_tree : (words : List (String Global)) (bytes : List ℕ) (old new : Option (List ℕ)) →
+    WritesReadable words bytes old new → WritesTree words bytes old new
 writes_tree words bytes old new h asked t names j f =
     let x = h asked t names j f in
     (x.0, tells_tree asked t names x.0 (file_names bytes t names f) x.1, x.2)
@@ -125,18 +138,30 @@ writes_tree words bytes old new h asked t names j f =
 -- ---- answers to the job's own term
 
 -- the answer of `run` to some bytes is that to their own term, and each complete run tells it
-module _ (tr : Translation) (bytes : List ℕ) (workers fuel heads : ℕ) (name : Text) (t : Tree) (names : List (List ℕ)) (f : IsFileOf bytes t names) where
-  own_term : (st : Status) (text : List ℕ) (u : Tree) (others : List (List ℕ)) → IsTermFile tr bytes u others → TermAnswer (run tr workers fuel heads name) u others st text → TermAnswer (run tr workers fuel heads name) t names st text
+module _ (tr : Translation) (bytes : List ℕ) (workers fuel heads : ℕ) (name : Text) (t : Tree)
+    (names : List (List ℕ)) (f : IsFileOf bytes t names) where
+  own_term : (st : Status) (text : List ℕ) (u : Tree) (others : List (List ℕ)) →
+      IsTermFile tr bytes u others → TermAnswer (run tr workers fuel heads name) u others st text →
+      TermAnswer (run tr workers fuel heads name) t names st text
   own_term st text u others i h =
       let same = one_file bytes u t others names i.file f in
-      subst (λ t. TermAnswer (run tr workers fuel heads name) t names st text) same.0 (subst (λ names. TermAnswer (run tr workers fuel heads name) u names st text) same.1 h)
+      subst (λ t. TermAnswer (run tr workers fuel heads name) t names st text) same.0
+      (subst (λ names. TermAnswer (run tr workers fuel heads name) u names st text) same.1 h)
 
-  runs_tell : (st : Status) (text : List ℕ) (old new : Option (List ℕ)) → FileAnswer (run tr workers fuel heads name) bytes st text → Appended old text new →
-      (journal : List Entry) (net : NamedNet NodeName) → IsRun (start_net_of_term tr t names) 0 journal net → IsComplete net → RunTells names fuel heads journal net st old new
-  runs_tell status.Done text old new h written journal net ran complete =
-      (text, every_run_prints tr t names fuel heads text (file_net tr bytes t names f) (own_term status.Done text h.0 h.1 h.2 h.3) journal net ran complete, written)
+  runs_tell : (st : Status) (text : List ℕ) (old new : Option (List ℕ)) →
+      FileAnswer (run tr workers fuel heads name) bytes st text → Appended old text new →
+      (journal : List Entry) (net : NamedNet NodeName) →
+      IsRun (start_net_of_term tr t names) 0 journal net → IsComplete net →
+      RunTells names fuel heads journal net st old new
+  runs_tell status.Done text old new h written journal net ran complete = (
+    text,
+    every_run_prints tr t names fuel heads text (file_net tr bytes t names f)
+        (own_term status.Done text h.0 h.1 h.2 h.3) journal net ran complete,
+    written,
+  )
   runs_tell status.Spent text old new h written journal net ran complete =
-      every_run_is_longer tr t names fuel (file_net tr bytes t names f) (own_term status.Spent text h.0 h.1 h.2 h.3).0 journal net ran complete
+      every_run_is_longer tr t names fuel (file_net tr bytes t names f)
+      (own_term status.Spent text h.0 h.1 h.2 h.3).0 journal net ran complete
   runs_tell status.Usage text old new h written journal net ran complete = tt
   runs_tell status.Syntax text old new h written journal net ran complete = tt
   runs_tell status.ReadFault text old new h written journal net ran complete = tt
@@ -146,7 +171,8 @@ module _ (tr : Translation) (bytes : List ℕ) (workers fuel heads : ℕ) (name 
   runs_tell status.BadNet text old new h written journal net ran complete = tt
 
 -- so is that of `demand`
-module _ (tr : Translation) (bytes : List ℕ) (fuel heads : ℕ) (name : Text) (t : Tree) (names : List (List ℕ)) (f : IsFileOf bytes t names) (journal : List Entry) (net : NamedNet NodeName)
+module _ (tr : Translation) (bytes : List ℕ) (fuel heads : ℕ) (name : Text) (t : Tree)
+    (names : List (List ℕ)) (f : IsFileOf bytes t names) (journal : List Entry) (net : NamedNet NodeName)
     (ran : IsRun (start_net_of_term tr t names) 0 journal net) where
   -- a run from whose net the places can be read is longer than a front part of the demand run, which goes on
   serving_is_longer : DemandRunsOut tr t names fuel heads → CanBeRead net heads → fuel < length journal
@@ -157,17 +183,22 @@ module _ (tr : Translation) (bytes : List ℕ) (fuel heads : ℕ) (name : Text) 
       by (inr b) =
           let N = start_net_of_term tr t names in
           let s = is_start tr t names (file_net tr bytes t names f) in
-          let levels = start_levelled (translation_of tr t (length names)) (term_is_levelled tr t (length names) (file_names bytes t names f)) in
+          let levels = start_levelled (translation_of tr t (length names))
+          (term_is_levelled tr t (length names) (file_names bytes t names f)) in
           absurd (stopped_is_not_enough N M net heads own journal s (stays_clear N s levels) g ran (omega arith) enough)
 
   last_is_longer : DemandRunsOut tr t names fuel heads → IsComplete net ⊎ CanBeRead net heads → fuel < length journal
-  last_is_longer own (inl complete) = demand_is_longer tr t names (file_net tr bytes t names f) fuel heads own journal net ran complete
+  last_is_longer own (inl complete) = demand_is_longer tr t names
+      (file_net tr bytes t names f) fuel heads own journal net ran complete
   last_is_longer own (inr enough) = serving_is_longer own enough
 
-  demand_tells : (st : Status) (text : List ℕ) → FileAnswer (demand tr fuel heads name) bytes st text → IsComplete net ⊎ CanBeRead net heads → DemandTells fuel journal st
+  demand_tells : (st : Status) (text : List ℕ) →
+      FileAnswer (demand tr fuel heads name) bytes st text → IsComplete net ⊎ CanBeRead net heads →
+      DemandTells fuel journal st
   demand_tells status.Spent text h last =
       let same = one_file bytes h.0 t h.1 names h.2.file f in
-      let own = subst (λ t. TermAnswer (demand tr fuel heads name) t names status.Spent text) same.0 (subst (λ names. TermAnswer (demand tr fuel heads name) h.0 names status.Spent text) same.1 h.3) in
+      let own = subst (λ t. TermAnswer (demand tr fuel heads name) t names status.Spent text) same.0
+      (subst (λ names. TermAnswer (demand tr fuel heads name) h.0 names status.Spent text) same.1 h.3) in
       last_is_longer own.0 last
   demand_tells status.Done text h last = tt
   demand_tells status.Usage text h last = tt
@@ -181,42 +212,62 @@ module _ (tr : Translation) (bytes : List ℕ) (fuel heads : ℕ) (name : Text) 
 same_bytes : (a b : List ℕ) → Some a ≡ Some b → a ≡ b
 same_bytes a b e = cc
 
-module _ (files : Files) (bytes : List ℕ) (st : Status) (text : List ℕ) (old new : Option (List ℕ)) (written : Appended old text new) (t : Tree) (names : List (List ℕ)) (f : IsFileOf bytes t names)
+module _ (files : Files) (bytes : List ℕ) (st : Status) (text : List ℕ) (old new : Option (List ℕ))
+    (written : Appended old text new) (t : Tree) (names : List (List ℕ)) (f : IsFileOf bytes t names)
     (journal : List Entry) (net : NamedNet NodeName) where
-  answer_tells : (asked : Asked) → IsLast asked net → IsRun (start_net_of_term (translation_in asked) t names) 0 journal net → term_bytes (files 0) asked ≡ Some bytes → JobAnswer files st text asked → JobTells asked names journal net st old new
+  answer_tells : (asked : Asked) → IsLast asked net →
+      IsRun (start_net_of_term (translation_in asked) t names) 0 journal net →
+      term_bytes (files 0) asked ≡ Some bytes → JobAnswer files st text asked →
+      JobTells asked names journal net st old new
   answer_tells (run tr workers fuel heads name) last ran told (of_file {bytes = other} has e h) =
-      let own = subst (λ b. FileAnswer (run tr workers fuel heads name) b st text) (same_bytes other bytes (sym e ∙ told)) h in
+      let own = subst (λ b. FileAnswer (run tr workers fuel heads name) b st text)
+      (same_bytes other bytes (sym e ∙ told)) h in
       runs_tell tr bytes workers fuel heads name t names f st text old new own written journal net ran last
   answer_tells (gen tr true k) last ran told (made m) =
       let own = subst (λ b. FileAnswer (plain_run tr) b st text) (same_bytes (doubled_text k) bytes told) m in
       runs_tell tr bytes 4 200000 4096 (codes "-") t names f st text old new own written journal net ran last
   answer_tells (gen tr true k) last ran told (of_file has e h) = absurd has
   answer_tells (demand tr fuel heads name) last ran told (of_file {bytes = other} has e h) =
-      let own = subst (λ b. FileAnswer (demand tr fuel heads name) b st text) (same_bytes other bytes (sym e ∙ told)) h in
+      let own = subst (λ b. FileAnswer (demand tr fuel heads name) b st text)
+      (same_bytes other bytes (sym e ∙ told)) h in
       demand_tells tr bytes fuel heads name t names f journal net ran st text own last
   answer_tells _ last ran told a = tt
 
-pub answer_runs : (words : List (String Global)) (files : Files) (bytes : List ℕ) → TellsTerm (files 0) words bytes → (st : Status) (text : List ℕ) (old new : Option (List ℕ)) →
+pub answer_runs : (words : List (String Global)) (files : Files) (bytes : List ℕ) →
+    TellsTerm (files 0) words bytes → (st : Status) (text : List ℕ) (old new : Option (List ℕ)) →
     IsAnswer words files st text → Appended old text new → EveryRunTells words bytes st old new
 answer_runs words files bytes tells st text old new a written asked t names j f journal net ran last =
-    answer_tells files bytes st text old new written t names f journal net asked last ran (tells asked j) (own_job words files asked j st text a)
+    answer_tells files bytes st text old new written t names f journal net asked last ran
+    (tells asked j) (own_job words files asked j st text a)
 
 -- ---- the call
 
 -- a job with one file, or none, whose bytes are told
-one_name : (contents : Files) (bytes : List ℕ) (name : Text) → contents 0 name ≡ Some bytes → (place : ℕ) (n : Text) → slice_get (name ∷ []) place ≡ Some n → (b : List ℕ) × (contents place n ≡ Some b)
+one_name : (contents : Files) (bytes : List ℕ) (name : Text) → contents 0 name ≡ Some bytes →
+    (place : ℕ) (n : Text) → slice_get (name ∷ []) place ≡ Some n → (b : List ℕ) × (contents place n ≡ Some b)
 one_name contents bytes name told zero n is = let same : name ≡ n = cc in (bytes, ap (contents 0) (sym same) ∙ told)
 one_name contents bytes name told (suc k) n is = absurd (cc)
 
 -- what the call ended with is told by each complete run
-pub ends_run : (words : List (String Global)) (f f' given : ℕ) (contents : Files) (ended : Bool) → (Rose f f' → ⊥) → (bytes : List ℕ) → TellsTerm (contents 0) words bytes →
+pub ends_run : (words : List (String Global)) (f f' given : ℕ) (contents : Files) (ended : Bool) →
+    (Rose f f' → ⊥) → (bytes : List ℕ) → TellsTerm (contents 0) words bytes →
     (r : Status) (g g' : ℕ) (old new : Option (List ℕ)) → (Rose g g' → ⊥) → r ≢ status.NoMemory →
-    Ends words (record { faults = f; faults' = f'; contents = contents; given = given; ended = ended }) r g g' old new → EveryRunTells words bytes r old new
-ends_run words f f' given contents ended quiet bytes tells r g g' old new calm has e asked t names j file journal net ran last = go asked j last ran
+    Ends words (record {
+      faults = f;
+      faults' = f';
+      contents = contents;
+      given = given;
+      ended = ended;
+    }) r g g' old new → EveryRunTells words bytes r old new
+ends_run words f f' given contents ended quiet bytes tells r g g' old new calm has e asked t names j
+    file journal net ran last = go asked j last ran
   where
-    call : (asked : Asked) → AskFor words asked → IsLast asked net → IsRun (start_net_of_term (translation_in asked) t names) 0 journal net → AreTold contents asked → JobTells asked names journal net r old new
+    call : (asked : Asked) → AskFor words asked → IsLast asked net →
+        IsRun (start_net_of_term (translation_in asked) t names) 0 journal net →
+        AreTold contents asked → JobTells asked names journal net r old new
     call here j last ran told =
-        let all : TellsFiles contents words = λ asked j'. subst (AreTold contents) (one_job words here asked j j') told in
+        let all : TellsFiles contents words = λ asked j'.
+        subst (AreTold contents) (one_job words here asked j j') told in
         let x = ends_exact words f f' given contents ended quiet all r g g' old new calm has e in
         answer_runs words contents bytes tells r x.0 old new x.1 x.2 here t names j file journal net ran last
 
@@ -224,8 +275,13 @@ ends_run words f f' given contents ended quiet bytes tells r g g' old new calm h
     no_name tr k zero n is = absurd (cc)
     no_name tr k (suc place) n is = absurd (cc)
 
-    go : (asked : Asked) → AskFor words asked → IsLast asked net → IsRun (start_net_of_term (translation_in asked) t names) 0 journal net → JobTells asked names journal net r old new
-    go (run tr workers fuel heads name) j last ran = call (run tr workers fuel heads name) j last ran (one_name contents bytes name (tells (run tr workers fuel heads name) j))
+    go : (asked : Asked) → AskFor words asked → IsLast asked net →
+        IsRun (start_net_of_term (translation_in asked) t names) 0 journal net →
+        JobTells asked names journal net r old new
+    go (run tr workers fuel heads name) j last ran = call
+        (run tr workers fuel heads name) j last ran
+        (one_name contents bytes name (tells (run tr workers fuel heads name) j))
     go (gen tr true k) j last ran = call (gen tr true k) j last ran (no_name tr k)
-    go (demand tr fuel heads name) j last ran = call (demand tr fuel heads name) j last ran (one_name contents bytes name (tells (demand tr fuel heads name) j))
+    go (demand tr fuel heads name) j last ran = call (demand tr fuel heads name) j last ran
+        (one_name contents bytes name (tells (demand tr fuel heads name) j))
     go _ j last ran = tt

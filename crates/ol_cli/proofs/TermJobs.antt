@@ -1,4 +1,5 @@
--- What a job on a term file comes to, by what comes of that file, and by what is answered to its term. Used by each command.
+-- What a job on a term file comes to, by what comes of that file, and by what is answered to its
+-- term. Used by each command.
 use Rattle.std.proofs.Common.{sym, subst, ◌≡◌, ℕ, List, Option, None, false, ◌∙◌}
 use Rattle.ol_term.specs.Trees.{tree_of}
 use Rattle.ol_term.specs.declared.term_file.TermFile.{TermFile}

@@ -34,15 +34,25 @@ use Rattle.ol_cli.proofs.WavesKept.{waves_kept}
 abbrev pub IsTextOfWaves : Graph → List Entry → List ℕ → Type 0
 IsTextOfWaves g journal text = (waves : List ℕ) × IsWavesOf g journal waves × (text ≡ wave_trace_text journal waves)
 
-module _ (tr : Translation) (t : Tree) (names : List (List ℕ)) (start : Graph) (same : SameNet (net_of start) (translation_of tr t (length names))) (n : IsNet (net_of start)) (fuel seats : ℕ) (journal : List Entry) (w : ClosedTable) (text : List ℕ) (told : IsTextOfWaves start journal text) where
+module _ (tr : Translation) (t : Tree) (names : List (List ℕ)) (start : Graph)
+    (same : SameNet (net_of start) (translation_of tr t (length names))) (n : IsNet (net_of start))
+    (fuel seats : ℕ) (journal : List Entry) (w : ClosedTable) (text : List ℕ)
+    (told : IsTextOfWaves start journal text) where
   -- a trace of the graph's journal is one of the words' journal, from the term's own net
-  trace_of : journal ≡ journal_of w → (M : NamedNet NodeName) → IsRun (net_under Init (net_of start)) 0 (journal_of w) M → (P : NamedNet NodeName) → SameNet M P → IsTraceOf tr t names (journal_of w) P text
+  trace_of : journal ≡ journal_of w → (M : NamedNet NodeName) →
+      IsRun (net_under Init (net_of start)) 0 (journal_of w) M → (P : NamedNet NodeName) →
+      SameNet M P → IsTraceOf tr t names (journal_of w) P text
   trace_of read M run P last =
       let x : IsTextOfWaves start (journal_of w) text = subst (λ j. IsTextOfWaves start j text) read told in
       let N = net_under Init (net_of start) in
-      let end = one_end N N x.1.last M 0 (journal_of w) (start_net (net_of start) n) (start_named (net_of start)) (same_refl N) x.1.run run in
-      let here = same_under Init (net_of start) (translation_of tr t (length names)) same in
-      (x.0, waves_kept N (start_net_of_term tr t names) x.1.last P (journal_of w) x.0 here (same_trans x.1.last M P end last) x.1.waves_are, x.2)
+      let end = one_end N N x.1.last M 0 (journal_of w) (start_net (net_of start) n)
+      (start_named (net_of start)) (same_refl N) x.1.run run in
+      let here = same_under Init (net_of start) (translation_of tr t (length names)) same in (
+        x.0,
+        waves_kept N (start_net_of_term tr t names) x.1.last P (journal_of w) x.0 here
+            (same_trans x.1.last M P end last) x.1.waves_are,
+        x.2,
+      )
 
   pub spent_traces : IsSpent start fuel seats journal w → Traces tr t names fuel status.Spent text
   spent_traces d =
@@ -52,17 +62,20 @@ module _ (tr : Translation) (t : Tree) (names : List (List ℕ)) (start : Graph)
         net = r.0;
         run = r.1;
         ends = ((a.0, a.1, a.2, active_same d.last_net r.0 r.2 a.0 a.1 a.2 a.3), sym (ap length d.read) ∙ d.steps);
-        written = trace_of d.read d.last_net (words_run tr t names start same fuel seats w d.table d.last_net d.after) r.0 r.2;
+        written = trace_of d.read d.last_net
+            (words_run tr t names start same fuel seats w d.table d.last_net d.after) r.0 r.2;
       }
 
-  pub spent_trace_hands : IsSpent start fuel seats journal w → NoNodeTwice (journal_of w) → TraceHands tr t names seats fuel status.Spent text (Some w)
+  pub spent_trace_hands : IsSpent start fuel seats journal w → NoNodeTwice (journal_of w) →
+      TraceHands tr t names seats fuel status.Spent text (Some w)
   spent_trace_hands d once = (
     w,
     refl,
     d.last_net,
     record { start = start; same = same; table = d.table; after = d.after; once = once },
     (d.active, sym (ap length d.read) ∙ d.steps),
-    trace_of d.read d.last_net (words_run tr t names start same fuel seats w d.table d.last_net d.after) d.last_net (same_refl d.last_net),
+    trace_of d.read d.last_net (words_run tr t names start same fuel seats w d.table d.last_net
+        d.after) d.last_net (same_refl d.last_net),
   )
 
   pub done_traces : (last : Graph) → IsDone start fuel seats last journal w → Traces tr t names fuel status.Done text
@@ -71,8 +84,12 @@ module _ (tr : Translation) (t : Tree) (names : List (List ℕ)) (start : Graph)
         journal = journal_of w;
         net = r.0;
         run = r.1;
-        ends = (complete_same d.last_net r.0 r.2 d.complete, subst (λ (j : List Entry). length j ≤ fuel) d.read d.within);
-        written = trace_of d.read d.last_net (words_run tr t names start same fuel seats w d.table d.last_net d.after) r.0 r.2;
+        ends = (
+          complete_same d.last_net r.0 r.2 d.complete,
+          subst (λ (j : List Entry). length j ≤ fuel) d.read d.within,
+        );
+        written = trace_of d.read d.last_net
+            (words_run tr t names start same fuel seats w d.table d.last_net d.after) r.0 r.2;
       }
 
   -- the one-thread run ends within the fuel
@@ -82,14 +99,16 @@ module _ (tr : Translation) (t : Tree) (names : List (List ℕ)) (start : Graph)
       let c = done_traces last d in
       any_run_ends tr t names fuel (net_same (net_of start) T same n) c.journal c.net c.run c.ends.0 c.ends.1
 
-  pub done_trace_hands : (last : Graph) → IsDone start fuel seats last journal w → NoNodeTwice (journal_of w) → TraceHands tr t names seats fuel status.Done text (Some w)
+  pub done_trace_hands : (last : Graph) → IsDone start fuel seats last journal w →
+      NoNodeTwice (journal_of w) → TraceHands tr t names seats fuel status.Done text (Some w)
   done_trace_hands last d once = (
     w,
     refl,
     d.last_net,
     record { start = start; same = same; table = d.table; after = d.after; once = once },
     (d.complete, subst (λ (j : List Entry). length j ≤ fuel) d.read d.within),
-    trace_of d.read d.last_net (words_run tr t names start same fuel seats w d.table d.last_net d.after) d.last_net (same_refl d.last_net),
+    trace_of d.read d.last_net (words_run tr t names start same fuel seats w d.table d.last_net
+        d.after) d.last_net (same_refl d.last_net),
   )
 
 -- ---- that the workers' journal is one of a run
@@ -100,10 +119,12 @@ LeadsSomewhere g journal = (M : NamedNet NodeName) × IsRun (net_under Init (net
 module _ (start : Graph) (fuel seats : ℕ) (journal : List Entry) (w : ClosedTable) where
   pub spent_leads : IsSpent start fuel seats journal w → LeadsSomewhere start journal
   spent_leads d =
-      let run = subst (λ (g : Graph). IsRun (net_under Init (net_of g)) 0 (journal_of w) d.last_net) d.table.1 d.after in
+      let run = subst (λ (g : Graph). IsRun (net_under Init (net_of g)) 0
+      (journal_of w) d.last_net) d.table.1 d.after in
       subst (LeadsSomewhere start) (sym d.read) (d.last_net, run)
 
   pub done_leads : (last : Graph) → IsDone start fuel seats last journal w → LeadsSomewhere start journal
   done_leads last d =
-      let run = subst (λ (g : Graph). IsRun (net_under Init (net_of g)) 0 (journal_of w) d.last_net) d.table.1 d.after in
+      let run = subst (λ (g : Graph). IsRun (net_under Init (net_of g)) 0
+      (journal_of w) d.last_net) d.table.1 d.after in
       subst (LeadsSomewhere start) (sym d.read) (d.last_net, run)

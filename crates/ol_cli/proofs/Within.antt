@@ -1,19 +1,27 @@
 -- The numbers of a job are within the limits of their options.
-use Rattle.std.proofs.Common.{◌≡◌, ℕ, ◌≤◌, ◌==◌, Bool, true, false, ◌&&◌, if◌then◌else◌, List, [], ◌∷◌, Option, None, Some, option_map, option_and_then, nat_le, refl, subst, arith}
+use Rattle.std.proofs.Common.{◌≡◌, ℕ, ◌≤◌, ◌==◌, Bool, true, false, ◌&&◌, if◌then◌else◌, List, []}
+use Rattle.std.proofs.Common.{◌∷◌, Option, None, Some, option_map, option_and_then, nat_le, refl}
+use Rattle.std.proofs.Common.{subst, arith}
 use Rattle.std.proofs.lemmas.Bool.Decides.{nat_tests}
 use Rattle.ol_words.specs.Texts.{Text}
 use Rattle.ol_words.specs.Lines.{Line, line_of}
 use Rattle.ol_words.specs.Numbers.{Limits, number_in, number_within, is_number, setting}
-use Rattle.ol_words.specs.Asked.{Asked, run, walk, view, trace, check, gen, demand, certify, net, equal, Verb, run_verb, walk_verb, view_verb, trace_verb, check_verb, gen_verb, demand_verb, certify_verb, net_verb, equal_verb, numbered, doublings, is_input, asks}
-use Rattle.ol_words.specs.Jobs.{Setting, setting_row, verb_row, verb_named, known_of, values_of, number_on, numbers, job_on, job_behind, job_of}
+use Rattle.ol_words.specs.Asked.{Asked, run, walk, view, trace, check, gen, demand, certify, net}
+use Rattle.ol_words.specs.Asked.{equal, Verb, run_verb, walk_verb, view_verb, trace_verb}
+use Rattle.ol_words.specs.Asked.{check_verb, gen_verb, demand_verb, certify_verb, net_verb}
+use Rattle.ol_words.specs.Asked.{equal_verb, numbered, doublings, is_input, asks}
+use Rattle.ol_words.specs.Jobs.{Setting, setting_row, verb_row, verb_named, known_of, values_of}
+use Rattle.ol_words.specs.Jobs.{number_on, numbers, job_on, job_behind, job_of}
 use Rattle.ol_words.specs.Jobs as set
 use Rattle.ol_cli.specs.Inside.{IsWithinLimits}
 
-and_then_some : {A B : Type 0} (f : A → Option B) (o : Option A) (b : B) → option_and_then f o ≡ Some b → (a : A) × (o ≡ Some a) × (f a ≡ Some b)
+and_then_some : {A B : Type 0} (f : A → Option B) (o : Option A) (b : B) →
+    option_and_then f o ≡ Some b → (a : A) × (o ≡ Some a) × (f a ≡ Some b)
 and_then_some f (Some a) b h = (a, refl, h)
 and_then_some f None b h = absurd (cc)
 
-map_some : {A B : Type 0} (f : A → B) (o : Option A) (b : B) → option_map f o ≡ Some b → (a : A) × (o ≡ Some a) × (f a ≡ b)
+map_some : {A B : Type 0} (f : A → B) (o : Option A) (b : B) → option_map f o ≡ Some b →
+    (a : A) × (o ≡ Some a) × (f a ≡ b)
 map_some f (Some a) b h = (a, refl, cc)
 map_some f None b h = absurd (cc)
 
@@ -31,10 +39,12 @@ three false b c m n h = absurd (cc)
 le_of : (m n : ℕ) → nat_le m n ≡ true → m ≤ n
 le_of m n h = grind (arith, nat_tests, h)
 
-setting_within : (l : Limits) (values : List Text) (n : ℕ) → IsWithin l l.default → setting l values ≡ Some n → IsWithin l n
+setting_within : (l : Limits) (values : List Text) (n : ℕ) → IsWithin l l.default →
+    setting l values ≡ Some n → IsWithin l n
 setting_within l [] n d h = let e : l.default ≡ n = cc in subst (IsWithin l) e d
 setting_within l (value ∷ []) n d h =
-    let t = three (is_number value) (nat_le l.least (number_in value)) (nat_le (number_in value) l.most) (number_in value) n h in
+    let t = three (is_number value) (nat_le l.least (number_in value))
+    (nat_le (number_in value) l.most) (number_in value) n h in
     subst (IsWithin l) t.2 (le_of l.least (number_in value) t.0, le_of (number_in value) l.most t.1)
 setting_within l (value ∷ again ∷ more) n d h = absurd (cc)
 
@@ -53,7 +63,8 @@ default_within set.from_term = (omega arith, omega arith)
 -- ---- a line
 
 -- the first number of a list of settings, and the others
-first_number : (number : Setting → Option ℕ) (s : Setting) (rest : List Setting) (ns : List ℕ) → numbers number (s ∷ rest) ≡ Some ns →
+first_number : (number : Setting → Option ℕ) (s : Setting) (rest : List Setting) (ns : List ℕ) →
+    numbers number (s ∷ rest) ≡ Some ns →
     (n : ℕ) × (more : List ℕ) × (number s ≡ Some n) × (numbers number rest ≡ Some more) × (n ∷ more ≡ ns)
 first_number number s rest ns h =
     let t = and_then_some (λ (n : ℕ). option_map (λ (more : List ℕ). n ∷ more) (numbers number rest)) (number s) ns h in
@@ -66,11 +77,13 @@ AreWithin [] [] = Unit {0}
 AreWithin (s ∷ ss) (n ∷ ns) = IsWithin (setting_row s).limits n × AreWithin ss ns
 AreWithin _ _ = ⊥
 
-numbers_within : (line : Line) (ss : List Setting) (ns : List ℕ) → numbers (number_on line) ss ≡ Some ns → AreWithin ss ns
+numbers_within : (line : Line) (ss : List Setting) (ns : List ℕ) →
+    numbers (number_on line) ss ≡ Some ns → AreWithin ss ns
 numbers_within line [] ns h = let none : [] ≡ ns = cc in subst (AreWithin []) none tt
 numbers_within line (s ∷ ss) ns h =
     let t = first_number (number_on line) s ss ns h in
-    let here = setting_within (setting_row s).limits (values_of (setting_row s).option line.options) t.0 (default_within s) t.2 in
+    let here = setting_within (setting_row s).limits
+    (values_of (setting_row s).option line.options) t.0 (default_within s) t.2 in
     subst (AreWithin (s ∷ ss)) t.4 (here, numbers_within line ss t.1 t.3)
 
 -- ---- a verb
@@ -83,15 +96,21 @@ two_files false job asked h = cc
 nothing : (asked : Asked) → ◌≡◌ {A = Option Asked} None (Some asked) → ⊥
 nothing asked h = cc
 
-doubled_within : (asked : ℕ → Asked) (text : Text) (a : Asked) → ((k : ℕ) → k ≤ 10 → IsWithinLimits (asked k)) → option_map asked (number_within doublings text) ≡ Some a → IsWithinLimits a
+doubled_within : (asked : ℕ → Asked) (text : Text) (a : Asked) →
+    ((k : ℕ) → k ≤ 10 → IsWithinLimits (asked k)) →
+    option_map asked (number_within doublings text) ≡ Some a → IsWithinLimits a
 doubled_within asked text a each h =
     let is = map_some asked (number_within doublings text) a h in
-    let t = three (is_number text) (nat_le doublings.least (number_in text)) (nat_le (number_in text) doublings.most) (number_in text) is.0 is.1 in
-    subst IsWithinLimits {x = asked is.0} is.2 (each is.0 (subst (λ k. k ≤ 10) t.2 (le_of (number_in text) doublings.most t.1)))
+    let t = three (is_number text) (nat_le doublings.least (number_in text))
+    (nat_le (number_in text) doublings.most) (number_in text) is.0 is.1 in
+    subst IsWithinLimits {x = asked is.0} is.2
+    (each is.0 (subst (λ k. k ≤ 10) t.2 (le_of (number_in text) doublings.most t.1)))
 
-asked_within : (v : Verb) (ns : List ℕ) (names : List Text) (asked : Asked) → AreWithin (verb_row v).settings ns → asks v ns names ≡ Some asked → IsWithinLimits asked
+asked_within : (v : Verb) (ns : List ℕ) (names : List Text) (asked : Asked) →
+    AreWithin (verb_row v).settings ns → asks v ns names ≡ Some asked → IsWithinLimits asked
 asked_within run_verb (t ∷ w ∷ f ∷ q ∷ []) (name ∷ []) asked l h =
-    let is : run (numbered t) w f q name ≡ asked = cc in subst IsWithinLimits is (l.1.0.0, l.1.0.1, l.1.1.0.1, l.1.1.1.0.0)
+    let is : run (numbered t) w f q name ≡ asked = cc in
+    subst IsWithinLimits is (l.1.0.0, l.1.0.1, l.1.1.0.1, l.1.1.1.0.0)
 asked_within walk_verb (t ∷ e ∷ q ∷ []) (name ∷ []) asked l h =
     let is : walk (numbered t) e q name ≡ asked = cc in subst IsWithinLimits is l.1.1.0.0
 asked_within view_verb (t ∷ k ∷ []) (name ∷ []) asked l h =
@@ -100,14 +119,16 @@ asked_within trace_verb (t ∷ w ∷ f ∷ []) (name ∷ []) asked l h =
     let is : trace (numbered t) w f name ≡ asked = cc in subst IsWithinLimits is (l.1.0.0, l.1.0.1, l.1.1.0.1)
 asked_within check_verb (t ∷ []) (a ∷ b ∷ []) asked l h =
     let is = two_files (is_input a && is_input b) (check (numbered t) a b) asked h in subst IsWithinLimits is tt
-asked_within gen_verb (t ∷ r ∷ []) (n ∷ []) asked l h = doubled_within (gen (numbered t) (r == 1)) n asked (λ k below. below) h
+asked_within gen_verb (t ∷ r ∷ []) (n ∷ []) asked l h = doubled_within
+    (gen (numbered t) (r == 1)) n asked (λ k below. below) h
 asked_within demand_verb (t ∷ f ∷ q ∷ []) (name ∷ []) asked l h =
     let is : demand (numbered t) f q name ≡ asked = cc in subst IsWithinLimits is (l.1.0.1, l.1.1.0.0)
 asked_within certify_verb (t ∷ s ∷ w ∷ f ∷ q ∷ []) (name ∷ []) asked l h =
     let is : certify (numbered t) s w f q name ≡ asked = cc in
     subst IsWithinLimits is (l.1.1.0.0, l.1.1.0.1, l.1.1.1.0.1, l.1.1.1.1.0.0)
 asked_within net_verb (t ∷ r ∷ w ∷ f ∷ []) (name ∷ []) asked l h =
-    let is : net (numbered t) (r == 1) w f name ≡ asked = cc in subst IsWithinLimits is (l.1.1.0.0, l.1.1.0.1, l.1.1.1.0.1)
+    let is : net (numbered t) (r == 1) w f name ≡ asked = cc in
+    subst IsWithinLimits is (l.1.1.0.0, l.1.1.0.1, l.1.1.1.0.1)
 asked_within equal_verb (t ∷ w ∷ f ∷ q ∷ []) (a ∷ b ∷ []) asked l h =
     let is = two_files (is_input a && is_input b) (equal (numbered t) w f q a b) asked h in
     subst IsWithinLimits is (l.1.0.0, l.1.0.1, l.1.1.0.1, l.1.1.1.0.0)
@@ -123,5 +144,6 @@ job_within (program ∷ word ∷ rest) asked h =
     let v = named.0 in
     let read = and_then_some (job_on v) (line_of (known_of v) rest) asked named.2 in
     let line = read.0 in
-    let told = and_then_some (λ ns. asks v ns line.names) (numbers (number_on line) (verb_row v).settings) asked read.2 in
+    let told = and_then_some (λ ns. asks v ns line.names)
+    (numbers (number_on line) (verb_row v).settings) asked read.2 in
     asked_within v told.0 line.names asked (numbers_within line (verb_row v).settings told.0 told.1) told.2

@@ -17,7 +17,9 @@ use Rattle.ol_cli.specs.Run.{RunsOut, Prints}
 use Rattle.ol_cli.specs.Run.{journal_of, RunHands}
 use Rattle.ol_cli.proofs.Evaluated.{Told, runs_out, ports_kept, prints_work, prints_with}
 
-module _ (tr : Translation) (t : Tree) (names : List (List ℕ)) (start : Graph) (same : SameNet (net_of start) (translation_of tr t (length names))) (fuel seats heads : ℕ) (journal : List Entry) (w : ClosedTable) where
+module _ (tr : Translation) (t : Tree) (names : List (List ℕ)) (start : Graph)
+    (same : SameNet (net_of start) (translation_of tr t (length names))) (fuel seats heads : ℕ)
+    (journal : List Entry) (w : ClosedTable) where
   module _ (d : IsSpent start fuel seats journal w) where
     full : length (journal_of w) ≡ fuel
     full = sym (ap length d.read) ∙ d.steps
@@ -25,7 +27,8 @@ module _ (tr : Translation) (t : Tree) (names : List (List ℕ)) (start : Graph)
     pub spent_answer : IsNet (net_of start) → RunsOut tr t names fuel
     spent_answer n = runs_out tr t names start same fuel seats w d.table d.last_net d.after n d.active full
 
-    pub spent_hands : (text : List ℕ) → NoNodeTwice (journal_of w) → text ≡ spent_text fuel → RunHands tr t names seats fuel heads status.Spent text (Some w)
+    pub spent_hands : (text : List ℕ) → NoNodeTwice (journal_of w) → text ≡ spent_text fuel →
+        RunHands tr t names seats fuel heads status.Spent text (Some w)
     spent_hands text once e = (
       w,
       refl,
@@ -38,15 +41,18 @@ module _ (tr : Translation) (t : Tree) (names : List (List ℕ)) (start : Graph)
     pub done_ports : last.free ≡ 1 + length names
     done_ports = ports_kept tr t names start same fuel seats w d.table d.last_net d.after last d.frozen
 
-    module _ (stuck : ℕ) (tree : List ReadNode) (term text : List ℕ) (told : Told names heads stuck journal last tree term text) where
+    module _ (stuck : ℕ) (tree : List ReadNode) (term text : List ℕ)
+        (told : Told names heads stuck journal last tree term text) where
       own_told : Told names heads stuck (journal_of w) last tree term text
       own_told = subst (λ j. Told names heads stuck j last tree term text) d.read told
 
       within : length (journal_of w) ≤ fuel
       within = subst (λ (j : List Entry). length j ≤ fuel) d.read d.within
 
-      pub done_answer : (P : List ReadNode → List ℕ → Type 0) → IsNet (net_of start) → P tree term → (p : Prints tr t names fuel heads text) × P p.shows.tree p.shows.term
-      done_answer P n h = prints_with tr t names start same fuel seats w d.table d.last_net d.after last d.frozen heads stuck tree term text own_told within d.complete P n h
+      pub done_answer : (P : List ReadNode → List ℕ → Type 0) → IsNet (net_of start) → P tree term →
+          (p : Prints tr t names fuel heads text) × P p.shows.tree p.shows.term
+      done_answer P n h = prints_with tr t names start same fuel seats w d.table d.last_net d.after
+          last d.frozen heads stuck tree term text own_told within d.complete P n h
 
       pub done_hands : NoNodeTwice (journal_of w) → RunHands tr t names seats fuel heads status.Done text (Some w)
       done_hands once = (
@@ -54,5 +60,6 @@ module _ (tr : Translation) (t : Tree) (names : List (List ℕ)) (start : Graph)
         refl,
         d.last_net,
         record { start = start; same = same; table = d.table; after = d.after; once = once },
-        prints_work tr t names start same fuel seats w d.table d.last_net d.after last d.frozen heads stuck tree term text own_told within d.complete,
+        prints_work tr t names start same fuel seats w d.table d.last_net d.after last d.frozen
+            heads stuck tree term text own_told within d.complete,
       )

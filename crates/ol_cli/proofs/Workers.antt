@@ -1,6 +1,8 @@
--- An answer to a job is one to the same job with any other number of workers: no definition of an answer looks at that number. So
+-- An answer to a job is one to the same job with any other number of workers: no definition of an
+-- answer looks at that number. So
 -- words that ask for one job but for that number have one answer (`one_answer`).
-use Rattle.std.proofs.Common.{◌≡◌, ℕ, true, false, List, Option, None, Some, String, Global, option_map, sym, ap, ◌∙◌, subst}
+use Rattle.std.proofs.Common.{◌≡◌, ℕ, true, false, List, Option, None, Some, String, Global}
+use Rattle.std.proofs.Common.{option_map, sym, ap, ◌∙◌, subst}
 use Rattle.ol_words.specs.Texts.{texts_of}
 use Rattle.ol_words.specs.Asked.{Asked}
 use Rattle.ol_words.specs.Asked as jobs
@@ -21,7 +23,8 @@ file_unseen : (n : ℕ) (asked : Asked) (bytes : List ℕ) (st : Status) (text :
     FileAnswer asked bytes st text → FileAnswer (with_workers n asked) bytes st text
 file_unseen n asked bytes st text h = go asked st h
   where
-    go : (asked : Asked) (st : Status) → FileAnswer asked bytes st text → FileAnswer (with_workers n asked) bytes st text
+    go : (asked : Asked) (st : Status) → FileAnswer asked bytes st text →
+        FileAnswer (with_workers n asked) bytes st text
     go (jobs.run tr w f q name) status.Limit h = h
     go (jobs.run tr w f q name) status.Syntax h = h
     go (jobs.run tr w f q name) status.Usage h = h
@@ -100,7 +103,8 @@ workers_unseen n _ files st text h = h
 
 -- ---- two lists of words
 
-text_seen : (n : ℕ) (asked : Asked) (s : Status) (x x' : List ℕ) → HaveOneText (with_workers n asked) s x x' → HaveOneText asked s x x'
+text_seen : (n : ℕ) (asked : Asked) (s : Status) (x x' : List ℕ) →
+    HaveOneText (with_workers n asked) s x x' → HaveOneText asked s x x'
 text_seen n (jobs.run tr w f q name) s x x' h = h
 text_seen n (jobs.walk tr e q name) s x x' h = h
 text_seen n (jobs.view tr k name) s x x' h = h
@@ -130,21 +134,27 @@ text_seen n (jobs.net tr false w f name) status.BadNet x x' h = h
 text_seen n (jobs.equal tr w f q a b) s x x' h = h
 
 -- where these words ask for this job and those for that, the two are one but for the workers
-jobs_alike : (o o' : Option Asked) (a a' : Asked) → o ≡ Some a → o' ≡ Some a' → option_map (with_workers 1) o ≡ option_map (with_workers 1) o' →
+jobs_alike : (o o' : Option Asked) (a a' : Asked) → o ≡ Some a → o' ≡ Some a' →
+    option_map (with_workers 1) o ≡ option_map (with_workers 1) o' →
     with_workers 1 a ≡ with_workers 1 a'
 jobs_alike o o' a a' e e' alike =
-    let k : Some (with_workers 1 a) ≡ Some (with_workers 1 a') = sym (ap (option_map (with_workers 1)) e) ∙ alike ∙ ap (option_map (with_workers 1)) e' in cc
+    let k : Some (with_workers 1 a) ≡ Some (with_workers 1 a') = sym
+    (ap (option_map (with_workers 1)) e) ∙ alike ∙ ap (option_map (with_workers 1)) e' in cc
 
 -- words that ask for a job aren't alike with words that ask for nothing
-not_alike : (o o' : Option Asked) (a : Asked) → o ≡ None → o' ≡ Some a → option_map (with_workers 1) o ≡ option_map (with_workers 1) o' → ⊥
+not_alike : (o o' : Option Asked) (a : Asked) → o ≡ None → o' ≡ Some a →
+    option_map (with_workers 1) o ≡ option_map (with_workers 1) o' → ⊥
 not_alike o o' a e e' alike =
-    let k : None ≡ Some (with_workers 1 a) = sym (ap (option_map (with_workers 1)) e) ∙ alike ∙ ap (option_map (with_workers 1)) e' in absurd (cc)
+    let k : None ≡ Some (with_workers 1 a) = sym (ap (option_map (with_workers 1)) e) ∙ alike
+    ∙ ap (option_map (with_workers 1)) e' in absurd (cc)
 
 -- one status, and one text as far as these words ask for one
 abbrev pub OneOfWords : List (String Global) → Status → Status → List ℕ → List ℕ → Type 0
-OneOfWords words s s' x x' = (s ≡ s') × (AskForNothing words → x ≡ x') × ((asked : Asked) → AskFor words asked → HaveOneText asked s x x')
+OneOfWords words s s' x x' = (s ≡ s') × (AskForNothing words → x ≡ x')
+    × ((asked : Asked) → AskFor words asked → HaveOneText asked s x x')
 
-one_of_words : (words words' : List (String Global)) → AskAlike words words' → (files : Files) (s s' : Status) (x x' : List ℕ) → OfWords words files s x →
+one_of_words : (words words' : List (String Global)) → AskAlike words words' →
+    (files : Files) (s s' : Status) (x x' : List ℕ) → OfWords words files s x →
     OfWords words' files s' x' → OneOfWords words s s' x x'
 one_of_words words words' e files s s' x x' (no_job n h) (no_job n' h') =
     let k = same_as s s' Usage x x' usage_text h h' in
@@ -156,10 +166,14 @@ one_of_words words words' e files s s' x x' (job a j h) (no_job n' h') =
 one_of_words words words' e files s s' x x' (job a j h) (job a' j' h') =
     let same = jobs_alike (job_of (texts_of words)) (job_of (texts_of words')) a a' j j' e in
     let k = one_of_job files (with_workers 1 a) s s' x x' (workers_unseen 1 a files s x h)
-    (subst (λ a. JobAnswer files s' x' a) (sym same) (workers_unseen 1 a' files s' x' h')) in
-    (k.0, λ n. absurd (not_both words a n j), λ asked j''. subst (λ a. HaveOneText a s x x') (one_job words a asked j j'') (text_seen 1 a s x x' k.1))
+    (subst (λ a. JobAnswer files s' x' a) (sym same) (workers_unseen 1 a' files s' x' h')) in (
+      k.0,
+      λ n. absurd (not_both words a n j),
+      λ asked j''. subst (λ a. HaveOneText a s x x') (one_job words a asked j j'') (text_seen 1 a s x x' k.1),
+    )
 
-pub answers_alike : (words words' : List (String Global)) → AskAlike words words' → (files : Files) (s s' : Status) (x x' : List ℕ) → IsAnswer words files s x →
+pub answers_alike : (words words' : List (String Global)) → AskAlike words words' →
+    (files : Files) (s s' : Status) (x x' : List ℕ) → IsAnswer words files s x →
     IsAnswer words' files s' x' → OneOfWords words s s' x x'
 answers_alike words words' e files s s' x x' a a' =
     one_of_words words words' e files s s' x x' (of_words words files s x a) (of_words words' files s' x' a')

@@ -18,10 +18,14 @@ found_text (check.Run k) = count_line (codes "run") k
 found_text (check.BadText l) = count_line (codes "bad text at line") l
 found_text (check.NotARun l) = count_line (codes "not a run at line") l
 
--- What `check` answers to the bytes of a journal file, against a term: a limit that they pass, or the one thing that they are found
+-- What `check` answers to the bytes of a journal file, against a term: a limit that they pass, or
+-- the one thing that they are found
 -- to be.
 abbrev pub JournalAnswer : Translation → Tree → List (List ℕ) → List ℕ → Status → List ℕ → Type 0
-JournalAnswer translation t names journal status.Limit text = (most_journal_bytes < length journal) × (text ≡ journal_text)
+JournalAnswer translation t names journal status.Limit text = (most_journal_bytes < length journal)
+    × (text ≡ journal_text)
 JournalAnswer translation t names journal status.Done text =
-    (length journal ≤ most_journal_bytes) × ((found : Check) × OnlyIsFound (start_net_of_term translation t names) journal found × (text ≡ found_text found))
+    (length journal ≤ most_journal_bytes)
+    × ((found : Check) × OnlyIsFound (start_net_of_term translation t names) journal found
+    × (text ≡ found_text found))
 JournalAnswer translation t names journal _ text = ⊥

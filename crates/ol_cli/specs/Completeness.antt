@@ -19,7 +19,8 @@ use Rattle.ol_cli.specs.TermFiles.{IsTermFile}
 use Rattle.ol_cli.specs.Net.{IsNetFile, NetRunEnds}
 use Rattle.ol_cli.specs.Limits.{most_journal_bytes, most_nodes}
 
--- where the job rewrites a term until no pair is active, the one-thread run of this term ends within the job's fuel; and where it
+-- where the job rewrites a term until no pair is active, the one-thread run of this term ends
+-- within the job's fuel; and where it
 -- rewrites in demand order, so does the demand run
 abbrev pub EndsWithinFuel : Asked → Tree → List (List ℕ) → Type 0
 EndsWithinFuel (run translation workers fuel heads name) t names = RunEnds translation t names fuel
@@ -42,7 +43,8 @@ pub record HasTermWithin (files : Text → Option (List ℕ)) (asked : Asked) : 
 abbrev pub HasJournalWithin : (Text → Option (List ℕ)) → Text → Type 0
 HasJournalWithin files name = (journal : List ℕ) × (files name ≡ Some journal) × (length journal ≤ most_journal_bytes)
 
--- the bytes of a file with a net are told, no more than are read, and they are the text of a net whose run ends within the fuel, with
+-- the bytes of a file with a net are told, no more than are read, and they are the text of a net
+-- whose run ends within the fuel, with
 -- few nodes left
 pub record HasNetWithin (files : Text → Option (List ℕ)) (name : Text) (fuel : ℕ) : Type 0 where
   pub bytes : List ℕ
@@ -55,7 +57,8 @@ pub record HasNetWithin (files : Text → Option (List ℕ)) (name : Text) (fuel
   pub ends : NetRunEnds net fuel counts stuck nodes
   pub few : nodes ≤ most_nodes
 
--- The job can be done, its files having these bytes. A term that is only made can always be. Two terms can be compared where `run`
+-- The job can be done, its files having these bytes. A term that is only made can always be. Two
+-- terms can be compared where `run`
 -- can be done on both.
 abbrev pub CanDo : Files → Asked → Type 0
 CanDo files (gen translation false k) = Unit {0}
@@ -63,7 +66,8 @@ CanDo files (check translation term journal) =
     HasTermWithin (files 0) (check translation term journal) × HasJournalWithin (files 1) journal
 CanDo files (jobs.net translation false workers fuel name) = HasNetWithin (files 0) name fuel
 CanDo files (jobs.equal translation workers fuel heads first second) =
-    HasTermWithin (files 0) (run translation workers fuel heads first) × HasTermWithin (files 1) (run translation workers fuel heads second)
+    HasTermWithin (files 0) (run translation workers fuel heads first)
+    × HasTermWithin (files 1) (run translation workers fuel heads second)
 CanDo files asked = HasTermWithin (files 0) asked
 
 -- the words ask for a job that can be done

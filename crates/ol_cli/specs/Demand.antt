@@ -15,7 +15,8 @@ use Rattle.ol_cli.specs.Texts.{answer_text}
 use Rattle.ol_cli.specs.declared.status.Status.{Status}
 use Rattle.ol_cli.specs.Shapes.{DoneOrSpent, TellsFuel}
 
--- The demand run from the term's net, of which the first `heads` subterms are asked, ends within `fuel` steps: it rewrites the pairs
+-- The demand run from the term's net, of which the first `heads` subterms are asked, ends within
+-- `fuel` steps: it rewrites the pairs
 -- of this journal, reads this tree and leaves this net.
 pub record DemandEnds (translation : Translation) (t : Tree) (names : List (List ℕ)) (fuel heads : ℕ) : Type 0 where
   pub journal : List Entry
@@ -24,9 +25,11 @@ pub record DemandEnds (translation : Translation) (t : Tree) (names : List (List
   pub run : IsDemandRun (start_net_of_term translation t names) heads journal tree net
   pub within : length journal ≤ fuel
 
--- It ends so, and this is printed of it: the tree's text, the counts of its journal, and the number of pairs that are stuck in the
+-- It ends so, and this is printed of it: the tree's text, the counts of its journal, and the number
+-- of pairs that are stuck in the
 -- net that it leaves.
-pub record Demands (translation : Translation) (t : Tree) (names : List (List ℕ)) (fuel heads : ℕ) (text : List ℕ) : Type 0 where
+pub record Demands (translation : Translation) (t : Tree) (names : List (List ℕ)) (fuel heads : ℕ)
+    (text : List ℕ) : Type 0 where
   pub ends : DemandEnds translation t names fuel heads
   pub term : List ℕ
   pub stuck : ℕ

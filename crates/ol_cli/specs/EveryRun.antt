@@ -10,40 +10,50 @@ use Rattle.ol_term.specs.declared.translations.Translation.{Translation}
 use Rattle.ol_translate.specs.Translation.{translation_of}
 use Rattle.ol_cli.specs.Run.{Prints, RunsOut, Shows, start_net_of_term}
 
--- This complete run has no more than `fuel` steps, and what is printed of its journal and its net (up to the order in which the net is
+-- This complete run has no more than `fuel` steps, and what is printed of its journal and its net
+-- (up to the order in which the net is
 -- listed) is this text.
-pub record PrintsOf (names : List (List ℕ)) (fuel heads : ℕ) (journal : List Entry) (net : NamedNet NodeName) (text : List ℕ) : Type 0 where
+pub record PrintsOf (names : List (List ℕ)) (fuel heads : ℕ) (journal : List Entry)
+    (net : NamedNet NodeName) (text : List ℕ) : Type 0 where
   pub within : length journal ≤ fuel
   pub listed : NamedNet NodeName
   pub same : SameNet net listed
   pub shows : Shows names heads journal listed text
 
--- Where the answer is printed, each complete run prints it; and where the run is spent, each complete run is longer than the fuel.
+-- Where the answer is printed, each complete run prints it; and where the run is spent, each
+-- complete run is longer than the fuel.
 abbrev pub EveryRunPrints : Type 0
 EveryRunPrints = (translation : Translation) (t : Tree) (names : List (List ℕ)) (fuel heads : ℕ) (text : List ℕ) →
     IsNet (translation_of translation t (length names)) → Prints translation t names fuel heads text →
-    (journal : List Entry) (net : NamedNet NodeName) → IsRun (start_net_of_term translation t names) 0 journal net → IsComplete net →
+    (journal : List Entry) (net : NamedNet NodeName) →
+    IsRun (start_net_of_term translation t names) 0 journal net → IsComplete net →
     PrintsOf names fuel heads journal net text
 
 abbrev pub EveryRunIsLonger : Type 0
 EveryRunIsLonger = (translation : Translation) (t : Tree) (names : List (List ℕ)) (fuel : ℕ) →
     IsNet (translation_of translation t (length names)) → RunsOut translation t names fuel →
-    (journal : List Entry) (net : NamedNet NodeName) → IsRun (start_net_of_term translation t names) 0 journal net → IsComplete net →
+    (journal : List Entry) (net : NamedNet NodeName) →
+    IsRun (start_net_of_term translation t names) 0 journal net → IsComplete net →
     fuel < length journal
 
 -- There is a one-thread run for each fuel.
 abbrev pub OneThreadIsThere : Type 0
-OneThreadIsThere = (translation : Translation) (t : Tree) (names : List (List ℕ)) (fuel : ℕ) → IsNet (translation_of translation t (length names)) →
-    (journal : List Entry) × (net : NamedNet NodeName) × IsOneThread (start_net_of_term translation t names) fuel journal net
+OneThreadIsThere = (translation : Translation) (t : Tree) (names : List (List ℕ)) (fuel : ℕ) →
+    IsNet (translation_of translation t (length names)) →
+    (journal : List Entry) × (net : NamedNet NodeName)
+    × IsOneThread (start_net_of_term translation t names) fuel journal net
 
 -- What is printed of a complete run within the fuel is printed of the one-thread run.
 abbrev pub AnyRunPrints : Type 0
-AnyRunPrints = (translation : Translation) (t : Tree) (names : List (List ℕ)) (fuel heads : ℕ) (text : List ℕ) → IsNet (translation_of translation t (length names)) →
-    (journal : List Entry) (net : NamedNet NodeName) → IsRun (start_net_of_term translation t names) 0 journal net → IsComplete net →
+AnyRunPrints = (translation : Translation) (t : Tree) (names : List (List ℕ)) (fuel heads : ℕ)
+    (text : List ℕ) → IsNet (translation_of translation t (length names)) →
+    (journal : List Entry) (net : NamedNet NodeName) →
+    IsRun (start_net_of_term translation t names) 0 journal net → IsComplete net →
     PrintsOf names fuel heads journal net text → Prints translation t names fuel heads text
 
 -- Where a run is longer than the fuel, or is as long and can go on, the one-thread run has more steps than the fuel.
 abbrev pub AnyRunRunsOut : Type 0
-AnyRunRunsOut = (translation : Translation) (t : Tree) (names : List (List ℕ)) (fuel : ℕ) → IsNet (translation_of translation t (length names)) →
+AnyRunRunsOut = (translation : Translation) (t : Tree) (names : List (List ℕ)) (fuel : ℕ) →
+    IsNet (translation_of translation t (length names)) →
     (journal : List Entry) (net : NamedNet NodeName) → IsRun (start_net_of_term translation t names) 0 journal net →
     (fuel < length journal) ⊎ ((length journal ≡ fuel) × HasActive net) → RunsOut translation t names fuel

@@ -14,7 +14,8 @@ use Rattle.ol_cli.specs.declared.status.Status.TheVariants as status
 
 -- the file's bytes are all that the source gave, to their end
 abbrev pub ReadHands : Asked → Seen → Status → List ℕ → Option ClosedTable → Type 0
-ReadHands asked s st text closed = (bytes : List ℕ) × GaveAll s (file_name asked) bytes × FileHands asked bytes st text closed
+ReadHands asked s st text closed = (bytes : List ℕ) × GaveAll s (file_name asked) bytes
+    × FileHands asked bytes st text closed
 
 -- what a job hands back; `check` has no workers, and `net` and `equal` keep the words of theirs
 abbrev pub JobHands : Asked → Seen → Status → List ℕ → Option ClosedTable → Type 0
@@ -35,5 +36,7 @@ abbrev pub WordsHand : List (String Global) → Seen → Status → List ℕ →
 WordsHand words s st text closed = (asked : Asked) × AskFor words asked × JobHands asked s st text closed
 
 -- What the call hands back, and that this is told by the text that was appended.
-abbrev pub Hands : List (String Global) → Seen → Status → Option ClosedTable → Option (List ℕ) → Option (List ℕ) → Type 0
-Hands words s st closed old new = WhereEnded st closed ((text : List ℕ) × WordsHand words s st text closed × Appended old text new)
+abbrev pub Hands : List (String Global) → Seen → Status → Option ClosedTable → Option (List ℕ) →
+    Option (List ℕ) → Type 0
+Hands words s st closed old new = WhereEnded st closed
+    ((text : List ℕ) × WordsHand words s st text closed × Appended old text new)

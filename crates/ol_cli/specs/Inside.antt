@@ -1,4 +1,5 @@
--- Private: words of private contracts alone, which no clause of a public call needs: what is asked of a job within the call, and what is kept of
+-- Private: words of private contracts alone, which no clause of a public call needs: what is asked
+-- of a job within the call, and what is kept of
 -- it there.
 use Rattle.std.specs.Prelude.{◌≡◌, ℕ, ◌≤◌, ◌⊎◌, List, [], length, take, Option, None, Some, Result, Ok, Err, String}
 use Rattle.std.specs.declared.alloc.Global.{Global}
@@ -27,16 +28,20 @@ use Rattle.ol_cli.specs.Limits.{most_fuel, most_workers}
 
 -- the numbers of a job are within the limits of their options
 abbrev pub IsWithinLimits : Asked → Type 0
-IsWithinLimits (run translation workers fuel heads name) = (1 ≤ workers) × (workers ≤ most_workers) × (fuel ≤ most_fuel) × (1 ≤ heads)
+IsWithinLimits (run translation workers fuel heads name) = (1 ≤ workers) × (workers ≤ most_workers)
+    × (fuel ≤ most_fuel) × (1 ≤ heads)
 IsWithinLimits (walk translation edges heads name) = 1 ≤ heads
 IsWithinLimits (view translation after name) = after ≤ most_fuel
 IsWithinLimits (trace translation workers fuel name) = (1 ≤ workers) × (workers ≤ most_workers) × (fuel ≤ most_fuel)
 IsWithinLimits (check translation term journal) = Unit {0}
 IsWithinLimits (gen translation runs k) = k ≤ 10
 IsWithinLimits (demand translation fuel heads name) = (fuel ≤ most_fuel) × (1 ≤ heads)
-IsWithinLimits (certify translation steps workers fuel heads name) = (1 ≤ workers) × (workers ≤ most_workers) × (fuel ≤ most_fuel) × (1 ≤ heads)
-IsWithinLimits (net translation from_term workers fuel name) = (1 ≤ workers) × (workers ≤ most_workers) × (fuel ≤ most_fuel)
-IsWithinLimits (equal translation workers fuel heads first second) = (1 ≤ workers) × (workers ≤ most_workers) × (fuel ≤ most_fuel) × (1 ≤ heads)
+IsWithinLimits (certify translation steps workers fuel heads name) = (1 ≤ workers)
+    × (workers ≤ most_workers) × (fuel ≤ most_fuel) × (1 ≤ heads)
+IsWithinLimits (net translation from_term workers fuel name) = (1 ≤ workers)
+    × (workers ≤ most_workers) × (fuel ≤ most_fuel)
+IsWithinLimits (equal translation workers fuel heads first second) = (1 ≤ workers)
+    × (workers ≤ most_workers) × (fuel ≤ most_fuel) × (1 ≤ heads)
 
 -- the jobs of these numbers, on files of these names
 abbrev pub run_on : RunNumbers → Text → Asked
@@ -73,14 +78,16 @@ IsReadByNames asked file st text = AnswerIsReadAgain asked (tree_of file.term) f
 abbrev pub HandsOfTerm : Asked → TermFile → Status → List ℕ → Option ClosedTable → Type 0
 HandsOfTerm asked file st text closed = TermHands asked (tree_of file.term) file.names st text closed
 
--- The one-thread run ends within the fuel and this tree is read from its last net; or it is longer, and there is no tree.
+-- The one-thread run ends within the fuel and this tree is read from its last net; or it is longer,
+-- and there is no tree.
 abbrev pub ReadsOrRunsOut : Translation → Tree → List (List ℕ) → (fuel heads : ℕ) → Option (List ReadNode) → Type 0
 ReadsOrRunsOut translation t names fuel heads None = RunsOut translation t names fuel
 ReadsOrRunsOut translation t names fuel heads (Some tree) = ReadsLast translation t names fuel heads tree
 
 -- where the bytes of the job's term are told, the text is read again by the names of that term
 abbrev pub IsReadWhereTold : Asked → (Text → Option (List ℕ)) → Status → List ℕ → Type 0
-IsReadWhereTold asked contents st text = (bytes : List ℕ) → term_bytes contents asked ≡ Some bytes → FileIsReadAgain asked bytes st text
+IsReadWhereTold asked contents st text = (bytes : List ℕ) → term_bytes contents asked ≡ Some bytes →
+    FileIsReadAgain asked bytes st text
 
 -- ---- what a job comes to
 

@@ -72,7 +72,8 @@ OfReadFiles old new Says = (files : Files) → AreOfSince files old new → Says
 -- the bytes of each file of a job are told, those of its second file at the second reading
 abbrev pub AreTold : Files → Asked → Type 0
 AreTold files asked =
-    (place : ℕ) (name : Text) → slice_get (file_names asked) place ≡ Some name → (bytes : List ℕ) × (files place name ≡ Some bytes)
+    (place : ℕ) (name : Text) → slice_get (file_names asked) place ≡ Some name →
+    (bytes : List ℕ) × (files place name ≡ Some bytes)
 
 -- the bytes of each file that the words ask for are
 abbrev pub TellsFiles : Files → List (String Global) → Type 0

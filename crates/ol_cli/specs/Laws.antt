@@ -27,8 +27,10 @@ abbrev pub HaveOneCounts : List ℕ → List ℕ → Type 0
 HaveOneCounts text text' = (counts : Counts) × (stuck : ℕ) × (rest : List ℕ) × (rest' : List ℕ)
     × (text ≡ counts_text counts stuck ++ rest) × (text' ≡ counts_text counts stuck ++ rest')
 
--- What two texts with which a job is answered have in common, by its status. They are one text. But what `trace` writes of a run is
--- the journal of any of many; and what `net` writes of a net that was rewritten begins with the same nine lines, while the stuck
+-- What two texts with which a job is answered have in common, by its status. They are one text. But
+-- what `trace` writes of a run is
+-- the journal of any of many; and what `net` writes of a net that was rewritten begins with the
+-- same nine lines, while the stuck
 -- pairs and the net that follow them are those of any of many runs.
 abbrev pub HaveOneText : Asked → Status → List ℕ → List ℕ → Type 0
 HaveOneText (trace translation workers fuel name) status.Done text text' = Unit {0}
@@ -53,10 +55,12 @@ abbrev pub AskAlike : (words words' : List (String Global)) → Type 0
 AskAlike words words' = option_map (with_workers 1) (job_of (texts_of words))
     ≡ option_map (with_workers 1) (job_of (texts_of words'))
 
--- The same words and files have one answer: each status comes just where the answer is that, and so does each text, as far as the job
+-- The same words and files have one answer: each status comes just where the answer is that, and so
+-- does each text, as far as the job
 -- tells one.
 abbrev pub OneAnswer : Type 0
-OneAnswer = (words words' : List (String Global)) → AskAlike words words' → (files : Files) (status status' : Status) (text text' : List ℕ) →
+OneAnswer = (words words' : List (String Global)) → AskAlike words words' →
+    (files : Files) (status status' : Status) (text text' : List ℕ) →
     IsAnswer words files status text → IsAnswer words' files status' text' →
     (status ≡ status') × (AskForNothing words → text ≡ text')
     × ((asked : Asked) → AskFor words asked → HaveOneText asked status text text')
@@ -68,23 +72,30 @@ WorkersAreNotSeen = (n : ℕ) (asked : Asked) (files : Files) (status : Status) 
 
 -- However the answer to a term is come by, one tree is printed, one term and one number of stuck pairs.
 abbrev pub OneTreeIsPrinted : Type 0
-OneTreeIsPrinted = (translation : Translation) (t : Tree) (names : List (List ℕ)) (fuel heads : ℕ) (text text' : List ℕ) →
-    IsNet (translation_of translation t (length names)) → (p : Prints translation t names fuel heads text) (p' : Prints translation t names fuel heads text') →
+OneTreeIsPrinted = (translation : Translation) (t : Tree) (names : List (List ℕ)) (fuel heads : ℕ)
+    (text text' : List ℕ) →
+    IsNet (translation_of translation t (length names)) →
+    (p : Prints translation t names fuel heads text) (p' : Prints translation t names fuel heads text') →
     (p.shows.tree ≡ p'.shows.tree) × (p.shows.term ≡ p'.shows.term) × (p.shows.stuck ≡ p'.shows.stuck)
 
 -- and one tree and one term of the untouched translation
 abbrev pub OneTreeIsWalked : Type 0
-OneTreeIsWalked = (translation : Translation) (t : Tree) (names : List (List ℕ)) (edges heads : ℕ) (text text' : List ℕ) →
-    IsNet (translation_of translation t (length names)) → (w : Walks translation t names edges heads text) (w' : Walks translation t names edges heads text') →
+OneTreeIsWalked = (translation : Translation) (t : Tree) (names : List (List ℕ)) (edges heads : ℕ)
+    (text text' : List ℕ) →
+    IsNet (translation_of translation t (length names)) →
+    (w : Walks translation t names edges heads text) (w' : Walks translation t names edges heads text') →
     (w.tree ≡ w'.tree) × (w.term ≡ w'.term)
 
 -- and one tree, one term, one journal and one number of stuck pairs of its demand run
 abbrev pub OneTreeIsDemanded : Type 0
-OneTreeIsDemanded = (translation : Translation) (t : Tree) (names : List (List ℕ)) (fuel heads : ℕ) (text text' : List ℕ) →
-    IsNet (translation_of translation t (length names)) → (d : Demands translation t names fuel heads text) (d' : Demands translation t names fuel heads text') →
+OneTreeIsDemanded = (translation : Translation) (t : Tree) (names : List (List ℕ)) (fuel heads : ℕ)
+    (text text' : List ℕ) →
+    IsNet (translation_of translation t (length names)) →
+    (d : Demands translation t names fuel heads text) (d' : Demands translation t names fuel heads text') →
     (d.ends.tree ≡ d'.ends.tree) × (d.term ≡ d'.term) × (d.ends.journal ≡ d'.ends.journal) × (d.stuck ≡ d'.stuck)
 
--- Of the net of a file, however its run is come by, the interactions of each rule, the stuck pairs and the nodes that are left are as
+-- Of the net of a file, however its run is come by, the interactions of each rule, the stuck pairs
+-- and the nodes that are left are as
 -- many; so the counts that `net` writes are one, and whether the net is printed.
 abbrev pub OneNetIsLeft : Type 0
 OneNetIsLeft = (net : Graph) (fuel : ℕ) (counts counts' : Counts) (stuck stuck' nodes nodes' : ℕ) → IsNet (net_of net) →

@@ -55,7 +55,8 @@ pub record NetRunsOut (net : Graph) (fuel : ℕ) : Type 0 where
   pub full : length journal ≡ fuel
   pub left : HasActive last
 
--- The one-thread run ends within `fuel` steps, with so many interactions of each rule, and its net, each node of which is listed
+-- The one-thread run ends within `fuel` steps, with so many interactions of each rule, and its net,
+-- each node of which is listed
 -- once, has so many stuck pairs and so many nodes.
 pub record NetRunEnds (net : Graph) (fuel : ℕ) (counts : Counts) (stuck nodes : ℕ) : Type 0 where
   pub journal : List Entry
@@ -67,8 +68,10 @@ pub record NetRunEnds (net : Graph) (fuel : ℕ) (counts : Counts) (stuck nodes 
   pub has_stuck : HasStuck last stuck
   pub size : nodes ≡ live last
 
--- The text of a net without an active pair that some run leads to: its nodes are numbered by ascending name, and the lines of its
--- stuck pairs stand before it. Each such run leads to one net, up to names, so the text leaves nothing open but the numbers.
+-- The text of a net without an active pair that some run leads to: its nodes are numbered by
+-- ascending name, and the lines of its
+-- stuck pairs stand before it. Each such run leads to one net, up to names, so the text leaves
+-- nothing open but the numbers.
 pub record TellsLast (net : Graph) (text : List ℕ) : Type 0 where
   pub journal : List Entry
   pub last : NamedNet NodeName
@@ -81,7 +84,8 @@ pub record TellsLast (net : Graph) (text : List ℕ) : Type 0 where
   pub stuck : IsPairsText (net_of numbered) pairs
   pub written : text ≡ pairs ++ net_text numbered
 
--- The one-thread run ends within the fuel, and its net is small enough to be printed. The counts are its own, and what follows them
+-- The one-thread run ends within the fuel, and its net is small enough to be printed. The counts
+-- are its own, and what follows them
 -- is told of any complete run.
 pub record PrintsNet (net : Graph) (fuel : ℕ) (text : List ℕ) : Type 0 where
   pub counts : Counts
@@ -116,7 +120,8 @@ pub record IsNetFile (bytes : List ℕ) (net : Graph) : Type 0 where
   pub tabled : IsTable net
   pub read : IsNetRead bytes net
 
--- What the bytes of a file with a net are answered: a limit that they pass, what is wrong with them, or the answer to their net.
+-- What the bytes of a file with a net are answered: a limit that they pass, what is wrong with
+-- them, or the answer to their net.
 pub data NetFileAnswer (fuel : ℕ) (bytes : List ℕ) (st : Status) (text : List ℕ) : Type 0 where
   long : most_net_bytes < length bytes → st ≡ status.Limit → text ≡ net_bytes_text → NetFileAnswer fuel bytes st text
   bad : length bytes ≤ most_net_bytes → (f : NetFault) → IsNetFault bytes f → f ≢ fault.NoMemory → st ≡ status.BadNet →

@@ -19,7 +19,8 @@ use Rattle.ol_cli.specs.Demand.{Demands}
 -- what `run` prints of a term, and that it is read again
 abbrev pub RunIsReadAgain : Translation → Tree → List (List ℕ) → (fuel heads : ℕ) → List ℕ → Type 0
 RunIsReadAgain translation t names fuel heads text =
-    (p : Prints translation t names fuel heads text) × (HasAllHeads p.shows.tree → IsReadBack names p.shows.tree p.shows.term)
+    (p : Prints translation t names fuel heads text)
+    × (HasAllHeads p.shows.tree → IsReadBack names p.shows.tree p.shows.term)
 
 -- the same of `walk`
 abbrev pub WalkIsReadAgain : Translation → Tree → List (List ℕ) → (edges heads : ℕ) → List ℕ → Type 0
@@ -31,13 +32,16 @@ abbrev pub DemandIsReadAgain : Translation → Tree → List (List ℕ) → (fue
 DemandIsReadAgain translation t names fuel heads text =
     (d : Demands translation t names fuel heads text) × (HasAllHeads d.ends.tree → IsReadBack names d.ends.tree d.term)
 
--- What a job answers to a term, and that the tree whose text it prints is read again, where each of its places has a head. The other
+-- What a job answers to a term, and that the tree whose text it prints is read again, where each of
+-- its places has a head. The other
 -- jobs print no tree.
 abbrev pub TextIsReadAgain : Asked → Tree → List (List ℕ) → List ℕ → Type 0
-TextIsReadAgain (run translation workers fuel heads name) t names text = RunIsReadAgain translation t names fuel heads text
+TextIsReadAgain (run translation workers fuel heads name) t names text = RunIsReadAgain translation
+    t names fuel heads text
 TextIsReadAgain (walk translation edges heads name) t names text = WalkIsReadAgain translation t names edges heads text
 TextIsReadAgain (gen translation true k) t names text = RunIsReadAgain translation t names plain_fuel plain_heads text
-TextIsReadAgain (demand translation fuel heads name) t names text = DemandIsReadAgain translation t names fuel heads text
+TextIsReadAgain (demand translation fuel heads name) t names text = DemandIsReadAgain translation t
+    names fuel heads text
 TextIsReadAgain _ t names text = Unit {0}
 
 -- where the job is done, its text is read again by these names, if they are names of the grammar
@@ -52,9 +56,11 @@ FileIsReadAgain asked bytes st text =
 -- the same by the names of the term of the job that the words ask for
 abbrev pub WordsAreReadAgain : List (String Global) → (Text → Option (List ℕ)) → Status → List ℕ → Type 0
 WordsAreReadAgain words contents st text =
-    (asked : Asked) (bytes : List ℕ) → AskFor words asked → term_bytes contents asked ≡ Some bytes → FileIsReadAgain asked bytes st text
+    (asked : Asked) (bytes : List ℕ) → AskFor words asked → term_bytes contents asked ≡ Some bytes →
+    FileIsReadAgain asked bytes st text
 
 -- such a text was written for the job's term
 abbrev pub WritesReadable : List (String Global) → List ℕ → Option (List ℕ) → Option (List ℕ) → Type 0
-WritesReadable words bytes old new = (asked : Asked) (t : Tree) (names : List (List ℕ)) → AskFor words asked → IsFileOf bytes t names →
+WritesReadable words bytes old new = (asked : Asked) (t : Tree) (names : List (List ℕ)) →
+    AskFor words asked → IsFileOf bytes t names →
     (text : List ℕ) × TextIsReadAgain asked t names text × Appended old text new

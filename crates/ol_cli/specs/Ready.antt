@@ -1,4 +1,5 @@
--- Private: words of private contracts alone: a term file made ready, which is the net of its term, or the answer that refuses it, whatever the job.
+-- Private: words of private contracts alone: a term file made ready, which is the net of its term,
+-- or the answer that refuses it, whatever the job.
 use Rattle.std.specs.Prelude.{◌≡◌, ℕ, ◌≤◌, ◌<◌, ◌^◌, true, List, length, None, count_by, is_some}
 use Rattle.ol_term.specs.declared.translations.Translation.{Translation}
 use Rattle.ol_term.specs.Trees.{Tree, tree_of, is_below, depth, term_size}
@@ -22,7 +23,8 @@ use Rattle.ol_cli.specs.Limits.{most_term_bytes, most_depth, most_nodes}
 -- the bytes are refused so
 abbrev pub Refuses : Translation → List ℕ → Status → List ℕ → Type 0
 Refuses translation bytes status.Limit text = IsPastLimit translation bytes text
-Refuses translation bytes status.Syntax text = (at : ℕ) × (length bytes ≤ most_term_bytes) × IsRefusedAt bytes at × (text ≡ syntax_text at)
+Refuses translation bytes status.Syntax text = (at : ℕ) × (length bytes ≤ most_term_bytes)
+    × IsRefusedAt bytes at × (text ≡ syntax_text at)
 Refuses translation bytes _ text = ⊥
 
 -- the net is that of the term, with the numbers of its translation, and none of its nodes is gone
@@ -40,10 +42,12 @@ pub record IsReducible (t : Tree) : Type 0 where
 
 -- this holds of each term whose net it is by a translation, with its free names
 abbrev pub HoldsOfTerms : Graph → (Translation → Tree → List (List ℕ) → Type 0) → Type 0
-HoldsOfTerms net P = (translation : Translation) (t : Tree) (names : List (List ℕ)) → IsNetOf translation t names net → P translation t names
+HoldsOfTerms net P = (translation : Translation) (t : Tree) (names : List (List ℕ)) →
+    IsNetOf translation t names net → P translation t names
 
 -- the bytes are a text of this term, whose net this is
-pub record IsReady (translation : Translation) (bytes : List ℕ) (t : Tree) (names : List (List ℕ)) (net : Graph) : Type 0 where
+pub record IsReady (translation : Translation) (bytes : List ℕ) (t : Tree) (names : List (List ℕ))
+    (net : Graph) : Type 0 where
   pub term : IsTermFile translation bytes t names
   pub named : AreNames names
   pub ready : IsNetOf translation t names net

@@ -30,10 +30,13 @@ use Rattle.ol_cli.specs.Shapes.{DoneOrSpent, TellsFuel}
 abbrev pub start_net_of_term : Translation → Tree → List (List ℕ) → NamedNet NodeName
 start_net_of_term translation t names = net_under Init (translation_of translation t (length names))
 
--- What is printed of a journal and its net, each node of which is listed once: the term that is read from the net, of which the first
--- `heads` subterms are asked, each by walks of at most twice as many crossings as there are nodes; the counts of the journal; and the
+-- What is printed of a journal and its net, each node of which is listed once: the term that is
+-- read from the net, of which the first
+-- `heads` subterms are asked, each by walks of at most twice as many crossings as there are nodes;
+-- the counts of the journal; and the
 -- number of pairs that are stuck.
-pub record Shows (names : List (List ℕ)) (heads : ℕ) (journal : List Entry) (net : NamedNet NodeName) (text : List ℕ) : Type 0 where
+pub record Shows (names : List (List ℕ)) (heads : ℕ) (journal : List Entry)
+    (net : NamedNet NodeName) (text : List ℕ) : Type 0 where
   pub stuck : ℕ
   pub tree : List ReadNode
   pub term : List ℕ
@@ -45,7 +48,8 @@ pub record Shows (names : List (List ℕ)) (heads : ℕ) (journal : List Entry) 
   pub written : text ≡ answer_text term (counts_of journal) stuck
 
 -- The one-thread run ends within `fuel` steps, and this is printed of it.
-pub record Prints (translation : Translation) (t : Tree) (names : List (List ℕ)) (fuel heads : ℕ) (text : List ℕ) : Type 0 where
+pub record Prints (translation : Translation) (t : Tree) (names : List (List ℕ)) (fuel heads : ℕ)
+    (text : List ℕ) : Type 0 where
   pub journal : List Entry
   pub net : NamedNet NodeName
   pub run : IsOneThread (start_net_of_term translation t names) fuel journal net
@@ -67,9 +71,11 @@ pub record RunEnds (translation : Translation) (t : Tree) (names : List (List �
   pub run : IsOneThread (start_net_of_term translation t names) fuel journal net
   pub complete : IsComplete net
 
--- The one-thread run ends within `fuel` steps, and this tree is read from its last net, each node of which is listed once. The first
+-- The one-thread run ends within `fuel` steps, and this tree is read from its last net, each node
+-- of which is listed once. The first
 -- `heads` subterms are asked, each by walks of at most twice as many crossings as there are nodes.
-pub record ReadsLast (translation : Translation) (t : Tree) (names : List (List ℕ)) (fuel heads : ℕ) (tree : List ReadNode) : Type 0 where
+pub record ReadsLast (translation : Translation) (t : Tree) (names : List (List ℕ)) (fuel heads : ℕ)
+    (tree : List ReadNode) : Type 0 where
   pub journal : List Entry
   pub net : NamedNet NodeName
   pub run : IsOneThread (start_net_of_term translation t names) fuel journal net
@@ -89,18 +95,22 @@ RunAnswer translation t names fuel heads =
 abbrev pub journal_of : ClosedTable → List Entry
 journal_of w = journal_in w.plan.parts w.words
 
--- The words are those of a table that was made from the net of this term, its nodes numbered as that net has them, with this fuel and
+-- The words are those of a table that was made from the net of this term, its nodes numbered as
+-- that net has them, with this fuel and
 -- so many seats. Their journal leads from that net to this one, and rewrites no node twice.
-pub record IsWorkOn (translation : Translation) (t : Tree) (names : List (List ℕ)) (fuel seats : ℕ) (w : ClosedTable) (net : NamedNet NodeName) : Type 0 where
+pub record IsWorkOn (translation : Translation) (t : Tree) (names : List (List ℕ)) (fuel seats : ℕ)
+    (w : ClosedTable) (net : NamedNet NodeName) : Type 0 where
   pub start : Graph
   pub same : SameNet (net_of start) (translation_of translation t (length names))
   pub table : IsTableOf start fuel seats w
   pub after : IsAfter w net
   pub once : NoNodeTwice (journal_of w)
 
--- The run of this journal is complete and within the fuel, and the text is what is printed of it: the term that is read from its last
+-- The run of this journal is complete and within the fuel, and the text is what is printed of it:
+-- the term that is read from its last
 -- net, whose nodes are numbered by ascending name; the counts of the journal; and the stuck pairs of that net.
-pub record PrintsWork (names : List (List ℕ)) (fuel heads : ℕ) (journal : List Entry) (net : NamedNet NodeName) (text : List ℕ)
+pub record PrintsWork (names : List (List ℕ)) (fuel heads : ℕ) (journal : List Entry)
+    (net : NamedNet NodeName) (text : List ℕ)
     : Type 0 where
   pub complete : IsComplete net
   pub within : length journal ≤ fuel
@@ -121,7 +131,8 @@ EndsWork names fuel heads journal net status.Spent text = SpendsFuel fuel journa
 EndsWork names fuel heads journal net _ text = ⊥
 
 -- the closed words of a term's work that ended so
-abbrev pub RunHands : Translation → Tree → List (List ℕ) → (workers fuel heads : ℕ) → Status → List ℕ → Option ClosedTable → Type 0
+abbrev pub RunHands : Translation → Tree → List (List ℕ) → (workers fuel heads : ℕ) → Status →
+    List ℕ → Option ClosedTable → Type 0
 RunHands translation t names workers fuel heads st text closed =
     (w : ClosedTable) × (closed ≡ Some w) × (net : NamedNet NodeName) × IsWorkOn translation t names fuel workers w net
     × EndsWork names fuel heads (journal_of w) net st text

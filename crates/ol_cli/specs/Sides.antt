@@ -1,4 +1,5 @@
--- Private: words of private contracts alone: what comes of one of two files that are compared, and of the second once the first is read back.
+-- Private: words of private contracts alone: what comes of one of two files that are compared, and
+-- of the second once the first is read back.
 use Rattle.std.specs.Prelude.{◌≡◌, ◌≢◌, ℕ, List, length, None}
 use Rattle.ol_term.specs.Trees.{Tree}
 use Rattle.ol_readback.specs.Texts.{AreNamed}
@@ -29,11 +30,15 @@ abbrev pub ComesOfSide : RunNumbers → Seen → Text → Side → Type 0
 ComesOfSide n s name (Refused answer) =
     (answer.status ≢ status.Done) × FileCause (run_on n name) s answer.status answer.text.items × (answer.closed ≡ None)
 ComesOfSide n s name (Read tree names) =
-    (s.faults' ≡ s.faults) × ((bytes : List ℕ) × GaveAll s name bytes × IsReadOf n bytes names tree) × AreNamed (length names) tree
+    (s.faults' ≡ s.faults) × ((bytes : List ℕ) × GaveAll s name bytes × IsReadOf n bytes names tree)
+    × AreNamed (length names) tree
 
 -- what comes of the second file, against the tree and the names of the first
-pub data EndsSecond (n : RunNumbers) (tree : List ReadNode) (names : List (List ℕ)) (s : Seen) (name : Text) (st : Status) (text : List ℕ) : Type 0 where
+pub data EndsSecond (n : RunNumbers) (tree : List ReadNode) (names : List (List ℕ)) (s : Seen)
+    (name : Text) (st : Status) (text : List ℕ) : Type 0 where
   refused : st ≢ status.Done → FileCause (run_on n name) s st text → EndsSecond n tree names s name st text
-  compared : s.faults' ≡ s.faults → {bytes : List ℕ} → GaveAll s name bytes → {others : List (List ℕ)} → {other : List ReadNode} →
-      IsReadOf n bytes others other → (c : Compared) → IsComparison (record { a = names; b = others }) tree other c → st ≡ status.Done →
+  compared : s.faults' ≡ s.faults → {bytes : List ℕ} → GaveAll s name bytes →
+      {others : List (List ℕ)} → {other : List ReadNode} →
+      IsReadOf n bytes others other → (c : Compared) →
+      IsComparison (record { a = names; b = others }) tree other c → st ≡ status.Done →
       text ≡ line (compared_text c) → EndsSecond n tree names s name st text

@@ -30,16 +30,24 @@ use Rattle.ol_cli.specs.Demand.{Demands}
 
 -- ---- the tree that is written
 
--- What `run` prints of a term, and what holds of the tree whose text it prints. Each of its heads is the one that the term's own
--- translation gives, by paths of any length; in each place without a head it gives none, nor in one that was asked and is cut all the
+-- What `run` prints of a term, and what holds of the tree whose text it prints. Each of its heads
+-- is the one that the term's own
+-- translation gives, by paths of any length; in each place without a head it gives none, nor in one
+-- that was asked and is cut all the
 -- same, as its walk used up its crossings. Beta reduction leads from the term to the tree's own
--- term, with some term in each place that has no head or was cut. Where each place has a head, leftmost reduction of the term ends
--- in the tree's own term, which is a beta-normal form; the text is in the grammar, and read back, with its free names numbered by
--- these, it is the tree's own term, in which no application has an abstraction as its function. Where some place has no head, head
--- reduction of the term in each such place has no end, and leftmost reduction of the whole term ends in no normal form. And whatever
--- is reduced: where each place has a head, the tree's term is the term's one normal form, to which each of its reducts leads; where
+-- term, with some term in each place that has no head or was cut. Where each place has a head,
+-- leftmost reduction of the term ends
+-- in the tree's own term, which is a beta-normal form; the text is in the grammar, and read back,
+-- with its free names numbered by
+-- these, it is the tree's own term, in which no application has an abstraction as its function.
+-- Where some place has no head, head
+-- reduction of the term in each such place has no end, and leftmost reduction of the whole term
+-- ends in no normal form. And whatever
+-- is reduced: where each place has a head, the tree's term is the term's one normal form, to which
+-- each of its reducts leads; where
 -- some place has no head, the term has no normal form.
-pub record PrintsTree (translation : Translation) (t : Tree) (names : List (List ℕ)) (fuel heads : ℕ) (text : List ℕ) : Type 0 where
+pub record PrintsTree (translation : Translation) (t : Tree) (names : List (List ℕ))
+    (fuel heads : ℕ) (text : List ℕ) : Type 0 where
   pub prints : Prints translation t names fuel heads text
   pub own_heads : HasAskedHeadsOf (translation_of translation t (length names)) heads prints.shows.tree
   pub says : SaysOf t true prints.shows.tree
@@ -47,17 +55,21 @@ pub record PrintsTree (translation : Translation) (t : Tree) (names : List (List
   pub read_again : HasAllHeads prints.shows.tree → IsReadBack names prints.shows.tree prints.shows.term
 
 -- The same of `walk`, where nothing is said of the places without a head.
-pub record WalksTree (translation : Translation) (t : Tree) (names : List (List ℕ)) (edges heads : ℕ) (text : List ℕ) : Type 0 where
+pub record WalksTree (translation : Translation) (t : Tree) (names : List (List ℕ))
+    (edges heads : ℕ) (text : List ℕ) : Type 0 where
   pub walks : Walks translation t names edges heads text
   pub own_heads : HasHeadsOf (translation_of translation t (length names)) false walks.tree
   pub says : SaysOf t false walks.tree
   pub always : SaysAlways says
   pub read_again : HasAllHeads walks.tree → IsReadBack names walks.tree walks.term
 
--- The same of `demand`. The net that it leaves is one from which the asked places can be read by walks that meet no active pair. A run from the term's net, of any
--- pairs in any order, leads to such a net exactly where it has rewritten each pair that `demand` rewrites, by birth names, and then it is
+-- The same of `demand`. The net that it leaves is one from which the asked places can be read by
+-- walks that meet no active pair. A run from the term's net, of any
+-- pairs in any order, leads to such a net exactly where it has rewritten each pair that `demand`
+-- rewrites, by birth names, and then it is
 -- no shorter; and each complete run leads to one.
-pub record DemandsTree (translation : Translation) (t : Tree) (names : List (List ℕ)) (fuel heads : ℕ) (text : List ℕ) : Type 0 where
+pub record DemandsTree (translation : Translation) (t : Tree) (names : List (List ℕ))
+    (fuel heads : ℕ) (text : List ℕ) : Type 0 where
   pub demands : Demands translation t names fuel heads text
   pub own_heads : HasAskedHeadsOf (translation_of translation t (length names)) heads demands.ends.tree
   pub says : SaysOf t true demands.ends.tree
@@ -66,7 +78,8 @@ pub record DemandsTree (translation : Translation) (t : Tree) (names : List (Lis
   pub least : IsTheLeast (start_net_of_term translation t names) heads demands.ends.journal
   pub complete : CompleteRunsAreEnough (start_net_of_term translation t names) heads
 
--- What a job prints of a term, with the facts of its tree, if it prints one. `gen --run` does with the term that it makes what `run`
+-- What a job prints of a term, with the facts of its tree, if it prints one. `gen --run` does with
+-- the term that it makes what `run`
 -- does without options.
 abbrev pub TellsTree : Asked → Tree → List (List ℕ) → List ℕ → Type 0
 TellsTree (run translation workers fuel heads name) t names text = PrintsTree translation t names fuel heads text
@@ -77,12 +90,14 @@ TellsTree _ t names text = Unit {0}
 
 -- The text was written for the job's own term, and these are the facts of its tree.
 abbrev pub WritesTree : List (String Global) → List ℕ → Option (List ℕ) → Option (List ℕ) → Type 0
-WritesTree words bytes old new = (asked : Asked) (t : Tree) (names : List (List ℕ)) → AskFor words asked → IsFileOf bytes t names →
+WritesTree words bytes old new = (asked : Asked) (t : Tree) (names : List (List ℕ)) →
+    AskFor words asked → IsFileOf bytes t names →
     (text : List ℕ) × TellsTree asked t names text × Appended old text new
 
 -- ---- every complete run
 
--- what a complete run of `run` tells of the status: its journal and its net print what was written, or it is longer than the fuel
+-- what a complete run of `run` tells of the status: its journal and its net print what was written,
+-- or it is longer than the fuel
 abbrev pub RunTells : List (List ℕ) → (fuel heads : ℕ) → List Entry → NamedNet NodeName → Status →
     Option (List ℕ) → Option (List ℕ) → Type 0
 RunTells names fuel heads journal net status.Done old new =
@@ -90,26 +105,33 @@ RunTells names fuel heads journal net status.Done old new =
 RunTells names fuel heads journal net status.Spent old new = fuel < length journal
 RunTells names fuel heads journal net _ old new = Unit {0}
 
--- what a run tells of the status of `demand`: where the demand run is longer than the fuel, so is each complete run, and each that leads
+-- what a run tells of the status of `demand`: where the demand run is longer than the fuel, so is
+-- each complete run, and each that leads
 -- to a net from which the asked places can be read by walks that meet no active pair
 abbrev pub DemandTells : (fuel : ℕ) → List Entry → Status → Type 0
 DemandTells fuel journal status.Spent = fuel < length journal
 DemandTells fuel journal _ = Unit {0}
 
 -- the same of a job: the others rewrite nothing, or write no term
-abbrev pub JobTells : Asked → List (List ℕ) → List Entry → NamedNet NodeName → Status → Option (List ℕ) → Option (List ℕ) → Type 0
-JobTells (run translation workers fuel heads name) names journal net st old new = RunTells names fuel heads journal net st old new
-JobTells (gen translation true k) names journal net st old new = RunTells names plain_fuel plain_heads journal net st old new
+abbrev pub JobTells : Asked → List (List ℕ) → List Entry → NamedNet NodeName → Status →
+    Option (List ℕ) → Option (List ℕ) → Type 0
+JobTells (run translation workers fuel heads name) names journal net st old new = RunTells names
+    fuel heads journal net st old new
+JobTells (gen translation true k) names journal net st old new = RunTells names plain_fuel
+    plain_heads journal net st old new
 JobTells (demand translation fuel heads name) names journal net st old new = DemandTells fuel journal st
 JobTells _ names journal net st old new = Unit {0}
 
--- A run may end with a complete net, and for `demand` also with one from which the asked places can be read by walks that meet no active pair.
+-- A run may end with a complete net, and for `demand` also with one from which the asked places can
+-- be read by walks that meet no active pair.
 abbrev pub IsLast : Asked → NamedNet NodeName → Type 0
 IsLast (demand translation fuel heads name) net = IsComplete net ⊎ CanBeRead net heads
 IsLast _ net = IsComplete net
 
 -- each such run from the net of the job's own term tells this, whatever pairs it takes first
 abbrev pub EveryRunTells : List (String Global) → List ℕ → Status → Option (List ℕ) → Option (List ℕ) → Type 0
-EveryRunTells words bytes st old new = (asked : Asked) (t : Tree) (names : List (List ℕ)) → AskFor words asked → IsFileOf bytes t names →
-    (journal : List Entry) (net : NamedNet NodeName) → IsRun (start_net_of_term (translation_in asked) t names) 0 journal net → IsLast asked net →
+EveryRunTells words bytes st old new = (asked : Asked) (t : Tree) (names : List (List ℕ)) →
+    AskFor words asked → IsFileOf bytes t names →
+    (journal : List Entry) (net : NamedNet NodeName) →
+    IsRun (start_net_of_term (translation_in asked) t names) 0 journal net → IsLast asked net →
     JobTells asked names journal net st old new

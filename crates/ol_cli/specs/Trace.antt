@@ -18,23 +18,27 @@ use Rattle.ol_cli.specs.Shapes.{DoneOrSpent}
 -- The text tells each entry of this journal, which leads from the term's net to this one, with its rule and its wave.
 abbrev pub IsTraceOf : Translation → Tree → List (List ℕ) → List Entry → NamedNet NodeName → List ℕ → Type 0
 IsTraceOf translation t names journal net text =
-    (waves : List ℕ) × AreWaves (start_net_of_term translation t names) journal net waves × (text ≡ wave_trace_text journal waves)
+    (waves : List ℕ) × AreWaves (start_net_of_term translation t names) journal net waves
+    × (text ≡ wave_trace_text journal waves)
 
--- how a run ended whose trace is written: no pair is active, within the fuel; or some pair is, with as many entries as the fuel
+-- how a run ended whose trace is written: no pair is active, within the fuel; or some pair is, with
+-- as many entries as the fuel
 abbrev pub EndsTrace : (fuel : ℕ) → List Entry → NamedNet NodeName → Status → Type 0
 EndsTrace fuel journal net status.Done = IsComplete net × (length journal ≤ fuel)
 EndsTrace fuel journal net status.Spent = HasActive net × (length journal ≡ fuel)
 EndsTrace fuel journal net _ = ⊥
 
 -- The text is the trace of a run of the term that ended so.
-pub record Traces (translation : Translation) (t : Tree) (names : List (List ℕ)) (fuel : ℕ) (st : Status) (text : List ℕ) : Type 0 where
+pub record Traces (translation : Translation) (t : Tree) (names : List (List ℕ)) (fuel : ℕ)
+    (st : Status) (text : List ℕ) : Type 0 where
   pub journal : List Entry
   pub net : NamedNet NodeName
   pub run : IsRun (start_net_of_term translation t names) 0 journal net
   pub ends : EndsTrace fuel journal net st
   pub written : IsTraceOf translation t names journal net text
 
--- What `trace` answers to a term: where its one-thread run ends within the fuel, the trace of any run of it that is complete; where
+-- What `trace` answers to a term: where its one-thread run ends within the fuel, the trace of any
+-- run of it that is complete; where
 -- that run is longer, the trace of any run that has as many entries as the fuel and goes on.
 abbrev pub TraceAnswer : Translation → Tree → List (List ℕ) → (fuel : ℕ) → Status → List ℕ → Type 0
 TraceAnswer translation t names fuel =
@@ -42,7 +46,8 @@ TraceAnswer translation t names fuel =
     (λ text. RunsOut translation t names fuel × Traces translation t names fuel status.Spent text)
 
 -- the closed words of a term's work that ended so, and the text is the trace of their journal, with its waves
-abbrev pub TraceHands : Translation → Tree → List (List ℕ) → (workers fuel : ℕ) → Status → List ℕ → Option ClosedTable → Type 0
+abbrev pub TraceHands : Translation → Tree → List (List ℕ) → (workers fuel : ℕ) → Status → List ℕ →
+    Option ClosedTable → Type 0
 TraceHands translation t names workers fuel st text closed =
     (w : ClosedTable) × (closed ≡ Some w) × (net : NamedNet NodeName) × IsWorkOn translation t names fuel workers w net
     × EndsTrace fuel (journal_of w) net st × IsTraceOf translation t names (journal_of w) net text

@@ -17,9 +17,11 @@ use Rattle.ol_cli.specs.Shapes.{OnlyDone}
 abbrev pub view_text : ℕ → List ℕ → List ℕ
 view_text steps shown = count_line (codes "step") steps ++ shown
 
--- The net of the term is rewritten by at most so many leads, and what is left is shown, with the number of leads. The nodes have the
+-- The net of the term is rewritten by at most so many leads, and what is left is shown, with the
+-- number of leads. The nodes have the
 -- numbers of the translation, and the new ones the next numbers in the order in which they come. So it is one text.
-pub record Views (translation : Translation) (t : Tree) (names : List (List ℕ)) (after : ℕ) (text : List ℕ) : Type 0 where
+pub record Views (translation : Translation) (t : Tree) (names : List (List ℕ)) (after : ℕ)
+    (text : List ℕ) : Type 0 where
   pub start : Graph
   pub last : Graph
   pub steps : ℕ

@@ -11,7 +11,8 @@ use Rattle.ol_cli.specs.declared.status.Status.{Status}
 use Rattle.ol_cli.specs.Shapes.{OnlyDone}
 
 -- The untouched translation is read back, each try by at most `edges` crossings, and this is its line.
-pub record Walks (translation : Translation) (t : Tree) (names : List (List ℕ)) (edges heads : ℕ) (text : List ℕ) : Type 0 where
+pub record Walks (translation : Translation) (t : Tree) (names : List (List ℕ)) (edges heads : ℕ)
+    (text : List ℕ) : Type 0 where
   pub tree : List ReadNode
   pub term : List ℕ
   pub read : IsTree (translation_of translation t (length names)) heads edges tree

@@ -30,39 +30,74 @@ module _ {A : Type 0} (N : NamedNet A) where
     pub node : HasNode N x kind index
     pub low : s < arity kind
 
-  pub at_fall : (v : List (Crossing A)) {p q : NamedPort A} {x : A} {s : ℕ} {w : List (Crossing A)} → Row N p (v ++ fall x s ∷ w) q → AtFall p q v x s w
+  pub at_fall : (v : List (Crossing A)) {p q : NamedPort A} {x : A} {s : ℕ} {w : List
+      (Crossing A)} → Row N p (v ++ fall x s ∷ w) q → AtFall p q v x s w
   at_fall [] (falls k i l h b r) = record { before = along l; after = r; kind = k; index = i; node = h; low = b }
   at_fall (rise y t ∷ v) (rises k i l h b r) =
       let a = at_fall v r in
-      record { before = rises k i l h b a.before; after = a.after; kind = a.kind; index = a.index; node = a.node; low = a.low }
+      record {
+        before = rises k i l h b a.before;
+        after = a.after;
+        kind = a.kind;
+        index = a.index;
+        node = a.node;
+        low = a.low;
+      }
   at_fall (fall y t ∷ v) (falls k i l h b r) =
       let a = at_fall v r in
-      record { before = falls k i l h b a.before; after = a.after; kind = a.kind; index = a.index; node = a.node; low = a.low }
+      record {
+        before = falls k i l h b a.before;
+        after = a.after;
+        kind = a.kind;
+        index = a.index;
+        node = a.node;
+        low = a.low;
+      }
 
-  pub at_rise : (v : List (Crossing A)) {p q : NamedPort A} {x : A} {s : ℕ} {w : List (Crossing A)} → Row N p (v ++ rise x s ∷ w) q → AtRise p q v x s w
+  pub at_rise : (v : List (Crossing A)) {p q : NamedPort A} {x : A} {s : ℕ} {w : List
+      (Crossing A)} → Row N p (v ++ rise x s ∷ w) q → AtRise p q v x s w
   at_rise [] (rises k i l h b r) = record { before = along l; after = r; kind = k; index = i; node = h; low = b }
   at_rise (rise y t ∷ v) (rises k i l h b r) =
       let a = at_rise v r in
-      record { before = rises k i l h b a.before; after = a.after; kind = a.kind; index = a.index; node = a.node; low = a.low }
+      record {
+        before = rises k i l h b a.before;
+        after = a.after;
+        kind = a.kind;
+        index = a.index;
+        node = a.node;
+        low = a.low;
+      }
   at_rise (fall y t ∷ v) (falls k i l h b r) =
       let a = at_rise v r in
-      record { before = falls k i l h b a.before; after = a.after; kind = a.kind; index = a.index; node = a.node; low = a.low }
+      record {
+        before = falls k i l h b a.before;
+        after = a.after;
+        kind = a.kind;
+        index = a.index;
+        node = a.node;
+        low = a.low;
+      }
 
   -- ---- the other way round
 
-  then_fall : {p q : NamedPort A} {v : List (Crossing A)} {x : A} {s : ℕ} (k : Kind) (i : ℕ) → HasNode N x k i → s < arity k → Row N p v (slot x 0) → Linked N (slot x (suc s)) q → Row N p (v ++ fall x s ∷ []) q
+  then_fall : {p q : NamedPort A} {v : List (Crossing A)} {x : A} {s : ℕ} (k : Kind) (i : ℕ) →
+      HasNode N x k i → s < arity k → Row N p v (slot x 0) → Linked N (slot x (suc s)) q →
+      Row N p (v ++ fall x s ∷ []) q
   then_fall k i h b (along m) l = falls k i m h b (along l)
   then_fall k i h b (rises k' i' m h' b' r) l = rises k' i' m h' b' (then_fall k i h b r l)
   then_fall k i h b (falls k' i' m h' b' r) l = falls k' i' m h' b' (then_fall k i h b r l)
 
-  then_rise : {p q : NamedPort A} {v : List (Crossing A)} {x : A} {s : ℕ} (k : Kind) (i : ℕ) → HasNode N x k i → s < arity k → Row N p v (slot x (suc s)) → Linked N (slot x 0) q → Row N p (v ++ rise x s ∷ []) q
+  then_rise : {p q : NamedPort A} {v : List (Crossing A)} {x : A} {s : ℕ} (k : Kind) (i : ℕ) →
+      HasNode N x k i → s < arity k → Row N p v (slot x (suc s)) → Linked N (slot x 0) q →
+      Row N p (v ++ rise x s ∷ []) q
   then_rise k i h b (along m) l = rises k i m h b (along l)
   then_rise k i h b (rises k' i' m h' b' r) l = rises k' i' m h' b' (then_rise k i h b r l)
   then_rise k i h b (falls k' i' m h' b' r) l = falls k' i' m h' b' (then_rise k i h b r l)
 
   pub back_row : {p q : NamedPort A} {v : List (Crossing A)} → Row N p v q → Row N q (turned v) p
   back_row {p = p} (along {q = q} l) = along (linked_sym N p q l)
-  back_row {p = p} (rises {x = x} {s = s} k i l h b r) = then_fall k i h b (back_row r) (linked_sym N p (slot x (suc s)) l)
+  back_row {p = p} (rises {x = x} {s = s} k i l h b r) = then_fall k i h b (back_row r)
+      (linked_sym N p (slot x (suc s)) l)
   back_row {p = p} (falls {x = x} {s = s} k i l h b r) = then_rise k i h b (back_row r) (linked_sym N p (slot x 0) l)
 
 turned_rise : {A : Type 0} (v : List (Crossing A)) (x : A) (s : ℕ) → turned (v ++ rise x s ∷ []) ≡ fall x s ∷ turned v
@@ -89,5 +124,7 @@ module _ {A : Type 0} (N : NamedNet A) (n : IsNet N) where
 
 pub turned_append : {A : Type 0} (v w : List (Crossing A)) → turned (v ++ w) ≡ turned w ++ turned v
 turned_append [] w = sym (append-nil (turned w))
-turned_append (rise x s ∷ v) w = ap (λ u. u ++ fall x s ∷ []) (turned_append v w) ∙ append_assoc (turned w) (turned v) (fall x s ∷ [])
-turned_append (fall x s ∷ v) w = ap (λ u. u ++ rise x s ∷ []) (turned_append v w) ∙ append_assoc (turned w) (turned v) (rise x s ∷ [])
+turned_append (rise x s ∷ v) w = ap (λ u. u ++ fall x s ∷ []) (turned_append v w)
+    ∙ append_assoc (turned w) (turned v) (fall x s ∷ [])
+turned_append (fall x s ∷ v) w = ap (λ u. u ++ rise x s ∷ []) (turned_append v w)
+    ∙ append_assoc (turned w) (turned v) (rise x s ∷ [])

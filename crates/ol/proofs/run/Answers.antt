@@ -1,8 +1,10 @@
--- The contract of the call that `main` makes: that of `ol`, of any files of its readings, over adapters of which no call was made before.
+-- The contract of the call that `main` makes: that of `ol`, of any files of its readings, over
+-- adapters of which no call was made before.
 use Rattle.std.proofs.Common.{Some, subst}
 use Rattle.ol_cli.specs.Jobs.{files_of}
 use Rattle.ol_cli.specs.NormalForms.{LineSays, IsItsNormalForm, TellsOfNone, IsFoundOnDemand}
-use Rattle.ol_cli.specs.NormalForms.{LineSaysOfTwo, PlainDemandFinds, PlainDemandIsFrugal, PlainEqualSays, PlainLineSays}
+use Rattle.ol_cli.specs.NormalForms.{LineSaysOfTwo, PlainDemandFinds, PlainDemandIsFrugal}
+use Rattle.ol_cli.specs.NormalForms.{PlainEqualSays, PlainLineSays}
 use Rattle.ol_cli.specs.Sources.{EveryRunTells, WritesTree}
 use Rattle.ol_cli.specs.Completeness.{IsDoneOrNothing}
 use Rattle.ol.proofs.Passing.{all_taken, begun_at_most, none_in, none_out, passing, no_rise, of_none, of_one_reading}
@@ -15,12 +17,14 @@ returns-clause-plain g c = λ done files of.
     (c.ol-outcome.ensures.plain files
     (of_none files c.new-src.result.log.passed.readings c.ol-outcome.new.src.log.passed.readings
     c.new-src.ensures.readings of)
-    (no_rise c.new-src.result.faults c.ol-outcome.new.src.faults c.new-src.ensures.faults (none_in c.ol-outcome.result.status c.new-src.result.faults c.ol-outcome.new.src.faults
+    (no_rise c.new-src.result.faults c.ol-outcome.new.src.faults c.new-src.ensures.faults
+    (none_in c.ol-outcome.result.status c.new-src.result.faults c.ol-outcome.new.src.faults
     c.new-src.ensures.faults done
     (no_rise c.new-out.result.faults c.ol-outcome.new.out.faults c.new-out.ensures.faults
     (none_out c.ol-outcome.result.status c.new-out.result.faults c.ol-outcome.new.out.faults
     c.new-out.ensures.faults done c.ol-outcome.ensures.write_told)) c.ol-outcome.ensures.read_told))
-    (no_rise c.new-out.result.faults c.ol-outcome.new.out.faults c.new-out.ensures.faults (none_out c.ol-outcome.result.status c.new-out.result.faults c.ol-outcome.new.out.faults
+    (no_rise c.new-out.result.faults c.ol-outcome.new.out.faults c.new-out.ensures.faults
+    (none_out c.ol-outcome.result.status c.new-out.result.faults c.ol-outcome.new.out.faults
     c.new-out.ensures.faults done c.ol-outcome.ensures.write_told)) done)
 
 pub returns-clause-in_short : goal.returns-clause-in_short
@@ -36,27 +40,32 @@ returns-clause-plain_demand g c = λ done files of.
     (c.ol-outcome.ensures.plain_demand files
     (of_none files c.new-src.result.log.passed.readings c.ol-outcome.new.src.log.passed.readings
     c.new-src.ensures.readings of)
-    (no_rise c.new-src.result.faults c.ol-outcome.new.src.faults c.new-src.ensures.faults (none_in c.ol-outcome.result.status c.new-src.result.faults c.ol-outcome.new.src.faults
+    (no_rise c.new-src.result.faults c.ol-outcome.new.src.faults c.new-src.ensures.faults
+    (none_in c.ol-outcome.result.status c.new-src.result.faults c.ol-outcome.new.src.faults
     c.new-src.ensures.faults done
     (no_rise c.new-out.result.faults c.ol-outcome.new.out.faults c.new-out.ensures.faults
     (none_out c.ol-outcome.result.status c.new-out.result.faults c.ol-outcome.new.out.faults
     c.new-out.ensures.faults done c.ol-outcome.ensures.write_told)) c.ol-outcome.ensures.read_told))
-    (no_rise c.new-out.result.faults c.ol-outcome.new.out.faults c.new-out.ensures.faults (none_out c.ol-outcome.result.status c.new-out.result.faults c.ol-outcome.new.out.faults
+    (no_rise c.new-out.result.faults c.ol-outcome.new.out.faults c.new-out.ensures.faults
+    (none_out c.ol-outcome.result.status c.new-out.result.faults c.ol-outcome.new.out.faults
     c.new-out.ensures.faults done c.ol-outcome.ensures.write_told)) done)
 
 pub returns-clause-plain_frugal : goal.returns-clause-plain_frugal
 returns-clause-plain_frugal g c = λ done files of.
-    subst (λ before. PlainDemandIsFrugal c.args.words.now.items files before (Some c.ol-outcome.new.out.log.passed.taken))
+    subst (λ before. PlainDemandIsFrugal c.args.words.now.items files before
+    (Some c.ol-outcome.new.out.log.passed.taken))
     c.new-out.ensures.taken
     (c.ol-outcome.ensures.plain_frugal files
     (of_none files c.new-src.result.log.passed.readings c.ol-outcome.new.src.log.passed.readings
     c.new-src.ensures.readings of)
-    (no_rise c.new-src.result.faults c.ol-outcome.new.src.faults c.new-src.ensures.faults (none_in c.ol-outcome.result.status c.new-src.result.faults c.ol-outcome.new.src.faults
+    (no_rise c.new-src.result.faults c.ol-outcome.new.src.faults c.new-src.ensures.faults
+    (none_in c.ol-outcome.result.status c.new-src.result.faults c.ol-outcome.new.src.faults
     c.new-src.ensures.faults done
     (no_rise c.new-out.result.faults c.ol-outcome.new.out.faults c.new-out.ensures.faults
     (none_out c.ol-outcome.result.status c.new-out.result.faults c.ol-outcome.new.out.faults
     c.new-out.ensures.faults done c.ol-outcome.ensures.write_told)) c.ol-outcome.ensures.read_told))
-    (no_rise c.new-out.result.faults c.ol-outcome.new.out.faults c.new-out.ensures.faults (none_out c.ol-outcome.result.status c.new-out.result.faults c.ol-outcome.new.out.faults
+    (no_rise c.new-out.result.faults c.ol-outcome.new.out.faults c.new-out.ensures.faults
+    (none_out c.ol-outcome.result.status c.new-out.result.faults c.ol-outcome.new.out.faults
     c.new-out.ensures.faults done c.ol-outcome.ensures.write_told)) done)
 
 pub returns-clause-plain_equal : goal.returns-clause-plain_equal
@@ -66,60 +75,71 @@ returns-clause-plain_equal g c = λ done files of.
     (c.ol-outcome.ensures.plain_equal files
     (of_none files c.new-src.result.log.passed.readings c.ol-outcome.new.src.log.passed.readings
     c.new-src.ensures.readings of)
-    (no_rise c.new-src.result.faults c.ol-outcome.new.src.faults c.new-src.ensures.faults (none_in c.ol-outcome.result.status c.new-src.result.faults c.ol-outcome.new.src.faults
+    (no_rise c.new-src.result.faults c.ol-outcome.new.src.faults c.new-src.ensures.faults
+    (none_in c.ol-outcome.result.status c.new-src.result.faults c.ol-outcome.new.src.faults
     c.new-src.ensures.faults done
     (no_rise c.new-out.result.faults c.ol-outcome.new.out.faults c.new-out.ensures.faults
     (none_out c.ol-outcome.result.status c.new-out.result.faults c.ol-outcome.new.out.faults
     c.new-out.ensures.faults done c.ol-outcome.ensures.write_told)) c.ol-outcome.ensures.read_told))
-    (no_rise c.new-out.result.faults c.ol-outcome.new.out.faults c.new-out.ensures.faults (none_out c.ol-outcome.result.status c.new-out.result.faults c.ol-outcome.new.out.faults
+    (no_rise c.new-out.result.faults c.ol-outcome.new.out.faults c.new-out.ensures.faults
+    (none_out c.ol-outcome.result.status c.new-out.result.faults c.ol-outcome.new.out.faults
     c.new-out.ensures.faults done c.ol-outcome.ensures.write_told)) done)
 
 pub returns-clause-normal_form : goal.returns-clause-normal_form
 returns-clause-normal_form g c = λ done files of bytes tells.
-    subst (λ before. LineSays IsItsNormalForm c.args.words.now.items bytes before (Some c.ol-outcome.new.out.log.passed.taken))
+    subst (λ before. LineSays IsItsNormalForm c.args.words.now.items bytes before
+    (Some c.ol-outcome.new.out.log.passed.taken))
     c.new-out.ensures.taken
     (c.ol-outcome.ensures.normal_form files
     (of_none files c.new-src.result.log.passed.readings c.ol-outcome.new.src.log.passed.readings
     c.new-src.ensures.readings of)
     bytes tells
-    (no_rise c.new-src.result.faults c.ol-outcome.new.src.faults c.new-src.ensures.faults (none_in c.ol-outcome.result.status c.new-src.result.faults c.ol-outcome.new.src.faults
+    (no_rise c.new-src.result.faults c.ol-outcome.new.src.faults c.new-src.ensures.faults
+    (none_in c.ol-outcome.result.status c.new-src.result.faults c.ol-outcome.new.src.faults
     c.new-src.ensures.faults done
     (no_rise c.new-out.result.faults c.ol-outcome.new.out.faults c.new-out.ensures.faults
     (none_out c.ol-outcome.result.status c.new-out.result.faults c.ol-outcome.new.out.faults
     c.new-out.ensures.faults done c.ol-outcome.ensures.write_told)) c.ol-outcome.ensures.read_told))
-    (no_rise c.new-out.result.faults c.ol-outcome.new.out.faults c.new-out.ensures.faults (none_out c.ol-outcome.result.status c.new-out.result.faults c.ol-outcome.new.out.faults
+    (no_rise c.new-out.result.faults c.ol-outcome.new.out.faults c.new-out.ensures.faults
+    (none_out c.ol-outcome.result.status c.new-out.result.faults c.ol-outcome.new.out.faults
     c.new-out.ensures.faults done c.ol-outcome.ensures.write_told)) done)
 
 pub returns-clause-no_normal_form : goal.returns-clause-no_normal_form
 returns-clause-no_normal_form g c = λ done files of bytes tells.
-    subst (λ before. LineSays TellsOfNone c.args.words.now.items bytes before (Some c.ol-outcome.new.out.log.passed.taken))
+    subst (λ before. LineSays TellsOfNone c.args.words.now.items bytes before
+    (Some c.ol-outcome.new.out.log.passed.taken))
     c.new-out.ensures.taken
     (c.ol-outcome.ensures.no_normal_form files
     (of_none files c.new-src.result.log.passed.readings c.ol-outcome.new.src.log.passed.readings
     c.new-src.ensures.readings of)
     bytes tells
-    (no_rise c.new-src.result.faults c.ol-outcome.new.src.faults c.new-src.ensures.faults (none_in c.ol-outcome.result.status c.new-src.result.faults c.ol-outcome.new.src.faults
+    (no_rise c.new-src.result.faults c.ol-outcome.new.src.faults c.new-src.ensures.faults
+    (none_in c.ol-outcome.result.status c.new-src.result.faults c.ol-outcome.new.src.faults
     c.new-src.ensures.faults done
     (no_rise c.new-out.result.faults c.ol-outcome.new.out.faults c.new-out.ensures.faults
     (none_out c.ol-outcome.result.status c.new-out.result.faults c.ol-outcome.new.out.faults
     c.new-out.ensures.faults done c.ol-outcome.ensures.write_told)) c.ol-outcome.ensures.read_told))
-    (no_rise c.new-out.result.faults c.ol-outcome.new.out.faults c.new-out.ensures.faults (none_out c.ol-outcome.result.status c.new-out.result.faults c.ol-outcome.new.out.faults
+    (no_rise c.new-out.result.faults c.ol-outcome.new.out.faults c.new-out.ensures.faults
+    (none_out c.ol-outcome.result.status c.new-out.result.faults c.ol-outcome.new.out.faults
     c.new-out.ensures.faults done c.ol-outcome.ensures.write_told)) done)
 
 pub returns-clause-demanded : goal.returns-clause-demanded
 returns-clause-demanded g c = λ done files of bytes tells.
-    subst (λ before. LineSays IsFoundOnDemand c.args.words.now.items bytes before (Some c.ol-outcome.new.out.log.passed.taken))
+    subst (λ before. LineSays IsFoundOnDemand c.args.words.now.items bytes before
+    (Some c.ol-outcome.new.out.log.passed.taken))
     c.new-out.ensures.taken
     (c.ol-outcome.ensures.demanded files
     (of_none files c.new-src.result.log.passed.readings c.ol-outcome.new.src.log.passed.readings
     c.new-src.ensures.readings of)
     bytes tells
-    (no_rise c.new-src.result.faults c.ol-outcome.new.src.faults c.new-src.ensures.faults (none_in c.ol-outcome.result.status c.new-src.result.faults c.ol-outcome.new.src.faults
+    (no_rise c.new-src.result.faults c.ol-outcome.new.src.faults c.new-src.ensures.faults
+    (none_in c.ol-outcome.result.status c.new-src.result.faults c.ol-outcome.new.src.faults
     c.new-src.ensures.faults done
     (no_rise c.new-out.result.faults c.ol-outcome.new.out.faults c.new-out.ensures.faults
     (none_out c.ol-outcome.result.status c.new-out.result.faults c.ol-outcome.new.out.faults
     c.new-out.ensures.faults done c.ol-outcome.ensures.write_told)) c.ol-outcome.ensures.read_told))
-    (no_rise c.new-out.result.faults c.ol-outcome.new.out.faults c.new-out.ensures.faults (none_out c.ol-outcome.result.status c.new-out.result.faults c.ol-outcome.new.out.faults
+    (no_rise c.new-out.result.faults c.ol-outcome.new.out.faults c.new-out.ensures.faults
+    (none_out c.ol-outcome.result.status c.new-out.result.faults c.ol-outcome.new.out.faults
     c.new-out.ensures.faults done c.ol-outcome.ensures.write_told)) done)
 
 pub returns-clause-tree : goal.returns-clause-tree
@@ -130,12 +150,14 @@ returns-clause-tree g c = λ done files of bytes tells.
     (of_none files c.new-src.result.log.passed.readings c.ol-outcome.new.src.log.passed.readings
     c.new-src.ensures.readings of)
     bytes tells
-    (no_rise c.new-src.result.faults c.ol-outcome.new.src.faults c.new-src.ensures.faults (none_in c.ol-outcome.result.status c.new-src.result.faults c.ol-outcome.new.src.faults
+    (no_rise c.new-src.result.faults c.ol-outcome.new.src.faults c.new-src.ensures.faults
+    (none_in c.ol-outcome.result.status c.new-src.result.faults c.ol-outcome.new.src.faults
     c.new-src.ensures.faults done
     (no_rise c.new-out.result.faults c.ol-outcome.new.out.faults c.new-out.ensures.faults
     (none_out c.ol-outcome.result.status c.new-out.result.faults c.ol-outcome.new.out.faults
     c.new-out.ensures.faults done c.ol-outcome.ensures.write_told)) c.ol-outcome.ensures.read_told))
-    (no_rise c.new-out.result.faults c.ol-outcome.new.out.faults c.new-out.ensures.faults (none_out c.ol-outcome.result.status c.new-out.result.faults c.ol-outcome.new.out.faults
+    (no_rise c.new-out.result.faults c.ol-outcome.new.out.faults c.new-out.ensures.faults
+    (none_out c.ol-outcome.result.status c.new-out.result.faults c.ol-outcome.new.out.faults
     c.new-out.ensures.faults done c.ol-outcome.ensures.write_told)) done)
 
 pub returns-clause-two_terms : goal.returns-clause-two_terms
@@ -146,17 +168,20 @@ returns-clause-two_terms g c = λ done files of tells.
     (of_none files c.new-src.result.log.passed.readings c.ol-outcome.new.src.log.passed.readings
     c.new-src.ensures.readings of)
     tells
-    (no_rise c.new-src.result.faults c.ol-outcome.new.src.faults c.new-src.ensures.faults (none_in c.ol-outcome.result.status c.new-src.result.faults c.ol-outcome.new.src.faults
+    (no_rise c.new-src.result.faults c.ol-outcome.new.src.faults c.new-src.ensures.faults
+    (none_in c.ol-outcome.result.status c.new-src.result.faults c.ol-outcome.new.src.faults
     c.new-src.ensures.faults done
     (no_rise c.new-out.result.faults c.ol-outcome.new.out.faults c.new-out.ensures.faults
     (none_out c.ol-outcome.result.status c.new-out.result.faults c.ol-outcome.new.out.faults
     c.new-out.ensures.faults done c.ol-outcome.ensures.write_told)) c.ol-outcome.ensures.read_told))
-    (no_rise c.new-out.result.faults c.ol-outcome.new.out.faults c.new-out.ensures.faults (none_out c.ol-outcome.result.status c.new-out.result.faults c.ol-outcome.new.out.faults
+    (no_rise c.new-out.result.faults c.ol-outcome.new.out.faults c.new-out.ensures.faults
+    (none_out c.ol-outcome.result.status c.new-out.result.faults c.ol-outcome.new.out.faults
     c.new-out.ensures.faults done c.ol-outcome.ensures.write_told)) done)
 
 pub returns-clause-every_run : goal.returns-clause-every_run
 returns-clause-every_run g c = λ f w has files of bytes tells.
-    subst (λ before. EveryRunTells c.args.words.now.items bytes c.ol-outcome.result.status before (Some c.ol-outcome.new.out.log.passed.taken))
+    subst (λ before. EveryRunTells c.args.words.now.items bytes c.ol-outcome.result.status before
+    (Some c.ol-outcome.new.out.log.passed.taken))
     c.new-out.ensures.taken
     (c.ol-outcome.ensures.every_run files
     (of_none files c.new-src.result.log.passed.readings c.ol-outcome.new.src.log.passed.readings
@@ -166,7 +191,8 @@ returns-clause-every_run g c = λ f w has files of bytes tells.
 
 pub returns-clause-completeness : goal.returns-clause-completeness
 returns-clause-completeness g c = λ f w files of can.
-    subst (λ before. IsDoneOrNothing c.args.words.now.items files c.ol-outcome.result.status before (Some c.ol-outcome.new.out.log.passed.taken))
+    subst (λ before. IsDoneOrNothing c.args.words.now.items files c.ol-outcome.result.status before
+    (Some c.ol-outcome.new.out.log.passed.taken))
     c.new-out.ensures.taken
     (c.ol-outcome.ensures.completeness files
     (of_none files c.new-src.result.log.passed.readings c.ol-outcome.new.src.log.passed.readings

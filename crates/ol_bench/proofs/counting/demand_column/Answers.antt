@@ -15,6 +15,12 @@ returns-in-Spent c =
 
 pub returns : goal.returns
 returns c =
-    subst (λ n. IsDemandColumn c.args.net.now c.args.heads c.args.fuel (Some (record { counts = n; stuck = c.stuck-stuck.result }))) (sym c.counts-counts.ensures)
-    (subst (λ (g : Graph). IsDemandColumn g c.args.heads c.args.fuel (Some (record { counts = counts_of c.in-Done.journal; stuck = c.stuck-stuck.result }))) c.in_ok-last.ensures.copy
-    (IsDemandColumn.ended (subst (IsAnswer c.in_ok-last.last c.args.heads c.args.fuel c.demand.new.net) c.in-Done.is c.in_ok-demanded.ensures.answer) c.stuck-stuck.ensures.stuck))
+    subst (λ n. IsDemandColumn c.args.net.now c.args.heads c.args.fuel
+    (Some (record { counts = n; stuck = c.stuck-stuck.result }))) (sym c.counts-counts.ensures)
+    (subst (λ (g : Graph). IsDemandColumn g c.args.heads c.args.fuel
+    (Some (record {
+      counts = counts_of c.in-Done.journal;
+      stuck = c.stuck-stuck.result;
+    }))) c.in_ok-last.ensures.copy
+    (IsDemandColumn.ended (subst (IsAnswer c.in_ok-last.last c.args.heads c.args.fuel
+    c.demand.new.net) c.in-Done.is c.in_ok-demanded.ensures.answer) c.stuck-stuck.ensures.stuck))

@@ -1,4 +1,5 @@
-use Rattle.std.proofs.Common.{◌≡◌, ◌+◌, ◌<◌, ◌≤◌, ◌⊎◌, inl, inr, ◌++◌, [], ◌∷◌, length, Some, refl, sym, ap, ◌∙◌, subst, arith, rules}
+use Rattle.std.proofs.Common.{◌≡◌, ◌+◌, ◌<◌, ◌≤◌, ◌⊎◌, inl, inr, ◌++◌, [], ◌∷◌, length, Some, refl}
+use Rattle.std.proofs.Common.{sym, ap, ◌∙◌, subst, arith, rules}
 use Rattle.std.specs.Prelude.{IsSome}
 use Rattle.std.proofs.lemmas.Bool.{cases_lt}
 use Rattle.std.proofs.lemmas.List.{length_push}
@@ -24,7 +25,8 @@ returns-then-not-is_within c =
       past = go (cases_lt 100000 (term_size t)) (cases_lt 1000 (depth t));
     })
   where
-    go : (100000 < term_size (tree_of c.args.term)) ⊎ (term_size (tree_of c.args.term) ≤ 100000) → (1000 < depth (tree_of c.args.term)) ⊎ (depth (tree_of c.args.term) ≤ 1000) → IsPast (tree_of c.args.term)
+    go : (100000 < term_size (tree_of c.args.term)) ⊎ (term_size (tree_of c.args.term) ≤ 100000) →
+        (1000 < depth (tree_of c.args.term)) ⊎ (depth (tree_of c.args.term) ≤ 1000) → IsPast (tree_of c.args.term)
     go (inl h) k = inl h
     go (inr h) (inl k) = inr k
     go (inr h) (inr k) = let e = c.if-not-is_within.ensures.1 (h, k) in absurd (cc)
@@ -35,7 +37,8 @@ returns-in_default c =
     let r = i.3 in
     let few : length r.0 ≤ c.args.most = (let e = r.2 in omega (arith, i.0)) in
     subst (λ n. IsLeftmostCount (tree_of c.args.term) c.args.most (Some n)) r.2
-    (normal (normal_form (tree_of c.args.term) (tree_of c.loop-here.here) c.args.most r.0 r.1 few i.1 (sym c.in_ok-at.ensures ∙ c.in_default.is)))
+    (normal (normal_form (tree_of c.args.term)
+    (tree_of c.loop-here.here) c.args.most r.0 r.1 few i.1 (sym c.in_ok-at.ensures ∙ c.in_default.is)))
 
 pub returns-then-made-most : goal.returns-then-made-most
 returns-then-made-most c =
@@ -56,15 +59,20 @@ returns-in-Past c =
     let i = c.loop-here.invariant in
     let r = i.3 in
     let a : leftmost (tree_of c.loop-here.here) ≡ Some c.in-Some.at = sym c.in_ok-at.ensures ∙ c.in-Some.is in
-    let p : IsPastAfter (tree_of c.loop-here.here) c.in-Some.at c.in-Past.size c.in-Past.depth = subst (λ (e : BetaFault). IsBetaFault (tree_of c.loop-here.here) c.in-Some.at e) c.in-Past.is c.in-Err.ensures.refusal in
+    let p : IsPastAfter (tree_of c.loop-here.here) c.in-Some.at c.in-Past.size
+    c.in-Past.depth = subst (λ (e : BetaFault).
+    IsBetaFault (tree_of c.loop-here.here) c.in-Some.at e) c.in-Past.is c.in-Err.ensures.refusal in
     past {step = c.loop-here.made + 1} {size = c.in-Past.size} {depth = c.in-Past.depth}
-    (past_on (tree_of c.args.term) (tree_of c.loop-here.here) c.args.most r.0 c.in-Some.at (c.loop-here.made + 1) c.in-Past.size c.in-Past.depth r.1 i.1 a p
+    (past_on (tree_of c.args.term) (tree_of c.loop-here.here) c.args.most r.0 c.in-Some.at
+    (c.loop-here.made + 1) c.in-Past.size c.in-Past.depth r.1 i.1 a p
     (ap (λ n. n + 1) (sym r.2)) (omega (arith, i.0, c.if-made-most.false)))
 
 pub unreachable-requires : goal.unreachable-requires
 unreachable-requires c =
     let a : leftmost (tree_of c.loop-here.here) ≡ Some c.in-Some.at = sym c.in_ok-at.ensures ∙ c.in-Some.is in
-    no_fault (tree_of c.loop-here.here) c.in-Some.at a (subst (λ (e : BetaFault). IsBetaFault (tree_of c.loop-here.here) c.in-Some.at e) c.in-NotRedex.is c.in-Err.ensures.refusal)
+    no_fault (tree_of c.loop-here.here) c.in-Some.at a
+    (subst (λ (e : BetaFault). IsBetaFault
+    (tree_of c.loop-here.here) c.in-Some.at e) c.in-NotRedex.is c.in-Err.ensures.refusal)
 
 pub loop-here-preserved : goal.loop-here-preserved
 loop-here-preserved c =
@@ -76,7 +84,8 @@ loop-here-preserved c =
       c.in-Ok.ensures.bound,
       (
         r.0 ++ c.in-Some.at ∷ [],
-        leads_on r.0 (tree_of c.args.term) (tree_of c.loop-here.here) (tree_of c.in-Ok.next) c.in-Some.at r.1 i.1 a c.in-Ok.ensures.step,
+        leads_on r.0 (tree_of c.args.term) (tree_of c.loop-here.here)
+            (tree_of c.in-Ok.next) c.in-Some.at r.1 i.1 a c.in-Ok.ensures.step,
         length_push r.0 c.in-Some.at ∙ ap (λ n. n + 1) r.2,
       ),
     )

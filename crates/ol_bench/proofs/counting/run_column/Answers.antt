@@ -11,6 +11,11 @@ returns-in-Spent c =
 
 pub returns : goal.returns
 returns c =
-    subst (λ n. IsRunColumn c.args.net.now c.args.fuel (Some (record { counts = n; stuck = c.stuck-stuck.result }))) (sym c.counts-counts.ensures)
-    (subst (λ (g : Graph). IsRunColumn g c.args.fuel (Some (record { counts = counts_of c.in_ok-ran.ran.journal; stuck = c.stuck-stuck.result }))) c.in_ok-last.ensures.copy
+    subst (λ n. IsRunColumn c.args.net.now c.args.fuel
+    (Some (record { counts = n; stuck = c.stuck-stuck.result }))) (sym c.counts-counts.ensures)
+    (subst (λ (g : Graph). IsRunColumn g c.args.fuel
+    (Some (record {
+      counts = counts_of c.in_ok-ran.ran.journal;
+      stuck = c.stuck-stuck.result;
+    }))) c.in_ok-last.ensures.copy
     (IsRunColumn.ended c.in_ok-ran.ensures.runs (c.in_ok-ran.ensures.done.0 c.in-Done.is) c.stuck-stuck.ensures.stuck))

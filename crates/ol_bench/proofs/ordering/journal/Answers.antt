@@ -4,7 +4,8 @@ use Rattle.ol_bench.specs.Orders.{refused, traced}
 use Rattle.ol_bench.proofs.ordering.journal.Goals as goal
 
 pub returns-in-Refused : goal.returns-in-Refused
-returns-in-Refused c = refused (subst (IsSubjectRead c.args.subject c.args.bytes.now) c.in-Refused.is c.in_ok-text.ensures)
+returns-in-Refused c = refused (subst
+    (IsSubjectRead c.args.subject c.args.bytes.now) c.in-Refused.is c.in_ok-text.ensures)
 
 pub returns-in_ok-answer-in-Net : goal.returns-in_ok-answer-in-Net
 returns-in_ok-answer-in-Net c =

@@ -23,6 +23,7 @@ returns c =
       ends = last.ends;
     }))
   where
-    on_one_line : (k : ℕ) → c.line_start-start.result ≤ k → k < c.line_end-last.result → (k < c.args.at) ⊎ (c.args.at ≤ k) → slice_index c.args.bytes.now k ≢ 10
+    on_one_line : (k : ℕ) → c.line_start-start.result ≤ k → k < c.line_end-last.result →
+        (k < c.args.at) ⊎ (c.args.at ≤ k) → slice_index c.args.bytes.now k ≢ 10
     on_one_line k h l (inl b) = c.line_start-start.ensures.one_line k h b
     on_one_line k h l (inr a) = c.line_end-last.ensures.one_line k a l

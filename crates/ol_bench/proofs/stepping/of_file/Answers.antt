@@ -14,7 +14,10 @@ returns-in_ok-answer-2 c = λ bytes i.
     subst (λ e. IsStepsOf bytes c.args.most c.in_ok-answer-2.answer.text.items e) (sym c.in_ok-answer-2.ensures.no)
     (too_large i (go (cases_lt 100000 (term_size t)) (cases_lt 1000 (depth t))) c.in_ok-answer-2.ensures.text)
   where
-    go : (100000 < term_size (tree_of c.args.file.term)) ⊎ (term_size (tree_of c.args.file.term) ≤ 100000) → (1000 < depth (tree_of c.args.file.term)) ⊎ (depth (tree_of c.args.file.term) ≤ 1000) → IsPast (tree_of c.args.file.term)
+    go : (100000 < term_size (tree_of c.args.file.term))
+        ⊎ (term_size (tree_of c.args.file.term) ≤ 100000) →
+        (1000 < depth (tree_of c.args.file.term)) ⊎ (depth (tree_of c.args.file.term) ≤ 1000) →
+        IsPast (tree_of c.args.file.term)
     go (inl h) k = inl h
     go (inr h) (inl k) = inr k
     go (inr h) (inr k) = let e = c.if-is_within.ensures.1 (h, k) in absurd (cc)

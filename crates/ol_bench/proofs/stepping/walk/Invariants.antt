@@ -9,7 +9,8 @@ abbrev pub invariant-loop-here : goal.invariant-loop-here
 invariant-loop-here l =
     (l.made ≤ l.most) × IsWithin (tree_of l.here) × (is_below 0 (tree_of l.here) ≡ true)
     × (is_named_below (length l.names) (tree_of l.here) ≡ true)
-    × ((rest : List ℕ) (e : End) → Tells l.names l.most l.made (tree_of l.here) rest e → Tells l.names l.most 0 (tree_of l.fn.term) (l.text.items ++ rest) e)
+    × ((rest : List ℕ) (e : End) → Tells l.names l.most l.made (tree_of l.here) rest e →
+    Tells l.names l.most 0 (tree_of l.fn.term) (l.text.items ++ rest) e)
 
 abbrev pub decreases-loop-here : goal.decreases-loop-here
 decreases-loop-here l = l.most - l.made

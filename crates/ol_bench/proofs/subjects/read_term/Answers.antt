@@ -10,7 +10,8 @@ pub returns-in-Ok-translate : goal.returns-in-Ok-translate
 returns-in-Ok-translate c =
     let p = c.in-Ok.ensures in
     let n = c.in-Ok-translate.ensures in
-    let small : size_of_translation c.args.translation (tree_of c.in-Ok.file.term) ≤ 200000 = go (cases_lt 200000 (size_of_translation c.args.translation (tree_of c.in-Ok.file.term))) in
+    let small : size_of_translation c.args.translation (tree_of c.in-Ok.file.term) ≤ 200000 = go
+    (cases_lt 200000 (size_of_translation c.args.translation (tree_of c.in-Ok.file.term))) in
     record {
       term = record { file = p.file; shallow = p.shallow; small = small };
       ready = record { same = n.net; numbers = n.numbers };
@@ -18,7 +19,9 @@ returns-in-Ok-translate c =
       counted = counted c.args.translation (tree_of c.in-Ok.file.term) small;
     }
   where
-    go : (200000 < size_of_translation c.args.translation (tree_of c.in-Ok.file.term)) ⊎ (size_of_translation c.args.translation (tree_of c.in-Ok.file.term) ≤ 200000) → size_of_translation c.args.translation (tree_of c.in-Ok.file.term) ≤ 200000
+    go : (200000 < size_of_translation c.args.translation (tree_of c.in-Ok.file.term))
+        ⊎ (size_of_translation c.args.translation (tree_of c.in-Ok.file.term) ≤ 200000) →
+        size_of_translation c.args.translation (tree_of c.in-Ok.file.term) ≤ 200000
     go (inl past) = let e = (c.in-Ok-translate.ensures.too_many (λ e. absurd (cc))).1 past in absurd (cc)
     go (inr small) = small
 

@@ -6,7 +6,9 @@ use Rattle.ol_bench.proofs.top.answer.Goals as goal
 pub returns-in_ok-answer-in-Err-Fault-clause-caused : goal.returns-in_ok-answer-in-Err-Fault-clause-caused
 returns-in_ok-answer-in-Err-Fault-clause-caused g c = λ files of.
     let a = c.in_ok-answer-in-Err-Fault in
-    subst (λ e. IsCause c.args.asked.now (files 0 (name_of c.args.asked.now)) (g.S.Source.faults c.args.src.now) (g.S.Source.faults c.read_all.new.src) a.answer.text.items e) (sym a.ensures.refused)
+    subst (λ e. IsCause c.args.asked.now (files 0 (name_of c.args.asked.now))
+    (g.S.Source.faults c.args.src.now) (g.S.Source.faults c.read_all.new.src)
+    a.answer.text.items e) (sym a.ensures.refused)
     (fault (rw c.in-Err-Fault.field-0-is at c.in-Err-Fault.ensures.cause) a.ensures.text)
 
 pub returns-in_ok-answer-in-Err-TooLong-clause-caused : goal.returns-in_ok-answer-in-Err-TooLong-clause-caused
@@ -14,7 +16,9 @@ returns-in_ok-answer-in-Err-TooLong-clause-caused g c = λ files of.
     let a = c.in_ok-answer-in-Err-TooLong in
     let e = c.in-Err-TooLong.ensures in
     let past = e.too_long.0 (rw c.in-Err-TooLong.field-0-is refl) in
-    subst (λ e. IsCause c.args.asked.now (files 0 (name_of c.args.asked.now)) (g.S.Source.faults c.args.src.now) (g.S.Source.faults c.read_all.new.src) a.answer.text.items e) (sym a.ensures.refused)
+    subst (λ e. IsCause c.args.asked.now (files 0 (name_of c.args.asked.now))
+    (g.S.Source.faults c.args.src.now) (g.S.Source.faults c.read_all.new.src)
+    a.answer.text.items e) (sym a.ensures.refused)
     (too_long
     (subst (λ most. IsLonger (files 0 (name_of c.args.asked.now)) most) c.most_of.ensures
     (subst (λ name. IsLonger (files 0 name) c.most_of.result) c.name_of.ensures (e.longer_of files of past)))

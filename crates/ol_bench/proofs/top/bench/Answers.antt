@@ -13,8 +13,11 @@ returns-in-All-clause-answered g c = λ files of.
     let same : c.deref.result.now ≡ f.text.items = (let v = c.deref.ensures.value in let t = c.in-Ok.text-is in cc) in
     let end : f.end ≡ Yes = (let e = c.in-Ok.end-is in let i = c.in-Yes.is in cc) in
     yes f.text.items
-    (subst (λ e. IsCause c.args.asked.now (files 0 (name_of c.args.asked.now)) (g.S.Source.faults c.args.src.now) (g.S.Source.faults c.answer.new.src) f.text.items e) end (c.in-Ok.ensures.caused files of))
-    (subst (λ text. Appended (g.W.Sink.taken c.args.out.now) text (g.W.Sink.taken c.write_all.new.out)) same c.in-All.ensures.bytes)
+    (subst (λ e. IsCause c.args.asked.now (files 0 (name_of c.args.asked.now))
+    (g.S.Source.faults c.args.src.now) (g.S.Source.faults c.answer.new.src) f.text.items e) end
+    (c.in-Ok.ensures.caused files of))
+    (subst (λ text. Appended (g.W.Sink.taken c.args.out.now) text
+    (g.W.Sink.taken c.write_all.new.out)) same c.in-All.ensures.bytes)
     refl
 
 pub returns-in-Yes-clause-answered : goal.returns-in-Yes-clause-answered
@@ -23,11 +26,15 @@ returns-in-Yes-clause-answered g c = λ files of. write_fault (inl c.in-Fault.en
 pub returns-in-All-write_all-clause-answered : goal.returns-in-All-write_all-clause-answered
 returns-in-All-write_all-clause-answered g c = λ files of.
     let f = c.in-Ok.field-0 in
-    let same : c.deref-in-No.result.now ≡ f.text.items = (let v = c.deref-in-No.ensures.value in let t = c.in-Ok.text-is in cc) in
+    let same : c.deref-in-No.result.now ≡ f.text.items = (let v = c.deref-in-No.ensures.value in
+    let t = c.in-Ok.text-is in cc) in
     let end : f.end ≡ No = (let e = c.in-Ok.end-is in let i = c.in-No.is in cc) in
     no f.text.items
-    (subst (λ e. IsCause c.args.asked.now (files 0 (name_of c.args.asked.now)) (g.S.Source.faults c.args.src.now) (g.S.Source.faults c.answer.new.src) f.text.items e) end (c.in-Ok.ensures.caused files of))
-    (subst (λ text. Appended (g.W.Sink.taken c.args.out.now) text (g.W.Sink.taken c.write_all-in-No.new.out)) same c.in-All-write_all.ensures.bytes)
+    (subst (λ e. IsCause c.args.asked.now (files 0 (name_of c.args.asked.now))
+    (g.S.Source.faults c.args.src.now) (g.S.Source.faults c.answer.new.src) f.text.items e) end
+    (c.in-Ok.ensures.caused files of))
+    (subst (λ text. Appended (g.W.Sink.taken c.args.out.now) text
+    (g.W.Sink.taken c.write_all-in-No.new.out)) same c.in-All-write_all.ensures.bytes)
     refl
 
 pub returns-in-No-clause-answered : goal.returns-in-No-clause-answered
@@ -39,8 +46,11 @@ returns-in-All-write_all-2-clause-answered g c = λ files of.
     let same : c.deref-in-Refused.result.now ≡ f.text.items = (let v = c.deref-in-Refused.ensures.value in let t = c.in-Ok.text-is in cc) in
     let end : f.end ≡ Refused = (let e = c.in-Ok.end-is in let i = c.in-Refused.is in cc) in
     refused f.text.items
-    (subst (λ e. IsCause c.args.asked.now (files 0 (name_of c.args.asked.now)) (g.S.Source.faults c.args.src.now) (g.S.Source.faults c.answer.new.src) f.text.items e) end (c.in-Ok.ensures.caused files of))
-    (subst (λ text. Appended (g.E.Sink.taken c.args.errors.now) text (g.E.Sink.taken c.write_all-in-Refused.new.out)) same c.in-All-write_all-2.ensures.bytes)
+    (subst (λ e. IsCause c.args.asked.now (files 0 (name_of c.args.asked.now))
+    (g.S.Source.faults c.args.src.now) (g.S.Source.faults c.answer.new.src) f.text.items e) end
+    (c.in-Ok.ensures.caused files of))
+    (subst (λ text. Appended (g.E.Sink.taken c.args.errors.now) text
+    (g.E.Sink.taken c.write_all-in-Refused.new.out)) same c.in-All-write_all-2.ensures.bytes)
     refl
 
 pub returns-clause-answered : goal.returns-clause-answered

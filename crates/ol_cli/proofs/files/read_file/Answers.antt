@@ -5,8 +5,15 @@ use Rattle.ol_cli.proofs.files.read_file.Goals as goal
 
 pub returns-in-Ok-clause-comes : goal.returns-in-Ok-clause-comes
 returns-in-Ok-clause-comes g c = λ files of.
-    let r = c.in-Ok.ensures in
-    (r.cause, record { whole = r.whole_of files of; counted = r.counted; within = rw c.most.ensures at (within_ok _ c.most.result _ r.too_long); to_end = r.ended })
+    let r = c.in-Ok.ensures in (
+      r.cause,
+      record {
+        whole = r.whole_of files of;
+        counted = r.counted;
+        within = rw c.most.ensures at (within_ok _ c.most.result _ r.too_long);
+        to_end = r.ended;
+      },
+    )
 
 pub returns-in-Ok-clause-short : goal.returns-in-Ok-clause-short
 returns-in-Ok-clause-short g c =

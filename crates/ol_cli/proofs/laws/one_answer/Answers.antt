@@ -6,7 +6,8 @@ use Rattle.ol_cli.proofs.OnePrint.{one_printed_tree, one_walked_tree}
 use Rattle.ol_cli.proofs.laws.one_answer.Goals as goal
 
 pub returns-clause-answer : goal.returns-clause-answer
-returns-clause-answer c = λ words words' alike files s s' x x' a a'. answers_alike words words' alike files s s' x x' a a'
+returns-clause-answer c = λ words words' alike files s s' x x' a a'.
+    answers_alike words words' alike files s s' x x' a a'
 
 pub returns-clause-printed : goal.returns-clause-printed
 returns-clause-printed c = one_printed_tree
@@ -18,4 +19,5 @@ pub returns-clause-demanded : goal.returns-clause-demanded
 returns-clause-demanded c = one_demanded_tree
 
 pub returns-clause-left : goal.returns-clause-left
-returns-clause-left c = λ net fuel counts counts' stuck stuck' nodes nodes' is_net e e'. one_net_is_left net fuel counts counts' stuck stuck' nodes nodes' is_net e e'
+returns-clause-left c = λ net fuel counts counts' stuck stuck' nodes nodes' is_net e e'.
+    one_net_is_left net fuel counts counts' stuck stuck' nodes nodes' is_net e e'

@@ -9,22 +9,33 @@ returns-in-Ok-translate c =
     let p = c.in-Ok.ensures in
     let n = c.in-Ok-translate.ensures in
     record {
-      ready = ready_net c.args.translation c.args.bytes.now (tree_of c.in-Ok.file.term) c.in-Ok.file.names c.in-Ok-translate.net c.requires.short p.file p.shallow p.names
-          n.net n.numbers n.size n.free n.few_names n.indexes (λ past. let e = (n.too_many (λ e. absurd (cc))).1 past in absurd (cc));
+      ready = ready_net c.args.translation c.args.bytes.now
+          (tree_of c.in-Ok.file.term) c.in-Ok.file.names c.in-Ok-translate.net c.requires.short p.file p.shallow p.names
+          n.net n.numbers n.size n.free n.few_names n.indexes
+          (λ past. let e = (n.too_many (λ e. absurd (cc))).1 past in absurd (cc));
     }
 
 pub returns-in-Ok : goal.returns-in-Ok
 returns-in-Ok c =
     let p = c.in-Ok.ensures in
     let past = (c.in-Err-translate.ensures.too_many (λ e. absurd (cc))).0 (rw c.in-TooMany.is refl) in
-    record { ready = c.refused.ensures c.args.translation c.args.bytes.now (large c.requires.short p.file p.shallow past c.in_ok-text-in-TooMany.ensures) }
+    record {
+      ready = c.refused.ensures c.args.translation c.args.bytes.now
+          (large c.requires.short p.file p.shallow past c.in_ok-text-in-TooMany.ensures);
+    }
 
 pub returns-in-Syntax : goal.returns-in-Syntax
 returns-in-Syntax c =
     let told = (c.in-Err.ensures.syntax (λ e. absurd (cc)) c.in-Syntax.at).0 (rw c.in-Syntax.is refl) in
-    record { ready = c.refused-in-Syntax.ensures c.args.translation c.args.bytes.now (c.in-Syntax.at, c.requires.short, told, c.in_ok-text-in-Syntax.ensures) }
+    record {
+      ready = c.refused-in-Syntax.ensures c.args.translation c.args.bytes.now
+          (c.in-Syntax.at, c.requires.short, told, c.in_ok-text-in-Syntax.ensures);
+    }
 
 pub returns : goal.returns
 returns c =
     let told = (c.in-Err.ensures.too_deep (λ e. absurd (cc)) c.in-Depth.depth).0 (rw c.in-Depth.is refl) in
-    record { ready = c.refused-in-Depth.ensures c.args.translation c.args.bytes.now (deep c.requires.short told.file (rw told.is at told.above) c.in_ok-text-in-Depth.ensures) }
+    record {
+      ready = c.refused-in-Depth.ensures c.args.translation c.args.bytes.now
+          (deep c.requires.short told.file (rw told.is at told.above) c.in_ok-text-in-Depth.ensures);
+    }

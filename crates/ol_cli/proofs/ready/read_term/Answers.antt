@@ -12,7 +12,8 @@ returns-in-Refused-clause-comes g c = λ files of.
 pub returns-in_ok-ready-in-Bytes-clause-comes : goal.returns-in_ok-ready-in-Bytes-clause-comes
 returns-in_ok-ready-in-Bytes-clause-comes g c = λ files of.
     let r = rw c.in-Bytes.is at (c.in_ok-file.ensures.comes files of) in
-    made_ready c.args.translation _ c.args.name.now c.in-Bytes.bytes.items r.0 r.1 c.in_ok-ready-in-Bytes.ready (rw c.deref.ensures.value at c.in_ok-ready-in-Bytes.ensures.ready)
+    made_ready c.args.translation _ c.args.name.now c.in-Bytes.bytes.items r.0 r.1
+    c.in_ok-ready-in-Bytes.ready (rw c.deref.ensures.value at c.in_ok-ready-in-Bytes.ensures.ready)
 
 pub returns-in_ok-ready-in-Bytes-clause-net : goal.returns-in_ok-ready-in-Bytes-clause-net
 returns-in_ok-ready-in-Bytes-clause-net g c =

@@ -6,7 +6,8 @@ use Rattle.ol_io.proofs.Readings.{handed-over, handed-told}
 use Rattle.ol_cli.specs.declared.status.Status.TheVariants.{Done, NoMemory}
 use Rattle.ol_cli.proofs.Called.{call_ends, call_hands, call_reads}
 use Rattle.ol_cli.proofs.Complete.{done_or_nothing}
-use Rattle.ol_cli.proofs.Exact.{ends_asked, ends_done, ends_exact, ends_fault, ends_risen, ends_usage, ends_write, ends_write_told}
+use Rattle.ol_cli.proofs.Exact.{ends_asked, ends_done, ends_exact, ends_fault, ends_risen}
+use Rattle.ol_cli.proofs.Exact.{ends_usage, ends_write, ends_write_told}
 use Rattle.ol_cli.proofs.Sourced.{writes_tree, ends_run}
 use Rattle.ol_cli.proofs.SourceTrees.{writes_of_sources}
 use Rattle.ol_cli.proofs.NormalLines.{writes_normal_form, writes_no_normal_form}
@@ -18,50 +19,73 @@ use Rattle.ol_cli.proofs.top.ol.Goals as goal
 pub returns-clause-plain : goal.returns-clause-plain
 returns-clause-plain g c = λ files of quiet calm e.
     plain_writes c.args.words.now.items files (g.W.Sink.taken c.args.out.now) (g.W.Sink.taken c.write.new.out)
-    (λ bytes tells. (writes_tree c.args.words.now.items bytes (g.W.Sink.taken c.args.out.now) (g.W.Sink.taken c.write.new.out)
-    (call_reads c.args.words.now.items _ (g.W.Sink.faults c.args.out.now) (g.W.Sink.faults c.write.new.out) (g.W.Sink.taken c.args.out.now) (g.W.Sink.taken c.write.new.out) c.answer_words-made.result c.write.result c.write.ensures.told (c.answer_words-made.ensures.comes files of) bytes tells e)))
+    (λ bytes tells. (writes_tree c.args.words.now.items bytes (g.W.Sink.taken c.args.out.now)
+    (g.W.Sink.taken c.write.new.out)
+    (call_reads c.args.words.now.items _ (g.W.Sink.faults c.args.out.now)
+    (g.W.Sink.faults c.write.new.out) (g.W.Sink.taken c.args.out.now)
+    (g.W.Sink.taken c.write.new.out) c.answer_words-made.result c.write.result
+    c.write.ensures.told (c.answer_words-made.ensures.comes files of) bytes tells e)))
 
 pub returns-clause-plain_demand : goal.returns-clause-plain_demand
 returns-clause-plain_demand g c = λ files of quiet calm e.
     plain_demand c.args.words.now.items files (g.W.Sink.taken c.args.out.now) (g.W.Sink.taken c.write.new.out)
-    (λ bytes tells. (writes_tree c.args.words.now.items bytes (g.W.Sink.taken c.args.out.now) (g.W.Sink.taken c.write.new.out)
-    (call_reads c.args.words.now.items _ (g.W.Sink.faults c.args.out.now) (g.W.Sink.faults c.write.new.out) (g.W.Sink.taken c.args.out.now) (g.W.Sink.taken c.write.new.out) c.answer_words-made.result c.write.result c.write.ensures.told (c.answer_words-made.ensures.comes files of) bytes tells e)))
+    (λ bytes tells. (writes_tree c.args.words.now.items bytes (g.W.Sink.taken c.args.out.now)
+    (g.W.Sink.taken c.write.new.out)
+    (call_reads c.args.words.now.items _ (g.W.Sink.faults c.args.out.now)
+    (g.W.Sink.faults c.write.new.out) (g.W.Sink.taken c.args.out.now)
+    (g.W.Sink.taken c.write.new.out) c.answer_words-made.result c.write.result
+    c.write.ensures.told (c.answer_words-made.ensures.comes files of) bytes tells e)))
 
 pub returns-clause-plain_frugal : goal.returns-clause-plain_frugal
 returns-clause-plain_frugal g c = λ files of quiet calm e.
     plain_frugal c.args.words.now.items files (g.W.Sink.taken c.args.out.now) (g.W.Sink.taken c.answer.new.out)
-    (λ bytes tells. (writes_tree c.args.words.now.items bytes (g.W.Sink.taken c.args.out.now) (g.W.Sink.taken c.answer.new.out)
+    (λ bytes tells. (writes_tree c.args.words.now.items bytes (g.W.Sink.taken c.args.out.now)
+    (g.W.Sink.taken c.answer.new.out)
     (c.answer.ensures.read_again files of bytes tells e)))
 
 pub returns-clause-plain_equal : goal.returns-clause-plain_equal
 returns-clause-plain_equal g c = λ files of quiet calm e.
     plain_equal c.args.words.now.items files (g.W.Sink.taken c.args.out.now) (g.W.Sink.taken c.write.new.out)
-    (λ tells. writes_of_two c.args.words.now.items files (g.W.Sink.taken c.args.out.now) (g.W.Sink.taken c.write.new.out)
+    (λ tells. writes_of_two c.args.words.now.items files (g.W.Sink.taken c.args.out.now)
+    (g.W.Sink.taken c.write.new.out)
     (writes_of_sources c.args.words.now.items files (g.W.Sink.taken c.args.out.now) (g.W.Sink.taken c.write.new.out)
     c.write.result.status e
     (ends_exact c.args.words.now.items (g.S.Source.faults c.args.src.now)
     (g.S.Source.faults c.answer_words-made.new.src) (g.S.Source.given c.answer_words-made.new.src) files
     (g.S.Source.ended c.answer_words-made.new.src) quiet tells c.write.result.status (g.W.Sink.faults c.args.out.now)
     (g.W.Sink.faults c.write.new.out) (g.W.Sink.taken c.args.out.now) (g.W.Sink.taken c.write.new.out) calm
-    (λ x. (let k : Done ≡ NoMemory = sym e ∙ x in absurd (cc))) (call_ends c.args.words.now.items _ (g.W.Sink.faults c.args.out.now) (g.W.Sink.faults c.write.new.out) (g.W.Sink.taken c.args.out.now) (g.W.Sink.taken c.write.new.out) c.answer_words-made.result c.write.result c.write.ensures.told (c.answer_words-made.ensures.comes files of)))))
+    (λ x. (let k : Done ≡ NoMemory = sym e ∙ x in absurd (cc)))
+    (call_ends c.args.words.now.items _ (g.W.Sink.faults c.args.out.now)
+    (g.W.Sink.faults c.write.new.out) (g.W.Sink.taken c.args.out.now)
+    (g.W.Sink.taken c.write.new.out) c.answer_words-made.result c.write.result
+    c.write.ensures.told (c.answer_words-made.ensures.comes files of)))))
 
 pub returns-clause-normal_form : goal.returns-clause-normal_form
 returns-clause-normal_form g c = λ files of bytes tells quiet calm e.
     writes_normal_form c.args.words.now.items bytes (g.W.Sink.taken c.args.out.now) (g.W.Sink.taken c.write.new.out)
     (writes_tree c.args.words.now.items bytes (g.W.Sink.taken c.args.out.now) (g.W.Sink.taken c.write.new.out)
-    (call_reads c.args.words.now.items _ (g.W.Sink.faults c.args.out.now) (g.W.Sink.faults c.write.new.out) (g.W.Sink.taken c.args.out.now) (g.W.Sink.taken c.write.new.out) c.answer_words-made.result c.write.result c.write.ensures.told (c.answer_words-made.ensures.comes files of) bytes tells e))
+    (call_reads c.args.words.now.items _ (g.W.Sink.faults c.args.out.now)
+    (g.W.Sink.faults c.write.new.out) (g.W.Sink.taken c.args.out.now)
+    (g.W.Sink.taken c.write.new.out) c.answer_words-made.result c.write.result
+    c.write.ensures.told (c.answer_words-made.ensures.comes files of) bytes tells e))
 
 pub returns-clause-no_normal_form : goal.returns-clause-no_normal_form
 returns-clause-no_normal_form g c = λ files of bytes tells quiet calm e.
     writes_no_normal_form c.args.words.now.items bytes (g.W.Sink.taken c.args.out.now) (g.W.Sink.taken c.write.new.out)
     (writes_tree c.args.words.now.items bytes (g.W.Sink.taken c.args.out.now) (g.W.Sink.taken c.write.new.out)
-    (call_reads c.args.words.now.items _ (g.W.Sink.faults c.args.out.now) (g.W.Sink.faults c.write.new.out) (g.W.Sink.taken c.args.out.now) (g.W.Sink.taken c.write.new.out) c.answer_words-made.result c.write.result c.write.ensures.told (c.answer_words-made.ensures.comes files of) bytes tells e))
+    (call_reads c.args.words.now.items _ (g.W.Sink.faults c.args.out.now)
+    (g.W.Sink.faults c.write.new.out) (g.W.Sink.taken c.args.out.now)
+    (g.W.Sink.taken c.write.new.out) c.answer_words-made.result c.write.result
+    c.write.ensures.told (c.answer_words-made.ensures.comes files of) bytes tells e))
 
 pub returns-clause-demanded : goal.returns-clause-demanded
 returns-clause-demanded g c = λ files of bytes tells quiet calm e.
     writes_demanded c.args.words.now.items bytes (g.W.Sink.taken c.args.out.now) (g.W.Sink.taken c.write.new.out)
     (writes_tree c.args.words.now.items bytes (g.W.Sink.taken c.args.out.now) (g.W.Sink.taken c.write.new.out)
-    (call_reads c.args.words.now.items _ (g.W.Sink.faults c.args.out.now) (g.W.Sink.faults c.write.new.out) (g.W.Sink.taken c.args.out.now) (g.W.Sink.taken c.write.new.out) c.answer_words-made.result c.write.result c.write.ensures.told (c.answer_words-made.ensures.comes files of) bytes tells e))
+    (call_reads c.args.words.now.items _ (g.W.Sink.faults c.args.out.now)
+    (g.W.Sink.faults c.write.new.out) (g.W.Sink.taken c.args.out.now)
+    (g.W.Sink.taken c.write.new.out) c.answer_words-made.result c.write.result
+    c.write.ensures.told (c.answer_words-made.ensures.comes files of) bytes tells e))
 
 pub returns-clause-two_terms : goal.returns-clause-two_terms
 returns-clause-two_terms g c = λ files of tells quiet calm e.
@@ -72,7 +96,11 @@ returns-clause-two_terms g c = λ files of tells quiet calm e.
     (g.S.Source.faults c.answer_words-made.new.src) (g.S.Source.given c.answer_words-made.new.src) files
     (g.S.Source.ended c.answer_words-made.new.src) quiet tells c.write.result.status (g.W.Sink.faults c.args.out.now)
     (g.W.Sink.faults c.write.new.out) (g.W.Sink.taken c.args.out.now) (g.W.Sink.taken c.write.new.out) calm
-    (λ x. (let k : Done ≡ NoMemory = sym e ∙ x in absurd (cc))) (call_ends c.args.words.now.items _ (g.W.Sink.faults c.args.out.now) (g.W.Sink.faults c.write.new.out) (g.W.Sink.taken c.args.out.now) (g.W.Sink.taken c.write.new.out) c.answer_words-made.result c.write.result c.write.ensures.told (c.answer_words-made.ensures.comes files of))))
+    (λ x. (let k : Done ≡ NoMemory = sym e ∙ x in absurd (cc)))
+    (call_ends c.args.words.now.items _ (g.W.Sink.faults c.args.out.now)
+    (g.W.Sink.faults c.write.new.out) (g.W.Sink.taken c.args.out.now)
+    (g.W.Sink.taken c.write.new.out) c.answer_words-made.result c.write.result
+    c.write.ensures.told (c.answer_words-made.ensures.comes files of))))
 
 pub returns-clause-exact : goal.returns-clause-exact
 returns-clause-exact g c = λ files of tells quiet calm has.
@@ -80,7 +108,10 @@ returns-clause-exact g c = λ files of tells quiet calm has.
     (g.S.Source.faults c.answer_words-made.new.src) (g.S.Source.given c.answer_words-made.new.src) files
     (g.S.Source.ended c.answer_words-made.new.src) quiet tells c.write.result.status (g.W.Sink.faults c.args.out.now)
     (g.W.Sink.faults c.write.new.out) (g.W.Sink.taken c.args.out.now) (g.W.Sink.taken c.write.new.out) calm
-    has (call_ends c.args.words.now.items _ (g.W.Sink.faults c.args.out.now) (g.W.Sink.faults c.write.new.out) (g.W.Sink.taken c.args.out.now) (g.W.Sink.taken c.write.new.out) c.answer_words-made.result c.write.result c.write.ensures.told (c.answer_words-made.ensures.comes files of))
+    has (call_ends c.args.words.now.items _ (g.W.Sink.faults c.args.out.now)
+    (g.W.Sink.faults c.write.new.out) (g.W.Sink.taken c.args.out.now)
+    (g.W.Sink.taken c.write.new.out) c.answer_words-made.result c.write.result
+    c.write.ensures.told (c.answer_words-made.ensures.comes files of))
 
 pub returns-clause-handed : goal.returns-clause-handed
 returns-clause-handed g c =
@@ -93,7 +124,11 @@ returns-clause-handed g c =
           (g.S.Source.ended c.answer_words-made.new.src) quiet
           (λ asked j place name e. handed-told rs place name) c.write.result.status (g.W.Sink.faults c.args.out.now)
           (g.W.Sink.faults c.write.new.out) (g.W.Sink.taken c.args.out.now) (g.W.Sink.taken c.write.new.out) calm has
-          (call_ends c.args.words.now.items _ (g.W.Sink.faults c.args.out.now) (g.W.Sink.faults c.write.new.out) (g.W.Sink.taken c.args.out.now) (g.W.Sink.taken c.write.new.out) c.answer_words-made.result c.write.result c.write.ensures.told (c.answer_words-made.ensures.comes (handed rs) (rs, c.answer_words-made.ensures.told.1, handed-over rs))),
+          (call_ends c.args.words.now.items _ (g.W.Sink.faults c.args.out.now)
+          (g.W.Sink.faults c.write.new.out) (g.W.Sink.taken c.args.out.now)
+          (g.W.Sink.taken c.write.new.out) c.answer_words-made.result c.write.result
+          c.write.ensures.told (c.answer_words-made.ensures.comes (handed rs)
+          (rs, c.answer_words-made.ensures.told.1, handed-over rs))),
     )
 
 pub returns-clause-completeness : goal.returns-clause-completeness
@@ -102,12 +137,18 @@ returns-clause-completeness g c = λ files of can quiet calm.
     (g.S.Source.faults c.answer_words-made.new.src) (g.S.Source.given c.answer_words-made.new.src) files
     (g.S.Source.ended c.answer_words-made.new.src) quiet can c.write.result.status (g.W.Sink.faults c.args.out.now)
     (g.W.Sink.faults c.write.new.out) (g.W.Sink.taken c.args.out.now) (g.W.Sink.taken c.write.new.out) calm
-    (call_ends c.args.words.now.items _ (g.W.Sink.faults c.args.out.now) (g.W.Sink.faults c.write.new.out) (g.W.Sink.taken c.args.out.now) (g.W.Sink.taken c.write.new.out) c.answer_words-made.result c.write.result c.write.ensures.told (c.answer_words-made.ensures.comes files of))
+    (call_ends c.args.words.now.items _ (g.W.Sink.faults c.args.out.now)
+    (g.W.Sink.faults c.write.new.out) (g.W.Sink.taken c.args.out.now)
+    (g.W.Sink.taken c.write.new.out) c.answer_words-made.result c.write.result
+    c.write.ensures.told (c.answer_words-made.ensures.comes files of))
 
 pub returns-clause-tree : goal.returns-clause-tree
 returns-clause-tree g c = λ files of bytes tells quiet calm e.
     writes_tree c.args.words.now.items bytes (g.W.Sink.taken c.args.out.now) (g.W.Sink.taken c.write.new.out)
-    (call_reads c.args.words.now.items _ (g.W.Sink.faults c.args.out.now) (g.W.Sink.faults c.write.new.out) (g.W.Sink.taken c.args.out.now) (g.W.Sink.taken c.write.new.out) c.answer_words-made.result c.write.result c.write.ensures.told (c.answer_words-made.ensures.comes files of) bytes tells e)
+    (call_reads c.args.words.now.items _ (g.W.Sink.faults c.args.out.now)
+    (g.W.Sink.faults c.write.new.out) (g.W.Sink.taken c.args.out.now)
+    (g.W.Sink.taken c.write.new.out) c.answer_words-made.result c.write.result
+    c.write.ensures.told (c.answer_words-made.ensures.comes files of) bytes tells e)
 
 pub returns-clause-sources : goal.returns-clause-sources
 returns-clause-sources g c = λ files of tells quiet calm e.
@@ -117,15 +158,23 @@ returns-clause-sources g c = λ files of tells quiet calm e.
     (g.S.Source.faults c.answer_words-made.new.src) (g.S.Source.given c.answer_words-made.new.src) files
     (g.S.Source.ended c.answer_words-made.new.src) quiet tells c.write.result.status (g.W.Sink.faults c.args.out.now)
     (g.W.Sink.faults c.write.new.out) (g.W.Sink.taken c.args.out.now) (g.W.Sink.taken c.write.new.out) calm
-    (λ x. (let k : Done ≡ NoMemory = sym e ∙ x in absurd (cc))) (call_ends c.args.words.now.items _ (g.W.Sink.faults c.args.out.now) (g.W.Sink.faults c.write.new.out) (g.W.Sink.taken c.args.out.now) (g.W.Sink.taken c.write.new.out) c.answer_words-made.result c.write.result c.write.ensures.told (c.answer_words-made.ensures.comes files of)))
+    (λ x. (let k : Done ≡ NoMemory = sym e ∙ x in absurd (cc)))
+    (call_ends c.args.words.now.items _ (g.W.Sink.faults c.args.out.now)
+    (g.W.Sink.faults c.write.new.out) (g.W.Sink.taken c.args.out.now)
+    (g.W.Sink.taken c.write.new.out) c.answer_words-made.result c.write.result
+    c.write.ensures.told (c.answer_words-made.ensures.comes files of)))
 
 pub returns-clause-every_run : goal.returns-clause-every_run
 returns-clause-every_run g c = λ files of bytes tells quiet calm has.
     ends_run c.args.words.now.items (g.S.Source.faults c.args.src.now)
     (g.S.Source.faults c.answer_words-made.new.src) (g.S.Source.given c.answer_words-made.new.src) files
-    (g.S.Source.ended c.answer_words-made.new.src) quiet bytes tells c.write.result.status (g.W.Sink.faults c.args.out.now)
+    (g.S.Source.ended c.answer_words-made.new.src) quiet bytes tells c.write.result.status
+    (g.W.Sink.faults c.args.out.now)
     (g.W.Sink.faults c.write.new.out) (g.W.Sink.taken c.args.out.now) (g.W.Sink.taken c.write.new.out) calm has
-    (call_ends c.args.words.now.items _ (g.W.Sink.faults c.args.out.now) (g.W.Sink.faults c.write.new.out) (g.W.Sink.taken c.args.out.now) (g.W.Sink.taken c.write.new.out) c.answer_words-made.result c.write.result c.write.ensures.told (c.answer_words-made.ensures.comes files of))
+    (call_ends c.args.words.now.items _ (g.W.Sink.faults c.args.out.now)
+    (g.W.Sink.faults c.write.new.out) (g.W.Sink.taken c.args.out.now)
+    (g.W.Sink.taken c.write.new.out) c.answer_words-made.result c.write.result
+    c.write.ensures.told (c.answer_words-made.ensures.comes files of))
 
 pub returns-clause-read : goal.returns-clause-read
 returns-clause-read g c = λ e.
@@ -139,7 +188,11 @@ returns-clause-read g c = λ e.
     })
     c.write.result.status (g.W.Sink.faults c.args.out.now) (g.W.Sink.faults c.write.new.out)
     (g.W.Sink.taken c.args.out.now) (g.W.Sink.taken c.write.new.out)
-    (call_ends c.args.words.now.items _ (g.W.Sink.faults c.args.out.now) (g.W.Sink.faults c.write.new.out) (g.W.Sink.taken c.args.out.now) (g.W.Sink.taken c.write.new.out) c.answer_words-made.result c.write.result c.write.ensures.told (c.answer_words-made.ensures.comes (λ _. g.S.Source.contents c.args.src.now) c.answer_words-made.ensures.told)) e
+    (call_ends c.args.words.now.items _ (g.W.Sink.faults c.args.out.now)
+    (g.W.Sink.faults c.write.new.out) (g.W.Sink.taken c.args.out.now)
+    (g.W.Sink.taken c.write.new.out) c.answer_words-made.result c.write.result
+    c.write.ensures.told (c.answer_words-made.ensures.comes
+    (λ _. g.S.Source.contents c.args.src.now) c.answer_words-made.ensures.told)) e
 
 pub returns-clause-write : goal.returns-clause-write
 returns-clause-write g c = λ e.
@@ -153,7 +206,11 @@ returns-clause-write g c = λ e.
     })
     c.write.result.status (g.W.Sink.faults c.args.out.now) (g.W.Sink.faults c.write.new.out)
     (g.W.Sink.taken c.args.out.now) (g.W.Sink.taken c.write.new.out)
-    (call_ends c.args.words.now.items _ (g.W.Sink.faults c.args.out.now) (g.W.Sink.faults c.write.new.out) (g.W.Sink.taken c.args.out.now) (g.W.Sink.taken c.write.new.out) c.answer_words-made.result c.write.result c.write.ensures.told (c.answer_words-made.ensures.comes (λ _. g.S.Source.contents c.args.src.now) c.answer_words-made.ensures.told)) e
+    (call_ends c.args.words.now.items _ (g.W.Sink.faults c.args.out.now)
+    (g.W.Sink.faults c.write.new.out) (g.W.Sink.taken c.args.out.now)
+    (g.W.Sink.taken c.write.new.out) c.answer_words-made.result c.write.result
+    c.write.ensures.told (c.answer_words-made.ensures.comes
+    (λ _. g.S.Source.contents c.args.src.now) c.answer_words-made.ensures.told)) e
 
 pub returns-clause-write_told : goal.returns-clause-write_told
 returns-clause-write_told g c = λ risen.
@@ -167,7 +224,11 @@ returns-clause-write_told g c = λ risen.
     })
     c.write.result.status (g.W.Sink.faults c.args.out.now) (g.W.Sink.faults c.write.new.out)
     (g.W.Sink.taken c.args.out.now) (g.W.Sink.taken c.write.new.out) risen
-    (call_ends c.args.words.now.items _ (g.W.Sink.faults c.args.out.now) (g.W.Sink.faults c.write.new.out) (g.W.Sink.taken c.args.out.now) (g.W.Sink.taken c.write.new.out) c.answer_words-made.result c.write.result c.write.ensures.told (c.answer_words-made.ensures.comes (λ _. g.S.Source.contents c.args.src.now) c.answer_words-made.ensures.told))
+    (call_ends c.args.words.now.items _ (g.W.Sink.faults c.args.out.now)
+    (g.W.Sink.faults c.write.new.out) (g.W.Sink.taken c.args.out.now)
+    (g.W.Sink.taken c.write.new.out) c.answer_words-made.result c.write.result
+    c.write.ensures.told (c.answer_words-made.ensures.comes
+    (λ _. g.S.Source.contents c.args.src.now) c.answer_words-made.ensures.told))
 
 pub returns-clause-read_told : goal.returns-clause-read_told
 returns-clause-read_told g c = λ risen calm.
@@ -181,7 +242,11 @@ returns-clause-read_told g c = λ risen calm.
     })
     c.write.result.status (g.W.Sink.faults c.args.out.now) (g.W.Sink.faults c.write.new.out)
     (g.W.Sink.taken c.args.out.now) (g.W.Sink.taken c.write.new.out) risen calm
-    (call_ends c.args.words.now.items _ (g.W.Sink.faults c.args.out.now) (g.W.Sink.faults c.write.new.out) (g.W.Sink.taken c.args.out.now) (g.W.Sink.taken c.write.new.out) c.answer_words-made.result c.write.result c.write.ensures.told (c.answer_words-made.ensures.comes (λ _. g.S.Source.contents c.args.src.now) c.answer_words-made.ensures.told))
+    (call_ends c.args.words.now.items _ (g.W.Sink.faults c.args.out.now)
+    (g.W.Sink.faults c.write.new.out) (g.W.Sink.taken c.args.out.now)
+    (g.W.Sink.taken c.write.new.out) c.answer_words-made.result c.write.result
+    c.write.ensures.told (c.answer_words-made.ensures.comes
+    (λ _. g.S.Source.contents c.args.src.now) c.answer_words-made.ensures.told))
 
 pub returns-clause-usage : goal.returns-clause-usage
 returns-clause-usage g c = λ e.
@@ -195,7 +260,11 @@ returns-clause-usage g c = λ e.
     })
     c.write.result.status (g.W.Sink.faults c.args.out.now) (g.W.Sink.faults c.write.new.out)
     (g.W.Sink.taken c.args.out.now) (g.W.Sink.taken c.write.new.out)
-    (call_ends c.args.words.now.items _ (g.W.Sink.faults c.args.out.now) (g.W.Sink.faults c.write.new.out) (g.W.Sink.taken c.args.out.now) (g.W.Sink.taken c.write.new.out) c.answer_words-made.result c.write.result c.write.ensures.told (c.answer_words-made.ensures.comes (λ _. g.S.Source.contents c.args.src.now) c.answer_words-made.ensures.told)) e
+    (call_ends c.args.words.now.items _ (g.W.Sink.faults c.args.out.now)
+    (g.W.Sink.faults c.write.new.out) (g.W.Sink.taken c.args.out.now)
+    (g.W.Sink.taken c.write.new.out) c.answer_words-made.result c.write.result
+    c.write.ensures.told (c.answer_words-made.ensures.comes
+    (λ _. g.S.Source.contents c.args.src.now) c.answer_words-made.ensures.told)) e
 
 pub returns-clause-usage_told : goal.returns-clause-usage_told
 returns-clause-usage_told g c = λ lacks.
@@ -209,7 +278,11 @@ returns-clause-usage_told g c = λ lacks.
     })
     c.write.result.status (g.W.Sink.faults c.args.out.now) (g.W.Sink.faults c.write.new.out)
     (g.W.Sink.taken c.args.out.now) (g.W.Sink.taken c.write.new.out) lacks
-    (call_ends c.args.words.now.items _ (g.W.Sink.faults c.args.out.now) (g.W.Sink.faults c.write.new.out) (g.W.Sink.taken c.args.out.now) (g.W.Sink.taken c.write.new.out) c.answer_words-made.result c.write.result c.write.ensures.told (c.answer_words-made.ensures.comes (λ _. g.S.Source.contents c.args.src.now) c.answer_words-made.ensures.told))
+    (call_ends c.args.words.now.items _ (g.W.Sink.faults c.args.out.now)
+    (g.W.Sink.faults c.write.new.out) (g.W.Sink.taken c.args.out.now)
+    (g.W.Sink.taken c.write.new.out) c.answer_words-made.result c.write.result
+    c.write.ensures.told (c.answer_words-made.ensures.comes
+    (λ _. g.S.Source.contents c.args.src.now) c.answer_words-made.ensures.told))
 
 pub returns-clause-done : goal.returns-clause-done
 returns-clause-done g c = λ some e.
@@ -223,14 +296,26 @@ returns-clause-done g c = λ some e.
     })
     c.write.result.status (g.W.Sink.faults c.args.out.now) (g.W.Sink.faults c.write.new.out)
     (g.W.Sink.taken c.args.out.now) (g.W.Sink.taken c.write.new.out)
-    (call_ends c.args.words.now.items _ (g.W.Sink.faults c.args.out.now) (g.W.Sink.faults c.write.new.out) (g.W.Sink.taken c.args.out.now) (g.W.Sink.taken c.write.new.out) c.answer_words-made.result c.write.result c.write.ensures.told (c.answer_words-made.ensures.comes (λ _. g.S.Source.contents c.args.src.now) c.answer_words-made.ensures.told)) some e
+    (call_ends c.args.words.now.items _ (g.W.Sink.faults c.args.out.now)
+    (g.W.Sink.faults c.write.new.out) (g.W.Sink.taken c.args.out.now)
+    (g.W.Sink.taken c.write.new.out) c.answer_words-made.result c.write.result
+    c.write.ensures.told (c.answer_words-made.ensures.comes
+    (λ _. g.S.Source.contents c.args.src.now) c.answer_words-made.ensures.told)) some e
 
 pub returns-clause-first_alone : goal.returns-clause-first_alone
 returns-clause-first_alone g c = λ files of asked j refused.
     c.answer_words-made.ensures.first_alone files of asked j refused
 
 pub returns-clause-closed : goal.returns-clause-closed
-returns-clause-closed g c = λ files of. (call_hands c.args.words.now.items _ (g.W.Sink.faults c.args.out.now) (g.W.Sink.faults c.write.new.out) (g.W.Sink.taken c.args.out.now) (g.W.Sink.taken c.write.new.out) c.answer_words-made.result c.write.result c.write.ensures.told (c.answer_words-made.ensures.comes files of))
+returns-clause-closed g c = λ files of.
+    (call_hands c.args.words.now.items _ (g.W.Sink.faults c.args.out.now)
+    (g.W.Sink.faults c.write.new.out) (g.W.Sink.taken c.args.out.now)
+    (g.W.Sink.taken c.write.new.out) c.answer_words-made.result c.write.result c.write.ensures.told
+    (c.answer_words-made.ensures.comes files of))
 
 pub returns-clause-ends : goal.returns-clause-ends
-returns-clause-ends g c = λ files of. (call_ends c.args.words.now.items _ (g.W.Sink.faults c.args.out.now) (g.W.Sink.faults c.write.new.out) (g.W.Sink.taken c.args.out.now) (g.W.Sink.taken c.write.new.out) c.answer_words-made.result c.write.result c.write.ensures.told (c.answer_words-made.ensures.comes files of))
+returns-clause-ends g c = λ files of.
+    (call_ends c.args.words.now.items _ (g.W.Sink.faults c.args.out.now)
+    (g.W.Sink.faults c.write.new.out) (g.W.Sink.taken c.args.out.now)
+    (g.W.Sink.taken c.write.new.out) c.answer_words-made.result c.write.result c.write.ensures.told
+    (c.answer_words-made.ensures.comes files of))

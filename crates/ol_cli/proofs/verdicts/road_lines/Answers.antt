@@ -1,4 +1,5 @@
-use Rattle.std.proofs.Common.{◌≡◌, ℕ, suc, ◌+◌, ◌++◌, List, codes, length, arith, append_assoc, take, option_map, sym, ap, ◌∙◌}
+use Rattle.std.proofs.Common.{◌≡◌, ℕ, suc, ◌+◌, ◌++◌, List, codes, length, arith, append_assoc}
+use Rattle.std.proofs.Common.{take, option_map, sym, ap, ◌∙◌}
 use Rattle.ol_cli.specs.Texts.{line, count_line}
 use Rattle.ol_cli.specs.Certify.{address_text, addresses_text}
 use Rattle.ol_cli.proofs.VerdictLines.{addresses_on}

@@ -5,4 +5,5 @@ use Rattle.ol_cli.proofs.verdicts.road_lines.Given as goal
 
 -- the addresses so far are written
 abbrev pub invariant-loop-k : goal.invariant-loop-k
-invariant-loop-k l = l.text.items ≡ line l.word ++ count_line (codes "steps") (length l.road) ++ addresses_text (take l.k l.road)
+invariant-loop-k l = l.text.items ≡ line l.word ++ count_line (codes "steps")
+    (length l.road) ++ addresses_text (take l.k l.road)

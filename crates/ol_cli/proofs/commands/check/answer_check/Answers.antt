@@ -13,38 +13,57 @@ use Rattle.ol_cli.proofs.commands.check.answer_check.Goals as goal
 
 pub returns-in-Refused-clause-comes : goal.returns-in-Refused-clause-comes
 returns-in-Refused-clause-comes g c = λ files of.
-    refused_comes (check c.args.translation c.args.term.now c.args.journal.now) tt _ c.in-Refused.answer (rw c.in-Refused.is at (c.in_ok-ready.ensures.comes files of))
+    refused_comes (check c.args.translation c.args.term.now c.args.journal.now) tt _
+    c.in-Refused.answer (rw c.in-Refused.is at (c.in_ok-ready.ensures.comes files of))
 
 pub returns-clause-comes : goal.returns-clause-comes
 returns-clause-comes g c = λ files of.
-    let s : Seen = seen (g.S.Source.faults c.args.src.now) (g.S.Source.faults c.answer_journal.new.src) files (g.S.Source.given c.answer_journal.new.src) (g.S.Source.ended c.answer_journal.new.src) in
+    let s : Seen = seen (g.S.Source.faults c.args.src.now)
+    (g.S.Source.faults c.answer_journal.new.src) files
+    (g.S.Source.given c.answer_journal.new.src) (g.S.Source.ended c.answer_journal.new.src) in
     let a = c.in_ok-answer-in-Net.answer in
     let t = tree_of c.in-Net.file.term in
     let names = c.in-Net.file.names in
-    let both = AreOfSince-parts files (g.S.Source.contents c.read_term.new.src) c.in_ok-ready.ensures.one.0 (g.S.Source.readings c.args.src.now) (g.S.Source.readings c.read_term.new.src) (g.S.Source.readings c.answer_journal.new.src) c.in_ok-ready.ensures.one.1 c.answer_journal.ensures.told of in
+    let both = AreOfSince-parts files (g.S.Source.contents c.read_term.new.src)
+    c.in_ok-ready.ensures.one.0 (g.S.Source.readings c.args.src.now)
+    (g.S.Source.readings c.read_term.new.src)
+    (g.S.Source.readings c.answer_journal.new.src) c.in_ok-ready.ensures.one.1 c.answer_journal.ensures.told of in
     let r = rw c.in-Net.is at (c.in_ok-ready.ensures.comes files both.0) in
-    let ended = after_term s.faults (g.S.Source.faults c.read_term.new.src) s.faults' s.given (λ n. files (n + 1)) s.ended _ _ c.args.journal.now (JournalAnswer c.args.translation t names) a.status a.text.items
+    let ended = after_term s.faults (g.S.Source.faults c.read_term.new.src) s.faults' s.given
+    (λ n. files (n + 1)) s.ended _ _ c.args.journal.now
+    (JournalAnswer c.args.translation t names) a.status a.text.items
     r.0 (c.in_ok-answer-in-Net.ensures.caused (λ n. files (n + 1)) both.1 c.args.translation t names r.1.2.ready) in
-    check_comes c.args.translation c.args.term.now c.args.journal.now s a (by_journal r.1.1.whole r.1.2.term ended) c.in_ok-answer-in-Net.ensures.closed
+    check_comes c.args.translation c.args.term.now c.args.journal.now s a
+    (by_journal r.1.1.whole r.1.2.term ended) c.in_ok-answer-in-Net.ensures.closed
 
 pub returns-clause-first_alone : goal.returns-clause-first_alone
 returns-clause-first_alone g c = λ files of refused.
-    let both = AreOfSince-parts files (g.S.Source.contents c.read_term.new.src) c.in_ok-ready.ensures.one.0 (g.S.Source.readings c.args.src.now) (g.S.Source.readings c.read_term.new.src) (g.S.Source.readings c.answer_journal.new.src) c.in_ok-ready.ensures.one.1 c.answer_journal.ensures.told of in
+    let both = AreOfSince-parts files (g.S.Source.contents c.read_term.new.src)
+    c.in_ok-ready.ensures.one.0 (g.S.Source.readings c.args.src.now)
+    (g.S.Source.readings c.read_term.new.src)
+    (g.S.Source.readings c.answer_journal.new.src) c.in_ok-ready.ensures.one.1 c.answer_journal.ensures.told of in
     let r = rw c.in-Net.is at (c.in_ok-ready.ensures.comes files both.0) in
-    absurd (term_first c.args.translation c.args.term.now c.args.journal.now (files 0) r.1.0 (tree_of c.in-Net.file.term) c.in-Net.file.names r.1.1.whole r.1.2.term refused)
+    absurd (term_first c.args.translation c.args.term.now c.args.journal.now (files 0) r.1.0
+    (tree_of c.in-Net.file.term) c.in-Net.file.names r.1.1.whole r.1.2.term refused)
 
 pub returns-in_err-answer-in-Net-clause-first_alone : goal.returns-in_err-answer-in-Net-clause-first_alone
 returns-in_err-answer-in-Net-clause-first_alone g c = λ files of refused.
-    let both = AreOfSince-parts files (g.S.Source.contents c.read_term.new.src) c.in_ok-ready.ensures.one.0 (g.S.Source.readings c.args.src.now) (g.S.Source.readings c.read_term.new.src) (g.S.Source.readings c.answer_journal.new.src) c.in_ok-ready.ensures.one.1 c.answer_journal.ensures.told of in
+    let both = AreOfSince-parts files (g.S.Source.contents c.read_term.new.src)
+    c.in_ok-ready.ensures.one.0 (g.S.Source.readings c.args.src.now)
+    (g.S.Source.readings c.read_term.new.src)
+    (g.S.Source.readings c.answer_journal.new.src) c.in_ok-ready.ensures.one.1 c.answer_journal.ensures.told of in
     let r = rw c.in-Net.is at (c.in_ok-ready.ensures.comes files both.0) in
-    absurd (term_first c.args.translation c.args.term.now c.args.journal.now (files 0) r.1.0 (tree_of c.in-Net.file.term) c.in-Net.file.names r.1.1.whole r.1.2.term refused)
+    absurd (term_first c.args.translation c.args.term.now c.args.journal.now (files 0) r.1.0
+    (tree_of c.in-Net.file.term) c.in-Net.file.names r.1.1.whole r.1.2.term refused)
 
 pub returns-clause-told : goal.returns-clause-told
 returns-clause-told g c =
-    AreOfSince-then (g.S.Source.contents c.args.src.now) (g.S.Source.readings c.args.src.now) (g.S.Source.readings c.read_term.new.src) (g.S.Source.readings c.answer_journal.new.src)
+    AreOfSince-then (g.S.Source.contents c.args.src.now) (g.S.Source.readings c.args.src.now)
+    (g.S.Source.readings c.read_term.new.src) (g.S.Source.readings c.answer_journal.new.src)
     c.in_ok-ready.ensures.told (rw c.in_ok-ready.ensures.contents at c.answer_journal.ensures.told)
 
 pub returns-in_err-answer-in-Net-clause-told : goal.returns-in_err-answer-in-Net-clause-told
 returns-in_err-answer-in-Net-clause-told g c =
-    AreOfSince-then (g.S.Source.contents c.args.src.now) (g.S.Source.readings c.args.src.now) (g.S.Source.readings c.read_term.new.src) (g.S.Source.readings c.answer_journal.new.src)
+    AreOfSince-then (g.S.Source.contents c.args.src.now) (g.S.Source.readings c.args.src.now)
+    (g.S.Source.readings c.read_term.new.src) (g.S.Source.readings c.answer_journal.new.src)
     c.in_ok-ready.ensures.told (rw c.in_ok-ready.ensures.contents at c.answer_journal.ensures.told)

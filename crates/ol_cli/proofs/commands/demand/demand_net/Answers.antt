@@ -14,13 +14,22 @@ use Rattle.ol_cli.proofs.commands.demand.demand_net.Goals as goal
 
 pub returns-in-Spent-clause-answer : goal.returns-in-Spent-clause-answer
 returns-in-Spent-clause-answer c =
-    let same = subst (λ (g : Graph). SameNet (net_of g) (translation_of c.args.translation (tree_of c.args.file.now.term) (length c.args.file.now.names))) (sym c.in_ok-last.ensures.copy) c.requires.net.same in
+    let same = subst (λ (g : Graph). SameNet (net_of g)
+    (translation_of c.args.translation (tree_of c.args.file.now.term)
+    (length c.args.file.now.names))) (sym c.in_ok-last.ensures.copy) c.requires.net.same in
     let d = rw c.in-Spent.is at c.in_ok-demanded.ensures.answer in
-    rw c.without_words.ensures (demand_spent c.args.translation (tree_of c.args.file.now.term) c.args.file.now.names c.in_ok-last.last same c.args.fuel c.args.heads c.demand.new.net c.in-Spent.journal d.0 d.1, c.in_ok-text-in-Spent.ensures)
+    rw c.without_words.ensures (
+      demand_spent c.args.translation
+          (tree_of c.args.file.now.term) c.args.file.now.names c.in_ok-last.last same c.args.fuel
+          c.args.heads c.demand.new.net c.in-Spent.journal d.0 d.1,
+      c.in_ok-text-in-Spent.ensures,
+    )
 
 pub tree_text-requires : goal.tree_text-requires
 tree_text-requires c =
-    let same = subst (λ (g : Graph). SameNet (net_of g) (translation_of c.args.translation (tree_of c.args.file.now.term) (length c.args.file.now.names))) (sym c.in_ok-last.ensures.copy) c.requires.net.same in
+    let same = subst (λ (g : Graph). SameNet (net_of g)
+    (translation_of c.args.translation (tree_of c.args.file.now.term)
+    (length c.args.file.now.names))) (sym c.in_ok-last.ensures.copy) c.requires.net.same in
     let ports : c.in_ok-last.last.free ≡ 1 + length c.args.file.now.names = same.free_ports in
     let e : c.in_ok-last.last.free - 1 ≡ length c.args.file.now.names = omega (arith, ports) in
     let named = rw c.in-Done.is at c.in_ok-demanded.ensures.names in
@@ -28,21 +37,41 @@ tree_text-requires c =
 
 pub returns-clause-answer : goal.returns-clause-answer
 returns-clause-answer c =
-    let same = subst (λ (g : Graph). SameNet (net_of g) (translation_of c.args.translation (tree_of c.args.file.now.term) (length c.args.file.now.names))) (sym c.in_ok-last.ensures.copy) c.requires.net.same in
+    let same = subst (λ (g : Graph). SameNet (net_of g)
+    (translation_of c.args.translation (tree_of c.args.file.now.term)
+    (length c.args.file.now.names))) (sym c.in_ok-last.ensures.copy) c.requires.net.same in
     let d = rw c.in-Done.is at c.in_ok-demanded.ensures.answer in
-    let text : c.in_ok-text-in-Done.text.items ≡ answer_text c.in_ok-term-in-Done.term.items (counts_of c.in-Done.journal) c.stuck.result =
-    c.in_ok-text-in-Done.ensures ∙ ap (λ (x : List ℕ). answer_text x c.counts.result c.stuck.result) c.deref.ensures.value ∙ ap (λ (x : Counts). answer_text c.in_ok-term-in-Done.term.items x c.stuck.result) c.counts.ensures in
-    let x = demands_with c.args.translation (tree_of c.args.file.now.term) c.args.file.now.names c.in_ok-last.last same c.args.fuel c.args.heads c.demand.new.net c.in-Done.journal
-    (λ ns x. Unit {0}) c.in-Done.tree c.in_ok-term-in-Done.term.items c.in_ok-text-in-Done.text.items c.stuck.result d.0 d.1 c.is_net-in-Done.ensures.net c.stuck.ensures.stuck c.in_ok-term-in-Done.ensures.text text tt in
+    let text : c.in_ok-text-in-Done.text.items ≡ answer_text c.in_ok-term-in-Done.term.items
+    (counts_of c.in-Done.journal) c.stuck.result =
+    c.in_ok-text-in-Done.ensures ∙ ap (λ (x : List ℕ).
+    answer_text x c.counts.result c.stuck.result) c.deref.ensures.value
+    ∙ ap (λ (x : Counts). answer_text c.in_ok-term-in-Done.term.items x c.stuck.result) c.counts.ensures in
+    let x = demands_with c.args.translation
+    (tree_of c.args.file.now.term) c.args.file.now.names c.in_ok-last.last same c.args.fuel
+    c.args.heads c.demand.new.net c.in-Done.journal
+    (λ ns x. Unit {0}) c.in-Done.tree c.in_ok-term-in-Done.term.items
+    c.in_ok-text-in-Done.text.items c.stuck.result d.0 d.1 c.is_net-in-Done.ensures.net
+    c.stuck.ensures.stuck c.in_ok-term-in-Done.ensures.text text tt in
     rw c.without_words-in-Done.ensures x.0
 
 pub returns-clause-read : goal.returns-clause-read
 returns-clause-read c =
-    let same = subst (λ (g : Graph). SameNet (net_of g) (translation_of c.args.translation (tree_of c.args.file.now.term) (length c.args.file.now.names))) (sym c.in_ok-last.ensures.copy) c.requires.net.same in
+    let same = subst (λ (g : Graph). SameNet (net_of g)
+    (translation_of c.args.translation (tree_of c.args.file.now.term)
+    (length c.args.file.now.names))) (sym c.in_ok-last.ensures.copy) c.requires.net.same in
     let d = rw c.in-Done.is at c.in_ok-demanded.ensures.answer in
-    let text : c.in_ok-text-in-Done.text.items ≡ answer_text c.in_ok-term-in-Done.term.items (counts_of c.in-Done.journal) c.stuck.result =
-    c.in_ok-text-in-Done.ensures ∙ ap (λ (x : List ℕ). answer_text x c.counts.result c.stuck.result) c.deref.ensures.value ∙ ap (λ (x : Counts). answer_text c.in_ok-term-in-Done.term.items x c.stuck.result) c.counts.ensures in
-    let x = demands_with c.args.translation (tree_of c.args.file.now.term) c.args.file.now.names c.in_ok-last.last same c.args.fuel c.args.heads c.demand.new.net c.in-Done.journal
-    (IsReadWhereNamed c.args.file.now.names) c.in-Done.tree c.in_ok-term-in-Done.term.items c.in_ok-text-in-Done.text.items c.stuck.result d.0 d.1 c.is_net-in-Done.ensures.net c.stuck.ensures.stuck c.in_ok-term-in-Done.ensures.text text c.in_ok-term-in-Done.ensures.read in
-    let r = demand_read c.args.translation (tree_of c.args.file.now.term) c.args.file.now.names c.in_ok-text-in-Done.text.items c.args.fuel c.args.heads x.0 x.1 in
+    let text : c.in_ok-text-in-Done.text.items ≡ answer_text c.in_ok-term-in-Done.term.items
+    (counts_of c.in-Done.journal) c.stuck.result =
+    c.in_ok-text-in-Done.ensures ∙ ap (λ (x : List ℕ).
+    answer_text x c.counts.result c.stuck.result) c.deref.ensures.value
+    ∙ ap (λ (x : Counts). answer_text c.in_ok-term-in-Done.term.items x c.stuck.result) c.counts.ensures in
+    let x = demands_with c.args.translation
+    (tree_of c.args.file.now.term) c.args.file.now.names c.in_ok-last.last same c.args.fuel
+    c.args.heads c.demand.new.net c.in-Done.journal
+    (IsReadWhereNamed c.args.file.now.names) c.in-Done.tree c.in_ok-term-in-Done.term.items
+    c.in_ok-text-in-Done.text.items c.stuck.result d.0 d.1 c.is_net-in-Done.ensures.net
+    c.stuck.ensures.stuck c.in_ok-term-in-Done.ensures.text text c.in_ok-term-in-Done.ensures.read in
+    let r = demand_read c.args.translation
+    (tree_of c.args.file.now.term) c.args.file.now.names c.in_ok-text-in-Done.text.items
+    c.args.fuel c.args.heads x.0 x.1 in
     rw c.without_words-in-Done.ensures r

@@ -9,13 +9,17 @@ pub returns-in_ok-answer-in-Net-clause-answer : goal.returns-in_ok-answer-in-Net
 returns-in_ok-answer-in-Net-clause-answer g c =
     let ready = rw c.in-Net.is at c.in_ok-ready.ensures.ready in
     let a = c.in_ok-answer-in-Net.answer in
-    term_answer (plain_run c.args.translation) c.args.bytes.now (tree_of c.in-Net.file.term) c.in-Net.file.names ready.term a.status a.text.items (rw c.plain.ensures at c.in_ok-answer-in-Net.ensures.answer)
+    term_answer (plain_run c.args.translation) c.args.bytes.now
+    (tree_of c.in-Net.file.term) c.in-Net.file.names ready.term a.status a.text.items
+    (rw c.plain.ensures at c.in_ok-answer-in-Net.ensures.answer)
 
 pub returns-in_ok-answer-in-Net-clause-closed : goal.returns-in_ok-answer-in-Net-clause-closed
 returns-in_ok-answer-in-Net-clause-closed g c =
     let ready = rw c.in-Net.is at c.in_ok-ready.ensures.ready in
     let a = c.in_ok-answer-in-Net.answer in
-    file_hands (plain_run c.args.translation) c.args.bytes.now (tree_of c.in-Net.file.term) c.in-Net.file.names ready.term a.status a.text.items a.closed (rw c.plain.ensures at c.in_ok-answer-in-Net.ensures.closed)
+    file_hands (plain_run c.args.translation) c.args.bytes.now
+    (tree_of c.in-Net.file.term) c.in-Net.file.names ready.term a.status a.text.items a.closed
+    (rw c.plain.ensures at c.in_ok-answer-in-Net.ensures.closed)
 
 pub returns-in-Refused-clause-answer : goal.returns-in-Refused-clause-answer
 returns-in-Refused-clause-answer g c =
@@ -33,7 +37,9 @@ pub returns-in_ok-answer-in-Net-clause-read : goal.returns-in_ok-answer-in-Net-c
 returns-in_ok-answer-in-Net-clause-read g c =
     let ready = rw c.in-Net.is at c.in_ok-ready.ensures.ready in
     let a = c.in_ok-answer-in-Net.answer in
-    file_read (plain_run c.args.translation) c.args.bytes.now (tree_of c.in-Net.file.term) c.in-Net.file.names a.status a.text.items ready.term.file ready.named (rw c.plain.ensures at c.in_ok-answer-in-Net.ensures.read)
+    file_read (plain_run c.args.translation) c.args.bytes.now
+    (tree_of c.in-Net.file.term) c.in-Net.file.names a.status a.text.items ready.term.file
+    ready.named (rw c.plain.ensures at c.in_ok-answer-in-Net.ensures.read)
 
 pub returns-in-Refused-clause-read : goal.returns-in-Refused-clause-read
 returns-in-Refused-clause-read g c =

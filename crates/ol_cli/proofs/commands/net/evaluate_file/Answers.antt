@@ -12,9 +12,14 @@ rewrite-requires-clause-small g c = λ κs alive. read_small c.args.bytes.now c.
 
 pub returns-in_ok-answer-in-Ok-clause-answer : goal.returns-in_ok-answer-in-Ok-clause-answer
 returns-in_ok-answer-in-Ok-clause-answer g c =
-    of_net (record { short = c.requires.short; tabled = c.is_tabled.ensures.tables; read = c.in-Ok.ensures.net }) c.in_ok-answer-in-Ok.ensures.answer
+    of_net (record {
+      short = c.requires.short;
+      tabled = c.is_tabled.ensures.tables;
+      read = c.in-Ok.ensures.net;
+    }) c.in_ok-answer-in-Ok.ensures.answer
 
 pub returns-in_ok-text-in-Err-clause-answer : goal.returns-in_ok-text-in-Err-clause-answer
 returns-in_ok-text-in-Err-clause-answer g c =
     let words = c.in_ok-words-in-Err.ensures in
-    rw c.without_words.ensures (bad c.requires.short c.in-Err.fault c.in-Err.ensures.fault words.told refl (c.in_ok-text-in-Err.ensures ∙ ap line (c.deref.ensures.value ∙ words.words)))
+    rw c.without_words.ensures (bad c.requires.short c.in-Err.fault c.in-Err.ensures.fault
+    words.told refl (c.in_ok-text-in-Err.ensures ∙ ap line (c.deref.ensures.value ∙ words.words)))

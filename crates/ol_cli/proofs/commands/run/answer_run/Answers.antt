@@ -4,10 +4,12 @@ use Rattle.ol_cli.proofs.commands.run.answer_run.Goals as goal
 
 pub returns-in-Refused-clause-comes : goal.returns-in-Refused-clause-comes
 returns-in-Refused-clause-comes g c = λ files of.
-    refused_comes (run_on c.args.numbers c.args.name.now) tt _ c.in-Refused.answer (rw c.in-Refused.is at (c.in_ok-ready.ensures.comes files of))
+    refused_comes (run_on c.args.numbers c.args.name.now) tt _ c.in-Refused.answer
+    (rw c.in-Refused.is at (c.in_ok-ready.ensures.comes files of))
 
 pub returns-in_ok-answer-in-Net-clause-comes : goal.returns-in_ok-answer-in-Net-clause-comes
 returns-in_ok-answer-in-Net-clause-comes g c = λ files of.
     let h = c.in_ok-answer-in-Net.ensures in
-    term_comes (run_on c.args.numbers c.args.name.now) tt _ c.in-Net.net c.in-Net.file (rw c.in-Net.is at (c.in_ok-ready.ensures.comes files of)) c.in_ok-answer-in-Net.answer
+    term_comes (run_on c.args.numbers c.args.name.now) tt _ c.in-Net.net c.in-Net.file
+    (rw c.in-Net.is at (c.in_ok-ready.ensures.comes files of)) c.in_ok-answer-in-Net.answer
     h.answer h.read h.closed

@@ -5,7 +5,8 @@ use Rattle.ol_cli.proofs.commands.trace.answer_trace.Goals as goal
 
 pub returns-in-Refused-clause-comes : goal.returns-in-Refused-clause-comes
 returns-in-Refused-clause-comes g c = λ files of.
-    refused_comes (trace c.args.translation c.args.workers c.args.fuel c.args.name.now) tt _ c.in-Refused.answer (rw c.in-Refused.is at (c.in_ok-ready.ensures.comes files of))
+    refused_comes (trace c.args.translation c.args.workers c.args.fuel c.args.name.now) tt _
+    c.in-Refused.answer (rw c.in-Refused.is at (c.in_ok-ready.ensures.comes files of))
 
 pub returns-clause-comes : goal.returns-clause-comes
 returns-clause-comes g c = λ files of.
@@ -13,5 +14,6 @@ returns-clause-comes g c = λ files of.
     let h = c.in_ok-answer-in-Net.ensures in
     let t = tree_of c.in-Net.file.term in
     let names = c.in-Net.file.names in
-    term_comes (trace c.args.translation c.args.workers c.args.fuel c.args.name.now) tt _ c.in-Net.net c.in-Net.file r c.in_ok-answer-in-Net.answer
+    term_comes (trace c.args.translation c.args.workers c.args.fuel c.args.name.now) tt _
+    c.in-Net.net c.in-Net.file r c.in_ok-answer-in-Net.answer
     (h.answer c.args.translation t names r.1.2.ready) (λ words e. tt) (h.closed c.args.translation t names r.1.2.ready)

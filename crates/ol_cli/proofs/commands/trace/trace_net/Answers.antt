@@ -1,5 +1,6 @@
 use Rattle.std.proofs.Common.{arith}
-use Rattle.ol_cli.proofs.Traced.{spent_traces, spent_trace_hands, spent_leads, done_traces, done_ends, done_trace_hands, done_leads}
+use Rattle.ol_cli.proofs.Traced.{spent_traces, spent_trace_hands, spent_leads, done_traces}
+use Rattle.ol_cli.proofs.Traced.{done_ends, done_trace_hands, done_leads}
 use Rattle.ol_cli.proofs.Worked.{spent_answer}
 use Rattle.ol_cli.proofs.commands.trace.trace_net.Goals as goal
 
@@ -12,7 +13,8 @@ trace_text_2-requires-clause-few g c =
     omega (arith, e, f, s)
 
 pub trace_text_2-requires-clause-run : goal.trace_text_2-requires-clause-run
-trace_text_2-requires-clause-run g c = spent_leads c.args.net.now c.args.fuel c.args.workers c.in-Spent.journal c.in-Spent.words (rw c.in-Spent.is at c.in_ok-reduced.ensures.reduced)
+trace_text_2-requires-clause-run g c = spent_leads c.args.net.now c.args.fuel c.args.workers
+    c.in-Spent.journal c.in-Spent.words (rw c.in-Spent.is at c.in_ok-reduced.ensures.reduced)
 
 pub trace_text_2-requires-in-Done-clause-few : goal.trace_text_2-requires-in-Done-clause-few
 trace_text_2-requires-in-Done-clause-few g c =
@@ -23,26 +25,38 @@ trace_text_2-requires-in-Done-clause-few g c =
     omega (arith, e, f, s)
 
 pub trace_text_2-requires-in-Done-clause-run : goal.trace_text_2-requires-in-Done-clause-run
-trace_text_2-requires-in-Done-clause-run g c = done_leads c.args.net.now c.args.fuel c.args.workers c.in-Done.journal c.in-Done.words c.in-Done.net (rw c.in-Done.is at c.in_ok-reduced.ensures.reduced)
+trace_text_2-requires-in-Done-clause-run g c = done_leads c.args.net.now c.args.fuel c.args.workers
+    c.in-Done.journal c.in-Done.words c.in-Done.net (rw c.in-Done.is at c.in_ok-reduced.ensures.reduced)
 
 pub returns-in-Spent-clause-answer : goal.returns-in-Spent-clause-answer
 returns-in-Spent-clause-answer g c = λ tr t names n.
     let d = rw c.in-Spent.is at c.in_ok-reduced.ensures.reduced in (
-      spent_answer tr t names c.args.net.now n.same c.args.fuel c.args.workers 0 c.in-Spent.journal c.in-Spent.words d c.is_net.ensures.net,
-      spent_traces tr t names c.args.net.now n.same c.is_net.ensures.net c.args.fuel c.args.workers c.in-Spent.journal c.in-Spent.words c.in_ok-text-in-Spent.text.items c.in_ok-text-in-Spent.ensures.text d,
+      spent_answer tr t names c.args.net.now n.same c.args.fuel c.args.workers 0 c.in-Spent.journal
+          c.in-Spent.words d c.is_net.ensures.net,
+      spent_traces tr t names c.args.net.now n.same c.is_net.ensures.net c.args.fuel c.args.workers
+          c.in-Spent.journal c.in-Spent.words c.in_ok-text-in-Spent.text.items c.in_ok-text-in-Spent.ensures.text d,
     )
 
 pub returns-in-Spent-clause-closed : goal.returns-in-Spent-clause-closed
 returns-in-Spent-clause-closed g c = λ tr t names n.
-    spent_trace_hands tr t names c.args.net.now n.same c.is_net.ensures.net c.args.fuel c.args.workers c.in-Spent.journal c.in-Spent.words c.in_ok-text-in-Spent.text.items c.in_ok-text-in-Spent.ensures.text (rw c.in-Spent.is at c.in_ok-reduced.ensures.reduced) c.once.ensures.once
+    spent_trace_hands tr t names c.args.net.now n.same c.is_net.ensures.net c.args.fuel
+    c.args.workers c.in-Spent.journal c.in-Spent.words c.in_ok-text-in-Spent.text.items
+    c.in_ok-text-in-Spent.ensures.text (rw c.in-Spent.is at c.in_ok-reduced.ensures.reduced) c.once.ensures.once
 
 pub returns-clause-answer : goal.returns-clause-answer
 returns-clause-answer g c = λ tr t names n.
     let d = rw c.in-Done.is at c.in_ok-reduced.ensures.reduced in (
-      done_ends tr t names c.args.net.now n.same c.is_net.ensures.net c.args.fuel c.args.workers c.in-Done.journal c.in-Done.words c.in_ok-text-in-Done.text.items c.in_ok-text-in-Done.ensures.text c.in-Done.net d,
-      done_traces tr t names c.args.net.now n.same c.is_net.ensures.net c.args.fuel c.args.workers c.in-Done.journal c.in-Done.words c.in_ok-text-in-Done.text.items c.in_ok-text-in-Done.ensures.text c.in-Done.net d,
+      done_ends tr t names c.args.net.now n.same c.is_net.ensures.net c.args.fuel c.args.workers
+          c.in-Done.journal c.in-Done.words c.in_ok-text-in-Done.text.items
+          c.in_ok-text-in-Done.ensures.text c.in-Done.net d,
+      done_traces tr t names c.args.net.now n.same c.is_net.ensures.net c.args.fuel c.args.workers
+          c.in-Done.journal c.in-Done.words c.in_ok-text-in-Done.text.items
+          c.in_ok-text-in-Done.ensures.text c.in-Done.net d,
     )
 
 pub returns-clause-closed : goal.returns-clause-closed
 returns-clause-closed g c = λ tr t names n.
-    done_trace_hands tr t names c.args.net.now n.same c.is_net.ensures.net c.args.fuel c.args.workers c.in-Done.journal c.in-Done.words c.in_ok-text-in-Done.text.items c.in_ok-text-in-Done.ensures.text c.in-Done.net (rw c.in-Done.is at c.in_ok-reduced.ensures.reduced) c.once-in-Done.ensures.once
+    done_trace_hands tr t names c.args.net.now n.same c.is_net.ensures.net c.args.fuel
+    c.args.workers c.in-Done.journal c.in-Done.words c.in_ok-text-in-Done.text.items
+    c.in_ok-text-in-Done.ensures.text c.in-Done.net
+    (rw c.in-Done.is at c.in_ok-reduced.ensures.reduced) c.once-in-Done.ensures.once
