@@ -38,10 +38,13 @@ returns-clause-plain_demand g c = λ files of quiet calm e.
 
 pub returns-clause-plain_frugal : goal.returns-clause-plain_frugal
 returns-clause-plain_frugal g c = λ files of quiet calm e.
-    plain_frugal c.args.words.now.items files (g.W.Sink.taken c.args.out.now) (g.W.Sink.taken c.answer.new.out)
+    plain_frugal c.args.words.now.items files (g.W.Sink.taken c.args.out.now) (g.W.Sink.taken c.write.new.out)
     (λ bytes tells. (writes_tree c.args.words.now.items bytes (g.W.Sink.taken c.args.out.now)
-    (g.W.Sink.taken c.answer.new.out)
-    (c.answer.ensures.read_again files of bytes tells e)))
+    (g.W.Sink.taken c.write.new.out)
+    (call_reads c.args.words.now.items _ (g.W.Sink.faults c.args.out.now)
+    (g.W.Sink.faults c.write.new.out) (g.W.Sink.taken c.args.out.now)
+    (g.W.Sink.taken c.write.new.out) c.answer_words-made.result c.write.result
+    c.write.ensures.told (c.answer_words-made.ensures.comes files of) bytes tells e)))
 
 pub returns-clause-plain_equal : goal.returns-clause-plain_equal
 returns-clause-plain_equal g c = λ files of quiet calm e.
