@@ -1,7 +1,7 @@
 -- What passed through adapters of which no call was made before.
 use Rattle.std.proofs.Common.{◌≡◌, ◌≢◌, ◌<◌, ◌≤◌, ◌+◌, ◌⊎◌, inl, inr, ℕ, zero, suc, List, [], ◌++◌}
 use Rattle.std.proofs.Common.{Some, String, Global, refl, ap, sym, ◌∙◌, subst, append-nil, arith}
-use Rattle.std.specs.Prelude.{true, codes}
+use Rattle.std.specs.Prelude.{◌∷◌, true, codes}
 use Rattle.ol_io.specs.Outside.{Rose, Appended}
 use Rattle.ol_io.specs.Readings.{Reading, reading, AreOfSince, handed}
 use Rattle.ol_parse.specs.Grammar.{Named}
