@@ -3,6 +3,8 @@
 //! Each function here is a law: it has no code.
 #![tactic(auto)]
 
+ghost use Rattle.ol_families.specs.Readings.{HeadStepsKeepWords, WordsAreDegrees};
+ghost use Rattle.ol_families.specs.Readings.{DegreesAreMet, HeadIsLeftmost};
 ghost use Rattle.ol_families.specs.Signs.{WordsAreSigned};
 ghost use Rattle.ol_families.specs.Words.{WordsTellRoutes, WordIsOne, BetasHaveTheirWords};
 
@@ -25,4 +27,16 @@ pub fn betas_have_their_words()
 /// and where overlined and underlined words begin and end.
 pub fn words_are_signed<A>()
     ensures { WordsAreSigned A }
+{}
+
+/// A labelled head step keeps the words of redexes that walks from the root meet, those that are
+/// there and those that come later, where neighbours that cancel are left out: what is read on the
+/// way from an application to its abstraction. So each of these words is the degree of a redex that
+/// head reduction contracts, where it ends. The redex of each head step is met, with its degree as
+/// word; and a labelled head step is the leftmost labelled step.
+pub fn head_steps_keep_words()
+    ensures kept { HeadStepsKeepWords }
+    ensures degrees { WordsAreDegrees }
+    ensures met { DegreesAreMet }
+    ensures leftmost { HeadIsLeftmost }
 {}
