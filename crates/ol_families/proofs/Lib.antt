@@ -11,3 +11,5 @@ pub mod Redex
 pub mod Nested
 pub mod HeadWords
 pub mod Leading
+pub mod Sides
+pub mod Families

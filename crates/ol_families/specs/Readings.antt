@@ -1,7 +1,7 @@
 -- What a walk over a labelled term reads: at each node that it crosses, letters, and where
 -- overlined and underlined words begin and end (Lévy 1978; Asperti and Laneve, Paths, computations
 -- and labels in the lambda-calculus, 1995).
-use Rattle.std.specs.Prelude.{◌≡◌, ℕ, Bool, true, false, List, [], ◌∷◌, ◌++◌, ◌⊎◌, Some}
+use Rattle.std.specs.Prelude.{◌≡◌, ℕ, Bool, true, false, List, [], ◌∷◌, ◌++◌, ◌⊎◌, Some, length}
 use Rattle.ol_beta.specs.Leftmost.{leftmost}
 use Rattle.ol_context.specs.Contexts.{Level, Context}
 use Rattle.ol_edges.specs.Edges.{IsIn}
@@ -120,6 +120,12 @@ moved r ((true, a) ∷ s) x = moved r s (r.undo a x)
 abbrev pub AreAlike : Signs → Signs → Type 0
 AreAlike a b = (r : Acting) (x : Signs) → moved r a x ≡ moved r b x
 
+-- What is read on the way from an application to its abstraction is one word, as far as neighbours
+-- that cancel are left out: so a redex, now or after some steps, has one word.
+abbrev pub SiteHasOneWord : Type 0
+SiteHasOneWord = (τ : Translation) (T : Labelled) (p : Site) (m n : IsMatched τ (erased T) p) →
+    AreAlike (word_of T p m) (word_of T p n)
+
 -- ---- labelled head steps
 
 -- A labelled head step contracts a redex of this degree, as the labelled beta step of Labels does.
@@ -155,6 +161,33 @@ WordsAreDegrees = (τ : Translation) (T V : Labelled) (ds : List Label) → Head
     (q : Place) (a : Level) (j : ℕ) → Normal (erased V) q a j →
     (p : Site) (m : IsMet τ (erased T) p) →
     (d : Label) × IsIn d ds × AreAlike (word_of T p m.matched) (signs_of d)
+
+-- an application of a redex that walks from the root meet
+abbrev pub Met : Translation → Labelled → Type 0
+Met τ T = (p : Site) × IsMet τ (erased T) p
+
+abbrev pub word_met : {τ : Translation} (T : Labelled) → Met τ T → Signs
+word_met T x = word_of T x.0 x.1.matched
+
+-- no two of them have alike words
+abbrev pub HaveDifferentWords : {τ : Translation} (T : Labelled) → List (Met τ T) → Type 0
+HaveDifferentWords T [] = Unit {0}
+HaveDifferentWords {τ} T (x ∷ xs) =
+    ((y : Met τ T) → IsIn y xs → AreAlike (word_met T x) (word_met T y) → ⊥)
+    × HaveDifferentWords T xs
+
+abbrev pub AreDifferent : List Label → Type 0
+AreDifferent [] = Unit {0}
+AreDifferent (d ∷ ds) = (IsIn d ds → ⊥) × AreDifferent ds
+
+-- So those with different words are no more than the families that head reduction contracts: than
+-- the different degrees among those of its steps.
+abbrev pub NoMoreThanFamilies : Type 0
+NoMoreThanFamilies = (τ : Translation) (T V : Labelled) (ds : List Label) → HeadReduces T ds V →
+    (q : Place) (a : Level) (j : ℕ) → Normal (erased V) q a j →
+    (xs : List (Met τ T)) → HaveDifferentWords T xs →
+    (es : List Label) × AreDifferent es × ((e : Label) → IsIn e es → IsIn e ds)
+    × (length es ≡ length xs)
 
 -- And each degree is the word of a redex that the root's walk meets as it is contracted.
 abbrev pub DegreesAreMet : Type 0

@@ -4,7 +4,8 @@
 #![tactic(auto)]
 
 ghost use Rattle.ol_families.specs.Readings.{HeadStepsKeepWords, WordsAreDegrees};
-ghost use Rattle.ol_families.specs.Readings.{DegreesAreMet, HeadIsLeftmost};
+ghost use Rattle.ol_families.specs.Readings.{DegreesAreMet, HeadIsLeftmost, SiteHasOneWord};
+ghost use Rattle.ol_families.specs.Readings.{NoMoreThanFamilies};
 ghost use Rattle.ol_families.specs.Signs.{WordsAreSigned};
 ghost use Rattle.ol_families.specs.Words.{WordsTellRoutes, WordIsOne, BetasHaveTheirWords};
 
@@ -39,4 +40,17 @@ pub fn head_steps_keep_words()
     ensures degrees { WordsAreDegrees }
     ensures met { DegreesAreMet }
     ensures leftmost { HeadIsLeftmost }
+{}
+
+/// An application of a labelled term that has a redex, now or after some steps, has one word, where
+/// neighbours that cancel are left out.
+pub fn site_has_one_word()
+    ensures { SiteHasOneWord }
+{}
+
+/// Where labelled head steps lead to a head normal form, the redexes with different words that walks
+/// from the root of the first term meet, those that come later too, are at most as many as the
+/// families that head reduction contracts: as the different degrees among those of its steps.
+pub fn no_more_than_families()
+    ensures { NoMoreThanFamilies }
 {}
