@@ -1,17 +1,16 @@
 -- Redexes with different words are no more than the degrees that head reduction contracts.
-use Rattle.std.proofs.Common.{◌≡◌, ℕ, suc, inl, inr, List, [], ◌∷◌, length, refl, sym, ap, ◌∙◌, subst}
+use Rattle.std.proofs.Common.{◌≡◌, suc, inl, inr, List, [], ◌∷◌, length, refl, sym, ap, ◌∙◌, subst}
 use Rattle.ol_edges.specs.Edges.{IsIn}
 use Rattle.ol_frugal.specs.Met.{IsMet}
-use Rattle.ol_meaning.specs.Heads.{Normal}
-use Rattle.ol_meaning.specs.Spots.{Level, Place}
 use Rattle.ol_optimal.specs.Labels.{Label, Labelled, erased}
 use Rattle.ol_spots_net.specs.Sites.{Site}
 use Rattle.ol_term.specs.declared.translations.Translation.{Translation}
 use Rattle.ol_families.specs.Signs.{signs_of}
-use Rattle.ol_families.specs.Readings.{moved, AreAlike, HeadReduces, Met, word_met, HaveDifferentWords, AreDifferent, NoMoreThanFamilies}
+use Rattle.ol_families.specs.Readings.{AreAlike, Met, word_met, HaveDifferentWords, AreDifferent, NoMoreThanFamilies, NoMoreThanLeftmostFamilies, word_of}
 use Rattle.ol_families.proofs.HeadWords.{words_are_degrees}
+use Rattle.ol_families.proofs.Leftwards.{words_are_leftmost_degrees}
 
-module _ (τ : Translation) (T V : Labelled) (ds : List Label) (h : HeadReduces T ds V) (q : Place) (a : Level) (j : ℕ) (n : Normal (erased V) q a j) where
+module _ (τ : Translation) (T : Labelled) (ds : List Label) (each : (p : Site) (m : IsMet τ (erased T) p) → (d : Label) × IsIn d ds × AreAlike (word_of T p m.matched) (signs_of d)) where
   -- degrees of these, each with its application
   record Chosen (ps : List (Met τ T)) : Type 0 where
     families : List Label
@@ -24,7 +23,7 @@ module _ (τ : Translation) (T V : Labelled) (ds : List Label) (h : HeadReduces 
   chosen [] d = record { families = []; different = tt; contracted = λ d i. absurd i; of = λ d i. absurd i; count = refl }
   chosen (x ∷ ps) d =
       let r = chosen ps d.1 in
-      let k = words_are_degrees τ T V ds h q a j n x.0 x.1 in
+      let k = each x.0 x.1 in
       record {
         families = k.0 ∷ r.families;
         different = (
@@ -40,4 +39,9 @@ module _ (τ : Translation) (T V : Labelled) (ds : List Label) (h : HeadReduces 
       }
 
 pub no_more_than_families : NoMoreThanFamilies
-no_more_than_families τ T V ds h q a j n ps d = let r = chosen τ T V ds h q a j n ps d in (r.families, r.different, r.contracted, r.count)
+no_more_than_families τ T V ds h q a j n ps d =
+    let r = chosen τ T ds (λ p m. words_are_degrees τ T V ds h q a j n p m) ps d in (r.families, r.different, r.contracted, r.count)
+
+pub no_more_than_leftmost_families : NoMoreThanLeftmostFamilies
+no_more_than_leftmost_families τ T v ws h z ps d =
+    let r = chosen τ T ws (λ p m. words_are_leftmost_degrees τ T v ws h z p m) ps d in (r.families, r.different, r.contracted, r.count)

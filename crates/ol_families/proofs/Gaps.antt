@@ -1,6 +1,6 @@
 -- Labels after a labelled step: what is read of them beyond what was read before.
 use Rattle.std.proofs.Common.{◌≡◌, ℕ, suc, ◌++◌, [], ◌∷◌, Option, Some, None, refl, sym, ap, ◌∙◌}
-use Rattle.ol_meaning.specs.Spots.{Tree, var, free, lam, app, Level, Context, Wire, bound, name, under, Place, root, wire, Spot, at, body, fun, arg, lifted, without, suc_of, wire_of, wire_without, Cut, inM, inN}
+use Rattle.ol_meaning.specs.Spots.{Tree, var, free, lam, app, Wire, bound, name, under, root, wire, Spot, at, body, fun, arg, lifted, without, suc_of, wire_of, wire_without, Cut, inM, inN}
 use Rattle.ol_optimal.specs.Labels.{Label, Labelled, erased, before, joined}
 use Rattle.ol_optimal.specs.Labels as labels
 use Rattle.ol_families.specs.Signs.{Signs, signs_of, onward, reversed, ends_over, begins_over, ends_under}

@@ -1,10 +1,10 @@
 -- A labelled head step keeps the words of redexes that walks from the root meet.
-use Rattle.std.proofs.Common.{◌≡◌, ℕ, true, false, [], ◌∷◌, ◌++◌, ◌⊎◌, inl, inr, Some, refl, sym, ap, ◌∙◌, subst}
+use Rattle.std.proofs.Common.{◌≡◌, ℕ, true, false, [], ◌++◌, ◌⊎◌, inl, inr, Some, refl, sym, ap, ◌∙◌, subst}
 use Rattle.ol_beta.specs.Beta as beta_steps
 use Rattle.ol_frugal.specs.Met.{IsMatched, IsMet, blank}
 use Rattle.ol_frugal.proofs.Meeting.{app_is, lam_is, too_few}
 use Rattle.ol_frugal.proofs.Lanes.{none_met}
-use Rattle.ol_frugal.proofs.Sites.{base, Stands, same_site}
+use Rattle.ol_frugal.proofs.Sites.{base}
 use Rattle.ol_meaning.specs.Heads.{os, outer}
 use Rattle.ol_meaning.specs.Spots.{Tree, lam, app, Level, empty, Context, Place, root, Spot, at, Edge, Trail, here, on, back, HeadStep, is_abstraction, subst_for}
 use Rattle.ol_meaning.specs.Spots as spots
@@ -16,9 +16,9 @@ use Rattle.ol_optimal.specs.Labels as labels
 use Rattle.ol_optimal.proofs.Erasing.{labels_erase}
 use Rattle.ol_spots_net.specs.Sites.{Site, spot_in, PartAt, function_at, abstraction_at}
 use Rattle.ol_term.specs.declared.translations.Translation.{Translation}
-use Rattle.ol_families.specs.Signs.{Signs, signs_of}
-use Rattle.ol_families.specs.Readings.{word_along, word_of, function_label, Acting, moved, AreAlike, HeadContracts, at_redex, below_lam, before_argument, HeadStepsKeepWords, WordsAreDegrees, ready, contract}
-use Rattle.ol_families.proofs.Keeping.{Follows, Goes, Keeps, follow}
+use Rattle.ol_families.specs.Signs.{signs_of}
+use Rattle.ol_families.specs.Readings.{word_along, word_of, function_label, moved, AreAlike, HeadContracts, at_redex, below_lam, before_argument, HeadStepsKeepWords, WordsAreDegrees, ready, contract}
+use Rattle.ol_families.proofs.Keeping.{Goes, Keeps, follow}
 use Rattle.ol_families.proofs.Motions.{Motion, Walks, moved_append}
 use Rattle.ol_families.proofs.Nested.{lam_keeps, app_keeps}
 use Rattle.ol_families.proofs.Redex.{redex_keeps}

@@ -1,17 +1,17 @@
 -- A labelled head step is the leftmost one, and the root's walk meets its redex.
-use Rattle.std.proofs.Common.{◌≡◌, ℕ, zero, suc, ◌+◌, true, false, if◌then◌else◌, [], ◌∷◌, ◌++◌, Some, refl, sym, ap, ◌∙◌, subst, append-nil}
+use Rattle.std.proofs.Common.{◌≡◌, ℕ, ◌+◌, false, if◌then◌else◌, [], ◌∷◌, ◌++◌, Some, refl, ap, ◌∙◌, subst, append-nil}
 use Rattle.std.specs.Option.{option_map}
 use Rattle.ol_beta.specs.Leftmost.{leftmost, first_of_two}
 use Rattle.ol_beta.specs.Leftmost as beta_steps
-use Rattle.ol_frugal.specs.Met.{IsMet, blank}
+use Rattle.ol_frugal.specs.Met.{blank}
 use Rattle.ol_meaning.specs.Heads.{os, outer}
-use Rattle.ol_meaning.specs.Spots.{Tree, var, free, lam, app, Level, empty, o, Context, root, Spot, at, body, fun, Edge, lam_root, app_root, in_body, in_fun, Trail, here, on, is_abstraction}
+use Rattle.ol_meaning.specs.Spots.{Tree, var, free, lam, app, Level, empty, o, Context, root, Spot, at, body, fun, Edge, lam_root, app_root, Trail, here, on, is_abstraction}
 use Rattle.ol_optimal.specs.Labels.{Label, Labelled, erased}
 use Rattle.ol_optimal.specs.Labels as labels
 use Rattle.ol_spots_net.specs.Sites.{Site, self, in_lam, in_function, PartAt, whole, of_lam, of_function, function_at, abstraction_at}
 use Rattle.ol_spots_net.proofs.Trails.{tr_body, tr_fun}
 use Rattle.ol_term.specs.declared.translations.Translation.{Translation}
-use Rattle.ol_families.specs.Signs.{Signs, signs_of}
+use Rattle.ol_families.specs.Signs.{signs_of}
 use Rattle.ol_families.specs.Readings.{word_along, function_label, HeadContracts, at_redex, below_lam, before_argument, HeadIsLeftmost, DegreesAreMet}
 
 pub head_is_leftmost : HeadIsLeftmost

@@ -13,3 +13,4 @@ pub mod HeadWords
 pub mod Leading
 pub mod Sides
 pub mod Families
+pub mod Leftwards

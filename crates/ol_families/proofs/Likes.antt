@@ -1,13 +1,13 @@
 -- Labelled terms of which the same is read.
-use Rattle.std.proofs.Common.{◌≡◌, ℕ, suc, zero, ◌+◌, ◌-◌, ◌<◌, ◌==◌, nat_lt, Bool, true, false, if◌then◌else◌, [], ◌∷◌, ◌++◌, Option, Some, None, refl, sym, ap, ◌∙◌, subst, arith}
+use Rattle.std.proofs.Common.{◌≡◌, ℕ, suc, ◌+◌, ◌-◌, ◌<◌, ◌==◌, nat_lt, Bool, true, false, if◌then◌else◌, ◌∷◌, ◌++◌, Option, Some, None, refl, sym, ap, ◌∙◌, subst, arith}
 use Rattle.std.proofs.lemmas.Bool.{eqb-true, eq-eqb, ltb-true}
-use Rattle.ol_meaning.specs.Spots.{Tree, without, Place, root, wire, Spot, at, body, fun, arg, Edge, Trail, here, on, back}
+use Rattle.ol_meaning.specs.Spots.{Tree, without, root, wire, Spot, at, body, fun, arg, Edge, Trail, here, on, back}
 use Rattle.ol_meaning.proofs.Addresses.{without_is, without_own}
 use Rattle.ol_optimal.specs.Labels.{Label, Labelled, var, free, lam, app, before, joined, shifted, substituted}
 use Rattle.ol_spots_net.specs.Sites.{Site, self, in_lam, in_function, in_argument}
 use Rattle.ol_term.specs.declared.translations.Translation.{Translation}
-use Rattle.ol_families.specs.Signs.{Signs, signs_of, onward, reversed, ends_over, begins_over, ends_under}
-use Rattle.ol_families.specs.Readings.{label_of, reading, from_lam, from_app, from_fun, word_along, function_label, moved}
+use Rattle.ol_families.specs.Signs.{signs_of, onward, reversed, ends_over, begins_over, ends_under}
+use Rattle.ol_families.specs.Readings.{label_of, reading, from_lam, from_fun, word_along, function_label, moved}
 use Rattle.ol_families.proofs.Motions.{Motion, Walks}
 use Rattle.ol_families.proofs.Gaps.{put_label, sub, reading_before}
 

@@ -1,12 +1,12 @@
 -- Signs as motions, and trails with what is read along them.
-use Rattle.std.proofs.Common.{◌≡◌, ℕ, ◌+◌, Bool, true, false, not, List, [], ◌∷◌, ◌++◌, refl, sym, ap, ◌∙◌, subst, arith}
+use Rattle.std.proofs.Common.{◌≡◌, ℕ, ◌+◌, true, false, not, [], ◌∷◌, ◌++◌, refl, sym, ap, ◌∙◌}
 use Rattle.ol_optimal.specs.Labels.{Label, none, atom, over, under, joined, Labelled, lam, app}
 use Rattle.ol_context.specs.Contexts.{Level}
 use Rattle.ol_spots_net.specs.Spots.{Spot, body, fun, arg, Edge, in_body, in_fun, in_arg, Trail, here, on, back}
 use Rattle.ol_term.specs.Trees.{Tree}
 use Rattle.ol_term.specs.Trees as trees
 use Rattle.ol_term.specs.declared.translations.Translation.{Translation}
-use Rattle.ol_families.specs.Signs.{Sign, letter_of, begins_over, ends_over, begins_under, ends_under, Signs, onward, backward, reversed, signs_of}
+use Rattle.ol_families.specs.Signs.{letter_of, begins_over, ends_over, begins_under, ends_under, Signs, onward, reversed, signs_of}
 use Rattle.ol_families.specs.Readings.{reading, word_along, Acting, moved}
 
 module _ (r : Acting) where

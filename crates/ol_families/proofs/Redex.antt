@@ -1,25 +1,24 @@
 -- What is read at a redex, and in the labelled term after its contraction.
-use Rattle.std.proofs.Common.{◌≡◌, ℕ, zero, suc, ◌+◌, Bool, true, false, not, [], ◌∷◌, ◌++◌, ◌⊎◌, inl, inr, Option, Some, None, refl, sym, ap, ◌∙◌, subst, arith}
+use Rattle.std.proofs.Common.{◌≡◌, ℕ, suc, ◌+◌, Bool, true, false, [], ◌∷◌, ◌++◌, ◌⊎◌, inl, inr, Some, refl, sym, ap, ◌∙◌, subst, arith}
 use Rattle.std.proofs.lemmas.Bool.{or_left, or_right}
-use Rattle.ol_beta.specs.Beta as beta_steps
 use Rattle.ol_frugal.proofs.Cuts.{m_moves, n_moves}
 use Rattle.ol_frugal.proofs.Sites.{base, Is, Stands, no_wire, no_root, one_site, lifted_spot}
-use Rattle.ol_meaning.specs.Spots.{Tree, lam, app, Level, empty, o, star, pair, Context, cons, Wire, bound, under, occurs, left, right, wire_without, subst_for, Place, root, wire, Spot, at, body, fun, arg, Edge, lam_root, lam_own, lam_wire, app_root, app_arg, app_left, app_right, in_body, in_fun, in_arg, Cut, inM, inN, ofM, ofN, WireOf, Held, at_root, wire_m, wire_n, own, lam_n, fun_n, arg_n, x_spot, n_body, n_fun, n_arg, lifted, IsLevelOf, IsSpotOf, name, var, free, Opens, in_m, in_n, lam_top, lam_var, lam_side, top, side_m, side_n, IsRight, lifted_wire}
+use Rattle.ol_meaning.specs.Spots.{Tree, lam, app, Level, empty, o, star, pair, Context, Wire, bound, under, occurs, wire_without, subst_for, Place, root, wire, Spot, at, body, fun, arg, Edge, lam_root, lam_own, lam_wire, app_root, app_arg, app_left, app_right, in_body, in_fun, in_arg, Cut, inM, inN, ofM, ofN, WireOf, Held, at_root, wire_m, wire_n, own, lam_n, fun_n, arg_n, x_spot, n_body, n_fun, n_arg, lifted, IsLevelOf, IsSpotOf, name, var, free, Opens, in_m, in_n, lam_top, lam_var, lam_side, top, side_m, side_n, lifted_wire}
 use Rattle.ol_meaning.specs.Steps.{SameRedex, redex_root, redex_m, redex_n}
 use Rattle.ol_meaning.proofs.Addresses.{left_one, right_one, sides_apart, spot_from, spot_to, occurs_new, occurs_old, own_occurs, level_copied}
 use Rattle.ol_meaning.proofs.Betas.{Through}
 use Rattle.ol_meaning.proofs.Copying.{Copies, copy, copy_body, copy_fun, copy_arg}
 use Rattle.ol_meaning.proofs.Ones.{n_there}
-use Rattle.ol_meaning.proofs.There.{held_joint, joint_held, by_wire, root_is}
+use Rattle.ol_meaning.proofs.There.{joint_held, by_wire, root_is}
 use Rattle.ol_optimal.specs.Labels.{Label, Labelled, none, erased, before, joined, substituted}
 use Rattle.ol_optimal.specs.Labels as labels
 use Rattle.ol_spots_net.specs.Sites.{Site, self, in_lam, in_function, in_argument, spot_in, PartAt, whole, of_lam, of_function, of_argument}
 use Rattle.ol_term.specs.declared.translations.Translation.{Translation}
 use Rattle.ol_families.specs.Signs.{Signs, signs_of, reversed, onward, backward, begins_over, ends_over, begins_under, ends_under}
-use Rattle.ol_families.specs.Readings.{label_of, reading, from_lam, from_app, from_fun, function_label, Acting, moved}
-use Rattle.ol_families.proofs.Motions.{Motion, by, still, then_by, Walks, stay, read_as, and_on, turned_still, moved_append, moved_there, signs_joined}
+use Rattle.ol_families.specs.Readings.{label_of, reading, function_label, Acting, moved}
+use Rattle.ol_families.proofs.Motions.{Motion, still, then_by, Walks, stay, and_on, turned_still, moved_append, moved_there, signs_joined}
 use Rattle.ol_families.proofs.Gaps.{hole, at_top, gap, cut_gap, put_label, sub, top_is, label_before, reading_before}
-use Rattle.ol_families.proofs.Reading.{Onto, own_hole, m_there, m_back, copy_there, copy_back, joint_there, held_copy, copy_out}
+use Rattle.ol_families.proofs.Reading.{own_hole, m_there, m_back, copy_there, copy_back, joint_there, held_copy, copy_out}
 use Rattle.ol_families.proofs.Keeping.{Related, Follows, Leaves, placed, Goes, Comes, Keeps}
 use Rattle.ol_families.proofs.Likes.{like_substituted, function_before, walks_like}
 

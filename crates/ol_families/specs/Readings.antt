@@ -1,15 +1,16 @@
 -- What a walk over a labelled term reads: at each node that it crosses, letters, and where
 -- overlined and underlined words begin and end (Lévy 1978; Asperti and Laneve, Paths, computations
 -- and labels in the lambda-calculus, 1995).
-use Rattle.std.specs.Prelude.{◌≡◌, ℕ, Bool, true, false, List, [], ◌∷◌, ◌++◌, ◌⊎◌, Some, length}
+use Rattle.std.specs.Prelude.{◌≡◌, ℕ, true, false, List, [], ◌∷◌, ◌++◌, ◌⊎◌, Some, None, length}
 use Rattle.ol_beta.specs.Leftmost.{leftmost}
-use Rattle.ol_context.specs.Contexts.{Level, Context}
+use Rattle.ol_context.specs.Contexts.{Level}
 use Rattle.ol_edges.specs.Edges.{IsIn}
 use Rattle.ol_frugal.specs.Met.{IsMatched, IsMet}
 use Rattle.ol_meaning.specs.Heads.{Normal}
 use Rattle.ol_meaning.specs.Spots.{is_abstraction}
 use Rattle.ol_optimal.specs.Labels.{Label, none, over, under, joined, Labelled, var, free, lam, app}
 use Rattle.ol_optimal.specs.Labels.{erased, before, substituted, contracted, degree}
+use Rattle.ol_optimal.specs.Labels.{LeftmostContracts}
 use Rattle.ol_spots_net.specs.Sites.{Site, self, in_lam, in_function, in_argument}
 use Rattle.ol_spots_net.specs.Spots.{Place, root, wire, Spot, at, body, fun, arg, Edge}
 use Rattle.ol_spots_net.specs.Spots.{Trail, here, on, back}
@@ -39,7 +40,8 @@ from_app f = onward begins_over ∷ signs_of (label_of f)
 
 -- from the root of an application's function to that of its argument
 abbrev pub from_fun : Labelled → Labelled → Spot → Signs
-from_fun f a (at p v c) = reversed (signs_of (label_of f)) ++ onward ends_under ∷ signs_of (label_of a)
+from_fun f a (at p v c) =
+    reversed (signs_of (label_of f)) ++ onward ends_under ∷ signs_of (label_of a)
 from_fun f a (body s) = []
 from_fun f a (fun s) = []
 from_fun f a (arg v s) = []
@@ -116,7 +118,8 @@ moved r [] x = x
 moved r ((false, a) ∷ s) x = moved r s (r.act a x)
 moved r ((true, a) ∷ s) x = moved r s (r.undo a x)
 
--- The same once neighbours cancel of which one is the other read backwards: as motions they are one.
+-- The same once neighbours cancel of which one is the other read backwards: as motions they are
+-- one.
 abbrev pub AreAlike : Signs → Signs → Type 0
 AreAlike a b = (r : Acting) (x : Signs) → moved r a x ≡ moved r b x
 
@@ -138,9 +141,9 @@ pub data HeadContracts : Labelled → Label → Labelled → Type 0 where
       is_abstraction (erased f) ≡ false → HeadContracts f d g →
       HeadContracts (app f a w) d (app g a w)
 
--- A head step keeps words. Where a walk that asks the root for some number of abstractions meets the
--- application of a redex that is there, or comes after some steps, this redex is contracted, and its
--- word is the degree; or such a walk meets one with an alike word in the next term.
+-- A head step keeps words. Where a walk that asks the root for some number of abstractions meets
+-- the application of a redex that is there, or comes after some steps, this redex is contracted,
+-- and its word is the degree; or such a walk meets one with an alike word in the next term.
 abbrev pub HeadStepsKeepWords : Type 0
 HeadStepsKeepWords = (τ : Translation) (T U : Labelled) (d : Label) → HeadContracts T d U →
     (p : Site) (m : IsMet τ (erased T) p) →
@@ -161,6 +164,13 @@ WordsAreDegrees = (τ : Translation) (T V : Labelled) (ds : List Label) → Head
     (q : Place) (a : Level) (j : ℕ) → Normal (erased V) q a j →
     (p : Site) (m : IsMet τ (erased T) p) →
     (d : Label) × IsIn d ds × AreAlike (word_of T p m.matched) (signs_of d)
+
+-- So it is with leftmost reduction to a normal form: the word of each redex that the root's walks
+-- meet is alike to one of the degrees that it contracts.
+abbrev pub WordsAreLeftmostDegrees : Type 0
+WordsAreLeftmostDegrees = (τ : Translation) (T v : Labelled) (ws : List Label) →
+    LeftmostContracts T ws v → leftmost (erased v) ≡ None → (p : Site) (m : IsMet τ (erased T) p) →
+    (w : Label) × IsIn w ws × AreAlike (word_of T p m.matched) (signs_of w)
 
 -- an application of a redex that walks from the root meet
 abbrev pub Met : Translation → Labelled → Type 0
@@ -187,6 +197,14 @@ NoMoreThanFamilies = (τ : Translation) (T V : Labelled) (ds : List Label) → H
     (q : Place) (a : Level) (j : ℕ) → Normal (erased V) q a j →
     (xs : List (Met τ T)) → HaveDifferentWords T xs →
     (es : List Label) × AreDifferent es × ((e : Label) → IsIn e es → IsIn e ds)
+    × (length es ≡ length xs)
+
+-- And no more than the different degrees of leftmost reduction to a normal form.
+abbrev pub NoMoreThanLeftmostFamilies : Type 0
+NoMoreThanLeftmostFamilies = (τ : Translation) (T v : Labelled) (ws : List Label) →
+    LeftmostContracts T ws v → leftmost (erased v) ≡ None →
+    (xs : List (Met τ T)) → HaveDifferentWords T xs →
+    (es : List Label) × AreDifferent es × ((e : Label) → IsIn e es → IsIn e ws)
     × (length es ≡ length xs)
 
 -- And each degree is the word of a redex that the root's walk meets as it is contracted.

@@ -5,7 +5,8 @@
 
 ghost use Rattle.ol_families.specs.Readings.{HeadStepsKeepWords, WordsAreDegrees};
 ghost use Rattle.ol_families.specs.Readings.{DegreesAreMet, HeadIsLeftmost, SiteHasOneWord};
-ghost use Rattle.ol_families.specs.Readings.{NoMoreThanFamilies};
+ghost use Rattle.ol_families.specs.Readings.{NoMoreThanFamilies, NoMoreThanLeftmostFamilies};
+ghost use Rattle.ol_families.specs.Readings.{WordsAreLeftmostDegrees};
 ghost use Rattle.ol_families.specs.Signs.{WordsAreSigned};
 ghost use Rattle.ol_families.specs.Words.{WordsTellRoutes, WordIsOne, BetasHaveTheirWords};
 
@@ -48,9 +49,13 @@ pub fn site_has_one_word()
     ensures { SiteHasOneWord }
 {}
 
-/// Where labelled head steps lead to a head normal form, the redexes with different words that walks
-/// from the root of the first term meet, those that come later too, are at most as many as the
-/// families that head reduction contracts: as the different degrees among those of its steps.
+/// Where labelled head steps lead to a head normal form, the redexes with different words that
+/// walks from the root of the first term meet, those that come later too, are at most as many as
+/// the families that head reduction contracts: as the different degrees among those of its steps.
+/// So it is with leftmost reduction to a normal form: each of their words is the degree of one of
+/// its steps, where neighbours that cancel are left out.
 pub fn no_more_than_families()
-    ensures { NoMoreThanFamilies }
+    ensures head { NoMoreThanFamilies }
+    ensures words { WordsAreLeftmostDegrees }
+    ensures leftmost { NoMoreThanLeftmostFamilies }
 {}
