@@ -1,10 +1,11 @@
 -- A labelled step takes what is read along edges with it: what has to be given, and how trails follow.
-use Rattle.std.proofs.Common.{◌≡◌, ℕ, true, false, [], ◌⊎◌, refl, sym, ap, ◌∙◌}
+use Rattle.std.proofs.Common.{◌≡◌, ℕ, ◌+◌, Bool, true, false, [], ◌⊎◌, refl, sym, ap, ◌∙◌}
 use Rattle.ol_meaning.specs.Spots.{Tree, Level, empty, Context, Wire, Place, root, wire, Spot, at, Edge, Trail, here, on, back, occurs, is_abstraction}
 use Rattle.ol_meaning.proofs.Ways.{Has}
 use Rattle.ol_frugal.proofs.Sites.{base, Stands}
 use Rattle.ol_optimal.specs.Labels.{Label, Labelled}
 use Rattle.ol_spots_net.specs.Sites.{Site, spot_in}
+use Rattle.ol_spots_net.proofs.Trails.{tr_trans}
 use Rattle.ol_term.specs.declared.translations.Translation.{Translation}
 use Rattle.ol_families.specs.Signs.{Signs, signs_of, reversed}
 use Rattle.ol_families.specs.Readings.{label_of, reading, word_along, function_label, Acting, moved}
@@ -53,6 +54,35 @@ pub record Comes (t' : Tree) (K : Related) (p : Site) (c : Context) (z : Spot) (
   pub there : Stands false t' site
   pub alike : (r : Acting) (x : Signs) → K.shift (spot_in p (base false empty c)) z k r x ≡ x
 
+-- ---- and back
+
+-- what an edge of the next term comes from
+pub record Undone (τ : Translation) (t : Tree) (R : Spot → Spot → Type 0) (s z : Spot) : Type 0 where
+  pub spot : Spot
+  pub rel : R spot z
+  pub weight : ℕ
+  pub trail : Trail (Edge τ t) s spot weight
+
+pub record Left (τ : Translation) (t : Tree) (S : Place → Level → Level → Type 0) (p : Place) (v : Level) (c : Context) (s : Spot) : Type 0 where
+  pub level : Level
+  pub same : S p level v
+  pub weight : ℕ
+  pub trail : Trail (Edge τ t) s (at p level c) weight
+
+-- what an application or an abstraction comes from
+pub record Source (τ : Translation) (t : Tree) (R : Spot → Spot → Type 0) (b : Bool) (q : Site) (v : Level) (d : Context) (s : Spot) : Type 0 where
+  pub site : Site
+  pub there : Stands b t site
+  pub all : (w : Level) (e : Context) → (b ≡ false → w ≡ empty) → R (spot_in site (base b w e)) (spot_in q (base b w e))
+  pub weight : ℕ
+  pub trail : Trail (Edge τ t) s (spot_in site (base b v d)) weight
+
+pub record Backs (τ : Translation) (t t' : Tree) (R : Spot → Spot → Type 0) (S : Place → Level → Level → Type 0) : Type 0 where
+  pub ungo : (z z' s : Spot) (n : ℕ) → Edge τ t' z z' n → R s z → Undone τ t R s z'
+  pub uncome : (z z' s : Spot) (n : ℕ) → Edge τ t' z' z n → R s z → Undone τ t R s z'
+  pub unout : (p : Place) (v : Level) (c : Context) (s : Spot) → R s (at p v c) → Has p t' → Left τ t S p v c s
+  pub source : (b : Bool) (q : Site) (v : Level) (d : Context) (s : Spot) → (b ≡ false → v ≡ empty) → Stands b t' q → R s (spot_in q (base b v d)) → Source τ t R b q v d s
+
 pub record Keeps (τ : Translation) (t t' : Tree) (T U : Labelled) (S : Place → Level → Level → Type 0) (d : Label) : Type 1 where
   pub K : Related
   pub start : (p : Place) (v v' : Level) (c : Context) → S p v v' → K.R (at p v c) (at p v' c)
@@ -63,7 +93,9 @@ pub record Keeps (τ : Translation) (t t' : Tree) (T U : Labelled) (S : Place �
   pub out : (p : Place) (v : Level) (c : Context) (z : Spot) (k : K.R (at p v c) z) → Has p t → Leaves τ t' U K S p v c z k (placed T p) (placed U p)
   pub old : (y : Wire) (a a' : Level) → S (wire y) a a' → occurs y t ≡ true
   pub new : (y : Wire) (a a' : Level) → S (wire y) a a' → occurs y t' ≡ true
+  pub backs : Backs τ t t' K.R S
   pub redex : Site
+  pub gone : (c : Context) (z : Spot) → K.R (spot_in redex (base true empty c)) z → ⊥
   pub degree : function_label T redex ≡ d
   pub dead : (c : Context) (s : Spot) (n : ℕ) → (Edge τ t (spot_in redex (base true empty c)) s n → ⊥) × (Edge τ t s (spot_in redex (base true empty c)) n → ⊥)
   pub top : (v : Level) (c : Context) (z : Spot) → is_abstraction t ≡ false → K.R (at root v c) z → z ≡ at root v c
@@ -97,3 +129,15 @@ module _ {τ : Translation} {t t' : Tree} {T U : Labelled} {S : Place → Level 
         alike = λ r x. ap (b.motion r) (a.alike r x) ∙ b.alike r (moved r (reversed (reading T s1 s)) x)
             ∙ ap (w.K.shift e b.spot b.rel r) (sym (moved_append r (reversed (reading T s1 s)) (word_along T u) x));
       }
+
+  -- and back
+  pub undo : {z z' : Spot} {n : ℕ} (u : Trail (Edge τ t') z z' n) (s : Spot) → w.K.R s z → Undone τ t w.K.R s z'
+  undo here s k = record { spot = s; rel = k; weight = 0; trail = here }
+  undo (on {s = z} {s' = z1} {w = n} e u h) s k =
+      let a = w.backs.ungo z z1 s n e k in
+      let b = undo u a.spot a.rel in
+      record { spot = b.spot; rel = b.rel; weight = a.weight + b.weight; trail = tr_trans a.trail b.trail refl }
+  undo (back {s = z} {s' = z1} {w = n} e u h) s k =
+      let a = w.backs.uncome z z1 s n e k in
+      let b = undo u a.spot a.rel in
+      record { spot = b.spot; rel = b.rel; weight = a.weight + b.weight; trail = tr_trans a.trail b.trail refl }

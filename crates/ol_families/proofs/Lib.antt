@@ -14,3 +14,5 @@ pub mod Leading
 pub mod Sides
 pub mod Families
 pub mod Leftwards
+pub mod Whence
+pub mod Sources

@@ -12,7 +12,10 @@ use Rattle.ol_spots_net.specs.Sites.{Site, self, in_lam, in_function, in_argumen
 use Rattle.ol_term.specs.declared.translations.Translation.{Translation}
 use Rattle.ol_families.specs.Signs.{Sign, Signs, signs_of, reversed, onward, backward, begins_over, ends_over, begins_under, ends_under}
 use Rattle.ol_families.specs.Readings.{label_of, reading, from_lam, from_app, from_fun, Acting, moved}
-use Rattle.ol_families.proofs.Keeping.{Related, Follows, Leaves, placed, Goes, Comes, Keeps}
+use Rattle.ol_spots_net.proofs.Trails.{tr_trans, one, one_back, tr_body, tr_fun}
+use Rattle.ol_meaning.specs.Spots.{Trail, here}
+use Rattle.std.proofs.Common.{Bool, ◌+◌}
+use Rattle.ol_families.proofs.Keeping.{Undone, Left, Source, Backs, Related, Follows, Leaves, placed, Goes, Comes, Keeps}
 use Rattle.ol_families.proofs.Motions.{Motion, by, still, then_by, Walks, stay, along_edge, back_edge, and_on, in_the_body, in_the_fun, moved_append, moved_back, moved_there, reversed_append, reversed_twice}
 
 -- out of a part's root: its label is read backwards
@@ -165,6 +168,53 @@ module _ {τ : Translation} (M M' : Tree) (T U : Labelled) (S : Place → Level 
   dead_come c (in_body {s = s} {s' = s'} {w = n} e) f =
       (w.dead c s n).1 (subst (λ z. Edge τ M s z n) (let j : s' ≡ spot_in w.redex (base true empty c) = cc in j) e)
 
+  -- ---- and back
+
+  b_ungo : {z z' s : Spot} {n : ℕ} → Edge τ (lam M') z z' n → B s z → Undone τ (lam M) B s z'
+  b_ungo (lam_root {v = v'} {c = c}) (sides (below_o {v = v} r)) = record { spot = body (at root v c); rel = parts (w.start root v v' c r); weight = 0; trail = one lam_root }
+  b_ungo (lam_own {a = a'} {c = c} m) (sides (below_star {a = a} r)) = record { spot = body (at (wire (bound 0)) a c); rel = parts (w.start (wire (bound 0)) a a' c r); weight = 0; trail = one (lam_own (w.old (bound 0) a a' r)) }
+  b_ungo (lam_wire {y = y} {z = u} {a = a'} {c = c} e m) (sides {v = l} (below_wire r)) =
+      let k : S (wire u) l a' = subst (λ u. S (wire u) l a') (sym e) r in
+      record { spot = body (at (wire u) l c); rel = parts (w.start (wire u) l a' c k); weight = 0; trail = one (lam_wire e (w.old u l a' k)) }
+  b_ungo (in_body {s = z} {s' = z'} {w = n} e) (parts {s = s} r) =
+      let k = w.backs.ungo z z' s n e r in record { spot = body k.spot; rel = parts k.rel; weight = k.weight; trail = tr_body k.trail }
+
+  b_uncome : {z z' s : Spot} {n : ℕ} → Edge τ (lam M') z' z n → B s z → Undone τ (lam M) B s z'
+  b_uncome (lam_root {v = v'} {c = c}) (parts {s = s} r) =
+      let k = w.backs.unout root v' c s r tt in
+      record { spot = at root (o k.level) c; rel = sides (below_o k.same); weight = k.weight + 0; trail = tr_trans (tr_body k.trail) (one_back lam_root) refl }
+  b_uncome (lam_own {a = a'} {c = c} m) (parts {s = s} r) =
+      let k = w.backs.unout (wire (bound 0)) a' c s r m in
+      record { spot = at root (star k.level) c; rel = sides (below_star k.same); weight = k.weight + 0; trail = tr_trans (tr_body k.trail) (one_back (lam_own (w.old (bound 0) k.level a' k.same))) refl }
+  b_uncome (lam_wire {y = y} {z = u} {a = a'} {c = c} e m) (parts {s = s} r) =
+      let k = w.backs.unout (wire u) a' c s r m in
+      record {
+        spot = at (wire y) k.level c;
+        rel = sides (below_wire (subst (λ u. S (wire u) k.level a') e k.same));
+        weight = k.weight + 0;
+        trail = tr_trans (tr_body k.trail) (one_back (lam_wire e (w.old u k.level a' k.same))) refl;
+      }
+  b_uncome (in_body {s = z'} {s' = z} {w = n} e) (parts {s = s} r) =
+      let k = w.backs.uncome z z' s n e r in record { spot = body k.spot; rel = parts k.rel; weight = k.weight; trail = tr_body k.trail }
+
+  b_unout : {p : Place} {v : Level} {c : Context} {s : Spot} → B s (at p v c) → Left τ (lam M) (SameBelow S) p v c s
+  b_unout (sides {v = v} r) = record { level = v; same = r; weight = 0; trail = here }
+
+  b_source : (b : Bool) (q : Site) (v : Level) (d : Context) (s : Spot) → (b ≡ false → v ≡ empty) → Stands b (lam M') q → B s (spot_in q (base b v d)) → Source τ (lam M) B b q v d s
+  b_source true self v d s ok (u, whole, h) r = absurd h
+  b_source false self v d s ok h r = absurd (by (subst (λ v. B s (at root v d)) (ok refl) r))
+    where
+      by : {s : Spot} → B s (at root empty d) → ⊥
+      by (sides k) = elim k [ ]
+  b_source b (in_lam q) v d s ok (u, of_lam m, h) (parts {s = y} r) =
+      let k = w.backs.source b q v d y ok (u, m, h) r in
+      record { site = in_lam k.site; there = (k.there.0, of_lam k.there.1, k.there.2); all = λ a e g. parts (k.all a e g); weight = k.weight; trail = tr_body k.trail }
+  b_source b (in_function q) v d s ok (u, m, h) r = elim m [ ]
+  b_source b (in_argument a q) v d s ok (u, m, h) r = elim m [ ]
+
+  b_gone : (c : Context) (z : Spot) → B (body (spot_in w.redex (base true empty c))) z → ⊥
+  b_gone c z (parts {z = z1} r) = w.gone c z1 r
+
   pub lam_keeps : Keeps τ (lam M) (lam M') (labels.lam T w0) (labels.lam U w0) (SameBelow S) e0
   lam_keeps = record {
     K = KB;
@@ -175,7 +225,9 @@ module _ {τ : Translation} (M M' : Tree) (T U : Labelled) (S : Place → Level 
     out = λ p v c z k h. b_out k;
     old = λ y a a' r. b_old r;
     new = λ y a a' r. b_new r;
+    backs = record { ungo = λ z z' s n e r. b_ungo e r; uncome = λ z z' s n e r. b_uncome e r; unout = λ p v c s r m. b_unout r; source = b_source };
     redex = in_lam w.redex;
+    gone = b_gone;
     degree = w.degree;
     dead = λ c s n. (λ e. dead_go c e refl, λ e. dead_come c e refl);
     goes = b_goes;
@@ -367,6 +419,74 @@ module _ {τ : Translation} (R R' : Tree) (T U P : Labelled) (S : Place → Leve
       (w.dead c s n).1 (subst (λ z. Edge τ R s z n) (let j : s' ≡ spot_in w.redex (base true empty c) = cc in j) e)
   died_come c (in_arg e) f = absurd (cc)
 
+  -- ---- and back
+
+  q_ungo : {z z' s : Spot} {n : ℕ} → Edge τ (app R' P') z z' n → Q s z → Undone τ (app R P') Q s z'
+  q_ungo (app_root {v = v} {c = c}) (edges before_root) = record { spot = fun (at root (o v) c); rel = funs (w.start root (o v) (o v) c (keeps (o v))); weight = 1; trail = one app_root }
+  q_ungo (app_arg {v = v} {u = u} {c = c} {d = d} e) (funs {s = s} r) =
+      let k = w.backs.unout root (star v) c s r tt in
+      let q : k.level ≡ star v = is k.level (star v) k.same in
+      record { spot = arg v (at root u d); rel = args; weight = k.weight + 1; trail = tr_trans (subst (λ l. Trail (Edge τ (app R P')) (fun s) (fun (at root l c)) k.weight) q (tr_fun k.trail)) (one (app_arg e)) refl }
+  q_ungo (app_left {y = y} {a = a'} {c = c} m e) (edges (before_left {a = a} {a' = b'} e1 e2 r)) =
+      let q : b' ≡ a' = left_one P' y b' a' (sym e2 ∙ e) in
+      let r' = subst (λ b. S (wire y) a b) q r in
+      record { spot = fun (at (wire y) a c); rel = funs (w.start (wire y) a a' c r'); weight = 0; trail = one (app_left (w.old y a a' r') e1) }
+  q_ungo (app_left {y = y} {a = a} m e) (edges (before_right b1 v1 k e1 e2)) = absurd (sides_apart R' P' y a b1 v1 m k e e2)
+  q_ungo (app_right {y = y} {b = b1} {v = v} m e) (edges (before_left {a = a} {a' = a'} e1 e2 r)) = absurd (sides_apart R' P' y a' b1 v (w.new y a a' r) m e2 e)
+  q_ungo (app_right {y = y} {b = b1} {v = v} {c = c} m e) (edges {v = l} (before_right b2 v2 k e1 e2)) =
+      let q = right_one e2 e refl in
+      let e3 : IsRight τ R P' y b1 v l = subst (λ v. IsRight τ R P' y b1 v l) q.1 (subst (λ b. IsRight τ R P' y b v2 l) q.0 e1) in
+      record { spot = arg v (at (wire y) b1 c); rel = args; weight = 0; trail = one (app_right m e3) }
+  q_ungo (in_fun {s = z} {s' = z'} {w = n} e) (funs {s = s} r) =
+      let k = w.backs.ungo z z' s n e r in record { spot = fun k.spot; rel = funs k.rel; weight = k.weight; trail = tr_fun k.trail }
+  q_ungo (in_arg {v = v} {s' = z'} {w = n} e) args = record { spot = arg v z'; rel = args; weight = n; trail = one (in_arg e) }
+
+  q_uncome : {z z' s : Spot} {n : ℕ} → Edge τ (app R' P') z' z n → Q s z → Undone τ (app R P') Q s z'
+  q_uncome (app_root {v = v} {c = c}) (funs {s = s} r) =
+      let k = w.backs.unout root (o v) c s r tt in
+      let q : k.level ≡ o v = is k.level (o v) k.same in
+      record { spot = at root v c; rel = edges before_root; weight = k.weight + 1; trail = tr_trans (subst (λ l. Trail (Edge τ (app R P')) (fun s) (fun (at root l c)) k.weight) q (tr_fun k.trail)) (one_back app_root) refl }
+  q_uncome (app_arg {v = v} {c = c} e) args = record { spot = fun (at root (star v) c); rel = funs (w.start root (star v) (star v) c (keeps (star v))); weight = 1; trail = one_back (app_arg e) }
+  q_uncome (app_left {y = y} {a = a'} {c = c} m e) (funs {s = s} r) =
+      let k = w.backs.unout (wire y) a' c s r m in
+      record {
+        spot = at (wire y) (left P' y k.level) c;
+        rel = edges (before_left refl e k.same);
+        weight = k.weight + 0;
+        trail = tr_trans (tr_fun k.trail) (one_back (app_left (w.old y k.level a' k.same) refl)) refl;
+      }
+  q_uncome (app_right {y = y} {b = b1} {v = v} {c = c} m e) args =
+      let f : IsRight τ R P' y b1 v (right τ R P' y b1 v) = record { level = e.level; is = refl } in
+      record { spot = at (wire y) (right τ R P' y b1 v) c; rel = edges (before_right b1 v m f e); weight = 0; trail = one_back (app_right m f) }
+  q_uncome (in_fun {s = z'} {s' = z} {w = n} e) (funs {s = s} r) =
+      let k = w.backs.uncome z z' s n e r in record { spot = fun k.spot; rel = funs k.rel; weight = k.weight; trail = tr_fun k.trail }
+  q_uncome (in_arg {v = v} {s = z'} {w = n} e) args = record { spot = arg v z'; rel = args; weight = n; trail = one_back (in_arg e) }
+
+  q_unout : {p : Place} {v : Level} {c : Context} {s : Spot} → Q s (at p v c) → Left τ (app R P') Same p v c s
+  q_unout (edges {v = v} r) = record { level = v; same = r; weight = 0; trail = here }
+
+  q_source : (b : Bool) (q : Site) (v : Level) (d : Context) (s : Spot) → (b ≡ false → v ≡ empty) → Stands b (app R' P') q → Q s (spot_in q (base b v d)) → Source τ (app R P') Q b q v d s
+  q_source false self v d s ok (u, whole, h) r = absurd h
+  q_source true self v d s ok h (funs {s = y} r) =
+      let k = w.backs.unout root v d y r tt in
+      let e : k.level ≡ v = is k.level v k.same in
+      record {
+        site = self;
+        there = (app R P', whole, tt);
+        all = λ a c g. funs (w.start root a a c (keeps a));
+        weight = k.weight;
+        trail = subst (λ l. Trail (Edge τ (app R P')) (fun y) (fun (at root l d)) k.weight) e (tr_fun k.trail);
+      }
+  q_source b (in_function q) v d s ok (u, of_function m, h) (funs {s = y} r) =
+      let k = w.backs.source b q v d y ok (u, m, h) r in
+      record { site = in_function k.site; there = (k.there.0, of_function k.there.1, k.there.2); all = λ a e g. funs (k.all a e g); weight = k.weight; trail = tr_fun k.trail }
+  q_source b (in_argument a q) v d s ok (u, of_argument m, h) args =
+      record { site = in_argument a q; there = (u, of_argument m, h); all = λ c e g. args; weight = 0; trail = here }
+  q_source b (in_lam q) v d s ok (u, m, h) r = elim m [ ]
+
+  q_gone : (c : Context) (z : Spot) → Q (fun (spot_in w.redex (base true empty c))) z → ⊥
+  q_gone c z (funs {z = z1} r) = w.gone c z1 r
+
   pub app_keeps : Keeps τ (app R P') (app R' P') Tq Uq Same e0
   app_keeps = record {
     K = KQ;
@@ -377,7 +497,9 @@ module _ {τ : Translation} (R R' : Tree) (T U P : Labelled) (S : Place → Leve
     out = λ p v c z k h. q_out k;
     old = λ y a a' r. q_old r;
     new = λ y a a' r. q_new r;
+    backs = record { ungo = λ z z' s n e r. q_ungo e r; uncome = λ z z' s n e r. q_uncome e r; unout = λ p v c s r m. q_unout r; source = q_source };
     redex = in_function w.redex;
+    gone = q_gone;
     degree = w.degree;
     dead = λ c s n. (λ e. died_go c e refl, λ e. died_come c e refl);
     goes = q_goes;

@@ -19,7 +19,15 @@ use Rattle.ol_families.specs.Readings.{label_of, reading, function_label, Acting
 use Rattle.ol_families.proofs.Motions.{Motion, still, then_by, Walks, stay, and_on, turned_still, moved_append, moved_there, signs_joined}
 use Rattle.ol_families.proofs.Gaps.{hole, at_top, gap, cut_gap, put_label, sub, top_is, label_before, reading_before}
 use Rattle.ol_families.proofs.Reading.{own_hole, m_there, m_back, copy_there, copy_back, joint_there, held_copy, copy_out}
-use Rattle.ol_families.proofs.Keeping.{Related, Follows, Leaves, placed, Goes, Comes, Keeps}
+use Rattle.ol_families.proofs.Whence.{Whence, whence}
+use Rattle.ol_meaning.proofs.Back.{back_on, back_off, held_root, held_wire, Tagged, tag_m, tag_n}
+use Rattle.ol_meaning.proofs.Redexes.{closes, closes_back, To, deep_m, deep_n}
+use Rattle.ol_meaning.proofs.Ways.{Has}
+use Rattle.ol_meaning.proofs.Addresses.{gone}
+use Rattle.std.proofs.Common.{zero}
+use Rattle.ol_meaning.specs.Spots.{left, right, IsRight, CutEdge, Trail, here, on, back, in_fun}
+use Rattle.ol_spots_net.proofs.Trails.{tr_trans, one_back}
+use Rattle.ol_families.proofs.Keeping.{Undone, Left, Source, Backs, Related, Follows, Leaves, placed, Goes, Comes, Keeps}
 use Rattle.ol_families.proofs.Likes.{like_substituted, function_before, walks_like}
 
 module _ (τ : Translation) (M N : Labelled) (v w : Label) where
@@ -430,6 +438,105 @@ module _ (τ : Translation) (M N : Labelled) (v w : Label) where
   dead_back : (c : Context) (s : Spot) (n : ℕ) → Edge τ old s (fun (at root empty c)) n → ⊥
   dead_back c s n (in_fun e) = dead_lam_back c _ n e
 
+  -- ---- and back
+
+  closes_trail : {c c' : Cut} {n : ℕ} → Trail (CutEdge τ (erased N) (erased M) 0) c c' n → {s : Spot} → Opens τ (erased N) (erased M) s c → To τ (erased N) (erased M) c' s
+  closes_trail here {s} r = record { spot = s; rel = r; weight = 0; trail = here }
+  closes_trail (on e t q) {s} r =
+      let a = closes τ (erased N) (erased M) e r in
+      let k = closes_trail t a.rel in
+      record { spot = k.spot; rel = k.rel; weight = a.weight + k.weight; trail = tr_trans a.trail k.trail refl }
+  closes_trail (back e t q) {s} r =
+      let a = closes_back τ (erased N) (erased M) e r in
+      let k = closes_trail t a.rel in
+      record { spot = k.spot; rel = k.rel; weight = a.weight + k.weight; trail = tr_trans a.trail k.trail refl }
+
+  abbrev Th : Spot → Spot → Type 0
+  Th = Through τ (erased M) (erased N)
+
+  redex_ungo : (z z' s : Spot) (n : ℕ) → Edge τ t' z z' n → Th s z → Undone τ old Th s z'
+  redex_ungo z z' s n e r =
+      let a = back_on (erased M) e r.held in
+      let k = closes_trail a.trail r.opens in
+      record { spot = k.spot; rel = record { cut = a.cut; opens = k.rel; held = a.held }; weight = k.weight; trail = k.trail }
+
+  redex_uncome : (z z' s : Spot) (n : ℕ) → Edge τ t' z' z n → Th s z → Undone τ old Th s z'
+  redex_uncome z z' s n e r =
+      let a = back_off (erased M) e r.held in
+      let k = closes_trail a.trail r.opens in
+      record { spot = k.spot; rel = record { cut = a.cut; opens = k.rel; held = a.held }; weight = k.weight; trail = k.trail }
+
+  zero_from : (x y : Wire) → wire_without 0 x ≡ Some y → x ≡ under y
+  zero_from (bound zero) y e = absurd (cc)
+  zero_from (bound (suc x)) y e = let k : bound x ≡ y = cc in ap under k
+  zero_from (name f) y e = let k : name f ≡ y = cc in ap under k
+
+  redex_unout : (p : Place) (a : Level) (c : Context) (s : Spot) → Th s (at p a c) → Has p t' → Left τ old (SameRedex τ (erased M) (erased N)) p a c s
+  redex_unout root a c s r m =
+      let k = closes_trail (held_root r.held) r.opens in
+      let d = deep_m τ (erased N) (erased M) k.rel in
+      record { level = a; same = redex_root; weight = _; trail = tr_trans (tr_trans k.trail d.trail refl) (tr_trans (one_back (in_fun lam_root)) (one_back app_root) refl) refl }
+  redex_unout (wire y) a c s r m = let t = held_wire r.held m in by_tag t.cut t.tagged t.trail
+    where
+      by_tag : (b : Cut) → Tagged τ (erased N) (erased M) 0 y a c b → Trail (CutEdge τ (erased N) (erased M) 0) r.cut b 0 → Left τ old (SameRedex τ (erased M) (erased N)) (wire y) a c s
+      by_tag b (tag_m {y = x} {a = e} i) t =
+          let q = zero_from x y (gone i) in
+          let i2 = subst (λ x. WireOf τ (erased N) (erased M) 0 (ofM x e) y a) q i in
+          let k = closes_trail t r.opens in
+          let d = deep_m τ (erased N) (erased M) k.rel in
+          let h = occurs_old i in
+          record {
+            level = left (erased N) y e;
+            same = redex_m refl i2;
+            weight = _;
+            trail = tr_trans (tr_trans k.trail d.trail refl) (tr_trans (one_back (in_fun (lam_wire q h))) (one_back (app_left (occurs_old i2) refl)) refl) refl;
+          }
+      by_tag b (tag_n {w = e} {b = l} {x = x} i) t =
+          let q : y ≡ x = (n_there i).1 ∙ sym (lifted_zero x) in
+          let i2 = subst (λ x. WireOf τ (erased N) (erased M) 0 (ofN e x l) y a) (sym q) i in
+          let k = closes_trail t r.opens in
+          let deep = deep_n τ (erased N) (erased M) k.rel in
+          let d = deep.0 in
+          let f : IsRight τ (lam (erased M)) (erased N) y l e (right τ (lam (erased M)) (erased N) y l e) = record { level = deep.2; is = refl } in
+          let u : Trail (Edge τ old) k.spot (arg e (at (wire y) l c)) d.weight = subst (λ x. Trail (Edge τ old) k.spot (arg e (at (wire x) l c)) d.weight) (sym q) d.trail in
+          record {
+            level = right τ (lam (erased M)) (erased N) y l e;
+            same = redex_n f i2;
+            weight = _;
+            trail = tr_trans (tr_trans k.trail u refl) (one_back (app_right (n_there i2).0 f)) refl;
+          }
+
+  redex_source : (b : Bool) (q : Site) (a : Level) (d : Context) (s : Spot) → (b ≡ false → a ≡ empty) → Stands b t' q → Th s (spot_in q (base b a d)) → Source τ old Th b q a d s
+  redex_source b q a d s ok h r = of (whence τ (erased N) (erased M) 0 b r.cut q a d r.held h)
+    where
+      of : Whence τ (erased N) (erased M) 0 b r.cut q a d → Source τ old Th b q a d s
+      of (inl f) =
+          let k = closes_trail f.trail r.opens in
+          let e = deep_m τ (erased N) (erased M) k.rel in
+          record {
+            site = in_function (in_lam f.site);
+            there = (f.there.0, of_function (of_lam f.there.1), f.there.2);
+            all = λ w c g. record { cut = inM (spot_in f.site (base b w c)); opens = in_m; held = f.all w c };
+            weight = k.weight + e.weight;
+            trail = tr_trans k.trail e.trail refl;
+          }
+      of (inr f) =
+          let k = closes_trail f.trail r.opens in
+          let e = deep_n τ (erased N) (erased M) k.rel in
+          record {
+            site = in_argument f.level f.site;
+            there = (f.there.0, of_argument f.there.1, f.there.2);
+            all = λ w c g. record { cut = inN f.level (spot_in f.site (base b w c)); opens = in_n e.1 (fits τ (erased N) b f.site w c); held = f.all w c };
+            weight = k.weight + e.0.weight;
+            trail = tr_trans k.trail e.0.trail refl;
+          }
+
+  redex_gone : (c : Context) (z : Spot) → Th (fun (at root empty c)) z → ⊥
+  redex_gone c z r = by r.cut r.opens
+    where
+      by : (k : Cut) → Opens τ (erased N) (erased M) (fun (at root empty c)) k → ⊥
+      by k op = elim op [ ]
+
   pub redex_keeps : Keeps τ old t' Tr U (SameRedex τ (erased M) (erased N)) v
   redex_keeps = record {
     K = K;
@@ -440,7 +547,9 @@ module _ (τ : Translation) (M N : Labelled) (v w : Label) where
     out = λ p a c z k h. leaves p a c z k.cut k.opens k.held;
     old = λ y a a' r. old_wire y a a' r;
     new = λ y a a' r. new_wire y a a' r;
+    backs = record { ungo = redex_ungo; uncome = redex_uncome; unout = redex_unout; source = redex_source };
     redex = self;
+    gone = redex_gone;
     degree = refl;
     dead = λ c s n. (dead c s n, dead_back c s n);
     goes = goes;

@@ -423,8 +423,12 @@ module _ (τ : Translation) (t : Tree) (T : Labelled) (s0 : Spot) (end : Ends τ
       let q = one_run τ t T c.2 d.2 (λ h. refl) h k in
       a.alike r x ∙ sym (moved_append r a.word [] x) ∙ ap (λ s. moved r s x) (sym c.1 ∙ q ∙ d.1) ∙ moved_append r b.word [] x ∙ sym (b.alike r x)
 
-pub site_has_one_word : SiteHasOneWord
-site_has_one_word τ T p m n r x =
-    let w = one_word τ (erased T) T (function_at p empty blank) (ends_function p blank m.is) m.trail n.trail (ends_abstraction m.other blank m.is_other) (ends_abstraction n.other blank n.is_other) in
+pub tree_word : (τ : Translation) (t : Tree) (T : Labelled) (p : Site) (m n : IsMatched τ t p) →
+    AreAlike (signs_of (function_label T p) ++ word_along T m.trail) (signs_of (function_label T p) ++ word_along T n.trail)
+tree_word τ t T p m n r x =
+    let w = one_word τ t T (function_at p empty blank) (ends_function p blank m.is) m.trail n.trail (ends_abstraction m.other blank m.is_other) (ends_abstraction n.other blank n.is_other) in
     let l = signs_of (function_label T p) in
     moved_append r l (word_along T m.trail) x ∙ w r (moved r l x) ∙ sym (moved_append r l (word_along T n.trail) x)
+
+pub site_has_one_word : SiteHasOneWord
+site_has_one_word τ T p m n = tree_word τ (erased T) T p m n

@@ -165,6 +165,12 @@ WordsAreDegrees = (τ : Translation) (T V : Labelled) (ds : List Label) → Head
     (p : Site) (m : IsMet τ (erased T) p) →
     (d : Label) × IsIn d ds × AreAlike (word_of T p m.matched) (signs_of d)
 
+-- And each degree that head steps contract is the word of such a redex of the first term.
+abbrev pub DegreesAreWords : Type 0
+DegreesAreWords = (τ : Translation) (T V : Labelled) (ds : List Label) → HeadReduces T ds V →
+    (d : Label) → IsIn d ds →
+    (p : Site) × (m : IsMet τ (erased T) p) × AreAlike (word_of T p m.matched) (signs_of d)
+
 -- So it is with leftmost reduction to a normal form: the word of each redex that the root's walks
 -- meet is alike to one of the degrees that it contracts.
 abbrev pub WordsAreLeftmostDegrees : Type 0

@@ -6,6 +6,7 @@
 ghost use Rattle.ol_families.specs.Readings.{HeadStepsKeepWords, WordsAreDegrees};
 ghost use Rattle.ol_families.specs.Readings.{DegreesAreMet, HeadIsLeftmost, SiteHasOneWord};
 ghost use Rattle.ol_families.specs.Readings.{NoMoreThanFamilies, NoMoreThanLeftmostFamilies};
+ghost use Rattle.ol_families.specs.Readings.{DegreesAreWords};
 ghost use Rattle.ol_families.specs.Readings.{WordsAreLeftmostDegrees};
 ghost use Rattle.ol_families.specs.Signs.{WordsAreSigned};
 ghost use Rattle.ol_families.specs.Words.{WordsTellRoutes, WordIsOne, BetasHaveTheirWords};
@@ -58,4 +59,12 @@ pub fn no_more_than_families()
     ensures head { NoMoreThanFamilies }
     ensures words { WordsAreLeftmostDegrees }
     ensures leftmost { NoMoreThanLeftmostFamilies }
+{}
+
+/// Each degree of a redex that labelled head steps contract is the word of a redex, there or to
+/// come, that walks from the root of the first term meet, where neighbours that cancel are left
+/// out. So, where head reduction ends, the words of the redexes that these walks meet are just the
+/// degrees.
+pub fn degrees_are_words()
+    ensures { DegreesAreWords }
 {}
