@@ -15,7 +15,7 @@ use Rattle.ol_families.specs.Readings.{label_of, reading, from_lam, from_app, fr
 use Rattle.ol_spots_net.proofs.Trails.{tr_trans, one, one_back, tr_body, tr_fun}
 use Rattle.ol_meaning.specs.Spots.{Trail, here}
 use Rattle.std.proofs.Common.{Bool, ◌+◌}
-use Rattle.ol_families.proofs.Keeping.{Undone, Left, Source, Backs, Related, Follows, Leaves, placed, Goes, Comes, Keeps}
+use Rattle.ol_families.proofs.Keeping.{Undone, Left, Source, Related, Follows, Leaves, placed, Goes, Comes, Keeps}
 use Rattle.ol_families.proofs.Motions.{Motion, by, still, then_by, Walks, stay, along_edge, back_edge, and_on, in_the_body, in_the_fun, moved_append, moved_back, moved_there, reversed_append, reversed_twice}
 
 -- out of a part's root: its label is read backwards

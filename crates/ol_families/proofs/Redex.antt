@@ -27,7 +27,7 @@ use Rattle.ol_meaning.proofs.Addresses.{gone}
 use Rattle.std.proofs.Common.{zero}
 use Rattle.ol_meaning.specs.Spots.{left, right, IsRight, CutEdge, Trail, here, on, back, in_fun}
 use Rattle.ol_spots_net.proofs.Trails.{tr_trans, one_back}
-use Rattle.ol_families.proofs.Keeping.{Undone, Left, Source, Backs, Related, Follows, Leaves, placed, Goes, Comes, Keeps}
+use Rattle.ol_families.proofs.Keeping.{Undone, Left, Source, Related, Follows, Leaves, placed, Goes, Comes, Keeps}
 use Rattle.ol_families.proofs.Likes.{like_substituted, function_before, walks_like}
 
 module _ (τ : Translation) (M N : Labelled) (v w : Label) where

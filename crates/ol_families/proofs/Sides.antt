@@ -1,16 +1,16 @@
 -- Each spot has two sides, and on each one neighbour at most: so trails between ends read one word.
-use Rattle.std.proofs.Common.{◌≡◌, ℕ, zero, suc, Bool, true, false, not, [], ◌∷◌, ◌++◌, ◌⊎◌, inl, inr, refl, sym, ap, ◌∙◌, subst, arith}
+use Rattle.std.proofs.Common.{◌≡◌, ℕ, suc, Bool, true, false, not, [], ◌++◌, ◌⊎◌, inl, inr, refl, sym, ap, ◌∙◌, subst, arith}
 use Rattle.std.proofs.lemmas.List.{append_assoc}
 use Rattle.ol_context.proofs.Contexts.{head_eq, tail_eq}
 use Rattle.ol_frugal.specs.Met.{IsMatched, blank}
-use Rattle.ol_frugal.proofs.Sites.{base, no_wire, no_root}
-use Rattle.ol_meaning.specs.Spots.{Tree, var, free, lam, app, Level, empty, o, star, Context, cons, Wire, bound, name, under, left, Place, root, wire, Spot, at, body, fun, arg, Edge, var_wire, free_wire, lam_root, lam_own, lam_wire, app_root, app_arg, app_left, app_right, in_body, in_fun, in_arg, Trail, here, on, back}
+use Rattle.ol_frugal.proofs.Sites.{no_wire, no_root}
+use Rattle.ol_meaning.specs.Spots.{Tree, lam, app, Level, empty, o, star, Context, cons, Wire, bound, name, under, Place, root, wire, Spot, at, body, fun, arg, Edge, var_wire, free_wire, lam_root, lam_own, lam_wire, app_root, app_arg, app_left, app_right, in_body, in_fun, in_arg, Trail, here, on, back}
 use Rattle.ol_meaning.proofs.Addresses.{left_one, right_one, sides_apart}
 use Rattle.ol_optimal.specs.Labels.{Labelled, erased}
-use Rattle.ol_spots_net.specs.Sites.{Site, self, in_lam, in_function, in_argument, spot_in, PartAt, whole, of_lam, of_function, of_argument, function_at, abstraction_at}
+use Rattle.ol_spots_net.specs.Sites.{Site, self, in_lam, in_function, in_argument, PartAt, whole, of_lam, of_function, of_argument, function_at, abstraction_at}
 use Rattle.ol_term.specs.declared.translations.Translation.{Translation}
 use Rattle.ol_families.specs.Signs.{Signs, signs_of, reversed}
-use Rattle.ol_families.specs.Readings.{reading, word_along, word_of, function_label, Acting, moved, AreAlike, SiteHasOneWord}
+use Rattle.ol_families.specs.Readings.{reading, word_along, function_label, moved, AreAlike, SiteHasOneWord}
 use Rattle.ol_families.proofs.Motions.{moved_append, moved_back, moved_there}
 
 -- the sides on which an edge is, of its outer spot and of its inner one: a part's interface has the part inside

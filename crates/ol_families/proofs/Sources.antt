@@ -1,21 +1,20 @@
 -- Each redex that the root's walks meet after a labelled head step comes from one before it, with an alike word.
-use Rattle.std.proofs.Common.{◌≡◌, ℕ, suc, ◌+◌, ◌≤◌, ◌<◌, true, false, ◌++◌, ◌⊎◌, inl, inr, List, [], ◌∷◌, refl, sym, ap, ◌∙◌, subst, arith}
-use Rattle.ol_edges.specs.Edges.{IsIn}
+use Rattle.std.proofs.Common.{◌≡◌, ◌+◌, ◌≤◌, true, false, ◌++◌, ◌⊎◌, inl, inr, refl, sym, ap, ◌∙◌, subst, arith}
 use Rattle.ol_frugal.specs.Met.{IsMatched, IsMet, blank}
 use Rattle.ol_frugal.proofs.Meeting.{app_is, lam_is, too_few}
 use Rattle.ol_frugal.proofs.Sites.{base, one_site}
 use Rattle.ol_meaning.specs.Heads.{os, outer}
-use Rattle.ol_meaning.specs.Spots.{Tree, lam, app, Level, empty, Context, root, Spot, at, HeadStep, beta, below, before}
+use Rattle.ol_meaning.specs.Spots.{Tree, lam, app, empty, root, at, HeadStep, beta, below, before}
 use Rattle.ol_meaning.specs.Steps.{Same}
 use Rattle.ol_meaning.proofs.Walking.{passing, least_or, root_stays}
 use Rattle.ol_optimal.specs.Labels.{Label, Labelled, erased}
-use Rattle.ol_spots_net.specs.Sites.{Site, spot_in, PartAt, function_at, abstraction_at}
+use Rattle.ol_spots_net.specs.Sites.{Site, spot_in, PartAt, function_at}
 use Rattle.ol_spots_net.proofs.Trails.{tr_trans}
 use Rattle.ol_term.specs.declared.translations.Translation.{Translation}
 use Rattle.ol_families.specs.Signs.{Signs, signs_of}
-use Rattle.ol_families.specs.Readings.{word_along, word_of, function_label, moved, AreAlike, HeadReduces, ready, contract, DegreesAreWords}
+use Rattle.ol_families.specs.Readings.{word_along, word_of, function_label, moved, AreAlike, ready, contract, DegreesAreWords}
 use Rattle.ol_families.proofs.HeadWords.{Step, step_of, matched_goes}
-use Rattle.ol_families.proofs.Keeping.{Goes, Keeps, undo}
+use Rattle.ol_families.proofs.Keeping.{Goes, undo}
 use Rattle.ol_families.proofs.Leading.{degrees_are_met}
 use Rattle.ol_families.proofs.Sides.{tree_word}
 

@@ -1,14 +1,12 @@
 -- Where an application or an abstraction of M[N] comes from, in the cut.
-use Rattle.std.proofs.Common.{◌≡◌, ℕ, zero, suc, ◌+◌, true, false, Option, Some, None, refl, sym, ap, ◌∙◌, subst, arith}
-use Rattle.std.proofs.lemmas.Bool.{or_left, or_right, eqb-true}
-use Rattle.ol_meaning.specs.Spots.{Tree, var, free, lam, app, Level, empty, o, star, Context, Wire, bound, name, under, root, wire, Spot, at, body, fun, arg, Edge, var_wire, free_wire, lam_root, lam_own, lam_wire, app_root, app_arg, app_left, app_right, in_body, in_fun, in_arg, Trail, here, occurs, left, right, lift, up_from, lifted_wire, lifted, without, suc_of, wire_without, wire_of, put, subst_for, Cut, inM, inN, CutEdge, of_m, of_n, joint, ofM, ofN, WireOf, same, other, named, own, lam_m, lam_n, fun_m, arg_m, fun_n, arg_n, Held, at_root, wire_m, wire_n, x_spot, x_wire, p_body, p_fun, p_arg, n_body, n_fun, n_arg, i_body, i_fun, i_arg, IsRight, IsLevelOf, IsSpotOf, on, back}
-use Rattle.ol_meaning.proofs.Lifts.{same_is, occurs_lifted, lift_finds}
+use Rattle.std.proofs.Common.{◌≡◌, ℕ, suc, ◌+◌, true, false, Option, Some, None, refl, sym, ap, ◌∙◌, subst, arith}
+use Rattle.std.proofs.lemmas.Bool.{or_left, or_right}
+use Rattle.ol_meaning.specs.Spots.{Tree, var, free, lam, app, Level, empty, Context, bound, under, root, wire, Spot, at, body, fun, arg, var_wire, lam_wire, app_left, app_right, in_body, in_fun, in_arg, Trail, here, occurs, left, right, lift, lifted_wire, lifted, without, wire_without, put, subst_for, Cut, inM, inN, CutEdge, of_m, of_n, joint, own, Held, at_root, wire_m, wire_n, x_spot, x_wire, p_body, p_fun, p_arg, n_body, n_fun, n_arg, i_body, i_fun, i_arg, IsLevelOf, IsSpotOf, on, back}
+use Rattle.ol_meaning.proofs.Lifts.{same_is}
 use Rattle.ol_spots_net.proofs.Trails.{tr_trans, tr_map, one, one_back, tr_sym}
-use Rattle.ol_meaning.proofs.Addresses.{gone, without_is, without_own, left_one, right_one, sides_apart, occurs_new, occurs_old, own_occurs, occurs_same, occurs_more, in_body_of, own_same, zero_lifted, address_same, left_same, own_gone, bare_same, level_own, level_old, lam_level, app_level, var_level, free_level, spot_from, spot_to}
+use Rattle.ol_meaning.proofs.Addresses.{gone, without_is, own_gone, level_own, lam_level, app_level, spot_from, spot_to}
 use Rattle.ol_meaning.proofs.There.{own_wire_occurs}
-use Rattle.ol_spots_net.proofs.Bare.{right_like}
 use Rattle.ol_term.specs.declared.translations.Translation.{Translation}
-
 use Rattle.ol_meaning.proofs.Back.{held_root, not_own}
 use Rattle.ol_frugal.proofs.Sites.{base, Is, Stands, lifted_spot}
 use Rattle.ol_spots_net.specs.Sites.{Site, self, in_lam, in_function, in_argument, spot_in, PartAt, whole, of_lam, of_function, of_argument}
@@ -125,7 +123,6 @@ module _ {τ : Translation} where
   of_arg {N} {M1} {M2} {i} {v} (n_arg {u = u} {s = s} h e) = record { cut = inN u s; held = h; trail = subst (λ w. Trail (CutEdge τ N (app M1 M2) i) (inN w s) (inN (right τ M1 M2 (bound i) u v) s) 0) (sym e.is) here }
   of_arg (i_arg {x = x} {u = u} {c = c} p h e) = record { cut = inM (at (wire x) u c); held = h; trail = one (of_m (app_right (own_wire_occurs h p) e)) }
 
-
 record Copied (τ : Translation) (N : Tree) (i y : ℕ) (c : Cut) (z : Spot) : Type 0 where
   spot : Spot
   is : z ≡ lifted 0 i spot
@@ -150,7 +147,6 @@ module _ {τ : Translation} where
   arg_trail v here h = here
   arg_trail v (on {s = c} {s' = c'} {w = n} e t q) h = tr_trans (arg_edge v c c' n e h) (arg_trail v t (fine_on e h)) q
   arg_trail v (back {s = c} {s' = c'} {w = n} e t q) h = tr_trans (tr_sym (arg_edge v c' c n e (fine_off e h))) (arg_trail v t (fine_off e h)) q
-
 
 -- ---- lifted parts
 
@@ -285,12 +281,12 @@ module _ (τ : Translation) (N : Tree) where
       elim (whence M2 i b p.cut q v d p.held (u, m, s)) [
         | inl r ↦ inl (record { site = in_argument a r.site; there = (r.there.0, of_argument r.there.1, r.there.2); weight = 0 + r.weight; trail = tr_trans p.trail (arg_trail a r.trail (held_fine p.held)) refl; all = λ w e. p_arg (r.all w e) })
         | inr r ↦ inr (record {
-            level = right τ M1 M2 (bound i) r.level a;
-            site = r.site;
-            there = r.there;
-            weight = 0 + r.weight;
-            trail = tr_trans p.trail (arg_trail a r.trail (held_fine p.held)) refl;
-            all = λ w e. n_arg (r.all w e) (record { level = held_fine (r.all w e); is = refl });
-          })
+          level = right τ M1 M2 (bound i) r.level a;
+          site = r.site;
+          there = r.there;
+          weight = 0 + r.weight;
+          trail = tr_trans p.trail (arg_trail a r.trail (held_fine p.held)) refl;
+          all = λ w e. n_arg (r.all w e) (record { level = held_fine (r.all w e); is = refl });
+        })
       ]
   whence (app M1 M2) i b c (in_lam q) v d h (u, m, s) = elim m [ ]
