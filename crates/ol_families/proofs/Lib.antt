@@ -2,3 +2,17 @@ pub mod Rows
 pub mod Telling
 pub mod Balance
 pub mod Signing
+pub mod Motions
+pub mod Gaps
+pub mod Reading
+pub mod Likes
+pub mod Keeping
+pub mod Redex
+pub mod Nested
+pub mod HeadWords
+pub mod Leading
+pub mod Sides
+pub mod Families
+pub mod Leftwards
+pub mod Whence
+pub mod Sources

@@ -1,3 +1,4 @@
 -- What clauses of public functions rest on.
 pub mod Words
 pub mod Signs
+pub mod Readings

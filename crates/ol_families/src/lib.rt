@@ -3,6 +3,11 @@
 //! Each function here is a law: it has no code.
 #![tactic(auto)]
 
+ghost use Rattle.ol_families.specs.Readings.{HeadStepsKeepWords, WordsAreDegrees};
+ghost use Rattle.ol_families.specs.Readings.{DegreesAreMet, HeadIsLeftmost, SiteHasOneWord};
+ghost use Rattle.ol_families.specs.Readings.{NoMoreThanFamilies, NoMoreThanLeftmostFamilies};
+ghost use Rattle.ol_families.specs.Readings.{DegreesAreWords};
+ghost use Rattle.ol_families.specs.Readings.{WordsAreLeftmostDegrees};
 ghost use Rattle.ol_families.specs.Signs.{WordsAreSigned};
 ghost use Rattle.ol_families.specs.Words.{WordsTellRoutes, WordIsOne, BetasHaveTheirWords};
 
@@ -25,4 +30,41 @@ pub fn betas_have_their_words()
 /// and where overlined and underlined words begin and end.
 pub fn words_are_signed<A>()
     ensures { WordsAreSigned A }
+{}
+
+/// A labelled head step keeps the words of redexes that walks from the root meet, those that are
+/// there and those that come later, where neighbours that cancel are left out: what is read on the
+/// way from an application to its abstraction. So each of these words is the degree of a redex that
+/// head reduction contracts, where it ends. The redex of each head step is met, with its degree as
+/// word; and a labelled head step is the leftmost labelled step.
+pub fn head_steps_keep_words()
+    ensures kept { HeadStepsKeepWords }
+    ensures degrees { WordsAreDegrees }
+    ensures met { DegreesAreMet }
+    ensures leftmost { HeadIsLeftmost }
+{}
+
+/// An application of a labelled term that has a redex, now or after some steps, has one word, where
+/// neighbours that cancel are left out.
+pub fn site_has_one_word()
+    ensures { SiteHasOneWord }
+{}
+
+/// Where labelled head steps lead to a head normal form, the redexes with different words that
+/// walks from the root of the first term meet, those that come later too, are at most as many as
+/// the families that head reduction contracts: as the different degrees among those of its steps.
+/// So it is with leftmost reduction to a normal form: each of their words is the degree of one of
+/// its steps, where neighbours that cancel are left out.
+pub fn no_more_than_families()
+    ensures head { NoMoreThanFamilies }
+    ensures words { WordsAreLeftmostDegrees }
+    ensures leftmost { NoMoreThanLeftmostFamilies }
+{}
+
+/// Each degree of a redex that labelled head steps contract is the word of a redex, there or to
+/// come, that walks from the root of the first term meet, where neighbours that cancel are left
+/// out. So, where head reduction ends, the words of the redexes that these walks meet are just the
+/// degrees.
+pub fn degrees_are_words()
+    ensures { DegreesAreWords }
 {}
