@@ -1,4 +1,4 @@
-"""Proves the crates below `ol` side by side, each once those that it stands on are proved, and then builds the program. See ../prove."""
+"""Proves the crates below a program side by side, each once those that it stands on are proved, and then builds it. See ../prove."""
 import os
 import re
 import shutil
@@ -10,6 +10,8 @@ import time
 TOP = os.path.dirname(os.path.dirname(os.path.abspath(__file__)))
 LOGIC = 'dac8208d650f15bf'  # the program logic that the proofs were last checked with
 ROOM = 10  # GB of disk that all proofs take
+# Each program: its crate, the one below it that stands on all others, and the script that runs it.
+PROGRAMS = {'ol': ('ol', 'ol_cli', './ol'), 'ol-bench': ('ol_bench_program', 'ol_bench', './ol-bench')}
 
 
 def tell(text):
@@ -54,10 +56,13 @@ def clock(start):
 
 
 def prove_below(top, lanes, count, start):
-    """Has `rt all check` prove the crates below this one, and tells each when its proof ends. It is stopped once they are proved: what is
+    """Has `rt all` prove the crates below this one, and tells each when its proof ends. It is stopped once they are proved: what is
     left stands on all of them, and gets more processors from a command of its own."""
     left, ended = crates_below(top), 0
-    words = ['rt', 'all', 'check', '--jobs', str(lanes)]
+    # `check` keeps what is proved already; but it first reads all sources of each program on one processor, which takes some minutes
+    # where nothing is proved yet
+    begun = any(os.path.isdir(f'{TOP}/crates/{it}/out/rlib') for it in left)
+    words = ['rt', 'all', 'check' if begun else 'verdict', '--jobs', str(lanes)]
     running = subprocess.Popen(words, cwd=TOP, stdin=subprocess.DEVNULL, stdout=subprocess.PIPE, stderr=subprocess.STDOUT, text=True,
                                errors='replace', start_new_session=True)
     said = []
@@ -79,28 +84,30 @@ def prove_below(top, lanes, count, start):
         stop("not every crate is proved: above is what `rt` printed last; `rt check` in a crate's folder says more.")
 
 
-def build():
-    """Builds the program over what is proved. Without words it prints its usage line, with status 1."""
-    ran = subprocess.run(['rt', 'run'], cwd=TOP + '/crates/ol', stdin=subprocess.DEVNULL, stdout=subprocess.PIPE, stderr=subprocess.STDOUT,
-                         text=True, errors='replace')
-    if ran.returncode != 0 and not (ran.returncode == 1 and 'usage: ol ' in ran.stdout):
+def build(crate):
+    """Builds the program over what is proved. Without words it prints how it is used, and fails."""
+    ran = subprocess.run(['rt', 'run'], cwd=f'{TOP}/crates/{crate}', stdin=subprocess.DEVNULL, stdout=subprocess.PIPE,
+                         stderr=subprocess.STDOUT, text=True, errors='replace')
+    if ran.returncode != 0 and not re.search(r'(?im)^usage: ', ran.stdout):
         print(ran.stdout)
         stop('the program is not built: above is what `rt` printed.')
 
 
 def main():
+    words = sys.argv[1:]
+    crate, last, script = PROGRAMS[words.pop(0) if words and words[0] in PROGRAMS else 'ol']
     processors = len(os.sched_getaffinity(0))
     # a lane whose crate waits for those below it uses no processor, so there are two more
-    lanes = int(sys.argv[1]) if sys.argv[1:] and sys.argv[1].isdigit() else processors + 2
+    lanes = int(words[0]) if words and words[0].isdigit() else processors + 2
     check_the_machine()
-    count, start = len(crates_below('ol')) + 1, time.time()
+    count, start = len(crates_below(crate)) + 1, time.time()
     tell(f'{count} crates, at most {lanes} at a time; the last two by all processors together.')
-    prove_below('ol_cli', lanes, count, start)
-    build()
-    program = TOP + '/crates/ol/out/ol'
+    prove_below(last, lanes, count, start)
+    build(crate)
+    program = f'{TOP}/crates/{crate}/out/{crate}'
     os.utime(program)
-    tell(f'{count:2} of {count} {clock(start)}  ol')
-    tell(f'proved and built: {os.path.relpath(program)}. ./ol runs it from now on.')
+    tell(f'{count:2} of {count} {clock(start)}  {crate}')
+    tell(f'proved and built: {os.path.relpath(program)}. {script} runs it from now on.')
 
 
 if __name__ == '__main__':
