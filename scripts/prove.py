@@ -59,10 +59,7 @@ def prove_below(top, lanes, count, start):
     """Has `rt all` prove the crates below this one, and tells each when its proof ends. It is stopped once they are proved: what is
     left stands on all of them, and gets more processors from a command of its own."""
     left, ended = crates_below(top), 0
-    # `check` keeps what is proved already; but it first reads all sources of each program on one processor, which takes some minutes
-    # where nothing is proved yet
-    begun = any(os.path.isdir(f'{TOP}/crates/{it}/out/rlib') for it in left)
-    words = ['rt', 'all', 'check' if begun else 'verdict', '--jobs', str(lanes)]
+    words = [sys.executable, TOP + '/scripts/all_check.py', shutil.which('rt'), str(lanes), *left, top]
     running = subprocess.Popen(words, cwd=TOP, stdin=subprocess.DEVNULL, stdout=subprocess.PIPE, stderr=subprocess.STDOUT, text=True,
                                errors='replace', start_new_session=True)
     said = []
