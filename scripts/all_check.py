@@ -9,13 +9,9 @@ import runpy
 import sys
 
 path, jobs, names = os.path.realpath(sys.argv[1]), sys.argv[2], sys.argv[3:]
-sys.path.insert(0, os.path.dirname(path))
-try:
-    import rtlib
-    found = rtlib.crates_below
-    rtlib.Crate.front_end = lambda self: 0
-    rtlib.crates_below = lambda *words: [it for it in found(*words) if it.name in names]
-except (ImportError, AttributeError):
-    pass  # another kit: `rt` does it all
-sys.argv = [path, 'all', 'check', '--jobs', jobs]
-runpy.run_path(path, run_name='__main__')
+rt = runpy.run_path(path, run_name='rt')
+rtlib = rt['rtlib']
+found = rtlib.crates_below
+rtlib.Crate.front_end = lambda self: 0
+rtlib.crates_below = lambda *words: [it for it in found(*words) if it.name in names]
+sys.exit(rt['main'](['all', 'check', '--jobs', jobs]))
