@@ -76,7 +76,8 @@ def prove_below(top, lanes, count, start):
                 os.killpg(running.pid, signal.SIGTERM)
                 break
     running.stdout.close()
-    if running.wait() > 0:
+    running.wait()
+    if left:
         print(''.join(said), end='')
         stop("not every crate is proved: above is what `rt` printed last; `rt check` in a crate's folder says more.")
 
@@ -94,8 +95,7 @@ def main():
     words = sys.argv[1:]
     crate, last, script = PROGRAMS[words.pop(0) if words and words[0] in PROGRAMS else 'ol']
     processors = len(os.sched_getaffinity(0))
-    # a lane whose crate waits for those below it uses no processor, so there are two more
-    lanes = int(words[0]) if words and words[0].isdigit() else processors + 2
+    lanes = int(words[0]) if words and words[0].isdigit() else processors
     check_the_machine()
     count, start = len(crates_below(crate)) + 1, time.time()
     tell(f'{count} crates, at most {lanes} at a time; the last two by all processors together.')
