@@ -6,7 +6,7 @@ use Rattle.ol_frugal.specs.Met.{IsMet}
 use Rattle.ol_frugal.proofs.Lanes.{none_met}
 use Rattle.ol_meaning.specs.Heads.{Normal}
 use Rattle.ol_meaning.specs.Spots.{Tree, Level, Place, HeadStep, beta, below, before}
-use Rattle.ol_meaning.proofs.LeftmostSteps.{leftmost_step}
+use Rattle.ol_meaning.proofs.LeftmostSteps.{leftmost_step, some_one}
 use Rattle.ol_meaning.proofs.Walking.{normal_or_step}
 use Rattle.ol_optimal.specs.Labels.{Label, Labelled, erased, degree, contracted, LeftmostContracts}
 use Rattle.ol_optimal.specs.Labels as labels
@@ -28,9 +28,6 @@ labelled_step (labels.app (labels.var y v) a w) (before e h) = elim h [ ]
 labelled_step (labels.app (labels.free f v) a w) (before e h) = elim h [ ]
 labelled_step (labels.app (labels.app f c v) a w) (before e h) =
     let r = labelled_step (labels.app f c v) h in (labels.app r.0 a w, r.1, before_argument a w e r.2)
-
-some_one : {X : Type 0} {a b : X} → Some a ≡ Some b → a ≡ b
-some_one e = cc
 
 no_step : {X : Type 0} {a : X} → Some a ≡ None → ⊥
 no_step e = absurd (cc)

@@ -82,9 +82,9 @@ leftmost_step (before {R = R} {P = P} e h) =
 
 -- ---- leftmost steps are one
 
-some_one : {X : Type 0} (a b : X) → Some a ≡ Some b → a ≡ b
-some_one a b e = cc
+pub some_one : {X : Type 0} {a b : X} → Some a ≡ Some b → a ≡ b
+some_one e = cc
 
 pub same_step : (t : Tree) {u w : Tree} {at bt : List ℕ} → leftmost t ≡ Some at →
     contracted t at ≡ Some u → leftmost t ≡ Some bt → contracted t bt ≡ Some w → u ≡ w
-same_step t {u} {w} {at} {bt} e f g h = some_one u w (sym f ∙ ap (contracted t) (some_one at bt (sym e ∙ g)) ∙ h)
+same_step t {u} {w} {at} {bt} e f g h = some_one (sym f ∙ ap (contracted t) (some_one (sym e ∙ g)) ∙ h)
