@@ -231,8 +231,6 @@ module _ (τ : Translation) (N : Labelled) (l : Label) where
   label_n i (labels.app t t' w) p (in_function q) a d m h f g (n_arg k e) = absurd (cc)
   label_n i (labels.app t t' w) p (in_argument y q) a d m h f g (n_arg {z = z} k e) = label_n i t' p q a d m h f (let j : z ≡ spot_in q (base true a d) = cc in j) k
 
--- ---- the interface
-
 -- ---- the redex whole
 
 module _ (τ : Translation) (M N : Labelled) (v w : Label) where
