@@ -1,5 +1,6 @@
 -- A labelled head step keeps the words of redexes that walks from the root meet.
 use Rattle.std.proofs.Common.{◌≡◌, ℕ, true, false, [], ◌++◌, ◌⊎◌, inl, inr, refl, sym, ap, ◌∙◌, subst}
+use Rattle.std.proofs.lemmas.Option.{same_Some}
 use Rattle.ol_beta.specs.Beta as beta_steps
 use Rattle.ol_frugal.specs.Met.{IsMatched, IsMet, blank}
 use Rattle.ol_frugal.proofs.Meeting.{app_is, lam_is, too_few}
@@ -9,7 +10,7 @@ use Rattle.ol_meaning.specs.Heads.{os, outer}
 use Rattle.ol_meaning.specs.Spots.{Tree, lam, app, Level, empty, Context, Place, root, Spot, at, Edge, Trail, here, on, back, HeadStep, is_abstraction, subst_for}
 use Rattle.ol_meaning.specs.Spots as spots
 use Rattle.ol_meaning.specs.Steps.{Same, redex_root, before_root}
-use Rattle.ol_meaning.proofs.LeftmostSteps.{subst_is, some_one}
+use Rattle.ol_meaning.proofs.LeftmostSteps.{subst_is}
 use Rattle.ol_meaning.proofs.Walking.{passing, least_or, root_stays}
 use Rattle.ol_optimal.specs.Labels.{Label, Labelled, none, erased, before, joined, substituted, contracted}
 use Rattle.ol_optimal.specs.Labels as labels
@@ -33,7 +34,7 @@ pub record Step (τ : Translation) (T : Labelled) (d : Label) (U : Labelled) : T
 erased_redex : (b c : Labelled) (v w : Label) → subst_for 0 (erased c) (erased b) ≡ erased (before (joined w (labels.over v none)) (substituted (before (labels.under v none) c) 0 b))
 erased_redex b c v w =
     subst_is (erased b) (erased c) 0
-    ∙ sym (some_one {a = erased (before (joined w (labels.over v none)) (substituted (before (labels.under v none) c) 0 b))} {b = beta_steps.substituted (erased c) 0 (erased b)} (labels_erase (labels.app (labels.lam b v) c w) []))
+    ∙ sym (same_Some (erased (before (joined w (labels.over v none)) (substituted (before (labels.under v none) c) 0 b))) (beta_steps.substituted (erased c) 0 (erased b)) (labels_erase (labels.app (labels.lam b v) c w) []))
 
 module _ (τ : Translation) where
   root_is_kept : {R R' : Tree} (h : HeadStep R R') → is_abstraction R ≡ false → (v v' : Level) → Same τ h root v v' → v ≡ v'

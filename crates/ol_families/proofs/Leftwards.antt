@@ -1,12 +1,13 @@
 -- Words of redexes that the root's walks meet, and the degrees of leftmost reduction.
 use Rattle.std.proofs.Common.{◌≡◌, ℕ, ◌⊎◌, inl, inr, List, [], ◌∷◌, Some, None, refl, sym, ap, ◌∙◌, subst}
+use Rattle.std.proofs.lemmas.Option.{same_Some}
 use Rattle.ol_beta.specs.Leftmost.{leftmost}
 use Rattle.ol_edges.specs.Edges.{IsIn}
 use Rattle.ol_frugal.specs.Met.{IsMet}
 use Rattle.ol_frugal.proofs.Lanes.{none_met}
 use Rattle.ol_meaning.specs.Heads.{Normal}
 use Rattle.ol_meaning.specs.Spots.{Tree, Level, Place, HeadStep, beta, below, before}
-use Rattle.ol_meaning.proofs.LeftmostSteps.{leftmost_step, some_one}
+use Rattle.ol_meaning.proofs.LeftmostSteps.{leftmost_step}
 use Rattle.ol_meaning.proofs.Walking.{normal_or_step}
 use Rattle.ol_optimal.specs.Labels.{Label, Labelled, erased, degree, contracted, LeftmostContracts}
 use Rattle.ol_optimal.specs.Labels as labels
@@ -40,10 +41,10 @@ record OneStep (T U : Labelled) (w : Label) (V : Labelled) (d : Label) : Type 0 
 one_step : (T U V : Labelled) (w d : Label) (at : List ℕ) → leftmost (erased T) ≡ Some at → degree T at ≡ Some w → contracted T at ≡ Some U → HeadContracts T d V → OneStep T U w V d
 one_step T U V w d at e f g h =
     let l = head_is_leftmost T V d h in
-    let a : at ≡ l.0 = some_one (sym e ∙ l.1) in
+    let a : at ≡ l.0 = same_Some at l.0 (sym e ∙ l.1) in
     record {
-      term = some_one (sym l.3 ∙ ap (contracted T) (sym a) ∙ g);
-      degrees = some_one (sym l.2 ∙ ap (degree T) (sym a) ∙ f);
+      term = same_Some _ _ (sym l.3 ∙ ap (contracted T) (sym a) ∙ g);
+      degrees = same_Some _ _ (sym l.2 ∙ ap (degree T) (sym a) ∙ f);
     }
 
 module _ (τ : Translation) where
