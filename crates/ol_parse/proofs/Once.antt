@@ -10,7 +10,7 @@ use Rattle.ol_term.specs.Trees.{Tree}
 use Rattle.ol_term.specs.NameLists.{without}
 use Rattle.ol_parse.specs.Grammar.{Named, var, lam, app}
 use Rattle.ol_parse.specs.Numbered.{position_of, unbound, free_in, once, names_of, number, numbered}
-use Rattle.ol_parse.specs.Resolving.{add_unless, free_unless, names_from, texts, IsNumbered}
+use Rattle.ol_parse.specs.Resolving.{add_unless, names_from, texts, IsNumbered}
 
 abbrev has : List ℕ → List (List ℕ) → Bool
 has x [] = false
@@ -23,13 +23,14 @@ rest names (y ∷ ys) = cond (has y names) (rest names ys) (y ∷ rest names ys)
 
 abbrev add_all : List (List ℕ) → List (List ℕ) → List (List ℕ)
 add_all names [] = names
-add_all names (x ∷ xs) = add_all (add_unless names x (position_of x names)) xs
+add_all names (x ∷ xs) = add_all (add_unless names x None (position_of x names)) xs
 
 add_both : (xs ys names : List (List ℕ)) → add_all names (xs ++ ys) ≡ add_all (add_all names xs) ys
 add_both [] ys names = refl
-add_both (x ∷ xs) ys names = add_both xs ys (add_unless names x (position_of x names))
+add_both (x ∷ xs) ys names = add_both xs ys (add_unless names x None (position_of x names))
 
-one_added : (names : List (List ℕ)) (x : List ℕ) (o : Option ℕ) → free_unless names x o ≡ add_all names (unbound x o)
+one_added : (names : List (List ℕ)) (x : List ℕ) (o : Option ℕ) →
+    add_unless names x o (position_of x names) ≡ add_all names (unbound x o)
 one_added names x (Some k) = refl
 one_added names x None = refl
 
@@ -125,7 +126,7 @@ behind (x ∷ xs) names = go (position_of x names) refl (behind xs names) (behin
     go : (o : Option ℕ) → position_of x names ≡ o →
         add_all names xs ≡ names ++ rest names (once xs) →
         add_all (names ++ (x ∷ [])) xs ≡ (names ++ (x ∷ [])) ++ rest (names ++ (x ∷ [])) (once xs)
-        → add_all (add_unless names x o) xs ≡ names ++ cond (has x names)
+        → add_all (add_unless names x None o) xs ≡ names ++ cond (has x names)
         (rest names (without x (once xs))) (x ∷ rest names (without x (once xs)))
     go (Some k) e old new =
         let here = at_some x names 0 k e in
