@@ -1,5 +1,6 @@
 -- A labelled head step keeps the words of redexes that walks from the root meet.
-use Rattle.std.proofs.Common.{◌≡◌, ℕ, true, false, [], ◌++◌, ◌⊎◌, inl, inr, Some, refl, sym, ap, ◌∙◌, subst}
+use Rattle.std.proofs.Common.{◌≡◌, ℕ, true, false, [], ◌++◌, ◌⊎◌, inl, inr, refl, sym, ap, ◌∙◌, subst}
+use Rattle.std.proofs.lemmas.Option.{same_Some}
 use Rattle.ol_beta.specs.Beta as beta_steps
 use Rattle.ol_frugal.specs.Met.{IsMatched, IsMet, blank}
 use Rattle.ol_frugal.proofs.Meeting.{app_is, lam_is, too_few}
@@ -30,13 +31,10 @@ pub record Step (τ : Translation) (T : Labelled) (d : Label) (U : Labelled) : T
   pub is : tree ≡ erased U
   pub keeps : Keeps τ (erased T) tree T U (Same τ step) d
 
-some_one : {X : Type 0} {a b : X} → Some a ≡ Some b → a ≡ b
-some_one e = cc
-
 erased_redex : (b c : Labelled) (v w : Label) → subst_for 0 (erased c) (erased b) ≡ erased (before (joined w (labels.over v none)) (substituted (before (labels.under v none) c) 0 b))
 erased_redex b c v w =
     subst_is (erased b) (erased c) 0
-    ∙ sym (some_one {a = erased (before (joined w (labels.over v none)) (substituted (before (labels.under v none) c) 0 b))} {b = beta_steps.substituted (erased c) 0 (erased b)} (labels_erase (labels.app (labels.lam b v) c w) []))
+    ∙ sym (same_Some (erased (before (joined w (labels.over v none)) (substituted (before (labels.under v none) c) 0 b))) (beta_steps.substituted (erased c) 0 (erased b)) (labels_erase (labels.app (labels.lam b v) c w) []))
 
 module _ (τ : Translation) where
   root_is_kept : {R R' : Tree} (h : HeadStep R R') → is_abstraction R ≡ false → (v v' : Level) → Same τ h root v v' → v ≡ v'

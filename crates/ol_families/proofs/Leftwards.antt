@@ -1,5 +1,6 @@
 -- Words of redexes that the root's walks meet, and the degrees of leftmost reduction.
 use Rattle.std.proofs.Common.{◌≡◌, ℕ, ◌⊎◌, inl, inr, List, [], ◌∷◌, Some, None, refl, sym, ap, ◌∙◌, subst}
+use Rattle.std.proofs.lemmas.Option.{same_Some}
 use Rattle.ol_beta.specs.Leftmost.{leftmost}
 use Rattle.ol_edges.specs.Edges.{IsIn}
 use Rattle.ol_frugal.specs.Met.{IsMet}
@@ -29,9 +30,6 @@ labelled_step (labels.app (labels.free f v) a w) (before e h) = elim h [ ]
 labelled_step (labels.app (labels.app f c v) a w) (before e h) =
     let r = labelled_step (labels.app f c v) h in (labels.app r.0 a w, r.1, before_argument a w e r.2)
 
-some_one : {X : Type 0} {a b : X} → Some a ≡ Some b → a ≡ b
-some_one e = cc
-
 no_step : {X : Type 0} {a : X} → Some a ≡ None → ⊥
 no_step e = absurd (cc)
 
@@ -43,10 +41,10 @@ record OneStep (T U : Labelled) (w : Label) (V : Labelled) (d : Label) : Type 0 
 one_step : (T U V : Labelled) (w d : Label) (at : List ℕ) → leftmost (erased T) ≡ Some at → degree T at ≡ Some w → contracted T at ≡ Some U → HeadContracts T d V → OneStep T U w V d
 one_step T U V w d at e f g h =
     let l = head_is_leftmost T V d h in
-    let a : at ≡ l.0 = some_one (sym e ∙ l.1) in
+    let a : at ≡ l.0 = same_Some at l.0 (sym e ∙ l.1) in
     record {
-      term = some_one (sym l.3 ∙ ap (contracted T) (sym a) ∙ g);
-      degrees = some_one (sym l.2 ∙ ap (degree T) (sym a) ∙ f);
+      term = same_Some _ _ (sym l.3 ∙ ap (contracted T) (sym a) ∙ g);
+      degrees = same_Some _ _ (sym l.2 ∙ ap (degree T) (sym a) ∙ f);
     }
 
 module _ (τ : Translation) where

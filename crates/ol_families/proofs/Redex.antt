@@ -1,13 +1,13 @@
 -- What is read at a redex, and in the labelled term after its contraction.
-use Rattle.std.proofs.Common.{◌≡◌, ℕ, suc, ◌+◌, Bool, true, false, [], ◌∷◌, ◌++◌, ◌⊎◌, inl, inr, Some, refl, sym, ap, ◌∙◌, subst, arith}
+use Rattle.std.proofs.Common.{◌≡◌, ℕ, suc, ◌+◌, Bool, true, false, [], ◌∷◌, ◌++◌, ◌⊎◌, inl, inr, refl, sym, ap, ◌∙◌, subst}
 use Rattle.std.proofs.lemmas.Bool.{or_left, or_right}
 use Rattle.ol_frugal.proofs.Cuts.{m_moves, n_moves}
+use Rattle.ol_frugal.proofs.Heads.{spot_fits}
 use Rattle.ol_frugal.proofs.Sites.{base, Is, Stands, no_wire, no_root, one_site, lifted_spot}
-use Rattle.ol_meaning.specs.Spots.{Tree, lam, app, Level, empty, o, star, pair, Context, Wire, bound, under, occurs, wire_without, subst_for, Place, root, wire, Spot, at, body, fun, arg, Edge, lam_root, lam_own, lam_wire, app_root, app_arg, app_left, app_right, in_body, in_fun, in_arg, Cut, inM, inN, ofM, ofN, WireOf, Held, at_root, wire_m, wire_n, own, lam_n, fun_n, arg_n, x_spot, n_body, n_fun, n_arg, lifted, IsLevelOf, IsSpotOf, name, var, free, Opens, in_m, in_n, lam_top, lam_var, lam_side, top, side_m, side_n, lifted_wire}
+use Rattle.ol_meaning.specs.Spots.{Tree, lam, app, Level, empty, o, star, pair, Context, Wire, bound, under, occurs, wire_without, subst_for, Place, root, wire, Spot, at, body, fun, arg, Edge, lam_root, lam_own, lam_wire, app_root, app_arg, app_left, app_right, in_body, in_fun, in_arg, Cut, inM, inN, ofM, ofN, WireOf, Held, at_root, wire_m, wire_n, x_spot, n_body, n_fun, n_arg, lifted, var, free, Opens, in_m, in_n, lam_top, lam_var, lam_side, top, side_m, side_n}
 use Rattle.ol_meaning.specs.Steps.{SameRedex, redex_root, redex_m, redex_n}
-use Rattle.ol_meaning.proofs.Addresses.{left_one, right_one, sides_apart, spot_from, spot_to, occurs_new, occurs_old, own_occurs, level_copied}
-use Rattle.ol_meaning.proofs.Betas.{Through}
-use Rattle.ol_meaning.proofs.Copying.{Copies, copy, copy_body, copy_fun, copy_arg}
+use Rattle.ol_meaning.proofs.Addresses.{left_one, right_one, sides_apart, spot_from, spot_to, occurs_new, occurs_old, own_occurs}
+use Rattle.ol_meaning.proofs.Betas.{Through, copy_address, lifted_zero, zero_gone, zero_from, closes_trail}
 use Rattle.ol_meaning.proofs.Ones.{n_there}
 use Rattle.ol_meaning.proofs.There.{joint_held, by_wire, root_is}
 use Rattle.ol_optimal.specs.Labels.{Label, Labelled, none, erased, before, joined, substituted}
@@ -21,11 +21,10 @@ use Rattle.ol_families.proofs.Gaps.{hole, at_top, gap, cut_gap, put_label, sub, 
 use Rattle.ol_families.proofs.Reading.{own_hole, m_there, m_back, copy_there, copy_back, joint_there, held_copy, copy_out}
 use Rattle.ol_families.proofs.Whence.{Whence, whence}
 use Rattle.ol_meaning.proofs.Back.{back_on, back_off, held_root, held_wire, Tagged, tag_m, tag_n}
-use Rattle.ol_meaning.proofs.Redexes.{closes, closes_back, To, deep_m, deep_n}
+use Rattle.ol_meaning.proofs.Redexes.{deep_m, deep_n}
 use Rattle.ol_meaning.proofs.Ways.{Has}
 use Rattle.ol_meaning.proofs.Addresses.{gone}
-use Rattle.std.proofs.Common.{zero}
-use Rattle.ol_meaning.specs.Spots.{left, right, IsRight, CutEdge, Trail, here, on, back, in_fun}
+use Rattle.ol_meaning.specs.Spots.{left, right, IsRight, CutEdge, Trail, in_fun}
 use Rattle.ol_spots_net.proofs.Trails.{tr_trans, one_back}
 use Rattle.ol_families.proofs.Keeping.{Undone, Left, Source, Related, Follows, Leaves, placed, Goes, Comes, Keeps}
 use Rattle.ol_families.proofs.Likes.{like_substituted, function_before, walks_like}
@@ -232,37 +231,6 @@ module _ (τ : Translation) (N : Labelled) (l : Label) where
   label_n i (labels.app t t' w) p (in_function q) a d m h f g (n_arg k e) = absurd (cc)
   label_n i (labels.app t t' w) p (in_argument y q) a d m h f g (n_arg {z = z} k e) = label_n i t' p q a d m h f (let j : z ≡ spot_in q (base true a d) = cc in j) k
 
--- ---- the interface
-
-fits : (τ : Translation) (N : Tree) (b : Bool) (p : Site) (v : Level) (c : Context) → IsSpotOf τ N (spot_in p (base b v c))
-fits τ N true self v c = tt
-fits τ N false self v c = tt
-fits τ N b (in_lam p) v c = tt
-fits τ N b (in_function p) v c = tt
-fits τ N b (in_argument a p) v c = tt
-
-zero_gone : (y : Wire) → wire_without 0 (under y) ≡ Some y
-zero_gone (bound y) = refl
-zero_gone (name f) = refl
-
-lifted_zero : (y : Wire) → y ≡ lifted_wire 0 0 y
-lifted_zero (bound y) = ap bound (omega arith)
-lifted_zero (name f) = refl
-
-raise : (i : ℕ) (x z : Wire) → z ≡ lifted_wire 0 i x → under z ≡ lifted_wire 0 (suc i) x
-raise i (bound x) (bound z) e = ap bound (let k : z ≡ i + x = cc in omega arith)
-raise i (name f) (bound z) e = absurd (cc)
-raise i (bound x) (name z) e = absurd (cc)
-raise i (name x) (name z) e = e
-
--- a wire of N has an address at each copy
-copy_address : {τ : Translation} {N M : Tree} {i : ℕ} {w : Level} {s z0 : Spot} → Copies τ N M i w s z0 → (x z : Wire) (b : Level) → IsLevelOf τ N b → occurs x N ≡ true → z ≡ lifted_wire 0 i x →
-    (a' : Level) × WireOf τ N M i (ofN w x b) z a'
-copy_address (copy e q) x z b l h p = (b, own e h p)
-copy_address {i = i} (copy_body r) x z b l h p = let t = copy_address r x (under z) b l h (raise i x z p) in (t.0, lam_n t.1)
-copy_address (copy_fun r e) x z b l h p = let t = copy_address r x z b l h p in (_, fun_n t.1 e refl)
-copy_address (copy_arg {v = v} r e) x z b l h p = let t = copy_address r x z b l h p in (_, arg_n v t.1 e (record { level = level_copied t.1 l; is = refl }))
-
 -- ---- the redex whole
 
 module _ (τ : Translation) (M N : Labelled) (v w : Label) where
@@ -379,7 +347,7 @@ module _ (τ : Translation) (M N : Labelled) (v w : Label) where
         record {
           site = x.site;
           there = x.there;
-          all = λ t d. record { cut = inN b (spot_in p (base true t d)); opens = in_n q (fits τ (erased N) true p t d); held = x.all t d };
+          all = λ t d. record { cut = inN b (spot_in p (base true t d)); opens = in_n q (spot_fits τ (erased N) true p t d); held = x.all t d };
           alike = λ t d r y. ap (λ q. moved r (signs_of q) y) (sym (functions_U x.site ∙ label_n τ N (labels.under v none) 0 M p x.site a c m h refl x.is e));
         },
         x.is,
@@ -440,17 +408,6 @@ module _ (τ : Translation) (M N : Labelled) (v w : Label) where
 
   -- ---- and back
 
-  closes_trail : {c c' : Cut} {n : ℕ} → Trail (CutEdge τ (erased N) (erased M) 0) c c' n → {s : Spot} → Opens τ (erased N) (erased M) s c → To τ (erased N) (erased M) c' s
-  closes_trail here {s} r = record { spot = s; rel = r; weight = 0; trail = here }
-  closes_trail (on e t q) {s} r =
-      let a = closes τ (erased N) (erased M) e r in
-      let k = closes_trail t a.rel in
-      record { spot = k.spot; rel = k.rel; weight = a.weight + k.weight; trail = tr_trans a.trail k.trail refl }
-  closes_trail (back e t q) {s} r =
-      let a = closes_back τ (erased N) (erased M) e r in
-      let k = closes_trail t a.rel in
-      record { spot = k.spot; rel = k.rel; weight = a.weight + k.weight; trail = tr_trans a.trail k.trail refl }
-
   abbrev Th : Spot → Spot → Type 0
   Th = Through τ (erased M) (erased N)
 
@@ -465,11 +422,6 @@ module _ (τ : Translation) (M N : Labelled) (v w : Label) where
       let a = back_off (erased M) e r.held in
       let k = closes_trail a.trail r.opens in
       record { spot = k.spot; rel = record { cut = a.cut; opens = k.rel; held = a.held }; weight = k.weight; trail = k.trail }
-
-  zero_from : (x y : Wire) → wire_without 0 x ≡ Some y → x ≡ under y
-  zero_from (bound zero) y e = absurd (cc)
-  zero_from (bound (suc x)) y e = let k : bound x ≡ y = cc in ap under k
-  zero_from (name f) y e = let k : name f ≡ y = cc in ap under k
 
   redex_unout : (p : Place) (a : Level) (c : Context) (s : Spot) → Th s (at p a c) → Has p t' → Left τ old (SameRedex τ (erased M) (erased N)) p a c s
   redex_unout root a c s r m =
@@ -526,7 +478,7 @@ module _ (τ : Translation) (M N : Labelled) (v w : Label) where
           record {
             site = in_argument f.level f.site;
             there = (f.there.0, of_argument f.there.1, f.there.2);
-            all = λ w c g. record { cut = inN f.level (spot_in f.site (base b w c)); opens = in_n e.1 (fits τ (erased N) b f.site w c); held = f.all w c };
+            all = λ w c g. record { cut = inN f.level (spot_in f.site (base b w c)); opens = in_n e.1 (spot_fits τ (erased N) b f.site w c); held = f.all w c };
             weight = k.weight + e.0.weight;
             trail = tr_trans k.trail e.0.trail refl;
           }

@@ -1,10 +1,10 @@
 -- Each spot has two sides, and on each one neighbour at most: so trails between ends read one word.
-use Rattle.std.proofs.Common.{◌≡◌, ℕ, suc, Bool, true, false, not, [], ◌++◌, ◌⊎◌, inl, inr, refl, sym, ap, ◌∙◌, subst, arith}
+use Rattle.std.proofs.Common.{◌≡◌, ℕ, Bool, true, false, not, [], ◌++◌, ◌⊎◌, inl, inr, refl, sym, ap, ◌∙◌, subst}
 use Rattle.std.proofs.lemmas.List.{append_assoc}
 use Rattle.ol_context.proofs.Contexts.{head_eq, tail_eq}
 use Rattle.ol_frugal.specs.Met.{IsMatched, blank}
 use Rattle.ol_frugal.proofs.Sites.{no_wire, no_root}
-use Rattle.ol_meaning.specs.Spots.{Tree, lam, app, Level, empty, o, star, Context, cons, Wire, bound, name, under, Place, root, wire, Spot, at, body, fun, arg, Edge, var_wire, free_wire, lam_root, lam_own, lam_wire, app_root, app_arg, app_left, app_right, in_body, in_fun, in_arg, Trail, here, on, back}
+use Rattle.ol_meaning.specs.Spots.{Tree, lam, app, Level, empty, o, star, Context, cons, bound, name, Place, root, wire, Spot, at, body, fun, arg, Edge, var_wire, free_wire, lam_root, lam_own, lam_wire, app_root, app_arg, app_left, app_right, in_body, in_fun, in_arg, Trail, here, on, back}
 use Rattle.ol_meaning.proofs.Addresses.{left_one, right_one, sides_apart}
 use Rattle.ol_optimal.specs.Labels.{Labelled, erased}
 use Rattle.ol_spots_net.specs.Sites.{Site, self, in_lam, in_function, in_argument, PartAt, whole, of_lam, of_function, of_argument, function_at, abstraction_at}
@@ -12,6 +12,7 @@ use Rattle.ol_term.specs.declared.translations.Translation.{Translation}
 use Rattle.ol_families.specs.Signs.{Signs, signs_of, reversed}
 use Rattle.ol_families.specs.Readings.{reading, word_along, function_label, moved, AreAlike, SiteHasOneWord}
 use Rattle.ol_families.proofs.Motions.{moved_append, moved_back, moved_there}
+use Rattle.ol_meaning.proofs.Channels.{under_one, under_zero}
 
 -- the sides on which an edge is, of its outer spot and of its inner one: a part's interface has the part inside
 abbrev sides : Spot → Spot → Bool × Bool
@@ -40,16 +41,6 @@ from_interface p v c (arg u z) = refl
 
 apart : false ≡ true → ⊥
 apart e = absurd (cc)
-
-under_bound : (y : Wire) → bound 0 ≡ under y → ⊥
-under_bound (bound y) e = let k : 0 ≡ suc y = cc in omega arith
-under_bound (name f) e = absurd (cc)
-
-under_one : (y z : Wire) → under y ≡ under z → y ≡ z
-under_one (bound y) (bound z) e = ap bound (let k : suc y ≡ suc z = cc in omega arith)
-under_one (bound y) (name f) e = absurd (cc)
-under_one (name f) (bound z) e = absurd (cc)
-under_one (name f) (name g) e = e
 
 module _ {τ : Translation} where
   to_interface : {t : Tree} {s : Spot} {p : Place} {v : Level} {c : Context} {n : ℕ} → Edge τ t s (at p v c) n → (sides s (at p v c)).1 ≡ true
@@ -107,9 +98,9 @@ module _ {τ : Translation} where
   two_in lam_root lam_root q = refl
   two_in lam_root (in_body e') q = absurd (apart (q ∙ to_interface e'))
   two_in (lam_own m) (lam_own m') q = refl
-  two_in (lam_own m) (lam_wire {y = y} e m') q = absurd (under_bound y e)
+  two_in (lam_own m) (lam_wire {y = y} e m') q = absurd (under_zero y e)
   two_in (lam_own m) (in_body e') q = absurd (apart (q ∙ to_interface e'))
-  two_in (lam_wire {y = y} e m) (lam_own m') q = absurd (under_bound y e)
+  two_in (lam_wire {y = y} e m) (lam_own m') q = absurd (under_zero y e)
   two_in (lam_wire {y = y} {a = a} {c = c} e m) (lam_wire {y = y'} e' m') q = ap (λ y. at (wire y) a c) (under_one y y' (sym e ∙ e'))
   two_in (lam_wire e m) (in_body e') q = absurd (apart (q ∙ to_interface e'))
   two_in (in_body e) lam_root q = absurd (apart (sym q ∙ to_interface e))

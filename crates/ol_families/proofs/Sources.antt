@@ -1,12 +1,12 @@
 -- Each redex that the root's walks meet after a labelled head step comes from one before it, with an alike word.
-use Rattle.std.proofs.Common.{◌≡◌, ◌+◌, ◌≤◌, true, false, ◌++◌, ◌⊎◌, inl, inr, refl, sym, ap, ◌∙◌, subst, arith}
+use Rattle.std.proofs.Common.{◌≡◌, ◌+◌, true, false, ◌++◌, ◌⊎◌, inl, inr, refl, sym, ap, ◌∙◌, subst, arith}
 use Rattle.ol_frugal.specs.Met.{IsMatched, IsMet, blank}
 use Rattle.ol_frugal.proofs.Meeting.{app_is, lam_is, too_few}
 use Rattle.ol_frugal.proofs.Sites.{base, one_site}
 use Rattle.ol_meaning.specs.Heads.{os, outer}
-use Rattle.ol_meaning.specs.Spots.{Tree, lam, app, empty, root, at, HeadStep, beta, below, before}
+use Rattle.ol_meaning.specs.Spots.{Tree, lam, app, empty, root, at}
 use Rattle.ol_meaning.specs.Steps.{Same}
-use Rattle.ol_meaning.proofs.Walking.{passing, least_or, root_stays}
+use Rattle.ol_meaning.proofs.Walking.{passing, least_or, root_stays, outer_grows}
 use Rattle.ol_optimal.specs.Labels.{Label, Labelled, erased}
 use Rattle.ol_spots_net.specs.Sites.{Site, spot_in, PartAt, function_at}
 use Rattle.ol_spots_net.proofs.Trails.{tr_trans}
@@ -17,11 +17,6 @@ use Rattle.ol_families.proofs.HeadWords.{Step, step_of, matched_goes}
 use Rattle.ol_families.proofs.Keeping.{Goes, undo}
 use Rattle.ol_families.proofs.Leading.{degrees_are_met}
 use Rattle.ol_families.proofs.Sides.{tree_word}
-
-outer_grows : {t t' : Tree} → HeadStep t t' → outer t ≤ outer t'
-outer_grows beta = omega arith
-outer_grows (below h) = let r = outer_grows h in omega arith
-outer_grows (before e h) = omega arith
 
 module _ (τ : Translation) where
   abbrev labelled : (t : Tree) (U : Labelled) (q : Site) → IsMatched τ t q → Signs

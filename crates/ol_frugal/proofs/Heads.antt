@@ -42,7 +42,7 @@ pub record Step (τ : Translation) (t t' : Tree) (S : Place → Level → Level 
 
 -- ---- at the redex
 
-spot_fits : (τ : Translation) (N : Tree) (b : Bool) (p : Site) (v : Level) (c : Context) →
+pub spot_fits : (τ : Translation) (N : Tree) (b : Bool) (p : Site) (v : Level) (c : Context) →
     IsSpotOf τ N (spot_in p (base b v c))
 spot_fits τ N true self v c = tt
 spot_fits τ N false self v c = tt

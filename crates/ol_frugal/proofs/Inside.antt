@@ -12,7 +12,7 @@ use Rattle.ol_meaning.specs.Heads.{inner, HatLast, hat_root, hat_wire, HatEarlie
 use Rattle.ol_meaning.specs.Heads.{HatInner, hat_up, StandsAt}
 use Rattle.ol_meaning.proofs.Addresses.{left_one, right_one, sides_apart}
 use Rattle.ol_meaning.proofs.Channels.{inside, up_from_one}
-use Rattle.ol_meaning.proofs.Seats.{Hats, Comes}
+use Rattle.ol_meaning.proofs.Seats.{Hats, Comes, Earlier, funs, sides, Inner, bodies, rims, up_has}
 use Rattle.ol_meaning.proofs.Walking.{spine_occurs}
 use Rattle.ol_meaning.proofs.Ways.{Has}
 use Rattle.ol_spots_net.proofs.Trails.{tr_trans, one, one_back}
@@ -232,10 +232,6 @@ module _ (τ : Translation) {R : Tree} {y : Wire} {a : Level} {i : ℕ} (s0 : Sp
 
 -- ---- an earlier argument
 
-data Earlier (Sit : Spot → Spot → Type 0) (H : Hats) : Spot → Spot → Type 0 where
-  funs : {s z : Spot} → Sit s z → Earlier Sit H s (fun z)
-  sides : {p q : Place} {v b : Level} {c d : Context} → H p v c q b d → Earlier Sit H (at p v c) (at q b d)
-
 module _ {τ : Translation} {P R : Tree} {H : Hats} {put : Site → Site} (Q : Tree)
     (flat : (p : Place) (v b : Level) (c d : Context) → H p v c root b d → ⊥) (k : Seat τ P R H put) where
   abbrev E : Spot → Spot → Type 0
@@ -327,15 +323,6 @@ module _ {τ : Translation} {P R : Tree} {H : Hats} {put : Site → Site} (Q : T
   }
 
 -- ---- under an abstraction
-
-data Inner (Sit : Spot → Spot → Type 0) (H : Hats) : Spot → Spot → Type 0 where
-  bodies : {s z : Spot} → Sit s z → Inner Sit H s (body z)
-  rims : {p q : Place} {v b : Level} {c d : Context} → H p v c q b d → Inner Sit H (at p v c) (at q b d)
-
-up_has : (M : Tree) {p q : Place} {v w : Level} → OutOf p v q w → Has p M → Has q (lam M)
-up_has M (up_root e) m = tt
-up_has M (up_own g e) m = tt
-up_has M (up_wire e f) m = subst (λ z. occurs z M ≡ true) e m
 
 no_empty : {p : Place} {v w : Level} → OutOf p v root w → w ≡ empty → ⊥
 no_empty (up_root {v = v} e) f = let g : empty ≡ o v = sym f ∙ e in absurd (cc)

@@ -12,7 +12,8 @@ use Rattle.ol_optimal.specs.Redexes.{Carries, put, IsVirtualRedex}
 use Rattle.ol_optimal.specs.Routes.{Crossing, rise, fall, Row, along, rises, falls, Route}
 use Rattle.ol_optimal.proofs.Carrying.{rise_at, fall_at}
 use Rattle.ol_invariance.proofs.WrongTables.{at_its_level}
-use Rattle.ol_optimal.proofs.Puts.{above, no_mark}
+use Rattle.ol_optimal.proofs.Puts.{above}
+use Rattle.ol_context.proofs.LeafMoves.{marked_empty}
 
 -- ---- levels put before a context
 
@@ -59,7 +60,7 @@ module _ {A : Type 0} (N : NamedNet A) (n : IsNet N) where
       by q r =
           let e' : up kind.Lam j s b ≡ put last blank = subst (λ k. up k j s b ≡ put last blank)
           (sym q) (subst (λ i. up k i s b ≡ put last blank) (sym r) e) in
-          no_mark s (b j) (sym (at_its_level j s b) ∙ ap (λ (c : Context). c j) e' ∙ above last blank j l)
+          marked_empty s (b j) (sym (at_its_level j s b) ∙ ap (λ (c : Context). c j) e' ∙ above last blank j l)
 
   same_rows : {w v : List (Crossing A)} {p q q' : NamedPort A} (y y' : A) (j j' : ℕ)
       (last last' : List Level) → HasNode N y kind.Lam j → HasNode N y' kind.Lam j' →

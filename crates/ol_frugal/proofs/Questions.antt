@@ -1,21 +1,18 @@
 -- What a demand run of a term's net asks: its questions begin where a term's places are asked.
-use Rattle.std.proofs.Common.{◌≡◌, ℕ, zero, suc, ◌<◌, List, [], ◌∷◌, ◌++◌, length, Some, refl, sym}
+use Rattle.std.proofs.Common.{◌≡◌, ℕ, zero, suc, List, [], ◌∷◌, ◌++◌, length, Some, refl, sym}
 use Rattle.std.proofs.Common.{ap, ◌∙◌, subst, arith}
 use Rattle.std.proofs.lemmas.List.{length_push}
 use Rattle.ol_context.specs.Asked.{os, asked}
 use Rattle.ol_context.specs.Contexts.{Level, empty, star, Context, cons, tail, levels}
 use Rattle.ol_context.specs.Paths.{Path, HaveSamePaths}
-use Rattle.ol_context.proofs.LevelLists.{levels_cons}
 use Rattle.ol_net.specs.Nets.{NamedNet, free, IsNet}
 use Rattle.ol_rules.specs.declared.journal.Entry.{Entry}
 use Rattle.ol_rules.specs.declared.journal.NodeName.{NodeName}
-use Rattle.ol_readback.specs.Frames.{Frame, frame_at}
-use Rattle.ol_readback.specs.Matching.{Matches}
+use Rattle.ol_readback.specs.Frames.{Frame}
 use Rattle.ol_readback.specs.Heads.{Answer, head, no_head, matched, NoPath, IsHead}
 use Rattle.ol_readback.specs.Heads as heads
 use Rattle.ol_readback.specs.ReadTrees.{Subterm, whole_term, framed, port_of, arguments}
 use Rattle.ol_readback.specs.declared.answers.HeadVar.{HeadVar}
-use Rattle.ol_readback.specs.declared.answers.HeadVar.TheVariants as var
 use Rattle.ol_readback.specs.declared.answers.ReadNode.{ReadNode}
 use Rattle.ol_readback.proofs.Forests.{frame_last}
 use Rattle.ol_readback.proofs.Kept.{heads_are_kept}
@@ -34,50 +31,14 @@ use Rattle.ol_meaning.specs.Seen.{ahead, Chain, IsChain, Seats, IsSeen, WholeSea
 use Rattle.ol_meaning.proofs.Based.{term_seen}
 use Rattle.ol_meaning.proofs.Matched.{chain_grows}
 use Rattle.ol_meaning.proofs.Shapes.{AreArgs, normal_shape}
-use Rattle.ol_meaning.proofs.Showing.{exit_of, exit_matches, chain_more}
-use Rattle.ol_meaning.proofs.Sights.{ahead_levels, arg_seen}
+use Rattle.ol_meaning.proofs.Showing.{exit_of, exit_matches, chain_more, asked_is, is_head_of, port_of_stays}
+use Rattle.ol_meaning.proofs.Sights.{arg_seen}
 use Rattle.ol_optimal.specs.Seen.{IsQuestion}
 use Rattle.ol_spots_net.specs.Spots.{place}
 use Rattle.ol_term.specs.declared.translations.Translation.{Translation}
 use Rattle.ol_translate.specs.Names.{HasNames}
 use Rattle.ol_translate.specs.Translation.{translation_of}
 use Rattle.ol_frugal.proofs.Wanted.{Asks, whole, part}
-
-asked_is : (ls : List Level) (n : ℕ) → asked ls n ≡ ahead ls (cons (os n empty) (levels []))
-asked_is ls n = sym (ahead_levels ls (os n empty ∷ [])) ∙ ap (ahead ls) (levels_cons (os n empty) [])
-
--- ---- a head that a net gives
-
-record IsHeadOf {A : Type 0} (N : NamedNet A) (F : List Frame) (i n k : ℕ) (v : HeadVar)
-    (ls : List Level) : Type 0 where
-  port : ℕ
-  context : Context
-  few : (m : ℕ) → m < n → NoPath N (frame_at F i).port (asked (frame_at F i).levels m)
-  path : Path N (free (frame_at F i).port) (asked (frame_at F i).levels n) port context
-  match : Matches F port context i n v k ls
-
-is_head_of : {A : Type 0} {N : NamedNet A} {F : List Frame} {i n k : ℕ} {v : HeadVar}
-    {ls : List Level} → IsHead N F i (head n v k ls) → IsHeadOf N F i n k v ls
-is_head_of (heads.leaves {q = q} {X = X} few r (matched m)) = record {
-  port = q;
-  context = X;
-  few = few;
-  path = r;
-  match = m;
-}
-
--- the port of a variable's frame doesn't depend on how many abstractions the last frame has
-port_stays : (F : List Frame) (f g : Frame) (i : ℕ) → f.port ≡ g.port →
-    (frame_at (F ++ f ∷ []) i).port ≡ (frame_at (F ++ g ∷ []) i).port
-port_stays [] f g zero e = e
-port_stays [] f g (suc i) e = refl
-port_stays (h ∷ F) f g zero e = refl
-port_stays (h ∷ F) f g (suc i) e = port_stays F f g i e
-
-port_of_stays : (F : List Frame) (f g : Frame) (v : HeadVar) → f.port ≡ g.port →
-    port_of (F ++ f ∷ []) v ≡ port_of (F ++ g ∷ []) v
-port_of_stays F f g (var.Bound i j) e = port_stays F f g i e
-port_of_stays F f g (var.Free q) e = refl
 
 -- ---- subterms that are to be read
 

@@ -5,7 +5,7 @@ use Rattle.ol_meaning.specs.Spots.{Tree, lam, app, Level, empty, Context, bound,
 use Rattle.ol_meaning.specs.Spots.{wire, at, Edge, Trail, IsRight, HeadStep, beta, below, before}
 use Rattle.ol_meaning.specs.Steps.{SameBelow, below_o, below_star, below_wire, SameBefore}
 use Rattle.ol_meaning.specs.Steps.{before_root, before_left, before_right, Same}
-use Rattle.ol_meaning.specs.Heads.{os, Spine, head_var, head_free, head_app, Normal, flat, layer}
+use Rattle.ol_meaning.specs.Heads.{os, head_app, Normal}
 use Rattle.ol_meaning.specs.Heads.{Steps, done, step, SameAlong, Arg, last, earlier, inner}
 use Rattle.ol_meaning.specs.Heads.{StandsAt}
 use Rattle.ol_term.specs.declared.translations.Translation.{Translation}
@@ -16,6 +16,7 @@ use Rattle.ol_frugal.proofs.Heads.{step_of}
 use Rattle.ol_frugal.proofs.Meeting.{app_is, lam_is, Comes, Becomes, goes_on, root_goes}
 use Rattle.ol_frugal.proofs.Lanes.{OnSpine, unmatched, none_met}
 use Rattle.ol_frugal.proofs.Inside.{put_in, To, Placed, Seat, follow_in, seat}
+use Rattle.ol_meaning.proofs.Endless.{spine_stops, normal_stops}
 
 -- Where a question's walk begins: at the term's root, asked for some number of abstractions; or
 -- where such a place of an argument stands, once head steps have come to a head normal form.
@@ -63,16 +64,6 @@ one_step (below h) (below g) =
 one_step (before {P = P} e h) (before f g) =
     let k = one_step h g in
     record { is = ap (λ R. app R P) k.is; same = λ τ y w l r. before_keeps k.is (k.same τ) r }
-
-spine_stops : {t t' : Tree} {y : _} {a : Level} {j : ℕ} → Spine t y a j → HeadStep t t' → ⊥
-spine_stops head_var h = elim h [ ]
-spine_stops head_free h = elim h [ ]
-spine_stops (head_app s e) beta = elim s [ ]
-spine_stops (head_app s e) (before f h) = spine_stops s h
-
-normal_stops : {t t' : Tree} {q : Place} {a : Level} {j : ℕ} → Normal t q a j → HeadStep t t' → ⊥
-normal_stops (flat s) h = spine_stops s h
-normal_stops (layer k f) (below h) = normal_stops k h
 
 arg_stops : {t t' Q : Tree} {i : ℕ} → Arg t i Q → HeadStep t t' → ⊥
 arg_stops (last s) h = spine_stops (head_app s refl) h

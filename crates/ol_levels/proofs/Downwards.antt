@@ -1,7 +1,7 @@
 -- A walk that asks for fewer abstractions goes down where one for more does, while it is defined.
 -- Used in Budgets.
 use Rattle.std.proofs.Common.{◌≡◌, ℕ, zero, suc, ◌+◌, ◌<◌, ◌≤◌, refl, sym, ap, ◌∙◌, subst, arith}
-use Rattle.ol_context.specs.Contexts.{Level, empty, o, star, pair, Context, tail, marked, up}
+use Rattle.ol_context.specs.Contexts.{Level, empty, o, pair, Context, tail, up}
 use Rattle.ol_context.specs.Paths.{Crosses, inward, outward, Through, through}
 use Rattle.ol_context.specs.Ways.{Way, on}
 use Rattle.ol_context.proofs.Ways.{way_one, way_passes}
@@ -12,16 +12,13 @@ use Rattle.ol_net.specs.declared.parts.Kind.TheVariants as kind
 use Rattle.ol_readback.specs.Frames.{os}
 use Rattle.ol_readback.proofs.Holes.{fill, Before, moved, stripped, before}
 use Rattle.ol_levels.proofs.Climbs.{Route, leaves, turns, falls}
+use Rattle.ol_context.proofs.LeafMoves.{marked_empty}
 
 -- ---- a node that takes an o away from a level lets nothing pass where that level is empty
 
 fill_level : (j : ℕ) (v : Level) (b : Context) → fill j v b j ≡ v
 fill_level zero v b = refl
 fill_level (suc j) v b = fill_level j v (tail b)
-
-not_marked : (s : ℕ) (v : Level) → marked s v ≡ empty → ⊥
-not_marked zero v e = let r : o v ≡ empty = e in absurd (cc)
-not_marked (suc s) v e = let r : star v ≡ empty = e in absurd (cc)
 
 -- no level of such contexts is o before the value
 abbrev NoLevelGrows : (Level → Context) → Type 0
@@ -38,9 +35,9 @@ fill_grows_not (suc j) b (suc l) h = fill_grows_not j (tail b) l h
 
 not_both : (k : Kind) (i s t j : ℕ) → s < arity k → (g : Level → Context) → NoLevelGrows g →
     (d : Context) → ((v : Level) → up k i s (g v) j ≡ o v) → up k i t d j ≡ empty → ⊥
-not_both kind.Lam zero s t zero b g n d h e = not_marked t (d 0) e
-not_both kind.App zero s t zero b g n d h e = not_marked t (d 0) e
-not_both kind.Fan zero s t zero b g n d h e = not_marked t (d 0) e
+not_both kind.Lam zero s t zero b g n d h e = marked_empty t (d 0) e
+not_both kind.App zero s t zero b g n d h e = marked_empty t (d 0) e
+not_both kind.Fan zero s t zero b g n d h e = marked_empty t (d 0) e
 not_both kind.Lam zero s t (suc j) b g n d h e = n (suc j) h
 not_both kind.App zero s t (suc j) b g n d h e = n (suc j) h
 not_both kind.Fan zero s t (suc j) b g n d h e = n (suc j) h

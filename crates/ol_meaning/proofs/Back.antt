@@ -26,20 +26,20 @@ use Rattle.ol_term.specs.declared.translations.Translation.{Translation}
 
 -- ---- the cut of a part, in the whole
 
-abbrev up_body : Cut → Cut
+abbrev pub up_body : Cut → Cut
 up_body (inM s) = inM (body s)
 up_body (inN w s) = inN w s
 
-abbrev up_fun : Tree → ℕ → Cut → Cut
+abbrev pub up_fun : Tree → ℕ → Cut → Cut
 up_fun M2 i (inM s) = inM (fun s)
 up_fun M2 i (inN u s) = inN (left M2 (bound i) u) s
 
-abbrev up_arg : Translation → Tree → Tree → ℕ → Level → Cut → Cut
+abbrev pub up_arg : Translation → Tree → Tree → ℕ → Level → Cut → Cut
 up_arg τ M1 M2 i v (inM s) = inM (arg v s)
 up_arg τ M1 M2 i v (inN u s) = inN (right τ M1 M2 (bound i) u v) s
 
 -- level 0 of the variable's wire is one that it has in M
-abbrev IsFine : Translation → Tree → ℕ → Cut → Type 0
+abbrev pub IsFine : Translation → Tree → ℕ → Cut → Type 0
 IsFine τ M i (inN u s) = IsLevelOf τ M u
 IsFine τ M i (inM (at root v c)) = Unit {0}
 IsFine τ M i (inM (at (wire x) a c)) = x ≡ bound i → IsLevelOf τ M a
@@ -65,7 +65,7 @@ module _ {τ : Translation} where
   fine_off (of_n e) h = h
   fine_off (joint p m e) h = λ q. h
 
-  held_fine : {N M : Tree} {i : ℕ} {c : Cut} {z : Spot} → Held τ N M i c z → IsFine τ M i c
+  pub held_fine : {N M : Tree} {i : ℕ} {c : Cut} {z : Spot} → Held τ N M i c z → IsFine τ M i c
   held_fine at_root = tt
   held_fine {i = i} (wire_m {z = z} r) = λ p. absurd (own_gone i z (subst (λ x. wire_without i x ≡ Some z) p (gone r)))
   held_fine (wire_n r) = level_own r
@@ -124,13 +124,13 @@ module _ {τ : Translation} where
   arg_held v (inN w s) h = n_arg h (record { level = held_fine h; is = refl })
 
 -- what holds a spot of a part, seen from the part
-record Part (τ : Translation) (N M W : Tree) (i j : ℕ) (up : Cut → Cut) (c : Cut) (z : Spot) : Type 0 where
-  cut : Cut
-  held : Held τ N M j cut z
-  trail : Trail (CutEdge τ N W i) c (up cut) 0
+pub record Part (τ : Translation) (N M W : Tree) (i j : ℕ) (up : Cut → Cut) (c : Cut) (z : Spot) : Type 0 where
+  pub cut : Cut
+  pub held : Held τ N M j cut z
+  pub trail : Trail (CutEdge τ N W i) c (up cut) 0
 
 module _ {τ : Translation} where
-  of_body : {N M : Tree} {i : ℕ} {c : Cut} {z : Spot} → Held τ N (lam M) i c (body z) →
+  pub of_body : {N M : Tree} {i : ℕ} {c : Cut} {z : Spot} → Held τ N (lam M) i c (body z) →
       Part τ N M (lam M) i (suc i) up_body c z
   of_body (p_body {s = s} h) = record { cut = inM s; held = h; trail = here }
   of_body (n_body {w = w} {s = s} h) = record { cut = inN w s; held = h; trail = here }
@@ -140,7 +140,7 @@ module _ {τ : Translation} where
     trail = one (of_m (lam_wire refl (own_wire_occurs h (ap under p))));
   }
 
-  of_fun : {N M1 M2 : Tree} {i : ℕ} {c : Cut} {z : Spot} → Held τ N (app M1 M2) i c (fun z) →
+  pub of_fun : {N M1 M2 : Tree} {i : ℕ} {c : Cut} {z : Spot} → Held τ N (app M1 M2) i c (fun z) →
       Part τ N M1 (app M1 M2) i i (up_fun M2 i) c z
   of_fun (p_fun {s = s} h) = record { cut = inM s; held = h; trail = here }
   of_fun {N} {M1} {M2} {i} (n_fun {u = u} {s = s} h e) = record {
@@ -154,7 +154,7 @@ module _ {τ : Translation} where
     trail = one (of_m (app_left (own_wire_occurs h p) e));
   }
 
-  of_arg : {N M1 M2 : Tree} {i : ℕ} {v : Level} {c : Cut} {z : Spot} →
+  pub of_arg : {N M1 M2 : Tree} {i : ℕ} {v : Level} {c : Cut} {z : Spot} →
       Held τ N (app M1 M2) i c (arg v z) → Part τ N M2 (app M1 M2) i i (up_arg τ M1 M2 i v) c z
   of_arg (p_arg {s = s} h) = record { cut = inM s; held = h; trail = here }
   of_arg {N} {M1} {M2} {i} {v} (n_arg {u = u} {s = s} h e) = record {
@@ -286,10 +286,10 @@ pub record From (τ : Translation) (N M : Tree) (i : ℕ) (c : Cut) (z : Spot) (
 
 -- ---- an occurrence of the variable itself
 
-record Copied (τ : Translation) (N : Tree) (i y : ℕ) (c : Cut) (z : Spot) : Type 0 where
-  spot : Spot
-  is : z ≡ lifted 0 i spot
-  trail : Trail (CutEdge τ N (var y) i) c (inN empty spot) 0
+pub record Copied (τ : Translation) (N : Tree) (i y : ℕ) (c : Cut) (z : Spot) : Type 0 where
+  pub spot : Spot
+  pub is : z ≡ lifted 0 i spot
+  pub trail : Trail (CutEdge τ N (var y) i) c (inN empty spot) 0
 
 pub occurs_is : (w : Wire) (y : ℕ) → occurs w (var y) ≡ true → w ≡ bound y
 occurs_is (bound k) y m = ap bound (sym (eqb-true y k m))
@@ -303,7 +303,7 @@ module _ {τ : Translation} where
       (occurs_is w y (occurs_old r)) (gone r) in
       absurd (let e : wire_of None ≡ Some z = ap wire_of (sym q) ∙ k in cc)
 
-  var_copied : {N : Tree} {i y : ℕ} {c : Cut} {z : Spot} → without i y ≡ None →
+  pub var_copied : {N : Tree} {i y : ℕ} {c : Cut} {z : Spot} → without i y ≡ None →
       Held τ N (var y) i c z → Copied τ N i y c z
   var_copied {i = i} {y = y} q (at_root {v = v} {c = c}) = record {
     spot = at root v c;
@@ -431,15 +431,15 @@ pre_zero i (bound (suc y)) e = absurd (no_suc (without i y) e)
 pre_zero i (name f) e = absurd (cc)
 
 module _ {τ : Translation} where
-  body_trail : {N M : Tree} {i : ℕ} {c c' : Cut} {n : ℕ} → Trail (CutEdge τ N M (suc i)) c c' n →
+  pub body_trail : {N M : Tree} {i : ℕ} {c c' : Cut} {n : ℕ} → Trail (CutEdge τ N M (suc i)) c c' n →
       Trail (CutEdge τ N (lam M) i) (up_body c) (up_body c') n
   body_trail t = tr_map up_body body_edge t
 
-  fun_trail : {N M1 M2 : Tree} {i : ℕ} {c c' : Cut} {n : ℕ} → Trail (CutEdge τ N M1 i) c c' n →
+  pub fun_trail : {N M1 M2 : Tree} {i : ℕ} {c c' : Cut} {n : ℕ} → Trail (CutEdge τ N M1 i) c c' n →
       Trail (CutEdge τ N (app M1 M2) i) (up_fun M2 i c) (up_fun M2 i c') n
   fun_trail {M2 = M2} {i = i} t = tr_map (up_fun M2 i) fun_edge t
 
-  arg_trail : {N M1 M2 : Tree} {i : ℕ} (v : Level) {c c' : Cut} {n : ℕ} →
+  pub arg_trail : {N M1 M2 : Tree} {i : ℕ} (v : Level) {c c' : Cut} {n : ℕ} →
       Trail (CutEdge τ N M2 i) c c' n → IsFine τ M2 i c →
       Trail (CutEdge τ N (app M1 M2) i) (up_arg τ M1 M2 i v c) (up_arg τ M1 M2 i v c') n
   arg_trail v here h = here

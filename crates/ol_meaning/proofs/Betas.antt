@@ -21,7 +21,7 @@ use Rattle.ol_term.specs.declared.translations.Translation.{Translation}
 
 module _ {τ : Translation} where
   -- a wire of N has an address at each copy
-  copy_address : {N M : Tree} {i : ℕ} {w : Level} {s z0 : Spot} → Copies τ N M i w s z0 →
+  pub copy_address : {N M : Tree} {i : ℕ} {w : Level} {s z0 : Spot} → Copies τ N M i w s z0 →
       (x z : Wire) (b : Level) → IsLevelOf τ N b → occurs x N ≡ true → z ≡ lifted_wire 0 i x →
       (a' : Level) × WireOf τ N M i (ofN w x b) z a'
   copy_address (copy e q) x z b l h p = (b, own e h p)
@@ -37,15 +37,15 @@ module _ {τ : Translation} where
   copy_address (copy_arg {v = v} r e) x z b l h p = let t = copy_address r x z b l h p in
       (_, arg_n v t.1 e (record { level = level_copied t.1 l; is = refl }))
 
-lifted_zero : (y : Wire) → y ≡ lifted_wire 0 0 y
+pub lifted_zero : (y : Wire) → y ≡ lifted_wire 0 0 y
 lifted_zero (bound y) = ap bound (omega arith)
 lifted_zero (name f) = refl
 
-zero_gone : (y : Wire) → wire_without 0 (under y) ≡ Some y
+pub zero_gone : (y : Wire) → wire_without 0 (under y) ≡ Some y
 zero_gone (bound y) = refl
 zero_gone (name f) = refl
 
-zero_from : (x y : Wire) → wire_without 0 x ≡ Some y → x ≡ under y
+pub zero_from : (x y : Wire) → wire_without 0 x ≡ Some y → x ≡ under y
 zero_from (bound zero) y e = absurd (cc)
 zero_from (bound (suc x)) y e = let k : bound x ≡ y = cc in ap under k
 zero_from (name f) y e = let k : name f ≡ y = cc in ap under k
@@ -60,7 +60,7 @@ module _ {τ : Translation} where
   held_trail (back e t q) h = let a = there_back e h in let k = held_trail t a.held in
       record { spot = k.spot; held = k.held; trail = tr_trans a.trail k.trail q }
 
-  closes_trail : {N M : Tree} {c c' : Cut} {n : ℕ} → Trail (CutEdge τ N M 0) c c' n → {s : Spot} →
+  pub closes_trail : {N M : Tree} {c c' : Cut} {n : ℕ} → Trail (CutEdge τ N M 0) c c' n → {s : Spot} →
       Opens τ N M s c → To τ N M c' s
   closes_trail here {s} r = record { spot = s; rel = r; weight = 0; trail = here }
   closes_trail {N} {M} (on e t q) {s} r = let a = closes τ N M e r in

@@ -208,13 +208,13 @@ module _ (τ : Translation) where
 
 -- ---- under an abstraction: the way out is one-to-one
 
-under_one : (y z : Wire) → under y ≡ under z → y ≡ z
+pub under_one : (y z : Wire) → under y ≡ under z → y ≡ z
 under_one (bound y) (bound z) e = (let i : suc y ≡ suc z = cc in ap bound (omega arith))
 under_one (bound y) (name z) e = absurd (cc)
 under_one (name y) (bound z) e = absurd (cc)
 under_one (name y) (name z) e = e
 
-under_zero : (y : Wire) → bound 0 ≡ under y → ⊥
+pub under_zero : (y : Wire) → bound 0 ≡ under y → ⊥
 under_zero (bound y) e = (let i : 0 ≡ suc y = cc in omega arith)
 under_zero (name y) e = cc
 

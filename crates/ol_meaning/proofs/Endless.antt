@@ -16,7 +16,7 @@ one_step {t} {a} {b} g h =
 
 -- ---- a head normal form has none
 
-spine_stops : {t v : Tree} {y : Wire} {a : Level} {j : ℕ} → Spine t y a j → HeadStep t v → ⊥
+pub spine_stops : {t v : Tree} {y : Wire} {a : Level} {j : ℕ} → Spine t y a j → HeadStep t v → ⊥
 spine_stops {v = v} (head_var {y = y}) x6 = elim x6 [ ]
 spine_stops {v = v} (head_free {f = f}) x7 = elim x7 [ ]
 spine_stops (head_app {P = P} {y = y} {a = a} {w = w} {j = j} s e) (beta {M = M}) = elim s [ ]

@@ -3,6 +3,7 @@ use Rattle.std.proofs.Common.{◌≡◌, ◌≢◌, ℕ, zero, suc, ◌+◌, ◌
 use Rattle.std.proofs.Common.{false, if◌then◌else◌, List, [], ◌∷◌, Some, None, refl, sym, ap, ◌∙◌}
 use Rattle.std.proofs.Common.{subst, arith}
 use Rattle.std.proofs.lemmas.Bool.{eqb-true, eq-eqb, ltb-true, ltb-false}
+use Rattle.std.proofs.lemmas.Option.{same_Some}
 use Rattle.std.specs.Option.{option_map}
 use Rattle.ol_beta.specs.Beta.{shifted, substituted, contracted}
 use Rattle.ol_beta.specs.Leftmost.{leftmost, first_of_two}
@@ -82,9 +83,6 @@ leftmost_step (before {R = R} {P = P} e h) =
 
 -- ---- leftmost steps are one
 
-some_one : {X : Type 0} (a b : X) → Some a ≡ Some b → a ≡ b
-some_one a b e = cc
-
 pub same_step : (t : Tree) {u w : Tree} {at bt : List ℕ} → leftmost t ≡ Some at →
     contracted t at ≡ Some u → leftmost t ≡ Some bt → contracted t bt ≡ Some w → u ≡ w
-same_step t {u} {w} {at} {bt} e f g h = some_one u w (sym f ∙ ap (contracted t) (some_one at bt (sym e ∙ g)) ∙ h)
+same_step t {u} {w} {at} {bt} e f g h = same_Some u w (sym f ∙ ap (contracted t) (same_Some at bt (sym e ∙ g)) ∙ h)

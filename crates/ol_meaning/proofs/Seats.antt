@@ -231,7 +231,7 @@ module _ (τ : Translation) {R : Tree} {y : Wire} {a : Level} {i : ℕ} (s0 : Sp
 
 -- ---- an earlier argument
 
-data Earlier (Sit : Spot → Spot → Type 0) (H : Hats) : Spot → Spot → Type 0 where
+pub data Earlier (Sit : Spot → Spot → Type 0) (H : Hats) : Spot → Spot → Type 0 where
   funs : {s z : Spot} → Sit s z → Earlier Sit H s (fun z)
   sides : {p q : Place} {v b : Level} {c d : Context} → H p v c q b d → Earlier Sit H (at p v c) (at q b d)
 
@@ -316,11 +316,11 @@ module _ {τ : Translation} {P R : Tree} {H : Hats} (Q : Tree)
 
 -- ---- under an abstraction
 
-data Inner (Sit : Spot → Spot → Type 0) (H : Hats) : Spot → Spot → Type 0 where
+pub data Inner (Sit : Spot → Spot → Type 0) (H : Hats) : Spot → Spot → Type 0 where
   bodies : {s z : Spot} → Sit s z → Inner Sit H s (body z)
   rims : {p q : Place} {v b : Level} {c d : Context} → H p v c q b d → Inner Sit H (at p v c) (at q b d)
 
-up_has : (M : Tree) {p q : Place} {v w : Level} → OutOf p v q w → Has p M → Has q (lam M)
+pub up_has : (M : Tree) {p q : Place} {v w : Level} → OutOf p v q w → Has p M → Has q (lam M)
 up_has M (up_root e) m = tt
 up_has M (up_own g e) m = tt
 up_has M (up_wire e f) m = subst (λ z. occurs z M ≡ true) e m

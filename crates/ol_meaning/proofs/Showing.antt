@@ -35,7 +35,7 @@ use Rattle.ol_meaning.proofs.Sights.{ahead_levels, arg_seen}
 use Rattle.ol_meaning.proofs.Matched.{ended, chain_grows, HeadSays, head_says}
 use Rattle.ol_term.specs.declared.translations.Translation.{Translation}
 
-asked_is : (ls : List Level) (n : ℕ) → asked ls n ≡ ahead ls (cons (os n empty) (levels []))
+pub asked_is : (ls : List Level) (n : ℕ) → asked ls n ≡ ahead ls (cons (os n empty) (levels []))
 asked_is ls n = sym (ahead_levels ls (os n empty ∷ [])) ∙ ap (ahead ls) (levels_cons (os n empty) [])
 
 ended_is : (j : ℕ) → cons (os j empty) (levels []) ≡ ended j
@@ -190,20 +190,20 @@ port_stays [] f g (suc i) e = refl
 port_stays (h ∷ F) f g zero e = refl
 port_stays (h ∷ F) f g (suc i) e = port_stays F f g i e
 
-port_of_stays : (F : List Frame) (f g : Frame) (v : HeadVar) → f.port ≡ g.port →
+pub port_of_stays : (F : List Frame) (f g : Frame) (v : HeadVar) → f.port ≡ g.port →
     port_of (F ++ f ∷ []) v ≡ port_of (F ++ g ∷ []) v
 port_of_stays F f g (var.Bound i j) e = port_stays F f g i e
 port_of_stays F f g (var.Free q) e = refl
 
-record IsHeadOf {A : Type 0} (N : NamedNet A) (F : List Frame) (i n k : ℕ) (v : HeadVar)
+pub record IsHeadOf {A : Type 0} (N : NamedNet A) (F : List Frame) (i n k : ℕ) (v : HeadVar)
     (ls : List Level) : Type 0 where
-  port : ℕ
-  context : Context
-  few : (m : ℕ) → m < n → NoPath N (frame_at F i).port (asked (frame_at F i).levels m)
-  path : Path N (free (frame_at F i).port) (asked (frame_at F i).levels n) port context
-  match : Matches F port context i n v k ls
+  pub port : ℕ
+  pub context : Context
+  pub few : (m : ℕ) → m < n → NoPath N (frame_at F i).port (asked (frame_at F i).levels m)
+  pub path : Path N (free (frame_at F i).port) (asked (frame_at F i).levels n) port context
+  pub match : Matches F port context i n v k ls
 
-is_head_of : {A : Type 0} {N : NamedNet A} {F : List Frame} {i n k : ℕ} {v : HeadVar}
+pub is_head_of : {A : Type 0} {N : NamedNet A} {F : List Frame} {i n k : ℕ} {v : HeadVar}
     {ls : List Level} → IsHead N F i (head n v k ls) → IsHeadOf N F i n k v ls
 is_head_of (heads.leaves {q = q} {X = X} few r (matched m)) = record {
   port = q;

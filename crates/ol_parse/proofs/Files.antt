@@ -11,7 +11,7 @@ use Rattle.ol_term.specs.Trees.{Tree, tree_of, is_below, is_named_below, has_nam
 use Rattle.ol_parse.specs.Grammar.{Named, var, lam, app}
 use Rattle.ol_parse.specs.Depth.{named_depth}
 use Rattle.ol_parse.specs.Numbered.{position_of, numbered, var_at, free_at, names_of, number}
-use Rattle.ol_parse.specs.Resolving.{names_from, free_unless, add_unless}
+use Rattle.ol_parse.specs.Resolving.{names_from, add_unless}
 use Rattle.ol_parse.proofs.Once.{names_once}
 use Rattle.ol_parse.proofs.Places.{kept_from, new_from, grows}
 
@@ -81,7 +81,7 @@ record Placed (x : List ℕ) (names names' : List (List ℕ)) : Type 0 where
   pub last : (k : ℕ) → length names ≤ k → k < length names' → place ≡ k
 
 add_placed : (x : List ℕ) (names : List (List ℕ)) (o : Option ℕ) → position_of x names ≡ o →
-    Placed x names (add_unless names x o)
+    Placed x names (add_unless names x None o)
 add_placed x names (Some k) h =
     let l = in_list x names k h in
     record { place = k; low = l; is = λ more. kept_from x more k names 0 h; last = λ n h p. absurd (omega arith) }
@@ -94,12 +94,13 @@ add_placed x names None h = record {
 }
 
 var_named : (x : List ℕ) (names more : List (List ℕ)) (o : Option ℕ) →
-    is_named_below (length (free_unless names x o)) (var_at o (position_of x (free_unless names x o ++ more))) ≡ true
+    is_named_below (length (add_unless names x o (position_of x names)))
+    (var_at o (position_of x (add_unless names x o (position_of x names) ++ more))) ≡ true
 var_named x names more (Some k) = refl
 var_named x names more None =
     let p = add_placed x names (position_of x names) refl in
-    ap (λ o. is_named_below (length (add_unless names x (position_of x names))) (free_at o))
-    (p.is more) ∙ lt-ltb p.place (length (add_unless names x (position_of x names))) p.low
+    ap (λ o. is_named_below (length (add_unless names x None (position_of x names))) (free_at o))
+    (p.is more) ∙ lt-ltb p.place (length (add_unless names x None (position_of x names))) p.low
 
 pub all_named : (t : Named) (binders names more : List (List ℕ)) →
     is_named_below (length (names_from binders names t))
@@ -121,7 +122,8 @@ all_named (app f a) binders names more =
 -- ---- each name of the list occurs
 
 var_occurs : (x : List ℕ) (names more : List (List ℕ)) (k : ℕ) (o : Option ℕ) → length names ≤ k →
-    k < length (free_unless names x o) → has_name k (var_at o (position_of x (free_unless names x o ++ more))) ≡ true
+    k < length (add_unless names x o (position_of x names)) →
+    has_name k (var_at o (position_of x (add_unless names x o (position_of x names) ++ more))) ≡ true
 var_occurs x names more k (Some n) h l = absurd (omega arith)
 var_occurs x names more k None h l =
     let p = add_placed x names (position_of x names) refl in

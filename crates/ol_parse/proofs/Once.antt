@@ -1,6 +1,6 @@
 -- Names that grow from the left are those of first occurrences.
-use Rattle.std.proofs.Common.{◌≡◌, ℕ, ◌+◌, List, [], ◌∷◌, ◌++◌, reverse, Bool, true, false, ◌||◌}
-use Rattle.std.proofs.Common.{cond, Option, Some, None, refl, sym, ap, ◌∙◌, append_assoc}
+use Rattle.std.proofs.Common.{◌≡◌, ℕ, ◌+◌, List, [], ◌∷◌, ◌++◌, reverse, Bool, true, false, not, ◌||◌}
+use Rattle.std.proofs.Common.{cond, filter, Option, Some, None, refl, sym, ap, ◌∙◌, append_assoc}
 use Rattle.std.proofs.Common.{append-nil}
 use Rattle.std.specs.List.{position_from}
 use Rattle.std.specs.Borrow.{Bor}
@@ -10,26 +10,27 @@ use Rattle.ol_term.specs.Trees.{Tree}
 use Rattle.ol_term.specs.NameLists.{without}
 use Rattle.ol_parse.specs.Grammar.{Named, var, lam, app}
 use Rattle.ol_parse.specs.Numbered.{position_of, unbound, free_in, once, names_of, number, numbered}
-use Rattle.ol_parse.specs.Resolving.{add_unless, free_unless, names_from, texts, IsNumbered}
+use Rattle.ol_parse.specs.Resolving.{add_unless, names_from, texts, IsNumbered}
 
+-- a name is in the list
 abbrev has : List ℕ → List (List ℕ) → Bool
 has x [] = false
 has x (y ∷ ys) = bytes_eq x y || has x ys
 
--- those that aren't in the list
-abbrev rest : List (List ℕ) → List (List ℕ) → List (List ℕ)
-rest names [] = []
-rest names (y ∷ ys) = cond (has y names) (rest names ys) (y ∷ rest names ys)
+-- it isn't
+abbrev is_new : List (List ℕ) → List ℕ → Bool
+is_new names x = not (has x names)
 
 abbrev add_all : List (List ℕ) → List (List ℕ) → List (List ℕ)
 add_all names [] = names
-add_all names (x ∷ xs) = add_all (add_unless names x (position_of x names)) xs
+add_all names (x ∷ xs) = add_all (add_unless names x None (position_of x names)) xs
 
 add_both : (xs ys names : List (List ℕ)) → add_all names (xs ++ ys) ≡ add_all (add_all names xs) ys
 add_both [] ys names = refl
-add_both (x ∷ xs) ys names = add_both xs ys (add_unless names x (position_of x names))
+add_both (x ∷ xs) ys names = add_both xs ys (add_unless names x None (position_of x names))
 
-one_added : (names : List (List ℕ)) (x : List ℕ) (o : Option ℕ) → free_unless names x o ≡ add_all names (unbound x o)
+one_added : (names : List (List ℕ)) (x : List ℕ) (o : Option ℕ) →
+    add_unless names x o (position_of x names) ≡ add_all names (unbound x o)
 one_added names x (Some k) = refl
 one_added names x None = refl
 
@@ -79,23 +80,27 @@ has_more y x (n ∷ names) = ap (λ b. bytes_eq y n || b) (has_more y x names)
 -- ---- one more name
 
 abbrev kept : Bool → List ℕ → List (List ℕ) → List (List ℕ)
-kept b y ys = cond b ys (y ∷ ys)
+kept b y ys = cond (not b) (y ∷ ys) ys
 
 -- a name that is in the list is left out either way
-rest_known : (x : List ℕ) (names ys : List (List ℕ)) → has x names ≡ true → rest names (without x ys) ≡ rest names ys
-rest_known x names [] h = refl
-rest_known x names (y ∷ ys) h = go (bytes_eq x y) refl (rest_known x names ys h)
+known_gone : (x : List ℕ) (names ys : List (List ℕ)) → has x names ≡ true →
+    filter (is_new names) (without x ys) ≡ filter (is_new names) ys
+known_gone x names [] h = refl
+known_gone x names (y ∷ ys) h = go (bytes_eq x y) refl (known_gone x names ys h)
   where
-    go : (b : Bool) → bytes_eq x y ≡ b → rest names (without x ys) ≡ rest names ys →
-        rest names (cond b (without x ys) (y ∷ without x ys)) ≡ cond (has y names) (rest names ys) (y ∷ rest names ys)
-    go true e each = each ∙ sym (ap (λ b. kept b y (rest names ys))
+    go : (b : Bool) → bytes_eq x y ≡ b →
+        filter (is_new names) (without x ys) ≡ filter (is_new names) ys →
+        filter (is_new names) (cond b (without x ys) (y ∷ without x ys))
+        ≡ kept (has y names) y (filter (is_new names) ys)
+    go true e each = each ∙ sym (ap (λ b. kept b y (filter (is_new names) ys))
         (ap (λ w. has w names) (sym ((bytes_eq-Decides x y).0 e)) ∙ h))
     go false e each = ap (kept (has y names) y) each
 
-rest_new : (x : List ℕ) (names ys : List (List ℕ)) → rest names (without x ys) ≡ rest (names ++ (x ∷ [])) ys
-rest_new x names [] = refl
-rest_new x names (y ∷ ys) = go (bytes_eq x y) refl (rest_new x names ys)
-    ∙ ap (λ b. kept b y (rest (names ++ (x ∷ [])) ys)) (sym (has_more y x names))
+new_gone : (x : List ℕ) (names ys : List (List ℕ)) →
+    filter (is_new names) (without x ys) ≡ filter (is_new (names ++ (x ∷ []))) ys
+new_gone x names [] = refl
+new_gone x names (y ∷ ys) = go (bytes_eq x y) refl (new_gone x names ys)
+    ∙ ap (λ b. kept b y (filter (is_new (names ++ (x ∷ []))) ys)) (sym (has_more y x names))
   where
     or_true : (a : Bool) → true ≡ (a || true)
     or_true true = refl
@@ -106,43 +111,45 @@ rest_new x names (y ∷ ys) = go (bytes_eq x y) refl (rest_new x names ys)
         let one : bytes_eq x y ≡ true = ap (bytes_eq x) same ∙ (bytes_eq-Decides x x).1 refl in absurd (cc)
     back false e h = e
 
-    go : (b : Bool) → bytes_eq x y ≡ b → rest names (without x ys) ≡ rest (names ++ (x ∷ [])) ys →
-        rest names (cond b (without x ys) (y ∷ without x ys)) ≡ kept (has y names || bytes_eq y x) y
-        (rest (names ++ (x ∷ [])) ys)
+    go : (b : Bool) → bytes_eq x y ≡ b →
+        filter (is_new names) (without x ys) ≡ filter (is_new (names ++ (x ∷ []))) ys →
+        filter (is_new names) (cond b (without x ys) (y ∷ without x ys))
+        ≡ kept (has y names || bytes_eq y x) y (filter (is_new (names ++ (x ∷ []))) ys)
     go true e each =
         let other : bytes_eq y x ≡ true = ap (bytes_eq y) ((bytes_eq-Decides x y).0 e)
         ∙ (bytes_eq-Decides y y).1 refl in
-        each ∙ ap (λ b. kept b y (rest (names ++ (x ∷ [])) ys))
+        each ∙ ap (λ b. kept b y (filter (is_new (names ++ (x ∷ []))) ys))
         (or_true (has y names) ∙ ap (λ b. has y names || b) (sym other))
     go false e each =
-        ap (kept (has y names) y) each ∙ ap (λ b. kept b y (rest (names ++ (x ∷ [])) ys))
+        ap (kept (has y names) y) each ∙ ap (λ b. kept b y (filter (is_new (names ++ (x ∷ []))) ys))
         (sym (or_false (has y names)) ∙ ap (λ b. has y names || b) (sym (back (bytes_eq y x) refl e)))
 
-behind : (xs names : List (List ℕ)) → add_all names xs ≡ names ++ rest names (once xs)
+behind : (xs names : List (List ℕ)) → add_all names xs ≡ names ++ filter (is_new names) (once xs)
 behind [] names = sym (append-nil names)
 behind (x ∷ xs) names = go (position_of x names) refl (behind xs names) (behind xs (names ++ (x ∷ [])))
   where
     go : (o : Option ℕ) → position_of x names ≡ o →
-        add_all names xs ≡ names ++ rest names (once xs) →
-        add_all (names ++ (x ∷ [])) xs ≡ (names ++ (x ∷ [])) ++ rest (names ++ (x ∷ [])) (once xs)
-        → add_all (add_unless names x o) xs ≡ names ++ cond (has x names)
-        (rest names (without x (once xs))) (x ∷ rest names (without x (once xs)))
+        add_all names xs ≡ names ++ filter (is_new names) (once xs) →
+        add_all (names ++ (x ∷ [])) xs
+        ≡ (names ++ (x ∷ [])) ++ filter (is_new (names ++ (x ∷ []))) (once xs)
+        → add_all (add_unless names x None o) xs ≡ names ++ kept (has x names) x
+        (filter (is_new names) (without x (once xs)))
     go (Some k) e old new =
         let here = at_some x names 0 k e in
-        old ∙ ap (λ l. names ++ l) (sym (rest_known x names (once xs) here))
-        ∙ ap (λ b. names ++ kept b x (rest names (without x (once xs)))) (sym here)
+        old ∙ ap (λ l. names ++ l) (sym (known_gone x names (once xs) here))
+        ∙ ap (λ b. names ++ kept b x (filter (is_new names) (without x (once xs)))) (sym here)
     go None e old new =
         let gone = at_none x names 0 e in
-        new ∙ append_assoc names (x ∷ []) (rest (names ++ (x ∷ [])) (once xs))
-        ∙ ap (λ l. names ++ (x ∷ l)) (sym (rest_new x names (once xs)))
-        ∙ ap (λ b. names ++ kept b x (rest names (without x (once xs)))) (sym gone)
+        new ∙ append_assoc names (x ∷ []) (filter (is_new (names ++ (x ∷ []))) (once xs))
+        ∙ ap (λ l. names ++ (x ∷ l)) (sym (new_gone x names (once xs)))
+        ∙ ap (λ b. names ++ kept b x (filter (is_new names) (without x (once xs)))) (sym gone)
 
-rest_none : (ys : List (List ℕ)) → rest [] ys ≡ ys
-rest_none [] = refl
-rest_none (y ∷ ys) = ap (λ l. y ∷ l) (rest_none ys)
+all_new : (ys : List (List ℕ)) → filter (is_new []) ys ≡ ys
+all_new [] = refl
+all_new (y ∷ ys) = ap (λ l. y ∷ l) (all_new ys)
 
 pub names_once : (t : Named) → names_from [] [] t ≡ names_of t
-names_once t = all_added t [] [] ∙ behind (free_in [] t) [] ∙ rest_none (once (free_in [] t))
+names_once t = all_added t [] [] ∙ behind (free_in [] t) [] ∙ all_new (once (free_in [] t))
 
 pub whole_numbered : (t : Named) (binders : List (Bor (List ℕ))) (names names' : List (List ℕ))
     (u : Tree) → binders ≡ [] → names ≡ [] → names' ≡ names_from (texts (reverse binders)) names t →

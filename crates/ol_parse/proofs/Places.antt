@@ -17,7 +17,7 @@ use Rattle.ol_term.specs.Trees as tree
 use Rattle.ol_term.specs.Trees.{Tree}
 use Rattle.ol_term.specs.NameLists.{IsFirstPlace}
 use Rattle.ol_parse.specs.Numbered.{position_of, numbered, var_at, free_at}
-use Rattle.ol_parse.specs.Resolving.{texts, names_from, free_unless, add_unless, IsNumbered}
+use Rattle.ol_parse.specs.Resolving.{texts, names_from, add_unless, IsNumbered}
 
 abbrev is : List ℕ → List ℕ → Bool
 is name = λ y. bytes_eq name y
@@ -68,12 +68,12 @@ new_from x more k (y ∷ xs) i e h =
     (bytes_eq x y) (new_from x more k xs (i + 1) n) h
 
 add_grows : (names : List (List ℕ)) (x : List ℕ) (o : Option ℕ) →
-    (rest : List (List ℕ)) × (add_unless names x o ≡ names ++ rest)
+    (rest : List (List ℕ)) × (add_unless names x None o ≡ names ++ rest)
 add_grows names x (Some k) = ([], sym (append-nil names))
 add_grows names x None = (x ∷ [], refl)
 
 free_grows : (names : List (List ℕ)) (x : List ℕ) (o : Option ℕ) →
-    (rest : List (List ℕ)) × (free_unless names x o ≡ names ++ rest)
+    (rest : List (List ℕ)) × (add_unless names x o (position_of x names) ≡ names ++ rest)
 free_grows names x (Some k) = ([], sym (append-nil names))
 free_grows names x None = add_grows names x (position_of x names)
 
@@ -122,18 +122,19 @@ pub free_named : (t : Named) (x : List ℕ) (binders old new : List (List ℕ)) 
     position_of x binders ≡ None → IsFirstPlace new x k → (k < length old → new ≡ old) →
     (length old ≤ k → new ≡ old ++ (x ∷ [])) → new ≡ names_from binders old t
 free_named t x binders old new k e b f known last =
-    sym (ap (names_from binders old) e ∙ ap (free_unless old x) b ∙ elim (cases_lt k (length old)) [
+    sym (ap (names_from binders old) e ∙ ap (λ o. add_unless old x o (position_of x old)) b
+    ∙ elim (cases_lt k (length old)) [
       | inl low ↦ (
           let same : new ≡ old = known low in
           let here : position_of x old ≡ Some k = ap (position_of x) (sym same) ∙ first_place x new k f in
-          ap (add_unless old x) here ∙ sym same
+          ap (add_unless old x None) here ∙ sym same
           )
       | inr past ↦ (
           let more : new ≡ old ++ (x ∷ []) = last (omega arith) in
           let gone : position_of x old ≡ None = none_from x old 0
           (λ j l same. f.before j (omega arith)
           (ap (λ l. slice_get l j) more ∙ below_added old (x ∷ []) j l ∙ same)) in
-          ap (add_unless old x) gone ∙ sym more
+          ap (add_unless old x None) gone ∙ sym more
           )
     ])
 

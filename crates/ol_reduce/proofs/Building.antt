@@ -15,7 +15,8 @@ use Rattle.ol_net.specs.Graph.{has_port, place, port_at, IsTabled}
 use Rattle.ol_net.specs.Build.{BadPortAt, TwiceAt, HasEnd, link_at, IsLoose, FaultIs}
 use Rattle.ol_net.specs.Numbered.{all_live}
 use Rattle.ol_net.proofs.Places.{place-port_at, port_at-place, place-within}
-use Rattle.ol_reduce.specs.Drafts.{frozen_top, link_row, links_below, IsFullDraft}
+use Rattle.ol_rules.specs.Listed.{each}
+use Rattle.ol_reduce.specs.Drafts.{frozen_top, link_row, IsFullDraft}
 
 -- ---- where an element of a list stands
 
@@ -39,7 +40,7 @@ module _ (free : ℕ) (partners : List ℕ) where
   link_of k = (port_at free k, port_at free (other partners k))
 
   abbrev links : ℕ → List (Port × Port)
-  links n = links_below free partners n
+  links n = each n (link_row free partners)
 
   row_yes : (k : ℕ) → k < other partners k → link_row free partners k ≡ link_of k ∷ []
   row_yes k lt = ap (λ b. if b then link_of k ∷ [] else []) (lt-ltb k (other partners k) lt)

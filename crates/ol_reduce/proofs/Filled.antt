@@ -8,12 +8,12 @@ use Rattle.ol_wire.specs.Layout.{left_word}
 use Rattle.ol_wire.specs.Closed.{ClosedTable, events_in, filled_row, filled_below, cells_filled}
 use Rattle.ol_reduce.specs.Found.{AreCells}
 
-at_front : (xs ys : List ℕ) (j : ℕ) → j < length xs → slice_index (xs ++ ys) j ≡ slice_index xs j
+pub at_front : (xs ys : List ℕ) (j : ℕ) → j < length xs → slice_index (xs ++ ys) j ≡ slice_index xs j
 at_front [] ys j lt = absurd (omega arith)
 at_front (x ∷ xs) ys zero lt = refl
 at_front (x ∷ xs) ys (suc j) lt = at_front xs ys j (omega arith)
 
-at_end : (xs : List ℕ) (x j : ℕ) → j ≡ length xs → slice_index (xs ++ x ∷ []) j ≡ x
+pub at_end : (xs : List ℕ) (x j : ℕ) → j ≡ length xs → slice_index (xs ++ x ∷ []) j ≡ x
 at_end [] x zero e = refl
 at_end [] x (suc j) e = absurd (omega (arith, e))
 at_end (y ∷ xs) x zero e = absurd (omega (arith, e))

@@ -17,6 +17,7 @@ use Rattle.ol_wire.specs.Closed.{ClosedTable, events_in, event_at, journal_in}
 use Rattle.ol_wire.specs.Events.{entry_of}
 use Rattle.ol_wire.specs.Standing.{IsUntouched, IsMadeNode}
 use Rattle.ol_reduce.proofs.Births.{length_each}
+use Rattle.ol_reduce.proofs.Filled.{at_front, at_end}
 use Rattle.ol_wire.proofs.InWords.Claimed.{wider}
 use Rattle.ol_reduce.specs.Left.{rank_of, name_of_rank, ranks_in, IsLeft, IsNamedBefore, AreMarked, AreLeft}
 
@@ -67,19 +68,6 @@ rank_back z r = elim (cases_lt r z.nodes) [
       ∙ (let e : z.nodes + 4 * ((r - z.nodes) / 4) + (r - z.nodes) % 4 ≡ r = omega (arith, a) in e)
 ]
 
--- ---- lists with one more at the end
-
-at_old : (xs : List ℕ) (x j : ℕ) → j < length xs → slice_index (xs ++ x ∷ []) j ≡ slice_index xs j
-at_old [] x j lt = absurd (omega arith)
-at_old (y ∷ xs) x zero lt = refl
-at_old (y ∷ xs) x (suc j) lt = at_old xs x j (omega arith)
-
-at_new : (xs : List ℕ) (x j : ℕ) → j ≡ length xs → slice_index (xs ++ x ∷ []) j ≡ x
-at_new [] x zero e = refl
-at_new [] x (suc j) e = absurd (omega (arith, e))
-at_new (y ∷ xs) x zero e = absurd (omega (arith, e))
-at_new (y ∷ xs) x (suc j) e = at_new xs x j (omega (arith, e))
-
 -- ---- the next rank
 
 module _ (w : ClosedTable) (n : ℕ) (places numbers : List ℕ) (before : AreLeft w n places numbers) where
@@ -111,12 +99,12 @@ module _ (w : ClosedTable) (n : ℕ) (places numbers : List ℕ) (before : AreLe
     long = length-set numbers n (length places + 1) ∙ before.long;
     few = omega (arith, before.few, length-append places (place ∷ []));
     each = λ j lt. elim (cases_lt j (length places)) [
-      | inl a ↦ let t = before.each j a in (t.0, omega (arith, t.1), t.2, at_old places place j a ∙ t.3)
+      | inl a ↦ let t = before.each j a in (t.0, omega (arith, t.1), t.2, at_front places (place ∷ []) j a ∙ t.3)
       | inr a ↦ (
         n,
         omega arith,
         left,
-        at_new places place j
+        at_end places place j
             (omega (arith, a, lt, length-append places (place ∷ []))) ∙ e,
       )
     ];
@@ -124,19 +112,19 @@ module _ (w : ClosedTable) (n : ℕ) (places numbers : List ℕ) (before : AreLe
       | inl a ↦ omega (
         arith,
         before.rising j k lt a,
-        at_old places place j (omega (arith, lt, a)),
-        at_old places place k a,
+        at_front places (place ∷ []) j (omega (arith, lt, a)),
+        at_front places (place ∷ []) k a,
       )
       | inr a ↦
           let low : j < length places = omega (arith, lt, ltk, length-append places (place ∷ [])) in
           let t = before.each j low in
           omega (
             arith,
-            at_old places place j low,
+            at_front places (place ∷ []) j low,
             t.3,
             place_rises z t.0 n t.1,
             e,
-            at_new places place k (omega (arith, a, ltk, length-append places (place ∷ []))),
+            at_end places place k (omega (arith, a, ltk, length-append places (place ∷ []))),
           )
     ];
     found = λ r lt l. elim (cases_eq r n) [
@@ -147,7 +135,7 @@ module _ (w : ClosedTable) (n : ℕ) (places numbers : List ℕ) (before : AreLe
             omega (arith, q),
             omega (arith, q, length-append places (place ∷ [])),
             ap (λ m. slice_index (places ++ place ∷ []) (m - 1)) q
-                ∙ at_new places place (length places + 1 - 1) (omega arith) ∙ e ∙ ap (λ r. place_of z (name r)) (sym d),
+                ∙ at_end places place (length places + 1 - 1) (omega arith) ∙ e ∙ ap (λ r. place_of z (name r)) (sym d),
           )
       | inr d ↦
           let below : r < n = omega (arith, lt, d) in
@@ -157,7 +145,7 @@ module _ (w : ClosedTable) (n : ℕ) (places numbers : List ℕ) (before : AreLe
             omega (arith, t.0, q),
             omega (arith, t.1, q, length-append places (place ∷ [])),
             ap (λ m. slice_index (places ++ place ∷ []) (m - 1)) q
-                ∙ at_old places place (slice_index numbers r - 1) (omega (arith, t.0, t.1)) ∙ t.2,
+                ∙ at_front places (place ∷ []) (slice_index numbers r - 1) (omega (arith, t.0, t.1)) ∙ t.2,
           )
     ];
   }

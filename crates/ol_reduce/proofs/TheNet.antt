@@ -22,7 +22,7 @@ use Rattle.ol_wire.specs.Layout.{cells_of}
 use Rattle.ol_wire.specs.Closed.{ClosedTable}
 use Rattle.ol_wire.specs.Standing.{WordsStandFor}
 use Rattle.ol_reduce.specs.Left.{ranks_in, AreLeft}
-use Rattle.ol_reduce.specs.Drafts.{frozen_top, links_below, link_row}
+use Rattle.ol_reduce.specs.Drafts.{frozen_top, all_links, link_row}
 use Rattle.ol_reduce.specs.Frozen.{IsFrozen}
 use Rattle.ol_reduce.specs.Found.{name_of, port_of, kind_of, IsPartial, AreMet, AreCelled}
 use Rattle.ol_reduce.proofs.Sites.{names_rise, number_of, site_of_port}
@@ -34,7 +34,7 @@ use Rattle.ol_reduce.proofs.Finished.{kind_there, kind_past, complete, all_known
 module _ (ports : ℕ) (kinds : List (Kind × ℕ)) (partners : List ℕ)
     (paired : (k : ℕ) → other partners (other partners k) ≡ k) where
   abbrev parts : NamedNet ℕ
-  parts = net_of_parts ports kinds (links_below ports partners (length partners))
+  parts = net_of_parts ports kinds (all_links ports partners)
 
   abbrev at : ℕ → NamedPort ℕ
   at a = numbered_port (port_at ports a)
@@ -45,14 +45,14 @@ module _ (ports : ℕ) (kinds : List (Kind × ℕ)) (partners : List ℕ)
   pub linked_to : (a : ℕ) → other partners a ≢ a → Linked parts (at a) (at (other partners a))
   linked_to a d = elim (cases_lt a (other partners a)) [
     | inl lt ↦ inl (in_map named (link_of ports partners a)
-        (links_below ports partners (length partners))
+        (all_links ports partners)
         (link_in ports partners (length partners) a (within_table partners a d) lt))
     | inr ge ↦
         let b : ℕ = other partners a in
         let up : other partners a < other partners (other partners a) = omega (arith, ge, d, paired a) in
         let low = within_table partners (other partners a) (λ e. omega (arith, up, e)) in
         let i = in_map named (link_of ports partners (other partners a))
-        (links_below ports partners (length partners))
+        (all_links ports partners)
         (link_in ports partners (length partners) (other partners a) low up) in
         inr (subst (λ v. IsIn {X = NamedPort ℕ × NamedPort ℕ} (
           numbered_port (port_at ports (other partners a)),
@@ -80,7 +80,7 @@ module _ (ports : ℕ) (kinds : List (Kind × ℕ)) (partners : List ℕ)
   pair_of : (p q : NamedPort ℕ) → IsIn {X = NamedPort ℕ × NamedPort ℕ} (p, q) parts.links →
       (a : ℕ) × (a < other partners a) × (p ≡ at a) × (q ≡ at (other partners a))
   pair_of p q h =
-      let t = in_map_of named (p, q) (links_below ports partners (length partners)) h in
+      let t = in_map_of named (p, q) (all_links ports partners) h in
       let r = in_each_of t.0 (length partners) (link_row ports partners) t.1 in
       let k = in_row r.0 t.0 r.2 in (
         r.0,
@@ -109,7 +109,7 @@ module _ (w : ClosedTable) (places numbers : List ℕ)
     (are : AreMet w N reached places partners met (length partners))
     (cells_are : AreCelled w N places partners (cells_of w.plan.parts))
     (g : Graph) (b : Builds frozen_top w.plan.parts.free kinds
-    (links_below w.plan.parts.free partners (length partners)) g) where
+    (all_links w.plan.parts.free partners) g) where
   abbrev z : Parts
   z = w.plan.parts
 

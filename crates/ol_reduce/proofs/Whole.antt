@@ -11,7 +11,7 @@ use Rattle.ol_wire.specs.Layout.{cells_of}
 use Rattle.ol_wire.specs.Closed.{ClosedTable, IsAfter}
 use Rattle.ol_wire.specs.Standing.{is_reached_in}
 use Rattle.ol_reduce.specs.Left.{ranks_in, AreLeft}
-use Rattle.ol_reduce.specs.Drafts.{frozen_top, links_below, IsFullDraft}
+use Rattle.ol_reduce.specs.Drafts.{frozen_top, all_links, IsFullDraft}
 use Rattle.ol_reduce.specs.Frozen.{IsFrozen}
 use Rattle.ol_reduce.specs.Found.{IsPartly, AreMetTo, AreCelledTo}
 use Rattle.ol_reduce.proofs.Arriving.{Told, table_long}
@@ -51,10 +51,10 @@ module _ (w : ClosedTable) (places numbers : List ℕ)
       (cells told.0 (is_reached_in w) told.2))
 
   pub built : (one : (M N : NamedNet NodeName) → IsAfter w M → IsAfter w N → SameNet M N) →
-      (g : Graph) → Builds frozen_top free kinds (links_below free partners (length partners)) g →
+      (g : Graph) → Builds frozen_top free kinds (all_links free partners) g →
       (net : NamedNet NodeName) → IsAfter w net → IsFrozen net g
   built one g b net h =
-      let b' = subst (λ f. Builds frozen_top f kinds (links_below f partners (length partners)) g) same b in
+      let b' = subst (λ f. Builds frozen_top f kinds (all_links f partners) g) same b in
       frozen_same told.0 net g (one told.0 net told.1 h)
       (is_frozen w places numbers left_are told.0 (is_reached_in w) told.2 kinds partners walked.0
       (whole told.0 (is_reached_in w) told.2) (walked.1 told.0 (is_reached_in w) told.2)

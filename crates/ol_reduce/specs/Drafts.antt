@@ -17,9 +17,6 @@ abbrev pub link_row : ℕ → List ℕ → ℕ → List (Port × Port)
 link_row free partners k = if nat_lt k (other partners k) then
     (port_at free k, port_at free (other partners k)) ∷ [] else []
 
-abbrev pub links_below : ℕ → List ℕ → ℕ → List (Port × Port)
-links_below free partners n = each n (link_row free partners)
-
 -- Each port has a partner, and no index is too great.
 pub record IsFullDraft (free : ℕ) (kinds : List (Kind × ℕ)) (partners : List ℕ) : Type 0 where
   pub tabled : IsTabled free (all_live kinds) partners
@@ -27,7 +24,7 @@ pub record IsFullDraft (free : ℕ) (kinds : List (Kind × ℕ)) (partners : Lis
 
 -- all links
 abbrev pub all_links : ℕ → List ℕ → List (Port × Port)
-all_links free partners = links_below free partners (length partners)
+all_links free partners = each (length partners) (link_row free partners)
 
 -- both are places of the table
 abbrev pub AreWithin : List ℕ → ℕ → ℕ → Type 0

@@ -4,7 +4,7 @@ ghost use Rattle.ol_net.specs.Build.{Builds};
 ghost use Rattle.ol_net.specs.Graph.{port_at};
 ghost use Rattle.ol_net.specs.Pairing.{other};
 ghost use Rattle.ol_net.specs.Linking.{linked};
-ghost use Rattle.ol_reduce.specs.Drafts.{frozen_top, links_below, IsFullDraft, all_links, AreWithin, StayWithin, AreFew, IsBuilt};
+ghost use Rattle.ol_reduce.specs.Drafts.{frozen_top, IsFullDraft, all_links, AreWithin, StayWithin, AreFew, IsBuilt};
 
 use ol_io::NoMemory;
 use ol_net::{BuildFault, Kind, Net, NodeId, Port};

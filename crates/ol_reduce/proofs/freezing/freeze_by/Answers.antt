@@ -1,10 +1,10 @@
-use Rattle.std.proofs.Common.{length, ap, ◌∙◌, arith}
+use Rattle.std.proofs.Common.{ap, ◌∙◌, arith}
 use Rattle.ol_wire.specs.declared.layout.Parts.{Parts}
 use Rattle.ol_net.specs.Nets.{NamedNet}
 use Rattle.ol_net.specs.Build.{Builds}
 use Rattle.ol_rules.specs.declared.journal.NodeName.{NodeName}
 use Rattle.ol_wire.specs.Closed.{IsAfter}
-use Rattle.ol_reduce.specs.Drafts.{frozen_top, links_below}
+use Rattle.ol_reduce.specs.Drafts.{frozen_top, all_links}
 use Rattle.ol_reduce.specs.Frozen.{IsFrozen}
 use Rattle.ol_reduce.proofs.Whole.{fresh_partly, few, completed, built, map_ok}
 use Rattle.ol_reduce.proofs.freezing.freeze_by.Goals as goal
@@ -43,8 +43,8 @@ build-requires-clause-complete c =
 pub returns : goal.returns
 returns c = record {
   frozen = map_ok (Builds frozen_top c.link_chains.new.draft.free
-      c.link_chains.new.draft.kinds.items (links_below c.link_chains.new.draft.free
-      c.link_chains.new.draft.partners.items (length c.link_chains.new.draft.partners.items)))
+      c.link_chains.new.draft.kinds.items (all_links c.link_chains.new.draft.free
+      c.link_chains.new.draft.partners.items))
       (λ g. (net : NamedNet NodeName) → IsAfter c.args.words.now net → IsFrozen net g) c.build.result
       (λ g b. built c.args.words.now c.in_ok-live.live.places.items c.in_ok-live.live.numbers.items
       c.in_ok-live.ensures c.stands.ensures.stands c.link_chains.new.draft.kinds.items
