@@ -14,11 +14,7 @@ use ol_io::NoMemory;
 use std::alloc::Global;
 
 // So many open deques without a cell, from both sides.
-fn open_all(
-    alloc: Global,
-    count: u32,
-    bound: u32,
-) -> Result<(Vec<Own>, Vec<Thief>), NoMemory>
+fn open_all(alloc: Global, count: u32, bound: u32) -> Result<(Vec<Own>, Vec<Thief>), NoMemory>
     ensures owns { IfOk result (λ made. All (λ own. own.log ≡ opened bound) made.0.items) }
     ensures thieves { IfOk result (λ made.
         map (λ own. own.deque) made.0.items ≡ map (λ t. stealer_deque t) made.1.items) }
@@ -54,11 +50,7 @@ fn lend_all(alloc: Global, pool: &Pool, owns: &mut Vec<Own>) -> Result<Vec<Reach
 }
 
 // Access for each hand to each deque.
-fn lend_rows(
-    alloc: Global,
-    pool: &Pool,
-    owns: &mut Vec<Own>,
-) -> Result<Vec<Vec<Reach>>, NoMemory>
+fn lend_rows(alloc: Global, pool: &Pool, owns: &mut Vec<Own>) -> Result<Vec<Vec<Reach>>, NoMemory>
     requires few { pool.now.hands ≤ 64 }
     requires owns { AreOpen pool.now 0 owns.old.items }
     ensures owns { OnOk result (AreOpen pool.now pool.now.hands owns.new.items) }

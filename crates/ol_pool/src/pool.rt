@@ -42,9 +42,9 @@ impl Pool {
     pub(crate) fn of(thieves: Vec<Thief>, hands: u32, cells: u32) -> Pool
         requires { length thieves.items ≡ hands }
         ensures { result ≡ record {
-            hands = hands;
-            cells = cells;
-            deques = map (λ t. stealer_deque t) thieves.items;
+          hands = hands;
+          cells = cells;
+          deques = map (λ t. stealer_deque t) thieves.items;
         } }
     {
         Pool {
