@@ -1,5 +1,14 @@
 //! The bench: answers for those who look closer at a term, a net or a journal. Each command is a
 //! function from bytes to an answer; `bench` reads the files of a command and writes its answer.
+//!
+//! - `subjects`: files made ready: from the bytes of a file to a term, or to a net
+//! - `counting`: the command `counts`: three ways to reduce, side by side
+//! - `ordering`: the command `journal`: a run in one of two orders
+//! - `placing`: the command `where`: the line and the column of a byte
+//! - `stepping`: the command `steps`: leftmost reduction, term by term
+//! - `answers`: what the commands answer
+//! - `texts`: pieces of texts
+//! - `top`: a command, from its file to what is written
 #![tactic(auto)]
 
 mod answers;

@@ -1,4 +1,7 @@
 //! The program `ol-bench` over files, standard input, standard output and standard error.
+//!
+//! - `words`: the words of a command line, read by clap
+//! - `errors`: standard error as a sink
 #![tactic(auto)]
 
 ghost use Rattle.ol_bench.specs.Commands.{IsWithinBounds};

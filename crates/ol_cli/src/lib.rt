@@ -1,4 +1,17 @@
 //! The top call: from words to a text on a sink and a status.
+//!
+//! - `top`: the top call
+//! - `commands`: one module a command
+//! - `files`: one file read to its end, or the answer that refuses it
+//! - `ready`: a term file made ready: from its name to the net of its term
+//! - `last_tree`: the tree that is read back from the net that the workers leave
+//! - `answer`: an answer: a text, its status, and what is handed back with it
+//! - `status`: how a call of the program ended
+//! - `texts`: the texts that the program writes
+//! - `verdicts`: the texts of verdicts
+//! - `limits`: the limits of what is read, made ready and printed
+//! - `numbers`: the numbers of the jobs that rewrite a term's net and read it back
+//! - `laws`: the laws of answers
 #![tactic(auto)]
 
 mod answer;

@@ -11,6 +11,13 @@
 //!
 //! A chain is walked for one number of abstractions at a time, and from its start after each
 //! rewrite: an open walk asks for all numbers at once, but it doesn't stop at an active pair.
+//!
+//! - `demanding`: the whole demand run
+//! - `asking`: chains that ask frames, while the pairs that they meet are rewritten
+//! - `chaining`: chains: walks up to the first active pair
+//! - `rewriting`: pairs rewritten one after another, and written down under names
+//! - `answers`: what demand order answers
+//! - `laws`: the laws of demand order
 #![tactic(auto)]
 
 mod answers;

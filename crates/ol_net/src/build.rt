@@ -9,8 +9,8 @@ ghost use Rattle.ol_net.specs.Numbered.{all_live};
 ghost use Rattle.ol_net.specs.Scans.{FindsFirst};
 ghost use Rattle.ol_net.specs.Tabling.{MeetsAt, AreAllLinked, places, FindsAlone, GivesTable, GivesTables};
 
-use crate::graph::{is_port, place_of, port_of};
 use crate::parts::{BuildFault, Kind, Port};
+use crate::table::{is_port, place_of, port_of};
 use std::alloc::{AllocError, Global};
 
 fn is_bad_index(top: u32, node: (Kind, u32)) -> bool

@@ -7,8 +7,8 @@ ghost use Rattle.ol_net.specs.Numbered.{net_of};
 ghost use Rattle.ol_net.specs.Pairs.{HasStuck};
 ghost use Rattle.ol_net.specs.Scans.{IsLesserOfStuck};
 
-use crate::graph::{kind_in, partner_in};
 use crate::parts::{Facing, Kind, NodeId, Port, facing_of};
+use crate::table::{kind_in, partner_in};
 
 /// What the node is to the one whose principal port is the partner of its own.
 pub fn facing_in(free: u32, nodes: &[Option<(Kind, u32)>], partners: &[usize], at: NodeId) -> Facing

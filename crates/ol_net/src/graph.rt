@@ -10,14 +10,14 @@ ghost use Rattle.ol_net.specs.declared.parts.Facing.TheVariants.{Active, Stuck};
 ghost use Rattle.ol_net.specs.declared.parts.Facing.TheVariants as facing;
 ghost use Rattle.ol_net.specs.Replace.{AreFacing, MayAllBeBorn, JoinsFit, Replaces};
 ghost use Rattle.ol_net.specs.declared.parts.Kind.{Kind};
-ghost use Rattle.ol_net.specs.Pairing.{other};
 ghost use Rattle.ol_net.specs.Build.{Builds, FaultIs, build_top};
-ghost use Rattle.ol_net.specs.Graph.{kind_at, partner_of, partner_in, IsTabled, facing_at, place, port_at, has_port, has_slot};
+ghost use Rattle.ol_net.specs.Graph.{kind_at, partner_of, IsTabled, facing_at};
 
 use crate::build::tables;
 use crate::facing::{facing_in, stuck_in};
 use crate::parts::{BuildFault, Facing, JoinEnd, Kind, NodeId, Port};
 use crate::rewire::replace_in;
+use crate::table::{kind_in, partner_in};
 use ol_io::NoMemory;
 use std::alloc::Global;
 use std::marker::Model;
@@ -264,12 +264,6 @@ impl Net {
     }
 }
 
-pub fn kind_in(nodes: &[Option<(Kind, u32)>], n: usize) -> Option<(Kind, u32)>
-    ensures { result ≡ kind_at nodes.now n }
-{
-    if n < nodes.len() { nodes[n] } else { None }
-}
-
 fn top_index_in(nodes: &[Option<(Kind, u32)>]) -> u32
     ensures { result ≡ top_index_of nodes.now }
 {
@@ -280,70 +274,4 @@ fn top_index_in(nodes: &[Option<(Kind, u32)>]) -> u32
         }
     }
     top
-}
-
-fn has_slot_in(kind: Option<(Kind, u32)>, slot: u8) -> bool
-    ensures { result ≡ has_slot kind slot }
-{
-    match kind {
-        Some(k) => slot < k.0.slots(),
-        None => false,
-    }
-}
-
-pub fn is_port(free: u32, nodes: &[Option<(Kind, u32)>], p: Port) -> bool
-    ensures { result ≡ has_port free nodes.now p }
-{
-    match p {
-        Port::Free(k) => k < free,
-        Port::Of { node, slot } => has_slot_in(kind_in(nodes, node.0 as usize), slot),
-    }
-}
-
-pub fn partner_in(
-    free: u32,
-    nodes: &[Option<(Kind, u32)>],
-    partners: &[usize],
-    p: Port,
-) -> Option<Port>
-    requires few { length nodes.now < 2 ^ 31 }
-    requires net { IsTabled free nodes.now partners.now }
-    ensures { result ≡ partner_in free nodes.now partners.now p }
-{
-    if !is_port(free, nodes, p) {
-        return None;
-    }
-    let at = place_of(free, p);
-    Some(port_of(free, other(partners, at)))
-}
-
-/// The place that the table pairs with this one.
-pub fn other(partners: &[usize], at: usize) -> usize
-    requires { at < length partners.now }
-    ensures { result ≡ other partners.now at }
-{
-    partners[at]
-}
-
-pub fn place_of(free: u32, p: Port) -> usize
-    ensures { result ≡ place free p }
-{
-    match p {
-        Port::Free(k) => k as usize,
-        Port::Of { node, slot } => free as usize + 3 * node.0 as usize + slot as usize,
-    }
-}
-
-pub fn port_of(free: u32, k: usize) -> Port
-    requires { k < free + 3 * 2 ^ 31 }
-    ensures { result ≡ port_at free k }
-{
-    if k < free as usize {
-        return Port::Free(k as u32);
-    }
-    let rest = k - free as usize;
-    Port::Of {
-        node: NodeId((rest / 3) as u32),
-        slot: (rest % 3) as u8,
-    }
 }

@@ -1,7 +1,7 @@
 //! The words that speak of a net: kinds, ports, rules.
 
 ghost use Rattle.std.specs.Prelude.{◌≡◌};
-ghost use Rattle.ol_net.specs.Parts.{slots_of, is_eraser};
+ghost use Rattle.ol_net.specs.Parts.{arity, slots_of, is_eraser};
 ghost use Rattle.ol_net.specs.Rules.{facing_of_pair, rule_of, by_index, crossed, met, either};
 
 /// The kinds of nodes of a sharing graph (Lamping, POPL 1990; Asperti and Guerrini, The Optimal
@@ -110,6 +110,13 @@ impl Kind {
             Kind::Bracket => 2,
             Kind::Eraser => 1,
         }
+    }
+
+    /// The number of auxiliary slots, which are numbered from 1.
+    pub fn arity(self) -> u8
+        ensures { result ≡ arity self }
+    {
+        self.slots() - 1
     }
 
     /// Whether the node is an eraser.

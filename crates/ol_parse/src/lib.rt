@@ -1,4 +1,14 @@
 //! The reader of term files.
+//!
+//! - `parsing`: the parser
+//! - `bytes`: the reader over bytes
+//! - `tokens`: the reader over tokens, with a flat row of what is open
+//! - `flat`: a term as a row of steps over a stack of terms
+//! - `depths`: how deep the tree of such a row is, before it is grown
+//! - `growing`: a tree grown from its steps
+//! - `named`: terms with names, as trees
+//! - `numbers`: from names to numbers
+//! - `faults`: why a text gives no term
 #![tactic(auto)]
 
 ghost use Rattle.ol_parse.specs.Laws.{FewLeaves, OneDeadPlace, OneTerm};

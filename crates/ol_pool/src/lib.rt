@@ -6,14 +6,16 @@
 //! - `own`: a hand's own deque
 //! - `home`: the same, with what it answered
 //! - `reach`: what a hand knows of another's deque
-//! - `hands`: what a worker holds of a pool
 //! - `pool`: the pool, shared by the workers
-//! - `opening`: the deques of a new pool, and its hands
+//! - `hands`: what a worker holds of a pool
+//! - `opening`: a new pool: its deques, and its hands
 //! - `looks`: a search for a cell over parts of any sort
 //! - `pool_look`: a hand's search over its pool
+//! - `calls`: what a worker asks of a pool: to put a cell, and to take one
 //! - `laws`: what holds of each deque between any two steps of any threads
 #![tactic(auto)]
 
+mod calls;
 mod deques;
 mod hands;
 mod home;

@@ -1,4 +1,4 @@
-//! The deques of a new pool, and its hands.
+//! A new pool: its deques, and its hands.
 ghost use Rattle.std.specs.Prelude.{◌≡◌, ℕ, ◌+◌, ◌-◌, ◌<◌, ◌≤◌, All, IfOk, OnOk, length, map, vec_len};
 ghost use Rattle.crossbeam_deque.specs.Handles.{stealer_deque};
 ghost use Rattle.ol_pool.specs.Deques.{opened, lends};
@@ -14,11 +14,7 @@ use ol_io::NoMemory;
 use std::alloc::Global;
 
 // So many open deques without a cell, from both sides.
-pub(crate) fn open_all(
-    alloc: Global,
-    count: u32,
-    bound: u32,
-) -> Result<(Vec<Own>, Vec<Thief>), NoMemory>
+fn open_all(alloc: Global, count: u32, bound: u32) -> Result<(Vec<Own>, Vec<Thief>), NoMemory>
     ensures owns { IfOk result (λ made. All (λ own. own.log ≡ opened bound) made.0.items) }
     ensures thieves { IfOk result (λ made.
         map (λ own. own.deque) made.0.items ≡ map (λ t. stealer_deque t) made.1.items) }
@@ -54,11 +50,7 @@ fn lend_all(alloc: Global, pool: &Pool, owns: &mut Vec<Own>) -> Result<Vec<Reach
 }
 
 // Access for each hand to each deque.
-pub(crate) fn lend_rows(
-    alloc: Global,
-    pool: &Pool,
-    owns: &mut Vec<Own>,
-) -> Result<Vec<Vec<Reach>>, NoMemory>
+fn lend_rows(alloc: Global, pool: &Pool, owns: &mut Vec<Own>) -> Result<Vec<Vec<Reach>>, NoMemory>
     requires few { pool.now.hands ≤ 64 }
     requires owns { AreOpen pool.now 0 owns.old.items }
     ensures owns { OnOk result (AreOpen pool.now pool.now.hands owns.new.items) }
@@ -74,7 +66,7 @@ pub(crate) fn lend_rows(
 }
 
 // The hands of these deques, in their order.
-pub(crate) fn deal(
+fn deal(
     alloc: Global,
     pool: &Pool,
     mut owns: Vec<Own>,
@@ -94,4 +86,27 @@ pub(crate) fn deal(
     }
     hands.reverse();
     Ok(hands)
+}
+
+impl Pool {
+    /// A pool without a cell, for cells below `cells`, and its hands in the order of their numbers.
+    /// Each deque begins with room for 64 cells.
+    ///
+    /// `NoMemory`: no memory was found.
+    pub fn new(alloc: Global, hands: u32, cells: u32) -> Result<(Pool, Vec<Hand>), NoMemory>
+        requires some { 1 ≤ hands }
+        requires few { hands ≤ 64 }
+        ensures hands { IfOk result (λ made. made.0.hands ≡ hands) }
+        ensures cells { IfOk result (λ made. made.0.cells ≡ cells) }
+        ensures count { IfOk result (λ made. vec_len made.1 ≡ hands) }
+        ensures each { IfOk result (λ made. AreDealt made.0 made.1.items) }
+        ensures same_pool { IfOk result (λ made. All (λ hand. IsHandOf hand made.0) made.1.items) }
+        ensures open { IfOk result (λ made. All (λ hand. hand.stage ≡ 2) made.1.items) }
+    {
+        let (mut owns, thieves) = open_all(alloc, hands, cells)?;
+        let pool = Pool::of(thieves, hands, cells);
+        let rows = lend_rows(alloc, &pool, &mut owns)?;
+        let made = deal(alloc, &pool, owns, rows)?;
+        Ok((pool, made))
+    }
 }

@@ -8,6 +8,20 @@
 //!
 //! `read` reads one place after another, whoever asks the frames for their heads. `read_back` has
 //! them asked by walks over a net that stays as it is.
+//!
+//! - `reading`: one place read after another, and a whole net read back
+//! - `askers`: those who ask frames for their heads
+//! - `asking`: a frame asked for its head by a walk
+//! - `frames`: frames
+//! - `levels`: lists of level values
+//! - `leaving`: what the exit of a walk says against a frame and the frames round it
+//! - `fitting`: an exit against one frame
+//! - `skipping`: frames that bind nothing are passed over
+//! - `groups`: arguments that are still to be read
+//! - `answers`: what a head and a place of a tree are
+//! - `tree`: the tree that was read
+//! - `printing`: its text
+//! - `laws`: the laws of heads and trees
 #![tactic(auto)]
 
 mod answers;

@@ -1,5 +1,18 @@
 //! Reduction by many threads: workers that take cells and make turns on them until no active pair
 //! is left, a pass over all cells, and the net that the words of a closed table stand for.
+//!
+//! - `reducing`: a net rewritten by any number of workers
+//! - `gathering`: from seats to workers and back, and the work of all of them
+//! - `workers`: a worker: a seat at the table, and a hand in the pool
+//! - `working`: what a worker does
+//! - `sweeping`: a pass over all cells, once every seat stands in one
+//! - `answers`: what the work of a seat came to
+//! - `reduced`: what the work of all workers comes to
+//! - `freezing`: the net that the words of a closed table stand for
+//! - `live`: the nodes that are left
+//! - `chains`: chains of wires
+//! - `draft`: a net while its links are found
+//! - `reading`: words that are there
 #![tactic(auto)]
 
 mod answers;

@@ -37,13 +37,6 @@ struct Pair {
     of_g: (Kind, u32),
 }
 
-/// The number of auxiliary ports.
-fn arity(kind: Kind) -> u8
-    ensures { result ≡ arity kind }
-{
-    kind.slots() - 1
-}
-
 fn born(place: u8, slot: u8) -> JoinEnd
     ensures { result ≡ JoinEnd.Born place slot }
 {
@@ -88,7 +81,7 @@ fn meet(net: &mut Net, pair: Pair) -> Result<(), NoMemory>
     ensures refused { OnErr result (net.new ≡ net.old) }
 {
     let (f, g) = (pair.f, pair.g);
-    match arity(pair.of_f.0) {
+    match pair.of_f.0.arity() {
         1 => net.replace(f, g, &[], &[(JoinEnd::First(1), JoinEnd::Second(1))]),
         _ => net.replace(
             f,
@@ -114,7 +107,7 @@ fn cross_with_none(net: &mut Net, pair: Pair, index: u32) -> Result<(), NoMemory
     let (f, g, of_f) = (pair.f, pair.g, pair.of_f);
     let first = (born(0, 0), JoinEnd::Second(1));
     let second = (born(1, 0), JoinEnd::Second(2));
-    match arity(pair.of_g.0) {
+    match pair.of_g.0.arity() {
         0 => net.replace(f, g, &[], &[]),
         1 => net.replace(f, g, &[of_f], &[first]),
         _ => net.replace(f, g, &[of_f, of_f], &[first, second]),
@@ -133,7 +126,7 @@ fn cross_with_one(net: &mut Net, pair: Pair, index: u32) -> Result<(), NoMemory>
 {
     let (f, g, of_f) = (pair.f, pair.g, pair.of_f);
     let of_g = (pair.of_g.0, index);
-    match arity(of_g.0) {
+    match of_g.0.arity() {
         1 => net.replace(
             f,
             g,
@@ -171,7 +164,7 @@ fn cross_with_two(net: &mut Net, pair: Pair, index: u32) -> Result<(), NoMemory>
 {
     let (f, g, of_f) = (pair.f, pair.g, pair.of_f);
     let of_g = (pair.of_g.0, index);
-    match arity(of_g.0) {
+    match of_g.0.arity() {
         1 => net.replace(
             f,
             g,

@@ -1,6 +1,19 @@
 //! Tests of contexts and walks, of read-back, and of what stands on them.
 //!
 //! They stand apart from what they test, so that their proof does not prove that again.
+//!
+//! - `small_nets`: small nets that more than one of the tests uses
+//! - `crossings`: values and single crossings
+//! - `level_texts`: levels, single crossings and walks as plain texts
+//! - `levels_of_terms`: walks over the translations of four terms, with their exact levels
+//! - `kept_paths`: a run of one small term, and walks before and after it
+//! - `tables`: wrong lines of the rule table, and the path that each of them would lose
+//! - `orders`: nets that are rewritten in several orders
+//! - `leaving`: exits of walks, against the root's frame
+//! - `heads`: nets of small terms, read back and printed
+//! - `trees`: trees of small nets
+//! - `equal_trees`: such trees, compared
+//! - `certificates`: steps, roads and verdicts
 #![tactic(auto)]
 
 #[cfg(test)]

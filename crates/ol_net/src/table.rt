@@ -1,0 +1,86 @@
+//! What the tables of a net say: the kind of a node, which ports there are, the place of a port, and
+//! its partner.
+
+ghost use Rattle.std.specs.Prelude.{◌≡◌, ◌+◌, ◌*◌, ◌^◌, ◌<◌, length};
+ghost use Rattle.ol_net.specs.Pairing.{other};
+ghost use Rattle.ol_net.specs.Graph.{kind_at, partner_in, IsTabled, place, port_at, has_port, has_slot};
+
+use crate::parts::{Kind, NodeId, Port};
+
+/// Kind and index of the node of that number, if it is live.
+pub fn kind_in(nodes: &[Option<(Kind, u32)>], n: usize) -> Option<(Kind, u32)>
+    ensures { result ≡ kind_at nodes.now n }
+{
+    if n < nodes.len() { nodes[n] } else { None }
+}
+
+// Whether a node of this kind, if there is one, has the slot.
+fn has_slot_in(kind: Option<(Kind, u32)>, slot: u8) -> bool
+    ensures { result ≡ has_slot kind slot }
+{
+    match kind {
+        Some(k) => slot < k.0.slots(),
+        None => false,
+    }
+}
+
+/// Whether the net has the port.
+pub fn is_port(free: u32, nodes: &[Option<(Kind, u32)>], p: Port) -> bool
+    ensures { result ≡ has_port free nodes.now p }
+{
+    match p {
+        Port::Free(k) => k < free,
+        Port::Of { node, slot } => has_slot_in(kind_in(nodes, node.0 as usize), slot),
+    }
+}
+
+/// The other port of the link of a port, if the net has the port.
+pub fn partner_in(
+    free: u32,
+    nodes: &[Option<(Kind, u32)>],
+    partners: &[usize],
+    p: Port,
+) -> Option<Port>
+    requires few { length nodes.now < 2 ^ 31 }
+    requires net { IsTabled free nodes.now partners.now }
+    ensures { result ≡ partner_in free nodes.now partners.now p }
+{
+    if !is_port(free, nodes, p) {
+        return None;
+    }
+    let at = place_of(free, p);
+    Some(port_of(free, other(partners, at)))
+}
+
+/// The place that the table pairs with this one.
+pub fn other(partners: &[usize], at: usize) -> usize
+    requires { at < length partners.now }
+    ensures { result ≡ other partners.now at }
+{
+    partners[at]
+}
+
+/// The place of a port: the free ports come first, and then three places for each node number.
+pub fn place_of(free: u32, p: Port) -> usize
+    ensures { result ≡ place free p }
+{
+    match p {
+        Port::Free(k) => k as usize,
+        Port::Of { node, slot } => free as usize + 3 * node.0 as usize + slot as usize,
+    }
+}
+
+/// The port that a place is of.
+pub fn port_of(free: u32, k: usize) -> Port
+    requires { k < free + 3 * 2 ^ 31 }
+    ensures { result ≡ port_at free k }
+{
+    if k < free as usize {
+        return Port::Free(k as u32);
+    }
+    let rest = k - free as usize;
+    Port::Of {
+        node: NodeId((rest / 3) as u32),
+        slot: (rest % 3) as u8,
+    }
+}
