@@ -2,7 +2,7 @@
 use Rattle.std.specs.Prelude.{◌≡◌, ◌≢◌, ◌<◌, ℕ, List, ◌++◌, length, slice_set, slice_get, slice_index_or, Some}
 use Rattle.ol_net.specs.declared.parts.Kind.{Kind}
 use Rattle.ol_net.specs.declared.parts.Port.{Port}
-use Rattle.ol_translate.specs.declared.TheConstants.{MOST_NODES}
+use Rattle.ol_translate.specs.declared.parts.TheConstants.{MOST_NODES}
 use Rattle.ol_translate.specs.declared.faults.TransFault.{TransFault}
 use Rattle.ol_translate.specs.declared.faults.TransFault.TheVariants.{TooMany}
 use Rattle.ol_translate.specs.declared.parts.Parts.{Parts}

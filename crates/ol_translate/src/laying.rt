@@ -5,7 +5,7 @@ ghost use Rattle.ol_term.specs.Trees.{tree_of};
 ghost use Rattle.ol_translate.specs.Translation.{nodes_of, links_of, name_links, occurrence, subnet_of, wire_of, outside, slot_port, erasers, bound_port, bracket_nodes, bracket_links, past_brackets, fans, fan_nodes, fan_links, merged};
 ghost use Rattle.ol_translate.specs.Growth.{next_number, Lays, Adds, OnlyAbove, HaveOneEach, IsIndex};
 ghost use Rattle.ol_translate.specs.Names.{HasNames};
-ghost use Rattle.ol_translate.specs.declared.TheConstants.{MOST_NODES};
+ghost use Rattle.ol_translate.specs.declared.parts.TheConstants.{MOST_NODES};
 ghost use Rattle.ol_translate.specs.declared.faults.TransFault.TheVariants.{TooMany};
 
 use crate::faults::TransFault;

@@ -1,15 +1,17 @@
 //! The nodes and links that are laid down.
 
 ghost use Rattle.std.specs.Prelude.{◌≡◌, ◌≤◌, ◌<◌, ◌++◌, [], ◌∷◌, length, IfOk, OnOk, IfErr};
-ghost use Rattle.ol_translate.specs.declared.TheConstants.{MOST_NODES};
+ghost use Rattle.ol_translate.specs.declared.parts.TheConstants.{MOST_NODES};
 ghost use Rattle.ol_translate.specs.declared.faults.TransFault.{TransFault};
 ghost use Rattle.ol_translate.specs.declared.faults.TransFault.TheVariants.{TooMany};
 
-use crate::MOST_NODES;
 use crate::faults::TransFault;
 use crate::index::Index;
 use ol_net::{Kind, Port};
 use std::alloc::Global;
+
+/// The most nodes that a translated term has.
+const MOST_NODES: usize = 200_000;
 
 /// The nodes, in order of their numbers, and the links. The index serves each application in turn.
 #[derive(Drop)]

@@ -10,7 +10,7 @@ use Rattle.ol_translate.proofs.Fitting.{never_refused, same_translation}
 use Rattle.ol_translate.proofs.Indexes.{top_is_low}
 use Rattle.ol_net.specs.Indexes.{top_index_of}
 use Rattle.ol_translate.proofs.Answering.{names_of, refused_where, given_where}
-use Rattle.ol_translate.proofs.translate.Goals as goal
+use Rattle.ol_translate.proofs.nets.translate.Goals as goal
 
 pub returns-in_err-parts-clause-too_many : goal.returns-in_err-parts-clause-too_many
 returns-in_err-parts-clause-too_many c =
