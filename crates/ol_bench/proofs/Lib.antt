@@ -1,5 +1,4 @@
 pub mod Blanks
-pub mod TermSizes
 pub mod Named
 pub mod Moves
 pub mod Walks

@@ -10,3 +10,4 @@ pub mod Answering
 pub mod Fitting
 pub mod Rows
 pub mod Whole
+pub mod TermSizes

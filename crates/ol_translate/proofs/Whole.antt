@@ -118,15 +118,15 @@ some_partner (l ∷ links) p h = go (some_partner links p) (some (hit p l.0) (hi
 
 -- ---- ports by their numbers
 
-abbrev port_of : NamedPort ℕ → Port
+abbrev pub port_of : NamedPort ℕ → Port
 port_of (free n) = Free n
 port_of (slot x s) = Of (record { 0 = x }) s
 
-port_back : (p : Port) → port_of (numbered_port p) ≡ p
+pub port_back : (p : Port) → port_of (numbered_port p) ≡ p
 port_back (Free k) = refl
 port_back (Of n s) = refl
 
-port_there : (p : NamedPort ℕ) → numbered_port (port_of p) ≡ p
+pub port_there : (p : NamedPort ℕ) → numbered_port (port_of p) ≡ p
 port_there (free n) = refl
 port_there (slot x s) = refl
 

@@ -1,4 +1,5 @@
--- A term is at most twice as large as its translation.
+-- A term is at most twice as large as its translation, so the size of a term with a small net is counted.
+-- Used in crates above.
 use Rattle.std.proofs.Common.{◌≡◌, ℕ, ◌+◌, ◌*◌, ◌^◌, ◌<◌, ◌≤◌, List, Option, None, Some, refl, arith}
 use Rattle.ol_term.specs.declared.translations.Translation.{Translation}
 use Rattle.ol_term.specs.declared.translations.Translation.TheVariants.{One, Two}
