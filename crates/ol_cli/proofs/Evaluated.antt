@@ -39,7 +39,7 @@ use Rattle.ol_cli.specs.Run.{journal_of, PrintsWork}
 use Rattle.ol_cli.proofs.NamedNets.{named_net}
 use Rattle.ol_cli.proofs.ListedOnce.{net_of_once, net_of_parts_once, net_under_once, same_length}
 use Rattle.ol_cli.proofs.TreeTransport.{tree_same, tree_under}
-use Rattle.ol_cli.proofs.KeptPorts.{same_ports}
+use Rattle.ol_invariance.proofs.Runs.{run_keeps_ports}
 use Rattle.ol_cli.proofs.AnyRun.{any_run_with, any_run_runs_out}
 
 -- names that rise with their numbers give two numbers two names
@@ -102,7 +102,7 @@ module _ (tr : Translation) (t : Tree) (names : List (List ℕ)) (start : Graph)
 
       -- the run keeps the free ports
       pub ports_kept : last.free ≡ 1 + length names
-      ports_kept = f.same.free_ports ∙ same_ports _ net 0 (journal_of w) words_run ∙ same.free_ports
+      ports_kept = f.same.free_ports ∙ run_keeps_ports _ net 0 (journal_of w) words_run ∙ same.free_ports
 
       module _ (heads stuck : ℕ) (tree : List ReadNode) (term text : List ℕ)
           (told : Told names heads stuck (journal_of w) last tree term text)

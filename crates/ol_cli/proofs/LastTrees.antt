@@ -22,7 +22,7 @@ use Rattle.ol_cli.specs.Run.{ReadsLast}
 use Rattle.ol_cli.specs.Run.{journal_of}
 use Rattle.ol_cli.proofs.AnyRun.{any_run_reads}
 use Rattle.ol_cli.proofs.Evaluated.{own_run, own_net, one_name}
-use Rattle.ol_cli.proofs.KeptPorts.{same_ports}
+use Rattle.ol_invariance.proofs.Runs.{run_keeps_ports}
 use Rattle.ol_cli.proofs.ListedOnce.{net_of_once, net_under_once}
 use Rattle.ol_cli.proofs.NamedNets.{named_net}
 use Rattle.ol_cli.proofs.TreeTransport.{tree_under}
@@ -33,7 +33,7 @@ pub ports_stay : (start : Graph) (fuel seats : ℕ) (last : Graph) (journal : Li
 ports_stay start fuel seats last journal w d =
     let run : IsRun (net_under Init (net_of start)) 0 (journal_of w) d.last_net = subst
     (λ (g : Graph). IsRun (net_under Init (net_of g)) 0 (journal_of w) d.last_net) d.table.1 d.after in
-    d.frozen.same.free_ports ∙ same_ports (net_under Init (net_of start)) d.last_net 0 (journal_of w) run
+    d.frozen.same.free_ports ∙ run_keeps_ports (net_under Init (net_of start)) d.last_net 0 (journal_of w) run
 
 pub reads_last : (tr : Translation) (t : Tree) (names : List (List ℕ)) (start : Graph) →
     SameNet (net_of start) (translation_of tr t (length names)) →

@@ -7,7 +7,6 @@ mod NamedNets
 mod ListedOnce
 mod Following
 mod TreeTransport
-mod KeptPorts
 mod OnePrint
 mod DemandRuns
 mod EveryRun

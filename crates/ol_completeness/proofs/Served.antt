@@ -3,7 +3,7 @@ use Rattle.std.proofs.Common.{◌≡◌, ℕ, zero, suc, ◌+◌, ◌<◌, ◌�
 use Rattle.std.proofs.Common.{◌++◌, length, map, refl, ◌∙◌, subst, arith, length-append}
 use Rattle.std.proofs.lemmas.Bool.{cases_lt}
 use Rattle.std.proofs.lemmas.List.{length_push}
-use Rattle.ol_invariance.proofs.Runs.{run_keeps as paths_kept}
+use Rattle.ol_invariance.proofs.Runs.{run_keeps as paths_kept, run_keeps_ports}
 use Rattle.ol_net.specs.Nets.{NamedNet, NamedPort, free, IsNet}
 use Rattle.ol_context.specs.Contexts.{Level, Context}
 use Rattle.ol_context.specs.Paths.{Path, ends, goes, HaveSamePaths}
@@ -59,12 +59,6 @@ exit_port : (M : NamedNet NodeName) → IsNet M → {p : NamedPort NodeName} {c 
 exit_port M is_net (ends {p = p} {q = q} l) = (is_net.of_ports p (free q) l).1
 exit_port M is_net (goes l h x r) = exit_port M is_net r
 
-ports_kept : (N M : NamedNet NodeName) (t : ℕ) (es : List Entry) → IsRun N t es M →
-    M.free_ports ≡ N.free_ports
-ports_kept N M t [] IsRun.end = refl
-ports_kept N M t (e ∷ es) (IsRun.then {M = K} s r) =
-    ports_kept K M (suc t) es r ∙ s.step.rewrites.free_ports
-
 pub found_ports : (M : NamedNet NodeName) (m : ℕ) → IsNet M → M.free_ports ≡ m → (F : List Frame)
     (s : Subterm) (ss : List Subterm) (n : ℕ) {end : chain.End NodeName} {a : Answer} →
     Ends M s.port (asked s.levels n) end → IsFound M F s n end a → AllAtPorts m ss →
@@ -95,7 +89,7 @@ turns_ports {N = N} {heads = heads} s root (and_then {journal = journal} {es = e
     {M = M} {P = K} {a = a} {b = b} y t) =
     let k = turns_kept s y in
     turn_ports M K N.free_ports heads (length journal) es ns a b k.net
-    (ports_kept N M 0 journal k.run) t (turns_ports s root y)
+    (run_keeps_ports N M 0 journal k.run) t (turns_ports s root y)
 
 -- ---- one turn more
 
@@ -186,7 +180,7 @@ module _ (N P : NamedNet NodeName) (heads : ℕ) (other : List Entry) (start : I
     next_turn : Next heads M (length journal) F s ss n
     next_turn =
         by (chain_ends M k.net s.port (asked s.levels n)
-        (let e = ports_kept N M 0 journal k.run in let p = (turns_ports start root t).0 in
+        (let e = run_keeps_ports N M 0 journal k.run in let p = (turns_ports start root t).0 in
         omega arith))
       where
         by : (end : chain.End NodeName) × Ends M s.port (asked s.levels n) end →

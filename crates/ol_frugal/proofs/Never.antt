@@ -5,19 +5,18 @@ use Rattle.std.proofs.lemmas.List.{length_push}
 use Rattle.ol_beta.specs.Leftmost.{leftmost}
 use Rattle.ol_context.specs.Asked.{asked}
 use Rattle.ol_context.specs.Contexts.{Context, tail}
-use Rattle.ol_context.specs.Paths.{Path, ends, goes, HaveSamePaths}
+use Rattle.ol_context.specs.Paths.{HaveSamePaths}
 use Rattle.ol_demand.specs.Answers.{start_of}
 use Rattle.ol_demand.specs.Demands.{Asking, Turn, rewrites, one_more, finds, Turns, begins, and_then, next}
 use Rattle.ol_demand.specs.Laws.{IsStart}
 use Rattle.ol_demand.proofs.Onward.{is_start}
 use Rattle.ol_edges.specs.Edges.{IsIn}
-use Rattle.ol_invariance.proofs.Renamed.{renamed}
 use Rattle.ol_meaning.specs.Spots.{Tree}
 use Rattle.ol_meaning.specs.Shows.{LeftmostReduces}
 use Rattle.ol_meaning.proofs.Based.{tree_shows, shown_normal}
 use Rattle.ol_meaning.proofs.Endings.{no_redex}
 use Rattle.ol_meaning.proofs.Shapes.{normal_of}
-use Rattle.ol_net.specs.Nets.{NamedNet, NamedPort, IsNet, SameNet, net_under}
+use Rattle.ol_net.specs.Nets.{NamedNet, IsNet, SameNet, net_under}
 use Rattle.ol_net.specs.Numbered.{net_of}
 use Rattle.ol_net.specs.declared.parts.Rule.TheVariants as rule
 use Rattle.ol_optimal.specs.Laws as routes
@@ -43,7 +42,6 @@ use Rattle.ol_rules.specs.declared.journal.Entry.{Entry}
 use Rattle.ol_rules.specs.declared.journal.NodeName.{NodeName}
 use Rattle.ol_rules.specs.declared.journal.NodeName.TheVariants.{Init}
 use Rattle.ol_rules.proofs.Relation.{same_sym}
-use Rattle.ol_rules.proofs.StartNets.{one_start}
 use Rattle.ol_spots_net.specs.Sites.{Site}
 use Rattle.ol_spots_net.specs.Spots.{at, place}
 use Rattle.ol_term.specs.declared.translations.Translation.{Translation}
@@ -58,12 +56,7 @@ use Rattle.ol_frugal.proofs.Few.{named, sites_of, seen_is_few}
 use Rattle.ol_frugal.proofs.Meeting.{Comes}
 use Rattle.ol_frugal.proofs.Questions.{question_asks}
 use Rattle.ol_frugal.proofs.Wanted.{IsWanted}
-
--- one net has the same paths, however its lists are ordered
-same_path : {A : Type 0} (M N : NamedNet A) → SameNet M N →
-    {p : NamedPort A} {c d : Context} {q : ℕ} → Path M p c q d → Path N p c q d
-same_path M N s (ends l) = ends ((s.links _ _).0 l)
-same_path M N s (goes l h x r) = goes ((s.links _ _).0 l) ((s.nodes _ _ _).0 h) x (same_path M N s r)
+use Rattle.ol_invariance.proofs.SameNets.{start_paths}
 
 -- K has the term's own nodes and links, in whatever order its lists have them.
 module _ (τ : Translation) (t : Tree) (names : ℕ) (h : HasNames t names) (K : NamedNet ℕ)
@@ -72,11 +65,7 @@ module _ (τ : Translation) (t : Tree) (names : ℕ) (h : HasNames t names) (K :
   R = net_under Init K
 
   paths : HaveSamePaths (translation_of τ t names) R
-  paths p c q d =
-      let z = renamed Init K n (λ x y k l i j h h' e. one_start x y e) p c q d in (
-        λ r. z.0 (same_path (translation_of τ t names) K (same_sym K (translation_of τ t names) same) r),
-        λ r. same_path K (translation_of τ t names) same (z.1 r),
-      )
+  paths = start_paths K (translation_of τ t names) n same
 
   -- different routes for the beta steps, each seen from a question
   record Contracted (many : ℕ) (journal : List Entry) : Type 0 where

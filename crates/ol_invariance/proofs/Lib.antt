@@ -8,3 +8,4 @@ pub mod Renamed
 pub mod Runs
 pub mod Afterwards
 pub mod WrongTables
+pub mod SameNets

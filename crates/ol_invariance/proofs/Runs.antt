@@ -1,5 +1,5 @@
 -- A run keeps paths, over names and over numbers.
-use Rattle.std.proofs.Common.{◌≡◌, ℕ, suc, ◌+◌, ◌<◌, ◌≤◌, true, List, [], ◌∷◌, length, ◌⊎◌, inl, inr, sym, subst, arith}
+use Rattle.std.proofs.Common.{◌≡◌, ℕ, suc, ◌+◌, ◌<◌, ◌≤◌, true, List, [], ◌∷◌, length, ◌⊎◌, inl, inr, refl, sym, ◌∙◌, subst, arith}
 use Rattle.std.proofs.lemmas.Bool.{cases_lt}
 use Rattle.ol_invariance.proofs.Renamed.{renamed}
 use Rattle.ol_invariance.proofs.Steps.{step_keeps}
@@ -38,6 +38,13 @@ run_keeps N M t (e ∷ es) n b (IsRun.then {M = K} s run) =
     let b' = named_after N K t s.f s.g a.k a.i a.l (action_of e.rule a.j) b s.step.rewrites in
     both N K M (step_keeps name_same name_test
     (λ place. Born t place) N K s.f s.g e.rule n fresh s.step) (run_keeps K M (suc t) es n' b' run)
+
+-- and the number of free ports
+pub run_keeps_ports : (N M : NamedNet NodeName) (t : ℕ) (es : List Entry) → IsRun N t es M →
+    M.free_ports ≡ N.free_ports
+run_keeps_ports N M t [] IsRun.end = refl
+run_keeps_ports N M t (e ∷ es) (IsRun.then {M = K} s run) =
+    run_keeps_ports K M (suc t) es run ∙ s.step.rewrites.free_ports
 
 -- different numbers have different names
 names_apart : (start : ℕ) (made : List NodeName) (names : ℕ → NodeName) →
