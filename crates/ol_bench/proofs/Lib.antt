@@ -1,6 +1,5 @@
 pub mod Blanks
 pub mod Named
-pub mod Moves
 pub mod Walks
 pub mod OneSubject
 pub mod Traced

@@ -1,5 +1,5 @@
 -- Leftmost reduction, term by term, as a text.
-use Rattle.std.specs.Prelude.{◌≡◌, ℕ, ◌+◌, ◌<◌, List, [], ◌∷◌, ◌++◌, codes, None, Some}
+use Rattle.std.specs.Prelude.{◌≡◌, ℕ, ◌+◌, ◌<◌, List, [], ◌++◌, codes, None, Some}
 use Rattle.std.specs.Fmt.{decimal}
 use Rattle.ol_term.specs.declared.translations.Translation.TheVariants.{Two}
 use Rattle.ol_term.specs.Trees as tree
@@ -10,20 +10,11 @@ use Rattle.ol_beta.specs.Leftmost.{leftmost}
 use Rattle.ol_bench.specs.declared.answers.End.{End}
 use Rattle.ol_bench.specs.declared.answers.End.TheVariants.{Yes, No, Refused}
 use Rattle.ol_bench.specs.Subjects.{IsTerm, RefusesTerm}
+use Rattle.ol_beta.specs.AddressTexts.{address_text}
 
 -- the line of a term
 abbrev pub term_line : List (List ℕ) → Tree → List ℕ
 term_line names t = text_of_term names t ++ codes "\n"
-
--- moves, one digit each: 0 into the body of an abstraction, 1 into a function, 2 into an argument
-abbrev pub moves_text : List ℕ → List ℕ
-moves_text [] = []
-moves_text (m ∷ ms) = decimal m ++ moves_text ms
-
--- an address: its moves, or a dot for the root
-abbrev pub address_text : List ℕ → List ℕ
-address_text [] = codes "."
-address_text (m ∷ ms) = moves_text (m ∷ ms)
 
 -- the line of an address
 abbrev pub address_line : List ℕ → List ℕ

@@ -5,7 +5,8 @@ ghost use Rattle.ol_term.specs.declared.translations.Translation.TheVariants.{Tw
 ghost use Rattle.ol_term.specs.Trees.{tree_of, is_below, is_named_below, term_size, depth};
 ghost use Rattle.ol_beta.specs.Beta.{IsWithin};
 ghost use Rattle.ol_bench.specs.Subjects.{IsTerm};
-ghost use Rattle.ol_bench.specs.Steps.{address_line, last_line, moves_text, past_line, term_line, Tells, IsStepsOf};
+ghost use Rattle.ol_bench.specs.Steps.{address_line, last_line, past_line, term_line, Tells, IsStepsOf};
+ghost use Rattle.ol_beta.specs.AddressTexts.{moves_text};
 
 use crate::answers::{Answer, End};
 use crate::subjects::{TermRead, read_term};

@@ -1,5 +1,4 @@
 -- `certify`: what leftmost reduction of a term says of the tree that `run` reads of it, and the texts of verdicts.
-use Rattle.std.specs.Fmt.{decimal}
 use Rattle.std.specs.Prelude.{List, [], codes, length, ℕ, ◌++◌, ◌∷◌, ◌≡◌}
 use Rattle.ol_beta.specs.Verdicts.{IsVerdict}
 use Rattle.ol_beta.specs.declared.certifying.Verdict.{Verdict}
@@ -11,16 +10,7 @@ use Rattle.ol_cli.specs.Texts.{count_line, line}
 use Rattle.ol_cli.specs.declared.status.Status.{Status}
 use Rattle.ol_beta.specs.declared.certifying.Verdict.TheVariants as verdict
 use Rattle.ol_cli.specs.Shapes.{DoneOrSpent, TellsFuel}
-
--- moves, one digit each: 0 into the body of an abstraction, 1 into a function, 2 into an argument
-abbrev pub moves_text : List ℕ → List ℕ
-moves_text [] = []
-moves_text (m ∷ ms) = decimal m ++ moves_text ms
-
--- an address: its moves, or a dot for the root
-abbrev pub address_text : List ℕ → List ℕ
-address_text [] = codes "."
-address_text (m ∷ ms) = moves_text (m ∷ ms)
+use Rattle.ol_beta.specs.AddressTexts.{address_text}
 
 -- a line for each address
 abbrev pub addresses_text : List (List ℕ) → List ℕ

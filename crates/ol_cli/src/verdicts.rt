@@ -1,7 +1,8 @@
 //! The texts of verdicts.
 ghost use Rattle.std.specs.Prelude.{◌≡◌, ◌++◌, codes, IfOk, OnOk, string_bytes};
 ghost use Rattle.ol_cli.specs.Texts.{line, count_line};
-ghost use Rattle.ol_cli.specs.Certify.{moves_text, address_text, road_text, verdict_text};
+ghost use Rattle.ol_beta.specs.AddressTexts.{moves_text, address_text};
+ghost use Rattle.ol_cli.specs.Certify.{road_text, verdict_text};
 
 use crate::texts::{add_count, count_line, line};
 use ol_beta::{Address, Road, Verdict};

@@ -1,7 +1,7 @@
 use Rattle.std.proofs.Common.{◌≡◌, suc, ◌+◌, ◌++◌, append_assoc, take, sym, ap, ◌∙◌, arith}
 use Rattle.std.specs.Fmt.{decimal}
-use Rattle.ol_bench.specs.Steps.{moves_text}
-use Rattle.ol_bench.proofs.Moves.{moves_on}
+use Rattle.ol_beta.specs.AddressTexts.{moves_text}
+use Rattle.ol_beta.proofs.Moves.{moves_on}
 use Rattle.ol_bench.proofs.stepping.put_moves.Goals as goal
 
 pub loop-k-preserved : goal.loop-k-preserved

@@ -1,7 +1,7 @@
 use Rattle.std.proofs.Common.{◌≡◌, suc, ◌+◌, ◌++◌, arith, take, sym, ap, ◌∙◌}
 use Rattle.std.specs.Fmt.{decimal}
-use Rattle.ol_cli.specs.Certify.{moves_text}
-use Rattle.ol_cli.proofs.VerdictLines.{moves_on}
+use Rattle.ol_beta.specs.AddressTexts.{moves_text}
+use Rattle.ol_beta.proofs.Moves.{moves_on}
 use Rattle.ol_cli.proofs.verdicts.digits.Goals as goal
 
 pub loop-k-preserved : goal.loop-k-preserved

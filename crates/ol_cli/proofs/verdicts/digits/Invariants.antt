@@ -1,6 +1,6 @@
 use Rattle.std.proofs.Common.{◌≡◌, take}
 use Rattle.std.specs.Prelude.{string_bytes}
-use Rattle.ol_cli.specs.Certify.{moves_text}
+use Rattle.ol_beta.specs.AddressTexts.{moves_text}
 use Rattle.ol_cli.proofs.verdicts.digits.Given as goal
 
 -- the moves so far are written

@@ -1,7 +1,8 @@
 use Rattle.std.proofs.Common.{◌≡◌, ℕ, suc, ◌+◌, ◌++◌, List, codes, length, arith, append_assoc}
 use Rattle.std.proofs.Common.{take, option_map, sym, ap, ◌∙◌}
 use Rattle.ol_cli.specs.Texts.{line, count_line}
-use Rattle.ol_cli.specs.Certify.{address_text, addresses_text}
+use Rattle.ol_beta.specs.AddressTexts.{address_text}
+use Rattle.ol_cli.specs.Certify.{addresses_text}
 use Rattle.ol_cli.proofs.VerdictLines.{addresses_on}
 use Rattle.ol_cli.proofs.verdicts.road_lines.Goals as goal
 

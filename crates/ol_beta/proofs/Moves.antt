@@ -1,9 +1,10 @@
--- The moves of an address, one by one.
+-- The text of the moves of an address, one by one.
+-- Used in crates above.
 use Rattle.std.proofs.Common.{◌≡◌, ℕ, zero, suc, List, [], ◌∷◌, ◌++◌, append_assoc, take, Some, sym, ap, ◌∙◌}
 use Rattle.std.proofs.lemmas.List.{append-nil}
 use Rattle.std.specs.Prelude.{slice_get}
 use Rattle.std.specs.Fmt.{decimal}
-use Rattle.ol_bench.specs.Steps.{moves_text}
+use Rattle.ol_beta.specs.AddressTexts.{moves_text}
 
 -- one move more
 pub moves_on : (ms : List ℕ) (k m : ℕ) → slice_get ms k ≡ Some m →
