@@ -18,7 +18,7 @@ use Rattle.ol_diamond.specs.Waves.{IsWavesOf}
 use Rattle.ol_translate.specs.Translation.{translation_of}
 use Rattle.ol_wire.specs.Closed.{ClosedTable}
 use Rattle.ol_wire.specs.Standing.{NoNodeTwice}
-use Rattle.ol_wire.proofs.Closing.Run.{one_end}
+use Rattle.ol_rules.proofs.OneEnd.{one_end}
 use Rattle.ol_reduce.specs.Reduced.{IsDone, IsSpent}
 use Rattle.ol_view.specs.WaveTexts.{wave_trace_text}
 use Rattle.ol_cli.specs.declared.status.Status.TheVariants as status

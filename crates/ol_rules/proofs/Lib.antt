@@ -24,5 +24,7 @@ pub mod UnderNames
 mod Counted
 pub mod BothWays
 pub mod OneRun
+pub mod OneEnd
+pub mod Actions
 pub mod StartNets
 pub mod RunsOn

@@ -80,7 +80,7 @@ abbrev pub ArePaired : {A : Type 0} → A → A → A → A → Type 0
 ArePaired f g f' g' = ((f ≡ f') × (g ≡ g')) ⊎ ((f ≡ g') × (g ≡ f'))
 
 -- two entries of the same names are of one pair
-one_pair : (e e' : Entry) (f g f' g' : NodeName) → e.first ≡ e'.first → e.second ≡ e'.second →
+pub one_pair : (e e' : Entry) (f g f' g' : NodeName) → e.first ≡ e'.first → e.second ≡ e'.second →
     IsNamed e f g → IsNamed e' f' g' → ArePaired f g f' g'
 one_pair e e' f g f' g' a b n n' = go n.pair n'.pair
   where

@@ -28,7 +28,7 @@ use Rattle.ol_rules.proofs.StartNets.{start_net, start_named}
 use Rattle.ol_rules.proofs.UnderNames.{same_under}
 use Rattle.ol_rules.proofs.UnderWay.{node_below}
 use Rattle.ol_view.specs.Laws.{LeadsAreOne}
-use Rattle.ol_diamond.proofs.OneStep.{one_entry_pair, one_entry_step, step_net, step_before}
+use Rattle.ol_rules.proofs.OneEnd.{one_entry_pair, one_entry_step, step_net, step_before}
 
 -- ---- the nodes that two runs of one journal make have the same names
 

@@ -1,92 +1,21 @@
--- A journal leads from a net to one net, and no node is rewritten twice.
--- Used in Told and ol_cli.
+-- No node is rewritten twice along a journal.
+-- Used in Told.
 use Rattle.std.proofs.Common.{◌≡◌, ℕ, zero, suc, true, List, [], ◌∷◌, Some, ◌⊎◌, inl, inr, refl}
 use Rattle.std.proofs.Common.{sym, ap, ◌∙◌, subst, arith}
 use Rattle.std.specs.Prelude.{slice_get}
 use Rattle.std.proofs.lemmas.Bool.Decides.{nat_tests}
 use Rattle.ol_net.specs.declared.parts.Kind.{Kind}
-use Rattle.ol_net.specs.declared.parts.Rule.{Rule}
-use Rattle.ol_net.specs.Rules.{rule_of}
-use Rattle.ol_net.specs.Nets.{slot, NamedNet, HasNode, IsNet, SameNet}
-use Rattle.ol_net.specs.Pairs.{IsActive}
+use Rattle.ol_net.specs.Nets.{NamedNet, HasNode}
 use Rattle.ol_rules.specs.declared.journal.NodeName.{NodeName}
 use Rattle.ol_rules.specs.declared.journal.NodeName.TheVariants.{Born}
 use Rattle.ol_rules.specs.declared.journal.Entry.{Entry}
-use Rattle.ol_rules.specs.Names.{comes_before, IsNamed}
-use Rattle.ol_rules.specs.Rewriting.{action_of, NodeOf, left, of_f, of_g, IsStep}
+use Rattle.ol_rules.specs.Names.{comes_before}
+use Rattle.ol_rules.specs.Rewriting.{action_of, NodeOf, left, of_f, of_g}
 use Rattle.ol_rules.specs.Runs.{IsEntryStep, IsRun}
 use Rattle.ol_rules.specs.Laws.{AreNamedBefore}
 use Rattle.ol_rules.proofs.NameOrder.{before_before}
-use Rattle.ol_rules.proofs.Relation.{same_sym, net_kept, one_step}
-use Rattle.ol_rules.proofs.Same.{active_same}
-use Rattle.ol_rules.proofs.FreshPairs.{linked_sym}
-use Rattle.ol_rules.proofs.BothWays.{step_turned}
-use Rattle.ol_rules.proofs.OneRun.{name_same, name_test, fresh_names, named_after, ArePaired}
+use Rattle.ol_rules.proofs.OneRun.{named_after}
 use Rattle.ol_wire.specs.Closed.{IsOfEntry, NoNodeTwice}
-
--- an entry is of one pair
-same_pair : (e : Entry) (f g f' g' : NodeName) → IsNamed e f g → IsNamed e f' g' → ArePaired f g f' g'
-same_pair e f g f' g' n n' = go n.pair n'.pair
-  where
-    go : ((e.first ≡ f) × (e.second ≡ g)) ⊎ ((e.first ≡ g) × (e.second ≡ f)) →
-        ((e.first ≡ f') × (e.second ≡ g')) ⊎ ((e.first ≡ g') × (e.second ≡ f')) → ArePaired f g f' g'
-    go (inl h) (inl h') = inl (sym h.0 ∙ h'.0, sym h.1 ∙ h'.1)
-    go (inl h) (inr h') = inr (sym h.0 ∙ h'.0, sym h.1 ∙ h'.1)
-    go (inr h) (inl h') = inr (sym h.1 ∙ h'.1, sym h.0 ∙ h'.0)
-    go (inr h) (inr h') = inl (sym h.1 ∙ h'.1, sym h.0 ∙ h'.0)
-
--- the rule of the same nodes, the other acting
-other_rule : (M : NamedNet NodeName) → IsNet M →
-    (f g : NodeName) (r s : Rule) (a : IsActive M f g r) → IsActive M g f s → rule_of a.l a.j a.k a.i ≡ Some s
-other_rule M n f g r s a b =
-    let ef = n.one_node f b.l a.k b.j a.i b.faces.second a.faces.first in
-    let eg = n.one_node g b.k a.l b.i a.j b.faces.first a.faces.second in
-    subst (λ k. rule_of k a.j a.k a.i ≡ Some s) eg.0
-    (subst (λ i. rule_of b.k i a.k a.i ≡ Some s) eg.1
-    (subst (λ l. rule_of b.k b.i l a.i ≡ Some s) ef.0 (subst (λ j. rule_of b.k b.i b.l j ≡ Some s) ef.1 b.fits)))
-
--- steps of one net by one pair leave one net, whichever of the two acts
-step_either : (born : ℕ → NodeName) (M N P Q : NamedNet NodeName) (f g f' g' : NodeName)
-    (r : Rule) → IsNet M → SameNet M N → ArePaired f g f' g' → IsStep born M f g r P →
-    IsStep born N f' g' r Q → SameNet P Q
-step_either born M N P Q f g f' g' r n m (inl e) a b =
-    (one_step born M N P Q f g r r n m a
-    (subst (λ g. IsStep born N f g r Q) (sym e.1) (subst (λ f. IsStep born N f g' r Q) (sym e.0) b))).1
-step_either born M N P Q f g f' g' r n m (inr e) a b =
-    let b' : IsStep born N g f r Q = subst (λ f. IsStep born N g f r Q) (sym e.0)
-    (subst (λ f. IsStep born N f g' r Q) (sym e.1) b) in
-    let c = a.active in
-    let d = active_same N M (same_sym M N m) g f r b'.active in
-    let t : IsStep born M g f r P = record {
-      active = record {
-        k = c.l;
-        i = c.j;
-        l = c.k;
-        j = c.i;
-        faces = record {
-          first = c.faces.second;
-          second = c.faces.first;
-          linked = linked_sym M (slot f 0) (slot g 0) c.faces.linked;
-        };
-        fits = other_rule M n f g r r c d;
-      };
-      rewrites = step_turned M f g c.k c.l c.i c.j r r born c.fits (other_rule M n f g r r c d) P a.rewrites;
-    } in
-    (one_step born M N P Q g f r r n m t b').1
-
-pub one_end : (M N P Q : NamedNet NodeName) (t : ℕ) (es : List Entry) → IsNet M →
-    AreNamedBefore M t → SameNet M N → IsRun M t es P → IsRun N t es Q → SameNet P Q
-one_end M N P Q t [] n b m IsRun.end IsRun.end = m
-one_end M N P Q t (e ∷ es) n b m (IsRun.then {M = K} st rest) (IsRun.then {M = L} st' rest') =
-    let k : SameNet K L = step_either (λ place.
-    Born t place) M N K L st.f st.g st'.f st'.g e.rule n m
-    (same_pair e st.f st.g st'.f st'.g st.named st'.named) st.step st'.step in
-    let a = st.step.active in
-    let nk : IsNet K = net_kept name_same name_test
-    (λ place. Born t place) M st.f st.g a.k a.i a.l a.j e.rule n a.faces
-    (fresh_names M t b) a.fits K st.step.rewrites in
-    one_end K L P Q (suc t) es nk (named_after M K t st.f st.g a.k a.i a.l
-    (action_of e.rule a.j) b st.step.rewrites) k rest rest'
 
 -- the node isn't there, and no ticket from t on makes it
 record IsGone (N : NamedNet NodeName) (t : ℕ) (x : NodeName) : Type 0 where

@@ -18,7 +18,8 @@ use Rattle.ol_wire.specs.Starts.{start_net_of_plan}
 use Rattle.ol_wire.specs.Closed.{ClosedTable, events_in, journal_in, IsOfEntry, NoNodeTwice, IsAfter}
 use Rattle.ol_wire.specs.ClosedRule.{IsClosed}
 use Rattle.ol_wire.proofs.Closing.Table.{all_in, tickets, journal_told}
-use Rattle.ol_wire.proofs.Closing.Run.{one_end, each_once, gone_at_end}
+use Rattle.ol_rules.proofs.OneEnd.{one_end}
+use Rattle.ol_wire.proofs.Closing.Run.{each_once, gone_at_end}
 
 module _ (w : ClosedTable) (c : IsClosed w) where
   pub after : IsAfter w (c.kept).net

@@ -1,7 +1,7 @@
 -- The ends of the ports of the nets before and after a ticket: a port has one end, an end one port.
 -- Used in After, Joins and Moved.
-use Rattle.std.proofs.Common.{◌≡◌, ◌≢◌, ℕ, zero, suc, ◌+◌, ◌<◌, ◌≤◌, Bool, true, false}
-use Rattle.std.proofs.Common.{if◌then◌else◌, nat_eq, ◌⊎◌, inl, inr, List, refl, sym, ap, ◌∙◌, subst}
+use Rattle.std.proofs.Common.{◌≡◌, ◌≢◌, ℕ, zero, suc, ◌+◌, ◌<◌, ◌≤◌, Bool, false}
+use Rattle.std.proofs.Common.{nat_eq, ◌⊎◌, inl, inr, List, refl, sym, ap, ◌∙◌, subst}
 use Rattle.std.proofs.Common.{arith}
 use Rattle.std.proofs.lemmas.Bool.{cases_eq}
 use Rattle.ol_edges.specs.Edges.{Joined, EdgeOf, ends}
@@ -14,7 +14,7 @@ use Rattle.ol_net.specs.Parts.{arity}
 use Rattle.ol_net.specs.Nets.{NamedNet, NamedPort, free, slot, HasNode, Linked, IsPort, IsSlotOf}
 use Rattle.ol_rules.specs.declared.journal.NodeName.{NodeName}
 use Rattle.ol_rules.specs.declared.journal.NodeName.TheVariants.{Init, Born}
-use Rattle.ol_rules.specs.Rewriting.{meeting, crossing, is_meeting, index_after, action_of, NodeOf}
+use Rattle.ol_rules.specs.Rewriting.{is_meeting, index_after, action_of, NodeOf}
 use Rattle.ol_rules.specs.Rewriting.{left, of_f, of_g, Rewrites}
 use Rattle.ol_rules.proofs.Tests.{nat_test}
 use Rattle.ol_wire.specs.declared.layout.Parts.{Parts}
@@ -26,15 +26,7 @@ use Rattle.ol_wire.proofs.InWords.Places.{place_same}
 use Rattle.ol_wire.proofs.Ticket.Event.{Rewritten}
 use Rattle.ol_wire.proofs.InWords.Lists.{index_after_small}
 use Rattle.ol_rules.proofs.Born.{at_most_two}
-
--- what an action tells of its rule
-pub crosses : (m : Bool) (n j : ℕ) → (if m then meeting else crossing n) ≡ crossing j → (m ≡ false) × (j ≡ n)
-crosses true n j e = absurd (cc)
-crosses false n j e = (refl, cc)
-
-pub meets : (m : Bool) (n : ℕ) → (if m then meeting else crossing n) ≡ meeting → m ≡ true
-meets true n e = refl
-meets false n e = absurd (cc)
+use Rattle.ol_rules.proofs.Actions.{crosses}
 
 placed_later : (z : Parts) (t : ℕ) (u : NodeName) → IsPlaced z t u → IsPlaced z (suc t) u
 placed_later z t (Init n) h = h

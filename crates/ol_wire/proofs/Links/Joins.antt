@@ -16,7 +16,8 @@ use Rattle.ol_wire.specs.References.{node_ref, slot_ref}
 use Rattle.ol_wire.specs.Layout.{place_of}
 use Rattle.ol_wire.proofs.Ticket.Event.{Rewritten}
 use Rattle.ol_wire.proofs.Links.Walk.{to_ends, from_ends}
-use Rattle.ol_wire.proofs.Links.Ends.{IsKnown, StandsAt, crosses, meets, one_end, born_not_x}
+use Rattle.ol_rules.proofs.Actions.{crosses, meets}
+use Rattle.ol_wire.proofs.Links.Ends.{IsKnown, StandsAt, one_end, born_not_x}
 use Rattle.ol_wire.proofs.Links.Ends.{born_not_y, ended, linked, met}
 
 -- slots of one number; each copy with a slot; each copy of x with each of y

@@ -16,9 +16,6 @@ use Rattle.std.proofs.lemmas.Option.{none-some}
 use Rattle.ol_edges.proofs.Lists.{got_append}
 use Rattle.ol_edges.proofs.Lists.{get_there}
 
-some_same : {X : Type 0} (x y : X) → Some x ≡ Some y → x ≡ y
-some_same x y e = cc
-
 get_left : {X : Type 0} (xs ys : List X) (i : ℕ) (x : X) → slice_get xs i ≡ Some x → slice_get (xs ++ ys) i ≡ Some x
 get_left [] ys i x e = absurd (none-some x e)
 get_left (y ∷ xs) ys zero x e = e
@@ -72,7 +69,7 @@ pub record FirstWith (n s : ℕ) (o : Option Port) (i : ℕ) (x : ℕ × ℕ) : 
   pub only : i ≡ 0
 
 only_one : {X : Type 0} (x y : X) (i : ℕ) → slice_get (x ∷ []) i ≡ Some y → (i ≡ 0) × (x ≡ y)
-only_one x y zero e = (refl, some_same x y e)
+only_one x y zero e = let same : Some x ≡ Some y = e in (refl, cc)
 only_one x y (suc i) e = absurd (none-some y e)
 
 first_with : (n s : ℕ) (o : Option Port) (i : ℕ) (x : ℕ × ℕ) →
@@ -159,7 +156,7 @@ pub wire_one : (net : Graph) (n s : ℕ) (m : NodeId) (u : ℕ) (n' s' : ℕ) (m
 wire_one net n s m u n' s' m' u' f lt small f' lt' small' e =
     let both : ◌≡◌ {A = Option (ℕ × ℕ)} (Some (n, suc s)) (Some (n', suc s')) = sym
     (wire_get net n s m u f lt small) ∙ ap (slice_get (aux_links net)) e ∙ wire_get net n' s' m' u' f' lt' small' in
-    let pair : ◌≡◌ {A = ℕ × ℕ} (n, suc s) (n', suc s') = some_same {X = ℕ × ℕ} (n, suc s) (n', suc s') both in
+    let pair : ◌≡◌ {A = ℕ × ℕ} (n, suc s) (n', suc s') = cc in
     let slots : suc s ≡ suc s' = ap (λ (w : ℕ × ℕ). w.1) pair in
     (ap (λ (w : ℕ × ℕ). w.0) pair, omega (arith, slots))
 

@@ -28,7 +28,7 @@ use Rattle.ol_edges.proofs.Lists.{in_left, in_right}
 use Rattle.ol_rules.proofs.Born.{at_most_two}
 use Rattle.ol_wire.proofs.Ticket.Event.{event_sides}
 
-same_pair : (w y a b : ℕ) → w ≡ a → y ≡ b → ◌≡◌ {A = ℕ × ℕ} (w, y) (a, b)
+pub same_pair : (w y a b : ℕ) → w ≡ a → y ≡ b → ◌≡◌ {A = ℕ × ℕ} (w, y) (a, b)
 same_pair w y a b e f = cc
 
 -- what is known first of a word is known of it

@@ -31,17 +31,13 @@ use Rattle.ol_wire.proofs.Steps.Keep.{after}
 use Rattle.ol_wire.proofs.Steps.Lists.{each_set, each_cut}
 use Rattle.ol_wire.proofs.Steps.Live.{index_in}
 use Rattle.ol_wire.proofs.Steps.Plain.{left_past}
+use Rattle.ol_wire.proofs.Steps.Hold.{same_pair}
+use Rattle.ol_wire.proofs.Links.New.{pair_of}
 
 -- words of one part that aren't empty stay as they are
 abbrev pub PartStays : Plan → Table → WordPart → ℕ → ℕ → Type 0
 PartStays p s part i x = (u : ℕ) → part_of_word p.parts u ≡ part → get_or s.words u 0 ≢ 0 →
     get_or (set s.words i x) u 0 ≡ get_or s.words u 0
-
-same_part : (a b c d : ℕ) → ◌≡◌ {A = ℕ × ℕ} (a, b) (c, d) → (a ≡ c) × (b ≡ d)
-same_part a b c d e = (ap (λ (q : ℕ × ℕ). q.0) e, ap (λ (q : ℕ × ℕ). q.1) e)
-
-one_pair : (a b c d : ℕ) → a ≡ c → b ≡ d → ◌≡◌ {A = ℕ × ℕ} (a, b) (c, d)
-one_pair a b c d e f = cc
 
 none_in : (a y : ℕ) (l : List (ℕ × ℕ)) → l ≡ [] → IsIn {X = ℕ × ℕ} (a, y) l → ⊥
 none_in a y l e m = subst (λ (k : List (ℕ × ℕ)). IsIn {X = ℕ × ℕ} (a, y) k) e m
@@ -50,7 +46,7 @@ only_in : (a y b z : ℕ) (l : List (ℕ × ℕ)) → l ≡ (b, z) ∷ [] → Is
 only_in a y b z l e m = of (subst (λ (k : List (ℕ × ℕ)). IsIn {X = ℕ × ℕ} (a, y) k) e m)
   where
     of : IsIn {X = ℕ × ℕ} (a, y) ((b, z) ∷ []) → (a ≡ b) × (y ≡ z)
-    of (inl q) = same_part a y b z q
+    of (inl q) = pair_of a y b z q
     of (inr q) = absurd q
 
 -- a pair without a rule isn't active
@@ -225,7 +221,7 @@ module _ (p : Plan) (s : Table) (k : Kept p s) (r : Remembered p s) (id : ℕ) (
       | inl same ↦ inr (
         claimed,
         seen_next p s r id v claimed w 0 here,
-        inl (one_pair a y w y0 same (sym q ∙ ap (λ (n : ℕ). get_or s.words n 0) same)),
+        inl (same_pair a y w y0 same (sym q ∙ ap (λ (n : ℕ). get_or s.words n 0) same)),
       )
       | inr d ↦ inl (get_or-set_other s.words w a 0 0 d ∙ q)
     ]
@@ -237,13 +233,13 @@ module _ (p : Plan) (s : Table) (k : Kept p s) (r : Remembered p s) (id : ℕ) (
         recalled p s r id v claimed w 0 here (off_part p s right w 0 (left_right p w is)) claim_stays
         (λ found. record {
           low = omega (arith, number, low);
-          pair = inr (refl, inl (one_pair (left_word p.parts (cell_at v.parts w)) y0 w y0 word refl));
+          pair = inr (refl, inl (same_pair (left_word p.parts (cell_at v.parts w)) y0 w y0 word refl));
         })
         held_now
       where
         held_now : (a y : ℕ) → IsIn {X = ℕ × ℕ} (a, y) ((w, y0) ∷ v.taken) →
             (a ≡ left_word p.parts (cell_at v.parts w)) × (y ≡ y0)
-        held_now a y (inl q) = let t = same_part a y w y0 q in (t.0 ∙ sym word, t.1)
+        held_now a y (inl q) = let t = pair_of a y w y0 q in (t.0 ∙ sym word, t.1)
         held_now a y (inr m) = absurd (none_in a y v.taken idle.0 m)
 
   -- the right word of the pair in hand is read
