@@ -12,7 +12,7 @@ use Rattle.ol_net.specs.Graph.{Graph, partner_of}
 use Rattle.ol_rules.specs.Listed.{each}
 use Rattle.ol_wire.specs.Starts.{wire_with, pair_with, facing_pairs, aux_links, wire_at, pair_at}
 use Rattle.ol_wire.specs.Laid.{wires_before}
-use Rattle.std.proofs.lemmas.Option.{none-some}
+use Rattle.std.proofs.lemmas.Option.{none-some, same_Some}
 use Rattle.ol_edges.proofs.Lists.{got_append}
 use Rattle.ol_edges.proofs.Lists.{get_there}
 
@@ -69,7 +69,7 @@ pub record FirstWith (n s : ℕ) (o : Option Port) (i : ℕ) (x : ℕ × ℕ) : 
   pub only : i ≡ 0
 
 only_one : {X : Type 0} (x y : X) (i : ℕ) → slice_get (x ∷ []) i ≡ Some y → (i ≡ 0) × (x ≡ y)
-only_one x y zero e = let same : Some x ≡ Some y = e in (refl, cc)
+only_one x y zero e = (refl, same_Some x y e)
 only_one x y (suc i) e = absurd (none-some y e)
 
 first_with : (n s : ℕ) (o : Option Port) (i : ℕ) (x : ℕ × ℕ) →
@@ -156,7 +156,7 @@ pub wire_one : (net : Graph) (n s : ℕ) (m : NodeId) (u : ℕ) (n' s' : ℕ) (m
 wire_one net n s m u n' s' m' u' f lt small f' lt' small' e =
     let both : ◌≡◌ {A = Option (ℕ × ℕ)} (Some (n, suc s)) (Some (n', suc s')) = sym
     (wire_get net n s m u f lt small) ∙ ap (slice_get (aux_links net)) e ∙ wire_get net n' s' m' u' f' lt' small' in
-    let pair : ◌≡◌ {A = ℕ × ℕ} (n, suc s) (n', suc s') = cc in
+    let pair : ◌≡◌ {A = ℕ × ℕ} (n, suc s) (n', suc s') = same_Some {A = ℕ × ℕ} (n, suc s) (n', suc s') both in
     let slots : suc s ≡ suc s' = ap (λ (w : ℕ × ℕ). w.1) pair in
     (ap (λ (w : ℕ × ℕ). w.0) pair, omega (arith, slots))
 
