@@ -86,9 +86,7 @@ fn question(alloc: Global, levels: &Levels, mark: Val) -> Result<Context, NoMemo
     ensures { IfOk result (λ c. c ≡ question_of levels.now mark) }
 {
     let mut levels = levels.copied(alloc)?;
-    let Ok(()) = levels.push(mark) else {
-        return Err(NoMemory);
-    };
+    levels.push(mark)?;
     Ok(Context::of(levels))
 }
 

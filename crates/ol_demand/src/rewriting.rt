@@ -46,9 +46,7 @@ fn push_names(names: &mut Vec<NodeName>, ticket: u32, count: u32) -> Result<(), 
     ensures { OnOk result (names.new.items ≡ names.old.items ++ names_born ticket count) }
 {
     for place in 0..count as u8 {
-        let Ok(()) = names.push(NodeName::Born { ticket, place }) else {
-            return Err(NoMemory);
-        };
+        names.push(NodeName::Born { ticket, place })?;
     }
     Ok(())
 }
