@@ -285,7 +285,7 @@ impl Weighing {
         ensures { result ≡ arity_of (kind_at self.now.net.nodes at.0) }
     {
         match self.net.kind_of(at) {
-            Some((kind, _)) => kind.slots() - 1,
+            Some((kind, _)) => kind.arity(),
             None => 0,
         }
     }

@@ -4,7 +4,7 @@ use Rattle.std.proofs.Common.{slice_index, refl, sym, ap, ◌∙◌, subst, arit
 use Rattle.std.specs.Prelude.{replicate, take}
 use Rattle.std.proofs.lemmas.List.{get_or_default}
 use Rattle.ol_wire.specs.declared.layout.Parts.{Parts}
-use Rattle.ol_wire.specs.Layout.{table_size}
+use Rattle.ol_wire.specs.Layout.{port_word, table_size}
 use Rattle.ol_wire.specs.Standing.{is_reached_in}
 use Rattle.ol_wire.specs.Closed.{ClosedTable}
 use Rattle.ol_reduce.specs.Left.{ranks_in, AreLeft}
@@ -19,8 +19,9 @@ module _ (w : ClosedTable) (places numbers : List ℕ)
   abbrev z : Parts
   z = w.plan.parts
 
-  pub port_word_at : (k : ℕ) → k < z.free → IsWordAt w places k (2 + k)
-  port_word_at k lt N reached s = word_of_port w places numbers left_are N reached s k lt
+  pub port_word_at : (k n : ℕ) → k < z.free → n ≡ port_word k → IsWordAt w places k n
+  port_word_at k n lt e = subst (λ m. IsWordAt w places k m) (sym e)
+      (λ N reached s. word_of_port w places numbers left_are N reached s k lt)
 
   -- the word of slot c + 1 of node j
   pub slot_word_at : (j c place at : ℕ) → j < length places → c < 2 →

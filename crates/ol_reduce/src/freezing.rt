@@ -19,7 +19,7 @@ use crate::reading::word_at;
 use ol_io::NoMemory;
 use ol_net::Net;
 use ol_rules::Journal;
-use ol_wire::{Blocks, Parts, Words, index_in, kind_in, place_in};
+use ol_wire::{BLOCK, Blocks, Parts, Words, index_in, kind_in, place_in, port_word};
 use std::alloc::Global;
 
 /// The net that the words stand for, its nodes numbered from 0 by ascending name: first those of
@@ -116,7 +116,7 @@ fn wire_number(parts: Parts, at: u32) -> u32
         return at - parts.start_wire(0);
     }
     let behind = at - parts.block(0);
-    parts.wires + 4 * (behind / 22) + (behind % 22 - 10)
+    parts.wires + 4 * (behind / BLOCK) + (behind % BLOCK - 10)
 }
 
 // Links the two nodes of each cell that isn't empty. The cells of tickets that weren't drawn are
@@ -207,7 +207,7 @@ fn link_ports(words: &Words, live: &Live, draft: &mut Draft, met: &mut Vec<u32>)
 {
     words.stands();
     for port in 0..words.parts().free {
-        link_one(words, live, draft, met, port as usize, 2 + port);
+        link_one(words, live, draft, met, port as usize, port_word(port));
     }
 }
 

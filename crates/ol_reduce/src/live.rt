@@ -1,6 +1,5 @@
 //! The nodes that are left: those that were made and that no ticket rewrote.
 ghost use Rattle.std.specs.Prelude.{◌≡◌, ℕ, Bool, true, false, Some, ◌⊎◌, ◌+◌, ◌-◌, ◌*◌, ◌<◌, ◌≤◌, ◌++◌, [], ◌∷◌, length, slice_index, slice_get, if◌then◌else◌, IfOk, OnOk, MatchOption, ◌↔◌, vec_len, replicate};
-ghost use Rattle.ol_net.specs.Parts.{arity};
 ghost use Rattle.ol_rules.specs.declared.journal.NodeName.{NodeName};
 ghost use Rattle.ol_rules.specs.Rewriting.{is_meeting};
 ghost use Rattle.ol_wire.specs.Blocks.{copies_of_f, copies_of_g};
@@ -11,9 +10,8 @@ ghost use Rattle.ol_reduce.specs.Left.{rank_of, AreMarked, births_at, IsSmallTab
 ghost use Rattle.ol_reduce.specs.Linked.{AreAllLeft, AreLeftTo, AddsPlace, AddsNumber};
 
 use ol_io::NoMemory;
-use ol_net::Kind;
 use ol_rules::{Journal, NodeName, is_meeting};
-use ol_wire::{Parts, Words, kind_in};
+use ol_wire::{BLOCK, Parts, Words, kind_in};
 use std::alloc::Global;
 
 /// The nodes that are left, numbered from 0 by ascending place.
@@ -46,12 +44,6 @@ fn rank_of(parts: Parts, events: u32, name: NodeName) -> Option<u32>
     }
 }
 
-fn arity(kind: Kind) -> u32
-    ensures { result ≡ arity kind }
-{
-    kind.slots() as u32 - 1
-}
-
 // How many nodes a ticket made.
 fn births(words: &Words, pairs: &Vec<(u64, u64)>, journal: &Journal, ticket: u32) -> u32
     requires pairs { pairs.now.items ≡ pairs_drawn words.now }
@@ -66,7 +58,7 @@ fn births(words: &Words, pairs: &Vec<(u64, u64)>, journal: &Journal, ticket: u32
         return 0;
     }
     let (one, other) = pairs[ticket as usize];
-    arity(kind_in(one)) + arity(kind_in(other))
+    kind_in(one).arity() as u32 + kind_in(other).arity() as u32
 }
 
 // Marks a name.
@@ -111,7 +103,7 @@ fn rank_at(parts: Parts, place: u32) -> u32
         return (place - parts.start_node(0)) / 2;
     }
     let behind = place - parts.block(0);
-    parts.nodes + 4 * (behind / 22) + (behind % 22 - 2) / 2
+    parts.nodes + 4 * (behind / BLOCK) + (behind % BLOCK - 2) / 2
 }
 
 fn put(numbers: &mut Vec<u32>, number: u32) -> Result<(), NoMemory>

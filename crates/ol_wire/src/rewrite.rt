@@ -1,6 +1,5 @@
 //! What a ticket is drawn for.
 ghost use Rattle.std.specs.Prelude.{◌≡◌, ◌+◌, ◌*◌, ◌<◌, ◌≤◌, None, Some, MatchOption, slice_index};
-ghost use Rattle.ol_net.specs.Parts.{arity};
 ghost use Rattle.ol_rules.specs.Rewriting.{is_meeting, index_after};
 ghost use Rattle.ol_wire.specs.References.{kind_in, index_in, place_in};
 ghost use Rattle.ol_wire.specs.Events.{rule_between, event_of, earlier, later, IsStuckPair};
@@ -10,7 +9,7 @@ ghost use Rattle.ol_wire.specs.Credit.{active_in};
 ghost use Rattle.ol_wire.specs.Rewrites.{event_for, IsRewriteFor};
 
 use crate::reference::{index_in, kind_in, place_in};
-use ol_net::{Kind, Rule, rule_of};
+use ol_net::{Rule, rule_of};
 use ol_rules::is_meeting;
 
 /// The rewrite of two nodes, by their references. The one that acts comes first.
@@ -19,13 +18,6 @@ pub(crate) struct Rewrite {
     pub(crate) rule: Rule,
     pub(crate) f: u64,
     pub(crate) g: u64,
-}
-
-/// The number of auxiliary slots.
-fn arity(kind: Kind) -> u32
-    ensures { result ≡ arity kind }
-{
-    kind.slots() as u32 - 1
 }
 
 /// The rule of two nodes, the first of which acts.
@@ -82,7 +74,7 @@ impl Rewrite {
         if is_meeting(self.rule) {
             0
         } else {
-            arity(kind_in(self.g))
+            kind_in(self.g).arity() as u32
         }
     }
 
@@ -93,7 +85,7 @@ impl Rewrite {
         if is_meeting(self.rule) {
             0
         } else {
-            arity(kind_in(self.f))
+            kind_in(self.f).arity() as u32
         }
     }
 
@@ -102,7 +94,7 @@ impl Rewrite {
         ensures { result ≡ joins_in (event_for self) }
     {
         if is_meeting(self.rule) {
-            arity(kind_in(self.f))
+            kind_in(self.f).arity() as u32
         } else {
             self.copies_of_f() + self.copies_of_g()
         }

@@ -5,8 +5,8 @@ use Rattle.ol_reduce.proofs.freezing.link_ports.Goals as goal
 
 pub link_one-requires-clause-word : goal.link_one-requires-clause-word
 link_one-requires-clause-word c = port_word_at c.args.words.now c.args.live.now.places.items
-    c.args.live.now.numbers.items c.requires.live c.stands.ensures.stands c.loop-port.port
-    (omega (arith, c.loop-port-test.true, ap (λ (z : Parts). z.free) c.parts-port-end.ensures))
+    c.args.live.now.numbers.items c.requires.live c.stands.ensures.stands c.loop-port.port c.port_word.result
+    (omega (arith, c.loop-port-test.true, ap (λ (z : Parts). z.free) c.parts-port-end.ensures)) c.port_word.ensures
 
 pub returns-clause-after : goal.returns-clause-after
 returns-clause-after c =
