@@ -17,7 +17,9 @@ use Rattle.ol_parse.proofs.Words.{names_good}
 use Rattle.ol_parse.proofs.Whole.{one_term}
 use Rattle.ol_parse.specs.Laws.{leaves}
 use Rattle.ol_parse.specs.Flat.{built}
+use Rattle.ol_parse.specs.Steps.{whole}
 use Rattle.ol_parse.specs.declared.flat.Op.{Op}
+use Rattle.ol_parse.proofs.Begun.{whole_is}
 use Rattle.ol_parse.proofs.Sizes.{one_dead_place, few_leaves}
 use Rattle.ol_parse.proofs.Files.{same_depth, whole_occurs}
 
@@ -96,12 +98,10 @@ names_occur text (Ok file) good = λ k h.
 names_occur text (Err e) good = tt
 
 -- the term that the steps of a text build is no larger than the text
-pub few_in_text : (text : List ℕ) (ops now : List Op) (t u : Named) → IsText text t →
-    built ops ≡ Some (t ∷ []) → now ≡ ops → built now ≡ Some (u ∷ []) → length text ≤ 1073741824 → leaves u ≤ 4294967295
-few_in_text text ops now t u i b e h l =
-    let both : Some (t ∷ []) ≡ Some (u ∷ []) = sym b ∙ ap built (sym e) ∙ h in
-    let same : t ≡ u = cc in
-    let n = ap leaves same in
+pub few_in_text : (text : List ℕ) (ops now : List Op) (t : Named) → IsText text t →
+    built ops ≡ Some (t ∷ []) → now ≡ ops → length text ≤ 1073741824 → leaves (whole now) ≤ 4294967295
+few_in_text text ops now t i b e l =
+    let n = ap leaves (whole_is now t (ap built e ∙ b)).1 in
     let few = few_leaves text t i in
     omega arith
 

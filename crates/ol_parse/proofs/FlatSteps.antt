@@ -9,7 +9,7 @@ use Rattle.ol_parse.specs.Machine.{at_close, step}
 use Rattle.ol_parse.specs.Flat.{put, build, built, bare, without, withouts, Shows, one_of, held}
 use Rattle.ol_parse.specs.Flat.{waiting, around, Unwound, Ended, Holds, Next, applied_if}
 use Rattle.ol_parse.specs.declared.flat.Op.{Op}
-use Rattle.ol_parse.specs.declared.flat.Op.TheVariants.{Push, Apply, Abstract, Bind}
+use Rattle.ol_parse.specs.declared.flat.Op.TheVariants.{Push, Apply, Abstract, ApplyBelow}
 use Rattle.std.specs.Borrow.{Bor}
 use Rattle.ol_parse.specs.declared.flat.Mode.{Mode}
 use Rattle.ol_parse.specs.declared.flat.Mode.TheVariants.{Term}
@@ -36,11 +36,10 @@ pub built_push : (op : Op) (old new : List Op) (ts us : List Named) → built ol
     put op ts ≡ Some us → new ≡ old ++ (op ∷ []) → built new ≡ Some us
 built_push op old new ts us h e n = ap built n ∙ build_more op ts old [] h ∙ e
 
--- the step that a frame leaves where it ends
+-- the one step that a frame leaves where it ends, unless it is a `let`
 abbrev pub emits : Open → Option Op
 emits (Applied true) = Some Apply
 emits (Abstracted x) = Some (Abstract x)
-emits (Bound x) = Some (Bind x)
 emits _ = None
 
 put_emitted : (o : Open) (op : Op) (f : Frame) (u : Named) (ts : List Named) → emits o ≡ Some op →
@@ -50,13 +49,6 @@ put_emitted (Applied true) op (applied (Some g)) u ts e b = let i : Apply ≡ op
 put_emitted (Applied true) op (applied None) u ts e b = absurd (cc)
 put_emitted (Abstracted x) op (abstracted y) u ts e b = let i : Abstract x ≡ op = cc in
     let j : x.now ≡ y = cc in (lam y u, refl, ap (λ p. put p (u ∷ ts)) (sym i) ∙ ap (λ n. Some (lam n u ∷ ts)) j)
-put_emitted (Bound x) op (bound y d) u ts e b = let i : Bind x ≡ op = cc in
-    let j : x.now ≡ y = cc in (
-      app (lam y u) d,
-      refl,
-      ap (λ p. put p (u ∷ d ∷ ts)) (sym i)
-          ∙ ap (λ n. Some (app (lam n u) d ∷ ts)) j,
-    )
 put_emitted _ op _ u ts e b = absurd (cc)
 
 pub unwound : (o : Open) (op : Op) (old new : List Op) → emits o ≡ Some op →
@@ -65,6 +57,17 @@ pub unwound : (o : Open) (op : Op) (old new : List Op) → emits o ≡ Some op �
 unwound o op old new e n f u ts b h =
     let (v, a, p) = put_emitted o op f u ts e b in
     subst (Unwound true new ts) (sym a) (built_push op old new (u ∷ held f ++ ts) (v ∷ ts) h p n)
+
+-- the two steps that a `let` leaves where it ends
+pub let_unwound : (o : Open) (x : Bor (List ℕ)) (old mid new : List Op) → o ≡ Bound x →
+    mid ≡ old ++ (Abstract x ∷ []) → new ≡ mid ++ (ApplyBelow ∷ []) → (f : Frame) (u : Named) (ts : List Named) →
+    bare o ≡ without f → built old ≡ Some (u ∷ held f ++ ts) → Unwound true new ts (around f u)
+let_unwound o x old mid new e m n (bound y d) u ts b h =
+    let j : x.now ≡ y = cc in
+    built_push ApplyBelow mid new (lam x.now u ∷ d ∷ ts) (app (lam y u) d ∷ ts)
+    (built_push (Abstract x) old mid (u ∷ d ∷ ts) (lam x.now u ∷ d ∷ ts) h refl m)
+    (ap (λ z. Some (app (lam z u) d ∷ ts)) j) n
+let_unwound o x old mid new e m n f u ts b h = absurd (cc)
 
 snoc : {A : Type 0} (xs bs : List A) (a b : A) → xs ++ (a ∷ []) ≡ bs ++ (b ∷ []) → (xs ≡ bs) × (a ≡ b)
 snoc [] [] a b h = (refl, cc)

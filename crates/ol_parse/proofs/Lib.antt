@@ -11,6 +11,7 @@ pub mod Sizes
 pub mod Rows
 pub mod Places
 pub mod Deep
+pub mod Begun
 pub mod Files
 pub mod Exact
 pub mod Once

@@ -5,7 +5,7 @@ use Rattle.ol_parse.specs.Grammar.{Named, var, lam, app, Token}
 use Rattle.ol_parse.specs.Machine.{Frame, applied, abstracted, bound, bracket, defining, State}
 use Rattle.ol_parse.specs.Machine.{at, first_name, more_names, let_name, let_equals, join, finish, step}
 use Rattle.ol_parse.specs.declared.flat.Op.{Op}
-use Rattle.ol_parse.specs.declared.flat.Op.TheVariants.{Push, Apply, Abstract, Bind}
+use Rattle.ol_parse.specs.declared.flat.Op.TheVariants.{Push, Apply, Abstract, ApplyBelow}
 use Rattle.ol_parse.specs.declared.flat.Open.{Open}
 use Rattle.ol_parse.specs.declared.flat.Open.TheVariants.{Applied, Abstracted, Bound, Bracket, Defining}
 use Rattle.ol_parse.specs.declared.flat.Mode.{Mode}
@@ -16,7 +16,7 @@ abbrev pub put : Op → List Named → Option (List Named)
 put (Push x) ts = Some (var x.now ∷ ts)
 put Apply (t ∷ f ∷ ts) = Some (app f t ∷ ts)
 put (Abstract x) (t ∷ ts) = Some (lam x.now t ∷ ts)
-put (Bind x) (t ∷ d ∷ ts) = Some (app (lam x.now t) d ∷ ts)
+put ApplyBelow (f ∷ t ∷ ts) = Some (app f t ∷ ts)
 put _ _ = None
 
 abbrev pub build : List Op → List Named → Option (List Named)

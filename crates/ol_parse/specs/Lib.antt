@@ -9,7 +9,7 @@ pub mod Machine
 pub mod Reading
 pub mod Flat
 pub mod FlatBytes
-pub mod NamedTerms
+pub mod Steps
 pub mod Depth
 pub mod Resolving
 pub mod Refusals

@@ -33,8 +33,8 @@ fn deepen(op: Op, done: u64, stack: &mut Vec<u64>) -> Result<(), AllocError>
             Some(body) => stack.push(1 + body)?,
             None => unreachable!(),
         },
-        Op::Bind(_) => match (stack.pop(), stack.pop()) {
-            (Some(body), Some(definition)) => stack.push(over(1 + body, definition))?,
+        Op::ApplyBelow => match (stack.pop(), stack.pop()) {
+            (Some(function), Some(argument)) => stack.push(over(function, argument))?,
             _ => unreachable!(),
         },
     }

@@ -9,9 +9,8 @@ pub enum Op<'a> {
     Apply,
     /// Takes a body, and puts the abstraction of the name over it.
     Abstract(&'a [u8]),
-    /// Takes the last term of a `let` of this name, and below it what the name stands for. Puts the
-    /// abstraction of the name over the one, applied to the other.
-    Bind(&'a [u8]),
+    /// Takes a function, and below it an argument, and puts the application.
+    ApplyBelow,
 }
 
 /// What is open round a place of the text.

@@ -18,10 +18,9 @@ mod bytes;
 mod depths;
 mod faults;
 mod flat;
-mod growing;
-mod named;
 mod numbers;
 mod parsing;
+mod steps;
 mod tokens;
 
 pub use faults::ParseFault;

@@ -9,7 +9,6 @@ ghost use Rattle.ol_parse.specs.Refusals.{IsFault};
 use crate::bytes::read;
 use crate::depths::depth_of;
 use crate::faults::ParseFault;
-use crate::growing::grow;
 use crate::numbers::number_term;
 use ol_term::TermFile;
 use std::alloc::Global;
@@ -28,8 +27,7 @@ fn read_file(alloc: Global, text: &[u8]) -> Result<TermFile, ParseFault>
     if depth > MOST_DEPTH {
         return Err(ParseFault::Depth { depth });
     }
-    let tree = grow(alloc, &steps)?;
-    Ok(number_term(alloc, &tree)?)
+    Ok(number_term(alloc, &steps)?)
 }
 
 /// Reads one term.

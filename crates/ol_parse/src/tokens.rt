@@ -23,7 +23,8 @@ fn unwind<'a>(innermost: Open<'a>, out: &mut Vec<Op<'a>>) -> Result<bool, AllocE
             Ok(true)
         }
         Open::Bound(x) => {
-            out.push(Op::Bind(x))?;
+            out.push(Op::Abstract(x))?;
+            out.push(Op::ApplyBelow)?;
             Ok(true)
         }
         Open::Bracket(_) | Open::Defining(_) => Ok(false),

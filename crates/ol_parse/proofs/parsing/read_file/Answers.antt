@@ -1,5 +1,4 @@
 use Rattle.std.proofs.Common.{arith}
-use Rattle.ol_parse.specs.NamedTerms.{named}
 use Rattle.ol_parse.proofs.Exact.{too_deep, few_in_text}
 use Rattle.ol_parse.proofs.parsing.read_file.Goals as goal
 
@@ -11,5 +10,5 @@ returns-then-depth-gt-MOST_DEPTH-clause-refused c =
 pub number_term-requires-clause-few : goal.number_term-requires-clause-few
 number_term-requires-clause-few c =
     let (t, i, b) = c.in_ok-steps.ensures.found in
-    few_in_text c.args.text.now c.in_ok-steps.steps.items c.deref-2.result.now t
-    (named c.in_ok-tree.tree) i b c.deref-2.ensures.value c.in_ok-tree.ensures c.requires
+    few_in_text c.args.text.now c.in_ok-steps.steps.items c.deref-2.result.now t i b c.deref-2.ensures.value
+    c.requires
