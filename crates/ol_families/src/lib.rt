@@ -3,6 +3,9 @@
 //! Each function here is a law: it has no code.
 #![tactic(auto)]
 
+ghost use Rattle.ol_families.specs.Families.{LabelsHaveTheirSigns, SignsTellRoutes};
+ghost use Rattle.ol_families.specs.Families.{NoMoreBetasThanFamilies};
+ghost use Rattle.ol_families.specs.Families.{NoMoreBetasThanLeftmostFamilies};
 ghost use Rattle.ol_families.specs.Readings.{HeadStepsKeepWords, WordsAreDegrees};
 ghost use Rattle.ol_families.specs.Readings.{DegreesAreMet, HeadIsLeftmost, SiteHasOneWord};
 ghost use Rattle.ol_families.specs.Readings.{NoMoreThanFamilies, NoMoreThanLeftmostFamilies};
@@ -67,4 +70,22 @@ pub fn no_more_than_families()
 /// degrees.
 pub fn degrees_are_words()
     ensures { DegreesAreWords }
+{}
+
+/// A label is told by its signs, letter by letter and with where overlined and underlined words
+/// begin and end, also where neighbours that cancel are left out.
+pub fn labels_have_their_signs()
+    ensures { LabelsHaveTheirSigns }
+{}
+
+/// Routes of a term's net along which alike words are read are one, where the letters of its edges
+/// are different: also where neighbours that cancel are left out.
+pub fn signs_tell_routes()
+    ensures { SignsTellRoutes }
+{}
+
+/// Demand order makes no more beta steps than there are families.
+pub fn no_more_betas_than_families()
+    ensures head { NoMoreBetasThanFamilies }
+    ensures leftmost { NoMoreBetasThanLeftmostFamilies }
 {}
