@@ -1,5 +1,5 @@
 -- Demand order makes no more beta steps for one head than there are families.
-use Rattle.std.proofs.Common.{◌≡◌, ℕ, suc, ◌<◌, inl, inr, List, [], ◌∷◌, ◌++◌, length, refl, sym, ap, ◌∙◌, subst, arith}
+use Rattle.std.proofs.Common.{◌≡◌, ℕ, suc, ◌<◌, None, inl, inr, List, [], ◌∷◌, ◌++◌, length, refl, sym, ap, ◌∙◌, subst, arith}
 use Rattle.std.proofs.lemmas.List.{length_push}
 use Rattle.ol_beta.specs.Leftmost.{leftmost}
 use Rattle.ol_context.specs.Asked.{asked}
@@ -10,14 +10,22 @@ use Rattle.ol_demand.specs.Laws.{IsStart}
 use Rattle.ol_demand.proofs.Onward.{is_start}
 use Rattle.ol_edges.specs.Edges.{IsIn}
 use Rattle.ol_frugal.specs.Met.{IsMet}
+use Rattle.ol_context.specs.Paths.{Path, ends, goes, HaveSamePaths}
+use Rattle.ol_frugal.specs.Leftmost.{IsSeenFromPlace}
+use Rattle.ol_frugal.proofs.Questions.{question_asks}
+use Rattle.ol_frugal.proofs.Wanted.{IsWanted}
+use Rattle.ol_invariance.proofs.Renamed.{renamed}
+use Rattle.ol_rules.proofs.Relation.{same_sym}
+use Rattle.ol_spots_net.specs.Spots.{place}
+use Rattle.ol_term.specs.Trees.{Tree}
 use Rattle.ol_frugal.proofs.Few.{named}
 use Rattle.ol_frugal.proofs.Seeing.{IsNamed, MetAt, met_at}
 use Rattle.ol_meaning.proofs.Endings.{no_redex}
 use Rattle.ol_meaning.proofs.Shapes.{normal_of}
-use Rattle.ol_net.specs.Nets.{NamedNet, IsNet, SameNet, net_under}
+use Rattle.ol_net.specs.Nets.{NamedNet, NamedPort, IsNet, SameNet, net_under}
 use Rattle.ol_net.specs.Numbered.{net_of}
 use Rattle.ol_net.specs.declared.parts.Rule.TheVariants as rule
-use Rattle.ol_optimal.specs.Labels.{Label, Labelled, erased}
+use Rattle.ol_optimal.specs.Labels.{Label, Labelled, erased, LeftmostContracts}
 use Rattle.ol_optimal.specs.Laws as routes
 use Rattle.ol_optimal.specs.Redexes.{IsVirtualRedex}
 use Rattle.ol_optimal.specs.Routes.{Route}
@@ -29,7 +37,7 @@ use Rattle.ol_readback.specs.Heads.{Answer, head, no_head}
 use Rattle.ol_readback.specs.Heads as heads
 use Rattle.ol_readback.specs.ReadTrees.{Subterm, whole_term, framed}
 use Rattle.ol_readback.specs.declared.answers.ReadNode.{ReadNode}
-use Rattle.ol_rules.proofs.StartNets.{start_net}
+use Rattle.ol_rules.proofs.StartNets.{one_start, start_net}
 use Rattle.ol_rules.specs.Counting.{times_applied}
 use Rattle.ol_rules.specs.declared.journal.Entry.{Entry}
 use Rattle.ol_rules.specs.declared.journal.NodeName.{NodeName}
@@ -37,11 +45,12 @@ use Rattle.ol_rules.specs.declared.journal.NodeName.TheVariants.{Init}
 use Rattle.ol_term.specs.declared.translations.Translation.{Translation}
 use Rattle.ol_translate.specs.Names.{HasNames}
 use Rattle.ol_translate.specs.Translation.{translation_of}
-use Rattle.ol_families.specs.Families.{AreLettered, NoMoreBetasThanFamilies, NoMoreBetasThanLeftmostFamilies}
-use Rattle.ol_families.specs.Readings.{Met, word_met, word_of, AreAlike, HaveDifferentWords}
-use Rattle.ol_families.specs.Signs.{Signs}
+use Rattle.ol_families.specs.Families.{AreLettered, NoMoreBetasThanFamilies, BetasAreNoMoreThanFamilies}
+use Rattle.ol_families.specs.Readings.{Met, word_met, word_of, AreAlike, AreDifferent, HaveDifferentWords}
+use Rattle.ol_families.specs.Signs.{Signs, signs_of}
 use Rattle.ol_families.specs.Words.{AreAtoms}
-use Rattle.ol_families.proofs.Families.{no_more_than_families, no_more_than_leftmost_families}
+use Rattle.ol_families.proofs.Families.{no_more_than_families}
+use Rattle.ol_families.proofs.Wanting.{wanted_degree}
 use Rattle.ol_families.proofs.Told.{IsTold, told, told_one}
 
 module _ (τ : Translation) (T : Labelled) (names : ℕ) (h : HasNames (erased T) names) (M : NamedNet NodeName)
@@ -158,8 +167,97 @@ no_more_betas_than_families τ T V ds s z letter atoms are names h g n same turn
     let f = no_more_than_families τ T V ds s y.0 y.1 y.2 y.3 x.0 x.1 in
     (f.0, f.1, f.2, x.2 ∙ sym f.3)
 
-pub no_more_betas_than_leftmost_families : NoMoreBetasThanLeftmostFamilies
-no_more_betas_than_leftmost_families τ T v ws s z letter atoms are names h g n same turns journal places M a r =
-    let x = contracted τ T names h (net_of g) n same (is_start g n) letter atoms are r in
-    let f = no_more_than_leftmost_families τ T v ws s (no_redex (erased v) z) x.0 x.1 in
-    (f.0, f.1, f.2, x.2 ∙ sym f.3)
+-- ---- whatever number of heads is asked for
+
+-- one net has the same paths, however its lists are ordered
+same_path : {A : Type 0} (M N : NamedNet A) → SameNet M N →
+    {p : NamedPort A} {c d : Context} {q : ℕ} → Path M p c q d → Path N p c q d
+same_path M N s (ends l) = ends ((s.links _ _).0 l)
+same_path M N s (goes l h x r) = goes ((s.links _ _).0 l) ((s.nodes _ _ _).0 h) x (same_path M N s r)
+
+module _ (τ : Translation) (t : Tree) (names : ℕ) (h : HasNames t names) (K : NamedNet ℕ)
+    (n : IsNet K) (same : SameNet K (translation_of τ t names)) (start : IsStart (net_under Init K)) where
+  paths : HaveSamePaths (translation_of τ t names) (net_under Init K)
+  paths p c q d =
+      let z = renamed Init K n (λ x y k l i j h h' e. one_start x y e) p c q d in (
+        λ r. z.0 (same_path (translation_of τ t names) K (same_sym K (translation_of τ t names) same) r),
+        λ r. same_path K (translation_of τ t names) same (z.1 r),
+      )
+
+module _ (τ : Translation) (T v : Labelled) (ws : List Label) (r : LeftmostContracts T ws v) (z : leftmost (erased v) ≡ None)
+    (names : ℕ) (h : HasNames (erased T) names) (K : NamedNet ℕ)
+    (n : IsNet K) (same : SameNet K (translation_of τ (erased T) names)) (start : IsStart (net_under Init K))
+    (letter : ℕ → ℕ → ℕ) (atoms : AreAtoms letter) (are : AreLettered τ letter T 0 0 0) where
+  abbrev R : NamedNet NodeName
+  R = net_under Init K
+
+  I : IsNamed Init (translation_of τ (erased T) names) (net_under Init K)
+  I = named K (translation_of τ (erased T) names) same
+
+  abbrev ToldBy : Route NodeName → Label → Type 0
+  ToldBy s e = (g : Signs) × IsTold Init (net_under Init K) start.net τ T names h I letter are s g × AreAlike g (signs_of e)
+
+  record Labels (ss : List (Route NodeName)) : Type 0 where
+    degrees : List Label
+    different : AreDifferent degrees
+    within : (e : Label) → IsIn e degrees → IsIn e ws
+    count : length ss ≡ length degrees
+    back : (e : Label) → IsIn e degrees → (s : Route NodeName) × IsIn s ss × ToldBy s e
+
+  add : (s : Route NodeName) (ss : List (Route NodeName)) → routes.AreDifferent (s ∷ ss) → Labels ss →
+      (e : Label) → IsIn e ws → ToldBy s e → Labels (s ∷ ss)
+  add s ss d x e i t = record {
+    degrees = e ∷ x.degrees;
+    different = (
+      (λ j.
+          let b = x.back e j in
+          let q = told_one Init (net_under Init K) start.net τ T names h I letter are atoms s b.0 t.0 b.2.0 t.1 b.2.1
+          (λ r y. t.2 r y ∙ sym (b.2.2 r y)) in
+          d.0 (subst (λ u. IsIn u ss) (sym q) b.1)),
+      x.different,
+    );
+    within = in';
+    count = ap suc x.count;
+    back = back';
+  }
+    where
+      in' : (f : Label) → IsIn f (e ∷ x.degrees) → IsIn f ws
+      in' f (inl q) = subst (λ f. IsIn f ws) (sym q) i
+      in' f (inr j) = x.within f j
+
+      back' : (f : Label) → IsIn f (e ∷ x.degrees) → (u : Route NodeName) × IsIn u (s ∷ ss) × ToldBy u f
+      back' f (inl q) = (s, inl refl, subst (ToldBy s) (sym q) t)
+      back' f (inr j) = let b = x.back f j in (b.0, inr b.1, b.2)
+
+  labels_of : (many : ℕ) (ss : List (Route NodeName)) → routes.AreDifferent ss →
+      ((s : Route NodeName) → IsIn s ss → IsSeenFromPlace (net_under Init K) many s) → Labels ss
+  labels_of many [] d f = record { degrees = []; different = tt; within = λ e i. absurd i; count = refl; back = λ e i. absurd i }
+  labels_of many (s ∷ ss) d f =
+      let x = f s (inl refl) in
+      let a = met_at Init (net_under Init K) start.net τ (erased T) names h I s x.0 x.1 x.3 in
+      let m : IsWanted τ (erased T) a.at_site.site = record {
+        place = place x.0;
+        first = x.1 0;
+        rest = tail x.1;
+        asks = question_asks τ (erased T) names h (net_under Init K) start
+            (paths τ (erased T) names h K n same start) many x.0 x.1 x.2;
+        comes = a.comes;
+      } in
+      let w = wanted_degree τ T v ws r z a.at_site.site m in
+      add s ss d (labels_of many ss d.1 (λ u i. f u (inr i))) w.0 w.1
+      (word_of T a.at_site.site a.comes.matched,
+      told Init (net_under Init K) start.net τ T names h I letter are s x.3.redex x.0 x.1 a, w.2)
+
+  degrees_of : {many turns : ℕ} {journal : List Entry} {places : List ReadNode}
+      {M : NamedNet NodeName} {a : Asking} → Turns (net_under Init K) many turns journal places M a →
+      (es : List Label) × AreDifferent es × ((e : Label) → IsIn e es → IsIn e ws)
+      × (times_applied rule.Beta journal ≡ length es)
+  degrees_of {many} {turns} {journal} {places} {M} {a} t =
+      let d = demand_contracts_the_seen (net_under Init K) M many turns journal places a start t in
+      let b = betas_are_routes (net_under Init K) M 0 journal start.net start.named d.0 in
+      let l = labels_of many b.0 b.1 (λ s i. (let x = b.3 s i in d.1 x.1.0 s x.1.1)) in
+      (l.degrees, l.different, l.within, sym b.2 ∙ l.count)
+
+pub betas_are_no_more_than_families : BetasAreNoMoreThanFamilies
+betas_are_no_more_than_families τ T v ws s z letter atoms are names h g n same heads turns journal places M a r =
+    degrees_of τ T v ws s (no_redex (erased v) z) names h (net_of g) n same (is_start g n) letter atoms are r

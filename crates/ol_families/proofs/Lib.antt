@@ -25,3 +25,4 @@ pub mod Routes
 pub mod Saying
 pub mod Told
 pub mod Betas
+pub mod Wanting

@@ -64,14 +64,16 @@ NoMoreBetasThanFamilies = (τ : Translation) (T V : Labelled) (ds : List Label) 
     (es : List Label) × AreDifferent es × ((e : Label) → IsIn e es → IsIn e ds)
     × (times_applied rule.Beta journal ≡ length es)
 
--- Nor than the families of leftmost reduction to a normal form.
-abbrev pub NoMoreBetasThanLeftmostFamilies : Type 0
-NoMoreBetasThanLeftmostFamilies = (τ : Translation) (T v : Labelled) (ws : List Label) →
+-- And where leftmost reduction leads to a normal form, no demand run of its net, whatever number of
+-- heads it asks for, whether it stops on the way or ends, makes more beta steps than there are
+-- families that leftmost reduction contracts.
+abbrev pub BetasAreNoMoreThanFamilies : Type 0
+BetasAreNoMoreThanFamilies = (τ : Translation) (T v : Labelled) (ws : List Label) →
     LeftmostContracts T ws v → IsNormal (erased v) →
     (letter : ℕ → ℕ → ℕ) → AreAtoms letter → AreLettered τ letter T 0 0 0 →
     (names : ℕ) → HasNames (erased T) names →
     (g : Graph) → IsNet (net_of g) → SameNet (net_of g) (translation_of τ (erased T) names) →
-    (turns : ℕ) (journal : List Entry) (places : List ReadNode) (M : NamedNet NodeName)
-    (a : Asking) → Turns (start_of g) 1 turns journal places M a →
+    (heads turns : ℕ) (journal : List Entry) (places : List ReadNode) (M : NamedNet NodeName)
+    (a : Asking) → Turns (start_of g) heads turns journal places M a →
     (es : List Label) × AreDifferent es × ((e : Label) → IsIn e es → IsIn e ws)
     × (times_applied rule.Beta journal ≡ length es)

@@ -5,7 +5,7 @@
 
 ghost use Rattle.ol_families.specs.Families.{LabelsHaveTheirSigns, SignsTellRoutes};
 ghost use Rattle.ol_families.specs.Families.{NoMoreBetasThanFamilies};
-ghost use Rattle.ol_families.specs.Families.{NoMoreBetasThanLeftmostFamilies};
+ghost use Rattle.ol_families.specs.Families.{BetasAreNoMoreThanFamilies};
 ghost use Rattle.ol_families.specs.Readings.{HeadStepsKeepWords, WordsAreDegrees};
 ghost use Rattle.ol_families.specs.Readings.{DegreesAreMet, HeadIsLeftmost, SiteHasOneWord};
 ghost use Rattle.ol_families.specs.Readings.{NoMoreThanFamilies, NoMoreThanLeftmostFamilies};
@@ -87,5 +87,5 @@ pub fn signs_tell_routes()
 /// Demand order makes no more beta steps than there are families.
 pub fn no_more_betas_than_families()
     ensures head { NoMoreBetasThanFamilies }
-    ensures leftmost { NoMoreBetasThanLeftmostFamilies }
+    ensures leftmost { BetasAreNoMoreThanFamilies }
 {}
