@@ -4,12 +4,10 @@ use Rattle.std.proofs.lemmas.List.{length_push}
 use Rattle.ol_beta.specs.Leftmost.{leftmost}
 use Rattle.ol_context.specs.Asked.{asked}
 use Rattle.ol_context.specs.Contexts.{Context, tail}
-use Rattle.ol_demand.specs.Answers.{start_of}
 use Rattle.ol_demand.specs.Demands.{Asking, Turn, rewrites, one_more, finds, Turns, begins, and_then, next}
 use Rattle.ol_demand.specs.Laws.{IsStart}
 use Rattle.ol_demand.proofs.Onward.{is_start}
 use Rattle.ol_edges.specs.Edges.{IsIn}
-use Rattle.ol_frugal.specs.Met.{IsMet}
 use Rattle.ol_context.specs.Paths.{Path, ends, goes, HaveSamePaths}
 use Rattle.ol_frugal.specs.Leftmost.{IsSeenFromPlace}
 use Rattle.ol_frugal.proofs.Questions.{question_asks}
@@ -19,7 +17,7 @@ use Rattle.ol_rules.proofs.Relation.{same_sym}
 use Rattle.ol_spots_net.specs.Spots.{place}
 use Rattle.ol_term.specs.Trees.{Tree}
 use Rattle.ol_frugal.proofs.Few.{named}
-use Rattle.ol_frugal.proofs.Seeing.{IsNamed, MetAt, met_at}
+use Rattle.ol_frugal.proofs.Seeing.{IsNamed, met_at}
 use Rattle.ol_meaning.proofs.Endings.{no_redex}
 use Rattle.ol_meaning.proofs.Shapes.{normal_of}
 use Rattle.ol_net.specs.Nets.{NamedNet, NamedPort, IsNet, SameNet, net_under}
@@ -27,7 +25,6 @@ use Rattle.ol_net.specs.Numbered.{net_of}
 use Rattle.ol_net.specs.declared.parts.Rule.TheVariants as rule
 use Rattle.ol_optimal.specs.Labels.{Label, Labelled, erased, LeftmostContracts}
 use Rattle.ol_optimal.specs.Laws as routes
-use Rattle.ol_optimal.specs.Redexes.{IsVirtualRedex}
 use Rattle.ol_optimal.specs.Routes.{Route}
 use Rattle.ol_optimal.specs.Seen.{IsSeen, IsQuestion}
 use Rattle.ol_optimal.proofs.Asked.{demand_contracts_the_seen}
@@ -37,7 +34,7 @@ use Rattle.ol_readback.specs.Heads.{Answer, head, no_head}
 use Rattle.ol_readback.specs.Heads as heads
 use Rattle.ol_readback.specs.ReadTrees.{Subterm, whole_term, framed}
 use Rattle.ol_readback.specs.declared.answers.ReadNode.{ReadNode}
-use Rattle.ol_rules.proofs.StartNets.{one_start, start_net}
+use Rattle.ol_rules.proofs.StartNets.{one_start}
 use Rattle.ol_rules.specs.Counting.{times_applied}
 use Rattle.ol_rules.specs.declared.journal.Entry.{Entry}
 use Rattle.ol_rules.specs.declared.journal.NodeName.{NodeName}

@@ -1,13 +1,12 @@
 -- Each link of a term's net joins a port at which a term is asked for to one at which it is given.
-use Rattle.std.proofs.Common.{◌≡◌, ◌≢◌, ℕ, zero, suc, ◌+◌, Bool, true, false, not, List, [], ◌∷◌, ◌++◌, length}
-use Rattle.std.proofs.Common.{length-append, map, nat_eq, nat_lt, ◌-◌, Option, None, Some, ◌⊎◌, inl, inr, refl, sym, ap}
+use Rattle.std.proofs.Common.{◌≡◌, ℕ, zero, suc, ◌+◌, Bool, true, false, not, List, [], ◌∷◌, ◌++◌, length}
+use Rattle.std.proofs.Common.{length-append, map, nat_eq, nat_lt, Option, None, Some, inl, inr, refl, sym, ap}
 use Rattle.std.proofs.Common.{◌∙◌, subst, arith}
 use Rattle.ol_net.specs.Nets.{NamedPort, free, slot, NamedNet, HasNode, Linked, IsNet}
 use Rattle.ol_net.specs.Numbered.{numbered_port}
 use Rattle.ol_net.specs.declared.parts.Kind.{Kind}
 use Rattle.ol_net.specs.declared.parts.Kind.TheVariants as kind
 use Rattle.ol_net.specs.declared.parts.Port.{Port}
-use Rattle.ol_net.specs.declared.parts.Port.TheVariants.{Free}
 use Rattle.ol_edges.specs.Edges.{IsIn}
 use Rattle.ol_spots_net.proofs.Fans.{Holds, Links, holds_append, by_wire, wire_here, wire_later}
 use Rattle.ol_spots_net.proofs.Whole.{nodes_there}

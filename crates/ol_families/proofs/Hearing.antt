@@ -1,6 +1,6 @@
 -- What is read along the edges of a labelled term's spots is what a walk over its net reads.
-use Rattle.std.proofs.Common.{◌≡◌, ◌≢◌, ℕ, zero, suc, ◌<◌, ◌+◌, Bool, true, false, not, [], ◌∷◌, ◌++◌, length, Option}
-use Rattle.std.proofs.Common.{None, Some, ◌⊎◌, inl, inr, refl, sym, ap, ◌∙◌, arith, subst, eq-eqb}
+use Rattle.std.proofs.Common.{◌≡◌, ℕ, zero, suc, ◌<◌, ◌+◌, true, false, [], ◌∷◌, ◌++◌, length, Option}
+use Rattle.std.proofs.Common.{None, Some, refl, sym, ap, ◌∙◌, arith, subst, eq-eqb}
 use Rattle.std.proofs.lemmas.Bool.{and_parts}
 use Rattle.ol_edges.specs.Edges.{Joined, here}
 use Rattle.ol_edges.specs.Edges as edges
@@ -15,7 +15,7 @@ use Rattle.ol_net.specs.declared.parts.Kind.TheVariants as kind
 use Rattle.ol_net.specs.declared.parts.Port.{Port}
 use Rattle.ol_optimal.specs.Labels.{Label, none, atom, Labelled, erased}
 use Rattle.ol_optimal.specs.Labels as labels
-use Rattle.ol_spots_net.specs.Sites.{Site, self, in_lam, in_function, in_argument, spot_in, depth, context_at, function_at}
+use Rattle.ol_spots_net.specs.Sites.{Site, in_argument, spot_in, depth, context_at, function_at}
 use Rattle.ol_spots_net.specs.Sites.{PartAt, whole, of_lam, of_function, of_argument}
 use Rattle.ol_spots_net.specs.Spots.{Wire, bound, name, occurs, Place, root, wire, Spot, at, body, fun, arg, Edge}
 use Rattle.ol_spots_net.specs.Spots.{var_wire, free_wire, lam_root, lam_own, lam_wire, app_root, app_arg, app_left}
@@ -23,7 +23,7 @@ use Rattle.ol_spots_net.specs.Spots.{app_right, in_body, in_fun, in_arg, Trail, 
 use Rattle.ol_spots_net.specs.Spots as spots
 use Rattle.ol_spots_net.proofs.Bare.{no_lam, no_app}
 use Rattle.ol_spots_net.proofs.Fans.{outside_wire}
-use Rattle.ol_spots_net.proofs.Parts.{Has, argument, has_lam, HasLam, has_app, has_app_to, has_head, HasHead}
+use Rattle.ol_spots_net.proofs.Parts.{Has, argument, has_lam, has_app, has_app_to, has_head}
 use Rattle.ol_spots_net.proofs.Parts.{applied_root, key, key_under, wire_there}
 use Rattle.ol_spots_net.proofs.States.{Before, before_arg, before_all, S, H, L, at_port, bare_state, arg_state, state}
 use Rattle.ol_spots_net.proofs.Whole.{has_part}
@@ -37,7 +37,7 @@ use Rattle.ol_families.specs.Signs.{backward, reversed, signs_of}
 use Rattle.ol_families.specs.Readings.{label_of, function_label, reading, word_along, Acting, moved}
 use Rattle.ol_families.specs.Families.{AreLettered}
 use Rattle.ol_families.proofs.Motions.{moved_append, moved_back, moved_there}
-use Rattle.ol_families.proofs.Quiet.{IsQuiet, Quiet, link, node, Both, both, along, through_node}
+use Rattle.ol_families.proofs.Quiet.{IsQuiet, Quiet, link, node, Both, both, through_node}
 use Rattle.ol_families.proofs.Quiet.{left_joined, right_joined, quiet_argument}
 
 -- what is read at a node from slot s + 1 to slot 0

@@ -1,5 +1,5 @@
 -- What is read along a row of a net whose links face has no neighbours that cancel, and tells the row.
-use Rattle.std.proofs.Common.{◌≡◌, ◌≢◌, ℕ, zero, suc, Bool, true, false, not, List, [], ◌∷◌, ◌++◌, refl, sym, ap, ◌∙◌}
+use Rattle.std.proofs.Common.{◌≡◌, ◌≢◌, ℕ, suc, Bool, true, false, not, List, [], ◌∷◌, ◌++◌, refl, sym, ap, ◌∙◌}
 use Rattle.std.proofs.Common.{subst, arith, append-nil}
 use Rattle.std.proofs.lemmas.List.{append_assoc}
 use Rattle.ol_net.specs.Nets.{NamedPort, slot, NamedNet, HasNode, Linked, IsNet}
@@ -12,7 +12,7 @@ use Rattle.ol_families.specs.Signs.{Sign, letter_of, begins_over, ends_over, beg
 use Rattle.ol_families.specs.Signs.{Signs, onward, backward, Signed, nothing, shared_up, shared_down}
 use Rattle.ol_families.specs.Signs as signs
 use Rattle.ol_families.specs.Readings.{AreAlike}
-use Rattle.ol_families.proofs.Facing.{gives, IsSide, Opposite, IsFacing, one_side}
+use Rattle.ol_families.proofs.Facing.{gives, IsSide, IsFacing, one_side}
 use Rattle.ol_families.proofs.Rows.{no_slots, turned_back}
 use Rattle.ol_families.proofs.Spelling.{fits, is_reduced, flipped, alike_words}
 

@@ -1,14 +1,14 @@
 -- What an edge between wires joins is joined without crossing an application or an abstraction. (As in
 -- ol_spots_net's States, where it is said of all moves.)
-use Rattle.std.proofs.Common.{◌≡◌, ℕ, suc, ◌<◌, ◌+◌, [], ◌∷◌, length, true, false, Bool, Option}
-use Rattle.std.proofs.Common.{None, Some, ◌⊎◌, inl, inr, refl, sym, ap, ◌∙◌, arith, subst, eq-eqb}
+use Rattle.std.proofs.Common.{◌≡◌, ℕ, suc, ◌<◌, ◌+◌, [], ◌∷◌, length, true, Option}
+use Rattle.std.proofs.Common.{None, Some, inl, inr, refl, sym, ap, ◌∙◌, arith, subst}
 use Rattle.std.proofs.Common.{if◌then◌else◌}
 use Rattle.std.proofs.lemmas.Bool.{and_parts}
 use Rattle.ol_term.specs.declared.translations.Translation.{Translation}
-use Rattle.ol_term.specs.Trees.{Tree, var, free, lam, app, is_below}
+use Rattle.ol_term.specs.Trees.{Tree, app, is_below}
 use Rattle.ol_edges.specs.Edges.{Joined, here}
 use Rattle.ol_edges.specs.Edges as edges
-use Rattle.ol_edges.proofs.Joining.{joined_trans, joined_sym}
+use Rattle.ol_edges.proofs.Joining.{joined_trans}
 use Rattle.ol_net.specs.declared.parts.Kind.{Kind}
 use Rattle.ol_net.specs.declared.parts.Kind.TheVariants as kind
 use Rattle.ol_net.specs.declared.parts.Port.{Port}
@@ -16,12 +16,12 @@ use Rattle.ol_net.specs.Parts.{arity}
 use Rattle.ol_net.specs.Nets.{NamedPort, NamedNet, HasNode, Linked}
 use Rattle.ol_net.specs.Nets as nets
 use Rattle.ol_net.specs.Numbered.{numbered_port}
-use Rattle.ol_context.specs.Contexts.{Level, empty, o, star, pair, Context, cons, tail, at_level, change, up}
-use Rattle.ol_translate.specs.Translation.{Subnet, subnet_of, application, application_to, applied}
+use Rattle.ol_context.specs.Contexts.{Level, empty, o, star, pair, Context, cons, change, up}
+use Rattle.ol_translate.specs.Translation.{subnet_of, application, application_to, applied}
 use Rattle.ol_translate.specs.Translation.{bare_variable, wire_of, slot_port}
 use Rattle.ol_translate.proofs.Joints.{few_wires}
-use Rattle.ol_spots_net.specs.Spots.{Wire, occurs, left, IsRight, wire, Spot, root}
-use Rattle.ol_spots_net.specs.Spots.{at, Edge, var_wire, free_wire, lam_root, body, fun, arg}
+use Rattle.ol_spots_net.specs.Spots.{Wire, occurs, left, IsRight, wire, Spot}
+use Rattle.ol_spots_net.specs.Spots.{at, Edge, var_wire, free_wire, lam_root}
 use Rattle.ol_spots_net.specs.Spots.{lam_own, lam_wire, app_root, app_arg, app_left, app_right}
 use Rattle.ol_spots_net.specs.Spots.{in_body, in_fun, in_arg}
 use Rattle.ol_spots_net.proofs.Fans.{Merges}

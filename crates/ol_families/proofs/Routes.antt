@@ -1,5 +1,5 @@
 -- Routes of a term's net are told by what is read along them.
-use Rattle.std.proofs.Common.{◌≡◌, ap, ◌∙◌, subst, sym}
+use Rattle.std.proofs.Common.{◌≡◌, ap, ◌∙◌, subst}
 use Rattle.ol_net.specs.Nets.{slot}
 use Rattle.ol_optimal.specs.Routes.{Row}
 use Rattle.ol_spots_net.proofs.Followed.{net}

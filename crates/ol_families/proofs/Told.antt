@@ -1,5 +1,5 @@
 -- A virtual redex on a walk of a labelled term's net reads the word of its site.
-use Rattle.std.proofs.Common.{◌≡◌, ℕ, zero, suc, ◌<◌, ◌+◌, List, [], ◌∷◌, ◌++◌, length, Option, Some, refl, sym, ap, ◌∙◌}
+use Rattle.std.proofs.Common.{◌≡◌, ℕ, zero, suc, ◌<◌, ◌+◌, List, [], ◌∷◌, length, Option, Some, refl, sym, ap, ◌∙◌}
 use Rattle.std.proofs.Common.{subst, arith}
 use Rattle.ol_context.proofs.Contexts.{eta}
 use Rattle.ol_context.specs.Contexts.{Level, empty, Context, cons, up}
@@ -10,7 +10,7 @@ use Rattle.ol_frugal.specs.Met.{blank}
 use Rattle.ol_frugal.proofs.Keys.{levels_of, as_put, as_long}
 use Rattle.ol_frugal.proofs.Seeing.{IsNamed, MetAt}
 use Rattle.ol_invariance.proofs.WrongTables.{at_its_level}
-use Rattle.ol_net.specs.Nets.{NamedPort, free, slot, NamedNet, HasNode, Linked, IsNet, port_under}
+use Rattle.ol_net.specs.Nets.{NamedPort, slot, NamedNet, HasNode, Linked, IsNet, port_under}
 use Rattle.ol_net.specs.Numbered.{numbered_port}
 use Rattle.ol_net.specs.Parts.{arity}
 use Rattle.ol_net.specs.declared.parts.Kind.{Kind}
@@ -23,19 +23,19 @@ use Rattle.ol_optimal.proofs.Puts.{above, no_mark}
 use Rattle.ol_rules.proofs.FreshPairs.{linked_sym}
 use Rattle.ol_rules.proofs.Renaming.{one_port}
 use Rattle.ol_spots_net.proofs.Followed.{net}
-use Rattle.ol_spots_net.proofs.States.{S, state}
+use Rattle.ol_spots_net.proofs.States.{S}
 use Rattle.ol_spots_net.proofs.Whole.{has_part}
-use Rattle.ol_spots_net.specs.Sites.{depth, context_at, function_at, abstraction_at}
+use Rattle.ol_spots_net.specs.Sites.{depth, context_at}
 use Rattle.ol_term.specs.declared.translations.Translation.{Translation}
 use Rattle.ol_translate.specs.Names.{HasNames}
 use Rattle.ol_translate.specs.Translation.{translation_of}
 use Rattle.ol_families.specs.Families.{AreLettered}
-use Rattle.ol_families.specs.Readings.{function_label, word_along, word_of, Acting, moved, AreAlike}
+use Rattle.ol_families.specs.Readings.{function_label, word_along, word_of, moved, AreAlike}
 use Rattle.ol_families.specs.Signs.{letter_of, Signs, onward, signs_of, Signed, nothing, shared_up, shared_down}
 use Rattle.ol_families.specs.Signs.{to_function, from_function, to_body, from_body, from_variable, to_variable}
 use Rattle.ol_families.specs.Signs.{to_argument, from_argument}
 use Rattle.ol_families.specs.Words.{AreAtoms}
-use Rattle.ol_families.proofs.Hearing.{Heard, linked, LamAt, lam_at, FunctionAt, function_is, trail_heard}
+use Rattle.ol_families.proofs.Hearing.{Heard, linked, lam_at, function_is, trail_heard}
 use Rattle.ol_families.proofs.Motions.{moved_append}
 use Rattle.ol_families.proofs.Routes.{signs_tell_routes}
 use Rattle.ol_families.proofs.Saying.{Bars, row_is_heard}

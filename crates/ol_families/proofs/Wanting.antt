@@ -1,5 +1,5 @@
 -- Each redex that a question comes to has the word of a degree that leftmost reduction to a normal form contracts.
-use Rattle.std.proofs.Common.{◌≡◌, ℕ, zero, suc, ◌++◌, ◌==◌, Bool, true, false, if◌then◌else◌, ◌⊎◌, inl, inr, List, [], ◌∷◌, Option, Some, None, refl, sym, ap, ◌∙◌, subst}
+use Rattle.std.proofs.Common.{◌≡◌, ℕ, zero, suc, ◌++◌, Bool, true, false, if◌then◌else◌, ◌⊎◌, inl, inr, List, [], ◌∷◌, Option, Some, None, refl, sym, ap, ◌∙◌, subst}
 use Rattle.ol_beta.specs.Leftmost.{leftmost, first_of_two, is_abstraction}
 use Rattle.ol_beta.specs.Leftmost as beta_steps
 use Rattle.std.specs.Option.{option_map}
@@ -8,12 +8,12 @@ use Rattle.ol_meaning.specs.Spots.{Tree, lam, app, Level, empty, o, star, Contex
 use Rattle.ol_meaning.specs.Spots.{wire, Spot, at, Edge, Trail, IsRight, HeadStep, beta, below, before}
 use Rattle.ol_meaning.specs.Steps.{SameBelow, below_o, below_star, below_wire, SameBefore}
 use Rattle.ol_meaning.specs.Steps.{before_root, before_left, before_right, Same}
-use Rattle.ol_meaning.specs.Heads.{os, outer, Spine, up_root, up_own, up_wire, head_var, head_free, head_app, Normal, flat, layer}
+use Rattle.ol_meaning.specs.Heads.{outer, Spine, up_root, up_own, up_wire, head_var, head_free, head_app, Normal, flat, layer}
 use Rattle.ol_meaning.specs.Heads.{Steps, done, step, SameAlong, Arg, last, earlier, inner, StandsAt}
 use Rattle.ol_meaning.proofs.LeftmostSteps.{leftmost_step}
 use Rattle.ol_meaning.proofs.Walking.{passing, least_or, root_stays, normal_or_step}
 use Rattle.ol_term.specs.declared.translations.Translation.{Translation}
-use Rattle.ol_frugal.specs.Met.{IsMatched, blank}
+use Rattle.ol_frugal.specs.Met.{IsMatched}
 use Rattle.ol_frugal.proofs.Meeting.{Comes, too_few}
 use Rattle.ol_frugal.proofs.Sites.{base}
 use Rattle.ol_frugal.proofs.Wanted.{Asks, whole, part, IsWanted, ArgWanted, in_last, in_earlier, in_body, arg_wanted}
@@ -22,10 +22,10 @@ use Rattle.ol_optimal.specs.Labels as labels
 use Rattle.ol_spots_net.specs.Sites.{Site, in_lam, in_function, in_argument, spot_in, of_lam, of_function, of_argument}
 use Rattle.ol_spots_net.specs.Sites.{function_at}
 use Rattle.ol_families.specs.Signs.{Signs, signs_of}
-use Rattle.ol_families.specs.Readings.{AreAlike, word_of, word_along, function_label, moved, HeadContracts}
+use Rattle.ol_families.specs.Readings.{AreAlike, word_of, word_along, function_label, moved}
 use Rattle.ol_families.proofs.HeadWords.{Step, step_of, matched_goes, redex_word}
 use Rattle.ol_families.proofs.Keeping.{Goes, Keeps, follow}
-use Rattle.ol_families.proofs.Leftwards.{labelled_step, OneStep as OneLabelled, one_step as one_labelled}
+use Rattle.ol_families.proofs.Leftwards.{labelled_step, one_step as one_labelled}
 use Rattle.ol_families.proofs.Motions.{Motion, Walks, moved_append, in_the_body, in_the_fun, in_the_arg}
 use Rattle.ol_families.proofs.Sides.{site_has_one_word}
 
