@@ -45,14 +45,15 @@ use Rattle.ol_translate.specs.Translation.{translation_of}
 use Rattle.ol_families.specs.Families.{AreLettered, NoMoreBetasThanFamilies, BetasAreNoMoreThanFamilies}
 use Rattle.ol_families.specs.Readings.{Met, word_met, word_of, AreAlike, AreDifferent, HaveDifferentWords}
 use Rattle.ol_families.specs.Signs.{Signs, signs_of}
-use Rattle.ol_families.specs.Words.{AreAtoms}
+use Rattle.ol_families.proofs.Phases.{HaveLetters}
 use Rattle.ol_families.proofs.Families.{no_more_than_families}
 use Rattle.ol_families.proofs.Wanting.{wanted_degree}
+use Rattle.ol_families.proofs.Lettering.{lettering}
 use Rattle.ol_families.proofs.Told.{IsTold, told, told_one}
 
 module _ (τ : Translation) (T : Labelled) (names : ℕ) (h : HasNames (erased T) names) (M : NamedNet NodeName)
     (n : IsNet M) (I : IsNamed Init (translation_of τ (erased T) names) M)
-    (letter : ℕ → ℕ → ℕ) (atoms : AreAtoms letter) (are : AreLettered τ letter T 0 0 0) where
+    (letter : ℕ → ℕ → ℕ) (atoms : HaveLetters (translation_of τ (erased T) names) letter) (are : AreLettered τ letter T 0 0 0) where
   abbrev met_of : (s : Route NodeName) (lams : ℕ) → IsSeen M 0 (asked [] lams) s → Met τ T
   met_of s lams S =
       let a = met_at Init M n τ (erased T) names h I s 0 (asked [] lams) S in (
@@ -142,7 +143,7 @@ head_question q =
 
 module _ (τ : Translation) (T : Labelled) (names : ℕ) (h : HasNames (erased T) names) (K : NamedNet ℕ)
     (n : IsNet K) (same : SameNet K (translation_of τ (erased T) names)) (start : IsStart (net_under Init K))
-    (letter : ℕ → ℕ → ℕ) (atoms : AreAtoms letter) (are : AreLettered τ letter T 0 0 0) where
+    (letter : ℕ → ℕ → ℕ) (atoms : HaveLetters (translation_of τ (erased T) names) letter) (are : AreLettered τ letter T 0 0 0) where
   contracted : {turns : ℕ} {journal : List Entry} {places : List ReadNode}
       {M : NamedNet NodeName} {a : Asking} → Turns (net_under Init K) 1 turns journal places M a →
       (xs : List (Met τ T)) × HaveDifferentWords T xs × (times_applied rule.Beta journal ≡ length xs)
@@ -158,8 +159,9 @@ module _ (τ : Translation) (T : Labelled) (names : ℕ) (h : HasNames (erased T
       (w.redexes, w.different, sym b.2 ∙ w.count)
 
 pub no_more_betas_than_families : NoMoreBetasThanFamilies
-no_more_betas_than_families τ T V ds s z letter atoms are names h g n same turns journal places M a r =
-    let x = contracted τ T names h (net_of g) n same (is_start g n) letter atoms are r in
+no_more_betas_than_families τ T V ds s z own names h g n same turns journal places M a r =
+    let L = lettering τ T names own in
+    let x = contracted τ T names h (net_of g) n same (is_start g n) L.letter L.atoms L.are r in
     let y = normal_of z in
     let f = no_more_than_families τ T V ds s y.0 y.1 y.2 y.3 x.0 x.1 in
     (f.0, f.1, f.2, x.2 ∙ sym f.3)
@@ -184,7 +186,7 @@ module _ (τ : Translation) (t : Tree) (names : ℕ) (h : HasNames t names) (K :
 module _ (τ : Translation) (T v : Labelled) (ws : List Label) (r : LeftmostContracts T ws v) (z : leftmost (erased v) ≡ None)
     (names : ℕ) (h : HasNames (erased T) names) (K : NamedNet ℕ)
     (n : IsNet K) (same : SameNet K (translation_of τ (erased T) names)) (start : IsStart (net_under Init K))
-    (letter : ℕ → ℕ → ℕ) (atoms : AreAtoms letter) (are : AreLettered τ letter T 0 0 0) where
+    (letter : ℕ → ℕ → ℕ) (atoms : HaveLetters (translation_of τ (erased T) names) letter) (are : AreLettered τ letter T 0 0 0) where
   abbrev R : NamedNet NodeName
   R = net_under Init K
 
@@ -256,5 +258,6 @@ module _ (τ : Translation) (T v : Labelled) (ws : List Label) (r : LeftmostCont
       (l.degrees, l.different, l.within, sym b.2 ∙ l.count)
 
 pub betas_are_no_more_than_families : BetasAreNoMoreThanFamilies
-betas_are_no_more_than_families τ T v ws s z letter atoms are names h g n same heads turns journal places M a r =
-    degrees_of τ T v ws s (no_redex (erased v) z) names h (net_of g) n same (is_start g n) letter atoms are r
+betas_are_no_more_than_families τ T v ws s z own names h g n same heads turns journal places M a r =
+    let L = lettering τ T names own in
+    degrees_of τ T v ws s (no_redex (erased v) z) names h (net_of g) n same (is_start g n) L.letter L.atoms L.are r

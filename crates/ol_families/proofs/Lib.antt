@@ -26,3 +26,4 @@ pub mod Saying
 pub mod Told
 pub mod Betas
 pub mod Wanting
+pub mod Lettering

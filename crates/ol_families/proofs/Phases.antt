@@ -1,5 +1,5 @@
 -- What is read along a row of a net whose links face has no neighbours that cancel, and tells the row.
-use Rattle.std.proofs.Common.{◌≡◌, ◌≢◌, ℕ, suc, Bool, true, false, not, List, [], ◌∷◌, ◌++◌, refl, sym, ap, ◌∙◌}
+use Rattle.std.proofs.Common.{◌≡◌, zero, ◌≢◌, ℕ, suc, Bool, true, false, not, List, [], ◌∷◌, ◌++◌, refl, sym, ap, ◌∙◌}
 use Rattle.std.proofs.Common.{subst, arith, append-nil}
 use Rattle.std.proofs.lemmas.List.{append_assoc}
 use Rattle.ol_net.specs.Nets.{NamedPort, slot, NamedNet, HasNode, Linked, IsNet}
@@ -7,7 +7,7 @@ use Rattle.ol_net.specs.declared.parts.Kind.{Kind}
 use Rattle.ol_net.specs.declared.parts.Kind.TheVariants as kind
 use Rattle.ol_rules.proofs.FreshPairs.{linked_sym}
 use Rattle.ol_optimal.specs.Routes.{Crossing, rise, fall, Row, along, rises, falls}
-use Rattle.ol_families.specs.Words.{turned, Is, AreAtoms}
+use Rattle.ol_families.specs.Words.{turned, Is}
 use Rattle.ol_families.specs.Signs.{Sign, letter_of, begins_over, ends_over, begins_under, ends_under}
 use Rattle.ol_families.specs.Signs.{Signs, onward, backward, Signed, nothing, shared_up, shared_down}
 use Rattle.ol_families.specs.Signs as signs
@@ -15,6 +15,27 @@ use Rattle.ol_families.specs.Readings.{AreAlike}
 use Rattle.ol_families.proofs.Facing.{gives, IsSide, IsFacing, one_side}
 use Rattle.ol_families.proofs.Rows.{no_slots, turned_back}
 use Rattle.ol_families.proofs.Spelling.{fits, is_reduced, flipped, alike_words}
+
+-- the slots at which a term begins that is a part: an application's function and argument, and an abstraction's body
+abbrev pub has_letter : Kind → ℕ → Bool
+has_letter kind.App zero = true
+has_letter kind.App (suc zero) = false
+has_letter kind.App (suc (suc zero)) = true
+has_letter kind.App (suc (suc (suc s))) = false
+has_letter kind.Lam zero = false
+has_letter kind.Lam (suc zero) = true
+has_letter kind.Lam (suc (suc s)) = false
+has_letter kind.Fan s = false
+has_letter kind.Croissant s = false
+has_letter kind.Bracket s = false
+has_letter kind.Eraser s = false
+
+abbrev pub IsEdge : {A : Type 0} → NamedNet A → A → ℕ → Type 0
+IsEdge N x s = (k : Kind) × (i : ℕ) × HasNode N x k i × (has_letter k s ≡ true)
+
+-- no two of the net's edges have one letter
+abbrev pub HaveLetters : {A : Type 0} → NamedNet A → (A → ℕ → ℕ) → Type 0
+HaveLetters {A} N letter = (x y : A) (s r : ℕ) → IsEdge N x s → IsEdge N y r → letter x s ≡ letter y r → (x ≡ y) × (s ≡ r)
 
 -- ---- a row from port to port, by the side of each: false where a term is asked for
 
@@ -165,7 +186,7 @@ module _ {A : Type 0} (N : NamedNet A) (letter : A → ℕ → ℕ) where
 
   -- ---- and its row is told by them
 
-  module _ (n : IsNet N) (atoms : AreAtoms letter) where
+  module _ (n : IsNet N) (atoms : HaveLetters N letter) where
     -- down through nodes of sharing, from one port to another; and the same way up
     data Drop : NamedPort A → List (Crossing A) → NamedPort A → Type 0 where
       lands : {p e : NamedPort A} → Linked N p e → Drop p [] e
@@ -284,10 +305,10 @@ module _ {A : Type 0} (N : NamedNet A) (letter : A → ℕ → ℕ) where
     letters : {b d : Bool} {m k : ℕ} → ◌≡◌ {A = Bool × Sign} (b, letter_of m) (d, letter_of k) → m ≡ k
     letters {b} {d} {m} {k} e = let f : letter_of m ≡ letter_of k = ap (λ (p : Bool × Sign). p.1) e in cc
 
-    same_app : {y y' : A} {a a' : Signs} (s : ℕ) (c : A → Crossing A) (r t : ℕ) (d : Bool) → letter y s ≡ letter y' s → a ≡ a' →
-        SamePiece (slot y t) (slot y' t) (c y) (c y') (slot y r) (slot y' r) d d a a'
-    same_app s c r t d e f =
-        let y = (atoms _ _ s s e).0 in
+    same_edge : {y y' : A} {a a' : Signs} (s : ℕ) → IsEdge N y s → IsEdge N y' s → (c : A → Crossing A) (r t : ℕ) (d : Bool) →
+        letter y s ≡ letter y' s → a ≡ a' → SamePiece (slot y t) (slot y' t) (c y) (c y') (slot y r) (slot y' r) d d a a'
+    same_edge {y = v} {y' = v'} s i i' c r t d e f =
+        let y = (atoms v v' s s i i' e).0 in
         record {
           enters = ap (λ y. slot y t) y;
           crossing = ap c y;
@@ -309,37 +330,37 @@ module _ {A : Type 0} (N : NamedNet A) (letter : A → ℕ → ℕ) where
     given_one a a' p (from_variable h) u u' e = absurd (cc)
     given_one a a' p (to_variable h) u u' e = absurd (cc)
     given_one a a' (from_function h) (from_function h') u u' e =
-        let f = heads e in let g = heads f.1 in same_app 0 (λ y. fall y 0) 1 0 true (letters f.0) g.1
+        let f = heads e in let g = heads f.1 in same_edge 0 (kind.App, h.0, h.1, refl) (kind.App, h'.0, h'.1, refl) (λ y. fall y 0) 1 0 true (letters f.0) g.1
     given_one a a' (from_function h) (to_argument h') u u' e =
         let f = heads e in let g = heads f.1 in let clash = ap (λ (p : Bool × Sign). p.0) g.0 in absurd (cc)
     given_one a a' (from_function {y = y} h) (from_argument {y = y'} h') u u' e =
-        let k = (atoms y y' 0 2 (letters (heads e).0)).1 in absurd (omega arith)
+        let k = (atoms y y' 0 2 (kind.App, h.0, h.1, refl) (kind.App, h'.0, h'.1, refl) (letters (heads e).0)).1 in absurd (omega arith)
     given_one a a' (from_function {y = y} h) (from_body {z = z} h') u u' e =
-        let k = (atoms y z 0 1 (letters (heads e).0)).1 in absurd (omega arith)
+        let k = (atoms y z 0 1 (kind.App, h.0, h.1, refl) (kind.Lam, h'.0, h'.1, refl) (letters (heads e).0)).1 in absurd (omega arith)
     given_one a a' (to_argument h) (from_function h') u u' e =
         let f = heads e in let g = heads f.1 in let clash = ap (λ (p : Bool × Sign). p.0) g.0 in absurd (cc)
     given_one a a' (to_argument h) (to_argument h') u u' e =
-        let f = heads e in let g = heads f.1 in let k = heads g.1 in same_app 0 (λ y. fall y 1) 2 0 false (letters f.0) k.1
+        let f = heads e in let g = heads f.1 in let k = heads g.1 in same_edge 0 (kind.App, h.0, h.1, refl) (kind.App, h'.0, h'.1, refl) (λ y. fall y 1) 2 0 false (letters f.0) k.1
     given_one a a' (to_argument {y = y} h) (from_argument {y = y'} h') u u' e =
-        let k = (atoms y y' 0 2 (letters (heads e).0)).1 in absurd (omega arith)
+        let k = (atoms y y' 0 2 (kind.App, h.0, h.1, refl) (kind.App, h'.0, h'.1, refl) (letters (heads e).0)).1 in absurd (omega arith)
     given_one a a' (to_argument {y = y} h) (from_body {z = z} h') u u' e =
-        let k = (atoms y z 0 1 (letters (heads e).0)).1 in absurd (omega arith)
+        let k = (atoms y z 0 1 (kind.App, h.0, h.1, refl) (kind.Lam, h'.0, h'.1, refl) (letters (heads e).0)).1 in absurd (omega arith)
     given_one a a' (from_argument {y = y} h) (from_function {y = y'} h') u u' e =
-        let k = (atoms y y' 2 0 (letters (heads e).0)).1 in absurd (omega arith)
+        let k = (atoms y y' 2 0 (kind.App, h.0, h.1, refl) (kind.App, h'.0, h'.1, refl) (letters (heads e).0)).1 in absurd (omega arith)
     given_one a a' (from_argument {y = y} h) (to_argument {y = y'} h') u u' e =
-        let k = (atoms y y' 2 0 (letters (heads e).0)).1 in absurd (omega arith)
+        let k = (atoms y y' 2 0 (kind.App, h.0, h.1, refl) (kind.App, h'.0, h'.1, refl) (letters (heads e).0)).1 in absurd (omega arith)
     given_one a a' (from_argument h) (from_argument h') u u' e =
-        let f = heads e in let g = heads f.1 in let k = heads g.1 in same_app 2 (λ y. rise y 1) 0 2 false (letters f.0) k.1
+        let f = heads e in let g = heads f.1 in let k = heads g.1 in same_edge 2 (kind.App, h.0, h.1, refl) (kind.App, h'.0, h'.1, refl) (λ y. rise y 1) 0 2 false (letters f.0) k.1
     given_one a a' (from_argument {y = y} h) (from_body {z = z} h') u u' e =
-        let k = (atoms y z 2 1 (letters (heads e).0)).1 in absurd (omega arith)
+        let k = (atoms y z 2 1 (kind.App, h.0, h.1, refl) (kind.Lam, h'.0, h'.1, refl) (letters (heads e).0)).1 in absurd (omega arith)
     given_one a a' (from_body {z = z} h) (from_function {y = y'} h') u u' e =
-        let k = (atoms z y' 1 0 (letters (heads e).0)).1 in absurd (omega arith)
+        let k = (atoms z y' 1 0 (kind.Lam, h.0, h.1, refl) (kind.App, h'.0, h'.1, refl) (letters (heads e).0)).1 in absurd (omega arith)
     given_one a a' (from_body {z = z} h) (to_argument {y = y'} h') u u' e =
-        let k = (atoms z y' 1 0 (letters (heads e).0)).1 in absurd (omega arith)
+        let k = (atoms z y' 1 0 (kind.Lam, h.0, h.1, refl) (kind.App, h'.0, h'.1, refl) (letters (heads e).0)).1 in absurd (omega arith)
     given_one a a' (from_body {z = z} h) (from_argument {y = y'} h') u u' e =
-        let k = (atoms z y' 1 2 (letters (heads e).0)).1 in absurd (omega arith)
+        let k = (atoms z y' 1 2 (kind.Lam, h.0, h.1, refl) (kind.App, h'.0, h'.1, refl) (letters (heads e).0)).1 in absurd (omega arith)
     given_one a a' (from_body h) (from_body h') u u' e =
-        let f = heads e in let g = heads f.1 in same_app 1 (λ z. rise z 0) 0 1 true (letters f.0) g.1
+        let f = heads e in let g = heads f.1 in same_edge 1 (kind.Lam, h.0, h.1, refl) (kind.Lam, h'.0, h'.1, refl) (λ z. rise z 0) 0 1 true (letters f.0) g.1
 
     same_node : {y y' : A} {a a' : Signs} (c : A → Crossing A) (r t : ℕ) (d : Bool) →
         ◌≡◌ {A = NamedPort A} (slot y t) (slot y' t) → a ≡ a' →
@@ -493,6 +514,6 @@ module _ {A : Type 0} (N : NamedNet A) (letter : A → ℕ → ℕ) where
         (phase_reduced y (onward (letter_of (letter x 0)) ∷ []) refl (refl, refl, refl, refl))
         (phase_reduced y' (onward (letter_of (letter x' 0)) ∷ []) refl (refl, refl, refl, refl)) same in
         let f = heads e in
-        let ex = (atoms x x' 0 0 (letters f.0)).0 in
+        let ex = (atoms x x' 0 0 (kind.App, h.0, h.1, refl) (kind.App, h'.0, h'.1, refl) (letters f.0)).0 in
         let ea = sym (append-nil a) ∙ f.1 ∙ append-nil a' in
         (ex, one_phase y false (slot x' 0) r' a' y' refl ea (ap (λ x. slot x 0) ex))

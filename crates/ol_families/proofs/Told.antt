@@ -34,10 +34,10 @@ use Rattle.ol_families.specs.Readings.{function_label, word_along, word_of, move
 use Rattle.ol_families.specs.Signs.{letter_of, Signs, onward, signs_of, Signed, nothing, shared_up, shared_down}
 use Rattle.ol_families.specs.Signs.{to_function, from_function, to_body, from_body, from_variable, to_variable}
 use Rattle.ol_families.specs.Signs.{to_argument, from_argument}
-use Rattle.ol_families.specs.Words.{AreAtoms}
+use Rattle.ol_families.proofs.Phases.{HaveLetters}
 use Rattle.ol_families.proofs.Hearing.{Heard, linked, lam_at, function_is, trail_heard}
 use Rattle.ol_families.proofs.Motions.{moved_append}
-use Rattle.ol_families.proofs.Routes.{signs_tell_routes}
+use Rattle.ol_families.proofs.Routes.{routes_told}
 use Rattle.ol_families.proofs.Saying.{Bars, row_is_heard}
 
 -- ---- each row is signed
@@ -220,8 +220,8 @@ module _ {B : Type 0} (m : ℕ → B) (M : NamedNet B) (n : IsNet M) (τ : Trans
       }
 
   -- so two of them with alike words are one
-  pub told_one : AreAtoms letter → (s u : Route B) (v w : Signs) → IsTold s v → IsTold u w → AreAlike v w → s ≡ u
+  pub told_one : HaveLetters (translation_of τ (erased T) names) letter → (s u : Route B) (v w : Signs) → IsTold s v → IsTold u w → AreAlike v w → s ≡ u
   told_one atoms s u v w a b e =
-      let same = signs_tell_routes τ (erased T) names h letter atoms a.route b.route a.has b.has a.signs b.signs a.signed b.signed
+      let same = routes_told τ (erased T) names h letter atoms a.route b.route a.has b.has a.signs b.signs a.signed b.signed
       (λ r x. a.alike r x ∙ e r x ∙ sym (b.alike r x)) in
       a.is ∙ ap (route_under m) same ∙ sym b.is

@@ -1,5 +1,5 @@
 -- Beta steps are families: what is read along routes tells them, and their labels.
-use Rattle.std.specs.Prelude.{◌≡◌, ℕ, ◌+◌, List, ◌∷◌, length}
+use Rattle.std.specs.Prelude.{◌≡◌, ℕ, ◌+◌, List, [], ◌∷◌, ◌++◌, length}
 use Rattle.ol_beta.specs.Leftmost.{IsNormal}
 use Rattle.ol_demand.specs.Answers.{start_of}
 use Rattle.ol_demand.specs.Demands.{Asking, Turns}
@@ -39,6 +39,20 @@ SignsTellRoutes = (τ : Translation) (t : Tree) (names : ℕ) → HasNames t nam
     AreAlike (onward (letter_of (letter s.from 0)) ∷ a) (onward (letter_of (letter u.from 0)) ∷ b) →
     s ≡ u
 
+-- the labels of all subterms
+abbrev pub labels_in : Labelled → List Label
+labels_in (labels.var k w) = w ∷ []
+labels_in (labels.free k w) = w ∷ []
+labels_in (labels.lam b w) = w ∷ labels_in b
+labels_in (labels.app f a w) = w ∷ (labels_in f ++ labels_in a)
+
+abbrev pub IsLetter : Label → Type 0
+IsLetter v = (n : ℕ) × (v ≡ atom n none)
+
+-- each subterm has a letter as its label, and no two have the same
+abbrev pub HaveOwnLetters : Labelled → Type 0
+HaveOwnLetters T = AreDifferent (labels_in T) × ((v : Label) → IsIn v (labels_in T) → IsLetter v)
+
 -- each subterm of an application or an abstraction has the letter of its edge, where its first node has number k
 abbrev pub AreLettered : Translation → (ℕ → ℕ → ℕ) → Labelled → (d n k : ℕ) → Type 0
 AreLettered τ letter (labels.var y w) d n k = Unit {0}
@@ -50,14 +64,13 @@ AreLettered τ letter (labels.app f a w) d n k =
     × AreLettered τ letter f d n (k + 1)
     × AreLettered τ letter a d (n + 1) (k + 1 + length (subnet_of τ (erased f) d n (k + 1)).nodes)
 
--- Where labelled head steps lead from a term, each of whose subterms has a letter of its own, to a
+-- Where labelled head steps lead from a term, each of whose subterms has its own letter, to a
 -- head normal form, a demand run of its net, by either translation, that asks for one head makes no
 -- more beta steps than there are families that head reduction contracts: than different degrees.
 abbrev pub NoMoreBetasThanFamilies : Type 0
 NoMoreBetasThanFamilies = (τ : Translation) (T V : Labelled) (ds : List Label) →
     HeadReduces T ds V → IsHeadNormal (erased V) →
-    (letter : ℕ → ℕ → ℕ) → AreAtoms letter → AreLettered τ letter T 0 0 0 →
-    (names : ℕ) → HasNames (erased T) names →
+    HaveOwnLetters T → (names : ℕ) → HasNames (erased T) names →
     (g : Graph) → IsNet (net_of g) → SameNet (net_of g) (translation_of τ (erased T) names) →
     (turns : ℕ) (journal : List Entry) (places : List ReadNode) (M : NamedNet NodeName)
     (a : Asking) → Turns (start_of g) 1 turns journal places M a →
@@ -70,8 +83,7 @@ NoMoreBetasThanFamilies = (τ : Translation) (T V : Labelled) (ds : List Label) 
 abbrev pub BetasAreNoMoreThanFamilies : Type 0
 BetasAreNoMoreThanFamilies = (τ : Translation) (T v : Labelled) (ws : List Label) →
     LeftmostContracts T ws v → IsNormal (erased v) →
-    (letter : ℕ → ℕ → ℕ) → AreAtoms letter → AreLettered τ letter T 0 0 0 →
-    (names : ℕ) → HasNames (erased T) names →
+    HaveOwnLetters T → (names : ℕ) → HasNames (erased T) names →
     (g : Graph) → IsNet (net_of g) → SameNet (net_of g) (translation_of τ (erased T) names) →
     (heads turns : ℕ) (journal : List Entry) (places : List ReadNode) (M : NamedNet NodeName)
     (a : Asking) → Turns (start_of g) heads turns journal places M a →
