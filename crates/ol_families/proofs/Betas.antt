@@ -42,7 +42,8 @@ use Rattle.ol_rules.specs.declared.journal.NodeName.TheVariants.{Init}
 use Rattle.ol_term.specs.declared.translations.Translation.{Translation}
 use Rattle.ol_translate.specs.Names.{HasNames}
 use Rattle.ol_translate.specs.Translation.{translation_of}
-use Rattle.ol_families.specs.Families.{AreLettered, NoMoreBetasThanFamilies, BetasAreNoMoreThanFamilies}
+use Rattle.ol_families.specs.Families.{NoMoreBetasThanFamilies, BetasAreNoMoreThanFamilies}
+use Rattle.ol_families.proofs.Hearing.{AreLettered}
 use Rattle.ol_families.specs.Readings.{Met, word_met, word_of, AreAlike, AreDifferent, HaveDifferentWords}
 use Rattle.ol_families.specs.Signs.{Signs, signs_of}
 use Rattle.ol_families.proofs.Phases.{HaveLetters}
@@ -243,9 +244,11 @@ module _ (τ : Translation) (T v : Labelled) (ws : List Label) (r : LeftmostCont
         comes = a.comes;
       } in
       let w = wanted_degree τ T v ws r z a.at_site.site m in
-      add s ss d (labels_of many ss d.1 (λ u i. f u (inr i))) w.0 w.1
-      (word_of T a.at_site.site a.comes.matched,
-      told Init (net_under Init K) start.net τ T names h I letter are s x.3.redex x.0 x.1 a, w.2)
+      add s ss d (labels_of many ss d.1 (λ u i. f u (inr i))) w.0 w.1 (
+        word_of T a.at_site.site a.comes.matched,
+        told Init (net_under Init K) start.net τ T names h I letter are s x.3.redex x.0 x.1 a,
+        w.2,
+      )
 
   degrees_of : {many turns : ℕ} {journal : List Entry} {places : List ReadNode}
       {M : NamedNet NodeName} {a : Asking} → Turns (net_under Init K) many turns journal places M a →

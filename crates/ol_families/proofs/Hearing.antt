@@ -35,7 +35,6 @@ use Rattle.ol_translate.specs.Translation.{translation_of}
 use Rattle.ol_families.specs.Signs.{letter_of, begins_over, ends_over, begins_under, ends_under, Signs, onward}
 use Rattle.ol_families.specs.Signs.{backward, reversed, signs_of}
 use Rattle.ol_families.specs.Readings.{label_of, function_label, reading, word_along, Acting, moved}
-use Rattle.ol_families.specs.Families.{AreLettered}
 use Rattle.ol_families.proofs.Motions.{moved_append, moved_back, moved_there}
 use Rattle.ol_families.proofs.Quiet.{IsQuiet, Quiet, link, node, Both, both, through_node}
 use Rattle.ol_families.proofs.Quiet.{left_joined, right_joined, quiet_argument}
@@ -51,6 +50,18 @@ rising letter kind.Fan x s = []
 rising letter kind.Croissant x s = []
 rising letter kind.Bracket x s = []
 rising letter kind.Eraser x s = []
+
+-- each subterm of an application or an abstraction has the letter of its edge: the term stands under d
+-- abstractions, at level n, and its first node has number k
+abbrev pub AreLettered : Translation → (ℕ → ℕ → ℕ) → Labelled → (d n k : ℕ) → Type 0
+AreLettered τ letter (labels.var y w) d n k = Unit {0}
+AreLettered τ letter (labels.free f w) d n k = Unit {0}
+AreLettered τ letter (labels.lam b w) d n k =
+    (label_of b ≡ atom (letter k 1) none) × AreLettered τ letter b (d + 1) n (k + 1)
+AreLettered τ letter (labels.app f a w) d n k =
+    (label_of f ≡ atom (letter k 0) none) × (label_of a ≡ atom (letter k 2) none)
+    × AreLettered τ letter f d n (k + 1)
+    × AreLettered τ letter a d (n + 1) (k + 1 + length (subnet_of τ (erased f) d n (k + 1)).nodes)
 
 module _ (N : NamedNet ℕ) (letter : ℕ → ℕ → ℕ) (r : Acting) where
   -- a move of a walk, and what its motion makes of signs

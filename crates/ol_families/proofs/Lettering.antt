@@ -1,9 +1,8 @@
 -- Where the subterms of a term have letters of their own, the edges of its net have different letters.
-use Rattle.std.proofs.Common.{◌≡◌, ℕ, zero, suc, ◌+◌, ◌<◌, ◌≤◌, nat_eq, nat_lt, eq-eqb, Bool, true, false, if◌then◌else◌}
+use Rattle.std.proofs.Common.{◌≡◌, ℕ, zero, suc, ◌+◌, ◌<◌, ◌≤◌, nat_eq, nat_lt, eq-eqb, true, false, if◌then◌else◌}
 use Rattle.std.proofs.Common.{◌⊎◌, inl, inr, List, [], ◌∷◌, ◌++◌, length, length-append, Option, None, Some, refl, sym, ap, ◌∙◌, subst, arith}
 use Rattle.std.proofs.lemmas.Bool.Decides.{nat_tests}
 use Rattle.ol_edges.specs.Edges.{IsIn}
-use Rattle.ol_net.specs.Nets.{NamedNet, HasNode}
 use Rattle.ol_net.specs.Numbered.{numbered_from}
 use Rattle.ol_net.specs.declared.parts.Kind.{Kind}
 use Rattle.ol_net.specs.declared.parts.Kind.TheVariants as kind
@@ -12,7 +11,8 @@ use Rattle.ol_optimal.specs.Labels.{Label, none, atom, over, under, Labelled, va
 use Rattle.ol_term.specs.declared.translations.Translation.{Translation}
 use Rattle.ol_translate.specs.Translation.{Subnet, subnet_of, erasers, bracket_nodes, past_brackets, fans, fan_nodes, merged}
 use Rattle.ol_translate.specs.Translation.{applied, bare_variable, wire_of, slot_port, translation_of}
-use Rattle.ol_families.specs.Families.{AreLettered, labels_in, HaveOwnLetters, IsLetter}
+use Rattle.ol_families.specs.Families.{labels_in, HaveOwnLetters, IsLetter}
+use Rattle.ol_families.proofs.Hearing.{AreLettered}
 use Rattle.ol_families.specs.Readings.{label_of, AreDifferent}
 use Rattle.ol_families.proofs.Phases.{has_letter, HaveLetters}
 use Rattle.ol_spots_net.proofs.Bare.{no_lam, no_app}

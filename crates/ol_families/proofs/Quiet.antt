@@ -283,4 +283,3 @@ module _ (τ : Translation) (N : NamedNet ℕ) where
       Both N (arg_state x s k F own) (arg_state x z k F own')
   quiet_argument None Q d k F s z own own' e g rest = rest e
   quiet_argument (Some x) Q d k F s z own own' e g rest = one_state Q d x k F e g
-

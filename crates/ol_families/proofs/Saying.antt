@@ -231,7 +231,7 @@ module _ (N : NamedNet ℕ) (n : IsNet N) (letter : ℕ → ℕ → ℕ) where
         let f2 : up k i s' d' ≡ _ = ap (λ i. up k i s' d') o.1 ∙ ap (λ k. up k i' s' d') o.0 ∙ f' in
         let z = injective k i s s' c d' low (subst (λ k. s' < arity k) (sym o.0) low') (f ∙ sym f2) in
         let g2 : rising letter k' x' s' ≡ rising letter k x s =
-            ap (λ k. rising letter k x' s') (sym o.0) ∙ ap (λ x. rising letter k x s') ex ∙ ap (λ s. rising letter k x s) (sym z.0) in
+        ap (λ k. rising letter k x' s') (sym o.0) ∙ ap (λ x. rising letter k x s') ex ∙ ap (λ s. rising letter k x s) (sym z.0) in
         record {
           made = m;
           port = u;
@@ -269,9 +269,9 @@ module _ (N : NamedNet ℕ) (n : IsNet N) (letter : ℕ → ℕ → ℕ) where
         let es = slots_one e in
         let o = n.one_node x k k' i i' h (subst (λ x. HasNode N x k' i') ex h') in
         let f2 : up k i s c ≡ d' =
-            ap (λ s. up k i s c) (sym es) ∙ ap (λ i. up k i s' c) o.1 ∙ ap (λ k. up k i' s' c) o.0 ∙ f' in
+        ap (λ s. up k i s c) (sym es) ∙ ap (λ i. up k i s' c) o.1 ∙ ap (λ k. up k i' s' c) o.0 ∙ f' in
         let g2 : rising letter k' x' s' ≡ rising letter k x s =
-            ap (λ k. rising letter k x' s') (sym o.0) ∙ ap (λ x. rising letter k x s') ex ∙ ap (λ s. rising letter k x s) es in
+        ap (λ k. rising letter k x' s') (sym o.0) ∙ ap (λ x. rising letter k x s') ex ∙ ap (λ s. rising letter k x s) es in
         record {
           made = m;
           port = u;

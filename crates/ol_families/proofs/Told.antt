@@ -29,13 +29,12 @@ use Rattle.ol_spots_net.specs.Sites.{depth, context_at}
 use Rattle.ol_term.specs.declared.translations.Translation.{Translation}
 use Rattle.ol_translate.specs.Names.{HasNames}
 use Rattle.ol_translate.specs.Translation.{translation_of}
-use Rattle.ol_families.specs.Families.{AreLettered}
 use Rattle.ol_families.specs.Readings.{function_label, word_along, word_of, moved, AreAlike}
 use Rattle.ol_families.specs.Signs.{letter_of, Signs, onward, signs_of, Signed, nothing, shared_up, shared_down}
 use Rattle.ol_families.specs.Signs.{to_function, from_function, to_body, from_body, from_variable, to_variable}
 use Rattle.ol_families.specs.Signs.{to_argument, from_argument}
 use Rattle.ol_families.proofs.Phases.{HaveLetters}
-use Rattle.ol_families.proofs.Hearing.{Heard, linked, lam_at, function_is, trail_heard}
+use Rattle.ol_families.proofs.Hearing.{AreLettered, Heard, linked, lam_at, function_is, trail_heard}
 use Rattle.ol_families.proofs.Motions.{moved_append}
 use Rattle.ol_families.proofs.Routes.{routes_told}
 use Rattle.ol_families.proofs.Saying.{Bars, row_is_heard}

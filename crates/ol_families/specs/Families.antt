@@ -1,5 +1,5 @@
 -- Beta steps are families: what is read along routes tells them, and their labels.
-use Rattle.std.specs.Prelude.{◌≡◌, ℕ, ◌+◌, List, [], ◌∷◌, ◌++◌, length}
+use Rattle.std.specs.Prelude.{◌≡◌, ℕ, List, [], ◌∷◌, ◌++◌, length}
 use Rattle.ol_beta.specs.Leftmost.{IsNormal}
 use Rattle.ol_demand.specs.Answers.{start_of}
 use Rattle.ol_demand.specs.Demands.{Asking, Turns}
@@ -19,8 +19,8 @@ use Rattle.ol_optimal.specs.Routes.{Route, HasRoute}
 use Rattle.ol_term.specs.Trees.{Tree}
 use Rattle.ol_term.specs.declared.translations.Translation.{Translation}
 use Rattle.ol_translate.specs.Names.{HasNames}
-use Rattle.ol_translate.specs.Translation.{subnet_of, translation_of}
-use Rattle.ol_families.specs.Readings.{label_of, AreAlike, HeadReduces, AreDifferent}
+use Rattle.ol_translate.specs.Translation.{translation_of}
+use Rattle.ol_families.specs.Readings.{AreAlike, HeadReduces, AreDifferent}
 use Rattle.ol_families.specs.Signs.{letter_of, Signs, onward, signs_of, Signed}
 use Rattle.ol_families.specs.Words.{AreAtoms}
 
@@ -52,17 +52,6 @@ IsLetter v = (n : ℕ) × (v ≡ atom n none)
 -- each subterm has a letter as its label, and no two have the same
 abbrev pub HaveOwnLetters : Labelled → Type 0
 HaveOwnLetters T = AreDifferent (labels_in T) × ((v : Label) → IsIn v (labels_in T) → IsLetter v)
-
--- each subterm of an application or an abstraction has the letter of its edge, where its first node has number k
-abbrev pub AreLettered : Translation → (ℕ → ℕ → ℕ) → Labelled → (d n k : ℕ) → Type 0
-AreLettered τ letter (labels.var y w) d n k = Unit {0}
-AreLettered τ letter (labels.free f w) d n k = Unit {0}
-AreLettered τ letter (labels.lam b w) d n k =
-    (label_of b ≡ atom (letter k 1) none) × AreLettered τ letter b (d + 1) n (k + 1)
-AreLettered τ letter (labels.app f a w) d n k =
-    (label_of f ≡ atom (letter k 0) none) × (label_of a ≡ atom (letter k 2) none)
-    × AreLettered τ letter f d n (k + 1)
-    × AreLettered τ letter a d (n + 1) (k + 1 + length (subnet_of τ (erased f) d n (k + 1)).nodes)
 
 -- Where labelled head steps lead from a term, each of whose subterms has its own letter, to a
 -- head normal form, a demand run of its net, by either translation, that asks for one head makes no

@@ -84,7 +84,11 @@ pub fn signs_tell_routes()
     ensures { SignsTellRoutes }
 {}
 
-/// Demand order makes no more beta steps than there are families.
+/// Demand order makes no more beta steps than there are families. Let each subterm of a term have a
+/// letter of its own, and let leftmost reduction of the labelled term end in a normal form. Then a
+/// demand run of the term's net, by either translation and for whatever number of heads, has as many
+/// beta steps as some different degrees that leftmost reduction contracts, whether the run ends or
+/// is stopped on the way. Asked for one head, it is so with head reduction to a head normal form.
 pub fn no_more_betas_than_families()
     ensures head { NoMoreBetasThanFamilies }
     ensures leftmost { BetasAreNoMoreThanFamilies }
