@@ -86,7 +86,8 @@ module _ (N : NamedNet ℕ) (letter : ℕ → ℕ → ℕ) (r : Acting) where
   pub all_quiet : (y : Signs) {u v : S} → Joined (Quiet N) u v → Joined Heard (u, y) (v, y)
   all_quiet y j = joined_image (λ u. (u, y)) (one_quiet y) j
 
-  along_link : (p q : Port) (c : Context) (y : Signs) → L N p q → Joined Heard ((numbered_port p, c), y) ((numbered_port q, c), y)
+  along_link : (p q : Port) (c : Context) (y : Signs) → L N p q →
+      Joined Heard ((numbered_port p, c), y) ((numbered_port q, c), y)
   along_link p q c y l = edges.on here (linked l)
 
   -- a crossing from slot 0, and one to it
@@ -94,7 +95,8 @@ module _ (N : NamedNet ℕ) (letter : ℕ → ℕ → ℕ) (r : Acting) where
       HasNode N x K n → s < arity K → change K s c ≡ d → rising letter K x s ≡ reversed g →
       Joined Heard ((slot x 0, F d), y) ((slot x (suc s), F c), moved r g y)
   fallen x K n s F c d g y b h low e f = edges.on here
-      (crossed K n h low (b.passes (change K s) c ∙ ap F e) (sym (ap (λ a. moved r a (moved r g y)) f ∙ moved_back r g y)))
+      (crossed K n h low (b.passes (change K s) c ∙ ap F e) (sym (ap (λ a. moved r a (moved r g y)) f
+          ∙ moved_back r g y)))
 
   risen : (x : ℕ) (K : Kind) (n s : ℕ) (F : Context → Context) (c d : Context) (y : Signs) → Before n F →
       HasNode N x K n → s < arity K → change K s c ≡ d →
@@ -120,7 +122,8 @@ module _ (N : NamedNet ℕ) (letter : ℕ → ℕ → ℕ) where
   }
 
   hears : (x y : Option Port) (p q : Port) (c d : Context) (g : Signs) → x ≡ Some p → y ≡ Some q →
-      ((r : Acting) (z : Signs) → Joined (Heard N letter r) ((numbered_port p, c), z) ((numbered_port q, d), moved r g z)) →
+      ((r : Acting) (z : Signs) → Joined (Heard N letter r) ((numbered_port p, c), z) ((numbered_port q, d),
+          moved r g z)) →
       Hears N letter (at_port x c) (at_port y d) g
   hears x y p q c d g e e' j = record {
     first = (numbered_port p, c);
@@ -139,7 +142,8 @@ module _ (τ : Translation) (N : NamedNet ℕ) (letter : ℕ → ℕ → ℕ) wh
       (arg_state x (at root u c') k (λ c. F (cons v c)) (at_port (Some R.root) (F (cons v (cons u c'))))) g
   arg_hears None P R n k F b v u c c' e h g f =
       let A = has_app (H N) (L N) n k P R h in
-      hears N letter (Some P.root) (Some R.root) P.root R.root (F (cons (star v) c)) (F (cons v (cons u c'))) g refl refl
+      hears N letter (Some P.root) (Some R.root) P.root R.root (F (cons (star v) c)) (F (cons v
+          (cons u c'))) g refl refl
       (λ r z. subst (λ x. Joined (Heard N letter r) ((numbered_port P.root, F (cons (star v) c)), z)
       ((numbered_port R.root, F (cons v x)), moved r g z)) e
       (joined_trans (joined_sym (along_link N letter r (slot_port k 0) P.root (F (cons (star v) c)) z A.link))
@@ -161,14 +165,16 @@ module _ (τ : Translation) (N : NamedNet ℕ) (letter : ℕ → ℕ → ℕ) wh
   no_reading d x (labels.lam b w) s z e = absurd (no_lam τ d x (erased b) e)
   no_reading d x (labels.app f a w) s z e = absurd (no_app τ d x (erased f) (erased a) e)
 
-  arg_edge : (x : Option ℕ) (a : Labelled) (d k : ℕ) (F : Context → Context) (s z : Spot) (own own' : Option S) {m : ℕ} →
+  arg_edge : (x : Option ℕ) (a : Labelled) (d k : ℕ) (F : Context →
+      Context) (s z : Spot) (own own' : Option S) {m : ℕ} →
       bare_variable τ d (erased a) ≡ x → Edge τ (erased a) s z m →
       (bare_variable τ d (erased a) ≡ None → Hears N letter own own' (reading a s z)) →
       Hears N letter (arg_state x s k F own) (arg_state x z k F own') (reading a s z)
   arg_edge None a d k F s z own own' e g rest = rest e
   arg_edge (Some x) a d k F s z own own' e g rest =
       subst (Hears N letter (bare_state s k F) (bare_state z k F)) (sym (no_reading d x a s z e))
-      (of_quiet N letter (quiet_argument τ N (Some x) (erased a) d k F s z own own' e g (λ none. absurd (let q = sym e ∙ none in cc))))
+      (of_quiet N letter (quiet_argument τ N (Some x) (erased a) d k F s z own own' e g (λ none. absurd
+          (let q = sym e ∙ none in cc))))
 
   pub edge_hears : (T : Labelled) {s z : Spot} {m : ℕ} → Edge τ (erased T) s z m → (d n k : ℕ) (F : Context → Context) →
       Before n F → is_below d (erased T) ≡ true → Has (H N) (L N) k (subnet_of τ (erased T) d n k) →
@@ -191,7 +197,8 @@ module _ (τ : Translation) (N : NamedNet ℕ) (letter : ℕ → ℕ → ℕ) wh
       let P = subnet_of τ (erased t) (d + 1) n (k + 1) in
       let A = has_lam (H N) (L N) n k P h in
       let g : Signs = onward ends_over ∷ signs_of (label_of t) in
-      hears N letter (Some (slot_port k 0)) (Some P.root) (slot_port k 0) P.root (F (cons (o v) c)) (F (cons v c)) g refl refl
+      hears N letter (Some (slot_port k 0)) (Some P.root) (slot_port k 0) P.root (F (cons (o v) c)) (F
+          (cons v c)) g refl refl
       (λ r z. joined_trans (fallen N letter r k kind.Lam n 0 F (cons v c) (cons (o v) c) g z b A.node
       (omega arith) refl (ap (λ l. reversed (onward ends_over ∷ signs_of l)) (sym q.0)))
       (along_link N letter r (slot_port k 1) P.root (F (cons v c)) (moved r g z) A.link))
@@ -202,7 +209,8 @@ module _ (τ : Translation) (N : NamedNet ℕ) (letter : ℕ → ℕ → ℕ) wh
       let g : Signs = backward begins_under ∷ [] in
       hears N letter (Some (slot_port k 0)) (wire_of 0 P.wires) (slot_port k 0) W.0 (F (cons (star a) c))
       (F (cons a c)) g refl W.1
-      (λ r z. joined_trans (fallen N letter r k kind.Lam n 1 F (cons a c) (cons (star a) c) g z b A.node (omega arith) refl refl)
+      (λ r z. joined_trans (fallen N letter r k kind.Lam n 1 F (cons a c) (cons (star a) c) g z b A.node
+          (omega arith) refl refl)
       (along_link N letter r (slot_port k 2) W.0 (F (cons a c)) (moved r g z)
       (subst (λ x. L N (slot_port k 2) (bound_port x (k + 1 + length P.nodes))) W.1 A.var_link)))
   edge_hears (labels.lam t w) (lam_wire {y = y} {z = z} {a = a} {c = c} e o') d n k F b i h q =
@@ -229,14 +237,17 @@ module _ (τ : Translation) (N : NamedNet ℕ) (letter : ℕ → ℕ → ℕ) wh
       (omega arith) refl) (along_link N letter r (slot_port k 0) P.root (F (cons (o v) c))
       (moved r (rising letter kind.App k 0) z) A.link)))
   edge_hears (labels.app f a w) (app_arg {v = v} {u = u} {c = c} {d = c'} e) d n k F b i h q =
-      arg_hears (bare_variable τ d (erased a)) (subnet_of τ (erased f) d n (k + 1)) (argument τ (erased f) (erased a) d n k)
+      arg_hears (bare_variable τ d (erased a)) (subnet_of τ (erased f) d n (k + 1)) (argument τ (erased f)
+          (erased a) d n k)
       n k F b v u c c' e h (reversed (signs_of (label_of f)) ++ onward ends_under ∷ signs_of (label_of a))
       (ap (λ l. reversed (reversed (signs_of l) ++ onward ends_under ∷ signs_of (atom (letter k 2) none))) (sym q.0)
       ∙ ap (λ l. reversed (reversed (signs_of (label_of f)) ++ onward ends_under ∷ signs_of l)) (sym q.1))
   edge_hears (labels.app f a w) (app_left {y = y} {a = l} {w = w'} {c = c} m e) d n k F b i h q =
-      of_quiet N letter (left_joined τ N (bare_variable τ d (erased a)) (erased f) (erased a) d n k F b i y l w' c m e refl h)
+      of_quiet N letter (left_joined τ N (bare_variable τ d (erased a)) (erased f)
+          (erased a) d n k F b i y l w' c m e refl h)
   edge_hears (labels.app f a w) (app_right {y = y} {b = u} {v = v} {w = w'} {c = c} m e) d n k F b i h q =
-      of_quiet N letter (right_joined τ N (bare_variable τ d (erased a)) (erased f) (erased a) d n k F b i y u v w' c m e refl h)
+      of_quiet N letter (right_joined τ N (bare_variable τ d (erased a)) (erased f)
+          (erased a) d n k F b i y u v w' c m e refl h)
   edge_hears (labels.app f a w) (in_fun e) d n k F b i h q =
       let r = edge_hears f e d n (k + 1) F b (and_parts (is_below d (erased f)) (is_below d (erased a)) i).0
       (has_head (H N) (L N) n k (bare_variable τ d (erased a)) (subnet_of τ (erased f) d n (k + 1))
@@ -245,7 +256,8 @@ module _ (τ : Translation) (N : NamedNet ℕ) (letter : ℕ → ℕ → ℕ) wh
   edge_hears (labels.app f a w) (in_arg {v = v} {s = s} {s' = z} e) d n k F b i h q =
       let r = arg_edge (bare_variable τ d (erased a)) a d k (λ c. F (cons v c)) s z
       (state τ s (erased a) d (n + 1) (k + 1 + length (subnet_of τ (erased f) d n (k + 1)).nodes) (λ c. F (cons v c)))
-      (state τ z (erased a) d (n + 1) (k + 1 + length (subnet_of τ (erased f) d n (k + 1)).nodes) (λ c. F (cons v c))) refl e
+      (state τ z (erased a) d (n + 1) (k + 1 + length (subnet_of τ (erased f) d n (k + 1)).nodes) (λ c. F
+          (cons v c))) refl e
       (λ none. edge_hears a e d (n + 1) (k + 1 + length (subnet_of τ (erased f) d n (k + 1)).nodes)
       (λ c. F (cons v c)) (before_arg n F v b) (and_parts (is_below d (erased f)) (is_below d (erased a)) i).1
       (has_app (H N) (L N) n k (subnet_of τ (erased f) d n (k + 1)) (argument τ (erased f) (erased a) d n k)
@@ -299,10 +311,12 @@ module _ (τ : Translation) (N : NamedNet ℕ) (letter : ℕ → ℕ → ℕ) wh
       by rec None e =
           let r = rec (λ c. F (cons v c))
           (has_app (H N) (L N) n k (subnet_of τ M d n (k + 1)) (argument τ M Q d n k)
-          (subst (λ o. Has (H N) (L N) k (applied n k o (subnet_of τ M d n (k + 1)) (argument τ M Q d n k))) e h)).argument in
+          (subst (λ o. Has (H N) (L N) k (applied n k o (subnet_of τ M d n (k + 1))
+              (argument τ M Q d n k))) e h)).argument in
           record {
             node = r.node;
-            index = subst (λ i. HasNode N r.node kind.Lam i) (let z : n + 1 + depth p ≡ n + suc (depth p) = omega arith in z) r.index;
+            index = subst (λ i. HasNode N r.node kind.Lam i) (let z : n + 1 + depth p ≡ n + suc
+                (depth p) = omega arith in z) r.index;
             is = λ u c. ap (λ o. arg_state o (spot_in p (at root u c)) k (λ c. F (cons v c))
                 (state τ (spot_in p (at root u c)) Q d (n + 1)
                 (k + 1 + length (subnet_of τ M d n (k + 1)).nodes) (λ c. F (cons v c)))) e ∙ r.is u c;
@@ -329,7 +343,8 @@ module _ (τ : Translation) (N : NamedNet ℕ) (letter : ℕ → ℕ → ℕ) wh
   no_app_in d x (of_argument {M = M} {N = Q} k) q e = absurd (no_app τ d x M Q e)
 
   pub function_is : (T : Labelled) {u : Tree} {p : Site} (d n k : ℕ) (F : Context → Context) → PartAt (erased T) p u →
-      Is true u → Has (H N) (L N) k (subnet_of τ (erased T) d n k) → AreLettered τ letter T d n k → FunctionAt T d n k F p
+      Is true u → Has (H N) (L N) k (subnet_of τ (erased T) d n k) → AreLettered τ letter T d n k →
+          FunctionAt T d n k F p
   function_is (labels.var y w) d n k F whole q h g = absurd q
   function_is (labels.free f w) d n k F whole q h g = absurd q
   function_is (labels.lam b w) d n k F whole q h g = absurd q
@@ -384,7 +399,8 @@ module _ (τ : Translation) (T : Labelled) (names : ℕ) (h : HasNames (erased T
   abbrev pub stands : Spot → Option S
   stands s = state τ s (erased T) 0 0 0 (λ c. c)
 
-  of_edge : {s z : Spot} {m : ℕ} → Edge τ (erased T) s z m → Hears (translation_of τ (erased T) names) letter (stands s) (stands z) (reading T s z)
+  of_edge : {s z : Spot} {m : ℕ} → Edge τ (erased T) s z m → Hears (translation_of τ (erased T) names) letter
+      (stands s) (stands z) (reading T s z)
   of_edge e = edge_hears τ (translation_of τ (erased T) names) letter T e 0 0 0 (λ c. c) before_all h.bound
       (has_part τ (erased T) names h) are
 

@@ -35,7 +35,8 @@ IsEdge N x s = (k : Kind) × (i : ℕ) × HasNode N x k i × (has_letter k s ≡
 
 -- no two of the net's edges have one letter
 abbrev pub HaveLetters : {A : Type 0} → NamedNet A → (A → ℕ → ℕ) → Type 0
-HaveLetters {A} N letter = (x y : A) (s r : ℕ) → IsEdge N x s → IsEdge N y r → letter x s ≡ letter y r → (x ≡ y) × (s ≡ r)
+HaveLetters {A} N letter = (x y : A) (s r : ℕ) → IsEdge N x s → IsEdge N y r → letter x s ≡ letter y r →
+    (x ≡ y) × (s ≡ r)
 
 -- ---- a row from port to port, by the side of each: false where a term is asked for
 
@@ -164,9 +165,11 @@ module _ {A : Type 0} (N : NamedNet A) (letter : A → ℕ → ℕ) where
   phase_reduced (share_up h l y) x k f = phase_reduced y x k f
   phase_reduced (share_down h l y) x k f = phase_reduced y x k f
   phase_reduced (piece g l (to_function {y = v} o) y) x k f = phase_reduced y
-      (onward (letter_of (letter v 0)) ∷ onward begins_over ∷ x) (one_more (onward begins_over) x f.0 k) (refl, refl, refl, refl)
+      (onward (letter_of (letter v 0)) ∷ onward begins_over ∷ x) (one_more (onward begins_over) x f.0 k) (refl,
+          refl, refl, refl)
   phase_reduced (piece g l (to_body {z = v} o) y) x k f = phase_reduced y
-      (onward (letter_of (letter v 1)) ∷ onward ends_over ∷ x) (one_more (onward ends_over) x f.1 k) (refl, refl, refl, refl)
+      (onward (letter_of (letter v 1)) ∷ onward ends_over ∷ x) (one_more (onward ends_over) x f.1 k) (refl, refl,
+          refl, refl)
   phase_reduced (piece g l (from_variable o) y) x k f = phase_reduced y
       (onward begins_under ∷ x) (one_more (onward begins_under) x f.2 k) (λ n. refl)
   phase_reduced (piece g l (to_variable o) y) x k f = phase_reduced y
@@ -216,8 +219,10 @@ module _ {A : Type 0} (N : NamedNet A) (letter : A → ℕ → ℕ) where
 
     one_climb : {e p : NamedPort A} {w v : List (Crossing A)} → Climb e w p → Climb e v p → IsPlain p → w ≡ v
     one_climb (tops l) (tops m) f = refl
-    one_climb {e} {p} (tops l) (climbs {x = x} {s = s} h m c) f = absurd (f x (suc s) (n.one_link e p (slot x (suc s)) l m) h)
-    one_climb {e} {p} (climbs {x = x} {s = s} h m c) (tops l) f = absurd (f x (suc s) (n.one_link e p (slot x (suc s)) l m) h)
+    one_climb {e} {p} (tops l) (climbs {x = x} {s = s} h m c) f = absurd (f x (suc s) (n.one_link e p (slot x
+        (suc s)) l m) h)
+    one_climb {e} {p} (climbs {x = x} {s = s} h m c) (tops l) f = absurd (f x (suc s) (n.one_link e p (slot x
+        (suc s)) l m) h)
     one_climb {e} {p} (climbs {x = x} {s = s} {w = w} h m c) (climbs {x = y} {s = r} {w = v} h' m' c') f =
         let z = sucs_one (n.one_link e (slot x (suc s)) (slot y (suc r)) m m') in
         let i = one_climb c (subst (λ x. Climb (slot x 0) v p) (sym z.0) c') f in
@@ -243,7 +248,8 @@ module _ {A : Type 0} (N : NamedNet A) (letter : A → ℕ → ℕ) where
     Outcome false p p' r r' = p ≡ p' → r ≡ r'
     Outcome true p p' r r' = Split p p' r r'
 
-    settled : (b : Bool) (p p' : NamedPort A) (r r' : List (Crossing A)) → Outcome b p p' r r' → p ≡ p' → IsPlain p → r ≡ r'
+    settled : (b : Bool) (p p' : NamedPort A) (r r' : List (Crossing A)) → Outcome b p p' r r' → p ≡ p' →
+        IsPlain p → r ≡ r'
     settled false p p' r r' o e f = o e
     settled true p p' r r' o e f =
         let w = one_drop o.drop (subst (λ p. Drop p o.second o.port) (sym e) o.other) f in
@@ -260,7 +266,8 @@ module _ {A : Type 0} (N : NamedNet A) (letter : A → ℕ → ℕ) where
     no_lam : {x y : A} {s r : ℕ} → Is N y kind.Lam → slot y r ≡ slot x s → IsShared x → ⊥
     no_lam {x} {y} {s} {r} h e sh =
         let same = (slots_one e).0 in
-        sh.3 (sym (n.one_node y kind.Lam sh.0 h.0 sh.1.0 h.1 (subst (λ y. HasNode N y sh.0 sh.1.0) (sym same) sh.1.1)).0)
+        sh.3 (sym (n.one_node y kind.Lam sh.0 h.0 sh.1.0 h.1 (subst (λ y. HasNode N y sh.0 sh.1.0)
+            (sym same) sh.1.1)).0)
 
     leaves_plain : {b d : Bool} {e l : NamedPort A} {c : Crossing A} {g : Signs} → Piece b e c l d g → IsPlain l
     leaves_plain (to_function h) = λ x s e sh. no_app h e sh
@@ -282,7 +289,8 @@ module _ {A : Type 0} (N : NamedNet A) (letter : A → ℕ → ℕ) where
     enters_plain (from_argument h) = λ x s e sh. no_app h e sh
     enters_plain (from_body h) = λ x s e sh. no_lam h e sh
 
-    no_signs : {b d : Bool} {e l : NamedPort A} {c : Crossing A} {g : Signs} (a : Signs) → Piece b e c l d g → [] ≡ g ++ a → ⊥
+    no_signs : {b d : Bool} {e l : NamedPort A} {c : Crossing A} {g : Signs} (a : Signs) → Piece b e c l d g →
+        [] ≡ g ++ a → ⊥
     no_signs a (to_function h) e = absurd (cc)
     no_signs a (to_body h) e = absurd (cc)
     no_signs a (from_variable h) e = absurd (cc)
@@ -292,7 +300,8 @@ module _ {A : Type 0} (N : NamedNet A) (letter : A → ℕ → ℕ) where
     no_signs a (from_argument h) e = absurd (cc)
     no_signs a (from_body h) e = absurd (cc)
 
-    record SamePiece (e e' : NamedPort A) (c c' : Crossing A) (l l' : NamedPort A) (d d' : Bool) (a a' : Signs) : Type 0 where
+    record SamePiece (e e' : NamedPort A) (c c' : Crossing A) (l l' : NamedPort A) (d d' : Bool)
+        (a a' : Signs) : Type 0 where
       enters : e ≡ e'
       crossing : c ≡ c'
       leaves : l ≡ l'
@@ -305,8 +314,10 @@ module _ {A : Type 0} (N : NamedNet A) (letter : A → ℕ → ℕ) where
     letters : {b d : Bool} {m k : ℕ} → ◌≡◌ {A = Bool × Sign} (b, letter_of m) (d, letter_of k) → m ≡ k
     letters {b} {d} {m} {k} e = let f : letter_of m ≡ letter_of k = ap (λ (p : Bool × Sign). p.1) e in cc
 
-    same_edge : {y y' : A} {a a' : Signs} (s : ℕ) → IsEdge N y s → IsEdge N y' s → (c : A → Crossing A) (r t : ℕ) (d : Bool) →
-        letter y s ≡ letter y' s → a ≡ a' → SamePiece (slot y t) (slot y' t) (c y) (c y') (slot y r) (slot y' r) d d a a'
+    same_edge : {y y' : A} {a a' : Signs} (s : ℕ) → IsEdge N y s → IsEdge N y' s → (c : A →
+        Crossing A) (r t : ℕ) (d : Bool) →
+        letter y s ≡ letter y' s → a ≡ a' → SamePiece (slot y t) (slot y' t) (c y) (c y') (slot y r)
+            (slot y' r) d d a a'
     same_edge {y = v} {y' = v'} s i i' c r t d e f =
         let y = (atoms v v' s s i i' e).0 in
         record {
@@ -330,37 +341,51 @@ module _ {A : Type 0} (N : NamedNet A) (letter : A → ℕ → ℕ) where
     given_one a a' p (from_variable h) u u' e = absurd (cc)
     given_one a a' p (to_variable h) u u' e = absurd (cc)
     given_one a a' (from_function h) (from_function h') u u' e =
-        let f = heads e in let g = heads f.1 in same_edge 0 (kind.App, h.0, h.1, refl) (kind.App, h'.0, h'.1, refl) (λ y. fall y 0) 1 0 true (letters f.0) g.1
+        let f = heads e in let g = heads f.1 in same_edge 0 (kind.App, h.0, h.1, refl) (kind.App, h'.0, h'.1,
+            refl) (λ y. fall y 0) 1 0 true (letters f.0) g.1
     given_one a a' (from_function h) (to_argument h') u u' e =
         let f = heads e in let g = heads f.1 in let clash = ap (λ (p : Bool × Sign). p.0) g.0 in absurd (cc)
     given_one a a' (from_function {y = y} h) (from_argument {y = y'} h') u u' e =
-        let k = (atoms y y' 0 2 (kind.App, h.0, h.1, refl) (kind.App, h'.0, h'.1, refl) (letters (heads e).0)).1 in absurd (omega arith)
+        let k = (atoms y y' 0 2 (kind.App, h.0, h.1, refl) (kind.App, h'.0, h'.1,
+            refl) (letters (heads e).0)).1 in absurd (omega arith)
     given_one a a' (from_function {y = y} h) (from_body {z = z} h') u u' e =
-        let k = (atoms y z 0 1 (kind.App, h.0, h.1, refl) (kind.Lam, h'.0, h'.1, refl) (letters (heads e).0)).1 in absurd (omega arith)
+        let k = (atoms y z 0 1 (kind.App, h.0, h.1, refl) (kind.Lam, h'.0, h'.1,
+            refl) (letters (heads e).0)).1 in absurd (omega arith)
     given_one a a' (to_argument h) (from_function h') u u' e =
         let f = heads e in let g = heads f.1 in let clash = ap (λ (p : Bool × Sign). p.0) g.0 in absurd (cc)
     given_one a a' (to_argument h) (to_argument h') u u' e =
-        let f = heads e in let g = heads f.1 in let k = heads g.1 in same_edge 0 (kind.App, h.0, h.1, refl) (kind.App, h'.0, h'.1, refl) (λ y. fall y 1) 2 0 false (letters f.0) k.1
+        let f = heads e in let g = heads f.1 in let k = heads g.1 in same_edge 0 (kind.App, h.0, h.1,
+            refl) (kind.App, h'.0, h'.1, refl) (λ y. fall y 1) 2 0 false (letters f.0) k.1
     given_one a a' (to_argument {y = y} h) (from_argument {y = y'} h') u u' e =
-        let k = (atoms y y' 0 2 (kind.App, h.0, h.1, refl) (kind.App, h'.0, h'.1, refl) (letters (heads e).0)).1 in absurd (omega arith)
+        let k = (atoms y y' 0 2 (kind.App, h.0, h.1, refl) (kind.App, h'.0, h'.1,
+            refl) (letters (heads e).0)).1 in absurd (omega arith)
     given_one a a' (to_argument {y = y} h) (from_body {z = z} h') u u' e =
-        let k = (atoms y z 0 1 (kind.App, h.0, h.1, refl) (kind.Lam, h'.0, h'.1, refl) (letters (heads e).0)).1 in absurd (omega arith)
+        let k = (atoms y z 0 1 (kind.App, h.0, h.1, refl) (kind.Lam, h'.0, h'.1,
+            refl) (letters (heads e).0)).1 in absurd (omega arith)
     given_one a a' (from_argument {y = y} h) (from_function {y = y'} h') u u' e =
-        let k = (atoms y y' 2 0 (kind.App, h.0, h.1, refl) (kind.App, h'.0, h'.1, refl) (letters (heads e).0)).1 in absurd (omega arith)
+        let k = (atoms y y' 2 0 (kind.App, h.0, h.1, refl) (kind.App, h'.0, h'.1,
+            refl) (letters (heads e).0)).1 in absurd (omega arith)
     given_one a a' (from_argument {y = y} h) (to_argument {y = y'} h') u u' e =
-        let k = (atoms y y' 2 0 (kind.App, h.0, h.1, refl) (kind.App, h'.0, h'.1, refl) (letters (heads e).0)).1 in absurd (omega arith)
+        let k = (atoms y y' 2 0 (kind.App, h.0, h.1, refl) (kind.App, h'.0, h'.1,
+            refl) (letters (heads e).0)).1 in absurd (omega arith)
     given_one a a' (from_argument h) (from_argument h') u u' e =
-        let f = heads e in let g = heads f.1 in let k = heads g.1 in same_edge 2 (kind.App, h.0, h.1, refl) (kind.App, h'.0, h'.1, refl) (λ y. rise y 1) 0 2 false (letters f.0) k.1
+        let f = heads e in let g = heads f.1 in let k = heads g.1 in same_edge 2 (kind.App, h.0, h.1,
+            refl) (kind.App, h'.0, h'.1, refl) (λ y. rise y 1) 0 2 false (letters f.0) k.1
     given_one a a' (from_argument {y = y} h) (from_body {z = z} h') u u' e =
-        let k = (atoms y z 2 1 (kind.App, h.0, h.1, refl) (kind.Lam, h'.0, h'.1, refl) (letters (heads e).0)).1 in absurd (omega arith)
+        let k = (atoms y z 2 1 (kind.App, h.0, h.1, refl) (kind.Lam, h'.0, h'.1,
+            refl) (letters (heads e).0)).1 in absurd (omega arith)
     given_one a a' (from_body {z = z} h) (from_function {y = y'} h') u u' e =
-        let k = (atoms z y' 1 0 (kind.Lam, h.0, h.1, refl) (kind.App, h'.0, h'.1, refl) (letters (heads e).0)).1 in absurd (omega arith)
+        let k = (atoms z y' 1 0 (kind.Lam, h.0, h.1, refl) (kind.App, h'.0, h'.1,
+            refl) (letters (heads e).0)).1 in absurd (omega arith)
     given_one a a' (from_body {z = z} h) (to_argument {y = y'} h') u u' e =
-        let k = (atoms z y' 1 0 (kind.Lam, h.0, h.1, refl) (kind.App, h'.0, h'.1, refl) (letters (heads e).0)).1 in absurd (omega arith)
+        let k = (atoms z y' 1 0 (kind.Lam, h.0, h.1, refl) (kind.App, h'.0, h'.1,
+            refl) (letters (heads e).0)).1 in absurd (omega arith)
     given_one a a' (from_body {z = z} h) (from_argument {y = y'} h') u u' e =
-        let k = (atoms z y' 1 2 (kind.Lam, h.0, h.1, refl) (kind.App, h'.0, h'.1, refl) (letters (heads e).0)).1 in absurd (omega arith)
+        let k = (atoms z y' 1 2 (kind.Lam, h.0, h.1, refl) (kind.App, h'.0, h'.1,
+            refl) (letters (heads e).0)).1 in absurd (omega arith)
     given_one a a' (from_body h) (from_body h') u u' e =
-        let f = heads e in let g = heads f.1 in same_edge 1 (kind.Lam, h.0, h.1, refl) (kind.Lam, h'.0, h'.1, refl) (λ z. rise z 0) 0 1 true (letters f.0) g.1
+        let f = heads e in let g = heads f.1 in same_edge 1 (kind.Lam, h.0, h.1, refl) (kind.Lam, h'.0, h'.1,
+            refl) (λ z. rise z 0) 0 1 true (letters f.0) g.1
 
     same_node : {y y' : A} {a a' : Signs} (c : A → Crossing A) (r t : ℕ) (d : Bool) →
         ◌≡◌ {A = NamedPort A} (slot y t) (slot y' t) → a ≡ a' →
@@ -387,21 +412,34 @@ module _ {A : Type 0} (N : NamedNet A) (letter : A → ℕ → ℕ) where
     asked_one a a' p (to_argument h) u u' q e = absurd (cc)
     asked_one a a' p (from_argument h) u u' q e = absurd (cc)
     asked_one a a' p (from_body h) u u' q e = absurd (cc)
-    asked_one a a' (to_function h) (to_function h') u u' q e = same_node (λ y. rise y 0) 0 1 false q (heads (heads e).1).1
-    asked_one a a' (to_function h) (to_body h') u u' q e = let f = ap (λ (p : Bool × Sign). p.0) (heads e).0 in let g = ap (λ (p : Bool × Sign). p.1) (heads e).0 in absurd (cc)
-    asked_one a a' (to_function h) (from_variable h') u u' q e = let f = ap (λ (p : Bool × Sign). p.0) (heads e).0 in let g = ap (λ (p : Bool × Sign). p.1) (heads e).0 in absurd (cc)
-    asked_one a a' (to_function h) (to_variable h') u u' q e = let f = ap (λ (p : Bool × Sign). p.0) (heads e).0 in let g = ap (λ (p : Bool × Sign). p.1) (heads e).0 in absurd (cc)
-    asked_one a a' (to_body h) (to_function h') u u' q e = let f = ap (λ (p : Bool × Sign). p.0) (heads e).0 in let g = ap (λ (p : Bool × Sign). p.1) (heads e).0 in absurd (cc)
+    asked_one a a' (to_function h) (to_function h') u u' q e = same_node (λ y. rise y 0) 0 1 false q (heads
+        (heads e).1).1
+    asked_one a a' (to_function h) (to_body h') u u' q e = let f = ap (λ (p : Bool × Sign). p.0)
+        (heads e).0 in let g = ap (λ (p : Bool × Sign). p.1) (heads e).0 in absurd (cc)
+    asked_one a a' (to_function h) (from_variable h') u u' q e = let f = ap (λ (p : Bool × Sign). p.0)
+        (heads e).0 in let g = ap (λ (p : Bool × Sign). p.1) (heads e).0 in absurd (cc)
+    asked_one a a' (to_function h) (to_variable h') u u' q e = let f = ap (λ (p : Bool × Sign). p.0)
+        (heads e).0 in let g = ap (λ (p : Bool × Sign). p.1) (heads e).0 in absurd (cc)
+    asked_one a a' (to_body h) (to_function h') u u' q e = let f = ap (λ (p : Bool × Sign). p.0)
+        (heads e).0 in let g = ap (λ (p : Bool × Sign). p.1) (heads e).0 in absurd (cc)
     asked_one a a' (to_body h) (to_body h') u u' q e = same_node (λ y. fall y 0) 1 0 false q (heads (heads e).1).1
-    asked_one a a' (to_body h) (from_variable h') u u' q e = let f = ap (λ (p : Bool × Sign). p.0) (heads e).0 in let g = ap (λ (p : Bool × Sign). p.1) (heads e).0 in absurd (cc)
-    asked_one a a' (to_body h) (to_variable h') u u' q e = let f = ap (λ (p : Bool × Sign). p.0) (heads e).0 in let g = ap (λ (p : Bool × Sign). p.1) (heads e).0 in absurd (cc)
-    asked_one a a' (from_variable h) (to_function h') u u' q e = let f = ap (λ (p : Bool × Sign). p.0) (heads e).0 in let g = ap (λ (p : Bool × Sign). p.1) (heads e).0 in absurd (cc)
-    asked_one a a' (from_variable h) (to_body h') u u' q e = let f = ap (λ (p : Bool × Sign). p.0) (heads e).0 in let g = ap (λ (p : Bool × Sign). p.1) (heads e).0 in absurd (cc)
+    asked_one a a' (to_body h) (from_variable h') u u' q e = let f = ap (λ (p : Bool × Sign). p.0)
+        (heads e).0 in let g = ap (λ (p : Bool × Sign). p.1) (heads e).0 in absurd (cc)
+    asked_one a a' (to_body h) (to_variable h') u u' q e = let f = ap (λ (p : Bool × Sign). p.0)
+        (heads e).0 in let g = ap (λ (p : Bool × Sign). p.1) (heads e).0 in absurd (cc)
+    asked_one a a' (from_variable h) (to_function h') u u' q e = let f = ap (λ (p : Bool × Sign). p.0)
+        (heads e).0 in let g = ap (λ (p : Bool × Sign). p.1) (heads e).0 in absurd (cc)
+    asked_one a a' (from_variable h) (to_body h') u u' q e = let f = ap (λ (p : Bool × Sign). p.0)
+        (heads e).0 in let g = ap (λ (p : Bool × Sign). p.1) (heads e).0 in absurd (cc)
     asked_one a a' (from_variable h) (from_variable h') u u' q e = same_node (λ y. rise y 1) 0 2 true q (heads e).1
-    asked_one a a' (from_variable h) (to_variable h') u u' q e = let f = ap (λ (p : Bool × Sign). p.0) (heads e).0 in let g = ap (λ (p : Bool × Sign). p.1) (heads e).0 in absurd (cc)
-    asked_one a a' (to_variable h) (to_function h') u u' q e = let f = ap (λ (p : Bool × Sign). p.0) (heads e).0 in let g = ap (λ (p : Bool × Sign). p.1) (heads e).0 in absurd (cc)
-    asked_one a a' (to_variable h) (to_body h') u u' q e = let f = ap (λ (p : Bool × Sign). p.0) (heads e).0 in let g = ap (λ (p : Bool × Sign). p.1) (heads e).0 in absurd (cc)
-    asked_one a a' (to_variable h) (from_variable h') u u' q e = let f = ap (λ (p : Bool × Sign). p.0) (heads e).0 in let g = ap (λ (p : Bool × Sign). p.1) (heads e).0 in absurd (cc)
+    asked_one a a' (from_variable h) (to_variable h') u u' q e = let f = ap (λ (p : Bool × Sign). p.0)
+        (heads e).0 in let g = ap (λ (p : Bool × Sign). p.1) (heads e).0 in absurd (cc)
+    asked_one a a' (to_variable h) (to_function h') u u' q e = let f = ap (λ (p : Bool × Sign). p.0)
+        (heads e).0 in let g = ap (λ (p : Bool × Sign). p.1) (heads e).0 in absurd (cc)
+    asked_one a a' (to_variable h) (to_body h') u u' q e = let f = ap (λ (p : Bool × Sign). p.0)
+        (heads e).0 in let g = ap (λ (p : Bool × Sign). p.1) (heads e).0 in absurd (cc)
+    asked_one a a' (to_variable h) (from_variable h') u u' q e = let f = ap (λ (p : Bool × Sign). p.0)
+        (heads e).0 in let g = ap (λ (p : Bool × Sign). p.1) (heads e).0 in absurd (cc)
     asked_one a a' (to_variable h) (to_variable h') u u' q e = same_node (λ y. fall y 1) 2 0 true q (heads e).1
 
     abbrev Claim : Bool → NamedPort A → List (Crossing A) → Signs → Type 0
@@ -421,7 +459,8 @@ module _ {A : Type 0} (N : NamedNet A) (letter : A → ℕ → ℕ) where
     ends_one z h l b' p' r' a' (share_down h' l' y) e f q = absurd (cc)
     ends_one z h l b' p' r' a' (piece {a = a} g l' x y) e f q = absurd (no_signs a x f)
 
-    up_one : {x : A} {s : ℕ} {p : NamedPort A} {r : List (Crossing A)} {a : Signs} → IsShared x → Linked N p (slot x (suc s)) →
+    up_one : {x : A} {s : ℕ} {p : NamedPort A} {r : List (Crossing A)} {a : Signs} → IsShared x →
+        Linked N p (slot x (suc s)) →
         Claim false (slot x 0) r a → Claim false p (rise x s ∷ r) a
     up_one {x} {s} {p} h l f b' p' r' a' (ends z h' l') e k q = absurd (no_slots N
         (n.one_link p (slot x (suc s)) (slot z 0) l (subst (λ p. Linked N p (slot z 0)) (sym q) l')))
@@ -437,7 +476,8 @@ module _ {A : Type 0} (N : NamedNet A) (letter : A → ℕ → ℕ) where
     piece_asked : {d : Bool} {p e l : NamedPort A} {c : Crossing A} {r : List (Crossing A)} {a : Signs} (g : Signs) →
         Linked N p e → Piece false e c l d g → Claim d l r a → Claim false p (c ∷ r) (g ++ a)
     piece_asked {a = a} g l pc f b' p' r' a' (ends z' h' l') e k q = absurd (no_signs a pc (sym k))
-    piece_asked {p = p} {e = e'} g l pc f b' p' r' a' (share_up {x = x} {s = s} h' l' y) e k q = absurd (enters_plain pc x (suc s)
+    piece_asked {p = p} {e = e'} g l pc f b' p' r' a' (share_up {x = x} {s = s} h' l' y) e k q = absurd
+        (enters_plain pc x (suc s)
         (n.one_link p e' (slot x (suc s)) l (subst (λ p. Linked N p (slot x (suc s))) (sym q) l')) h')
     piece_asked g l pc f b' p' r' a' (share_down h' l' y) e k q = absurd (cc)
     piece_asked {p = p} {e = e1} {a = a} g l pc f b' p' r' a' (piece {e = e2} {a = a2} g2 l' pc' y) e k q =
@@ -446,7 +486,8 @@ module _ {A : Type 0} (N : NamedNet A) (letter : A → ℕ → ℕ) where
 
     -- after a port where one is given
     piece_given : {d : Bool} {p e l : NamedPort A} {c : Crossing A} {r : List (Crossing A)} {a : Signs} (g : Signs) →
-        Linked N p e → Piece true e c l d g → Claim d l r a → (b' : Bool) (p' : NamedPort A) (r' : List (Crossing A)) (a' : Signs) →
+        Linked N p e → Piece true e c l d g → Claim d l r a → (b' : Bool) (p' : NamedPort A) (r' : List
+            (Crossing A)) (a' : Signs) →
         Phase b' p' r' a' → true ≡ b' → g ++ a ≡ a' → Split p p' (c ∷ r) r'
     piece_given g l pc f b' p' r' a' (ends z' h' l') e k = absurd (cc)
     piece_given g l pc f b' p' r' a' (share_up h' l' y) e k = absurd (cc)
@@ -462,7 +503,8 @@ module _ {A : Type 0} (N : NamedNet A) (letter : A → ℕ → ℕ) where
           is = o.is;
           other_is = ap (λ w. fall x s ∷ w) o.other_is;
         }
-    piece_given {p = p} {e = e1} {c = c} {r = r} {a = a} g l pc f b' p' r' a' (piece {e = e2} {c = c2} {r = r2} {a = a2} g2 l' pc' y) e k =
+    piece_given {p = p} {e = e1} {c = c} {r = r} {a = a} g l pc f b' p' r' a'
+        (piece {e = e2} {c = c2} {r = r2} {a = a2} g2 l' pc' y) e k =
         let z = given_one a a2 pc pc' refl (sym e) k in
         record {
           port = e1;
@@ -475,7 +517,8 @@ module _ {A : Type 0} (N : NamedNet A) (letter : A → ℕ → ℕ) where
           other_is = sym (rest_one f y z.crossing z.leaves z.side z.after (leaves_plain pc));
         }
 
-    down_one : {x : A} {s : ℕ} {p : NamedPort A} {r : List (Crossing A)} {a : Signs} → IsShared x → Linked N p (slot x 0) →
+    down_one : {x : A} {s : ℕ} {p : NamedPort A} {r : List (Crossing A)} {a : Signs} → IsShared x →
+        Linked N p (slot x 0) →
         Claim true (slot x (suc s)) r a → Claim true p (fall x s ∷ r) a
     down_one {x} {s} h l f b' p' r' a' y e k =
         let o = f b' p' r' a' y e k in

@@ -16,7 +16,8 @@ use Rattle.ol_optimal.specs.Redexes.{Carries}
 use Rattle.ol_optimal.specs.Routes.{Crossing, rise, fall, Row}
 use Rattle.ol_optimal.specs.Routes as routes
 use Rattle.ol_optimal.proofs.Carrying.{rise_at, fall_at}
-use Rattle.ol_families.specs.Signs.{Signs, reversed, Signed, nothing, shared_up, shared_down, to_function, from_function}
+use Rattle.ol_families.specs.Signs.{Signs, reversed, Signed, nothing, shared_up, shared_down, to_function}
+use Rattle.ol_families.specs.Signs.{from_function}
 use Rattle.ol_families.specs.Signs.{to_body, from_body, from_variable, to_variable, to_argument, from_argument}
 use Rattle.ol_families.specs.Readings.{Acting, moved}
 use Rattle.ol_families.proofs.Hearing.{rising, Heard, linked, crossed}
@@ -51,7 +52,8 @@ module _ (N : NamedNet ℕ) (n : IsNet N) (letter : ℕ → ℕ → ℕ) where
     context : d ≡ d'
     signs : a ≡ a'
 
-  risen_one : {x x' s s' : ℕ} {d d' e e' : Context} {a a' : Signs} (k k' : Kind) (i i' : ℕ) → x ≡ x' → s ≡ s' → d ≡ d' → a ≡ a' →
+  risen_one : {x x' s s' : ℕ} {d d' e e' : Context} {a a' : Signs} (k k' : Kind) (i i' : ℕ) → x ≡ x' → s ≡ s' →
+      d ≡ d' → a ≡ a' →
       k ≡ k' → i ≡ i' → up k i s d ≡ e → up k' i' s' d' ≡ e' →
       OneState (slot x 0) (slot x' 0) e e' (a ++ rising letter k x s) (a' ++ rising letter k' x' s')
   risen_one {x} {x'} {s} {s'} {d} {d'} {a = a} {a' = a'} k k' i i' ex es ed ea ek ei f f' = record {
@@ -62,9 +64,11 @@ module _ (N : NamedNet ℕ) (n : IsNet N) (letter : ℕ → ℕ → ℕ) where
         ∙ ap (λ x. a' ++ rising letter k' x s) ex ∙ ap (λ s. a' ++ rising letter k' x' s) es;
   }
 
-  fallen_one : {x x' s s' : ℕ} {d d' e e' : Context} {a a' : Signs} (k k' : Kind) (i i' : ℕ) → x ≡ x' → d ≡ d' → a ≡ a' →
+  fallen_one : {x x' s s' : ℕ} {d d' e e' : Context} {a a' : Signs} (k k' : Kind) (i i' : ℕ) → x ≡ x' → d ≡ d' →
+      a ≡ a' →
       k ≡ k' → i ≡ i' → s < arity k → s' < arity k' → up k i s e ≡ d → up k' i' s' e' ≡ d' →
-      OneState (slot x (suc s)) (slot x' (suc s')) e e' (a ++ reversed (rising letter k x s)) (a' ++ reversed (rising letter k' x' s'))
+      OneState (slot x (suc s)) (slot x' (suc s')) e e' (a ++ reversed (rising letter k x s)) (a' ++ reversed
+          (rising letter k' x' s'))
   fallen_one {x} {x'} {s} {s'} {d} {d'} {e} {e'} {a} {a'} k k' i i' ex ed ea ek ei low low' f f' =
       let g : up k' i' s e ≡ d = ap (λ i. up k' i s e) (sym ei) ∙ ap (λ k. up k i s e) (sym ek) ∙ f in
       let z = injective k' i' s s' e e' (subst (λ k. s < arity k) ek low) low' (g ∙ ed ∙ sym f') in
@@ -91,13 +95,16 @@ module _ (N : NamedNet ℕ) (n : IsNet N) (letter : ℕ → ℕ → ℕ) where
       risen_one k k' i i' (nodes_one q) (slots_one q) o.context o.signs z.0 z.1 f f'
   says_one (rises {x = x} {s = s} {u = u} k i w l h low f) (falls {x = x'} {u = u'} k' i' w' l' h' low' f') e =
       let o = says_one w w' (omega arith) in
-      absurd (no_slots (n.one_link u' (slot x (suc s)) (slot x' 0) (subst (λ u. Linked N u (slot x (suc s))) o.port l) l'))
+      absurd (no_slots (n.one_link u' (slot x (suc s)) (slot x' 0) (subst (λ u. Linked N u (slot x
+          (suc s))) o.port l) l'))
   says_one (falls {x = x} {u = u} k i w l h low f) (rises {x = x'} {s = s'} {u = u'} k' i' w' l' h' low' f') e =
       let o = says_one w w' (omega arith) in
-      absurd (no_slots (sym (n.one_link u' (slot x 0) (slot x' (suc s')) (subst (λ u. Linked N u (slot x 0)) o.port l) l')))
+      absurd (no_slots (sym (n.one_link u' (slot x 0) (slot x' (suc s')) (subst (λ u. Linked N u
+          (slot x 0)) o.port l) l')))
   says_one (falls {x = x} {s = s} {u = u} k i w l h low f) (falls {x = x'} {s = s'} {u = u'} k' i' w' l' h' low' f') e =
       let o = says_one w w' (omega arith) in
-      let q : slot x 0 ≡ slot x' 0 = n.one_link u' (slot x 0) (slot x' 0) (subst (λ u. Linked N u (slot x 0)) o.port l) l' in
+      let q : slot x 0 ≡ slot x' 0 = n.one_link u' (slot x 0) (slot x' 0) (subst (λ u. Linked N u
+          (slot x 0)) o.port l) l' in
       let z = n.one_node x' k k' i i' (subst (λ x. HasNode N x k i) (nodes_one q) h) h' in
       fallen_one k k' i i' (nodes_one q) o.context o.signs z.0 z.1 low low' f f'
 
@@ -111,14 +118,16 @@ module _ (N : NamedNet ℕ) (n : IsNet N) (letter : ℕ → ℕ → ℕ) where
   no_longer : {p : NamedPort ℕ} {c : Context} {m m' : ℕ} {u u' : NamedPort ℕ} {d d' : Context} {a a' : Signs} (y : ℕ) →
       Says p c m u d a → Linked N u (slot y 0) → Bars y d → Says p c m' u' d' a' → m < m' → ⊥
   no_longer y w l b start e = omega arith
-  no_longer {p} {c} {m} {u = u} {d = d} y w l b (rises {m = k'} {x = x} {s = s} {u = v} k i w' l' h low f) e = by (λ f. no_longer y w l b w' f) (lower m k' e)
+  no_longer {p} {c} {m} {u = u} {d = d} y w l b (rises {m = k'} {x = x} {s = s} {u = v} k i w' l' h low f) e = by
+      (λ f. no_longer y w l b w' f) (lower m k' e)
     where
       by : (m < k' → ⊥) → (m ≡ k') ⊎ (m < k') → ⊥
       by rec (inr f) = rec f
       by rec (inl q) =
           let o = says_one w w' q in
           no_slots (sym (n.one_link v (slot y 0) (slot x (suc s)) (subst (λ u. Linked N u (slot y 0)) o.port l) l'))
-  no_longer {p} {c} {m} {u = u} {d = d} y w l b (falls {m = k'} {x = x} {s = s} {u = v} {d = d'} {e = e'} k i w' l' h low f) e = by (λ f. no_longer y w l b w' f) (lower m k' e)
+  no_longer {p} {c} {m} {u = u} {d = d} y w l b (falls {m = k'} {x = x} {s = s} {u = v} {d = d'} {e = e'} k i w'
+      l' h low f) e = by (λ f. no_longer y w l b w' f) (lower m k' e)
     where
       by : (m < k' → ⊥) → (m ≡ k') ⊎ (m < k') → ⊥
       by rec (inr f) = rec f
@@ -155,15 +164,18 @@ module _ (N : NamedNet ℕ) (n : IsNet N) (letter : ℕ → ℕ → ℕ) where
     rest : Signed N letter w after
 
   first_up : {x s : ℕ} {w : List (Crossing ℕ)} {a : Signs} → Signed N letter (rise x s ∷ w) a → FirstUp x s w a
-  first_up (shared_up {x = x} {s = s} {a = a} k h f g S) = record { kind_is = k; index = h.0; node = h.1; after = a; is = ap (λ g. g ++ a) (sym (shared_still k x s f g)); rest = S }
+  first_up (shared_up {x = x} {s = s} {a = a} k h f g S) = record { kind_is = k; index = h.0; node = h.1;
+      after = a; is = ap (λ g. g ++ a) (sym (shared_still k x s f g)); rest = S }
   first_up (to_function h S) = record { kind_is = kind.App; index = h.0; node = h.1; after = _; is = refl; rest = S }
   first_up (from_argument h S) = record { kind_is = kind.App; index = h.0; node = h.1; after = _; is = refl; rest = S }
   first_up (from_body h S) = record { kind_is = kind.Lam; index = h.0; node = h.1; after = _; is = refl; rest = S }
   first_up (from_variable h S) = record { kind_is = kind.Lam; index = h.0; node = h.1; after = _; is = refl; rest = S }
 
   first_down : {x s : ℕ} {w : List (Crossing ℕ)} {a : Signs} → Signed N letter (fall x s ∷ w) a → FirstDown x s w a
-  first_down (shared_down {x = x} {s = s} {a = a} k h f g S) = record { kind_is = k; index = h.0; node = h.1; after = a; is = ap (λ g. reversed g ++ a) (sym (shared_still k x s f g)); rest = S }
-  first_down (from_function h S) = record { kind_is = kind.App; index = h.0; node = h.1; after = _; is = refl; rest = S }
+  first_down (shared_down {x = x} {s = s} {a = a} k h f g S) = record { kind_is = k; index = h.0; node = h.1;
+      after = a; is = ap (λ g. reversed g ++ a) (sym (shared_still k x s f g)); rest = S }
+  first_down (from_function h S) = record { kind_is = kind.App; index = h.0; node = h.1; after = _; is = refl;
+      rest = S }
   first_down (to_argument h S) = record { kind_is = kind.App; index = h.0; node = h.1; after = _; is = refl; rest = S }
   first_down (to_body h S) = record { kind_is = kind.Lam; index = h.0; node = h.1; after = _; is = refl; rest = S }
   first_down (to_variable h S) = record { kind_is = kind.Lam; index = h.0; node = h.1; after = _; is = refl; rest = S }
@@ -195,7 +207,8 @@ module _ (N : NamedNet ℕ) (n : IsNet N) (letter : ℕ → ℕ → ℕ) where
   row_says {q = q} {r = r} {w = fall x s ∷ w} {b = b} {c = c} {d = d} {g = g} y (routes.falls k i l h low row) S t =
       let f = first_down S in
       let z = fall_at N n x f.kind_is f.index f.node s w c d t in
-      subst (Said r b q d) (append_assoc g (reversed (rising letter f.kind_is x s)) f.after ∙ ap (λ a. g ++ a) (sym f.is))
+      subst (Said r b q d) (append_assoc g (reversed (rising letter f.kind_is x s)) f.after
+          ∙ ap (λ a. g ++ a) (sym f.is))
       (row_says (falls f.kind_is f.index y l f.node z.0 z.2) row f.rest z.3)
 
   -- ---- what moves lead to, it comes to
@@ -210,7 +223,8 @@ module _ (N : NamedNet ℕ) (n : IsNet N) (letter : ℕ → ℕ → ℕ) where
       is : moved r signs y0 ≡ y
 
     link_along : (u q : NamedPort ℕ) (d : Context) (y : Signs) → Linked N u q → Along u d y → Along q d y
-    link_along u q d y l a = record { made = a.made; port = a.port; signs = a.signs; says = a.says; there = by a.there; is = a.is }
+    link_along u q d y l a = record { made = a.made; port = a.port; signs = a.signs; says = a.says;
+        there = by a.there; is = a.is }
       where
         by : Linked N a.port u ⊎ (a.port ≡ u) → Linked N a.port q ⊎ (a.port ≡ q)
         by (inl h) = inr (n.one_link u a.port q (linked_sym N a.port u h) l)
@@ -218,26 +232,30 @@ module _ (N : NamedNet ℕ) (n : IsNet N) (letter : ℕ → ℕ → ℕ) where
 
     cancelled : (g a : Signs) (y : Signs) → moved r (a ++ g) y0 ≡ moved r g y → moved r a y0 ≡ y
     cancelled g a y e =
-        sym (moved_back r g (moved r a y0)) ∙ ap (moved r (reversed g)) (sym (moved_append r a g y0) ∙ e) ∙ moved_back r g y
+        sym (moved_back r g (moved r a y0)) ∙ ap (moved r (reversed g)) (sym (moved_append r a g y0) ∙ e)
+            ∙ moved_back r g y
 
     -- through a node from its principal port
     down_last : {m : ℕ} {v : NamedPort ℕ} {d : Context} {a : Signs} (k : Kind) (i x s : ℕ) (c : Context) (y : Signs) →
         Says (slot x0 0) c0 m v d a → v ≡ slot x 0 → HasNode N x k i → s < arity k → up k i s c ≡ d →
         moved r a y0 ≡ moved r (rising letter k x s) y → Along (slot x (suc s)) c y
-    down_last k i x s c y start e h low f g = absurd (bar k i s (subst (λ x. HasNode N x k i) (sym (nodes_one e)) h) c f)
+    down_last k i x s c y start e h low f g = absurd (bar k i s (subst (λ x. HasNode N x k i) (sym
+        (nodes_one e)) h) c f)
     down_last k i x s c y (rises {m = m} {x = x'} {s = s'} {u = u} {d = d'} {a = a} k' i' w l h' low' f') e h low f g =
         let ex = nodes_one e in
         let o = n.one_node x k k' i i' h (subst (λ x. HasNode N x k' i') ex h') in
         let f2 : up k i s' d' ≡ _ = ap (λ i. up k i s' d') o.1 ∙ ap (λ k. up k i' s' d') o.0 ∙ f' in
         let z = injective k i s s' c d' low (subst (λ k. s' < arity k) (sym o.0) low') (f ∙ sym f2) in
         let g2 : rising letter k' x' s' ≡ rising letter k x s =
-        ap (λ k. rising letter k x' s') (sym o.0) ∙ ap (λ x. rising letter k x s') ex ∙ ap (λ s. rising letter k x s) (sym z.0) in
+        ap (λ k. rising letter k x' s') (sym o.0) ∙ ap (λ x. rising letter k x s') ex
+            ∙ ap (λ s. rising letter k x s) (sym z.0) in
         record {
           made = m;
           port = u;
           signs = a;
           says = subst (λ c. Says (slot x0 0) c0 m u c a) (sym z.1) w;
-          there = inl (subst (λ x. Linked N u (slot x (suc s))) ex (subst (λ s. Linked N u (slot x' (suc s))) (sym z.0) l));
+          there = inl (subst (λ x. Linked N u (slot x (suc s))) ex (subst (λ s. Linked N u (slot x' (suc s)))
+              (sym z.0) l));
           is = cancelled (rising letter k x s) a y (ap (λ q. moved r (a ++ q) y0) (sym g2) ∙ g);
         }
     down_last k i x s c y (falls k' i' w l h' low' f') e h low f g = absurd (no_slots e)
@@ -264,14 +282,16 @@ module _ (N : NamedNet ℕ) (n : IsNet N) (letter : ℕ → ℕ → ℕ) where
         moved r a y0 ≡ y → Along (slot x 0) d (moved r (rising letter k x s) y)
     up_last k i x s d y start e h f g = absurd (no_slots (sym e))
     up_last k i x s d y (rises k' i' w l h' low' f') e h f g = absurd (no_slots (sym e))
-    up_last {c = c} k i x s d y (falls {m = m} {x = x'} {s = s'} {u = u} {d = d'} {a = a} k' i' w l h' low' f') e h f g =
+    up_last {c = c} k i x s d y (falls {m = m} {x = x'} {s = s'} {u = u} {d = d'} {a = a} k' i' w l h' low' f') e
+        h f g =
         let ex = nodes_one e in
         let es = slots_one e in
         let o = n.one_node x k k' i i' h (subst (λ x. HasNode N x k' i') ex h') in
         let f2 : up k i s c ≡ d' =
         ap (λ s. up k i s c) (sym es) ∙ ap (λ i. up k i s' c) o.1 ∙ ap (λ k. up k i' s' c) o.0 ∙ f' in
         let g2 : rising letter k' x' s' ≡ rising letter k x s =
-        ap (λ k. rising letter k x' s') (sym o.0) ∙ ap (λ x. rising letter k x s') ex ∙ ap (λ s. rising letter k x s) es in
+        ap (λ k. rising letter k x' s') (sym o.0) ∙ ap (λ x. rising letter k x s') ex
+            ∙ ap (λ s. rising letter k x s) es in
         record {
           made = m;
           port = u;
@@ -287,7 +307,8 @@ module _ (N : NamedNet ℕ) (n : IsNet N) (letter : ℕ → ℕ → ℕ) where
         z ≡ moved r (rising letter k x s) y → Along (slot x (suc s)) c y → Along (slot x 0) d z
     up_along k i x s c d y z h low f g a = subst (Along (slot x 0) d) (sym g) (by a.there)
       where
-        by : Linked N a.port (slot x (suc s)) ⊎ (a.port ≡ slot x (suc s)) → Along (slot x 0) d (moved r (rising letter k x s) y)
+        by : Linked N a.port (slot x (suc s)) ⊎ (a.port ≡ slot x (suc s)) →
+            Along (slot x 0) d (moved r (rising letter k x s) y)
         by (inr e) = up_last k i x s d y a.says e h f a.is
         by (inl l) = record {
           made = suc a.made;
@@ -298,18 +319,24 @@ module _ (N : NamedNet ℕ) (n : IsNet N) (letter : ℕ → ℕ → ℕ) where
           is = moved_append r a.signs (rising letter k x s) y0 ∙ ap (moved r (rising letter k x s)) a.is;
         }
 
-    all_along : {v : (NamedPort ℕ × Context) × Signs} → Joined (Heard N letter r) ((slot x0 0, c0), y0) v → Along v.0.0 v.0.1 v.1
+    all_along : {v : (NamedPort ℕ × Context) × Signs} → Joined (Heard N letter r) ((slot x0 0, c0), y0) v →
+        Along v.0.0 v.0.1 v.1
     all_along edges.here = record { made = 0; port = slot x0 0; signs = []; says = start; there = inr refl; is = refl }
     all_along (edges.on j (linked {p = p} {q = q} {c = d} {y = y} l)) = link_along p q d y l (all_along j)
-    all_along (edges.back j (linked {p = p} {q = q} {c = d} {y = y} l)) = link_along q p d y (linked_sym N p q l) (all_along j)
-    all_along (edges.on j (crossed {x = x} {s = s} {c = c} {d = d} {y = y} {z = z} k i h low f g)) = down_along k i x s c d y z h low f g (all_along j)
-    all_along (edges.back j (crossed {x = x} {s = s} {c = c} {d = d} {y = y} {z = z} k i h low f g)) = up_along k i x s c d y z h low f g (all_along j)
+    all_along (edges.back j (linked {p = p} {q = q} {c = d} {y = y} l)) = link_along q p d y
+        (linked_sym N p q l) (all_along j)
+    all_along (edges.on j (crossed {x = x} {s = s} {c = c} {d = d} {y = y} {z = z} k i h low f g)) = down_along k
+        i x s c d y z h low f g (all_along j)
+    all_along (edges.back j (crossed {x = x} {s = s} {c = c} {d = d} {y = y} {z = z} k i h low f g)) = up_along k
+        i x s c d y z h low f g (all_along j)
 
     -- no walk leaves by a principal port with a context that nothing leads in with
-    not_left : {m : ℕ} {u : NamedPort ℕ} {d : Context} {a : Signs} (y : ℕ) → Says (slot x0 0) c0 m u d a → (x0 ≡ y → ⊥) →
+    not_left : {m : ℕ} {u : NamedPort ℕ} {d : Context} {a : Signs} (y : ℕ) → Says (slot x0 0) c0 m u d a →
+        (x0 ≡ y → ⊥) →
         Bars y d → u ≡ slot y 0 → ⊥
     not_left y start f b e = f (nodes_one e)
-    not_left y (rises {s = s} {d = d'} k i w l h low g) f b e = b k i s (subst (λ x. HasNode N x k i) (nodes_one e) h) d' g
+    not_left y (rises {s = s} {d = d'} k i w l h low g) f b e = b k i s (subst (λ x. HasNode N x k i)
+        (nodes_one e) h) d' g
     not_left y (falls k i w l h low g) f b e = no_slots e
 
   apart : (m k : ℕ) → (m ≡ k) ⊎ ((m < k) ⊎ (k < m))
@@ -336,7 +363,8 @@ module _ (N : NamedNet ℕ) (n : IsNet N) (letter : ℕ → ℕ → ℕ) where
 
   -- What a row from one such port to another reads is what moves between them make of signs.
   pub row_is_heard : (r : Acting) (x y z : ℕ) (c d e : Context) (w : List (Crossing ℕ)) (a : Signs) (s t : Signs) →
-      Bars x c → Bars y d → Bars z e → (x ≡ z → ⊥) → Row N (slot x 0) w (slot y 0) → Signed N letter w a → Carries N c w d →
+      Bars x c → Bars y d → Bars z e → (x ≡ z → ⊥) → Row N (slot x 0) w (slot y 0) → Signed N letter w a →
+          Carries N c w d →
       Joined (Heard N letter r) ((slot x 0, c), s) ((slot z 0, e), t) → moved r a s ≡ t
   row_is_heard r x y z c d e w a s t bx by' bz f row S k j =
       compared r x y z c d e a s t by' bz f (row_says start row S k) (all_along r x c bx s j)

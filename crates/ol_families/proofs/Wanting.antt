@@ -1,14 +1,17 @@
 -- Each redex that a question comes to has the word of a degree that leftmost reduction to a normal form contracts.
-use Rattle.std.proofs.Common.{◌≡◌, ℕ, zero, suc, ◌++◌, Bool, true, false, if◌then◌else◌, ◌⊎◌, inl, inr, List, [], ◌∷◌, Option, Some, None, refl, sym, ap, ◌∙◌, subst}
+use Rattle.std.proofs.Common.{◌≡◌, ℕ, zero, suc, ◌++◌, Bool, true, false, if◌then◌else◌, ◌⊎◌, inl, inr, List}
+use Rattle.std.proofs.Common.{[], ◌∷◌, Option, Some, None, refl, sym, ap, ◌∙◌, subst}
 use Rattle.ol_beta.specs.Leftmost.{leftmost, first_of_two, is_abstraction}
 use Rattle.ol_beta.specs.Leftmost as beta_steps
 use Rattle.std.specs.Option.{option_map}
 use Rattle.ol_edges.specs.Edges.{IsIn}
-use Rattle.ol_meaning.specs.Spots.{Tree, lam, app, Level, empty, o, star, Context, Wire, bound, name, under, left, Place, root}
+use Rattle.ol_meaning.specs.Spots.{Tree, lam, app, Level, empty, o, star, Context, Wire, bound, name, under}
+use Rattle.ol_meaning.specs.Spots.{left, Place, root}
 use Rattle.ol_meaning.specs.Spots.{wire, Spot, at, Edge, Trail, IsRight, HeadStep, beta, below, before}
 use Rattle.ol_meaning.specs.Steps.{SameBelow, below_o, below_star, below_wire, SameBefore}
 use Rattle.ol_meaning.specs.Steps.{before_root, before_left, before_right, Same}
-use Rattle.ol_meaning.specs.Heads.{outer, Spine, up_root, up_own, up_wire, head_var, head_free, head_app, Normal, flat, layer}
+use Rattle.ol_meaning.specs.Heads.{outer, Spine, up_root, up_own, up_wire, head_var, head_free, head_app}
+use Rattle.ol_meaning.specs.Heads.{Normal, flat, layer}
 use Rattle.ol_meaning.specs.Heads.{Steps, done, step, SameAlong, Arg, last, earlier, inner, StandsAt}
 use Rattle.ol_meaning.proofs.LeftmostSteps.{leftmost_step}
 use Rattle.ol_meaning.proofs.Walking.{passing, least_or, root_stays, normal_or_step}
@@ -93,28 +96,34 @@ module _ (τ : Translation) {t t' : Tree} (h : HeadStep t t') where
       (l : Level) → Same τ h y w l → SameAlong τ s y l b → After y w d) (sym e)
       (λ s k a g l f f'. record { level = l; same = f; asks = part b s k a g f' })
 
-module _ {τ : Translation} {T U : Labelled} {d : Label} {t' : Tree} {S : Place → Level → Level → Type 0} (w : Keeps τ (erased T) t' T U S d) where
+module _ {τ : Translation} {T U : Labelled} {d : Label} {t' : Tree} {S : Place → Level → Level →
+    Type 0} (w : Keeps τ (erased T) t' T U S d) where
   -- a walk from a place goes on to the redex that is left, with its word
   comes_on : (p : Site) (y : Place) (v v' : Level) (c : Context) (m : Comes τ (erased T) (at y v c) p) → S y v v' →
       (p ≡ w.redex) ⊎ ((q : Site) × (k : Comes τ t' (at y v' c) q)
       × AreAlike (word_of T p m.matched) (signs_of (function_label U q) ++ word_along U k.matched.trail))
   comes_on p y v v' c m e =
       let k = follow w m.way (w.start y v v' c e) in
-      of k.spot k.motion k.walks (w.goes p m.level m.later k.spot (app m.matched.function m.matched.argument, m.matched.is, tt) k.rel)
+      of k.spot k.motion k.walks (w.goes p m.level m.later k.spot (app m.matched.function m.matched.argument,
+          m.matched.is, tt) k.rel)
     where
-      of : (z : Spot) (f : Motion) → Walks τ t' U (at y v' c) z f → (p ≡ w.redex) ⊎ ((g : Goes t' T U w.K p) × (z ≡ spot_in g.site (base true m.level m.later))) →
+      of : (z : Spot) (f : Motion) → Walks τ t' U (at y v' c) z f →
+          (p ≡ w.redex) ⊎ ((g : Goes t' T U w.K p) × (z ≡ spot_in g.site (base true m.level m.later))) →
           (p ≡ w.redex) ⊎ ((q : Site) × (k : Comes τ t' (at y v' c) q)
           × AreAlike (word_of T p m.matched) (signs_of (function_label U q) ++ word_along U k.matched.trail))
       of z f a (inl e) = inl e
       of z f a (inr (g, e)) =
           let j = matched_goes τ w p m.matched g in
-          let b : Walks τ t' U (at y v' c) (function_at g.site m.level m.later) f = subst (λ z. Walks τ t' U (at y v' c) z f) e a in
-          inr (g.site, record { matched = j.matched; level = m.level; later = m.later; steps = b.weight; way = b.trail }, j.alike)
+          let b : Walks τ t' U (at y v' c) (function_at g.site m.level m.later) f = subst (λ z. Walks τ t' U
+              (at y v' c) z f) e a in
+          inr (g.site, record { matched = j.matched; level = m.level; later = m.later; steps = b.weight;
+              way = b.trail }, j.alike)
 
 module _ (τ : Translation) {T U : Labelled} {d : Label} (k : Step τ T d U) where
   abbrev Onward : (p : Site) → IsMatched τ (erased T) p → Tree → Type 0
   Onward p m t = AreAlike (word_of T p m) (signs_of d)
-      ⊎ ((q : Site) × (n : IsWanted τ t q) × AreAlike (word_of T p m) (signs_of (function_label U q) ++ word_along U n.comes.matched.trail))
+      ⊎ ((q : Site) × (n : IsWanted τ t q) × AreAlike (word_of T p m) (signs_of
+          (function_label U q) ++ word_along U n.comes.matched.trail))
 
   goes_by : (p : Site) (y : Place) (v v' : Level) (c : Context) (m : Comes τ (erased T) (at y v c) p) →
       Same τ k.step y v v' → Asks τ k.tree y v' c → Onward p m.matched k.tree
@@ -138,7 +147,8 @@ module _ (τ : Translation) {T U : Labelled} {d : Label} (k : Step τ T d U) whe
       goes_by p y v x.level c m x.same x.asks
 
   wanted_on : (p : Site) (m : IsWanted τ (erased T) p) → AreAlike (word_of T p m.comes.matched) (signs_of d)
-      ⊎ ((q : Site) × (n : IsWanted τ (erased U) q) × AreAlike (word_of T p m.comes.matched) (word_of U q n.comes.matched))
+      ⊎ ((q : Site) × (n : IsWanted τ (erased U) q) × AreAlike (word_of T p m.comes.matched)
+          (word_of U q n.comes.matched))
   wanted_on p m = subst (Onward p m.comes.matched) k.is (wanted_by p m.place m.first m.rest m.asks m.comes)
 
 module _ (τ : Translation) where
@@ -146,7 +156,8 @@ module _ (τ : Translation) where
   data Wants : Bool → Labelled → Signs → Type 0 where
     of_whole : {T : Labelled} {g : Signs} (p : Site) (m : IsWanted τ (erased T) p) →
         AreAlike (word_of T p m.comes.matched) g → Wants true T g
-    of_args : {T : Labelled} {g : Signs} (q : Place) (a : Level) (j : ℕ) → Normal (erased T) q a j → Wants false T g → Wants true T g
+    of_args : {T : Labelled} {g : Signs} (q : Place) (a : Level) (j : ℕ) → Normal (erased T) q a j →
+        Wants false T g → Wants true T g
     at_last : {f a : Labelled} {w : Label} {g : Signs} → Wants true a g → Wants false (labels.app f a w) g
     at_earlier : {f a : Labelled} {w : Label} {g : Signs} → Wants false f g → Wants false (labels.app f a w) g
     at_body : {b : Labelled} {w : Label} {g : Signs} → Wants false b g → Wants false (labels.lam b w) g
@@ -156,9 +167,11 @@ module _ (τ : Translation) where
   abbrev Lifted : (T : Labelled) → Site → Signs → Type 0
   Lifted T p g = (m : IsMatched τ (erased T) p) × AreAlike (word_of T p m) g
 
-  lift_fun : (f a : Labelled) (w : Label) (q : Site) (m : IsMatched τ (erased f) q) → Lifted (labels.app f a w) (in_function q) (word_of f q m)
+  lift_fun : (f a : Labelled) (w : Label) (q : Site) (m : IsMatched τ (erased f) q) →
+      Lifted (labels.app f a w) (in_function q) (word_of f q m)
   lift_fun f a w q m =
-      let W = in_the_fun {t = erased f} {p = erased a} {L = f} {P = a} w (record { weight = m.weight; trail = m.trail; reads = λ r x. refl }) in (
+      let W = in_the_fun {t = erased f} {p = erased a} {L = f} {P = a} w (record { weight = m.weight;
+          trail = m.trail; reads = λ r x. refl }) in (
         record {
           function = m.function;
           argument = m.argument;
@@ -174,9 +187,11 @@ module _ (τ : Translation) where
             ∙ sym (moved_append r (signs_of (function_label f q)) (word_along f m.trail) x),
       )
 
-  lift_arg : (f a : Labelled) (w : Label) (v : Level) (q : Site) (m : IsMatched τ (erased a) q) → Lifted (labels.app f a w) (in_argument v q) (word_of a q m)
+  lift_arg : (f a : Labelled) (w : Label) (v : Level) (q : Site) (m : IsMatched τ (erased a) q) →
+      Lifted (labels.app f a w) (in_argument v q) (word_of a q m)
   lift_arg f a w v q m =
-      let W = in_the_arg {t = erased f} {p = erased a} {L = f} {P = a} w v (record { weight = m.weight; trail = m.trail; reads = λ r x. refl }) in (
+      let W = in_the_arg {t = erased f} {p = erased a} {L = f} {P = a} w v (record { weight = m.weight;
+          trail = m.trail; reads = λ r x. refl }) in (
         record {
           function = m.function;
           argument = m.argument;
@@ -192,9 +207,11 @@ module _ (τ : Translation) where
             ∙ sym (moved_append r (signs_of (function_label a q)) (word_along a m.trail) x),
       )
 
-  lift_lam : (b : Labelled) (w : Label) (q : Site) (m : IsMatched τ (erased b) q) → Lifted (labels.lam b w) (in_lam q) (word_of b q m)
+  lift_lam : (b : Labelled) (w : Label) (q : Site) (m : IsMatched τ (erased b) q) →
+      Lifted (labels.lam b w) (in_lam q) (word_of b q m)
   lift_lam b w q m =
-      let W = in_the_body {t = erased b} {L = b} w (record { weight = m.weight; trail = m.trail; reads = λ r x. refl }) in (
+      let W = in_the_body {t = erased b} {L = b} w (record { weight = m.weight; trail = m.trail;
+          reads = λ r x. refl }) in (
         record {
           function = m.function;
           argument = m.argument;
@@ -230,7 +247,8 @@ module _ (τ : Translation) where
   parted (labels.free f w) m = elim m [ ]
 
   -- in a head normal form what is wanted is in an argument
-  in_args : (T : Labelled) (q : Place) (a : Level) (j : ℕ) → Normal (erased T) q a j → (p : Site) (m : IsWanted τ (erased T) p) (g : Signs) →
+  in_args : (T : Labelled) (q : Place) (a : Level) (j : ℕ) → Normal (erased T) q a j →
+      (p : Site) (m : IsWanted τ (erased T) p) (g : Signs) →
       AreAlike (word_of T p m.comes.matched) g → Wants false T g
   in_args T q a j n p m g e =
       let k = parted T (arg_wanted τ n p m) in
@@ -250,7 +268,8 @@ module _ (τ : Translation) where
     degree_is : degree T place ≡ Some d
     gives : contracted T place ≡ Some U
 
-  mapped : {X Y : Type 0} (f : X → Y) (o : Option X) (y : Y) → option_map f o ≡ Some y → (x : X) × (o ≡ Some x) × (y ≡ f x)
+  mapped : {X Y : Type 0} (f : X → Y) (o : Option X) (y : Y) → option_map f o ≡ Some y →
+      (x : X) × (o ≡ Some x) × (y ≡ f x)
   mapped f None y e = absurd (cc)
   mapped f (Some x) y e = (x, refl, sym (some_one e))
 
@@ -261,8 +280,10 @@ module _ (τ : Translation) where
   InArgument f a w d U = (leftmost (erased f) ≡ None) × ((b : Labelled) × LeftStep a d b × (U ≡ labels.app f b w))
 
   app_first : (f a : Labelled) (w : Label) → is_abstraction (erased f) ≡ false →
-      leftmost (erased (labels.app f a w)) ≡ first_of_two (beta_steps.under 1 (leftmost (erased f))) (beta_steps.under 2 (leftmost (erased a)))
-  app_first f a w e = ap (λ b. if b then Some [] else first_of_two (beta_steps.under 1 (leftmost (erased f))) (beta_steps.under 2 (leftmost (erased a)))) e
+      leftmost (erased (labels.app f a w)) ≡ first_of_two (beta_steps.under 1 (leftmost (erased f)))
+          (beta_steps.under 2 (leftmost (erased a)))
+  app_first f a w e = ap (λ b. if b then Some [] else first_of_two (beta_steps.under 1 (leftmost (erased f)))
+      (beta_steps.under 2 (leftmost (erased a)))) e
 
   app_step : (f a : Labelled) (w d : Label) (U : Labelled) → is_abstraction (erased f) ≡ false →
       LeftStep (labels.app f a w) d U → InFunction f a w d U ⊎ InArgument f a w d U
@@ -273,14 +294,18 @@ module _ (τ : Translation) where
       by (Some at') e y e' =
           let q : s.place ≡ 1 ∷ at' = some_one (sym s.first ∙ app_first f a w plain
           ∙ ap (λ x. first_of_two (beta_steps.under 1 x) (beta_steps.under 2 (leftmost (erased a)))) e) in
-          let m = mapped (λ g. labels.app g a w) (contracted f at') U (ap (contracted (labels.app f a w)) (sym q) ∙ s.gives) in
-          inl (m.0, record { place = at'; first = e; degree_is = ap (degree (labels.app f a w)) (sym q) ∙ s.degree_is; gives = m.1 }, m.2)
+          let m = mapped (λ g. labels.app g a w) (contracted f at') U (ap (contracted (labels.app f a w))
+              (sym q) ∙ s.gives) in
+          inl (m.0, record { place = at'; first = e; degree_is = ap (degree (labels.app f a w)) (sym q)
+              ∙ s.degree_is; gives = m.1 }, m.2)
       by None e (Some at') e' =
           let q : s.place ≡ 2 ∷ at' = some_one (sym s.first ∙ app_first f a w plain
           ∙ ap (λ x. first_of_two (beta_steps.under 1 x) (beta_steps.under 2 (leftmost (erased a)))) e
           ∙ ap (λ y. beta_steps.under 2 y) e') in
-          let m = mapped (λ b. labels.app f b w) (contracted a at') U (ap (contracted (labels.app f a w)) (sym q) ∙ s.gives) in
-          inr (e, (m.0, record { place = at'; first = e'; degree_is = ap (degree (labels.app f a w)) (sym q) ∙ s.degree_is; gives = m.1 }, m.2))
+          let m = mapped (λ b. labels.app f b w) (contracted a at') U (ap (contracted (labels.app f a w))
+              (sym q) ∙ s.gives) in
+          inr (e, (m.0, record { place = at'; first = e'; degree_is = ap (degree (labels.app f a w)) (sym q)
+              ∙ s.degree_is; gives = m.1 }, m.2))
       by None e None e' = absurd (some_none (sym s.first ∙ app_first f a w plain
           ∙ ap (λ x. first_of_two (beta_steps.under 1 x) (beta_steps.under 2 (leftmost (erased a)))) e
           ∙ ap (λ y. beta_steps.under 2 y) e'))
@@ -292,8 +317,10 @@ module _ (τ : Translation) where
       by : (x : Option (List ℕ)) → leftmost (erased b) ≡ x → (c : Labelled) × LeftStep b d c × (U ≡ labels.lam c w)
       by (Some at') e =
           let q : s.place ≡ 0 ∷ at' = some_one (sym s.first ∙ ap (λ x. beta_steps.under 0 x) e) in
-          let m = mapped (λ c. labels.lam c w) (contracted b at') U (ap (contracted (labels.lam b w)) (sym q) ∙ s.gives) in
-          (m.0, record { place = at'; first = e; degree_is = ap (degree (labels.lam b w)) (sym q) ∙ s.degree_is; gives = m.1 }, m.2)
+          let m = mapped (λ c. labels.lam c w) (contracted b at') U (ap (contracted (labels.lam b w)) (sym q)
+              ∙ s.gives) in
+          (m.0, record { place = at'; first = e; degree_is = ap (degree (labels.lam b w)) (sym q)
+              ∙ s.degree_is; gives = m.1 }, m.2)
       by None e = absurd (some_none (sym s.first ∙ ap (λ x. beta_steps.under 0 x) e))
 
   spine_plain : {t : Tree} {y : Wire} {a : Level} {j : ℕ} → Spine t y a j → is_abstraction t ≡ false
@@ -307,7 +334,8 @@ module _ (τ : Translation) where
   IsNormalHead t = (q : Place) × (a : Level) × (j : ℕ) × Normal t q a j
 
   abbrev OnWhole : Labelled → Type 0
-  OnWhole T = (d : Label) (U : Labelled) → LeftStep T d U → (g : Signs) → Wants true T g → AreAlike g (signs_of d) ⊎ Wants true U g
+  OnWhole T = (d : Label) (U : Labelled) → LeftStep T d U → (g : Signs) → Wants true T g →
+      AreAlike g (signs_of d) ⊎ Wants true U g
 
   -- a head with arguments stays one, and so does a head normal form
   abbrev IsSpine : Tree → Type 0
@@ -359,16 +387,19 @@ module _ (τ : Translation) where
     where
       go : {c U : Labelled} → Keeps' b d c → U ≡ labels.lam c w → (g : Signs) → Wants false (labels.lam b w) g →
           AreAlike g (signs_of d) ⊎ Wants false U g
-      go {c} {U} f e g (at_body W) = elim (f g W) [ inl e ↦ inl e | inr x ↦ inr (subst (λ U. Wants false U g) (sym e) (at_body x)) ]
+      go {c} {U} f e g (at_body W) = elim (f g W) [ inl e ↦ inl e | inr x ↦ inr (subst (λ U. Wants false U g)
+          (sym e) (at_body x)) ]
 
-  in_function_on : (f a : Labelled) (w d : Label) (c U : Labelled) → Keeps' f d c → U ≡ labels.app c a w → Keeps' (labels.app f a w) d U
+  in_function_on : (f a : Labelled) (w d : Label) (c U : Labelled) → Keeps' f d c → U ≡ labels.app c a w →
+      Keeps' (labels.app f a w) d U
   in_function_on f a w d c U k e g (at_last W) = inr (subst (λ U. Wants false U g) (sym e) (at_last W))
   in_function_on f a w d c U k e g (at_earlier W) = elim (k g W) [
     | inl e ↦ inl e
     | inr x ↦ inr (subst (λ U. Wants false U g) (sym e) (at_earlier x))
   ]
 
-  in_argument_on : (f a : Labelled) (w d : Label) (c U : Labelled) → LeftStep a d c → OnWhole a → U ≡ labels.app f c w → Keeps' (labels.app f a w) d U
+  in_argument_on : (f a : Labelled) (w d : Label) (c U : Labelled) → LeftStep a d c → OnWhole a →
+      U ≡ labels.app f c w → Keeps' (labels.app f a w) d U
   in_argument_on f a w d c U s k e g (at_earlier W) = inr (subst (λ U. Wants false U g) (sym e) (at_earlier W))
   in_argument_on f a w d c U s k e g (at_last W) = elim (k d c s g W) [
     | inl e ↦ inl e
@@ -376,12 +407,14 @@ module _ (τ : Translation) where
   ]
 
   spine_on : (f a : Labelled) (w : Label) → OnSpine f → OnWhole a → OnSpine (labels.app f a w)
-  spine_on f a w up right y l j (head_app {y = y'} {a = a'} {j = j'} s e) d U t = by (app_step f a w d U (spine_plain s) t)
+  spine_on f a w up right y l j (head_app {y = y'} {a = a'} {j = j'} s e) d U t = by (app_step f a w d U
+      (spine_plain s) t)
     where
       by : InFunction f a w d U ⊎ InArgument f a w d U → IsSpine (erased U) × Keeps' (labels.app f a w) d U
       by (inl (c, t', q)) =
           let r = up y' a' j' s d c t' in (
-            subst (λ U. IsSpine (erased U)) (sym q) (r.0.0, left (erased a) r.0.0 r.0.1, suc r.0.2, head_app r.0.3 refl),
+            subst (λ U. IsSpine (erased U)) (sym q) (r.0.0, left (erased a) r.0.0 r.0.1, suc r.0.2,
+                head_app r.0.3 refl),
             in_function_on f a w d c U r.1 q,
           )
       by (inr (n, (c, t', q))) = (
@@ -389,7 +422,8 @@ module _ (τ : Translation) where
         in_argument_on f a w d c U t' right q,
       )
 
-  of_spine : (T : Labelled) → OnSpine T → (y : Wire) (a : Level) (j : ℕ) → Spine (erased T) y a j → (d : Label) (U : Labelled) →
+  of_spine : (T : Labelled) → OnSpine T → (y : Wire) (a : Level) (j : ℕ) → Spine (erased T) y a j →
+      (d : Label) (U : Labelled) →
       LeftStep T d U → IsNormalHead (erased U) × Keeps' T d U
   of_spine T f y a j s d U l = let r = f y a j s d U l in ((wire r.0.0, r.0.1, r.0.2, flat r.0.3), r.1)
 
@@ -404,10 +438,12 @@ module _ (τ : Translation) where
   stays_wanted : (T : Labelled) → Steps' T
   stays_wanted (labels.var y w) =
       let n : OnArgs (labels.var y w) = λ q a j k d U s. absurd (some_none (sym s.first)) in
-      record { on_spine = λ q a j k d U s. absurd (some_none (sym s.first)); on_args = n; on_whole = whole_on (labels.var y w) n }
+      record { on_spine = λ q a j k d U s. absurd (some_none (sym s.first)); on_args = n;
+          on_whole = whole_on (labels.var y w) n }
   stays_wanted (labels.free f w) =
       let n : OnArgs (labels.free f w) = λ q a j k d U s. absurd (some_none (sym s.first)) in
-      record { on_spine = λ q a j k d U s. absurd (some_none (sym s.first)); on_args = n; on_whole = whole_on (labels.free f w) n }
+      record { on_spine = λ q a j k d U s. absurd (some_none (sym s.first)); on_args = n;
+          on_whole = whole_on (labels.free f w) n }
   stays_wanted (labels.lam b w) =
       let n = args_on_lam b w (stays_wanted b).on_args in
       record { on_spine = λ y a j k d U s. elim k [ ]; on_args = n; on_whole = whole_on (labels.lam b w) n }
@@ -418,7 +454,8 @@ module _ (τ : Translation) where
 
   -- ---- where no redex is left nothing is wanted
 
-  no_part : (f a : Labelled) (w : Label) → is_abstraction (erased f) ≡ false → leftmost (erased (labels.app f a w)) ≡ None →
+  no_part : (f a : Labelled) (w : Label) → is_abstraction (erased f) ≡ false →
+      leftmost (erased (labels.app f a w)) ≡ None →
       (leftmost (erased f) ≡ None) × (leftmost (erased a) ≡ None)
   no_part f a w plain e = by (leftmost (erased f)) refl (leftmost (erased a)) refl
     where
@@ -473,18 +510,21 @@ module _ (τ : Translation) where
 
   -- ---- so each word is a degree
 
-  leads : (T v : Labelled) (ws : List Label) → LeftmostContracts T ws v → leftmost (erased v) ≡ None → (g : Signs) → Wants true T g →
+  leads : (T v : Labelled) (ws : List Label) → LeftmostContracts T ws v → leftmost (erased v) ≡ None →
+      (g : Signs) → Wants true T g →
       (e : Label) × IsIn e ws × AreAlike g (signs_of e)
   leads T v ws labels.ready z g W = absurd ((nothing_left T).0 z g W)
   leads T v ws (labels.contract {u = U} {w = w} {ws = us} place e f c r) z g W =
       of (λ x. leads U v us r z g x)
       ((stays_wanted T).on_whole w U (record { place = place; first = e; degree_is = f; gives = c }) g W)
     where
-      of : (Wants true U g → (e : Label) × IsIn e us × AreAlike g (signs_of e)) → AreAlike g (signs_of w) ⊎ Wants true U g →
+      of : (Wants true U g → (e : Label) × IsIn e us × AreAlike g (signs_of e)) →
+          AreAlike g (signs_of w) ⊎ Wants true U g →
           (e : Label) × IsIn e (w ∷ us) × AreAlike g (signs_of e)
       of rest (inl a) = (w, inl refl, a)
       of rest (inr x) = let k = rest x in (k.0, inr k.1, k.2)
 
-  pub wanted_degree : (T v : Labelled) (ws : List Label) → LeftmostContracts T ws v → leftmost (erased v) ≡ None → (p : Site)
+  pub wanted_degree : (T v : Labelled) (ws : List Label) → LeftmostContracts T ws v →
+      leftmost (erased v) ≡ None → (p : Site)
       (m : IsWanted τ (erased T) p) → (e : Label) × IsIn e ws × AreAlike (word_of T p m.comes.matched) (signs_of e)
   wanted_degree T v ws r z p m = leads T v ws r z (word_of T p m.comes.matched) (of_whole p m (λ r x. refl))
