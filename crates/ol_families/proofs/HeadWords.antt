@@ -120,7 +120,7 @@ module _ (τ : Translation) where
             let b : Walks τ t' U (at root (os m.lams empty) m.first) (function_at g.site m.level m.later) f = subst (λ z. Walks τ t' U (at root (os m.lams empty) m.first) z f) e a in
             inr (g.site, record { matched = j.matched; lams = m.lams; first = m.first; level = m.level; later = m.later; steps = b.weight; way = b.trail }, j.alike)
 
-    redex_word : (p : Site) (m : IsMatched τ (erased T) p) → p ≡ w.redex → AreAlike (word_of T p m) (signs_of d)
+    pub redex_word : (p : Site) (m : IsMatched τ (erased T) p) → p ≡ w.redex → AreAlike (word_of T p m) (signs_of d)
     redex_word p m e r x =
         let s : word_along T m.trail ≡ [] = stuck T w.redex w.dead m.trail (ap (λ p. function_at p empty blank) e) in
         moved_append r (signs_of (function_label T p)) (word_along T m.trail) x

@@ -19,7 +19,7 @@ use Rattle.ol_families.proofs.HeadWords.{head_steps_keep_words}
 use Rattle.ol_families.proofs.Leading.{head_is_leftmost}
 
 -- a head step with the labels of the term
-labelled_step : (T : Labelled) {t' : Tree} → HeadStep (erased T) t' → (U : Labelled) × (d : Label) × HeadContracts T d U
+pub labelled_step : (T : Labelled) {t' : Tree} → HeadStep (erased T) t' → (U : Labelled) × (d : Label) × HeadContracts T d U
 labelled_step (labels.var y w) h = elim h [ ]
 labelled_step (labels.free f w) h = elim h [ ]
 labelled_step (labels.lam b w) (below h) = let r = labelled_step b h in (labels.lam r.0 w, r.1, below_lam w r.2)
@@ -34,11 +34,11 @@ no_step : {X : Type 0} {a : X} → Some a ≡ None → ⊥
 no_step e = absurd (cc)
 
 -- the leftmost step is this head step
-record OneStep (T U : Labelled) (w : Label) (V : Labelled) (d : Label) : Type 0 where
-  term : V ≡ U
-  degrees : d ≡ w
+pub record OneStep (T U : Labelled) (w : Label) (V : Labelled) (d : Label) : Type 0 where
+  pub term : V ≡ U
+  pub degrees : d ≡ w
 
-one_step : (T U V : Labelled) (w d : Label) (at : List ℕ) → leftmost (erased T) ≡ Some at → degree T at ≡ Some w → contracted T at ≡ Some U → HeadContracts T d V → OneStep T U w V d
+pub one_step : (T U V : Labelled) (w d : Label) (at : List ℕ) → leftmost (erased T) ≡ Some at → degree T at ≡ Some w → contracted T at ≡ Some U → HeadContracts T d V → OneStep T U w V d
 one_step T U V w d at e f g h =
     let l = head_is_leftmost T V d h in
     let a : at ≡ l.0 = same_Some at l.0 (sym e ∙ l.1) in

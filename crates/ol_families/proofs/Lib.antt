@@ -16,3 +16,14 @@ pub mod Families
 pub mod Leftwards
 pub mod Whence
 pub mod Sources
+pub mod Spelling
+pub mod Facing
+pub mod Phases
+pub mod Quiet
+pub mod Hearing
+pub mod Routes
+pub mod Saying
+pub mod Told
+pub mod Betas
+pub mod Wanting
+pub mod Lettering

@@ -3,6 +3,9 @@
 //! Each function here is a law: it has no code.
 #![tactic(auto)]
 
+ghost use Rattle.ol_families.specs.Families.{LabelsHaveTheirSigns, SignsTellRoutes};
+ghost use Rattle.ol_families.specs.Families.{NoMoreBetasThanFamilies};
+ghost use Rattle.ol_families.specs.Families.{BetasAreNoMoreThanFamilies};
 ghost use Rattle.ol_families.specs.Readings.{HeadStepsKeepWords, WordsAreDegrees};
 ghost use Rattle.ol_families.specs.Readings.{DegreesAreMet, HeadIsLeftmost, SiteHasOneWord};
 ghost use Rattle.ol_families.specs.Readings.{NoMoreThanFamilies, NoMoreThanLeftmostFamilies};
@@ -67,4 +70,26 @@ pub fn no_more_than_families()
 /// degrees.
 pub fn degrees_are_words()
     ensures { DegreesAreWords }
+{}
+
+/// A label is told by its signs, letter by letter and with where overlined and underlined words
+/// begin and end, also where neighbours that cancel are left out.
+pub fn labels_have_their_signs()
+    ensures { LabelsHaveTheirSigns }
+{}
+
+/// Routes of a term's net along which alike words are read are one, where the letters of its edges
+/// are different: also where neighbours that cancel are left out.
+pub fn signs_tell_routes()
+    ensures { SignsTellRoutes }
+{}
+
+/// Demand order makes no more beta steps than there are families. Let each subterm of a term have a
+/// letter of its own, and let leftmost reduction of the labelled term end in a normal form. Then a
+/// demand run of the term's net, by either translation and for whatever number of heads, has as many
+/// beta steps as some different degrees that leftmost reduction contracts, whether the run ends or
+/// is stopped on the way. Asked for one head, it is so with head reduction to a head normal form.
+pub fn no_more_betas_than_families()
+    ensures head { NoMoreBetasThanFamilies }
+    ensures leftmost { BetasAreNoMoreThanFamilies }
 {}

@@ -1,0 +1,275 @@
+-- Demand order makes no more beta steps for one head than there are families.
+use Rattle.std.proofs.Common.{◌≡◌, ℕ, suc, ◌<◌, None, inl, inr, List, [], ◌∷◌, ◌++◌, length, refl, sym, ap}
+use Rattle.std.proofs.Common.{◌∙◌, subst, arith}
+use Rattle.std.proofs.lemmas.List.{length_push}
+use Rattle.ol_beta.specs.Leftmost.{leftmost}
+use Rattle.ol_context.specs.Asked.{asked}
+use Rattle.ol_context.specs.Contexts.{Context, tail}
+use Rattle.ol_demand.specs.Demands.{Asking, Turn, rewrites, one_more, finds, Turns, begins, and_then, next}
+use Rattle.ol_demand.specs.Laws.{IsStart}
+use Rattle.ol_demand.proofs.Onward.{is_start}
+use Rattle.ol_edges.specs.Edges.{IsIn}
+use Rattle.ol_context.specs.Paths.{Path, ends, goes, HaveSamePaths}
+use Rattle.ol_frugal.specs.Leftmost.{IsSeenFromPlace}
+use Rattle.ol_frugal.proofs.Questions.{question_asks}
+use Rattle.ol_frugal.proofs.Wanted.{IsWanted}
+use Rattle.ol_invariance.proofs.Renamed.{renamed}
+use Rattle.ol_rules.proofs.Relation.{same_sym}
+use Rattle.ol_spots_net.specs.Spots.{place}
+use Rattle.ol_term.specs.Trees.{Tree}
+use Rattle.ol_frugal.proofs.Few.{named}
+use Rattle.ol_frugal.proofs.Seeing.{IsNamed, met_at}
+use Rattle.ol_meaning.proofs.Endings.{no_redex}
+use Rattle.ol_meaning.proofs.Shapes.{normal_of}
+use Rattle.ol_net.specs.Nets.{NamedNet, NamedPort, IsNet, SameNet, net_under}
+use Rattle.ol_net.specs.Numbered.{net_of}
+use Rattle.ol_net.specs.declared.parts.Rule.TheVariants as rule
+use Rattle.ol_optimal.specs.Labels.{Label, Labelled, erased, LeftmostContracts}
+use Rattle.ol_optimal.specs.Laws as routes
+use Rattle.ol_optimal.specs.Routes.{Route}
+use Rattle.ol_optimal.specs.Seen.{IsSeen, IsQuestion}
+use Rattle.ol_optimal.proofs.Asked.{demand_contracts_the_seen}
+use Rattle.ol_optimal.proofs.Runs.{betas_are_routes}
+use Rattle.ol_readback.specs.Frames.{Frame}
+use Rattle.ol_readback.specs.Heads.{Answer, head, no_head}
+use Rattle.ol_readback.specs.Heads as heads
+use Rattle.ol_readback.specs.ReadTrees.{Subterm, whole_term, framed}
+use Rattle.ol_readback.specs.declared.answers.ReadNode.{ReadNode}
+use Rattle.ol_rules.proofs.StartNets.{one_start}
+use Rattle.ol_rules.specs.Counting.{times_applied}
+use Rattle.ol_rules.specs.declared.journal.Entry.{Entry}
+use Rattle.ol_rules.specs.declared.journal.NodeName.{NodeName}
+use Rattle.ol_rules.specs.declared.journal.NodeName.TheVariants.{Init}
+use Rattle.ol_term.specs.declared.translations.Translation.{Translation}
+use Rattle.ol_translate.specs.Names.{HasNames}
+use Rattle.ol_translate.specs.Translation.{translation_of}
+use Rattle.ol_families.specs.Families.{NoMoreBetasThanFamilies, BetasAreNoMoreThanFamilies}
+use Rattle.ol_families.proofs.Hearing.{AreLettered}
+use Rattle.ol_families.specs.Readings.{Met, word_met, word_of, AreAlike, AreDifferent, HaveDifferentWords}
+use Rattle.ol_families.specs.Signs.{Signs, signs_of}
+use Rattle.ol_families.proofs.Phases.{HaveLetters}
+use Rattle.ol_families.proofs.Families.{no_more_than_families}
+use Rattle.ol_families.proofs.Wanting.{wanted_degree}
+use Rattle.ol_families.proofs.Lettering.{lettering}
+use Rattle.ol_families.proofs.Told.{IsTold, told, told_one}
+
+module _ (τ : Translation) (T : Labelled) (names : ℕ) (h : HasNames (erased T) names) (M : NamedNet NodeName)
+    (n : IsNet M) (I : IsNamed Init (translation_of τ (erased T) names) M)
+    (letter : ℕ → ℕ → ℕ) (atoms : HaveLetters (translation_of τ (erased T) names) letter)
+        (are : AreLettered τ letter T 0 0 0) where
+  abbrev met_of : (s : Route NodeName) (lams : ℕ) → IsSeen M 0 (asked [] lams) s → Met τ T
+  met_of s lams S =
+      let a = met_at Init M n τ (erased T) names h I s 0 (asked [] lams) S in (
+        a.at_site.site,
+        record {
+          matched = a.comes.matched;
+          lams = lams;
+          first = tail (asked [] lams);
+          level = a.comes.level;
+          later = a.comes.later;
+          steps = a.comes.steps;
+          way = a.comes.way;
+        },
+      )
+
+  abbrev Told : Route NodeName → Signs → Type 0
+  Told s v = IsTold Init M n τ T names h I letter are s v
+
+  -- the redexes of different routes, with different words
+  record Words (ss : List (Route NodeName)) : Type 0 where
+    redexes : List (Met τ T)
+    different : HaveDifferentWords T redexes
+    count : length ss ≡ length redexes
+    back : (x : Met τ T) → IsIn x redexes → (s : Route NodeName) × IsIn s ss × Told s (word_met T x)
+
+  more : (s : Route NodeName) (ss : List (Route NodeName)) → routes.AreDifferent (s ∷ ss) → Words ss →
+      (x : Met τ T) → Told s (word_met T x) → Words (s ∷ ss)
+  more s ss d r x t = record {
+    redexes = x ∷ r.redexes;
+    different = (
+      (λ y i same.
+          let b = r.back y i in
+          let e = told_one Init M n τ T names h I letter are atoms s b.0 (word_met T x) (word_met T y) t b.2 same in
+          d.0 (subst (λ u. IsIn u ss) (sym e) b.1)),
+      r.different,
+    );
+    count = ap suc r.count;
+    back = back';
+  }
+    where
+      back' : (y : Met τ T) → IsIn y (x ∷ r.redexes) → (u : Route NodeName) × IsIn u (s ∷ ss) × Told u (word_met T y)
+      back' y (inl e) = (s, inl refl, subst (λ y. Told s (word_met T y)) (sym e) t)
+      back' y (inr i) = let b = r.back y i in (b.0, inr b.1, b.2)
+
+  words_of : (ss : List (Route NodeName)) → routes.AreDifferent ss →
+      ((s : Route NodeName) → IsIn s ss → (lams : ℕ) × IsSeen M 0 (asked [] lams) s) → Words ss
+  words_of [] d f = record { redexes = []; different = tt; count = refl; back = λ x i. absurd i }
+  words_of (s ∷ ss) d f =
+      let S = f s (inl refl) in
+      let a = met_at Init M n τ (erased T) names h I s 0 (asked [] S.0) S.1 in
+      more s ss d (words_of ss d.1 (λ u i. f u (inr i))) (met_of s S.0 S.1)
+      (told Init M n τ T names h I letter are s S.1.redex 0 (asked [] S.0) a)
+
+-- ---- a run that asks for one head asks the root alone (as in Never of ol_frugal)
+
+-- as long as no place was found, the whole term is asked
+abbrev IsFirst : Asking → Type 0
+IsFirst a = length a.frames < 1 → a.waiting ≡ whole_term ∷ []
+
+turn_first : {many ticket : ℕ} {M P : NamedNet NodeName} {a b : Asking} {es : List Entry}
+    {ns : List ReadNode} → Turn many M ticket a es ns P b → IsFirst a → IsFirst b
+turn_first (rewrites m) f = f
+turn_first (one_more h l) f = f
+turn_first (finds {F = F} {s = s} {ss = ss} {n = n} {a = a} h x) f = by a
+  where
+    no_more : (f : Frame) → length (F ++ f ∷ []) < 1 → ⊥
+    no_more f b = let l = length_push F f in omega arith
+
+    by : (a : Answer) → IsFirst (next F s ss a)
+    by (head n' v k ls) b = absurd (no_more (framed s n') b)
+    by no_head b = absurd (no_more (framed s 0) b)
+    by heads.budget b = absurd (no_more (framed s 0) b)
+
+turns_first : {N : NamedNet NodeName} {many turns : ℕ} {journal : List Entry}
+    {places : List ReadNode} {M : NamedNet NodeName} {a : Asking} → Turns N many turns journal places M a → IsFirst a
+turns_first begins b = refl
+turns_first (and_then r t) b = turn_first t (turns_first r) b
+
+head_question : {N : NamedNet NodeName} {p : ℕ} {c : Context} → IsQuestion N 1 p c →
+    (p ≡ 0) × ((lams : ℕ) × (c ≡ asked [] lams))
+head_question q =
+    let e = turns_first q.made q.below in
+    let s : q.subterm ≡ whole_term = cc in
+    (q.port_is ∙ ap (λ (s : Subterm). s.port) s, (q.lams, q.context_is ∙ ap (λ (s : Subterm). asked s.levels q.lams) s))
+
+-- ---- its beta steps
+
+module _ (τ : Translation) (T : Labelled) (names : ℕ) (h : HasNames (erased T) names) (K : NamedNet ℕ)
+    (n : IsNet K) (same : SameNet K (translation_of τ (erased T) names)) (start : IsStart (net_under Init K))
+    (letter : ℕ → ℕ → ℕ) (atoms : HaveLetters (translation_of τ (erased T) names) letter)
+        (are : AreLettered τ letter T 0 0 0) where
+  contracted : {turns : ℕ} {journal : List Entry} {places : List ReadNode}
+      {M : NamedNet NodeName} {a : Asking} → Turns (net_under Init K) 1 turns journal places M a →
+      (xs : List (Met τ T)) × HaveDifferentWords T xs × (times_applied rule.Beta journal ≡ length xs)
+  contracted {turns} {journal} {places} {M} {a} r =
+      let d = demand_contracts_the_seen (net_under Init K) M 1 turns journal places a start r in
+      let b = betas_are_routes (net_under Init K) M 0 journal start.net start.named d.0 in
+      let w = words_of τ T names h (net_under Init K) start.net (named K (translation_of τ
+          (erased T) names) same) letter atoms are
+      b.0 b.1 (λ s i.
+      let x = b.3 s i in
+      let k = d.1 x.1.0 s x.1.1 in
+      let q = head_question k.2 in
+      (q.1.0, subst (λ c. IsSeen (net_under Init K) 0 c s) q.1.1 (subst (λ p. IsSeen
+          (net_under Init K) p k.1 s) q.0 k.3))) in
+      (w.redexes, w.different, sym b.2 ∙ w.count)
+
+pub no_more_betas_than_families : NoMoreBetasThanFamilies
+no_more_betas_than_families τ T V ds s z own names h g n same turns journal places M a r =
+    let L = lettering τ T names own in
+    let x = contracted τ T names h (net_of g) n same (is_start g n) L.letter L.atoms L.are r in
+    let y = normal_of z in
+    let f = no_more_than_families τ T V ds s y.0 y.1 y.2 y.3 x.0 x.1 in
+    (f.0, f.1, f.2, x.2 ∙ sym f.3)
+
+-- ---- whatever number of heads is asked for
+
+-- one net has the same paths, however its lists are ordered
+same_path : {A : Type 0} (M N : NamedNet A) → SameNet M N →
+    {p : NamedPort A} {c d : Context} {q : ℕ} → Path M p c q d → Path N p c q d
+same_path M N s (ends l) = ends ((s.links _ _).0 l)
+same_path M N s (goes l h x r) = goes ((s.links _ _).0 l) ((s.nodes _ _ _).0 h) x (same_path M N s r)
+
+module _ (τ : Translation) (t : Tree) (names : ℕ) (h : HasNames t names) (K : NamedNet ℕ)
+    (n : IsNet K) (same : SameNet K (translation_of τ t names)) (start : IsStart (net_under Init K)) where
+  paths : HaveSamePaths (translation_of τ t names) (net_under Init K)
+  paths p c q d =
+      let z = renamed Init K n (λ x y k l i j h h' e. one_start x y e) p c q d in (
+        λ r. z.0 (same_path (translation_of τ t names) K (same_sym K (translation_of τ t names) same) r),
+        λ r. same_path K (translation_of τ t names) same (z.1 r),
+      )
+
+module _ (τ : Translation) (T v : Labelled) (ws : List Label) (r : LeftmostContracts T ws v) (z : leftmost
+    (erased v) ≡ None)
+    (names : ℕ) (h : HasNames (erased T) names) (K : NamedNet ℕ)
+    (n : IsNet K) (same : SameNet K (translation_of τ (erased T) names)) (start : IsStart (net_under Init K))
+    (letter : ℕ → ℕ → ℕ) (atoms : HaveLetters (translation_of τ (erased T) names) letter)
+        (are : AreLettered τ letter T 0 0 0) where
+  abbrev R : NamedNet NodeName
+  R = net_under Init K
+
+  I : IsNamed Init (translation_of τ (erased T) names) (net_under Init K)
+  I = named K (translation_of τ (erased T) names) same
+
+  abbrev ToldBy : Route NodeName → Label → Type 0
+  ToldBy s e = (g : Signs) × IsTold Init (net_under Init K) start.net τ T names h I letter are s g × AreAlike g
+      (signs_of e)
+
+  record Labels (ss : List (Route NodeName)) : Type 0 where
+    degrees : List Label
+    different : AreDifferent degrees
+    within : (e : Label) → IsIn e degrees → IsIn e ws
+    count : length ss ≡ length degrees
+    back : (e : Label) → IsIn e degrees → (s : Route NodeName) × IsIn s ss × ToldBy s e
+
+  add : (s : Route NodeName) (ss : List (Route NodeName)) → routes.AreDifferent (s ∷ ss) → Labels ss →
+      (e : Label) → IsIn e ws → ToldBy s e → Labels (s ∷ ss)
+  add s ss d x e i t = record {
+    degrees = e ∷ x.degrees;
+    different = (
+      (λ j.
+          let b = x.back e j in
+          let q = told_one Init (net_under Init K) start.net τ T names h I letter are atoms s b.0 t.0 b.2.0 t.1 b.2.1
+          (λ r y. t.2 r y ∙ sym (b.2.2 r y)) in
+          d.0 (subst (λ u. IsIn u ss) (sym q) b.1)),
+      x.different,
+    );
+    within = in';
+    count = ap suc x.count;
+    back = back';
+  }
+    where
+      in' : (f : Label) → IsIn f (e ∷ x.degrees) → IsIn f ws
+      in' f (inl q) = subst (λ f. IsIn f ws) (sym q) i
+      in' f (inr j) = x.within f j
+
+      back' : (f : Label) → IsIn f (e ∷ x.degrees) → (u : Route NodeName) × IsIn u (s ∷ ss) × ToldBy u f
+      back' f (inl q) = (s, inl refl, subst (ToldBy s) (sym q) t)
+      back' f (inr j) = let b = x.back f j in (b.0, inr b.1, b.2)
+
+  labels_of : (many : ℕ) (ss : List (Route NodeName)) → routes.AreDifferent ss →
+      ((s : Route NodeName) → IsIn s ss → IsSeenFromPlace (net_under Init K) many s) → Labels ss
+  labels_of many [] d f = record { degrees = []; different = tt; within = λ e i. absurd i; count = refl;
+      back = λ e i. absurd i }
+  labels_of many (s ∷ ss) d f =
+      let x = f s (inl refl) in
+      let a = met_at Init (net_under Init K) start.net τ (erased T) names h I s x.0 x.1 x.3 in
+      let m : IsWanted τ (erased T) a.at_site.site = record {
+        place = place x.0;
+        first = x.1 0;
+        rest = tail x.1;
+        asks = question_asks τ (erased T) names h (net_under Init K) start
+            (paths τ (erased T) names h K n same start) many x.0 x.1 x.2;
+        comes = a.comes;
+      } in
+      let w = wanted_degree τ T v ws r z a.at_site.site m in
+      add s ss d (labels_of many ss d.1 (λ u i. f u (inr i))) w.0 w.1 (
+        word_of T a.at_site.site a.comes.matched,
+        told Init (net_under Init K) start.net τ T names h I letter are s x.3.redex x.0 x.1 a,
+        w.2,
+      )
+
+  degrees_of : {many turns : ℕ} {journal : List Entry} {places : List ReadNode}
+      {M : NamedNet NodeName} {a : Asking} → Turns (net_under Init K) many turns journal places M a →
+      (es : List Label) × AreDifferent es × ((e : Label) → IsIn e es → IsIn e ws)
+      × (times_applied rule.Beta journal ≡ length es)
+  degrees_of {many} {turns} {journal} {places} {M} {a} t =
+      let d = demand_contracts_the_seen (net_under Init K) M many turns journal places a start t in
+      let b = betas_are_routes (net_under Init K) M 0 journal start.net start.named d.0 in
+      let l = labels_of many b.0 b.1 (λ s i. (let x = b.3 s i in d.1 x.1.0 s x.1.1)) in
+      (l.degrees, l.different, l.within, sym b.2 ∙ l.count)
+
+pub betas_are_no_more_than_families : BetasAreNoMoreThanFamilies
+betas_are_no_more_than_families τ T v ws s z own names h g n same heads turns journal places M a r =
+    let L = lettering τ T names own in
+    degrees_of τ T v ws s (no_redex (erased v) z) names h (net_of g) n same (is_start g n) L.letter L.atoms L.are r
