@@ -125,10 +125,12 @@ any_run_with P tr t names fuel heads text is_net journal net run complete p h =
     let e = ends_once N o.1 listed 0 o.0 same (start_once tr t names) shows.once o.2.leads in
     let c = complete_same o.1 e.net (same_trans o.1 listed e.net same e.same) d.0 in (
       record {
-        journal = o.0;
-        net = e.net;
-        run = record { leads = e.leads; within = o.2.within; ended = inl c };
-        complete = c;
+        ends = record {
+          journal = o.0;
+          net = e.net;
+          run = record { leads = e.leads; within = o.2.within; ended = inl c };
+          complete = c;
+        };
         shows = shows_same names heads o.0 listed e.net text e.same e.once shows;
       },
       h,
@@ -155,7 +157,7 @@ pub any_run_ends : (tr : Translation) (t : Tree) (names : List (List ℕ)) (fuel
     IsNet (translation_of tr t (length names)) →
     (journal : List Entry) (net : NamedNet NodeName) →
     IsRun (start_net_of_term tr t names) 0 journal net → IsComplete net →
-    length journal ≤ fuel → RunEnds tr t names fuel
+    length journal ≤ fuel → RunEnds (start_net_of_term tr t names) fuel
 any_run_ends tr t names fuel is_net journal net run complete within =
     let N = start_net_of_term tr t names in
     let n = start_is_net tr t names is_net in
@@ -207,10 +209,12 @@ any_run_reads tr t names fuel heads tree is_net journal net other run complete w
     let c = complete_same o.1 e.net (same_trans o.1 listed e.net same e.same) d.0 in
     let under = read_under tree heads a.names other other_net apart read in
     record {
-      journal = o.0;
-      net = e.net;
-      run = record { leads = e.leads; within = o.2.within; ended = inl c };
-      complete = c;
+      ends = record {
+        journal = o.0;
+        net = e.net;
+        run = record { leads = e.leads; within = o.2.within; ended = inl c };
+        complete = c;
+      };
       is_net = net_same listed e.net e.same (named_net a.names other other_net apart);
       once = e.once;
       read = read_same tree heads listed e.net e.same once e.once under;

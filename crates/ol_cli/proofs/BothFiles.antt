@@ -3,7 +3,7 @@ use Rattle.std.proofs.Common.{◌≡◌, ℕ, ◌+◌, Bool, List, subst}
 use Rattle.ol_io.specs.Outside.{IsAllOf}
 use Rattle.ol_readback.specs.declared.answers.ReadNode.{ReadNode}
 use Rattle.ol_words.specs.Texts.{Text}
-use Rattle.ol_words.specs.Asked as jobs
+use Rattle.ol_words.specs.declared.jobs.Job.TheVariants as jobs
 use Rattle.ol_cli.specs.declared.numbers.RunNumbers.{RunNumbers}
 use Rattle.ol_cli.specs.declared.status.Status.{Status}
 use Rattle.ol_cli.specs.Jobs.{Files}
@@ -29,7 +29,7 @@ both_cause : (n : RunNumbers) (s : Seen) (first second : Text) (bytes : List ℕ
     (names : List (List ℕ)) (tree : List ReadNode) (st : Status) (text : List ℕ) →
     IsAllOf (s.contents 0 first) bytes → IsReadOf n bytes names tree →
     EndsSecond n tree names (on_second s) second st text →
-    JobCause s st text (jobs.equal n.translation n.workers n.fuel n.heads first second)
+    JobCause s st text (jobs.Equal n.translation n.workers n.fuel n.heads first second)
 both_cause n s first second bytes names tree st text whole r (refused isnt c) = by_second whole
     (has_tree n bytes names tree r) isnt c
 both_cause n s first second bytes names tree st text whole r
@@ -42,7 +42,7 @@ pub second_cause : (n : RunNumbers) (first second : Text) (bytes : List ℕ) (na
     mid ≡ faults → then ≡ (λ n. contents (n + 1)) → IsAllOf (contents 0 first) bytes →
     IsReadOf n bytes names tree → EndsSecond n tree names (seen mid faults' then given ended) second st text →
     JobCause (seen faults faults' contents given ended) st text
-    (jobs.equal n.translation n.workers n.fuel n.heads first second)
+    (jobs.Equal n.translation n.workers n.fuel n.heads first second)
 second_cause n first second bytes names tree faults mid faults' given contents then ended st text e d whole r h =
     both_cause n (seen faults faults' contents given ended) first second bytes names tree st text
     whole r (after_first n tree names faults mid faults' given

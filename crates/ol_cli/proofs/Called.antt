@@ -2,7 +2,7 @@
 use Rattle.std.proofs.Common.{◌≡◌, ◌∙◌, ap, ℕ, List, Option, None, String, Global, Result, Ok, Err}
 use Rattle.std.proofs.Common.{IfOk, inl, inr, refl, sym, subst}
 use Rattle.ol_io.specs.declared.outside.NoMemory as no_memory
-use Rattle.ol_words.specs.Asked.{Asked}
+use Rattle.ol_words.specs.declared.jobs.Job.{Job as Asked}
 use Rattle.ol_cli.specs.declared.answer.Answer.{Answer}
 use Rattle.ol_cli.specs.declared.top.Outcome.{Outcome}
 use Rattle.ol_cli.specs.declared.status.Status.TheVariants.{Done, WriteFault, NoMemory}

@@ -15,7 +15,7 @@ use Rattle.ol_lines.proofs.Counts.{times, times_append}
 use Rattle.ol_lines.proofs.Printed.{decimal_none, feed}
 use Rattle.ol_lines.proofs.Lines.{line_of}
 use Rattle.ol_cli.specs.Jobs.{Files}
-use Rattle.ol_words.specs.Asked.{equal}
+use Rattle.ol_words.specs.declared.jobs.Job.TheVariants.{Equal as equal}
 use Rattle.ol_cli.specs.SourceLaws.{WritesOfSources}
 use Rattle.ol_cli.specs.NormalForms.{SaysOfTwo, LineSaysOfTwo}
 use Rattle.ol_cli.proofs.NormalLines.{file_of}

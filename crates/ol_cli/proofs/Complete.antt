@@ -12,8 +12,11 @@ use Rattle.ol_net.specs.Nets.{IsNet}
 use Rattle.ol_translate.specs.Sizes.{size_of_translation}
 use Rattle.ol_translate.specs.Translation.{translation_of}
 use Rattle.ol_words.specs.Texts.{Text}
-use Rattle.ol_words.specs.Asked.{Asked, run, walk, view, trace, check, gen, demand, certify}
-use Rattle.ol_words.specs.Asked as jobs
+use Rattle.ol_words.specs.declared.jobs.Job.{Job as Asked}
+use Rattle.ol_words.specs.declared.jobs.Job.TheVariants.{Run as run, Walk as walk, View as view}
+use Rattle.ol_words.specs.declared.jobs.Job.TheVariants.{Trace as trace, Check as check, Gen as gen}
+use Rattle.ol_words.specs.declared.jobs.Job.TheVariants.{Demand as demand, Certify as certify}
+use Rattle.ol_words.specs.declared.jobs.Job.TheVariants as jobs
 use Rattle.ol_cli.specs.declared.status.Status.{Status}
 use Rattle.ol_cli.specs.declared.status.Status.TheVariants.{Done, Usage, Syntax, Spent, ReadFault}
 use Rattle.ol_cli.specs.declared.status.Status.TheVariants.{WriteFault, NoMemory, Limit, BadNet}
@@ -130,18 +133,18 @@ module _ (files : Files) where
       (demand tr f q name) name (files 0 name) can refl _ e (demand tr f q name) refl can.ends s x h
   done_job (certify tr b w f q name) can s x (answers.of_file has e h) = done_told (files 0)
       (certify tr b w f q name) name (files 0 name) can refl _ e (certify tr b w f q name) refl can.ends s x h
-  done_job (jobs.net tr true w f name) can s x (answers.of_file has e h) = done_told (files 0)
-      (jobs.net tr true w f name) name (files 0 name) can refl _ e (jobs.net tr true w f name) refl can.ends s x h
-  done_job (jobs.net tr false w f name) can s x (answers.of_file has e h) = absurd has
-  done_job (jobs.net tr false w f name) can s x (answers.of_net_file {bytes = bytes} e h) =
+  done_job (jobs.Net tr true w f name) can s x (answers.of_file has e h) = done_told (files 0)
+      (jobs.Net tr true w f name) name (files 0 name) can refl _ e (jobs.Net tr true w f name) refl can.ends s x h
+  done_job (jobs.Net tr false w f name) can s x (answers.of_file has e h) = absurd has
+  done_job (jobs.Net tr false w f name) can s x (answers.of_net_file {bytes = bytes} e h) =
       let file = subst (λ b. IsNetFile b can.net) (one_bytes (files 0 name) can.bytes bytes can.told e) can.file in
-      done_net_file f bytes can.net can.counts can.stuck can.nodes file can.ends can.few s x h
-  done_job (jobs.equal tr w f q a b) can s x (answers.of_file has e h) = absurd has
-  done_job (jobs.equal tr w f q a b) can s x (answers.of_first e isnt h) = absurd
+      done_net_file f bytes can.net file can.ends can.few s x h
+  done_job (jobs.Equal tr w f q a b) can s x (answers.of_file has e h) = absurd has
+  done_job (jobs.Equal tr w f q a b) can s x (answers.of_first e isnt h) = absurd
       (isnt (done_told (files 0) (run tr w f q a) a (files 0 a) can.0 refl _ e (run tr w f q a) refl can.0.ends s x h))
-  done_job (jobs.equal tr w f q a b) can s x (answers.of_second e t d isnt h) = absurd
+  done_job (jobs.Equal tr w f q a b) can s x (answers.of_second e t d isnt h) = absurd
       (isnt (done_told (files 1) (run tr w f q b) b (files 1 b) can.1 refl _ d (run tr w f q b) refl can.1.ends s x h))
-  done_job (jobs.equal tr w f q a b) can s x (answers.of_both e t d u is h) = is
+  done_job (jobs.Equal tr w f q a b) can s x (answers.of_both e t d u is h) = is
   done_job (gen tr runs k) can s x (answers.of_file has e h) = absurd has
   done_job (gen tr runs k) can s x (answers.made m) = done_made tr runs k can s x m
 
@@ -168,9 +171,9 @@ module _ (files : Files) where
   can_told (check tr term other) can = two_told IsTold term other (can.0.bytes, can.0.told) (can.1.0, can.1.1)
   can_told (demand tr f q name) can = one_told IsTold name (can.bytes, can.told)
   can_told (certify tr b w f q name) can = one_told IsTold name (can.bytes, can.told)
-  can_told (jobs.net tr true w f name) can = one_told IsTold name (can.bytes, can.told)
-  can_told (jobs.net tr false w f name) can = one_told IsTold name (can.bytes, can.told)
-  can_told (jobs.equal tr w f q a b) can = two_told IsTold a b (can.0.bytes, can.0.told) (can.1.bytes, can.1.told)
+  can_told (jobs.Net tr true w f name) can = one_told IsTold name (can.bytes, can.told)
+  can_told (jobs.Net tr false w f name) can = one_told IsTold name (can.bytes, can.told)
+  can_told (jobs.Equal tr w f q a b) can = two_told IsTold a b (can.0.bytes, can.0.told) (can.1.bytes, can.1.told)
   can_told (gen tr runs k) can = λ place name e. absurd (cc)
 
 -- ---- the call

@@ -26,8 +26,11 @@ use Rattle.ol_levels.proofs.Terms.{term_is_levelled}
 use Rattle.ol_completeness.proofs.Completing.{demand_is_complete}
 use Rattle.ol_completeness.proofs.Levelled.{stays_clear}
 use Rattle.ol_confluence.proofs.LeftmostEnds.{leftmost_finds}
-use Rattle.ol_words.specs.Asked.{Asked, run, walk, view, trace, check, gen, demand, certify}
-use Rattle.ol_words.specs.Asked as jobs
+use Rattle.ol_words.specs.declared.jobs.Job.{Job as Asked}
+use Rattle.ol_words.specs.declared.jobs.Job.TheVariants.{Run as run, Walk as walk, View as view}
+use Rattle.ol_words.specs.declared.jobs.Job.TheVariants.{Trace as trace, Check as check, Gen as gen}
+use Rattle.ol_words.specs.declared.jobs.Job.TheVariants.{Demand as demand, Certify as certify}
+use Rattle.ol_words.specs.declared.jobs.Job.TheVariants as jobs
 use Rattle.ol_lines.specs.NormalForms.{IsNormalFormOf}
 use Rattle.ol_lines.proofs.Read.{read_line, line_is_normal_form}
 use Rattle.ol_cli.specs.Run.{start_net_of_term}
@@ -158,8 +161,8 @@ module _ {bytes : List ℕ} {source : Named} (is : IsText bytes source) (old new
       first_line is (demand_printed h) (IsFoundOnDemand (demand tr f q name) source) old new a
       (found is h)
   found_of (certify tr b w f q name) k h = absurd k
-  found_of (jobs.net tr from w f name) k h = absurd k
-  found_of (jobs.equal tr w f q first second) k h = absurd k
+  found_of (jobs.Net tr from w f name) k h = absurd k
+  found_of (jobs.Equal tr w f q first second) k h = absurd k
 
 pub writes_demanded : (words : List (String Global)) (bytes : List ℕ)
     (old new : Option (List ℕ)) → WritesTree words bytes old new →

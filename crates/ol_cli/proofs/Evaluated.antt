@@ -88,7 +88,8 @@ module _ (tr : Translation) (t : Tree) (names : List (List ℕ)) (start : Graph)
     pub own_net : IsNet (net_of start) → IsNet (translation_of tr t (length names))
     own_net n = net_same (net_of start) (translation_of tr t (length names)) same n
 
-    pub runs_out : IsNet (net_of start) → HasActive net → length (journal_of w) ≡ fuel → RunsOut tr t names fuel
+    pub runs_out : IsNet (net_of start) → HasActive net → length (journal_of w) ≡ fuel →
+        RunsOut (start_net_of_term tr t names) fuel
     runs_out n a full =
         let r = own_run in
         any_run_runs_out tr t names fuel (own_net n) (journal_of w) r.0 r.1
@@ -127,8 +128,8 @@ module _ (tr : Translation) (t : Tree) (names : List (List ℕ)) (start : Graph)
               written = told.written;
             }
 
-        pub prints_work : PrintsWork names fuel heads (journal_of w) net text
-        prints_work = record { complete = complete; within = within; last = last; frozen = f; shows = shows }
+        pub prints_work : PrintsWork names heads (journal_of w) net text
+        prints_work = record { last = last; frozen = f; shows = shows }
 
         -- what is printed of the workers' net is printed of the one-thread run, and what holds of
         -- its tree and term holds of those

@@ -48,13 +48,14 @@ pub every_run_prints : EveryRunPrints
 every_run_prints tr t names fuel heads text is_net p journal net run complete =
     let N = start_net_of_term tr t names in
     let a = runs_agree N (start_is_net tr t names is_net)
-    (start_is_named tr t names is_net) p.net net p.journal journal
-    (as_run N p.net 0 p.journal p.run.leads) run p.complete complete in
+    (start_is_named tr t names is_net) p.ends.net net p.ends.journal journal
+    (as_run N p.ends.net 0 p.ends.journal p.ends.run.leads) run p.ends.complete complete in
     record {
-      within = within (length p.journal) (length journal) fuel a.steps p.run.within;
-      listed = net_under a.names p.net;
-      same = same_sym (net_under a.names p.net) net a.written.same;
-      shows = shows_under names heads p.journal journal a.names p.net text a.written.apart (sym a.counts) p.shows;
+      within = within (length p.ends.journal) (length journal) fuel a.steps p.ends.run.within;
+      listed = net_under a.names p.ends.net;
+      same = same_sym (net_under a.names p.ends.net) net a.written.same;
+      shows = shows_under names heads p.ends.journal journal a.names p.ends.net text a.written.apart
+          (sym a.counts) p.shows;
     }
 
 pub every_run_is_longer : EveryRunIsLonger

@@ -11,8 +11,11 @@ use Rattle.ol_term.specs.declared.translations.Translation.{Translation}
 use Rattle.ol_term.specs.Trees.{Tree}
 use Rattle.ol_term.specs.Generated.{doubled_text}
 use Rattle.ol_words.specs.Texts.{Text}
-use Rattle.ol_words.specs.Asked.{Asked, run, walk, view, trace, check, gen, demand, certify}
-use Rattle.ol_words.specs.Asked as jobs
+use Rattle.ol_words.specs.declared.jobs.Job.{Job as Asked}
+use Rattle.ol_words.specs.declared.jobs.Job.TheVariants.{Run as run, Walk as walk, View as view}
+use Rattle.ol_words.specs.declared.jobs.Job.TheVariants.{Trace as trace, Check as check, Gen as gen}
+use Rattle.ol_words.specs.declared.jobs.Job.TheVariants.{Demand as demand, Certify as certify}
+use Rattle.ol_words.specs.declared.jobs.Job.TheVariants as jobs
 use Rattle.ol_cli.specs.declared.status.Status.{Status}
 use Rattle.ol_cli.specs.declared.status.Status.TheVariants.{Done, Usage, Syntax, Spent, ReadFault}
 use Rattle.ol_cli.specs.declared.status.Status.TheVariants.{WriteFault, NoMemory, Limit, BadNet}
@@ -79,7 +82,7 @@ term_status (view tr k name) t names st text h = done_status _ st text h
 term_status (trace tr w f name) t names st text h = spent_status _ _ st text h
 term_status (demand tr f q name) t names st text h = spent_status _ _ st text h
 term_status (certify tr b w f q name) t names st text h = spent_status _ _ st text h
-term_status (jobs.net tr true w f name) t names st text h = done_status _ st text h
+term_status (jobs.Net tr true w f name) t names st text h = done_status _ st text h
 term_status _ t names st text h = absurd h
 
 -- the statuses of what is answered to the bytes of a term file, of a journal file and of a net file
@@ -158,8 +161,8 @@ job_cause words s asked Usage text j c = absurd (job_told s Usage text asked c)
 told_first : (contents : Files) (asked : Asked) → HasTermFile asked → AreTold contents asked →
     (bytes : List ℕ) × (contents 0 (file_name asked) ≡ Some bytes)
 told_first contents (gen tr runs k) has e = absurd has
-told_first contents (jobs.net tr false w f name) has e = absurd has
-told_first contents (jobs.equal tr w f q first second) has e = absurd has
+told_first contents (jobs.Net tr false w f name) has e = absurd has
+told_first contents (jobs.Equal tr w f q first second) has e = absurd has
 told_first contents _ has e = e 0 _ refl
 
 -- and those of the journal file

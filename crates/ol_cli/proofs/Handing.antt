@@ -7,7 +7,8 @@ use Rattle.ol_net.specs.Numbered.{all_live}
 use Rattle.ol_net.specs.Graph.{Graph}
 use Rattle.ol_net.proofs.Linking.{length-all_live, count_by-all_live}
 use Rattle.ol_wire.specs.Closed.{ClosedTable}
-use Rattle.ol_words.specs.Asked.{Asked, run, trace}
+use Rattle.ol_words.specs.declared.jobs.Job.{Job as Asked}
+use Rattle.ol_words.specs.declared.jobs.Job.TheVariants.{Run as run, Trace as trace}
 use Rattle.ol_cli.specs.declared.status.Status.{Status}
 use Rattle.ol_cli.specs.declared.status.Status.TheVariants as status
 use Rattle.ol_cli.specs.Jobs.{AskFor, file_name, translation_in}

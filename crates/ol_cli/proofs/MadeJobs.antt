@@ -2,7 +2,7 @@
 use Rattle.std.proofs.Common.{◌≡◌, ℕ, List, None, true, false, subst}
 use Rattle.ol_term.specs.declared.translations.Translation.{Translation}
 use Rattle.ol_term.specs.Generated.{doubled_text}
-use Rattle.ol_words.specs.Asked.{gen}
+use Rattle.ol_words.specs.declared.jobs.Job.TheVariants.{Gen as gen}
 use Rattle.ol_cli.specs.declared.answer.Answer.{Answer}
 use Rattle.ol_cli.specs.declared.status.Status.TheVariants.{Done}
 use Rattle.ol_cli.specs.Answers.{Seen, by_making}

@@ -17,19 +17,21 @@ use Rattle.ol_netfile.proofs.SameNets.{net_is_one}
 use Rattle.ol_netfile.proofs.Unique.{text-few}
 use Rattle.ol_netfile.specs.FaultTexts.{fault_text}
 use Rattle.ol_netfile.proofs.OneText.{net_has_no_fault, fault_is_one}
-use Rattle.ol_rules.specs.declared.journal.Counts.{Counts}
+use Rattle.ol_rules.specs.Counting.{counts_of}
+use Rattle.ol_readback.specs.Heads.{live}
 use Rattle.ol_term.specs.declared.translations.Translation.{Translation}
 use Rattle.ol_translate.proofs.Indexes.{top_is_low}
 use Rattle.ol_wire.specs.Sizes.{IsSmallNet}
 use Rattle.ol_words.specs.Texts.{Text}
-use Rattle.ol_words.specs.Asked.{Asked}
-use Rattle.ol_words.specs.Asked as jobs
+use Rattle.ol_words.specs.declared.jobs.Job.{Job as Asked}
+use Rattle.ol_words.specs.declared.jobs.Job.TheVariants as jobs
 use Rattle.ol_cli.specs.declared.status.Status.{Status}
 use Rattle.ol_cli.specs.declared.status.Status.TheVariants.{Done, Usage, Syntax, Spent, ReadFault}
 use Rattle.ol_cli.specs.declared.status.Status.TheVariants.{WriteFault, NoMemory, Limit, BadNet}
 use Rattle.ol_cli.specs.Laws.{HaveOneText}
 use Rattle.ol_cli.specs.Texts.{line, nodes_text, spent_text, counts_text}
-use Rattle.ol_cli.specs.Net.{long, NetRunsOut, NetRunEnds, IsPastNodes, PrintsNet, NetAnswer}
+use Rattle.ol_cli.specs.Run.{RunsOut}
+use Rattle.ol_cli.specs.Net.{long, start_net, NetRunEnds, IsPastNodes, PrintsNet, NetAnswer}
 use Rattle.ol_cli.specs.Net.{IsNetFile, NetFileAnswer, bad, of_net}
 use Rattle.ol_cli.proofs.Handing.{whole_net}
 use Rattle.ol_cli.proofs.NetRuns.{one_left, left_or_runs_out}
@@ -114,7 +116,7 @@ alike_by asked s s' u x x' e e' h = (e ∙ sym e', subst (λ s. HaveOneText aske
 
 -- what a net is answered, by cases
 data OfNet (net : Graph) (fuel : ℕ) : Status → List ℕ → Type 0 where
-  runs_out : {text : List ℕ} → NetRunsOut net fuel → text ≡ spent_text fuel → OfNet net fuel Spent text
+  runs_out : {text : List ℕ} → RunsOut (start_net net) fuel → text ≡ spent_text fuel → OfNet net fuel Spent text
   large : {text : List ℕ} → IsPastNodes net fuel → text ≡ nodes_text → OfNet net fuel Limit text
   printed : {text : List ℕ} → PrintsNet net fuel text → OfNet net fuel Done text
 
@@ -134,38 +136,39 @@ module _ (net : Graph) (is_net : IsNet (net_of net)) (fuel : ℕ) where
   -- the net that is left is large or not
   not_both : IsPastNodes net fuel → {text : List ℕ} → PrintsNet net fuel text → ⊥
   not_both l p =
-      let e = (one_left net is_net fuel l.counts p.counts l.stuck p.stuck l.nodes p.nodes l.ends p.ends).2 in
-      let many = l.many in let few = p.few in omega (arith, e, many, few)
+      let e = (one_left net is_net fuel l.0 p.ends).2 in
+      let many = l.1 in let few = p.few in omega (arith, e, many, few)
 
   module _ (tr : Translation) (w : ℕ) (name : Text) where
     one_of_net : (s s' : Status) (x x' : List ℕ) → OfNet net fuel s x → OfNet net fuel s' x' →
-        Alike (jobs.net tr false w fuel name) s s' x x'
+        Alike (jobs.Net tr false w fuel name) s s' x x'
     one_of_net s s' x x' (runs_out r t) (runs_out r' t') = (refl, t ∙ sym t')
     one_of_net s s' x x' (runs_out r t) (large l t') = absurd
-        (left_or_runs_out net is_net fuel l.counts l.stuck l.nodes r l.ends)
+        (left_or_runs_out net is_net fuel r l.0.ends)
     one_of_net s s' x x' (runs_out r t) (printed p) = absurd
-        (left_or_runs_out net is_net fuel p.counts p.stuck p.nodes r p.ends)
+        (left_or_runs_out net is_net fuel r p.ends.ends)
     one_of_net s s' x x' (large l t) (runs_out r t') = absurd
-        (left_or_runs_out net is_net fuel l.counts l.stuck l.nodes r l.ends)
+        (left_or_runs_out net is_net fuel r l.0.ends)
     one_of_net s s' x x' (large l t) (large l' t') = (refl, t ∙ sym t')
     one_of_net s s' x x' (large l t) (printed p) = absurd (not_both l p)
     one_of_net s s' x x' (printed p) (runs_out r t) = absurd
-        (left_or_runs_out net is_net fuel p.counts p.stuck p.nodes r p.ends)
+        (left_or_runs_out net is_net fuel r p.ends.ends)
     one_of_net s s' x x' (printed p) (large l t) = absurd (not_both l p)
     one_of_net s s' x x' (printed p) (printed p') =
-        let e = one_left net is_net fuel p'.counts p.counts p'.stuck p.stuck p'.nodes p.nodes p'.ends p.ends in
-        let same = ap (λ c. counts_text c p'.stuck ++ p'.rest) e.0 ∙ ap (λ n. counts_text p.counts n ++ p'.rest) e.1 in
-        (refl, (p.counts, p.stuck, p.rest, p'.rest, p.written, p'.written ∙ same))
+        let e = one_left net is_net fuel p'.ends p.ends in
+        let counts = counts_of p.ends.ends.journal in
+        let same = ap (λ c. counts_text c p'.ends.stuck ++ p'.rest) e.0
+        ∙ ap (λ n. counts_text counts n ++ p'.rest) e.1 in
+        (refl, (counts, p.ends.stuck, p.rest, p'.rest, p.written, p'.written ∙ same))
 
   -- where the run ends within the fuel and few nodes are left, the net is printed
-  done_of_net : (s : Status) (x : List ℕ) → (counts : Counts) (stuck nodes : ℕ) →
-      NetRunEnds net fuel counts stuck nodes → nodes ≤ 200000 → OfNet net fuel s x → s ≡ Done
-  done_of_net s x counts stuck nodes ends few (runs_out r t) = absurd
-      (left_or_runs_out net is_net fuel counts stuck nodes r ends)
-  done_of_net s x counts stuck nodes ends few (large l t) =
-      let e = (one_left net is_net fuel l.counts counts l.stuck stuck l.nodes nodes l.ends ends).2 in
-      let many = l.many in absurd (omega (arith, e, many, few))
-  done_of_net s x counts stuck nodes ends few (printed p) = refl
+  done_of_net : (s : Status) (x : List ℕ) (e : NetRunEnds net fuel) → live e.ends.net ≤ 200000 →
+      OfNet net fuel s x → s ≡ Done
+  done_of_net s x e few (runs_out r t) = absurd (left_or_runs_out net is_net fuel r e.ends)
+  done_of_net s x e few (large l t) =
+      let same = (one_left net is_net fuel l.0 e).2 in
+      let many = l.1 in absurd (omega (arith, same, many, few))
+  done_of_net s x e few (printed p) = refl
 
 is_not_bad : (bytes : List ℕ) (net : Graph) (f : NetFault) → IsNetFile bytes net →
     IsNetFault bytes f → f ≢ fault.NoMemory → ⊥
@@ -177,15 +180,15 @@ one_net bytes g h i j = net_is_one bytes g h i.tabled j.tabled i.read j.read
 
 module _ (tr : Translation) (w : ℕ) (name : Text) where
   pub one_net_file : (fuel : ℕ) (bytes : List ℕ) (s s' : Status) (x x' : List ℕ) →
-      NetFileAnswer fuel bytes s x → NetFileAnswer fuel bytes s' x' → Alike (jobs.net tr false w fuel name) s s' x x'
+      NetFileAnswer fuel bytes s x → NetFileAnswer fuel bytes s' x' → Alike (jobs.Net tr false w fuel name) s s' x x'
   one_net_file fuel bytes s s' x x' (long l e t) (long l' e' t') = alike_by
-      (jobs.net tr false w fuel name) s s' Limit x x' e e' (t ∙ sym t')
+      (jobs.Net tr false w fuel name) s s' Limit x x' e e' (t ∙ sym t')
   one_net_file fuel bytes s s' x x' (long l e t) (bad l' d f isnt e' t') = absurd (omega arith)
   one_net_file fuel bytes s s' x x' (long l e t) (of_net i h) = absurd (let short = i.short in omega arith)
   one_net_file fuel bytes s s' x x' (bad l d f isnt e t) (long l' e' t') = absurd (omega arith)
   one_net_file fuel bytes s s' x x' (bad l d f isnt e t) (bad l' d' f' isnt' e' t') =
       let same = ap (λ d. line (fault_text d)) (fault_is_one bytes d d' f f' isnt isnt') in
-      alike_by (jobs.net tr false w fuel name) s s' BadNet x x' e e' (t ∙ same ∙ sym t')
+      alike_by (jobs.Net tr false w fuel name) s s' BadNet x x' e e' (t ∙ same ∙ sym t')
   one_net_file fuel bytes s s' x x' (bad l d f isnt e t) (of_net {net = net} i h) = absurd
       (is_not_bad bytes net d i f isnt)
   one_net_file fuel bytes s s' x x' (of_net i h) (long l' e' t') = absurd (let short = i.short in omega arith)
@@ -197,13 +200,13 @@ module _ (tr : Translation) (w : ℕ) (name : Text) where
       (of_net_answer g fuel s' x' h'')
 
 -- a file whose net is left small within the fuel is printed
-pub done_net_file : (fuel : ℕ) (bytes : List ℕ) (net : Graph) (counts : Counts) (stuck nodes : ℕ) →
-    IsNetFile bytes net → NetRunEnds net fuel counts stuck nodes → nodes ≤ 200000 →
-    (s : Status) (x : List ℕ) → NetFileAnswer fuel bytes s x → s ≡ Done
-done_net_file fuel bytes net counts stuck nodes i ends few s x (long l e t) = absurd
+pub done_net_file : (fuel : ℕ) (bytes : List ℕ) (net : Graph) → IsNetFile bytes net →
+    (e : NetRunEnds net fuel) → live e.ends.net ≤ 200000 → (s : Status) (x : List ℕ) →
+    NetFileAnswer fuel bytes s x → s ≡ Done
+done_net_file fuel bytes net i ends few s x (long l e t) = absurd
     (let short = i.short in omega arith)
-done_net_file fuel bytes net counts stuck nodes i ends few s x (bad l d f isnt e t) = absurd
+done_net_file fuel bytes net i ends few s x (bad l d f isnt e t) = absurd
     (is_not_bad bytes net d i f isnt)
-done_net_file fuel bytes net counts stuck nodes i ends few s x (of_net {net = g} j h) =
+done_net_file fuel bytes net i ends few s x (of_net {net = g} j h) =
     let h' = subst (λ n. NetAnswer n fuel s x) (one_net bytes g net j i) h in
-    done_of_net net (net_is_net net i.tabled) fuel s x counts stuck nodes ends few (of_net_answer net fuel s x h')
+    done_of_net net (net_is_net net i.tabled) fuel s x ends few (of_net_answer net fuel s x h')

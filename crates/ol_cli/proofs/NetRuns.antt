@@ -27,10 +27,10 @@ use Rattle.ol_wire.specs.Closed.{ClosedTable}
 use Rattle.ol_reduce.specs.Reduced.{IsDone, IsSpent}
 use Rattle.ol_readback.specs.Heads.{live}
 use Rattle.ol_view.specs.Laws.{IsTable}
-use Rattle.ol_cli.specs.Run.{journal_of}
+use Rattle.ol_cli.specs.Run.{RunsOut, RunEnds, journal_of}
 use Rattle.ol_cli.specs.Laws.{OneNetIsLeft}
 use Rattle.ol_cli.specs.Listing.{ListsOnce}
-use Rattle.ol_cli.specs.Net.{start_net, NetRunsOut, NetRunEnds, TellsLast, PrintsNet, IsPastNodes}
+use Rattle.ol_cli.specs.Net.{start_net, NetRunEnds, TellsLast, PrintsNet, IsPastNodes}
 use Rattle.ol_cli.specs.NetLines.{AreLinesOf}
 use Rattle.ol_cli.specs.Texts.{counts_text}
 use Rattle.ol_cli.proofs.AnyRun.{ends_once}
@@ -48,30 +48,37 @@ module _ (net : Graph) (is_net : IsNet (net_of net)) where
   start_once : ListsOnce (start_net net)
   start_once = net_under_once Init (net_of net) (λ x y k l i j h h' e. cc) (net_of_once net)
 
-  pub one_left : (fuel : ℕ) (counts counts' : Counts) (stuck stuck' nodes nodes' : ℕ) →
-      NetRunEnds net fuel counts stuck nodes → NetRunEnds net fuel counts' stuck' nodes' →
-      (counts ≡ counts') × (stuck ≡ stuck') × (nodes ≡ nodes')
-  one_left fuel counts counts' stuck stuck' nodes nodes' e e' =
-      let o = one_thread_one (start_net net)
-      (start_net net) e.last e'.last fuel e.journal e'.journal start_is_net start_is_named
-      (same_refl (start_net net)) e.run e'.run in (
-        e.counted ∙ ap counts_of o.0 ∙ sym e'.counted,
-        one_stuck_count e'.last stuck stuck' (has_stuck_same e.last e'.last stuck o.1 e.has_stuck) e'.has_stuck,
-        e.size ∙ same_length e.last e'.last o.1 e.once e'.once ∙ sym e'.size,
+  pub one_left : (fuel : ℕ) (e e' : NetRunEnds net fuel) →
+      (counts_of e.ends.journal ≡ counts_of e'.ends.journal) × (e.stuck ≡ e'.stuck)
+      × (live e.ends.net ≡ live e'.ends.net)
+  one_left fuel e e' =
+      let o = one_thread_one (start_net net) (start_net net) e.ends.net e'.ends.net fuel
+      e.ends.journal e'.ends.journal start_is_net start_is_named
+      (same_refl (start_net net)) e.ends.run e'.ends.run in (
+        ap counts_of o.0,
+        one_stuck_count e'.ends.net e.stuck e'.stuck
+            (has_stuck_same e.ends.net e'.ends.net e.stuck o.1 e.counted) e'.counted,
+        same_length e.ends.net e'.ends.net o.1 e.once e'.once,
       )
 
   -- the one-thread run doesn't both end and go on
-  pub left_or_runs_out : (fuel : ℕ) (counts : Counts) (stuck nodes : ℕ) → NetRunsOut net fuel →
-      NetRunEnds net fuel counts stuck nodes → ⊥
-  left_or_runs_out fuel counts stuck nodes r e =
-      complete_or_active (start_net net) (start_net net) e.last r.last fuel e.journal r.journal
+  pub left_or_runs_out : (fuel : ℕ) → RunsOut (start_net net) fuel → RunEnds (start_net net) fuel → ⊥
+  left_or_runs_out fuel r e =
+      complete_or_active (start_net net) (start_net net) e.net r.net fuel e.journal r.journal
       start_is_net start_is_named (same_refl (start_net net)) e.run r.run e.complete r.left
+
+  -- what the one-thread run leaves, with as many interactions of each rule and as many nodes
+  pub record Leaves (fuel stuck nodes : ℕ) (counts : Counts) : Type 0 where
+    pub left : NetRunEnds net fuel
+    pub counted : counts_of left.ends.journal ≡ counts
+    pub has_stuck : left.stuck ≡ stuck
+    pub size : live left.ends.net ≡ nodes
 
   -- a complete run within the fuel tells what the one-thread run leaves
   any_run_leaves : (fuel stuck : ℕ) (journal : List Entry) (last listed : NamedNet NodeName) →
       IsRun (start_net net) 0 journal last → IsComplete last → length journal ≤ fuel →
       SameNet last listed → IsNet listed → ListsOnce listed → HasStuck listed stuck →
-      NetRunEnds net fuel (counts_of journal) stuck (live listed)
+      Leaves fuel stuck (live listed) (counts_of journal)
   any_run_leaves fuel stuck journal last other run complete within alike other_net other_once counted =
       let N = start_net net in
       let o = one_thread_exists N fuel start_is_net start_is_named in
@@ -90,29 +97,36 @@ module _ (net : Graph) (is_net : IsNet (net_of net)) where
       let size : live other ≡ live listed = sym
       (length-map other.nodes (λ (n : NodeName × Kind × ℕ). (a.names n.0, n.1, n.2))) in
       record {
-        journal = o.0;
-        last = e.net;
-        run = record { leads = e.leads; within = o.2.within; ended = inl c };
-        complete = c;
-        once = e.once;
-        counted = sym a.counts;
-        has_stuck = has_stuck_same listed e.net stuck e.same
-            (has_stuck_under a.names other other_net apart stuck counted);
-        size = size ∙ same_length listed e.net e.same once e.once;
+        left = record {
+          ends = record {
+            journal = o.0;
+            net = e.net;
+            run = record { leads = e.leads; within = o.2.within; ended = inl c };
+            complete = c;
+          };
+          once = e.once;
+          stuck = stuck;
+          counted = has_stuck_same listed e.net stuck e.same
+              (has_stuck_under a.names other other_net apart stuck counted);
+        };
+        counted = a.counts;
+        has_stuck = refl;
+        size = sym (size ∙ same_length listed e.net e.same once e.once);
       }
 
   any_run_goes_on : (fuel : ℕ) (journal : List Entry) (last : NamedNet NodeName) →
-      IsRun (start_net net) 0 journal last → HasActive last → length journal ≡ fuel → NetRunsOut net fuel
+      IsRun (start_net net) 0 journal last → HasActive last → length journal ≡ fuel →
+      RunsOut (start_net net) fuel
   any_run_goes_on fuel journal last run active full =
       let N = start_net net in
       let o = one_thread_exists N fuel start_is_net start_is_named in
       let d = spent_tells N last o.1 fuel journal o.0 start_is_net start_is_named run active full o.2 in
-      record { journal = o.0; last = o.1; run = o.2; full = d.1; left = d.0 }
+      record { journal = o.0; net = o.1; run = o.2; full = d.1; left = d.0 }
 
   -- ---- the workers' run
 
   module _ (fuel seats : ℕ) (journal : List Entry) (w : ClosedTable) where
-    pub spent_goes_on : IsSpent net fuel seats journal w → NetRunsOut net fuel
+    pub spent_goes_on : IsSpent net fuel seats journal w → RunsOut (start_net net) fuel
     spent_goes_on d =
         let run : IsRun (start_net net) 0 (journal_of w) d.last_net = subst
         (λ (g : Graph). IsRun (start_net g) 0 (journal_of w) d.last_net) d.table.1 d.after in
@@ -129,13 +143,13 @@ module _ (net : Graph) (is_net : IsNet (net_of net)) where
           (subst (λ (g : Graph). IsRun (start_net g) 0 (journal_of w) d.last_net) d.table.1 d.after)
 
       pub done_leaves : (stuck : ℕ) → IsNet (net_of last) → HasStuck (net_of last) stuck →
-          NetRunEnds net fuel (counts_of journal) stuck (live (net_of last))
+          Leaves fuel stuck (live (net_of last)) (counts_of journal)
       done_leaves stuck n counted =
           let f = d.frozen in
           let named = net_under f.names (net_of last) in
           let size : live named ≡ live (net_of last) = length-map (net_of last).nodes
           (λ (n : ℕ × Kind × ℕ). (f.names n.0, n.1, n.2)) in
-          subst (λ n. NetRunEnds net fuel (counts_of journal) stuck n) size
+          subst (λ n. Leaves fuel stuck n (counts_of journal)) size
           (any_run_leaves fuel stuck journal d.last_net named run d.complete d.within
           (same_sym named d.last_net f.same) (named_net f.names (net_of last) n apart)
           (net_under_once f.names (net_of last) apart (net_of_once last))
@@ -159,27 +173,25 @@ module _ (net : Graph) (is_net : IsNet (net_of net)) where
       pub done_prints : (stuck : ℕ) → IsNet (net_of last) → HasStuck (net_of last) stuck →
           IsTable last → live (net_of last) ≤ 200000 → (text : List ℕ) →
           AreLinesOf last (counts_of journal) stuck text → PrintsNet net fuel text
-      done_prints stuck n counted table few text lines = record {
-        counts = counts_of journal;
-        stuck = stuck;
-        nodes = live (net_of last);
-        ends = done_leaves stuck n counted;
-        few = few;
-        rest = lines.pairs ++ net_text last;
-        tells = done_tells_last table lines.pairs lines.told;
-        written = lines.written ∙ append_assoc (counts_text (counts_of journal) stuck) lines.pairs (net_text last);
-      }
+      done_prints stuck n counted table few text lines =
+          let l = done_leaves stuck n counted in
+          let rest = lines.pairs ++ net_text last in
+          record {
+            ends = l.left;
+            few = subst (λ n. n ≤ 200000) (sym l.size) few;
+            rest = rest;
+            tells = done_tells_last table lines.pairs lines.told;
+            written = lines.written
+                ∙ append_assoc (counts_text (counts_of journal) stuck) lines.pairs (net_text last)
+                ∙ ap (λ k. counts_text k stuck ++ rest) (sym l.counted)
+                ∙ ap (λ k. counts_text (counts_of l.left.ends.journal) k ++ rest) (sym l.has_stuck);
+          }
 
       pub done_is_large : (stuck : ℕ) → IsNet (net_of last) → HasStuck (net_of last) stuck →
           200000 < live (net_of last) → IsPastNodes net fuel
-      done_is_large stuck n counted many = record {
-        counts = counts_of journal;
-        stuck = stuck;
-        nodes = live (net_of last);
-        ends = done_leaves stuck n counted;
-        many = many;
-      }
+      done_is_large stuck n counted many =
+          let l = done_leaves stuck n counted in
+          (l.left, subst (λ n. 200000 < n) (sym l.size) many)
 
 pub one_net_is_left : OneNetIsLeft
-one_net_is_left net fuel counts counts' stuck stuck' nodes nodes' is_net e e' = one_left net is_net
-    fuel counts counts' stuck stuck' nodes nodes' e e'
+one_net_is_left net fuel is_net e e' = one_left net is_net fuel e e'

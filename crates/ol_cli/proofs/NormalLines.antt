@@ -8,8 +8,11 @@ use Rattle.ol_parse.specs.Texts.{IsText}
 use Rattle.ol_parse.specs.Numbered.{names_of, number}
 use Rattle.ol_parse.specs.Parsed.{IsFileOf}
 use Rattle.ol_rules.specs.Counting.{counts_of}
-use Rattle.ol_words.specs.Asked.{Asked, run, walk, view, trace, check, gen, demand, certify}
-use Rattle.ol_words.specs.Asked as jobs
+use Rattle.ol_words.specs.declared.jobs.Job.{Job as Asked}
+use Rattle.ol_words.specs.declared.jobs.Job.TheVariants.{Run as run, Walk as walk, View as view}
+use Rattle.ol_words.specs.declared.jobs.Job.TheVariants.{Trace as trace, Check as check, Gen as gen}
+use Rattle.ol_words.specs.declared.jobs.Job.TheVariants.{Demand as demand, Certify as certify}
+use Rattle.ol_words.specs.declared.jobs.Job.TheVariants as jobs
 use Rattle.ol_lines.proofs.Read.{IsPrinted, one_line, line_is_normal_form, lost_has_no_normal_form}
 use Rattle.ol_cli.specs.Texts.{counts_text}
 use Rattle.ol_cli.specs.Sources.{PrintsTree, WalksTree, DemandsTree, TellsTree, WritesTree}
@@ -20,12 +23,12 @@ pub run_printed : {tr : Translation} {source : Named} {fuel heads : ℕ} {text :
 run_printed p = record {
   tree = p.prints.shows.tree;
   line = p.prints.shows.term;
-  rest = counts_text (counts_of p.prints.journal) p.prints.shows.stuck;
+  rest = counts_text (counts_of p.prints.ends.journal) p.prints.shows.stuck;
   shown = p.prints.shows.shown;
   written =
       p.prints.shows.written
       ∙ append_assoc p.prints.shows.term (10 ∷ [])
-      (counts_text (counts_of p.prints.journal) p.prints.shows.stuck);
+      (counts_text (counts_of p.prints.ends.journal) p.prints.shows.stuck);
   says = p.says;
   always = p.always;
   read = p.read_again;
@@ -102,8 +105,8 @@ module _ {bytes : List ℕ} {source : Named} (is : IsText bytes source) (old new
   normal_of (demand tr f q name) k h =
       normal_line is (demand_printed h) (demand tr f q name) old new a
   normal_of (certify tr b w f q name) k h = absurd k
-  normal_of (jobs.net tr from w f name) k h = absurd k
-  normal_of (jobs.equal tr w f q first second) k h = absurd k
+  normal_of (jobs.Net tr from w f name) k h = absurd k
+  normal_of (jobs.Equal tr w f q first second) k h = absurd k
 
   lost_of : (asked : Asked) → PrintsTerm asked →
       TellsTree asked (number source) (names_of source) text →
@@ -126,8 +129,8 @@ module _ {bytes : List ℕ} {source : Named} (is : IsText bytes source) (old new
       first_line is p (TellsOfNone (demand tr f q name) source) old new a
       (lost_has_no_normal_form is p)
   lost_of (certify tr b w f q name) k h = absurd k
-  lost_of (jobs.net tr from w f name) k h = absurd k
-  lost_of (jobs.equal tr w f q first second) k h = absurd k
+  lost_of (jobs.Net tr from w f name) k h = absurd k
+  lost_of (jobs.Equal tr w f q first second) k h = absurd k
 
 pub writes_normal_form : (words : List (String Global)) (bytes : List ℕ)
     (old new : Option (List ℕ)) → WritesTree words bytes old new →

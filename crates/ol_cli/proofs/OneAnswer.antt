@@ -1,4 +1,5 @@
--- The same words and files have one status, and one text as far as the job tells one.
+-- Words that ask for one job, but for the number of its workers, have with the same files one status, and one text as
+-- far as the job tells one.
 use Rattle.std.proofs.Common.{◌≡◌, ◌≢◌, ℕ, ◌<◌, ◌≤◌, Bool, true, false, List, length, Option, Some}
 use Rattle.std.proofs.Common.{refl, sym, ap, ◌∙◌, subst, arith, String, Global}
 use Rattle.ol_term.specs.declared.translations.Translation.{Translation}
@@ -27,8 +28,11 @@ use Rattle.ol_view.proofs.ShownAlike.{live_alike}
 use Rattle.ol_view.specs.declared.answers.Check.{Check}
 use Rattle.ol_view.specs.Checks.{OnlyIsFound}
 use Rattle.ol_words.specs.Texts.{Text}
-use Rattle.ol_words.specs.Asked.{Asked, run, walk, view, trace, check, gen, demand, certify}
-use Rattle.ol_words.specs.Asked as jobs
+use Rattle.ol_words.specs.declared.jobs.Job.{Job as Asked}
+use Rattle.ol_words.specs.declared.jobs.Job.TheVariants.{Run as run, Walk as walk, View as view}
+use Rattle.ol_words.specs.declared.jobs.Job.TheVariants.{Trace as trace, Check as check, Gen as gen}
+use Rattle.ol_words.specs.declared.jobs.Job.TheVariants.{Demand as demand, Certify as certify}
+use Rattle.ol_words.specs.declared.jobs.Job.TheVariants as jobs
 use Rattle.ol_cli.specs.declared.status.Status.{Status}
 use Rattle.ol_cli.specs.declared.status.Status.TheVariants.{Done, Usage, Syntax, Spent, ReadFault}
 use Rattle.ol_cli.specs.declared.status.Status.TheVariants.{WriteFault, NoMemory, Limit, BadNet}
@@ -71,9 +75,9 @@ refused_texts (check tr term journal) x x' e = (e, e)
 refused_texts (gen tr runs k) x x' e = (e, e)
 refused_texts (demand tr f q name) x x' e = (e, e)
 refused_texts (certify tr b w f q name) x x' e = (e, e)
-refused_texts (jobs.net tr true w f name) x x' e = (e, e)
-refused_texts (jobs.net tr false w f name) x x' e = (e, e)
-refused_texts (jobs.equal tr w f q first second) x x' e = (e, e)
+refused_texts (jobs.Net tr true w f name) x x' e = (e, e)
+refused_texts (jobs.Net tr false w f name) x x' e = (e, e)
+refused_texts (jobs.Equal tr w f q first second) x x' e = (e, e)
 
 -- two answers of a job that are each this limit
 alike_as : (asked : Asked) (s s' : Status) (x x' y : List ℕ) → Same s Limit x y →
@@ -97,7 +101,7 @@ file_net tr bytes t names f = translation_net tr t (length names) (file_names by
 
 -- what a job answers to a term, by cases
 pub data OfTerm (t : Tree) (names : List (List ℕ)) : Asked → Status → List ℕ → Type 0 where
-  spent : {tr : Translation} {w fuel heads : ℕ} {name x : List ℕ} → RunsOut tr t names fuel →
+  spent : {tr : Translation} {w fuel heads : ℕ} {name x : List ℕ} → RunsOut (start_net_of_term tr t names) fuel →
       x ≡ spent_text fuel → OfTerm t names (run tr w fuel heads name) Spent x
   printed : {tr : Translation} {w fuel heads : ℕ} {name x : List ℕ} →
       Prints tr t names fuel heads x → OfTerm t names (run tr w fuel heads name) Done x
@@ -105,7 +109,7 @@ pub data OfTerm (t : Tree) (names : List (List ℕ)) : Asked → Status → List
       OfTerm t names (walk tr edges heads name) Done x
   viewed : {tr : Translation} {after : ℕ} {name x : List ℕ} → Views tr t names after x →
       OfTerm t names (view tr after name) Done x
-  traced : {tr : Translation} {w fuel : ℕ} {name x : List ℕ} → RunEnds tr t names fuel →
+  traced : {tr : Translation} {w fuel : ℕ} {name x : List ℕ} → RunEnds (start_net_of_term tr t names) fuel →
       OfTerm t names (trace tr w fuel name) Done x
   demanded : {tr : Translation} {fuel heads : ℕ} {name x : List ℕ} →
       Demands tr t names fuel heads x → OfTerm t names (demand tr fuel heads name) Done x
@@ -114,11 +118,12 @@ pub data OfTerm (t : Tree) (names : List (List ℕ)) : Asked → Status → List
   certified : {tr : Translation} {b w fuel heads : ℕ} {name x : List ℕ} →
       Certifies tr t names b fuel heads x → OfTerm t names (certify tr b w fuel heads name) Done x
   uncertified : {tr : Translation} {b w fuel heads : ℕ} {name x : List ℕ} →
-      RunsOut tr t names fuel → x ≡ spent_text fuel → OfTerm t names (certify tr b w fuel heads name) Spent x
-  stopped : {tr : Translation} {w fuel : ℕ} {name x : List ℕ} → RunsOut tr t names fuel →
+      RunsOut (start_net_of_term tr t names) fuel → x ≡ spent_text fuel →
+      OfTerm t names (certify tr b w fuel heads name) Spent x
+  stopped : {tr : Translation} {w fuel : ℕ} {name x : List ℕ} → RunsOut (start_net_of_term tr t names) fuel →
       OfTerm t names (trace tr w fuel name) Spent x
   netted : {tr : Translation} {w fuel : ℕ} {name x : List ℕ} → WritesNet tr t names x →
-      OfTerm t names (jobs.net tr true w fuel name) Done x
+      OfTerm t names (jobs.Net tr true w fuel name) Done x
 
 pub of_term : (t : Tree) (names : List (List ℕ)) (a : Asked) (s : Status) (x : List ℕ) →
     TermAnswer a t names s x → OfTerm t names a s x
@@ -178,17 +183,17 @@ of_term t names (certify tr b w fuel heads name) WriteFault x h = absurd h
 of_term t names (certify tr b w fuel heads name) NoMemory x h = absurd h
 of_term t names (certify tr b w fuel heads name) Limit x h = absurd h
 of_term t names (certify tr b w fuel heads name) BadNet x h = absurd h
-of_term t names (jobs.net tr true w f name) Done x h = netted h
-of_term t names (jobs.net tr true w f name) Spent x h = absurd h
-of_term t names (jobs.net tr true w f name) Usage x h = absurd h
-of_term t names (jobs.net tr true w f name) Syntax x h = absurd h
-of_term t names (jobs.net tr true w f name) ReadFault x h = absurd h
-of_term t names (jobs.net tr true w f name) WriteFault x h = absurd h
-of_term t names (jobs.net tr true w f name) NoMemory x h = absurd h
-of_term t names (jobs.net tr true w f name) Limit x h = absurd h
-of_term t names (jobs.net tr true w f name) BadNet x h = absurd h
-of_term t names (jobs.net tr false w f name) s x h = absurd h
-of_term t names (jobs.equal tr w f q first second) s x h = absurd h
+of_term t names (jobs.Net tr true w f name) Done x h = netted h
+of_term t names (jobs.Net tr true w f name) Spent x h = absurd h
+of_term t names (jobs.Net tr true w f name) Usage x h = absurd h
+of_term t names (jobs.Net tr true w f name) Syntax x h = absurd h
+of_term t names (jobs.Net tr true w f name) ReadFault x h = absurd h
+of_term t names (jobs.Net tr true w f name) WriteFault x h = absurd h
+of_term t names (jobs.Net tr true w f name) NoMemory x h = absurd h
+of_term t names (jobs.Net tr true w f name) Limit x h = absurd h
+of_term t names (jobs.Net tr true w f name) BadNet x h = absurd h
+of_term t names (jobs.Net tr false w f name) s x h = absurd h
+of_term t names (jobs.Equal tr w f q first second) s x h = absurd h
 
 -- the net of a term has one text
 one_net_text : (tr : Translation) (t : Tree) (names : List (List ℕ)) (x x' : List ℕ) →
@@ -374,8 +379,8 @@ one_compared tr a a' b b' fuel heads e f x x' y y' text text' (c, h, is) (c', h'
 abbrev IsOnTerm : Asked → Type 0
 IsOnTerm (check translation term journal) = ⊥
 IsOnTerm (gen translation runs k) = ⊥
-IsOnTerm (jobs.net translation false workers fuel name) = ⊥
-IsOnTerm (jobs.equal translation workers fuel heads first second) = ⊥
+IsOnTerm (jobs.Net translation false workers fuel name) = ⊥
+IsOnTerm (jobs.Equal translation workers fuel heads first second) = ⊥
 IsOnTerm _ = Unit {0}
 
 -- a file that is refused has no term within the limits
@@ -500,8 +505,8 @@ module _ (files : Files) where
       (of_file_answer (run tr w fuel heads name) b s x h))
 
   one_equal : (tr : Translation) (w fuel heads : ℕ) (a b : Text) (s s' : Status) (x x' : List ℕ) →
-      JobAnswer files s x (jobs.equal tr w fuel heads a b) →
-      JobAnswer files s' x' (jobs.equal tr w fuel heads a b) → Same s s' x x'
+      JobAnswer files s x (jobs.Equal tr w fuel heads a b) →
+      JobAnswer files s' x' (jobs.Equal tr w fuel heads a b) → Same s s' x x'
   one_equal tr w f q a b s s' x x' (of_file has e h) k = absurd has
   one_equal tr w f q a b s s' x x' (of_first e isnt h) (of_file has e' h') = absurd has
   one_equal tr w f q a b s s' x x' (of_first {bytes = m} e isnt h)
@@ -530,8 +535,8 @@ module _ (files : Files) where
       )
 
   one_of_net_job : (tr : Translation) (w fuel : ℕ) (name : Text) (s s' : Status) (x x' : List ℕ) →
-      JobAnswer files s x (jobs.net tr false w fuel name) →
-      JobAnswer files s' x' (jobs.net tr false w fuel name) → Alike (jobs.net tr false w fuel name) s s' x x'
+      JobAnswer files s x (jobs.Net tr false w fuel name) →
+      JobAnswer files s' x' (jobs.Net tr false w fuel name) → Alike (jobs.Net tr false w fuel name) s s' x x'
   one_of_net_job tr w fuel name s s' x x' (of_file has e h) k = absurd has
   one_of_net_job tr w fuel name s s' x x' (of_net_file e h) (of_file has e' h') = absurd has
   one_of_net_job tr w fuel name s s' x x' (of_net_file {bytes = a} e h) (of_net_file {bytes = b} e' h') =
@@ -553,9 +558,9 @@ module _ (files : Files) where
   one_of_job (check tr term journal) s s' x x' a a' = one_checked tr term journal s s' x x' a a'
   one_of_job (demand tr f q name) s s' x x' a a' = one_on_file (demand tr f q name) tt s s' x x' a a'
   one_of_job (certify tr b w f q name) s s' x x' a a' = one_on_file (certify tr b w f q name) tt s s' x x' a a'
-  one_of_job (jobs.net tr true w f name) s s' x x' a a' = one_on_file (jobs.net tr true w f name) tt s s' x x' a a'
-  one_of_job (jobs.net tr false w f name) s s' x x' a a' = one_of_net_job tr w f name s s' x x' a a'
-  one_of_job (jobs.equal tr w f q first second) s s' x x' a a' = one_equal tr w f q first second s s' x x' a a'
+  one_of_job (jobs.Net tr true w f name) s s' x x' a a' = one_on_file (jobs.Net tr true w f name) tt s s' x x' a a'
+  one_of_job (jobs.Net tr false w f name) s s' x x' a a' = one_of_net_job tr w f name s s' x x' a a'
+  one_of_job (jobs.Equal tr w f q first second) s s' x x' a a' = one_equal tr w f q first second s s' x x' a a'
   one_of_job (gen tr runs k) s s' x x' a a' = one_made tr runs k s s' x x' a a'
 
 -- ---- words and files

@@ -88,42 +88,42 @@ module _ (tr : Translation) (t : Tree) (names : List (List ℕ))
   start_is_named = start.start_named (translation_of tr t (length names))
 
   -- the one-thread run doesn't both end and go on
-  pub ends_or_runs_out : (fuel : ℕ) → RunsOut tr t names fuel → RunEnds tr t names fuel → ⊥
+  pub ends_or_runs_out : (fuel : ℕ) → RunsOut (start_net_of_term tr t names) fuel →
+      RunEnds (start_net_of_term tr t names) fuel → ⊥
   ends_or_runs_out fuel r e =
       complete_or_active (start_net_of_term tr t names)
       (start_net_of_term tr t names) e.net r.net fuel e.journal r.journal start_is_net
       start_is_named (same_refl (start_net_of_term tr t names)) e.run r.run e.complete r.left
 
-  pub ends_or_not : (fuel heads : ℕ) (text : List ℕ) → RunsOut tr t names fuel → Prints tr t names fuel heads text → ⊥
-  ends_or_not fuel heads text r p = ends_or_runs_out fuel r
-      (record { journal = p.journal; net = p.net; run = p.run; complete = p.complete })
+  pub ends_or_not : (fuel heads : ℕ) (text : List ℕ) → RunsOut (start_net_of_term tr t names) fuel →
+      Prints tr t names fuel heads text → ⊥
+  ends_or_not fuel heads text r p = ends_or_runs_out fuel r p.ends
 
   -- and one text is printed of it
   pub one_print : (fuel heads : ℕ) (text text' : List ℕ) → Prints tr t names fuel heads text →
       Prints tr t names fuel heads text' → text ≡ text'
   one_print fuel heads text text' p p' =
       let o = one_thread_one (start_net_of_term tr t names)
-      (start_net_of_term tr t names) p.net p'.net fuel p.journal p'.journal start_is_net
-      start_is_named (same_refl (start_net_of_term tr t names)) p.run p'.run in
-      one_show names heads p'.journal p.net p'.net text text' o.1
-      (subst (λ es. Shows names heads es p.net text) o.0 p.shows) p'.shows
+      (start_net_of_term tr t names) p.ends.net p'.ends.net fuel p.ends.journal p'.ends.journal start_is_net
+      start_is_named (same_refl (start_net_of_term tr t names)) p.ends.run p'.ends.run in
+      one_show names heads p'.ends.journal p.ends.net p'.ends.net text text' o.1
+      (subst (λ es. Shows names heads es p.ends.net text) o.0 p.shows) p'.shows
 
   -- one tree is read from its last net
   pub one_last_tree : (fuel heads : ℕ) (tree tree' : List ReadNode) →
       ReadsLast tr t names fuel heads tree → ReadsLast tr t names fuel heads tree' → tree ≡ tree'
   one_last_tree fuel heads tree tree' p p' =
       let o = one_thread_one (start_net_of_term tr t names)
-      (start_net_of_term tr t names) p.net p'.net fuel p.journal p'.journal start_is_net
-      start_is_named (same_refl (start_net_of_term tr t names)) p.run p'.run in
-      let size : live p.net ≡ live p'.net = same_length p.net p'.net o.1 p.once p'.once in
-      let read = subst (λ n. IsTree p'.net heads (2 * n) tree) size
-      (tree_same p.net p'.net o.1 size heads (2 * live p.net) tree p.read) in
-      tree_is_one p'.net p'.is_net heads (2 * live p'.net) tree tree' read p'.read
+      (start_net_of_term tr t names) p.ends.net p'.ends.net fuel p.ends.journal p'.ends.journal start_is_net
+      start_is_named (same_refl (start_net_of_term tr t names)) p.ends.run p'.ends.run in
+      let size : live p.ends.net ≡ live p'.ends.net = same_length p.ends.net p'.ends.net o.1 p.once p'.once in
+      let read = subst (λ n. IsTree p'.ends.net heads (2 * n) tree) size
+      (tree_same p.ends.net p'.ends.net o.1 size heads (2 * live p.ends.net) tree p.read) in
+      tree_is_one p'.ends.net p'.is_net heads (2 * live p'.ends.net) tree tree' read p'.read
 
-  pub reads_or_runs_out : (fuel heads : ℕ) (tree : List ReadNode) → RunsOut tr t names fuel →
+  pub reads_or_runs_out : (fuel heads : ℕ) (tree : List ReadNode) → RunsOut (start_net_of_term tr t names) fuel →
       ReadsLast tr t names fuel heads tree → ⊥
-  reads_or_runs_out fuel heads tree r p = ends_or_runs_out fuel r
-      (record { journal = p.journal; net = p.net; run = p.run; complete = p.complete })
+  reads_or_runs_out fuel heads tree r p = ends_or_runs_out fuel r p.ends
 
   -- and one verdict is told of it
   pub one_certified : (steps fuel heads : ℕ) (text text' : List ℕ) →
@@ -167,10 +167,10 @@ module _ (tr : Translation) (t : Tree) (names : List (List ℕ))
 pub one_printed_tree : OneTreeIsPrinted
 one_printed_tree tr t names fuel heads text text' is_net p p' =
     let o = one_thread_one (start_net_of_term tr t names)
-    (start_net_of_term tr t names) p.net p'.net fuel p.journal p'.journal
+    (start_net_of_term tr t names) p.ends.net p'.ends.net fuel p.ends.journal p'.ends.journal
     (start_is_net tr t names is_net) (start_is_named tr t names is_net)
-    (same_refl (start_net_of_term tr t names)) p.run p'.run in
-    shows_tree names heads p.journal p'.journal p.net p'.net text text' o.1 p.shows p'.shows
+    (same_refl (start_net_of_term tr t names)) p.ends.run p'.ends.run in
+    shows_tree names heads p.ends.journal p'.ends.journal p.ends.net p'.ends.net text text' o.1 p.shows p'.shows
 
 pub one_walked_tree : OneTreeIsWalked
 one_walked_tree tr t names edges heads text text' is_net w w' = walks_tree tr t names is_net edges heads text text' w w'

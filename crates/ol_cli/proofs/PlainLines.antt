@@ -11,8 +11,10 @@ use Rattle.ol_parse.specs.Numbered.{names_of, number}
 use Rattle.ol_words.specs.Texts.{Text}
 use Rattle.ol_words.specs.Lines.{Line, Known, line_from, line_of, is_dashed, is_end, after_option}
 use Rattle.ol_words.specs.Lines.{option_of, with_name}
-use Rattle.ol_words.specs.Asked.{Asked, run, walk, demand, equal, run_verb, walk_verb, demand_verb}
-use Rattle.ol_words.specs.Asked.{equal_verb, is_input}
+use Rattle.ol_words.specs.declared.jobs.Job.{Job as Asked}
+use Rattle.ol_words.specs.declared.jobs.Job.TheVariants.{Run as run, Walk as walk, Demand as demand}
+use Rattle.ol_words.specs.declared.jobs.Job.TheVariants.{Equal as equal}
+use Rattle.ol_words.specs.Asked.{run_verb, walk_verb, demand_verb, equal_verb, is_input}
 use Rattle.ol_words.specs.Jobs.{job_of, job_on}
 use Rattle.ol_lines.proofs.Read.{line_is_normal_form, lost_has_no_normal_form}
 use Rattle.ol_cli.specs.Jobs.{AskFor, AreTold, TellsFiles, TellsTerm, term_bytes, Files}

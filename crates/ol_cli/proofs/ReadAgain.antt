@@ -9,8 +9,11 @@ use Rattle.ol_parse.proofs.Exact.{one_file}
 use Rattle.ol_readback.specs.Terms.{HasAllHeads, IsReadBack}
 use Rattle.ol_readback.specs.declared.answers.ReadNode.{ReadNode}
 use Rattle.ol_words.specs.Texts.{Text}
-use Rattle.ol_words.specs.Asked.{Asked, run, walk, view, trace, check, gen, demand, certify}
-use Rattle.ol_words.specs.Asked as jobs
+use Rattle.ol_words.specs.declared.jobs.Job.{Job as Asked}
+use Rattle.ol_words.specs.declared.jobs.Job.TheVariants.{Run as run, Walk as walk, View as view}
+use Rattle.ol_words.specs.declared.jobs.Job.TheVariants.{Trace as trace, Check as check, Gen as gen}
+use Rattle.ol_words.specs.declared.jobs.Job.TheVariants.{Demand as demand, Certify as certify}
+use Rattle.ol_words.specs.declared.jobs.Job.TheVariants as jobs
 use Rattle.ol_cli.specs.declared.status.Status.{Status}
 use Rattle.ol_cli.specs.declared.status.Status.TheVariants as status
 use Rattle.ol_cli.specs.Inside.{IsReadWhereTold}
@@ -61,8 +64,8 @@ told_read asked contents read told st text w h e =
 pub file_bytes : (contents : Text → Option (List ℕ)) (asked : Asked) → HasTermFile asked →
     contents (file_name asked) ≡ term_bytes contents asked
 file_bytes contents (gen tr runs k) on = absurd on
-file_bytes contents (jobs.net tr false w f name) on = absurd on
-file_bytes contents (jobs.equal tr w f q first second) on = absurd on
+file_bytes contents (jobs.Net tr false w f name) on = absurd on
+file_bytes contents (jobs.Equal tr w f q first second) on = absurd on
 file_bytes contents _ on = refl
 
 -- by the bytes that are made

@@ -10,7 +10,7 @@ use Rattle.ol_net.specs.Indexes.{top_index_of}
 use Rattle.ol_translate.specs.Sizes.{size_of_translation}
 use Rattle.ol_translate.specs.Translation.{nodes_of, translation_of}
 use Rattle.ol_wire.specs.Closed.{ClosedTable}
-use Rattle.ol_words.specs.Asked.{Asked}
+use Rattle.ol_words.specs.declared.jobs.Job.{Job as Asked}
 use Rattle.ol_cli.specs.declared.status.Status.{Status}
 use Rattle.ol_cli.specs.declared.status.Status.TheVariants.{Done, Usage, Syntax, Spent, ReadFault}
 use Rattle.ol_cli.specs.declared.status.Status.TheVariants.{WriteFault, NoMemory, Limit, BadNet}

@@ -22,8 +22,8 @@ use Rattle.ol_io.specs.Outside.{Appended}
 use Rattle.ol_parse.specs.Parsed.{IsFileOf}
 use Rattle.ol_parse.proofs.Exact.{one_file}
 use Rattle.ol_words.specs.Texts.{Text}
-use Rattle.ol_words.specs.Asked.{Asked}
-use Rattle.ol_words.specs.Asked as jobs
+use Rattle.ol_words.specs.declared.jobs.Job.{Job as Asked}
+use Rattle.ol_words.specs.declared.jobs.Job.TheVariants as jobs
 use Rattle.ol_confluence.specs.Reductions.{Convertible}
 use Rattle.ol_confluence.specs.Compared.{by_bytes, TellsTerms, ArePrinted, IsHeadBesideLost}
 use Rattle.ol_cli.specs.Texts.{line}
@@ -46,11 +46,11 @@ says : (tr : Translation) (t : Tree) (names : List (List ℕ)) (fuel heads : ℕ
     (tree : List ReadNode) → HasNames t (length names) → ReadsLast tr t names fuel heads tree →
     SaysOf t true tree
 says tr t names fuel heads tree has r =
-    let ran = as_run (start_net_of_term tr t names) r.net 0 r.journal r.run.leads in
+    let ran = as_run (start_net_of_term tr t names) r.ends.net 0 r.ends.journal r.ends.run.leads in
     let own =
-    last_places tr t (length names) has r.journal r.net ran r.complete heads (2 * live r.net) tree
+    last_places tr t (length names) has r.ends.journal r.ends.net ran r.ends.complete heads (2 * live r.ends.net) tree
     r.read in
-    let whole = tree_is_whole r.net heads (2 * live r.net) tree r.read in
+    let whole = tree_is_whole r.ends.net heads (2 * live r.ends.net) tree r.read in
     places_say tr t (length names) has true whole.tree tree whole.is_list own
 
 says_of : (tr : Translation) (bytes : List ℕ) (fuel heads : ℕ) (x : HasTree tr bytes fuel heads) →
@@ -61,7 +61,7 @@ says_of tr bytes fuel heads x =
 is_whole : (tr : Translation) (bytes : List ℕ) (fuel heads : ℕ) (x : HasTree tr bytes fuel heads) →
     IsWholeTree x.tree
 is_whole tr bytes fuel heads x =
-    tree_is_whole x.read.net heads (2 * live x.read.net) x.tree x.read.read
+    tree_is_whole x.read.ends.net heads (2 * live x.read.ends.net) x.tree x.read.read
 
 are_printed : (tr : Translation) (bytes bytes' : List ℕ) (fuel heads : ℕ)
     (x : HasTree tr bytes fuel heads) (y : HasTree tr bytes' fuel heads) →
@@ -137,8 +137,8 @@ module _ (tr : Translation) (a b : List ℕ) (fuel heads : ℕ) (x : HasTree tr 
 
 compares : (files : Files) (tr : Translation) (w fuel heads : ℕ) (a b : Text)
     (old new : Option (List ℕ)) (s : Status) (text : List ℕ) → s ≡ Done →
-    Appended old text new → JobAnswer files s text (jobs.equal tr w fuel heads a b) →
-    TellsSources (jobs.equal tr w fuel heads a b) files old new
+    Appended old text new → JobAnswer files s text (jobs.Equal tr w fuel heads a b) →
+    TellsSources (jobs.Equal tr w fuel heads a b) files old new
 compares files tr w fuel heads a b old new s text done ap (of_file has e h) = absurd has
 compares files tr w fuel heads a b old new s text done ap (of_first e isnt h) = absurd (isnt done)
 compares files tr w fuel heads a b old new s text done ap (of_second e x d isnt h) =
@@ -158,11 +158,11 @@ compares files tr w fuel heads a b old new s text done ap
 
 certifies : (files : Files) (tr : Translation) (b w fuel heads : ℕ) (name : Text)
     (old new : Option (List ℕ)) (s : Status) (text : List ℕ) → s ≡ Done → Appended old text new →
-    JobAnswer files s text (jobs.certify tr b w fuel heads name) →
-    TellsSources (jobs.certify tr b w fuel heads name) files old new
+    JobAnswer files s text (jobs.Certify tr b w fuel heads name) →
+    TellsSources (jobs.Certify tr b w fuel heads name) files old new
 certifies files tr b w fuel heads name old new s text done ap (of_file {bytes = m} has e h) =
     λ m' e' t names f.
-    let x = subst (λ s. FileAnswer (jobs.certify tr b w fuel heads name) m s text) done h in
+    let x = subst (λ s. FileAnswer (jobs.Certify tr b w fuel heads name) m s text) done h in
     let p = same_bytes (files 0 name) m' m e' e in
     let q = one_file m x.0 t x.1 names x.2.file (subst (λ k. IsFileOf k t names) p f) in
     let c =
@@ -178,9 +178,9 @@ certifies files tr b w fuel heads name old new s text done ap (of_file {bytes = 
 by_job : (files : Files) (old new : Option (List ℕ)) (s : Status) (text : List ℕ) →
     s ≡ Done → Appended old text new → (asked : Asked) → JobAnswer files s text asked →
     TellsSources asked files old new
-by_job files old new s text done ap (jobs.equal tr w fuel heads a b) h =
+by_job files old new s text done ap (jobs.Equal tr w fuel heads a b) h =
     compares files tr w fuel heads a b old new s text done ap h
-by_job files old new s text done ap (jobs.certify tr b w f q name) h =
+by_job files old new s text done ap (jobs.Certify tr b w f q name) h =
     certifies files tr b w f q name old new s text done ap h
 by_job files old new s text done ap _ h = tt
 

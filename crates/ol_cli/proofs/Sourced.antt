@@ -34,7 +34,9 @@ use Rattle.ol_levels.proofs.Terms.{term_is_levelled}
 use Rattle.ol_meaning.proofs.Based.{places_say}
 use Rattle.ol_confluence.proofs.PrintedTrees.{says_always}
 use Rattle.ol_words.specs.Texts.{Text}
-use Rattle.ol_words.specs.Asked.{Asked, run, walk, gen, demand}
+use Rattle.ol_words.specs.declared.jobs.Job.{Job as Asked}
+use Rattle.ol_words.specs.declared.jobs.Job.TheVariants.{Run as run, Walk as walk, Gen as gen}
+use Rattle.ol_words.specs.declared.jobs.Job.TheVariants.{Demand as demand}
 use Rattle.ol_cli.specs.declared.status.Status.{Status}
 use Rattle.ol_cli.specs.declared.status.Status.TheVariants as status
 use Rattle.ol_cli.specs.Jobs.{AskFor, Files, AreTold, TellsTerm, TellsFiles, term_bytes, translation_in}
@@ -62,11 +64,11 @@ prints_tree : (tr : Translation) (t : Tree) (names : List (List ℕ)) (fuel head
 prints_tree tr t names fuel heads text has p read =
     let s = p.shows in
     let N = translation_of tr t (length names) in
-    let ran = as_run (start_net_of_term tr t names) p.net 0 p.journal p.run.leads in
-    let asked = last_tree_tells tr t (length names) has p.journal p.net ran p.complete heads
-    (2 * live p.net) s.tree (omega arith) s.read in
+    let ran = as_run (start_net_of_term tr t names) p.ends.net 0 p.ends.journal p.ends.run.leads in
+    let asked = last_tree_tells tr t (length names) has p.ends.journal p.ends.net ran p.ends.complete heads
+    (2 * live p.ends.net) s.tree (omega arith) s.read in
     let own = asked_heads N heads s.tree asked in
-    let whole = tree_is_whole p.net heads (2 * live p.net) s.tree s.read in
+    let whole = tree_is_whole p.ends.net heads (2 * live p.ends.net) s.tree s.read in
     let says = places_say tr t (length names) has true whole.tree s.tree whole.is_list own
     in
     record {

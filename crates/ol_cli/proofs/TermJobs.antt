@@ -7,8 +7,11 @@ use Rattle.ol_term.specs.declared.translations.Translation.{Translation}
 use Rattle.ol_net.specs.Graph.{Graph}
 use Rattle.ol_wire.specs.Closed.{ClosedTable}
 use Rattle.ol_words.specs.Texts.{Text}
-use Rattle.ol_words.specs.Asked.{Asked, run, walk, view, trace, check, gen, demand, certify}
-use Rattle.ol_words.specs.Asked as jobs
+use Rattle.ol_words.specs.declared.jobs.Job.{Job as Asked}
+use Rattle.ol_words.specs.declared.jobs.Job.TheVariants.{Run as run, Walk as walk, View as view}
+use Rattle.ol_words.specs.declared.jobs.Job.TheVariants.{Trace as trace, Check as check, Gen as gen}
+use Rattle.ol_words.specs.declared.jobs.Job.TheVariants.{Demand as demand, Certify as certify}
+use Rattle.ol_words.specs.declared.jobs.Job.TheVariants as jobs
 use Rattle.ol_cli.specs.declared.answer.Answer.{Answer}
 use Rattle.ol_cli.specs.declared.ready.Ready.TheVariants as ready
 use Rattle.ol_cli.specs.declared.status.Status.{Status}
@@ -74,8 +77,8 @@ job_hands : (asked : Asked) → HasTermFile asked → (s : Seen) (st : Status) (
     (closed : Option ClosedTable) → ReadHands asked s st text closed → JobHands asked s st text closed
 job_hands (check tr term journal) has s st text closed h = h.2.3
 job_hands (gen tr runs k) has s st text closed h = absurd has
-job_hands (jobs.net tr false w f name) has s st text closed h = absurd has
-job_hands (jobs.equal tr w f q first second) has s st text closed h = absurd has
+job_hands (jobs.Net tr false w f name) has s st text closed h = absurd has
+job_hands (jobs.Equal tr w f q first second) has s st text closed h = absurd has
 job_hands _ has s st text closed h = h
 
 pub term_comes : (asked : Asked) → HasTermFile asked → (s : Seen) (net : Graph) (file : TermFile) →
@@ -108,7 +111,7 @@ term_comes asked has s net file (same, (bytes, gave, i)) a h read closed =
 pub net_comes : (tr : Translation) (workers fuel : ℕ) (name : Text) (s : Seen) (a : Answer) →
     CauseOf s most_net_bytes net_bytes_text name (NetFileAnswer fuel) a.status a.text.items →
     a.closed ≡ None →
-    ComesOf (jobs.net tr false workers fuel name) s a
+    ComesOf (jobs.Net tr false workers fuel name) s a
 net_comes tr workers fuel name s a cause e = record {
   caused = by_net_file cause;
   read = λ bytes told. absurd (cc);

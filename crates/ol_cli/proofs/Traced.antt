@@ -93,7 +93,7 @@ module _ (tr : Translation) (t : Tree) (names : List (List ℕ)) (start : Graph)
       }
 
   -- the one-thread run ends within the fuel
-  pub done_ends : (last : Graph) → IsDone start fuel seats last journal w → RunEnds tr t names fuel
+  pub done_ends : (last : Graph) → IsDone start fuel seats last journal w → RunEnds (start_net_of_term tr t names) fuel
   done_ends last d =
       let T = translation_of tr t (length names) in
       let c = done_traces last d in

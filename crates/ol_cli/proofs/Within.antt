@@ -3,13 +3,18 @@ use Rattle.std.proofs.Common.{◌≡◌, ℕ, ◌≤◌, ◌==◌, Bool, true, f
 use Rattle.std.proofs.Common.{◌∷◌, Option, None, Some, option_map, option_and_then, nat_le, refl}
 use Rattle.std.proofs.Common.{subst, arith}
 use Rattle.std.proofs.lemmas.Bool.Decides.{nat_tests}
+use Rattle.std.specs.Str.Parse.{digits_value}
 use Rattle.ol_words.specs.Texts.{Text}
 use Rattle.ol_words.specs.Lines.{Line, line_of}
-use Rattle.ol_words.specs.Numbers.{Limits, number_in, number_within, is_number, setting}
-use Rattle.ol_words.specs.Asked.{Asked, run, walk, view, trace, check, gen, demand, certify, net}
-use Rattle.ol_words.specs.Asked.{equal, Verb, run_verb, walk_verb, view_verb, trace_verb}
-use Rattle.ol_words.specs.Asked.{check_verb, gen_verb, demand_verb, certify_verb, net_verb}
-use Rattle.ol_words.specs.Asked.{equal_verb, numbered, doublings, is_input, asks}
+use Rattle.ol_words.specs.Numbers.{Limits, from_to, number_within, is_number, setting}
+use Rattle.ol_words.specs.declared.jobs.Job.{Job as Asked}
+use Rattle.ol_words.specs.declared.jobs.Job.TheVariants.{Run as run, Walk as walk, View as view}
+use Rattle.ol_words.specs.declared.jobs.Job.TheVariants.{Trace as trace, Check as check, Gen as gen}
+use Rattle.ol_words.specs.declared.jobs.Job.TheVariants.{Demand as demand, Certify as certify}
+use Rattle.ol_words.specs.declared.jobs.Job.TheVariants.{Net as net, Equal as equal}
+use Rattle.ol_words.specs.Asked.{Verb, run_verb, walk_verb, view_verb, trace_verb, check_verb}
+use Rattle.ol_words.specs.Asked.{gen_verb, demand_verb, certify_verb, net_verb, equal_verb}
+use Rattle.ol_words.specs.Asked.{numbered, is_input, asks}
 use Rattle.ol_words.specs.Jobs.{Setting, setting_row, verb_row, verb_named, known_of, values_of}
 use Rattle.ol_words.specs.Jobs.{number_on, numbers, job_on, job_behind, job_of}
 use Rattle.ol_words.specs.Jobs as set
@@ -43,9 +48,9 @@ setting_within : (l : Limits) (values : List Text) (n : ℕ) → IsWithin l l.de
     setting l values ≡ Some n → IsWithin l n
 setting_within l [] n d h = let e : l.default ≡ n = cc in subst (IsWithin l) e d
 setting_within l (value ∷ []) n d h =
-    let t = three (is_number value) (nat_le l.least (number_in value))
-    (nat_le (number_in value) l.most) (number_in value) n h in
-    subst (IsWithin l) t.2 (le_of l.least (number_in value) t.0, le_of (number_in value) l.most t.1)
+    let t = three (is_number value) (nat_le l.least (digits_value 10 value))
+    (nat_le (digits_value 10 value) l.most) (digits_value 10 value) n h in
+    subst (IsWithin l) t.2 (le_of l.least (digits_value 10 value) t.0, le_of (digits_value 10 value) l.most t.1)
 setting_within l (value ∷ again ∷ more) n d h = absurd (cc)
 
 -- what a setting is where it isn't given
@@ -96,15 +101,19 @@ two_files false job asked h = cc
 nothing : (asked : Asked) → ◌≡◌ {A = Option Asked} None (Some asked) → ⊥
 nothing asked h = cc
 
+-- how often a term may be doubled
+abbrev doublings : Limits
+doublings = from_to 0 10 0
+
 doubled_within : (asked : ℕ → Asked) (text : Text) (a : Asked) →
     ((k : ℕ) → k ≤ 10 → IsWithinLimits (asked k)) →
     option_map asked (number_within doublings text) ≡ Some a → IsWithinLimits a
 doubled_within asked text a each h =
     let is = map_some asked (number_within doublings text) a h in
-    let t = three (is_number text) (nat_le doublings.least (number_in text))
-    (nat_le (number_in text) doublings.most) (number_in text) is.0 is.1 in
+    let t = three (is_number text) (nat_le doublings.least (digits_value 10 text))
+    (nat_le (digits_value 10 text) doublings.most) (digits_value 10 text) is.0 is.1 in
     subst IsWithinLimits {x = asked is.0} is.2
-    (each is.0 (subst (λ k. k ≤ 10) t.2 (le_of (number_in text) doublings.most t.1)))
+    (each is.0 (subst (λ k. k ≤ 10) t.2 (le_of (digits_value 10 text) doublings.most t.1)))
 
 asked_within : (v : Verb) (ns : List ℕ) (names : List Text) (asked : Asked) →
     AreWithin (verb_row v).settings ns → asks v ns names ≡ Some asked → IsWithinLimits asked

@@ -13,7 +13,7 @@ use Rattle.ol_reduce.specs.Reduced.{IsDone, IsSpent}
 use Rattle.ol_readback.specs.declared.answers.ReadNode.{ReadNode}
 use Rattle.ol_cli.specs.declared.status.Status.TheVariants as status
 use Rattle.ol_cli.specs.Texts.{spent_text}
-use Rattle.ol_cli.specs.Run.{RunsOut, Prints}
+use Rattle.ol_cli.specs.Run.{RunsOut, Prints, start_net_of_term}
 use Rattle.ol_cli.specs.Run.{journal_of, RunHands}
 use Rattle.ol_cli.proofs.Evaluated.{Told, runs_out, ports_kept, prints_work, prints_with}
 
@@ -24,7 +24,7 @@ module _ (tr : Translation) (t : Tree) (names : List (List ℕ)) (start : Graph)
     full : length (journal_of w) ≡ fuel
     full = sym (ap length d.read) ∙ d.steps
 
-    pub spent_answer : IsNet (net_of start) → RunsOut tr t names fuel
+    pub spent_answer : IsNet (net_of start) → RunsOut (start_net_of_term tr t names) fuel
     spent_answer n = runs_out tr t names start same fuel seats w d.table d.last_net d.after n d.active full
 
     pub spent_hands : (text : List ℕ) → NoNodeTwice (journal_of w) → text ≡ spent_text fuel →
@@ -34,7 +34,8 @@ module _ (tr : Translation) (t : Tree) (names : List (List ℕ)) (start : Graph)
       refl,
       d.last_net,
       record { start = start; same = same; table = d.table; after = d.after; once = once },
-      record { full = full; left = d.active; written = e },
+      (d.active, full),
+      e,
     )
 
   module _ (last : Graph) (d : IsDone start fuel seats last journal w) where
@@ -60,6 +61,7 @@ module _ (tr : Translation) (t : Tree) (names : List (List ℕ)) (start : Graph)
         refl,
         d.last_net,
         record { start = start; same = same; table = d.table; after = d.after; once = once },
+        (d.complete, within),
         prints_work tr t names start same fuel seats w d.table d.last_net d.after last d.frozen
             heads stuck tree term text own_told within d.complete,
       )

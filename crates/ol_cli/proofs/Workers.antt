@@ -4,8 +4,8 @@
 use Rattle.std.proofs.Common.{◌≡◌, ℕ, true, false, List, Option, None, Some, String, Global}
 use Rattle.std.proofs.Common.{option_map, sym, ap, ◌∙◌, subst}
 use Rattle.ol_words.specs.Texts.{texts_of}
-use Rattle.ol_words.specs.Asked.{Asked}
-use Rattle.ol_words.specs.Asked as jobs
+use Rattle.ol_words.specs.declared.jobs.Job.{Job as Asked}
+use Rattle.ol_words.specs.declared.jobs.Job.TheVariants as jobs
 use Rattle.ol_words.specs.Jobs.{job_of}
 use Rattle.ol_cli.specs.declared.status.Status.{Status}
 use Rattle.ol_cli.specs.declared.status.Status.TheVariants as status
@@ -25,79 +25,79 @@ file_unseen n asked bytes st text h = go asked st h
   where
     go : (asked : Asked) (st : Status) → FileAnswer asked bytes st text →
         FileAnswer (with_workers n asked) bytes st text
-    go (jobs.run tr w f q name) status.Limit h = h
-    go (jobs.run tr w f q name) status.Syntax h = h
-    go (jobs.run tr w f q name) status.Usage h = h
-    go (jobs.run tr w f q name) status.Done h = h
-    go (jobs.run tr w f q name) status.Spent h = h
-    go (jobs.run tr w f q name) status.ReadFault h = h
-    go (jobs.run tr w f q name) status.WriteFault h = h
-    go (jobs.run tr w f q name) status.NoMemory h = h
-    go (jobs.run tr w f q name) status.BadNet h = h
-    go (jobs.trace tr w f name) status.Limit h = h
-    go (jobs.trace tr w f name) status.Syntax h = h
-    go (jobs.trace tr w f name) status.Usage h = h
-    go (jobs.trace tr w f name) status.Done h = h
-    go (jobs.trace tr w f name) status.Spent h = h
-    go (jobs.trace tr w f name) status.ReadFault h = h
-    go (jobs.trace tr w f name) status.WriteFault h = h
-    go (jobs.trace tr w f name) status.NoMemory h = h
-    go (jobs.trace tr w f name) status.BadNet h = h
-    go (jobs.certify tr b w f q name) status.Limit h = h
-    go (jobs.certify tr b w f q name) status.Syntax h = h
-    go (jobs.certify tr b w f q name) status.Usage h = h
-    go (jobs.certify tr b w f q name) status.Done h = h
-    go (jobs.certify tr b w f q name) status.Spent h = h
-    go (jobs.certify tr b w f q name) status.ReadFault h = h
-    go (jobs.certify tr b w f q name) status.WriteFault h = h
-    go (jobs.certify tr b w f q name) status.NoMemory h = h
-    go (jobs.certify tr b w f q name) status.BadNet h = h
-    go (jobs.net tr true w f name) status.Limit h = h
-    go (jobs.net tr true w f name) status.Syntax h = h
-    go (jobs.net tr true w f name) status.Usage h = h
-    go (jobs.net tr true w f name) status.Done h = h
-    go (jobs.net tr true w f name) status.Spent h = h
-    go (jobs.net tr true w f name) status.ReadFault h = h
-    go (jobs.net tr true w f name) status.WriteFault h = h
-    go (jobs.net tr true w f name) status.NoMemory h = h
-    go (jobs.net tr true w f name) status.BadNet h = h
-    go (jobs.net tr false w f name) status.Limit h = h
-    go (jobs.net tr false w f name) status.Syntax h = h
-    go (jobs.net tr false w f name) status.Usage h = absurd h.3
-    go (jobs.net tr false w f name) status.Done h = absurd h.3
-    go (jobs.net tr false w f name) status.Spent h = absurd h.3
-    go (jobs.net tr false w f name) status.ReadFault h = absurd h.3
-    go (jobs.net tr false w f name) status.WriteFault h = absurd h.3
-    go (jobs.net tr false w f name) status.NoMemory h = absurd h.3
-    go (jobs.net tr false w f name) status.BadNet h = absurd h.3
-    go (jobs.equal tr w f q a b) status.Limit h = h
-    go (jobs.equal tr w f q a b) status.Syntax h = h
-    go (jobs.equal tr w f q a b) status.Usage h = absurd h.3
-    go (jobs.equal tr w f q a b) status.Done h = absurd h.3
-    go (jobs.equal tr w f q a b) status.Spent h = absurd h.3
-    go (jobs.equal tr w f q a b) status.ReadFault h = absurd h.3
-    go (jobs.equal tr w f q a b) status.WriteFault h = absurd h.3
-    go (jobs.equal tr w f q a b) status.NoMemory h = absurd h.3
-    go (jobs.equal tr w f q a b) status.BadNet h = absurd h.3
+    go (jobs.Run tr w f q name) status.Limit h = h
+    go (jobs.Run tr w f q name) status.Syntax h = h
+    go (jobs.Run tr w f q name) status.Usage h = h
+    go (jobs.Run tr w f q name) status.Done h = h
+    go (jobs.Run tr w f q name) status.Spent h = h
+    go (jobs.Run tr w f q name) status.ReadFault h = h
+    go (jobs.Run tr w f q name) status.WriteFault h = h
+    go (jobs.Run tr w f q name) status.NoMemory h = h
+    go (jobs.Run tr w f q name) status.BadNet h = h
+    go (jobs.Trace tr w f name) status.Limit h = h
+    go (jobs.Trace tr w f name) status.Syntax h = h
+    go (jobs.Trace tr w f name) status.Usage h = h
+    go (jobs.Trace tr w f name) status.Done h = h
+    go (jobs.Trace tr w f name) status.Spent h = h
+    go (jobs.Trace tr w f name) status.ReadFault h = h
+    go (jobs.Trace tr w f name) status.WriteFault h = h
+    go (jobs.Trace tr w f name) status.NoMemory h = h
+    go (jobs.Trace tr w f name) status.BadNet h = h
+    go (jobs.Certify tr b w f q name) status.Limit h = h
+    go (jobs.Certify tr b w f q name) status.Syntax h = h
+    go (jobs.Certify tr b w f q name) status.Usage h = h
+    go (jobs.Certify tr b w f q name) status.Done h = h
+    go (jobs.Certify tr b w f q name) status.Spent h = h
+    go (jobs.Certify tr b w f q name) status.ReadFault h = h
+    go (jobs.Certify tr b w f q name) status.WriteFault h = h
+    go (jobs.Certify tr b w f q name) status.NoMemory h = h
+    go (jobs.Certify tr b w f q name) status.BadNet h = h
+    go (jobs.Net tr true w f name) status.Limit h = h
+    go (jobs.Net tr true w f name) status.Syntax h = h
+    go (jobs.Net tr true w f name) status.Usage h = h
+    go (jobs.Net tr true w f name) status.Done h = h
+    go (jobs.Net tr true w f name) status.Spent h = h
+    go (jobs.Net tr true w f name) status.ReadFault h = h
+    go (jobs.Net tr true w f name) status.WriteFault h = h
+    go (jobs.Net tr true w f name) status.NoMemory h = h
+    go (jobs.Net tr true w f name) status.BadNet h = h
+    go (jobs.Net tr false w f name) status.Limit h = h
+    go (jobs.Net tr false w f name) status.Syntax h = h
+    go (jobs.Net tr false w f name) status.Usage h = absurd h.3
+    go (jobs.Net tr false w f name) status.Done h = absurd h.3
+    go (jobs.Net tr false w f name) status.Spent h = absurd h.3
+    go (jobs.Net tr false w f name) status.ReadFault h = absurd h.3
+    go (jobs.Net tr false w f name) status.WriteFault h = absurd h.3
+    go (jobs.Net tr false w f name) status.NoMemory h = absurd h.3
+    go (jobs.Net tr false w f name) status.BadNet h = absurd h.3
+    go (jobs.Equal tr w f q a b) status.Limit h = h
+    go (jobs.Equal tr w f q a b) status.Syntax h = h
+    go (jobs.Equal tr w f q a b) status.Usage h = absurd h.3
+    go (jobs.Equal tr w f q a b) status.Done h = absurd h.3
+    go (jobs.Equal tr w f q a b) status.Spent h = absurd h.3
+    go (jobs.Equal tr w f q a b) status.ReadFault h = absurd h.3
+    go (jobs.Equal tr w f q a b) status.WriteFault h = absurd h.3
+    go (jobs.Equal tr w f q a b) status.NoMemory h = absurd h.3
+    go (jobs.Equal tr w f q a b) status.BadNet h = absurd h.3
     go _ st h = h
 
 pub workers_unseen : WorkersAreNotSeen
-workers_unseen n (jobs.run tr w f q name) files st text (of_file {bytes = m} has e h) =
-    of_file has e (file_unseen n (jobs.run tr w f q name) m st text h)
-workers_unseen n (jobs.trace tr w f name) files st text (of_file {bytes = m} has e h) =
-    of_file has e (file_unseen n (jobs.trace tr w f name) m st text h)
-workers_unseen n (jobs.certify tr b w f q name) files st text (of_file {bytes = m} has e h) =
-    of_file has e (file_unseen n (jobs.certify tr b w f q name) m st text h)
-workers_unseen n (jobs.net tr true w f name) files st text (of_file {bytes = m} has e h) =
-    of_file has e (file_unseen n (jobs.net tr true w f name) m st text h)
-workers_unseen n (jobs.net tr false w f name) files st text (of_file has e h) = absurd has
-workers_unseen n (jobs.net tr false w f name) files st text (of_net_file e h) = of_net_file e h
-workers_unseen n (jobs.equal tr w f q a b) files st text (of_file has e h) = absurd has
-workers_unseen n (jobs.equal tr w f q a b) files st text (of_first {bytes = m} e isnt h) =
-    of_first e isnt (file_unseen n (jobs.run tr w f q a) m st text h)
-workers_unseen n (jobs.equal tr w f q a b) files st text (of_second {bytes' = m} e t d isnt h) =
-    of_second e t d isnt (file_unseen n (jobs.run tr w f q b) m st text h)
-workers_unseen n (jobs.equal tr w f q a b) files st text (of_both e t d u is h) =
+workers_unseen n (jobs.Run tr w f q name) files st text (of_file {bytes = m} has e h) =
+    of_file has e (file_unseen n (jobs.Run tr w f q name) m st text h)
+workers_unseen n (jobs.Trace tr w f name) files st text (of_file {bytes = m} has e h) =
+    of_file has e (file_unseen n (jobs.Trace tr w f name) m st text h)
+workers_unseen n (jobs.Certify tr b w f q name) files st text (of_file {bytes = m} has e h) =
+    of_file has e (file_unseen n (jobs.Certify tr b w f q name) m st text h)
+workers_unseen n (jobs.Net tr true w f name) files st text (of_file {bytes = m} has e h) =
+    of_file has e (file_unseen n (jobs.Net tr true w f name) m st text h)
+workers_unseen n (jobs.Net tr false w f name) files st text (of_file has e h) = absurd has
+workers_unseen n (jobs.Net tr false w f name) files st text (of_net_file e h) = of_net_file e h
+workers_unseen n (jobs.Equal tr w f q a b) files st text (of_file has e h) = absurd has
+workers_unseen n (jobs.Equal tr w f q a b) files st text (of_first {bytes = m} e isnt h) =
+    of_first e isnt (file_unseen n (jobs.Run tr w f q a) m st text h)
+workers_unseen n (jobs.Equal tr w f q a b) files st text (of_second {bytes' = m} e t d isnt h) =
+    of_second e t d isnt (file_unseen n (jobs.Run tr w f q b) m st text h)
+workers_unseen n (jobs.Equal tr w f q a b) files st text (of_both e t d u is h) =
     of_both e t d u is h
 workers_unseen n _ files st text h = h
 
@@ -105,33 +105,33 @@ workers_unseen n _ files st text h = h
 
 text_seen : (n : ℕ) (asked : Asked) (s : Status) (x x' : List ℕ) →
     HaveOneText (with_workers n asked) s x x' → HaveOneText asked s x x'
-text_seen n (jobs.run tr w f q name) s x x' h = h
-text_seen n (jobs.walk tr e q name) s x x' h = h
-text_seen n (jobs.view tr k name) s x x' h = h
-text_seen n (jobs.trace tr w f name) status.Done x x' h = tt
-text_seen n (jobs.trace tr w f name) status.Spent x x' h = tt
-text_seen n (jobs.trace tr w f name) status.Limit x x' h = h
-text_seen n (jobs.trace tr w f name) status.Syntax x x' h = h
-text_seen n (jobs.trace tr w f name) status.Usage x x' h = h
-text_seen n (jobs.trace tr w f name) status.ReadFault x x' h = h
-text_seen n (jobs.trace tr w f name) status.WriteFault x x' h = h
-text_seen n (jobs.trace tr w f name) status.NoMemory x x' h = h
-text_seen n (jobs.trace tr w f name) status.BadNet x x' h = h
-text_seen n (jobs.check tr term journal) s x x' h = h
-text_seen n (jobs.gen tr runs k) s x x' h = h
-text_seen n (jobs.demand tr f q name) s x x' h = h
-text_seen n (jobs.certify tr b w f q name) s x x' h = h
-text_seen n (jobs.net tr true w f name) s x x' h = h
-text_seen n (jobs.net tr false w f name) status.Done x x' h = h
-text_seen n (jobs.net tr false w f name) status.Spent x x' h = h
-text_seen n (jobs.net tr false w f name) status.Limit x x' h = h
-text_seen n (jobs.net tr false w f name) status.Syntax x x' h = h
-text_seen n (jobs.net tr false w f name) status.Usage x x' h = h
-text_seen n (jobs.net tr false w f name) status.ReadFault x x' h = h
-text_seen n (jobs.net tr false w f name) status.WriteFault x x' h = h
-text_seen n (jobs.net tr false w f name) status.NoMemory x x' h = h
-text_seen n (jobs.net tr false w f name) status.BadNet x x' h = h
-text_seen n (jobs.equal tr w f q a b) s x x' h = h
+text_seen n (jobs.Run tr w f q name) s x x' h = h
+text_seen n (jobs.Walk tr e q name) s x x' h = h
+text_seen n (jobs.View tr k name) s x x' h = h
+text_seen n (jobs.Trace tr w f name) status.Done x x' h = tt
+text_seen n (jobs.Trace tr w f name) status.Spent x x' h = tt
+text_seen n (jobs.Trace tr w f name) status.Limit x x' h = h
+text_seen n (jobs.Trace tr w f name) status.Syntax x x' h = h
+text_seen n (jobs.Trace tr w f name) status.Usage x x' h = h
+text_seen n (jobs.Trace tr w f name) status.ReadFault x x' h = h
+text_seen n (jobs.Trace tr w f name) status.WriteFault x x' h = h
+text_seen n (jobs.Trace tr w f name) status.NoMemory x x' h = h
+text_seen n (jobs.Trace tr w f name) status.BadNet x x' h = h
+text_seen n (jobs.Check tr term journal) s x x' h = h
+text_seen n (jobs.Gen tr runs k) s x x' h = h
+text_seen n (jobs.Demand tr f q name) s x x' h = h
+text_seen n (jobs.Certify tr b w f q name) s x x' h = h
+text_seen n (jobs.Net tr true w f name) s x x' h = h
+text_seen n (jobs.Net tr false w f name) status.Done x x' h = h
+text_seen n (jobs.Net tr false w f name) status.Spent x x' h = h
+text_seen n (jobs.Net tr false w f name) status.Limit x x' h = h
+text_seen n (jobs.Net tr false w f name) status.Syntax x x' h = h
+text_seen n (jobs.Net tr false w f name) status.Usage x x' h = h
+text_seen n (jobs.Net tr false w f name) status.ReadFault x x' h = h
+text_seen n (jobs.Net tr false w f name) status.WriteFault x x' h = h
+text_seen n (jobs.Net tr false w f name) status.NoMemory x x' h = h
+text_seen n (jobs.Net tr false w f name) status.BadNet x x' h = h
+text_seen n (jobs.Equal tr w f q a b) s x x' h = h
 
 -- where these words ask for this job and those for that, the two are one but for the workers
 jobs_alike : (o o' : Option Asked) (a a' : Asked) → o ≡ Some a → o' ≡ Some a' →

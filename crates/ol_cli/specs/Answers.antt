@@ -6,7 +6,9 @@ use Rattle.std.specs.declared.alloc.Global.{Global}
 use Rattle.ol_io.specs.Outside.{Appended, IsAllOf, IsLonger, Rose}
 use Rattle.ol_term.specs.Trees.{Tree}
 use Rattle.ol_term.specs.declared.translations.Translation.{Translation}
-use Rattle.ol_words.specs.Asked.{Asked, check, equal, gen, net, run}
+use Rattle.ol_words.specs.declared.jobs.Job.{Job as Asked}
+use Rattle.ol_words.specs.declared.jobs.Job.TheVariants.{Check as check, Equal as equal, Gen as gen}
+use Rattle.ol_words.specs.declared.jobs.Job.TheVariants.{Net as net, Run as run}
 use Rattle.ol_words.specs.Texts.{Text}
 use Rattle.ol_cli.specs.Check.{JournalAnswer}
 use Rattle.ol_cli.specs.Equal.{Compares, HasTree}
@@ -50,8 +52,7 @@ pub data JobAnswer (files : Files) (st : Status) (text : List ℕ) : Asked → T
       files 0 name ≡ Some bytes →
       NetFileAnswer fuel bytes st text → JobAnswer files st text (net translation false workers fuel name)
   of_first : {translation : Translation} {workers fuel heads : ℕ} {a b : Text} {bytes : List ℕ} →
-      files 0 a ≡ Some bytes → st ≢ status.Done →
-      FileAnswer (run translation workers fuel heads a) bytes st text →
+      files 0 a ≡ Some bytes → st ≢ status.Done → FileAnswer (run translation workers fuel heads a) bytes st text →
       JobAnswer files st text (equal translation workers fuel heads a b)
   of_second : {translation : Translation} {workers fuel heads : ℕ} {a b : Text}
       {bytes bytes' : List ℕ} → files 0 a ≡ Some bytes →
@@ -67,11 +68,9 @@ pub data JobAnswer (files : Files) (st : Status) (text : List ℕ) : Asked → T
 -- The first of a job's two files is refused for its bytes: that of `check` is no term file, and
 -- with that of `equal` `run` isn't Done.
 abbrev pub RefusesFirst : (Text → Option (List ℕ)) → Asked → Type 0
-RefusesFirst files (check translation term journal) =
-    (bytes : List ℕ) × (files term ≡ Some bytes)
+RefusesFirst files (check translation term journal) = (bytes : List ℕ) × (files term ≡ Some bytes)
     × ((st : Status) × (text : List ℕ) × FileAnswer (check translation term journal) bytes st text)
-RefusesFirst files (equal translation workers fuel heads a b) =
-    (bytes : List ℕ) × (files a ≡ Some bytes)
+RefusesFirst files (equal translation workers fuel heads a b) = (bytes : List ℕ) × (files a ≡ Some bytes)
     × ((st : Status) × (text : List ℕ) × (st ≢ status.Done)
     × FileAnswer (run translation workers fuel heads a) bytes st text)
 RefusesFirst files _ = ⊥
@@ -155,8 +154,7 @@ FileCause asked s = CauseOf s most_term_bytes bytes_text (file_name asked) (File
 pub data JobCause (s : Seen) (st : Status) (text : List ℕ) : Asked → Type 0 where
   by_file : {asked : Asked} → HasTermFile asked → FileCause asked s st text → JobCause s st text asked
   by_journal : {translation : Translation} {term journal : Text} {bytes : List ℕ} {t : Tree}
-      {names : List (List ℕ)} → IsAllOf (s.contents 0 term) bytes →
-      IsTermFile translation bytes t names →
+      {names : List (List ℕ)} → IsAllOf (s.contents 0 term) bytes → IsTermFile translation bytes t names →
       CauseOf (on_second s) most_journal_bytes journal_text journal (JournalAnswer translation t names) st text →
       JobCause s st text (check translation term journal)
   by_making : {translation : Translation} {runs : Bool} {k : ℕ} → s.faults' ≡ s.faults →
@@ -168,8 +166,7 @@ pub data JobCause (s : Seen) (st : Status) (text : List ℕ) : Asked → Type 0 
       FileCause (run translation workers fuel heads a) s st text →
       JobCause s st text (equal translation workers fuel heads a b)
   by_second : {translation : Translation} {workers fuel heads : ℕ} {a b : Text} {bytes : List ℕ} →
-      IsAllOf (s.contents 0 a) bytes →
-      HasTree translation bytes fuel heads → st ≢ status.Done →
+      IsAllOf (s.contents 0 a) bytes → HasTree translation bytes fuel heads → st ≢ status.Done →
       FileCause (run translation workers fuel heads b) (on_second s) st text →
       JobCause s st text (equal translation workers fuel heads a b)
   by_both : {translation : Translation} {workers fuel heads : ℕ} {a b : Text}

@@ -24,8 +24,7 @@ found_text (check.NotARun l) = count_line (codes "not a run at line") l
 abbrev pub JournalAnswer : Translation → Tree → List (List ℕ) → List ℕ → Status → List ℕ → Type 0
 JournalAnswer translation t names journal status.Limit text = (most_journal_bytes < length journal)
     × (text ≡ journal_text)
-JournalAnswer translation t names journal status.Done text =
-    (length journal ≤ most_journal_bytes)
+JournalAnswer translation t names journal status.Done text = (length journal ≤ most_journal_bytes)
     × ((found : Check) × OnlyIsFound (start_net_of_term translation t names) journal found
     × (text ≡ found_text found))
 JournalAnswer translation t names journal _ text = ⊥

@@ -4,15 +4,18 @@ use Rattle.std.specs.declared.alloc.Global.{Global}
 use Rattle.ol_io.specs.Outside.{Appended}
 use Rattle.ol_term.specs.Trees.{Tree}
 use Rattle.ol_net.specs.Graph.{Graph}
-use Rattle.ol_rules.specs.declared.journal.Counts.{Counts}
+use Rattle.ol_readback.specs.Heads.{live}
 use Rattle.ol_words.specs.Texts.{Text}
-use Rattle.ol_words.specs.Asked.{Asked, run, trace, check, gen, demand, certify}
-use Rattle.ol_words.specs.Asked as jobs
+use Rattle.ol_words.specs.declared.jobs.Job.{Job as Asked}
+use Rattle.ol_words.specs.declared.jobs.Job.TheVariants.{Run as run, Trace as trace, Check as check}
+use Rattle.ol_words.specs.declared.jobs.Job.TheVariants.{Gen as gen, Demand as demand}
+use Rattle.ol_words.specs.declared.jobs.Job.TheVariants.{Certify as certify}
+use Rattle.ol_words.specs.declared.jobs.Job.TheVariants as jobs
 use Rattle.ol_cli.specs.declared.status.Status.{Status}
 use Rattle.ol_cli.specs.declared.status.Status.TheVariants as status
 use Rattle.ol_cli.specs.Jobs.{AskFor, Files, term_bytes, translation_in}
 use Rattle.ol_cli.specs.Limits.{plain_fuel}
-use Rattle.ol_cli.specs.Run.{RunEnds}
+use Rattle.ol_cli.specs.Run.{RunEnds, start_net_of_term}
 use Rattle.ol_cli.specs.Demand.{DemandEnds}
 use Rattle.ol_cli.specs.Answers.{IsAnswer}
 use Rattle.ol_cli.specs.TermFiles.{IsTermFile}
@@ -23,11 +26,12 @@ use Rattle.ol_cli.specs.Limits.{most_journal_bytes, most_nodes}
 -- within the job's fuel; and where it
 -- rewrites in demand order, so does the demand run
 abbrev pub EndsWithinFuel : Asked → Tree → List (List ℕ) → Type 0
-EndsWithinFuel (run translation workers fuel heads name) t names = RunEnds translation t names fuel
-EndsWithinFuel (trace translation workers fuel name) t names = RunEnds translation t names fuel
-EndsWithinFuel (gen translation runs k) t names = RunEnds translation t names plain_fuel
+EndsWithinFuel (run translation workers fuel heads name) t names = RunEnds (start_net_of_term translation t names) fuel
+EndsWithinFuel (trace translation workers fuel name) t names = RunEnds (start_net_of_term translation t names) fuel
+EndsWithinFuel (gen translation runs k) t names = RunEnds (start_net_of_term translation t names) plain_fuel
 EndsWithinFuel (demand translation fuel heads name) t names = DemandEnds translation t names fuel heads
-EndsWithinFuel (certify translation steps workers fuel heads name) t names = RunEnds translation t names fuel
+EndsWithinFuel (certify translation steps workers fuel heads name) t names =
+    RunEnds (start_net_of_term translation t names) fuel
 EndsWithinFuel _ t names = Unit {0}
 
 -- the bytes of the job's term are told, in the grammar and within the limits, and its run ends within the fuel
@@ -51,11 +55,8 @@ pub record HasNetWithin (files : Text → Option (List ℕ)) (name : Text) (fuel
   pub net : Graph
   pub told : files name ≡ Some bytes
   pub file : IsNetFile bytes net
-  pub counts : Counts
-  pub stuck : ℕ
-  pub nodes : ℕ
-  pub ends : NetRunEnds net fuel counts stuck nodes
-  pub few : nodes ≤ most_nodes
+  pub ends : NetRunEnds net fuel
+  pub few : live ends.ends.net ≤ most_nodes
 
 -- The job can be done, its files having these bytes. A term that is only made can always be. Two
 -- terms can be compared where `run`
@@ -64,8 +65,8 @@ abbrev pub CanDo : Files → Asked → Type 0
 CanDo files (gen translation false k) = Unit {0}
 CanDo files (check translation term journal) =
     HasTermWithin (files 0) (check translation term journal) × HasJournalWithin (files 1) journal
-CanDo files (jobs.net translation false workers fuel name) = HasNetWithin (files 0) name fuel
-CanDo files (jobs.equal translation workers fuel heads first second) =
+CanDo files (jobs.Net translation false workers fuel name) = HasNetWithin (files 0) name fuel
+CanDo files (jobs.Equal translation workers fuel heads first second) =
     HasTermWithin (files 0) (run translation workers fuel heads first)
     × HasTermWithin (files 1) (run translation workers fuel heads second)
 CanDo files asked = HasTermWithin (files 0) asked

@@ -20,7 +20,6 @@ pub record HasTree (translation : Translation) (bytes : List ℕ) (fuel heads : 
 
 -- the line of the comparison of two such trees
 abbrev pub Compares : {translation : Translation} {bytes bytes' : List ℕ} {fuel heads : ℕ} →
-    HasTree translation bytes fuel heads →
-    HasTree translation bytes' fuel heads → List ℕ → Type 0
+    HasTree translation bytes fuel heads → HasTree translation bytes' fuel heads → List ℕ → Type 0
 Compares a b text = (compared : Compared) × IsComparison (record { a = a.names; b = b.names }) a.tree b.tree compared
     × (text ≡ line (compared_text compared))

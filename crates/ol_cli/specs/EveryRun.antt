@@ -31,16 +31,14 @@ EveryRunPrints = (translation : Translation) (t : Tree) (names : List (List ℕ)
 
 abbrev pub EveryRunIsLonger : Type 0
 EveryRunIsLonger = (translation : Translation) (t : Tree) (names : List (List ℕ)) (fuel : ℕ) →
-    IsNet (translation_of translation t (length names)) → RunsOut translation t names fuel →
+    IsNet (translation_of translation t (length names)) → RunsOut (start_net_of_term translation t names) fuel →
     (journal : List Entry) (net : NamedNet NodeName) →
-    IsRun (start_net_of_term translation t names) 0 journal net → IsComplete net →
-    fuel < length journal
+    IsRun (start_net_of_term translation t names) 0 journal net → IsComplete net → fuel < length journal
 
 -- There is a one-thread run for each fuel.
 abbrev pub OneThreadIsThere : Type 0
 OneThreadIsThere = (translation : Translation) (t : Tree) (names : List (List ℕ)) (fuel : ℕ) →
-    IsNet (translation_of translation t (length names)) →
-    (journal : List Entry) × (net : NamedNet NodeName)
+    IsNet (translation_of translation t (length names)) → (journal : List Entry) × (net : NamedNet NodeName)
     × IsOneThread (start_net_of_term translation t names) fuel journal net
 
 -- What is printed of a complete run within the fuel is printed of the one-thread run.
@@ -56,4 +54,5 @@ abbrev pub AnyRunRunsOut : Type 0
 AnyRunRunsOut = (translation : Translation) (t : Tree) (names : List (List ℕ)) (fuel : ℕ) →
     IsNet (translation_of translation t (length names)) →
     (journal : List Entry) (net : NamedNet NodeName) → IsRun (start_net_of_term translation t names) 0 journal net →
-    (fuel < length journal) ⊎ ((length journal ≡ fuel) × HasActive net) → RunsOut translation t names fuel
+    (fuel < length journal) ⊎ ((length journal ≡ fuel) × HasActive net) →
+    RunsOut (start_net_of_term translation t names) fuel

@@ -27,10 +27,8 @@ RefusesFile k s name = CauseOf s (most_bytes k) (limit_text k) name (λ bytes st
 
 -- what comes of the file: all its bytes, or the answer that refuses it
 abbrev pub ComesOfFile : FileKind → Seen → Text → File → Type 0
-ComesOfFile k s name (Bytes bytes) =
-    (s.faults' ≡ s.faults) × GaveWithin s (most_bytes k) name bytes.items
-ComesOfFile k s name (Refused answer) =
-    RefusesFile k s name answer.status answer.text.items × (answer.closed ≡ None)
+ComesOfFile k s name (Bytes bytes) = (s.faults' ≡ s.faults) × GaveWithin s (most_bytes k) name bytes.items
+ComesOfFile k s name (Refused answer) = RefusesFile k s name answer.status answer.text.items × (answer.closed ≡ None)
 
 -- the bytes, if they came, are no more than the file may have
 abbrev pub IsShort : FileKind → File → Type 0

@@ -3,7 +3,8 @@ use Rattle.std.specs.Prelude.{Bool, List, None, Option, codes, false, true, ℕ,
 use Rattle.ol_term.specs.Generated.{doubled_text}
 use Rattle.ol_term.specs.declared.translations.Translation.{Translation}
 use Rattle.ol_wire.specs.Closed.{ClosedTable}
-use Rattle.ol_words.specs.Asked.{Asked, run}
+use Rattle.ol_words.specs.declared.jobs.Job.{Job as Asked}
+use Rattle.ol_words.specs.declared.jobs.Job.TheVariants.{Run as run}
 use Rattle.ol_cli.specs.Limits.{plain_fuel, plain_heads, plain_workers}
 use Rattle.ol_cli.specs.TermFiles.{FileAnswer, FileHands}
 use Rattle.ol_cli.specs.declared.status.Status.{Status}

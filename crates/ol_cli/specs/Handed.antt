@@ -3,13 +3,14 @@ use Rattle.std.specs.Prelude.{List, None, Option, String, false, ℕ, ◌≡◌}
 use Rattle.std.specs.declared.alloc.Global.{Global}
 use Rattle.ol_io.specs.Outside.{Appended}
 use Rattle.ol_wire.specs.Closed.{ClosedTable}
-use Rattle.ol_words.specs.Asked.{Asked, check, gen}
+use Rattle.ol_words.specs.declared.jobs.Job.{Job as Asked}
+use Rattle.ol_words.specs.declared.jobs.Job.TheVariants.{Check as check, Gen as gen}
 use Rattle.ol_cli.specs.Answers.{GaveAll, Seen}
 use Rattle.ol_cli.specs.Generate.{MakingHands}
 use Rattle.ol_cli.specs.Jobs.{AskFor, file_name}
 use Rattle.ol_cli.specs.TermFiles.{FileHands}
 use Rattle.ol_cli.specs.declared.status.Status.{Status}
-use Rattle.ol_words.specs.Asked as jobs
+use Rattle.ol_words.specs.declared.jobs.Job.TheVariants as jobs
 use Rattle.ol_cli.specs.declared.status.Status.TheVariants as status
 
 -- the file's bytes are all that the source gave, to their end
@@ -21,8 +22,8 @@ ReadHands asked s st text closed = (bytes : List ℕ) × GaveAll s (file_name as
 abbrev pub JobHands : Asked → Seen → Status → List ℕ → Option ClosedTable → Type 0
 JobHands (check translation term journal) s st text closed = closed ≡ None
 JobHands (gen translation runs k) s st text closed = MakingHands translation runs k st text closed
-JobHands (jobs.net translation false workers fuel name) s st text closed = closed ≡ None
-JobHands (jobs.equal translation workers fuel heads first second) s st text closed = closed ≡ None
+JobHands (jobs.Net translation false workers fuel name) s st text closed = closed ≡ None
+JobHands (jobs.Equal translation workers fuel heads first second) s st text closed = closed ≡ None
 JobHands asked s st text closed = ReadHands asked s st text closed
 
 -- where the job was done or its fuel was spent, this; in every other case nothing is handed back

@@ -11,14 +11,18 @@ use Rattle.ol_term.specs.declared.term_file.TermFile.{TermFile}
 use Rattle.ol_wire.specs.Closed.{ClosedTable}
 use Rattle.ol_readback.specs.declared.answers.ReadNode.{ReadNode}
 use Rattle.ol_words.specs.Texts.{Text}
-use Rattle.ol_words.specs.Asked.{Asked, run, walk, view, trace, check, gen, demand, certify, net, equal}
+use Rattle.ol_words.specs.declared.jobs.Job.{Job as Asked}
+use Rattle.ol_words.specs.declared.jobs.Job.TheVariants.{Run as run, Walk as walk, View as view}
+use Rattle.ol_words.specs.declared.jobs.Job.TheVariants.{Trace as trace, Check as check, Gen as gen}
+use Rattle.ol_words.specs.declared.jobs.Job.TheVariants.{Demand as demand, Certify as certify}
+use Rattle.ol_words.specs.declared.jobs.Job.TheVariants.{Net as net, Equal as equal}
 use Rattle.ol_cli.specs.declared.numbers.RunNumbers.{RunNumbers}
 use Rattle.ol_cli.specs.declared.answer.Answer.{Answer}
 use Rattle.ol_cli.specs.declared.top.Outcome.{Outcome}
 use Rattle.ol_cli.specs.declared.status.Status.{Status}
 use Rattle.ol_cli.specs.declared.status.Status.TheVariants as status
 use Rattle.ol_cli.specs.Jobs.{term_bytes}
-use Rattle.ol_cli.specs.Run.{RunsOut, ReadsLast}
+use Rattle.ol_cli.specs.Run.{RunsOut, ReadsLast, start_net_of_term}
 use Rattle.ol_cli.specs.Answers.{Seen, JobCause, Cause}
 use Rattle.ol_cli.specs.TermFiles.{TermAnswer}
 use Rattle.ol_cli.specs.TermFiles.{TermHands}
@@ -81,7 +85,7 @@ HandsOfTerm asked file st text closed = TermHands asked (tree_of file.term) file
 -- The one-thread run ends within the fuel and this tree is read from its last net; or it is longer,
 -- and there is no tree.
 abbrev pub ReadsOrRunsOut : Translation → Tree → List (List ℕ) → (fuel heads : ℕ) → Option (List ReadNode) → Type 0
-ReadsOrRunsOut translation t names fuel heads None = RunsOut translation t names fuel
+ReadsOrRunsOut translation t names fuel heads None = RunsOut (start_net_of_term translation t names) fuel
 ReadsOrRunsOut translation t names fuel heads (Some tree) = ReadsLast translation t names fuel heads tree
 
 -- where the bytes of the job's term are told, the text is read again by the names of that term
@@ -106,12 +110,10 @@ pub record ComesOfWords (words : List (String Global)) (s : Seen) (a : Answer) :
 
 -- How the call ends: where there is no answer, for want of memory, nothing is written; else its text
 -- is appended whole, and what it hands back is handed on, or the sink failed and took a prefix of it.
-abbrev pub Writes : Result Answer NoMemory → Outcome → (faults faults' : ℕ) →
-    Option (List ℕ) → Option (List ℕ) → Type 0
+abbrev pub Writes : Result Answer NoMemory → Outcome → (faults faults' : ℕ) → Option (List ℕ) → Option (List ℕ) → Type 0
 Writes (Err e) o faults faults' old new =
     (o ≡ record { status = status.NoMemory; closed = None }) × (faults' ≡ faults) × (new ≡ old)
-Writes (Ok a) o faults faults' old new =
-    ((o ≡ record { status = a.status; closed = a.closed }) × (faults' ≡ faults)
+Writes (Ok a) o faults faults' old new = ((o ≡ record { status = a.status; closed = a.closed }) × (faults' ≡ faults)
     × Appended old a.text.items new)
     ⊎ ((o ≡ record { status = status.WriteFault; closed = None }) × Rose faults faults'
     × ((taken : ℕ) × (taken ≤ length a.text.items) × Appended old (take taken a.text.items) new))

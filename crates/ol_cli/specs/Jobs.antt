@@ -1,5 +1,6 @@
 -- What the words ask for, and the files of it.
 use Rattle.std.specs.Prelude.{◌≡◌, ℕ, true, false, Bool, Option, None, Some, List, [], ◌∷◌, String, length, slice_get}
+use Rattle.std.specs.Prelude.{slice_index_or}
 use Rattle.std.specs.declared.alloc.Global.{Global}
 use Rattle.std.specs.Option.{option_map_or}
 use Rattle.ol_io.specs.Readings.{Reading, AreOfSince}
@@ -7,7 +8,11 @@ use Rattle.ol_term.specs.declared.translations.Translation.{Translation}
 use Rattle.ol_term.specs.Generated.{doubled_text}
 use Rattle.ol_words.specs.Texts.{Text}
 use Rattle.ol_words.specs.Texts.{texts_of}
-use Rattle.ol_words.specs.Asked.{Asked, run, walk, view, trace, check, gen, demand, certify, net, equal}
+use Rattle.ol_words.specs.declared.jobs.Job.{Job as Asked}
+use Rattle.ol_words.specs.declared.jobs.Job.TheVariants.{Run as run, Walk as walk, View as view}
+use Rattle.ol_words.specs.declared.jobs.Job.TheVariants.{Trace as trace, Check as check, Gen as gen}
+use Rattle.ol_words.specs.declared.jobs.Job.TheVariants.{Demand as demand, Certify as certify}
+use Rattle.ol_words.specs.declared.jobs.Job.TheVariants.{Net as net, Equal as equal}
 use Rattle.ol_words.specs.Jobs.{job_of}
 
 -- the words ask for this
@@ -32,12 +37,8 @@ file_names (net translation from_term workers fuel name) = name ∷ []
 file_names (equal translation workers fuel heads first second) = first ∷ second ∷ []
 
 -- the name of the file that is read first; `gen` makes its term itself
-abbrev pub first_of : List Text → Text
-first_of [] = []
-first_of (name ∷ names) = name
-
 abbrev pub file_name : Asked → Text
-file_name asked = first_of (file_names asked)
+file_name asked = slice_index_or (file_names asked) 0 []
 
 -- The job has one file with a term. `net` has one with its flag alone, and `equal` has two.
 abbrev pub HasTermFile : Asked → Type 0
@@ -71,8 +72,7 @@ OfReadFiles old new Says = (files : Files) → AreOfSince files old new → Says
 
 -- the bytes of each file of a job are told, those of its second file at the second reading
 abbrev pub AreTold : Files → Asked → Type 0
-AreTold files asked =
-    (place : ℕ) (name : Text) → slice_get (file_names asked) place ≡ Some name →
+AreTold files asked = (place : ℕ) (name : Text) → slice_get (file_names asked) place ≡ Some name →
     (bytes : List ℕ) × (files place name ≡ Some bytes)
 
 -- the bytes of each file that the words ask for are
@@ -97,7 +97,7 @@ abbrev pub term_bytes : (Text → Option (List ℕ)) → Asked → Option (List 
 term_bytes contents (gen translation runs k) = Some (doubled_text k)
 term_bytes contents (net translation false workers fuel name) = None
 term_bytes contents (equal translation workers fuel heads first second) = None
-term_bytes contents asked = contents (file_name asked)
+term_bytes contents asked = contents (slice_index_or (file_names asked) 0 [])
 
 -- these are the bytes of the term of the job that the words ask for, where they ask for one
 abbrev pub TellsTerm : (Text → Option (List ℕ)) → List (String Global) → List ℕ → Type 0

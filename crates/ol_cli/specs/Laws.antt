@@ -6,13 +6,16 @@ use Rattle.ol_term.specs.Trees.{Tree}
 use Rattle.ol_net.specs.Graph.{Graph}
 use Rattle.ol_net.specs.Nets.{IsNet}
 use Rattle.ol_net.specs.Numbered.{net_of}
+use Rattle.ol_rules.specs.Counting.{counts_of}
 use Rattle.ol_rules.specs.declared.journal.Counts.{Counts}
+use Rattle.ol_readback.specs.Heads.{live}
 use Rattle.ol_translate.specs.Translation.{translation_of}
 use Rattle.ol_cli.specs.declared.status.Status.{Status}
 use Rattle.ol_cli.specs.declared.status.Status.TheVariants as status
 use Rattle.ol_words.specs.Texts.{texts_of}
-use Rattle.ol_words.specs.Asked.{Asked, trace}
-use Rattle.ol_words.specs.Asked as jobs
+use Rattle.ol_words.specs.declared.jobs.Job.{Job as Asked}
+use Rattle.ol_words.specs.declared.jobs.Job.TheVariants.{Trace as trace}
+use Rattle.ol_words.specs.declared.jobs.Job.TheVariants as jobs
 use Rattle.ol_words.specs.Jobs.{job_of}
 use Rattle.ol_cli.specs.Jobs.{AskFor, AskForNothing, Files}
 use Rattle.ol_cli.specs.Texts.{counts_text}
@@ -35,19 +38,18 @@ HaveOneCounts text text' = (counts : Counts) × (stuck : ℕ) × (rest : List �
 abbrev pub HaveOneText : Asked → Status → List ℕ → List ℕ → Type 0
 HaveOneText (trace translation workers fuel name) status.Done text text' = Unit {0}
 HaveOneText (trace translation workers fuel name) status.Spent text text' = Unit {0}
-HaveOneText (jobs.net translation false workers fuel name) status.Done text text' = HaveOneCounts text text'
+HaveOneText (jobs.Net translation false workers fuel name) status.Done text text' = HaveOneCounts text text'
 HaveOneText _ _ text text' = text ≡ text'
 
 -- the job with so many workers, where it has any
 abbrev pub with_workers : ℕ → Asked → Asked
-with_workers n (jobs.run translation workers fuel heads name) = jobs.run translation n fuel heads name
+with_workers n (jobs.Run translation workers fuel heads name) = jobs.Run translation n fuel heads name
 with_workers n (trace translation workers fuel name) = trace translation n fuel name
-with_workers n (jobs.certify translation steps workers fuel heads name) =
-    jobs.certify translation steps n fuel heads name
-with_workers n (jobs.net translation from_term workers fuel name) =
-    jobs.net translation from_term n fuel name
-with_workers n (jobs.equal translation workers fuel heads first second) =
-    jobs.equal translation n fuel heads first second
+with_workers n (jobs.Certify translation steps workers fuel heads name) =
+    jobs.Certify translation steps n fuel heads name
+with_workers n (jobs.Net translation from_term workers fuel name) = jobs.Net translation from_term n fuel name
+with_workers n (jobs.Equal translation workers fuel heads first second) =
+    jobs.Equal translation n fuel heads first second
 with_workers n asked = asked
 
 -- The words ask for one job, but for the number of its workers, or both for nothing.
@@ -55,9 +57,8 @@ abbrev pub AskAlike : (words words' : List (String Global)) → Type 0
 AskAlike words words' = option_map (with_workers 1) (job_of (texts_of words))
     ≡ option_map (with_workers 1) (job_of (texts_of words'))
 
--- The same words and files have one answer: each status comes just where the answer is that, and so
--- does each text, as far as the job
--- tells one.
+-- Words that ask for one job, but for the number of its workers, have with the same files one answer:
+-- one status, and one text as far as the job tells one.
 abbrev pub OneAnswer : Type 0
 OneAnswer = (words words' : List (String Global)) → AskAlike words words' →
     (files : Files) (status status' : Status) (text text' : List ℕ) →
@@ -73,31 +74,28 @@ WorkersAreNotSeen = (n : ℕ) (asked : Asked) (files : Files) (status : Status) 
 -- However the answer to a term is come by, one tree is printed, one term and one number of stuck pairs.
 abbrev pub OneTreeIsPrinted : Type 0
 OneTreeIsPrinted = (translation : Translation) (t : Tree) (names : List (List ℕ)) (fuel heads : ℕ)
-    (text text' : List ℕ) →
-    IsNet (translation_of translation t (length names)) →
+    (text text' : List ℕ) → IsNet (translation_of translation t (length names)) →
     (p : Prints translation t names fuel heads text) (p' : Prints translation t names fuel heads text') →
     (p.shows.tree ≡ p'.shows.tree) × (p.shows.term ≡ p'.shows.term) × (p.shows.stuck ≡ p'.shows.stuck)
 
 -- and one tree and one term of the untouched translation
 abbrev pub OneTreeIsWalked : Type 0
 OneTreeIsWalked = (translation : Translation) (t : Tree) (names : List (List ℕ)) (edges heads : ℕ)
-    (text text' : List ℕ) →
-    IsNet (translation_of translation t (length names)) →
+    (text text' : List ℕ) → IsNet (translation_of translation t (length names)) →
     (w : Walks translation t names edges heads text) (w' : Walks translation t names edges heads text') →
     (w.tree ≡ w'.tree) × (w.term ≡ w'.term)
 
 -- and one tree, one term, one journal and one number of stuck pairs of its demand run
 abbrev pub OneTreeIsDemanded : Type 0
 OneTreeIsDemanded = (translation : Translation) (t : Tree) (names : List (List ℕ)) (fuel heads : ℕ)
-    (text text' : List ℕ) →
-    IsNet (translation_of translation t (length names)) →
+    (text text' : List ℕ) → IsNet (translation_of translation t (length names)) →
     (d : Demands translation t names fuel heads text) (d' : Demands translation t names fuel heads text') →
     (d.ends.tree ≡ d'.ends.tree) × (d.term ≡ d'.term) × (d.ends.journal ≡ d'.ends.journal) × (d.stuck ≡ d'.stuck)
 
 -- Of the net of a file, however its run is come by, the interactions of each rule, the stuck pairs
--- and the nodes that are left are as
--- many; so the counts that `net` writes are one, and whether the net is printed.
+-- and the nodes that are left are as many; so the counts that `net` writes are one, and whether the
+-- net is printed.
 abbrev pub OneNetIsLeft : Type 0
-OneNetIsLeft = (net : Graph) (fuel : ℕ) (counts counts' : Counts) (stuck stuck' nodes nodes' : ℕ) → IsNet (net_of net) →
-    NetRunEnds net fuel counts stuck nodes → NetRunEnds net fuel counts' stuck' nodes' →
-    (counts ≡ counts') × (stuck ≡ stuck') × (nodes ≡ nodes')
+OneNetIsLeft = (net : Graph) (fuel : ℕ) → IsNet (net_of net) → (e e' : NetRunEnds net fuel) →
+    (counts_of e.ends.journal ≡ counts_of e'.ends.journal) × (e.stuck ≡ e'.stuck)
+    × (live e.ends.net ≡ live e'.ends.net)

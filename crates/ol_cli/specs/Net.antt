@@ -3,7 +3,7 @@ use Rattle.std.specs.Prelude.{List, count_by, is_some, length, ℕ, ◌++◌, �
 use Rattle.ol_net.specs.Graph.{Graph}
 use Rattle.ol_net.specs.Nets.{NamedNet, SameNet, net_under}
 use Rattle.ol_net.specs.Numbered.{net_of}
-use Rattle.ol_net.specs.Pairs.{HasActive, HasStuck, IsComplete}
+use Rattle.ol_net.specs.Pairs.{HasStuck, IsComplete}
 use Rattle.ol_netfile.specs.FaultTexts.{fault_text}
 use Rattle.ol_netfile.specs.NetTexts.{IsNetFault, IsNetRead}
 use Rattle.ol_netfile.specs.StuckPairs.{IsPairsText}
@@ -12,8 +12,7 @@ use Rattle.ol_netfile.specs.declared.faults.NetFault.{NetFault}
 use Rattle.ol_readback.specs.Heads.{live}
 use Rattle.ol_reduce.specs.Frozen.{IsFrozen}
 use Rattle.ol_rules.specs.Counting.{counts_of}
-use Rattle.ol_rules.specs.Runs.{IsOneThread, IsRun}
-use Rattle.ol_rules.specs.declared.journal.Counts.{Counts}
+use Rattle.ol_rules.specs.Runs.{IsRun}
 use Rattle.ol_rules.specs.declared.journal.Entry.{Entry}
 use Rattle.ol_rules.specs.declared.journal.NodeName.{NodeName}
 use Rattle.ol_rules.specs.declared.journal.NodeName.TheVariants.{Init}
@@ -22,11 +21,12 @@ use Rattle.ol_term.specs.declared.translations.Translation.{Translation}
 use Rattle.ol_translate.specs.Translation.{translation_of}
 use Rattle.ol_view.specs.Laws.{IsTable}
 use Rattle.ol_cli.specs.Listing.{ListsOnce}
-use Rattle.ol_cli.specs.Texts.{counts_text, line, net_bytes_text, nodes_text, spent_text}
+use Rattle.ol_cli.specs.Texts.{counts_text, line, net_bytes_text, nodes_text}
 use Rattle.ol_cli.specs.declared.status.Status.{Status}
 use Rattle.ol_cli.specs.declared.status.Status.TheVariants as status
 use Rattle.ol_netfile.specs.declared.faults.NetFault.TheVariants as fault
-use Rattle.ol_cli.specs.Shapes.{OnlyDone}
+use Rattle.ol_cli.specs.Run.{RunEnds, RunsOut}
+use Rattle.ol_cli.specs.Shapes.{DoneOrSpent, OnlyDone, TellsFuel}
 use Rattle.ol_cli.specs.Limits.{most_net_bytes, most_nodes}
 
 -- The net of the term, with the numbers of its translation, has this text.
@@ -47,26 +47,13 @@ WritesNetAnswer translation t names = OnlyDone (WritesNet translation t names)
 abbrev pub start_net : Graph → NamedNet NodeName
 start_net net = net_under Init (net_of net)
 
--- The one-thread run has more than `fuel` steps.
-pub record NetRunsOut (net : Graph) (fuel : ℕ) : Type 0 where
-  pub journal : List Entry
-  pub last : NamedNet NodeName
-  pub run : IsOneThread (start_net net) fuel journal last
-  pub full : length journal ≡ fuel
-  pub left : HasActive last
-
--- The one-thread run ends within `fuel` steps, with so many interactions of each rule, and its net,
--- each node of which is listed
--- once, has so many stuck pairs and so many nodes.
-pub record NetRunEnds (net : Graph) (fuel : ℕ) (counts : Counts) (stuck nodes : ℕ) : Type 0 where
-  pub journal : List Entry
-  pub last : NamedNet NodeName
-  pub run : IsOneThread (start_net net) fuel journal last
-  pub complete : IsComplete last
-  pub once : ListsOnce last
-  pub counted : counts ≡ counts_of journal
-  pub has_stuck : HasStuck last stuck
-  pub size : nodes ≡ live last
+-- The one-thread run ends within `fuel` steps, and its net, each node of which is listed once, has so
+-- many stuck pairs.
+pub record NetRunEnds (net : Graph) (fuel : ℕ) : Type 0 where
+  pub ends : RunEnds (start_net net) fuel
+  pub once : ListsOnce ends.net
+  pub stuck : ℕ
+  pub counted : HasStuck ends.net stuck
 
 -- The text of a net without an active pair that some run leads to: its nodes are numbered by
 -- ascending name, and the lines of its
@@ -85,32 +72,22 @@ pub record TellsLast (net : Graph) (text : List ℕ) : Type 0 where
   pub written : text ≡ pairs ++ net_text numbered
 
 -- The one-thread run ends within the fuel, and its net is small enough to be printed. The counts
--- are its own, and what follows them
--- is told of any complete run.
+-- are its own, and what follows them is told of any complete run.
 pub record PrintsNet (net : Graph) (fuel : ℕ) (text : List ℕ) : Type 0 where
-  pub counts : Counts
-  pub stuck : ℕ
-  pub nodes : ℕ
-  pub ends : NetRunEnds net fuel counts stuck nodes
-  pub few : nodes ≤ most_nodes
+  pub ends : NetRunEnds net fuel
+  pub few : live ends.ends.net ≤ most_nodes
   pub rest : List ℕ
   pub tells : TellsLast net rest
-  pub written : text ≡ counts_text counts stuck ++ rest
+  pub written : text ≡ counts_text (counts_of ends.ends.journal) ends.stuck ++ rest
 
 -- The one-thread run ends within the fuel, and its net is too large to be printed.
-pub record IsPastNodes (net : Graph) (fuel : ℕ) : Type 0 where
-  pub counts : Counts
-  pub stuck : ℕ
-  pub nodes : ℕ
-  pub ends : NetRunEnds net fuel counts stuck nodes
-  pub many : most_nodes < nodes
+abbrev pub IsPastNodes : Graph → (fuel : ℕ) → Type 0
+IsPastNodes net fuel = (e : NetRunEnds net fuel) × (most_nodes < live e.ends.net)
 
 -- what a net is answered
 abbrev pub NetAnswer : Graph → (fuel : ℕ) → Status → List ℕ → Type 0
-NetAnswer net fuel status.Spent text = NetRunsOut net fuel × (text ≡ spent_text fuel)
 NetAnswer net fuel status.Limit text = IsPastNodes net fuel × (text ≡ nodes_text)
-NetAnswer net fuel status.Done text = PrintsNet net fuel text
-NetAnswer net fuel _ text = ⊥
+NetAnswer net fuel st text = DoneOrSpent (PrintsNet net fuel) (TellsFuel (RunsOut (start_net net) fuel) fuel) st text
 
 -- ---- a file with a net
 

@@ -15,7 +15,9 @@ use Rattle.ol_lines.specs.NormalForms.{by_names_of, IsNormalFormOf, HasNoNormalF
 use Rattle.ol_lines.specs.NormalForms.{AreConvertible}
 use Rattle.ol_words.specs.Texts.{Text, texts_of}
 use Rattle.ol_words.specs.Lines.{is_dashed}
-use Rattle.ol_words.specs.Asked.{Asked, run, walk, gen, demand, equal}
+use Rattle.ol_words.specs.declared.jobs.Job.{Job as Asked}
+use Rattle.ol_words.specs.declared.jobs.Job.TheVariants.{Run as run, Walk as walk, Gen as gen}
+use Rattle.ol_words.specs.declared.jobs.Job.TheVariants.{Demand as demand, Equal as equal}
 use Rattle.ol_cli.specs.Jobs.{AskFor, Files}
 use Rattle.ol_cli.specs.Texts.{answer_text}
 
@@ -44,14 +46,12 @@ LineSays Says words bytes old new = (asked : Asked) → AskFor words asked → P
 
 -- if the line is a text of a term, this term is the normal form of the source
 abbrev pub IsItsNormalForm : Asked → Named → List ℕ → Type 0
-IsItsNormalForm asked source line =
-    (result : Named) → IsText line result → IsNormalFormOf source result
+IsItsNormalForm asked source line = (result : Named) → IsText line result → IsNormalFormOf source result
 
 -- if a question mark stands in the line, the source has no normal form; of `walk` this isn't said
 abbrev pub TellsOfNone : Asked → Named → List ℕ → Type 0
 TellsOfNone (walk translation edges heads name) source line = Unit {0}
-TellsOfNone asked source line =
-    (before after : List ℕ) → line ≡ before ++ 63 ∷ after → HasNoNormalForm source
+TellsOfNone asked source line = (before after : List ℕ) → line ≡ before ++ 63 ∷ after → HasNoNormalForm source
 
 -- in how many places a term has a variable, bound or free
 abbrev pub count_of_variables : Tree → ℕ
@@ -63,10 +63,8 @@ count_of_variables (app f a) = count_of_variables f + count_of_variables a
 -- if the source has a normal form, in which variables stand in at most so many places, the line is a
 -- text of it
 abbrev pub IsFoundWithin : (heads : ℕ) → Named → List ℕ → Type 0
-IsFoundWithin heads source line =
-    (v : Tree) → BetaReduces (by_names_of source source) v → IsNormal v →
-    count_of_variables v ≤ heads →
-    (result : Named) × IsText line result × IsNormalFormOf source result
+IsFoundWithin heads source line = (v : Tree) → BetaReduces (by_names_of source source) v → IsNormal v →
+    count_of_variables v ≤ heads → (result : Named) × IsText line result × IsNormalFormOf source result
 
 -- it is found where these places are no more than heads were demanded
 abbrev pub IsFoundOnDemand : Asked → Named → List ℕ → Type 0
@@ -79,10 +77,8 @@ SaysOfTwo t u line = (line ≡ codes "equal" → AreConvertible t u)
     × ((rest : List ℕ) → line ≡ codes "different" ++ rest → AreConvertible t u → ⊥)
 
 -- the line of `equal` says this of the terms of its two files
-abbrev pub LineSaysOfTwo : List (String Global) → Files → Option (List ℕ) → Option (List ℕ) →
-    Type 0
-LineSaysOfTwo words files old new =
-    (translation : Translation) (workers fuel heads : ℕ) (a b : Text) →
+abbrev pub LineSaysOfTwo : List (String Global) → Files → Option (List ℕ) → Option (List ℕ) → Type 0
+LineSaysOfTwo words files old new = (translation : Translation) (workers fuel heads : ℕ) (a b : Text) →
     AskFor words (equal translation workers fuel heads a b) →
     (bytes bytes' : List ℕ) → files 0 a ≡ Some bytes → files 1 b ≡ Some bytes' →
     (t u : Named) → IsText bytes t → IsText bytes' u → FirstLine (SaysOfTwo t u) old new
@@ -100,11 +96,9 @@ pub record ArePlain (words : List (String Global)) (verb name : Text) : Type 0 w
 -- question mark in it, the source has none.
 abbrev pub LineIsOf : Text → Named → List ℕ → Type 0
 LineIsOf verb source line = ((result : Named) → IsText line result → IsNormalFormOf source result)
-    × ((verb ≡ codes "walk" → ⊥) →
-    (before after : List ℕ) → line ≡ before ++ 63 ∷ after → HasNoNormalForm source)
+    × ((verb ≡ codes "walk" → ⊥) → (before after : List ℕ) → line ≡ before ++ 63 ∷ after → HasNoNormalForm source)
 
-abbrev pub PlainLineSays : List (String Global) → Files → Option (List ℕ) → Option (List ℕ) →
-    Type 0
+abbrev pub PlainLineSays : List (String Global) → Files → Option (List ℕ) → Option (List ℕ) → Type 0
 PlainLineSays words files old new = (verb name : Text) → ArePlain words verb name →
     (verb ≡ codes "run") ⊎ ((verb ≡ codes "demand") ⊎ (verb ≡ codes "walk")) →
     (bytes : List ℕ) → files 0 name ≡ Some bytes → (source : Named) → IsText bytes source →
@@ -112,8 +106,7 @@ PlainLineSays words files old new = (verb name : Text) → ArePlain words verb n
 
 -- after `demand` the line is a text of the source's normal form, where variables stand in at most
 -- 4,096 places of it
-abbrev pub PlainDemandFinds : List (String Global) → Files → Option (List ℕ) →
-    Option (List ℕ) → Type 0
+abbrev pub PlainDemandFinds : List (String Global) → Files → Option (List ℕ) → Option (List ℕ) → Type 0
 PlainDemandFinds words files old new = (name : Text) → ArePlain words (codes "demand") name →
     (bytes : List ℕ) → files 0 name ≡ Some bytes → (source : Named) → IsText bytes source →
     FirstLine (IsFoundWithin 4096 source) old new
@@ -121,8 +114,7 @@ PlainDemandFinds words files old new = (name : Text) → ArePlain words (codes "
 -- Leftmost reduction of the source to a normal form, where there is one, contracts at least so many
 -- redexes.
 abbrev pub IsNoMoreThanLeftmost : Named → ℕ → Type 0
-IsNoMoreThanLeftmost source beta =
-    (v : Tree) (r : LeftmostReduces (by_names_of source source) v) → IsNormal v →
+IsNoMoreThanLeftmost source beta = (v : Tree) (r : LeftmostReduces (by_names_of source source) v) → IsNormal v →
     beta ≤ steps_of r
 
 -- What was appended, where the sink tells it, is a line and the nine lines of counts; of the number
@@ -136,8 +128,7 @@ pub record CountsSay (Says : ℕ → Type 0) (old new : Option (List ℕ)) : Typ
   pub says : Says counts.beta
 
 -- the `beta` of `demand` is no more than the steps of leftmost reduction
-abbrev pub PlainDemandIsFrugal : List (String Global) → Files → Option (List ℕ) →
-    Option (List ℕ) → Type 0
+abbrev pub PlainDemandIsFrugal : List (String Global) → Files → Option (List ℕ) → Option (List ℕ) → Type 0
 PlainDemandIsFrugal words files old new = (name : Text) → ArePlain words (codes "demand") name →
     (bytes : List ℕ) → files 0 name ≡ Some bytes → (source : Named) → IsText bytes source →
     CountsSay (IsNoMoreThanLeftmost source) old new
@@ -152,8 +143,7 @@ pub record ArePlainTwo (words : List (String Global)) (a b : Text) : Type 0 wher
   pub not_both : a ≡ codes "-" → b ≡ codes "-" → ⊥
 
 -- after `equal` the line says whether the terms of the two files are convertible
-abbrev pub PlainEqualSays : List (String Global) → Files → Option (List ℕ) → Option (List ℕ) →
-    Type 0
+abbrev pub PlainEqualSays : List (String Global) → Files → Option (List ℕ) → Option (List ℕ) → Type 0
 PlainEqualSays words files old new = (a b : Text) → ArePlainTwo words a b →
     (bytes bytes' : List ℕ) → files 0 a ≡ Some bytes → files 1 b ≡ Some bytes' →
     (t u : Named) → IsText bytes t → IsText bytes' u → FirstLine (SaysOfTwo t u) old new

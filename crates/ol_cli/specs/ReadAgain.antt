@@ -7,7 +7,9 @@ use Rattle.ol_term.specs.Trees.{Tree}
 use Rattle.ol_parse.specs.Parsed.{IsFileOf, AreNames}
 use Rattle.ol_readback.specs.Terms.{HasAllHeads, IsReadBack}
 use Rattle.ol_words.specs.Texts.{Text}
-use Rattle.ol_words.specs.Asked.{Asked, run, walk, gen, demand}
+use Rattle.ol_words.specs.declared.jobs.Job.{Job as Asked}
+use Rattle.ol_words.specs.declared.jobs.Job.TheVariants.{Run as run, Walk as walk, Gen as gen}
+use Rattle.ol_words.specs.declared.jobs.Job.TheVariants.{Demand as demand}
 use Rattle.ol_cli.specs.declared.status.Status.{Status}
 use Rattle.ol_cli.specs.declared.status.Status.TheVariants as status
 use Rattle.ol_cli.specs.Jobs.{AskFor, term_bytes}
@@ -18,8 +20,7 @@ use Rattle.ol_cli.specs.Demand.{Demands}
 
 -- what `run` prints of a term, and that it is read again
 abbrev pub RunIsReadAgain : Translation → Tree → List (List ℕ) → (fuel heads : ℕ) → List ℕ → Type 0
-RunIsReadAgain translation t names fuel heads text =
-    (p : Prints translation t names fuel heads text)
+RunIsReadAgain translation t names fuel heads text = (p : Prints translation t names fuel heads text)
     × (HasAllHeads p.shows.tree → IsReadBack names p.shows.tree p.shows.term)
 
 -- the same of `walk`

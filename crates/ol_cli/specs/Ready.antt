@@ -54,8 +54,7 @@ pub record IsReady (translation : Translation) (bytes : List ℕ) (t : Tree) (na
 
 -- what is made of the bytes of a term file
 abbrev pub IsMadeReady : Translation → List ℕ → Ready → Type 0
-IsMadeReady translation bytes (ready.Net net file) =
-    IsReady translation bytes (tree_of file.term) file.names net
+IsMadeReady translation bytes (ready.Net net file) = IsReady translation bytes (tree_of file.term) file.names net
 IsMadeReady translation bytes (ready.Refused answer) =
     Refuses translation bytes answer.status answer.text.items × (answer.closed ≡ None)
 
@@ -67,13 +66,11 @@ IsNetReady translation (ready.Refused answer) = Unit {0}
 
 -- the term file is refused so: the source failed, or gave too many bytes, or its bytes are refused
 abbrev pub RefusesTerm : Translation → Seen → Text → Status → List ℕ → Type 0
-RefusesTerm translation s name =
-    CauseOf s most_term_bytes bytes_text name (Refuses translation)
+RefusesTerm translation s name = CauseOf s most_term_bytes bytes_text name (Refuses translation)
 
 -- what comes of a term file
 abbrev pub ComesOfTerm : Translation → Seen → Text → Ready → Type 0
-ComesOfTerm translation s name (ready.Net net file) =
-    (s.faults' ≡ s.faults) × ((bytes : List ℕ) × GaveAll s name bytes
+ComesOfTerm translation s name (ready.Net net file) = (s.faults' ≡ s.faults) × ((bytes : List ℕ) × GaveAll s name bytes
     × IsReady translation bytes (tree_of file.term) file.names net)
 ComesOfTerm translation s name (ready.Refused answer) =
     RefusesTerm translation s name answer.status answer.text.items × (answer.closed ≡ None)

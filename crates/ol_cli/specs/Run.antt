@@ -47,47 +47,40 @@ pub record Shows (names : List (List ℕ)) (heads : ℕ) (journal : List Entry)
   pub shown : IsTextOf names tree term
   pub written : text ≡ answer_text term (counts_of journal) stuck
 
--- The one-thread run ends within `fuel` steps, and this is printed of it.
-pub record Prints (translation : Translation) (t : Tree) (names : List (List ℕ)) (fuel heads : ℕ)
-    (text : List ℕ) : Type 0 where
+-- The one-thread run from this net has more than `fuel` steps.
+pub record RunsOut (start : NamedNet NodeName) (fuel : ℕ) : Type 0 where
   pub journal : List Entry
   pub net : NamedNet NodeName
-  pub run : IsOneThread (start_net_of_term translation t names) fuel journal net
-  pub complete : IsComplete net
-  pub shows : Shows names heads journal net text
-
--- The one-thread run has more than `fuel` steps.
-pub record RunsOut (translation : Translation) (t : Tree) (names : List (List ℕ)) (fuel : ℕ) : Type 0 where
-  pub journal : List Entry
-  pub net : NamedNet NodeName
-  pub run : IsOneThread (start_net_of_term translation t names) fuel journal net
+  pub run : IsOneThread start fuel journal net
   pub full : length journal ≡ fuel
   pub left : HasActive net
 
--- The one-thread run ends within `fuel` steps.
-pub record RunEnds (translation : Translation) (t : Tree) (names : List (List ℕ)) (fuel : ℕ) : Type 0 where
+-- It ends within `fuel` steps.
+pub record RunEnds (start : NamedNet NodeName) (fuel : ℕ) : Type 0 where
   pub journal : List Entry
   pub net : NamedNet NodeName
-  pub run : IsOneThread (start_net_of_term translation t names) fuel journal net
+  pub run : IsOneThread start fuel journal net
   pub complete : IsComplete net
 
--- The one-thread run ends within `fuel` steps, and this tree is read from its last net, each node
--- of which is listed once. The first
+-- The one-thread run from the term's net ends within `fuel` steps, and this is printed of it.
+pub record Prints (translation : Translation) (t : Tree) (names : List (List ℕ)) (fuel heads : ℕ)
+    (text : List ℕ) : Type 0 where
+  pub ends : RunEnds (start_net_of_term translation t names) fuel
+  pub shows : Shows names heads ends.journal ends.net text
+
+-- It ends so, and this tree is read from its last net, each node of which is listed once. The first
 -- `heads` subterms are asked, each by walks of at most twice as many crossings as there are nodes.
 pub record ReadsLast (translation : Translation) (t : Tree) (names : List (List ℕ)) (fuel heads : ℕ)
     (tree : List ReadNode) : Type 0 where
-  pub journal : List Entry
-  pub net : NamedNet NodeName
-  pub run : IsOneThread (start_net_of_term translation t names) fuel journal net
-  pub complete : IsComplete net
-  pub is_net : IsNet net
-  pub once : ListsOnce net
-  pub read : IsTree net heads (2 * live net) tree
+  pub ends : RunEnds (start_net_of_term translation t names) fuel
+  pub is_net : IsNet ends.net
+  pub once : ListsOnce ends.net
+  pub read : IsTree ends.net heads (2 * live ends.net) tree
 
 -- What `run` answers to a term: its one-thread run is longer than the fuel, or ends and is printed.
 abbrev pub RunAnswer : Translation → Tree → List (List ℕ) → (fuel heads : ℕ) → Status → List ℕ → Type 0
-RunAnswer translation t names fuel heads =
-    DoneOrSpent (Prints translation t names fuel heads) (TellsFuel (RunsOut translation t names fuel) fuel)
+RunAnswer translation t names fuel heads = DoneOrSpent (Prints translation t names fuel heads)
+    (TellsFuel (RunsOut (start_net_of_term translation t names) fuel) fuel)
 
 -- ---- the closed words
 
@@ -106,33 +99,29 @@ pub record IsWorkOn (translation : Translation) (t : Tree) (names : List (List �
   pub after : IsAfter w net
   pub once : NoNodeTwice (journal_of w)
 
--- The run of this journal is complete and within the fuel, and the text is what is printed of it:
--- the term that is read from its last
--- net, whose nodes are numbered by ascending name; the counts of the journal; and the stuck pairs of that net.
-pub record PrintsWork (names : List (List ℕ)) (fuel heads : ℕ) (journal : List Entry)
-    (net : NamedNet NodeName) (text : List ℕ)
-    : Type 0 where
-  pub complete : IsComplete net
-  pub within : length journal ≤ fuel
+-- How a run ended: no pair is active, within the fuel; or some pair is, with as many entries as the fuel.
+abbrev pub EndsBy : (fuel : ℕ) → List Entry → NamedNet NodeName → Status → Type 0
+EndsBy fuel journal net status.Done = IsComplete net × (length journal ≤ fuel)
+EndsBy fuel journal net status.Spent = HasActive net × (length journal ≡ fuel)
+EndsBy fuel journal net _ = ⊥
+
+-- The closed words are those of a term's work that ended so, and this is said of their journal and their net.
+abbrev pub WorkHands : Translation → Tree → List (List ℕ) → (workers fuel : ℕ) → Status →
+    (List Entry → NamedNet NodeName → Type 0) → Option ClosedTable → Type 0
+WorkHands translation t names workers fuel st Says closed =
+    (w : ClosedTable) × (closed ≡ Some w) × (net : NamedNet NodeName) × IsWorkOn translation t names fuel workers w net
+    × EndsBy fuel (journal_of w) net st × Says (journal_of w) net
+
+-- The text is what is printed of a complete run: the term that is read from its last net, whose
+-- nodes are numbered by ascending name; the counts of the journal; and the stuck pairs of that net.
+pub record PrintsWork (names : List (List ℕ)) (heads : ℕ) (journal : List Entry)
+    (net : NamedNet NodeName) (text : List ℕ) : Type 0 where
   pub last : Graph
   pub frozen : IsFrozen net last
   pub shows : Shows names heads journal (net_under frozen.names (net_of last)) text
 
--- The journal has as many entries as the fuel, an active pair is left, and the text says so.
-pub record SpendsFuel (fuel : ℕ) (journal : List Entry) (net : NamedNet NodeName) (text : List ℕ) : Type 0 where
-  pub full : length journal ≡ fuel
-  pub left : HasActive net
-  pub written : text ≡ spent_text fuel
-
--- how the work ended
-abbrev pub EndsWork : List (List ℕ) → (fuel heads : ℕ) → List Entry → NamedNet NodeName → Status → List ℕ → Type 0
-EndsWork names fuel heads journal net status.Done text = PrintsWork names fuel heads journal net text
-EndsWork names fuel heads journal net status.Spent text = SpendsFuel fuel journal net text
-EndsWork names fuel heads journal net _ text = ⊥
-
--- the closed words of a term's work that ended so
+-- what `run` hands back of a term: the closed words, of which its text is printed, or tells the fuel
 abbrev pub RunHands : Translation → Tree → List (List ℕ) → (workers fuel heads : ℕ) → Status →
     List ℕ → Option ClosedTable → Type 0
-RunHands translation t names workers fuel heads st text closed =
-    (w : ClosedTable) × (closed ≡ Some w) × (net : NamedNet NodeName) × IsWorkOn translation t names fuel workers w net
-    × EndsWork names fuel heads (journal_of w) net st text
+RunHands translation t names workers fuel heads st text = WorkHands translation t names workers fuel st
+    (λ journal net. DoneOrSpent (PrintsWork names heads journal net) (λ text. text ≡ spent_text fuel) st text)

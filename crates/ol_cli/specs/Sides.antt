@@ -38,7 +38,6 @@ pub data EndsSecond (n : RunNumbers) (tree : List ReadNode) (names : List (List 
     (name : Text) (st : Status) (text : List ℕ) : Type 0 where
   refused : st ≢ status.Done → FileCause (run_on n name) s st text → EndsSecond n tree names s name st text
   compared : s.faults' ≡ s.faults → {bytes : List ℕ} → GaveAll s name bytes →
-      {others : List (List ℕ)} → {other : List ReadNode} →
-      IsReadOf n bytes others other → (c : Compared) →
+      {others : List (List ℕ)} → {other : List ReadNode} → IsReadOf n bytes others other → (c : Compared) →
       IsComparison (record { a = names; b = others }) tree other c → st ≡ status.Done →
       text ≡ line (compared_text c) → EndsSecond n tree names s name st text

@@ -11,7 +11,8 @@ use Rattle.ol_equal.specs.Comparing.{TreeWithNames, place_at, IsFirstApart, IsCo
 use Rattle.ol_equal.specs.Texts.{compared_text}
 use Rattle.ol_confluence.specs.Reductions.{Convertible}
 use Rattle.ol_confluence.specs.Compared.{by_bytes, TellsTerms, IsHeadBesideLost}
-use Rattle.ol_words.specs.Asked.{Asked, certify, equal}
+use Rattle.ol_words.specs.declared.jobs.Job.{Job as Asked}
+use Rattle.ol_words.specs.declared.jobs.Job.TheVariants.{Certify as certify, Equal as equal}
 use Rattle.ol_cli.specs.Texts.{line}
 use Rattle.ol_cli.specs.Jobs.{AskFor, Files}
 use Rattle.ol_cli.specs.Certify.{Certifies}
@@ -38,8 +39,7 @@ pub record TellsOfTwo (translation : Translation) (fuel heads : ℕ) (bytes byte
 abbrev pub TellsSources : Asked → Files → Option (List ℕ) → Option (List ℕ) → Type 0
 TellsSources (equal translation workers fuel heads a b) files old new =
     (bytes bytes' : List ℕ) → files 0 a ≡ Some bytes → files 1 b ≡ Some bytes' →
-    (t u : Tree) (names others : List (List ℕ)) → IsFileOf bytes t names →
-    IsFileOf bytes' u others →
+    (t u : Tree) (names others : List (List ℕ)) → IsFileOf bytes t names → IsFileOf bytes' u others →
     TellsOfTwo translation fuel heads bytes bytes' (record { a = names; b = others }) t u old new
 TellsSources (certify translation steps workers fuel heads name) files old new =
     (bytes : List ℕ) → files 0 name ≡ Some bytes → (t : Tree) (names : List (List ℕ)) →
@@ -48,10 +48,8 @@ TellsSources (certify translation steps workers fuel heads name) files old new =
 TellsSources _ files old new = Unit {0}
 
 -- the same of the words
-abbrev pub WritesOfSources : List (String Global) → Files → Option (List ℕ) → Option (List ℕ) →
-    Type 0
-WritesOfSources words files old new =
-    (asked : Asked) → AskFor words asked → TellsSources asked files old new
+abbrev pub WritesOfSources : List (String Global) → Files → Option (List ℕ) → Option (List ℕ) → Type 0
+WritesOfSources words files old new = (asked : Asked) → AskFor words asked → TellsSources asked files old new
 
 -- ---- laws
 
@@ -68,8 +66,7 @@ ComparisonTellsSources = (translation : Translation) (bytes bytes' : List ℕ) (
 abbrev pub HeadBesideLostTellsSources : Type 0
 HeadBesideLostTellsSources = (translation : Translation) (bytes bytes' : List ℕ) (fuel heads : ℕ)
     (x : HasTree translation bytes fuel heads) (y : HasTree translation bytes' fuel heads)
-    (k : ℕ) (path : List ℕ) →
-    IsFirstApart (record { a = x.names; b = y.names }) x.tree y.tree k path →
+    (k : ℕ) (path : List ℕ) → IsFirstApart (record { a = x.names; b = y.names }) x.tree y.tree k path →
     IsHeadBesideLost true true (place_at x.tree k) (place_at y.tree k) →
     Convertible (by_bytes x.names x.term) (by_bytes y.names y.term) → ⊥
 
@@ -78,5 +75,4 @@ HeadBesideLostTellsSources = (translation : Translation) (bytes bytes' : List �
 abbrev pub CertifyNeverDiffers : Type 0
 CertifyNeverDiffers = (translation : Translation) (bytes : List ℕ) (t : Tree)
     (names : List (List ℕ)) → IsFileOf bytes t names → (steps fuel heads : ℕ) (text : List ℕ)
-    (c : Certifies translation t names steps fuel heads text) (road : List (List ℕ)) →
-    c.verdict ≡ Differs road → ⊥
+    (c : Certifies translation t names steps fuel heads text) (road : List (List ℕ)) → c.verdict ≡ Differs road → ⊥

@@ -18,7 +18,9 @@ use Rattle.ol_completeness.specs.Least.{CanBeRead, CompleteRunsAreEnough}
 use Rattle.ol_completeness.specs.TheLeast.{IsTheLeast}
 use Rattle.ol_meaning.specs.Meaning.{SaysOf}
 use Rattle.ol_confluence.specs.Printed.{SaysAlways}
-use Rattle.ol_words.specs.Asked.{Asked, run, walk, gen, demand}
+use Rattle.ol_words.specs.declared.jobs.Job.{Job as Asked}
+use Rattle.ol_words.specs.declared.jobs.Job.TheVariants.{Run as run, Walk as walk, Gen as gen}
+use Rattle.ol_words.specs.declared.jobs.Job.TheVariants.{Demand as demand}
 use Rattle.ol_cli.specs.declared.status.Status.{Status}
 use Rattle.ol_cli.specs.declared.status.Status.TheVariants as status
 use Rattle.ol_cli.specs.Jobs.{AskFor, translation_in}

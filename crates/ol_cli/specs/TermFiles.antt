@@ -6,7 +6,10 @@ use Rattle.ol_term.specs.Trees.{Tree, depth}
 use Rattle.ol_term.specs.declared.translations.Translation.{Translation}
 use Rattle.ol_translate.specs.Sizes.{size_of_translation}
 use Rattle.ol_wire.specs.Closed.{ClosedTable}
-use Rattle.ol_words.specs.Asked.{Asked, certify, demand, net, run, trace, view, walk}
+use Rattle.ol_words.specs.declared.jobs.Job.{Job as Asked}
+use Rattle.ol_words.specs.declared.jobs.Job.TheVariants.{Certify as certify, Demand as demand}
+use Rattle.ol_words.specs.declared.jobs.Job.TheVariants.{Net as net, Run as run, Trace as trace}
+use Rattle.ol_words.specs.declared.jobs.Job.TheVariants.{View as view, Walk as walk}
 use Rattle.ol_cli.specs.Certify.{CertifyAnswer}
 use Rattle.ol_cli.specs.Demand.{DemandAnswer}
 use Rattle.ol_cli.specs.Jobs.{translation_in}

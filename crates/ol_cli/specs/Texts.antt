@@ -41,8 +41,7 @@ spent_text fuel = count_line (codes "fuel") fuel
 
 -- nine lines: the number of interactions of each rule, and of the pairs that are stuck
 abbrev pub counts_text : Counts → ℕ → List ℕ
-counts_text c stuck =
-    count_line (codes "beta") c.beta
+counts_text c stuck = count_line (codes "beta") c.beta
     ++ count_line (codes "fan") c.fan
     ++ count_line (codes "croissant") c.croissant
     ++ count_line (codes "bracket") c.bracket

@@ -1,8 +1,7 @@
 -- `trace`: the trace of a run of a term; the closed words of the workers that made it.
-use Rattle.std.specs.Prelude.{List, Option, Some, length, ℕ, ◌≡◌, ◌≤◌}
+use Rattle.std.specs.Prelude.{List, Option, ℕ, ◌≡◌}
 use Rattle.ol_diamond.specs.Waves.{AreWaves}
 use Rattle.ol_net.specs.Nets.{NamedNet}
-use Rattle.ol_net.specs.Pairs.{HasActive, IsComplete}
 use Rattle.ol_rules.specs.Runs.{IsRun}
 use Rattle.ol_rules.specs.declared.journal.Entry.{Entry}
 use Rattle.ol_rules.specs.declared.journal.NodeName.{NodeName}
@@ -10,7 +9,7 @@ use Rattle.ol_term.specs.Trees.{Tree}
 use Rattle.ol_term.specs.declared.translations.Translation.{Translation}
 use Rattle.ol_view.specs.WaveTexts.{wave_trace_text}
 use Rattle.ol_wire.specs.Closed.{ClosedTable}
-use Rattle.ol_cli.specs.Run.{IsWorkOn, RunEnds, RunsOut, journal_of, start_net_of_term}
+use Rattle.ol_cli.specs.Run.{EndsBy, RunEnds, RunsOut, WorkHands, start_net_of_term}
 use Rattle.ol_cli.specs.declared.status.Status.{Status}
 use Rattle.ol_cli.specs.declared.status.Status.TheVariants as status
 use Rattle.ol_cli.specs.Shapes.{DoneOrSpent}
@@ -21,33 +20,26 @@ IsTraceOf translation t names journal net text =
     (waves : List ℕ) × AreWaves (start_net_of_term translation t names) journal net waves
     × (text ≡ wave_trace_text journal waves)
 
--- how a run ended whose trace is written: no pair is active, within the fuel; or some pair is, with
--- as many entries as the fuel
-abbrev pub EndsTrace : (fuel : ℕ) → List Entry → NamedNet NodeName → Status → Type 0
-EndsTrace fuel journal net status.Done = IsComplete net × (length journal ≤ fuel)
-EndsTrace fuel journal net status.Spent = HasActive net × (length journal ≡ fuel)
-EndsTrace fuel journal net _ = ⊥
-
 -- The text is the trace of a run of the term that ended so.
 pub record Traces (translation : Translation) (t : Tree) (names : List (List ℕ)) (fuel : ℕ)
     (st : Status) (text : List ℕ) : Type 0 where
   pub journal : List Entry
   pub net : NamedNet NodeName
   pub run : IsRun (start_net_of_term translation t names) 0 journal net
-  pub ends : EndsTrace fuel journal net st
+  pub ends : EndsBy fuel journal net st
   pub written : IsTraceOf translation t names journal net text
 
 -- What `trace` answers to a term: where its one-thread run ends within the fuel, the trace of any
 -- run of it that is complete; where
 -- that run is longer, the trace of any run that has as many entries as the fuel and goes on.
 abbrev pub TraceAnswer : Translation → Tree → List (List ℕ) → (fuel : ℕ) → Status → List ℕ → Type 0
-TraceAnswer translation t names fuel =
-    DoneOrSpent (λ text. RunEnds translation t names fuel × Traces translation t names fuel status.Done text)
-    (λ text. RunsOut translation t names fuel × Traces translation t names fuel status.Spent text)
+TraceAnswer translation t names fuel = DoneOrSpent (λ text. RunEnds (start_net_of_term translation t names) fuel
+    × Traces translation t names fuel status.Done text)
+    (λ text. RunsOut (start_net_of_term translation t names) fuel
+    × Traces translation t names fuel status.Spent text)
 
--- the closed words of a term's work that ended so, and the text is the trace of their journal, with its waves
+-- what `trace` hands back of a term: the closed words, of whose journal the text is the trace, with its waves
 abbrev pub TraceHands : Translation → Tree → List (List ℕ) → (workers fuel : ℕ) → Status → List ℕ →
     Option ClosedTable → Type 0
-TraceHands translation t names workers fuel st text closed =
-    (w : ClosedTable) × (closed ≡ Some w) × (net : NamedNet NodeName) × IsWorkOn translation t names fuel workers w net
-    × EndsTrace fuel (journal_of w) net st × IsTraceOf translation t names (journal_of w) net text
+TraceHands translation t names workers fuel st text = WorkHands translation t names workers fuel st
+    (λ journal net. IsTraceOf translation t names journal net text)

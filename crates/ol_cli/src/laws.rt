@@ -4,13 +4,14 @@ ghost use Rattle.ol_cli.specs.DemandFuel.{DemandHasFuel};
 ghost use Rattle.ol_cli.specs.EveryRun.{EveryRunIsLonger, EveryRunPrints};
 ghost use Rattle.ol_cli.specs.EveryRun.{AnyRunPrints, AnyRunRunsOut, OneThreadIsThere};
 ghost use Rattle.ol_cli.specs.SourceLaws.{CertifyNeverDiffers, ComparisonTellsSources, HeadBesideLostTellsSources};
-ghost use Rattle.ol_cli.specs.Laws.{OneAnswer, OneNetIsLeft, OneTreeIsDemanded, OneTreeIsPrinted, OneTreeIsWalked, WorkersAreNotSeen};
+ghost use Rattle.ol_cli.specs.Laws.{OneAnswer, OneNetIsLeft, OneTreeIsDemanded, OneTreeIsPrinted};
+ghost use Rattle.ol_cli.specs.Laws.{OneTreeIsWalked, WorkersAreNotSeen};
 
-/// The same words and bytes have one status and one text, whatever the number of workers that the
-/// words ask for, but for what `trace` writes of a run, and for the stuck pairs and the net that `net` writes after nine lines, which are one. However the
-/// answer to a term is come by, it is that of one tree, one term and one number of stuck pairs, and
-/// in demand order of one journal; and the net of a file leaves one number of nodes and of stuck
-/// pairs, by as many interactions of each rule.
+/// One job, whatever its number of workers, and the same bytes have one status and one text, but for
+/// what `trace` writes of a run, and for the stuck pairs and the net that `net` writes after nine
+/// lines, which are one. However the answer to a term is come by, it is that of one tree, one term
+/// and one number of stuck pairs, and in demand order of one journal; and the net of a file leaves
+/// one number of nodes and of stuck pairs, by as many interactions of each rule.
 pub fn one_answer()
     ensures answer { OneAnswer }
     ensures printed { OneTreeIsPrinted }

@@ -1,5 +1,5 @@
 //! The limits of what is read, made ready and printed, and the numbers of `run` without options.
-//! The same names stand in specs/Limits.antt.
+//! Clauses have them from here, by specs/Limits.antt.
 
 /// The greatest number of bytes of a term file.
 pub const MOST_TERM_BYTES: u32 = 1_048_576;

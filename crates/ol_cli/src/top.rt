@@ -2,8 +2,9 @@
 ghost use Rattle.std.specs.Prelude.{List, ◌++◌, ℕ, ◌≢◌, ◌≤◌, ◌+◌, ◌≡◌, ◌<◌, ◌⊎◌, true, IfOk};
 ghost use Rattle.ol_io.specs.Outside.{Rose, Appended};
 ghost use Rattle.ol_io.specs.Readings.{Reading, AreOfSince, handed};
-ghost use Rattle.ol_words.specs.Asked.{Asked, asked_by};
-ghost use Rattle.ol_cli.specs.Jobs.{AskFor, AskForNothing, EachName, IsKnownTo, OfReadFiles, TellsTerm, TellsFiles, count_of_files, files_of};
+ghost use Rattle.ol_words.specs.declared.jobs.Job.{Job as Asked};
+ghost use Rattle.ol_cli.specs.Jobs.{AskFor, AskForNothing, EachName, IsKnownTo, OfReadFiles};
+ghost use Rattle.ol_cli.specs.Jobs.{TellsTerm, TellsFiles, count_of_files, files_of};
 ghost use Rattle.ol_cli.specs.Inside.{ComesOf, ComesOfWords, IsWithinLimits, Writes};
 ghost use Rattle.ol_cli.specs.Answers.{IfNoneFailed, seen_of, Ends, IsAnswer, RefusesFirst};
 ghost use Rattle.ol_cli.specs.Completeness.{AskForWhatCanBeDone, IsDoneOrNothing};
@@ -109,9 +110,9 @@ pub struct Outcome {
 /// 1984). A `?` of `walk` says only that none of the walks that were tried gave a head. Whatever run
 /// leads to a net from which the same places can be read by walks that meet no active pair rewrites,
 /// by birth names, each pair that `demand` rewrites, and is no shorter; so is each complete run, and
-/// where `demand` needs more than F interactions, each complete run does. Where the term has a normal form, `demand` ends
-/// within some number of interactions, and writes it if as many heads are asked for as it has
-/// places.
+/// where `demand` needs more than F interactions, each complete run does. Where the term has a
+/// normal form, `demand` ends within some number of interactions, and writes it if as many heads are
+/// asked for as it has places.
 ///
 /// Refusals are tried in the order that `Status` tells. Each has a line of its own: the usage,
 /// `read fault`, `syntax at byte B` with the length of the longest prefix that begins a text of the
@@ -402,7 +403,7 @@ fn answer_words<R: Threads + Wait + Sync, S: Source, G: Gate + Sync>(
     }
 }
 
-// The answer to a job: a line a command.
+// The answer to a job: one arm a command.
 fn answer_job<R: Threads + Wait + Sync, S: Source, G: Gate + Sync>(
     rt: &R,
     alloc: Global,
@@ -410,14 +411,14 @@ fn answer_job<R: Threads + Wait + Sync, S: Source, G: Gate + Sync>(
     src: &mut S,
     gate: &G,
 ) -> Result<Answer, NoMemory>
-    requires known { EachName (asked_by job.now) (λ name. S.knows src.old name ≡ true) }
-    requires within { IsWithinLimits (asked_by job.now) }
+    requires known { EachName job.now (λ name. S.knows src.old name ≡ true) }
+    requires within { IsWithinLimits job.now }
     ensures comes { OfReadFiles (S.readings src.old) (S.readings src.new) (λ files.
-        IfOk result (ComesOf (asked_by job.now)
+        IfOk result (ComesOf job.now
         (seen_of S.faults files S.given S.ended src.old src.new))) }
-    ensures begins { S.begins src.new ≤ S.begins src.old + count_of_files (asked_by job.now) }
+    ensures begins { S.begins src.new ≤ S.begins src.old + count_of_files job.now }
     ensures first_alone { OfReadFiles (S.readings src.old) (S.readings src.new) (λ files.
-        RefusesFirst (files 0) (asked_by job.now) → S.begins src.new ≤ S.begins src.old + 1) }
+        RefusesFirst (files 0) job.now → S.begins src.new ≤ S.begins src.old + 1) }
     ensures knows { S.knows src.new ≡ S.knows src.old }
     ensures contents { S.contents src.new ≡ S.contents src.old }
     ensures told { AreOfSince (λ _. S.contents src.old) (S.readings src.old) (S.readings src.new) }

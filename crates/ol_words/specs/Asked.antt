@@ -1,26 +1,15 @@
--- What the words of a command line ask for: the verbs, and what each asks for with its numbers and names.
+-- What the words of a command line ask for: the verbs, and what each asks for with its numbers and names. What is asked
+-- is a `Job` of src/jobs.rt.
 use Rattle.std.specs.Prelude.{ℕ, Bool, ◌&&◌, ◌==◌, List, [], ◌∷◌, Option, None, Some, if◌then◌else◌, codes, option_map}
 use Rattle.std.specs.Str.{bytes_eq}
 use Rattle.ol_term.specs.declared.translations.Translation.{Translation}
 use Rattle.ol_term.specs.declared.translations.Translation.TheVariants.{One, Two}
 use Rattle.ol_words.specs.Texts.{Text}
-use Rattle.ol_words.specs.Numbers.{Limits, from_to, number_within}
-use Rattle.ol_words.specs.declared.jobs.Job.{Job}
-use Rattle.ol_words.specs.declared.jobs.Job.TheVariants as job
-
--- what is to be done, with the texts as lists of bytes
-pub data Asked : Type 0 where
-  run : (translation : Translation) → (workers : ℕ) → (fuel : ℕ) → (heads : ℕ) → (name : Text) → Asked
-  walk : (translation : Translation) → (edges : ℕ) → (heads : ℕ) → (name : Text) → Asked
-  view : (translation : Translation) → (after : ℕ) → (name : Text) → Asked
-  trace : (translation : Translation) → (workers : ℕ) → (fuel : ℕ) → (name : Text) → Asked
-  check : (translation : Translation) → (term : Text) → (journal : Text) → Asked
-  gen : (translation : Translation) → (runs : Bool) → (k : ℕ) → Asked
-  demand : (translation : Translation) → (fuel : ℕ) → (heads : ℕ) → (name : Text) → Asked
-  certify : (translation : Translation) → (steps : ℕ) → (workers : ℕ) → (fuel : ℕ) → (heads : ℕ) → (name : Text) → Asked
-  net : (translation : Translation) → (from_term : Bool) → (workers : ℕ) → (fuel : ℕ) → (name : Text) → Asked
-  equal : (translation : Translation) → (workers : ℕ) → (fuel : ℕ) → (heads : ℕ) → (first : Text) →
-      (second : Text) → Asked
+use Rattle.ol_words.specs.Numbers.{from_to, number_within}
+pub use Rattle.ol_words.specs.declared.jobs.Job.{Job as Asked}
+pub use Rattle.ol_words.specs.declared.jobs.Job.TheVariants.{Run as run, Walk as walk, View as view, Trace as trace}
+pub use Rattle.ol_words.specs.declared.jobs.Job.TheVariants.{Check as check, Gen as gen, Demand as demand}
+pub use Rattle.ol_words.specs.declared.jobs.Job.TheVariants.{Certify as certify, Net as net, Equal as equal}
 
 -- the word behind the program's name is one of these
 pub data Verb : Type 0 where
@@ -30,10 +19,6 @@ pub data Verb : Type 0 where
 -- the translation of a number: 1 or 2
 abbrev pub numbered : ℕ → Translation
 numbered n = if n == 1 then One else Two
-
--- how often a term may be doubled
-abbrev pub doublings : Limits
-doublings = from_to 0 10 0
 
 -- the name of standard input
 abbrev pub is_input : Text → Bool
@@ -50,7 +35,7 @@ asks walk_verb (t ∷ edges ∷ heads ∷ []) (name ∷ []) = Some (walk (number
 asks view_verb (t ∷ after ∷ []) (name ∷ []) = Some (view (numbered t) after name)
 asks trace_verb (t ∷ workers ∷ fuel ∷ []) (name ∷ []) = Some (trace (numbered t) workers fuel name)
 asks check_verb (t ∷ []) (term ∷ journal ∷ []) = of_two (check (numbered t)) term journal
-asks gen_verb (t ∷ runs ∷ []) (number ∷ []) = option_map (gen (numbered t) (runs == 1)) (number_within doublings number)
+asks gen_verb (t ∷ runs ∷ []) (k ∷ []) = option_map (gen (numbered t) (runs == 1)) (number_within (from_to 0 10 0) k)
 asks demand_verb (t ∷ fuel ∷ heads ∷ []) (name ∷ []) = Some (demand (numbered t) fuel heads name)
 asks certify_verb (t ∷ steps ∷ workers ∷ fuel ∷ heads ∷ []) (name ∷ []) = Some
     (certify (numbered t) steps workers fuel heads name)
@@ -59,15 +44,3 @@ asks net_verb (t ∷ from_term ∷ workers ∷ fuel ∷ []) (name ∷ []) = Some
 asks equal_verb (t ∷ workers ∷ fuel ∷ heads ∷ []) (first ∷ second ∷ []) = of_two
     (equal (numbered t) workers fuel heads) first second
 asks _ _ _ = None
-
-abbrev pub asked_by : Job → Asked
-asked_by (job.Run translation workers fuel heads name) = run translation workers fuel heads name
-asked_by (job.Walk translation edges heads name) = walk translation edges heads name
-asked_by (job.View translation after name) = view translation after name
-asked_by (job.Trace translation workers fuel name) = trace translation workers fuel name
-asked_by (job.Check translation term journal) = check translation term journal
-asked_by (job.Gen translation runs k) = gen translation runs k
-asked_by (job.Demand translation fuel heads name) = demand translation fuel heads name
-asked_by (job.Certify translation steps workers fuel heads name) = certify translation steps workers fuel heads name
-asked_by (job.Net translation from_term workers fuel name) = net translation from_term workers fuel name
-asked_by (job.Equal translation workers fuel heads first second) = equal translation workers fuel heads first second

@@ -66,8 +66,7 @@ verb_row net_verb = verb (codes "net") (from_term ∷ workers ∷ fuel ∷ [])
 verb_row equal_verb = verb (codes "equal") (workers ∷ fuel ∷ heads ∷ [])
 
 abbrev pub verbs : List Verb
-verbs =
-    run_verb ∷ walk_verb ∷ view_verb ∷ trace_verb ∷ check_verb ∷ gen_verb
+verbs = run_verb ∷ walk_verb ∷ view_verb ∷ trace_verb ∷ check_verb ∷ gen_verb
     ∷ demand_verb ∷ certify_verb ∷ net_verb ∷ equal_verb ∷ []
 
 abbrev pub verb_named : Text → Option Verb

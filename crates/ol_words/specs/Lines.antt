@@ -42,8 +42,7 @@ flag_alone flag (Some value) = None
 
 -- `name` or `name=value`
 abbrev pub name_and_value : Known → Text → Option (Text × Option Text)
-name_and_value known text =
-    if is_option known.flags (before_first is_equals text)
+name_and_value known text = if is_option known.flags (before_first is_equals text)
     then flag_alone (before_first is_equals text) (value_in text)
     else (if is_option known.options (before_first is_equals text)
     then Some (before_first is_equals text, value_in text)
@@ -73,8 +72,7 @@ after_option (Some (option, Some value)) waits line = option_map (with_option op
 -- the words are read where no option, or this one, waits for its value
 unfoldable pub line_from : Known → Option Text → List Text → Option Line
 line_from known None [] = Some (record { options = []; names = [] })
-line_from known None (word ∷ rest) =
-    if is_end word then Some (record { options = []; names = rest })
+line_from known None (word ∷ rest) = if is_end word then Some (record { options = []; names = rest })
     else (if is_dashed word
     then after_option (option_of known word) (λ option. line_from known (Some option) rest) (line_from known None rest)
     else option_map (with_name word) (line_from known None rest))

@@ -15,16 +15,13 @@ is_given_once line option = nat_lt (length (values_of option line.options)) 2
 
 -- each option is given once at most, and there are so many names
 abbrev pub is_told_once : List Text → ℕ → Line → Bool
-is_told_once options names line =
-    list_all (is_given_once line) options && nat_eq (length line.names) names
+is_told_once options names line = list_all (is_given_once line) options && nat_eq (length line.names) names
 
 abbrev pub is_agreed : Verb → List Text → Bool
-is_agreed v rest =
-    option_map_or (is_told_once (options_of v) (length (ids_of v))) (line_of (known_of v) rest) false
+is_agreed v rest = option_map_or (is_told_once (options_of v) (length (ids_of v))) (line_of (known_of v) rest) false
 
 -- the verb of words that are left to clap: all words that have a job, and of the others those with a
 -- bad number and those that name standard input twice
 abbrev pub agreed_verb : List Text → Option Verb
-agreed_verb (program ∷ word ∷ rest) =
-    option_and_then (λ v. if is_agreed v rest then Some v else None) (verb_named word)
+agreed_verb (program ∷ word ∷ rest) = option_and_then (λ v. if is_agreed v rest then Some v else None) (verb_named word)
 agreed_verb _ = None

@@ -1,7 +1,8 @@
 //! The numbers of a command line.
 
 ghost use Rattle.std.specs.Prelude.{◌≡◌, option_map, Some, None, if◌then◌else◌};
-ghost use Rattle.ol_words.specs.Numbers.{number_in, number_within, is_number};
+ghost use Rattle.std.specs.Str.Parse.{digits_value};
+ghost use Rattle.ol_words.specs.Numbers.{number_within, is_number};
 ghost use Rattle.ol_words.specs.Views.{limits_of};
 ghost use Rattle.ol_words.specs.Found.{setting_by};
 
@@ -87,7 +88,7 @@ pub(crate) fn number_within(text: &[u8], limits: Limits) -> Option<u32>
 
 // The number that 1 to 8 ASCII digits write.
 fn number_in(text: &[u8]) -> Option<u32>
-    ensures { result ≡ (if is_number text.now then Some (number_in text.now) else None) }
+    ensures { result ≡ (if is_number text.now then Some (digits_value 10 text.now) else None) }
 {
     if text.is_empty() || text.len() > 8 {
         return None;

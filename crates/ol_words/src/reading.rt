@@ -2,7 +2,8 @@
 
 ghost use Rattle.std.specs.Prelude.{◌≡◌, ◌==◌, ◌&&◌, IfOk, Err, Some, None, option_map, option_and_then};
 ghost use Rattle.ol_words.specs.Texts.{texts_of};
-ghost use Rattle.ol_words.specs.Asked.{asked_by, certify_verb, check_verb, demand_verb, equal_verb, gen_verb, is_input, net_verb, run_verb, trace_verb, view_verb, walk_verb};
+ghost use Rattle.ol_words.specs.Asked.{certify_verb, check_verb, demand_verb, equal_verb, gen_verb};
+ghost use Rattle.ol_words.specs.Asked.{is_input, net_verb, run_verb, trace_verb, view_verb, walk_verb};
 ghost use Rattle.ol_words.specs.Jobs.{job_of};
 ghost use Rattle.ol_words.specs.Views.{verb_of};
 ghost use Rattle.ol_words.specs.Once.{agreed_verb};
@@ -40,7 +41,7 @@ use std::alloc::{AllocError, Global};
 /// memory runs out.
 pub fn job(alloc: Global, words: &Vec<String>) -> Result<Job, UsageFault>
     // The job is that of the words.
-    ensures job { IfOk result (λ job. job_of (texts_of words.now.items) ≡ Some (asked_by job)) }
+    ensures job { IfOk result (λ job. job_of (texts_of words.now.items) ≡ Some job) }
 
     // A refusal comes only where the words have no job.
     ensures refused { result ≡ Err UsageFault.Refused → job_of (texts_of words.now.items) ≡ None }
@@ -79,7 +80,7 @@ fn agreed_verb(alloc: Global, words: &Vec<String>) -> Result<Option<Verb>, Alloc
 
 // The job by what was given behind a verb.
 fn job_by(alloc: Global, verb: Verb, found: &ArgMatches) -> Result<Job, UsageFault>
-    ensures job { IfOk result (λ job. job_found (verb_of verb) found.now ≡ Some (asked_by job)) }
+    ensures job { IfOk result (λ job. job_found (verb_of verb) found.now ≡ Some job) }
     ensures refused { result ≡ Err UsageFault.Refused → job_found (verb_of verb) found.now ≡ None }
 {
     match verb {
@@ -98,7 +99,7 @@ fn job_by(alloc: Global, verb: Verb, found: &ArgMatches) -> Result<Job, UsageFau
 
 // The job by what was given behind `run`.
 fn run_by(alloc: Global, found: &ArgMatches) -> Result<Job, UsageFault>
-    ensures job { IfOk result (λ job. job_found run_verb found.now ≡ Some (asked_by job)) }
+    ensures job { IfOk result (λ job. job_found run_verb found.now ≡ Some job) }
     ensures refused { result ≡ Err UsageFault.Refused → job_found run_verb found.now ≡ None }
 {
     let Some(translation) = translation_by(found.get_str("translation")) else {
@@ -128,7 +129,7 @@ fn run_by(alloc: Global, found: &ArgMatches) -> Result<Job, UsageFault>
 
 // The job by what was given behind `walk`.
 fn walk_by(alloc: Global, found: &ArgMatches) -> Result<Job, UsageFault>
-    ensures job { IfOk result (λ job. job_found walk_verb found.now ≡ Some (asked_by job)) }
+    ensures job { IfOk result (λ job. job_found walk_verb found.now ≡ Some job) }
     ensures refused { result ≡ Err UsageFault.Refused → job_found walk_verb found.now ≡ None }
 {
     let Some(translation) = translation_by(found.get_str("translation")) else {
@@ -154,7 +155,7 @@ fn walk_by(alloc: Global, found: &ArgMatches) -> Result<Job, UsageFault>
 
 // The job by what was given behind `view`.
 fn view_by(alloc: Global, found: &ArgMatches) -> Result<Job, UsageFault>
-    ensures job { IfOk result (λ job. job_found view_verb found.now ≡ Some (asked_by job)) }
+    ensures job { IfOk result (λ job. job_found view_verb found.now ≡ Some job) }
     ensures refused { result ≡ Err UsageFault.Refused → job_found view_verb found.now ≡ None }
 {
     let Some(translation) = translation_by(found.get_str("translation")) else {
@@ -176,7 +177,7 @@ fn view_by(alloc: Global, found: &ArgMatches) -> Result<Job, UsageFault>
 
 // The job by what was given behind `trace`.
 fn trace_by(alloc: Global, found: &ArgMatches) -> Result<Job, UsageFault>
-    ensures job { IfOk result (λ job. job_found trace_verb found.now ≡ Some (asked_by job)) }
+    ensures job { IfOk result (λ job. job_found trace_verb found.now ≡ Some job) }
     ensures refused { result ≡ Err UsageFault.Refused → job_found trace_verb found.now ≡ None }
 {
     let Some(translation) = translation_by(found.get_str("translation")) else {
@@ -202,7 +203,7 @@ fn trace_by(alloc: Global, found: &ArgMatches) -> Result<Job, UsageFault>
 
 // The job by what was given behind `check`.
 fn check_by(alloc: Global, found: &ArgMatches) -> Result<Job, UsageFault>
-    ensures job { IfOk result (λ job. job_found check_verb found.now ≡ Some (asked_by job)) }
+    ensures job { IfOk result (λ job. job_found check_verb found.now ≡ Some job) }
     ensures refused { result ≡ Err UsageFault.Refused → job_found check_verb found.now ≡ None }
 {
     let Some(translation) = translation_by(found.get_str("translation")) else {
@@ -228,7 +229,7 @@ fn check_by(alloc: Global, found: &ArgMatches) -> Result<Job, UsageFault>
 
 // The job by what was given behind `gen`.
 fn gen_by(found: &ArgMatches) -> Result<Job, UsageFault>
-    ensures job { IfOk result (λ job. job_found gen_verb found.now ≡ Some (asked_by job)) }
+    ensures job { IfOk result (λ job. job_found gen_verb found.now ≡ Some job) }
     ensures refused { result ≡ Err UsageFault.Refused → job_found gen_verb found.now ≡ None }
 {
     let Some(translation) = translation_by(found.get_str("translation")) else {
@@ -250,7 +251,7 @@ fn gen_by(found: &ArgMatches) -> Result<Job, UsageFault>
 
 // The job by what was given behind `demand`.
 fn demand_by(alloc: Global, found: &ArgMatches) -> Result<Job, UsageFault>
-    ensures job { IfOk result (λ job. job_found demand_verb found.now ≡ Some (asked_by job)) }
+    ensures job { IfOk result (λ job. job_found demand_verb found.now ≡ Some job) }
     ensures refused { result ≡ Err UsageFault.Refused → job_found demand_verb found.now ≡ None }
 {
     let Some(translation) = translation_by(found.get_str("translation")) else {
@@ -276,7 +277,7 @@ fn demand_by(alloc: Global, found: &ArgMatches) -> Result<Job, UsageFault>
 
 // The job by what was given behind `certify`.
 fn certify_by(alloc: Global, found: &ArgMatches) -> Result<Job, UsageFault>
-    ensures job { IfOk result (λ job. job_found certify_verb found.now ≡ Some (asked_by job)) }
+    ensures job { IfOk result (λ job. job_found certify_verb found.now ≡ Some job) }
     ensures refused { result ≡ Err UsageFault.Refused → job_found certify_verb found.now ≡ None }
 {
     let Some(translation) = translation_by(found.get_str("translation")) else {
@@ -310,7 +311,7 @@ fn certify_by(alloc: Global, found: &ArgMatches) -> Result<Job, UsageFault>
 
 // The job by what was given behind `net`.
 fn net_by(alloc: Global, found: &ArgMatches) -> Result<Job, UsageFault>
-    ensures job { IfOk result (λ job. job_found net_verb found.now ≡ Some (asked_by job)) }
+    ensures job { IfOk result (λ job. job_found net_verb found.now ≡ Some job) }
     ensures refused { result ≡ Err UsageFault.Refused → job_found net_verb found.now ≡ None }
 {
     let Some(translation) = translation_by(found.get_str("translation")) else {
@@ -338,7 +339,7 @@ fn net_by(alloc: Global, found: &ArgMatches) -> Result<Job, UsageFault>
 
 // The job by what was given behind `equal`.
 fn equal_by(alloc: Global, found: &ArgMatches) -> Result<Job, UsageFault>
-    ensures job { IfOk result (λ job. job_found equal_verb found.now ≡ Some (asked_by job)) }
+    ensures job { IfOk result (λ job. job_found equal_verb found.now ≡ Some job) }
     ensures refused { result ≡ Err UsageFault.Refused → job_found equal_verb found.now ≡ None }
 {
     let Some(translation) = translation_by(found.get_str("translation")) else {

@@ -3,7 +3,7 @@
 ghost use Rattle.std.specs.Prelude.{◌≡◌, ◌≤◌, ◌+◌, true, IfOk, None};
 ghost use Rattle.ol_io.specs.Readings.{AreOfSince};
 ghost use Rattle.ol_term.specs.Trees.{tree_of};
-ghost use Rattle.ol_words.specs.Asked.{demand};
+ghost use Rattle.ol_words.specs.declared.jobs.Job.TheVariants.{Demand as demand};
 ghost use Rattle.ol_cli.specs.Jobs.{OfReadFiles};
 ghost use Rattle.ol_cli.specs.Answers.{seen_of};
 ghost use Rattle.ol_cli.specs.Inside.{AnswersTerm, ComesOf, IsReadByNames, demand_by};

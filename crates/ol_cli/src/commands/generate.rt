@@ -1,6 +1,6 @@
 //! The command `gen`: a term that is made, printed or evaluated.
 ghost use Rattle.std.specs.Prelude.{◌≡◌, ◌≤◌, length, IfOk};
-ghost use Rattle.ol_words.specs.Asked.{gen};
+ghost use Rattle.ol_words.specs.declared.jobs.Job.TheVariants.{Gen as gen};
 ghost use Rattle.ol_cli.specs.TermFiles.{FileAnswer};
 ghost use Rattle.ol_cli.specs.Answers.{Seen};
 ghost use Rattle.ol_cli.specs.Generate.{plain_run};

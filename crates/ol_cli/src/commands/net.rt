@@ -4,7 +4,7 @@ ghost use Rattle.ol_io.specs.Readings.{AreOfSince};
 ghost use Rattle.ol_net.specs.Numbered.{net_of};
 ghost use Rattle.ol_wire.specs.Sizes.{IsSmallNet};
 ghost use Rattle.ol_term.specs.declared.translations.Translation.{Translation};
-ghost use Rattle.ol_words.specs.Asked as jobs;
+ghost use Rattle.ol_words.specs.declared.jobs.Job.TheVariants as jobs;
 ghost use Rattle.ol_cli.specs.Jobs.{OfReadFiles};
 ghost use Rattle.ol_cli.specs.Answers.{seen_of};
 ghost use Rattle.ol_cli.specs.Inside.{ComesOf};
@@ -40,7 +40,7 @@ pub fn answer_net_of_term<S: Source>(
     requires known { S.knows src.old name.now ≡ true }
     ensures comes { OfReadFiles (S.readings src.old) (S.readings src.new) (λ files.
         IfOk result (λ a. (workers fuel : ℕ) →
-        ComesOf (jobs.net translation true workers fuel name.now)
+        ComesOf (jobs.Net translation true workers fuel name.now)
         (seen_of S.faults files S.given S.ended src.old src.new) a)) }
     ensures begins { S.begins src.new ≤ S.begins src.old + 1 }
     ensures knows { S.knows src.new ≡ S.knows src.old }
@@ -84,7 +84,7 @@ pub fn answer_net<R: Threads + Wait + Sync, S: Source, G: Gate + Sync>(
     requires fuel { fuel ≤ most_fuel }
     ensures comes { OfReadFiles (S.readings src.old) (S.readings src.new) (λ files.
         IfOk result (λ a. (translation : Translation) →
-        ComesOf (jobs.net translation false workers fuel name.now)
+        ComesOf (jobs.Net translation false workers fuel name.now)
         (seen_of S.faults files S.given S.ended src.old src.new) a)) }
     ensures begins { S.begins src.new ≤ S.begins src.old + 1 }
     ensures knows { S.knows src.new ≡ S.knows src.old }

@@ -19,5 +19,4 @@ pub returns-clause-demanded : goal.returns-clause-demanded
 returns-clause-demanded c = one_demanded_tree
 
 pub returns-clause-left : goal.returns-clause-left
-returns-clause-left c = λ net fuel counts counts' stuck stuck' nodes nodes' is_net e e'.
-    one_net_is_left net fuel counts counts' stuck stuck' nodes nodes' is_net e e'
+returns-clause-left c = one_net_is_left

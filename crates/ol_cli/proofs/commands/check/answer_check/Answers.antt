@@ -1,7 +1,7 @@
 -- The journal file is read after the term file, so what comes of both is what comes of the second after the first.
 use Rattle.std.proofs.Common.{◌+◌}
 use Rattle.ol_term.specs.Trees.{tree_of}
-use Rattle.ol_words.specs.Asked.{check}
+use Rattle.ol_words.specs.declared.jobs.Job.TheVariants.{Check as check}
 use Rattle.ol_cli.specs.Answers.{Seen, by_journal, seen}
 use Rattle.ol_cli.specs.Check.{JournalAnswer}
 use Rattle.ol_io.proofs.Readings.{AreOfSince-parts, AreOfSince-then}

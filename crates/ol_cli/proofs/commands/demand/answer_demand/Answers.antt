@@ -1,4 +1,4 @@
-use Rattle.ol_words.specs.Asked.{demand}
+use Rattle.ol_words.specs.declared.jobs.Job.TheVariants.{Demand as demand}
 use Rattle.ol_cli.proofs.TermJobs.{refused_comes, term_comes}
 use Rattle.ol_cli.proofs.commands.demand.answer_demand.Goals as goal
 

@@ -1,4 +1,7 @@
+use Rattle.std.proofs.Common.{subst}
 use Rattle.ol_term.specs.Trees.{tree_of}
+use Rattle.ol_cli.specs.declared.numbers.RunNumbers.{RunNumbers}
+use Rattle.ol_cli.specs.Inside.{AnswersTerm, run_by}
 use Rattle.ol_cli.specs.Generate.{plain_run}
 use Rattle.ol_cli.proofs.Handing.{file_hands}
 use Rattle.ol_cli.proofs.ReadAgain.{file_read}
@@ -11,7 +14,8 @@ returns-in_ok-answer-in-Net-clause-answer g c =
     let a = c.in_ok-answer-in-Net.answer in
     term_answer (plain_run c.args.translation) c.args.bytes.now
     (tree_of c.in-Net.file.term) c.in-Net.file.names ready.term a.status a.text.items
-    (rw c.plain.ensures at c.in_ok-answer-in-Net.ensures.answer)
+    (subst (λ (n : RunNumbers). AnswersTerm (run_by n) c.in-Net.file a.status a.text.items)
+    c.plain.ensures c.in_ok-answer-in-Net.ensures.answer)
 
 pub returns-in_ok-answer-in-Net-clause-closed : goal.returns-in_ok-answer-in-Net-clause-closed
 returns-in_ok-answer-in-Net-clause-closed g c =

@@ -1,5 +1,5 @@
 use Rattle.ol_term.specs.Trees.{tree_of}
-use Rattle.ol_words.specs.Asked.{trace}
+use Rattle.ol_words.specs.declared.jobs.Job.TheVariants.{Trace as trace}
 use Rattle.ol_cli.proofs.TermJobs.{refused_comes, term_comes}
 use Rattle.ol_cli.proofs.commands.trace.answer_trace.Goals as goal
 

@@ -1,7 +1,7 @@
 use Rattle.std.proofs.Common.{None, refl}
 use Rattle.ol_cli.specs.declared.status.Status.TheVariants.{Done}
 use Rattle.ol_term.specs.Trees.{tree_of}
-use Rattle.ol_words.specs.Asked.{view}
+use Rattle.ol_words.specs.declared.jobs.Job.TheVariants.{View as view}
 use Rattle.ol_cli.proofs.TermJobs.{refused_comes, term_comes}
 use Rattle.ol_cli.proofs.commands.view.answer_view.Goals as goal
 

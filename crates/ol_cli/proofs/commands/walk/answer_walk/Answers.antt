@@ -1,6 +1,6 @@
 use Rattle.std.proofs.Common.{None, refl}
 use Rattle.ol_cli.specs.declared.status.Status.TheVariants.{Done}
-use Rattle.ol_words.specs.Asked.{walk}
+use Rattle.ol_words.specs.declared.jobs.Job.TheVariants.{Walk as walk}
 use Rattle.ol_cli.proofs.TermJobs.{refused_comes, term_comes}
 use Rattle.ol_cli.proofs.commands.walk.answer_walk.Goals as goal
 
