@@ -31,14 +31,15 @@ term_is_read_by_the_least τ t names h g is_net same M heads journal places d =
     (clear τ t names h g is_net same) d
 
 pub term_net_is_fit : TermNetIsFit
-term_net_is_fit τ t names h g is_net same = (
-  start τ t names h g is_net same,
-  clear τ t names h g is_net same,
-  let e = same.free_ports in
-      omega arith,
-)
+term_net_is_fit τ t names h g is_net same = record {
+  start = start τ t names h g is_net same;
+  levelled = levels τ t names h g is_net same;
+  clear = clear τ t names h g is_net same;
+  root = (let e = same.free_ports in
+      omega arith);
+}
 
 pub term_is_read_where_one_serves : TermIsReadWhereOneServes
 term_is_read_where_one_serves τ t names h g is_net same P heads other run enough =
     let fit = term_net_is_fit τ t names h g is_net same in
-    ends_where_one_serves (start_of g) P heads other fit.0 fit.1 fit.2 run enough
+    ends_where_one_serves (start_of g) P heads other fit.start fit.clear fit.root run enough
