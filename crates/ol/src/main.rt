@@ -10,6 +10,7 @@ ghost use Rattle.ol_cli.specs.Jobs.{OfReadFiles, TellsTerm, TellsFiles, files_of
 ghost use Rattle.ol_cli.specs.NormalForms.{LineSays, IsItsNormalForm, TellsOfNone};
 ghost use Rattle.ol_cli.specs.NormalForms.{IsFoundOnDemand, LineSaysOfTwo};
 ghost use Rattle.ol_cli.specs.NormalForms.{ArePlain, PlainDemandFinds, PlainDemandIsFrugal};
+ghost use Rattle.ol_cli.specs.NormalForms.{PlainDemandIsOptimal};
 ghost use Rattle.ol_cli.specs.NormalForms.{PlainEqualSays, PlainLineSays};
 ghost use Rattle.ol_cli.specs.Answers.{IsAnswer};
 ghost use Rattle.ol_cli.specs.Completeness.{AskForWhatCanBeDone, IsDoneOrNothing};
@@ -71,6 +72,10 @@ fn run<'a, R: Files + Input + Print + Threads + Wait + Sync>(
     ensures plain_frugal { result.status ≡ Status.Done
         → OfReadFiles [] (⟦<StdSource<'a, R> as Source>⟧.readings result.src) (λ files.
         PlainDemandIsFrugal words.now.items files (Some [])
+        (⟦<StdSink<'a, R> as Sink>⟧.taken result.out)) }
+    ensures plain_optimal { result.status ≡ Status.Done
+        → OfReadFiles [] (⟦<StdSource<'a, R> as Source>⟧.readings result.src) (λ files.
+        PlainDemandIsOptimal words.now.items files (Some [])
         (⟦<StdSink<'a, R> as Sink>⟧.taken result.out)) }
     ensures plain_equal { result.status ≡ Status.Done
         → OfReadFiles [] (⟦<StdSource<'a, R> as Source>⟧.readings result.src) (λ files.

@@ -21,7 +21,20 @@ use Rattle.ol_cli.specs.Jobs.{AskFor, AreTold, TellsFiles, TellsTerm, term_bytes
 use Rattle.ol_cli.specs.Sources.{WritesTree}
 use Rattle.ol_cli.specs.NormalForms.{ArePlain, LineIsOf, PlainLineSays}
 use Rattle.ol_cli.specs.NormalForms.{ArePlainTwo, PlainEqualSays, PlainDemandFinds, LineSaysOfTwo}
-use Rattle.ol_cli.specs.NormalForms.{PlainDemandIsFrugal}
+use Rattle.ol_cli.specs.NormalForms.{PlainDemandIsFrugal, PlainDemandIsOptimal, CountsSay}
+use Rattle.ol_cli.specs.NormalForms.{IsNoMoreThanLeftmost, IsNoMoreThanFamilies}
+use Rattle.ol_demand.specs.Demands.{Asking, Turns}
+use Rattle.ol_families.proofs.Betas.{run_has_families}
+use Rattle.ol_net.specs.Nets.{NamedNet, net_under}
+use Rattle.ol_net.specs.declared.parts.Rule.TheVariants as rule
+use Rattle.ol_parse.specs.Grammar.{Named}
+use Rattle.ol_parse.specs.Texts.{IsText}
+use Rattle.ol_readback.specs.declared.answers.ReadNode.{ReadNode}
+use Rattle.ol_rules.specs.Counting.{times_applied}
+use Rattle.ol_rules.specs.declared.journal.Entry.{Entry}
+use Rattle.ol_rules.specs.declared.journal.NodeName.{NodeName}
+use Rattle.ol_rules.specs.declared.journal.NodeName.TheVariants.{Init}
+use Rattle.ol_translate.specs.Names.{HasNames}
 use Rattle.ol_cli.proofs.DemandRuns.{is_start}
 use Rattle.ol_cli.proofs.OneAnswer.{file_names}
 use Rattle.ol_frugal.proofs.Never.{never_more}
@@ -178,30 +191,56 @@ plain_demand words files old new w name p bytes has source is =
     let told = tells_of words (files 0) (demand Two 200000 4096 name) bytes j has in
     writes_demanded words bytes old new (w bytes told) (demand Two 200000 4096 name) j tt source is
 
--- the counts of `demand`
-pub plain_frugal : (words : List (String Global)) (files : Files) (old new : Option (List ℕ)) →
-    Writes words files old new → PlainDemandIsFrugal words files old new
+-- The counts of `demand`: what holds of the beta steps of each run of demand order of the source's own net.
+abbrev HoldsOfRuns : (Named → ℕ → Type 0) → Type 0
+HoldsOfRuns Says = (source : Named) → HasNames (number source) (length (names_of source)) →
+    {many turns : ℕ} {journal : List Entry} {places : List ReadNode} {M : NamedNet NodeName} {a : Asking} →
+    Turns (net_under Init (translation_of Two (number source) (length (names_of source)))) many turns journal places M a →
+    Says source (times_applied rule.Beta journal)
+
+counts_say : (Says : Named → ℕ → Type 0) → HoldsOfRuns Says → (words : List (String Global)) (files : Files)
+    (old new : Option (List ℕ)) → Writes words files old new → (name : Text) →
+    ArePlain words (codes "demand") name → (bytes : List ℕ) → files 0 name ≡ Some bytes → (source : Named) →
+    IsText bytes source → CountsSay (Says source) old new
 unfolding demand_printed
-plain_frugal words files old new w name p bytes has source is =
+counts_say Says holds words files old new w name p bytes has source is =
     let j = asks_demand p refl in
     let told = tells_of words (files 0) (demand Two 200000 4096 name) bytes j has in
     let r =
     w bytes told (demand Two 200000 4096 name) (number source) (names_of source) j (file_of is) in
     let d = r.1.demands in
-    let names = names_of source in
-    let N = translation_of Two (number source) (length names) in
-    let has_names = file_names bytes (number source) names (file_of is) in
-    let is_net = translation_net Two (number source) (length names) has_names in
     record {
       line = d.term;
       counts = counts_of d.ends.journal;
       stuck = d.stuck;
       one = one_line is (demand_printed r.1);
       written = subst (λ t. Appended old t new) d.written r.2;
-      says = λ v l n.
-          never_more Two (number source) (length names) has_names N is_net (same_refl N)
-          (is_start Two (number source) names is_net) l (no_redex v n) d.ends.run.run;
+      says = holds source (file_names bytes (number source) (names_of source) (file_of is)) d.ends.run.run;
     }
+
+pub plain_frugal : (words : List (String Global)) (files : Files) (old new : Option (List ℕ)) →
+    Writes words files old new → PlainDemandIsFrugal words files old new
+plain_frugal words files old new w = counts_say IsNoMoreThanLeftmost frugal words files old new w
+  where
+    frugal : HoldsOfRuns IsNoMoreThanLeftmost
+    frugal source h r v l n =
+        let names = names_of source in
+        let N = translation_of Two (number source) (length names) in
+        let is_net = translation_net Two (number source) (length names) h in
+        never_more Two (number source) (length names) h N is_net (same_refl N)
+        (is_start Two (number source) names is_net) l (no_redex v n) r
+
+pub plain_optimal : (words : List (String Global)) (files : Files) (old new : Option (List ℕ)) →
+    Writes words files old new → PlainDemandIsOptimal words files old new
+plain_optimal words files old new w = counts_say IsNoMoreThanFamilies optimal words files old new w
+  where
+    optimal : HoldsOfRuns IsNoMoreThanFamilies
+    optimal source h r T v ws e own l n =
+        let names = names_of source in
+        let N = translation_of Two (number source) (length names) in
+        let is_net = translation_net Two (number source) (length names) h in
+        run_has_families Two T v ws l n own (number source) e (length names) h N is_net (same_refl N)
+        (is_start Two (number source) names is_net) r
 
 -- the bytes of two files are those of the job's files
 two_told : (files : Files) (a b : Text) (m n : List ℕ) → files 0 a ≡ Some m → files 1 b ≡ Some n →

@@ -1,5 +1,5 @@
 -- What the first line that is written says of the normal form of a job's term.
-use Rattle.std.specs.Prelude.{◌≡◌, ◌≤◌, ◌⊎◌, ℕ, ◌+◌, true, false, List, [], ◌∷◌, ◌++◌, Option, Some}
+use Rattle.std.specs.Prelude.{◌≡◌, ◌≤◌, ◌⊎◌, ℕ, ◌+◌, true, false, List, [], ◌∷◌, ◌++◌, length, Option, Some}
 use Rattle.std.specs.Prelude.{String, codes}
 use Rattle.std.specs.declared.alloc.Global.{Global}
 use Rattle.ol_io.specs.Outside.{Appended}
@@ -9,7 +9,11 @@ use Rattle.ol_parse.specs.Grammar.{Named}
 use Rattle.ol_parse.specs.Texts.{IsLine, IsText}
 use Rattle.ol_beta.specs.Leftmost.{IsNormal}
 use Rattle.ol_meaning.specs.Shows.{BetaReduces, LeftmostReduces}
+use Rattle.ol_edges.specs.Edges.{IsIn}
 use Rattle.ol_frugal.specs.Steps.{steps_of}
+use Rattle.ol_optimal.specs.Labels.{Label, Labelled, erased, LeftmostContracts}
+use Rattle.ol_families.specs.Readings.{AreDifferent}
+use Rattle.ol_families.specs.Families.{HaveOwnLetters}
 use Rattle.ol_rules.specs.declared.journal.Counts.{Counts}
 use Rattle.ol_lines.specs.NormalForms.{by_names_of, IsNormalFormOf, HasNoNormalForm}
 use Rattle.ol_lines.specs.NormalForms.{AreConvertible}
@@ -132,6 +136,23 @@ abbrev pub PlainDemandIsFrugal : List (String Global) → Files → Option (List
 PlainDemandIsFrugal words files old new = (name : Text) → ArePlain words (codes "demand") name →
     (bytes : List ℕ) → files 0 name ≡ Some bytes → (source : Named) → IsText bytes source →
     CountsSay (IsNoMoreThanLeftmost source) old new
+
+-- Let the subterms of the source have labels, each a letter of its own. Where leftmost reduction
+-- leads to a normal form, there are as many different degrees among those that it contracts, so at
+-- least so many families (Lévy).
+abbrev pub IsNoMoreThanFamilies : Named → ℕ → Type 0
+IsNoMoreThanFamilies source beta = (T v : Labelled) (degrees : List Label) →
+    erased T ≡ by_names_of source source → HaveOwnLetters T →
+    LeftmostContracts T degrees v → IsNormal (erased v) →
+    (es : List Label) × AreDifferent es × ((e : Label) → IsIn e es → IsIn e degrees)
+    × (beta ≡ length es)
+
+-- the `beta` of `demand` is no more than the families of leftmost reduction
+abbrev pub PlainDemandIsOptimal : List (String Global) → Files → Option (List ℕ) →
+    Option (List ℕ) → Type 0
+PlainDemandIsOptimal words files old new = (name : Text) → ArePlain words (codes "demand") name →
+    (bytes : List ℕ) → files 0 name ≡ Some bytes → (source : Named) → IsText bytes source →
+    CountsSay (IsNoMoreThanFamilies source) old new
 
 -- the words are the program's name, `equal` and the names of two files: no options, and not
 -- standard input for both

@@ -10,7 +10,8 @@ ghost use Rattle.ol_cli.specs.Answers.{IfNoneFailed, seen_of, Ends, IsAnswer, Re
 ghost use Rattle.ol_cli.specs.Completeness.{AskForWhatCanBeDone, IsDoneOrNothing};
 ghost use Rattle.ol_cli.specs.Sources.{EveryRunTells, WritesTree};
 ghost use Rattle.ol_cli.specs.NormalForms.{LineSays, IsItsNormalForm, TellsOfNone, IsFoundOnDemand, LineSaysOfTwo};
-ghost use Rattle.ol_cli.specs.NormalForms.{PlainDemandFinds, PlainDemandIsFrugal, PlainEqualSays};
+ghost use Rattle.ol_cli.specs.NormalForms.{PlainDemandFinds, PlainDemandIsFrugal};
+ghost use Rattle.ol_cli.specs.NormalForms.{PlainDemandIsOptimal, PlainEqualSays};
 ghost use Rattle.ol_cli.specs.NormalForms.{PlainLineSays};
 ghost use Rattle.ol_cli.specs.SourceLaws.{WritesOfSources};
 ghost use Rattle.ol_cli.specs.Handed.{Hands};
@@ -175,6 +176,13 @@ pub fn ol<R: Threads + Wait + Sync, S: Source, W: Sink, G: Gate + Sync>(
         IfNoneFailed (S.faults src.old) (S.faults src.new) (W.faults out.old) (W.faults out.new)
         (result.status ≡ Status.Done
         → PlainDemandIsFrugal words.now.items files (W.taken out.old) (W.taken out.new))) }
+
+    // Nor is it more than the number of families among these redexes, told by Lévy's labels: no way
+    // of contracting whole families at once makes fewer beta steps.
+    ensures plain_optimal { OfReadFiles (S.readings src.old) (S.readings src.new) (λ files.
+        IfNoneFailed (S.faults src.old) (S.faults src.new) (W.faults out.old) (W.faults out.new)
+        (result.status ≡ Status.Done
+        → PlainDemandIsOptimal words.now.items files (W.taken out.old) (W.taken out.new))) }
 
     // After `ol equal A B` the line is `equal` only where the terms in the two files are
     // convertible, and begins with `different` only where they aren't. Beta reduction alone counts,

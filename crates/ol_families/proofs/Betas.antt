@@ -2,7 +2,7 @@
 use Rattle.std.proofs.Common.{◌≡◌, ℕ, suc, ◌<◌, None, inl, inr, List, [], ◌∷◌, ◌++◌, length, refl, sym, ap}
 use Rattle.std.proofs.Common.{◌∙◌, subst, arith}
 use Rattle.std.proofs.lemmas.List.{length_push}
-use Rattle.ol_beta.specs.Leftmost.{leftmost}
+use Rattle.ol_beta.specs.Leftmost.{IsNormal, leftmost}
 use Rattle.ol_context.specs.Asked.{asked}
 use Rattle.ol_context.specs.Contexts.{Context, tail}
 use Rattle.ol_demand.specs.Demands.{Asking, Turn, rewrites, one_more, finds, Turns, begins, and_then, next}
@@ -43,7 +43,7 @@ use Rattle.ol_rules.specs.declared.journal.NodeName.TheVariants.{Init}
 use Rattle.ol_term.specs.declared.translations.Translation.{Translation}
 use Rattle.ol_translate.specs.Names.{HasNames}
 use Rattle.ol_translate.specs.Translation.{translation_of}
-use Rattle.ol_families.specs.Families.{NoMoreBetasThanFamilies, BetasAreNoMoreThanFamilies}
+use Rattle.ol_families.specs.Families.{NoMoreBetasThanFamilies, BetasAreNoMoreThanFamilies, HaveOwnLetters}
 use Rattle.ol_families.proofs.Hearing.{AreLettered}
 use Rattle.ol_families.specs.Readings.{Met, word_met, word_of, AreAlike, AreDifferent, HaveDifferentWords}
 use Rattle.ol_families.specs.Signs.{Signs, signs_of}
@@ -268,6 +268,21 @@ module _ (τ : Translation) (T v : Labelled) (ws : List Label) (r : LeftmostCont
       let b = betas_are_routes (net_under Init K) M 0 journal start.net start.named d.0 in
       let l = labels_of many b.0 b.1 (λ s i. (let x = b.3 s i in d.1 x.1.0 s x.1.1)) in
       (l.degrees, l.different, l.within, sym b.2 ∙ l.count)
+
+-- the same of a run of any net that is this one up to names, for the term that T is without labels
+abbrev RunHasFamilies : Translation → List Label → Tree → Type 0
+RunHasFamilies τ ws t = (names : ℕ) → HasNames t names → (K : NamedNet ℕ) → IsNet K →
+    SameNet K (translation_of τ t names) → IsStart (net_under Init K) →
+    {many turns : ℕ} {journal : List Entry} {places : List ReadNode} {M : NamedNet NodeName} {a : Asking} →
+    Turns (net_under Init K) many turns journal places M a →
+    (es : List Label) × AreDifferent es × ((e : Label) → IsIn e es → IsIn e ws)
+    × (times_applied rule.Beta journal ≡ length es)
+
+pub run_has_families : (τ : Translation) (T v : Labelled) (ws : List Label) → LeftmostContracts T ws v →
+    IsNormal (erased v) → HaveOwnLetters T → (t : Tree) → erased T ≡ t → RunHasFamilies τ ws t
+run_has_families τ T v ws s z own t e = subst (RunHasFamilies τ ws) e (λ names h K n same start r.
+    let L = lettering τ T names own in
+    degrees_of τ T v ws s (no_redex (erased v) z) names h K n same start L.letter L.atoms L.are r)
 
 pub betas_are_no_more_than_families : BetasAreNoMoreThanFamilies
 betas_are_no_more_than_families τ T v ws s z own names h g n same heads turns journal places M a r =

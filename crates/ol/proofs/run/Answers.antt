@@ -4,6 +4,7 @@ use Rattle.std.proofs.Common.{Some, subst}
 use Rattle.ol_cli.specs.Jobs.{files_of}
 use Rattle.ol_cli.specs.NormalForms.{LineSays, IsItsNormalForm, TellsOfNone, IsFoundOnDemand}
 use Rattle.ol_cli.specs.NormalForms.{LineSaysOfTwo, PlainDemandFinds, PlainDemandIsFrugal}
+use Rattle.ol_cli.specs.NormalForms.{PlainDemandIsOptimal}
 use Rattle.ol_cli.specs.NormalForms.{PlainEqualSays, PlainLineSays}
 use Rattle.ol_cli.specs.Sources.{EveryRunTells, WritesTree}
 use Rattle.ol_cli.specs.Completeness.{IsDoneOrNothing}
@@ -56,6 +57,24 @@ returns-clause-plain_frugal g c = λ done files of.
     (Some c.ol-outcome.new.out.log.passed.taken))
     c.new-out.ensures.taken
     (c.ol-outcome.ensures.plain_frugal files
+    (of_none files c.new-src.result.log.passed.readings c.ol-outcome.new.src.log.passed.readings
+    c.new-src.ensures.readings of)
+    (no_rise c.new-src.result.faults c.ol-outcome.new.src.faults c.new-src.ensures.faults
+    (none_in c.ol-outcome.result.status c.new-src.result.faults c.ol-outcome.new.src.faults
+    c.new-src.ensures.faults done
+    (no_rise c.new-out.result.faults c.ol-outcome.new.out.faults c.new-out.ensures.faults
+    (none_out c.ol-outcome.result.status c.new-out.result.faults c.ol-outcome.new.out.faults
+    c.new-out.ensures.faults done c.ol-outcome.ensures.write_told)) c.ol-outcome.ensures.read_told))
+    (no_rise c.new-out.result.faults c.ol-outcome.new.out.faults c.new-out.ensures.faults
+    (none_out c.ol-outcome.result.status c.new-out.result.faults c.ol-outcome.new.out.faults
+    c.new-out.ensures.faults done c.ol-outcome.ensures.write_told)) done)
+
+pub returns-clause-plain_optimal : goal.returns-clause-plain_optimal
+returns-clause-plain_optimal g c = λ done files of.
+    subst (λ before. PlainDemandIsOptimal c.args.words.now.items files before
+    (Some c.ol-outcome.new.out.log.passed.taken))
+    c.new-out.ensures.taken
+    (c.ol-outcome.ensures.plain_optimal files
     (of_none files c.new-src.result.log.passed.readings c.ol-outcome.new.src.log.passed.readings
     c.new-src.ensures.readings of)
     (no_rise c.new-src.result.faults c.ol-outcome.new.src.faults c.new-src.ensures.faults

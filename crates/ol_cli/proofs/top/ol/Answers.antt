@@ -13,7 +13,7 @@ use Rattle.ol_cli.proofs.SourceTrees.{writes_of_sources}
 use Rattle.ol_cli.proofs.NormalLines.{writes_normal_form, writes_no_normal_form}
 use Rattle.ol_cli.proofs.DemandedLines.{writes_demanded}
 use Rattle.ol_cli.proofs.ComparedLines.{writes_of_two}
-use Rattle.ol_cli.proofs.PlainLines.{plain_demand, plain_equal, plain_frugal, plain_writes}
+use Rattle.ol_cli.proofs.PlainLines.{plain_demand, plain_equal, plain_frugal, plain_optimal, plain_writes}
 use Rattle.ol_cli.proofs.top.ol.Goals as goal
 
 pub returns-clause-plain : goal.returns-clause-plain
@@ -39,6 +39,16 @@ returns-clause-plain_demand g c = λ files of quiet calm e.
 pub returns-clause-plain_frugal : goal.returns-clause-plain_frugal
 returns-clause-plain_frugal g c = λ files of quiet calm e.
     plain_frugal c.args.words.now.items files (g.W.Sink.taken c.args.out.now) (g.W.Sink.taken c.write.new.out)
+    (λ bytes tells. (writes_tree c.args.words.now.items bytes (g.W.Sink.taken c.args.out.now)
+    (g.W.Sink.taken c.write.new.out)
+    (call_reads c.args.words.now.items _ (g.W.Sink.faults c.args.out.now)
+    (g.W.Sink.faults c.write.new.out) (g.W.Sink.taken c.args.out.now)
+    (g.W.Sink.taken c.write.new.out) c.answer_words-made.result c.write.result
+    c.write.ensures.told (c.answer_words-made.ensures.comes files of) bytes tells e)))
+
+pub returns-clause-plain_optimal : goal.returns-clause-plain_optimal
+returns-clause-plain_optimal g c = λ files of quiet calm e.
+    plain_optimal c.args.words.now.items files (g.W.Sink.taken c.args.out.now) (g.W.Sink.taken c.write.new.out)
     (λ bytes tells. (writes_tree c.args.words.now.items bytes (g.W.Sink.taken c.args.out.now)
     (g.W.Sink.taken c.write.new.out)
     (call_reads c.args.words.now.items _ (g.W.Sink.faults c.args.out.now)
