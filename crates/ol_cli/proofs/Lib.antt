@@ -10,6 +10,7 @@ mod TreeTransport
 mod KeptPorts
 mod OnePrint
 mod DemandRuns
+mod StartNet
 mod EveryRun
 mod AnyRun
 mod Sourced
