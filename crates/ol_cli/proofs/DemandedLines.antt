@@ -1,5 +1,5 @@
 -- Demand order writes the normal form, where there is one.
-use Rattle.std.proofs.Common.{◌≡◌, ◌≤◌, ℕ, suc, zero, ◌+◌, length, List, [], ◌∷◌, ◌++◌}
+use Rattle.std.proofs.Common.{◌≡◌, ◌≤◌, ℕ, suc, zero, ◌+◌, inr, length, List, [], ◌∷◌, ◌++◌}
 use Rattle.std.proofs.Common.{true, false, Option, String, Global, refl, sym, ap, ◌∙◌, subst, arith}
 use Rattle.ol_io.specs.Outside.{Appended}
 use Rattle.ol_term.specs.declared.translations.Translation.{Translation}
@@ -8,12 +8,8 @@ use Rattle.ol_term.specs.Trees as tree
 use Rattle.ol_parse.specs.Grammar.{Named}
 use Rattle.ol_parse.specs.Texts.{IsText}
 use Rattle.ol_parse.specs.Numbered.{names_of, number}
-use Rattle.ol_rules.specs.declared.journal.NodeName.TheVariants.{Init}
-use Rattle.ol_rules.proofs.StartNets.{one_start}
 use Rattle.ol_translate.specs.Translation.{translation_of}
 use Rattle.ol_translate.specs.Names.{HasNames}
-use Rattle.ol_translate.proofs.Whole.{translation_net}
-use Rattle.ol_invariance.proofs.Renamed.{renamed}
 use Rattle.ol_beta.specs.Leftmost.{IsNormal}
 use Rattle.ol_meaning.specs.Shows.{BetaReduces, LeftmostReduces}
 use Rattle.ol_readback.specs.Whole.{Part, term, lost, cut, none, more, preorder}
@@ -21,10 +17,8 @@ use Rattle.ol_readback.specs.Terms.{HasAllHeads, abstracted, variable_of, meanin
 use Rattle.ol_readback.specs.declared.answers.HeadVar.{HeadVar}
 use Rattle.ol_readback.specs.declared.answers.HeadVar.TheVariants as var
 use Rattle.ol_readback.specs.declared.answers.ReadNode.{ReadNode}
-use Rattle.ol_levels.proofs.Runs.{start_levelled}
-use Rattle.ol_levels.proofs.Terms.{term_is_levelled}
-use Rattle.ol_completeness.proofs.Completing.{demand_is_complete}
-use Rattle.ol_completeness.proofs.Levelled.{stays_clear}
+use Rattle.ol_completeness.specs.Complete.{HaveInversions}
+use Rattle.ol_completeness.proofs.Levelled.{normal_form_is_read}
 use Rattle.ol_confluence.proofs.LeftmostEnds.{leftmost_finds}
 use Rattle.ol_words.specs.declared.jobs.Job.{Job as Asked}
 use Rattle.ol_words.specs.declared.jobs.Job.TheVariants.{Run as run, Walk as walk, View as view}
@@ -33,12 +27,11 @@ use Rattle.ol_words.specs.declared.jobs.Job.TheVariants.{Demand as demand, Certi
 use Rattle.ol_words.specs.declared.jobs.Job.TheVariants as jobs
 use Rattle.ol_lines.specs.NormalForms.{IsNormalFormOf}
 use Rattle.ol_lines.proofs.Read.{read_line, line_is_normal_form}
-use Rattle.ol_cli.specs.Run.{start_net_of_term}
 use Rattle.ol_cli.specs.Demand.{DemandEnds, DemandRunsOut}
 use Rattle.ol_cli.specs.Sources.{DemandsTree, TellsTree, WritesTree}
 use Rattle.ol_cli.specs.NormalForms.{PrintsTerm, FirstLine, LineSays, IsFoundOnDemand}
 use Rattle.ol_cli.specs.NormalForms.{count_of_variables}
-use Rattle.ol_cli.proofs.DemandRuns.{is_start}
+use Rattle.ol_cli.proofs.StartNet.{is_read_within, ends_within, reads_told}
 use Rattle.ol_cli.proofs.OneAnswer.{file_names}
 use Rattle.ol_cli.proofs.NormalLines.{run_printed, walk_printed, demand_printed, first_line}
 use Rattle.ol_cli.proofs.NormalLines.{file_of}
@@ -50,6 +43,8 @@ pub record IsDemanded (tr : Translation) (t : Tree) (names : List (List ℕ)) (v
     pub tree : Part true
     pub all : HasAllHeads (preorder tree)
     pub term : term_of tree ≡ v
+    pub told : HaveInversions (translation_of tr t (length names)) (suc (length (preorder tree)))
+        (preorder tree) steps
     pub ends : (fuel heads : ℕ) → steps ≤ fuel → DemandEnds tr t names fuel heads
     pub reads : (fuel heads : ℕ) → length (preorder tree) ≤ heads →
         (d : DemandEnds tr t names fuel heads) → d.tree ≡ preorder tree
@@ -59,30 +54,19 @@ pub is_demanded : (tr : Translation) (t : Tree) (names : List (List ℕ)) →
     HasNames t (length names) →
     (v : Tree) → LeftmostReduces t v → IsNormal v → IsDemanded tr t names v
 is_demanded tr t names h v r n =
-    let N = translation_of tr t (length names) in
-    let is_net = translation_net tr t (length names) h in
-    let start = is_start tr t names is_net in
-    let x = demand_is_complete tr t (length names) h v r n (start_net_of_term tr t names) start
-    (renamed Init N is_net (λ x y k l i j h h' e. one_start x y e))
-    (stays_clear (start_net_of_term tr t names) start
-    (start_levelled N (term_is_levelled tr t (length names) h))) in
+    let x = normal_form_is_read tr t (length names) h v r n in
+    let ns = preorder x.0 in
+    let most = suc (length ns) in
     record {
       steps = x.3;
       tree = x.0;
       all = x.1;
       term = x.2;
-      ends = λ fuel heads b.
-          let y = (x.4 heads).0 in
-          let d = y.run in
-          record {
-            journal = d.0;
-            tree = d.1;
-            net = d.2;
-            run = d.3;
-            within = (let l = y.few d.0 d.1 d.2 d.3 in omega arith);
-          };
-      reads = λ fuel heads b d. (x.4 heads).1 b d.journal d.tree d.net d.run;
-      no_more = λ fuel heads b h. (x.4 heads).0.ends fuel b h;
+      told = x.4;
+      ends = λ fuel heads b. ends_within tr t names h most x.3 ns x.4 heads (inr (omega arith)) fuel b;
+      reads = λ fuel heads b d. reads_told tr t names h most x.3 ns x.4 heads (omega arith) b fuel d;
+      no_more = λ fuel heads b out.
+          (is_read_within tr t names h most x.3 ns x.4 heads (inr (omega arith))).ends fuel b out;
     }
 
 -- ---- a tree has as many places as its term has variables

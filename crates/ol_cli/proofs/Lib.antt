@@ -9,6 +9,7 @@ mod Following
 mod TreeTransport
 mod OnePrint
 mod DemandRuns
+mod StartNet
 mod EveryRun
 mod AnyRun
 mod Sourced

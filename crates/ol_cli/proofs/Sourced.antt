@@ -11,11 +11,9 @@ use Rattle.ol_parse.specs.Parsed.{IsFileOf}
 use Rattle.ol_parse.proofs.Exact.{one_file}
 use Rattle.ol_net.specs.Nets.{NamedNet}
 use Rattle.ol_net.specs.Pairs.{IsComplete}
-use Rattle.ol_rules.specs.declared.journal.NodeName.TheVariants.{Init}
 use Rattle.ol_rules.specs.declared.journal.NodeName.{NodeName}
 use Rattle.ol_rules.specs.declared.journal.Entry.{Entry}
 use Rattle.ol_rules.specs.Runs.{IsRun}
-use Rattle.ol_invariance.proofs.Renamed.{renamed}
 use Rattle.ol_translate.specs.Translation.{translation_of}
 use Rattle.ol_translate.specs.Names.{HasNames}
 use Rattle.ol_translate.proofs.Whole.{translation_net}
@@ -24,13 +22,11 @@ use Rattle.ol_readback.specs.Terms.{HasAllHeads, IsReadBack}
 use Rattle.ol_readback.proofs.Sources.{own_heads}
 use Rattle.ol_readback.proofs.Forests.{tree_is_whole, heads_are_whole}
 use Rattle.ol_completeness.proofs.CompleteRuns.{complete_is_enough}
-use Rattle.ol_completeness.proofs.Levelled.{stays_clear}
+use Rattle.ol_completeness.proofs.Demanded.{demanded_is_enough}
 use Rattle.ol_completeness.specs.Least.{CanBeRead}
 use Rattle.ol_completeness.proofs.TheLeast.{demand_is_the_least, stopped_is_not_enough}
 use Rattle.ol_levels.proofs.AskedTrees.{asked_heads, asked_kept, last_tree_tells}
 use Rattle.ol_levels.proofs.DemandPlaces.{demand_tells as places_told}
-use Rattle.ol_levels.proofs.Runs.{start_levelled}
-use Rattle.ol_levels.proofs.Terms.{term_is_levelled}
 use Rattle.ol_meaning.proofs.Based.{places_say}
 use Rattle.ol_confluence.proofs.PrintedTrees.{says_always}
 use Rattle.ol_words.specs.Texts.{Text}
@@ -47,10 +43,12 @@ use Rattle.ol_cli.specs.Answers.{Ends, JobAnswer, of_file, made, IsAnswer}
 use Rattle.ol_cli.specs.TermFiles.{IsTermFile, TermAnswer, FileAnswer}
 use Rattle.ol_cli.specs.Generate.{plain_run}
 use Rattle.ol_cli.specs.Sources.{PrintsTree, WalksTree, DemandsTree, TellsTree, WritesTree}
-use Rattle.ol_cli.specs.Sources.{RunTells, DemandTells, JobTells, IsLast, EveryRunTells}
+use Rattle.ol_cli.specs.Sources.{RunTells, DemandTells, JobTells, SpentTells, FuelTells, IsLast}
+use Rattle.ol_cli.specs.Sources.{TermTells, EveryRunTells}
 use Rattle.ol_cli.specs.ReadAgain.{TextIsReadAgain, WritesReadable}
 use Rattle.ol_rules.proofs.LeadRuns.{as_run}
-use Rattle.ol_cli.proofs.DemandRuns.{is_start, demand_is_longer}
+use Rattle.ol_cli.proofs.DemandRuns.{demand_is_longer}
+use Rattle.ol_cli.proofs.StartNet.{start_net_is_fit, is_less}
 use Rattle.ol_cli.proofs.EveryRun.{every_run_prints, every_run_is_longer}
 use Rattle.ol_cli.proofs.OneAnswer.{file_net, file_names, one_job, own_job}
 use Rattle.ol_cli.proofs.Exact.{ends_exact}
@@ -101,13 +99,12 @@ demands_tree : (tr : Translation) (t : Tree) (names : List (List ℕ)) (fuel hea
 demands_tree tr t names fuel heads text has d read =
     let N = translation_of tr t (length names) in
     let start = start_net_of_term tr t names in
-    let is_net = translation_net tr t (length names) has in
-    let s = is_start tr t names is_net in
-    let there = renamed Init N is_net (λ x y k l i j h h' e. cc) in
-    let levels = start_levelled N (term_is_levelled tr t (length names) has) in
+    let fit = start_net_is_fit tr t names has in
+    let s = fit.0.start in
+    let clear = fit.0.clear in
     let asked = asked_kept start N (λ p c q e.
-    ((there p c q e).1, (there p c q e).0)) heads d.ends.tree
-    (places_told start d.ends.net heads d.ends.journal d.ends.tree s levels d.ends.run) in
+    ((fit.1 p c q e).1, (fit.1 p c q e).0)) heads d.ends.tree
+    (places_told start d.ends.net heads d.ends.journal d.ends.tree s fit.0.levelled d.ends.run) in
     let own = asked_heads N heads d.ends.tree asked in
     let whole = heads_are_whole N true d.ends.tree own in
     let says = places_say tr t (length names) has true whole.tree d.ends.tree whole.is_list own in
@@ -117,10 +114,10 @@ demands_tree tr t names fuel heads text has d read =
       says = says;
       always = says_always says;
       read_again = read;
-      least = demand_is_the_least start d.ends.net heads d.ends.journal d.ends.tree s
-          (stays_clear start s levels) d.ends.run;
-      complete = complete_is_enough start d.ends.net heads d.ends.journal d.ends.tree s
-          (stays_clear start s levels) d.ends.run;
+      enough = demanded_is_enough start d.ends.net heads d.ends.journal d.ends.tree s clear d.ends.run;
+      least = demand_is_the_least start d.ends.net heads d.ends.journal d.ends.tree s clear d.ends.run;
+      complete = complete_is_enough start d.ends.net heads d.ends.journal d.ends.tree s clear
+          d.ends.run;
     }
 
 tells_tree : (asked : Asked) (t : Tree) (names : List (List ℕ)) (text : List ℕ) →
@@ -172,7 +169,30 @@ module _ (tr : Translation) (bytes : List ℕ) (workers fuel heads : ℕ) (name 
   runs_tell status.Limit text old new h written journal net ran complete = tt
   runs_tell status.BadNet text old new h written journal net ran complete = tt
 
--- so is that of `demand`
+-- so is that of `demand`, whose demand run is longer than the fuel where this is spent
+module _ (tr : Translation) (bytes : List ℕ) (fuel heads : ℕ) (name : Text) (t : Tree)
+    (names : List (List ℕ)) (f : IsFileOf bytes t names) where
+  runs_out : (text : List ℕ) → FileAnswer (demand tr fuel heads name) bytes status.Spent text →
+      DemandRunsOut tr t names fuel heads
+  runs_out text h =
+      let same = one_file bytes h.0 t h.1 names h.2.file f in
+      (subst (λ t. TermAnswer (demand tr fuel heads name) t names status.Spent text) same.0
+      (subst (λ names. TermAnswer (demand tr fuel heads name) h.0 names status.Spent text) same.1 h.3)).0
+
+  spent_tells : (st : Status) (text : List ℕ) → FileAnswer (demand tr fuel heads name) bytes st text →
+      SpentTells tr t names fuel heads st
+  spent_tells status.Spent text h = λ most m ns told asked. is_less tr t names
+      (file_names bytes t names f) most m ns told heads asked fuel (runs_out text h)
+  spent_tells status.Done text h = tt
+  spent_tells status.Usage text h = tt
+  spent_tells status.Syntax text h = tt
+  spent_tells status.ReadFault text h = tt
+  spent_tells status.WriteFault text h = tt
+  spent_tells status.NoMemory text h = tt
+  spent_tells status.Limit text h = tt
+  spent_tells status.BadNet text h = tt
+
+-- and so is each run to a net from which the places can be read
 module _ (tr : Translation) (bytes : List ℕ) (fuel heads : ℕ) (name : Text) (t : Tree)
     (names : List (List ℕ)) (f : IsFileOf bytes t names) (journal : List Entry) (net : NamedNet NodeName)
     (ran : IsRun (start_net_of_term tr t names) 0 journal net) where
@@ -184,10 +204,8 @@ module _ (tr : Translation) (bytes : List ℕ) (fuel heads : ℕ) (name : Text) 
       by (inl b) = b
       by (inr b) =
           let N = start_net_of_term tr t names in
-          let s = is_start tr t names (file_net tr bytes t names f) in
-          let levels = start_levelled (translation_of tr t (length names))
-          (term_is_levelled tr t (length names) (file_names bytes t names f)) in
-          absurd (stopped_is_not_enough N M net heads own journal s (stays_clear N s levels) g ran (omega arith) enough)
+          let fit = (start_net_is_fit tr t names (file_names bytes t names f)).0 in
+          absurd (stopped_is_not_enough N M net heads own journal fit.start fit.clear g ran (omega arith) enough)
 
   last_is_longer : DemandRunsOut tr t names fuel heads → IsComplete net ⊎ CanBeRead net heads → fuel < length journal
   last_is_longer own (inl complete) = demand_is_longer tr t names
@@ -198,10 +216,7 @@ module _ (tr : Translation) (bytes : List ℕ) (fuel heads : ℕ) (name : Text) 
       FileAnswer (demand tr fuel heads name) bytes st text → IsComplete net ⊎ CanBeRead net heads →
       DemandTells fuel journal st
   demand_tells status.Spent text h last =
-      let same = one_file bytes h.0 t h.1 names h.2.file f in
-      let own = subst (λ t. TermAnswer (demand tr fuel heads name) t names status.Spent text) same.0
-      (subst (λ names. TermAnswer (demand tr fuel heads name) h.0 names status.Spent text) same.1 h.3) in
-      last_is_longer own.0 last
+      last_is_longer (runs_out tr bytes fuel heads name t names f text h) last
   demand_tells status.Done text h last = tt
   demand_tells status.Usage text h last = tt
   demand_tells status.Syntax text h last = tt
@@ -213,6 +228,17 @@ module _ (tr : Translation) (bytes : List ℕ) (fuel heads : ℕ) (name : Text) 
 
 same_bytes : (a b : List ℕ) → Some a ≡ Some b → a ≡ b
 same_bytes a b e = cc
+
+fuel_tells : (files : Files) (bytes : List ℕ) (st : Status) (text : List ℕ) (t : Tree)
+    (names : List (List ℕ)) → IsFileOf bytes t names → (asked : Asked) →
+    term_bytes (files 0) asked ≡ Some bytes → JobAnswer files st text asked →
+    FuelTells asked t names st
+fuel_tells files bytes st text t names f (demand tr fuel heads name) told
+    (of_file {bytes = other} has e h) =
+    let own = subst (λ b. FileAnswer (demand tr fuel heads name) b st text)
+    (same_bytes other bytes (sym e ∙ told)) h in
+    spent_tells tr bytes fuel heads name t names f st text own
+fuel_tells files bytes st text t names f _ told a = tt
 
 module _ (files : Files) (bytes : List ℕ) (st : Status) (text : List ℕ) (old new : Option (List ℕ))
     (written : Appended old text new) (t : Tree) (names : List (List ℕ)) (f : IsFileOf bytes t names)
@@ -238,9 +264,13 @@ module _ (files : Files) (bytes : List ℕ) (st : Status) (text : List ℕ) (old
 pub answer_runs : (words : List (String Global)) (files : Files) (bytes : List ℕ) →
     TellsTerm (files 0) words bytes → (st : Status) (text : List ℕ) (old new : Option (List ℕ)) →
     IsAnswer words files st text → Appended old text new → EveryRunTells words bytes st old new
-answer_runs words files bytes tells st text old new a written asked t names j f journal net ran last =
-    answer_tells files bytes st text old new written t names f journal net asked last ran
-    (tells asked j) (own_job words files asked j st text a)
+answer_runs words files bytes tells st text old new a written asked t names j f =
+    let told = tells asked j in
+    let own = own_job words files asked j st text a in (
+      fuel_tells files bytes st text t names f asked told own,
+      λ journal net ran last. answer_tells files bytes st text old new written t names f journal net
+          asked last ran told own,
+    )
 
 -- ---- the call
 
@@ -262,28 +292,24 @@ pub ends_run : (words : List (String Global)) (f f' given : ℕ) (contents : Fil
       ended = ended;
     }) r g g' old new → EveryRunTells words bytes r old new
 ends_run words f f' given contents ended quiet bytes tells r g g' old new calm has e asked t names j
-    file journal net ran last = go asked j last ran
+    file = go asked j
   where
-    call : (asked : Asked) → AskFor words asked → IsLast asked net →
-        IsRun (start_net_of_term (translation_in asked) t names) 0 journal net →
-        AreTold contents asked → JobTells asked names journal net r old new
-    call here j last ran told =
+    call : (asked : Asked) → AskFor words asked → AreTold contents asked →
+        TermTells asked t names r old new
+    call here j told =
         let all : TellsFiles contents words = λ asked j'.
         subst (AreTold contents) (one_job words here asked j j') told in
         let x = ends_exact words f f' given contents ended quiet all r g g' old new calm has e in
-        answer_runs words contents bytes tells r x.0 old new x.1 x.2 here t names j file journal net ran last
+        answer_runs words contents bytes tells r x.0 old new x.1 x.2 here t names j file
 
     no_name : (tr : Translation) (k : ℕ) → AreTold contents (gen tr true k)
     no_name tr k zero n is = absurd (cc)
     no_name tr k (suc place) n is = absurd (cc)
 
-    go : (asked : Asked) → AskFor words asked → IsLast asked net →
-        IsRun (start_net_of_term (translation_in asked) t names) 0 journal net →
-        JobTells asked names journal net r old new
-    go (run tr workers fuel heads name) j last ran = call
-        (run tr workers fuel heads name) j last ran
+    go : (asked : Asked) → AskFor words asked → TermTells asked t names r old new
+    go (run tr workers fuel heads name) j = call (run tr workers fuel heads name) j
         (one_name contents bytes name (tells (run tr workers fuel heads name) j))
-    go (gen tr true k) j last ran = call (gen tr true k) j last ran (no_name tr k)
-    go (demand tr fuel heads name) j last ran = call (demand tr fuel heads name) j last ran
+    go (gen tr true k) j = call (gen tr true k) j (no_name tr k)
+    go (demand tr fuel heads name) j = call (demand tr fuel heads name) j
         (one_name contents bytes name (tells (demand tr fuel heads name) j))
-    go _ j last ran = tt
+    go _ j = (tt, λ journal net ran last. tt)

@@ -10,6 +10,7 @@ pub mod Walk
 pub mod View
 pub mod Trace
 pub mod Demand
+pub mod StartNet
 pub mod Certify
 pub mod Net
 pub mod TermFiles

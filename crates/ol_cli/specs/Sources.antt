@@ -1,5 +1,5 @@
 -- What is written for a job's own term, where its bytes are told: that of its file, or the one that `gen --run` makes.
-use Rattle.std.specs.Prelude.{ℕ, ◌<◌, ◌⊎◌, true, false, List, length, Option, String}
+use Rattle.std.specs.Prelude.{ℕ, ◌<◌, ◌≤◌, ◌⊎◌, true, false, List, length, Option, String}
 use Rattle.std.specs.declared.alloc.Global.{Global}
 use Rattle.ol_io.specs.Outside.{Appended}
 use Rattle.ol_term.specs.declared.translations.Translation.{Translation}
@@ -14,6 +14,8 @@ use Rattle.ol_translate.specs.Translation.{translation_of}
 use Rattle.ol_readback.specs.Sources.{HasHeadsOf}
 use Rattle.ol_levels.specs.Asked.{HasAskedHeadsOf}
 use Rattle.ol_readback.specs.Terms.{HasAllHeads, IsReadBack}
+use Rattle.ol_readback.specs.declared.answers.ReadNode.{ReadNode}
+use Rattle.ol_completeness.specs.Complete.{HaveInversions}
 use Rattle.ol_completeness.specs.Least.{CanBeRead, CompleteRunsAreEnough}
 use Rattle.ol_completeness.specs.TheLeast.{IsTheLeast}
 use Rattle.ol_meaning.specs.Meaning.{SaysOf}
@@ -66,10 +68,9 @@ pub record WalksTree (translation : Translation) (t : Tree) (names : List (List 
   pub read_again : HasAllHeads walks.tree → IsReadBack names walks.tree walks.term
 
 -- The same of `demand`. The net that it leaves is one from which the asked places can be read by
--- walks that meet no active pair. A run from the term's net, of any
--- pairs in any order, leads to such a net exactly where it has rewritten each pair that `demand`
--- rewrites, by birth names, and then it is
--- no shorter; and each complete run leads to one.
+-- walks that meet no active pair (`enough`). A run from the term's net, of any pairs in any order,
+-- leads to such a net exactly where it has rewritten each pair that `demand` rewrites, by birth
+-- names, and then it is no shorter; and each complete run leads to one.
 pub record DemandsTree (translation : Translation) (t : Tree) (names : List (List ℕ))
     (fuel heads : ℕ) (text : List ℕ) : Type 0 where
   pub demands : Demands translation t names fuel heads text
@@ -77,6 +78,7 @@ pub record DemandsTree (translation : Translation) (t : Tree) (names : List (Lis
   pub says : SaysOf t true demands.ends.tree
   pub always : SaysAlways says
   pub read_again : HasAllHeads demands.ends.tree → IsReadBack names demands.ends.tree demands.term
+  pub enough : CanBeRead demands.ends.net heads
   pub least : IsTheLeast (start_net_of_term translation t names) heads demands.ends.journal
   pub complete : CompleteRunsAreEnough (start_net_of_term translation t names) heads
 
@@ -96,6 +98,22 @@ WritesTree words bytes old new = (asked : Asked) (t : Tree) (names : List (List 
     AskFor words asked → IsFileOf bytes t names →
     (text : List ℕ) × TellsTree asked t names text × Appended old text new
 
+-- ---- the inversions of the term
+
+-- What is told where the fuel of `demand` is spent: it is less than the number of inversions that the
+-- term's own net tells, before any step, of its first places, if they are no fewer than were asked
+-- for, or all.
+abbrev pub SpentTells : Translation → Tree → List (List ℕ) → (fuel heads : ℕ) → Status → Type 0
+SpentTells translation t names fuel heads status.Spent = (most m : ℕ) (ns : List ReadNode) →
+    HaveInversions (translation_of translation t (length names)) most ns m →
+    (heads ≤ most) ⊎ (length ns < most) → fuel < m
+SpentTells translation t names fuel heads _ = Unit {0}
+
+-- the same of a job
+abbrev pub FuelTells : Asked → Tree → List (List ℕ) → Status → Type 0
+FuelTells (demand translation fuel heads name) t names st = SpentTells translation t names fuel heads st
+FuelTells _ t names st = Unit {0}
+
 -- ---- every complete run
 
 -- what a complete run of `run` tells of the status: its journal and its net print what was written,
@@ -108,8 +126,8 @@ RunTells names fuel heads journal net status.Spent old new = fuel < length journ
 RunTells names fuel heads journal net _ old new = Unit {0}
 
 -- what a run tells of the status of `demand`: where the demand run is longer than the fuel, so is
--- each complete run, and each that leads
--- to a net from which the asked places can be read by walks that meet no active pair
+-- each complete run, and each that leads to a net from which the asked places can be read by walks
+-- that meet no active pair
 abbrev pub DemandTells : (fuel : ℕ) → List Entry → Status → Type 0
 DemandTells fuel journal status.Spent = fuel < length journal
 DemandTells fuel journal _ = Unit {0}
@@ -130,10 +148,15 @@ abbrev pub IsLast : Asked → NamedNet NodeName → Type 0
 IsLast (demand translation fuel heads name) net = IsComplete net ⊎ CanBeRead net heads
 IsLast _ net = IsComplete net
 
--- each such run from the net of the job's own term tells this, whatever pairs it takes first
+-- The inversions of the job's own term tell this of the status; and so does each such run from the
+-- net of this term, whatever pairs it takes first.
+abbrev pub TermTells : Asked → Tree → List (List ℕ) → Status → Option (List ℕ) → Option (List ℕ) → Type 0
+TermTells asked t names st old new = FuelTells asked t names st
+    × ((journal : List Entry) (net : NamedNet NodeName) →
+    IsRun (start_net_of_term (translation_in asked) t names) 0 journal net → IsLast asked net →
+    JobTells asked names journal net st old new)
+
+-- so it is with the job that the words ask for and the term of its file
 abbrev pub EveryRunTells : List (String Global) → List ℕ → Status → Option (List ℕ) → Option (List ℕ) → Type 0
 EveryRunTells words bytes st old new = (asked : Asked) (t : Tree) (names : List (List ℕ)) →
-    AskFor words asked → IsFileOf bytes t names →
-    (journal : List Entry) (net : NamedNet NodeName) →
-    IsRun (start_net_of_term (translation_in asked) t names) 0 journal net → IsLast asked net →
-    JobTells asked names journal net st old new
+    AskFor words asked → IsFileOf bytes t names → TermTells asked t names st old new

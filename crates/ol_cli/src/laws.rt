@@ -1,11 +1,12 @@
 //! The laws of answers.
 
-ghost use Rattle.ol_cli.specs.DemandFuel.{DemandHasFuel};
+ghost use Rattle.ol_cli.specs.DemandFuel.{DemandHasFuel, HeadHasFuel};
 ghost use Rattle.ol_cli.specs.EveryRun.{EveryRunIsLonger, EveryRunPrints};
 ghost use Rattle.ol_cli.specs.EveryRun.{AnyRunPrints, AnyRunRunsOut, OneThreadIsThere};
 ghost use Rattle.ol_cli.specs.SourceLaws.{CertifyNeverDiffers, ComparisonTellsSources, HeadBesideLostTellsSources};
 ghost use Rattle.ol_cli.specs.Laws.{OneAnswer, OneNetIsLeft, OneTreeIsDemanded, OneTreeIsPrinted};
 ghost use Rattle.ol_cli.specs.Laws.{OneTreeIsWalked, WorkersAreNotSeen};
+ghost use Rattle.ol_cli.specs.StartNet.{StartNetIsFit};
 
 /// One job, whatever its number of workers, and the same bytes have one status and one text, but for
 /// what `trace` writes of a run, and for the stuck pairs and the net that `net` writes after nine
@@ -52,8 +53,22 @@ pub fn sources_are_told()
     ensures certify { CertifyNeverDiffers }
 {}
 
-/// Where a term has a normal form, there is a number of interactions for it and a translation: its
-/// demand run ends within each fuel of so many or more, whatever heads are asked for.
+/// How much fuel, in interactions, is enough for `demand` is told by the term's own net before any
+/// step. Where the term has a normal form, this net has a path to the head of each place of it. In
+/// the row of crossings of such a path count the pairs of which the first goes up through a node,
+/// from an auxiliary slot to slot 0, and a later one down. The sum over all places is enough,
+/// whatever heads are asked for. And where the term has a head normal form and one head is asked
+/// for, the number for the path to its head is enough, and what is written is this head, with `...`
+/// for each of its arguments. Each such number is one (law `inversions_are_one` of
+/// `ol_completeness`).
 pub fn demand_has_fuel()
     ensures fuel { DemandHasFuel }
+    ensures head { HeadHasFuel }
+{}
+
+/// The net with which the clauses of `ol` let a term's runs begin (`start_net_of_term`) is one of
+/// those of which the laws of `ol_completeness` speak. It has what they ask of a net, and the paths
+/// of the term's own net; and it is the start net of each graph that has the term's own net.
+pub fn start_net_is_fit()
+    ensures { StartNetIsFit }
 {}

@@ -29,7 +29,7 @@ mod verdicts;
 
 pub use laws::{
     any_run_tells, demand_has_fuel, every_run_answers, one_answer, sources_are_told,
-    workers_are_not_seen,
+    start_net_is_fit, workers_are_not_seen,
 };
 pub use status::Status;
 pub use top::{Outcome, ol};

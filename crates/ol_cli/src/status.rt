@@ -16,7 +16,10 @@ pub enum Status {
     Usage,
     /// The bytes of the term file aren't a text of the grammar.
     Syntax,
-    /// The one-thread run has more steps than the fuel.
+    /// The one-thread run has more steps than the fuel, and so has each complete run. Of `demand` it
+    /// is the demand run that has more; then each complete run has more too, and the fuel is less
+    /// than the number of inversions that the term's own net tells, if it has a head at each place
+    /// that was asked for (law `demand_has_fuel`).
     Spent,
     /// The source failed.
     ReadFault,

@@ -293,7 +293,9 @@ pub fn ol<R: Threads + Wait + Sync, S: Source, W: Sink, G: Gate + Sync>(
     // And each complete run of the own term of `run` or `gen --run`, whatever pairs it takes first,
     // prints what is written, or is longer than the fuel where that is spent. It is longer too
     // where the fuel of `demand` is spent, and so is each run that leads to a net from which the
-    // asked places can be read by walks that meet no active pair.
+    // asked places can be read by walks that meet no active pair. This fuel is then less than the
+    // number of inversions that the term's own net tells, before any step, of as many places as were
+    // asked for, or of all, if each of these places has a head.
     ensures every_run { OfReadFiles (S.readings src.old) (S.readings src.new) (λ files.
         (bytes : List ℕ) → TellsTerm (files 0) words.now.items bytes
         → IfNoneFailed (S.faults src.old) (S.faults src.new) (W.faults out.old) (W.faults out.new)
