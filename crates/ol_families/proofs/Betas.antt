@@ -56,7 +56,7 @@ use Rattle.ol_families.proofs.Told.{IsTold, told, told_one}
 module _ (τ : Translation) (T : Labelled) (names : ℕ) (h : HasNames (erased T) names) (M : NamedNet NodeName)
     (n : IsNet M) (I : IsNamed Init (translation_of τ (erased T) names) M)
     (letter : ℕ → ℕ → ℕ) (atoms : HaveLetters (translation_of τ (erased T) names) letter)
-        (are : AreLettered τ letter T 0 0 0) where
+    (are : AreLettered τ letter T 0 0 0) where
   abbrev met_of : (s : Route NodeName) (lams : ℕ) → IsSeen M 0 (asked [] lams) s → Met τ T
   met_of s lams S =
       let a = met_at Init M n τ (erased T) names h I s 0 (asked [] lams) S in (
@@ -147,7 +147,7 @@ head_question q =
 module _ (τ : Translation) (T : Labelled) (names : ℕ) (h : HasNames (erased T) names) (K : NamedNet ℕ)
     (n : IsNet K) (same : SameNet K (translation_of τ (erased T) names)) (start : IsStart (net_under Init K))
     (letter : ℕ → ℕ → ℕ) (atoms : HaveLetters (translation_of τ (erased T) names) letter)
-        (are : AreLettered τ letter T 0 0 0) where
+    (are : AreLettered τ letter T 0 0 0) where
   contracted : {turns : ℕ} {journal : List Entry} {places : List ReadNode}
       {M : NamedNet NodeName} {a : Asking} → Turns (net_under Init K) 1 turns journal places M a →
       (xs : List (Met τ T)) × HaveDifferentWords T xs × (times_applied rule.Beta journal ≡ length xs)
@@ -155,13 +155,15 @@ module _ (τ : Translation) (T : Labelled) (names : ℕ) (h : HasNames (erased T
       let d = demand_contracts_the_seen (net_under Init K) M 1 turns journal places a start r in
       let b = betas_are_routes (net_under Init K) M 0 journal start.net start.named d.0 in
       let w = words_of τ T names h (net_under Init K) start.net (named K (translation_of τ
-          (erased T) names) same) letter atoms are
+      (erased T) names) same) letter atoms are
       b.0 b.1 (λ s i.
       let x = b.3 s i in
       let k = d.1 x.1.0 s x.1.1 in
-      let q = head_question k.2 in
-      (q.1.0, subst (λ c. IsSeen (net_under Init K) 0 c s) q.1.1 (subst (λ p. IsSeen
-          (net_under Init K) p k.1 s) q.0 k.3))) in
+      let q = head_question k.2 in (
+        q.1.0,
+        subst (λ c. IsSeen (net_under Init K) 0 c s) q.1.1 (subst (λ p. IsSeen
+            (net_under Init K) p k.1 s) q.0 k.3),
+      )) in
       (w.redexes, w.different, sym b.2 ∙ w.count)
 
 pub no_more_betas_than_families : NoMoreBetasThanFamilies
@@ -194,7 +196,7 @@ module _ (τ : Translation) (T v : Labelled) (ws : List Label) (r : LeftmostCont
     (names : ℕ) (h : HasNames (erased T) names) (K : NamedNet ℕ)
     (n : IsNet K) (same : SameNet K (translation_of τ (erased T) names)) (start : IsStart (net_under Init K))
     (letter : ℕ → ℕ → ℕ) (atoms : HaveLetters (translation_of τ (erased T) names) letter)
-        (are : AreLettered τ letter T 0 0 0) where
+    (are : AreLettered τ letter T 0 0 0) where
   abbrev R : NamedNet NodeName
   R = net_under Init K
 
@@ -239,8 +241,13 @@ module _ (τ : Translation) (T v : Labelled) (ws : List Label) (r : LeftmostCont
 
   labels_of : (many : ℕ) (ss : List (Route NodeName)) → routes.AreDifferent ss →
       ((s : Route NodeName) → IsIn s ss → IsSeenFromPlace (net_under Init K) many s) → Labels ss
-  labels_of many [] d f = record { degrees = []; different = tt; within = λ e i. absurd i; count = refl;
-      back = λ e i. absurd i }
+  labels_of many [] d f = record {
+    degrees = [];
+    different = tt;
+    within = λ e i. absurd i;
+    count = refl;
+    back = λ e i. absurd i;
+  }
   labels_of many (s ∷ ss) d f =
       let x = f s (inl refl) in
       let a = met_at Init (net_under Init K) start.net τ (erased T) names h I s x.0 x.1 x.3 in

@@ -204,8 +204,10 @@ module _ (τ : Translation) (N : NamedNet ℕ) where
   applied_sound None n k M Q h s u =
       let nodes1 = holds_append (H N) k (k + 1 + length M.nodes + length Q.nodes)
       (((kind.App, n) ∷ M.nodes) ++ Q.nodes) _ (omega (arith, length-append M.nodes Q.nodes)) h in
-      let nodes2 = holds_append (H N) k (k + 1 + length M.nodes) ((kind.App,
-          n) ∷ M.nodes) Q.nodes (omega arith) nodes1.0 in
+      let nodes2 = holds_append (H N) k (k + 1 + length M.nodes) ((
+        kind.App,
+        n,
+      ) ∷ M.nodes) Q.nodes (omega arith) nodes1.0 in
       sound_app N n k M Q h s (u nodes2.1)
   applied_sound (Some y) n k M Q h s u = sound_app_to N n k y M h s
 
@@ -235,12 +237,21 @@ module _ (τ : Translation) (N : NamedNet ℕ) where
 
   name_sides : (ws : List (ℕ × Port)) → Asking N ws → Links (Opp N) (name_links ws)
   name_sides [] a = tt
-  name_sides (w ∷ ws) a = ((true, subst (λ f. IsSide N (free f) true)
-      (let e : suc w.0 ≡ w.0 + 1 = omega arith in e) refl, a.0), name_sides ws a.1)
+  name_sides (w ∷ ws) a = (
+    (
+      true,
+      subst (λ f. IsSide N (free f) true)
+          (let e : suc w.0 ≡ w.0 + 1 = omega arith in e) refl,
+      a.0,
+    ),
+    name_sides ws a.1,
+  )
 
   in_links : (ls : List (Port × Port)) → Links (Opp N) ls → (p q : NamedPort ℕ) →
-      IsIn {X = NamedPort ℕ × NamedPort ℕ} (p, q) (map (λ (l : Port × Port). (numbered_port l.0,
-          numbered_port l.1)) ls) → Opposite N p q
+      IsIn {X = NamedPort ℕ × NamedPort ℕ} (p, q) (map (λ (l : Port × Port). (
+        numbered_port l.0,
+        numbered_port l.1,
+      )) ls) → Opposite N p q
   in_links [] h p q i = absurd i
   in_links (l ∷ ls) h p q (inl e) =
       let a = ap (λ (x : NamedPort ℕ × NamedPort ℕ). x.0) e in

@@ -96,7 +96,7 @@ module _ (N : NamedNet ℕ) (letter : ℕ → ℕ → ℕ) (r : Acting) where
       Joined Heard ((slot x 0, F d), y) ((slot x (suc s), F c), moved r g y)
   fallen x K n s F c d g y b h low e f = edges.on here
       (crossed K n h low (b.passes (change K s) c ∙ ap F e) (sym (ap (λ a. moved r a (moved r g y)) f
-          ∙ moved_back r g y)))
+      ∙ moved_back r g y)))
 
   risen : (x : ℕ) (K : Kind) (n s : ℕ) (F : Context → Context) (c d : Context) (y : Signs) → Before n F →
       HasNode N x K n → s < arity K → change K s c ≡ d →
@@ -122,8 +122,10 @@ module _ (N : NamedNet ℕ) (letter : ℕ → ℕ → ℕ) where
   }
 
   hears : (x y : Option Port) (p q : Port) (c d : Context) (g : Signs) → x ≡ Some p → y ≡ Some q →
-      ((r : Acting) (z : Signs) → Joined (Heard N letter r) ((numbered_port p, c), z) ((numbered_port q, d),
-          moved r g z)) →
+      ((r : Acting) (z : Signs) → Joined (Heard N letter r) ((numbered_port p, c), z) (
+        (numbered_port q, d),
+        moved r g z,
+      )) →
       Hears N letter (at_port x c) (at_port y d) g
   hears x y p q c d g e e' j = record {
     first = (numbered_port p, c);
@@ -143,7 +145,7 @@ module _ (τ : Translation) (N : NamedNet ℕ) (letter : ℕ → ℕ → ℕ) wh
   arg_hears None P R n k F b v u c c' e h g f =
       let A = has_app (H N) (L N) n k P R h in
       hears N letter (Some P.root) (Some R.root) P.root R.root (F (cons (star v) c)) (F (cons v
-          (cons u c'))) g refl refl
+      (cons u c'))) g refl refl
       (λ r z. subst (λ x. Joined (Heard N letter r) ((numbered_port P.root, F (cons (star v) c)), z)
       ((numbered_port R.root, F (cons v x)), moved r g z)) e
       (joined_trans (joined_sym (along_link N letter r (slot_port k 0) P.root (F (cons (star v) c)) z A.link))
@@ -174,7 +176,7 @@ module _ (τ : Translation) (N : NamedNet ℕ) (letter : ℕ → ℕ → ℕ) wh
   arg_edge (Some x) a d k F s z own own' e g rest =
       subst (Hears N letter (bare_state s k F) (bare_state z k F)) (sym (no_reading d x a s z e))
       (of_quiet N letter (quiet_argument τ N (Some x) (erased a) d k F s z own own' e g (λ none. absurd
-          (let q = sym e ∙ none in cc))))
+      (let q = sym e ∙ none in cc))))
 
   pub edge_hears : (T : Labelled) {s z : Spot} {m : ℕ} → Edge τ (erased T) s z m → (d n k : ℕ) (F : Context → Context) →
       Before n F → is_below d (erased T) ≡ true → Has (H N) (L N) k (subnet_of τ (erased T) d n k) →
@@ -198,7 +200,7 @@ module _ (τ : Translation) (N : NamedNet ℕ) (letter : ℕ → ℕ → ℕ) wh
       let A = has_lam (H N) (L N) n k P h in
       let g : Signs = onward ends_over ∷ signs_of (label_of t) in
       hears N letter (Some (slot_port k 0)) (Some P.root) (slot_port k 0) P.root (F (cons (o v) c)) (F
-          (cons v c)) g refl refl
+      (cons v c)) g refl refl
       (λ r z. joined_trans (fallen N letter r k kind.Lam n 0 F (cons v c) (cons (o v) c) g z b A.node
       (omega arith) refl (ap (λ l. reversed (onward ends_over ∷ signs_of l)) (sym q.0)))
       (along_link N letter r (slot_port k 1) P.root (F (cons v c)) (moved r g z) A.link))
@@ -210,7 +212,7 @@ module _ (τ : Translation) (N : NamedNet ℕ) (letter : ℕ → ℕ → ℕ) wh
       hears N letter (Some (slot_port k 0)) (wire_of 0 P.wires) (slot_port k 0) W.0 (F (cons (star a) c))
       (F (cons a c)) g refl W.1
       (λ r z. joined_trans (fallen N letter r k kind.Lam n 1 F (cons a c) (cons (star a) c) g z b A.node
-          (omega arith) refl refl)
+      (omega arith) refl refl)
       (along_link N letter r (slot_port k 2) W.0 (F (cons a c)) (moved r g z)
       (subst (λ x. L N (slot_port k 2) (bound_port x (k + 1 + length P.nodes))) W.1 A.var_link)))
   edge_hears (labels.lam t w) (lam_wire {y = y} {z = z} {a = a} {c = c} e o') d n k F b i h q =
@@ -238,16 +240,16 @@ module _ (τ : Translation) (N : NamedNet ℕ) (letter : ℕ → ℕ → ℕ) wh
       (moved r (rising letter kind.App k 0) z) A.link)))
   edge_hears (labels.app f a w) (app_arg {v = v} {u = u} {c = c} {d = c'} e) d n k F b i h q =
       arg_hears (bare_variable τ d (erased a)) (subnet_of τ (erased f) d n (k + 1)) (argument τ (erased f)
-          (erased a) d n k)
+      (erased a) d n k)
       n k F b v u c c' e h (reversed (signs_of (label_of f)) ++ onward ends_under ∷ signs_of (label_of a))
       (ap (λ l. reversed (reversed (signs_of l) ++ onward ends_under ∷ signs_of (atom (letter k 2) none))) (sym q.0)
       ∙ ap (λ l. reversed (reversed (signs_of (label_of f)) ++ onward ends_under ∷ signs_of l)) (sym q.1))
   edge_hears (labels.app f a w) (app_left {y = y} {a = l} {w = w'} {c = c} m e) d n k F b i h q =
       of_quiet N letter (left_joined τ N (bare_variable τ d (erased a)) (erased f)
-          (erased a) d n k F b i y l w' c m e refl h)
+      (erased a) d n k F b i y l w' c m e refl h)
   edge_hears (labels.app f a w) (app_right {y = y} {b = u} {v = v} {w = w'} {c = c} m e) d n k F b i h q =
       of_quiet N letter (right_joined τ N (bare_variable τ d (erased a)) (erased f)
-          (erased a) d n k F b i y u v w' c m e refl h)
+      (erased a) d n k F b i y u v w' c m e refl h)
   edge_hears (labels.app f a w) (in_fun e) d n k F b i h q =
       let r = edge_hears f e d n (k + 1) F b (and_parts (is_below d (erased f)) (is_below d (erased a)) i).0
       (has_head (H N) (L N) n k (bare_variable τ d (erased a)) (subnet_of τ (erased f) d n (k + 1))
@@ -257,7 +259,7 @@ module _ (τ : Translation) (N : NamedNet ℕ) (letter : ℕ → ℕ → ℕ) wh
       let r = arg_edge (bare_variable τ d (erased a)) a d k (λ c. F (cons v c)) s z
       (state τ s (erased a) d (n + 1) (k + 1 + length (subnet_of τ (erased f) d n (k + 1)).nodes) (λ c. F (cons v c)))
       (state τ z (erased a) d (n + 1) (k + 1 + length (subnet_of τ (erased f) d n (k + 1)).nodes) (λ c. F
-          (cons v c))) refl e
+      (cons v c))) refl e
       (λ none. edge_hears a e d (n + 1) (k + 1 + length (subnet_of τ (erased f) d n (k + 1)).nodes)
       (λ c. F (cons v c)) (before_arg n F v b) (and_parts (is_below d (erased f)) (is_below d (erased a)) i).1
       (has_app (H N) (L N) n k (subnet_of τ (erased f) d n (k + 1)) (argument τ (erased f) (erased a) d n k)
@@ -312,7 +314,7 @@ module _ (τ : Translation) (N : NamedNet ℕ) (letter : ℕ → ℕ → ℕ) wh
           let r = rec (λ c. F (cons v c))
           (has_app (H N) (L N) n k (subnet_of τ M d n (k + 1)) (argument τ M Q d n k)
           (subst (λ o. Has (H N) (L N) k (applied n k o (subnet_of τ M d n (k + 1))
-              (argument τ M Q d n k))) e h)).argument in
+          (argument τ M Q d n k))) e h)).argument in
           record {
             node = r.node;
             index = subst (λ i. HasNode N r.node kind.Lam i) (let z : n + 1 + depth p ≡ n + suc
@@ -344,7 +346,7 @@ module _ (τ : Translation) (N : NamedNet ℕ) (letter : ℕ → ℕ → ℕ) wh
 
   pub function_is : (T : Labelled) {u : Tree} {p : Site} (d n k : ℕ) (F : Context → Context) → PartAt (erased T) p u →
       Is true u → Has (H N) (L N) k (subnet_of τ (erased T) d n k) → AreLettered τ letter T d n k →
-          FunctionAt T d n k F p
+      FunctionAt T d n k F p
   function_is (labels.var y w) d n k F whole q h g = absurd q
   function_is (labels.free f w) d n k F whole q h g = absurd q
   function_is (labels.lam b w) d n k F whole q h g = absurd q

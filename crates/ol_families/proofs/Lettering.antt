@@ -31,10 +31,16 @@ in_range x i K k (n ∷ ns) (inl e) = let q : x ≡ k = ap (λ (p : ℕ × Kind 
 in_range x i K k (n ∷ ns) (inr h) = let r = in_range x i K (suc k) ns h in let a = r.0 in let b = r.1 in
     ((omega arith), (omega arith))
 
-in_parts : (x i : ℕ) (K : Kind) (k : ℕ) (ns ms : Nodes) → IsIn {X = ℕ × Kind × ℕ} (x, K,
-    i) (numbered_from k (ns ++ ms)) →
-    IsIn {X = ℕ × Kind × ℕ} (x, K, i) (numbered_from k ns) ⊎ IsIn {X = ℕ × Kind × ℕ} (x, K,
-        i) (numbered_from (k + length ns) ms)
+in_parts : (x i : ℕ) (K : Kind) (k : ℕ) (ns ms : Nodes) → IsIn {X = ℕ × Kind × ℕ} (
+  x,
+  K,
+  i,
+) (numbered_from k (ns ++ ms)) →
+    IsIn {X = ℕ × Kind × ℕ} (x, K, i) (numbered_from k ns) ⊎ IsIn {X = ℕ × Kind × ℕ} (
+      x,
+      K,
+      i,
+    ) (numbered_from (k + length ns) ms)
 in_parts x i K k [] ms h = let e : k ≡ k + 0 = omega arith in
     inr (subst (λ k. IsIn {X = ℕ × Kind × ℕ} (x, K, i) (numbered_from k ms)) e h)
 in_parts x i K k (n ∷ ns) ms (inl e) = inl (inl e)
@@ -166,8 +172,11 @@ module _ (τ : Translation) where
 
   from_next : (k x i : ℕ) (K : Kind) (ns : Nodes) → IsIn {X = ℕ × Kind × ℕ} (x, K, i) (numbered_from (suc k) ns) →
       IsIn {X = ℕ × Kind × ℕ} (x, K, i) (numbered_from (k + 1) ns)
-  from_next k x i K ns h = let e : suc k ≡ k + 1 = omega arith in subst (λ k. IsIn {X = ℕ × Kind × ℕ} (x, K,
-      i) (numbered_from k ns)) e h
+  from_next k x i K ns h = let e : suc k ≡ k + 1 = omega arith in subst (λ k. IsIn {X = ℕ × Kind × ℕ} (
+    x,
+    K,
+    i,
+  ) (numbered_from k ns)) e h
 
   lam_slot : (s : ℕ) → has_letter kind.Lam s ≡ true → s ≡ 1
   lam_slot zero e = absurd (cc)
@@ -191,8 +200,10 @@ module _ (τ : Translation) where
       by (in_parts x e.index e.kind_is k ((kind.Lam, n) ∷ nodes b (d + 1) n (k + 1)) _ e.there)
     where
       by : IsIn {X = ℕ × Kind × ℕ} (x, e.kind_is, e.index) (numbered_from k ((kind.Lam, n) ∷ nodes b (d + 1) n (k + 1)))
-          ⊎ IsIn {X = ℕ × Kind × ℕ} (x, e.kind_is, e.index) (numbered_from (k + length ((kind.Lam,
-              n) ∷ nodes b (d + 1) n (k + 1)))
+          ⊎ IsIn {X = ℕ × Kind × ℕ} (x, e.kind_is, e.index) (numbered_from (k + length ((
+            kind.Lam,
+            n,
+          ) ∷ nodes b (d + 1) n (k + 1)))
           (erasers (wire_of 0 (subnet_of τ (erased b) (d + 1) n (k + 1)).wires))) → InLam b d n k x s
       by (inr h) = absurd (no_letter x e.index s e.kind_is _ (erasers (wire_of 0 (subnet_of τ (erased b)
           (d + 1) n (k + 1)).wires))
@@ -228,57 +239,70 @@ module _ (τ : Translation) where
 
   in_app : (o : Option ℕ) (f a : Labelled) (d n k x s : ℕ) →
       EdgeIn (applied n k o (subnet_of τ (erased f) d n (k + 1)) (subnet_of τ (erased a) d (n + 1)
-          (after f d n k))).nodes k x s →
+      (after f d n k))).nodes k x s →
       InApp f a d n k x s
   in_app None f a d n k x s e =
       by (in_parts x e.index e.kind_is k (((kind.App, n) ∷ nodes f d n (k + 1)) ++ nodes a d (n + 1)
-          (after f d n k)) _ e.there)
+      (after f d n k)) _ e.there)
     where
       Q : Subnet
       Q = subnet_of τ (erased a) d (n + 1) (after f d n k)
 
       head : IsIn {X = ℕ × Kind × ℕ} (x, e.kind_is, e.index) (numbered_from k ((kind.App, n) ∷ nodes f d n (k + 1)))
-          ⊎ IsIn {X = ℕ × Kind × ℕ} (x, e.kind_is, e.index) (numbered_from (k + length ((kind.App,
-              n) ∷ nodes f d n (k + 1))) (nodes a d (n + 1) (after f d n k))) →
+          ⊎ IsIn {X = ℕ × Kind × ℕ} (x, e.kind_is, e.index) (numbered_from (k + length ((
+            kind.App,
+            n,
+          ) ∷ nodes f d n (k + 1))) (nodes a d (n + 1) (after f d n k))) →
           InApp f a d n k x s
       head (inl h) = in_head f a d n k x s e.index e.kind_is e.has h
       head (inr h) = in_a (record {
         kind_is = e.kind_is;
         index = e.index;
         there = (let q : k + suc (length (nodes f d n (k + 1))) ≡ k + 1 + length (nodes f d n (k + 1)) = omega arith in
-            subst (λ j. IsIn {X = ℕ × Kind × ℕ} (x, e.kind_is,
-                e.index) (numbered_from j (nodes a d (n + 1) (after f d n k)))) q h);
+            subst (λ j. IsIn {X = ℕ × Kind × ℕ} (
+              x,
+              e.kind_is,
+              e.index,
+            ) (numbered_from j (nodes a d (n + 1) (after f d n k)))) q h);
         has = e.has;
       })
 
-      by : IsIn {X = ℕ × Kind × ℕ} (x, e.kind_is, e.index) (numbered_from k (((kind.App,
-          n) ∷ nodes f d n (k + 1)) ++ nodes a d (n + 1) (after f d n k)))
-          ⊎ IsIn {X = ℕ × Kind × ℕ} (x, e.kind_is, e.index) (numbered_from (k + length (((kind.App,
-              n) ∷ nodes f d n (k + 1)) ++ nodes a d (n + 1) (after f d n k)))
+      by : IsIn {X = ℕ × Kind × ℕ} (x, e.kind_is, e.index) (numbered_from k (((
+        kind.App,
+        n,
+      ) ∷ nodes f d n (k + 1)) ++ nodes a d (n + 1) (after f d n k)))
+          ⊎ IsIn {X = ℕ × Kind × ℕ} (x, e.kind_is, e.index) (numbered_from (k + length (((
+            kind.App,
+            n,
+          ) ∷ nodes f d n (k + 1)) ++ nodes a d (n + 1) (after f d n k)))
           (bracket_nodes n (subnet_of τ (erased a) d (n + 1) (after f d n k)).wires
           ++ (fans n (after f d n k + length (nodes a d (n + 1) (after f d n k)) + length (subnet_of τ
-              (erased a) d (n + 1) (after f d n k)).wires)
+          (erased a) d (n + 1) (after f d n k)).wires)
           (subnet_of τ (erased f) d n (k + 1)).wires (past_brackets (after f d n k + length (nodes a d (n + 1)
-              (after f d n k)))
+          (after f d n k)))
           (subnet_of τ (erased a) d (n + 1) (after f d n k)).wires)).nodes)) → InApp f a d n k x s
-      by (inl h) = head (in_parts x e.index e.kind_is k ((kind.App,
-          n) ∷ nodes f d n (k + 1)) (nodes a d (n + 1) (after f d n k)) h)
+      by (inl h) = head (in_parts x e.index e.kind_is k ((
+        kind.App,
+        n,
+      ) ∷ nodes f d n (k + 1)) (nodes a d (n + 1) (after f d n k)) h)
       by (inr h) = absurd (no_letter x e.index s e.kind_is _ _
           (quiets_append (bracket_nodes n (subnet_of τ (erased a) d (n + 1) (after f d n k)).wires) _
           (quiet_brackets n (subnet_of τ (erased a) d (n + 1) (after f d n k)).wires)
           (quiet_fans n (after f d n k + length (nodes a d (n + 1) (after f d n k)) + length (subnet_of τ
-              (erased a) d (n + 1) (after f d n k)).wires)
+          (erased a) d (n + 1) (after f d n k)).wires)
           (subnet_of τ (erased f) d n (k + 1)).wires (past_brackets (after f d n k + length (nodes a d (n + 1)
-              (after f d n k)))
+          (after f d n k)))
           (subnet_of τ (erased a) d (n + 1) (after f d n k)).wires))) h e.has)
   in_app (Some y) f a d n k x s e =
       by (in_parts x e.index e.kind_is k ((kind.App, n) ∷ nodes f d n (k + 1)) _ e.there)
     where
       by : IsIn {X = ℕ × Kind × ℕ} (x, e.kind_is, e.index) (numbered_from k ((kind.App, n) ∷ nodes f d n (k + 1)))
-          ⊎ IsIn {X = ℕ × Kind × ℕ} (x, e.kind_is, e.index) (numbered_from (k + length ((kind.App,
-              n) ∷ nodes f d n (k + 1)))
+          ⊎ IsIn {X = ℕ × Kind × ℕ} (x, e.kind_is, e.index) (numbered_from (k + length ((
+            kind.App,
+            n,
+          ) ∷ nodes f d n (k + 1)))
           (fans n (after f d n k) (subnet_of τ (erased f) d n (k + 1)).wires ((y, slot_port k 2) ∷ [])).nodes) →
-              InApp f a d n k x s
+          InApp f a d n k x s
       by (inl h) = in_head f a d n k x s e.index e.kind_is e.has h
       by (inr h) = absurd (no_letter x e.index s e.kind_is _ _
           (quiet_fans n (after f d n k) (subnet_of τ (erased f) d n (k + 1)).wires ((y, slot_port k 2) ∷ [])) h e.has)
@@ -343,10 +367,14 @@ module _ (τ : Translation) where
 
   known : (T : Labelled) (d n k x s : ℕ) → AllLetters T → EdgeIn (nodes T d n k) k x s →
       IsIn (Label' T d n k x s) (parts_in T)
-  known (var y w) d n k x s l e = absurd (no_letter x e.index s e.kind_is k ((kind.Croissant,
-      n) ∷ []) ((λ s. refl), tt) e.there e.has)
-  known (free f w) d n k x s l e = absurd (no_letter x e.index s e.kind_is k ((kind.Croissant,
-      n) ∷ []) ((λ s. refl), tt) e.there e.has)
+  known (var y w) d n k x s l e = absurd (no_letter x e.index s e.kind_is k ((
+    kind.Croissant,
+    n,
+  ) ∷ []) ((λ s. refl), tt) e.there e.has)
+  known (free f w) d n k x s l e = absurd (no_letter x e.index s e.kind_is k ((
+    kind.Croissant,
+    n,
+  ) ∷ []) ((λ s. refl), tt) e.there e.has)
   known (lam b w) d n k x s l e = by (λ i. known b (d + 1) n (k + 1) x s (all_lam b w l) i) (in_lam b w d n k x s e)
     where
       by : (EdgeIn (nodes b (d + 1) n (k + 1)) (k + 1) x s → IsIn (Label' b (d + 1) n (k + 1) x s) (parts_in b)) →
@@ -361,7 +389,7 @@ module _ (τ : Translation) where
     where
       by : (EdgeIn (nodes f d n (k + 1)) (k + 1) x s → IsIn (Label' f d n (k + 1) x s) (parts_in f)) →
           (EdgeIn (nodes a d (n + 1) (after f d n k)) (after f d n k) x s →
-              IsIn (Label' a d (n + 1) (after f d n k) x s) (parts_in a)) →
+          IsIn (Label' a d (n + 1) (after f d n k) x s) (parts_in a)) →
           InApp f a d n k x s → IsIn (Label' (app f a w) d n k x s) (labels_in f ++ labels_in a)
       by rec rec' (function q z) = subst (λ v. IsIn v (labels_in f ++ labels_in a)) (sym
           (app_function f a w d n k x s q z (all_function f a w l)))
@@ -372,7 +400,7 @@ module _ (τ : Translation) where
       by rec rec' (in_f i) = subst (λ m. IsIn (atom m none) (labels_in f ++ labels_in a)) (sym
           (app_in_f f a w d n k x s i))
           (is_in_first (Label' f d n (k + 1) x s) (labels_in f) (labels_in a) (part_in f (Label' f d n
-              (k + 1) x s) (rec i)))
+          (k + 1) x s) (rec i)))
       by rec rec' (in_a i) = subst (λ m. IsIn (atom m none) (labels_in f ++ labels_in a)) (sym
           (app_in_a f a w d n k x s i))
           (is_in_second (Label' a d (n + 1) (after f d n k) x s) (labels_in f) (labels_in a)
@@ -389,11 +417,11 @@ module _ (τ : Translation) where
   one_in_lam b w d n k l di f x y s r (own q z) (own q' z') e = (q ∙ sym q', z ∙ sym z')
   one_in_lam b w d n k l di f x y s r (own q z) (inside i) e =
       let v : label_of b ≡ Label' b (d + 1) n (k + 1) y r = sym (lam_own b w d n k x s q l)
-          ∙ ap (λ m. atom m none) (e ∙ lam_inside b w d n k y r i) in
+      ∙ ap (λ m. atom m none) (e ∙ lam_inside b w d n k y r i) in
       absurd (not_own b di (subst (λ v. IsIn v (parts_in b)) (sym v) (known b (d + 1) n (k + 1) y r l i)))
   one_in_lam b w d n k l di f x y s r (inside i) (own q z) e =
       let v : label_of b ≡ Label' b (d + 1) n (k + 1) x s = sym (lam_own b w d n k y r q l)
-          ∙ ap (λ m. atom m none) (sym e ∙ lam_inside b w d n k x s i) in
+      ∙ ap (λ m. atom m none) (sym e ∙ lam_inside b w d n k x s i) in
       absurd (not_own b di (subst (λ v. IsIn v (parts_in b)) (sym v) (known b (d + 1) n (k + 1) x s l i)))
   one_in_lam b w d n k l di f x y s r (inside i) (inside j) e =
       f x y s r i j (sym (lam_inside b w d n k x s i) ∙ e ∙ lam_inside b w d n k y r j)
@@ -403,18 +431,40 @@ module _ (τ : Translation) where
     is : ((v ≡ label_of f) × (x ≡ k) × (s ≡ 0)) ⊎ (((v ≡ label_of a) × (x ≡ k) × (s ≡ 2))
         ⊎ (((v ≡ Label' f d n (k + 1) x s) × EdgeIn (nodes f d n (k + 1)) (k + 1) x s)
         ⊎ ((v ≡ Label' a d (n + 1) (after f d n k) x s) × EdgeIn (nodes a d (n + 1) (after f d n k))
-            (after f d n k) x s)))
+        (after f d n k) x s)))
 
   placed : (f a : Labelled) (w : Label) (d n k x s : ℕ) → AllLetters (app f a w) → InApp f a d n k x s →
       Place' f a (Label' (app f a w) d n k x s) x s k d n
-  placed f a w d n k x s l (function q z) = record { is = inl (app_function f a w d n k x s q z
-      (all_function f a w l), q, z) }
-  placed f a w d n k x s l (argument q z) = record { is = inr (inl (app_argument f a w d n k x s q z
-      (all_argument f a w l), q, z)) }
-  placed f a w d n k x s l (in_f i) = record { is = inr (inr (inl (ap (λ m. atom m none)
-      (app_in_f f a w d n k x s i), i))) }
-  placed f a w d n k x s l (in_a i) = record { is = inr (inr (inr (ap (λ m. atom m none)
-      (app_in_a f a w d n k x s i), i))) }
+  placed f a w d n k x s l (function q z) = record {
+    is = inl (
+      app_function f a w d n k x s q z
+          (all_function f a w l),
+      q,
+      z,
+    );
+  }
+  placed f a w d n k x s l (argument q z) = record {
+    is = inr (inl (
+      app_argument f a w d n k x s q z
+          (all_argument f a w l),
+      q,
+      z,
+    ));
+  }
+  placed f a w d n k x s l (in_f i) = record {
+    is = inr (inr (inl (
+      ap (λ m. atom m none)
+          (app_in_f f a w d n k x s i),
+      i,
+    )));
+  }
+  placed f a w d n k x s l (in_a i) = record {
+    is = inr (inr (inr (
+      ap (λ m. atom m none)
+          (app_in_a f a w d n k x s i),
+      i,
+    )));
+  }
 
   letters_one : {m k : ℕ} → ◌≡◌ {A = Label} (atom m none) (atom k none) → m ≡ k
   letters_one e = cc
@@ -441,11 +491,11 @@ module _ (τ : Translation) where
       go : ((v ≡ label_of f) × (x ≡ k) × (s ≡ 0)) ⊎ (((v ≡ label_of a) × (x ≡ k) × (s ≡ 2))
           ⊎ (((v ≡ Label' f d n (k + 1) x s) × EdgeIn (nodes f d n (k + 1)) (k + 1) x s)
           ⊎ ((v ≡ Label' a d (n + 1) (after f d n k) x s) × EdgeIn (nodes a d (n + 1) (after f d n k))
-              (after f d n k) x s))) →
+          (after f d n k) x s))) →
           ((u ≡ label_of f) × (y ≡ k) × (r ≡ 0)) ⊎ (((u ≡ label_of a) × (y ≡ k) × (r ≡ 2))
           ⊎ (((u ≡ Label' f d n (k + 1) y r) × EdgeIn (nodes f d n (k + 1)) (k + 1) y r)
           ⊎ ((u ≡ Label' a d (n + 1) (after f d n k) y r) × EdgeIn (nodes a d (n + 1) (after f d n k))
-              (after f d n k) y r))) →
+          (after f d n k) y r))) →
           (x ≡ y) × (s ≡ r)
       go (inl (b, q, z)) (inl (b', q', z')) = (q ∙ sym q', z ∙ sym z')
       go (inl (b, q, z)) (inr (inl (b', q', z'))) = absurd (never (label_of f) (label_of a) (own_in f)
@@ -454,13 +504,13 @@ module _ (τ : Translation) where
           absurd (not_own f D.first (subst (λ v. IsIn v (parts_in f)) (sym (sym b ∙ e ∙ b')) (here y r i)))
       go (inl (b, q, z)) (inr (inr (inr (b', i)))) =
           absurd (never (label_of f) _ (own_in f) (part_in a (Label' a d (n + 1) (after f d n k) y r)
-              (there y r i)) (sym b ∙ e ∙ b'))
+          (there y r i)) (sym b ∙ e ∙ b'))
       go (inr (inl (b, q, z))) (inl (b', q', z')) = absurd (never (label_of f) (label_of a) (own_in f)
           (own_in a) (sym b' ∙ sym e ∙ b))
       go (inr (inl (b, q, z))) (inr (inl (b', q', z'))) = (q ∙ sym q', z ∙ sym z')
       go (inr (inl (b, q, z))) (inr (inr (inl (b', i)))) =
           absurd (never _ (label_of a) (part_in f (Label' f d n (k + 1) y r) (here y r i)) (own_in a) (sym b'
-              ∙ sym e ∙ b))
+          ∙ sym e ∙ b))
       go (inr (inl (b, q, z))) (inr (inr (inr (b', i)))) =
           absurd (not_own a D.second (subst (λ v. IsIn v (parts_in a)) (sym (sym b ∙ e ∙ b')) (there y r i)))
       go (inr (inr (inl (b, i)))) (inl (b', q', z')) =
@@ -470,22 +520,26 @@ module _ (τ : Translation) where
       go (inr (inr (inl (b, i)))) (inr (inr (inl (b', j)))) = F x y s r i j (letters_one (sym b ∙ e ∙ b'))
       go (inr (inr (inl (b, i)))) (inr (inr (inr (b', j)))) =
           absurd (never _ _ (part_in f (Label' f d n (k + 1) x s) (here x s i)) (part_in a (Label' a d (n + 1)
-              (after f d n k) y r) (there y r j)) (sym b ∙ e ∙ b'))
+          (after f d n k) y r) (there y r j)) (sym b ∙ e ∙ b'))
       go (inr (inr (inr (b, i)))) (inl (b', q', z')) =
           absurd (never (label_of f) _ (own_in f) (part_in a (Label' a d (n + 1) (after f d n k) x s)
-              (there x s i)) (sym b' ∙ sym e ∙ b))
+          (there x s i)) (sym b' ∙ sym e ∙ b))
       go (inr (inr (inr (b, i)))) (inr (inl (b', q', z'))) =
           absurd (not_own a D.second (subst (λ v. IsIn v (parts_in a)) (sym b ∙ e ∙ b') (there x s i)))
       go (inr (inr (inr (b, i)))) (inr (inr (inl (b', j)))) =
           absurd (never _ _ (part_in f (Label' f d n (k + 1) y r) (here y r j)) (part_in a (Label' a d (n + 1)
-              (after f d n k) x s) (there x s i)) (sym b' ∙ sym e ∙ b))
+          (after f d n k) x s) (there x s i)) (sym b' ∙ sym e ∙ b))
       go (inr (inr (inr (b, i)))) (inr (inr (inr (b', j)))) = A x y s r i j (letters_one (sym b ∙ e ∙ b'))
 
   one_edge : (T : Labelled) (d n k : ℕ) → AllLetters T → AreDifferent (labels_in T) → OneEdge T d n k
-  one_edge (var y w) d n k l di x z s r e e' q = absurd (no_letter x e.index s e.kind_is k ((kind.Croissant,
-      n) ∷ []) ((λ s. refl), tt) e.there e.has)
-  one_edge (free f w) d n k l di x z s r e e' q = absurd (no_letter x e.index s e.kind_is k ((kind.Croissant,
-      n) ∷ []) ((λ s. refl), tt) e.there e.has)
+  one_edge (var y w) d n k l di x z s r e e' q = absurd (no_letter x e.index s e.kind_is k ((
+    kind.Croissant,
+    n,
+  ) ∷ []) ((λ s. refl), tt) e.there e.has)
+  one_edge (free f w) d n k l di x z s r e e' q = absurd (no_letter x e.index s e.kind_is k ((
+    kind.Croissant,
+    n,
+  ) ∷ []) ((λ s. refl), tt) e.there e.has)
   one_edge (lam b w) d n k l di x y s r e e' q =
       one_in_lam b w d n k (all_lam b w l) di.1 (one_edge b (d + 1) n (k + 1) (all_lam b w l) di.1) x y s r
       (in_lam b w d n k x s e) (in_lam b w d n k y r e') q
@@ -506,19 +560,19 @@ module _ (τ : Translation) where
       (lam b w) d n k)
   long_lam b w d n k =
       let e = length-append ((kind.Lam, n) ∷ nodes b (d + 1) n (k + 1)) (erasers (wire_of 0 (subnet_of τ
-          (erased b) (d + 1) n (k + 1)).wires)) in
+      (erased b) (d + 1) n (k + 1)).wires)) in
       omega (arith, e)
 
   long_app : (o : Option ℕ) (f a : Labelled) (d n k : ℕ) → suc (length (nodes f d n (k + 1)))
       ≤ length (applied n k o (subnet_of τ (erased f) d n (k + 1)) (subnet_of τ (erased a) d (n + 1)
-          (after f d n k))).nodes
+      (after f d n k))).nodes
   long_app None f a d n k =
       let e = length-append (((kind.App, n) ∷ nodes f d n (k + 1)) ++ nodes a d (n + 1) (after f d n k))
       (bracket_nodes n (subnet_of τ (erased a) d (n + 1) (after f d n k)).wires
       ++ (fans n (after f d n k + length (nodes a d (n + 1) (after f d n k)) + length (subnet_of τ (erased a) d
-          (n + 1) (after f d n k)).wires)
+      (n + 1) (after f d n k)).wires)
       (subnet_of τ (erased f) d n (k + 1)).wires (past_brackets (after f d n k + length (nodes a d (n + 1)
-          (after f d n k)))
+      (after f d n k)))
       (subnet_of τ (erased a) d (n + 1) (after f d n k)).wires)).nodes) in
       let g = length-append ((kind.App, n) ∷ nodes f d n (k + 1)) (nodes a d (n + 1) (after f d n k)) in
       omega (arith, e, g)
@@ -530,14 +584,14 @@ module _ (τ : Translation) where
   long_both : (f a : Labelled) (d n k : ℕ) → suc (length (nodes f d n (k + 1)) + length (nodes a d (n + 1)
       (after f d n k)))
       ≤ length (applied n k None (subnet_of τ (erased f) d n (k + 1)) (subnet_of τ (erased a) d (n + 1)
-          (after f d n k))).nodes
+      (after f d n k))).nodes
   long_both f a d n k =
       let e = length-append (((kind.App, n) ∷ nodes f d n (k + 1)) ++ nodes a d (n + 1) (after f d n k))
       (bracket_nodes n (subnet_of τ (erased a) d (n + 1) (after f d n k)).wires
       ++ (fans n (after f d n k + length (nodes a d (n + 1) (after f d n k)) + length (subnet_of τ (erased a) d
-          (n + 1) (after f d n k)).wires)
+      (n + 1) (after f d n k)).wires)
       (subnet_of τ (erased f) d n (k + 1)).wires (past_brackets (after f d n k + length (nodes a d (n + 1)
-          (after f d n k)))
+      (after f d n k)))
       (subnet_of τ (erased a) d (n + 1) (after f d n k)).wires)).nodes) in
       let g = length-append ((kind.App, n) ∷ nodes f d n (k + 1)) (nodes a d (n + 1) (after f d n k)) in
       omega (arith, e, g)
@@ -578,7 +632,7 @@ module _ (τ : Translation) where
       by : (Agrees letter a d (n + 1) (after f d n k) → AreLettered τ letter a d (n + 1) (after f d n k)) →
           (o : Option ℕ) → bare_variable τ d (erased a) ≡ o →
           ((x s : ℕ) → k ≤ x → x < k + length (applied n k o (subnet_of τ (erased f) d n (k + 1)) (subnet_of τ
-              (erased a) d (n + 1) (after f d n k))).nodes →
+          (erased a) d (n + 1) (after f d n k))).nodes →
           letter x s ≡ letter_of_edge (app f a w) d n k x s) → AreLettered τ letter a d (n + 1) (after f d n k)
       by rec (Some y) e g = unless_bare a letter d (n + 1) (after f d n k) y e
       by rec None e g = rec (λ x s low high.

@@ -165,11 +165,19 @@ module _ {A : Type 0} (N : NamedNet A) (letter : A → ℕ → ℕ) where
   phase_reduced (share_up h l y) x k f = phase_reduced y x k f
   phase_reduced (share_down h l y) x k f = phase_reduced y x k f
   phase_reduced (piece g l (to_function {y = v} o) y) x k f = phase_reduced y
-      (onward (letter_of (letter v 0)) ∷ onward begins_over ∷ x) (one_more (onward begins_over) x f.0 k) (refl,
-          refl, refl, refl)
+      (onward (letter_of (letter v 0)) ∷ onward begins_over ∷ x) (one_more (onward begins_over) x f.0 k) (
+        refl,
+        refl,
+        refl,
+        refl,
+      )
   phase_reduced (piece g l (to_body {z = v} o) y) x k f = phase_reduced y
-      (onward (letter_of (letter v 1)) ∷ onward ends_over ∷ x) (one_more (onward ends_over) x f.1 k) (refl, refl,
-          refl, refl)
+      (onward (letter_of (letter v 1)) ∷ onward ends_over ∷ x) (one_more (onward ends_over) x f.1 k) (
+        refl,
+        refl,
+        refl,
+        refl,
+      )
   phase_reduced (piece g l (from_variable o) y) x k f = phase_reduced y
       (onward begins_under ∷ x) (one_more (onward begins_under) x f.2 k) (λ n. refl)
   phase_reduced (piece g l (to_variable o) y) x k f = phase_reduced y
@@ -267,7 +275,7 @@ module _ {A : Type 0} (N : NamedNet A) (letter : A → ℕ → ℕ) where
     no_lam {x} {y} {s} {r} h e sh =
         let same = (slots_one e).0 in
         sh.3 (sym (n.one_node y kind.Lam sh.0 h.0 sh.1.0 h.1 (subst (λ y. HasNode N y sh.0 sh.1.0)
-            (sym same) sh.1.1)).0)
+        (sym same) sh.1.1)).0)
 
     leaves_plain : {b d : Bool} {e l : NamedPort A} {c : Crossing A} {g : Signs} → Piece b e c l d g → IsPlain l
     leaves_plain (to_function h) = λ x s e sh. no_app h e sh
@@ -317,7 +325,7 @@ module _ {A : Type 0} (N : NamedNet A) (letter : A → ℕ → ℕ) where
     same_edge : {y y' : A} {a a' : Signs} (s : ℕ) → IsEdge N y s → IsEdge N y' s → (c : A →
         Crossing A) (r t : ℕ) (d : Bool) →
         letter y s ≡ letter y' s → a ≡ a' → SamePiece (slot y t) (slot y' t) (c y) (c y') (slot y r)
-            (slot y' r) d d a a'
+        (slot y' r) d d a a'
     same_edge {y = v} {y' = v'} s i i' c r t d e f =
         let y = (atoms v v' s s i i' e).0 in
         record {
@@ -341,51 +349,107 @@ module _ {A : Type 0} (N : NamedNet A) (letter : A → ℕ → ℕ) where
     given_one a a' p (from_variable h) u u' e = absurd (cc)
     given_one a a' p (to_variable h) u u' e = absurd (cc)
     given_one a a' (from_function h) (from_function h') u u' e =
-        let f = heads e in let g = heads f.1 in same_edge 0 (kind.App, h.0, h.1, refl) (kind.App, h'.0, h'.1,
-            refl) (λ y. fall y 0) 1 0 true (letters f.0) g.1
+        let f = heads e in let g = heads f.1 in same_edge 0 (kind.App, h.0, h.1, refl) (
+          kind.App,
+          h'.0,
+          h'.1,
+          refl,
+        ) (λ y. fall y 0) 1 0 true (letters f.0) g.1
     given_one a a' (from_function h) (to_argument h') u u' e =
         let f = heads e in let g = heads f.1 in let clash = ap (λ (p : Bool × Sign). p.0) g.0 in absurd (cc)
     given_one a a' (from_function {y = y} h) (from_argument {y = y'} h') u u' e =
-        let k = (atoms y y' 0 2 (kind.App, h.0, h.1, refl) (kind.App, h'.0, h'.1,
-            refl) (letters (heads e).0)).1 in absurd (omega arith)
+        let k = (atoms y y' 0 2 (kind.App, h.0, h.1, refl) (
+          kind.App,
+          h'.0,
+          h'.1,
+          refl,
+        ) (letters (heads e).0)).1 in absurd (omega arith)
     given_one a a' (from_function {y = y} h) (from_body {z = z} h') u u' e =
-        let k = (atoms y z 0 1 (kind.App, h.0, h.1, refl) (kind.Lam, h'.0, h'.1,
-            refl) (letters (heads e).0)).1 in absurd (omega arith)
+        let k = (atoms y z 0 1 (kind.App, h.0, h.1, refl) (
+          kind.Lam,
+          h'.0,
+          h'.1,
+          refl,
+        ) (letters (heads e).0)).1 in absurd (omega arith)
     given_one a a' (to_argument h) (from_function h') u u' e =
         let f = heads e in let g = heads f.1 in let clash = ap (λ (p : Bool × Sign). p.0) g.0 in absurd (cc)
     given_one a a' (to_argument h) (to_argument h') u u' e =
-        let f = heads e in let g = heads f.1 in let k = heads g.1 in same_edge 0 (kind.App, h.0, h.1,
-            refl) (kind.App, h'.0, h'.1, refl) (λ y. fall y 1) 2 0 false (letters f.0) k.1
+        let f = heads e in let g = heads f.1 in let k = heads g.1 in same_edge 0 (
+          kind.App,
+          h.0,
+          h.1,
+          refl,
+        ) (kind.App, h'.0, h'.1, refl) (λ y. fall y 1) 2 0 false (letters f.0) k.1
     given_one a a' (to_argument {y = y} h) (from_argument {y = y'} h') u u' e =
-        let k = (atoms y y' 0 2 (kind.App, h.0, h.1, refl) (kind.App, h'.0, h'.1,
-            refl) (letters (heads e).0)).1 in absurd (omega arith)
+        let k = (atoms y y' 0 2 (kind.App, h.0, h.1, refl) (
+          kind.App,
+          h'.0,
+          h'.1,
+          refl,
+        ) (letters (heads e).0)).1 in absurd (omega arith)
     given_one a a' (to_argument {y = y} h) (from_body {z = z} h') u u' e =
-        let k = (atoms y z 0 1 (kind.App, h.0, h.1, refl) (kind.Lam, h'.0, h'.1,
-            refl) (letters (heads e).0)).1 in absurd (omega arith)
+        let k = (atoms y z 0 1 (kind.App, h.0, h.1, refl) (
+          kind.Lam,
+          h'.0,
+          h'.1,
+          refl,
+        ) (letters (heads e).0)).1 in absurd (omega arith)
     given_one a a' (from_argument {y = y} h) (from_function {y = y'} h') u u' e =
-        let k = (atoms y y' 2 0 (kind.App, h.0, h.1, refl) (kind.App, h'.0, h'.1,
-            refl) (letters (heads e).0)).1 in absurd (omega arith)
+        let k = (atoms y y' 2 0 (kind.App, h.0, h.1, refl) (
+          kind.App,
+          h'.0,
+          h'.1,
+          refl,
+        ) (letters (heads e).0)).1 in absurd (omega arith)
     given_one a a' (from_argument {y = y} h) (to_argument {y = y'} h') u u' e =
-        let k = (atoms y y' 2 0 (kind.App, h.0, h.1, refl) (kind.App, h'.0, h'.1,
-            refl) (letters (heads e).0)).1 in absurd (omega arith)
+        let k = (atoms y y' 2 0 (kind.App, h.0, h.1, refl) (
+          kind.App,
+          h'.0,
+          h'.1,
+          refl,
+        ) (letters (heads e).0)).1 in absurd (omega arith)
     given_one a a' (from_argument h) (from_argument h') u u' e =
-        let f = heads e in let g = heads f.1 in let k = heads g.1 in same_edge 2 (kind.App, h.0, h.1,
-            refl) (kind.App, h'.0, h'.1, refl) (λ y. rise y 1) 0 2 false (letters f.0) k.1
+        let f = heads e in let g = heads f.1 in let k = heads g.1 in same_edge 2 (
+          kind.App,
+          h.0,
+          h.1,
+          refl,
+        ) (kind.App, h'.0, h'.1, refl) (λ y. rise y 1) 0 2 false (letters f.0) k.1
     given_one a a' (from_argument {y = y} h) (from_body {z = z} h') u u' e =
-        let k = (atoms y z 2 1 (kind.App, h.0, h.1, refl) (kind.Lam, h'.0, h'.1,
-            refl) (letters (heads e).0)).1 in absurd (omega arith)
+        let k = (atoms y z 2 1 (kind.App, h.0, h.1, refl) (
+          kind.Lam,
+          h'.0,
+          h'.1,
+          refl,
+        ) (letters (heads e).0)).1 in absurd (omega arith)
     given_one a a' (from_body {z = z} h) (from_function {y = y'} h') u u' e =
-        let k = (atoms z y' 1 0 (kind.Lam, h.0, h.1, refl) (kind.App, h'.0, h'.1,
-            refl) (letters (heads e).0)).1 in absurd (omega arith)
+        let k = (atoms z y' 1 0 (kind.Lam, h.0, h.1, refl) (
+          kind.App,
+          h'.0,
+          h'.1,
+          refl,
+        ) (letters (heads e).0)).1 in absurd (omega arith)
     given_one a a' (from_body {z = z} h) (to_argument {y = y'} h') u u' e =
-        let k = (atoms z y' 1 0 (kind.Lam, h.0, h.1, refl) (kind.App, h'.0, h'.1,
-            refl) (letters (heads e).0)).1 in absurd (omega arith)
+        let k = (atoms z y' 1 0 (kind.Lam, h.0, h.1, refl) (
+          kind.App,
+          h'.0,
+          h'.1,
+          refl,
+        ) (letters (heads e).0)).1 in absurd (omega arith)
     given_one a a' (from_body {z = z} h) (from_argument {y = y'} h') u u' e =
-        let k = (atoms z y' 1 2 (kind.Lam, h.0, h.1, refl) (kind.App, h'.0, h'.1,
-            refl) (letters (heads e).0)).1 in absurd (omega arith)
+        let k = (atoms z y' 1 2 (kind.Lam, h.0, h.1, refl) (
+          kind.App,
+          h'.0,
+          h'.1,
+          refl,
+        ) (letters (heads e).0)).1 in absurd (omega arith)
     given_one a a' (from_body h) (from_body h') u u' e =
-        let f = heads e in let g = heads f.1 in same_edge 1 (kind.Lam, h.0, h.1, refl) (kind.Lam, h'.0, h'.1,
-            refl) (λ z. rise z 0) 0 1 true (letters f.0) g.1
+        let f = heads e in let g = heads f.1 in same_edge 1 (kind.Lam, h.0, h.1, refl) (
+          kind.Lam,
+          h'.0,
+          h'.1,
+          refl,
+        ) (λ z. rise z 0) 0 1 true (letters f.0) g.1
 
     same_node : {y y' : A} {a a' : Signs} (c : A → Crossing A) (r t : ℕ) (d : Bool) →
         ◌≡◌ {A = NamedPort A} (slot y t) (slot y' t) → a ≡ a' →
@@ -487,7 +551,7 @@ module _ {A : Type 0} (N : NamedNet A) (letter : A → ℕ → ℕ) where
     -- after a port where one is given
     piece_given : {d : Bool} {p e l : NamedPort A} {c : Crossing A} {r : List (Crossing A)} {a : Signs} (g : Signs) →
         Linked N p e → Piece true e c l d g → Claim d l r a → (b' : Bool) (p' : NamedPort A) (r' : List
-            (Crossing A)) (a' : Signs) →
+        (Crossing A)) (a' : Signs) →
         Phase b' p' r' a' → true ≡ b' → g ++ a ≡ a' → Split p p' (c ∷ r) r'
     piece_given g l pc f b' p' r' a' (ends z' h' l') e k = absurd (cc)
     piece_given g l pc f b' p' r' a' (share_up h' l' y) e k = absurd (cc)

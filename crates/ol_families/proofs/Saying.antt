@@ -68,7 +68,7 @@ module _ (N : NamedNet ℕ) (n : IsNet N) (letter : ℕ → ℕ → ℕ) where
       a ≡ a' →
       k ≡ k' → i ≡ i' → s < arity k → s' < arity k' → up k i s e ≡ d → up k' i' s' e' ≡ d' →
       OneState (slot x (suc s)) (slot x' (suc s')) e e' (a ++ reversed (rising letter k x s)) (a' ++ reversed
-          (rising letter k' x' s'))
+      (rising letter k' x' s'))
   fallen_one {x} {x'} {s} {s'} {d} {d'} {e} {e'} {a} {a'} k k' i i' ex ed ea ek ei low low' f f' =
       let g : up k' i' s e ≡ d = ap (λ i. up k' i s e) (sym ei) ∙ ap (λ k. up k i s e) (sym ek) ∙ f in
       let z = injective k' i' s s' e e' (subst (λ k. s < arity k) ek low) low' (g ∙ ed ∙ sym f') in
@@ -96,15 +96,15 @@ module _ (N : NamedNet ℕ) (n : IsNet N) (letter : ℕ → ℕ → ℕ) where
   says_one (rises {x = x} {s = s} {u = u} k i w l h low f) (falls {x = x'} {u = u'} k' i' w' l' h' low' f') e =
       let o = says_one w w' (omega arith) in
       absurd (no_slots (n.one_link u' (slot x (suc s)) (slot x' 0) (subst (λ u. Linked N u (slot x
-          (suc s))) o.port l) l'))
+      (suc s))) o.port l) l'))
   says_one (falls {x = x} {u = u} k i w l h low f) (rises {x = x'} {s = s'} {u = u'} k' i' w' l' h' low' f') e =
       let o = says_one w w' (omega arith) in
       absurd (no_slots (sym (n.one_link u' (slot x 0) (slot x' (suc s')) (subst (λ u. Linked N u
-          (slot x 0)) o.port l) l')))
+      (slot x 0)) o.port l) l')))
   says_one (falls {x = x} {s = s} {u = u} k i w l h low f) (falls {x = x'} {s = s'} {u = u'} k' i' w' l' h' low' f') e =
       let o = says_one w w' (omega arith) in
       let q : slot x 0 ≡ slot x' 0 = n.one_link u' (slot x 0) (slot x' 0) (subst (λ u. Linked N u
-          (slot x 0)) o.port l) l' in
+      (slot x 0)) o.port l) l' in
       let z = n.one_node x' k k' i i' (subst (λ x. HasNode N x k i) (nodes_one q) h) h' in
       fallen_one k k' i i' (nodes_one q) o.context o.signs z.0 z.1 low low' f f'
 
@@ -164,18 +164,36 @@ module _ (N : NamedNet ℕ) (n : IsNet N) (letter : ℕ → ℕ → ℕ) where
     rest : Signed N letter w after
 
   first_up : {x s : ℕ} {w : List (Crossing ℕ)} {a : Signs} → Signed N letter (rise x s ∷ w) a → FirstUp x s w a
-  first_up (shared_up {x = x} {s = s} {a = a} k h f g S) = record { kind_is = k; index = h.0; node = h.1;
-      after = a; is = ap (λ g. g ++ a) (sym (shared_still k x s f g)); rest = S }
+  first_up (shared_up {x = x} {s = s} {a = a} k h f g S) = record {
+    kind_is = k;
+    index = h.0;
+    node = h.1;
+    after = a;
+    is = ap (λ g. g ++ a) (sym (shared_still k x s f g));
+    rest = S;
+  }
   first_up (to_function h S) = record { kind_is = kind.App; index = h.0; node = h.1; after = _; is = refl; rest = S }
   first_up (from_argument h S) = record { kind_is = kind.App; index = h.0; node = h.1; after = _; is = refl; rest = S }
   first_up (from_body h S) = record { kind_is = kind.Lam; index = h.0; node = h.1; after = _; is = refl; rest = S }
   first_up (from_variable h S) = record { kind_is = kind.Lam; index = h.0; node = h.1; after = _; is = refl; rest = S }
 
   first_down : {x s : ℕ} {w : List (Crossing ℕ)} {a : Signs} → Signed N letter (fall x s ∷ w) a → FirstDown x s w a
-  first_down (shared_down {x = x} {s = s} {a = a} k h f g S) = record { kind_is = k; index = h.0; node = h.1;
-      after = a; is = ap (λ g. reversed g ++ a) (sym (shared_still k x s f g)); rest = S }
-  first_down (from_function h S) = record { kind_is = kind.App; index = h.0; node = h.1; after = _; is = refl;
-      rest = S }
+  first_down (shared_down {x = x} {s = s} {a = a} k h f g S) = record {
+    kind_is = k;
+    index = h.0;
+    node = h.1;
+    after = a;
+    is = ap (λ g. reversed g ++ a) (sym (shared_still k x s f g));
+    rest = S;
+  }
+  first_down (from_function h S) = record {
+    kind_is = kind.App;
+    index = h.0;
+    node = h.1;
+    after = _;
+    is = refl;
+    rest = S;
+  }
   first_down (to_argument h S) = record { kind_is = kind.App; index = h.0; node = h.1; after = _; is = refl; rest = S }
   first_down (to_body h S) = record { kind_is = kind.Lam; index = h.0; node = h.1; after = _; is = refl; rest = S }
   first_down (to_variable h S) = record { kind_is = kind.Lam; index = h.0; node = h.1; after = _; is = refl; rest = S }
@@ -208,7 +226,7 @@ module _ (N : NamedNet ℕ) (n : IsNet N) (letter : ℕ → ℕ → ℕ) where
       let f = first_down S in
       let z = fall_at N n x f.kind_is f.index f.node s w c d t in
       subst (Said r b q d) (append_assoc g (reversed (rising letter f.kind_is x s)) f.after
-          ∙ ap (λ a. g ++ a) (sym f.is))
+      ∙ ap (λ a. g ++ a) (sym f.is))
       (row_says (falls f.kind_is f.index y l f.node z.0 z.2) row f.rest z.3)
 
   -- ---- what moves lead to, it comes to
@@ -223,8 +241,14 @@ module _ (N : NamedNet ℕ) (n : IsNet N) (letter : ℕ → ℕ → ℕ) where
       is : moved r signs y0 ≡ y
 
     link_along : (u q : NamedPort ℕ) (d : Context) (y : Signs) → Linked N u q → Along u d y → Along q d y
-    link_along u q d y l a = record { made = a.made; port = a.port; signs = a.signs; says = a.says;
-        there = by a.there; is = a.is }
+    link_along u q d y l a = record {
+      made = a.made;
+      port = a.port;
+      signs = a.signs;
+      says = a.says;
+      there = by a.there;
+      is = a.is;
+    }
       where
         by : Linked N a.port u ⊎ (a.port ≡ u) → Linked N a.port q ⊎ (a.port ≡ q)
         by (inl h) = inr (n.one_link u a.port q (linked_sym N a.port u h) l)
@@ -233,7 +257,7 @@ module _ (N : NamedNet ℕ) (n : IsNet N) (letter : ℕ → ℕ → ℕ) where
     cancelled : (g a : Signs) (y : Signs) → moved r (a ++ g) y0 ≡ moved r g y → moved r a y0 ≡ y
     cancelled g a y e =
         sym (moved_back r g (moved r a y0)) ∙ ap (moved r (reversed g)) (sym (moved_append r a g y0) ∙ e)
-            ∙ moved_back r g y
+        ∙ moved_back r g y
 
     -- through a node from its principal port
     down_last : {m : ℕ} {v : NamedPort ℕ} {d : Context} {a : Signs} (k : Kind) (i x s : ℕ) (c : Context) (y : Signs) →
@@ -248,7 +272,7 @@ module _ (N : NamedNet ℕ) (n : IsNet N) (letter : ℕ → ℕ → ℕ) where
         let z = injective k i s s' c d' low (subst (λ k. s' < arity k) (sym o.0) low') (f ∙ sym f2) in
         let g2 : rising letter k' x' s' ≡ rising letter k x s =
         ap (λ k. rising letter k x' s') (sym o.0) ∙ ap (λ x. rising letter k x s') ex
-            ∙ ap (λ s. rising letter k x s) (sym z.0) in
+        ∙ ap (λ s. rising letter k x s) (sym z.0) in
         record {
           made = m;
           port = u;
@@ -291,7 +315,7 @@ module _ (N : NamedNet ℕ) (n : IsNet N) (letter : ℕ → ℕ → ℕ) where
         ap (λ s. up k i s c) (sym es) ∙ ap (λ i. up k i s' c) o.1 ∙ ap (λ k. up k i' s' c) o.0 ∙ f' in
         let g2 : rising letter k' x' s' ≡ rising letter k x s =
         ap (λ k. rising letter k x' s') (sym o.0) ∙ ap (λ x. rising letter k x s') ex
-            ∙ ap (λ s. rising letter k x s) es in
+        ∙ ap (λ s. rising letter k x s) es in
         record {
           made = m;
           port = u;
@@ -364,7 +388,7 @@ module _ (N : NamedNet ℕ) (n : IsNet N) (letter : ℕ → ℕ → ℕ) where
   -- What a row from one such port to another reads is what moves between them make of signs.
   pub row_is_heard : (r : Acting) (x y z : ℕ) (c d e : Context) (w : List (Crossing ℕ)) (a : Signs) (s t : Signs) →
       Bars x c → Bars y d → Bars z e → (x ≡ z → ⊥) → Row N (slot x 0) w (slot y 0) → Signed N letter w a →
-          Carries N c w d →
+      Carries N c w d →
       Joined (Heard N letter r) ((slot x 0, c), s) ((slot z 0, e), t) → moved r a s ≡ t
   row_is_heard r x y z c d e w a s t bx by' bz f row S k j =
       compared r x y z c d e a s t by' bz f (row_says start row S k) (all_along r x c bx s j)

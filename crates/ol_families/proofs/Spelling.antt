@@ -76,19 +76,19 @@ push_reduced : (p : Bool × Sign) (x : Signs) → is_reduced x ≡ true → is_r
 push_reduced p [] h = refl
 push_reduced p (q ∷ x) h = elim (cancels p q) as (λ b. cancels p q ≡ b →
     is_reduced (if b then x else p ∷ (q ∷ x)) ≡ true) [
-  | true ↦ λ e. (and_parts (fits q x) (is_reduced x) h).1
-  | false ↦ λ e. rw e h
-] refl
+      | true ↦ λ e. (and_parts (fits q x) (is_reduced x) h).1
+      | false ↦ λ e. rw e h
+    ] refl
 
 push_back : (p : Bool × Sign) (x : Signs) → is_reduced x ≡ true → push (turn p) (push p x) ≡ x
 push_back p [] h = rw (turn_cancels p) refl
 push_back p (q ∷ x) h = elim (cancels p q) as (λ b. cancels p q ≡ b →
     push (turn p) (if b then x else p ∷ (q ∷ x)) ≡ q ∷ x) [
-  | true ↦ λ e. (let same = cancel_is p q e in
-      push_fits (turn p) x (subst (λ q. fits q x ≡ true) same (and_parts (fits q x) (is_reduced x) h).0)
-      ∙ ap (λ q. q ∷ x) (sym same))
-  | false ↦ λ e. rw (turn_cancels p) refl
-] refl
+      | true ↦ λ e. (let same = cancel_is p q e in
+          push_fits (turn p) x (subst (λ q. fits q x ≡ true) same (and_parts (fits q x) (is_reduced x) h).0)
+          ∙ ap (λ q. q ∷ x) (sym same))
+      | false ↦ λ e. rw (turn_cancels p) refl
+    ] refl
 
 -- a sign as a motion of such words; other words stay
 abbrev put : Bool × Sign → Signs → Signs
@@ -240,10 +240,15 @@ back_over : (v w : Label) → Back v → Back w → Back (over v w)
 back_over v w f g x h c =
     let a = g x h c in
     let y : Signs = (true, ends_over) ∷ flipped (reversed (signs_of w)) x in
-    let b = f y (more (true, ends_over) (flipped (reversed (signs_of w)) x) a.closes.1 a.reduced) (λ n. refl,
-        refl, refl) in
-    subst (Rear x) (sym (flipped_append (reversed (signs_of v ++ (false, ends_over) ∷ signs_of w)) ((true,
-        begins_over) ∷ []) x
+    let b = f y (more (true, ends_over) (flipped (reversed (signs_of w)) x) a.closes.1 a.reduced) (
+      λ n. refl,
+      refl,
+      refl,
+    ) in
+    subst (Rear x) (sym (flipped_append (reversed (signs_of v ++ (false, ends_over) ∷ signs_of w)) ((
+      true,
+      begins_over,
+    ) ∷ []) x
     ∙ ap (λ y. (true, begins_over) ∷ y) (flipped_round (signs_of v) (false, ends_over) (signs_of w) x))) (record {
       reduced = more (true, begins_over) (flipped (reversed (signs_of v)) y) (b.begins refl) b.reduced;
       closes = (λ n. refl, refl, refl);
@@ -255,8 +260,11 @@ back_under : (v w : Label) → Forth v → Back w → Back (under v w)
 back_under v w f g x h c =
     let a = g x h c in
     let y : Signs = (true, ends_under) ∷ flipped (reversed (signs_of w)) x in
-    let b = f y (more (true, ends_under) (flipped (reversed (signs_of w)) x) a.closes.2 a.reduced) (λ n. refl,
-        refl, refl) in
+    let b = f y (more (true, ends_under) (flipped (reversed (signs_of w)) x) a.closes.2 a.reduced) (
+      λ n. refl,
+      refl,
+      refl,
+    ) in
     subst (Rear x) (sym (flipped_append (reversed (reversed (signs_of v) ++ (false, ends_under) ∷ signs_of w))
     ((true, begins_under) ∷ []) x
     ∙ ap (λ y. (true, begins_under) ∷ y) (flipped_round (reversed (signs_of v)) (false, ends_under) (signs_of w) x
@@ -340,8 +348,10 @@ reads (over v w) = let f = reads v in let g = reads w in (
       ∙ f.0 ((false, ends_over) ∷ (signs_of w ++ c)) none (u ∷ vs)
       ∙ g.0 c (joined u (over v none)) vs ∙ ap (λ u. read c u vs) (joined_group u (over v none) w),
   λ c u vs.
-      ap (λ s. read s u vs) (append_assoc (reversed (signs_of v ++ (false, ends_over) ∷ signs_of w)) ((true,
-          begins_over) ∷ []) c
+      ap (λ s. read s u vs) (append_assoc (reversed (signs_of v ++ (false, ends_over) ∷ signs_of w)) ((
+        true,
+        begins_over,
+      ) ∷ []) c
       ∙ ap (λ s. s ++ (true, begins_over) ∷ c) (reversed_round (signs_of v) (false, ends_over) (signs_of w))
       ∙ append_assoc (reversed (signs_of w)) ((true, ends_over) ∷ reversed (signs_of v)) ((true, begins_over) ∷ c))
       ∙ g.1 ((true, ends_over) ∷ (reversed (signs_of v) ++ (true, begins_over) ∷ c)) u vs
@@ -355,14 +365,22 @@ reads (under v w) = let f = reads v in let g = reads w in (
       ∙ ap (λ v. read (signs_of w ++ c) (joined u (under v none)) vs) (joined_none v)
       ∙ g.0 c (joined u (under v none)) vs ∙ ap (λ u. read c u vs) (joined_group u (under v none) w),
   λ c u vs.
-      ap (λ s. read s u vs) (append_assoc (reversed (reversed (signs_of v) ++ (false,
-          ends_under) ∷ signs_of w)) ((true, begins_under) ∷ []) c
-      ∙ ap (λ s. s ++ (true, begins_under) ∷ c) (reversed_round (reversed (signs_of v)) (false,
-          ends_under) (signs_of w))
-      ∙ append_assoc (reversed (signs_of w)) ((true, ends_under) ∷ reversed (reversed (signs_of v))) ((true,
-          begins_under) ∷ c)
-      ∙ ap (λ s. reversed (signs_of w) ++ (true, ends_under) ∷ (s ++ (true,
-          begins_under) ∷ c)) (reversed_back (signs_of v)))
+      ap (λ s. read s u vs) (append_assoc (reversed (reversed (signs_of v) ++ (
+        false,
+        ends_under,
+      ) ∷ signs_of w)) ((true, begins_under) ∷ []) c
+      ∙ ap (λ s. s ++ (true, begins_under) ∷ c) (reversed_round (reversed (signs_of v)) (
+        false,
+        ends_under,
+      ) (signs_of w))
+      ∙ append_assoc (reversed (signs_of w)) ((true, ends_under) ∷ reversed (reversed (signs_of v))) ((
+        true,
+        begins_under,
+      ) ∷ c)
+      ∙ ap (λ s. reversed (signs_of w) ++ (true, ends_under) ∷ (s ++ (
+        true,
+        begins_under,
+      ) ∷ c)) (reversed_back (signs_of v)))
       ∙ g.1 ((true, ends_under) ∷ (signs_of v ++ (true, begins_under) ∷ c)) u vs
       ∙ f.0 ((true, begins_under) ∷ c) none (joined w u ∷ vs),
 )
@@ -370,5 +388,5 @@ reads (under v w) = let f = reads v in let g = reads w in (
 pub alike_is_one : (v w : Label) → AreAlike (signs_of v) (signs_of w) → v ≡ w
 alike_is_one v w e =
     sym ((reads v).0 [] none []) ∙ ap (λ s. read s none []) (alike_words (signs_of v) (signs_of w)
-        (signs_reduced v) (signs_reduced w) e)
+    (signs_reduced v) (signs_reduced w) e)
     ∙ (reads w).0 [] none []

@@ -64,8 +64,13 @@ module _ {A : Type 0} (N : NamedNet A) (letter : A → ℕ → ℕ) where
   signed_down kind.Lam i x (suc zero) h low S = (_, to_variable (i, h) S)
   signed_down kind.Lam i x (suc (suc s)) h low S = absurd (omega arith)
   signed_down kind.Fan i x s h low S = (_, shared_down kind.Fan (i, h) (λ e. absurd (cc)) (λ e. absurd (cc)) S)
-  signed_down kind.Croissant i x s h low S = (_, shared_down kind.Croissant (i,
-      h) (λ e. absurd (cc)) (λ e. absurd (cc)) S)
+  signed_down kind.Croissant i x s h low S = (
+    _,
+    shared_down kind.Croissant (
+      i,
+      h,
+    ) (λ e. absurd (cc)) (λ e. absurd (cc)) S,
+  )
   signed_down kind.Bracket i x s h low S = (_, shared_down kind.Bracket (i, h) (λ e. absurd (cc)) (λ e. absurd (cc)) S)
   signed_down kind.Eraser i x s h low S = (_, shared_down kind.Eraser (i, h) (λ e. absurd (cc)) (λ e. absurd (cc)) S)
 
@@ -181,22 +186,24 @@ module _ {B : Type 0} (m : ℕ → B) (M : NamedNet B) (n : IsNet M) (τ : Trans
       let port = ap (λ (u : S). u.0) same in
       let there : slot fun.node 0 ≡ slot a.node 0 = net'.one_link a.at_site.port (slot fun.node 0) (slot a.node 0)
       (subst (λ q. Linked NN q (slot fun.node 0)) port (linked_sym NN (slot fun.node 0)
-          (numbered_port fun.port) fun.link))
+      (numbered_port fun.port) fun.link))
       (linked_sym NN (slot a.node 0) a.at_site.port a.at_site.linked) in
       let number : fun.node ≡ a.node = cc in
       let label : function_label T site ≡ atom (letter a.node 0) none = fun.label
-          ∙ ap (λ x. atom (letter x 0) none) number in
-      let H = trail_heard τ T names h letter are mt.trail (a.at_site.port,
-          context_at site (cons empty blank)) stood.is in
+      ∙ ap (λ x. atom (letter x 0) none) number in
+      let H = trail_heard τ T names h letter are mt.trail (
+        a.at_site.port,
+        context_at site (cons empty blank),
+      ) stood.is in
       let L = lam_at τ NN letter 0 0 0 (λ c. c) mt.is_other tt (has_part τ (erased T) names h) in
       let last : ◌≡◌ {A = S} H.0 (slot L.node 0, context_at mt.other (cons empty blank)) = some_one (sym H.1
-          ∙ L.is empty blank) in
+      ∙ L.is empty blank) in
       let ends : put (levels_of mt.other) blank ≡ context_at mt.other (cons empty blank) = sym (as_put mt.other blank)
       ∙ ap (context_at mt.other) (sym (eta blank)) in
       let long : length (levels_of mt.other) ≡ 0 + depth mt.other = as_long mt.other
-          ∙ (let q : depth mt.other ≡ 0 + depth mt.other = omega arith in q) in
+      ∙ (let q : depth mt.other ≡ 0 + depth mt.other = omega arith in q) in
       let differ : a.node ≡ L.node → ⊥ = λ e. (let q = (net'.one_node L.node kind.App kind.Lam V.route.i
-          (0 + depth mt.other)
+      (0 + depth mt.other)
       (subst (λ x. HasNode NN x kind.App V.route.i) e app) L.index).0 in absurd (cc)) in
       record {
         route = record { from = a.node; row = R.0; to = y.0 };
@@ -209,7 +216,7 @@ module _ {B : Type 0} (m : ℕ → B) (M : NamedNet B) (n : IsNet M) (τ : Trans
         alike = λ r x.
             let z = r.act (letter_of (letter a.node 0)) x in
             row_is_heard NN net' letter r a.node y.0 L.node (put V.begin blank) (put V.last blank) (put
-                (levels_of mt.other) blank)
+            (levels_of mt.other) blank)
             R.0 G.0 z (moved r (word_along T mt.trail) z)
             (bars_app NN net' letter a.node V.route.i app V.begin V.begin_is)
             (bars_lam NN net' letter y.0 V.route.j y.1 V.last V.last_is)
@@ -231,6 +238,6 @@ module _ {B : Type 0} (m : ℕ → B) (M : NamedNet B) (n : IsNet M) (τ : Trans
       IsTold s v → IsTold u w → AreAlike v w → s ≡ u
   told_one atoms s u v w a b e =
       let same = routes_told τ (erased T) names h letter atoms a.route b.route a.has b.has a.signs b.signs
-          a.signed b.signed
+      a.signed b.signed
       (λ r x. a.alike r x ∙ e r x ∙ sym (b.alike r x)) in
       a.is ∙ ap (route_under m) same ∙ sym b.is

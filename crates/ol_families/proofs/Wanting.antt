@@ -104,8 +104,11 @@ module _ {τ : Translation} {T U : Labelled} {d : Label} {t' : Tree} {S : Place 
       × AreAlike (word_of T p m.matched) (signs_of (function_label U q) ++ word_along U k.matched.trail))
   comes_on p y v v' c m e =
       let k = follow w m.way (w.start y v v' c e) in
-      of k.spot k.motion k.walks (w.goes p m.level m.later k.spot (app m.matched.function m.matched.argument,
-          m.matched.is, tt) k.rel)
+      of k.spot k.motion k.walks (w.goes p m.level m.later k.spot (
+        app m.matched.function m.matched.argument,
+        m.matched.is,
+        tt,
+      ) k.rel)
     where
       of : (z : Spot) (f : Motion) → Walks τ t' U (at y v' c) z f →
           (p ≡ w.redex) ⊎ ((g : Goes t' T U w.K p) × (z ≡ spot_in g.site (base true m.level m.later))) →
@@ -115,15 +118,24 @@ module _ {τ : Translation} {T U : Labelled} {d : Label} {t' : Tree} {S : Place 
       of z f a (inr (g, e)) =
           let j = matched_goes τ w p m.matched g in
           let b : Walks τ t' U (at y v' c) (function_at g.site m.level m.later) f = subst (λ z. Walks τ t' U
-              (at y v' c) z f) e a in
-          inr (g.site, record { matched = j.matched; level = m.level; later = m.later; steps = b.weight;
-              way = b.trail }, j.alike)
+          (at y v' c) z f) e a in
+          inr (
+            g.site,
+            record {
+              matched = j.matched;
+              level = m.level;
+              later = m.later;
+              steps = b.weight;
+              way = b.trail;
+            },
+            j.alike,
+          )
 
 module _ (τ : Translation) {T U : Labelled} {d : Label} (k : Step τ T d U) where
   abbrev Onward : (p : Site) → IsMatched τ (erased T) p → Tree → Type 0
   Onward p m t = AreAlike (word_of T p m) (signs_of d)
       ⊎ ((q : Site) × (n : IsWanted τ t q) × AreAlike (word_of T p m) (signs_of
-          (function_label U q) ++ word_along U n.comes.matched.trail))
+      (function_label U q) ++ word_along U n.comes.matched.trail))
 
   goes_by : (p : Site) (y : Place) (v v' : Level) (c : Context) (m : Comes τ (erased T) (at y v c) p) →
       Same τ k.step y v v' → Asks τ k.tree y v' c → Onward p m.matched k.tree
@@ -148,7 +160,7 @@ module _ (τ : Translation) {T U : Labelled} {d : Label} (k : Step τ T d U) whe
 
   wanted_on : (p : Site) (m : IsWanted τ (erased T) p) → AreAlike (word_of T p m.comes.matched) (signs_of d)
       ⊎ ((q : Site) × (n : IsWanted τ (erased U) q) × AreAlike (word_of T p m.comes.matched)
-          (word_of U q n.comes.matched))
+      (word_of U q n.comes.matched))
   wanted_on p m = subst (Onward p m.comes.matched) k.is (wanted_by p m.place m.first m.rest m.asks m.comes)
 
 module _ (τ : Translation) where
@@ -170,8 +182,11 @@ module _ (τ : Translation) where
   lift_fun : (f a : Labelled) (w : Label) (q : Site) (m : IsMatched τ (erased f) q) →
       Lifted (labels.app f a w) (in_function q) (word_of f q m)
   lift_fun f a w q m =
-      let W = in_the_fun {t = erased f} {p = erased a} {L = f} {P = a} w (record { weight = m.weight;
-          trail = m.trail; reads = λ r x. refl }) in (
+      let W = in_the_fun {t = erased f} {p = erased a} {L = f} {P = a} w (record {
+        weight = m.weight;
+        trail = m.trail;
+        reads = λ r x. refl;
+      }) in (
         record {
           function = m.function;
           argument = m.argument;
@@ -190,8 +205,11 @@ module _ (τ : Translation) where
   lift_arg : (f a : Labelled) (w : Label) (v : Level) (q : Site) (m : IsMatched τ (erased a) q) →
       Lifted (labels.app f a w) (in_argument v q) (word_of a q m)
   lift_arg f a w v q m =
-      let W = in_the_arg {t = erased f} {p = erased a} {L = f} {P = a} w v (record { weight = m.weight;
-          trail = m.trail; reads = λ r x. refl }) in (
+      let W = in_the_arg {t = erased f} {p = erased a} {L = f} {P = a} w v (record {
+        weight = m.weight;
+        trail = m.trail;
+        reads = λ r x. refl;
+      }) in (
         record {
           function = m.function;
           argument = m.argument;
@@ -210,8 +228,11 @@ module _ (τ : Translation) where
   lift_lam : (b : Labelled) (w : Label) (q : Site) (m : IsMatched τ (erased b) q) →
       Lifted (labels.lam b w) (in_lam q) (word_of b q m)
   lift_lam b w q m =
-      let W = in_the_body {t = erased b} {L = b} w (record { weight = m.weight; trail = m.trail;
-          reads = λ r x. refl }) in (
+      let W = in_the_body {t = erased b} {L = b} w (record {
+        weight = m.weight;
+        trail = m.trail;
+        reads = λ r x. refl;
+      }) in (
         record {
           function = m.function;
           argument = m.argument;
@@ -281,7 +302,7 @@ module _ (τ : Translation) where
 
   app_first : (f a : Labelled) (w : Label) → is_abstraction (erased f) ≡ false →
       leftmost (erased (labels.app f a w)) ≡ first_of_two (beta_steps.under 1 (leftmost (erased f)))
-          (beta_steps.under 2 (leftmost (erased a)))
+      (beta_steps.under 2 (leftmost (erased a)))
   app_first f a w e = ap (λ b. if b then Some [] else first_of_two (beta_steps.under 1 (leftmost (erased f)))
       (beta_steps.under 2 (leftmost (erased a)))) e
 
@@ -295,17 +316,38 @@ module _ (τ : Translation) where
           let q : s.place ≡ 1 ∷ at' = some_one (sym s.first ∙ app_first f a w plain
           ∙ ap (λ x. first_of_two (beta_steps.under 1 x) (beta_steps.under 2 (leftmost (erased a)))) e) in
           let m = mapped (λ g. labels.app g a w) (contracted f at') U (ap (contracted (labels.app f a w))
-              (sym q) ∙ s.gives) in
-          inl (m.0, record { place = at'; first = e; degree_is = ap (degree (labels.app f a w)) (sym q)
-              ∙ s.degree_is; gives = m.1 }, m.2)
+          (sym q) ∙ s.gives) in
+          inl (
+            m.0,
+            record {
+              place = at';
+              first = e;
+              degree_is = ap (degree (labels.app f a w)) (sym q)
+                  ∙ s.degree_is;
+              gives = m.1;
+            },
+            m.2,
+          )
       by None e (Some at') e' =
           let q : s.place ≡ 2 ∷ at' = some_one (sym s.first ∙ app_first f a w plain
           ∙ ap (λ x. first_of_two (beta_steps.under 1 x) (beta_steps.under 2 (leftmost (erased a)))) e
           ∙ ap (λ y. beta_steps.under 2 y) e') in
           let m = mapped (λ b. labels.app f b w) (contracted a at') U (ap (contracted (labels.app f a w))
-              (sym q) ∙ s.gives) in
-          inr (e, (m.0, record { place = at'; first = e'; degree_is = ap (degree (labels.app f a w)) (sym q)
-              ∙ s.degree_is; gives = m.1 }, m.2))
+          (sym q) ∙ s.gives) in
+          inr (
+            e,
+            (
+              m.0,
+              record {
+                place = at';
+                first = e';
+                degree_is = ap (degree (labels.app f a w)) (sym q)
+                    ∙ s.degree_is;
+                gives = m.1;
+              },
+              m.2,
+            ),
+          )
       by None e None e' = absurd (some_none (sym s.first ∙ app_first f a w plain
           ∙ ap (λ x. first_of_two (beta_steps.under 1 x) (beta_steps.under 2 (leftmost (erased a)))) e
           ∙ ap (λ y. beta_steps.under 2 y) e'))
@@ -318,9 +360,17 @@ module _ (τ : Translation) where
       by (Some at') e =
           let q : s.place ≡ 0 ∷ at' = some_one (sym s.first ∙ ap (λ x. beta_steps.under 0 x) e) in
           let m = mapped (λ c. labels.lam c w) (contracted b at') U (ap (contracted (labels.lam b w)) (sym q)
-              ∙ s.gives) in
-          (m.0, record { place = at'; first = e; degree_is = ap (degree (labels.lam b w)) (sym q)
-              ∙ s.degree_is; gives = m.1 }, m.2)
+          ∙ s.gives) in (
+            m.0,
+            record {
+              place = at';
+              first = e;
+              degree_is = ap (degree (labels.lam b w)) (sym q)
+                  ∙ s.degree_is;
+              gives = m.1;
+            },
+            m.2,
+          )
       by None e = absurd (some_none (sym s.first ∙ ap (λ x. beta_steps.under 0 x) e))
 
   spine_plain : {t : Tree} {y : Wire} {a : Level} {j : ℕ} → Spine t y a j → is_abstraction t ≡ false
@@ -387,8 +437,11 @@ module _ (τ : Translation) where
     where
       go : {c U : Labelled} → Keeps' b d c → U ≡ labels.lam c w → (g : Signs) → Wants false (labels.lam b w) g →
           AreAlike g (signs_of d) ⊎ Wants false U g
-      go {c} {U} f e g (at_body W) = elim (f g W) [ inl e ↦ inl e | inr x ↦ inr (subst (λ U. Wants false U g)
-          (sym e) (at_body x)) ]
+      go {c} {U} f e g (at_body W) = elim (f g W) [
+        | inl e ↦ inl e
+        | inr x ↦ inr (subst (λ U. Wants false U g)
+            (sym e) (at_body x))
+      ]
 
   in_function_on : (f a : Labelled) (w d : Label) (c U : Labelled) → Keeps' f d c → U ≡ labels.app c a w →
       Keeps' (labels.app f a w) d U
@@ -413,8 +466,12 @@ module _ (τ : Translation) where
       by : InFunction f a w d U ⊎ InArgument f a w d U → IsSpine (erased U) × Keeps' (labels.app f a w) d U
       by (inl (c, t', q)) =
           let r = up y' a' j' s d c t' in (
-            subst (λ U. IsSpine (erased U)) (sym q) (r.0.0, left (erased a) r.0.0 r.0.1, suc r.0.2,
-                head_app r.0.3 refl),
+            subst (λ U. IsSpine (erased U)) (sym q) (
+              r.0.0,
+              left (erased a) r.0.0 r.0.1,
+              suc r.0.2,
+              head_app r.0.3 refl,
+            ),
             in_function_on f a w d c U r.1 q,
           )
       by (inr (n, (c, t', q))) = (
@@ -438,12 +495,18 @@ module _ (τ : Translation) where
   stays_wanted : (T : Labelled) → Steps' T
   stays_wanted (labels.var y w) =
       let n : OnArgs (labels.var y w) = λ q a j k d U s. absurd (some_none (sym s.first)) in
-      record { on_spine = λ q a j k d U s. absurd (some_none (sym s.first)); on_args = n;
-          on_whole = whole_on (labels.var y w) n }
+      record {
+        on_spine = λ q a j k d U s. absurd (some_none (sym s.first));
+        on_args = n;
+        on_whole = whole_on (labels.var y w) n;
+      }
   stays_wanted (labels.free f w) =
       let n : OnArgs (labels.free f w) = λ q a j k d U s. absurd (some_none (sym s.first)) in
-      record { on_spine = λ q a j k d U s. absurd (some_none (sym s.first)); on_args = n;
-          on_whole = whole_on (labels.free f w) n }
+      record {
+        on_spine = λ q a j k d U s. absurd (some_none (sym s.first));
+        on_args = n;
+        on_whole = whole_on (labels.free f w) n;
+      }
   stays_wanted (labels.lam b w) =
       let n = args_on_lam b w (stays_wanted b).on_args in
       record { on_spine = λ y a j k d U s. elim k [ ]; on_args = n; on_whole = whole_on (labels.lam b w) n }
