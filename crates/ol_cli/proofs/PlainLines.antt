@@ -24,7 +24,7 @@ use Rattle.ol_cli.specs.NormalForms.{ArePlainTwo, PlainEqualSays, PlainDemandFin
 use Rattle.ol_cli.specs.NormalForms.{PlainDemandIsFrugal, PlainDemandIsOptimal, CountsSay}
 use Rattle.ol_cli.specs.NormalForms.{IsNoMoreThanLeftmost, IsNoMoreThanFamilies}
 use Rattle.ol_demand.specs.Demands.{Asking, Turns}
-use Rattle.ol_families.proofs.Betas.{run_has_families}
+use Rattle.ol_families.proofs.Betas.{runs_have_families}
 use Rattle.ol_net.specs.Nets.{NamedNet, net_under}
 use Rattle.ol_net.specs.declared.parts.Rule.TheVariants as rule
 use Rattle.ol_parse.specs.Grammar.{Named}
@@ -194,9 +194,9 @@ plain_demand words files old new w name p bytes has source is =
 -- The counts of `demand`: what holds of the beta steps of each run of demand order of the source's own net.
 abbrev HoldsOfRuns : (Named → ℕ → Type 0) → Type 0
 HoldsOfRuns Says = (source : Named) → HasNames (number source) (length (names_of source)) →
-    {many turns : ℕ} {journal : List Entry} {places : List ReadNode} {M : NamedNet NodeName} {a : Asking} →
-    Turns (net_under Init (translation_of Two (number source) (length (names_of source)))) many turns journal places M a →
-    Says source (times_applied rule.Beta journal)
+    (many turns : ℕ) (journal : List Entry) (places : List ReadNode) (M : NamedNet NodeName) (a : Asking) →
+    Turns (net_under Init (translation_of Two (number source) (length (names_of source)))) many turns journal places M
+    a → Says source (times_applied rule.Beta journal)
 
 counts_say : (Says : Named → ℕ → Type 0) → HoldsOfRuns Says → (words : List (String Global)) (files : Files)
     (old new : Option (List ℕ)) → Writes words files old new → (name : Text) →
@@ -215,7 +215,7 @@ counts_say Says holds words files old new w name p bytes has source is =
       stuck = d.stuck;
       one = one_line is (demand_printed r.1);
       written = subst (λ t. Appended old t new) d.written r.2;
-      says = holds source (file_names bytes (number source) (names_of source) (file_of is)) d.ends.run.run;
+      says = holds source (file_names bytes (number source) (names_of source) (file_of is)) _ _ _ _ _ _ d.ends.run.run;
     }
 
 pub plain_frugal : (words : List (String Global)) (files : Files) (old new : Option (List ℕ)) →
@@ -223,7 +223,7 @@ pub plain_frugal : (words : List (String Global)) (files : Files) (old new : Opt
 plain_frugal words files old new w = counts_say IsNoMoreThanLeftmost frugal words files old new w
   where
     frugal : HoldsOfRuns IsNoMoreThanLeftmost
-    frugal source h r v l n =
+    frugal source h many turns journal places M a r v l n =
         let names = names_of source in
         let N = translation_of Two (number source) (length names) in
         let is_net = translation_net Two (number source) (length names) h in
@@ -235,12 +235,12 @@ pub plain_optimal : (words : List (String Global)) (files : Files) (old new : Op
 plain_optimal words files old new w = counts_say IsNoMoreThanFamilies optimal words files old new w
   where
     optimal : HoldsOfRuns IsNoMoreThanFamilies
-    optimal source h r T v ws e own l n =
+    optimal source h many turns journal places M a r T v ws e own l n =
         let names = names_of source in
         let N = translation_of Two (number source) (length names) in
         let is_net = translation_net Two (number source) (length names) h in
-        run_has_families Two T v ws l n own (number source) e (length names) h N is_net (same_refl N)
-        (is_start Two (number source) names is_net) r
+        runs_have_families Two T v ws l n own (number source) e (length names) h N is_net (same_refl N)
+        (is_start Two (number source) names is_net) many turns journal places M a r
 
 -- the bytes of two files are those of the job's files
 two_told : (files : Files) (a b : Text) (m n : List ℕ) → files 0 a ≡ Some m → files 1 b ≡ Some n →

@@ -277,17 +277,18 @@ module _ (τ : Translation) (T v : Labelled) (ws : List Label) (r : LeftmostCont
       (l.degrees, l.different, l.within, sym b.2 ∙ l.count)
 
 -- the same of a run of any net that is this one up to names, for the term that T is without labels
-abbrev RunHasFamilies : Translation → List Label → Tree → Type 0
-RunHasFamilies τ ws t = (names : ℕ) → HasNames t names → (K : NamedNet ℕ) → IsNet K →
+abbrev RunsHaveFamilies : Translation → List Label → Tree → Type 0
+RunsHaveFamilies τ ws t = (names : ℕ) → HasNames t names → (K : NamedNet ℕ) → IsNet K →
     SameNet K (translation_of τ t names) → IsStart (net_under Init K) →
-    {many turns : ℕ} {journal : List Entry} {places : List ReadNode} {M : NamedNet NodeName} {a : Asking} →
+    (many turns : ℕ) (journal : List Entry) (places : List ReadNode) (M : NamedNet NodeName) (a : Asking) →
     Turns (net_under Init K) many turns journal places M a →
     (es : List Label) × AreDifferent es × ((e : Label) → IsIn e es → IsIn e ws)
     × (times_applied rule.Beta journal ≡ length es)
 
-pub run_has_families : (τ : Translation) (T v : Labelled) (ws : List Label) → LeftmostContracts T ws v →
-    IsNormal (erased v) → HaveOwnLetters T → (t : Tree) → erased T ≡ t → RunHasFamilies τ ws t
-run_has_families τ T v ws s z own t e = subst (RunHasFamilies τ ws) e (λ names h K n same start r.
+pub runs_have_families : (τ : Translation) (T v : Labelled) (ws : List Label) → LeftmostContracts T ws v →
+    IsNormal (erased v) → HaveOwnLetters T → (t : Tree) → erased T ≡ t → RunsHaveFamilies τ ws t
+runs_have_families τ T v ws s z own t e = subst (RunsHaveFamilies τ ws) e
+    (λ names h K n same start many turns journal places M a r.
     let L = lettering τ T names own in
     degrees_of τ T v ws s (no_redex (erased v) z) names h K n same start L.letter L.atoms L.are r)
 

@@ -19,7 +19,8 @@ use Rattle.ol_optimal.specs.Labels.{none, atom, Labelled, erased}
 use Rattle.ol_optimal.specs.Redexes.{Carries, put, IsVirtualRedex}
 use Rattle.ol_optimal.specs.Routes.{Crossing, rise, fall, Row, along, rises, falls, Route, HasRoute}
 use Rattle.ol_optimal.proofs.Carrying.{rise_at, fall_at}
-use Rattle.ol_optimal.proofs.Puts.{above, no_mark}
+use Rattle.ol_context.proofs.LeafMoves.{marked_empty}
+use Rattle.ol_optimal.proofs.Puts.{above}
 use Rattle.ol_rules.proofs.FreshPairs.{linked_sym}
 use Rattle.ol_rules.proofs.Renaming.{one_port}
 use Rattle.ol_spots_net.proofs.Followed.{net}
@@ -130,7 +131,7 @@ module _ (N : NamedNet ℕ) (n : IsNet N) (letter : ℕ → ℕ → ℕ) where
       by q r =
           let e' : up kind.Lam j s b ≡ put vs blank = subst (λ k. up k j s b ≡ put vs blank)
           (sym q) (subst (λ i. up k i s b ≡ put vs blank) (sym r) e) in
-          no_mark s (b j) (sym (at_its_level j s b) ∙ ap (λ (c : Context). c j) e' ∙ above vs blank j l)
+          marked_empty s (b j) (sym (at_its_level j s b) ∙ ap (λ (c : Context). c j) e' ∙ above vs blank j l)
 
   bars_app : (y j : ℕ) → HasNode N y kind.App j → (vs : List Level) → length vs ≡ j → Bars N n letter y (put vs blank)
   bars_app y j h vs l k i s h' b e = by (n.one_node y kind.App k j i h h').0 (n.one_node y kind.App k j i h h').1
@@ -139,7 +140,7 @@ module _ (N : NamedNet ℕ) (n : IsNet N) (letter : ℕ → ℕ → ℕ) where
       by q r =
           let e' : up kind.App j s b ≡ put vs blank = subst (λ k. up k j s b ≡ put vs blank)
           (sym q) (subst (λ i. up k i s b ≡ put vs blank) (sym r) e) in
-          no_mark s (b j) (sym (at_its_level j s b) ∙ ap (λ (c : Context). c j) e' ∙ above vs blank j l)
+          marked_empty s (b j) (sym (at_its_level j s b) ∙ ap (λ (c : Context). c j) e' ∙ above vs blank j l)
 
 -- ---- the route of a redex that is met
 
