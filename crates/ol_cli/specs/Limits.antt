@@ -1,5 +1,5 @@
--- The limits of what is read, made ready and printed, and the numbers of `run` without options, as src/limits.rt has
--- them; and the limits of a job's numbers.
+-- Private: the limits of what is read, made ready and printed, and the numbers of `run` without options, as
+-- src/limits.rt has them; and the limits of a job's numbers.
 use Rattle.std.specs.Prelude.{ℕ}
 pub use Rattle.ol_cli.specs.declared.limits.TheConstants.{MOST_TERM_BYTES as most_term_bytes}
 pub use Rattle.ol_cli.specs.declared.limits.TheConstants.{MOST_JOURNAL_BYTES as most_journal_bytes}
