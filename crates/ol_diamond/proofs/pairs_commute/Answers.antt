@@ -1,5 +1,0 @@
-use Rattle.ol_diamond.proofs.pairs_commute.Goals as goal
-use Rattle.ol_diamond.proofs.Confluence as laws
-
-pub returns : goal.returns
-returns c = laws.pairs_commute

@@ -1,5 +1,0 @@
-use Rattle.ol_invariance.proofs.WrongTables as wrong
-use Rattle.ol_invariance.proofs.indexes_agree.Goals as goal
-
-pub returns : goal.returns
-returns c = wrong.indexes_agree

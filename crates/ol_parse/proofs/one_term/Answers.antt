@@ -1,5 +1,0 @@
-use Rattle.ol_parse.proofs.Whole.{one_term}
-use Rattle.ol_parse.proofs.one_term.Goals as goal
-
-pub returns : goal.returns
-returns c = one_term
