@@ -1,41 +1,35 @@
 -- Demand order makes no more beta steps for one head than there are families.
-use Rattle.std.proofs.Common.{◌≡◌, ℕ, suc, ◌<◌, None, inl, inr, List, [], ◌∷◌, ◌++◌, length, refl, sym, ap}
-use Rattle.std.proofs.Common.{◌∙◌, subst, arith}
-use Rattle.std.proofs.lemmas.List.{length_push}
+use Rattle.std.proofs.Common.{◌≡◌, ℕ, suc, None, inl, inr, List, [], ◌∷◌, length, refl, sym, ap}
+use Rattle.std.proofs.Common.{◌∙◌, subst}
 use Rattle.ol_beta.specs.Leftmost.{IsNormal, leftmost}
 use Rattle.ol_context.specs.Asked.{asked}
-use Rattle.ol_context.specs.Contexts.{Context, tail}
-use Rattle.ol_demand.specs.Demands.{Asking, Turn, rewrites, one_more, finds, Turns, begins, and_then, next}
+use Rattle.ol_context.specs.Contexts.{tail}
+use Rattle.ol_demand.specs.Demands.{Asking, Turns}
 use Rattle.ol_demand.specs.Laws.{IsStart}
 use Rattle.ol_demand.proofs.Onward.{is_start}
 use Rattle.ol_edges.specs.Edges.{IsIn}
-use Rattle.ol_context.specs.Paths.{Path, ends, goes, HaveSamePaths}
+use Rattle.ol_context.specs.Paths.{HaveSamePaths}
 use Rattle.ol_frugal.specs.Leftmost.{IsSeenFromPlace}
 use Rattle.ol_frugal.proofs.Questions.{question_asks}
+use Rattle.ol_frugal.proofs.Never.{head_question}
 use Rattle.ol_frugal.proofs.Wanted.{IsWanted}
-use Rattle.ol_invariance.proofs.Renamed.{renamed}
-use Rattle.ol_rules.proofs.Relation.{same_sym}
+use Rattle.ol_invariance.proofs.SameNets.{start_paths}
 use Rattle.ol_spots_net.specs.Spots.{place}
 use Rattle.ol_term.specs.Trees.{Tree}
 use Rattle.ol_frugal.proofs.Few.{named}
 use Rattle.ol_frugal.proofs.Seeing.{IsNamed, met_at}
 use Rattle.ol_meaning.proofs.Endings.{no_redex}
 use Rattle.ol_meaning.proofs.Shapes.{normal_of}
-use Rattle.ol_net.specs.Nets.{NamedNet, NamedPort, IsNet, SameNet, net_under}
+use Rattle.ol_net.specs.Nets.{NamedNet, IsNet, SameNet, net_under}
 use Rattle.ol_net.specs.Numbered.{net_of}
 use Rattle.ol_net.specs.declared.parts.Rule.TheVariants as rule
 use Rattle.ol_optimal.specs.Labels.{Label, Labelled, erased, LeftmostContracts}
 use Rattle.ol_optimal.specs.Laws as routes
 use Rattle.ol_optimal.specs.Routes.{Route}
-use Rattle.ol_optimal.specs.Seen.{IsSeen, IsQuestion}
+use Rattle.ol_optimal.specs.Seen.{IsSeen}
 use Rattle.ol_optimal.proofs.Asked.{demand_contracts_the_seen}
 use Rattle.ol_optimal.proofs.Runs.{betas_are_routes}
-use Rattle.ol_readback.specs.Frames.{Frame}
-use Rattle.ol_readback.specs.Heads.{Answer, head, no_head}
-use Rattle.ol_readback.specs.Heads as heads
-use Rattle.ol_readback.specs.ReadTrees.{Subterm, whole_term, framed}
 use Rattle.ol_readback.specs.declared.answers.ReadNode.{ReadNode}
-use Rattle.ol_rules.proofs.StartNets.{one_start}
 use Rattle.ol_rules.specs.Counting.{times_applied}
 use Rattle.ol_rules.specs.declared.journal.Entry.{Entry}
 use Rattle.ol_rules.specs.declared.journal.NodeName.{NodeName}
@@ -110,38 +104,6 @@ module _ (τ : Translation) (T : Labelled) (names : ℕ) (h : HasNames (erased T
       more s ss d (words_of ss d.1 (λ u i. f u (inr i))) (met_of s S.0 S.1)
       (told Init M n τ T names h I letter are s S.1.redex 0 (asked [] S.0) a)
 
--- ---- a run that asks for one head asks the root alone (as in Never of ol_frugal)
-
--- as long as no place was found, the whole term is asked
-abbrev IsFirst : Asking → Type 0
-IsFirst a = length a.frames < 1 → a.waiting ≡ whole_term ∷ []
-
-turn_first : {many ticket : ℕ} {M P : NamedNet NodeName} {a b : Asking} {es : List Entry}
-    {ns : List ReadNode} → Turn many M ticket a es ns P b → IsFirst a → IsFirst b
-turn_first (rewrites m) f = f
-turn_first (one_more h l) f = f
-turn_first (finds {F = F} {s = s} {ss = ss} {n = n} {a = a} h x) f = by a
-  where
-    no_more : (f : Frame) → length (F ++ f ∷ []) < 1 → ⊥
-    no_more f b = let l = length_push F f in omega arith
-
-    by : (a : Answer) → IsFirst (next F s ss a)
-    by (head n' v k ls) b = absurd (no_more (framed s n') b)
-    by no_head b = absurd (no_more (framed s 0) b)
-    by heads.budget b = absurd (no_more (framed s 0) b)
-
-turns_first : {N : NamedNet NodeName} {many turns : ℕ} {journal : List Entry}
-    {places : List ReadNode} {M : NamedNet NodeName} {a : Asking} → Turns N many turns journal places M a → IsFirst a
-turns_first begins b = refl
-turns_first (and_then r t) b = turn_first t (turns_first r) b
-
-head_question : {N : NamedNet NodeName} {p : ℕ} {c : Context} → IsQuestion N 1 p c →
-    (p ≡ 0) × ((lams : ℕ) × (c ≡ asked [] lams))
-head_question q =
-    let e = turns_first q.made q.below in
-    let s : q.subterm ≡ whole_term = cc in
-    (q.port_is ∙ ap (λ (s : Subterm). s.port) s, (q.lams, q.context_is ∙ ap (λ (s : Subterm). asked s.levels q.lams) s))
-
 -- ---- its beta steps
 
 module _ (τ : Translation) (T : Labelled) (names : ℕ) (h : HasNames (erased T) names) (K : NamedNet ℕ)
@@ -176,20 +138,10 @@ no_more_betas_than_families τ T V ds s z own names h g n same turns journal pla
 
 -- ---- whatever number of heads is asked for
 
--- one net has the same paths, however its lists are ordered
-same_path : {A : Type 0} (M N : NamedNet A) → SameNet M N →
-    {p : NamedPort A} {c d : Context} {q : ℕ} → Path M p c q d → Path N p c q d
-same_path M N s (ends l) = ends ((s.links _ _).0 l)
-same_path M N s (goes l h x r) = goes ((s.links _ _).0 l) ((s.nodes _ _ _).0 h) x (same_path M N s r)
-
 module _ (τ : Translation) (t : Tree) (names : ℕ) (h : HasNames t names) (K : NamedNet ℕ)
     (n : IsNet K) (same : SameNet K (translation_of τ t names)) (start : IsStart (net_under Init K)) where
   paths : HaveSamePaths (translation_of τ t names) (net_under Init K)
-  paths p c q d =
-      let z = renamed Init K n (λ x y k l i j h h' e. one_start x y e) p c q d in (
-        λ r. z.0 (same_path (translation_of τ t names) K (same_sym K (translation_of τ t names) same) r),
-        λ r. same_path K (translation_of τ t names) same (z.1 r),
-      )
+  paths = start_paths K (translation_of τ t names) n same
 
 module _ (τ : Translation) (T v : Labelled) (ws : List Label) (r : LeftmostContracts T ws v) (z : leftmost
     (erased v) ≡ None)

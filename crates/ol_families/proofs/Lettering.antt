@@ -4,6 +4,7 @@ use Rattle.std.proofs.Common.{◌⊎◌, inl, inr, List, [], ◌∷◌, ◌++◌
 use Rattle.std.proofs.Common.{refl, sym, ap, ◌∙◌, subst, arith}
 use Rattle.std.proofs.lemmas.Bool.Decides.{nat_tests}
 use Rattle.ol_edges.specs.Edges.{IsIn}
+use Rattle.ol_edges.proofs.Lists.{in_left, in_right}
 use Rattle.ol_net.specs.Numbered.{numbered_from}
 use Rattle.ol_net.specs.declared.parts.Kind.{Kind}
 use Rattle.ol_net.specs.declared.parts.Kind.TheVariants as kind
@@ -88,15 +89,6 @@ no_letter x i s K k (n ∷ ns) q (inr h) e = no_letter x i s K (suc k) ns q.1 h 
 
 -- ---- labels
 
-is_in_first : {X : Type 0} (x : X) (xs ys : List X) → IsIn x xs → IsIn x (xs ++ ys)
-is_in_first x [] ys h = absurd h
-is_in_first x (z ∷ xs) ys (inl e) = inl e
-is_in_first x (z ∷ xs) ys (inr h) = inr (is_in_first x xs ys h)
-
-is_in_second : {X : Type 0} (x : X) (xs ys : List X) → IsIn x ys → IsIn x (xs ++ ys)
-is_in_second x [] ys h = h
-is_in_second x (z ∷ xs) ys h = inr (is_in_second x xs ys h)
-
 record Apart (xs ys : List Label) : Type 0 where
   first : AreDifferent xs
   second : AreDifferent ys
@@ -106,10 +98,10 @@ apart : (xs ys : List Label) → AreDifferent (xs ++ ys) → Apart xs ys
 apart [] ys d = record { first = tt; second = d; none_in_both = λ x h k. h }
 apart (x ∷ xs) ys d =
     let r = apart xs ys d.1 in
-    record { first = ((λ h. d.0 (is_in_first x xs ys h)), r.first); second = r.second; none_in_both = both r }
+    record { first = ((λ h. d.0 (in_left x xs ys h)), r.first); second = r.second; none_in_both = both r }
   where
     both : Apart xs ys → (y : Label) → IsIn y (x ∷ xs) → IsIn y ys → ⊥
-    both r y (inl e) k = d.0 (is_in_second x xs ys (subst (λ y. IsIn y ys) e k))
+    both r y (inl e) k = d.0 (in_right x xs ys (subst (λ y. IsIn y ys) e k))
     both r y (inr h) k = r.none_in_both y h k
 
 -- the labels of the proper subterms
@@ -360,10 +352,10 @@ module _ (τ : Translation) where
   all_lam b w l v h = l v (inr h)
 
   all_function : (f a : Labelled) (w : Label) → AllLetters (app f a w) → AllLetters f
-  all_function f a w l v h = l v (inr (is_in_first v (labels_in f) (labels_in a) h))
+  all_function f a w l v h = l v (inr (in_left v (labels_in f) (labels_in a) h))
 
   all_argument : (f a : Labelled) (w : Label) → AllLetters (app f a w) → AllLetters a
-  all_argument f a w l v h = l v (inr (is_in_second v (labels_in f) (labels_in a) h))
+  all_argument f a w l v h = l v (inr (in_right v (labels_in f) (labels_in a) h))
 
   known : (T : Labelled) (d n k x s : ℕ) → AllLetters T → EdgeIn (nodes T d n k) k x s →
       IsIn (Label' T d n k x s) (parts_in T)
@@ -393,17 +385,17 @@ module _ (τ : Translation) where
           InApp f a d n k x s → IsIn (Label' (app f a w) d n k x s) (labels_in f ++ labels_in a)
       by rec rec' (function q z) = subst (λ v. IsIn v (labels_in f ++ labels_in a)) (sym
           (app_function f a w d n k x s q z (all_function f a w l)))
-          (is_in_first (label_of f) (labels_in f) (labels_in a) (own_in f))
+          (in_left (label_of f) (labels_in f) (labels_in a) (own_in f))
       by rec rec' (argument q z) = subst (λ v. IsIn v (labels_in f ++ labels_in a)) (sym
           (app_argument f a w d n k x s q z (all_argument f a w l)))
-          (is_in_second (label_of a) (labels_in f) (labels_in a) (own_in a))
+          (in_right (label_of a) (labels_in f) (labels_in a) (own_in a))
       by rec rec' (in_f i) = subst (λ m. IsIn (atom m none) (labels_in f ++ labels_in a)) (sym
           (app_in_f f a w d n k x s i))
-          (is_in_first (Label' f d n (k + 1) x s) (labels_in f) (labels_in a) (part_in f (Label' f d n
+          (in_left (Label' f d n (k + 1) x s) (labels_in f) (labels_in a) (part_in f (Label' f d n
           (k + 1) x s) (rec i)))
       by rec rec' (in_a i) = subst (λ m. IsIn (atom m none) (labels_in f ++ labels_in a)) (sym
           (app_in_a f a w d n k x s i))
-          (is_in_second (Label' a d (n + 1) (after f d n k) x s) (labels_in f) (labels_in a)
+          (in_right (Label' a d (n + 1) (after f d n k) x s) (labels_in f) (labels_in a)
           (part_in a (Label' a d (n + 1) (after f d n k) x s) (rec' i)))
 
   abbrev OneEdge : Labelled → (d n k : ℕ) → Type 0

@@ -7,12 +7,11 @@ use Rattle.std.specs.Option.{option_map}
 use Rattle.ol_edges.specs.Edges.{IsIn}
 use Rattle.ol_meaning.specs.Spots.{Tree, lam, app, Level, empty, o, star, Context, Wire, bound, name, under}
 use Rattle.ol_meaning.specs.Spots.{left, Place, root}
-use Rattle.ol_meaning.specs.Spots.{wire, Spot, at, Edge, Trail, IsRight, HeadStep, beta, below, before}
-use Rattle.ol_meaning.specs.Steps.{SameBelow, below_o, below_star, below_wire, SameBefore}
-use Rattle.ol_meaning.specs.Steps.{before_root, before_left, before_right, Same}
+use Rattle.ol_meaning.specs.Spots.{wire, Spot, at, Edge, Trail, HeadStep}
+use Rattle.ol_meaning.specs.Steps.{Same}
 use Rattle.ol_meaning.specs.Heads.{outer, Spine, up_root, up_own, up_wire, head_var, head_free, head_app}
 use Rattle.ol_meaning.specs.Heads.{Normal, flat, layer}
-use Rattle.ol_meaning.specs.Heads.{Steps, done, step, SameAlong, Arg, last, earlier, inner, StandsAt}
+use Rattle.ol_meaning.specs.Heads.{done, step, inner}
 use Rattle.ol_meaning.proofs.LeftmostSteps.{leftmost_step}
 use Rattle.ol_meaning.proofs.Walking.{passing, least_or, root_stays, normal_or_step}
 use Rattle.ol_term.specs.declared.translations.Translation.{Translation}
@@ -20,6 +19,7 @@ use Rattle.ol_frugal.specs.Met.{IsMatched}
 use Rattle.ol_frugal.proofs.Meeting.{Comes, too_few}
 use Rattle.ol_frugal.proofs.Sites.{base}
 use Rattle.ol_frugal.proofs.Wanted.{Asks, whole, part, IsWanted, ArgWanted, in_last, in_earlier, in_body, arg_wanted}
+use Rattle.ol_frugal.proofs.Wanted.{one_step, arg_stops, after_part}
 use Rattle.ol_optimal.specs.Labels.{Label, Labelled, erased, degree, contracted, LeftmostContracts}
 use Rattle.ol_optimal.specs.Labels as labels
 use Rattle.ol_spots_net.specs.Sites.{Site, in_lam, in_function, in_argument, spot_in, of_lam, of_function, of_argument}
@@ -31,70 +31,6 @@ use Rattle.ol_families.proofs.Keeping.{Goes, Keeps, follow}
 use Rattle.ol_families.proofs.Leftwards.{labelled_step, one_step as one_labelled}
 use Rattle.ol_families.proofs.Motions.{Motion, Walks, moved_append, in_the_body, in_the_fun, in_the_arg}
 use Rattle.ol_families.proofs.Sides.{site_has_one_word}
-
--- ---- a term has one head step
-
-record OneStep {t t' t'' : Tree} (h : HeadStep t t') (g : HeadStep t t'') : Type 0 where
-  is : t'' ≡ t'
-  same : (τ : Translation) (y : Place) (w l : Level) → Same τ g y w l → Same τ h y w l
-
-below_keeps : {S S' : Place → Level → Level → Type 0} → ((y : Place) (w l : Level) → S y w l → S' y w l) →
-    {y : Place} {w l : Level} → SameBelow S y w l → SameBelow S' y w l
-below_keeps f (below_o {v = v} {v' = w} r) = below_o (f root v w r)
-below_keeps f (below_star {a = a} {a' = b} r) = below_star (f (wire (bound 0)) a b r)
-below_keeps f (below_wire {y = y} {a = a} {a' = b} r) = below_wire (f (wire (under y)) a b r)
-
-before_keeps : {τ : Translation} {R R' R'' P : Tree} {S S' : Place → Level → Level → Type 0} → R'' ≡ R' →
-    ((y : Place) (w l : Level) → S y w l → S' y w l) → {y : Place} {w l : Level} →
-    SameBefore τ R R'' P S y w l → SameBefore τ R R' P S' y w l
-before_keeps e f before_root = before_root
-before_keeps e f (before_left {y = y} {a = a} {a' = b} g g' r) = before_left g g' (f (wire y) a b r)
-before_keeps {τ} {P = P} e f (before_right {y = y} {w' = l} b v m g g') = before_right b v m g
-    (subst (λ R. IsRight τ R P y b v l) e g')
-
-one_step : {t t' t'' : Tree} (h : HeadStep t t') (g : HeadStep t t'') → OneStep h g
-one_step beta beta = record { is = refl; same = λ τ y w l r. r }
-one_step beta (before e g) = absurd (cc)
-one_step (before e h) beta = absurd (cc)
-one_step (below h) (below g) =
-    let k = one_step h g in
-    record { is = ap lam k.is; same = λ τ y w l r. below_keeps (k.same τ) r }
-one_step (before {P = P} e h) (before f g) =
-    let k = one_step h g in
-    record { is = ap (λ R. app R P) k.is; same = λ τ y w l r. before_keeps k.is (k.same τ) r }
-
-spine_stops : {t t' : Tree} {y : _} {a : Level} {j : ℕ} → Spine t y a j → HeadStep t t' → ⊥
-spine_stops head_var h = elim h [ ]
-spine_stops head_free h = elim h [ ]
-spine_stops (head_app s e) beta = elim s [ ]
-spine_stops (head_app s e) (before f h) = spine_stops s h
-
-normal_stops : {t t' : Tree} {q : Place} {a : Level} {j : ℕ} → Normal t q a j → HeadStep t t' → ⊥
-normal_stops (flat s) h = spine_stops s h
-normal_stops (layer k f) (below h) = normal_stops k h
-
-arg_stops : {t t' Q : Tree} {i : ℕ} → Arg t i Q → HeadStep t t' → ⊥
-arg_stops (last s) h = spine_stops (head_app s refl) h
-arg_stops (earlier s k) h = spine_stops (head_app s refl) h
-arg_stops (inner k) (below h) = arg_stops k h
-
-module _ (τ : Translation) {t t' : Tree} (h : HeadStep t t') where
-  -- ---- after a head step
-
-  -- where a question begins then
-  record After (y : Place) (w : Level) (d : Context) : Type 0 where
-    level : Level
-    same : Same τ h y w level
-    asks : Asks τ t' y level d
-
-  -- whichever head step led to the argument
-  after_part : {u Q : Tree} {m i : ℕ} {x y : Place} {v w : Level} {c d : Context} (b : Level) (r : Tree) → r ≡ t' →
-      (s : Steps r u m) (k : Arg u i Q) → Asks τ Q x v c → StandsAt τ k empty x v c y b d →
-      (l : Level) → Same τ h y w l → SameAlong τ s y l b → After y w d
-  after_part {u} {Q} {m} {i} {x} {y} {v} {w} {c} {d} b r e =
-      subst (λ r. (s : Steps r u m) (k : Arg u i Q) → Asks τ Q x v c → StandsAt τ k empty x v c y b d →
-      (l : Level) → Same τ h y w l → SameAlong τ s y l b → After y w d) (sym e)
-      (λ s k a g l f f'. record { level = l; same = f; asks = part b s k a g f' })
 
 module _ {τ : Translation} {T U : Labelled} {d : Label} {t' : Tree} {S : Place → Level → Level →
     Type 0} (w : Keeps τ (erased T) t' T U S d) where

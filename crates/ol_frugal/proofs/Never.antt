@@ -163,10 +163,10 @@ never_more_where_printed τ t names h g n same many journal places M d all =
 -- ---- one head
 
 -- as long as no place was found, the whole term is asked
-abbrev IsFirst : Asking → Type 0
+abbrev pub IsFirst : Asking → Type 0
 IsFirst a = length a.frames < 1 → a.waiting ≡ whole_term ∷ []
 
-turn_first : {many ticket : ℕ} {M P : NamedNet NodeName} {a b : Asking} {es : List Entry}
+pub turn_first : {many ticket : ℕ} {M P : NamedNet NodeName} {a b : Asking} {es : List Entry}
     {ns : List ReadNode} → Turn many M ticket a es ns P b → IsFirst a → IsFirst b
 turn_first (rewrites m) f = f
 turn_first (one_more h l) f = f
@@ -180,12 +180,12 @@ turn_first (finds {F = F} {s = s} {ss = ss} {n = n} {a = a} h x) f = by a
     by no_head b = absurd (no_more (framed s 0) b)
     by heads.budget b = absurd (no_more (framed s 0) b)
 
-turns_first : {N : NamedNet NodeName} {many turns : ℕ} {journal : List Entry}
+pub turns_first : {N : NamedNet NodeName} {many turns : ℕ} {journal : List Entry}
     {places : List ReadNode} {M : NamedNet NodeName} {a : Asking} → Turns N many turns journal places M a → IsFirst a
 turns_first begins b = refl
 turns_first (and_then r t) b = turn_first t (turns_first r) b
 
-head_question : {N : NamedNet NodeName} {p : ℕ} {c : Context} → IsQuestion N 1 p c →
+pub head_question : {N : NamedNet NodeName} {p : ℕ} {c : Context} → IsQuestion N 1 p c →
     (p ≡ 0) × ((lams : ℕ) × (c ≡ asked [] lams))
 head_question q =
     let e = turns_first q.made q.below in

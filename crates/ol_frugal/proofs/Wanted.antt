@@ -36,17 +36,17 @@ pub record IsWanted (τ : Translation) (t : Tree) (p : Site) : Type 0 where
 
 -- ---- a term has one head step
 
-record OneStep {t t' t'' : Tree} (h : HeadStep t t') (g : HeadStep t t'') : Type 0 where
-  is : t'' ≡ t'
-  same : (τ : Translation) (y : Place) (w l : Level) → Same τ g y w l → Same τ h y w l
+pub record OneStep {t t' t'' : Tree} (h : HeadStep t t') (g : HeadStep t t'') : Type 0 where
+  pub is : t'' ≡ t'
+  pub same : (τ : Translation) (y : Place) (w l : Level) → Same τ g y w l → Same τ h y w l
 
-below_keeps : {S S' : Place → Level → Level → Type 0} → ((y : Place) (w l : Level) → S y w l → S' y w l) →
+pub below_keeps : {S S' : Place → Level → Level → Type 0} → ((y : Place) (w l : Level) → S y w l → S' y w l) →
     {y : Place} {w l : Level} → SameBelow S y w l → SameBelow S' y w l
 below_keeps f (below_o {v = v} {v' = w} r) = below_o (f root v w r)
 below_keeps f (below_star {a = a} {a' = b} r) = below_star (f (wire (bound 0)) a b r)
 below_keeps f (below_wire {y = y} {a = a} {a' = b} r) = below_wire (f (wire (under y)) a b r)
 
-before_keeps : {τ : Translation} {R R' R'' P : Tree} {S S' : Place → Level → Level → Type 0} → R'' ≡ R' →
+pub before_keeps : {τ : Translation} {R R' R'' P : Tree} {S S' : Place → Level → Level → Type 0} → R'' ≡ R' →
     ((y : Place) (w l : Level) → S y w l → S' y w l) → {y : Place} {w l : Level} →
     SameBefore τ R R'' P S y w l → SameBefore τ R R' P S' y w l
 before_keeps e f before_root = before_root
@@ -54,7 +54,7 @@ before_keeps e f (before_left {y = y} {a = a} {a' = b} g g' r) = before_left g g
 before_keeps {τ} {P = P} e f (before_right {y = y} {w' = l} b v m g g') = before_right b v m g
     (subst (λ R. IsRight τ R P y b v l) e g')
 
-one_step : {t t' t'' : Tree} (h : HeadStep t t') (g : HeadStep t t'') → OneStep h g
+pub one_step : {t t' t'' : Tree} (h : HeadStep t t') (g : HeadStep t t'') → OneStep h g
 one_step beta beta = record { is = refl; same = λ τ y w l r. r }
 one_step beta (before e g) = absurd (cc)
 one_step (before e h) beta = absurd (cc)
@@ -65,7 +65,7 @@ one_step (before {P = P} e h) (before f g) =
     let k = one_step h g in
     record { is = ap (λ R. app R P) k.is; same = λ τ y w l r. before_keeps k.is (k.same τ) r }
 
-arg_stops : {t t' Q : Tree} {i : ℕ} → Arg t i Q → HeadStep t t' → ⊥
+pub arg_stops : {t t' Q : Tree} {i : ℕ} → Arg t i Q → HeadStep t t' → ⊥
 arg_stops (last s) h = spine_stops (head_app s refl) h
 arg_stops (earlier s k) h = spine_stops (head_app s refl) h
 arg_stops (inner k) (below h) = arg_stops k h
@@ -74,13 +74,13 @@ module _ (τ : Translation) {t t' : Tree} (h : HeadStep t t') where
   -- ---- after a head step
 
   -- where a question begins then
-  record After (y : Place) (w : Level) (d : Context) : Type 0 where
-    level : Level
-    same : Same τ h y w level
-    asks : Asks τ t' y level d
+  pub record After (y : Place) (w : Level) (d : Context) : Type 0 where
+    pub level : Level
+    pub same : Same τ h y w level
+    pub asks : Asks τ t' y level d
 
   -- whichever head step led to the argument
-  after_part : {u Q : Tree} {m i : ℕ} {x y : Place} {v w : Level} {c d : Context} (b : Level) (r : Tree) → r ≡ t' →
+  pub after_part : {u Q : Tree} {m i : ℕ} {x y : Place} {v w : Level} {c d : Context} (b : Level) (r : Tree) → r ≡ t' →
       (s : Steps r u m) (k : Arg u i Q) → Asks τ Q x v c → StandsAt τ k empty x v c y b d →
       (l : Level) → Same τ h y w l → SameAlong τ s y l b → After y w d
   after_part {u} {Q} {m} {i} {x} {y} {v} {w} {c} {d} b r e =
