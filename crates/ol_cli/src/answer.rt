@@ -22,7 +22,7 @@ pub struct Answer {
 impl Answer {
     /// An answer with which nothing is handed back: its job has no workers, or their work came to
     /// no end.
-    pub fn without_words(text: Vec<u8>, status: Status) -> Answer
+    pub fn text_alone(text: Vec<u8>, status: Status) -> Answer
         ensures { result ≡ record { text = text; status = status; closed = None } }
     {
         Answer {
@@ -40,5 +40,5 @@ pub fn refusal(alloc: Global, words: &str, status: Status) -> Result<Answer, NoM
     ensures closed { IfOk result (λ a. a.closed ≡ None) }
 {
     let text = line(alloc, words)?;
-    Ok(Answer::without_words(text, status))
+    Ok(Answer::text_alone(text, status))
 }

@@ -83,7 +83,7 @@ pub fn read_file<S: Source>(
         }
         Err(ReadAll::TooLong) => {
             let text = kind.limit_line(alloc)?;
-            Ok(File::Refused(Answer::without_words(text, Status::Limit)))
+            Ok(File::Refused(Answer::text_alone(text, Status::Limit)))
         }
         Ok(bytes) => Ok(File::Bytes(bytes)),
     }

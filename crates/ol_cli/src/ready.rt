@@ -96,5 +96,5 @@ fn refused(text: Vec<u8>, status: Status) -> Ready
     ensures { (translation : Translation) (bytes : List ℕ) →
         Refuses translation bytes status text.items → IsMadeReady translation bytes result }
 {
-    Ready::Refused(Answer::without_words(text, status))
+    Ready::Refused(Answer::text_alone(text, status))
 }

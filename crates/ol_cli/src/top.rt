@@ -404,7 +404,7 @@ fn answer_words<R: Threads + Wait + Sync, S: Source, G: Gate + Sync>(
                 alloc,
                 "usage: ol run|walk|view|trace|check|gen|demand|certify|net|equal [options] NAME",
             )?;
-            Ok(Answer::without_words(text, Status::Usage))
+            Ok(Answer::text_alone(text, Status::Usage))
         }
         Ok(job) => {
             let answer = answer_job(rt, alloc, &job, src, gate)?;

@@ -4,7 +4,7 @@ use Rattle.std.proofs.Common.{slice_index, inl, inr, ◌↔◌, sym, ap, ◌∙�
 use Rattle.std.proofs.lemmas.Bool.{cases_lt, false≢true}
 use Rattle.ol_net.specs.Nets.{NamedNet}
 use Rattle.ol_rules.specs.declared.journal.NodeName.{NodeName}
-use Rattle.ol_reduce.specs.declared.chains.End.TheVariants.{Node, Port, Wire}
+use Rattle.ol_reduce.specs.declared.chains.Goal.TheVariants.{Node, Port, Wire}
 use Rattle.ol_wire.specs.References.{place_in, IsNodeRef, IsWireRef, IsRef}
 use Rattle.ol_wire.specs.Layout.{table_size}
 use Rattle.ol_wire.specs.Sizes.{IsSmall}

@@ -14,8 +14,8 @@ use Rattle.ol_wire.specs.Layout.{port_word, part_of_word}
 use Rattle.ol_wire.specs.Stands.{IsEnd, of_port}
 use Rattle.ol_wire.specs.Closed.{ClosedTable, events_in}
 use Rattle.ol_wire.specs.Standing.{is_reached_in, WordsStandFor}
-use Rattle.ol_reduce.specs.declared.chains.End.{End}
-use Rattle.ol_reduce.specs.declared.chains.End.TheVariants.{Node, Port, Wire}
+use Rattle.ol_reduce.specs.declared.chains.Goal.{Goal}
+use Rattle.ol_reduce.specs.declared.chains.Goal.TheVariants.{Node, Port, Wire}
 use Rattle.ol_reduce.specs.Left.{ranks_in, AreLeft}
 use Rattle.ol_reduce.specs.Following.{IsStart, IsFirst, EndsAt}
 use Rattle.ol_reduce.specs.Used.{wires_used}
@@ -102,36 +102,36 @@ module _ (w : ClosedTable) (places numbers : List ℕ) (left_are : AreLeft w (ra
     pub is_first : IsFirst w first
     is_first = let t = own told.0 (is_reached_in w) told.2 in (told.0, (is_reached_in w), t.0, told.2, t.2)
 
-    abbrev Ends : End → Type 0
+    abbrev Ends : Goal → Type 0
     Ends r = (N : NamedNet NodeName) (reached : ℕ → Bool) (e : ℕ) → WordsStandFor w N reached →
         IsStart w N reached e first → EndsAt w N reached e r
 
-    pub node_in : (found : End) (r : ℕ) → found ≡ Node r → Ends found → IsNodeIn w r
+    pub node_in : (found : Goal) (r : ℕ) → found ≡ Node r → Ends found → IsNodeIn w r
     node_in found r q h N reached s =
         let t = own N reached s in
         let d = subst (λ f. EndsAt w N reached t.0 f) q (h N reached t.0 s t.2) in
         led_node w places numbers left_are N reached s t.0 r d.1 d.0
 
-    pub node_linked : (found : End) (r : ℕ) → found ≡ Node r → Ends found →
+    pub node_linked : (found : Goal) (r : ℕ) → found ≡ Node r → Ends found →
         (ks : List (Kind × ℕ)) (b : ℕ) → IsSiteIn w places ks r b → AllLinked b
     node_linked found r q h ks b site N reached s =
         let t = own N reached s in
         let d = subst (λ f. EndsAt w N reached t.0 f) q (h N reached t.0 s t.2) in
         goes_linked w N reached s (port_of z places a) (port_of z places b) t.0 r t.1 (site N reached s).0 d.1
 
-    pub port_low : (found : End) (k : ℕ) → found ≡ Port k → Ends found → k < z.free
+    pub port_low : (found : Goal) (k : ℕ) → found ≡ Port k → Ends found → k < z.free
     port_low found k q h =
         let t = own told.0 (is_reached_in w) told.2 in
         (subst (λ f. EndsAt w told.0 (is_reached_in w) t.0 f) q (h told.0 (is_reached_in w) t.0 told.2 t.2)).0
 
-    pub port_within : (found : End) (k : ℕ) → found ≡ Port k → Ends found → k < length partners
+    pub port_within : (found : Goal) (k : ℕ) → found ≡ Port k → Ends found → k < length partners
     port_within found k q h = omega (
       arith,
       port_low found k q h,
       (before told.0 (is_reached_in w) told.2).partners_long,
     )
 
-    pub port_linked : (found : End) (k : ℕ) → found ≡ Port k → Ends found → AllLinked k
+    pub port_linked : (found : Goal) (k : ℕ) → found ≡ Port k → Ends found → AllLinked k
     port_linked found k q h N reached s =
         let t = own N reached s in
         let d = subst (λ f. EndsAt w N reached t.0 f) q (h N reached t.0 s t.2) in
@@ -140,18 +140,18 @@ module _ (w : ClosedTable) (places numbers : List ℕ) (left_are : AreLeft w (ra
         (sym (port_free w places numbers left_are k d.0)) (of_port (omega (arith, d.0, s.ports))) in
         goes_linked w N reached s (port_of z places a) (port_of z places k) t.0 (wire_ref (port_word k)) t.1 at d.1
 
-    pub port_known : (found : End) (k : ℕ) → found ≡ Port k → Ends found →
+    pub port_known : (found : Goal) (k : ℕ) → found ≡ Port k → Ends found →
         (N : NamedNet NodeName) (reached : ℕ → Bool) → WordsStandFor w N reached → IsKnown w N places kinds k
     port_known found k q h N reached s m ltm e = absurd (omega (arith, e, port_low found k q h))
 
     -- a wire, by its word
-    pub wire_at : (found : End) (n : ℕ) → found ≡ Wire n → Ends found → IsStartWire z n ⊎ IsBornWire z n
+    pub wire_at : (found : Goal) (n : ℕ) → found ≡ Wire n → Ends found → IsStartWire z n ⊎ IsBornWire z n
     wire_at found n q h =
         let t = own told.0 (is_reached_in w) told.2 in
         let d = subst (λ f. EndsAt w told.0 (is_reached_in w) t.0 f) q (h told.0 (is_reached_in w) t.0 told.2 t.2) in
         wire_spot z n (part_of_word z n) refl (told.2.wires n d.0)
 
-    module _ (long : length met ≡ wires_used w) (found : End) (n' u : ℕ) (q' : found ≡ Wire n')
+    module _ (long : length met ≡ wires_used w) (found : Goal) (n' u : ℕ) (q' : found ≡ Wire n')
         (number : wire_word w.plan.parts u ≡ n') (h : Ends found) where
       q : found ≡ Wire (wire_word z u)
       q = q' ∙ ap (λ n. Wire n) (sym number)

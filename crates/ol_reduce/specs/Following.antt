@@ -3,8 +3,8 @@ use Rattle.std.specs.Prelude.{◌≡◌, ◌≢◌, ℕ, zero, suc, ◌+◌, ◌
 use Rattle.ol_edges.specs.Edges.{IsIn}
 use Rattle.ol_net.specs.Nets.{NamedNet}
 use Rattle.ol_rules.specs.declared.journal.NodeName.{NodeName}
-use Rattle.ol_reduce.specs.declared.chains.End.{End}
-use Rattle.ol_reduce.specs.declared.chains.End.TheVariants.{Node, Port, Wire}
+use Rattle.ol_reduce.specs.declared.chains.Goal.{Goal}
+use Rattle.ol_reduce.specs.declared.chains.Goal.TheVariants.{Node, Port, Wire}
 use Rattle.ol_wire.specs.References.{wire_ref, slot_ref, place_in, IsNodeRef, IsWireRef}
 use Rattle.ol_wire.specs.Layout.{part_of_word, port_word, table_size}
 use Rattle.ol_wire.specs.Edges.{edge_in}
@@ -38,7 +38,7 @@ IsFirst w value = (net : NamedNet NodeName) × (reached : ℕ → Bool) × (e : 
     × IsStart w net reached e value
 
 -- where the chain of e ends
-abbrev pub EndsAt : ClosedTable → NamedNet NodeName → (ℕ → Bool) → ℕ → End → Type 0
+abbrev pub EndsAt : ClosedTable → NamedNet NodeName → (ℕ → Bool) → ℕ → Goal → Type 0
 EndsAt w net reached e (Node r) = IsNodeRef r × LeadsTo w net reached e r
 EndsAt w net reached e (Port k) = (k < w.plan.parts.free) × LeadsTo w net reached e (wire_ref (port_word k))
 EndsAt w net reached e (Wire u) = (reached u ≡ true) × (slice_index w.words u ≡ 0)
@@ -59,6 +59,6 @@ IsValueAfter w first k at = (value_after w.words first k ≡ at)
     × ((j : ℕ) → j < k → IsPassed w (value_after w.words first j))
 
 -- where the chain of each port ends whose word holds this value
-abbrev pub EndsFrom : ClosedTable → ℕ → End → Type 0
+abbrev pub EndsFrom : ClosedTable → ℕ → Goal → Type 0
 EndsFrom w first end = (net : NamedNet NodeName) (reached : ℕ → Bool) (e : ℕ) → WordsStandFor w net reached
     → IsStart w net reached e first → EndsAt w net reached e end

@@ -10,7 +10,7 @@ use ol_wire::{Parts, Words, is_node, place_in};
 
 /// Where a chain leads.
 #[derive(Clone, Copy)]
-pub(crate) enum End {
+pub(crate) enum Goal {
     /// To slot 0 of the node of this reference.
     Node(u64),
     /// To a free port, by number.
@@ -20,7 +20,7 @@ pub(crate) enum End {
 }
 
 /// Goes on from what a port's word holds, through the words of wires.
-pub(crate) fn follow(words: &Words, parts: Parts, first: u64) -> End
+pub(crate) fn follow(words: &Words, parts: Parts, first: u64) -> Goal
     requires parts { parts ≡ words.now.plan.parts }
     requires first { IsFirst words.now first }
     ensures { EndsFrom words.now first result }
@@ -28,17 +28,17 @@ pub(crate) fn follow(words: &Words, parts: Parts, first: u64) -> End
     let mut at = first;
     for step in 0..parts.size() {
         if is_node(at) {
-            return End::Node(at);
+            return Goal::Node(at);
         }
         let place = place_in(at);
         // The words of the free ports are those from word 2 on.
         let port = place - 2;
         if port < parts.free {
-            return End::Port(port);
+            return Goal::Port(port);
         }
         let next = word_at(words, place);
         if next == 0 {
-            return End::Wire(place);
+            return Goal::Wire(place);
         }
         at = next;
     }

@@ -12,7 +12,7 @@ ghost use Rattle.ol_reduce.specs.Used.{wires_used};
 ghost use Rattle.ol_reduce.specs.Found.{wire_word, IsStartWire, IsBornWire, IsPartly, AreMetTo, AreCelledTo, AreCells, IsNodeIn, IsSiteIn, IsWordAt, KeepsKnown, KeepsPartners};
 ghost use Rattle.ol_reduce.specs.Linked.{AreAllLeft, IsRight, AreCellsLinked, HasListed, HasCells, HasPorts, HasFree, HasNodes, HasAll, AreAllMet, KeepsKinds, KeepsLinks, IsOwner, IsOtherIn, WaitsThere, MeetsThere};
 
-use crate::chains::{End, follow};
+use crate::chains::{Goal, follow};
 use crate::draft::Draft;
 use crate::live::Live;
 use crate::reading::word_at;
@@ -182,12 +182,12 @@ fn link_one(
         return;
     }
     match follow(words, words.parts(), first) {
-        End::Node(reference) => {
+        Goal::Node(reference) => {
             let other = arrive(words, live, draft, reference);
             draft.link(place, other);
         }
-        End::Port(port) => draft.link(place, port as usize),
-        End::Wire(wire) => {
+        Goal::Port(port) => draft.link(place, port as usize),
+        Goal::Wire(wire) => {
             let number = wire_number(words.parts(), wire);
             meet(draft, met, place, number)
         }

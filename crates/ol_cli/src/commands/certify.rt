@@ -78,12 +78,12 @@ fn certify_net<R: Threads + Wait + Sync, G: Gate + Sync>(
     match last_tree(rt, alloc, net, numbers, gate)? {
         None => {
             let text = spent_line(alloc, numbers.fuel)?;
-            Ok(Answer::without_words(text, Status::Spent))
+            Ok(Answer::text_alone(text, Status::Spent))
         }
         Some(tree) => {
             let verdict = certify(alloc, &file.term, &tree, steps)?;
             let text = verdict_lines(alloc, verdict, steps)?;
-            Ok(Answer::without_words(text, Status::Done))
+            Ok(Answer::text_alone(text, Status::Done))
         }
     }
 }

@@ -80,7 +80,7 @@ fn answer_journal<S: Source>(
         File::Bytes(bytes) => {
             let found = check(alloc, net, &bytes)?;
             let text = found_line(alloc, found)?;
-            Ok(Answer::without_words(text, Status::Done))
+            Ok(Answer::text_alone(text, Status::Done))
         }
     }
 }

@@ -78,13 +78,13 @@ fn demand_net(
     match demanded {
         Demanded::Spent { .. } => {
             let text = spent_line(alloc, fuel)?;
-            Ok(Answer::without_words(text, Status::Spent))
+            Ok(Answer::text_alone(text, Status::Spent))
         }
         Demanded::Done { tree, journal } => {
             last.is_net();
             let term = tree_text(alloc, &tree, &file.names)?;
             let text = answer_lines(alloc, &term, counts(&journal), last.stuck())?;
-            Ok(Answer::without_words(text, Status::Done))
+            Ok(Answer::text_alone(text, Status::Done))
         }
     }
 }

@@ -101,9 +101,9 @@ fn answer_second<R: Threads + Wait + Sync, S: Source, G: Gate + Sync>(
             names: other_names,
         } => {
             let compared = same_tree(alloc, tree, names, &other, &other_names)?;
-            let words = compared_text(alloc, &compared)?;
-            let text = term_line(alloc, &words)?;
-            Ok(Answer::without_words(text, Status::Done))
+            let told = compared_text(alloc, &compared)?;
+            let text = term_line(alloc, &told)?;
+            Ok(Answer::text_alone(text, Status::Done))
         }
     }
 }
@@ -136,7 +136,7 @@ fn read_side<R: Threads + Wait + Sync, S: Source, G: Gate + Sync>(
         Ready::Net { net, file } => match last_tree(rt, alloc, &net, numbers, gate)? {
             None => {
                 let text = spent_line(alloc, numbers.fuel)?;
-                Ok(Side::Refused(Answer::without_words(text, Status::Spent)))
+                Ok(Side::Refused(Answer::text_alone(text, Status::Spent)))
             }
             Some(tree) => Ok(Side::Read {
                 tree,

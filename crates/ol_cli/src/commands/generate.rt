@@ -43,7 +43,7 @@ pub fn answer_gen<R: Threads + Wait + Sync, G: Gate + Sync>(
         let answer = run_made(rt, alloc, &text, translation, gate)?;
         return Ok(answer);
     }
-    Ok(Answer::without_words(text, Status::Done))
+    Ok(Answer::text_alone(text, Status::Done))
 }
 
 // The answer of `run`, without options but the translation, to a text that is made.

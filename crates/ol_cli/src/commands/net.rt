@@ -52,7 +52,7 @@ pub fn answer_net_of_term<S: Source>(
         Ready::Refused(answer) => Ok(answer),
         Ready::Net { net, file: _ } => {
             let text = net_text(alloc, &net)?;
-            Ok(Answer::without_words(text, Status::Done))
+            Ok(Answer::text_alone(text, Status::Done))
         }
     }
 }
@@ -123,9 +123,9 @@ fn evaluate_file<R: Threads + Wait + Sync, G: Gate + Sync>(
             Ok(answer)
         }
         Err(fault) => {
-            let words = fault_text(alloc, fault)?;
-            let text = term_line(alloc, &words)?;
-            Ok(Answer::without_words(text, Status::BadNet))
+            let told = fault_text(alloc, fault)?;
+            let text = term_line(alloc, &told)?;
+            Ok(Answer::text_alone(text, Status::BadNet))
         }
     }
 }
@@ -150,7 +150,7 @@ fn rewrite<R: Threads + Wait + Sync, G: Gate + Sync>(
     match reduce(rt, alloc, net, workers, fuel, gate)? {
         Reduced::Spent { .. } => {
             let text = spent_line(alloc, fuel)?;
-            Ok(Answer::without_words(text, Status::Spent))
+            Ok(Answer::text_alone(text, Status::Spent))
         }
         Reduced::Done {
             net: last,
@@ -162,10 +162,10 @@ fn rewrite<R: Threads + Wait + Sync, G: Gate + Sync>(
             let stuck = last.stuck();
             if last.nodes() > MOST_NODES {
                 let text = count_line(alloc, "limit nodes", MOST_NODES)?;
-                return Ok(Answer::without_words(text, Status::Limit));
+                return Ok(Answer::text_alone(text, Status::Limit));
             }
             let text = net_lines(alloc, &last, counts(&journal), stuck)?;
-            Ok(Answer::without_words(text, Status::Done))
+            Ok(Answer::text_alone(text, Status::Done))
         }
     }
 }

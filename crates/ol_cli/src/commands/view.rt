@@ -43,7 +43,7 @@ pub fn answer_view<S: Source>(
         Ready::Refused(answer) => Ok(answer),
         Ready::Net { net, file: _ } => {
             let text = view_net(alloc, &net, leads)?;
-            Ok(Answer::without_words(text, Status::Done))
+            Ok(Answer::text_alone(text, Status::Done))
         }
     }
 }

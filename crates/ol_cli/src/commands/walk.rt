@@ -45,7 +45,7 @@ pub fn answer_walk<S: Source>(
         Ready::Refused(answer) => Ok(answer),
         Ready::Net { net, file } => {
             let text = walk_net(alloc, &net, &file, translation, edges, heads)?;
-            Ok(Answer::without_words(text, Status::Done))
+            Ok(Answer::text_alone(text, Status::Done))
         }
     }
 }

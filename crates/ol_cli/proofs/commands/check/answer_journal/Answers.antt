@@ -25,5 +25,5 @@ returns-in_ok-text-in-Bytes-clause-caused g c = λ files of tr t names n.
     let few : length bytes ≤ 402653184 = let e = r.1.counted in let within = r.1.within in omega (arith, e, within) in
     let only = own_found tr t names c.args.net.now n.same bytes c.in_ok-found-in-Bytes.found
     (rw c.deref.ensures.value at c.in_ok-found-in-Bytes.ensures.exact) in
-    rw c.without_words.ensures (given r.0 r.1
+    rw c.text_alone.ensures (given r.0 r.1
     (few, (c.in_ok-found-in-Bytes.found, only, c.in_ok-text-in-Bytes.ensures)))

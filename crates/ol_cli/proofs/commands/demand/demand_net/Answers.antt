@@ -18,7 +18,7 @@ returns-in-Spent-clause-answer c =
     (translation_of c.args.translation (tree_of c.args.file.now.term)
     (length c.args.file.now.names))) (sym c.in_ok-last.ensures.copy) c.requires.net.same in
     let d = rw c.in-Spent.is at c.in_ok-demanded.ensures.answer in
-    rw c.without_words.ensures (
+    rw c.text_alone.ensures (
       demand_spent c.args.translation
           (tree_of c.args.file.now.term) c.args.file.now.names c.in_ok-last.last same c.args.fuel
           c.args.heads c.demand.new.net c.in-Spent.journal d.0 d.1,
@@ -52,7 +52,7 @@ returns-clause-answer c =
     (λ ns x. Unit {0}) c.in-Done.tree c.in_ok-term-in-Done.term.items
     c.in_ok-text-in-Done.text.items c.stuck.result d.0 d.1 c.is_net-in-Done.ensures.net
     c.stuck.ensures.stuck c.in_ok-term-in-Done.ensures.text text tt in
-    rw c.without_words-in-Done.ensures x.0
+    rw c.text_alone-in-Done.ensures x.0
 
 pub returns-clause-read : goal.returns-clause-read
 returns-clause-read c =
@@ -74,4 +74,4 @@ returns-clause-read c =
     let r = demand_read c.args.translation
     (tree_of c.args.file.now.term) c.args.file.now.names c.in_ok-text-in-Done.text.items
     c.args.fuel c.args.heads x.0 x.1 in
-    rw c.without_words-in-Done.ensures r
+    rw c.text_alone-in-Done.ensures r

@@ -21,7 +21,7 @@ returns-in-None-clause-comes g c = λ files of.
     let t = tree_of c.in-Net.file.term in
     let names = c.in-Net.file.names in
     let reads = rw c.in-None.is at c.in_ok-last_tree-in-Net.ensures.reads in
-    rw c.without_words.ensures (
+    rw c.text_alone.ensures (
       (λ e. cc),
       given r.0 r.1.1 (
         t,

@@ -14,6 +14,6 @@ returns-then-run g c =
 pub returns : goal.returns
 returns g c = record {
   comes = λ s same.
-      rw (c.if-run.false, c.without_words.ensures)
+      rw (c.if-run.false, c.text_alone.ensures)
       (made_comes c.args.translation c.args.k s same _ refl c.in-Ok.ensures.made refl);
 }

@@ -20,6 +20,6 @@ returns-in_ok-answer-in-Ok-clause-answer g c =
 
 pub returns-in_ok-text-in-Err-clause-answer : goal.returns-in_ok-text-in-Err-clause-answer
 returns-in_ok-text-in-Err-clause-answer g c =
-    let words = c.in_ok-words-in-Err.ensures in
-    rw c.without_words.ensures (bad c.requires.short c.in-Err.fault c.in-Err.ensures.fault
+    let words = c.in_ok-told-in-Err.ensures in
+    rw c.text_alone.ensures (bad c.requires.short c.in-Err.fault c.in-Err.ensures.fault
     words.told refl (c.in_ok-text-in-Err.ensures ∙ ap line (c.deref.ensures.value ∙ words.words)))

@@ -7,7 +7,7 @@ use Rattle.ol_cli.proofs.commands.net.rewrite.Goals as goal
 pub returns-in-Spent-clause-answer : goal.returns-in-Spent-clause-answer
 returns-in-Spent-clause-answer g c =
     let d = rw c.in-Spent.is at c.in_ok-reduce.ensures.reduced in
-    rw c.without_words.ensures (
+    rw c.text_alone.ensures (
       spent_goes_on c.args.net.now c.is_net.ensures.net c.args.fuel
           c.args.workers c.in-Spent.journal c.in-Spent.words d,
       c.in_ok-text-in-Spent.ensures,
@@ -17,7 +17,7 @@ pub returns-then-nodes-gt-MOST_NODES-clause-answer : goal.returns-then-nodes-gt-
 returns-then-nodes-gt-MOST_NODES-clause-answer g c =
     let d = rw c.in-Done.is at c.in_ok-reduce.ensures.reduced in
     let many = c.nodes.ensures.nodes in
-    rw c.without_words-then-nodes-gt-MOST_NODES.ensures (
+    rw c.text_alone-then-nodes-gt-MOST_NODES.ensures (
       done_is_large c.args.net.now c.is_net.ensures.net c.args.fuel c.args.workers c.in-Done.journal
           c.in-Done.words c.in-Done.last d c.stuck-stuck.result c.is_net-in-Done.ensures.net
           c.stuck-stuck.ensures.stuck (omega (arith, many, c.if-nodes-gt-MOST_NODES.true)),
@@ -36,7 +36,7 @@ returns-clause-answer g c =
     let few = c.nodes.ensures.nodes in
     let lines = subst (λ k. AreLinesOf c.in-Done.last k c.stuck-stuck.result
     c.in_ok-text-in-Done-2.text.items) c.counts.ensures c.in_ok-text-in-Done-2.ensures in
-    rw c.without_words-in-Done.ensures
+    rw c.text_alone-in-Done.ensures
     (done_prints c.args.net.now c.is_net.ensures.net c.args.fuel c.args.workers c.in-Done.journal
     c.in-Done.words c.in-Done.last d c.stuck-stuck.result c.is_net-in-Done.ensures.net c.stuck-stuck.ensures.stuck
     c.is_tabled.ensures.tables (omega (

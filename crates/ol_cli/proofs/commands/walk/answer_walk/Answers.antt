@@ -13,7 +13,7 @@ pub returns-in_ok-text-in-Net-clause-comes : goal.returns-in_ok-text-in-Net-clau
 returns-in_ok-text-in-Net-clause-comes g c = λ files of.
     let r = rw c.in-Net.is at (c.in_ok-ready.ensures.comes files of) in
     let h = c.in_ok-text-in-Net.ensures in
-    rw c.without_words.ensures
+    rw c.text_alone.ensures
     (term_comes (walk c.args.translation c.args.edges c.args.heads c.args.name.now) tt _
     c.in-Net.net c.in-Net.file r (record { text = c.in_ok-text-in-Net.text; status = Done; closed = None })
     h.text h.read refl)
