@@ -9,11 +9,12 @@ use Rattle.ol_meaning.specs.Shows.{ready, contract, BetaReduces}
 use Rattle.ol_meaning.proofs.Endings.{no_redex}
 use Rattle.ol_confluence.specs.Reductions.{Convertible}
 use Rattle.ol_confluence.specs.Compared.{number_of}
+use Rattle.ol_confluence.proofs.LeftmostEnds.{leftmost_beta}
 use Rattle.ol_confluence.proofs.Meetings.{convertible_normal}
 use Rattle.ol_confluence.proofs.Renamings.{number_of_one}
 use Rattle.ol_confluence.proofs.WrongComparisons.{letters_apart}
 use Rattle.ol_lines.specs.NormalForms.{IsNormalFormOf, IsNormalForm}
-use Rattle.ol_lines.specs.WrongLines.{a, b, redex, two_redexes, OtherTermMisleads, ReductMisleads, NamesAreApart}
+use Rattle.ol_lines.specs.WrongLines.{a, b, redex, two_redexes, NormalFormIsReduced, OtherTermMisleads, ReductMisleads, NamesAreApart}
 
 stays : (u : Tree) → BetaReduces (tree.free 0) u → u ≡ tree.free 0
 stays u ready = refl
@@ -45,18 +46,26 @@ own_inner = record {
   only = λ u r n. inner_stays u r;
 }
 
-not_inner : IsNormalForm (tree.lam (tree.var 0)) (tree.lam (tree.lam (tree.var 1))) → ⊥
-not_inner n =
-    let e : tree.lam (tree.var 0) ≡ tree.lam (tree.lam (tree.var 1)) = n.only
-    (tree.lam (tree.var 0)) ready (no_leftmost (tree.lam (tree.var 0)) refl) in
+identity_stays : (u : Tree) → BetaReduces (tree.lam (tree.var 0)) u → u ≡ tree.lam (tree.var 0)
+identity_stays u ready = refl
+identity_stays u (contract {at = at} chosen e r) =
+    let none : contracted (tree.lam (tree.var 0)) at ≡ None = no_leftmost (tree.lam (tree.var 0)) refl at in
+    absurd (let f = sym none ∙ e in cc)
+
+not_inner : BetaReduces (tree.lam (tree.var 0)) (tree.lam (tree.lam (tree.var 1))) → ⊥
+not_inner r =
+    let e = identity_stays (tree.lam (tree.lam (tree.var 1))) r in
     absurd (cc)
+
+pub normal_form_is_reduced : NormalFormIsReduced
+normal_form_is_reduced source result n = (n.0, leftmost_beta n.1.leftmost, n.1.is_normal)
 
 pub other_term : OtherTermMisleads
 other_term = (
   ((refl, tt), own),
   (λ h. let f : false ≡ true = h.0.0 in absurd (cc)),
   (tt, own_inner),
-  λ h. not_inner h.1,
+  λ h. not_inner h.1.0,
 )
 
 one_name : (n m : ℕ) → Convertible (tree.free n) (tree.free m) → n ≡ m
@@ -74,5 +83,5 @@ names_apart c =
 pub reduct : ReductMisleads
 reduct = (
   contract {at = []} tt refl ready,
-  λ h. let e : None ≡ Some (tree.free 0) = sym (h.1.is_normal []) in absurd (cc),
+  λ h. let e : None ≡ Some (tree.free 0) = sym (h.1.1 []) in absurd (cc),
 )

@@ -3,7 +3,7 @@
 use Rattle.std.specs.Prelude.{codes}
 use Rattle.ol_parse.specs.Grammar.{Named, var, lam, app}
 use Rattle.ol_meaning.specs.Shows.{BetaReduces}
-use Rattle.ol_lines.specs.NormalForms.{by_names_of, IsNormalFormOf, AreConvertible}
+use Rattle.ol_lines.specs.NormalForms.{by_names_of, IsNormalFormOf, IsReducedTo, AreConvertible}
 
 -- `a` and `b`
 abbrev pub a : Named
@@ -27,17 +27,21 @@ two_redexes = app identity redex
 abbrev pub first : Named
 first = lam (codes "x") (lam (codes "y") (var (codes "x")))
 
--- `b` isn't the normal form of `a`, nor `\x y. x` that of `\x. x`, though both are normal forms
+-- a source is reduced to its normal form
+abbrev pub NormalFormIsReduced : Type 0
+NormalFormIsReduced = (source result : Named) → IsNormalFormOf source result → IsReducedTo source result
+
+-- `a` isn't reduced to `b`, nor `\x. x` to `\x y. x`, though both are normal forms
 abbrev pub OtherTermMisleads : Type 0
-OtherTermMisleads = IsNormalFormOf b b × (IsNormalFormOf a b → ⊥)
-    × IsNormalFormOf first first × (IsNormalFormOf identity first → ⊥)
+OtherTermMisleads = IsNormalFormOf b b × (IsReducedTo a b → ⊥)
+    × IsNormalFormOf first first × (IsReducedTo identity first → ⊥)
 
 -- `a` and `b` aren't convertible, whatever numbers their names have
 abbrev pub NamesAreApart : Type 0
 NamesAreApart = AreConvertible a b → ⊥
 
--- `(\x. x) a` isn't that of `(\x. x) ((\x. x) a)`, though it is a reduct
+-- `(\x. x) a` is a reduct of `(\x. x) ((\x. x) a)`, and something is left to reduce in it
 abbrev pub ReductMisleads : Type 0
 ReductMisleads =
     BetaReduces (by_names_of two_redexes two_redexes) (by_names_of two_redexes redex)
-    × (IsNormalFormOf two_redexes redex → ⊥)
+    × (IsReducedTo two_redexes redex → ⊥)

@@ -2,6 +2,9 @@
 use Rattle.ol_lines.proofs.wrong_lines_mislead.Goals as goal
 use Rattle.ol_lines.proofs.WrongLines as wrong
 
+pub returns-clause-reduced : goal.returns-clause-reduced
+returns-clause-reduced g = wrong.normal_form_is_reduced
+
 pub returns-clause-other : goal.returns-clause-other
 returns-clause-other g = wrong.other_term
 
