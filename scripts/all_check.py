@@ -1,8 +1,9 @@
 """`rt all check` of some crates: `all_check.py RT JOBS NAME..`, where RT is the path of the command `rt` of the kit.
 
 As it is, `rt all check` first reads the sources of each program and of each crate of tests on one processor, for what might be wrong
-with them before any proof, which takes over five minutes here from nothing; and a crate that waits for those below it holds one of the
-places. Here each crate has a place, at most JOBS of them are proved at one time, and other crates than those that are named aren't.
+with them before any proof, which takes over five minutes here from nothing; a crate that waits for those below it holds one of the
+places; and each crate is proved on one processor. Here each crate has a place, at most JOBS of them are proved at one time, a crate
+beside which no other or just one could be proved gets all JOBS processors, and other crates than those that are named aren't proved.
 What is proved, and how, is `rt`'s.
 """
 import os
@@ -16,12 +17,19 @@ rt = main.__globals__
 crate, share_work, at_once = rt['rtlib'].Crate, rt['share_work'], threading.Semaphore(jobs)
 
 
+def nearly_alone():
+    """The names of those crates that all others but one at most are below or above."""
+    below = {it.name: {other.name for other in it.below()} for it in rt['rtlib'].crates_below(os.getcwd()) if it.name in names}
+    beside = lambda it: sum(other not in below[it] and it not in below[other] for other in below) - 1
+    return [it for it in below if beside(it) < 2]
+
+
 def only_named(made):
-    def call(self, *given, **named):
+    def call(self, flags, *given, **named):
         if self.name not in names:
             return 0
         with at_once:
-            return made(self, *given, **named)
+            return made(self, ['--jobs', str(jobs)] if self.name in alone else flags, *given, **named)
     return call
 
 
@@ -31,5 +39,6 @@ def share_work_of_named(is_alone):
 
 
 rt['share_work'] = share_work_of_named
+alone = nearly_alone()
 crate.front_end = lambda self: 0
 sys.exit(main(['all', 'check', '--jobs', '99']))
