@@ -110,7 +110,7 @@ frames_of (at o fs) = fs
 frames_of (first_name fs) = fs
 frames_of (more_names fs) = fs
 frames_of (let_name fs) = fs
-frames_of (let_equals x fs) = fs
+frames_of (let_equals x fs) = defining x ∷ fs
 
 abbrev pub terms_of : State → List Named
 terms_of (at o fs) = one_of o ++ waiting fs
@@ -124,7 +124,7 @@ SameMode (at o fs) (Term b) = b ≡ is_some o
 SameMode (first_name fs) FirstName = Unit {0}
 SameMode (more_names fs) MoreNames = Unit {0}
 SameMode (let_name fs) LetName = Unit {0}
-SameMode (let_equals x fs) (LetEquals y) = y.now ≡ x
+SameMode (let_equals x fs) LetEquals = Unit {0}
 SameMode _ _ = ⊥
 
 -- the flat state stands for this one

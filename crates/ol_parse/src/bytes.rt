@@ -103,12 +103,12 @@ fn key_of_word(word: &[u8]) -> Key
 
 fn take_word<'a>(
     word: &'a [u8],
-    mode: Mode<'a>,
+    mode: Mode,
     opens: &mut Vec<Open<'a>>,
     out: &mut Vec<Op<'a>>,
-) -> Result<Option<Mode<'a>>, AllocError>
+) -> Result<Option<Mode>, AllocError>
     ensures { IfOk result (λ next. Takes (token_of word.now)
-        mode.entry opens.old.items out.old.items next opens.new.items out.new.items) }
+        mode opens.old.items out.old.items next opens.new.items out.new.items) }
 {
     match key_of_word(word) {
         Key::Let => take_let(mode, opens, out),
@@ -126,8 +126,8 @@ fn is_in_word(b: u8) -> bool
     }
 }
 
-fn at_place<'a>(place: Place, next: Option<Mode<'a>>) -> Option<(Place, Mode<'a>)>
-    ensures { result ≡ option_map (λ m. (place, m)) next.entry }
+fn at_place(place: Place, next: Option<Mode>) -> Option<(Place, Mode)>
+    ensures { result ≡ option_map (λ m. (place, m)) next }
 {
     match next {
         Some(mode) => Some((place, mode)),
@@ -138,25 +138,25 @@ fn at_place<'a>(place: Place, next: Option<Mode<'a>>) -> Option<(Place, Mode<'a>
 fn take_in_gap<'a>(
     text: &'a [u8],
     at: usize,
-    mode: Mode<'a>,
+    mode: Mode,
     opens: &mut Vec<Open<'a>>,
     out: &mut Vec<Op<'a>>,
-) -> Result<Option<(Place, Mode<'a>)>, AllocError>
+) -> Result<Option<(Place, Mode)>, AllocError>
     requires { at < length text.now }
     ensures stands { IfOk result (λ next. TakesInGap text.now at
-        mode.entry opens.old.items out.old.items next opens.new.items out.new.items) }
+        mode opens.old.items out.old.items next opens.new.items out.new.items) }
     ensures begun { IfOk result (λ next. IfSome next (λ n. from_of n.0 ≤ at)) }
 {
     match class_of_byte(text[at]) {
         Class::Blank => Ok(Some((Place::Gap, mode))),
         Class::Hash => Ok(Some((Place::Comment, mode))),
         Class::Letter => match mode {
-            Mode::LetEquals(_) => Ok(None),
+            Mode::LetEquals => Ok(None),
             _ => Ok(Some((Place::Word(at), mode))),
         },
         Class::Slash => Ok(at_place(Place::Gap, take_lambda(mode, opens, out)?)),
         Class::Dot => Ok(at_place(Place::Gap, take_dot(mode, opens, out))),
-        Class::Equals => Ok(at_place(Place::Gap, take_equals(mode, opens, out)?)),
+        Class::Equals => Ok(at_place(Place::Gap, take_equals(mode, opens, out))),
         Class::OpenBracket => Ok(at_place(Place::Gap, take_open(mode, opens, out)?)),
         Class::CloseBracket => Ok(at_place(Place::Gap, take_close(mode, opens, out)?)),
         Class::Lead => Ok(at_place(Place::Half, take_lambda(mode, opens, out)?)),
@@ -168,14 +168,14 @@ fn take_byte<'a>(
     text: &'a [u8],
     at: usize,
     place: Place,
-    mode: Mode<'a>,
+    mode: Mode,
     opens: &mut Vec<Open<'a>>,
     out: &mut Vec<Op<'a>>,
-) -> Result<Option<(Place, Mode<'a>)>, AllocError>
+) -> Result<Option<(Place, Mode)>, AllocError>
     requires within { at < length text.now }
     requires begun { from_of place ≤ at }
     ensures stands { IfOk result (λ next. TakesByte text.now at
-        place mode.entry opens.old.items out.old.items next opens.new.items out.new.items) }
+        place mode opens.old.items out.old.items next opens.new.items out.new.items) }
     ensures begun { IfOk result (λ next. IfSome next (λ n. from_of n.0 ≤ at)) }
 {
     match place {
@@ -222,12 +222,12 @@ fn goes_on(text: &[u8], at: usize, place: Place) -> bool
 
 /// Ends the text behind a token.
 fn take_end<'a>(
-    mode: Mode<'a>,
+    mode: Mode,
     opens: &mut Vec<Open<'a>>,
     out: &mut Vec<Op<'a>>,
 ) -> Result<bool, AllocError>
     ensures { IfOk result (λ yes.
-        Ends mode.entry opens.old.items out.old.items yes out.new.items) }
+        Ends mode opens.old.items out.old.items yes out.new.items) }
 {
     match mode {
         Mode::Term(true) => match finish(opens, out)? {
@@ -242,13 +242,13 @@ fn take_end<'a>(
 fn take_text_end<'a>(
     text: &'a [u8],
     place: Place,
-    mode: Mode<'a>,
+    mode: Mode,
     opens: &mut Vec<Open<'a>>,
     out: &mut Vec<Op<'a>>,
 ) -> Result<bool, AllocError>
     requires { from_of place ≤ length text.now }
     ensures { IfOk result (λ yes. EndsText text.now
-        place mode.entry opens.old.items out.old.items yes out.new.items) }
+        place mode opens.old.items out.old.items yes out.new.items) }
 {
     match place {
         Place::Gap | Place::Comment => take_end(mode, opens, out),

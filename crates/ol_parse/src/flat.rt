@@ -30,7 +30,7 @@ pub enum Open<'a> {
 
 /// What may come next.
 #[derive(Clone, Copy)]
-pub enum Mode<'a> {
+pub enum Mode {
     /// An atom or a body, and whether a spine stands before it.
     Term(bool),
     /// The first name behind a λ.
@@ -39,6 +39,6 @@ pub enum Mode<'a> {
     MoreNames,
     /// The name behind `let`.
     LetName,
-    /// The `=` behind that name.
-    LetEquals(&'a [u8]),
+    /// The `=` behind that name, which is open already.
+    LetEquals,
 }

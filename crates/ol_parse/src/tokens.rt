@@ -59,12 +59,12 @@ fn apply_if<'a>(spine: bool, out: &mut Vec<Op<'a>>) -> Result<(), AllocError>
 
 pub fn take_name<'a>(
     word: &'a [u8],
-    mode: Mode<'a>,
+    mode: Mode,
     opens: &mut Vec<Open<'a>>,
     out: &mut Vec<Op<'a>>,
-) -> Result<Option<Mode<'a>>, AllocError>
+) -> Result<Option<Mode>, AllocError>
     ensures { IfOk result (λ next. Takes (name word.now)
-        mode.entry opens.old.items out.old.items next opens.new.items out.new.items) }
+        mode opens.old.items out.old.items next opens.new.items out.new.items) }
 {
     match mode {
         Mode::Term(spine) => {
@@ -76,18 +76,21 @@ pub fn take_name<'a>(
             opens.push(Open::Abstracted(word))?;
             Ok(Some(Mode::MoreNames))
         }
-        Mode::LetName => Ok(Some(Mode::LetEquals(word))),
-        Mode::LetEquals(_) => Ok(None),
+        Mode::LetName => {
+            opens.push(Open::Defining(word))?;
+            Ok(Some(Mode::LetEquals))
+        }
+        Mode::LetEquals => Ok(None),
     }
 }
 
 pub fn take_open<'a>(
-    mode: Mode<'a>,
+    mode: Mode,
     opens: &mut Vec<Open<'a>>,
     out: &Vec<Op<'a>>,
-) -> Result<Option<Mode<'a>>, AllocError>
+) -> Result<Option<Mode>, AllocError>
     ensures { IfOk result (λ next. Takes open_bracket
-        mode.entry opens.old.items out.now.items next opens.new.items out.now.items) }
+        mode opens.old.items out.now.items next opens.new.items out.now.items) }
 {
     match mode {
         Mode::Term(spine) => {
@@ -99,12 +102,12 @@ pub fn take_open<'a>(
 }
 
 pub fn take_lambda<'a>(
-    mode: Mode<'a>,
+    mode: Mode,
     opens: &mut Vec<Open<'a>>,
     out: &Vec<Op<'a>>,
-) -> Result<Option<Mode<'a>>, AllocError>
+) -> Result<Option<Mode>, AllocError>
     ensures { IfOk result (λ next. Takes lambda
-        mode.entry opens.old.items out.now.items next opens.new.items out.now.items) }
+        mode opens.old.items out.now.items next opens.new.items out.now.items) }
 {
     match mode {
         Mode::Term(spine) => {
@@ -116,12 +119,12 @@ pub fn take_lambda<'a>(
 }
 
 pub fn take_let<'a>(
-    mode: Mode<'a>,
+    mode: Mode,
     opens: &mut Vec<Open<'a>>,
     out: &Vec<Op<'a>>,
-) -> Result<Option<Mode<'a>>, AllocError>
+) -> Result<Option<Mode>, AllocError>
     ensures { IfOk result (λ next. Takes let_key
-        mode.entry opens.old.items out.now.items next opens.new.items out.now.items) }
+        mode opens.old.items out.now.items next opens.new.items out.now.items) }
 {
     match mode {
         Mode::Term(spine) => {
@@ -132,9 +135,9 @@ pub fn take_let<'a>(
     }
 }
 
-pub fn take_dot<'a>(mode: Mode<'a>, opens: &Vec<Open<'a>>, out: &Vec<Op<'a>>) -> Option<Mode<'a>>
+pub fn take_dot(mode: Mode, opens: &Vec<Open>, out: &Vec<Op>) -> Option<Mode>
     ensures { Takes dot
-        mode.entry opens.now.items out.now.items result opens.now.items out.now.items }
+        mode opens.now.items out.now.items result opens.now.items out.now.items }
 {
     match mode {
         Mode::MoreNames => Some(Mode::Term(false)),
@@ -142,30 +145,23 @@ pub fn take_dot<'a>(mode: Mode<'a>, opens: &Vec<Open<'a>>, out: &Vec<Op<'a>>) ->
     }
 }
 
-pub fn take_equals<'a>(
-    mode: Mode<'a>,
-    opens: &mut Vec<Open<'a>>,
-    out: &Vec<Op<'a>>,
-) -> Result<Option<Mode<'a>>, AllocError>
-    ensures { IfOk result (λ next. Takes equals
-        mode.entry opens.old.items out.now.items next opens.new.items out.now.items) }
+pub fn take_equals(mode: Mode, opens: &Vec<Open>, out: &Vec<Op>) -> Option<Mode>
+    ensures { Takes equals
+        mode opens.now.items out.now.items result opens.now.items out.now.items }
 {
     match mode {
-        Mode::LetEquals(word) => {
-            opens.push(Open::Defining(word))?;
-            Ok(Some(Mode::Term(false)))
-        }
-        _ => Ok(None),
+        Mode::LetEquals => Some(Mode::Term(false)),
+        _ => None,
     }
 }
 
 pub fn take_close<'a>(
-    mode: Mode<'a>,
+    mode: Mode,
     opens: &mut Vec<Open<'a>>,
     out: &mut Vec<Op<'a>>,
-) -> Result<Option<Mode<'a>>, AllocError>
+) -> Result<Option<Mode>, AllocError>
     ensures { IfOk result (λ next. Takes close_bracket
-        mode.entry opens.old.items out.old.items next opens.new.items out.new.items) }
+        mode opens.old.items out.old.items next opens.new.items out.new.items) }
 {
     match mode {
         Mode::Term(true) => match finish(opens, out)? {
@@ -180,12 +176,12 @@ pub fn take_close<'a>(
 }
 
 pub fn take_in<'a>(
-    mode: Mode<'a>,
+    mode: Mode,
     opens: &mut Vec<Open<'a>>,
     out: &mut Vec<Op<'a>>,
-) -> Result<Option<Mode<'a>>, AllocError>
+) -> Result<Option<Mode>, AllocError>
     ensures { IfOk result (λ next. Takes in_key
-        mode.entry opens.old.items out.old.items next opens.new.items out.new.items) }
+        mode opens.old.items out.old.items next opens.new.items out.new.items) }
 {
     match mode {
         Mode::Term(true) => match finish(opens, out)? {
