@@ -1,4 +1,4 @@
--- Private: words of private contracts alone: reading one line of a trace text from the front of some bytes.
+-- Reading one line of a trace text from the front of some bytes.
 use Rattle.std.specs.Prelude.{◌≡◌, ℕ, ◌+◌, ◌-◌, ◌*◌, Bool, ◌&&◌, ◌==◌, nat_le, if◌then◌else◌, List}
 use Rattle.std.specs.Prelude.{[], ◌∷◌, Option, None, Some, option_and_then, option_map, eqb, drop}
 use Rattle.std.specs.Prelude.{length}

@@ -26,8 +26,10 @@ mod wave_tracing;
 
 pub use answers::{After, Check};
 pub use checking::check;
+pub use forms::Form;
 pub use laws::equal_nets_are_shown_alike;
 pub use leading::after;
+pub use line_reading::{Line, behind, line_at, name_at, number_at, rule_at};
 pub use showing::show;
 pub use tracing::trace_text;
-pub use wave_tracing::trace_text_2;
+pub use wave_tracing::{rule_word, trace_text_2};

@@ -34,8 +34,8 @@ const RULES: [Rule; 8] = [
     Rule::Erase,
 ];
 
-// The number at a place of the text, and the place behind it.
-fn number_at(text: &[u8], at: usize) -> Option<(u32, usize)>
+/// The number at a place of the text, and the place behind it.
+pub fn number_at(text: &[u8], at: usize) -> Option<(u32, usize)>
     requires { at ≤ length text.now }
     ensures read { front_number (drop at text.now)
         ≡ option_map (λ r. (r.0, drop r.1 text.now)) result }
@@ -66,8 +66,8 @@ fn number_at(text: &[u8], at: usize) -> Option<(u32, usize)>
     Some((number, text.len()))
 }
 
-// The name at a place of the text, and the place behind it.
-fn name_at(text: &[u8], at: usize) -> Option<(NodeName, usize)>
+/// The name at a place of the text, and the place behind it.
+pub fn name_at(text: &[u8], at: usize) -> Option<(NodeName, usize)>
     requires { at ≤ length text.now }
     ensures read { front_name (drop at text.now)
         ≡ option_map (λ r. (r.0, drop r.1 text.now)) result }
@@ -88,8 +88,8 @@ fn name_at(text: &[u8], at: usize) -> Option<(NodeName, usize)>
     Some((name, to + 1))
 }
 
-// The place behind this byte.
-fn behind(text: &[u8], at: usize, byte: u8) -> Option<usize>
+/// The place behind this byte.
+pub fn behind(text: &[u8], at: usize, byte: u8) -> Option<usize>
     requires { at ≤ length text.now }
     ensures read { behind byte (drop at text.now) ≡ option_map (λ to. drop to text.now) result }
     ensures place { IfSome result (λ to. (at < to) × (to ≤ length text.now)) }
@@ -132,8 +132,8 @@ fn word_behind(text: &[u8], at: usize, word: &str) -> Option<usize>
     }
 }
 
-// The rule of this name, and the place behind the name.
-fn rule_at(text: &[u8], at: usize) -> Option<(Rule, usize)>
+/// The rule of this name, and the place behind the name.
+pub fn rule_at(text: &[u8], at: usize) -> Option<(Rule, usize)>
     requires { at ≤ length text.now }
     ensures read { front_rule (drop at text.now)
         ≡ option_map (λ r. (r.0, drop r.1 text.now)) result }

@@ -20,7 +20,7 @@ use std::alloc::Global;
 pub(crate) const WAVE_HEADER: &str = "ol trace 2\n";
 
 /// The name of a rule, as in the lines of counts.
-pub(crate) fn rule_word(rule: Rule) -> &'static str
+pub fn rule_word(rule: Rule) -> &'static str
     ensures { result.now ≡ rule_text rule }
 {
     match rule {
