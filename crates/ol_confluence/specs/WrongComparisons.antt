@@ -1,12 +1,12 @@
 -- What two wrong comparisons would answer of small terms, and that it isn't so.
-use Rattle.std.specs.Prelude.{ℕ, true, List, [], ◌∷◌, codes}
+use Rattle.std.specs.Prelude.{true, List, [], ◌∷◌, codes}
 use Rattle.ol_readback.specs.declared.answers.HeadVar.TheVariants as var
 use Rattle.ol_readback.specs.declared.answers.ReadNode.{ReadNode}
 use Rattle.ol_readback.specs.declared.answers.ReadNode.TheVariants as node
 use Rattle.ol_equal.specs.declared.answers.Compared.{Compared}
 use Rattle.ol_equal.specs.declared.answers.Compared.TheVariants as answer
 use Rattle.ol_equal.specs.Comparing.{TreeWithNames}
-use Rattle.ol_meaning.specs.Spots.{Tree, free, app}
+use Rattle.ol_term.specs.Trees.{Tree, free, app}
 use Rattle.ol_confluence.specs.Compared.{ArePrinted, TellsTerms}
 
 -- these places are printed of the two terms, and this answer isn't so of them

@@ -12,10 +12,11 @@ use Rattle.ol_readback.specs.Terms.{abstracted, variable_of}
 use Rattle.ol_readback.specs.declared.answers.HeadVar.{HeadVar}
 use Rattle.ol_readback.specs.declared.answers.ReadNode.{ReadNode}
 use Rattle.ol_readback.specs.declared.answers.ReadNode.TheVariants as node
-use Rattle.ol_meaning.specs.Spots.{Tree, lam, app, HeadStep}
-use Rattle.ol_meaning.specs.Heads.{Steps, done, step}
-use Rattle.ol_meaning.specs.Shows.{ready, contract, LeftmostReduces, HeadReducesForever, applied, Shows, LacksHead}
+use Rattle.ol_meaning.specs.Spots.{Tree, lam, app}
+use Rattle.ol_meaning.specs.Shows.{ready, contract, LeftmostReduces, HeadReduces, HeadReducesForever, applied, Shows}
+use Rattle.ol_meaning.specs.Shows.{LacksHead}
 use Rattle.ol_meaning.proofs.LeftmostSteps.{leftmost_step, same_step}
+use Rattle.ol_meaning.proofs.HeadSteps.{step_of, redex_step, step_then}
 use Rattle.ol_meaning.proofs.LeftmostRoads.{IsNeutral, arg_leftmost, variable_neutral, StepsTo, step_before}
 
 -- ---- a leftmost step, or none
@@ -43,26 +44,22 @@ pub rest_of : {t u v : Tree} {at : List ℕ} → leftmost t ≡ Some at → cont
 rest_of {at = at} e f ready n = absurd (some_none at (sym e ∙ n))
 rest_of {t = t} {v = v} e f (contract g h l) n = subst (λ u. LeftmostReduces u v) (same_step t g h e f) l
 
-pub after_head : {t u v : Tree} {m : ℕ} → Steps t u m → LeftmostReduces t v → leftmost v ≡ None → LeftmostReduces u v
-after_head done l n = l
-after_head (step h s) l n = let r = leftmost_step h in after_head s (rest_of r.1 r.2 l n) n
-
-first_step : {t u : Tree} {m : ℕ} → Steps t u (suc m) → (a : Tree) × HeadStep t a × Steps a u m
-first_step (step {t' = a} h s) = (a, h, s)
+pub after_head : {t u v : Tree} → HeadReduces t u → LeftmostReduces t v → leftmost v ≡ None → LeftmostReduces u v
+after_head ready l n = l
+after_head (contract c e s) l n =
+    let r = leftmost_step (step_of c e) in after_head s (rest_of r.1 r.2 l n) n
 
 -- head reduction has an end where leftmost reduction has one
 never : {t v : Tree} → HeadReducesForever t → LeftmostReduces t v → leftmost v ≡ None → ⊥
-never f ready n =
-    let a = first_step (f 1).1 in
-    let r = leftmost_step a.1 in
+never {t = t} f ready n =
+    let h = redex_step (f t ready) in
+    let r = leftmost_step h.1 in
     some_none r.0 (sym r.1 ∙ n)
 never {t = t} f (contract {u = u} e g l) n =
-    never (λ m. (
-    let x = f (suc m) in
-    let a = first_step x.1 in
-    let r = leftmost_step a.1 in
-    (x.0, subst (λ a. Steps a x.0 m) (same_step t r.1 r.2 e g) a.2)
-    )) l n
+    let h = redex_step (f t ready) in
+    let r = leftmost_step h.1 in
+    let same : h.0 ≡ u = same_step t r.1 r.2 e g in
+    never (λ w s. f w (step_then h.1 (subst (λ a. HeadReduces a w) (sym same) s))) l n
 
 -- ---- within a term
 
@@ -127,7 +124,7 @@ Endless {c = false} ts = (ss : List (ℕ × ℕ)) (i : ℕ) (Ps : List Tree) (f 
 endless_term : (l : ℕ) (x : HeadVar) (ts : Part false) → Endless ts → Endless (term l x ts)
 endless_term l x ts up ss i P v h g r n =
     let head = variable_of ((i, l) ∷ ss) x in
-    let e = within (abstracted l) (within_lam l) (after_head g.1.1 r n) n (applied head g.0) refl in
+    let e = within (abstracted l) (within_lam l) (after_head g.1 r n) n (applied head g.0) refl in
     up ((i, l) ∷ ss) (suc i) g.0 head e.last (variable_neutral ((i, l) ∷ ss) x) h g.2 e.leads e.normal
 
 endless_more : (t : Part true) (ts : Part false) → Endless t → Endless ts → Endless (more t ts)

@@ -5,16 +5,14 @@ use Rattle.ol_readback.specs.Whole.{Part, term, lost, cut, none, more, preorder}
 use Rattle.ol_readback.specs.Terms.{abstracted, variable_of}
 use Rattle.ol_readback.specs.declared.answers.HeadVar.{HeadVar}
 use Rattle.ol_meaning.specs.Spots.{Tree, lam, app}
-use Rattle.ol_meaning.specs.Heads.{Steps, done, step}
-use Rattle.ol_meaning.specs.Shows.{ready, contract, BetaReduces, applied, Fills, Shows}
-use Rattle.ol_meaning.proofs.LeftmostSteps.{leftmost_step}
+use Rattle.ol_meaning.specs.Shows.{ready, contract, BetaReduces, HeadReduces, applied, Fills, Shows}
 use Rattle.ol_meaning.proofs.LeftmostRoads.{then_leads}
 
 -- ---- beta reduction within a term
 
-pub head_beta : {t u : Tree} {m : ℕ} → Steps t u m → BetaReduces t u
-head_beta done = ready
-head_beta (step h s) = let r = leftmost_step h in contract {at = r.0} tt r.2 (head_beta s)
+pub head_beta : {t u : Tree} → HeadReduces t u → BetaReduces t u
+head_beta ready = ready
+head_beta (contract {at = at} c e l) = contract {at = at} tt e (head_beta l)
 
 pub lam_beta : {t u : Tree} → BetaReduces t u → BetaReduces (lam t) (lam u)
 lam_beta ready = ready
@@ -50,7 +48,7 @@ module _ (b : Bool) where
   fill_term l v ts up ss i P g =
       let x = up ((i, l) ∷ ss) (suc i) g.0 g.2 in
       let h = variable_of ((i, l) ∷ ss) v in
-      (abstracted l (applied h x.0), then_leads (head_beta g.1.1) (abstracted_beta l (x.1 h)), (x.0, refl, x.2))
+      (abstracted l (applied h x.0), then_leads (head_beta g.1) (abstracted_beta l (x.1 h)), (x.0, refl, x.2))
 
   fill_more : (t : Part true) (ts : Part false) → Fill t → Fill ts → Fill (more t ts)
   fill_more t ts up next_up ss i [] g = absurd g

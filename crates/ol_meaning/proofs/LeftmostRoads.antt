@@ -11,9 +11,9 @@ use Rattle.ol_readback.specs.declared.answers.HeadVar.{HeadVar}
 use Rattle.ol_readback.specs.declared.answers.HeadVar.TheVariants as head
 use Rattle.ol_readback.proofs.OneTree.{all_left, all_right}
 use Rattle.ol_meaning.specs.Spots.{Tree, lam, app}
-use Rattle.ol_meaning.specs.Heads.{Steps, done, step}
-use Rattle.ol_meaning.specs.Shows.{ReducesBy, ready, contract, LeftmostReduces, applied, Shows}
+use Rattle.ol_meaning.specs.Shows.{ReducesBy, ready, contract, LeftmostReduces, HeadReduces, applied, Shows}
 use Rattle.ol_meaning.proofs.LeftmostSteps.{leftmost_step}
+use Rattle.ol_meaning.proofs.HeadSteps.{step_of}
 
 -- ---- leftmost steps within a term
 
@@ -22,9 +22,9 @@ pub then_leads : {Chosen : Tree → List ℕ → Type 0} {t u v : Tree} → Redu
 then_leads ready r = r
 then_leads (contract e f l) r = contract e f (then_leads l r)
 
-head_leads : {t u : Tree} {m : ℕ} → Steps t u m → LeftmostReduces t u
-head_leads done = ready
-head_leads (step h s) = let r = leftmost_step h in contract r.1 r.2 (head_leads s)
+head_leads : {t u : Tree} → HeadReduces t u → LeftmostReduces t u
+head_leads ready = ready
+head_leads (contract c e l) = let r = leftmost_step (step_of c e) in contract r.1 r.2 (head_leads l)
 
 pub lam_leads : {t u : Tree} → LeftmostReduces t u → LeftmostReduces (lam t) (lam u)
 lam_leads ready = ready
@@ -98,7 +98,7 @@ module _ (b : Bool) where
   leads_term : (l : ℕ) (v : HeadVar) (ts : Part false) → Leads ts → Leads (term l v ts)
   leads_term l v ts up ss i P h g =
       let x = up ((i, l) ∷ ss) (suc i) g.0 (variable_of ((i, l) ∷ ss) v) (variable_neutral ((i, l) ∷ ss) v) h g.2 in (
-        then_leads (head_leads g.1.1) (abstracted_leads l x.0),
+        then_leads (head_leads g.1) (abstracted_leads l x.0),
         abstracted_none l (meaning ((i, l) ∷ ss) (suc i) ts (variable_of ((i, l) ∷ ss) v)) x.1.none,
       )
 

@@ -13,6 +13,7 @@ pub mod Walking
 pub mod Seats
 pub mod Rooted
 pub mod LeftmostSteps
+pub mod HeadSteps
 pub mod Shapes
 pub mod Endless
 pub mod WrongTables

@@ -31,6 +31,7 @@ use Rattle.ol_meaning.specs.Shows.{HeadReduces, HeadReducesForever, applied, IsH
 use Rattle.ol_meaning.proofs.Walking.{least, found, is_found}
 use Rattle.ol_meaning.proofs.Shapes.{normal_is, occurrence, AreArgs, normal_shape, normal_of}
 use Rattle.ol_meaning.proofs.Endless.{forever}
+use Rattle.ol_meaning.proofs.HeadSteps.{as_steps, reduces}
 use Rattle.ol_meaning.proofs.Sights.{ahead_levels, arg_seen}
 use Rattle.ol_meaning.proofs.Matched.{ended, chain_grows, HeadSays, head_says}
 use Rattle.ol_term.specs.declared.translations.Translation.{Translation}
@@ -151,7 +152,7 @@ module _ {τ : Translation} {A : Type 0} {N : NamedNet A} {ch : Chain} {P : Tree
       by : IsHead N (F ++ framed s 0 ∷ []) (length F) no_head → ⊥
       by (heads.never f) =
           let k = normal_of g in
-          let x = is_found r.1 k.0 k.1 k.2 (levels []) k.3 in
+          let x = is_found (as_steps r).1 k.0 k.1 k.2 (levels []) k.3 in
           let t = leads_path (outer u) x.2 k.0 x.0 (cons (os k.2 empty) (levels [])) x.3 in
           f (outer u) t.0 t.1 t.2
       by (heads.leaves {n = n} {q = q} {X = X} few t (unmatched z)) =
@@ -248,7 +249,7 @@ module _ {τ : Translation} where
       record {
         args = shape.args;
         count_is = shape.count ∙ sym ek;
-        reaches = (e.steps, subst (λ u. Steps P u e.steps) form e.leads);
+        reaches = reduces (subst (λ u. Steps P u e.steps) form e.leads);
         each = all_seen N ((length F, framed s n) ∷ ch) (port_of (F ++ framed s n ∷ []) v) ls e.last
             (λ i Q a. record {
               seats = ArgSeats τ e.leads a S;

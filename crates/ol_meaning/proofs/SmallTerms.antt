@@ -1,13 +1,13 @@
 -- Reductions of small terms.
-use Rattle.std.proofs.Common.{zero, suc, [], ◌∷◌, true, refl}
+use Rattle.std.proofs.Common.{ℕ, zero, suc, [], ◌∷◌, true, refl}
 use Rattle.ol_beta.proofs.Redexes.{no_leftmost}
 use Rattle.ol_readback.specs.Whole.{term, lost, none, more}
 use Rattle.ol_readback.specs.declared.answers.HeadVar.TheVariants as head
-use Rattle.ol_meaning.specs.Spots.{var, free, lam, app, HeadStep, beta}
-use Rattle.ol_meaning.specs.Heads.{done, step}
+use Rattle.ol_meaning.specs.Spots.{Tree, var, free, lam, app, HeadStep, beta}
+use Rattle.ol_meaning.specs.Heads.{Steps, done, step}
 use Rattle.ol_meaning.specs.Shows.{ready, contract, HeadReducesForever, Shows}
 use Rattle.ol_meaning.specs.Examples.{identity, twice, self, loops, EndsIn, HasNoEnd, Unused, HasHeadAlone, SmallTerms}
-use Rattle.ol_meaning.proofs.Endless.{comes_to_none}
+use Rattle.ol_meaning.proofs.Endless.{comes_to_none, never_ends}
 use Rattle.ol_meaning.proofs.Endings.{has_no_end, no_redex}
 
 identities : EndsIn (app identity identity) identity
@@ -31,9 +31,12 @@ unused = record { leads = contract {at = []} refl refl ready; is_normal = no_lef
 again : HeadStep loops loops
 again = beta {M = app (var 0) (var 0)} {N = self}
 
+again_and_again : (m : ℕ) → (u : Tree) × Steps loops u m
+again_and_again zero = (loops, done)
+again_and_again (suc m) = let r = again_and_again m in (r.0, step again r.1)
+
 forever : HeadReducesForever loops
-forever zero = (loops, done)
-forever (suc m) = let r = forever m in (r.0, step again r.1)
+forever = never_ends again_and_again
 
 no_end : HasNoEnd
 no_end = record {
@@ -43,7 +46,7 @@ no_end = record {
 }
 
 shown : Shows true [] 0 (term 1 (head.Bound 0 1) (more lost none)) (lam (app (var 0) loops))
-shown = (loops ∷ [], (0, done), ((λ e. forever), refl))
+shown = (loops ∷ [], ready, ((λ e. forever), refl))
 
 head_alone : HasHeadAlone
 head_alone = record {

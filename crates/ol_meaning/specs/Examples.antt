@@ -3,7 +3,7 @@ use Rattle.std.specs.Prelude.{[], true}
 use Rattle.ol_beta.specs.Leftmost.{IsNormal}
 use Rattle.ol_readback.specs.Whole.{term, lost, none, more}
 use Rattle.ol_readback.specs.declared.answers.HeadVar.TheVariants as head
-use Rattle.ol_meaning.specs.Spots.{Tree, var, free, lam, app}
+use Rattle.ol_term.specs.Trees.{Tree, var, free, lam, app}
 use Rattle.ol_meaning.specs.Shows.{BetaReduces, LeftmostReduces, HeadReduces, HeadReducesForever}
 use Rattle.ol_meaning.specs.Shows.{IsHeadNormal, Fills, Shows}
 

@@ -15,7 +15,8 @@ use Rattle.ol_readback.specs.Terms.{HasAllHeads, abstracted, variable_of, term_o
 use Rattle.ol_readback.specs.declared.answers.HeadVar.{HeadVar}
 use Rattle.ol_readback.specs.declared.answers.ReadNode.{ReadNode}
 use Rattle.ol_spots_net.specs.Spots.{applications}
-use Rattle.ol_meaning.specs.Spots.{Tree, Level, empty, star, Context, Place}
+use Rattle.ol_term.specs.Trees.{Tree}
+use Rattle.ol_meaning.specs.Spots.{Level, empty, star, Context, Place}
 use Rattle.ol_meaning.specs.Heads.{os, outer, Normal, Steps, SameAlong, Arg}
 use Rattle.ol_meaning.specs.Seen.{ahead, Chain, IsChain, scope, IsSeen, WholeSeats, Within, argument, seats_of}
 use Rattle.ol_meaning.specs.Shows.{BetaReduces, LeftmostReduces, HeadReduces, HeadReducesForever}

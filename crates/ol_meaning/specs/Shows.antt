@@ -1,15 +1,15 @@
 -- What a printed tree says of a term, by head reduction, beta reduction and leftmost reduction
 -- (Barendregt, The Lambda Calculus,
 -- 1984, chapters 3, 8 and 13).
-use Rattle.std.specs.Prelude.{◌≡◌, ℕ, suc, ◌+◌, Bool, true, false, List, [], ◌∷◌, length, Some}
+use Rattle.std.specs.Prelude.{◌≡◌, ℕ, suc, ◌+◌, Bool, true, false, List, [], ◌∷◌, ◌++◌, length, replicate}
+use Rattle.std.specs.Prelude.{Some, IsSome}
+use Rattle.ol_term.specs.Trees.{Tree, var, free, lam, app}
 use Rattle.ol_beta.specs.Beta.{contracted}
 use Rattle.ol_beta.specs.Leftmost.{leftmost}
 use Rattle.ol_readback.specs.Whole.{Part, term, lost, cut, none, more, preorder}
 use Rattle.ol_readback.specs.Terms.{abstracted, variable_of}
 use Rattle.ol_readback.specs.declared.answers.ReadNode.{ReadNode}
 use Rattle.ol_readback.specs.declared.answers.ReadNode.TheVariants as node
-use Rattle.ol_meaning.specs.Spots.{Tree, var, free, lam, app}
-use Rattle.ol_meaning.specs.Heads.{Steps}
 
 -- ---- reductions
 
@@ -28,13 +28,23 @@ BetaReduces = ReducesBy (λ t at. Unit {0})
 abbrev pub LeftmostReduces : Tree → Tree → Type 0
 LeftmostReduces = ReducesBy (λ t at. leftmost t ≡ Some at)
 
--- head reduction
-abbrev pub HeadReduces : Tree → Tree → Type 0
-HeadReduces t u = (m : ℕ) × Steps t u m
+-- The address of a head redex, where one is there: some moves into bodies of abstractions, and then
+-- some into functions.
+abbrev pub IsHeadAddress : List ℕ → Type 0
+IsHeadAddress at = (bodies functions : ℕ) × (at ≡ replicate bodies 0 ++ replicate functions 1)
 
--- head reduction of a term has no end, and so comes to no head normal form
+-- head reduction: of the head redex each time
+abbrev pub HeadReduces : Tree → Tree → Type 0
+HeadReduces = ReducesBy (λ t at. IsHeadAddress at)
+
+-- a term has a head redex
+abbrev pub HasHeadRedex : Tree → Type 0
+HasHeadRedex t = (at : List ℕ) × IsHeadAddress at × IsSome (contracted t at)
+
+-- Head reduction of a term has no end: each term that it leads to has a head redex. So it comes to
+-- no head normal form.
 abbrev pub HeadReducesForever : Tree → Type 0
-HeadReducesForever t = (m : ℕ) → (u : Tree) × Steps t u m
+HeadReducesForever t = (u : Tree) → HeadReduces t u → HasHeadRedex u
 
 -- ---- head normal forms
 

@@ -68,7 +68,8 @@ abbrev pub put : ℕ → Tree → Option ℕ → Tree
 put i N None = lift 0 i N
 put i N (Some y) = var y
 
--- M with N in the place of variable i: below, M[N]
+-- M with N in the place of variable i: below, M[N]. It is `substituted` of `ol_beta`, said as the
+-- laws of spots need it (law `head_is_leftmost`).
 abbrev pub subst_for : ℕ → Tree → Tree → Tree
 subst_for i N (var y) = put i N (without i y)
 subst_for i N (free f) = free f
@@ -197,8 +198,8 @@ pub data Opens (τ : Translation) (N M : Tree) : Spot → Cut → Type 0 where
       Opens τ N M (at (wire y) w c) (inN v (at (wire y) b c))
 
 -- A head step: beta at the redex under the outer abstractions and left of all arguments. It is
--- never made within a function that
--- is an abstraction.
+-- never made within a function that is an abstraction. It is contraction at a head address (law
+-- `head_is_leftmost`), of which `HeadReduces` is made.
 pub data HeadStep : Tree → Tree → Type 0 where
   beta : {M N : Tree} → HeadStep (app (lam M) N) (subst_for 0 N M)
   below : {M M' : Tree} → HeadStep M M' → HeadStep (lam M) (lam M')

@@ -17,7 +17,8 @@ ghost use Rattle.ol_meaning.specs.Heads.{BinderStays};
 ghost use Rattle.ol_meaning.specs.Heads.{BelowHead, HatIsOne, RootStandsAtHead, ArgsAreThere};
 ghost use Rattle.ol_meaning.specs.Nets.{PathFindsHead, HeadHasPath};
 ghost use Rattle.ol_meaning.specs.Tables.{BracketIsNeeded, FanIsNotTurned};
-ghost use Rattle.ol_meaning.specs.Leftmost.{HeadIsLeftmost, OneSubstitution};
+ghost use Rattle.ol_meaning.specs.Leftmost.{HeadIsLeftmost, HeadIsContraction};
+ghost use Rattle.ol_meaning.specs.Leftmost.{StepsAreReduction, EndlessIsAnyNumber, OneSubstitution};
 ghost use Rattle.ol_meaning.specs.Meaning.{NormalIsHeadNormal, EndlessOrNormal};
 ghost use Rattle.ol_meaning.specs.Meaning.{WholeTermIsSeen, ArgIsSeen};
 ghost use Rattle.ol_meaning.specs.Meaning.{HeadIsReached, HeadIsReachedSoon, NoHeadIsEndless};
@@ -113,10 +114,15 @@ pub fn wrong_tables_mislead()
 {}
 
 /// A head step is the leftmost beta step of the term, as `ol_beta` says it: its redex is the first
-/// in preorder, and the term after the step is its contraction. The two ways to say what a term is
+/// in preorder, and the term after the step is its contraction. A head step is contraction at an
+/// address of moves into bodies and then into functions; so rows of head steps are head reduction,
+/// and it has no end exactly where any number of them is made. The two ways to say what a term is
 /// with another in a variable's place are one.
 pub fn head_is_leftmost()
     ensures step { HeadIsLeftmost }
+    ensures head { HeadIsContraction }
+    ensures row { StepsAreReduction }
+    ensures endless { EndlessIsAnyNumber }
     ensures same { OneSubstitution }
 {}
 
