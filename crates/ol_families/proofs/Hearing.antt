@@ -329,6 +329,7 @@ module _ (τ : Translation) (N : NamedNet ℕ) (letter : ℕ → ℕ → ℕ) wh
 
   pub record FunctionAt (T : Labelled) (d n k : ℕ) (F : Context → Context) (p : Site) : Type 0 where
     pub node : ℕ
+    pub index : HasNode N node kind.App (n + depth p)
     pub port : Port
     pub is : (v : Level) (c : Context) → state τ (function_at p v c) (erased T) d n k F
         ≡ Some (numbered_port port, F (context_at p (cons v c)))
@@ -353,9 +354,12 @@ module _ (τ : Translation) (N : NamedNet ℕ) (letter : ℕ → ℕ → ℕ) wh
   function_is (labels.lam b w) d n k F (of_lam m) q h g =
       let r = function_is b (d + 1) n (k + 1) F m q
       (has_lam (H N) (L N) n k (subnet_of τ (erased b) (d + 1) n (k + 1)) h).part g.1 in
-      record { node = r.node; port = r.port; is = λ v c. r.is v c; link = r.link; label = r.label }
+      record { node = r.node; index = r.index; port = r.port; is = λ v c. r.is v c; link = r.link; label = r.label }
   function_is (labels.app f a w) d n k F whole q h g = record {
     node = k;
+    index = subst (λ i. HasNode N k kind.App i) (let e : n ≡ n + 0 = omega arith in e)
+        (has_head (H N) (L N) n k (bare_variable τ d (erased a)) (subnet_of τ (erased f) d n (k + 1))
+        (argument τ (erased f) (erased a) d n k) h).node;
     port = (subnet_of τ (erased f) d n (k + 1)).root;
     is = λ v c. refl;
     link = (has_head (H N) (L N) n k (bare_variable τ d (erased a)) (subnet_of τ (erased f) d n (k + 1))
@@ -365,7 +369,7 @@ module _ (τ : Translation) (N : NamedNet ℕ) (letter : ℕ → ℕ → ℕ) wh
   function_is (labels.app f a w) d n k F (of_function m) q h g =
       let r = function_is f d n (k + 1) F m q (has_head (H N) (L N) n k (bare_variable τ d (erased a))
       (subnet_of τ (erased f) d n (k + 1)) (argument τ (erased f) (erased a) d n k) h).function g.2 in
-      record { node = r.node; port = r.port; is = λ v c. r.is v c; link = r.link; label = r.label }
+      record { node = r.node; index = r.index; port = r.port; is = λ v c. r.is v c; link = r.link; label = r.label }
   function_is (labels.app f a w) d n k F (of_argument {p = p} {v = v} m) q h g =
       by (λ F h. function_is a d (n + 1) (k + 1 + length (subnet_of τ (erased f) d n (k + 1)).nodes) F m q h g.3)
       (bare_variable τ d (erased a)) refl
@@ -383,6 +387,8 @@ module _ (τ : Translation) (N : NamedNet ℕ) (letter : ℕ → ℕ → ℕ) wh
           (argument τ (erased f) (erased a) d n k))) e h)).argument in
           record {
             node = r.node;
+            index = subst (λ i. HasNode N r.node kind.App i) (let z : n + 1 + depth p ≡ n + suc
+                (depth p) = omega arith in z) r.index;
             port = r.port;
             is = λ u c. ap (λ o. arg_state o (function_at p u c) k (λ c. F (cons v c))
                 (state τ (function_at p u c) (erased a) d (n + 1)

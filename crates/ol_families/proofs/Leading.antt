@@ -36,18 +36,18 @@ flat_outer (app t u) e = refl
 
 module _ (τ : Translation) where
   -- where the redex of a head step stands
-  record Leads (T : Labelled) (d : Label) : Type 0 where
-    site : Site
-    other : Site
-    function : Tree
-    argument : Tree
-    is : PartAt (erased T) site (app (lam function) argument)
-    is_other : PartAt (erased T) other (lam function)
-    same : (v : Level) (c : Context) → function_at site v c ≡ abstraction_at other v c
-    degree : function_label T site ≡ d
-    way : (v : Level) (c : Context) → (l : Level) × (n : ℕ) × Trail (Edge τ (erased T)) (at root (os (outer (erased T)) v) c) (function_at site l c) n
+  pub record Leads (T : Labelled) (d : Label) : Type 0 where
+    pub site : Site
+    pub other : Site
+    pub function : Tree
+    pub argument : Tree
+    pub is : PartAt (erased T) site (app (lam function) argument)
+    pub is_other : PartAt (erased T) other (lam function)
+    pub same : (v : Level) (c : Context) → function_at site v c ≡ abstraction_at other v c
+    pub degree : function_label T site ≡ d
+    pub way : (v : Level) (c : Context) → (l : Level) × (n : ℕ) × Trail (Edge τ (erased T)) (at root (os (outer (erased T)) v) c) (function_at site l c) n
 
-  leads : {T U : Labelled} {d : Label} → HeadContracts T d U → Leads T d
+  pub leads : {T U : Labelled} {d : Label} → HeadContracts T d U → Leads T d
   leads (at_redex b c v w) = record {
     site = self;
     other = in_function self;
@@ -90,7 +90,7 @@ module _ (τ : Translation) where
       }
 
   -- nothing is read where nothing is crossed
-  silent : (T : Labelled) {s z : Spot} → s ≡ z → (u : Trail (Edge τ (erased T)) s z 0) × (word_along T u ≡ [])
+  pub silent : (T : Labelled) {s z : Spot} → s ≡ z → (u : Trail (Edge τ (erased T)) s z 0) × (word_along T u ≡ [])
   silent T {s} e = subst (λ z. (u : Trail (Edge τ (erased T)) s z 0) × (word_along T u ≡ [])) e (here, refl)
 
 pub degrees_are_met : DegreesAreMet

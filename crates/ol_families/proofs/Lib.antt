@@ -26,4 +26,12 @@ pub mod Saying
 pub mod Told
 pub mod Betas
 pub mod Wanting
+pub mod DegreesWanted
+pub mod Answering
 pub mod Lettering
+pub mod Untouched
+pub mod Wider
+pub mod MetSeen
+pub mod Exactly
+pub mod HeadFamilies
+pub mod AllFamilies

@@ -25,7 +25,7 @@ use Rattle.ol_families.proofs.Motions.{moved_append, moved_back, moved_there}
 
 module _ (N : NamedNet ℕ) (n : IsNet N) (letter : ℕ → ℕ → ℕ) where
   -- so many crossings from port p with context c, the port and the context after the last, and what is read
-  data Says (p : NamedPort ℕ) (c : Context) : ℕ → NamedPort ℕ → Context → Signs → Type 0 where
+  pub data Says (p : NamedPort ℕ) (c : Context) : ℕ → NamedPort ℕ → Context → Signs → Type 0 where
     start : Says p c 0 p c []
     rises : {m x s : ℕ} {u : NamedPort ℕ} {d e : Context} {a : Signs} (k : Kind) (i : ℕ) → Says p c m u d a →
         Linked N u (slot x (suc s)) → HasNode N x k i → s < arity k → up k i s d ≡ e →
@@ -147,23 +147,23 @@ module _ (N : NamedNet ℕ) (n : IsNet N) (letter : ℕ → ℕ → ℕ) where
   shared_still kind.Eraser x s f g = refl
 
   -- the first crossing and the rest
-  record FirstUp (x s : ℕ) (w : List (Crossing ℕ)) (a : Signs) : Type 0 where
-    kind_is : Kind
-    index : ℕ
-    node : HasNode N x kind_is index
-    after : Signs
-    is : a ≡ rising letter kind_is x s ++ after
-    rest : Signed N letter w after
+  pub record FirstUp (x s : ℕ) (w : List (Crossing ℕ)) (a : Signs) : Type 0 where
+    pub kind_is : Kind
+    pub index : ℕ
+    pub node : HasNode N x kind_is index
+    pub after : Signs
+    pub is : a ≡ rising letter kind_is x s ++ after
+    pub rest : Signed N letter w after
 
-  record FirstDown (x s : ℕ) (w : List (Crossing ℕ)) (a : Signs) : Type 0 where
-    kind_is : Kind
-    index : ℕ
-    node : HasNode N x kind_is index
-    after : Signs
-    is : a ≡ reversed (rising letter kind_is x s) ++ after
-    rest : Signed N letter w after
+  pub record FirstDown (x s : ℕ) (w : List (Crossing ℕ)) (a : Signs) : Type 0 where
+    pub kind_is : Kind
+    pub index : ℕ
+    pub node : HasNode N x kind_is index
+    pub after : Signs
+    pub is : a ≡ reversed (rising letter kind_is x s) ++ after
+    pub rest : Signed N letter w after
 
-  first_up : {x s : ℕ} {w : List (Crossing ℕ)} {a : Signs} → Signed N letter (rise x s ∷ w) a → FirstUp x s w a
+  pub first_up : {x s : ℕ} {w : List (Crossing ℕ)} {a : Signs} → Signed N letter (rise x s ∷ w) a → FirstUp x s w a
   first_up (shared_up {x = x} {s = s} {a = a} k h f g S) = record {
     kind_is = k;
     index = h.0;
@@ -177,7 +177,7 @@ module _ (N : NamedNet ℕ) (n : IsNet N) (letter : ℕ → ℕ → ℕ) where
   first_up (from_body h S) = record { kind_is = kind.Lam; index = h.0; node = h.1; after = _; is = refl; rest = S }
   first_up (from_variable h S) = record { kind_is = kind.Lam; index = h.0; node = h.1; after = _; is = refl; rest = S }
 
-  first_down : {x s : ℕ} {w : List (Crossing ℕ)} {a : Signs} → Signed N letter (fall x s ∷ w) a → FirstDown x s w a
+  pub first_down : {x s : ℕ} {w : List (Crossing ℕ)} {a : Signs} → Signed N letter (fall x s ∷ w) a → FirstDown x s w a
   first_down (shared_down {x = x} {s = s} {a = a} k h f g S) = record {
     kind_is = k;
     index = h.0;
@@ -204,7 +204,7 @@ module _ (N : NamedNet ℕ) (n : IsNet N) (letter : ℕ → ℕ → ℕ) where
     says : Says p c made port d a
     there : Linked N port q
 
-  no_signs : {a : Signs} → Signed N letter [] a → [] ≡ a
+  pub no_signs : {a : Signs} → Signed N letter [] a → [] ≡ a
   no_signs nothing = refl
 
   row_says : {p q r : NamedPort ℕ} {w : List (Crossing ℕ)} {b c d : Context} {m : ℕ} {a g : Signs} →
@@ -232,13 +232,13 @@ module _ (N : NamedNet ℕ) (n : IsNet N) (letter : ℕ → ℕ → ℕ) where
   -- ---- what moves lead to, it comes to
 
   module _ (r : Acting) (x0 : ℕ) (c0 : Context) (bar : Bars x0 c0) (y0 : Signs) where
-    record Along (u : NamedPort ℕ) (d : Context) (y : Signs) : Type 0 where
-      made : ℕ
-      port : NamedPort ℕ
-      signs : Signs
-      says : Says (slot x0 0) c0 made port d signs
-      there : Linked N port u ⊎ (port ≡ u)
-      is : moved r signs y0 ≡ y
+    pub record Along (u : NamedPort ℕ) (d : Context) (y : Signs) : Type 0 where
+      pub made : ℕ
+      pub port : NamedPort ℕ
+      pub signs : Signs
+      pub says : Says (slot x0 0) c0 made port d signs
+      pub there : Linked N port u ⊎ (port ≡ u)
+      pub is : moved r signs y0 ≡ y
 
     link_along : (u q : NamedPort ℕ) (d : Context) (y : Signs) → Linked N u q → Along u d y → Along q d y
     link_along u q d y l a = record {
@@ -343,7 +343,7 @@ module _ (N : NamedNet ℕ) (n : IsNet N) (letter : ℕ → ℕ → ℕ) where
           is = moved_append r a.signs (rising letter k x s) y0 ∙ ap (moved r (rising letter k x s)) a.is;
         }
 
-    all_along : {v : (NamedPort ℕ × Context) × Signs} → Joined (Heard N letter r) ((slot x0 0, c0), y0) v →
+    pub all_along : {v : (NamedPort ℕ × Context) × Signs} → Joined (Heard N letter r) ((slot x0 0, c0), y0) v →
         Along v.0.0 v.0.1 v.1
     all_along edges.here = record { made = 0; port = slot x0 0; signs = []; says = start; there = inr refl; is = refl }
     all_along (edges.on j (linked {p = p} {q = q} {c = d} {y = y} l)) = link_along p q d y l (all_along j)
@@ -355,7 +355,7 @@ module _ (N : NamedNet ℕ) (n : IsNet N) (letter : ℕ → ℕ → ℕ) where
         i x s c d y z h low f g (all_along j)
 
     -- no walk leaves by a principal port with a context that nothing leads in with
-    not_left : {m : ℕ} {u : NamedPort ℕ} {d : Context} {a : Signs} (y : ℕ) → Says (slot x0 0) c0 m u d a →
+    pub not_left : {m : ℕ} {u : NamedPort ℕ} {d : Context} {a : Signs} (y : ℕ) → Says (slot x0 0) c0 m u d a →
         (x0 ≡ y → ⊥) →
         Bars y d → u ≡ slot y 0 → ⊥
     not_left y start f b e = f (nodes_one e)

@@ -82,12 +82,12 @@ module _ {A : Type 0} (N : NamedNet A) (letter : A → ℕ → ℕ) where
 
 -- ---- a route under other names
 
-abbrev row_under : {B : Type 0} → (ℕ → B) → List (Crossing ℕ) → List (Crossing B)
+abbrev pub row_under : {B : Type 0} → (ℕ → B) → List (Crossing ℕ) → List (Crossing B)
 row_under m [] = []
 row_under m (rise x s ∷ w) = rise (m x) s ∷ row_under m w
 row_under m (fall x s ∷ w) = fall (m x) s ∷ row_under m w
 
-abbrev route_under : {B : Type 0} → (ℕ → B) → Route ℕ → Route B
+abbrev pub route_under : {B : Type 0} → (ℕ → B) → Route ℕ → Route B
 route_under m s = record { from = m s.from; row = row_under m s.row; to = m s.to }
 
 module _ {B : Type 0} (m : ℕ → B) (N : NamedNet ℕ) (M : NamedNet B) (n : IsNet M) (I : IsNamed m N M) where
@@ -124,7 +124,7 @@ module _ {B : Type 0} (m : ℕ → B) (N : NamedNet ℕ) (M : NamedNet B) (n : I
 -- ---- an empty level lets nothing in
 
 module _ (N : NamedNet ℕ) (n : IsNet N) (letter : ℕ → ℕ → ℕ) where
-  bars_lam : (y j : ℕ) → HasNode N y kind.Lam j → (vs : List Level) → length vs ≡ j → Bars N n letter y (put vs blank)
+  pub bars_lam : (y j : ℕ) → HasNode N y kind.Lam j → (vs : List Level) → length vs ≡ j → Bars N n letter y (put vs blank)
   bars_lam y j h vs l k i s h' b e = by (n.one_node y kind.Lam k j i h h').0 (n.one_node y kind.Lam k j i h h').1
     where
       by : kind.Lam ≡ k → j ≡ i → ⊥
@@ -133,7 +133,7 @@ module _ (N : NamedNet ℕ) (n : IsNet N) (letter : ℕ → ℕ → ℕ) where
           (sym q) (subst (λ i. up k i s b ≡ put vs blank) (sym r) e) in
           marked_empty s (b j) (sym (at_its_level j s b) ∙ ap (λ (c : Context). c j) e' ∙ above vs blank j l)
 
-  bars_app : (y j : ℕ) → HasNode N y kind.App j → (vs : List Level) → length vs ≡ j → Bars N n letter y (put vs blank)
+  pub bars_app : (y j : ℕ) → HasNode N y kind.App j → (vs : List Level) → length vs ≡ j → Bars N n letter y (put vs blank)
   bars_app y j h vs l k i s h' b e = by (n.one_node y kind.App k j i h h').0 (n.one_node y kind.App k j i h h').1
     where
       by : kind.App ≡ k → j ≡ i → ⊥

@@ -101,7 +101,7 @@ module _ (τ : Translation) {T U : Labelled} {d : Label} (k : Step τ T d U) whe
 
 module _ (τ : Translation) where
   -- a redex with an alike word is wanted: of the whole, or of an argument once the head is there
-  data Wants : Bool → Labelled → Signs → Type 0 where
+  pub data Wants : Bool → Labelled → Signs → Type 0 where
     of_whole : {T : Labelled} {g : Signs} (p : Site) (m : IsWanted τ (erased T) p) →
         AreAlike (word_of T p m.comes.matched) g → Wants true T g
     of_args : {T : Labelled} {g : Signs} (q : Place) (a : Level) (j : ℕ) → Normal (erased T) q a j →
@@ -112,10 +112,10 @@ module _ (τ : Translation) where
 
   -- ---- a redex of a part is one of the whole, with the same word
 
-  abbrev Lifted : (T : Labelled) → Site → Signs → Type 0
+  abbrev pub Lifted : (T : Labelled) → Site → Signs → Type 0
   Lifted T p g = (m : IsMatched τ (erased T) p) × AreAlike (word_of T p m) g
 
-  lift_fun : (f a : Labelled) (w : Label) (q : Site) (m : IsMatched τ (erased f) q) →
+  pub lift_fun : (f a : Labelled) (w : Label) (q : Site) (m : IsMatched τ (erased f) q) →
       Lifted (labels.app f a w) (in_function q) (word_of f q m)
   lift_fun f a w q m =
       let W = in_the_fun {t = erased f} {p = erased a} {L = f} {P = a} w (record {
@@ -138,7 +138,7 @@ module _ (τ : Translation) where
             ∙ sym (moved_append r (signs_of (function_label f q)) (word_along f m.trail) x),
       )
 
-  lift_arg : (f a : Labelled) (w : Label) (v : Level) (q : Site) (m : IsMatched τ (erased a) q) →
+  pub lift_arg : (f a : Labelled) (w : Label) (v : Level) (q : Site) (m : IsMatched τ (erased a) q) →
       Lifted (labels.app f a w) (in_argument v q) (word_of a q m)
   lift_arg f a w v q m =
       let W = in_the_arg {t = erased f} {p = erased a} {L = f} {P = a} w v (record {
@@ -161,7 +161,7 @@ module _ (τ : Translation) where
             ∙ sym (moved_append r (signs_of (function_label a q)) (word_along a m.trail) x),
       )
 
-  lift_lam : (b : Labelled) (w : Label) (q : Site) (m : IsMatched τ (erased b) q) →
+  pub lift_lam : (b : Labelled) (w : Label) (q : Site) (m : IsMatched τ (erased b) q) →
       Lifted (labels.lam b w) (in_lam q) (word_of b q m)
   lift_lam b w q m =
       let W = in_the_body {t = erased b} {L = b} w (record {
@@ -219,21 +219,21 @@ module _ (τ : Translation) where
   some_none : {X : Type 0} {a : X} → Some a ≡ None → ⊥
   some_none e = absurd (cc)
 
-  record LeftStep (T : Labelled) (d : Label) (U : Labelled) : Type 0 where
-    place : List ℕ
-    first : leftmost (erased T) ≡ Some place
-    degree_is : degree T place ≡ Some d
-    gives : contracted T place ≡ Some U
+  pub record LeftStep (T : Labelled) (d : Label) (U : Labelled) : Type 0 where
+    pub place : List ℕ
+    pub first : leftmost (erased T) ≡ Some place
+    pub degree_is : degree T place ≡ Some d
+    pub gives : contracted T place ≡ Some U
 
   mapped : {X Y : Type 0} (f : X → Y) (o : Option X) (y : Y) → option_map f o ≡ Some y →
       (x : X) × (o ≡ Some x) × (y ≡ f x)
   mapped f None y e = absurd (cc)
   mapped f (Some x) y e = (x, refl, sym (some_one e))
 
-  abbrev InFunction : Labelled → Labelled → Label → Label → Labelled → Type 0
+  abbrev pub InFunction : Labelled → Labelled → Label → Label → Labelled → Type 0
   InFunction f a w d U = (g : Labelled) × LeftStep f d g × (U ≡ labels.app g a w)
 
-  abbrev InArgument : Labelled → Labelled → Label → Label → Labelled → Type 0
+  abbrev pub InArgument : Labelled → Labelled → Label → Label → Labelled → Type 0
   InArgument f a w d U = (leftmost (erased f) ≡ None) × ((b : Labelled) × LeftStep a d b × (U ≡ labels.app f b w))
 
   app_first : (f a : Labelled) (w : Label) → is_abstraction (erased f) ≡ false →
@@ -242,7 +242,7 @@ module _ (τ : Translation) where
   app_first f a w e = ap (λ b. if b then Some [] else first_of_two (beta_steps.under 1 (leftmost (erased f)))
       (beta_steps.under 2 (leftmost (erased a)))) e
 
-  app_step : (f a : Labelled) (w d : Label) (U : Labelled) → is_abstraction (erased f) ≡ false →
+  pub app_step : (f a : Labelled) (w d : Label) (U : Labelled) → is_abstraction (erased f) ≡ false →
       LeftStep (labels.app f a w) d U → InFunction f a w d U ⊎ InArgument f a w d U
   app_step f a w d U plain s = by (leftmost (erased f)) refl (leftmost (erased a)) refl
     where
@@ -288,7 +288,7 @@ module _ (τ : Translation) where
           ∙ ap (λ x. first_of_two (beta_steps.under 1 x) (beta_steps.under 2 (leftmost (erased a)))) e
           ∙ ap (λ y. beta_steps.under 2 y) e'))
 
-  lam_step : (b : Labelled) (w d : Label) (U : Labelled) → LeftStep (labels.lam b w) d U →
+  pub lam_step : (b : Labelled) (w d : Label) (U : Labelled) → LeftStep (labels.lam b w) d U →
       (c : Labelled) × LeftStep b d c × (U ≡ labels.lam c w)
   lam_step b w d U s = by (leftmost (erased b)) refl
     where
@@ -309,32 +309,32 @@ module _ (τ : Translation) where
           )
       by None e = absurd (some_none (sym s.first ∙ ap (λ x. beta_steps.under 0 x) e))
 
-  spine_plain : {t : Tree} {y : Wire} {a : Level} {j : ℕ} → Spine t y a j → is_abstraction t ≡ false
+  pub spine_plain : {t : Tree} {y : Wire} {a : Level} {j : ℕ} → Spine t y a j → is_abstraction t ≡ false
   spine_plain head_var = refl
   spine_plain head_free = refl
   spine_plain (head_app s e) = refl
 
   -- ---- what a leftmost step doesn't contract stays wanted
 
-  abbrev IsNormalHead : Tree → Type 0
+  abbrev pub IsNormalHead : Tree → Type 0
   IsNormalHead t = (q : Place) × (a : Level) × (j : ℕ) × Normal t q a j
 
-  abbrev OnWhole : Labelled → Type 0
+  abbrev pub OnWhole : Labelled → Type 0
   OnWhole T = (d : Label) (U : Labelled) → LeftStep T d U → (g : Signs) → Wants true T g →
       AreAlike g (signs_of d) ⊎ Wants true U g
 
   -- a head with arguments stays one, and so does a head normal form
-  abbrev IsSpine : Tree → Type 0
+  abbrev pub IsSpine : Tree → Type 0
   IsSpine t = (y : Wire) × (a : Level) × (j : ℕ) × Spine t y a j
 
-  abbrev Keeps' : Labelled → Label → Labelled → Type 0
+  abbrev pub Keeps' : Labelled → Label → Labelled → Type 0
   Keeps' T d U = (g : Signs) → Wants false T g → AreAlike g (signs_of d) ⊎ Wants false U g
 
-  abbrev OnSpine : Labelled → Type 0
+  abbrev pub OnSpine : Labelled → Type 0
   OnSpine T = (y : Wire) (a : Level) (j : ℕ) → Spine (erased T) y a j → (d : Label) (U : Labelled) → LeftStep T d U →
       IsSpine (erased U) × Keeps' T d U
 
-  abbrev OnArgs : Labelled → Type 0
+  abbrev pub OnArgs : Labelled → Type 0
   OnArgs T = (q : Place) (a : Level) (j : ℕ) → Normal (erased T) q a j → (d : Label) (U : Labelled) → LeftStep T d U →
       IsNormalHead (erased U) × Keeps' T d U
 
@@ -423,12 +423,12 @@ module _ (τ : Translation) where
   flat_on : (f a : Labelled) (w : Label) → OnSpine (labels.app f a w) → OnArgs (labels.app f a w)
   flat_on f a w up q l j (flat s) d U t = of_spine (labels.app f a w) up _ l j s d U t
 
-  record Steps' (T : Labelled) : Type 0 where
-    on_spine : OnSpine T
-    on_args : OnArgs T
-    on_whole : OnWhole T
+  pub record Steps' (T : Labelled) : Type 0 where
+    pub on_spine : OnSpine T
+    pub on_args : OnArgs T
+    pub on_whole : OnWhole T
 
-  stays_wanted : (T : Labelled) → Steps' T
+  pub stays_wanted : (T : Labelled) → Steps' T
   stays_wanted (labels.var y w) =
       let n : OnArgs (labels.var y w) = λ q a j k d U s. absurd (some_none (sym s.first)) in
       record {

@@ -2,4 +2,7 @@
 pub mod Words
 pub mod Signs
 pub mod Readings
+pub mod Wanted
 pub mod Families
+pub mod HeadFamilies
+pub mod AllFamilies

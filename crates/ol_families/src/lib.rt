@@ -3,15 +3,19 @@
 //! Each function here is a law: it has no code.
 #![tactic(auto)]
 
+ghost use Rattle.ol_families.specs.AllFamilies.{BetasAreFamilies};
 ghost use Rattle.ol_families.specs.Families.{LabelsHaveTheirSigns, SignsTellRoutes};
 ghost use Rattle.ol_families.specs.Families.{NoMoreBetasThanFamilies};
 ghost use Rattle.ol_families.specs.Families.{BetasAreNoMoreThanFamilies};
+ghost use Rattle.ol_families.specs.HeadFamilies.{SeenByWiderQuestions, SeenByFirstQuestion};
+ghost use Rattle.ol_families.specs.HeadFamilies.{BetasAreHeadFamilies};
 ghost use Rattle.ol_families.specs.Readings.{HeadStepsKeepWords, WordsAreDegrees};
 ghost use Rattle.ol_families.specs.Readings.{DegreesAreMet, HeadIsLeftmost, SiteHasOneWord};
 ghost use Rattle.ol_families.specs.Readings.{NoMoreThanFamilies, NoMoreThanLeftmostFamilies};
 ghost use Rattle.ol_families.specs.Readings.{DegreesAreWords};
 ghost use Rattle.ol_families.specs.Readings.{WordsAreLeftmostDegrees};
 ghost use Rattle.ol_families.specs.Signs.{WordsAreSigned};
+ghost use Rattle.ol_families.specs.Wanted.{DegreesAreWanted, WantedAreDegrees};
 ghost use Rattle.ol_families.specs.Words.{WordsTellRoutes, WordIsOne, BetasHaveTheirWords};
 
 /// Different routes of a net have different words, where the letters of its edges are different.
@@ -72,6 +76,15 @@ pub fn degrees_are_words()
     ensures { DegreesAreWords }
 {}
 
+/// Each degree of a redex that leftmost reduction contracts, in arguments of a head too, is the word
+/// of a redex of the first term, there or to come, to which a question after a place of the term
+/// comes, where neighbours that cancel are left out. And where leftmost reduction leads to a normal
+/// form, the word of each redex to which such a question comes is a degree that it contracts.
+pub fn degrees_are_wanted()
+    ensures degrees { DegreesAreWanted }
+    ensures words { WantedAreDegrees }
+{}
+
 /// A label is told by its signs, letter by letter and with where overlined and underlined words
 /// begin and end, also where neighbours that cancel are left out.
 pub fn labels_have_their_signs()
@@ -92,4 +105,27 @@ pub fn signs_tell_routes()
 pub fn no_more_betas_than_families()
     ensures head { NoMoreBetasThanFamilies }
     ensures leftmost { BetasAreNoMoreThanFamilies }
+{}
+
+/// What the walk sees that asks the root of a levelled net for some number of abstractions, the
+/// walk that asks for more sees too. Where the first one leaves, the second sees nothing else.
+pub fn wider_questions_see_alike<A>()
+    ensures wider { SeenByWiderQuestions A }
+    ensures first { SeenByFirstQuestion A }
+{}
+
+/// Demand order that is asked for one head makes just as many beta steps as there are families. Let
+/// each subterm of a term have a letter of its own, and let head reduction of the labelled term end
+/// in a head normal form. Then a demand run of the term's net, by either translation, that asks for
+/// one head, and ends, has as many beta steps as head reduction contracts different degrees.
+pub fn betas_are_head_families()
+    ensures { BetasAreHeadFamilies }
+{}
+
+/// Demand order makes just as many beta steps as there are families. Let each subterm of a term have
+/// a letter of its own, and let leftmost reduction of the labelled term end in a normal form. Then a
+/// demand run of the term's net, by either translation, that has a head at each place, and so prints
+/// a term, has as many beta steps as leftmost reduction contracts different degrees.
+pub fn betas_are_families()
+    ensures { BetasAreFamilies }
 {}

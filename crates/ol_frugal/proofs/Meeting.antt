@@ -9,6 +9,7 @@ use Rattle.ol_meaning.proofs.Mains.{Chain, top, down, chain_trail}
 use Rattle.ol_meaning.proofs.Walking.{short_os, passing, least_or, root_stays}
 use Rattle.ol_term.specs.declared.translations.Translation.{Translation}
 use Rattle.ol_frugal.specs.Met.{IsMatched, IsMet, blank}
+pub use Rattle.ol_frugal.specs.Wanted.{Comes}
 use Rattle.ol_spots_net.specs.Sites.{Site, self, in_lam, in_function, in_argument, spot_in, PartAt, function_at}
 use Rattle.ol_frugal.proofs.Sites.{base, Is, Stands, no_root, same_site}
 use Rattle.ol_frugal.proofs.Heads.{Goes, step_of}
@@ -25,14 +26,6 @@ app_is (app F A) h = (F, A, refl)
 app_is (var _) h = elim h [ ]
 app_is (free _) h = elim h [ ]
 app_is (lam _) h = elim h [ ]
-
--- a walk comes to the application of a redex at this site
-pub record Comes (τ : Translation) (t : Tree) (s : Spot) (p : Site) : Type 0 where
-  pub matched : IsMatched τ t p
-  pub level : Level
-  pub later : Context
-  pub steps : ℕ
-  pub way : Trail (Edge τ t) s (function_at p level later) steps
 
 -- ---- with too few marks, no application is met
 

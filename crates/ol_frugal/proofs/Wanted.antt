@@ -11,28 +11,13 @@ use Rattle.ol_meaning.specs.Heads.{StandsAt}
 use Rattle.ol_term.specs.declared.translations.Translation.{Translation}
 use Rattle.ol_spots_net.specs.Sites.{Site, in_lam, in_function, in_argument, PartAt, function_at}
 use Rattle.ol_frugal.specs.Met.{IsMatched, blank}
+pub use Rattle.ol_frugal.specs.Wanted.{Asks, whole, part, IsWanted}
 use Rattle.ol_frugal.proofs.Sites.{Stands, same_site}
 use Rattle.ol_frugal.proofs.Heads.{step_of}
 use Rattle.ol_frugal.proofs.Meeting.{app_is, lam_is, Comes, Becomes, goes_on, root_goes}
 use Rattle.ol_frugal.proofs.Lanes.{OnSpine, unmatched, none_met}
 use Rattle.ol_frugal.proofs.Inside.{put_in, To, Placed, Seat, follow_in, seat}
 use Rattle.ol_meaning.proofs.Endless.{spine_stops, normal_stops}
-
--- Where a question's walk begins: at the term's root, asked for some number of abstractions; or
--- where such a place of an argument stands, once head steps have come to a head normal form.
-pub data Asks (τ : Translation) : Tree → Place → Level → Context → Type 0 where
-  whole : {P : Tree} (n : ℕ) {v : Level} {c : Context} → v ≡ os n empty → Asks τ P root v c
-  part : {P u Q : Tree} {m i : ℕ} {x y : Place} {v w : Level} {c d : Context} (b : Level)
-      (s : Steps P u m) (k : Arg u i Q) → Asks τ Q x v c → StandsAt τ k empty x v c y b d → SameAlong τ s y w b →
-      Asks τ P y w d
-
--- the walk comes to the application of a redex at this site
-pub record IsWanted (τ : Translation) (t : Tree) (p : Site) : Type 0 where
-  pub place : Place
-  pub first : Level
-  pub rest : Context
-  pub asks : Asks τ t place first rest
-  pub comes : Comes τ t (at place first rest) p
 
 -- ---- a term has one head step
 
