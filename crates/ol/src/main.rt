@@ -63,8 +63,10 @@ fn run<'a, R: Files + Input + Print + Threads + Wait + Sync>(
 
     // After `ol demand NAME` it is a text of the normal form, where there is one and variables
     // stand in at most 4,096 places of it, and the `beta` is no more than the redexes that leftmost
-    // reduction contracts on its way to it. After `ol equal A B` the line is `equal` only where the
-    // two terms are convertible, and begins with `different` only where they aren't.
+    // reduction contracts on its way to it, nor than the families among these, told by Lévy's
+    // labels. And where the line is a text of a term it is the number of these families. After
+    // `ol equal A B` the line is `equal` only where the two terms are convertible, and begins with
+    // `different` only where they aren't.
     ensures plain_demand { result.status ≡ Status.Done
         → OfReadFiles [] (⟦<StdSource<'a, R> as Source>⟧.readings result.src) (λ files.
         PlainDemandFinds words.now.items files (Some [])

@@ -121,38 +121,41 @@ abbrev pub IsNoMoreThanLeftmost : Named → ℕ → Type 0
 IsNoMoreThanLeftmost source beta = (v : Tree) (r : LeftmostReduces (by_names_of source source) v) → IsNormal v →
     beta ≤ steps_of r
 
--- What was appended, where the sink tells it, is a line and the nine lines of counts; of the number
--- of beta steps this is said.
-pub record CountsSay (Says : ℕ → Type 0) (old new : Option (List ℕ)) : Type 0 where
+-- What was appended, where the sink tells it, is a line and the nine lines of counts; of the line
+-- and the number of beta steps this is said.
+pub record CountsSay (Says : List ℕ → ℕ → Type 0) (old new : Option (List ℕ)) : Type 0 where
   pub line : List ℕ
   pub counts : Counts
   pub stuck : ℕ
   pub one : IsLine line
   pub written : Appended old (answer_text line counts stuck) new
-  pub says : Says counts.beta
+  pub says : Says line counts.beta
 
 -- the `beta` of `demand` is no more than the steps of leftmost reduction
 abbrev pub PlainDemandIsFrugal : List (String Global) → Files → Option (List ℕ) → Option (List ℕ) → Type 0
 PlainDemandIsFrugal words files old new = (name : Text) → ArePlain words (codes "demand") name →
     (bytes : List ℕ) → files 0 name ≡ Some bytes → (source : Named) → IsText bytes source →
-    CountsSay (IsNoMoreThanLeftmost source) old new
+    CountsSay (λ line. IsNoMoreThanLeftmost source) old new
 
 -- Let the subterms of the source have labels, each a letter of its own. Where leftmost reduction
--- leads to a normal form, there are as many different degrees among those that it contracts, so at
--- least so many families (Lévy).
-abbrev pub IsNoMoreThanFamilies : Named → ℕ → Type 0
-IsNoMoreThanFamilies source beta = (T v : Labelled) (degrees : List Label) →
+-- leads to a normal form, there are as many beta steps as some different degrees among those that it
+-- contracts, so at least so many families (Lévy). And where the line is a text of a term, these
+-- degrees are all: there are just as many families.
+abbrev pub AreFamilies : Named → List ℕ → ℕ → Type 0
+AreFamilies source line beta = (T v : Labelled) (degrees : List Label) →
     erased T ≡ by_names_of source source → HaveOwnLetters T →
     LeftmostContracts T degrees v → IsNormal (erased v) →
     (es : List Label) × AreDifferent es × ((e : Label) → IsIn e es → IsIn e degrees)
     × (beta ≡ length es)
+    × ((result : Named) → IsText line result → (e : Label) → IsIn e degrees → IsIn e es)
 
--- the `beta` of `demand` is no more than the families of leftmost reduction
+-- The `beta` of `demand` is no more than the families of leftmost reduction, and as many where the
+-- line is a text of a term.
 abbrev pub PlainDemandIsOptimal : List (String Global) → Files → Option (List ℕ) →
     Option (List ℕ) → Type 0
 PlainDemandIsOptimal words files old new = (name : Text) → ArePlain words (codes "demand") name →
     (bytes : List ℕ) → files 0 name ≡ Some bytes → (source : Named) → IsText bytes source →
-    CountsSay (IsNoMoreThanFamilies source) old new
+    CountsSay (AreFamilies source) old new
 
 -- the words are the program's name, `equal` and the names of two files: no options, and not
 -- standard input for both
