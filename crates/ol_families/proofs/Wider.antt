@@ -12,7 +12,7 @@ use Rattle.ol_edges.specs.Edges.{Joined}
 use Rattle.ol_edges.specs.Edges as edges
 use Rattle.ol_frugal.proofs.Seeing.{IsAlong, is_along}
 use Rattle.ol_levels.specs.Levels.{IsLevelled}
-use Rattle.ol_meaning.proofs.Walking.{least_or}
+use Rattle.ol_meaning.proofs.Walking.{least_or, os_sum}
 use Rattle.ol_net.specs.Nets.{NamedPort, free, slot, NamedNet, HasNode, Linked, IsNet}
 use Rattle.ol_net.specs.Parts.{arity}
 use Rattle.ol_net.specs.declared.parts.Kind.{Kind}
@@ -113,18 +113,12 @@ module _ {A : Type 0} (N : NamedNet A) where
       by (inl l) = edges.on (moves_of a.way) (link l)
       by (inr e) = subst (λ u. Joined (Move N) (free p, c) (u, d)) e (moves_of a.way)
 
--- so many marks and then so many
-os_more : (m k : ℕ) (v : Level) → os m (os k v) ≡ os (m + k) v
-os_more zero k v = let e : 0 + k ≡ k = omega arith in ap (λ n. os n v) (sym e)
-os_more (suc m) k v =
-    let e : suc m + k ≡ suc (m + k) = omega arith in ap o (os_more m k v) ∙ ap (λ n. os n v) (sym e)
-
 -- the levels of a question after the first
 abbrev pub rest : Context
 rest = tail (asked [] 0)
 
 pub asked_is : (m k : ℕ) → cons (os m (os k empty)) rest ≡ asked [] (m + k)
-asked_is m k = ap (λ v. cons v rest) (os_more m k empty) ∙ eta (asked [] (m + k))
+asked_is m k = ap (λ v. cons v rest) (os_sum m k empty) ∙ eta (asked [] (m + k))
 
 pub asked_first : (m : ℕ) → cons (os m empty) rest ≡ asked [] m
 asked_first m = eta (asked [] m)
