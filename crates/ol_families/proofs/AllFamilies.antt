@@ -86,14 +86,14 @@ runs_are_of_families τ T v ws r z own t e = subst (RunsAreOfFamilies τ ws) e
       comes = m;
     }))
     (λ e i.
-        let F = degree_found τ T v ws r e i in
-        let m = F.wanted in
-        let x = is_answered τ (erased T) names h (net_under Init K) heads M d.turns journal d.asked_places d.last start
-        paths d.run w.1 w.0 m.place m.first m.rest m.asks F.close F.reached in
-        let y = seen_here τ T names h K n same start L.letter L.atoms L.are x.0 (cons m.first m.rest)
-        (word_of T F.site m.comes.matched) (at_port τ T names h L.letter L.are m.place m.first m.rest F.site m.comes
-        x.0 x.1) e F.alike in
-        (x.0, cons m.first m.rest, x.2, y.0, y.1, y.2)))
+    let F = degree_found τ T v ws r e i in
+    let m = F.wanted in
+    let x = is_answered τ (erased T) names h (net_under Init K) heads M d.turns journal d.asked_places d.last start
+    paths d.run w.1 w.0 m.place m.first m.rest m.asks F.close F.reached in
+    let y = seen_here τ T names h K n same start L.letter L.atoms L.are x.0 (cons m.first m.rest)
+    (word_of T F.site m.comes.matched) (at_port τ T names h L.letter L.are m.place m.first m.rest F.site m.comes
+    x.0 x.1) e F.alike in
+    (x.0, cons m.first m.rest, x.2, y.0, y.1, y.2)))
 
 pub betas_are_families : BetasAreFamilies
 betas_are_families τ T v ws r z own names h g n same heads journal places M d all =
