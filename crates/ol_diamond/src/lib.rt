@@ -23,7 +23,10 @@ mod square;
 mod wave_laws;
 mod weighing;
 
-pub use laws::{birth_follows, birth_names_are_one, complete_runs_agree, done_means_done, names_stay_apart, no_run_is_longer, pair_to_front, pairs_commute};
+pub use laws::{
+    birth_follows, birth_names_are_one, complete_runs_agree, done_means_done, names_stay_apart,
+    no_run_is_longer, pair_to_front, pairs_commute,
+};
 pub use one_thread::{one_thread_agrees, same_nets_run_alike};
 pub use square::{Square, SquareFault, two_orders};
 pub use wave_laws::{heaviest_stays, runs_have_waves, waves_agree};
