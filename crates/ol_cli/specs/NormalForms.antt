@@ -131,7 +131,7 @@ pub record CountsSay (Says : List ℕ → ℕ → Type 0) (old new : Option (Lis
   pub written : Appended old (answer_text line counts stuck) new
   pub says : Says line counts.beta
 
--- the `beta` of `demand` is no more than the steps of leftmost reduction
+-- the `beta` of `demand` is no more than the steps of leftmost reduction to a normal form, if there is one
 abbrev pub PlainDemandIsFrugal : List (String Global) → Files → Option (List ℕ) → Option (List ℕ) → Type 0
 PlainDemandIsFrugal words files old new = (name : Text) → ArePlain words (codes "demand") name →
     (bytes : List ℕ) → files 0 name ≡ Some bytes → (source : Named) → IsText bytes source →
@@ -149,8 +149,8 @@ AreFamilies source line beta = (T v : Labelled) (degrees : List Label) →
     × (beta ≡ length es)
     × ((result : Named) → IsText line result → (e : Label) → IsIn e degrees → IsIn e es)
 
--- The `beta` of `demand` is no more than the families of leftmost reduction, and as many where the
--- line is a text of a term.
+-- The `beta` of `demand` is no more than the families of leftmost reduction to a normal form, where
+-- there is one, and as many where the line is a text of a term.
 abbrev pub PlainDemandIsOptimal : List (String Global) → Files → Option (List ℕ) →
     Option (List ℕ) → Type 0
 PlainDemandIsOptimal words files old new = (name : Text) → ArePlain words (codes "demand") name →

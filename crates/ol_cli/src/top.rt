@@ -178,8 +178,8 @@ pub fn ol<R: Threads + Wait + Sync, S: Source, W: Sink, G: Gate + Sync>(
         → PlainDemandIsFrugal words.now.items files (W.taken out.old) (W.taken out.new))) }
 
     // Nor is it more than the number of families among these redexes, told by Lévy's labels. And
-    // where the line is a text of a term it is that number: no way of contracting whole families at
-    // once makes fewer beta steps.
+    // where the line is a text of a term it is that number. (By a theorem of Lévy's, which isn't
+    // proved here, no way of contracting whole families at once leads to the normal form by fewer.)
     ensures plain_optimal { OfReadFiles (S.readings src.old) (S.readings src.new) (λ files.
         IfNoneFailed (S.faults src.old) (S.faults src.new) (W.faults out.old) (W.faults out.new)
         (result.status ≡ Status.Done

@@ -40,9 +40,9 @@ pub fn words_are_signed<A>()
 {}
 
 /// A labelled head step keeps the words of redexes that walks from the root meet, those that are
-/// there and those that come later, where neighbours that cancel are left out: what is read on the
-/// way from an application to its abstraction. So each of these words is the degree of a redex that
-/// head reduction contracts, where it ends. The redex of each head step is met, with its degree as
+/// there and those that come later, but that of the redex that it contracts, where neighbours that
+/// cancel are left out: what is read on the way from an application to its abstraction. So each of
+/// these words is the degree of a redex that head reduction contracts, where it ends. The redex of each head step is met, with its degree as
 /// word; and a labelled head step is the leftmost labelled step.
 pub fn head_steps_keep_words()
     ensures kept { HeadStepsKeepWords }
@@ -71,7 +71,7 @@ pub fn no_more_than_families()
 /// Each degree of a redex that labelled head steps contract is the word of a redex, there or to
 /// come, that walks from the root of the first term meet, where neighbours that cancel are left
 /// out. So, where head reduction ends, the words of the redexes that these walks meet are just the
-/// degrees.
+/// degrees (that each is one: law `head_steps_keep_words`).
 pub fn degrees_are_words()
     ensures { DegreesAreWords }
 {}
