@@ -1,6 +1,5 @@
 -- Demand order makes as many beta steps for a normal form as there are families.
-use Rattle.std.proofs.Common.{◌≡◌, ℕ, List, [], ◌∷◌, ◌++◌, map, refl, sym, ap, ◌∙◌, subst}
-use Rattle.std.specs.Option.{option_map}
+use Rattle.std.proofs.Common.{◌≡◌, ℕ, List, [], ◌∷◌, ◌++◌, map, refl, sym, subst}
 use Rattle.ol_beta.specs.Leftmost.{IsNormal}
 use Rattle.ol_context.specs.Contexts.{Level, Context, cons, tail}
 use Rattle.ol_demand.specs.Demands.{IsDemandRun}
@@ -9,15 +8,11 @@ use Rattle.ol_demand.proofs.Onward.{is_start}
 use Rattle.ol_frugal.proofs.Meeting.{Comes}
 use Rattle.ol_frugal.proofs.Questions.{question_asks}
 use Rattle.ol_invariance.proofs.SameNets.{start_paths}
-use Rattle.ol_meaning.specs.Shows.{LeftmostReduces}
-use Rattle.ol_meaning.specs.Shows as reductions
 use Rattle.ol_meaning.proofs.Endings.{no_redex}
 use Rattle.ol_net.specs.Nets.{NamedNet, IsNet, SameNet, net_under}
 use Rattle.ol_net.specs.Numbered.{net_of}
 use Rattle.ol_net.specs.declared.parts.Rule.TheVariants as rule
 use Rattle.ol_optimal.specs.Labels.{Label, Labelled, erased, LeftmostContracts}
-use Rattle.ol_optimal.specs.Labels as labels
-use Rattle.ol_optimal.proofs.Erasing.{labels_erase}
 use Rattle.ol_readback.specs.ReadTrees.{Subterm}
 use Rattle.ol_readback.specs.Terms.{HasAllHeads}
 use Rattle.ol_readback.specs.declared.answers.ReadNode.{ReadNode}
@@ -99,10 +94,3 @@ pub betas_are_families : BetasAreFamilies
 betas_are_families τ T v ws r z own names h g n same heads journal places M d all =
     runs_are_of_families τ T v ws r z own (erased T) refl names h (net_of g) n same (is_start g n) heads journal places
     M d all
-
--- without labels it is leftmost reduction
-pub erased_reduces : (T v : Labelled) (ws : List Label) → LeftmostContracts T ws v →
-    LeftmostReduces (erased T) (erased v)
-erased_reduces T v ws labels.ready = reductions.ready
-erased_reduces T v ws (labels.contract {u = U} {ws = us} place first d c r) =
-    reductions.contract first (sym (labels_erase T place) ∙ ap (option_map erased) c) (erased_reduces U v us r)

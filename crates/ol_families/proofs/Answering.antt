@@ -346,7 +346,7 @@ module _ (τ : Translation) (t : Tree) (names : ℕ) (h : HasNames t names) wher
 
   -- ---- a run
 
-  all_heads : (ps ns : List ReadNode) → HasAllHeads (ps ++ ns) → HasAllHeads ps × HasAllHeads ns
+  pub all_heads : (ps ns : List ReadNode) → HasAllHeads (ps ++ ns) → HasAllHeads ps × HasAllHeads ns
   all_heads [] ns h = (tt, h)
   all_heads (node.Head l v k ∷ ps) ns h = all_heads ps ns h
   all_heads (node.NoHead ∷ ps) ns h = absurd h

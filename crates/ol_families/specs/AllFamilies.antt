@@ -20,9 +20,9 @@ use Rattle.ol_families.specs.Families.{HaveOwnLetters}
 use Rattle.ol_families.specs.HeadFamilies.{HasSoManyDifferent}
 
 -- Where leftmost reduction leads from a term, each of whose subterms has its own letter, to a
--- normal form, a demand run of its net, by either translation, that has a head at each place, and so
--- prints a term, makes as many beta steps as there are families that leftmost reduction contracts:
--- as different degrees.
+-- normal form, a demand run of its net, by either translation, that has a head at each place, and
+-- so prints a term, makes as many beta steps as there are families that leftmost reduction
+-- contracts: as different degrees.
 abbrev pub BetasAreFamilies : Type 0
 BetasAreFamilies = (τ : Translation) (T v : Labelled) (ws : List Label) →
     LeftmostContracts T ws v → IsNormal (erased v) →

@@ -25,8 +25,8 @@ use Rattle.ol_translate.specs.Translation.{translation_of}
 use Rattle.ol_families.specs.Families.{HaveOwnLetters}
 use Rattle.ol_families.specs.Readings.{HeadReduces, AreDifferent}
 
--- What the walk sees that asks the root of a levelled net for some abstractions, that which asks for
--- more sees too. It sees no more than the first where that one leaves.
+-- What the walk sees that asks the root of a levelled net for some abstractions, that which asks
+-- for more sees too. It sees no more than the first where that one leaves.
 abbrev pub SeenByWiderQuestions : Type 0 → Type 0
 SeenByWiderQuestions A = (N : NamedNet A) → IsNet N → IsLevelled N → (m n : ℕ) (s : Route A) →
     m ≤ n → IsSeen N 0 (asked [] m) s → IsSeen N 0 (asked [] n) s

@@ -10,8 +10,9 @@ use Rattle.ol_term.specs.declared.translations.Translation.{Translation}
 use Rattle.ol_families.specs.Signs.{signs_of}
 use Rattle.ol_families.specs.Readings.{AreAlike, word_of}
 
--- Each degree that leftmost reduction contracts, on the way too, is the word of a redex of the first
--- term, there or to come, to which a question comes: where neighbours that cancel are left out.
+-- Each degree that leftmost reduction contracts, on the way too, is the word of a redex of the
+-- first term, there or to come, to which a question comes: where neighbours that cancel are left
+-- out.
 abbrev pub DegreesAreWanted : Type 0
 DegreesAreWanted = (τ : Translation) (T v : Labelled) (ws : List Label) →
     LeftmostContracts T ws v → (w : Label) → IsIn w ws →

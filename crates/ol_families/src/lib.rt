@@ -76,10 +76,10 @@ pub fn degrees_are_words()
     ensures { DegreesAreWords }
 {}
 
-/// Each degree of a redex that leftmost reduction contracts, in arguments of a head too, is the word
-/// of a redex of the first term, there or to come, to which a question after a place of the term
-/// comes, where neighbours that cancel are left out. And where leftmost reduction leads to a normal
-/// form, the word of each redex to which such a question comes is a degree that it contracts.
+/// Each degree of a redex that leftmost reduction contracts, in arguments of a head too, is the
+/// word of a redex of the first term, there or to come, to which a question after a place of the
+/// term comes, where neighbours that cancel are left out. And where leftmost reduction leads to a
+/// normal form, the word of each redex to which such a question comes is a degree that it contracts.
 pub fn degrees_are_wanted()
     ensures degrees { DegreesAreWanted }
     ensures words { WantedAreDegrees }
@@ -122,10 +122,10 @@ pub fn betas_are_head_families()
     ensures { BetasAreHeadFamilies }
 {}
 
-/// Demand order makes just as many beta steps as there are families. Let each subterm of a term have
-/// a letter of its own, and let leftmost reduction of the labelled term end in a normal form. Then a
-/// demand run of the term's net, by either translation, that has a head at each place, and so prints
-/// a term, has as many beta steps as leftmost reduction contracts different degrees.
+/// Demand order makes just as many beta steps as there are families. Let each subterm of a term
+/// have a letter of its own, and let leftmost reduction of the labelled term end in a normal form.
+/// Then a demand run of the term's net, by either translation, that has a head at each place, and
+/// so prints a term, has as many beta steps as leftmost reduction contracts different degrees.
 pub fn betas_are_families()
     ensures { BetasAreFamilies }
 {}

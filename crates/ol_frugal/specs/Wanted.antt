@@ -8,7 +8,8 @@ use Rattle.ol_term.specs.Trees.{Tree}
 use Rattle.ol_term.specs.declared.translations.Translation.{Translation}
 use Rattle.ol_frugal.specs.Met.{IsMatched}
 
--- a walk comes to the application of a redex at this site, one that is there or comes after some steps
+-- a walk comes to the application of a redex at this site, one that is there or comes after some
+-- steps
 pub record Comes (τ : Translation) (t : Tree) (s : Spot) (p : Site) : Type 0 where
   pub matched : IsMatched τ t p
   pub level : Level
