@@ -35,3 +35,4 @@ pub mod MetSeen
 pub mod Exactly
 pub mod HeadFamilies
 pub mod AllFamilies
+pub mod Labelling

@@ -6,3 +6,4 @@ pub mod Wanted
 pub mod Families
 pub mod HeadFamilies
 pub mod AllFamilies
+pub mod Labelling

@@ -9,6 +9,8 @@ ghost use Rattle.ol_families.specs.Families.{NoMoreBetasThanFamilies};
 ghost use Rattle.ol_families.specs.Families.{BetasAreNoMoreThanFamilies};
 ghost use Rattle.ol_families.specs.HeadFamilies.{SeenByWiderQuestions, SeenByFirstQuestion};
 ghost use Rattle.ol_families.specs.HeadFamilies.{BetasAreHeadFamilies};
+ghost use Rattle.ol_families.specs.Labelling.{EachTermHasLetters, LeftmostIsLabelled};
+ghost use Rattle.ol_families.specs.Labelling.{LabelledIsLeftmost};
 ghost use Rattle.ol_families.specs.Readings.{HeadStepsKeepWords, WordsAreDegrees};
 ghost use Rattle.ol_families.specs.Readings.{DegreesAreMet, HeadIsLeftmost, SiteHasOneWord};
 ghost use Rattle.ol_families.specs.Readings.{NoMoreThanFamilies, NoMoreThanLeftmostFamilies};
@@ -128,4 +130,14 @@ pub fn betas_are_head_families()
 /// so prints a term, has as many beta steps as leftmost reduction contracts different degrees.
 pub fn betas_are_families()
     ensures { BetasAreFamilies }
+{}
+
+/// What the laws on families ask of labels can always be had. Each term can be labelled so that each
+/// of its subterms has a letter of its own. Whatever the labels of a term are, each leftmost
+/// reduction of the term without them is one of the labelled term, with as many degrees as it has
+/// steps. And each leftmost reduction of a labelled term is one of the term without its labels.
+pub fn labels_can_be_had()
+    ensures letters { EachTermHasLetters }
+    ensures steps { LeftmostIsLabelled }
+    ensures erased { LabelledIsLeftmost }
 {}
