@@ -98,36 +98,48 @@ letters_between (trees.app f a) n v (inr h) =
 different_append : (xs ys : List Label) → AreDifferent xs → AreDifferent ys →
     ((x : Label) → IsIn x xs → IsIn x ys → ⊥) → AreDifferent (xs ++ ys)
 different_append [] ys d e o = e
-different_append (x ∷ xs) ys d e o =
-    ((λ h. elim (in_either x xs ys h) [
-      | inl j ↦ d.0 j
-      | inr j ↦ o x (inl refl) j
-    ]), different_append xs ys d.1 e (λ y h j. o y (inr h) j))
+different_append (x ∷ xs) ys d e o = (
+  (λ h. elim (in_either x xs ys h) [
+    | inl j ↦ d.0 j
+    | inr j ↦ o x (inl refl) j
+  ]),
+  different_append xs ys d.1 e (λ y h j. o y (inr h) j),
+)
 
 different_letters : (t : Tree) (n : ℕ) → AreDifferent (labels_in (lettered t n))
 different_letters (trees.var k) n = ((λ h. h), tt)
 different_letters (trees.free k) n = ((λ h. h), tt)
-different_letters (trees.lam t) n =
-    ((λ h. not_both n (suc n) (suc n) (suc n + term_size t) (atom n none) (omega arith) (first_letter n)
-    (letters_between t (suc n) (atom n none) h)), different_letters t (suc n))
-different_letters (trees.app f a) n =
-    ((λ h. elim (in_either (atom n none) (labels_in (lettered f (suc n)))
-    (labels_in (lettered a (suc n + term_size f))) h) [
-      | inl j ↦ not_both n (suc n) (suc n) (suc n + term_size f) (atom n none) (omega arith) (first_letter n)
-          (letters_between f (suc n) (atom n none) j)
-      | inr j ↦ not_both n (suc n) (suc n + term_size f) (suc n + term_size f + term_size a) (atom n none) (omega arith)
-          (first_letter n) (letters_between a (suc n + term_size f) (atom n none) j)
-    ]), different_append (labels_in (lettered f (suc n))) (labels_in (lettered a (suc n + term_size f)))
-    (different_letters f (suc n)) (different_letters a (suc n + term_size f))
-    (λ x h j. not_both (suc n) (suc n + term_size f) (suc n + term_size f) (suc n + term_size f + term_size a) x
-    (omega arith) (letters_between f (suc n) x h) (letters_between a (suc n + term_size f) x j)))
+different_letters (trees.lam t) n = (
+  (λ h. not_both n (suc n) (suc n) (suc n + term_size t) (atom n none) (omega arith) (first_letter n)
+      (letters_between t (suc n) (atom n none) h)),
+  different_letters t (suc n),
+)
+different_letters (trees.app f a) n = (
+  (λ h. elim (in_either (atom n none) (labels_in (lettered f (suc n)))
+      (labels_in (lettered a (suc n + term_size f))) h) [
+        | inl j ↦ not_both n (suc n) (suc n) (suc n + term_size f) (atom n none) (omega arith) (first_letter n)
+            (letters_between f (suc n) (atom n none) j)
+        | inr j ↦ not_both n (suc n) (suc n + term_size f) (suc n + term_size f + term_size a) (atom n none)
+            (omega arith) (first_letter n) (letters_between a (suc n + term_size f) (atom n none) j)
+      ]),
+  different_append (labels_in (lettered f (suc n))) (labels_in (lettered a (suc n + term_size f)))
+      (different_letters f (suc n)) (different_letters a (suc n + term_size f))
+      (λ x h j. not_both (suc n) (suc n + term_size f) (suc n + term_size f) (suc n + term_size f + term_size a) x
+      (omega arith) (letters_between f (suc n) x h) (letters_between a (suc n + term_size f) x j)),
+)
 
 pub each_term_has_letters : EachTermHasLetters
-each_term_has_letters t =
-    (lettered t 0, erased_lettered t 0, (different_letters t 0, λ v h. (
+each_term_has_letters t = (
+  lettered t 0,
+  erased_lettered t 0,
+  (
+    different_letters t 0,
+    λ v h. (
       (letters_between t 0 v h).letter,
       (letters_between t 0 v h).is,
-    )))
+    ),
+  ),
+)
 
 -- ---- steps
 

@@ -1,5 +1,5 @@
--- Each term can have its labels, and leftmost reduction goes on with them: what the laws on families
--- ask of labels can always be had.
+-- Each term can have its labels, and leftmost reduction goes on with them: what the laws on
+-- families ask of labels can always be had.
 use Rattle.std.specs.Prelude.{◌≡◌, List, length}
 use Rattle.ol_frugal.specs.Steps.{steps_of}
 use Rattle.ol_meaning.specs.Shows.{LeftmostReduces}

@@ -132,8 +132,8 @@ pub fn betas_are_families()
     ensures { BetasAreFamilies }
 {}
 
-/// What the laws on families ask of labels can always be had. Each term can be labelled so that each
-/// of its subterms has a letter of its own. Whatever the labels of a term are, each leftmost
+/// What the laws on families ask of labels can always be had. Each term can be labelled so that
+/// each of its subterms has a letter of its own. Whatever the labels of a term are, each leftmost
 /// reduction of the term without them is one of the labelled term, with as many degrees as it has
 /// steps. And each leftmost reduction of a labelled term is one of the term without its labels.
 pub fn labels_can_be_had()
