@@ -1,5 +1,5 @@
 -- Demand order makes as many beta steps for a head as there are families.
-use Rattle.std.proofs.Common.{◌≡◌, ℕ, suc, inl, inr, List, [], ◌∷◌, ◌++◌, map, length, refl, sym, ap}
+use Rattle.std.proofs.Common.{◌≡◌, ℕ, inl, inr, List, [], ◌∷◌, ◌++◌, map, length, refl, sym, ap}
 use Rattle.std.proofs.Common.{◌∙◌, subst, arith}
 use Rattle.ol_context.specs.Asked.{asked}
 use Rattle.ol_context.specs.Contexts.{Context, tail}
@@ -19,7 +19,7 @@ use Rattle.ol_frugal.proofs.Meeting.{Comes}
 use Rattle.ol_levels.specs.Asked.{HasAskedHeadsOf}
 use Rattle.ol_levels.specs.Asked as asked_for
 use Rattle.ol_levels.proofs.DemandPlaces.{demand_tells}
-use Rattle.ol_meaning.specs.Heads.{Steps, done, step}
+use Rattle.ol_meaning.proofs.HeadSteps.{step_then}
 use Rattle.ol_meaning.specs.Shows as tree
 use Rattle.ol_meaning.proofs.Based.{term_seen}
 use Rattle.ol_meaning.proofs.Endless.{comes_to_none}
@@ -190,11 +190,10 @@ module _ (τ : Translation) (T : Labelled) (names : ℕ) (h : HasNames (erased T
 -- labelled head steps are head steps
 tree_steps : (τ : Translation) {T V : Labelled} {ds : List Label} → HeadReduces T ds V →
     tree.HeadReduces (erased T) (erased V)
-tree_steps τ ready = (0, done)
+tree_steps τ ready = tree.ready
 tree_steps τ {V = V} (contract h r) =
     let k = step_of τ h in
-    let y = tree_steps τ r in
-    (suc y.0, step k.step (subst (λ t. Steps t (erased V) y.0) (sym k.is) y.1))
+    step_then k.step (subst (λ t. tree.HeadReduces t (erased V)) (sym k.is) (tree_steps τ r))
 
 -- the first place has a head
 first_head : (N : NamedNet NodeName) (ns : List ReadNode) →

@@ -65,7 +65,7 @@ other_term = (
   ((refl, tt), own),
   (λ h. let f : false ≡ true = h.0.0 in absurd (cc)),
   (tt, own_inner),
-  λ h. not_inner h.1.0,
+  λ h. not_inner h.1,
 )
 
 one_name : (n m : ℕ) → Convertible (tree.free n) (tree.free m) → n ≡ m
@@ -83,5 +83,5 @@ names_apart c =
 pub reduct : ReductMisleads
 reduct = (
   contract {at = []} tt refl ready,
-  λ h. let e : None ≡ Some (tree.free 0) = sym (h.1.1 []) in absurd (cc),
+  λ h. let e : None ≡ Some (tree.free 0) = sym (h.2 []) in absurd (cc),
 )
