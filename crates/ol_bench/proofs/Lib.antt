@@ -3,3 +3,11 @@ pub mod Named
 pub mod Walks
 pub mod OneSubject
 pub mod Traced
+pub mod Tables
+pub mod Walking
+pub mod OneNet
+pub mod Renumbered
+pub mod Seeking
+pub mod KeptRuns
+pub mod Told
+pub mod Onward

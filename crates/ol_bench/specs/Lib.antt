@@ -4,8 +4,15 @@ pub mod Subjects
 pub mod Steps
 pub mod Tables
 pub mod Orders
+pub mod Same
+pub mod NamedTexts
+pub mod Afters
 pub mod Commands
 pub mod Statuses
 -- What only contracts of private functions and proofs cite.
 pub mod Readied
 pub mod Counted
+pub mod Meetings
+pub mod Walked
+pub mod Seconds
+pub mod Replays

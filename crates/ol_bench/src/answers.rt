@@ -7,6 +7,8 @@ pub enum End {
     Yes,
     /// The answer is no.
     No,
+    /// The answer is no, and there is nothing to show: the text says why.
+    Nothing,
     /// A file was refused: the text says why.
     Refused,
 }

@@ -6,23 +6,33 @@
 //! - `ordering`: the command `journal`: a run in one of two orders
 //! - `placing`: the command `where`: the line and the column of a byte
 //! - `stepping`: the command `steps`: leftmost reduction, term by term
+//! - `pausing`: the command `after`: the net after the first lines of a journal
+//! - `comparing`: the command `same`: whether two nets are one up to the numbers of their nodes
+//! - `replaying`: a run from a net along the first lines of a journal
+//! - `naming`: a net as a text, under the names of a run
 //! - `answers`: what the commands answer
 //! - `texts`: pieces of texts
-//! - `top`: a command, from its file to what is written
+//! - `top`: a command, from its files to what is written
 #![tactic(auto)]
 
 mod answers;
+mod comparing;
 mod counting;
+mod naming;
 mod ordering;
+mod pausing;
 mod placing;
+mod replaying;
 mod stepping;
 mod subjects;
 mod texts;
 mod top;
 
 pub use answers::{Answer, End};
+pub use comparing::same;
 pub use counting::{Bounds, Column, Row, counted};
 pub use ordering::{Order, journal};
+pub use pausing::after;
 pub use placing::whereabouts;
 pub use stepping::steps;
 pub use subjects::Subject;

@@ -1,14 +1,17 @@
-//! A command, from its file to what is written.
+//! A command, from its files to what is written.
 
 ghost use Rattle.std.specs.Prelude.{◌≡◌, ℕ, List, Option, ◌≤◌, length, true, codes, IfOk};
 ghost use Rattle.ol_io.specs.Readings.{AreOfSince};
-ghost use Rattle.ol_bench.specs.Commands.{IsAnswer, IsCause, IsWithinBounds, WritesAnswer, limit_line, most_of, name_of};
+ghost use Rattle.ol_bench.specs.Commands.{IsAnswer, IsCause, IsWithinBounds, WritesAnswer, has_second, limit_line, most_of, name_of, second_most, second_of};
+ghost use Rattle.ol_bench.specs.Seconds.{IsCauseOnward};
 ghost use Rattle.ol_bench.specs.Subjects.{most_bytes};
 ghost use Rattle.ol_bench.specs.Statuses.{status_number};
 
 use crate::answers::{Answer, End};
+use crate::comparing::same;
 use crate::counting::{Bounds, counted};
 use crate::ordering::{Order, journal};
+use crate::pausing::after;
 use crate::placing::whereabouts;
 use crate::stepping::steps;
 use crate::subjects::Subject;
@@ -16,7 +19,7 @@ use crate::texts::put;
 use ol_io::{NoMemory, ReadAll, Sink, Source, Written, read_all, write_all};
 use std::alloc::Global;
 
-/// What is asked: a command, with the name of its file; `-` is standard input.
+/// What is asked: a command, with the names of its files; `-` is standard input.
 #[derive(Debug, Drop)]
 pub enum Asked {
     /// Where a byte stands, counted from 0.
@@ -43,6 +46,18 @@ pub enum Asked {
         heads: u32,
         name: String,
     },
+    /// The net after so many lines of a journal.
+    After {
+        subject: Subject,
+        lines: u32,
+        name: String,
+        journal: String,
+    },
+    /// Whether two nets are one up to the numbers of their nodes.
+    Same {
+        name: String,
+        other: String,
+    },
 }
 
 /// How a call of the bench ended.
@@ -50,7 +65,7 @@ pub enum Asked {
 pub enum Status {
     /// The answer is yes, or there was no question of yes and no. It was written.
     Yes,
-    /// The answer is no. It was written.
+    /// The answer is no. It was written, to the sink of errors where there is nothing to show.
     No,
     /// The file was refused or couldn't be read. Why was written to the sink of errors.
     Refused,
@@ -75,7 +90,7 @@ impl Status {
     }
 }
 
-// The name of the file.
+// The name of the file, the first one where there are two.
 fn name_of(asked: &Asked) -> &str
     ensures { result.now ≡ name_of asked.now }
 {
@@ -84,6 +99,30 @@ fn name_of(asked: &Asked) -> &str
         Asked::Steps { name, .. } => name.as_str(),
         Asked::Counts { name, .. } => name.as_str(),
         Asked::Journal { name, .. } => name.as_str(),
+        Asked::After { name, .. } => name.as_str(),
+        Asked::Same { name, .. } => name.as_str(),
+    }
+}
+
+// Whether there is a second file.
+fn has_second(asked: &Asked) -> bool
+    ensures { result ≡ has_second asked.now }
+{
+    match asked {
+        Asked::After { .. } => true,
+        Asked::Same { .. } => true,
+        _ => false,
+    }
+}
+
+// The name of the second file, where there is one.
+fn second_of(asked: &Asked) -> &str
+    ensures { result.now ≡ second_of asked.now }
+{
+    match asked {
+        Asked::After { journal, .. } => journal.as_str(),
+        Asked::Same { other, .. } => other.as_str(),
+        _ => "",
     }
 }
 
@@ -106,6 +145,18 @@ fn most_of(asked: &Asked) -> usize
         Asked::Steps { .. } => 1_048_576,
         Asked::Counts { subject, .. } => most_bytes(*subject),
         Asked::Journal { subject, .. } => most_bytes(*subject),
+        Asked::After { subject, .. } => most_bytes(*subject),
+        Asked::Same { .. } => 33_554_432,
+    }
+}
+
+// The most bytes of the second file.
+fn second_most(asked: &Asked) -> usize
+    ensures { result ≡ second_most asked.now }
+{
+    match asked {
+        Asked::Same { .. } => 33_554_432,
+        _ => 402_653_184,
     }
 }
 
@@ -120,11 +171,12 @@ fn limit_line(most: usize) -> &'static str
     }
 }
 
-// The answer to the bytes of the file.
-fn of_bytes(alloc: Global, asked: &Asked, bytes: &[u8]) -> Result<Answer, NoMemory>
+// The answer to the bytes of the file, and to those of the second one.
+fn of_bytes(alloc: Global, asked: &Asked, bytes: &[u8], more: &[u8]) -> Result<Answer, NoMemory>
     requires short { length bytes.now ≤ most_of asked.now }
+    requires short_more { has_second asked.now ≡ true → length more.now ≤ second_most asked.now }
     requires bounds { IsWithinBounds asked.now }
-    ensures { IfOk result (λ a. IsAnswer asked.now bytes.now a.text.items a.end) }
+    ensures { IfOk result (λ a. IsAnswer asked.now bytes.now more.now a.text.items a.end) }
 {
     match asked {
         Asked::Where { byte, .. } => {
@@ -153,6 +205,14 @@ fn of_bytes(alloc: Global, asked: &Asked, bytes: &[u8]) -> Result<Answer, NoMemo
             let answer = journal(alloc, bytes, *subject, *order, *fuel, *heads)?;
             Ok(answer)
         }
+        Asked::After { subject, lines, .. } => {
+            let answer = after(alloc, bytes, more, *subject, *lines)?;
+            Ok(answer)
+        }
+        Asked::Same { .. } => {
+            let answer = same(alloc, bytes, more)?;
+            Ok(answer)
+        }
     }
 }
 
@@ -167,13 +227,52 @@ fn refusal(alloc: Global, line: &str) -> Result<Answer, NoMemory>
     Ok(Answer { text, end })
 }
 
+// The answer where the file has these bytes. The second one is read, where there is one.
+fn onward<S: Source>(
+    alloc: Global,
+    asked: &Asked,
+    bytes: &[u8],
+    src: &mut S,
+) -> Result<Answer, NoMemory>
+    requires known { has_second asked.now ≡ true → S.knows src.old (second_of asked.now) ≡ true }
+    requires short { length bytes.now ≤ most_of asked.now }
+    requires bounds { IsWithinBounds asked.now }
+    ensures caused { (files : ℕ → List ℕ → Option (List ℕ))
+        → AreOfSince files (S.readings src.old) (S.readings src.new)
+        → IfOk result (λ a. IsCauseOnward asked.now bytes.now (files 0 (second_of asked.now))
+        (S.faults src.old) (S.faults src.new) a.text.items a.end) }
+    ensures told { AreOfSince (λ _. S.contents src.old) (S.readings src.old) (S.readings src.new) }
+{
+    if !has_second(asked) {
+        let answer = of_bytes(alloc, asked, bytes, b"")?;
+        return Ok(answer);
+    }
+    match read_all(alloc, src, second_of(asked), second_most(asked)) {
+        Err(ReadAll::NoMemory) => Err(NoMemory),
+        Err(ReadAll::Fault) => {
+            let answer = refusal(alloc, "read fault\n")?;
+            Ok(answer)
+        }
+        Err(ReadAll::TooLong) => {
+            let answer = refusal(alloc, limit_line(second_most(asked)))?;
+            Ok(answer)
+        }
+        Ok(more) => {
+            let answer = of_bytes(alloc, asked, bytes, &more)?;
+            Ok(answer)
+        }
+    }
+}
+
 // The answer to what is asked.
 fn answer<S: Source>(alloc: Global, asked: &Asked, src: &mut S) -> Result<Answer, NoMemory>
     requires known { S.knows src.old (name_of asked.now) ≡ true }
+    requires second { has_second asked.now ≡ true → S.knows src.old (second_of asked.now) ≡ true }
     requires bounds { IsWithinBounds asked.now }
     ensures caused { (files : ℕ → List ℕ → Option (List ℕ))
         → AreOfSince files (S.readings src.old) (S.readings src.new)
         → IfOk result (λ a. IsCause asked.now (files 0 (name_of asked.now))
+        (files 1 (second_of asked.now))
         (S.faults src.old) (S.faults src.new) a.text.items a.end) }
     ensures told { AreOfSince (λ _. S.contents src.old) (S.readings src.old) (S.readings src.new) }
 {
@@ -188,15 +287,16 @@ fn answer<S: Source>(alloc: Global, asked: &Asked, src: &mut S) -> Result<Answer
             Ok(answer)
         }
         Ok(bytes) => {
-            let answer = of_bytes(alloc, asked, &bytes)?;
+            let answer = onward(alloc, asked, &bytes, src)?;
             Ok(answer)
         }
     }
 }
 
-/// Reads the file of a command, and writes its answer: to `out`, or to `errors` where the file is
-/// refused or can't be read. A file with a term has at most 1,048,576 bytes, one with a net
-/// 33,554,432, and one in which a place is asked 402,653,184.
+/// Reads the files of a command, and writes its answer: to `out`, or to `errors` where a file is
+/// refused or can't be read, or where there is nothing to show. A file with a term has at most
+/// 1,048,576 bytes, one with a net 33,554,432, and one with a journal or in which a place is asked
+/// 402,653,184.
 pub fn bench<S: Source, W: Sink, E: Sink>(
     alloc: Global,
     asked: &Asked,
@@ -204,16 +304,17 @@ pub fn bench<S: Source, W: Sink, E: Sink>(
     out: &mut W,
     errors: &mut E,
 ) -> Status
-    // The source knows the name of the file, and the numbers are within their bounds.
+    // The source knows the names of the files, and the numbers are within their bounds.
     requires known { S.knows src.old (name_of asked.now) ≡ true }
+    requires second { has_second asked.now ≡ true → S.knows src.old (second_of asked.now) ≡ true }
     requires bounds { IsWithinBounds asked.now }
 
-    // Each status comes with the answer to the file, and the answer was written whole; or a sink
+    // Each status comes with the answer to the files, and the answer was written whole; or a sink
     // failed, or nothing was written. This holds of any files that the readings of this call are
     // of, and they are of those whose bytes the source tells.
     ensures answered { (files : ℕ → List ℕ → Option (List ℕ))
         → AreOfSince files (S.readings src.old) (S.readings src.new)
-        → WritesAnswer asked.now (files 0 (name_of asked.now))
+        → WritesAnswer asked.now (files 0 (name_of asked.now)) (files 1 (second_of asked.now))
         (S.faults src.old) (S.faults src.new) (W.faults out.old) (W.faults out.new)
         (W.taken out.old) (W.taken out.new) (E.faults errors.old) (E.faults errors.new)
         (E.taken errors.old) (E.taken errors.new) result }
@@ -228,6 +329,10 @@ pub fn bench<S: Source, W: Sink, E: Sink>(
             Written::Fault { .. } => Status::WriteFault,
         },
         End::No => match write_all(out, &text) {
+            Written::All => Status::No,
+            Written::Fault { .. } => Status::WriteFault,
+        },
+        End::Nothing => match write_all(errors, &text) {
             Written::All => Status::No,
             Written::Fault { .. } => Status::WriteFault,
         },

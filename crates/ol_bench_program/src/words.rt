@@ -12,6 +12,8 @@ const OF_TERM: &str = "the file with the term, `-` for standard input";
 
 const OF_TERM_OR_NET: &str = "the file with the term or the net, `-` for standard input";
 
+const TRANSLATION: &str = "how the term becomes a net, 1 or 2; by itself 2";
+
 // The name of a file.
 fn file<'a>(alloc: Global, help: &'a str) -> Arg<'a> {
     Arg::new(alloc, "name")
@@ -39,11 +41,10 @@ fn flag<'a>(alloc: Global, id: &'a str, help: &'a str) -> Arg<'a> {
 
 // A command that reads a term or a net.
 fn on_net<'a>(alloc: Global, name: &'a str, about: &'a str) -> Result<Command<'a>, AllocError> {
-    let translation = "how the term becomes a net, 1 or 2; by itself 2";
     let command = Command::new(alloc, name).about(about);
     command
         .arg(flag(alloc, "net", "the file has a net, as `ol net` writes one"))?
-        .arg(number(alloc, "translation", 1, 2, translation))?
+        .arg(number(alloc, "translation", 1, 2, TRANSLATION))?
         .arg(number(
             alloc,
             "fuel",
@@ -74,6 +75,29 @@ fn journal<'a>(alloc: Global) -> Result<Command<'a>, AllocError> {
     )?
     .arg(order)?
     .arg(file(alloc, OF_TERM_OR_NET))
+}
+
+// The file with the journal.
+fn journal_file<'a>(alloc: Global) -> Arg<'a> {
+    Arg::new(alloc, "journal")
+        .required(true)
+        .action(ArgAction::Set)
+        .help("the file with the journal, `-` for standard input")
+}
+
+fn after<'a>(alloc: Global) -> Result<Command<'a>, AllocError> {
+    let lines = Arg::new(alloc, "lines")
+        .required(true)
+        .action(ArgAction::Set)
+        .value_parser(clap::value_parser!(u32).range(1..=8_000_001))
+        .help("how many lines of the journal, the first of which tells its form");
+    Command::new(alloc, "after")
+        .about("The net after the first lines of a journal, under the journal's names")
+        .arg(flag(alloc, "net", "the file has a net, as `ol net` writes one"))?
+        .arg(number(alloc, "translation", 1, 2, TRANSLATION))?
+        .arg(lines)?
+        .arg(file(alloc, OF_TERM_OR_NET))?
+        .arg(journal_file(alloc))
 }
 
 fn steps<'a>(alloc: Global) -> Result<Command<'a>, AllocError> {
@@ -113,14 +137,33 @@ fn places<'a>(alloc: Global) -> Result<Command<'a>, AllocError> {
         .arg(byte)
 }
 
+// A file with a net, behind this name.
+fn net_file<'a>(alloc: Global, id: &'a str) -> Arg<'a> {
+    Arg::new(alloc, id)
+        .required(true)
+        .action(ArgAction::Set)
+        .help("a file with a net, `-` for standard input")
+}
+
+fn same<'a>(alloc: Global) -> Result<Command<'a>, AllocError> {
+    Command::new(alloc, "same")
+        .about(
+            "Whether two nets are one up to the numbers of nodes, or the first port where they differ",
+        )
+        .arg(net_file(alloc, "name"))?
+        .arg(net_file(alloc, "other"))
+}
+
 fn command<'a>(alloc: Global) -> Result<Command<'a>, AllocError> {
     Command::new(alloc, "ol-bench")
         .bin_name("ol-bench")?
         .about("Answers for those who look closer at a term, a net or a journal of `ol`")
         .subcommand_required(true)
         .subcommand(journal(alloc)?)?
+        .subcommand(after(alloc)?)?
         .subcommand(steps(alloc)?)?
         .subcommand(counts(alloc)?)?
+        .subcommand(same(alloc)?)?
         .subcommand(places(alloc)?)
 }
 
@@ -157,11 +200,15 @@ fn subject_of(found: &ArgMatches) -> Subject {
     }
 }
 
-fn name_of(alloc: Global, found: &ArgMatches) -> Result<String, Error> {
-    match found.get_str("name") {
+fn word_of(alloc: Global, found: &ArgMatches, id: &str) -> Result<String, Error> {
+    match found.get_str(id) {
         Some(text) => Ok(String::from_str(alloc, text)?),
         None => Ok(String::new(alloc)),
     }
+}
+
+fn name_of(alloc: Global, found: &ArgMatches) -> Result<String, Error> {
+    word_of(alloc, found, "name")
 }
 
 fn order_of(found: &ArgMatches) -> Order {
@@ -213,6 +260,29 @@ fn journal_asked(alloc: Global, found: &ArgMatches) -> Result<Asked, Error>
     })
 }
 
+fn after_asked(alloc: Global, found: &ArgMatches) -> Result<Asked, Error>
+    ensures { IfOk result IsWithinBounds }
+{
+    let lines = number_of(found, "lines", 1, 8_000_001, 1);
+    let subject = subject_of(found);
+    let name = name_of(alloc, found)?;
+    let journal = word_of(alloc, found, "journal")?;
+    Ok(Asked::After {
+        subject,
+        lines,
+        name,
+        journal,
+    })
+}
+
+fn same_asked(alloc: Global, found: &ArgMatches) -> Result<Asked, Error>
+    ensures { IfOk result IsWithinBounds }
+{
+    let name = name_of(alloc, found)?;
+    let other = word_of(alloc, found, "other")?;
+    Ok(Asked::Same { name, other })
+}
+
 fn place_asked(alloc: Global, found: &ArgMatches) -> Result<Asked, Error>
     ensures { IfOk result IsWithinBounds }
 {
@@ -229,6 +299,8 @@ fn asked_of(alloc: Global, name: &str, found: &ArgMatches) -> Result<Asked, Erro
         "steps" => steps_asked(alloc, found),
         "counts" => counts_asked(alloc, found),
         "journal" => journal_asked(alloc, found),
+        "after" => after_asked(alloc, found),
+        "same" => same_asked(alloc, found),
         _ => place_asked(alloc, found),
     }
 }

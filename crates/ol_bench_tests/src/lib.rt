@@ -3,7 +3,13 @@
 //! They stand apart from what they test, so that their proof does not prove that again.
 //!
 //! - `commands`: rows of each command over the fakes
+//! - `after`: rows of `after` over the fakes
+//! - `comparing`: two nets that are one up to numbers, and two that aren't
 #![tactic(auto)]
 
 #[cfg(test)]
+mod after;
+#[cfg(test)]
 mod commands;
+#[cfg(test)]
+mod comparing;

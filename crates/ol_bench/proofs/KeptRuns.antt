@@ -1,0 +1,176 @@
+-- A run that begins, and one that goes on by a pair: `Replay` keeps `IsReplay`.
+use Rattle.std.proofs.Common.{◌≡◌, ℕ, suc, ◌+◌, ◌*◌, ◌-◌, ◌<◌, ◌≤◌, true, nat_lt, if◌then◌else◌, List}
+use Rattle.std.proofs.Common.{[], ◌∷◌, ◌++◌, length, length-append, ◌⊎◌, inl, inr, refl, sym, ap, ◌∙◌}
+use Rattle.std.proofs.Common.{subst, arith}
+use Rattle.std.specs.Prelude.{slice_index_or}
+use Rattle.std.proofs.lemmas.Bool.Decides.{nat_tests}
+use Rattle.ol_net.specs.Graph.{Graph}
+use Rattle.ol_net.specs.Nets.{NamedNet, IsNet, net_under}
+use Rattle.ol_net.specs.Numbered.{net_of}
+use Rattle.ol_rules.specs.declared.journal.NodeName.{NodeName}
+use Rattle.ol_rules.specs.declared.journal.NodeName.TheVariants.{Init, Born}
+use Rattle.ol_rules.specs.declared.journal.Entry.{Entry}
+use Rattle.ol_rules.specs.Rewriting.{IsStep}
+use Rattle.ol_rules.specs.Runs.{IsEntryStep, IsRun, names_born}
+use Rattle.ol_rules.proofs.NameOrder.{Names, names_after, names_after_old, names_first}
+use Rattle.ol_rules.proofs.OneThread.{step_few}
+use Rattle.ol_rules.proofs.Renaming.{net_alike}
+use Rattle.ol_rules.proofs.RunsOn.{run_on}
+use Rattle.ol_rules.proofs.UnderWay.{node_below, length-names_born}
+use Rattle.ol_demand.specs.Asking.{IsNaming, AreNamesOf}
+use Rattle.ol_demand.specs.declared.rewriting.Run.{Run}
+use Rattle.ol_demand.proofs.Entries.{the_pair, entry_names, named_step, after_step, names_of_next}
+use Rattle.ol_view.specs.Checks.{start_net_of_graph}
+use Rattle.ol_bench.specs.declared.replaying.Replay.{Replay}
+use Rattle.ol_bench.specs.Replays.{names_of, AreNames, IsReplay, Advances}
+
+-- the names at the start
+abbrev at_start : Graph → ℕ → NodeName
+at_start old = names_after Init (length old.nodes) 0
+
+-- before the first pair
+pub begins : (old : Graph) (r : Replay) → IsNet (net_of old) → r.net ≡ old → r.journal ≡ [] →
+    r.start ≡ length old.nodes → r.names.items ≡ [] → IsReplay old r
+begins old r net same none start names = record {
+  m = at_start old;
+  named = subst (λ (g : Graph).
+      AreNames (length old.nodes) (length g.nodes) (length r.journal) (at_start old)) (sym same)
+      (subst (λ (es : List Entry).
+      AreNames (length old.nodes) (length old.nodes) (length es) (at_start old)) (sym none) first);
+  start = start;
+  sized = let e = no_names in let b = numbers in omega arith;
+  listed = λ k h.
+      let b = numbers in
+      let e : nat_lt k r.start ≡ true = (let l : k < r.start = omega arith in grind (arith, nat_tests)) in
+      ap (λ b. if b then Init k else slice_index_or r.names.items (k - r.start) (Init k)) e
+      ∙ sym (names_after_old Init (length old.nodes) 0 k (omega arith));
+  is_net = subst (λ (g : Graph). IsNet (net_of g)) (sym same) net;
+  few = let b = numbers in omega arith;
+  run = subst (λ (es : List Entry).
+      IsRun (start_net_of_graph old) 0 es (net_under (at_start old) (net_of r.net))) (sym none)
+      (subst (λ (g : Graph). IsRun (start_net_of_graph old) 0 [] (net_under (at_start old) (net_of g))) (sym same)
+      (subst (λ M. IsRun (start_net_of_graph old) 0 [] M) nets IsRun.end));
+}
+  where
+    first : AreNames (length old.nodes) (length old.nodes) 0 (at_start old)
+    first = let n = names_first (length old.nodes) in
+        record { room = n.room; initial = n.initial; rising = n.rising; born = n.born }
+
+    numbers : length r.net.nodes ≡ length old.nodes
+    numbers = ap (λ (g : Graph). length g.nodes) same
+
+    no_names : length r.names.items ≡ 0
+    no_names = ap (λ (ns : List NodeName). length ns) names
+
+    nets : start_net_of_graph old ≡ net_under (at_start old) (net_of old)
+    nets = net_alike Init (at_start old) (net_of old) net
+        (λ x k i h. sym (names_after_old Init (length old.nodes) 0 x (node_below old x k i h)))
+
+-- the names of the run are those of its numbers
+module _ (old : Graph) (r : Replay) (u : IsReplay old r) where
+  pub run_named : IsRun (start_net_of_graph old) 0 r.journal (net_under (names_of r) (net_of r.net))
+  run_named = subst (λ M. IsRun (start_net_of_graph old) 0 r.journal M)
+      (net_alike u.m (names_of r) (net_of r.net) u.is_net
+      (λ x k i h. sym (u.listed x (node_below r.net x k i h)))) u.run
+
+-- one pair more
+module _ (old : Graph) (r r' : Replay) (x y : ℕ) (u : IsReplay old r) (a : Advances r r' x y) where
+  abbrev t : ℕ
+  t = length r.journal
+
+  abbrev on : ℕ → NodeName
+  on = names_after u.m (length r'.net.nodes) (suc (length r.journal))
+
+  n : IsNaming (length old.nodes) (length r.net.nodes) (length r.journal) u.m
+  n = record { room = u.named.room; initial = u.named.initial; rising = u.named.rising; born = u.named.born }
+
+  abbrev entry : Entry
+  entry = record { rule = a.rule; first = u.m x; second = u.m y }
+
+  abbrev here : NamedNet NodeName
+  here = net_under u.m (net_of r.net)
+
+  abbrev there : NamedNet NodeName
+  there = net_under on (net_of r'.net)
+
+  same : net_under u.m (net_of r'.net) ≡ there
+  same = net_alike u.m on (net_of r'.net) a.new_net
+      (λ x k i h. sym (names_after_old u.m (length r'.net.nodes) (suc t) x (node_below r'.net x k i h)))
+
+  step : IsEntryStep here t entry there
+  step = record {
+    f = u.m a.step.f;
+    g = u.m a.step.g;
+    named = entry_names r.net r'.net a.old_net x y a.rule a.step a.linked a.lesser (length old.nodes) t u.m n;
+    step = subst (λ M. IsStep (λ p. Born t p) here (u.m a.step.f) (u.m a.step.g) a.rule M) same
+        (named_step r.net r'.net a.old_net x y a.rule a.step a.linked a.lesser (length old.nodes) t u.m n);
+  }
+
+  below : (x < length r.net.nodes) × (y < length r.net.nodes)
+  below = go (the_pair r.net r'.net a.old_net x y a.rule a.step a.linked)
+    where
+      f : a.step.f < length r.net.nodes
+      f = let p = a.step.step.active in node_below r.net a.step.f p.k p.i p.faces.first
+
+      g : a.step.g < length r.net.nodes
+      g = let p = a.step.step.active in node_below r.net a.step.g p.l p.j p.faces.second
+
+      go : ((x ≡ a.step.f) × (y ≡ a.step.g)) ⊎ ((x ≡ a.step.g) × (y ≡ a.step.f)) →
+          (x < length r.net.nodes) × (y < length r.net.nodes)
+      go (inl e) = (let i = e.0 in let b = f in omega arith, let i = e.1 in let b = g in omega arith)
+      go (inr e) = (let i = e.0 in let b = g in omega arith, let i = e.1 in let b = f in omega arith)
+
+  pub written : r'.journal ≡ r.journal ++ entry ∷ []
+  written = a.journal
+      ∙ ap (λ (v : NodeName). r.journal ++ record { rule = a.rule; first = v; second = names_of r y } ∷ [])
+      (u.listed x below.0)
+      ∙ ap (λ (w : NodeName). r.journal ++ record { rule = a.rule; first = u.m x; second = w } ∷ [])
+      (u.listed y below.1)
+
+  pub longer : length r'.journal ≡ suc (length r.journal)
+  longer = let e = ap (λ (es : List Entry). length es) written in
+      omega (arith, length-append r.journal (entry ∷ []))
+
+  abbrev as_run : Replay → Run
+  as_run r = record { start = r.start; names = r.names; journal = r.journal }
+
+  next : AreNamesOf old r'.net (as_run r') (after_step r'.net (as_run r) u.m)
+  next = names_of_next old r.net r'.net (as_run r) (as_run r') u.m x y
+      (record { naming = n; start = u.start; listed = u.listed }) u.sized
+      (record {
+        rule = a.rule;
+        step = a.step;
+        start = a.start;
+        journal = a.journal;
+        names = a.names;
+        is_net = a.new_net;
+      })
+
+  pub advanced : IsReplay old r'
+  advanced = record {
+    m = on;
+    named = record {
+      room = next.naming.room;
+      initial = next.naming.initial;
+      rising = next.naming.rising;
+      born = next.naming.born;
+    };
+    start = a.start ∙ u.start;
+    sized = sized;
+    listed = next.listed;
+    is_net = a.new_net;
+    few = let e = longer in let f = u.few in
+        let s = step_few r.net r'.net x a.rule a.step in omega arith;
+    run = subst (λ (es : List Entry). IsRun (start_net_of_graph old) 0 es there) (sym written)
+        (run_on (start_net_of_graph old) here there 0 t r.journal entry u.run
+        (let q : t ≡ 0 + length r.journal = omega arith in q) step);
+  }
+    where
+      sized : r'.start + length r'.names.items ≡ length r'.net.nodes
+      sized =
+          let s = a.start in
+          let z = u.sized in
+          let q = a.step.numbers in
+          let b = length-names_born t (length r'.net.nodes - length r.net.nodes) in
+          let e = ap (λ (ns : List NodeName). length ns) a.names in
+          omega (arith, length-append r.names.items (names_born t (length r'.net.nodes - length r.net.nodes)))

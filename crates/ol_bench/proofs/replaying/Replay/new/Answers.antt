@@ -1,0 +1,7 @@
+use Rattle.ol_bench.proofs.KeptRuns.{begins}
+use Rattle.ol_bench.proofs.replaying.Replay.new.Goals as goal
+
+pub returns-clause-replay : goal.returns-clause-replay
+returns-clause-replay c =
+    begins c.args.net.now _ c.is_net.ensures.net c.in_ok-copy.ensures.copy c.new.ensures.empty
+    c.born-2.ensures.born c.new-2.ensures.items

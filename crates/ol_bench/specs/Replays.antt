@@ -1,0 +1,68 @@
+-- Private: words of private contracts alone: a run on its way, and what a rewrite adds to it.
+use Rattle.std.specs.Prelude.{◌≡◌, ℕ, ◌+◌, ◌*◌, ◌-◌, ◌<◌, ◌≤◌, true, List, [], ◌∷◌, ◌++◌, length}
+use Rattle.std.specs.Prelude.{drop}
+use Rattle.ol_net.specs.declared.parts.Rule.{Rule}
+use Rattle.ol_net.specs.Graph.{Graph}
+use Rattle.ol_net.specs.Nets.{slot, Linked, IsNet, net_under}
+use Rattle.ol_net.specs.Numbered.{net_of}
+use Rattle.ol_rules.specs.declared.journal.NodeName.{NodeName}
+use Rattle.ol_rules.specs.declared.journal.NodeName.TheVariants.{Init, Born}
+use Rattle.ol_rules.specs.declared.journal.Entry.{Entry}
+use Rattle.ol_rules.specs.Names.{comes_before}
+use Rattle.ol_rules.specs.Runs.{IsRun, names_born}
+use Rattle.ol_rules.specs.Running.{name_in}
+use Rattle.ol_rules.specs.Steps.{StepsAt}
+use Rattle.ol_view.specs.declared.forms.Form.{Form}
+use Rattle.ol_view.specs.Checks.{start_net_of_graph, BeginsWithRun}
+use Rattle.ol_bench.specs.declared.replaying.Replay.{Replay}
+
+-- the names of its numbers
+abbrev pub names_of : Replay → ℕ → NodeName
+names_of r = name_in r.start r.names.items
+
+-- Names of all numbers: a start node's number names it, a greater number has a later name, and from
+-- next on come the nodes that this ticket will make.
+pub record AreNames (start next ticket : ℕ) (m : ℕ → NodeName) : Type 0 where
+  pub room : start ≤ next
+  pub initial : (k : ℕ) → k < start → m k ≡ Init k
+  pub rising : (j k : ℕ) → j < k → comes_before (m j) (m k) ≡ true
+  pub born : (p : ℕ) → m (next + p) ≡ Born ticket p
+
+-- The journal is that of a run from the graph to the net, under these names.
+pub record IsReplay (old : Graph) (r : Replay) : Type 0 where
+  pub m : ℕ → NodeName
+  pub named : AreNames (length old.nodes) (length r.net.nodes) (length r.journal) m
+  pub start : r.start ≡ length old.nodes
+  pub sized : r.start + length r.names.items ≡ length r.net.nodes
+  pub listed : (k : ℕ) → k < length r.net.nodes → names_of r k ≡ m k
+  pub is_net : IsNet (net_of r.net)
+  pub few : length r.net.nodes ≤ length old.nodes + 4 * length r.journal
+  pub run : IsRun (start_net_of_graph old) 0 r.journal (net_under m (net_of r.net))
+
+-- what is written down of a step by this rule, by the names of its two nodes
+abbrev pub entry_for : Replay → Rule → (x y : ℕ) → Entry
+entry_for r rule x y = record {
+  rule = rule;
+  first = names_of r x;
+  second = names_of r y;
+}
+
+-- The second is the first after the step of x and y, of which x has the smaller number.
+pub record Advances (old new : Replay) (x y : ℕ) : Type 0 where
+  pub lesser : x < y
+  pub linked : Linked (net_of old.net) (slot x 0) (slot y 0)
+  pub rule : Rule
+  pub step : StepsAt old.net new.net x rule
+  pub old_net : IsNet (net_of old.net)
+  pub new_net : IsNet (net_of new.net)
+  pub start : new.start ≡ old.start
+  pub journal : new.journal ≡ old.journal ++ entry_for old rule x y ∷ []
+  pub names : new.names.items ≡ old.names.items
+      ++ names_born (length old.journal) (length new.net.nodes - length old.net.nodes)
+
+-- The journal's text begins with that of the run's entries, and what follows begins here.
+pub record IsToldBy (old : Graph) (r : Replay) (journal : List ℕ) (end : ℕ) : Type 0 where
+  pub form : Form
+  pub waves : List ℕ
+  pub begins : BeginsWithRun form (start_net_of_graph old) journal r.journal waves
+      (net_under (names_of r) (net_of r.net)) (drop end journal)

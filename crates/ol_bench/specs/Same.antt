@@ -1,0 +1,106 @@
+-- Whether two nets are one up to the numbers of their nodes, and where they differ.
+use Rattle.std.specs.Prelude.{◌≡◌, ◌≢◌, ℕ, suc, ◌+◌, ◌-◌, ◌*◌, ◌/◌, ◌%◌, ◌<◌, min, nat_lt, ◌⊎◌}
+use Rattle.std.specs.Prelude.{if◌then◌else◌, List, [], ◌∷◌, ◌++◌, length, codes, Option, None, Some}
+use Rattle.std.specs.Prelude.{slice_index_or}
+use Rattle.std.specs.Fmt.{decimal}
+use Rattle.ol_edges.specs.Edges.{IsIn}
+use Rattle.ol_net.specs.declared.parts.Kind.{Kind}
+use Rattle.ol_net.specs.declared.parts.Port.{Port}
+use Rattle.ol_net.specs.declared.parts.Port.TheVariants.{Free, Of}
+use Rattle.ol_net.specs.Graph.{Graph, kind_at, partner_of}
+use Rattle.ol_net.specs.Nets.{NamedNet, HasNode, SameNet, net_under}
+use Rattle.ol_net.specs.Numbered.{net_of}
+use Rattle.ol_net.specs.PartTexts.{port_text}
+use Rattle.ol_bench.specs.declared.answers.End.{End}
+use Rattle.ol_bench.specs.declared.answers.End.TheVariants.{Yes, No, Refused}
+use Rattle.ol_bench.specs.declared.subjects.Subject.TheVariants.{Net}
+use Rattle.ol_bench.specs.Subjects.{IsSubject, Refuses}
+
+-- N is M with each node x written names x, and no two nodes of M are written alike
+pub record IsRenumbered (names : ℕ → ℕ) (M N : NamedNet ℕ) : Type 0 where
+  pub apart : (x y : ℕ) (k l : Kind) (i j : ℕ) → HasNode M x k i → HasNode M y l j →
+      names x ≡ names y → x ≡ y
+  pub same : SameNet (net_under names M) N
+
+-- the two nets are one up to the numbers of their nodes
+abbrev pub AreOne : Graph → Graph → Type 0
+AreOne a b = (names : ℕ → ℕ) × IsRenumbered names (net_of a) (net_of b)
+
+-- A walk goes over both nets at once, from place to place: the free ports come first, by number, and
+-- then three slots of each node, in the order in which the walk came to them. `met` are the pairs of
+-- nodes to which it came, one of each net.
+abbrev pub pair_at : ℕ → List (ℕ × ℕ) → ℕ → ℕ × ℕ
+pair_at free met at = slice_index_or met ((at - free) / 3) (0, 0)
+
+-- the port at a place, where the walk is at this node
+abbrev pub port_on : ℕ → ℕ → ℕ → Port
+port_on free x at = if nat_lt at free then Free at else Of (record { 0 = x }) ((at - free) % 3)
+
+-- neither node has met another
+abbrev pub AreNew : List (ℕ × ℕ) → ℕ → ℕ → Type 0
+AreNew met x y = (u v : ℕ) → IsIn (u, v) met → (u ≢ x) × (v ≢ y)
+
+-- The two nodes have met; or they are of one kind and one index, and meet now.
+abbrev pub Meets : Graph → Graph → List (ℕ × ℕ) → ℕ → ℕ → List (ℕ × ℕ) → Type 0
+Meets a b met x y met' = (IsIn (x, y) met × (met' ≡ met))
+    ⊎ (AreNew met x y × (kind_at a.nodes x ≡ kind_at b.nodes y) × (met' ≡ met ++ (x, y) ∷ []))
+
+-- The partners of two ports are alike: there is neither, or they are one free port, or one slot of
+-- two nodes that meet.
+abbrev pub AreAlike : Graph → Graph → List (ℕ × ℕ) → Option Port → Option Port →
+    List (ℕ × ℕ) → Type 0
+AreAlike a b met None None met' = met' ≡ met
+AreAlike a b met (Some (Free k)) (Some (Free l)) met' = (k ≡ l) × (met' ≡ met)
+AreAlike a b met (Some (Of x s)) (Some (Of y t)) met' = (s ≡ t) × Meets a b met x.0 y.0 met'
+AreAlike a b met _ _ met' = ⊥
+
+-- the same, of the ports at a place
+abbrev pub GoesOn : Graph → Graph → List (ℕ × ℕ) → ℕ → List (ℕ × ℕ) → Type 0
+GoesOn a b met at met' =
+    AreAlike a b met (partner_of a (port_on a.free (pair_at a.free met at).0 at))
+    (partner_of b (port_on a.free (pair_at a.free met at).1 at)) met'
+
+-- From one place of a walk, where some pairs of nodes have met, to a later one: at the places between
+-- the two nets are alike, and then these pairs have met.
+pub data Walks (a b : Graph) (from : ℕ) (had : List (ℕ × ℕ)) : ℕ → List (ℕ × ℕ) → Type 0 where
+  here : Walks a b from had from had
+  on : {at : ℕ} {met met' : List (ℕ × ℕ)} → Walks a b from had at met →
+      at < a.free + 3 * length met → GoesOn a b met at met' → Walks a b from had (suc at) met'
+
+-- The first port of a walk where the two nets differ: a free port that one of them lacks; or a port
+-- of the first net whose partner is unlike that of the other's port at the same place.
+pub data DiffersAt (a b : Graph) : Port → Type 0 where
+  lacks : a.free ≢ b.free → DiffersAt a b (Free (min a.free b.free))
+  differs : {at : ℕ} {met : List (ℕ × ℕ)} → a.free ≡ b.free → Walks a b 0 [] at met →
+      at < a.free + 3 * length met → ((met' : List (ℕ × ℕ)) → GoesOn a b met at met' → ⊥) →
+      DiffersAt a b (port_on a.free (pair_at a.free met at).0 at)
+
+-- all that a free port reaches is alike
+pub record ReachAlike (a b : Graph) (met : List (ℕ × ℕ)) : Type 0 where
+  pub free_ports : a.free ≡ b.free
+  pub walked : Walks a b 0 [] (a.free + 3 * length met) met
+
+-- the line that tells how many nodes of each net no free port reaches
+abbrev pub left_text : Graph → Graph → List (ℕ × ℕ) → List ℕ
+left_text a b met = codes "alike from the free ports, which don't reach "
+    ++ decimal (length (net_of a).nodes - length met) ++ codes " and "
+    ++ decimal (length (net_of b).nodes - length met) ++ codes " nodes\n"
+
+-- The answer to two nets. Where free ports don't reach all nodes, the others are tried against one
+-- another, up to a number of tries.
+pub data IsComparison (a b : Graph) (text : List ℕ) : End → Type 0 where
+  one : AreOne a b → text ≡ codes "same\n" → IsComparison a b text Yes
+  differ : {p : Port} → (AreOne a b → ⊥) → DiffersAt a b p →
+      text ≡ codes "different at " ++ port_text p ++ codes "\n" → IsComparison a b text No
+  parts_differ : {met : List (ℕ × ℕ)} → (AreOne a b → ⊥) → ReachAlike a b met →
+      text ≡ codes "different in parts that no free port reaches\n" → IsComparison a b text No
+  left : {met : List (ℕ × ℕ)} → ReachAlike a b met → text ≡ left_text a b met →
+      IsComparison a b text No
+
+-- The answer to two files, each with a net.
+pub data IsSame (first second : List ℕ) (text : List ℕ) : End → Type 0 where
+  refused_first : Refuses Net first text → IsSame first second text Refused
+  refused_second : {a : Graph} → IsSubject Net first a → Refuses Net second text →
+      IsSame first second text Refused
+  compared : {a b : Graph} {e : End} → IsSubject Net first a → IsSubject Net second b →
+      IsComparison a b text e → IsSame first second text e

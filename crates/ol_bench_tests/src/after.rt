@@ -1,0 +1,110 @@
+//! Rows of `after` over the fakes.
+ghost use Rattle.std.specs.Prelude.{◌≤◌, IfOk};
+ghost use Rattle.ol_bench.specs.Commands.{IsWithinBounds};
+
+use ol_bench::{Asked, Status, Subject, bench};
+use ol_io::{MemFile, MemSink, MemSource};
+use ol_term::Translation;
+use std::alloc::{AllocError, Global};
+use std::process::Abort;
+use std::test::Fail;
+
+const TERM: &str = "(\\x. x) (\\y. y)";
+
+const JOURNAL: &str =
+    "ol trace 2\nbeta 1 0 1\ncross-croissant 2 2 3\ncross-croissant 3 4 1.1\ncroissant 4 1.0 2.0\n";
+
+fn file(alloc: Global, name: &str, bytes: &str) -> Result<MemFile, AllocError> {
+    Ok(MemFile {
+        name: String::from_str(alloc, name)?,
+        bytes: Vec::from_slice(alloc, bytes.as_bytes())?,
+    })
+}
+
+// What is asked of the term and a journal.
+fn asked(alloc: Global, lines: u32) -> Result<Asked, AllocError>
+    requires { (1 ≤ lines) × (lines ≤ 8000001) }
+    ensures { IfOk result IsWithinBounds }
+{
+    Ok(Asked::After {
+        subject: Subject::Term(Translation::Two),
+        lines,
+        name: String::from_str(alloc, "term")?,
+        journal: String::from_str(alloc, "journal")?,
+    })
+}
+
+// Asserts the status after so many lines of a journal, and what is written to the one sink and to
+// the other.
+fn assert_after(rt: &impl Abort, alloc: Global, row: (u32, &str, Status, &str)) -> Result<(), Fail>
+    requires { (1 ≤ row.0) × (row.0 ≤ 8000001) }
+{
+    let (lines, journal, status, wanted) = row;
+    let asked = asked(alloc, lines)?;
+    let mut files = Vec::new(alloc);
+    files.push(file(alloc, "term", TERM)?)?;
+    files.push(file(alloc, "journal", journal)?)?;
+    let mut src = MemSource::new(files, 65_536, Vec::new(alloc));
+    let mut out = MemSink::new(alloc, 1_048_576, 65_536, Vec::new(alloc))
+        .ok()
+        .ok_or("no memory")?;
+    let mut errors = MemSink::new(alloc, 1_048_576, 65_536, Vec::new(alloc))
+        .ok()
+        .ok_or("no memory")?;
+    let ended = bench(alloc, &asked, &mut src, &mut out, &mut errors);
+    assert_eq!(rt; ended, status, "{lines}");
+    let (written, empty) = match status {
+        Status::Yes => (out.bytes(), errors.bytes()),
+        _ => (errors.bytes(), out.bytes()),
+    };
+    assert!(rt; written == wanted.as_bytes(), "{lines}");
+    assert!(rt; empty.is_empty(), "{lines}");
+    Ok(())
+}
+
+#[test]
+fn nets_after_lines_are_told(rt: HostRuntime) -> Result<(), Fail> {
+    let second = "step 1
+nodes 3
+f0 2.1
+2 croissant 0 3.0 f0
+3 lam 1 2.0 4.1 4.0
+4 croissant 1 3.2 3.1
+";
+    let third = "step 2
+nodes 4
+f0 1.2.0
+4 croissant 1 1.1.0 1.0.0
+1.0 croissant 0 4.1 1.2.1
+1.1 croissant 0 4.0 1.2.2
+1.2 lam 0 f0 1.0.1 1.1.1
+";
+    let rows: [(u32, &str, Status, &str); 7] = [
+        (3, JOURNAL, Status::Yes, third),
+        (2, "ol trace 1\n0 1\nno line", Status::Yes, second),
+        (6, JOURNAL, Status::No, "the last line is line 5\n"),
+        (
+            3,
+            "ol trace 1\n0 1\nno line",
+            Status::No,
+            "bad text at line 3\n",
+        ),
+        (
+            9,
+            "ol trace 1\n0 1\n0 1\n",
+            Status::No,
+            "not a run at line 3\n",
+        ),
+        (
+            2,
+            "ol trace 2\nbeta 2 0 1\n",
+            Status::No,
+            "not a run at line 2\n",
+        ),
+        (1, "", Status::No, "bad text at line 1\n"),
+    ];
+    for row in rows {
+        assert_after(&rt, rt.alloc(), row)?;
+    }
+    Ok(())
+}
