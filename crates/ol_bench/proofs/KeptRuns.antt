@@ -2,7 +2,7 @@
 use Rattle.std.proofs.Common.{◌≡◌, ℕ, suc, ◌+◌, ◌*◌, ◌-◌, ◌<◌, ◌≤◌, true, nat_lt, if◌then◌else◌, List}
 use Rattle.std.proofs.Common.{[], ◌∷◌, ◌++◌, length, length-append, ◌⊎◌, inl, inr, refl, sym, ap, ◌∙◌}
 use Rattle.std.proofs.Common.{subst, arith}
-use Rattle.std.specs.Prelude.{slice_index_or}
+use Rattle.std.specs.Prelude.{slice_index_or, slice_get, Some}
 use Rattle.std.proofs.lemmas.Bool.Decides.{nat_tests}
 use Rattle.ol_net.specs.Graph.{Graph}
 use Rattle.ol_net.specs.Nets.{NamedNet, IsNet, net_under}
@@ -17,6 +17,8 @@ use Rattle.ol_rules.proofs.OneThread.{step_few}
 use Rattle.ol_rules.proofs.Renaming.{net_alike}
 use Rattle.ol_rules.proofs.RunsOn.{run_on}
 use Rattle.ol_rules.proofs.UnderWay.{node_below, length-names_born}
+use Rattle.ol_diamond.specs.Replaying.{node_number}
+use Rattle.ol_diamond.proofs.Replays.{Index, index_first, index_on}
 use Rattle.ol_demand.specs.Asking.{IsNaming, AreNamesOf}
 use Rattle.ol_demand.specs.declared.rewriting.Run.{Run}
 use Rattle.ol_demand.proofs.Entries.{the_pair, entry_names, named_step, after_step, names_of_next}
@@ -30,8 +32,8 @@ at_start old = names_after Init (length old.nodes) 0
 
 -- before the first pair
 pub begins : (old : Graph) (r : Replay) → IsNet (net_of old) → r.net ≡ old → r.journal ≡ [] →
-    r.start ≡ length old.nodes → r.names.items ≡ [] → IsReplay old r
-begins old r net same none start names = record {
+    r.start ≡ length old.nodes → r.names.items ≡ [] → r.bases.items ≡ length old.nodes ∷ [] → IsReplay old r
+begins old r net same none start names bases = record {
   m = at_start old;
   named = subst (λ (g : Graph).
       AreNames (length old.nodes) (length g.nodes) (length r.journal) (at_start old)) (sym same)
@@ -50,11 +52,24 @@ begins old r net same none start names = record {
       IsRun (start_net_of_graph old) 0 es (net_under (at_start old) (net_of r.net))) (sym none)
       (subst (λ (g : Graph). IsRun (start_net_of_graph old) 0 [] (net_under (at_start old) (net_of g))) (sym same)
       (subst (λ M. IsRun (start_net_of_graph old) 0 [] M) nets IsRun.end));
+  tickets = let b = ap (λ (bs : List ℕ). length bs) bases in let j = ap (λ (es : List Entry). length es) none in
+      omega arith;
+  given = ap (λ (bs : List ℕ). slice_get bs (length r.journal)) bases
+      ∙ ap (λ (es : List Entry). slice_get (length old.nodes ∷ []) (length es)) none
+      ∙ ap (λ n. Some n) (sym numbers);
+  finds = λ k h. ap (λ (bs : List ℕ). node_number bs (at_start old k)) bases
+      ∙ index.finds k (let b = numbers in omega arith);
+  found = λ x k h.
+      let f = index.found x k (sym (ap (λ (bs : List ℕ). node_number bs x) bases) ∙ h) in
+      (let b = numbers in let l = f.0 in omega arith, f.1);
 }
   where
     first : AreNames (length old.nodes) (length old.nodes) 0 (at_start old)
     first = let n = names_first (length old.nodes) in
         record { room = n.room; initial = n.initial; rising = n.rising; born = n.born }
+
+    index : Index (length old.nodes ∷ []) (length old.nodes) 0 (at_start old)
+    index = index_first (length old.nodes)
 
     numbers : length r.net.nodes ≡ length old.nodes
     numbers = ap (λ (g : Graph). length g.nodes) same
@@ -78,26 +93,26 @@ module _ (old : Graph) (r r' : Replay) (x y : ℕ) (u : IsReplay old r) (a : Adv
   abbrev t : ℕ
   t = length r.journal
 
-  abbrev on : ℕ → NodeName
+  abbrev pub on : ℕ → NodeName
   on = names_after u.m (length r'.net.nodes) (suc (length r.journal))
 
   n : IsNaming (length old.nodes) (length r.net.nodes) (length r.journal) u.m
   n = record { room = u.named.room; initial = u.named.initial; rising = u.named.rising; born = u.named.born }
 
-  abbrev entry : Entry
+  abbrev pub entry : Entry
   entry = record { rule = a.rule; first = u.m x; second = u.m y }
 
-  abbrev here : NamedNet NodeName
+  abbrev pub here : NamedNet NodeName
   here = net_under u.m (net_of r.net)
 
-  abbrev there : NamedNet NodeName
+  abbrev pub there : NamedNet NodeName
   there = net_under on (net_of r'.net)
 
   same : net_under u.m (net_of r'.net) ≡ there
   same = net_alike u.m on (net_of r'.net) a.new_net
       (λ x k i h. sym (names_after_old u.m (length r'.net.nodes) (suc t) x (node_below r'.net x k i h)))
 
-  step : IsEntryStep here t entry there
+  pub step : IsEntryStep here t entry there
   step = record {
     f = u.m a.step.f;
     g = u.m a.step.g;
@@ -146,6 +161,12 @@ module _ (old : Graph) (r r' : Replay) (x y : ℕ) (u : IsReplay old r) (a : Adv
         is_net = a.new_net;
       })
 
+  index : Index (r.bases.items ++ length r'.net.nodes ∷ []) (length r'.net.nodes) (suc t) on
+  index = index_on (length old.nodes) (length r.net.nodes) t (length r'.net.nodes) r.bases.items u.m
+      (let q = a.step.numbers in omega arith)
+      (record { room = u.named.room; initial = u.named.initial; rising = u.named.rising; born = u.named.born })
+      (record { tickets = u.tickets; last = u.given; finds = u.finds; found = u.found })
+
   pub advanced : IsReplay old r'
   advanced = record {
     m = on;
@@ -164,6 +185,12 @@ module _ (old : Graph) (r r' : Replay) (x y : ℕ) (u : IsReplay old r) (a : Adv
     run = subst (λ (es : List Entry). IsRun (start_net_of_graph old) 0 es there) (sym written)
         (run_on (start_net_of_graph old) here there 0 t r.journal entry u.run
         (let q : t ≡ 0 + length r.journal = omega arith in q) step);
+    tickets = let e = longer in let b = ap (λ (bs : List ℕ). length bs) a.bases in let i = index.tickets in
+        omega arith;
+    given = ap (λ (bs : List ℕ). slice_get bs (length r'.journal)) a.bases
+        ∙ ap (λ n. slice_get (r.bases.items ++ length r'.net.nodes ∷ []) n) longer ∙ index.last;
+    finds = λ k h. ap (λ (bs : List ℕ). node_number bs (on k)) a.bases ∙ index.finds k h;
+    found = λ z k h. index.found z k (sym (ap (λ (bs : List ℕ). node_number bs z) a.bases) ∙ h);
   }
     where
       sized : r'.start + length r'.names.items ≡ length r'.net.nodes

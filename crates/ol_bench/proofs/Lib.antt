@@ -9,5 +9,6 @@ pub mod OneNet
 pub mod Renumbered
 pub mod Seeking
 pub mod KeptRuns
+pub mod Ways
 pub mod Told
 pub mod Onward

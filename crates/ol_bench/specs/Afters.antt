@@ -9,8 +9,7 @@ use Rattle.ol_rules.specs.declared.journal.NodeName.{NodeName}
 use Rattle.ol_rules.specs.declared.journal.Entry.{Entry}
 use Rattle.ol_rules.specs.Names.{comes_before}
 use Rattle.ol_view.specs.declared.forms.Form.{Form}
-use Rattle.ol_view.specs.declared.answers.Check.{Check}
-use Rattle.ol_view.specs.declared.answers.Check.TheVariants.{Complete, Run, BadText, NotARun}
+use Rattle.ol_view.specs.declared.answers.Check.TheVariants.{BadText, NotARun}
 use Rattle.ol_view.specs.Checks.{start_net_of_graph, BeginsWithRun, IsFound}
 use Rattle.ol_bench.specs.declared.answers.End.{End}
 use Rattle.ol_bench.specs.declared.answers.End.TheVariants.{Yes, Nothing, Refused}
@@ -50,24 +49,14 @@ pub record HasLines (g : Graph) (journal : List ℕ) (lines : ℕ) : Type 0 wher
   pub begins : BeginsWithRun form (start_net_of_graph g) journal entries waves last []
   pub count : length entries + 1 ≡ lines
 
--- what is found is nothing bad in the first lines
-abbrev pub IsGoodTo : ℕ → Check → Type 0
-IsGoodTo lines (BadText line) = lines < line
-IsGoodTo lines (NotARun line) = lines < line
-IsGoodTo lines Complete = Unit {0}
-IsGoodTo lines (Run k) = Unit {0}
-
 -- The net after so many lines, or why there is none: what `ol check` finds at one of these lines, or
--- that the journal has fewer; or that these lines weren't followed, though nothing in them is bad.
+-- that the journal has fewer.
 pub data IsAfterOf (g : Graph) (journal : List ℕ) (lines : ℕ) (text : List ℕ) : End → Type 0 where
   shown : IsNetAfter g journal lines text → IsAfterOf g journal lines text Yes
   bad_text : {line : ℕ} → IsFound (start_net_of_graph g) journal (BadText line) → line ≤ lines →
       text ≡ line_with (codes "bad text at line ") line → IsAfterOf g journal lines text Nothing
   not_a_run : {line : ℕ} → IsFound (start_net_of_graph g) journal (NotARun line) → line ≤ lines →
       text ≡ line_with (codes "not a run at line ") line → IsAfterOf g journal lines text Nothing
-  not_followed : {found : Check} → IsFound (start_net_of_graph g) journal found →
-      IsGoodTo lines found → text ≡ line_with (codes "not followed to line ") lines →
-      IsAfterOf g journal lines text Nothing
   too_few : {has : ℕ} → HasLines g journal has → has < lines →
       text ≡ line_with (codes "the last line is line ") has → IsAfterOf g journal lines text Nothing
 

@@ -16,3 +16,4 @@ pub mod Meetings
 pub mod Walked
 pub mod Seconds
 pub mod Replays
+pub mod Followed

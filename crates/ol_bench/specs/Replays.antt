@@ -1,6 +1,6 @@
 -- Private: words of private contracts alone: a run on its way, and what a rewrite adds to it.
-use Rattle.std.specs.Prelude.{◌≡◌, ℕ, ◌+◌, ◌*◌, ◌-◌, ◌<◌, ◌≤◌, true, List, [], ◌∷◌, ◌++◌, length}
-use Rattle.std.specs.Prelude.{drop}
+use Rattle.std.specs.Prelude.{◌≡◌, ℕ, suc, ◌+◌, ◌*◌, ◌-◌, ◌<◌, ◌≤◌, true, List, [], ◌∷◌, ◌++◌, length}
+use Rattle.std.specs.Prelude.{Some, slice_get}
 use Rattle.ol_net.specs.declared.parts.Rule.{Rule}
 use Rattle.ol_net.specs.Graph.{Graph}
 use Rattle.ol_net.specs.Nets.{slot, Linked, IsNet, net_under}
@@ -12,8 +12,8 @@ use Rattle.ol_rules.specs.Names.{comes_before}
 use Rattle.ol_rules.specs.Runs.{IsRun, names_born}
 use Rattle.ol_rules.specs.Running.{name_in}
 use Rattle.ol_rules.specs.Steps.{StepsAt}
-use Rattle.ol_view.specs.declared.forms.Form.{Form}
-use Rattle.ol_view.specs.Checks.{start_net_of_graph, BeginsWithRun}
+use Rattle.ol_diamond.specs.Replaying.{node_number, AreIdle}
+use Rattle.ol_view.specs.Checks.{start_net_of_graph}
 use Rattle.ol_bench.specs.declared.replaying.Replay.{Replay}
 
 -- the names of its numbers
@@ -38,6 +38,11 @@ pub record IsReplay (old : Graph) (r : Replay) : Type 0 where
   pub is_net : IsNet (net_of r.net)
   pub few : length r.net.nodes ≤ length old.nodes + 4 * length r.journal
   pub run : IsRun (start_net_of_graph old) 0 r.journal (net_under m (net_of r.net))
+  pub tickets : length r.bases.items ≡ suc (length r.journal)
+  pub given : slice_get r.bases.items (length r.journal) ≡ Some (length r.net.nodes)
+  pub finds : (k : ℕ) → k < length r.net.nodes → node_number r.bases.items (m k) ≡ Some k
+  pub found : (x : NodeName) (k : ℕ) → node_number r.bases.items x ≡ Some k →
+      (k < length r.net.nodes) × (m k ≡ x)
 
 -- what is written down of a step by this rule, by the names of its two nodes
 abbrev pub entry_for : Replay → Rule → (x y : ℕ) → Entry
@@ -59,10 +64,18 @@ pub record Advances (old new : Replay) (x y : ℕ) : Type 0 where
   pub journal : new.journal ≡ old.journal ++ entry_for old rule x y ∷ []
   pub names : new.names.items ≡ old.names.items
       ++ names_born (length old.journal) (length new.net.nodes - length old.net.nodes)
+  pub bases : new.bases.items ≡ old.bases.items ++ length new.net.nodes ∷ []
 
--- The journal's text begins with that of the run's entries, and what follows begins here.
-pub record IsToldBy (old : Graph) (r : Replay) (journal : List ℕ) (end : ℕ) : Type 0 where
-  pub form : Form
-  pub waves : List ℕ
-  pub begins : BeginsWithRun form (start_net_of_graph old) journal r.journal waves
-      (net_under (names_of r) (net_of r.net)) (drop end journal)
+-- the second is the first after the step of the nodes of two names
+pub record AdvancesNamed (old new : Replay) (first second : NodeName) : Type 0 where
+  pub x : ℕ
+  pub y : ℕ
+  pub first_is : node_number old.bases.items first ≡ Some x
+  pub second_is : node_number old.bases.items second ≡ Some y
+  pub advances : Advances old new x y
+
+-- no two nodes of these names, the first of which has the smaller number, are an active pair
+abbrev pub AreApart : Replay → NodeName → NodeName → Type 0
+AreApart r first second =
+    (x y : ℕ) → node_number r.bases.items first ≡ Some x →
+    node_number r.bases.items second ≡ Some y → x < y → AreIdle (net_of r.net) x y

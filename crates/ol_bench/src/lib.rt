@@ -8,7 +8,8 @@
 //! - `stepping`: the command `steps`: leftmost reduction, term by term
 //! - `pausing`: the command `after`: the net after the first lines of a journal
 //! - `comparing`: the command `same`: whether two nets are one up to the numbers of their nodes
-//! - `replaying`: a run from a net along the first lines of a journal
+//! - `replaying`: a run from a net, pair by pair
+//! - `following`: a journal, followed line by line
 //! - `naming`: a net as a text, under the names of a run
 //! - `answers`: what the commands answer
 //! - `texts`: pieces of texts
@@ -18,6 +19,7 @@
 mod answers;
 mod comparing;
 mod counting;
+mod following;
 mod naming;
 mod ordering;
 mod pausing;

@@ -14,7 +14,8 @@ use ol_rules::NodeName;
 use std::alloc::Global;
 use std::fmt;
 
-fn put(text: &mut String, piece: &str) -> Result<(), NoMemory>
+/// Appends some words.
+pub fn put(text: &mut String, piece: &str) -> Result<(), NoMemory>
     ensures { OnOk result (string_bytes text.new ≡ string_bytes text.old ++ piece.now) }
 {
     text.push_str(piece)?;
@@ -30,15 +31,24 @@ fn put_shown<D: fmt::Display>(text: &mut String, shown: &D) -> Result<(), NoMemo
     Ok(())
 }
 
-fn put_number(text: &mut String, number: u32) -> Result<(), NoMemory>
+/// Appends a number.
+pub fn put_number(text: &mut String, number: u32) -> Result<(), NoMemory>
     ensures { OnOk result (string_bytes text.new ≡ string_bytes text.old ++ decimal number) }
 {
     write!(text, "{number}")?;
     Ok(())
 }
 
-// Appends a name.
-fn put_name(text: &mut String, name: NodeName) -> Result<(), NoMemory>
+/// Appends a number.
+pub fn put_long(text: &mut String, number: u64) -> Result<(), NoMemory>
+    ensures { OnOk result (string_bytes text.new ≡ string_bytes text.old ++ decimal number) }
+{
+    write!(text, "{number}")?;
+    Ok(())
+}
+
+/// Appends a name.
+pub fn put_name(text: &mut String, name: NodeName) -> Result<(), NoMemory>
     ensures { OnOk result (string_bytes text.new ≡ string_bytes text.old ++ name_text name) }
 {
     match name {

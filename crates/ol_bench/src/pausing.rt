@@ -1,19 +1,18 @@
 //! The command `after`: the net after the first lines of a journal.
 
-ghost use Rattle.std.specs.Prelude.{◌≡◌, ◌+◌, ◌≤◌, ◌<◌, ◌++◌, List, ℕ, length, codes, drop, IfOk, IfSome};
-ghost use Rattle.std.specs.Fmt.{decimal};
+ghost use Rattle.std.specs.Prelude.{◌≡◌, ◌≤◌, length, IfOk};
 ghost use Rattle.ol_bench.specs.Afters.{IsAfter, IsAfterOf, line_with, shown_text};
-ghost use Rattle.ol_bench.specs.Replays.{names_of, IsReplay, IsToldBy};
+ghost use Rattle.ol_bench.specs.Replays.{names_of};
 ghost use Rattle.ol_bench.specs.Subjects.{most_bytes};
 
 use crate::answers::{Answer, End};
+use crate::following::{Stop, follow};
 use crate::naming::named_net;
-use crate::replaying::{Replay, replayed};
+use crate::replaying::Replay;
 use crate::subjects::{NetRead, Subject, read_subject};
 use crate::texts::{put, put_number};
 use ol_io::NoMemory;
 use ol_net::Net;
-use ol_view::{Check, check, trace_text, trace_text_2};
 use std::alloc::Global;
 
 // The answer that there is nothing to show: these words and a number.
@@ -45,86 +44,36 @@ fn shown(alloc: Global, replay: &Replay) -> Result<Answer, NoMemory>
     Ok(Answer { text, end })
 }
 
-// Where the text of the run's entries ends in the journal, if the journal begins with it.
-fn told_by(
-    alloc: Global,
-    net: &Net,
-    replay: &Replay,
-    journal: &[u8],
-) -> Result<Option<usize>, NoMemory>
-    requires few { length net.now.nodes ≤ 200000 }
-    requires most { length replay.now.journal ≤ 8000000 }
-    requires replay { IsReplay net.now replay.now }
-    ensures { IfOk result (λ end. IfSome end (IsToldBy net.now replay.now journal.now)) }
-{
-    net.is_net();
-    let one = trace_text(alloc, &replay.journal)?;
-    if journal.starts_with(&one) {
-        return Ok(Some(one.len()));
-    }
-    let two = trace_text_2(alloc, net, &replay.journal)?;
-    if journal.starts_with(&two) {
-        return Ok(Some(two.len()));
-    }
-    Ok(None)
-}
-
-// What `ol check` finds in the first lines, where the run of the entries that were read ended in
-// one of them.
-fn found(alloc: Global, net: &Net, journal: &[u8], lines: u32) -> Result<Answer, NoMemory>
-    requires few { length net.now.nodes ≤ 200000 }
-    ensures { IfOk result (λ a. IsAfterOf net.now journal.now lines a.text.items a.end) }
-{
-    match check(alloc, net, journal)? {
-        Check::BadText { line } => {
-            if lines < line {
-                let answer = nothing(alloc, "not followed to line ", lines)?;
-                return Ok(answer);
-            }
-            let answer = nothing(alloc, "bad text at line ", line)?;
-            Ok(answer)
-        }
-        Check::NotARun { line } => {
-            if lines < line {
-                let answer = nothing(alloc, "not followed to line ", lines)?;
-                return Ok(answer);
-            }
-            let answer = nothing(alloc, "not a run at line ", line)?;
-            Ok(answer)
-        }
-        Check::Complete => {
-            let answer = nothing(alloc, "not followed to line ", lines)?;
-            Ok(answer)
-        }
-        Check::Run { .. } => {
-            let answer = nothing(alloc, "not followed to line ", lines)?;
-            Ok(answer)
-        }
-    }
-}
-
 // The net after so many lines.
 fn of_net(alloc: Global, net: &Net, journal: &[u8], lines: u32) -> Result<Answer, NoMemory>
     requires few { length net.now.nodes ≤ 200000 }
     requires lines { (1 ≤ lines) × (lines ≤ 8000001) }
     ensures { IfOk result (λ a. IsAfterOf net.now journal.now lines a.text.items a.end) }
 {
-    let replay = replayed(alloc, net, journal, lines - 1)?;
-    let Some(end) = told_by(alloc, net, &replay, journal)? else {
-        let answer = found(alloc, net, journal, lines)?;
-        return Ok(answer);
-    };
-    let has = replay.journal.len() + 1;
-    if has == lines {
-        let answer = shown(alloc, &replay)?;
-        return Ok(answer);
+    let followed = follow(alloc, net, journal, lines - 1)?;
+    let has = followed.replay.journal.len() + 1;
+    match followed.stop {
+        Stop::NoHeader => {
+            let answer = nothing(alloc, "bad text at line ", 1)?;
+            Ok(answer)
+        }
+        Stop::Good => {
+            if has == lines {
+                let answer = shown(alloc, &followed.replay)?;
+                return Ok(answer);
+            }
+            let answer = nothing(alloc, "the last line is line ", has)?;
+            Ok(answer)
+        }
+        Stop::NoLine => {
+            let answer = nothing(alloc, "bad text at line ", has + 1)?;
+            Ok(answer)
+        }
+        Stop::Otherwise { .. } => {
+            let answer = nothing(alloc, "not a run at line ", has + 1)?;
+            Ok(answer)
+        }
     }
-    if end == journal.len() {
-        let answer = nothing(alloc, "the last line is line ", has)?;
-        return Ok(answer);
-    }
-    let answer = found(alloc, net, journal, lines)?;
-    Ok(answer)
 }
 
 /// The net after the first lines of a journal, as `ol view` shows a net, under the journal's names:
@@ -134,9 +83,7 @@ fn of_net(alloc: Global, net: &Net, journal: &[u8], lines: u32) -> Result<Answer
 ///
 /// - `Yes`: the net.
 /// - `Nothing`: one of these lines is no line of a journal, or isn't one of a run, as `ol check`
-///   says; or the journal has fewer lines. Where `ol check` finds nothing bad in these lines, and
-///   yet the bench didn't find the run that they tell, it says that they weren't followed: it
-///   isn't proved that no journal leads there.
+///   says; or the journal has fewer lines.
 /// - `Refused`: `ol` refuses the file, by this line.
 ///
 /// The file has at most 1,048,576 bytes with a term, and 33,554,432 with a net. `NoMemory`: no
