@@ -51,13 +51,13 @@ fn of_net(alloc: Global, net: &Net, journal: &[u8], lines: u32) -> Result<Answer
     ensures { IfOk result (λ a. IsAfterOf net.now journal.now lines a.text.items a.end) }
 {
     let followed = follow(alloc, net, journal, lines - 1)?;
-    let has = followed.replay.journal.len() + 1;
     match followed.stop {
         Stop::NoHeader => {
             let answer = nothing(alloc, "bad text at line ", 1)?;
             Ok(answer)
         }
         Stop::Good => {
+            let has = followed.replay.journal.len() + 1;
             if has == lines {
                 let answer = shown(alloc, &followed.replay)?;
                 return Ok(answer);
@@ -66,11 +66,13 @@ fn of_net(alloc: Global, net: &Net, journal: &[u8], lines: u32) -> Result<Answer
             Ok(answer)
         }
         Stop::NoLine => {
-            let answer = nothing(alloc, "bad text at line ", has + 1)?;
+            let line = followed.replay.journal.len() + 2;
+            let answer = nothing(alloc, "bad text at line ", line)?;
             Ok(answer)
         }
         Stop::Otherwise { .. } => {
-            let answer = nothing(alloc, "not a run at line ", has + 1)?;
+            let bad = followed.replay.journal.len() + 2;
+            let answer = nothing(alloc, "not a run at line ", bad)?;
             Ok(answer)
         }
     }
