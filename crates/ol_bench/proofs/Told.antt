@@ -50,7 +50,7 @@ module _ (old : Graph) (r : Replay) (u : IsReplay old r) (journal : List ℕ) (e
   }
 
 -- what is known where it was followed no further
-record IsGood (old : Graph) (text : List ℕ) (most : ℕ) (r : Replay) (at : ℕ) : Type 0 where
+pub record IsGood (old : Graph) (text : List ℕ) (most : ℕ) (r : Replay) (at : ℕ) : Type 0 where
   pub form : Form
   pub waves : List ℕ
   pub told : IsTold form waves old r text at

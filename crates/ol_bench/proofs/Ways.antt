@@ -309,12 +309,12 @@ module _ (form : Form) (old : Graph) (text : List ℕ) (g : Graph) (bases weight
   )
 
   -- what the line tells isn't so
-  pub is_off : (line : Line) → line.told ≡ t → line.first ≡ a → line.second ≡ b → (made : Option Rewritten) →
+  pub is_off : (l : Line) → l.told ≡ t → l.first ≡ a → l.second ≡ b → (made : Option Rewritten) →
       IfNone made (AreIdleNumbers g bases a b) →
       IfSome made (λ of. WeighsEntry g g' bases bases' weights weights'
       (record { rule = of.rule; first = a; second = b }) of.wave) →
-      IfSome made (λ of. TellsOf t of.rule of.wave → ⊥) → IsOff form w.waves old r text at line made
-  is_off line i j k made idle x wrong = record {
+      IfSome made (λ of. TellsOf t of.rule of.wave → ⊥) → IsOff form w.waves old r text at l made
+  is_off l i j k made idle x wrong = record {
     entry = record { rule = of.rule; first = a; second = b };
     wave = of.wave;
     rest = rest;

@@ -26,10 +26,7 @@ pub enum Stop {
     NoLine,
     /// This line stands here, and isn't one of the run: its pair isn't active, or what was made of
     /// the pair isn't what the line tells.
-    Otherwise {
-        line: Line,
-        made: Option<Rewritten>,
-    },
+    Otherwise { line: Line, made: Option<Rewritten> },
 }
 
 /// A journal that was followed: the run of its first entries, and where in the text their lines
@@ -84,7 +81,11 @@ pub fn follow(alloc: Global, net: &Net, text: &[u8], most: u32) -> Result<Follow
     let mut replay = Replay::new(alloc, net)?;
     let Some(form) = form_of(text) else {
         let stop = Stop::NoHeader;
-        return Ok(Followed { replay, at: 0, stop });
+        return Ok(Followed {
+            replay,
+            at: 0,
+            stop,
+        });
     };
     let mut weighing = Weighing::new(alloc, net)?;
     let mut at = 11;
