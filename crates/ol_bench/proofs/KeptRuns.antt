@@ -1,6 +1,6 @@
 -- A run that begins, and one that goes on by a pair: `Replay` keeps `IsReplay`.
-use Rattle.std.proofs.Common.{◌≡◌, ℕ, suc, ◌+◌, ◌*◌, ◌-◌, ◌<◌, ◌≤◌, true, nat_lt, if◌then◌else◌, List}
-use Rattle.std.proofs.Common.{[], ◌∷◌, ◌++◌, length, length-append, ◌⊎◌, inl, inr, refl, sym, ap, ◌∙◌}
+use Rattle.std.proofs.Common.{◌≡◌, ℕ, suc, ◌+◌, ◌-◌, ◌<◌, true, nat_lt, if◌then◌else◌, List}
+use Rattle.std.proofs.Common.{[], ◌∷◌, ◌++◌, length, length-append, ◌⊎◌, inl, inr, sym, ap, ◌∙◌}
 use Rattle.std.proofs.Common.{subst, arith}
 use Rattle.std.specs.Prelude.{slice_index_or, slice_get, Some}
 use Rattle.std.proofs.lemmas.Bool.Decides.{nat_tests}
@@ -12,7 +12,7 @@ use Rattle.ol_rules.specs.declared.journal.NodeName.TheVariants.{Init, Born}
 use Rattle.ol_rules.specs.declared.journal.Entry.{Entry}
 use Rattle.ol_rules.specs.Rewriting.{IsStep}
 use Rattle.ol_rules.specs.Runs.{IsEntryStep, IsRun, names_born}
-use Rattle.ol_rules.proofs.NameOrder.{Names, names_after, names_after_old, names_first}
+use Rattle.ol_rules.proofs.NameOrder.{names_after, names_after_old, names_first}
 use Rattle.ol_rules.proofs.OneThread.{step_few}
 use Rattle.ol_rules.proofs.Renaming.{net_alike}
 use Rattle.ol_rules.proofs.RunsOn.{run_on}

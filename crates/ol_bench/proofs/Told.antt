@@ -2,10 +2,6 @@
 use Rattle.std.proofs.Common.{◌≡◌, ℕ, ◌+◌, ◌<◌, ◌≤◌, List, length, drop, Option, ◌⊎◌, subst, arith}
 use Rattle.std.proofs.Math.ListN.{drop_of_length-le}
 use Rattle.ol_net.specs.Graph.{Graph}
-use Rattle.ol_net.specs.Nets.{NamedNet, net_under}
-use Rattle.ol_net.specs.Numbered.{net_of}
-use Rattle.ol_rules.specs.declared.journal.NodeName.{NodeName}
-use Rattle.ol_rules.specs.Names.{comes_before}
 use Rattle.ol_diamond.specs.declared.weighing.Rewritten.{Rewritten}
 use Rattle.ol_view.specs.declared.answers.Check.TheVariants.{BadText, NotARun}
 use Rattle.ol_view.specs.declared.forms.Form.{Form}

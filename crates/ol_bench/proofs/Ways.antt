@@ -1,5 +1,5 @@
 -- A journal that is followed line by line: each line that is good is one entry more, and the run makes its step.
-use Rattle.std.proofs.Common.{◌≡◌, ◌≢◌, ℕ, suc, ◌+◌, ◌*◌, ◌<◌, ◌≤◌, Bool, true, false, List, [], ◌∷◌, ◌++◌}
+use Rattle.std.proofs.Common.{◌≡◌, ◌≢◌, ℕ, suc, ◌+◌, ◌*◌, ◌<◌, ◌≤◌, true, List, [], ◌∷◌, ◌++◌}
 use Rattle.std.proofs.Common.{append_assoc, get_or, length, length-append, drop, Option, None, Some, ◌⊎◌, inl, inr}
 use Rattle.std.proofs.Common.{refl, sym, ap, ◌∙◌, subst, arith}
 use Rattle.std.proofs.lemmas.Bool.{cases_lt}
@@ -19,7 +19,7 @@ use Rattle.ol_rules.proofs.Same.{active_same}
 use Rattle.ol_rules.proofs.StartNets.{start_net, start_named}
 use Rattle.ol_diamond.specs.declared.weighing.Rewritten.{Rewritten}
 use Rattle.ol_diamond.specs.PortWeights.{WeighsEntry}
-use Rattle.ol_diamond.specs.Replaying.{node_number, AreIdle, AreIdleNumbers}
+use Rattle.ol_diamond.specs.Replaying.{AreIdle, AreIdleNumbers}
 use Rattle.ol_diamond.specs.Waves.{weightless}
 use Rattle.ol_diamond.proofs.OneStep.{one_entry_rule}
 use Rattle.ol_diamond.proofs.Replays.{Index, few_more}
@@ -32,14 +32,14 @@ use Rattle.ol_view.specs.declared.forms.Form.TheVariants.{One, Two}
 use Rattle.ol_view.specs.declared.line_reading.Line.{Line}
 use Rattle.ol_view.specs.Forms.{header_of, text_of}
 use Rattle.ol_view.specs.LineReading.{front_entry, TellsOf}
-use Rattle.ol_view.specs.Checks.{start_net_of_graph, IsRunTold, BeginsWithRun}
+use Rattle.ol_view.specs.Checks.{start_net_of_graph, IsRunTold}
 use Rattle.ol_view.proofs.Entries.{Read, entry_sound, IsOfEntry, of_entry, first_tells_nothing}
 use Rattle.ol_view.proofs.Finding.{UnderWay}
 use Rattle.ol_view.proofs.FormTexts.{line_of, text_on, stands, begun}
 use Rattle.ol_view.proofs.OneVerdict.{not_idle}
 use Rattle.ol_view.proofs.Replays.{idle_names}
 use Rattle.ol_bench.specs.declared.replaying.Replay.{Replay}
-use Rattle.ol_bench.specs.Replays.{names_of, IsReplay, Advances, AdvancesNamed, AreApart}
+use Rattle.ol_bench.specs.Replays.{IsReplay, Advances, AdvancesNamed, AreApart}
 use Rattle.ol_bench.specs.Followed.{net_here, IsTold, IsOff}
 use Rattle.ol_bench.proofs.KeptRuns as kept
 use Rattle.ol_bench.proofs.KeptRuns.{run_named, advanced}

@@ -1,5 +1,5 @@
 -- Leftmost reduction, term by term, as a text.
-use Rattle.std.specs.Prelude.{◌≡◌, ℕ, ◌+◌, ◌<◌, List, [], ◌++◌, codes, None, Some}
+use Rattle.std.specs.Prelude.{◌≡◌, ℕ, ◌+◌, ◌<◌, List, ◌++◌, codes, None, Some}
 use Rattle.std.specs.Fmt.{decimal}
 use Rattle.ol_term.specs.declared.translations.Translation.TheVariants.{Two}
 use Rattle.ol_term.specs.Trees as tree

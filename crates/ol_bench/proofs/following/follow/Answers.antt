@@ -1,4 +1,4 @@
-use Rattle.std.proofs.Common.{◌≡◌, ◌≢◌, ◌<◌, ◌≤◌, length, List, ℕ, [], drop, inl, inr, refl, sym, ap, ◌∙◌, subst, arith}
+use Rattle.std.proofs.Common.{◌≢◌, ◌<◌, length, List, ℕ, [], drop, inl, inr, refl, sym, ap, ◌∙◌, subst, arith}
 use Rattle.ol_net.specs.Graph.{Graph}
 use Rattle.ol_rules.specs.declared.journal.Entry.{Entry}
 use Rattle.ol_view.specs.Checks as found

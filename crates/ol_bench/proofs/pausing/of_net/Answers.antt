@@ -1,4 +1,4 @@
-use Rattle.std.proofs.Common.{◌≡◌, ◌≢◌, ℕ, ◌+◌, ◌-◌, ◌<◌, ◌≤◌, length, ◌⊎◌, inl, inr, sym, ap, ◌∙◌, subst, arith}
+use Rattle.std.proofs.Common.{◌≡◌, ◌≢◌, ℕ, ◌+◌, ◌-◌, ◌<◌, ◌≤◌, length, ◌⊎◌, inl, inr, sym, subst, arith}
 use Rattle.ol_view.specs.declared.answers.Check.TheVariants.{BadText, NotARun}
 use Rattle.ol_view.specs.Checks.{start_net_of_graph, IsFound}
 use Rattle.ol_bench.specs.Afters.{IsAfterOf, line_with}

@@ -1,6 +1,6 @@
 use Rattle.std.proofs.Common.{◌≡◌, true, false, [], refl, sym, ap, ◌∙◌, subst}
 use Rattle.ol_io.specs.Outside.{IsAllOf, IsLonger}
-use Rattle.ol_bench.specs.Commands.{IsSecond, limit_line, second_of, second_most}
+use Rattle.ol_bench.specs.Commands.{IsSecond, limit_line, second_of}
 use Rattle.ol_bench.specs.Seconds.{IsCauseOnward, fault, too_long, answered}
 use Rattle.ol_bench.proofs.top.onward.Goals as goal
 
