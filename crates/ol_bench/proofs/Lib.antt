@@ -11,4 +11,6 @@ pub mod Seeking
 pub mod KeptRuns
 pub mod Ways
 pub mod Told
+pub mod WhyNot
+pub mod Reasoned
 pub mod Onward

@@ -14,6 +14,7 @@ use Rattle.ol_bench.specs.Steps.{IsStepsOf}
 use Rattle.ol_bench.specs.Tables.{IsCounted}
 use Rattle.ol_bench.specs.Orders.{IsJournal}
 use Rattle.ol_bench.specs.Afters.{IsAfter}
+use Rattle.ol_bench.specs.Explained.{IsExplained}
 use Rattle.ol_bench.specs.Same.{IsSame}
 
 -- the name of the file, the first one where there are two
@@ -23,17 +24,20 @@ name_of (asked.Steps most name) = string_bytes name
 name_of (asked.Counts subject bounds name) = string_bytes name
 name_of (asked.Journal subject order fuel heads name) = string_bytes name
 name_of (asked.After subject lines name journal) = string_bytes name
+name_of (asked.Explain subject name journal) = string_bytes name
 name_of (asked.Same name other) = string_bytes name
 
 -- there is a second file
 abbrev pub has_second : Asked → Bool
 has_second (asked.After subject lines name journal) = true
+has_second (asked.Explain subject name journal) = true
 has_second (asked.Same name other) = true
 has_second _ = false
 
 -- its name
 abbrev pub second_of : Asked → List ℕ
 second_of (asked.After subject lines name journal) = string_bytes journal
+second_of (asked.Explain subject name journal) = string_bytes journal
 second_of (asked.Same name other) = string_bytes other
 second_of _ = []
 
@@ -44,6 +48,7 @@ most_of (asked.Steps most name) = 1048576
 most_of (asked.Counts subject bounds name) = most_bytes subject
 most_of (asked.Journal subject order fuel heads name) = most_bytes subject
 most_of (asked.After subject lines name journal) = most_bytes subject
+most_of (asked.Explain subject name journal) = most_bytes subject
 most_of (asked.Same name other) = 33554432
 
 -- the most bytes of the second file
@@ -64,6 +69,7 @@ IsWithinBounds (asked.Steps most name) = Unit {0}
 IsWithinBounds (asked.Counts subject bounds name) = (bounds.fuel ≤ 8000000) × (1 ≤ bounds.heads)
 IsWithinBounds (asked.Journal subject order fuel heads name) = (fuel ≤ 8000000) × (1 ≤ heads)
 IsWithinBounds (asked.After subject lines name journal) = (1 ≤ lines) × (lines ≤ 8000001)
+IsWithinBounds (asked.Explain subject name journal) = Unit {0}
 IsWithinBounds (asked.Same name other) = Unit {0}
 
 -- the answer to the bytes of the file and to those of the second one
@@ -76,6 +82,8 @@ IsAnswer (asked.Journal subject order fuel heads name) bytes more text e =
     IsJournal bytes order fuel heads text subject e
 IsAnswer (asked.After subject lines name journal) bytes more text e =
     IsAfter bytes more lines text subject e
+IsAnswer (asked.Explain subject name journal) bytes more text e =
+    IsExplained bytes more text subject e
 IsAnswer (asked.Same name other) bytes more text e = IsSame bytes more text e
 
 -- these are the bytes of the second file, where there is one

@@ -7,6 +7,7 @@ pub mod Orders
 pub mod Same
 pub mod NamedTexts
 pub mod Afters
+pub mod Explained
 pub mod Commands
 pub mod Statuses
 -- What only contracts of private functions and proofs cite.
@@ -17,3 +18,4 @@ pub mod Walked
 pub mod Seconds
 pub mod Replays
 pub mod Followed
+pub mod Reasons

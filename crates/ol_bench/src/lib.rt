@@ -7,6 +7,8 @@
 //! - `placing`: the command `where`: the line and the column of a byte
 //! - `stepping`: the command `steps`: leftmost reduction, term by term
 //! - `pausing`: the command `after`: the net after the first lines of a journal
+//! - `explaining`: the command `explain`: what a journal is found to be, and why
+//! - `causes`: why a line of a journal isn't one of a run
 //! - `comparing`: the command `same`: whether two nets are one up to the numbers of their nodes
 //! - `replaying`: a run from a net, pair by pair
 //! - `following`: a journal, followed line by line
@@ -17,8 +19,10 @@
 #![tactic(auto)]
 
 mod answers;
+mod causes;
 mod comparing;
 mod counting;
+mod explaining;
 mod following;
 mod naming;
 mod ordering;
@@ -33,6 +37,7 @@ mod top;
 pub use answers::{Answer, End};
 pub use comparing::same;
 pub use counting::{Bounds, Column, Row, counted};
+pub use explaining::explained;
 pub use ordering::{Order, journal};
 pub use pausing::after;
 pub use placing::whereabouts;

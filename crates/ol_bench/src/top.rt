@@ -10,6 +10,7 @@ ghost use Rattle.ol_bench.specs.Statuses.{status_number};
 use crate::answers::{Answer, End};
 use crate::comparing::same;
 use crate::counting::{Bounds, counted};
+use crate::explaining::explained;
 use crate::ordering::{Order, journal};
 use crate::pausing::after;
 use crate::placing::whereabouts;
@@ -50,6 +51,12 @@ pub enum Asked {
     After {
         subject: Subject,
         lines: u32,
+        name: String,
+        journal: String,
+    },
+    /// What a journal is found to be, and why.
+    Explain {
+        subject: Subject,
         name: String,
         journal: String,
     },
@@ -100,6 +107,7 @@ fn name_of(asked: &Asked) -> &str
         Asked::Counts { name, .. } => name.as_str(),
         Asked::Journal { name, .. } => name.as_str(),
         Asked::After { name, .. } => name.as_str(),
+        Asked::Explain { name, .. } => name.as_str(),
         Asked::Same { name, .. } => name.as_str(),
     }
 }
@@ -110,6 +118,7 @@ fn has_second(asked: &Asked) -> bool
 {
     match asked {
         Asked::After { .. } => true,
+        Asked::Explain { .. } => true,
         Asked::Same { .. } => true,
         _ => false,
     }
@@ -121,6 +130,7 @@ fn second_of(asked: &Asked) -> &str
 {
     match asked {
         Asked::After { journal, .. } => journal.as_str(),
+        Asked::Explain { journal, .. } => journal.as_str(),
         Asked::Same { other, .. } => other.as_str(),
         _ => "",
     }
@@ -146,6 +156,7 @@ fn most_of(asked: &Asked) -> usize
         Asked::Counts { subject, .. } => most_bytes(*subject),
         Asked::Journal { subject, .. } => most_bytes(*subject),
         Asked::After { subject, .. } => most_bytes(*subject),
+        Asked::Explain { subject, .. } => most_bytes(*subject),
         Asked::Same { .. } => 33_554_432,
     }
 }
@@ -207,6 +218,10 @@ fn of_bytes(alloc: Global, asked: &Asked, bytes: &[u8], more: &[u8]) -> Result<A
         }
         Asked::After { subject, lines, .. } => {
             let answer = after(alloc, bytes, more, *subject, *lines)?;
+            Ok(answer)
+        }
+        Asked::Explain { subject, .. } => {
+            let answer = explained(alloc, bytes, more, *subject)?;
             Ok(answer)
         }
         Asked::Same { .. } => {

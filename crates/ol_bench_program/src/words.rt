@@ -100,6 +100,15 @@ fn after<'a>(alloc: Global) -> Result<Command<'a>, AllocError> {
         .arg(journal_file(alloc))
 }
 
+fn explain<'a>(alloc: Global) -> Result<Command<'a>, AllocError> {
+    Command::new(alloc, "explain")
+        .about("What a journal is found to be, and of a line that isn't one of a run why")
+        .arg(flag(alloc, "net", "the file has a net, as `ol net` writes one"))?
+        .arg(number(alloc, "translation", 1, 2, TRANSLATION))?
+        .arg(file(alloc, OF_TERM_OR_NET))?
+        .arg(journal_file(alloc))
+}
+
 fn steps<'a>(alloc: Global) -> Result<Command<'a>, AllocError> {
     Command::new(alloc, "steps")
         .about("The terms of leftmost reduction, one under another, with the address of each redex")
@@ -160,6 +169,7 @@ fn command<'a>(alloc: Global) -> Result<Command<'a>, AllocError> {
         .about("Answers for those who look closer at a term, a net or a journal of `ol`")
         .subcommand_required(true)
         .subcommand(journal(alloc)?)?
+        .subcommand(explain(alloc)?)?
         .subcommand(after(alloc)?)?
         .subcommand(steps(alloc)?)?
         .subcommand(counts(alloc)?)?
@@ -275,6 +285,19 @@ fn after_asked(alloc: Global, found: &ArgMatches) -> Result<Asked, Error>
     })
 }
 
+fn explain_asked(alloc: Global, found: &ArgMatches) -> Result<Asked, Error>
+    ensures { IfOk result IsWithinBounds }
+{
+    let subject = subject_of(found);
+    let name = name_of(alloc, found)?;
+    let journal = word_of(alloc, found, "journal")?;
+    Ok(Asked::Explain {
+        subject,
+        name,
+        journal,
+    })
+}
+
 fn same_asked(alloc: Global, found: &ArgMatches) -> Result<Asked, Error>
     ensures { IfOk result IsWithinBounds }
 {
@@ -299,6 +322,7 @@ fn asked_of(alloc: Global, name: &str, found: &ArgMatches) -> Result<Asked, Erro
         "steps" => steps_asked(alloc, found),
         "counts" => counts_asked(alloc, found),
         "journal" => journal_asked(alloc, found),
+        "explain" => explain_asked(alloc, found),
         "after" => after_asked(alloc, found),
         "same" => same_asked(alloc, found),
         _ => place_asked(alloc, found),

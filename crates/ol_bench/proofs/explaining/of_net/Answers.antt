@@ -1,0 +1,71 @@
+use Rattle.std.proofs.Common.{◌≡◌, ◌+◌, length, refl, sym, subst, arith}
+use Rattle.ol_view.specs.declared.answers.Check.TheVariants.{BadText}
+use Rattle.ol_view.specs.Checks.{start_net_of_graph, IsFound}
+use Rattle.ol_bench.specs.Explained.{IsExplainedOf}
+use Rattle.ol_bench.specs.Explained as of
+use Rattle.ol_bench.specs.Followed.{Stops}
+use Rattle.ol_bench.proofs.Told.{at_header, at_no_line, at_other}
+use Rattle.ol_bench.proofs.Reasoned.{whole, full, explains, made_wrong}
+use Rattle.ol_bench.proofs.explaining.of_net.Goals as goal
+
+pub returns-in-NoHeader : goal.returns-in-NoHeader
+returns-in-NoHeader c =
+    let f = c.in_ok-followed.followed in
+    let s = subst (λ s. Stops c.args.net.now c.args.journal.now 8000000 f.replay f.at s)
+    c.in-NoHeader.is c.in_ok-followed.ensures.stops in
+    let a = c.in_ok-answer-in-NoHeader in
+    subst (λ e. IsExplainedOf c.args.net.now c.args.journal.now a.answer.text.items e) (sym a.ensures.end)
+    (of.IsExplainedOf.bad_text (at_header c.args.net.now c.args.journal.now 8000000 f.replay f.at s) a.ensures.text)
+
+pub returns-then-followed-journal : goal.returns-then-followed-journal
+returns-then-followed-journal c =
+    let f = c.in_ok-followed.followed in
+    let s = subst (λ s. Stops c.args.net.now c.args.journal.now 8000000 f.replay f.at s)
+    c.in-Good.is c.in_ok-followed.ensures.stops in
+    let a = c.in_ok-answer-in-Good in
+    subst (λ e. IsExplainedOf c.args.net.now c.args.journal.now a.answer.text.items e) (sym a.ensures.end)
+    (of.IsExplainedOf.bad_text (full c.args.net.now c.args.journal.now 8000000 f.replay f.at s c.if-followed-journal.true refl)
+    a.ensures.text)
+
+pub ended-requires-clause-told : goal.ended-requires-clause-told
+ended-requires-clause-told c =
+    let f = c.in_ok-followed.followed in
+    let s = subst (λ s. Stops c.args.net.now c.args.journal.now 8000000 f.replay f.at s)
+    c.in-Good.is c.in_ok-followed.ensures.stops in
+    whole c.args.net.now c.args.journal.now 8000000 f.replay f.at s c.if-followed-journal.false
+
+pub returns-in-NoLine : goal.returns-in-NoLine
+returns-in-NoLine c =
+    let f = c.in_ok-followed.followed in
+    let s = subst (λ s. Stops c.args.net.now c.args.journal.now 8000000 f.replay f.at s)
+    c.in-NoLine.is c.in_ok-followed.ensures.stops in
+    let g = at_no_line c.args.net.now c.args.journal.now 8000000 f.replay f.at s in
+    let a = c.in_ok-answer-in-NoLine in
+    let q : length f.replay.journal + 2 ≡ c.len-bad.result + 2 = (let l = c.len-bad.ensures in omega arith) in
+    subst (λ e. IsExplainedOf c.args.net.now c.args.journal.now a.answer.text.items e) (sym a.ensures.end)
+    (of.IsExplainedOf.bad_text
+    (subst (λ n. IsFound (start_net_of_graph c.args.net.now) c.args.journal.now (BadText n)) q g.1) a.ensures.text)
+
+pub off-requires-clause-few : goal.off-requires-clause-few
+off-requires-clause-few c =
+    let f = c.in_ok-followed.followed in
+    let s = subst (λ s. Stops c.args.net.now c.args.journal.now 8000000 f.replay f.at s)
+    c.in-Otherwise.is c.in_ok-followed.ensures.stops in
+    (at_other c.args.net.now c.args.journal.now 8000000 f.replay f.at c.in-Otherwise.line c.in-Otherwise.made s).0
+
+pub off-requires-clause-wrong : goal.off-requires-clause-wrong
+off-requires-clause-wrong c =
+    let f = c.in_ok-followed.followed in
+    let s = subst (λ s. Stops c.args.net.now c.args.journal.now 8000000 f.replay f.at s)
+    c.in-Otherwise.is c.in_ok-followed.ensures.stops in
+    made_wrong c.args.net.now c.args.journal.now 8000000 f.replay f.at c.in-Otherwise.line c.in-Otherwise.made s
+
+pub returns : goal.returns
+returns c =
+    let f = c.in_ok-followed.followed in
+    let s = subst (λ s. Stops c.args.net.now c.args.journal.now 8000000 f.replay f.at s)
+    c.in-Otherwise.is c.in_ok-followed.ensures.stops in
+    let a = c.in_ok-answer-in-Otherwise in
+    subst (λ e. IsExplainedOf c.args.net.now c.args.journal.now a.answer.text.items e) (sym a.ensures.end)
+    (explains c.args.net.now c.args.journal.now 8000000 f.replay f.at c.in-Otherwise.line c.in-Otherwise.made s
+    a.answer.text.items a.ensures.text)
