@@ -4,6 +4,7 @@
 //!
 //! - `commands`: rows of each command over the fakes
 //! - `after`: rows of `after` over the fakes
+//! - `explain`: rows of `explain` over the fakes
 //! - `comparing`: two nets that are one up to numbers, and two that aren't
 #![tactic(auto)]
 
@@ -13,3 +14,5 @@ mod after;
 mod commands;
 #[cfg(test)]
 mod comparing;
+#[cfg(test)]
+mod explain;
