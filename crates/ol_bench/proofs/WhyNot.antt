@@ -3,6 +3,7 @@ use Rattle.std.proofs.Common.{◌≡◌, ◌≢◌, ℕ, zero, suc, ◌+◌, ◌
 use Rattle.std.proofs.Common.{inl, inr, refl, sym, ap, ◌∙◌, subst, arith}
 use Rattle.std.proofs.lemmas.Bool.{cases_lt}
 use Rattle.std.specs.Prelude.{slice_get}
+use Rattle.std.proofs.lemmas.Option.{slice_get_within}
 use Rattle.ol_net.specs.declared.parts.Kind.{Kind}
 use Rattle.ol_net.specs.declared.parts.NodeId.{NodeId}
 use Rattle.ol_net.specs.declared.parts.Rule.{Rule}
@@ -55,13 +56,8 @@ none_more journal x m n e g a b j d l h q = go (cases_lt j m)
         let y : d ≡ e = cc in
         named (subst (λ d. Names d x) y q)
 
-got_below : (es : List Entry) (m : ℕ) (e : Entry) → slice_get es m ≡ Some e → m < length es
-got_below [] m e h = absurd (cc)
-got_below (d ∷ es) zero e h = omega arith
-got_below (d ∷ es) (suc m) e h = let b = got_below es m e h in omega arith
-
 pub none_at_all : (journal : List Entry) (x : NodeName) → NoneBefore journal x (length journal) → NoneNames journal x
-none_at_all journal x n m e h q = n m e (got_below journal m e h) h q
+none_at_all journal x n m e h q = n m e (slice_get_within journal m e h) h q
 
 pub is_of_before : (journal : List Entry) (x : NodeName) →
     ((ticket place : ℕ) → x ≡ Born ticket place → ticket < length journal) → IsOfBefore journal x

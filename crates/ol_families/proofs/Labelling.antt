@@ -6,6 +6,7 @@ use Rattle.std.specs.Option.{option_map}
 use Rattle.ol_beta.specs.Beta as beta
 use Rattle.ol_beta.specs.Leftmost.{leftmost}
 use Rattle.ol_edges.specs.Edges.{IsIn}
+use Rattle.ol_edges.proofs.Lists.{in_cases}
 use Rattle.ol_frugal.specs.Steps.{steps_of}
 use Rattle.ol_meaning.specs.Shows.{LeftmostReduces}
 use Rattle.ol_meaning.specs.Shows as shows
@@ -59,14 +60,6 @@ widened n m k j v l h b =
     let x = b.low in let y = b.high in
     record { letter = b.letter; is = b.is; low = omega (arith, l, x); high = omega (arith, h, y) }
 
-in_either : {X : Type 0} (x : X) (xs ys : List X) → IsIn x (xs ++ ys) → IsIn x xs ⊎ IsIn x ys
-in_either x [] ys h = inr h
-in_either x (z ∷ xs) ys (inl e) = inl (inl e)
-in_either x (z ∷ xs) ys (inr h) = elim (in_either x xs ys h) [
-  | inl j ↦ inl (inr j)
-  | inr j ↦ inr j
-]
-
 letter_here : (n m : ℕ) (v : Label) → suc n ≤ m → v ≡ atom n none → Between n m v
 letter_here n m v l e = record { letter = n; is = e; low = omega arith; high = omega (arith, l) }
 
@@ -82,7 +75,7 @@ letters_between (trees.lam t) n v (inr h) =
 letters_between (trees.app f a) n v (inl e) =
     letter_here n (n + (1 + term_size f + term_size a)) v (omega arith) e
 letters_between (trees.app f a) n v (inr h) =
-    by (in_either v (labels_in (lettered f (suc n))) (labels_in (lettered a (suc n + term_size f))) h)
+    by (in_cases v (labels_in (lettered f (suc n))) (labels_in (lettered a (suc n + term_size f))) h)
     (letters_between f (suc n) v) (letters_between a (suc n + term_size f) v)
   where
     by : IsIn v (labels_in (lettered f (suc n))) ⊎ IsIn v (labels_in (lettered a (suc n + term_size f))) →
@@ -99,7 +92,7 @@ different_append : (xs ys : List Label) → AreDifferent xs → AreDifferent ys 
     ((x : Label) → IsIn x xs → IsIn x ys → ⊥) → AreDifferent (xs ++ ys)
 different_append [] ys d e o = e
 different_append (x ∷ xs) ys d e o = (
-  (λ h. elim (in_either x xs ys h) [
+  (λ h. elim (in_cases x xs ys h) [
     | inl j ↦ d.0 j
     | inr j ↦ o x (inl refl) j
   ]),
@@ -115,7 +108,7 @@ different_letters (trees.lam t) n = (
   different_letters t (suc n),
 )
 different_letters (trees.app f a) n = (
-  (λ h. elim (in_either (atom n none) (labels_in (lettered f (suc n)))
+  (λ h. elim (in_cases (atom n none) (labels_in (lettered f (suc n)))
       (labels_in (lettered a (suc n + term_size f))) h) [
         | inl j ↦ not_both n (suc n) (suc n) (suc n + term_size f) (atom n none) (omega arith) (first_letter n)
             (letters_between f (suc n) (atom n none) j)
