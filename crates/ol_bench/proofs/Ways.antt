@@ -126,7 +126,8 @@ module _ (form : Form) (old : Graph) (text : List ℕ) (g : Graph) (bases weight
   plain_run = run_of (weightless start) (weighted_named w.m g bases weights) 0 r.journal w.waves w.is_run
 
   pub same_to : (last : NamedNet NodeName) → IsRun start 0 r.journal last → SameNet here last
-  same_to last run = one_end start start here last 0 r.journal n (start_named (net_of old)) (same_refl start) plain_run run
+  same_to last run = one_end start start here last 0 r.journal n (start_named (net_of old))
+      (same_refl start) plain_run run
 
   -- the text begins with that of the run
   pub is_told : IsTold form w.waves old r text at
@@ -179,7 +180,8 @@ module _ (form : Form) (old : Graph) (text : List ℕ) (g : Graph) (bases weight
     abbrev there : NamedNet NodeName
     there = net_under m' (net_of g')
 
-    step : IsWaveEntry (weighted_named w.m g bases weights) (length r.journal) own wave (weighted_named m' g' bases' weights')
+    step : IsWaveEntry (weighted_named w.m g bases weights) (length r.journal) own wave
+        (weighted_named m' g' bases' weights')
     step = wave_entry g g' bases bases' weights weights' own wave x ordered
         (length old.nodes) (length r.journal) w.m w.named w.index w.sized
 
@@ -204,7 +206,8 @@ module _ (form : Form) (old : Graph) (text : List ℕ) (g : Graph) (bases weight
     runs = (
       there,
       (
-        run_of (weightless start) (weighted_named m' g' bases' weights') 0 (r.journal ++ own ∷ []) (w.waves ++ wave ∷ []) on,
+        run_of (weightless start) (weighted_named m' g' bases' weights') 0 (r.journal ++ own ∷ [])
+            (w.waves ++ wave ∷ []) on,
         waves_of_run start (weighted_named m' g' bases' weights') (r.journal ++ own ∷ [])
             (w.waves ++ wave ∷ []) n (start_named (net_of old)) on,
       ),
@@ -230,13 +233,15 @@ module _ (form : Form) (old : Graph) (text : List ℕ) (g : Graph) (bases weight
       one_rule = one_entry_rule here (net_under u.m (net_of r.net)) there
           (kept.there old r r' adv.x adv.y u after) (length r.journal) (length r.journal) own
           (kept.entry old r r' adv.x adv.y u after)
-          (net_is w.m g (names_apart (length old.nodes) (length g.nodes) (length r.journal) w.m w.named) x.named.old_net)
+          (net_is w.m g (names_apart (length old.nodes) (length g.nodes) (length r.journal) w.m w.named)
+          x.named.old_net)
           (same_to (net_under u.m (net_of r.net)) u.run) entry_step
           (kept.step old r r' adv.x adv.y u after) (sym is_first)
 
       written : r'.journal ≡ r.journal ++ own ∷ []
       written = kept.written old r r' adv.x adv.y u after
-          ∙ ap (λ (k : Rule). r.journal ++ record { rule = k; first = u.m adv.x; second = u.m adv.y } ∷ []) (sym one_rule)
+          ∙ ap (λ (k : Rule). r.journal ++ record { rule = k; first = u.m adv.x; second = u.m adv.y } ∷ [])
+          (sym one_rule)
           ∙ ap (λ (z : NodeName). r.journal ++ record { rule = rule; first = z; second = u.m adv.y } ∷ []) is_first
           ∙ ap (λ (z : NodeName). r.journal ++ record { rule = rule; first = a; second = z } ∷ []) is_second
 
@@ -260,7 +265,8 @@ module _ (form : Form) (old : Graph) (text : List ℕ) (g : Graph) (bases weight
                 ∙ ap (λ rest. line_of form own wave ++ rest) q)
                 ∙ sym (append_assoc (text_of form r.journal w.waves) (line_of form own wave) (drop next text))
                 ∙ ap (λ bs. bs ++ drop next text) (sym (text_on form r.journal w.waves own wave w.even));
-            even = let q = w.even in omega (arith, length-append w.waves (wave ∷ []), length-append r.journal (own ∷ []));
+            even = let q = w.even in
+                omega (arith, length-append w.waves (wave ∷ []), length-append r.journal (own ∷ []));
             most = let l = w.most in let c = count in omega arith;
             is_run = waved_on (weightless start) (weighted_named w.m g bases weights)
                 (weighted_named m' g' bases' weights') 0 (length r.journal) r.journal w.waves own wave

@@ -1,11 +1,13 @@
 //! Why a line of a journal isn't one of a run.
 
-ghost use Rattle.std.specs.Prelude.{◌≡◌, ◌≢◌, ◌≤◌, ◌<◌, ◌++◌, true, false, length, string_bytes, slice_get, Some, OnOk, IfSome, IfNone};
+ghost use Rattle.std.specs.Prelude.{◌≡◌, ◌≢◌, ◌≤◌, ◌<◌, ◌++◌, true, false, length, Some};
+ghost use Rattle.std.specs.Prelude.{string_bytes, slice_get, OnOk, IfSome, IfNone};
 ghost use Rattle.ol_rules.specs.declared.journal.Entry.{Entry};
 ghost use Rattle.ol_view.specs.LineReading.{TellsOf};
 ghost use Rattle.ol_bench.specs.Followed.{net_here};
 ghost use Rattle.ol_bench.specs.Explained.{IsGone, Names, NoneNames, never_text, cause_words};
-ghost use Rattle.ol_bench.specs.Reasons.{IsReplayed, IsLive, IsNodeNamed, IsCauseAway, IsCauseIdle, IsCauseOther, IsCauseOff};
+ghost use Rattle.ol_bench.specs.Reasons.{IsReplayed, IsLive, IsNodeNamed};
+ghost use Rattle.ol_bench.specs.Reasons.{IsCauseAway, IsCauseIdle, IsCauseOther, IsCauseOff};
 
 use crate::naming::{put, put_long, put_name, put_number};
 use crate::replaying::Replay;

@@ -12,6 +12,7 @@ pub returns-in_ok-put-in-Init : goal.returns-in_ok-put-in-Init
 returns-in_ok-put-in-Init c =
     let b0 = string_bytes c.args.text.now in
     subst (λ words. OnOk c.put_number.result (string_bytes c.put_number.new.text ≡ words))
-    (two b0 (string_bytes c.put.new.text) (codes "the net has no node ") (decimal c.in-Init.k) c.in_ok-put-in-Init.ensures
+    (two b0 (string_bytes c.put.new.text) (codes "the net has no node ") (decimal c.in-Init.k)
+    c.in_ok-put-in-Init.ensures
     ∙ ap (λ x. b0 ++ never_text x) (sym c.in-Init.is))
     c.put_number.ensures

@@ -24,7 +24,8 @@ returns-then-followed-journal c =
     c.in-Good.is c.in_ok-followed.ensures.stops in
     let a = c.in_ok-answer-in-Good in
     subst (λ e. IsExplainedOf c.args.net.now c.args.journal.now a.answer.text.items e) (sym a.ensures.end)
-    (of.IsExplainedOf.bad_text (full c.args.net.now c.args.journal.now 8000000 f.replay f.at s c.if-followed-journal.true refl)
+    (of.IsExplainedOf.bad_text (full c.args.net.now c.args.journal.now 8000000 f.replay f.at s
+    c.if-followed-journal.true refl)
     a.ensures.text)
 
 pub ended-requires-clause-told : goal.ended-requires-clause-told

@@ -54,7 +54,8 @@ returns-in-Good c =
     let g = at_good c.args.net.now c.args.journal.now (c.args.lines - 1) f.replay f.at s in
     let a = c.in_ok-answer-in-Good-2 in
     let has = c.len-has.result + 1 in
-    let all : length c.args.journal.now ≤ f.at = ends (length f.replay.journal) c.args.lines (length c.args.journal.now) f.at
+    let all : length c.args.journal.now ≤ f.at = ends (length f.replay.journal) c.args.lines
+    (length c.args.journal.now) f.at
     (let l = c.len-has.ensures in let d = c.if-has-lines.false in let b = c.requires.lines.0 in λ e. omega arith)
     g.ended in
     let count : length f.replay.journal + 1 ≡ c.len-has.result + 1 = (let l = c.len-has.ensures in omega arith) in
@@ -84,7 +85,8 @@ returns-in-NoLine c =
     let a = c.in_ok-answer-in-NoLine in
     let q : length f.replay.journal + 2 ≡ c.len-line.result + 2 = (let l = c.len-line.ensures in omega arith) in
     subst (λ e. IsAfterOf c.args.net.now c.args.journal.now c.args.lines a.answer.text.items e) (sym a.ensures.end)
-    (of.IsAfterOf.bad_text (subst (λ n. IsFound (start_net_of_graph c.args.net.now) c.args.journal.now (BadText n)) q g.1)
+    (of.IsAfterOf.bad_text (subst (λ n. IsFound (start_net_of_graph c.args.net.now) c.args.journal.now (BadText n))
+    q g.1)
     (let w = g.0 in let l = c.len-line.ensures in omega arith) a.ensures.text)
 
 pub overflow_add-bad : goal.overflow_add-bad
@@ -109,5 +111,6 @@ returns c =
     let a = c.in_ok-answer-in-Otherwise in
     let q : length f.replay.journal + 2 ≡ c.len-bad.result + 2 = (let l = c.len-bad.ensures in omega arith) in
     subst (λ e. IsAfterOf c.args.net.now c.args.journal.now c.args.lines a.answer.text.items e) (sym a.ensures.end)
-    (of.IsAfterOf.not_a_run (subst (λ n. IsFound (start_net_of_graph c.args.net.now) c.args.journal.now (NotARun n)) q g.1)
+    (of.IsAfterOf.not_a_run (subst (λ n. IsFound (start_net_of_graph c.args.net.now) c.args.journal.now (NotARun n))
+    q g.1)
     (let w = g.0 in let l = c.len-bad.ensures in omega arith) a.ensures.text)
