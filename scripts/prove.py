@@ -10,8 +10,8 @@ import time
 TOP = os.path.dirname(os.path.dirname(os.path.abspath(__file__)))
 LOGIC = 'dac8208d650f15bf'  # the program logic that the proofs were last checked with
 ROOM = 10  # GB of disk that all proofs take
-# Each program: its crate, and the script that runs it.
-PROGRAMS = {'ol': ('ol', './ol'), 'ol-bench': ('ol_bench_program', './ol-bench')}
+# Each program: its crate, the one below it that stands on all others, and the script that runs it.
+PROGRAMS = {'ol': ('ol', 'ol_cli', './ol'), 'ol-bench': ('ol_bench_program', 'ol_bench', './ol-bench')}
 
 
 def tell(text):
@@ -55,11 +55,11 @@ def clock(start):
     return f'{took // 60:3}:{took % 60:02}'
 
 
-def prove_all(names, lanes, count, start):
-    """Has `rt all` prove these crates, and tells each when its proof ends. It is stopped once they are proved: what is left is the program,
-    which is built by a command of its own."""
-    left, ended = set(names), 0
-    words = [sys.executable, TOP + '/scripts/all_check.py', shutil.which('rt'), str(lanes), *names]
+def prove_below(top, lanes, count, start):
+    """Has `rt all` prove the crates below this one, and tells each when its proof ends. It is stopped once they are proved: what is
+    left stands on all of them, and gets more processors from a command of its own."""
+    left, ended = crates_below(top), 0
+    words = [sys.executable, TOP + '/scripts/all_check.py', shutil.which('rt'), str(lanes), *left, top]
     running = subprocess.Popen(words, cwd=TOP, stdin=subprocess.DEVNULL, stdout=subprocess.PIPE, stderr=subprocess.STDOUT, text=True,
                                errors='replace', start_new_session=True)
     said = []
@@ -82,9 +82,9 @@ def prove_all(names, lanes, count, start):
         stop("not every crate is proved: above is what `rt` printed last; `rt check` in a crate's folder says more.")
 
 
-def build(crate, lanes):
+def build(crate):
     """Builds the program over what is proved. Without words it prints how it is used, and fails."""
-    ran = subprocess.run(['rt', 'run', '--jobs', str(lanes)], cwd=f'{TOP}/crates/{crate}', stdin=subprocess.DEVNULL, stdout=subprocess.PIPE,
+    ran = subprocess.run(['rt', 'run'], cwd=f'{TOP}/crates/{crate}', stdin=subprocess.DEVNULL, stdout=subprocess.PIPE,
                          stderr=subprocess.STDOUT, text=True, errors='replace')
     if ran.returncode != 0 and not re.search(r'(?im)^usage: ', ran.stdout):
         print(ran.stdout)
@@ -93,15 +93,14 @@ def build(crate, lanes):
 
 def main():
     words = sys.argv[1:]
-    crate, script = PROGRAMS[words.pop(0) if words and words[0] in PROGRAMS else 'ol']
+    crate, last, script = PROGRAMS[words.pop(0) if words and words[0] in PROGRAMS else 'ol']
     processors = len(os.sched_getaffinity(0))
     lanes = int(words[0]) if words and words[0].isdigit() else processors
     check_the_machine()
-    below, start = sorted(crates_below(crate)), time.time()
-    count = len(below) + 1
-    tell(f'{count} crates, at most {lanes} at a time.')
-    prove_all(below, lanes, count, start)
-    build(crate, lanes)
+    count, start = len(crates_below(crate)) + 1, time.time()
+    tell(f'{count} crates, at most {lanes} at a time; the last two by all processors together.')
+    prove_below(last, lanes, count, start)
+    build(crate)
     program = f'{TOP}/crates/{crate}/out/{crate}'
     os.utime(program)
     tell(f'{count:2} of {count} {clock(start)}  {crate}')
